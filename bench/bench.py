@@ -150,6 +150,30 @@ def made(decl):
     return units
 
 
+def mixed():
+    """16 units with a Poisson, a negative binomial, a binomial and a fixed count in turn, of 21 to 40 claims."""
+    counts = [
+        ("poisson", lambda claims: f"poisson {claims}"),
+        ("mixed gamma 0.5", lambda claims: f"gamma {claims} 4"),
+        ("binomial 0.5", lambda claims: f"binomial {2 * claims} 0.5"),
+        ("fixed", lambda claims: listed([claims])),
+    ]
+    units = []
+    for number in range(16):
+        kind, count = counts[number % 4]
+        claims, most = 21 + number * 19 // 15, 5 + number % 6
+        units.append(Unit(f"M{number}", f"{claims} claims dsev [1:{most}] {kind}", count(claims), even(1, most)))
+    return units
+
+
+def mixed_cases():
+    """A portfolio of 16 units of all kinds: its total, with the share of one unit, and with those of all."""
+    asks = ["--digits", "4", "mean", "cdf:2000", "q:0.99"]
+    yield Case("16 mixed units, 4,096 cells", mixed(), asks)
+    yield Case("16 mixed units, `kappa` of one, 4,096 cells", mixed(), [*asks, "kappa:M0:2000"])
+    yield Case("16 mixed units, `kappa` of each, 4,096 cells", mixed(), [*asks, *(f"kappa:M{i}:2000" for i in range(16))])
+
+
 def asked_of_each_kind():
     """256 asks of each kind about the book."""
     p = [f"0.{number:03d}" for number in range(500, 1000)][-256:]
@@ -292,6 +316,7 @@ def parts(decl):
     equal = [Unit(f"E{number}", often, "binomial 1490 0.5", even(1, 10)) for number in range(16)]
     power = [Unit("D", "dfreq [256] dsev [1:1024]", listed([256]), even(1, 1024))]
     yield "Short grids", short_cases(decl, equal, power)
+    yield "A portfolio of mixed units", mixed_cases()
     yield "Grids of 65,536 cells", long_cases(equal, power)
     yield "Counts with a changed probability of no claim", changed_cases()
     yield "A common factor", common_cases()

@@ -320,7 +320,7 @@ def failing_inputs(cases):
 def tokens_of_a_megabyte(cases):
     """Each kind of token as often as it goes into the longest input, and as long as that."""
     for word in KEYWORDS:
-        place = {"agg": "1:5", "port": "1:6"}.get(word, "1:1")
+        place = {"agg": "1:5", "port": "1:6", "sev": "1:5"}.get(word, "1:1")
         cases.text(f"a megabyte of {word}", times(word.encode() + b" "), place)
     for token in ("x", "1", "1.5", ".5", "1%", "1/2", "[", "]", ":", ",", "!", "note{}"):
         gap = "" if token in "[]:,!note{}" else " "

@@ -19,7 +19,7 @@ pub(crate) fn only<T: Drop>(alloc: Global, part: T) -> Result<Vec<T>, Stop>
     ensures list { IfOk result (λ parts. parts.items ≡ part ∷ []) }
     ensures stop { IfErr result (λ stop. stop ≡ Stop.OutOfMemory) }
 {
-    let mut parts = Vec::new(alloc);
+    let mut parts = Vec::with_capacity(alloc, 1)?;
     parts.push(part)?;
     Ok(parts)
 }

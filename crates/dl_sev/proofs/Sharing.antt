@@ -1,11 +1,7 @@
 -- Fractions over their common denominator.
-use Rattle.dl_sev.proofs.Common.{ℕ, ◌≡◌, ◌∙◌, ◌+◌, ◌*◌, ◌/◌, ◌<◌, ◌≤◌, List, [], ◌∷◌, length, map, sum, get_or, take, refl, sym, ap, ap₂, arith, All, sum_by, ◌∣◌, take_all, All-head, All-tail, sum_by-cons, sum_by_more, Fraction, whole, ◌over◌, ◌+ℚ◌, sum_over, over_self, over_same, le_over, numerator_over, common_pos, den_divides, sum_of}
-use Rattle.std.proofs.Math.Nat.{div-mul_cancel}
-use Rattle.std.proofs.lemmas.List.Sums.{sum_by-take-le}
-use Rattle.dl_exact.proofs.Laws.{le_of_eq}
+use Rattle.dl_sev.proofs.Common.{ℕ, ◌≡◌, ◌∙◌, ◌+◌, ◌<◌, List, [], ◌∷◌, map, sum, refl, sym, ap, ap₂, All, sum_by, ◌∣◌, All-head, All-tail, sum_by-cons, Fraction, ◌over◌, numerator_over, common_pos, den_divides}
 use Rattle.dl_plan.specs.Fine.{common_denominator}
 pub use Rattle.dl_plan.proofs.WholeParts.{share_is, sum_one, weight_more, part_within}
-use Rattle.dl_exact.proofs.SumsOver.{sum_over_common}
 
 -- each weight over c is its fraction
 shares_are : (xs : List Fraction) (c : ℕ) → 0 < c → All (λ x. x.den ∣ c) xs

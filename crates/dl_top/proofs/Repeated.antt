@@ -7,7 +7,7 @@ use Rattle.dl_ast.specs.declared.ast.Program.{Program}
 use Rattle.dl_plan.specs.declared.plan.Plan.{Plan}
 use Rattle.dl_plan.specs.declared.settings.Settings.{Settings}
 use Rattle.dl_plan.specs.Valid.{IsValid}
-use Rattle.dl_types.specs.Faults.{first_fault, first_fault_of, fault_with, fault_on_grid, fault_of_money, fault_of_port}
+use Rattle.dl_types.specs.Faults.{first_fault, first_fault_of, fault_with, fault_on_grid, fault_of_port}
 use Rattle.dl_types.specs.Plans.{IsPlanOf, IsUnitOf}
 use Rattle.dl_types.proofs.OnePlan.{one_plan}
 use Rattle.dl_cert.specs.Covered.{IsCovered}
@@ -22,7 +22,7 @@ on_grid settings bs log2 = record settings { bs = bs; log2 = log2 }
 
 -- a first fault hangs on these alone
 on_its_grid : (p : Program) (a b : Settings) → first_fault p a ≡ first_fault p (on_grid b a.bs a.log2)
-unfolding first_fault first_fault_of fault_with fault_on_grid fault_of_money fault_of_port
+unfolding first_fault first_fault_of fault_with fault_on_grid fault_of_port
 on_its_grid p a b = refl
 
 same_fault : (p : Program) (a b : Settings) → b.bs ≡ a.bs → b.log2 ≡ a.log2 → first_fault p a ≡ first_fault p b

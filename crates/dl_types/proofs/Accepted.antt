@@ -1,14 +1,13 @@
 -- A program that breaks no rule has a plan.
-use Rattle.dl_types.proofs.Common.{ℕ, zero, suc, ◌≡◌, ◌∙◌, ◌<◌, ◌≤◌, List, [], ◌∷◌, ◌++◌, length, take, get_or, None, refl, sym, ap, subst, arith, Ok, All, All-nil, most_units, Plan, Settings, IsValidUnit, UnitAst, Program, IsWellFormed, in_turn, expected_claims, cells_asked, fault_of_lists, fault_on_grid, first_fault_of, first_fault, AnswersUnit, AnswersUnits, aggregate_clause, GridUnit, IsGridUnit, too_many_units, breaks, IsSet, else_first, else_second, agr_layered, most_amount_at}
-use Rattle.dl_limits.specs.Limits.{most_amount}
+use Rattle.dl_types.proofs.Common.{ℕ, zero, suc, ◌≡◌, ◌∙◌, ◌<◌, ◌≤◌, List, [], ◌∷◌, ◌++◌, length, take, get_or, None, refl, sym, ap, subst, arith, Ok, All, All-nil, most_units, Plan, Settings, IsValidUnit, UnitAst, Program, IsWellFormed, in_turn, expected_claims, cells_asked, fault_on_grid, first_fault_of, first_fault, AnswersUnit, AnswersUnits, aggregate_clause, GridUnit, IsGridUnit, too_many_units, breaks, IsSet, else_first, else_second, agr_layered, most_amount_at}
 use Rattle.dl_limits.proofs.Scales.{amount_fits}
-use Rattle.dl_amounts.specs.GridKept.{IsWithin}
+use Rattle.dl_buckets.specs.GridKept.{IsWithin}
 use Rattle.std.proofs.Common.{add-one}
 use Rattle.dl_plan.specs.declared.plan.Unit.{Unit as UnitOfPlan}
 use Rattle.dl_plan.specs.Valid.{IsValid}
 use Rattle.dl_ast.specs.WellFormed.{IsFormedUnit, IsFormedMixture, IsFormedDefinition}
 use Rattle.dl_types.specs.declared.rule.Rule.TheVariants as rules
-use Rattle.dl_types.specs.Faults.{fault_of_reading, fault_of_money, fault_of_mixture, fault_of_severity}
+use Rattle.dl_types.specs.Faults.{fault_of_text, fault_of_mixture, fault_of_severity}
 unfoldable use Rattle.dl_types.specs.Faults.{fault_with}
 use Rattle.dl_types.specs.Answer.{AnswersWith}
 use Rattle.dl_types.specs.Severities.{mixture_of}
@@ -18,18 +17,18 @@ use Rattle.dl_ast.specs.declared.ast.SevDef.{SevDef}
 use Rattle.std.proofs.Common.{Option, Some, IfSome}
 use Rattle.dl_types.specs.Plans.{IsPlanOf}
 use Rattle.dl_types.specs.Rules.{common_unit}
-use Rattle.dl_amounts.specs.Grid.{grid_of}
-use Rattle.dl_amounts.specs.Rules.{lengths_differ, not_one}
-use Rattle.dl_read.specs.declared.tree.ReadUnit.{ReadUnit}
-use Rattle.dl_read.specs.Read.{read_of, IsReadable}
-use Rattle.dl_read.proofs.ReadUnits.{read_is}
-use Rattle.dl_amounts.proofs.Turns.{turn_start}
-use Rattle.dl_amounts.proofs.ClauseLaws.{turn_none}
-use Rattle.dl_amounts.proofs.GridUnits.{grid_is, within_is}
-use Rattle.dl_amounts.proofs.SevThere.{final_there}
+use Rattle.dl_buckets.specs.Grid.{grid_of}
+use Rattle.dl_buckets.specs.Flaws.{IsClean}
+use Rattle.dl_buckets.specs.Reading.{flaws_of}
+use Rattle.dl_buckets.proofs.Turns.{turn_start}
+use Rattle.dl_buckets.proofs.ClauseLaws.{turn_none}
+use Rattle.dl_buckets.proofs.GridUnits.{grid_is, within_is}
+use Rattle.dl_buckets.proofs.SevThere.{final_there}
 use Rattle.dl_types.proofs.Aggregates.{clause_there}
 use Rattle.dl_types.proofs.PlannedCounts.{count_there}
-use Rattle.dl_types.proofs.UnitFacts.{only, both, layered_is, fine_agr, fine_sev, kept_is, grid_parts, grid_answer}
+use Rattle.dl_types.proofs.UnitFacts.{layered_is, fine_agr, fine_sev, kept_is, grid_parts, grid_answer}
+use Rattle.dl_types.proofs.RuleLists.{both}
+use Rattle.dl_types.proofs.Texts.{text_clean}
 use Rattle.dl_types.proofs.FactorKept.{shape_there}
 use Rattle.dl_types.proofs.ProgramUnits.{Planned, planned_more, planned_all, few_units, plan_of_units, formed_mixture, answer_with}
 
@@ -40,58 +39,32 @@ module _ (settings : Settings) (before : List UnitAst) (u : UnitAst) (m : MixAst
   abbrev unit : ℕ
   unit = length before
 
-  abbrev r : ReadUnit
-  r = read_of u m
-
   abbrev g : GridUnit
-  g = grid_of settings.bs r
-
-  groups : (fault_of_lists before u m ≡ None) × (fault_of_money settings unit r ≡ None)
-      × (fault_on_grid settings unit g ≡ None)
-  unfolding fault_with
-  groups =
-      let rest = else_second (fault_of_lists before u m) _ none in (
-        else_first (fault_of_lists before u m) _ none,
-        else_first (fault_of_money settings unit r) _ rest,
-        else_second (fault_of_money settings unit r) _ rest,
-      )
-
-  lists : (fault_of_reading unit u m ≡ None) × (lengths_differ r ≡ None) × (not_one r ≡ None)
-  unfolding fault_of_lists
-  lists =
-      let a = both unit rules.DuplicateName _ _ groups.0 in
-      let later = else_second (fault_of_reading unit u m) _ a.1 in
-      let e = both unit rules.LengthsDiffer _ _ later in
-      (else_first (fault_of_reading unit u m) _ a.1, e.0, only unit rules.NotOne _ e.1)
-
-  readable : IsReadable u m
-  unfolding fault_of_reading
-  readable =
-      let b = both unit rules.BadNumeral _ _ lists.0 in
-      let c = both unit rules.BadRange _ _ b.1 in
-      record { numerals = b.0; ranges = c.0; short = only unit rules.ListTooLong _ c.1 }
+  g = grid_of settings.bs u m
 
   abbrev most : ℕ
   most = most_amount_at (cells_asked settings)
 
-  small : most ≤ most_amount
-  small = amount_fits (cells_asked settings)
+  groups : (fault_of_text unit (flaws_of most settings.bs u m) ≡ None) × (fault_on_grid settings unit g ≡ None)
+  unfolding fault_with
+  groups =
+      let later = both unit rules.DuplicateName _ _ none in (
+        else_first (fault_of_text unit (flaws_of most settings.bs u m)) _ later.1,
+        else_second (fault_of_text unit (flaws_of most settings.bs u m)) _ later.1,
+      )
+
+  clean : IsClean (flaws_of most settings.bs u m)
+  clean = text_clean unit (flaws_of most settings.bs u m) groups.0
 
   grid : IsGridUnit g
-  unfolding fault_of_money
-  grid =
-      let a = both unit rules.OffGrid _ _ groups.1 in
-      grid_is most settings.bs r small (read_is u m formed mixed readable) a.0 (only unit rules.TooFar _ a.1) lists.1 lists.2
+  grid = grid_is most settings.bs u m clean (amount_fits (cells_asked settings)) formed mixed
 
   within : IsWithin most g
-  unfolding fault_of_money
-  within =
-      let a = both unit rules.OffGrid _ _ groups.1 in
-      within_is most settings.bs r small (read_is u m formed mixed readable) a.0 (only unit rules.TooFar _ a.1)
+  within = within_is most settings.bs u m clean
 
   there_with : (made : UnitOfPlan) × AnswersWith settings before u m (Ok made)
   there_with =
-      let parts = grid_parts settings unit g groups.2 in
+      let parts = grid_parts settings unit g groups.1 in
       let layered = layered_is unit g grid parts.0 in
       let sev = final_there g (fine_sev settings.bs unit g grid parts.1 layered.0 layered.1) in
       let freq = count_there g.count (expected_claims settings.bs g) (kept_is settings.bs unit g grid parts.1) in
@@ -103,7 +76,7 @@ module _ (settings : Settings) (before : List UnitAst) (u : UnitAst) (m : MixAst
         cede = aggregate_clause g.agr;
         zero = g.zero;
       } in
-      let answer = grid_answer settings unit g grid within groups.2 u.name.text made refl refl
+      let answer = grid_answer settings unit g grid within groups.1 u.name.text made refl refl
       (record { means = sev.1; near = sev.2; few = sev.3 }) freq.1 clause in
       (made, (none, answer.1, answer.2))
 

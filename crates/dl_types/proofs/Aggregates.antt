@@ -1,21 +1,27 @@
 -- An aggregate clause that breaks no rule is one of a valid plan.
-use Rattle.dl_types.proofs.Common.{◌≡◌, ℕ, ◌≤◌, true, Option, Some, None, refl, sym, subst, All, IfSome, ltb-false, All-map, most_horizon, most_amount_at, Sev, Means, Clause, IsClause, horizon, horizon_is, not_at, GridClause, GridUnit, clause_of, has_shares, off_grid_cession, final_severity, aggregate_clause, IsCedeOf, horizon_too_large}
+use Rattle.dl_types.proofs.Common.{◌≡◌, ◌∙◌, ap, ℕ, ◌≤◌, true, Option, Some, None, refl, sym, subst, All, IfSome, ltb-false, All-map, most_horizon, most_amount_at, Sev, Means, Clause, IsClause, horizon, horizon_is, not_at, GridClause, GridUnit, clause_of, has_shares, off_grid_cession, final_severity, aggregate_clause, IsCedeOf, horizon_too_large}
 use Rattle.dl_plan.specs.Valid.{IsWithinMostAmount, IsAggregate}
-use Rattle.dl_amounts.specs.Clauses.{ceded_layer}
-use Rattle.dl_amounts.specs.GridKept.{IsClauseWithin, IsWithin}
-use Rattle.dl_amounts.specs.ClausesKept.{IsClauseLayered}
-use Rattle.dl_amounts.proofs.ClauseLaws.{made_cession}
+use Rattle.dl_buckets.specs.Clauses.{ceded_layer}
+use Rattle.dl_buckets.specs.GridKept.{IsClauseWithin, IsWithin}
+use Rattle.dl_buckets.specs.ClausesKept.{IsClauseLayered}
+use Rattle.dl_buckets.specs.Clauses.{made_of, shares_of}
+use Rattle.dl_buckets.specs.Lists.{is_fine}
+use Rattle.dl_buckets.specs.declared.made.MadeClause.{MadeClause}
+use Rattle.dl_buckets.proofs.ClauseLaws.{cession_fine, made_cession}
+use Rattle.dl_buckets.proofs.OffGrid.{made_whole}
+use Rattle.dl_types.specs.Plans.{cede_of}
 use Rattle.dl_types.proofs.ClauseFacts.{sums_whole}
 
 -- ---- the horizon
 
-near_most : (cells : ℕ) (c : GridClause) → horizon_too_large cells (Some c) ≡ None
-    → horizon (Some (clause_of c)) cells ≤ most_horizon cells
+near_most : (cells : ℕ) (c : GridClause) → is_fine (shares_of c) ≡ true
+    → horizon_too_large cells (made_of (Some c)) ≡ None → horizon (Some (clause_of c)) cells ≤ most_horizon cells
 unfolding horizon_too_large
-near_most cells c near = ltb-false (most_horizon cells) (horizon (Some (clause_of c)) cells) (not_at _ c.span near)
+near_most cells c fine near = ltb-false (most_horizon cells) (horizon (Some (clause_of c)) cells)
+    (not_at _ c.span (rw (made_whole c fine) at near))
 
 module _ (cells : ℕ) (u : GridUnit) (none : off_grid_cession u ≡ None) (shares : has_shares u.occ ≡ true)
-    (near : horizon_too_large cells u.agr ≡ None) (within : IsWithin (most_amount_at cells) u) (sev : Sev)
+    (near : horizon_too_large cells (made_of u.agr) ≡ None) (within : IsWithin (most_amount_at cells) u) (sev : Sev)
     (means : Means sev (final_severity u)) where
   layers_near : (c : GridClause) → IsClauseWithin (most_amount_at cells) c
       → All (IsWithinMostAmount cells) (clause_of c).1
@@ -37,7 +43,8 @@ module _ (cells : ℕ) (u : GridUnit) (none : off_grid_cession u ≡ None) (shar
         horizon = (
           horizon (Some (clause_of c)) cells,
           horizon_is (Some (clause_of c)) cells accepted,
-          near_most cells c (subst (λ a. horizon_too_large cells a ≡ None) is near),
+          near_most cells c (cession_fine c (clause_of c) (refl, accepted))
+              (subst (λ a. horizon_too_large cells (made_of a) ≡ None) is near),
         );
       })
 
@@ -53,3 +60,12 @@ clause_there (Some c) layered shares = record {
   same = refl;
   accepted = made_cession c layered shares;
 }
+
+pub cede_is : (o : Option GridClause) (made : MadeClause) → IfSome o IsClauseLayered → has_shares o ≡ true
+    → made ≡ made_of o → IsCedeOf o (cede_of made)
+cede_is o made layered shares e =
+    subst (IsCedeOf o) (sym (ap cede_of e ∙ same o shares)) (clause_there o layered shares)
+  where
+    same : (p : Option GridClause) → has_shares p ≡ true → cede_of (made_of p) ≡ aggregate_clause p
+    same None h = refl
+    same (Some c) h = ap cede_of (made_whole c h)

@@ -1,6 +1,6 @@
 -- What an aggregate clause of a valid plan keeps: its multiples are whole numbers, and its horizon is small. The
 -- greatest common divisor of a severity's amounts is that of the amounts of positive probability of what it means.
-use Rattle.dl_types.proofs.Common.{◌∣◌, ℕ, ◌≡◌, ◌∙◌, ◌+◌, ◌*◌, ◌==◌, get_or, true, cond, List, [], ◌∷◌, Some, None, refl, sym, ap, subst, arith, inl, inr, All, eqb_tells, All-nil, All-cons, All-head, All-tail, sum_by-cons, whole, ◌over◌, ◌<ℚ◌, gcd, gcd_is, IsClause, Item, Sev, Pairs, Means, GridClause, GridUnit, clause_of, support, final_severity, has_shares, off_grid_cession, else_second, items_in}
+use Rattle.dl_types.proofs.Common.{◌∣◌, ℕ, ◌≡◌, ◌∙◌, ◌+◌, ◌*◌, ◌==◌, get_or, true, false, cond, List, [], ◌∷◌, Some, None, refl, sym, ap, subst, arith, inl, inr, All, eqb_tells, All-nil, All-cons, All-head, All-tail, sum_by-cons, whole, ◌over◌, ◌<ℚ◌, gcd, gcd_is, IsClause, Item, Sev, Pairs, Means, GridClause, GridUnit, clause_of, support, final_severity, has_shares, off_grid_cession, items_in}
 use Rattle.std.proofs.Common.{◌⊎◌, fold}
 use Rattle.std.proofs.lemmas.Nat.Gcd.{dvd_refl, dvd_trans, dvd-zero, dvd_antisymm}
 use Rattle.dl_exact.proofs.Laws.{lt_not_le, le_refl}
@@ -9,10 +9,13 @@ use Rattle.dl_plan.specs.Clause.{kept}
 use Rattle.dl_plan.specs.Weighted.{weight_at, common_amount}
 use Rattle.dl_exact.proofs.Denominators.{over_zero as zero_over}
 use Rattle.dl_plan.proofs.Means.{severity_total as total_pos}
-use Rattle.dl_amounts.specs.Rules.{common_amount_of, off_grid_occurrence, off_grid_aggregate}
-use Rattle.dl_amounts.proofs.Items.{support_positive}
-use Rattle.dl_amounts.proofs.OffGrid.{none_off_multiples}
-use Rattle.dl_amounts.proofs.PastEdges.{fits_tried}
+use Rattle.dl_buckets.specs.Rules.{common_amount_of, off_grid_sums}
+use Rattle.dl_buckets.proofs.Items.{support_positive}
+use Rattle.dl_buckets.specs.Clauses.{is_off_multiples, made_of}
+use Rattle.dl_buckets.specs.Severity.{severity_in_layer}
+use Rattle.dl_buckets.proofs.ClauseLaws.{cession_fine}
+use Rattle.dl_buckets.proofs.OffGrid.{multiples_none, sums_none}
+use Rattle.dl_buckets.proofs.PastEdges.{fits_tried}
 
 -- ---- the common divisor of a list
 
@@ -77,14 +80,14 @@ module _ (sev : Sev) (ps : Pairs) (means : Means sev ps) where
 module _ (u : GridUnit) (c : GridClause) (is : u.agr ≡ Some c) (cession : IsClause (clause_of c))
     (none : off_grid_cession u ≡ None)
     (has : has_shares u.occ ≡ true) (sev : Sev) (means : Means sev (final_severity u)) where
-  aggregate_none : off_grid_aggregate u ≡ None
+  aggregate_none : off_grid_sums (made_of (Some c)) (support (final_severity u)) ≡ None
   unfolding off_grid_cession
-  aggregate_none = else_second (off_grid_occurrence u) (off_grid_aggregate u) none
+  aggregate_none = subst (λ a. off_grid_sums (made_of a) (support (final_severity u)) ≡ None) is
+      (sums_none u.occ (made_of u.agr) (severity_in_layer u) has none)
 
   -- the clause maps each multiple of the greatest common divisor of the amounts to a whole number
   pub sums_whole : (n : ℕ) → IsWhole (kept (clause_of c) (n * common_amount sev.items))
   sums_whole =
       fits_tried (clause_of c) (common_amount sev.items) cession
-      (none_off_multiples u c is (clause_of c) (refl, cession) (support (final_severity u)) (has, refl)
-      (common_amount sev.items)
-      (same_common sev (final_severity u) means) aggregate_none)
+      (subst (λ n. is_off_multiples (clause_of c) n ≡ false) (sym (same_common sev (final_severity u) means))
+      (multiples_none c (support (final_severity u)) (cession_fine c (clause_of c) (refl, cession)) aggregate_none))

@@ -33,31 +33,32 @@ pub use Rattle.dl_plan.specs.declared.item.Item.{Item}
 pub use Rattle.dl_plan.specs.declared.plan.Plan.{Plan}
 pub use Rattle.dl_plan.specs.declared.settings.Settings.{Settings}
 pub use Rattle.dl_plan.specs.declared.severity.Sev.{Sev}
-pub use Rattle.dl_read.proofs.Nothing.{else_first, else_second, not_at}
-pub use Rattle.dl_read.specs.First.{at_if, ◌else◌}
-unfoldable pub use Rattle.dl_read.specs.First.{in_turn}
-pub use Rattle.dl_read.specs.Lists.{is_admitted, is_whole, probs_in_count, probs_of}
-pub use Rattle.dl_read.specs.declared.tree.ReadCount.{ReadCount}
-pub use Rattle.dl_read.specs.declared.tree.ReadCount.TheVariants.{Exposed, Listed}
-pub use Rattle.dl_read.specs.declared.tree.ReadFreq.{ReadFreq}
-pub use Rattle.dl_read.specs.declared.tree.ReadFreq.TheVariants.{Bernoulli, Binomial, Fixed, Gamma, Poisson}
-pub use Rattle.dl_read.specs.declared.tree.ReadList.{ReadList}
-pub use Rattle.dl_amounts.proofs.ClauseGrids.{agr_layered}
-pub use Rattle.dl_amounts.proofs.Items.{items_in}
-pub use Rattle.dl_amounts.proofs.Values.{never}
-pub use Rattle.dl_amounts.specs.Clauses.{clause_of}
-pub use Rattle.dl_amounts.specs.FineParts.{fractions_too_fine, has_severity, has_shares}
-pub use Rattle.dl_amounts.specs.GridKept.{IsGridUnit}
-pub use Rattle.dl_amounts.specs.Parts.{AreProbabilities}
-unfoldable pub use Rattle.dl_amounts.specs.Rules.{off_grid_cession}
-pub use Rattle.dl_amounts.specs.Severity.{final_severity, own_lists, severity_in_layer, support}
-pub use Rattle.dl_amounts.specs.declared.grid.GridClause.{GridClause}
-pub use Rattle.dl_amounts.specs.declared.grid.GridUnit.{GridUnit}
+pub use Rattle.dl_buckets.proofs.Nothing.{else_first, else_second, not_at}
+pub use Rattle.dl_buckets.specs.First.{at_if, ◌else◌}
+unfoldable pub use Rattle.dl_buckets.specs.First.{in_turn}
+pub use Rattle.dl_buckets.specs.Lists.{is_admitted, is_whole, probs_in_count, probs_of}
+pub use Rattle.dl_buckets.specs.declared.grid.GridCount.{GridCount}
+pub use Rattle.dl_buckets.specs.declared.grid.GridCount.TheVariants.{Exposed, Listed}
+pub use Rattle.dl_buckets.specs.declared.grid.GridFreq.{GridFreq}
+pub use Rattle.dl_buckets.specs.declared.grid.GridFreq.TheVariants.{Bernoulli, Binomial, Fixed, Gamma, Poisson}
+pub use Rattle.dl_buckets.specs.declared.grid.ValueList.{ValueList}
+pub use Rattle.dl_buckets.specs.declared.grid.Shares.{Shares}
+pub use Rattle.dl_buckets.proofs.ClauseGrids.{agr_layered}
+pub use Rattle.dl_buckets.proofs.Items.{items_in}
+pub use Rattle.dl_buckets.proofs.Values.{never}
+pub use Rattle.dl_buckets.specs.Clauses.{clause_of}
+pub use Rattle.dl_buckets.specs.FineParts.{fractions_too_fine, has_severity, has_shares}
+pub use Rattle.dl_buckets.specs.GridKept.{IsGridUnit}
+pub use Rattle.dl_buckets.specs.Parts.{AreProbabilities}
+unfoldable pub use Rattle.dl_buckets.specs.Rules.{off_grid_cession}
+pub use Rattle.dl_buckets.specs.Severity.{final_severity, severity_in_layer, support}
+pub use Rattle.dl_buckets.specs.declared.grid.GridClause.{GridClause}
+pub use Rattle.dl_buckets.specs.declared.grid.GridUnit.{GridUnit}
 pub use Rattle.dl_types.specs.Answer.{AnswersUnit, AnswersUnits}
 pub use Rattle.dl_types.specs.Exposures.{admitted, claims_above_zero, claims_of, mean_in_money, shape_of}
 unfoldable pub use Rattle.dl_types.specs.Exposures.{expected_claims}
 pub use Rattle.dl_types.specs.Faults.{breaks, cells_asked}
-unfoldable pub use Rattle.dl_types.specs.Faults.{fault_of_clauses, fault_of_count, fault_of_lists, fault_on_grid, first_fault, first_fault_of}
+unfoldable pub use Rattle.dl_types.specs.Faults.{fault_on_grid, first_fault, first_fault_of}
 pub use Rattle.dl_types.specs.Kept.{IsCountKept, IsFreqKept, IsSet, IsWholeCount, IsWholeFreq}
 pub use Rattle.dl_types.specs.Plans.{IsCedeOf, IsCountMade, aggregate_clause, pairs_of_counts, freq_with}
 pub use Rattle.dl_types.specs.Rules.{passes}

@@ -3,7 +3,7 @@ use Rattle.dl_types.proofs.Common.{◌≡◌, ◌∙◌, ℕ, ◌<◌, Bool, tru
 use Rattle.dl_exact.specs.Fraction.{◌+ℚ◌}
 use Rattle.dl_exact.specs.Sum.{sum_over}
 use Rattle.dl_exact.proofs.Laws.{ring, times_cancel, times_pos, le_plus, plus_comm, lt_of_lt_of_le, whole_pos}
-use Rattle.dl_amounts.proofs.Positive.{is_positive, support_step}
+use Rattle.dl_buckets.proofs.Positive.{is_positive, support_step}
 
 -- ---- the mean
 

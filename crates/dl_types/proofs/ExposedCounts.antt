@@ -1,7 +1,7 @@
 -- Whole numbers, quotients and shapes.
 use Rattle.dl_types.proofs.Common.{ℕ, ◌≡◌, ◌∙◌, ◌*◌, ◌<◌, ◌≤◌, ◌==◌, nat_lt, Bool, true, false, not, inl, inr, refl, sym, ap, ap₂, subst, arith, mul-pos, ◌∣◌, ltb-false, eqb_tells, gcd, Fraction, whole, ◌over◌, ◌*ℚ◌, ◌/ℚ◌, ◌<ℚ◌, lowest_swap, lowest_times, lowest_product, lowest_num, lowest_den, product_is, quotient_is, whole_num, whole_den, is_whole, shape_of, passes}
 use Rattle.std.specs.Cmp.{both_ways}
-use Rattle.dl_read.proofs.ItemRanges.{zero_above}
+use Rattle.dl_buckets.proofs.Values.{zero_above}
 use Rattle.std.proofs.Common.{◌/◌, ◌%◌, nat_eq}
 use Rattle.std.specs.Prelude.{◌||◌, ◌⊎◌}
 use Rattle.std.proofs.Math.Nat.{eq-one_of_dvd-one, eq-zero-or-pos, dvd-mul_right}
@@ -10,7 +10,7 @@ use Rattle.std.proofs.lemmas.Bool.Decides.{nat_tests}
 use Rattle.dl_exact.proofs.Laws.{div_pos, one_pos, times_pos, whole_pos}
 use Rattle.dl_exact.proofs.Over.{same}
 use Rattle.dl_exact.proofs.Parts.{num_pos, pos_num}
-use Rattle.dl_read.specs.Lists.{is_zero}
+use Rattle.dl_buckets.specs.Lists.{is_zero}
 use Rattle.dl_sev.proofs.Whole.{divides_whole, whole_divides, quotient_whole}
 use Rattle.dl_types.proofs.ListedCounts.{passes_is}
 

@@ -3,7 +3,6 @@ use Rattle.std.proofs.Common.{flat_map}
 use Rattle.std.proofs.Math.Bool.{or-true}
 use Rattle.std.proofs.lemmas.Bool.{lt-ltb, le-ltb, or_parts}
 use Rattle.std.proofs.lemmas.Simd.{map-map}
-use Rattle.std.proofs.lemmas.List.Folds.{flat_map-map}
 use Rattle.std.proofs.lemmas.List.Concat.{flat_map-cons}
 use Rattle.dl_types.proofs.Common.{◌≡◌, ◌∙◌, ℕ, suc, ◌==◌, inl, inr, eqb_tells, ◌<◌, ◌≤◌, ◌&&◌, ◌||◌, Bool, true, false, not, is_some, if◌then◌else◌, nat_lt, List, [], ◌∷◌, ◌++◌, map, Option, Some, None, refl, sym, ap, ap₂, arith, Fraction, whole, ◌over◌, ◌*ℚ◌, Item, ltb-false, most_shape, passes}
 use Rattle.dl_limits.specs.Limits.{most_expected}
@@ -11,7 +10,7 @@ use Rattle.dl_plan.specs.declared.plan.Unit.{Unit as UnitOfPlan}
 use Rattle.dl_plan.specs.Common.{raised, unit_share, shared_probabilities}
 use Rattle.dl_plan.specs.Count.{expected_count}
 use Rattle.dl_plan.specs.Means.{thinned_mean}
-use Rattle.dl_read.specs.Lists.{is_fine, is_zero}
+use Rattle.dl_buckets.specs.Lists.{is_fine, is_zero}
 use Rattle.dl_types.specs.Factor.{Part, part_of, claim_share, amount_shares, is_raised_coarse, passes_bounds, passes_with}
 unfoldable use Rattle.dl_types.specs.Factor.{running_sum, is_too_large}
 

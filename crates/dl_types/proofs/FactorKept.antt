@@ -1,21 +1,21 @@
 -- Units that are not too large for a factor can share it in a valid plan.
 use Rattle.std.proofs.Common.{flat_map}
 use Rattle.std.proofs.lemmas.Bool.{leb-true, or_parts}
-use Rattle.dl_types.proofs.Common.{◌≡◌, ◌∙◌, ℕ, suc, ◌<◌, ◌≤◌, ◌||◌, Bool, true, false, not, nat_lt, List, map, Option, Some, None, refl, sym, ap, subst, arith, All, ltb-false, not-false, most_shape, Fraction, whole, ◌<ℚ◌, ◌≤ℚ◌, HasPartsOf48Bits, pos_num, is_admitted, is_some, passes, Span, at_if, not_at, Ok, IfSome, Settings, Program, AnswersUnits, shape_of}
+use Rattle.dl_types.proofs.Common.{◌≡◌, ◌∙◌, ℕ, suc, ◌<◌, ◌||◌, Bool, true, false, not, nat_lt, List, map, Option, Some, None, refl, sym, ap, subst, All, ltb-false, not-false, most_shape, Fraction, whole, ◌<ℚ◌, ◌≤ℚ◌, HasPartsOf48Bits, pos_num, is_some, passes, Span, at_if, not_at, Ok, IfSome, Settings, Program, AnswersUnits, shape_of, breaks, ◌else◌}
 use Rattle.dl_limits.specs.Limits.{most_expected, most_parts}
 use Rattle.dl_plan.specs.declared.plan.Unit.{Unit as UnitOfPlan}
 use Rattle.dl_plan.specs.Common.{CanShare, HasCommonFactor, expected_of, thinned_of, raised, unit_share, shared_probabilities}
 use Rattle.dl_plan.specs.Count.{expected_count}
 use Rattle.dl_plan.specs.Fine.{IsFineTo30Bits, common_denominator}
 use Rattle.dl_plan.specs.Means.{thinned_mean}
-use Rattle.dl_read.specs.Lists.{is_fine, is_zero}
-use Rattle.dl_read.proofs.ItemRanges.{not_above, zero_above}
-use Rattle.dl_types.specs.Factor.{Part, part_of, is_raised_coarse, passes_bounds, passes_with, is_too_large}
+use Rattle.dl_buckets.specs.Lists.{is_fine, is_zero}
+use Rattle.dl_buckets.proofs.Values.{not_above, zero_above}
+use Rattle.dl_types.specs.Factor.{IsShapeIn, Part, part_of, is_raised_coarse, passes_bounds, passes_with, is_too_large}
 use Rattle.dl_types.proofs.PlannedCounts.{admitted_is}
 use Rattle.dl_ast.specs.declared.ast.Numeral.{Numeral}
 use Rattle.dl_ast.specs.declared.ast.PortHead.{PortHead}
-use Rattle.dl_read.specs.BadNumerals.{value, is_bad_numeral}
-use Rattle.dl_read.specs.First.{within}
+use Rattle.dl_buckets.specs.Values.{value, is_bad_numeral}
+use Rattle.dl_buckets.specs.First.{within}
 use Rattle.dl_types.specs.Plans.{IsSharedShape, IsWrittenShape}
 use Rattle.dl_types.specs.Rules.{has_bad_shape, has_common}
 unfoldable use Rattle.dl_types.specs.Rules.{common_shape}
@@ -23,7 +23,7 @@ use Rattle.dl_types.specs.Faults.{common_size, parts_in}
 unfoldable use Rattle.dl_types.specs.Faults.{fault_of_port}
 use Rattle.dl_types.specs.declared.rule.Rule.TheVariants as rules
 use Rattle.dl_types.proofs.ExposedCounts.{shape_above, whole_is}
-use Rattle.dl_types.proofs.UnitFacts.{both, only}
+use Rattle.dl_types.proofs.RuleLists.{both, only}
 use Rattle.dl_types.proofs.FactorParts.{all_can_share, size_place}
 use Rattle.dl_types.proofs.RunningSums.{sum_is, first_admitted}
 use Rattle.dl_types.proofs.FactorBounds.{claims_of_units, above_of_units, bounds_are, large_is}
@@ -85,24 +85,49 @@ module _ (r : ℕ) (units : List UnitOfPlan) (some : 0 < r) (can : All CanShare 
 
 -- ---- the shape that is written
 
-pub good_shape : (port : Option PortHead) (head : PortHead) (c : Numeral) → common_shape port ≡ None
-    → port ≡ Some head → head.common ≡ Some c → has_bad_shape c ≡ false
-unfolding common_shape
-good_shape port head c none is common =
-    let asked : within (λ (n : Numeral). at_if (has_bad_shape n) n.span) head.common ≡ None = rw is at none in
-    not_at _ _ (rw common at asked)
+pub no_port : (settings : Settings) (program : Program) → program.port ≡ None → fault_of_port settings program ≡ None
+unfolding fault_of_port common_shape
+no_port settings program e = rw e refl
 
-pub shape_written : (port : Option PortHead) (head : PortHead) (c : Numeral) (r : ℕ) → common_shape port ≡ None
-    → port ≡ Some head → head.common ≡ Some c → r ≡ (shape_of (value c)).num → IsSharedShape port (Some r)
-shape_written port head c r none is common shape =
-    let parts = or_parts (is_bad_numeral c) _ (good_shape port head c none is common) in
-    let shaped = or_parts (is_zero (value c)) _ parts.1 in
-    let same : whole r ≡ shape_of (value c) =
-    ap whole shape ∙ whole_is (shape_of (value c)) (not-false _ shaped.1) in
-    subst (λ p. IsSharedShape p (Some r)) (sym is)
-    (subst (λ o. IsWrittenShape o (Some r)) (sym common) (r, same, refl))
+pub no_common : (settings : Settings) (program : Program) (head : PortHead) → program.port ≡ Some head
+    → head.common ≡ None → fault_of_port settings program ≡ None
+unfolding fault_of_port common_shape
+no_common settings program head is none = rw (is, none) refl
 
-shape_shared : (port : Option PortHead) (r : ℕ) → IsSharedShape port (Some r) → has_common port ≡ true
+-- a portfolio with this coefficient of variation
+module _ (port : Option PortHead) (head : PortHead) (c : Numeral) (is : port ≡ Some head)
+    (common : head.common ≡ Some c) where
+  pub shape_place : common_shape port ≡ at_if (has_bad_shape c) c.span
+  unfolding common_shape
+  shape_place = rw (is, common) refl
+
+  module _ (r : ℕ) (shape : IsShapeIn c r) where
+    pub good_place : None ≡ common_shape port
+    good_place = sym (shape_place ∙ ap (λ b. at_if b c.span) shape.good)
+
+    pub size_is : (parts : List Part) → common_size port parts ≡ at_if (is_too_large r parts) head.name.span
+    size_is parts =
+        common_is ∙ ap (λ n. at_if (is_too_large n parts) head.name.span) (sym shape.value)
+      where
+        common_is : common_size port parts ≡ at_if (is_too_large (shape_of (value c)).num parts) head.name.span
+        common_is = rw (is, common) refl
+
+    pub shape_written : IsSharedShape port (Some r)
+    shape_written =
+        let parts = or_parts (is_bad_numeral c) _ shape.good in
+        let shaped = or_parts (is_zero (value c)) _ parts.1 in
+        let same : whole r ≡ shape_of (value c) =
+        ap whole shape.value ∙ whole_is (shape_of (value c)) (not-false _ shaped.1) in
+        rw (is, common) (r, same, refl)
+
+pub bad_told : (settings : Settings) (program : Program) (place : Span) → common_shape program.port ≡ Some place
+    → fault_of_port settings program ≡ Some (record { unit = 0; rule = rules.CommonShape; span = place })
+unfolding fault_of_port
+bad_told settings program place e =
+    ap (λ p. breaks 0 rules.CommonShape p
+    else breaks 0 rules.CommonSize (common_size program.port (parts_in settings program))) e
+
+pub shape_shared : (port : Option PortHead) (r : ℕ) → IsSharedShape port (Some r) → has_common port ≡ true
 shape_shared None r h = absurd cc
 shape_shared (Some head) r h = written head.common r h
   where

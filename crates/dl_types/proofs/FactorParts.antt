@@ -5,7 +5,7 @@ use Rattle.std.proofs.lemmas.List.Concat.{flat_map-cons}
 use Rattle.std.proofs.lemmas.List.Elements.{All-append}
 use Rattle.std.proofs.lemmas.Nat.Gcd.{dvd_antisymm}
 use Rattle.std.specs.List.{AllZip}
-use Rattle.dl_types.proofs.Common.{◌≡◌, ◌∙◌, ℕ, zero, suc, ◌+◌, ◌<◌, ◌==◌, ◌&&◌, ◌||◌, ◌∣◌, Bool, true, false, not, cond, is_some, List, [], ◌∷◌, ◌++◌, length, map, take, get_or, nat_lt, Option, Some, None, inl, inr, refl, sym, ap, ap₂, subst, arith, All, All-nil, All-cons, All-head, All-tail, All-map, sum_by-cons, eqb_tells, Ok, most_shape, Fraction, whole, ◌over◌, ◌*ℚ◌, ◌<ℚ◌, Item, Sev, Pairs, Means, HasPartsOf48Bits, IsValidUnit, Settings, Program, UnitAst, in_turn, ◌else◌, Span, else_second, not_at, not-false, GridUnit, ReadCount, Exposed, Listed, Fixed, Poisson, Bernoulli, Binomial, Gamma, final_severity, support, first_fault_of, breaks, cells_asked, AnswersUnits}
+use Rattle.dl_types.proofs.Common.{◌≡◌, ◌∙◌, ℕ, zero, suc, ◌+◌, ◌<◌, ◌==◌, ◌&&◌, ◌||◌, ◌∣◌, Bool, true, false, not, cond, is_some, List, [], ◌∷◌, length, map, take, get_or, nat_lt, Option, Some, None, inl, inr, refl, sym, ap, ap₂, subst, arith, All, All-nil, All-cons, All-head, All-tail, All-map, sum_by-cons, eqb_tells, Ok, most_shape, Fraction, whole, ◌over◌, ◌*ℚ◌, ◌<ℚ◌, Item, Sev, Pairs, Means, IsValidUnit, Settings, Program, UnitAst, ◌else◌, Span, else_second, not_at, not-false, GridUnit, GridCount, Exposed, Listed, Fixed, Poisson, Bernoulli, Binomial, Gamma, final_severity, support, first_fault_of, breaks, cells_asked, AnswersUnits}
 use Rattle.dl_exact.specs.Fraction.{◌-ℚ◌, ◌/ℚ◌}
 use Rattle.dl_exact.proofs.Denominators.{over_zero}
 use Rattle.dl_exact.proofs.Laws.{lt_not_le, le_refl}
@@ -28,22 +28,18 @@ use Rattle.dl_ast.specs.declared.ast.Numeral.{Numeral}
 use Rattle.dl_ast.specs.declared.ast.PortHead.{PortHead}
 use Rattle.dl_ast.specs.declared.ast.SevDef.{SevDef}
 use Rattle.dl_ast.specs.declared.ast.Cession.{Cession}
-use Rattle.dl_read.specs.BadNumerals.{value}
-use Rattle.dl_read.specs.First.{at_if, within}
+use Rattle.dl_buckets.specs.Values.{value, if_there}
+use Rattle.dl_buckets.specs.First.{at_if, within}
 use Rattle.std.specs.Prelude.{nat_le}
 use Rattle.dl_limits.specs.Limits.{most_expected, most_parts}
 use Rattle.dl_plan.specs.Common.{raised}
-use Rattle.dl_read.specs.Lists.{is_fine, is_zero}
-unfoldable use Rattle.dl_read.specs.Numbers.{numbers_of}
-use Rattle.dl_read.specs.Numbers.{count_numbers, distribution_number, given_zero, clause_numbers, if_there}
-unfoldable use Rattle.dl_read.specs.Read.{read_of, read_numbers}
-use Rattle.dl_read.specs.Read.{read_count}
-use Rattle.dl_read.proofs.Firsts.{from_map}
-unfoldable use Rattle.dl_amounts.specs.Grid.{grid_of}
-use Rattle.dl_amounts.specs.Grid.{grid_clause}
-use Rattle.dl_amounts.proofs.ClauseLaws.{turn_none}
-use Rattle.dl_amounts.proofs.Items.{Rising, rises, none_later, item_share, items_in, support_positive}
-use Rattle.dl_amounts.proofs.Shared.{all_left, all_right, common_divides}
+use Rattle.dl_buckets.specs.Lists.{is_fine, is_zero}
+use Rattle.dl_buckets.proofs.Firsts.{from_map}
+unfoldable use Rattle.dl_buckets.specs.Grid.{grid_of}
+use Rattle.dl_buckets.specs.Grid.{grid_count, given_zero, grid_clause}
+use Rattle.dl_buckets.proofs.ClauseLaws.{turn_none}
+use Rattle.dl_buckets.proofs.Items.{Rising, rises, none_later, item_share, items_in, support_positive}
+use Rattle.dl_buckets.proofs.Shared.{all_left, all_right, common_divides}
 use Rattle.dl_types.specs.Exposures.{shape_of}
 use Rattle.dl_types.specs.Faults.{fault_of_mixture}
 use Rattle.dl_types.specs.Faults.{common_size, parts_in}
@@ -55,7 +51,7 @@ use Rattle.dl_types.specs.Plans.{IsCountOf, IsUnitOn, IsUnitOf, aggregate_clause
 use Rattle.dl_types.specs.Rules.{is_poisson, is_plain_poisson, has_common, common_shape, passes}
 unfoldable use Rattle.dl_types.specs.Rules.{common_unit}
 use Rattle.dl_types.specs.Severities.{mixture_of}
-use Rattle.dl_types.proofs.UnitFacts.{only}
+use Rattle.dl_types.proofs.RuleLists.{only}
 
 -- ---- what holds of each probability
 
@@ -193,7 +189,7 @@ large_alike r ps qs h =
 
 -- ---- a unit
 
-poisson_claims : (bs : Fraction) (g : GridUnit) (k : ReadCount) (freq : Freq) → IsPoisson freq → IsCountOf bs g k freq
+poisson_claims : (bs : Fraction) (g : GridUnit) (k : GridCount) (freq : Freq) → IsPoisson freq → IsCountOf bs g k freq
     → claims_expected bs g k ≡ expected_of_plan freq
 poisson_claims bs g (Exposed e (Fixed _)) freq poisson is = absurd (subst IsPoisson is.2 poisson)
 poisson_claims bs g (Exposed e (Poisson _)) freq poisson is = sym (ap expected_of_plan is)
@@ -217,7 +213,7 @@ same_part : (bs : Fraction) (sevs : List SevDef) (u : UnitAst) (made : UnitOfPla
     → IsUnitOf bs sevs u made → SamePart (part_in bs sevs u) (part_of made)
 same_part bs sevs u made poisson is =
     subst (λ o. SamePart (part_of_mixture bs u o) (part_of made)) (sym is.named)
-    (same_on bs u.name.text (grid_of bs (read_of u is.mix)) made poisson is.unit)
+    (same_on bs u.name.text (grid_of bs u is.mix) made poisson is.unit)
 
 same_parts : (bs : Fraction) (sevs : List SevDef) (us : List UnitAst) (made : List UnitOfPlan) → All CanShare made
     → AllZip (IsUnitOf bs sevs) us made → AllZip SamePart (map (part_in bs sevs) us) (map part_of made)
@@ -231,22 +227,15 @@ same_parts bs sevs (u ∷ us) (m ∷ ms) can h = (
 
 -- ---- a unit that can share a factor
 
-grid_count : (bs : Fraction) (u : UnitAst) (m : MixAst)
-    → (grid_of bs (read_of u m)).count ≡ read_count (count_numbers u.count) (distribution_number u.count)
-unfolding grid_of read_of read_numbers numbers_of
-grid_count bs u m = refl
-
-grid_zero : (bs : Fraction) (u : UnitAst) (m : MixAst) → (grid_of bs (read_of u m)).zero ≡ given_zero u.count
-unfolding grid_of read_of read_numbers numbers_of
-grid_zero bs u m = refl
-
-grid_agr : (bs : Fraction) (u : UnitAst) (m : MixAst)
-    → (grid_of bs (read_of u m)).agr ≡ if_there (grid_clause bs) (if_there clause_numbers u.agr)
-unfolding grid_of read_of read_numbers numbers_of
-grid_agr bs u m = refl
+-- its count, its probability of no claim and its aggregate clause in whole buckets
+same_grid : (bs : Fraction) (u : UnitAst) (m : MixAst)
+    → ((grid_of bs u m).count ≡ grid_count u.count) × ((grid_of bs u m).zero ≡ given_zero u.count)
+    × ((grid_of bs u m).agr ≡ if_there (grid_clause bs) u.agr)
+unfolding grid_of
+same_grid bs u m = (refl, refl, refl)
 
 plain_poisson : (bs : Fraction) (g : GridUnit) (k : CountAst) (freq : Freq) → is_plain_poisson k ≡ true
-    → IsCountOf bs g (read_count (count_numbers k) (distribution_number k)) freq → IsPoisson freq
+    → IsCountOf bs g (grid_count k) freq → IsPoisson freq
 plain_poisson bs g (counts.Exposed e (freqs.Fixed _) z) freq plain is = absurd cc
 plain_poisson bs g (counts.Exposed e (freqs.Poisson _) z) freq plain is = subst IsPoisson (sym is) tt
 plain_poisson bs g (counts.Exposed e (freqs.Geometric _) z) freq plain is = absurd cc
@@ -278,13 +267,13 @@ module _ (port : Option PortHead) (shared : has_common port ≡ true) (bs : Frac
       let parts = or_parts (not (is_plain_poisson u.count)) (is_some u.agr)
       (ap (λ b. b && (not (is_plain_poisson u.count) || is_some u.agr)) (sym shared) ∙ not_at _ u.name.span kept) in
       let plain : is_plain_poisson u.count ≡ true = not-false _ parts.0 in
-      let g = grid_of bs (read_of u is.mix) in
+      let g = grid_of bs u is.mix in
       record {
         count = plain_poisson bs g u.count made.freq plain
-            (subst (λ k. IsCountOf bs g k made.freq) (grid_count bs u is.mix) is.unit.count);
-        clause = is.unit.clause ∙ ap aggregate_clause (grid_agr bs u is.mix
-            ∙ ap (λ o. if_there (grid_clause bs) (if_there clause_numbers o)) (none_there u.agr parts.1));
-        zero = is.unit.zero ∙ grid_zero bs u is.mix ∙ plain_zero u.count plain;
+            (subst (λ k. IsCountOf bs g k made.freq) (same_grid bs u is.mix).0 is.unit.count);
+        clause = is.unit.clause ∙ ap aggregate_clause ((same_grid bs u is.mix).2
+            ∙ ap (if_there (grid_clause bs)) (none_there u.agr parts.1));
+        zero = is.unit.zero ∙ (same_grid bs u is.mix).1 ∙ plain_zero u.count plain;
       }
 
   all_share : (us : List UnitAst) (made : List UnitOfPlan) → All (λ u. common_unit port u ≡ None) us

@@ -1,12 +1,12 @@
 -- The shares of units in all expected claims, and their common denominators.
-use Rattle.std.proofs.Common.{drop, fold, flat_map}
+use Rattle.std.proofs.Common.{drop, flat_map}
 use Rattle.std.proofs.lemmas.Bool.{lt-leb, le-ltb}
 use Rattle.std.proofs.lemmas.Grind.{flat_map-append}
-use Rattle.std.proofs.lemmas.List.{append-nil, get_or_default, map-append, take_more, take_all, take-append-drop}
+use Rattle.std.proofs.lemmas.List.{append-nil, get_or_default, map-append, take_more, take-append-drop}
 use Rattle.std.proofs.lemmas.List.Concat.{flat_map-cons}
 use Rattle.std.proofs.lemmas.List.Sums.{fold-append, get_or-le-sum_by}
 use Rattle.std.proofs.lemmas.Nat.Gcd.{le_of_dvd}
-use Rattle.dl_types.proofs.Common.{◌≡◌, ◌∙◌, ℕ, ◌+◌, ◌*◌, ◌<◌, ◌≤◌, ◌&&◌, Bool, true, false, if◌then◌else◌, nat_lt, Some, None, admitted, admitted_bound, List, [], ◌∷◌, ◌++◌, length, map, take, get_or, inl, inr, refl, sym, ap, ap₂, subst, arith, mul-pos, Fraction, whole, ◌over◌, ◌*ℚ◌, ◌/ℚ◌, ◌≤ℚ◌, ◌<ℚ◌, div_times, Item, Sev, IsTooFine}
+use Rattle.dl_types.proofs.Common.{◌≡◌, ◌∙◌, ℕ, ◌+◌, ◌*◌, ◌<◌, ◌≤◌, ◌&&◌, Bool, true, false, if◌then◌else◌, nat_lt, Some, None, admitted, admitted_bound, List, [], ◌∷◌, ◌++◌, length, map, take, get_or, inl, inr, refl, sym, ap, ap₂, subst, arith, Fraction, whole, ◌over◌, ◌*ℚ◌, ◌/ℚ◌, ◌≤ℚ◌, ◌<ℚ◌, div_times, Item, Sev, IsTooFine}
 use Rattle.dl_limits.specs.Limits.{most_parts}
 use Rattle.dl_exact.specs.Multiples.{lcm}
 use Rattle.dl_exact.proofs.Laws.{one_pos, one_times, times_le_cancel, times_le_both}
@@ -16,7 +16,7 @@ use Rattle.dl_plan.specs.declared.plan.Unit.{Unit as UnitOfPlan}
 use Rattle.dl_plan.specs.Common.{unit_share, shared_probabilities}
 use Rattle.dl_plan.proofs.CommonDenominators.{lcm_pos, common_from_pos, common_from_divides}
 use Rattle.dl_plan.proofs.Means.{severity_total}
-use Rattle.dl_read.specs.Lists.{is_fine}
+use Rattle.dl_buckets.specs.Lists.{is_fine}
 use Rattle.dl_types.specs.Factor.{joined, times_amounts}
 
 -- ---- parts of a whole

@@ -1,16 +1,15 @@
 -- What the rules on a count leave of it.
-use Rattle.dl_types.proofs.Common.{◌≡◌, ◌||◌, ◌&&◌, Bool, true, false, not, if◌then◌else◌, [], Option, Some, None, refl, All, IfSome, is_some, All-head, Fraction, pos_num, HasPartsOf48Bits, ReadList, ReadFreq, Fixed, Poisson, Bernoulli, Binomial, Gamma, ReadCount, Exposed, Listed, probs_of, probs_in_count, not_at, not-false, AreProbabilities, IsWholeFreq, IsWholeCount, IsCountKept, exposed_too_fine, has_too_many_claims}
+use Rattle.dl_types.proofs.Common.{◌≡◌, ◌||◌, ◌&&◌, Bool, true, false, not, if◌then◌else◌, length, Option, Some, None, refl, IfSome, is_some, Fraction, pos_num, HasPartsOf48Bits, GridFreq, Fixed, Poisson, Bernoulli, Binomial, Gamma, GridCount, Exposed, Listed, probs_in_count, not_at, not-false, IsWholeFreq, IsWholeCount, IsCountKept, exposed_too_fine, has_too_many_claims}
 use Rattle.std.proofs.lemmas.Bool.{or_parts}
-use Rattle.dl_read.specs.declared.tree.ReadExposure.{ReadExposure}
-use Rattle.dl_read.specs.First.{each_of}
-use Rattle.dl_read.specs.Kept.{IsListRead, IsCountRead}
-use Rattle.dl_read.specs.Lists.{itself}
-use Rattle.dl_amounts.specs.Rules.{count_lengths}
-use Rattle.dl_amounts.proofs.Shared.{equal_probabilities}
+use Rattle.dl_buckets.specs.declared.grid.GridExposure.{GridExposure}
+use Rattle.dl_buckets.specs.Small.{IsGridCount}
+use Rattle.dl_buckets.specs.Lists.{is_fine}
+use Rattle.dl_buckets.specs.Rules.{count_lengths}
+use Rattle.dl_buckets.proofs.Shared.{among_probabilities}
 use Rattle.dl_types.specs.Exposures.{is_unbounded}
 use Rattle.dl_types.specs.Kept.{IsSmallFreq}
 use Rattle.dl_types.specs.Rules.{exposure_span, count_not_whole, count_above_one, trials_not_whole, shape_not_whole}
-use Rattle.dl_read.proofs.ItemRanges.{zero_above}
+use Rattle.dl_buckets.proofs.Values.{zero_above}
 
 -- ---- tests
 
@@ -27,13 +26,13 @@ given false x n e = absurd (cc)
 -- ---- what has to be whole
 
 -- the rules on whole numbers, with n claims expected
-pub record AreWhole (k : ReadCount) (n : Option Fraction) : Type 0 where
+pub record AreWhole (k : GridCount) (n : Option Fraction) : Type 0 where
   pub whole : count_not_whole k n ≡ None
   pub within : count_above_one k n ≡ None
   pub trials : trials_not_whole k n ≡ None
   pub shape : shape_not_whole k ≡ None
 
-whole_freq : (e : ReadExposure) (f : ReadFreq) (n : Fraction) → AreWhole (Exposed e f) (Some n) → IsWholeFreq f n
+whole_freq : (e : GridExposure) (f : GridFreq) (n : Fraction) → AreWhole (Exposed e f) (Some n) → IsWholeFreq f n
 unfolding count_not_whole count_above_one trials_not_whole shape_not_whole
 whole_freq e (Fixed span) n are = not-false _ (not_at _ (exposure_span e) are.whole)
 whole_freq e (Poisson span) n are = tt
@@ -48,7 +47,7 @@ whole_freq e (Gamma c span) n are =
 -- ---- what has to be there
 
 -- the number is there, and of an unbounded count the number above 0
-pub number_there : (e : ReadExposure) (f : ReadFreq) (n above : Option Fraction)
+pub number_there : (e : GridExposure) (f : GridFreq) (n above : Option Fraction)
     → exposed_too_fine (Exposed e f) n above ≡ false
     → (is_some n ≡ true) × ((is_unbounded f && not (is_some above)) ≡ false)
 unfolding exposed_too_fine
@@ -56,7 +55,7 @@ number_there e f n above fine =
     let parts = none_of_three _ _ _ fine in
     (not-false _ parts.1, parts.2)
 
-pub whole_count : (k : ReadCount) (n above : Option Fraction) → AreWhole k n → exposed_too_fine k n above ≡ false
+pub whole_count : (k : GridCount) (n above : Option Fraction) → AreWhole k n → exposed_too_fine k n above ≡ false
     → IsWholeCount k n
 whole_count (Exposed e f) None above are fine = absurd (cc ((number_there e f None above fine).0))
 whole_count (Exposed e f) (Some n) above are fine = whole_freq e f n are
@@ -65,16 +64,16 @@ whole_count (Listed counts probs) n above are fine = tt
 -- ---- all rules
 
 -- and the rules on fractions and on sizes, with so many claims above 0; the lists are good, and the number is admitted
-pub record AreKept (k : ReadCount) (n above : Option Fraction) : Type 0 where
+pub record AreKept (k : GridCount) (n above : Option Fraction) : Type 0 where
   pub whole : AreWhole k n
   pub fine : exposed_too_fine k n above ≡ false
   pub few : has_too_many_claims k n above ≡ false
-  pub read : IsCountRead k
+  pub read : IsGridCount k
   pub paired : count_lengths k ≡ None
-  pub shared : All (λ (l : ReadList). AreProbabilities l.values) (probs_in_count k)
+  pub shared : is_fine (probs_in_count k) ≡ true
   pub admitted : IfSome n HasPartsOf48Bits
 
-small_freq : (e : ReadExposure) (f : ReadFreq) (n : Fraction) (above : Option Fraction)
+small_freq : (e : GridExposure) (f : GridFreq) (n : Fraction) (above : Option Fraction)
     → has_too_many_claims (Exposed e f) (Some n) above ≡ false → IsSmallFreq f n
 unfolding has_too_many_claims
 small_freq e (Fixed span) n above h = h
@@ -83,12 +82,7 @@ small_freq e (Bernoulli span) n above h = tt
 small_freq e (Binomial p span) n above h = h
 small_freq e (Gamma c span) n above h = (or_parts _ _ h).1
 
-count_shares : (counts : ReadList) → IsListRead counts → (o : Option ReadList)
-    → All (λ (l : ReadList). AreProbabilities l.values) (each_of itself o) → AreProbabilities (probs_of counts o)
-count_shares counts read None h = equal_probabilities counts.values read.some read.few
-count_shares counts read (Some l) h = All-head (λ (m : ReadList). AreProbabilities m.values) l [] h
-
-pub count_kept : (k : ReadCount) (n above : Option Fraction) → AreKept k n above → IsCountKept k n
+pub count_kept : (k : GridCount) (n above : Option Fraction) → AreKept k n above → IsCountKept k n
 unfolding count_not_whole has_too_many_claims
 count_kept (Exposed e f) None above are = absurd (cc ((number_there e f None above are.fine).0))
 count_kept (Exposed e f) (Some n) above are = record {
@@ -103,5 +97,5 @@ count_kept (Listed counts probs) n above are = record {
   lengths = are.paired;
   whole = not_at _ counts.span are.whole.whole;
   few = are.few;
-  shares = count_shares counts are.read.0 probs are.shared;
+  shares = among_probabilities (length counts.values) probs are.read.0.some are.read.0.few are.read.1 are.shared;
 }

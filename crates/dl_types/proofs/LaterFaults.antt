@@ -1,8 +1,8 @@
 -- The first fault of the names of severities, one after another.
-use Rattle.dl_types.proofs.Common.{◌≡◌, ◌∙◌, ℕ, ◌+◌, ◌<◌, List, [], length, take, get_or, true, false, Some, None, sym, ap, arith, at_if, in_turn, breaks, Span, UnitAst}
+use Rattle.dl_types.proofs.Common.{◌≡◌, ◌∙◌, ℕ, ◌+◌, ◌<◌, List, [], length, take, get_or, Some, None, sym, ap, arith, in_turn, breaks, Span}
 use Rattle.std.proofs.lemmas.List.{length-take-le}
 use Rattle.dl_ast.specs.declared.ast.SevDef.{SevDef}
-use Rattle.dl_amounts.proofs.Turns.{NoneTurned, turn_found, turn_passed}
+use Rattle.dl_buckets.proofs.Turns.{NoneTurned, turn_found, turn_passed}
 use Rattle.dl_types.specs.Faults.{fault_of_severity}
 unfoldable use Rattle.dl_types.specs.Rules.{duplicate_severity}
 use Rattle.dl_types.specs.declared.rule.Rule.TheVariants as rules

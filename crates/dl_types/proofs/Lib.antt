@@ -20,3 +20,5 @@ pub mod FactorParts
 pub mod FactorKept
 pub mod Accepted
 pub mod OnePlan
+mod RuleLists
+mod Texts

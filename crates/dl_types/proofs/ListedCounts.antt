@@ -1,14 +1,15 @@
 -- Listed counts: what the rules leave of them, and what their table is.
-use Rattle.dl_types.proofs.Common.{◌≡◌, ◌∙◌, ℕ, ◌*◌, ◌≤◌, ◌==◌, false, not, nat_lt, List, [], ◌∷◌, zip, map, length, get_or, Option, Some, None, sym, ap, ap₂, arith, All, All-nil, All-cons, All-head, All-tail, All-map, length-map, sum_by-cons, most_count, Fraction, whole, ◌over◌, Item, Sev, HasPartsOf48Bits, Means, whole_num, whole_den, ReadList, probs_of, is_whole, not_at, not-false, pairs_of_counts, passes, never, items_in}
+use Rattle.dl_types.proofs.Common.{◌≡◌, ◌∙◌, ℕ, ◌*◌, ◌≤◌, ◌==◌, false, not, nat_lt, List, [], ◌∷◌, zip, map, length, get_or, Option, Some, None, sym, ap, ap₂, arith, All, All-nil, All-cons, All-head, All-tail, All-map, sum_by-cons, most_count, Fraction, whole, ◌over◌, Item, Sev, HasPartsOf48Bits, Means, whole_num, whole_den, ValueList, Shares, probs_of, is_whole, not_at, not-false, pairs_of_counts, passes, never, items_in}
 use Rattle.std.proofs.lemmas.Bool.{eqb-true}
+use Rattle.std.proofs.lemmas.List.{length-replicate}
 use Rattle.std.proofs.Math.Nat.{mul-le-mul_right}
 use Rattle.dl_plan.specs.Weighted.{weight_sum, weighted_sum}
 use Rattle.dl_exact.proofs.Parts.{over_num_le as num_of_over-le, over_den_le as den_of_over-le}
 use Rattle.dl_plan.proofs.Means.{severity_total as total_pos}
-use Rattle.dl_read.specs.First.{within}
-use Rattle.dl_amounts.specs.Rules.{other_length}
+use Rattle.dl_buckets.specs.First.{within}
+use Rattle.dl_buckets.specs.Rules.{other_length}
 use Rattle.dl_types.specs.Listed.{AreCounts}
-use Rattle.dl_amounts.proofs.Items.{support_all}
+use Rattle.dl_buckets.proofs.Items.{support_all}
 
 -- ---- limits
 
@@ -26,7 +27,7 @@ small x whole few = go x.num x.den whole (passes_is most_count x ∙ few)
     go : (n d : ℕ) → not (d == 1) ≡ false → nat_lt (most_count * d) n ≡ false → n ≤ most_count
     go n d a b = grind arith
 
-pub small_values : (counts : ReadList) (probs : Option ReadList) → AreCounts counts probs
+pub small_values : (counts : ValueList) (probs : Option Shares) → AreCounts counts probs
     → All (λ (x : Fraction). x.num ≤ most_count) counts.values
 small_values counts probs are k d h =
     small (get_or counts.values k d) (never (λ x. not (is_whole x)) counts.values are.whole k d h)
@@ -34,10 +35,10 @@ small_values counts probs are k d h =
 
 -- ---- the table
 
-pub same_length : (values : ReadList) (probs : Option ReadList) → within (other_length values) probs ≡ None
+pub same_length : (values : ValueList) (probs : Option Shares) → within (other_length values) probs ≡ None
     → length (probs_of values probs) ≡ length values.values
 unfolding other_length
-same_length values None e = length-map values.values (λ _. 1 over length values.values)
+same_length values None e = length-replicate (length values.values) (1 over length values.values)
 same_length values (Some l) e = sym (eqb-true (length values.values) (length l.values)
     (not-false _ (not_at _ l.span e)))
 
@@ -47,7 +48,7 @@ all_zip Q (x ∷ xs) [] h = All-nil (λ pair. Q pair.0)
 all_zip Q (x ∷ xs) (p ∷ ps) h = All-cons (λ pair. Q pair.0) (x, p) (zip xs ps) (All-head Q x xs h)
     (all_zip Q xs ps (All-tail Q x xs h))
 
-pub small_table : (counts : ReadList) (probs : Option ReadList) → AreCounts counts probs → (sev : Sev)
+pub small_table : (counts : ValueList) (probs : Option Shares) → AreCounts counts probs → (sev : Sev)
     → Means sev (pairs_of_counts counts probs)
     → All (λ (i : Item). i.amount ≤ most_count) sev.items
 small_table counts probs are sev means =

@@ -1,10 +1,9 @@
 -- A program and settings have one plan.
-use Rattle.std.proofs.Common.{◌⊎◌}
 use Rattle.std.proofs.Math.Nat.{ℕ_set, eq_of_mul-eq-mul_right}
 use Rattle.std.proofs.Math.Bridge.{le_prop}
 use Rattle.std.specs.List.{AllZip}
 use mathlib.Core.HLevel.{is_prop→PathP}
-use Rattle.dl_types.proofs.Common.{◌≡◌, ◌∙◌, ℕ, zero, suc, ◌+◌, ◌*◌, ◌<◌, ◌≤◌, ◌==◌, cond, true, false, List, [], ◌∷◌, map, get_or, Option, Some, None, inl, inr, refl, sym, ap, ap₂, subst, arith, mul-pos, All, All-head, All-tail, sum_by-cons, eqb_tells, Fraction, whole, whole_num, ◌over◌, Item, Sev, Pairs, Means, Plan, Settings, Program, UnitAst, GridUnit, ReadCount, Exposed, Listed, Fixed, Poisson, Bernoulli, Binomial, Gamma, final_severity, pairs_of_counts}
+use Rattle.dl_types.proofs.Common.{◌≡◌, ◌∙◌, ℕ, zero, suc, ◌+◌, ◌*◌, ◌<◌, ◌==◌, cond, false, List, [], ◌∷◌, map, Option, Some, None, inl, inr, refl, sym, ap, ap₂, subst, arith, mul-pos, All, All-head, All-tail, sum_by-cons, eqb_tells, Fraction, whole, whole_num, ◌over◌, Item, Sev, Pairs, Means, Plan, Settings, Program, UnitAst, GridUnit, GridCount, Exposed, Listed, Fixed, Poisson, Bernoulli, Binomial, Gamma, final_severity}
 use Rattle.std.proofs.lemmas.Bool.{cases_lt}
 use Rattle.dl_exact.proofs.Laws.{le_of_eq}
 use Rattle.dl_exact.proofs.Over.{le_over}
@@ -12,19 +11,18 @@ use Rattle.dl_plan.specs.declared.plan.Freq.{Freq}
 use Rattle.dl_plan.specs.declared.plan.Freq.TheVariants as of_plan
 use Rattle.dl_plan.specs.declared.plan.Unit.{Unit as UnitOfPlan}
 use Rattle.dl_plan.specs.Count.{IsClaimCount}
-use Rattle.dl_plan.specs.Severity.{probability}
 use Rattle.dl_plan.specs.Weighted.{IsWeighted, weight_at, common_weight}
 use Rattle.dl_plan.proofs.Weights.{common_from, common-times, times, weight_sum_pos}
-use Rattle.dl_amounts.proofs.Items.{Rising, rises, none_later}
-use Rattle.dl_amounts.specs.Grid.{grid_of}
-use Rattle.dl_read.specs.Read.{read_of}
-use Rattle.dl_read.specs.declared.tree.ReadList.{ReadList}
+use Rattle.dl_buckets.proofs.Items.{Rising, rises, none_later}
+use Rattle.dl_buckets.specs.Grid.{grid_of}
+use Rattle.dl_buckets.specs.declared.grid.ValueList.{ValueList}
+use Rattle.dl_buckets.specs.declared.grid.Shares.{Shares}
 use Rattle.dl_ast.specs.declared.ast.MixAst.{MixAst}
 use Rattle.dl_ast.specs.declared.ast.Numeral.{Numeral}
 use Rattle.dl_ast.specs.declared.ast.PortHead.{PortHead}
 use Rattle.dl_ast.specs.declared.ast.SevDef.{SevDef}
 use Rattle.dl_types.specs.Exposures.{expected_count}
-use Rattle.dl_types.specs.Plans.{IsTableOf, IsCountWith, IsCountOf, IsUnitOn, IsUnitOf, IsWrittenShape, IsSharedShape, IsPlanOf}
+use Rattle.dl_types.specs.Plans.{IsTableOf, IsCountOf, IsUnitOn, IsUnitOf, IsWrittenShape, IsSharedShape, IsPlanOf}
 
 -- ---- whole weights are told by the probabilities that they mean
 
@@ -195,7 +193,7 @@ one_severity s u ps a b =
 whole_same : (m n : ℕ) (x : Fraction) → whole m ≡ x → whole n ≡ x → m ≡ n
 whole_same m n x p q = sym (whole_num m) ∙ ap (λ (y : Fraction). y.num) (p ∙ sym q) ∙ whole_num n
 
-one_table : (counts : ReadList) (probs : Option ReadList) (f g : Freq) → IsTableOf counts probs f → IsClaimCount f
+one_table : (counts : ValueList) (probs : Option Shares) (f g : Freq) → IsTableOf counts probs f → IsClaimCount f
     → IsTableOf counts probs g → IsClaimCount g → f ≡ g
 one_table counts probs f g (xs, t, fs, a) vf (ys, v, gs, b) vg =
     let w : IsWeighted xs t = (subst IsClaimCount fs vf).0 in
@@ -203,7 +201,7 @@ one_table counts probs f g (xs, t, fs, a) vf (ys, v, gs, b) vg =
     let same : (x : ℕ) → weight_at xs x over t ≡ weight_at ys x over v = λ x. a x ∙ sym (b x) in
     fs ∙ ap₂ of_plan.Table (one_list xs t ys v w z same) (one_total xs t ys v w z same) ∙ sym gs
 
-one_count : (bs : Fraction) (u : GridUnit) (k : ReadCount) (f g : Freq) → IsCountOf bs u k f → IsCountOf bs u k g
+one_count : (bs : Fraction) (u : GridUnit) (k : GridCount) (f g : Freq) → IsCountOf bs u k f → IsCountOf bs u k g
     → f ≡ g
 one_count bs u (Exposed e (Fixed _)) f g (m, mw, fm) (n, nw, gn) =
     fm ∙ ap of_plan.Fixed (whole_same m n _ mw nw) ∙ sym gn
@@ -234,8 +232,8 @@ one_unit : (bs : Fraction) (sevs : List SevDef) (u : UnitAst) (m n : UnitOfPlan)
     → IsUnitOf bs sevs u n → m ≡ n
 one_unit bs sevs u m n p q =
     let same : q.mix ≡ p.mix = one_mixture _ q.mix p.mix q.named p.named in
-    one_on bs u.name.text (grid_of bs (read_of u p.mix)) m n p.unit
-    (subst (λ x. IsUnitOn bs u.name.text (grid_of bs (read_of u x)) n) same q.unit)
+    one_on bs u.name.text (grid_of bs u p.mix) m n p.unit
+    (subst (λ x. IsUnitOn bs u.name.text (grid_of bs u x) n) same q.unit)
 
 one_units : (bs : Fraction) (sevs : List SevDef) (us : List UnitAst) (ms ns : List UnitOfPlan)
     → AllZip (IsUnitOf bs sevs) us ms → AllZip (IsUnitOf bs sevs) us ns → ms ≡ ns

@@ -1,5 +1,5 @@
 -- The units of a plan, one after another.
-use Rattle.dl_types.proofs.Common.{Bool, true, false, if◌then◌else◌, IfSome, ◌≡◌, ◌∙◌, ℕ, zero, suc, ◌+◌, ◌<◌, ◌≤◌, List, [], ◌∷◌, ◌++◌, take, length, get_or, Option, Some, None, refl, sym, ap, subst, arith, bytes_eq, All, Ok, Err, CheckFault, Typing, OutOfMemory, AnswersUnit, AnswersUnits, All-nil, All-cons, All-head, All-tail, most_units, Fraction, whole, ◌<ℚ◌, Settings, IsValidUnit, UnitAst, ◌else◌, in_turn, Span, names_of, cells_asked, fault_of_lists, first_fault_of, first_fault, breaks, duplicate_name, too_many_units, IsSet, Program, IsWellFormed, Plan, else_first, not_at, never}
+use Rattle.dl_types.proofs.Common.{Bool, true, false, if◌then◌else◌, IfSome, ◌≡◌, ◌∙◌, ℕ, zero, suc, ◌+◌, ◌<◌, ◌≤◌, List, [], ◌∷◌, ◌++◌, take, length, get_or, Option, Some, None, refl, sym, ap, subst, arith, bytes_eq, All, Ok, Err, CheckFault, Typing, OutOfMemory, AnswersUnit, AnswersUnits, All-nil, All-cons, All-head, All-tail, most_units, Fraction, whole, ◌<ℚ◌, Settings, IsValidUnit, UnitAst, ◌else◌, in_turn, Span, names_of, cells_asked, first_fault_of, first_fault, breaks, duplicate_name, too_many_units, IsSet, Program, IsWellFormed, Plan, else_first, not_at, never}
 use Rattle.std.proofs.lemmas.Bool.{both_ways}
 use Rattle.std.proofs.Common.{◌≢◌}
 use Rattle.std.specs.List.{AllZip, AllPairs}
@@ -9,7 +9,7 @@ use Rattle.std.proofs.lemmas.Slice.Zip.{all_zipped_more, AllZip-long}
 use Rattle.std.proofs.lemmas.Slice.Eq.{bytes_eq-Decides}
 use Rattle.std.specs.Prelude.{slice_get}
 use Rattle.dl_types.specs.Answer.{IsCheckOf}
-use Rattle.dl_amounts.proofs.Turns.{turn_found, NoneTurned, turn_passed, turn_ended}
+use Rattle.dl_buckets.proofs.Turns.{turn_found, NoneTurned, turn_passed, turn_ended}
 use Rattle.std.proofs.lemmas.List.Elements.{All-append}
 use Rattle.dl_plan.specs.declared.plan.Unit.{Unit as UnitOfPlan}
 use Rattle.dl_plan.specs.Common.{HasCommonFactor}
@@ -22,6 +22,7 @@ use Rattle.dl_types.specs.Answer.{StopsAt, TellsFault, AnswersWith}
 unfoldable use Rattle.dl_types.specs.Severities.{named, mixture_of}
 use Rattle.dl_types.specs.Severities.{body_span}
 use Rattle.dl_types.specs.declared.fault.TypeFault.{TypeFault}
+use Rattle.dl_types.proofs.RuleLists.{both}
 use Rattle.dl_ast.specs.declared.ast.MixAst.{MixAst}
 use Rattle.dl_ast.specs.declared.ast.SevBody.{SevBody}
 use Rattle.dl_ast.specs.declared.ast.SevBody.TheVariants.{Mixture, Ref}
@@ -52,10 +53,6 @@ new_name bs sevs text (u ∷ us) (m ∷ ms) h all =
     (λ e. All-head (λ (v : UnitAst). v.name.text ≢ text) u us all (sym h.0.unit.name ∙ e))
     (new_name bs sevs text us ms h.1 (All-tail (λ (v : UnitAst). v.name.text ≢ text) u us all))
 
-none_broken : (unit : ℕ) (place : Option Span) → breaks unit rules.DuplicateName place ≡ None → place ≡ None
-none_broken unit None e = refl
-none_broken unit (Some place) e = absurd (cc)
-
 other_names : (before : List UnitAst) (u : UnitAst) → duplicate_name before u ≡ None
     → All (λ (v : UnitAst). v.name.text ≢ u.name.text) before
 unfolding duplicate_name
@@ -66,12 +63,10 @@ other_names before u e k d h same =
 
 no_duplicate_with : (settings : Settings) (before : List UnitAst) (u : UnitAst) (o : Option MixAst)
     → fault_of_mixture settings before u o ≡ None → duplicate_name before u ≡ None
-unfolding fault_with fault_of_lists
+unfolding fault_with
 no_duplicate_with settings before u None e = absurd cc
 no_duplicate_with settings before u (Some m) e =
-    none_broken (length before) (duplicate_name before u)
-    (else_first (breaks (length before) rules.DuplicateName (duplicate_name before u)) _
-    (else_first (fault_of_lists before u m) _ e))
+    (both (length before) rules.DuplicateName (duplicate_name before u) _ e).0
 
 no_duplicate : (settings : Settings) (port : Option PortHead) (sevs : List SevDef) (before : List UnitAst) (u : UnitAst)
     → first_fault_of settings port sevs before u ≡ None → duplicate_name before u ≡ None
@@ -138,7 +133,7 @@ few_units units e = few most_units units (none_there (slice_get units most_units
 
 -- the mixture that a severity is, is well formed
 
-formed_named : (sevs : List SevDef) (name : List ℕ) → All IsFormedDefinition sevs
+pub formed_named : (sevs : List SevDef) (name : List ℕ) → All IsFormedDefinition sevs
     → IfSome (named sevs name) IsFormedMixture
 unfolding named
 formed_named [] name h = tt
@@ -201,22 +196,6 @@ module _ (settings : Settings) (port : Option PortHead) (sevs : List SevDef) (be
 
 -- ---- the whole
 
--- the first of four rules that is broken
-first_of : {A : Type 0} (a b c d : Option A) (x : A) → a ≡ Some x → (a else b else c else d) ≡ Some x
-first_of a b c d x e = ap (λ o. o else b else c else d) e
-
-second_of : {A : Type 0} (a b c d : Option A) (x : A) → a ≡ None → b ≡ Some x → (a else b else c else d) ≡ Some x
-second_of a b c d x e f = ap (λ o. o else b else c else d) e ∙ ap (λ o. o else c else d) f
-
-third_of : {A : Type 0} (a b c d : Option A) (x : A) → a ≡ None → b ≡ None → c ≡ Some x
-    → (a else b else c else d) ≡ Some x
-third_of a b c d x e f g = ap (λ o. o else b else c else d) e ∙ ap (λ o. o else c else d) f ∙ ap (λ o. o else d) g
-
-last_of : {A : Type 0} (a b c d o : Option A) → a ≡ None → b ≡ None → c ≡ None → d ≡ o
-    → (a else b else c else d) ≡ o
-last_of a b c d o e f g h =
-    ap (λ o. o else b else c else d) e ∙ ap (λ o. o else c else d) f ∙ ap (λ o. o else d) g ∙ h
-
 module _ (program : Program) (settings : Settings) where
   abbrev sevs : List SevDef
   sevs = program.sevs
@@ -224,43 +203,31 @@ module _ (program : Program) (settings : Settings) where
   abbrev port : Option PortHead
   port = program.port
 
-  abbrev many : Option TypeFault
-  many = breaks most_units rules.TooManyUnits (too_many_units program.units)
-
   abbrev names : Option TypeFault
   names = in_turn fault_of_severity [] program.sevs
-
-  abbrev each : Option TypeFault
-  each = in_turn (first_fault_of settings port sevs) [] program.units
-
-  none_many : too_many_units program.units ≡ None → many ≡ None
-  none_many few = ap (λ p. breaks most_units rules.TooManyUnits p) few
 
   pub fault_of_many : (place : Span) → too_many_units program.units ≡ Some place
       → first_fault program settings ≡ Some (record { unit = most_units; rule = rules.TooManyUnits; span = place })
   unfolding first_fault
-  fault_of_many place e =
-      first_of many names each (fault_of_port settings program) _ (ap (λ p. breaks most_units rules.TooManyUnits p) e)
+  fault_of_many place e = rw e refl
 
   pub fault_of_names : (e : CheckFault) → too_many_units program.units ≡ None → StopsAt names e
       → IsCheckOf program settings (Err e)
   unfolding first_fault
-  fault_of_names (Typing f) few told = second_of many names each (fault_of_port settings program) f (none_many few) told
+  fault_of_names (Typing f) few told = rw (few, told) refl
   fault_of_names OutOfMemory few told = tt
 
   pub fault_of_units : (e : CheckFault) → too_many_units program.units ≡ None → names ≡ None
       → AnswersUnits settings port sevs program.units (Err e) → IsCheckOf program settings (Err e)
   unfolding first_fault
-  fault_of_units (Typing f) few fresh told =
-      third_of many names each (fault_of_port settings program) f (none_many few) fresh told
+  fault_of_units (Typing f) few fresh told = rw (few, fresh, told) refl
   fault_of_units OutOfMemory few fresh told = tt
 
-  pub fault_of_rest : (f : TypeFault) (made : List UnitOfPlan) → too_many_units program.units ≡ None → names ≡ None
-      → AnswersUnits settings port sevs program.units (Ok made) → fault_of_port settings program ≡ Some f
-      → first_fault program settings ≡ Some f
+  pub fault_of_rest : (o : Option TypeFault) (made : List UnitOfPlan) → too_many_units program.units ≡ None
+      → names ≡ None → AnswersUnits settings port sevs program.units (Ok made) → fault_of_port settings program ≡ o
+      → first_fault program settings ≡ o
   unfolding first_fault
-  fault_of_rest f made few fresh told rest =
-      last_of many names each (fault_of_port settings program) (Some f) (none_many few) fresh told.0 rest
+  fault_of_rest o made few fresh told rest = rw (few, fresh, told.0) rest
 
   pub plan_of_units : (plan : Plan) → plan.bs ≡ settings.bs → plan.cells ≡ cells_asked settings
       → IsSharedShape port plan.common → IfSome plan.common (λ r. HasCommonFactor r plan.units) → IsSet settings
@@ -268,11 +235,10 @@ module _ (program : Program) (settings : Settings) where
       → too_many_units program.units ≡ None → names ≡ None
       → AnswersUnits settings port sevs program.units (Ok plan.units) → fault_of_port settings program ≡ None
       → IsCheckOf program settings (Ok plan)
-  unfolding first_fault
   plan_of_units plan bs cells shape factor set formed few none fresh told rest =
       let as_many : length plan.units ≡ length program.units =
       AllZip-long (IsUnitOf settings.bs sevs) program.units plan.units told.1 in (
-        last_of many names each (fault_of_port settings program) None (none_many none) fresh told.0 rest,
+        fault_of_rest None plan.units none fresh told rest,
         record { bucket = bs; cells = cells; units = told.1; common = shape },
         record {
           bucket = subst (λ x. whole 0 <ℚ x) (sym bs) set.bucket.above;

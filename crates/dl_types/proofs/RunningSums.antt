@@ -6,7 +6,7 @@ use Rattle.std.proofs.lemmas.List.{get_or-map, map-append, take_more, take_all, 
 use Rattle.dl_types.proofs.Common.{◌≡◌, ◌∙◌, ℕ, suc, zero, ◌+◌, ◌<◌, ◌≤◌, List, [], ◌∷◌, ◌++◌, length, map, take, get_or, whole, Bool, true, false, if◌then◌else◌, Option, Some, None, refl, sym, ap, subst, arith, All, All-nil, All-cons, Fraction, ◌≤ℚ◌, HasPartsOf48Bits, is_admitted, admitted, length-map, whole_num, whole_den}
 use Rattle.dl_exact.specs.Fraction.{◌+ℚ◌}
 unfoldable use Rattle.dl_exact.specs.Sum.{sum_over}
-use Rattle.dl_exact.proofs.Laws.{plus_assoc, plus_comm, plus_zero, zero_plus, le_plus, le_trans, le_of_eq}
+use Rattle.dl_exact.proofs.Laws.{plus_assoc, plus_comm, plus_zero, zero_plus, le_plus, le_trans}
 unfoldable use Rattle.dl_types.specs.Factor.{running_sum}
 use Rattle.dl_types.proofs.PlannedCounts.{admitted_is}
 

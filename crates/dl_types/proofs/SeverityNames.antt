@@ -1,10 +1,9 @@
 -- The first severity with a name, one severity after another.
-use Rattle.dl_types.proofs.Common.{◌≡◌, ◌∙◌, ℕ, suc, ◌+◌, ◌<◌, ◌≤◌, List, [], ◌∷◌, ◌++◌, length, take, get_or, Bool, true, false, Option, Some, None, refl, sym, ap, bytes_eq, if◌then◌else◌}
+use Rattle.dl_types.proofs.Common.{◌≡◌, ◌∙◌, ℕ, suc, ◌+◌, ◌<◌, ◌≤◌, List, [], ◌∷◌, ◌++◌, length, take, get_or, Bool, true, false, Some, None, refl, sym, ap, bytes_eq, if◌then◌else◌}
 use Rattle.std.proofs.Common.{drop, drop-cons, add-one, ◌≢◌}
 use Rattle.std.proofs.lemmas.List.{drop_all, map-append, take_more}
 use Rattle.std.proofs.lemmas.Slice.Eq.{bytes_eq-Decides}
 use Rattle.dl_ast.specs.declared.ast.SevDef.{SevDef}
-use Rattle.dl_ast.specs.declared.ast.MixAst.{MixAst}
 unfoldable use Rattle.dl_types.specs.Severities.{named}
 use Rattle.dl_types.specs.UnitNames.{severity_names}
 

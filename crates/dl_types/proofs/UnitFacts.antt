@@ -1,38 +1,27 @@
 -- What a unit in whole buckets keeps where the rules on it are not broken, and its unit of the plan.
-use Rattle.dl_types.proofs.Common.{ℕ, ◌≡◌, ◌∙◌, Bool, true, false, List, Option, Some, None, Sev, Clause, refl, sym, ap, ap₂, subst, Ok, Err, Fraction, Settings, IsValidUnit, Span, ReadList, ◌else◌, at_if, probs_in_count, else_first, else_second, not_at, GridUnit, has_shares, fractions_too_fine, IsGridUnit, AreProbabilities, off_grid_cession, own_lists, final_severity, CheckFault, Typing, OutOfMemory, expected_claims, claims_of, claims_above_zero, breaks, cells_asked, fault_of_clauses, fault_of_count, fault_on_grid, IsWholeCount, IsCountKept, IsCountMade, IsCedeOf, too_fine, exposed_too_fine, too_many_claims, has_too_many_claims, horizon_too_large, most_amount_at}
-use Rattle.dl_amounts.specs.GridKept.{IsWithin}
+use Rattle.dl_types.proofs.Common.{ℕ, ◌≡◌, ◌∙◌, Bool, true, false, List, [], ◌∷◌, Option, Some, None, Sev, Clause, refl, sym, ap, ap₂, subst, Ok, Err, Fraction, Settings, IsValidUnit, Span, at_if, not_at, GridUnit, GridCount, Exposed, Listed, ◌++◌, has_shares, fractions_too_fine, IsGridUnit, off_grid_cession, final_severity, CheckFault, Typing, OutOfMemory, expected_claims, claims_of, claims_above_zero, breaks, cells_asked, fault_on_grid, IsWholeCount, IsCountKept, IsCountMade, IsCedeOf, too_fine, exposed_too_fine, too_many_claims, has_too_many_claims, horizon_too_large, most_amount_at}
+use Rattle.dl_buckets.specs.GridKept.{IsWithin}
+use Rattle.dl_buckets.specs.Clauses.{made_of}
 use Rattle.std.specs.Prelude.{Result, OnOk, IfOk, IfErr}
 use Rattle.std.specs.Result.{IsErr, IsErrAnd}
 use Rattle.dl_plan.specs.declared.plan.Unit.{Unit as UnitOfPlan}
 use Rattle.dl_plan.specs.Valid.{IsNewZero}
 use Rattle.std.specs.Option.{IfSome}
-use Rattle.dl_amounts.specs.Kept.{IsLayered, IsFineSev}
-use Rattle.dl_amounts.proofs.Shared.{all_left, all_shared}
-use Rattle.dl_amounts.specs.Rules.{overlap, share_above_one}
+use Rattle.dl_buckets.specs.Kept.{IsLayered, IsFineSev}
 use Rattle.dl_types.specs.declared.rule.Rule.{Rule}
 use Rattle.dl_types.specs.declared.rule.Rule.TheVariants as rules
 use Rattle.dl_types.specs.declared.claims.Claims.{Claims}
 use Rattle.dl_types.specs.declared.fault.TypeFault.{TypeFault}
 use Rattle.dl_types.specs.Answer.{StopsAt, TellsFault, AnswersGrid}
-use Rattle.dl_types.specs.Claimed.{IsFinal, AreClaims}
-use Rattle.dl_types.specs.Faults.{fault_of_layers, fault_of_number}
+use Rattle.dl_types.specs.Claimed.{IsFinal, AreClaims, IsNumberOf, IsUnitCount, count_of, number_of}
+use Rattle.dl_types.specs.Faults.{first_broken, clause_rules, whole_rules, number_rules, count_rules, change_rules, grid_rules}
 use Rattle.dl_types.specs.Plans.{IsUnitOn}
 use Rattle.dl_types.specs.Rules.{zero_base}
 use Rattle.dl_types.proofs.Aggregates.{aggregate_valid}
-use Rattle.dl_types.proofs.FineClaims.{fine_left, fine_lists, occ_shares, agr_shares}
+use Rattle.dl_types.proofs.FineClaims.{count_probs, fine_left, occ_shares, agr_shares}
 use Rattle.dl_types.proofs.KeptCounts.{AreWhole, AreKept, whole_count, count_kept}
+use Rattle.dl_types.proofs.RuleLists.{all_kept, none_broken, first_kept, both_kept, last_is}
 use Rattle.dl_types.proofs.PlannedCounts.{claims_admitted, made_valid, made_is, made_zero, made_thinned}
-
--- ---- rules that are not broken
-
-pub only : (unit : ℕ) (rule : Rule) (place : Option Span) → breaks unit rule place ≡ None → place ≡ None
-only unit rule None e = refl
-only unit rule (Some place) e = absurd (cc)
-
-pub both : (unit : ℕ) (rule : Rule) (place : Option Span) (rest : Option TypeFault)
-    → (breaks unit rule place else rest) ≡ None → (place ≡ None) × (rest ≡ None)
-both unit rule None rest e = (refl, e)
-both unit rule (Some place) rest e = absurd (cc)
 
 -- ---- a check that stops
 
@@ -56,24 +45,18 @@ kept_as P x rules (Err stop) same ok h = tt
 
 -- ---- the severity, the layer and the clauses
 
-pub layered_is : (unit : ℕ) (u : GridUnit) → IsGridUnit u → fault_of_clauses unit u ≡ None
+pub layered_is : (unit : ℕ) (u : GridUnit) → IsGridUnit u → first_broken unit (clause_rules u) ≡ None
     → IsLayered u × (off_grid_cession u ≡ None)
-unfolding fault_of_clauses
 layered_is unit u grid none =
-    let a = both unit rules.WeightsDiffer _ _ none in
-    let b = both unit rules.NoneAbove _ _ a.1 in
-    let c = both unit rules.Overlap _ _ b.1 in
-    let d = both unit rules.ShareAboveOne _ _ c.1 in (
-      record { weighted = record { grid = grid; weights = a.0 }; reached = b.0; apart = c.0; within = d.0 },
-      only unit rules.OffGridCession _ d.1,
+    let kept = all_kept unit (clause_rules u) none in (
+      record {
+        weighted = record { grid = grid; weights = kept.0 };
+        reached = kept.1.0;
+        apart = kept.1.1.0;
+        within = kept.1.1.1.0;
+      },
+      kept.1.1.1.1.0,
     )
-
--- layers that overlap come first
-pub first_layers : (unit : ℕ) (u : GridUnit) (place : Option Span) → place ≡ overlap u → (t : TypeFault)
-    → breaks unit rules.Overlap place ≡ Some t → fault_of_layers unit u ≡ Some t
-first_layers unit u place is t e =
-    ap (λ o. o else breaks unit rules.ShareAboveOne (share_above_one u)
-    else breaks unit rules.OffGridCession (off_grid_cession u)) (sym (ap (breaks unit rules.Overlap) is) ∙ e)
 
 -- ---- the count
 
@@ -83,32 +66,21 @@ pub record Counted (u : GridUnit) (n : Option Fraction) : Type 0 where
   pub fine : too_fine u n ≡ None
   pub few : too_many_claims u n ≡ None
 
-counted_is : (unit : ℕ) (u : GridUnit) (n : Option Fraction) → fault_of_number unit u n ≡ None → Counted u n
-unfolding fault_of_number
+counted_is : (unit : ℕ) (u : GridUnit) (n : Option Fraction) → first_broken unit (number_rules u n) ≡ None
+    → Counted u n
 counted_is unit u n none =
-    let a = both unit rules.CountNotWhole _ _ none in
-    let b = both unit rules.CountAboveOne _ _ a.1 in
-    let c = both unit rules.TrialsNotWhole _ _ b.1 in
-    let d = both unit rules.ShapeNotWhole _ _ c.1 in
-    let e = both unit rules.TooFine _ _ d.1 in
+    let kept = all_kept unit (number_rules u n) none in
     record {
-      whole = record { whole = a.0; within = b.0; trials = c.0; shape = d.0 };
-      fine = e.0;
-      few = only unit rules.TooManyClaims _ e.1;
+      whole = record { whole = kept.0; within = kept.1.0; trials = kept.1.1.0; shape = kept.1.1.1.0 };
+      fine = kept.1.1.1.1.0;
+      few = kept.1.1.1.1.1.0;
     }
 
--- the last of these rules, where the others are not broken
-pub number_last : (unit : ℕ) (u : GridUnit) (n : Option Fraction) → AreWhole u.count n → too_fine u n ≡ None
-    → fault_of_number unit u n ≡ breaks unit rules.TooManyClaims (too_many_claims u n)
-unfolding fault_of_number
-number_last unit u n are fine =
-    next rules.CountNotWhole _ _ _ are.whole (next rules.CountAboveOne _ _ _ are.within
-    (next rules.TrialsNotWhole _ _ _ are.trials (next rules.ShapeNotWhole _ _ _ are.shape
-    (next rules.TooFine _ _ _ fine refl))))
-  where
-    next : (rule : Rule) (place : Option Span) (rest r : Option TypeFault) → place ≡ None → rest ≡ r
-        → (breaks unit rule place else rest) ≡ r
-    next rule place rest r e h = ap (λ p. breaks unit rule p else rest) e ∙ h
+pub whole_is : (unit : ℕ) (k : GridCount) (n : Option Fraction) → first_broken unit (whole_rules k n) ≡ None
+    → AreWhole k n
+whole_is unit k n none =
+    let kept = all_kept unit (whole_rules k n) none in
+    record { whole = kept.0; within = kept.1.0; trials = kept.1.1.0; shape = kept.1.1.1.0 }
 
 pub whole_here : (u : GridUnit) (n : Option Fraction) → AreWhole u.count n → too_fine u n ≡ None
     → IsWholeCount u.count n
@@ -116,14 +88,24 @@ whole_here u n are fine =
     whole_count u.count n (claims_above_zero (final_severity u) n) are (fine_left u n fine).1
 
 pub many_place : (u : GridUnit) (n : Option Fraction) (claims : Claims) (r : Bool) → AreClaims u claims
-    → claims.count ≡ n → r ≡ has_too_many_claims u.count claims.count claims.above
+    → IsUnitCount u.count n claims.count
+    → r ≡ has_too_many_claims (count_of claims.count) (number_of claims.count) claims.above
     → at_if r u.name ≡ too_many_claims u n
 unfolding too_many_claims
-many_place u n claims r are same e =
-    ap (λ b. at_if b u.name) (e ∙ ap₂ (λ m a. has_too_many_claims u.count m a) same
-    (are.above ∙ ap (claims_above_zero (final_severity u)) same))
+many_place u n claims r are is e =
+    ap (λ b. at_if b u.name) (e ∙ ap₂ (λ k m. has_too_many_claims k m claims.above) is.same is.number
+    ∙ ap (has_too_many_claims u.count n) (are.above ∙ ap (claims_above_zero (final_severity u)) is.number))
 
-module _ (bs : Fraction) (unit : ℕ) (u : GridUnit) (grid : IsGridUnit u) (none : fault_of_count bs unit u ≡ None) where
+-- no number of claims is expected where they are listed
+pub number_is : (bs : Fraction) (u : GridUnit) → IsNumberOf u.count (expected_claims bs u)
+unfolding expected_claims
+number_is bs u = of_count u.count
+  where
+    of_count : (k : GridCount) → IsNumberOf k (claims_of bs u k)
+    of_count (Exposed exposure freq) = tt
+    of_count (Listed values probs) = refl
+
+module _ (bs : Fraction) (unit : ℕ) (u : GridUnit) (grid : IsGridUnit u) (none : first_broken unit (count_rules bs u) ≡ None) where
   abbrev n : Option Fraction
   n = expected_claims bs u
 
@@ -131,8 +113,7 @@ module _ (bs : Fraction) (unit : ℕ) (u : GridUnit) (grid : IsGridUnit u) (none
   above = claims_above_zero (final_severity u) n
 
   counted : Counted u n
-  unfolding fault_of_count
-  counted = counted_is unit u n (both unit rules.ZeroMean _ _ none).1
+  counted = counted_is unit u n (none_broken unit (number_rules u n) (all_kept unit (count_rules bs u) none).1)
 
   parts : (fractions_too_fine u ≡ false) × (exposed_too_fine u.count n above ≡ false)
   parts = fine_left u n counted.fine
@@ -161,8 +142,7 @@ module _ (bs : Fraction) (unit : ℕ) (u : GridUnit) (grid : IsGridUnit u) (none
     few = few_is;
     read = grid.count;
     paired = grid.paired;
-    shared = all_left (λ (l : ReadList). AreProbabilities l.values) (probs_in_count u.count) (own_lists u.sev)
-        (all_shared u grid (fine_lists u parts.0));
+    shared = count_probs u parts.0;
     admitted = claims_admitted bs u u.count n claims_is;
   }
 
@@ -171,7 +151,7 @@ module _ (bs : Fraction) (unit : ℕ) (u : GridUnit) (grid : IsGridUnit u) (none
 
   -- ---- the unit of the plan
 
-  module _ (cells : ℕ) (ceded : off_grid_cession u ≡ None) (near : horizon_too_large cells u.agr ≡ None)
+  module _ (cells : ℕ) (ceded : off_grid_cession u ≡ None) (near : horizon_too_large cells (made_of u.agr) ≡ None)
       (within : IsWithin (most_amount_at cells) u) (text : List ℕ)
       (made : UnitOfPlan) (name : made.name ≡ text) (zero : made.zero ≡ u.zero)
       (base : zero_base u.count u.zero n ≡ None) (sev : IsFinal u made.sev)
@@ -202,58 +182,51 @@ module _ (bs : Fraction) (unit : ℕ) (u : GridUnit) (grid : IsGridUnit u) (none
 
 -- ---- all rules on the unit in whole buckets
 
-module _ (settings : Settings) (unit : ℕ) (u : GridUnit) where
-  abbrev count : Option TypeFault
-  count = fault_of_count settings.bs unit u
+-- a check of the unit in whole buckets stops as a check of its part
+pub grid_told : (settings : Settings) (unit : ℕ) (u : GridUnit) (text : List ℕ) (p : Option TypeFault)
+    (r : Result UnitOfPlan CheckFault) (f : CheckFault) → IsErr r × IsErrAnd r (λ e. e ≡ f) → StopsAt p f
+    → ((t : TypeFault) → p ≡ Some t → first_broken unit (grid_rules settings u) ≡ Some t)
+    → AnswersGrid settings unit text u r
+unfolding fault_on_grid
+grid_told settings unit u text p (Ok x) f h told same = absurd (cc (h.0))
+grid_told settings unit u text p (Err g) f h told same =
+    subst (StopsAt (fault_on_grid settings unit u)) (sym h.1) (stop_as p (fault_on_grid settings unit u) same f told)
 
-  abbrev horizon : Option TypeFault
-  horizon = breaks unit rules.HorizonTooLarge (horizon_too_large (cells_asked settings) u.agr)
+-- the last rule, where all before it are kept
+module _ (settings : Settings) (unit : ℕ) (u : GridUnit) (clauses : first_broken unit (clause_rules u) ≡ None)
+    (counted : first_broken unit (count_rules settings.bs u) ≡ None)
+    (near : breaks unit rules.HorizonTooLarge (horizon_too_large (cells_asked settings) (made_of u.agr)) ≡ None) where
+  abbrev before : List (Rule × Option Span)
+  before =
+      clause_rules u ++ count_rules settings.bs u
+      ++ (rules.HorizonTooLarge, horizon_too_large (cells_asked settings) (made_of u.agr)) ∷ []
 
-  abbrev base : Option TypeFault
-  base = breaks unit rules.ZeroBase (zero_base u.count u.zero (expected_claims settings.bs u))
+  abbrev base : Option Span
+  base = zero_base u.count u.zero (expected_claims settings.bs u)
 
-  pub first_told : (t : TypeFault) → fault_of_clauses unit u ≡ Some t → fault_on_grid settings unit u ≡ Some t
+  all_before : first_broken unit before ≡ None
+  all_before = both_kept unit (clause_rules u) _ clauses
+      (last_is unit (count_rules settings.bs u) counted rules.HorizonTooLarge _ ∙ near)
+
+  pub last_told : (t : TypeFault) → breaks unit rules.ZeroBase base ≡ Some t
+      → first_broken unit (grid_rules settings u) ≡ Some t
+  last_told t e = last_is unit before all_before rules.ZeroBase base ∙ e
+
+  pub none_told : breaks unit rules.ZeroBase base ≡ None → fault_on_grid settings unit u ≡ None
   unfolding fault_on_grid
-  first_told t e = ap (λ o. o else count else horizon else base) e
-
-  module _ (clauses : fault_of_clauses unit u ≡ None) where
-    pub second_told : (t : TypeFault) → count ≡ Some t → fault_on_grid settings unit u ≡ Some t
-    unfolding fault_on_grid
-    second_told t e = ap (λ o. o else count else horizon else base) clauses ∙ ap (λ o. o else horizon else base) e
-
-    module _ (counted : count ≡ None) where
-      later : fault_on_grid settings unit u ≡ (horizon else base)
-      unfolding fault_on_grid
-      later = ap (λ o. o else count else horizon else base) clauses ∙ ap (λ o. o else horizon else base) counted
-
-      pub third_told : (t : TypeFault) → horizon ≡ Some t → fault_on_grid settings unit u ≡ Some t
-      third_told t e = later ∙ ap (λ o. o else base) e
-
-      pub fourth_told : horizon ≡ None → (o : Option TypeFault) → base ≡ o → fault_on_grid settings unit u ≡ o
-      fourth_told near o e = later ∙ ap (λ o. o else base) near ∙ e
-
-  -- a check of the unit in whole buckets stops as a check of its part
-  pub grid_told : (text : List ℕ) (p : Option TypeFault) (r : Result UnitOfPlan CheckFault) (f : CheckFault)
-      → IsErr r × IsErrAnd r (λ e. e ≡ f) → StopsAt p f
-      → ((t : TypeFault) → p ≡ Some t → fault_on_grid settings unit u ≡ Some t)
-      → AnswersGrid settings unit text u r
-  grid_told text p (Ok x) f h told same = absurd (cc (h.0))
-  grid_told text p (Err g) f h told same =
-      subst (StopsAt (fault_on_grid settings unit u)) (sym h.1) (stop_as p (fault_on_grid settings unit u) same f told)
+  none_told e = last_is unit before all_before rules.ZeroBase base ∙ e
 
 pub grid_parts : (settings : Settings) (unit : ℕ) (u : GridUnit) → fault_on_grid settings unit u ≡ None
-    → (fault_of_clauses unit u ≡ None) × (fault_of_count settings.bs unit u ≡ None)
-    × (horizon_too_large (cells_asked settings) u.agr ≡ None)
+    → (first_broken unit (clause_rules u) ≡ None) × (first_broken unit (count_rules settings.bs u) ≡ None)
+    × (horizon_too_large (cells_asked settings) (made_of u.agr) ≡ None)
     × (zero_base u.count u.zero (expected_claims settings.bs u) ≡ None)
 unfolding fault_on_grid
 grid_parts settings unit u none =
-    let rest = else_second (fault_of_clauses unit u) _ none in
-    let last = both unit rules.HorizonTooLarge _ _ (else_second (fault_of_count settings.bs unit u) _ rest) in (
-      else_first (fault_of_clauses unit u) _ none,
-      else_first (fault_of_count settings.bs unit u) _ rest,
-      last.0,
-      only unit rules.ZeroBase _ last.1,
-    )
+    let counted = count_rules settings.bs u in
+    let first = first_kept unit (clause_rules u) (counted ++ change_rules settings u) none in
+    let rest = first_kept unit counted (change_rules settings u) first.1 in
+    let last = all_kept unit (change_rules settings u) rest.1 in
+    (first.0, rest.0, last.0, last.1.0)
 
 module _ (settings : Settings) (unit : ℕ) (u : GridUnit) (grid : IsGridUnit u)
     (within : IsWithin (most_amount_at (cells_asked settings)) u)

@@ -9,11 +9,11 @@ use Rattle.dl_plan.specs.declared.plan.Unit.{Unit as UnitOfPlan}
 use Rattle.dl_plan.specs.declared.plan.Plan.{Plan}
 use Rattle.dl_plan.specs.declared.settings.Settings.{Settings}
 use Rattle.dl_plan.specs.Valid.{IsValidUnit, IsValid}
-use Rattle.dl_amounts.specs.declared.grid.GridUnit.{GridUnit}
+use Rattle.dl_buckets.specs.declared.grid.GridUnit.{GridUnit}
 use Rattle.dl_types.specs.declared.fault.TypeFault.{TypeFault}
 use Rattle.dl_types.specs.declared.fault.CheckFault.{CheckFault}
 use Rattle.dl_types.specs.declared.fault.CheckFault.TheVariants.{Typing, OutOfMemory}
-use Rattle.dl_read.specs.First.{in_turn}
+use Rattle.dl_buckets.specs.First.{in_turn}
 use Rattle.std.specs.List.{AllZip}
 use Rattle.dl_types.specs.Faults.{cells_asked, fault_on_grid, fault_with, first_fault_of, first_fault}
 use Rattle.dl_types.specs.Plans.{IsUnitOn, IsUnitWith, IsUnitOf, IsPlanOf}

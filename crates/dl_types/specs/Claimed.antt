@@ -1,14 +1,19 @@
 -- The claims of a unit: its final severity, and how many claims are expected.
-use Rattle.std.specs.Prelude.{ℕ, ◌≡◌, ◌≤◌, true, false, length, All, Option}
+use Rattle.std.specs.Prelude.{ℕ, ◌≡◌, ◌≤◌, ⊤, true, false, length, All, Option, Some, None}
 use Rattle.std.specs.Option.{MatchOption}
 use Rattle.dl_limits.specs.Limits.{most_items}
 use Rattle.dl_plan.specs.declared.severity.Sev.{Sev}
 use Rattle.dl_plan.specs.Severity.{Means}
-use Rattle.dl_amounts.specs.declared.grid.GridUnit.{GridUnit}
-use Rattle.dl_amounts.specs.GridKept.{IsSevWithin}
-use Rattle.dl_amounts.specs.Severity.{final_severity}
-use Rattle.dl_amounts.specs.FineParts.{fractions_too_fine}
+use Rattle.dl_exact.specs.Fraction.{Fraction}
+use Rattle.dl_buckets.specs.declared.grid.GridCount.{GridCount}
+use Rattle.dl_buckets.specs.declared.grid.GridCount.TheVariants.{Exposed, Listed}
+use Rattle.dl_buckets.specs.declared.grid.GridUnit.{GridUnit}
+use Rattle.dl_buckets.specs.GridKept.{IsSevWithin}
+use Rattle.dl_buckets.specs.Severity.{final_severity}
+use Rattle.dl_buckets.specs.FineParts.{fractions_too_fine}
 use Rattle.dl_types.specs.declared.claims.Claims.{Claims}
+use Rattle.dl_types.specs.declared.claims.UnitCount.{UnitCount}
+use Rattle.dl_types.specs.declared.claims.UnitCount.TheVariants as counts
 use Rattle.dl_types.specs.Exposures.{claims_above_zero}
 
 -- the final severity of a unit: at most 65,536 amounts, none above what bounds those of the atoms
@@ -23,7 +28,27 @@ abbrev pub IsFineSeverity : GridUnit → Option Sev → Type 0
 IsFineSeverity u made = MatchOption made (fractions_too_fine u ≡ true)
     (λ sev. (fractions_too_fine u ≡ false) × IsFinal u sev)
 
+-- a count, and the number of claims that are expected where it does not list them
+abbrev pub count_of : UnitCount → GridCount
+count_of (counts.Listed values probs) = Listed values.now probs.now
+count_of (counts.Exposed exposure freq n) = Exposed exposure freq
+
+abbrev pub number_of : UnitCount → Option Fraction
+number_of (counts.Listed values probs) = None
+number_of (counts.Exposed exposure freq n) = Some n
+
+-- of listed counts no number is expected
+abbrev pub IsNumberOf : GridCount → Option Fraction → Type 0
+IsNumberOf (Exposed exposure freq) n = ⊤
+IsNumberOf (Listed values probs) n = n ≡ None
+
+-- this count, with n claims expected
+pub record IsUnitCount (count : GridCount) (n : Option Fraction) (made : UnitCount) : Type 0
+  where
+    pub same : count_of made ≡ count
+    pub number : number_of made ≡ n
+
 -- the final severity, and of the expected claims those above 0
 pub record AreClaims (u : GridUnit) (claims : Claims) : Type 0 where
   pub severity : IsFinal u claims.severity
-  pub above : claims.above ≡ claims_above_zero (final_severity u) claims.count
+  pub above : claims.above ≡ claims_above_zero (final_severity u) (number_of claims.count)

@@ -2,35 +2,35 @@
 use Rattle.std.specs.Prelude.{◌&&◌, Bool, true, false, if◌then◌else◌, Option, Some, None}
 use Rattle.dl_exact.specs.Fraction.{Fraction, whole, ◌-ℚ◌, ◌*ℚ◌, ◌/ℚ◌}
 use Rattle.dl_plan.specs.Severity.{Pairs, probability, mean_amount}
-use Rattle.dl_read.specs.declared.tree.ReadExposure.{ReadExposure}
-use Rattle.dl_read.specs.declared.tree.ReadExposure.TheVariants.{Claims, Loss, Premium}
-use Rattle.dl_read.specs.declared.tree.ReadFreq.{ReadFreq}
-use Rattle.dl_read.specs.declared.tree.ReadFreq.TheVariants.{Fixed, Poisson, Bernoulli, Binomial, Gamma}
-use Rattle.dl_read.specs.declared.tree.ReadCount.{ReadCount}
-use Rattle.dl_read.specs.declared.tree.ReadCount.TheVariants.{Exposed, Listed}
-use Rattle.dl_read.specs.Lists.{is_admitted}
-use Rattle.dl_amounts.specs.declared.grid.GridUnit.{GridUnit}
-use Rattle.dl_amounts.specs.Severity.{severity_in_layer}
-use Rattle.dl_amounts.specs.FineParts.{has_severity}
+use Rattle.dl_buckets.specs.declared.grid.GridExposure.{GridExposure}
+use Rattle.dl_buckets.specs.declared.grid.GridExposure.TheVariants.{Claims, Loss, Premium}
+use Rattle.dl_buckets.specs.declared.grid.GridFreq.{GridFreq}
+use Rattle.dl_buckets.specs.declared.grid.GridFreq.TheVariants.{Fixed, Poisson, Bernoulli, Binomial, Gamma}
+use Rattle.dl_buckets.specs.declared.grid.GridCount.{GridCount}
+use Rattle.dl_buckets.specs.declared.grid.GridCount.TheVariants.{Exposed, Listed}
+use Rattle.dl_buckets.specs.Lists.{is_admitted}
+use Rattle.dl_buckets.specs.declared.grid.GridUnit.{GridUnit}
+use Rattle.dl_buckets.specs.Severity.{severity_in_layer}
+use Rattle.dl_buckets.specs.FineParts.{has_severity}
 
 -- the expected severity in money, after the layer and before the occurrence clause
 abbrev pub mean_in_money : Fraction → GridUnit → Fraction
 mean_in_money bs u = mean_amount (severity_in_layer u) *ℚ bs
 
 -- the expected loss, where the exposure is one
-abbrev pub expected_loss : ReadExposure → Option Fraction
+abbrev pub expected_loss : GridExposure → Option Fraction
 expected_loss (Claims n _) = None
 expected_loss (Loss n _) = Some n
 expected_loss (Premium p r _) = Some (p *ℚ r)
 
 -- the expected count: the claims, or the expected loss over the expected severity
-abbrev pub expected_count : Fraction → GridUnit → ReadExposure → Fraction
+abbrev pub expected_count : Fraction → GridUnit → GridExposure → Fraction
 expected_count bs u (Claims n _) = n
 expected_count bs u (Loss n _) = n /ℚ mean_in_money bs u
 expected_count bs u (Premium p r _) = p *ℚ r /ℚ mean_in_money bs u
 
 -- the expected count is there: a loss or a premium needs the severity
-abbrev pub has_count : GridUnit → ReadExposure → Bool
+abbrev pub has_count : GridUnit → GridExposure → Bool
 has_count u (Claims n _) = true
 has_count u (Loss n _) = has_severity u.sev
 has_count u (Premium p r _) = has_severity u.sev
@@ -40,11 +40,11 @@ abbrev pub admitted : Bool → Fraction → Option Fraction
 admitted has x = if has && is_admitted x then Some x else None
 
 -- the expected count of an exposure, where it is there and admitted
-abbrev pub exposed_claims : Fraction → GridUnit → ReadExposure → Option Fraction
+abbrev pub exposed_claims : Fraction → GridUnit → GridExposure → Option Fraction
 exposed_claims bs u exposure = admitted (has_count u exposure) (expected_count bs u exposure)
 
 -- and that of the unit, where it lists no counts
-abbrev pub claims_of : Fraction → GridUnit → ReadCount → Option Fraction
+abbrev pub claims_of : Fraction → GridUnit → GridCount → Option Fraction
 claims_of bs u (Exposed exposure freq) = exposed_claims bs u exposure
 claims_of bs u (Listed counts probs) = None
 
@@ -52,7 +52,7 @@ unfoldable pub expected_claims : Fraction → GridUnit → Option Fraction
 expected_claims bs u = claims_of bs u u.count
 
 -- a Poisson or a gamma count: there is no greatest number of claims
-abbrev pub is_unbounded : ReadFreq → Bool
+abbrev pub is_unbounded : GridFreq → Bool
 is_unbounded (Fixed _) = false
 is_unbounded (Poisson _) = true
 is_unbounded (Bernoulli _) = false

@@ -1,8 +1,9 @@
 -- What a factor that all units share asks of them.
-use Rattle.std.specs.Prelude.{ℕ, suc, Bool, true, not, ◌||◌, nat_lt, if◌then◌else◌, List, [], ◌∷◌, map, flat_map, fold, Option, Some, None}
+use Rattle.std.specs.Prelude.{ℕ, suc, ◌≡◌, ◌<◌, Bool, true, false, not, ◌||◌, nat_lt, if◌then◌else◌, List, [], ◌∷◌, map, flat_map, fold, Option, Some, None}
 use Rattle.dl_limits.specs.Limits.{most_expected, most_shape}
 use Rattle.dl_exact.specs.Fraction.{Fraction, whole, ◌over◌, ◌+ℚ◌, ◌*ℚ◌, ◌/ℚ◌}
 use Rattle.dl_ast.specs.declared.ast.MixAst.{MixAst}
+use Rattle.dl_ast.specs.declared.ast.Numeral.{Numeral}
 use Rattle.dl_ast.specs.declared.ast.SevDef.{SevDef}
 use Rattle.dl_ast.specs.declared.ast.UnitAst.{UnitAst}
 use Rattle.dl_exact.specs.Multiples.{lcm}
@@ -13,16 +14,22 @@ use Rattle.dl_plan.specs.Count.{IsClaimCount, expected_count as expected_of_plan
 use Rattle.dl_plan.specs.Fine.{HasPartsOf48Bits}
 use Rattle.dl_plan.specs.Means.{thinned_mean}
 use Rattle.dl_plan.specs.Common.{raised}
-use Rattle.dl_read.specs.declared.tree.ReadCount.{ReadCount}
-use Rattle.dl_read.specs.declared.tree.ReadCount.TheVariants.{Exposed, Listed}
-use Rattle.dl_read.specs.Read.{read_of}
-use Rattle.dl_read.specs.Lists.{is_admitted, is_fine, is_zero}
-use Rattle.dl_amounts.specs.declared.grid.GridUnit.{GridUnit}
-use Rattle.dl_amounts.specs.Grid.{grid_of}
-use Rattle.dl_amounts.specs.Severity.{final_severity, support}
-use Rattle.dl_types.specs.Exposures.{expected_count, thinned}
-use Rattle.dl_types.specs.Rules.{passes}
+use Rattle.dl_buckets.specs.declared.grid.GridCount.{GridCount}
+use Rattle.dl_buckets.specs.declared.grid.GridCount.TheVariants.{Exposed, Listed}
+use Rattle.dl_buckets.specs.Values.{value}
+use Rattle.dl_buckets.specs.Lists.{is_admitted, is_fine, is_zero}
+use Rattle.dl_buckets.specs.declared.grid.GridUnit.{GridUnit}
+use Rattle.dl_buckets.specs.Grid.{grid_of}
+use Rattle.dl_buckets.specs.Severity.{final_severity, support}
+use Rattle.dl_types.specs.Exposures.{expected_count, thinned, shape_of}
+use Rattle.dl_types.specs.Rules.{passes, has_bad_shape}
 use Rattle.dl_types.specs.Severities.{mixture_of}
+
+-- the whole shape of a factor with this coefficient of variation
+pub record IsShapeIn (c : Numeral) (r : ℕ) : Type 0 where
+  pub good : has_bad_shape c ≡ false
+  pub value : r ≡ (shape_of (value c)).num
+  pub some : 0 < r
 
 -- the claims that a unit brings: how many are expected, how many of them above 0, and the positive
 -- probabilities of the amounts of one
@@ -71,7 +78,7 @@ is_too_large r parts =
 -- ---- of a program
 
 -- listed counts, of which no factor is shared, count as none
-abbrev pub claims_expected : Fraction → GridUnit → ReadCount → Fraction
+abbrev pub claims_expected : Fraction → GridUnit → GridCount → Fraction
 claims_expected bs u (Exposed exposure freq) = expected_count bs u exposure
 claims_expected bs u (Listed counts probs) = whole 0
 
@@ -88,7 +95,7 @@ part_on bs u = part_with (claims_expected bs u u.count) (final_severity u)
 
 abbrev pub part_of_mixture : Fraction → UnitAst → Option MixAst → Part
 part_of_mixture bs u None = part_with (whole 0) []
-part_of_mixture bs u (Some m) = part_on bs (grid_of bs (read_of u m))
+part_of_mixture bs u (Some m) = part_on bs (grid_of bs u m)
 
 abbrev pub part_in : Fraction → List SevDef → UnitAst → Part
 part_in bs sevs u = part_of_mixture bs u (mixture_of sevs u.sev.body)

@@ -1,6 +1,6 @@
 -- The first fault of a program: the first broken rule in the written order, with its unit and its
 -- place.
-use Rattle.std.specs.Prelude.{ℕ, ◌^◌, List, [], length, map, Option, Some, None}
+use Rattle.std.specs.Prelude.{ℕ, ◌^◌, ◌≡◌, ⊤, List, [], ◌∷◌, ◌++◌, length, map, Option, Some, None}
 use Rattle.dl_limits.specs.Limits.{most_amount_at, most_units}
 use Rattle.dl_exact.specs.Fraction.{Fraction}
 use Rattle.dl_lexer.specs.declared.token.Span.{Span}
@@ -14,15 +14,16 @@ use Rattle.dl_plan.specs.declared.settings.Settings.{Settings}
 use Rattle.dl_types.specs.declared.rule.Rule.{Rule}
 use Rattle.dl_types.specs.declared.rule.Rule.TheVariants as rules
 use Rattle.dl_types.specs.declared.fault.TypeFault.{TypeFault}
-use Rattle.dl_read.specs.declared.tree.ReadUnit.{ReadUnit}
-use Rattle.dl_read.specs.Read.{read_of}
-use Rattle.dl_read.specs.First.{◌else◌, at_if, within, in_turn}
-use Rattle.dl_read.specs.BadNumerals.{value}
-use Rattle.dl_read.specs.Rules.{bad_numeral, bad_range, list_too_long}
-use Rattle.dl_amounts.specs.declared.grid.GridUnit.{GridUnit}
-use Rattle.dl_amounts.specs.Grid.{grid_of}
-use Rattle.dl_amounts.specs.Severity.{severity_in_layer, support}
-use Rattle.dl_amounts.specs.Rules.{lengths_differ, not_one, off_grid, too_far, weights_differ, none_above, overlap, share_above_one, off_grid_cession}
+use Rattle.dl_buckets.specs.declared.flaws.Flaws.{Flaws}
+use Rattle.dl_buckets.specs.First.{◌else◌, at_if, within, first_in, in_turn}
+use Rattle.dl_buckets.specs.Reading.{flaws_of}
+use Rattle.dl_buckets.specs.Values.{value}
+use Rattle.dl_buckets.specs.declared.grid.GridCount.{GridCount}
+use Rattle.dl_buckets.specs.declared.grid.GridUnit.{GridUnit}
+use Rattle.dl_buckets.specs.Grid.{grid_of}
+use Rattle.dl_buckets.specs.Severity.{severity_in_layer, support}
+use Rattle.dl_buckets.specs.Clauses.{made_of}
+use Rattle.dl_buckets.specs.Rules.{weights_differ, none_above, overlap, share_above_one, off_grid_cession}
 use Rattle.dl_types.specs.Exposures.{expected_claims, shape_of}
 use Rattle.dl_types.specs.Factor.{Part, part_in, is_too_large}
 use Rattle.dl_types.specs.Rules.{duplicate_name, zero_mean, count_not_whole, count_above_one, trials_not_whole, shape_not_whole, too_fine, too_many_claims, horizon_too_large, too_many_units, zero_base, common_unit, common_shape, duplicate_severity}
@@ -41,82 +42,75 @@ cells_asked settings = 2 ^ settings.log2
 abbrev pub most_asked : Settings → ℕ
 most_asked settings = most_amount_at (cells_asked settings)
 
--- the rules on its numerals, its ranges and its lengths, where those before them are not broken
-unfoldable pub fault_of_reading : ℕ → UnitAst → MixAst → Option TypeFault
-fault_of_reading unit u m =
-    breaks unit rules.BadNumeral (bad_numeral u m)
-    else breaks unit rules.BadRange (bad_range u m)
-    else breaks unit rules.ListTooLong (list_too_long u m)
+-- the first of these rules that is broken, each with its place, if any
+abbrev pub first_broken : ℕ → List (Rule × Option Span) → Option TypeFault
+first_broken unit rules = first_in (λ rule. breaks unit rule.0 rule.1) rules
 
--- the rules on lists that belong together
-abbrev pub fault_of_pairs : ℕ → ReadUnit → Option TypeFault
-fault_of_pairs unit u =
-    breaks unit rules.LengthsDiffer (lengths_differ u)
-    else breaks unit rules.NotOne (not_one u)
+-- none of them is broken
+abbrev pub AllKept : List (Rule × Option Span) → Type 0
+AllKept [] = ⊤
+AllKept (rule ∷ rules) = (rule.1 ≡ None) × AllKept rules
 
--- the rules on its name, its numerals and its lists
-unfoldable pub fault_of_lists : List UnitAst → UnitAst → MixAst → Option TypeFault
-fault_of_lists before u m =
-    let unit : ℕ = length before in
-    breaks unit rules.DuplicateName (duplicate_name before u)
-    else fault_of_reading unit u m
-    else fault_of_pairs unit (read_of u m)
+-- the rules that reading a unit can break
+abbrev pub text_rules : Flaws → List (Rule × Option Span)
+text_rules flaws =
+    (rules.BadNumeral, flaws.numeral) ∷ (rules.BadRange, flaws.range)
+    ∷ (rules.ListTooLong, flaws.long) ∷ (rules.LengthsDiffer, flaws.lengths)
+    ∷ (rules.NotOne, flaws.sum) ∷ (rules.OffGrid, flaws.off_grid)
+    ∷ (rules.TooFar, flaws.too_far) ∷ []
 
--- the rules on its amounts of money
-unfoldable pub fault_of_money : Settings → ℕ → ReadUnit → Option TypeFault
-fault_of_money settings unit u =
-    breaks unit rules.OffGrid (off_grid settings.bs u)
-    else breaks unit rules.TooFar (too_far (most_asked settings) settings.bs u)
+abbrev pub fault_of_text : ℕ → Flaws → Option TypeFault
+fault_of_text unit flaws = first_broken unit (text_rules flaws)
 
 -- the rules on its clauses
-abbrev pub fault_of_layers : ℕ → GridUnit → Option TypeFault
-fault_of_layers unit u =
-    breaks unit rules.Overlap (overlap u)
-    else breaks unit rules.ShareAboveOne (share_above_one u)
-    else breaks unit rules.OffGridCession (off_grid_cession u)
+abbrev pub layer_rules : GridUnit → List (Rule × Option Span)
+layer_rules u =
+    (rules.Overlap, overlap u) ∷ (rules.ShareAboveOne, share_above_one u)
+    ∷ (rules.OffGridCession, off_grid_cession u) ∷ []
 
 -- the rules on its severity, its layer and its clauses
-unfoldable pub fault_of_clauses : ℕ → GridUnit → Option TypeFault
-fault_of_clauses unit u =
-    breaks unit rules.WeightsDiffer (weights_differ u)
-    else breaks unit rules.NoneAbove (none_above u)
-    else fault_of_layers unit u
+abbrev pub clause_rules : GridUnit → List (Rule × Option Span)
+clause_rules u =
+    (rules.WeightsDiffer, weights_differ u) ∷ (rules.NoneAbove, none_above u) ∷ layer_rules u
 
--- the rules on its count with n claims expected, and on the sizes of what it means
-unfoldable pub fault_of_number : ℕ → GridUnit → Option Fraction → Option TypeFault
-fault_of_number unit u n =
-    breaks unit rules.CountNotWhole (count_not_whole u.count n)
-    else breaks unit rules.CountAboveOne (count_above_one u.count n)
-    else breaks unit rules.TrialsNotWhole (trials_not_whole u.count n)
-    else breaks unit rules.ShapeNotWhole (shape_not_whole u.count)
-    else breaks unit rules.TooFine (too_fine u n)
-    else breaks unit rules.TooManyClaims (too_many_claims u n)
+-- the rules on whole numbers, with n claims expected
+abbrev pub whole_rules : GridCount → Option Fraction → List (Rule × Option Span)
+whole_rules count n =
+    (rules.CountNotWhole, count_not_whole count n) ∷ (rules.CountAboveOne, count_above_one count n)
+    ∷ (rules.TrialsNotWhole, trials_not_whole count n)
+    ∷ (rules.ShapeNotWhole, shape_not_whole count) ∷ []
 
-unfoldable pub fault_of_count : Fraction → ℕ → GridUnit → Option TypeFault
-fault_of_count bs unit u =
-    breaks unit rules.ZeroMean (zero_mean (support (severity_in_layer u)) u.count)
-    else fault_of_number unit u (expected_claims bs u)
+-- the rules on its count, and on the sizes of what it means
+abbrev pub number_rules : GridUnit → Option Fraction → List (Rule × Option Span)
+number_rules u n =
+    whole_rules u.count n ++ (rules.TooFine, too_fine u n)
+    ∷ (rules.TooManyClaims, too_many_claims u n) ∷ []
+
+abbrev pub count_rules : Fraction → GridUnit → List (Rule × Option Span)
+count_rules bs u =
+    (rules.ZeroMean, zero_mean (support (severity_in_layer u)) u.count)
+    ∷ number_rules u (expected_claims bs u)
 
 -- the rules on its horizon, and on the change of its probability of no claim
-abbrev pub fault_of_changes : Settings → ℕ → GridUnit → Option TypeFault
-fault_of_changes settings unit u =
-    breaks unit rules.HorizonTooLarge (horizon_too_large (cells_asked settings) u.agr)
-    else breaks unit rules.ZeroBase (zero_base u.count u.zero (expected_claims settings.bs u))
+abbrev pub change_rules : Settings → GridUnit → List (Rule × Option Span)
+change_rules settings u =
+    (rules.HorizonTooLarge, horizon_too_large (cells_asked settings) (made_of u.agr))
+    ∷ (rules.ZeroBase, zero_base u.count u.zero (expected_claims settings.bs u)) ∷ []
 
--- the rules on the unit in whole buckets
+-- the rules on the unit in whole buckets, in their order
+abbrev pub grid_rules : Settings → GridUnit → List (Rule × Option Span)
+grid_rules settings u = clause_rules u ++ count_rules settings.bs u ++ change_rules settings u
+
 unfoldable pub fault_on_grid : Settings → ℕ → GridUnit → Option TypeFault
-fault_on_grid settings unit u =
-    fault_of_clauses unit u
-    else fault_of_count settings.bs unit u
-    else fault_of_changes settings unit u
+fault_on_grid settings unit u = first_broken unit (grid_rules settings u)
 
 -- the first rule that a unit whose severity is this mixture breaks, by its number, with the units
 -- before it
 unfoldable pub fault_with : Settings → List UnitAst → UnitAst → MixAst → Option TypeFault
 fault_with settings before u m =
-    fault_of_lists before u m
-    else fault_of_money settings (length before) (read_of u m)
-    else fault_on_grid settings (length before) (grid_of settings.bs (read_of u m))
+    breaks (length before) rules.DuplicateName (duplicate_name before u)
+    else fault_of_text (length before) (flaws_of (most_asked settings) settings.bs u m)
+    else fault_on_grid settings (length before) (grid_of settings.bs u m)
 
 -- the same where there may be no mixture, since no severity has the name
 abbrev pub fault_of_mixture : Settings → List UnitAst → UnitAst → Option MixAst → Option TypeFault

@@ -5,12 +5,12 @@ use Rattle.dl_exact.specs.Fraction.{Fraction, whole, ◌/ℚ◌, ◌<ℚ◌}
 use Rattle.dl_plan.specs.declared.settings.Settings.{Settings}
 use Rattle.dl_plan.specs.Fine.{HasPartsOf48Bits}
 use Rattle.dl_plan.specs.Ranges.{IsBucket}
-use Rattle.dl_read.specs.declared.tree.ReadFreq.{ReadFreq}
-use Rattle.dl_read.specs.declared.tree.ReadFreq.TheVariants.{Fixed, Poisson, Bernoulli, Binomial, Gamma}
-use Rattle.dl_read.specs.declared.tree.ReadCount.{ReadCount}
-use Rattle.dl_read.specs.declared.tree.ReadCount.TheVariants.{Exposed, Listed}
-use Rattle.dl_read.specs.Kept.{IsFreqRead}
-use Rattle.dl_read.specs.Lists.{is_whole, is_zero, is_above}
+use Rattle.dl_buckets.specs.declared.grid.GridFreq.{GridFreq}
+use Rattle.dl_buckets.specs.declared.grid.GridFreq.TheVariants.{Fixed, Poisson, Bernoulli, Binomial, Gamma}
+use Rattle.dl_buckets.specs.declared.grid.GridCount.{GridCount}
+use Rattle.dl_buckets.specs.declared.grid.GridCount.TheVariants.{Exposed, Listed}
+use Rattle.dl_buckets.specs.Small.{IsGridFreq}
+use Rattle.dl_buckets.specs.Lists.{is_whole, is_zero, is_above}
 use Rattle.dl_types.specs.Exposures.{shape_of}
 use Rattle.dl_types.specs.Listed.{AreCounts}
 use Rattle.dl_types.specs.Rules.{passes}
@@ -33,7 +33,7 @@ pub record IsShaped (c : Fraction) : Type 0 where
   pub whole : is_whole (shape_of c) ≡ true
 
 -- with n claims expected, what has to be whole is, and a probability is at most 1
-abbrev pub IsWholeFreq : ReadFreq → Fraction → Type 0
+abbrev pub IsWholeFreq : GridFreq → Fraction → Type 0
 IsWholeFreq (Fixed _) n = is_whole n ≡ true
 IsWholeFreq (Poisson _) n = ⊤
 IsWholeFreq (Bernoulli _) n = is_above n (whole 1) ≡ false
@@ -41,7 +41,7 @@ IsWholeFreq (Binomial p _) n = AreTrials p n
 IsWholeFreq (Gamma c _) n = IsShaped c
 
 -- and what has to be small is
-abbrev pub IsSmallFreq : ReadFreq → Fraction → Type 0
+abbrev pub IsSmallFreq : GridFreq → Fraction → Type 0
 IsSmallFreq (Fixed _) n = passes n most_claims ≡ false
 IsSmallFreq (Poisson _) n = ⊤
 IsSmallFreq (Bernoulli _) n = ⊤
@@ -49,18 +49,18 @@ IsSmallFreq (Binomial p _) n = passes (n /ℚ p) most_claims ≡ false
 IsSmallFreq (Gamma c _) n = passes (shape_of c) most_shape ≡ false
 
 -- a distribution that breaks no rule, with n claims expected
-pub record IsFreqKept (freq : ReadFreq) (n : Fraction) : Type 0 where
-  pub read : IsFreqRead freq
+pub record IsFreqKept (freq : GridFreq) (n : Fraction) : Type 0 where
+  pub read : IsGridFreq freq
   pub whole : IsWholeFreq freq n
   pub few : IsSmallFreq freq n
   pub admitted : HasPartsOf48Bits n
 
 -- a count whose number is there, and of which as much is whole as has to be
-abbrev pub IsWholeCount : ReadCount → Option Fraction → Type 0
+abbrev pub IsWholeCount : GridCount → Option Fraction → Type 0
 IsWholeCount (Exposed exposure freq) n = IsSomeAnd n (IsWholeFreq freq)
 IsWholeCount (Listed counts probs) n = ⊤
 
 -- a count that breaks no rule
-abbrev pub IsCountKept : ReadCount → Option Fraction → Type 0
+abbrev pub IsCountKept : GridCount → Option Fraction → Type 0
 IsCountKept (Exposed exposure freq) n = IsSomeAnd n (IsFreqKept freq)
 IsCountKept (Listed counts probs) n = AreCounts counts probs

@@ -10,3 +10,4 @@ pub mod Plans
 pub mod Answer
 pub mod Claimed
 pub mod Severities
+pub mod Known

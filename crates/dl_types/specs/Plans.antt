@@ -1,5 +1,5 @@
 -- What a program means: its plan.
-use Rattle.std.specs.Prelude.{ℕ, ◌≡◌, List, map, zip, Option, Some, None, IfSome, All}
+use Rattle.std.specs.Prelude.{ℕ, ◌≡◌, List, map, zip, Option, Some, None, IfSome}
 use Rattle.dl_exact.specs.Fraction.{Fraction, whole, ◌over◌, ◌/ℚ◌}
 use Rattle.dl_plan.specs.declared.plan.Freq.{Freq}
 use Rattle.dl_plan.specs.declared.plan.Freq.TheVariants as of_plan
@@ -12,16 +12,16 @@ use Rattle.dl_plan.specs.Severity.{Pairs, probability, Means}
 use Rattle.dl_plan.specs.Clause.{Clause, IsClause}
 use Rattle.dl_plan.specs.Count.{IsClaimCount, expected_count as expected_of_plan}
 use Rattle.dl_plan.specs.Fine.{HasPartsOf48Bits}
-use Rattle.dl_read.specs.declared.tree.ReadFreq.{ReadFreq}
-use Rattle.dl_read.specs.declared.tree.ReadFreq.TheVariants.{Fixed, Poisson, Bernoulli, Binomial, Gamma}
-use Rattle.dl_read.specs.declared.tree.ReadCount.{ReadCount}
-use Rattle.dl_read.specs.declared.tree.ReadCount.TheVariants.{Exposed, Listed}
-use Rattle.dl_read.specs.declared.tree.ReadList.{ReadList}
-use Rattle.dl_amounts.specs.declared.grid.GridClause.{GridClause}
-use Rattle.dl_amounts.specs.declared.grid.GridUnit.{GridUnit}
-use Rattle.dl_amounts.specs.Grid.{grid_of}
-use Rattle.dl_read.specs.BadNumerals.{value}
-use Rattle.dl_read.specs.Read.{read_of}
+use Rattle.dl_buckets.specs.declared.grid.GridFreq.{GridFreq}
+use Rattle.dl_buckets.specs.declared.grid.GridFreq.TheVariants.{Fixed, Poisson, Bernoulli, Binomial, Gamma}
+use Rattle.dl_buckets.specs.declared.grid.GridCount.{GridCount}
+use Rattle.dl_buckets.specs.declared.grid.GridCount.TheVariants.{Exposed, Listed}
+use Rattle.dl_buckets.specs.declared.grid.ValueList.{ValueList}
+use Rattle.dl_buckets.specs.declared.grid.Shares.{Shares}
+use Rattle.dl_buckets.specs.declared.grid.GridClause.{GridClause}
+use Rattle.dl_buckets.specs.declared.grid.GridUnit.{GridUnit}
+use Rattle.dl_buckets.specs.Grid.{grid_of}
+use Rattle.dl_buckets.specs.Values.{value}
 use Rattle.dl_ast.specs.declared.ast.MixAst.{MixAst}
 use Rattle.dl_ast.specs.declared.ast.Numeral.{Numeral}
 use Rattle.dl_ast.specs.declared.ast.PortHead.{PortHead}
@@ -29,26 +29,28 @@ use Rattle.dl_ast.specs.declared.ast.SevDef.{SevDef}
 use Rattle.dl_ast.specs.declared.ast.UnitAst.{UnitAst}
 use Rattle.dl_ast.specs.declared.ast.Program.{Program}
 use Rattle.std.specs.List.{AllZip}
-use Rattle.dl_read.specs.Lists.{probs_of}
-use Rattle.dl_amounts.specs.Clauses.{clause_of}
-use Rattle.dl_amounts.specs.Severity.{final_severity}
+use Rattle.dl_buckets.specs.Lists.{probs_of}
+use Rattle.dl_buckets.specs.Clauses.{clause_of}
+use Rattle.dl_buckets.specs.declared.made.MadeClause.{MadeClause}
+use Rattle.dl_buckets.specs.declared.made.MadeClause.TheVariants.{Missing, TooFine, Whole}
+use Rattle.dl_buckets.specs.Severity.{final_severity}
 use Rattle.dl_types.specs.Exposures.{expected_count, shape_of}
 use Rattle.dl_types.specs.Faults.{cells_asked}
 use Rattle.dl_types.specs.Severities.{mixture_of}
 
 -- each listed number of claims with its probability
-abbrev pub pairs_of_counts : ReadList → Option ReadList → Pairs
+abbrev pub pairs_of_counts : ValueList → Option Shares → Pairs
 pairs_of_counts counts probs = zip (map (λ x. x.num) counts.values) (probs_of counts probs)
 
 -- a table of these numbers of claims, equal ones added up
-abbrev pub IsTableOf : ReadList → Option ReadList → Freq → Type 0
+abbrev pub IsTableOf : ValueList → Option Shares → Freq → Type 0
 IsTableOf counts probs freq =
     (table : List Item) × (total : ℕ) × (freq ≡ of_plan.Table table total)
     × ((n : ℕ) → weight_at table n over total ≡ probability (pairs_of_counts counts probs) n)
 
 -- with n claims expected, the claim count of the plan is that of the text; a binomial count has as
 -- many trials as n over the probability of one
-abbrev pub IsCountWith : ReadFreq → Fraction → Freq → Type 0
+abbrev pub IsCountWith : GridFreq → Fraction → Freq → Type 0
 IsCountWith (Fixed _) n freq = (m : ℕ) × (whole m ≡ n) × (freq ≡ of_plan.Fixed m)
 IsCountWith (Poisson _) n freq = freq ≡ of_plan.Poisson n
 IsCountWith (Bernoulli _) n freq = freq ≡ of_plan.Bernoulli n
@@ -57,12 +59,12 @@ IsCountWith (Binomial p _) n freq =
 IsCountWith (Gamma c _) n freq = (r : ℕ) × (whole r ≡ shape_of c) × (freq ≡ of_plan.Gamma r n)
 
 -- the claim count of the plan is that of the text, in lowest terms where it is listed
-abbrev pub IsCountOf : Fraction → GridUnit → ReadCount → Freq → Type 0
+abbrev pub IsCountOf : Fraction → GridUnit → GridCount → Freq → Type 0
 IsCountOf bs u (Exposed exposure dist) freq = IsCountWith dist (expected_count bs u exposure) freq
 IsCountOf bs u (Listed counts probs) freq = IsTableOf counts probs freq × IsClaimCount freq
 
 -- that count in numbers, where what has to be whole is
-abbrev pub freq_with : ReadFreq → Fraction → Freq
+abbrev pub freq_with : GridFreq → Fraction → Freq
 freq_with (Fixed _) n = of_plan.Fixed n.num
 freq_with (Poisson _) n = of_plan.Poisson n
 freq_with (Bernoulli _) n = of_plan.Bernoulli n
@@ -70,19 +72,25 @@ freq_with (Binomial p _) n = of_plan.Binomial (n /ℚ p).num p
 freq_with (Gamma c _) n = of_plan.Gamma (shape_of c).num n
 
 -- the table of listed counts, which is valid
-pub record IsTabled (counts : ReadList) (probs : Option ReadList) (freq : Freq) : Type 0 where
+pub record IsTabled (counts : ValueList) (probs : Option Shares) (freq : Freq) : Type 0 where
   pub table : IsTableOf counts probs freq
   pub valid : IsClaimCount freq
   pub expected : HasPartsOf48Bits (expected_of_plan freq)
 
 -- the claim count that is made of the text
-abbrev pub IsCountMade : ReadCount → Option Fraction → Freq → Type 0
+abbrev pub IsCountMade : GridCount → Option Fraction → Freq → Type 0
 IsCountMade (Exposed exposure dist) n freq = IfSome n (λ x. freq ≡ freq_with dist x)
 IsCountMade (Listed counts probs) n freq = IsTabled counts probs freq
 
 abbrev pub aggregate_clause : Option GridClause → Option Clause
 aggregate_clause None = None
 aggregate_clause (Some c) = Some (clause_of c)
+
+-- a clause that is made
+abbrev pub cede_of : MadeClause → Option Clause
+cede_of Missing = None
+cede_of TooFine = None
+cede_of (Whole clause place) = Some clause
 
 -- the aggregate clause, where there is one
 pub record IsCedeOf (cession : Option GridClause) (made : Option Clause) : Type 0 where
@@ -101,7 +109,7 @@ pub record IsUnitOn (bs : Fraction) (text : List ℕ) (u : GridUnit) (made : Uni
 
 -- and those of the text, whose severity is this mixture
 abbrev pub IsUnitWith : Fraction → UnitAst → MixAst → UnitOfPlan → Type 0
-IsUnitWith bs u m made = IsUnitOn bs u.name.text (grid_of bs (read_of u m)) made
+IsUnitWith bs u m made = IsUnitOn bs u.name.text (grid_of bs u m) made
 
 -- the same with named severities
 pub record IsUnitOf (bs : Fraction) (sevs : List SevDef) (u : UnitAst) (made : UnitOfPlan) : Type 0

@@ -19,20 +19,20 @@ use Rattle.dl_ast.specs.declared.ast.FreqAst.{FreqAst}
 use Rattle.dl_ast.specs.declared.ast.FreqAst.TheVariants as freqs
 use Rattle.dl_ast.specs.declared.ast.ZeroAst.{ZeroAst}
 use Rattle.dl_ast.specs.declared.ast.ZeroAst.TheVariants.{Plain, Truncated, Modified}
-use Rattle.dl_read.specs.declared.tree.ReadExposure.{ReadExposure}
-use Rattle.dl_read.specs.declared.tree.ReadExposure.TheVariants.{Claims, Loss, Premium}
-use Rattle.dl_read.specs.declared.tree.ReadFreq.{ReadFreq}
-use Rattle.dl_read.specs.declared.tree.ReadFreq.TheVariants.{Fixed, Poisson, Bernoulli, Binomial, Gamma}
-use Rattle.dl_read.specs.declared.tree.ReadCount.{ReadCount}
-use Rattle.dl_read.specs.declared.tree.ReadCount.TheVariants.{Exposed, Listed}
-use Rattle.dl_read.specs.First.{at_if, within}
-use Rattle.dl_read.specs.BadNumerals.{value, is_bad_numeral}
-use Rattle.dl_read.specs.Lists.{is_admitted, is_whole, is_zero, is_above}
-use Rattle.dl_amounts.specs.declared.grid.GridClause.{GridClause}
-use Rattle.dl_amounts.specs.declared.grid.GridUnit.{GridUnit}
-use Rattle.dl_amounts.specs.Clauses.{clause_of}
-use Rattle.dl_amounts.specs.Severity.{final_severity}
-use Rattle.dl_amounts.specs.FineParts.{fractions_too_fine}
+use Rattle.dl_buckets.specs.declared.grid.GridExposure.{GridExposure}
+use Rattle.dl_buckets.specs.declared.grid.GridExposure.TheVariants.{Claims, Loss, Premium}
+use Rattle.dl_buckets.specs.declared.grid.GridFreq.{GridFreq}
+use Rattle.dl_buckets.specs.declared.grid.GridFreq.TheVariants.{Fixed, Poisson, Bernoulli, Binomial, Gamma}
+use Rattle.dl_buckets.specs.declared.grid.GridCount.{GridCount}
+use Rattle.dl_buckets.specs.declared.grid.GridCount.TheVariants.{Exposed, Listed}
+use Rattle.dl_buckets.specs.First.{at_if, within}
+use Rattle.dl_buckets.specs.Values.{value, is_bad_numeral}
+use Rattle.dl_buckets.specs.Lists.{is_admitted, is_whole, is_zero, is_above}
+use Rattle.dl_buckets.specs.declared.made.MadeClause.{MadeClause}
+use Rattle.dl_buckets.specs.declared.made.MadeClause.TheVariants as made
+use Rattle.dl_buckets.specs.declared.grid.GridUnit.{GridUnit}
+use Rattle.dl_buckets.specs.Severity.{final_severity}
+use Rattle.dl_buckets.specs.FineParts.{fractions_too_fine}
 use Rattle.dl_types.specs.Exposures.{expected_loss, is_unbounded, claims_above_zero, is_there_and, shape_of}
 
 -- 1 DuplicateName: the unit's name is that of an earlier unit
@@ -45,24 +45,24 @@ duplicate_name before u = at_if (list_any (λ (v : UnitAst). bytes_eq u.name.tex
 abbrev pub has_no_loss : List ℕ → Bool
 has_no_loss amounts = not (list_any (nat_lt 0) amounts)
 
-abbrev pub zero_loss : List ℕ → ReadExposure → Option Span
+abbrev pub zero_loss : List ℕ → GridExposure → Option Span
 zero_loss amounts (Claims n span) = None
 zero_loss amounts (Loss n span) = at_if (has_no_loss amounts) span
 zero_loss amounts (Premium p r span) = at_if (has_no_loss amounts) span
 
-unfoldable pub zero_mean : List ℕ → ReadCount → Option Span
+unfoldable pub zero_mean : List ℕ → GridCount → Option Span
 zero_mean amounts (Exposed exposure freq) = zero_loss amounts exposure
 zero_mean amounts (Listed counts probs) = None
 
 -- the place of an exposure
-abbrev pub exposure_span : ReadExposure → Span
+abbrev pub exposure_span : GridExposure → Span
 exposure_span (Claims n span) = span
 exposure_span (Loss n span) = span
 exposure_span (Premium p r span) = span
 
 -- 15 CountNotWhole: `fixed` with n claims expected, which is not whole; or a `dfreq` count that is
 -- not whole
-unfoldable pub count_not_whole : ReadCount → Option Fraction → Option Span
+unfoldable pub count_not_whole : GridCount → Option Fraction → Option Span
 count_not_whole (Exposed exposure (Fixed _)) n =
     at_if (is_there_and (λ x. not (is_whole x)) n) (exposure_span exposure)
 count_not_whole (Exposed exposure (Poisson _)) n = None
@@ -73,7 +73,7 @@ count_not_whole (Listed counts probs) n =
     at_if (list_any (λ x. not (is_whole x)) counts.values) counts.span
 
 -- 16 CountAboveOne: `bernoulli` with n claims expected, which is above 1
-unfoldable pub count_above_one : ReadCount → Option Fraction → Option Span
+unfoldable pub count_above_one : GridCount → Option Fraction → Option Span
 count_above_one (Exposed exposure (Fixed _)) n = None
 count_above_one (Exposed exposure (Poisson _)) n = None
 count_above_one (Exposed exposure (Bernoulli _)) n =
@@ -88,7 +88,7 @@ abbrev pub has_no_trials : Fraction → Option Fraction → Bool
 has_no_trials p n =
     is_zero p || is_above p (whole 1) || is_there_and (λ x. not (is_whole (x /ℚ p))) n
 
-unfoldable pub trials_not_whole : ReadCount → Option Fraction → Option Span
+unfoldable pub trials_not_whole : GridCount → Option Fraction → Option Span
 trials_not_whole (Exposed exposure (Fixed _)) n = None
 trials_not_whole (Exposed exposure (Poisson _)) n = None
 trials_not_whole (Exposed exposure (Bernoulli _)) n = None
@@ -98,7 +98,7 @@ trials_not_whole (Exposed exposure (Gamma c _)) n = None
 trials_not_whole (Listed counts probs) n = None
 
 -- 18 ShapeNotWhole: `mixed gamma c` with c 0 or 1 / c^2 not whole
-unfoldable pub shape_not_whole : ReadCount → Option Span
+unfoldable pub shape_not_whole : GridCount → Option Span
 shape_not_whole (Exposed exposure (Fixed _)) = None
 shape_not_whole (Exposed exposure (Poisson _)) = None
 shape_not_whole (Exposed exposure (Bernoulli _)) = None
@@ -115,7 +115,7 @@ abbrev pub loss_too_fine : Option Fraction → Bool
 loss_too_fine None = false
 loss_too_fine (Some loss) = not (is_admitted loss)
 
-unfoldable pub exposed_too_fine : ReadCount → Option Fraction → Option Fraction → Bool
+unfoldable pub exposed_too_fine : GridCount → Option Fraction → Option Fraction → Bool
 exposed_too_fine (Exposed exposure freq) n above = loss_too_fine (expected_loss exposure)
     || not (is_some n) || (is_unbounded freq && not (is_some above))
 exposed_too_fine (Listed counts probs) n above = false
@@ -129,7 +129,7 @@ too_fine u n = at_if (fractions_too_fine u
 abbrev pub passes : Fraction → ℕ → Bool
 passes x limit = is_above x (whole limit)
 
-unfoldable pub has_too_many_claims : ReadCount → Option Fraction → Option Fraction → Bool
+unfoldable pub has_too_many_claims : GridCount → Option Fraction → Option Fraction → Bool
 has_too_many_claims (Exposed exposure (Fixed _)) n above =
     is_there_and (λ x. passes x most_claims) n
 has_too_many_claims (Exposed exposure (Poisson _)) n above =
@@ -148,9 +148,11 @@ too_many_claims u n =
 
 -- 21 HorizonTooLarge: the horizon of the aggregate clause on a grid of so many cells passes 16,384
 -- where these are at most 4,096, else 65,536
-unfoldable pub horizon_too_large : ℕ → Option GridClause → Option Span
-horizon_too_large cells = within (λ (c : GridClause).
-    at_if (nat_lt (most_horizon cells) (horizon (Some (clause_of c)) cells)) c.span)
+unfoldable pub horizon_too_large : ℕ → MadeClause → Option Span
+horizon_too_large cells made.Missing = None
+horizon_too_large cells made.TooFine = None
+horizon_too_large cells (made.Whole clause place) =
+    at_if (nat_lt (most_horizon cells) (horizon (Some clause) cells)) place
 
 -- 22 TooManyUnits: there are more than 16 units
 abbrev pub seventeenth : Option UnitAst → Option Span
@@ -174,18 +176,18 @@ abbrev pub has_no_base : Fraction → Option Fraction → Bool
 has_no_base p n = not (is_above (whole 1) p) || is_there_and is_no_base n
 
 -- the place of a distribution
-abbrev pub freq_span : ReadFreq → Span
+abbrev pub freq_span : GridFreq → Span
 freq_span (Fixed span) = span
 freq_span (Poisson span) = span
 freq_span (Bernoulli span) = span
 freq_span (Binomial p span) = span
 freq_span (Gamma c span) = span
 
-abbrev pub no_base_of : ReadCount → Fraction → Option Fraction → Option Span
+abbrev pub no_base_of : GridCount → Fraction → Option Fraction → Option Span
 no_base_of (Exposed exposure freq) p n = at_if (has_no_base p n) (freq_span freq)
 no_base_of (Listed counts probs) p n = Some counts.span
 
-unfoldable pub zero_base : ReadCount → Option Fraction → Option Fraction → Option Span
+unfoldable pub zero_base : GridCount → Option Fraction → Option Fraction → Option Span
 zero_base count zero n = within (λ p. no_base_of count p n) zero
 
 -- 26 CommonUnit: the portfolio has a shared factor, and the unit's count is not Poisson or its

@@ -1,29 +1,29 @@
 //! The listed claim counts of a unit.
 
 ghost use Rattle.std.specs.Prelude.{◌≡◌, ◌≤◌, not, map, All, IfOk};
+ghost use Rattle.dl_types.specs.Claimed.{count_of, number_of};
 ghost use Rattle.dl_types.specs.Rules.{has_too_many_claims, passes};
 ghost use Rattle.std.specs.List.{list_any};
-ghost use Rattle.dl_types.specs.Plans.{pairs_of_counts, IsTabled};
+ghost use Rattle.dl_types.specs.Plans.{pairs_of_counts, IsTabled, IsCountMade};
 ghost use Rattle.dl_limits.specs.Limits.{most_count};
 ghost use Rattle.dl_types.specs.Listed.{AreCounts};
 ghost use Rattle.dl_plan.specs.Severity.{Means};
-ghost use Rattle.dl_types.specs.Kept.{IsWholeCount};
-ghost use Rattle.dl_read.specs.First.{at_if};
-ghost use Rattle.dl_read.specs.Lists.{is_whole};
+ghost use Rattle.dl_types.specs.Kept.{IsWholeCount, IsCountKept};
+ghost use Rattle.dl_buckets.specs.First.{at_if};
+ghost use Rattle.dl_buckets.specs.Lists.{is_whole};
 
-use crate::claims::Claims;
-use crate::frequencies::exposed_too_many;
-use dl_amounts::{list_probs, whole_weights};
+use crate::claims::UnitCount;
+use crate::frequencies::{exposed_count, exposed_too_many};
+use dl_buckets::{GridCount, Shares, ValueList, is_above, place_if, weights_among};
 use dl_frac::Frac;
 use dl_lexer::Span;
 use dl_limits::MOST_COUNT;
 use dl_plan::{Freq, Sev};
-use dl_read::{ReadCount, ReadList, is_above, place_if};
 use dl_sev::merge;
 use std::alloc::{AllocError, Global};
 
 /// The place of a list with a value that is not whole.
-pub(crate) fn not_whole(list: &ReadList) -> Option<Span>
+pub(crate) fn not_whole(list: &ValueList) -> Option<Span>
     ensures { result ≡ at_if (list_any (λ x. not (is_whole x)) list.now.values) list.now.span }
 {
     place_if(is_any_split(list.values.as_slice()), list.span)
@@ -36,18 +36,16 @@ fn is_any_split(values: &[Frac]) -> bool
     values.iter().any(|value| value.den() != 1)
 }
 
-/// Whether a count has too many claims. Its trials and its shape are whole.
+/// Whether a count, of whose expected claims so many are above 0, has too many claims. Its trials
+/// and its shape are whole.
 #[tactic(auto, unfolding(crate::specs::Rules::has_too_many_claims))]
-pub(crate) fn too_many_claims(count: &ReadCount, claims: &Claims) -> bool
-    requires { IsWholeCount count.now claims.now.count }
-    ensures { result ≡ has_too_many_claims count.now claims.now.count claims.now.above }
+pub(crate) fn too_many_claims(count: &UnitCount, above: &Option<Frac>) -> bool
+    requires { IsWholeCount (count_of count.now) (number_of count.now) }
+    ensures { result ≡ has_too_many_claims (count_of count.now) (number_of count.now) above.now }
 {
     match count {
-        ReadCount::Listed { counts, .. } => is_any_above_most(counts.values.as_slice()),
-        ReadCount::Exposed { freq, .. } => match &claims.count {
-            Some(number) => exposed_too_many(freq, *number, &claims.above),
-            None => unreachable!(),
-        },
+        UnitCount::Listed(counts, _) => is_any_above_most(counts.values.as_slice()),
+        UnitCount::Exposed(_, freq, number) => exposed_too_many(freq, *number, above),
     }
 }
 
@@ -65,11 +63,22 @@ pub(crate) fn passes(value: Frac, limit: u32) -> bool
     is_above(value, Frac::whole(limit))
 }
 
+/// The claim count of a count that breaks no rule.
+pub(crate) fn unit_count(alloc: Global, count: &UnitCount) -> Result<Freq, AllocError>
+    requires { IsCountKept (count_of count.now) (number_of count.now) }
+    ensures { IfOk result (IsCountMade (count_of count.now) (number_of count.now)) }
+{
+    match count {
+        UnitCount::Listed(counts, probs) => count_table(alloc, counts, probs),
+        UnitCount::Exposed(_, freq, number) => Ok(exposed_count(freq, *number)),
+    }
+}
+
 /// The claim count of listed counts.
-pub(crate) fn count_table(
+fn count_table(
     alloc: Global,
-    counts: &ReadList,
-    probs: &Option<ReadList>,
+    counts: &ValueList,
+    probs: &Option<Shares>,
 ) -> Result<Freq, AllocError>
     requires { AreCounts counts.now probs.now }
     ensures { IfOk result (IsTabled counts.now probs.now) }
@@ -84,16 +93,16 @@ pub(crate) fn count_table(
 /// Listed counts with whole weights, equal ones added up.
 fn weighed_counts(
     alloc: Global,
-    counts: &ReadList,
-    probs: &Option<ReadList>,
+    counts: &ValueList,
+    probs: &Option<Shares>,
 ) -> Result<Sev, AllocError>
     requires { AreCounts counts.now probs.now }
     ensures means { IfOk result (λ made. Means made (pairs_of_counts counts.now probs.now)) }
     ensures few { IfOk result (λ made. All (λ item. item.amount ≤ most_count) made.items) }
 {
-    let numbers = numbers_of(alloc, counts.values.as_slice())?;
-    let shares = list_probs(alloc, counts, probs)?;
-    let weights = whole_weights(alloc, &shares)?;
+    let values = counts.values.as_slice();
+    let numbers = numbers_of(alloc, values)?;
+    let weights = weights_among(alloc, values.len(), probs)?.unwrap();
     merge(alloc, &numbers, &weights)
 }
 

@@ -5,11 +5,11 @@ ghost use Rattle.std.specs.List.{list_any};
 ghost use Rattle.dl_exact.specs.Fraction.{whole, ◌*ℚ◌, ◌/ℚ◌, ◌<ℚ◌};
 ghost use Rattle.dl_plan.specs.Ranges.{IsBucket};
 ghost use Rattle.dl_plan.specs.Severity.{mean_amount, Means};
-ghost use Rattle.dl_read.specs.declared.tree.ReadCount.TheVariants.{Exposed};
-ghost use Rattle.dl_read.specs.Lists.{is_whole};
-ghost use Rattle.dl_amounts.specs.FineParts.{has_severity, IsWeighed};
-ghost use Rattle.dl_amounts.specs.GridKept.{IsGridUnit};
-ghost use Rattle.dl_amounts.specs.Severity.{severity_in_layer, support};
+ghost use Rattle.dl_buckets.specs.declared.grid.GridCount.TheVariants.{Exposed};
+ghost use Rattle.dl_buckets.specs.Lists.{is_whole};
+ghost use Rattle.dl_buckets.specs.FineParts.{has_severity, IsWeighed};
+ghost use Rattle.dl_buckets.specs.GridKept.{IsGridUnit};
+ghost use Rattle.dl_buckets.specs.Severity.{severity_in_layer, support};
 ghost use Rattle.dl_types.specs.Exposures.{mean_in_money, admitted, exposed_claims, expected_claims};
 ghost use Rattle.dl_types.specs.Rules.{has_no_loss, zero_loss, zero_mean, exposure_span, count_not_whole, count_above_one, has_no_trials, trials_not_whole, shape_not_whole};
 
@@ -17,32 +17,31 @@ use crate::claims::admitted;
 use crate::counts::not_whole;
 use crate::frequencies::has_no_shape;
 use crate::ratio::Ratio;
-use dl_amounts::GridUnit;
+use dl_buckets::{GridCount, GridExposure, GridFreq, GridUnit, is_above, place_if};
 use dl_frac::Frac;
 use dl_lexer::Span;
 use dl_plan::Sev;
-use dl_read::{ReadCount, ReadExposure, ReadFreq, is_above, place_if};
 use dl_sev::mean;
 
 /// The place of a loss or a premium where none of these amounts is above 0.
 #[tactic(auto, unfolding(crate::specs::Rules::zero_mean))]
-pub(crate) fn zero_mean(count: &ReadCount, amounts: &[u32]) -> Option<Span>
+pub(crate) fn zero_mean(count: &GridCount, amounts: &[u32]) -> Option<Span>
     ensures { result ≡ zero_mean amounts.now count.now }
 {
     match count {
-        ReadCount::Exposed { exposure, .. } => zero_loss(exposure, amounts),
-        ReadCount::Listed { .. } => None,
+        GridCount::Exposed { exposure, .. } => zero_loss(exposure, amounts),
+        GridCount::Listed { .. } => None,
     }
 }
 
 /// The place of an exposure that is a loss or a premium, where no amount is above 0.
-fn zero_loss(exposure: &ReadExposure, amounts: &[u32]) -> Option<Span>
+fn zero_loss(exposure: &GridExposure, amounts: &[u32]) -> Option<Span>
     ensures { result ≡ zero_loss amounts.now exposure.now }
 {
     match exposure {
-        ReadExposure::Claims(_, _) => None,
-        ReadExposure::Loss(_, span) => place_if(!is_any_above_zero(amounts), *span),
-        ReadExposure::Premium { span, .. } => place_if(!is_any_above_zero(amounts), *span),
+        GridExposure::Claims(_, _) => None,
+        GridExposure::Loss(_, span) => place_if(!is_any_above_zero(amounts), *span),
+        GridExposure::Premium { span, .. } => place_if(!is_any_above_zero(amounts), *span),
     }
 }
 
@@ -63,15 +62,15 @@ pub(crate) fn expected_claims(unit: &GridUnit, bs: Frac, layered: &Option<Sev>) 
     ensures { result ≡ expected_claims bs unit.now }
 {
     match &unit.count {
-        ReadCount::Exposed { exposure, .. } => exposed_claims(unit, exposure, bs, layered),
-        ReadCount::Listed { .. } => None,
+        GridCount::Exposed { exposure, .. } => exposed_claims(unit, exposure, bs, layered),
+        GridCount::Listed { .. } => None,
     }
 }
 
 /// The expected claim count of an exposure, where it is there and both parts are below 2^48.
 fn exposed_claims(
     unit: &GridUnit,
-    exposure: &ReadExposure,
+    exposure: &GridExposure,
     bs: Frac,
     layered: &Option<Sev>,
 ) -> Option<Frac>
@@ -82,9 +81,9 @@ fn exposed_claims(
     ensures { result ≡ exposed_claims bs unit.now exposure.now }
 {
     match exposure {
-        ReadExposure::Claims(number, _) => admitted(*number),
-        ReadExposure::Loss(number, _) => over_mean(unit, *number, Frac::whole(1), bs, layered),
-        ReadExposure::Premium { amount, ratio, .. } => {
+        GridExposure::Claims(number, _) => admitted(*number),
+        GridExposure::Loss(number, _) => over_mean(unit, *number, Frac::whole(1), bs, layered),
+        GridExposure::Premium { amount, ratio, .. } => {
             over_mean(unit, *amount, *ratio, bs, layered)
         }
     }
@@ -127,33 +126,33 @@ fn mean_in_layer(unit: &GridUnit, layered: &Sev) -> Frac
 }
 
 /// The place of an exposure.
-fn exposure_place(exposure: &ReadExposure) -> Span
+fn exposure_place(exposure: &GridExposure) -> Span
     ensures { result ≡ exposure_span exposure.now }
 {
     match exposure {
-        ReadExposure::Claims(_, span) => *span,
-        ReadExposure::Loss(_, span) => *span,
-        ReadExposure::Premium { span, .. } => *span,
+        GridExposure::Claims(_, span) => *span,
+        GridExposure::Loss(_, span) => *span,
+        GridExposure::Premium { span, .. } => *span,
     }
 }
 
 /// The place of a fixed count that is not whole, or of listed counts that are not whole.
 #[tactic(auto, unfolding(crate::specs::Rules::count_not_whole))]
-pub(crate) fn count_not_whole(count: &ReadCount, number: &Option<Frac>) -> Option<Span>
+pub(crate) fn count_not_whole(count: &GridCount, number: &Option<Frac>) -> Option<Span>
     ensures { result ≡ count_not_whole count.now number.now }
 {
     match count {
-        ReadCount::Exposed { exposure, freq } => fixed_not_whole(exposure, freq, number),
-        ReadCount::Listed { counts, .. } => not_whole(counts),
+        GridCount::Exposed { exposure, freq } => fixed_not_whole(exposure, freq, number),
+        GridCount::Listed { counts, .. } => not_whole(counts),
     }
 }
 
 /// The place of a fixed count that is not whole.
 #[tactic(auto, unfolding(crate::specs::Rules::count_not_whole))]
-fn fixed_not_whole(exposure: &ReadExposure, freq: &ReadFreq, number: &Option<Frac>) -> Option<Span>
+fn fixed_not_whole(exposure: &GridExposure, freq: &GridFreq, number: &Option<Frac>) -> Option<Span>
     ensures { result ≡ count_not_whole (Exposed exposure.now freq.now) number.now }
 {
-    if !matches!(freq, ReadFreq::Fixed(_)) {
+    if !matches!(freq, GridFreq::Fixed(_)) {
         return None;
     }
     match number {
@@ -164,21 +163,21 @@ fn fixed_not_whole(exposure: &ReadExposure, freq: &ReadFreq, number: &Option<Fra
 
 /// The place of an expected count above 1 for a count of at most one claim.
 #[tactic(auto, unfolding(crate::specs::Rules::count_above_one))]
-pub(crate) fn count_above_one(count: &ReadCount, number: &Option<Frac>) -> Option<Span>
+pub(crate) fn count_above_one(count: &GridCount, number: &Option<Frac>) -> Option<Span>
     ensures { result ≡ count_above_one count.now number.now }
 {
     match count {
-        ReadCount::Exposed { exposure, freq } => single_above_one(exposure, freq, number),
-        ReadCount::Listed { .. } => None,
+        GridCount::Exposed { exposure, freq } => single_above_one(exposure, freq, number),
+        GridCount::Listed { .. } => None,
     }
 }
 
 /// The place of an expected count above 1 for a count of at most one claim.
 #[tactic(auto, unfolding(crate::specs::Rules::count_above_one))]
-fn single_above_one(exposure: &ReadExposure, freq: &ReadFreq, number: &Option<Frac>) -> Option<Span>
+fn single_above_one(exposure: &GridExposure, freq: &GridFreq, number: &Option<Frac>) -> Option<Span>
     ensures { result ≡ count_above_one (Exposed exposure.now freq.now) number.now }
 {
-    if !matches!(freq, ReadFreq::Bernoulli(_)) {
+    if !matches!(freq, GridFreq::Bernoulli(_)) {
         return None;
     }
     match number {
@@ -189,13 +188,13 @@ fn single_above_one(exposure: &ReadExposure, freq: &ReadFreq, number: &Option<Fr
 
 /// The place of trials that are no whole number, or whose probability is 0 or above 1.
 #[tactic(auto, unfolding(crate::specs::Rules::trials_not_whole))]
-pub(crate) fn trials_not_whole(count: &ReadCount, number: &Option<Frac>) -> Option<Span>
+pub(crate) fn trials_not_whole(count: &GridCount, number: &Option<Frac>) -> Option<Span>
     ensures { result ≡ trials_not_whole count.now number.now }
 {
-    let ReadCount::Exposed { freq, .. } = count else {
+    let GridCount::Exposed { freq, .. } = count else {
         return None;
     };
-    let ReadFreq::Binomial(chance, span) = freq else {
+    let GridFreq::Binomial(chance, span) = freq else {
         return None;
     };
     place_if(is_no_trial(*chance, number), *span)
@@ -224,13 +223,13 @@ fn is_no_multiple(value: Frac, part: Frac) -> bool
 
 /// The place of a gamma factor whose shape is no whole number above 0.
 #[tactic(auto, unfolding(crate::specs::Rules::shape_not_whole))]
-pub(crate) fn shape_not_whole(count: &ReadCount) -> Option<Span>
+pub(crate) fn shape_not_whole(count: &GridCount) -> Option<Span>
     ensures { result ≡ shape_not_whole count.now }
 {
-    let ReadCount::Exposed { freq, .. } = count else {
+    let GridCount::Exposed { freq, .. } = count else {
         return None;
     };
-    let ReadFreq::Gamma(variation, span) = freq else {
+    let GridFreq::Gamma(variation, span) = freq else {
         return None;
     };
     place_if(has_no_shape(*variation), *span)

@@ -9,7 +9,7 @@ ghost use Rattle.dl_plan.specs.Common.{raised, unit_share, shared_probabilities}
 ghost use Rattle.dl_plan.specs.Count.{expected_count};
 ghost use Rattle.dl_plan.specs.Fine.{HasPartsOf48Bits};
 ghost use Rattle.dl_plan.specs.Means.{thinned_mean};
-ghost use Rattle.dl_read.specs.Lists.{is_fine};
+ghost use Rattle.dl_buckets.specs.Lists.{is_fine};
 ghost use Rattle.dl_types.specs.Exposures.{admitted};
 ghost use Rattle.dl_types.specs.Factor.{running_sum, joined, times_amounts, is_raised_coarse, passes_bounds, is_too_large, part_of, IsCounted};
 ghost use Rattle.dl_types.specs.Rules.{passes};

@@ -1,116 +1,127 @@
 //! Whether all the fractions of a unit are fine.
 
-ghost use Rattle.std.specs.Prelude.{◌≡◌, ◌||◌, None, not, IfOk, IfSome};
+ghost use Rattle.std.specs.Prelude.{◌≡◌, ◌||◌, Option, None, true, false, not, IfOk};
+ghost use Rattle.std.specs.Option.{MatchOption};
 ghost use Rattle.dl_types.specs.Rules.{loss_too_fine, exposed_too_fine};
-ghost use Rattle.std.specs.List.{list_any};
 ghost use Rattle.dl_types.specs.Exposures.{expected_loss, is_unbounded};
-ghost use Rattle.dl_amounts.specs.ClausesKept.{IsClauseLayered};
-ghost use Rattle.dl_amounts.specs.FineParts.{has_shares, IsWeighed};
-ghost use Rattle.dl_amounts.specs.Kept.{IsLayered};
-ghost use Rattle.dl_read.specs.Lists.{probs_in_count, is_fine};
-ghost use Rattle.dl_amounts.specs.Rules.{off_grid_cession};
-ghost use Rattle.dl_types.specs.Claimed.{IsFineSeverity};
+ghost use Rattle.dl_buckets.specs.declared.grid.GridClause.{GridClause as ClauseInGrid};
+ghost use Rattle.dl_buckets.specs.Clauses.{made_of};
+ghost use Rattle.dl_buckets.specs.ClausesKept.{AreClausesOf};
+ghost use Rattle.dl_buckets.specs.FineParts.{has_shares, IsWeighed};
+ghost use Rattle.dl_buckets.specs.Kept.{IsLayered};
+ghost use Rattle.dl_buckets.specs.Lists.{probs_in_count, is_fine};
+ghost use Rattle.dl_buckets.specs.Small.{IsGridCount};
+ghost use Rattle.dl_buckets.specs.Rules.{off_grid_cession};
+ghost use Rattle.dl_types.specs.Claimed.{IsFineSeverity, IsNumberOf, IsUnitCount};
 
-use crate::claims::{Claims, is_admitted};
-use dl_amounts::{GridClause, GridUnit, clause, final_severity, second_too_fine};
+use crate::claims::{UnitCount, is_admitted};
+use dl_buckets::{
+    Clauses, GridCount, GridExposure, GridFreq, GridUnit, MadeClause, are_fine, final_severity,
+};
+use dl_frac::Frac;
 use dl_plan::Sev;
-use dl_read::{ReadCount, ReadExposure, ReadFreq};
 use std::alloc::{AllocError, Global};
 
-/// The final severity of a unit; `None` exactly where a list of probabilities, the shares of a
-/// clause, or the mixture is not fine.
+/// The final severity of a unit; `None` exactly where the probabilities of its count, the shares of
+/// a clause, or a part of its severity are not fine.
 pub(crate) fn fine_severity(
     alloc: Global,
     unit: &GridUnit,
+    clauses: &Clauses,
     layered: Option<Sev>,
 ) -> Result<Option<Sev>, AllocError>
     requires unit { IsLayered unit.now }
     requires ceded { off_grid_cession unit.now ≡ None }
+    requires made { AreClausesOf unit.now clauses.now }
     requires layered { IsWeighed unit.now layered }
     ensures { IfOk result (IsFineSeverity unit.now) }
 {
     let Some(layered) = layered else {
         return Ok(None);
     };
-    let coarse = parts_too_fine(alloc, unit)?;
-    if coarse {
+    if parts_too_fine(unit, clauses) {
         return Ok(None);
     }
-    let made = final_severity(alloc, unit, layered)?;
+    let made = final_severity(alloc, layered, &clauses.occ)?;
     Ok(Some(made))
 }
 
 /// Whether the probabilities of listed counts, or the shares of a clause, are not fine.
-fn parts_too_fine(alloc: Global, unit: &GridUnit) -> Result<bool, AllocError>
+fn parts_too_fine(unit: &GridUnit, clauses: &Clauses) -> bool
     requires layered { IsLayered unit.now }
-    ensures { IfOk result (λ coarse. coarse
-        ≡ (list_any (λ l. not (is_fine l.values)) (probs_in_count unit.now.count)
-        || not (has_shares unit.now.occ) || not (has_shares unit.now.agr))) }
+    requires made { AreClausesOf unit.now clauses.now }
+    ensures { result ≡ (not (is_fine (probs_in_count unit.now.count))
+        || not (has_shares unit.now.occ) || not (has_shares unit.now.agr)) }
 {
-    let counted = count_too_fine(&unit.count);
-    if counted {
-        return Ok(true);
+    count_too_fine(&unit.count) || is_too_fine(&clauses.occ) || is_too_fine(&clauses.agr)
+}
+
+/// Whether the shares of a clause are not fine.
+fn is_too_fine(made: &MadeClause) -> bool
+    ensures { (clause : Option ClauseInGrid) → made.now ≡ made_of clause
+        → result ≡ not (has_shares clause) }
+{
+    match made {
+        MadeClause::Missing => false,
+        MadeClause::TooFine => true,
+        MadeClause::Whole(..) => false,
     }
-    let first = has_shares(alloc, &unit.occ)?;
-    if !first {
-        return Ok(true);
-    }
-    let second = has_shares(alloc, &unit.agr)?;
-    Ok(!second)
 }
 
 /// Whether the probabilities of listed counts are not fine.
-fn count_too_fine(count: &ReadCount) -> bool
-    ensures { result ≡ list_any (λ l. not (is_fine l.values)) (probs_in_count count.now) }
+fn count_too_fine(count: &GridCount) -> bool
+    requires { IsGridCount count.now }
+    ensures { result ≡ not (is_fine (probs_in_count count.now)) }
 {
     match count {
-        ReadCount::Exposed { .. } => false,
-        ReadCount::Listed { probs, .. } => second_too_fine(probs),
+        GridCount::Exposed { .. } => false,
+        GridCount::Listed { probs, .. } => !are_fine(probs),
     }
 }
 
-/// Whether the shares of a clause that may be missing are fine.
-fn has_shares(alloc: Global, cession: &Option<GridClause>) -> Result<bool, AllocError>
-    requires layered { IfSome cession.now IsClauseLayered }
-    ensures { IfOk result (λ fine. fine ≡ has_shares cession.now) }
-{
-    match cession {
-        Some(cession) => Ok(clause(alloc, cession)?.is_some()),
-        None => Ok(true),
-    }
-}
-
-/// Whether the expected loss, the expected count, or for a Poisson or a gamma count the expected
-/// number of claims above 0, is not admitted.
+/// The claim count of a unit with so many expected claims, of them so many above 0; none where the
+/// expected loss, the expected count, or for a Poisson or a gamma count the number above 0, is not
+/// admitted.
 #[tactic(auto, unfolding(crate::specs::Rules::exposed_too_fine))]
-pub(crate) fn exposed_too_fine(count: &ReadCount, claims: &Claims) -> bool
-    ensures { result ≡ exposed_too_fine count.now claims.now.count claims.now.above }
+pub(crate) fn fine_count<'a>(
+    count: &'a GridCount,
+    number: &Option<Frac>,
+    above: &Option<Frac>,
+) -> Option<UnitCount<'a>>
+    requires { IsNumberOf count.now number.now }
+    ensures { MatchOption result (exposed_too_fine count.now number.now above.now ≡ true)
+        (λ made. (exposed_too_fine count.now number.now above.now ≡ false)
+        × IsUnitCount count.now number.now made) }
 {
     match count {
-        ReadCount::Listed { .. } => false,
-        ReadCount::Exposed { exposure, freq } => {
-            loss_too_fine(exposure)
-                || claims.count.is_none()
-                || is_unbounded(freq) && claims.above.is_none()
+        GridCount::Listed { counts, probs } => Some(UnitCount::Listed(counts, probs)),
+        GridCount::Exposed { exposure, freq } => {
+            if loss_too_fine(exposure) || is_unbounded(freq) && above.is_none() {
+                return None;
+            }
+            match number {
+                Some(number) => Some(UnitCount::Exposed(*exposure, *freq, *number)),
+                None => None,
+            }
         }
     }
 }
 
 /// Whether there is no greatest number of claims.
-fn is_unbounded(freq: &ReadFreq) -> bool
+fn is_unbounded(freq: &GridFreq) -> bool
     ensures { result ≡ is_unbounded freq.now }
 {
-    matches!(freq, ReadFreq::Poisson(_) | ReadFreq::Gamma(_, _))
+    matches!(freq, GridFreq::Poisson(_) | GridFreq::Gamma(_, _))
 }
 
 /// Whether the expected loss of an exposure, if it is one, is not admitted.
-fn loss_too_fine(exposure: &ReadExposure) -> bool
+fn loss_too_fine(exposure: &GridExposure) -> bool
     ensures { result ≡ loss_too_fine (expected_loss exposure.now) }
 {
     match exposure {
-        ReadExposure::Claims(..) => false,
-        ReadExposure::Loss(number, _) => !is_admitted(*number),
-        ReadExposure::Premium { amount, ratio, .. } => match amount.mul(*ratio) {
+        GridExposure::Claims(..) => false,
+        GridExposure::Loss(number, _) => !is_admitted(*number),
+        GridExposure::Premium { amount, ratio, .. } => match amount.mul(*ratio) {
             Ok(loss) => !is_admitted(loss),
             Err(_) => true,
         },

@@ -3,33 +3,33 @@
 ghost use Rattle.std.specs.Prelude.{◌≡◌, ◌||◌, not, Some};
 ghost use Rattle.dl_limits.specs.Limits.{most_expected};
 ghost use Rattle.dl_exact.specs.Fraction.{whole, ◌/ℚ◌};
-ghost use Rattle.dl_read.specs.declared.tree.ReadCount.TheVariants.{Exposed};
-ghost use Rattle.dl_read.specs.declared.tree.ReadExposure.{ReadExposure as ExposureRead};
-ghost use Rattle.dl_read.specs.Lists.{is_whole, is_zero};
+ghost use Rattle.dl_buckets.specs.declared.grid.GridCount.TheVariants.{Exposed};
+ghost use Rattle.dl_buckets.specs.declared.grid.GridExposure.{GridExposure as ExposureRead};
+ghost use Rattle.dl_buckets.specs.Lists.{is_whole, is_zero};
 ghost use Rattle.dl_types.specs.Exposures.{is_there_and, shape_of};
 ghost use Rattle.dl_types.specs.Kept.{AreTrials, IsShaped, IsWholeFreq, IsFreqKept};
 ghost use Rattle.dl_types.specs.Plans.{freq_with};
 ghost use Rattle.dl_types.specs.Rules.{has_too_many_claims, passes};
 
 use crate::counts::passes;
+use dl_buckets::GridFreq;
 use dl_frac::Frac;
 use dl_limits::{MOST_CLAIMS, MOST_EXPECTED, MOST_SHAPE};
 use dl_plan::Freq;
-use dl_read::ReadFreq;
 
 /// Whether a distribution with so many expected claims, and so many above 0, has too many.
 #[tactic(auto, unfolding(crate::specs::Rules::has_too_many_claims))]
-pub(crate) fn exposed_too_many(freq: &ReadFreq, number: Frac, above: &Option<Frac>) -> bool
+pub(crate) fn exposed_too_many(freq: &GridFreq, number: Frac, above: &Option<Frac>) -> bool
     requires { IsWholeFreq freq.now number }
     ensures { (exposure : ExposureRead) → result
         ≡ has_too_many_claims (Exposed exposure freq.now) (Some number) above.now }
 {
     match freq {
-        ReadFreq::Fixed(_) => passes(number, MOST_CLAIMS),
-        ReadFreq::Bernoulli(_) => false,
-        ReadFreq::Binomial(chance, _) => trials(number, *chance) > MOST_CLAIMS as u128,
-        ReadFreq::Poisson(_) => is_above_most(above),
-        ReadFreq::Gamma(variation, _) => {
+        GridFreq::Fixed(_) => passes(number, MOST_CLAIMS),
+        GridFreq::Bernoulli(_) => false,
+        GridFreq::Binomial(chance, _) => trials(number, *chance) > MOST_CLAIMS as u128,
+        GridFreq::Poisson(_) => is_above_most(above),
+        GridFreq::Gamma(variation, _) => {
             is_above_most(above) || shape(*variation) > MOST_SHAPE as u128
         }
     }
@@ -46,19 +46,19 @@ fn is_above_most(above: &Option<Frac>) -> bool
 }
 
 /// The claim count of a distribution that breaks no rule, with so many expected claims.
-pub(crate) fn exposed_count(freq: &ReadFreq, number: Frac) -> Freq
+pub(crate) fn exposed_count(freq: &GridFreq, number: Frac) -> Freq
     requires { IsFreqKept freq.now number }
     ensures { result ≡ freq_with freq.now number }
 {
     match freq {
-        ReadFreq::Fixed(_) => Freq::Fixed(number.num() as u32),
-        ReadFreq::Bernoulli(_) => Freq::Bernoulli(number),
-        ReadFreq::Binomial(chance, _) => Freq::Binomial {
+        GridFreq::Fixed(_) => Freq::Fixed(number.num() as u32),
+        GridFreq::Bernoulli(_) => Freq::Bernoulli(number),
+        GridFreq::Binomial(chance, _) => Freq::Binomial {
             trials: trials(number, *chance) as u32,
             q: *chance,
         },
-        ReadFreq::Poisson(_) => Freq::Poisson(number),
-        ReadFreq::Gamma(variation, _) => Freq::Gamma {
+        GridFreq::Poisson(_) => Freq::Poisson(number),
+        GridFreq::Gamma(variation, _) => Freq::Gamma {
             shape: shape(*variation) as u32,
             mean: number,
         },

@@ -1,7 +1,7 @@
 //! The plan of a program, or its first fault.
 
 ghost use Rattle.std.specs.Prelude.{◌≡◌, ◌≤◌, ℕ, [], None, Ok, All, length};
-ghost use Rattle.dl_read.specs.First.{in_turn};
+ghost use Rattle.dl_buckets.specs.First.{in_turn};
 ghost use Rattle.dl_types.specs.Faults.{fault_of_severity};
 ghost use Rattle.dl_limits.specs.Limits.{most_units};
 ghost use Rattle.dl_ast.specs.WellFormed.{IsWellFormed, IsFormedUnit, IsFormedDefinition};
@@ -12,8 +12,9 @@ ghost use Rattle.dl_types.specs.Answer.{IsCheckOf, AnswersUnits};
 use crate::changes::shared_shape;
 use crate::fault::{CheckFault, TypeFault};
 use crate::rule::Rule;
+use crate::scale::cells;
 use crate::severities::check_severities;
-use crate::unit::{cells, check_unit};
+use crate::unit::check_unit;
 use dl_ast::{PortHead, Program, SevDef, UnitAst};
 use dl_lexer::Span;
 use dl_limits::MOST_UNITS;
@@ -102,9 +103,13 @@ fn check_units(
     ensures { AnswersUnits settings.now port.now sevs.now units.now result }
 {
     let mut names = IndexSet::new(alloc);
+    let mut known = Vec::new(alloc);
     let mut made = Vec::new(alloc);
     'units: for (at, unit) in units.iter().enumerate() {
-        match check_unit(alloc, &mut names, port, sevs, &units[..at], unit, settings) {
+        let before = &units[..at];
+        match check_unit(
+            alloc, &mut names, &mut known, port, sevs, before, unit, settings,
+        ) {
             Ok(unit) => made.push(unit)?,
             Err(fault) => return Err(fault),
         }

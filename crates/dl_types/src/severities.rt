@@ -1,11 +1,11 @@
 //! Severities with names: what a reference stands for, and the rule on their names.
 
 ghost use Rattle.std.specs.Prelude.{◌≡◌, ◌<◌, ◌^◌, ◌∷◌, ◌++◌, [], None, Some, IfOk, IfSome, IfNone, length, map};
-ghost use Rattle.dl_read.specs.First.{in_turn};
+ghost use Rattle.dl_buckets.specs.First.{in_turn};
 ghost use Rattle.dl_types.specs.Answer.{TellsFault};
 ghost use Rattle.dl_types.specs.Faults.{fault_of_severity};
 ghost use Rattle.dl_types.specs.Rules.{duplicate_severity};
-ghost use Rattle.dl_types.specs.Severities.{named, mixture_of, body_span};
+ghost use Rattle.dl_types.specs.Severities.{named, body_span};
 ghost use Rattle.dl_types.specs.UnitNames.{severity_names};
 
 use crate::fault::{CheckFault, TypeFault};
@@ -15,21 +15,8 @@ use dl_lexer::Span;
 use indexmap::IndexSet;
 use std::alloc::{AllocError, Global};
 
-/// The mixture that a severity is: its own, or that of the first of these severities which has its
-/// name; none where none has it.
-#[tactic(auto, unfolding(crate::specs::Severities::mixture_of))]
-pub(crate) fn mixture<'a>(sevs: &'a [SevDef], body: &'a SevBody) -> Option<&'a MixAst>
-    ensures found { IfSome result (λ mix. mixture_of sevs.now body.now ≡ Some mix.now) }
-    ensures none { IfNone result (mixture_of sevs.now body.now ≡ None) }
-{
-    match body {
-        SevBody::Mixture(mix) => Some(mix),
-        SevBody::Ref(name) => named(sevs, name.text.as_slice()),
-    }
-}
-
 /// The mixture of the first of these severities that has this name.
-fn named<'a>(sevs: &'a [SevDef], name: &[u8]) -> Option<&'a MixAst>
+pub(crate) fn named<'a>(sevs: &'a [SevDef], name: &[u8]) -> Option<&'a MixAst>
     ensures found { IfSome result (λ mix. named sevs.now name.now ≡ Some mix.now) }
     ensures none { IfNone result (named sevs.now name.now ≡ None) }
 {

@@ -17,7 +17,36 @@ use std::alloc::Global;
 /// none where it breaks no rule.
 type Case = (&'static [u8], Option<(u32, Rule, u32)>);
 
-const CASES: [Case; 77] = [
+const CASES: [Case; 85] = [
+    (
+        b"sev A dsev [1 1.5] port P agg X dfreq [1] sev.A agg Y dfreq [1] sev.A",
+        Some((0, Rule::OffGrid, 14)),
+    ),
+    (
+        b"sev A dsev [1.5] agg X dfreq [1] 2.5 xs 0 sev.A",
+        Some((0, Rule::OffGrid, 12)),
+    ),
+    (
+        b"sev A dsev [1] port P agg X dfreq [1] sev.A agg Y dfreq [1] inf xs 6 sev.A",
+        Some((1, Rule::NoneAbove, 60)),
+    ),
+    (
+        b"sev A dsev [1] sev B dsev [9] port P agg X dfreq [1] sev.A agg Y dfreq [1] inf xs 6 sev.B",
+        None,
+    ),
+    (b"sev A dsev [1.5] agg X dfreq [1] dsev [1]", None),
+    (
+        b"agg A dfreq [1] dsev [1] occurrence net of 1/2000000011 so 1 xs 0 aggregate net of 1/2 so 1 xs 0",
+        Some((0, Rule::TooFine, 4)),
+    ),
+    (
+        b"agg A dfreq [1] dsev [1] aggregate net of 1/2000000011 so 1 xs 0",
+        Some((0, Rule::TooFine, 4)),
+    ),
+    (
+        b"agg A dfreq [1] 1 xs 2 dsev [1 3] [1 0]",
+        Some((0, Rule::NoneAbove, 16)),
+    ),
     (
         b"port P agg A 1 claims dsev [1] fixed agg A 1 claims dsev [1] fixed",
         Some((1, Rule::DuplicateName, 41)),

@@ -1,7 +1,6 @@
 -- One in sixteen is a fraction of small parts.
-use Rattle.dl_types.proofs.Common.{◌∙◌, ◌||◌, ap, arith, ◌over◌}
-use Rattle.dl_plan.proofs.Fits.{over_fits, given_ok, given_value}
-use Rattle.dl_read.specs.Lists.{is_above}
+use Rattle.dl_types.proofs.Common.{arith, ◌over◌}
+use Rattle.dl_plan.proofs.Fits.{over_fits, given_ok}
 use Rattle.dl_types.proofs.changes.is_no_base.Goals as goal
 
 pub unwrap-rarest-requires : goal.unwrap-rarest-requires

@@ -1,31 +1,42 @@
--- The shape of a numeral that is read.
-use Rattle.dl_types.proofs.Common.{◌≡◌, ◌∙◌, ◌<◌, ap, sym, subst, not-false, false, is_whole, whole_num, shape_of, Fraction}
+-- A numeral that is read has a whole shape or none.
+use Rattle.dl_types.proofs.Common.{◌≡◌, ◌∙◌, ◌||◌, Bool, true, false, not, refl, sym, ap, whole_num, is_whole, shape_of, Fraction}
 use Rattle.std.proofs.lemmas.Bool.{or_parts}
+use Rattle.std.proofs.Math.Bool.{or-true}
 use Rattle.dl_plan.proofs.NumeralLaws.{numeral_to}
-use Rattle.dl_read.specs.BadNumerals.{value, is_bad_numeral}
-use Rattle.dl_read.specs.Lists.{is_zero}
-use Rattle.dl_types.specs.Kept.{IsShaped}
+use Rattle.dl_buckets.specs.Values.{value, is_bad_numeral}
+use Rattle.dl_buckets.specs.Lists.{is_zero}
 use Rattle.dl_types.proofs.ExposedCounts.{shape_above}
 use Rattle.dl_types.proofs.changes.shape_in.Goals as goal
 
+abbrev no_shape : Fraction → Bool
+no_shape v = is_zero v || not (is_whole (shape_of v))
+
 pub numeral-requires-clause-spelled : goal.numeral-requires-clause-spelled
-numeral-requires-clause-spelled c = rw c.as_slice.ensures (numeral_to c.args.variation.now.text c.requires.formed)
+numeral-requires-clause-spelled c = rw c.as_slice.ensures (numeral_to c.args.variation.now.text c.requires)
 
-pub shape-requires : goal.shape-requires
-shape-requires c =
-    let parts = or_parts (is_bad_numeral c.args.variation.now) _ c.requires.shaped in
-    let shaped = or_parts (is_zero (value c.args.variation.now)) _ parts.1 in
-    subst IsShaped (sym (rw c.as_slice.ensures at c.in-Ok.ensures.value))
-    (record { above = shaped.0; whole = not-false _ shaped.1 })
+good_or : (bad rest : Bool) → (bad ≡ true → false ≡ true) → rest ≡ (bad || rest)
+good_or true rest good = absurd (let e = good refl in cc)
+good_or false rest good = refl
 
-pub returns-clause-value : goal.returns-clause-value
-returns-clause-value c =
-    sym (whole_num c.shape.result) ∙ ap (λ (x : Fraction). x.num) c.shape.ensures
-    ∙ ap (λ v. (shape_of v).num) (rw c.as_slice.ensures at c.in-Ok.ensures.value)
+pub returns-then-has_no_shape : goal.returns-then-has_no_shape
+returns-then-has_no_shape c =
+    let same = rw c.as_slice.ensures at c.in-Ok.ensures.value in
+    ap (λ b. is_bad_numeral c.args.variation.now || b)
+    (sym (ap no_shape same) ∙ sym c.has_no_shape.ensures ∙ c.if-has_no_shape.true)
+    ∙ or-true (is_bad_numeral c.args.variation.now)
 
-pub returns-clause-some : goal.returns-clause-some
-returns-clause-some c =
-    let parts = or_parts (is_bad_numeral c.args.variation.now) _ c.requires.shaped in
-    let shaped = or_parts (is_zero (value c.args.variation.now)) _ parts.1 in
-    shape_above c.shape.result c.in-Ok.value
-    (subst (λ v. is_zero v ≡ false) (sym (rw c.as_slice.ensures at c.in-Ok.ensures.value)) shaped.0) c.shape.ensures
+pub returns-else-has_no_shape : goal.returns-else-has_no_shape
+returns-else-has_no_shape c =
+    let same = rw c.as_slice.ensures at c.in-Ok.ensures.value in
+    let none : no_shape c.in-Ok.value ≡ false = sym c.has_no_shape.ensures ∙ c.if-has_no_shape.false in
+    record {
+      good = sym (rw c.as_slice.ensures at (good_or _ (no_shape (value c.args.variation.now)) c.in-Ok.ensures.bad.1))
+          ∙ sym (ap no_shape same) ∙ none;
+      value = sym (whole_num c.shape.result) ∙ ap (λ (x : Fraction). x.num) c.shape.ensures
+          ∙ ap (λ v. (shape_of v).num) same;
+      some = shape_above c.shape.result c.in-Ok.value (or_parts _ _ none).0 c.shape.ensures;
+    }
+
+pub returns-in-Err : goal.returns-in-Err
+returns-in-Err c =
+    rw c.as_slice.ensures at (ap (λ b. b || no_shape (value c.args.variation.now)) (c.in-Err.ensures.bad.0 refl))

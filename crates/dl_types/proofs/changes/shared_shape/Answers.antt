@@ -1,25 +1,84 @@
 -- The units of the plan are as large as those of the program.
-use Rattle.dl_types.proofs.Common.{Some, None}
+use Rattle.dl_types.proofs.Common.{◌∙◌, ◌≤◌, suc, arith, Some, None, sym, ap, map, IfSome, at_if, most_shape}
+use Rattle.dl_ast.specs.WellFormed.{IsFormedHead}
+use Rattle.dl_lexer.specs.Numerals.{IsNumeralToken}
+use Rattle.dl_types.specs.Factor.{IsShapeIn, part_of}
+use Rattle.dl_types.proofs.FactorBounds.{small_shape}
 use Rattle.dl_types.proofs.FactorParts.{all_counted, size_last}
-use Rattle.dl_types.proofs.FactorKept.{factor_there}
+use Rattle.dl_types.proofs.FactorKept.{no_port, no_common, shape_place, good_place, size_is, shape_written, bad_told, factor_there, shape_shared}
 use Rattle.dl_types.proofs.changes.shared_shape.Goals as goal
 
-pub factor_shape-requires-clause-counted : goal.factor_shape-requires-clause-counted
-factor_shape-requires-clause-counted c =
-    all_counted c.args.settings.now c.args.program.now.port c.args.program.now.sevs c.args.program.now.units
-    c.args.units.now c.requires.units
+pub returns-in_default-clause-kept : goal.returns-in_default-clause-kept
+returns-in_default-clause-kept c = no_port c.args.settings.now c.args.program.now c.in_default.is
 
-pub returns-in-Ok-clause-kept : goal.returns-in-Ok-clause-kept
-returns-in-Ok-clause-kept c =
-    size_last c.args.settings.now c.args.program.now c.args.units.now None c.requires.units c.in_default.ensures
-    c.in-Ok.ensures.kept
+pub returns-in_default-common-clause-kept : goal.returns-in_default-common-clause-kept
+returns-in_default-common-clause-kept c =
+    no_common c.args.settings.now c.args.program.now c.in-Some.head c.in-Some.is c.in_default-common.is
 
-pub returns-in-Ok-clause-factor : goal.returns-in-Ok-clause-factor
-returns-in-Ok-clause-factor c =
-    factor_there c.args.settings.now c.args.program.now c.args.units.now c.requires.units c.in-Ok.shape
-    c.in-Ok.ensures.shape c.in-Ok.ensures.small
+pub shape_in-requires : goal.shape_in-requires
+shape_in-requires c =
+    let head : IsFormedHead c.in-Some.head = rw c.in-Some.is at c.requires.head in
+    let common : IfSome c.in-Some.head.common (λ n. IsNumeralToken n.text) = head.common in
+    rw c.in-Some-common.is at common
 
-pub returns-in-Err-clause-broken : goal.returns-in-Err-clause-broken
-returns-in-Err-clause-broken c =
-    size_last c.args.settings.now c.args.program.now c.args.units.now (Some c.in-Err.span) c.requires.units
-    c.in_default.ensures c.in-Err.ensures.broken
+pub returns-in_default-shape_in-clause-broken : goal.returns-in_default-shape_in-clause-broken
+returns-in_default-shape_in-clause-broken c =
+    let n = c.in-Some-common.variation in
+    let bad = rw c.in_default-shape_in.is at c.shape_in.ensures in
+    bad_told c.args.settings.now c.args.program.now n.span
+    (shape_place c.args.program.now.port c.in-Some.head n c.in-Some.is c.in-Some-common.is
+    ∙ ap (λ b. at_if b n.span) bad)
+    ∙ ap Some (sym c.of_portfolio.ensures)
+
+pub is_too_large-requires-clause-counted : goal.is_too_large-requires-clause-counted
+is_too_large-requires-clause-counted c =
+    let program = c.args.program.now in
+    let written = shape_written program.port c.in-Some.head c.in-Some-common.variation c.in-Some.is c.in-Some-common.is
+    c.in-Some-shape_in.shape c.in-Some-shape_in.ensures in
+    all_counted c.args.settings.now program.port program.sevs program.units c.args.units.now c.requires.units
+    (shape_shared program.port c.in-Some-shape_in.shape written)
+
+pub returns-then-is_too_large-clause-broken : goal.returns-then-is_too_large-clause-broken
+returns-then-is_too_large-clause-broken c =
+    let program = c.args.program.now in
+    let head = c.in-Some.head in
+    let n = c.in-Some-common.variation in
+    let r = c.in-Some-shape_in.shape in
+    let parts = map part_of c.args.units.now in
+    size_last c.args.settings.now program c.args.units.now (Some head.name.span) c.requires.units
+    (good_place program.port head n c.in-Some.is c.in-Some-common.is r c.in-Some-shape_in.ensures)
+    (size_is program.port head n c.in-Some.is c.in-Some-common.is r c.in-Some-shape_in.ensures parts
+    ∙ ap (λ b. at_if b head.name.span) (sym c.if-is_too_large.ensures))
+    ∙ ap Some (sym c.of_portfolio-then-is_too_large.ensures)
+
+pub overflow_cast-result : goal.overflow_cast-result
+overflow_cast-result c =
+    let few : suc c.in-Some-shape_in.shape ≤ most_shape =
+    small_shape c.in-Some-shape_in.shape (map part_of c.args.units.now) (sym c.if-is_too_large.ensures) in
+    omega (arith, few)
+
+pub returns-clause-kept : goal.returns-clause-kept
+returns-clause-kept c =
+    let program = c.args.program.now in
+    let head = c.in-Some.head in
+    let n = c.in-Some-common.variation in
+    let r = c.in-Some-shape_in.shape in
+    let parts = map part_of c.args.units.now in
+    size_last c.args.settings.now program c.args.units.now None c.requires.units
+    (good_place program.port head n c.in-Some.is c.in-Some-common.is r c.in-Some-shape_in.ensures)
+    (size_is program.port head n c.in-Some.is c.in-Some-common.is r c.in-Some-shape_in.ensures parts
+    ∙ ap (λ b. at_if b head.name.span) (sym c.if-is_too_large.ensures))
+
+pub returns-clause-shape : goal.returns-clause-shape
+returns-clause-shape c =
+    shape_written c.args.program.now.port c.in-Some.head c.in-Some-common.variation c.in-Some.is c.in-Some-common.is
+    c.in-Some-shape_in.shape c.in-Some-shape_in.ensures
+
+pub returns-clause-factor : goal.returns-clause-factor
+returns-clause-factor c =
+    let program = c.args.program.now in
+    let shape : IsShapeIn c.in-Some-common.variation c.in-Some-shape_in.shape = c.in-Some-shape_in.ensures in
+    let written = shape_written program.port c.in-Some.head c.in-Some-common.variation c.in-Some.is c.in-Some-common.is
+    c.in-Some-shape_in.shape shape in
+    factor_there c.args.settings.now program c.args.units.now c.requires.units (Some c.in-Some-shape_in.shape)
+    written (shape.some, sym c.if-is_too_large.ensures)

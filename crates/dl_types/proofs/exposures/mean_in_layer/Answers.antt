@@ -2,15 +2,16 @@
 use Rattle.dl_types.proofs.Common.{◌≡◌, ◌∙◌, sym, subst, whole, ◌<ℚ◌, mean_amount, severity_in_layer, not-false}
 use Rattle.dl_limits.specs.Limits.{most_amount}
 use Rattle.dl_plan.specs.Severity.{pairs_of}
-use Rattle.dl_amounts.proofs.Near.{in_layer_near}
-use Rattle.dl_amounts.proofs.Meaning.{scored_alike, alike_own}
+use Rattle.dl_buckets.proofs.Near.{in_layer_near, items_near}
+use Rattle.dl_buckets.proofs.Meaning.{scored_alike, alike_own}
 use Rattle.dl_types.proofs.Exposed.{mean_above}
 use Rattle.dl_types.proofs.exposures.mean_in_layer.Goals as goal
 
 pub mean-requires : goal.mean-requires
 mean-requires c =
-    in_layer_near c.args.unit.now.layer c.args.unit.now.sev c.args.layered.now c.requires.layered most_amount
-    (λ k d h. (c.requires.grid.sev.atoms k d h).near)
+    let u = c.args.unit.now in
+    items_near most_amount c.args.layered.now (severity_in_layer u) c.requires.layered
+    (in_layer_near u.layer u.bang u.sev most_amount (λ k d h. (c.requires.grid.sev.atoms k d h).near))
 
 pub returns-clause-mean : goal.returns-clause-mean
 returns-clause-mean c =

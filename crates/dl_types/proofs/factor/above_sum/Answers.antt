@@ -1,5 +1,5 @@
 -- Each sum is admitted, or there is none.
-use Rattle.dl_types.proofs.Common.{◌≡◌, ◌∙◌, Some, None, true, ap, sym, whole, admitted}
+use Rattle.dl_types.proofs.Common.{◌∙◌, Some, true, ap, sym, admitted}
 use Rattle.dl_exact.specs.Fraction.{◌+ℚ◌}
 use Rattle.dl_plan.specs.Means.{thinned_mean}
 unfoldable use Rattle.dl_types.specs.Factor.{running_sum}

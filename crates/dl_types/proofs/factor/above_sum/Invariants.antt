@@ -1,6 +1,5 @@
 -- The sum of the units so far.
 use Rattle.dl_types.proofs.Common.{◌≡◌, map, take, Some, whole}
-use Rattle.dl_plan.specs.declared.plan.Unit.{Unit as UnitOfPlan}
 use Rattle.dl_plan.specs.Means.{thinned_mean}
 use Rattle.dl_types.specs.Factor.{running_sum}
 use Rattle.dl_types.proofs.factor.above_sum.Given as goal

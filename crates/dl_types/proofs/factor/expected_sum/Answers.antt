@@ -1,5 +1,5 @@
 -- Each sum is admitted, or there is none.
-use Rattle.dl_types.proofs.Common.{◌≡◌, ◌∙◌, Some, None, true, ap, sym, refl, arith, whole, admitted}
+use Rattle.dl_types.proofs.Common.{◌∙◌, Some, true, ap, sym, admitted}
 use Rattle.dl_exact.specs.Fraction.{◌+ℚ◌}
 use Rattle.dl_plan.specs.declared.plan.Unit.{Unit as UnitOfPlan}
 use Rattle.dl_plan.specs.Count.{expected_count}

@@ -1,6 +1,5 @@
 -- The sums are there, or one is not.
-use Rattle.dl_types.proofs.Common.{◌≡◌, ◌∙◌, Some, None, whole, arith, sym, subst, get_or, Fraction, ◌≤ℚ◌}
-use Rattle.std.specs.Prelude.{slice_index_or}
+use Rattle.dl_types.proofs.Common.{◌∙◌, arith, sym}
 use Rattle.dl_plan.specs.declared.plan.Unit.{Unit as UnitOfPlan}
 use Rattle.dl_plan.specs.Count.{expected_count}
 use Rattle.dl_plan.specs.Means.{thinned_mean}

@@ -1,8 +1,8 @@
 -- The tests in the order of the code.
-use Rattle.dl_types.proofs.Common.{◌≡◌, ◌∙◌, ◌==◌, ◌&&◌, Bool, true, false, not, map, sym, ap, subst, arith, is_some, Option, Fraction}
+use Rattle.dl_types.proofs.Common.{◌≡◌, ◌∙◌, true, false, not, map, sym, ap, subst, is_some, Option, Fraction}
 use Rattle.dl_limits.specs.Limits.{most_expected}
 use Rattle.dl_plan.specs.Common.{raised, unit_share, shared_probabilities}
-use Rattle.dl_read.specs.Lists.{is_fine, is_zero}
+use Rattle.dl_buckets.specs.Lists.{is_fine, is_zero}
 use Rattle.std.proofs.Common.{flat_map}
 use Rattle.dl_types.specs.Factor.{is_raised_coarse}
 use Rattle.dl_types.specs.Rules.{passes}

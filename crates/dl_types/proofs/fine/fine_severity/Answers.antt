@@ -1,16 +1,23 @@
 -- The severity is there, and the other fractions are fine.
-use Rattle.dl_types.proofs.Common.{◌∙◌, sym}
+use Rattle.dl_types.proofs.Common.{◌∙◌, sym, subst, Means}
+use Rattle.dl_plan.specs.Severity.{pairs_of}
+use Rattle.dl_buckets.specs.Kept.{IsFineSev}
+use Rattle.dl_buckets.specs.Severity.{KeepsWhole, made_pairs}
+use Rattle.dl_buckets.proofs.FineUnits.{keeps_whole, final_means, final_near, final_few}
 use Rattle.dl_types.proofs.FineClaims.{coarse_severity, fine_parts}
 use Rattle.dl_types.proofs.fine.fine_severity.Goals as goal
 
-pub final_severity-requires-clause-fine : goal.final_severity-requires-clause-fine
-final_severity-requires-clause-fine c =
+pub final_severity-requires : goal.final_severity-requires
+final_severity-requires c =
+    let u = c.args.unit.now in
     let told = rw c.in-Some.is at c.requires.layered in
-    record {
+    let fine : IsFineSev u = record {
       layered = c.requires.unit;
       ceded = c.requires.ceded;
-      fine = fine_parts c.args.unit.now told.0 (sym c.in_ok-coarse.ensures ∙ c.if-coarse.false);
-    }
+      fine = fine_parts u told.0 (sym c.parts_too_fine.ensures ∙ c.if-parts_too_fine.false);
+    } in
+    subst (λ made. KeepsWhole made c.in-Some.layered) (sym c.requires.made.occ)
+    (keeps_whole u fine c.in-Some.layered told.1)
 
 pub returns-in_default : goal.returns-in_default
 returns-in_default c =
@@ -19,7 +26,11 @@ returns-in_default c =
 
 pub returns : goal.returns
 returns c =
-    let told = rw c.in-Some.is at c.requires.layered in (
-      fine_parts c.args.unit.now told.0 (sym c.in_ok-coarse.ensures ∙ c.if-coarse.false),
-      record { means = c.in_ok-made.ensures.means; near = c.in_ok-made.ensures.near; few = c.in_ok-made.ensures.few },
-    )
+    let u = c.args.unit.now in
+    let sev = c.in_ok-made.made in
+    let told = rw c.in-Some.is at c.requires.layered in
+    let parts = fine_parts u told.0 (sym c.parts_too_fine.ensures ∙ c.if-parts_too_fine.false) in
+    let fine : IsFineSev u = record { layered = c.requires.unit; ceded = c.requires.ceded; fine = parts } in
+    let means = final_means u fine c.in-Some.layered sev told.1
+    (subst (λ made. Means sev (made_pairs made (pairs_of c.in-Some.layered))) c.requires.made.occ c.in_ok-made.ensures) in
+    (parts, record { means = means; near = final_near u fine sev means; few = final_few u fine sev means })

@@ -20,6 +20,7 @@ units-preserved c = record {
       c.units-test.true c.index-units-at.is c.in-Ok.ensures.answer);
   names = c.in-Ok.ensures.names ∙ names_more c.args.units.now c.units.at c.index-units-at.result c.units-test.true
       c.index-units-at.is;
+  known = c.in-Ok.ensures.known;
 }
 
 pub returns : goal.returns

@@ -1,5 +1,6 @@
 -- The units so far, and their names.
-use Rattle.dl_types.proofs.Common.{◌≡◌, map, take, names_of}
+use Rattle.dl_types.proofs.Common.{◌≡◌, All, map, take, names_of}
+use Rattle.dl_types.specs.Known.{IsKnown}
 use Rattle.dl_types.proofs.ProgramUnits.{Planned}
 use Rattle.dl_types.proofs.program.check_units.Given as goal
 
@@ -7,4 +8,5 @@ abbrev pub invariant-units : goal.invariant-units
 invariant-units l = record {
   planned : Planned l.settings l.port l.sevs l.units l.at l.made.items;
   names : map (λ name. name.now) l.names.keys ≡ names_of (take l.at l.units);
+  known : All (IsKnown l.settings l.sevs) l.known.items;
 }

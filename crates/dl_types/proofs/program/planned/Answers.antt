@@ -1,5 +1,5 @@
 -- What the portfolio breaks comes last.
-use Rattle.dl_types.proofs.Common.{Ok, refl, sym, subst, AnswersUnits, IfSome, List}
+use Rattle.dl_types.proofs.Common.{Ok, Some, refl, sym, subst, AnswersUnits, IfSome, List}
 use Rattle.dl_plan.specs.Common.{HasCommonFactor}
 use Rattle.dl_plan.specs.declared.plan.Unit.{Unit as UnitOfPlan}
 use Rattle.dl_types.proofs.ProgramUnits.{fault_of_rest, few_units, plan_of_units}
@@ -15,7 +15,7 @@ shared_shape-requires c = record {
 
 pub returns-in-Err : goal.returns-in-Err
 returns-in-Err c =
-    fault_of_rest c.args.program.now c.args.settings.now c.in-Err.fault c.args.units c.requires.few c.requires.fresh
+    fault_of_rest c.args.program.now c.args.settings.now (Some c.in-Err.fault) c.args.units c.requires.few c.requires.fresh
     c.requires.units c.in-Err.ensures.broken
 
 pub returns-in-Ok : goal.returns-in-Ok

@@ -1,8 +1,8 @@
 -- The severities in turn.
-use Rattle.dl_types.proofs.Common.{◌∙◌, List, [], ap, sym, subst, in_turn}
+use Rattle.dl_types.proofs.Common.{◌∙◌, [], sym, subst, in_turn}
 use Rattle.dl_types.specs.Answer.{StopsAt}
 use Rattle.dl_types.specs.Faults.{fault_of_severity}
-use Rattle.dl_amounts.proofs.Turns.{turn_ended}
+use Rattle.dl_buckets.proofs.Turns.{turn_ended}
 use Rattle.dl_types.proofs.SeverityNames.{severity_names_more}
 use Rattle.dl_types.proofs.LaterFaults.{duplicate_told, duplicate_passed}
 use Rattle.dl_types.proofs.severities.check_severities.Goals as goal

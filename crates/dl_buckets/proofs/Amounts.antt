@@ -1,0 +1,88 @@
+-- An amount of money in whole buckets, and its flaws.
+use Rattle.dl_buckets.proofs.Common.{ℕ, ◌≡◌, ◌∙◌, ◌*◌, ◌/◌, ◌%◌, ◌<◌, ◌≤◌, nat_lt, not, true, false, Option, None, sym, ap, subst, arith, inl, inr, cases_lt, lt-ltb, eq-eqb, eqb-true, Fraction, whole, ◌<ℚ◌, over_lt, whole_num, Span, at_if, is_whole, is_above, not_at, not-false, number_of, IsRead}
+use Rattle.std.proofs.Common.{min, nat_eq}
+use Rattle.std.proofs.lemmas.Bool.{ltb-true}
+use Rattle.std.specs.Cmp.{both_ways}
+use Rattle.dl_exact.proofs.Over.{lt_over}
+use Rattle.dl_sev.specs.Buckets.{buckets}
+use Rattle.dl_sev.proofs.Whole.{same, pos, divides_whole, whole_divides, quotient_whole, whole_lt}
+use Rattle.dl_buckets.specs.Flaws.{places}
+use Rattle.dl_buckets.specs.Reading.{flaws_of_amount}
+use Rattle.dl_buckets.proofs.Agreeing.{agree_same}
+
+yes_above : (x y : Fraction) → y <ℚ x → is_above x y ≡ true
+unfolding ◌<ℚ◌
+yes_above x y h = lt-ltb (y.num * x.den) (x.num * y.den) h
+
+above_yes : (x y : Fraction) → is_above x y ≡ true → y <ℚ x
+unfolding ◌<ℚ◌
+above_yes x y h = ltb-true (y.num * x.den) (x.num * y.den) h
+
+-- a whole number that is not above the most
+not_far : (most q : ℕ) (x : Fraction) → x ≡ whole q → is_above x (whole most) ≡ false → q ≤ most
+not_far most q x e near = elim (cases_lt most q) [
+  | inl far ↦ absurd (cc (
+    near,
+    yes_above x (whole most)
+        (subst (λ y. whole most <ℚ y) (sym e) (whole_lt most q far)),
+  ))
+  | inr few ↦ few
+]
+
+-- n over e is the numerator and the denominator of an amount, m over d those of the bucket size
+module _ (most : ℕ) (x bs : Fraction) (n d e m : ℕ) (h : whole 0 <ℚ bs) (pn : n ≡ x.num) (pd : d ≡ bs.den)
+    (pe : e ≡ x.den) (pm : m ≡ bs.num) where
+  off_grid_is : not (nat_eq (n * d % (e * m)) 0) ≡ not (is_whole (buckets bs x))
+  off_grid_is = ap not (both_ways _ _ (λ t. eq-eqb (buckets bs x).den 1 (divides_whole x bs n d e m h pn pd pe pm t))
+      (λ t. whole_divides x bs n d e m h pn pd pe pm (eqb-true (buckets bs x).den 1 t)))
+
+  far : whole most <ℚ buckets bs x → e * m * most < n * d
+  far above = omega (
+    arith,
+    lt_over most 1 (n * d) (e * m) (omega arith) (pos x bs n d e m h pn pd pe pm)
+        (subst (λ y. whole most <ℚ y) (same x bs n d e m h pn pd pe pm) above),
+  )
+
+  is_far : e * m * most < n * d → whole most <ℚ buckets bs x
+  is_far more = subst (λ y. whole most <ℚ y) (sym (same x bs n d e m h pn pd pe pm))
+      (over_lt most 1 (n * d) (e * m) (omega arith) (pos x bs n d e m h pn pd pe pm) (omega (arith, more)))
+
+  too_far_is : nat_lt (e * m * most) (n * d) ≡ is_above (buckets bs x) (whole most)
+  too_far_is = both_ways _ _ (λ t. yes_above (buckets bs x) (whole most) (is_far (ltb-true _ _ t)))
+      (λ t. lt-ltb _ _ (far (above_yes (buckets bs x) (whole most) t)))
+
+  number_is : (q : ℕ) → q ≡ min (n * d / (e * m)) most → not (is_whole (buckets bs x)) ≡ false
+      → is_above (buckets bs x) (whole most) ≡ false → q ≡ number_of bs x
+  number_is q is on_grid near =
+      let k : ℕ = n * d / (e * m) in
+      let value : buckets bs x ≡ whole k =
+      quotient_whole x bs n d e m h pn pd pe pm (eqb-true (buckets bs x).den 1 (not-false _ on_grid)) in
+      is ∙ within_most k (not_far most k (buckets bs x) value near)
+      ∙ sym (ap (λ (y : Fraction). y.num) value ∙ whole_num k)
+    where
+      within_most : (k : ℕ) → k ≤ most → min k most ≡ k
+      within_most k h = omega (arith, h)
+
+  pub amount_read : (place : Span) (q : ℕ) (off too : Option Span) → q ≡ min (n * d / (e * m)) most
+      → off ≡ at_if (not (nat_eq (n * d % (e * m)) 0)) place → too ≡ at_if (nat_lt (e * m * most) (n * d)) place
+      → IsRead (flaws_of_amount most bs x place) (number_of bs x)
+      (record {
+        part = q;
+        flaws = record {
+          numeral = None;
+          range = None;
+          long = None;
+          lengths = None;
+          sum = None;
+          off_grid = off;
+          too_far = too;
+        };
+      })
+  amount_read place q off too is off_is too_is =
+      let off_told : off ≡ at_if (not (is_whole (buckets bs x))) place = off_is ∙ ap (λ b. at_if b place) off_grid_is in
+      let far_told : too ≡ at_if (is_above (buckets bs x) (whole most)) place =
+      too_is ∙ ap (λ b. at_if b place) too_far_is in
+      record {
+        first = rw (off_told, far_told) (agree_same (places (flaws_of_amount most bs x place)));
+        right = λ clean. number_is q is (not_at _ place clean.1.1.1.1.1.0) (not_at _ place clean.1.1.1.1.1.1.0);
+      }

@@ -1,0 +1,55 @@
+-- The names that the proofs of this crate cite most, passed on from one place. Declares nothing.
+pub use Rattle.std.proofs.Common.{Bool, List, None, Option, Some, [], ap, append_assoc, ap₂, arith, cond, drop, false, filter, flat_map, get_or, inl, inr, length, map, max, mul-pos, nat_lt, not, refl, subst, suc, sym, take, true, zero, zip, ℕ, ◌%◌, ◌&&◌, ◌*◌, ◌++◌, ◌+◌, ◌/◌, ◌<◌, ◌==◌, ◌^◌, ◌||◌, ◌↔◌, ◌∙◌, ◌∷◌, ◌≡◌, ◌≢◌, ◌≤◌, ◌⊎◌}
+pub use Rattle.std.proofs.lemmas.Bool.{cases_lt, eq-eqb, eqb-true, false_from_ne_true, le-leb, le-ltb, leb-true, lt-ltb, ne_eqb, not-false, or_parts}
+pub use Rattle.std.proofs.lemmas.Bool.Decides.{eqb_tells, nat_tests}
+pub use Rattle.std.proofs.lemmas.List.{append-nil, get_or-map, length-map, length-take, map-append, map_more, take_all, take_more}
+pub use Rattle.std.proofs.lemmas.List.Elements.{All-append, All-cons, All-head, All-map, All-nil, All-tail, All-weaker}
+pub use Rattle.std.proofs.lemmas.List.Folds.{list_any_at, list_any_none}
+pub use Rattle.std.proofs.lemmas.List.Sums.{sum_by-cons}
+pub use Rattle.std.specs.List.{All, AllZip, list_any, sum_by}
+pub use Rattle.std.specs.Option.{IfSome, MatchOption}
+pub use Prim.Native.Nat.{◌∣◌}
+pub use Rattle.dl_exact.proofs.Laws.{le_plus, lt_of_lt_of_le, plus_comm, times_zero, zero_or_pos, zero_plus, zero_times}
+pub use Rattle.dl_exact.proofs.Over.{over_lt, over_same, over_self}
+pub use Rattle.dl_exact.proofs.Parts.{num_pos, quotient_is, whole_den, whole_num}
+pub use Rattle.dl_exact.specs.Fraction.{Fraction, whole}
+unfoldable pub use Rattle.dl_exact.specs.Fraction.{◌*ℚ◌, ◌+ℚ◌, ◌/ℚ◌, ◌<ℚ◌, ◌over◌, ◌≤ℚ◌}
+pub use Rattle.dl_lexer.specs.declared.token.Span.{Span}
+pub use Rattle.dl_plan.proofs.CommonDenominators.{common_pos, den_divides}
+pub use Rattle.dl_plan.proofs.Fits.{given_ok, over_fits}
+pub use Rattle.dl_plan.specs.Clause.{Clause, IsClause, Overlap, kept, layer}
+pub use Rattle.dl_plan.specs.Fine.{IsFineTo30Bits, IsWhole, common_denominator}
+pub use Rattle.dl_plan.specs.Severity.{Means, Pairs, conditioned, mass, pairs_of, probability, shares}
+pub use Rattle.dl_plan.specs.Weighted.{amounts_of, weight_at, weight_sum}
+pub use Rattle.dl_plan.specs.declared.cede.CedeLayer.{CedeLayer}
+pub use Rattle.dl_plan.specs.declared.item.Item.{Item}
+pub use Rattle.dl_plan.specs.declared.severity.Sev.{Sev}
+pub use Rattle.dl_sev.proofs.Mapped.{if_ok}
+pub use Rattle.dl_sev.specs.Steps.{ceded_each, layered, mixture, mixture_of, scaled, weighed, with_amounts}
+pub use Rattle.dl_sev.specs.Weighed.{IsWeighing}
+pub use Rattle.dl_sev.specs.Weighing.{sum_of}
+pub use Rattle.dl_sev.specs.declared.weights.Weights.{Weights}
+pub use Rattle.dl_buckets.proofs.Firsts.{at_item, else_or}
+pub use Rattle.dl_buckets.proofs.Nothing.{else_first, else_second, none_each, not_at}
+pub use Rattle.dl_buckets.specs.First.{at_if, first_in, in_turn, within, ◌else◌}
+unfoldable pub use Rattle.dl_buckets.specs.First.{in_turn}
+pub use Rattle.dl_buckets.specs.Lists.{is_above, is_fine, is_not_one, is_one, is_whole, probs_among, probs_in_count, weights_over}
+pub use Rattle.dl_buckets.specs.declared.grid.ValueList.{ValueList}
+pub use Rattle.dl_buckets.specs.declared.grid.Shares.{Shares}
+pub use Rattle.dl_buckets.specs.Small.{IsShares}
+pub use Rattle.dl_buckets.specs.FineParts.{has_atoms, has_severity, has_shares}
+pub use Rattle.dl_buckets.specs.Clauses.{IsMade, ceded_layer, clause_of, made_of, is_off, is_off_multiples, overlaps, share_of, shares_of}
+pub use Rattle.dl_buckets.specs.ClausesKept.{IsClauseLayered}
+pub use Rattle.dl_buckets.specs.Flaws.{IsClean, IsRead, earlier_flaws, flaws_else}
+pub use Rattle.dl_buckets.specs.Grid.{grid_atom, grid_ceded, grid_clause, grid_layer, grid_mixture, number_of}
+pub use Rattle.dl_buckets.specs.GridKept.{IsClauseWithin, IsGridAtom, IsGridClause, IsGridSev, IsGridUnit, IsLayerWithin, IsSevWithin, IsWithin}
+pub use Rattle.dl_buckets.specs.Parts.{AreProbabilities, IsSevWeighted}
+pub use Rattle.dl_buckets.specs.Rules.{common_amount_of, share_exceeds}
+unfoldable pub use Rattle.dl_buckets.specs.Rules.{off_grid_cession, other_length, overlap, overlap_in, share_above_one, share_above_one_in}
+pub use Rattle.dl_buckets.specs.Severity.{atom_pairs, atom_probs, ceded_pairs, final_severity, is_conditioned, layer_pairs, mixed, mixed_pairs, mixture_shares, severity_in_layer, shares_in_mixture, support, weights_of}
+pub use Rattle.dl_buckets.specs.declared.grid.GridAtom.{GridAtom}
+pub use Rattle.dl_buckets.specs.declared.grid.GridCeded.{GridCeded}
+pub use Rattle.dl_buckets.specs.declared.grid.GridClause.{GridClause}
+pub use Rattle.dl_buckets.specs.declared.grid.GridLayer.{GridLayer}
+pub use Rattle.dl_buckets.specs.declared.grid.GridSev.{GridSev}
+pub use Rattle.dl_buckets.specs.declared.grid.GridUnit.{GridUnit}

@@ -1,0 +1,122 @@
+-- What a unit that keeps all rules on its severity gives.
+use Rattle.dl_buckets.proofs.Common.{leb-true, get_or, ◌≡◌, ◌^◌, ◌||◌, ◌&&◌, not, Bool, true, false, Option, Some, None, refl, sym, subst, All, IfSome, ◌≤◌, ℕ, Item, arith, length, length-map, Fraction, IsClause, IsClauseLayered, IsSevWithin, final_severity, made_of, GridSev, IsGridSev, has_atoms, has_severity, weights_of, probs_in_count, GridClause, GridUnit, IsFineTo30Bits, IsWhole, common_denominator, Pairs, Means, pairs_of, kept, Sev, is_fine, clause_of, shares_of, is_off, severity_in_layer, ceded_pairs, mixture_shares, support, off_grid_cession, AreProbabilities, atom_probs, not-false}
+use Rattle.dl_buckets.specs.FineParts.{has_shares}
+use Rattle.dl_buckets.specs.Kept.{IsFineSev}
+use Rattle.dl_buckets.proofs.PastEdges.{whole_unless}
+use Rattle.dl_buckets.proofs.Values.{never}
+use Rattle.std.proofs.lemmas.List.Sums.{AllPass-from_list_all}
+use Rattle.dl_buckets.proofs.Shared.{among_probabilities}
+use Rattle.dl_buckets.specs.Rules.{off_grid_amounts}
+use Rattle.dl_buckets.specs.Severity.{made_pairs, KeepsWhole}
+use Rattle.dl_buckets.proofs.Meaning.{alike_own, mapped_means, means_alike}
+use Rattle.dl_buckets.proofs.ClauseGrids.{occ_layered}
+use Rattle.dl_buckets.proofs.ClauseLaws.{made_cession}
+use Rattle.dl_buckets.proofs.Items.{items_in, support_all}
+use Rattle.dl_buckets.proofs.Near.{ceded_near, in_layer_few, in_layer_near, items_few}
+use Rattle.dl_buckets.proofs.OffGrid.{made_whole, occurrence_none}
+
+-- the parts of a severity that are fine
+pub parts_of : (s : GridSev) → has_severity s ≡ true
+    → (has_atoms s ≡ true) × (is_fine (weights_of s) ≡ true) × (is_fine (mixture_shares s) ≡ true)
+parts_of s e = three (has_atoms s) (is_fine (weights_of s)) (is_fine (mixture_shares s)) e
+  where
+    three : (a b c : Bool) → (a && b && c) ≡ true → (a ≡ true) × (b ≡ true) × (c ≡ true)
+    three true true true h = (refl, refl, refl)
+    three true true false h = absurd (cc)
+    three true false c h = absurd (cc)
+    three false b c h = absurd (cc)
+
+-- the probabilities of each atom, and the weights of the atoms
+pub record IsSevShared (s : GridSev) : Type 0 where
+  pub atoms : All (λ a. AreProbabilities (atom_probs a)) s.atoms
+  pub weights : AreProbabilities (weights_of s)
+
+-- a severity with fine parts has probabilities
+pub sev_shared : (s : GridSev) → IsGridSev s → has_severity s ≡ true → IsSevShared s
+sev_shared s grid e = record {
+  atoms = λ k d h. among_probabilities _ (get_or s.atoms k d).probs (grid.atoms k d h).some (grid.atoms k d h).few
+      (grid.atoms k d h).probs (AllPass-from_list_all _ s.atoms (parts_of s e).0 k d h);
+  weights = among_probabilities _ s.weights grid.some (omega (arith, grid.few)) grid.weights (parts_of s e).1;
+}
+
+none_of : (a b c d : Bool) → (a || b || c || d) ≡ false → (b ≡ false) × (d ≡ false)
+none_of true b c d h = absurd (cc)
+none_of false true c d h = absurd (cc)
+none_of false false true d h = absurd (cc)
+none_of false false false true h = absurd (cc)
+none_of false false false false h = (refl, refl)
+
+module _ (u : GridUnit) (fine : IsFineSev u) where
+  facts : (not (has_shares u.occ) ≡ false) × (not (has_severity u.sev) ≡ false)
+  facts =
+      none_of (not (is_fine (probs_in_count u.count))) (not (has_shares u.occ)) (not (has_shares u.agr))
+      (not (has_severity u.sev)) fine.fine
+
+  pub severity_fine : has_severity u.sev ≡ true
+  severity_fine = not-false _ facts.1
+
+  pub unit_shared : IsSevShared u.sev
+  unit_shared = sev_shared u.sev fine.layered.weighted.grid.sev severity_fine
+
+  pub mixture_fine : IsFineTo30Bits (mixture_shares u.sev)
+  mixture_fine = leb-true (common_denominator (mixture_shares u.sev)) (2 ^ 30) (parts_of u.sev severity_fine).2
+
+  module _ (c : GridClause) (is : u.occ ≡ Some c) where
+    pub shares_fine : is_fine (shares_of c) ≡ true
+    shares_fine = subst (λ o. has_shares o ≡ true) is (not-false _ facts.0)
+
+    pub support_whole : All (λ x. IsWhole (kept (clause_of c) x)) (support (severity_in_layer u))
+    unfolding off_grid_cession
+    support_whole k d h =
+        whole_unless (kept (clause_of c) (get_or (support (severity_in_layer u)) k d)) (never (is_off (clause_of c))
+        (support (severity_in_layer u)) (occurrence_none c (made_of u.agr) (support (severity_in_layer u)) shares_fine
+        (subst (λ o. off_grid_amounts (made_of o) (made_of u.agr) (support (severity_in_layer u)) ≡ None) is fine.ceded))
+        k d h)
+
+    pub cession_is : IsClause (clause_of c)
+    cession_is = made_cession c (subst (λ o. IfSome o IsClauseLayered) is (occ_layered u fine.layered)) shares_fine
+
+  -- what a severity that means the one in the layer gives the occurrence clause
+  pub keeps_whole : (sev : Sev) → Means sev (severity_in_layer u) → KeepsWhole (made_of u.occ) sev
+  keeps_whole sev means = by_clause u.occ refl
+    where
+      by_clause : (o : Option GridClause) → u.occ ≡ o → KeepsWhole (made_of o) sev
+      by_clause None is = tt
+      by_clause (Some c) is = subst (λ made. KeepsWhole made sev) (sym (made_whole c (shares_fine c is)))
+          (cession_is c is, items_in sev (severity_in_layer u) means (λ x. IsWhole (kept (clause_of c) x)) (support_whole c is))
+
+  pub final_means : (layered made : Sev) → Means layered (severity_in_layer u)
+      → Means made (made_pairs (made_of u.occ) (pairs_of layered)) → Means made (final_severity u)
+  final_means layered made means = by_clause u.occ refl
+    where
+      by_clause : (o : Option GridClause) → u.occ ≡ o → Means made (made_pairs (made_of o) (pairs_of layered))
+          → Means made (ceded_pairs o (severity_in_layer u))
+      by_clause None is h = means_alike made _ _ h (alike_own layered _ means)
+      by_clause (Some c) is h = mapped_means layered made (severity_in_layer u) (λ x. (kept (clause_of c) x).num) means
+          (subst (λ m. Means made (made_pairs m (pairs_of layered))) (made_whole c (shares_fine c is)) h)
+
+  module _ (sev : Sev) (means : Means sev (final_severity u)) where
+    -- its amounts are at most what bounds those of the atoms
+    pub final_near : (b : ℕ) → IsSevWithin b u.sev → All (λ (i : Item). i.amount ≤ b) sev.items
+    final_near b within = items_in sev (final_severity u) means (λ x. x ≤ b) (by_clause u.occ refl)
+      where
+        near : All (λ pair. pair.0 ≤ b) (severity_in_layer u)
+        near = in_layer_near u.layer u.bang u.sev b within
+
+        by_clause : (o : Option GridClause) → u.occ ≡ o
+            → All (λ x. x ≤ b) (support (ceded_pairs o (severity_in_layer u)))
+        by_clause None is = support_all (λ x. x ≤ b) (severity_in_layer u) near
+        by_clause (Some c) is = ceded_near b (clause_of c) (severity_in_layer u) (cession_is c is) (support_whole c is) near
+
+    pub final_few : length sev.items ≤ 65536
+    final_few = omega (
+      arith,
+      items_few sev (final_severity u) means,
+      as_many u.occ (severity_in_layer u),
+      in_layer_few u.layer u.bang u.sev fine.layered.weighted.grid.sev,
+    )
+      where
+        as_many : (o : Option GridClause) (ps : Pairs) → length (ceded_pairs o ps) ≡ length ps
+        as_many None ps = refl
+        as_many (Some c) ps = length-map {B = ℕ × Fraction} ps
+            (λ (pair : ℕ × Fraction). ((kept (clause_of c) pair.0).num, pair.1))

@@ -1,0 +1,309 @@
+-- What a unit without flaws keeps in whole buckets, part by part.
+use Rattle.dl_buckets.proofs.Common.{ℕ, ◌≡◌, ◌∙◌, ◌*◌, ◌≤◌, ◌==◌, map, length, nat_lt, not, false, Option, Some, None, refl, sym, ap, arith, All, IfSome, length-map, All-map, eqb-true, eq-eqb, not-false, not_at, Fraction, whole, whole_num, whole_den, Span, IsShares, ◌over◌, subst, probs_among, IsClean, flaws_else, number_of, grid_atom, grid_layer, grid_ceded, grid_clause, grid_mixture, GridLayer, IsGridAtom, IsGridSev, IsLayerWithin, IsClauseWithin, IsSevWithin, IsGridClause, IsGridUnit, IsWithin, other_length}
+use Rattle.std.proofs.Math.Nat.{le_trans}
+use Rattle.std.proofs.lemmas.Bool.{ltb-false}
+use Rattle.std.proofs.lemmas.List.{length-replicate}
+use Rattle.dl_limits.specs.Limits.{most_amount, most_atoms, most_layers}
+use Rattle.dl_sev.specs.Buckets.{buckets}
+use Rattle.dl_ast.specs.declared.ast.Numeral.{Numeral}
+use Rattle.dl_ast.specs.declared.ast.ListAst.{ListAst}
+use Rattle.dl_ast.specs.declared.ast.Atom.{Atom}
+use Rattle.dl_ast.specs.declared.ast.MixAst.{MixAst}
+use Rattle.dl_ast.specs.declared.ast.LimitAst.{LimitAst}
+use Rattle.dl_ast.specs.declared.ast.LimitAst.TheVariants.{Finite, Infinite}
+use Rattle.dl_ast.specs.declared.ast.Layer.{Layer}
+use Rattle.dl_ast.specs.declared.ast.Cession.{Cession}
+use Rattle.dl_ast.specs.declared.ast.Exposure.{Exposure}
+use Rattle.dl_ast.specs.declared.ast.Exposure.TheVariants.{Claims, Loss, Premium}
+use Rattle.dl_ast.specs.declared.ast.FreqAst.{FreqAst}
+use Rattle.dl_ast.specs.declared.ast.FreqAst.TheVariants.{Fixed, Poisson, Geometric, Bernoulli, Binomial, Gamma}
+use Rattle.dl_ast.specs.declared.ast.ZeroAst.{ZeroAst}
+use Rattle.dl_ast.specs.declared.ast.ZeroAst.TheVariants.{Plain, Truncated, Modified}
+use Rattle.dl_ast.specs.declared.ast.CountAst.{CountAst}
+use Rattle.dl_ast.specs.declared.ast.CountAst.TheVariants.{Exposed, Listed}
+use Rattle.dl_ast.specs.declared.ast.UnitAst.{UnitAst}
+use Rattle.dl_ast.specs.WellFormed.{IsFormedAtom, IsFormedMixture, IsFormedCession, IsFormedCount, IsFormedUnit}
+use Rattle.dl_buckets.specs.First.{at_if}
+use Rattle.dl_buckets.specs.declared.flaws.Flaws.{Flaws}
+use Rattle.dl_buckets.specs.Flaws.{flaws_in, flaws_within, earlier_flaws, long_at}
+use Rattle.dl_buckets.specs.Grid.{grid_shares, limit_value, grid_exposure, grid_freq, grid_count, zero_value, given_zero}
+unfoldable use Rattle.dl_buckets.specs.Grid.{grid_of}
+use Rattle.dl_buckets.specs.Reading.{flaws_of_numeral, flaws_of_amount, flaws_of_money, flaws_of_list, flaws_of_amounts, flaws_of_shares, flaws_beside, flaws_of_atom, flaws_of_mixture, flaws_of_limit, flaws_of_layer, flaws_of_share, flaws_of_ceded, flaws_of_clause, flaws_of_exposure, flaws_of_count, flaws_of_freq, flaws_of_zero, flaws_of_distribution, is_named}
+unfoldable use Rattle.dl_buckets.specs.Reading.{flaws_of}
+use Rattle.dl_buckets.specs.Rules.{count_lengths}
+use Rattle.dl_buckets.specs.Small.{IsSmall, IsGridExposure, IsGridFreq, IsGridCount}
+use Rattle.dl_buckets.specs.Values.{if_there, value, values_of, placed_values}
+use Rattle.dl_buckets.proofs.Clean.{each_none, clean_first, clean_second, clean_earlier, clean_each}
+use Rattle.dl_buckets.proofs.ItemRanges.{number_is, list_is}
+
+-- ---- the lists of probabilities
+
+shares_is : (l : ListAst) → IsClean (flaws_of_shares l) → IsShares (grid_shares l)
+shares_is l clean = record {
+  weights = refl;
+  one = not_at _ l.span (each_none _ (clean_second (flaws_of_list l) _ clean)).sum;
+}
+
+second_is : (o : Option ListAst) → IsClean (flaws_within flaws_of_shares o) → IfSome (if_there grid_shares o) IsShares
+second_is None clean = tt
+second_is (Some l) clean = shares_is l clean
+
+module _ (n : ℕ) where
+  beside_is : (o : Option ListAst) → IsClean (flaws_within (flaws_beside n) o) → IfSome (if_there grid_shares o) IsShares
+  beside_is None clean = tt
+  beside_is (Some l) clean = shares_is l (clean_first (flaws_of_shares l) _ clean)
+
+  -- as many as the values
+  beside_length : (o : Option ListAst) → IsClean (flaws_within (flaws_beside n) o)
+      → length (probs_among n (if_there grid_shares o)) ≡ n
+  beside_length None clean = length-replicate n (1 over n)
+  beside_length (Some l) clean =
+      length-map (placed_values l) (λ pair. pair.0)
+      ∙ sym (eqb-true n (length (placed_values l)) (not-false _ (not_at _ l.span
+      (each_none _ (clean_second (flaws_of_shares l) _ clean)).lengths)))
+
+-- ---- amounts of money
+
+small_num : (most n d m e : ℕ) → not (d == 1) ≡ false → m ≡ most → e ≡ 1 → nat_lt (m * d) (n * e) ≡ false
+    → n ≤ most
+small_num most n d m e hd hm he h = plain n d (eqb-true d 1 (not-false _ hd)) (rw (hm, he) at h)
+  where
+    plain : (n d : ℕ) → d ≡ 1 → nat_lt (most * d) (n * 1) ≡ false → n ≤ most
+    plain n d e h = omega (arith, ltb-false (most * 1) (n * 1) (rw e at h))
+
+pub amount_small : (most : ℕ) (bs x : Fraction) (place : Span) → IsClean (flaws_of_amount most bs x place)
+    → number_of bs x ≤ most
+amount_small most bs x place clean =
+    let none = each_none (flaws_of_amount most bs x place) clean in
+    small_num most (buckets bs x).num (buckets bs x).den (whole most).num (whole most).den
+    (not_at _ place none.off_grid) (whole_num most) (whole_den most) (not_at _ place none.too_far)
+
+money_small : (most : ℕ) (bs : Fraction) (place : Span) (n : Numeral) → IsClean (flaws_of_money most bs place n)
+    → number_of bs (value n) ≤ most
+money_small most bs place n clean =
+    amount_small most bs (value n) place (clean_second (flaws_of_numeral n) _ clean)
+
+abbrev too_long : MixAst → Flaws
+too_long m = long_at (at_if (nat_lt most_atoms (length m.atoms)) m.span)
+
+module _ (most : ℕ) (bs : Fraction) where
+  -- ---- the severity
+
+  amounts_small : (l : ListAst) → IsClean (flaws_of_amounts most bs l)
+      → All (λ n. n ≤ most) (map (number_of bs) (values_of l))
+  amounts_small l clean =
+      let each = clean_each (λ pair. flaws_of_amount most bs pair.0 pair.1) (placed_values l)
+      (clean_second (flaws_of_list l) _ clean) in
+      All-map (λ n. n ≤ most) (number_of bs) (values_of l)
+      (All-map (λ x. number_of bs x ≤ most) (λ pair. pair.0) (placed_values l)
+      (λ k d h. amount_small most bs _ _ (each k d h)))
+
+  atom_amounts : (a : Atom) → IsClean (flaws_of_atom most bs a) → IsClean (flaws_of_amounts most bs a.values)
+  atom_amounts a clean = clean_first (flaws_of_amounts most bs a.values) _ clean
+
+  atom_probs : (a : Atom) → IsClean (flaws_of_atom most bs a)
+      → IsClean (flaws_within (flaws_beside (length (placed_values a.values))) a.probs)
+  atom_probs a clean = clean_second (flaws_of_amounts most bs a.values) _ clean
+
+  atom_within : (a : Atom) → IsClean (flaws_of_atom most bs a)
+      → All (λ n. n ≤ most) (grid_atom bs a).amounts
+  atom_within a clean = amounts_small a.values (atom_amounts a clean)
+
+  mixture_atoms : (m : MixAst) → IsClean (flaws_of_mixture most bs m)
+      → All (λ a. IsClean (flaws_of_atom most bs a)) m.atoms
+  mixture_atoms m clean = clean_each (flaws_of_atom most bs) m.atoms
+      (clean_first (flaws_in (flaws_of_atom most bs) m.atoms) _ (clean_second (too_long m) _ clean))
+
+  sev_within : (m : MixAst) → IsClean (flaws_of_mixture most bs m) → IsSevWithin most (grid_mixture bs m)
+  sev_within m clean = All-map (λ a. All (λ n. n ≤ most) a.amounts) (grid_atom bs) m.atoms
+      (λ k d h. atom_within _ (mixture_atoms m clean k d h))
+
+  -- ---- layers and clauses
+
+  limit_small : (place : Span) (limit : LimitAst) → IsClean (flaws_of_limit most bs place limit)
+      → IfSome (if_there (number_of bs) (limit_value limit)) (λ n. n ≤ most)
+  limit_small place (Finite n) clean = money_small most bs place n clean
+  limit_small place Infinite clean = tt
+
+  layer_within : (l : Layer) → IsClean (flaws_of_layer most bs l) → IsLayerWithin most (grid_layer bs l)
+  layer_within l clean = record {
+    limit = limit_small l.span l.limit (clean_first (flaws_of_limit most bs l.span l.limit) _ clean);
+    attach = money_small most bs l.span l.attach (clean_second (flaws_of_limit most bs l.span l.limit) _ clean);
+  }
+
+  own_layer_within : (o : Option Layer) → IsClean (flaws_within (flaws_of_layer most bs) o)
+      → IfSome (if_there (grid_layer bs) o) (IsLayerWithin most)
+  own_layer_within None clean = tt
+  own_layer_within (Some l) clean = layer_within l clean
+
+  clause_within : (c : Cession) → IsClean (flaws_of_clause most bs c) → IsClauseWithin most (grid_clause bs c)
+  clause_within c clean =
+      let each = clean_each (flaws_of_ceded most bs) c.layers
+      (clean_first (flaws_in (flaws_of_ceded most bs) c.layers) _ clean) in
+      All-map (λ l. IsLayerWithin most l.layer) (grid_ceded bs) c.layers
+      (λ k d h. layer_within _ (clean_second (flaws_of_share _) _ (each k d h)))
+
+  own_clause_within : (o : Option Cession) → IsClean (flaws_within (flaws_of_clause most bs) o)
+      → IfSome (if_there (grid_clause bs) o) (IsClauseWithin most)
+  own_clause_within None clean = tt
+  own_clause_within (Some c) clean = clause_within c clean
+
+-- ---- what holds of any amounts of at most 2^22
+
+layer_weaker : (m n : ℕ) (l : GridLayer) → m ≤ n → IsLayerWithin m l → IsLayerWithin n l
+layer_weaker m n l le h = record { limit = of_limit l.limit h.limit; attach = le_trans h.attach le }
+  where
+    of_limit : (o : Option ℕ) → IfSome o (λ k. k ≤ m) → IfSome o (λ k. k ≤ n)
+    of_limit None e = tt
+    of_limit (Some k) e = le_trans e le
+
+module _ (most : ℕ) (bs : Fraction) (le : most ≤ most_amount) where
+  atom_is : (a : Atom) → IsFormedAtom a → IsClean (flaws_of_atom most bs a) → IsGridAtom (grid_atom bs a)
+  atom_is a formed clean =
+      let list = list_is a.values formed.values
+      (clean_first (flaws_of_list a.values) _ (atom_amounts most bs a clean)) in
+      let each = length-map (values_of a.values) (number_of bs) in
+      record {
+        some = omega (arith, each, list.some);
+        few = omega (arith, each, list.few);
+        near = λ k d h. le_trans (atom_within most bs a clean k d h) le;
+        probs = beside_is (length (placed_values a.values)) a.probs (atom_probs most bs a clean);
+        each = subst (λ n. length (probs_among n (if_there grid_shares a.probs)) ≡ n)
+            (sym (each ∙ length-map (placed_values a.values) (λ pair. pair.0)))
+            (beside_length (length (placed_values a.values)) a.probs (atom_probs most bs a clean));
+      }
+
+  sev_is : (m : MixAst) → IsFormedMixture m → IsClean (flaws_of_mixture most bs m)
+      → IsGridSev (grid_mixture bs m)
+  sev_is m formed clean =
+      let each = length-map m.atoms (grid_atom bs) in
+      record {
+        atoms = All-map IsGridAtom (grid_atom bs) m.atoms
+            (λ k d h. atom_is _ (formed.atoms k d h) (mixture_atoms most bs m clean k d h));
+        some = omega (arith, each, formed.some);
+        few = omega (
+          arith,
+          each,
+          ltb-false most_atoms (length m.atoms) (not_at _ m.span (each_none _ (clean_first (too_long m) _ clean)).long),
+        );
+        weights = second_is m.weights
+            (clean_second (flaws_in (flaws_of_atom most bs) m.atoms) _ (clean_second (too_long m) _ clean));
+      }
+
+  layer_is : (o : Option Layer) → IsClean (flaws_within (flaws_of_layer most bs) o)
+      → IfSome (if_there (grid_layer bs) o) (IsLayerWithin most_amount)
+  layer_is None clean = tt
+  layer_is (Some l) clean = layer_weaker most most_amount _ le (layer_within most bs l clean)
+
+  clause_is : (o : Option Cession) → IfSome o IsFormedCession
+      → IsClean (flaws_within (flaws_of_clause most bs) o)
+      → IfSome (if_there (grid_clause bs) o) IsGridClause
+  clause_is None formed clean = tt
+  clause_is (Some c) formed clean =
+      let each = length-map c.layers (grid_ceded bs) in
+      let long = clean_second (flaws_in (flaws_of_ceded most bs) c.layers) _ clean in
+      record {
+        some = omega (arith, each, formed.some);
+        few = omega (arith, each, ltb-false most_layers (length c.layers) (not_at _ c.span (each_none _ long).long));
+        layers = λ k d h. layer_weaker most most_amount _ le (clause_within most bs c clean k d h);
+      }
+
+-- ---- the count
+
+exposure_is : (e : Exposure) → IsClean (flaws_of_exposure e) → IsGridExposure (grid_exposure e)
+exposure_is (Claims n span) clean = number_is n clean
+exposure_is (Loss n span) clean = number_is n clean
+exposure_is (Premium p r span) clean = (
+  number_is p (clean_first (flaws_of_numeral p) _ clean),
+  number_is r (clean_second (flaws_of_numeral p) _ clean),
+)
+
+freq_is : (f : FreqAst) → IsClean (flaws_of_freq f) → IsGridFreq (grid_freq f)
+freq_is (Fixed span) clean = tt
+freq_is (Poisson span) clean = tt
+freq_is (Geometric span) clean = record { num = omega (arith, whole_num 1); den = omega (arith, whole_den 1) }
+freq_is (Bernoulli span) clean = tt
+freq_is (Binomial n span) clean = number_is n clean
+freq_is (Gamma n span) clean = number_is n clean
+
+zero_is : (z : ZeroAst) → IsClean (flaws_of_zero z) → IfSome (zero_value z) IsSmall
+zero_is Plain clean = tt
+zero_is (Truncated span) clean = record { num = omega (arith, whole_num 0); den = omega (arith, whole_den 0) }
+zero_is (Modified n span) clean = number_is n clean
+
+count_is : (k : CountAst) → IsFormedCount k → IsClean (flaws_of_count k) → IsClean (flaws_of_distribution k)
+    → IsGridCount (grid_count k)
+count_is (Exposed exposure freq zero) formed clean later =
+    (exposure_is exposure clean, freq_is freq (clean_first (flaws_of_freq freq) _ later))
+count_is (Listed values probs span) formed clean later = (
+  list_is values formed.0 (clean_first (flaws_of_list values) _ clean),
+  beside_is (length (placed_values values)) probs (clean_second (flaws_of_list values) _ clean),
+)
+
+paired_is : (k : CountAst) → IsClean (flaws_of_count k) → count_lengths (grid_count k) ≡ None
+unfolding other_length
+paired_is (Exposed exposure freq zero) clean = refl
+paired_is (Listed values None span) clean = refl
+paired_is (Listed values (Some l) span) clean =
+    let each = length-map (placed_values values) (λ pair. pair.0) in
+    let same = beside_length (length (placed_values values)) (Some l) (clean_second (flaws_of_list values) _ clean) in
+    at_equal (length (values_of values)) (length (values_of l)) l.span (each ∙ sym same)
+  where
+    at_equal : (m n : ℕ) (place : Span) → m ≡ n → at_if (not (m == n)) place ≡ None
+    at_equal m n place e = ap (λ b. at_if (not b) place) (eq-eqb m n e)
+
+given_is : (k : CountAst) → IsClean (flaws_of_distribution k) → IfSome (given_zero k) IsSmall
+given_is (Exposed exposure freq zero) clean = zero_is zero (clean_second (flaws_of_freq freq) _ clean)
+given_is (Listed values probs span) clean = tt
+
+-- ---- the unit
+
+module _ (most : ℕ) (bs : Fraction) (u : UnitAst) (m : MixAst) (clean : IsClean (flaws_of most bs u m)) where
+  abbrev own : Flaws
+  own = flaws_else (flaws_of_count u.count) (flaws_within (flaws_of_layer most bs) u.layer)
+
+  abbrev front : Flaws
+  front = earlier_flaws (is_named u.sev.body) own (flaws_of_mixture most bs m)
+
+  parts : IsClean front × IsClean (flaws_within (flaws_of_clause most bs) u.occ)
+      × IsClean (flaws_of_distribution u.count) × IsClean (flaws_within (flaws_of_clause most bs) u.agr)
+  unfolding flaws_of
+  parts =
+      let later = clean_second front _ clean in
+      let rest = clean_second (flaws_within (flaws_of_clause most bs) u.occ) _ later in (
+        clean_first front _ clean,
+        clean_first (flaws_within (flaws_of_clause most bs) u.occ) _ later,
+        clean_first (flaws_of_distribution u.count) _ rest,
+        clean_second (flaws_of_distribution u.count) _ rest,
+      )
+
+  fronts : IsClean (flaws_of_count u.count) × IsClean (flaws_within (flaws_of_layer most bs) u.layer)
+      × IsClean (flaws_of_mixture most bs m)
+  fronts =
+      let both = clean_earlier (is_named u.sev.body) own (flaws_of_mixture most bs m) parts.0 in (
+        clean_first (flaws_of_count u.count) _ both.0,
+        clean_second (flaws_of_count u.count) _ both.0,
+        both.1,
+      )
+
+  -- no amount passes the most
+  pub within_is : IsWithin most (grid_of bs u m)
+  unfolding grid_of
+  within_is = record {
+    layer = own_layer_within most bs u.layer fronts.1;
+    sev = sev_within most bs m fronts.2;
+    occ = own_clause_within most bs u.occ parts.1;
+    agr = own_clause_within most bs u.agr parts.3;
+  }
+
+  pub grid_is : most ≤ most_amount → IsFormedUnit u → IsFormedMixture m → IsGridUnit (grid_of bs u m)
+  unfolding grid_of
+  grid_is le formed mixed = record {
+    count = count_is u.count formed.count fronts.0 parts.2;
+    paired = paired_is u.count fronts.0;
+    layer = layer_is most bs le u.layer fronts.1;
+    sev = sev_is most bs le m mixed fronts.2;
+    zero = given_is u.count parts.2;
+    occ = clause_is most bs le u.occ formed.occ parts.1;
+    agr = clause_is most bs le u.agr formed.agr parts.3;
+  }

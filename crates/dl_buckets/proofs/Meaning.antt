@@ -1,0 +1,238 @@
+-- What a severity means tells what each step makes of it.
+use Rattle.dl_buckets.proofs.Common.{ℕ, zero, suc, ◌≡◌, ◌∙◌, ◌+◌, ◌*◌, ◌/◌, ◌<◌, ◌≤◌, ◌⊎◌, List, [], ◌∷◌, ◌++◌, map, filter, Bool, true, false, cond, nat_lt, ◌==◌, refl, sym, ap, ap₂, arith, mul-pos, inl, inr, cases_lt, lt-ltb, le-ltb, Fraction, whole, ◌over◌, ◌+ℚ◌, ◌*ℚ◌, ◌/ℚ◌, zero_plus, times_zero, zero_times, over_same, Sev, Pairs, probability, mass, conditioned, pairs_of, Means, whole_num, whole_den, scaled, mixture_of, with_amounts, AllZip, mixed}
+use Rattle.std.proofs.Math.Nat.{eq-zero-or-pos}
+use Rattle.dl_exact.specs.Gcd.{gcd}
+use Rattle.dl_exact.specs.Fraction.{nought, read_as}
+use Rattle.dl_exact.specs.Sum.{sum_over, sum_to}
+use Rattle.dl_exact.proofs.Laws.{plus_zero, one_times, times_plus, ring, by_two}
+use Rattle.dl_exact.proofs.Over.{same, over_mul, over_div}
+use Rattle.dl_exact.proofs.Sums.{sum_over_map, sum_to_same, sum_to_plus, sum_over_same, sum_over_append, sum_over_times}
+use Rattle.dl_plan.proofs.Shares.{probability-shares}
+use Rattle.dl_plan.proofs.Means.{severity_total as total_pos}
+
+-- ---- a sum over pairs, by amounts
+
+-- an amount of the list is at most this
+abbrev pub bound : Pairs → ℕ
+bound [] = 0
+bound (p ∷ ps) = p.0 + bound ps
+
+abbrev pub scored : (ℕ → Fraction) → Pairs → Fraction
+scored g ps = sum_over ps (λ p. g p.0 *ℚ p.1)
+
+abbrev at : ℕ → Fraction → ℕ → Fraction
+at a p x = cond (a == x) p (whole 0)
+
+at_itself : (a : ℕ) (p : Fraction) → at a p a ≡ p
+at_itself a p = grind arith
+
+at_other : (a x : ℕ) (p : Fraction) → (a ≡ x → ⊥) → at a p x ≡ whole 0
+at_other a x p h = grind arith
+
+none_below : (n a : ℕ) (g : ℕ → Fraction) (p : Fraction) → n < a → sum_to n (λ x. g x *ℚ at a p x) ≡ whole 0
+unfolding sum_to
+none_below zero a g p h = ap (λ t. g zero *ℚ t) (at_other a zero p (λ e. omega (arith, h, e))) ∙ times_zero _
+none_below (suc n) a g p h =
+    ap₂ (λ s t. s +ℚ g (suc n) *ℚ t) (none_below n a g p (omega (arith, h)))
+    (at_other a (suc n) p (λ e. omega (arith, h, e)))
+    ∙ ap (λ t. whole 0 +ℚ t) (times_zero _) ∙ zero_plus _
+
+one_amount : (n a : ℕ) (g : ℕ → Fraction) (p : Fraction) → a ≤ n → sum_to n (λ x. g x *ℚ at a p x) ≡ g a *ℚ p
+unfolding sum_to
+one_amount zero a g p h =
+    let e : a ≡ zero = omega (arith, h) in
+    rw e (ap (λ t. g zero *ℚ t) (at_itself zero p))
+one_amount (suc n) a g p h = elim (cases_lt a (suc n)) [
+  | inl l ↦
+      ap₂ (λ s t. s +ℚ g (suc n) *ℚ t) (one_amount n a g p (omega (arith, l)))
+      (at_other a (suc n) p (λ e. omega (arith, l, e)))
+      ∙ ap (λ t. g a *ℚ p +ℚ t) (times_zero _) ∙ plus_zero _
+  | inr l ↦
+      let e : a ≡ suc n = omega (arith, h, l) in
+      rw e (ap₂ (λ s t. s +ℚ g (suc n) *ℚ t) (none_below n (suc n) g p (omega arith)) (at_itself (suc n) p)
+      ∙ zero_plus _)
+]
+
+none_at_all : (n : ℕ) (g : ℕ → Fraction) → sum_to n (λ x. g x *ℚ whole 0) ≡ whole 0
+unfolding sum_to
+none_at_all zero g = times_zero _
+none_at_all (suc n) g = ap₂ (λ s t. s +ℚ t) (none_at_all n g) (times_zero _) ∙ zero_plus _
+
+-- the sum of a score over the pairs is that over the amounts, by their probabilities
+pub by_amounts : (n : ℕ) (g : ℕ → Fraction) (ps : Pairs) → bound ps ≤ n
+    → scored g ps ≡ sum_to n (λ x. g x *ℚ probability ps x)
+unfolding sum_over
+by_amounts n g [] h = sym (none_at_all n g)
+by_amounts n g (p ∷ ps) h =
+    ap₂ (λ s t. s +ℚ t) (sym (one_amount n p.0 g p.1 (omega (arith, h)))) (by_amounts n g ps (omega (arith, h)))
+    ∙ sym (sum_to_plus n (λ x. g x *ℚ at p.0 p.1 x) (λ x. g x *ℚ probability ps x))
+    ∙ sum_to_same n _ _ (λ x b. sym (times_plus (g x) (at p.0 p.1 x) (probability ps x)))
+
+-- the pairs give each amount the same probability
+abbrev pub Alike : Pairs → Pairs → Type 0
+Alike ps qs = (x : ℕ) → probability ps x ≡ probability qs x
+
+pub scored_alike : (g : ℕ → Fraction) (ps qs : Pairs) → Alike ps qs → scored g ps ≡ scored g qs
+scored_alike g ps qs h =
+    let n = bound ps + bound qs in
+    by_amounts n g ps (omega arith) ∙ sum_to_same n _ _ (λ x b. ap (λ t. g x *ℚ t) (h x))
+    ∙ sym (by_amounts n g qs (omega arith))
+
+-- ---- amounts mapped
+
+abbrev pub mark : Bool → Fraction
+mark b = cond b (whole 1) (whole 0)
+
+marked : (b : Bool) (p : Fraction) → cond b p (whole 0) ≡ mark b *ℚ p
+marked true p = sym (one_times p)
+marked false p = sym (zero_times p)
+
+mapped_score : (f : ℕ → ℕ) (ps : Pairs) (y : ℕ) → probability (with_amounts f ps) y ≡ scored (λ x. mark (f x == y)) ps
+mapped_score f ps y =
+    sum_over_map (λ pair. (f pair.0, pair.1)) (λ pair. cond (pair.0 == y) pair.1 (whole 0)) ps
+    ∙ sum_over_same _ (λ pair. mark (f pair.0 == y) *ℚ pair.1) ps (λ pair. marked (f pair.0 == y) pair.1)
+
+pub mapped_alike : (f : ℕ → ℕ) (ps qs : Pairs) → Alike ps qs → Alike (with_amounts f ps) (with_amounts f qs)
+mapped_alike f ps qs h y = mapped_score f ps y ∙ scored_alike (λ x. mark (f x == y)) ps qs h ∙ sym (mapped_score f qs y)
+
+-- ---- amounts above an attachment
+
+read_none : (n d : ℕ) (p : (d ≡ 0) ⊎ (0 < d)) (q : (((gcd n d == 1) ≡ true) × (gcd n d ≡ 1))
+    ⊎ (((gcd n d == 1) ≡ false) × (gcd n d ≡ 1 → ⊥))) → d ≡ 0 → read_as n d p q ≡ nought
+unfolding read_as
+read_none n d (inl none) q e = refl
+read_none n d (inr some) (inl lowest) e = absurd (omega (arith, some, e))
+read_none n d (inr some) (inr common) e = refl
+
+nothing_divided : (k : ℕ) → 0 / k ≡ 0
+nothing_divided k = omega arith
+
+over_none : (n : ℕ) → n over 0 ≡ nought
+unfolding ◌over◌
+over_none n = read_none (n / gcd n 0) (0 / gcd n 0) _ _ (nothing_divided (gcd n 0))
+
+nought_is : nought ≡ whole 0
+unfolding nought
+nought_is = same nought (whole 0) (sym (whole_num 0)) (sym (whole_den 0))
+
+pub over_nothing : (n : ℕ) → n over 0 ≡ whole 0
+over_nothing n = over_none n ∙ nought_is
+
+times_nought : (k : ℕ) → k * 0 ≡ 0
+times_nought k = omega arith
+
+div_nothing : (x y : Fraction) → y ≡ whole 0 → x /ℚ y ≡ x *ℚ (whole 1 /ℚ y)
+unfolding ◌/ℚ◌
+div_nothing x y e =
+    let none : y.num ≡ 0 = ap (λ (t : Fraction). t.num) e ∙ whole_num 0 in
+    ap (λ k. (x.num * y.den) over k) (ap (λ k. x.den * k) none ∙ times_nought x.den) ∙ over_nothing (x.num * y.den)
+    ∙ sym (ap (λ t. x *ℚ t) (ap (λ k. ((whole 1).num * y.den) over k)
+    (ap (λ k. (whole 1).den * k) none ∙ times_nought (whole 1).den) ∙ over_nothing ((whole 1).num * y.den))
+    ∙ times_zero x)
+
+div_over : (n d m e : ℕ) → 0 < d → 0 < e → n over d /ℚ m over e ≡ n over d *ℚ (whole 1 /ℚ m over e)
+div_over n d m e hd he = elim (eq-zero-or-pos m) [
+  | inl none ↦ div_nothing (n over d) (m over e) (over_same m e 0 1 he (omega arith) (omega (arith, none)))
+  | inr some ↦
+      over_div n d m e hd he some
+      ∙ sym (ap (λ t. n over d *ℚ t) (over_div 1 1 m e (omega arith) he some)
+      ∙ over_mul n d (1 * e) (1 * m) hd (mul-pos (omega arith) some)
+      ∙ over_same _ _ _ _ (mul-pos hd (mul-pos (omega arith) some)) (mul-pos hd some) (omega arith))
+]
+
+-- a quotient is a product with the inverse, which is 0 for 0
+pub div_as_times : (x y : Fraction) → x /ℚ y ≡ x *ℚ (whole 1 /ℚ y)
+div_as_times = by_two (λ x y. x /ℚ y ≡ x *ℚ (whole 1 /ℚ y)) div_over
+
+abbrev pub above : ℕ → Pairs → Pairs
+above a ps = filter (λ p. nat_lt a p.0) ps
+
+-- a sum over the pairs above a
+above_score : (a : ℕ) (g : ℕ → Fraction) (ps : Pairs)
+    → scored g (above a ps) ≡ scored (λ x. cond (nat_lt a x) (g x) (whole 0)) ps
+unfolding sum_over
+above_score a g [] = refl
+above_score a g (p ∷ ps) = elim (cases_lt a p.0) [
+  | inl h ↦ rw (lt-ltb a p.0 h) (ap (λ t. g p.0 *ℚ p.1 +ℚ t) (above_score a g ps))
+  | inr h ↦ rw (le-ltb a p.0 h) (above_score a g ps
+      ∙ sym (ap (λ t. t +ℚ scored (λ x. cond (nat_lt a x) (g x) (whole 0)) ps) (zero_times p.1) ∙ zero_plus _))
+]
+
+above_alike : (a : ℕ) (g : ℕ → Fraction) (ps qs : Pairs) → Alike ps qs → scored g (above a ps) ≡ scored g (above a qs)
+above_alike a g ps qs h =
+    above_score a g ps ∙ scored_alike (λ x. cond (nat_lt a x) (g x) (whole 0)) ps qs h ∙ sym (above_score a g qs)
+
+mass_score : (ps : Pairs) → mass ps ≡ scored (λ _. whole 1) ps
+mass_score ps = sum_over_same (λ p. p.1) (λ p. whole 1 *ℚ p.1) ps (λ p. sym (one_times p.1))
+
+pub mass_alike : (a : ℕ) (ps qs : Pairs) → Alike ps qs → mass (above a ps) ≡ mass (above a qs)
+mass_alike a ps qs h = mass_score (above a ps) ∙ above_alike a (λ _. whole 1) ps qs h ∙ sym (mass_score (above a qs))
+
+marked_quotient : (b : Bool) (p m : Fraction) → cond b (p /ℚ m) (whole 0) ≡ mark b *ℚ (whole 1 /ℚ m) *ℚ p
+marked_quotient b p m = marked b (p /ℚ m) ∙ ap (λ t. mark b *ℚ t) (div_as_times p m) ∙ simp ring
+
+conditioned_score : (a : ℕ) (ps : Pairs) (y : ℕ)
+    → probability (conditioned a ps) y ≡ scored (λ x. mark (x == y) *ℚ (whole 1 /ℚ mass (above a ps))) (above a ps)
+conditioned_score a ps y =
+    let m = mass (above a ps) in
+    sum_over_map (λ pair. (pair.0, pair.1 /ℚ m)) (λ pair. cond (pair.0 == y) pair.1 (whole 0)) (above a ps)
+    ∙ sum_over_same _ (λ pair. mark (pair.0 == y) *ℚ (whole 1 /ℚ m) *ℚ pair.1) (above a ps)
+    (λ pair. marked_quotient (pair.0 == y) pair.1 m)
+
+pub conditioned_alike : (a : ℕ) (ps qs : Pairs) → Alike ps qs → Alike (conditioned a ps) (conditioned a qs)
+conditioned_alike a ps qs h y =
+    conditioned_score a ps y
+    ∙ ap (λ m. scored (λ x. mark (x == y) *ℚ (whole 1 /ℚ m)) (above a ps)) (mass_alike a ps qs h)
+    ∙ above_alike a (λ x. mark (x == y) *ℚ (whole 1 /ℚ mass (above a qs))) ps qs h
+    ∙ sym (conditioned_score a qs y)
+
+-- ---- the steps of a severity
+
+pub alike_own : (sev : Sev) (ps : Pairs) → Means sev ps → Alike (pairs_of sev) ps
+alike_own sev ps h x = probability-shares sev.items sev.total x (total_pos sev) ∙ h x
+
+pub own_means : (sev : Sev) → Means sev (pairs_of sev)
+own_means sev x = sym (probability-shares sev.items sev.total x (total_pos sev))
+
+pub means_alike : (sev : Sev) (ps qs : Pairs) → Means sev ps → Alike ps qs → Means sev qs
+means_alike sev ps qs h alike x = h x ∙ alike x
+
+pub conditioned_means : (sev made : Sev) (ps : Pairs) (a : ℕ) → Means sev ps → Means made (conditioned a (pairs_of sev))
+    → Means made (conditioned a ps)
+conditioned_means sev made ps a h m = means_alike made _ _ m
+    (conditioned_alike a (pairs_of sev) ps (alike_own sev ps h))
+
+pub mapped_means : (sev made : Sev) (ps : Pairs) (f : ℕ → ℕ) → Means sev ps → Means made (with_amounts f (pairs_of sev))
+    → Means made (with_amounts f ps)
+mapped_means sev made ps f h m = means_alike made _ _ m (mapped_alike f (pairs_of sev) ps (alike_own sev ps h))
+
+-- ---- mixtures
+
+times_if : (b : Bool) (w p : Fraction) → cond b (w *ℚ p) (whole 0) ≡ w *ℚ cond b p (whole 0)
+times_if true w p = refl
+times_if false w p = sym (times_zero w)
+
+pub probability-append : (ps qs : Pairs) (x : ℕ) → probability (ps ++ qs) x ≡ probability ps x +ℚ probability qs x
+probability-append ps qs x = sum_over_append (λ pair. cond (pair.0 == x) pair.1 (whole 0)) ps qs
+
+pub probability-scaled : (w : Fraction) (ps : Pairs) (x : ℕ) → probability (scaled w ps) x ≡ w *ℚ probability ps x
+probability-scaled w ps x =
+    sum_over_map (λ pair. (pair.0, w *ℚ pair.1)) (λ pair. cond (pair.0 == x) pair.1 (whole 0)) ps
+    ∙ sum_over_same _ (λ pair. w *ℚ cond (pair.0 == x) pair.1 (whole 0)) ps (λ pair. times_if (pair.0 == x) w pair.1)
+    ∙ sum_over_times w (λ pair. cond (pair.0 == x) pair.1 (whole 0)) ps
+
+-- the mixture of severities by whole weights is that of what they mean
+pub mixture_alike : (t : ℕ) (atoms : List Sev) (ws : List ℕ) (lists : List Pairs) → AllZip Means atoms lists
+    → Alike (mixture_of t atoms ws) (mixed (map (λ w. w over t) ws) lists)
+mixture_alike t [] [] [] h x = refl
+mixture_alike t [] (w ∷ ws) [] h x = refl
+mixture_alike t (a ∷ atoms) [] (ps ∷ lists) h x = refl
+mixture_alike t [] ws (ps ∷ lists) h x = absurd h
+mixture_alike t (a ∷ atoms) ws [] h x = absurd h
+mixture_alike t (a ∷ atoms) (w ∷ ws) (ps ∷ lists) h x =
+    probability-append (scaled (w over t) (pairs_of a)) (mixture_of t atoms ws) x
+    ∙ ap₂ (λ s r. s +ℚ r)
+    (probability-scaled (w over t) (pairs_of a) x ∙ ap (λ s. w over t *ℚ s) (alike_own a ps h.0 x)
+    ∙ sym (probability-scaled (w over t) ps x))
+    (mixture_alike t atoms ws lists h.1 x)
+    ∙ sym (probability-append (scaled (w over t) ps) (mixed (map (λ v. v over t) ws) lists) x)

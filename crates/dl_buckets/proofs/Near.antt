@@ -1,0 +1,198 @@
+-- How large the amounts of a severity are, and how many there are.
+use Rattle.dl_buckets.proofs.Common.{◌==◌, amounts_of, ℕ, ◌≡◌, ◌∙◌, ◌*◌, ◌/◌, ◌<◌, ◌≤◌, List, [], ◌∷◌, map, filter, zip, length, get_or, nat_lt, Option, Some, None, Bool, true, false, cond, refl, sym, ap, subst, arith, All, length-map, All-nil, All-cons, All-head, All-tail, All-weaker, All-append, All-map, Fraction, ◌*ℚ◌, IsWhole, Item, Sev, Pairs, conditioned, Means, Clause, layer, kept, IsClause, whole_num, scaled, with_amounts, layered, ceded_each, GridAtom, GridSev, GridLayer, atom_probs, atom_pairs, mixed, mixed_pairs, weights_of, is_conditioned, layer_pairs, support, IsGridAtom, IsGridSev, IsSevWithin}
+use Rattle.std.proofs.Common.{length-append}
+use Rattle.std.specs.Cmp.{IsEquivalence}
+use Rattle.std.specs.Set.{is_member}
+use Rattle.std.proofs.lemmas.Bool.Decides.{Decides-eqb, nat_tests}
+use Rattle.std.proofs.lemmas.Map.Made.{All-is_member, is_member-Decides, IsDistinct-from_AllPairs, length-le_from_is_member}
+use Rattle.std.proofs.lemmas.List.Kept.{AllPairs-from_increasing}
+use Rattle.std.proofs.Math.Nat.{div-le_of_le-mul}
+use Rattle.std.proofs.lemmas.List.Elements.{All-contains, All-filter}
+use Rattle.std.proofs.lemmas.List.Sums.{count_by-le-length, length-filter}
+use Rattle.std.proofs.lemmas.Slice.Zip.{length-zip}
+use Rattle.dl_plan.specs.Parts.{kept_parts, parts_in_bucket}
+use Rattle.dl_plan.proofs.Clauses.{layer_le, bucket_pos, kept_whole, kept_only}
+use Rattle.dl_plan.proofs.Apart.{kept_le}
+use Rattle.dl_buckets.proofs.Items.{items_in, support_all}
+use Rattle.std.proofs.Math.Nat.{le_trans}
+use Rattle.dl_buckets.proofs.Positive.{is_positive, support-mapped}
+
+-- no amount is above b
+abbrev pub Near : ℕ → Pairs → Type 0
+Near b ps = All (λ pair. pair.0 ≤ b) ps
+
+-- ---- the atoms
+
+zip_near : (b : ℕ) (xs : List ℕ) (ys : List Fraction) → All (λ x. x ≤ b) xs → Near b (zip xs ys)
+zip_near b [] ys h = All-nil (λ pair. pair.0 ≤ b)
+zip_near b (x ∷ xs) [] h = All-nil (λ pair. pair.0 ≤ b)
+zip_near b (x ∷ xs) (y ∷ ys) h =
+    All-cons (λ pair. pair.0 ≤ b) (x, y) (zip xs ys) (All-head (λ n. n ≤ b) x xs h)
+    (zip_near b xs ys (All-tail (λ n. n ≤ b) x xs h))
+
+atom_near : (b : ℕ) (a : GridAtom) → All (λ amount. amount ≤ b) a.amounts → Near b (atom_pairs a)
+atom_near b a near = zip_near b a.amounts (atom_probs a) near
+
+atom_few : (a : GridAtom) → IsGridAtom a → length (atom_pairs a) ≤ 1024
+atom_few a grid = omega (arith, length-zip a.amounts (atom_probs a), grid.few)
+
+-- ---- the mixture
+
+scaled_near : (b : ℕ) (w : Fraction) (ps : Pairs) → Near b ps → Near b (scaled w ps)
+scaled_near b w ps h = All-map (λ pair. pair.0 ≤ b) (λ (pair : ℕ × Fraction). (pair.0, w *ℚ pair.1)) ps h
+
+all_mixed_near : (b : ℕ) (ws : List Fraction) (lists : List Pairs) → All (Near b) lists → Near b (mixed ws lists)
+all_mixed_near b [] lists h = All-nil (λ pair. pair.0 ≤ b)
+all_mixed_near b (w ∷ ws) [] h = All-nil (λ pair. pair.0 ≤ b)
+all_mixed_near b (w ∷ ws) (ps ∷ lists) h =
+    All-append (λ pair. pair.0 ≤ b) (scaled w ps) (mixed ws lists) (scaled_near b w ps (All-head (Near b) ps lists h))
+    (all_mixed_near b ws lists (All-tail (Near b) ps lists h))
+
+all_mixed_few : (n : ℕ) (ws : List Fraction) (lists : List Pairs) → All (λ ps. length ps ≤ n) lists
+    → length (mixed ws lists) ≤ length lists * n
+all_mixed_few n [] lists h = omega arith
+all_mixed_few n (w ∷ ws) [] h = omega arith
+all_mixed_few n (w ∷ ws) (ps ∷ lists) h =
+    omega (
+      arith,
+      length-append (scaled w ps) (mixed ws lists),
+      length-map {B = ℕ × Fraction} ps (λ (pair : ℕ × Fraction). (pair.0, w *ℚ pair.1)),
+      All-head (λ qs. length qs ≤ n) ps lists h,
+      all_mixed_few n ws lists (All-tail (λ qs. length qs ≤ n) ps lists h),
+    )
+
+mixed_near : (b : ℕ) (s : GridSev) → IsSevWithin b s → Near b (mixed_pairs s)
+mixed_near b s near =
+    all_mixed_near b (weights_of s) (map atom_pairs s.atoms)
+    (All-map (Near b) atom_pairs s.atoms
+    (All-weaker (λ a. All (λ amount. amount ≤ b) a.amounts) (λ a. Near b (atom_pairs a)) (atom_near b) s.atoms near))
+
+module _ (s : GridSev) (grid : IsGridSev s) where
+  mixed_few : length (mixed_pairs s) ≤ 65536
+  mixed_few =
+      omega (
+        arith,
+        all_mixed_few 1024 (weights_of s) (map atom_pairs s.atoms)
+            (All-map (λ ps. length ps ≤ 1024) atom_pairs s.atoms
+            (All-weaker IsGridAtom (λ a. length (atom_pairs a) ≤ 1024)
+            (atom_few) s.atoms grid.atoms)),
+        length-map s.atoms atom_pairs,
+        grid.few,
+      )
+
+-- ---- the layer
+
+filter_few : {X : Type 0} (p : X → Bool) (xs : List X) → length (filter p xs) ≤ length xs
+filter_few p xs = omega (arith, length-filter p xs, count_by-le-length p xs)
+
+conditioned_near : (b a : ℕ) (ps : Pairs) → Near b ps → Near b (conditioned a ps)
+conditioned_near b a ps h = All-map (λ pair. pair.0 ≤ b) _ (filter (λ pair. nat_lt a pair.0) ps)
+    (All-filter (λ pair. nat_lt a pair.0) (λ pair. pair.0 ≤ b) ps h)
+
+conditioned_few : (a : ℕ) (ps : Pairs) → length (conditioned a ps) ≤ length ps
+conditioned_few a ps = subst (λ n. n ≤ length ps) (sym (length-map (filter (λ pair. nat_lt a pair.0) ps) _))
+    (filter_few (λ pair. nat_lt a pair.0) ps)
+
+mapped_near : (b : ℕ) (f : ℕ → ℕ) (ps : Pairs) → ((x : ℕ) → f x ≤ x) → Near b ps → Near b (with_amounts f ps)
+mapped_near b f ps le h =
+    All-map (λ pair. pair.0 ≤ b) (λ (pair : ℕ × Fraction). (f pair.0, pair.1)) ps
+    (All-weaker (λ pair. pair.0 ≤ b) (λ pair. f pair.0 ≤ b) (λ pair near. omega (arith, le pair.0, near)) ps h)
+
+layered_near : (b : ℕ) (limit : Option ℕ) (a : ℕ) (large : Bool) (ps : Pairs) → Near b ps
+    → Near b (layered limit a (cond large (conditioned a ps) ps))
+layered_near b limit a true ps h = mapped_near b (layer limit a) (conditioned a ps) (layer_le limit a)
+    (conditioned_near b a ps h)
+layered_near b limit a false ps h = mapped_near b (layer limit a) ps (layer_le limit a) h
+
+layered_few : (limit : Option ℕ) (a : ℕ) (large : Bool) (ps : Pairs)
+    → length (layered limit a (cond large (conditioned a ps) ps)) ≤ length ps
+layered_few limit a true ps = omega (
+  arith,
+  length-map {B = ℕ × Fraction} (conditioned a ps)
+      (λ (pair : ℕ × Fraction). (layer limit a pair.0, pair.1)),
+  conditioned_few a ps,
+)
+layered_few limit a false ps = omega (
+  arith,
+  length-map {B = ℕ × Fraction} ps
+      (λ (pair : ℕ × Fraction). (layer limit a pair.0, pair.1)),
+)
+
+layer_near : (b : ℕ) (o : Option GridLayer) (bang : Bool) (s : GridSev) → Near b (mixed_pairs s)
+    → Near b (layer_pairs o bang s)
+layer_near b None bang s h = h
+layer_near b (Some l) bang s h = layered_near b l.limit l.attach (is_conditioned bang l)
+    (mixed_pairs s) h
+
+layer_few : (o : Option GridLayer) (bang : Bool) (s : GridSev)
+    → length (layer_pairs o bang s) ≤ length (mixed_pairs s)
+layer_few None bang s = omega arith
+layer_few (Some l) bang s = layered_few l.limit l.attach (is_conditioned bang l) (mixed_pairs s)
+
+-- ---- rising amounts that all stand in a list are no more than it has
+
+same_laws : IsEquivalence ◌==◌
+same_laws = record {
+  refl = λ x. grind arith;
+  symm = λ x y. grind (arith, nat_tests);
+  congr = λ x y z e. grind (arith, nat_tests, e);
+}
+
+members_few : (sev : Sev) (ps : Pairs) → Means sev ps → length (amounts_of sev.items) ≤ length (support ps)
+members_few sev ps means =
+    let xs : List ℕ = amounts_of sev.items in
+    let Q : ℕ → Type 0 = λ x. is_member ◌==◌ (support ps) x ≡ true in
+    length-le_from_is_member same_laws xs (support ps)
+    (IsDistinct-from_AllPairs Decides-eqb xs
+    (λ i j d p q e. omega (arith, e, AllPairs-from_increasing xs sev.weighted.rising i j d p q)))
+    (λ q h. All-contains Q xs q
+    (All-map Q (λ (i : Item). i.amount) sev.items (items_in sev ps means Q (All-is_member same_laws (support ps))))
+    ((is_member-Decides Decides-eqb xs q).0 h))
+
+support_few : (ps : Pairs) → length (support ps) ≤ length ps
+support_few ps = subst (λ n. n ≤ length ps) (sym (length-map (filter (λ pair. is_positive pair.1) ps) (λ pair. pair.0)))
+    (filter_few (λ pair. is_positive pair.1) ps)
+
+-- a severity has no more items than what it means has amounts
+pub items_few : (sev : Sev) (ps : Pairs) → Means sev ps → length sev.items ≤ length ps
+items_few sev ps means =
+    omega (
+      arith,
+      support_few ps,
+      members_few sev ps means,
+      length-map sev.items (λ (i : Item). i.amount),
+    )
+
+pub items_near : (b : ℕ) (sev : Sev) (ps : Pairs) → Means sev ps → Near b ps
+    → All (λ (i : Item). i.amount ≤ b) sev.items
+items_near b sev ps means near = items_in sev ps means (λ x. x ≤ b) (support_all (λ x. x ≤ b) ps near)
+
+module _ (o : Option GridLayer) (bang : Bool) (s : GridSev) where
+  pub in_layer_near : (b : ℕ) → IsSevWithin b s → Near b (layer_pairs o bang s)
+  in_layer_near b near = layer_near b o bang s (mixed_near b s near)
+
+  pub in_layer_few : IsGridSev s → length (layer_pairs o bang s) ≤ 65536
+  in_layer_few grid = omega (arith, layer_few o bang s, mixed_few s grid)
+
+-- ---- the occurrence clause
+
+kept_small : (clause : Clause) (x : ℕ) → IsClause clause → IsWhole (kept clause x) → (kept clause x).num ≤ x
+kept_small clause x cession is =
+    let c : ℕ = parts_in_bucket clause in
+    let p : ℕ = kept_parts clause c x in
+    subst (λ n. n ≤ x) (sym (ap (λ (y : Fraction). y.num)
+    (kept_whole clause x c p refl refl (kept_only clause x c p refl refl is)) ∙ whole_num (p / c)))
+    (at_most p c x (bucket_pos clause) (kept_le clause c x cession))
+  where
+    at_most : (p c x : ℕ) → 0 < c → p ≤ x * c → p / c ≤ x
+    at_most p c x pos h = div-le_of_le-mul c (omega (arith, h))
+
+-- a clause with fine shares that maps each amount of positive probability to a whole number makes none greater
+pub ceded_near : (b : ℕ) (clause : Clause) (ps : Pairs) → IsClause clause
+    → All (λ x. IsWhole (kept clause x)) (support ps) → Near b ps
+    → All (λ x. x ≤ b) (support (ceded_each clause ps))
+ceded_near b clause ps cession w near =
+    subst (All (λ x. x ≤ b)) (sym (support-mapped (λ x. (kept clause x).num) ps))
+    (All-map (λ x. x ≤ b) (λ x. (kept clause x).num) (support ps)
+    (λ k d h. le_trans (kept_small clause (get_or (support ps) k d) cession (w k d h))
+    (support_all (λ x. x ≤ b) ps near k d h)))

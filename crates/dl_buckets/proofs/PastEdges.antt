@@ -1,0 +1,111 @@
+-- Past its greatest edge a clause's map is a straight line: what that makes of the multiples of a step.
+use Rattle.dl_buckets.proofs.Common.{◌↔◌, length, get_or, ℕ, zero, suc, ◌≡◌, ◌∙◌, ◌+◌, ◌*◌, ◌/◌, ◌<◌, ◌≤◌, ◌==◌, ◌⊎◌, not, max, Bool, true, false, List, [], ◌∷◌, Option, Some, None, sym, ap, subst, arith, inl, inr, All, MatchOption, cases_lt, eqb-true, ne_eqb, not-false, list_any_none, All-nil, All-cons, Fraction, whole, CedeLayer, IsWhole, Clause, kept, IsClause, whole_den, is_whole, is_off, is_off_multiples}
+use Rattle.std.proofs.Common.{is_some, mul-le-mul_right, fold}
+use Rattle.std.specs.List.{range_with_len}
+use Rattle.std.proofs.lemmas.Bool.{not_from_false}
+use Rattle.std.proofs.Math.Nat.{eq-zero-or-pos, le-max_left, le-max_right}
+use Rattle.dl_buckets.specs.Clauses.{greatest_edge}
+use Rattle.std.proofs.lemmas.List.FromFn.{length-range_with_len, get_or-range_with_len}
+use Rattle.dl_plan.specs.Horizon.{edge}
+use Rattle.dl_plan.proofs.Horizons.{attach_le}
+use Rattle.dl_plan.proofs.Straight.{IsClear}
+use Rattle.dl_sev.proofs.Lattices.{on_line}
+use Rattle.dl_buckets.proofs.Values.{never}
+
+-- ---- edges
+
+edges_from : ℕ → List CedeLayer → ℕ
+edges_from m ls = fold (λ greatest l. max greatest (edge l)) m ls
+
+edges_above : (m : ℕ) (ls : List CedeLayer) → m ≤ edges_from m ls
+unfolding edges_from
+edges_above m [] = omega arith
+edges_above m (l ∷ ls) = omega (arith, le-max_left m (edge l), edges_above (max m (edge l)) ls)
+
+clear_past : (m : ℕ) (ls : List CedeLayer) (x y : ℕ) → edges_from m ls ≤ x → All (IsClear x y) ls
+unfolding edges_from
+clear_past m [] x y h = All-nil (IsClear x y)
+clear_past m (l ∷ ls) x y h =
+    let top : edge l ≤ x = omega (arith, le-max_right m (edge l), edges_above (max m (edge l)) ls, h) in
+    All-cons (IsClear x y) l ls
+    (record { attach = inl (omega (arith, attach_le l.limit l.attach, top)); edge = inl top })
+    (clear_past (max m (edge l)) ls x y h)
+
+module _ (clause : Clause) (s : ℕ) (edges : greatest_edge clause ≤ s) where
+  clear_at : (x y : ℕ) → s ≤ x → All (IsClear x y) clause.1
+  unfolding edges_from
+  clear_at x y h = clear_past 0 clause.1 x y (omega (arith, edges, h))
+
+-- ---- amounts that are mapped to no whole number
+
+pub off_told : (o : Option ℕ) (off : Bool) (x : Fraction) → is_some o ≡ not off
+    → MatchOption o (¬ IsWhole x) (λ y. x ≡ whole y)
+    → off ≡ not (is_whole x)
+off_told None true x e h = sym (not_from_false (x.den == 1) (ne_eqb x.den 1 h))
+off_told None false x e h = absurd (cc)
+off_told (Some y) true x e h = absurd (cc)
+off_told (Some y) false x e h = sym (ap (λ n. not (n == 1)) (ap (λ (z : Fraction). z.den) h ∙ whole_den y))
+
+pub whole_unless : (x : Fraction) → not (is_whole x) ≡ false → IsWhole x
+whole_unless x h = eqb-true x.den 1 (not-false _ h)
+
+not_off : (x : Fraction) → IsWhole x → not (is_whole x) ≡ false
+not_off x h = ap (λ n. not (n == 1)) h
+
+-- ---- the multiples of a step
+
+module _ (clause : Clause) (step : ℕ) where
+  abbrev tried : ℕ
+  tried = greatest_edge clause / step + 3
+
+  known : is_off_multiples clause step ≡ false → (n : ℕ) → n < tried → IsWhole (kept clause (n * step))
+  known none n h =
+      let inside : n < length (range_with_len 0 tried) = omega (arith, h, length-range_with_len 0 tried) in
+      let here : get_or (range_with_len 0 tried) n 0 ≡ n = get_or-range_with_len 0 tried n 0 h ∙ omega arith in
+      whole_unless (kept clause (n * step)) (subst (λ m. is_off clause (m * step) ≡ false) here
+      (never (λ m. is_off clause (m * step)) (range_with_len 0 tried) none n 0 inside))
+
+  -- so many multiples are past the greatest edge
+  past_edge : (e n s : ℕ) → 0 < s → e / s + 1 ≤ n → e ≤ n * s
+  past_edge e n s pos h = omega (arith, mul-le-mul_right s h)
+
+  two_fit : IsClause clause → 0 < step → is_off_multiples clause step ≡ false → (n : ℕ)
+      → IsWhole (kept clause (n * step)) × IsWhole (kept clause (n * step + step))
+  two_fit cession pos none zero = (
+    known none 0 (omega arith),
+    subst (λ x. IsWhole (kept clause x)) (omega arith) (known none 1 (omega arith)),
+  )
+  two_fit cession pos none (suc n) =
+      let before = two_fit cession pos none n in
+      let next : n * step + step ≡ suc n * step = omega arith in
+      let further : n * step + 2 * step ≡ suc n * step + step = omega arith in (
+        subst (λ x. IsWhole (kept clause x)) next before.1,
+        subst (λ x. IsWhole (kept clause x)) further (last before (cases_lt (n + 2) tried)),
+      )
+    where
+      last : IsWhole (kept clause (n * step)) × IsWhole (kept clause (n * step + step))
+          → ((n + 2 < tried) ⊎ (tried ≤ n + 2))
+          → IsWhole (kept clause (n * step + 2 * step))
+      last before (inl low) = subst (λ x. IsWhole (kept clause x)) (omega arith) (known none (n + 2) low)
+      last before (inr high) =
+          on_line clause step cession (n * step) (clear_at clause (n * step)
+          (past_edge (greatest_edge clause) n step pos (omega (arith, high))) (n * step)
+          (n * step + 2 * step) (omega arith))
+          before.0 before.1
+
+  -- where the multiples that are tried are mapped to whole numbers, all are
+  pub fits_tried : IsClause clause → is_off_multiples clause step ≡ false → (n : ℕ) → IsWhole (kept clause (n * step))
+  fits_tried cession none n = elim (eq-zero-or-pos step) [
+    | inl zero_step ↦ subst (λ x. IsWhole (kept clause x)) (omega (arith, ap (λ s. n * s) zero_step))
+        (known none 0 (omega arith))
+    | inr pos ↦ (two_fit cession pos none n).0
+  ]
+
+  pub tried_fits : ((n : ℕ) → IsWhole (kept clause (n * step))) → is_off_multiples clause step ≡ false
+  tried_fits whole_at = list_any_none (λ m. is_off clause (m * step)) (range_with_len 0 tried)
+      (λ k d h. not_off (kept clause (get_or (range_with_len 0 tried) k d * step))
+      (whole_at (get_or (range_with_len 0 tried) k d)))
+
+  pub all_multiples : IsClause clause → (is_off_multiples clause step ≡ false)
+      ↔ ((n : ℕ) → IsWhole (kept clause (n * step)))
+  all_multiples cession = (fits_tried cession, tried_fits)

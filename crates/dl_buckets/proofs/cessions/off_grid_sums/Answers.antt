@@ -1,0 +1,25 @@
+-- The multiples that are tried tell of all sums.
+use Rattle.dl_buckets.proofs.Common.{◌≡◌, ◌∙◌, ◌↔◌, ℕ, Bool, true, false, not, refl, sym, ap, subst, at_if, Clause, IsClause, IsMade, is_off_multiples}
+use Rattle.std.proofs.Common.{IsTrue}
+use Rattle.std.proofs.lemmas.Bool.{true_from_ne_false}
+use Rattle.dl_sev.specs.Fits.{FitsStep}
+use Rattle.dl_buckets.specs.Rules.{off_grid_sums}
+use Rattle.dl_buckets.proofs.PastEdges.{fits_tried, tried_fits}
+use Rattle.dl_buckets.proofs.cessions.off_grid_sums.Goals as goal
+
+off_is : (clause : Clause) (step : ℕ) (fits : Bool) → IsClause clause → (IsTrue fits ↔ FitsStep clause step)
+    → not fits ≡ is_off_multiples clause step
+off_is clause step true cession means = sym (tried_fits clause step (means.0 refl))
+off_is clause step false cession means =
+    sym (true_from_ne_false (is_off_multiples clause step)
+    (λ none. absurd (cc (means.1 (fits_tried clause step cession none)))))
+
+pub returns-in-Whole : goal.returns-in-Whole
+returns-in-Whole c =
+    let clause = c.in-Whole.cede in
+    let place = c.in-Whole.span in
+    c.place_if.ensures
+    ∙ ap (λ b. at_if b place) (off_is clause c.common_amount.result c.fits.result
+    (subst IsMade c.in-Whole.is c.requires) c.fits.ensures)
+    ∙ ap (λ n. at_if (is_off_multiples clause n) place) c.common_amount.ensures
+    ∙ ap (λ made. off_grid_sums made c.args.amounts.now) (sym c.in-Whole.is)

@@ -1,0 +1,6 @@
+-- The look decides.
+use Rattle.dl_buckets.proofs.PastEdges.{all_multiples}
+use Rattle.dl_buckets.proofs.law.law_clauses.Goals as goal
+
+pub returns : goal.returns
+returns c = λ clause step cession. all_multiples clause step cession

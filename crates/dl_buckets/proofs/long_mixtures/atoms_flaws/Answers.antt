@@ -1,0 +1,16 @@
+-- One atom more.
+use Rattle.dl_buckets.proofs.LongMixtures.{atoms_none, atoms_next, atoms_end}
+use Rattle.dl_buckets.proofs.long_mixtures.atoms_flaws.Goals as goal
+
+pub atoms-init : goal.atoms-init
+atoms-init c = λ most bs. atoms_none most bs c.none-flaws.result c.none-flaws.ensures
+
+pub atoms-preserved : goal.atoms-preserved
+atoms-preserved c = λ most bs.
+    atoms_next most bs c.atoms.flaws c.in_ok-values.values c.in_ok-probs.probs c.or.result c.or-flaws.result
+    c.args.atoms.now c.atoms.atom-index c.atom-item.result c.atoms-test.true c.atom-item.is (c.atoms.invariant most bs)
+    c.in_ok-values.ensures c.in_ok-probs.ensures c.or.ensures c.or-flaws.ensures
+
+pub returns : goal.returns
+returns c = λ most bs.
+    atoms_end most bs c.atoms.flaws c.args.atoms.now c.atoms.atom-index c.atoms-test.false (c.atoms.invariant most bs)

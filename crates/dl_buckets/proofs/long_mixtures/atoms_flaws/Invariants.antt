@@ -1,0 +1,9 @@
+-- The flaws of the atoms so far.
+use Rattle.dl_buckets.proofs.Common.{ℕ, take, Fraction}
+use Rattle.dl_buckets.specs.Flaws.{AgreeEarly, flaws_in}
+use Rattle.dl_buckets.specs.Reading.{flaws_of_atom}
+use Rattle.dl_buckets.proofs.long_mixtures.atoms_flaws.Given as goal
+
+abbrev pub invariant-atoms : goal.invariant-atoms
+invariant-atoms l = (most : ℕ) (bs : Fraction)
+    → AgreeEarly l.flaws (flaws_in (flaws_of_atom most bs) (take l.atom-index l.atoms))

@@ -1,0 +1,5 @@
+-- What is written here is well formed.
+use Rattle.dl_buckets.proofs.numbers.number_or.Goals as goal
+
+pub number-requires : goal.number-requires
+number-requires c = rw c.in-Some.is at c.requires

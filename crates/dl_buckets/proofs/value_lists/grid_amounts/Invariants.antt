@@ -1,0 +1,11 @@
+-- The amounts so far.
+use Rattle.dl_buckets.proofs.Common.{map, take, number_of}
+use Rattle.dl_buckets.specs.Flaws.{IsRead, flaws_in}
+use Rattle.dl_buckets.specs.Reading.{flaws_of_amount}
+use Rattle.dl_buckets.proofs.value_lists.grid_amounts.Given as goal
+
+abbrev pub invariant-placed : goal.invariant-placed
+invariant-placed l =
+    IsRead (flaws_in (λ pair. flaws_of_amount l.most l.bs pair.0 pair.1) (take l.value-index l.placed))
+    (map (λ pair. number_of l.bs pair.0) (take l.value-index l.placed))
+    (record { part = l.made.items; flaws = l.flaws })

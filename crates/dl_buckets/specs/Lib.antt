@@ -1,0 +1,15 @@
+pub mod First
+pub mod Values
+pub mod Flaws
+pub mod Lists
+pub mod Small
+pub mod Reading
+pub mod Grid
+pub mod Clauses
+pub mod Severity
+pub mod FineParts
+pub mod Rules
+pub mod GridKept
+pub mod Kept
+pub mod Parts
+pub mod ClausesKept

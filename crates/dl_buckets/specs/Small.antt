@@ -1,0 +1,46 @@
+-- What the numbers of a unit keep: small parts, and lists of some values, but not too many.
+use Rattle.std.specs.Prelude.{◌≡◌, ◌<◌, ◌≤◌, ◌^◌, ⊤, false, length, All, IfSome}
+use Rattle.dl_limits.specs.Limits.{most_values}
+use Rattle.dl_exact.specs.Fraction.{Fraction}
+use Rattle.dl_sev.specs.Buckets.{HasPartsOf18Digits}
+use Rattle.dl_buckets.specs.declared.grid.ValueList.{ValueList}
+use Rattle.dl_buckets.specs.declared.grid.Shares.{Shares}
+use Rattle.dl_buckets.specs.Lists.{is_not_one, weights_over}
+use Rattle.dl_buckets.specs.declared.grid.GridExposure.{GridExposure}
+use Rattle.dl_buckets.specs.declared.grid.GridExposure.TheVariants.{Claims, Loss, Premium}
+use Rattle.dl_buckets.specs.declared.grid.GridFreq.{GridFreq}
+use Rattle.dl_buckets.specs.declared.grid.GridFreq.TheVariants.{Fixed, Poisson, Bernoulli, Binomial, Gamma}
+use Rattle.dl_buckets.specs.declared.grid.GridCount.{GridCount}
+use Rattle.dl_buckets.specs.declared.grid.GridCount.TheVariants.{Exposed, Listed}
+
+-- both parts have at most as much as 11 digits write
+pub record IsSmall (x : Fraction) : Type 0 where
+  pub num : x.num < 10 ^ 11
+  pub den : x.den ≤ 10 ^ 11
+
+-- 1 to 1,024 values
+pub record IsValueList (l : ValueList) : Type 0 where
+  pub some : 0 < length l.values
+  pub few : length l.values ≤ most_values
+  pub modest : All HasPartsOf18Digits l.values
+
+-- it has its weights, and fine probabilities sum to 1
+pub record IsShares (l : Shares) : Type 0 where
+  pub weights : l.weights ≡ weights_over l.values
+  pub one : is_not_one l.values ≡ false
+
+abbrev pub IsGridExposure : GridExposure → Type 0
+IsGridExposure (Claims x _) = IsSmall x
+IsGridExposure (Loss x _) = IsSmall x
+IsGridExposure (Premium p r _) = IsSmall p × IsSmall r
+
+abbrev pub IsGridFreq : GridFreq → Type 0
+IsGridFreq (Fixed _) = ⊤
+IsGridFreq (Poisson _) = ⊤
+IsGridFreq (Bernoulli _) = ⊤
+IsGridFreq (Binomial x _) = IsSmall x
+IsGridFreq (Gamma x _) = IsSmall x
+
+abbrev pub IsGridCount : GridCount → Type 0
+IsGridCount (Exposed exposure freq) = IsGridExposure exposure × IsGridFreq freq
+IsGridCount (Listed counts probs) = IsValueList counts × IfSome probs IsShares

@@ -1,0 +1,162 @@
+//! What reading a unit tells of beside the unit: the first place where each rule is broken.
+
+ghost use Rattle.std.specs.Prelude.{◌≡◌, Some};
+ghost use Rattle.dl_buckets.specs.Flaws.{no_flaws, flaws_else, earlier_flaws, numeral_at, range_at, long_at, lengths_at, sum_at};
+
+use dl_lexer::Span;
+
+/// Of each rule that a text can break as it is read, the first place where it is broken; the rules
+/// in their order. A place is right where no rule before it is broken.
+#[derive(Clone, Copy)]
+pub struct Flaws {
+    /// A numeral of more than 11 digits, or a fraction over 0.
+    pub numeral: Option<Span>,
+    /// A range that goes down, has the step 0, or too fine numbers.
+    pub range: Option<Span>,
+    /// A list of more than 1,024 values, a severity of more than 64 atoms, or a clause of more than
+    /// 16 layers.
+    pub long: Option<Span>,
+    /// Probabilities beside another number of values.
+    pub lengths: Option<Span>,
+    /// Fine probabilities that do not sum to 1.
+    pub sum: Option<Span>,
+    /// An amount of money that is no whole number of buckets.
+    pub off_grid: Option<Span>,
+    /// An amount of money that passes the most buckets that one may have.
+    pub too_far: Option<Span>,
+}
+
+impl Flaws {
+    /// No place.
+    pub(crate) fn none() -> Flaws
+        ensures { result ≡ no_flaws }
+    {
+        Flaws {
+            numeral: None,
+            range: None,
+            long: None,
+            lengths: None,
+            sum: None,
+            off_grid: None,
+            too_far: None,
+        }
+    }
+
+    /// The place of a bad numeral.
+    pub(crate) fn numeral_at(place: Option<Span>) -> Flaws
+        ensures { result ≡ numeral_at place }
+    {
+        Flaws {
+            numeral: place,
+            ..Flaws::none()
+        }
+    }
+
+    /// The place of a bad range.
+    pub(crate) fn range_at(place: Option<Span>) -> Flaws
+        ensures { result ≡ range_at place }
+    {
+        Flaws {
+            range: place,
+            ..Flaws::none()
+        }
+    }
+
+    /// The place of what is too long.
+    pub(crate) fn long_at(place: Option<Span>) -> Flaws
+        ensures { result ≡ long_at place }
+    {
+        Flaws {
+            long: place,
+            ..Flaws::none()
+        }
+    }
+
+    /// The place of probabilities beside another number of values.
+    pub(crate) fn lengths_at(place: Option<Span>) -> Flaws
+        ensures { result ≡ lengths_at place }
+    {
+        Flaws {
+            lengths: place,
+            ..Flaws::none()
+        }
+    }
+
+    /// The place of probabilities that do not sum to 1.
+    pub(crate) fn sum_at(place: Option<Span>) -> Flaws
+        ensures { result ≡ sum_at place }
+    {
+        Flaws {
+            sum: place,
+            ..Flaws::none()
+        }
+    }
+
+    /// These places, and for each rule without one that of a later part.
+    pub(crate) fn or(self, later: Flaws) -> Flaws
+        ensures { result ≡ flaws_else self later }
+    {
+        Flaws {
+            numeral: self.numeral.or(later.numeral),
+            range: self.range.or(later.range),
+            long: self.long.or(later.long),
+            lengths: self.lengths.or(later.lengths),
+            sum: self.sum.or(later.sum),
+            off_grid: self.off_grid.or(later.off_grid),
+            too_far: self.too_far.or(later.too_far),
+        }
+    }
+
+    /// Of each rule the first place in the text, of those in a unit's own part, which precedes its
+    /// severity, and in that severity. A named severity is written before all units.
+    pub(crate) fn earlier(named: bool, own: Flaws, severity: Flaws) -> Flaws
+        ensures { result ≡ earlier_flaws named own severity }
+    {
+        if named {
+            severity.or(own)
+        } else {
+            own.or(severity)
+        }
+    }
+}
+
+/// A part of a unit in whole buckets, with its flaws. Where it has one, the part is of no use.
+#[derive(Drop)]
+pub struct Gridded<T> {
+    /// The part.
+    pub part: T,
+    /// Its flaws.
+    pub flaws: Flaws,
+}
+
+impl<T: Drop> Gridded<T> {
+    /// A part without flaws.
+    pub(crate) fn clean(part: T) -> Gridded<T>
+        ensures { result ≡ record { part = part; flaws = no_flaws } }
+    {
+        Gridded {
+            part,
+            flaws: Flaws::none(),
+        }
+    }
+
+    /// Another part with the same flaws.
+    pub(crate) fn with<U: Drop>(&self, part: U) -> Gridded<U>
+        ensures { result ≡ record { part = part; flaws = self.now.flaws } }
+    {
+        Gridded {
+            part,
+            flaws: self.flaws,
+        }
+    }
+
+    /// The part of something that may be missing.
+    pub(crate) fn some(self) -> Gridded<Option<T>>
+        ensures { result ≡ record { part = Some self.part; flaws = self.flaws } }
+    {
+        Gridded {
+            part: Some(self.part),
+            flaws: self.flaws,
+        }
+    }
+}

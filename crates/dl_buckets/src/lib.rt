@@ -1,0 +1,41 @@
+//! A unit of a text in whole buckets, each numeral and each list read once: its severity step by
+//! step, its layer and its clauses, and the rules on them.
+#![tactic(auto)]
+
+mod cessions;
+mod clauses;
+mod compare;
+mod copies;
+mod count;
+mod flaws;
+mod grid;
+mod law;
+mod layers;
+mod lists;
+mod long_mixtures;
+mod losses;
+mod made;
+mod numbers;
+mod places;
+mod reading;
+mod severity;
+mod shares;
+mod support;
+mod value_lists;
+
+pub use cessions::off_grid_cession;
+pub use clauses::{overlap, share_above_one};
+pub use compare::is_above;
+pub use flaws::{Flaws, Gridded};
+pub use grid::{
+    GridAtom, GridCeded, GridClause, GridCount, GridExposure, GridFreq, GridLayer, GridSev,
+    GridShare, GridUnit, Shares, ValueList,
+};
+pub use law::law_clauses;
+pub use lists::weights_differ;
+pub use made::{Clauses, MadeClause, make_clauses};
+pub use places::place_if;
+pub use reading::{grid_mixture, grid_unit};
+pub use severity::{final_severity, weighed_severity};
+pub use shares::{are_fine, weights_among};
+pub use support::{none_above, positive_amounts, support_in_layer};

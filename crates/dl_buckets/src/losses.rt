@@ -1,0 +1,126 @@
+//! The atoms of a severity, read.
+
+ghost use Rattle.std.specs.Prelude.{◌≡◌, ◌≤◌, All, IfOk, IfSome, map};
+ghost use Rattle.dl_limits.specs.Limits.{most_amount};
+ghost use Rattle.dl_ast.specs.WellFormed.{IsFormedAtom, IsFormedList};
+ghost use Rattle.dl_plan.specs.Ranges.{IsBucket};
+ghost use Rattle.dl_buckets.specs.Flaws.{IsRead, KeepsLists, flaws_in, flaws_within};
+ghost use Rattle.dl_buckets.specs.Grid.{grid_atom, grid_shares};
+ghost use Rattle.dl_buckets.specs.Reading.{flaws_of_list, flaws_of_shares, flaws_beside, flaws_of_atom};
+ghost use Rattle.dl_buckets.specs.Values.{if_there, values_of};
+
+use crate::flaws::{Flaws, Gridded};
+use crate::grid::{GridAtom, Shares};
+use crate::places::place_if;
+use crate::shares::shares;
+use crate::value_lists::{grid_amounts, placed_values, value_list};
+use dl_ast::{Atom, ListAst};
+use dl_frac::Frac;
+use dl_plan::Items;
+use std::alloc::{AllocError, Global};
+
+/// The atoms of a severity.
+pub(crate) fn grid_atoms(
+    alloc: Global,
+    atoms: &[Atom],
+    bs: Frac,
+    most: u32,
+) -> Result<Gridded<Items<GridAtom>>, AllocError>
+    requires bucket { IsBucket bs }
+    requires most { most ≤ most_amount }
+    requires formed { All IsFormedAtom atoms.now }
+    ensures { IfOk result (IsRead (flaws_in (flaws_of_atom most bs) atoms.now)
+        (map (grid_atom bs) atoms.now)) }
+{
+    let mut made = Vec::new(alloc);
+    let mut flaws = Flaws::none();
+    'atoms: for atom in atoms {
+        let one = grid_atom(alloc, atom, bs, most)?;
+        made.push(one.part)?;
+        flaws = flaws.or(one.flaws);
+    }
+    Ok(Gridded {
+        part: Items::from_vec(made),
+        flaws,
+    })
+}
+
+/// An atom.
+fn grid_atom(
+    alloc: Global,
+    atom: &Atom,
+    bs: Frac,
+    most: u32,
+) -> Result<Gridded<GridAtom>, AllocError>
+    requires bucket { IsBucket bs }
+    requires most { most ≤ most_amount }
+    requires formed { IsFormedAtom atom.now }
+    ensures { IfOk result (IsRead (flaws_of_atom most bs atom.now) (grid_atom bs atom.now)) }
+{
+    let placed = placed_values(alloc, &atom.values)?;
+    let values = placed.part.as_slice();
+    let amounts = grid_amounts(alloc, values, bs, most)?;
+    let probs = probs_beside(alloc, values.len(), &atom.probs)?;
+    let own = placed.flaws.or(amounts.flaws);
+    Ok(Gridded {
+        part: GridAtom {
+            amounts: amounts.part,
+            probs: probs.part,
+        },
+        flaws: own.or(probs.flaws),
+    })
+}
+
+/// The probabilities beside so many values, where there are some.
+pub(crate) fn probs_beside(
+    alloc: Global,
+    count: usize,
+    probs: &Option<ListAst>,
+) -> Result<Gridded<Option<Shares>>, AllocError>
+    requires { IfSome probs.now IsFormedList }
+    ensures { IfOk result (IsRead (flaws_within (flaws_beside count) probs.now)
+        (if_there grid_shares probs.now)) }
+{
+    match probs {
+        Some(list) => {
+            let made = read_shares(alloc, list)?;
+            let is_other = count != made.part.values.as_slice().len();
+            let lengths = Flaws::lengths_at(place_if(is_other, list.span));
+            Ok(Gridded {
+                part: Some(made.part),
+                flaws: made.flaws.or(lengths),
+            })
+        }
+        None => Ok(Gridded::clean(None)),
+    }
+}
+
+/// The weights of the atoms, where there are some.
+pub(crate) fn own_weights(
+    alloc: Global,
+    weights: &Option<ListAst>,
+) -> Result<Gridded<Option<Shares>>, AllocError>
+    requires { IfSome weights.now IsFormedList }
+    ensures { IfOk result (IsRead (flaws_within flaws_of_shares weights.now)
+        (if_there grid_shares weights.now)) }
+{
+    match weights {
+        Some(list) => Ok(read_shares(alloc, list)?.some()),
+        None => Ok(Gridded::clean(None)),
+    }
+}
+
+/// A list of probabilities. It has its values where the text keeps the rules on lists.
+fn read_shares(alloc: Global, list: &ListAst) -> Result<Gridded<Shares>, AllocError>
+    requires { IsFormedList list.now }
+    ensures read { IfOk result (IsRead (flaws_of_shares list.now) (grid_shares list.now)) }
+    ensures values { IfOk result (λ made. KeepsLists (flaws_of_list list.now)
+        → made.part.values ≡ values_of list.now) }
+{
+    let listed = value_list(alloc, list)?;
+    let made = shares(alloc, listed.part.values.into_vec(), list.span)?;
+    Ok(Gridded {
+        part: made.part,
+        flaws: listed.flaws.or(made.flaws),
+    })
+}

@@ -1,0 +1,124 @@
+//! The clauses of a unit, each made once.
+
+ghost use Rattle.std.specs.Prelude.{◌≡◌, ◌<◌, false, IfOk, IfSome, MatchOption, map};
+ghost use Rattle.dl_limits.specs.Limits.{most_parts};
+ghost use Rattle.dl_plan.specs.Clause.{IsClause};
+ghost use Rattle.dl_buckets.specs.Lists.{is_fine};
+ghost use Rattle.dl_buckets.specs.Clauses.{ceded_layer, clause_of, made_of, part_of, share_of, shares_of, IsMade};
+ghost use Rattle.dl_buckets.specs.ClausesKept.{AreClausesOf, IsClauseLayered};
+ghost use Rattle.dl_buckets.specs.Kept.{IsLayered};
+ghost use Rattle.dl_buckets.specs.Rules.{part_exceeds, share_exceeds};
+
+use crate::clauses::part_of;
+use crate::grid::{GridClause, GridShare, GridUnit};
+use dl_frac::Frac;
+use dl_lexer::Span;
+use dl_plan::{Cede, CedeLayer};
+use std::alloc::{AllocError, Global};
+
+/// A clause of a unit as it is made.
+#[derive(Drop)]
+pub enum MadeClause {
+    /// There is none.
+    Missing,
+    /// Its shares are not fine.
+    TooFine,
+    /// The clause, with its place.
+    Whole(Cede, Span),
+}
+
+/// The clauses of a unit.
+#[derive(Drop)]
+pub struct Clauses {
+    /// That of each claim.
+    pub occ: MadeClause,
+    /// That of the unit's sum.
+    pub agr: MadeClause,
+}
+
+/// The clauses of a unit that breaks no rule on their layers.
+pub fn make_clauses(alloc: Global, unit: &GridUnit) -> Result<Clauses, AllocError>
+    requires { IsLayered unit.now }
+    ensures { IfOk result (AreClausesOf unit.now) }
+{
+    let occ = made(alloc, &unit.occ)?;
+    let agr = made(alloc, &unit.agr)?;
+    Ok(Clauses { occ, agr })
+}
+
+/// A clause that may be missing.
+fn made(alloc: Global, cession: &Option<GridClause>) -> Result<MadeClause, AllocError>
+    requires { IfSome cession.now IsClauseLayered }
+    ensures same { IfOk result (λ clause. clause ≡ made_of cession.now) }
+    ensures made { IfOk result IsMade }
+{
+    let Some(cession) = cession else {
+        return Ok(MadeClause::Missing);
+    };
+    match clause(alloc, cession)? {
+        Some(cede) => Ok(MadeClause::Whole(cede, cession.span)),
+        None => Ok(MadeClause::TooFine),
+    }
+}
+
+/// A clause; none exactly where its shares are not fine.
+fn clause(alloc: Global, cession: &GridClause) -> Result<Option<Cede>, AllocError>
+    requires layered { IsClauseLayered cession.now }
+    ensures value { IfOk result (λ made. MatchOption made (is_fine (shares_of cession.now) ≡ false)
+        (λ clause. clause ≡ clause_of cession.now)) }
+    ensures cession { IfOk result (λ made. IfSome made IsClause) }
+{
+    let Some(layers) = parts_of(alloc, cession)? else {
+        return Ok(None);
+    };
+    let clause = Cede::from_slice(alloc, cession.net, &layers)?;
+    if clause.is_clause() {
+        Ok(Some(clause))
+    } else {
+        Ok(None)
+    }
+}
+
+/// The layers of a clause with their shares; none only where the shares are not fine.
+fn parts_of(alloc: Global, cession: &GridClause) -> Result<Option<Vec<CedeLayer>>, AllocError>
+    requires layered { IsClauseLayered cession.now }
+    ensures { IfOk result (λ made. MatchOption made (is_fine (shares_of cession.now) ≡ false)
+        (λ layers. layers.items ≡ map ceded_layer cession.now.layers)) }
+{
+    let mut layers = Vec::new(alloc);
+    'layers: for ceded in cession.layers.as_slice() {
+        let Some(share) = share_of(&ceded.share) else {
+            return Ok(None);
+        };
+        layers.push(part_of(&ceded.layer, share))?;
+    }
+    Ok(Some(layers))
+}
+
+/// A share of a layer; none only where its denominator passes 2^30.
+fn share_of(share: &GridShare) -> Option<Frac>
+    requires { share_exceeds share.now ≡ false }
+    ensures { MatchOption result (most_parts < (share_of share.now).den)
+        (λ made. made ≡ share_of share.now) }
+{
+    match share {
+        GridShare::Whole => Some(Frac::make(1, 1).unwrap()),
+        GridShare::So(share) => Some(*share),
+        GridShare::Po(part, limit) => share_of_limit(*part, *limit),
+    }
+}
+
+/// A part of a limit, 0 where there is no limit; none only where its denominator passes 2^30.
+fn share_of_limit(part: Frac, limit: Option<Frac>) -> Option<Frac>
+    requires within { part_exceeds part limit ≡ false }
+    ensures { MatchOption result (most_parts < (part_of part limit).den)
+        (λ made. made ≡ part_of part limit) }
+{
+    match limit {
+        Some(most) => match part.div(most) {
+            Ok(share) => Some(share),
+            Err(_) => None,
+        },
+        None => Some(Frac::make(0, 1).unwrap()),
+    }
+}

@@ -1,0 +1,99 @@
+//! A unit of a text in whole buckets, with the first place where it breaks each rule of reading.
+
+ghost use Rattle.std.specs.Prelude.{◌≡◌, ◌≤◌, IfOk};
+ghost use Rattle.dl_limits.specs.Limits.{most_amount};
+ghost use Rattle.dl_ast.specs.WellFormed.{IsFormedMixture, IsFormedUnit};
+ghost use Rattle.dl_plan.specs.Ranges.{IsBucket};
+ghost use Rattle.dl_buckets.specs.Flaws.{IsRead};
+ghost use Rattle.dl_buckets.specs.Grid.{grid_mixture, grid_with};
+ghost use Rattle.dl_buckets.specs.Reading.{flaws_of_mixture, flaws_with, is_named};
+ghost use Rattle.dl_buckets.specs.declared.flaws.Flaws.{Flaws as Places};
+ghost use Rattle.dl_buckets.specs.declared.grid.GridSev.{GridSev as Severity};
+
+use crate::count::{distribution, grid_count};
+use crate::flaws::{Flaws, Gridded};
+use crate::grid::{GridSev, GridUnit};
+use crate::layers::{own_clause, own_layer};
+use crate::long_mixtures::long_mixture;
+use crate::losses::{grid_atoms, own_weights};
+use dl_ast::{MixAst, SevBody, UnitAst};
+use dl_frac::Frac;
+use dl_limits::MOST_ATOMS;
+use std::alloc::{AllocError, Global};
+
+/// A mixture in whole buckets of size `bs`, with the first place where it breaks each rule; an
+/// amount passes where it is above `most`.
+pub fn grid_mixture(
+    alloc: Global,
+    mix: &MixAst,
+    bs: Frac,
+    most: u32,
+) -> Result<Gridded<GridSev>, AllocError>
+    requires bucket { IsBucket bs }
+    requires most { most ≤ most_amount }
+    requires formed { IsFormedMixture mix.now }
+    ensures { IfOk result (IsRead (flaws_of_mixture most bs mix.now) (grid_mixture bs mix.now)) }
+{
+    let atoms = mix.atoms.as_slice();
+    if atoms.len() > MOST_ATOMS {
+        return long_mixture(alloc, mix);
+    }
+    let atoms = grid_atoms(alloc, atoms, bs, most)?;
+    let weights = own_weights(alloc, &mix.weights)?;
+    Ok(Gridded {
+        part: GridSev {
+            atoms: atoms.part,
+            weights: weights.part,
+        },
+        flaws: atoms.flaws.or(weights.flaws),
+    })
+}
+
+/// A unit with this severity in whole buckets of size `bs`, with the first place where it breaks
+/// each rule; an amount passes where it is above `most`.
+pub fn grid_unit(
+    alloc: Global,
+    unit: &UnitAst,
+    sev: Gridded<GridSev>,
+    bs: Frac,
+    most: u32,
+) -> Result<Gridded<GridUnit>, AllocError>
+    requires bucket { IsBucket bs }
+    requires most { most ≤ most_amount }
+    requires formed { IsFormedUnit unit.now }
+    ensures { (flaws : Places) (right : Severity) → IsRead flaws right sev
+        → IfOk result (IsRead (flaws_with most bs flaws unit.now) (grid_with bs right unit.now)) }
+{
+    let given = distribution(&unit.count);
+    let (freq, zero) = given.part;
+    let count = grid_count(alloc, &unit.count, freq)?;
+    let layer = own_layer(&unit.layer, bs, most);
+    let occ = own_clause(alloc, &unit.occ, bs, most)?;
+    let agr = own_clause(alloc, &unit.agr, bs, most)?;
+    let own = count.flaws.or(layer.flaws);
+    let front = Flaws::earlier(is_named(&unit.sev.body), own, sev.flaws);
+    let terms = occ.flaws.or(given.flaws.or(agr.flaws));
+    Ok(Gridded {
+        part: GridUnit {
+            name: unit.name.span,
+            count: count.part,
+            layer: layer.part,
+            sev: sev.part,
+            bang: unit.sev.bang,
+            zero,
+            occ: occ.part,
+            agr: agr.part,
+        },
+        flaws: front.or(terms),
+    })
+}
+
+/// Whether a severity is the name of one that is written before all units.
+fn is_named(body: &SevBody) -> bool
+    ensures { result ≡ is_named body.now }
+{
+    match body {
+        SevBody::Mixture(_) => false,
+        SevBody::Ref(_) => true,
+    }
+}

@@ -1,0 +1,192 @@
+//! The values of a list, each with the place of its item.
+
+ghost use Rattle.std.specs.Prelude.{◌≡◌, ◌≤◌, ◌++◌, [], All, IfOk, IfErr, map, flat_map, length};
+ghost use Rattle.dl_limits.specs.Limits.{most_amount, most_values};
+ghost use Rattle.dl_ast.specs.WellFormed.{IsFormedItem, IsFormedList};
+ghost use Rattle.dl_plan.specs.Ranges.{IsBucket};
+ghost use Rattle.dl_sev.specs.Buckets.{HasPartsOf18Digits};
+ghost use Rattle.dl_sev.specs.Ranges.{IsRange, PassesRoom};
+ghost use Rattle.dl_buckets.specs.Flaws.{AgreeEarly, IsRead, IsReadTo, flaws_in};
+ghost use Rattle.dl_buckets.specs.Grid.{grid_list, number_of};
+ghost use Rattle.dl_buckets.specs.Reading.{flaws_of_item, flaws_of_list, flaws_of_amount};
+ghost use Rattle.dl_buckets.specs.Values.{placed_range, placed_in, placed_values, AreTooMany};
+
+use crate::flaws::{Flaws, Gridded};
+use crate::grid::ValueList;
+use crate::numbers::{grid_amount, item_range};
+use dl_ast::{ListAst, ListItem};
+use dl_frac::Frac;
+use dl_lexer::Span;
+use dl_limits::MOST_VALUES;
+use dl_plan::Items;
+use dl_sev::{ExpandFault, Range, expand};
+use std::alloc::{AllocError, Global};
+
+/// The values of a list; none where it has a flaw.
+pub(crate) fn value_list(alloc: Global, list: &ListAst) -> Result<Gridded<ValueList>, AllocError>
+    requires { IsFormedList list.now }
+    ensures { IfOk result (IsReadTo 3 (flaws_of_list list.now) (grid_list list.now)) }
+{
+    let placed = placed_values(alloc, list)?;
+    Ok(Gridded {
+        part: ValueList {
+            values: values_alone(alloc, placed.part.as_slice())?,
+            span: list.span,
+        },
+        flaws: placed.flaws,
+    })
+}
+
+/// The values of a list, each with the place of its item; none where the list has a flaw.
+pub(crate) fn placed_values(
+    alloc: Global,
+    list: &ListAst,
+) -> Result<Gridded<Items<(Frac, Span)>>, AllocError>
+    requires { IsFormedList list.now }
+    ensures read { IfOk result (IsReadTo 3 (flaws_of_list list.now) (placed_values list.now)) }
+    ensures modest { IfOk result (λ made. All (λ pair. HasPartsOf18Digits pair.0) made.part) }
+{
+    let ranges = item_ranges(alloc, list.items.as_slice())?;
+    if ranges.flaws.numeral.is_some() || ranges.flaws.range.is_some() {
+        return Ok(no_values(alloc, ranges.flaws));
+    }
+    match place_values(alloc, ranges.part.as_slice()) {
+        Ok(values) => Ok(ranges.with(Items::from_vec(values))),
+        Err(ExpandFault::TooLong) => {
+            let long = Flaws::long_at(Some(list.span));
+            Ok(no_values(alloc, ranges.flaws.or(long)))
+        }
+        Err(ExpandFault::OutOfMemory) => Err(AllocError),
+    }
+}
+
+/// No values beside flaws.
+fn no_values(alloc: Global, flaws: Flaws) -> Gridded<Items<(Frac, Span)>>
+    ensures part { result.part ≡ [] }
+    ensures flaws { result.flaws ≡ flaws }
+{
+    Gridded {
+        part: Items::from_vec(Vec::new(alloc)),
+        flaws,
+    }
+}
+
+/// The flaws of the numerals and ranges of a list, which is not expanded.
+pub(crate) fn item_flaws(alloc: Global, list: &ListAst) -> Result<Flaws, AllocError>
+    requires { IsFormedList list.now }
+    ensures { IfOk result (λ flaws. AgreeEarly flaws (flaws_of_list list.now)) }
+{
+    let ranges = item_ranges(alloc, list.items.as_slice())?;
+    Ok(ranges.flaws)
+}
+
+/// The ranges of items, each with the place of its item.
+fn item_ranges(
+    alloc: Global,
+    items: &[ListItem],
+) -> Result<Gridded<Items<(Range, Span)>>, AllocError>
+    requires { All IsFormedItem items.now }
+    ensures { IfOk result (IsReadTo 2 (flaws_in flaws_of_item items.now)
+        (map placed_range items.now)) }
+{
+    let mut made = Vec::new(alloc);
+    let mut flaws = Flaws::none();
+    'items: for item in items {
+        let one = item_range(item);
+        made.push((one.part, item.span))?;
+        flaws = flaws.or(one.flaws);
+    }
+    Ok(Gridded {
+        part: Items::from_vec(made),
+        flaws,
+    })
+}
+
+/// The values of ranges, each with the place of its range. `TooLong` exactly where there are more
+/// than 1,024 values.
+fn place_values(alloc: Global, ranges: &[(Range, Span)]) -> Result<Vec<(Frac, Span)>, ExpandFault>
+    requires { All (λ pair. IsRange pair.0) ranges.now }
+    ensures values { IfOk result (λ values. values.items ≡ flat_map placed_in ranges.now) }
+    ensures few { IfOk result (λ values. length values.items ≤ most_values) }
+    ensures long { IfErr result (AreTooMany (length (flat_map placed_in ranges.now))) }
+{
+    let mut values = Vec::new(alloc);
+    'each: for &(range, place) in ranges {
+        if let Err(fault) = push_placed(alloc, range, place, &mut values) {
+            return Err(fault);
+        }
+    }
+    Ok(values)
+}
+
+/// The values of a range put behind others, each with this place. `TooLong` exactly where there are
+/// then more than 1,024 values.
+fn push_placed(
+    alloc: Global,
+    range: Range,
+    place: Span,
+    values: &mut Vec<(Frac, Span)>,
+) -> Result<(), ExpandFault>
+    requires range { IsRange range }
+    requires room { length values.old.items ≤ most_values }
+    ensures values { IfOk result (λ _. values.new.items
+        ≡ values.old.items ++ placed_in (range, place)) }
+    ensures few { IfOk result (λ _. length values.new.items ≤ most_values) }
+    ensures long { IfErr result (PassesRoom (length values.old.items) range) }
+{
+    let part = expand(alloc, &[range])?;
+    if part.len() > MOST_VALUES - values.len() {
+        return Err(ExpandFault::TooLong);
+    }
+    push_each(values, &part, place)?;
+    Ok(())
+}
+
+/// Numbers put behind others, each with this place.
+fn push_each(values: &mut Vec<(Frac, Span)>, part: &[Frac], place: Span) -> Result<(), AllocError>
+    ensures { IfOk result (λ _. values.new.items
+        ≡ values.old.items ++ map (λ x. (x, place)) part.now) }
+{
+    'part: for &value in part {
+        values.push((value, place))?;
+    }
+    Ok(())
+}
+
+/// Values without their places.
+fn values_alone(alloc: Global, placed: &[(Frac, Span)]) -> Result<Items<Frac>, AllocError>
+    ensures { IfOk result (λ values. values ≡ map (λ pair. pair.0) placed.now) }
+{
+    let mut values = Vec::new(alloc);
+    'placed: for &(value, _) in placed {
+        values.push(value)?;
+    }
+    Ok(Items::from_vec(values))
+}
+
+/// Amounts of money, each with its place, as numbers of buckets.
+pub(crate) fn grid_amounts(
+    alloc: Global,
+    placed: &[(Frac, Span)],
+    bs: Frac,
+    most: u32,
+) -> Result<Gridded<Items<u32>>, AllocError>
+    requires bucket { IsBucket bs }
+    requires most { most ≤ most_amount }
+    requires modest { All (λ pair. HasPartsOf18Digits pair.0) placed.now }
+    ensures { IfOk result (IsRead
+        (flaws_in (λ pair. flaws_of_amount most bs pair.0 pair.1) placed.now)
+        (map (λ pair. number_of bs pair.0) placed.now)) }
+{
+    let mut made = Vec::new(alloc);
+    let mut flaws = Flaws::none();
+    'placed: for &(value, place) in placed {
+        let amount = grid_amount(value, bs, most, place);
+        made.push(amount.part)?;
+        flaws = flaws.or(amount.flaws);
+    }
+    Ok(Gridded {
+        part: Items::from_vec(made),
+        flaws,
+    })
+}

@@ -1,0 +1,65 @@
+-- A unit that is read tells of the rules that its text breaks, and where it breaks none it is the unit of the text.
+use Rattle.dl_types.proofs.Common.{ℕ, ◌≡◌, ◌∙◌, List, [], ◌∷◌, Option, Some, None, refl, sym, ap, subst, arith, Ok, Err, Fraction, Span, ◌else◌, breaks, CheckFault, GridUnit, UnitAst}
+use Rattle.std.proofs.Common.{length}
+use Rattle.std.specs.Prelude.{Result, OnOk}
+use Rattle.dl_types.specs.declared.rule.Rule.{Rule}
+use Rattle.dl_types.specs.declared.rule.Rule.TheVariants as rules
+use Rattle.dl_ast.specs.declared.ast.MixAst.{MixAst}
+use Rattle.dl_buckets.specs.declared.flaws.Flaws.{Flaws}
+use Rattle.dl_buckets.specs.declared.flaws.Gridded.{Gridded}
+unfoldable use Rattle.dl_buckets.specs.First.{first_in}
+use Rattle.dl_buckets.specs.Flaws.{places, AgreeToFirst, IsClean, IsRead}
+use Rattle.dl_buckets.specs.Grid.{grid_mixture, grid_with}
+unfoldable use Rattle.dl_buckets.specs.Grid.{grid_of}
+use Rattle.dl_buckets.specs.Reading.{flaws_of_mixture, flaws_with}
+unfoldable use Rattle.dl_buckets.specs.Reading.{flaws_of}
+use Rattle.dl_types.specs.Answer.{TellsFault}
+use Rattle.dl_types.specs.Faults.{first_broken, fault_of_text, text_rules}
+use Rattle.dl_types.proofs.RuleLists.{all_kept}
+
+-- each of these rules beside its place
+abbrev beside : List Rule → List (Option Span) → List (Rule × Option Span)
+beside [] places = []
+beside (rule ∷ rules) [] = []
+beside (rule ∷ rules) (place ∷ places) = (rule, place) ∷ beside rules places
+
+-- places that agree to the first tell one fault
+agree_told : (unit : ℕ) (rs : List Rule) (xs ys : List (Option Span)) → length xs ≡ length ys → AgreeToFirst xs ys
+    → first_broken unit (beside rs xs) ≡ first_broken unit (beside rs ys)
+unfolding first_in
+agree_told unit [] xs ys same h = refl
+agree_told unit (r ∷ rs) [] [] same h = refl
+agree_told unit (r ∷ rs) [] (y ∷ ys) same h = absurd (cc)
+agree_told unit (r ∷ rs) (x ∷ xs) [] same h = absurd (cc)
+agree_told unit (r ∷ rs) (x ∷ xs) (None ∷ ys) same h =
+    ap (λ p. breaks unit r p else first_broken unit (beside rs xs)) h.0
+    ∙ agree_told unit rs xs ys (omega (arith, same)) (h.1 refl)
+agree_told unit (r ∷ rs) (x ∷ xs) (Some y ∷ ys) same h =
+    ap (λ p. breaks unit r p else first_broken unit (beside rs xs)) h.0
+
+abbrev names : List Rule
+names =
+    rules.BadNumeral ∷ rules.BadRange ∷ rules.ListTooLong ∷ rules.LengthsDiffer ∷ rules.NotOne ∷ rules.OffGrid
+    ∷ rules.TooFar ∷ []
+
+pub text_clean : (unit : ℕ) (flaws : Flaws) → fault_of_text unit flaws ≡ None → IsClean flaws
+text_clean unit flaws e = all_kept unit (text_rules flaws) e
+
+module _ {A : Type 0} (unit : ℕ) (flaws : Flaws) (part : A) (made : Gridded A) (read : IsRead flaws part made) where
+  pub same_fault : fault_of_text unit made.flaws ≡ fault_of_text unit flaws
+  same_fault = agree_told unit names (places made.flaws) (places flaws) refl read.first
+
+  -- what holds of the part of a text without flaws holds of what is read, where no fault is told
+  pub part_keeps : (P : A → Type 0) (r : Result Unit CheckFault) → TellsFault (fault_of_text unit made.flaws) r
+      → (IsClean flaws → P part) → OnOk r (P made.part)
+  part_keeps P (Ok x) e keeps =
+      let clean = text_clean unit flaws (sym same_fault ∙ e) in
+      subst P (sym (read.right clean)) (keeps clean)
+  part_keeps P (Err stop) told keeps = tt
+
+-- the parts of a unit and its mixture
+pub unit_read : (most : ℕ) (bs : Fraction) (u : UnitAst) (m : MixAst) (made : Gridded GridUnit)
+    → IsRead (flaws_with most bs (flaws_of_mixture most bs m) u) (grid_with bs (grid_mixture bs m) u) made
+    → IsRead (flaws_of most bs u m) (grid_of bs u m) made
+unfolding flaws_of grid_of
+unit_read most bs u m made read = read

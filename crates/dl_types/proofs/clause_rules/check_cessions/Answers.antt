@@ -1,0 +1,18 @@
+-- The place that is looked for decides.
+use Rattle.dl_types.proofs.Common.{◌≡◌, ◌∙◌, ap, ap₂, subst, breaks, off_grid_cession}
+use Rattle.dl_buckets.specs.Clauses.{made_of}
+use Rattle.dl_buckets.specs.Rules.{off_grid_amounts}
+use Rattle.dl_types.specs.Answer.{TellsFault}
+use Rattle.dl_types.specs.declared.rule.Rule.TheVariants.{OffGridCession}
+use Rattle.dl_types.proofs.clause_rules.check_cessions.Goals as goal
+
+pub returns-clause-told : goal.returns-clause-told
+unfolding off_grid_cession
+returns-clause-told c =
+    let u = c.args.unit.now in
+    let clauses = c.in_ok-clauses.ensures in
+    let place : c.in_ok-place.place ≡ off_grid_cession u =
+    c.in_ok-place.ensures ∙ ap₂ (λ o a. off_grid_amounts o a c.deref.result.now) clauses.occ clauses.agr
+    ∙ ap (off_grid_amounts (made_of u.occ) (made_of u.agr)) (c.deref.ensures.value ∙ c.requires.amounts) in
+    subst (λ p. TellsFault (breaks c.args.number OffGridCession p) c.kept.result) place
+    (c.kept.ensures.told _ c.broken.ensures)

@@ -1,0 +1,34 @@
+-- The fractions are fine, and the exposure decides; or the name is the place.
+use Rattle.dl_types.proofs.Common.{◌∙◌, true, false, sym, ap, final_severity, TooFine, breaks, claims_above_zero, exposed_too_fine}
+use Rattle.dl_types.proofs.FineClaims.{coarse_place, fine_place}
+use Rattle.dl_types.proofs.count_rules.check_fine.Goals as goal
+
+pub returns-in_default-clause-told : goal.returns-in_default-clause-told
+returns-in_default-clause-told c =
+    let told = rw c.in_default.is at c.in_ok-severity.ensures in
+    rw c.typing.ensures (ap (breaks c.args.number TooFine) (coarse_place c.args.unit.now c.args.count told))
+
+pub returns-in-Some-fine_count-clause-told : goal.returns-in-Some-fine_count-clause-told
+returns-in-Some-fine_count-clause-told c =
+    let u = c.args.unit.now in
+    let told = rw c.in-Some.is at c.in_ok-severity.ensures in
+    let above = c.above_zero-above.ensures (final_severity u) told.1.means in
+    ap (breaks c.args.number TooFine) (sym (fine_place u c.args.count false told.0
+    (sym (ap (exposed_too_fine u.count c.args.count) (sym above) ∙ c.in-Some-fine_count.ensures.0))))
+
+pub returns-in-Some-fine_count-clause-claims : goal.returns-in-Some-fine_count-clause-claims
+returns-in-Some-fine_count-clause-claims c =
+    let told = rw c.in-Some.is at c.in_ok-severity.ensures in
+    record {
+      severity = told.1;
+      above = c.above_zero-above.ensures (final_severity c.args.unit.now) told.1.means
+          ∙ ap (claims_above_zero (final_severity c.args.unit.now)) (sym c.in-Some-fine_count.ensures.1.number);
+    }
+
+pub returns-clause-told : goal.returns-clause-told
+returns-clause-told c =
+    let u = c.args.unit.now in
+    let told = rw c.in-Some.is at c.in_ok-severity.ensures in
+    let above = c.above_zero-above.ensures (final_severity u) told.1.means in
+    rw c.typing-in-None.ensures (ap (breaks c.args.number TooFine) (sym (fine_place u c.args.count true told.0
+    (sym (ap (exposed_too_fine u.count c.args.count) (sym above) ∙ c.in-None.ensures)))))

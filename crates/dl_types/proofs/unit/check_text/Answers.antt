@@ -1,0 +1,65 @@
+-- What is read tells the faults of the text, and is the unit where there is none.
+use Rattle.dl_types.proofs.Common.{◌≡◌, refl, sym, subst, GridUnit, IsGridUnit, Settings, cells_asked}
+use Rattle.std.specs.Prelude.{IfOk}
+use Rattle.dl_limits.proofs.Scales.{amount_fits}
+use Rattle.dl_ast.specs.declared.ast.MixAst.{MixAst}
+use Rattle.dl_buckets.specs.Flaws.{IsClean, IsRead}
+use Rattle.dl_buckets.specs.Grid.{grid_mixture, grid_of}
+use Rattle.dl_buckets.specs.GridKept.{IsWithin}
+use Rattle.dl_buckets.specs.Reading.{flaws_of_mixture, flaws_of}
+use Rattle.dl_buckets.proofs.GridUnits.{grid_is, within_is}
+use Rattle.dl_types.specs.Answer.{TellsFault}
+use Rattle.dl_types.specs.Faults.{fault_of_text, most_asked}
+use Rattle.dl_types.specs.Known.{IsMixtureRead}
+use Rattle.dl_types.proofs.Texts.{same_fault, part_keeps, unit_read}
+use Rattle.dl_types.proofs.UnitFacts.{kept_as}
+use Rattle.dl_types.proofs.unit.check_text.Goals as goal
+
+module _ (c : goal.After-kept) (m : MixAst) (sev : IsMixtureRead c.args.settings.now m c.args.sev) where
+  abbrev settings : Settings
+  settings = c.args.settings.now
+
+  abbrev part : GridUnit
+  part = grid_of settings.bs c.args.unit.now m
+
+  read : IsRead (flaws_of (most_asked settings) settings.bs c.args.unit.now m) part c.in_ok-made.made
+  read =
+      subst (λ most. IsRead (flaws_of most settings.bs c.args.unit.now m) part c.in_ok-made.made)
+      c.most_asked.ensures.value
+      (unit_read c.most_asked.result settings.bs c.args.unit.now m c.in_ok-made.made (c.in_ok-made.ensures _ _
+      (subst (λ most. IsRead (flaws_of_mixture most settings.bs m) (grid_mixture settings.bs m) c.args.sev)
+      (sym c.most_asked.ensures.value) sev.right)))
+
+  told : TellsFault (fault_of_text c.args.number
+      (flaws_of (most_asked settings) settings.bs c.args.unit.now m)) c.kept.result
+  told = subst (λ fault. TellsFault fault c.kept.result) (same_fault c.args.number _ part c.in_ok-made.made read)
+      (c.kept.ensures.told _ c.check_flaws-told.ensures)
+
+  -- what holds of the unit of a text without flaws
+  keeps : (P : GridUnit → Type 0)
+      → (IsClean (flaws_of (most_asked settings) settings.bs c.args.unit.now m) → P part) → IfOk c.kept.result P
+  keeps P h =
+      kept_as P _ _ c.kept.result c.kept.ensures.same c.kept.ensures.kept
+      (part_keeps c.args.number _ part c.in_ok-made.made read P c.check_flaws-told.result c.check_flaws-told.ensures h)
+
+pub returns-clause-told : goal.returns-clause-told
+returns-clause-told c = told c
+
+pub returns-clause-same : goal.returns-clause-same
+returns-clause-same c =
+    λ m sev. keeps c m sev (λ made. made ≡ grid_of c.args.settings.now.bs c.args.unit.now m) (λ clean. refl)
+
+pub returns-clause-grid : goal.returns-clause-grid
+returns-clause-grid c =
+    let settings = c.args.settings.now in
+    let m = c.requires.sev.0 in
+    keeps c m c.requires.sev.1 IsGridUnit
+    (λ clean. grid_is (most_asked settings) settings.bs c.args.unit.now m clean (amount_fits (cells_asked settings))
+    c.requires.formed c.requires.sev.1.formed)
+
+pub returns-clause-within : goal.returns-clause-within
+returns-clause-within c =
+    let settings = c.args.settings.now in
+    let m = c.requires.sev.0 in
+    keeps c m c.requires.sev.1 (IsWithin (most_asked settings))
+    (λ clean. within_is (most_asked settings) settings.bs c.args.unit.now m clean)

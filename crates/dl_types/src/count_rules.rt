@@ -1,0 +1,138 @@
+//! The rules on the claim count of a unit, and on its fractions.
+
+ghost use Rattle.std.specs.Prelude.{◌≡◌, ◌<◌, Option, None, Some, IfOk, Ok, Err};
+ghost use Rattle.dl_types.specs.Faults.{breaks, first_broken, whole_rules, number_rules, count_rules};
+ghost use Rattle.dl_types.specs.Answer.{TellsFault};
+ghost use Rattle.dl_types.specs.declared.rule.Rule.TheVariants.{TooFine};
+ghost use Rattle.dl_buckets.specs.Rules.{off_grid_cession};
+ghost use Rattle.dl_types.specs.Rules.{too_fine};
+ghost use Rattle.dl_buckets.specs.Severity.{severity_in_layer, support};
+ghost use Rattle.dl_buckets.specs.FineParts.{IsWeighed};
+ghost use Rattle.dl_plan.specs.Ranges.{IsBucket};
+ghost use Rattle.dl_buckets.specs.Kept.{IsLayered};
+ghost use Rattle.dl_buckets.specs.ClausesKept.{AreClausesOf};
+ghost use Rattle.dl_types.specs.Exposures.{expected_claims};
+ghost use Rattle.dl_types.specs.Claimed.{AreClaims, IsNumberOf, IsUnitCount};
+
+use crate::broken::{broken, kept, typing};
+use crate::claims::{Claims, above_zero};
+use crate::clause_rules::Reached;
+use crate::counts::too_many_claims;
+use crate::exposures::{
+    count_above_one, count_not_whole, expected_claims, shape_not_whole, trials_not_whole, zero_mean,
+};
+use crate::fault::CheckFault;
+use crate::fine::{fine_count, fine_severity};
+use crate::rule::Rule;
+use dl_buckets::{Clauses, GridCount, GridUnit, off_grid_cession, place_if, weighed_severity};
+use dl_frac::Frac;
+use dl_plan::Sev;
+use std::alloc::Global;
+
+/// The rules on its count, and on the sizes of what it means. What its claims come to.
+#[tactic(auto, unfolding(dl_buckets::specs::First::first_in))]
+pub(crate) fn check_count<'a>(
+    alloc: Global,
+    number: u32,
+    unit: &'a GridUnit,
+    bs: Frac,
+    reached: &Reached,
+) -> Result<Claims<'a>, CheckFault>
+    requires bucket { IsBucket bs }
+    requires layered { IsLayered unit.now }
+    requires ceded { off_grid_cession unit.now ≡ None }
+    requires amounts { reached.now.amounts.items ≡ support (severity_in_layer unit.now) }
+    requires clauses { AreClausesOf unit.now reached.now.clauses }
+    ensures told { TellsFault (first_broken number (count_rules bs unit.now)) result }
+    ensures claims { IfOk result (AreClaims unit.now) }
+    ensures count { IfOk result (λ claims. IsUnitCount unit.now.count
+        (expected_claims bs unit.now) claims.count) }
+{
+    let place = zero_mean(&unit.count, &reached.amounts);
+    broken(number, Rule::ZeroMean, place)?;
+    let layered = weighed_severity(alloc, unit)?;
+    let count = expected_claims(unit, bs, &layered);
+    check_number(alloc, number, unit, &reached.clauses, layered, count)
+}
+
+/// The rules on whole numbers, with so many claims expected.
+#[tactic(auto, unfolding(dl_buckets::specs::First::first_in))]
+fn check_whole(number: u32, count: &GridCount, expected: &Option<Frac>) -> Result<(), CheckFault>
+    ensures { TellsFault (first_broken number (whole_rules count.now expected.now)) result }
+{
+    broken(
+        number,
+        Rule::CountNotWhole,
+        count_not_whole(count, expected),
+    )?;
+    broken(
+        number,
+        Rule::CountAboveOne,
+        count_above_one(count, expected),
+    )?;
+    broken(
+        number,
+        Rule::TrialsNotWhole,
+        trials_not_whole(count, expected),
+    )?;
+    broken(number, Rule::ShapeNotWhole, shape_not_whole(count))
+}
+
+/// The rules on its count with so many claims expected, and on the sizes of what it means. What its
+/// claims come to.
+#[tactic(auto, unfolding(dl_buckets::specs::First::first_in))]
+fn check_number<'a>(
+    alloc: Global,
+    number: u32,
+    unit: &'a GridUnit,
+    clauses: &Clauses,
+    layered: Option<Sev>,
+    count: Option<Frac>,
+) -> Result<Claims<'a>, CheckFault>
+    requires layered { IsLayered unit.now }
+    requires ceded { off_grid_cession unit.now ≡ None }
+    requires made { AreClausesOf unit.now clauses.now }
+    requires weighed { IsWeighed unit.now layered }
+    requires number { IsNumberOf unit.now.count count }
+    ensures told { TellsFault (first_broken number (number_rules unit.now count)) result }
+    ensures claims { IfOk result (AreClaims unit.now) }
+    ensures count { IfOk result (λ claims. IsUnitCount unit.now.count count claims.count) }
+{
+    check_whole(number, &unit.count, &count)?;
+    let claims = check_fine(alloc, number, unit, clauses, layered, count)?;
+    let many = too_many_claims(&claims.count, &claims.above);
+    let told = broken(number, Rule::TooManyClaims, place_if(many, unit.name));
+    kept(claims, told)
+}
+
+/// The rule on fractions, and what the claims of a unit come to whose fractions are fine.
+fn check_fine<'a>(
+    alloc: Global,
+    number: u32,
+    unit: &'a GridUnit,
+    clauses: &Clauses,
+    layered: Option<Sev>,
+    count: Option<Frac>,
+) -> Result<Claims<'a>, CheckFault>
+    requires layered { IsLayered unit.now }
+    requires ceded { off_grid_cession unit.now ≡ None }
+    requires made { AreClausesOf unit.now clauses.now }
+    requires weighed { IsWeighed unit.now layered }
+    requires number { IsNumberOf unit.now.count count }
+    ensures told { TellsFault (breaks number TooFine (too_fine unit.now count)) result }
+    ensures claims { IfOk result (AreClaims unit.now) }
+    ensures count { IfOk result (λ claims. IsUnitCount unit.now.count count claims.count) }
+{
+    let Some(severity) = fine_severity(alloc, unit, clauses, layered)? else {
+        return Err(typing(number, Rule::TooFine, unit.name));
+    };
+    let above = above_zero(&severity, &count);
+    match fine_count(&unit.count, &count, &above) {
+        Some(count) => Ok(Claims {
+            severity,
+            count,
+            above,
+        }),
+        None => Err(typing(number, Rule::TooFine, unit.name)),
+    }
+}

@@ -1,0 +1,111 @@
+//! The rules on a unit in whole buckets, and its unit of the plan.
+
+ghost use Rattle.std.specs.Prelude.{◌≡◌, ◌<◌, nat_lt, Option, None, Some, IfOk, IfErr, Ok};
+ghost use Rattle.dl_types.specs.Faults.{breaks, most_asked};
+ghost use Rattle.dl_types.specs.Answer.{TellsFault, AnswersGrid};
+ghost use Rattle.dl_types.specs.declared.rule.Rule.TheVariants.{HorizonTooLarge};
+ghost use Rattle.dl_types.specs.Rules.{horizon_too_large};
+ghost use Rattle.dl_plan.specs.Clause.{IsClause};
+ghost use Rattle.dl_plan.specs.Horizon.{horizon};
+ghost use Rattle.dl_types.specs.Plans.{IsCountMade, cede_of};
+ghost use Rattle.dl_types.specs.Kept.{IsSet, IsCountKept};
+ghost use Rattle.dl_buckets.specs.Clauses.{IsMade};
+ghost use Rattle.dl_buckets.specs.First.{at_if};
+ghost use Rattle.dl_buckets.specs.GridKept.{IsGridUnit, IsWithin};
+ghost use Rattle.dl_limits.specs.Limits.{most_horizon};
+ghost use Rattle.dl_types.specs.declared.fault.CheckFault.TheVariants.{OutOfMemory};
+ghost use Rattle.dl_types.specs.Claimed.{count_of, number_of};
+
+use crate::broken::{broken, kept};
+use crate::changes::zero_base;
+use crate::claims::Claims;
+use crate::clause_rules::check_clauses;
+use crate::count_rules::check_count;
+use crate::counts::unit_count;
+use crate::fault::CheckFault;
+use crate::rule::Rule;
+use crate::scale::{cells, most_asked};
+use dl_ast::UnitAst;
+use dl_buckets::{GridUnit, MadeClause, place_if};
+use dl_frac::Frac;
+use dl_lexer::{Span, Text};
+use dl_limits::most_horizon;
+use dl_plan::{Cede, Settings, Unit};
+use std::alloc::Global;
+
+/// The rule on the horizon of an aggregate clause, and that clause, where there is one.
+#[tactic(auto, unfolding(crate::specs::Rules::horizon_too_large))]
+fn check_horizon(number: u32, agr: MadeClause, cells: u32) -> Result<Option<Cede>, CheckFault>
+    requires { IsMade agr }
+    ensures told { TellsFault (breaks number HorizonTooLarge
+        (horizon_too_large cells agr)) result }
+    ensures made { IfOk result (λ made. made ≡ cede_of agr) }
+{
+    match agr {
+        MadeClause::Whole(cede, span) => {
+            let place = horizon_passes(&cede, span, cells);
+            kept(Some(cede), broken(number, Rule::HorizonTooLarge, place))
+        }
+        MadeClause::Missing => Ok(None),
+        MadeClause::TooFine => Ok(None),
+    }
+}
+
+/// The place of a clause whose horizon on a grid of so many cells passes the greatest one.
+fn horizon_passes(cede: &Cede, span: Span, cells: u32) -> Option<Span>
+    requires { IsClause cede.now }
+    ensures { result ≡ at_if (nat_lt (most_horizon cells) (horizon (Some cede.now) cells)) span }
+{
+    place_if(cede.horizon(cells) > most_horizon(cells) as u128, span)
+}
+
+/// The unit of the plan with this name, of what its claims come to, its aggregate clause and
+/// its changed probability of no claim.
+fn planned(
+    alloc: Global,
+    name: &[u8],
+    claims: Claims,
+    cede: Option<Cede>,
+    zero: Option<Frac>,
+) -> Result<Unit, CheckFault>
+    requires { IsCountKept (count_of claims.count) (number_of claims.count) }
+    ensures name { IfOk result (λ made. made.name ≡ name.now) }
+    ensures severity { IfOk result (λ made. made.sev ≡ claims.entry.severity) }
+    ensures count { IfOk result (λ made. IsCountMade (count_of claims.entry.count)
+        (number_of claims.entry.count) made.freq) }
+    ensures clause { IfOk result (λ made. made.cede ≡ cede) }
+    ensures zero { IfOk result (λ made. made.zero ≡ zero) }
+    ensures room { IfErr result (λ stop. stop ≡ OutOfMemory) }
+{
+    let freq = unit_count(alloc, &claims.count)?;
+    let name = Text::copy(alloc, name)?;
+    Ok(Unit {
+        name,
+        sev: claims.severity,
+        freq,
+        cede,
+        zero,
+    })
+}
+
+/// The unit of the plan of a unit in whole buckets, or the first rule on it that it breaks.
+pub(crate) fn check_grid(
+    alloc: Global,
+    number: u32,
+    unit: &UnitAst,
+    grid: &GridUnit,
+    settings: &Settings,
+) -> Result<Unit, CheckFault>
+    requires set { IsSet settings.now }
+    requires grid { IsGridUnit grid.now }
+    requires within { IsWithin (most_asked settings.now) grid.now }
+    ensures { AnswersGrid settings.now number unit.now.name.text grid.now result }
+{
+    let reached = check_clauses(alloc, number, grid)?;
+    let claims = check_count(alloc, number, grid, settings.bs, &reached)?;
+    let clauses = reached.clauses;
+    let cede = check_horizon(number, clauses.agr, cells(settings))?;
+    let place = zero_base(&claims.count, &grid.zero);
+    broken(number, Rule::ZeroBase, place)?;
+    planned(alloc, unit.name.text.as_slice(), claims, cede, grid.zero)
+}
