@@ -1,20 +1,11 @@
 -- The joint mean from the grids of a unit and of the others.
-use Rattle.std.proofs.Common.{◌≡◌, ℕ, suc, zero, ◌*◌, ◌<◌, arith, sym, ap, subst, subst₂, ◌∙◌, List, [], ◌∷◌, length, mul-pos}
+use Rattle.dl_alloc.proofs.Common.{◌≡◌, ℕ, suc, zero, ◌*◌, ◌<◌, arith, sym, ap, subst, subst₂, ◌∙◌, List, [], ◌∷◌, length, whole, ◌over◌, ◌*ℚ◌, over_same, over_mul, one_pos, le_refl, times_left_comm, times_le_both, Series, Rises, AtMost, AtLeast, Holds, times, count_pairs, Loss, AreDeclarable, One, Joint, partial_sums, total, IsProper, Encloses, unit_of, without, scaled, at_most_times, at_least_times, loss_proper, total_proper, total_more_all}
+use Rattle.std.proofs.Common.{mul-pos}
 use mathlib.Core.Path.{fun_ext}
-use Rattle.dl_exact.specs.Fraction.{whole, ◌over◌, ◌*ℚ◌}
-use Rattle.dl_exact.specs.Sum.{sum_to, sum_pairs}
-use Rattle.dl_exact.proofs.Over.{over_same, over_mul}
-use Rattle.dl_exact.proofs.Laws.{one_pos, le_refl, times_left_comm, times_le_both}
+use Rattle.dl_exact.specs.Sum.{sum_pairs}
 use Rattle.dl_exact.proofs.Sums.{sum_pairs_same}
-use Rattle.dl_model.specs.Series.{Series, Rises, AtMost, AtLeast, Holds, times}
-use Rattle.dl_exact.specs.Count.{count_pairs}
-use Rattle.dl_model.specs.Program.{Loss, AreDeclarable, One, Joint, partial_sums, total}
-use Rattle.dl_model.specs.Family.{IsProper, Encloses}
-use Rattle.dl_model.specs.Measures.{unit_of, without}
-use Rattle.dl_model.proofs.Declared.{scaled, at_most_times, at_least_times}
 use Rattle.dl_model.proofs.FamilyLaws.{sum_at_most, sum_at_least, rises_times, nothing_proper}
 use Rattle.dl_exact.proofs.SumsOver.{sum_pairs_over}
-use Rattle.dl_model.proofs.Outcomes.{loss_proper, total_proper, total_more_all}
 use Rattle.dl_model.proofs.Without.{without_units}
 use Rattle.dl_model.proofs.Joint.{joint_cells}
 

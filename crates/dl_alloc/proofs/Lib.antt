@@ -1,3 +1,4 @@
+mod Common
 pub mod JointEnds
 pub mod Quotients
 pub mod WeightedSums

@@ -1,27 +1,17 @@
 -- What a unit has where the total is x is at most x, so its joint mean is at most x times the probability of x.
-use Rattle.std.proofs.Common.{ℕ, inl, inr, ◌*◌, ◌<◌, ◌≤◌, arith, sym, ap, subst, ◌∙◌, List, get_or, ne_eqb, eq-eqb}
+use Rattle.dl_alloc.proofs.Common.{ℕ, inl, inr, ◌*◌, ◌<◌, ◌≤◌, arith, sym, ap, subst, ◌∙◌, List, get_or, ne_eqb, eq-eqb, mul-le-mul_right, whole, ◌over◌, ◌*ℚ◌, ◌≤ℚ◌, over_lt, le_refl, le_of_eq, zero_le, times_one, times_assoc, times_le_both, whole_le, over_times, AtMost, AtLeast, Loss, One, Point, Joint, where_true, score, partial_sums, AreDeclared, outcomes_le, outcomes_times, outcomes_rise, are_units, quantity_bounded, whole_positive}
 use Rattle.std.specs.Prelude.{sum}
-use Rattle.std.proofs.Math.Nat.{mul-le-mul_right}
 use Rattle.std.proofs.lemmas.Bool.{cases_eq, cases_lt}
-use Rattle.dl_exact.specs.Fraction.{whole, ◌over◌, ◌*ℚ◌, ◌≤ℚ◌}
-use Rattle.dl_exact.proofs.Over.{over_lt}
-use Rattle.dl_exact.proofs.Laws.{le_refl, le_trans, le_of_eq, zero_le, times_one, times_assoc, times_le_both}
-use Rattle.dl_exact.proofs.RoundingLaws.{whole_le}
-use Rattle.dl_exact.proofs.Denominators.{over_times}
+use Rattle.dl_exact.proofs.Laws.{le_trans}
 use Rattle.dl_exact.proofs.Lists.{item_le_total}
-use Rattle.dl_model.specs.Series.{AtMost, AtLeast}
-use Rattle.dl_model.specs.Program.{Loss, One, Point, Joint, where_true, score, partial_sums}
-use Rattle.dl_model.specs.Measures.{AreDeclared}
 use Rattle.dl_model.proofs.Alike.{not_both}
-use Rattle.dl_model.proofs.Outcomes.{outcomes_le, outcomes_times, outcomes_rise}
-use Rattle.dl_model.proofs.Bounded.{are_units, quantity_bounded, whole_positive}
 
 score_le : (i x : ℕ) (ys : List ℕ) → score (Joint i x) ys ≤ℚ whole x *ℚ score (Point x) ys
 score_le i x ys = elim (cases_eq (sum ys) x) [
   | inl e ↦ subst (λ b. where_true b (whole (get_or ys i 0)) ≤ℚ whole x *ℚ where_true b (whole 1))
       (sym (eq-eqb (sum ys) x e))
       (subst (λ t. whole (get_or ys i 0) ≤ℚ t) (sym (times_one (whole x)))
-      (whole_le (get_or ys i 0) x (omega (arith, item_le_total ys i, e))))
+      (whole_le (get_or ys i 0) x (omega (arith, item_le_total ys i))))
   | inr n ↦ subst (λ b. where_true b (whole (get_or ys i 0)) ≤ℚ whole x *ℚ where_true b (whole 1))
       (sym (ne_eqb (sum ys) x n)) (zero_le _)
 ]

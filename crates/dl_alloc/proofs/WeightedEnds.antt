@@ -1,29 +1,11 @@
 -- The joint mean from the grids of a unit and of the others: what its ends hold, and how far apart they lie.
-use Rattle.std.proofs.Common.{ℕ, ◌≡◌, ◌+◌, ◌-◌, ◌*◌, ◌/◌, ◌^◌, ◌<◌, ◌≤◌, List, length, arith, ap₂}
-use Rattle.std.specs.Int.{div_ceil}
-use Rattle.std.proofs.Math.Nat.{mul-le-mul, mul-le-mul_left, mul-le-mul_right, mul-pos, le_trans}
-use Rattle.std.proofs.lemmas.Nat.{pow_pos}
-use Rattle.dl_exact.specs.Fraction.{◌over◌}
-use Rattle.dl_exact.proofs.Laws.{le_refl}
-use Rattle.dl_exact.proofs.RoundingLaws.{div_ceil_least}
+use Rattle.dl_alloc.proofs.Common.{ℕ, ◌≡◌, ◌+◌, ◌-◌, ◌*◌, ◌/◌, ◌^◌, ◌<◌, ◌≤◌, List, length, arith, ap₂, div_ceil, mul-le-mul, mul-le-mul_left, mul-le-mul_right, mul-pos, le_trans, pow_pos, ◌over◌, le_refl, div_ceil_least, round_down, round_up, floor_le_ceiling, low_at, high_at, spread, IsGrid, count_pairs, count_below, size_of, cells_fit, grid_room, size_within, below_same, below_plus, pairs_le, pairs_same, Holds, Loss, AreDeclarable, One, Joint, partial_sums, total, GridEncloses, unit_of, without, at_least_wider, at_most_wider, low_weighted, high_weighted}
 use Rattle.dl_iv.specs.declared.interval.Iv.{Iv}
-use Rattle.dl_iv.proofs.Rounding.{round_down, round_up, floor_le_ceiling}
-use Rattle.dl_grid.specs.Cells.{low_at, high_at, spread, IsGrid}
-use Rattle.dl_exact.specs.Count.{count_pairs, count_below}
 use Rattle.dl_grid.specs.Width.{cv}
 use Rattle.dl_grid.specs.Room.{HasRoom}
-use Rattle.dl_grid.proofs.CellLaws.{size_of, cells_fit}
-use Rattle.dl_grid.proofs.Room.{grid_room, size_within}
-use Rattle.dl_exact.proofs.Counts.{below_same, below_plus, pairs_le, pairs_same}
 use Rattle.dl_grid.proofs.PlaceSums.{width_at, high_is, low_within, width_within}
 use Rattle.dl_grid.proofs.WidthLaws.{cv_is}
-use Rattle.dl_model.specs.Series.{Holds}
-use Rattle.dl_model.specs.Program.{Loss, AreDeclarable, One, Joint, partial_sums, total}
-use Rattle.dl_model.specs.Family.{GridEncloses}
-use Rattle.dl_model.specs.Measures.{unit_of, without}
-use Rattle.dl_model.proofs.Declared.{at_least_wider, at_most_wider}
 use Rattle.dl_alloc.proofs.JointEnds.{joint_ends}
-use Rattle.dl_alloc.specs.Weighted.{low_weighted, high_weighted}
 use Rattle.dl_alloc.proofs.WeightedSums.{weighted_top, weighted_width, one_more, one_more_fits}
 
 -- ---- how large they are
@@ -32,38 +14,22 @@ use Rattle.dl_alloc.proofs.WeightedSums.{weighted_top, weighted_width, one_more,
 pub high_mass : {B : ℕ} (cells : List (Iv B)) (n : ℕ) → IsGrid cells → spread cells < 2 ^ B
     → count_below n (high_at cells) ≤ 2 * 2 ^ B
 high_mass cells n grid narrow =
-    omega (
-      arith,
-      below_same n (high_at cells) (λ x. low_at cells x + width_at cells x) (λ x b. high_is cells x),
-      below_plus n (low_at cells) (width_at cells),
-      low_within n cells,
-      grid.mass,
-      width_within n cells,
-    )
+    let wide = below_same n (high_at cells) (λ x. low_at cells x + width_at cells x) (λ x b. high_is cells x) in
+    omega (arith, below_plus n (low_at cells) (width_at cells), low_within n cells, width_within n cells)
 
 top : (S x : ℕ) → x * (2 * S) * (2 * S) ≡ 4 * x * S * S
 top S x = omega arith
 
-pub high_top : {B : ℕ} (unit others : List (Iv B)) (x : ℕ) → IsGrid unit → IsGrid others → spread unit < 2 ^ B
-    → spread others < 2 ^ B
-    → high_weighted unit others x ≤ 4 * x * 2 ^ B * 2 ^ B
-high_top {B} unit others x p q v w =
-    let most = weighted_top x (2 * 2 ^ B) (2 * 2 ^ B) (high_at unit) (high_at others)
-    (high_mass unit (x + 1) p v) (high_mass others (x + 1) q w) in
-    omega (arith, most, top (2 ^ B) x)
+module _ {B : ℕ} (unit others : List (Iv B)) (x : ℕ) (p : IsGrid unit) (q : IsGrid others) (v : spread unit < 2 ^ B)
+    (w : spread others < 2 ^ B) where
+  pub end_top : div_ceil (high_weighted unit others x) (2 ^ B) ≤ 4 * x * 2 ^ B
+  end_top =
+      let most = weighted_top x (2 * 2 ^ B) (2 * 2 ^ B) (high_at unit) (high_at others)
+      (high_mass unit (x + 1) p v) (high_mass others (x + 1) q w) in
+      div_ceil_least _ (2 ^ B) (4 * x * 2 ^ B) (pow_pos B) (omega (arith, top (2 ^ B) x))
 
-pub end_top : {B : ℕ} (unit others : List (Iv B)) (x : ℕ) → IsGrid unit → IsGrid others → spread unit < 2 ^ B
-    → spread others < 2 ^ B
-    → div_ceil (high_weighted unit others x) (2 ^ B) ≤ 4 * x * 2 ^ B
-end_top {B} unit others x p q v w = div_ceil_least _ (2 ^ B) (4 * x * 2 ^ B) (pow_pos B)
-    (high_top unit others x p q v w)
-
-pub end_fits : {B : ℕ} (unit others : List (Iv B)) (x : ℕ) → IsGrid unit → IsGrid others → x < length unit
-    → spread unit < 2 ^ B
-    → spread others < 2 ^ B
-    → div_ceil (high_weighted unit others x) (2 ^ B) ≤ 2 ^ 127
-end_fits {B} unit others x p q inside v w =
-    omega (arith, end_top unit others x p q v w, cells_fit unit x p (omega arith))
+  pub end_fits : x < length unit → div_ceil (high_weighted unit others x) (2 ^ B) ≤ 2 ^ 127
+  end_fits inside = omega (arith, end_top, cells_fit unit x p (omega arith))
 
 -- and where that has room in the square of the units, it can be divided by a probability
 pub end_divisible : (one x hi : ℕ) → hi ≤ 4 * x * one → 4 * x * one * one ≤ 2 ^ 127 → hi * one ≤ 2 ^ 127
@@ -82,6 +48,9 @@ ends_order {B} unit others x =
 pub fits : (S x sum : ℕ) → 0 < S → HasRoom (x + 1) S → sum ≤ x * (2 * S) * (2 * S) → sum < 2 ^ 128
 fits S x sum some room h = omega (arith, top S x, room.sums, mul-pos some some)
 
+pub room_of : {B : ℕ} (cells : List (Iv B)) (x : ℕ) → IsGrid cells → x < length cells → HasRoom (x + 1) (2 ^ B)
+room_of cells x grid inside = grid_room (size_within (size_of cells grid) (omega arith) (omega arith))
+
 -- the sum with one outcome more
 step : (S x y sum u v : ℕ) (f g : ℕ → ℕ) → 0 < S → HasRoom (x + 1) S → count_below (x + 1) f ≤ 2 * S
     → count_below (x + 1) g ≤ 2 * S → y ≤ x → u ≡ f y → v ≡ g (x - y)
@@ -92,23 +61,20 @@ step S x y sum u v f g some room p q here own other e = (
   fits S x _ some room (one_more_fits y x (2 * S) (2 * S) sum u v f g here e own other p q),
 )
 
-module _ {B : ℕ} (unit others : List (Iv B)) (x y sum u v : ℕ) (p : IsGrid unit) (q : IsGrid others)
+module _ {B : ℕ} (unit others : List (Iv B)) (x y : ℕ) {sum u v : ℕ} (p : IsGrid unit) (q : IsGrid others)
     (inside : x < length unit) (here : y ≤ x) where
-  room : HasRoom (x + 1) (2 ^ B)
-  room = grid_room (size_within (size_of unit p) (omega arith) (omega arith))
-
   pub low_step : u ≡ low_at unit y → v ≡ low_at others (x - y)
       → sum ≡ count_below y (λ y. y * low_at unit y * low_at others (x - y))
       → (sum + y * u * v ≡ count_below (y + 1) (λ y. y * low_at unit y * low_at others (x - y)))
       × (sum + y * u * v < 2 ^ 128)
-  low_step = step (2 ^ B) x y sum u v (low_at unit) (low_at others) (pow_pos B) room
-      (omega (arith, low_within (x + 1) unit, p.mass)) (omega (arith, low_within (x + 1) others, q.mass)) here
+  low_step = step (2 ^ B) x y sum u v (low_at unit) (low_at others) (pow_pos B) (room_of unit x p inside)
+      (omega (arith, low_within (x + 1) unit)) (omega (arith, low_within (x + 1) others)) here
 
   pub high_step : spread unit < 2 ^ B → spread others < 2 ^ B → u ≡ high_at unit y → v ≡ high_at others (x - y)
       → sum ≡ count_below y (λ y. y * high_at unit y * high_at others (x - y))
       → (sum + y * u * v ≡ count_below (y + 1) (λ y. y * high_at unit y * high_at others (x - y)))
       × (sum + y * u * v < 2 ^ 128)
-  high_step narrow thin = step (2 ^ B) x y sum u v (high_at unit) (high_at others) (pow_pos B) room
+  high_step narrow thin = step (2 ^ B) x y sum u v (high_at unit) (high_at others) (pow_pos B) (room_of unit x p inside)
       (high_mass unit (x + 1) p narrow) (high_mass others (x + 1) q thin) here
 
 -- ---- what they hold
@@ -143,5 +109,5 @@ joint_width {B} unit others x p q inside =
     rw (parts, cv_is (2 ^ B) n (spread unit) (spread others) (pow_pos B))
     (weighted_width x n (2 ^ B) (spread unit) (spread others)
     (low_at unit) (width_at unit) (low_at others) (width_at others) inside (pow_pos B)
-    (omega (arith, low_within (x + 1) unit, p.mass)) (width_within (x + 1) unit)
-    (omega (arith, low_within (x + 1) others, q.mass)) (width_within (x + 1) others))
+    (omega (arith, low_within (x + 1) unit)) (width_within (x + 1) unit)
+    (omega (arith, low_within (x + 1) others)) (width_within (x + 1) others))

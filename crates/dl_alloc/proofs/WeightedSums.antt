@@ -1,12 +1,7 @@
 -- Sums of y * f y * g z over all y + z = x, in plain numbers: how large they are, and how far apart two of them lie
 -- once rounded.
-use Rattle.std.proofs.Common.{ℕ, suc, ◌≡◌, ◌+◌, ◌-◌, ◌*◌, ◌/◌, ◌<◌, ◌≤◌, arith, ap, ap₂, ◌∙◌}
-use Rattle.std.specs.Int.{div_ceil}
-use Rattle.std.proofs.Math.Nat.{mul-le-mul, mul-le-mul_left, mul-le-mul_right, le_of_mul-le-mul_right, lt-div-mul-add, le_trans, le_refl}
-use Rattle.std.proofs.lemmas.Grind.{div_ceil_times}
-use Rattle.dl_iv.proofs.Rounding.{ceiling_reaches}
-use Rattle.dl_exact.specs.Count.{count_pairs, count_below}
-use Rattle.dl_exact.proofs.Counts.{below_grows, below_more, below_le, below_times, below_pairs, pairs_same, pairs_within}
+use Rattle.dl_alloc.proofs.Common.{ℕ, suc, ◌≡◌, ◌+◌, ◌-◌, ◌*◌, ◌/◌, ◌<◌, ◌≤◌, arith, ap, ap₂, ◌∙◌, div_ceil, mul-le-mul, mul-le-mul_left, mul-le-mul_right, le_of_mul-le-mul_right, lt-div-mul-add, le_trans, div_ceil_times, ceiling_reaches, count_pairs, count_below, below_grows, below_more, below_le, below_times, below_pairs, pairs_same, pairs_within}
+use Rattle.std.proofs.Math.Nat.{le_refl}
 use Rattle.dl_grid.proofs.Products.{products_apart, pairs_apart}
 
 -- the sum over the first places
@@ -15,7 +10,7 @@ weighted_le : (n x : ℕ) (f : ℕ → ℕ) → n ≤ x + 1 → count_below n (�
 weighted_le n x f h =
     let each : count_below n (λ y. y * f y) ≤ count_below n (λ y. f y * x) =
     below_le n _ _ (λ y b. let inside : y ≤ x = omega arith in omega (arith, mul-le-mul_right (f y) inside)) in
-    omega (arith, each, below_times n x f)
+    omega (arith, below_times n x f)
 
 -- the products at places that add up to s, of numbers that add up to at most p and q
 pairs_under : (s p q : ℕ) (a b : ℕ → ℕ) → count_below (s + 1) a ≤ p → count_below (s + 1) b ≤ q
@@ -25,7 +20,7 @@ pairs_under s p q a b h k =
     let all : count_below (s + 1) (λ s. count_pairs s (λ i j. a i * b j)) ≤ count_below
     (s + 1) a * count_below (s + 1) b =
     pairs_within (s + 1) a b in
-    omega (arith, here, all, mul-le-mul h k)
+    omega (arith, mul-le-mul h k)
 
 pub weighted_under : (x p : ℕ) (f : ℕ → ℕ) → count_below (x + 1) f ≤ p → count_below (x + 1) (λ y. y * f y) ≤ x * p
 weighted_under x p f h = le_trans (weighted_le (x + 1) x f (le_refl _)) (mul-le-mul_left x h)
@@ -39,7 +34,7 @@ weighted_top x p q f g h k = pairs_under x (x * p) q (λ y. y * f y) g (weighted
 pub one_more : (i x total u v : ℕ) (f g : ℕ → ℕ) → total ≡ count_below i (λ y. y * f y * g (x - y)) → u ≡ f i
     → v ≡ g (x - i)
     → total + i * u * v ≡ count_below (i + 1) (λ y. y * f y * g (x - y))
-one_more i x total u v f g e h k = omega (arith, e, below_more i (λ y. y * f y * g (x - y)), ap₂ (λ s t. i * s * t) h k)
+one_more i x total u v f g e h k = omega (arith, below_more i (λ y. y * f y * g (x - y)), ap₂ (λ s t. i * s * t) h k)
 
 pub one_more_fits : (i x p q total u v : ℕ) (f g : ℕ → ℕ) → i ≤ x
     → total ≡ count_below i (λ y. y * f y * g (x - y)) → u ≡ f i
@@ -50,7 +45,6 @@ one_more_fits i x p q total u v f g inside e h k above beside =
     omega (
       arith,
       one_more i x total u v f g e h k,
-      grown,
       below_pairs x (λ y z. y * f y * g z),
       weighted_top x p q f g above beside,
     )
@@ -79,20 +73,20 @@ apart_top x one v w a c b d p q r t =
     let first = weighted_top x one w a d p t in
     let second = weighted_top x v one c b q r in
     let third = weighted_top x v w c d q t in
-    omega (arith, first, second, third)
+    omega arith
 
 -- one floor and one ceiling lie at most two units further apart than what they round
 pub rounded : (one low more : ℕ) → 0 < one → div_ceil (low + more) one * one ≤ (low / one + 2) * one + more
 rounded one low more pos =
     let above : div_ceil (low + more) one * one < low + more + one = (div_ceil_times (low + more) one pos).1 in
     let below : low < low / one * one + one = lt-div-mul-add pos in
-    omega (arith, above, below)
+    omega arith
 
 -- the same divided by one
 pub divided : (x one v w more k h : ℕ) → 0 < one → h * one ≤ k * one + more → more ≤ x * (one * w + (v * one + v * w))
     → h ≤ k + x * (v + w + div_ceil (v * w) one)
 divided x one v w more k h pos p q =
-    le_of_mul-le-mul_right {k = one} (omega (arith, p, q, mul-le-mul_left x (ceiling_reaches (v * w) one pos))) pos
+    le_of_mul-le-mul_right {k = one} (omega (arith, mul-le-mul_left x (ceiling_reaches (v * w) one pos))) pos
 
 -- fewer outcomes than cells
 pub enough : (x n t : ℕ) → x < n → x * t + 2 ≤ n * (t + 2 * n)
@@ -100,7 +94,7 @@ enough x n t h =
     let times : (x + 1) * t ≤ n * t = mul-le-mul_right t (omega arith) in
     let some : 1 ≤ n = omega arith in
     let one : 1 * 1 ≤ n * n = mul-le-mul some some in
-    omega (arith, times, one)
+    omega arith
 
 pub weighted_width : (x n one v w : ℕ) (a c b d : ℕ → ℕ) → x < n → 0 < one
     → count_below (x + 1) a ≤ one → count_below (x + 1) c ≤ v → count_below (x + 1) b ≤ one → count_below (x + 1) d ≤ w
@@ -112,4 +106,4 @@ weighted_width x n one v w a c b d inside pos p q r t =
     let near : div_ceil (low + more) one * one ≤ (low / one + 2) * one + more = rounded one low more pos in
     let whole = divided x one v w more (low / one + 2) (div_ceil (low + more) one) pos near
     (apart_top x one v w a c b d p q r t) in
-    rw (weighted_apart x a c b d) (omega (arith, whole, enough x n (v + w + div_ceil (v * w) one) inside))
+    rw (weighted_apart x a c b d) (omega (arith, enough x n (v + w + div_ceil (v * w) one) inside))

@@ -1,8 +1,5 @@
 -- Flaws that agree up to the first rule that is broken, and what is read of parts.
-use Rattle.dl_buckets.proofs.Common.{ℕ, ◌+◌, ◌<◌, ◌≤◌, zero, suc, get_or, take_all, take_more, ◌≡◌, ◌∙◌, List, [], ◌∷◌, ◌++◌, map, take, Option, None, Bool, true, false, refl, sym, ap, ap₂, subst, arith, length, map-append, Span, ◌else◌, else_first, else_second, earlier_flaws, flaws_else}
-use Rattle.dl_buckets.specs.Flaws.{AgreeToFirst, AreNone, IsReadTo, places, no_flaws, flaws_in}
-use Rattle.dl_buckets.specs.declared.flaws.Flaws.{Flaws}
-use Rattle.dl_buckets.specs.declared.flaws.Gridded.{Gridded}
+use Rattle.dl_buckets.proofs.Common.{ℕ, ◌+◌, ◌<◌, ◌≤◌, zero, suc, get_or, take_all, take_more, ◌≡◌, ◌∙◌, List, [], ◌∷◌, ◌++◌, map, take, Option, Bool, true, false, refl, sym, ap, ap₂, subst, arith, length, map-append, Span, ◌else◌, else_first, else_second, earlier_flaws, flaws_else, AgreeToFirst, AreNone, IsReadTo, places, no_flaws, flaws_in, Flaws, Gridded}
 use Rattle.dl_buckets.proofs.Firsts.{else_assoc, else_none}
 
 -- ---- places
@@ -52,26 +49,21 @@ pub agree_else : (xs ys us vs : List (Option Span)) → AgreeToFirst xs ys → A
 agree_else xs ys us vs h second = agree_after 0 xs ys us vs h tt (λ none. second)
 
 -- both parts keep the first k rules where both together do
-none_left : (k : ℕ) (xs ys : List (Option Span)) → length xs ≡ length ys → AreNone (take k (zip_else xs ys))
-    → AreNone (take k xs)
-none_left zero xs ys e h = tt
-none_left (suc k) [] ys e h = tt
-none_left (suc k) (x ∷ xs) [] e h = absurd (cc)
-none_left (suc k) (x ∷ xs) (y ∷ ys) e h = (else_first x y h.0, none_left k xs ys (omega (arith, e)) h.1)
-
-none_right : (k : ℕ) (xs ys : List (Option Span)) → length xs ≡ length ys → AreNone (take k (zip_else xs ys))
-    → AreNone (take k ys)
-none_right zero xs ys e h = tt
-none_right (suc k) [] [] e h = tt
-none_right (suc k) [] (y ∷ ys) e h = absurd (cc)
-none_right (suc k) (x ∷ xs) [] e h = tt
-none_right (suc k) (x ∷ xs) (y ∷ ys) e h = (else_second x y h.0, none_right k xs ys (omega (arith, e)) h.1)
+none_both : (k : ℕ) (xs ys : List (Option Span)) → length xs ≡ length ys → AreNone (take k (zip_else xs ys))
+    → AreNone (take k xs) × AreNone (take k ys)
+none_both zero xs ys e h = (tt, tt)
+none_both (suc k) [] [] e h = (tt, tt)
+none_both (suc k) [] (y ∷ ys) e h = absurd (cc)
+none_both (suc k) (x ∷ xs) [] e h = absurd (cc)
+none_both (suc k) (x ∷ xs) (y ∷ ys) e h =
+    let rest = none_both k xs ys (omega (arith, e)) h.1 in
+    ((else_first x y h.0, rest.0), (else_second x y h.0, rest.1))
 
 pub keeps_first : (k : ℕ) (f g : Flaws) → AreNone (take k (places (flaws_else f g))) → AreNone (take k (places f))
-keeps_first k f g h = none_left k (places f) (places g) refl h
+keeps_first k f g h = (none_both k (places f) (places g) refl h).0
 
 pub keeps_second : (k : ℕ) (f g : Flaws) → AreNone (take k (places (flaws_else f g))) → AreNone (take k (places g))
-keeps_second k f g h = none_right k (places f) (places g) refl h
+keeps_second k f g h = (none_both k (places f) (places g) refl h).1
 
 -- ---- flaws
 
@@ -94,33 +86,31 @@ pub flaws_more : {A : Type 0} (f : A → Flaws) (xs : List A) (x : A)
 unfolding flaws_in
 flaws_more f xs x = flaws_in-append f xs (x ∷ []) ∙ ap (flaws_else (flaws_in f xs)) (flaws_none (f x))
 
--- those of two parts, and of a unit's own part and its severity
-pub agree_both : (a b f g all : Flaws) → AgreeToFirst (places a) (places f) → AgreeToFirst (places b) (places g)
-    → all ≡ flaws_else a b → AgreeToFirst (places all) (places (flaws_else f g))
-agree_both a b f g all first second is =
-    rw is (agree_else (places a) (places f) (places b) (places g) first second)
-
-pub agree_earlier : (named : Bool) (a b f g all : Flaws) → AgreeToFirst (places a) (places f)
-    → AgreeToFirst (places b) (places g) → all ≡ earlier_flaws named a b
-    → AgreeToFirst (places all) (places (earlier_flaws named f g))
-agree_earlier true a b f g all own severity is = agree_both b a g f all severity own is
-agree_earlier false a b f g all own severity is = agree_both a b f g all own severity is
-
 -- ---- parts that are read
 
 -- what is made of a part
-pub read_made : {A B : Type 0} (k : ℕ) (make : A → B) (f : Flaws) (x : A) (a : Gridded A) → IsReadTo k f x a
+pub read_made : {A B : Type 0} {k : ℕ} (make : A → B) {f : Flaws} {x : A} {a : Gridded A} → IsReadTo k f x a
     → IsReadTo k f (make x) (record { part = make a.part; flaws = a.flaws })
-read_made k make f x a h = record { first = h.first; right = λ clean. ap make (h.right clean) }
+read_made make h = record { first = h.first; right = λ clean. ap make (h.right clean) }
 
 -- two parts
-pub read_both : {A B C : Type 0} (k : ℕ) (make : A → B → C) (f g : Flaws) (x : A) (y : B) (a : Gridded A) (b : Gridded B)
-    (all : Flaws) → IsReadTo k f x a → IsReadTo k g y b → all ≡ flaws_else a.flaws b.flaws
+pub read_both : {A B C : Type 0} {k : ℕ} (make : A → B → C) {f g : Flaws} {x : A} {y : B} {a : Gridded A} {b : Gridded B}
+    {all : Flaws} → IsReadTo k f x a → IsReadTo k g y b → all ≡ flaws_else a.flaws b.flaws
     → IsReadTo k (flaws_else f g) (make x y) (record { part = make a.part b.part; flaws = all })
-read_both k make f g x y a b all first second is = record {
-  first = agree_both a.flaws b.flaws f g all first.first second.first is;
+read_both {k = k} make {f = f} {g = g} {a = a} {b = b} first second is = record {
+  first = rw is (agree_else (places a.flaws) (places f) (places b.flaws) (places g) first.first second.first);
   right = λ clean. ap₂ make (first.right (keeps_first k f g clean)) (second.right (keeps_second k f g clean));
 }
+
+abbrev pub pair : {A B : Type 0} → A → B → A × B
+pair x y = (x, y)
+
+-- a unit's own part and its severity
+pub read_earlier : {A B : Type 0} {k : ℕ} (named : Bool) {f g : Flaws} {x : A} {y : B} {a : Gridded A} {b : Gridded B}
+    {all : Flaws} → IsReadTo k f x a → IsReadTo k g y b → all ≡ earlier_flaws named a.flaws b.flaws
+    → IsReadTo k (earlier_flaws named f g) (pair x y) (record { part = pair a.part b.part; flaws = all })
+read_earlier true own severity is = read_both (λ y x. pair x y) severity own is
+read_earlier false own severity is = read_both pair own severity is
 
 -- what is read is right the sooner, the more rules are kept
 none_shorter : (k m : ℕ) (xs : List (Option Span)) → k ≤ m → AreNone (take m xs) → AreNone (take k xs)
@@ -129,89 +119,61 @@ none_shorter (suc k) zero xs le h = absurd (omega arith)
 none_shorter (suc k) (suc m) [] le h = tt
 none_shorter (suc k) (suc m) (x ∷ xs) le h = (h.0, none_shorter k m xs (omega arith) h.1)
 
-pub read_longer : {A : Type 0} (k m : ℕ) (f : Flaws) (x : A) (a : Gridded A) → k ≤ m → IsReadTo k f x a
+pub read_longer : {A : Type 0} (k m : ℕ) {f : Flaws} {x : A} {a : Gridded A} → k ≤ m → IsReadTo k f x a
     → IsReadTo m f x a
-read_longer k m f x a le h = record {
+read_longer k m {f = f} le h = record {
   first = h.first;
   right = λ clean. h.right (none_shorter k m (places f) le clean);
 }
 
--- a part y that is made of a first part x, and right where that is
-pub read_after : {A B : Type 0} (k m : ℕ) (f g : Flaws) (x : A) (y : B) (a : Gridded A) (b : Gridded B) (all : Flaws)
-    → k ≤ m → IsReadTo k f x a → AgreeToFirst (take k (places b.flaws)) (take k (places g))
-    → (a.part ≡ x → IsReadTo m g y b) → all ≡ flaws_else a.flaws b.flaws
-    → IsReadTo m (flaws_else f g) y (record { part = b.part; flaws = all })
-read_after k m f g x y a b all le first early late is = record {
-  first = subst (λ (t : Flaws). AgreeToFirst (places t) (places (flaws_else f g))) (sym is)
-      (agree_after k (places a.flaws) (places f) (places b.flaws) (places g) first.first early
-      (λ clean. (late (first.right clean)).first));
-  right = λ clean.
-      let own = none_shorter k m (places f) le (keeps_first m f g clean) in
-      (late (first.right own)).right (keeps_second m f g clean);
-}
+-- a part y that is made of a first part, with the flaws g, and right where that is; the first rules do
+-- not ask which it is
+pub read_after : {A B C : Type 0} (k m : ℕ) (g : A → Flaws) (y : A → B) (make : A → B → C) {f : Flaws} {x : A}
+    {a : Gridded A} {b : Gridded B} {all : Flaws} → k ≤ m → IsReadTo k f x a
+    → take k (places (g a.part)) ≡ take k (places (g x)) → IsReadTo m (g a.part) (y a.part) b
+    → all ≡ flaws_else a.flaws b.flaws
+    → IsReadTo m (flaws_else f (g x)) (make x (y x)) (record { part = make a.part b.part; flaws = all })
+read_after k m g y make {f = f} {x = x} {a = a} {b = b} le first early second is =
+    let late : a.part ≡ x → IsReadTo m (g x) (y x) b = λ same. subst (λ z. IsReadTo m (g z) (y z) b) same second in
+    record {
+      first = rw is (agree_after k (places a.flaws) (places f) (places b.flaws) (places (g x)) first.first
+          (subst (AgreeToFirst (take k (places b.flaws))) early
+          (agree_take k (places b.flaws) (places (g a.part)) second.first))
+          (λ clean. (late (first.right clean)).first));
+      right = λ clean.
+          let same = first.right (none_shorter k m (places f) le (keeps_first m f (g x) clean)) in
+          ap₂ make same ((late same).right (keeps_second m f (g x) clean));
+    }
 
 -- flaws that are told of a part, of later rules alone
-pub read_also : {A : Type 0} (k : ℕ) (f g late : Flaws) (x : A) (a : Gridded A) (all : Flaws) → IsReadTo k f x a
-    → take k (places late) ≡ take k (places g) → (a.part ≡ x → late ≡ g) → all ≡ flaws_else a.flaws late
-    → IsReadTo k (flaws_else f g) x (record { part = a.part; flaws = all })
-read_also k f g late x a all first early told is = record {
-  first = subst (λ (t : Flaws). AgreeToFirst (places t) (places (flaws_else f g))) (sym is)
-      (agree_after k (places a.flaws) (places f) (places late) (places g) first.first
-      (subst (λ ps. AgreeToFirst (take k (places late)) ps) early (agree_same (take k (places late))))
-      (λ clean. subst (λ (t : Flaws). AgreeToFirst (places late) (places t)) (told (first.right clean))
-      (agree_same (places late))));
-  right = λ clean. first.right (keeps_first k f g clean);
-}
-
--- where a part keeps the first rules, so does the text
-pub none_agrees : (k : ℕ) (xs ys : List (Option Span)) → length xs ≡ length ys → AgreeToFirst xs ys
-    → AreNone (take k xs) → AreNone (take k ys)
-none_agrees zero xs ys e h clean = tt
-none_agrees (suc k) [] [] e h clean = tt
-none_agrees (suc k) [] (y ∷ ys) e h clean = absurd (cc)
-none_agrees (suc k) (x ∷ xs) [] e h clean = tt
-none_agrees (suc k) (x ∷ xs) (y ∷ ys) e h clean =
-    let none : y ≡ None = sym h.0 ∙ clean.0 in
-    (none, none_agrees k xs ys (omega (arith, e)) (h.1 none) clean.1)
+pub read_also : {A : Type 0} (k : ℕ) (g : A → Flaws) {f : Flaws} {x : A} {a : Gridded A} {all : Flaws} → IsReadTo k f x a
+    → take k (places (g a.part)) ≡ take k (places (g x)) → all ≡ flaws_else a.flaws (g a.part)
+    → IsReadTo k (flaws_else f (g x)) x (record { part = a.part; flaws = all })
+read_also k g {a = a} first early is =
+    read_after k k g (λ x. x) (λ x y. y) {b = record { part = a.part; flaws = g a.part }} (omega arith) first early
+    (record { first = agree_same (places (g a.part)); right = λ clean. refl }) is
 
 -- ---- parts that are read in turn
 
 module _ {X A : Type 0} (k : ℕ) (f : X → Flaws) (g : X → A) where
-  pub read_no_part : (made : List A) (flaws : Flaws) → made ≡ [] → flaws ≡ no_flaws
+  pub read_no_part : {made : List A} {flaws : Flaws} → made ≡ [] → flaws ≡ no_flaws
       → IsReadTo k (flaws_in f []) (map g []) (record { part = made; flaws = flaws })
   unfolding flaws_in
-  read_no_part made flaws e p = record {
-    first = subst (λ (t : Flaws). AgreeToFirst (places t) (places no_flaws)) (sym p) (agree_same (places no_flaws));
-    right = λ clean. e;
-  }
+  read_no_part e p = record { first = rw p (agree_same (places no_flaws)); right = λ clean. e }
 
-  read_more : (xs ys : List X) (x : X) (made new : List A) (one : Gridded A) (flaws all : Flaws)
-      → ys ≡ xs ++ x ∷ [] → IsReadTo k (flaws_in f xs) (map g xs) (record { part = made; flaws = flaws })
-      → IsReadTo k (f x) (g x) one → new ≡ made ++ one.part ∷ [] → all ≡ flaws_else flaws one.flaws
-      → IsReadTo k (flaws_in f ys) (map g ys) (record { part = new; flaws = all })
-  read_more xs ys x made new one flaws all more before here pushed is =
-      let both = read_both k (λ zs y. zs ++ y ∷ []) (flaws_in f xs) (f x) (map g xs) (g x)
-      (record { part = made; flaws = flaws }) one all before here is in
-      let same : flaws_in f ys ≡ flaws_else (flaws_in f xs) (f x) = ap (flaws_in f) more ∙ flaws_more f xs x in
-      record {
-        first = subst (λ (t : Flaws). AgreeToFirst (places all) (places t)) (sym same) both.first;
-        right = λ clean. pushed ∙ both.right (subst (λ (t : Flaws). AreNone (take k (places t))) same clean)
-            ∙ sym (map-append g xs (x ∷ [])) ∙ ap (map g) (sym more);
-      }
-
-  pub read_next : (zs : List X) (i : ℕ) (x : X) (made new : List A) (one : Gridded A) (flaws all : Flaws) → i < length zs
+  pub read_next : (zs : List X) (i : ℕ) {x : X} {made new : List A} {one : Gridded A} {flaws all : Flaws} → i < length zs
       → x ≡ get_or zs i x
       → IsReadTo k (flaws_in f (take i zs)) (map g (take i zs)) (record { part = made; flaws = flaws })
       → IsReadTo k (f x) (g x) one → new ≡ made ++ one.part ∷ [] → all ≡ flaws_else flaws one.flaws
       → IsReadTo k (flaws_in f (take (i + 1) zs)) (map g (take (i + 1) zs)) (record { part = new; flaws = all })
-  read_next zs i x made new one flaws all lt at before here pushed is =
-      read_more (take i zs) (take (i + 1) zs) x made new one flaws all
-      (take_more zs i x lt ∙ ap (λ y. take i zs ++ y ∷ []) (sym at)) before here pushed is
+  read_next zs i {x = x} {made = made} {new = new} {one = one} {all = all} lt at before here pushed is =
+      let both = read_both (λ zs y. zs ++ y ∷ []) before here is in
+      let more : take (i + 1) zs ≡ take i zs ++ x ∷ [] =
+      take_more zs i x lt ∙ ap (λ y. take i zs ++ y ∷ []) (sym at) in
+      rw (more, flaws_more f (take i zs) x, map-append g (take i zs) (x ∷ []), pushed) both
 
   -- all parts
-  pub read_end : (zs : List X) (i : ℕ) (made list : List A) (flaws : Flaws) → length zs ≤ i → list ≡ made
+  pub read_end : (zs : List X) (i : ℕ) {made list : List A} {flaws : Flaws} → length zs ≤ i → list ≡ made
       → IsReadTo k (flaws_in f (take i zs)) (map g (take i zs)) (record { part = made; flaws = flaws })
       → IsReadTo k (flaws_in f zs) (map g zs) (record { part = list; flaws = flaws })
-  read_end zs i made list flaws le is h =
-      let all : take i zs ≡ zs = take_all i zs le in
-      rw is (subst (λ ys. IsReadTo k (flaws_in f ys) (map g ys) (record { part = made; flaws = flaws })) all h)
+  read_end zs i le is h = rw is (rw (take_all i zs le) at h)

@@ -1,13 +1,10 @@
 -- An amount of money in whole buckets, and its flaws.
-use Rattle.dl_buckets.proofs.Common.{ℕ, ◌≡◌, ◌∙◌, ◌*◌, ◌/◌, ◌%◌, ◌<◌, ◌≤◌, nat_lt, not, true, false, Option, None, sym, ap, subst, arith, inl, inr, cases_lt, lt-ltb, eq-eqb, eqb-true, Fraction, whole, ◌<ℚ◌, over_lt, whole_num, Span, at_if, is_whole, is_above, not_at, not-false, number_of, IsRead}
+use Rattle.dl_buckets.proofs.Common.{ℕ, ◌≡◌, ◌∙◌, ◌*◌, ◌/◌, ◌%◌, ◌<◌, ◌≤◌, nat_lt, not, true, false, Option, None, sym, ap, subst, arith, inl, inr, cases_lt, lt-ltb, eq-eqb, eqb-true, Fraction, whole, ◌<ℚ◌, over_lt, whole_num, Span, at_if, is_whole, is_above, not_at, not-false, number_of, IsRead, buckets, places, flaws_of_amount}
 use Rattle.std.proofs.Common.{min, nat_eq}
 use Rattle.std.proofs.lemmas.Bool.{ltb-true}
 use Rattle.std.specs.Cmp.{both_ways}
 use Rattle.dl_exact.proofs.Over.{lt_over}
-use Rattle.dl_sev.specs.Buckets.{buckets}
 use Rattle.dl_sev.proofs.Whole.{same, pos, divides_whole, whole_divides, quotient_whole, whole_lt}
-use Rattle.dl_buckets.specs.Flaws.{places}
-use Rattle.dl_buckets.specs.Reading.{flaws_of_amount}
 use Rattle.dl_buckets.proofs.Agreeing.{agree_same}
 
 yes_above : (x y : Fraction) → y <ℚ x → is_above x y ≡ true

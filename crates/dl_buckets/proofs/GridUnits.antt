@@ -1,14 +1,8 @@
 -- What a unit without flaws keeps in whole buckets, part by part.
-use Rattle.dl_buckets.proofs.Common.{ℕ, ◌≡◌, ◌∙◌, ◌*◌, ◌≤◌, ◌==◌, map, length, nat_lt, not, false, Option, Some, None, refl, sym, ap, arith, All, IfSome, length-map, All-map, eqb-true, eq-eqb, not-false, not_at, Fraction, whole, whole_num, whole_den, Span, IsShares, ◌over◌, subst, probs_among, IsClean, flaws_else, number_of, grid_atom, grid_layer, grid_ceded, grid_clause, grid_mixture, GridLayer, IsGridAtom, IsGridSev, IsLayerWithin, IsClauseWithin, IsSevWithin, IsGridClause, IsGridUnit, IsWithin, other_length}
+use Rattle.dl_buckets.proofs.Common.{ℕ, ◌≡◌, ◌∙◌, ◌*◌, ◌≤◌, ◌==◌, length, nat_lt, not, false, Option, Some, None, refl, sym, ap, arith, All, IfSome, length-map, All-map, eqb-true, eq-eqb, not-false, not_at, Fraction, whole, whole_num, whole_den, Span, IsShares, ◌over◌, subst, probs_among, IsClean, flaws_else, number_of, grid_atom, grid_layer, grid_ceded, grid_clause, grid_mixture, GridLayer, IsGridAtom, IsGridSev, IsLayerWithin, IsClauseWithin, IsSevWithin, IsGridClause, IsGridUnit, IsWithin, other_length, most_amount, most_atoms, most_layers, buckets, Numeral, ListAst, Atom, MixAst, IsFormedAtom, IsFormedMixture, IsFormedCession, IsFormedCount, IsFormedUnit, Flaws, flaws_in, flaws_within, earlier_flaws, long_at, grid_shares, limit_value, grid_exposure, grid_freq, grid_count, zero_value, given_zero, flaws_of_numeral, flaws_of_amount, flaws_of_money, flaws_of_list, flaws_of_amounts, flaws_of_shares, flaws_beside, flaws_of_atom, flaws_of_mixture, flaws_of_limit, flaws_of_layer, flaws_of_share, flaws_of_ceded, flaws_of_clause, flaws_of_exposure, flaws_of_count, flaws_of_freq, flaws_of_zero, flaws_of_distribution, is_named, if_there, value, values_of, placed_values}
 use Rattle.std.proofs.Math.Nat.{le_trans}
 use Rattle.std.proofs.lemmas.Bool.{ltb-false}
 use Rattle.std.proofs.lemmas.List.{length-replicate}
-use Rattle.dl_limits.specs.Limits.{most_amount, most_atoms, most_layers}
-use Rattle.dl_sev.specs.Buckets.{buckets}
-use Rattle.dl_ast.specs.declared.ast.Numeral.{Numeral}
-use Rattle.dl_ast.specs.declared.ast.ListAst.{ListAst}
-use Rattle.dl_ast.specs.declared.ast.Atom.{Atom}
-use Rattle.dl_ast.specs.declared.ast.MixAst.{MixAst}
 use Rattle.dl_ast.specs.declared.ast.LimitAst.{LimitAst}
 use Rattle.dl_ast.specs.declared.ast.LimitAst.TheVariants.{Finite, Infinite}
 use Rattle.dl_ast.specs.declared.ast.Layer.{Layer}
@@ -22,19 +16,19 @@ use Rattle.dl_ast.specs.declared.ast.ZeroAst.TheVariants.{Plain, Truncated, Modi
 use Rattle.dl_ast.specs.declared.ast.CountAst.{CountAst}
 use Rattle.dl_ast.specs.declared.ast.CountAst.TheVariants.{Exposed, Listed}
 use Rattle.dl_ast.specs.declared.ast.UnitAst.{UnitAst}
-use Rattle.dl_ast.specs.WellFormed.{IsFormedAtom, IsFormedMixture, IsFormedCession, IsFormedCount, IsFormedUnit}
 use Rattle.dl_buckets.specs.First.{at_if}
-use Rattle.dl_buckets.specs.declared.flaws.Flaws.{Flaws}
-use Rattle.dl_buckets.specs.Flaws.{flaws_in, flaws_within, earlier_flaws, long_at}
-use Rattle.dl_buckets.specs.Grid.{grid_shares, limit_value, grid_exposure, grid_freq, grid_count, zero_value, given_zero}
 unfoldable use Rattle.dl_buckets.specs.Grid.{grid_of}
-use Rattle.dl_buckets.specs.Reading.{flaws_of_numeral, flaws_of_amount, flaws_of_money, flaws_of_list, flaws_of_amounts, flaws_of_shares, flaws_beside, flaws_of_atom, flaws_of_mixture, flaws_of_limit, flaws_of_layer, flaws_of_share, flaws_of_ceded, flaws_of_clause, flaws_of_exposure, flaws_of_count, flaws_of_freq, flaws_of_zero, flaws_of_distribution, is_named}
 unfoldable use Rattle.dl_buckets.specs.Reading.{flaws_of}
 use Rattle.dl_buckets.specs.Rules.{count_lengths}
 use Rattle.dl_buckets.specs.Small.{IsSmall, IsGridExposure, IsGridFreq, IsGridCount}
-use Rattle.dl_buckets.specs.Values.{if_there, value, values_of, placed_values}
 use Rattle.dl_buckets.proofs.Clean.{each_none, clean_first, clean_second, clean_earlier, clean_each}
 use Rattle.dl_buckets.proofs.ItemRanges.{number_is, list_is}
+
+-- what holds of each part without flaws holds of one that may be missing
+if_there_is : {A B : Type 0} (f : A → Flaws) (g : A → B) (P : B → Type 0) → ((x : A) → IsClean (f x) → P (g x))
+    → (o : Option A) → IsClean (flaws_within f o) → IfSome (if_there g o) P
+if_there_is f g P each None clean = tt
+if_there_is f g P each (Some x) clean = each x clean
 
 -- ---- the lists of probabilities
 
@@ -44,14 +38,9 @@ shares_is l clean = record {
   one = not_at _ l.span (each_none _ (clean_second (flaws_of_list l) _ clean)).sum;
 }
 
-second_is : (o : Option ListAst) → IsClean (flaws_within flaws_of_shares o) → IfSome (if_there grid_shares o) IsShares
-second_is None clean = tt
-second_is (Some l) clean = shares_is l clean
-
 module _ (n : ℕ) where
   beside_is : (o : Option ListAst) → IsClean (flaws_within (flaws_beside n) o) → IfSome (if_there grid_shares o) IsShares
-  beside_is None clean = tt
-  beside_is (Some l) clean = shares_is l (clean_first (flaws_of_shares l) _ clean)
+  beside_is = if_there_is (flaws_beside n) grid_shares IsShares (λ l clean. shares_is l (clean_first (flaws_of_shares l) _ clean))
 
   -- as many as the values
   beside_length : (o : Option ListAst) → IsClean (flaws_within (flaws_beside n) o)
@@ -89,15 +78,6 @@ too_long m = long_at (at_if (nat_lt most_atoms (length m.atoms)) m.span)
 module _ (most : ℕ) (bs : Fraction) where
   -- ---- the severity
 
-  amounts_small : (l : ListAst) → IsClean (flaws_of_amounts most bs l)
-      → All (λ n. n ≤ most) (map (number_of bs) (values_of l))
-  amounts_small l clean =
-      let each = clean_each (λ pair. flaws_of_amount most bs pair.0 pair.1) (placed_values l)
-      (clean_second (flaws_of_list l) _ clean) in
-      All-map (λ n. n ≤ most) (number_of bs) (values_of l)
-      (All-map (λ x. number_of bs x ≤ most) (λ pair. pair.0) (placed_values l)
-      (λ k d h. amount_small most bs _ _ (each k d h)))
-
   atom_amounts : (a : Atom) → IsClean (flaws_of_atom most bs a) → IsClean (flaws_of_amounts most bs a.values)
   atom_amounts a clean = clean_first (flaws_of_amounts most bs a.values) _ clean
 
@@ -107,7 +87,12 @@ module _ (most : ℕ) (bs : Fraction) where
 
   atom_within : (a : Atom) → IsClean (flaws_of_atom most bs a)
       → All (λ n. n ≤ most) (grid_atom bs a).amounts
-  atom_within a clean = amounts_small a.values (atom_amounts a clean)
+  atom_within a clean =
+      let each = clean_each (λ pair. flaws_of_amount most bs pair.0 pair.1) (placed_values a.values)
+      (clean_second (flaws_of_list a.values) _ (atom_amounts a clean)) in
+      All-map (λ n. n ≤ most) (number_of bs) (values_of a.values)
+      (All-map (λ x. number_of bs x ≤ most) (λ pair. pair.0) (placed_values a.values)
+      (λ k d h. amount_small most bs _ _ (each k d h)))
 
   mixture_atoms : (m : MixAst) → IsClean (flaws_of_mixture most bs m)
       → All (λ a. IsClean (flaws_of_atom most bs a)) m.atoms
@@ -131,22 +116,12 @@ module _ (most : ℕ) (bs : Fraction) where
     attach = money_small most bs l.span l.attach (clean_second (flaws_of_limit most bs l.span l.limit) _ clean);
   }
 
-  own_layer_within : (o : Option Layer) → IsClean (flaws_within (flaws_of_layer most bs) o)
-      → IfSome (if_there (grid_layer bs) o) (IsLayerWithin most)
-  own_layer_within None clean = tt
-  own_layer_within (Some l) clean = layer_within l clean
-
   clause_within : (c : Cession) → IsClean (flaws_of_clause most bs c) → IsClauseWithin most (grid_clause bs c)
   clause_within c clean =
       let each = clean_each (flaws_of_ceded most bs) c.layers
       (clean_first (flaws_in (flaws_of_ceded most bs) c.layers) _ clean) in
       All-map (λ l. IsLayerWithin most l.layer) (grid_ceded bs) c.layers
       (λ k d h. layer_within _ (clean_second (flaws_of_share _) _ (each k d h)))
-
-  own_clause_within : (o : Option Cession) → IsClean (flaws_within (flaws_of_clause most bs) o)
-      → IfSome (if_there (grid_clause bs) o) (IsClauseWithin most)
-  own_clause_within None clean = tt
-  own_clause_within (Some c) clean = clause_within c clean
 
 -- ---- what holds of any amounts of at most 2^22
 
@@ -186,14 +161,9 @@ module _ (most : ℕ) (bs : Fraction) (le : most ≤ most_amount) where
           each,
           ltb-false most_atoms (length m.atoms) (not_at _ m.span (each_none _ (clean_first (too_long m) _ clean)).long),
         );
-        weights = second_is m.weights
+        weights = if_there_is flaws_of_shares grid_shares IsShares shares_is m.weights
             (clean_second (flaws_in (flaws_of_atom most bs) m.atoms) _ (clean_second (too_long m) _ clean));
       }
-
-  layer_is : (o : Option Layer) → IsClean (flaws_within (flaws_of_layer most bs) o)
-      → IfSome (if_there (grid_layer bs) o) (IsLayerWithin most_amount)
-  layer_is None clean = tt
-  layer_is (Some l) clean = layer_weaker most most_amount _ le (layer_within most bs l clean)
 
   clause_is : (o : Option Cession) → IfSome o IsFormedCession
       → IsClean (flaws_within (flaws_of_clause most bs) o)
@@ -247,10 +217,7 @@ paired_is (Listed values None span) clean = refl
 paired_is (Listed values (Some l) span) clean =
     let each = length-map (placed_values values) (λ pair. pair.0) in
     let same = beside_length (length (placed_values values)) (Some l) (clean_second (flaws_of_list values) _ clean) in
-    at_equal (length (values_of values)) (length (values_of l)) l.span (each ∙ sym same)
-  where
-    at_equal : (m n : ℕ) (place : Span) → m ≡ n → at_if (not (m == n)) place ≡ None
-    at_equal m n place e = ap (λ b. at_if (not b) place) (eq-eqb m n e)
+    ap (λ b. at_if (not b) l.span) (eq-eqb (length (values_of values)) (length (values_of l)) (each ∙ sym same))
 
 given_is : (k : CountAst) → IsClean (flaws_of_distribution k) → IfSome (given_zero k) IsSmall
 given_is (Exposed exposure freq zero) clean = zero_is zero (clean_second (flaws_of_freq freq) _ clean)
@@ -290,10 +257,10 @@ module _ (most : ℕ) (bs : Fraction) (u : UnitAst) (m : MixAst) (clean : IsClea
   pub within_is : IsWithin most (grid_of bs u m)
   unfolding grid_of
   within_is = record {
-    layer = own_layer_within most bs u.layer fronts.1;
+    layer = if_there_is (flaws_of_layer most bs) (grid_layer bs) (IsLayerWithin most) (layer_within most bs) u.layer fronts.1;
     sev = sev_within most bs m fronts.2;
-    occ = own_clause_within most bs u.occ parts.1;
-    agr = own_clause_within most bs u.agr parts.3;
+    occ = if_there_is (flaws_of_clause most bs) (grid_clause bs) (IsClauseWithin most) (clause_within most bs) u.occ parts.1;
+    agr = if_there_is (flaws_of_clause most bs) (grid_clause bs) (IsClauseWithin most) (clause_within most bs) u.agr parts.3;
   }
 
   pub grid_is : most ≤ most_amount → IsFormedUnit u → IsFormedMixture m → IsGridUnit (grid_of bs u m)
@@ -301,7 +268,8 @@ module _ (most : ℕ) (bs : Fraction) (u : UnitAst) (m : MixAst) (clean : IsClea
   grid_is le formed mixed = record {
     count = count_is u.count formed.count fronts.0 parts.2;
     paired = paired_is u.count fronts.0;
-    layer = layer_is most bs le u.layer fronts.1;
+    layer = if_there_is (flaws_of_layer most bs) (grid_layer bs) (IsLayerWithin most_amount)
+        (λ l own. layer_weaker most most_amount _ le (layer_within most bs l own)) u.layer fronts.1;
     sev = sev_is most bs le m mixed fronts.2;
     zero = given_is u.count parts.2;
     occ = clause_is most bs le u.occ formed.occ parts.1;

@@ -1,17 +1,11 @@
 -- Layers that are read, and shares of them: both are right where the limit is.
-use Rattle.dl_buckets.proofs.Common.{ℕ, ◌≡◌, ◌∙◌, List, Option, Some, None, ap, take, Fraction, Span, refl, arith, subst, IsClean, IsRead, flaws_else, GridLayer, GridCeded, number_of, grid_layer, grid_ceded}
+use Rattle.dl_buckets.proofs.Common.{ℕ, ◌≡◌, ◌∙◌, Option, Some, None, ap, take, Fraction, Span, refl, arith, IsClean, IsRead, flaws_else, GridLayer, GridCeded, number_of, grid_layer, grid_ceded, Flaws, Gridded, IsReadTo, AreNone, places, flaws_within, limit_value, share_beside, flaws_of_amount, flaws_of_numeral, flaws_of_money, flaws_of_limit, flaws_of_limit_number, flaws_of_layer, flaws_of_share, flaws_of_ceded, value, if_there}
 use Rattle.dl_ast.specs.declared.ast.Layer.{Layer}
 use Rattle.dl_ast.specs.declared.ast.CededLayer.{CededLayer}
 use Rattle.dl_ast.specs.declared.ast.LimitAst.{LimitAst}
 use Rattle.dl_ast.specs.declared.ast.LimitAst.TheVariants.{Finite, Infinite}
 use Rattle.dl_buckets.specs.declared.grid.GridShare.{GridShare}
-use Rattle.dl_buckets.specs.declared.flaws.Flaws.{Flaws}
-use Rattle.dl_buckets.specs.declared.flaws.Gridded.{Gridded}
-use Rattle.dl_buckets.specs.Flaws.{IsReadTo, AgreeToFirst, AreNone, places, flaws_within}
-use Rattle.dl_buckets.specs.Grid.{limit_value, share_beside}
-use Rattle.dl_buckets.specs.Reading.{flaws_of_amount, flaws_of_numeral, flaws_of_money, flaws_of_limit, flaws_of_limit_number, flaws_of_layer, flaws_of_share, flaws_of_ceded}
-use Rattle.dl_buckets.specs.Values.{value, if_there}
-use Rattle.dl_buckets.proofs.Agreeing.{read_longer, read_both, read_after, agree_take, keeps_first}
+use Rattle.dl_buckets.proofs.Agreeing.{read_longer, read_both, read_after, keeps_first}
 use Rattle.dl_buckets.proofs.Clean.{clean_first, clean_second}
 
 module _ (most : ℕ) (bs : Fraction) where
@@ -19,13 +13,12 @@ module _ (most : ℕ) (bs : Fraction) where
   amount_flaws place limit = flaws_within (λ x. flaws_of_amount most bs x place) limit
 
   -- an amount is no bad numeral, whichever it is
-  same_early : (place : Span) (x y : Option Fraction) (ps : List (Option Span))
-      → AgreeToFirst ps (take 1 (places (amount_flaws place x)))
-      → AgreeToFirst ps (take 1 (places (amount_flaws place y)))
-  same_early place None None ps h = h
-  same_early place None (Some y) ps h = h
-  same_early place (Some x) None ps h = h
-  same_early place (Some x) (Some y) ps h = h
+  same_early : (place : Span) (x y : Option Fraction)
+      → take 1 (places (amount_flaws place x)) ≡ take 1 (places (amount_flaws place y))
+  same_early place None None = refl
+  same_early place None (Some y) = refl
+  same_early place (Some x) None = refl
+  same_early place (Some x) (Some y) = refl
 
   limit_flaws : (place : Span) (limit : LimitAst)
       → flaws_else (flaws_of_limit_number limit) (amount_flaws place (limit_value limit))
@@ -39,38 +32,29 @@ module _ (most : ℕ) (bs : Fraction) where
       keeps_first 1 (flaws_of_numeral n) (flaws_of_amount most bs (value n) place) (clean.0, tt)
   limit_clean place Infinite clean = (refl, tt)
 
-  pub layer_read : (l : Layer) (limit : Gridded (Option Fraction)) (paid : Gridded (Option ℕ)) (attach : Gridded ℕ)
-      (limits all : Flaws) → IsReadTo 1 (flaws_of_limit_number l.limit) (limit_value l.limit) limit
+  pub layer_read : (l : Layer) {limit : Gridded (Option Fraction)} {paid : Gridded (Option ℕ)} {attach : Gridded ℕ}
+      {limits all : Flaws} → IsReadTo 1 (flaws_of_limit_number l.limit) (limit_value l.limit) limit
       → IsRead (amount_flaws l.span limit.part) (if_there (number_of bs) limit.part) paid
       → IsRead (flaws_of_money most bs l.span l.attach) (number_of bs (value l.attach)) attach
       → limits ≡ flaws_else limit.flaws paid.flaws → all ≡ flaws_else limits attach.flaws
       → IsRead (flaws_of_layer most bs l) (grid_layer bs l)
       (record { part = record { limit = paid.part; attach = attach.part; span = l.span }; flaws = all })
-  layer_read l limit paid attach limits all number amount attached joined is =
-      let right = limit_value l.limit in
-      let made : Gridded (Option ℕ) = record { part = paid.part; flaws = limits } in
-      let both = read_after 1 7 (flaws_of_limit_number l.limit) (amount_flaws l.span right) right
-      (if_there (number_of bs) right) limit paid limits (omega arith) number
-      (same_early l.span limit.part right (take 1 (places paid.flaws))
-      (agree_take 1 (places paid.flaws) (places (amount_flaws l.span limit.part)) amount.first))
-      (λ same. subst (λ x. IsRead (amount_flaws l.span x) (if_there (number_of bs) x) paid) same amount) joined in
-      read_both 7 (λ (n : Option ℕ) (a : ℕ). record { limit = n; attach = a; span = l.span })
-      (flaws_of_limit most bs l.span l.limit) (flaws_of_money most bs l.span l.attach) (if_there (number_of bs) right)
-      (number_of bs (value l.attach)) made attach all
-      (subst (λ t. IsRead t (if_there (number_of bs) right) made) (limit_flaws l.span l.limit) both) attached is
+  layer_read l {limit = limit} number amount attached joined is =
+      let both = read_after 1 7 (amount_flaws l.span) (if_there (number_of bs)) (λ x n. n) (omega arith) number
+      (same_early l.span limit.part (limit_value l.limit)) amount joined in
+      read_both (λ (n : Option ℕ) (a : ℕ). record { limit = n; attach = a; span = l.span })
+      (rw (limit_flaws l.span l.limit) at both) attached is
 
-  pub ceded_read : (c : CededLayer) (limit : Gridded (Option Fraction)) (share : Gridded GridShare)
-      (layer : Gridded GridLayer) (all : Flaws)
+  pub ceded_read : (c : CededLayer) {limit : Gridded (Option Fraction)} {share : Gridded GridShare}
+      {layer : Gridded GridLayer} {all : Flaws}
       → IsReadTo 1 (flaws_of_limit_number c.layer.limit) (limit_value c.layer.limit) limit
       → IsReadTo 1 (flaws_of_share c.share) (share_beside c.share limit.part) share
       → IsRead (flaws_of_layer most bs c.layer) (grid_layer bs c.layer) layer → all ≡ flaws_else share.flaws layer.flaws
       → IsRead (flaws_of_ceded most bs c) (grid_ceded bs c)
       (record { part = record { share = share.part; layer = layer.part; span = c.span }; flaws = all })
-  ceded_read c limit share layer all number beside own is =
+  ceded_read c number beside own is =
       let make : GridShare → GridLayer → GridCeded = λ s l. record { share = s; layer = l; span = c.span } in
-      let both = read_both 7 make (flaws_of_share c.share) (flaws_of_layer most bs c.layer)
-      (share_beside c.share limit.part) (grid_layer bs c.layer) share layer all
-      (read_longer 1 7 _ _ _ (omega arith) beside) own is in
+      let both = read_both make (read_longer 1 7 (omega arith) beside) own is in
       record {
         first = both.first;
         right = λ clean.

@@ -1,13 +1,5 @@
 -- The flaws of numerals and ranges alone, and mixtures of too many atoms.
-use Rattle.dl_buckets.proofs.Common.{ℕ, ◌≡◌, ◌∙◌, ◌+◌, ◌<◌, ◌≤◌, get_or, take_all, take_more, not, ◌==◌, List, [], ◌∷◌, ◌++◌, length, take, nat_lt, Option, Some, None, refl, sym, ap, subst, Fraction, Span, ◌else◌, at_if, flaws_else, IsRead, GridSev, grid_mixture, is_not_one}
-use Rattle.dl_limits.specs.Limits.{most_atoms}
-use Rattle.dl_ast.specs.declared.ast.Atom.{Atom}
-use Rattle.dl_ast.specs.declared.ast.ListAst.{ListAst}
-use Rattle.dl_ast.specs.declared.ast.MixAst.{MixAst}
-use Rattle.dl_buckets.specs.declared.flaws.Flaws.{Flaws}
-use Rattle.dl_buckets.specs.Flaws.{AgreeEarly, AgreeToFirst, places, no_flaws, flaws_in, flaws_within, long_at, lengths_at, sum_at}
-use Rattle.dl_buckets.specs.Reading.{flaws_of_list, flaws_of_amount, flaws_of_amounts, flaws_of_shares, flaws_beside, flaws_of_atom, flaws_of_mixture}
-use Rattle.dl_buckets.specs.Values.{placed_values, values_of}
+use Rattle.dl_buckets.proofs.Common.{ℕ, ◌≡◌, ◌∙◌, ◌+◌, ◌<◌, get_or, take_more, not, ◌==◌, List, [], ◌∷◌, ◌++◌, length, take, nat_lt, Option, Some, None, refl, sym, ap, subst, Fraction, Span, ◌else◌, at_if, flaws_else, IsRead, GridSev, grid_mixture, is_not_one, most_atoms, Atom, ListAst, MixAst, Flaws, AgreeEarly, AgreeToFirst, places, no_flaws, flaws_in, flaws_within, long_at, lengths_at, sum_at, flaws_of_list, flaws_of_amount, flaws_of_amounts, flaws_of_shares, flaws_beside, flaws_of_atom, flaws_of_mixture, placed_values, values_of}
 use Rattle.dl_buckets.proofs.Firsts.{else_none, passes_limit}
 use Rattle.dl_buckets.proofs.Agreeing.{agree_same, agree_else, flaws_more}
 
@@ -15,17 +7,18 @@ abbrev early : Flaws → List (Option Span)
 early f = take 2 (places f)
 
 -- flaws of later rules do not count
-early_alone : (f g : Flaws) → g.numeral ≡ None → g.range ≡ None → early (flaws_else f g) ≡ early f
-early_alone f g p q = rw (p, q) (simp else_none)
-
-agree_alone : (m f g : Flaws) → g.numeral ≡ None → g.range ≡ None → AgreeEarly m f → AgreeEarly m (flaws_else f g)
-agree_alone m f g p q h = subst (λ ps. AgreeToFirst (early m) ps) (sym (early_alone f g p q)) h
+agree_alone : (m f g : Flaws) → early g ≡ None ∷ None ∷ [] → AgreeEarly m f → AgreeEarly m (flaws_else f g)
+agree_alone m f g later h =
+    let p : g.numeral ≡ None = cc in
+    let q : g.range ≡ None = cc in
+    let same : early (flaws_else f g) ≡ early f = rw (p, q) (simp else_none) in
+    subst (λ ps. AgreeToFirst (early m) ps) (sym same) h
 
 pub early_both : (m n f g : Flaws) → AgreeEarly m f → AgreeEarly n g → AgreeEarly (flaws_else m n) (flaws_else f g)
 early_both m n f g h k = agree_else (early m) (early f) (early n) (early g) h k
 
 shares_early : (m : Flaws) (l : ListAst) → AgreeEarly m (flaws_of_list l) → AgreeEarly m (flaws_of_shares l)
-shares_early m l h = agree_alone m (flaws_of_list l) (sum_at (at_if (is_not_one (values_of l)) l.span)) refl refl h
+shares_early m l h = agree_alone m (flaws_of_list l) (sum_at (at_if (is_not_one (values_of l)) l.span)) refl h
 
 weights_early : (m : Flaws) (o : Option ListAst) → AgreeEarly m (flaws_within flaws_of_list o)
     → AgreeEarly m (flaws_within flaws_of_shares o)
@@ -36,7 +29,7 @@ beside_early : (m : Flaws) (n : ℕ) (o : Option ListAst) → AgreeEarly m (flaw
     → AgreeEarly m (flaws_within (flaws_beside n) o)
 beside_early m n None h = h
 beside_early m n (Some l) h = agree_alone m (flaws_of_shares l)
-    (lengths_at (at_if (not (n == length (placed_values l))) l.span)) refl refl (shares_early m l h)
+    (lengths_at (at_if (not (n == length (placed_values l))) l.span)) refl (shares_early m l h)
 
 module _ (most : ℕ) (bs : Fraction) where
   abbrev pub amount_flaws : List (Fraction × Span) → Flaws
@@ -48,22 +41,12 @@ module _ (most : ℕ) (bs : Fraction) where
   none_early [] = refl
   none_early (pair ∷ placed) = none_early placed
 
-  no_numeral : (placed : List (Fraction × Span)) → (amount_flaws placed).numeral ≡ None
-  unfolding flaws_in
-  no_numeral [] = refl
-  no_numeral (pair ∷ placed) = no_numeral placed
-
-  no_range : (placed : List (Fraction × Span)) → (amount_flaws placed).range ≡ None
-  unfolding flaws_in
-  no_range [] = refl
-  no_range (pair ∷ placed) = no_range placed
-
   atom_early : (m n : Flaws) (a : Atom) → AgreeEarly m (flaws_of_list a.values)
       → AgreeEarly n (flaws_within flaws_of_list a.probs) → AgreeEarly (flaws_else m n) (flaws_of_atom most bs a)
   atom_early m n a values probs =
       let placed = placed_values a.values in
       early_both m n (flaws_of_amounts most bs a.values) (flaws_within (flaws_beside (length placed)) a.probs)
-      (agree_alone m (flaws_of_list a.values) (amount_flaws placed) (no_numeral placed) (no_range placed) values)
+      (agree_alone m (flaws_of_list a.values) (amount_flaws placed) (ap (take 2) (none_early placed)) values)
       (beside_early n (length placed) a.probs probs)
 
   -- one atom more
@@ -84,11 +67,6 @@ module _ (most : ℕ) (bs : Fraction) where
   pub atoms_none : (flaws : Flaws) → flaws ≡ no_flaws → AgreeEarly flaws (flaws_in (flaws_of_atom most bs) [])
   unfolding flaws_in
   atoms_none flaws e = rw e (agree_same (early no_flaws))
-
-  pub atoms_end : (flaws : Flaws) (atoms : List Atom) (i : ℕ) → length atoms ≤ i
-      → AgreeEarly flaws (flaws_in (flaws_of_atom most bs) (take i atoms))
-      → AgreeEarly flaws (flaws_in (flaws_of_atom most bs) atoms)
-  atoms_end flaws atoms i le h = subst (λ xs. AgreeEarly flaws (flaws_in (flaws_of_atom most bs) xs)) (take_all i atoms le) h
 
   -- a mixture that is too long is neither right nor in need of more
   pub long_read : (m : MixAst) (part : GridSev) (atoms weights rest all : Flaws) → most_atoms < length m.atoms

@@ -1,5 +1,5 @@
 -- How large the amounts of a severity are, and how many there are.
-use Rattle.dl_buckets.proofs.Common.{◌==◌, amounts_of, ℕ, ◌≡◌, ◌∙◌, ◌*◌, ◌/◌, ◌<◌, ◌≤◌, List, [], ◌∷◌, map, filter, zip, length, get_or, nat_lt, Option, Some, None, Bool, true, false, cond, refl, sym, ap, subst, arith, All, length-map, All-nil, All-cons, All-head, All-tail, All-weaker, All-append, All-map, Fraction, ◌*ℚ◌, IsWhole, Item, Sev, Pairs, conditioned, Means, Clause, layer, kept, IsClause, whole_num, scaled, with_amounts, layered, ceded_each, GridAtom, GridSev, GridLayer, atom_probs, atom_pairs, mixed, mixed_pairs, weights_of, is_conditioned, layer_pairs, support, IsGridAtom, IsGridSev, IsSevWithin}
+use Rattle.dl_buckets.proofs.Common.{◌==◌, amounts_of, ℕ, ◌≡◌, ◌∙◌, ◌*◌, ◌/◌, ◌<◌, ◌≤◌, List, [], ◌∷◌, map, filter, zip, length, get_or, nat_lt, Option, Some, None, Bool, true, false, cond, refl, sym, ap, subst, arith, All, length-map, All-nil, All-cons, All-head, All-tail, All-weaker, All-append, All-map, Fraction, ◌*ℚ◌, IsWhole, Item, Sev, Pairs, conditioned, Means, Clause, layer, kept, IsClause, whole_num, scaled, with_amounts, layered, ceded_each, GridSev, GridLayer, atom_probs, atom_pairs, mixed, mixed_pairs, weights_of, is_conditioned, layer_pairs, support, IsGridAtom, IsGridSev, IsSevWithin}
 use Rattle.std.proofs.Common.{length-append}
 use Rattle.std.specs.Cmp.{IsEquivalence}
 use Rattle.std.specs.Set.{is_member}
@@ -30,22 +30,14 @@ zip_near b (x ∷ xs) (y ∷ ys) h =
     All-cons (λ pair. pair.0 ≤ b) (x, y) (zip xs ys) (All-head (λ n. n ≤ b) x xs h)
     (zip_near b xs ys (All-tail (λ n. n ≤ b) x xs h))
 
-atom_near : (b : ℕ) (a : GridAtom) → All (λ amount. amount ≤ b) a.amounts → Near b (atom_pairs a)
-atom_near b a near = zip_near b a.amounts (atom_probs a) near
-
-atom_few : (a : GridAtom) → IsGridAtom a → length (atom_pairs a) ≤ 1024
-atom_few a grid = omega (arith, length-zip a.amounts (atom_probs a), grid.few)
-
 -- ---- the mixture
-
-scaled_near : (b : ℕ) (w : Fraction) (ps : Pairs) → Near b ps → Near b (scaled w ps)
-scaled_near b w ps h = All-map (λ pair. pair.0 ≤ b) (λ (pair : ℕ × Fraction). (pair.0, w *ℚ pair.1)) ps h
 
 all_mixed_near : (b : ℕ) (ws : List Fraction) (lists : List Pairs) → All (Near b) lists → Near b (mixed ws lists)
 all_mixed_near b [] lists h = All-nil (λ pair. pair.0 ≤ b)
 all_mixed_near b (w ∷ ws) [] h = All-nil (λ pair. pair.0 ≤ b)
 all_mixed_near b (w ∷ ws) (ps ∷ lists) h =
-    All-append (λ pair. pair.0 ≤ b) (scaled w ps) (mixed ws lists) (scaled_near b w ps (All-head (Near b) ps lists h))
+    All-append (λ pair. pair.0 ≤ b) (scaled w ps) (mixed ws lists)
+    (All-map (λ pair. pair.0 ≤ b) (λ (pair : ℕ × Fraction). (pair.0, w *ℚ pair.1)) ps (All-head (Near b) ps lists h))
     (all_mixed_near b ws lists (All-tail (Near b) ps lists h))
 
 all_mixed_few : (n : ℕ) (ws : List Fraction) (lists : List Pairs) → All (λ ps. length ps ≤ n) lists
@@ -65,20 +57,20 @@ mixed_near : (b : ℕ) (s : GridSev) → IsSevWithin b s → Near b (mixed_pairs
 mixed_near b s near =
     all_mixed_near b (weights_of s) (map atom_pairs s.atoms)
     (All-map (Near b) atom_pairs s.atoms
-    (All-weaker (λ a. All (λ amount. amount ≤ b) a.amounts) (λ a. Near b (atom_pairs a)) (atom_near b) s.atoms near))
+    (All-weaker (λ a. All (λ amount. amount ≤ b) a.amounts) (λ a. Near b (atom_pairs a)) (λ a. zip_near b a.amounts (atom_probs a))
+    s.atoms near))
 
-module _ (s : GridSev) (grid : IsGridSev s) where
-  mixed_few : length (mixed_pairs s) ≤ 65536
-  mixed_few =
-      omega (
-        arith,
-        all_mixed_few 1024 (weights_of s) (map atom_pairs s.atoms)
-            (All-map (λ ps. length ps ≤ 1024) atom_pairs s.atoms
-            (All-weaker IsGridAtom (λ a. length (atom_pairs a) ≤ 1024)
-            (atom_few) s.atoms grid.atoms)),
-        length-map s.atoms atom_pairs,
-        grid.few,
-      )
+mixed_few : (s : GridSev) → IsGridSev s → length (mixed_pairs s) ≤ 65536
+mixed_few s grid =
+    omega (
+      arith,
+      all_mixed_few 1024 (weights_of s) (map atom_pairs s.atoms)
+          (All-map (λ ps. length ps ≤ 1024) atom_pairs s.atoms
+          (All-weaker IsGridAtom (λ a. length (atom_pairs a) ≤ 1024)
+          (λ a each. omega (arith, length-zip a.amounts (atom_probs a), each.few)) s.atoms grid.atoms)),
+      length-map s.atoms atom_pairs,
+      grid.few,
+    )
 
 -- ---- the layer
 
@@ -118,16 +110,18 @@ layered_few limit a false ps = omega (
       (λ (pair : ℕ × Fraction). (layer limit a pair.0, pair.1)),
 )
 
-layer_near : (b : ℕ) (o : Option GridLayer) (bang : Bool) (s : GridSev) → Near b (mixed_pairs s)
+-- a layer has no greater amounts, and no more of them
+pub in_layer_near : (o : Option GridLayer) (bang : Bool) (s : GridSev) (b : ℕ) → IsSevWithin b s
     → Near b (layer_pairs o bang s)
-layer_near b None bang s h = h
-layer_near b (Some l) bang s h = layered_near b l.limit l.attach (is_conditioned bang l)
-    (mixed_pairs s) h
+in_layer_near None bang s b near = mixed_near b s near
+in_layer_near (Some l) bang s b near =
+    layered_near b l.limit l.attach (is_conditioned bang l) (mixed_pairs s) (mixed_near b s near)
 
-layer_few : (o : Option GridLayer) (bang : Bool) (s : GridSev)
-    → length (layer_pairs o bang s) ≤ length (mixed_pairs s)
-layer_few None bang s = omega arith
-layer_few (Some l) bang s = layered_few l.limit l.attach (is_conditioned bang l) (mixed_pairs s)
+pub in_layer_few : (o : Option GridLayer) (bang : Bool) (s : GridSev) → IsGridSev s
+    → length (layer_pairs o bang s) ≤ 65536
+in_layer_few None bang s grid = mixed_few s grid
+in_layer_few (Some l) bang s grid =
+    omega (arith, layered_few l.limit l.attach (is_conditioned bang l) (mixed_pairs s), mixed_few s grid)
 
 -- ---- rising amounts that all stand in a list are no more than it has
 
@@ -166,13 +160,6 @@ items_few sev ps means =
 pub items_near : (b : ℕ) (sev : Sev) (ps : Pairs) → Means sev ps → Near b ps
     → All (λ (i : Item). i.amount ≤ b) sev.items
 items_near b sev ps means near = items_in sev ps means (λ x. x ≤ b) (support_all (λ x. x ≤ b) ps near)
-
-module _ (o : Option GridLayer) (bang : Bool) (s : GridSev) where
-  pub in_layer_near : (b : ℕ) → IsSevWithin b s → Near b (layer_pairs o bang s)
-  in_layer_near b near = layer_near b o bang s (mixed_near b s near)
-
-  pub in_layer_few : IsGridSev s → length (layer_pairs o bang s) ≤ 65536
-  in_layer_few grid = omega (arith, layer_few o bang s, mixed_few s grid)
 
 -- ---- the occurrence clause
 

@@ -1,24 +1,11 @@
 -- The values of a list whose numerals and ranges are good.
-use Rattle.dl_buckets.proofs.Common.{ℕ, ◌≡◌, ◌∙◌, ◌<◌, ◌≤◌, List, [], ◌∷◌, map, flat_map, length, take, get_or, nat_lt, Option, Some, None, refl, sym, ap, subst, arith, All, All-nil, All-cons, All-map, length-map, Fraction, Span, at_if, else_second, IsClean, flaws_else}
+use Rattle.dl_buckets.proofs.Common.{ℕ, ◌≡◌, ◌∙◌, ◌<◌, ◌≤◌, List, [], ◌∷◌, map, flat_map, length, take, get_or, nat_lt, Option, Some, None, refl, sym, ap, subst, arith, All, All-nil, All-cons, All-map, length-map, Fraction, Span, at_if, else_second, IsClean, flaws_else, most_values, HasPartsOf18Digits, IsRange, PassesRoom, range_values, Range, Numeral, ListItem, ListAst, IsFormedList, Flaws, Gridded, IsReadTo, AgreeToFirst, AreNone, places, flaws_in, flaws_within, range_at, long_at, flaws_of_numeral, is_no_range, flaws_of_item, flaws_of_list, range_of, placed_range, placed_in, placed_item, placed_values, AreTooMany}
 use Rattle.std.specs.Prelude.{◌&&◌, is_some}
 use Rattle.std.proofs.lemmas.List.Folds.{flat_map-map, length-flat_map-take}
-use Rattle.dl_limits.specs.Limits.{most_values}
-use Rattle.dl_sev.specs.Buckets.{HasPartsOf18Digits}
-use Rattle.dl_sev.specs.Ranges.{IsRange, PassesRoom, range_values}
-use Rattle.dl_sev.specs.declared.range.Range.{Range}
 use Rattle.dl_sev.specs.declared.fault.ExpandFault.{ExpandFault}
 use Rattle.dl_sev.specs.declared.fault.ExpandFault.TheVariants.{TooLong, OutOfMemory}
-use Rattle.dl_ast.specs.declared.ast.Numeral.{Numeral}
-use Rattle.dl_ast.specs.declared.ast.ListItem.{ListItem}
-use Rattle.dl_ast.specs.declared.ast.ListAst.{ListAst}
-use Rattle.dl_ast.specs.WellFormed.{IsFormedList}
-use Rattle.dl_buckets.specs.declared.flaws.Flaws.{Flaws}
-use Rattle.dl_buckets.specs.declared.flaws.Gridded.{Gridded}
-use Rattle.dl_buckets.specs.Flaws.{IsReadTo, AreNone, places, no_flaws, flaws_in, flaws_within, range_at, long_at}
-use Rattle.dl_buckets.specs.Reading.{flaws_of_numeral, is_no_range, flaws_of_item, flaws_of_list}
-use Rattle.dl_buckets.specs.Values.{range_of, placed_range, placed_in, placed_item, placed_values, AreTooMany}
 use Rattle.dl_buckets.proofs.Firsts.{passes_limit, keeps_limit}
-use Rattle.dl_buckets.proofs.Agreeing.{keeps_first, keeps_second, none_agrees, read_also, flaws_none}
+use Rattle.dl_buckets.proofs.Agreeing.{keeps_first, keeps_second, read_also, flaws_none}
 use Rattle.dl_buckets.proofs.ItemRanges.{item_is, item_modest, all_joined}
 
 -- with the values of one range more there are more than 1,024
@@ -66,8 +53,7 @@ module _ (l : ListAst) (formed : IsFormedList l) (ranges : Gridded (List (Range 
     (read : IsReadTo 2 (flaws_in flaws_of_item l.items) (map placed_range l.items) ranges)
     (numeral : ranges.flaws.numeral ≡ None) (range : ranges.flaws.range ≡ None) where
   kept : AreNone (take 2 (places (flaws_in flaws_of_item l.items)))
-  kept = none_agrees 2 (places ranges.flaws) (places (flaws_in flaws_of_item l.items)) refl read.first
-      (numeral, (range, tt))
+  kept = let none = sym read.first.0 ∙ numeral in (none, (sym (read.first.1 none).0 ∙ range, tt))
 
   clean : All (λ i. IsClean (flaws_of_item i)) l.items
   clean = items_clean l.items kept
@@ -86,19 +72,24 @@ module _ (l : ListAst) (formed : IsFormedList l) (ranges : Gridded (List (Range 
       (all_joined (λ pair. HasPartsOf18Digits pair.0) placed_item l.items
       (λ k d h. item_modest _ (formed.items k d h) (clean k d h)))
 
-  abbrev long : Flaws
-  long = long_at (at_if (nat_lt most_values (length (placed_values l))) l.span)
+  abbrev late : List (Range × Span) → Flaws
+  late pairs = long_at (at_if (nat_lt most_values (length (flat_map placed_in pairs))) l.span)
+
+  told : {all : Flaws} → all ≡ flaws_else ranges.flaws (late ranges.part)
+      → AgreeToFirst (places all) (places (flaws_of_list l))
+  told is = (rw (flat_map-map placed_in placed_range l.items) at (read_also 2 late read refl is)).first
 
   -- not too many values
   pub few_read : (values : List (Fraction × Span)) → values ≡ flat_map placed_in ranges.part
       → length values ≤ most_values
       → IsReadTo 3 (flaws_of_list l) (placed_values l) (record { part = values; flaws = ranges.flaws })
   few_read values e few =
-      let none = keeps_limit most_values (length (placed_values l)) l.span
-      (omega (arith, few, ap length (e ∙ values_are))) in
-      let also = read_also 2 (flaws_in flaws_of_item l.items) long no_flaws (map placed_range l.items) ranges ranges.flaws
-      read refl (λ same. ap long_at none) (sym (flaws_none ranges.flaws)) in
-      record { first = also.first; right = λ keeps. e ∙ values_are }
+      let none = keeps_limit most_values (length (flat_map placed_in ranges.part)) l.span
+      (omega (arith, few, ap length e)) in
+      record {
+        first = told (sym (flaws_none ranges.flaws) ∙ ap (λ o. flaws_else ranges.flaws (long_at o)) none);
+        right = λ keeps. e ∙ values_are;
+      }
 
   -- too many
   pub long_read : (values : List (Fraction × Span)) (all : Flaws)
@@ -106,13 +97,10 @@ module _ (l : ListAst) (formed : IsFormedList l) (ranges : Gridded (List (Range 
       → all ≡ flaws_else ranges.flaws (long_at (Some l.span))
       → IsReadTo 3 (flaws_of_list l) (placed_values l) (record { part = values; flaws = all })
   long_read values all many is =
-      let far = passes_limit most_values (length (placed_values l)) l.span
-      (omega (arith, many, ap length values_are)) in
-      let also = read_also 2 (flaws_in flaws_of_item l.items) long (long_at (Some l.span)) (map placed_range l.items)
-      ranges all read refl (λ same. ap long_at far) is in
+      let far = passes_limit most_values (length (flat_map placed_in ranges.part)) l.span many in
       record {
-        first = also.first;
+        first = told (is ∙ ap (λ o. flaws_else ranges.flaws (long_at o)) far);
         right = λ keeps.
-            let none = else_second (flaws_in flaws_of_item l.items).long long.long keeps.1.1.0 in
-            absurd (cc (none, far));
+            let none = else_second (flaws_in flaws_of_item l.items).long _ keeps.1.1.0 in
+            absurd (cc (none, rw values_are at far));
       }

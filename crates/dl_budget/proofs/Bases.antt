@@ -1,8 +1,5 @@
 -- What a kind of count begins with: the spreads of the bases, which have room to grow.
-use Rattle.dl_budget.proofs.Common.{ℕ, ◌≡◌, ◌+◌, ◌*◌, ◌^◌, ◌<◌, ◌≤◌, arith, sym, ap, ap₂, subst, ◌∙◌, div_ceil, mul-le-mul, mul-le-mul_left, mul-pos, le_of_mul-le-mul_right, pow-le-pow_right, most_operands, Fraction, whole, ◌over◌, ◌/ℚ◌, ◌≤ℚ◌, over_self, over_div, le_over, one_pos, up, rounded_spread, up_quotient}
-use Rattle.std.proofs.lemmas.Grind.{div_ceil_times}
-use Rattle.dl_exact.specs.Fraction.{◌+ℚ◌, ◌*ℚ◌}
-use Rattle.dl_exact.proofs.Over.{over_add, over_mul}
+use Rattle.dl_budget.proofs.Common.{ℕ, ◌≡◌, ◌+◌, ◌*◌, ◌^◌, ◌<◌, ◌≤◌, arith, sym, ap, ap₂, subst, ◌∙◌, div_ceil, mul-le-mul, mul-le-mul_left, mul-pos, le_of_mul-le-mul_right, pow-le-pow_right, most_operands, Fraction, whole, ◌over◌, ◌/ℚ◌, ◌≤ℚ◌, over_self, over_div, le_over, one_pos, up, rounded_spread, up_quotient, div_ceil_times, ◌+ℚ◌, ◌*ℚ◌, over_add, over_mul}
 
 -- ---- Poisson counts
 

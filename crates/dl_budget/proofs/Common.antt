@@ -1,27 +1,51 @@
 -- The names that the proofs of this crate cite most, passed on from one place. Declares nothing.
-pub use Rattle.std.proofs.Common.{List, [], add-one, ap, ap₂, arith, drop, get_or, inl, inr, length, refl, subst, suc, sym, take, zero, ℕ, ◌*◌, ◌+◌, ◌-◌, ◌<◌, ◌^◌, ◌∙◌, ◌∷◌, ◌≡◌, ◌≤◌}
-pub use Rattle.std.proofs.Math.Nat.{le_of_mul-le-mul_right, mul-le-mul, mul-le-mul_left, mul-le-mul_right, mul-pos, pow-le-pow_right}
-pub use Rattle.std.proofs.lemmas.Bool.Decides.{leb_tells}
-pub use Rattle.std.proofs.lemmas.Grind.{common_steps}
-pub use Rattle.std.proofs.lemmas.List.{take_all}
+pub use Rattle.std.proofs.Common.{List, [], ap, ap₂, arith, bytes_eq, drop, get_or, inl, inr, length, refl, rules, subst, suc, sym, take, tests, zero, ℕ, ◌%◌, ◌*◌, ◌++◌, ◌+◌, ◌-◌, ◌/◌, ◌<◌, ◌^◌, ◌∙◌, ◌∷◌, ◌≡◌, ◌≤◌}
+pub use Rattle.std.proofs.Math.Nat.{div-mul_cancel, eq-zero-or-pos, le_of_mul-le-mul_right, le_trans, mod-le, mul-le-mul, mul-le-mul_left, mul-le-mul_right, mul-pos, pow-le-pow_right, pow-suc}
+pub use Rattle.std.proofs.lemmas.Bool.Decides.{eqb_tells, leb_tells}
+pub use Rattle.std.proofs.lemmas.Grind.{common_steps, div_ceil_times, pow_more}
+pub use Rattle.std.proofs.lemmas.List.{drop-map, get_or-map, length-drop, length-map, length-take, take-map, take_all, take_more}
+pub use Rattle.std.proofs.lemmas.List.Elements.{All-cons, All-drop, All-head, All-tail, All-take}
+pub use Rattle.std.proofs.lemmas.List.Sums.{fold-append, fold_more, prefix_len-le-length, sum_by-cons, sum_by_more}
 pub use Rattle.std.proofs.lemmas.Nat.{pow_pos}
 pub use Rattle.std.specs.Int.{div_ceil}
 pub use Rattle.std.specs.List.{fold, remove, sum_by}
-pub use Rattle.dl_limits.specs.Limits.{IsPlanScale, most_operands}
-pub use Rattle.dl_exact.proofs.Laws.{one_pos}
+pub use Rattle.std.specs.Prelude.{All, IfSome, IsSome, MatchOption, None, Option, Some, cond, if◌then◌else◌, ltb, map, unwrap_or, ◌==◌}
+pub use Rattle.dl_exact.proofs.BelowOne.{num_below}
+pub use Rattle.dl_exact.proofs.Laws.{le_div, le_refl, lt_not_le, one_pos, plus_zero, times_le_both, whole_pos}
 pub use Rattle.dl_exact.proofs.Lists.{from_there}
-pub use Rattle.dl_exact.proofs.Over.{le_over, over_div, over_self}
-pub use Rattle.dl_exact.proofs.RoundingLaws.{div_ceil_least}
-pub use Rattle.dl_exact.specs.Fraction.{Fraction, whole}
+pub use Rattle.dl_exact.proofs.Over.{le_over, over_add, over_div, over_le, over_mul, over_self}
+pub use Rattle.dl_exact.proofs.RoundingLaws.{div_ceil_least, whole_le}
+pub use Rattle.dl_exact.proofs.Sums.{sum_over_append, sum_over_map}
+pub use Rattle.dl_exact.specs.Fraction.{Fraction, whole, ◌*ℚ◌, ◌+ℚ◌, ◌<ℚ◌}
 unfoldable pub use Rattle.dl_exact.specs.Fraction.{◌/ℚ◌, ◌over◌, ◌≤ℚ◌}
-pub use Rattle.dl_grid.proofs.WidthLaws.{pw_one, up_quotient}
+pub use Rattle.dl_frac.specs.Exact.{FitsFrac}
+pub use Rattle.dl_grid.proofs.WidthLaws.{cv_is, mixed_next, mixed_none, pw_doubled, pw_even, pw_none, pw_odd, pw_one, size_joined, size_step, up_quotient}
 pub use Rattle.dl_grid.specs.Width.{IsSizeWithin, sum_spread}
 unfoldable pub use Rattle.dl_grid.specs.Width.{cv, mixed_spread, pw, rounded_spread, up}
+pub use Rattle.dl_limits.specs.Limits.{IsPlanScale, most_amount, most_cells, most_claims_budget, most_expected, most_horizon, most_none_budget, most_operands, most_plan_cells, most_unit_budget, rarest_parts}
+pub use Rattle.dl_plan.proofs.Fits.{given_ok, given_value}
+pub use Rattle.dl_plan.proofs.Means.{admitted_fits}
+pub use Rattle.dl_plan.proofs.ValidUnits.{alone_valid, mean_most, near_in_any, new_zero}
+pub use Rattle.dl_plan.specs.Common.{CanShare, HasCommonFactor, IsPoisson, expected_of, raised, thinned_of}
+pub use Rattle.dl_plan.specs.Count.{IsClaimCount, IsUnbounded, expected_count}
+pub use Rattle.dl_plan.specs.Fine.{HasPartsOf48Bits, common_denominator, numerator_over}
+pub use Rattle.dl_plan.specs.Horizon.{HorizonPasses, IsHorizon, IsHorizonOf, edge}
 unfoldable pub use Rattle.dl_plan.specs.Horizon.{horizon}
-pub use Rattle.dl_plan.specs.MeanWidth.{part_width}
-pub use Rattle.dl_plan.specs.Valid.{IsValidUnit}
+pub use Rattle.dl_plan.specs.MeanWidth.{mean_width, part_width}
+pub use Rattle.dl_plan.specs.Means.{declared_mean, thinned_mean}
+pub use Rattle.dl_plan.specs.Ranges.{IsLevel}
+pub use Rattle.dl_plan.specs.Valid.{IsAggregate, IsNewZero, IsValid, IsValidUnit, claims_alone}
 pub use Rattle.dl_plan.specs.declared.item.Item.{Item}
-pub use Rattle.dl_budget.specs.Claims.{claims_budget}
+pub use Rattle.dl_plan.specs.declared.plan.Freq.{Freq}
+pub use Rattle.dl_plan.specs.declared.plan.Freq.TheVariants.{Bernoulli, Binomial, Fixed, Gamma, Poisson, Table}
+pub use Rattle.dl_plan.specs.declared.plan.Plan.{Plan}
+pub use Rattle.dl_plan.specs.declared.plan.Unit.{Unit as UnitOfPlan}
+pub use Rattle.dl_plan.specs.declared.settings.Term.{Term}
+pub use Rattle.dl_budget.specs.Asks.{most_tail_budget, place_of, tail_budget}
+unfoldable pub use Rattle.dl_budget.specs.Asks.{in_digits}
+pub use Rattle.dl_budget.specs.Claims.{claims_budget, none_budget}
 unfoldable pub use Rattle.dl_budget.specs.Claims.{count_budget, gamma_budget, poisson_budget}
+pub use Rattle.dl_budget.specs.Halvings.{IsHalvings}
+unfoldable pub use Rattle.dl_budget.specs.Halvings.{halvings, halvings_from}
 pub use Rattle.dl_budget.specs.Sizes.{IsOfUnits}
-pub use Rattle.dl_budget.specs.Units.{unit_budgets, unit_mean_budget}
+pub use Rattle.dl_budget.specs.Units.{after_clause, mean_budget, total_budget, unit_budget, unit_budgets, unit_mean_budget}

@@ -1,10 +1,6 @@
 -- The least number of halvings, by whole numbers.
-use Rattle.dl_budget.proofs.Common.{ℕ, zero, suc, ◌≡◌, ◌+◌, ◌*◌, ◌^◌, ◌<◌, ◌≤◌, arith, inl, inr, sym, ap, subst, ◌∙◌, mul-le-mul, mul-pos, leb_tells, pow_pos, Fraction, whole, ◌over◌, ◌/ℚ◌, ◌≤ℚ◌, over_self, le_over, over_div, one_pos}
-use Rattle.std.proofs.Common.{◌%◌}
-use Rattle.std.proofs.Math.Nat.{pow-suc, mod-le}
+use Rattle.dl_budget.proofs.Common.{ℕ, zero, suc, ◌≡◌, ◌+◌, ◌*◌, ◌^◌, ◌<◌, ◌≤◌, arith, inl, inr, sym, ap, subst, ◌∙◌, mul-le-mul, mul-pos, leb_tells, pow_pos, Fraction, whole, ◌over◌, ◌/ℚ◌, ◌≤ℚ◌, over_self, le_over, over_div, one_pos, ◌%◌, pow-suc, mod-le, over_le, IsHalvings, halvings_from, halvings}
 use Rattle.std.proofs.lemmas.Bool.{cases_lt}
-use Rattle.dl_exact.proofs.Over.{over_le}
-use Rattle.dl_budget.specs.Halvings.{IsHalvings, halvings_from, halvings}
 
 -- m is at most 1/2 after h halvings
 abbrev pub IsHalf : Fraction → ℕ → Type 0

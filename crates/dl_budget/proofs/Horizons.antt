@@ -1,16 +1,9 @@
 -- The horizons of the units of a valid plan.
-use Rattle.dl_budget.proofs.Common.{ℕ, ◌≡◌, ◌^◌, ◌≤◌, arith, refl, ap, sym, subst, ◌∙◌, pow-le-pow_right, horizon, IsValidUnit, claims_budget}
-use Rattle.std.proofs.Math.Nat.{le_trans}
-use Rattle.dl_limits.specs.Limits.{most_cells, most_horizon, most_plan_cells}
+use Rattle.dl_budget.proofs.Common.{ℕ, ◌≡◌, ◌^◌, ◌≤◌, arith, refl, ap, sym, subst, ◌∙◌, pow-le-pow_right, horizon, IsValidUnit, claims_budget, le_trans, most_cells, most_horizon, most_plan_cells, List, All, Option, Some, None, IfSome, IsSome, MatchOption, UnitOfPlan, Plan, IsHorizon, IsHorizonOf, HorizonPasses, edge, IsAggregate, IsValid}
 use Rattle.dl_limits.proofs.Scales.{cells_fit, horizon_fits}
-use Rattle.std.specs.Prelude.{List, All, Option, Some, None, IfSome, IsSome, MatchOption}
 use Rattle.dl_plan.specs.declared.severity.Sev.{Sev}
-use Rattle.dl_plan.specs.declared.plan.Unit.{Unit as UnitOfPlan}
-use Rattle.dl_plan.specs.declared.plan.Plan.{Plan}
 use Rattle.dl_plan.specs.Clause.{Clause}
-use Rattle.dl_plan.specs.Horizon.{IsHorizon, IsHorizonOf, HorizonPasses, edge}
 use Rattle.dl_plan.specs.declared.cede.CedeLayer.{CedeLayer}
-use Rattle.dl_plan.specs.Valid.{IsAggregate, IsValid}
 use Rattle.dl_plan.proofs.Horizons.{same_horizon, horizon_is, horizon_edges}
 
 clause_horizon : (cells : ℕ) (sev : Sev) (cede : Option Clause) → cells ≤ most_plan_cells

@@ -12,3 +12,4 @@ pub mod Tails
 mod TailShares
 pub mod SharedUnits
 mod Prices
+pub mod Rows

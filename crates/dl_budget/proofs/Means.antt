@@ -1,11 +1,5 @@
 -- The budget of a mean, as a loop over the units makes it.
-use Rattle.dl_budget.proofs.Common.{ℕ, ◌≡◌, ◌+◌, ◌*◌, ◌^◌, ◌<◌, ◌≤◌, arith, subst, whole, ◌≤ℚ◌, le_over, over_self, one_pos, div_ceil_least, up, IsValidUnit, List, length, get_or, take, sym, ap, ap₂, ◌∙◌, sum_by, take_all, unit_mean_budget}
-use Rattle.std.proofs.lemmas.List.Sums.{sum_by_more}
-use Rattle.dl_limits.specs.Limits.{most_amount, most_expected}
-use Rattle.dl_plan.specs.Count.{expected_count}
-use Rattle.dl_plan.specs.Means.{declared_mean}
-use Rattle.dl_plan.proofs.ValidUnits.{mean_most, near_in_any}
-use Rattle.dl_plan.specs.declared.plan.Unit.{Unit as UnitOfPlan}
+use Rattle.dl_budget.proofs.Common.{ℕ, ◌≡◌, ◌+◌, ◌*◌, ◌^◌, ◌<◌, ◌≤◌, arith, subst, whole, ◌≤ℚ◌, le_over, over_self, one_pos, div_ceil_least, up, IsValidUnit, List, length, get_or, take, sym, ap, ap₂, ◌∙◌, sum_by, take_all, unit_mean_budget, sum_by_more, most_amount, most_expected, expected_count, declared_mean, mean_most, near_in_any, UnitOfPlan}
 
 -- one more unit
 pub mean_next : (S cells : ℕ) (us : List UnitOfPlan) (i sum b : ℕ) (u : UnitOfPlan) → i < length us → u ≡ get_or us i u

@@ -1,17 +1,5 @@
 -- How large the budget of the probability of no claim can be: that of claims of amount 1 alone, on one cell.
-use Rattle.dl_budget.proofs.Common.{IsPlanScale, ℕ, zero, suc, ◌≡◌, ◌+◌, ◌*◌, ◌^◌, ◌≤◌, arith, inl, inr, refl, sym, ap, subst, ◌∙◌, div_ceil, mul-le-mul, mul-pos, pow_pos, pow-le-pow_right, most_operands, Fraction, whole, ◌≤ℚ◌, le_over, over_self, one_pos, cv, pw, rounded_spread, IsSizeWithin, pw_one, count_budget, gamma_budget, poisson_budget}
-use Rattle.std.proofs.Common.{◌/◌, ◌%◌}
-use Rattle.std.specs.Prelude.{◌==◌, if◌then◌else◌}
-use Rattle.std.proofs.lemmas.Bool.Decides.{eqb_tells}
-use Rattle.std.proofs.lemmas.Grind.{div_ceil_times}
-use Rattle.dl_limits.specs.Limits.{most_none_budget}
-use Rattle.dl_plan.specs.declared.plan.Freq.{Freq}
-use Rattle.dl_plan.specs.declared.plan.Freq.TheVariants.{Fixed, Table, Bernoulli, Binomial, Poisson, Gamma}
-use Rattle.dl_plan.specs.Count.{IsClaimCount}
-use Rattle.dl_plan.specs.Valid.{IsNewZero}
-use Rattle.dl_grid.proofs.WidthLaws.{pw_none, pw_even, pw_odd}
-use Rattle.dl_budget.specs.Halvings.{halvings}
-use Rattle.dl_budget.specs.Claims.{none_budget}
+use Rattle.dl_budget.proofs.Common.{IsPlanScale, ℕ, zero, suc, ◌≡◌, ◌+◌, ◌*◌, ◌^◌, ◌≤◌, arith, inl, inr, refl, sym, ap, subst, ◌∙◌, div_ceil, mul-le-mul, mul-pos, pow_pos, pow-le-pow_right, most_operands, Fraction, whole, ◌≤ℚ◌, le_over, over_self, one_pos, cv, pw, rounded_spread, IsSizeWithin, pw_one, count_budget, gamma_budget, poisson_budget, ◌/◌, ◌%◌, ◌==◌, if◌then◌else◌, eqb_tells, div_ceil_times, most_none_budget, Freq, Fixed, Table, Bernoulli, Binomial, Poisson, Gamma, IsClaimCount, IsNewZero, pw_none, pw_even, pw_odd, halvings, none_budget}
 use Rattle.dl_budget.proofs.Bases.{gamma_base, gamma_parts}
 use Rattle.dl_budget.proofs.HalvingLaws.{first_below_14}
 use Rattle.dl_budget.proofs.SizeLaws.{room_below, size_least, square_size, odd_size, spread_near, far_below}
@@ -60,7 +48,6 @@ pw_near B k b m c e some within room =
     let few : m * rounded_spread k 0 b ≤ most_operands = omega (arith, within, room) in
     omega (
       arith,
-      within,
       spread_near 63 (2 ^ B) k 0 _ (pw (2 ^ B) k b m) (pow_pos B) (far_below B _ e (omega (arith, few)))
           (pw_size B k b m m e (omega arith) some few),
     )
@@ -81,10 +68,8 @@ poisson_small B mean e within =
     let h = halvings mean in
     let power : 2 ^ h ≤ 2 ^ 13 =
     pow-le-pow_right {n = 2} (omega arith) {i = h} {j = 13} (first_below_14 mean within) in
-    omega (
-      arith,
-      pw_near B 1 136 (2 ^ h) (139 * 2 ^ 13) e (pow_pos h) (omega (arith, power)) (omega arith),
-    )
+    let bound = pw_near B 1 136 (2 ^ h) (139 * 2 ^ 13) e (pow_pos h) (omega (arith, power)) (omega arith) in
+    omega arith
 
 gamma_small : (B shape : ℕ) (mean : Fraction) → IsPlanScale B → 1 ≤ shape → shape ≤ 10000 → mean ≤ℚ whole 4096
     → gamma_budget (2 ^ B) 1 shape mean ≤ most_none_budget

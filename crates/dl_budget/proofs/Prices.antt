@@ -1,18 +1,6 @@
 -- The budget of a price by whole numbers: it passes that of its tail means by little, since the weights sum to 1.
-use Rattle.dl_budget.proofs.Common.{ℕ, ◌≡◌, ◌+◌, ◌-◌, ◌*◌, ◌^◌, ◌<◌, ◌≤◌, List, [], ◌∷◌, length, arith, inl, inr, refl, ap, ap₂, sym, subst, ◌∙◌, div_ceil, mul-le-mul, mul-le-mul_left, mul-le-mul_right, le_of_mul-le-mul_right, div_ceil_least, sum_by, take_all, one_pos, up, up_quotient, Fraction, whole}
-use Rattle.std.proofs.Common.{◌/◌, map, get_or, take}
-use Rattle.std.proofs.Math.Nat.{div-mul_cancel, eq-zero-or-pos}
-use Rattle.std.proofs.lemmas.List.{get_or-map, length-map}
-use Rattle.std.proofs.lemmas.Grind.{div_ceil_times}
-use Rattle.std.proofs.lemmas.List.Elements.{All-cons, All-head, All-tail}
-use Rattle.std.proofs.lemmas.List.Sums.{sum_by-cons, sum_by_more}
-use Rattle.std.specs.List.{All}
+use Rattle.dl_budget.proofs.Common.{ℕ, ◌≡◌, ◌+◌, ◌-◌, ◌*◌, ◌^◌, ◌<◌, ◌≤◌, List, [], ◌∷◌, length, arith, inl, inr, refl, ap, ap₂, sym, subst, ◌∙◌, div_ceil, mul-le-mul, mul-le-mul_left, mul-le-mul_right, le_of_mul-le-mul_right, div_ceil_least, sum_by, take_all, one_pos, up, up_quotient, Fraction, whole, ◌/◌, map, get_or, take, div-mul_cancel, eq-zero-or-pos, get_or-map, length-map, div_ceil_times, All-cons, All-head, All-tail, sum_by-cons, sum_by_more, All, ◌*ℚ◌, over_self, over_mul, sum_over_map, Term, common_denominator, numerator_over}
 use Prim.Native.Nat.{◌∣◌}
-use Rattle.dl_exact.specs.Fraction.{◌*ℚ◌}
-use Rattle.dl_exact.proofs.Over.{over_self, over_mul}
-use Rattle.dl_exact.proofs.Sums.{sum_over_map}
-use Rattle.dl_plan.specs.declared.settings.Term.{Term}
-use Rattle.dl_plan.specs.Fine.{common_denominator, numerator_over}
 use Rattle.dl_plan.specs.Terms.{ArePriced, most_weight_parts}
 use Rattle.dl_plan.proofs.CommonDenominators.{common_pos, den_divides}
 use Rattle.dl_plan.proofs.WholeParts.{part_within, sum_one, weight_more}
@@ -53,8 +41,6 @@ module _ (L T : ℕ) (pos : 0 < L) where
       (All-tail (λ (t : Term). tail t.p ≤ T) t terms small) in
       omega (
         arith,
-        first,
-        rest,
         ap (λ n. n * L) (sum_by-cons (λ (t : Term). up (t.weight *ℚ whole (tail t.p)) + 2) t terms),
         ap (λ n. n * T) (sum_by-cons (λ (t : Term). numerator_over L t.weight) t terms),
       )

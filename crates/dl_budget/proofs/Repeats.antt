@@ -1,7 +1,5 @@
 -- A step that is taken so many times: its value and its size after one time more.
-use Rattle.dl_budget.proofs.Common.{IsPlanScale, ℕ, ◌≡◌, ◌+◌, ◌*◌, ◌^◌, ◌≤◌, arith, sym, ap, ◌∙◌, mul-le-mul_right, pow-le-pow_right, most_operands, cv, pw, mixed_spread, rounded_spread, IsSizeWithin}
-use Rattle.std.proofs.lemmas.Grind.{pow_more}
-use Rattle.dl_grid.proofs.WidthLaws.{mixed_next, pw_doubled}
+use Rattle.dl_budget.proofs.Common.{IsPlanScale, ℕ, ◌≡◌, ◌+◌, ◌*◌, ◌^◌, ◌≤◌, arith, sym, ap, ◌∙◌, mul-le-mul_right, pow-le-pow_right, most_operands, cv, pw, mixed_spread, rounded_spread, IsSizeWithin, pow_more, mixed_next, pw_doubled}
 use Rattle.dl_budget.proofs.SizeLaws.{within_step, size_least, square_size, room_below}
 
 pub listed_value : (S k b n x z : ℕ) → x ≡ mixed_spread S k b n → z ≡ cv S k b x + 2 → z ≡ mixed_spread S k b (n + 1)

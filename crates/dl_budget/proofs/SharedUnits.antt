@@ -1,22 +1,7 @@
 -- The claims above 0 of units that share a factor: their sum, the same for the next shape, and the budget of a joint mean.
-use Rattle.dl_budget.proofs.Common.{ℕ, suc, ◌≡◌, ◌+◌, ◌*◌, ◌^◌, ◌<◌, ◌≤◌, List, [], ◌∷◌, length, get_or, take, arith, refl, sym, ap, ap₂, subst, ◌∙◌, take_all, Fraction, whole, ◌over◌, ◌≤ℚ◌, over_self, one_pos, le_over, div_ceil_least, mul-le-mul, up, IsValidUnit}
-use Rattle.std.proofs.lemmas.List.{take_more, get_or-map}
-use Rattle.std.specs.Prelude.{Some, All}
-use Rattle.dl_limits.specs.Limits.{most_claims_budget, most_expected, most_plan_cells}
-use Rattle.dl_exact.specs.Fraction.{◌+ℚ◌, ◌*ℚ◌, ◌<ℚ◌}
+use Rattle.dl_budget.proofs.Common.{ℕ, suc, ◌≡◌, ◌+◌, ◌*◌, ◌^◌, ◌<◌, ◌≤◌, List, [], ◌∷◌, length, get_or, take, arith, refl, sym, ap, ap₂, subst, ◌∙◌, take_all, Fraction, whole, ◌over◌, ◌≤ℚ◌, over_self, one_pos, le_over, div_ceil_least, mul-le-mul, up, IsValidUnit, take_more, get_or-map, Some, All, most_claims_budget, most_expected, most_plan_cells, ◌+ℚ◌, ◌*ℚ◌, ◌<ℚ◌, le_div, le_refl, lt_not_le, plus_zero, times_le_both, whole_pos, whole_le, sum_over_append, Freq, Fixed, Table, Bernoulli, Binomial, Poisson, Gamma, UnitOfPlan, Plan, IsUnbounded, HasPartsOf48Bits, thinned_mean, IsValid, CanShare, HasCommonFactor, IsPoisson, expected_of, raised, thinned_of}
 unfoldable use Rattle.dl_exact.specs.Sum.{sum_over}
-use Rattle.dl_exact.proofs.Laws.{le_div, le_refl, le_trans, lt_not_le, plus_zero, times_le_both, whole_pos}
-use Rattle.dl_exact.proofs.RoundingLaws.{whole_le}
-use Rattle.dl_exact.proofs.Sums.{sum_over_append}
-use Rattle.dl_plan.specs.declared.plan.Freq.{Freq}
-use Rattle.dl_plan.specs.declared.plan.Freq.TheVariants.{Fixed, Table, Bernoulli, Binomial, Poisson, Gamma}
-use Rattle.dl_plan.specs.declared.plan.Unit.{Unit as UnitOfPlan}
-use Rattle.dl_plan.specs.declared.plan.Plan.{Plan}
-use Rattle.dl_plan.specs.Count.{IsUnbounded}
-use Rattle.dl_plan.specs.Fine.{HasPartsOf48Bits}
-use Rattle.dl_plan.specs.Means.{thinned_mean}
-use Rattle.dl_plan.specs.Valid.{IsValid}
-use Rattle.dl_plan.specs.Common.{CanShare, HasCommonFactor, IsPoisson, expected_of, raised, thinned_of}
+use Rattle.dl_exact.proofs.Laws.{le_trans}
 use Rattle.dl_plan.proofs.Shared.{has_factor}
 use Rattle.dl_plan.proofs.Raised.{raised_parts}
 use Rattle.dl_budget.specs.Shared.{thinned_at}

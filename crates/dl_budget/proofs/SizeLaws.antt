@@ -1,8 +1,6 @@
 -- How large spreads grow, over plain numbers. S is the scale, and a size is a spread with what one more convolution
 -- rounds.
-use Rattle.dl_budget.proofs.Common.{IsPlanScale, ℕ, ◌≡◌, ◌+◌, ◌-◌, ◌*◌, ◌^◌, ◌<◌, ◌≤◌, arith, refl, sym, ap, subst, ◌∙◌, mul-le-mul, mul-le-mul_left, mul-le-mul_right, pow-le-pow_right, le_of_mul-le-mul_right, pow_pos, div_ceil, most_operands, div_ceil_least, cv, pw, rounded_spread, IsSizeWithin}
-use Rattle.dl_limits.specs.Limits.{most_claims_budget}
-use Rattle.dl_grid.proofs.WidthLaws.{size_step, size_joined, pw_even, pw_odd}
+use Rattle.dl_budget.proofs.Common.{IsPlanScale, ℕ, ◌≡◌, ◌+◌, ◌-◌, ◌*◌, ◌^◌, ◌<◌, ◌≤◌, arith, refl, sym, ap, subst, ◌∙◌, mul-le-mul, mul-le-mul_left, mul-le-mul_right, pow-le-pow_right, le_of_mul-le-mul_right, pow_pos, div_ceil, most_operands, div_ceil_least, cv, pw, rounded_spread, IsSizeWithin, most_claims_budget, size_step, size_joined, pw_even, pw_odd}
 
 -- a size is within itself, and within what is greater
 pub size_least : (S c x : ℕ) → x ≤ c → IsSizeWithin S c x
@@ -62,11 +60,9 @@ within_step B k more c d n x y z e sum room hx hy step =
 -- the spread of a unit
 pub unit_small : (B k more c x : ℕ) → IsPlanScale B → c ≤ most_operands
     → IsSizeWithin (2 ^ B) c (rounded_spread k more x) → x ≤ most_claims_budget
-unit_small B k more c x e room size = omega (
-  arith,
-  spread_near 63 (2 ^ B) k more c x (pow_pos B)
-      (far_below B c e (omega arith)) size,
-)
+unit_small B k more c x e room size =
+    let bound = spread_near 63 (2 ^ B) k more c x (pow_pos B) (far_below B c e (omega arith)) size in
+    omega arith
 
 -- ---- powers
 

@@ -1,11 +1,5 @@
 -- Budgets of sums of units, as a loop over the units makes them.
-use Rattle.dl_budget.proofs.Common.{IsPlanScale, ℕ, suc, ◌≡◌, ◌+◌, ◌-◌, ◌*◌, ◌^◌, ◌<◌, ◌≤◌, List, [], ◌∷◌, length, get_or, take, drop, arith, sym, ap, ap₂, subst, ◌∙◌, fold, remove, mul-le-mul, pow_pos, take_all, cv, rounded_spread, IsSizeWithin, sum_spread, IsOfUnits, unit_budgets, from_there}
-use Rattle.std.proofs.Common.{◌++◌}
-use Rattle.std.proofs.lemmas.List.{length-map, length-take, length-drop, get_or-map, take-map, drop-map}
-use Rattle.std.proofs.lemmas.List.Sums.{fold_more, fold-append}
-use Rattle.dl_limits.specs.Limits.{most_unit_budget}
-use Rattle.dl_plan.specs.declared.plan.Unit.{Unit as UnitOfPlan}
-use Rattle.dl_budget.specs.Units.{unit_budget}
+use Rattle.dl_budget.proofs.Common.{IsPlanScale, ℕ, suc, ◌≡◌, ◌+◌, ◌-◌, ◌*◌, ◌^◌, ◌<◌, ◌≤◌, List, [], ◌∷◌, length, get_or, take, drop, arith, sym, ap, ap₂, subst, ◌∙◌, fold, remove, mul-le-mul, pow_pos, take_all, cv, rounded_spread, IsSizeWithin, sum_spread, IsOfUnits, unit_budgets, from_there, ◌++◌, length-map, length-take, length-drop, get_or-map, take-map, drop-map, fold_more, fold-append, most_unit_budget, UnitOfPlan, unit_budget}
 use Rattle.dl_budget.proofs.SizeLaws.{size_least, within_step, spread_near, below}
 
 pub budgets_length : (S cells : ℕ) (us : List UnitOfPlan) → length (unit_budgets S cells us) ≡ length us
@@ -65,7 +59,6 @@ sum_small B cells n x e few most size =
     let units = units_small cells n few most in
     omega (
       arith,
-      units,
       spread_near 15 (2 ^ B) cells 0 _ x (pow_pos B)
           (below B (n * rounded_spread cells 0 most_unit_budget) e (omega (arith, units))) size,
     )

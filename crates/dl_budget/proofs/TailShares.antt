@@ -1,10 +1,5 @@
 -- The budget of a share of a tail mean by whole numbers.
-use Rattle.dl_budget.proofs.Common.{ℕ, ◌≡◌, ◌+◌, ◌-◌, ◌*◌, ◌^◌, ◌<◌, ◌≤◌, arith, ap, ap₂, sym, ◌∙◌, List, length, get_or, div_ceil, mul-le-mul, Fraction, whole, ◌over◌, up, up_quotient, unit_mean_budget}
-use Rattle.std.specs.Prelude.{map}
-use Rattle.std.proofs.lemmas.List.{get_or-map}
-use Rattle.dl_exact.proofs.BelowOne.{num_below}
-use Rattle.dl_exact.specs.Fraction.{◌<ℚ◌}
-use Rattle.dl_plan.specs.declared.plan.Unit.{Unit as UnitOfPlan}
+use Rattle.dl_budget.proofs.Common.{ℕ, ◌≡◌, ◌+◌, ◌-◌, ◌*◌, ◌^◌, ◌<◌, ◌≤◌, arith, ap, ap₂, sym, ◌∙◌, List, length, get_or, div_ceil, mul-le-mul, Fraction, whole, ◌over◌, up, up_quotient, unit_mean_budget, map, get_or-map, num_below, ◌<ℚ◌, UnitOfPlan}
 
 -- the mean's budget of a unit which was read there
 pub mean_here : (S cells : ℕ) (us : List UnitOfPlan) (i b : ℕ) (u : UnitOfPlan) → i < length us → u ≡ get_or us i u

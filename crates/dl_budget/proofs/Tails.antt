@@ -1,8 +1,5 @@
 -- The budget of a tail mean by whole numbers.
-use Rattle.dl_budget.proofs.Common.{ℕ, ◌≡◌, ◌+◌, ◌-◌, ◌*◌, ◌^◌, ◌<◌, ◌≤◌, arith, ap, ap₂, sym, ◌∙◌, div_ceil, mul-le-mul, mul-le-mul_left, Fraction, whole, ◌over◌, div_ceil_least, up, up_quotient}
-use Rattle.dl_exact.proofs.BelowOne.{num_below}
-use Rattle.dl_exact.specs.Fraction.{◌<ℚ◌}
-use Rattle.dl_plan.specs.Ranges.{IsLevel}
+use Rattle.dl_budget.proofs.Common.{ℕ, ◌≡◌, ◌+◌, ◌-◌, ◌*◌, ◌^◌, ◌<◌, ◌≤◌, arith, ap, ap₂, sym, ◌∙◌, div_ceil, mul-le-mul, mul-le-mul_left, Fraction, whole, ◌over◌, div_ceil_least, up, up_quotient, num_below, ◌<ℚ◌, IsLevel}
 
 pub tail_small : (both b rest : ℕ) → 0 < rest → b ≤ 10 ^ 9 → both ≤ 2 ^ 68 + 2 ^ 62
     → div_ceil (both * b) rest + 4 ≤ 2 ^ 98 - 2 ^ 90

@@ -1,22 +1,8 @@
 -- What the sums of Poisson and gamma counts come to, over plain lists and numbers.
-use Rattle.std.proofs.Common.{ℕ, List, suc, zero, ◌≡◌, ◌+◌, ◌-◌, ◌*◌, ◌^◌, ◌<◌, ◌≤◌, [], ◌∷◌, mul-le-mul, arith, refl, sym, ap, ap₂, subst, ◌∙◌, mul-pos}
-use Rattle.std.proofs.Math.Nat.{one-le-pow, pow-zero, pow-suc, pow-succ', pow-le-pow_left, pow-le-pow_right, mul-le-mul_left, mul-le-mul_right, zero-lt-suc, le_trans as le_trans_n}
+use Rattle.dl_by_hand.proofs.Common.{ℕ, List, suc, zero, ◌≡◌, ◌+◌, ◌-◌, ◌*◌, ◌^◌, ◌<◌, ◌≤◌, [], ◌∷◌, mul-le-mul, arith, refl, sym, ap, ap₂, subst, ◌∙◌, mul-pos, one-le-pow, pow-zero, pow-suc, pow-succ', pow-le-pow_left, pow-le-pow_right, mul-le-mul_left, mul-le-mul_right, zero-lt-suc, le_trans_n, Fraction, whole, ◌over◌, ◌+ℚ◌, ◌*ℚ◌, ◌/ℚ◌, ◌^ℚ◌, factorial, choose, sum_to, sum_pairs, over_same, over_cross, over_mul, over_add, over_div, times_one, sum_to_same, at_zero, power, cell, Item, weight_at, weight_sum, probability_at, ways, factorial_pos, power_ways}
 use Rattle.std.proofs.lemmas.Nat.{mul-pow}
-use Rattle.dl_exact.specs.Fraction.{Fraction, whole, ◌over◌, ◌+ℚ◌, ◌*ℚ◌, ◌/ℚ◌}
-use Rattle.dl_exact.specs.Power.{◌^ℚ◌, factorial, choose}
-use Rattle.dl_exact.specs.Sum.{sum_to, sum_pairs}
-use Rattle.dl_exact.proofs.Over.{over_same, over_cross, over_mul, over_add, over_div}
-use Rattle.dl_exact.proofs.Laws.{times_one}
-use Rattle.dl_exact.proofs.Sums.{sum_to_same}
-use Rattle.dl_model.specs.Compound.{at_zero, power, cell}
 use Rattle.dl_model.specs.Counts.{poisson, gamma, gamma_of}
-use Rattle.dl_plan.specs.declared.item.Item.{Item}
-use Rattle.dl_plan.specs.Weighted.{weight_at, weight_sum}
-use Rattle.dl_model.specs.Listed.{probability_at}
-use Rattle.dl_model.specs.Ways.{ways}
-use Rattle.dl_exact.proofs.Powers.{factorial_pos}
-use Rattle.dl_model.proofs.CountLaws.{power_ways}
-use Rattle.dl_by_hand.proofs.PointLaws.{all_ways, suc-minus, cell_none, cell_next}
+use Rattle.dl_by_hand.proofs.PointLaws.{IsSummed, all_ways, suc-minus}
 
 -- ---- powers and ways to choose
 
@@ -54,8 +40,7 @@ factorial_le (suc n) =
 -- Pascal's triangle, by the numbers before
 pub choose_none : (i j : ℕ) → j ≡ 0 → 1 ≡ choose i j
 unfolding choose
-choose_none i zero e = refl
-choose_none i (suc j) e = absurd (omega (arith, e))
+choose_none i j e = rw e refl
 
 pub choose_from_none : (i j : ℕ) → 0 < j → i ≡ 0 → 0 ≡ choose i j
 unfolding choose
@@ -181,12 +166,21 @@ level_before L M (suc n) B h pos below fit =
       arith,
       pow-le-pow_left {n = L} {m = M} below n,
       pow-le-pow_right {n = M} pos {i = n} {j = suc n} (omega arith),
-      fit,
     ))
 
 -- ---- Poisson sums: a / b is the mean, T the weight of the amounts
 
-module _ (a b : ℕ) (amounts : List Item) (bp : 0 < b) (there : 0 < weight_sum amounts) where
+pub record PoissonGiven (a b : ℕ) (amounts : List Item) : Type 0 where
+  pub mean : 0 < b
+  pub weighted : 0 < weight_sum amounts
+
+module _ {a b : ℕ} {amounts : List Item} (g : PoissonGiven a b amounts) where
+  bp : 0 < b
+  bp = g.mean
+
+  there : 0 < weight_sum amounts
+  there = g.weighted
+
   abbrev T : ℕ
   T = weight_sum amounts
 
@@ -230,16 +224,14 @@ module _ (a b : ℕ) (amounts : List Item) (bp : 0 < b) (there : 0 < weight_sum 
       level_before (poisson_most (n - 1)) (poisson_most n) n B h (poisson_most_pos n h)
       (mul-le-mul_right T (mul-le-mul_left (a + b) (omega arith))) fit
 
-  pub poisson_within : (n x fewer : ℕ) → 0 < n → fewer ≤ poisson_most (n - 1) ^ (n - 1)
-      → fewer * (b * n * T) + a ^ n * ways (weight_at amounts) n x ≤ poisson_most n ^ n
-  poisson_within zero x fewer h old = absurd (omega (arith, h))
-  poisson_within (suc n) x fewer h old =
-      let M = poisson_most (suc n) in
-      let fewer_within : fewer ≤ poisson_most n ^ n = subst (λ k. fewer ≤ poisson_most k ^ k) (suc-minus n) old in
-      next_within M (poisson_most n) (b * suc n * T) (a * suc n * T)
+  pub poisson_grows : (x n fewer : ℕ) → fewer ≤ poisson_most n ^ n
+      → fewer * (b * suc n * T) + a ^ suc n * ways (weight_at amounts) (suc n) x ≤ poisson_most (suc n) ^ suc n
+  poisson_grows x n fewer old =
+      next_within (poisson_most (suc n)) (poisson_most n) (b * suc n * T) (a * suc n * T)
       (a ^ suc n * ways (weight_at amounts) (suc n) x) fewer n
-      (mul-le-mul_right T (mul-le-mul_left (a + b) (omega arith))) fewer_within (omega arith)
-      (le_trans_n (here_power (suc n) x) (power_within (a * T) (a * suc n * T) M n (omega arith) (omega arith)))
+      (mul-le-mul_right T (mul-le-mul_left (a + b) (omega arith))) old (omega arith)
+      (le_trans_n (here_power (suc n) x)
+      (power_within (a * T) (a * suc n * T) (poisson_most (suc n)) n (omega arith) (omega arith)))
 
   -- the denominators
   abbrev pub poisson_below : ℕ → ℕ
@@ -248,18 +240,14 @@ module _ (a b : ℕ) (amounts : List Item) (bp : 0 < b) (there : 0 < weight_sum 
   pub poisson_below_pos : (n : ℕ) → 0 < poisson_below n
   poisson_below_pos n = mul-pos (one-le-pow n (b * T) (mul-pos bp there)) (factorial_pos n)
 
-  pub poisson_below_none : (n : ℕ) → n ≡ 0 → 1 ≡ poisson_below n
+  pub poisson_none : 1 ≡ poisson_below 0
   unfolding factorial
-  poisson_below_none zero e = omega (arith, pow-zero (b * T))
-  poisson_below_none (suc n) e = absurd (omega (arith, e))
+  poisson_none = omega (arith, pow-zero (b * T))
 
-  pub poisson_below_next : (n d : ℕ) → 0 < n → d ≡ poisson_below (n - 1) → d * (b * n * T) ≡ poisson_below n
+  poisson_below_next : (n : ℕ) → poisson_below n * (b * suc n * T) ≡ poisson_below (suc n)
   unfolding factorial
-  poisson_below_next zero d h e = absurd (omega (arith, h))
-  poisson_below_next (suc n) d h e =
-      let old : d ≡ poisson_below n = subst (λ k. d ≡ poisson_below k) (suc-minus n) e in
-      ap (λ t. t * (b * suc n * T)) old ∙ turn ((b * T) ^ n) (factorial n)
-      ∙ ap (λ p. p * (suc n * factorial n)) (sym (pow-suc (b * T) n))
+  poisson_below_next n =
+      turn ((b * T) ^ n) (factorial n) ∙ ap (λ p. p * (suc n * factorial n)) (sym (pow-suc (b * T) n))
     where
       turn : (P F : ℕ) → P * F * (b * suc n * T) ≡ P * (b * T) * (suc n * F)
       turn P F = omega arith
@@ -282,28 +270,32 @@ module _ (a b : ℕ) (amounts : List Item) (bp : 0 < b) (there : 0 < weight_sum 
       ∙ ap (λ D. (a ^ n * ways (weight_at amounts) n x) over D)
       (omega (arith, ap (λ t. t * factorial n) (mul-pow b T n))))
 
-  pub poisson_first : (n x : ℕ) → n ≡ 0 → (a ^ n * ways (weight_at amounts) n x) over 1 ≡ cell (poisson (a over b))
-      (probability_at amounts) x n
-  poisson_first n x e =
-      cell_none (poisson (a over b)) (probability_at amounts) x (λ n. a ^ n * ways (weight_at amounts) n x)
-      poisson_below
-      (λ n. b * n * T) poisson_below_pos (λ n h. mul-pos (mul-pos bp h) there) poisson_below_next (λ n. one_number n x)
-      n
-      1 e (poisson_below_none n e)
-
-  pub poisson_more : (n x fewer d : ℕ) → 0 < n → d ≡ poisson_below (n - 1)
-      → fewer over d ≡ cell (poisson (a over b)) (probability_at amounts) x (n - 1)
-      → (fewer * (b * n * T) + a ^ n * ways (weight_at amounts) n x) over (d * (b * n * T)) ≡ cell (poisson (a over b))
-      (probability_at amounts) x n
-  poisson_more n x =
-      cell_next (poisson (a over b)) (probability_at amounts) x (λ n. a ^ n * ways (weight_at amounts) n x)
-      poisson_below
-      (λ n. b * n * T) poisson_below_pos (λ n h. mul-pos (mul-pos bp h) there) poisson_below_next (λ n. one_number n x)
-      n
+  pub poisson_sum : (x : ℕ) → IsSummed (poisson (a over b)) (probability_at amounts) x
+      (λ n. a ^ n * ways (weight_at amounts) n x) poisson_below (λ n. b * n * T)
+  poisson_sum x = record {
+    positive = poisson_below_pos;
+    steps = λ n. mul-pos (mul-pos bp (zero-lt-suc n)) there;
+    next = poisson_below_next;
+    part = λ n. one_number n x;
+  }
 
 -- ---- gamma sums: r is the shape, a / b the mean, T the weight of the amounts
 
-module _ (r a b : ℕ) (amounts : List Item) (rp : 0 < r) (bp : 0 < b) (there : 0 < weight_sum amounts) where
+pub record GammaGiven (r a b : ℕ) (amounts : List Item) : Type 0 where
+  pub shape : 0 < r
+  pub mean : 0 < b
+  pub weighted : 0 < weight_sum amounts
+
+module _ {r a b : ℕ} {amounts : List Item} (g : GammaGiven r a b amounts) where
+  rp : 0 < r
+  rp = g.shape
+
+  gp : 0 < b
+  gp = g.mean
+
+  some : 0 < weight_sum amounts
+  some = g.weighted
+
   abbrev U : ℕ
   U = weight_sum amounts
 
@@ -312,13 +304,13 @@ module _ (r a b : ℕ) (amounts : List Item) (rp : 0 < r) (bp : 0 < b) (there : 
   parts_of = r * b + a
 
   parts_pos : 0 < parts_of
-  parts_pos = omega (arith, mul-pos rp bp)
+  parts_pos = omega (arith, mul-pos rp gp)
 
   abbrev pub gamma_most : ℕ → ℕ
   gamma_most n = (r + n) * parts_of * U
 
   pub gamma_most_pos : (n : ℕ) → 0 < gamma_most n
-  gamma_most_pos n = mul-pos (mul-pos (omega (arith, rp)) parts_pos) there
+  gamma_most_pos n = mul-pos (mul-pos (omega (arith, rp)) parts_pos) some
 
   -- the numerator of the weight of n claims
   abbrev pub weight_above : ℕ → ℕ
@@ -328,11 +320,11 @@ module _ (r a b : ℕ) (amounts : List Item) (rp : 0 < r) (bp : 0 < b) (there : 
   step_most n = mul-le-mul_right U (omega (arith, mul-le-mul_right parts_of rp))
 
   parts_most : (n : ℕ) → parts_of ≤ gamma_most n
-  parts_most n = omega (arith, step_most n, mul-le-mul_left parts_of there)
+  parts_most n = omega (arith, step_most n, mul-le-mul_left parts_of some)
 
   number_most : (n : ℕ) → r + n - 1 ≤ gamma_most n
   number_most n =
-      let each : (r + n) * 1 ≤ (r + n) * (parts_of * U) = mul-le-mul_left (r + n) (mul-pos parts_pos there) in
+      let each : (r + n) * 1 ≤ (r + n) * (parts_of * U) = mul-le-mul_left (r + n) (mul-pos parts_pos some) in
       omega (arith, each)
 
   amounts_most : (n : ℕ) → U ≤ gamma_most n
@@ -359,7 +351,7 @@ module _ (r a b : ℕ) (amounts : List Item) (rp : 0 < r) (bp : 0 < b) (there : 
 
   pub weight_within_most : (n : ℕ) → weight_above n ≤ gamma_most n ^ n
   weight_within_most n =
-      let each : (r + n - 1) * a * 1 ≤ (r + n - 1) * a * U = mul-le-mul_left ((r + n - 1) * a) there in
+      let each : (r + n - 1) * a * 1 ≤ (r + n - 1) * a * U = mul-le-mul_left ((r + n - 1) * a) some in
       omega (
         arith,
         weight_power n,
@@ -369,7 +361,7 @@ module _ (r a b : ℕ) (amounts : List Item) (rp : 0 < r) (bp : 0 < b) (there : 
 
   gamma_here_power : (n x : ℕ) → weight_above n * ways (weight_at amounts) n x ≤ ((r + n - 1) * a * U) ^ n
   gamma_here_power n x =
-      omega (arith, mul-le-mul (weight_power n) (all_ways amounts there n x), mul-pow ((r + n - 1) * a) U n)
+      omega (arith, mul-le-mul (weight_power n) (all_ways amounts some n x), mul-pow ((r + n - 1) * a) U n)
 
   pub gamma_here_within : (n x : ℕ) → weight_above n * ways (weight_at amounts) n x ≤ gamma_most n ^ n
   gamma_here_within n x =
@@ -393,35 +385,30 @@ module _ (r a b : ℕ) (amounts : List Item) (rp : 0 < r) (bp : 0 < b) (there : 
   gamma_before_fits n B h fit = level_before (gamma_most (n - 1)) (gamma_most n) n B h (gamma_most_pos n)
       (before_most (n - 1) n (omega arith)) fit
 
-  pub gamma_within : (n x fewer : ℕ) → 0 < n → fewer ≤ gamma_most (n - 1) ^ (n - 1)
-      → fewer * (parts_of * U) + weight_above n * ways (weight_at amounts) n x ≤ gamma_most n ^ n
-  gamma_within zero x fewer h old = absurd (omega (arith, h))
-  gamma_within (suc n) x fewer h old =
-      let M = gamma_most (suc n) in
+  pub gamma_grows : (x n fewer : ℕ) → fewer ≤ gamma_most n ^ n
+      → fewer * (parts_of * U) + weight_above (suc n) * ways (weight_at amounts) (suc n) x ≤ gamma_most (suc n) ^ suc n
+  gamma_grows x n fewer old =
       let part = (r + suc n - 1) * parts_of * U in
-      let fewer_within : fewer ≤ gamma_most n ^ n = subst (λ k. fewer ≤ gamma_most k ^ k) (suc-minus n) old in
       let last : suc (r + suc n - 1) ≡ r + suc n = omega arith in
-      let up : parts_of * U + part ≤ M = subst (λ k. parts_of * U + part ≤ k * parts_of * U) last (omega arith) in
-      next_within M (gamma_most n) (parts_of * U) part
-      (weight_above (suc n) * ways (weight_at amounts) (suc n) x) fewer n
-      (before_most n (suc n) (omega arith)) fewer_within up
+      let up : parts_of * U + part ≤ gamma_most (suc n) =
+      subst (λ k. parts_of * U + part ≤ k * parts_of * U) last (omega arith) in
+      next_within (gamma_most (suc n)) (gamma_most n) (parts_of * U) part
+      (weight_above (suc n) * ways (weight_at amounts) (suc n) x) fewer n (before_most n (suc n) (omega arith)) old up
       (le_trans_n (gamma_here_power (suc n) x)
-      (power_within ((r + suc n - 1) * a * U) part M n (part_most (suc n)) (less_most (suc n))))
+      (power_within ((r + suc n - 1) * a * U) part (gamma_most (suc n)) n (part_most (suc n)) (less_most (suc n))))
 
   -- the denominators
   abbrev pub gamma_below : ℕ → ℕ
   gamma_below n = (parts_of * U) ^ n
 
   pub gamma_below_pos : (n : ℕ) → 0 < gamma_below n
-  gamma_below_pos n = one-le-pow n (parts_of * U) (mul-pos parts_pos there)
+  gamma_below_pos n = one-le-pow n (parts_of * U) (mul-pos parts_pos some)
 
-  pub gamma_below_none : (n : ℕ) → n ≡ 0 → 1 ≡ gamma_below n
-  gamma_below_none n e = rw e (sym (pow-zero (parts_of * U)))
+  pub gamma_none : 1 ≡ gamma_below 0
+  gamma_none = sym (pow-zero (parts_of * U))
 
-  pub gamma_below_next : (n d : ℕ) → 0 < n → d ≡ gamma_below (n - 1) → d * (parts_of * U) ≡ gamma_below n
-  gamma_below_next zero d h e = absurd (omega (arith, h))
-  gamma_below_next (suc n) d h e =
-      ap (λ t. t * (parts_of * U)) (subst (λ k. d ≡ gamma_below k) (suc-minus n) e) ∙ sym (pow-suc (parts_of * U) n)
+  gamma_below_next : (n : ℕ) → gamma_below n * (parts_of * U) ≡ gamma_below (suc n)
+  gamma_below_next n = sym (pow-suc (parts_of * U) n)
 
   pub gamma_below_within : (n : ℕ) → gamma_below n ≤ gamma_most n ^ n
   gamma_below_within n = below_power (parts_of * U) (gamma_most n) n (λ h. step_most n)
@@ -430,22 +417,15 @@ module _ (r a b : ℕ) (amounts : List Item) (rp : 0 < r) (bp : 0 < b) (there : 
   gamma_number : (n x : ℕ) → (weight_above n * ways (weight_at amounts) n x) over gamma_below n ≡ gamma_of r
       (a over b) n *ℚ power (probability_at amounts) n x
   gamma_number n x =
-      sym (ap (λ w. w *ℚ power (probability_at amounts) n x) (gamma_weight r a b n rp bp)
-      ∙ part_over amounts (weight_above n) (parts_of ^ n) n x there (one-le-pow n parts_of parts_pos)
+      sym (ap (λ w. w *ℚ power (probability_at amounts) n x) (gamma_weight r a b n rp gp)
+      ∙ part_over amounts (weight_above n) (parts_of ^ n) n x some (one-le-pow n parts_of parts_pos)
       ∙ ap (λ D. (weight_above n * ways (weight_at amounts) n x) over D) (sym (mul-pow parts_of U n)))
 
-  pub gamma_first : (n x : ℕ) → n ≡ 0 → (weight_above n * ways (weight_at amounts) n x) over 1 ≡ cell
-      (gamma_of r (a over b)) (probability_at amounts) x n
-  gamma_first n x e =
-      cell_none (gamma_of r (a over b)) (probability_at amounts) x (λ n. weight_above n * ways (weight_at amounts) n x)
-      gamma_below (λ n. parts_of * U) gamma_below_pos (λ n h. mul-pos parts_pos there) gamma_below_next
-      (λ n. gamma_number n x) n 1 e (gamma_below_none n e)
-
-  pub gamma_more : (n x fewer d : ℕ) → 0 < n → d ≡ gamma_below (n - 1)
-      → fewer over d ≡ cell (gamma_of r (a over b)) (probability_at amounts) x (n - 1)
-      → (fewer * (parts_of * U) + weight_above n * ways (weight_at amounts) n x) over (d * (parts_of * U)) ≡ cell
-      (gamma_of r (a over b)) (probability_at amounts) x n
-  gamma_more n x =
-      cell_next (gamma_of r (a over b)) (probability_at amounts) x (λ n. weight_above n * ways (weight_at amounts) n x)
-      gamma_below (λ n. parts_of * U) gamma_below_pos (λ n h. mul-pos parts_pos there) gamma_below_next
-      (λ n. gamma_number n x) n
+  pub gamma_sum : (x : ℕ) → IsSummed (gamma_of r (a over b)) (probability_at amounts) x
+      (λ n. weight_above n * ways (weight_at amounts) n x) gamma_below (λ n. parts_of * U)
+  gamma_sum x = record {
+    positive = gamma_below_pos;
+    steps = λ n. mul-pos parts_pos some;
+    next = gamma_below_next;
+    part = λ n. gamma_number n x;
+  }

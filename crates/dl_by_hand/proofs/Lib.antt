@@ -1,3 +1,4 @@
+mod Common
 mod PointLaws
 mod CountLaws
 mod SomeClaimLaws

@@ -1,24 +1,7 @@
 -- What the sums of listed counts come to, over plain lists and numbers.
-use Rattle.std.proofs.Common.{◌≡◌, ℕ, suc, zero, ◌+◌, ◌-◌, ◌*◌, ◌^◌, ◌<◌, ◌≤◌, List, length, take, get_or, mul-le-mul, le-mul_of_pos_right, arith, refl, sym, ap, ap₂, subst, ◌∙◌, mul-pos, pow-suc}
-use Rattle.std.proofs.Math.Nat.{one-le-pow, pow-zero, pow-le-pow_right, mul-le-mul_right, mul-le-mul_left}
-use Rattle.std.proofs.lemmas.Bool.{eq-eqb}
+use Rattle.dl_by_hand.proofs.Common.{◌≡◌, ℕ, suc, zero, ◌+◌, ◌-◌, ◌*◌, ◌^◌, ◌<◌, ◌≤◌, List, length, take, get_or, mul-le-mul, le-mul_of_pos_right, arith, refl, sym, ap, ap₂, subst, ◌∙◌, mul-pos, pow-suc, one-le-pow, pow-zero, pow-le-pow_right, mul-le-mul_right, mul-le-mul_left, eq-eqb, Fraction, ◌over◌, ◌+ℚ◌, ◌*ℚ◌, ◌≤ℚ◌, whole, sum_to, over_same, over_mul, le_over, one_pos, le_trans, times_one, le_refl, times_le_both, sum_to_le, item_le_sum, power, cell, Item, weight_at, weight_sum, probability_at, count_below, ways, over_plus, part_of, weight_within, probabilities_le, below_more, below_grows, below_pairs, power_ways, ways_le}
 use Rattle.std.proofs.lemmas.List.Sums.{sum_by_more, sum_by-take-le}
-use Rattle.dl_exact.specs.Fraction.{Fraction, ◌over◌, ◌+ℚ◌, ◌*ℚ◌, ◌≤ℚ◌, whole}
-use Rattle.dl_exact.specs.Sum.{sum_to}
-use Rattle.dl_exact.proofs.Over.{over_same, over_mul, le_over}
-use Rattle.dl_exact.proofs.Laws.{one_pos, le_trans, times_one, le_refl, times_le_both}
-use Rattle.dl_exact.proofs.Sums.{sum_to_le, item_le_sum}
-use Rattle.dl_model.specs.Compound.{power, cell}
-use Rattle.dl_plan.specs.declared.item.Item.{Item}
-use Rattle.dl_plan.specs.Weighted.{weight_at, weight_sum}
-use Rattle.dl_model.specs.Listed.{probability_at}
-use Rattle.dl_exact.specs.Count.{count_below}
-use Rattle.dl_model.specs.Ways.{ways}
-use Rattle.dl_exact.proofs.Denominators.{over_plus}
 use Rattle.dl_model.proofs.CompoundLaws.{power_within_one}
-use Rattle.dl_model.proofs.WeightLaws.{part_of, weight_within, probabilities_le}
-use Rattle.dl_exact.proofs.Counts.{below_more, below_grows, below_pairs}
-use Rattle.dl_model.proofs.CountLaws.{power_ways, ways_le}
 
 -- ---- weights
 
@@ -30,21 +13,13 @@ weight_here items x i d h e =
     sum_by_more (part_of x) items i d h in
     let here : part_of x (get_or items i d) ≡ (get_or items i d).weight =
     rw (eq-eqb (get_or items i d).amount x e) refl in
-    omega (
-      arith,
-      step,
-      here,
-      weight_within (take (i + 1) items) x,
-      sum_by-take-le (λ (item : Item). item.weight) items (i + 1),
-    )
+    omega (arith, weight_within (take (i + 1) items) x, sum_by-take-le (λ (item : Item). item.weight) items (i + 1))
 
 -- ---- ways
 
 pub no_claims : (w : ℕ → ℕ) (n s : ℕ) → n ≡ 0 → s ≡ 0 → 1 ≡ ways w n s
 unfolding ways
-no_claims w zero zero e f = refl
-no_claims w zero (suc s) e f = absurd (omega arith)
-no_claims w (suc n) s e f = absurd (omega arith)
+no_claims w n s e f = rw (e, f) refl
 
 pub no_way : (w : ℕ → ℕ) (n s : ℕ) → n ≡ 0 → 0 < s → 0 ≡ ways w n s
 unfolding ways
@@ -94,28 +69,61 @@ module _ (amounts : List Item) (there : 0 < weight_sum amounts) where
 pub suc-minus : (n : ℕ) → suc n - 1 ≡ n
 suc-minus n = omega arith
 
--- above n over below n is the part of n claims, and the next denominator is `step` times the last
-module _ (w f : ℕ → Fraction) (x : ℕ) (above below step : ℕ → ℕ) (positive : (n : ℕ) → 0 < below n)
-    (steps : (n : ℕ) → 0 < n → 0 < step n)
-    (next : (n d : ℕ) → 0 < n → d ≡ below (n - 1) → d * step n ≡ below n)
-    (part : (n : ℕ) → above n over below n ≡ w n *ℚ power f n x) where
-  -- of no claims
-  pub cell_none : (n d : ℕ) → n ≡ 0 → d ≡ below n → above n over d ≡ cell w f x n
-  unfolding sum_to
-  cell_none zero d e same = ap (λ D. above 0 over D) same ∙ part 0
-  cell_none (suc n) d e same = absurd (omega (arith, e))
+-- above n over below n is the part of n claims, and each denominator a multiple of the one before
+pub record IsSummed (w f : ℕ → Fraction) (x : ℕ) (above below step : ℕ → ℕ) : Type 0 where
+  pub positive : (n : ℕ) → 0 < below n
+  pub steps : (n : ℕ) → 0 < step (suc n)
+  pub next : (n : ℕ) → below n * step (suc n) ≡ below (suc n)
+  pub part : (n : ℕ) → above n over below n ≡ w n *ℚ power f n x
 
-  -- of n claims, by the sum of those with fewer
-  pub cell_next : (n a d : ℕ) → 0 < n → d ≡ below (n - 1) → a over d ≡ cell w f x (n - 1)
-      → (a * step n + above n) over (d * step n) ≡ cell w f x n
+-- a over d is the part of at most n claims
+pub record IsPoint (w f : ℕ → Fraction) (x : ℕ) (below : ℕ → ℕ) (n a d : ℕ) : Type 0 where
+  pub value : a over d ≡ cell w f x n
+  pub denominator : d ≡ below n
+
+pub record IsBounded (w f : ℕ → Fraction) (x : ℕ) (below : ℕ → ℕ) (most n a d : ℕ) : Type 0 where
+  pub value : a over d ≡ cell w f x n
+  pub denominator : d ≡ below n
+  pub within : a ≤ most
+  pub fits : d ≤ most
+
+module _ {w f : ℕ → Fraction} {x : ℕ} {above below step : ℕ → ℕ} (s : IsSummed w f x above below step) where
+  pub of_none : (n h d : ℕ) → n ≡ 0 → h ≡ above n → d ≡ below 0 → IsPoint w f x below n h d
   unfolding sum_to
-  cell_next zero a d h e before = absurd (omega (arith, h))
-  cell_next (suc n) a d h e before =
-      let dp : 0 < d = subst (λ t. 0 < t) (sym e) (positive (suc n - 1)) in
-      let pos : 0 < d * step (suc n) = mul-pos dp (steps (suc n) h) in
-      sym (over_plus (a * step (suc n)) (above (suc n)) (d * step (suc n)) pos)
-      ∙ ap₂ (λ s t. s +ℚ t) (over_same (a * step (suc n)) (d * step (suc n)) a d pos dp (omega arith) ∙ before
-      ∙ ap (cell w f x) (suc-minus n)) (ap (λ D. above (suc n) over D) (next (suc n) d h e) ∙ part (suc n))
+  of_none zero h d none here is = record { value = ap₂ (λ a b. a over b) here is ∙ s.part 0; denominator = is }
+  of_none (suc n) h d none here is = absurd (omega (arith, none))
+
+  -- by the part of one claim fewer
+  pub of_more : (n a d h k : ℕ) → 0 < n → a over d ≡ cell w f x (n - 1) → d ≡ below (n - 1) → h ≡ above n → k ≡ step n
+      → IsPoint w f x below n (a * k + h) (d * k)
+  unfolding sum_to
+  of_more zero a d h k some before old here is = absurd (omega (arith, some))
+  of_more (suc n) a d h k some before old here is =
+      let same : d ≡ below n = old ∙ ap below (suc-minus n) in
+      let next : d * k ≡ below (suc n) = ap₂ (λ x y. x * y) same is ∙ s.next n in
+      let d_pos : 0 < d = rw same (s.positive n) in
+      let pos : 0 < d * k = rw next (s.positive (suc n)) in
+      record {
+        value = sym (over_plus (a * k) h (d * k) pos)
+            ∙ ap₂ (λ y z. y +ℚ z) (over_same (a * k) (d * k) a d pos d_pos (omega arith) ∙ before
+            ∙ ap (cell w f x) (suc-minus n)) (ap₂ (λ x y. x over y) here next ∙ s.part (suc n));
+        denominator = next;
+      }
+
+  -- the same where the numerators and the denominators are at most some numbers
+  pub of_bounded : (most : ℕ → ℕ) → ((n : ℕ) → below n ≤ most n)
+      → ((n a : ℕ) → a ≤ most n → a * step (suc n) + above (suc n) ≤ most (suc n))
+      → (n a d h k : ℕ) → 0 < n → a over d ≡ cell w f x (n - 1) → d ≡ below (n - 1) → a ≤ most (n - 1) → h ≡ above n
+      → k ≡ step n → IsBounded w f x below (most n) n (a * k + h) (d * k)
+  of_bounded most fits grows zero a d h k some before old within here is = absurd (omega (arith, some))
+  of_bounded most fits grows (suc n) a d h k some before old within here is =
+      let p = of_more (suc n) a d h k some before old here is in
+      record {
+        value = p.value;
+        denominator = p.denominator;
+        within = rw (here, is) (grows n a (subst (λ m. a ≤ most m) (suc-minus n) within));
+        fits = rw p.denominator (fits (suc n));
+      }
 
 -- ---- the sum over the counts
 
@@ -142,40 +150,29 @@ module _ (counts amounts : List Item) (p : 0 < weight_sum counts) (q : 0 < weigh
       (weight_at amounts) n x ≤ weight_sum counts * weight_sum amounts ^ n
   here_le x n = mul-le-mul (weight_within counts n) (all_ways amounts q n x)
 
-  pub denominator_none : (n : ℕ) → n ≡ 0 → weight_sum counts ≡ weight_sum counts * weight_sum amounts ^ n
-  denominator_none n e = rw (e, pow-zero) (omega arith)
+  pub denominator_none : weight_sum counts ≡ weight_sum counts * weight_sum amounts ^ 0
+  denominator_none = rw pow-zero (omega arith)
 
-  pub denominator_next : (n d : ℕ) → 0 < n → d ≡ weight_sum counts * weight_sum amounts ^ (n - 1)
-      → d * weight_sum amounts ≡ weight_sum counts * weight_sum amounts ^ n
-  denominator_next zero d h e = absurd (omega arith)
-  denominator_next (suc n) d h e =
-      let T = weight_sum amounts in
-      let before : suc n - 1 ≡ n = omega arith in
-      let d' : d ≡ weight_sum counts * T ^ n = e ∙ ap (λ k. weight_sum counts * T ^ k) before in
-      rw (pow-suc T n) (omega (arith, ap (λ t. t * T) d'))
+  pub denominator_next : (n : ℕ)
+      → weight_sum counts * weight_sum amounts ^ n * weight_sum amounts ≡ weight_sum counts * weight_sum amounts ^ suc n
+  denominator_next n = rw (pow-suc (weight_sum amounts) n) (omega arith)
 
-  pub point_none : (x n : ℕ) → n ≡ 0 → (weight_at counts n * ways
-      (weight_at amounts) n x) over weight_sum counts ≡ cell (probability_at counts) (probability_at amounts) x n
-  point_none x n e =
-      cell_none (probability_at counts) (probability_at amounts) x
-      (λ n. weight_at counts n * ways (weight_at amounts) n x)
-      (λ n. weight_sum counts * weight_sum amounts ^ n) (λ n. weight_sum amounts) denominator_pos (λ n h. q)
-      denominator_next (one_count x) n (weight_sum counts) e (denominator_none n e)
-
-  pub point_next : (x n a d : ℕ) → 0 < n → d ≡ weight_sum counts * weight_sum amounts ^ (n - 1)
-      → a over d ≡ cell (probability_at counts) (probability_at amounts) x (n - 1)
-      → (a * weight_sum amounts + weight_at counts n * ways (weight_at amounts) n x) over
-      (d * weight_sum amounts) ≡ cell (probability_at counts) (probability_at amounts) x n
-  point_next x =
-      cell_next (probability_at counts) (probability_at amounts) x
-      (λ n. weight_at counts n * ways (weight_at amounts) n x)
-      (λ n. weight_sum counts * weight_sum amounts ^ n) (λ n. weight_sum amounts) denominator_pos (λ n h. q)
-      denominator_next (one_count x)
+  pub listed_sum : (x : ℕ) → IsSummed (probability_at counts) (probability_at amounts) x
+      (λ n. weight_at counts n * ways (weight_at amounts) n x) (λ n. weight_sum counts * weight_sum amounts ^ n)
+      (λ n. weight_sum amounts)
+  listed_sum x = record {
+    positive = denominator_pos;
+    steps = λ n. q;
+    next = denominator_next;
+    part = one_count x;
+  }
 
   -- a numerator of a probability is at most its denominator
-  numerator_le : (x n a d : ℕ) → 0 < d → a over d ≡ cell (probability_at counts) (probability_at amounts) x n → a ≤ d
-  numerator_le x n a d pd e =
-      omega (arith, le_over a d 1 1 pd one_pos (subst (λ t. t ≤ℚ whole 1) (sym e) (cell_le_one x n)))
+  pub numerator_le : (x n a d : ℕ) → d ≡ weight_sum counts * weight_sum amounts ^ n
+      → a over d ≡ cell (probability_at counts) (probability_at amounts) x n → a ≤ d
+  numerator_le x n a d is e =
+      let bound = le_over a d 1 1 (rw is (denominator_pos n)) one_pos (subst (λ t. t ≤ℚ whole 1) (sym e) (cell_le_one x n)) in
+      omega arith
 
   -- what fits below a bound where the last denominator does
   pub counts_fit : (n B : ℕ) → weight_sum counts * weight_sum amounts ^ n < B → weight_sum counts < B
@@ -190,19 +187,3 @@ module _ (counts amounts : List Item) (p : 0 < weight_sum counts) (q : 0 < weigh
       let less : weight_sum amounts ^ (n - 1) ≤ weight_sum amounts ^ n =
       pow-le-pow_right {n = weight_sum amounts} q (omega arith) in
       omega (arith, mul-le-mul_left (weight_sum counts) less)
-
-  -- the next numerator, and its first part
-  pub numerator_fits : (x n a d B : ℕ) → 0 < n → d ≡ weight_sum counts * weight_sum amounts ^ (n - 1)
-      → a over d ≡ cell (probability_at counts) (probability_at amounts) x (n - 1)
-      → weight_sum counts * weight_sum amounts ^ n < B
-      → a * weight_sum amounts + weight_at counts n * ways (weight_at amounts) n x < B
-  numerator_fits x n a d B pos e f fit =
-      let next : d * weight_sum amounts ≡ weight_sum counts * weight_sum amounts ^ n =
-      denominator_next n d pos e in
-      let there : 0 < d * weight_sum amounts = omega (arith, next, denominator_pos n) in
-      omega (
-        arith,
-        next,
-        numerator_le x n (a * weight_sum amounts + weight_at counts n * ways
-            (weight_at amounts) n x) (d * weight_sum amounts) there (point_next x n a d pos e f),
-      )

@@ -1,13 +1,5 @@
 -- What an outcome counts for, over plain numbers.
-use Rattle.std.proofs.Common.{◌≡◌, ℕ, ◌+◌, ◌-◌, ◌*◌, ◌<◌, ◌≤◌, [], ◌∷◌, sum, arith, sym, ap, ap₂, subst, ◌∙◌}
-use Rattle.std.specs.Prelude.{Result, Ok, Err, IfOk, nat_eq, nat_lt}
-use Rattle.std.proofs.lemmas.Bool.{ne_eqb, eq-eqb, lt-ltb, le-ltb}
-use Rattle.dl_exact.specs.Fraction.{Fraction, ◌over◌, ◌+ℚ◌, ◌-ℚ◌, ◌*ℚ◌, ◌≤ℚ◌, ◌<ℚ◌, whole}
-use Rattle.dl_exact.specs.Sum.{sum_over}
-use Rattle.dl_exact.proofs.Over.{over_self, over_lt, lt_over, le_over}
-use Rattle.dl_exact.proofs.Laws.{one_pos, plus_zero, zero_plus}
-use Rattle.dl_exact.proofs.Denominators.{over_minus, over_one}
-use Rattle.dl_model.specs.Program.{PricedTerm, Price, score, where_true, above_quantile}
+use Rattle.dl_by_hand.proofs.Common.{◌≡◌, ℕ, ◌+◌, ◌-◌, ◌*◌, ◌<◌, ◌≤◌, [], ◌∷◌, sum, arith, sym, ap, ap₂, subst, ◌∙◌, Result, Ok, Err, IfOk, nat_eq, nat_lt, ne_eqb, eq-eqb, lt-ltb, le-ltb, Fraction, ◌over◌, ◌+ℚ◌, ◌-ℚ◌, ◌*ℚ◌, ◌≤ℚ◌, ◌<ℚ◌, whole, sum_over, over_self, over_lt, lt_over, le_over, one_pos, plus_zero, zero_plus, over_minus, over_one, PricedTerm, Price, score, where_true, above_quantile}
 use Rattle.dl_frac.specs.Exact.{Gives}
 
 -- a call that gives x gives what x is, where it answers

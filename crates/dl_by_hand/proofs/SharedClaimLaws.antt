@@ -1,19 +1,5 @@
 -- What two units under a common factor come to, over plain numbers.
-use Rattle.std.proofs.Common.{◌≡◌, ℕ, zero, suc, ◌+◌, ◌-◌, ◌*◌, ◌^◌, ◌<◌, ◌≤◌, List, [], ◌∷◌, arith, refl, sym, ap, ap₂, ◌∙◌}
-use Rattle.std.proofs.Math.Nat.{mul-le-mul_right}
-use Rattle.dl_exact.specs.Fraction.{Fraction, ◌+ℚ◌, ◌*ℚ◌, ◌/ℚ◌, ◌<ℚ◌, whole}
-unfoldable use Rattle.dl_exact.specs.Power.{◌^ℚ◌, factorial}
-use Rattle.dl_exact.specs.Power.{choose}
-unfoldable use Rattle.dl_exact.specs.Sum.{sum_to, sum_over, sum_pairs}
-use Rattle.dl_exact.proofs.Laws.{plus_zero, zero_plus, times_one, whole_times, whole_pos, times_pos, le_plus, lt_of_lt_of_le}
-use Rattle.dl_exact.proofs.Powers.{factorial_pos}
-use Rattle.dl_exact.proofs.Sums.{sum_to_same, sum_to_pairs, sum_pairs_same, sum_pairs_last, sum_pairs_none, sum_to_none}
-use Rattle.dl_model.specs.Compound.{power}
-use Rattle.dl_model.specs.Listed.{probability_at}
-use Rattle.dl_model.specs.Program.{score}
-use Rattle.dl_model.specs.CommonFactor.{PoissonUnit, Claims, expected_claims, amounts, amounts_given_counts, ways_to_share, chances}
-unfoldable use Rattle.dl_model.specs.CommonFactor.{product_over, sum_over_claims}
-use Rattle.dl_by_hand.specs.CommonFactor.{quantity, unit_of, units_of, claims_of, worth, IsSmall}
+use Rattle.dl_by_hand.proofs.Common.{◌≡◌, ℕ, zero, suc, ◌+◌, ◌-◌, ◌*◌, ◌^◌, ◌<◌, ◌≤◌, List, [], ◌∷◌, arith, refl, sym, ap, ap₂, ◌∙◌, mul-le-mul_right, Fraction, ◌+ℚ◌, ◌*ℚ◌, ◌/ℚ◌, ◌<ℚ◌, whole, ◌^ℚ◌, factorial, choose, sum_to, sum_over, sum_pairs, plus_zero, zero_plus, times_one, whole_times, whole_pos, times_pos, le_plus, lt_of_lt_of_le, factorial_pos, sum_to_same, sum_to_pairs, sum_pairs_same, sum_pairs_last, sum_pairs_none, sum_to_none, power, probability_at, score, PoissonUnit, Claims, expected_claims, amounts, amounts_given_counts, ways_to_share, chances, product_over, sum_over_claims, quantity, unit_of, units_of, claims_of, worth, IsSmall}
 use Rattle.dl_by_hand.specs.declared.common_factor.Asked.{Asked}
 use Rattle.dl_by_hand.specs.declared.common_factor.Pair.{Pair}
 use Rattle.dl_by_hand.proofs.PointLaws.{suc-minus, fewer_fit}
@@ -22,8 +8,7 @@ use Rattle.dl_by_hand.proofs.PointLaws.{suc-minus, fewer_fit}
 
 pub sum_start : (n : ℕ) (f : ℕ → Fraction) → n ≡ 0 → f n ≡ sum_to n f
 unfolding sum_to
-sum_start zero f e = refl
-sum_start (suc n) f e = absurd (omega (arith, e))
+sum_start n f e = rw e refl
 
 pub sum_next : (n : ℕ) (f : ℕ → Fraction) → 0 < n → sum_to (n - 1) f +ℚ f n ≡ sum_to n f
 unfolding sum_to
@@ -32,8 +17,7 @@ sum_next (suc n) f h = ap (λ k. sum_to k f +ℚ f (suc n)) (suc-minus n)
 
 pub power_start : (x : Fraction) (n : ℕ) → n ≡ 0 → whole 1 ≡ x ^ℚ n
 unfolding ◌^ℚ◌
-power_start x zero e = refl
-power_start x (suc n) e = absurd (omega (arith, e))
+power_start x n e = rw e refl
 
 pub power_step : (x : Fraction) (n : ℕ) → 0 < n → x *ℚ x ^ℚ (n - 1) ≡ x ^ℚ n
 unfolding ◌^ℚ◌
@@ -42,8 +26,7 @@ power_step x (suc n) h = ap (λ k. x *ℚ x ^ℚ k) (suc-minus n)
 
 pub factorial_start : (n : ℕ) → n ≡ 0 → whole 1 ≡ whole (factorial n)
 unfolding factorial
-factorial_start zero e = refl
-factorial_start (suc n) e = absurd (omega (arith, e))
+factorial_start n e = rw e refl
 
 pub factorial_step : (n : ℕ) → 0 < n → whole n *ℚ whole (factorial (n - 1)) ≡ whole (factorial n)
 unfolding factorial

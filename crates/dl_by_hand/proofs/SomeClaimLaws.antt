@@ -1,23 +1,7 @@
 -- What the sums from at least one claim come to, over plain lists and numbers.
-use Rattle.std.proofs.Common.{◌≡◌, ℕ, suc, zero, ◌+◌, ◌-◌, ◌*◌, ◌^◌, ◌<◌, ◌≤◌, List, arith, refl, sym, ap, ap₂, subst, ◌∙◌, mul-pos}
-use Rattle.std.specs.Prelude.{nat_eq}
-use Rattle.std.proofs.Math.Nat.{mul-le-mul_right, mul-le-mul_left}
-use Rattle.std.proofs.lemmas.Bool.{ne_eqb}
-use Rattle.dl_exact.specs.Fraction.{Fraction, ◌over◌, ◌+ℚ◌, ◌-ℚ◌, ◌*ℚ◌, ◌≤ℚ◌, whole}
-use Rattle.dl_exact.specs.Sum.{sum_to}
-use Rattle.dl_exact.proofs.Over.{over_same, over_mul, le_over}
-use Rattle.dl_exact.proofs.Laws.{one_pos, le_trans, le_plus, plus_zero, zero_times}
-use Rattle.dl_exact.proofs.Denominators.{over_plus, over_minus, over_zero, over_one}
-use Rattle.dl_model.specs.Compound.{power, cell}
-use Rattle.dl_model.specs.ChangedZero.{without_none, with_none}
-use Rattle.dl_model.specs.Listed.{probability_at}
-use Rattle.dl_model.specs.Program.{where_true}
-use Rattle.dl_model.specs.Ways.{ways}
+use Rattle.dl_by_hand.proofs.Common.{◌≡◌, ℕ, suc, zero, ◌+◌, ◌-◌, ◌*◌, ◌^◌, ◌<◌, ◌≤◌, List, arith, refl, sym, ap, ap₂, subst, ◌∙◌, mul-pos, nat_eq, mul-le-mul_right, mul-le-mul_left, ne_eqb, Fraction, ◌over◌, ◌+ℚ◌, ◌-ℚ◌, ◌*ℚ◌, ◌≤ℚ◌, whole, sum_to, over_same, over_mul, le_over, one_pos, le_trans, le_plus, plus_zero, zero_times, over_plus, over_minus, over_zero, over_one, power, cell, without_none, with_none, probability_at, where_true, ways, probabilities_le, Item, weight_at, weight_sum}
 use Rattle.dl_model.proofs.ChangedZero.{weights_apart, cell_apart}
-use Rattle.dl_model.proofs.WeightLaws.{probabilities_le}
-use Rattle.dl_plan.specs.declared.item.Item.{Item}
-use Rattle.dl_plan.specs.Weighted.{weight_at, weight_sum}
-use Rattle.dl_by_hand.proofs.PointLaws.{cell_none, cell_next, suc-minus, denominator_pos, denominator_next, denominator_none, cell_le_one, one_count}
+use Rattle.dl_by_hand.proofs.PointLaws.{IsSummed, suc-minus, denominator_pos, denominator_next, cell_le_one, one_count}
 
 -- ---- the weights of at least one claim
 
@@ -47,11 +31,9 @@ module _ (counts : List Item) (p : 0 < weight_sum counts) where
 
   pub some_le : (n a d : ℕ) → d ≡ weight_sum counts → a over d ≡ sum_to n weights → a ≤ d
   some_le n a d e same =
-      omega (
-        arith,
-        le_over a d 1 1 (subst (λ t. 0 < t) (sym e) p) one_pos
-            (subst (λ t. t ≤ℚ whole 1) (sym same) (weights_le_one n)),
-      )
+      let bound = le_over a d 1 1 (subst (λ t. 0 < t) (sym e) p) one_pos
+      (subst (λ t. t ≤ℚ whole 1) (sym same) (weights_le_one n)) in
+      omega arith
 
 -- ---- sums from at least one claim
 
@@ -65,59 +47,39 @@ module _ (counts amounts : List Item) (p : 0 < weight_sum counts) (q : 0 < weigh
       (subst (λ t. some_cell x n ≤ℚ t) (sym (cell_apart (probability_at counts) (probability_at amounts) x n))
       (le_plus _ _)) (cell_le_one counts amounts p q x n)
 
-  unfoldable above_some : ℕ → ℕ → ℕ
+  unfoldable pub above_some : ℕ → ℕ → ℕ
   above_some x zero = 0
   above_some x (suc n) = weight_at counts (suc n) * ways (weight_at amounts) (suc n) x
 
-  abbrev below_some : ℕ → ℕ
-  below_some n = weight_sum counts * weight_sum amounts ^ n
-
-  some_count : (x n : ℕ) → above_some x n over below_some n
+  some_count : (x n : ℕ) → above_some x n over (weight_sum counts * weight_sum amounts ^ n)
       ≡ without_none (probability_at counts) n *ℚ power (probability_at amounts) n x
   unfolding above_some without_none
-  some_count x zero = over_zero (below_some zero) (denominator_pos counts amounts p q zero) ∙ sym (zero_times _)
+  some_count x zero = over_zero _ (denominator_pos counts amounts p q zero) ∙ sym (zero_times _)
   some_count x (suc n) = one_count counts amounts p q x (suc n)
 
-  pub some_point_none : (x n : ℕ) → n ≡ 0 → 0 over weight_sum counts ≡ some_cell x n
-  unfolding above_some
-  some_point_none x (suc n) e = absurd (omega (arith, e))
-  some_point_none x zero e =
-      cell_none (without_none (probability_at counts)) (probability_at amounts) x (above_some x) below_some
-      (λ n. weight_sum amounts) (denominator_pos counts amounts p q) (λ n h. q) (denominator_next counts amounts p q)
-      (some_count x) zero (weight_sum counts) e (denominator_none counts amounts p q zero e)
+  pub some_sum : (x : ℕ) → IsSummed (without_none (probability_at counts)) (probability_at amounts) x (above_some x)
+      (λ n. weight_sum counts * weight_sum amounts ^ n) (λ n. weight_sum amounts)
+  some_sum x = record {
+    positive = denominator_pos counts amounts p q;
+    steps = λ n. q;
+    next = denominator_next counts amounts p q;
+    part = some_count x;
+  }
 
-  above_is : (x n : ℕ) → 0 < n → above_some x n ≡ weight_at counts n * ways (weight_at amounts) n x
+  pub above_none : (x n : ℕ) → n ≡ 0 → 0 ≡ above_some x n
+  unfolding above_some
+  above_none x n h = rw h refl
+
+  pub above_is : (x n : ℕ) → 0 < n → weight_at counts n * ways (weight_at amounts) n x ≡ above_some x n
   unfolding above_some
   above_is x zero h = absurd (omega (arith, h))
   above_is x (suc n) h = refl
 
-  pub some_point_next : (x n a d : ℕ) → 0 < n → d ≡ below_some (n - 1) → a over d ≡ some_cell x (n - 1)
-      → (a * weight_sum amounts + weight_at counts n * ways (weight_at amounts) n x) over
-      (d * weight_sum amounts) ≡ some_cell x n
-  some_point_next x n a d h e before =
-      ap (λ k. (a * weight_sum amounts + k) over (d * weight_sum amounts)) (sym (above_is x n h))
-      ∙ cell_next (without_none (probability_at counts)) (probability_at amounts) x (above_some x) below_some
-      (λ n. weight_sum amounts) (denominator_pos counts amounts p q) (λ n h. q) (denominator_next counts amounts p q)
-      (some_count x) n a d h e before
-
-  pub some_point_le : (x n a d : ℕ) → d ≡ below_some n → a over d ≡ some_cell x n → a ≤ d
-  some_point_le x n a d e same =
-      omega (
-        arith,
-        le_over a d 1 1 (subst (λ t. 0 < t) (sym e) (denominator_pos counts amounts p q n)) one_pos
-            (subst (λ t. t ≤ℚ whole 1) (sym same) (some_cell_le_one x n)),
-      )
-
-  pub some_next_le : (x n a d : ℕ) → 0 < n → d ≡ below_some (n - 1) → a over d ≡ some_cell x (n - 1)
-      → a * weight_sum amounts + weight_at counts n * ways (weight_at amounts) n x ≤ below_some n
-  some_next_le x n a d h e before =
-      let next : d * weight_sum amounts ≡ below_some n = denominator_next counts amounts p q n d h e in
-      omega (
-        arith,
-        next,
-        some_point_le x n (a * weight_sum amounts + weight_at counts n * ways (weight_at amounts) n x)
-            (d * weight_sum amounts) next (some_point_next x n a d h e before),
-      )
+  pub some_point_le : (x n a d : ℕ) → d ≡ weight_sum counts * weight_sum amounts ^ n → a over d ≡ some_cell x n → a ≤ d
+  some_point_le x n a d is e =
+      let bound = le_over a d 1 1 (rw is (denominator_pos counts amounts p q n)) one_pos
+      (subst (λ t. t ≤ℚ whole 1) (sym e) (some_cell_le_one x n)) in
+      omega arith
 
 -- ---- the change: the probability c / w of no claim
 

@@ -1,39 +1,41 @@
 -- The names that the proofs of this crate cite most, passed on from one place. Declares nothing.
-pub use Rattle.std.proofs.Common.{Bool, List, None, Option, Some, [], ap, ap₂, arith, eq-eqb, false, get_or, inl, inr, length, min, nat_eq, ne_eqb, refl, set, subst, subst₂, suc, sym, take, true, zero, ℕ, ◌*◌, ◌+◌, ◌-◌, ◌/◌, ◌<◌, ◌^◌, ◌∙◌, ◌∷◌, ◌≡◌, ◌≢◌, ◌≤◌, ◌⊎◌}
-pub use Rattle.std.proofs.Math.Nat.{mul-le-mul_left}
-pub use Rattle.std.proofs.lemmas.Bool.Decides.{eqb_tells}
-pub use Rattle.std.proofs.lemmas.List.{take_all}
-pub use Rattle.std.proofs.lemmas.Nat.{pow_pos}
-pub use Rattle.std.specs.Int.{div_ceil}
+pub use Rattle.dl_measures.proofs.Common.{AreDeclared, Encloses, Fraction, GridEncloses, Holds, IsBound, IsGrid, Iv, Layer, List, Loss, Mean, One, add-one, ap, ap₂, arith, at_least_wider, at_most_wider, cases_lt, count_below, div_ceil, fun_ext, get_or, high_at, inl, inr, layer_width, le_trans, length, low_at, min, mul-le-mul, mul-le-mul_left, mul-le-mul_right, one_fits, one_pos, over_le, over_mul, over_same, over_self, partial_sums, pow_pos, refl, scale_of, spread, sub_plus, subst, subst₂, suc, sym, take, total, whole, zero, zero_le, zero_times, ℕ, ◌*ℚ◌, ◌*◌, ◌+◌, ◌-ℚ◌, ◌-◌, ◌/◌, ◌<◌, ◌^◌, ◌over◌, ◌∙◌, ◌≡◌, ◌≤ℚ◌, ◌≤◌}
+pub use Rattle.std.proofs.Common.{Bool, None, Option, Some, [], cond, eq-eqb, false, nat_eq, ne_eqb, rules, set, true, ◌++◌, ◌∷◌, ◌≢◌, ◌⊎◌}
+pub use Rattle.std.proofs.Math.Nat.{div-one, eq-zero-or-pos, le-div_iff_mul-le, le_refl as le_refl_n, le_trans as le_trans_n}
+pub use Rattle.std.proofs.lemmas.Bool.Decides.{eqb_tells, leb_tells}
+pub use Rattle.std.proofs.lemmas.List.{get_or-map, length-map, length-set, take_all}
 pub use Rattle.std.specs.List.{sum_by}
-pub use Rattle.std.specs.Prelude.{All, IfSome, if◌then◌else◌}
-pub use Rattle.dl_exact.proofs.Laws.{one_pos, times_comm, zero_le}
-pub use Rattle.dl_exact.proofs.Over.{le_over, over_le, over_self}
-pub use Rattle.dl_exact.proofs.Parts.{whole_den}
-unfoldable pub use Rattle.dl_exact.specs.Count.{count_below}
-pub use Rattle.dl_exact.specs.Fraction.{Fraction, whole}
-unfoldable pub use Rattle.dl_exact.specs.Fraction.{◌*ℚ◌, ◌over◌, ◌≤ℚ◌}
-unfoldable pub use Rattle.dl_exact.specs.Sum.{sum_to}
-pub use Rattle.dl_iv.specs.declared.interval.Iv.{Iv}
-pub use Rattle.dl_grid.proofs.CellLaws.{one_fits}
-pub use Rattle.dl_grid.proofs.CellSets.{high_set, low_set, spread_set}
-pub use Rattle.dl_grid.specs.Cells.{mass_low, spread}
-unfoldable pub use Rattle.dl_grid.specs.Cells.{high_at, low_at}
-pub use Rattle.dl_plan.specs.Clause.{Clause, kept}
-pub use Rattle.dl_plan.specs.Fine.{IsWhole}
-pub use Rattle.dl_plan.specs.Horizon.{IsHorizonOf, edge}
-pub use Rattle.dl_plan.specs.MeanWidth.{part_width}
-pub use Rattle.dl_plan.specs.Severity.{probability_of}
-pub use Rattle.dl_plan.specs.Means.{declared_mean}
-pub use Rattle.dl_plan.specs.Valid.{IsAggregate, IsValidUnit, IsWithinMostAmount}
-pub use Rattle.dl_plan.specs.declared.cede.CedeLayer.{CedeLayer}
-pub use Rattle.dl_plan.specs.declared.severity.Sev.{Sev}
-pub use Rattle.dl_model.proofs.Multiples.{clause_whole}
-pub use Rattle.dl_model.specs.Family.{Encloses, GridEncloses}
-pub use Rattle.dl_model.specs.Plans.{aggregate_of, compound_of, outcome_after}
-pub use Rattle.dl_model.specs.Units.{Aggregate, IsDeclarable, outcome}
-pub use Rattle.dl_model.specs.Series.{Holds}
-pub use Rattle.dl_measures.proofs.Sums.{high_end}
+pub use Rattle.std.specs.Prelude.{All, AllPairs, IfSome, if◌then◌else◌, nat_lt, ◌==◌}
 pub use Rattle.dl_cede.specs.Kept.{IsLeft, IsTakenIn, sum_elsewhere, sum_kept, width_at}
 unfoldable pub use Rattle.dl_cede.specs.Kept.{where_whole}
-pub use Rattle.dl_cede.specs.Means.{HoldsCeded, HoldsClaims}
+pub use Rattle.dl_cede.specs.Means.{AreNearestEnds, HoldsCeded, HoldsClaims, HoldsMean, IsNear, most_claims_mean, most_limited}
+pub use Rattle.dl_exact.proofs.Counts.{below_le, below_more as count_below_more, below_nothing as count_below_none, below_plus, below_rest, below_same}
+pub use Rattle.dl_exact.proofs.Laws.{le_refl, one_times, plus_zero, sub_le_both, times_assoc, times_comm, times_le_both, times_le_times, whole_times}
+pub use Rattle.dl_exact.proofs.Over.{le_over}
+pub use Rattle.dl_exact.proofs.Parts.{whole_den, whole_num}
+pub use Rattle.dl_exact.proofs.RoundingLaws.{ceiling_div, div_ceil_least, floor_div, part_within, whole_le}
+pub use Rattle.dl_exact.specs.Sum.{sum_to}
+pub use Rattle.dl_grid.proofs.CellSets.{high_set, low_in_mass, low_set, mass_set, spread_set}
+pub use Rattle.dl_grid.specs.Cells.{mass_low}
+pub use Rattle.dl_measures.proofs.Sums.{high_end, high_most, low_most}
+pub use Rattle.dl_measures.specs.Layers.{layer_most}
+pub use Rattle.dl_model.proofs.Multiples.{clause_whole, no_cell_between}
+pub use Rattle.dl_model.specs.Family.{compound}
+pub use Rattle.dl_model.specs.Plans.{aggregate_of, claims_of, compound_of, count_weights, outcome_after}
+pub use Rattle.dl_model.specs.Program.{where_true}
+pub use Rattle.dl_model.specs.Series.{Series}
+pub use Rattle.dl_model.specs.Units.{Aggregate, IsDeclarable, loss, mapped, outcome}
+pub use Rattle.dl_plan.proofs.Apart.{first_apart, kept_rises, rest_apart}
+pub use Rattle.dl_plan.proofs.Clauses.{bucket_pos, kept_is, num_le_den}
+pub use Rattle.dl_plan.proofs.Horizons.{horizon_edges, horizon_one, horizon_settled}
+pub use Rattle.dl_plan.specs.Clause.{Clause, IsBelowTop, IsClause, Overlap, kept, layer_shares}
+pub use Rattle.dl_plan.specs.Fine.{IsFineTo30Bits, IsWhole, common_denominator}
+pub use Rattle.dl_plan.specs.Horizon.{IsHorizonOf, IsSettled, edge}
+pub use Rattle.dl_plan.specs.MeanWidth.{mean_width, part_width}
+pub use Rattle.dl_plan.specs.Means.{declared_mean}
+pub use Rattle.dl_plan.specs.Severity.{mean_amount, pairs_of, probability_of}
+pub use Rattle.dl_plan.specs.Valid.{IsAggregate, IsValidUnit, IsWithinMostAmount}
+pub use Rattle.dl_plan.specs.Weighted.{IsWeighted, common_amount, greatest, weight_at, weight_sum, weighted_sum}
+pub use Rattle.dl_plan.specs.declared.cede.CedeLayer.{CedeLayer}
+pub use Rattle.dl_plan.specs.declared.plan.Unit.{Unit as UnitOfPlan}
+pub use Rattle.dl_plan.specs.declared.severity.Sev.{Sev}

@@ -1,24 +1,11 @@
 -- What a clause keeps of a unit's sum, from the cells of a grid that ends at its horizon.
-use Rattle.dl_cede.proofs.Common.{ℕ, zero, suc, ◌≡◌, ◌≢◌, inl, inr, ◌+◌, ◌-◌, ◌*◌, ◌/◌, ◌<◌, ◌≤◌, ◌⊎◌, min, Bool, true, false, nat_eq, arith, refl, sym, ap, ap₂, subst, subst₂, ◌∙◌, eq-eqb, if◌then◌else◌, mul-le-mul_left, eqb_tells, Fraction, whole, ◌over◌, ◌*ℚ◌, ◌≤ℚ◌, sum_to, over_self, over_le, le_over, one_pos, zero_le, Sev, IsWhole, probability_of, Clause, kept, IsAggregate, Holds, count_below, Aggregate, IsDeclarable, outcome, Encloses, outcome_after, clause_whole, where_whole, sum_kept, sum_elsewhere}
-use Rattle.std.specs.Prelude.{Some, nat_lt}
-use mathlib.Core.Path.{fun_ext}
-use Rattle.std.proofs.Math.Nat.{eq-zero-or-pos, div-one, le-div_iff_mul-le, le_refl as le_refl_n}
-use Rattle.std.proofs.lemmas.Bool.{cases_lt, lt-ltb, le-ltb}
-use Rattle.dl_exact.proofs.Over.{over_same}
-use Rattle.dl_exact.proofs.Laws.{zero_times}
-use Rattle.dl_exact.proofs.Counts.{below_same}
+use Rattle.dl_cede.proofs.Common.{below_rest, ℕ, suc, ◌≡◌, ◌≢◌, inl, inr, ◌+◌, ◌-◌, ◌*◌, ◌/◌, ◌<◌, ◌≤◌, ◌⊎◌, min, Bool, true, false, nat_eq, arith, refl, sym, ap, ap₂, subst, subst₂, ◌∙◌, eq-eqb, if◌then◌else◌, mul-le-mul_left, eqb_tells, Fraction, whole, ◌over◌, ◌*ℚ◌, ◌≤ℚ◌, sum_to, over_self, over_le, le_over, one_pos, zero_le, Sev, IsWhole, probability_of, Clause, kept, IsAggregate, Holds, count_below, Aggregate, IsDeclarable, outcome, Encloses, outcome_after, clause_whole, where_whole, sum_kept, sum_elsewhere, nat_lt, fun_ext, eq-zero-or-pos, div-one, le-div_iff_mul-le, cases_lt, over_same, zero_times, common_amount, IsSettled, kept_is, bucket_pos, kept_rises, Series, IsBound, where_true, compound, no_cell_between, le_refl_n, below_same}
+use Rattle.std.specs.Prelude.{Some}
+use Rattle.std.proofs.lemmas.Bool.{lt-ltb, le-ltb}
 use Rattle.dl_exact.proofs.Sums.{sum_to_same}
-use Rattle.dl_plan.specs.Weighted.{common_amount}
-use Rattle.dl_plan.specs.Horizon.{IsSettled}
 use Rattle.dl_plan.specs.Parts.{kept_parts, parts_in_bucket}
-use Rattle.dl_plan.proofs.Clauses.{kept_is, bucket_pos}
-use Rattle.dl_plan.proofs.Apart.{kept_rises}
-use Rattle.dl_model.specs.Series.{Series, IsBound}
 use Rattle.dl_model.specs.Compound.{cell}
-use Rattle.dl_model.specs.Program.{where_true}
-use Rattle.dl_model.specs.Family.{compound}
 use Rattle.dl_model.proofs.Clauses.{clause_few, clause_rest, where_none}
-use Rattle.dl_model.proofs.Multiples.{no_cell_between}
 
 -- ---- whole numbers
 
@@ -26,7 +13,7 @@ at_least : (x : Fraction) (n : ℕ) → whole n ≤ℚ x → n ≤ x.num / x.den
 at_least x n h =
     let cross : n * x.den ≤ x.num * 1 = le_over n 1 x.num x.den (omega arith) x.positive
     (subst (λ y. whole n ≤ℚ y) (sym (over_self x)) h) in
-    (le-div_iff_mul-le x.positive).1 (omega (arith, cross))
+    (le-div_iff_mul-le x.positive).1 (omega arith)
 
 is_whole : (x : Fraction) → IsWhole x → x ≡ whole (x.num / x.den)
 is_whole x e =
@@ -54,13 +41,11 @@ past : (k : ℕ) (f g : ℕ → ℕ) (s : ℕ) → k ≤ s → joined k f g s �
 unfolding joined
 past k f g s h = ap (λ b. if b then f s else g s) (le-ltb s k h)
 
--- a sum whose items are 0 from k on
-sum_cut : (k m : ℕ) (f : ℕ → ℕ) → ((s : ℕ) → k ≤ s → f s ≡ 0) → count_below (k + m) f ≡ count_below k f
-unfolding count_below
-sum_cut k zero f none = ap (λ n. count_below n f) (omega arith)
-sum_cut k (suc m) f none =
-    let next : k + suc m ≡ suc (k + m) = omega arith in
-    rw next (omega (arith, sum_cut k m f none, none (k + m) (omega arith)))
+at_joined : (P : ℕ → Type 0) (k : ℕ) (f g : ℕ → ℕ) (s : ℕ) → (s < k → P (f s)) → (k ≤ s → P (g s)) → P (joined k f g s)
+at_joined P k f g s a b = elim (cases_lt s k) [
+  | inl h ↦ subst P (sym (before k f g s h)) (a h)
+  | inr h ↦ subst P (sym (past k f g s h)) (b h)
+]
 
 no_item : (b : Bool) (n : ℕ) → n ≡ 0 → (if b then n else 0) ≡ 0
 no_item true n e = e
@@ -104,9 +89,9 @@ module _ (sev : Sev) (clause : Clause) (all most : ℕ) (w : ℕ → Fraction) (
       (subst (λ x. whole n ≤ℚ x) (kept_is clause k) h) in
       let rises : kept_parts clause c k ≤ kept_parts clause c s =
       subst (λ t. kept_parts clause c k ≤ kept_parts clause c t)
-      (omega (arith, after)) (kept_rises clause c k (s - k) agg.accepted) in
+      (omega arith) (kept_rises clause c k (s - k) agg.accepted) in
       at_least (kept clause s) n (subst (λ x. whole n ≤ℚ x) (sym (kept_is clause s))
-      (over_le n 1 (kept_parts clause c s) c (omega arith) (bucket_pos clause) (omega (arith, here, rises))))
+      (over_le n 1 (kept_parts clause c s) c (omega arith) (bucket_pos clause) (omega arith)))
 
   same_clause : (k s : ℕ) → kept clause s ≡ kept clause k
       → outcome_after (Some clause) s ≡ outcome_after (Some clause) k
@@ -115,7 +100,7 @@ module _ (sev : Sev) (clause : Clause) (all most : ℕ) (w : ℕ → Fraction) (
   -- what is kept past k is y for no sum there, or all claims are of amount 0
   clear : (n k y : ℕ) → IsSettled clause n k → y < n → kept clause k ≢ whole y
       → ((s : ℕ) → k ≤ s → outcome_after (Some clause) s ≢ y) ⊎ (common_amount sev.items ≡ 0)
-  clear n k y (inl h) inside other = inl (λ s after e. omega (arith, reached n k s after h, e, inside))
+  clear n k y (inl h) inside other = inl (λ s after e. omega (arith, reached n k s after h))
   clear n k y (inr flat) inside other = elim (eqb_tells (kept clause k).den 1) [
     | inl p ↦ inl (λ s after e. other (is_whole (kept clause k) p.1
         ∙ ap whole (sym (same_clause k s (flat s after)) ∙ e)))
@@ -129,35 +114,30 @@ module _ (sev : Sev) (clause : Clause) (all most : ℕ) (w : ℕ → Fraction) (
 
   -- where all claims are of amount 0, only the sum 0 is there
   no_amount : common_amount sev.items ≡ 0 → (s N : ℕ) → 1 ≤ s → sums s N ≡ whole 0
-  no_amount none s N some = no_cell_between sev w s N (λ k e. omega (arith, some, e, ap (λ d. k * d) none))
+  no_amount none s N some = no_cell_between sev w s N (λ k e. omega (arith, ap (λ d. k * d) none))
 
   module _ (S k : ℕ) (lo hi : ℕ → ℕ) (pos : 0 < S) (unit : IsDeclarable unit_of)
       (e : Encloses S (suc k) lo hi (compound w (probability_of sev))) where
     -- the clause up to k, and each larger sum for itself
+    abbrev map : ℕ → ℕ
+    map = joined (suc k) (outcome_after (Some clause)) (λ s. s)
+
     abbrev changed : Aggregate
-    changed = record {
-      count = w;
-      severity = probability_of sev;
-      most = most;
-      clause =
-          joined (suc k) (outcome_after (Some clause)) (λ s. s);
-    }
+    changed = record { count = w; severity = probability_of sev; most = most; clause = map }
 
     changed_unit : IsDeclarable changed
-    changed_unit = record { severity = unit.severity; clause = within }
-      where
-        within : (s : ℕ) → joined (suc k) (outcome_after (Some clause)) (λ s. s) s ≤ s
-        within s = elim (cases_lt s (suc k)) [
-          | inl h ↦ subst (λ t. t ≤ s) (sym (before (suc k) (outcome_after (Some clause)) (λ s. s) s h)) (unit.clause s)
-          | inr h ↦ subst (λ t. t ≤ s) (sym (past (suc k) (outcome_after (Some clause)) (λ s. s) s h)) (le_refl_n s)
-        ]
+    changed_unit = record {
+      severity = unit.severity;
+      clause = λ s. at_joined (λ t. t ≤ s) (suc k) _ _ s (λ h. unit.clause s) (λ h. le_refl_n s);
+    }
 
     changed_same : common_amount sev.items ≡ 0 → (y N : ℕ) → outcome changed y N ≡ outcome unit_of y N
-    changed_same none y N = sum_to_same (N * most) _ _ (λ s b. elim (cases_lt s (suc k)) [
-      | inl h ↦ ap (λ t. where_true (nat_eq t y) (sums s N)) (before (suc k) (outcome_after (Some clause)) (λ s. s) s h)
-      | inr h ↦ ap (where_true _) (no_amount none s N (omega (arith, h))) ∙ where_none _
-          ∙ sym (ap (where_true _) (no_amount none s N (omega (arith, h))) ∙ where_none _)
-    ])
+    changed_same none y N =
+        let gone : (s : ℕ) → suc k ≤ s → (b : Bool) → where_true b (sums s N) ≡ whole 0 =
+        λ s h b. ap (where_true b) (no_amount none s N (omega arith)) ∙ where_none b in
+        sum_to_same (N * most) _ _ (λ s b. at_joined (λ t. where_true (nat_eq t y) (sums s N)
+        ≡ where_true (nat_eq (outcome_after (Some clause) s) y) (sums s N)) (suc k) _ _ s (λ h. refl)
+        (λ h. gone s h _ ∙ sym (gone s h _)))
 
     abbrev cut : (ℕ → ℕ) → ℕ → ℕ
     cut f = joined (suc k) (where_whole clause f) (λ s. 0)
@@ -165,29 +145,24 @@ module _ (sev : Sev) (clause : Clause) (all most : ℕ) (w : ℕ → Fraction) (
     cut_encloses : common_amount sev.items ≡ 0 → (n : ℕ)
         → Encloses S n (cut lo) (cut hi) (compound w (probability_of sev))
     cut_encloses none n s inside = elim (cases_lt s (suc k)) [
-      | inl h ↦ subst₂ (λ l m. Holds (sums s) weights (l over S) (m over S))
-          (sym (before (suc k) (where_whole clause lo) (λ s. 0) s h))
-          (sym (before (suc k) (where_whole clause hi) (λ s. 0) s h))
-          (whole_encloses S (suc k) lo hi pos e s h)
-      | inr h ↦ subst₂ (λ l m. Holds (sums s) weights (l over S) (m over S))
-          (sym (past (suc k) (where_whole clause lo) (λ s. 0) s h))
-          (sym (past (suc k) (where_whole clause hi) (λ s. 0) s h))
-          (none_holds (sums s) weights S pos (λ N. no_amount none s N (omega (arith, h))))
+      | inl h ↦
+          let low = before (suc k) (where_whole clause lo) (λ s. 0) s h in
+          let high = before (suc k) (where_whole clause hi) (λ s. 0) s h in
+          rw (low, high) (whole_encloses S (suc k) lo hi pos e s h)
+      | inr h ↦
+          let low = past (suc k) (where_whole clause lo) (λ s. 0) s h in
+          let high = past (suc k) (where_whole clause hi) (λ s. 0) s h in
+          rw (low, high) (none_holds (sums s) weights S pos (λ N. no_amount none s N (omega arith)))
     ]
 
-    cut_sum : (f : ℕ → ℕ) (y : ℕ) → count_below (suc (k + y))
-        (λ s. if nat_eq (joined (suc k) (outcome_after (Some clause)) (λ s. s) s) y then cut f s else 0)
+    cut_sum : (f : ℕ → ℕ) (y : ℕ) → count_below (suc (k + y)) (λ s. if nat_eq (map s) y then cut f s else 0)
         ≡ sum_kept clause (suc k) f y
     cut_sum f y =
-        ap (λ n. count_below n (λ s. if nat_eq (joined (suc k) (outcome_after (Some clause)) (λ s. s) s) y then cut f s
-        else 0)) (later k y)
-        ∙ sum_cut (suc k) y _ (λ s h. no_item _ (cut f s) (past (suc k) (where_whole clause f) (λ s. 0) s h))
+        below_rest (suc k) (suc (k + y)) _ (omega arith)
+        (λ s h b. no_item _ (cut f s) (past (suc k) (where_whole clause f) (λ s. 0) s h))
         ∙ below_same (suc k) _ _ (λ s h. ap₂ (λ a b. if nat_eq a y then b else 0)
         (before (suc k) (outcome_after (Some clause)) (λ s. s) s h)
         (before (suc k) (where_whole clause f) (λ s. 0) s h))
-      where
-        later : (k y : ℕ) → suc (k + y) ≡ suc k + y
-        later k y = omega arith
 
     pub kept_few : (n y : ℕ) → IsSettled clause n (suc k) → y < n → kept clause (suc k) ≢ whole y
         → Holds (outcome unit_of y) weights (sum_kept clause (suc k) lo y over S)
@@ -207,15 +182,12 @@ module _ (sev : Sev) (clause : Clause) (all most : ℕ) (w : ℕ → Fraction) (
         not_past : (s : ℕ) → outcome_after (Some clause) s ≡ y
             → ((r : ℕ) → suc k ≤ r → outcome_after (Some clause) r ≢ y) → s ≤ k
         not_past s same away = elim (cases_lt k s) [
-          | inl h ↦ absurd (away s (omega (arith, h)) same)
+          | inl h ↦ absurd (away s (omega arith) same)
           | inr h ↦ h
         ]
 
-        near : (s : ℕ) → joined (suc k) (outcome_after (Some clause)) (λ s. s) s ≡ y → s ≤ k + y
-        near s same = elim (cases_lt s (suc k)) [
-          | inl h ↦ omega (arith, h)
-          | inr h ↦ omega (arith, past (suc k) (outcome_after (Some clause)) (λ s. s) s h, same)
-        ]
+        near : (s : ℕ) → map s ≡ y → s ≤ k + y
+        near s = at_joined (λ t. t ≡ y → s ≤ k + y) (suc k) _ _ s (λ h e. omega arith) (λ h e. omega arith)
 
     pub kept_rest : (v : Fraction) (n y : ℕ) → IsBound weights v → IsSettled clause n (suc k) → y < n
         → kept clause (suc k) ≡ whole y
@@ -231,5 +203,5 @@ module _ (sev : Sev) (clause : Clause) (all most : ℕ) (w : ℕ → Fraction) (
         at = clause_whole clause (suc k) y here
 
         far : IsSettled clause n (suc k) → (s : ℕ) → k < s → outcome_after (Some clause) s ≡ y
-        far (inl h) s after = absurd (omega (arith, reached n (suc k) (suc k) (omega arith) h, at, inside))
-        far (inr flat) s after = same_clause (suc k) s (flat s (omega (arith, after))) ∙ at
+        far (inl h) s after = absurd (omega (arith, reached n (suc k) (suc k) (omega arith) h, at))
+        far (inr flat) s after = same_clause (suc k) s (flat s (omega arith)) ∙ at

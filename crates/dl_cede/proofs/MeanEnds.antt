@@ -1,24 +1,11 @@
 -- The mean of a unit after its clause, from the ends of its parts.
-use Rattle.dl_cede.proofs.Common.{ℕ, ◌≡◌, ◌+◌, ◌-◌, ◌*◌, ◌/◌, ◌^◌, ◌<◌, ◌≤◌, List, [], ◌∷◌, length, get_or, take, Option, Some, None, true, false, sym, ap, ap₂, subst, subst₂, ◌∙◌, IfSome, All, div_ceil, take_all, pow_pos, Fraction, whole, ◌over◌, ◌*ℚ◌, over_self, times_comm, Iv, low_at, high_at, CedeLayer, Clause, edge, IsHorizonOf, IsAggregate, IsValidUnit, declared_mean, Holds, GridEncloses, compound_of, HoldsClaims, HoldsCeded}
-use Rattle.std.proofs.Common.{◌++◌, add-one}
-use Rattle.std.proofs.Math.Nat.{le_refl as le_refl_n}
-use Rattle.std.proofs.Math.Seq.{take-suc}
-use Rattle.dl_exact.specs.Fraction.{◌≤ℚ◌}
-use Rattle.dl_exact.proofs.Laws.{le_refl, times_le_both, whole_times}
-use Rattle.dl_exact.specs.Rounding.{IsFloor, IsCeiling}
-use Rattle.dl_exact.proofs.RoundingLaws.{floor_div, ceiling_div}
+use Rattle.dl_cede.proofs.Common.{layer_most, arith, ◌-◌, sum_by, spread, part_width, ℕ, ◌≡◌, ◌+◌, ◌*◌, ◌/◌, ◌^◌, ◌<◌, ◌≤◌, List, [], ◌∷◌, length, get_or, take, Option, Some, None, true, false, sym, ap, ap₂, subst, ◌∙◌, IfSome, All, div_ceil, pow_pos, Fraction, whole, ◌over◌, ◌*ℚ◌, over_self, times_comm, Iv, low_at, high_at, CedeLayer, Clause, edge, IsHorizonOf, IsAggregate, IsValidUnit, declared_mean, Holds, GridEncloses, compound_of, HoldsClaims, HoldsCeded, ◌++◌, ◌≤ℚ◌, le_refl, times_le_both, whole_times, floor_div, ceiling_div, horizon_edges, Loss, One, Mean, Layer, partial_sums, total, AreDeclared, loss, claims_of, at_least_wider, at_most_wider, AreNearestEnds, HoldsMean, le_refl_n, UnitOfPlan}
+use Rattle.dl_cede.proofs.MeanSizes.{mosts, sum_more}
+use Rattle.std.proofs.lemmas.List.{take_more}
 use Rattle.dl_iv.specs.Enclosure.{LiesIn}
 use Rattle.dl_exact.proofs.Denominators.{over_split as over_plus, over_minus, over_times, over_zero}
 use Rattle.dl_iv.proofs.Enclosures.{lies_between}
-use Rattle.dl_plan.specs.declared.plan.Unit.{Unit as UnitOfPlan}
-use Rattle.dl_plan.proofs.Horizons.{horizon_edges}
-use Rattle.dl_model.specs.Program.{Loss, One, Mean, Layer, partial_sums, total}
-use Rattle.dl_model.specs.Measures.{AreDeclared}
-use Rattle.dl_model.specs.Units.{loss}
-use Rattle.dl_model.specs.Plans.{aggregate_of, claims_of, mean_ceded}
-use Rattle.dl_model.proofs.Declared.{at_least_wider, at_most_wider}
 use Rattle.dl_model.proofs.ClauseMeans.{are_claims, claims_enclosed, claims_mean, none_ceded, alone_ceded, both_ceded, no_clause, ceded_mean, net_mean}
-use Rattle.dl_cede.specs.Means.{AreNearestEnds, HoldsMean}
 
 -- ---- the sum of the claims
 
@@ -36,9 +23,8 @@ pub nearest_ends : {B : ℕ} (u : UnitOfPlan) (mean : Iv B) (num den : ℕ) → 
 nearest_ends {B} u mean num den pos value low high =
     let units : (2 ^ B * num) over den ≡ whole (2 ^ B) *ℚ declared_mean u =
     sym (over_times (2 ^ B) num den pos) ∙ ap (λ x. whole (2 ^ B) *ℚ x) value in record {
-      floor = rw low (subst (λ x. IsFloor x (2 ^ B * num / den)) units (floor_div (2 ^ B * num) den pos));
-      ceiling = rw high (subst (λ x. IsCeiling x (div_ceil (2 ^ B * num) den)) units
-          (ceiling_div (2 ^ B * num) den pos));
+      floor = rw (low, ← units) (floor_div (2 ^ B * num) den pos);
+      ceiling = rw (high, ← units) (ceiling_div (2 ^ B * num) den pos);
     }
 
 -- its high end is at most a whole number that the mean is at most
@@ -57,13 +43,14 @@ LayerHolds {B} cells l claims mean = (us : List Loss) → AreDeclared us → Gri
     (claims.hi over 2 ^ B))
     → Holds (partial_sums us (Layer l.limit l.attach)) (partial_sums us One) (mean.lo over 2 ^ B) (mean.hi over 2 ^ B)
 
+-- what layers take of the sum of the claims of each unit that the grid encloses, of which `claims` holds the mean
+abbrev pub HoldEach : {B : ℕ} → List (Iv B) → Iv B → List CedeLayer → Iv B → Type 0
+HoldEach grid claims layers mean = (cells : ℕ) (u : UnitOfPlan) → IsValidUnit cells u
+    → GridEncloses grid (compound_of u.freq u.sev) → HoldsClaims u claims → HoldsCeded u layers mean
+
 pub part_holds : {B : ℕ} (grid : List (Iv B)) (l : CedeLayer) (claims mean part : Iv B) (num den : ℕ)
-    → num ≡ l.share.num
-    → den ≡ l.share.den
-    → ((x : Fraction) → LiesIn x mean → LiesIn (x *ℚ num over den) part) → LayerHolds grid l claims mean
-    → (cells : ℕ) (u : UnitOfPlan) → IsValidUnit cells u → GridEncloses grid (compound_of u.freq u.sev)
-    → HoldsClaims u claims → HoldsCeded
-    u (l ∷ []) part
+    → num ≡ l.share.num → den ≡ l.share.den → ((x : Fraction) → LiesIn x mean → LiesIn (x *ℚ num over den) part)
+    → LayerHolds grid l claims mean → HoldEach grid claims (l ∷ []) part
 part_holds {B} grid l claims mean part num den n d scales holds cells u valid encloses full =
     let share : num over den ≡ l.share = ap₂ (λ a b. a over b) n d ∙ over_self l.share in
     let scaled : (x : Fraction) → LiesIn x mean → LiesIn (l.share *ℚ x) part =
@@ -79,28 +66,41 @@ part_holds {B} grid l claims mean part num den n d scales holds cells u valid en
 
 -- ---- the layers, one after another
 
-pub ceded_start : {B : ℕ} (u : UnitOfPlan) (layers : List CedeLayer) (mean : Iv B) → mean.lo ≡ 0 → mean.hi ≡ 0
-    → HoldsCeded u (take 0 layers) mean
-ceded_start {B} u layers mean low high =
-    subst₂ (λ l h. Holds (mean_ceded u []) (partial_sums (loss (claims_of u) ∷ []) One) l h)
-    (sym (ap (λ n. n over 2 ^ B) low ∙ over_zero (2 ^ B) (pow_pos B)))
-    (sym (ap (λ n. n over 2 ^ B) high ∙ over_zero (2 ^ B) (pow_pos B)))
-    (none_ceded u)
+-- what is known of the first i layers together
+pub record HasCeded {B : ℕ} (grid : List (Iv B)) (claims : Iv B) (layers : List CedeLayer) (i : ℕ) (ceded : Iv B)
+    : Type 0 where
+  pub holds : HoldEach grid claims (take i layers) ceded
+  pub width : ceded.hi - ceded.lo ≤ sum_by (λ k. part_width (spread grid) k.limit k.attach) (take i layers)
+  pub small : ceded.hi ≤ mosts (2 ^ B) claims.hi (take i layers)
 
-pub ceded_next : {B : ℕ} (cells : ℕ) (u : UnitOfPlan) (layers : List CedeLayer) (i : ℕ) (l : CedeLayer)
-    (before part after : Iv B)
-    → i < length layers
-    → l ≡ get_or layers i l → after.lo ≡ before.lo + part.lo → after.hi ≡ before.hi + part.hi → IsValidUnit cells u
-    → HoldsCeded u (take i layers) before → HoldsCeded u (l ∷ []) part → HoldsCeded u (take (i + 1) layers) after
-ceded_next {B} cells u layers i l before part after inside is low high valid holds here =
-    let more : take (i + 1) layers ≡ take i layers ++ (l ∷ []) =
-    ap (λ k. take k layers) (add-one i) ∙ take-suc layers i l inside ∙ ap (λ k. take i layers ++ (k ∷ [])) (sym is) in
-    let both = both_ceded cells u (take i layers) (l ∷ []) _ _ _ _ valid holds here in
-    subst (λ ls. Holds (mean_ceded u ls) (partial_sums (loss (claims_of u) ∷ []) One) (after.lo over 2 ^ B)
-    (after.hi over 2 ^ B)) (sym more)
-    (subst₂ (λ a b. Holds (mean_ceded u (take i layers ++ (l ∷ []))) (partial_sums (loss (claims_of u) ∷ []) One) a b)
-    (sym (ap (λ n. n over 2 ^ B) low ∙ over_plus before.lo part.lo (2 ^ B) (pow_pos B)))
-    (sym (ap (λ n. n over 2 ^ B) high ∙ over_plus before.hi part.hi (2 ^ B) (pow_pos B))) both)
+pub ceded_start : {B : ℕ} (grid : List (Iv B)) (claims : Iv B) (layers : List CedeLayer) (none : Iv B) → none.lo ≡ 0
+    → none.hi ≡ 0 → HasCeded grid claims layers 0 none
+ceded_start {B} grid claims layers none low high = record {
+  holds = λ cells u valid encloses full. rw (low, high, over_zero (2 ^ B) (pow_pos B)) (none_ceded u);
+  width = omega arith;
+  small = omega arith;
+}
+
+pub ceded_next : {B : ℕ} {grid : List (Iv B)} {claims before after : Iv B} {layers : List CedeLayer} {i : ℕ}
+    {l : CedeLayer} (part : Iv B) → HasCeded grid claims layers i before → i < length layers → l ≡ get_or layers i l
+    → HoldEach grid claims (l ∷ []) part
+    → part.hi - part.lo ≤ part_width (spread grid) l.limit l.attach
+    → part.hi ≤ layer_most l.limit (2 ^ B) claims.hi
+    → after.lo ≡ before.lo + part.lo → after.hi ≡ before.hi + part.hi → HasCeded grid claims layers (i + 1) after
+ceded_next {B} {grid} {claims} {before} {after} {layers} {i} {l} part so_far inside is here narrow small low high =
+    record {
+      holds = λ cells u valid encloses full.
+          let more : take (i + 1) layers ≡ take i layers ++ (l ∷ []) =
+          take_more layers i l inside ∙ ap (λ k. take i layers ++ (k ∷ [])) (sym is) in
+          let s = pow_pos B in
+          rw (more, low, high, over_plus before.lo part.lo (2 ^ B) s, over_plus before.hi part.hi (2 ^ B) s)
+          (both_ceded cells u (take i layers) (l ∷ []) _ _ _ _ valid (so_far.holds cells u valid encloses full)
+          (here cells u valid encloses full));
+      width =
+          let sum = sum_more layers i l inside is (λ k. part_width (spread grid) k.limit k.attach) so_far.width narrow in
+          omega (arith, before.ordered, part.ordered, so_far.width);
+      small = rw high (sum_more layers i l inside is (λ k. layer_most k.limit (2 ^ B) claims.hi) so_far.small small);
+    }
 
 -- ---- after the clause
 
@@ -109,16 +109,11 @@ pub aggregate : (cells : ℕ) (u : UnitOfPlan) (clause : Clause) → u.cede ≡ 
 aggregate cells u clause is valid = subst (λ t. IfSome t (IsAggregate cells u.sev)) is valid.clause
 
 pub edges_inside : (cells k : ℕ) (cede : Option Clause) (clause : Clause) → cede ≡ Some clause
-    → IsHorizonOf cede cells k
-    → All (λ l. edge l ≤ k) clause.1
-edges_inside cells k cede clause is horizon = horizon_edges clause cells k
-    (subst (λ t. IsHorizonOf t cells k) is horizon)
+    → IsHorizonOf cede cells k → All (λ l. edge l ≤ k) clause.1
+edges_inside cells k cede clause is horizon = horizon_edges clause cells k (rw is at horizon)
 
 pub plain_holds : {B : ℕ} (u : UnitOfPlan) (mean : Iv B) → u.cede ≡ None → HoldsClaims u mean → HoldsMean u mean
-plain_holds {B} u mean none holds =
-    subst (λ a. Holds (partial_sums (loss a ∷ []) Mean) (partial_sums (loss a ∷ []) One) (mean.lo over 2 ^ B)
-    (mean.hi over 2 ^ B))
-    (sym (no_clause u none)) holds
+plain_holds u mean none holds = rw (no_clause u none) holds
 
 -- what holds of an interval for every unit with this clause, where the grid encloses the sum of its claims, and
 -- `claims` its mean
@@ -127,9 +122,7 @@ OnEachUnit grid clause claims P = (cells : ℕ) (u : UnitOfPlan) → IsValidUnit
     → GridEncloses grid (compound_of u.freq u.sev) → HoldsClaims u claims → P u
 
 module _ {B : ℕ} (grid : List (Iv B)) (clause : Clause) (claims ceded : Iv B)
-    (taken : (cells : ℕ) (u : UnitOfPlan) → IsValidUnit cells u → GridEncloses grid (compound_of u.freq u.sev)
-    → HoldsClaims u claims
-    → HoldsCeded u clause.1 ceded) where
+    (taken : HoldEach grid claims clause.1 ceded) where
   pub ceded_holds : clause.0 ≡ false → OnEachUnit grid clause claims (λ u. HoldsMean u ceded)
   ceded_holds side cells u valid is encloses full =
       ceded_mean cells u clause valid is (ceded.lo over 2 ^ B) (ceded.hi over 2 ^ B) side
@@ -138,15 +131,6 @@ module _ {B : ℕ} (grid : List (Iv B)) (clause : Clause) (claims ceded : Iv B)
   pub net_holds : (mean : Iv B) → clause.0 ≡ true → mean.lo ≡ claims.lo - ceded.hi → mean.hi ≡ claims.hi - ceded.lo
       → OnEachUnit grid clause claims (λ u. HoldsMean u mean)
   net_holds mean side low high cells u valid is encloses full =
-      subst₂ (λ a b. Holds (partial_sums (loss (aggregate_of u) ∷ []) Mean) (partial_sums (loss (aggregate_of u) ∷ []) One) a b)
-      (sym (ap (λ n. n over 2 ^ B) low ∙ over_minus claims.lo ceded.hi (2 ^ B) (pow_pos B)))
-      (sym (ap (λ n. n over 2 ^ B) high ∙ over_minus claims.hi ceded.lo (2 ^ B) (pow_pos B)))
+      let s = pow_pos B in
+      rw (low, high, over_minus claims.lo ceded.hi (2 ^ B) s, over_minus claims.hi ceded.lo (2 ^ B) s)
       (net_mean cells u clause valid is _ _ _ _ side (taken cells u valid encloses full) full)
-
-pub all_taken : {B : ℕ} (u : UnitOfPlan) (layers seen : List CedeLayer) (n : ℕ) (mean : Iv B) → seen ≡ layers
-    → length seen ≤ n
-    → HoldsCeded u (take n seen) mean → HoldsCeded u layers mean
-all_taken {B} u layers seen n mean same all holds =
-    subst (λ ls. Holds (mean_ceded u ls) (partial_sums (loss (claims_of u) ∷ []) One) (mean.lo over 2 ^ B)
-    (mean.hi over 2 ^ B))
-    (take_all n seen all ∙ same) holds

@@ -1,37 +1,20 @@
 -- How large the mean of a unit's claims is, and what layers take of it.
-use Rattle.dl_cede.proofs.Common.{ℕ, suc, ◌≡◌, ◌+◌, ◌-◌, ◌*◌, ◌/◌, ◌^◌, ◌<◌, ◌≤◌, List, [], ◌∷◌, length, get_or, take, Option, Some, None, arith, inl, inr, refl, sym, ap, subst, subst₂, ◌∙◌, All, IfSome, div_ceil, sum_by, mul-le-mul_left, eqb_tells, Fraction, whole, ◌over◌, ◌*ℚ◌, ◌≤ℚ◌, over_le, le_over, one_pos, times_comm, zero_le, one_fits, CedeLayer, Sev, probability_of, Clause, IsWithinMostAmount, IsValidUnit, declared_mean, part_width}
-use Rattle.std.proofs.Common.{◌%◌, cond, ◌==◌}
-use Rattle.std.specs.Prelude.{AllPairs}
-use Rattle.std.proofs.Math.Nat.{le_trans as le_trans_n, mul-le-mul, mul-le-mul_right, div-add-mod, mod-lt}
+use Rattle.dl_cede.proofs.Common.{times_le_both, ◌⊎◌, ℕ, suc, ◌≡◌, ◌+◌, ◌-◌, ◌*◌, ◌/◌, ◌^◌, ◌<◌, ◌≤◌, List, [], ◌∷◌, length, get_or, take, Option, Some, None, arith, inl, inr, refl, sym, ap, subst, subst₂, ◌∙◌, All, IfSome, div_ceil, sum_by, mul-le-mul_left, eqb_tells, Fraction, whole, ◌over◌, ◌*ℚ◌, ◌≤ℚ◌, over_le, le_over, one_pos, times_comm, zero_le, one_fits, CedeLayer, Sev, probability_of, Clause, IsWithinMostAmount, IsValidUnit, declared_mean, part_width, cond, AllPairs, mul-le-mul, mul-le-mul_right, length-map, get_or-map, ◌-ℚ◌, over_mul, le_refl, le_trans, times_assoc, one_times, times_le_times, whole_times, sub_le_both, div_ceil_least, whole_le, weight_sum, weight_at, weighted_sum, IsWeighted, pairs_of, mean_amount, IsFineTo30Bits, IsBelowTop, Overlap, layer_shares, IsClause, first_apart, rest_apart, num_le_den, layer_width, IsNear, most_claims_mean, most_limited, le_trans_n, UnitOfPlan, layer_most, part_within}
+use Rattle.std.proofs.lemmas.List.Sums.{sum_by-cons, sum_by-le, sum_by_more, sum_by-take-le}
+use Rattle.dl_model.proofs.ChangedZero.{sub_zero}
+use Rattle.std.proofs.Common.{◌==◌}
 use Rattle.std.proofs.lemmas.List.Elements.{All-head, All-tail}
-use Rattle.std.proofs.lemmas.List.Sums.{sum_by-cons, sum_by_more, sum_by-take-le}
-use Rattle.std.proofs.lemmas.List.{length-map, get_or-map}
 use Rattle.std.proofs.lemmas.Nat.Gcd.{le_of_dvd}
-use Prim.Native.Nat.{◌∣◌}
-use Rattle.dl_exact.specs.Fraction.{◌-ℚ◌}
-use Rattle.dl_exact.proofs.Over.{over_mul}
-use Rattle.dl_exact.proofs.Laws.{le_refl, le_trans, plus_zero, times_assoc, one_times, times_le_times, sub_plus, whole_times, sub_le_both}
-use Rattle.dl_exact.proofs.RoundingLaws.{div_ceil_least, whole_le}
 use Rattle.dl_plan.specs.declared.item.Item.{Item}
 use Rattle.dl_plan.specs.declared.plan.Freq.{Freq}
 use Rattle.dl_plan.specs.declared.plan.Freq.TheVariants.{Fixed, Table, Bernoulli, Binomial, Poisson, Gamma}
-use Rattle.dl_plan.specs.declared.plan.Unit.{Unit as UnitOfPlan}
-use Rattle.dl_plan.specs.Weighted.{weight_sum, weight_at, weighted_sum, IsWeighted}
-use Rattle.dl_plan.specs.Severity.{pairs_of, mean_amount}
-use Rattle.dl_plan.specs.Fine.{common_denominator, IsFineTo30Bits}
-use Rattle.dl_plan.specs.Clause.{IsBelowTop, Overlap, layer_shares, IsClause}
 use Rattle.dl_plan.specs.Count.{expected_count, IsUnbounded, IsClaimCount}
 use Rattle.dl_plan.proofs.CommonDenominators.{den_divides, common_pos}
 use Rattle.dl_plan.proofs.Means.{total_pos, positive_share}
 use Rattle.dl_plan.proofs.Shares.{mean-shares}
-use Rattle.dl_plan.proofs.Apart.{first_apart, rest_apart}
-use Rattle.dl_plan.proofs.Clauses.{num_le_den}
-use Rattle.dl_grid.specs.Width.{layer_width}
-use Rattle.dl_measures.specs.Layers.{layer_most}
-use Rattle.std.proofs.lemmas.Bool.Decides.{leb_tells}
-use Rattle.dl_limits.specs.Limits.{most_short_cells, bits_of, most_amount, most_amount_at}
+use Rattle.dl_limits.specs.Limits.{most_amount, most_amount_at}
 use Rattle.dl_limits.proofs.Scales.{amount_fits}
-use Rattle.dl_cede.specs.Means.{IsNear, most_claims_mean, most_limited}
+use Rattle.dl_measures.proofs.TailLaws.{quotients_apart}
 
 -- ---- how large it is
 
@@ -44,59 +27,37 @@ item_within n a w within = elim (eqb_tells a 0) [
 amounts_within : (n : ℕ) (xs : List Item) → All (λ item. item.amount ≤ n) xs
     → weighted_sum xs + n * weight_at xs 0 ≤ n * weight_sum xs
 amounts_within n [] near = omega arith
-amounts_within n (x ∷ xs) near =
-    let zero_weight : weight_at (x ∷ xs) 0 ≡ cond (x.amount == 0) x.weight 0 + weight_at xs 0 = sum_by-cons
-    (λ (item : Item). cond (item.amount == 0) item.weight 0) x xs in
-    let weight : weight_sum (x ∷ xs) ≡ x.weight + weight_sum xs = sum_by-cons (λ (item : Item). item.weight) x xs in
-    let weighted : weighted_sum (x ∷ xs) ≡ x.amount * x.weight + weighted_sum xs =
-    sum_by-cons (λ (item : Item). item.amount * item.weight)
-    x xs in
-    omega (
-      arith,
-      item_within n x.amount x.weight (near 0 x (omega arith)),
-      amounts_within n xs (λ k d inside. near (suc k) d (omega arith)),
-      weighted,
-      ap (λ t. n * t) weight,
-      ap (λ t. n * t) zero_weight,
-    )
+amounts_within n (x ∷ xs) near = omega (
+  arith,
+  sum_by-cons (λ (i : Item). i.amount * i.weight) x xs,
+  ap (λ t. n * t) (sum_by-cons (λ (i : Item). i.weight) x xs),
+  ap (λ t. n * t) (sum_by-cons (λ (i : Item). cond (i.amount == 0) i.weight 0) x xs),
+  item_within n x.amount x.weight (near 0 x (omega arith)),
+  amounts_within n xs (λ k d inside. near (suc k) d (omega arith)),
+)
 
 positive_within : (n W w0 T : ℕ) → W + n * w0 ≤ n * T → W ≤ (T - w0) * n
 positive_within n W w0 T h =
     let most : T ≤ (T - w0) + w0 = omega arith in
-    omega (arith, h, mul-le-mul_left n most)
+    omega (arith, mul-le-mul_left n most)
 
 mean_within : (n : ℕ) (sev : Sev) → All (λ item. item.amount ≤ n) sev.items
     → mean_amount (pairs_of sev) ≤ℚ (whole 1 -ℚ probability_of sev 0) *ℚ whole n
 mean_within n sev near =
-    let pos = total_pos sev.items sev.total sev.weighted in
-    let sums : weighted_sum sev.items + n * weight_at sev.items 0 ≤ n * sev.total = subst
-    (λ t. weighted_sum sev.items + n * weight_at sev.items 0 ≤ n * t) sev.weighted.sum
-    (amounts_within n sev.items near) in
-    let within : weighted_sum sev.items over sev.total ≤ℚ ((sev.total - weight_at sev.items 0) * n) over
-    (sev.total * 1) =
-    over_le (weighted_sum sev.items) sev.total ((sev.total - weight_at sev.items 0) * n) (sev.total * 1) pos
-    (omega (arith, pos))
-    (omega (
-      arith,
-      mul-le-mul_right sev.total (positive_within n (weighted_sum sev.items)
-          (weight_at sev.items 0) sev.total sums),
-    ))
-    in
-    let parts : (whole 1 -ℚ probability_of sev 0) *ℚ whole n
-    ≡ ((sev.total - weight_at sev.items 0) * n) over (sev.total * 1) =
-    ap (λ t. t *ℚ whole n) (sym (positive_share (weight_at sev.items 0) sev.total pos)) ∙ over_mul
-    (sev.total - weight_at sev.items 0) sev.total n 1 pos one_pos in
-    subst (λ t. mean_amount (pairs_of sev) ≤ℚ t) (sym parts)
-    (subst (λ t. t ≤ℚ ((sev.total - weight_at sev.items 0) * n) over
-    (sev.total * 1)) (sym (mean-shares sev.items sev.total pos)) within)
+    let W = weighted_sum sev.items in
+    let w0 = weight_at sev.items 0 in
+    let T = sev.total in
+    let pos = total_pos sev.items T sev.weighted in
+    let sums : W + n * w0 ≤ n * T = rw sev.weighted.sum at (amounts_within n sev.items near) in
+    let parts : (whole 1 -ℚ probability_of sev 0) *ℚ whole n ≡ ((T - w0) * n) over (T * 1) =
+    ap (λ t. t *ℚ whole n) (sym (positive_share w0 T pos)) ∙ over_mul (T - w0) T n 1 pos one_pos in
+    subst₂ (λ s t. s ≤ℚ t) (sym (mean-shares sev.items T pos)) (sym parts)
+    (over_le W T ((T - w0) * n) (T * 1) pos (omega arith)
+    (omega (arith, mul-le-mul_right T (positive_within n W w0 T sums))))
 
 at_most_one : (u : UnitOfPlan) → whole 1 -ℚ probability_of u.sev 0 ≤ℚ whole 1
-at_most_one u = subst (λ t. whole 1 -ℚ probability_of u.sev 0 ≤ℚ t) (sub_nothing_from (whole 1))
-    (sub_le_both (whole 1) (whole 1) (probability_of u.sev 0) (whole 0) (le_refl (whole 1))
-    (zero_le (probability_of u.sev 0)))
-  where
-    sub_nothing_from : (x : Fraction) → x -ℚ whole 0 ≡ x
-    sub_nothing_from x = sym (plus_zero (x -ℚ whole 0)) ∙ sub_plus x (whole 0) (zero_le x)
+at_most_one u = subst (λ t. whole 1 -ℚ probability_of u.sev 0 ≤ℚ t) (sub_zero (whole 1))
+    (sub_le_both _ _ _ _ (le_refl (whole 1)) (zero_le (probability_of u.sev 0)))
 
 times_at_most_one : (x y z : Fraction) → y ≤ℚ whole 1 → x ≤ℚ z → x *ℚ y ≤ℚ z
 times_at_most_one x y z h p = le_trans (x *ℚ y) x z
@@ -106,12 +67,8 @@ times_at_most_one x y z h p = le_trans (x *ℚ y) x z
 listed_within : (counts : List Item) (total : ℕ) → IsWeighted counts total → All (λ item. item.amount ≤ 256) counts
     → weighted_sum counts over total ≤ℚ whole 65536
 listed_within counts total w near =
-    over_le (weighted_sum counts) total 65536 1 (total_pos counts total w) one_pos
-    (omega (
-      arith,
-      subst (λ t. weighted_sum counts + 256 * weight_at counts 0 ≤ 256 * t) w.sum
-          (amounts_within 256 counts near),
-    ))
+    let sums = rw w.sum at (amounts_within 256 counts near) in
+    over_le (weighted_sum counts) total 65536 1 (total_pos counts total w) one_pos (omega arith)
 
 -- the thinned mean is at most 65,536
 few_claims : (freq : Freq) (y : Fraction) → IsClaimCount freq → y ≤ℚ whole 1
@@ -136,26 +93,17 @@ unit_within cells u valid =
     let x : Fraction = expected_count u.freq in
     let y : Fraction = whole 1 -ℚ probability_of u.sev 0 in
     let z : Fraction = whole (most_amount_at cells) in
-    let amounts : mean_amount (pairs_of u.sev) *ℚ x ≤ℚ y *ℚ z *ℚ x =
-    times_le_times _ _ x (mean_within (most_amount_at cells) u.sev valid.amounts) in
-    let turned : y *ℚ z *ℚ x ≡ x *ℚ y *ℚ z = times_comm (y *ℚ z) x ∙ sym (times_assoc x y z) in
-    let claims : x *ℚ y ≤ℚ whole 65536 = few_claims u.freq y valid.count (at_most_one u)
-    (λ slow. (valid.thinned slow).1) in
-    le_trans _ _ _ (subst₂ (λ s t. s ≤ℚ t) (times_comm (mean_amount (pairs_of u.sev)) x) turned amounts)
-    (times_le_times (x *ℚ y) (whole 65536) z claims)
+    le_trans _ _ _ (times_le_both _ _ _ _ (le_refl x) (mean_within (most_amount_at cells) u.sev valid.amounts))
+    (subst (λ t. t ≤ℚ whole 65536 *ℚ z) (times_assoc x y z) (times_le_times (x *ℚ y) (whole 65536) z
+    (few_claims u.freq y valid.count (at_most_one u) (λ slow. (valid.thinned slow).1))))
 
 pub unit_small : (B : ℕ) (u : UnitOfPlan) (num den cells : ℕ) → IsValidUnit cells u → 0 < den
     → num over den ≡ declared_mean u
     → div_ceil (2 ^ B * num) den ≤ most_claims_mean cells (2 ^ B)
 unit_small B u num den cells valid pos parts =
-    let n = most_amount_at cells in
-    let within : num over den ≤ℚ whole 65536 *ℚ whole n =
-    subst (λ t. t ≤ℚ whole 65536 *ℚ whole n) (sym parts) (unit_within cells u valid) in
-    let cross : num * 1 ≤ (65536 * n) * den = le_over num den (65536 * n) 1 pos one_pos
-    (subst (λ t. num over den ≤ℚ t) (sym (whole_times 65536 n)) within) in
-    let few : num ≤ (65536 * n) * den = omega (arith, cross) in
-    let most : 2 ^ B * num ≤ 2 ^ B * ((65536 * n) * den) = mul-le-mul_left (2 ^ B) few in
-    div_ceil_least (2 ^ B * num) den (most_claims_mean cells (2 ^ B)) pos (omega (arith, most))
+    let few = le_over num den (65536 * most_amount_at cells) 1 pos one_pos (subst₂ (λ s t. s ≤ℚ t) (sym parts)
+    (sym (whole_times 65536 (most_amount_at cells))) (unit_within cells u valid)) in
+    div_ceil_least (2 ^ B * num) den (most_claims_mean cells (2 ^ B)) pos (omega (arith, mul-le-mul_left (2 ^ B) few))
 
 -- the amounts of any plan
 pub amounts_near : (cells : ℕ) (u : UnitOfPlan) → IsValidUnit cells u → All (λ item. item.amount ≤ most_amount)
@@ -167,61 +115,47 @@ pub claims_fit : (B cells : ℕ) → B ≤ 56 → most_claims_mean cells (2 ^ B)
 claims_fit B cells scale =
     let most : 65536 * most_amount_at cells * 2 ^ B ≤ 65536 * 2 ^ 22 * 2 ^ 56 =
     mul-le-mul (mul-le-mul_left 65536 (amount_fits cells)) (one_fits B scale) in
-    omega (arith, most)
-
--- in a plan, amounts of up to 2^20 buckets stand at 2^56, and those of up to 2^22 at 2^48
-pub means_at_plan_scale : (B cells : ℕ) → B ≡ bits_of cells
-    → most_claims_mean cells (2 ^ B) + most_limited (2 ^ B) ≤ 2 ^ 93
-unfolding bits_of most_amount_at
-means_at_plan_scale B cells scale = elim (leb_tells cells most_short_cells) [
-  | inl short ↦ rw (scale, short.0) (omega arith)
-  | inr long ↦ rw (scale, long.0) (omega arith)
-]
+    omega arith
 
 -- ---- a share of a layer
 
 pub most_small : (limit : Option ℕ) (one mean hi : ℕ) → IfSome limit (λ k. k ≤ 2 ^ 22) → one ≤ 2 ^ 56 → mean ≤ 2 ^ 94
     → hi ≤ layer_most limit one mean → hi ≤ 2 ^ 94
-most_small None one mean hi near scale small h = omega (arith, small, h)
+most_small None one mean hi near scale small h = omega arith
 most_small (Some k) one mean hi near scale small h =
     let most : k * one ≤ 2 ^ 22 * 2 ^ 56 = mul-le-mul near scale in
-    omega (arith, most, h)
+    omega arith
 
 pub part_le : {num den : ℕ} (share : Fraction) → num ≡ share.num → den ≡ share.den → share ≤ℚ whole 1 → num ≤ den
-part_le share e h within = omega (arith, e, h, num_le_den share within)
+part_le share e h within = omega (arith, num_le_den share within)
 
 pub share_fits : (hi num den : ℕ) → hi ≤ 2 ^ 94 → num ≤ den → den ≤ 2 ^ 30 → hi * num < 2 ^ 128
 share_fits hi num den small within fine =
-    let parts : num ≤ 2 ^ 30 = omega (arith, within, fine) in
+    let parts : num ≤ 2 ^ 30 = omega arith in
     let most : hi * num ≤ 2 ^ 94 * 2 ^ 30 = mul-le-mul small parts in
-    omega (arith, most)
+    omega arith
 
--- a share of at most 1 raises nothing
-pub share_within : (hi num den : ℕ) → num ≤ den → 0 < den → div_ceil (hi * num) den ≤ hi
-share_within hi num den within pos = div_ceil_least (hi * num) den hi pos (mul-le-mul_left hi within)
-
--- it widens by the rounding alone
+-- a share of at most 1 widens by the rounding alone
 pub share_width : (lo hi num den : ℕ) → lo ≤ hi → num ≤ den → 0 < den
     → div_ceil (hi * num) den ≤ lo * num / den + (hi - lo) + 1
 share_width lo hi num den ordered within pos =
-    let w = hi - lo in
-    let q = lo * num / den in
-    let top : hi ≡ lo + w = omega arith in
-    let rest : w * num ≤ w * den = mul-le-mul_left w within in
-    let whole_part : q * den + lo * num % den ≡ lo * num = omega (arith, div-add-mod (lo * num) den) in
-    let part : lo * num % den < den = mod-lt (lo * num) pos in
-    div_ceil_least (hi * num) den (q + w + 1) pos (omega (arith, ap (λ t. t * num) top, rest, whole_part, part))
+    let apart = quotients_apart den num lo hi (hi - lo) pos (omega arith) in
+    omega (arith, part_within (hi - lo) num den pos within)
 
 pub part_narrow : (limit : Option ℕ) (attach claims spread wide : ℕ) → claims ≤ 1
     → wide ≤ layer_width limit attach claims spread + 1
     → wide ≤ part_width spread limit attach
-part_narrow None attach claims spread wide narrow h = omega (arith, narrow, h)
-part_narrow (Some limit) attach claims spread wide narrow h = omega (arith, narrow, h)
+part_narrow None attach claims spread wide narrow h = omega arith
+part_narrow (Some limit) attach claims spread wide narrow h = omega arith
 
 -- ---- all layers: at most one has no limit
 
 no_top : (limit : Option ℕ) (a x : ℕ) → limit ≡ None → IsBelowTop limit a x
-no_top limit a x e = subst (λ t. IsBelowTop t a x) (sym e) tt
+no_top limit a x e = rw e tt
+
+tells_none : (limit : Option ℕ) → (limit ≡ None) ⊎ (limit ≡ None → ⊥)
+tells_none None = inl refl
+tells_none (Some k) = inr (λ e. cc)
 
 with_limit : (limit : Option ℕ) (one mean : ℕ) → (limit ≡ None → ⊥) → IfSome limit (λ k. k ≤ 2 ^ 22)
     → layer_most limit one mean ≤ 2 ^ 22 * one
@@ -234,43 +168,23 @@ mosts one mean layers = sum_by (λ (l : CedeLayer). layer_most l.limit one mean)
 
 module _ (one mean : ℕ) where
   others_small : (l : CedeLayer) (ls : List CedeLayer) → l.limit ≡ None → All (λ m. ¬ Overlap l m) ls
-      → All IsNear ls
-      → mosts one mean ls ≤ length ls * (2 ^ 22 * one)
-  others_small l [] none apart near = omega arith
-  others_small l (m ∷ ms) none apart near =
-      let limited : m.limit ≡ None → ⊥ = λ e. All-head (λ k. ¬ Overlap l k) m ms apart
-      (no_top l.limit _ _ none, no_top m.limit _ _ e) in
-      let here : layer_most m.limit one mean ≤ 2 ^ 22 * one = with_limit m.limit one mean limited
-      (All-head IsNear m ms near) in
-      let rest = others_small l ms none (All-tail (λ k. ¬ Overlap l k) m ms apart)
-      (All-tail IsNear m ms near) in
-      omega (arith, sum_by-cons (λ (k : CedeLayer). layer_most k.limit one mean) m ms, here, rest)
-
-  one_more : (l : CedeLayer) (ls : List CedeLayer) (limit : Option ℕ) → l.limit ≡ limit → All (λ m. ¬ Overlap l m) ls
-      → All IsNear (l ∷ ls)
-      → mosts one mean ls ≤ length ls * (2 ^ 22 * one) + mean → mosts one mean (l ∷ ls) ≤ length (l ∷ ls) * (2 ^ 22 * one) + mean
-  one_more l ls None e apart near rest =
-      omega (
-        arith,
-        sum_by-cons (λ (k : CedeLayer). layer_most k.limit one mean) l ls,
-        ap (λ t. layer_most t one mean) e,
-        others_small l ls e apart (All-tail IsNear l ls near),
-      )
-  one_more l ls (Some k) e apart near rest =
-      let limited : l.limit ≡ None → ⊥ = λ none. cc in
-      omega (
-        arith,
-        sum_by-cons (λ (k : CedeLayer). layer_most k.limit one mean) l ls,
-        rest,
-        with_limit l.limit one mean limited (All-head IsNear l ls near),
-      )
+      → All IsNear ls → mosts one mean ls ≤ length ls * (2 ^ 22 * one)
+  others_small l ls none apart near = sum_by-le (λ (k : CedeLayer). layer_most k.limit one mean) (2 ^ 22 * one) ls
+      (λ k d inside. with_limit (get_or ls k d).limit one mean (λ e. apart k d inside
+      (no_top l.limit _ _ none, no_top (get_or ls k d).limit _ _ e)) (near k d inside))
 
   pub mosts_small : (ls : List CedeLayer) → AllPairs (λ l m. ¬ Overlap l m) ls → All IsNear ls
       → mosts one mean ls ≤ length ls * (2 ^ 22 * one) + mean
   mosts_small [] apart near = omega arith
   mosts_small (l ∷ ls) apart near =
-      one_more l ls l.limit refl (first_apart l ls apart) near
-      (mosts_small ls (rest_apart l ls apart) (All-tail IsNear l ls near))
+      let rest = mosts_small ls (rest_apart l ls apart) (All-tail IsNear l ls near) in
+      let one_more = sum_by-cons (λ (k : CedeLayer). layer_most k.limit one mean) l ls in
+      elim (tells_none l.limit) [
+        | inl e ↦
+            let others = others_small l ls e (first_apart l ls apart) (All-tail IsNear l ls near) in
+            omega (arith, ap (λ t. layer_most t one mean) e)
+        | inr some ↦ omega (arith, with_limit l.limit one mean some (All-head IsNear l ls near))
+      ]
 
 -- a limit of a plan's layer is one of any plan's
 near_limit : (limit : Option ℕ) (cells : ℕ) → IfSome limit (λ k. k ≤ most_amount_at cells)
@@ -281,51 +195,30 @@ near_limit (Some k) cells near = le_trans_n near (amount_fits cells)
 pub all_near : (cells : ℕ) (ls : List CedeLayer) → All (IsWithinMostAmount cells) ls → All IsNear ls
 all_near cells ls near = λ i d inside. near_limit (get_or ls i d).limit cells (near i d inside).limit
 
--- the layers of a clause, as seen by a walk
-module _ (clause : Clause) (seen : List CedeLayer) (same : seen ≡ clause.1) where
-  -- at the layer l, the i-th
-  module _ (i : ℕ) (l : CedeLayer) (inside : i < length seen) (is : l ≡ get_or seen i l) where
-    pub each_at : (P : CedeLayer → Type 0) → All P clause.1 → P l
-    each_at P all = subst P (sym is) (subst (λ ls. All P ls) (sym same) all i l inside)
+-- the layers one after another: at the layer l, the i-th
+module _ (layers : List CedeLayer) (i : ℕ) (l : CedeLayer) (inside : i < length layers) (is : l ≡ get_or layers i l) where
+  pub each_at : (P : CedeLayer → Type 0) → All P layers → P l
+  each_at P all = subst P (sym is) (all i l inside)
 
-    pub more_most : (one mean before part : ℕ) → before ≤ mosts one mean (take i seen)
-        → part ≤ layer_most l.limit one mean
-        → before + part ≤ mosts one mean (take (i + 1) seen)
-    more_most one mean before part h k =
-        let f : CedeLayer → ℕ = λ m. layer_most m.limit one mean in
-        omega (arith, h, k, sum_by_more f seen i l inside, ap f is)
+  pub sum_more : (f : CedeLayer → ℕ) {before part : ℕ} → before ≤ sum_by f (take i layers) → part ≤ f l
+      → before + part ≤ sum_by f (take (i + 1) layers)
+  sum_more f h k = omega (arith, sum_by_more f layers i l inside, ap f is)
 
-    pub more_width : (spread before part : ℕ) → before ≤ sum_by (λ m. part_width spread m.limit m.attach) (take i seen)
-        → part ≤ part_width spread l.limit l.attach
-        → before + part ≤ sum_by (λ m. part_width spread m.limit m.attach) (take (i + 1) seen)
-    more_width spread before part h k =
-        let f : CedeLayer → ℕ = λ m. part_width spread m.limit m.attach in
-        omega (arith, h, k, sum_by_more f seen i l inside, ap f is)
-
-  pub most_fits : (one mean n hi : ℕ) → IsClause clause → All IsNear clause.1
-      → hi ≤ mosts one mean (take n seen) → hi ≤ mean + most_limited one
-  most_fits one mean n hi cession near h =
-      let few : length clause.1 * (2 ^ 22 * one) ≤ 16 * (2 ^ 22 * one) = mul-le-mul_right (2 ^ 22 * one) cession.few in
-      omega (
-        arith,
-        h,
-        few,
-        sum_by-take-le (λ (m : CedeLayer). layer_most m.limit one mean) seen n,
-        ap (mosts one mean) same,
-        mosts_small one mean clause.1 cession.apart near,
-      )
+pub most_fits : (clause : Clause) (one mean n hi : ℕ) → IsClause clause → All IsNear clause.1
+    → hi ≤ mosts one mean (take n clause.1) → hi ≤ mean + most_limited one
+most_fits clause one mean n hi cession near h =
+    let few : length clause.1 * (2 ^ 22 * one) ≤ 16 * (2 ^ 22 * one) = mul-le-mul_right (2 ^ 22 * one) cession.few in
+    let less = sum_by-take-le (λ (m : CedeLayer). layer_most m.limit one mean) clause.1 n in
+    omega (arith, mosts_small one mean clause.1 cession.apart near)
 
 -- all of that, in words
 pub limited_fits : (B mean hi : ℕ) → B ≤ 56 → mean ≤ 2 ^ 94 → hi ≤ mean + most_limited (2 ^ B) → hi ≤ 2 ^ 95
-limited_fits B mean hi scale small h = omega (arith, one_fits B scale, small, h)
+limited_fits B mean hi scale small h = omega (arith, one_fits B scale)
 
 pub fine_shares : (layers : List CedeLayer) → IsFineTo30Bits (layer_shares layers) → All (λ l. l.share.den ≤ 2 ^ 30)
     layers
-fine_shares layers fine = λ i d inside.
-    let few : i < length (layer_shares layers) = omega
-    (arith, inside, length-map layers (λ (l : CedeLayer). l.share)) in
-    let divides : (get_or (layer_shares layers) i d.share).den ∣ common_denominator (layer_shares layers) =
-    den_divides 1 (layer_shares layers) i d.share few in
-    let here : (get_or (layer_shares layers) i d.share).den ≡ (get_or layers i d).share.den =
-    ap (λ (x : Fraction). x.den) (get_or-map (λ (l : CedeLayer). l.share) layers i d d.share inside) in
-    omega (arith, fine, here, le_of_dvd (common_pos (layer_shares layers)) divides)
+fine_shares layers fine i d inside =
+    let xs = layer_shares layers in
+    let divides = den_divides 1 xs i d.share (omega (arith, length-map layers (λ (l : CedeLayer). l.share))) in
+    let here = ap (λ (x : Fraction). x.den) (get_or-map (λ (l : CedeLayer). l.share) layers i d d.share inside) in
+    omega (arith, le_of_dvd (common_pos xs) divides)

@@ -11,9 +11,9 @@ whole_spread clause sums =
 
 pub all_spread : {B : ℕ} (clause : Clause) (sums grid : List (Iv B))
     → spread grid ≤ count_below (length sums) (where_whole clause (width_at sums)) → spread grid ≤ 2 * spread sums
-all_spread clause sums grid before = omega (arith, before, whole_spread clause sums)
+all_spread clause sums grid before = omega (arith, whole_spread clause sums)
 
-module _ {B : ℕ} (clause : Clause) (sums grid : List (Iv B)) (t : ℕ) (at : t < length grid)
+module _ {B : ℕ} {clause : Clause} {sums grid : List (Iv B)} {t : ℕ} (at : t < length grid)
     (taken : IsTakenIn clause sums grid t) where
   wide : sum_elsewhere clause (length sums) (high_at sums) t
       ≡ sum_elsewhere clause (length sums) (low_at sums) t + sum_elsewhere clause (length sums) (width_at sums) t
@@ -23,26 +23,17 @@ module _ {B : ℕ} (clause : Clause) (sums grid : List (Iv B)) (t : ℕ) (at : t
   pub rest_mass : (lo : ℕ) → mass_low grid ≤ count_below (length sums) (where_whole clause (low_at sums))
       → sum_elsewhere clause (length sums) (low_at sums) t ≤ 2 ^ B
       → lo ≡ 2 ^ B - sum_elsewhere clause (length sums) (high_at sums) t → mass_low grid - low_at grid t + lo ≤ 2 ^ B
-  rest_mass lo mass fits e = omega (
-    arith,
-    mass,
-    fits,
-    e,
-    taken.low,
-    wide,
-    kept_or_elsewhere clause (low_at sums) (length sums) t,
-  )
+  rest_mass lo mass fits e = omega (arith, wide, kept_or_elsewhere clause (low_at sums) (length sums) t)
 
   module _ (v : Iv B) (low : v.lo ≡ 2 ^ B - sum_elsewhere clause (length sums) (high_at sums) t)
       (high : v.hi ≡ 2 ^ B - sum_elsewhere clause (length sums) (low_at sums) t) where
     pub rest_spread : spread grid ≤ count_below (length sums) (where_whole clause (width_at sums))
         → spread (set grid t v) ≤ 2 * spread sums
     rest_spread before =
-        let whole : count_below (length sums) (where_whole clause (width_at sums)) ≤ spread sums =
-        whole_spread clause sums in
-        let rest : v.hi - v.lo ≤ spread sums = omega
-        (arith, low, high, wide, whole, kept_or_elsewhere clause (width_at sums) (length sums) t) in
-        omega (arith, spread_set grid t v at, before, whole, rest)
+        let whole = whole_spread clause sums in
+        let parts = kept_or_elsewhere clause (width_at sums) (length sums) t in
+        let rest : v.hi - v.lo ≤ spread sums = omega (arith, wide) in
+        omega (arith, spread_set grid t v at)
 
     pub rest_left : sum_elsewhere clause (length sums) (low_at sums) t ≤ 2 ^ B → (y : ℕ) → t ≡ y
         → IsLeft clause sums (set grid t v) y

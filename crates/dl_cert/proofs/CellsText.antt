@@ -1,7 +1,5 @@
 -- The text of cells, cell by cell.
-use Rattle.std.proofs.Common.{ℕ, zero, suc, ◌≡◌, ◌+◌, ◌∙◌, sym, ap, refl, [], ◌++◌, append_assoc, add-one, append-nil}
-use Rattle.dl_cert.specs.Written.{cell_text}
-unfoldable use Rattle.dl_cert.specs.Written.{cells_text}
+use Rattle.dl_cert.proofs.Common.{ℕ, zero, suc, ◌≡◌, ◌+◌, ◌∙◌, sym, ap, refl, [], ◌++◌, append_assoc, add-one, append-nil, cell_text, cells_text}
 
 pub no_cells : (lo hi : ℕ → ℕ) → cells_text lo hi 0 ≡ []
 unfolding cells_text

@@ -1,16 +1,7 @@
 -- Steps that end at the target are a certificate, and a short one.
-use Rattle.std.proofs.Common.{ℕ, ◌≡◌, ◌+◌, ◌*◌, ◌≤◌, ◌∙◌, suc, refl, sym, ap, subst, arith, mul-le-mul, List, [], ◌∷◌, ◌++◌, length, take, length-append}
-use Rattle.std.proofs.lemmas.List.{take_more, take_all}
-use Rattle.dl_iv.specs.declared.interval.Iv.{Iv}
-use Rattle.dl_plan.specs.declared.plan.Plan.{Plan}
-use Rattle.dl_cert.specs.Covered.{IsCovered}
-use Rattle.dl_cert.specs.Lines.{lines_of, AreSteps}
-use Rattle.dl_cert.specs.Passes.{made_after}
-use Rattle.dl_cert.specs.Steps.{Step, Made, made_at, made_by}
-use Rattle.dl_cert.specs.Targets.{target}
-use Rattle.dl_cert.specs.Verified.{IsCertificate}
-use Rattle.dl_cert.specs.Written.{IsWritten, EndsWith}
+use Rattle.dl_cert.proofs.Common.{ℕ, ◌≡◌, ◌+◌, ◌*◌, ◌≤◌, ◌∙◌, suc, refl, sym, ap, subst, arith, mul-le-mul, List, [], ◌∷◌, ◌++◌, length, take, take_more, take_all, Iv, Plan, IsCovered, lines_of, AreSteps, Made, made_at, target, IsCertificate, IsWritten, EndsWith}
 use Rattle.dl_cert.proofs.WrittenSteps.{text_spells, text_short}
+use Rattle.dl_cert.proofs.Passings.{made_many}
 
 last_apart : (made : List Made) (k : ℕ) → suc k ≡ length made → made ≡ take k made ++ made_at made k ∷ []
 last_apart made k last =
@@ -39,14 +30,9 @@ is_certificate plan text count k cells covered e =
       exact = w.exact;
     }
 
-made_long : (before : List Made) (steps : List Step) → length (made_after before steps) ≡ length before + length steps
-made_long before [] = omega arith
-made_long before (step ∷ steps) =
-    omega (arith, made_long (before ++ made_by before step ∷ []) steps, length-append before (made_by before step ∷ []))
-
 pub is_short : (plan : Plan) (text : List ℕ) (count : ℕ) (made : List Made) → IsWritten plan text count made
     → plan.cells ≤ 1024 → count ≤ 577 → length text ≤ 66000000
 is_short plan text count made w few most =
-    let many : length w.steps ≤ 577 = omega (arith, made_long [] w.steps, ap length w.makes, w.many, most) in
+    let many : length w.steps ≤ 577 = omega (arith, made_many [] w.steps, ap length w.makes, w.many, most) in
     let line : 26 + 36 * plan.cells ≤ 36890 = omega (arith, few) in
     omega (arith, ap length w.lines, text_short plan w.steps w.can_be, mul-le-mul many line)

@@ -1,27 +1,19 @@
 -- The number that digits write, digit by digit.
-use Rattle.std.proofs.Common.{rules, ℕ, true, false, ◌≡◌, ◌+◌, ◌-◌, ◌*◌, ◌<◌, ◌≤◌, ◌^◌, ◌∙◌, arith, inl, inr, sym, List, length, take, get_or}
-use Rattle.std.proofs.lemmas.Bool.{cases_Bool}
-use Rattle.std.proofs.lemmas.Bool.Decides.{nat_tests}
+use Rattle.dl_cert.proofs.Common.{Bool, list_any, list_any_none, AllPass-from_list_all, rules, ℕ, true, false, ◌≡◌, ◌+◌, ◌-◌, ◌*◌, ◌<◌, ◌≤◌, ◌^◌, arith, List, length, take, get_or, nat_tests, digits_value-take-le, digits_value_short, numerals_by_value, IsNumeralModel, is_ascii_digit, digit_value, list_all, digits_value}
 use Rattle.std.proofs.lemmas.Int.Digits.{digits_value_more}
-use Rattle.std.proofs.lemmas.List.Folds.{list_all_at}
-use Rattle.std.proofs.lemmas.Str.Parse.{digits_value-take-le, digits_value_short, numerals_by_value, IsNumeralModel}
-use Rattle.std.specs.Char.{is_ascii_digit, digit_value}
-use Rattle.std.specs.List.{list_all}
-use Rattle.std.specs.Str.Parse.{digits_value}
 
-own : IsNumeralModel (λ ds. list_all is_ascii_digit ds ≡ true) (digits_value 10)
+pub own : IsNumeralModel (λ ds. list_all is_ascii_digit ds ≡ true) (digits_value 10)
 own = numerals_by_value _ (search rules)
+
+-- digits have none of what no digit is
+pub lacked : (p : ℕ → Bool) → ((byte : ℕ) → is_ascii_digit byte ≡ true → p byte ≡ false) → (ds : List ℕ)
+    → list_all is_ascii_digit ds ≡ true → list_any p ds ≡ false
+lacked p h ds all = list_any_none p ds (λ k d inside. h _ (AllPass-from_list_all is_ascii_digit ds all k d inside))
 
 -- each byte of digits is one
 pub digit_at : (text : List ℕ) (i : ℕ) → list_all is_ascii_digit text ≡ true → i < length text
     → is_ascii_digit (get_or text i 0) ≡ true
-digit_at text i all inside = elim (cases_Bool (is_ascii_digit (get_or text i 0))) [
-  | inl is ↦ is
-  | inr other ↦ absurd (clash (sym all ∙ list_all_at is_ascii_digit text i 0 inside other))
-]
-  where
-    clash : true ≡ false → ⊥
-    clash e = cc
+digit_at text i all inside = AllPass-from_list_all is_ascii_digit text all i 0 inside
 
 pub digit_worth : (byte : ℕ) → is_ascii_digit byte ≡ true → digit_value byte + 48 ≡ byte
 digit_worth byte h = grind (arith, nat_tests)

@@ -1,20 +1,5 @@
 -- What all steps of a text come to, and where they end.
-use Rattle.std.proofs.Common.{ℕ, zero, suc, ◌≡◌, ◌+◌, ◌<◌, ◌≤◌, ◌^◌, ◌∙◌, inl, inr, refl, sym, ap, ap₂, subst, arith, List, [], ◌∷◌, ◌++◌, length, get_or, take, drop, append-nil, length-append}
-use Rattle.std.specs.Prelude.{map, All, ◌↔◌}
-use Rattle.std.proofs.Math.Seq.{get_or-append_seam}
-use Rattle.std.proofs.lemmas.Bool.{cases_lt}
-use Rattle.std.proofs.lemmas.List.{take_more, take_all, drop_all, length-map}
-use Rattle.std.proofs.lemmas.List.Elements.{All-nil, All-cons}
-use Rattle.dl_iv.specs.declared.interval.Iv.{Iv}
-use Rattle.dl_plan.specs.declared.plan.Plan.{Plan}
-use Rattle.dl_plan.specs.declared.plan.Unit.{Unit as UnitOfPlan}
-use Rattle.dl_cert.specs.Kept.{label_at, HasPassedTo}
-unfoldable use Rattle.dl_cert.specs.Lines.{lines_of, AreCells, AreSteps}
-use Rattle.dl_cert.specs.Lines.{with_byte, IsStep}
-use Rattle.dl_cert.specs.Passes.{made_after}
-use Rattle.dl_cert.specs.Steps.{Step, Made, made_at}
-use Rattle.dl_cert.specs.Targets.{unit_parts, target}
-use Rattle.dl_cert.specs.Verified.{IsBadStep, EndsAtTarget, Verifies}
+use Rattle.dl_cert.proofs.Common.{get_or_past, ℕ, ◌≡◌, ◌+◌, ◌<◌, ◌≤◌, ◌^◌, ◌∙◌, inl, inr, refl, sym, ap, ap₂, subst, arith, List, [], ◌∷◌, ◌++◌, length, get_or, take, drop, append-nil, length-append, map, All, ◌↔◌, get_or-append_seam, cases_lt, take_more, take_all, drop_all, length-map, All-nil, All-cons, Iv, Plan, label_at, HasPassedTo, lines_of, AreCells, AreSteps, with_byte, IsStep, made_after, Step, Made, made_at, unit_parts, target, IsBadStep, EndsAtTarget, Verifies}
 use Rattle.dl_cert.proofs.LineLists.{no_lines, line_or_more}
 use Rattle.dl_cert.proofs.Readings.{begun}
 use Rattle.dl_cert.proofs.Passings.{counted}
@@ -101,16 +86,12 @@ module _ (plan : Plan) (text places labels : List ℕ) (passed : HasPassedTo pla
         made = sym (take_all (n + 1) made (omega (arith, is, passed.kept.many))) ∙ take_more made n _ within;
         label = λ i. elim (cases_lt i (length plan.units)) [
           | inl inside ↦ passed.kept.counts n i within inside ∙ label i inside
-          | inr past ↦ passed.kept.others n i past ∙ sym (past_units plan.units i past)
+          | inr past ↦ passed.kept.others n i past ∙ sym (get_or_past (map unit_parts plan.units) i 0
+              (omega (arith, length-map plan.units unit_parts, past)))
         ];
         cells = cells;
       };
     }
-      where
-        past_units : (us : List UnitOfPlan) (i : ℕ) → length us ≤ i → get_or (map unit_parts us) i 0 ≡ 0
-        past_units [] i h = refl
-        past_units (u ∷ us) zero h = absurd (omega (arith, h))
-        past_units (u ∷ us) (suc i) h = past_units us i (omega (arith, h))
 
 none_spelled : AreSteps [] []
 unfolding AreSteps
@@ -142,13 +123,7 @@ few_steps plan text places labels passed =
 pub by_targets : (plan : Plan) (targets labels read : List ℕ) (n : ℕ) → targets ≡ map unit_parts plan.units → read ≡ labels
     → ((i : ℕ) → i < length targets → label_at read (length targets) n i ≡ get_or targets i 0)
     ↔ ((i : ℕ) → i < length plan.units → label_at labels (length plan.units) n i ≡ target plan i)
-by_targets plan targets labels read n is same =
-    let long : length targets ≡ length plan.units = ap length is ∙ length-map plan.units unit_parts in (
-      λ all i inside. ap₂ (λ l u. label_at l u n i) (sym same) (sym long) ∙ all i (omega (arith, inside, long))
-          ∙ ap (λ l. get_or l i 0) is,
-      λ all i inside. ap₂ (λ l u. label_at l u n i) same long ∙ all i (omega (arith, inside, long))
-          ∙ ap (λ l. get_or l i 0) (sym is),
-    )
+by_targets plan targets labels read n is same = rw (is, same, length-map plan.units unit_parts) (λ h. h, λ h. h)
 
 -- there are at most as many steps as bytes
 pub steps_before : (plan : Plan) (text places labels : List ℕ) (place : ℕ) → HasPassedTo plan text place places labels

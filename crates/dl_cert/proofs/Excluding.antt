@@ -1,13 +1,5 @@
 -- A text whose steps certify a total has no bad step.
-use Rattle.std.proofs.Common.{ℕ, zero, suc, ◌≡◌, ◌<◌, inl, inr, refl, ap₂, subst, arith, List, [], ◌∷◌, ◌++◌, length, get_or, take}
-use Rattle.std.proofs.lemmas.List.{take_all}
-use Rattle.dl_iv.specs.declared.interval.Iv.{Iv}
-use Rattle.dl_plan.specs.declared.plan.Plan.{Plan}
-unfoldable use Rattle.dl_cert.specs.Lines.{AreSteps}
-use Rattle.dl_cert.specs.Lines.{lines_of}
-use Rattle.dl_cert.specs.Passes.{AllPass, made_after}
-use Rattle.dl_cert.specs.Steps.{Step, Made, made_by}
-use Rattle.dl_cert.specs.Verified.{Verifies, IsBadStep, IsBadLine, EndsAtTarget}
+use Rattle.dl_cert.proofs.Common.{ℕ, zero, suc, ◌≡◌, ◌<◌, inl, inr, refl, ap₂, subst, arith, List, [], ◌∷◌, ◌++◌, length, get_or, take, take_all, Iv, Plan, AreSteps, lines_of, AllPass, made_after, Step, Made, made_by, Verifies, IsBadStep, IsBadLine, EndsAtTarget}
 use Rattle.dl_cert.proofs.Readings.{step_is}
 
 -- lines spell at most one list of steps

@@ -1,19 +1,7 @@
 -- Labels: of no unit, of one unit, and of two labels together.
-use Rattle.std.proofs.lemmas.Bool.{cases_eq, eq-eqb, ne_eqb}
-use Rattle.std.proofs.Common.{cond, ℕ, zero, suc, ◌≡◌, ◌<◌, ◌∙◌, inl, inr, refl, sym, ap, ap₂, arith, List, [], ◌∷◌, length, get_or}
-use Rattle.dl_exact.specs.Fraction.{Fraction, whole}
-unfoldable use Rattle.dl_exact.specs.Fraction.{◌*ℚ◌}
-unfoldable use Rattle.dl_exact.specs.Power.{◌^ℚ◌}
-use Rattle.dl_exact.proofs.Laws.{ring, one_times, times_one}
+use Rattle.dl_cert.proofs.Common.{cases_eq, eq-eqb, ne_eqb, cond, ℕ, zero, suc, ◌≡◌, ◌<◌, ◌∙◌, inl, inr, refl, sym, ap, ap₂, arith, List, [], ◌∷◌, length, get_or, Fraction, whole, ◌*ℚ◌, ◌^ℚ◌, ring, one_times, times_one, convolve, at_zero, power, Family, product, nothing, Encloses, encloses_same, itself_one, fun_ext, labelled, Label, no_unit, once, together}
 use Rattle.dl_exact.proofs.Powers.{pow_plus}
-use Rattle.dl_model.specs.Compound.{convolve}
-unfoldable use Rattle.dl_model.specs.Compound.{at_zero, power}
-use Rattle.dl_model.specs.Family.{Family, product, nothing, Encloses}
 use Rattle.dl_model.proofs.Powers.{convolve_comm, convolve_assoc, at_zero_convolve, power_plus}
-use Rattle.dl_model.proofs.FamilyLaws.{encloses_same, itself_one}
-use mathlib.Core.Path.{fun_ext}
-unfoldable use Rattle.dl_cert.specs.Labels.{labelled}
-use Rattle.dl_cert.specs.Labels.{Label, no_unit, once, together}
 
 -- two convolutions of two each, exchanged
 exchange : (a b x y : ℕ → Fraction)

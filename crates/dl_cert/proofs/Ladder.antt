@@ -1,29 +1,5 @@
 -- Steps of each kind whose ends are their numbers, and what they count.
-use Rattle.std.proofs.Common.{ℕ, zero, suc, ◌≡◌, ◌+◌, ◌*◌, ◌/◌, ◌<◌, ◌≤◌, ◌^◌, ◌∙◌, inl, inr, refl, sym, ap, ap₂, subst, arith, List, [], ◌∷◌, ◌++◌, length, map, get_or, append_assoc, append-nil, Option, Some, None, pow-suc}
-use Rattle.std.proofs.lemmas.Bool.{cases_eq, cases_lt, eq-eqb, ne_eqb, lt-ltb, le-ltb}
-use Rattle.std.proofs.lemmas.List.{get_or_past, length-map}
-use Rattle.std.proofs.lemmas.Nat.{pow_pos}
-use borrow.Author.Count.{below_more as more_below}
-use Rattle.dl_limits.specs.Limits.{most_cert_cells}
-unfoldable use Rattle.dl_limits.specs.Limits.{most_cells_at}
-use Rattle.dl_grid.specs.Room.{IsGridSize}
-use Rattle.dl_iv.specs.declared.interval.Iv.{Iv}
-use Rattle.dl_grid.specs.Cells.{low_at, high_at, all_at_zero, IsGrid}
-use Rattle.dl_grid.specs.Convolution.{IsConvolution}
-use Rattle.dl_plan.specs.declared.plan.Plan.{Plan}
-use Rattle.dl_plan.specs.declared.plan.Unit.{Unit as UnitOfPlan}
-use Rattle.dl_plan.specs.Means.{thinned_mean}
-use Rattle.dl_plan.specs.Valid.{IsValid}
-use Rattle.dl_cert.specs.declared.steps.Factor.{Factor}
-use Rattle.dl_cert.specs.declared.step.Kind.TheVariants.{One, Start, Times}
-use Rattle.dl_cert.specs.Labels.{Label, together, no_unit}
-use Rattle.dl_cert.specs.Numbers.{low_start, high_start}
-use Rattle.dl_cert.specs.Starts.{IsExactStart}
-use Rattle.dl_cert.specs.Steps.{Made}
-use Rattle.dl_cert.specs.Targets.{target, unit_parts}
-use Rattle.std.proofs.lemmas.List.Elements.{All-nil}
-unfoldable use Rattle.dl_cert.specs.Written.{text_of}
-use Rattle.dl_cert.specs.Written.{line_of, CanBeWritten, IsWritten, IsMade, EndsWith, often, first_of, IsSum, IsBefore}
+use Rattle.dl_cert.proofs.Common.{fun_ext, get_or-map, ℕ, zero, suc, ◌≡◌, ◌+◌, ◌*◌, ◌/◌, ◌<◌, ◌≤◌, ◌^◌, ◌∙◌, inl, inr, refl, sym, ap, ap₂, subst, arith, List, [], ◌∷◌, ◌++◌, length, map, get_or, append_assoc, append-nil, Option, Some, None, pow-suc, cases_eq, cases_lt, eq-eqb, ne_eqb, lt-ltb, le-ltb, get_or_past, length-map, pow_pos, more_below, most_cert_cells, most_cells_at, IsGridSize, Iv, low_at, high_at, all_at_zero, IsGrid, IsConvolution, Plan, UnitOfPlan, thinned_mean, IsValid, Factor, One, Start, Times, Label, together, no_unit, low_start, high_start, IsExactStart, Made, target, unit_parts, All-nil, text_of, line_of, CanBeWritten, IsWritten, IsMade, EndsWith, often, first_of, IsSum, IsBefore}
 use Rattle.dl_cert.proofs.WrittenSteps.{exact_step, made_kept}
 
 -- ---- labels
@@ -43,16 +19,9 @@ often_both u m n k e i = elim (cases_eq i u) [
 pub both_le : (u m n k : ℕ) (most : Label) → m + n ≡ k → k ≤ most u → (i : ℕ) → often u m i + often u n i ≤ most i
 both_le u m n k most e h i = omega (arith, often_both u m n k e i, often_le u k most h i)
 
--- what a unit's name reads
-pub read : {A : Type 0} (units : List UnitOfPlan) (u : ℕ) (d : UnitOfPlan) (f : UnitOfPlan → A) (e : A)
-    → u < length units → get_or (map f units) u e ≡ f (get_or units u d)
-read [] u d f e h = absurd (omega (arith, h))
-read (x ∷ xs) zero d f e h = refl
-read (x ∷ xs) (suc u) d f e h = read xs u d f e (omega (arith, h))
-
 pub target_is : (plan : Plan) (u : ℕ) (unit : UnitOfPlan) → u < length plan.units → unit ≡ get_or plan.units u unit
     → target plan u ≡ unit_parts unit
-target_is plan u unit inside here = read plan.units u unit unit_parts 0 inside ∙ ap unit_parts (sym here)
+target_is plan u unit inside here = get_or-map unit_parts plan.units u unit 0 inside ∙ ap unit_parts (sym here)
 
 module _ (plan : Plan) where
   -- ---- what was written before, and what came later
@@ -60,37 +29,27 @@ module _ (plan : Plan) where
   pub joined : (text : List ℕ) (count : ℕ) (made later : List Made) (k : ℕ) (cells : List (Iv 56)) (x y : Label)
       → EndsWith plan text count (made ++ later) k cells x → ((i : ℕ) → x i ≡ y i)
       → EndsWith plan text count made k cells y
-  joined text count made later k cells x y e same =
-      let one_list = append_assoc made later e.later in
-      record {
-        later = later ++ e.later;
-        written = subst (IsWritten plan text count) one_list e.written;
-        step = subst (λ m. IsMade m k cells y) one_list
-            (record { there = e.step.there; same = e.step.same; label_is = λ i. e.step.label_is i ∙ same i });
-        last = subst (λ m. suc k ≡ length m) one_list e.last;
-      }
+  joined text count made later k cells x y e same = subst (EndsWith plan text count made k cells) (fun_ext same) (record {
+    later = later ++ e.later;
+    written = rw (← append_assoc made later e.later) e.written;
+    step = rw (← append_assoc made later e.later) e.step;
+    last = rw (← append_assoc made later e.later) e.last;
+  })
 
   -- the same label, written otherwise
   pub renamed : (text : List ℕ) (count : ℕ) (made : List Made) (k : ℕ) (cells : List (Iv 56)) (x y : Label)
       → EndsWith plan text count made k cells x → ((i : ℕ) → x i ≡ y i) → EndsWith plan text count made k cells y
-  renamed text count made k cells x y e same = record {
-    later = e.later;
-    written = e.written;
-    step = record { there = e.step.there; same = e.step.same; label_is = λ i. e.step.label_is i ∙ same i };
-    last = e.last;
-  }
+  renamed text count made k cells x y e same = subst (EndsWith plan text count made k cells) (fun_ext same) e
 
   pub already : (text : List ℕ) (count : ℕ) (made : List Made) (k : ℕ) (cells : List (Iv 56)) (x : Label)
       → IsWritten plan text count made → IsMade made k cells x → suc k ≡ length made
       → EndsWith plan text count made k cells x
-  already text count made k cells x w m last =
-      let same = sym (append-nil made) in
-      record {
-        later = [];
-        written = subst (IsWritten plan text count) same w;
-        step = subst (λ l. IsMade l k cells x) same m;
-        last = subst (λ l. suc k ≡ length l) same last;
-      }
+  already text count made k cells x w m last = record {
+    later = [];
+    written = rw (append-nil made) w;
+    step = rw (append-nil made) m;
+    last = rw (append-nil made) last;
+  }
 
   -- ---- a step of each kind
 
@@ -121,10 +80,12 @@ module _ (plan : Plan) where
       (λ i. refl) (often_le u 1 (target plan) counted)
       (record {
         low = λ y below. exact.low y (omega (arith, below, long))
-            ∙ sym (read plan.units u unit (λ (z : UnitOfPlan). low_start z.freq z.sev (thinned_mean z) (low_at g) y) 0 inside
+            ∙ sym (get_or-map (λ (z : UnitOfPlan). low_start z.freq z.sev (thinned_mean z) (low_at g) y) plan.units u unit 0
+            inside
             ∙ ap (λ (z : UnitOfPlan). low_start z.freq z.sev (thinned_mean z) (low_at g) y) (sym here));
         high = λ y below. exact.high y (omega (arith, below, long))
-            ∙ sym (read plan.units u unit (λ (z : UnitOfPlan). high_start z.freq z.sev (thinned_mean z) (high_at g) y) 0 inside
+            ∙ sym (get_or-map (λ (z : UnitOfPlan). high_start z.freq z.sev (thinned_mean z) (high_at g) y) plan.units u unit 0
+            inside
             ∙ ap (λ (z : UnitOfPlan). high_start z.freq z.sev (thinned_mean z) (high_at g) y) (sym here));
       })
 

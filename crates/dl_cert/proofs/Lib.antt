@@ -1,3 +1,4 @@
+mod Common
 pub mod SameProducts
 pub mod Labelled
 pub mod Values
@@ -9,8 +10,6 @@ pub mod Digits
 pub mod CellsText
 pub mod Printed
 pub mod WrittenSteps
-pub mod OneTrial
-pub mod ExactStarts
 pub mod Ladder
 pub mod SeveralFacts
 pub mod Certificates
@@ -21,8 +20,8 @@ pub mod Weights
 pub mod Outside
 pub mod UnitBases
 pub mod LineLists
-pub mod Options
 pub mod Tests
 pub mod Passings
 pub mod Endings
 pub mod Excluding
+pub mod StartGrids

@@ -1,21 +1,12 @@
 -- The lines of a text, one after the other.
-use Rattle.std.proofs.Common.{ℕ, suc, false, true, ◌≡◌, ◌+◌, ◌<◌, ◌≤◌, ◌∙◌, refl, sym, ap, ap₂, arith, inl, inr, List, [], ◌∷◌, ◌++◌, length, take, drop, get_or, ◌-◌, ◌⊎◌}
-use Rattle.std.specs.List.{position_or_len}
-use Rattle.std.proofs.lemmas.Bool.{cases_lt, cases_Bool}
-use Rattle.std.proofs.lemmas.Bool.Decides.{nat_tests}
-use Rattle.std.proofs.lemmas.List.{take_all, drop_all, drop-drop, length-take, get_or-take}
-use Rattle.std.proofs.Common.{length-drop}
-use Rattle.std.proofs.lemmas.List.Sums.{split_at_first, passes_at_first, fails_before_first}
-unfoldable use Rattle.dl_cert.specs.Lines.{lines_of}
-use Rattle.dl_cert.specs.Lines.{with_byte}
-use Rattle.dl_cert.specs.Reading.{is_newline, line_from}
+use Rattle.dl_cert.proofs.Common.{ℕ, suc, false, true, ◌≡◌, ◌+◌, ◌<◌, ◌≤◌, ◌∙◌, refl, sym, ap, ap₂, arith, inl, inr, List, [], ◌∷◌, ◌++◌, length, take, drop, get_or, ◌-◌, ◌⊎◌, position_or_len, cases_lt, cases_Bool, nat_tests, take_all, drop_all, drop-drop, length-take, get_or-take, length-drop, split_at_first, passes_at_first, fails_before_first, lines_of, with_byte, is_newline, line_from}
 
 other_byte : (x : ℕ) (xs : List ℕ) → is_newline x ≡ false → lines_of (x ∷ xs) ≡ with_byte x (lines_of xs)
 unfolding lines_of
 other_byte x xs h = rw h refl
 
 -- a line, its newline and what follows
-line_and_rest : (front rest : List ℕ) → ((k : ℕ) → k < length front → is_newline (get_or front k 0) ≡ false)
+pub line_and_rest : (front rest : List ℕ) → ((k : ℕ) → k < length front → is_newline (get_or front k 0) ≡ false)
     → lines_of (front ++ 10 ∷ rest) ≡ front ∷ lines_of rest
 unfolding lines_of
 line_and_rest [] rest none = refl

@@ -1,23 +1,8 @@
 -- The numbers that the cells of a start are compared with, and cells that pass one after the other.
-use Rattle.std.proofs.Common.{ℕ, zero, suc, ◌≡◌, ◌≢◌, ◌⊎◌, ◌+◌, ◌-◌, ◌<◌, ◌≤◌, ◌∙◌, inl, inr, refl, sym, ap, subst, subst₂, arith, Bool, true, false, List, length, get_or}
-use Rattle.std.proofs.lemmas.Bool.{cases_lt}
-use Rattle.dl_limits.specs.Limits.{most_cert_cells}
-unfoldable use Rattle.dl_limits.specs.Limits.{most_cells_at}
-use Rattle.dl_grid.specs.Room.{IsGridSize}
-use Rattle.dl_exact.specs.Fraction.{Fraction, whole, ◌≤ℚ◌}
-use Rattle.dl_exact.proofs.Laws.{one_pos}
-use Rattle.dl_exact.proofs.Over.{over_self, over_le}
-use Rattle.dl_iv.specs.declared.interval.Iv.{Iv}
-use Rattle.dl_grid.specs.Cells.{low_at, high_at}
+use Rattle.dl_cert.proofs.Common.{ℕ, zero, suc, ◌≡◌, ◌≢◌, ◌⊎◌, ◌+◌, ◌-◌, ◌<◌, ◌≤◌, ◌∙◌, inl, inr, refl, sym, ap, subst, subst₂, arith, Bool, true, false, List, length, get_or, cases_lt, most_cert_cells, most_cells_at, IsGridSize, Fraction, whole, ◌≤ℚ◌, one_pos, over_self, over_le, Iv, low_at, high_at, low_next, high_next, Sev, Base, Share, one, low_share, high_share, low_base, high_base, PassesTo}
 use Rattle.dl_grid.proofs.CellLaws.{low_at_get, high_at_get}
-use Rattle.dl_panjer.specs.Cells.{low_next, high_next}
 use Rattle.dl_panjer.proofs.Steps.{low_next_same, high_next_same}
-use Rattle.dl_plan.specs.declared.severity.Sev.{Sev}
-use Rattle.dl_cert.specs.declared.base.Base.{Base}
-use Rattle.dl_cert.specs.declared.base.Share.{Share}
 use Rattle.dl_cert.specs.declared.base.Base.TheVariants.{Nothing, Trial, Poisson, Geometric}
-use Rattle.dl_cert.specs.Numbers.{one}
-use Rattle.dl_cert.specs.Bases.{low_share, high_share, low_base, high_base, PassesTo}
 
 pub within_one : (x : Fraction) → x.num ≤ x.den → x ≤ℚ whole 1
 within_one x h =
@@ -25,54 +10,34 @@ within_one x h =
 
 -- ---- a share
 
-pub low_share_next : (b : Bool) (share : Share) (ends : ℕ → ℕ) (n : ℕ) → n ≢ 0
-    → low_share b share ends n ≡ low_next b share.positive.items share.positive.total share.rate ends (n - 1)
-low_share_next b share ends zero some = absurd (some refl)
-low_share_next b share ends (suc n) some =
-    let e : n ≡ suc n - 1 = omega arith in
-    ap (low_next b share.positive.items share.positive.total share.rate ends) e
+-- the number of a cell behind another
+pub share_next : (b : Bool) (share : Share) (lo hi : ℕ → ℕ) (n : ℕ) → n ≢ 0
+    → (low_share b share lo n ≡ low_next b share.positive.items share.positive.total share.rate lo (n - 1)) ×
+    (high_share b share hi n ≡ high_next one b share.positive.items share.positive.total share.rate hi (n - 1))
+share_next b share lo hi zero some = absurd (some refl)
+share_next b share lo hi (suc n) some =
+    let e : n ≡ suc n - 1 = omega arith in (
+      ap (low_next b share.positive.items share.positive.total share.rate lo) e,
+      ap (high_next one b share.positive.items share.positive.total share.rate hi) e,
+    )
 
-pub high_share_next : (b : Bool) (share : Share) (ends : ℕ → ℕ) (n : ℕ) → n ≢ 0
-    → high_share b share ends n ≡ high_next one b share.positive.items share.positive.total share.rate ends (n - 1)
-high_share_next b share ends zero some = absurd (some refl)
-high_share_next b share ends (suc n) some =
-    let e : n ≡ suc n - 1 = omega arith in
-    ap (high_next one b share.positive.items share.positive.total share.rate ends) e
-
-pub low_share_first : (b : Bool) (share : Share) (ends : ℕ → ℕ) (n : ℕ) → n ≡ 0 → share.first.lo ≡ low_share b share ends n
-low_share_first b share ends n none = ap (low_share b share ends) (sym none)
-
-pub high_share_first : (b : Bool) (share : Share) (ends : ℕ → ℕ) (n : ℕ) → n ≡ 0
-    → share.first.hi ≡ high_share b share ends n
-high_share_first b share ends n none = ap (high_share b share ends) (sym none)
-
-low_share_same : (b : Bool) (share : Share) (f g : ℕ → ℕ) (y : ℕ) → ((k : ℕ) → k < y → f k ≡ g k)
-    → low_share b share f y ≡ low_share b share g y
-low_share_same b share f g zero same = refl
-low_share_same b share f g (suc s) same =
-    low_next_same b share.positive.items share.positive.total share.rate f g s (λ k near. same k (omega (arith, near)))
-
-high_share_same : (b : Bool) (share : Share) (f g : ℕ → ℕ) (y : ℕ) → ((k : ℕ) → k < y → f k ≡ g k)
-    → high_share b share f y ≡ high_share b share g y
-high_share_same b share f g zero same = refl
-high_share_same b share f g (suc s) same =
-    high_next_same one b share.positive.items share.positive.total share.rate f g s
-    (λ k near. same k (omega (arith, near)))
+share_same : (b : Bool) (share : Share) (f g : ℕ → ℕ) (y : ℕ) → ((k : ℕ) → k < y → f k ≡ g k)
+    → (low_share b share f y ≡ low_share b share g y) × (high_share b share f y ≡ high_share b share g y)
+share_same b share f g zero same = (refl, refl)
+share_same b share f g (suc s) same =
+    let S = share.positive in
+    let near : (k : ℕ) → k ≤ s → f k ≡ g k = λ k h. same k (omega (arith, h)) in (
+      low_next_same b S.items S.total share.rate f g s near,
+      high_next_same one b S.items S.total share.rate f g s near,
+    )
 
 -- only the ends before a cell count
-pub low_base_same : (base : Base) (sev : Sev) (f g : ℕ → ℕ) (y : ℕ) → ((k : ℕ) → k < y → f k ≡ g k)
-    → low_base base sev f y ≡ low_base base sev g y
-low_base_same Nothing sev f g y same = refl
-low_base_same (Trial chance) sev f g y same = refl
-low_base_same (Poisson share) sev f g y same = low_share_same true share f g y same
-low_base_same (Geometric share) sev f g y same = low_share_same false share f g y same
-
-pub high_base_same : (base : Base) (sev : Sev) (f g : ℕ → ℕ) (y : ℕ) → ((k : ℕ) → k < y → f k ≡ g k)
-    → high_base base sev f y ≡ high_base base sev g y
-high_base_same Nothing sev f g y same = refl
-high_base_same (Trial chance) sev f g y same = refl
-high_base_same (Poisson share) sev f g y same = high_share_same true share f g y same
-high_base_same (Geometric share) sev f g y same = high_share_same false share f g y same
+pub base_same : (base : Base) (sev : Sev) (f g : ℕ → ℕ) (y : ℕ) → ((k : ℕ) → k < y → f k ≡ g k)
+    → (low_base base sev f y ≡ low_base base sev g y) × (high_base base sev f y ≡ high_base base sev g y)
+base_same Nothing sev f g y same = (refl, refl)
+base_same (Trial chance) sev f g y same = (refl, refl)
+base_same (Poisson share) sev f g y same = share_same true share f g y same
+base_same (Geometric share) sev f g y same = share_same false share f g y same
 
 -- ---- one cell more
 

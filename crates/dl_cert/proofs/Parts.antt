@@ -1,37 +1,12 @@
 -- A start that passes encloses the part of its unit.
-use Rattle.std.proofs.Common.{ℕ, zero, suc, ◌≡◌, ◌⊎◌, ◌<◌, ◌≤◌, ◌^◌, inl, inr, refl, sym, subst, arith}
-use Rattle.std.proofs.lemmas.Bool.{cases_eq, eq-eqb, ne_eqb}
-use Rattle.dl_exact.specs.Fraction.{Fraction, whole}
-unfoldable use Rattle.dl_exact.specs.Fraction.{◌+ℚ◌, ◌*ℚ◌, ◌/ℚ◌, ◌≤ℚ◌, ◌over◌}
-use Rattle.dl_exact.specs.Sum.{sum_to}
-use Rattle.dl_exact.proofs.Laws.{le_trans}
-use Rattle.dl_plan.specs.declared.plan.Freq.{Freq}
-use Rattle.dl_plan.specs.declared.plan.Freq.TheVariants.{Fixed, Table, Bernoulli, Binomial, Poisson, Gamma}
-use Rattle.dl_plan.specs.declared.severity.Sev.{Sev}
-use Rattle.dl_plan.specs.Severity.{probability_of}
-use Rattle.dl_plan.specs.Count.{expected_count, IsClaimCount as IsCountOfPlan}
-use Rattle.dl_plan.proofs.Clauses.{num_le_den}
-use Rattle.dl_budget.specs.Halvings.{halvings}
-use Rattle.dl_budget.proofs.HalvingLaws.{halvings_least}
-use Rattle.dl_model.specs.Counts.{fixed, binomial, poisson, gamma_of}
-use Rattle.dl_model.specs.Family.{compound, Encloses}
-use Rattle.dl_model.specs.Series.{AtMost, AtLeast}
+use Rattle.dl_cert.proofs.Common.{ℕ, zero, suc, ◌≡◌, ◌⊎◌, ◌<◌, ◌≤◌, ◌^◌, inl, inr, refl, sym, subst, arith, cases_eq, eq-eqb, ne_eqb, Fraction, whole, ◌+ℚ◌, ◌*ℚ◌, ◌/ℚ◌, ◌≤ℚ◌, ◌over◌, sum_to, le_trans, Freq, Fixed, Table, Bernoulli, Binomial, Poisson, Gamma, Sev, probability_of, expected_count, IsCountOfPlan, num_le_den, halvings, halvings_least, fixed, binomial, poisson, gamma_of, compound, Encloses, AtMost, AtLeast, fixed_sum, positive, given_part, within_one, exp_low, exp_high, one, floor_of, ceiling_of, low_start, high_start, sum_plain, sum_by_amount, above_zero, part_of, parts_of}
 use Rattle.dl_model.proofs.AddedCounts.{fixed_past, trial}
-use Rattle.dl_model.proofs.FiniteCounts.{fixed_sum}
 use Rattle.dl_model.proofs.Panjer.{poisson_class}
-use Rattle.dl_model.proofs.PlanThin.{positive, given_part}
-use Rattle.dl_model.proofs.WithinOne.{within_one}
-use Rattle.dl_exp.specs.Ends.{exp_low, exp_high}
 use Rattle.dl_exp.proofs.EndLaws.{low_encloses, high_encloses}
 use Rattle.dl_panjer.proofs.Compounds.{geometric_start, geometric_class}
 use Rattle.dl_panjer.proofs.Starts.{sums_are}
-use Rattle.dl_cert.specs.Numbers.{one, floor_of, ceiling_of, low_start, high_start, sum_plain, sum_by_amount}
-use Rattle.dl_cert.specs.Targets.{above_zero, part_of, parts_of}
 use Rattle.dl_cert.proofs.Starts.{from_floor, from_ceiling, finite_start, recursion_start, poisson_sums, geometric_sums}
 use Rattle.dl_cert.proofs.Targets.{above_within}
-
-one_pos_units : 0 < one
-one_pos_units = omega arith
 
 -- cell 0 of a Poisson share holds the probability of no claim
 exp_low_holds : (u : Fraction) → u ≤ℚ 1 over 2
@@ -51,7 +26,7 @@ module _ (sev : Sev) (v : Fraction) (K : ℕ) (some : 0 < K) (lo hi : ℕ → �
       → Encloses one K lo hi (compound (binomial 1 q.num q.den) (probability_of sev))
   one_trial q within low high =
       let weights = trial q.num q.den q.positive (num_le_den q within) in
-      finite_start one one_pos_units (binomial 1 q.num q.den) (probability_of sev) K lo hi (within_one sev)
+      finite_start one (omega arith) (binomial 1 q.num q.den) (probability_of sev) K lo hi (within_one sev)
       weights.add_up weights.past low high
 
   pub start_encloses : (freq : Freq) → IsCountOfPlan freq → v ≡ expected_count freq *ℚ positive sev
@@ -60,7 +35,7 @@ module _ (sev : Sev) (v : Fraction) (K : ℕ) (some : 0 < K) (lo hi : ℕ → �
       → ((y : ℕ) → y < K → (high_start freq sev v hi y ≤ hi y) ⊎ (one ≤ hi y))
       → Encloses one K lo hi (part_of freq sev v)
   start_encloses (Fixed m) h is counted low high =
-      finite_start one one_pos_units (fixed 1) (probability_of sev) K lo hi (within_one sev)
+      finite_start one (omega arith) (fixed 1) (probability_of sev) K lo hi (within_one sev)
       (fixed_sum 1 1 (omega arith)) (λ n b. fixed_past 1 n b) low high
   start_encloses (Table counts total) h is counted low high = absurd (omega (arith, counted))
   start_encloses (Bernoulli q) h is counted low high = one_trial q h.within low high
@@ -71,7 +46,7 @@ module _ (sev : Sev) (v : Fraction) (K : ℕ) (some : 0 < K) (lo hi : ℕ → �
         let u = v /ℚ whole (2 ^ halvings v) in
         let g = above_zero sev in
         rw (ne_eqb v.num 0 above)
-        (recursion_start one one_pos_units (whole 0) u g (λ s. u /ℚ whole (suc s)) (sum_by_amount g)
+        (recursion_start one (omega arith) (whole 0) u g (λ s. u /ℚ whole (suc s)) (sum_by_amount g)
         (poisson_sums u g) (poisson u) K (exp_low 56 u) (exp_high 56 u) lo hi (given_part sev).no_zero (poisson_class u)
         (above_within sev v mean is above) low high refl some (exp_low_holds u (halvings_least v).enough)
         (exp_high_holds u))
@@ -85,10 +60,10 @@ module _ (sev : Sev) (v : Fraction) (K : ℕ) (some : 0 < K) (lo hi : ℕ → �
         let l : ℕ = floor_of (whole one *ℚ start) in
         let u : ℕ = ceiling_of (whole one *ℚ start) in
         let holds = geometric_start beta (l over one) (u over one)
-        (from_floor one one_pos_units l start (omega arith)) (from_ceiling one one_pos_units u start (omega arith)) in
+        (from_floor one (omega arith) l start (omega arith)) (from_ceiling one (omega arith) u start (omega arith)) in
         let g = above_zero sev in
         rw (ne_eqb v.num 0 above)
-        (recursion_start one one_pos_units x (whole 0) g (λ s. x) (sum_plain g)
+        (recursion_start one (omega arith) x (whole 0) g (λ s. x) (sum_plain g)
         (geometric_sums x g) (gamma_of 1 beta) K l u lo hi (given_part sev).no_zero (geometric_class beta)
         (above_within sev v mean is above) low high refl some holds.0 holds.1)
   ]

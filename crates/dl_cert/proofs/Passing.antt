@@ -1,44 +1,10 @@
 -- Steps that pass enclose what their labels count, and a certificate's grid encloses the total.
-use Rattle.std.proofs.Common.{ℕ, zero, suc, ◌≡◌, ◌⊎◌, ◌*◌, ◌/◌, ◌<◌, ◌≤◌, ◌∙◌, inl, inr, refl, sym, ap, subst, arith, div-mul-le_self, List, [], ◌∷◌, ◌++◌, length, map, get_or, min}
-use Rattle.std.proofs.Math.Nat.{mul-le-mul_right}
-use Rattle.std.proofs.Math.Seq.{get_or-append_seam}
-use Rattle.std.proofs.lemmas.Bool.{cases_lt, eq-eqb}
-use Rattle.std.proofs.lemmas.Nat.{pow_pos}
-use Rattle.std.proofs.Common.{cond, length-append}
+use Rattle.dl_cert.proofs.Common.{length-map, ℕ, zero, suc, ◌≡◌, ◌⊎◌, ◌*◌, ◌/◌, ◌<◌, ◌≤◌, inl, inr, refl, sym, subst, arith, div-mul-le_self, List, [], ◌∷◌, ◌++◌, length, map, get_or, min, mul-le-mul_right, get_or-append_seam, cases_lt, eq-eqb, pow_pos, cond, length-append, get_or_append_left, All-head, All-tail, div_ceil, All, fun_ext, count_pairs, Iv, low_at, high_at, all_at_zero, Plan, UnitOfPlan, thinned_mean, IsValid, IsValidUnit, nothing, Encloses, aggregates_of, total, same_cells_enclosed, encloses_product, nothing_encloses, Kind, One, Start, Times, IsCovered, Label, labelled, HasValues, one, low_start, high_start, Passes, AllPass, made_after, Certifies, Step, Made, made_at, made_by, label_of, unit_part, unit_parts, parts_of_plan, target}
 use Rattle.std.proofs.lemmas.Grind.{div_ceil_times}
-use Rattle.std.proofs.lemmas.List.{get_or_append_left}
-use Rattle.std.proofs.lemmas.List.Elements.{All-head, All-tail}
-use Rattle.std.specs.Int.{div_ceil}
-use Rattle.std.specs.Prelude.{All}
-use mathlib.Core.Path.{fun_ext}
-use Rattle.dl_exact.specs.Count.{count_pairs}
-use Rattle.dl_iv.specs.declared.interval.Iv.{Iv}
-unfoldable use Rattle.dl_grid.specs.Cells.{low_at, high_at, all_at_zero}
-use Rattle.dl_plan.specs.declared.plan.Plan.{Plan}
-use Rattle.dl_plan.specs.declared.plan.Unit.{Unit as UnitOfPlan}
-use Rattle.dl_plan.specs.Means.{thinned_mean}
-use Rattle.dl_plan.specs.Valid.{IsValid, IsValidUnit}
-use Rattle.dl_model.specs.Family.{Family, nothing, Encloses}
-use Rattle.dl_model.specs.Plans.{aggregates_of}
-use Rattle.dl_model.specs.Program.{total}
-use Rattle.dl_model.proofs.Alike.{same_cells_enclosed}
-use Rattle.dl_model.proofs.FamilyLaws.{encloses_product}
-use Rattle.dl_model.proofs.FiniteCounts.{nothing_encloses}
-use Rattle.dl_cert.specs.declared.step.Kind.{Kind}
-use Rattle.dl_cert.specs.declared.step.Kind.TheVariants.{One, Start, Times}
-use Rattle.dl_cert.specs.Covered.{IsCovered}
-use Rattle.dl_cert.specs.Labels.{Label, labelled, HasValues}
-use Rattle.dl_cert.specs.Numbers.{one, low_start, high_start}
-use Rattle.dl_cert.specs.Passes.{Passes, AllPass, made_after, Certifies}
-use Rattle.dl_cert.specs.Steps.{Step, Made, made_at, made_by, label_of}
-use Rattle.dl_cert.specs.Targets.{unit_part, unit_parts, parts_of_plan, target}
 use Rattle.dl_cert.proofs.Labelled.{encloses_none, encloses_once, encloses_together}
 use Rattle.dl_cert.proofs.Parts.{start_encloses}
 use Rattle.dl_cert.proofs.Targets.{parts_values, plan_made_up}
 use Rattle.dl_cert.proofs.Values.{labelled_values}
-
-one_pos_units : 0 < one
-one_pos_units = omega arith
 
 -- the cells past the last have no low end
 past_low : {B : ℕ} (cells : List (Iv B)) (x : ℕ) → length cells ≤ x → low_at cells x ≡ 0
@@ -59,10 +25,6 @@ named (x ∷ xs) zero h = record { unit = x; reads = λ f e. refl; holds = λ P 
 named (x ∷ xs) (suc u) h =
     let n = named xs u (omega (arith, h)) in
     record { unit = n.unit; reads = λ f e. n.reads f e; holds = λ P all. n.holds P (All-tail P x xs all) }
-
-many : (units : List UnitOfPlan) (f : UnitOfPlan → Family) → length (map f units) ≡ length units
-many [] f = refl
-many (x ∷ xs) f = ap suc (many xs f)
 
 module _ (plan : Plan) (valid : IsValid plan) (covered : IsCovered plan) where
   K_pos : 0 < plan.cells
@@ -88,7 +50,7 @@ module _ (plan : Plan) (valid : IsValid plan) (covered : IsCovered plan) where
     step_one : Passes plan before (record { kind = One; cells = cells }) → Meets before (record { kind = One; cells = cells })
     unfolding Meets all_at_zero
     step_one p = encloses_none one plan.cells (low_at cells) (high_at cells) (parts_of_plan plan)
-        (nothing_encloses one plan.cells (low_at cells) (high_at cells) one_pos_units
+        (nothing_encloses one plan.cells (low_at cells) (high_at cells) (omega arith)
         (p.low zero K_pos) (elim (p.high zero K_pos) [ inl near ↦ near | inr far ↦ far ]) none)
       where
         none : (y : ℕ) → 0 < y → low_at cells y ≡ 0
@@ -109,7 +71,7 @@ module _ (plan : Plan) (valid : IsValid plan) (covered : IsCovered plan) where
         let counted : 1 ≤ unit_parts unit =
         subst (λ k. 1 ≤ k) (n.reads unit_parts 0) (subst (λ b. cond b 1 0 ≤ target plan u) (eq-eqb u u refl) (p.label u)) in
         encloses_once one plan.cells (low_at cells) (high_at cells) (parts_of_plan plan) u
-        (rw (many plan.units unit_part) p.there)
+        (rw (length-map plan.units unit_part) p.there)
         (subst (Encloses one plan.cells (low_at cells) (high_at cells)) (sym (n.reads unit_part nothing))
         (start_encloses unit.sev v plan.cells K_pos (low_at cells) (high_at cells) unit.freq ok.count refl counted
         (λ y inside. subst (λ k. low_at cells y ≤ k)
@@ -125,7 +87,7 @@ module _ (plan : Plan) (valid : IsValid plan) (covered : IsCovered plan) where
         let B = made_at before b in
         encloses_together one plan.cells (low_at cells) (high_at cells) (parts_of_plan plan) A.label B.label
         (encloses_product one plan.cells (low_at A.cells) (high_at A.cells) (low_at B.cells) (high_at B.cells)
-        (labelled (parts_of_plan plan) A.label) (labelled (parts_of_plan plan) B.label) one_pos_units
+        (labelled (parts_of_plan plan) A.label) (labelled (parts_of_plan plan) B.label) (omega arith)
         (proper A.label).proper (proper B.label).proper (sound a p.there.0).encloses (sound b p.there.1).encloses
         (low_at cells) (high_at cells)
         (λ y inside. low_outside (count_pairs y (λ i j. low_at A.cells i * low_at B.cells j)) (low_at cells y)
@@ -145,7 +107,7 @@ module _ (plan : Plan) (valid : IsValid plan) (covered : IsCovered plan) where
           | inl past ↦ inr (omega (arith, near, past))
           | inr within ↦ inl (omega (
             arith,
-            (div_ceil_times n one one_pos_units).0,
+            (div_ceil_times n one (omega arith)).0,
             mul-le-mul_right one (least n h near within),
           ))
         ]
@@ -190,11 +152,7 @@ module _ (plan : Plan) (valid : IsValid plan) (covered : IsCovered plan) where
       let here : IsSound c.last =
       subst IsSound (get_or-append_seam c.before c.last [] _)
       (subst (λ made. (k : ℕ) → k < length made → IsSound (made_at made k)) c.made all (length c.before) place) in
-      let label : c.last.label ≡ target plan = fun_ext c.label in
-      let size : length grid ≡ plan.cells = ap length c.cells ∙ here.long in
+      let sound = subst (λ label. Encloses one plan.cells (low_at c.last.cells) (high_at c.last.cells)
+      (labelled (parts_of_plan plan) label)) (fun_ext c.label) here.encloses in
       same_cells_enclosed one (length grid) (low_at grid) (high_at grid) _ _ (plan_made_up plan valid covered)
-      (subst (λ k. Encloses one k (low_at grid) (high_at grid) (labelled (parts_of_plan plan) (target plan))) (sym size)
-      (subst (λ cells. Encloses one plan.cells (low_at cells) (high_at cells)
-      (labelled (parts_of_plan plan) (target plan))) (sym c.cells)
-      (subst (λ label. Encloses one plan.cells (low_at c.last.cells) (high_at c.last.cells)
-      (labelled (parts_of_plan plan) label)) label here.encloses)))
+      (rw (c.cells, here.long) sound)

@@ -1,50 +1,26 @@
 -- A step that passes joins those that are kept.
-use Rattle.std.proofs.Common.{ℕ, zero, suc, ◌≡◌, ◌≢◌, ◌+◌, ◌*◌, ◌<◌, ◌≤◌, ◌^◌, ◌∙◌, cond, inl, inr, refl, sym, ap, ap₂, subst, subst₂, arith, List, [], ◌∷◌, ◌++◌, length, get_or, take, drop, append_assoc, length-append}
-use Rattle.std.proofs.Math.Nat.{mul-le-mul_right}
-use Rattle.std.specs.Prelude.{map, All}
-use Rattle.std.proofs.lemmas.Bool.{cases_lt, ne_eqb}
-use Rattle.std.proofs.lemmas.List.{get_or_append_left, length-map}
-use Rattle.std.proofs.Math.Seq.{get_or-append_seam}
-use Rattle.dl_limits.specs.Limits.{most_cert_cells}
-unfoldable use Rattle.dl_limits.specs.Limits.{most_cells_at}
-use Rattle.dl_iv.specs.declared.interval.Iv.{Iv}
-use Rattle.dl_grid.specs.Cells.{mass_low, IsGrid}
-use Rattle.dl_plan.specs.declared.plan.Plan.{Plan}
-use Rattle.dl_cert.specs.declared.step.Kind.{Kind}
-use Rattle.dl_cert.specs.declared.step.Kind.TheVariants.{One, Start, Times}
-use Rattle.dl_cert.specs.Kept.{Keeps, IsRow, IsOver, IsPlaced, count_by, label_at, HasPassedTo}
-unfoldable use Rattle.dl_cert.specs.Lines.{AreSteps}
-use Rattle.dl_cert.specs.Lines.{lines_of, IsStep}
-use Rattle.dl_cert.specs.Numbers.{one}
-use Rattle.dl_cert.specs.Passes.{Passes, AllPass, made_after}
-use Rattle.dl_cert.specs.Reading.{line_from}
-use Rattle.dl_cert.specs.Steps.{Step, Made, made_at, made_by, label_of, IsThere}
-use Rattle.dl_cert.specs.Targets.{unit_parts, target}
-use Rattle.dl_cert.specs.Verified.{IsBadStep, IsBadLine}
+use Rattle.dl_cert.proofs.Common.{take-append_seam, get_or_past, ℕ, suc, ◌≡◌, ◌≢◌, ◌+◌, ◌*◌, ◌<◌, ◌≤◌, ◌^◌, ◌∙◌, cond, inl, inr, refl, sym, ap, ap₂, subst, subst₂, arith, List, [], ◌∷◌, ◌++◌, length, get_or, take, drop, append_assoc, length-append, mul-le-mul_right, map, All, cases_lt, ne_eqb, get_or_append_left, length-map, get_or-append_seam, most_cert_cells, most_cells_at, Iv, mass_low, IsGrid, Plan, Kind, One, Start, Times, Keeps, IsRow, IsOver, IsPlaced, count_by, label_at, HasPassedTo, AreSteps, lines_of, IsStep, one, Passes, AllPass, made_after, line_from, Step, Made, made_at, made_by, label_of, IsThere, unit_parts, target, IsBadStep, IsBadLine}
 use Rattle.dl_cert.proofs.LineLists.{next_there}
 use Rattle.dl_cert.proofs.Readings.{step_is}
 use Rattle.dl_cert.proofs.Tests.{IsTested}
+use Rattle.std.proofs.lemmas.List.{get_or-append-add}
 
 module _ (plan : Plan) (text places labels : List ℕ) (before : List Made) (kept : Keeps plan text places labels before) where
   abbrev units : ℕ
   units = length plan.units
 
-  module _ (kind : Kind) (there : IsThere units (length before) kind) where
-    pub count_is : (i : ℕ) → i < units → count_by labels units kind i ≡ label_of before kind i
-    count_is i inside = go kind there
-      where
-        go : (k : Kind) → IsThere units (length before) k → count_by labels units k i ≡ label_of before k i
-        go One h = refl
-        go (Start u) h = refl
-        go (Times a b) h = ap₂ (λ m n. m + n) (sym (kept.counts a i h.0 inside)) (sym (kept.counts b i h.1 inside))
+  pub count_is : (kind : Kind) → IsThere units (length before) kind → (i : ℕ) → i < units
+      → count_by labels units kind i ≡ label_of before kind i
+  count_is One there i inside = refl
+  count_is (Start u) there i inside = refl
+  count_is (Times a b) there i inside =
+      ap₂ (λ m n. m + n) (sym (kept.counts a i there.0 inside)) (sym (kept.counts b i there.1 inside))
 
-    pub none_counted : (i : ℕ) → units ≤ i → label_of before kind i ≡ 0
-    none_counted i past = go kind there
-      where
-        go : (k : Kind) → IsThere units (length before) k → label_of before k i ≡ 0
-        go One h = refl
-        go (Start u) h = ap (λ b. cond b 1 0) (ne_eqb i u (λ e. absurd (omega (arith, e, past, h))))
-        go (Times a b) h = omega (arith, kept.others a i past, kept.others b i past)
+  pub none_counted : (kind : Kind) → IsThere units (length before) kind → (i : ℕ) → units ≤ i
+      → label_of before kind i ≡ 0
+  none_counted One there i past = refl
+  none_counted (Start u) there i past = ap (λ b. cond b 1 0) (ne_eqb i u (λ e. absurd (omega (arith, e, past, there))))
+  none_counted (Times a b) there i past = omega (arith, kept.others a i past, kept.others b i past)
 
   module _ (step : Step) (targets : List ℕ) (counts : targets ≡ map unit_parts plan.units) where
     -- a unit is counted too often
@@ -133,7 +109,7 @@ module _ (plan : Plan) (text places labels : List ℕ) (before : List Made) (kep
               (λ k close. ap (λ (m : Made). m.label i) (earlier k close) ∙ kept.counts k i close small
               ∙ sym (get_or_append_left labels row 0 (k * units + i) (before_row k i close small)))
               (ap (λ (m : Made). m.label i) last ∙ sym (count_is step.kind there i small) ∙ sym (is_row.counts i small)
-              ∙ sym (get_or_behind labels row i) ∙ ap (λ n. get_or (labels ++ row) (n + i) 0) kept.long) k near;
+              ∙ sym (get_or-append-add labels row i 0) ∙ ap (λ n. get_or (labels ++ row) (n + i) 0) kept.long) k near;
           others = λ k i past. elim (cases_lt k (length more)) [
             | inl near ↦ by_place (λ k. (made_at more k).label i ≡ 0)
                 (λ k close. ap (λ (m : Made). m.label i) (earlier k close) ∙ kept.others k i past)
@@ -141,19 +117,6 @@ module _ (plan : Plan) (text places labels : List ℕ) (before : List Made) (kep
             | inr far ↦ ap (λ (m : Made). m.label i) (get_or_past more k _ far)
           ];
         }
-          where
-            get_or_behind : (xs ys : List ℕ) (i : ℕ) → get_or (xs ++ ys) (length xs + i) 0 ≡ get_or ys i 0
-            get_or_behind [] ys i = ap (λ n. get_or ys n 0) (omega arith)
-            get_or_behind (x ∷ xs) ys i =
-                ap (λ n. get_or (x ∷ xs ++ ys) n 0) (turn (length xs) i) ∙ get_or_behind xs ys i
-              where
-                turn : (m n : ℕ) → suc m + n ≡ suc (m + n)
-                turn m n = omega arith
-
-            get_or_past : (xs : List Made) (k : ℕ) (d : Made) → length xs ≤ k → get_or xs k d ≡ d
-            get_or_past [] k d h = refl
-            get_or_past (x ∷ xs) zero d h = absurd (omega (arith, h))
-            get_or_past (x ∷ xs) (suc k) d h = get_or_past xs k d (omega (arith, h))
 
 -- ---- lists of steps
 
@@ -172,7 +135,7 @@ steps_more [] (s ∷ ss) line step h now = absurd h
 steps_more (l ∷ ls) [] line step h now = absurd h
 steps_more (l ∷ ls) (s ∷ ss) line step h now = (h.0, steps_more ls ss line step h.1 now)
 
-made_many : (before : List Made) (steps : List Step) → length (made_after before steps) ≡ length before + length steps
+pub made_many : (before : List Made) (steps : List Step) → length (made_after before steps) ≡ length before + length steps
 made_many before [] = omega arith
 made_many before (s ∷ ss) =
     made_many (before ++ made_by before s ∷ []) ss
@@ -209,7 +172,7 @@ module _ (plan : Plan) (text places labels : List ℕ) (place : ℕ) (passed : H
       record {
         steps = passed.steps;
         spelled = subst (λ l. AreSteps l passed.steps)
-            (sym (ap₂ take counted all ∙ take_front passed.lines (line ∷ lines_of (drop n.0 text)))) passed.spelled;
+            (sym (ap₂ take counted all ∙ take-append_seam passed.lines (line ∷ lines_of (drop n.0 text)))) passed.spelled;
         pass = passed.pass;
         bad = inl (
           omega (arith, counted, ap length all, length-append passed.lines (line ∷ lines_of (drop n.0 text))),
@@ -217,10 +180,6 @@ module _ (plan : Plan) (text places labels : List ℕ) (place : ℕ) (passed : H
               ∙ get_or-append_seam passed.lines line (lines_of (drop n.0 text)) [])) bad,
         );
       }
-    where
-      take_front : (xs ys : List (List ℕ)) → take (length xs) (xs ++ ys) ≡ xs
-      take_front [] ys = refl
-      take_front (x ∷ xs) ys = ap (λ l. x ∷ l) (take_front xs ys)
 
   -- one line more has passed
   pub line_passes : (next : ℕ) (step : Step) (places' labels' : List ℕ)

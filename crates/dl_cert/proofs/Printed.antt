@@ -1,34 +1,12 @@
 -- Printed steps are spelled: the line of a step spells it, has no newline and is short.
-use Rattle.std.proofs.Common.{ℕ, ◌≡◌, ◌+◌, ◌*◌, ◌<◌, ◌≤◌, ◌^◌, ◌∙◌, ◌||◌, ◌&&◌, ◌==◌, Bool, true, false, refl, ap, ap₂, arith, rules, List, [], ◌∷◌, ◌++◌, length, take, drop, length-append, append_assoc, codes, nat_lt, nat_le}
-use Rattle.std.specs.Prelude.{All}
-use Rattle.std.specs.Char.{is_ascii_digit}
+use Rattle.dl_cert.proofs.Common.{append-nil, ℕ, ◌≡◌, ◌+◌, ◌*◌, ◌<◌, ◌≤◌, ◌^◌, ◌∙◌, ◌||◌, ◌&&◌, ◌==◌, Bool, true, false, refl, ap, ap₂, arith, List, [], ◌∷◌, ◌++◌, length, length-append, append_assoc, codes, nat_lt, nat_le, All, is_ascii_digit, list_all, list_any, and_from, nat_tests, All-head, All-tail, list_any-append, Iv, low_at, high_at, Kind, One, Start, Times, one, Step, is_comma, IsNumber, IsCell, AreCells, IsStep, by_one, by_start, by_times, cells_text, kind_text, line_of, Named}
 use Rattle.std.specs.Fmt.{decimal}
-use Rattle.std.specs.List.{list_all, list_any, before_first, after_first, position_or_len}
-use Rattle.std.specs.Str.Parse.{digits_value}
-use Rattle.std.proofs.lemmas.Bool.{and_parts, and_from, or_parts}
-use Rattle.std.proofs.lemmas.Bool.Decides.{nat_tests}
 use Rattle.std.proofs.Math.Bool.{or-true}
-use Rattle.std.proofs.Math.Seq.{take-append_seam, drop-append-add}
 use Rattle.std.proofs.lemmas.Fmt.{decimal_is_IsNumeral, length-decimal-le}
-use Rattle.std.proofs.lemmas.List.Elements.{All-head, All-tail}
-use Rattle.std.proofs.lemmas.List.Folds.{list_any-append}
-use Rattle.std.proofs.lemmas.Str.Parse.{numerals_by_value, IsNumeralModel}
-use Rattle.dl_iv.specs.declared.interval.Iv.{Iv}
-unfoldable use Rattle.dl_grid.specs.Cells.{low_at, high_at}
-use Rattle.dl_cert.specs.declared.step.Kind.{Kind}
-use Rattle.dl_cert.specs.declared.step.Kind.TheVariants.{One, Start, Times}
-use Rattle.dl_cert.specs.Numbers.{one}
-use Rattle.dl_cert.specs.Steps.{Step}
-use Rattle.dl_cert.specs.Spelling.{is_comma, IsNumber, IsCell}
-unfoldable use Rattle.dl_cert.specs.Lines.{AreCells}
-use Rattle.dl_cert.specs.Lines.{IsStep, one as by_one, start as by_start, times as by_times}
-unfoldable use Rattle.dl_cert.specs.Written.{cells_text}
-use Rattle.dl_cert.specs.Written.{kind_text, line_of, Named}
+use Rattle.dl_frac.proofs.NumeralLaws.{before_none, after_none}
+use Rattle.dl_cert.proofs.Digits.{own, lacked}
 
 -- ---- numbers
-
-own : IsNumeralModel (λ ds. list_all is_ascii_digit ds ≡ true) (digits_value 10)
-own = numerals_by_value _ (search rules)
 
 digits_of : (n : ℕ) → n < 2 ^ 64 → list_all is_ascii_digit (decimal n) ≡ true
 digits_of n h = own.from (decimal n) (decimal_is_IsNumeral n h).0.1
@@ -48,12 +26,6 @@ number_spelled most n pos small fits =
 
 -- ---- bytes that a text lacks
 
-lacked : (p : ℕ → Bool) → ((byte : ℕ) → is_ascii_digit byte ≡ true → p byte ≡ false) → (ds : List ℕ)
-    → list_all is_ascii_digit ds ≡ true → list_any p ds ≡ false
-lacked p h [] all = refl
-lacked p h (d ∷ ds) all =
-    ap₂ (λ s t. s || t) (h d (and_parts _ _ all).0) (lacked p h ds (and_parts _ _ all).1)
-
 no_comma : (n : ℕ) → n < 2 ^ 64 → list_any is_comma (decimal n) ≡ false
 no_comma n h = lacked is_comma (λ byte digit. grind (arith, nat_tests)) (decimal n) (digits_of n h)
 
@@ -69,34 +41,18 @@ lack_both p xs ys a b = list_any-append p xs ys ∙ ap₂ (λ s t. s || t) a b
 
 -- ---- cells
 
-place_of : (p : ℕ → Bool) (xs ys : List ℕ) (c : ℕ) → list_any p xs ≡ false → p c ≡ true
-    → position_or_len p (xs ++ (c ∷ ys)) ≡ length xs
-place_of p [] ys c none here = rw here refl
-place_of p (x ∷ xs) ys c none here =
-    let parts = or_parts (p x) (list_any p xs) none in
-    rw parts.0 (omega (arith, place_of p xs ys c parts.1 here))
-
-place : (p : ℕ → Bool) (xs ys : List ℕ) (c : ℕ) → list_any p xs ≡ false → p c ≡ true
-    → (before_first p (xs ++ (c ∷ ys)) ≡ xs) × (after_first p (xs ++ (c ∷ ys)) ≡ ys)
-place p xs ys c none here =
-    let at = place_of p xs ys c none here in (
-      ap (λ k. take k (xs ++ (c ∷ ys))) at ∙ take-append_seam xs (c ∷ ys),
-      ap (λ k. drop (k + 1) (xs ++ (c ∷ ys))) at ∙ drop-append-add xs (c ∷ ys) 1,
-    )
-
-comma_is : is_comma 44 ≡ true
-comma_is = refl
-
 cell_spelled : (lo hi : ℕ) (cell : Iv 56) → cell.lo ≡ lo → cell.hi ≡ hi → hi ≤ one
     → IsCell (decimal lo ++ (44 ∷ decimal hi)) cell
 cell_spelled lo hi cell low high small =
     let lo_fits : lo < 2 ^ 64 = omega (arith, cell.ordered) in
     let hi_fits : hi < 2 ^ 64 = omega arith in
-    let split = place is_comma (decimal lo) (decimal hi) 44 (no_comma lo lo_fits) comma_is in
+    let none = no_comma lo lo_fits in
     record {
       comma = list_any-append is_comma (decimal lo) (44 ∷ decimal hi) ∙ or-true (list_any is_comma (decimal lo));
-      low = rw split.0 (rw low (number_spelled 17 lo (omega arith) (omega (arith, cell.ordered)) lo_fits));
-      high = rw split.1 (rw high (number_spelled 17 hi (omega arith) (omega arith) hi_fits));
+      low = rw (before_none is_comma (decimal lo) (44 ∷ decimal hi) none ∙ append-nil (decimal lo))
+          (rw low (number_spelled 17 lo (omega arith) (omega (arith, cell.ordered)) lo_fits));
+      high = rw (after_none is_comma (decimal lo) (44 ∷ decimal hi) none)
+          (rw high (number_spelled 17 hi (omega arith) (omega arith) hi_fits));
       small = omega arith;
     }
 
@@ -130,7 +86,6 @@ cells_on_a_line (cell ∷ cells) small =
           (no_newline cell.hi hi_fits)) rest.0,
       omega (
         arith,
-        rest.1,
         length-append ends more,
         length-append (decimal cell.lo) (44 ∷ decimal cell.hi),
         length-decimal-le 17 cell.lo (omega arith) (omega (arith, cell.ordered, top)) lo_fits,

@@ -1,10 +1,5 @@
 -- Cells that are read one after the other.
-use Rattle.std.proofs.Common.{ℕ, ◌≡◌, ◌+◌, ◌<◌, ◌≤◌, ◌∙◌, refl, sym, ap, subst, arith, List, [], ◌∷◌, ◌++◌, length, drop, append-nil, append_assoc, length-append, length-drop}
-use Rattle.std.specs.Prelude.{◌≢◌}
-use Rattle.std.proofs.lemmas.List.{drop_all}
-use Rattle.dl_iv.specs.declared.interval.Iv.{Iv}
-unfoldable use Rattle.dl_cert.specs.Lines.{AreCells}
-use Rattle.dl_cert.specs.Reading.{BeginsCell}
+use Rattle.dl_cert.proofs.Common.{ℕ, ◌≡◌, ◌+◌, ◌<◌, ◌≤◌, ◌∙◌, refl, sym, ap, subst, arith, List, [], ◌∷◌, ◌++◌, length, drop, append-nil, append_assoc, length-append, length-drop, ◌≢◌, drop_all, Iv, AreCells, BeginsCell}
 
 -- from a place of a text on the first n cells are these, and the text goes on behind them
 pub record ReadTo (text : List ℕ) (start from n : ℕ) (cells : List (Iv 56)) : Type 0 where

@@ -1,20 +1,7 @@
 -- A line spells at most one step, which is read from the left.
-use Rattle.std.proofs.Common.{ℕ, ◌≡◌, ◌∙◌, inl, inr, refl, sym, ap, ap₂, subst, arith, List, [], ◌∷◌, ◌++◌, get_or, codes, length, take, drop, ◌+◌, ◌<◌}
-use Rattle.std.specs.Prelude.{◌≢◌, true}
-use Rattle.std.proofs.Common.{length-drop}
-use Rattle.std.proofs.lemmas.Bool.{cases_lt}
-use Rattle.std.proofs.lemmas.Bool.Decides.{nat_tests}
-use Rattle.std.proofs.lemmas.List.Sums.{passes_at_first}
-use Rattle.std.proofs.lemmas.List.{append_cancel_left, drop_more}
-use Rattle.dl_iv.specs.declared.interval.Iv.{Iv}
+use Rattle.dl_cert.proofs.Common.{ℕ, ◌≡◌, ◌∙◌, inl, inr, refl, sym, ap, ap₂, subst, arith, List, [], ◌∷◌, ◌++◌, get_or, codes, length, take, drop, ◌+◌, ◌<◌, ◌≢◌, true, length-drop, cases_lt, nat_tests, passes_at_first, append_cancel_left, drop_more, Iv, One, Start, Times, Step, IsNumber, IsCell, AreCells, IsStep, start, position_or_len, is_blank, first_word, after_word, BeginsCell, BeginsStep}
 use Rattle.dl_grid.proofs.EndLists.{same_cells}
-use Rattle.dl_cert.specs.declared.step.Kind.TheVariants.{One, Start, Times}
-use Rattle.dl_cert.specs.Steps.{Step}
-use Rattle.dl_cert.specs.Spelling.{IsNumber, IsCell}
-unfoldable use Rattle.dl_cert.specs.Lines.{AreCells, AreSteps}
-use Rattle.dl_cert.specs.Lines.{IsStep, one, start, times}
-use Rattle.std.specs.List.{position_or_len}
-use Rattle.dl_cert.specs.Reading.{is_blank, first_word, after_word, BeginsCell, BeginsStep}
+use Rattle.dl_cert.specs.Lines.{one, times}
 use Rattle.dl_cert.proofs.Words.{by_word, cut, number_front, cell_front, cells_tail, at_blank, drop_by}
 
 -- ---- cells
@@ -175,15 +162,12 @@ module _ (line : List ℕ) where
         ∙ ap (λ t. first_word words ++ t) (behind ∙ ap (λ t. 32 ∷ t) (by_word more))));
     only = λ step is.
         let p = times_parts words e step is in
-        let same : p.more ≡ more = tail_is _ _ (sym p.behind ∙ behind) in (
+        let same : p.more ≡ more = cc in (
           p.kind ∙ ap₂ (λ m n. Times m n) (number_is 9 _ _ _ p.first na)
               (number_is 9 _ _ _ (subst (λ t. IsNumber 9 (first_word t) p.b) same p.second) nb),
           subst (λ t. AreCells (after_word t) step.cells) same p.cells,
         );
   }
-    where
-      tail_is : (xs ys : List ℕ) → 32 ∷ xs ≡ 32 ∷ ys → xs ≡ ys
-      tail_is xs ys h = cc
 
   -- a line that begins with none of the three words spells no step
   pub no_step : ((rest : List ℕ) → ¬ (line ≡ codes "one" ++ rest)) → ((rest : List ℕ) → ¬ (line ≡ codes "start " ++ rest))
@@ -201,21 +185,20 @@ module _ (line : List ℕ) where
   pub begun : (step : Step) → IsStep line step → Begun step
   begun step (one more cells are is) = record { rest = more; begins = begins_one more is; cells = are }
   begun step (start text more u cells number are is) =
-      let parts = cut text more (number_front 9 text u number) (cells_tail more cells are) in
+      let p = start_parts (text ++ more) is step (start text more u cells number are is) in
       record {
         rest = after_word (text ++ more);
-        begins = begins_start (text ++ more) is u (subst (λ t. IsNumber 9 t u) (sym parts.0) number);
-        cells = subst (λ t. AreCells t cells) (sym parts.1) are;
+        begins = subst (λ k. BeginsStep line k (after_word (text ++ more))) (sym p.kind)
+            (begins_start (text ++ more) is p.u p.number);
+        cells = p.cells;
       }
   begun step (times first second rest a b cells na nb are is) =
-      let outer = cut first (32 ∷ second ++ rest) (number_front 9 first a na) (inr (second ++ rest, refl)) in
-      let inner = cut second rest (number_front 9 second b nb) (cells_tail rest cells are) in
+      let p = times_parts (first ++ (codes " " ++ (second ++ rest))) is step (times first second rest a b cells na nb are is) in
       record {
-        rest = after_word (second ++ rest);
-        begins =
-            begins_times (first ++ (codes " " ++ (second ++ rest))) (second ++ rest) is a b
-            (subst (λ t. IsNumber 9 t a) (sym outer.0) na) outer.1 (subst (λ t. IsNumber 9 t b) (sym inner.0) nb);
-        cells = subst (λ t. AreCells t cells) (sym inner.1) are;
+        rest = after_word p.more;
+        begins = subst (λ k. BeginsStep line k (after_word p.more)) (sym p.kind)
+            (begins_times (first ++ (codes " " ++ (second ++ rest))) p.more is p.a p.b p.first p.behind p.second);
+        cells = p.cells;
       }
 
   -- the steps that a line spells are one
@@ -233,10 +216,7 @@ pub other_word : (line front other rest : List ℕ) → line ≡ front ++ rest �
     → 0 < length front → 0 < length other → (more : List ℕ) → ¬ (line ≡ other ++ more)
 other_word line [] other rest e differs some any more is = absurd (omega (arith, some))
 other_word line (x ∷ xs) [] rest e differs some any more is = absurd (omega (arith, any))
-other_word line (x ∷ xs) (y ∷ ys) rest e differs some any more is = differs (first_is _ _ _ _ (sym e ∙ is))
-  where
-    first_is : (a b : ℕ) (xs ys : List ℕ) → a ∷ xs ≡ b ∷ ys → a ≡ b
-    first_is a b xs ys h = cc
+other_word line (x ∷ xs) (y ∷ ys) rest e differs some any more is = differs (cc)
 
 module _ (line : List ℕ) where
   -- no number of a unit
@@ -253,19 +233,14 @@ module _ (line : List ℕ) where
         none p.a p.first
 
     pub no_more : after_word words ≡ [] → (step : Step) → ¬ IsStep line step
-    no_more over step h = no_cons _ (sym over ∙ (times_parts line words e step h).behind)
-      where
-        no_cons : (xs : List ℕ) → [] ≡ 32 ∷ xs → ⊥
-        no_cons xs k = cc
+    no_more over step h = let p = times_parts line words e step h in cc
 
     pub no_second : (more : List ℕ) → after_word words ≡ 32 ∷ more
         → ((n : ℕ) → ¬ IsNumber 9 (first_word more) n) → (step : Step) → ¬ IsStep line step
     no_second more behind none step h =
         let p = times_parts line words e step h in
-        none p.b (subst (λ t. IsNumber 9 (first_word t) p.b) (tail_is _ _ (sym p.behind ∙ behind)) p.second)
-      where
-        tail_is : (xs ys : List ℕ) → 32 ∷ xs ≡ 32 ∷ ys → xs ≡ ys
-        tail_is xs ys k = cc
+        let same : p.more ≡ more = cc in
+        none p.b (subst (λ t. IsNumber 9 (first_word t) p.b) same p.second)
 
 -- behind a word the text is at its end, or a blank follows
 pub word_ends : (text words : List ℕ) (next : ℕ) → next < length text → drop next text ≡ after_word words
@@ -283,12 +258,12 @@ word_ends text words next inside is =
     ]
 
     blank : get_or text next 0 ≡ 32
-    blank = first_is _ _ _ _ (sym (drop_more text next 0 inside) ∙ is ∙ drop_more words place 0 left)
-        ∙ blank_is _ (passes_at_first is_blank words 0 left)
+    blank =
+        let first = drop_more text next 0 inside in
+        let second = drop_more words place 0 left in
+        let same : get_or text next 0 ≡ get_or words place 0 = cc in
+        same ∙ blank_is _ (passes_at_first is_blank words 0 left)
       where
-        first_is : (a b : ℕ) (xs ys : List ℕ) → a ∷ xs ≡ b ∷ ys → a ≡ b
-        first_is a b xs ys h = cc
-
         blank_is : (b : ℕ) → is_blank b ≡ true → b ≡ 32
         blank_is b h = grind (arith, nat_tests)
 

@@ -1,25 +1,13 @@
 -- Families with the same declared values have products with the same declared values.
-use Rattle.std.proofs.Common.{ℕ, ◌≡◌, ◌∙◌, inl, inr, sym, ap, ap₂, subst, subst₂}
-use Rattle.dl_exact.specs.Fraction.{Fraction, whole}
-unfoldable use Rattle.dl_exact.specs.Fraction.{◌*ℚ◌, ◌/ℚ◌, ◌≤ℚ◌, ◌<ℚ◌}
-use Rattle.dl_exact.specs.Sum.{sum_pairs}
-use Rattle.dl_exact.proofs.Laws.{ring, times_comm, times_zero, zero_le, zero_or_pos, le_refl, le_trans, le_div, lt_or_le, lt_not_le, lt_of_lt_of_le, times_le_both, times_le_times, times_pos, div_times}
-use Rattle.dl_exact.proofs.Sums.{sum_pairs_same, sum_pairs_times}
-use Rattle.dl_model.specs.Series.{Series, IsBound, AtMost, AtLeast, Rises, times}
-use Rattle.dl_model.specs.Family.{Family, product, SameCells}
-use Rattle.dl_model.proofs.Declared.{rises_to, at_least_times}
-use Rattle.dl_model.proofs.FamilyLaws.{sum_at_least, rises_times}
-use Rattle.dl_model.proofs.Alike.{cancel, not_both}
-use Rattle.std.proofs.Math.Nat.{le-max_left, le-max_right}
-use Rattle.std.proofs.Common.{max}
-use Rattle.dl_cert.specs.Labels.{HasValues}
+use Rattle.dl_cert.proofs.Common.{ends_in_order, ℕ, ◌≡◌, ◌∙◌, inl, inr, sym, ap, ap₂, subst, subst₂, Fraction, whole, ◌*ℚ◌, ◌/ℚ◌, ◌≤ℚ◌, ◌<ℚ◌, sum_pairs, ring, times_comm, times_zero, zero_le, zero_or_pos, le_refl, le_trans, le_div, lt_or_le, lt_not_le, lt_of_lt_of_le, times_le_both, times_le_times, div_times, sum_pairs_same, sum_pairs_times, Series, IsBound, AtMost, AtLeast, Rises, times, Family, product, SameCells, rises_to, at_least_times, sum_at_least, rises_times, cancel, not_both, le-max_left, le-max_right, max, HasValues}
+use Rattle.dl_cert.proofs.Values.{product_values}
 
 -- ---- low ends from high ends
 
 -- where every high end of one declared value is one of another, every low end of the other is one of it
-pub least_from_most : (Q R Q' R' : Series) (e : Fraction) (k : ℕ) → Rises R → IsBound R e → whole 0 <ℚ R k
-    → ((h : Fraction) → AtMost Q' R' h → AtMost Q R h) → (l : Fraction) → AtLeast Q R l → AtLeast Q' R' l
-least_from_most Q R Q' R' e k rise bound pos back l low N w above = elim (lt_or_le w (l *ℚ R' N)) [
+least_from_most : (F : Family) → HasValues F → (Q Q' R' : Series)
+    → ((h : Fraction) → AtMost Q' R' h → AtMost Q F.all h) → (l : Fraction) → AtLeast Q F.all l → AtLeast Q' R' l
+least_from_most F v Q Q' R' back l low N w above = elim (lt_or_le w (l *ℚ R' N)) [
   | inr within ↦ within
   | inl far ↦ absurd (elim (zero_or_pos (R' N)) [
     | inl none ↦ lt_not_le w _ far (subst (λ t. t ≤ℚ w) (sym (ap (λ t. l *ℚ t) none ∙ times_zero l)) (zero_le w))
@@ -33,16 +21,8 @@ least_from_most Q R Q' R' e k rise bound pos back l low N w above = elim (lt_or_
         ] in
         let high : AtMost Q' R' h = λ n u bounds. le_trans _ _ _ (above n)
         (subst (λ t. t ≤ℚ h *ℚ u) back_to (times_le_both h h _ _ (le_refl h) (bounds N))) in
-        not_both R rise e k bound pos Q l low (h, below, back h high)
+        not_both F.all v.proper.all_rises v.bound v.level v.bounded v.positive Q l low (h, below, back h high)
   ])
-]
-
--- a low end is at most a high end
-pub low_at_most : (Q R : Series) (e : Fraction) (k : ℕ) → Rises R → IsBound R e → whole 0 <ℚ R k
-    → (l h : Fraction) → AtLeast Q R l → AtMost Q R h → l ≤ℚ h
-low_at_most Q R e k rise bound pos l h low high = elim (lt_or_le h l) [
-  | inr within ↦ within
-  | inl far ↦ absurd (not_both R rise e k bound pos Q l low (h, far, high))
 ]
 
 -- a term over a bound of the whole is a low end
@@ -77,16 +57,6 @@ over_product E D rise rise' e k bound pos x h each u bounds =
 
 -- ---- of two families
 
--- the whole weight of a product is bounded and positive
-product_bound : (F G : Family) (f : HasValues F) (g : HasValues G) → IsBound (times F.all G.all) (f.bound *ℚ g.bound)
-product_bound F G f g N = times_le_both _ _ _ _ (f.bounded N) (g.bounded N)
-
-product_positive : (F G : Family) (f : HasValues F) (g : HasValues G)
-    → whole 0 <ℚ F.all (max f.level g.level) *ℚ G.all (max f.level g.level)
-product_positive F G f g = times_pos _ _
-    (lt_of_lt_of_le _ _ _ f.positive (rises_to F.all f.proper.all_rises f.level _ (le-max_left f.level g.level)))
-    (lt_of_lt_of_le _ _ _ g.positive (rises_to G.all g.proper.all_rises g.level _ (le-max_right f.level g.level)))
-
 module _ (F F' G G' : Family) (f : HasValues F) (f' : HasValues F') (g : HasValues G) (g' : HasValues G')
     (same : SameCells F F') (same' : SameCells G G') (y : ℕ) where
   -- a term of the product over a bound of each factor is a low end of the other product
@@ -114,6 +84,7 @@ module _ (F F' G G' : Family) (f : HasValues F) (f' : HasValues F') (g : HasValu
   pub product_most : (h : Fraction) → AtMost ((product F G).cells y) (product F G).all h
       → AtMost ((product F' G').cells y) (product F' G').all h
   product_most h high N u bounds =
+      let p = product_values F G f g in
       over_product F'.all G'.all f'.proper.all_rises g'.proper.all_rises f'.bound f'.level f'.bounded f'.positive
       ((product F' G').cells y N) h
       (λ d e bd be.
@@ -121,9 +92,8 @@ module _ (F F' G G' : Family) (f : HasValues F) (f' : HasValues F') (g : HasValu
       let ep = lt_of_lt_of_le _ _ _ g'.positive (be g'.level) in
       subst (λ t. t ≤ℚ h *ℚ (d *ℚ e)) (shared N d e dp ep)
       (times_le_times _ _ (d *ℚ e)
-      (low_at_most ((product F G).cells y) (times F.all G.all) (f.bound *ℚ g.bound) (max f.level g.level)
-      (rises_times _ _ f.proper.all_rises g.proper.all_rises) (product_bound F G f g) (product_positive F G f g)
-      _ h (term_of_product N d e bd be) high)))
+      (ends_in_order (product F G).all p.proper.all_rises p.bound p.level p.bounded p.positive
+      ((product F G).cells y) _ h (term_of_product N d e bd be) high)))
       u bounds
 
 -- the other way round
@@ -136,12 +106,8 @@ same_products F F' G G' f f' g g' same same' y =
     let there = product_most F F' G G' f f' g g' same same' y in
     let back = product_most F' F G' G f' f g' g (value_back F F' same) (value_back G G' same') y in (
       λ l. (
-        least_from_most _ _ _ _ (f.bound *ℚ g.bound) (max f.level g.level)
-            (rises_times _ _ f.proper.all_rises g.proper.all_rises) (product_bound F G f g) (product_positive F G f g)
-            back l,
-        least_from_most _ _ _ _ (f'.bound *ℚ g'.bound) (max f'.level g'.level)
-            (rises_times _ _ f'.proper.all_rises g'.proper.all_rises) (product_bound F' G' f' g')
-            (product_positive F' G' f' g') there l,
+        least_from_most (product F G) (product_values F G f g) _ _ _ back l,
+        least_from_most (product F' G') (product_values F' G' f' g') _ _ _ there l,
       ),
       λ h. (there h, back h),
     )

@@ -1,27 +1,8 @@
 -- A start whose cells are not inside its numbers encloses the part of its unit.
-use Rattle.std.proofs.Common.{ℕ, zero, suc, ◌≡◌, ◌⊎◌, ◌*◌, ◌<◌, ◌≤◌, ◌^◌, ◌∙◌, inl, inr, refl, sym, ap, subst, subst₂, arith}
-use Rattle.std.proofs.Math.Nat.{mul-le-mul_right, zero-lt-suc}
-use Rattle.std.proofs.lemmas.Bool.{cases_lt}
-use Rattle.dl_exact.specs.Fraction.{Fraction, whole}
-unfoldable use Rattle.dl_exact.specs.Fraction.{◌+ℚ◌, ◌*ℚ◌, ◌/ℚ◌, ◌≤ℚ◌, ◌<ℚ◌, ◌over◌}
-unfoldable use Rattle.dl_exact.specs.Sum.{sum_to, sum_pairs}
-use Rattle.dl_exact.proofs.Laws.{ring, one_pos, whole_pos, le_refl, le_trans, times_comm, times_assoc, times_cancel, times_le_cancel, times_le_both, one_times, zero_times, zero_plus, plus_zero, over_times_whole, div_times}
+use Rattle.dl_cert.proofs.Common.{ℕ, zero, suc, ◌≡◌, ◌⊎◌, ◌*◌, ◌<◌, ◌≤◌, ◌^◌, ◌∙◌, inl, inr, refl, sym, ap, subst, subst₂, arith, mul-le-mul_right, zero-lt-suc, cases_lt, Fraction, whole, ◌+ℚ◌, ◌*ℚ◌, ◌/ℚ◌, ◌≤ℚ◌, ◌<ℚ◌, ◌over◌, sum_to, ring, one_pos, whole_pos, le_refl, le_trans, times_comm, times_assoc, times_cancel, times_le_cancel, times_le_both, one_times, zero_times, zero_plus, plus_zero, over_times_whole, div_times, over_self, over_le, floor_div, ceiling_div, whole_le, sum_pairs_same, sum_pairs_times, cell, IsPanjer, compound, Encloses, AtMost, AtLeast, IsBound, IsWithinOne, at_most_wider, cell_at_most_one, compound_proper, finite_holds, FollowsOutward, floor_of, ceiling_of, sum_plain, sum_by_amount, low_recursion, high_recursion}
 use Rattle.dl_exact.proofs.Orders.{times_right_comm}
-use Rattle.dl_exact.proofs.Over.{over_self, over_le}
-use Rattle.dl_exact.proofs.RoundingLaws.{floor_div, ceiling_div, whole_le}
-use Rattle.dl_exact.proofs.Sums.{sum_pairs_same, sum_pairs_times}
-use Rattle.dl_model.specs.Compound.{cell}
-use Rattle.dl_model.specs.Counts.{IsPanjer}
-use Rattle.dl_model.specs.Family.{compound, Encloses}
 use Rattle.dl_model.specs.Recursion.{from_before}
-use Rattle.dl_model.specs.Series.{AtMost, AtLeast, IsBound}
-use Rattle.dl_model.specs.Severity.{IsWithinOne}
-use Rattle.dl_model.proofs.Declared.{at_most_wider}
-use Rattle.dl_model.proofs.FamilyLaws.{cell_at_most_one, compound_proper}
-use Rattle.dl_model.proofs.FiniteCounts.{finite_holds}
-use Rattle.dl_panjer.specs.Outward.{FollowsOutward}
 use Rattle.dl_panjer.proofs.Base.{base_encloses}
-use Rattle.dl_cert.specs.Numbers.{floor_of, ceiling_of, sum_plain, sum_by_amount, low_recursion, high_recursion}
 
 -- ---- a fraction rounded
 

@@ -1,47 +1,14 @@
 -- The parts of a unit make it up, and those of a covered plan, each as often as the target says, its total.
-use Rattle.std.proofs.Common.{ℕ, zero, suc, ◌≡◌, ◌≢◌, ◌<◌, ◌^◌, ◌∙◌, inl, inr, refl, sym, ap, subst, arith, List, [], ◌∷◌, map, get_or, None}
-use Rattle.std.proofs.lemmas.Bool.{cases_eq, eq-eqb, ne_eqb}
-use Rattle.std.proofs.lemmas.List.Elements.{All-head, All-tail, All-nil, All-cons}
-use Rattle.std.proofs.lemmas.Nat.{pow_pos}
-use Rattle.std.specs.Prelude.{All}
-use Rattle.dl_exact.specs.Fraction.{Fraction, whole}
-unfoldable use Rattle.dl_exact.specs.Fraction.{◌*ℚ◌, ◌/ℚ◌, ◌≤ℚ◌, ◌<ℚ◌, ◌over◌}
-use Rattle.dl_exact.proofs.Laws.{times_zero, zero_or_pos, times_comm, div_times, whole_pos, one_pos}
-use Rattle.dl_exact.proofs.Over.{over_self, over_cross}
-unfoldable use Rattle.dl_exact.specs.Power.{◌^ℚ◌}
-use Rattle.dl_exact.proofs.Denominators.{over_zero}
-use Rattle.dl_plan.specs.declared.plan.Freq.{Freq}
-use Rattle.dl_plan.specs.declared.plan.Freq.TheVariants.{Fixed, Table, Bernoulli, Binomial, Poisson, Gamma}
-use Rattle.dl_plan.specs.declared.plan.Plan.{Plan}
-use Rattle.dl_plan.specs.declared.plan.Unit.{Unit as UnitOfPlan}
-use Rattle.dl_plan.specs.declared.severity.Sev.{Sev}
-use Rattle.dl_plan.specs.Severity.{probability_of}
-use Rattle.dl_plan.specs.Count.{expected_count, IsClaimCount as IsCountOfPlan}
-use Rattle.dl_plan.specs.Means.{thinned_mean}
-use Rattle.dl_plan.specs.Valid.{IsValid, IsValidUnit}
-use Rattle.dl_plan.proofs.Clauses.{num_le_den}
-use Rattle.dl_budget.specs.Halvings.{halvings}
-unfoldable use Rattle.dl_model.specs.Compound.{power}
-use Rattle.dl_model.specs.Severity.{IsWithinOne}
-use Rattle.dl_model.specs.Family.{Family, product, nothing, times_itself, SameCells}
-use Rattle.dl_model.specs.Plans.{after_zero, compound_of, aggregate_of, loss_of, aggregates_of, outcome_after}
-use Rattle.dl_model.specs.Program.{Loss, total, One}
-unfoldable use Rattle.dl_model.specs.Program.{sum_over_outcomes}
+use Rattle.dl_cert.proofs.Common.{ℕ, zero, suc, ◌≡◌, ◌≢◌, ◌<◌, ◌^◌, ◌∙◌, inl, inr, refl, sym, ap, subst, arith, List, [], ◌∷◌, map, get_or, None, cases_eq, eq-eqb, ne_eqb, All-head, All-tail, All-nil, All-cons, pow_pos, All, Fraction, whole, ◌*ℚ◌, ◌/ℚ◌, ◌<ℚ◌, ◌over◌, times_zero, zero_or_pos, times_comm, div_times, whole_pos, one_pos, over_self, over_cross, ◌^ℚ◌, over_zero, Freq, Fixed, Table, Bernoulli, Binomial, Poisson, Gamma, Plan, UnitOfPlan, Sev, probability_of, expected_count, IsCountOfPlan, thinned_mean, IsValid, IsValidUnit, num_le_den, halvings, power, IsWithinOne, Family, product, nothing, times_itself, SameCells, after_zero, compound_of, aggregate_of, loss_of, aggregates_of, outcome_after, Loss, total, sum_over_outcomes, fixed_claims, trials, positive, given_part, none_thinned, within_one, HasValues, Label, labelled, IsTable, IsCoveredUnit, IsCovered, above_zero, part_of, parts_of, unit_part, unit_parts, parts_of_plan, target}
+use Rattle.dl_model.specs.Program.{One}
 use Rattle.dl_model.specs.Units.{loss, mapped}
-use Rattle.dl_model.proofs.Beginnings.{fixed_claims, trials}
 use Rattle.dl_model.proofs.Bounded.{quantity_bounded, whole_positive, are_units}
 use Rattle.dl_model.proofs.CountBounds.{fixed_count, binomial_count, poisson_count, gamma_of_count}
 use Rattle.dl_model.proofs.GammaThin.{gamma_shares}
 use Rattle.dl_model.proofs.Outcomes.{no_units, total_more, total_more_all, total_proper}
-use Rattle.dl_model.proofs.PlanThin.{positive, given_part, none_thinned}
 use Rattle.dl_model.proofs.PlanUnits.{unit_declared, units_declared}
 use Rattle.dl_model.proofs.PoissonTimes.{poisson_shares}
 use Rattle.dl_model.proofs.UnitLaws.{unit_proper, unit_plain, unit_loss}
-use Rattle.dl_model.proofs.WithinOne.{within_one}
-use Rattle.dl_cert.specs.Labels.{HasValues, Label}
-unfoldable use Rattle.dl_cert.specs.Labels.{labelled}
-use Rattle.dl_cert.specs.Covered.{IsTable, IsCoveredUnit, IsCovered}
-use Rattle.dl_cert.specs.Targets.{above_zero, part_of, parts_of, unit_part, unit_parts, parts_of_plan, target}
 use Rattle.dl_cert.proofs.SameProducts.{same_products}
 use Rattle.dl_cert.proofs.Values.{nothing_values, compound_values, labelled_values, itself_values, values_same, values_trans, part_within}
 

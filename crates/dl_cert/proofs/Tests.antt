@@ -1,25 +1,5 @@
 -- The test of a step's cells, by the kind of the step.
-use Rattle.std.proofs.Common.{ℕ, ◌≡◌, ◌⊎◌, ◌*◌, ◌/◌, ◌<◌, ◌≤◌, ◌∙◌, sym, ap, ap₂, subst, subst₂, arith, List, length, get_or}
-use Rattle.std.specs.Prelude.{◌↔◌, min}
-use Rattle.std.specs.Int.{div_ceil}
-use Rattle.std.proofs.lemmas.List.{get_or-map}
-use Rattle.dl_exact.specs.Count.{count_pairs}
-use Rattle.dl_iv.specs.declared.interval.Iv.{Iv}
-use Rattle.dl_grid.specs.Cells.{low_at, high_at, all_at_zero}
-use Rattle.dl_grid.specs.Convolution.{IsConvolution}
-use Rattle.dl_plan.specs.declared.plan.Plan.{Plan}
-use Rattle.dl_plan.specs.declared.plan.Unit.{Unit as UnitOfPlan}
-use Rattle.dl_plan.specs.Means.{thinned_mean}
-use Rattle.dl_cert.specs.declared.base.Base.{Base}
-use Rattle.dl_cert.specs.declared.step.Kind.{Kind}
-use Rattle.dl_cert.specs.declared.step.Kind.TheVariants.{One, Start, Times}
-use Rattle.dl_cert.specs.Bases.{low_base, high_base, IsBaseOf, AreStarts, PassesTo}
-use Rattle.dl_cert.specs.Kept.{Keeps}
-use Rattle.dl_cert.specs.Lines.{IsStep}
-use Rattle.dl_cert.specs.Numbers.{one, low_number, high_number, low_start, high_start}
-use Rattle.dl_cert.specs.Reading.{line_from}
-use Rattle.dl_cert.specs.Steps.{Step, Made, made_at}
-use Rattle.dl_cert.specs.Targets.{unit_parts, target}
+use Rattle.dl_cert.proofs.Common.{ℕ, ◌≡◌, ◌⊎◌, ◌*◌, ◌/◌, ◌<◌, ◌≤◌, ◌∙◌, sym, ap, ap₂, subst, subst₂, arith, List, length, get_or, ◌↔◌, min, div_ceil, get_or-map, count_pairs, Iv, low_at, high_at, all_at_zero, IsConvolution, Plan, UnitOfPlan, thinned_mean, Base, Kind, One, Start, Times, low_base, high_base, IsBaseOf, AreStarts, PassesTo, Keeps, IsStep, one, low_number, high_number, low_start, high_start, line_from, Step, Made, made_at, unit_parts, target}
 use Rattle.dl_cert.proofs.Readings.{step_is}
 
 -- the cells pass beside the numbers of a step

@@ -1,46 +1,7 @@
 -- The numbers of a base are those of the starts of its unit.
-use Rattle.std.proofs.Common.{List, ℕ, zero, suc, ◌≡◌, ◌+◌, ◌-◌, ◌*◌, ◌/◌, ◌<◌, ◌≤◌, ◌^◌, ◌∙◌, sym, ap, ap₂, subst, arith, true, false, mul_comm, mul-pos, zero-lt-suc}
-use Rattle.std.specs.Prelude.{min}
-use Rattle.std.specs.Int.{div_ceil}
-use Rattle.dl_exact.specs.Fraction.{Fraction, whole}
-unfoldable use Rattle.dl_exact.specs.Fraction.{◌+ℚ◌, ◌*ℚ◌, ◌/ℚ◌, ◌over◌}
-use Rattle.dl_exact.specs.Rounding.{IsFloor, IsCeiling}
-use Rattle.dl_exact.proofs.Laws.{one_pos, times_comm, times_one, times_zero, zero_plus}
-use Rattle.std.proofs.Math.Nat.{mul-le-mul_left}
-unfoldable use Rattle.dl_exact.specs.Fraction.{◌≤ℚ◌}
-use Rattle.dl_exact.proofs.RoundingLaws.{div_ceil_least}
-use Rattle.dl_plan.proofs.Clauses.{num_le_den}
-use Rattle.dl_exact.proofs.Over.{over_le, over_self, over_same, over_mul, over_div, over_add}
-use Rattle.dl_exact.proofs.Denominators.{units_of}
-use Rattle.dl_exact.proofs.Parts.{whole_num, whole_den}
-use Rattle.dl_exact.proofs.RoundingLaws.{floor_div, ceiling_div, floor_one, ceiling_one}
-use Rattle.dl_exact.proofs.Sums.{sum_pairs_same}
-use Rattle.dl_exact.proofs.SumsOver.{sum_pairs_over}
-use Rattle.dl_budget.specs.Halvings.{halvings}
-use Rattle.dl_exp.specs.Ends.{exp_low, exp_high}
-unfoldable use Rattle.dl_model.specs.Compound.{at_zero}
-use Rattle.dl_model.specs.Compound.{cell}
-use Rattle.dl_model.specs.Counts.{fixed, binomial}
-use Rattle.dl_model.proofs.Beginnings.{one_claim_cell, one_trial_cell}
-use Rattle.dl_panjer.specs.Cells.{coefficient, next_sum}
-use Rattle.dl_panjer.proofs.Recursions.{divided, one_and, rate_of}
-use Rattle.dl_plan.specs.declared.item.Item.{Item}
-use Rattle.dl_plan.specs.declared.severity.Sev.{Sev}
-use Rattle.dl_plan.specs.Severity.{probability_of, pairs_of, conditioned, Means}
-use Rattle.dl_plan.specs.Weighted.{weight_at}
-use Rattle.dl_plan.proofs.Means.{severity_total}
-use Rattle.std.proofs.Common.{cond}
-use Rattle.std.proofs.lemmas.Bool.{eq-eqb}
-use Rattle.dl_plan.specs.declared.plan.Freq.TheVariants.{Fixed, Bernoulli, Binomial}
-use Rattle.dl_plan.specs.declared.plan.Freq.TheVariants.{Poisson as PoissonCount, Gamma as GammaCount}
-use Rattle.dl_plan.specs.declared.plan.Unit.{Unit as UnitOfPlan}
-use Rattle.dl_plan.specs.Means.{thinned_mean}
-use Rattle.dl_cert.specs.declared.base.Share.{Share}
+use Rattle.dl_cert.proofs.Common.{refl, Freq, List, ℕ, zero, suc, ◌≡◌, ◌+◌, ◌-◌, ◌*◌, ◌/◌, ◌<◌, ◌≤◌, ◌^◌, ◌∙◌, sym, ap, ap₂, subst, arith, true, false, mul_comm, mul-pos, zero-lt-suc, min, div_ceil, Fraction, whole, ◌+ℚ◌, ◌*ℚ◌, ◌/ℚ◌, ◌over◌, IsFloor, IsCeiling, one_pos, times_comm, times_one, times_zero, zero_plus, mul-le-mul_left, ◌≤ℚ◌, div_ceil_least, num_le_den, over_le, over_self, over_same, over_mul, over_div, over_add, units_of, whole_num, whole_den, floor_div, ceiling_div, floor_one, ceiling_one, sum_pairs_same, sum_pairs_over, halvings, exp_low, exp_high, at_zero, cell, fixed, binomial, one_claim_cell, one_trial_cell, coefficient, next_sum, divided, one_and, rate_of, Item, Sev, probability_of, pairs_of, conditioned, Means, weight_at, severity_total, cond, eq-eqb, Fixed, Bernoulli, Binomial, PoissonCount, GammaCount, UnitOfPlan, thinned_mean, Share, above_zero, parts_of, unit_parts, one, floor_of, ceiling_of, sum_plain, sum_by_amount, low_recursion, high_recursion, low_start, high_start, trial_parts, low_share, high_share, IsBaseOf}
 use Rattle.dl_cert.specs.declared.base.Chance.{Chance}
 use Rattle.dl_cert.specs.declared.base.Base.TheVariants.{Nothing, Trial, Poisson, Geometric}
-use Rattle.dl_cert.specs.Targets.{above_zero, parts_of, unit_parts}
-use Rattle.dl_cert.specs.Numbers.{one, floor_of, ceiling_of, sum_plain, sum_by_amount, low_recursion, high_recursion, low_start, high_start}
-use Rattle.dl_cert.specs.Bases.{trial_parts, low_share, high_share, IsBaseOf}
 
 -- ---- quotients rounded
 
@@ -90,16 +51,6 @@ module _ (q : Fraction) (sev : Sev) where
       one_trial_cell (probability_of sev) q.num q.den (suc y) q.positive
       ∙ ap₂ (λ a b. a +ℚ b) (times_zero _) (share_of (weight_at sev.items (suc y))) ∙ zero_plus _
 
-  pub low_trial : (y : ℕ) → one * trial_parts q sev y / (q.den * sev.total)
-      ≡ floor_of (whole one *ℚ cell (binomial 1 q.num q.den) (probability_of sev) y 1)
-  low_trial y = floor_units (trial_parts q sev y) (q.den * sev.total) both_pos
-      ∙ ap (λ x. floor_of (whole one *ℚ x)) (sym (trial_cell y))
-
-  pub high_trial : (y : ℕ) → div_ceil (one * trial_parts q sev y) (q.den * sev.total)
-      ≡ ceiling_of (whole one *ℚ cell (binomial 1 q.num q.den) (probability_of sev) y 1)
-  high_trial y = ceiling_units (trial_parts q sev y) (q.den * sev.total) both_pos
-      ∙ ap (λ x. ceiling_of (whole one *ℚ x)) (sym (trial_cell y))
-
 -- a trial that is surely a claim
 module _ (sev : Sev) where
   sure_parts : (y : ℕ) → trial_parts (whole 1) sev y ≡ weight_at sev.items y
@@ -112,19 +63,6 @@ module _ (sev : Sev) where
   claim_cell : (y : ℕ) → cell (fixed 1) (probability_of sev) y 1
       ≡ trial_parts (whole 1) sev y over ((whole 1).den * sev.total)
   claim_cell y = one_claim_cell (probability_of sev) y ∙ sym (ap₂ (λ m n. m over n) (sure_parts y) sure_den)
-
-  sure_pos : 0 < (whole 1).den * sev.total
-  sure_pos = subst (λ n. 0 < n) (sym sure_den) (severity_total sev)
-
-  pub low_claim : (y : ℕ) → one * trial_parts (whole 1) sev y / ((whole 1).den * sev.total)
-      ≡ floor_of (whole one *ℚ cell (fixed 1) (probability_of sev) y 1)
-  low_claim y = floor_units (trial_parts (whole 1) sev y) ((whole 1).den * sev.total) sure_pos
-      ∙ ap (λ x. floor_of (whole one *ℚ x)) (sym (claim_cell y))
-
-  pub high_claim : (y : ℕ) → div_ceil (one * trial_parts (whole 1) sev y) ((whole 1).den * sev.total)
-      ≡ ceiling_of (whole one *ℚ cell (fixed 1) (probability_of sev) y 1)
-  high_claim y = ceiling_units (trial_parts (whole 1) sev y) ((whole 1).den * sev.total) sure_pos
-      ∙ ap (λ x. ceiling_of (whole one *ℚ x)) (sym (claim_cell y))
 
 -- ---- sums
 
@@ -161,64 +99,57 @@ by_rate x r = ap (λ n. n over r.den) (mul_comm x r.num) ∙ units_of x r ∙ ti
 
 -- ---- shares
 
-module _ (share : Share) (sev : Sev) (means : Means share.positive (conditioned 0 (pairs_of sev))) where
+-- a sum over T, and a multiple of it, each rounded
+stepped : (round : Fraction → ℕ) (quotient : ℕ → ℕ → ℕ)
+    → ((n d : ℕ) → 0 < d → round (n over d) ≡ quotient n d)
+    → (C T num den : ℕ) (x factor : Fraction) → 0 < T → 0 < den → x ≡ C over T
+    → ((k : ℕ) → (k * num) over den ≡ factor *ℚ whole k)
+    → quotient (quotient C T * num) den ≡ round (factor *ℚ whole (round x))
+stepped round quotient rounds C T num den x factor T_pos pos is by =
+    sym (rounds (quotient C T * num) den pos) ∙ ap round (by (quotient C T))
+    ∙ ap (λ k. round (factor *ℚ whole k)) (sym (ap round is ∙ rounds C T T_pos))
+
+module _ (share : Share) (sev : Sev) (means : Means share.positive (conditioned 0 (pairs_of sev))) (ends : ℕ → ℕ) where
   abbrev T : ℕ
   T = share.positive.total
+
+  abbrev u : Fraction
+  u = share.rate
 
   pos : 0 < T
   pos = severity_total share.positive
 
-  module _ (u : Fraction) (rate : share.rate ≡ u) (ends : ℕ → ℕ) where
-    abbrev sum : (s : ℕ) → ℕ
-    sum s = next_sum (coefficient true share.positive.items) ends s
+  by_amount : (s : ℕ)
+      → sum_by_amount (above_zero sev) ends s ≡ next_sum (coefficient true share.positive.items) ends s over T
+  by_amount = sum_by_amount_is share.positive.items T pos (above_zero sev) means ends
 
-    abbrev plain : (s : ℕ) → ℕ
-    plain s = next_sum (coefficient false share.positive.items) ends s
+  plain : (s : ℕ)
+      → sum_plain (above_zero sev) ends s ≡ next_sum (coefficient false share.positive.items) ends s over T
+  plain = sum_plain_is share.positive.items T pos (above_zero sev) means ends
 
-    pub low_poisson : (start y : ℕ) → share.first.lo ≡ start → low_share true share ends y
-        ≡ low_recursion start (λ s. u /ℚ whole (suc s)) (sum_by_amount (above_zero sev) ends) y
-    low_poisson start zero first = first
-    low_poisson start (suc s) first =
-        let x : ℕ = sum s / T in
-        let inner : floor_of (sum_by_amount (above_zero sev) ends s) ≡ x =
-        ap floor_of (sum_by_amount_is share.positive.items T pos (above_zero sev) means ends s) ∙ floor_over (sum s) T pos in
-        ap (λ (r : Fraction). x * r.num / (suc s * r.den)) rate
-        ∙ sym (floor_over (x * u.num) (suc s * u.den) (mul-pos (zero-lt-suc s) u.positive))
-        ∙ ap floor_of (by_number x s u) ∙ ap (λ n. floor_of (u /ℚ whole (suc s) *ℚ whole n)) (sym inner)
+  low_poisson : (y : ℕ) → low_share true share ends y
+      ≡ low_recursion share.first.lo (λ s. u /ℚ whole (suc s)) (sum_by_amount (above_zero sev) ends) y
+  low_poisson zero = refl
+  low_poisson (suc s) = stepped floor_of (λ n d. n / d) floor_over _ T u.num (suc s * u.den) _ _ pos
+      (mul-pos (zero-lt-suc s) u.positive) (by_amount s) (λ k. by_number k s u)
 
-    pub high_poisson : (start y : ℕ) → share.first.hi ≡ start → high_share true share ends y
-        ≡ high_recursion start (λ s. u /ℚ whole (suc s)) (sum_by_amount (above_zero sev) ends) y
-    high_poisson start zero first = first
-    high_poisson start (suc s) first =
-        let x : ℕ = div_ceil (sum s) T in
-        let inner : ceiling_of (sum_by_amount (above_zero sev) ends s) ≡ x =
-        ap ceiling_of (sum_by_amount_is share.positive.items T pos (above_zero sev) means ends s)
-        ∙ ceiling_over (sum s) T pos in
-        ap (min one) (ap (λ (r : Fraction). div_ceil (x * r.num) (suc s * r.den)) rate
-        ∙ sym (ceiling_over (x * u.num) (suc s * u.den) (mul-pos (zero-lt-suc s) u.positive))
-        ∙ ap ceiling_of (by_number x s u) ∙ ap (λ n. ceiling_of (u /ℚ whole (suc s) *ℚ whole n)) (sym inner))
+  high_poisson : (y : ℕ) → high_share true share ends y
+      ≡ high_recursion share.first.hi (λ s. u /ℚ whole (suc s)) (sum_by_amount (above_zero sev) ends) y
+  high_poisson zero = refl
+  high_poisson (suc s) = ap (min one) (stepped ceiling_of div_ceil ceiling_over _ T u.num (suc s * u.den) _ _ pos
+      (mul-pos (zero-lt-suc s) u.positive) (by_amount s) (λ k. by_number k s u))
 
-    pub low_geometric : (start y : ℕ) → share.first.lo ≡ start → low_share false share ends y
-        ≡ low_recursion start (λ s. u) (sum_plain (above_zero sev) ends) y
-    low_geometric start zero first = first
-    low_geometric start (suc s) first =
-        let x : ℕ = plain s / T in
-        let inner : floor_of (sum_plain (above_zero sev) ends s) ≡ x =
-        ap floor_of (sum_plain_is share.positive.items T pos (above_zero sev) means ends s) ∙ floor_over (plain s) T pos in
-        ap (λ (r : Fraction). x * r.num / r.den) rate ∙ sym (floor_over (x * u.num) u.den u.positive)
-        ∙ ap floor_of (by_rate x u) ∙ ap (λ n. floor_of (u *ℚ whole n)) (sym inner)
+  low_geometric : (y : ℕ) → low_share false share ends y
+      ≡ low_recursion share.first.lo (λ s. u) (sum_plain (above_zero sev) ends) y
+  low_geometric zero = refl
+  low_geometric (suc s) =
+      stepped floor_of (λ n d. n / d) floor_over _ T u.num u.den _ _ pos u.positive (plain s) (λ k. by_rate k u)
 
-    pub high_geometric : (start y : ℕ) → share.first.hi ≡ start → high_share false share ends y
-        ≡ high_recursion start (λ s. u) (sum_plain (above_zero sev) ends) y
-    high_geometric start zero first = first
-    high_geometric start (suc s) first =
-        let x : ℕ = div_ceil (plain s) T in
-        let inner : ceiling_of (sum_plain (above_zero sev) ends s) ≡ x =
-        ap ceiling_of (sum_plain_is share.positive.items T pos (above_zero sev) means ends s)
-        ∙ ceiling_over (plain s) T pos in
-        ap (min one) (ap (λ (r : Fraction). div_ceil (x * r.num) r.den) rate
-        ∙ sym (ceiling_over (x * u.num) u.den u.positive) ∙ ap ceiling_of (by_rate x u)
-        ∙ ap (λ n. ceiling_of (u *ℚ whole n)) (sym inner))
+  high_geometric : (y : ℕ) → high_share false share ends y
+      ≡ high_recursion share.first.hi (λ s. u) (sum_plain (above_zero sev) ends) y
+  high_geometric zero = refl
+  high_geometric (suc s) = ap (min one)
+      (stepped ceiling_of div_ceil ceiling_over _ T u.num u.den _ _ pos u.positive (plain s) (λ k. by_rate k u))
 
 -- ---- cell 0 of a geometric count
 
@@ -233,98 +164,98 @@ module _ (unit : UnitOfPlan) where
   abbrev v : Fraction
   v = thinned_mean unit
 
-  poisson_none : (mean : Fraction) → unit.freq ≡ PoissonCount mean → v.num ≡ 0 → unit_parts unit ≡ 0
-  poisson_none mean e none = ap (λ f. parts_of f v) e ∙ ap (λ b. cond b 0 (2 ^ halvings v)) (eq-eqb v.num 0 none)
-
-  gamma_none : (shape : ℕ) (mean : Fraction) → unit.freq ≡ GammaCount shape mean → v.num ≡ 0 → unit_parts unit ≡ 0
-  gamma_none shape mean e none = ap (λ f. parts_of f v) e ∙ ap (λ b. cond b 0 shape) (eq-eqb v.num 0 none)
-
-  nothing_is : unit_parts unit ≡ 0 → IsBaseOf unit Nothing
+  -- a unit that no start makes up
+  pub nothing_is : unit_parts unit ≡ 0 → IsBaseOf unit Nothing
   nothing_is none = record {
     low = λ some ends y. absurd (omega (arith, some, none));
     high = λ some ends y. absurd (omega (arith, some, none));
   }
 
   pub poisson_nothing : (mean : Fraction) → unit.freq ≡ PoissonCount mean → v.num ≡ 0 → IsBaseOf unit Nothing
-  poisson_nothing mean e none = nothing_is (poisson_none mean e none)
+  poisson_nothing mean e none =
+      nothing_is (ap (λ f. parts_of f v) e ∙ ap (λ b. cond b 0 (2 ^ halvings v)) (eq-eqb v.num 0 none))
 
   pub gamma_nothing : (shape : ℕ) (mean : Fraction) → unit.freq ≡ GammaCount shape mean → v.num ≡ 0
       → IsBaseOf unit Nothing
-  gamma_nothing shape mean e none = nothing_is (gamma_none shape mean e none)
+  gamma_nothing shape mean e none =
+      nothing_is (ap (λ f. parts_of f v) e ∙ ap (λ b. cond b 0 shape) (eq-eqb v.num 0 none))
 
   pub poisson_is : (mean : Fraction) (share : Share) → unit.freq ≡ PoissonCount mean
       → Means share.positive (conditioned 0 (pairs_of unit.sev))
       → share.rate ≡ v /ℚ whole (2 ^ halvings v)
       → share.first.lo ≡ exp_low 56 (v /ℚ whole (2 ^ halvings v))
       → share.first.hi ≡ exp_high 56 (v /ℚ whole (2 ^ halvings v)) → IsBaseOf unit (Poisson share)
-  poisson_is mean share e means rate low high = record {
-    low = λ some ends y. low_poisson share unit.sev means _ rate ends _ y low
-        ∙ ap (λ f. low_start f unit.sev v ends y) (sym e);
-    high = λ some ends y. high_poisson share unit.sev means _ rate ends _ y high
-        ∙ ap (λ f. high_start f unit.sev v ends y) (sym e);
-  }
-
-  pub geometric_is : (shape : ℕ) (mean : Fraction) (share : Share) → unit.freq ≡ GammaCount shape mean → 0 < shape
-      → Means share.positive (conditioned 0 (pairs_of unit.sev))
-      → share.rate ≡ v.num over (v.num + v.den * shape)
-      → share.first.lo ≡ one * (v.den * shape) / (v.num + v.den * shape)
-      → share.first.hi ≡ div_ceil (one * (v.den * shape)) (v.num + v.den * shape) → IsBaseOf unit (Geometric share)
-  geometric_is shape mean share e some means rate low high =
-      let n : ℕ = v.num in
-      let d : ℕ = v.den * shape in
-      let pos : 0 < d = mul-pos v.positive some in
-      let all : 0 < n + d = omega (arith, pos) in
-      let beta : n over d ≡ v /ℚ whole shape = divided v shape some in
-      let first : d over (n + d) ≡ whole 1 /ℚ (whole 1 +ℚ v /ℚ whole shape) =
-      sym (ap (λ t. whole 1 /ℚ (whole 1 +ℚ t)) (sym beta) ∙ reciprocal_units n d pos) in
-      let is : share.rate ≡ v /ℚ whole shape /ℚ (whole 1 +ℚ v /ℚ whole shape) =
-      rate ∙ rate_of n d pos ∙ ap (λ t. t /ℚ (whole 1 +ℚ t)) beta in
+  poisson_is mean share e means rate low high =
+      let sum = sum_by_amount (above_zero unit.sev) in
       record {
-        low = λ counted ends y. low_geometric share unit.sev means _ is ends _ y
-            (low ∙ floor_units d (n + d) all ∙ ap (λ t. floor_of (whole one *ℚ t)) first)
+        low = λ some ends y. low_poisson share unit.sev means ends y
+            ∙ ap₂ (λ start r. low_recursion start (λ s. r /ℚ whole (suc s)) (sum ends) y) low rate
             ∙ ap (λ f. low_start f unit.sev v ends y) (sym e);
-        high = λ counted ends y. high_geometric share unit.sev means _ is ends _ y
-            (high ∙ ceiling_units d (n + d) all ∙ ap (λ t. ceiling_of (whole one *ℚ t)) first)
+        high = λ some ends y. high_poisson share unit.sev means ends y
+            ∙ ap₂ (λ start r. high_recursion start (λ s. r /ℚ whole (suc s)) (sum ends) y) high rate
             ∙ ap (λ f. high_start f unit.sev v ends y) (sym e);
       }
 
-  pub fixed_is : (m : ℕ) (chance : Chance) → unit.freq ≡ Fixed m → chance.q ≡ whole 1 → IsBaseOf unit (Trial chance)
-  fixed_is m chance e is = record {
-    low = λ some ends y. ap (λ (q : Fraction). one * trial_parts q unit.sev y / (q.den * unit.sev.total)) is
-        ∙ low_claim unit.sev y ∙ ap (λ f. low_start f unit.sev v ends y) (sym e);
-    high = λ some ends y. ap (λ (q : Fraction). div_ceil (one * trial_parts q unit.sev y) (q.den * unit.sev.total)) is
-        ∙ high_claim unit.sev y ∙ ap (λ f. high_start f unit.sev v ends y) (sym e);
-  }
-
-  pub bernoulli_is : (q : Fraction) (chance : Chance) → unit.freq ≡ Bernoulli q → chance.q ≡ q
-      → IsBaseOf unit (Trial chance)
-  bernoulli_is q chance e is = record {
-    low = λ some ends y. ap (λ (q : Fraction). one * trial_parts q unit.sev y / (q.den * unit.sev.total)) is
-        ∙ low_trial q unit.sev y ∙ ap (λ f. low_start f unit.sev v ends y) (sym e);
-    high = λ some ends y. ap (λ (q : Fraction). div_ceil (one * trial_parts q unit.sev y) (q.den * unit.sev.total)) is
-        ∙ high_trial q unit.sev y ∙ ap (λ f. high_start f unit.sev v ends y) (sym e);
-  }
-
-  pub binomial_is : (m : ℕ) (q : Fraction) (chance : Chance) → unit.freq ≡ Binomial m q → chance.q ≡ q
-      → IsBaseOf unit (Trial chance)
-  binomial_is m q chance e is = record {
-    low = λ some ends y. ap (λ (q : Fraction). one * trial_parts q unit.sev y / (q.den * unit.sev.total)) is
-        ∙ low_trial q unit.sev y ∙ ap (λ f. low_start f unit.sev v ends y) (sym e);
-    high = λ some ends y. ap (λ (q : Fraction). div_ceil (one * trial_parts q unit.sev y) (q.den * unit.sev.total)) is
-        ∙ high_trial q unit.sev y ∙ ap (λ f. high_start f unit.sev v ends y) (sym e);
-  }
-
-  -- the same by the numbers as they are read
-  pub geometric_read : (shape : ℕ) (mean w : Fraction) (share : Share) (num den all : ℕ) → unit.freq ≡ GammaCount shape mean
+  -- by the numbers as they are read
+  pub geometric_is : (shape : ℕ) (mean w : Fraction) (share : Share) (num den all : ℕ) → unit.freq ≡ GammaCount shape mean
       → 0 < shape → Means share.positive (conditioned 0 (pairs_of unit.sev)) → w ≡ v → num ≡ w.num
       → den ≡ w.den * shape → all ≡ num + den → share.rate ≡ num over all → share.first.lo ≡ one * den / all
       → share.first.hi ≡ div_ceil (one * den) all → IsBaseOf unit (Geometric share)
-  geometric_read shape mean w share num den all e some means same num_is den_is all_is rate low high =
-      let n : num ≡ v.num = num_is ∙ ap (λ (x : Fraction). x.num) same in
-      let d : den ≡ v.den * shape = den_is ∙ ap (λ (x : Fraction). x.den * shape) same in
-      let a : all ≡ v.num + v.den * shape = all_is ∙ ap₂ (λ s t. s + t) n d in
-      geometric_is shape mean share e some means (rate ∙ ap₂ (λ s t. s over t) n a)
-      (low ∙ ap₂ (λ s t. one * s / t) d a) (high ∙ ap₂ (λ s t. div_ceil (one * s) t) d a)
+  geometric_is shape mean w share num den all e some means same num_is den_is all_is rate low high =
+      let d_pos : 0 < den = omega (arith, den_is, mul-pos w.positive some) in
+      let pos : 0 < all = omega (arith, d_pos, all_is) in
+      let beta : num over den ≡ v /ℚ whole shape =
+      ap₂ (λ s t. s over t) num_is den_is ∙ divided w shape some ∙ ap (λ (x : Fraction). x /ℚ whole shape) same in
+      let first : den over all ≡ whole 1 /ℚ (whole 1 +ℚ v /ℚ whole shape) =
+      ap (λ n. den over n) all_is ∙ sym (ap (λ t. whole 1 /ℚ (whole 1 +ℚ t)) (sym beta) ∙ reciprocal_units num den d_pos) in
+      let is : share.rate ≡ v /ℚ whole shape /ℚ (whole 1 +ℚ v /ℚ whole shape) =
+      rate ∙ ap (λ n. num over n) all_is ∙ rate_of num den d_pos ∙ ap (λ t. t /ℚ (whole 1 +ℚ t)) beta in
+      let sum = sum_plain (above_zero unit.sev) in
+      record {
+        low = λ counted ends y. low_geometric share unit.sev means ends y
+            ∙ ap₂ (λ start r. low_recursion start (λ s. r) (sum ends) y)
+            (low ∙ floor_units den all pos ∙ ap (λ t. floor_of (whole one *ℚ t)) first) is
+            ∙ ap (λ f. low_start f unit.sev v ends y) (sym e);
+        high = λ counted ends y. high_geometric share unit.sev means ends y
+            ∙ ap₂ (λ start r. high_recursion start (λ s. r) (sum ends) y)
+            (high ∙ ceiling_units den all pos ∙ ap (λ t. ceiling_of (whole one *ℚ t)) first) is
+            ∙ ap (λ f. high_start f unit.sev v ends y) (sym e);
+      }
+
+  -- one trial, or one claim
+  trial_is : (chance : Chance) (w : ℕ → Fraction) (freq : Freq) → unit.freq ≡ freq
+      → ((y : ℕ) → cell w (probability_of unit.sev) y 1
+      ≡ trial_parts chance.q unit.sev y over (chance.q.den * unit.sev.total))
+      → ((ends : ℕ → ℕ) (y : ℕ) → floor_of (whole one *ℚ cell w (probability_of unit.sev) y 1)
+      ≡ low_start freq unit.sev v ends y)
+      → ((ends : ℕ → ℕ) (y : ℕ) → ceiling_of (whole one *ℚ cell w (probability_of unit.sev) y 1)
+      ≡ high_start freq unit.sev v ends y) → IsBaseOf unit (Trial chance)
+  trial_is chance w freq e is low high =
+      let q = chance.q in
+      record {
+        low = λ some ends y. floor_units _ _ (both_pos q unit.sev) ∙ ap (λ x. floor_of (whole one *ℚ x)) (sym (is y))
+            ∙ low ends y ∙ ap (λ f. low_start f unit.sev v ends y) (sym e);
+        high = λ some ends y. ceiling_units _ _ (both_pos q unit.sev)
+            ∙ ap (λ x. ceiling_of (whole one *ℚ x)) (sym (is y))
+            ∙ high ends y ∙ ap (λ f. high_start f unit.sev v ends y) (sym e);
+      }
+
+  pub fixed_is : (m : ℕ) (chance : Chance) → unit.freq ≡ Fixed m → chance.q ≡ whole 1 → IsBaseOf unit (Trial chance)
+  fixed_is m chance e is = trial_is chance (fixed 1) (Fixed m) e (λ y. claim_cell unit.sev y
+      ∙ ap (λ (q : Fraction). trial_parts q unit.sev y over (q.den * unit.sev.total)) (sym is))
+      (λ ends y. refl) (λ ends y. refl)
+
+  pub bernoulli_is : (q : Fraction) (chance : Chance) → unit.freq ≡ Bernoulli q → chance.q ≡ q
+      → IsBaseOf unit (Trial chance)
+  bernoulli_is q chance e is =
+      trial_is chance (binomial 1 chance.q.num chance.q.den) (Bernoulli chance.q) (e ∙ ap Bernoulli (sym is))
+      (trial_cell chance.q unit.sev) (λ ends y. refl) (λ ends y. refl)
+
+  pub binomial_is : (m : ℕ) (q : Fraction) (chance : Chance) → unit.freq ≡ Binomial m q → chance.q ≡ q
+      → IsBaseOf unit (Trial chance)
+  binomial_is m q chance e is =
+      trial_is chance (binomial 1 chance.q.num chance.q.den) (Binomial m chance.q) (e ∙ ap (Binomial m) (sym is))
+      (trial_cell chance.q unit.sev) (λ ends y. refl) (λ ends y. refl)
 
 pub part_within_one : (n d : ℕ) → 0 < d → (x : Fraction) → x ≡ n over (n + d) → x.num ≤ x.den
 part_within_one n d pos x is =

@@ -1,22 +1,5 @@
 -- Families whose cells have declared values.
-use Rattle.std.proofs.Common.{ℕ, zero, suc, ◌≡◌, ◌∙◌, sym, ap, ap₂, subst₂, max, List, [], ◌∷◌}
-use Rattle.std.proofs.Math.Nat.{le-max_left, le-max_right}
-use Rattle.std.proofs.lemmas.List.Elements.{All-head, All-tail}
-use Rattle.std.specs.Prelude.{All}
-use Rattle.dl_exact.specs.Fraction.{Fraction, whole}
-unfoldable use Rattle.dl_exact.specs.Fraction.{◌+ℚ◌, ◌*ℚ◌, ◌≤ℚ◌, ◌<ℚ◌}
-use Rattle.dl_exact.specs.Power.{◌^ℚ◌}
-use Rattle.dl_exact.specs.Sum.{sum_to}
-use Rattle.dl_exact.proofs.Laws.{one_pos, whole_pos, le_refl, times_zero, times_comm, one_times, plus_comm, plus_assoc, plus_zero, plus_le_cancel, times_le_cancel, times_le_both, times_pos, lt_of_lt_of_le}
-use Rattle.dl_exact.proofs.Sums.{sum_to_times}
-use Rattle.dl_model.specs.Counts.{AreCountWeights}
-use Rattle.dl_model.specs.Severity.{IsWithinOne, IsPositivePart}
-use Rattle.dl_model.specs.Family.{Family, compound, product, nothing, times_itself, SameCells}
-use Rattle.dl_model.proofs.Alike.{same_value, level_same, value_trans}
-use Rattle.dl_model.proofs.Declared.{rises_to}
-use Rattle.dl_model.proofs.FamilyLaws.{compound_proper, nothing_proper, proper_product, itself_proper}
-use Rattle.dl_cert.specs.Labels.{HasValues, Label}
-unfoldable use Rattle.dl_cert.specs.Labels.{labelled}
+use Rattle.dl_cert.proofs.Common.{ℕ, zero, suc, ◌≡◌, ◌∙◌, sym, ap, ap₂, subst₂, max, List, [], ◌∷◌, le-max_left, le-max_right, All-head, All-tail, All, Fraction, whole, ◌+ℚ◌, ◌*ℚ◌, ◌≤ℚ◌, ◌<ℚ◌, ◌^ℚ◌, sum_to, one_pos, whole_pos, le_refl, times_zero, times_comm, one_times, plus_comm, plus_assoc, plus_zero, plus_le_cancel, times_le_cancel, times_le_both, times_pos, lt_of_lt_of_le, sum_to_times, AreCountWeights, IsWithinOne, IsPositivePart, Family, compound, product, nothing, times_itself, SameCells, same_value, level_same, value_trans, rises_to, compound_proper, nothing_proper, proper_product, itself_proper, HasValues, Label, labelled}
 
 -- ---- families with values
 

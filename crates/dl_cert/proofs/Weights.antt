@@ -1,17 +1,7 @@
 -- The weight of an amount among items whose amounts rise.
-use Rattle.std.proofs.Common.{ℕ, zero, suc, ◌≡◌, ◌≢◌, ◌+◌, ◌-◌, ◌*◌, ◌<◌, ◌≤◌, ◌∙◌, inl, inr, refl, sym, ap, ap₂, subst, arith, cond, List, [], ◌∷◌, length, get_or}
-use Rattle.std.proofs.Common.{◌^◌, Bool, true, false}
-use Rattle.std.specs.Int.{div_ceil}
-use Rattle.dl_exact.proofs.RoundingLaws.{div_ceil_least}
-use Rattle.std.proofs.Math.Nat.{mul-le-mul_left, mul-le-mul, add-mul, sub-add_cancel}
+use Rattle.dl_cert.proofs.Common.{ℕ, zero, suc, ◌≡◌, ◌≢◌, ◌+◌, ◌-◌, ◌*◌, ◌<◌, ◌≤◌, ◌∙◌, inl, inr, refl, sym, ap, ap₂, subst, arith, cond, List, [], ◌∷◌, length, get_or, ◌^◌, Bool, true, false, mul-le-mul_left, mul-le-mul, add-mul, sub-add_cancel, cases_lt, cases_eq, eq-eqb, ne_eqb, get_or-map, get_or_default, length-map, sum_by-le-sum_by, Item, amounts_of, weight_at, weight_sum, ◌==◌}
 use Rattle.std.specs.List.Sorted.{IsStrictlyIncreasing}
-use Rattle.std.proofs.lemmas.Bool.{cases_lt, cases_eq, eq-eqb, ne_eqb}
-use Rattle.std.proofs.lemmas.List.{get_or-map, get_or_default, length-map}
 use Rattle.std.proofs.lemmas.List.Kept.{AllPairs-from_increasing}
-use Rattle.std.proofs.lemmas.List.Sums.{sum_by-le-sum_by}
-use Rattle.dl_plan.specs.declared.item.Item.{Item}
-use Rattle.dl_plan.specs.Weighted.{amounts_of, weight_at, weight_sum}
-use Rattle.std.specs.Prelude.{◌==◌}
 use Rattle.dl_panjer.proofs.ItemSums.{weight_at-cons}
 
 -- an amount that no item has
@@ -62,7 +52,12 @@ module _ (items : List Item) (rising : IsStrictlyIncreasing (amounts_of items)) 
     module _ (p : ℕ) (is : suc p ≡ r) (bound : r ≤ length items) (d : Item) where
       others : (k : ℕ) (e : Item) → k < length items → k ≢ p → (get_or items k e).amount ≢ y
       others k e inside differs h = elim (cases_lt k p) [
-        | inl below ↦ absurd (omega (arith, rise k p e d below (omega (arith, is, bound)), before p d (omega (arith, is)), h))
+        | inl below ↦ absurd (omega (
+          arith,
+          rise k p e d below (omega (arith, is, bound)),
+          before p d (omega (arith, is)),
+          h,
+        ))
         | inr above ↦ absurd (omega (arith, after k e (omega (arith, above, differs, is)) inside, h))
       ]
 
@@ -103,8 +98,3 @@ parts_small den total small few =
     let least : den ≤ 2 ^ 48 = omega (arith, small) in
     let product : den * total ≤ 2 ^ 48 * 2 ^ 30 = mul-le-mul least few in
     omega (arith, product)
-
-pub enclose_fits : (p d : ℕ) → 0 < d → p ≤ d → div_ceil (2 ^ 56 * p) d ≤ 2 ^ 127
-enclose_fits p d pos within =
-    let most : div_ceil (2 ^ 56 * p) d ≤ 2 ^ 56 = div_ceil_least (2 ^ 56 * p) d (2 ^ 56) pos (mul-le-mul_left (2 ^ 56) within) in
-    omega (arith, most)

@@ -1,21 +1,8 @@
 -- Words of a text: what stands before the first blank, and what follows.
-use Rattle.std.proofs.Common.{ℕ, zero, suc, true, false, ◌≡◌, ◌⊎◌, ◌+◌, ◌<◌, ◌≤◌, ◌∙◌, inl, inr, refl, sym, ap, subst, arith, Bool, List, [], ◌∷◌, ◌++◌, length, take, drop, get_or, append-nil, subst₂, ◌^◌}
-use Rattle.std.specs.Prelude.{◌≢◌, Option, Some, None, MatchOption, if◌then◌else◌, ◌==◌, ◌&&◌, ◌||◌, IsTrue, nat_lt, nat_le}
-use Rattle.std.specs.List.{list_all, list_any, before_first, after_first, position_or_len}
-use Rattle.std.specs.Char.{is_ascii_digit}
-use Rattle.std.specs.Str.Parse.{digits_value}
-use Rattle.std.proofs.lemmas.Bool.{cases_Bool, and_parts, or_parts, cases_lt}
-use Rattle.std.proofs.lemmas.Bool.Decides.{nat_tests}
-use Rattle.std.proofs.lemmas.List.{take-append-drop, drop_more, drop_all, drop-drop}
-use Rattle.std.proofs.lemmas.List.Folds.{list_any-append, list_any_none}
-use Rattle.std.proofs.lemmas.List.Sums.{position_or_len_is, passes_at_first, fails_before_first, split_at_first, AllPass-from_list_all}
-use Rattle.dl_frac.proofs.NumeralLaws.{before_none, before_yes}
-use Rattle.dl_iv.specs.declared.interval.Iv.{Iv}
-use Rattle.dl_cert.proofs.Digits.{number_below}
-use Rattle.dl_cert.specs.Numbers.{one}
-use Rattle.dl_cert.specs.Spelling.{is_number_of, is_comma, IsNumber, IsCell}
-unfoldable use Rattle.dl_cert.specs.Lines.{AreCells}
-use Rattle.dl_cert.specs.Reading.{is_blank, first_word, after_word}
+use Rattle.dl_cert.proofs.Common.{ap₂, ℕ, zero, suc, true, false, ◌≡◌, ◌⊎◌, ◌+◌, ◌<◌, ◌≤◌, ◌∙◌, inl, inr, sym, ap, subst, arith, Bool, List, [], ◌∷◌, ◌++◌, length, take, drop, get_or, append-nil, subst₂, ◌^◌, ◌≢◌, Option, Some, None, MatchOption, if◌then◌else◌, ◌==◌, ◌&&◌, ◌||◌, IsTrue, nat_lt, nat_le, list_all, list_any, before_first, after_first, position_or_len, is_ascii_digit, digits_value, cases_Bool, and_parts, or_parts, cases_lt, nat_tests, take-append-drop, drop_more, drop_all, drop-drop, list_any-append, list_any_none, position_or_len_is, passes_at_first, fails_before_first, split_at_first, Iv, one, is_number_of, is_comma, IsNumber, IsCell, AreCells, is_blank, first_word, after_word}
+use Rattle.dl_frac.proofs.NumeralLaws.{before_none}
+use Rattle.dl_cert.proofs.Digits.{number_below, lacked}
+use Rattle.std.proofs.lemmas.List.{append_cancel_left}
 
 -- the first place of a byte
 pub at_first : (text : List ℕ) (sign i : ℕ) → i ≤ length text
@@ -32,14 +19,7 @@ IsTail rest = (rest ≡ []) ⊎ ((more : List ℕ) × (rest ≡ 32 ∷ more))
 word_before : (front rest : List ℕ) → list_any is_blank front ≡ false → IsTail rest → first_word (front ++ rest) ≡ front
 word_before front rest none (inl e) = rw e (before_none is_blank front [] none ∙ append-nil front)
 word_before front rest none (inr (more, e)) =
-    rw e (before_none is_blank front (32 ∷ more) none
-    ∙ ap (λ t. front ++ t) (before_yes is_blank 32 more (grind (arith, nat_tests))) ∙ append-nil front)
-
-cancelled : (a b c d : List ℕ) → a ≡ b → a ++ c ≡ b ++ d → c ≡ d
-cancelled [] [] c d e h = h
-cancelled [] (y ∷ b) c d e h = absurd (cc)
-cancelled (x ∷ a) [] c d e h = absurd (cc)
-cancelled (x ∷ a) (y ∷ b) c d e h = cancelled a b c d (cc) (cc)
+    rw e (before_none is_blank front (32 ∷ more) none ∙ append-nil front)
 
 -- a text is its first word and what follows
 pub by_word : (text : List ℕ) → text ≡ first_word text ++ after_word text
@@ -50,23 +30,17 @@ pub cut : (front rest : List ℕ) → list_any is_blank front ≡ false → IsTa
 cut front rest none tail =
     let word = word_before front rest none tail in (
       word,
-      cancelled (first_word (front ++ rest)) front (after_word (front ++ rest)) rest word (sym (by_word (front ++ rest))),
+      append_cancel_left front (after_word (front ++ rest)) rest
+          (ap (λ t. t ++ after_word (front ++ rest)) (sym word) ∙ sym (by_word (front ++ rest))),
     )
 
 -- ---- numbers and cells have no blank
 
-any_fails : (p : ℕ → Bool) (text : List ℕ) → list_any p text ≡ false → (k d : ℕ) → k < length text
+pub any_fails : (p : ℕ → Bool) (text : List ℕ) → list_any p text ≡ false → (k d : ℕ) → k < length text
     → p (get_or text k d) ≡ false
 any_fails p [] h k d inside = absurd (omega (arith, inside))
 any_fails p (x ∷ xs) h zero d inside = (or_parts (p x) (list_any p xs) h).0
 any_fails p (x ∷ xs) h (suc k) d inside = any_fails p xs (or_parts (p x) (list_any p xs) h).1 k d (omega (arith, inside))
-
-no_blank : (byte : ℕ) → is_ascii_digit byte ≡ true → is_blank byte ≡ false
-no_blank byte h = grind (arith, nat_tests)
-
-digits_front : (text : List ℕ) → list_all is_ascii_digit text ≡ true → list_any is_blank text ≡ false
-digits_front text all =
-    list_any_none is_blank text (λ k d inside. no_blank _ (AllPass-from_list_all is_ascii_digit text all k d inside))
 
 number_digits : (most : ℕ) (text : List ℕ) → IsTrue (is_number_of most text) → list_all is_ascii_digit text ≡ true
 number_digits most text h =
@@ -79,16 +53,10 @@ number_few most text h =
     grind (arith, nat_tests, u)
 
 pub number_front : (most : ℕ) (text : List ℕ) (n : ℕ) → IsNumber most text n → list_any is_blank text ≡ false
-number_front most text n h = digits_front text (number_digits most text h.digits)
+number_front most text n h = lacked is_blank (λ byte digit. grind (arith, nat_tests)) text (number_digits most text h.digits)
 
 comma_is : (byte : ℕ) → is_comma byte ≡ true → byte ≡ 44
 comma_is byte h = grind (arith, nat_tests)
-
-clash : true ≡ false → ⊥
-clash e = cc
-
-neither : (a b : Bool) → a ≡ false → b ≡ false → (a || b) ≡ false
-neither a b h k = rw (h, k) refl
 
 comma_split : (text : List ℕ) → IsTrue (list_any is_comma text)
     → text ≡ before_first is_comma text ++ 44 ∷ after_first is_comma text
@@ -96,18 +64,18 @@ comma_split text h = elim (cases_lt (position_or_len is_comma text) (length text
   | inl inside ↦ split_at_first is_comma text 0 inside
       ∙ ap (λ b. before_first is_comma text ++ b ∷ after_first is_comma text)
       (comma_is _ (passes_at_first is_comma text 0 inside))
-  | inr past ↦ absurd (clash (sym h ∙ list_any_none is_comma text (λ k d inside.
-      fails_before_first is_comma text k d (omega (arith, past, inside)))))
+  | inr past ↦
+      let none : list_any is_comma text ≡ false =
+      list_any_none is_comma text (λ k d inside. fails_before_first is_comma text k d (omega (arith, past, inside))) in
+      absurd (cc)
 ]
 
 pub cell_front : (text : List ℕ) (cell : Iv 56) → IsCell text cell → list_any is_blank text ≡ false
 cell_front text cell h =
     ap (list_any is_blank) (comma_split text h.comma)
     ∙ list_any-append is_blank (before_first is_comma text) (44 ∷ after_first is_comma text)
-    ∙ neither (list_any is_blank (before_first is_comma text)) (list_any is_blank (44 ∷ after_first is_comma text))
-    (number_front 17 (before_first is_comma text) cell.lo h.low)
-    (neither (is_blank 44) (list_any is_blank (after_first is_comma text)) (grind (arith, nat_tests))
-    (number_front 17 (after_first is_comma text) cell.hi h.high))
+    ∙ ap₂ (λ s t. s || t) (number_front 17 (before_first is_comma text) cell.lo h.low)
+    (number_front 17 (after_first is_comma text) cell.hi h.high)
 
 -- ---- cells
 
@@ -127,10 +95,7 @@ number_read most text n e = elim (cases_Bool (is_number_of most text)) [
 
 pub number_not : (most : ℕ) (text : List ℕ)
     → None ≡ (if is_number_of most text then Some (digits_value 10 text) else None) → (n : ℕ) → ¬ IsNumber most text n
-number_not most text e n h = clash_number (h.digits)
-  where
-    clash_number : is_number_of most text ≡ true → ⊥
-    clash_number is = cc
+number_not most text e n h = let is = h.digits in absurd (cc)
 
 -- a number of at most 9 digits
 pub number_small : (text : List ℕ) (n : ℕ) → IsNumber 9 text n → n < 10 ^ 9
@@ -146,21 +111,18 @@ at_blank text from inside is = drop_more text from 0 inside ∙ ap (λ b. b ∷ 
 
 pub not_blank : (text : List ℕ) (from : ℕ) → from < length text → get_or text from 0 ≢ 32
     → (rest : List ℕ) → ¬ (drop from text ≡ 32 ∷ rest)
-not_blank text from inside differs rest e = differs (first_is _ _ _ _ (sym (drop_more text from 0 inside) ∙ e))
-  where
-    first_is : (a b : ℕ) (xs ys : List ℕ) → a ∷ xs ≡ b ∷ ys → a ≡ b
-    first_is a b xs ys h = cc
+not_blank text from inside differs rest e = let split = drop_more text from 0 inside in differs (cc)
 
 pub none_left : (text : List ℕ) (from : ℕ) → length text ≤ from → (rest : List ℕ) → ¬ (drop from text ≡ 32 ∷ rest)
-none_left text from past rest e = no_cons _ (sym (drop_all from text past) ∙ e)
-  where
-    no_cons : (xs : List ℕ) → [] ≡ 32 ∷ xs → ⊥
-    no_cons xs h = cc
+none_left text from past rest e = let over = drop_all from text past in cc
 
 has_comma : (text : List ℕ) → position_or_len is_comma text < length text → IsTrue (list_any is_comma text)
 has_comma text inside = elim (cases_Bool (list_any is_comma text)) [
   | inl is ↦ is
-  | inr other ↦ absurd (clash (sym (passes_at_first is_comma text 0 inside) ∙ any_fails is_comma text other _ 0 inside))
+  | inr other ↦
+      let here = passes_at_first is_comma text 0 inside in
+      let none = any_fails is_comma text other _ 0 inside in
+      absurd (cc)
 ]
 
 pub cell_spelled : (text back : List ℕ) (comma lo hi : ℕ) (o : Option (Iv 56)) → comma ≡ position_or_len is_comma text

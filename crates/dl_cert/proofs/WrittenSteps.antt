@@ -1,35 +1,11 @@
 -- Steps that are written one after the other, and what they make.
-use Rattle.std.proofs.Common.{ℕ, ◌≡◌, ◌+◌, ◌*◌, ◌≤◌, ◌∙◌, inl, refl, sym, ap, subst, arith, List, [], ◌∷◌, ◌++◌, length, length-append, append_assoc}
-use Rattle.std.specs.Prelude.{All, false}
-use Rattle.std.specs.List.{list_any}
-use Rattle.std.proofs.Math.Seq.{get_or-append_seam}
-use Rattle.std.proofs.lemmas.List.{get_or_append_left}
-use Rattle.std.proofs.lemmas.List.Elements.{All-head, All-tail, All-nil, All-cons, All-append}
-use Rattle.std.proofs.lemmas.Bool.{or_parts}
-use Rattle.dl_iv.specs.declared.interval.Iv.{Iv}
-use Rattle.dl_grid.specs.Cells.{IsGrid}
-use Rattle.dl_plan.specs.declared.plan.Plan.{Plan}
-use Rattle.dl_cert.specs.declared.step.Kind.{Kind}
-use Rattle.dl_cert.specs.Labels.{Label}
-use Rattle.dl_cert.specs.Passes.{Passes, AllPass, made_after}
-use Rattle.dl_cert.specs.Steps.{Step, Made, made_at, made_by, label_of, IsThere}
-use Rattle.dl_cert.specs.Targets.{target}
-unfoldable use Rattle.dl_cert.specs.Lines.{lines_of, AreSteps}
-use Rattle.dl_cert.specs.Lines.{with_byte}
-use Rattle.dl_cert.specs.Verified.{IsExact, AllExact}
-unfoldable use Rattle.dl_cert.specs.Written.{text_of}
-use Rattle.dl_cert.specs.Written.{line_of, Named, CanBeWritten, IsWritten, IsMade, EndsWith}
+use Rattle.dl_cert.proofs.Common.{ℕ, ◌≡◌, ◌+◌, ◌*◌, ◌≤◌, ◌∙◌, inl, refl, sym, ap, subst, arith, List, [], ◌∷◌, ◌++◌, length, length-append, append_assoc, All, get_or-append_seam, get_or_append_left, All-head, All-tail, All-nil, All-cons, All-append, Iv, IsGrid, Plan, Kind, Label, Passes, made_after, Step, Made, made_at, made_by, label_of, IsThere, target, lines_of, AreSteps, IsExact, AllExact, text_of, line_of, Named, CanBeWritten, IsWritten, IsMade, EndsWith}
 use Rattle.dl_cert.proofs.Printed.{is_newline, line_short, line_spelled}
+use Rattle.dl_cert.proofs.Passings.{made_more, pass_more}
+use Rattle.dl_cert.proofs.LineLists.{line_and_rest}
+use Rattle.dl_cert.proofs.Words.{any_fails}
 
 -- ---- lines
-
-line_first : (line rest : List ℕ) → list_any is_newline line ≡ false
-    → lines_of (line ++ (10 ∷ rest)) ≡ line ∷ lines_of rest
-unfolding lines_of
-line_first [] rest none = refl
-line_first (byte ∷ line) rest none =
-    let parts = or_parts (is_newline byte) (list_any is_newline line) none in
-    rw parts.0 (ap (with_byte byte) (line_first line rest parts.1))
 
 module _ (plan : Plan) where
   -- the lines of the text spell the steps
@@ -38,7 +14,8 @@ module _ (plan : Plan) where
   text_spells [] can = tt
   text_spells (step ∷ steps) can =
       let here = All-head (CanBeWritten plan) step steps can in
-      rw (line_first (line_of step) (text_of steps) (line_short step here.named here.small).0)
+      rw (line_and_rest (line_of step) (text_of steps)
+      (λ k inside. any_fails is_newline (line_of step) (line_short step here.named here.small).0 k 0 inside))
       (line_spelled step.kind step.cells here.named here.small, text_spells steps (All-tail (CanBeWritten plan) step steps can))
 
   pub text_short : (steps : List Step) → All (CanBeWritten plan) steps
@@ -51,7 +28,6 @@ module _ (plan : Plan) where
         arith,
         length-append (line_of step) (10 ∷ text_of steps),
         (line_short step here.named here.small).1,
-        here.cells,
         text_short steps (All-tail (CanBeWritten plan) step steps can),
       )
 
@@ -63,17 +39,6 @@ module _ (plan : Plan) where
       ∙ sym (append_assoc (line_of first) (10 ∷ text_of steps) (line_of step ++ (10 ∷ [])))
 
   -- ---- one step more
-
-  made_more : (before : List Made) (steps : List Step) (step : Step) → made_after before (steps ++ step ∷ [])
-      ≡ made_after before steps ++ made_by (made_after before steps) step ∷ []
-  made_more before [] step = refl
-  made_more before (first ∷ steps) step = made_more (before ++ made_by before first ∷ []) steps step
-
-  pass_more : (before : List Made) (steps : List Step) (step : Step) → AllPass plan before steps
-      → Passes plan (made_after before steps) step → AllPass plan before (steps ++ step ∷ [])
-  pass_more before [] step pass here = (here, tt)
-  pass_more before (first ∷ steps) step pass here =
-      (pass.0, pass_more (before ++ made_by before first ∷ []) steps step pass.1 here)
 
   exact_more : (before : List Made) (steps : List Step) (step : Step) → AllExact plan before steps
       → IsExact plan (made_after before steps) step → AllExact plan before (steps ++ step ∷ [])
@@ -92,7 +57,7 @@ module _ (plan : Plan) where
         lines = is ∙ ap (λ t. t ++ (line_of step ++ (10 ∷ []))) w.lines ∙ sym (text_more w.steps step);
         can_be = All-append (CanBeWritten plan) w.steps (step ∷ []) w.can_be
             (All-cons (CanBeWritten plan) step [] can (All-nil (CanBeWritten plan)));
-        pass = pass_more [] w.steps step w.pass (rw e pass);
+        pass = pass_more plan [] w.steps step w.pass (rw e pass);
         exact = exact_more [] w.steps step w.exact (rw e exact);
         makes = made_more [] w.steps step ∙ ap (λ m. m ++ made_by m step ∷ []) e;
         many = omega (arith, length-append made (made_by made step ∷ []), w.many);

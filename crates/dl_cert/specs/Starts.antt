@@ -1,18 +1,11 @@
 -- The grids that starts print.
-use Rattle.std.specs.Prelude.{ℕ, ◌≡◌, ◌+◌, ◌-◌, ◌*◌, ◌<◌, List, length}
+use Rattle.std.specs.Prelude.{ℕ, ◌≡◌, ◌<◌, List, length}
 use Rattle.dl_exact.specs.Fraction.{Fraction}
 use Rattle.dl_iv.specs.declared.interval.Iv.{Iv}
-use Rattle.dl_grid.specs.Cells.{low_at, high_at, all_at_zero}
-use Rattle.dl_plan.specs.declared.item.Item.{Item}
-use Rattle.dl_plan.specs.Weighted.{weight_at}
+use Rattle.dl_grid.specs.Cells.{low_at, high_at}
 use Rattle.dl_plan.specs.declared.plan.Freq.{Freq}
 use Rattle.dl_plan.specs.declared.severity.Sev.{Sev}
 use Rattle.dl_cert.specs.Numbers.{low_start, high_start}
-
--- the probability that one trial of probability q comes to y, times q's denominator and the total
-abbrev pub trial_part : Fraction → List Item → ℕ → ℕ → ℕ
-trial_part q items total y =
-    q.num * weight_at items y + all_at_zero ((q.den - q.num) * total) y
 
 -- each end of the grid is the number of a start
 pub record IsExactStart (freq : Freq) (sev : Sev) (v : Fraction) (grid : List (Iv 56)) : Type 0 where

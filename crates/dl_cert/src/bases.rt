@@ -71,6 +71,7 @@ fn trial_number(chance: Chance, sev: &Sev, y: usize) -> Iv<56>
     ensures low { result.lo ≡ one * trial_parts chance.q sev.now y / (chance.q.den * sev.now.total) }
     ensures high { result.hi
         ≡ div_ceil (one * trial_parts chance.q sev.now y) (chance.q.den * sev.now.total) }
+    ensures small { result.hi ≤ one }
 {
     let parts = u128::from(chance.q.den()) * u128::from(sev.total);
     Iv::enclose(trial_parts(chance, sev, y), parts)
@@ -84,6 +85,7 @@ fn share_number<const BY_AMOUNT: bool>(share: &Share, before: &[Iv<56>]) -> Iv<5
         (length before.now) }
     ensures high { result.hi ≡ high_share BY_AMOUNT share.now (high_at before.now)
         (length before.now) }
+    ensures small { result.hi ≤ one }
 {
     if before.is_empty() {
         return share.first;
@@ -93,12 +95,13 @@ fn share_number<const BY_AMOUNT: bool>(share: &Share, before: &[Iv<56>]) -> Iv<5
 }
 
 /// What the cell after `before` of a start is compared with.
-fn number_after(base: &Base, sev: &Sev, before: &[Iv<56>]) -> Iv<56>
+pub(crate) fn number_after(base: &Base, sev: &Sev, before: &[Iv<56>]) -> Iv<56>
     requires few { length before.now ≤ most_cert_cells }
     requires small { All (λ cell. cell.hi ≤ 2 ^ 56) before.now }
     ensures low { result.lo ≡ low_base base.now sev.now (low_at before.now) (length before.now) }
     ensures high { result.hi ≡ high_base base.now sev.now (high_at before.now)
         (length before.now) }
+    ensures small { result.hi ≤ one }
 {
     match base {
         Base::Nothing => Iv::point(0),

@@ -18,7 +18,6 @@ mod starting;
 mod step;
 mod steps;
 mod test;
-mod trials;
 mod units;
 
 pub use checking::verify;

@@ -10,8 +10,9 @@ ghost use Rattle.dl_cert.specs.Targets.{target};
 ghost use Rattle.dl_cert.specs.Written.{line_of, often, first_of, IsWritten, IsMade, EndsWith, IsSum, IsBefore};
 
 use crate::printing::push_step;
-use crate::starting::{parts, start_grid};
+use crate::starting::start_grid;
 use crate::step::Kind;
+use crate::units::parts;
 use dl_grid::Grid;
 use dl_plan::Plan;
 use dl_product::{Workspace, product};

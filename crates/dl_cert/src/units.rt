@@ -1,7 +1,7 @@
 //! The units of a plan, as its starts are tested by: the base of each, and its target.
 
 ghost use Rattle.std.specs.Prelude.{ℕ, ◌≡◌, ◌^◌, ◌<◌, ◌≤◌, length, get_or, map, All, IfOk, MatchOption};
-ghost use Rattle.dl_limits.specs.Limits.{admitted_bound, frac_bound, most_expected};
+ghost use Rattle.dl_limits.specs.Limits.{admitted_bound, frac_bound, most_claims, most_expected};
 ghost use Rattle.dl_budget.specs.Halvings.{halvings};
 ghost use Rattle.dl_exact.specs.Fraction.{Fraction, whole, ◌over◌, ◌/ℚ◌, ◌≤ℚ◌};
 ghost use Rattle.dl_plan.specs.Count.{IsProbability, IsUnbounded};
@@ -14,8 +14,7 @@ ghost use Rattle.dl_plan.specs.Valid.{IsValidUnit};
 ghost use Rattle.dl_cert.specs.declared.base.Base.{Base as BaseOfUnit};
 ghost use Rattle.dl_cert.specs.declared.base.Base.TheVariants.{Trial};
 ghost use Rattle.dl_cert.specs.declared.base.Chance.{Chance as ChanceOfUnit};
-ghost use Rattle.dl_cert.specs.Covered.{IsCoveredUnit};
-ghost use Rattle.dl_cert.specs.Targets.{unit_parts};
+ghost use Rattle.dl_cert.specs.Targets.{where_none, unit_parts};
 ghost use Rattle.dl_cert.specs.Bases.{IsBaseOf};
 
 use crate::base::{Base, Chance, Share};
@@ -26,28 +25,35 @@ use dl_iv::Iv;
 use dl_plan::{Freq, Sev, Unit};
 use std::alloc::{AllocError, Global};
 
-/// How often the base of a unit makes it up.
-fn parts_of(unit: &Unit) -> u32
+/// How many shares a Poisson count of this mean has, 0 where none is expected.
+fn poisson_parts(mean: Frac) -> u32
+    requires { mean ≤ℚ whole most_expected }
+    ensures value { result ≡ where_none mean 0 (2 ^ halvings mean) }
+    ensures few { result ≤ most_claims }
+{
+    if mean.num() == 0 {
+        return 0;
+    }
+    1 << halvings(mean)
+}
+
+/// How many starts make up a unit of a valid plan.
+pub(crate) fn parts(unit: &Unit) -> u32
     requires valid { (cells : ℕ) × IsValidUnit cells unit.now }
-    requires covered { IsCoveredUnit unit.now }
-    ensures { result ≡ unit_parts unit.now }
+    ensures value { result ≡ unit_parts unit.now }
+    ensures few { result ≤ most_claims }
 {
     match &unit.freq {
         Freq::Fixed(claims) => *claims,
         Freq::Table { .. } => 0,
         Freq::Bernoulli(_) => 1,
         Freq::Binomial { trials, .. } => *trials,
-        Freq::Poisson(_) => {
-            let mean = unit.freq.thinned(&unit.sev);
-            if mean.num() == 0 {
-                0
-            } else {
-                1 << halvings(mean)
-            }
-        }
+        Freq::Poisson(_) => poisson_parts(unit.freq.thinned(&unit.sev)),
         Freq::Gamma { shape, .. } => {
-            let mean = unit.freq.thinned(&unit.sev);
-            if mean.num() == 0 { 0 } else { *shape }
+            if unit.freq.thinned(&unit.sev).num() == 0 {
+                return 0;
+            }
+            *shape
         }
     }
 }
@@ -132,9 +138,8 @@ fn trial(q: Frac) -> Base
 }
 
 /// The base of a unit.
-fn base_of(alloc: Global, unit: &Unit) -> Result<Base, AllocError>
+pub(crate) fn base_of(alloc: Global, unit: &Unit) -> Result<Base, AllocError>
     requires valid { (cells : ℕ) × IsValidUnit cells unit.now }
-    requires covered { IsCoveredUnit unit.now }
     ensures { IfOk result (IsBaseOf unit.now) }
 {
     match &unit.freq {
@@ -150,7 +155,6 @@ fn base_of(alloc: Global, unit: &Unit) -> Result<Base, AllocError>
 /// The base of each unit.
 pub(crate) fn bases_of(alloc: Global, units: &[Unit]) -> Result<Vec<Base>, AllocError>
     requires valid { (cells : ℕ) × All (IsValidUnit cells) units.now }
-    requires covered { All IsCoveredUnit units.now }
     ensures many { IfOk result (λ bases. length bases.items ≡ length units.now) }
     ensures each { IfOk result (λ bases. (u : ℕ) (unit : UnitOfPlan) (base : BaseOfUnit)
         → u < length units.now → IsBaseOf (get_or units.now u unit) (get_or bases.items u base)) }
@@ -166,12 +170,11 @@ pub(crate) fn bases_of(alloc: Global, units: &[Unit]) -> Result<Vec<Base>, Alloc
 /// The target of each unit.
 pub(crate) fn targets_of(alloc: Global, units: &[Unit]) -> Result<Vec<u32>, AllocError>
     requires valid { (cells : ℕ) × All (IsValidUnit cells) units.now }
-    requires covered { All IsCoveredUnit units.now }
     ensures { IfOk result (λ targets. targets.items ≡ map unit_parts units.now) }
 {
     let mut targets = Vec::with_capacity(alloc, units.len())?;
     for unit in units {
-        targets.push(parts_of(unit))?;
+        targets.push(parts(unit))?;
     }
     Ok(targets)
 }

@@ -1,46 +1,22 @@
 -- The plan of the one unit is valid: its amounts are those of the units, and its thinned mean is the sum of theirs.
-use Rattle.dl_common.proofs.Common.{ℕ, zero, suc, ◌≡◌, ◌∙◌, ◌<◌, ◌≤◌, List, [], ◌∷◌, length, take, get_or, inl, inr, refl, ap, ap₂, sym, subst, arith, All, All-head, All-tail, All-cons, All-nil, take_all, cases_lt, sum_by-cons, Fraction, whole, ◌over◌, ◌+ℚ◌, ◌-ℚ◌, ◌*ℚ◌, ◌/ℚ◌, ◌≤ℚ◌, ◌<ℚ◌, sum_over, sum_over_same, sum_over_times, ring, le_refl, le_trans, div_times, times_cancel, times_comm, times_assoc, times_one, times_zero, times_plus, plus_zero, plus_cancel, sub_plus, times_le_both, whole_pos, over_zero, severity_total, Item, Sev, UnitOfPlan, Plan, HasPartsOf48Bits, greatest, weight_at, probability_of, expected_count, IsUnbounded, IsValid, IsValidUnit, thinned_mean, SharesFactor, expected_of, thinned_of, raised, PoissonUnit, expected_claims, pooled_severity, poisson_units, IsGammaOf, IsPooled, IsRaised, alone}
-use Rattle.std.proofs.Common.{◌==◌, cond}
+use Rattle.dl_common.proofs.Common.{ℕ, zero, suc, ◌≡◌, ◌∙◌, ◌<◌, ◌≤◌, List, [], ◌∷◌, length, take, get_or, inl, inr, refl, ap, ap₂, sym, subst, arith, All, take_all, cases_lt, sum_by-cons, Fraction, whole, ◌over◌, ◌+ℚ◌, ◌-ℚ◌, ◌*ℚ◌, ◌/ℚ◌, ◌≤ℚ◌, ◌<ℚ◌, sum_over, sum_over_same, sum_over_times, ring, le_refl, le_trans, div_times, times_cancel, times_comm, times_assoc, times_one, times_zero, times_plus, plus_zero, plus_cancel, sub_plus, times_le_both, whole_pos, over_zero, severity_total, Item, Sev, UnitOfPlan, Plan, HasPartsOf48Bits, greatest, weight_at, probability_of, expected_count, IsUnbounded, thinned_mean, SharesFactor, expected_of, thinned_of, raised, PoissonUnit, expected_claims, pooled_severity, poisson_units, IsGammaOf, IsPooled, IsRaised, alone, ◌==◌, cond, fun_ext, eq-eqb, ne_eqb, get_or-le-sum_by, le_div, whole_le, same_num, over_le, IsClaimCount, has_factor, weight_at-le, gamma_of, Quantity, partial_sums, loss, plain, after_zero, aggregate_of, count_weights, outcome_after, declared, common_sums, pooled_unit, CountsTotal, as_one_loss, declared_is, expected_units, are_severities, pooled_over, shares_severity}
+use Rattle.std.proofs.lemmas.List.Elements.{All-head, All-tail, All-cons, All-nil}
+use Rattle.dl_plan.specs.Valid.{IsValid, IsValidUnit, IsAggregate, IsNewZero}
 use Rattle.std.specs.Prelude.{IfSome}
-use mathlib.Core.Path.{fun_ext}
-use Rattle.std.proofs.lemmas.Bool.{eq-eqb, ne_eqb}
-use Rattle.std.proofs.lemmas.List.Sums.{get_or-le-sum_by}
 use Rattle.dl_limits.specs.Limits.{most_amount_at, most_expected, most_shape}
-use Rattle.dl_exact.proofs.Laws.{le_div}
-use Rattle.dl_exact.proofs.RoundingLaws.{whole_le}
-use Rattle.dl_exact.proofs.Denominators.{same_num}
-use Rattle.dl_exact.proofs.Over.{over_le}
-use Rattle.dl_plan.specs.Count.{IsClaimCount}
-use Rattle.dl_plan.proofs.Shared.{has_factor}
-use Rattle.dl_plan.specs.Valid.{IsAggregate, IsNewZero}
-use Rattle.dl_plan.proofs.Means.{weight_at-le}
-use Rattle.dl_model.specs.Counts.{gamma_of}
-use Rattle.dl_model.specs.Program.{Quantity, partial_sums}
-use Rattle.dl_model.specs.Units.{loss, plain}
-use Rattle.dl_model.specs.Plans.{after_zero, aggregate_of, count_weights, outcome_after, declared}
-use Rattle.dl_model.specs.CommonFactor.{common_sums, pooled_unit, CountsTotal}
-use Rattle.dl_model.proofs.PooledLoss.{as_one_loss}
-use Rattle.dl_model.proofs.CommonPlans.{declared_is, expected_units, are_severities, pooled_over}
-use Rattle.dl_model.proofs.ItemWeights.{shares_severity}
 
 -- ---- no amount is past those of the units
 
 absent : (items : List Item) (top a : ℕ) → All (λ (i : Item). i.amount ≤ top) items → top < a → weight_at items a ≡ 0
 absent [] top a near far = refl
-absent (item ∷ items) top a near far = omega (
-  arith,
-  sum_by-cons (λ (i : Item). cond (i.amount == a) i.weight 0) item items,
-  absent items top a (All-tail (λ (i : Item). i.amount ≤ top) item items near) far,
-  elsewhere item.amount a item.weight (λ e. omega (
-    arith,
-    e,
-    far,
-    All-head (λ (i : Item). i.amount ≤ top) item items near,
-  )),
-)
-  where
-    elsewhere : (b a w : ℕ) → (b ≡ a → ⊥) → cond (b == a) w 0 ≡ 0
-    elsewhere b a w n = rw (ne_eqb b a n) refl
+absent (item ∷ items) top a near far =
+    let here = All-head (λ (i : Item). i.amount ≤ top) item items near in
+    let other = ap (λ t. cond t item.weight 0) (ne_eqb item.amount a (λ e. omega arith)) in
+    omega (
+      arith,
+      sum_by-cons (λ (i : Item). cond (i.amount == a) i.weight 0) item items,
+      absent items top a (All-tail (λ (i : Item). i.amount ≤ top) item items near) far,
+    )
 
 none_past : (v : Fraction) (units : List UnitOfPlan) (top a : ℕ)
     → All (λ (u : UnitOfPlan). All (λ (i : Item). i.amount ≤ top) u.sev.items) units → top < a
@@ -63,11 +39,9 @@ weight_here : (sev : Sev) (k : ℕ) (d : Item) → k < length sev.items
     → 0 < weight_at sev.items (get_or sev.items k d).amount
 weight_here sev k d inside =
     let a : ℕ = (get_or sev.items k d).amount in
-    let own : cond (a == a) (get_or sev.items k d).weight 0 ≤ weight_at sev.items a =
-    get_or-le-sum_by (λ (i : Item). cond (i.amount == a) i.weight 0) sev.items k d inside in
-    let all : cond (a == a) (get_or sev.items k d).weight 0 ≡ (get_or sev.items k d).weight =
-    ap (λ t. cond t (get_or sev.items k d).weight 0) (eq-eqb a a refl) in
-    omega (arith, own, all, sev.weighted.positive k d inside)
+    let own = get_or-le-sum_by (λ (i : Item). cond (i.amount == a) i.weight 0) sev.items k d inside in
+    let all = ap (λ t. cond t (get_or sev.items k d).weight 0) (eq-eqb a a refl) in
+    omega (arith, sev.weighted.positive k d inside)
 
 pub amounts_near : (units : List UnitOfPlan) (made : UnitOfPlan) (top : ℕ)
     → ((x : ℕ) → probability_of made.sev x ≡ pooled_severity (poisson_units units) x)
@@ -88,7 +62,7 @@ amounts_near units made top same near k d inside = elim (cases_lt top (get_or ma
 
 zero_le_one : (sev : Sev) → probability_of sev 0 ≤ℚ whole 1
 zero_le_one sev = over_le (weight_at sev.items 0) sev.total 1 1 (severity_total sev) (omega arith)
-    (omega (arith, weight_at-le sev.items, sev.weighted.sum))
+    (omega (arith, weight_at-le sev.items))
 
 -- v * (1 - P), where P are the units' probabilities of 0 by their parts of v
 part_back : (v n p : Fraction) → whole 0 <ℚ v → v *ℚ (n /ℚ v *ℚ p) ≡ n *ℚ p
@@ -175,7 +149,7 @@ module _ (plan : Plan) (shape : ℕ) (mean : Fraction) (made : UnitOfPlan) (unit
     cells = valid.cells;
     some = omega arith;
     few = omega arith;
-    names = λ i j d p q. absurd (omega (arith, p, q));
+    names = λ i j d p q. absurd (omega arith);
     units = All-cons (IsValidUnit plan.cells) made [] valid_unit (All-nil (IsValidUnit plan.cells));
     common = tt;
   }
@@ -192,7 +166,7 @@ pooled_valid plan r made shares is =
     let thinned = pooled_thinned plan.units factor.some made is.severity in
     let all = whole_list HasPartsOf48Bits thinned_of plan.units shares.valid.some factor.thinned in
     alone_valid plan r (expected_of plan.units) made shares.valid.units is factor.some_shape
-    (omega (arith, factor.few_shape))
+    (omega arith)
     (whole_list HasPartsOf48Bits expected_of plan.units shares.valid.some factor.expected)
     (subst HasPartsOf48Bits (sym thinned) all)
     (subst (λ t. t ≤ℚ whole most_expected) (sym thinned)
@@ -237,6 +211,9 @@ module _ (plan : Plan) (q : ℕ) (shares : SharesFactor plan (suc q)) (made : Un
 pub same_declared : (plan : Plan) (r : ℕ) → SharesFactor plan r → (made : UnitOfPlan) → IsPooled r plan.units made
     → (quantity : Quantity) → CountsTotal quantity → (N : ℕ)
     → declared (alone plan made) quantity N ≡ declared plan quantity N
-same_declared plan zero shares made is quantity total N = absurd (omega (arith, (has_factor plan zero shares).some_shape))
+same_declared plan zero shares made is quantity total N = absurd (omega (
+  arith,
+  (has_factor plan zero shares).some_shape,
+))
 same_declared plan (suc q) shares made is quantity total N = declares_same plan q shares made is quantity total N
     ∙ sym (ap (λ D. D quantity N) (declared_is plan (suc q) shares.shape))

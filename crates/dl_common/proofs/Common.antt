@@ -1,34 +1,54 @@
 -- The names that the proofs of this crate cite most, passed on from one place. Declares nothing.
-pub use Rattle.std.proofs.Common.{List, [], ◌∷◌, ◌++◌, length, map, take, get_or, sum, Option, None, Some, ap, ap₂, arith, cond, false, true, inl, inr, mul-pos, mul-le-mul, refl, subst, suc, sym, zero, ℕ, ◌*◌, ◌+◌, ◌-◌, ◌/◌, ◌<◌, ◌==◌, ◌^◌, ◌∙◌, ◌≡◌, ◌≤◌, ◌⊎◌}
-pub use Rattle.std.specs.List.{All, sum_by, flat_map}
-pub use Rattle.std.proofs.lemmas.Bool.{cases_lt}
-pub use Rattle.std.proofs.lemmas.List.{take_all, take_more, map_more}
-pub use Rattle.std.proofs.lemmas.List.Elements.{All-head, All-tail, All-cons, All-nil}
-pub use Rattle.std.proofs.lemmas.List.Sums.{sum_by-cons, sum_by_more}
-pub use Rattle.dl_exact.specs.Fraction.{Fraction, whole}
-unfoldable pub use Rattle.dl_exact.specs.Fraction.{◌*ℚ◌, ◌+ℚ◌, ◌-ℚ◌, ◌/ℚ◌, ◌<ℚ◌, ◌over◌, ◌≤ℚ◌}
-unfoldable pub use Rattle.dl_exact.specs.Sum.{sum_over, sum_pairs, sum_to}
-pub use Rattle.dl_exact.proofs.Laws.{ring, le_refl, le_trans, le_of_eq, le_of_lt, zero_le, plus_le_both, times_le_both, times_le_times, div_times, times_cancel, times_comm, times_assoc, times_one, one_times, times_zero, zero_times, plus_zero, zero_plus, plus_comm, plus_assoc, times_plus, one_pos, whole_pos, sub_plus, plus_cancel, lt_not_le, lt_or_le, zero_or_pos}
-pub use Rattle.dl_exact.proofs.Over.{over_same, over_self, over_mul, over_le, le_over}
-pub use Rattle.dl_exact.proofs.Denominators.{over_plus, over_times, over_zero, over_pos}
-pub use Rattle.dl_exact.proofs.Sums.{sum_over_same, sum_over_times, sum_over_map, sum_over_append}
-pub use Rattle.dl_frac.specs.Exact.{FitsFrac}
-pub use Rattle.dl_plan.proofs.Fits.{given_ok, given_value, over_fits}
-pub use Rattle.dl_plan.proofs.Means.{admitted_fits, severity_total}
-pub use Rattle.dl_plan.specs.declared.item.Item.{Item}
-pub use Rattle.dl_plan.specs.declared.severity.Sev.{Sev}
-pub use Rattle.dl_plan.specs.declared.plan.Freq.{Freq}
-pub use Rattle.dl_plan.specs.declared.plan.Freq.TheVariants.{Fixed, Table, Bernoulli, Binomial, Poisson, Gamma}
-pub use Rattle.dl_plan.specs.declared.plan.Unit.{Unit as UnitOfPlan}
-pub use Rattle.dl_plan.specs.declared.plan.Plan.{Plan}
-pub use Rattle.dl_plan.specs.Fine.{IsFineTo30Bits, HasPartsOf48Bits, common_denominator}
-pub use Rattle.dl_plan.specs.Weighted.{IsWeighted, greatest, weight_at, weight_sum}
-pub use Rattle.dl_plan.specs.Severity.{Pairs, pairs_of, probability, probability_of, shares}
-pub use Rattle.dl_plan.specs.Count.{expected_count, IsClaimCount, IsUnbounded}
-pub use Rattle.dl_plan.specs.Means.{thinned_mean}
-pub use Rattle.dl_plan.specs.Valid.{IsValid, IsValidUnit}
-pub use Rattle.dl_plan.specs.Common.{CanShare, IsPoisson, HasCommonFactor, expected_of, thinned_of, raised, unit_share, shared_probabilities}
-pub use Rattle.dl_plan.specs.Shared.{SharesFactor}
-pub use Rattle.dl_model.specs.CommonFactor.{PoissonUnit, expected_claims, pooled_severity, common_sums, raised_mean, AreSeverities, CountsTotal, IsUnit}
-pub use Rattle.dl_model.specs.CommonUnits.{poisson_unit, poisson_units}
+pub use Rattle.std.proofs.Common.{Bool, List, None, Option, Some, [], ap, ap₂, arith, cond, false, get_or, inl, inr, length, map, min, mul-pos, nat_le, refl, rules, subst, subst₂, suc, sym, take, true, zero, ℕ, ◌*◌, ◌++◌, ◌+◌, ◌-◌, ◌/◌, ◌<◌, ◌==◌, ◌^◌, ◌∙◌, ◌∷◌, ◌≡◌, ◌≢◌, ◌≤◌}
+pub use Rattle.std.proofs.Math.Nat.{le_of_mul-le-mul_right, lt-div-mul-add, mul-le-mul, mul-le-mul_left, mul-le-mul_right}
+pub use Rattle.std.proofs.lemmas.Bool.{cases_lt, eq-eqb, ne_eqb}
+pub use Rattle.std.proofs.lemmas.List.{get_or-map, get_or_default, length-map, map-append, map_more, take_all, take_more}
+pub use Rattle.std.proofs.lemmas.List.Sums.{get_or-le-sum_by, sum_by-cons, sum_by-take-le, sum_by_more}
+pub use Rattle.std.proofs.lemmas.Nat.{pow_pos}
+pub use Rattle.std.specs.Int.{div_ceil}
+pub use Rattle.std.specs.List.{All, flat_map}
+pub use mathlib.Core.Path.{fun_ext}
+pub use Rattle.dl_common.specs.Amounts.{amounts_to}
 pub use Rattle.dl_common.specs.Pooled.{IsGammaOf, IsPooled, IsRaised, alone}
+pub use Rattle.dl_exact.proofs.Denominators.{over_le_over, over_times, over_zero, same_num}
+pub use Rattle.dl_exact.proofs.Laws.{div_times, le_div, le_of_eq, le_plus, le_refl, le_trans, one_pos, one_times, plus_cancel, plus_comm, plus_zero, ring, sub_plus, times_assoc, times_cancel, times_comm, times_le_both, times_le_cancel, times_left_comm, times_one, times_plus, times_zero, whole_pos, zero_le}
+pub use Rattle.dl_exact.proofs.Over.{le_over, over_den, over_le, over_mul, over_same, over_self}
+pub use Rattle.dl_exact.proofs.RoundingLaws.{div_ceil_least, whole_le}
+pub use Rattle.dl_exact.proofs.Sums.{sum_over_append, sum_over_map, sum_over_same, sum_over_times, sum_pairs_same}
+pub use Rattle.dl_exact.specs.Fraction.{Fraction, whole, ◌*ℚ◌, ◌+ℚ◌, ◌-ℚ◌, ◌/ℚ◌, ◌<ℚ◌, ◌over◌, ◌≤ℚ◌}
+pub use Rattle.dl_exact.specs.Sum.{sum_pairs}
+unfoldable pub use Rattle.dl_exact.specs.Sum.{sum_over}
+pub use Rattle.dl_frac.specs.Exact.{FitsFrac}
+pub use Rattle.dl_grid.proofs.CellLaws.{cells_fit, high_fits, high_le, scale_of, size_of}
+pub use Rattle.dl_grid.proofs.EndLists.{low_le_high}
+pub use Rattle.dl_grid.specs.Cells.{IsGrid, high_at, low_at, spread}
+pub use Rattle.dl_iv.proofs.Rounding.{ceiling_reaches, floor_le_ceiling, round_down, round_up}
+pub use Rattle.dl_iv.specs.declared.interval.Iv.{Iv}
+pub use Rattle.dl_model.proofs.CommonPlans.{are_severities, declared_is, expected_units, pooled_over}
+pub use Rattle.dl_model.proofs.ItemWeights.{shares_severity}
+pub use Rattle.dl_model.proofs.PooledLoss.{as_one_loss, common_bounded, common_positive, common_rises}
+pub use Rattle.dl_model.specs.CommonFactor.{CountsTotal, IsUnit, PoissonUnit, common_sums, expected_claims, pooled_severity, pooled_unit}
+pub use Rattle.dl_model.specs.CommonUnits.{poisson_unit, poisson_units}
+pub use Rattle.dl_model.specs.Counts.{gamma_of}
+pub use Rattle.dl_model.specs.Family.{GridEncloses, compound}
+pub use Rattle.dl_model.specs.Plans.{after_zero, aggregate_of, compound_of, count_weights, declared, outcome_after}
+pub use Rattle.dl_model.specs.Program.{Joint, Loss, One, Point, Quantity, partial_sums, score, where_true}
+pub use Rattle.dl_model.specs.Series.{AtLeast, AtMost, Holds, Series}
+pub use Rattle.dl_model.specs.Units.{loss, plain}
+pub use Rattle.dl_plan.proofs.Fits.{given_ok, given_value}
+pub use Rattle.dl_plan.proofs.Means.{admitted_fits, positive_share, severity_total, weight_at-le}
+pub use Rattle.dl_plan.proofs.Shared.{has_factor}
+pub use Rattle.dl_plan.specs.Common.{HasCommonFactor, IsPoisson, expected_of, raised, shared_probabilities, thinned_of, unit_share}
+pub use Rattle.dl_plan.specs.Count.{IsClaimCount, IsUnbounded, expected_count}
+pub use Rattle.dl_plan.specs.Fine.{HasPartsOf48Bits, IsFineTo30Bits, common_denominator, numerator_over}
+pub use Rattle.dl_plan.specs.Means.{thinned_mean}
+pub use Rattle.dl_plan.specs.Severity.{Pairs, pairs_of, probability, probability_of, shares}
+pub use Rattle.dl_plan.specs.Shared.{SharesFactor}
+pub use Rattle.dl_plan.specs.Weighted.{greatest, weight_at, weight_sum}
+pub use Rattle.dl_plan.specs.declared.item.Item.{Item}
+pub use Rattle.dl_plan.specs.declared.plan.Freq.{Freq}
+pub use Rattle.dl_plan.specs.declared.plan.Freq.TheVariants.{Bernoulli, Binomial, Fixed, Gamma, Poisson, Table}
+pub use Rattle.dl_plan.specs.declared.plan.Plan.{Plan}
+pub use Rattle.dl_plan.specs.declared.plan.Unit.{Unit as UnitOfPlan}
+pub use Rattle.dl_plan.specs.declared.severity.Sev.{Sev}
+pub use Rattle.dl_sev.specs.Weighing.{sum_of}

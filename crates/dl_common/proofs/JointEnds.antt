@@ -1,26 +1,9 @@
 -- The ends of the joint mean as they are computed: what they hold, how large they are, and how far apart they lie.
-use Rattle.dl_common.proofs.Common.{ℕ, zero, suc, ◌≡◌, ◌∙◌, ◌+◌, ◌-◌, ◌*◌, ◌/◌, ◌<◌, ◌≤◌, ◌^◌, List, length, get_or, inl, inr, ap, sym, subst, arith, cases_lt, Fraction, whole, ◌over◌, ◌*ℚ◌, ◌≤ℚ◌, zero_le, over_zero, times_zero, severity_total, Freq, Fixed, Table, Bernoulli, Binomial, Poisson, Gamma, UnitOfPlan, Plan, weight_at, expected_count, IsUnbounded, IsPoisson, thinned_mean, SharesFactor, common_sums, poisson_units, IsRaised}
-use Rattle.std.proofs.Common.{min}
-use Rattle.std.specs.Int.{div_ceil}
-use Rattle.std.proofs.lemmas.Nat.{pow_pos}
-use Rattle.std.proofs.Math.Nat.{mul-le-mul, mul-le-mul_left}
-use Rattle.dl_exact.proofs.Denominators.{over_le_over}
+use Rattle.dl_common.proofs.Common.{ℕ, zero, suc, ◌≡◌, ◌∙◌, ◌+◌, ◌-◌, ◌*◌, ◌/◌, ◌<◌, ◌≤◌, ◌^◌, List, length, get_or, inl, inr, ap, sym, subst, arith, cases_lt, Fraction, whole, ◌over◌, ◌*ℚ◌, zero_le, over_zero, times_zero, severity_total, Freq, Fixed, Table, Bernoulli, Binomial, Poisson, Gamma, UnitOfPlan, Plan, weight_at, expected_count, IsUnbounded, IsPoisson, thinned_mean, SharesFactor, common_sums, poisson_units, IsRaised, min, div_ceil, pow_pos, mul-le-mul, mul-le-mul_left, over_le_over, div_ceil_least, Iv, low_at, high_at, spread, IsGrid, cells_fit, high_le, positive_share, has_factor, Series, AtMost, AtLeast, Holds, GridEncloses, compound_of, declared, Quantity, One, Point, Joint, declared_is, amounts_to}
 use Rattle.dl_exact.proofs.Parts.{whole_num}
-use Rattle.dl_exact.proofs.RoundingLaws.{div_ceil_least}
-use Rattle.dl_iv.specs.declared.interval.Iv.{Iv}
-use Rattle.dl_grid.specs.Cells.{low_at, high_at, spread, IsGrid}
 use Rattle.dl_grid.specs.Width.{up}
-use Rattle.dl_grid.proofs.CellLaws.{cells_fit, high_le}
 use Rattle.dl_grid.proofs.PlaceSums.{width_at, high_is, width_within}
-use Rattle.dl_plan.proofs.Means.{positive_share}
-use Rattle.dl_plan.proofs.Shared.{has_factor}
-use Rattle.dl_model.specs.Series.{Series, AtMost, AtLeast, Holds}
-use Rattle.dl_model.specs.Family.{GridEncloses}
-use Rattle.dl_model.specs.Plans.{compound_of, declared}
-use Rattle.dl_model.specs.Program.{Quantity, One, Point, Joint}
-use Rattle.dl_model.proofs.CommonPlans.{declared_is}
 use Rattle.dl_model.proofs.Declared.{at_least_wider, at_most_wider}
-use Rattle.dl_common.specs.Amounts.{amounts_to}
 use Rattle.dl_common.proofs.Tilted.{amounts_top, amounts_apart}
 use Rattle.dl_common.proofs.Claims.{weight_parts, claim_width, scaled_width, joint_width}
 use Rattle.dl_common.proofs.JointValues.{joint_exact, joint_most, low_share, end_below, end_above, end_none}
@@ -48,7 +31,7 @@ pub some_positive : (u : UnitOfPlan) (h : Fraction) → h ≡ thinned_mean u →
 some_positive u h is some = elim (cases_lt (weight_at u.sev.items 0) u.sev.total) [
   | inl within ↦ within
   | inr beyond ↦
-      let none : positive u ≡ 0 = omega (arith, beyond) in
+      let none : positive u ≡ 0 = omega arith in
       let nothing : h ≡ whole 0 =
       thinned_over u h is ∙ ap (λ n. expected_count u.freq *ℚ n over u.sev.total) none
       ∙ ap (λ p. expected_count u.freq *ℚ p) (over_zero u.sev.total (severity_total u.sev)) ∙ times_zero _ in
@@ -60,13 +43,13 @@ some_positive u h is some = elim (cases_lt (weight_at u.sev.items 0) u.sev.total
 pub scaled_fits : {B : ℕ} (grid : List (Iv B)) (x hi n d : ℕ) → IsGrid grid → x < length grid → hi ≤ x * 2 ^ B
     → n < 2 ^ 48 → 0 < d → (hi * n < 2 ^ 128) × (div_ceil (hi * n) d ≤ 2 ^ 127)
 scaled_fits {B} grid x hi n d is inside small below pos =
-    let cells : x * 2 ^ B ≤ 2 ^ 70 = cells_fit grid x is (omega (arith, inside)) in
-    let first : hi ≤ 2 ^ 70 = omega (arith, small, cells) in
-    let second : n ≤ 2 ^ 48 = omega (arith, below) in
+    let cells : x * 2 ^ B ≤ 2 ^ 70 = cells_fit grid x is (omega arith) in
+    let first : hi ≤ 2 ^ 70 = omega arith in
+    let second : n ≤ 2 ^ 48 = omega arith in
     let product : hi * n ≤ 2 ^ 70 * 2 ^ 48 = mul-le-mul first second in
     let wide : 2 ^ 118 * 1 ≤ 2 ^ 118 * d = mul-le-mul_left (2 ^ 118) pos in
-    let up : div_ceil (hi * n) d ≤ 2 ^ 118 = div_ceil_least (hi * n) d (2 ^ 118) pos (omega (arith, product, wide)) in
-    (omega (arith, product), omega (arith, up))
+    let up : div_ceil (hi * n) d ≤ 2 ^ 118 = div_ceil_least (hi * n) d (2 ^ 118) pos (omega arith) in
+    (omega arith, omega (arith, up))
 
 -- ---- the ends
 
@@ -86,7 +69,7 @@ unfolding up
 ends_width {B} grid x D lo hi u h inside is some low high within =
     let pos : 0 < positive u = omega (arith, some_positive u h is some) in
     let claims = amounts_apart x (positive u) D u.sev.items (low_at grid) (high_at grid) (width_at grid)
-    (omega (arith, weight_parts u.sev)) (high_is grid) (omega (arith, width_within (suc x) grid, within)) in
+    (omega (arith, weight_parts u.sev)) (high_is grid) (omega (arith, width_within (suc x) grid)) in
     let one = claim_width x D (positive u) (amounts_to x (low_at grid) u.sev.items)
     (amounts_to x (high_at grid) u.sev.items) pos claims in
     let all = scaled_width (amounts_to x (low_at grid) u.sev.items / positive u)
@@ -99,59 +82,50 @@ ends_width {B} grid x D lo hi u h inside is some low high within =
 
 lesser_holds : (P : ℕ → Type 0) (a b : ℕ) → P a → P b → P (min a b)
 lesser_holds P a b p q = elim (cases_lt b a) [
-  | inl above ↦ subst P (omega (arith, above)) q
-  | inr within ↦ subst P (omega (arith, within)) p
+  | inl above ↦ subst P (omega arith) q
+  | inr within ↦ subst P (omega arith) p
 ]
 
 module _ {B : ℕ} (grid : List (Iv B)) (plan : Plan) (q i x : ℕ) (made u : UnitOfPlan) (shares : SharesFactor plan (suc q))
     (there : i < length plan.units) (here : get_or plan.units i u ≡ u) (raised : IsRaised (suc q) plan.units made)
     (encloses : GridEncloses grid (compound_of made.freq made.sev)) (inside : x < length grid) (h : Fraction)
     (is : h ≡ thinned_mean u) where
-  exact : Holds (common_sums (suc q) (poisson_units plan.units) (Joint i x))
-      (common_sums (suc q) (poisson_units plan.units) One)
-      (expected_count u.freq *ℚ amounts_to x (low_at grid) u.sev.items over (u.sev.total * 2 ^ B))
+  abbrev Q : Series
+  Q = common_sums (suc q) (poisson_units plan.units) (Joint i x)
+
+  abbrev R : Series
+  R = common_sums (suc q) (poisson_units plan.units) One
+
+  exact : Holds Q R (expected_count u.freq *ℚ amounts_to x (low_at grid) u.sev.items over (u.sev.total * 2 ^ B))
       (expected_count u.freq *ℚ amounts_to x (high_at grid) u.sev.items over (u.sev.total * 2 ^ B))
   exact = joint_exact plan.units q (has_factor plan (suc q) shares) made raised grid encloses i x u there here inside
 
-  held : (h.num ≡ 0 → ⊥) → Holds (common_sums (suc q) (poisson_units plan.units) (Joint i x))
-      (common_sums (suc q) (poisson_units plan.units) One)
-      (min (low_end grid x u h) (x * 2 ^ B) over 2 ^ B) (min (high_end grid x u h) (x * 2 ^ B) over 2 ^ B)
+  held : (h.num ≡ 0 → ⊥) → Holds Q R (min (low_end grid x u h) (x * 2 ^ B) over 2 ^ B)
+      (min (high_end grid x u h) (x * 2 ^ B) over 2 ^ B)
   held some =
       let s = pow_pos B in
       let pos : 0 < positive u = omega (arith, some_positive u h is some) in
       let t = severity_total u.sev in
-      let told = thinned_over u h is in
-      let n = expected_count u.freq in
-      let Q = common_sums (suc q) (poisson_units plan.units) (Joint i x) in
-      let R = common_sums (suc q) (poisson_units plan.units) One in (
-        at_least_wider Q R _ _ (at_least_wider Q R _ _ exact.0
-            (end_below (amounts_to x (low_at grid) u.sev.items) (positive u) u.sev.total (2 ^ B) n h pos t s told))
+      let told = thinned_over u h is in (
+        at_least_wider Q R _ _ (at_least_wider Q R _ _ exact.0 (end_below (amounts_to x (low_at grid) u.sev.items)
+            (positive u) u.sev.total (2 ^ B) (expected_count u.freq) h pos t s told))
             (over_le_over _ _ (2 ^ B) s (omega arith)),
         lesser_holds (λ e. AtMost Q R (e over 2 ^ B)) (high_end grid x u h) (x * 2 ^ B)
-            (at_most_wider Q R _ _ exact.1
-            (end_above (amounts_to x (high_at grid) u.sev.items) (positive u) u.sev.total (2 ^ B) n h pos t s told))
+            (at_most_wider Q R _ _ exact.1 (end_above (amounts_to x (high_at grid) u.sev.items) (positive u)
+            u.sev.total (2 ^ B) (expected_count u.freq) h pos t s told))
             (joint_most plan.units q (has_factor plan (suc q) shares) made raised i x (2 ^ B) s),
       )
 
   -- where no claim above 0 is expected
-  held_none : IsGrid grid → h.num ≡ 0 → Holds (common_sums (suc q) (poisson_units plan.units) (Joint i x))
-      (common_sums (suc q) (poisson_units plan.units) One) (0 over 2 ^ B) (0 over 2 ^ B)
+  held_none : IsGrid grid → h.num ≡ 0 → Holds Q R (0 over 2 ^ B) (0 over 2 ^ B)
   held_none of_grid none =
       let s = pow_pos B in
-      let t = severity_total u.sev in
-      let n = expected_count u.freq in
-      let Q = common_sums (suc q) (poisson_units plan.units) (Joint i x) in
-      let R = common_sums (suc q) (poisson_units plan.units) One in
       let top = amounts_top x (2 ^ B) (positive u) (high_at grid) u.sev.items
-      (λ k. high_le grid k (2 ^ B) of_grid.small) (weight_parts u.sev) in
-      let high = at_most_wider Q R _ _ exact.1 (end_none (amounts_to x (high_at grid) u.sev.items) (positive u)
-      u.sev.total (2 ^ B) x n h t s top (thinned_over u h is) none) in (
-        at_least_wider Q R _ _ exact.0 (zero_below (2 ^ B) s _),
-        high,
+      (λ k. high_le grid k (2 ^ B) of_grid.small) (weight_parts u.sev) in (
+        at_least_wider Q R _ _ exact.0 (rw (over_zero (2 ^ B) s) (zero_le _)),
+        at_most_wider Q R _ _ exact.1 (end_none (amounts_to x (high_at grid) u.sev.items) (positive u) u.sev.total
+            (2 ^ B) x (expected_count u.freq) h (severity_total u.sev) s top (thinned_over u h is) none),
       )
-    where
-      zero_below : (S : ℕ) → 0 < S → (y : Fraction) → 0 over S ≤ℚ y
-      zero_below S s y = subst (λ z. z ≤ℚ y) (sym (over_zero S s)) (zero_le y)
 
 -- ---- for every shape
 

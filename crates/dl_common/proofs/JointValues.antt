@@ -1,41 +1,19 @@
 -- What the sum over the amounts of one claim holds, where a grid encloses the raised unit.
-use Rattle.dl_common.proofs.Common.{ℕ, zero, suc, ◌≡◌, ◌∙◌, ◌*◌, ◌/◌, ◌<◌, ◌≤◌, ◌^◌, List, [], ◌∷◌, length, get_or, true, false, refl, ap, ap₂, sym, subst, arith, mul-pos, Fraction, whole, ◌over◌, ◌*ℚ◌, ◌≤ℚ◌, ◌<ℚ◌, sum_pairs, le_refl, le_trans, le_of_eq, zero_le, times_le_both, times_comm, times_assoc, times_zero, times_one, one_pos, over_mul, over_same, over_self, over_le, over_times, over_zero, severity_total, Sev, UnitOfPlan, greatest, weight_at, probability_of, expected_count, HasCommonFactor, raised, PoissonUnit, expected_claims, pooled_severity, common_sums, IsUnit, poisson_unit, poisson_units, IsRaised}
-use Rattle.std.proofs.Common.{Bool}
-use Rattle.std.specs.Int.{div_ceil}
-use Rattle.std.proofs.lemmas.Nat.{pow_pos}
-use Rattle.std.proofs.Math.Nat.{mul-le-mul_right, le_of_mul-le-mul_right}
-use mathlib.Core.Path.{fun_ext}
-use Rattle.dl_exact.proofs.Laws.{times_left_comm}
-use Rattle.dl_exact.proofs.Over.{le_over}
-use Rattle.dl_exact.proofs.Sums.{sum_pairs_same}
+use Rattle.dl_common.proofs.Common.{subst₂, ℕ, zero, suc, ◌≡◌, ◌∙◌, ◌*◌, ◌/◌, ◌<◌, ◌≤◌, ◌^◌, List, [], ◌∷◌, length, get_or, true, false, refl, ap, ap₂, sym, subst, arith, mul-pos, Fraction, whole, ◌over◌, ◌*ℚ◌, ◌≤ℚ◌, ◌<ℚ◌, sum_pairs, le_refl, le_trans, le_of_eq, zero_le, times_le_both, times_comm, times_assoc, times_zero, times_one, one_pos, over_mul, over_same, over_self, over_le, over_times, over_zero, severity_total, Sev, UnitOfPlan, greatest, weight_at, probability_of, expected_count, HasCommonFactor, raised, PoissonUnit, expected_claims, pooled_severity, common_sums, IsUnit, poisson_unit, poisson_units, IsRaised, Bool, div_ceil, pow_pos, mul-le-mul_right, le_of_mul-le-mul_right, fun_ext, times_left_comm, le_over, sum_pairs_same, Iv, round_down, round_up, low_at, high_at, Series, AtMost, AtLeast, Holds, gamma_of, compound, GridEncloses, count_weights, compound_of, Loss, One, Point, Joint, score, where_true, loss, pooled_unit, shares_severity, as_one_loss, common_bounded, common_positive, common_rises, amounts_to, expected_units, are_severities}
 use Rattle.dl_exact.proofs.SumsOver.{sum_pairs_over}
-use Rattle.dl_iv.specs.declared.interval.Iv.{Iv}
-use Rattle.dl_iv.proofs.Rounding.{round_down, round_up}
 use Rattle.dl_iv.proofs.Operations.{scale_low, scale_high}
-use Rattle.dl_grid.specs.Cells.{low_at, high_at}
-use Rattle.dl_model.specs.Series.{Series, AtMost, AtLeast, Holds}
-use Rattle.dl_model.specs.Counts.{gamma_of}
-use Rattle.dl_model.specs.Family.{compound, GridEncloses}
-use Rattle.dl_model.specs.Plans.{count_weights, compound_of}
-use Rattle.dl_model.specs.Program.{Loss, One, Point, Joint, score, where_true, partial_sums}
-use Rattle.dl_model.specs.Units.{loss}
-use Rattle.dl_model.specs.CommonFactor.{pooled_unit}
 use Rattle.dl_model.proofs.Alike.{ends_in_order}
-use Rattle.dl_model.proofs.ItemWeights.{shares_severity}
 use Rattle.dl_model.proofs.Outcomes.{outcomes_le}
 use Rattle.dl_model.proofs.Pooled.{total_point}
-use Rattle.dl_model.proofs.PooledLoss.{as_one_loss, common_bounded, common_positive, common_rises}
 use Rattle.dl_model.proofs.SharedBounds.{joint_within}
 use Rattle.dl_model.proofs.SharedValues.{joint_raised}
-use Rattle.dl_common.specs.Amounts.{amounts_to}
 use Rattle.dl_common.proofs.Tilted.{amounts_pairs}
-use Rattle.dl_model.proofs.CommonPlans.{expected_units, are_severities}
 
 is_unit : (units : List UnitOfPlan) (i : ℕ) (u : UnitOfPlan) → i < length units → get_or units i u ≡ u
     → IsUnit (poisson_units units) i (poisson_unit u)
-is_unit [] i u h e = absurd (omega (arith, h))
+is_unit [] i u h e = absurd (omega arith)
 is_unit (w ∷ ws) zero u h e = ap poisson_unit e
-is_unit (w ∷ ws) (suc i) u h e = is_unit ws i u (omega (arith, h)) e
+is_unit (w ∷ ws) (suc i) u h e = is_unit ws i u (omega arith) e
 
 -- ---- the sum over the amounts, in units of the scale
 
@@ -123,9 +101,6 @@ module _ (units : List UnitOfPlan) (q : ℕ) (factor : HasCommonFactor (suc q) u
   abbrev one_loss : List Loss
   one_loss = loss (pooled_unit (suc q) us M) ∷ []
 
-  one_is : all ≡ partial_sums one_loss One
-  one_is = fun_ext (as_one_loss q us some (are_severities units) M past One (λ ys. refl))
-
   point_le : (x N : ℕ) → common_sums (suc q) us (Point x) N ≤ℚ all N
   point_le x N = le_trans _ _ _
       (le_of_eq _ _ (as_one_loss q us some (are_severities units) M past (Point x) (total_point x) N))
@@ -164,13 +139,10 @@ module _ (units : List UnitOfPlan) (q : ℕ) (factor : HasCommonFactor (suc q) u
         let family = subst (λ F. GridEncloses grid F) raised_family encloses in
         let s = pow_pos B in
         let told = joint_raised q us some (are_severities units) M past i (poisson_unit u) (is_unit units i u there here) x
-        (λ k. low_at grid k over S) (λ k. high_at grid k over S) (λ k near. family k (omega (arith, near, inside))) in
-        subst (λ e. Holds (common_sums (suc q) us (Joint i x)) all e
-        (n *ℚ amounts_to x (high_at grid) u.sev.items over (T * S)))
+        (λ k. low_at grid k over S) (λ k. high_at grid k over S) (λ k near. family k (omega arith)) in
+        subst₂ (λ a b. Holds (common_sums (suc q) us (Joint i x)) all a b)
         (ap (λ y. n *ℚ y) (amounts_over x S u.sev (low_at grid) s))
-        (subst (λ e. Holds (common_sums (suc q) us (Joint i x)) all
-        (n *ℚ sum_pairs x (λ a k. whole a *ℚ probability_of u.sev a *ℚ low_at grid k over S)) e)
-        (ap (λ y. n *ℚ y) (amounts_over x S u.sev (high_at grid) s)) told)
+        (ap (λ y. n *ℚ y) (amounts_over x S u.sev (high_at grid) s)) told
 
   -- a low end is at most x times a high end of the probability of the total
   pub low_share : (i x l h S : ℕ) → 0 < S → AtLeast (common_sums (suc q) us (Joint i x)) all (l over S)

@@ -1,13 +1,10 @@
 -- Sums over the amounts of one claim: as sums over the pairs that add up to the total, how large they are, and how far
 -- apart two of them lie.
-use Rattle.dl_common.proofs.Common.{ℕ, zero, suc, ◌≡◌, ◌∙◌, ◌+◌, ◌-◌, ◌*◌, ◌<◌, ◌≤◌, ◌^◌, ◌==◌, List, [], ◌∷◌, length, take, get_or, true, false, cond, inl, inr, refl, ap, ap₂, sym, arith, mul-le-mul, sum_by-cons, sum_by_more, Item, weight_at, weight_sum}
-use Rattle.std.proofs.Common.{◌≢◌, nat_le, eq-eqb, ne_eqb}
-use Rattle.std.proofs.Math.Nat.{mul-le-mul_left, mul-le-mul_right}
+use Rattle.dl_common.proofs.Common.{ℕ, zero, suc, ◌≡◌, ◌∙◌, ◌+◌, ◌-◌, ◌*◌, ◌<◌, ◌≤◌, ◌^◌, ◌==◌, List, [], ◌∷◌, length, take, get_or, true, cond, inl, inr, refl, ap, ap₂, sym, arith, sum_by-cons, sum_by_more, Item, weight_at, weight_sum, ◌≢◌, nat_le, mul-le-mul_left, mul-le-mul_right, sum_by-take-le, amounts_to}
+use Rattle.dl_exact.proofs.Counts.{nothing_times, times_nothing, pairs_none, pairs_only, pairs_past, pairs_same, pairs_plus, pairs_le, below_pairs, below_le, below_times}
+use Rattle.std.proofs.Common.{mul-le-mul, eq-eqb, ne_eqb}
 use Rattle.std.proofs.lemmas.Bool.Decides.{leb_tells}
-use Rattle.std.proofs.lemmas.List.Sums.{sum_by-take-le}
 use Rattle.dl_exact.specs.Count.{count_pairs, count_below}
-use Rattle.dl_exact.proofs.Counts.{pairs_none, pairs_only, pairs_past, pairs_same, pairs_plus, pairs_le, below_pairs, below_le, below_times}
-use Rattle.dl_common.specs.Amounts.{amounts_to}
 
 -- ---- one item more
 
@@ -17,12 +14,9 @@ part x at item = cond (nat_le item.amount x) (item.amount * item.weight * at (x 
 part_le : (x top a w : ℕ) (at : ℕ → ℕ) → ((k : ℕ) → at k ≤ top)
     → cond (nat_le a x) (a * w * at (x - a)) 0 ≤ x * top * w
 part_le x top a w at h = elim (leb_tells a x) [
-  | inl within ↦ rw within.0 (turn (mul-le-mul (mul-le-mul_right w within.1) (h (x - a))))
+  | inl within ↦ rw within.0 (omega (arith, mul-le-mul (mul-le-mul_right w within.1) (h (x - a))))
   | inr beyond ↦ rw beyond.0 (omega arith)
 ]
-  where
-    turn : a * w * at (x - a) ≤ x * w * top → a * w * at (x - a) ≤ x * top * w
-    turn p = omega (arith, p)
 
 -- no more than x times the greatest of them times the weight of all
 pub amounts_le : (x top : ℕ) (at : ℕ → ℕ) (items : List Item) → ((k : ℕ) → at k ≤ top)
@@ -46,28 +40,17 @@ module _ (x : ℕ) (at : ℕ → ℕ) (items : List Item) (i : ℕ) (d : Item) (
       ≡ (get_or items i d).amount * (get_or items i d).weight * at (x - (get_or items i d).amount)
   part_there e = rw e refl
 
-  part_gone : nat_le (get_or items i d).amount x ≡ false → part x at (get_or items i d) ≡ 0
-  part_gone e = rw e refl
-
   pub amounts_more : (sum v : ℕ) → sum ≡ amounts_to x at (take i items) → (get_or items i d).amount ≤ x
       → v ≡ at (x - (get_or items i d).amount)
       → sum + (get_or items i d).amount * (get_or items i d).weight * v ≡ amounts_to x at (take (i + 1) items)
   amounts_more sum v so_far near value = elim (leb_tells (get_or items i d).amount x) [
     | inl within ↦ omega (
       arith,
-      so_far,
       one_more,
       part_there within.0,
       ap (λ (t : ℕ). (get_or items i d).amount * (get_or items i d).weight * t) value,
     )
-    | inr beyond ↦ absurd (omega (arith, near, beyond.1))
-  ]
-
-  pub amounts_skip : (sum : ℕ) → sum ≡ amounts_to x at (take i items) → x < (get_or items i d).amount
-      → sum ≡ amounts_to x at (take (i + 1) items)
-  amounts_skip sum so_far far = elim (leb_tells (get_or items i d).amount x) [
-    | inl within ↦ absurd (omega (arith, far, within.1))
-    | inr beyond ↦ omega (arith, so_far, one_more, part_gone beyond.0)
+    | inr beyond ↦ absurd (omega arith)
   ]
 
   pub amounts_fit : (sum v top : ℕ) → sum ≡ amounts_to x at (take i items) → (get_or items i d).amount ≤ x
@@ -82,7 +65,7 @@ module _ (x : ℕ) (at : ℕ → ℕ) (items : List Item) (i : ℕ) (d : Item) (
         amounts_le x top at (take (i + 1) items) most,
         mul-le-mul_left (x * top) (sum_by-take-le (λ (j : Item). j.weight) items (i + 1)),
       ) in
-      omega (arith, all, mul-le-mul (mul-le-mul few small) light)
+      omega (arith, mul-le-mul (mul-le-mul few small) light)
 
 -- ---- as a sum over pairs
 
@@ -93,16 +76,13 @@ weight_elsewhere : (b : ℕ) (a : ℕ) (w : ℕ) → b ≢ a → cond (b == a) w
 weight_elsewhere b a w n = rw (ne_eqb b a n) refl
 
 nothing_between : (a w c : ℕ) → w ≡ 0 → a * w * c ≡ 0
-nothing_between a w c e = ap (λ t. a * t * c) e ∙ none a c
-  where
-    none : (a c : ℕ) → a * 0 * c ≡ 0
-    none a c = omega arith
+nothing_between a w c e = nothing_times (a * w) c (times_nothing a w e)
 
 one_pair : (x : ℕ) (at : ℕ → ℕ) (b w : ℕ)
     → count_pairs x (λ a k. a * cond (b == a) w 0 * at k) ≡ cond (nat_le b x) (b * w * at (x - b)) 0
 one_pair x at b w = elim (leb_tells b x) [
   | inl within ↦ rw within.0 (
-      let rest : b + (x - b) ≡ x = omega (arith, within.1) in
+      let rest : b + (x - b) ≡ x = omega arith in
       pairs_only x b (x - b) (λ a k. a * cond (b == a) w 0 * at k) rest
       (λ i l n. nothing_between i _ (at l) (weight_elsewhere b i w (λ e. n (sym e))))
       ∙ ap (λ t. b * t * at (x - b)) (weight_here b b w refl))
@@ -119,11 +99,10 @@ amounts_pairs x at (item ∷ items) =
     ∙ ap₂ (λ s t. s + t) (sym (one_pair x at item.amount item.weight)) (amounts_pairs x at items)
     ∙ sym (pairs_plus x (λ a k. a * cond (item.amount == a) item.weight 0 * at k)
     (λ a k. a * weight_at items a * at k))
-    ∙ pairs_same x _ _ (λ a k. turn a (cond (item.amount == a) item.weight 0) (weight_at items a) (at k)
-    ∙ ap (λ t. a * t * at k) (sym (sum_by-cons (λ (i : Item). cond (i.amount == a) i.weight 0) item items)))
-  where
-    turn : (a u v c : ℕ) → a * u * c + a * v * c ≡ a * (u + v) * c
-    turn a u v c = omega arith
+    ∙ pairs_same x _ _ (λ a k. omega (
+      arith,
+      ap (λ t. a * t * at k) (sum_by-cons (λ (i : Item). cond (i.amount == a) i.weight 0) item items),
+    ))
 
 -- ---- the weight of the amounts above 0
 
@@ -146,7 +125,7 @@ weighted_le : (x W : ℕ) (items : List Item) → weight_sum items ≤ W + weigh
     → a * weight_at items a ≤ x * W
 weighted_le x W items all zero near = omega arith
 weighted_le x W items all (suc b) near =
-    mul-le-mul near (omega (arith, weight_above items (suc b) (omega arith), all))
+    mul-le-mul near (omega (arith, weight_above items (suc b) (omega arith)))
 
 -- ---- how large, and how far apart
 
@@ -164,11 +143,10 @@ pairs_bound x W items g all =
     below_le (suc x) _ _ (λ i b. omega (
       arith,
       mul-le-mul_right (g (x - i))
-          (weighted_le x W items all i (omega (arith, b))),
+          (weighted_le x W items all i (omega arith)),
     )) in
     omega (
       arith,
-      each,
       below_pairs x (λ a k. a * weight_at items a * g k),
       below_times (suc x) (x * W) (λ i. g (x - i)),
       ap (λ t. t * (x * W)) (below_pairs x (λ i k. g k) ∙ pairs_second x g),
@@ -183,27 +161,18 @@ amounts_apart x W D items lo hi width all wide within =
     (λ a k. a * weight_at items a * width k) =
     amounts_pairs x hi items
     ∙ pairs_same x _ (λ a k. a * weight_at items a * lo k + a * weight_at items a * width k)
-    (λ a k. ap (λ t. a * weight_at items a * t) (wide k) ∙ split a (weight_at items a) (lo k) (width k))
+    (λ a k. omega (arith, ap (λ t. a * weight_at items a * t) (wide k)))
     ∙ pairs_plus x (λ a k. a * weight_at items a * lo k) (λ a k. a * weight_at items a * width k)
     ∙ ap (λ t. t + count_pairs x (λ a k. a * weight_at items a * width k)) (sym (amounts_pairs x lo items)) in
-    omega (arith, apart, pairs_bound x W items width all, mul-le-mul_right (x * W) within, turn x D W)
-  where
-    split : (a w l d : ℕ) → a * w * (l + d) ≡ a * w * l + a * w * d
-    split a w l d = omega arith
-
-    turn : (x D W : ℕ) → D * (x * W) ≡ x * D * W
-    turn x D W = omega arith
+    omega (arith, pairs_bound x W items width all, mul-le-mul_right (x * W) within)
 
 part_above : (x top a w : ℕ) (at : ℕ → ℕ) → ((k : ℕ) → at k ≤ top)
     → cond (nat_le a x) (a * w * at (x - a)) 0 + cond (a == 0) (x * top * w) 0 ≤ x * top * w
-part_above x top zero w at h = omega (arith, none x w (at (x - 0)))
-  where
-    none : (x w c : ℕ) → cond (nat_le 0 x) (0 * w * c) 0 ≡ 0
-    none x w c = grind arith
+part_above x top zero w at h = grind arith
 part_above x top (suc b) w at h = omega (
   arith,
   part_le x top (suc b) w at h,
-  weight_elsewhere (suc b) 0 (x * top * w) (λ e. omega (arith, e)),
+  weight_elsewhere (suc b) 0 (x * top * w) (λ e. omega arith),
 )
 
 weight_zero_times : (a w c : ℕ) → cond (a == 0) (c * w) 0 ≡ c * cond (a == 0) w 0
@@ -212,13 +181,8 @@ weight_zero_times a w c = grind arith
 -- no more than x times the greatest of them times the weight of the amounts above 0
 pub amounts_top : (x top W : ℕ) (at : ℕ → ℕ) (items : List Item) → ((k : ℕ) → at k ≤ top)
     → weight_sum items ≡ W + weight_at items 0 → amounts_to x at items ≤ x * top * W
-amounts_top x top W at items h all =
-    let both = go items in
-    omega (arith, both, ap (λ t. x * top * t) all, spread (x * top) W (weight_at items 0))
+amounts_top x top W at items h all = omega (arith, go items, ap (λ t. x * top * t) all)
   where
-    spread : (c u v : ℕ) → c * (u + v) ≡ c * u + c * v
-    spread c u v = omega arith
-
     go : (items : List Item) → amounts_to x at items + x * top * weight_at items 0 ≤ x * top * weight_sum items
     go [] = omega arith
     go (item ∷ items) = omega (

@@ -1,11 +1,8 @@
 -- The expected numbers of claims of units, one unit after another, and the part of all claims that each has.
-use Rattle.dl_common.proofs.Common.{ℕ, ◌≡◌, ◌∙◌, refl, ◌+◌, ◌<◌, ◌≤◌, List, [], ◌∷◌, ◌++◌, length, map, take, get_or, ap, ap₂, sym, subst, arith, take_more, map_more, Fraction, whole, ◌+ℚ◌, ◌*ℚ◌, ◌/ℚ◌, ◌≤ℚ◌, ◌<ℚ◌, sum_over, le_trans, zero, suc, plus_zero, plus_comm, div_times, times_cancel, one_times, times_comm, sum_over_append, sum_over_same, sum_over_times, sum_over_map, FitsFrac, Freq, Fixed, Table, Bernoulli, Binomial, Poisson, Gamma, UnitOfPlan, IsFineTo30Bits, common_denominator, expected_count, IsClaimCount, IsPoisson, expected_of, unit_share}
-use Rattle.dl_exact.proofs.Laws.{le_plus, times_le_cancel}
-use Rattle.dl_exact.proofs.Over.{le_over, over_self}
+use Rattle.dl_common.proofs.Common.{ℕ, ◌≡◌, ◌∙◌, refl, ◌+◌, ◌<◌, ◌≤◌, List, [], ◌∷◌, ◌++◌, length, map, take, get_or, ap, ap₂, sym, subst, arith, take_more, map_more, Fraction, whole, ◌+ℚ◌, ◌*ℚ◌, ◌/ℚ◌, ◌≤ℚ◌, ◌<ℚ◌, sum_over, le_trans, zero, suc, plus_zero, plus_comm, div_times, times_cancel, one_times, times_comm, sum_over_append, sum_over_same, sum_over_times, sum_over_map, FitsFrac, UnitOfPlan, IsFineTo30Bits, common_denominator, expected_count, expected_of, unit_share, le_plus, times_le_cancel, length-map, get_or-map, sum_of}
+use Rattle.dl_plan.proofs.Clauses.{num_le_den}
 use Rattle.dl_plan.proofs.CommonDenominators.{common_pos, den_divides}
 use Rattle.std.proofs.lemmas.Nat.Gcd.{le_of_dvd}
-use Rattle.std.proofs.lemmas.List.{length-map, get_or-map}
-use Rattle.dl_sev.specs.Weighing.{sum_of}
 
 sum_over_alone : {A : Type 0} (f : A → Fraction) (x : A) → sum_over (x ∷ []) f ≡ f x
 unfolding sum_over
@@ -17,35 +14,20 @@ sum_over_more f xs i x h is =
     ap (λ ys. sum_over ys f) (take_more xs i x h) ∙ sum_over_append f (take i xs) (get_or xs i x ∷ [])
     ∙ ap (λ t. sum_over (take i xs) f +ℚ t) (sum_over_alone f (get_or xs i x) ∙ ap f (sym is))
 
-pub poisson_count : (freq : Freq) → IsPoisson freq → IsClaimCount freq
-poisson_count (Fixed m) h = absurd h
-poisson_count (Table counts total) h = absurd h
-poisson_count (Bernoulli q) h = absurd h
-poisson_count (Binomial trials q) h = absurd h
-poisson_count (Poisson mean) h = tt
-poisson_count (Gamma shape mean) h = absurd h
-
 -- a part of a sum is at most the sum
 pub item_le_all : {A : Type 0} (f : A → Fraction) (xs : List A) (i : ℕ) (x : A) → i < length xs
     → x ≡ get_or xs i x → f x ≤ℚ sum_over xs f
 unfolding sum_over
-item_le_all f [] i x h is = absurd (omega (arith, h))
+item_le_all f [] i x h is = absurd (omega arith)
 item_le_all f (y ∷ ys) zero x h is = subst (λ t. f t ≤ℚ f y +ℚ sum_over ys f) (sym is) (le_plus (f y) (sum_over ys f))
 item_le_all f (y ∷ ys) (suc i) x h is =
-    le_trans _ _ _ (item_le_all f ys i x (omega (arith, h)) is)
+    le_trans _ _ _ (item_le_all f ys i x (omega arith) is)
     (subst (λ t. sum_over ys f ≤ℚ t) (plus_comm (sum_over ys f) (f y)) (le_plus (sum_over ys f) (f y)))
 
 -- so its share is at most 1
 pub share_le_one : (v n : Fraction) → whole 0 <ℚ v → n ≤ℚ v → n /ℚ v ≤ℚ whole 1
 share_le_one v n some within = times_le_cancel (n /ℚ v) (whole 1) v some
     (subst (λ t. t ≤ℚ whole 1 *ℚ v) (sym (div_times n v some)) (subst (λ t. n ≤ℚ t) (sym (one_times v)) within))
-
-num_le_den : (x : Fraction) → x ≤ℚ whole 1 → x.num ≤ x.den
-num_le_den x h = omega (
-  arith,
-  le_over x.num x.den 1 1 x.positive (omega arith)
-      (subst (λ y. y ≤ℚ whole 1) (sym (over_self x)) h),
-)
 
 -- a fine fraction of at most 1 fits
 pub fine_fits : (xs : List Fraction) (i : ℕ) (x : Fraction) → i < length xs → get_or xs i x ≡ x
@@ -54,10 +36,7 @@ fine_fits xs i x h is fine one =
     let den : x.den ≤ common_denominator xs =
     subst (λ (y : Fraction). y.den ≤ common_denominator xs) is
     (le_of_dvd (common_pos xs) (den_divides 1 xs i x h)) in
-    record {
-      num = omega (arith, num_le_den x one, den, fine);
-      den = omega (arith, den, fine);
-    }
+    record { num = omega (arith, num_le_den x one); den = omega arith }
 
 pub share_fits : (units : List UnitOfPlan) (v : Fraction) (i : ℕ) (u : UnitOfPlan) → i < length units
     → u ≡ get_or units i u → v ≡ expected_of units → whole 0 <ℚ v → IsFineTo30Bits (map (unit_share v) units)

@@ -1,8 +1,5 @@
 -- One sum of a product of two lists: the products of the items whose places add up to s, place by place of the first.
-use Rattle.std.specs.Prelude.{max}
-use Rattle.dl_conv.proofs.Common.{ℕ, suc, ◌≡◌, ◌+◌, ◌-◌, ◌*◌, ◌^◌, ◌<◌, ◌≤◌, List, length, get_or, arith, sym, ap₂, ◌∙◌, min, mul-le-mul, count_below, below_none, below_more, below_bound, below_pairs, IsSame, ItemsFit, pair_sum}
-use Rattle.std.proofs.lemmas.List.{get_or_past}
-use Rattle.dl_exact.proofs.Counts.{below_rest, nothing_times, times_nothing}
+use Rattle.dl_conv.proofs.Common.{ℕ, suc, ◌≡◌, ◌+◌, ◌-◌, ◌*◌, ◌^◌, ◌<◌, ◌≤◌, List, length, get_or, arith, sym, ap₂, ◌∙◌, min, mul-le-mul, count_below, below_none, below_more, below_bound, below_pairs, IsSame, ItemsFit, pair_sum, max, get_or_past, below_rest, nothing_times, times_nothing}
 use Rattle.dl_conv.proofs.Fits.{end_fits, products_fit}
 use Rattle.dl_conv.proofs.Same.{same, same_sym, same_then, same_plus}
 

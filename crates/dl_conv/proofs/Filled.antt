@@ -1,8 +1,6 @@
 -- Lists of numbers that a loop fills place by place.
-use Rattle.dl_conv.proofs.Common.{ℕ, ◌≡◌, ◌+◌, ◌<◌, ◌≤◌, List, ◌++◌, length, get_or, take, drop, arith, ◌∙◌, take_all, get_or-set_other}
-use Rattle.std.proofs.Common.{set}
-use Rattle.std.proofs.lemmas.List.{drop_all, append-nil}
-use Rattle.dl_conv.proofs.Written.{fills_more}
+use Rattle.dl_exact.proofs.Writing.{set_done, set_rest}
+use Rattle.dl_conv.proofs.Common.{ℕ, ◌≡◌, ◌+◌, ◌<◌, ◌≤◌, List, ◌++◌, length, get_or, take, drop, arith, ◌∙◌, take_all, get_or-set_other, set, drop_all, append-nil}
 
 -- the first n items of ys are those of f
 pub record IsFilled (f : ℕ → ℕ) (ys : List ℕ) (n : ℕ) : Type 0 where
@@ -16,13 +14,13 @@ pub record IsMapped (f : ℕ → ℕ) (xs ys : List ℕ) (n : ℕ) : Type 0 wher
 pub filled_more : (f : ℕ → ℕ) (ys : List ℕ) (n y : ℕ) → n < length ys → y ≡ f n → IsFilled f ys n
     → IsFilled f (set ys n y) (n + 1)
 filled_more f ys n y inside here before =
-    record { done = (fills_more (λ k item. item ≡ f k) ys n y inside here (record { done = before.done })).done }
+    record { done = set_done (λ k item. item ≡ f k) ys n y inside before.done here }
 
 pub mapped_more : (f : ℕ → ℕ) (xs ys : List ℕ) (n y : ℕ) → n < length ys → y ≡ f (get_or xs n 0) → IsMapped f xs ys n
     → IsMapped f xs (set ys n y) (n + 1)
 mapped_more f xs ys n y inside here before = record {
   filled = filled_more _ ys n y inside here before.filled;
-  rest = λ k h. get_or-set_other ys n k y 0 (omega (arith, h)) ∙ before.rest k (omega (arith, h));
+  rest = set_rest ys xs n y before.rest;
 }
 
 -- a list with all its items written anew

@@ -1,6 +1,5 @@
 -- Items that have room for the sums of their products.
-use Rattle.dl_conv.proofs.Common.{ℕ, suc, ◌-◌, ◌*◌, ◌^◌, ◌<◌, ◌≤◌, List, length, get_or, take, drop, arith, inl, inr, All, le_trans, mul-le-mul, mul-le-mul_right, cases_lt, count_below, below_bound, below_pairs, pair_sum, size_of, ItemsFit}
-use Rattle.std.proofs.lemmas.List.{get_or_past}
+use Rattle.dl_conv.proofs.Common.{ℕ, suc, ◌-◌, ◌*◌, ◌^◌, ◌<◌, ◌≤◌, List, length, get_or, take, drop, arith, inl, inr, All, le_trans, mul-le-mul, mul-le-mul_right, cases_lt, count_below, below_bound, below_pairs, pair_sum, size_of, ItemsFit, get_or_past}
 use Rattle.std.proofs.lemmas.List.Elements.{All-drop, All-take}
 use Rattle.dl_iv.specs.declared.interval.Iv.{Iv}
 use Rattle.dl_grid.specs.Cells.{IsGrid}

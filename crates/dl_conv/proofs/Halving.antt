@@ -1,8 +1,5 @@
 -- What the three products of halves make, as the code has them: lists of elements that stand for numbers.
-use Rattle.dl_conv.proofs.Common.{ℕ, zero, suc, ◌≡◌, ◌+◌, ◌-◌, ◌*◌, ◌/◌, ◌%◌, ◌^◌, ◌<◌, ◌≤◌, List, [], ◌∷◌, ◌++◌, length, take, drop, map, arith, refl, sym, ap, ap₂, inl, inr, ◌∙◌, get_or-eq_default, mod-eq_of_lt, pow_pos, cases_lt, length-map, length-take, length-take-le, length-drop, take_all, get_or-take, IsSame, pair_sum, IsHalvable}
-use Rattle.std.proofs.Common.{◌≢◌}
-use Rattle.std.proofs.Math.Nat.{mod-mod}
-use Rattle.std.proofs.lemmas.List.{take-map, drop-map, map-append, get_or-drop, get_or_append_left, get_or-append-add}
+use Rattle.dl_conv.proofs.Common.{ℕ, zero, suc, ◌≡◌, ◌+◌, ◌-◌, ◌*◌, ◌/◌, ◌%◌, ◌^◌, ◌<◌, ◌≤◌, List, [], ◌∷◌, ◌++◌, length, take, drop, map, arith, refl, sym, ap, ap₂, inl, inr, ◌∙◌, get_or-eq_default, mod-eq_of_lt, pow_pos, cases_lt, length-map, length-take, length-take-le, length-drop, take_all, get_or-take, IsSame, pair_sum, IsHalvable, ◌≢◌, mod-mod, take-map, drop-map, map-append, get_or-drop, get_or_append_left, get_or-append-add}
 use Rattle.dl_conv.proofs.Same.{same, same_then, same_times, same_pairs}
 use Rattle.dl_conv.proofs.Karatsuba.{item, AreThree, joined}
 

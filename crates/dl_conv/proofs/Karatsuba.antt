@@ -1,6 +1,5 @@
 -- Products of lists by halves.
-use Rattle.dl_conv.proofs.Common.{ℕ, zero, suc, ◌≡◌, ◌+◌, ◌-◌, ◌*◌, ◌<◌, ◌≤◌, List, [], ◌∷◌, length, get_or, take, drop, arith, refl, sym, subst, ap, ap₂, inl, inr, ◌∙◌, min, get_or-eq_default, cases_lt, length-take, length-drop, get_or-take, count_below, count_pairs, below_none, below_same, below_pairs, pairs_same, IsSame, pair_sum}
-use Rattle.dl_exact.proofs.Counts.{pairs_plus}
+use Rattle.dl_conv.proofs.Common.{ℕ, zero, suc, ◌≡◌, ◌+◌, ◌-◌, ◌*◌, ◌<◌, ◌≤◌, List, [], ◌∷◌, length, get_or, take, drop, arith, refl, sym, subst, ap, ap₂, inl, inr, ◌∙◌, min, get_or-eq_default, cases_lt, length-take, length-drop, get_or-take, count_below, count_pairs, below_none, below_same, below_pairs, pairs_same, IsSame, pair_sum, pairs_plus}
 use Rattle.dl_conv.proofs.Same.{same, same_sym, same_then, same_plus, same_off}
 
 -- how many products a column of a block has

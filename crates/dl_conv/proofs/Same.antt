@@ -1,6 +1,5 @@
 -- Calculating modulo 2^128.
-use Rattle.dl_conv.proofs.Common.{ℕ, zero, suc, ◌≡◌, ◌+◌, ◌*◌, ◌/◌, ◌%◌, ◌^◌, arith, sym, ap, ◌∙◌, IsSame, count_pairs}
-use Rattle.std.proofs.Math.Nat.{add-mul-mod_self_right}
+use Rattle.dl_conv.proofs.Common.{ℕ, zero, suc, ◌≡◌, ◌+◌, ◌*◌, ◌/◌, ◌%◌, ◌^◌, arith, sym, ap, ◌∙◌, IsSame, count_pairs, add-mul-mod_self_right}
 
 -- two numbers that are the same differ by whole turns
 record Turns (x y : ℕ) : Type 0 where

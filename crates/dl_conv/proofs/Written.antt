@@ -1,7 +1,6 @@
 -- Lists that a loop writes place by place.
-use Rattle.dl_conv.proofs.Common.{ℕ, ◌≡◌, ◌+◌, ◌<◌, ◌≤◌, List, length, get_or, map, arith, ap, sym, inl, inr, ◌∙◌, get_or-set_other}
-use Rattle.std.proofs.Common.{set}
-use Rattle.std.proofs.lemmas.List.{get_or-set_same, get_or-map}
+use Rattle.dl_exact.proofs.Writing.{set_done}
+use Rattle.dl_conv.proofs.Common.{ℕ, ◌≡◌, ◌+◌, ◌<◌, ◌≤◌, List, length, get_or, map, arith, ap, sym, inl, inr, ◌∙◌, get_or-set_other, set, get_or-set_same, get_or-map}
 use Rattle.std.proofs.lemmas.Bool.Decides.{eqb_tells}
 
 -- each of the first n items meets P
@@ -10,12 +9,7 @@ pub record Fills (P : ℕ → ℕ → Type 0) (ys : List ℕ) (n : ℕ) : Type 0
 
 pub fills_more : (P : ℕ → ℕ → Type 0) (ys : List ℕ) (n y : ℕ) → n < length ys → P n y → Fills P ys n
     → Fills P (set ys n y) (n + 1)
-fills_more P ys n y inside here before = record {
-  done = λ k h. elim (eqb_tells k n) [
-    | inl e ↦ rw (e.1, get_or-set_same ys n y 0 inside) here
-    | inr e ↦ rw (get_or-set_other ys n k y 0 e.1) (before.done k (omega (arith, e.1)))
-  ];
-}
+fills_more P ys n y inside here before = record { done = set_done P ys n y inside before.done here }
 
 -- n items from `from` on meet P, and the others are those of xs
 pub record Changed (P : ℕ → ℕ → Type 0) (xs ys : List ℕ) (from n : ℕ) : Type 0 where

@@ -1,45 +1,17 @@
 -- The joint means of a unit at all totals up to q, added up: what the ends hold, how large they are, and how far apart
 -- they lie.
-use Rattle.std.proofs.Common.{ℕ, suc, ◌≡◌, ◌+◌, ◌-◌, ◌*◌, ◌/◌, ◌^◌, ◌<◌, ◌≤◌, List, length, arith, ap₂, subst₂}
-use Rattle.std.specs.Int.{div_ceil}
-use Rattle.std.proofs.lemmas.Nat.{pow_pos}
-use Rattle.std.proofs.Math.Nat.{mul-le-mul, mul-le-mul_left, mul-pos}
-use Rattle.dl_exact.specs.Fraction.{◌over◌}
-use Rattle.dl_exact.specs.Sum.{sum_to}
-use Rattle.dl_exact.specs.Count.{count_pairs, count_below}
-use Rattle.dl_exact.proofs.Laws.{le_refl}
-use Rattle.dl_exact.proofs.RoundingLaws.{div_ceil_least}
+use Rattle.dl_cotail.proofs.Common.{more, ◌∙◌, ℕ, suc, ◌≡◌, ◌+◌, ◌-◌, ◌*◌, ◌/◌, ◌^◌, ◌<◌, ◌≤◌, List, length, arith, ap₂, subst₂, div_ceil, pow_pos, mul-le-mul, mul-le-mul_left, mul-pos, ◌over◌, sum_to, count_pairs, count_below, le_refl, div_ceil_least, below_le, below_same, pairs_le, pairs_same, Iv, low_at, high_at, spread, IsGrid, cells_fit, width_at, high_is, low_within, width_within, cv_is, Holds, Loss, AreDeclarable, One, Joint, score, partial_sums, total, GridEncloses, unit_of, without, at_least_wider, at_most_wider, to_holds, outcomes_rise, joint_ends, fits, joint_width, room_of}
 use Rattle.dl_exact.proofs.SumsOver.{to_over}
-use Rattle.dl_exact.proofs.Counts.{below_le, below_same, pairs_le, pairs_same}
-use Rattle.dl_iv.specs.declared.interval.Iv.{Iv}
 use Rattle.dl_iv.proofs.Rounding.{round_down, round_up, floor_le_ceiling}
-use Rattle.dl_grid.specs.Cells.{low_at, high_at, spread, IsGrid}
-use Rattle.dl_grid.specs.Room.{HasRoom}
-use Rattle.dl_grid.proofs.CellLaws.{size_of, cells_fit}
-use Rattle.dl_grid.proofs.Room.{grid_room, size_within}
-use Rattle.dl_grid.proofs.PlaceSums.{width_at, high_is, low_within, width_within}
-use Rattle.dl_grid.proofs.WidthLaws.{cv_is}
-use Rattle.dl_model.specs.Series.{Holds}
-use Rattle.dl_model.specs.Program.{Loss, AreDeclarable, One, Joint, score, partial_sums, total}
-use Rattle.dl_model.specs.Family.{GridEncloses}
-use Rattle.dl_model.specs.Measures.{unit_of, without}
-use Rattle.dl_model.proofs.Declared.{at_least_wider, at_most_wider}
-use Rattle.dl_model.proofs.Ends.{to_holds}
-use Rattle.dl_model.proofs.Outcomes.{outcomes_rise}
 use Rattle.dl_alloc.specs.Weighted.{low_weighted, high_weighted}
-use Rattle.dl_alloc.proofs.JointEnds.{joint_ends}
-use Rattle.dl_alloc.proofs.WeightedEnds.{high_mass, fits}
+use Rattle.dl_alloc.proofs.WeightedEnds.{high_mass}
 use Rattle.dl_cotail.specs.Sums.{low_sums, high_sums}
-use Rattle.dl_cotail.specs.Widths.{joint_width}
 use Rattle.dl_cotail.proofs.PairSums.{one_more, sums_top, sum_fits, sums_width}
 
 -- ---- how large they are
 
 top : (S q : ℕ) → q * (2 * S) * (2 * S) ≡ 4 * q * S * S
 top S q = omega arith
-
-pub room_of : {B : ℕ} (cells : List (Iv B)) (q : ℕ) → IsGrid cells → q < length cells → HasRoom (q + 1) (2 ^ B)
-room_of cells q grid inside = grid_room (size_within (size_of cells grid) (omega arith) (omega arith))
 
 pub sums_order : {B : ℕ} (unit others : List (Iv B)) (q : ℕ)
     → low_sums unit others q / 2 ^ B ≤ div_ceil (high_sums unit others q) (2 ^ B)
@@ -59,39 +31,33 @@ module _ {B : ℕ} (unit others : List (Iv B)) (q : ℕ) (p : IsGrid unit) (r : 
       omega (
         arith,
         div_ceil_least (high_sums unit others q) (2 ^ B) (4 * q * 2 ^ B) (pow_pos B)
-            (omega (arith, most, top (2 ^ B) q)),
+            (omega (arith, top (2 ^ B) q)),
         cells_fit unit q p (omega arith),
       )
 
   -- ---- a step of the walk
 
-  pub low_step : (z sum u d : ℕ) → z ≤ q
-      → sum ≡ count_below z (λ z. (q - z) * low_at unit (q - z) * count_below (suc z) (low_at others))
-      → u ≡ low_at unit (q - z) → d ≡ count_below (suc z) (low_at others)
-      → (sum + (q - z) * u * d
-      ≡ count_below (z + 1) (λ z. (q - z) * low_at unit (q - z) * count_below (suc z) (low_at others)))
+  -- the next sum, from the weights f of the unit and the distribution of the weights g of the others, and that it fits
+  abbrev Step : (f g : ℕ → ℕ) → Type 0
+  Step f g = (z sum u d s o : ℕ) → z ≤ q → sum ≡ count_below z (λ z. (q - z) * f (q - z) * count_below (suc z) g)
+      → u ≡ f (q - z) → d ≡ s + o → s ≡ count_below z g → o ≡ g z
+      → (sum + (q - z) * u * d ≡ count_below (z + 1) (λ z. (q - z) * f (q - z) * count_below (suc z) g))
       × (sum + (q - z) * u * d < 2 ^ 128)
-  low_step z sum u d here e own other =
-      let next = one_more q z sum u d (low_at unit) (low_at others) e own other in (
+
+  step : (f g : ℕ → ℕ) → count_below (q + 1) f ≤ 2 * 2 ^ B → count_below (q + 1) g ≤ 2 * 2 ^ B → Step f g
+  step f g mass weight z sum u d s o here e own joined before other =
+      let next = one_more q z sum u d f g e own (joined ∙ more g z s o before other) in (
         next,
         fits (2 ^ B) q _ (pow_pos B) (room_of unit q p inside)
-            (sum_fits q (z + 1) _ (2 * 2 ^ B) (2 * 2 ^ B) (low_at unit) (low_at others) (omega arith) next
-            (omega (arith, low_within (q + 1) unit, p.mass)) (omega (arith, low_within (q + 1) others, r.mass))),
+            (sum_fits q (z + 1) _ (2 * 2 ^ B) (2 * 2 ^ B) f g (omega arith) next mass weight),
       )
 
-  pub high_step : spread unit < 2 ^ B → spread others < 2 ^ B → (z sum u d : ℕ) → z ≤ q
-      → sum ≡ count_below z (λ z. (q - z) * high_at unit (q - z) * count_below (suc z) (high_at others))
-      → u ≡ high_at unit (q - z) → d ≡ count_below (suc z) (high_at others)
-      → (sum + (q - z) * u * d
-      ≡ count_below (z + 1) (λ z. (q - z) * high_at unit (q - z) * count_below (suc z) (high_at others)))
-      × (sum + (q - z) * u * d < 2 ^ 128)
-  high_step narrow thin z sum u d here e own other =
-      let next = one_more q z sum u d (high_at unit) (high_at others) e own other in (
-        next,
-        fits (2 ^ B) q _ (pow_pos B) (room_of unit q p inside)
-            (sum_fits q (z + 1) _ (2 * 2 ^ B) (2 * 2 ^ B) (high_at unit) (high_at others) (omega arith) next
-            (high_mass unit (q + 1) p narrow) (high_mass others (q + 1) r thin)),
-      )
+  pub low_step : Step (low_at unit) (low_at others)
+  low_step = step (low_at unit) (low_at others) (omega (arith, low_within (q + 1) unit))
+      (omega (arith, low_within (q + 1) others))
+
+  pub high_step : spread unit < 2 ^ B → spread others < 2 ^ B → Step (high_at unit) (high_at others)
+  high_step narrow thin = step (high_at unit) (high_at others) (high_mass unit (q + 1) p narrow) (high_mass others (q + 1) r thin)
 
   -- ---- how wide they are
 
@@ -106,8 +72,8 @@ module _ {B : ℕ} (unit others : List (Iv B)) (q : ℕ) (p : IsGrid unit) (r : 
       rw (parts, cv_is (2 ^ B) n (spread unit) (spread others) (pow_pos B))
       (sums_width q n (2 ^ B) (spread unit) (spread others)
       (low_at unit) (width_at unit) (low_at others) (width_at others) inside (pow_pos B)
-      (omega (arith, low_within (q + 1) unit, p.mass)) (width_within (q + 1) unit)
-      (omega (arith, low_within (q + 1) others, r.mass)) (width_within (q + 1) others))
+      (omega (arith, low_within (q + 1) unit)) (width_within (q + 1) unit)
+      (omega (arith, low_within (q + 1) others)) (width_within (q + 1) others))
 
 -- ---- what they hold
 
@@ -127,7 +93,7 @@ sums_hold {B} unit others us i q inside beside units here e f =
     (to_holds q (λ x. partial_sums us (Joint i x)) (partial_sums us One) (λ x. low_weighted unit others x over (S * S))
     (λ x. high_weighted unit others x over (S * S)) (λ x. outcomes_rise us units (score (Joint i x)))
     (λ x le. joint_ends us S (length unit) (length others) (low_at unit) (high_at unit) (low_at others)
-    (high_at others) i x units s here (omega (arith, le)) (omega (arith, le)) e f)) in (
+    (high_at others) i x units s here (omega arith) (omega arith) e f)) in (
       at_least_wider Q (partial_sums us One) _ _ exact.0 (round_down (low_sums unit others q) S S _ s s (le_refl _)),
       at_most_wider Q (partial_sums us One) _ _ exact.1 (round_up (high_sums unit others q) S S _ s s (le_refl _)),
     )

@@ -1,3 +1,4 @@
+mod Common
 mod PairSums
 mod JointSums
 mod UnitMeans

@@ -1,10 +1,6 @@
 -- Sums of y * f y * g z over all y + z up to q, in plain numbers: one walk over them, how large they are, and how far
 -- apart two of them lie once rounded.
-use Rattle.std.proofs.Common.{ℕ, zero, suc, ◌≡◌, ◌+◌, ◌-◌, ◌*◌, ◌/◌, ◌<◌, ◌≤◌, arith, refl, sym, ap, ap₂, ◌∙◌, add-one}
-use Rattle.std.specs.Int.{div_ceil}
-use Rattle.std.proofs.Math.Nat.{mul-le-mul, le_trans}
-use Rattle.dl_exact.specs.Count.{count_pairs, count_below}
-use Rattle.dl_exact.proofs.Counts.{below_first, below_grows, below_more, below_same, below_plus, below_times, below_pairs, pairs_same, pairs_plus, pairs_within}
+use Rattle.dl_cotail.proofs.Common.{ℕ, zero, suc, ◌≡◌, ◌+◌, ◌-◌, ◌*◌, ◌/◌, ◌<◌, ◌≤◌, arith, refl, sym, ap, ap₂, ◌∙◌, add-one, div_ceil, mul-le-mul, le_trans, count_pairs, count_below, below_first, below_grows, below_more, below_same, below_plus, below_times, below_pairs, pairs_same, pairs_plus, pairs_within}
 use Rattle.dl_alloc.proofs.WeightedSums.{weighted_under, rounded, divided, enough}
 
 -- ---- pairs
@@ -26,7 +22,7 @@ pairs_turn (suc n) f =
 
 one_pair : (a : ℕ) (f g : ℕ → ℕ) → f zero ≡ a * g zero → count_below 1 f ≡ a * count_below 1 g
 unfolding count_below
-one_pair a f g e = omega (arith, e)
+one_pair a f g e = omega arith
 
 -- over all totals up to q: the sum of g up to what the first place leaves
 all_pairs : (q : ℕ) (a g : ℕ → ℕ) → count_below (suc q) (λ x. count_pairs x (λ y z. a y * g z))
@@ -41,7 +37,7 @@ all_pairs (suc q) a g =
     below_same (suc q) (λ x. a zero * g (suc x)) (λ x. g (suc x) * a zero) (λ i b. omega arith)
     ∙ below_times (suc q) (a zero) (λ x. g (suc x)) in
     let all = ap (λ t. a zero * t) (below_first (suc q) g) in
-    omega (arith, rows, split, head, all, all_pairs q (λ y. a (suc y)) g)
+    omega (arith, all_pairs q (λ y. a (suc y)) g)
 
 -- ---- a walk, as the others' part of the total grows
 
@@ -52,7 +48,6 @@ pub one_more : (q z sum u d : ℕ) (f g : ℕ → ℕ)
 one_more q z sum u d f g e own other =
     omega (
       arith,
-      e,
       below_more z (λ z. (q - z) * f (q - z) * count_below (suc z) g),
       ap₂ (λ s t. (q - z) * s * t) own other,
     )
@@ -74,7 +69,7 @@ sums_top q p r f g h k =
     le_trans (pairs_within (suc q) (λ y. y * f y) g)
     (mul-le-mul
     (omega (arith, ap (λ k. count_below k (λ y. y * f y)) (add-one q), weighted_under q p f h))
-    (omega (arith, ap (λ k. count_below k g) (add-one q), k)))
+    (omega (arith, ap (λ k. count_below k g) (add-one q))))
 
 pub sum_fits : (q n sum p r : ℕ) (f g : ℕ → ℕ) → n ≤ suc q
     → sum ≡ count_below n (λ z. (q - z) * f (q - z) * count_below (suc z) g)
@@ -82,7 +77,6 @@ pub sum_fits : (q n sum p r : ℕ) (f g : ℕ → ℕ) → n ≤ suc q
 sum_fits q n sum p r f g inside e h k =
     omega (
       arith,
-      e,
       below_grows n (suc q) (λ z. (q - z) * f (q - z) * count_below (suc z) g) inside,
       all_places q (suc q) _ f g refl refl,
       sums_top q p r f g h k,
@@ -123,4 +117,4 @@ sums_width q n one v w a c b d inside pos h i j k =
     omega (arith, sums_top q one w a d h k, sums_top q v one c b i j, sums_top q v w c d i k) in
     let near : div_ceil (low + more) one * one ≤ (low / one + 2) * one + more = rounded one low more pos in
     let whole = divided q one v w more (low / one + 2) (div_ceil (low + more) one) pos near top in
-    rw parts (omega (arith, whole, enough q n (v + w + div_ceil (v * w) one) inside))
+    rw parts (omega (arith, enough q n (v + w + div_ceil (v * w) one) inside))

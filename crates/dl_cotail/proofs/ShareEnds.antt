@@ -1,38 +1,17 @@
 -- The conditional mean of a unit at a total q, and what makes its share of the tail mean of it.
-use Rattle.std.proofs.Common.{ℕ, suc, ◌≡◌, inl, inr, ◌+◌, ◌-◌, ◌*◌, ◌^◌, ◌<◌, ◌≤◌, min, List, length, take, arith, sym, ap, subst, ◌∙◌, add-one}
-use Rattle.std.proofs.Math.Nat.{min-eq_left, min-eq_right, min-le_left, mul-le-mul, mul-le-mul_left, mul-le-mul_right}
-use Rattle.std.specs.Int.{div_ceil}
-use Rattle.dl_exact.proofs.RoundingLaws.{div_ceil_least}
-use Rattle.std.proofs.lemmas.Bool.{cases_lt}
-use Rattle.std.proofs.lemmas.Nat.{pow_pos}
-use Rattle.dl_exact.specs.Fraction.{Fraction, whole, ◌over◌, ◌-ℚ◌, ◌*ℚ◌, ◌/ℚ◌, ◌≤ℚ◌, ◌<ℚ◌}
-use Rattle.dl_exact.specs.Count.{count_below}
-use Rattle.dl_exact.proofs.Laws.{le_trans, one_pos, times_comm, times_le_both, le_refl}
-use Rattle.dl_exact.proofs.Over.{over_same}
+use Rattle.dl_cotail.proofs.Common.{ℕ, suc, ◌≡◌, inl, inr, ◌+◌, ◌-◌, ◌*◌, ◌^◌, ◌<◌, ◌≤◌, min, List, length, take, arith, sym, ap, subst, ◌∙◌, add-one, min-eq_left, min-eq_right, min-le_left, mul-le-mul, mul-le-mul_left, mul-le-mul_right, div_ceil, div_ceil_least, cases_lt, pow_pos, Fraction, whole, ◌over◌, ◌-ℚ◌, ◌*ℚ◌, ◌/ℚ◌, ◌≤ℚ◌, ◌<ℚ◌, count_below, one_pos, times_comm, times_le_both, le_refl, over_same, Iv, low_at, high_at, mass_low, mass_high, IsGrid, HasRoom, cells_fit, low_sum, Series, AtMost, AtLeast, Holds, Loss, AreDeclarable, Quantity, One, Point, Cdf, Joint, Share, partial_sums, total, HoldsShare, GridEncloses, at_least_wider, at_most_wider, high_mass, rest, parts, rest_pos, inverse, room_of}
+use Rattle.dl_exact.proofs.Laws.{le_trans}
 use Rattle.dl_exact.proofs.Denominators.{over_le_over}
-use Rattle.dl_iv.specs.declared.interval.Iv.{Iv}
-use Rattle.dl_grid.specs.Cells.{low_at, high_at, mass_low, mass_high, IsGrid}
-use Rattle.dl_grid.specs.Room.{HasRoom}
-use Rattle.dl_grid.proofs.CellLaws.{cells_fit}
-use Rattle.dl_grid.proofs.PlaceSums.{low_sum}
-use Rattle.dl_model.specs.Series.{Series, AtMost, AtLeast, Holds}
-use Rattle.dl_model.specs.Program.{Loss, AreDeclarable, Quantity, One, Point, Cdf, Joint, Share, partial_sums, total}
-use Rattle.dl_model.specs.Shares.{HoldsShare}
-use Rattle.dl_model.specs.Family.{GridEncloses}
-use Rattle.dl_model.proofs.Declared.{at_least_wider, at_most_wider}
 use Rattle.dl_model.proofs.TailScores.{div_is_times}
 use Rattle.dl_model.proofs.TailEnds.{rest_is}
 use Rattle.dl_measures.proofs.CellEnds.{cdf_ends}
-use Rattle.dl_measures.proofs.Sums.{high_mass}
-use Rattle.dl_measures.proofs.TailLaws.{rest, parts, rest_pos, inverse}
 use Rattle.dl_alloc.proofs.Shares.{joint_le_point, joint_most}
-use Rattle.dl_cotail.proofs.JointSums.{room_of}
 
 -- ---- the lesser of two high ends
 
 most_lesser : (Q R : Series) (S a b : ℕ) → AtMost Q R (a over S) → AtMost Q R (b over S) → AtMost Q R (min a b over S)
 most_lesser Q R S a b p q = elim (cases_lt a b) [
-  | inl l ↦ subst (λ t. AtMost Q R (t over S)) (sym (min-eq_left (omega (arith, l)))) p
+  | inl l ↦ subst (λ t. AtMost Q R (t over S)) (sym (min-eq_left (omega arith))) p
   | inr l ↦ subst (λ t. AtMost Q R (t over S)) (sym (min-eq_right l)) q
 ]
 
@@ -64,13 +43,13 @@ share_lowered us i q S k K s held = (
 -- so it can be divided by a probability, or multiplied by one
 pub lowered_fits : (S q h a : ℕ) → HasRoom (q + 1) S → a ≤ S → h ≤ q * a → h * S ≤ 2 ^ 126
 lowered_fits S q h a room small le =
-    omega (arith, mul-le-mul_right S le, mul-le-mul_left q (mul-le-mul_right S small), room.sums)
+    omega (arith, mul-le-mul_right S le, mul-le-mul_left q (mul-le-mul_right S small))
 
 -- the product with a part of 1
 pub product_fits : (S q a k : ℕ) → HasRoom (q + 1) S → a ≤ S → k ≤ q * S → (a * k ≤ q * S * S) × (a * k ≤ 2 ^ 126)
 product_fits S q a k room small few =
     let most : a * k ≤ S * (q * S) = mul-le-mul small few in
-    (omega (arith, most), omega (arith, most, room.sums))
+    (omega arith, omega arith)
 
 -- what lies above a total and the share at it
 pub sum_small : {B : ℕ} (cells : List (Iv B)) (q b a k : ℕ) → IsGrid cells → q < length cells → a ≤ 2 ^ B
@@ -78,17 +57,16 @@ pub sum_small : {B : ℕ} (cells : List (Iv B)) (q b a k : ℕ) → IsGrid cells
 sum_small {B} cells q b a k grid inside small few le =
     omega (
       arith,
-      le,
       div_ceil_least (a * k) (2 ^ B) (q * 2 ^ B) (pow_pos B)
           (product_fits (2 ^ B) q a k (room_of cells q grid inside) small few).0,
-      cells_fit cells q grid (omega (arith, inside)),
+      cells_fit cells q grid (omega arith),
     )
 
 pub scaled_fits : (h d k : ℕ) → 0 < k → h ≤ 2 ^ 98 → d ≤ 10000 → (h * d < 2 ^ 128) × (div_ceil (h * d) k ≤ 2 ^ 112)
 scaled_fits h d k pos small few =
     let most : h * d ≤ 2 ^ 98 * 10000 = mul-le-mul small few in (
-      omega (arith, most),
-      omega (arith, most, div_ceil_least (h * d) k (h * d) pos (omega (arith, mul-le-mul_left (h * d) pos))),
+      omega arith,
+      omega (arith, div_ceil_least (h * d) k (h * d) pos (omega (arith, mul-le-mul_left (h * d) pos))),
     )
 
 -- ---- the distribution at q
@@ -104,9 +82,9 @@ cdf_holds {B} cells us q lo hi grid inside w e low high =
     let same : count_below (suc q) (low_at cells) ≡ count_below (q + 1) (low_at cells) =
     ap (λ n. count_below n (low_at cells)) (sym (add-one q)) in
     let top : min (2 ^ B) (count_below (suc q) (high_at cells)) ≡ hi =
-    omega (arith, high, high_mass (q + 1) cells, ap (λ n. count_below n (high_at cells)) (add-one q)) in (
+    omega (arith, high_mass (q + 1) cells, ap (λ n. count_below n (high_at cells)) (add-one q)) in (
       at_least_wider (partial_sums us (Cdf q)) (partial_sums us One) _ _ exact.0
-          (over_le_over _ _ (2 ^ B) s (omega (arith, low, sum, same))),
+          (over_le_over _ _ (2 ^ B) s (omega arith)),
       subst (λ t. AtMost (partial_sums us (Cdf q)) (partial_sums us One) (t over 2 ^ B)) top exact.1,
     )
 

@@ -1,17 +1,7 @@
 -- The mean of a unit beside others is that of the unit alone.
-use Rattle.std.proofs.Common.{ℕ, zero, suc, ◌≡◌, ◌<◌, arith, sym, ap, ap₂, subst, subst₂, ◌∙◌, List, [], ◌∷◌, length, get_or}
-use mathlib.Core.Path.{fun_ext}
-use Rattle.dl_exact.specs.Fraction.{Fraction, whole, ◌*ℚ◌}
-use Rattle.dl_exact.proofs.Laws.{ring, times_one, times_left_comm}
+use Rattle.dl_cotail.proofs.Common.{ℕ, zero, suc, ◌≡◌, ◌<◌, arith, sym, ap, ap₂, subst, subst₂, ◌∙◌, List, [], ◌∷◌, length, get_or, fun_ext, Fraction, whole, ◌*ℚ◌, ring, times_one, times_left_comm, Rises, Holds, times, Loss, IsLoss, AreDeclarable, One, Mean, score, sum_over_outcomes, partial_sums, without, mean_to_reach, unit_mean, self_holds, holds_times, loss_proper, outcomes_same, outcomes_times, outcomes_rise, total_alone_all, total_more_all, mean_alone, all_split}
 use Rattle.dl_exact.proofs.Sums.{sum_to_same, sum_to_times_right}
-use Rattle.dl_model.specs.Series.{Rises, Holds, times}
-use Rattle.dl_model.specs.Program.{Loss, IsLoss, AreDeclarable, One, Mean, score, sum_over_outcomes, partial_sums}
-use Rattle.dl_model.specs.Measures.{without, mean_to_reach}
-use Rattle.dl_model.specs.Shares.{unit_mean}
-use Rattle.dl_model.proofs.Declared.{self_holds, holds_times}
-use Rattle.dl_model.proofs.Outcomes.{loss_proper, outcomes_same, outcomes_times, outcomes_rise, total_alone_all, total_more_all, mean_alone}
 use Rattle.dl_model.proofs.Without.{unit_is, without_units}
-use Rattle.dl_alloc.proofs.JointEnds.{all_split}
 
 loss_at : (us : List Loss) (i : ℕ) (u : Loss) → AreDeclarable us → i < length us → IsLoss (get_or us i u)
 loss_at [] i u w b = absurd (omega arith)

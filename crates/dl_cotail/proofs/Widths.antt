@@ -1,14 +1,6 @@
 -- How wide the share of a unit in the tail mean is, in plain numbers. S units make 1.
-use Rattle.std.proofs.Common.{ℕ, ◌≡◌, ◌+◌, ◌-◌, ◌*◌, ◌/◌, ◌<◌, ◌≤◌, min, arith, ap}
-use Rattle.std.specs.Int.{div_ceil}
-use Rattle.std.proofs.Math.Nat.{mul-le-mul, mul-le-mul_left, mul-le-mul_right, lt-div-mul-add}
-use Rattle.dl_exact.specs.Fraction.{Fraction, whole, ◌<ℚ◌}
-use Rattle.dl_exact.proofs.RoundingLaws.{div_ceil_least}
-use Rattle.dl_exact.proofs.BelowOne.{num_below}
+use Rattle.dl_cotail.proofs.Common.{ℕ, ◌≡◌, ◌+◌, ◌-◌, ◌*◌, ◌/◌, ◌<◌, ◌≤◌, min, arith, ap, div_ceil, mul-le-mul, mul-le-mul_left, mul-le-mul_right, lt-div-mul-add, Fraction, whole, ◌<ℚ◌, div_ceil_least, num_below, up_quotient, cv_rises, quotients_apart, joint_width, conditional_width, cotail_width}
 use Rattle.dl_grid.specs.Width.{cv}
-use Rattle.dl_grid.proofs.WidthLaws.{up_quotient, cv_rises}
-use Rattle.dl_measures.proofs.TailLaws.{quotients_apart}
-use Rattle.dl_cotail.specs.Widths.{joint_width, conditional_width, cotail_width}
 
 -- ---- the conditional mean
 
@@ -19,7 +11,7 @@ pub conditional_narrow : (S K u o t q w j k h l : ℕ) → q < K → w ≤ t →
     → h - l ≤ 65536 * (q * w + j) + 2 → k ≤ h - l → k ≤ conditional_width S K u o t
 conditional_narrow S K u o t q w j k h l inside at of_joint narrow le =
     let few : q ≤ K = omega arith in
-    omega (arith, mul-le-mul few at, of_joint, narrow, le)
+    omega (arith, mul-le-mul few at)
 
 -- ---- its product with what the distribution has above p
 
@@ -43,7 +35,7 @@ pub above_narrow : (S n d fl fh al ah : ℕ) → 0 < d → al ≡ fl - div_ceil 
 above_narrow S n d fl fh al ah pos low high =
     let apart : div_ceil (S * n) d ≤ S * n / d + 1 =
     div_ceil_least (S * n) d _ pos (omega (arith, lt-div-mul-add {a = S * n} {b = d} pos)) in
-    omega (arith, low, high, apart)
+    omega arith
 
 -- ---- the whole
 
@@ -52,7 +44,7 @@ wide : (S K u o t d e f : ℕ) → 0 < S → u ≤ d → o ≤ e → t ≤ f
 wide S K u o t d e f s of_unit of_others of_total =
     let joint : K * cv S K u o ≤ K * cv S K d e =
     mul-le-mul_left K (cv_rises S K K u d o e s (omega arith) of_unit of_others) in
-    (joint, omega (arith, joint, mul-le-mul_left K of_total))
+    (joint, omega (arith, mul-le-mul_left K of_total))
 
 pub cotail_narrow : (p : Fraction) (S K u o t m d e f q bl bh ml mh al ah pl ph kw l h : ℕ) → p <ℚ whole 1 → 0 < S
     → q < K → bh - bl ≤ joint_width S K u o → ml ≤ mh → bl ≤ bh → ah - al ≤ t + 1
@@ -64,23 +56,21 @@ cotail_narrow p S K u o t m d e f q bl bh ml mh al ah pl ph kw l h below s insid
     let left : 0 < p.den - p.num = omega (arith, num_below p below) in
     let more = wide S K u o t d e f s of_unit of_others of_total in
     let few : q ≤ K = omega arith in
-    let grown : q * (ah - al) ≤ K * (f + 2) = mul-le-mul few (omega (arith, of_above, of_total)) in
+    let grown : q * (ah - al) ≤ K * (f + 2) = mul-le-mul few (omega arith) in
     let E = m + joint_width S K d e + 2 * K + K * (f + 2) + conditional_width S K d e f + 4 in
     let sums : (mh - bl) + ph ≤ ((ml - bh) + pl) + E =
     omega (
       arith,
       within ml mh bl bh pl ph m (joint_width S K d e) (kw + q * (ah - al))
-          (conditional_width S K d e f + K * (f + 2)) (2 * K) of_mean (omega (arith, of_below, more.0)) of_product
-          (omega (arith, of_share, more.1, grown)),
+          (conditional_width S K d e f + K * (f + 2)) (2 * K) of_mean (omega arith) of_product
+          (omega arith),
     ) in
     omega (
       arith,
-      low,
-      high,
       up_quotient (E * p.den) (p.den - p.num) left,
       quotients_apart (p.den - p.num) p.den ((ml - bh) + pl) ((mh - bl) + ph) E left sums,
     )
   where
     within : (ml mh bl bh pl ph m j x y z : ℕ) → mh - ml ≤ m → bh - bl ≤ j → ph ≤ pl + 1 + x → x ≤ y
         → (mh - bl) + ph ≤ ((ml - bh) + pl) + (m + j + z + (y + 4))
-    within ml mh bl bh pl ph m j x y z a b c d = omega (arith, a, b, c, d)
+    within ml mh bl bh pl ph m j x y z a b c d = omega arith

@@ -72,6 +72,7 @@ fn above<const B: u32>(cdf: Iv<B>, p: Frac) -> Iv<B>
 /// total, and `mean` is to hold the unit's mean. `p` is below 1, with parts of at most 10,000. None
 /// exactly where the grid ends before the quantile, the bracket of the quantile has two ends, or
 /// its probability may be below one in `rarest_parts`.
+#[tactic(auto, using(dl_exact::proofs::BelowOne::num_below))]
 pub fn cotail<const B: u32>(
     unit: &Grid<B>,
     others: &Grid<B>,

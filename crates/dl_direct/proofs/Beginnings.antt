@@ -1,10 +1,5 @@
 -- The probability of cell 0 of a geometric count and of a Poisson count of a small mean, from whole numbers.
-use Rattle.dl_direct.proofs.Common.{◌≡◌, ℕ, suc, zero, ◌+◌, ◌*◌, ◌<◌, ◌≤◌, arith, sym, ap, subst, subst₂, ◌∙◌, mul-pos, mul-le-mul_right, zero-lt-suc, Fraction, ◌over◌, ◌+ℚ◌, ◌*ℚ◌, ◌≤ℚ◌, ◌<ℚ◌, whole, sum_to, poisson, gamma, over_le, over_add, over_mul, over_same, one_pos, one_times, times_comm, le_refl, le_trans, times_le_times, times_le_cancel, whole_pos, whole_plus, whole_times, over_times_whole, times_le_both, whole_le}
-use Rattle.dl_model.specs.Series.{Holds, IsBound}
-use Rattle.dl_exact.proofs.Over.{over_lt}
-use Rattle.dl_exact.proofs.Laws.{plus_le_both, plus_times, times_plus}
-use Rattle.dl_exact.proofs.Sums.{halving_bound}
-use Rattle.dl_exact.proofs.Orders.{times_inward, times_outward, times_right_comm, times_swap}
+use Rattle.dl_direct.proofs.Common.{◌≡◌, ℕ, suc, zero, ◌+◌, ◌*◌, ◌<◌, ◌≤◌, arith, ap, ◌∙◌, mul-pos, mul-le-mul_right, zero-lt-suc, Fraction, ◌over◌, ◌+ℚ◌, ◌*ℚ◌, ◌≤ℚ◌, ◌<ℚ◌, whole, sum_to, poisson, gamma, over_le, over_add, over_mul, over_same, one_pos, one_times, times_comm, le_refl, le_trans, times_le_times, times_le_cancel, whole_pos, whole_plus, whole_times, over_times_whole, times_le_both, whole_le, Holds, IsBound, over_lt, plus_le_both, plus_times, times_assoc, times_plus, halving_bound, times_inward, times_outward, times_right_comm}
 use Rattle.dl_model.proofs.PoissonWeights.{poisson_next}
 use Rattle.dl_model.proofs.Gamma.{geometric_low, geometric_least}
 
@@ -26,7 +21,7 @@ geometric_holds n r l h T rp Tp p q =
     let high : d ≤ℚ h over T = over_le r (n + r) h T ap' Tp q in (
       (λ N u b. le_trans _ _ _ (times_le_times _ _ (sum_to N (gamma 1 x)) low)
           (le_trans _ _ _ (geometric_low x d one N) (b zero))),
-      (λ N u b. subst (λ t. t ≤ℚ h over T *ℚ u) (times_comm d L ∙ Ld)
+      (λ N u b. rw (times_comm d L, Ld) at
           (times_le_both d (h over T) L u high ((geometric_least x d one L dp Ld).1 u b))),
     )
 
@@ -37,15 +32,12 @@ small_halves v h n =
     let S = whole (suc n) in
     let twice : v +ℚ v ≤ℚ S = le_trans _ _ _ h (whole_le 1 (suc n) (omega arith)) in
     times_le_cancel _ _ S (whole_pos (suc n) (zero-lt-suc n))
-    (subst₂ (λ s t. s ≤ℚ t)
-    (sym (plus_times _ _ S ∙ ap (λ t. t +ℚ t) (poisson_next v n) ∙ sym (plus_times v v (poisson v n))))
-    (times_comm _ _)
+    (rw (plus_times _ _ S, poisson_next v n, ← plus_times v v (poisson v n), times_comm (poisson v n) S)
     (times_le_times _ _ (poisson v n) twice))
 
 pub half_over : (num den : ℕ) → 0 < den → num + num ≤ den → num over den +ℚ num over den ≤ℚ whole 1
 half_over num den d h =
-    subst (λ t. t ≤ℚ whole 1) (sym (over_add num den num den d d))
-    (over_le _ _ 1 1 (mul-pos d d) one_pos (omega (arith, mul-le-mul_right den h)))
+    rw (over_add num den num den d d) (over_le _ _ 1 1 (mul-pos d d) one_pos (omega (arith, mul-le-mul_right den h)))
 
 module _ (num den : ℕ) (den_pos : 0 < den) where
   v : Fraction
@@ -68,19 +60,15 @@ module _ (num den : ℕ) (den_pos : 0 < den) where
       → whole s ≤ℚ C *ℚ poisson (num over den) (suc n)
   low_term C n t s p h =
       times_le_cancel _ _ (whole (den * suc n)) (step_pos n)
-      (subst₂ (λ x y. x ≤ℚ y) (whole_times s (den * suc n)) (sym (next_term C n))
-      (le_trans _ _ _ (whole_le _ _ p)
-      (subst (λ x. x ≤ℚ C *ℚ poisson (num over den) n *ℚ whole num) (sym (whole_times t num))
-      (times_le_times _ _ (whole num) h))))
+      (rw (← whole_times s (den * suc n), next_term C n) (le_trans _ _ _ (whole_le _ _ p)
+      (rw (whole_times t num) (times_le_times _ _ (whole num) h))))
 
   pub high_term : (C : Fraction) (n t s : ℕ) → t * num ≤ s * (den * suc n) → C *ℚ poisson (num over den) n ≤ℚ whole t
       → C *ℚ poisson (num over den) (suc n) ≤ℚ whole s
   high_term C n t s p h =
       times_le_cancel _ _ (whole (den * suc n)) (step_pos n)
-      (subst₂ (λ x y. x ≤ℚ y) (sym (next_term C n)) (whole_times s (den * suc n))
-      (le_trans _ _ _
-      (subst (λ x. C *ℚ poisson (num over den) n *ℚ whole num ≤ℚ x) (sym (whole_times t num))
-      (times_le_times _ _ (whole num) h)) (whole_le _ _ p)))
+      (rw (next_term C n, ← whole_times s (den * suc n)) (le_trans _ _ _
+      (rw (whole_times t num) (times_le_times _ _ (whole num) h)) (whole_le _ _ p)))
 
 -- x / T and y / T stand round 1 over the sum of the weights, from rounded sums up to K and the rounded last term
 pub poisson_holds : (v : Fraction) (K T a b t x y : ℕ) → v +ℚ v ≤ℚ whole 1 → 0 < T
@@ -94,26 +82,19 @@ poisson_holds v K T a b t x y half Tp low high last p q =
     let H = whole (b + t) in
     let bound : IsBound (λ N. sum_to N W) (sum_to K W +ℚ W K) = halving_bound W K (λ n h. small_halves v half n) in
     let top : whole T *ℚ (sum_to K W +ℚ W K) ≤ℚ H =
-    subst₂ (λ s t. s ≤ℚ t) (sym (times_plus (whole T) (sum_to K W) (W K))) (sym (whole_plus b t))
-    (plus_le_both _ _ _ _ high last) in (
-      (λ N u one_le. le_trans _ _ _
-          (times_le_cancel (x over T *ℚ sum_to N W) (whole 1) (whole T) Tp'
-          (subst₂ (λ s t. s ≤ℚ t)
-          (ap (λ t. t *ℚ sum_to N W) (sym (over_times_whole x T Tp))
-          ∙ times_right_comm (x over T) (whole T) (sum_to N W))
-          (sym (one_times (whole T)))
+    rw (times_plus (whole T) (sum_to K W) (W K), whole_plus b t) (plus_le_both _ _ _ _ high last) in (
+      (λ N u one_le. le_trans _ _ _ (times_le_cancel (x over T *ℚ sum_to N W) (whole 1) (whole T) Tp'
+          (rw (times_right_comm (x over T) (sum_to N W) (whole T), over_times_whole x T Tp, one_times (whole T))
           (times_le_cancel (whole x *ℚ sum_to N W) (whole T) (whole T) Tp'
-          (le_trans _ _ _ (subst (λ t. t ≤ℚ whole x *ℚ H) (times_swap (whole x) (whole T) (sum_to N W))
-          (times_le_both (whole x) (whole x) _ _ (le_refl _)
-          (le_trans _ _ _ (times_le_both (whole T) (whole T) _ _ (le_refl _) (bound N)) top)))
-          (subst₂ (λ s t. s ≤ℚ t) (whole_times x (b + t)) (whole_times T T) (whole_le _ _ p))))))
-          (one_le zero)),
+          (rw (times_assoc, times_comm (sum_to N W) (whole T), ← whole_times T T)
+          (le_trans _ (whole x *ℚ H) _ (times_le_both (whole x) (whole x) _ _ (le_refl _)
+          (le_trans _ _ _ (times_le_both (whole T) (whole T) _ _ (le_refl _) (bound N)) top))
+          (rw (← whole_times x (b + t)) (whole_le _ _ p))))))) (one_le zero)),
       (λ N u b'. times_le_cancel (whole 1) (y over T *ℚ u) (whole T) Tp'
-          (subst₂ (λ s t. s ≤ℚ t) (sym (one_times (whole T)))
-          (ap (λ t. t *ℚ u) (sym (over_times_whole y T Tp)) ∙ times_right_comm (y over T) (whole T) u)
+          (rw (one_times (whole T), times_right_comm (y over T) u (whole T), over_times_whole y T Tp)
           (times_le_cancel (whole T) (whole y *ℚ u) (whole T) Tp'
-          (le_trans _ _ _ (subst₂ (λ s t. s ≤ℚ t) (whole_times T T) (whole_times y a) (whole_le _ _ q))
-          (subst (λ t. whole y *ℚ whole a ≤ℚ t) (times_swap (whole y) (whole T) u)
+          (rw (← whole_times T T, times_assoc, times_comm u (whole T))
+          (le_trans _ (whole y *ℚ whole a) _ (rw (← whole_times y a) (whole_le _ _ q))
           (times_le_both (whole y) (whole y) _ _ (le_refl _)
           (le_trans _ _ _ low (times_le_both (whole T) (whole T) _ _ (le_refl _) (b' K))))))))),
     )

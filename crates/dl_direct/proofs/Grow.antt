@@ -1,7 +1,5 @@
 -- One more cell.
-use Rattle.dl_direct.proofs.Common.{◌≡◌, inl, inr, ℕ, suc, zero, ◌+◌, ◌-◌, ◌*◌, ◌/◌, ◌^◌, ◌<◌, ◌≤◌, List, [], ◌∷◌, ◌++◌, length, get_or, arith, sym, ap, subst, subst₂, ◌∙◌, mul-pos, div-mul-le_self, sum_by, All, zero-lt-suc, cases_lt, length-append, Fraction, ◌*ℚ◌, ◌≤ℚ◌, whole, count_pairs, times_one, le_of_eq, Part, part_at, contribution, FollowsInWhole, IsRound, AreSlideCells}
-use Rattle.std.proofs.Math.ListN.{get_or-append}
-use Rattle.std.proofs.lemmas.List.{get_or_push}
+use Rattle.dl_direct.proofs.Common.{◌≡◌, inl, inr, ℕ, suc, zero, ◌+◌, ◌-◌, ◌*◌, ◌/◌, ◌^◌, ◌<◌, ◌≤◌, List, [], ◌∷◌, ◌++◌, length, get_or, arith, refl, sym, ◌∙◌, mul-pos, div-mul-le_self, sum_by, All, zero-lt-suc, cases_lt, length-append, Fraction, ◌*ℚ◌, ◌≤ℚ◌, whole, times_one, le_of_eq, Part, contribution, FollowsInWhole, IsRound, AreSlideCells, get_or-append, get_or_push}
 use Rattle.dl_direct.proofs.Rounding.{ceil_reaches}
 use Rattle.dl_direct.proofs.Pairs.{contribution_pairs}
 use Rattle.dl_direct.proofs.Steps.{low_step, high_step}
@@ -10,10 +8,10 @@ use Rattle.dl_direct.proofs.Steps.{low_step, high_step}
 pushed_at : (P : ℕ → ℕ → Type 0) (xs : List ℕ) (x n : ℕ) → length xs ≡ n → ((k : ℕ) → k < n → P k (get_or xs k 0))
     → P n x → (k : ℕ) → k < suc n → P k (get_or (xs ++ x ∷ []) k 0)
 pushed_at P xs x n e h last k b = elim (cases_lt k n) [
-  | inl l ↦ subst (P k) (sym (get_or-append xs (x ∷ []) 0 k (omega (arith, e, l)))) (h k l)
+  | inl l ↦ rw (get_or-append xs (x ∷ []) 0 k (omega (arith, e, l))) (h k l)
   | inr l ↦
-      let k_is : n ≡ k = omega (arith, b, l) in
-      subst (λ i. P i (get_or (xs ++ x ∷ []) i 0)) k_is (subst (P n) (sym (get_or_push xs x 0 n e)) last)
+      let k_is : k ≡ n = omega (arith, b, l) in
+      rw (k_is, get_or_push xs x 0 n e) last
 ]
 
 small_pushed : (xs : List ℕ) (x B : ℕ) → ((k : ℕ) → get_or xs k 0 ≤ B) → x ≤ B → (k : ℕ)
@@ -40,8 +38,7 @@ cells_pushed low high first x y h within p q = record {
   low_small = small_pushed low x (2 ^ 62) h.low_small p;
   high_small = small_pushed high y (2 ^ 62) h.high_small q;
   low_settled = λ k l. get_or-append low (x ∷ []) 0 k (omega (arith, l, within)) ∙ h.low_settled k l;
-  high_settled = λ k l. subst (λ t. t ≤ 1) (sym (get_or-append high (y ∷ []) 0 k (omega (arith, l, within, h.alike))))
-      (h.high_settled k l);
+  high_settled = λ k l. rw (get_or-append high (y ∷ []) 0 k (omega (arith, l, within, h.alike))) (h.high_settled k l);
 }
 
 module _ (parts : List Part) (a b q : ℕ) (r : ℕ → Fraction) (amounts : All (λ p. 0 < p.amount) parts) (q_pos : 0 < q)
@@ -49,35 +46,31 @@ module _ (parts : List Part) (a b q : ℕ) (r : ℕ → Fraction) (amounts : All
   pub next_low : (d sum : ℕ) → d ≡ q * suc m → sum ≡ sum_by (contribution a b low (suc m)) parts
       → whole (sum / d * 2 ^ e) ≤ℚ whole (2 ^ 61) *ℚ r (suc m)
   next_low d sum p s =
-      let f : ℕ → ℕ → ℕ = λ i k. (a * suc m + b * suc i) * part_at parts (suc i) in
-      let c : sum / d * (q * suc m) ≤ count_pairs m (λ i k. f i k * get_or low k 0) =
-      subst₂ (λ x y. sum / d * x ≤ y) p (s ∙ contribution_pairs a b m low parts amounts) (div-mul-le_self sum d) in
-      low_step m (q * suc m) (2 ^ e) (whole (2 ^ 61)) f r (mul-pos q_pos (zero-lt-suc m)) (F.next m)
-      (λ k. get_or low k 0) (sum / d) c (λ k l. R.low_end k (omega (arith, l)))
+      low_step m (q * suc m) (2 ^ e) (whole (2 ^ 61)) _ r (mul-pos q_pos (zero-lt-suc m)) (F.next m)
+      (λ k. get_or low k 0) (sum / d)
+      (rw (← p, ← contribution_pairs a b m low parts amounts, ← s) (div-mul-le_self sum d))
+      (λ k l. R.low_end k (omega (arith, l)))
 
   pub next_high : (d sum : ℕ) → d ≡ q * suc m → sum ≡ sum_by (contribution a b high (suc m)) parts
       → whole (2 ^ 61) *ℚ r (suc m) ≤ℚ whole ((sum + (d - 1)) / d * 2 ^ e)
   next_high d sum p s =
-      let f : ℕ → ℕ → ℕ = λ i k. (a * suc m + b * suc i) * part_at parts (suc i) in
-      let dp : 0 < d = subst (λ t. 0 < t) (sym p) (mul-pos q_pos (zero-lt-suc m)) in
-      let c : count_pairs m (λ i k. f i k * get_or high k 0) ≤ (sum + (d - 1)) / d * (q * suc m) =
-      subst₂ (λ x y. y ≤ (sum + (d - 1)) / d * x) p (s ∙ contribution_pairs a b m high parts amounts)
-      (ceil_reaches sum d dp) in
-      high_step m (q * suc m) (2 ^ e) (whole (2 ^ 61)) f r (mul-pos q_pos (zero-lt-suc m)) (F.next m)
-      (λ k. get_or high k 0) ((sum + (d - 1)) / d) c (λ k l. R.high_end k (omega (arith, l)))
+      let dp : 0 < d = rw p (mul-pos q_pos (zero-lt-suc m)) in
+      high_step m (q * suc m) (2 ^ e) (whole (2 ^ 61)) _ r (mul-pos q_pos (zero-lt-suc m)) (F.next m)
+      (λ k. get_or high k 0) ((sum + (d - 1)) / d)
+      (rw (← p, ← contribution_pairs a b m high parts amounts, ← s) (ceil_reaches sum d dp))
+      (λ k l. R.high_end k (omega (arith, l)))
 
 -- cell 0 alone
 pub begun : (r : ℕ → Fraction) → r 0 ≡ whole 1 → IsRound r 0 1 (2305843009213693952 ∷ []) (2305843009213693952 ∷ [])
 begun r h =
-    let e : whole (2 ^ 61) *ℚ r 0 ≡ whole (2 ^ 61) = ap (λ t. whole (2 ^ 61) *ℚ t) h ∙ times_one _ in
+    let e : whole (2 ^ 61) *ℚ r 0 ≡ whole (2 ^ 61) = rw (h, times_one) refl in
     record {
-      low_end = λ k b. let z : 0 ≡ k =
-          omega (arith, b) in subst
-          (λ k. whole (get_or (2305843009213693952 ∷ []) k 0 * 2 ^ 0) ≤ℚ whole (2 ^ 61) *ℚ r k) z
-          (le_of_eq _ _ (sym e));
-      high_end = λ k b. let z : 0 ≡ k =
-          omega (arith, b) in subst
-          (λ k. whole (2 ^ 61) *ℚ r k ≤ℚ whole (get_or (2305843009213693952 ∷ []) k 0 * 2 ^ 0)) z (le_of_eq _ _ e);
+      low_end = λ k b.
+          let z : k ≡ 0 = omega (arith, b) in
+          rw z (le_of_eq _ _ (sym e));
+      high_end = λ k b.
+          let z : k ≡ 0 = omega (arith, b) in
+          rw z (le_of_eq _ _ e);
     }
 
 pub begun_small : (k : ℕ) → get_or (2305843009213693952 ∷ []) k 0 ≤ 2 ^ 62

@@ -1,8 +1,5 @@
 -- The sum over the parts is the sum over amounts and cells that the recursion has.
-use Rattle.dl_direct.proofs.Common.{◌≡◌, inl, inr, ℕ, suc, zero, ◌+◌, ◌-◌, ◌*◌, ◌<◌, List, [], ◌∷◌, cond, get_or, arith, refl, sym, ap, ap₂, ◌∙◌, zero-lt-suc, sum_by, All, sum_by-cons, cases_lt, count_pairs, Part, part_at, contribution}
-use Rattle.std.proofs.Common.{◌≢◌, zero-mul}
-use Rattle.std.proofs.lemmas.Bool.Decides.{eqb_tells}
-use Rattle.std.specs.Prelude.{nat_eq}
+use Rattle.dl_direct.proofs.Common.{◌≡◌, inl, inr, ℕ, suc, zero, ◌+◌, ◌-◌, ◌*◌, ◌<◌, List, [], ◌∷◌, cond, get_or, arith, refl, sym, ap, ap₂, ◌∙◌, zero-lt-suc, sum_by, All, sum_by-cons, cases_lt, count_pairs, Part, part_at, contribution, ◌≢◌, zero-mul, eqb_tells, nat_eq}
 use Rattle.dl_direct.proofs.Reach.{contribution_yes, contribution_no}
 use Rattle.dl_exact.proofs.Counts.{pairs_same, pairs_plus, pairs_none, pairs_only, pairs_past}
 

@@ -1,15 +1,8 @@
 -- Placed cells, one by one.
-use Rattle.dl_direct.proofs.Common.{◌≡◌, ◌⊎◌, inl, inr, ℕ, ◌+◌, ◌-◌, ◌*◌, ◌/◌, ◌^◌, ◌<◌, ◌≤◌, List, length, get_or, arith, sym, ap, subst, subst₂, ◌∙◌, pow-add, mul-le-mul_left, mul-le-mul_right, div-mul-le_self, lt-div-mul-add, cases_lt, sum, IsPlaced}
-use Rattle.std.specs.Prelude.{min}
+use Rattle.dl_direct.proofs.Common.{◌≡◌, ◌⊎◌, inl, inr, ℕ, ◌+◌, ◌-◌, ◌*◌, ◌/◌, ◌^◌, ◌<◌, ◌≤◌, List, length, get_or, arith, ◌∙◌, pow-add, mul-le-mul_left, mul-le-mul_right, div-mul-le_self, lt-div-mul-add, cases_lt, sum, IsPlaced, min, set, replicate, dvd-mul_right, eq_of_mul-eq-mul_left, get_or-set_same, get_or-set_other, get_or-replicate, length-replicate, sum_by-set, cases_eq, get_or_past}
 use Prim.Native.Nat.{◌∣◌}
-use Rattle.std.proofs.Math.ListN.{set, replicate}
-use Rattle.std.proofs.Math.Nat.{dvd-mul_right, eq_of_mul-eq-mul_left}
-use Rattle.std.proofs.lemmas.List.{get_or-set_same, get_or-set_other, get_or-replicate, length-replicate}
-use Rattle.std.proofs.lemmas.List.Sums.{sum_by-set}
 use Rattle.std.proofs.lemmas.List.Folds.{sum_by-replicate}
-use Rattle.std.proofs.lemmas.Bool.{cases_eq}
 use Rattle.dl_direct.specs.declared.start.Scaled.{Scaled}
-use Rattle.std.proofs.lemmas.List.{get_or_past}
 use Rattle.dl_direct.proofs.Starts.{two_pos, two_le}
 
 pub up_reaches : (p d e : ℕ) → 0 < p → d ≤ e → p ≤ ((p - 1) / 2 ^ d + 1) * 2 ^ e
@@ -22,11 +15,11 @@ pub down_reaches : (p e x : ℕ) → p ≤ 2 ^ 62 * 2 ^ 63 → x ≤ p / 2 ^ min
 down_reaches p e x top h = elim (cases_lt e 126) [
   | inl l ↦
       let all : min e 126 ≡ e = omega (arith, l) in
-      let few : x ≤ p / 2 ^ e = subst (λ d. x ≤ p / 2 ^ d) all h in
+      let few : x ≤ p / 2 ^ e = rw all at h in
       omega (arith, mul-le-mul_right (2 ^ e) few, div-mul-le_self p (2 ^ e))
   | inr l ↦
       let all : min e 126 ≡ 126 = omega (arith, l) in
-      let few : x ≤ p / 2 ^ 126 = subst (λ d. x ≤ p / 2 ^ d) all h in
+      let few : x ≤ p / 2 ^ 126 = rw all at h in
       let none : x ≤ 0 = omega (arith, few, top, div-mul-le_self p (2 ^ 126)) in
       omega (arith, mul-le-mul_right (2 ^ e) none)
 ]
@@ -37,8 +30,7 @@ down_reaches p e x top h = elim (cases_lt e 126) [
 pub zeros_at : (n x : ℕ) → get_or (replicate {A = ℕ} n 0) x 0 ≡ 0
 zeros_at n x = elim (cases_lt x n) [
   | inl within ↦ get_or-replicate {A = ℕ} n x 0 0 within
-  | inr past ↦ get_or_past (replicate {A = ℕ} n 0) x 0
-      (subst (λ m. m ≤ x) (sym (length-replicate {A = ℕ} n 0)) past)
+  | inr past ↦ get_or_past (replicate {A = ℕ} n 0) x 0 (rw length-replicate past)
 ]
 
 pub zeros_sum : (n : ℕ) → sum (replicate {A = ℕ} n 0) ≡ 0
@@ -49,10 +41,8 @@ pub ordered_set : (lows highs : List ℕ) (x lo hi : ℕ) → x < length lows �
     → ((y : ℕ) → get_or lows y 0 ≤ get_or highs y 0)
     → (y : ℕ) → get_or (set lows x lo) y 0 ≤ get_or (set highs x hi) y 0
 ordered_set lows highs x lo hi p q l h y = elim (cases_eq y x) [
-  | inl e ↦ subst (λ k. get_or (set lows x lo) k 0 ≤ get_or (set highs x hi) k 0) (sym e)
-      (subst₂ (λ s t. s ≤ t) (sym (get_or-set_same lows x lo 0 p)) (sym (get_or-set_same highs x hi 0 q)) l)
-  | inr e ↦ subst₂ (λ s t. s ≤ t) (sym (get_or-set_other lows x y lo 0 e)) (sym (get_or-set_other highs x y hi 0 e))
-      (h y)
+  | inl e ↦ rw (e, get_or-set_same lows x lo 0 p, get_or-set_same highs x hi 0 q) l
+  | inr e ↦ rw (get_or-set_other lows x y lo 0 e, get_or-set_other highs x y hi 0 e) (h y)
 ]
 
 -- what a low end leaves of 1
@@ -72,35 +62,16 @@ module _ (step : ℕ) (apart : 0 < step) (n : ℕ) (ends : List ℕ) (v : ℕ) w
   before_it k l = get_or-set_other ends (step * n) (step * k) v 0
       (λ e. absurd (omega (arith, l, eq_of_mul-eq-mul_left step apart k n e)))
 
-  at_it : step * n < length ends → get_or (set ends (step * n) v) (step * n) 0 ≡ v
-  at_it inside = get_or-set_same ends (step * n) v 0 inside
-
   beside_it : (x : ℕ) → ¬ (step ∣ x) → get_or (set ends (step * n) v) x 0 ≡ get_or ends x 0
-  beside_it x p = get_or-set_other ends (step * n) x v 0 (λ e. p (subst (λ t. step ∣ t) (sym e) (dvd-mul_right step n)))
+  beside_it x p = get_or-set_other ends (step * n) x v 0 (λ e. p (rw e (dvd-mul_right step n)))
 
 -- ---- its ends by the two scales
 
 raised_low : (o p d m s : ℕ) → s ≡ d + m → o * 2 ^ d ≤ p → o * 2 ^ s ≤ p * 2 ^ m
-raised_low o p d m s e h =
-    subst (λ t. o * t ≤ p * 2 ^ m) (sym (ap (λ t. 2 ^ t) e ∙ pow-add 2 d m)) (omega (arith, mul-le-mul_right (2 ^ m) h))
+raised_low o p d m s e h = rw (e, pow-add) (omega (arith, mul-le-mul_right (2 ^ m) h))
 
 raised_high : (o p d m s : ℕ) → s ≡ d + m → p ≤ o * 2 ^ d → p * 2 ^ m ≤ o * 2 ^ s
-raised_high o p d m s e h =
-    subst (λ t. p * 2 ^ m ≤ o * t) (sym (ap (λ t. 2 ^ t) e ∙ pow-add 2 d m)) (omega (arith, mul-le-mul_right (2 ^ m) h))
-
--- the same ends
-pub placed_same : (B : ℕ) (start : Scaled) (e step n : ℕ) (low high : List ℕ) (lo hi lo' hi' : ℕ → ℕ)
-    → ((x : ℕ) → lo x ≡ lo' x) → ((x : ℕ) → hi x ≡ hi' x)
-    → IsPlaced B start e step n low high lo hi → IsPlaced B start e step n low high lo' hi'
-placed_same B start e step n low high lo hi lo' hi' p q h = record {
-  low_end =
-      λ k b. subst (λ t. t * 2 ^ (61 + start.exponent) ≤ get_or low k 0 * start.low * 2 ^ (e + B)) (p (step * k))
-      (h.low_end k b);
-  high_end =
-      λ k b. subst (λ t. (get_or high k 0 * start.high * 2 ^ (e + B) ≤ t * 2 ^ (61 + start.exponent)) ⊎ (t ≡ 2 ^ B))
-      (q (step * k)) (h.high_end k b);
-  between = λ x b. sym (p x) ∙ h.between x b;
-}
+raised_high o p d m s e h = rw (e, pow-add) (omega (arith, mul-le-mul_right (2 ^ m) h))
 
 -- none is written yet
 pub placed_none : (B : ℕ) (start : Scaled) (e step : ℕ) (low high : List ℕ) (lo hi : ℕ → ℕ) → ((x : ℕ) → lo x ≡ 0)
@@ -120,30 +91,20 @@ module _ (B : ℕ) (start : Scaled) (e step : ℕ) (low high lows highs : List �
       (λ x. get_or (set highs (step * n) hi) x 0)
   placed_more n p q h f g = record {
     low_end = λ k b. elim (cases_lt k n) [
-      | inl l ↦ subst (λ t. t * 2 ^ (61 + start.exponent) ≤ get_or low k 0 * start.low * 2 ^ (e + B))
-          (sym (before_it step apart n lows lo k l)) (h.low_end k l)
+      | inl l ↦ rw (before_it step apart n lows lo k l) (h.low_end k l)
       | inr l ↦
-          let k_is : n ≡ k = omega (arith, b, l) in
-          subst (λ i. get_or (set lows (step * n) lo) (step * i) 0 * 2 ^ (61 + start.exponent) ≤
-          get_or low i 0 * start.low * 2 ^ (e + B)) k_is
-          (subst (λ t. t * 2 ^ (61 + start.exponent) ≤ get_or low n 0 * start.low * 2 ^ (e + B))
-          (sym (at_it step apart n lows lo p))
-          (raised_low lo (get_or low n 0 * start.low) down (e + B) (61 + start.exponent) scale f))
+          let k_is : k ≡ n = omega (arith, b, l) in
+          rw (k_is, get_or-set_same lows (step * n) lo 0 p)
+          (raised_low lo (get_or low n 0 * start.low) down (e + B) (61 + start.exponent) scale f)
     ];
     high_end = λ k b. elim (cases_lt k n) [
-      | inl l ↦ subst (λ t. (get_or high k 0 * start.high * 2 ^ (e + B) ≤ t * 2 ^ (61 + start.exponent)) ⊎ (t ≡ 2 ^ B))
-          (sym (before_it step apart n highs hi k l)) (h.high_end k l)
+      | inl l ↦ rw (before_it step apart n highs hi k l) (h.high_end k l)
       | inr l ↦
-          let k_is : n ≡ k = omega (arith, b, l) in
-          subst (λ i. (get_or high i 0 * start.high * 2 ^ (e + B) ≤
-          get_or (set highs (step * n) hi) (step * i) 0 * 2 ^ (61 + start.exponent)) ⊎
-          (get_or (set highs (step * n) hi) (step * i) 0 ≡ 2 ^ B)) k_is
-          (subst (λ t. (get_or high n 0 * start.high * 2 ^ (e + B) ≤ t * 2 ^ (61 + start.exponent)) ⊎ (t ≡ 2 ^ B))
-          (sym (at_it step apart n highs hi q))
-          (elim g [
+          let k_is : k ≡ n = omega (arith, b, l) in
+          rw (k_is, get_or-set_same highs (step * n) hi 0 q) (elim g [
             | inl u ↦ inl (raised_high hi (get_or high n 0 * start.high) down (e + B) (61 + start.exponent) scale u)
             | inr u ↦ inr u
-          ]))
+          ])
     ];
     between = λ x b. beside_it step apart n lows lo x b ∙ h.between x b;
   }

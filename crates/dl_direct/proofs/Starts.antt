@@ -1,9 +1,5 @@
 -- The probability of cell 0: products, and powers of weights.
-use Rattle.dl_direct.proofs.Common.{◌≡◌, ℕ, suc, zero, ◌+◌, ◌*◌, ◌/◌, ◌^◌, ◌<◌, ◌≤◌, arith, sym, ap, subst, ◌∙◌, mul-pos, mul-le-mul_right, pow-suc, div-mul-le_self, pow-add, zero-lt-suc, lt-div-mul-add, Fraction, ◌over◌, ◌*ℚ◌, ◌≤ℚ◌, whole, sum_to, over_le, over_mul, one_times, le_refl, le_of_eq}
-use Rattle.std.proofs.Common.{le_of_mul-le-mul_right}
-use Rattle.std.proofs.Math.Nat.{one-le-pow, pow-le-pow_right}
-use Rattle.dl_model.specs.Series.{AtMost, AtLeast, Holds, Series, times}
-use Rattle.dl_model.specs.Compound.{convolve}
+use Rattle.dl_direct.proofs.Common.{◌≡◌, ℕ, suc, zero, ◌+◌, ◌*◌, ◌/◌, ◌^◌, ◌<◌, ◌≤◌, arith, sym, ap, ◌∙◌, mul-pos, mul-le-mul_right, pow-suc, div-mul-le_self, pow-add, zero-lt-suc, lt-div-mul-add, Fraction, ◌over◌, ◌*ℚ◌, ◌≤ℚ◌, whole, sum_to, over_le, over_mul, one_times, le_refl, le_of_eq, le_of_mul-le-mul_right, one-le-pow, pow-le-pow_right, AtMost, AtLeast, Holds, Series, times, convolve}
 use Rattle.dl_model.proofs.Declared.{at_most_wider, at_least_wider, at_most_times, at_least_times}
 use Rattle.dl_model.proofs.FamilyLaws.{sum_rises_to}
 use Rattle.dl_model.proofs.Alike.{most_from, least_from}
@@ -52,11 +48,11 @@ start_times v w l h e l' h' e' x y d H K p q =
     let P : ℕ = 2 ^ e * 2 ^ e' in
     let Pp : 0 < P = mul-pos (two_pos e) (two_pos e') in
     let a : x over 2 ^ d ≤ℚ l over 2 ^ e *ℚ l' over 2 ^ e' =
-    subst (λ t. x over 2 ^ d ≤ℚ t) (sym (over_mul l (2 ^ e) l' (2 ^ e') (two_pos e) (two_pos e')))
-    (over_le _ _ _ _ (two_pos d) Pp (subst (λ t. x * t ≤ l * l' * 2 ^ d) (pow-add 2 e e') p)) in
+    rw (over_mul l (2 ^ e) l' (2 ^ e') (two_pos e) (two_pos e'))
+    (over_le _ _ _ _ (two_pos d) Pp (rw (← pow-add 2 e e') p)) in
     let b : h over 2 ^ e *ℚ h' over 2 ^ e' ≤ℚ y over 2 ^ d =
-    subst (λ t. t ≤ℚ y over 2 ^ d) (sym (over_mul h (2 ^ e) h' (2 ^ e') (two_pos e) (two_pos e')))
-    (over_le _ _ _ _ Pp (two_pos d) (subst (λ t. h * h' * 2 ^ d ≤ y * t) (pow-add 2 e e') q)) in
+    rw (over_mul h (2 ^ e) h' (2 ^ e') (two_pos e) (two_pos e'))
+    (over_le _ _ _ _ Pp (two_pos d) (rw (← pow-add 2 e e') q)) in
     let C : Series = λ N. sum_to N (convolve v w) in
     let same : one zero ≡ times one one zero = sym (one_times (whole 1)) in (
       least_from (times one one) (times V W) one C (x over 2 ^ d) (λ n. (n, le_of_eq _ _ (sym same)))

@@ -1,9 +1,5 @@
 -- One step of the recursion and one shift, over whole numbers that stand round 2 ^ 61 * r.
-use Rattle.dl_direct.proofs.Common.{◌≡◌, ℕ, suc, zero, ◌+◌, ◌-◌, ◌*◌, ◌/◌, ◌^◌, ◌<◌, ◌≤◌, List, get_or, arith, refl, sym, ap, subst, subst₂, ◌∙◌, mul-le-mul_right, div-mul-le_self, pow-add, zero-lt-suc, Fraction, ◌+ℚ◌, ◌*ℚ◌, ◌≤ℚ◌, whole, count_pairs, times_comm, whole_plus, whole_times, whole_pos, le_refl, le_trans, times_le_cancel, times_le_both, whole_le, IsRound}
-use Rattle.dl_exact.proofs.Laws.{times_assoc, times_left_comm}
-use Rattle.dl_exact.proofs.Sums.{sum_pairs_same, sum_pairs_times, sum_pairs_times_right, sum_pairs_le}
-use Rattle.dl_exact.proofs.Orders.{times_right_comm}
-use Rattle.dl_exact.specs.Sum.{sum_pairs}
+use Rattle.dl_direct.proofs.Common.{◌≡◌, ℕ, suc, zero, ◌+◌, ◌-◌, ◌*◌, ◌/◌, ◌^◌, ◌<◌, ◌≤◌, List, get_or, arith, refl, sym, ap, ◌∙◌, mul-le-mul_right, div-mul-le_self, pow-add, zero-lt-suc, Fraction, ◌+ℚ◌, ◌*ℚ◌, ◌≤ℚ◌, whole, count_pairs, times_comm, whole_plus, whole_times, whole_pos, le_refl, le_trans, times_le_cancel, times_le_both, whole_le, IsRound, times_assoc, times_left_comm, sum_pairs_same, sum_pairs_times, sum_pairs_times_right, sum_pairs_le, times_right_comm, sum_pairs}
 use Rattle.dl_direct.proofs.Rounding.{ceil_reaches, ceil_least}
 
 -- a sum of whole numbers as a sum of fractions
@@ -17,9 +13,7 @@ scaled_sum : (n P : ℕ) (f : ℕ → ℕ → ℕ) (g : ℕ → ℕ)
 scaled_sum n P f g =
     ap (λ t. t *ℚ whole P) (as_sum n (λ i k. f i k * g k))
     ∙ sym (sum_pairs_times_right n (whole P) (λ i k. whole (f i k * g k)))
-    ∙ sum_pairs_same n _ _
-    (λ i k e. ap (λ t. t *ℚ whole P) (whole_times (f i k) (g k)) ∙ times_assoc _ _ _
-    ∙ ap (λ t. whole (f i k) *ℚ t) (sym (whole_times (g k) P)))
+    ∙ sum_pairs_same n _ _ (λ i k e. simp (whole_times, times_assoc))
 
 module _ (n D P : ℕ) (C : Fraction) (f : ℕ → ℕ → ℕ) (r : ℕ → Fraction) (D_pos : 0 < D)
     (next : whole D *ℚ r (suc n) ≡ sum_pairs n (λ i k. whole (f i k) *ℚ r k)) where
@@ -29,55 +23,40 @@ module _ (n D P : ℕ) (C : Fraction) (f : ℕ → ℕ → ℕ) (r : ℕ → Fra
       ∙ ap (λ t. C *ℚ t) (sym next ∙ times_comm _ _) ∙ sym (times_assoc _ _ _)
 
   swap : (x : ℕ) → whole (x * D) *ℚ whole P ≡ whole (x * P) *ℚ whole D
-  swap x = ap (λ t. t *ℚ whole P) (whole_times x D) ∙ times_right_comm (whole x) (whole D) (whole P)
-      ∙ ap (λ t. t *ℚ whole D) (sym (whole_times x P))
+  swap x = rw (whole_times, whole_times, times_right_comm)
 
   pub low_step : (g : ℕ → ℕ) (x : ℕ) → x * D ≤ count_pairs n (λ i k. f i k * g k)
       → ((k : ℕ) → k ≤ n → whole (g k * P) ≤ℚ C *ℚ r k) → whole (x * P) ≤ℚ C *ℚ r (suc n)
   low_step g x p h =
-      times_le_cancel _ _ (whole D) (whole_pos D D_pos)
-      (subst₂ (λ s t. s ≤ℚ t) (swap x) turned
-      (le_trans _ _ _ (times_le_both _ _ _ _ (whole_le _ _ p) (le_refl (whole P)))
-      (subst (λ t. t ≤ℚ sum_pairs n (λ i k. whole (f i k) *ℚ (C *ℚ r k))) (sym (scaled_sum n P f g))
+      times_le_cancel _ _ (whole D) (whole_pos D D_pos) (rw (← swap x, ← turned)
+      (le_trans _ _ _ (times_le_both _ _ _ _ (whole_le _ _ p) (le_refl (whole P))) (rw (scaled_sum n P f g)
       (sum_pairs_le n _ _ (λ i k e. times_le_both _ _ _ _ (le_refl _) (h k (omega arith)))))))
 
   pub high_step : (g : ℕ → ℕ) (x : ℕ) → count_pairs n (λ i k. f i k * g k) ≤ x * D
       → ((k : ℕ) → k ≤ n → C *ℚ r k ≤ℚ whole (g k * P)) → C *ℚ r (suc n) ≤ℚ whole (x * P)
   high_step g x p h =
-      times_le_cancel _ _ (whole D) (whole_pos D D_pos)
-      (subst₂ (λ s t. s ≤ℚ t) turned (swap x)
-      (le_trans _ _ _ (subst (λ t. sum_pairs n (λ i k. whole (f i k) *ℚ (C *ℚ r k)) ≤ℚ t) (sym (scaled_sum n P f g))
+      times_le_cancel _ _ (whole D) (whole_pos D D_pos) (rw (← swap x, ← turned)
+      (le_trans _ (whole (count_pairs n (λ i k. f i k * g k)) *ℚ whole P) _ (rw (scaled_sum n P f g)
       (sum_pairs_le n _ _ (λ i k e. times_le_both _ _ _ _ (le_refl _) (h k (omega arith)))))
       (times_le_both _ _ _ _ (whole_le _ _ p) (le_refl (whole P)))))
 
 -- ---- the shift by 8 bits
 
 pub shift_low : (x e : ℕ) → x / 256 * 2 ^ (e + 8) ≤ x * 2 ^ e
-shift_low x e =
-    subst (λ t. x / 256 * t ≤ x * 2 ^ e) (sym (pow-add 2 e 8))
-    (omega (arith, mul-le-mul_right (2 ^ e) (div-mul-le_self x 256)))
+shift_low x e = rw (pow-add 2 e 8) (omega (arith, mul-le-mul_right (2 ^ e) (div-mul-le_self x 256)))
 
 pub shift_high : (x e : ℕ) → x * 2 ^ e ≤ (x + 255) / 256 * 2 ^ (e + 8)
-shift_high x e =
-    subst (λ t. x * 2 ^ e ≤ (x + 255) / 256 * t) (sym (pow-add 2 e 8))
-    (omega (arith, mul-le-mul_right (2 ^ e) (ceil_reaches x 256 (zero-lt-suc 255))))
+shift_high x e = rw (pow-add 2 e 8) (omega (arith, mul-le-mul_right (2 ^ e) (ceil_reaches x 256 (zero-lt-suc 255))))
 
 pub shifted : (r : ℕ → Fraction) (e n : ℕ) (low high low' high' : List ℕ)
     → ((k : ℕ) → get_or low' k 0 ≡ get_or low k 0 / 256) → ((k : ℕ) → get_or high' k 0 ≡ (get_or high k 0 + 255) / 256)
     → IsRound r e n low high → IsRound r (e + 8) n low' high'
 shifted r e n low high low' high' p q h = record {
-  low_end =
-      λ k b. le_trans _ _ _
-      (subst (λ t. whole (t * 2 ^ (e + 8)) ≤ℚ whole (get_or low k 0 * 2 ^ e)) (sym (p k))
-      (whole_le _ _ (shift_low (get_or low k 0) e))) (h.low_end k b);
-  high_end =
-      λ k b. le_trans _ _ _ (h.high_end k b)
-      (subst (λ t. whole (get_or high k 0 * 2 ^ e) ≤ℚ whole (t * 2 ^ (e + 8))) (sym (q k))
-      (whole_le _ _ (shift_high (get_or high k 0) e)));
+  low_end = λ k b. rw (p k) (le_trans _ _ _ (whole_le _ _ (shift_low (get_or low k 0) e)) (h.low_end k b));
+  high_end = λ k b. rw (q k) (le_trans _ _ _ (h.high_end k b) (whole_le _ _ (shift_high (get_or high k 0) e)));
 }
 
 pub fit_top : (h k : ℕ) → k < 8 → h ≤ 2 ^ (126 - 8 * k) → (h + 255) / 256 ≤ 2 ^ (126 - 8 * (k + 1))
 fit_top h k l p =
     let e : 126 - 8 * k ≡ 126 - 8 * (k + 1) + 8 = omega (arith, l) in
-    let s : 2 ^ (126 - 8 * k) ≡ 2 ^ (126 - 8 * (k + 1)) * 256 = ap (λ t. 2 ^ t) e ∙ pow-add 2 (126 - 8 * (k + 1)) 8 in
-    ceil_least h 256 (2 ^ (126 - 8 * (k + 1))) (zero-lt-suc 255) (omega (arith, p, s))
+    ceil_least h 256 (2 ^ (126 - 8 * (k + 1))) (zero-lt-suc 255) (omega (arith, rw (e, pow-add) at p))

@@ -1,13 +1,7 @@
 -- The placed cells enclose the compound sum.
-use Rattle.dl_direct.proofs.Common.{◌≡◌, inl, inr, ℕ, suc, zero, ◌+◌, ◌*◌, ◌^◌, ◌<◌, ◌≤◌, List, get_or, arith, sym, ap, ap₂, subst, subst₂, ◌∙◌, pow-add, Fraction, ◌over◌, ◌+ℚ◌, ◌*ℚ◌, ◌≤ℚ◌, ◌<ℚ◌, whole, sum_to, cell, over_same, ring, one_pos, times_one, one_times, le_refl, le_trans, times_le_times, times_le_cancel, whole_pos, whole_times, whole_plus, over_times_whole, times_le_both, Part, IsPanjer, HoldsNoClaim, part_at, FollowsInWhole, IsRound, IsPlaced, IsScaled, whole_le}
-use Rattle.std.proofs.Common.{max}
-use Rattle.dl_model.specs.Series.{AtMost, AtLeast}
+use Rattle.dl_direct.proofs.Common.{◌≡◌, inl, inr, ℕ, suc, zero, ◌+◌, ◌*◌, ◌^◌, ◌<◌, ◌≤◌, List, arith, sym, ap, ap₂, ◌∙◌, pow-add, Fraction, ◌over◌, ◌+ℚ◌, ◌*ℚ◌, ◌≤ℚ◌, ◌<ℚ◌, whole, sum_to, cell, over_same, ring, one_pos, times_one, one_times, le_refl, le_trans, times_le_times, times_le_cancel, whole_pos, whole_times, whole_plus, over_times_whole, times_le_both, Part, IsPanjer, HoldsNoClaim, part_at, FollowsInWhole, IsRound, IsPlaced, IsScaled, whole_le, max, AtMost, AtLeast, times_pos, sum_pairs_same, sum_pairs_times, times_right_comm, times_second, le-max_left, le-max_right}
 use Rattle.dl_model.specs.Family.{compound, Encloses}
-use Rattle.dl_exact.proofs.Laws.{times_pos}
-use Rattle.dl_exact.proofs.Sums.{sum_pairs_same, sum_pairs_times}
-use Rattle.dl_exact.proofs.Orders.{times_right_comm, times_second}
 use Rattle.dl_direct.specs.declared.start.Scaled.{Scaled}
-use Rattle.std.proofs.Math.Nat.{le-max_left, le-max_right}
 use Rattle.dl_model.specs.Recursion.{Recursion}
 use Rattle.dl_model.specs.Severity.{IsWithinOne}
 use Rattle.dl_model.proofs.Declared.{rises_to}
@@ -57,16 +51,14 @@ module _ (T P S X : ℕ) (T_pos : 0 < T) (P_pos : 0 < P) (S_pos : 0 < S) (r : Fr
       → o over S ≤ℚ a over P *ℚ r
   low_number o l a p h =
       times_le_cancel _ _ Z Z_pos
-      (subst₂ (λ s t. s ≤ℚ t) (sym (out_side o)) (sym (in_side a))
-      (le_trans _ _ _ (whole_le _ _ p)
-      (subst (λ t. t ≤ℚ whole T *ℚ r *ℚ whole (a * S)) (mid l a) (times_le_times _ _ (whole (a * S)) h))))
+      (rw (out_side o, in_side a) (le_trans _ _ _ (whole_le _ _ p)
+      (rw (← mid l a) (times_le_times _ _ (whole (a * S)) h))))
 
   pub high_number : (o l a : ℕ) → l * a * (X * S) ≤ o * (T * P) → whole T *ℚ r ≤ℚ whole (l * X)
       → a over P *ℚ r ≤ℚ o over S
   high_number o l a p h =
       times_le_cancel _ _ Z Z_pos
-      (subst₂ (λ s t. s ≤ℚ t) (sym (in_side a)) (sym (out_side o))
-      (le_trans _ _ _ (subst (λ t. whole T *ℚ r *ℚ whole (a * S) ≤ℚ t) (mid l a) (times_le_times _ _ (whole (a * S)) h))
+      (rw (in_side a, out_side o) (le_trans _ _ _ (rw (← mid l a) (times_le_times _ _ (whole (a * S)) h))
       (whole_le _ _ p)))
 
 -- ---- the family
@@ -82,8 +74,7 @@ module _ (f w : ℕ → Fraction) (z : f zero ≡ whole 0) (severity : IsWithinO
       let p = start.low over 2 ^ start.exponent in
       let c : p *ℚ sum_to N w ≤ℚ whole 1 = H.0 N (whole 1) (λ m. le_refl _) in
       le_trans _ _ _ (times_le_times _ _ (sum_to N w) h)
-      (subst₂ (λ s t. s ≤ℚ t) (times_right_comm p (sum_to N w) (cell w f y y)) (one_times u)
-      (times_le_both _ _ _ _ c (b y)))
+      (rw (times_right_comm p (sum_to N w) (cell w f y y), one_times u) at (times_le_both _ _ _ _ c (b y)))
 
   high_holds : (B o y : ℕ) → start.high over 2 ^ start.exponent *ℚ cell w f y y ≤ℚ o over (2 ^ B)
       → AtMost (cell w f y) (λ N. sum_to N w) (o over (2 ^ B))
@@ -91,35 +82,29 @@ module _ (f w : ℕ → Fraction) (z : f zero ≡ whole 0) (severity : IsWithinO
       let p = start.high over 2 ^ start.exponent in
       let r = cell w f y y in
       let M = max N y in
-      let up : cell w f y N ≤ℚ r =
-      subst (λ t. cell w f y N ≤ℚ t) (cell_stays w f z y M (le-max_right N y))
+      let up = rw (cell_stays w f z y M (le-max_right N y)) at
       (rises_to (cell w f y) ((compound_proper w f severity).cells_rise y) N M (le-max_left N y)) in
       let c : whole 1 ≤ℚ p *ℚ u = H.1 zero u b in
       le_trans _ _ _ up
-      (le_trans _ _ _ (subst (λ t. t ≤ℚ r *ℚ (p *ℚ u)) (times_one r) (times_le_both r r _ _ (le_refl r) c))
-      (subst (λ t. t ≤ℚ o over (2 ^ B) *ℚ u) (times_second p r u) (times_le_times _ _ u h)))
+      (le_trans _ _ _ (rw (times_one r) at (times_le_both r r _ _ (le_refl r) c))
+      (rw (times_second p r u) at (times_le_times _ _ u h)))
 
   pub placed_encloses : (B e step n : ℕ) (low high : List ℕ) (lo hi : ℕ → ℕ)
       → IsRound (λ s. cell w f s s) e n low high → IsPlaced B start e step n low high lo hi
       → Encloses (2 ^ B) n (λ k. lo (step * k)) (λ k. hi (step * k)) (compound w f)
   placed_encloses B e step n low high lo hi R Q y l =
       let E = start.exponent in
-      let T_is : 2 ^ (61 + E) ≡ 2 ^ 61 * 2 ^ E = pow-add 2 61 E in
-      let X_is : 2 ^ (e + B) ≡ 2 ^ e * 2 ^ B = pow-add 2 e B in
-      let low_is : lo (step * y) * (2 ^ 61 * 2 ^ E) ≤ get_or low y 0 * start.low * (2 ^ e * 2 ^ B) =
-      subst₂ (λ s t. lo (step * y) * s ≤ get_or low y 0 * start.low * t) T_is X_is (Q.low_end y l) in (
+      let low_is = rw (pow-add 2 61 E, pow-add 2 e B) at (Q.low_end y l) in (
         low_holds B (lo (step * y)) y
             (low_number (2 ^ 61) (2 ^ E) (2 ^ B) (2 ^ e) (two_pos 61) (two_pos E) (two_pos B)
             (cell w f y y) _ _ start.low low_is (R.low_end y l)),
         elim (Q.high_end y l) [
           | inl h ↦
-              let high_is : get_or high y 0 * start.high * (2 ^ e * 2 ^ B) ≤ hi (step * y) * (2 ^ 61 * 2 ^ E) =
-              subst₂ (λ s t. get_or high y 0 * start.high * t ≤ hi (step * y) * s) T_is X_is h in
+              let high_is = rw (pow-add 2 61 E, pow-add 2 e B) at h in
               high_holds B (hi (step * y)) y
               (high_number (2 ^ 61) (2 ^ E) (2 ^ B) (2 ^ e) (two_pos 61) (two_pos E) (two_pos B)
               (cell w f y y) _ _ start.high high_is (R.high_end y l))
-          | inr h ↦ subst (AtMost (cell w f y) (λ N. sum_to N w))
-              (sym (ap (λ t. t over (2 ^ B)) h ∙ over_same (2 ^ B) (2 ^ B) 1 1 (two_pos B) one_pos (omega arith)))
+          | inr h ↦ rw (h, over_same (2 ^ B) (2 ^ B) 1 1 (two_pos B) one_pos (omega arith))
               (cell_at_most_one (compound w f) (compound_proper w f severity) y)
         ],
       )

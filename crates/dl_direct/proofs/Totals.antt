@@ -1,12 +1,6 @@
 -- The sums of the cells: bounds, one more, and which of them stay when cells change.
-use Rattle.dl_direct.proofs.Common.{◌≡◌, inl, inr, ℕ, suc, ◌+◌, ◌*◌, ◌/◌, ◌^◌, ◌<◌, ◌≤◌, List, [], ◌∷◌, ◌++◌, length, length-append, take, get_or, arith, sym, ap, ap₂, subst, ◌∙◌, mul-le-mul, mul-le-mul_right, cases_lt, count_below, sum_to_cell, sums_before, IsSum, AreSums}
-use Rattle.std.proofs.Math.ListN.{get_or-append}
+use Rattle.dl_direct.proofs.Common.{◌≡◌, inl, inr, ℕ, suc, ◌+◌, ◌*◌, ◌/◌, ◌^◌, ◌<◌, ◌≤◌, List, [], ◌∷◌, ◌++◌, length, length-append, take, get_or, arith, sym, ◌∙◌, mul-le-mul, mul-le-mul_right, cases_lt, count_below, sum_to_cell, sums_before, IsSum, AreSums, get_or-append, most_cells, Total, Sums, IsTotal, get_or-take, length-take}
 use Rattle.std.proofs.Math.Seq.{get_or-append_seam}
-use Rattle.dl_limits.specs.Limits.{most_cells}
-use Rattle.dl_direct.specs.declared.cells.Total.{Total}
-use Rattle.dl_direct.specs.declared.cells.Sums.{Sums}
-use Rattle.dl_direct.specs.Slide.{IsTotal}
-use Rattle.std.proofs.lemmas.List.{get_or-take, length-take}
 use Rattle.dl_exact.proofs.Counts.{below_bound, below_same}
 
 -- ---- bounds
@@ -16,46 +10,32 @@ to_cell_le ends k M h = below_bound (suc k) M (λ i. get_or ends i 0) (λ i l. h
 
 pub before_sums_le : (ends : List ℕ) (k M : ℕ) → ((i : ℕ) → get_or ends i 0 ≤ M) → sums_before ends k ≤ k * (k * M)
 before_sums_le ends k M h =
-    below_bound k (k * M) (λ i. sum_to_cell ends i) (λ i l. less i l (to_cell_le ends i M h))
-  where
-    less : (i : ℕ) → i < k → sum_to_cell ends i ≤ suc i * M → sum_to_cell ends i ≤ k * M
-    less i l e = omega (arith, e, mul-le-mul_right M (more i l))
-      where
-        more : (i : ℕ) → i < k → suc i ≤ k
-        more i l = omega (arith, l)
+    below_bound k (k * M) (λ i. sum_to_cell ends i) (λ i l.
+    let more : suc i ≤ k = omega (arith, l) in
+    omega (arith, to_cell_le ends i M h, mul-le-mul_right M more))
 
 pub total_small : (ends : List ℕ) (k : ℕ) (total : Total) → ((i : ℕ) → get_or ends i 0 ≤ 2 ^ 62) → k < most_cells
     → IsTotal ends k total → (total.cells ≤ 2 ^ 78) × (total.before ≤ 2 ^ 94)
-total_small ends k total h l is = (
-  omega (arith, to_cell_le ends k (2 ^ 62) h, is.cells, l),
-  omega (
-    arith,
-    before_sums_le ends k (2 ^ 62) h,
-    is.before,
-    mul-le-mul (least l) (mul-le-mul_right (2 ^ 62) (least l)),
-  ),
-)
-  where
-    least : {k : ℕ} → k < most_cells → k ≤ most_cells
-    least {k} l = omega (arith, l)
+total_small ends k total h l is =
+    let few : k ≤ most_cells = omega (arith, l) in (
+      omega (arith, to_cell_le ends k (2 ^ 62) h, is.cells, l),
+      omega (arith, before_sums_le ends k (2 ^ 62) h, is.before, mul-le-mul few (mul-le-mul_right (2 ^ 62) few)),
+    )
 
 -- ---- one more cell
 
 pub first_total : (ends : List ℕ) (total : Total) → total.cells ≡ get_or ends 0 0 → total.before ≡ 0
     → IsTotal ends 0 total
 unfolding count_below
-first_total ends total p q = record { cells = p ∙ none_plus _; before = q }
-  where
-    none_plus : (x : ℕ) → x ≡ 0 + x
-    none_plus x = omega arith
+first_total ends total p q = record { cells = omega (arith, p); before = q }
 
 pub next_total : (ends : List ℕ) (k : ℕ) (last total : Total) → IsTotal ends k last
     → total.cells ≡ last.cells + get_or ends (suc k) 0 → total.before ≡ last.before + last.cells
     → IsTotal ends (suc k) total
 unfolding count_below
 next_total ends k last total is p q = record {
-  cells = p ∙ ap (λ t. t + get_or ends (suc k) 0) is.cells;
-  before = q ∙ ap₂ (λ s t. s + t) is.before is.cells;
+  cells = omega (arith, p, is.cells);
+  before = omega (arith, q, is.before, is.cells);
 }
 
 pub sums_none : (low high : List ℕ) → AreSums [] low high
@@ -64,11 +44,10 @@ sums_none low high k d l = absurd (omega (arith, l))
 pub sums_pushed : (low high : List ℕ) (sums : List Sums) (one : Sums) → AreSums sums low high
     → IsSum low high (length sums) one → AreSums (sums ++ one ∷ []) low high
 sums_pushed low high sums one h g k d l = elim (cases_lt k (length sums)) [
-  | inl b ↦ subst (IsSum low high k) (sym (get_or-append sums (one ∷ []) d k b)) (h k d b)
+  | inl b ↦ rw (get_or-append sums (one ∷ []) d k b) (h k d b)
   | inr b ↦
-      let e : length sums ≡ k = omega (arith, b, simp length-append at l) in
-      subst (λ i. IsSum low high i (get_or (sums ++ one ∷ []) i d)) e
-      (subst (IsSum low high (length sums)) (sym (get_or-append_seam sums one [] d)) g)
+      let e : k ≡ length sums = omega (arith, b, simp length-append at l) in
+      rw (e, get_or-append_seam sums one [] d) g
 ]
 
 -- ---- cells that change
@@ -100,8 +79,7 @@ pub sums_kept : (n : ℕ) (sums : List Sums) (low high low' high' : List ℕ)
 sums_kept n sums low high low' high' p q h k d l =
     let m : k < n = omega (arith, l, length-take n sums) in
     let b : k < length sums = omega (arith, l, length-take n sums) in
-    subst (IsSum low' high' k) (sym (get_or-take n sums k d m))
-    (is_sum_same low high low' high' k (get_or sums k d) (λ i u. p i (omega (arith, u, m)))
+    rw (get_or-take n sums k d m) (is_sum_same low high low' high' k (get_or sums k d) (λ i u. p i (omega (arith, u, m)))
     (λ i u. q i (omega (arith, u, m))) (h k d b))
 
 -- more cells

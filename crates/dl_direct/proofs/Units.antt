@@ -1,17 +1,6 @@
 -- Equal shares of a count, the steps of its weights, and items with their weights times a factor.
-use Rattle.dl_direct.proofs.Common.{◌≡◌, inl, inr, ℕ, suc, zero, ◌+◌, ◌-◌, ◌*◌, ◌/◌, ◌<◌, ◌≤◌, List, [], ◌∷◌, length, take, get_or, arith, sym, ap, ap₂, subst₂, ◌∙◌, mul-pos, add-one, All, sum_by, sum_by-cons, sum_by_more, Fraction, ◌over◌, ◌+ℚ◌, ◌*ℚ◌, ◌/ℚ◌, whole, over_add, over_mul, over_same, over_self, over_times_whole, whole_times, ring, one_pos, one_times, power, poisson, gamma, IsPanjer, Part, in_a_row}
-use Rattle.std.proofs.Math.Nat.{mul-add}
+use Rattle.dl_direct.proofs.Common.{◌≡◌, inl, inr, ℕ, suc, zero, ◌+◌, ◌-◌, ◌*◌, ◌/◌, ◌<◌, ◌≤◌, List, [], ◌∷◌, length, take, get_or, arith, sym, ap, ◌∙◌, mul-pos, refl, add-one, All, sum_by, sum_by-cons, sum_by_more, Fraction, ◌over◌, ◌+ℚ◌, ◌*ℚ◌, ◌/ℚ◌, whole, over_add, over_mul, over_same, over_self, over_times_whole, whole_times, one_pos, one_times, power, poisson, gamma, IsPanjer, Part, in_a_row, eq-zero-or-pos, mul-add, ◌≢◌, add-zero, lt_of_mul-lt-mul_right, eq_of_mul-eq-mul_right, eq-eqb, ne_eqb, All-head, All-tail, ◌==◌, if◌then◌else◌, eqb_tells, over_div, times_assoc, zero_times, times_comm, Item, weight_sum, weight_at}
 use Prim.Native.Nat.{◌∣◌}
-use Rattle.std.proofs.Common.{lt_of_mul-lt-mul_right}
-use Rattle.std.proofs.Math.Nat.{eq_of_mul-eq-mul_right}
-use Rattle.std.proofs.lemmas.Bool.{eq-eqb, ne_eqb}
-use Rattle.std.proofs.lemmas.List.Elements.{All-head, All-tail}
-use Rattle.std.specs.Prelude.{◌==◌, if◌then◌else◌}
-use Rattle.std.proofs.lemmas.Bool.Decides.{eqb_tells}
-use Rattle.dl_exact.proofs.Over.{over_div}
-use Rattle.dl_exact.proofs.Laws.{zero_times}
-use Rattle.dl_plan.specs.declared.item.Item.{Item}
-use Rattle.dl_plan.specs.Weighted.{weight_sum, weight_at}
 use Rattle.dl_model.proofs.Panjer.{poisson_class, gamma_class}
 use Rattle.dl_model.proofs.PoissonTimes.{poisson_power}
 use Rattle.dl_model.proofs.Gamma.{gamma_power}
@@ -41,65 +30,50 @@ times_item g k item = record { amount = item.amount / g; weight = k * item.weigh
 
 -- an amount above 0 comes to a step or more
 pub some_steps : (g a : ℕ) → g ∣ a → 0 < a → 0 < a / g
-some_steps g a d p = pos_of_ne (λ e. absurd (omega (arith, p, multiple_of g a d ∙ ap (λ t. t * g) e)))
-  where
-    pos_of_ne : {n : ℕ} → (n ≡ 0 → ⊥) → 0 < n
-    pos_of_ne {n} h = omega (arith, h)
+some_steps g a d p = elim (eq-zero-or-pos (a / g)) [
+  | inl none ↦ absurd (omega (arith, p, multiple_of g a d, ap (λ t. t * g) none))
+  | inr some ↦ some
+]
 
 -- it is j steps exactly where it is g * j
 times_at : (g k j : ℕ) (item : Item) → 0 < g → g ∣ item.amount
     → (if (times_item g k item).amount == j then (times_item g k item).weight else 0) ≡ k *
     (if item.amount == g * j then item.weight else 0)
 times_at g k j item p d = elim (eqb_tells (item.amount / g) j) [
-  | inl t ↦ ap (λ v. if v then k * item.weight else 0) t.0
-      ∙ sym (ap (λ v. k * (if v then item.weight else 0)) (eq-eqb item.amount (g * j) (there g j item.amount (item.amount / g) (multiple_of g item.amount d) t.1)))
-  | inr t ↦ ap (λ v. if v then k * item.weight else 0) t.0 ∙ none k
-      ∙ sym (ap (λ v. k * (if v then item.weight else 0))
-      (ne_eqb item.amount (g * j) (λ e. t.1 (eq_of_mul-eq-mul_right g p (item.amount / g) j (sym (multiple_of g item.amount d) ∙ e ∙ turned g j)))))
+  | inl t ↦ rw (t.0, eq-eqb item.amount (g * j) (omega (arith, multiple_of g item.amount d, ap (λ t. t * g) t.1))) refl
+  | inr t ↦
+      let other : item.amount ≢ g * j = λ e. t.1 (eq_of_mul-eq-mul_right g p (item.amount / g) j
+      (omega (arith, multiple_of g item.amount d, e))) in
+      rw (t.0, ne_eqb item.amount (g * j) other) (omega arith)
 ]
-  where
-    none : (k : ℕ) → 0 ≡ k * 0
-    none k = omega arith
-
-    turned : (g j : ℕ) → g * j ≡ j * g
-    turned g j = omega arith
-
-    there : (g j a q : ℕ) → a ≡ q * g → q ≡ j → a ≡ g * j
-    there g j a q e h = e ∙ ap (λ t. t * g) h ∙ sym (turned g j)
 
 -- sums over items with their weights times k
 pub times_sum : (k : ℕ) (items : List Item) → sum_by (λ (item : Item). k * item.weight) items ≡ k * weight_sum items
 times_sum k [] = omega arith
 times_sum k (x ∷ xs) =
-    sum_by-cons (λ (item : Item). k * item.weight) x xs ∙ ap (λ t. k * x.weight + t) (times_sum k xs)
-    ∙ sym (mul-add k _ _) ∙ ap (λ t. k * t) (sym (sum_by-cons (λ (item : Item). item.weight) x xs))
+    rw (sum_by-cons, sum_by-cons (λ (item : Item). item.weight) x xs) (omega (arith, times_sum k xs))
 
 pub times_each : (g k j : ℕ) (items : List Item) → 0 < g → All (λ (item : Item). g ∣ item.amount) items
     → sum_by (λ (item : Item). if (times_item g k item).amount == j then
     (times_item g k item).weight else 0) items ≡ k * weight_at items (g * j)
 times_each g k j [] p d = omega arith
-times_each g k j (x ∷ xs) p d =
-    sum_by-cons (λ (item : Item). if (times_item g k item).amount == j then (times_item g k item).weight else 0) x xs
-    ∙ ap₂ (λ s t. s + t) (times_at g k j x p (All-head (λ (item : Item). g ∣ item.amount) x xs d))
-    (times_each g k j xs p (All-tail (λ (item : Item). g ∣ item.amount) x xs d)) ∙ sym (mul-add k _ _)
-    ∙ ap (λ t. k * t) (sym (sum_by-cons (λ (item : Item). if item.amount == g * j then item.weight else 0) x xs))
+times_each g k j (x ∷ xs) p d = omega (
+  arith,
+  sum_by-cons (λ (item : Item). if (times_item g k item).amount == j then (times_item g k item).weight else 0) x xs,
+  ap (λ t. k * t) (sum_by-cons (λ (item : Item). if item.amount == g * j then item.weight else 0) x xs),
+  times_at g k j x p (All-head (λ (item : Item). g ∣ item.amount) x xs d),
+  times_each g k j xs p (All-tail (λ (item : Item). g ∣ item.amount) x xs d),
+  mul-add k (if x.amount == g * j then x.weight else 0) (weight_at xs (g * j)),
+)
 
 module _ (f : Part → ℕ) (g k : ℕ) (items : List Item) (i : ℕ) (d : Item) (h : i < length items) where
-  more : sum_by (λ item. f (times_item g k item)) (take (i + 1) items) ≡ sum_by (λ item. f (times_item g k item))
-      (take i items) + f (times_item g k (get_or items i d))
-  more = sum_by_more (λ (item : Item). f (times_item g k item)) items i d h
-
   -- one item more for the run at the end
   pub item_joined : (m n w S : ℕ) → (get_or items i d).amount / g ≡ m + n → k * (get_or items i d).weight ≡ w
       → S + sum_by f (in_a_row m n w) ≡ sum_by (λ item. f (times_item g k item)) (take i items)
       → S + sum_by f (in_a_row m (n + 1) w) ≡ sum_by (λ item. f (times_item g k item)) (take (i + 1) items)
   item_joined m n w S p q e =
-      let row : sum_by f (in_a_row m (n + 1) w) ≡ sum_by f (in_a_row m n w) + f
-      (record { amount = m + n; weight = w }) = ap (λ t. sum_by f (in_a_row m t w)) (add-one n)
-      ∙ row_more f m n w in
-      let here : f (times_item g k (get_or items i d)) ≡ f (record { amount = m + n; weight = w }) =
-      ap₂ (λ x y. f (record { amount = x; weight = y })) p q in
-      omega (arith, row, here, e, more)
+      rw (sum_by_more (λ (item : Item). f (times_item g k item)) items i d h, add-one n, row_more f m n w, p, q)
+      (omega (arith, e))
 
   -- a new run of this item alone
   pub item_begun : (w S : ℕ) → k * (get_or items i d).weight ≡ w
@@ -107,49 +81,32 @@ module _ (f : Part → ℕ) (g k : ℕ) (items : List Item) (i : ℕ) (d : Item)
       → S + sum_by f (in_a_row ((get_or items i d).amount / g) 1 w) ≡ sum_by (λ item. f (times_item g k item))
       (take (i + 1) items)
   item_begun w S q e =
-      let m = (get_or items i d).amount / g in
-      let row : sum_by f (in_a_row m 1 w) ≡ sum_by f (in_a_row m 0 w) + f (record { amount = m + 0; weight = w }) =
-      row_more f m 0 w in
-      let none : m + 0 ≡ m = plus_none m in
-      let here : f (times_item g k (get_or items i d)) ≡ f (record { amount = m + 0; weight = w }) =
-      ap₂ (λ x y. f (record { amount = x; weight = y })) (sym none) q in
-      omega (arith, row, row_none f m w, here, e, more)
-    where
-      plus_none : (m : ℕ) → m + 0 ≡ m
-      plus_none m = omega arith
+      rw (sum_by_more (λ (item : Item). f (times_item g k item)) items i d h, row_more f _ 0 w, row_none, add-zero, q)
+      (omega (arith, e))
 
 -- the weights by their lowest terms: q times the ratio of a weight is its numerator
 pub chance_scaled : (base total num w v : ℕ) (ratio : Fraction) → 0 < base → 0 < total
     → ratio ≡ num over (base * total) → v ≡ ratio.num * w
     → whole ratio.den *ℚ (num over base *ℚ w over total) ≡ whole v
 chance_scaled base total num w v ratio b t is e =
-    ap (λ x. whole ratio.den *ℚ x)
-    (over_mul num base w total b t
-    ∙ ap (λ n. (num * w) over n) (plain base total)
-    ∙ sym (over_mul num (base * total) w 1 (mul-pos b t) one_pos)
-    ∙ ap (λ x. x *ℚ whole w) (sym is))
-    ∙ turn (whole ratio.den) ratio (whole w)
-    ∙ ap (λ x. x *ℚ whole w)
-    (ap (λ x. x *ℚ whole ratio.den) (sym (over_self ratio)) ∙ over_times_whole ratio.num ratio.den ratio.positive)
-    ∙ sym (whole_times ratio.num w)
-    ∙ ap whole (sym e)
-  where
-    plain : (b t : ℕ) → b * t ≡ b * t * 1
-    plain b t = omega arith
-
-    turn : (q x w : Fraction) → q *ℚ (x *ℚ w) ≡ x *ℚ q *ℚ w
-    turn q x w = simp ring
+    let product : num over base *ℚ w over total ≡ ratio *ℚ whole w =
+    over_mul num base w total b t
+    ∙ over_same _ _ _ _ (mul-pos b t) (mul-pos (mul-pos b t) one_pos) (omega arith)
+    ∙ sym (over_mul num (base * total) w 1 (mul-pos b t) one_pos) ∙ ap (λ x. x *ℚ whole w) (sym is) in
+    let back : whole ratio.den *ℚ ratio ≡ whole ratio.num =
+    times_comm _ _ ∙ ap (λ x. x *ℚ whole ratio.den) (sym (over_self ratio)) ∙ over_times_whole _ _ ratio.positive in
+    rw (product, ← times_assoc, back, e, whole_times)
 
 -- ---- the two classes
 
 pub poisson_steps : (v : Fraction) → IsPanjer (whole 0 *ℚ v) (whole 1 *ℚ v) (poisson v)
-poisson_steps v = subst₂ (λ a b. IsPanjer a b (poisson v)) (sym (zero_times v)) (sym (one_times v)) (poisson_class v)
+poisson_steps v = rw (zero_times, one_times) (poisson_class v)
 
 pub gamma_steps : (s b : ℕ) (x : Fraction) → 0 < s → b ≡ s - 1 → IsPanjer (whole 1 *ℚ x) (whole b *ℚ x) (gamma s x)
 gamma_steps zero b x p e = absurd (omega (arith, p))
 gamma_steps (suc s) b x p e =
-    let q : s ≡ b = omega (arith, e) in
-    subst₂ (λ a b. IsPanjer a (whole b *ℚ x) (gamma (suc s) x)) (sym (one_times x)) q (gamma_class s x)
+    let q : b ≡ s = omega (arith, e) in
+    rw (q, one_times) (gamma_class s x)
 
 pub contribution_is : (num den s : ℕ) → 0 < den → 0 < s
     → num over (num + s * den) ≡ num over den /ℚ (whole s +ℚ num over den)

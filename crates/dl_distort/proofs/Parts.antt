@@ -1,18 +1,8 @@
 -- A part of a tail mean: what its ends hold, how far apart they lie, and how large they are. S units make 1.
-use Rattle.std.proofs.Common.{ℕ, ◌≡◌, ◌+◌, ◌-◌, ◌*◌, ◌/◌, ◌^◌, ◌<◌, ◌≤◌, arith, sym, ap, subst, ◌∙◌}
-use Rattle.std.specs.Int.{div_ceil}
-use Rattle.std.proofs.Math.Nat.{mul-le-mul, mul-le-mul_right}
+use Rattle.dl_distort.proofs.Common.{ap₂, ℕ, ◌≡◌, ◌+◌, ◌-◌, ◌*◌, ◌/◌, ◌^◌, ◌<◌, ◌≤◌, arith, sym, ap, subst, ◌∙◌, div_ceil, mul-le-mul, mul-le-mul_right, Fraction, whole, ◌+ℚ◌, ◌*ℚ◌, ◌≤ℚ◌, over_self, over_mul, over_add, over_le, le_over, one_pos, times_comm, div_ceil_least, up, up_quotient, Series, AtMost, AtLeast, at_least_wider, at_most_wider}
 use Rattle.std.proofs.lemmas.Grind.{div_ceil_times}
-use Rattle.dl_exact.specs.Fraction.{Fraction, whole, ◌+ℚ◌, ◌*ℚ◌, ◌≤ℚ◌}
-use Rattle.dl_exact.proofs.Over.{over_self, over_mul, over_add, over_le, le_over}
-use Rattle.dl_exact.proofs.Laws.{one_pos, times_comm}
-use Rattle.dl_exact.proofs.RoundingLaws.{div_ceil_least}
 use Rattle.dl_iv.proofs.Rounding.{ceiling_reaches}
-use Rattle.dl_grid.specs.Width.{up}
-use Rattle.dl_grid.proofs.WidthLaws.{up_quotient}
-use Rattle.dl_model.specs.Series.{Series, AtMost, AtLeast}
-use Rattle.dl_model.proofs.Declared.{at_least_wider, at_most_wider}
-use Rattle.dl_model.proofs.Halves.{scaled_least, scaled_most}
+use Rattle.dl_model.proofs.Declared.{scaled_least, scaled_most}
 use Rattle.dl_measures.proofs.TailLaws.{quotients_apart}
 
 -- a weight is at most 1 where its first part is at most its second
@@ -36,19 +26,13 @@ module _ (T O : Series) (w : Fraction) where
 pub up_part : (w : Fraction) (t : ℕ) → up (w *ℚ whole t) ≡ div_ceil (t * w.num) w.den
 up_part w t =
     ap up (ap (λ x. x *ℚ whole t) (sym (over_self w)) ∙ over_mul w.num w.den t 1 w.positive one_pos)
-    ∙ up_quotient (w.num * t) (w.den * 1) (omega (arith, w.positive))
-    ∙ ap (λ n. div_ceil n (w.den * 1)) (turn w.num t) ∙ ap (div_ceil (t * w.num)) (one w.den)
-  where
-    turn : (a b : ℕ) → a * b ≡ b * a
-    turn a b = omega arith
-
-    one : (a : ℕ) → a * 1 ≡ a
-    one a = omega arith
+    ∙ up_quotient (w.num * t) (w.den * 1) (omega arith)
+    ∙ ap₂ div_ceil (omega arith) (omega arith)
 
 pub part_narrow : (w : Fraction) (l h t m n : ℕ) → h - l ≤ t → m ≡ l * w.num / w.den → n ≡ div_ceil (h * w.num) w.den
     → n - m ≤ up (w *ℚ whole t) + 2
 part_narrow w l h t m n narrow low high =
-    omega (arith, low, high, up_part w t, quotients_apart w.den w.num l h t w.positive (omega (arith, narrow)))
+    omega (arith, up_part w t, quotients_apart w.den w.num l h t w.positive (omega arith))
 
 -- ---- how large it is
 
@@ -59,16 +43,16 @@ rises a b n d pos h = div_ceil_least (a * n) d _ pos
 pub tail_small : (cells mean den h : ℕ) → cells ≤ 2 ^ 97 → mean ≤ 2 ^ 97 → den ≤ 1000000000 → h ≤ cells + mean * den
     → h ≤ 2 ^ 97 * 1000000001
 tail_small cells mean den h few small parts le =
-    let most : mean * den ≤ 2 ^ 97 * 1000000000 = mul-le-mul small parts in omega (arith, most)
+    let most : mean * den ≤ 2 ^ 97 * 1000000000 = mul-le-mul small parts in omega arith
 
 pub part_small : (w : Fraction) (h t n : ℕ) → h ≤ t → n ≡ div_ceil (h * w.num) w.den → n ≤ div_ceil (t * w.num) w.den
-part_small w h t n le high = omega (arith, high, rises h t w.num w.den w.positive le)
+part_small w h t n le high = omega (arith, rises h t w.num w.den w.positive le)
 
 -- a part rounded up is at most one unit more
 pub part_units : (w : Fraction) (t n : ℕ) → n ≤ div_ceil (t * w.num) w.den → whole n ≤ℚ whole t *ℚ w +ℚ whole 1
 part_units w t n h =
     subst (λ x. whole n ≤ℚ x) (sym (ap (λ x. whole t *ℚ x +ℚ whole 1) (sym (over_self w))
     ∙ ap (λ x. x +ℚ whole 1) (over_mul t 1 w.num w.den one_pos w.positive)
-    ∙ over_add (t * w.num) (1 * w.den) 1 1 (omega (arith, w.positive)) one_pos))
-    (over_le n 1 _ _ one_pos (omega (arith, w.positive))
+    ∙ over_add (t * w.num) (1 * w.den) 1 1 (omega arith) one_pos))
+    (over_le n 1 _ _ one_pos (omega arith)
     (omega (arith, mul-le-mul_right w.den h, (div_ceil_times (t * w.num) w.den w.positive).1)))

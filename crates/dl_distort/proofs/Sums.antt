@@ -1,45 +1,26 @@
 -- The sum of the terms so far: what its ends hold, how far apart they lie, and how large they are.
-use Rattle.std.proofs.Common.{ℕ, suc, ◌≡◌, ◌+◌, ◌-◌, ◌*◌, ◌^◌, ◌<◌, ◌≤◌, arith, sym, ap, ap₂, subst, subst₂, ◌∙◌, List, [], ◌∷◌, ◌++◌, length, take, drop, get_or, sum_by, add-one}
-use Rattle.std.proofs.lemmas.List.{take-append-drop, take_all}
-use Rattle.std.proofs.lemmas.List.{length-map, get_or-map}
-use Rattle.std.proofs.lemmas.List.Sums.{sum_by-append}
-use Rattle.std.proofs.Math.Seq.{take-suc}
-use Rattle.std.proofs.lemmas.Nat.{pow_pos}
-use mathlib.Core.Path.{fun_ext}
-use Rattle.std.specs.Int.{div_ceil}
-use Rattle.dl_exact.specs.Fraction.{Fraction, whole, ◌over◌, ◌+ℚ◌, ◌*ℚ◌, ◌≤ℚ◌}
+use Rattle.dl_distort.proofs.Common.{ℕ, suc, ◌≡◌, ◌+◌, ◌-◌, ◌*◌, ◌^◌, ◌<◌, ◌≤◌, arith, sym, ap, ap₂, subst, subst₂, ◌∙◌, List, [], ◌∷◌, ◌++◌, length, take, drop, get_or, sum_by, take-append-drop, take_all, length-map, get_or-map, pow_pos, fun_ext, div_ceil, Fraction, whole, ◌over◌, ◌+ℚ◌, ◌*ℚ◌, ◌≤ℚ◌, over_plus, ring, le_refl, le_trans, le_plus, zero_le, zero_times, plus_zero, plus_comm, plus_le_both, times_le_both, whole_plus, times_one, le_whole, Iv, spread, Term, Series, AtLeast, AtMost, Holds, plus, Loss, AreDeclarable, PricedTerm, One, Mean, Tail, Price, score, partial_sums, total, GridEncloses, AreDeclared, IsQuantile, are_units, at_least_plus, at_most_plus, outcomes_rise, AreTermsOf, AreQuantiles, term_of, term_width, price_width, most_tail, take_more, sum_by-append}
 use Rattle.dl_exact.specs.Sum.{sum_over}
 use Rattle.dl_exact.proofs.Sums.{sum_over_append}
-use Rattle.dl_exact.proofs.Denominators.{over_plus, over_zero}
-use Rattle.dl_exact.proofs.Laws.{ring, le_refl, le_trans, le_plus, zero_le, zero_times, plus_zero, plus_comm, plus_le_both, times_le_both, whole_plus, times_one}
-use Rattle.dl_exact.proofs.RoundingLaws.{le_whole}
-use Rattle.dl_iv.specs.declared.interval.Iv.{Iv}
-use Rattle.dl_grid.specs.Cells.{spread}
-use Rattle.dl_plan.specs.declared.settings.Term.{Term}
-use Rattle.dl_model.specs.Series.{Series, AtLeast, AtMost, Holds, plus}
-use Rattle.dl_model.specs.Program.{Loss, AreDeclarable, PricedTerm, One, Mean, Tail, Price, score, partial_sums, total}
-use Rattle.dl_model.specs.Family.{GridEncloses}
-use Rattle.dl_model.specs.Measures.{AreDeclared, IsQuantile}
-use Rattle.dl_model.proofs.Bounded.{are_units}
-use Rattle.dl_model.proofs.Declared.{at_least_plus, at_most_plus}
-use Rattle.dl_model.proofs.Outcomes.{outcomes_rise}
+use Rattle.dl_exact.proofs.Denominators.{over_zero}
 use Rattle.dl_model.proofs.PriceLaws.{price_sums}
-use Rattle.dl_distort.specs.Prices.{AreTermsOf, AreQuantiles, term_of, term_width, price_width, most_tail}
 use Rattle.dl_distort.proofs.Parts.{part_units}
 
 abbrev weights : List Term → Fraction
 weights terms = sum_over terms (λ t. t.weight)
 
+-- what holds of each total that the grid encloses, of which `mean` holds the mean
+abbrev pub OnTotals : {B : ℕ} → List (Iv B) → Iv B → (X : Type 0) → (List Loss → X → Type 0) → Type 0
+OnTotals {B} grid mean X P = (us : List Loss) (x : X) → AreDeclared us → GridEncloses grid (total us)
+    → Holds (partial_sums us Mean) (partial_sums us One) (mean.lo over 2 ^ B) (mean.hi over 2 ^ B) → P us x
+
 -- the ends lo and hi of the sum of the first i terms, in units of 1 / 2^B
 pub record IsSumOf {B : ℕ} (grid : List (Iv B)) (mean : Iv B) (terms : List Term) (i lo hi : ℕ) : Type 0 where
-  pub holds : (us : List Loss) (priced : List PricedTerm) → AreDeclared us → GridEncloses grid (total us)
-      → Holds (partial_sums us Mean) (partial_sums us One) (mean.lo over 2 ^ B) (mean.hi over 2 ^ B)
-      → AreTermsOf terms priced → AreQuantiles (partial_sums us) priced
-      → Holds (partial_sums us (Price (take i priced))) (partial_sums us One) (lo over 2 ^ B) (hi over 2 ^ B)
-  pub least : (us : List Loss) (priced : List PricedTerm) → AreDeclared us → GridEncloses grid (total us)
-      → Holds (partial_sums us Mean) (partial_sums us One) (mean.lo over 2 ^ B) (mean.hi over 2 ^ B)
-      → AreTermsOf terms priced
-      → AtLeast (partial_sums us (Price (take i priced))) (partial_sums us One) (lo over 2 ^ B)
+  pub most : OnTotals grid mean (List PricedTerm) (λ us priced. AreTermsOf terms priced
+      → AreQuantiles (partial_sums us) priced
+      → AtMost (partial_sums us (Price (take i priced))) (partial_sums us One) (hi over 2 ^ B))
+  pub least : OnTotals grid mean (List PricedTerm) (λ us priced. AreTermsOf terms priced
+      → AtLeast (partial_sums us (Price (take i priced))) (partial_sums us One) (lo over 2 ^ B))
   pub narrow : hi ≤ lo + price_width (take i terms) (mean.hi - mean.lo) (length grid) (spread grid)
   pub small : whole hi ≤ℚ whole most_tail *ℚ weights (take i terms) +ℚ whole i
 
@@ -89,30 +70,23 @@ unfolding sum_over
 weights_more ts t = sum_over_append (λ (t : Term). t.weight) ts (t ∷ [])
     ∙ ap (λ x. sum_over ts (λ t. t.weight) +ℚ x) (plus_zero t.weight)
 
-pub taken : {A : Type 0} (xs : List A) (i : ℕ) (d : A) → i < length xs
-    → take (i + 1) xs ≡ take i xs ++ get_or xs i d ∷ []
-taken xs i d h = ap (λ k. take k xs) (add-one i) ∙ take-suc xs i d h
-
 -- ---- the walk
 
 pub start : {B : ℕ} (grid : List (Iv B)) (mean : Iv B) (terms : List Term) → IsSumOf grid mean terms 0 0 0
 unfolding sum_over
 start {B} grid mean terms = record {
-  holds = λ us priced d e m is at. none_holds us (are_units us d) (2 ^ B) (pow_pos B);
+  most = λ us priced d e m is at. (none_holds us (are_units us d) (2 ^ B) (pow_pos B)).1;
   least = λ us priced d e m is. (none_holds us (are_units us d) (2 ^ B) (pow_pos B)).0;
   narrow = omega arith;
   small = zero_le _;
 }
 
-module _ {B : ℕ} (grid : List (Iv B)) (mean : Iv B) (terms : List Term) (i lo hi : ℕ) (t : Term)
+module _ {B : ℕ} {grid : List (Iv B)} {mean : Iv B} {terms : List Term} {i lo hi : ℕ} (t : Term)
     (sum : IsSumOf grid mean terms i lo hi) (inside : i < length terms) (here : get_or terms i t ≡ t) (l h : ℕ)
-    (held : (us : List Loss) (q : ℕ) → AreDeclared us → GridEncloses grid (total us)
-    → Holds (partial_sums us Mean) (partial_sums us One) (mean.lo over 2 ^ B) (mean.hi over 2 ^ B)
-    → IsQuantile (partial_sums us) q t.p
-    → Holds (λ N. t.weight *ℚ partial_sums us (Tail t.p q) N) (partial_sums us One) (l over 2 ^ B) (h over 2 ^ B))
-    (least : (us : List Loss) (q : ℕ) → AreDeclared us → GridEncloses grid (total us)
-    → Holds (partial_sums us Mean) (partial_sums us One) (mean.lo over 2 ^ B) (mean.hi over 2 ^ B)
-    → AtLeast (λ N. t.weight *ℚ partial_sums us (Tail t.p q) N) (partial_sums us One) (l over 2 ^ B))
+    (held : OnTotals grid mean ℕ (λ us q. IsQuantile (partial_sums us) q t.p
+    → Holds (λ N. t.weight *ℚ partial_sums us (Tail t.p q) N) (partial_sums us One) (l over 2 ^ B) (h over 2 ^ B)))
+    (least : OnTotals grid mean ℕ (λ us q.
+    AtLeast (λ N. t.weight *ℚ partial_sums us (Tail t.p q) N) (partial_sums us One) (l over 2 ^ B)))
     (narrow : h - l ≤ term_width (mean.hi - mean.lo) (length grid) (spread grid) t)
     (small : h ≤ div_ceil (most_tail * t.weight.num) t.weight.den) where
   -- the priced term in its place
@@ -131,40 +105,28 @@ module _ {B : ℕ} (grid : List (Iv B)) (mean : Iv B) (terms : List Term) (i lo 
       → P (partial_sums us (Price (take i priced ++ get_or priced i last ∷ [])))
       → P (partial_sums us (Price (take (i + 1) priced)))
   one_more us priced P is p =
-      subst (λ ts. P (partial_sums us (Price ts))) (sym (taken priced i last (in_place priced is).0)) p
+      subst (λ ts. P (partial_sums us (Price ts))) (sym (take_more priced i last (in_place priced is).0)) p
 
   pub step : IsSumOf grid mean terms (i + 1) (lo + l) (hi + h)
   step = record {
-    holds = λ us priced d e m is at.
-        let w = are_units us d in
+    most = λ us priced d e m is at.
         let here' = in_place priced is in
         let k = get_or priced i last in
-        let quantile : IsQuantile (partial_sums us) k.quantile t.p =
-        subst (λ (t : Term). IsQuantile (partial_sums us) k.quantile t.p) here'.1 (at i last here'.0) in
-        let part : Holds (term us w k) (partial_sums us One) (l over 2 ^ B) (h over 2 ^ B) =
-        subst (λ (t : Term). Holds (λ N. t.weight *ℚ partial_sums us (Tail t.p k.quantile) N) (partial_sums us One)
-        (l over 2 ^ B) (h over 2 ^ B)) (sym here'.1) (held us k.quantile d e m quantile) in
-        let so_far = sum.holds us priced d e m is at in
-        one_more us priced (λ Q. Holds Q (partial_sums us One) ((lo + l) over 2 ^ B) ((hi + h) over 2 ^ B)) is (
-          more_least us w (2 ^ B) (pow_pos B) (take i priced) k lo l so_far.0 part.0,
-          more_most us w (2 ^ B) (pow_pos B) (take i priced) k hi h so_far.1 part.1,
-        );
+        let quantile = subst (λ (t : Term). IsQuantile (partial_sums us) k.quantile t.p) here'.1
+        (at i last here'.0) in
+        one_more us priced (λ Q. AtMost Q (partial_sums us One) ((hi + h) over 2 ^ B)) is
+        (more_most us (are_units us d) (2 ^ B) (pow_pos B) (take i priced) k hi h (sum.most us priced d e m is at)
+        (subst (λ (t : Term). AtMost (λ N. t.weight *ℚ partial_sums us (Tail t.p k.quantile) N) (partial_sums us One)
+        (h over 2 ^ B)) (sym here'.1) (held us k.quantile d e m quantile).1));
     least = λ us priced d e m is.
-        let w = are_units us d in
-        let here' = in_place priced is in
         let k = get_or priced i last in
-        let part : AtLeast (term us w k) (partial_sums us One) (l over 2 ^ B) =
-        subst (λ (t : Term). AtLeast (λ N. t.weight *ℚ partial_sums us (Tail t.p k.quantile) N) (partial_sums us One)
-        (l over 2 ^ B)) (sym here'.1) (least us k.quantile d e m) in
         one_more us priced (λ Q. AtLeast Q (partial_sums us One) ((lo + l) over 2 ^ B)) is
-        (more_least us w (2 ^ B) (pow_pos B) (take i priced) k lo l (sum.least us priced d e m is) part);
-    narrow = omega (
-      arith,
-      sum.narrow,
-      narrow,
-      ap (sum_by (term_width (mean.hi - mean.lo) (length grid) (spread grid))) all,
-      sum_by-append (term_width (mean.hi - mean.lo) (length grid) (spread grid)) (take i terms) (t ∷ []),
-    );
+        (more_least us (are_units us d) (2 ^ B) (pow_pos B) (take i priced) k lo l (sum.least us priced d e m is)
+        (subst (λ (t : Term). AtLeast (λ N. t.weight *ℚ partial_sums us (Tail t.p k.quantile) N) (partial_sums us One)
+        (l over 2 ^ B)) (sym (in_place priced is).1) (least us k.quantile d e m)));
+    narrow =
+        let width = term_width (mean.hi - mean.lo) (length grid) (spread grid) in
+        omega (arith, narrow, ap (sum_by width) all, sum_by-append width (take i terms) (t ∷ []));
     small = subst₂ (λ x y. x ≤ℚ y) (sym (whole_plus hi h))
         (turn (whole most_tail) (weights (take i terms)) t.weight (whole i) (whole 1)
         ∙ ap₂ (λ a b. whole most_tail *ℚ a +ℚ b) (sym (ap weights all ∙ weights_more (take i terms) t))
@@ -173,7 +135,7 @@ module _ {B : ℕ} (grid : List (Iv B)) (mean : Iv B) (terms : List Term) (i lo 
   }
     where
       all : take (i + 1) terms ≡ take i terms ++ t ∷ []
-      all = taken terms i t inside ∙ ap (λ x. take i terms ++ x ∷ []) here
+      all = take_more terms i t inside ∙ ap (λ x. take i terms ++ x ∷ []) here
 
       turn : (a b c d e : Fraction) → a *ℚ b +ℚ d +ℚ (a *ℚ c +ℚ e) ≡ a *ℚ (b +ℚ c) +ℚ (d +ℚ e)
       turn a b c d e = simp ring
@@ -191,7 +153,7 @@ pub weight_within : (terms : List Term) (i : ℕ) (t : Term) → i < length term
 weight_within terms i t inside here one =
     le_trans _ _ _ (subst (λ x. t.weight ≤ℚ x) (plus_comm t.weight (weights (take i terms))
     ∙ sym (weights_more (take i terms) t)
-    ∙ ap weights (sym (taken terms i t inside ∙ ap (λ x. take i terms ++ x ∷ []) here)))
+    ∙ ap weights (sym (take_more terms i t inside ∙ ap (λ x. take i terms ++ x ∷ []) here)))
     (le_plus _ _)) (subst (λ x. weights (take (i + 1) terms) ≤ℚ x) one (weights_within terms (i + 1)))
 
 -- the sum fits
@@ -206,29 +168,27 @@ sum_small terms i hi one h =
 
 -- ---- all terms
 
-module _ {B : ℕ} (grid : List (Iv B)) (mean : Iv B) (terms : List Term) (i lo hi : ℕ)
+module _ {B : ℕ} {grid : List (Iv B)} {mean : Iv B} {terms : List Term} {i lo hi : ℕ}
     (sum : IsSumOf grid mean terms i lo hi) (ended : length terms ≤ i) where
   every : (priced : List PricedTerm) → AreTermsOf terms priced → take i priced ≡ priced
-  every priced is = take_all i priced (omega (arith, length-map priced term_of, ap length is, ended))
+  every priced is = take_all i priced (omega (arith, length-map priced term_of, ap length is))
 
-  pub all_hold : (us : List Loss) (priced : List PricedTerm) → AreDeclared us → GridEncloses grid (total us)
-      → Holds (partial_sums us Mean) (partial_sums us One) (mean.lo over 2 ^ B) (mean.hi over 2 ^ B)
-      → AreTermsOf terms priced → AreQuantiles (partial_sums us) priced
-      → Holds (partial_sums us (Price priced)) (partial_sums us One) (lo over 2 ^ B) (hi over 2 ^ B)
-  all_hold us priced d e m is at = subst (λ ts. Holds (partial_sums us (Price ts)) (partial_sums us One) (lo over 2 ^ B)
-      (hi over 2 ^ B)) (every priced is) (sum.holds us priced d e m is at)
-
-  pub all_least : (us : List Loss) (priced : List PricedTerm) → AreDeclared us → GridEncloses grid (total us)
-      → Holds (partial_sums us Mean) (partial_sums us One) (mean.lo over 2 ^ B) (mean.hi over 2 ^ B)
-      → AreTermsOf terms priced
-      → AtLeast (partial_sums us (Price priced)) (partial_sums us One) (lo over 2 ^ B)
+  pub all_least : OnTotals grid mean (List PricedTerm) (λ us priced. AreTermsOf terms priced
+      → AtLeast (partial_sums us (Price priced)) (partial_sums us One) (lo over 2 ^ B))
   all_least us priced d e m is =
       subst (λ ts. AtLeast (partial_sums us (Price ts)) (partial_sums us One) (lo over 2 ^ B))
       (every priced is) (sum.least us priced d e m is)
 
-  pub all_narrow : hi - lo ≤ price_width terms (mean.hi - mean.lo) (length grid) (spread grid)
-  all_narrow = omega (
-    arith,
-    sum.narrow,
-    ap (sum_by (term_width (mean.hi - mean.lo) (length grid) (spread grid))) (take_all i terms ended),
+  pub all_hold : OnTotals grid mean (List PricedTerm) (λ us priced. AreTermsOf terms priced
+      → AreQuantiles (partial_sums us) priced
+      → Holds (partial_sums us (Price priced)) (partial_sums us One) (lo over 2 ^ B) (hi over 2 ^ B))
+  all_hold us priced d e m is at = (
+    all_least us priced d e m is,
+    subst (λ ts. AtMost (partial_sums us (Price ts)) (partial_sums us One) (hi over 2 ^ B)) (every priced is)
+        (sum.most us priced d e m is at),
   )
+
+  pub all_narrow : hi - lo ≤ price_width terms (mean.hi - mean.lo) (length grid) (spread grid)
+  all_narrow =
+      let all = ap (sum_by (term_width (mean.hi - mean.lo) (length grid) (spread grid))) (take_all i terms ended) in
+      omega arith

@@ -1,15 +1,5 @@
 -- A wider mean and a wider grid never give a narrower price.
-use Rattle.std.proofs.Common.{ℕ, ◌+◌, ◌-◌, ◌*◌, ◌<◌, ◌≤◌, arith, List, [], ◌∷◌}
-use Rattle.std.specs.Prelude.{All}
-use Rattle.std.proofs.Math.Nat.{mul-le-mul_left}
-use Rattle.std.proofs.lemmas.List.Elements.{All-head, All-tail}
-use Rattle.std.proofs.lemmas.List.Sums.{sum_by-cons}
-use Rattle.dl_exact.specs.Fraction.{Fraction, whole, ◌<ℚ◌}
-use Rattle.dl_exact.proofs.BelowOne.{num_below}
-use Rattle.dl_grid.specs.Width.{tail_width}
-use Rattle.dl_grid.proofs.WidthLaws.{up_quotient}
-use Rattle.dl_plan.specs.declared.settings.Term.{Term}
-use Rattle.dl_distort.specs.Prices.{term_width, price_width}
+use Rattle.dl_distort.proofs.Common.{ℕ, ◌+◌, ◌-◌, ◌*◌, ◌<◌, ◌≤◌, arith, List, [], ◌∷◌, All, mul-le-mul_left, All-head, All-tail, sum_by-cons, Fraction, whole, ◌<ℚ◌, num_below, tail_width, up_quotient, Term, term_width, price_width}
 use Rattle.dl_distort.proofs.Parts.{up_part, rises}
 
 tail_rises : (p : Fraction) (m n K s t : ℕ) → p <ℚ whole 1 → m ≤ n → s ≤ t → tail_width p m K s ≤ tail_width p n K t
@@ -20,7 +10,7 @@ tail_rises p m n K s t below of_mean of_spread =
       up_quotient ((2 * m + 3 * K * s) * p.den) (p.den - p.num) rest,
       up_quotient ((2 * n + 3 * K * t) * p.den) (p.den - p.num) rest,
       rises (2 * m + 3 * K * s) (2 * n + 3 * K * t) p.den (p.den - p.num) rest
-          (omega (arith, of_mean, mul-le-mul_left (3 * K) of_spread)),
+          (omega (arith, mul-le-mul_left (3 * K) of_spread)),
     )
 
 term_rises : (term : Term) (m n K s t : ℕ) → term.p <ℚ whole 1 → m ≤ n → s ≤ t

@@ -1,19 +1,8 @@
 -- Units that are alike have the same grids and means.
-use Rattle.dl_eval.proofs.Common.{ℕ, ◌≡◌, ◌^◌, List, [], ◌∷◌, length, take, arith, sym, ap, ap₂, subst, subst₂, ◌∙◌, Option, whole, ◌over◌, Iv, spread, Holds, GridEncloses, Aggregate, One, Mean, partial_sums, outcome_after, aggregate_of, Clause, horizon, claims_budget, after_clause, unit_budget, unit_mean_budget, mean_width, IsUnitGrid, IsUnitMean, loss_of}
-use Rattle.std.proofs.lemmas.List.{take_all}
-use Rattle.dl_exact.specs.Fraction.{◌*ℚ◌, ◌-ℚ◌}
-use Rattle.dl_grid.specs.Width.{up}
-use Rattle.dl_plan.specs.Severity.{mean_amount, shares}
-use Rattle.dl_plan.specs.Means.{declared_mean}
-use Rattle.dl_model.specs.Program.{Loss}
-use Rattle.dl_model.specs.Plans.{after_zero, count_weights}
+use Rattle.dl_eval.proofs.Common.{ℕ, ◌≡◌, ◌^◌, List, [], ◌∷◌, length, take, arith, sym, ap, ap₂, subst, subst₂, ◌∙◌, Option, whole, ◌over◌, Iv, spread, Holds, GridEncloses, Aggregate, One, Mean, partial_sums, outcome_after, aggregate_of, Clause, horizon, claims_budget, after_clause, unit_budget, unit_mean_budget, mean_width, IsUnitGrid, IsUnitMean, loss_of, take_all, ◌*ℚ◌, ◌-ℚ◌, up, mean_amount, shares, declared_mean, Loss, after_zero, count_weights, UnitOfPlan, expected_count, count_budget, none_budget, budget_after_zero, mean_after_zero}
 use Rattle.dl_plan.specs.declared.item.Item.{Item}
 use Rattle.dl_plan.specs.declared.plan.Freq.{Freq}
-use Rattle.dl_plan.specs.declared.plan.Unit.{Unit as UnitOfPlan}
-use Rattle.dl_plan.specs.Count.{expected_count}
 use Rattle.dl_plan.specs.Weighted.{weight_at, greatest}
-use Rattle.dl_budget.specs.Claims.{count_budget, none_budget}
-use Rattle.dl_budget.specs.Units.{after_zero as budget_after_zero, mean_after_zero}
 use Rattle.dl_eval.specs.Same.{AreAlike}
 
 -- a unit's aggregate loss, and its budget before its clause, from what alike units share

@@ -1,16 +1,9 @@
--- The grid of the total among those that rows are drawn from.
-use Rattle.dl_eval.proofs.Common.{ℕ, ◌≡◌, ◌<◌, List, length, get_or, refl, sym, subst, Option, None, Some, All, Any, Iv, Plan, IsTotalOf}
-use Rattle.std.specs.Prelude.{IsSome}
+-- The grids that rows are drawn from.
+use Rattle.dl_eval.proofs.Common.{ℕ, ◌≡◌, ◌<◌, List, length, get_or, refl, sym, subst, Option, None, Some, All, Any, IsSome}
 use Rattle.dl_eval.proofs.Lists.{any_here}
 use Rattle.dl_eval.specs.declared.pooled.PooledGrids.{PooledGrids}
-use Rattle.dl_eval.specs.declared.drawn.PlanGrids.{PlanGrids}
-use Rattle.dl_eval.specs.declared.drawn.PlanGrids.TheVariants.{Independent, Shared}
-use Rattle.dl_eval.specs.Drawn.{total_in, AreDrawnOf, HasNeeded}
-
-pub drawn_total : {B : ℕ} (plan : Plan) (grids : PlanGrids B) (g : List (Iv B)) → g ≡ total_in grids
-    → AreDrawnOf plan grids → IsTotalOf plan g
-drawn_total plan (Independent grids) g is made = subst (IsTotalOf plan) (sym is) made.1.total
-drawn_total plan (Shared grids) g is made = subst (IsTotalOf plan) (sym is) made.total
+use Rattle.dl_eval.specs.declared.drawn.PlanGrids.TheVariants.{Shared}
+use Rattle.dl_eval.specs.Drawn.{HasNeeded}
 
 -- where an ask names a unit, the grid of the raised unit is there
 pub shared_needed : {B : ℕ} (grids : PooledGrids B) (named : List (Option ℕ))

@@ -1,24 +1,8 @@
 -- The answer to each kind of ask, from the grid and the mean of the total.
-use Rattle.dl_eval.proofs.Common.{ℕ, suc, ◌≡◌, ◌+◌, ◌-◌, ◌^◌, ◌<◌, ◌≤◌, List, length, take, arith, inl, inr, sym, ap, subst, ◌∙◌, Option, None, Some, mul-le-mul_left, pow_pos, cases_lt, Fraction, ◌over◌, ◌+ℚ◌, ◌≤ℚ◌, ◌<ℚ◌, le_trans, lt_or_le, lt_not_le, Iv, over_le_over, low_at, high_at, spread, count_below, Holds, AreDeclarable, One, Point, Mean, partial_sums, total, GridEncloses, AreDeclared, low_cdf, at_least_wider, at_most_wider, cdf_ends, IsFirstAtLeast, Plan, IsValid, Row, total_budget, mean_budget, ask_budget, few_cells, Declares, IsBelow, at_the_end, IsAnswerTo, total_error, IsTotalOf, IsMeanOf, Prints, Loss}
-use Rattle.std.proofs.Common.{add-one}
-use Rattle.std.specs.Prelude.{min, MatchOption}
-use Rattle.dl_exact.proofs.Laws.{le_refl, plus_le_both, plus_le_cancel, sub_le_both}
-use Rattle.dl_exact.proofs.Denominators.{over_split as over_plus}
-use Rattle.dl_grid.specs.Cells.{mass_low, mass_high, IsGrid}
-use Rattle.dl_exact.proofs.Counts.{below_more}
+use Rattle.dl_eval.proofs.Common.{ℕ, suc, ◌≡◌, ◌+◌, ◌-◌, ◌^◌, ◌<◌, ◌≤◌, List, length, take, arith, inl, inr, sym, ap, subst, ◌∙◌, Option, None, Some, mul-le-mul_left, pow_pos, cases_lt, Fraction, ◌over◌, ◌+ℚ◌, ◌≤ℚ◌, ◌<ℚ◌, le_trans, lt_or_le, lt_not_le, Iv, over_le_over, low_at, high_at, spread, count_below, Holds, AreDeclarable, One, Point, Mean, partial_sums, total, GridEncloses, AreDeclared, low_cdf, at_least_wider, at_most_wider, cdf_ends, IsFirstAtLeast, Plan, IsValid, Row, total_budget, mean_budget, ask_budget, few_cells, Declares, IsBelow, at_the_end, IsAnswerTo, total_error, IsTotalOf, IsMeanOf, Prints, Loss, add-one, min, MatchOption, le_refl, plus_le_both, plus_le_cancel, sub_le_both, over_plus, mass_low, mass_high, IsGrid, below_more, Below, Cdf, Layer, IsBracketed, high_cdf, IsTight, IsFirstFound, layer_width, Whole, layer_mean_budget, IsBracket, bracket_end, total_cdf, total_layer, total_mean}
 use Rattle.dl_grid.proofs.PlaceSums.{low_sum, width_at, high_is, width_within}
-use Rattle.dl_model.specs.Series.{Below}
-use Rattle.dl_model.specs.Program.{Cdf, Layer}
-use Rattle.dl_model.specs.Measures.{IsBracketed}
-use Rattle.dl_measures.specs.Ends.{high_cdf, IsTight}
-use Rattle.dl_measures.specs.Brackets.{IsFirstFound}
-use Rattle.dl_grid.specs.Width.{layer_width}
 use Rattle.dl_measures.proofs.Sums.{high_mass, low_most, low_high, apart}
 use Rattle.dl_plan.specs.declared.settings.Ask.TheVariants as asks
-use Rattle.dl_report.specs.declared.report.End.TheVariants.{Whole}
-use Rattle.dl_budget.specs.Asks.{layer_mean_budget}
-use Rattle.dl_eval.specs.Rows.{IsBracket, bracket_end}
-use Rattle.dl_model.proofs.Pooled.{total_cdf, total_layer, total_mean}
 use Rattle.dl_eval.proofs.Losses.{losses_of, losses_declared, losses_units, encloses_losses, told_of, holds_told, holds_back, bracket_told, tight_told}
 use Rattle.dl_eval.proofs.Printed.{declared_ends}
 
@@ -98,7 +82,6 @@ layer_answer {B} plan g mean d attach lo hi limit row holds width valid t m prin
     (λ none. holds_back plan valid Mean total_mean _ _ m.holds)))
     (omega (
       arith,
-      width,
       layer_narrow (2 ^ B) plan limit attach (mean.hi - mean.lo) (spread g)
           (omega (arith, m.narrow)) t.narrow,
     ))

@@ -1,7 +1,6 @@
 -- What asks have, and layers inside the grid.
-use Rattle.dl_eval.proofs.Common.{ℕ, ◌≡◌, ◌<◌, ◌≤◌, List, length, get_or, arith, sym, ap, subst, ◌∙◌, Option, None, Some, All, Iv, Asked, IsInside}
+use Rattle.dl_eval.proofs.Common.{ℕ, ◌≡◌, ◌<◌, ◌≤◌, List, length, get_or, arith, sym, ap, subst, ◌∙◌, Option, None, Some, All, Iv, Asked, IsInside, edge_of}
 use Rattle.dl_plan.specs.declared.settings.Ask.TheVariants.{LayerMean}
-use Rattle.dl_plan.specs.Horizon.{edge_of}
 
 -- an ask that was read there has what all have
 pub ask_has : (P : Asked → Type 0) (all asks : List Asked) (i : ℕ) (a : Asked) → all ≡ asks → a ≡ get_or all i a

@@ -1,7 +1,5 @@
 -- Lists made one by one from another list.
-use Rattle.dl_eval.proofs.Common.{ℕ, zero, suc, ◌≡◌, ◌+◌, ◌<◌, List, [], ◌∷◌, ◌++◌, length, get_or, arith, inl, inr, sym, ap, subst, subst₂, ◌∙◌, All, Any, zip, cases_lt, get_or_default, length-append}
-use Rattle.std.proofs.lemmas.List.Elements.{All-nil, All-cons, All-append}
-use Rattle.std.proofs.lemmas.List.{get_or_append_left, get_or_push}
+use Rattle.dl_eval.proofs.Common.{ℕ, zero, suc, ◌≡◌, ◌+◌, ◌<◌, List, [], ◌∷◌, ◌++◌, length, get_or, arith, inl, inr, sym, ap, subst, subst₂, ◌∙◌, All, Any, zip, cases_lt, get_or_default, length-append, All-nil, All-cons, All-append, get_or_append_left, get_or_push}
 
 -- one item more
 pub pushed_length : {R : Type 0} (ys zs : List R) (i : ℕ) (y : R) → length ys ≡ i → zs ≡ ys ++ y ∷ []

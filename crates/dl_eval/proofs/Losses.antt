@@ -1,22 +1,8 @@
 -- The total of a valid plan as a sum of losses: those of its units, or one loss for units that share a factor.
-use Rattle.dl_eval.proofs.Common.{ℕ, zero, suc, ◌≡◌, ◌^◌, List, [], ◌∷◌, map, arith, refl, sym, ap, subst, subst₂, Option, None, Some, IfSome, Fraction, ◌over◌, ◌+ℚ◌, Iv, low_at, high_at, AreDeclarable, AreDeclared, Loss, One, Point, partial_sums, total, GridEncloses, loss, loss_of, plan_declared, IsValid, Plan, IsTotalOf}
-use mathlib.Core.Path.{fun_ext}
-use Rattle.dl_exact.specs.Fraction.{◌-ℚ◌}
-use Rattle.dl_plan.specs.declared.plan.Unit.{Unit as UnitOfPlan}
-use Rattle.dl_plan.specs.Common.{HasCommonFactor}
-use Rattle.dl_plan.specs.Shared.{independent}
-use Rattle.dl_model.specs.Series.{Series, Holds, AtLeast, AtMost, Below}
-use Rattle.dl_model.specs.Program.{Quantity, PricedTerm, Cdf}
-use Rattle.dl_model.specs.Measures.{IsQuantile, IsBracketed}
-use Rattle.dl_model.specs.Plans.{declared, declared_by}
-use Rattle.dl_model.specs.CommonFactor.{pooled_unit, CountsTotal}
+use Rattle.dl_eval.proofs.Common.{ℕ, zero, suc, ◌≡◌, ◌^◌, List, [], ◌∷◌, map, arith, refl, sym, ap, subst, subst₂, Option, None, Some, IfSome, Fraction, ◌over◌, ◌+ℚ◌, Iv, low_at, high_at, AreDeclarable, AreDeclared, Loss, One, Point, partial_sums, total, GridEncloses, loss, loss_of, plan_declared, IsValid, Plan, IsTotalOf, fun_ext, ◌-ℚ◌, UnitOfPlan, HasCommonFactor, independent, Series, Holds, AtLeast, AtMost, Below, Quantity, PricedTerm, Cdf, IsQuantile, IsBracketed, declared, declared_by, pooled_unit, CountsTotal, are_units, total_cdf, total_point, IsTight, AreQuantiles}
 use Rattle.dl_model.specs.CommonUnits.{poisson_units}
-use Rattle.dl_model.proofs.Bounded.{are_units}
 use Rattle.dl_model.proofs.CommonPlans.{are_severities, greatest_of, pooled_past, some}
-use Rattle.dl_model.proofs.Pooled.{total_cdf, total_point}
 use Rattle.dl_model.proofs.PooledLoss.{as_one_loss, one_declared}
-use Rattle.dl_measures.specs.Ends.{IsTight}
-use Rattle.dl_distort.specs.Prices.{AreQuantiles}
 
 abbrev pub losses_by : Option ℕ → List UnitOfPlan → List Loss
 losses_by None units = map loss_of units

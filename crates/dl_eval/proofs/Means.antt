@@ -1,23 +1,9 @@
 -- The mean of a total, from those of its units.
-use Rattle.dl_eval.proofs.Common.{ℕ, suc, ◌≡◌, ◌+◌, ◌-◌, ◌*◌, ◌^◌, ◌≤◌, List, [], ◌∷◌, length, map, arith, sym, ap, subst, subst₂, ◌∙◌, Option, None, Some, All, mul-le-mul_left, pow_pos, Fraction, whole, ◌over◌, ◌+ℚ◌, Iv, spread, Holds, One, Mean, partial_sums, CedeLayer, Plan, Clause, IsHorizonOf, horizon, IsValidUnit, IsValid, claims_budget, mean_width, unit_mean_budget, one_horizon, AreUnitMeans, IsMeanOf, loss, loss_of}
-use Rattle.std.specs.List.{sum_by}
-use Rattle.std.proofs.lemmas.List.Elements.{All-tail}
+use Rattle.dl_eval.proofs.Common.{ℕ, suc, ◌≡◌, ◌+◌, ◌-◌, ◌*◌, ◌^◌, ◌≤◌, List, [], ◌∷◌, length, map, arith, sym, ap, subst, subst₂, ◌∙◌, Option, None, Some, All, mul-le-mul_left, pow_pos, Fraction, whole, ◌over◌, ◌+ℚ◌, Iv, spread, Holds, One, Mean, partial_sums, CedeLayer, Plan, Clause, IsHorizonOf, horizon, IsValidUnit, IsValid, claims_budget, mean_width, unit_mean_budget, one_horizon, AreUnitMeans, IsMeanOf, loss, loss_of, sum_by, All-tail, over_same, one_pos, over_plus, are_units, no_clause, units_declared, MeanHolds, units_mean, UnitOfPlan, layer_budget, clause_mean, part_width, HoldsClaims, HoldsMean, independent, IsClauseMean}
 use Rattle.std.proofs.lemmas.List.Sums.{sum_by-cons}
 use Rattle.dl_exact.specs.Sum.{sum_over}
-use Rattle.dl_exact.proofs.Over.{over_same}
-use Rattle.dl_exact.proofs.Laws.{one_pos}
-use Rattle.dl_exact.proofs.Denominators.{over_split as over_plus}
-use Rattle.dl_model.proofs.Bounded.{are_units}
-use Rattle.dl_model.proofs.ClauseMeans.{no_clause}
 use Rattle.dl_model.proofs.TotalMeans.{mean_of_total}
-use Rattle.dl_model.proofs.PlanUnits.{units_declared}
-use Rattle.dl_model.proofs.PlanMeans.{MeanHolds, units_mean}
-use Rattle.dl_plan.specs.declared.plan.Unit.{Unit as UnitOfPlan}
-use Rattle.dl_plan.specs.MeanWidth.{part_width as layer_budget, mean_width as clause_mean, part_width}
-use Rattle.dl_cede.specs.Means.{HoldsClaims, HoldsMean}
-use Rattle.dl_plan.specs.Shared.{independent}
 use Rattle.dl_eval.proofs.Losses.{is_independent}
-use Rattle.dl_eval.specs.Totals.{IsClauseMean}
 
 -- ---- of a unit without a clause
 
@@ -60,7 +46,6 @@ clause_unit_mean {B} cells u g mean valid holds width there narrow = record {
   narrow =
       omega (
         arith,
-        width,
         clause_rises (spread g) (claims_budget (2 ^ B) (horizon u.cede cells) u) u.cede
             (subst (λ n. spread g ≤ claims_budget (2 ^ B) n u)
             (one_horizon cells cells (length g) u valid there) narrow),

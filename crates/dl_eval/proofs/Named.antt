@@ -1,13 +1,6 @@
 -- The numbers of the units that asks name.
-use Rattle.dl_eval.proofs.Common.{ℕ, ◌≡◌, ◌<◌, ◌↔◌, List, length, get_or, sym, ap, ◌∙◌, subst, length-map, Option, None, Some, IfSome, All, Asked, NamesUnit, place_of, named_unit, named_units}
-use Rattle.std.specs.Prelude.{option_map}
-use Rattle.std.proofs.lemmas.List.{get_or-map}
-use Rattle.std.proofs.lemmas.List.Elements.{All-map}
-use Rattle.dl_plan.specs.declared.plan.Unit.{Unit as UnitOfPlan}
+use Rattle.dl_eval.proofs.Common.{ℕ, ◌≡◌, ◌<◌, ◌↔◌, List, length, get_or, sym, ap, ◌∙◌, subst, length-map, Option, None, Some, IfSome, All, Asked, NamesUnit, place_of, named_unit, named_units, option_map, get_or-map, All-map, UnitOfPlan, facts_of, IsNamed, AreUnits}
 use Rattle.dl_plan.specs.declared.settings.Ask.{Ask}
-use Rattle.dl_plan.specs.Facts.{facts_of}
-use Rattle.dl_budget.specs.Asks.{IsNamed}
-use Rattle.dl_eval.specs.Totals.{AreUnits}
 
 -- an ask names a unit where the number is that of one
 pub names_inside : (units : List UnitOfPlan) (ask : Ask) → IfSome (named_unit units ask) (λ i. i < length units)

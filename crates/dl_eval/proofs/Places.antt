@@ -1,7 +1,6 @@
 -- What was read in a list that is another.
-use Rattle.dl_eval.proofs.Common.{ℕ, ◌≡◌, ◌^◌, ◌<◌, ◌≤◌, List, [], length, get_or, arith, sym, ap, subst, ◌∙◌, Option, None, Some, IfSome, get_or_default, Iv, spread, Plan, IsHorizonOf, IsValidUnit, IsValid, unit_budget, few_cells, unit_horizon, AreUnitGrids, AreOthersOf, AreOthers}
-use Rattle.dl_limits.specs.Limits.{most_horizon}
-use Rattle.dl_plan.specs.declared.plan.Unit.{Unit as UnitOfPlan}
+use Rattle.dl_eval.proofs.Common.{refl, ℕ, ◌≡◌, ◌^◌, ◌<◌, ◌≤◌, List, [], length, get_or, arith, sym, ap, subst, ◌∙◌, Option, None, Some, IfSome, get_or_default, Iv, spread, Plan, IsHorizonOf, IsValidUnit, IsValid, unit_budget, few_cells, unit_horizon, AreUnitGrids, AreOthersOf, AreOthers, most_horizon, UnitOfPlan, IsGridOfUnit}
+use Rattle.dl_eval.proofs.Totals.{each_cells, each_encloses, unit_narrow}
 
 pub read_as : {A : Type 0} (slice xs : List A) (i : ℕ) (x d : A) → slice ≡ xs → x ≡ get_or slice i x → i < length xs
     → x ≡ get_or xs i d
@@ -36,10 +35,8 @@ spread_within {B} plan units grids slice u g i budget same is sliced read inside
     let narrow : spread (get_or grids i []) ≤ unit_budget (2 ^ B) plan.cells v = (each.each i u inside).narrow in
     omega (
       arith,
-      narrow,
       ap spread (read_as slice grids i g [] sliced read (omega (arith, inside, each.as_many))),
       ap (unit_budget (2 ^ B) plan.cells) e,
-      value,
     )
 
 -- the grid of all other units that was read there
@@ -50,3 +47,13 @@ pub others_there : {B : ℕ} (plan : Plan) (slice others : List (Option (List (I
 others_there {B} plan slice others i read g same is there inside all =
     subst (λ (o : Option (List (Iv B))). IfSome o (AreOthersOf plan i))
     (sym (read_as slice others i read None same is (omega (arith, inside, all.as_many))) ∙ there) (all.each i inside)
+
+-- the grid of a unit that was read there
+pub grid_of_unit : {B : ℕ} (plan : Plan) (grids slice : List (List (Iv B))) (g : List (Iv B)) (i : ℕ) → slice ≡ grids
+    → g ≡ get_or slice i g → i < length plan.units → AreUnitGrids plan.cells plan.units grids → IsGridOfUnit plan i g
+grid_of_unit {B} plan grids slice g i same is inside each =
+    subst (IsGridOfUnit plan i) (sym (read_as slice grids i g [] same is (omega (arith, inside, each.as_many)))) (record {
+      cells = each_cells plan.cells plan.units grids (get_or grids i []) i refl inside each;
+      encloses = each_encloses plan.cells plan.units grids i inside each;
+      narrow = unit_narrow plan.cells plan.units grids i inside each;
+    })

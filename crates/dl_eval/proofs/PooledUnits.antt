@@ -1,34 +1,12 @@
 -- The one unit in the place of units that share a factor: what its grid and its mean hold, and how wide they are.
-use Rattle.dl_eval.proofs.Common.{ℕ, suc, ◌≡◌, ◌+◌, ◌-◌, ◌*◌, ◌^◌, ◌<◌, ◌≤◌, List, [], ◌∷◌, length, get_or, arith, refl, sym, ap, subst, subst₂, ◌∙◌, Option, None, Some, IfSome, Fraction, whole, ◌over◌, Iv, spread, low_at, high_at, Holds, One, Point, Mean, partial_sums, total, GridEncloses, mapped, aggregate_of, compound_of, loss, unit_declared, Plan, IsValid, IsValidUnit, claims_budget, total_budget, Declares, IsTotalOf, IsMeanOf, Loss}
-use mathlib.Core.Path.{fun_ext}
-use Rattle.std.specs.Prelude.{IsSome}
+use Rattle.dl_eval.proofs.Common.{ℕ, suc, ◌≡◌, ◌+◌, ◌-◌, ◌*◌, ◌^◌, ◌<◌, ◌≤◌, List, [], ◌∷◌, length, get_or, arith, refl, sym, ap, subst, subst₂, ◌∙◌, Option, None, Some, IfSome, Fraction, whole, ◌over◌, Iv, spread, low_at, high_at, Holds, One, Point, Mean, partial_sums, total, GridEncloses, mapped, aggregate_of, compound_of, loss, unit_declared, Plan, IsValid, IsValidUnit, claims_budget, total_budget, Declares, IsTotalOf, IsMeanOf, Loss, fun_ext, IsSome, UnitOfPlan, thinned_mean, expected_count, IsPoisson, raised, thinned_of, probability_of, SharesFactor, ◌*ℚ◌, ◌-ℚ◌, up, Quantity, Joint, CountsTotal, after_zero, declared, no_clause, encloses_same, total_mean, total_point, unit_declared_loss, HoldsClaims, count_budget, joint_by, mean_by, total_by, IsJointOf, IsRaisedGridOf}
 use Rattle.dl_plan.specs.declared.plan.Freq.TheVariants.{Gamma}
-use Rattle.dl_plan.specs.declared.plan.Unit.{Unit as UnitOfPlan}
-use Rattle.dl_plan.specs.Means.{thinned_mean}
-use Rattle.dl_plan.specs.Count.{expected_count}
-use Rattle.dl_plan.specs.Common.{IsPoisson, raised, thinned_of}
-use Rattle.dl_plan.specs.Severity.{probability_of}
-use Rattle.dl_plan.specs.Shared.{SharesFactor}
 use Rattle.dl_plan.proofs.Shared.{has_factor}
-use Rattle.dl_exact.specs.Fraction.{◌*ℚ◌, ◌-ℚ◌}
-use Rattle.dl_grid.specs.Width.{up}
-use Rattle.dl_model.specs.Program.{Quantity, Joint}
-use Rattle.dl_model.specs.CommonFactor.{CountsTotal}
-use Rattle.dl_model.specs.Plans.{after_zero, declared}
-use Rattle.dl_model.proofs.ClauseMeans.{no_clause}
-use Rattle.dl_model.proofs.FamilyLaws.{encloses_same}
 use Rattle.dl_model.proofs.Outcomes.{total_alone, total_alone_all}
-use Rattle.dl_model.proofs.Pooled.{total_mean, total_point}
-use Rattle.dl_model.proofs.UnitLosses.{unit_declared_loss}
 use Rattle.dl_common.specs.Pooled.{IsPooled, IsRaised, alone}
 use Rattle.dl_common.proofs.Alone.{pooled_thinned, pooled_valid, raised_thinned, raised_valid, same_declared}
-use Rattle.dl_cede.specs.Means.{HoldsClaims}
-unfoldable use Rattle.dl_budget.specs.Claims.{count_budget}
-use Rattle.dl_budget.specs.Asks.{joint_by}
 use Rattle.dl_budget.specs.Shared.{raised_budget, shape_budget, thinned_at}
 use Rattle.dl_budget.proofs.SharedUnits.{thinned_here}
-use Rattle.dl_budget.specs.Units.{mean_by, total_by}
-use Rattle.dl_eval.specs.Totals.{IsJointOf, IsRaisedGridOf}
 use Rattle.dl_eval.proofs.Totals.{plain_encloses}
 
 -- a plan with some factor shares one

@@ -1,16 +1,8 @@
 -- The answer to an ask for a price.
-use Rattle.dl_eval.proofs.Common.{ℕ, ◌≡◌, ◌-◌, ◌^◌, ◌≤◌, List, length, get_or, arith, subst, Any, None, ◌over◌, ◌+ℚ◌, Iv, low_at, spread, Holds, One, Mean, partial_sums, total, GridEncloses, AreDeclared, low_cdf, at_least_wider, Plan, IsValid, Row, total_budget, mean_budget, ask_budget, in_digits, IsBelow, at_the_end, IsAnswerTo, total_error, IsTotalOf, IsMeanOf, Prints, Loss}
-use Rattle.std.proofs.Common.{◌⊎◌}
-use Rattle.dl_distort.specs.Prices.{AreTermsOf, AreQuantiles, price_width}
-use Rattle.dl_measures.specs.Brackets.{IsFirstFound}
-use Rattle.dl_model.specs.Program.{PricedTerm, Price}
-use Rattle.dl_model.specs.Series.{AtLeast}
+use Rattle.dl_eval.proofs.Common.{ℕ, ◌≡◌, ◌-◌, ◌^◌, ◌≤◌, List, length, get_or, arith, subst, Any, None, ◌over◌, ◌+ℚ◌, Iv, low_at, spread, Holds, One, Mean, partial_sums, total, GridEncloses, AreDeclared, low_cdf, at_least_wider, Plan, IsValid, Row, total_budget, mean_budget, ask_budget, in_digits, IsBelow, at_the_end, IsAnswerTo, total_error, IsTotalOf, IsMeanOf, Prints, Loss, ◌⊎◌, AreTermsOf, AreQuantiles, price_width, IsFirstFound, PricedTerm, Price, AtLeast, price_budget, IsPriceBetween, IsPrice, IsBeyondSome, total_mean, total_price}
 use Rattle.dl_plan.specs.declared.settings.Ask.TheVariants as asks
 use Rattle.dl_plan.specs.declared.settings.Term.{Term}
-use Rattle.dl_budget.specs.Asks.{price_budget}
-use Rattle.dl_eval.specs.Rows.{IsPriceBetween, IsPrice, IsBeyondSome}
 use Rattle.dl_eval.proofs.Lists.{any_here}
-use Rattle.dl_model.proofs.Pooled.{total_mean, total_price}
 use Rattle.dl_eval.proofs.Losses.{losses_of, losses_declared, encloses_losses, told_of, holds_told, holds_back, quantiles_back}
 use Rattle.dl_eval.proofs.Printed.{Widens, are_ends, given_widens}
 use Rattle.dl_eval.proofs.GoodRows.{ends_below}

@@ -1,10 +1,5 @@
 -- Numbers that are printed from an interval.
-use Rattle.dl_eval.proofs.Common.{ℕ, ◌+◌, ◌*◌, ◌^◌, ◌<◌, ◌≤◌, arith, div_ceil, mul-le-mul_right, pow_pos, div_ceil_times, Fraction, ◌over◌, ◌≤ℚ◌, div_ceil_least, up_quotient, One, Tail, at_least_wider, at_most_wider, Plan, Row, in_digits, Declares, DeclaresGiven, DeclaresTail, Prints}
-use Rattle.std.proofs.Common.{◌/◌}
-use Rattle.std.proofs.Math.Nat.{le_of_mul-le-mul_right, one-le-pow}
-use Rattle.dl_exact.proofs.Over.{over_le}
-use Rattle.dl_model.specs.Program.{Quantity}
-use Rattle.dl_eval.specs.Rows.{AreRowEnds}
+use Rattle.dl_eval.proofs.Common.{ℕ, ◌+◌, ◌*◌, ◌^◌, ◌<◌, ◌≤◌, arith, div_ceil, mul-le-mul_right, pow_pos, div_ceil_times, Fraction, ◌over◌, ◌≤ℚ◌, div_ceil_least, up_quotient, One, Tail, at_least_wider, at_most_wider, Plan, Row, in_digits, Declares, DeclaresGiven, DeclaresTail, Prints, ◌/◌, le_of_mul-le-mul_right, one-le-pow, over_le, Quantity, AreRowEnds}
 
 floor_least : (l S : ℕ) → 0 < S → l < (l / S + 1) * S
 floor_least l S pos = grind arith

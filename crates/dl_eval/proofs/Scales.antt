@@ -1,12 +1,6 @@
 -- The scales of plans.
-use Rattle.dl_eval.proofs.Common.{ℕ, ◌≡◌, ◌+◌, ◌*◌, ◌^◌, ◌<◌, ◌≤◌, arith, sym, subst, mul-le-mul_left}
-use Rattle.std.proofs.Math.Nat.{mul-le-mul, pow-le-pow_right}
-use Rattle.std.proofs.Common.{inl, inr, refl, ◌⊎◌}
-use Rattle.std.proofs.lemmas.Bool.Decides.{leb_tells}
-use Rattle.dl_limits.specs.Limits.{bits_of, most_amount_at, most_cells_at, most_expected, most_horizon, most_plan_cells, most_short_cells, IsPlanScale}
-use Rattle.dl_limits.proofs.Scales.{cells_fit, is_plan_scale}
+use Rattle.dl_eval.proofs.Common.{ℕ, ◌≡◌, ◌+◌, ◌*◌, ◌^◌, ◌<◌, ◌≤◌, arith, sym, subst, mul-le-mul_left, mul-le-mul, pow-le-pow_right, inl, inr, refl, ◌⊎◌, leb_tells, bits_of, most_amount_at, most_cells_at, most_expected, most_horizon, most_plan_cells, most_short_cells, IsPlanScale, cells_fit, is_plan_scale, most_claims_mean, most_limited}
 use Rattle.dl_grid.specs.Room.{IsGridSize}
-use Rattle.dl_cede.specs.Means.{most_claims_mean, most_limited}
 
 pub plan_scale : (B cells : ℕ) → B ≡ bits_of cells → IsPlanScale B
 plan_scale B cells same = subst IsPlanScale (sym same) (is_plan_scale cells)

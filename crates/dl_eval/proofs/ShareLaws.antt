@@ -1,22 +1,8 @@
 -- The share of a unit in a total, from the grids of the unit, of all others and of the total.
-use Rattle.dl_eval.proofs.Common.{ℕ, ◌≡◌, ◌+◌, ◌-◌, ◌*◌, ◌^◌, ◌<◌, ◌≤◌, List, [], length, get_or, arith, sym, subst, mul-le-mul_left, pow_pos, length-map, None, Fraction, ◌over◌, ◌+ℚ◌, ◌≤ℚ◌, ◌<ℚ◌, Iv, over_le_over, low_at, high_at, spread, cv, cv_rises, Holds, AreDeclarable, One, Point, partial_sums, total, GridEncloses, unit_of, AreDeclared, aggregates_of, at_most_wider, plan_declared, plan_units, Plan, IsValid, Row, unit_budgets, total_budget, place_of, tail_budget, ask_budget, in_digits, Declares, DeclaresGiven, IsBelow, IsTailMean, IsAnswerTo, total_error, AreUnitGrids, IsTotalOf, AreOthersOf, Prints, Loss, loss_of}
-use Rattle.std.proofs.Common.{◌⊎◌}
-use Rattle.std.proofs.Math.Nat.{mul-le-mul}
-use Rattle.dl_exact.proofs.Over.{over_lt}
-use Rattle.dl_exact.proofs.Denominators.{over_split as over_plus}
-use Rattle.dl_model.specs.Series.{Series, AtLeast, AtMost}
-use Rattle.dl_model.specs.Program.{Joint}
-use Rattle.dl_model.specs.Measures.{without}
+use Rattle.dl_eval.proofs.Common.{ℕ, ◌≡◌, ◌+◌, ◌-◌, ◌*◌, ◌^◌, ◌<◌, ◌≤◌, List, length, get_or, arith, sym, subst, mul-le-mul_left, pow_pos, length-map, None, Fraction, ◌over◌, ◌+ℚ◌, ◌≤ℚ◌, ◌<ℚ◌, Iv, over_le_over, low_at, high_at, spread, cv, cv_rises, Holds, AreDeclarable, One, Point, partial_sums, total, GridEncloses, unit_of, AreDeclared, aggregates_of, at_most_wider, plan_declared, plan_units, Plan, IsValid, Row, unit_budgets, total_budget, place_of, tail_budget, ask_budget, in_digits, Declares, DeclaresGiven, IsBelow, IsTailMean, IsAnswerTo, total_error, IsTotalOf, AreOthersOf, Prints, Loss, loss_of, ◌⊎◌, mul-le-mul, over_lt, over_plus, Series, AtLeast, AtMost, Joint, without, others_budget, joint_budget, kappa_budget, least_likely, IsAtMost, IsBeyond, IsShareOfUnit, IsTooRare, IsJointOf, independent, declared, IsGridOfUnit}
 use Rattle.dl_plan.specs.declared.settings.Ask.TheVariants as asks
-use Rattle.dl_budget.specs.Units.{others_budget}
-use Rattle.dl_budget.specs.Asks.{joint_budget, kappa_budget}
-use Rattle.dl_eval.specs.Rows.{least_likely, IsAtMost, IsBeyond, IsShareOfUnit, IsTooRare}
-use Rattle.dl_eval.specs.Totals.{IsJointOf}
-use Rattle.dl_plan.specs.Shared.{independent}
-use Rattle.dl_model.specs.Plans.{declared}
 use Rattle.dl_eval.proofs.Losses.{is_independent}
 use Rattle.dl_eval.proofs.Printed.{are_ends, declared_ends, given_widens}
-use Rattle.dl_eval.proofs.Totals.{each_encloses, each_cells, unit_narrow}
 use Rattle.dl_eval.proofs.GoodRows.{cell_apart, plus_lt}
 
 -- ---- joint means
@@ -27,48 +13,39 @@ joint_width S K u v x y g pos same p q =
     subst (λ n. n * cv S n u v ≤ K * cv S K x y) (sym same)
     (mul-le-mul_left K (cv_rises S K K u x v y pos (omega arith) p q))
 
-pub is_joint : {B : ℕ} (plan : Plan) (grids : List (List (Iv B))) (unit others : List (Iv B)) (i at : ℕ) (mean : Iv B)
+pub is_joint : {B : ℕ} (plan : Plan) (unit others : List (Iv B)) (i at : ℕ) (mean : Iv B)
     → ((us : List Loss) (j : ℕ) → AreDeclarable us → j < length us → GridEncloses unit (unit_of us j)
     → GridEncloses others (total (without us j))
     → Holds (partial_sums us (Joint j at)) (partial_sums us One) (mean.lo over 2 ^ B) (mean.hi over 2 ^ B))
     → mean.hi - mean.lo ≤ length unit * cv (2 ^ B) (length unit) (spread unit) (spread others)
-    → unit ≡ get_or grids i [] → i < length plan.units → IsValid plan → AreUnitGrids plan.cells plan.units grids
-    → AreOthersOf plan i others → plan.common ≡ None → IsJointOf plan i at mean
-is_joint {B} plan grids unit others i at mean holds width is inside valid units rest none =
+    → IsGridOfUnit plan i unit → i < length plan.units → IsValid plan → AreOthersOf plan i others
+    → plan.common ≡ None → IsJointOf plan i at mean
+is_joint {B} plan unit others i at mean holds width own inside valid rest none =
     subst (λ whole. IsJointOf whole i at mean) (is_independent plan none) alone
   where
-    same : length unit ≡ plan.cells
-    same = each_cells plan.cells plan.units grids unit i is inside units
-
     wide : length unit * cv (2 ^ B) (length unit) (spread unit) (spread others)
         ≤ joint_budget (2 ^ B) (independent plan) i
     wide = joint_width (2 ^ B) plan.cells (spread unit) (spread others)
-        (get_or (unit_budgets (2 ^ B) plan.cells plan.units) i 0) (others_budget (2 ^ B) plan i) unit (pow_pos B) same
-        (subst (λ g. spread g ≤ get_or (unit_budgets (2 ^ B) plan.cells plan.units) i 0) (sym is)
-        (unit_narrow plan.cells plan.units grids i inside units)) rest.narrow
+        (get_or (unit_budgets (2 ^ B) plan.cells plan.units) i 0) (others_budget (2 ^ B) plan i) unit (pow_pos B)
+        own.cells own.narrow rest.narrow
 
     alone : IsJointOf (independent plan) i at mean
     alone = record {
       holds = holds (aggregates_of plan) i (plan_units plan valid)
-          (omega (arith, inside, length-map plan.units loss_of))
-          (subst (λ g. GridEncloses g (unit_of (aggregates_of plan) i)) (sym is)
-          (each_encloses plan.cells plan.units grids i inside units)) rest.encloses;
+          (omega (arith, inside, length-map plan.units loss_of)) own.encloses rest.encloses;
       narrow = omega (arith, mean.ordered, width, wide);
     }
 
 -- a unit has at most the whole of a total
-pub is_below : {B : ℕ} (plan : Plan) (grids : List (List (Iv B))) (unit others : List (Iv B)) (i at low : ℕ)
+pub is_below : {B : ℕ} (plan : Plan) (unit others : List (Iv B)) (i at low : ℕ)
     → ((us : List Loss) (j h : ℕ) → AreDeclared us → j < length us → GridEncloses unit (unit_of us j)
     → GridEncloses others (total (without us j))
     → AtMost (partial_sums us (Point at)) (partial_sums us One) (h over 2 ^ B) → low ≤ at * h)
-    → unit ≡ get_or grids i [] → i < length plan.units → IsValid plan → AreUnitGrids plan.cells plan.units grids
-    → GridEncloses others (total (without (aggregates_of plan) i))
+    → IsGridOfUnit plan i unit → i < length plan.units → IsValid plan → AreOthersOf plan i others
     → plan.common ≡ None → (h : ℕ) → IsAtMost plan (Point at) (h over 2 ^ B) → low ≤ at * h
-is_below {B} plan grids unit others i at low below is inside valid units rest none h most =
+is_below {B} plan unit others i at low below own inside valid rest none h most =
     below (aggregates_of plan) i h (plan_declared plan valid)
-    (omega (arith, inside, length-map plan.units loss_of))
-    (subst (λ g. GridEncloses g (unit_of (aggregates_of plan) i)) (sym is)
-    (each_encloses plan.cells plan.units grids i inside units)) rest
+    (omega (arith, inside, length-map plan.units loss_of)) own.encloses rest.encloses
     (subst (λ whole. IsAtMost whole (Point at) (h over 2 ^ B)) (sym (is_independent plan none)) most)
 
 -- ---- shares

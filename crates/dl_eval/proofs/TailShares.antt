@@ -1,27 +1,12 @@
 -- The answer to an ask for a share of the tail mean.
-use Rattle.dl_eval.proofs.Common.{ℕ, ◌≡◌, ◌-◌, ◌^◌, ◌<◌, ◌≤◌, List, [], ◌∷◌, length, get_or, map, arith, inl, inr, sym, ap, subst, pow_pos, length-map, Option, None, Some, IfSome, Fraction, ◌over◌, ◌≤ℚ◌, Iv, over_le_over, low_at, spread, low_cdf, Holds, One, Mean, partial_sums, total, GridEncloses, unit_of, AreDeclarable, AreDeclared, Loss, loss_of, aggregates_of, plan_declared, plan_units, at_least_wider, at_most_wider, Plan, IsValid, Row, ask_budget, in_digits, unit_budgets, unit_mean_budget, total_budget, at_the_end, place_of, IsAnswerTo, total_error, AreUnitGrids, AreUnitMeans, IsTotalOf, AreOthersOf, Prints}
-use Rattle.std.proofs.Common.{◌⊎◌}
-use Rattle.std.proofs.lemmas.List.{get_or-map}
-use Rattle.std.proofs.lemmas.Option.{IfSome_then}
-use Rattle.std.specs.Prelude.{IsNone}
+use Rattle.dl_eval.proofs.Common.{ℕ, ◌≡◌, ◌-◌, ◌^◌, ◌<◌, ◌≤◌, List, [], ◌∷◌, length, get_or, map, arith, inl, inr, sym, ap, subst, pow_pos, length-map, Option, None, Some, IfSome, Fraction, ◌over◌, ◌≤ℚ◌, Iv, over_le_over, low_at, spread, low_cdf, Holds, One, Mean, partial_sums, total, GridEncloses, unit_of, AreDeclarable, AreDeclared, Loss, loss_of, aggregates_of, plan_declared, plan_units, at_least_wider, at_most_wider, Plan, IsValid, Row, ask_budget, in_digits, unit_budgets, unit_mean_budget, total_budget, at_the_end, place_of, IsAnswerTo, total_error, AreUnitMeans, IsTotalOf, AreOthersOf, Prints, ◌⊎◌, get_or-map, IsNone, UnitOfPlan, others_budget, cotail_budget, IsQuantile, without, declared, IsFirstFound, DeclaresShare, IsAtLeast, IsBeyond, IsTailShare, IsNoTailShare, IsTailShareOf, independent, le_refl, plus_le_both, sub_le_both, lt_of_lt_of_le, IsGridOfUnit}
 use Rattle.dl_plan.specs.declared.settings.Ask.TheVariants as asks
-use Rattle.dl_plan.specs.declared.plan.Unit.{Unit as UnitOfPlan}
-use Rattle.dl_budget.specs.Units.{others_budget}
-use Rattle.dl_budget.specs.Asks.{cotail_budget}
-use Rattle.dl_model.specs.Measures.{IsQuantile, without}
 use Rattle.dl_model.specs.Shares.{HoldsShare, unit_mean}
-use Rattle.dl_model.specs.Plans.{declared}
-use Rattle.dl_measures.specs.Brackets.{IsFirstFound}
 use Rattle.dl_cotail.specs.Settled.{IsPast, MayBeAbsent}
 use Rattle.dl_cotail.specs.Widths.{cotail_width}
-use Rattle.dl_eval.specs.Rows.{DeclaresShare, IsAtLeast, IsBeyond, IsTailShare, IsNoTailShare}
-use Rattle.dl_eval.specs.Totals.{IsTailShareOf}
-use Rattle.dl_plan.specs.Shared.{independent}
 use Rattle.dl_eval.proofs.Losses.{is_independent, total_alone}
 use Rattle.dl_eval.proofs.Printed.{Widens, are_ends}
-use Rattle.dl_eval.proofs.Totals.{each_encloses, each_cells, unit_narrow}
 use Rattle.dl_eval.proofs.Tails.{tail_reached}
-use Rattle.dl_exact.proofs.Laws.{le_refl, plus_le_both, sub_le_both, lt_of_lt_of_le}
 
 -- ---- the mean of a unit
 
@@ -65,61 +50,53 @@ pub if_some_two : {X : Type 0} (r : Option X) (P Q Z : X → Type 0) → ((x : X
 if_some_two (Some x) P Q Z f p q = f x p q
 if_some_two None P Q Z f p q = tt
 
-pub share_holds : {B : ℕ} (plan : Plan) (grids : List (List (Iv B))) (means : List (Iv B)) (unit others g : List (Iv B))
-    (mean : Iv B) (i : ℕ) (p : Fraction) (result : Option (Iv B)) (u : UnitOfPlan)
+-- some unit of a list that has one
+some_unit : (us : List UnitOfPlan) (i : ℕ) → i < length us → UnitOfPlan
+some_unit [] i inside = absurd (omega (arith, inside))
+some_unit (u ∷ us) i inside = u
+
+pub tail_share : {B : ℕ} (plan : Plan) (means : List (Iv B)) (unit others g : List (Iv B)) (mean : Iv B) (i : ℕ)
+    (p : Fraction) (result : Option (Iv B))
     → ((us : List Loss) (j : ℕ) → AreDeclared us → j < length us → GridEncloses unit (unit_of us j)
     → GridEncloses others (total (without us j)) → GridEncloses g (total us)
     → Holds (unit_mean us j) (partial_sums us One) (mean.lo over 2 ^ B) (mean.hi over 2 ^ B)
     → IfSome result (λ r. (q : ℕ) → IsQuantile (partial_sums us) q p
     → HoldsShare (partial_sums us) j p q (r.lo over 2 ^ B) (r.hi over 2 ^ B)))
+    → IfSome result (λ r. (m d o t : ℕ) → mean.hi - mean.lo ≤ m → spread unit ≤ d → spread others ≤ o → spread g ≤ t
+    → r.hi - r.lo ≤ cotail_width p (2 ^ B) m (length unit) d o t)
     → ((us : List Loss) (j : ℕ) (v : Loss) (l h : Fraction) → AreDeclarable us → j < length us
     → Holds (partial_sums (get_or us j v ∷ []) Mean) (partial_sums (get_or us j v ∷ []) One) l h
     → Holds (unit_mean us j) (partial_sums us One) l h)
-    → unit ≡ get_or grids i [] → mean ≡ get_or means i mean → i < length plan.units → IsValid plan
-    → AreUnitGrids plan.cells plan.units grids → AreUnitMeans plan.cells plan.units means → AreOthersOf plan i others
-    → IsTotalOf plan g → plan.common ≡ None
-    → IfSome result (λ r. DeclaresShare plan i p (r.lo over 2 ^ B) (r.hi over 2 ^ B))
-share_holds {B} plan grids means unit others g mean i p result u holds beside is read inside valid units each rest t none =
-    subst (λ whole. IfSome result (λ r. DeclaresShare whole i p (r.lo over 2 ^ B) (r.hi over 2 ^ B)))
-    (is_independent plan none)
+    → IsGridOfUnit plan i unit → mean ≡ get_or means i mean → i < length plan.units → IsValid plan
+    → AreUnitMeans plan.cells plan.units means → AreOthersOf plan i others → IsTotalOf plan g → plan.common ≡ None
+    → IfSome result (IsTailShareOf plan i p)
+tail_share {B} plan means unit others g mean i p result holds width beside own read inside valid each rest t none =
+    subst (λ whole. IfSome result (IsTailShareOf whole i p)) (is_independent plan none)
+    (if_some_two result _ _ _ (λ r held narrow. record {
+      holds = held;
+      narrow = omega (
+        arith,
+        r.ordered,
+        subst (λ n. r.hi - r.lo ≤ cotail_width p (2 ^ B) of_mean n spreads (others_budget (2 ^ B) plan i) most)
+            own.cells (narrow of_mean spreads (others_budget (2 ^ B) plan i) most
+            (mean_within plan means mean i u read inside each) own.narrow rest.narrow (total_alone plan g none t).narrow),
+      );
+    })
     (holds (aggregates_of plan) i (plan_declared plan valid) (omega (arith, inside, length-map plan.units loss_of))
-    (subst (λ x. GridEncloses x (unit_of (aggregates_of plan) i)) (sym is)
-    (each_encloses plan.cells plan.units grids i inside units)) rest.encloses (total_alone plan g none t).encloses
-    (mean_beside plan means mean i beside u read inside valid each))
-
-pub share_narrow : {B : ℕ} (plan : Plan) (grids : List (List (Iv B))) (means : List (Iv B))
-    (unit others g : List (Iv B)) (mean : Iv B) (i : ℕ) (p : Fraction) (result : Option (Iv B)) (u : UnitOfPlan)
-    → IfSome result (λ r. (m d o t : ℕ) → mean.hi - mean.lo ≤ m → spread unit ≤ d → spread others ≤ o → spread g ≤ t
-    → r.hi - r.lo ≤ cotail_width p (2 ^ B) m (length unit) d o t)
-    → unit ≡ get_or grids i [] → mean ≡ get_or means i mean → i < length plan.units
-    → AreUnitGrids plan.cells plan.units grids → AreUnitMeans plan.cells plan.units means → AreOthersOf plan i others
-    → IsTotalOf plan g → plan.common ≡ None → IfSome result (λ r. r.hi - r.lo ≤ cotail_budget (2 ^ B) plan i p)
-share_narrow {B} plan grids means unit others g mean i p result u width is read inside units each rest t none =
-    subst (λ whole. IfSome result (λ r. r.hi - r.lo ≤ cotail_budget (2 ^ B) whole i p)) (is_independent plan none)
-    (IfSome_then result width (λ r narrow.
-    subst (λ n. r.hi - r.lo ≤ cotail_width p (2 ^ B) own n spreads (others_budget (2 ^ B) plan i) most)
-    (each_cells plan.cells plan.units grids unit i is inside units)
-    (narrow own spreads (others_budget (2 ^ B) plan i) most
-    (mean_within plan means mean i u read inside each)
-    (subst (λ x. spread x ≤ spreads) (sym is) (unit_narrow plan.cells plan.units grids i inside units)) rest.narrow
-    (total_alone plan g none t).narrow)))
+    own.encloses rest.encloses (total_alone plan g none t).encloses
+    (mean_beside plan means mean i beside u read inside valid each)) width)
   where
-    own : ℕ
-    own = get_or (map (unit_mean_budget (2 ^ B) plan.cells) plan.units) i 0
+    u : UnitOfPlan
+    u = some_unit plan.units i inside
+
+    of_mean : ℕ
+    of_mean = get_or (map (unit_mean_budget (2 ^ B) plan.cells) plan.units) i 0
 
     spreads : ℕ
     spreads = get_or (unit_budgets (2 ^ B) plan.cells plan.units) i 0
 
     most : ℕ
     most = total_budget (2 ^ B) (independent plan)
-
-pub is_tail_share : {B : ℕ} (plan : Plan) (i : ℕ) (p : Fraction) (result : Option (Iv B))
-    → IfSome result (λ r. DeclaresShare plan i p (r.lo over 2 ^ B) (r.hi over 2 ^ B))
-    → IfSome result (λ r. r.hi - r.lo ≤ cotail_budget (2 ^ B) plan i p) → IfSome result (IsTailShareOf plan i p)
-is_tail_share plan i p result held width = if_some_two result _ _ _ (λ r holds narrow. record {
-  holds = holds;
-  narrow = omega (arith, r.ordered, narrow);
-}) held width
 
 -- where there is a share, the distribution reaches p inside the grid
 pub share_reached : {B : ℕ} (plan : Plan) (g : List (Iv B)) (p : Fraction) (result : Option (Iv B))

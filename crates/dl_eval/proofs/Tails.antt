@@ -1,12 +1,6 @@
 -- The answer to an ask for a tail mean.
-use Rattle.dl_eval.proofs.Common.{ℕ, suc, ◌≡◌, ◌+◌, ◌-◌, ◌*◌, ◌^◌, ◌<◌, ◌≤◌, List, length, arith, inl, inr, sym, subst, div_ceil, mul-le-mul_left, mul-le-mul_right, pow_pos, div_ceil_times, Fraction, ◌over◌, ◌≤ℚ◌, ◌<ℚ◌, le_trans, lt_or_le, lt_not_le, div_ceil_least, Iv, over_le_over, low_at, high_at, spread, up_quotient, count_below, Holds, One, Mean, Tail, partial_sums, total, GridEncloses, AreDeclared, low_cdf, at_least_wider, cdf_ends, IsFirstAtLeast, Plan, IsValid, Row, total_budget, mean_budget, tail_budget, in_digits, few_cells, at_the_end, IsTailMean, DeclaresTail, IsTotalOf, IsMeanOf, Prints, Loss}
+use Rattle.dl_eval.proofs.Common.{ℕ, suc, ◌≡◌, ◌+◌, ◌-◌, ◌*◌, ◌^◌, ◌<◌, ◌≤◌, List, length, arith, inl, inr, sym, subst, div_ceil, mul-le-mul_left, mul-le-mul_right, pow_pos, div_ceil_times, Fraction, ◌over◌, ◌≤ℚ◌, ◌<ℚ◌, le_trans, lt_or_le, lt_not_le, div_ceil_least, Iv, over_le_over, low_at, high_at, spread, up_quotient, count_below, Holds, One, Mean, Tail, partial_sums, total, GridEncloses, AreDeclared, low_cdf, at_least_wider, cdf_ends, IsFirstAtLeast, Plan, IsValid, Row, total_budget, mean_budget, tail_budget, in_digits, few_cells, at_the_end, IsTailMean, DeclaresTail, IsTotalOf, IsMeanOf, Prints, Loss, up, tail_width, IsQuantile, count_below_grows, IsLevel, IsAtLeast, total_cdf, total_mean, total_tail}
 use Rattle.dl_exact.proofs.BelowOne.{num_below}
-use Rattle.dl_grid.specs.Width.{up, tail_width}
-use Rattle.dl_model.specs.Measures.{IsQuantile}
-use Rattle.dl_exact.proofs.Counts.{below_grows as count_below_grows}
-use Rattle.dl_plan.specs.Ranges.{IsLevel}
-use Rattle.dl_eval.specs.Rows.{IsAtLeast}
-use Rattle.dl_model.proofs.Pooled.{total_cdf, total_mean, total_tail}
 use Rattle.dl_eval.proofs.Losses.{losses_of, losses_declared, losses_units, encloses_losses, holds_told, holds_back, quantile_back}
 use Rattle.dl_eval.proofs.Printed.{are_ends, tail_widens}
 
@@ -26,11 +20,9 @@ tail_narrow : (p : Fraction) (mean most cells w budget : ℕ) → p.num < p.den 
 tail_narrow p mean most cells w budget below of_mean of_spread =
     let sums : 2 * mean + 3 * cells * w ≤ 2 * most + 3 * cells * budget =
     omega (arith, of_mean, mul-le-mul_left (3 * cells) of_spread) in
-    omega (
-      arith,
-      up_rises ((2 * mean + 3 * cells * w) * p.den) ((2 * most + 3 * cells * budget) * p.den)
-          (p.den - p.num) (omega (arith, below)) (mul-le-mul_right p.den sums),
-    )
+    let bound = up_rises ((2 * mean + 3 * cells * w) * p.den) ((2 * most + 3 * cells * budget) * p.den)
+    (p.den - p.num) (omega (arith, below)) (mul-le-mul_right p.den sums) in
+    omega arith
 
 -- ---- where it is told
 

@@ -1,21 +1,10 @@
 -- The grid of a total, from those of its units.
-use Rattle.dl_eval.proofs.Common.{ℕ, zero, suc, ◌≡◌, ◌^◌, ◌<◌, ◌≤◌, List, [], ◌∷◌, ◌++◌, length, get_or, map, arith, refl, sym, ap, subst, subst₂, ◌∙◌, Option, None, Some, IfSome, All, pow_pos, length-append, length-map, get_or_default, Iv, spread, low_at, high_at, cv, cv_rises, mapped, GridEncloses, unit_of, outcome_after, aggregate_of, aggregates_of, compound_of, unit_declared, plan_units, Plan, IsValidUnit, IsValid, unit_budget, unit_budgets, IsTotal, AreSumsWithout, AreUnitGrids, AreShared, IsTotalOf, AreOthersOf, AreOthers, HasOthers, loss_of}
-use Rattle.std.proofs.lemmas.Option.{IfSome_then}
-use Rattle.std.specs.Prelude.{Bool, false, IsTrue}
-use Rattle.std.specs.List.{fold, remove}
-use Rattle.std.proofs.lemmas.List.{get_or-map}
-use Rattle.dl_grid.specs.Width.{sum_spread as sum_budget, sum_spread}
-use Rattle.dl_model.proofs.FamilyLaws.{encloses_same}
+use Rattle.dl_eval.proofs.Common.{ℕ, zero, suc, ◌≡◌, ◌^◌, ◌<◌, ◌≤◌, List, [], ◌∷◌, ◌++◌, length, get_or, map, arith, refl, sym, ap, subst, subst₂, ◌∙◌, Option, None, Some, IfSome, All, pow_pos, length-append, length-map, get_or_default, Iv, spread, low_at, high_at, cv, cv_rises, mapped, GridEncloses, unit_of, outcome_after, aggregate_of, aggregates_of, compound_of, unit_declared, plan_units, Plan, IsValidUnit, IsValid, unit_budget, unit_budgets, IsTotal, AreSumsWithout, AreUnitGrids, AreShared, IsTotalOf, AreOthersOf, AreOthers, HasOthers, loss_of, IfSome_then, Bool, false, IsTrue, fold, remove, get_or-map, sum_budget, sum_spread, encloses_same, UnitOfPlan, budgets_length, budget_here, IsSumWithout, independent, AreGridsOf, AreUnitMeans, AreUnits, most_unit_mean}
 use Rattle.dl_model.proofs.UnitLaws.{unit_plain}
-use Rattle.dl_plan.specs.declared.plan.Unit.{Unit as UnitOfPlan}
-use Rattle.dl_budget.proofs.Sums.{budgets_length, budget_here}
 use Rattle.dl_port.specs.Sums.{EncloseEach}
 use Rattle.dl_eval.proofs.Lists.{any_here}
-use Rattle.dl_port.specs.Shared.{IsSumWithout}
 use Rattle.dl_eval.specs.declared.grids.Grids.{Grids}
-use Rattle.dl_plan.specs.Shared.{independent}
 use Rattle.dl_eval.proofs.Losses.{is_independent}
-use Rattle.dl_eval.specs.Totals.{AreGridsOf, AreUnitMeans, AreUnits, most_unit_mean}
 
 -- ---- what the grids enclose
 
@@ -143,11 +132,7 @@ is_total {B} plan grids g valid none each sum = subst (λ whole. IsTotalOf whole
     alone = record {
       cells = sum.cells;
       encloses = sum.encloses (aggregates_of plan) (plan_units plan valid) (enclose_each plan grids each);
-      narrow = omega (
-        arith,
-        sum.narrow,
-        sums_rise (2 ^ B) plan.cells _ _ (pow_pos B) (each_narrow plan grids each),
-      );
+      narrow = omega (arith, sums_rise (2 ^ B) plan.cells _ _ (pow_pos B) (each_narrow plan grids each));
     }
 
 -- ---- all units but one
@@ -160,7 +145,6 @@ others_of {B} plan grids i g valid each sum = record {
   encloses = sum.encloses (aggregates_of plan) (plan_units plan valid) (enclose_each plan grids each);
   narrow = omega (
     arith,
-    sum.narrow,
     ap (sum_spread (2 ^ B) plan.cells) (map_remove spread grids i),
     sums_rise (2 ^ B) plan.cells _ _ (pow_pos B) (removed_no_more i _ _ (each_narrow plan grids each)),
   );

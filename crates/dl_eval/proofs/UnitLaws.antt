@@ -1,8 +1,6 @@
 -- What is made of one unit.
-use Rattle.dl_eval.proofs.Common.{ℕ, ◌≡◌, ◌*◌, ◌^◌, ◌≤◌, List, length, arith, ap, subst, Option, None, Some, Iv, spread, mapped, GridEncloses, aggregate_of, compound_of, Clause, IsHorizonOf, horizon, IsValidUnit, claims_budget, after_clause, one_horizon}
-use Rattle.dl_plan.specs.declared.plan.Unit.{Unit as UnitOfPlan}
+use Rattle.dl_eval.proofs.Common.{ℕ, ◌≡◌, ◌*◌, ◌^◌, ◌≤◌, List, length, arith, ap, subst, Option, None, Some, Iv, spread, mapped, GridEncloses, aggregate_of, compound_of, Clause, IsHorizonOf, horizon, IsValidUnit, claims_budget, after_clause, one_horizon, UnitOfPlan, IsClauseGrid}
 use Rattle.dl_plan.proofs.Horizons.{horizon_one}
-use Rattle.dl_eval.specs.Totals.{IsClauseGrid}
 use Rattle.dl_eval.proofs.Totals.{plain_encloses}
 
 pub horizon_some : (cede : Option Clause) (h k : ℕ) → 1 ≤ h → IsHorizonOf cede h k → 1 ≤ k
@@ -40,7 +38,6 @@ ceded_grid {B} cells u clause claims g valid some there narrow same encloses twi
   encloses = encloses;
   narrow = omega (
     arith,
-    twice,
     budget_at cells u claims valid there narrow,
     ap (λ c. after_clause c (claims_budget (2 ^ B) (horizon u.cede cells) u)) some,
   );

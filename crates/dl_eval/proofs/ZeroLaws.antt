@@ -1,28 +1,11 @@
 -- A unit whose probability of no claim is changed: its grid and its mean from those before the change.
-use Rattle.dl_eval.proofs.Common.{ℕ, ◌≡◌, ◌+◌, ◌-◌, ◌*◌, ◌^◌, ◌≤◌, List, [], ◌∷◌, length, arith, sym, ap, subst, ◌∙◌, None, Some, Option, IfSome, mul-le-mul_left, pow_pos, Fraction, whole, ◌over◌, ◌≤ℚ◌, Iv, spread, Holds, GridEncloses, Aggregate, loss, unit_declared, One, Mean, partial_sums, aggregate_of, IsValidUnit, horizon, mean_width, claims_budget, after_clause, IsUnitGrid, IsUnitMean}
-use Rattle.dl_limits.specs.Limits.{IsPlanScale, bits_of, most_amount_at, most_expected}
-use Rattle.dl_exact.proofs.Over.{over_self}
-use Rattle.dl_exact.proofs.RoundingLaws.{ceiling_div}
-unfoldable use Rattle.dl_grid.specs.Width.{up}
-use Rattle.dl_plan.specs.declared.plan.Unit.{Unit as UnitOfPlan}
-use Rattle.dl_plan.specs.Means.{declared_mean}
-use Rattle.dl_plan.specs.Valid.{IsNewZero}
-use Rattle.dl_plan.proofs.ValidUnits.{mean_most, new_zero}
+use Rattle.dl_eval.proofs.Common.{ℕ, ◌≡◌, ◌+◌, ◌-◌, ◌*◌, ◌^◌, ◌≤◌, List, [], ◌∷◌, length, arith, sym, ap, subst, ◌∙◌, None, Some, Option, IfSome, mul-le-mul_left, pow_pos, Fraction, whole, ◌over◌, ◌≤ℚ◌, Iv, spread, Holds, GridEncloses, Aggregate, loss, unit_declared, One, Mean, partial_sums, aggregate_of, IsValidUnit, horizon, mean_width, claims_budget, after_clause, IsUnitGrid, IsUnitMean, IsPlanScale, bits_of, most_amount_at, most_expected, over_self, ceiling_div, up, UnitOfPlan, declared_mean, IsNewZero, mean_most, new_zero, IsDeclared, after_zero, at_most_wider, mean_at_most, unit_declared_loss, none_budget, budget_after_zero, mean_after_zero, most_claims_mean, most_limited, most_clause_mean, IsClauseGrid, IsClauseMean}
 use Rattle.dl_model.specs.ChangedZero.{changed}
-use Rattle.dl_model.specs.Units.{IsDeclared}
-use Rattle.dl_model.specs.Plans.{after_zero}
-use Rattle.dl_model.proofs.Declared.{at_most_wider}
 use Rattle.dl_model.proofs.NewZero.{count_new_zero}
-use Rattle.dl_model.proofs.PlanMeans.{mean_at_most}
-use Rattle.dl_model.proofs.UnitLosses.{unit_declared_loss}
-use Rattle.dl_budget.specs.Claims.{none_budget}
-use Rattle.dl_budget.specs.Units.{after_zero as budget_after_zero, mean_after_zero}
 use Rattle.dl_budget.proofs.NoneSizes.{none_small}
 use Rattle.dl_zero.specs.Before.{HoldsNone, HoldsMean, IsBefore}
 use Rattle.dl_zero.specs.Ends.{changed_spread, changed_mean_width}
-use Rattle.dl_cede.specs.Means.{most_claims_mean, most_limited}
 use Rattle.dl_zero.proofs.Means.{none_low as low_of_none, mean_low as low_of_mean}
-use Rattle.dl_eval.specs.Totals.{most_clause_mean, IsClauseGrid, IsClauseMean}
 use Rattle.dl_eval.proofs.Scales.{changed_fits, mean_fits, scale_least}
 
 -- ---- a unit without a change
@@ -34,7 +17,6 @@ same_grid {B} cells u g none h = record {
   encloses = subst (λ z. GridEncloses g (after_zero z (aggregate_of u)).family) (sym none) h.encloses;
   narrow = omega (
     arith,
-    h.narrow,
     ap (λ z. budget_after_zero z cells (none_budget (2 ^ B) u.freq)
         (after_clause u.cede (claims_budget (2 ^ B) (horizon u.cede cells) u))) none,
   );
@@ -48,7 +30,6 @@ same_mean {B} cells u mean none h = record {
       h.holds;
   narrow = omega (
     arith,
-    h.narrow,
     ap (λ z. mean_after_zero z (up (declared_mean u)) (none_budget (2 ^ B) u.freq)
         (mean_width u.cede (claims_budget (2 ^ B) (horizon u.cede cells) u))) none,
   );
@@ -71,13 +52,7 @@ module _ {B : ℕ} (cells : ℕ) (u : UnitOfPlan) (p : Fraction) (none : Iv B) (
       (count_new_zero u.freq p valid.count zero_of)
 
   pub none_high : 18 * none.hi ≤ 17 * 2 ^ B
-  none_high = omega (
-    arith,
-    none_low,
-    width,
-    none_small B u.freq p scale valid.count zero_of,
-    scale_least B scale,
-  )
+  none_high = omega (arith, none_low, none_small B u.freq p scale valid.count zero_of, scale_least B scale)
 
   pub before : (g : List (Iv B)) → IsClauseGrid cells u g → IsBefore (aggregate_of u) g none
   before g h = record { declared = declared; grid = h.encloses; none = holds }
@@ -91,10 +66,6 @@ module _ {B : ℕ} (cells : ℕ) (u : UnitOfPlan) (p : Fraction) (none : Iv B) (
         (encloses (aggregate_of u) (before g h));
     narrow = omega (
       arith,
-      narrow,
-      width,
-      h.narrow,
-      h.cells,
       ap (λ z. budget_after_zero z cells (none_budget (2 ^ B) u.freq)
           (after_clause u.cede (claims_budget (2 ^ B) (horizon u.cede cells) u))) is,
     );
@@ -130,8 +101,6 @@ module _ {B : ℕ} (cells : ℕ) (u : UnitOfPlan) (p : Fraction) (none : Iv B) (
       arith,
       narrow most (mean_low mean h) none_low,
       mul-le-mul_left (306 * most) width,
-      h.narrow,
-      mean.ordered,
       ap (λ z. mean_after_zero z (up (declared_mean u)) (none_budget (2 ^ B) u.freq)
           (mean_width u.cede (claims_budget (2 ^ B) (horizon u.cede cells) u))) is,
     );

@@ -1,15 +1,9 @@
 -- The grids that the rows of a plan are drawn from.
-use Rattle.std.specs.Prelude.{ℕ, ◌≡◌, Option, None, IsSome, IfSome, List, get_or}
-use Rattle.dl_iv.specs.declared.interval.Iv.{Iv}
+use Rattle.std.specs.Prelude.{ℕ, ◌≡◌, Option, None, IsSome, IfSome, get_or}
 use Rattle.dl_plan.specs.declared.plan.Plan.{Plan}
 use Rattle.dl_eval.specs.declared.drawn.PlanGrids.{PlanGrids}
 use Rattle.dl_eval.specs.declared.drawn.PlanGrids.TheVariants.{Independent, Shared}
 use Rattle.dl_eval.specs.Totals.{AreGridsOf, ArePooledGridsOf}
-
--- that of the total
-abbrev pub total_in : {B : ℕ} → PlanGrids B → List (Iv B)
-total_in (Independent grids) = grids.sums.total
-total_in (Shared grids) = grids.total
 
 -- the grids of a plan: of its units, which then are independent, or of the one unit in their place
 abbrev pub AreDrawnOf : {B : ℕ} → Plan → PlanGrids B → Type 0

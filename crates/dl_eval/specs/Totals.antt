@@ -9,7 +9,7 @@ use Rattle.dl_model.specs.Series.{Holds}
 use Rattle.dl_model.specs.Family.{GridEncloses}
 use Rattle.dl_model.specs.Units.{mapped}
 use Rattle.dl_model.specs.Program.{One, Point, Mean, Joint, partial_sums, total}
-use Rattle.dl_model.specs.Measures.{without}
+use Rattle.dl_model.specs.Measures.{unit_of, without}
 use Rattle.dl_model.specs.Plans.{aggregate_of, loss_of, aggregates_of, compound_of}
 use Rattle.dl_common.specs.Pooled.{IsPooled, IsRaised}
 use Rattle.dl_plan.specs.declared.plan.Unit.{Unit as UnitOfPlan}
@@ -19,7 +19,7 @@ use Rattle.dl_plan.specs.MeanWidth.{mean_width}
 use Rattle.dl_cede.specs.Means.{HoldsMean}
 use Rattle.dl_budget.specs.Claims.{claims_budget}
 use Rattle.dl_budget.specs.Shared.{raised_budget}
-use Rattle.dl_budget.specs.Units.{after_clause, unit_budget, unit_mean_budget, total_budget, others_budget, mean_budget}
+use Rattle.dl_budget.specs.Units.{after_clause, unit_budget, unit_budgets, unit_mean_budget, total_budget, others_budget, mean_budget}
 use Rattle.dl_report.specs.declared.report.End.TheVariants.{Number}
 use Rattle.dl_report.specs.declared.report.Row.{Row}
 use Rattle.dl_budget.specs.Asks.{joint_budget, cotail_budget}
@@ -99,6 +99,12 @@ pub record AreOthersOf {B : ℕ} (plan : Plan) (i : ℕ) (g : List (Iv B)) : Typ
   pub cells : length g ≡ plan.cells
   pub encloses : GridEncloses g (total (without (aggregates_of plan) i))
   pub narrow : spread g ≤ others_budget (2 ^ B) plan i
+
+-- the grid of unit i among all, within its budget
+pub record IsGridOfUnit {B : ℕ} (plan : Plan) (i : ℕ) (g : List (Iv B)) : Type 0 where
+  pub cells : length g ≡ plan.cells
+  pub encloses : GridEncloses g (unit_of (aggregates_of plan) i)
+  pub narrow : spread g ≤ get_or (unit_budgets (2 ^ B) plan.cells plan.units) i 0
 
 -- the mean of the total, within its budget
 pub record IsMeanOf {B : ℕ} (plan : Plan) (mean : Iv B) : Type 0 where

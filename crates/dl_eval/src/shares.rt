@@ -1,15 +1,15 @@
 //! The share of a unit in a total.
 
 ghost use Rattle.std.specs.Prelude.{◌≡◌, ◌*◌, ◌^◌, ◌<◌, ◌≤◌, ◌⊎◌, IsSome, IsNone, IfSome, Some, None, ℕ, IfOk, length, get_or};
-ghost use Rattle.dl_limits.specs.Limits.{bits_of, most_digits};
+ghost use Rattle.dl_limits.specs.Limits.{bits_of, budget_bound, most_digits};
 ghost use Rattle.dl_exact.specs.Fraction.{◌over◌};
 ghost use Rattle.dl_model.specs.Program.{Point};
 ghost use Rattle.dl_plan.specs.Valid.{IsValid};
 ghost use Rattle.dl_budget.specs.Asks.{kappa_budget, cotail_budget, in_digits};
 ghost use Rattle.dl_eval.specs.Rows.{IsAtLeast, IsAtMost, IsBeyond, IsShareOfUnit, IsTooRare, IsTailShare, IsNoTailShare, at_the_end, total_error};
-ghost use Rattle.dl_eval.specs.Totals.{AreGridsOf, IsJointOf, IsTailShareOf};
+ghost use Rattle.dl_eval.specs.Totals.{AreGridsOf, AreOthersOf, IsGridOfUnit, IsJointOf, IsTailShareOf};
 ghost use Rattle.dl_eval.specs.Drawn.{AreDrawnOf, HasShareOf};
-ghost use Rattle.dl_grid.specs.Cells.{low_at};
+ghost use Rattle.dl_grid.specs.Cells.{low_at, spread};
 ghost use Rattle.dl_model.specs.Plans.{declared};
 ghost use Rattle.dl_measures.specs.Brackets.{IsFirstFound};
 ghost use Rattle.dl_measures.specs.Ends.{low_cdf};
@@ -25,12 +25,49 @@ use dl_budget::{others_budget, total_budget, unit_budget};
 use dl_cotail::cotail;
 use dl_cotail::laws::law_unit_mean;
 use dl_frac::Frac;
+use dl_grid::Grid;
 use dl_iv::Iv;
 use dl_limits::BUDGET_BOUND;
 use dl_measures::quantile;
 use dl_plan::{Asked, Plan};
 use dl_report::{End, Row};
 use std::alloc::{AllocError, Global};
+
+impl<const B: u32> Grids<B> {
+    /// The grid of unit `i`.
+    #[tactic(auto, using(crate::proofs::Scales::plan_scale))]
+    fn unit(&self, plan: &Plan, i: u32) -> &Grid<B>
+        requires valid { IsValid plan.now }
+        requires grids { AreGridsOf plan.now self.now }
+        requires unit { i < length plan.now.units }
+        requires there { IsSome (get_or self.now.sums.others.items i None) }
+        requires scale { B ≡ bits_of plan.now.cells }
+        ensures is { IsGridOfUnit plan.now i result.now }
+        ensures narrow { spread result.now < budget_bound }
+    {
+        // no grid is so wide that its ends are a whole apart
+        prove!(unit_budget::<B>(&plan.units.as_slice()[i as usize], plan.cells) < BUDGET_BOUND);
+        &self.units.as_slice()[i as usize]
+    }
+
+    /// The grid of the sum of all units but `i`.
+    #[tactic(auto, using(crate::proofs::Scales::plan_scale))]
+    fn others(&self, plan: &Plan, i: u32) -> &Grid<B>
+        requires valid { IsValid plan.now }
+        requires grids { AreGridsOf plan.now self.now }
+        requires unit { i < length plan.now.units }
+        requires there { IsSome (get_or self.now.sums.others.items i None) }
+        requires scale { B ≡ bits_of plan.now.cells }
+        ensures are { AreOthersOf plan.now i result.now }
+        ensures narrow { spread result.now < budget_bound }
+    {
+        prove!(others_budget::<B>(plan, i) < BUDGET_BOUND);
+        match &self.sums.others.as_slice()[i as usize] {
+            Some(others) => others,
+            None => unreachable!(),
+        }
+    }
+}
 
 /// The mean outcome of unit `i` where the total is `at`, and 0 elsewhere, in buckets, of
 /// independent units.
@@ -47,13 +84,7 @@ fn independent_joint<const B: u32>(plan: &Plan, grids: &Grids<B>, i: u32, at: u3
     ensures below { (h : ℕ) → IsAtMost plan.now (Point at) (h over 2 ^ B) → result.lo ≤ at * h }
     ensures divisible { result.hi * 2 ^ B ≤ 2 ^ 127 }
 {
-    // no grid is so wide that its ends are a whole apart
-    prove!(unit_budget::<B>(&plan.units.as_slice()[i as usize], plan.cells) < BUDGET_BOUND);
-    prove!(others_budget::<B>(plan, i) < BUDGET_BOUND);
-    match &grids.sums.others.as_slice()[i as usize] {
-        Some(others) => joint_mean(&grids.units.as_slice()[i as usize], others, at),
-        None => unreachable!(),
-    }
+    joint_mean(grids.unit(plan, i), grids.others(plan, i), at)
 }
 
 /// The mean outcome of unit `i` where the total is `at`, and 0 elsewhere, in buckets.
@@ -123,16 +154,16 @@ fn tail_share_of<const B: u32>(plan: &Plan, grids: &Grids<B>, i: u32, p: Frac) -
         → IsFirstFound (low_cdf (2 ^ B) (low_at grids.now.sums.total)) p plan.now.cells (Some x)
         → MayBeAbsent (declared plan.now) plan.now.cells p (total_error (2 ^ B) plan.now) }
 {
-    prove!(unit_budget::<B>(&plan.units.as_slice()[i as usize], plan.cells) < BUDGET_BOUND);
-    prove!(others_budget::<B>(plan, i) < BUDGET_BOUND);
     prove!(total_budget::<B>(plan) < BUDGET_BOUND);
     law_unit_mean();
-    let unit = &grids.units.as_slice()[i as usize];
     let mean = grids.means.as_slice()[i as usize];
-    match &grids.sums.others.as_slice()[i as usize] {
-        Some(others) => cotail(unit, others, &grids.sums.total, mean, p),
-        None => unreachable!(),
-    }
+    cotail(
+        grids.unit(plan, i),
+        grids.others(plan, i),
+        &grids.sums.total,
+        mean,
+        p,
+    )
 }
 
 /// The row of an ask for the share of unit `i` in the tail mean at `p`; without numbers where there

@@ -1,19 +1,21 @@
 //! The grid of each unit's outcomes, and their mean.
 
-ghost use Rattle.std.specs.Prelude.{ℕ, List, ◌≡◌, ◌<◌, ◌≤◌, ◌^◌, All, IfOk, length, get_or};
+ghost use Rattle.std.specs.Prelude.{ℕ, List, Some, ◌≡◌, ◌-◌, ◌<◌, ◌≤◌, ◌^◌, All, IfOk, length, get_or};
 ghost use Rattle.dl_limits.specs.Limits.{bits_of, most_horizon, most_plan_cells};
 ghost use Rattle.dl_iv.specs.declared.interval.Iv.{Iv as IvValue};
 ghost use Rattle.dl_grid.specs.Cells.{spread};
 ghost use Rattle.dl_model.specs.Family.{GridEncloses};
-ghost use Rattle.dl_model.specs.Plans.{compound_of};
+ghost use Rattle.dl_model.specs.Plans.{aggregate_of, compound_of};
 ghost use Rattle.dl_plan.specs.declared.plan.Unit.{Unit as UnitOfPlan};
 ghost use Rattle.dl_plan.specs.Horizon.{IsHorizonOf};
+ghost use Rattle.dl_zero.specs.Before.{HoldsNone};
 ghost use Rattle.dl_plan.specs.Valid.{IsValidUnit, IsValid};
-ghost use Rattle.dl_budget.specs.Claims.{claims_budget};
+ghost use Rattle.dl_budget.specs.Claims.{claims_budget, none_budget};
 ghost use Rattle.dl_eval.specs.Totals.{most_clause_mean, most_unit_mean, IsClauseGrid, IsClauseMean, IsUnitGrid, IsUnitMean, AreUnitGrids, AreUnitMeans};
 
 use crate::same::first_alike;
 use dl_cede::{cede_grid, cede_mean, claims_mean};
+use dl_frac::Frac;
 use dl_grid::Grid;
 use dl_iv::Iv;
 use dl_plan::{Plan, Unit};
@@ -86,6 +88,22 @@ fn after_clause<const B: u32>(
     }
 }
 
+/// The mean of a unit's outcomes with its changed probability `p` of no claim, from their mean and
+/// the probability `none` before.
+fn changed_mean<const B: u32>(unit: &Unit, mean: Iv<B>, none: Iv<B>, p: Frac, cells: u32) -> Iv<B>
+    requires scale { B ≡ bits_of cells }
+    requires valid { IsValidUnit cells unit.now }
+    requires zero { unit.now.zero ≡ Some p }
+    requires mean { IsClauseMean cells unit.now mean }
+    requires small { mean.hi ≤ most_clause_mean unit.now.zero }
+    requires none { HoldsNone (aggregate_of unit.now) none }
+    requires width { none.hi - none.lo ≤ none_budget (2 ^ B) unit.now.freq }
+    ensures mean { IsUnitMean cells unit.now result }
+    ensures small { result.hi ≤ most_unit_mean }
+{
+    zero_mean(mean, none, p)
+}
+
 /// The grid of a unit's outcomes, and their mean, from those before its probability of no claim is
 /// changed.
 fn after_zero<const B: u32>(
@@ -111,7 +129,7 @@ fn after_zero<const B: u32>(
         Some(p) => {
             let none = none_of(alloc, work, &unit.freq)?;
             let changed = zero_grid(alloc, &grid, none, p)?;
-            Ok((changed, zero_mean(mean, none, p)))
+            Ok((changed, changed_mean(unit, mean, none, p, cells)))
         }
         None => Ok((grid, mean)),
     }
@@ -248,7 +266,7 @@ fn mean_of<const B: u32>(
     match unit.zero {
         Some(p) => {
             let none = none_of(alloc, work, &unit.freq)?;
-            Ok(zero_mean(mean, none, p))
+            Ok(changed_mean(unit, mean, none, p, cells))
         }
         None => Ok(mean),
     }

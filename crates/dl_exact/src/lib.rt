@@ -11,16 +11,19 @@ ghost use Rattle.dl_exact.specs.Rounding.{IsFloor, IsCeiling};
 ghost use Rattle.dl_exact.specs.Sum.{sum_to, sum_pairs};
 
 /// The parts of `n` over `d` stand to each other as `n` and `d` do.
+#[tactic(auto, using(crate::proofs::Over::over_cross))]
 pub fn law_over()
     ensures { (n d : ℕ) → 0 < d → (n over d).num * d ≡ n * (n over d).den }
 {}
 
 /// Fractions that are equal by cross multiplication are one.
+#[tactic(auto, using(crate::proofs::Over::over_same))]
 pub fn law_equal()
     ensures { (n d m e : ℕ) → 0 < d → 0 < e → n * e ≡ m * d → n over d ≡ m over e }
 {}
 
 /// Sums and products are free of order and brackets, and a product goes over a sum.
+#[tactic(auto, using(crate::proofs::Laws::ring))]
 pub fn law_sums_and_products()
     ensures plus_comm { (x y : Fraction) → x +ℚ y ≡ y +ℚ x }
     ensures plus_assoc { (x y z : Fraction) → x +ℚ y +ℚ z ≡ x +ℚ (y +ℚ z) }
@@ -32,12 +35,14 @@ pub fn law_sums_and_products()
 {}
 
 /// What was taken off comes back by a sum, and what was divided off by a product.
+#[tactic(auto, using(crate::proofs::Laws::sub_plus, crate::proofs::Laws::div_times))]
 pub fn law_back()
     ensures minus { (x y : Fraction) → y ≤ℚ x → x -ℚ y +ℚ y ≡ x }
     ensures divided { (x y : Fraction) → whole 0 <ℚ y → x /ℚ y *ℚ y ≡ x }
 {}
 
 /// The order is one of a line, and sums and products keep it.
+#[tactic(auto, using(crate::proofs::Laws::lt_or_le, crate::proofs::Laws::le_antisymm, crate::proofs::Laws::le_trans, crate::proofs::Laws::plus_le_plus, crate::proofs::Laws::times_le_times))]
 pub fn law_order()
     ensures decided { (x y : Fraction) → (x <ℚ y) ⊎ (y ≤ℚ x) }
     ensures both_ways { (x y : Fraction) → x ≤ℚ y → y ≤ℚ x → x ≡ y }
@@ -54,6 +59,7 @@ pub fn law_rounding()
 {}
 
 /// Two finite sums, one inside the other, may change places.
+#[tactic(auto, using(crate::proofs::Sums::sum_to_swap))]
 pub fn law_sum_swap()
     ensures { (n m : ℕ) (f : ℕ → ℕ → Fraction)
         → sum_to n (λ i. sum_to m (λ j. f i j)) ≡ sum_to m (λ j. sum_to n (λ i. f i j)) }
@@ -61,6 +67,7 @@ pub fn law_sum_swap()
 
 /// A sum over the pairs that add up to `n` may be taken from either end, and in three parts in
 /// either order.
+#[tactic(auto, using(crate::proofs::Sums::sum_pairs_turn, crate::proofs::Sums::sum_pairs_assoc))]
 pub fn law_pairs()
     ensures turn { (n : ℕ) (f : ℕ → ℕ → Fraction) → sum_pairs n (λ i j. f j i) ≡ sum_pairs n f }
     ensures three { (n : ℕ) (f : ℕ → ℕ → ℕ → Fraction)

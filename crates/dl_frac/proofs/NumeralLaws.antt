@@ -23,7 +23,7 @@ take_one x xs k = let e : 1 + k ≡ suc k = omega arith in ap (λ n. take n (x �
 pub after_yes : (p : ℕ → Bool) (x : ℕ) (xs : List ℕ) → p x ≡ true → after_first p (x ∷ xs) ≡ xs
 after_yes p x xs h = rw h
 
-after_no : (p : ℕ → Bool) (x : ℕ) (xs : List ℕ) → p x ≡ false → after_first p (x ∷ xs) ≡ after_first p xs
+pub after_no : (p : ℕ → Bool) (x : ℕ) (xs : List ℕ) → p x ≡ false → after_first p (x ∷ xs) ≡ after_first p xs
 after_no p x xs h = rw h (drop_more x xs (position_or_len p xs))
 
 pub before_yes : (p : ℕ → Bool) (x : ℕ) (xs : List ℕ) → p x ≡ true → before_first p (x ∷ xs) ≡ []

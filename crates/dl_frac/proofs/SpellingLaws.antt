@@ -67,12 +67,12 @@ first_place p text i e =
     let s = position-Some p text i 0 (sym e) in
     record { inside = s.0; there = s.1; none = none_before p text i (omega (arith, s.0)) s.2 }
 
-before_at : (p : ℕ → Bool) (front back : List ℕ) (b : ℕ) → list_any p front ≡ false → p b ≡ true
+pub before_at : (p : ℕ → Bool) (front back : List ℕ) (b : ℕ) → list_any p front ≡ false → p b ≡ true
     → before_first p (front ++ b ∷ back) ≡ front
 before_at p front back b h e =
     before_none p front (b ∷ back) h ∙ ap (λ t. front ++ t) (before_yes p b back e) ∙ append-nil front
 
-after_at : (p : ℕ → Bool) (front back : List ℕ) (b : ℕ) → list_any p front ≡ false → p b ≡ true
+pub after_at : (p : ℕ → Bool) (front back : List ℕ) (b : ℕ) → list_any p front ≡ false → p b ≡ true
     → after_first p (front ++ b ∷ back) ≡ back
 after_at p front back b h e = after_none p front (b ∷ back) h ∙ after_yes p b back e
 
@@ -101,7 +101,7 @@ clash b p q = absurd (let e : true ≡ false = sym p ∙ q in cc)
 
 -- ---- decimals
 
-any_at : (p : ℕ → Bool) (b : ℕ) → p b ≡ true → (front back : List ℕ) → list_any p (front ++ b ∷ back) ≡ true
+pub any_at : (p : ℕ → Bool) (b : ℕ) → p b ≡ true → (front back : List ℕ) → list_any p (front ++ b ∷ back) ≡ true
 any_at p b h [] back = rw h
 any_at p b h (x ∷ xs) back = elim (cases_Bool (p x)) [ inl hit ↦ rw hit | inr miss ↦ rw miss (any_at p b h xs back) ]
 

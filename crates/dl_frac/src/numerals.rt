@@ -19,6 +19,7 @@ pub struct BadNumeral;
 /// The value of a numeral with a limit of `digits` digits, which is 2 lower for a percent and holds
 /// for each part of a fraction. `BadNumeral` exactly where the limit is passed, or a second part is
 /// 0.
+#[tactic(auto, using(crate::proofs::NumeralLaws::few_tens))]
 pub fn numeral(text: &[u8], digits: u32) -> Result<Frac, BadNumeral>
     requires spelled { IsNumeral text.now }
     requires limit { digits ≤ 11 }
@@ -36,6 +37,7 @@ pub fn numeral(text: &[u8], digits: u32) -> Result<Frac, BadNumeral>
 }
 
 /// `first` over the number of a text.
+#[tactic(auto, using(crate::proofs::NumeralLaws::few_tens))]
 fn ratio(first: u64, text: &[u8], digits: u32) -> Result<Frac, BadNumeral>
     requires small { first < frac_bound }
     requires limit { digits ≤ 11 }
@@ -112,6 +114,7 @@ impl Reading {
     }
 
     /// The value of a decimal or a percent.
+    #[tactic(auto, using(crate::proofs::NumeralLaws::few_tens))]
     fn decimal(self, limit: u32) -> Result<Frac, BadNumeral>
         ensures ok { (text : List ℕ) → IsReadingOf limit text self
             → IfOk result (λ value. value ≡ cond (list_any is_percent text)

@@ -1,6 +1,5 @@
 -- What the ends of a list of cells are at one place, and how large they can be.
-use Rattle.dl_grid.proofs.Common.{ℕ, zero, suc, ◌≡◌, ◌-◌, ◌*◌, ◌^◌, ◌<◌, ◌≤◌, List, [], ◌∷◌, length, get_or, take, arith, refl, ap, ◌∙◌, All, le_trans, mul-le-mul_right, pow-le-pow_right, sum_by-le, sum_by-take-le, Iv, low_at, high_at, IsGrid, IsGridSize}
-use Rattle.std.specs.Prelude.{sum_by}
+use Rattle.dl_grid.proofs.Common.{ℕ, zero, suc, ◌≡◌, ◌-◌, ◌*◌, ◌^◌, ◌<◌, ◌≤◌, List, [], ◌∷◌, length, get_or, take, arith, refl, ap, ◌∙◌, All, le_trans, mul-le-mul_right, pow-le-pow_right, sum_by-le, sum_by-take-le, Iv, low_at, high_at, IsGrid, IsGridSize, sum_by}
 use Rattle.dl_grid.proofs.Room.{mass_fits}
 
 -- the ends of a cell by its place, and of one that was read

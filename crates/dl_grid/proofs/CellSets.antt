@@ -1,11 +1,7 @@
 -- The ends, the mass and the spread of a grid after one cell was written, and of its first cells.
-use Rattle.dl_grid.proofs.Common.{ℕ, zero, suc, ◌≡◌, ◌+◌, ◌-◌, ◌<◌, ◌≤◌, List, [], ◌∷◌, length, get_or, set, take, arith, refl, sym, inl, inr, ◌∙◌, min, eqb_tells, sum_by-cons, sum_by-set, Iv, low_at, high_at, mass_low, spread, all_at_zero}
-use Rattle.std.specs.Prelude.{◌==◌, if◌then◌else◌, map}
-use Rattle.std.proofs.lemmas.List.{length-map, map-set, take-map, get_or-take, get_or-set_same, get_or-set_other}
-use Rattle.std.proofs.lemmas.List.Sums.{get_or-le-sum_by}
+use Rattle.dl_grid.proofs.Common.{ℕ, zero, suc, ◌≡◌, ◌+◌, ◌-◌, ◌<◌, ◌≤◌, List, [], ◌∷◌, length, get_or, set, take, arith, refl, sym, inl, inr, ◌∙◌, min, eqb_tells, sum_by-cons, sum_by-set, Iv, low_at, high_at, mass_low, spread, all_at_zero, ◌==◌, if◌then◌else◌, map, length-map, map-set, take-map, get_or-take, get_or-set_same, get_or-set_other, get_or-le-sum_by, low_ends, high_ends}
 use Rattle.dl_grid.proofs.CellLaws.{low_at_get, high_at_get}
 use Rattle.dl_grid.proofs.EndLists.{low_at_ends, high_at_ends}
-use Rattle.dl_grid.specs.Cells.{low_ends, high_ends}
 
 -- an end of cells of which one was written
 end_set : {B : ℕ} (end : Iv B → ℕ) (cells : List (Iv B)) (i x : ℕ) (v : Iv B) → i < length cells

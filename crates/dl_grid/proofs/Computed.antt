@@ -1,6 +1,5 @@
 -- A number that is computed where it fits.
-use Rattle.dl_grid.proofs.Common.{ℕ, ◌≡◌, ◌∙◌, refl}
-use Rattle.std.specs.Prelude.{Option, Some, None, IfSome, IsSome, SomeIff}
+use Rattle.dl_grid.proofs.Common.{ℕ, ◌≡◌, ◌∙◌, refl, Option, Some, None, IfSome, IsSome, SomeIff}
 
 pub some_is : (r : Option ℕ) (P : Type 0) (v w : ℕ) → SomeIff r P v → v ≡ w → IfSome r (λ x. x ≡ w)
 some_is None P v w h e = tt

@@ -1,18 +1,13 @@
 -- Cells as two lists of ends: one determines the other, and both change alike.
-use Rattle.dl_grid.proofs.Common.{ℕ, zero, suc, ◌≡◌, ◌+◌, ◌-◌, ◌*◌, ◌^◌, ◌<◌, ◌≤◌, List, [], ◌∷◌, ◌++◌, length, get_or, set, take, arith, refl, sym, subst, ap, ap₂, inl, inr, ◌∙◌, All, length-take-le, take_all, eqb_tells, sum_by-cons, sum_by-take-le, sum_by-set, sum_by-le, Iv, low_at, high_at, mass_low, spread, all_at_zero, IsGrid, IsGridSize}
-use Rattle.std.proofs.Common.{replicate}
+use Rattle.dl_grid.proofs.Common.{ℕ, zero, suc, ◌≡◌, ◌+◌, ◌-◌, ◌*◌, ◌^◌, ◌<◌, ◌≤◌, List, [], ◌∷◌, ◌++◌, length, get_or, set, take, arith, refl, sym, subst, ap, ap₂, inl, inr, ◌∙◌, All, length-take-le, take_all, eqb_tells, sum_by-cons, sum_by-take-le, sum_by-set, sum_by-le, Iv, low_at, high_at, mass_low, spread, all_at_zero, IsGrid, IsGridSize, replicate, get_or_default_zero, length-map, length-replicate, get_or-replicate, map-append, get_or-map, length-set, take-map, map-set, get_or-take, get_or-set_same, get_or-set_other, sum-map, most_cells, low_ends, high_ends, cell_by, cells_of, mass_high, AreEnds}
 use Rattle.std.specs.Prelude.{◌⊎◌, sum}
-use Rattle.std.proofs.lemmas.Grind.{get_or_default_zero}
 use Rattle.std.proofs.lemmas.Bool.{cases_lt}
 use Rattle.std.proofs.Math.Bridge.{le_prop}
-use Rattle.std.proofs.lemmas.List.{length-map, length-replicate, get_or-replicate, map-append, get_or-map, length-set, take-map, map-set, get_or-take, get_or-set_same, get_or-set_other}
 use Rattle.std.proofs.Math.ListN.{get_or-eq_default}
 use Rattle.std.proofs.lemmas.List.Elements.{All-replicate, All-take, All-set, All-weaker, All-map, All-tail, All-head}
 use Rattle.std.proofs.lemmas.List.Folds.{sum_by-replicate}
-use Rattle.std.proofs.lemmas.List.Sums.{sum-map}
-use Rattle.dl_grid.proofs.Room.{size_within, mass_fits}
+use Rattle.dl_grid.proofs.Room.{size_few, size_within, mass_fits}
 use Rattle.dl_grid.proofs.CellLaws.{size_of, one_fits, one_in_range}
-use Rattle.dl_grid.specs.Cells.{low_ends, high_ends, cell_by, cells_of, mass_high, AreEnds}
 
 -- an end by its place
 pub low_at_ends : {B : ℕ} (cells : List (Iv B)) (x : ℕ) → get_or (low_ends cells) x 0 ≡ low_at cells x
@@ -143,14 +138,6 @@ small_cells : {B : ℕ} (cells : List (Iv B)) (m : ℕ) → All (λ high. high �
 small_cells cells m small k d inside = rw (← get_or-map (λ cell. cell.hi) cells k d d.hi inside)
     (small k d.hi (rw (length-map cells (λ cell. cell.hi)) inside))
 
-pub grid_of_ends : {B : ℕ} (cells : List (Iv B)) → AreEnds B (low_ends cells) (high_ends cells) → IsGrid cells
-grid_of_ends {B} cells p = record {
-  some = rw (← low_ends_long cells) p.size.some;
-  few = rw (← low_ends_long cells) p.size.few;
-  small = small_cells cells (2 ^ B) p.small;
-  mass = omega (arith, p.mass, sum-map (λ (c : Iv B). c.lo) cells);
-}
-
 -- and the ends of a grid's cells are those of a grid
 pub ends_of_grid : {B : ℕ} (cells : List (Iv B)) → IsGrid cells → AreEnds B (low_ends cells) (high_ends cells)
 ends_of_grid {B} cells p = record {
@@ -161,51 +148,57 @@ ends_of_grid {B} cells p = record {
   mass = omega (arith, p.mass, sum-map (λ (c : Iv B). c.lo) cells);
 }
 
--- the cells that a grid's two lists stand for
-pub record IsViewed {B : ℕ} (cells : List (Iv B)) (lows highs : List ℕ) : Type 0 where
-  pub low : low_ends cells ≡ lows
-  pub high : high_ends cells ≡ highs
-  pub ends : AreEnds B (low_ends cells) (high_ends cells)
+-- ---- the cells that a grid's two lists stand for
 
-pub viewed : {B : ℕ} {lows highs : List ℕ} (cells : List (Iv B)) → AreEnds B lows highs → cells_of B lows highs ≡ cells
-    → IsViewed cells lows highs
-viewed {B} {lows} {highs} cells p e = rw (← e) (record {
-  low = low_list p;
-  high = high_list p;
-  ends = rw (low_list p, high_list p) p;
-})
+pub cells_long : {B : ℕ} {lows highs : List ℕ} → AreEnds B lows highs → length (cells_of B lows highs) ≡ length lows
+cells_long {B} {lows} {highs} p = sym (low_ends_long (cells_of B lows highs)) ∙ ap length (low_list p)
 
-pub ends_long : {B : ℕ} {lows highs : List ℕ} (cells : List (Iv B)) → IsViewed cells lows highs
-    → length lows ≡ length cells
-ends_long cells v = rw (← v.low) (low_ends_long cells)
+pub low_of : {B : ℕ} {lows highs : List ℕ} (x : ℕ) → AreEnds B lows highs
+    → low_at (cells_of B lows highs) x ≡ get_or lows x 0
+low_of {B} {lows} {highs} x p = rw (← low_at_ends (cells_of B lows highs) x, low_list p)
 
-pub low_total : {B : ℕ} {cells : List (Iv B)} {lows highs : List ℕ} → IsViewed cells lows highs
-    → sum lows ≡ mass_low cells
-low_total {B} {cells} v = rw (← v.low) (sum-map (λ (c : Iv B). c.lo) cells)
+pub high_of : {B : ℕ} {lows highs : List ℕ} (x : ℕ) → AreEnds B lows highs
+    → high_at (cells_of B lows highs) x ≡ get_or highs x 0
+high_of {B} {lows} {highs} x p = rw (← high_at_ends (cells_of B lows highs) x, high_list p)
 
-pub high_total : {B : ℕ} {cells : List (Iv B)} {lows highs : List ℕ} → IsViewed cells lows highs
-    → sum highs ≡ mass_high cells
-high_total {B} {cells} v = rw (← v.high) (sum-map (λ (c : Iv B). c.hi) cells)
+pub ends_few : {B : ℕ} {lows highs : List ℕ} → AreEnds B lows highs → length lows ≤ most_cells
+ends_few p = size_few p.size
 
--- an end now, by its place
-pub low_at_now : {B : ℕ} {cells : List (Iv B)} {lows highs : List ℕ} (x : ℕ) → IsViewed cells lows highs
-    → get_or lows x 0 ≡ low_at cells x
-low_at_now {cells = cells} x v = rw (← v.low) (low_at_ends cells x)
+-- the sums of the first ends, and of all
+pub low_sum : {B : ℕ} {lows highs : List ℕ} (n : ℕ) → AreEnds B lows highs
+    → mass_low (take n (cells_of B lows highs)) ≡ sum (take n lows)
+low_sum {B} {lows} {highs} n p = sym (sum-map (λ (c : Iv B). c.lo) (take n (cells_of B lows highs)))
+    ∙ rw (← take-map, low_list p)
 
-pub high_at_now : {B : ℕ} {cells : List (Iv B)} {lows highs : List ℕ} (x : ℕ) → IsViewed cells lows highs
-    → get_or highs x 0 ≡ high_at cells x
-high_at_now {cells = cells} x v = rw (← v.high) (high_at_ends cells x)
+pub high_sum : {B : ℕ} {lows highs : List ℕ} (n : ℕ) → AreEnds B lows highs
+    → mass_high (take n (cells_of B lows highs)) ≡ sum (take n highs)
+high_sum {B} {lows} {highs} n p = sym (sum-map (λ (c : Iv B). c.hi) (take n (cells_of B lows highs)))
+    ∙ rw (← take-map, high_list p)
+
+pub low_total : {B : ℕ} {lows highs : List ℕ} → AreEnds B lows highs → mass_low (cells_of B lows highs) ≡ sum lows
+low_total {B} {lows} {highs} p = sym (sum-map (λ (c : Iv B). c.lo) (cells_of B lows highs)) ∙ ap sum (low_list p)
+
+pub high_total : {B : ℕ} {lows highs : List ℕ} → AreEnds B lows highs → mass_high (cells_of B lows highs) ≡ sum highs
+high_total {B} {lows} {highs} p = sym (sum-map (λ (c : Iv B). c.hi) (cells_of B lows highs)) ∙ ap sum (high_list p)
+
+-- they are a grid
+pub grid_of_ends : {B : ℕ} {lows highs : List ℕ} → AreEnds B lows highs → IsGrid (cells_of B lows highs)
+grid_of_ends {B} {lows} {highs} p = record {
+  some = rw (cells_long p) p.size.some;
+  few = rw (cells_long p) p.size.few;
+  small = small_cells (cells_of B lows highs) (2 ^ B) (rw (high_list p) p.small);
+  mass = rw (low_total p) p.mass;
+}
 
 -- the first cells, and one cell written
-pub ends_taken : {B : ℕ} {cells : List (Iv B)} {lows highs : List ℕ} (n : ℕ) → IsViewed cells lows highs → 1 ≤ n
-    → n ≤ length cells → AreEnds B lows highs → AreEnds B (take n lows) (take n highs)
-ends_taken {B} {cells} {lows} {highs} n v some within p =
-    let long = ends_long cells v in
-    let short = length-take-le n lows (omega arith) in
+pub ends_taken : {B : ℕ} {lows highs : List ℕ} (n : ℕ) → 1 ≤ n → n ≤ length lows → AreEnds B lows highs
+    → AreEnds B (take n lows) (take n highs)
+ends_taken {B} {lows} {highs} n some within p =
+    let short = length-take-le n lows within in
     let paired : length (take n highs) ≡ length (take n lows) =
     omega (arith, short, length-take-le n highs (omega (arith, p.paired)), p.paired) in
     record {
-      size = rw short (size_within p.size some (omega arith));
+      size = rw short (size_within p.size some within);
       paired = paired;
       ordered = λ x. elim (cases_lt x n) [
         | inl inside ↦ rw (get_or-take n lows x 0 inside, get_or-take n highs x 0 inside) (p.ordered x)
@@ -215,53 +208,53 @@ ends_taken {B} {cells} {lows} {highs} n v some within p =
       mass = omega (arith, p.mass, sum_by-take-le (λ (e : ℕ). e) lows n);
     }
 
-pub ends_set : {B : ℕ} {cells : List (Iv B)} {lows highs : List ℕ} (x : ℕ) (v : Iv B) → IsViewed cells lows highs
-    → x < length cells → v.hi ≤ 2 ^ B → mass_low cells - low_at cells x + v.lo ≤ 2 ^ B
-    → AreEnds B lows highs → AreEnds B (set lows x v.lo) (set highs x v.hi)
-ends_set {B} {cells} {lows} {highs} x v w inside top mass p =
-    let within : x < length lows = omega (arith, ends_long cells w) in
-    record {
-      size = rw length-set p.size;
-      paired = rw (length-set, length-set) p.paired;
-      ordered = λ y. elim (eqb_tells y x) [
-        | inl e ↦ rw (
-          e.1,
-          get_or-set_same lows x v.lo 0 within,
-          get_or-set_same highs x v.hi 0 (omega (arith, p.paired)),
-        ) v.ordered
-        | inr e ↦ rw (get_or-set_other lows x y v.lo 0 e.1, get_or-set_other highs x y v.hi 0 e.1) (p.ordered y)
-      ];
-      small = All-set (λ high. high ≤ 2 ^ B) highs x v.hi top p.small;
-      mass = omega (arith, mass, low_total w, low_at_now x w, sum_by-set (λ (e : ℕ). e) lows x v.lo 0 within);
-    }
+pub view_taken : {B : ℕ} {lows highs : List ℕ} (n : ℕ) → 1 ≤ n → n ≤ length lows → AreEnds B lows highs
+    → cells_of B (take n lows) (take n highs) ≡ take n (cells_of B lows highs)
+view_taken {B} {lows} {highs} n some within p =
+    let q : AreEnds B (take n lows) (take n highs) = ends_taken n some within p in
+    same_cells _ _ (rw (low_list q, ← take-map, low_list p)) (rw (high_list q, ← take-map, high_list p))
+
+pub ends_set : {B : ℕ} {lows highs : List ℕ} (x : ℕ) (v : Iv B) → x < length lows → v.hi ≤ 2 ^ B
+    → sum lows - get_or lows x 0 + v.lo ≤ 2 ^ B → AreEnds B lows highs → AreEnds B (set lows x v.lo) (set highs x v.hi)
+ends_set {B} {lows} {highs} x v within top mass p = record {
+  size = rw length-set p.size;
+  paired = rw (length-set, length-set) p.paired;
+  ordered = λ y. elim (eqb_tells y x) [
+    | inl e ↦ rw (
+      e.1,
+      get_or-set_same lows x v.lo 0 within,
+      get_or-set_same highs x v.hi 0 (omega (arith, p.paired)),
+    ) v.ordered
+    | inr e ↦ rw (get_or-set_other lows x y v.lo 0 e.1, get_or-set_other highs x y v.hi 0 e.1) (p.ordered y)
+  ];
+  small = All-set (λ high. high ≤ 2 ^ B) highs x v.hi top p.small;
+  mass = omega (arith, mass, sum_by-set (λ (e : ℕ). e) lows x v.lo 0 within);
+}
+
+pub view_set : {B : ℕ} {lows highs : List ℕ} (x : ℕ) (v : Iv B) → AreEnds B (set lows x v.lo) (set highs x v.hi)
+    → AreEnds B lows highs → cells_of B (set lows x v.lo) (set highs x v.hi) ≡ set (cells_of B lows highs) x v
+view_set x v q p =
+    same_cells _ _ (rw (low_list q, map-set, low_list p)) (rw (high_list q, map-set, high_list p))
 
 -- no end is above 2^56
 pub ends_below : {B : ℕ} (ends : List ℕ) → B ≤ 56 → All (λ e. e ≤ 2 ^ B) ends → All (λ e. e ≤ 2 ^ 56) ends
 ends_below {B} ends below small k d inside = omega (arith, small k d inside, one_fits B below)
 
 -- what the first n ends add up to fits: each is at most 1
-pub ends_fit : {B : ℕ} (ends : List ℕ) (n : ℕ) → IsGridSize B (length ends) → All (λ e. e ≤ 2 ^ B) ends
+ends_fit : {B : ℕ} (ends : List ℕ) (n : ℕ) → IsGridSize B (length ends) → All (λ e. e ≤ 2 ^ B) ends
     → sum (take n ends) ≤ 2 ^ 70
 ends_fit {B} ends n size small =
     let whole : sum ends ≤ length ends * 2 ^ B = sum_by-le (λ (e : ℕ). e) (2 ^ B) ends small in
     omega (arith, sum_by-take-le (λ (e : ℕ). e) ends n, whole, mass_fits size)
 
-pub ends_fit_all : {B : ℕ} (ends : List ℕ) → IsGridSize B (length ends) → All (λ e. e ≤ 2 ^ B) ends
-    → sum ends ≤ 2 ^ 70
-ends_fit_all {B} ends size small = rw (take_all (length ends) ends (omega arith)) at
-    (ends_fit {B = B} ends (length ends) size small)
+pub lows_fit : {B : ℕ} {lows highs : List ℕ} (n : ℕ) → AreEnds B lows highs → sum (take n lows) ≤ 2 ^ 70
+lows_fit {B} {lows} n p = ends_fit {B = B} lows n p.size (lows_small p)
 
-pub high_size : {B : ℕ} {lows highs : List ℕ} → AreEnds B lows highs → IsGridSize B (length highs)
-high_size p = rw p.paired p.size
+pub highs_fit : {B : ℕ} {lows highs : List ℕ} (n : ℕ) → AreEnds B lows highs → sum (take n highs) ≤ 2 ^ 70
+highs_fit {B} {highs = highs} n p = ends_fit {B = B} highs n (rw p.paired p.size) p.small
 
--- the sums of the first ends, by the cells
-pub low_sum : {B : ℕ} {cells : List (Iv B)} {lows highs ends : List ℕ} {total : ℕ} (n : ℕ)
-    → IsViewed cells lows highs → total ≡ sum (take n ends) → ends ≡ lows → total ≡ mass_low (take n cells)
-low_sum {B} {cells} n v e same = e ∙ rw (same, ← v.low, take-map) (sum-map (λ (c : Iv B). c.lo) (take n cells))
-
-pub high_sum : {B : ℕ} {cells : List (Iv B)} {lows highs ends : List ℕ} {total : ℕ} (n : ℕ)
-    → IsViewed cells lows highs → total ≡ sum (take n ends) → ends ≡ highs → total ≡ mass_high (take n cells)
-high_sum {B} {cells} n v e same = e ∙ rw (same, ← v.high, take-map) (sum-map (λ (c : Iv B). c.hi) (take n cells))
+pub high_total_fits : {B : ℕ} {lows highs : List ℕ} → AreEnds B lows highs → sum highs ≤ 2 ^ 70
+high_total_fits {highs = highs} p = rw (take_all (length highs) highs (omega arith)) at (highs_fit (length highs) p)
 
 -- the widths are what the high ends have more than the low ends
 pub spread_is : {B : ℕ} (cells : List (Iv B)) → mass_low cells + spread cells ≡ mass_high cells
@@ -276,25 +269,28 @@ spread_is {B} (c ∷ cs) =
       c.ordered,
     )
 
--- the cells of the first ends, and of ends with one written
-pub view_taken : {B : ℕ} {cells : List (Iv B)} {lows highs : List ℕ} (n : ℕ) → AreEnds B (take n lows) (take n highs)
-    → IsViewed cells lows highs
-    → cells_of B (take n lows) (take n highs) ≡ take n cells
-view_taken {B} {cells} {lows} {highs} n p v =
-    same_cells (cells_of B (take n lows) (take n highs)) (take n cells)
-    (low_list p ∙ ap (take n) (sym v.low) ∙ take-map (λ (c : Iv B). c.lo) n cells)
-    (high_list p ∙ ap (take n) (sym v.high) ∙ take-map (λ (c : Iv B). c.hi) n cells)
+pub first_order : {B : ℕ} {lows highs : List ℕ} (n : ℕ) → AreEnds B lows highs → sum (take n lows) ≤ sum (take n highs)
+first_order {B} {lows} {highs} n p =
+    omega (arith, low_sum n p, high_sum n p, spread_is (take n (cells_of B lows highs)))
 
-pub view_set : {B : ℕ} {cells : List (Iv B)} {lows highs : List ℕ} (x : ℕ) (v : Iv B)
-    → AreEnds B (set lows x v.lo) (set highs x v.hi) → IsViewed cells lows highs
-    → cells_of B (set lows x v.lo) (set highs x v.hi) ≡ set cells x v
-view_set {B} {cells} {lows} {highs} x v p w =
-    same_cells (cells_of B (set lows x v.lo) (set highs x v.hi)) (set cells x v)
-    (low_list p ∙ ap (λ ends. set ends x v.lo) (sym w.low) ∙ sym (map-set (λ (c : Iv B). c.lo) cells x v))
-    (high_list p ∙ ap (λ ends. set ends x v.hi) (sym w.high) ∙ sym (map-set (λ (c : Iv B). c.hi) cells x v))
+pub spread_of : {B : ℕ} {lows highs : List ℕ} → AreEnds B lows highs
+    → sum lows + spread (cells_of B lows highs) ≡ sum highs
+spread_of {B} {lows} {highs} p = omega (arith, low_total p, high_total p, spread_is (cells_of B lows highs))
+
+pub total_order : {B : ℕ} {lows highs : List ℕ} → AreEnds B lows highs → sum lows ≤ sum highs
+total_order p = omega (arith, spread_of p)
+
+-- the two ends that are read at a place
+pub read_ordered : {B : ℕ} {lows highs : List ℕ} {low high : ℕ} (x : ℕ) → AreEnds B lows highs → x < length lows
+    → low ≡ get_or lows x low → high ≡ get_or highs x high → (low ≤ high) × (high ≤ 2 ^ 127)
+read_ordered {B} {lows} {highs} {low} {high} x p inside e h =
+    let upper : x < length highs = omega (arith, inside, p.paired) in (
+      omega (arith, e, h, get_or_default_zero lows x low inside, get_or_default_zero highs x high upper, p.ordered x),
+      omega (arith, h, p.small x high upper, one_in_range B p.size.scale_below),
+    )
 
 -- the ends of zero
-nothing_at : (n x : ℕ) → get_or (replicate {A = ℕ} n 0) x 0 ≡ 0
+pub nothing_at : (n x : ℕ) → get_or (replicate {A = ℕ} n 0) x 0 ≡ 0
 nothing_at n x = elim (cases_lt x n) [
   | inl inside ↦ get_or-replicate {A = ℕ} n x 0 0 inside
   | inr past ↦ get_or-eq_default (replicate {A = ℕ} n 0) 0 {n = x} (omega (arith, length-replicate {A = ℕ} n 0))
@@ -307,16 +303,12 @@ zero_at n mass zero some = get_or-set_same (replicate {A = ℕ} n 0) 0 mass 0
 zero_at n mass (suc x) some = get_or-set_other (replicate {A = ℕ} n 0) 0 (suc x) mass 0 (omega arith)
     ∙ nothing_at n (suc x)
 
-pub zero_length : (n mass : ℕ) → length (set (replicate {A = ℕ} n 0) 0 mass) ≡ n
-zero_length n mass = rw length-set (length-replicate {A = ℕ} n 0)
-
 pub zero_ends : (B n : ℕ) → IsGridSize B n
     → AreEnds B (set (replicate {A = ℕ} n 0) 0 (2 ^ B)) (set (replicate {A = ℕ} n 0) 0 (2 ^ B))
 zero_ends B n size =
     let some = size.some in
-    let long = zero_length n (2 ^ B) in
     record {
-      size = rw long size;
+      size = rw (length-set, length-replicate) size;
       paired = refl;
       ordered = λ x. omega arith;
       small = All-set (λ e. e ≤ 2 ^ B) (replicate n 0) 0 (2 ^ B) (omega arith)
@@ -328,20 +320,23 @@ zero_ends B n size =
       );
     }
 
--- a cell's ends as they were read
-pub read_at : {B : ℕ} {cells : List (Iv B)} {lows highs : List ℕ} {low high : ℕ} (x : ℕ) → IsViewed cells lows highs
-    → x < length cells
-    → low ≡ get_or lows x low → high ≡ get_or highs x high → (low ≡ low_at cells x) × (high ≡ high_at cells x)
-read_at {B} {cells} {lows} {highs} {low} {high} x v inside e h =
-    let lower : x < length lows = omega (arith, ends_long cells v) in
-    let upper : x < length highs = omega (arith, high_ends_long cells, ap length v.high) in (
-      e ∙ get_or_default_zero lows x low lower ∙ low_at_now x v,
-      h ∙ get_or_default_zero highs x high upper ∙ high_at_now x v,
-    )
-
-pub read_small : {B : ℕ} {cells : List (Iv B)} {lows highs : List ℕ} {high : ℕ} (x : ℕ) → IsViewed cells lows highs
-    → x < length cells → AreEnds B lows highs
-    → high ≡ get_or highs x high → high ≤ 2 ^ B
-read_small {B} {cells} {lows} {highs} {high} x v inside p h =
-    let upper : x < length highs = omega (arith, high_ends_long cells, ap length v.high) in
-    omega (arith, h, p.small x high upper)
+-- what a grid's lists say of its cells
+pub ruleset views = (
+  low_list,
+  high_list,
+  cells_long,
+  ends_few,
+  low_of,
+  high_of,
+  low_sum,
+  high_sum,
+  low_total,
+  high_total,
+  lows_fit,
+  highs_fit,
+  high_total_fits,
+  first_order,
+  total_order,
+  spread_of,
+  grid_of_ends,
+)

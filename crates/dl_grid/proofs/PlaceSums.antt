@@ -1,10 +1,8 @@
 -- The mass and the spread of a list of cells as sums over its places.
-use Rattle.dl_grid.proofs.Common.{ℕ, zero, suc, ◌≡◌, ◌+◌, ◌-◌, ◌<◌, ◌≤◌, List, [], ◌∷◌, ◌++◌, length, take, arith, refl, ap, take_all, sum_by-cons, sum_by-take-le, Iv, low_at, high_at, mass_low, spread, count_below}
+use Rattle.dl_grid.proofs.Common.{ℕ, zero, suc, ◌≡◌, ◌+◌, ◌-◌, ◌<◌, ◌≤◌, List, [], ◌∷◌, ◌++◌, length, take, arith, refl, ap, take_all, sum_by-cons, sum_by-take-le, Iv, low_at, high_at, mass_low, spread, count_below, map-append, get_or_append_left, low_ends, high_ends}
 use Rattle.dl_exact.proofs.Counts.{below_first, below_none, below_nothing}
-use Rattle.std.proofs.lemmas.List.{map-append, get_or_append_left}
 use Rattle.std.proofs.Math.Seq.{get_or-append_seam}
 use Rattle.dl_grid.proofs.EndLists.{low_at_ends, high_at_ends, low_ends_long, high_ends_long, low_le_high}
-use Rattle.dl_grid.specs.Cells.{low_ends, high_ends}
 
 -- the width of cell x, 0 past the end
 abbrev pub width_at : {B : ℕ} → List (Iv B) → ℕ → ℕ

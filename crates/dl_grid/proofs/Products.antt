@@ -1,9 +1,6 @@
 -- Sums of products of whole numbers: how large they are, and how far two of them lie apart once each is rounded.
-use Rattle.dl_grid.proofs.Common.{ℕ, ◌≡◌, ◌+◌, ◌-◌, ◌*◌, ◌<◌, ◌≤◌, arith, ap, ◌∙◌, min, div_ceil, mul-le-mul, le_of_mul-le-mul_right, div_ceil_times, count_below}
-use Rattle.std.proofs.Common.{◌/◌}
-use Rattle.std.proofs.Math.Nat.{mul-le-mul_right, div-mul-le_self, div-add-mod, mul-sub, div-le_of_le-mul}
+use Rattle.dl_grid.proofs.Common.{ℕ, ◌≡◌, ◌+◌, ◌-◌, ◌*◌, ◌<◌, ◌≤◌, arith, ap, ◌∙◌, min, div_ceil, mul-le-mul, le_of_mul-le-mul_right, div_ceil_times, count_below, ◌/◌, mul-le-mul_right, div-mul-le_self, div-add-mod, mul-sub, div-le_of_le-mul, count_pairs}
 use Rattle.dl_iv.proofs.Rounding.{ceiling_reaches, floor_le_ceiling}
-use Rattle.dl_exact.specs.Count.{count_pairs}
 use Rattle.dl_exact.proofs.Counts.{below_more, below_le, below_plus, below_times, below_constant, pairs_same, pairs_plus, pairs_within}
 
 -- the products at places that add up to s, of numbers that add up to at most one each

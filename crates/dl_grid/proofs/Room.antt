@@ -1,7 +1,5 @@
 -- What a grid of an allowed size has room for: the only proofs that see how many cells are allowed at a scale.
-use Rattle.dl_grid.proofs.Common.{ℕ, ◌*◌, ◌^◌, ◌≤◌, inl, inr, arith, le_trans, mul-le-mul, mul-le-mul_right, pow-le-pow_right, IsGridSize, HasRoom}
-use Rattle.std.proofs.lemmas.Bool.Decides.{leb_tells}
-use Rattle.dl_limits.specs.Limits.{most_cells, long_bits, most_cells_at}
+use Rattle.dl_grid.proofs.Common.{ℕ, ◌*◌, ◌^◌, ◌≤◌, inl, inr, arith, le_trans, mul-le-mul, mul-le-mul_right, pow-le-pow_right, IsGridSize, HasRoom, leb_tells, most_cells, long_bits, most_cells_at}
 
 one_below : {B c : ℕ} → B ≤ c → 2 ^ B ≤ 2 ^ c
 one_below {B} {c} h = pow-le-pow_right {n = 2} (omega arith) {i = B} {j = c} h

@@ -1,7 +1,5 @@
 -- Sizes that a grid may have at each scale.
-use Rattle.dl_grid.proofs.Common.{ℕ, ◌≤◌, inl, inr, arith}
-use Rattle.std.proofs.lemmas.Bool.Decides.{leb_tells}
-use Rattle.dl_limits.specs.Limits.{most_fine_cells, long_bits, most_cells_at}
+use Rattle.dl_grid.proofs.Common.{ℕ, ◌≤◌, inl, inr, arith, leb_tells, most_fine_cells, long_bits, most_cells_at}
 
 -- what the finer scale allows, each scale allows
 pub few_at_each_scale : (B : ℕ) {n : ℕ} → n ≤ most_fine_cells → n ≤ most_cells_at B

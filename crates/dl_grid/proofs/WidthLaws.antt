@@ -1,8 +1,5 @@
 -- The width rule's laws, over plain numbers.
-use Rattle.dl_grid.proofs.Common.{ℕ, zero, suc, ◌≡◌, ◌+◌, ◌-◌, ◌*◌, ◌^◌, ◌<◌, ◌≤◌, arith, refl, sym, ap, subst, ◌∙◌, div_ceil, mul-le-mul, le_of_mul-le-mul_right, div_ceil_times, pow_pos}
-use Rattle.std.proofs.Common.{add-one}
-use Rattle.std.proofs.Math.Nat.{mul-le-mul_left, mul-pos}
-use Rattle.std.proofs.lemmas.Grind.{pow_more}
+use Rattle.dl_grid.proofs.Common.{ℕ, zero, suc, ◌≡◌, ◌+◌, ◌-◌, ◌*◌, ◌^◌, ◌<◌, ◌≤◌, arith, refl, sym, ap, subst, ◌∙◌, div_ceil, mul-le-mul, le_of_mul-le-mul_right, div_ceil_times, pow_pos, add-one, mul-le-mul_left, mul-pos, pow_more}
 use Rattle.dl_exact.specs.Fraction.{Fraction, ◌over◌}
 use Rattle.dl_exact.specs.Rounding.{IsCeiling}
 use Rattle.dl_exact.proofs.Over.{over_self}

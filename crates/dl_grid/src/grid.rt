@@ -69,6 +69,7 @@ impl<const B: u32> Grid<B> {
     }
 
     /// The first `cells` cells of a grid. No cells are added.
+    #[tactic(auto, using(crate::proofs::EndLists::views))]
     pub fn truncate(alloc: Global, g: &Grid<B>, cells: u32) -> Result<Self, AllocError>
         requires some { 1 ≤ cells }
         requires within { cells ≤ length g.now }
@@ -80,6 +81,7 @@ impl<const B: u32> Grid<B> {
     }
 
     /// How many cells there are, and what is true of those of every grid.
+    #[tactic(auto, using(crate::proofs::EndLists::views))]
     pub fn cells(&self) -> u32
         ensures count { result ≡ length self.now }
         ensures grid { IsGrid self.now }
@@ -88,6 +90,7 @@ impl<const B: u32> Grid<B> {
     }
 
     /// The low ends of the cells, in units of `1 / 2^B`.
+    #[tactic(auto, using(crate::proofs::EndLists::views))]
     pub fn lows(&self) -> &[u128]
         ensures ends { result.now ≡ low_ends self.now }
         ensures cells { length result.now ≡ length self.now }
@@ -101,6 +104,7 @@ impl<const B: u32> Grid<B> {
     }
 
     /// The high ends of the cells, in units of `1 / 2^B`.
+    #[tactic(auto, using(crate::proofs::EndLists::views))]
     pub fn highs(&self) -> &[u128]
         ensures ends { result.now ≡ high_ends self.now }
         ensures cells { length result.now ≡ length self.now }
@@ -114,6 +118,7 @@ impl<const B: u32> Grid<B> {
     }
 
     /// The probability of `x` buckets.
+    #[tactic(auto, using(crate::proofs::EndLists::views))]
     pub fn at(&self, x: u32) -> Iv<B>
         requires { x < length self.now }
         ensures low { result.lo ≡ low_at self.now x }
@@ -128,6 +133,7 @@ impl<const B: u32> Grid<B> {
 
     /// The probability of at most `x` buckets: the sums of the ends up to `x`, lowered to 1 where
     /// they are above it.
+    #[tactic(auto, using(crate::proofs::EndLists::views))]
     pub fn cdf(&self, x: u32) -> Iv<B>
         requires { x < length self.now }
         ensures low { result.lo ≡ min (mass_low (take (x + 1) self.now)) (2 ^ B) }
@@ -143,6 +149,7 @@ impl<const B: u32> Grid<B> {
     }
 
     /// The sum of the low ends, in units of `1 / 2^B`.
+    #[tactic(auto, using(crate::proofs::EndLists::views))]
     pub fn mass_low(&self) -> u128
         ensures units { result ≡ mass_low self.now }
         ensures small { result ≤ 2 ^ B }
@@ -151,6 +158,7 @@ impl<const B: u32> Grid<B> {
     }
 
     /// The sum of the widths, in units of `1 / 2^B`.
+    #[tactic(auto, using(crate::proofs::EndLists::views))]
     pub fn spread(&self) -> u128
         ensures { result ≡ spread self.now }
     {
@@ -160,6 +168,7 @@ impl<const B: u32> Grid<B> {
     }
 
     /// Writes one cell, and leaves the others as they are.
+    #[tactic(auto, using(crate::proofs::EndLists::views))]
     pub fn set(&mut self, x: u32, v: Iv<B>)
         requires within { x < length self.old }
         requires small { v.hi ≤ 2 ^ B }

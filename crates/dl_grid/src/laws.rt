@@ -7,18 +7,21 @@ ghost use Rattle.dl_exact.specs.Rounding.{IsCeiling};
 ghost use Rattle.dl_grid.specs.Width.{up, cv, pw, rounded_spread, IsSizeWithin};
 
 /// `up` is the ceiling, and of a quotient it is the quotient rounded up.
+#[tactic(auto, using(crate::proofs::WidthLaws::up_quotient))]
 pub fn law_up()
     ensures ceiling { (x : Fraction) → IsCeiling x (up x) }
     ensures quotient { (n d : ℕ) → 0 < d → up (n over d) ≡ div_ceil n d }
 {}
 
 /// More cells and wider operands never give a narrower convolution.
+#[tactic(auto, using(crate::proofs::WidthLaws::cv_rises))]
 pub fn law_cv_rises()
     ensures { (S k l x u y v : ℕ) → 0 < S → k ≤ l → x ≤ u → y ≤ v → cv S k x y ≤ cv S l u v }
 {}
 
 /// The spread of a power, case by case: of none, of one, of an even and of an odd number of
 /// factors.
+#[tactic(auto, using(crate::proofs::WidthLaws::pw_none, crate::proofs::WidthLaws::pw_one, crate::proofs::WidthLaws::pw_even, crate::proofs::WidthLaws::pw_odd))]
 pub fn law_pw()
     ensures none { (S k b : ℕ) → pw S k b 0 ≡ 0 }
     ensures one { (S k b : ℕ) → pw S k b 1 ≡ b }
@@ -27,6 +30,7 @@ pub fn law_pw()
 {}
 
 /// More cells and a wider base never give a narrower power.
+#[tactic(auto, using(crate::proofs::WidthLaws::pw_rises))]
 pub fn law_pw_rises()
     ensures { (S k l b c m : ℕ) → 0 < S → k ≤ l → b ≤ c → pw S k b m ≤ pw S l c m }
 {}
@@ -36,6 +40,7 @@ pub fn law_pw_rises()
 /// may add `more` units, as that of a listed count adds 2. So where `x'` is at most `c / (1 - c/S)`
 /// and `y'` at most `d / (1 - d/S)`, `z'` is at most the same of `c + d`: `n` operands of at most
 /// `c` come to at most that of `n * c`, in whatever order the steps join them.
+#[tactic(auto, using(crate::proofs::WidthLaws::size_step, crate::proofs::WidthLaws::size_one, crate::proofs::WidthLaws::size_joined))]
 pub fn law_size()
     ensures step { (S k more x y : ℕ) → 0 < S
         → (S + rounded_spread k more (cv S k x y + more)) * S

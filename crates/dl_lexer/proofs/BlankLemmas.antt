@@ -1,5 +1,5 @@
 -- Where a blank stands no token begins, and how long a comment is.
-use Rattle.dl_lexer.proofs.Common.{ℕ, zero, suc, ◌≡◌, ◌≢◌, ◌∙◌, ◌+◌, ◌<◌, ◌≤◌, List, [], ◌∷◌, length, take, drop, ◌-◌, sym, subst, Bool, true, false, ◌||◌, ◌==◌, cond, refl, ap, arith, Some, slice_get, prefix_len, nat_tests, Sign, Open, Close, Colon, Comma, Bang, is_letter, is_digit, IsNumeralToken, sign_byte, NoToken, blank_length}
+use Rattle.dl_lexer.proofs.Common.{ℕ, zero, suc, ◌≡◌, ◌≢◌, ◌∙◌, ◌+◌, ◌<◌, ◌≤◌, List, [], ◌∷◌, length, take, drop, ◌-◌, sym, subst, Bool, true, false, ◌||◌, ◌==◌, cond, refl, ap, arith, Some, slice_get, prefix_len, nat_tests, Sign, Open, is_letter, is_digit, IsNumeralToken, sign_byte, NoToken, blank_length}
 use Rattle.std.proofs.lemmas.List.{take_all}
 use Rattle.dl_lexer.specs.Bytes.{is_white, is_comment_byte}
 use Rattle.dl_lexer.proofs.Longest.{longest_none}
@@ -22,10 +22,7 @@ no_numeral b h = grind (arith, nat_tests)
 
 no_sign : (s : Sign) → (is_white (sign_byte s) || sign_byte s == 35) ≡ false
 no_sign Open = refl
-no_sign Close = refl
-no_sign Colon = refl
-no_sign Comma = refl
-no_sign Bang = refl
+no_sign _ = refl
 
 pub blank_no_token : (bytes : List ℕ) → 0 < blank_length bytes → NoToken bytes
 blank_no_token [] some = absurd (omega arith)

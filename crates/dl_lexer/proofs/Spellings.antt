@@ -1,5 +1,5 @@
 -- Words of keywords: a keyword is found by its spelling, so no two share one.
-use Rattle.dl_lexer.proofs.Common.{ℕ, ◌≡◌, ◌≢◌, ◌∙◌, ◌+◌, ◌<◌, ◌≤◌, List, [], ◌∷◌, length, get_or, drop, map, Bool, true, false, ◌&&◌, cond, refl, sym, ap, add-one, drop-cons, Some, IfSome, bytes_eq, bytes_eq-Decides, Keyword, list_all, is_word_byte, begins_with_letter, IsWord, spelling, first_spelled, and_parts}
+use Rattle.dl_lexer.proofs.Common.{ℕ, ◌≡◌, ◌≢◌, ◌∙◌, ◌+◌, ◌<◌, ◌≤◌, List, [], ◌∷◌, length, get_or, drop, map, Bool, true, false, cond, refl, sym, ap, add-one, drop-cons, Some, IfSome, bytes_eq, bytes_eq-Decides, Keyword, IsWord, spelling, first_spelled}
 use Rattle.std.proofs.Common.{Option, None, IfNone}
 use Rattle.std.proofs.lemmas.List.{drop_all}
 use Rattle.dl_lexer.specs.declared.token.Keyword.TheVariants.{Agg, Port, Claim, Claims, Loss, Prem, Premium, At, Lr, Dfreq, Dsev, Sev, Dhistogram, Xps, Xs, Inf, Occurrence, Aggregate, Net, Of, Ceded, To, And, So, Po, Fixed, Poisson, Bernoulli, Binomial, Mixed, Gamma, Wts, Lognorm, Expon, Pareto, Weibull, Norm, Uniform, Beta, Chistogram, Note, Geometric, Zt, Zm, Common}
@@ -15,50 +15,7 @@ keywords =
 pub found : (k : Keyword) → first_spelled keywords (spelling k) ≡ Some k
 unfolding first_spelled
 found Agg = refl
-found Port = refl
-found Claim = refl
-found Claims = refl
-found Loss = refl
-found Prem = refl
-found Premium = refl
-found At = refl
-found Lr = refl
-found Dfreq = refl
-found Dsev = refl
-found Sev = refl
-found Dhistogram = refl
-found Xps = refl
-found Xs = refl
-found Inf = refl
-found Occurrence = refl
-found Aggregate = refl
-found Net = refl
-found Of = refl
-found Ceded = refl
-found To = refl
-found And = refl
-found So = refl
-found Po = refl
-found Fixed = refl
-found Poisson = refl
-found Bernoulli = refl
-found Binomial = refl
-found Mixed = refl
-found Gamma = refl
-found Wts = refl
-found Lognorm = refl
-found Expon = refl
-found Pareto = refl
-found Weibull = refl
-found Norm = refl
-found Uniform = refl
-found Beta = refl
-found Chistogram = refl
-found Note = refl
-found Geometric = refl
-found Zt = refl
-found Zm = refl
-found Common = refl
+found _ = refl
 
 -- no two keywords share a spelling
 pub spelling_one : (a b : Keyword) → spelling a ≡ spelling b → a ≡ b
@@ -108,24 +65,7 @@ pub table_ends : {B : Type 0} (items : List (Keyword × B)) (i : ℕ) (bytes : L
 unfolding first_spelled
 table_ends items i bytes h = rw (drop_all i items h) refl
 
--- what holds of each of the table's keywords holds of each keyword
-every_in : (test : Keyword → Bool) (ks : List Keyword) (bytes : List ℕ) (k : Keyword) → list_all test ks ≡ true
-    → first_spelled ks bytes ≡ Some k → test k ≡ true
-unfolding first_spelled
-every_in test [] bytes k all e = absurd cc
-every_in test (j ∷ ks) bytes k all e =
-    let parts : (test j ≡ true) × (list_all test ks ≡ true) = and_parts (test j) (list_all test ks) all in
-    here (bytes_eq (spelling j) bytes) e parts.0 (every_in test ks bytes k parts.1)
-  where
-    here : (t : Bool) → cond t (Some j) (first_spelled ks bytes) ≡ Some k → test j ≡ true
-        → (first_spelled ks bytes ≡ Some k → test k ≡ true) → test k ≡ true
-    here true e passes later = let same : j ≡ k = cc in rw (sym same) passes
-    here false e passes later = later e
-
-is_word_at : Keyword → Bool
-is_word_at k = begins_with_letter (spelling k) && list_all is_word_byte (spelling k)
-
 -- each keyword is a word
 pub keyword_is_word : (k : Keyword) → IsWord (spelling k)
-unfolding is_word_at
-keyword_is_word k = every_in is_word_at keywords (spelling k) k refl (found k)
+keyword_is_word Agg = refl
+keyword_is_word _ = refl

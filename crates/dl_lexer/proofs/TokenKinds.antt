@@ -1,6 +1,7 @@
 -- What bytes that spell a token begin with, so that they spell a token of one kind, and where the longest one ends.
 use Rattle.dl_lexer.proofs.Common.{ℕ, zero, suc, ◌≡◌, ◌≢◌, ◌∙◌, ◌<◌, ◌≤◌, ◌⊎◌, List, [], ◌∷◌, ◌++◌, length, take, Bool, true, false, ◌||◌, ◌==◌, inl, inr, refl, sym, ap, arith, append_assoc, Some, slice_get, subst, list_all, nat_tests, length-take-le, append-nil, slice_get_within, Keyword, Sign, Open, Close, Colon, Comma, Bang, Kind, is_letter, is_digit, is_word_byte, spelling, IsDecimalToken, digits, digits_point, point_digits, percent, fraction, IsNumeralToken, a_decimal, a_percent, a_fraction, begins_with_letter, IsWord, IsNote, note, IsRef, ref, sign_byte, IsSpelled, IsToken, IsLongest, NoToken, and_parts}
-use Rattle.std.proofs.Common.{if◌then◌else◌}
+use Rattle.std.proofs.Common.{if◌then◌else◌, ◌&&◌}
+use Rattle.std.proofs.lemmas.Bool.{and_left, and_right, both_ways}
 use Rattle.dl_lexer.specs.declared.token.Kind.TheVariants as kind
 use Rattle.dl_lexer.specs.Numerals.{IsDigits}
 use Rattle.dl_lexer.proofs.Longest.{either}
@@ -65,17 +66,11 @@ ref_begins_s bs (ref name e word) = ap begins_with_n e
 
 pub sign_no_letter : (s : Sign) (bs : List ℕ) → bs ≡ sign_byte s ∷ [] → begins_with_letter bs ≡ false
 sign_no_letter Open bs e = ap begins_with_letter e
-sign_no_letter Close bs e = ap begins_with_letter e
-sign_no_letter Colon bs e = ap begins_with_letter e
-sign_no_letter Comma bs e = ap begins_with_letter e
-sign_no_letter Bang bs e = ap begins_with_letter e
+sign_no_letter _ bs e = ap begins_with_letter e
 
 pub sign_no_numeral : (s : Sign) (bs : List ℕ) → bs ≡ sign_byte s ∷ [] → begins_numeral bs ≡ false
 sign_no_numeral Open bs e = ap begins_numeral e
-sign_no_numeral Close bs e = ap begins_numeral e
-sign_no_numeral Colon bs e = ap begins_numeral e
-sign_no_numeral Comma bs e = ap begins_numeral e
-sign_no_numeral Bang bs e = ap begins_numeral e
+sign_no_numeral _ bs e = ap begins_numeral e
 
 word_spelled : (k : Keyword) (bs : List ℕ) → bs ≡ spelling k → IsWord bs
 word_spelled k bs e = subst IsWord (sym e) (keyword_is_word k)
@@ -95,10 +90,11 @@ kind_of bs =
 sign_told : (s : Sign) → sign_of (sign_byte s ∷ []) ≡ s
 unfolding sign_of
 sign_told Open = refl
-sign_told Close = refl
-sign_told Colon = refl
-sign_told Comma = refl
-sign_told Bang = refl
+sign_told _ = refl
+
+-- bytes that are no word spell no keyword
+no_keyword : (bs : List ℕ) → (begins_with_letter bs && list_all is_word_byte bs) ≡ false → (j : Keyword) → spelling j ≢ bs
+no_keyword bs other j e = both_ways _ other (word_spelled j bs (sym e))
 
 -- bytes spell a keyword, or they have the kind that they show
 kind_told : (k : Kind) (bs : List ℕ) → IsSpelled k bs
@@ -108,25 +104,17 @@ kind_told (kind.Word j) bs t = inl (j, refl, t)
 kind_told kind.Name bs t = let w = word_parts bs t.word in inr (rw (w.0, w.1) refl, t.no_keyword)
 kind_told kind.Note bs t =
     let other = note_no_word bs t in
-    inr (
-      rw (note_begins_letter bs t, other, note_begins_n bs t) refl,
-      λ j e. let w = word_parts bs (word_spelled j bs (sym e)) in cc,
-    )
+    inr (rw (note_begins_letter bs t, other, note_begins_n bs t) refl, no_keyword bs (and_right _ _ other))
 kind_told kind.Ref bs t =
     let other = ref_no_word bs t in
-    inr (
-      rw (ref_begins_letter bs t, other, ref_begins_s bs t) refl,
-      λ j e. let w = word_parts bs (word_spelled j bs (sym e)) in cc,
-    )
+    inr (rw (ref_begins_letter bs t, other, ref_begins_s bs t) refl, no_keyword bs (and_right _ _ other))
 kind_told kind.Numeral bs t =
     let other = no_letter bs (numeral_begins bs t) in
-    inr (rw (other, numeral_begins bs t) refl, λ j e. let w = word_parts bs (word_spelled j bs (sym e)) in cc)
+    inr (rw (other, numeral_begins bs t) refl, no_keyword bs (and_left _ _ other))
 kind_told (kind.Sign s) bs t =
     let other = sign_no_letter s bs t in
-    inr (
-      rw (other, sign_no_numeral s bs t) (ap kind.Sign (sym (ap sign_of t ∙ sign_told s))),
-      λ j e. let w = word_parts bs (word_spelled j bs (sym e)) in cc,
-    )
+    let sign = ap kind.Sign (sym (ap sign_of t ∙ sign_told s)) in
+    inr (rw (other, sign_no_numeral s bs t) sign, no_keyword bs (and_left _ _ other))
 
 -- bytes spell a token of at most one kind
 pub kind_one : (a b : Kind) (bs : List ℕ) → IsSpelled a bs → IsSpelled b bs → a ≡ b

@@ -1,14 +1,7 @@
 -- The ends of a distribution and of a layer, from those of the cells of an enclosing grid.
-use Rattle.dl_measures.proofs.Common.{◌≡◌, inl, inr, ℕ, suc, ◌+◌, ◌-◌, ◌<◌, ◌≤◌, min, arith, sym, ap, subst, subst₂, ◌∙◌, List, Some, fun_ext, cases_lt, Fraction, ◌over◌, count_below, below_grows, IsBound, AtMost, Holds, Loss, AreDeclarable, One, Cdf, Layer, score, partial_sums, total, Encloses, outcomes_rise, cdf_most_one, low_cdf, high_cdf}
-use Rattle.std.proofs.Math.Nat.{min-eq_left, min-eq_right}
+use Rattle.dl_measures.proofs.Common.{◌≡◌, inl, inr, ℕ, suc, ◌+◌, ◌-◌, ◌<◌, ◌≤◌, min, arith, sym, ap, subst, subst₂, ◌∙◌, List, Some, fun_ext, cases_lt, Fraction, ◌over◌, count_below, below_grows, IsBound, AtMost, Holds, Loss, AreDeclarable, One, Cdf, Layer, score, partial_sums, total, Encloses, outcomes_rise, cdf_most_one, low_cdf, high_cdf, min-eq_left, min-eq_right, over_one, over_rest, Point, above, survival, cdf_points, layer_survivals, to_holds, below_holds, above_ends, low_layer, high_layer}
 use Rattle.dl_exact.specs.Sum.{sum_to, sum_below}
-use Rattle.dl_exact.proofs.Denominators.{over_one, over_rest}
 use Rattle.dl_exact.proofs.SumsOver.{to_over, below_over}
-use Rattle.dl_model.specs.Program.{Point}
-use Rattle.dl_model.specs.Measures.{above, survival}
-use Rattle.dl_model.proofs.Scores.{cdf_points, layer_survivals}
-use Rattle.dl_model.proofs.Ends.{to_holds, below_holds, above_ends}
-use Rattle.dl_measures.specs.Ends.{low_layer, high_layer}
 
 pub cdf_ends : (us : List Loss) (S K : ℕ) (lo hi : ℕ → ℕ) → AreDeclarable us → 0 < S
     → Encloses S K lo hi (total us)

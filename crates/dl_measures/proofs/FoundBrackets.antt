@@ -1,9 +1,6 @@
 -- The bracket of a quantile from the ends of a grid's distribution, and how tight it is.
-use Rattle.dl_measures.proofs.Common.{◌≡◌, inl, inr, ℕ, suc, ◌+◌, ◌<◌, ◌≤◌, min, arith, sym, subst, ◌∙◌, List, Option, Some, Fraction, whole, ◌over◌, ◌+ℚ◌, ◌-ℚ◌, ◌≤ℚ◌, ◌<ℚ◌, over_same, over_le, lt_over, one_pos, le_trans, zero_le, AtMost, AtLeast, count_below, Loss, AreDeclarable, One, Cdf, partial_sums, total, Encloses, IsBracketed, low_cdf, high_cdf, IsTight, at_most_wider, below_grows, over_plus}
+use Rattle.dl_measures.proofs.Common.{◌≡◌, inl, inr, ℕ, suc, ◌+◌, ◌<◌, ◌≤◌, min, arith, sym, subst, ◌∙◌, List, Option, Some, Fraction, whole, ◌over◌, ◌+ℚ◌, ◌-ℚ◌, ◌≤ℚ◌, ◌<ℚ◌, over_same, over_le, lt_over, one_pos, le_trans, zero_le, AtMost, AtLeast, count_below, Loss, AreDeclarable, One, Cdf, partial_sums, total, Encloses, IsBracketed, low_cdf, high_cdf, IsTight, at_most_wider, below_grows, over_plus, over_sub, by_two, plus_le_plus, lt_or_le, le_of_lt, sub_plus, plus_le_cancel, at_least_wider}
 use Rattle.std.proofs.Common.{mul-pos, mul-le-mul_right}
-use Rattle.dl_exact.proofs.Over.{over_sub}
-use Rattle.dl_exact.proofs.Laws.{by_two, plus_le_plus, lt_or_le, le_of_lt, sub_plus, plus_le_cancel}
-use Rattle.dl_model.proofs.Declared.{at_least_wider}
 use Rattle.dl_measures.proofs.CellEnds.{cdf_ends}
 
 pub bracket : (us : List Loss) (S K : ℕ) (lo hi : ℕ → ℕ) (p : Fraction) (a : ℕ) (b : Option ℕ) → AreDeclarable us

@@ -1,14 +1,8 @@
 -- The means of layers, from the ends that a grid gives.
-use Rattle.dl_measures.proofs.Common.{ℕ, suc, ◌≡◌, inl, inr, ◌+◌, ◌-◌, ◌*◌, ◌^◌, ◌<◌, ◌≤◌, min, List, length, arith, sym, ap, subst, ◌∙◌, Option, Some, None, mul-le-mul_right, fun_ext, pow_pos, cases_lt, whole, ◌over◌, ◌+ℚ◌, ◌*ℚ◌, ◌≤ℚ◌, over_le, over_same, one_pos, zero_le, Iv, low_at, high_at, spread, IsGrid, cells_fit, scale_of, one_fits, AtLeast, AtMost, Holds, count_below, Loss, One, Layer, score, partial_sums, total, GridEncloses, AreDeclared, at_most_wider, outcomes_rise, over_plus, below_more, below_bound, are_units, quantity_bounded}
-use Rattle.dl_exact.proofs.Laws.{zero_times}
-use Rattle.dl_model.specs.Series.{plus}
-use Rattle.dl_model.specs.Program.{Mean}
+use Rattle.dl_measures.proofs.Common.{ℕ, suc, ◌≡◌, inl, inr, ◌+◌, ◌-◌, ◌*◌, ◌^◌, ◌<◌, ◌≤◌, min, List, length, arith, sym, ap, subst, ◌∙◌, Option, Some, None, mul-le-mul_right, fun_ext, pow_pos, cases_lt, whole, ◌over◌, ◌+ℚ◌, ◌*ℚ◌, ◌≤ℚ◌, over_le, over_same, one_pos, zero_le, Iv, low_at, high_at, spread, IsGrid, cells_fit, scale_of, one_fits, AtLeast, AtMost, Holds, count_below, Loss, One, Layer, score, partial_sums, total, GridEncloses, AreDeclared, at_most_wider, outcomes_rise, over_plus, below_more, below_bound, are_units, quantity_bounded, zero_times, plus, Mean, mean_split, excess_ends, layer_width}
 use Rattle.dl_model.proofs.Minus.{at_most_minus}
-use Rattle.dl_model.proofs.Scores.{mean_split}
-use Rattle.dl_model.proofs.Ends.{excess_ends}
 use Rattle.dl_measures.proofs.CellEnds.{layer_ends}
-use Rattle.dl_measures.proofs.Widths.{layer_width as layer_apart}
-use Rattle.dl_grid.specs.Width.{layer_width}
+use Rattle.dl_measures.proofs.Widths.{rests}
 use Rattle.dl_plan.specs.Horizon.{edge_of}
 use Rattle.dl_measures.specs.Layers.{layer_most}
 use Rattle.dl_measures.proofs.Sums.{apart, low_most}
@@ -36,11 +30,8 @@ with_limit {B} cells us limit attachment grid d e inside =
 pub limit_width : {B : ℕ} (cells : List (Iv B)) (limit attachment : ℕ)
     → high_units cells limit attachment - low_units cells limit attachment ≤ limit * spread cells
 limit_width {B} cells limit attachment =
-    omega (
-      arith,
-      layer_apart (2 ^ B) limit attachment (spread cells) (low_at cells) (high_at cells)
-          (λ i h. apart cells (suc (attachment + i))),
-    )
+    let wide = rests (2 ^ B) (spread cells) limit (λ i. count_below (suc (attachment + i)) (low_at cells)) _
+    (λ i h. apart cells (suc (attachment + i))) in omega arith
 
 -- what a layer below leaves of the mean of the total
 excess_low : (us : List Loss) (attachment S l h m n : ℕ) → 0 < S → AreDeclared us
@@ -107,9 +98,6 @@ pub low_more : {B : ℕ} (cells : List (Iv B)) (attachment i s t d : ℕ) → s 
 low_more {B} cells attachment i s t d e h k =
     omega (
       arith,
-      e,
-      h,
-      k,
       ap (λ n. count_below n (high_at cells)) (next attachment i),
       below_more i (λ i. 2 ^ B - min (2 ^ B) (count_below (suc (attachment + i)) (high_at cells))),
     )
@@ -120,9 +108,6 @@ pub high_more : {B : ℕ} (cells : List (Iv B)) (attachment i s t d : ℕ) → s
 high_more {B} cells attachment i s t d e h k =
     omega (
       arith,
-      e,
-      h,
-      k,
       ap (λ n. count_below n (low_at cells)) (next attachment i),
       below_more i (λ i. 2 ^ B - count_below (suc (attachment + i)) (low_at cells)),
     )
@@ -140,7 +125,7 @@ pub mean_fits : {B : ℕ} (cells : List (Iv B)) (attachment i s t d : ℕ) → I
     → s ≡ high_units cells i attachment → t ≡ 2 ^ B - d → s + t ≤ 2 ^ 71
 mean_fits {B} cells attachment i s t d grid inside e h =
     let scale : B ≤ 56 = (scale_of cells grid.some).1 in
-    omega (arith, e, h, high_units_most cells i attachment, cells_fit cells i grid inside, one_fits B scale)
+    omega (arith, high_units_most cells i attachment, cells_fit cells i grid inside, one_fits B scale)
 
 -- ---- what a call answers, from the cells that it has seen
 
@@ -152,10 +137,10 @@ module _ {B : ℕ} (cells : List (Iv B)) (limit : Option ℕ) (attachment k lo h
   some_holds us grid d e inside = rw (is, low, high) (with_limit cells us k attachment grid d e (rw is at inside))
 
   pub some_width : (mean : ℕ) → hi - lo ≤ layer_width limit attachment mean (spread cells)
-  some_width mean = rw is (omega (arith, low, high, limit_width cells k attachment))
+  some_width mean = rw is (omega (arith, limit_width cells k attachment))
 
   pub some_most : (mean : ℕ) → hi ≤ layer_most limit (2 ^ B) mean
-  some_most mean = rw is (omega (arith, high, high_units_most cells k attachment))
+  some_most mean = rw is (omega (arith, high_units_most cells k attachment))
 
 module _ {B : ℕ} (cells : List (Iv B)) (limit : Option ℕ) (attachment lo hi l h m n : ℕ)
     (low : l ≡ low_units cells attachment 0) (high : h ≡ high_units cells attachment 0) (left_low : lo ≡ m - h)
@@ -169,4 +154,4 @@ module _ {B : ℕ} (cells : List (Iv B)) (limit : Option ℕ) (attachment lo hi 
 
   pub none_width : m ≤ n → hi - lo ≤ layer_width limit attachment (n - m) (spread cells)
   none_width ordered =
-      rw is (omega (arith, left_low, left_high, low, high, no_limit_width cells attachment m n ordered))
+      rw is (omega (arith, no_limit_width cells attachment m n ordered))

@@ -1,4 +1,4 @@
-mod Common
+pub mod Common
 pub mod CellEnds
 mod FoundBrackets
 mod Widths

@@ -1,21 +1,12 @@
 -- From the excess over the low end of a bracket to the tail mean.
-use Rattle.dl_measures.proofs.Common.{ℕ, suc, ◌≡◌, inl, inr, ◌+◌, ◌-◌, ◌*◌, ◌/◌, ◌^◌, ◌<◌, ◌≤◌, min, List, length, arith, sym, ap, ap₂, subst, subst₂, ◌∙◌, Some, None, div_ceil, mul-le-mul, mul-le-mul_right, pow_pos, cases_lt, Fraction, whole, ◌over◌, ◌+ℚ◌, ◌-ℚ◌, ◌*ℚ◌, ◌≤ℚ◌, ◌<ℚ◌, over_self, over_same, over_le, over_lt, one_pos, lt_not_le, Iv, low_at, high_at, spread, IsGrid, IsBound, AtMost, AtLeast, Holds, count_below, Loss, One, Cdf, Layer, partial_sums, total, Encloses, IsQuantile, AreDeclared, low_cdf, high_cdf, IsTight, at_most_wider, are_units, quantity_bounded, IsFirstAtLeast, IsFirstFound}
-use Rattle.dl_exact.proofs.BelowOne.{num_below}
-use Rattle.std.proofs.Common.{div-add-mod', get_or}
-use Rattle.std.proofs.Math.Nat.{mul-le-mul_left, mul-pos, div-mul-le_self, div-le_self, mod-lt, add-sub_of_le}
+use Rattle.dl_measures.proofs.Common.{ℕ, suc, ◌≡◌, inl, inr, ◌+◌, ◌-◌, ◌*◌, ◌/◌, ◌^◌, ◌<◌, ◌≤◌, min, List, length, arith, sym, ap, ap₂, subst, subst₂, ◌∙◌, Some, None, div_ceil, mul-le-mul, mul-le-mul_right, pow_pos, cases_lt, Fraction, whole, ◌over◌, ◌+ℚ◌, ◌-ℚ◌, ◌*ℚ◌, ◌≤ℚ◌, ◌<ℚ◌, over_self, over_same, over_le, over_lt, one_pos, lt_not_le, Iv, low_at, high_at, spread, IsGrid, IsBound, AtMost, AtLeast, Holds, count_below, Loss, One, Cdf, Layer, partial_sums, total, Encloses, IsQuantile, AreDeclared, low_cdf, high_cdf, IsTight, at_most_wider, are_units, quantity_bounded, IsFirstAtLeast, IsFirstFound, num_below, div-add-mod', get_or, mul-le-mul_left, mul-pos, div-mul-le_self, div-le_self, mod-lt, add-sub_of_le, ◌/ℚ◌, over_add, over_mul, over_div, le_of_lt, lt_of_le_of_lt, size_of, width_within, Tail, tail_width}
 use Rattle.std.proofs.lemmas.List.Sums.{sum_by-le}
-use Rattle.dl_exact.specs.Fraction.{◌/ℚ◌}
-use Rattle.dl_exact.proofs.Over.{over_add, over_mul, over_div}
-use Rattle.dl_exact.proofs.Laws.{le_of_lt, lt_of_le_of_lt}
 use Rattle.dl_exact.proofs.RoundingLaws.{div_ceil_least}
 use Rattle.dl_iv.proofs.Rounding.{ceiling_reaches}
 use Rattle.dl_grid.proofs.WidthLaws.{up_quotient}
-use Rattle.dl_grid.proofs.CellLaws.{size_of, width_within}
 use Rattle.dl_grid.proofs.Room.{masses_fit}
-use Rattle.dl_model.specs.Program.{Tail}
 use Rattle.dl_model.proofs.TailEnds.{tail_most}
 use Rattle.dl_model.proofs.PriceLaws.{tail_start, tail_bracket}
-use Rattle.dl_grid.specs.Width.{tail_width}
 use Rattle.dl_measures.proofs.Sums.{low_high, low_most}
 use Rattle.dl_measures.proofs.CellEnds.{cdf_ends}
 
@@ -72,7 +63,7 @@ module _ (S k d a : ℕ) (s : 0 < S) (pos : 0 < k) where
       (omega (arith, mul-le-mul_right (S * (k * S)) numbers)))
     where
       scaled : (t o : ℕ) → l ≡ t + o → (q : ℕ) → q * k ≤ t * d → (a * S + q) * k + o * d ≤ a * S * k + d * l
-      scaled t o split q below = omega (arith, ap (λ x. d * x) split, below)
+      scaled t o split q below = omega (arith, ap (λ x. d * x) split)
 
       numbers : m * k + c * (d * w) ≤ a * S * k + d * l
       numbers = omega (
@@ -98,7 +89,7 @@ pub short_of : (us : List Loss) (S K : ℕ) (lo hi : ℕ → ℕ) (p : Fraction)
     → (x : ℕ) → x < a → AtMost (partial_sums us (Cdf x)) (partial_sums us One) p
 short_of us S K lo hi p a declared s e first x before =
     at_most_wider (partial_sums us (Cdf x)) (partial_sums us One) (high_cdf S hi x) p
-    (cdf_ends us S K lo hi (are_units us declared) s e x (omega (arith, first.within))).1
+    (cdf_ends us S K lo hi (are_units us declared) s e x (omega arith)).1
     (le_of_lt _ _ (first.before x before))
 
 module _ (us : List Loss) (p : Fraction) (S a b w : ℕ) (s : 0 < S) (declared : AreDeclared us) (below : p <ℚ whole 1)
@@ -126,7 +117,6 @@ module _ (us : List Loss) (p : Fraction) (S a b w : ℕ) (s : 0 < S) (declared :
       none : l < (b - a) * w → m * 1 ≡ a * S
       none less = omega (
         arith,
-        e,
         div-le_self ((l - (b - a) * w) * p.den) (p.den - p.num),
         ap (λ t. t * p.den) (nothing_left l ((b - a) * w) less),
       )
@@ -161,11 +151,9 @@ pub tail_narrow : (p : Fraction) (S a b K w M l h m n : ℕ) → p <ℚ whole 1 
 tail_narrow p S a b K w M l h m n below a_in b_in narrow low high =
     omega (
       arith,
-      low,
-      high,
       up_quotient ((2 * M + 3 * K * w) * p.den) (p.den - p.num) (rest_above p below),
       quotients_apart (p.den - p.num) p.den (l - (b - a) * w) h (2 * M + 3 * K * w) (rest_above p below)
-          (omega (arith, narrow, mul-le-mul_right w a_in, mul-le-mul_right w (further a b K b_in))),
+          (omega (arith, mul-le-mul_right w a_in, mul-le-mul_right w (further a b K b_in))),
     )
   where
     further : (a b K : ℕ) → b ≤ K → b - a ≤ K
@@ -180,7 +168,6 @@ pub tail_most_units : (p : Fraction) (S a K M h n : ℕ) → p <ℚ whole 1 → 
 tail_most_units p S a K M h n below a_in small high =
     omega (
       arith,
-      high,
       mul-le-mul_right S a_in,
       mul-le-mul_right p.den small,
       ceiling_within (h * p.den) (p.den - p.num) (rest_above p below),

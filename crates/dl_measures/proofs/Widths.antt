@@ -14,7 +14,7 @@ mass us S K lo hi e k w s c b pos (suc x) nk = elim (cases_lt S (count_below (su
   | inl l ↦ absurd (not_both (partial_sums us One) (outcomes_rise us w (score One)) e k b pos (partial_sums us (Cdf x))
       (low_cdf S lo x)
       (cdf_ends us S K lo hi w s c x (omega arith)).0
-      (whole 1, over_lt 1 1 (count_below (suc x) lo) S one_pos s (omega (arith, l)), cdf_most_one us x))
+      (whole 1, over_lt 1 1 (count_below (suc x) lo) S one_pos s (omega arith), cdf_most_one us x))
 ]
 
 -- the widths of the cells add up
@@ -22,18 +22,11 @@ pub spread : (n : ℕ) (lo hi : ℕ → ℕ) → ((y : ℕ) → y < n → lo y �
     → count_below n hi ≡ count_below n lo + count_below n (λ y. hi y - lo y)
 unfolding count_below
 spread zero lo hi h = omega arith
-spread (suc n) lo hi h = let a = h n (omega arith) in omega (arith, spread n lo hi (λ y b. h y (omega arith)))
+spread (suc n) lo hi h = omega (arith, h n (omega arith), spread n lo hi (λ y b. h y (omega arith)))
 
-rests : (S w L : ℕ) (f g : ℕ → ℕ) → ((i : ℕ) → i < L → g i ≤ f i + w)
+-- so a finite layer is no wider than its limit times the spread
+pub rests : (S w L : ℕ) (f g : ℕ → ℕ) → ((i : ℕ) → i < L → g i ≤ f i + w)
     → count_below L (λ i. S - f i) ≤ count_below L (λ i. S - min S (g i)) + L * w
 unfolding count_below
 rests S w zero f g h = omega arith
-rests S w (suc L) f g h =
-    let a = h L (omega arith) in let b = rests S w L f g (λ i c. h i (omega arith)) in omega (arith, a, b)
-
--- a finite layer is no wider than the limit times the spread
-pub layer_width : (S L A w : ℕ) (lo hi : ℕ → ℕ)
-    → ((i : ℕ) → i < L → count_below (suc (A + i)) hi ≤ count_below (suc (A + i)) lo + w)
-    → count_below L (λ i. S - count_below (suc (A + i)) lo) ≤ count_below L
-    (λ i. S - min S (count_below (suc (A + i)) hi)) + L * w
-layer_width S L A w lo hi h = rests S w L (λ i. count_below (suc (A + i)) lo) (λ i. count_below (suc (A + i)) hi) h
+rests S w (suc L) f g h = omega (arith, h L (omega arith), rests S w L f g (λ i c. h i (omega arith)))

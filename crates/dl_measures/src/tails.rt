@@ -20,6 +20,7 @@ use dl_iv::Iv;
 
 /// What lies above, for each part of the tail: the quotients by `1 - p`, of which the low end is
 /// lowered first by `slack` units.
+#[tactic(auto, using(dl_exact::proofs::BelowOne::num_below))]
 fn over_the_rest<const B: u32>(excess: Iv<B>, slack: u128, p: Frac) -> Iv<B>
     requires below_one { p <ℚ whole 1 }
     requires small { p.den ≤ 1000000000 }

@@ -1,58 +1,43 @@
 -- Counts added up: exact counts and trials.
-use Rattle.dl_model.proofs.Common.{◌≡◌, inl, inr, ℕ, suc, zero, ◌+◌, ◌-◌, ◌*◌, ◌^◌, ◌<◌, ◌≤◌, arith, refl, sym, ap, ap₂, ◌∙◌, ne_eqb, eq-eqb, mul-pos, pow-suc, fun_ext, one-le-pow, pow-zero, cases_lt, cases_eq, Fraction, ◌over◌, ◌+ℚ◌, ◌*ℚ◌, whole, choose, sum_to, sum_pairs, over_same, over_mul, one_pos, zero_times, zero_plus, plus_zero, one_times, sum_pairs_same, sum_pairs_none, convolve, at_zero, power, where_true, fixed, binomial, IsSeverity, over_plus}
+use Rattle.dl_model.proofs.Common.{◌≡◌, inl, inr, ℕ, suc, zero, ◌+◌, ◌-◌, ◌*◌, ◌^◌, ◌<◌, ◌≤◌, arith, refl, sym, ap, ap₂, ◌∙◌, mul-pos, pow-suc, fun_ext, one-le-pow, pow-zero, cases_lt, cases_eq, Fraction, ◌over◌, ◌+ℚ◌, ◌*ℚ◌, whole, choose, sum_to, sum_pairs, over_same, over_mul, one_pos, zero_times, zero_plus, plus_zero, one_times, sum_pairs_none, convolve, at_zero, power, fixed, binomial, IsSeverity, over_plus, subst}
+use Rattle.dl_model.proofs.Picks.{on, off}
 
 -- at most one claim
 module _ (h : ℕ → Fraction) (few : (i : ℕ) → h (suc (suc i)) ≡ whole 0) (g : ℕ → Fraction) where
-  pub none_or_one_zero : convolve h g zero ≡ h zero *ℚ g zero
-  unfolding sum_pairs
-  none_or_one_zero = refl
-
   pub none_or_one : (n : ℕ) → convolve h g (suc n) ≡ h zero *ℚ g (suc n) +ℚ h 1 *ℚ g n
   unfolding sum_pairs
   none_or_one zero = refl
-  none_or_one (suc n) = ap (λ t. h zero *ℚ g (suc (suc n)) +ℚ t)
-      (ap (λ t. h 1 *ℚ g (suc n) +ℚ t) (sum_pairs_same n _ _ (λ i j e. ap (λ t. t *ℚ g j) (few i) ∙ zero_times _)
-      ∙ sum_pairs_none n) ∙ plus_zero _)
+  none_or_one (suc n) = simp (few, zero_times, sum_pairs_none n, plus_zero)
 
 -- ---- exactly m claims
 
-fixed_is : (m n : ℕ) → n ≡ m → fixed m n ≡ whole 1
-fixed_is m n e = ap (λ b. where_true b (whole 1)) (eq-eqb n m e)
-
-fixed_is_not : (m n : ℕ) → (n ≡ m → ⊥) → fixed m n ≡ whole 0
-fixed_is_not m n e = ap (λ b. where_true b (whole 1)) (ne_eqb n m e)
-
 pub fixed_past : (m n : ℕ) → m < n → fixed m n ≡ whole 0
-fixed_past m n h = fixed_is_not m n (λ e. omega (arith, e))
+fixed_past m n h = off n m (whole 1) (λ e. omega (arith, e))
 
 fixed_shift : (m n : ℕ) → fixed m n ≡ fixed (suc m) (suc n)
 fixed_shift m n = elim (cases_eq n m) [
-  | inl e ↦ fixed_is m n e ∙ sym (fixed_is (suc m) (suc n) (omega arith))
-  | inr e ↦ fixed_is_not m n e ∙ sym (fixed_is_not (suc m) (suc n) (omega arith))
+  | inl e ↦ on n m (whole 1) e ∙ sym (on (suc n) (suc m) (whole 1) (omega arith))
+  | inr e ↦ off n m (whole 1) e ∙ sym (off (suc n) (suc m) (whole 1) (omega arith))
 ]
 
 pub fixed_power : (m : ℕ) → power (fixed 1) m ≡ fixed m
-unfolding power at_zero
+unfolding power at_zero sum_pairs
 fixed_power zero = fun_ext start
   where
     start : (n : ℕ) → at_zero n ≡ fixed zero n
-    start zero = sym (fixed_is zero zero refl)
-    start (suc n) = sym (fixed_is_not zero (suc n) (λ e. omega (arith, e)))
+    start zero = sym (on zero zero (whole 1) refl)
+    start (suc n) = sym (off (suc n) zero (whole 1) (λ e. omega (arith, e)))
 fixed_power (suc m) = ap (convolve (fixed 1)) (fixed_power m) ∙ fun_ext next
   where
-    few : (i : ℕ) → fixed 1 (suc (suc i)) ≡ whole 0
-    few i = fixed_is_not 1 (suc (suc i)) (λ e. omega (arith, e))
+    none : fixed 1 zero ≡ whole 0
+    none = off zero 1 (whole 1) (λ e. omega (arith, e))
 
     next : (n : ℕ) → convolve (fixed 1) (fixed m) n ≡ fixed (suc m) n
-    next zero =
-        none_or_one_zero (fixed 1) few (fixed m)
-        ∙ ap (λ t. t *ℚ fixed m zero) (fixed_is_not 1 zero (λ e. omega (arith, e))) ∙ zero_times _
-        ∙ sym (fixed_is_not (suc m) zero (λ e. omega (arith, e)))
+    next zero = ap (λ t. t *ℚ fixed m zero) none ∙ zero_times _ ∙ sym (off zero (suc m) (whole 1) (λ e. omega (arith, e)))
     next (suc n) =
-        none_or_one (fixed 1) few (fixed m) n
-        ∙ ap₂ (λ s t. s +ℚ t) (ap (λ t. t *ℚ fixed m (suc n)) (fixed_is_not 1 zero (λ e. omega (arith, e)))
-        ∙ zero_times _) (ap (λ t. t *ℚ fixed m n) (fixed_is 1 1 refl) ∙ one_times _)
-        ∙ zero_plus _ ∙ fixed_shift m n
+        none_or_one (fixed 1) (λ i. off (suc (suc i)) 1 (whole 1) (λ e. omega (arith, e))) (fixed m) n
+        ∙ ap₂ (λ s t. s +ℚ t) (ap (λ t. t *ℚ fixed m (suc n)) none ∙ zero_times _)
+        (ap (λ t. t *ℚ fixed m n) (on 1 1 (whole 1) refl) ∙ one_times _) ∙ zero_plus _ ∙ fixed_shift m n
 
 -- ---- m trials
 
@@ -64,11 +49,11 @@ choose-above (suc m) (suc k) h = omega (arith, choose-above m k (omega arith), c
 
 module _ (a b : ℕ) (pos : 0 < b) where
   -- the numerator: the ways to choose the claims, times those of each trial
-  numerator : ℕ → ℕ → ℕ
+  abbrev numerator : ℕ → ℕ → ℕ
   numerator m n = choose m n * a ^ n * (b - a) ^ (m - n)
 
   numerator_zero : (m : ℕ) → numerator (suc m) zero ≡ (b - a) * numerator m zero
-  unfolding numerator choose
+  unfolding choose
   numerator_zero m =
       let q = b - a in
       let d : suc m - zero ≡ suc m = omega arith in
@@ -76,7 +61,7 @@ module _ (a b : ℕ) (pos : 0 < b) where
       rw (d, e, pow-suc q m) (omega arith)
 
   numerator_next : (m n : ℕ) → numerator (suc m) (suc n) ≡ (b - a) * numerator m (suc n) + a * numerator m n
-  unfolding numerator choose
+  unfolding choose
   numerator_next m n =
       let q = b - a in
       let d : suc m - suc n ≡ m - n = omega arith in
@@ -84,14 +69,7 @@ module _ (a b : ℕ) (pos : 0 < b) where
         | inl l ↦
             let e : m - n ≡ suc (m - suc n) = omega arith in
             rw (e, pow-suc q (m - suc n)) (omega arith)
-        | inr l ↦ omega (
-          arith,
-          ap (λ t. t * (a ^ n * a)) (choose-above m (suc n) (omega arith)),
-          ap
-              (λ t. q * (t * (a ^ n * a) * q ^ (m - suc n))) (choose-above m (suc n) (omega arith)),
-          ap
-              (λ t. t * (a ^ n * a) * q ^ (m - n)) (choose-above m (suc n) (omega arith)),
-        )
+        | inr l ↦ rw (choose-above m (suc n) (omega arith)) (omega arith)
       ])
 
   below : (m : ℕ) → 0 < b ^ m
@@ -122,14 +100,10 @@ module _ (a b : ℕ) (pos : 0 < b) where
 
   one_trial_more : (i : ℕ) → binomial 1 a b (suc (suc i)) ≡ whole 0
   one_trial_more i = over_same _ _ 0 1 (below 1) one_pos
-      (omega (
-        arith,
-        ap (λ c. c * a ^ suc (suc i) * (b - a) ^ (1 - suc (suc i)))
-            (choose-above 1 (suc (suc i)) (omega arith)),
-      ))
+      (rw (choose-above 1 (suc (suc i)) (omega arith)) (omega arith))
 
   pub binomial_power : (m : ℕ) → power (binomial 1 a b) m ≡ binomial m a b
-  unfolding power numerator
+  unfolding power sum_pairs
   binomial_power zero = fun_ext no_trial
   binomial_power (suc m) = ap (convolve (binomial 1 a b)) (binomial_power m) ∙ fun_ext next
     where
@@ -138,8 +112,7 @@ module _ (a b : ℕ) (pos : 0 < b) where
 
       next : (n : ℕ) → convolve (binomial 1 a b) (binomial m a b) n ≡ binomial (suc m) a b n
       next zero =
-          none_or_one_zero (binomial 1 a b) one_trial_more (binomial m a b)
-          ∙ ap (λ t. t *ℚ binomial m a b zero) one_trial_none
+          ap (λ t. t *ℚ binomial m a b zero) one_trial_none
           ∙ over_mul _ _ _ _ pos (below m)
           ∙ ap₂ (λ s t. s over t) (sym (numerator_zero m)) (sym more)
       next (suc n) =
@@ -156,10 +129,5 @@ module _ (a b : ℕ) (pos : 0 < b) where
   trial h = record {
     add_up = ap₂ (λ s t. s +ℚ t) one_trial_none one_trial_one ∙ over_plus (b - a) a b pos
         ∙ over_same _ _ 1 1 pos one_pos (omega arith);
-    past = λ j far. binomial_past j far;
+    past = λ j far. subst (λ k. binomial 1 a b k ≡ whole 0) (omega arith) (one_trial_more (j - 2));
   }
-    where
-      binomial_past : (j : ℕ) → 1 < j → binomial 1 a b j ≡ whole 0
-      binomial_past zero far = absurd (omega (arith, far))
-      binomial_past (suc zero) far = absurd (omega (arith, far))
-      binomial_past (suc (suc i)) far = one_trial_more i

@@ -1,9 +1,7 @@
 -- Series with the same bounds.
-use Rattle.dl_model.proofs.Common.{inl, inr, ℕ, ◌+◌, max, refl, sym, ap, ap₂, subst, subst₂, ◌∙◌, le-max_left, le-max_right, Fraction, ◌over◌, ◌+ℚ◌, ◌*ℚ◌, ◌/ℚ◌, ◌≤ℚ◌, ◌<ℚ◌, whole, sum_to, Series, IsBound, AtMost, AtLeast, Below, Rises, times, SameValue, convolve, Family, SameCells, Encloses, lt_not_le, ring, times_comm, le_refl, le_trans, lt_or_le, zero_le, plus_le_both, plus_times, times_left_comm, times_plus, one_times, lt_gap, times_le_cancel, le_div, div_times, times_pos, div_pos, times_le_both, ◌≡◌}
-use Rattle.dl_model.specs.Series.{SameBounds}
-use Rattle.dl_exact.proofs.Laws.{lt_of_le_of_lt, le_of_eq}
+use Rattle.dl_model.proofs.Common.{inl, inr, ℕ, ◌+◌, max, sym, ap, subst, ◌∙◌, le-max_left, le-max_right, Fraction, ◌over◌, ◌*ℚ◌, ◌≤ℚ◌, ◌<ℚ◌, whole, sum_to, Series, IsBound, AtMost, AtLeast, Below, Rises, times, SameValue, convolve, Family, SameCells, Encloses, lt_not_le, ring, times_comm, le_refl, le_trans, lt_or_le, times_left_comm, one_times, lt_gap, times_pos, times_le_both, ◌≡◌, le_of_eq, order, zero_plus, times_assoc}
 use Rattle.dl_model.proofs.Declared.{self_holds, rises_to, at_most_times, at_least_times}
-use Rattle.dl_model.proofs.Complements.{no_descent}
+use Rattle.dl_model.proofs.Minus.{close}
 use Rattle.dl_model.proofs.Cauchy.{cauchy_low, cauchy_high}
 
 -- each term of Q is at most some term of R
@@ -71,11 +69,6 @@ value_trans A B C D E F s t = (
 pub value_sym : (A B C D : Series) → SameValue A B C D → SameValue C D A B
 value_sym A B C D s = ((λ l. ((s.0 l).1, (s.0 l).0)), (λ h. ((s.1 h).1, (s.1 h).0)))
 
-pub cauchy_bounds : (a b : ℕ → Fraction)
-    → SameBounds (λ N. sum_to N (convolve a b)) (times (λ N. sum_to N a) (λ N. sum_to N b))
-cauchy_bounds a b u =
-    (bound_from _ _ (cauchy_level a b).1 u, bound_from _ _ (cauchy_level a b).0 u)
-
 -- ---- a common factor
 
 module _ (E : Series) (rise : Rises E) (e k₀ : _) (bounded : IsBound E e) (pos : whole 0 <ℚ E k₀) where
@@ -84,57 +77,35 @@ module _ (E : Series) (rise : Rises E) (e k₀ : _) (bounded : IsBound E e) (pos
     | inr l ↦ l
     | inl l ↦ absurd (
         let g = lt_gap s q l in
-        let qp : whole 0 <ℚ q = lt_of_le_of_lt _ _ _ (zero_le s) l in
-        let d = g.0 *ℚ E k₀ /ℚ q in
-        no_descent (IsBound E) d (div_pos (g.0 *ℚ E k₀) q (times_pos _ _ g.1 pos) qp)
-        (λ e b. (
-          s *ℚ e /ℚ q,
-          times_le_cancel _ _ q qp
-              (subst (λ t. t ≤ℚ e *ℚ q) (sym (plus_times _ _ q
-              ∙ ap₂ (λ x y. x +ℚ y) (div_times (s *ℚ e) q qp) (div_times (g.0 *ℚ E k₀) q qp)))
-              (subst₂ (λ x y. x ≤ℚ y) refl (sym (times_plus e s g.0
-              ∙ ap₂ (λ x y. x +ℚ y) (times_comm e s) (times_comm e g.0)) ∙ ap (λ t. e *ℚ t) g.2)
-              (plus_le_both _ _ _ _ (le_refl (s *ℚ e)) (times_le_both g.0 g.0 _ _ (le_refl g.0) (b k₀))))),
-          λ k. le_div (E k) q (s *ℚ e) qp (h e b k),
-        ))
-        e bounded)
+        lt_not_le (whole 0) (g.0 *ℚ E k₀) (times_pos g.0 (E k₀) g.1 pos)
+        (close E e (g.0 *ℚ E k₀) (whole 0) s bounded (λ v b _ m.
+        let k = max k₀ m in
+        grw (order, rises_to E rise k₀ k (le-max_left k₀ m), rises_to E rise m k (le-max_right k₀ m))
+        (rw zero_plus (subst (λ t. t ≤ℚ s *ℚ v) (ap (λ t. E k *ℚ t) (sym g.2) ∙ simp ring) (h v b k))))))
   ]
 
   cancel_most : (Q R : Series) (h : Fraction) → Rises Q → AtMost (times E Q) (times E R) h → AtMost Q R h
   cancel_most Q R h q a n u b = cancel (Q n) (h *ℚ u) (λ e be k.
       let m = max k n in
-      let c : E k *ℚ Q n ≤ℚ E m *ℚ Q m = times_le_both _ _ _ _ (rises_to E rise k m (le-max_left k n))
-      (rises_to Q q n m (le-max_right k n)) in
-      subst (λ t. E k *ℚ Q n ≤ℚ t) (simp ring)
-      (le_trans _ _ _ c (a m (e *ℚ u) (λ i. times_le_both _ _ _ _ (be i) (b i)))))
+      grw (order, rises_to E rise k m (le-max_left k n), rises_to Q q n m (le-max_right k n))
+      (rw (times_assoc h, times_comm u) (a m (e *ℚ u) (λ i. times_le_both _ _ _ _ (be i) (b i)))))
 
   cancel_least : (Q R : Series) (l : Fraction) → Rises R → AtLeast (times E Q) (times E R) l → AtLeast Q R l
   cancel_least Q R l r a n u b = cancel (l *ℚ R n) u (λ e be k.
       let m = max k n in
-      let c : E k *ℚ R n ≤ℚ E m *ℚ R m = times_le_both _ _ _ _ (rises_to E rise k m (le-max_left k n))
-      (rises_to R r n m (le-max_right k n)) in
-      subst₂ (λ s t. s ≤ℚ t) (times_left_comm l (E k) (R n)) (times_comm e u)
-      (le_trans _ _ _ (times_le_both l l _ _ (le_refl l) c) (a m (e *ℚ u) (λ i. times_le_both _ _ _ _ (be i) (b i)))))
+      grw (order, rises_to E rise k m (le-max_left k n), rises_to R r n m (le-max_right k n))
+      (rw (times_left_comm (E m), times_comm u) (a m (e *ℚ u) (λ i. times_le_both _ _ _ _ (be i) (b i)))))
 
   -- a common factor that is bounded and positive changes no declared value
   pub cancel_value : (Q R : Series) → Rises Q → Rises R → SameValue (times E Q) (times E R) Q R
   cancel_value Q R q r = (
-    (λ l. (
-      cancel_least Q R l r,
-      λ a. subst (AtLeast (times E Q) (times E R)) (one_times l)
-          (at_least_times E E Q R (whole 1) l rise q (self_holds E).0 a),
-    )),
-    (λ h. (
-      cancel_most Q R h q,
-      λ a. subst (AtMost (times E Q) (times E R)) (one_times h)
-          (at_most_times E E Q R (whole 1) h rise r (self_holds E).1 a),
-    )),
+    (λ l. (cancel_least Q R l r, λ a. rw one_times at (at_least_times E E Q R (whole 1) l rise q (self_holds E).0 a))),
+    (λ h. (cancel_most Q R h q, λ a. rw one_times at (at_most_times E E Q R (whole 1) h rise r (self_holds E).1 a))),
   )
 
   -- a low end of a declared value over a bounded and positive series is at most a high end
   pub ends_in_order : (Q : Series) (l h : Fraction) → AtLeast Q E l → AtMost Q E h → l ≤ℚ h
-  ends_in_order Q l h a b = cancel l h (λ e be k. subst (λ t. t ≤ℚ h *ℚ e) (times_comm l (E k))
-      (a k (h *ℚ e) (λ m. b m e be)))
+  ends_in_order Q l h a b = cancel l h (λ e be k. rw times_comm (a k (h *ℚ e) (λ m. b m e be)))
 
   pub not_both : (Q : Series) (p : Fraction) → AtLeast Q E p → Below Q E p → ⊥
   not_both Q p a b = lt_not_le b.0 p b.1 (ends_in_order Q p b.0 a b.2)

@@ -1,27 +1,13 @@
 -- The grids that powers begin from, and counts of no loss.
-use Rattle.dl_model.proofs.Common.{◌≡◌, ℕ, suc, zero, ◌+◌, ◌-◌, ◌<◌, ◌≤◌, arith, sym, ap, ap₂, subst₂, ◌∙◌, mul-le-mul_right, zero-lt-suc, fun_ext, Fraction, ◌over◌, ◌+ℚ◌, ◌*ℚ◌, ◌/ℚ◌, ◌<ℚ◌, whole, ◌^ℚ◌, choose, sum_to, over_le, zero_times, times_zero, whole_pos, times_cancel, div_times, lt_of_lt_of_le, le_plus, SameValue, at_zero, power, cell, IsPositivePart, fixed, binomial, poisson, gamma, gamma_of, Family, compound, nothing, times_itself, SameCells, Encloses}
-use Rattle.dl_model.proofs.Declared.{at_least_wider, at_most_wider}
-use Rattle.dl_model.proofs.Alike.{value_sym}
-use Rattle.dl_model.proofs.CompoundLaws.{sum_at_zero}
+use Rattle.dl_model.proofs.Common.{◌≡◌, ℕ, suc, zero, ◌+◌, ◌-◌, ◌<◌, arith, sym, ap, ap₂, subst₂, ◌∙◌, fun_ext, Fraction, ◌over◌, ◌+ℚ◌, ◌*ℚ◌, ◌/ℚ◌, whole, ◌^ℚ◌, choose, sum_to, zero_times, times_zero, times_cancel, div_times, SameValue, at_zero, power, cell, IsPositivePart, fixed, binomial, poisson, gamma, gamma_of, compound, nothing, times_itself, SameCells, refl}
+use Rattle.dl_model.proofs.ValueLaws.{value_sym, sum_at_zero}
 use Rattle.dl_model.proofs.FiniteCounts.{fixed_cell, power_one}
 use Rattle.dl_model.proofs.Itself.{count_power, sum_to_at_zero}
 use Rattle.dl_model.proofs.AddedCounts.{fixed_power, binomial_power, one_trial_none, one_trial_one}
 use Rattle.dl_model.proofs.PoissonThin.{thin_poisson}
 use Rattle.dl_model.proofs.PoissonTimes.{poisson_none}
 use Rattle.dl_model.proofs.Gamma.{gamma_zero, gamma_is}
-use Rattle.dl_model.proofs.GammaThin.{thin_gamma}
-
--- ---- wider grids
-
-pub encloses_wider : (S K K' : ℕ) (lo hi lo' hi' : ℕ → ℕ) (F : Family) → 0 < S → K' ≤ K
-    → ((y : ℕ) → y < K' → lo' y ≤ lo y) → ((y : ℕ) → y < K' → hi y ≤ hi' y)
-    → Encloses S K lo hi F → Encloses S K' lo' hi' F
-encloses_wider S K K' lo hi lo' hi' F pos less low high e y b = (
-  at_least_wider (F.cells y) F.all (lo y over S) (lo' y over S) (e y (omega arith)).0
-      (over_le _ _ _ _ pos pos (mul-le-mul_right S (low y b))),
-  at_most_wider (F.cells y) F.all (hi y over S) (hi' y over S) (e y (omega arith)).1
-      (over_le _ _ _ _ pos pos (mul-le-mul_right S (high y b))),
-)
+use Rattle.dl_model.proofs.GammaThin.{thin_gamma, mean_pos}
 
 -- ---- exact claims and trials
 
@@ -67,13 +53,9 @@ no_gamma : (q : ℕ) → gamma_of (suc q) (whole 0) ≡ at_zero
 unfolding at_zero ◌^ℚ◌
 no_gamma q = ap (gamma (suc q)) share ∙ fun_ext each
   where
-    r : whole 0 <ℚ whole (suc q) +ℚ whole 0
-    r = lt_of_lt_of_le (whole 0) (whole (suc q)) _ (whole_pos (suc q) (zero-lt-suc q))
-        (le_plus (whole (suc q)) (whole 0))
-
     share : whole 0 /ℚ (whole (suc q) +ℚ whole 0) ≡ whole 0
-    share = times_cancel _ _ (whole (suc q) +ℚ whole 0) r
-        (div_times (whole 0) (whole (suc q) +ℚ whole 0) r ∙ sym (zero_times _))
+    share = times_cancel _ _ (whole (suc q) +ℚ whole 0) (mean_pos q (whole 0))
+        (rw (div_times (whole 0) (whole (suc q) +ℚ whole 0) (mean_pos q (whole 0)), zero_times) refl)
 
     each : (n : ℕ) → gamma (suc q) (whole 0) n ≡ at_zero n
     each zero = gamma_zero q (whole 0)

@@ -1,10 +1,6 @@
 -- Every quantity of declared losses is bounded, their whole weight is somewhere above 0, and their probabilities add up
 -- to 1.
-use Rattle.dl_model.proofs.Common.{◌≡◌, ℕ, zero, ◌+◌, ◌-◌, ◌≤◌, max, Bool, true, false, nat_eq, nat_lt, nat_le, arith, sym, ap, ap₂, subst, ◌∙◌, List, [], ◌∷◌, sum, get_or, le-max_left, le-max_right, le-ltb, Fraction, ◌+ℚ◌, ◌-ℚ◌, ◌*ℚ◌, ◌/ℚ◌, ◌≤ℚ◌, ◌<ℚ◌, whole, ring, plus_comm, zero_plus, times_zero, times_one, one_times, whole_pos, one_pos, le_refl, le_trans, le_of_eq, zero_le, le_plus, plus_le_both, times_pos, lt_of_lt_of_le, times_le_both, whole_le, sum_over, sum_to_zero, IsBound, AtLeast, Settles, layer, Loss, fun_ext, AreDeclarable, One, Point, Cdf, Mean, Layer, Tail, Joint, where_true, score, sum_over_outcomes, partial_sums, survival, AreDeclared}
-use Rattle.dl_exact.proofs.Lists.{item_le_total}
-use Rattle.dl_plan.proofs.Clauses.{layer_le}
-use Rattle.dl_model.specs.Program.{Quantity, Price, Part, Share, PricedTerm}
-use Rattle.dl_model.specs.Measures.{IsAsked, ArePriced}
+use Rattle.dl_model.proofs.Common.{◌≡◌, ℕ, zero, ◌+◌, ◌-◌, ◌≤◌, max, Bool, true, false, nat_eq, nat_lt, nat_le, arith, sym, ap, subst, ◌∙◌, List, [], ◌∷◌, sum, get_or, le-max_left, le-max_right, le-ltb, Fraction, ◌+ℚ◌, ◌-ℚ◌, ◌*ℚ◌, ◌/ℚ◌, ◌≤ℚ◌, ◌<ℚ◌, whole, ring, plus_comm, zero_plus, times_zero, times_one, one_times, whole_pos, one_pos, le_refl, le_trans, le_of_eq, zero_le, le_plus, plus_le_both, times_pos, lt_of_lt_of_le, times_le_both, whole_le, sum_over, sum_to_zero, IsBound, AtLeast, Settles, layer, Loss, fun_ext, AreDeclarable, One, Point, Cdf, Mean, Layer, Tail, Joint, where_true, score, sum_over_outcomes, partial_sums, survival, AreDeclared, item_le_total, layer_le, Quantity, Price, Part, Share, PricedTerm, IsAsked, ArePriced, times_plus, order}
 use Rattle.dl_model.proofs.Declared.{rises_to}
 use Rattle.dl_model.proofs.Outcomes.{loss_proper, outcomes_same, outcomes_plus, outcomes_times, outcomes_le, outcomes_rise, sum-cons, total_more_all, mean_more}
 use Rattle.dl_model.proofs.Scores.{survival_rest}
@@ -23,8 +19,7 @@ one_bound [] h = (whole 1, λ N. le_refl _)
 one_bound (u ∷ us) h =
     let rest = one_bound us h.1 in (
       h.0.bound *ℚ rest.0,
-      λ N. le_trans _ _ _ (le_of_eq _ _ (total_more_all u us h.0.loss N))
-          (times_le_both _ _ _ _ (h.0.bounded N) (rest.1 N)),
+      λ N. rw (total_more_all u us h.0.loss N) (times_le_both _ _ _ _ (h.0.bounded N) (rest.1 N)),
     )
 
 mean_bound : (us : List Loss) → AreDeclared us → (B : Fraction) × IsBound (partial_sums us Mean) B
@@ -34,9 +29,7 @@ mean_bound (u ∷ us) h =
     let ones = one_bound us h.1 in
     let rest = mean_bound us h.1 in (
       h.0.mean_bound *ℚ ones.0 +ℚ h.0.bound *ℚ rest.0,
-      λ N. le_trans _ _ _ (le_of_eq _ _ (mean_more u us h.0.loss N))
-          (plus_le_both _ _ _ _ (times_le_both _ _ _ _ (h.0.mean_bounded N) (ones.1 N))
-          (times_le_both _ _ _ _ (h.0.bounded N) (rest.1 N))),
+      λ N. rw (mean_more u us h.0.loss N) (grw (order, h.0.mean_bounded N, ones.1 N, h.0.bounded N, rest.1 N)),
     )
 
 -- ---- each score is at most a factor of 1 and the total
@@ -48,11 +41,10 @@ abbrev pub IsScaled : (List ℕ → Fraction) → Type 0
 IsScaled value = (k : Fraction) × ((ys : List ℕ) → value ys ≤ℚ k *ℚ scale ys)
 
 by_one : (x : Fraction) (ys : List ℕ) → x ≤ℚ whole 1 → x ≤ℚ whole 1 *ℚ scale ys
-by_one x ys h = le_trans _ _ _ h (subst (λ t. whole 1 ≤ℚ t) (sym (one_times _)) (le_plus (whole 1) (whole (sum ys))))
+by_one x ys h = rw one_times (le_trans _ _ _ h (le_plus _ _))
 
 by_total : (n : ℕ) (ys : List ℕ) → n ≤ sum ys → whole n ≤ℚ whole 1 *ℚ scale ys
-by_total n ys h = le_trans _ _ _ (whole_le n (sum ys) h)
-    (subst (λ t. whole (sum ys) ≤ℚ t) (plus_comm _ _ ∙ sym (one_times _)) (le_plus (whole (sum ys)) (whole 1)))
+by_total n ys h = rw (one_times, plus_comm) (le_trans _ _ _ (whole_le n (sum ys) h) (le_plus _ _))
 
 where_at_most : (b : Bool) (x : Fraction) → where_true b x ≤ℚ x
 where_at_most true x = le_refl _
@@ -64,32 +56,21 @@ tail_scaled p q h ys =
     let c = whole 1 /ℚ (whole 1 -ℚ p) in
     let s = whole (sum ys) in
     let below : whole (sum ys - q) ≤ℚ s = whole_le (sum ys - q) (sum ys) (omega arith) in
-    le_trans _ _ _ (plus_le_both _ _ _ _ (le_refl (whole q))
-    (le_trans _ _ _ (le_of_eq _ _ (div_is_times _ _ (rest_pos p (whole 1) h)))
-    (times_le_both _ _ _ _ (le_refl c) below)))
-    (le_trans _ _ _ (le_plus (whole q +ℚ c *ℚ s) (whole q *ℚ s +ℚ c)) (le_of_eq _ _ (turn (whole q) c s)))
-  where
-    turn : (q c s : Fraction) → q +ℚ c *ℚ s +ℚ (q *ℚ s +ℚ c) ≡ (q +ℚ c) *ℚ (whole 1 +ℚ s)
-    turn q c s = simp ring
+    rw (div_is_times (whole (sum ys - q)) _ (rest_pos p (whole 1) h)) (grw (order, below)
+    (le_trans _ _ _ (le_plus (whole q +ℚ c *ℚ s) (whole q *ℚ s +ℚ c)) (le_of_eq _ _ (simp ring))))
 
 -- what is at most k, and what is at most k times one outcome
 by_factor : (k : Fraction) (ys : List ℕ) → k ≤ℚ k *ℚ scale ys
-by_factor k ys = subst (λ t. t ≤ℚ k *ℚ scale ys) (times_one k)
-    (times_le_both k k _ _ (le_refl k) (le_plus (whole 1) (whole (sum ys))))
+by_factor k ys = rw (times_plus, times_one) (le_plus _ _)
 
 share_scaled : (p u : Fraction) (i : ℕ) → p <ℚ whole 1 → (ys : List ℕ) → whole (get_or ys i 0) /ℚ (whole 1 -ℚ p) +ℚ
     (whole 1 -ℚ u) *ℚ whole (get_or ys i 0) /ℚ (whole 1 -ℚ p)
     ≤ℚ whole 1 /ℚ (whole 1 -ℚ p) *ℚ (whole 1 +ℚ (whole 1 -ℚ u)) *ℚ scale ys
 share_scaled p u i h ys =
-    let c = whole 1 /ℚ (whole 1 -ℚ p) in
     let y = whole (get_or ys i 0) in
-    le_trans _ _ _ (le_of_eq _ _ (ap₂ (λ s t. s +ℚ t) (div_is_times _ _ (rest_pos p (whole 1) h))
-    (div_is_times _ _ (rest_pos p (whole 1) h)) ∙ turn c y (whole 1 -ℚ u)))
-    (times_le_both _ _ _ _ (le_refl (c *ℚ (whole 1 +ℚ (whole 1 -ℚ u))))
-    (subst (λ t. y ≤ℚ t) (one_times _) (by_total (get_or ys i 0) ys (item_le_total ys i))))
-  where
-    turn : (c y v : Fraction) → c *ℚ y +ℚ c *ℚ (v *ℚ y) ≡ c *ℚ (whole 1 +ℚ v) *ℚ y
-    turn c y v = simp ring
+    let r = rest_pos p (whole 1) h in
+    let below : y ≤ℚ scale ys = rw one_times at (by_total (get_or ys i 0) ys (item_le_total ys i)) in
+    rw (div_is_times y _ r, div_is_times ((whole 1 -ℚ u) *ℚ y) _ r) (grw (order, below, below) (le_of_eq _ _ (simp ring)))
 
 price_scaled : (terms : List PricedTerm) → ArePriced terms
     → (k : Fraction) × ((ys : List ℕ) → score (Price terms) ys ≤ℚ k *ℚ scale ys)
@@ -99,13 +80,8 @@ price_scaled (t ∷ terms) h =
     let rest = price_scaled terms h.1 in
     let k = whole t.quantile +ℚ whole 1 /ℚ (whole 1 -ℚ t.p) in (
       t.weight *ℚ k +ℚ rest.0,
-      λ ys. le_trans _ _ _ (plus_le_both _ _ _ _
-          (times_le_both _ _ _ _ (le_refl t.weight) (tail_scaled t.p t.quantile h.0 ys)) (rest.1 ys))
-          (le_of_eq _ _ (turn t.weight k (scale ys) rest.0)),
+      λ ys. grw (order, tail_scaled t.p t.quantile h.0 ys, rest.1 ys) (le_of_eq _ _ (simp ring)),
     )
-  where
-    turn : (w k s r : Fraction) → w *ℚ (k *ℚ s) +ℚ r *ℚ s ≡ (w *ℚ k +ℚ r) *ℚ s
-    turn w k s r = simp ring
 
 pub score_scaled : (quantity : Quantity) → IsAsked quantity → IsScaled (score quantity)
 score_scaled One h = (whole 1, λ ys. by_one (whole 1) ys (le_refl _))
@@ -140,9 +116,8 @@ quantity_bounded us quantity h asked =
     let means = mean_bound us h in (
       s.0 *ℚ (ones.0 +ℚ means.0),
       λ N. le_trans _ _ _ (outcomes_le us (score quantity) (λ ys. s.0 *ℚ scale ys) s.1 N)
-          (le_trans _ _ _ (le_of_eq _ _ (outcomes_times us s.0 scale N
-          ∙ ap (λ t. s.0 *ℚ t) (outcomes_plus us (score One) (score Mean) N)))
-          (times_le_both _ _ _ _ (le_refl s.0) (plus_le_both _ _ _ _ (ones.1 N) (means.1 N)))),
+          (rw (outcomes_times us s.0 scale N, outcomes_plus us (score One) (score Mean) N)
+          (grw (order, ones.1 N, means.1 N))),
     )
 
 -- ---- the whole weight is above 0
@@ -154,7 +129,7 @@ whole_positive (u ∷ us) h =
     let rest = whole_positive us h.1 in
     let K = max h.0.level rest.0 in (
       K,
-      subst (λ t. whole 0 <ℚ t) (sym (total_more_all u us h.0.loss K)) (times_pos _ _
+      rw (total_more_all u us h.0.loss K) (times_pos _ _
           (lt_of_lt_of_le _ _ _ h.0.positive (rises_to u.family.all (loss_proper u h.0.loss).all_rises h.0.level K
           (le-max_left h.0.level rest.0)))
           (lt_of_lt_of_le _ _ _ rest.1 (rises_to (partial_sums us One)
@@ -166,7 +141,7 @@ whole_positive (u ∷ us) h =
 one_settles : (us : List Loss) → AreDeclared us → Settles (partial_sums us One)
 unfolding sum_over_outcomes
 one_settles [] h =
-    λ p q one qp. (zero, λ N. subst (λ t. t ≤ℚ whole 1) (sym (times_one p)) (subst (λ t. p ≤ℚ t) one (le_plus p q)))
+    λ p q one qp. (zero, λ N. rw (times_one, ← one) (le_plus p q))
 one_settles (u ∷ us) h =
     subst Settles (sym (fun_ext (total_more_all u us h.0.loss)))
     (settles_times u.family.all (partial_sums us One) (loss_proper u h.0.loss).all_rises

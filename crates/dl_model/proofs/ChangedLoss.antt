@@ -1,8 +1,6 @@
 -- The loss of a unit with a changed probability of no claim: that it can be declared, its mean, and its ends.
-use Rattle.dl_model.proofs.Common.{◌≡◌, ℕ, suc, zero, ◌*◌, ◌<◌, ◌≤◌, arith, sym, ap, ap₂, refl, subst, subst₂, ◌∙◌, false, Fraction, whole, ◌+ℚ◌, ◌-ℚ◌, ◌*ℚ◌, ◌/ℚ◌, ◌≤ℚ◌, ◌<ℚ◌, plus_comm, plus_zero, zero_times, times_zero, le_refl, le_trans, le_plus, times_le_both, sum_to, sum_to_same, sum_to_le, sum_to_grows, AtLeast, Holds, Rises, Aggregate, IsDeclarable, IsDeclared, IsDeclaredLoss, Loss, IsLoss, loss, outcome, mean_to_reach}
-use Rattle.dl_model.specs.ChangedZero.{without_none, with_claims, changed, changed_end, IsWithNone}
-use Rattle.dl_model.proofs.FamilyLaws.{sum_rises_to}
-use Rattle.dl_model.proofs.Picks.{off, on}
+use Rattle.dl_model.proofs.Common.{◌≡◌, ℕ, suc, zero, ◌*◌, ◌<◌, ◌≤◌, arith, sym, ap, refl, subst, ◌∙◌, false, Fraction, whole, ◌+ℚ◌, ◌-ℚ◌, ◌*ℚ◌, ◌/ℚ◌, ◌≤ℚ◌, ◌<ℚ◌, plus_comm, plus_zero, zero_times, times_zero, le_trans, le_plus, sum_to, sum_to_same, sum_to_le, sum_to_grows, AtLeast, Holds, Rises, Aggregate, IsDeclarable, IsDeclared, IsDeclaredLoss, Loss, IsLoss, loss, outcome, mean_to_reach, without_none, with_claims, changed, changed_end, IsWithNone, fun_ext, order}
+use Rattle.dl_model.proofs.ValueLaws.{sum_rises_to, off, on}
 use Rattle.dl_model.proofs.UnitLaws.{unit_within, unit_loss, unit_proper}
 use Rattle.dl_model.proofs.UnitLosses.{unit_declared_loss}
 use Rattle.dl_model.proofs.ChangedZero.{sub_zero, clause_with_none, changed_zero_holds, changed_holds, changed_lows, weights_apart, with_none_rises, with_none_all, with_none_mean}
@@ -14,7 +12,7 @@ unit_with_none u h y = clause_with_none u.count u.severity u.clause u.most y (om
 
 mean_rises : (u : Loss) → IsLoss u → Rises (mean_to_reach u)
 mean_rises u h N = le_trans _ _ _
-    (sum_to_le (u.reach N) _ _ (λ y b. times_le_both _ _ _ _ (le_refl (whole y)) (h.cells_rise y N)))
+    (sum_to_le (u.reach N) _ _ (λ y b. grw (order, h.cells_rise y N)))
     (sum_to_grows (u.reach N) (u.reach (suc N)) _ (h.reach_rises N))
 
 module _ (p : Fraction) (u : Aggregate) (h : IsDeclared u) where
@@ -28,10 +26,10 @@ module _ (p : Fraction) (u : Aggregate) (h : IsDeclared u) where
   claims_loss = unit_loss claims claims_unit
 
   changed_past : (y N : ℕ) → N * u.most < y → (changed p u).family.cells y N ≡ whole 0
-  changed_past y N far =
-      ap₂ (λ s t. (whole 1 -ℚ p) *ℚ s +ℚ t) (unit_within claims claims_unit y N far)
-      (off y 0 (p *ℚ sum_to N (without_none u.count)) (λ e. omega (arith, e, far)))
-      ∙ plus_zero _ ∙ times_zero _
+  changed_past y N far = rw (
+    unit_within claims claims_unit y N far,
+    off y 0 (p *ℚ sum_to N (without_none u.count)) (λ e. omega (arith, e, far)),
+  ) (simp (times_zero, plus_zero))
 
   changed_is_loss : p ≤ℚ whole 1 → IsLoss (changed p u)
   changed_is_loss within = record {
@@ -59,8 +57,7 @@ module _ (p : Fraction) (u : Aggregate) (h : IsDeclared u) where
         positive = d.positive;
         settles = d.settles;
         mean_bound = (whole 1 -ℚ p) *ℚ d.mean_bound;
-        mean_bounded = λ N. subst (λ t. t ≤ℚ (whole 1 -ℚ p) *ℚ d.mean_bound) (sym (claims_mean N))
-            (times_le_both _ _ _ _ (le_refl _) (d.mean_bounded N));
+        mean_bounded = λ N. rw (claims_mean N) (grw (order, d.mean_bounded N));
       }
 
   -- no claim adds 0
@@ -100,21 +97,12 @@ module _ (p : Fraction) (u : Aggregate) (h : IsDeclared u) where
       (λ N. sum_to N u.count) (λ N. sum_to N (without_none u.count)) (λ N. sym (plus_zero (mean N)))
       (weights_apart u.count) (mean_rises (loss u) (unit_loss u h.unit)) (sum_rises_to (without_none u.count))
       h.count.bounded held none_held order below in
-      let same : (N : ℕ) → mean_to_reach (changed p u) N ≡ (whole 1 -ℚ p) *ℚ mean N +ℚ whole 0 =
-      λ N. changed_mean N ∙ sym (plus_zero _) in
-      let end_same : (e c : Fraction) → (whole 1 -ℚ p) *ℚ ((e -ℚ whole 0) /ℚ c) +ℚ whole 0
-      ≡ (whole 1 -ℚ p) *ℚ (e /ℚ c) =
-      λ e c. plus_zero _ ∙ ap (λ t. (whole 1 -ℚ p) *ℚ (t /ℚ c)) (sub_zero e) in (
-        λ n t c. subst (λ s. s *ℚ sum_to n (without_none u.count) ≤ℚ t) (end_same low (whole 1 -ℚ none_low))
-            (x.0 n t (λ m. subst (λ s. s ≤ℚ t) (same m) (c m))),
-        λ n t c. subst₂ (λ s r. s ≤ℚ r *ℚ t) (sym (same n)) (end_same high (whole 1 -ℚ none_high)) (x.1 n t c),
-      )
+      subst (λ Q. Holds Q (changed p u).family.all ((whole 1 -ℚ p) *ℚ (low /ℚ (whole 1 -ℚ none_low)))
+      ((whole 1 -ℚ p) *ℚ (high /ℚ (whole 1 -ℚ none_high)))) (sym (fun_ext changed_mean))
+      (simp (plus_zero, sub_zero) at x)
 
   none_within : (N : ℕ) → u.count zero ≤ℚ outcome u zero N
-  none_within N = subst (λ t. u.count zero ≤ℚ t)
-      (plus_comm _ _ ∙ sym ((unit_with_none u h.unit zero).outcome N
-      ∙ ap (λ t. outcome claims zero N +ℚ t) (on 0 0 (u.count zero) refl)))
-      (le_plus (u.count zero) (outcome claims zero N))
+  none_within N = rw ((unit_with_none u h.unit zero).outcome N, on 0 0 (u.count zero) refl, plus_comm) (le_plus _ _)
 
   pub unit_changed_lows : (none_low none_high : Fraction) (k : ℕ) (low : ℕ → Fraction) → p ≤ℚ whole 1
       → ((y : ℕ) → y ≤ k → AtLeast (outcome u y) (λ N. sum_to N u.count) (low y))

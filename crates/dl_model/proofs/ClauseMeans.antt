@@ -1,20 +1,16 @@
 -- The mean of a unit after its aggregate clause, from the layers of the sum of its claims.
-use Rattle.dl_model.proofs.Common.{◌≡◌, ℕ, ◌*◌, ◌/◌, List, [], ◌∷◌, ◌++◌, Bool, true, false, arith, refl, sym, ap, ap₂, subst, subst₂, ◌∙◌, sum, if◌then◌else◌, IfSome, All, fun_ext, ◌∣◌, dec_dvd, div-one, dvd-mul_left, All-head, All-tail, Fraction, whole, ◌over◌, ◌+ℚ◌, ◌-ℚ◌, ◌*ℚ◌, ◌≤ℚ◌, sum_to, sum_over, over_self, plus_assoc, plus_zero, zero_plus, times_comm, times_zero, sub_plus, sum_to_same, Sev, common_amount, greatest, probability_of, pairs_of, mean_amount, Clause, layer, kept, expected_count, IsAggregate, IsValidUnit, Holds, cell, Series, IsDeclarable, Loss, AreDeclared, loss, One, Mean, score, sum_over_outcomes, partial_sums, total, Encloses, IsDeclared, count_weights, outcome_after, aggregate_of, compound_of}
+use Rattle.dl_model.proofs.Common.{◌≡◌, ℕ, ◌*◌, ◌/◌, List, [], ◌∷◌, ◌++◌, Bool, true, false, arith, refl, sym, ap, ap₂, subst, subst₂, ◌∙◌, sum, if◌then◌else◌, IfSome, All, fun_ext, ◌∣◌, dec_dvd, div-one, dvd-mul_left, All-head, All-tail, Fraction, whole, ◌over◌, ◌+ℚ◌, ◌-ℚ◌, ◌*ℚ◌, ◌≤ℚ◌, sum_to, sum_over, over_self, plus_assoc, plus_zero, zero_plus, times_comm, times_zero, sub_plus, sum_to_same, Sev, common_amount, greatest, probability_of, pairs_of, mean_amount, Clause, layer, kept, expected_count, IsAggregate, IsValidUnit, Holds, cell, Series, IsDeclarable, Loss, AreDeclared, loss, One, Mean, score, sum_over_outcomes, partial_sums, total, Encloses, IsDeclared, count_weights, outcome_after, aggregate_of, compound_of, ceded, claims_of, mean_ceded}
 use Rattle.std.proofs.Common.{Some, None}
 use Rattle.dl_plan.specs.declared.cede.CedeLayer.{CedeLayer}
 use Rattle.dl_plan.specs.declared.plan.Unit.{Unit as UnitOfPlan}
 use Rattle.dl_plan.specs.Fine.{IsWhole}
-use Rattle.dl_plan.specs.Clause.{ceded}
-use Rattle.dl_model.specs.Plans.{claims_of, mean_ceded}
-use Rattle.dl_model.proofs.Declared.{holds_plus, scaled}
-use Rattle.dl_model.proofs.Minus.{holds_minus}
+use Rattle.dl_model.proofs.ValueLaws.{holds_plus, scaled, none_holds, holds_minus, encloses_same}
 use Rattle.dl_model.proofs.UnitLaws.{unit_loss, unit_plain}
 use Rattle.dl_model.proofs.Outcomes.{outcomes_same, outcomes_none, outcomes_plus, outcomes_times, outcomes_rise, sum-cons, total_alone, total_alone_all, mean_alone}
 use Rattle.dl_model.proofs.UnitLosses.{clause_mean, unit_declared_loss}
 use Rattle.dl_model.proofs.Bounded.{are_units, quantity_bounded}
-use Rattle.dl_model.proofs.FamilyLaws.{encloses_same}
 use Rattle.dl_model.proofs.PlanUnits.{kept_within, unit_declared}
-use Rattle.dl_model.proofs.PlanMeans.{with_clause, plain_mean, no_mean}
+use Rattle.dl_model.proofs.PlanMeans.{with_clause, plain_mean}
 use Rattle.dl_model.proofs.Multiples.{multiple_of, no_cell_between}
 
 -- ---- the sum of the claims
@@ -64,7 +60,7 @@ claims_score u is g N = sum_to_same _ _ _ (λ y b.
 
 pub none_ceded : (u : UnitOfPlan) → Counted u (ceded []) (whole 0) (whole 0)
 unfolding sum_over
-none_ceded u = no_mean (counted u (ceded [])) (partial_sums (claims u) One) (outcomes_none (claims u))
+none_ceded u = none_holds (counted u (ceded [])) (partial_sums (claims u) One) (outcomes_none (claims u))
 
 ceded_alone : (l : CedeLayer) (x : ℕ) → ceded (l ∷ []) x ≡ l.share *ℚ whole (layer l.limit l.attach x)
 unfolding sum_over
@@ -84,8 +80,7 @@ alone_ceded u l m n v =
 ceded_both : (ls ms : List CedeLayer) (x : ℕ) → ceded (ls ++ ms) x ≡ ceded ls x +ℚ ceded ms x
 unfolding sum_over
 ceded_both [] ms x = sym (zero_plus _)
-ceded_both (k ∷ ks) ms x =
-    ap (λ t. k.share *ℚ whole (layer k.limit k.attach x) +ℚ t) (ceded_both ks ms x) ∙ sym (plus_assoc _ _ _)
+ceded_both (k ∷ ks) ms x = rw (ceded_both ks ms x) (sym (plus_assoc _ _ _))
 
 pub both_ceded : (cells : ℕ) (u : UnitOfPlan) (ls ms : List CedeLayer) (l h l' h' : Fraction) → IsValidUnit cells u
     → Counted u (ceded ls) l h → Counted u (ceded ms) l' h' → Counted u (ceded (ls ++ ms)) (l +ℚ l') (h +ℚ h')
@@ -125,10 +120,8 @@ kept_cell cells sev clause w s N a =
           (whole_floor (kept clause s) (subst (λ k. IsWhole (kept clause k)) (sym (multiple_of d s p))
           (a.whole (s / d))))
       | no p ↦
-          let none : cell w (probability_of sev) s N ≡ whole 0 =
-          no_cell_between sev w s N (λ n e. p (subst (λ k. d ∣ k) (sym e) (dvd-mul_left d n))) in
-          ap (λ t. whole (outcome_after (Some clause) s) *ℚ t) none ∙ times_zero _
-          ∙ sym (ap (λ t. kept clause s *ℚ t) none ∙ times_zero _)
+          let none = no_cell_between sev w s N (λ n e. p (subst (λ k. d ∣ k) (sym e) (dvd-mul_left d n))) in
+          simp (none, times_zero)
     ]
 
 pub no_clause : (u : UnitOfPlan) → u.cede ≡ None → aggregate_of u ≡ claims_of u
@@ -176,8 +169,7 @@ module _ (cells : ℕ) (u : UnitOfPlan) (clause : Clause) (h : IsValidUnit cells
       (record { some = c.some; few = c.few; apart = c.apart; within = c.within; fine = c.fine })
 
   kept_rest : clause.0 ≡ true → (s : ℕ) → kept clause s +ℚ ceded clause.1 s ≡ whole s
-  kept_rest i s =
-      ap (λ t. t +ℚ ceded clause.1 s) (side true s i) ∙ sub_plus (whole s) (ceded clause.1 s) (ceded_within s)
+  kept_rest i s = rw (side true s i) (sub_plus (whole s) (ceded clause.1 s) (ceded_within s))
 
   -- what is kept on the net side, with what is ceded, is the sum of the claims
   pub net_mean : (l k m n : Fraction) → clause.0 ≡ true → Counted u (ceded clause.1) l k → Counted u whole m n

@@ -1,14 +1,7 @@
 -- A unit after its aggregate clause, from a grid of the sums before it.
-use Rattle.dl_model.proofs.Common.{◌≡◌, inl, inr, ℕ, suc, ◌+◌, ◌-◌, ◌*◌, ◌<◌, ◌≤◌, min, Bool, true, false, nat_eq, arith, refl, sym, ap, ap₂, subst, subst₂, ◌∙◌, ne_eqb, eq-eqb, if◌then◌else◌, fun_ext, min-eq_right, cases_lt, Fraction, whole, ◌over◌, ◌+ℚ◌, ◌*ℚ◌, ◌≤ℚ◌, sum_to, over_same, one_pos, plus_zero, zero_plus, plus_comm, zero_times, le_refl, zero_le, sum_to_same, sum_to_plus, sum_to_longer, sum_to_either, Series, IsBound, Rises, AtMost, AtLeast, Holds, cell, Aggregate, IsDeclarable, where_true, outcome, compound, mapped, Encloses}
-use Rattle.std.proofs.Math.Nat.{min-eq_left}
-use Rattle.dl_exact.specs.Count.{count_below}
-use Rattle.dl_model.proofs.Complements.{at_least_rest}
-use Rattle.dl_model.proofs.Minus.{at_most_rest}
-use Rattle.dl_model.proofs.CompoundLaws.{cell_past, cells_all}
-use Rattle.dl_model.proofs.FamilyLaws.{sum_rises_to, cell_at_most_one}
+use Rattle.dl_model.proofs.Common.{◌≡◌, inl, inr, ℕ, suc, ◌+◌, ◌-◌, ◌*◌, ◌<◌, ◌≤◌, min, Bool, true, false, nat_eq, arith, refl, sym, ap, ap₂, subst, subst₂, ◌∙◌, eq-eqb, if◌then◌else◌, fun_ext, min-eq_right, cases_lt, Fraction, whole, ◌over◌, ◌+ℚ◌, sum_to, plus_zero, zero_plus, plus_comm, sum_to_same, sum_to_plus, sum_to_longer, sum_to_either, Series, IsBound, AtMost, AtLeast, Holds, cell, Aggregate, IsDeclarable, where_true, outcome, compound, mapped, Encloses, min-eq_left, count_below, to_over, over_rest, over_one, over_zero}
+use Rattle.dl_model.proofs.ValueLaws.{none_holds, where_rises, at_least_rest, at_most_rest, cell_past, cells_all, sum_rises_to, cell_at_most_one, off}
 use Rattle.dl_model.proofs.UnitLaws.{unit_proper}
-use Rattle.dl_exact.proofs.SumsOver.{to_over}
-use Rattle.dl_exact.proofs.Denominators.{over_rest, over_one}
 use Rattle.dl_model.proofs.Ends.{to_rises, to_holds, part_most_one}
 
 not : Bool → Bool
@@ -43,18 +36,11 @@ module _ (u : Aggregate) (h : IsDeclarable u) (S k : ℕ) (lo hi : ℕ → ℕ) 
   abbrev part : (ℕ → Bool) → Series
   part test N = sum_to k (λ s. where_true (test s) (sums s N))
 
-  picked_rises : (b : Bool) (s : ℕ) → Rises (λ N. where_true b (sums s N))
-  picked_rises true s = sum_rises_to _
-  picked_rises false s = λ N. le_refl _
-
   picked_holds : (b : Bool) (s : ℕ) → s ≤ k
       → Holds (λ N. where_true b (sums s N)) weights ((if b then lo s else 0) over S) ((if b then hi s else 0) over S)
   picked_holds true s b = e s (omega arith)
-  picked_holds false s b =
-      let none : 0 over S ≡ whole 0 = over_same 0 S 0 1 pos one_pos (omega arith) in (
-        (λ n u bound. subst (λ t. t ≤ℚ u) (sym (ap (λ t. t *ℚ weights n) none ∙ zero_times _)) (zero_le u)),
-        (λ n u bound. zero_le _),
-      )
+  picked_holds false s b = subst (λ z. Holds (λ N. whole 0) weights z z) (sym (over_zero S pos))
+      (none_holds (λ N. whole 0) weights (λ N. refl))
 
   part_holds : (test : ℕ → Bool) → Holds (part test) weights
       (count_below (suc k) (λ s. if test s then lo s else 0) over S)
@@ -62,7 +48,7 @@ module _ (u : Aggregate) (h : IsDeclarable u) (S k : ℕ) (lo hi : ℕ → ℕ) 
   part_holds test = subst₂ (λ l h. Holds (part test) weights l h) (to_over k S _ pos) (to_over k S _ pos)
       (to_holds k (λ s N. where_true (test s) (sums s N)) weights (λ s. (if test s then lo s else 0) over S)
       (λ s. (if test s then hi s else 0) over S)
-      (λ s. picked_rises (test s) s) (λ s b. picked_holds (test s) s b))
+      (λ s. where_rises (test s) (sums s) (sum_rises_to _)) (λ s b. picked_holds (test s) s b))
 
   far : (b : Bool) (s N : ℕ) → N * u.most < s → where_true b (sums s N) ≡ whole 0
   far b s N c = ap (where_true b) (cell_past u.count u.severity u.most h.severity.past s N c) ∙ where_none b
@@ -75,12 +61,9 @@ module _ (u : Aggregate) (h : IsDeclarable u) (S k : ℕ) (lo hi : ℕ → ℕ) 
     abbrev misses : ℕ → Bool
     misses s = not (nat_eq (u.clause s) y)
 
-    miss : (s : ℕ) → (u.clause s ≡ y → ⊥) → (x : Fraction) → where_true (hits s) x ≡ whole 0
-    miss s n x = ap (λ b. where_true b x) (ne_eqb (u.clause s) y n)
-
     few : ((s : ℕ) → u.clause s ≡ y → s ≤ k) → (N : ℕ) → outcome u y N ≡ part hits N
     few within N = sum_to_either (N * u.most) k (λ s. where_true (hits s) (sums s N)) (λ s b. far (hits s) s N b)
-        (λ s b. miss s (λ c. omega (arith, within s c)) (sums s N))
+        (λ s b. off (u.clause s) y (sums s N) (λ c. omega (arith, within s c)))
 
     pub clause_few : ((s : ℕ) → u.clause s ≡ y → s ≤ k)
         → Holds (outcome u y) weights (count_below (suc k) (λ s. if nat_eq (u.clause s) y then lo s else 0) over S)
@@ -135,6 +118,6 @@ module _ (u : Aggregate) (h : IsDeclarable u) (S k : ℕ) (lo hi : ℕ → ℕ) 
           at_least_rest (part misses) (outcome u y) weights (min S n over S) ((S - min S n) over S) v (rest past) bound
               (over_rest (min S n) S pos (omega arith)) high,
           at_most_rest (part misses) (outcome u y) weights (l over S) ((S - l) over S)
-              (to_rises k (λ s N. where_true (misses s) (sums s N)) (λ s. picked_rises (misses s) s))
+              (to_rises k (λ s N. where_true (misses s) (sums s N)) (λ s. where_rises (misses s) (sums s) (sum_rises_to _)))
               ((unit_proper u h).cells_rise y) (rest past) (over_rest l S pos fits) low,
         )

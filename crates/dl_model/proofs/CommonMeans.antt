@@ -1,14 +1,8 @@
 -- The mean under a common factor: the sum of the means of the units.
-use Rattle.dl_model.proofs.Common.{◌≡◌, ℕ, suc, ◌≤◌, arith, sym, ap, ap₂, subst, ◌∙◌, List, [], ◌∷◌, All, Fraction, whole, ◌+ℚ◌, ◌*ℚ◌, ◌/ℚ◌, ◌<ℚ◌, ring, sum_to, sum_over, sum_to_same, sum_to_plus, sum_to_times, sum_to_zero, times_zero, plus_times, zero_times, div_times, le-max_left, le-max_right, total_pos, greatest, pairs_of, mean_amount, probability_of, expected_count, IsValidUnit, Holds, One, Mean, partial_sums, loss_of, map}
+use Rattle.dl_model.proofs.Common.{◌≡◌, ℕ, suc, ◌≤◌, arith, sym, ap, ap₂, subst, ◌∙◌, List, [], ◌∷◌, All, Fraction, whole, ◌+ℚ◌, ◌*ℚ◌, ◌/ℚ◌, ◌<ℚ◌, ring, sum_to, sum_over, sum_to_same, sum_to_plus, sum_to_times, times_zero, plus_times, zero_times, div_times, total_pos, greatest, pairs_of, mean_amount, probability_of, expected_count, IsValidUnit, Holds, One, Mean, partial_sums, loss_of, map, declared_mean, CanShare, HasCommonFactor, expected_of, mean-shares, common_sums, pooled_severity, expected_claims, poisson_units, fun_ext, sum_to_none, times_right_comm}
 use Rattle.dl_plan.specs.declared.plan.Unit.{Unit as UnitOfPlan}
-use Rattle.dl_plan.specs.Means.{declared_mean}
-use Rattle.dl_plan.specs.Common.{CanShare, HasCommonFactor, expected_of}
-use Rattle.dl_plan.proofs.Shares.{mean-shares}
-use Rattle.dl_model.specs.CommonFactor.{common_sums, pooled_severity, expected_claims}
-use Rattle.dl_model.specs.CommonUnits.{poisson_units}
-use Rattle.dl_model.proofs.Alike.{ends_in_order}
+use Rattle.dl_model.proofs.ValueLaws.{ends_in_order, holds_wider}
 use Rattle.dl_model.proofs.Bounded.{are_units, quantity_bounded, whole_positive}
-use Rattle.dl_model.proofs.Declared.{holds_wider}
 use Rattle.dl_model.proofs.ItemWeights.{shares_mean}
 use Rattle.dl_model.proofs.Outcomes.{outcomes_rise}
 use Rattle.dl_model.proofs.PooledLoss.{common_mean}
@@ -28,29 +22,17 @@ mixed_mean : (v : Fraction) → whole 0 <ℚ v → (units : List UnitOfPlan) (fa
     → sum_to far (λ j. whole j *ℚ sum_over units (λ u. expected_count u.freq /ℚ v *ℚ probability_of u.sev j)) *ℚ v
     ≡ sum_over units declared_mean
 unfolding sum_over
-mixed_mean v pos [] far near =
-    ap (λ t. t *ℚ v) (sum_to_zero far (λ j. whole j *ℚ whole 0) (λ j b. times_zero (whole j))) ∙ zero_times v
+mixed_mean v pos [] far near = simp (times_zero, sum_to_none, zero_times)
 mixed_mean v pos (u ∷ us) far near =
     let share = expected_count u.freq /ℚ v in
     let rest : ℕ → Fraction = λ j. sum_over us (λ w. expected_count w.freq /ℚ v *ℚ probability_of w.sev j) in
-    ap (λ t. t *ℚ v)
-    (sum_to_same far _ (λ j. share *ℚ (whole j *ℚ probability_of u.sev j) +ℚ whole j *ℚ rest j)
-    (λ j b. turn (whole j) share (probability_of u.sev j) (rest j))
-    ∙ sum_to_plus far _ _
-    ∙ ap (λ t. t +ℚ sum_to far (λ j. whole j *ℚ rest j))
+    ap (λ t. t *ℚ v) (sum_to_same far _ (λ j. share *ℚ (whole j *ℚ probability_of u.sev j) +ℚ whole j *ℚ rest j)
+    (λ j b. (simp ring)) ∙ sum_to_plus far _ _ ∙ ap (λ t. t +ℚ sum_to far (λ j. whole j *ℚ rest j))
     (sum_to_times far share (λ j. whole j *ℚ probability_of u.sev j)
-    ∙ ap (λ m. share *ℚ m) (one_mean u far (omega (arith, near, le-max_left (greatest u.sev.items) (greatest_of us))))))
-    ∙ plus_times _ _ v
-    ∙ ap₂ (λ s t. s +ℚ t)
-    (swap share (mean_amount (pairs_of u.sev)) v
+    ∙ ap (λ m. share *ℚ m) (one_mean u far (omega (arith, near)))))
+    ∙ plus_times _ _ v ∙ ap₂ (λ s t. s +ℚ t) (times_right_comm share _ v
     ∙ ap (λ t. t *ℚ mean_amount (pairs_of u.sev)) (div_times (expected_count u.freq) v pos))
-    (mixed_mean v pos us far (omega (arith, near, le-max_right (greatest u.sev.items) (greatest_of us))))
-  where
-    turn : (j s p r : Fraction) → j *ℚ (s *ℚ p +ℚ r) ≡ s *ℚ (j *ℚ p) +ℚ j *ℚ r
-    turn j s p r = simp ring
-
-    swap : (s m v : Fraction) → s *ℚ m *ℚ v ≡ s *ℚ v *ℚ m
-    swap s m v = simp ring
+    (mixed_mean v pos us far (omega (arith, near)))
 
 -- ---- the mean of the total
 
@@ -58,10 +40,8 @@ module _ (units : List UnitOfPlan) (q : ℕ) (factor : HasCommonFactor (suc q) u
   claims_mean : sum_to (greatest_of units) (λ j. whole j *ℚ pooled_severity (poisson_units units) j) *ℚ
       expected_claims (poisson_units units)
       ≡ sum_over units declared_mean
-  claims_mean =
-      ap₂ (λ s v. s *ℚ v)
-      (sum_to_same (greatest_of units) _ _ (λ j b. ap (λ p. whole j *ℚ p) (pooled_over units j)))
-      (expected_units units)
+  claims_mean = ap₂ (λ f v. sum_to (greatest_of units) f *ℚ v)
+      (fun_ext (λ j. ap (λ p. whole j *ℚ p) (pooled_over units j))) (expected_units units)
       ∙ mixed_mean (expected_of units) factor.some units (greatest_of units) (omega arith)
 
   pub shared_mean : Holds (common_sums (suc q) (poisson_units units) Mean)

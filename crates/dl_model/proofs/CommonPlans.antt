@@ -1,14 +1,6 @@
 -- Plans whose units share a common factor: what they declare is bounded, above 0 somewhere, and adds up to 1.
-use Rattle.dl_model.proofs.Common.{◌≡◌, ℕ, zero, suc, ◌<◌, ◌≤◌, max, arith, refl, sym, ap, ap₂, subst, ◌∙◌, List, [], ◌∷◌, Option, None, Some, IfSome, Fraction, whole, ◌+ℚ◌, ◌*ℚ◌, ◌/ℚ◌, ◌<ℚ◌, sum_over, times_zero, plus_zero, lt_gap, le-max_left, le-max_right, greatest, probability_of, expected_count, IsBound, AtLeast, Rises, Series, One, Cdf, IsQuantile}
-use Rattle.dl_exact.proofs.Sums.{sum_over_map}
+use Rattle.dl_model.proofs.Common.{◌≡◌, ℕ, zero, suc, ◌<◌, ◌≤◌, max, arith, refl, ap, ◌∙◌, List, [], ◌∷◌, Option, None, Some, IfSome, Fraction, whole, ◌*ℚ◌, ◌/ℚ◌, ◌<ℚ◌, sum_over, times_zero, plus_zero, lt_gap, greatest, probability_of, expected_count, IsBound, AtLeast, Rises, Series, One, Cdf, IsQuantile, sum_over_map, Plan, HasCommonFactor, expected_of, Quantity, IsAsked, IsBracketed, PoissonUnit, expected_claims, common_sums, pooled_severity, AreSeverities, poisson_unit, poisson_units, declared, declared_by}
 use Rattle.dl_plan.specs.declared.plan.Unit.{Unit as UnitOfPlan}
-use Rattle.dl_plan.specs.declared.plan.Plan.{Plan}
-use Rattle.dl_plan.specs.Common.{HasCommonFactor, expected_of}
-use Rattle.dl_model.specs.Program.{Quantity}
-use Rattle.dl_model.specs.Measures.{IsAsked, IsBracketed}
-use Rattle.dl_model.specs.CommonFactor.{PoissonUnit, expected_claims, common_sums, pooled_severity, AreSeverities}
-use Rattle.dl_model.specs.CommonUnits.{poisson_unit, poisson_units}
-use Rattle.dl_model.specs.Plans.{declared, declared_by}
 use Rattle.dl_model.proofs.ItemWeights.{shares_severity}
 use Rattle.dl_model.proofs.PooledLoss.{common_bounded, common_positive, common_rises, common_grows, common_whole, common_quantile}
 use Rattle.dl_model.proofs.Bracket.{bracket_holds}
@@ -39,12 +31,10 @@ none_past : (v : Fraction) (units : List UnitOfPlan) (a : ℕ) → greatest_of u
 unfolding sum_over
 none_past v [] a far = refl
 none_past v (u ∷ us) a far =
-    ap₂ (λ s t. s +ℚ t)
-    (ap (λ p. expected_count u.freq /ℚ v *ℚ p)
-    ((shares_severity u.sev.items u.sev.total u.sev.weighted).past a
-    (omega (arith, far, le-max_left (greatest u.sev.items) (greatest_of us)))) ∙ times_zero _)
-    (none_past v us a (omega (arith, far, le-max_right (greatest u.sev.items) (greatest_of us))))
-    ∙ plus_zero (whole 0)
+    rw (
+      (shares_severity u.sev.items u.sev.total u.sev.weighted).past a (omega (arith, far)),
+      none_past v us a (omega (arith, far)),
+    ) (simp (times_zero, plus_zero))
 
 pub pooled_past : (units : List UnitOfPlan) (a : ℕ) → greatest_of units < a
     → pooled_severity (poisson_units units) a ≡ whole 0
@@ -57,7 +47,7 @@ module _ (units : List UnitOfPlan) (q : ℕ) (factor : HasCommonFactor (suc q) u
   us = poisson_units units
 
   pub some : whole 0 <ℚ expected_claims us
-  some = subst (λ t. whole 0 <ℚ t) (sym (expected_units units)) factor.some
+  some = rw (expected_units units) factor.some
 
   abbrev pub D : Quantity → Series
   D = common_sums (suc q) us

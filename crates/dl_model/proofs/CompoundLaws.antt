@@ -1,7 +1,7 @@
 -- Sums of a number of claims: what they can come to, and that their probabilities add up to 1.
-use Rattle.dl_model.proofs.Common.{ℕ, ◌≡◌, ◌+◌, ◌*◌, ◌<◌, ◌≤◌, zero, suc, arith, refl, ap, ap₂, subst, subst₂, ◌∙◌, inl, inr, le_ind, cases_lt, Fraction, whole, ◌+ℚ◌, ◌*ℚ◌, ◌≤ℚ◌, sum_to, sum_pairs, plus_zero, zero_times, times_zero, times_one, le_trans, le_of_eq, le_antisymm, times_le_both, sum_to_same, sum_to_times, sum_to_swap, sum_to_grows, sum_pairs_same, sum_to_zero, sum_to_longer, sum_pairs_none, at_zero, power, cell, IsWithinOne, IsSeverity}
+use Rattle.dl_model.proofs.Common.{ℕ, ◌≡◌, ◌+◌, ◌*◌, ◌<◌, ◌≤◌, zero, suc, arith, refl, ap, ap₂, ◌∙◌, inl, inr, le_ind, cases_lt, Fraction, whole, ◌+ℚ◌, ◌*ℚ◌, sum_to, sum_pairs, plus_zero, zero_times, times_zero, times_one, le_trans, le_of_eq, sum_to_same, sum_to_times, sum_to_swap, sum_to_grows, sum_pairs_same, sum_to_zero, sum_to_longer, sum_pairs_none, at_zero, power, cell, IsWithinOne, IsSeverity, order, convolve}
 use Rattle.std.proofs.Math.Nat.{mul-le-mul_right}
-use Rattle.dl_model.proofs.Cauchy.{cauchy_low, cauchy_high}
+use Rattle.dl_model.proofs.Cauchy.{cauchy_low, sum_convolve}
 
 pub sum_at_zero : (y : ℕ) → sum_to y at_zero ≡ whole 1
 unfolding sum_to at_zero
@@ -13,8 +13,7 @@ unfolding power
 power_within_one f h zero y = le_of_eq _ _ (sum_at_zero y)
 power_within_one f h (suc n) y =
     le_trans _ _ _ (cauchy_low y f (power f n))
-    (subst (λ t. sum_to y f *ℚ sum_to y (power f n) ≤ℚ t) (times_one _)
-    (times_le_both _ _ _ _ (h y) (power_within_one f h n y)))
+    (grw (order, h y, power_within_one f h n y) (le_of_eq _ _ (times_one _)))
 
 -- ---- severities whose probabilities add up to 1
 
@@ -27,34 +26,32 @@ severity_within_one f m s n = elim (cases_lt m n) [
   | inr near ↦ le_trans _ _ _ (sum_to_grows n m f near) (le_of_eq _ _ s.add_up)
 ]
 
+-- a convolution of two that have nothing past p and past q
+pub convolve_past : (f g : ℕ → Fraction) (p q s : ℕ) → ((i : ℕ) → p < i → f i ≡ whole 0)
+    → ((j : ℕ) → q < j → g j ≡ whole 0) → p + q < s → convolve f g s ≡ whole 0
+convolve_past f g p q s pf pg h = sum_pairs_same s _ (λ i j. whole 0) (λ i j e. elim (cases_lt p i) [
+  | inl far ↦ simp (pf i far, zero_times)
+  | inr near ↦ simp (pg j (omega arith), times_zero)
+]) ∙ sum_pairs_none s
+
 pub power_past : (f : ℕ → Fraction) (m : ℕ) → ((j : ℕ) → m < j → f j ≡ whole 0) → (n s : ℕ) → n * m < s
     → power f n s ≡ whole 0
 unfolding power at_zero
 power_past f m past zero zero h = absurd (omega (arith, h))
 power_past f m past zero (suc s) h = refl
 power_past f m past (suc n) s h =
-    sum_pairs_same s _ (λ i j. whole 0) (λ i j e. elim (cases_lt m i) [
-      | inl far ↦ ap (λ t. t *ℚ power f n j) (past i far) ∙ zero_times _
-      | inr near ↦ ap (λ t. f i *ℚ t) (power_past f m past n j (omega arith)) ∙ times_zero _
-    ]) ∙ sum_pairs_none s
+    convolve_past f (power f n) m (n * m) s past (power_past f m past n) (omega arith)
 
 -- n claims of such a severity have such a severity again
 pub power_severity : (f : ℕ → Fraction) (m : ℕ) → IsSeverity f m → (n : ℕ) → IsSeverity (power f n) (n * m)
 unfolding power
 power_severity f m s zero = record { add_up = sum_at_zero _; past = power_past f m s.past zero }
 power_severity f m s (suc n) =
-    let few : n * m ≤ suc n * m = omega arith in
-    let one : m ≤ suc n * m = omega arith in
-    let k = suc n * m in
-    let past = power_past f m s.past (suc n) in
-    let low : sum_to k (power f (suc n)) ≤ℚ whole 1 = power_within_one f (severity_within_one f m s) (suc n) k in
-    let high : whole 1 ≤ℚ sum_to k (power f (suc n)) =
-    subst₂ (λ s t. s ≤ℚ t)
-    (ap₂ (λ a b. a *ℚ b) (severity_all f m k s one) (severity_all (power f n) (n * m) k (power_severity f m s n) few)
-    ∙ times_one _)
-    (sum_to_longer k (k + k) (power f (suc n)) (omega arith) past)
-    (cauchy_high k f (power f n)) in
-    record { add_up = le_antisymm _ _ low high; past = past }
+    let rest = power_severity f m s n in record {
+      add_up = sum_convolve f (power f n) m (n * m) (suc n * m) s.past rest.past (omega arith)
+          ∙ rw (s.add_up, rest.add_up) (times_one _);
+      past = power_past f m s.past (suc n);
+    }
 
 -- ---- cells
 
@@ -83,11 +80,8 @@ unfolding power sum_pairs
 no_power f z zero s h = absurd (omega arith)
 no_power f z (suc n) zero h = ap (λ t. t *ℚ power f n zero) z ∙ zero_times _
 no_power f z (suc n) (suc s) h =
-    ap₂ (λ x y. x +ℚ y)
-    (ap (λ t. t *ℚ power f n (suc s)) z ∙ zero_times _)
-    (sum_pairs_same s _ _ (λ i j e. ap (λ t. f (suc i) *ℚ t) (no_power f z n j (omega arith)) ∙ times_zero _)
-    ∙ sum_pairs_none s)
-    ∙ plus_zero _
+    ap₂ (λ x y. x +ℚ y) (simp (z, zero_times)) (sum_pairs_same s _ (λ i j. whole 0)
+    (λ i j e. simp (no_power f z n j (omega arith), times_zero)) ∙ sum_pairs_none s) ∙ plus_zero _
 
 -- from N = y on the cell at y does not change
 pub cell_stays : (w f : ℕ → Fraction) → f zero ≡ whole 0 → (y N : ℕ) → y ≤ N → cell w f y N ≡ cell w f y y

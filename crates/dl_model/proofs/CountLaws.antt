@@ -1,6 +1,5 @@
 -- The weighted ways of a number of claims.
-use Rattle.dl_model.proofs.Common.{◌≡◌, ℕ, suc, zero, ◌*◌, ◌^◌, ◌<◌, ◌≤◌, arith, ap, subst, ◌∙◌, mul-pos, pow-suc, one-le-pow, zero-lt-suc, pow-zero, ◌over◌, ◌*ℚ◌, ◌≤ℚ◌, whole, over_same, over_mul, le_over, one_pos, le_trans, sum_pairs_same, item_le_sum, at_zero, power, IsWithinOne, count_pairs}
-use Rattle.dl_exact.proofs.SumsOver.{sum_pairs_over}
+use Rattle.dl_model.proofs.Common.{◌≡◌, ℕ, suc, zero, ◌*◌, ◌^◌, ◌<◌, ◌≤◌, arith, ap, subst, ◌∙◌, mul-pos, pow-suc, one-le-pow, zero-lt-suc, pow-zero, ◌over◌, ◌*ℚ◌, ◌≤ℚ◌, whole, over_same, over_mul, le_over, one_pos, le_trans, sum_pairs_same, item_le_sum, at_zero, power, IsWithinOne, count_pairs, sum_pairs_over}
 use Rattle.dl_model.specs.Ways.{ways}
 use Rattle.dl_model.proofs.CompoundLaws.{power_within_one}
 

@@ -1,11 +1,6 @@
 -- The binomial law of divided powers.
-use Rattle.dl_model.proofs.Common.{◌≡◌, ℕ, suc, zero, sym, ap, ap₂, ◌∙◌, zero-lt-suc, fun_ext, Fraction, ◌+ℚ◌, ◌*ℚ◌, whole, sum_pairs, ring, plus_times, times_comm, times_assoc, times_left_comm, times_one, times_cancel, div_times, whole_pos, zero_times, sum_pairs_same, sum_pairs_plus, sum_pairs_times, sum_pairs_times_right, sum_pairs_weighed, convolve, at_zero, power}
-use Rattle.dl_exact.specs.Power.{factorial}
-use Rattle.dl_exact.proofs.Laws.{whole_times}
-use Rattle.dl_exact.proofs.Powers.{factorial_pos}
-use Rattle.dl_exact.proofs.Sums.{sum_pairs_swap}
-use Rattle.dl_model.specs.Divided.{divided_power}
-use Rattle.dl_model.proofs.Powers.{convolve_assoc, convolve_comm, convolve_times, at_zero_convolve, power_tilt}
+use Rattle.dl_model.proofs.Common.{◌≡◌, ℕ, suc, zero, sym, ap, ap₂, ◌∙◌, zero-lt-suc, fun_ext, Fraction, ◌+ℚ◌, ◌*ℚ◌, whole, sum_pairs, ring, plus_times, times_comm, times_assoc, times_left_comm, times_one, times_cancel, div_times, whole_pos, zero_times, sum_pairs_same, sum_pairs_plus, sum_pairs_times, sum_pairs_times_right, sum_pairs_weighed, convolve, at_zero, power, factorial, whole_times, factorial_pos, sum_pairs_swap, divided_power}
+use Rattle.dl_model.proofs.Powers.{convolve_assoc, convolve_times, at_zero_convolve, power_tilt, convolve_scaled, convolve_first}
 
 -- n! divided by itself
 pub divided_whole : (f : ℕ → Fraction) (n s : ℕ) → divided_power f n s *ℚ whole (factorial n) ≡ power f n s
@@ -33,12 +28,9 @@ unfolding power factorial
 divided_next f n s =
     let w = whole (factorial n) in
     times_cancel _ _ w (whole_pos (factorial n) (factorial_pos n))
-    (turn (whole (suc n)) (divided_power f (suc n) s) w
+    ((simp ring)
     ∙ ap (λ t. divided_power f (suc n) s *ℚ t) (sym (whole_times (suc n) (factorial n)))
     ∙ divided_whole f (suc n) s ∙ sym (convolve_divided f f n s))
-  where
-    turn : (a b c : Fraction) → a *ℚ b *ℚ c ≡ b *ℚ (a *ℚ c)
-    turn a b c = simp ring
 
 -- the sum times a divided power, as the derivative of a power
 pub divided_tilt : (f : ℕ → Fraction) (n s : ℕ)
@@ -56,18 +48,13 @@ divided_tilt f n s =
 
 pub convolve_plus_left : (f g h : ℕ → Fraction) (s : ℕ)
     → convolve (λ j. f j +ℚ g j) h s ≡ convolve f h s +ℚ convolve g h s
-convolve_plus_left f g h s = sum_pairs_same s _ _ (λ i j e. plus_times (f i) (g i) (h j))
-    ∙ sum_pairs_plus s (λ i j. f i *ℚ h j) (λ i j. g i *ℚ h j)
+convolve_plus_left f g h s = simp (plus_times, sum_pairs_plus)
 
 pub convolve_pairs : (f : ℕ → Fraction) (n s : ℕ) (h : ℕ → ℕ → ℕ → Fraction)
     → convolve f (λ t. sum_pairs n (λ j k. h j k t)) s ≡ sum_pairs n (λ j k. convolve f (h j k) s)
 convolve_pairs f n s h =
     sum_pairs_same s _ _ (λ a b e. sym (sum_pairs_times n (f a) (λ j k. h j k b)))
     ∙ sum_pairs_swap s n (λ a b j k. f a *ℚ h j k b)
-
-pub convolve_first : (f g h : ℕ → Fraction) (s : ℕ) → convolve g (convolve f h) s ≡ convolve f (convolve g h) s
-convolve_first f g h s = ap (λ t. t s) (sym (convolve_assoc g f h) ∙ ap (λ t. convolve t h) (convolve_comm g f)
-    ∙ convolve_assoc f g h)
 
 -- ---- the binomial law
 
@@ -80,25 +67,16 @@ module _ (f g : ℕ → Fraction) where
 
   splits_next : (n s : ℕ) → whole (suc n) *ℚ splits (suc n) s ≡ convolve both (splits n) s
   splits_next n s =
-      sum_pairs_weighed n (λ j k. convolve (divided_power f j) (divided_power g k) s)
-      ∙ ap₂ (λ x y. x +ℚ y)
-      (sum_pairs_same n _ (λ j k. convolve f (convolve (divided_power f j) (divided_power g k)) s) (λ j k e.
-      left (suc j) (divided_power f (suc j)) (divided_power g k)
+      sum_pairs_weighed n (λ j k. convolve (divided_power f j) (divided_power g k) s) ∙ sym (sum_pairs_plus n _ _)
+      ∙ sum_pairs_same n _ (λ j k. convolve both (convolve (divided_power f j) (divided_power g k)) s) (λ j k e.
+      ap₂ (λ x y. x +ℚ y) (sym (convolve_scaled (whole (suc j)) (divided_power f (suc j)) (divided_power g k) s)
       ∙ ap (λ t. convolve t (divided_power g k) s) (fun_ext (divided_next f j))
-      ∙ ap (λ t. t s) (convolve_assoc f (divided_power f j) (divided_power g k))))
-      (sum_pairs_same n _ (λ j k. convolve g (convolve (divided_power f j) (divided_power g k)) s) (λ j k e.
-      sym (convolve_times (whole (suc k)) (divided_power f j) (divided_power g (suc k)) s)
+      ∙ ap (λ t. t s) (convolve_assoc f (divided_power f j) (divided_power g k)))
+      (sym (convolve_times (whole (suc k)) (divided_power f j) (divided_power g (suc k)) s)
       ∙ ap (λ t. convolve (divided_power f j) t s) (fun_ext (divided_next g k))
-      ∙ convolve_first g (divided_power f j) (divided_power g k) s))
-      ∙ sym (sum_pairs_plus n (λ j k. convolve f (convolve (divided_power f j) (divided_power g k)) s)
-      (λ j k. convolve g (convolve (divided_power f j) (divided_power g k)) s))
-      ∙ sum_pairs_same n _ _ (λ j k e.
-      sym (convolve_plus_left f g (convolve (divided_power f j) (divided_power g k)) s))
+      ∙ convolve_first g (divided_power f j) (divided_power g k) s)
+      ∙ sym (convolve_plus_left f g (convolve (divided_power f j) (divided_power g k)) s))
       ∙ sym (convolve_pairs both n s (λ j k. convolve (divided_power f j) (divided_power g k)))
-    where
-      left : (c : ℕ) (a b : ℕ → Fraction) → whole c *ℚ convolve a b s ≡ convolve (λ t. whole c *ℚ a t) b s
-      left c a b = sym (sum_pairs_times s (whole c) (λ i j. a i *ℚ b j))
-          ∙ sum_pairs_same s _ _ (λ i j e. sym (times_assoc (whole c) (a i) (b j)))
 
   none_splits : (s : ℕ) → divided_power both zero s ≡ splits zero s
   unfolding power factorial sum_pairs

@@ -1,8 +1,6 @@
 -- Sums of values over one series, the distribution and what is above it, and the layer without a limit.
-use Rattle.dl_model.proofs.Common.{◌≡◌, ℕ, suc, zero, ◌<◌, ◌≤◌, arith, sym, subst, List, Some, None, fun_ext, Fraction, whole, ◌+ℚ◌, ◌≤ℚ◌, sum_to, sum_below, le_refl, le_trans, zero_le, zero_times, one_times, plus_le_both, le_plus, Series, IsBound, Rises, AtMost, AtLeast, Holds, plus, Loss, AreDeclarable, One, Cdf, Layer, Mean, score, partial_sums, above, survival, zero_plus, subst₂, ap}
-use Rattle.dl_model.proofs.Declared.{at_most_plus, at_least_plus, holds_wider}
-use Rattle.dl_model.proofs.Complements.{at_least_rest}
-use Rattle.dl_model.proofs.Minus.{at_most_rest, at_least_minus, at_most_minus}
+use Rattle.dl_model.proofs.Common.{◌≡◌, ℕ, suc, zero, ◌<◌, ◌≤◌, arith, sym, subst, List, Some, None, fun_ext, Fraction, whole, ◌+ℚ◌, ◌≤ℚ◌, sum_to, sum_below, le_refl, le_trans, zero_le, zero_times, one_times, plus_le_both, le_plus, Series, IsBound, Rises, AtMost, AtLeast, Holds, plus, Loss, AreDeclarable, One, Cdf, Layer, Mean, score, partial_sums, above, survival, zero_plus, subst₂, ap, ◌∙◌, plus_assoc, plus_comm}
+use Rattle.dl_model.proofs.ValueLaws.{at_most_plus, at_least_plus, holds_wider, at_least_rest, at_most_rest, at_least_minus, at_most_minus}
 use Rattle.dl_model.proofs.Outcomes.{outcomes_rise}
 use Rattle.dl_model.proofs.Scores.{cdf_rest, mean_split}
 
@@ -35,8 +33,14 @@ pub below_holds : (n : ℕ) (P : ℕ → Series) (R : Series) (l h : ℕ → Fra
     → Holds (λ N. sum_below n (λ i. P i N)) R (sum_below n l) (sum_below n h)
 below_holds n P R l h r a = (below_least n P R l r (λ i c. (a i c).0), below_most n P R h (λ i c. (a i c).1))
 
+-- the first item apart
+pub below_first : (n : ℕ) (f : ℕ → Fraction) → sum_below (suc n) f ≡ f zero +ℚ sum_below n (λ i. f (suc i))
+unfolding sum_below
+below_first zero f = plus_comm _ _
+below_first (suc n) f = ap (λ t. t +ℚ f (suc n)) (below_first n f) ∙ plus_assoc _ _ _
+
 -- the sums from 0 to n
-to_below : (n : ℕ) (f : ℕ → Fraction) → sum_below (suc n) f ≡ sum_to n f
+pub to_below : (n : ℕ) (f : ℕ → Fraction) → sum_below (suc n) f ≡ sum_to n f
 unfolding sum_to sum_below
 to_below zero f = zero_plus _
 to_below (suc n) f = ap (λ t. t +ℚ f (suc n)) (to_below n f)
@@ -55,8 +59,7 @@ to_holds n P R l h r a = subst (λ Q. Holds Q R (sum_to n l) (sum_to n h)) (fun_
 
 -- what a series is part of is at least it
 pub part_most_one : (Q Q' R : Series) → ((n : ℕ) → Q n +ℚ Q' n ≡ R n) → AtMost Q R (whole 1)
-part_most_one Q Q' R e n u b =
-    subst (λ t. Q n ≤ℚ t) (sym (one_times u)) (le_trans _ _ _ (subst (λ t. Q n ≤ℚ t) (e n) (le_plus _ _)) (b n))
+part_most_one Q Q' R e n u b = rw one_times (le_trans _ _ _ (subst (λ t. Q n ≤ℚ t) (e n) (le_plus _ _)) (b n))
 
 pub cdf_most_one : (us : List Loss) (x : ℕ) → AtMost (partial_sums us (Cdf x)) (partial_sums us One) (whole 1)
 cdf_most_one us x = part_most_one _ _ _ (cdf_rest us x)

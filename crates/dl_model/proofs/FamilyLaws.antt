@@ -1,12 +1,7 @@
 -- A convolution with outward rounding encloses the product of families, and powers of families.
-use Rattle.dl_model.proofs.Common.{◌≡◌, ℕ, suc, zero, ◌+◌, ◌*◌, ◌/◌, ◌^◌, ◌<◌, ◌≤◌, List, length, min, arith, refl, sym, ap, subst, subst₂, ◌∙◌, mul-pos, inl, inr, mul-le-mul_right, fun_ext, min-eq_right, cases_lt, pow_pos, Fraction, whole, ◌over◌, ◌*ℚ◌, ◌≤ℚ◌, ◌^ℚ◌, sum_to, sum_pairs, over_le, one_pos, le_refl, le_trans, le_of_eq, plus_le_both, le_plus, one_times, times_one, times_le_both, sum_to_same, sum_to_le, sum_to_times, sum_to_swap, item_le_sum, Series, Rises, AtMost, AtLeast, Holds, times, at_zero, power, IsWithinOne, count_pairs, Family, compound, product, nothing, times_itself, IsProper, Encloses, pairs_in_units, pow_plus}
-use Rattle.std.proofs.Common.{◌⊎◌, div-mul-le_self}
+use Rattle.dl_model.proofs.Common.{◌≡◌, ℕ, suc, zero, ◌+◌, ◌*◌, ◌/◌, ◌^◌, ◌<◌, ◌≤◌, List, length, min, arith, refl, sym, ap, subst, subst₂, ◌∙◌, mul-pos, inl, inr, mul-le-mul_right, fun_ext, min-eq_right, cases_lt, pow_pos, Fraction, whole, ◌over◌, ◌*ℚ◌, ◌^ℚ◌, sum_to, sum_pairs, over_le, one_pos, le_refl, le_trans, le_of_eq, plus_le_both, le_plus, one_times, times_one, times_le_both, sum_to_le, sum_to_times, sum_to_swap, item_le_sum, Series, Rises, AtMost, AtLeast, Holds, times, at_zero, power, IsWithinOne, count_pairs, Family, compound, product, nothing, times_itself, IsProper, Encloses, pairs_in_units, pow_plus, ◌⊎◌, div-mul-le_self, div_ceil, Iv, low_at, high_at, GridEncloses, above, order}
 use Rattle.std.proofs.lemmas.Grind.{div_ceil_times}
-use Rattle.std.specs.Int.{div_ceil}
-use Rattle.dl_iv.specs.declared.interval.Iv.{Iv}
-use Rattle.dl_grid.specs.Cells.{low_at, high_at}
 use Rattle.dl_grid.specs.Convolution.{IsConvolution}
-use Rattle.dl_model.specs.Family.{GridEncloses}
 use Rattle.dl_model.proofs.Declared.{at_most_plus, at_least_plus, at_most_times, at_least_times, at_most_wider, at_least_wider}
 use Rattle.dl_model.proofs.Cauchy.{cauchy_low}
 use Rattle.dl_model.proofs.CompoundLaws.{sum_at_zero, power_within_one}
@@ -25,10 +20,8 @@ pub sum_at_most : (n : ℕ) (P : ℕ → ℕ → Series) (R : Series) (h : ℕ �
 unfolding sum_pairs
 sum_at_most zero P R h a = a zero zero (omega arith)
 sum_at_most (suc n) P R h a =
-    at_most_plus (P zero (suc n)) (λ N. sum_pairs n (λ i j. P (suc i) j N)) R (h zero (suc n))
-    (sum_pairs n (λ i j. h (suc i) j))
-    (a zero (suc n) (omega arith)) (sum_at_most n (λ i j. P (suc i) j) R (λ i j. h (suc i) j)
-    (λ i j e. a (suc i) j (omega arith)))
+    at_most_plus (P zero (suc n)) (λ N. sum_pairs n (λ i j. P (suc i) j N)) R _ _ (a zero (suc n) (omega arith))
+    (sum_at_most n (λ i j. P (suc i) j) R (λ i j. h (suc i) j) (λ i j e. a (suc i) j (omega arith)))
 
 pub sum_at_least : (n : ℕ) (P : ℕ → ℕ → Series) (R : Series) (l : ℕ → ℕ → Fraction)
     → ((i j : ℕ) → i + j ≡ n → Rises (P i j))
@@ -37,11 +30,10 @@ pub sum_at_least : (n : ℕ) (P : ℕ → ℕ → Series) (R : Series) (l : ℕ 
 unfolding sum_pairs
 sum_at_least zero P R l r a = a zero zero (omega arith)
 sum_at_least (suc n) P R l r a =
-    at_least_plus (P zero (suc n)) (λ N. sum_pairs n (λ i j. P (suc i) j N)) R (l zero (suc n))
-    (sum_pairs n (λ i j. l (suc i) j))
-    (r zero (suc n) (omega arith)) (sum_rises n (λ i j. P (suc i) j) (λ i j e. r (suc i) j (omega arith)))
-    (a zero (suc n) (omega arith)) (sum_at_least n (λ i j. P (suc i) j) R (λ i j. l (suc i) j)
-    (λ i j e. r (suc i) j (omega arith)) (λ i j e. a (suc i) j (omega arith)))
+    at_least_plus (P zero (suc n)) (λ N. sum_pairs n (λ i j. P (suc i) j N)) R _ _ (r zero (suc n) (omega arith))
+    (sum_rises n (λ i j. P (suc i) j) (λ i j e. r (suc i) j (omega arith))) (a zero (suc n) (omega arith))
+    (sum_at_least n (λ i j. P (suc i) j) R (λ i j. l (suc i) j) (λ i j e. r (suc i) j (omega arith))
+    (λ i j e. a (suc i) j (omega arith)))
 
 -- ---- proper families
 
@@ -58,9 +50,8 @@ proper_product F G p q = record {
 }
 
 pub cell_at_most_one : (F : Family) → IsProper F → (y : ℕ) → AtMost (F.cells y) F.all (whole 1)
-cell_at_most_one F p y = λ n u b.
-    subst (λ t. F.cells y n ≤ℚ t) (sym (one_times u))
-    (le_trans _ _ _ (le_trans _ _ _ (item_le_sum y (λ i. F.cells i n)) (p.within y n)) (b n))
+cell_at_most_one F p y n u b =
+    rw one_times (le_trans _ _ _ (item_le_sum y (λ i. F.cells i n)) (le_trans _ _ _ (p.within y n) (b n)))
 
 -- the partial sums of weights never fall
 pub sum_rises_to : (w : ℕ → Fraction) → Rises (λ N. sum_to N w)
@@ -71,10 +62,8 @@ pub compound_proper : (w f : ℕ → Fraction) → IsWithinOne f → IsProper (c
 compound_proper w f h = record {
   cells_rise = λ y. sum_rises_to (λ n. w n *ℚ power f n y);
   all_rises = sum_rises_to w;
-  within = λ y N. le_trans _ _ _ (le_of_eq _ _
-      (sum_to_swap y N (λ i n. w n *ℚ power f n i) ∙ sum_to_same N _ _ (λ n e. sum_to_times y (w n) (power f n))))
-      (sum_to_le N _ _ (λ n e. subst (λ t. w n *ℚ sum_to y (power f n) ≤ℚ t) (times_one _)
-      (times_le_both _ _ _ _ (le_refl (w n)) (power_within_one f h n y))));
+  within = λ y N. rw (sum_to_swap y N (λ i n. w n *ℚ power f n i)) (sum_to_le N _ w (λ n e.
+      rw (sum_to_times y (w n) (power f n)) (grw (order, power_within_one f h n y) (le_of_eq _ _ (times_one _)))));
 }
 
 pub nothing_proper : IsProper nothing
@@ -97,8 +86,7 @@ module _ (S K : ℕ) (lo hi lo' hi' : ℕ → ℕ) (F G : Family) (pos : 0 < S) 
       (λ i j s. rises_times _ _ (p.cells_rise i) (q.cells_rise j))
       (λ i j s. at_least_times (F.cells i) F.all (G.cells j) G.all (lo i over S) (lo' j over S) (p.cells_rise i)
       (q.cells_rise j) (e i (omega arith)).0 (e' j (omega arith)).0))
-      (subst (λ t. k over S ≤ℚ t) (sym (pairs_in_units y S lo lo' pos))
-      (over_le _ _ _ _ pos (mul-pos pos pos) (omega (arith, mul-le-mul_right S h))))
+      (rw (pairs_in_units y S lo lo' pos) (over_le _ _ _ _ pos (mul-pos pos pos) (omega (arith, mul-le-mul_right S h))))
 
   product_high : (y k : ℕ) → y < K → count_pairs y (λ i j. hi i * hi' j) ≤ k * S
       → AtMost ((product F G).cells y) (product F G).all (k over S)
@@ -106,8 +94,7 @@ module _ (S K : ℕ) (lo hi lo' hi' : ℕ → ℕ) (F G : Family) (pos : 0 < S) 
       (sum_at_most y (λ i j. times (F.cells i) (G.cells j)) (times F.all G.all) (λ i j. hi i over S *ℚ hi' j over S)
       (λ i j s. at_most_times (F.cells i) F.all (G.cells j) G.all (hi i over S) (hi' j over S) p.all_rises q.all_rises
       (e i (omega arith)).1 (e' j (omega arith)).1))
-      (subst (λ t. t ≤ℚ k over S) (sym (pairs_in_units y S hi hi' pos))
-      (over_le _ _ _ _ (mul-pos pos pos) pos (omega (arith, mul-le-mul_right S h))))
+      (rw (pairs_in_units y S hi hi' pos) (over_le _ _ _ _ (mul-pos pos pos) pos (omega (arith, mul-le-mul_right S h))))
 
   -- no cell is above the whole weight
   product_clamped : (y k : ℕ) → S ≤ k → AtMost ((product F G).cells y) (product F G).all (k over S)

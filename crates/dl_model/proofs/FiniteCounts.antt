@@ -1,24 +1,17 @@
 -- Counts of finitely many claims: their compound sums stand at one level.
-use Rattle.dl_model.proofs.Common.{◌≡◌, inl, inr, ℕ, suc, zero, ◌<◌, ◌≤◌, nat_eq, arith, refl, ap, subst, subst₂, ◌∙◌, cases_lt, Fraction, ◌over◌, ◌*ℚ◌, ◌≤ℚ◌, whole, sum_to, over_le, one_pos, le_refl, le_trans, le_of_eq, zero_le, times_one, zero_times, times_le_both, sum_to_same, sum_to_grows, sum_to_longer, Series, IsBound, Holds, at_zero, power, cell, fixed, compound, nothing, Encloses, sym}
+use Rattle.dl_model.proofs.Common.{◌≡◌, inl, inr, ℕ, suc, zero, ◌<◌, ◌≤◌, nat_eq, arith, refl, ap, subst, subst₂, ◌∙◌, cases_lt, Fraction, ◌over◌, ◌*ℚ◌, ◌≤ℚ◌, whole, sum_to, over_le, one_pos, le_refl, le_trans, le_of_eq, zero_le, times_one, zero_times, times_le_both, sum_to_same, sum_to_grows, sum_to_longer, Series, IsBound, Holds, at_zero, power, cell, fixed, compound, nothing, Encloses, sym, Iv, low_at, high_at, all_at_zero, GridEncloses, order}
 use Rattle.std.specs.Prelude.{List, length, ◌^◌}
 use Rattle.std.proofs.lemmas.Nat.{pow_pos}
-use Rattle.dl_iv.specs.declared.interval.Iv.{Iv}
-use Rattle.dl_grid.specs.Cells.{low_at, high_at, all_at_zero}
-use Rattle.dl_model.specs.Family.{GridEncloses}
-use Rattle.dl_model.proofs.Picks.{pick, where_factor}
+use Rattle.dl_model.proofs.ValueLaws.{pick, where_factor, convolve_comm, at_zero_convolve}
 use Rattle.dl_model.proofs.AddedCounts.{fixed_past}
-use Rattle.dl_model.proofs.Powers.{convolve_comm, at_zero_convolve}
 
 -- A value that is reached at some level, is passed at none, and lies over a whole weight of 1.
 pub holds_reached : (Q R : Series) (v l h : Fraction) (far : ℕ) → Q far ≡ v → IsBound Q v → R far ≡ whole 1
-    → IsBound R (whole 1)
-    → l ≤ℚ v → v ≤ℚ h → Holds Q R l h
+    → IsBound R (whole 1) → l ≤ℚ v → v ≤ℚ h → Holds Q R l h
 holds_reached Q R v l h far reached below one most low high = (
-  (λ n u bound. le_trans _ _ _ (subst (λ t. l *ℚ R n ≤ℚ t) (times_one l) (times_le_both _ _ _ _ (le_refl l) (most n)))
-      (le_trans _ _ _ low (subst (λ t. t ≤ℚ u) reached (bound far)))),
-  (λ n u bound. le_trans _ _ _ (below n) (le_trans _ _ _ high
-      (subst (λ t. t ≤ℚ h *ℚ u) (times_one h)
-      (times_le_both _ _ _ _ (le_refl h) (subst (λ t. t ≤ℚ u) one (bound far)))))),
+  (λ n u bound. grw (order, most n) (rw times_one (le_trans _ _ _ low (subst (λ t. t ≤ℚ u) reached (bound far))))),
+  (λ n u bound. le_trans _ _ _ (below n) (le_trans _ _ _ high (subst (λ t. t ≤ℚ h *ℚ u) (times_one h)
+      (times_le_both h h _ _ (le_refl h) (subst (λ t. t ≤ℚ u) one (bound far)))))),
 )
 
 -- sums of items that vanish past some place are bounded by the sum up to it
@@ -33,8 +26,8 @@ module _ (w f : ℕ → Fraction) (far : ℕ) (one : sum_to far w ≡ whole 1) (
   pub finite_holds : (y : ℕ) (l h : Fraction) → l ≤ℚ cell w f y far → cell w f y far ≤ℚ h
       → Holds (cell w f y) (λ N. sum_to N w) l h
   finite_holds y l h low high = holds_reached (cell w f y) (λ N. sum_to N w) (cell w f y far) l h far refl
-      (bounded_by_all far (λ n. w n *ℚ power f n y) (λ n b. ap (λ t. t *ℚ power f n y) (none n b) ∙ zero_times _))
-      one (λ N. subst (λ t. sum_to N w ≤ℚ t) one (bounded_by_all far w none N)) low high
+      (bounded_by_all far (λ n. w n *ℚ power f n y) (λ n b. simp (none n b, zero_times))) one
+      (λ N. subst (λ t. sum_to N w ≤ℚ t) one (bounded_by_all far w none N)) low high
 
   pub finite_encloses : (S K : ℕ) (lo hi : ℕ → ℕ) → ((y : ℕ) → y < K → lo y over S ≤ℚ cell w f y far)
       → ((y : ℕ) → y < K → cell w f y far ≤ℚ hi y over S)
@@ -79,8 +72,8 @@ pub fixed_value : (m : ℕ) (f : ℕ → Fraction) (y : ℕ) (l h : Fraction)
     → Holds (cell (fixed m) f y) (λ N. sum_to N (fixed m)) l h → (l ≤ℚ power f m y) × (power f m y ≤ℚ h)
 fixed_value m f y l h v = (
   subst (λ t. t ≤ℚ power f m y) (ap (λ t. l *ℚ t) one ∙ times_one l) (v.0 m (power f m y) (λ N.
-      subst (λ t. cell (fixed m) f y N ≤ℚ t) there (bounded_by_all m (λ n. fixed m n *ℚ power f n y)
-      (λ n b. ap (λ t. t *ℚ power f n y) (fixed_past m n b) ∙ zero_times _) N))),
+      subst (λ t. cell (fixed m) f y N ≤ℚ t) there
+      (bounded_by_all m (λ n. fixed m n *ℚ power f n y) (λ n b. simp (fixed_past m n b, zero_times)) N))),
   subst₂ (λ s t. s ≤ℚ t) there (times_one h) (v.1 m (whole 1) (λ N.
       subst (λ t. sum_to N (fixed m) ≤ℚ t) one (bounded_by_all m (fixed m) (fixed_past m) N))),
 )

@@ -1,11 +1,6 @@
 -- Gamma counts: their weights, sums and powers.
-use Rattle.dl_model.proofs.Common.{◌≡◌, ℕ, suc, zero, ◌+◌, ◌-◌, ◌*◌, arith, refl, sym, ap, ap₂, subst, subst₂, ◌∙◌, zero-lt-suc, fun_ext, Fraction, ◌+ℚ◌, ◌*ℚ◌, ◌≤ℚ◌, ◌<ℚ◌, whole, sum_to, sum_pairs, IsLeastBound, convolve, at_zero, power, gamma, choose, ◌^ℚ◌, ring, plus_comm, times_comm, times_assoc, times_left_comm, plus_times, one_times, times_one, whole_plus, whole_pos, times_cancel, le_refl, le_plus, times_le_cancel, times_le_both, sum_to_same, sum_to_first, sum_to_times, sum_pairs_same, sum_pairs_times, sum_pairs_plus, sum_pairs_weighed}
-use Rattle.std.proofs.Math.Nat.{eq_of_mul-eq-mul_left}
-use Rattle.dl_exact.proofs.Laws.{whole_times}
-use Rattle.dl_model.proofs.Powers.{at_zero_convolve, convolve_comm}
-use Rattle.dl_model.proofs.FamilyLaws.{sum_rises_to}
-use Rattle.dl_model.proofs.Minus.{at_most_rest}
-use Rattle.dl_model.proofs.Alike.{cauchy_level}
+use Rattle.dl_model.proofs.Common.{◌≡◌, ℕ, suc, zero, ◌+◌, ◌-◌, ◌*◌, arith, sym, ap, ap₂, subst, subst₂, ◌∙◌, zero-lt-suc, fun_ext, Fraction, ◌+ℚ◌, ◌*ℚ◌, ◌≤ℚ◌, ◌<ℚ◌, whole, sum_to, sum_pairs, IsLeastBound, convolve, at_zero, power, gamma, choose, ◌^ℚ◌, ring, plus_comm, times_comm, times_assoc, plus_times, one_times, times_one, whole_plus, whole_pos, times_cancel, le_refl, le_plus, times_le_cancel, times_le_both, sum_to_same, sum_to_first, sum_to_times, eq_of_mul-eq-mul_left, whole_times}
+use Rattle.dl_model.proofs.ValueLaws.{at_zero_convolve, convolve_comm, convolve_next, sum_rises_to, at_most_rest, cauchy_level}
 use Rattle.dl_model.proofs.Least.{least_times, least_from}
 
 pub choose-absorb : (m k : ℕ) → suc k * choose (suc m) (suc k) ≡ suc m * choose m k
@@ -19,25 +14,15 @@ shift_step : (q i : ℕ) → suc q * choose (suc (q + i)) i ≡ suc (q + i) * ch
     → suc q * choose (suc (suc (q + i))) (suc i) ≡ suc (suc (q + i)) * choose (suc (q + i)) (suc i)
 shift_step q i h =
     eq_of_mul-eq-mul_left (suc i) (omega arith) _ _
-    (omega (
-      arith,
-      ap (λ t. suc q * t) (choose-absorb (suc (q + i)) i),
-      ap (λ t. suc (suc (q + i)) * t) h,
-      ap
-          (λ t. suc (suc (q + i)) * t) (choose-absorb (q + i) i),
-    ))
-
-choose-zero : (m : ℕ) → choose m zero ≡ 1
-unfolding choose
-choose-zero m = refl
+    (
+    let a = ap (λ t. suc q * t) (choose-absorb (suc (q + i)) i) in
+    let b = ap (λ t. suc (suc (q + i)) * t) (choose-absorb (q + i) i) in
+    omega (arith, a, b, ap (λ t. suc (suc (q + i)) * t) h)
+    )
 
 pub choose-shift : (q i : ℕ) → suc q * choose (suc (q + i)) i ≡ suc (q + i) * choose (q + i) i
-choose-shift q zero = omega (
-  arith,
-  ap (λ t. suc q * t) (choose-zero (suc (q + zero))),
-  ap (λ t. suc (q + zero) * t)
-      (choose-zero (q + zero)),
-)
+unfolding choose
+choose-shift q zero = omega arith
 choose-shift q (suc i) =
     let d : q + suc i ≡ suc (q + i) = omega arith in
     subst (λ m. suc q * choose (suc m) (suc i) ≡ suc m * choose m (suc i)) (sym d) (shift_step q i (choose-shift q i))
@@ -60,23 +45,18 @@ unfolding ◌^ℚ◌
 gamma_next q x n =
     let e : q + suc n ≡ suc (q + n) = omega arith in
     let d : suc q + n ≡ suc (q + n) = omega arith in
-    ap (λ t. whole (suc n) *ℚ t) (gamma_is q x (suc n) ∙ ap (λ m. whole (choose m (suc n)) *ℚ (x *ℚ x ^ℚ n)) e)
-    ∙ sym (times_assoc _ _ _)
+    rw (gamma_is q x (suc n), e, gamma_is q x n) (sym (times_assoc _ _ _)
     ∙ ap (λ t. t *ℚ (x *ℚ x ^ℚ n)) (sym (whole_times _ _)
     ∙ ap whole (choose-absorb (q + n) n ∙ ap (λ m. m * choose (q + n) n) (sym d)) ∙ whole_times _ _)
-    ∙ times_assoc _ _ _
-    ∙ ap (λ t. whole (suc q + n) *ℚ t) (times_left_comm _ _ _ ∙ ap (λ t. x *ℚ t) (sym (gamma_is q x n)))
+    ∙ simp ring)
 
 pub gamma_shift : (q : ℕ) (x : Fraction) (i : ℕ)
     → whole (suc q) *ℚ gamma (suc (suc q)) x i ≡ whole (suc q + i) *ℚ gamma (suc q) x i
 gamma_shift q x i =
     let c : suc q + i ≡ suc (q + i) = omega arith in
-    ap (λ t. whole (suc q) *ℚ t) (gamma_is (suc q) x i)
-    ∙ sym (times_assoc _ _ _)
-    ∙ ap (λ t. t *ℚ x ^ℚ i) (sym (whole_times _ _)
+    rw (gamma_is (suc q) x i, gamma_is q x i) (sym (times_assoc _ _ _) ∙ ap (λ t. t *ℚ x ^ℚ i) (sym (whole_times _ _)
     ∙ ap whole (subst (λ m. suc q * choose m i ≡ m * choose (q + i) i) (sym c) (choose-shift q i)) ∙ whole_times _ _)
-    ∙ times_assoc _ _ _
-    ∙ ap (λ t. whole (suc q + i) *ℚ t) (sym (gamma_is q x i))
+    ∙ times_assoc _ _ _)
 
 -- one more in the shape is a convolution with the geometric weights
 pub gamma_one_more : (s : ℕ) (x : Fraction) (n : ℕ) → gamma (suc (suc s)) x n ≡ convolve (gamma 1 x) (gamma (suc s) x) n
@@ -84,25 +64,13 @@ unfolding sum_pairs
 gamma_one_more s x zero =
     gamma_zero (suc s) x ∙ sym (ap₂ (λ a b. a *ℚ b) (gamma_zero zero x) (gamma_zero s x) ∙ times_one _)
 gamma_one_more s x (suc n) =
-    let G = gamma 1 x in
-    let H = gamma (suc s) x in
     times_cancel _ _ (whole (suc n)) (whole_pos (suc n) (zero-lt-suc n))
-    (times_comm _ _ ∙ gamma_next (suc s) x n
-    ∙ ap (λ t. whole (suc (suc s) + n) *ℚ (x *ℚ t)) (gamma_one_more s x n)
-    ∙ sym (sum_pairs_weighed n (λ i j. G i *ℚ H j)
-    ∙ ap₂ (λ a b. a +ℚ b)
-    (sum_pairs_same n _ (λ i j. whole (1 + i) *ℚ (x *ℚ (G i *ℚ H j)))
-    (λ i j e. sym (times_assoc _ _ _) ∙ ap (λ t. t *ℚ H j) (gamma_next zero x i) ∙ times_assoc _ _ _
-    ∙ ap (λ t. whole (1 + i) *ℚ t) (times_assoc _ _ _)))
-    (sum_pairs_same n _ (λ i j. whole (suc s + j) *ℚ (x *ℚ (G i *ℚ H j)))
-    (λ i j e. times_left_comm _ _ _ ∙ ap (λ t. G i *ℚ t) (gamma_next s x j) ∙ times_left_comm _ _ _
-    ∙ ap (λ t. whole (suc s + j) *ℚ t) (times_left_comm _ _ _)))
-    ∙ sym (sum_pairs_plus n (λ i j. whole (1 + i) *ℚ (x *ℚ (G i *ℚ H j)))
-    (λ i j. whole (suc s + j) *ℚ (x *ℚ (G i *ℚ H j))))
-    ∙ sum_pairs_same n _ (λ i j. whole (suc (suc s) + n) *ℚ (x *ℚ (G i *ℚ H j))) (λ i j e.
+    (times_comm _ _ ∙ gamma_next (suc s) x n ∙ sym (times_assoc _ _ _)
+    ∙ ap (λ t. whole (suc (suc s) + n) *ℚ x *ℚ t) (gamma_one_more s x n)
+    ∙ sym (convolve_next n (gamma 1 x) (gamma (suc s) x) (λ i. whole (1 + i) *ℚ x) (λ j. whole (suc s + j) *ℚ x) _
+    (λ i. gamma_next zero x i ∙ sym (times_assoc _ _ _)) (λ j. gamma_next s x j ∙ sym (times_assoc _ _ _)) (λ i j e.
     let m : 1 + i + (suc s + j) ≡ suc (suc s) + n = omega arith in
-    sym (plus_times _ _ _) ∙ ap (λ t. t *ℚ (x *ℚ (G i *ℚ H j))) (sym (whole_plus _ _) ∙ ap whole m))
-    ∙ sum_pairs_times n (whole (suc (suc s) + n)) _ ∙ ap (λ t. whole (suc (suc s) + n) *ℚ t) (sum_pairs_times n x _))
+    sym (plus_times _ _ _) ∙ ap (λ t. t *ℚ x) (sym (whole_plus _ _) ∙ ap whole m)))
     ∙ times_comm _ _)
 
 pub gamma_power : (s : ℕ) (x : Fraction) → power (gamma 1 x) (suc s) ≡ gamma (suc s) x
@@ -134,14 +102,11 @@ module _ (x d : Fraction) (one : x +ℚ d ≡ whole 1) where
   geometric_identity (suc N) =
       let g = gamma 1 x (suc N) in
       ap (λ t. d *ℚ (sum_to N (gamma 1 x) +ℚ g) +ℚ t) (geometric_next x (suc N))
-      ∙ turn (sum_to N (gamma 1 x)) g ∙ ap (λ t. d *ℚ sum_to N (gamma 1 x) +ℚ t *ℚ g) one
+      ∙ (simp ring) ∙ ap (λ t. d *ℚ sum_to N (gamma 1 x) +ℚ t *ℚ g) one
       ∙ ap (λ t. d *ℚ sum_to N (gamma 1 x) +ℚ t) (one_times g) ∙ geometric_identity N
-    where
-      turn : (s g : Fraction) → d *ℚ (s +ℚ g) +ℚ x *ℚ g ≡ d *ℚ s +ℚ (x +ℚ d) *ℚ g
-      turn s g = simp ring
 
   pub geometric_low : (N : ℕ) → d *ℚ sum_to N (gamma 1 x) ≤ℚ whole 1
-  geometric_low N = subst (λ t. d *ℚ sum_to N (gamma 1 x) ≤ℚ t) (geometric_identity N) (le_plus _ _)
+  geometric_low N = rw (← geometric_identity N) (le_plus _ _)
 
   -- the sums of x^n have the least bound 1 / (1 - x)
   pub geometric_least : (L : Fraction) → whole 0 <ℚ d → L *ℚ d ≡ whole 1 → IsLeastBound (λ N. sum_to N (gamma 1 x)) L

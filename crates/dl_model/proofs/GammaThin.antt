@@ -1,13 +1,9 @@
 -- Claims of amount 0 left out of a gamma count.
-use Rattle.dl_model.proofs.Common.{◌≡◌, ℕ, suc, zero, ◌+◌, arith, sym, ap, ap₂, subst, ◌∙◌, zero-lt-suc, fun_ext, Fraction, ◌+ℚ◌, ◌*ℚ◌, ◌/ℚ◌, ◌<ℚ◌, whole, sum_to, sum_pairs, Series, IsLeastBound, SameValue, power, cell, gamma, gamma_of, choose, ◌^ℚ◌, IsPositivePart, compound, times_itself, ring, plus_comm, times_comm, times_assoc, times_left_comm, times_zero, plus_times, times_plus, one_times, times_one, whole_pos, times_cancel, le_trans, le_of_eq, le_plus, times_pos, lt_of_lt_of_le, plus_cancel, div_times, div_pos, sum_to_same, sum_to_times, sum_to_times_right, sum_pairs_turn, pow_plus}
+use Rattle.dl_model.proofs.Common.{◌≡◌, ℕ, suc, zero, ◌+◌, arith, sym, ap, ap₂, subst, ◌∙◌, zero-lt-suc, fun_ext, Fraction, ◌+ℚ◌, ◌*ℚ◌, ◌/ℚ◌, ◌<ℚ◌, whole, sum_to, sum_pairs, Series, IsLeastBound, SameValue, power, cell, gamma, gamma_of, choose, ◌^ℚ◌, IsPositivePart, compound, times_itself, ring, plus_comm, times_comm, times_assoc, times_left_comm, times_zero, plus_times, times_plus, one_times, times_one, whole_pos, times_cancel, le_trans, le_plus, times_pos, lt_of_lt_of_le, plus_cancel, div_times, div_pos, sum_to_same, sum_to_times, sum_pairs_turn, pow_plus, times_right_comm, times_second, refl, one_pos, sum_to_none}
 use Rattle.dl_exact.proofs.Powers.{pow_times, pow_pos}
-use Rattle.dl_exact.proofs.Orders.{times_right_comm, times_second}
-use Rattle.dl_model.proofs.FamilyLaws.{sum_rises_to}
-use Rattle.dl_model.proofs.Cauchy.{triangle_le_square, square_le_triangle}
-use Rattle.dl_model.proofs.CompoundLaws.{no_power}
+use Rattle.dl_model.proofs.ValueLaws.{sum_rises_to, triangle_le_square, square_le_triangle, no_power, AreLevel, value_trans, value_sym}
 use Rattle.dl_model.proofs.FiniteCounts.{bounded_by_all}
 use Rattle.dl_model.proofs.Thin.{split}
-use Rattle.dl_model.proofs.Alike.{AreLevel, value_trans, value_sym}
 use Rattle.dl_model.proofs.Itself.{count_power}
 use Rattle.dl_model.proofs.Least.{least_from, least_sum, least_scaled, value_of_least}
 use Rattle.dl_model.proofs.Gamma.{gamma_zero, gamma_next, gamma_shift, gamma_is, gamma_power, gamma_least}
@@ -15,28 +11,22 @@ use Rattle.dl_model.proofs.Gamma.{gamma_zero, gamma_next, gamma_shift, gamma_is,
 -- x is r's parameter over all amounts, x' that over the amounts above 0
 module _ (f : ℕ → Fraction) (p : Fraction) (g : ℕ → Fraction) (h : IsPositivePart f p g) (q : ℕ)
     (x c x' : Fraction) (rest : x *ℚ f zero +ℚ c ≡ whole 1) (part : x' *ℚ c ≡ x *ℚ p) where
-  t : ℕ → ℕ → Fraction
+  abbrev t : ℕ → ℕ → Fraction
   t i j = gamma (suc q) (x *ℚ p) j *ℚ gamma (suc (q + j)) (x *ℚ f zero) i
 
   t_start : gamma (suc q) x zero ≡ t zero zero
-  unfolding t
   t_start = gamma_zero q x ∙ sym (ap₂ (λ a b. a *ℚ b) (gamma_zero q _) (gamma_zero (q + zero) _) ∙ times_one _)
 
   t_left : (i j : ℕ) → whole (suc i) *ℚ t (suc i) j ≡ whole (suc q + (i + j)) *ℚ x *ℚ (f zero *ℚ t i j)
-  unfolding t
   t_left i j =
       let A = gamma (suc q) (x *ℚ p) j in
       let G = gamma (suc (q + j)) (x *ℚ f zero) in
       let e : suc (q + j) + i ≡ suc q + (i + j) = omega arith in
       times_left_comm (whole (suc i)) A (G (suc i))
       ∙ ap (λ s. A *ℚ s) (gamma_next (q + j) (x *ℚ f zero) i ∙ ap (λ m. whole m *ℚ (x *ℚ f zero *ℚ G i)) e)
-      ∙ move A (whole (suc q + (i + j))) x (f zero) (G i)
-    where
-      move : (a b c d e : Fraction) → a *ℚ (b *ℚ (c *ℚ d *ℚ e)) ≡ b *ℚ c *ℚ (d *ℚ (a *ℚ e))
-      move a b c d e = simp ring
+      ∙ simp ring
 
   t_right : (i j : ℕ) → whole (suc j) *ℚ t i (suc j) ≡ whole (suc q + (i + j)) *ℚ x *ℚ (p *ℚ t i j)
-  unfolding t
   t_right i j =
       let A = gamma (suc q) (x *ℚ p) in
       let z = x *ℚ f zero in
@@ -47,10 +37,7 @@ module _ (f : ℕ → Fraction) (p : Fraction) (g : ℕ → Fraction) (h : IsPos
       ∙ ap₂ (λ a m. a *ℚ gamma (suc m) z i) (gamma_next q (x *ℚ p) j ∙ ap (λ m. whole m *ℚ (x *ℚ p *ℚ A j)) k) d
       ∙ times_second (whole (suc (q + j))) (x *ℚ p *ℚ A j) (gamma (suc (suc (q + j))) z i)
       ∙ ap (λ s. x *ℚ p *ℚ A j *ℚ s) (gamma_shift (q + j) z i ∙ ap (λ m. whole m *ℚ gamma (suc (q + j)) z i) e)
-      ∙ move x p (A j) (whole (suc q + (i + j))) (gamma (suc (q + j)) z i)
-    where
-      move : (a b c d e : Fraction) → a *ℚ b *ℚ c *ℚ (d *ℚ e) ≡ d *ℚ a *ℚ (b *ℚ (c *ℚ e))
-      move a b c d e = simp ring
+      ∙ simp ring
 
   split_gamma : (n y : ℕ) → gamma (suc q) x n *ℚ power f n y ≡ sum_pairs n (λ j i. t i j *ℚ power g j y)
   split_gamma n y =
@@ -59,36 +46,28 @@ module _ (f : ℕ → Fraction) (p : Fraction) (g : ℕ → Fraction) (h : IsPos
       ∙ sym (sum_pairs_turn n (λ i j. t i j *ℚ power g j y))
 
   -- the cell, up to N claims of each kind, and with at most y claims above 0
-  wide : ℕ → Series
+  abbrev wide : ℕ → Series
   wide y N = sum_to y (λ j. sum_to N (λ i. t i j *ℚ power g j y))
 
   cells : (y N : ℕ) → cell (gamma (suc q) x) f y N ≡ sum_to N (λ n. sum_pairs n (λ j i. t i j *ℚ power g j y))
   cells y N = sum_to_same N _ _ (λ n b. split_gamma n y)
 
   cell_level : (y : ℕ) → AreLevel (cell (gamma (suc q) x) f y) (wide y)
-  unfolding wide
   cell_level y = (
     λ N. (
       N,
-      le_trans _ _ _ (le_of_eq _ _ (cells y N))
-          (le_trans _ _ _ (triangle_le_square N N (λ j i. t i j *ℚ power g j y) (omega arith))
+      rw (cells y N) (le_trans _ _ _ (triangle_le_square N N (λ j i. t i j *ℚ power g j y) (omega arith))
           (bounded_by_all y (λ j. sum_to N (λ i. t i j *ℚ power g j y))
-          (λ j b. sum_to_times_right N (power g j y) (λ i. t i j)
-          ∙ ap (λ s. sum_to N (λ i. t i j) *ℚ s) (no_power g h.no_zero j y b) ∙ times_zero _) N)),
+          (λ j b. simp (no_power g h.no_zero j y b, times_zero, sum_to_none)) N)),
     ),
-    λ N. (
-      y + N,
-      le_trans _ _ _ (square_le_triangle y N (λ j i. t i j *ℚ power g j y))
-          (le_of_eq _ _ (sym (cells y (y + N)))),
-    ),
+    λ N. (y + N, rw (cells y (y + N)) (square_le_triangle y N (λ j i. t i j *ℚ power g j y))),
   )
 
   module _ (L : Fraction) (inverse : L *ℚ c ≡ whole 1) (cp : whole 0 <ℚ c) (Lp : whole 0 <ℚ L) where
-    term : ℕ → ℕ → Fraction
+    abbrev term : ℕ → ℕ → Fraction
     term y j = gamma (suc q) (x *ℚ p) j *ℚ power g j y
 
     item : (y j : ℕ) → IsLeastBound (λ N. sum_to N (λ i. t i j *ℚ power g j y)) (term y j *ℚ L ^ℚ suc (q + j))
-    unfolding t term
     item y j =
         let G = gamma (suc (q + j)) (x *ℚ f zero) in
         subst (λ Q. IsLeastBound Q (term y j *ℚ L ^ℚ suc (q + j)))
@@ -102,20 +81,15 @@ module _ (f : ℕ → Fraction) (p : Fraction) (g : ℕ → Fraction) (h : IsPos
         ap (λ s. s *ℚ L) (sym part) ∙ times_assoc _ _ _ ∙ ap (λ s. x' *ℚ s) (times_comm c L ∙ inverse) ∙ times_one x'
 
     term_part : (y j : ℕ) → term y j *ℚ L ^ℚ suc (q + j) ≡ L ^ℚ suc q *ℚ (gamma (suc q) x' j *ℚ power g j y)
-    unfolding term
     term_part y j =
         let k : suc (q + j) ≡ suc q + j = omega arith in
         let C = whole (choose (q + j) j) in
         ap₂ (λ a b. a *ℚ power g j y *ℚ b) (gamma_is q (x *ℚ p) j) (ap (λ m. L ^ℚ m) k ∙ pow_plus L (suc q) j)
-        ∙ move C ((x *ℚ p) ^ℚ j) (power g j y) (L ^ℚ suc q) (L ^ℚ j)
+        ∙ (simp ring)
         ∙ ap (λ s. L ^ℚ suc q *ℚ (C *ℚ s *ℚ power g j y)) (sym (pow_times (x *ℚ p) L j) ∙ ap (λ s. s ^ℚ j) to_part)
         ∙ ap (λ s. L ^ℚ suc q *ℚ (s *ℚ power g j y)) (sym (gamma_is q x' j))
-      where
-        move : (a b c d e : Fraction) → a *ℚ b *ℚ c *ℚ (d *ℚ e) ≡ d *ℚ (a *ℚ (b *ℚ e) *ℚ c)
-        move a b c d e = simp ring
 
     wide_least : (y : ℕ) → IsLeastBound (wide y) (L ^ℚ suc q *ℚ cell (gamma (suc q) x') g y y)
-    unfolding wide
     wide_least y =
         subst (IsLeastBound (wide y)) (sum_to_same y _ _ (λ j b. term_part y j)
         ∙ sum_to_times y (L ^ℚ suc q) (λ j. gamma (suc q) x' j *ℚ power g j y))
@@ -144,14 +118,11 @@ module _ (f : ℕ → Fraction) (p : Fraction) (g : ℕ → Fraction) (h : IsPos
           (pow_pos L (suc q) Lp) (sum_rises_to (gamma (suc q) x)) (sum_rises_to (gamma (suc q) x'))
           (least_from _ (wide y) _ (cell_level y) (wide_least y))
           (subst (IsLeastBound (λ N. sum_to N (gamma (suc q) x))) (pow_times L D (suc q))
-          (gamma_least x d one (L *ℚ D) dp (turn L D d ∙ div_times (whole 1) (d *ℚ L) dL) q)) (
+          (gamma_least x d one (L *ℚ D) dp ((simp ring) ∙ div_times (whole 1) (d *ℚ L) dL) q)) (
             bounded_by_all y F (λ j b. ap (λ s. gamma (suc q) x' j *ℚ s) (no_power g h.no_zero j y b) ∙ times_zero _),
             (λ u b. b y),
           )
           (gamma_least x' (d *ℚ L) one' D dL (div_times (whole 1) (d *ℚ L) dL) q)
-        where
-          turn : (a b c : Fraction) → a *ℚ b *ℚ c ≡ b *ℚ (c *ℚ a)
-          turn a b c = simp ring
 
 -- ---- by the mean
 
@@ -162,22 +133,51 @@ div_plus a b w h e = times_cancel _ _ w h
 pub pos_plus : (a b : Fraction) → whole 0 <ℚ a → whole 0 <ℚ a +ℚ b
 pos_plus a b h = lt_of_lt_of_le (whole 0) a (a +ℚ b) h (le_plus a b)
 
+-- the gamma weights of mean v in shape q + 1 have the parameter v / W, and r / W is the rest of 1, with r for q + 1
+module _ (q : ℕ) (v : Fraction) where
+  abbrev r : Fraction
+  r = whole (suc q)
+
+  abbrev W : Fraction
+  W = r +ℚ v
+
+  pub shape_pos : whole 0 <ℚ r
+  shape_pos = whole_pos (suc q) (zero-lt-suc q)
+
+  pub mean_pos : whole 0 <ℚ W
+  mean_pos = pos_plus r v shape_pos
+
+  pub rest_part_pos : whole 0 <ℚ r /ℚ W
+  rest_part_pos = div_pos r W shape_pos mean_pos
+
+  pub parts_one : v /ℚ W +ℚ r /ℚ W ≡ whole 1
+  parts_one = div_plus v r W mean_pos (plus_comm v r)
+
+  pub rest_inverse : W /ℚ r *ℚ (r /ℚ W) ≡ whole 1
+  rest_inverse = times_cancel _ _ W mean_pos
+      (rw (times_assoc, div_times r W mean_pos, div_times W r shape_pos) (sym (one_times W)))
+
+  pub gamma_of_least : (s : ℕ) → IsLeastBound (λ N. sum_to N (gamma (suc s) (v /ℚ W))) ((W /ℚ r) ^ℚ suc s)
+  gamma_of_least = gamma_least (v /ℚ W) (r /ℚ W) parts_one (W /ℚ r) rest_part_pos rest_inverse
+
+  -- the shape times a part of the mean, times the greatest sum of one shape more
+  pub shape_times : (m : Fraction) → r *ℚ (m /ℚ W) *ℚ (W /ℚ r) ^ℚ suc (suc q) ≡ m *ℚ (W /ℚ r) ^ℚ suc q
+  unfolding ◌^ℚ◌
+  shape_times m =
+      let P = (W /ℚ r) ^ℚ suc q in
+      (simp ring) ∙ ap (λ t. t *ℚ (m /ℚ W) *ℚ P) (div_times W r shape_pos)
+      ∙ ap (λ t. t *ℚ P) (times_comm W (m /ℚ W) ∙ div_times m W mean_pos)
+
 all_of : (v a p r : Fraction) → a +ℚ p ≡ whole 1 → v *ℚ a +ℚ (r +ℚ v *ℚ p) ≡ r +ℚ v
-all_of v a p r e =
-    let turn : v *ℚ a +ℚ (r +ℚ v *ℚ p) ≡ r +ℚ v *ℚ (a +ℚ p) = simp ring in
-    turn ∙ ap (λ s. r +ℚ v *ℚ s) e ∙ ap (λ s. r +ℚ s) (times_one v)
+all_of v a p r e = (simp ring) ∙ ap (λ s. r +ℚ v *ℚ s) e ∙ ap (λ s. r +ℚ s) (times_one v)
 
 rest_of : (v a b w : Fraction) → whole 0 <ℚ w → v *ℚ a +ℚ b ≡ w → v /ℚ w *ℚ a +ℚ b /ℚ w ≡ whole 1
-rest_of v a b w h e =
-    let turn : (v /ℚ w *ℚ a +ℚ b /ℚ w) *ℚ w ≡ v /ℚ w *ℚ w *ℚ a +ℚ b /ℚ w *ℚ w = simp ring in
-    times_cancel _ _ w h (turn ∙ ap₂ (λ s t. s *ℚ a +ℚ t) (div_times v w h) (div_times b w h) ∙ e ∙ sym (one_times w))
+rest_of v a b w h e = times_cancel _ _ w h ((simp ring)
+    ∙ ap₂ (λ s t. s *ℚ a +ℚ t) (div_times v w h) (div_times b w h) ∙ e ∙ sym (one_times w))
 
 part_of : (v p V w : Fraction) → whole 0 <ℚ V → whole 0 <ℚ w → v *ℚ p /ℚ V *ℚ (V /ℚ w) ≡ v /ℚ w *ℚ p
-part_of v p V w Vp h =
-    let turn : v /ℚ w *ℚ p *ℚ w ≡ v /ℚ w *ℚ w *ℚ p = simp ring in
-    times_cancel _ _ w h
-    (times_assoc _ _ _ ∙ ap (λ s. v *ℚ p /ℚ V *ℚ s) (div_times V w h) ∙ div_times (v *ℚ p) V Vp
-    ∙ ap (λ s. s *ℚ p) (sym (div_times v w h)) ∙ sym turn)
+part_of v p V w Vp h = times_cancel _ _ w h
+    (rw (times_assoc, div_times V w h, div_times (v *ℚ p) V Vp, times_right_comm (v /ℚ w), div_times v w h) refl)
 
 -- u / (1 + u) = m / (r + m) where r * u = m
 share_of : (r u m : Fraction) → whole 0 <ℚ r → r *ℚ u ≡ m → u /ℚ (whole 1 +ℚ u) ≡ m /ℚ (r +ℚ m)
@@ -185,11 +185,9 @@ share_of r u m rp e =
     let op : whole 0 <ℚ whole 1 +ℚ u = pos_plus (whole 1) u (whole_pos 1 (zero-lt-suc zero)) in
     let Vp : whole 0 <ℚ r +ℚ m = pos_plus r m rp in
     let both : r *ℚ (whole 1 +ℚ u) ≡ r +ℚ m = times_plus r (whole 1) u ∙ ap₂ (λ s t. s +ℚ t) (times_one r) e in
-    let turn : u /ℚ (whole 1 +ℚ u) *ℚ (r *ℚ (whole 1 +ℚ u)) ≡ r *ℚ (u /ℚ (whole 1 +ℚ u) *ℚ (whole 1 +ℚ u)) =
-    times_left_comm _ _ _ in
     times_cancel _ _ (r +ℚ m) Vp
-    (ap (λ s. u /ℚ (whole 1 +ℚ u) *ℚ s) (sym both) ∙ turn ∙ ap (λ s. r *ℚ s) (div_times u (whole 1 +ℚ u) op) ∙ e
-    ∙ sym (div_times m (r +ℚ m) Vp))
+    (ap (λ s. u /ℚ (whole 1 +ℚ u) *ℚ s) (sym both) ∙ times_left_comm _ _ _
+    ∙ ap (λ s. r *ℚ s) (div_times u (whole 1 +ℚ u) op) ∙ e ∙ sym (div_times m (r +ℚ m) Vp))
 
 -- thinning: claims of amount 0 can be left out of a gamma count
 pub thin_gamma : (q : ℕ) (v : Fraction) (f : ℕ → Fraction) (p : Fraction) (g : ℕ → Fraction) → IsPositivePart f p g
@@ -198,19 +196,17 @@ pub thin_gamma : (q : ℕ) (v : Fraction) (f : ℕ → Fraction) (p : Fraction) 
     (cell (gamma_of (suc q) (v *ℚ p)) g y) (λ N. sum_to N (gamma_of (suc q) (v *ℚ p)))
 thin_gamma q v f p g h y =
     let r = whole (suc q) in
-    let rp : whole 0 <ℚ r = whole_pos (suc q) (zero-lt-suc q) in
     let W = r +ℚ v in
-    let Wp : whole 0 <ℚ W = pos_plus r v rp in
+    let Wp = mean_pos q v in
     let V = r +ℚ v *ℚ p in
-    let Vp : whole 0 <ℚ V = pos_plus r (v *ℚ p) rp in
+    let Vp = mean_pos q (v *ℚ p) in
     let x = v /ℚ W in
     let c = V /ℚ W in
     let cp : whole 0 <ℚ c = div_pos V W Vp Wp in
     let rest : x *ℚ f zero +ℚ c ≡ whole 1 = rest_of v (f zero) V W Wp (all_of v (f zero) p r h.share) in
     let part : v *ℚ p /ℚ V *ℚ c ≡ x *ℚ p = part_of v p V W Vp Wp in
     thin_value f p g h q x c (v *ℚ p /ℚ V) rest part (whole 1 /ℚ c) (div_times (whole 1) c cp) cp
-    (div_pos (whole 1) c (whole_pos 1 (zero-lt-suc zero)) cp)
-    (r /ℚ W) (div_plus v r W Wp (plus_comm v r)) (div_pos r W rp Wp) y
+    (div_pos (whole 1) c (whole_pos 1 one_pos) cp) (r /ℚ W) (parts_one q v) (rest_part_pos q v) y
 
 -- division: r shares of shape 1 over the amounts above 0, against shape r over all amounts
 pub gamma_shares : (q : ℕ) (u v : Fraction) (f : ℕ → Fraction) (p : Fraction) (g : ℕ → Fraction) → IsPositivePart f p g

@@ -1,8 +1,6 @@
 -- Horner's rule: a compound sum by one convolution for each count, the greatest first.
-use Rattle.dl_model.proofs.Common.{◌≡◌, ℕ, suc, zero, ◌+◌, ◌*◌, ◌<◌, ◌≤◌, arith, refl, sym, ap, ap₂, subst, ◌∙◌, mul-pos, mul-le-mul_right, ne_eqb, if◌then◌else◌, ◌==◌, Fraction, ◌over◌, ◌+ℚ◌, ◌*ℚ◌, ◌≤ℚ◌, whole, sum_to, sum_pairs, over_le, one_pos, times_left_comm, times_one, times_zero, le_trans, le_of_eq, zero_le, plus_le_both, times_le_both, sum_to_same, sum_to_first, sum_to_times, sum_pairs_same, sum_pairs_times, sum_pairs_sum_to, count_pairs, over_plus, pairs_in_units, convolve, at_zero, power, cell}
+use Rattle.dl_model.proofs.Common.{◌≡◌, ℕ, suc, zero, ◌+◌, ◌*◌, ◌<◌, ◌≤◌, arith, refl, sym, ap, ap₂, ◌∙◌, mul-pos, mul-le-mul_right, ne_eqb, if◌then◌else◌, ◌==◌, Fraction, ◌over◌, ◌+ℚ◌, ◌*ℚ◌, ◌≤ℚ◌, sum_to, sum_pairs, over_le, times_left_comm, times_one, times_zero, le_trans, zero_le, plus_le_both, times_le_both, sum_to_same, sum_to_first, sum_to_times, sum_pairs_same, sum_pairs_times, sum_pairs_sum_to, count_pairs, over_plus, pairs_in_units, convolve, at_zero, power, cell, sum_pairs_le, cell_from, over_zero}
 use Rattle.std.proofs.Math.Nat.{add-zero, zero-add}
-use Rattle.dl_exact.proofs.Sums.{sum_pairs_le}
-use Rattle.dl_model.specs.Compound.{cell_from}
 
 module _ (w f : ℕ → Fraction) where
   -- the greatest count
@@ -40,37 +38,34 @@ module _ (S K k N : ℕ) (w f : ℕ → Fraction) (pos : 0 < S) where
   -- the weight of the count k, at 0
   start_low : (start s : ℕ) → start over S ≤ℚ w k → (if s == 0 then start else 0) over S ≤ℚ w k *ℚ at_zero s
   unfolding at_zero
-  start_low start zero h = subst (λ t. start over S ≤ℚ t) (sym (times_one (w k))) h
+  start_low start zero h = rw times_one h
   start_low start (suc s) h =
       let later : (if suc s == 0 then start else 0) ≡ 0 = rw (ne_eqb (suc s) 0 (omega arith)) refl in
-      subst (λ t. t over S ≤ℚ w k *ℚ at_zero (suc s)) (sym later)
-      (le_trans _ (whole 0) _ (over_le 0 S 0 1 pos one_pos (omega arith)) (zero_le _))
+      rw (later, over_zero S pos) (zero_le _)
 
   start_high : (start s : ℕ) → w k ≤ℚ start over S → w k *ℚ at_zero s ≤ℚ (if s == 0 then start else 0) over S
   unfolding at_zero
-  start_high start zero h = subst (λ t. t ≤ℚ start over S) (sym (times_one (w k))) h
-  start_high start (suc s) h = le_trans _ _ _ (le_of_eq _ _ (times_zero (w k))) (zero_le _)
+  start_high start zero h = rw times_one h
+  start_high start (suc s) h = rw times_zero (zero_le _)
 
   pub horner_low : (lo low next : ℕ → ℕ) (start : ℕ) → ((i : ℕ) → i < K → lo i over S ≤ℚ f i)
       → ((j : ℕ) → j < K → low j over S ≤ℚ cell_from w f (suc k) j N)
       → start over S ≤ℚ w k → ((s : ℕ) → s < K → next s * S ≤ count_pairs s (λ i j. lo i * low j))
       → (s : ℕ) → s < K → ((if s == 0 then start else 0) + next s) over S ≤ℚ cell_from w f k s (suc N)
   horner_low lo low next start a b c d s h =
-      le_trans _ _ _ (le_of_eq _ _ (sym (over_plus (if s == 0 then start else 0) (next s) S pos)))
-      (subst (λ t. (if s == 0 then start else 0) over S +ℚ next s over S ≤ℚ t) (sym (horner_next w f k s N))
+      rw (← over_plus (if s == 0 then start else 0) (next s) S pos, horner_next w f k s N)
       (plus_le_both _ _ _ _ (start_low start s c)
-      (le_trans _ _ _ (over_le _ _ _ _ pos (mul-pos pos pos) (omega (arith, mul-le-mul_right S (d s h))))
-      (le_trans _ _ _ (le_of_eq _ _ (sym (pairs_in_units s S lo low pos)))
-      (sum_pairs_le s _ _ (λ i j e. times_le_both _ _ _ _ (a i (omega arith)) (b j (omega arith))))))))
+      (le_trans _ (count_pairs s (λ i j. lo i * low j) over (S * S)) _
+      (over_le _ _ _ _ pos (mul-pos pos pos) (omega (arith, mul-le-mul_right S (d s h)))) (rw (← pairs_in_units s S lo low pos)
+      (sum_pairs_le s _ _ (λ i j e. times_le_both _ _ _ _ (a i (omega arith)) (b j (omega arith)))))))
 
   pub horner_high : (hi high next : ℕ → ℕ) (start : ℕ) → ((i : ℕ) → i < K → f i ≤ℚ hi i over S)
       → ((j : ℕ) → j < K → cell_from w f (suc k) j N ≤ℚ high j over S)
       → w k ≤ℚ start over S → ((s : ℕ) → s < K → count_pairs s (λ i j. hi i * high j) ≤ next s * S)
       → (s : ℕ) → s < K → cell_from w f k s (suc N) ≤ℚ ((if s == 0 then start else 0) + next s) over S
   horner_high hi high next start a b c d s h =
-      subst (λ t. cell_from w f k s (suc N) ≤ℚ t) (over_plus (if s == 0 then start else 0) (next s) S pos)
-      (subst (λ t. t ≤ℚ (if s == 0 then start else 0) over S +ℚ next s over S) (sym (horner_next w f k s N))
+      rw (← over_plus (if s == 0 then start else 0) (next s) S pos, horner_next w f k s N)
       (plus_le_both _ _ _ _ (start_high start s c)
       (le_trans _ _ _ (sum_pairs_le s _ _ (λ i j e. times_le_both _ _ _ _ (a i (omega arith)) (b j (omega arith))))
-      (le_trans _ _ _ (le_of_eq _ _ (pairs_in_units s S hi high pos))
-      (over_le _ _ _ _ (mul-pos pos pos) pos (omega (arith, mul-le-mul_right S (d s h))))))))
+      (rw (pairs_in_units s S hi high pos)
+      (over_le _ _ _ _ (mul-pos pos pos) pos (omega (arith, mul-le-mul_right S (d s h)))))))

@@ -1,9 +1,6 @@
 -- A compound sum taken n times is the compound sum of the n-th power of its count weights.
 use Rattle.dl_model.proofs.Common.{◌≡◌, ℕ, suc, zero, ◌+◌, arith, sym, ap, ap₂, subst₂, ◌∙◌, Fraction, ◌+ℚ◌, ◌*ℚ◌, ◌≤ℚ◌, whole, ◌^ℚ◌, sum_to, sum_pairs, Series, Rises, times, SameValue, SameCells, subst, convolve, at_zero, power, cell, compound, product, times_itself, ring, refl, plus_le_both, times_le_both, le_refl, plus_zero, zero_times, one_times, times_one, sum_to_same, sum_pairs_same, sum_to_product, sum_pairs_sum_to, sum_pairs_times, sum_pairs_times_right}
-use Rattle.dl_model.proofs.Cauchy.{triangle_le_square, square_le_triangle}
-use Rattle.dl_model.proofs.Powers.{power_plus}
-use Rattle.dl_model.proofs.Alike.{AreLevel, level_same, level_trans, level_both, cauchy_level, same_value}
-use Rattle.dl_model.proofs.FamilyLaws.{sum_rises, rises_times, sum_rises_to}
+use Rattle.dl_model.proofs.ValueLaws.{triangle_le_square, square_le_triangle, power_plus, AreLevel, level_same, level_trans, level_both, cauchy_level, same_value, sum_rises, rises_times, sum_rises_to}
 
 level_sum : (n : ℕ) (P P' : ℕ → ℕ → Series) → ((i j : ℕ) → Rises (P i j)) → ((i j : ℕ) → Rises (P' i j))
     → ((i j : ℕ) → AreLevel (P i j) (P' i j))
@@ -18,11 +15,10 @@ level_sum (suc n) P P' r r' u =
     (level_sum n (later P) (later P') (λ i j. r (suc i) j) (λ i j. r' (suc i) j) (λ i j. u (suc i) j))
 
 module _ (a b f : ℕ → Fraction) (y : ℕ) where
-  both : ℕ → ℕ → Fraction
+  abbrev both : ℕ → ℕ → Fraction
   both n m = a n *ℚ b m *ℚ power f (n + m) y
 
   square : (N : ℕ) → (product (compound a f) (compound b f)).cells y N ≡ sum_to N (λ n. sum_to N (both n))
-  unfolding both
   square N =
       sum_pairs_same y _ _ (λ i j e. sym (sum_to_product N N (λ n. a n *ℚ power f n i) (λ m. b m *ℚ power f m j)))
       ∙ sum_pairs_sum_to y N _
@@ -32,7 +28,6 @@ module _ (a b f : ℕ → Fraction) (y : ℕ) where
       ∙ ap (λ t. a n *ℚ b m *ℚ t) (ap (λ g. g y) (sym (power_plus f n m)))))
 
   triangle : (N : ℕ) → cell (convolve a b) f y N ≡ sum_to N (λ s. sum_pairs s both)
-  unfolding both
   triangle N = sum_to_same N _ _ (λ s e. sym (sum_pairs_times_right s (power f s y) (λ n m. a n *ℚ b m))
       ∙ sum_pairs_same s _ _ (λ n m e'. ap (λ k. a n *ℚ b m *ℚ power f k y) (sym e')))
 

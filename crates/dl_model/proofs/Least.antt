@@ -1,35 +1,29 @@
 -- Series whose least upper bound is a fraction.
-use Rattle.dl_model.proofs.Common.{ℕ, suc, zero, sym, subst, subst₂, fun_ext, Fraction, ◌+ℚ◌, ◌*ℚ◌, ◌≤ℚ◌, ◌<ℚ◌, whole, sum_to, Series, AtMost, AtLeast, Holds, Rises, plus, times, SameValue, IsLeastBound, ring, times_comm, le_refl, le_trans, plus_le_both, times_le_times, times_one, times_le_cancel, times_le_both}
-use Rattle.std.proofs.Common.{◌↔◌}
+use Rattle.dl_model.proofs.Common.{ℕ, suc, zero, subst, fun_ext, Fraction, ◌+ℚ◌, ◌*ℚ◌, ◌≤ℚ◌, ◌<ℚ◌, whole, sum_to, Series, AtMost, AtLeast, Holds, Rises, plus, times, SameValue, IsLeastBound, times_comm, le_refl, le_trans, plus_le_both, times_one, times_le_cancel, times_le_both, ◌↔◌, times_left_comm}
 use Rattle.dl_model.proofs.Declared.{holds_times, holds_plus}
 use Rattle.dl_model.proofs.Alike.{AreLevel, bound_from}
 
-pub one : Series
+abbrev pub one : Series
 one N = whole 1
 
 -- a least bound is a declared value over 1, and the other way round
 pub to_holds : (Q : Series) (L : Fraction) → IsLeastBound Q L → Holds Q one L L
-unfolding one
 to_holds Q L b = (
-  (λ n u h. subst (λ t. t ≤ℚ u) (sym (times_one L)) (b.1 u h)),
-  (λ n u h. le_trans _ _ _ (b.0 n) (subst (λ t. t ≤ℚ L *ℚ u) (times_one L)
-      (times_le_both L L _ _ (le_refl L) (h zero)))),
+  (λ n u h. rw times_one (b.1 u h)),
+  (λ n u h. le_trans _ _ _ (b.0 n) (rw times_one at (times_le_both L L (whole 1) u (le_refl L) (h zero)))),
 )
 
 pub from_holds : (Q : Series) (L : Fraction) → Holds Q one L L → IsLeastBound Q L
-unfolding one
 from_holds Q L h = (
   (λ n. subst (λ t. Q n ≤ℚ t) (times_one L) (h.1 n (whole 1) (λ m. le_refl _))),
   (λ u b. subst (λ t. t ≤ℚ u) (times_one L) (h.0 zero u b)),
 )
 
 one_rises : Rises one
-unfolding one
 one_rises n = le_refl _
 
 pub least_times : (Q R : Series) (A B : Fraction) → Rises Q → Rises R → IsLeastBound Q A → IsLeastBound R B
     → IsLeastBound (times Q R) (A *ℚ B)
-unfolding one
 least_times Q R A B q r a b =
     from_holds (times Q R) (A *ℚ B) (subst (λ o. Holds (times Q R) o (A *ℚ B) (A *ℚ B)) (fun_ext (λ n. times_one _))
     (holds_times Q one R one A B A B q one_rises r one_rises (to_holds Q A a) (to_holds R B b)))
@@ -83,18 +77,15 @@ least_iff Q R A B l r a b = (to, from)
 pub value_of_least : (Q R Q' R' : Series) (k A B : Fraction) → whole 0 <ℚ k → Rises R → Rises R'
     → IsLeastBound Q (k *ℚ A) → IsLeastBound R (k *ℚ B) → IsLeastBound Q' A → IsLeastBound R' B
     → SameValue Q R Q' R'
-value_of_least Q R Q' R' k A B kp r r' a b a' b' = (
-  (λ l. (
-    (λ m. (least_iff Q' R' A B l r' a' b').1
-        (times_le_cancel _ _ k kp (subst₂ (λ s t. s ≤ℚ t) (simp ring) (times_comm k A)
-        ((least_iff Q R _ _ l r a b).0 m)))),
-    (λ m. (least_iff Q R _ _ l r a b).1 (subst₂ (λ s t. s ≤ℚ t) (simp ring) (times_comm A k)
-        (times_le_times _ _ k ((least_iff Q' R' A B l r' a' b').0 m)))),
-  )),
-  (λ h. (
-    (λ m. (most_iff Q' R' A B h a' b').1 (times_le_cancel _ _ k kp
-        (subst₂ (λ s t. s ≤ℚ t) (times_comm k A) (simp ring) ((most_iff Q R _ _ h a b).0 m)))),
-    (λ m. (most_iff Q R _ _ h a b).1 (subst₂ (λ s t. s ≤ℚ t) (times_comm A k) (simp ring)
-        (times_le_times _ _ k ((most_iff Q' R' A B h a' b').0 m)))),
-  )),
-)
+value_of_least Q R Q' R' k A B kp r r' a b a' b' =
+    let down = λ (x y : Fraction) (h : k *ℚ x ≤ℚ k *ℚ y). times_le_cancel x y k kp (rw (times_comm x, times_comm y) h) in
+    let up = λ (x y : Fraction) (h : x ≤ℚ y). times_le_both k k x y (le_refl k) h in (
+      (λ l. (
+        (λ m. (least_iff Q' R' A B l r' a' b').1 (down (l *ℚ B) A (rw times_left_comm at ((least_iff Q R _ _ l r a b).0 m)))),
+        (λ m. (least_iff Q R _ _ l r a b).1 (rw times_left_comm (up (l *ℚ B) A ((least_iff Q' R' A B l r' a' b').0 m)))),
+      )),
+      (λ h. (
+        (λ m. (most_iff Q' R' A B h a' b').1 (down A (h *ℚ B) (rw (times_left_comm h) at ((most_iff Q R _ _ h a b).0 m)))),
+        (λ m. (most_iff Q R _ _ h a b).1 (rw (times_left_comm h) (up A (h *ℚ B) ((most_iff Q' R' A B h a' b').0 m)))),
+      )),
+    )

@@ -1,8 +1,6 @@
 mod Common
 pub mod Declared
-pub mod Complements
 pub mod Minus
-pub mod Reciprocals
 pub mod Picks
 pub mod Powers
 pub mod Cauchy
@@ -16,6 +14,7 @@ pub mod Horner
 pub mod FamilyLaws
 pub mod Alike
 pub mod Least
+mod ValueLaws
 pub mod Itself
 pub mod PoissonWeights
 pub mod Thin
@@ -59,7 +58,6 @@ pub mod SharedJoint
 pub mod SharedValues
 pub mod ChangedZero
 pub mod SomeClaim
-pub mod Halves
 pub mod PriceLaws
 pub mod ShareLaws
 pub mod ShareEnds

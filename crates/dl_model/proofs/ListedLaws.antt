@@ -1,27 +1,10 @@
 -- One unit without an aggregate clause, and what encloses its probability where its counts and amounts are listed.
-use Rattle.dl_model.proofs.Common.{ℕ, ◌≡◌, ◌<◌, List, ap, ap₂, subst₂, fun_ext, ◌∙◌, [], ◌∷◌, Fraction, ◌+ℚ◌, ◌≤ℚ◌, sum_to, one_times, zero_times, zero_plus, Holds, power, cell, IsSeverity, Item, weight_sum, greatest, probability_at, equally_likely, One, Point, partial_sums, refl, loss, IsDeclarable, sym}
+use Rattle.dl_model.proofs.Common.{ℕ, ◌≡◌, ◌<◌, List, ap, ap₂, subst₂, fun_ext, ◌∙◌, [], ◌∷◌, Fraction, ◌+ℚ◌, ◌≤ℚ◌, sum_to, one_times, zero_times, zero_plus, Holds, power, cell, IsSeverity, Item, weight_sum, greatest, probability_at, equally_likely, One, Point, partial_sums, refl, loss, IsDeclarable, sym, listed_aggregate, amounts}
 use Rattle.std.proofs.Math.Nat.{le_refl as le_refl_n}
-use Rattle.dl_model.specs.Units.{plain, listed_aggregate}
 use Rattle.dl_model.proofs.Outcomes.{total_alone, total_alone_all}
 use Rattle.dl_model.proofs.UnitLaws.{unit_loss, unit_plain}
 use Rattle.dl_model.proofs.FiniteCounts.{finite_holds, power_one}
 use Rattle.dl_model.proofs.WeightLaws.{probability-past, probabilities_all}
-
--- ---- one unit without an aggregate clause
-
-plain_unit : (w f : ℕ → Fraction) (m : ℕ) → IsSeverity f m → IsDeclarable (plain w f m)
-plain_unit w f m s = record { severity = s; clause = λ s. le_refl_n s }
-
-point_series : (w f : ℕ → Fraction) (m : ℕ) → IsSeverity f m → (x N : ℕ)
-    → partial_sums (loss (plain w f m) ∷ []) (Point x) N ≡ cell w f x N
-point_series w f m s x N = total_alone (loss (plain w f m)) (unit_loss _ (plain_unit w f m s)) x N
-    ∙ unit_plain (plain w f m) (plain_unit w f m s) (λ s. refl) x N
-
-one_series : (w f : ℕ → Fraction) (m : ℕ) → IsSeverity f m → (N : ℕ)
-    → partial_sums (loss (plain w f m) ∷ []) One N ≡ sum_to N w
-one_series w f m s N = total_alone_all (loss (plain w f m)) (unit_loss _ (plain_unit w f m s)) N
-
--- ---- listed counts and amounts
 
 pub listed_severity : (amounts : List Item) → 0 < weight_sum amounts
     → IsSeverity (probability_at amounts) (greatest amounts)
@@ -37,12 +20,13 @@ pub listed_holds : (counts amounts : List Item) (x : ℕ) (l h : Fraction) → 0
     → Holds (partial_sums (loss (listed_aggregate counts amounts) ∷ []) (Point x))
     (partial_sums (loss (listed_aggregate counts amounts) ∷ []) One) l h
 listed_holds counts amounts x l h p q low high =
-    let w = probability_at counts in
-    let f = probability_at amounts in
-    let s = listed_severity amounts q in
-    subst₂ (λ Q R. Holds Q R l h) (sym (fun_ext (point_series w f (greatest amounts) s x)))
-    (sym (fun_ext (one_series w f (greatest amounts) s)))
-    (finite_holds w f (greatest counts) (probabilities_all counts (greatest counts) p (le_refl_n _))
+    let u = listed_aggregate counts amounts in
+    let is : IsDeclarable u = record { severity = listed_severity amounts q; clause = λ s. le_refl_n s } in
+    let are = unit_loss u is in
+    subst₂ (λ Q R. Holds Q R l h)
+    (sym (fun_ext (λ N. total_alone (loss u) are x N ∙ unit_plain u is (λ s. refl) x N)))
+    (sym (fun_ext (total_alone_all (loss u) are)))
+    (finite_holds u.count u.severity (greatest counts) (probabilities_all counts (greatest counts) p (le_refl_n _))
     (λ n b. probability-past counts n p b) x l h low high)
 
 pub one_claim : (f : ℕ → Fraction) (x : ℕ) → cell (probability_at (equally_likely (1 ∷ []))) f x

@@ -1,24 +1,10 @@
 -- Means: of a compound sum, and of a unit without an aggregate clause.
-use Rattle.dl_model.proofs.Common.{◌≡◌, ℕ, suc, zero, ◌+◌, ◌*◌, ◌<◌, ◌≤◌, arith, sym, ap, ap₂, subst, subst₂, ◌∙◌, mul-le-mul_right, [], ◌∷◌, fun_ext, Fraction, ◌*ℚ◌, ◌≤ℚ◌, whole, sum_to, times_left_comm, times_zero, zero_times, times_one, le_trans, le_antisymm, sum_to_same, sum_to_times, sum_to_swap, sum_to_grows, sum_to_product, sum_to_longer, sum_to_zero, Holds, convolve, at_zero, power, cell, IsSeverity, Aggregate, IsDeclarable, loss, One, Mean, partial_sums}
+use Rattle.dl_model.proofs.Common.{◌≡◌, ℕ, suc, zero, ◌*◌, ◌≤◌, arith, sym, ap, subst₂, ◌∙◌, mul-le-mul_right, [], ◌∷◌, fun_ext, Fraction, ◌*ℚ◌, whole, sum_to, times_left_comm, times_zero, zero_times, times_one, sum_to_same, sum_to_times, sum_to_swap, sum_to_zero, Holds, convolve, at_zero, power, cell, IsSeverity, Aggregate, IsDeclarable, loss, One, Mean, partial_sums, times_reverse}
+use Rattle.dl_model.proofs.Cauchy.{sum_convolve}
 use Rattle.std.proofs.Math.Nat.{le_refl as le_refl_n}
-use Rattle.dl_model.proofs.Declared.{scaled}
-use Rattle.dl_model.proofs.Cauchy.{cauchy_low, square_le_triangle}
-use Rattle.dl_model.proofs.Powers.{power_tilt, tilt_at_zero}
-use Rattle.dl_model.proofs.CompoundLaws.{power_severity}
+use Rattle.dl_model.proofs.ValueLaws.{scaled, power_tilt, tilt_at_zero, power_severity}
 use Rattle.dl_model.proofs.UnitLaws.{unit_loss, unit_plain}
 use Rattle.dl_model.proofs.Outcomes.{total_alone_all, mean_alone}
-use Rattle.dl_exact.proofs.Orders.{times_reverse}
-
--- a sum over all i + j up to a level that both stay below
-pub sum_convolve : (f g : ℕ → Fraction) (m n k : ℕ) → ((i : ℕ) → m < i → f i ≡ whole 0)
-    → ((j : ℕ) → n < j → g j ≡ whole 0) → m + n ≤ k
-    → sum_to k (convolve f g) ≡ sum_to m f *ℚ sum_to n g
-sum_convolve f g m n k pf pg h = le_antisymm _ _
-    (subst (λ t. sum_to k (convolve f g) ≤ℚ t)
-    (ap₂ (λ s t. s *ℚ t) (sum_to_longer m k f (omega arith) pf) (sum_to_longer n k g (omega arith) pg))
-    (cauchy_low k f g))
-    (le_trans _ _ _ (subst (λ t. t ≤ℚ sum_to (m + n) (convolve f g)) (sum_to_product m n f g)
-    (square_le_triangle m n (λ i j. f i *ℚ g j))) (sum_to_grows (m + n) k (convolve f g) h))
 
 module _ (f : ℕ → Fraction) (m : ℕ) (h : IsSeverity f m) where
   -- the mean of one claim

@@ -1,94 +1,67 @@
 -- The declared value of one of two parts, from those of the whole and of the other part.
-use Rattle.dl_model.proofs.Common.{◌≡◌, inl, inr, ℕ, zero, max, sym, ap, subst, subst₂, ◌∙◌, le-max_left, le-max_right, fun_ext, Fraction, ◌+ℚ◌, ◌-ℚ◌, ◌*ℚ◌, ◌/ℚ◌, ◌≤ℚ◌, ◌<ℚ◌, whole, Series, IsBound, AtMost, AtLeast, Holds, Rises, plus, le_of_lt, zero_le, ring, plus_comm, times_comm, plus_zero, zero_times, le_refl, le_trans, le_of_eq, lt_or_le, lt_not_le, plus_le_both, le_plus, plus_times, lt_gap, plus_le_cancel, times_le_cancel, zero_or_pos, le_sub, sub_plus, div_times, div_pos, times_le_both}
-use Rattle.dl_model.proofs.Declared.{self_holds, at_least_shifted, at_most_wider, crossed_plus, rises_to}
-use Rattle.dl_model.proofs.Complements.{no_descent}
-use Rattle.dl_exact.proofs.Laws.{sub_nothing}
-use Rattle.dl_exact.proofs.Orders.{plus_swap}
+use Rattle.dl_model.proofs.Common.{◌≡◌, inl, inr, ℕ, max, sym, subst, subst₂, ◌∙◌, le-max_left, le-max_right, fun_ext, Fraction, ◌+ℚ◌, ◌-ℚ◌, ◌*ℚ◌, ◌≤ℚ◌, whole, Series, IsBound, AtMost, AtLeast, Holds, Rises, plus, le_of_lt, zero_le, plus_comm, zero_times, le_refl, lt_or_le, plus_le_both, le_plus, plus_times, sub_plus, sub_nothing, order, suc, zero, ap, ◌<ℚ◌, ring, le_trans, lt_not_le, one_times, whole_suc, archimedes, lt_gap, le_of_eq, zero_or_pos, div_pos, div_times, times_le_cancel, plus_le_cancel, le_sub, plus_zero, ◌/ℚ◌}
+use Rattle.dl_model.proofs.Declared.{self_holds, at_least_shifted, at_most_wider, crossed, rises_to}
 
-divided : (x v g k : Fraction) → whole 0 <ℚ k → k *ℚ x +ℚ g ≤ℚ k *ℚ v → x +ℚ g /ℚ k ≤ℚ v
-divided x v g k kp h = times_le_cancel _ _ k kp (subst₂ (λ s t. s ≤ℚ t)
-    (sym (plus_times x (g /ℚ k) k ∙ ap (λ t. x *ℚ k +ℚ t) (div_times g k kp) ∙ ap (λ t. t +ℚ g) (times_comm x k)))
-    (times_comm k v) h)
+-- what can be lowered by d again and again is not there
+descend : (P : Fraction → Type 0) (d : Fraction) → ((v : Fraction) → P v → (w : Fraction) × (w +ℚ d ≤ℚ v) × P w)
+    → (k : ℕ) (v : Fraction) → P v → v <ℚ whole k *ℚ d → ⊥
+descend P d step zero v p h = lt_not_le v _ h (rw zero_times (zero_le v))
+descend P d step (suc k) v p h =
+    let s = step v p in
+    elim (lt_or_le s.0 (whole k *ℚ d)) [
+      | inl l ↦ descend P d step k s.0 s.2 l
+      | inr l ↦ lt_not_le v _ h (rw (whole_suc k, plus_times, one_times) (grw (order, l) s.1))
+    ]
 
-small : (R : Series) (v d : Fraction) → ((m : ℕ) → R m +ℚ d ≤ℚ v) → d ≤ℚ v
-small R v d h = le_trans _ _ _ (subst (λ t. d ≤ℚ t) (plus_comm d (R zero)) (le_plus d (R zero))) (h zero)
+pub no_descent : (P : Fraction → Type 0) (d : Fraction) → whole 0 <ℚ d
+    → ((v : Fraction) → P v → (w : Fraction) × (w +ℚ d ≤ℚ v) × P w)
+    → (v : Fraction) → P v → ⊥
+no_descent P d h step v p = let a = archimedes v d h in descend P d step a.0 v p a.1
 
-least_step : (x y l h u v g q : Fraction) → x ≤ℚ y → q ≤ℚ l *ℚ y → u +ℚ g ≡ q → (l +ℚ h) *ℚ y ≤ℚ u +ℚ h *ℚ v
-    → h *ℚ x +ℚ g ≤ℚ h *ℚ v
-least_step x y l h u v g q xy qy e a =
-    let b : q +ℚ h *ℚ x ≤ℚ u +ℚ h *ℚ v = le_trans _ _ _
-    (plus_le_both _ _ _ _ qy (times_le_both h h _ _ (le_refl h) xy))
-    (subst (λ t. t ≤ℚ u +ℚ h *ℚ v) (plus_times l h y) a) in
-    plus_le_cancel _ _ u (subst₂ (λ s t. s ≤ℚ t) (ap (λ t. t +ℚ h *ℚ x) (sym e) ∙ turn u g (h *ℚ x)) (plus_comm _ _) b)
-  where
-    turn : (a b c : Fraction) → a +ℚ b +ℚ c ≡ c +ℚ b +ℚ a
-    turn a b c = simp ring
+-- R comes as near to its bounds as one likes
+pub close : (R : Series) (e x y h : Fraction) → IsBound R e
+    → ((v : Fraction) → IsBound R v → v ≤ℚ e → (m : ℕ) → x +ℚ h *ℚ R m ≤ℚ y +ℚ h *ℚ v) → x ≤ℚ y
+close R e x y h bounded c = elim (lt_or_le y x) [
+  | inr l ↦ l
+  | inl l ↦ absurd (
+      let g = lt_gap y x l in
+      elim (zero_or_pos h) [
+        | inl z ↦ lt_not_le y x l (simp (z, zero_times, plus_zero) at (c e bounded (le_refl e) zero))
+        | inr hp ↦
+            let d = g.0 /ℚ h in
+            no_descent (λ v. IsBound R v × (v ≤ℚ e)) d (div_pos g.0 h g.1 hp) (λ v w.
+            let lower : (m : ℕ) → R m +ℚ d ≤ℚ v = λ m. times_le_cancel _ _ h hp (rw (plus_times, div_times g.0 h hp)
+            (plus_le_cancel _ _ y (subst₂ (λ s t. s ≤ℚ t) (ap (λ t. t +ℚ h *ℚ R m) (sym g.2) ∙ simp ring) (simp ring)
+            (c v w.0 w.1 m)))) in
+            let back : v -ℚ d +ℚ d ≡ v =
+            sub_plus v d (le_trans _ _ _ (le_plus d (R zero)) (rw (plus_comm d) (lower zero))) in (
+              v -ℚ d,
+              le_of_eq _ _ back,
+              (λ m. le_sub _ _ _ (lower m), le_trans _ _ _ (rw back at (le_plus (v -ℚ d) d)) w.1),
+            ))
+            e (bounded, le_refl e)
+      ])
+]
+
+pub at_least_rest : (Q Q' R : Series) (h k v : Fraction) → ((n : ℕ) → Q n +ℚ Q' n ≡ R n) → IsBound R v
+    → h +ℚ k ≡ whole 1 → AtMost Q R h → AtLeast Q' R k
+at_least_rest Q Q' R h k v e bv one a n u b = close R v (k *ℚ R n) u h bv (λ v bv _ m.
+    let all : (m : ℕ) → R m ≤ℚ u +ℚ h *ℚ v =
+    λ m. rw (← e m, plus_comm (Q m)) (plus_le_both _ _ _ _ (b m) (a m v bv)) in
+    grw (order, all n, all m) (le_of_eq _ _ (rw (← plus_times, plus_comm k, one) (one_times _))))
 
 pub at_least_minus : (Q Q' R : Series) (l h v : Fraction) → Rises R → IsBound R v → AtLeast (plus Q Q') R (l +ℚ h)
     → AtMost Q' R h → AtLeast Q R l
-at_least_minus Q Q' R l h v r bv a a' n u b = elim (lt_or_le u (l *ℚ R n)) [
-  | inr p ↦ p
-  | inl p ↦ absurd (
-      let g = lt_gap u (l *ℚ R n) p in
-      let both : (v : Fraction) → IsBound R v → (m : ℕ) → (l +ℚ h) *ℚ R m ≤ℚ u +ℚ h *ℚ v =
-      λ v bv m. a m (u +ℚ h *ℚ v) (λ k. plus_le_both _ _ _ _ (b k) (a' k v bv)) in
-      elim (zero_or_pos h) [
-        | inl z ↦ lt_not_le u (l *ℚ R n) p (subst₂ (λ s t. s ≤ℚ t)
-            (ap (λ t. (l +ℚ t) *ℚ R n) z ∙ ap (λ t. t *ℚ R n) (plus_zero l))
-            (ap (λ t. u +ℚ t *ℚ v) z ∙ ap (λ t. u +ℚ t) (zero_times v) ∙ plus_zero u) (both v bv n))
-        | inr hp ↦ no_descent (IsBound R) (g.0 /ℚ h) (div_pos g.0 h g.1 hp)
-            (λ v bv.
-            let lower : (m : ℕ) → R m +ℚ g.0 /ℚ h ≤ℚ v =
-            λ m. divided (R m) v g.0 h hp (least_step (R m) (R (max m n)) l h u v g.0 (l *ℚ R n)
-            (rises_to R r m (max m n) (le-max_left m n))
-            (times_le_both l l _ _ (le_refl l) (rises_to R r n (max m n) (le-max_right m n))) g.2
-            (both v bv (max m n))) in (
-              v -ℚ g.0 /ℚ h,
-              le_of_eq _ _ (sub_plus v (g.0 /ℚ h) (small R v (g.0 /ℚ h) lower)),
-              λ m. le_sub _ _ _
-                  (lower m),
-            ))
-            v bv
-      ])
-]
-
-most_step : (x h l u v g q : Fraction) → v ≤ℚ u → h *ℚ u +ℚ g ≡ q → l *ℚ x +ℚ q ≤ℚ (h +ℚ l) *ℚ v → l *ℚ x +ℚ g ≤ℚ l *ℚ v
-most_step x h l u v g q vu e a =
-    let b : l *ℚ x +ℚ q ≤ℚ h *ℚ u +ℚ l *ℚ v =
-    le_trans _ _ _ (subst (λ t. l *ℚ x +ℚ q ≤ℚ t) (plus_times h l v) a)
-    (plus_le_both _ _ _ _ (times_le_both h h _ _ (le_refl h) vu) (le_refl _)) in
-    plus_le_cancel _ _ (h *ℚ u) (subst₂ (λ s t. s ≤ℚ t) (ap (λ t. l *ℚ x +ℚ t) (sym e) ∙ plus_swap (l *ℚ x) (h *ℚ u) g)
-    (plus_comm _ _) b)
+at_least_minus Q Q' R l h v r bv a a' n u b = close R v (l *ℚ R n) u h bv (λ v bv _ m.
+    let k = max m n in
+    grw (order, rises_to R r n k (le-max_right m n), rises_to R r m k (le-max_left m n))
+    (rw (← plus_times) (a k (u +ℚ h *ℚ v) (λ j. plus_le_both _ _ _ _ (b j) (a' j v bv)))))
 
 pub at_most_minus : (Q Q' R : Series) (h l : Fraction) → Rises Q → Rises Q' → AtMost (plus Q Q') R (h +ℚ l)
     → AtLeast Q' R l → AtMost Q R h
-at_most_minus Q Q' R h l r r' a a' n u b = elim (lt_or_le (h *ℚ u) (Q n)) [
-  | inr p ↦ p
-  | inl p ↦ absurd (
-      let g = lt_gap (h *ℚ u) (Q n) p in
-      elim (zero_or_pos l) [
-        | inl z ↦ lt_not_le (h *ℚ u) (Q n) p (le_trans _ _ _ (le_plus (Q n) (Q' n))
-            (subst (λ t. Q n +ℚ Q' n ≤ℚ t) (ap (λ t. (h +ℚ t) *ℚ u) z ∙ ap (λ t. t *ℚ u) (plus_zero h)) (a n u b)))
-        | inr lp ↦ no_descent (λ v. IsBound R v × (v ≤ℚ u)) (g.0 /ℚ l) (div_pos g.0 l g.1 lp)
-            (λ v w.
-            let bv : IsBound (plus Q' Q) ((h +ℚ l) *ℚ v) =
-            λ m. subst (λ t. t ≤ℚ (h +ℚ l) *ℚ v) (plus_comm (Q m) (Q' m)) (a m v w.0) in
-            let lower : (m : ℕ) → R m +ℚ g.0 /ℚ l ≤ℚ v =
-            λ m. divided (R m) v g.0 l lp (most_step (R m) h l u v g.0 (Q n) w.1 g.2
-            (at_least_shifted Q' R l a' (Q n) ((h +ℚ l) *ℚ v)
-            (λ m. crossed_plus Q' Q r' r ((h +ℚ l) *ℚ v) bv m n) m)) in
-            let back : v -ℚ g.0 /ℚ l +ℚ g.0 /ℚ l ≡ v = sub_plus v (g.0 /ℚ l) (small R v (g.0 /ℚ l) lower) in (
-              v -ℚ g.0 /ℚ l,
-              le_of_eq _ _ back,
-              (
-                λ m. le_sub _ _ _ (lower m),
-                le_trans _ _ _
-                    (subst (λ t. v -ℚ g.0 /ℚ l ≤ℚ t) back (le_plus _ _)) w.1,
-              ),
-            ))
-            u (b, le_refl u)
-      ])
-]
+at_most_minus Q Q' R h l r r' a a' n u b = close R u (Q n) (h *ℚ u) l b (λ v bv le m.
+    grw (order, ← le) (rw (plus_comm (Q n), ← plus_times) (at_least_shifted Q' R l a' (Q n) ((h +ℚ l) *ℚ v)
+    (λ j. rw (plus_comm (Q' j)) (crossed (λ x y. x +ℚ y) plus_le_both Q Q' r r' _ (λ i. a i v bv) n j)) m)))
 
 pub at_most_rest : (Q Q' R : Series) (l k : Fraction) → Rises Q → Rises Q' → ((n : ℕ) → Q n +ℚ Q' n ≡ R n)
     → l +ℚ k ≡ whole 1 → AtLeast Q R l → AtMost Q' R k
@@ -96,21 +69,27 @@ at_most_rest Q Q' R l k r r' e one a = at_most_minus Q' Q R k l r' r
     (subst₂ (λ S t. AtMost S R t) (fun_ext (λ n. sym (e n) ∙ plus_comm _ _)) (sym one ∙ plus_comm l k)
     (self_holds R).1) a
 
-le_sub_plus : (x y : Fraction) → x ≤ℚ x -ℚ y +ℚ y
+pub le_sub_plus : (x y : Fraction) → x ≤ℚ x -ℚ y +ℚ y
 le_sub_plus x y = elim (lt_or_le x y) [
-  | inl less ↦ le_trans _ _ _ (le_of_lt x y less) (subst (λ t. y ≤ℚ t) (plus_comm y (x -ℚ y)) (le_plus y (x -ℚ y)))
-  | inr more ↦ subst (λ t. x ≤ℚ t) (sym (sub_plus x y more)) (le_refl x)
+  | inl less ↦ grw (order, le_of_lt x y less) (rw (plus_comm (x -ℚ y)) (le_plus y (x -ℚ y)))
+  | inr more ↦ rw (sub_plus x y more) (le_refl x)
 ]
 
--- one of two parts, from the whole and the other part
+-- ---- the difference of two ends, 0 where it would be below
+
+pub minus_least : (Q Q' R : Series) (m h v : Fraction) → Rises R → IsBound R v → AtLeast (plus Q Q') R m → AtMost Q' R h
+    → AtLeast Q R (m -ℚ h)
+minus_least Q Q' R m h v r b a a' = elim (lt_or_le m h) [
+  | inl less ↦ λ N x c. rw (sub_nothing m h (le_of_lt m h less), zero_times) (zero_le x)
+  | inr more ↦ at_least_minus Q Q' R (m -ℚ h) h v r b (subst (AtLeast (plus Q Q') R) (sym (sub_plus m h more)) a) a'
+]
+
+pub minus_most : (Q Q' R : Series) (n l : Fraction) → Rises Q → Rises Q' → AtMost (plus Q Q') R n → AtLeast Q' R l
+    → AtMost Q R (n -ℚ l)
+minus_most Q Q' R n l q q' a a' =
+    at_most_minus Q Q' R (n -ℚ l) l q q' (at_most_wider (plus Q Q') R n _ a (le_sub_plus n l)) a'
+
 pub holds_minus : (Q Q' R : Series) (l h m n v : Fraction) → Rises Q → Rises Q' → Rises R → IsBound R v
     → Holds (plus Q Q') R m n → Holds Q' R l h → Holds Q R (m -ℚ h) (n -ℚ l)
-holds_minus Q Q' R l h m n v q q' r b whole_part part = (
-  elim (lt_or_le m h) [
-    | inl less ↦ λ N x c. subst (λ t. t ≤ℚ x)
-        (sym (ap (λ t. t *ℚ R N) (sub_nothing m h (le_of_lt m h less)) ∙ zero_times _)) (zero_le x)
-    | inr more ↦ at_least_minus Q Q' R (m -ℚ h) h v r b
-        (subst (AtLeast (plus Q Q') R) (sym (sub_plus m h more)) whole_part.0) part.1
-  ],
-  at_most_minus Q Q' R (n -ℚ l) l q q' (at_most_wider (plus Q Q') R n _ whole_part.1 (le_sub_plus n l)) part.0,
-)
+holds_minus Q Q' R l h m n v q q' r b w part =
+    (minus_least Q Q' R m h v r b w.0 part.1, minus_most Q Q' R n l q q' w.1 part.0)

@@ -1,11 +1,7 @@
 -- Sums of claims stand at multiples of the common divisor of the amounts, and what a clause makes of them.
-use Rattle.dl_model.proofs.Common.{ℕ, zero, suc, ◌≡◌, ◌≢◌, ◌+◌, ◌*◌, ◌/◌, List, [], ◌∷◌, arith, refl, ap, ap₂, subst, ◌∙◌, dec_dvd, div-one, dvd-mul_left, sum_by-cons, ◌∣◌, Fraction, whole, ◌over◌, ◌*ℚ◌, times_zero, zero_times, sum_pairs_same, sum_to_zero, sum_pairs_none, Item, Sev, weight_at, common_amount, probability_of, Clause, kept, over_zero, total_pos, at_zero, power, cell, outcome_after}
+use Rattle.dl_model.proofs.Common.{ℕ, zero, suc, ◌≡◌, ◌≢◌, ◌+◌, ◌*◌, ◌/◌, List, [], ◌∷◌, arith, refl, ap, ap₂, subst, ◌∙◌, dec_dvd, div-one, dvd-mul_left, sum_by-cons, ◌∣◌, Fraction, whole, ◌over◌, ◌*ℚ◌, times_zero, zero_times, sum_pairs_same, sum_to_zero, sum_pairs_none, Item, Sev, weight_at, common_amount, probability_of, Clause, kept, over_zero, total_pos, at_zero, power, cell, outcome_after, div-add-mod, dvd_refl, dvd_trans, dvd-zero, mod-eq-zero_of_dvd, gcd, gcd_is}
 use Rattle.std.proofs.Common.{fold, Some}
-use Rattle.std.proofs.Math.Nat.{div-add-mod}
 use Rattle.std.proofs.lemmas.Bool.{ne_eqb}
-use Rattle.std.proofs.lemmas.Nat.Gcd.{dvd_refl, dvd_trans, dvd-zero, mod-eq-zero_of_dvd}
-use Rattle.dl_exact.specs.Gcd.{gcd}
-use Rattle.dl_exact.proofs.GcdLaws.{gcd_is}
 use Rattle.dl_exact.proofs.Parts.{whole_num, whole_den}
 use Rattle.dl_model.proofs.WeightLaws.{part_of}
 
@@ -43,9 +39,8 @@ module _ (f : ℕ → Fraction) (d : ℕ) (none : (j : ℕ) → ¬ (d ∣ j) →
   no_power_between zero (suc s) h = refl
   no_power_between (suc n) s h =
       sum_pairs_same s _ (λ i j. whole 0) (λ i j e. elim (dec_dvd d i) [
-        | yes p ↦ ap (λ t. f i *ℚ t) (no_power_between n j (λ q. h (subst (λ k. d ∣ k) e (dvd_plus d i j p q))))
-            ∙ times_zero _
-        | no p ↦ ap (λ t. t *ℚ power f n j) (none i p) ∙ zero_times _
+        | yes p ↦ simp (no_power_between n j (λ q. h (subst (λ k. d ∣ k) e (dvd_plus d i j p q))), times_zero)
+        | no p ↦ simp (none i p, zero_times)
       ])
       ∙ sum_pairs_none s
 

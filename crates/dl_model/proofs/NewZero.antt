@@ -1,13 +1,8 @@
 -- Where the probability of no claim of a count of a plan can be changed: it is at most 16 / 17, and some number of claims
 -- above 0 has a positive weight.
-use Rattle.dl_model.proofs.Common.{◌≡◌, inl, inr, ℕ, suc, zero, ◌*◌, ◌≤◌, max, arith, sym, ap, subst, ◌∙◌, le-max_left, le-max_right, Fraction, whole, ◌over◌, ◌+ℚ◌, ◌*ℚ◌, ◌/ℚ◌, ◌≤ℚ◌, ◌<ℚ◌, sum_to, over_same, over_self, le_over, one_pos, one_times, times_comm, times_assoc, zero_plus, le_trans, le_div, zero_or_pos, times_le_times, times_le_cancel, div_times, lt_of_lt_of_le, AtMost, IsBound, AreCountWeights, Freq, Fixed, Table, Bernoulli, Binomial, Poisson, Gamma, num_le_den, count_weights}
-use Rattle.dl_exact.proofs.Denominators.{over_pos}
-use Rattle.dl_exact.proofs.Over.{over_add}
+use Rattle.dl_model.proofs.Common.{◌≡◌, inl, inr, ℕ, suc, zero, ◌*◌, ◌≤◌, max, arith, sym, ap, subst, ◌∙◌, le-max_left, le-max_right, Fraction, whole, ◌over◌, ◌+ℚ◌, ◌*ℚ◌, ◌/ℚ◌, ◌≤ℚ◌, ◌<ℚ◌, sum_to, over_same, over_self, le_over, one_pos, one_times, times_comm, times_assoc, zero_plus, le_trans, le_div, zero_or_pos, times_le_times, times_le_cancel, div_times, lt_of_lt_of_le, AtMost, IsBound, AreCountWeights, Freq, Fixed, Table, Bernoulli, Binomial, Poisson, Gamma, num_le_den, count_weights, over_pos, over_add, IsNewZero, without_none, total}
 use Rattle.dl_plan.specs.Count.{IsClaimCount as IsCountOfPlan}
-use Rattle.dl_plan.specs.Valid.{IsNewZero}
-unfoldable use Rattle.dl_model.specs.ChangedZero.{without_none}
-use Rattle.dl_model.proofs.Declared.{rises_to}
-use Rattle.dl_model.proofs.FamilyLaws.{sum_rises_to}
+use Rattle.dl_model.proofs.ValueLaws.{rises_to, sum_rises_to}
 use Rattle.dl_model.proofs.ChangedZero.{weights_apart}
 use Rattle.dl_model.proofs.SomeClaim.{fixed_some_claim, binomial_some_claim, poisson_some_claim, gamma_some_claim}
 
@@ -42,17 +37,14 @@ module _ (w : ℕ → Fraction) (W : AreCountWeights w) (most : AtMost (λ N. w 
   none_else : (top : ℕ) → W.level ≤ top → ((N : ℕ) → near *ℚ sum_to N w ≤ℚ sum_to top w)
       → sum_to top (without_none w) ≡ whole 0 → ⊥
   none_else top far settled none =
-      let all : sum_to top w ≡ w zero = weights_apart w top ∙ ap (λ t. t +ℚ w zero) none ∙ zero_plus _ in
+      let all : sum_to top w ≡ w zero = rw (weights_apart w top, none) (zero_plus _) in
       let some : whole 0 <ℚ w zero = subst (λ t. whole 0 <ℚ t) all
       (lt_of_lt_of_le _ _ _ W.positive (rises_to (λ N. sum_to N w) (sum_rises_to w) W.level top far)) in
       let bound : IsBound (λ N. sum_to N w) (w zero /ℚ near) =
-      λ N. le_div _ near _ near_pos (subst (λ t. t ≤ℚ w zero) (times_comm near (sum_to N w))
-      (subst (λ t. near *ℚ sum_to N w ≤ℚ t) all (settled N))) in
-      let within : w zero *ℚ near ≤ℚ 16 over 17 *ℚ w zero =
-      subst (λ t. w zero *ℚ near ≤ℚ t) (times_assoc _ _ _ ∙ ap (λ t. 16 over 17 *ℚ t) (div_times (w zero) near near_pos))
-      (times_le_times _ _ near (most zero (w zero /ℚ near) bound)) in
-      let below : near ≤ℚ 16 over 17 = times_le_cancel _ _ (w zero) some
-      (subst (λ t. t ≤ℚ 16 over 17 *ℚ w zero) (times_comm (w zero) near) within) in
+      λ N. le_div _ near _ near_pos (rw (times_comm (sum_to N w), ← all) (settled N)) in
+      let below : near ≤ℚ 16 over 17 = times_le_cancel _ _ (w zero) some (rw (times_comm near)
+      (subst (λ t. w zero *ℚ near ≤ℚ t) (times_assoc _ _ _ ∙ ap (λ t. 16 over 17 *ℚ t) (div_times (w zero) near near_pos))
+      (times_le_times _ _ near (most zero (w zero /ℚ near) bound)))) in
       let cross : 33 * 17 ≤ 16 * 34 = le_over 33 34 16 17 (omega arith) (omega arith) below in
       absurd (omega (arith, cross))
 

@@ -1,9 +1,7 @@
 -- Losses are proper families. Sums over the outcomes of all units are linear in the score, and the totals of units are
 -- products of families.
-use Rattle.dl_model.proofs.Common.{◌≡◌, inl, inr, ℕ, suc, zero, ◌+◌, ◌-◌, ◌<◌, ◌≤◌, nat_eq, arith, refl, sym, ap, ap₂, subst₂, ◌∙◌, List, [], ◌∷◌, ◌++◌, ne_eqb, eq-eqb, sum, fun_ext, cases_eq, sum_by-cons, Fraction, ◌+ℚ◌, ◌*ℚ◌, ◌≤ℚ◌, whole, sum_to, sum_pairs, sum_below, ring, whole_plus, plus_zero, times_plus, times_left_comm, times_assoc, times_one, one_times, times_zero, zero_times, le_refl, le_trans, times_le_both, sum_to_same, sum_to_plus, sum_to_times, sum_to_times_right, sum_to_le, sum_to_grows, sum_to_none, sum_to_either, sum_to_longer, le_of_eq, Rises, at_zero, convolve, Loss, IsLoss, One, Point, Mean, AreDeclarable, where_true, score, sum_over_outcomes, partial_sums, Family, total, mean_to_reach, product, nothing, IsProper}
-use Rattle.dl_exact.proofs.Sums.{sum_to_pairs}
-use Rattle.dl_model.proofs.Powers.{at_zero_convolve, convolve_assoc, convolve_comm}
-use Rattle.dl_model.proofs.FamilyLaws.{proper_product, nothing_proper}
+use Rattle.dl_model.proofs.Common.{◌≡◌, inl, inr, ℕ, suc, zero, ◌+◌, ◌-◌, ◌<◌, ◌≤◌, nat_eq, arith, refl, sym, ap, ap₂, subst₂, ◌∙◌, List, [], ◌∷◌, ◌++◌, ne_eqb, eq-eqb, sum, fun_ext, cases_eq, sum_by-cons, Fraction, ◌+ℚ◌, ◌*ℚ◌, ◌≤ℚ◌, whole, sum_to, sum_pairs, sum_below, ring, whole_plus, plus_zero, times_plus, times_left_comm, times_assoc, times_one, one_times, times_zero, zero_times, le_refl, le_trans, times_le_both, sum_to_same, sum_to_plus, sum_to_times, sum_to_times_right, sum_to_le, sum_to_grows, sum_to_none, sum_to_either, sum_to_longer, le_of_eq, Rises, at_zero, convolve, Loss, IsLoss, One, Point, Mean, AreDeclarable, where_true, score, sum_over_outcomes, partial_sums, Family, total, mean_to_reach, product, nothing, IsProper, sum_to_pairs, order}
+use Rattle.dl_model.proofs.ValueLaws.{at_zero_convolve, convolve_assoc, convolve_comm, proper_product, nothing_proper}
 
 abbrev cells_at : Loss → ℕ → ℕ → Fraction
 cells_at u N y = u.family.cells y N
@@ -28,48 +26,39 @@ outcomes_same us f g N h = ap (λ s. sum_over_outcomes us s N) (fun_ext h)
 pub outcomes_none : (us : List Loss) (N : ℕ) → sum_over_outcomes us (λ ys. whole 0) N ≡ whole 0
 unfolding sum_over_outcomes
 outcomes_none [] N = refl
-outcomes_none (u ∷ us) N =
-    sum_to_same _ _ _ (λ y b. ap (λ t. u.family.cells y N *ℚ t) (outcomes_none us N) ∙ times_zero _) ∙ sum_to_none _
+outcomes_none (u ∷ us) N = simp (outcomes_none us, times_zero, sum_to_none)
 
 pub outcomes_plus : (us : List Loss) (f g : List ℕ → Fraction) (N : ℕ)
     → sum_over_outcomes us (λ ys. f ys +ℚ g ys) N ≡ sum_over_outcomes us f N +ℚ sum_over_outcomes us g N
 unfolding sum_over_outcomes
 outcomes_plus [] f g N = refl
-outcomes_plus (u ∷ us) f g N =
-    sum_to_same _ _ _ (λ y b. ap (λ t. cells_at u N y *ℚ t)
-    (outcomes_plus us (λ ys. f (y ∷ ys)) (λ ys. g (y ∷ ys)) N) ∙ times_plus _ _ _)
-    ∙ sum_to_plus _ _ _
+outcomes_plus (u ∷ us) f g N = simp (outcomes_plus us, times_plus, sum_to_plus)
 
 pub outcomes_times : (us : List Loss) (k : Fraction) (f : List ℕ → Fraction) (N : ℕ)
     → sum_over_outcomes us (λ ys. k *ℚ f ys) N ≡ k *ℚ sum_over_outcomes us f N
 unfolding sum_over_outcomes
 outcomes_times [] k f N = refl
 outcomes_times (u ∷ us) k f N =
-    sum_to_same _ _ _ (λ y b. ap (λ t. u.family.cells y N *ℚ t) (outcomes_times us k (λ ys. f (y ∷ ys)) N)
-    ∙ times_left_comm _ _ _)
-    ∙ sum_to_times _ _ _
+    simp (outcomes_times us) (sum_to_same _ _ _ (λ y b. times_left_comm _ _ _) ∙ sum_to_times _ _ _)
 
 pub outcomes_sum : (us : List Loss) (n : ℕ) (f : ℕ → List ℕ → Fraction) (N : ℕ)
     → sum_over_outcomes us (λ ys. sum_to n (λ i. f i ys)) N ≡ sum_to n (λ i. sum_over_outcomes us (f i) N)
 unfolding sum_to
 outcomes_sum us zero f N = refl
-outcomes_sum us (suc n) f N =
-    outcomes_plus us _ _ N ∙ ap (λ t. t +ℚ sum_over_outcomes us (f (suc n)) N) (outcomes_sum us n f N)
+outcomes_sum us (suc n) f N = simp (outcomes_plus, outcomes_sum us n)
 
 pub outcomes_below : (us : List Loss) (n : ℕ) (f : ℕ → List ℕ → Fraction) (N : ℕ)
     → sum_over_outcomes us (λ ys. sum_below n (λ i. f i ys)) N ≡ sum_below n (λ i. sum_over_outcomes us (f i) N)
 unfolding sum_below
 outcomes_below us zero f N = outcomes_none us N
-outcomes_below us (suc n) f N =
-    outcomes_plus us _ _ N ∙ ap (λ t. t +ℚ sum_over_outcomes us (f n) N) (outcomes_below us n f N)
+outcomes_below us (suc n) f N = simp (outcomes_plus, outcomes_below us n)
 
 pub outcomes_le : (us : List Loss) (f g : List ℕ → Fraction) → ((ys : List ℕ) → f ys ≤ℚ g ys) → (N : ℕ)
     → sum_over_outcomes us f N ≤ℚ sum_over_outcomes us g N
 unfolding sum_over_outcomes
 outcomes_le [] f g h N = h []
 outcomes_le (u ∷ us) f g h N = sum_to_le (u.reach N) _ _
-    (λ y b. times_le_both _ _ _ _ (le_refl _)
-    (outcomes_le us (λ ys. f (y ∷ ys)) (λ ys. g (y ∷ ys)) (λ ys. h (y ∷ ys)) N))
+    (λ y b. grw (order, outcomes_le us (λ ys. f (y ∷ ys)) (λ ys. g (y ∷ ys)) (λ ys. h (y ∷ ys)) N))
 
 pub outcomes_rise : (us : List Loss) → AreDeclarable us → (f : List ℕ → Fraction) → Rises (sum_over_outcomes us f)
 unfolding sum_over_outcomes
@@ -105,17 +94,12 @@ pub first_unit : (u : Loss) (us : List Loss) → IsLoss u → (v : ℕ → List 
     (λ ys. where_true (nat_eq (sum (y ∷ ys)) x) (v y ys)) N)
     ≡ sum_pairs x (λ y z. u.family.cells y N *ℚ sum_over_outcomes us (λ ys. where_true (nat_eq (sum ys) z) (v y ys)) N)
 first_unit u us h v x N =
-    let G : ℕ → Fraction = λ y. u.family.cells y N *ℚ sum_over_outcomes us
-    (λ ys. where_true (nat_eq (y + sum ys) x) (v y ys)) N in
-    sum_to_same (u.reach N) _ G (λ y b. ap (λ t. u.family.cells y N *ℚ t)
-    (outcomes_same us _ _ N (λ ys. ap (λ s. where_true (nat_eq s x) (v y ys)) (sum-cons y ys))))
-    ∙ sum_to_either (u.reach N) x G
-    (λ y b. ap (λ t. t *ℚ sum_over_outcomes us (λ ys. where_true (nat_eq (y + sum ys) x) (v y ys)) N)
-    (h.past y N b) ∙ zero_times _)
-    (λ y b. ap (λ t. u.family.cells y N *ℚ t) (outcomes_same us _ _ N (λ ys. total_above x y (sum ys) (v y ys) b)
-    ∙ outcomes_none us N) ∙ times_zero _)
-    ∙ sum_to_same x _ _ (λ y b. ap (λ t. u.family.cells y N *ℚ t)
-    (outcomes_same us _ _ N (λ ys. total_below x y (sum ys) (v y ys) b)))
+    sum_to_either (u.reach N) x _ (λ y b. simp (h.past y N b, zero_times))
+    (λ y b. ap (λ t. u.family.cells y N *ℚ t) (outcomes_same us _ (λ ys. whole 0) N
+    (λ ys. rw (sum-cons y ys) (total_above x y (sum ys) (v y ys) b)) ∙ outcomes_none us N) ∙ times_zero _)
+    ∙ sum_to_same x _ (λ y. cells_at u N y *ℚ sum_over_outcomes us (λ ys. where_true (nat_eq (sum ys) (x - y)) (v y ys)) N)
+    (λ y b. ap (λ t. u.family.cells y N *ℚ t)
+    (outcomes_same us _ _ N (λ ys. rw (sum-cons y ys) (total_below x y (sum ys) (v y ys) b))))
     ∙ sum_to_pairs x (λ y z. cells_at u N y *ℚ sum_over_outcomes us (λ ys. where_true (nat_eq (sum ys) z) (v y ys)) N)
 
 -- one unit more
@@ -153,11 +137,8 @@ mean_more u us h N =
 
 proper_same : (F G : Family) → ((y N : ℕ) → F.cells y N ≡ G.cells y N) → ((N : ℕ) → F.all N ≡ G.all N) → IsProper F
     → IsProper G
-proper_same F G cells all p = record {
-  cells_rise = λ y N. subst₂ (λ s t. s ≤ℚ t) (cells y N) (cells y (suc N)) (p.cells_rise y N);
-  all_rises = λ N. subst₂ (λ s t. s ≤ℚ t) (all N) (all (suc N)) (p.all_rises N);
-  within = λ y N. subst₂ (λ s t. s ≤ℚ t) (sum_to_same y _ _ (λ i b. cells i N)) (all N) (p.within y N);
-}
+proper_same F G cells all p =
+    subst₂ (λ C A. IsProper (record { cells = C; all = A })) (fun_ext (λ y. fun_ext (cells y))) (fun_ext all) p
 
 pub total_proper : (us : List Loss) → AreDeclarable us → IsProper (total us)
 unfolding sum_over_outcomes

@@ -1,11 +1,7 @@
 -- Panjer's recursion for every count of the (a, b, 0) class.
-use Rattle.dl_model.proofs.Common.{◌≡◌, ℕ, suc, zero, ◌+◌, ◌≤◌, arith, sym, ap, ap₂, ◌∙◌, zero-lt-suc, Fraction, ◌over◌, ◌+ℚ◌, ◌*ℚ◌, whole, sum_to, sum_pairs, at_zero, power, cell, poisson, gamma, ring, times_comm, zero_plus, plus_zero, times_zero, zero_times, times_one, whole_pos, whole_plus, times_cancel, sum_to_same, sum_to_first, sum_to_times, sum_to_times_right, sum_pairs_same, sum_pairs_plus, sum_pairs_times, sum_pairs_times_right, sum_pairs_sum_to}
-use Rattle.dl_model.specs.Counts.{IsPanjer}
+use Rattle.dl_model.proofs.Common.{◌≡◌, ℕ, suc, zero, ◌+◌, ◌≤◌, arith, sym, ap, ap₂, ◌∙◌, zero-lt-suc, Fraction, ◌over◌, ◌+ℚ◌, ◌*ℚ◌, whole, sum_to, sum_pairs, at_zero, power, cell, poisson, gamma, ring, times_comm, zero_plus, plus_zero, times_zero, zero_times, times_one, whole_pos, whole_plus, times_cancel, sum_to_same, sum_to_first, sum_to_times, sum_to_times_right, sum_pairs_same, sum_pairs_plus, sum_pairs_times, sum_pairs_times_right, sum_pairs_sum_to, IsPanjer, over_times_whole, sum_pairs_first}
 use Rattle.dl_model.specs.Recursion.{Recursion, from_before}
-use Rattle.dl_exact.proofs.Laws.{over_times_whole}
-use Rattle.dl_exact.proofs.Sums.{sum_pairs_first}
-use Rattle.dl_model.proofs.Powers.{power_tilt}
-use Rattle.dl_model.proofs.CompoundLaws.{no_power, cell_stays}
+use Rattle.dl_model.proofs.ValueLaws.{power_tilt, no_power, cell_stays}
 use Rattle.dl_model.proofs.PoissonWeights.{poisson_zero, poisson_next}
 use Rattle.dl_model.proofs.Gamma.{gamma_zero, gamma_next}
 
@@ -16,8 +12,7 @@ module _ (f w : ℕ → Fraction) (a b : Fraction) (z : f zero ≡ whole 0) (P :
 
   without_first : (g c : ℕ → Fraction) → g zero ≡ whole 0 → (s : ℕ)
       → sum_pairs (suc s) (λ i j. g i *ℚ c j) ≡ sum_pairs s (λ i k. g (suc i) *ℚ c k)
-  without_first g c e s = sum_pairs_first s (λ i j. g i *ℚ c j)
-      ∙ ap (λ t. t +ℚ sum_pairs s (λ i k. g (suc i) *ℚ c k)) (ap (λ t. t *ℚ c (suc s)) e ∙ zero_times _) ∙ zero_plus _
+  without_first g c e s = sum_pairs_first s (λ i j. g i *ℚ c j) ∙ simp (e, zero_times, zero_plus)
 
   one_term : (n s : ℕ) → w (suc n) *ℚ power f (suc n) (suc s) *ℚ whole (suc s) ≡ sum_pairs s
       (λ i k. factor s i *ℚ f (suc i) *ℚ (w n *ℚ power f n k))
@@ -33,40 +28,24 @@ module _ (f w : ℕ → Fraction) (a b : Fraction) (z : f zero ≡ whole 0) (P :
       let py : S *ℚ p ≡ N *ℚ Y = power_tilt f n (suc s)
       ∙ ap (λ t. N *ℚ t) (without_first (λ j. whole j *ℚ f j) c (zero_times _) s) in
       times_cancel _ _ N (whole_pos (suc n) (zero-lt-suc n))
-      (turn_left (w (suc n)) p S N
+      ((simp ring)
       ∙ ap (λ t. t *ℚ (S *ℚ p)) (P.next n)
-      ∙ split a N b (w n) S p
+      ∙ (simp ring)
       ∙ ap₂ (λ t u. a *ℚ S *ℚ (w n *ℚ t) *ℚ N +ℚ b *ℚ (w n *ℚ u)) px py
-      ∙ gather a S (w n) X N b Y
+      ∙ (simp ring)
       ∙ ap (λ t. t *ℚ N) (sym (
       sum_pairs_same s _ (λ i k. a *ℚ S *ℚ w n *ℚ (f (suc i) *ℚ c k) +ℚ b *ℚ w n *ℚ
-      (whole (suc i) *ℚ f (suc i) *ℚ c k)) (λ i k e. each a S b (whole (suc i)) (f (suc i)) (w n) (c k))
+      (whole (suc i) *ℚ f (suc i) *ℚ c k)) (λ i k e. (simp ring))
       ∙ sum_pairs_plus s (λ i k. a *ℚ S *ℚ w n *ℚ (f (suc i) *ℚ c k))
       (λ i k. b *ℚ w n *ℚ (whole (suc i) *ℚ f (suc i) *ℚ c k))
       ∙ ap₂ (λ t u. t +ℚ u) (sum_pairs_times s (a *ℚ S *ℚ w n) (λ i k. f (suc i) *ℚ c k))
       (sum_pairs_times s (b *ℚ w n) (λ i k. whole (suc i) *ℚ f (suc i) *ℚ c k)))))
-    where
-      turn_left : (x p S N : Fraction) → x *ℚ p *ℚ S *ℚ N ≡ x *ℚ N *ℚ (S *ℚ p)
-      turn_left x p S N = simp ring
-
-      split : (a N b v S p : Fraction) → (a *ℚ N +ℚ b) *ℚ v *ℚ (S *ℚ p) ≡ a *ℚ S *ℚ (v *ℚ p) *ℚ N +ℚ b *ℚ
-          (v *ℚ (S *ℚ p))
-      split a N b v S p = simp ring
-
-      gather : (a S v X N b Y : Fraction) → a *ℚ S *ℚ (v *ℚ X) *ℚ N +ℚ b *ℚ (v *ℚ (N *ℚ Y)) ≡
-          (a *ℚ S *ℚ v *ℚ X +ℚ b *ℚ v *ℚ Y) *ℚ N
-      gather a S v X N b Y = simp ring
-
-      each : (a S b j g v c : Fraction) → (a *ℚ S +ℚ b *ℚ j) *ℚ g *ℚ (v *ℚ c) ≡ a *ℚ S *ℚ v *ℚ (g *ℚ c) +ℚ b *ℚ v *ℚ
-          (j *ℚ g *ℚ c)
-      each a S b j g v c = simp ring
 
   pub cell_next : (s M : ℕ) → cell w f (suc s) (suc M) *ℚ whole (suc s) ≡ sum_pairs s
       (λ i k. factor s i *ℚ f (suc i) *ℚ cell w f k M)
   unfolding power at_zero
   cell_next s M =
-      ap (λ t. t *ℚ whole (suc s)) (sum_to_first M (λ n. w n *ℚ power f n (suc s))
-      ∙ ap (λ t. t +ℚ sum_to M (λ n. w (suc n) *ℚ power f (suc n) (suc s))) (times_zero _) ∙ zero_plus _)
+      ap (λ t. t *ℚ whole (suc s)) (sum_to_first M (λ n. w n *ℚ power f n (suc s)) ∙ simp (times_zero, zero_plus))
       ∙ sym (sum_to_times_right M (whole (suc s)) (λ n. w (suc n) *ℚ power f (suc n) (suc s)))
       ∙ sum_to_same M _ _ (λ n e. one_term n s)
       ∙ sym (sum_pairs_sum_to s M (λ i k n. factor s i *ℚ f (suc i) *ℚ (w n *ℚ power f n k)))
@@ -86,11 +65,8 @@ module _ (f w : ℕ → Fraction) (a b : Fraction) (z : f zero ≡ whole 0) (P :
       let S = whole (suc s) in
       sym (sum_pairs_times_right s S (λ i k. (a +ℚ b *ℚ suc i over suc s) *ℚ f (suc i) *ℚ r k))
       ∙ sum_pairs_same s _ _ (λ i k e.
-      turn a b (suc i over suc s) S (f (suc i)) (r k)
+      (simp ring)
       ∙ ap (λ t. (a *ℚ S +ℚ b *ℚ t) *ℚ f (suc i) *ℚ r k) (over_times_whole (suc i) (suc s) (zero-lt-suc s)))
-    where
-      turn : (a b j S g r : Fraction) → (a +ℚ b *ℚ j) *ℚ g *ℚ r *ℚ S ≡ (a *ℚ S +ℚ b *ℚ (j *ℚ S)) *ℚ g *ℚ r
-      turn a b j S g r = simp ring
 
   pub recursion_next : (r : ℕ → Fraction) → Recursion a b f r → (s : ℕ)
       → r (suc s) *ℚ whole (suc s) ≡ sum_pairs s (λ i k. (a *ℚ whole (suc s) +ℚ b *ℚ whole (suc i)) *ℚ f (suc i) *ℚ r k)
@@ -111,7 +87,7 @@ module _ (f w : ℕ → Fraction) (a b : Fraction) (z : f zero ≡ whole 0) (P :
         ∙ sym (recursion_sum (λ s. cell w f s s) s));
   }
 
-  up_to : (r : ℕ → Fraction) → Recursion a b f r → (n s N : ℕ) → s ≤ n → s ≤ N → r s ≡ cell w f s N
+  pub up_to : (r : ℕ → Fraction) → Recursion a b f r → (n s N : ℕ) → s ≤ n → s ≤ N → r s ≡ cell w f s N
   up_to r R n zero N p q = R.start ∙ sym (cell_zero N)
   up_to r R zero (suc s) N p q = absurd (omega arith)
   up_to r R (suc n) (suc s) zero p q = absurd (omega arith)
@@ -121,9 +97,6 @@ module _ (f w : ℕ → Fraction) (a b : Fraction) (z : f zero ≡ whole 0) (P :
       ∙ sum_pairs_same s _ _ (λ i k e. ap (λ t. (a *ℚ whole (suc s) +ℚ b *ℚ whole (suc i)) *ℚ f (suc i) *ℚ t)
       (up_to r R n k M (omega arith) (omega arith)))
       ∙ sym (cell_next s M))
-
-  pub recursion_is_cell : (r : ℕ → Fraction) → Recursion a b f r → (s N : ℕ) → s ≤ N → r s ≡ cell w f s N
-  recursion_is_cell r R s N q = up_to r R s s N (omega arith) q
 
 -- Poisson: a = 0, b = v
 pub poisson_class : (v : Fraction) → IsPanjer (whole 0) v (poisson v)
@@ -139,8 +112,5 @@ gamma_class q x = record {
   next = λ n. let e : suc q + n ≡ q + suc n = omega arith in
       times_comm _ _ ∙ gamma_next q x n ∙ ap (λ m. whole m *ℚ (x *ℚ gamma (suc q) x n)) e
       ∙ ap (λ t. t *ℚ (x *ℚ gamma (suc q) x n)) (whole_plus q (suc n))
-      ∙ turn (whole q) (whole (suc n)) x (gamma (suc q) x n);
+      ∙ simp ring;
 }
-  where
-    turn : (q n x g : Fraction) → (q +ℚ n) *ℚ (x *ℚ g) ≡ (x *ℚ n +ℚ q *ℚ x) *ℚ g
-    turn q n x g = simp ring

@@ -22,12 +22,15 @@ off t y c n = ap (λ b. where_true b c) (ne_eqb t y n)
 pub on : (t y : ℕ) (c : Fraction) → t ≡ y → where_true (nat_eq t y) c ≡ c
 on t y c e = ap (λ b. where_true b c) (eq-eqb t y e)
 
+pub where_turned : (t y : ℕ) (c : Fraction) → where_true (nat_eq t y) c ≡ where_true (nat_eq y t) c
+where_turned t y c = elim (cases_eq t y) [
+  | inl e ↦ on t y c e ∙ sym (on y t c (sym e))
+  | inr e ↦ off t y c e ∙ sym (off y t c (λ i. e (sym i)))
+]
+
 -- the same with the place on the left of the test
 pub passed : (n t : ℕ) (f : ℕ → Fraction) → t ≤ n → sum_to n (λ y. where_true (nat_eq t y) (f y)) ≡ f t
-passed n t f h = sum_to_same n _ _ (λ y b. elim (cases_eq t y) [
-  | inl e ↦ on t y (f y) e ∙ sym (on y t (f y) (sym e))
-  | inr e ↦ off t y (f y) e ∙ sym (off y t (f y) (λ i. e (sym i)))
-]) ∙ pick n t f h
+passed n t f h = sum_to_same n _ _ (λ y b. where_turned t y (f y)) ∙ pick n t f h
 
 -- a factor where the test holds
 pub where_factor : (b : Bool) (x : Fraction) → where_true b x ≡ where_true b (whole 1) *ℚ x
@@ -37,3 +40,12 @@ where_factor false x = sym (zero_times x)
 pub times_where : (b : Bool) (x y : Fraction) → x *ℚ where_true b y ≡ where_true b (x *ℚ y)
 times_where true x y = refl
 times_where false x y = times_zero x
+
+pub where_plus : (b : Bool) (x y : Fraction) → where_true b (x +ℚ y) ≡ where_true b x +ℚ where_true b y
+where_plus true x y = refl
+where_plus false x y = sym (plus_zero _)
+
+pub where_swap : (b c : Bool) (x : Fraction) → where_true b (where_true c x) ≡ where_true c (where_true b x)
+where_swap true c x = refl
+where_swap false true x = refl
+where_swap false false x = refl

@@ -1,11 +1,11 @@
 -- The expected counts of a plan's units, and their means.
-use Rattle.dl_model.proofs.Common.{ℕ, zero, suc, ◌≡◌, List, [], ◌∷◌, map, arith, refl, sym, ap, subst, subst₂, ◌∙◌, All, All-head, All-tail, Fraction, whole, ◌*ℚ◌, ◌≤ℚ◌, sum_to, sum_over, over_self, ring, times_comm, one_times, zero_times, zero_le, le_refl, le_trans, times_le_both, Freq, Fixed, Table, Bernoulli, Binomial, Poisson, Gamma, pairs_of, mean_amount, greatest, expected_count, IsValidUnit, num_le_den, total_pos, Series, AtMost, Holds, One, Mean, sum_over_outcomes, partial_sums, count_weights, outcome_after, loss_of, Sev, probability_of, Aggregate, IsDeclarable, loss}
+use Rattle.dl_model.proofs.Common.{ℕ, zero, suc, ◌≡◌, List, [], ◌∷◌, map, arith, refl, sym, ap, subst, ◌∙◌, All, All-head, All-tail, Fraction, whole, ◌*ℚ◌, ◌≤ℚ◌, sum_over, over_self, ring, times_comm, one_times, le_trans, Freq, Fixed, Table, Bernoulli, Binomial, Poisson, Gamma, pairs_of, mean_amount, greatest, expected_count, IsValidUnit, num_le_den, total_pos, AtMost, Holds, One, Mean, sum_over_outcomes, partial_sums, count_weights, outcome_after, loss_of, Sev, probability_of, Aggregate, IsDeclarable, loss, aggregate_of, after_zero, le_of_eq, total, order}
+use Rattle.dl_model.proofs.Declared.{none_holds}
 use Rattle.std.proofs.Common.{None}
 use Rattle.std.proofs.Math.Nat.{le_refl as le_refl_n}
 use Rattle.dl_plan.specs.declared.plan.Unit.{Unit as UnitOfPlan}
 use Rattle.dl_plan.specs.Count.{IsClaimCount as IsCountOfPlan}
-use Rattle.dl_model.specs.Plans.{aggregate_of, after_zero}
-use Rattle.dl_model.proofs.CountMeans.{finite_mean, fixed_mean, binomial_mean, poisson_mean, gamma_mean}
+use Rattle.dl_model.proofs.CountMeans.{finite_mean, fixed_mean, binomial_mean, poisson_mean, gamma_mean, HasMean}
 use Rattle.dl_model.proofs.Means.{mean_of_unit}
 use Rattle.dl_model.proofs.TotalMeans.{mean_of_total}
 use Rattle.dl_model.proofs.Bounded.{are_units}
@@ -15,22 +15,17 @@ use Rattle.dl_model.proofs.UnitLaws.{unit_loss}
 use Rattle.dl_model.proofs.UnitLosses.{unit_mean_le}
 use Rattle.dl_model.proofs.Outcomes.{mean_alone, total_alone_all}
 
--- the declared mean of a number of claims is v
-abbrev HasMean : (ℕ → Fraction) → Fraction → Type 0
-HasMean w v = Holds (λ N. sum_to N (λ n. whole n *ℚ w n)) (λ N. sum_to N w) v v
-
 pub count_mean : (freq : Freq) → IsCountOfPlan freq → HasMean (count_weights freq) (expected_count freq)
 count_mean (Fixed m) h = fixed_mean m
 count_mean (Table counts total) h =
     let far = greatest counts in
-    subst (λ v. HasMean (count_weights (Table counts total)) v)
-    (shares_mean counts total far (total_pos counts total h.0) (le_refl_n far))
+    subst (HasMean (count_weights (Table counts total))) (shares_mean counts total far (total_pos counts total h.0) (le_refl_n far))
     (finite_mean _ far (shares_severity counts total h.0))
 count_mean (Bernoulli q) h =
-    subst (λ v. HasMean (count_weights (Bernoulli q)) v) (one_times _ ∙ over_self q)
+    subst (HasMean (count_weights (Bernoulli q))) (one_times _ ∙ over_self q)
     (binomial_mean 1 q.num q.den q.positive (num_le_den q h.within))
 count_mean (Binomial trials q) h =
-    subst (λ v. HasMean (count_weights (Binomial trials q)) v) (ap (λ x. whole trials *ℚ x) (over_self q))
+    subst (HasMean (count_weights (Binomial trials q))) (ap (λ x. whole trials *ℚ x) (over_self q))
     (binomial_mean trials q.num q.den q.positive (num_le_den q h.1.within))
 count_mean (Poisson mean) h = poisson_mean mean
 count_mean (Gamma zero mean) h = absurd (omega (arith, h))
@@ -83,24 +78,13 @@ mean_at_most cells u h N v bound =
     let a = mean_amount (pairs_of u.sev) in
     let claims = (count_mean u.freq h.count).1 N v
     (λ M. subst (λ t. t ≤ℚ v) (total_alone_all l is M) (bound M)) in
-    subst₂ (λ s t. s ≤ℚ t) (sym (mean_alone l is N))
-    (ap (λ m. m *ℚ (e *ℚ v)) (severity_mean u.sev) ∙ turn a e v)
-    (le_trans _ _ _ (unit_mean_le (aggregate_of u) unit N) (times_le_both _ _ _ _ (le_refl _) claims))
-  where
-    turn : (a e v : Fraction) → a *ℚ (e *ℚ v) ≡ e *ℚ a *ℚ v
-    turn a e v = simp ring
-
--- a total of no units is 0
-pub no_mean : (Q R : Series) → ((N : ℕ) → Q N ≡ whole 0) → Holds Q R (whole 0) (whole 0)
-no_mean Q R none = (
-  (λ N u b. subst (λ t. t ≤ℚ u) (sym (zero_times (R N))) (zero_le u)),
-  (λ N u b. subst₂ (λ s t. s ≤ℚ t) (sym (none N)) (sym (zero_times u)) (le_refl (whole 0))),
-)
+    rw (mean_alone l is N) (le_trans _ _ _ (unit_mean_le (aggregate_of u) unit N) (grw (order, claims)
+    (le_of_eq _ _ (ap (λ m. m *ℚ (e *ℚ v)) (severity_mean u.sev) ∙ simp ring))))
 
 pub units_mean : (cells : ℕ) (l h : UnitOfPlan → Fraction) (units : List UnitOfPlan) → All (IsValidUnit cells) units
     → All (λ u. MeanHolds (u ∷ []) (l u) (h u)) units → MeanHolds units (sum_over units l) (sum_over units h)
 unfolding sum_over sum_over_outcomes
-units_mean cells l h [] valid each = no_mean (partial_sums [] Mean) (partial_sums [] One) (λ N. refl)
+units_mean cells l h [] valid each = none_holds (partial_sums [] Mean) (partial_sums [] One) (λ N. refl)
 units_mean cells l h (u ∷ us) valid each =
     let are = units_declared cells (u ∷ us) valid in
     let P : UnitOfPlan → Type 0 = λ v. MeanHolds (v ∷ []) (l v) (h v) in

@@ -1,19 +1,14 @@
 -- Thinning and division of the units of a plan.
-use Rattle.dl_model.proofs.Common.{ℕ, zero, suc, ◌≡◌, ◌+◌, ◌*◌, ◌^◌, ◌<◌, ◌≤◌, List, [], ◌∷◌, length, map, nat_lt, arith, refl, sym, ap, subst, inl, inr, ◌∙◌, fun_ext, All, cases_lt, lt-ltb, le-ltb, All-head, All-tail, sum_by-cons, pow_pos, Fraction, whole, ◌over◌, ◌+ℚ◌, ◌-ℚ◌, ◌*ℚ◌, ◌/ℚ◌, ◌≤ℚ◌, sum_over, over_same, over_mul, over_le, plus_comm, times_comm, times_zero, sub_plus, div_times, whole_pos, Item, Sev, Freq, Fixed, Table, Bernoulli, Binomial, Poisson, Gamma, weight_at, weight_sum, probability_of, pairs_of, expected_count, over_zero, total_pos, IsPositivePart, nothing, times_itself, SameCells, compound_of}
+use Rattle.dl_model.proofs.Common.{ℕ, zero, suc, ◌≡◌, ◌+◌, ◌*◌, ◌^◌, ◌<◌, ◌≤◌, List, [], ◌∷◌, length, map, nat_lt, arith, refl, sym, ap, subst, inl, inr, ◌∙◌, fun_ext, All, cases_lt, lt-ltb, le-ltb, All-head, All-tail, pow_pos, Fraction, whole, ◌over◌, ◌+ℚ◌, ◌-ℚ◌, ◌*ℚ◌, ◌/ℚ◌, ◌≤ℚ◌, sum_over, over_same, over_mul, over_le, plus_comm, times_comm, times_zero, sub_plus, div_times, whole_pos, Item, Sev, Freq, Fixed, Table, Bernoulli, Binomial, Poisson, Gamma, weight_at, weight_sum, probability_of, pairs_of, expected_count, over_zero, total_pos, IsPositivePart, nothing, times_itself, SameCells, compound_of, All-filter, Pairs, probability, conditioned, mass, shares, Means, thinned_mean, items_over, filter-shares, probability-conditioned, positive_share, weight_at-le, total}
 use Rattle.std.proofs.Math.Nat.{eq-zero-or-pos, mul-pos}
 use Rattle.std.proofs.lemmas.Bool.{ne_eqb, eq-eqb}
-use Rattle.std.proofs.lemmas.List.Elements.{All-filter}
 use Rattle.dl_plan.specs.declared.plan.Unit.{Unit as UnitOfPlan}
-use Rattle.dl_plan.specs.Severity.{Pairs, probability, conditioned, mass, shares, Means}
 use Rattle.dl_plan.specs.Count.{IsUnbounded, IsClaimCount as IsCountOfPlan}
-use Rattle.dl_plan.specs.Means.{thinned_mean}
 use Rattle.dl_plan.proofs.Weights.{weight_sum_pos}
-use Rattle.dl_plan.proofs.Shares.{items_over, filter-shares, probability-conditioned}
-use Rattle.dl_plan.proofs.Means.{positive_share, weight_at-le}
 use Rattle.dl_model.proofs.PoissonTimes.{poisson_shares}
 use Rattle.dl_model.proofs.GammaThin.{gamma_shares}
 use Rattle.dl_model.proofs.Beginnings.{poisson_no_loss, gamma_no_loss}
-use Rattle.dl_model.proofs.WeightLaws.{part_of, weight_within}
+use Rattle.dl_model.proofs.WeightLaws.{part_of, weight_within, weight_sum-cons, weight_at-cons}
 
 -- ---- the weights of the amounts above 0
 
@@ -32,19 +27,12 @@ parts (x ∷ xs) =
           let kept : items_over 0 (x ∷ xs) ≡ x ∷ items_over 0 xs = rw (lt-ltb 0 x.amount h) refl in
           let not_here : part_of 0 x ≡ 0 = rw (ne_eqb x.amount 0 (λ e. omega (arith, h, e))) refl in
           record {
-            none = ap (λ ys. weight_at ys 0) kept ∙ sum_by-cons (part_of 0) x (items_over 0 xs)
-                ∙ omega (arith, not_here, rest.none);
-            each = λ j. ap (λ ys. weight_at ys (suc j)) kept ∙ sum_by-cons (part_of (suc j)) x (items_over 0 xs)
-                ∙ ap (λ t. part_of (suc j) x + t) (rest.each j) ∙ sym (sum_by-cons (part_of (suc j)) x xs);
-            all = omega (
-              arith,
-              ap weight_sum kept,
-              sum_by-cons (λ (i : Item). i.weight) x (items_over 0 xs),
-              sum_by-cons (λ (i : Item). i.weight) x xs,
-              sum_by-cons (part_of 0) x xs,
-              not_here,
-              rest.all,
-            );
+            none = ap (λ ys. weight_at ys 0) kept ∙ weight_at-cons x (items_over 0 xs) 0 ∙ omega (arith, not_here, rest.none);
+            each = λ j. ap (λ ys. weight_at ys (suc j)) kept ∙ weight_at-cons x (items_over 0 xs) (suc j)
+                ∙ ap (λ t. part_of (suc j) x + t) (rest.each j) ∙ sym (weight_at-cons x xs (suc j));
+            all =
+                let s = weight_sum-cons x (items_over 0 xs) in
+                omega (arith, ap weight_sum kept, s, weight_sum-cons x xs, weight_at-cons x xs 0, not_here, rest.all);
           }
       | inr h ↦
           let at_zero : x.amount ≡ 0 = omega (arith, h) in
@@ -53,19 +41,9 @@ parts (x ∷ xs) =
           record {
             none = ap (λ ys. weight_at ys 0) dropped ∙ rest.none;
             each = λ j.
-                let other : part_of (suc j) x ≡ 0 = rw (ne_eqb x.amount (suc j)
-                (λ e. omega (arith, at_zero, e))) refl in
-                ap (λ ys. weight_at ys (suc j)) dropped ∙ rest.each j
-                ∙ omega (arith, sum_by-cons (part_of (suc j)) x xs, other);
-            all = omega (
-              arith,
-              ap weight_sum dropped,
-              sum_by-cons (λ (i : Item). i.weight) x xs,
-              sum_by-cons
-                  (part_of 0) x xs,
-              here,
-              rest.all,
-            );
+                let other : part_of (suc j) x ≡ 0 = rw (ne_eqb x.amount (suc j) (λ e. omega (arith, at_zero, e))) refl in
+                ap (λ ys. weight_at ys (suc j)) dropped ∙ rest.each j ∙ omega (arith, weight_at-cons x xs (suc j), other);
+            all = omega (arith, ap weight_sum dropped, weight_sum-cons x xs, weight_at-cons x xs 0, here, rest.all);
           }
     ]
 

@@ -1,16 +1,11 @@
 -- The units of a valid plan can be declared.
-use Rattle.dl_model.proofs.Common.{ℕ, zero, suc, ◌*◌, ◌/◌, ◌≤◌, List, [], ◌∷◌, map, Option, arith, sym, subst, IfSome, All, All-head, All-tail, Fraction, whole, ◌≤ℚ◌, le_of_lt, over_self, over_le, le_over, Sev, Freq, Fixed, Table, Bernoulli, Binomial, Poisson, Gamma, Clause, kept, greatest, IsAggregate, IsValidUnit, num_le_den, AreCountWeights, AreDeclarable, IsDeclared, IsDeclaredLoss, AreDeclared, count_weights, outcome_after, aggregate_of, loss_of}
+use Rattle.dl_model.proofs.Common.{ℕ, zero, suc, ◌*◌, ◌/◌, ◌≤◌, List, [], ◌∷◌, map, Option, arith, IfSome, All, All-head, All-tail, Fraction, whole, ◌≤ℚ◌, le_of_lt, over_self, over_le, le_over, Sev, Freq, Fixed, Table, Bernoulli, Binomial, Poisson, Gamma, Clause, kept, greatest, IsAggregate, IsValidUnit, num_le_den, AreCountWeights, AreDeclarable, IsDeclared, IsDeclaredLoss, AreDeclared, count_weights, outcome_after, aggregate_of, loss_of, Plan, IsClause, IsNewZero, IsValid, kept_is, bucket_pos, aggregates_of, after_zero, declared, total}
 use Rattle.std.proofs.Common.{Some, None}
 use Rattle.std.proofs.Math.Nat.{div-le_of_le-mul, le_refl as le_refl_n}
 use Rattle.dl_plan.specs.declared.plan.Unit.{Unit as UnitOfPlan}
-use Rattle.dl_plan.specs.declared.plan.Plan.{Plan}
-use Rattle.dl_plan.specs.Clause.{IsClause}
 use Rattle.dl_plan.specs.Parts.{kept_parts, parts_in_bucket}
 use Rattle.dl_plan.specs.Count.{IsClaimCount as IsCountOfPlan}
-use Rattle.dl_plan.specs.Valid.{IsNewZero, IsValid}
-use Rattle.dl_plan.proofs.Clauses.{kept_is, bucket_pos}
 use Rattle.dl_plan.proofs.Apart.{kept_le}
-use Rattle.dl_model.specs.Plans.{aggregates_of, after_zero}
 use Rattle.dl_model.proofs.ChangedLoss.{changed_declared}
 use Rattle.dl_model.proofs.NewZero.{count_new_zero, some_weight}
 use Rattle.dl_model.proofs.CountBounds.{finite_count, fixed_count, binomial_count, poisson_count, gamma_of_count}
@@ -23,14 +18,13 @@ use Rattle.dl_model.proofs.ItemWeights.{shares_severity}
 floor_le : (x : Fraction) (n : ℕ) → x ≤ℚ whole n → x.num / x.den ≤ n
 floor_le x n h =
     let cross : x.num * 1 ≤ n * x.den = le_over x.num x.den n 1 x.positive (omega arith)
-    (subst (λ y. y ≤ℚ whole n) (sym (over_self x)) h) in
+    (rw (over_self x) h) in
     div-le_of_le-mul x.den (omega (arith, cross))
 
 pub kept_within : (clause : Clause) (s : ℕ) → IsClause clause → kept clause s ≤ℚ whole s
 kept_within clause s h =
     let c = parts_in_bucket clause in
-    subst (λ y. y ≤ℚ whole s) (sym (kept_is clause s))
-    (over_le (kept_parts clause c s) c s 1 (bucket_pos clause) (omega arith) (omega (arith, kept_le clause c s h)))
+    rw (kept_is clause s) (over_le (kept_parts clause c s) c s 1 (bucket_pos clause) (omega arith) (omega (arith, kept_le clause c s h)))
 
 pub clause_within : (cells : ℕ) (sev : Sev) (cede : Option Clause) → IfSome cede (IsAggregate cells sev) → (s : ℕ)
     → outcome_after cede s ≤ s
@@ -75,8 +69,7 @@ pub units_declared : (cells : ℕ) (units : List UnitOfPlan) → All (IsValidUni
 units_declared cells [] h = tt
 units_declared cells (u ∷ us) h = (
   loss_of_declared cells u (All-head (IsValidUnit cells) u us h),
-  units_declared cells us
-      (All-tail (IsValidUnit cells) u us h),
+  units_declared cells us (All-tail (IsValidUnit cells) u us h),
 )
 
 pub plan_declared : (plan : Plan) → IsValid plan → AreDeclared (aggregates_of plan)

@@ -1,19 +1,17 @@
 -- Thinning: claims of amount 0 can be left out of a Poisson count.
-use Rattle.dl_model.proofs.Common.{◌≡◌, ℕ, zero, sym, ap, ap₂, subst, ◌∙◌, zero-lt-suc, fun_ext, Fraction, ◌*ℚ◌, ◌<ℚ◌, whole, sum_to, Series, times, SameValue, convolve, power, cell, poisson, IsPositivePart, ring, times_assoc, times_left_comm, times_plus, times_one, whole_pos, sum_to_same, sum_pairs_same}
+use Rattle.dl_model.proofs.Common.{◌≡◌, ℕ, zero, sym, ap, ap₂, subst, ◌∙◌, fun_ext, Fraction, ◌*ℚ◌, sum_to, Series, times, SameValue, convolve, power, cell, poisson, IsPositivePart, ring, times_assoc, times_left_comm, times_plus, times_one, whole_pos, sum_to_same, sum_pairs_same, one_pos}
 use Rattle.dl_model.proofs.PoissonWeights.{next_of, poisson_zero, poisson_plus, poisson_bound}
 use Rattle.dl_model.proofs.Thin.{split}
-use Rattle.dl_model.proofs.Alike.{AreLevel, cauchy_level, same_value, value_trans, cancel_value}
-use Rattle.dl_model.proofs.FamilyLaws.{sum_rises_to}
+use Rattle.dl_model.proofs.ValueLaws.{AreLevel, cauchy_level, same_value, value_trans, cancel_value, sum_rises_to}
 
 module _ (v : Fraction) (f : ℕ → Fraction) (p : Fraction) (g : ℕ → Fraction) (h : IsPositivePart f p g) where
-  none : ℕ → Fraction
+  abbrev none : ℕ → Fraction
   none = poisson (v *ℚ f zero)
 
-  some : ℕ → Fraction
+  abbrev some : ℕ → Fraction
   some = poisson (v *ℚ p)
 
   split_poisson : (n y : ℕ) → poisson v n *ℚ power f n y ≡ convolve none (λ j. some j *ℚ power g j y) n
-  unfolding none some
   split_poisson n y =
       split f p g h (poisson v) (λ n. v) (λ i j. poisson (v *ℚ f zero) i *ℚ poisson (v *ℚ p) j)
       (poisson_zero v ∙ sym (ap₂ (λ s t. s *ℚ t) (poisson_zero _) (poisson_zero _) ∙ times_one _))
@@ -24,7 +22,6 @@ module _ (v : Fraction) (f : ℕ → Fraction) (p : Fraction) (g : ℕ → Fract
       ∙ sum_pairs_same n _ _ (λ i j e. times_assoc _ _ _)
 
   split_all : (n : ℕ) → poisson v n ≡ convolve none some n
-  unfolding none some
   split_all n =
       ap (λ t. poisson t n) (sym (times_one v) ∙ ap (λ t. v *ℚ t) (sym h.share) ∙ times_plus v (f zero) p)
       ∙ poisson_plus (v *ℚ f zero) (v *ℚ p) n
@@ -32,7 +29,7 @@ module _ (v : Fraction) (f : ℕ → Fraction) (p : Fraction) (g : ℕ → Fract
   -- thinning: claims of amount 0 can be left out of a Poisson count
   pub thin_poisson : (y : ℕ) → SameValue (cell (poisson v) f y) (λ N. sum_to N (poisson v))
       (cell (poisson (v *ℚ p)) g y) (λ N. sum_to N (poisson (v *ℚ p)))
-  unfolding none some sum_to
+  unfolding sum_to
   thin_poisson y =
       let E : Series = λ N. sum_to N none in
       let Q : Series = cell (poisson (v *ℚ p)) g y in
@@ -45,5 +42,4 @@ module _ (v : Fraction) (f : ℕ → Fraction) (p : Fraction) (g : ℕ → Fract
       (subst (λ X. AreLevel X (times E R)) (fun_ext (λ N. sum_to_same N _ _ (λ n b. sym (split_all n))))
       (cauchy_level none some)))
       (cancel_value E (sum_rises_to none) _ zero (poisson_bound (v *ℚ f zero))
-      (subst (λ t. whole 0 <ℚ t) (sym (poisson_zero (v *ℚ f zero))) (whole_pos 1 (zero-lt-suc zero))) Q R
-      (sum_rises_to q) (sum_rises_to some))
+      (rw (poisson_zero (v *ℚ f zero)) (whole_pos 1 one_pos)) Q R (sum_rises_to q) (sum_rises_to some))

@@ -1,8 +1,6 @@
 -- Poisson counts: their weights, sums and bounds.
-use Rattle.dl_model.proofs.Common.{◌≡◌, ℕ, suc, zero, ◌+◌, ◌*◌, ◌^◌, ◌<◌, ◌≤◌, arith, sym, ap, ap₂, subst₂, ◌∙◌, mul-pos, pow-suc, one-le-pow, zero-lt-suc, pow-zero, Fraction, ◌+ℚ◌, ◌*ℚ◌, ◌≤ℚ◌, whole, sum_to, sum_pairs, over_same, over_mul, over_self, over_le, one_pos, times_comm, times_assoc, times_left_comm, times_one, times_cancel, le_trans, times_le_times, times_le_cancel, plus_times, whole_pos, whole_le, halving_bound, sum_pairs_same, sum_pairs_times, sum_pairs_weighed, IsBound, convolve, poisson}
-use Rattle.std.proofs.Common.{mul-le-mul, le-mul_of_pos_right}
-use Rattle.dl_exact.specs.Power.{factorial}
-use Rattle.dl_exact.proofs.Powers.{factorial_pos}
+use Rattle.dl_model.proofs.Common.{◌≡◌, ℕ, suc, zero, ◌+◌, ◌*◌, ◌^◌, ◌<◌, ◌≤◌, arith, sym, ap, ap₂, ◌∙◌, mul-pos, pow-suc, one-le-pow, zero-lt-suc, pow-zero, Fraction, ◌+ℚ◌, ◌*ℚ◌, ◌≤ℚ◌, whole, sum_to, sum_pairs, over_same, over_mul, over_self, over_le, one_pos, times_comm, times_one, times_cancel, le_trans, times_le_times, times_le_cancel, plus_times, whole_pos, whole_le, halving_bound, IsBound, convolve, poisson, mul-le-mul, le-mul_of_pos_right, factorial, factorial_pos, refl}
+use Rattle.dl_model.proofs.Powers.{convolve_next}
 
 poisson_den : (v : Fraction) (n : ℕ) → 0 < v.den ^ n * factorial n
 poisson_den v n = mul-pos (one-le-pow n v.den v.positive) (factorial_pos n)
@@ -34,10 +32,12 @@ twice_below v n h =
 halves : (v : Fraction) (n : ℕ) → v +ℚ v ≤ℚ whole (suc n) → poisson v (suc n) +ℚ poisson v (suc n) ≤ℚ poisson v n
 halves v n twice =
     let S = whole (suc n) in
-    times_le_cancel _ _ S (whole_pos (suc n) (zero-lt-suc n))
-    (subst₂ (λ s t. s ≤ℚ t) (sym (plus_times _ _ S ∙ ap (λ t. t +ℚ t) (poisson_next v n)
-    ∙ sym (plus_times v v (poisson v n)))) (times_comm _ _)
-    (times_le_times _ _ (poisson v n) twice))
+    times_le_cancel _ _ S (whole_pos (suc n) (zero-lt-suc n)) (rw (
+      plus_times,
+      poisson_next v n,
+      ← plus_times,
+      times_comm (poisson v n),
+    ) (times_le_times _ _ (poisson v n) twice))
 
 pub poisson_halves : (v : Fraction) (n : ℕ) → v.num + v.num ≤ n → poisson v (suc n) +ℚ poisson v (suc n) ≤ℚ poisson v n
 poisson_halves v n h = halves v n (twice_below v n h)
@@ -63,13 +63,6 @@ poisson_plus u v zero =
     poisson_zero (u +ℚ v) ∙ sym (ap₂ (λ s t. s *ℚ t) (poisson_zero u) (poisson_zero v) ∙ times_one _)
 poisson_plus u v (suc n) =
     times_cancel _ _ (whole (suc n)) (whole_pos (suc n) (zero-lt-suc n))
-    (poisson_next (u +ℚ v) n
-    ∙ ap (λ t. (u +ℚ v) *ℚ t) (poisson_plus u v n)
-    ∙ plus_times u v _
-    ∙ sym (sum_pairs_weighed n (λ i j. poisson u i *ℚ poisson v j)
-    ∙ ap₂ (λ s t. s +ℚ t)
-    (sum_pairs_same n _ _ (λ i j e. sym (times_assoc _ _ _) ∙ ap (λ s. s *ℚ poisson v j) (next_of u i)
-    ∙ times_assoc _ _ _) ∙ sum_pairs_times n u _)
-    (sum_pairs_same n _ _ (λ i j e. times_left_comm _ _ _ ∙ ap (λ s. poisson u i *ℚ s) (next_of v j)
-    ∙ times_left_comm _ _ _) ∙ sum_pairs_times n v _))
+    (poisson_next (u +ℚ v) n ∙ ap (λ t. (u +ℚ v) *ℚ t) (poisson_plus u v n)
+    ∙ sym (convolve_next n (poisson u) (poisson v) (λ i. u) (λ j. v) (u +ℚ v) (next_of u) (next_of v) (λ i j e. refl))
     ∙ times_comm _ _)

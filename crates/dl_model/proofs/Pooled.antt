@@ -1,13 +1,7 @@
 -- A portfolio under a common factor declares of its total what one gamma unit with the pooled severity does.
-use Rattle.dl_model.proofs.Common.{◌≡◌, ℕ, ◌+◌, ◌-◌, ◌*◌, ◌<◌, ◌≤◌, arith, refl, sym, ap, ap₂, subst, ◌∙◌, mul-le-mul_right, List, [], ◌∷◌, fun_ext, sum, sum_by-cons, Fraction, ◌+ℚ◌, ◌*ℚ◌, ◌/ℚ◌, ◌<ℚ◌, whole, choose, sum_to, sum_over, ring, div_times, plus_comm, times_comm, times_assoc, times_cancel, times_zero, sum_to_same, sum_to_times, sum_to_times_right, sum_to_swap, sum_to_none, sum_to_plus, sum_to_either, one_times, times_one, IsSeverity, power, cell, gamma, gamma_of, One, Point, Cdf, Mean, Layer, Tail, score, where_true, layer, nat_eq, nat_le, nat_lt, Option, ◌-ℚ◌}
+use Rattle.dl_model.proofs.Common.{◌≡◌, ℕ, ◌+◌, ◌-◌, ◌*◌, ◌<◌, ◌≤◌, arith, refl, sym, ap, ap₂, ◌∙◌, mul-le-mul_right, List, [], ◌∷◌, fun_ext, sum, sum_by-cons, Fraction, ◌+ℚ◌, ◌*ℚ◌, ◌/ℚ◌, ◌<ℚ◌, whole, choose, sum_to, sum_over, ring, div_times, plus_comm, times_comm, times_assoc, times_cancel, times_zero, sum_to_same, sum_to_times, sum_to_times_right, sum_to_swap, sum_to_none, sum_to_plus, sum_to_either, times_one, IsSeverity, power, cell, gamma, gamma_of, One, Point, Cdf, Mean, Layer, Tail, score, where_true, layer, nat_eq, nat_le, nat_lt, Option, ◌-ℚ◌, factorial, whole_times, sum_over_same, sum_over_times, times_right_comm, divided_power, Quantity, PricedTerm, above_quantile, Price, Part, PoissonUnit, amounts, amounts_given_counts, ways_to_share, chances, expected_claims, common_sums, pooled_severity, AreSeverities, CountsTotal, sum_over_claims, total}
+use Rattle.dl_model.proofs.TailScores.{div_is_times}
 use Rattle.std.proofs.Math.Nat.{le_refl as le_refl_n}
-use Rattle.dl_exact.specs.Power.{factorial}
-use Rattle.dl_exact.proofs.Laws.{whole_times}
-use Rattle.dl_exact.proofs.Sums.{sum_over_same, sum_over_times}
-use Rattle.dl_exact.proofs.Orders.{times_right_comm}
-use Rattle.dl_model.specs.Divided.{divided_power}
-use Rattle.dl_model.specs.Program.{Quantity, PricedTerm, above_quantile, Price, Part}
-use Rattle.dl_model.specs.CommonFactor.{PoissonUnit, amounts, amounts_given_counts, ways_to_share, chances, expected_claims, common_sums, pooled_severity, AreSeverities, CountsTotal, sum_over_claims}
 use Rattle.dl_model.proofs.GammaThin.{pos_plus}
 use Rattle.dl_model.proofs.CompoundLaws.{cells_all}
 use Rattle.dl_model.proofs.Divided.{divided_whole}
@@ -50,12 +44,13 @@ orders r n = choose (r + n - 1) n * factorial n
 pub gamma_divided : (r : ℕ) (c : Fraction) (f : ℕ → Fraction) (n x : ℕ)
     → whole (orders r n) *ℚ divided_power (λ a. c *ℚ f a) n x ≡ gamma r c n *ℚ power f n x
 unfolding gamma
-gamma_divided r c f n x =
-    ap (λ t. t *ℚ divided_power (λ a. c *ℚ f a) n x) (whole_times (choose (r + n - 1) n) (factorial n))
-    ∙ times_assoc _ _ _
-    ∙ ap (λ t. whole (choose (r + n - 1) n) *ℚ t) (times_comm _ _ ∙ divided_whole (λ a. c *ℚ f a) n x
-    ∙ scaled_power c f n x)
-    ∙ sym (times_assoc _ _ _)
+gamma_divided r c f n x = rw (
+  whole_times,
+  times_assoc,
+  times_comm (whole (factorial n)),
+  divided_whole (λ a. c *ℚ f a) n x,
+  scaled_power c f n x,
+) (sym (times_assoc _ _ _))
 
 module _ (r : ℕ) (us : List PoissonUnit) where
   -- a claim's chance to be of a unit, and to be of any
@@ -76,16 +71,20 @@ module _ (r : ℕ) (us : List PoissonUnit) where
 
   module _ (some : whole 0 <ℚ expected_claims us) where
     pub claims_pos : whole 0 <ℚ whole r +ℚ expected_claims us
-    claims_pos = subst (λ t. whole 0 <ℚ t) (plus_comm _ _) (pos_plus (expected_claims us) (whole r) some)
+    claims_pos = rw plus_comm (pos_plus (expected_claims us) (whole r) some)
 
     -- a chance is the chance of any times the unit's share
     pub chance_share : (u : PoissonUnit) → chance u ≡ any_chance *ℚ (u.mean /ℚ expected_claims us)
     chance_share u =
         let v = expected_claims us in
         let c = whole r +ℚ v in
-        times_cancel _ _ c claims_pos (div_times u.mean c claims_pos
-        ∙ sym (times_right_comm any_chance (u.mean /ℚ v) c ∙ ap (λ t. t *ℚ (u.mean /ℚ v)) (div_times v c claims_pos)
-        ∙ times_comm _ _ ∙ div_times u.mean v some))
+        times_cancel _ _ c claims_pos (rw (
+          div_times u.mean c claims_pos,
+          times_right_comm any_chance,
+          div_times v c claims_pos,
+          times_comm v,
+          div_times u.mean v some,
+        ) refl)
 
     pub mixed_pooled : (a : ℕ) → mixed chance us a ≡ any_chance *ℚ pooled_severity us a
     mixed_pooled a =
@@ -114,14 +113,10 @@ module _ (r : ℕ) (us : List PoissonUnit) where
         n far few value)
         ∙ sym (sum_to_times far (whole (orders r n)) _)
         ∙ sum_to_same far _ (λ x. gamma r any_chance n *ℚ power (pooled_severity us) n x *ℚ value x) (λ x d.
-        turn (whole (orders r n)) (value x) (divided_power (mixed chance us) n x)
-        ∙ ap (λ t. t *ℚ value x) (pooled_weight n x)))
+        (simp ring) ∙ ap (λ t. t *ℚ value x) (pooled_weight n x)))
         ∙ sum_to_swap N far (λ n x. gamma r any_chance n *ℚ power (pooled_severity us) n x *ℚ value x)
         ∙ sum_to_same far _ _ (λ x d. sum_to_times_right N (value x)
         (λ n. gamma r any_chance n *ℚ power (pooled_severity us) n x))
-      where
-        turn : (a b c : Fraction) → a *ℚ (b *ℚ c) ≡ a *ℚ c *ℚ b
-        turn a b c = simp ring
 
 -- ---- the pooled severity adds up to 1
 
@@ -133,20 +128,16 @@ scaled_all y (u ∷ us) h M past =
     sum_to_plus M (λ a. y u *ℚ u.severity a) (mixed y us)
     ∙ ap₂ (λ s t. s +ℚ t)
     (sum_to_either M u.most (λ a. y u *ℚ u.severity a) (λ a c. first_none y u us a (past a c))
-    (λ a c. ap (λ t. y u *ℚ t) (h.0.past a c) ∙ times_zero _)
-    ∙ sum_to_times u.most (y u) u.severity ∙ ap (λ t. y u *ℚ t) h.0.add_up ∙ times_one _)
+    (λ a c. simp (h.0.past a c, times_zero)) ∙ rw (sum_to_times u.most (y u) u.severity, h.0.add_up) (times_one _))
     (scaled_all y us h.1 M (λ a c. others_none y u us a (past a c)))
 
 pub pooled_is_severity : (us : List PoissonUnit) → AreSeverities us → whole 0 <ℚ expected_claims us → (M : ℕ)
     → ((a : ℕ) → M < a → pooled_severity us a ≡ whole 0) → IsSeverity (pooled_severity us) M
 pooled_is_severity us h some M past =
     let v = expected_claims us in
-    let one_over : (x : Fraction) → x /ℚ v ≡ whole 1 /ℚ v *ℚ x = λ x. times_cancel _ _ v some
-    (div_times x v some ∙ sym (times_right_comm (whole 1 /ℚ v) x v ∙ ap (λ t. t *ℚ x) (div_times (whole 1) v some)
-    ∙ one_times x)) in
     record {
       add_up = scaled_all (λ u. u.mean /ℚ v) us h M past
-          ∙ sum_over_same _ (λ u. whole 1 /ℚ v *ℚ u.mean) us (λ u. one_over u.mean)
+          ∙ sum_over_same _ (λ u. whole 1 /ℚ v *ℚ u.mean) us (λ u. div_is_times u.mean v some)
           ∙ sum_over_times (whole 1 /ℚ v) (λ (u : PoissonUnit). u.mean) us ∙ div_times (whole 1) v some;
       past = past;
     }

@@ -1,8 +1,5 @@
 -- A portfolio under a common factor as one loss: what it declares is bounded, above 0 somewhere, and adds up to 1.
-use Rattle.dl_model.proofs.Common.{◌≡◌, ℕ, suc, ◌*◌, ◌<◌, ◌≤◌, arith, refl, sym, ap, subst, subst₂, ◌∙◌, List, [], ◌∷◌, fun_ext, Fraction, whole, ◌+ℚ◌, ◌*ℚ◌, ◌≤ℚ◌, ◌<ℚ◌, le_refl, le_trans, plus_le_both, times_le_both, sum_to, sum_to_same, IsBound, AtLeast, Holds, Rises, Loss, One, Cdf, Mean, score, sum_over_outcomes, partial_sums, loss, IsDeclared, IsDeclaredLoss, IsQuantile}
-use Rattle.dl_model.specs.Program.{Quantity}
-use Rattle.dl_model.specs.Measures.{IsAsked, AreDeclared}
-use Rattle.dl_model.specs.CommonFactor.{PoissonUnit, expected_claims, common_sums, pooled_severity, pooled_unit, AreSeverities, CountsTotal}
+use Rattle.dl_model.proofs.Common.{◌≡◌, ℕ, suc, ◌*◌, ◌<◌, ◌≤◌, arith, refl, sym, ap, subst, subst₂, ◌∙◌, List, [], ◌∷◌, fun_ext, Fraction, whole, ◌+ℚ◌, ◌*ℚ◌, ◌≤ℚ◌, ◌<ℚ◌, le_trans, sum_to, sum_to_same, IsBound, AtLeast, Holds, Rises, Loss, One, Cdf, Mean, score, sum_over_outcomes, partial_sums, loss, IsDeclared, IsDeclaredLoss, IsQuantile, Quantity, IsAsked, AreDeclared, PoissonUnit, expected_claims, common_sums, pooled_severity, pooled_unit, AreSeverities, CountsTotal, total, order}
 use Rattle.dl_model.proofs.CountBounds.{gamma_of_count}
 use Rattle.dl_model.proofs.CountMeans.{gamma_mean}
 use Rattle.dl_model.proofs.Means.{mean_of_unit}
@@ -55,8 +52,7 @@ module _ (q : ℕ) (us : List PoissonUnit) (some : whole 0 <ℚ expected_claims 
       let ones = total_bounded One (λ ys. refl) tt in
       let means = total_bounded Mean total_mean tt in (
         k.0 *ℚ (ones.0 +ℚ means.0),
-        λ N. le_trans _ _ _ (k.1 N) (times_le_both _ _ _ _ (le_refl k.0)
-            (plus_le_both _ _ _ _ (ones.1 N) (means.1 N))),
+        λ N. le_trans _ _ _ (k.1 N) (grw (order, ones.1 N, means.1 N)),
       )
 
   pub common_positive : (N : ℕ) × (whole 0 <ℚ common_sums (suc q) us One N)
@@ -67,18 +63,16 @@ module _ (q : ℕ) (us : List PoissonUnit) (some : whole 0 <ℚ expected_claims 
   pub common_whole : (p s : Fraction) → p +ℚ s ≡ whole 1 → whole 0 <ℚ s
       → (x : ℕ) × AtLeast (common_sums (suc q) us (Cdf x)) (common_sums (suc q) us One) p
   common_whole p s one pos =
-      let a = adds_up one_loss p s all_declared one pos in (
-        a.0,
-        subst₂ (λ Q R. AtLeast Q R p) (same (Cdf a.0) (total_cdf a.0)) (same One (λ ys. refl)) a.1,
-      )
+      let a = adds_up one_loss p s all_declared one pos in
+      (a.0, subst₂ (λ Q R. AtLeast Q R p) (same (Cdf a.0) (total_cdf a.0)) (same One (λ ys. refl)) a.1)
 
   pub common_grows : (x y N : ℕ) → x ≤ y → common_sums (suc q) us (Cdf x) N ≤ℚ common_sums (suc q) us (Cdf y) N
-  common_grows x y N le = subst₂ (λ s t. s ≤ℚ t) (sym (as_one_loss (Cdf x) (total_cdf x) N))
-      (sym (as_one_loss (Cdf y) (total_cdf y) N)) (cdf_grows one_loss x y N le)
+  common_grows x y N le =
+      rw (as_one_loss (Cdf x) (total_cdf x) N, as_one_loss (Cdf y) (total_cdf y) N) (cdf_grows one_loss x y N le)
 
   pub common_rises : Rises (common_sums (suc q) us One)
-  common_rises N = subst (λ Q. Q N ≤ℚ Q (suc N)) (same One (λ ys. refl))
-      (outcomes_rise one_loss (are_units one_loss all_declared) (score One) N)
+  common_rises =
+      subst Rises (same One (λ ys. refl)) (outcomes_rise one_loss (are_units one_loss all_declared) (score One))
 
   pub common_quantile : (p : Fraction) (x x' : ℕ) → IsQuantile (common_sums (suc q) us) x p
       → IsQuantile (common_sums (suc q) us) x' p → x ≡ x'

@@ -1,6 +1,5 @@
 -- The quantities of the total as sums of points and of survivals.
-use Rattle.dl_model.proofs.Common.{◌≡◌, inl, inr, ℕ, suc, zero, ◌+◌, ◌-◌, min, Bool, nat_eq, nat_le, nat_lt, arith, sym, ap, ap₂, ◌∙◌, List, sum, Some, None, cases_lt, lt-ltb, le-ltb, Fraction, ◌+ℚ◌, whole, sum_to, sum_to_zero, sum_below, zero_plus, plus_zero, plus_comm, whole_plus, Loss, One, Point, Cdf, Layer, Mean, where_true, score, partial_sums, above, survival}
-use Rattle.std.proofs.lemmas.Bool.{lt-leb, le-leb}
+use Rattle.dl_model.proofs.Common.{◌≡◌, inl, inr, ℕ, suc, zero, ◌+◌, ◌-◌, min, Bool, nat_eq, nat_le, nat_lt, arith, sym, ap, ◌∙◌, List, sum, Some, None, cases_lt, lt-ltb, le-ltb, Fraction, ◌+ℚ◌, whole, sum_to, sum_to_zero, sum_below, zero_plus, plus_zero, plus_comm, whole_plus, Loss, One, Point, Cdf, Layer, Mean, where_true, score, partial_sums, above, survival, lt-leb, le-leb, refl}
 use Rattle.dl_model.proofs.Picks.{off, passed}
 use Rattle.dl_model.proofs.Outcomes.{outcomes_same, outcomes_plus, outcomes_sum, outcomes_below}
 
@@ -19,8 +18,8 @@ cdf_points us x N = outcomes_same us _ _ N (λ ys. points_to x (sum ys)) ∙ out
 
 pub above_cdf : (x t : ℕ) → where_true (nat_lt x t) (whole 1) +ℚ where_true (nat_le t x) (whole 1) ≡ whole 1
 above_cdf x t = elim (cases_lt x t) [
-  | inl l ↦ ap₂ (λ a b. a +ℚ b) (ap chosen (lt-ltb x t l)) (ap chosen (lt-leb t x l)) ∙ plus_zero _
-  | inr l ↦ ap₂ (λ a b. a +ℚ b) (ap chosen (le-ltb x t l)) (ap chosen (le-leb t x l)) ∙ zero_plus _
+  | inl l ↦ rw (lt-ltb x t l, lt-leb t x l) (plus_zero _)
+  | inr l ↦ rw (le-ltb x t l, le-leb t x l) (zero_plus _)
 ]
 
 pub survival_rest : (us : List Loss) (x N : ℕ)
@@ -36,10 +35,10 @@ layer_tails zero A t = ap whole (omega arith)
 layer_tails (suc L) A t = elim (cases_lt (A + L) t) [
   | inl l ↦
       let e : min (t - A) (suc L) ≡ min (t - A) L + 1 = omega arith in
-      ap whole e ∙ whole_plus _ _ ∙ ap₂ (λ a b. a +ℚ b) (layer_tails L A t) (sym (ap chosen (lt-ltb (A + L) t l)))
+      rw (e, whole_plus, layer_tails L A t, lt-ltb (A + L) t l) refl
   | inr l ↦
       let e : min (t - A) (suc L) ≡ min (t - A) L = omega arith in
-      ap whole e ∙ sym (plus_zero _) ∙ ap₂ (λ a b. a +ℚ b) (layer_tails L A t) (sym (ap chosen (le-ltb (A + L) t l)))
+      rw (e, layer_tails L A t, le-ltb (A + L) t l) (sym (plus_zero _))
 ]
 
 pub layer_survivals : (us : List Loss) (L A N : ℕ)

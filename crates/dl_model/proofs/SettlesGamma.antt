@@ -1,25 +1,19 @@
 -- Sums of gamma weights settle.
-use Rattle.dl_model.proofs.Common.{◌≡◌, ℕ, suc, zero, max, arith, refl, sym, ap, ap₂, subst, subst₂, ◌∙◌, zero-lt-suc, fun_ext, le-max_left, le-max_right, Fraction, ◌+ℚ◌, ◌*ℚ◌, ◌/ℚ◌, ◌≤ℚ◌, ◌<ℚ◌, whole, sum_to, Series, Rises, times, Settles, gamma, ring, times_comm, plus_times, plus_assoc, times_plus, one_times, times_one, whole_suc, whole_plus, whole_pos, le_refl, le_trans, le_of_eq, le_of_lt, le_plus, plus_le_both, plus_le_cancel, times_le_cancel, times_le_times, times_pos, archimedes, div_times, div_pos, times_le_both, sum_to_same}
-use Rattle.dl_model.proofs.Declared.{rises_to}
-use Rattle.dl_model.proofs.FamilyLaws.{sum_rises_to}
-use Rattle.dl_model.proofs.Alike.{AreLevel, cauchy_level}
+use Rattle.dl_model.proofs.Common.{◌≡◌, ℕ, suc, zero, max, arith, refl, sym, ap, subst, subst₂, ◌∙◌, zero-lt-suc, fun_ext, le-max_left, le-max_right, Fraction, ◌+ℚ◌, ◌*ℚ◌, ◌/ℚ◌, ◌≤ℚ◌, ◌<ℚ◌, whole, sum_to, Series, Rises, times, Settles, gamma, ring, times_comm, plus_times, plus_assoc, times_plus, one_times, times_one, whole_suc, whole_plus, whole_pos, le_refl, le_trans, le_of_eq, le_of_lt, le_plus, plus_le_both, plus_le_cancel, times_le_cancel, times_le_times, times_pos, archimedes, div_times, div_pos, times_le_both, sum_to_same, times_reverse, times_swap, whole_le, order}
+use Rattle.dl_model.proofs.ValueLaws.{rises_to, sum_rises_to, AreLevel, cauchy_level}
 use Rattle.dl_model.proofs.Gamma.{geometric_next, geometric_identity, geometric_low, gamma_one_more}
-use Rattle.dl_exact.proofs.Orders.{times_reverse, times_swap}
 
 -- half of a fraction
 half_of : (q : Fraction) → q /ℚ whole 2 +ℚ q /ℚ whole 2 ≡ q
 half_of q =
     let x = q /ℚ whole 2 in
-    ap₂ (λ s t. s +ℚ t) (sym (times_one x)) (sym (times_one x)) ∙ sym (times_plus x (whole 1) (whole 1))
-    ∙ ap (λ t. x *ℚ t) (sym (whole_plus 1 1))
-    ∙ div_times q (whole 2) (whole_pos 2 (omega arith))
+    (simp ring) ∙ ap (λ t. x *ℚ t) (sym (whole_plus 1 1)) ∙ div_times q (whole 2) (whole_pos 2 (omega arith))
 
 settles_from : (Q R : Series) → AreLevel Q R → Settles Q → Settles R
 settles_from Q R a s p q one qp =
     let k = s p q one qp in (
       (a.0 k.0).0,
-      λ n. le_trans _ _ _ (times_le_both p p _ _ (le_refl p) (a.1 n).1)
-          (le_trans _ _ _ (k.1 (a.1 n).0) (a.0 k.0).1),
+      λ n. grw (order, (a.1 n).1) (le_trans _ _ _ (k.1 (a.1 n).0) (a.0 k.0).1),
     )
 
 pub settles_times : (Q R : Series) → Rises Q → Rises R → Settles Q → Settles R → Settles (times Q R)
@@ -28,23 +22,17 @@ settles_times Q R q r s t p e one ep =
     let hp : whole 0 <ℚ h = div_pos e (whole 2) ep (whole_pos 2 (omega arith)) in
     let c = p +ℚ h in
     let c_one : c +ℚ h ≡ whole 1 = plus_assoc p h h ∙ ap (λ x. p +ℚ x) (half_of e) ∙ one in
-    let c_le : c ≤ℚ whole 1 = subst (λ x. c ≤ℚ x) c_one (le_plus c h) in
+    let c_le : c ≤ℚ whole 1 = rw (← c_one) (le_plus c h) in
     let square : p ≤ℚ c *ℚ c = square_above p h c refl c_one c_le in
     let i = (s c h c_one hp).0 in
     let j = (t c h c_one hp).0 in
     let m = max i j in (
       m,
-      λ n.
-          le_trans _ _ _ (times_le_times _ _ (Q n *ℚ R n) square)
-          (subst (λ x. x ≤ℚ Q m *ℚ R m) (turn c (Q n) (R n))
-          (times_le_both _ _ _ _
+      λ n. grw (order, square) (subst (λ x. x ≤ℚ Q m *ℚ R m) (simp ring) (times_le_both _ _ _ _
           (le_trans _ _ _ ((s c h c_one hp).1 n) (rises_to Q q i m (le-max_left i j)))
           (le_trans _ _ _ ((t c h c_one hp).1 n) (rises_to R r j m (le-max_right i j))))),
     )
   where
-    turn : (a b c : Fraction) → a *ℚ b *ℚ (a *ℚ c) ≡ a *ℚ a *ℚ (b *ℚ c)
-    turn a b c = simp ring
-
     square_above : (p h c : Fraction) → p +ℚ h ≡ c → c +ℚ h ≡ whole 1 → c ≤ℚ whole 1 → p ≤ℚ c *ℚ c
     square_above p h c e one l =
         plus_le_cancel p (c *ℚ c) h
@@ -52,27 +40,22 @@ settles_times Q R q r s t p e one ep =
         (plus_le_both _ _ _ _ (le_refl (c *ℚ c)) (subst (λ t. c *ℚ h ≤ℚ t) (one_times h) (times_le_times _ _ h l))))
 
 module _ (x d : Fraction) (one : x +ℚ d ≡ whole 1) (dp : whole 0 <ℚ d) where
-  pub S : Series
+  abbrev pub S : Series
   S N = sum_to N (gamma 1 x)
 
   x_le : x ≤ℚ whole 1
-  x_le = subst (λ t. x ≤ℚ t) one (le_plus x d)
+  x_le = rw (← one) (le_plus x d)
 
   -- the sum holds n + 1 items that are at least the last
   many : (N : ℕ) → whole (suc N) *ℚ gamma 1 x N ≤ℚ S N
-  unfolding S sum_to
+  unfolding sum_to
   many zero = le_of_eq _ _ (one_times _)
   many (suc N) =
       let g = gamma 1 x (suc N) in
-      let falls : g ≤ℚ gamma 1 x N = subst₂ (λ s t. s ≤ℚ t) (sym (geometric_next x N)) (one_times _)
-      (times_le_times _ _ (gamma 1 x N) x_le) in
-      subst (λ t. t ≤ℚ sum_to N (gamma 1 x) +ℚ g)
-      (sym (ap (λ t. t *ℚ g) (whole_suc (suc N)) ∙ plus_times _ _ g ∙ ap (λ t. whole (suc N) *ℚ g +ℚ t) (one_times g)))
-      (plus_le_both _ _ _ _ (le_trans _ _ _ (times_le_both _ _ _ _ (le_refl (whole (suc N))) falls) (many N))
-      (le_refl g))
+      let falls : g ≤ℚ gamma 1 x N = rw (geometric_next x N) (rw one_times at (times_le_times _ _ (gamma 1 x N) x_le)) in
+      rw (whole_suc (suc N), plus_times, one_times g) (plus_le_both _ _ _ _ (grw (order, falls) (many N)) (le_refl g))
 
   pub geometric_settles : Settles S
-  unfolding S
   geometric_settles p q e qp =
       let a = archimedes (whole 1) (d *ℚ q) (times_pos d q dp qp) in
       let K = a.0 in
@@ -80,13 +63,10 @@ module _ (x d : Fraction) (one : x +ℚ d ≡ whole 1) (dp : whole 0 <ℚ d) whe
       let k = whole (suc K) in
       let small : gamma 1 x K ≤ℚ q =
       times_le_cancel _ _ (k *ℚ d) (times_pos k d (whole_pos (suc K) (zero-lt-suc K)) dp)
-      (le_trans _ _ _ (subst₂ (λ s t. s ≤ℚ t) (times_reverse d k (gamma 1 x K)) refl
-      (times_le_both d d _ _ (le_refl d) (many K)))
+      (subst₂ (λ s t. s ≤ℚ t) (times_reverse d k (gamma 1 x K)) (simp ring) (grw (order, many K)
       (le_trans _ _ _ (geometric_low x d one K) (le_trans _ _ _ (le_of_lt _ _ a.1)
-      (subst₂ (λ s t. s ≤ℚ t) refl (turn' k d q)
-      (times_le_times _ _ (d *ℚ q) (subst (λ t. whole K ≤ℚ t) (sym (whole_suc K)) (le_plus (whole K) (whole 1)))))))) in
-      let next : g ≤ℚ q = le_trans _ _ _ (subst₂ (λ s t. s ≤ℚ t) (sym (geometric_next x K)) (one_times _)
-      (times_le_times _ _ (gamma 1 x K) x_le)) small in
+      (times_le_times _ _ (d *ℚ q) (whole_le K (suc K) (omega arith))))))) in
+      let next : g ≤ℚ q = rw (geometric_next x K) (grw (order, x_le) (rw one_times small)) in
       let p_le : p ≤ℚ d *ℚ S K = plus_le_cancel _ _ q
       (subst (λ t. t ≤ℚ d *ℚ S K +ℚ q) (geometric_identity x d one K ∙ sym e)
       (plus_le_both _ _ _ _ (le_refl (d *ℚ S K)) next)) in (
@@ -95,12 +75,8 @@ module _ (x d : Fraction) (one : x +ℚ d ≡ whole 1) (dp : whole 0 <ℚ d) whe
             (subst₂ (λ s t. s ≤ℚ t) (times_swap p d (S n)) (times_one _ ∙ times_comm d (S K))
             (times_le_both _ _ _ _ p_le (geometric_low x d one n))),
       )
-    where
-      turn' : (a b c : Fraction) → a *ℚ (b *ℚ c) ≡ c *ℚ (a *ℚ b)
-      turn' a b c = simp ring
 
   pub gamma_settles : (s : ℕ) → Settles (λ N. sum_to N (gamma (suc s) x))
-  unfolding S
   gamma_settles zero = geometric_settles
   gamma_settles (suc s) =
       subst Settles (fun_ext (λ N. sum_to_same N _ _ (λ n b. sym (gamma_one_more s x n))))

@@ -1,5 +1,6 @@
 -- Shares of the tail mean, and joint means of all units together.
-use Rattle.dl_model.proofs.Common.{◌≡◌, inl, inr, ℕ, zero, suc, ◌+◌, ◌-◌, ◌≤◌, Bool, true, false, nat_eq, nat_lt, arith, refl, sym, ap, ap₂, subst, ◌∙◌, List, [], ◌∷◌, length, sum, get_or, fun_ext, cases_lt, cases_eq, lt-ltb, le-ltb, eq-eqb, ne_eqb, Fraction, whole, ◌+ℚ◌, ◌-ℚ◌, ◌*ℚ◌, ◌/ℚ◌, ◌≤ℚ◌, ◌<ℚ◌, sum_to, sum_below, ring, times_one, one_times, times_zero, zero_times, times_comm, plus_comm, plus_assoc, plus_zero, zero_plus, whole_plus, plus_times, times_plus, le_of_lt, div_times, sub_plus, Loss, One, Point, Tail, Joint, Part, Share, score, sum_over_outcomes, partial_sums, where_true}
+use Rattle.dl_model.proofs.Common.{◌≡◌, inl, inr, ℕ, zero, suc, ◌+◌, ◌-◌, Bool, true, false, nat_eq, nat_lt, arith, refl, sym, ap, ap₂, ◌∙◌, List, [], ◌∷◌, length, sum, get_or, fun_ext, cases_lt, cases_eq, lt-ltb, le-ltb, eq-eqb, ne_eqb, Fraction, whole, ◌+ℚ◌, ◌-ℚ◌, ◌*ℚ◌, ◌/ℚ◌, ◌≤ℚ◌, ◌<ℚ◌, sum_to, sum_below, ring, times_one, one_times, times_zero, zero_times, times_comm, whole_plus, plus_times, times_plus, le_of_lt, div_times, sub_plus, Loss, One, Point, Tail, Joint, Part, Share, score, sum_over_outcomes, partial_sums, where_true}
+use Rattle.dl_model.proofs.Ends.{below_first}
 use Rattle.dl_model.proofs.Outcomes.{outcomes_same, outcomes_plus, outcomes_times, outcomes_below, sum-cons}
 use Rattle.dl_model.proofs.Picks.{where_factor}
 use Rattle.dl_model.proofs.TailScores.{rest_pos}
@@ -14,11 +15,6 @@ unfolding sum_over_outcomes
 outcomes_of_length [] f g N h = h [] refl
 outcomes_of_length (u ∷ us) f g N h = ap (sum_to (u.reach N)) (fun_ext (λ y. ap (λ t. u.family.cells y N *ℚ t)
     (outcomes_of_length us (λ ys. f (y ∷ ys)) (λ ys. g (y ∷ ys)) N (λ ys e. h (y ∷ ys) (ap suc e)))))
-
-below_first : (n : ℕ) (f : ℕ → Fraction) → sum_below (suc n) f ≡ f zero +ℚ sum_below n (λ i. f (suc i))
-unfolding sum_below
-below_first zero f = plus_comm _ _
-below_first (suc n) f = ap (λ t. t +ℚ f (suc n)) (below_first n f) ∙ plus_assoc _ _ _
 
 below_same : (n : ℕ) (f g : ℕ → Fraction) → ((i : ℕ) → f i ≡ g i) → sum_below n f ≡ sum_below n g
 below_same n f g h = ap (sum_below n) (fun_ext h)
@@ -38,7 +34,7 @@ outcomes_total (y ∷ ys) =
 
 each_outcome : (us : List Loss) (ys : List ℕ) → length ys ≡ length us
     → sum_below (length us) (λ i. whole (get_or ys i 0)) ≡ whole (sum ys)
-each_outcome us ys e = subst (λ n. sum_below n (λ i. whole (get_or ys i 0)) ≡ whole (sum ys)) e (outcomes_total ys)
+each_outcome us ys e = rw (← e) (outcomes_total ys)
 
 pub joint_means_total : (us : List Loss) (x N : ℕ) → sum_below (length us) (λ i. partial_sums us (Joint i x) N)
     ≡ whole x *ℚ partial_sums us (Point x) N
@@ -52,11 +48,8 @@ joint_means_total us x N =
   where
     at : (ys : List ℕ) → score (Point x) ys *ℚ whole (sum ys) ≡ whole x *ℚ score (Point x) ys
     at ys = elim (cases_eq (sum ys) x) [
-      | inl e ↦ ap (λ t. score (Point x) ys *ℚ whole t) e ∙ times_comm _ _
-      | inr e ↦
-          let none : score (Point x) ys ≡ whole 0 = ap (λ b. where_true b (whole 1)) (ne_eqb (sum ys) x e) in
-          ap (λ t. t *ℚ whole (sum ys)) none ∙ zero_times _
-          ∙ sym (ap (λ t. whole x *ℚ t) none ∙ times_zero _)
+      | inl e ↦ rw e (times_comm _ _)
+      | inr e ↦ rw (ne_eqb (sum ys) x e) (simp (zero_times, times_zero))
     ]
 
 -- ---- the shares of all units
@@ -89,69 +82,30 @@ module _ (p u : Fraction) (q : ℕ) (below : p <ℚ whole 1) (le : u ≤ℚ whol
       where_times false k y = sym (zero_times y)
 
   -- the total and q, whichever is greater
-  greater : List ℕ → Fraction
+  abbrev greater : List ℕ → Fraction
   greater ys = whole q +ℚ whole (sum ys - q)
 
   tail_greater : (ys : List ℕ) → r *ℚ score (Tail p q) ys +ℚ p *ℚ whole q *ℚ score One ys ≡ greater ys
-  unfolding greater
   tail_greater ys =
       let d = whole (sum ys - q) in
-      ap (λ t. t +ℚ p *ℚ whole q *ℚ whole 1) (times_plus r (whole q) (d /ℚ r) ∙ ap (λ t. r *ℚ whole q +ℚ t)
-      (times_comm r (d /ℚ r) ∙ div_times d r r_pos))
-      ∙ turn r (whole q) d p
-      ∙ ap (λ t. t *ℚ whole q +ℚ d) (sub_plus (whole 1) p (le_of_lt _ _ below)) ∙ ap (λ t. t +ℚ d) (one_times (whole q))
-    where
-      turn : (r q d p : Fraction) → r *ℚ q +ℚ d +ℚ p *ℚ q *ℚ whole 1 ≡ (r +ℚ p) *ℚ q +ℚ d
-      turn r q d p = simp ring
+      rw (times_plus, times_comm r (d /ℚ r), div_times d r r_pos) ((simp ring)
+      ∙ ap (λ t. t *ℚ whole q +ℚ d) (sub_plus (whole 1) p (le_of_lt _ _ below)) ∙ ap (λ t. t +ℚ d) (one_times (whole q)))
 
   parts_greater : (ys : List ℕ) → factor ys *ℚ whole (sum ys) +ℚ whole q *ℚ score (Part q u) ys ≡ greater ys
-  unfolding greater
   parts_greater ys = elim (cases_lt q (sum ys)) [
-    | inl over ↦
-        let a = lt-ltb q (sum ys) over in
-        let b = ne_eqb (sum ys) q (omega arith) in
-        let d = le-ltb (sum ys) q (omega arith) in
-        let e : sum ys ≡ q + (sum ys - q) = omega arith in
-        values true false false a b d ∙ ap₂ (λ s t. s *ℚ whole (sum ys) +ℚ t) (plus_zero (whole 1))
-        (ap (λ t. whole q *ℚ t) (plus_zero (whole 0)) ∙ times_zero (whole q))
-        ∙ plus_zero _ ∙ one_times _ ∙ ap whole e ∙ whole_plus q (sum ys - q)
-    | inr under ↦ elim (cases_eq (sum ys) q) [
-      | inl same ↦
-          let a = le-ltb q (sum ys) (omega arith) in
-          let b = eq-eqb (sum ys) q same in
-          let d = le-ltb (sum ys) q (omega arith) in
-          values false true false a b d
-          ∙ ap₂ (λ s t. s *ℚ whole (sum ys) +ℚ whole q *ℚ t) (zero_plus (whole 1 -ℚ u)) (zero_plus u)
-          ∙ ap (λ t. (whole 1 -ℚ u) *ℚ whole t +ℚ whole q *ℚ u) same
-          ∙ ap (λ t. (whole 1 -ℚ u) *ℚ whole q +ℚ t) (times_comm (whole q) u)
-          ∙ sym (plus_times (whole 1 -ℚ u) u (whole q)) ∙ ap (λ t. t *ℚ whole q) (sub_plus (whole 1) u le)
-          ∙ one_times (whole q) ∙ nothing_above (omega arith)
-      | inr other ↦
-          let a = le-ltb q (sum ys) (omega arith) in
-          let b = ne_eqb (sum ys) q other in
-          let d = lt-ltb (sum ys) q (omega arith) in
-          values false false true a b d
-          ∙ ap₂ (λ s t. s *ℚ whole (sum ys) +ℚ whole q *ℚ t) (plus_zero (whole 0)) (plus_zero (whole 1))
-          ∙ ap₂ (λ s t. s +ℚ t) (zero_times (whole (sum ys))) (times_one (whole q)) ∙ zero_plus (whole q)
-          ∙ nothing_above (omega arith)
+    | inl far ↦ rw (lt-ltb q (sum ys) far, ne_eqb (sum ys) q (omega arith), le-ltb (sum ys) q (omega arith))
+        ((simp ring) ∙ the_greater (sum ys) (omega arith))
+    | inr near ↦ elim (cases_eq (sum ys) q) [
+      | inl same ↦ rw (le-ltb q (sum ys) near, eq-eqb (sum ys) q same, le-ltb (sum ys) q (omega arith))
+          (ap (λ t. (whole 0 +ℚ (whole 1 -ℚ u)) *ℚ whole t +ℚ whole q *ℚ (whole 0 +ℚ u)) same ∙ (simp ring)
+          ∙ ap (λ t. whole q *ℚ t) (sub_plus (whole 1) u le) ∙ times_one _ ∙ the_greater q (omega arith))
+      | inr other ↦ rw (le-ltb q (sum ys) near, ne_eqb (sum ys) q other, lt-ltb (sum ys) q (omega arith))
+          ((simp ring) ∙ the_greater q (omega arith))
     ]
   ]
     where
-      values : (over at under : Bool) → nat_lt q (sum ys) ≡ over → nat_eq (sum ys) q ≡ at → nat_lt (sum ys) q ≡ under
-          → (where_true (nat_lt q (sum ys)) (whole 1) +ℚ where_true (nat_eq (sum ys) q) (whole 1 -ℚ u))
-          *ℚ whole (sum ys) +ℚ whole q *ℚ score (Part q u) ys
-          ≡ (where_true over (whole 1) +ℚ where_true at (whole 1 -ℚ u)) *ℚ whole (sum ys) +ℚ whole q *ℚ
-          (where_true under (whole 1) +ℚ where_true at u)
-      values over at under a b d =
-          ap₂ (λ s t. (where_true s (whole 1) +ℚ where_true t (whole 1 -ℚ u)) *ℚ whole (sum ys) +ℚ whole q *ℚ
-          (where_true (nat_lt (sum ys) q) (whole 1) +ℚ where_true t u)) a b
-          ∙ ap (λ t. (where_true over (whole 1) +ℚ where_true at (whole 1 -ℚ u)) *ℚ whole (sum ys) +ℚ whole q *ℚ
-          (where_true t (whole 1) +ℚ where_true at u)) d
-
-      nothing_above : sum ys ≤ q → whole q ≡ whole q +ℚ whole (sum ys - q)
-      nothing_above h =
-          let e : q ≡ q + (sum ys - q) = omega arith in
-          ap whole e ∙ whole_plus q (sum ys - q)
+      the_greater : (m : ℕ) → m ≡ q + (sum ys - q) → whole m ≡ greater ys
+      the_greater m e = ap whole e ∙ whole_plus q (sum ys - q)
 
   pub shares_total : (us : List Loss) (N : ℕ)
       → (whole 1 -ℚ p) *ℚ sum_below (length us) (λ i. partial_sums us (Share i p q u) N) +ℚ

@@ -1,11 +1,5 @@
 -- Bounds of the sums over claims lists: what counts for less has the lesser sums, and no outcome is above the total.
-use Rattle.dl_model.proofs.Common.{◌≡◌, ℕ, suc, zero, ◌*◌, ◌≤◌, refl, sym, ap, subst, ◌∙◌, List, [], ◌∷◌, get_or, sum, inl, inr, cases_eq, ne_eqb, eq-eqb, Fraction, ◌+ℚ◌, ◌*ℚ◌, ◌≤ℚ◌, whole, ring, plus_zero, times_one, le_refl, zero_le, times_le_times, whole_le, fun_ext, sum_to, sum_to_le, sum_to_same, sum_to_times, sum_to_plus, sum_pairs_same, sum_pairs_plus, Series, One, Point, Mean, Joint, score, where_true}
-use Rattle.dl_exact.proofs.Lists.{item_le_total}
-use Rattle.dl_exact.proofs.Sums.{sum_pairs_le}
-unfoldable use Rattle.dl_model.specs.CommonFactor.{sum_over_claims}
-use Rattle.dl_model.specs.CommonFactor.{PoissonUnit, Claims, amounts, amounts_given_counts, ways_to_share, chances, expected_claims, common_sums}
-use Rattle.dl_model.specs.Program.{Quantity}
-use Rattle.dl_model.specs.Measures.{IsAsked}
+use Rattle.dl_model.proofs.Common.{◌≡◌, ℕ, suc, zero, ◌*◌, refl, sym, ap, ◌∙◌, List, [], ◌∷◌, sum, inl, inr, cases_eq, ne_eqb, eq-eqb, Fraction, ◌+ℚ◌, ◌*ℚ◌, ◌≤ℚ◌, whole, ring, plus_zero, times_one, le_refl, zero_le, times_le_times, whole_le, fun_ext, sum_to, sum_to_le, sum_to_same, sum_to_times, sum_to_plus, sum_pairs_plus, Series, One, Point, Mean, Joint, score, item_le_total, sum_pairs_le, sum_over_claims, PoissonUnit, Claims, amounts, amounts_given_counts, ways_to_share, chances, expected_claims, common_sums, Quantity, IsAsked}
 use Rattle.dl_model.proofs.SharedClaims.{claims_times}
 use Rattle.dl_model.proofs.Bounded.{score_scaled}
 
@@ -22,22 +16,13 @@ claims_plus : (us : List PoissonUnit) (n : ℕ) (f g : List Claims → Fraction)
 unfolding sum_over_claims
 claims_plus [] zero f g = refl
 claims_plus [] (suc n) f g = sym (plus_zero (whole 0))
-claims_plus (u ∷ us) n f g =
-    sum_pairs_same n _ _ (λ j k e. sum_to_same (j * u.most) _ _ (λ s b. claims_plus us k
-    (λ claims. f (record { unit = u; count = j; amount = s } ∷ claims))
-    (λ claims. g (record { unit = u; count = j; amount = s } ∷ claims)))
-    ∙ sum_to_plus (j * u.most) _ _)
-    ∙ sum_pairs_plus n _ _
+claims_plus (u ∷ us) n f g = simp (claims_plus us, sum_to_plus, sum_pairs_plus)
 
 -- no outcome is above the total
 outcome_le : (i x : ℕ) (ys : List ℕ) → score (Joint i x) ys ≤ℚ whole x *ℚ score (Point x) ys
 outcome_le i x ys = elim (cases_eq (sum ys) x) [
-  | inl e ↦ subst (λ b. where_true b (whole (get_or ys i 0)) ≤ℚ whole x *ℚ where_true b (whole 1))
-      (sym (eq-eqb (sum ys) x e))
-      (subst (λ t. whole (get_or ys i 0) ≤ℚ t) (sym (times_one (whole x)))
-      (whole_le _ _ (subst (λ t. get_or ys i 0 ≤ t) e (item_le_total ys i))))
-  | inr e ↦ subst (λ b. where_true b (whole (get_or ys i 0)) ≤ℚ whole x *ℚ where_true b (whole 1))
-      (sym (ne_eqb (sum ys) x e)) (zero_le _)
+  | inl e ↦ rw (eq-eqb (sum ys) x e, times_one) (whole_le _ _ (rw e at (item_le_total ys i)))
+  | inr e ↦ rw (ne_eqb (sum ys) x e) (zero_le _)
 ]
 
 -- ---- of any value of the amounts
@@ -58,24 +43,15 @@ module _ (r : ℕ) (us : List PoissonUnit) where
 
   values_times : (k : Fraction) (f : List ℕ → Fraction) (N : ℕ) → values (λ ys. k *ℚ f ys) N ≡ k *ℚ values f N
   values_times k f N =
-      sum_to_same N _ _ (λ n d. ap (sum_over_claims us n) (fun_ext (λ claims. turn k (f (amounts claims))
-      (amounts_given_counts claims) (ways_to_share r n claims) (chances r (expected_claims us) claims)))
+      sum_to_same N _ _ (λ n d. ap (sum_over_claims us n) (fun_ext (λ claims. (simp ring)))
       ∙ claims_times us n k (counted f n))
       ∙ sum_to_times N k (λ n. sum_over_claims us n (counted f n))
-    where
-      turn : (a b c d e : Fraction) → a *ℚ b *ℚ c *ℚ d *ℚ e ≡ a *ℚ (b *ℚ c *ℚ d *ℚ e)
-      turn a b c d e = simp ring
 
   values_plus : (f g : List ℕ → Fraction) (N : ℕ) → values (λ ys. f ys +ℚ g ys) N ≡ values f N +ℚ values g N
   values_plus f g N =
-      sum_to_same N _ _ (λ n d. ap (sum_over_claims us n) (fun_ext (λ claims. turn (f (amounts claims))
-      (g (amounts claims)) (amounts_given_counts claims) (ways_to_share r n claims)
-      (chances r (expected_claims us) claims)))
+      sum_to_same N _ _ (λ n d. ap (sum_over_claims us n) (fun_ext (λ claims. (simp ring)))
       ∙ claims_plus us n (counted f n) (counted g n))
       ∙ sum_to_plus N _ _
-    where
-      turn : (a b c d e : Fraction) → (a +ℚ b) *ℚ c *ℚ d *ℚ e ≡ a *ℚ c *ℚ d *ℚ e +ℚ b *ℚ c *ℚ d *ℚ e
-      turn a b c d e = simp ring
 
   -- ---- of quantities
 
@@ -84,12 +60,10 @@ module _ (r : ℕ) (us : List PoissonUnit) where
   asked_within quantity asked =
       let s = score_scaled quantity asked in (
         s.0,
-        λ N. subst (λ t. common_sums r us quantity N ≤ℚ t)
-            (values_times s.0 (λ ys. score One ys +ℚ score Mean ys) N
-            ∙ ap (λ t. s.0 *ℚ t) (values_plus (score One) (score Mean) N))
+        λ N. rw (values_times s.0 (λ ys. score One ys +ℚ score Mean ys) N, values_plus (score One) (score Mean) N) at
             (values_le (score quantity) (λ ys. s.0 *ℚ (score One ys +ℚ score Mean ys)) s.1 N),
       )
 
   pub joint_within : (i x N : ℕ) → common_sums r us (Joint i x) N ≤ℚ whole x *ℚ common_sums r us (Point x) N
-  joint_within i x N = subst (λ t. common_sums r us (Joint i x) N ≤ℚ t) (values_times (whole x) (score (Point x)) N)
+  joint_within i x N = rw (values_times (whole x) (score (Point x)) N) at
       (values_le (score (Joint i x)) (λ ys. whole x *ℚ score (Point x) ys) (outcome_le i x) N)

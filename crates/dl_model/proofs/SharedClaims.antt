@@ -1,13 +1,8 @@
 -- Sums over claims lists of what counts the total alone: one severity, mixed from those of the units, serves for all.
-use Rattle.dl_model.proofs.Common.{◌≡◌, ℕ, suc, zero, ◌+◌, ◌*◌, ◌<◌, ◌≤◌, arith, refl, sym, ap, ap₂, subst, ◌∙◌, List, [], ◌∷◌, fun_ext, sum, sum_by-cons, Fraction, ◌*ℚ◌, ◌/ℚ◌, ◌≤ℚ◌, ◌<ℚ◌, whole, ◌^ℚ◌, sum_to, sum_over, sum_pairs, ring, le_antisymm, le_trans, le_plus, zero_le, div_times, whole_pos, times_pos, plus_comm, times_comm, times_assoc, times_left_comm, times_zero, zero_times, one_times, times_cancel, one_pos, sum_to_same, sum_to_times, sum_to_longer, sum_to_zero, sum_to_none, sum_to_grows, sum_to_either, sum_pairs_same, sum_pairs_none, sum_pairs_times, sum_pairs_sum_to, at_zero, convolve, power}
+use Rattle.dl_model.proofs.Common.{◌≡◌, ℕ, suc, zero, ◌+◌, ◌*◌, ◌<◌, ◌≤◌, arith, refl, sym, ap, ap₂, subst, ◌∙◌, List, [], ◌∷◌, fun_ext, sum, sum_by-cons, Fraction, ◌*ℚ◌, ◌/ℚ◌, ◌≤ℚ◌, ◌<ℚ◌, whole, ◌^ℚ◌, sum_to, sum_over, sum_pairs, ring, le_antisymm, le_plus, zero_le, div_times, whole_pos, times_pos, plus_comm, times_comm, times_assoc, times_left_comm, times_zero, zero_times, one_times, times_cancel, one_pos, sum_to_same, sum_to_times, sum_to_none, sum_to_either, sum_pairs_same, sum_pairs_none, sum_pairs_times, sum_pairs_sum_to, at_zero, convolve, power, factorial, factorial_pos, divided_power, product_over, sum_over_claims, PoissonUnit, Claims, amounts, amounts_given_counts, AreSeverities, score}
+use Rattle.dl_model.proofs.Cauchy.{by_total}
 use Rattle.std.proofs.Math.Nat.{le_refl as le_refl_n}
-use Rattle.dl_exact.specs.Power.{factorial}
-use Rattle.dl_exact.proofs.Powers.{factorial_pos}
-use Rattle.dl_model.specs.Divided.{divided_power}
-unfoldable use Rattle.dl_model.specs.CommonFactor.{product_over, sum_over_claims}
-use Rattle.dl_model.specs.CommonFactor.{PoissonUnit, Claims, amounts, amounts_given_counts, AreSeverities}
-use Rattle.dl_model.proofs.Cauchy.{square_le_triangle, triangle_le_square}
-use Rattle.dl_model.proofs.CompoundLaws.{power_past}
+use Rattle.dl_model.proofs.ValueLaws.{power_past}
 use Rattle.dl_model.proofs.Itself.{sum_to_at_zero}
 use Rattle.dl_model.proofs.Divided.{divided_whole, divided_plus, undivided, divided_none}
 
@@ -17,41 +12,12 @@ pub scaled_power : (y : Fraction) (f : ℕ → Fraction) (n s : ℕ) → power (
 unfolding power ◌^ℚ◌
 scaled_power y f zero s = sym (one_times _)
 scaled_power y f (suc n) s =
-    sum_pairs_same s _ _ (λ i j e. ap (λ t. y *ℚ f i *ℚ t) (scaled_power y f n j) ∙ turn y (f i) (y ^ℚ n) (power f n j))
+    sum_pairs_same s _ _ (λ i j e. ap (λ t. y *ℚ f i *ℚ t) (scaled_power y f n j) ∙ simp ring)
     ∙ sum_pairs_times s (y *ℚ y ^ℚ n) (λ i j. f i *ℚ power f n j)
-  where
-    turn : (a b c d : Fraction) → a *ℚ b *ℚ (c *ℚ d) ≡ a *ℚ c *ℚ (b *ℚ d)
-    turn a b c d = simp ring
 
 pub divided_past : (f : ℕ → Fraction) (m : ℕ) → ((j : ℕ) → m < j → f j ≡ whole 0) → (n s : ℕ) → n * m < s
     → divided_power f n s ≡ whole 0
 divided_past f m past n s h = divided_none f n s (power_past f m past n s h)
-
--- ---- the total of two, each up to a number past which it has nothing
-
-pub by_total : (value a b : ℕ → Fraction) (p q far : ℕ) → ((i : ℕ) → p < i → a i ≡ whole 0)
-    → ((j : ℕ) → q < j → b j ≡ whole 0) → p + q ≤ far
-    → sum_to p (λ s. a s *ℚ sum_to q (λ t. value (s + t) *ℚ b t)) ≡ sum_to far (λ x. value x *ℚ convolve a b x)
-by_total value a b p q far pa pb h =
-    let H : ℕ → ℕ → Fraction = λ i j. value (i + j) *ℚ (a i *ℚ b j) in
-    let rows : sum_to p (λ s. a s *ℚ sum_to q (λ t. value (s + t) *ℚ b t)) ≡ sum_to p (λ i. sum_to q (H i)) =
-    sum_to_same p _ _ (λ s c. sym (sum_to_times q (a s) (λ t. value (s + t) *ℚ b t))
-    ∙ sum_to_same q _ _ (λ t d. times_left_comm (a s) (value (s + t)) (b t))) in
-    let diagonals : sum_to far (λ x. value x *ℚ convolve a b x) ≡ sum_to far (λ x. sum_pairs x H) =
-    sum_to_same far _ _ (λ x c. sym (sum_pairs_times x (value x) (λ i j. a i *ℚ b j))
-    ∙ sum_pairs_same x _ _ (λ i j e. ap (λ t. value t *ℚ (a i *ℚ b j)) (sym e))) in
-    let wide : sum_to far (λ i. sum_to far (H i)) ≡ sum_to p (λ i. sum_to q (H i)) =
-    sum_to_longer p far (λ i. sum_to far (H i)) (omega arith) (λ i c. sum_to_zero far (H i)
-    (λ j d. ap (λ t. value (i + j) *ℚ (t *ℚ b j)) (pa i c) ∙ ap (λ t. value (i + j) *ℚ t) (zero_times (b j))
-    ∙ times_zero _))
-    ∙ sum_to_same p _ _ (λ i c. sum_to_longer q far (H i) (omega arith)
-    (λ j d. ap (λ t. value (i + j) *ℚ (a i *ℚ t)) (pb j d) ∙ ap (λ t. value (i + j) *ℚ t) (times_zero (a i))
-    ∙ times_zero _)) in
-    rows
-    ∙ le_antisymm _ _
-    (le_trans _ _ _ (square_le_triangle p q H) (sum_to_grows (p + q) far (λ s. sum_pairs s H) h))
-    (subst (λ t. sum_to far (λ s. sum_pairs s H) ≤ℚ t) wide (triangle_le_square far far H (le_refl_n far)))
-    ∙ sym diagonals
 
 -- ---- sums over claims lists
 
@@ -64,11 +30,7 @@ pub claims_times : (us : List PoissonUnit) (n : ℕ) (k : Fraction) (f : List Cl
 unfolding sum_over_claims
 claims_times [] zero k f = refl
 claims_times [] (suc n) k f = sym (times_zero k)
-claims_times (u ∷ us) n k f =
-    sum_pairs_same n _ _ (λ i j e. sum_to_same (i * u.most) _ _ (λ s b. claims_times us j k
-    (λ claims. f (record { unit = u; count = i; amount = s } ∷ claims)))
-    ∙ sum_to_times (i * u.most) k _)
-    ∙ sum_pairs_times n k _
+claims_times (u ∷ us) n k f = simp (claims_times us, sum_to_times, sum_pairs_times)
 
 module _ (y : PoissonUnit → Fraction) where
   -- the severity of a unit times its number
@@ -114,15 +76,9 @@ module _ (y : PoissonUnit → Fraction) where
   four_factors score K claims =
       let F = factorials claims in
       times_cancel _ _ F (factorials_pos claims)
-      (turn score (amounts_given_counts claims) (K /ℚ F) (numbers claims) F
+      ((simp ring)
       ∙ ap₂ (λ s t. s *ℚ score *ℚ t) (div_times K F (factorials_pos claims)) (sym (parts_product claims))
-      ∙ back K score (product_over claims part) F)
-    where
-      turn : (a b c d e : Fraction) → a *ℚ b *ℚ c *ℚ d *ℚ e ≡ c *ℚ e *ℚ a *ℚ (b *ℚ d)
-      turn a b c d e = simp ring
-
-      back : (a b c d : Fraction) → a *ℚ b *ℚ (c *ℚ d) ≡ a *ℚ (b *ℚ c) *ℚ d
-      back a b c d = simp ring
+      ∙ simp ring)
 
   -- the sum over claims lists of a value of the amounts
   abbrev pub weighed : List PoissonUnit → ℕ → (List ℕ → Fraction) → Fraction
@@ -152,7 +108,7 @@ module _ (y : PoissonUnit → Fraction) where
   pub first_none : (u : PoissonUnit) (us : List PoissonUnit) (a : ℕ) → mixed (u ∷ us) a ≡ whole 0
       → scaled_severity u a ≡ whole 0
   unfolding sum_over
-  first_none u us a e = le_antisymm _ _ (subst (λ t. scaled_severity u a ≤ℚ t) e (le_plus _ _)) (zero_le _)
+  first_none u us a e = le_antisymm _ _ (rw e at (le_plus (scaled_severity u a) (mixed us a))) (zero_le _)
 
   pub others_none : (u : PoissonUnit) (us : List PoissonUnit) (a : ℕ) → mixed (u ∷ us) a ≡ whole 0
       → mixed us a ≡ whole 0
@@ -160,17 +116,22 @@ module _ (y : PoissonUnit → Fraction) where
   others_none u us a e = le_antisymm _ _
       (subst (λ t. mixed us a ≤ℚ t) (plus_comm _ _ ∙ e) (le_plus (mixed us a) (scaled_severity u a))) (zero_le _)
 
-  -- the last step of a sum over one more unit: the amounts of the first unit and what the others come to
-  pub first_and_others : (u : PoissonUnit) (M j k far : ℕ) (b : ℕ → Fraction) (value : ℕ → Fraction) (a : ℕ → Fraction)
-      → ((s : ℕ) → j * u.most < s → a s ≡ whole 0) → ((s : ℕ) → j * M < s → a s ≡ whole 0)
-      → ((t : ℕ) → k * M < t → b t ≡ whole 0) → (j + k) * M ≤ far
-      → sum_to (j * u.most) (λ s. a s *ℚ sum_to (k * M) (λ t. value (s + t) *ℚ b t))
-      ≡ sum_to far (λ x. value x *ℚ convolve a b x)
-  first_and_others u M j k far b value a own past others h =
-      let rest : ℕ → Fraction = λ s. sum_to (k * M) (λ t. value (s + t) *ℚ b t) in
-      let none : (s : ℕ) → a s ≡ whole 0 → a s *ℚ rest s ≡ whole 0 = λ s e. ap (λ t. t *ℚ rest s) e ∙ zero_times _ in
-      sum_to_either (j * u.most) (j * M) (λ s. a s *ℚ rest s) (λ s c. none s (own s c)) (λ s c. none s (past s c))
-      ∙ by_total value a b (j * M) (k * M) far past others (omega (arith, h))
+  -- the first unit apart: its amounts, and what the others come to, each none past some number
+  pub by_first : (u : PoissonUnit) (us : List PoissonUnit) (V : List ℕ → Fraction) (M n far : ℕ) (value : ℕ → Fraction)
+      (a b : ℕ → ℕ → Fraction) → ((j s : ℕ) → j * u.most < s → a j s ≡ whole 0)
+      → ((j s : ℕ) → j * M < s → a j s ≡ whole 0) → ((k t : ℕ) → k * M < t → b k t ≡ whole 0) → n * M ≤ far
+      → ((j k s : ℕ) → divided_power (scaled_severity u) j s *ℚ weighed us k (λ ys. V (s ∷ ys))
+      ≡ a j s *ℚ sum_to (k * M) (λ t. value (s + t) *ℚ b k t))
+      → weighed (u ∷ us) n V ≡ sum_to far (λ x. value x *ℚ sum_pairs n (λ j k. convolve (a j) (b k) x))
+  by_first u us V M n far value a b own past others h each =
+      weighed_more u us n V
+      ∙ sum_pairs_same n _ (λ j k. sum_to far (λ x. value x *ℚ convolve (a j) (b k) x)) (λ j k e.
+      sum_to_same (j * u.most) _ (λ s. a j s *ℚ sum_to (k * M) (λ t. value (s + t) *ℚ b k t)) (λ s c. each j k s)
+      ∙ sum_to_either (j * u.most) (j * M) _ (λ s c. simp (own j s c, zero_times)) (λ s c. simp (past j s c, zero_times))
+      ∙ by_total value (a j) (b k) (j * M) (k * M) far (past j) (others k)
+      (omega (arith, subst (λ t. t * M ≤ far) (sym e) h)))
+      ∙ sum_pairs_sum_to n far (λ j k x. value x *ℚ convolve (a j) (b k) x)
+      ∙ sum_to_same far _ _ (λ x c. sum_pairs_times n (value x) (λ j k. convolve (a j) (b k) x))
 
   pub weighed_by_total : (us : List PoissonUnit) → AreSeverities us → (M : ℕ)
       → ((a : ℕ) → M < a → mixed us a ≡ whole 0) → (n far : ℕ) → n * M ≤ far → (value : ℕ → Fraction)
@@ -189,15 +150,9 @@ module _ (y : PoissonUnit → Fraction) where
       let f_past : (a : ℕ) → M < a → f a ≡ whole 0 = λ a c. first_none u us a (past a c) in
       let g_past : (a : ℕ) → M < a → g a ≡ whole 0 = λ a c. others_none u us a (past a c) in
       let f_own : (a : ℕ) → u.most < a → f a ≡ whole 0 = λ a c. ap (λ t. y u *ℚ t) (h.0.past a c) ∙ times_zero _ in
-      weighed_more u us n (λ ys. value (sum ys))
-      ∙ sum_pairs_same n _ (λ j k. sum_to far (λ x. value x *ℚ convolve (divided_power f j) (divided_power g k) x))
-      (λ j k e.
-      sum_to_same (j * u.most) _ _ (λ s c. ap (λ t. divided_power f j s *ℚ t)
+      by_first u us (λ ys. value (sum ys)) M n far value (divided_power f) (divided_power g)
+      (divided_past f u.most f_own) (divided_past f M f_past) (divided_past g M g_past) b
+      (λ j k s. ap (λ t. divided_power f j s *ℚ t)
       (weighed_same us k _ (λ ys. value (s + sum ys)) (λ ys. ap value (sum_by-cons (λ (x : ℕ). x) s ys))
       ∙ weighed_by_total us h.1 M g_past k (k * M) (le_refl_n (k * M)) (λ t. value (s + t))))
-      ∙ first_and_others u M j k far (divided_power g k) value (divided_power f j) (divided_past f u.most f_own j)
-      (divided_past f M f_past j) (divided_past g M g_past k) (subst (λ t. t * M ≤ far) (sym e) b))
-      ∙ sum_pairs_sum_to n far (λ j k x. value x *ℚ convolve (divided_power f j) (divided_power g k) x)
-      ∙ sum_to_same far _ _ (λ x c.
-      sum_pairs_times n (value x) (λ j k. convolve (divided_power f j) (divided_power g k) x)
-      ∙ ap (λ t. value x *ℚ t) (sym (divided_plus f g n x)))
+      ∙ sum_to_same far _ _ (λ x c. ap (λ t. value x *ℚ t) (sym (divided_plus f g n x)))

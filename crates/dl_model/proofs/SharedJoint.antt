@@ -1,16 +1,12 @@
 -- One unit beside the total under a common factor: one claim of the unit apart, the others with one more in the shape.
-use Rattle.dl_model.proofs.Common.{◌≡◌, ℕ, suc, zero, ◌+◌, ◌-◌, ◌*◌, ◌<◌, ◌≤◌, arith, refl, sym, ap, ap₂, subst, ◌∙◌, List, [], ◌∷◌, nat_eq, fun_ext, get_or, sum, sum_by-cons, inl, inr, cases_lt, Fraction, ◌+ℚ◌, ◌*ℚ◌, ◌<ℚ◌, whole, choose, sum_to, sum_over, sum_pairs, ring, times_comm, times_assoc, times_left_comm, times_zero, zero_times, zero_plus, plus_zero, sum_to_same, sum_to_first, sum_to_times, sum_pairs_same, sum_pairs_none, sum_pairs_times, sum_pairs_sum_to, at_zero, convolve, power, cell, gamma, Joint, score, where_true}
+use Rattle.dl_model.proofs.Common.{◌≡◌, ℕ, suc, zero, ◌+◌, ◌-◌, ◌*◌, ◌<◌, ◌≤◌, arith, refl, sym, ap, ap₂, subst, ◌∙◌, List, [], ◌∷◌, nat_eq, fun_ext, get_or, sum, sum_by-cons, Fraction, ◌+ℚ◌, ◌*ℚ◌, ◌<ℚ◌, whole, choose, sum_to, sum_over, sum_pairs, ring, times_comm, times_assoc, times_left_comm, times_zero, zero_times, zero_plus, plus_zero, sum_to_same, sum_to_first, sum_to_times, sum_pairs_same, sum_pairs_none, sum_pairs_sum_to, convolve, power, cell, gamma, Joint, score, where_true, factorial, whole_times, sum_pairs_first, sum_pairs_last, divided_power, PoissonUnit, expected_claims, common_sums, pooled_severity, AreSeverities, IsUnit}
+use Rattle.dl_model.proofs.CompoundLaws.{convolve_past}
+use Rattle.dl_model.proofs.Powers.{tilt_at_zero}
 use Rattle.std.proofs.Math.Nat.{le_refl as le_refl_n}
-use Rattle.dl_exact.specs.Power.{factorial}
-use Rattle.dl_exact.proofs.Laws.{whole_times}
-use Rattle.dl_exact.proofs.Sums.{sum_pairs_first, sum_pairs_last}
-use Rattle.dl_model.specs.Divided.{divided_power}
-use Rattle.dl_model.specs.CommonFactor.{PoissonUnit, expected_claims, common_sums, pooled_severity, AreSeverities, IsUnit}
-use Rattle.dl_model.proofs.Picks.{pick, where_factor}
-use Rattle.dl_model.proofs.Powers.{convolve_assoc, convolve_times}
+use Rattle.dl_model.proofs.ValueLaws.{pick, where_factor, convolve_assoc, convolve_times, convolve_scaled, convolve_first}
 use Rattle.dl_model.proofs.Gamma.{choose-absorb, choose-shift}
-use Rattle.dl_model.proofs.Divided.{divided_plus, divided_tilt, undivided, convolve_pairs, convolve_first}
-use Rattle.dl_model.proofs.SharedClaims.{mixed, scaled_severity, weighed, weighed_same, weighed_times, weighed_more, weighed_by_total, first_and_others, first_none, others_none, divided_past}
+use Rattle.dl_model.proofs.Divided.{divided_plus, divided_tilt, undivided, convolve_pairs}
+use Rattle.dl_model.proofs.SharedClaims.{mixed, scaled_severity, weighed, weighed_same, weighed_times, weighed_by_total, first_none, others_none, divided_past, by_first}
 use Rattle.dl_model.proofs.Pooled.{chance, any_chance, orders, level_sum, mixed_pooled, gamma_divided}
 
 -- ---- one claim apart
@@ -24,19 +20,10 @@ abbrev tilt : (ℕ → Fraction) → ℕ → Fraction
 tilt f a = whole a *ℚ f a
 
 convolve_none : (f g : ℕ → Fraction) (s : ℕ) → ((i : ℕ) → f i ≡ whole 0) → convolve f g s ≡ whole 0
-convolve_none f g s h = sum_pairs_same s _ (λ i j. whole 0) (λ i j e. ap (λ t. t *ℚ g j) (h i) ∙ zero_times _)
-    ∙ sum_pairs_none s
+convolve_none f g s h = simp (h, zero_times, sum_pairs_none)
 
 convolve_no_other : (f g : ℕ → Fraction) (s : ℕ) → ((j : ℕ) → g j ≡ whole 0) → convolve f g s ≡ whole 0
-convolve_no_other f g s h = sum_pairs_same s _ (λ i j. whole 0) (λ i j e. ap (λ t. f i *ℚ t) (h j) ∙ times_zero _)
-    ∙ sum_pairs_none s
-
-convolve_past : (f g : ℕ → Fraction) (p q s : ℕ) → ((i : ℕ) → p < i → f i ≡ whole 0)
-    → ((j : ℕ) → q < j → g j ≡ whole 0) → p + q < s → convolve f g s ≡ whole 0
-convolve_past f g p q s pf pg h = sum_pairs_same s _ (λ i j. whole 0) (λ i j e. elim (cases_lt p i) [
-  | inl far ↦ ap (λ t. t *ℚ g j) (pf i far) ∙ zero_times _
-  | inr near ↦ ap (λ t. f i *ℚ t) (pg j (omega arith)) ∙ times_zero _
-]) ∙ sum_pairs_none s
+convolve_no_other f g s h = simp (h, times_zero, sum_pairs_none)
 
 apart_past : (t h : ℕ → Fraction) (M : ℕ) → ((a : ℕ) → M < a → t a ≡ whole 0) → ((a : ℕ) → M < a → h a ≡ whole 0)
     → (n z : ℕ) → n * M < z → claim_apart t h n z ≡ whole 0
@@ -50,9 +37,7 @@ module _ (f g : ℕ → Fraction) where
   both a = f a +ℚ g a
 
   no_tilt : (s : ℕ) → whole s *ℚ divided_power f zero s ≡ whole 0
-  unfolding at_zero
-  no_tilt zero = zero_times _
-  no_tilt (suc s) = ap (λ t. whole (suc s) *ℚ t) (undivided f (suc s)) ∙ times_zero _
+  no_tilt s = rw (undivided f s) (tilt_at_zero s)
 
   -- the claim is of the first part
   first_apart : (n x : ℕ) → sum_pairs n (λ j k. convolve (λ s. whole s *ℚ divided_power f j s) (divided_power g k) x)
@@ -106,25 +91,15 @@ module _ (y : PoissonUnit → Fraction) (u : PoissonUnit) where
       let g_past : (a : ℕ) → M < a → g a ≡ whole 0 = λ a c. others_none y w us a (past a c) in
       let f_own : (a : ℕ) → w.most < a → f a ≡ whole 0 = λ a c. ap (λ t. y w *ℚ t) (h.0.past a c) ∙ times_zero _ in
       let T : ℕ → ℕ → Fraction = λ j s. whole s *ℚ divided_power f j s in
-      let none : (s : ℕ) (z : Fraction) → z ≡ whole 0 → whole s *ℚ z ≡ whole 0 =
-      λ s z q. ap (λ t. whole s *ℚ t) q ∙ times_zero _ in
-      weighed_more y w us n (λ ys. value (sum ys) *ℚ whole (get_or ys zero 0))
-      ∙ sum_pairs_same n _ (λ j k. sum_to far (λ x. value x *ℚ convolve (T j) (divided_power g k) x)) (λ j k q.
-      sum_to_same (j * w.most) _ (λ s. T j s *ℚ sum_to (k * M) (λ t. value (s + t) *ℚ divided_power g k t)) (λ s c.
-      ap (λ t. divided_power f j s *ℚ t)
-      (weighed_same y us k _ (λ ys. whole s *ℚ value (s + sum ys)) (λ ys.
-      times_comm _ _ ∙ ap (λ t. whole s *ℚ value t) (sum_by-cons (λ (x : ℕ). x) s ys))
-      ∙ weighed_times y us k (whole s) (λ ys. value (s + sum ys))
-      ∙ ap (λ t. whole s *ℚ t)
+      by_first y w us (λ ys. value (sum ys) *ℚ whole (get_or ys zero 0)) M n far value T (divided_power g)
+      (λ j s c. simp (divided_past f w.most f_own j s c, times_zero))
+      (λ j s c. simp (divided_past f M f_past j s c, times_zero)) (divided_past g M g_past) b
+      (λ j k s. ap (λ t. divided_power f j s *ℚ t) (weighed_same y us k _ (λ ys. whole s *ℚ value (s + sum ys))
+      (λ ys. times_comm _ _ ∙ ap (λ t. whole s *ℚ value t) (sum_by-cons (λ (x : ℕ). x) s ys))
+      ∙ weighed_times y us k (whole s) (λ ys. value (s + sum ys)) ∙ ap (λ t. whole s *ℚ t)
       (weighed_by_total y us h.1 M g_past k (k * M) (le_refl_n (k * M)) (λ t. value (s + t))))
       ∙ times_left_comm _ _ _ ∙ sym (times_assoc _ _ _))
-      ∙ first_and_others y w M j k far (divided_power g k) value (T j)
-      (λ s c. none s _ (divided_past f w.most f_own j s c)) (λ s c. none s _ (divided_past f M f_past j s c))
-      (divided_past g M g_past k) (subst (λ t. t * M ≤ far) (sym q) b))
-      ∙ sum_pairs_sum_to n far (λ j k x. value x *ℚ convolve (T j) (divided_power g k) x)
-      ∙ sum_to_same far _ _ (λ x c.
-      sum_pairs_times n (value x) (λ j k. convolve (T j) (divided_power g k) x)
-      ∙ ap (λ t. value x *ℚ t) (first_apart f g n x
+      ∙ sum_to_same far _ _ (λ x c. ap (λ t. value x *ℚ t) (first_apart f g n x
       ∙ ap (λ v. claim_apart (tilt (scaled_severity y v)) (mixed y (w ∷ us)) n x) e))
   weighed_joint (w ∷ us) (suc i) e h M past n far b value =
       let f = scaled_severity y w in
@@ -135,19 +110,13 @@ module _ (y : PoissonUnit → Fraction) (u : PoissonUnit) where
       let t_past : (a : ℕ) → M < a → t a ≡ whole 0 =
       λ a c. ap (λ z. whole a *ℚ z) (unit_past us i e a (g_past a c)) ∙ times_zero _ in
       let f_own : (a : ℕ) → w.most < a → f a ≡ whole 0 = λ a c. ap (λ t. y w *ℚ t) (h.0.past a c) ∙ times_zero _ in
-      weighed_more y w us n (λ ys. value (sum ys) *ℚ whole (get_or ys (suc i) 0))
-      ∙ sum_pairs_same n _ (λ j k. sum_to far (λ x. value x *ℚ convolve (divided_power f j) (claim_apart t g k) x))
-      (λ j k q.
-      sum_to_same (j * w.most) _ _ (λ s c. ap (λ z. divided_power f j s *ℚ z)
+      by_first y w us (λ ys. value (sum ys) *ℚ whole (get_or ys (suc i) 0)) M n far value (divided_power f)
+      (claim_apart t g) (divided_past f w.most f_own) (divided_past f M f_past) (apart_past t g M t_past g_past) b
+      (λ j k s. ap (λ z. divided_power f j s *ℚ z)
       (weighed_same y us k _ (λ ys. value (s + sum ys) *ℚ whole (get_or ys i 0))
       (λ ys. ap (λ z. value z *ℚ whole (get_or ys i 0)) (sum_by-cons (λ (x : ℕ). x) s ys))
       ∙ weighed_joint us i e h.1 M g_past k (k * M) (le_refl_n (k * M)) (λ z. value (s + z))))
-      ∙ first_and_others y w M j k far (claim_apart t g k) value (divided_power f j) (divided_past f w.most f_own j)
-      (divided_past f M f_past j) (apart_past t g M t_past g_past k) (subst (λ z. z * M ≤ far) (sym q) b))
-      ∙ sum_pairs_sum_to n far (λ j k x. value x *ℚ convolve (divided_power f j) (claim_apart t g k) x)
-      ∙ sum_to_same far _ _ (λ x c.
-      sum_pairs_times n (value x) (λ j k. convolve (divided_power f j) (claim_apart t g k) x)
-      ∙ ap (λ z. value x *ℚ z) (others_apart f g t n x))
+      ∙ sum_to_same far _ _ (λ x c. ap (λ z. value x *ℚ z) (others_apart f g t n x))
 
 -- ---- the joint sums
 
@@ -159,10 +128,6 @@ orders_next q m =
     ap (λ t. choose t (suc m) * (suc m * factorial m)) a
     ∙ omega (arith, ap (λ t. t * factorial m) (choose-absorb (q + m) m), ap (λ t. t * factorial m) (choose-shift q m))
     ∙ sym (ap (λ t. suc q * (choose t m * factorial m)) b)
-
-convolve_scaled : (k : Fraction) (f g : ℕ → Fraction) (s : ℕ) → convolve (λ i. k *ℚ f i) g s ≡ k *ℚ convolve f g s
-convolve_scaled k f g s = sum_pairs_same s _ _ (λ i j e. times_assoc k (f i) (g j))
-    ∙ sum_pairs_times s k (λ i j. f i *ℚ g j)
 
 module _ (q : ℕ) (us : List PoissonUnit) (some : whole 0 <ℚ expected_claims us) (h : AreSeverities us) (M : ℕ)
     (past : (a : ℕ) → M < a → pooled_severity us a ≡ whole 0) (i : ℕ) (u : PoissonUnit) (at : IsUnit us i u) where
@@ -199,13 +164,10 @@ module _ (q : ℕ) (us : List PoissonUnit) (some : whole 0 <ℚ expected_claims 
       ap₂ (λ a b. a *ℚ b) (ap whole (orders_next q m) ∙ whole_times (suc q) (orders (suc (suc q)) m))
       (ap (λ f. convolve f d x) (fun_ext (λ a. times_left_comm (whole a) (y u) (u.severity a)))
       ∙ convolve_scaled (y u) t d x)
-      ∙ turn (whole (suc q)) n (y u) (convolve t d x)
+      ∙ (simp ring)
       ∙ ap (λ z. whole (suc q) *ℚ y u *ℚ z) (sym (convolve_times n t d x)
       ∙ ap (λ f. convolve t f x) (fun_ext (λ k. ap (λ f. n *ℚ divided_power f m k)
       (fun_ext (mixed_pooled (suc q) us some)) ∙ gamma_divided (suc (suc q)) c (pooled_severity us) m k)))
-    where
-      turn : (a b e z : Fraction) → a *ℚ b *ℚ (e *ℚ z) ≡ a *ℚ e *ℚ (b *ℚ z)
-      turn a b e z = simp ring
 
   abbrev joint_term : ℕ → ℕ → Fraction
   joint_term x n = whole (orders (suc q) n) *ℚ apart n x

@@ -1,12 +1,6 @@
 -- Claims whose amounts are all multiples of g: their sums are g times those of the amounts over g.
-use Rattle.dl_model.proofs.Common.{ℕ, zero, suc, ◌≡◌, ◌≢◌, ◌+◌, ◌-◌, ◌*◌, ◌/◌, ◌<◌, ◌≤◌, List, [], ◌∷◌, arith, sym, ap, ap₂, subst, ◌∙◌, dec_dvd, dvd-mul_left, ◌∣◌, Fraction, whole, ◌over◌, ◌+ℚ◌, ◌*ℚ◌, ◌≤ℚ◌, zero_times, zero_plus, zero_le, le_of_eq, le_refl, le_trans, plus_le_both, sum_to_grows, IsWithinOne, sum_pairs, sum_to, sum_pairs_same, sum_to_same, Item, Sev, common_amount, probability_of, over_zero, total_pos, at_zero, power, cell, compound, Encloses, Holds}
+use Rattle.dl_model.proofs.Common.{ℕ, zero, suc, ◌≡◌, ◌≢◌, ◌+◌, ◌-◌, ◌*◌, ◌/◌, ◌<◌, ◌≤◌, List, [], ◌∷◌, arith, sym, ap, ap₂, subst, ◌∙◌, dec_dvd, dvd-mul_left, ◌∣◌, Fraction, whole, ◌over◌, ◌+ℚ◌, ◌*ℚ◌, ◌≤ℚ◌, zero_times, zero_plus, zero_le, le_refl, le_trans, sum_to_grows, IsWithinOne, sum_pairs, sum_to, sum_pairs_same, sum_to_same, Item, Sev, common_amount, probability_of, over_zero, total_pos, at_zero, power, cell, compound, Encloses, Holds, dvd_refl, dvd_trans, le_of_dvd, dvd-add_iff_right, lt_of_mul-lt-mul_left, All-nil, All-cons, sum_pairs_first, gcd, gcd_is, refl, suc-add, zero-add, order, fun_ext}
 use Rattle.std.proofs.Common.{All}
-use Rattle.std.proofs.lemmas.Nat.Gcd.{dvd_refl, dvd_trans, le_of_dvd}
-use Rattle.std.proofs.Math.Nat.{dvd-add_iff_right, lt_of_mul-lt-mul_left}
-use Rattle.std.proofs.lemmas.List.Elements.{All-nil, All-cons}
-use Rattle.dl_exact.proofs.Sums.{sum_pairs_first}
-use Rattle.dl_exact.specs.Gcd.{gcd}
-use Rattle.dl_exact.proofs.GcdLaws.{gcd_is}
 use Rattle.dl_model.proofs.Multiples.{divisor_from, divides_start, no_weight_between, no_cell_between, multiple_of}
 
 -- ---- sums over i + j = n
@@ -14,56 +8,34 @@ use Rattle.dl_model.proofs.Multiples.{divisor_from, divides_start, no_weight_bet
 -- the first k pairs left out
 skip_pairs : (k n : ℕ) (F : ℕ → ℕ → Fraction) → ((i j : ℕ) → i < k → F i j ≡ whole 0)
     → sum_pairs (k + n) F ≡ sum_pairs n (λ i j. F (k + i) j)
-skip_pairs zero n F none =
-    ap (λ m. sum_pairs m F) (plain n) ∙ sum_pairs_same n F _ (λ i j e. ap (λ m. F m j) (sym (plain i)))
-  where
-    plain : (x : ℕ) → 0 + x ≡ x
-    plain x = omega arith
-skip_pairs (suc k) n F none =
-    ap (λ m. sum_pairs m F) (moved k n)
-    ∙ sum_pairs_first (k + n) F
+skip_pairs zero n F none = simp zero-add
+skip_pairs (suc k) n F none = simp suc-add (sum_pairs_first (k + n) F
     ∙ ap₂ (λ s t. s +ℚ t) (none zero (suc (k + n)) (omega arith))
-    (skip_pairs k n (λ i j. F (suc i) j) (λ i j l. none (suc i) j (omega (arith, l))))
-    ∙ zero_plus _
-    ∙ sum_pairs_same n _ _ (λ i j e. ap (λ m. F m j) (sym (moved k i)))
-  where
-    moved : (k x : ℕ) → suc k + x ≡ suc (k + x)
-    moved k x = omega arith
+    (skip_pairs k n (λ i j. F (suc i) j) (λ i j l. none (suc i) j (omega (arith, l)))) ∙ zero_plus _)
 
 -- where nothing stands at an i that g does not divide, i and j are multiples of g
 pub sum_pairs_multiples : (g t : ℕ) (F : ℕ → ℕ → Fraction) → 0 < g → ((i j : ℕ) → ¬ (g ∣ i) → F i j ≡ whole 0)
     → sum_pairs (g * t) F ≡ sum_pairs t (λ i j. F (g * i) (g * j))
 unfolding sum_pairs
 sum_pairs_multiples zero t F pos none = absurd (omega (arith, pos))
-sum_pairs_multiples (suc h) zero F pos none = ap (λ m. sum_pairs m F) (nothing h) ∙ ap (λ m. F m m) (sym (nothing h))
-  where
-    nothing : (h : ℕ) → suc h * 0 ≡ 0
-    nothing h = omega arith
+sum_pairs_multiples (suc h) zero F pos none =
+    let nothing : suc h * 0 ≡ 0 = omega arith in
+    rw nothing refl
 sum_pairs_multiples (suc h) (suc t) F pos none =
-    ap (λ m. sum_pairs m F) (size h t)
+    let nothing : suc h * 0 ≡ 0 = omega arith in
+    let size : suc h * suc t ≡ suc (h + suc h * t) = omega arith in
+    let one_more : (i : ℕ) → suc h + suc h * i ≡ suc h * suc i = λ i. omega arith in
+    let too_small : (i : ℕ) → i < h → ¬ (suc h ∣ suc i) =
+    λ i l d. omega (arith, l, le_of_dvd {m = suc h} {n = suc i} (omega arith) d) in
+    ap (λ m. sum_pairs m F) size
     ∙ sum_pairs_first (h + suc h * t) F
-    ∙ ap₂ (λ x y. x +ℚ y) (ap₂ F (sym (nothing h)) (sym (size h t)))
+    ∙ ap₂ (λ x y. x +ℚ y) (ap₂ F (sym nothing) (sym size))
     (skip_pairs h (suc h * t) (λ i j. F (suc i) j) (λ i j l. none (suc i) j (λ d. too_small i l d))
-    ∙ sum_pairs_same (suc h * t) _ _ (λ i j e. ap (λ m. F m j) (moved h i))
+    ∙ sum_pairs_same (suc h * t) _ _ (λ i j e. ap (λ m. F m j) (sym (suc-add h i)))
     ∙ sum_pairs_multiples (suc h) t (λ i j. F (suc h + i) j) pos
     (λ i j n. none (suc h + i) j (λ d. n ((dvd-add_iff_right (suc h) (dvd_refl (suc h))).1 d)))
-    ∙ sum_pairs_same t _ _ (λ i j e. ap (λ m. F m (suc h * j)) (one_more h i)))
+    ∙ sum_pairs_same t _ _ (λ i j e. ap (λ m. F m (suc h * j)) (one_more i)))
     ∙ sym (sum_pairs_first t (λ i j. F (suc h * i) (suc h * j)))
-  where
-    nothing : (h : ℕ) → suc h * 0 ≡ 0
-    nothing h = omega arith
-
-    size : (h t : ℕ) → suc h * suc t ≡ suc (h + suc h * t)
-    size h t = omega arith
-
-    moved : (h i : ℕ) → suc (h + i) ≡ suc h + i
-    moved h i = omega arith
-
-    one_more : (h i : ℕ) → suc h + suc h * i ≡ suc h * suc i
-    one_more h i = omega arith
-
-    too_small : {h : ℕ} (i : ℕ) → i < h → ¬ (suc h ∣ suc i)
-    too_small {h} i l d = omega (arith, l, le_of_dvd {m = suc h} {n = suc i} (omega arith) d)
 
 -- ---- compound sums
 
@@ -71,14 +43,12 @@ sum_pairs_multiples (suc h) (suc t) F pos none =
 module _ (f : ℕ → Fraction) (g : ℕ) (pos : 0 < g) (none : (j : ℕ) → ¬ (g ∣ j) → f j ≡ whole 0) where
   power_of_multiples : (n t : ℕ) → power f n (g * t) ≡ power (λ j. f (g * j)) n t
   unfolding power at_zero
-  power_of_multiples zero zero = ap at_zero (nothing g)
-    where
-      nothing : (g : ℕ) → g * 0 ≡ 0
-      nothing g = omega arith
-  power_of_multiples zero (suc t) = ap at_zero (above g t pos)
-    where
-      above : (g t : ℕ) → 0 < g → g * suc t ≡ suc (g * t + (g - 1))
-      above g t p = omega (arith, p)
+  power_of_multiples zero zero =
+      let nothing : g * 0 ≡ 0 = omega arith in
+      ap at_zero nothing
+  power_of_multiples zero (suc t) =
+      let above : g * suc t ≡ suc (g * t + (g - 1)) = omega (arith, pos) in
+      ap at_zero above
   power_of_multiples (suc n) t =
       sum_pairs_multiples g t (λ i j. f i *ℚ power f n j) pos
       (λ i j h. ap (λ x. x *ℚ power f n j) (none i h) ∙ zero_times _)
@@ -92,17 +62,13 @@ pub multiples_within : (f : ℕ → Fraction) (g : ℕ) → 0 < g → IsWithinOn
 unfolding sum_to
 multiples_within f g pos h n = le_trans _ _ _ (some_of n) (h (g * n))
   where
-    first : (g : ℕ) → g * 0 ≡ 0
-    first g = omega arith
-
-    past : (g t : ℕ) → 0 < g → g * suc t ≡ suc (g * t + (g - 1))
-    past g t p = omega (arith, p)
-
     some_of : (n : ℕ) → sum_to n (λ j. f (g * j)) ≤ℚ sum_to (g * n) f
-    some_of zero = le_of_eq _ _ (ap (λ m. f m) (first g) ∙ ap (λ m. sum_to m f) (sym (first g)))
-    some_of (suc t) = subst (λ m. sum_to t (λ j. f (g * j)) +ℚ f m ≤ℚ sum_to m f) (sym (past g t pos))
-        (plus_le_both _ _ _ _ (le_trans _ _ _ (some_of t) (sum_to_grows (g * t) (g * t + (g - 1)) f (omega arith)))
-        (le_refl _))
+    some_of zero =
+        let first : g * 0 ≡ 0 = omega arith in
+        rw first (le_refl _)
+    some_of (suc t) =
+        let past : g * suc t ≡ suc (g * t + (g - 1)) = omega (arith, pos) in
+        rw past (grw (order, some_of t, sum_to_grows (g * t) (g * t + (g - 1)) f (omega arith)))
 
 -- ---- a severity
 
@@ -123,9 +89,6 @@ no_amount sev g j is p = ap (λ k. k over sev.total)
 no_multiple : (g d y m : ℕ) → d ≡ g → ¬ (g ∣ y) → y ≢ m * d
 no_multiple g d y m is p e = p (subst (λ k. g ∣ k) (sym (e ∙ ap (λ d. m * d) is)) (dvd-mul_left g m))
 
-turned : (t g : ℕ) → t * g ≡ g * t
-turned t g = omega arith
-
 -- a grid that encloses the sums of the amounts over g at its multiples of g, and has the low end 0 between them
 pub multiples_enclose : (sev : Sev) (w : ℕ → Fraction) (g S n rows : ℕ) (lo hi : ℕ → ℕ)
     → common_amount sev.items ≡ g → 0 < g → 0 < S → n ≤ g * rows
@@ -138,19 +101,13 @@ multiples_enclose sev w g S n rows lo hi is pos scale far none H y within =
     elim (dec_dvd g y) [
       | yes p ↦
           let t = y / g in
-          let e : g * t ≡ y = sym (multiple_of g y p ∙ turned t g) in
+          let e : g * t ≡ y = omega (arith, multiple_of g y p) in
           let h = H t (lt_of_mul-lt-mul_left g (omega (arith, within, far, e))) in
-          subst (λ s. Holds (cell w f s) (λ N. sum_to N w) (lo s over S) (hi s over S)) e (
-            (λ N u b. h.0 N u (λ m. subst (λ x. x ≤ℚ u) (cell_of_multiples f g pos off w t m) (b m))),
-            (λ N u b. subst (λ x. x ≤ℚ hi (g * t) over S *ℚ u) (sym (cell_of_multiples f g pos off w t N)) (h.1 N u b)),
-          )
+          subst (λ s. Holds (cell w f s) (λ N. sum_to N w) (lo s over S) (hi s over S)) e
+          (subst (λ Q. Holds Q (λ N. sum_to N w) (lo (g * t) over S) (hi (g * t) over S))
+          (sym (fun_ext (cell_of_multiples f g pos off w t))) h)
       | no p ↦ (
-        (λ N u b. le_trans _ _ _
-            (le_of_eq _ _ (ap (λ k. k over S *ℚ sum_to N w) (none y p) ∙ ap (λ x. x *ℚ sum_to N w) (over_zero S scale)
-            ∙ zero_times _))
-            (zero_le u)),
-        (λ N u b. le_trans _ _ _
-            (le_of_eq _ _ (no_cell_between sev w y N (λ m. no_multiple g (common_amount sev.items) y m is p)))
-            (zero_le _)),
+        λ N u b. rw (none y p, over_zero S scale, zero_times) (zero_le u),
+        λ N u b. rw (no_cell_between sev w y N (λ m. no_multiple g (common_amount sev.items) y m is p)) (zero_le _),
       )
     ]

@@ -1,10 +1,7 @@
 -- The tail mean from the excess at the low end of the bracket.
-use Rattle.dl_model.proofs.Common.{◌≡◌, inl, inr, ℕ, ◌+◌, ◌-◌, ◌<◌, ◌≤◌, min, arith, sym, ap, subst, subst₂, ◌∙◌, List, sum, Some, None, fun_ext, Fraction, whole, ◌+ℚ◌, ◌-ℚ◌, ◌*ℚ◌, ◌/ℚ◌, ◌≤ℚ◌, ◌<ℚ◌, ring, times_one, one_times, plus_comm, plus_assoc, zero_plus, whole_plus, le_refl, le_trans, le_of_lt, lt_or_le, lt_not_le, plus_le_cancel, plus_le_both, le_plus, sub_plus, plus_cancel, div_times, times_plus, times_le_both, whole_le, Series, IsBound, Rises, AtMost, AtLeast, Holds, plus, Loss, AreDeclarable, One, Cdf, Layer, Tail, score, sum_over_outcomes, partial_sums, above, survival, IsQuantile}
-use Rattle.dl_exact.proofs.Sums.{sum_below_constant}
-use Rattle.dl_exact.proofs.Orders.{plus_swap, times_swap}
-use Rattle.dl_model.proofs.Declared.{self_holds, holds_plus, at_most_wider, at_least_wider, scaled}
-use Rattle.dl_model.proofs.Complements.{at_least_rest}
-use Rattle.dl_model.proofs.Minus.{at_most_rest, at_least_minus, at_most_minus}
+use Rattle.dl_model.proofs.Common.{◌≡◌, inl, inr, ℕ, ◌+◌, ◌-◌, ◌<◌, ◌≤◌, min, arith, sym, ap, subst, subst₂, ◌∙◌, List, sum, Some, None, fun_ext, Fraction, whole, ◌+ℚ◌, ◌-ℚ◌, ◌*ℚ◌, ◌/ℚ◌, ◌≤ℚ◌, ◌<ℚ◌, ring, one_times, plus_comm, plus_assoc, zero_plus, whole_plus, le_refl, le_trans, le_of_lt, lt_or_le, lt_not_le, plus_le_cancel, plus_le_both, le_plus, sub_plus, plus_cancel, div_times, whole_le, Series, IsBound, Rises, AtMost, AtLeast, Holds, Loss, AreDeclarable, One, Cdf, Layer, Tail, score, partial_sums, above, survival, IsQuantile, sum_below_constant, plus_swap, times_swap, cases_lt, plus_zero, times_zero, order}
+use Rattle.dl_model.proofs.ChangedZero.{sub_zero}
+use Rattle.dl_model.proofs.ValueLaws.{at_most_wider, at_least_wider, times_self, at_most_plus, scaled_rises, at_least_plus, scaled_most, scaled_least, at_least_rest, at_most_rest, at_least_minus, at_most_minus}
 use Rattle.dl_model.proofs.Outcomes.{outcomes_same, outcomes_plus, outcomes_rise}
 use Rattle.dl_model.proofs.Scores.{survival_rest, cdf_rest, layer_survivals}
 use Rattle.dl_model.proofs.TailScores.{tail_excess}
@@ -53,101 +50,188 @@ module _ (us : List Loss) (w : AreDeclarable us) where
 pub lt_plus : (x y : Fraction) → whole 0 <ℚ y → x <ℚ x +ℚ y
 lt_plus x y h = elim (lt_or_le x (x +ℚ y)) [
   | inl l ↦ l
-  | inr l ↦ absurd (lt_not_le _ _ h (plus_le_cancel y (whole 0) x
-      (subst₂ (λ s t. s ≤ℚ t) (plus_comm x y) (sym (zero_plus x)) l)))
+  | inr l ↦ absurd (lt_not_le _ _ h (plus_le_cancel y (whole 0) x (rw (zero_plus, plus_comm y) l)))
 ]
 
 pub rest_is : (p r : Fraction) → p +ℚ r ≡ whole 1 → whole 1 -ℚ p ≡ r
 rest_is p r e =
     plus_cancel (whole 1 -ℚ p) r p (sub_plus (whole 1) p (subst (λ t. p ≤ℚ t) e (le_plus p r)) ∙ sym e ∙ plus_comm p r)
 
+-- ---- the tail mean at every whole number
+
+module _ (us : List Loss) (w : AreDeclarable us) (p r v : Fraction) (bound : IsBound (partial_sums us One) v)
+    (pr : p +ℚ r ≡ whole 1) (rp : whole 0 <ℚ r) where
+  abbrev A : Series
+  A = partial_sums us One
+
+  abbrev E : ℕ → Series
+  E q = partial_sums us (Layer None q)
+
+  abbrev W : ℕ → ℕ → Series
+  W k q = partial_sums us (Layer (Some k) q)
+
+  abbrev c : Fraction
+  c = whole 1 /ℚ r
+
+  abbrev tail : ℕ → Series
+  tail q = partial_sums us (Tail p q)
+
+  tail_is : (q N : ℕ) → tail q N ≡ whole q *ℚ A N +ℚ c *ℚ E q N
+  tail_is q N = tail_excess us p q N (subst (λ t. p <ℚ t) pr (lt_plus p r rp))
+      ∙ ap (λ t. whole q *ℚ A N +ℚ whole 1 /ℚ t *ℚ E q N) (rest_is p r pr)
+
+  tail_rises : (q : ℕ) → Rises (tail q)
+  tail_rises q = outcomes_rise us w (score (Tail p q))
+
+  abbrev layer_c : ℕ → ℕ → Series
+  layer_c k q N = c *ℚ W k q N
+
+  over_r : (k : Fraction) → c *ℚ (k *ℚ r) ≡ k
+  over_r k = times_swap c k r ∙ ap (λ t. t *ℚ k) (div_times (whole 1) r rp) ∙ one_times k
+
+  abbrev whole_part : ℕ → Series
+  whole_part k N = whole k *ℚ A N
+
+  -- from q to q + k
+  steps : (q k N : ℕ) → tail q N +ℚ whole_part k N ≡ tail (q + k) N +ℚ layer_c k q N
+  steps q k N =
+      ap (λ t. t +ℚ whole k *ℚ A N) (tail_is q N ∙ ap (λ t. whole q *ℚ A N +ℚ c *ℚ t) (sym (excess_split us q k N)))
+      ∙ (simp ring)
+      ∙ sym (ap (λ t. t +ℚ c *ℚ W k q N) (tail_is (q + k) N
+      ∙ ap (λ t. t *ℚ A N +ℚ c *ℚ E (q + k) N) (whole_plus q k)))
+
+  -- below the quantile at least r lies above
+  layer_low : (q k : ℕ) → ((x : ℕ) → q ≤ x → x < q + k → AtMost (partial_sums us (Cdf x)) A p)
+      → AtLeast (layer_c k q) A (whole k)
+  layer_low q k below = subst (AtLeast (layer_c k q) A) (over_r (whole k)) (scaled_least c (W k q) A (whole k *ℚ r)
+      (layer_least us w k q r (λ x i j. above_least us w x p r v bound pr (below x i j))))
+
+  tail_down : (q k : ℕ) (m : Fraction) → ((x : ℕ) → q ≤ x → x < q + k → AtMost (partial_sums us (Cdf x)) A p)
+      → AtLeast (tail (q + k)) A m → AtLeast (tail q) A m
+  tail_down q k m below a =
+      at_least_minus (tail q) (whole_part k) A m (whole k) v (outcomes_rise us w (score One)) bound
+      (subst (λ Q. AtLeast Q A (m +ℚ whole k)) (sym (fun_ext (steps q k)))
+      (at_least_plus (tail (q + k)) (layer_c k q) A m (whole k) (tail_rises (q + k))
+      (scaled_rises c (W k q) (outcomes_rise us w _)) a (layer_low q k below))) (times_self (whole k) A).1
+
+  tail_past : (q k : ℕ) (m : Fraction) → ((x : ℕ) → q ≤ x → x < q + k → AtMost (partial_sums us (Cdf x)) A p)
+      → AtMost (tail q) A m → AtMost (tail (q + k)) A m
+  tail_past q k m below a =
+      at_most_minus (tail (q + k)) (layer_c k q) A m (whole k) (tail_rises (q + k))
+      (scaled_rises c (W k q) (outcomes_rise us w _)) (subst (λ Q. AtMost Q A (m +ℚ whole k)) (fun_ext (steps q k))
+      (at_most_plus (tail q) (whole_part k) A m (whole k) a (times_self (whole k) A).1)) (layer_low q k below)
+
+  -- past the quantile, where at most r + s lies above
+  tail_up : (q k : ℕ) (m s : Fraction)
+      → ((x : ℕ) → q ≤ x → x < q + k → AtLeast (partial_sums us (Cdf x)) A (p -ℚ s))
+      → AtLeast (tail q) A (m +ℚ whole k *ℚ (c *ℚ s)) → AtLeast (tail (q + k)) A m
+  tail_up q k m s near a =
+      let lay : AtMost (layer_c k q) A (whole k *ℚ (c *ℚ s) +ℚ whole k) =
+      subst (AtMost (λ N. c *ℚ W k q N) A) ((simp ring)
+      ∙ ap (λ t. whole k *ℚ (c *ℚ s) +ℚ t) (over_r (whole k)))
+      (scaled_most c (W k q) A (whole k *ℚ (r +ℚ s))
+      (layer_most us w k q (r +ℚ s) (λ x i j. above_most us w x p r s pr (near x i j)))) in
+      at_least_minus (tail (q + k)) (layer_c k q) A m (whole k *ℚ (c *ℚ s) +ℚ whole k) v
+      (outcomes_rise us w (score One)) bound
+      (subst₂ (λ Q t. AtLeast Q A t) (fun_ext (steps q k)) (plus_assoc _ _ _)
+      (at_least_plus (tail q) (whole_part k) A (m +ℚ whole k *ℚ (c *ℚ s)) (whole k) (tail_rises q)
+      (scaled_rises (whole k) A (outcomes_rise us w _)) a (times_self (whole k) A).0)) lay
+
+  -- ---- where the distribution reaches p
+
+  cdf_past : (x b : ℕ) → b ≤ x → AtLeast (partial_sums us (Cdf b)) A p
+      → AtLeast (partial_sums us (Cdf x)) A (p -ℚ whole 0)
+  cdf_past x b h a n u e = rw (sub_zero p) (a n u (λ m. le_trans _ _ _ (cdf_grows us b x m h) (e m)))
+
+  none_open : (k : ℕ) (m : Fraction) → m +ℚ whole k *ℚ (c *ℚ whole 0) ≡ m
+  none_open k m = simp (times_zero, plus_zero)
+
+  from_reached : (b q : ℕ) (m : Fraction) → b ≤ q → AtLeast (partial_sums us (Cdf b)) A p → AtLeast (tail b) A m
+      → AtLeast (tail q) A m
+  from_reached b q m h reached a = subst (λ t. AtLeast (tail t) A m) (omega arith)
+      (tail_up b (q - b) m (whole 0) (λ x i j. cdf_past x b i reached)
+      (subst (AtLeast (tail b) A) (sym (none_open (q - b) m)) a))
+
+  from_below : (a q : ℕ) (m : Fraction) → q ≤ a → ((x : ℕ) → x < a → AtMost (partial_sums us (Cdf x)) A p)
+      → AtLeast (tail a) A m → AtLeast (tail q) A m
+  from_below a q m h below e =
+      let same : a ≡ q + (a - q) = omega arith in
+      tail_down q (a - q) m (λ x i j. below x (omega arith)) (subst (λ t. AtLeast (tail t) A m) same e)
+
+  below_quantile : (q₀ x : ℕ) → IsQuantile (partial_sums us) q₀ p → x < q₀ → AtMost (partial_sums us (Cdf x)) A p
+  below_quantile q₀ x is h =
+      let k = is.before (q₀ - 1) (omega arith) in
+      at_most_wider (partial_sums us (Cdf x)) A k.0 p
+      (λ n u b. le_trans _ _ _ (cdf_grows us x (q₀ - 1) n (omega arith)) (k.2 n u b)) (le_of_lt _ _ k.1)
+
+  pub tail_at_quantile : (q₀ q : ℕ) (m : Fraction) → IsQuantile (partial_sums us) q₀ p
+      → AtLeast (partial_sums us (Tail p q₀)) A m → AtLeast (partial_sums us (Tail p q)) A m
+  tail_at_quantile q₀ q m is a = elim (cases_lt q q₀) [
+    | inl few ↦ from_below q₀ q m (omega arith) (λ x h. below_quantile q₀ x is h) a
+    | inr more ↦ from_reached q₀ q m more is.reached a
+  ]
+
+  -- at the low end of a bracket, from the excess there
+  excess_least : (a : ℕ) (l : Fraction) → AtLeast (E a) A l → AtLeast (tail a) A (whole a +ℚ c *ℚ l)
+  excess_least a l x = subst (λ Q. AtLeast Q A (whole a +ℚ c *ℚ l)) (sym (fun_ext (tail_is a)))
+      (at_least_plus (whole_part a) (λ N. c *ℚ E a N) A (whole a) (c *ℚ l)
+      (scaled_rises (whole a) A (outcomes_rise us w _)) (scaled_rises c (E a) (outcomes_rise us w _))
+      (times_self (whole a) A).0 (scaled_least c (E a) A l x))
+
+  excess_most : (a : ℕ) (h : Fraction) → AtMost (E a) A h → AtMost (tail a) A (whole a +ℚ c *ℚ h)
+  excess_most a h x = subst (λ Q. AtMost Q A (whole a +ℚ c *ℚ h)) (sym (fun_ext (tail_is a)))
+      (at_most_plus (whole_part a) (λ N. c *ℚ E a N) A (whole a) (c *ℚ h) (times_self (whole a) A).1
+      (scaled_most c (E a) A h x))
+
+  tail_inside : (a b q : ℕ) (s l m : Fraction) → a ≤ q → q ≤ b
+      → ((x : ℕ) → a ≤ x → x < b → AtLeast (partial_sums us (Cdf x)) A (p -ℚ s)) → AtLeast (E a) A l
+      → m +ℚ whole (b - a) *ℚ (c *ℚ s) ≤ℚ whole a +ℚ c *ℚ l → AtLeast (tail q) A m
+  tail_inside a b q s l m aq qb near excess room = subst (λ t. AtLeast (tail t) A m) (omega arith)
+      (tail_up a (q - a) m s (λ x i j. near x i (omega arith))
+      (at_least_wider (tail a) A (whole a +ℚ c *ℚ l) (m +ℚ whole (q - a) *ℚ (c *ℚ s)) (excess_least a l excess)
+      (grw (order, whole_le (q - a) (b - a) (omega arith)) room)))
+
+  -- q itself is a low end
+  tail_whole : (q : ℕ) → AtLeast (tail q) A (whole q)
+  tail_whole q n u b = (times_self (whole q) A).0 n u (λ m. le_trans _ _ _
+      (subst (λ t. whole q *ℚ A m ≤ℚ t) (sym (tail_is q m)) (le_plus (whole q *ℚ A m) (c *ℚ E q m))) (b m))
+
+  module _ (a : ℕ) (below : (x : ℕ) → x < a → AtMost (partial_sums us (Cdf x)) A p) where
+    pub tail_start : (q : ℕ) → AtLeast (partial_sums us (Tail p q)) A (whole a)
+    tail_start q = elim (cases_lt q a) [
+      | inl few ↦ from_below a q (whole a) (omega arith) below (tail_whole a)
+      | inr more ↦ at_least_wider (tail q) A (whole q) (whole a) (tail_whole q) (whole_le a q more)
+    ]
+
+    pub tail_bracket : (b : ℕ) (s l m : Fraction) → a ≤ b
+        → ((x : ℕ) → a ≤ x → x < b → AtLeast (partial_sums us (Cdf x)) A (p -ℚ s))
+        → AtLeast (partial_sums us (Cdf b)) A p → AtLeast (partial_sums us (Layer None a)) A l
+        → m +ℚ whole (b - a) *ℚ (whole 1 /ℚ r *ℚ s) ≤ℚ whole a +ℚ whole 1 /ℚ r *ℚ l
+        → (q : ℕ) → AtLeast (partial_sums us (Tail p q)) A m
+    tail_bracket b s l m ab near reached excess room q =
+        let inside : (x : ℕ) → a ≤ x → x ≤ b → AtLeast (tail x) A m =
+        λ x i j. tail_inside a b x s l m i j near excess room in
+        elim (cases_lt q a) [
+          | inl few ↦ from_below a q m (omega arith) below (inside a (omega arith) ab)
+          | inr more ↦ elim (cases_lt b q) [
+            | inl past ↦ from_reached b q m (omega arith) reached (inside b ab (omega arith))
+            | inr in_bracket ↦ inside q more in_bracket
+          ]
+        ]
+
+-- ---- at the quantile
+
 module _ (us : List Loss) (p r s v : Fraction) (a b q : ℕ) (proper : AreDeclarable us)
     (bound : IsBound (partial_sums us One) v)
     (pr : p +ℚ r ≡ whole 1) (rp : whole 0 <ℚ r) (isq : IsQuantile (partial_sums us) q p) (aq : a ≤ q) (qb : q ≤ b)
     (near : (x : ℕ) → a ≤ x → x < b → AtLeast (partial_sums us (Cdf x)) (partial_sums us One) (p -ℚ s))
     (l₀ h₀ : Fraction) (ex : Holds (partial_sums us (Layer None a)) (partial_sums us One) l₀ h₀) where
-  -- the tail mean, the layer from a to q, and the layer above a
-  abbrev T : Series
-  T = partial_sums us (Tail p q)
-
-  abbrev W : Series
-  W = partial_sums us (Layer (Some (q - a)) a)
-
-  abbrev L : Series
-  L = partial_sums us (Layer None a)
-
-  abbrev O : Series
-  O = partial_sums us One
-
-  abbrev c : Fraction
-  c = whole 1 /ℚ r
-
-  below : (x : ℕ) → x < q → AtMost (partial_sums us (Cdf x)) O p
-  below x h =
-      let k = isq.before (q - 1) (omega arith) in
-      at_most_wider (partial_sums us (Cdf x)) O k.0 p
-      (λ n u b. le_trans _ _ _ (cdf_grows us x (q - 1) n (omega arith)) (k.2 n u b)) (le_of_lt _ _ k.1)
-
-  tails : (N : ℕ) → plus T (λ N. c *ℚ W N) N ≡ plus (λ N. whole q *ℚ O N) (λ N. c *ℚ L N) N
-  tails N =
-      let e : T N ≡ whole q *ℚ O N +ℚ c *ℚ partial_sums us (Layer None q) N =
-      tail_excess us p q N (subst (λ t. p <ℚ t) pr (lt_plus p r rp))
-      ∙ ap (λ t. whole q *ℚ O N +ℚ whole 1 /ℚ t *ℚ partial_sums us (Layer None q) N) (rest_is p r pr) in
-      let qa : a + (q - a) ≡ q = omega arith in
-      let f : partial_sums us (Layer None q) N +ℚ W N ≡ L N =
-      ap (λ k. partial_sums us (Layer None k) N +ℚ W N) (sym qa) ∙ excess_split us a (q - a) N in
-      ap (λ t. t +ℚ c *ℚ W N) e ∙ plus_assoc _ _ _
-      ∙ ap (λ t. whole q *ℚ O N +ℚ t) (sym (times_plus c _ _) ∙ ap (λ t. c *ℚ t) f)
-
-  rise : (k : Fraction) (value : List ℕ → Fraction) → Rises (λ N. k *ℚ sum_over_outcomes us value N)
-  rise k value N = times_le_both k k _ _ (le_refl k) (outcomes_rise us proper value N)
-
-  all : Holds (plus T (λ N. c *ℚ W N)) O (whole q +ℚ c *ℚ l₀) (whole q +ℚ c *ℚ h₀)
-  all = subst (λ Q. Holds Q O (whole q +ℚ c *ℚ l₀) (whole q +ℚ c *ℚ h₀)) (sym (fun_ext tails))
-      (holds_plus (λ N. whole q *ℚ O N) (λ N. c *ℚ L N) O (whole q) (c *ℚ l₀) (whole q) (c *ℚ h₀)
-      (rise (whole q) (score One)) (rise c (score (Layer None a)))
-      (subst (λ t. Holds (λ N. whole q *ℚ O N) O t t) (times_one (whole q))
-      (scaled (whole q) O O (whole 1) (whole 1) (self_holds O)))
-      (scaled c L O l₀ h₀ ex))
-
-  -- from a to q the distribution is within s of p
-  lay : Holds (λ N. c *ℚ W N) O (whole (q - a)) (whole (q - a) *ℚ (c *ℚ s) +ℚ whole (q - a))
-  lay = subst₂ (Holds (λ N. c *ℚ W N) O) over_r (turn c (whole (q - a)) r s
-      ∙ ap (λ t. whole (q - a) *ℚ (c *ℚ s) +ℚ t) over_r)
-      (scaled c W O (whole (q - a) *ℚ r) (whole (q - a) *ℚ (r +ℚ s)) (
-        layer_least us proper (q - a) a r (λ x i j. above_least us proper x p r v bound pr (below x (omega arith))),
-        layer_most us proper (q - a) a (r +ℚ s) (λ x i j. above_most us proper x p r s pr (near x i (omega arith))),
-      ))
-    where
-      over_r : c *ℚ (whole (q - a) *ℚ r) ≡ whole (q - a)
-      over_r = times_swap c (whole (q - a)) r ∙ ap (λ t. t *ℚ whole (q - a)) (div_times (whole 1) r rp) ∙ one_times _
-
-      turn : (x y z w : Fraction) → x *ℚ (y *ℚ (z +ℚ w)) ≡ y *ℚ (x *ℚ w) +ℚ x *ℚ (y *ℚ z)
-      turn x y z w = simp ring
-
-  split : (k : Fraction) → whole q +ℚ k ≡ whole a +ℚ k +ℚ whole (q - a)
-  split k = ap (λ t. t +ℚ k) (ap whole (omega arith) ∙ whole_plus a (q - a)) ∙ turn (whole a) (whole (q - a)) k
-    where
-      turn : (x y z : Fraction) → x +ℚ y +ℚ z ≡ x +ℚ z +ℚ y
-      turn x y z = simp ring
-
   pub tail_most : AtMost (partial_sums us (Tail p q)) (partial_sums us One) (whole a +ℚ whole 1 /ℚ r *ℚ h₀)
-  tail_most = at_most_minus T (λ N. c *ℚ W N) O (whole a +ℚ c *ℚ h₀) (whole (q - a))
-      (outcomes_rise us proper (score (Tail p q))) (rise c (score (Layer (Some (q - a)) a)))
-      (subst (AtMost (plus T (λ N. c *ℚ W N)) O) (split _) all.1) lay.0
-
-  pub tail_least : (l : Fraction) → l +ℚ whole (b - a) *ℚ (whole 1 /ℚ r *ℚ s) ≤ℚ whole a +ℚ whole 1 /ℚ r *ℚ l₀
-      → AtLeast (partial_sums us (Tail p q)) (partial_sums us One) l
-  tail_least l h =
-      let m : whole (q - a) *ℚ (c *ℚ s) ≤ℚ whole (b - a) *ℚ (c *ℚ s) =
-      times_le_both _ _ _ _ (whole_le (q - a) (b - a) (omega arith)) (le_refl _) in
-      let g : l +ℚ (whole (q - a) *ℚ (c *ℚ s) +ℚ whole (q - a)) ≤ℚ whole q +ℚ c *ℚ l₀ =
-      subst₂ (λ x y. x ≤ℚ y) (plus_assoc _ _ _) (sym (split (c *ℚ l₀)))
-      (plus_le_both _ _ _ _ (le_trans _ _ _ (plus_le_both _ _ _ _ (le_refl l) m) h) (le_refl (whole (q - a)))) in
-      at_least_minus T (λ N. c *ℚ W N) O l (whole (q - a) *ℚ (c *ℚ s) +ℚ whole (q - a)) v
-      (outcomes_rise us proper (score One)) bound
-      (at_least_wider (plus T (λ N. c *ℚ W N)) O (whole q +ℚ c *ℚ l₀) _ all.0 g) lay.1
+  tail_most = subst (λ t. AtMost (partial_sums us (Tail p t)) (partial_sums us One) (whole a +ℚ whole 1 /ℚ r *ℚ h₀))
+      (omega arith) (tail_past us proper p r v bound pr rp a (q - a) (whole a +ℚ whole 1 /ℚ r *ℚ h₀)
+      (λ x i j. below_quantile us proper p r v bound pr rp q x isq (omega arith))
+      (excess_most us proper p r v bound pr rp a h₀ ex.1))
 
   pub tail_ends : (l : Fraction) → l +ℚ whole (b - a) *ℚ (whole 1 /ℚ r *ℚ s) ≤ℚ whole a +ℚ whole 1 /ℚ r *ℚ l₀
       → Holds (partial_sums us (Tail p q)) (partial_sums us One) l (whole a +ℚ whole 1 /ℚ r *ℚ h₀)
-  tail_ends l h = (tail_least l h, tail_most)
+  tail_ends l room = (tail_inside us proper p r v bound pr rp a b q s l₀ l aq qb near ex.0 room, tail_most)

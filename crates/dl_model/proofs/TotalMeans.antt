@@ -1,7 +1,6 @@
 -- The mean of a total is the sum of the means.
-use Rattle.dl_model.proofs.Common.{◌≡◌, ap₂, sym, subst, subst₂, List, [], ◌∷◌, fun_ext, Fraction, ◌+ℚ◌, ◌*ℚ◌, whole, times_one, one_times, Rises, Holds, plus, times, Loss, IsLoss, AreDeclarable, One, Mean, score, partial_sums, mean_to_reach}
-use Rattle.dl_model.proofs.Declared.{self_holds, holds_plus, holds_times}
-use Rattle.dl_model.proofs.FamilyLaws.{rises_times}
+use Rattle.dl_model.proofs.Common.{sym, subst, subst₂, List, [], ◌∷◌, fun_ext, Fraction, ◌+ℚ◌, whole, times_one, one_times, Rises, Holds, times, Loss, IsLoss, AreDeclarable, One, Mean, score, partial_sums, mean_to_reach}
+use Rattle.dl_model.proofs.ValueLaws.{self_holds, holds_plus, holds_times, rises_times}
 use Rattle.dl_model.proofs.Outcomes.{loss_proper, outcomes_rise, total_alone_all, total_more_all, mean_more, mean_alone}
 
 pub mean_of_total : (u : Loss) (us : List Loss) → IsLoss u → AreDeclarable us → (l h l' h' : Fraction)
@@ -25,7 +24,4 @@ mean_of_total u us is are l h l' h' v v' =
     left right in
     subst₂ (λ Q R. Holds Q R (l +ℚ l') (h +ℚ h')) (sym (fun_ext (mean_more u us is)))
     (sym (fun_ext (total_more_all u us is)))
-    (subst₂ (Holds (plus (times A O) (times W M)) (times W O)) (ends l l') (ends h h') both)
-  where
-    ends : (x y : Fraction) → x *ℚ whole 1 +ℚ whole 1 *ℚ y ≡ x +ℚ y
-    ends x y = ap₂ (λ s t. s +ℚ t) (times_one x) (one_times y)
+    (simp (times_one, one_times) at both)

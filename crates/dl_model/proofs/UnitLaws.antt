@@ -1,14 +1,8 @@
 -- The outcomes of a unit are a loss: up to the level times the greatest amount, where they make up its whole weight.
-use Rattle.dl_model.proofs.Common.{◌≡◌, inl, inr, ℕ, suc, ◌*◌, ◌<◌, nat_eq, arith, sym, ap, ◌∙◌, Bool, true, false, le_refl, cases_lt, Fraction, whole, ◌≤ℚ◌, sum_to, le_trans, sum_to_same, sum_to_swap, sum_to_le, sum_to_grows, sum_to_zero, cell, power, mapped, IsProper, IsLoss, Aggregate, IsDeclarable, loss, outcome, where_true, ◌*ℚ◌}
+use Rattle.dl_model.proofs.Common.{◌≡◌, inl, inr, ℕ, suc, ◌*◌, ◌<◌, nat_eq, arith, sym, ap, ◌∙◌, cases_lt, whole, sum_to, le_trans, sum_to_same, sum_to_swap, sum_to_le, sum_to_grows, sum_to_zero, cell, power, mapped, IsProper, IsLoss, Aggregate, IsDeclarable, loss, outcome, where_true, ◌*ℚ◌}
+use Rattle.dl_model.proofs.ValueLaws.{where_rises, pick, pick_none, off, passed, cell_past, cells_all, sum_rises_to}
 use Rattle.std.proofs.Math.Nat.{le_refl as le_refl_n}
-use Rattle.dl_model.proofs.Picks.{pick, pick_none, off, passed}
-use Rattle.dl_model.proofs.CompoundLaws.{cell_past, cells_all}
-use Rattle.dl_model.proofs.FamilyLaws.{sum_rises_to}
 use Rattle.dl_model.proofs.Outcomes.{loss_proper}
-
-where_le : (b : Bool) (c d : Fraction) → c ≤ℚ d → where_true b c ≤ℚ where_true b d
-where_le true c d h = h
-where_le false c d h = le_refl _
 
 module _ (u : Aggregate) (h : IsDeclarable u) where
   pub unit_within : (y N : ℕ) → N * u.most < y → outcome u y N ≡ whole 0
@@ -26,7 +20,7 @@ module _ (u : Aggregate) (h : IsDeclarable u) where
   unit_loss = record {
     cells_rise =
         λ y N. le_trans _ _ _ (sum_to_le (N * u.most) _ _
-        (λ s b. where_le (nat_eq (u.clause s) y) _ _ (sum_rises_to (λ n. u.count n *ℚ power u.severity n s) N)))
+        (λ s b. where_rises (nat_eq (u.clause s) y) _ (sum_rises_to (λ n. u.count n *ℚ power u.severity n s)) N))
         (sum_to_grows (N * u.most) (suc N * u.most) _ (omega arith));
     reach_rises = λ N. omega arith;
     past = unit_within;

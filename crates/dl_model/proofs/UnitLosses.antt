@@ -1,5 +1,5 @@
 -- The loss of a unit that can be declared: its mean, by what the clause makes of each sum, and that it can be declared.
-use Rattle.dl_model.proofs.Common.{◌≡◌, ℕ, ◌*◌, nat_eq, arith, sym, ◌∙◌, Fraction, ◌*ℚ◌, ◌≤ℚ◌, whole, sum_to, le_refl, le_trans, le_of_eq, times_le_both, whole_le, sum_to_same, sum_to_times, sum_to_swap, sum_to_le, cell, Aggregate, IsDeclarable, IsDeclared, IsDeclaredLoss, loss, where_true, mean_to_reach}
+use Rattle.dl_model.proofs.Common.{◌≡◌, ℕ, ◌*◌, nat_eq, arith, sym, ◌∙◌, Fraction, ◌*ℚ◌, ◌≤ℚ◌, whole, sum_to, le_trans, le_of_eq, whole_le, sum_to_same, sum_to_times, sum_to_swap, sum_to_le, cell, Aggregate, IsDeclarable, IsDeclared, IsDeclaredLoss, loss, where_true, mean_to_reach, order}
 use Rattle.std.proofs.Math.Nat.{le_refl as le_refl_n}
 use Rattle.dl_model.proofs.Picks.{passed, times_where}
 use Rattle.dl_model.proofs.UnitLaws.{unit_loss}
@@ -18,10 +18,8 @@ module _ (u : Aggregate) (h : IsDeclarable u) where
 
   pub unit_mean_le : (N : ℕ) → mean_to_reach (loss u) N ≤ℚ sum_to u.most
       (λ j. whole j *ℚ u.severity j) *ℚ sum_to N (λ n. whole n *ℚ u.count n)
-  unit_mean_le N =
-      le_trans _ _ _ (le_of_eq _ _ (clause_mean N))
-      (le_trans _ _ _ (sum_to_le (N * u.most) _ (λ s. whole s *ℚ cell u.count u.severity s N)
-      (λ s b. times_le_both _ _ _ _ (whole_le (u.clause s) s (h.clause s)) (le_refl _)))
+  unit_mean_le N = rw (clause_mean N) (le_trans _ _ _ (sum_to_le (N * u.most) _
+      (λ s. whole s *ℚ cell u.count u.severity s N) (λ s b. grw (order, whole_le (u.clause s) s (h.clause s))))
       (le_of_eq _ _ (cells_mean u.severity u.most h.severity u.count N (N * u.most) (le_refl_n _))))
 
 pub unit_declared_loss : (u : Aggregate) → IsDeclared u → IsDeclaredLoss (loss u)
@@ -33,6 +31,5 @@ unit_declared_loss u h = record {
   positive = h.count.positive;
   settles = h.count.settles;
   mean_bound = sum_to u.most (λ j. whole j *ℚ u.severity j) *ℚ h.count.mean_bound;
-  mean_bounded = λ N. le_trans _ _ _ (unit_mean_le u h.unit N)
-      (times_le_both _ _ _ _ (le_refl _) (h.count.mean_bounded N));
+  mean_bounded = λ N. le_trans _ _ _ (unit_mean_le u h.unit N) (grw (order, h.count.mean_bounded N));
 }

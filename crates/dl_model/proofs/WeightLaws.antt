@@ -1,10 +1,7 @@
 -- Probabilities from whole weights: none past the greatest number, and 1 in all.
-use Rattle.dl_model.proofs.Common.{ℕ, ◌≡◌, ◌+◌, ◌<◌, ◌≤◌, zero, suc, arith, refl, sym, ap, ◌∙◌, List, [], ◌∷◌, length, inl, inr, if◌then◌else◌, ◌==◌, cases_lt, sum_by-cons, ◌≤ℚ◌, whole, sum_to, over_same, over_le, one_pos, le_trans, le_of_eq, Item, weight_at, weight_sum, greatest, probability_at, equally_likely}
-use Rattle.std.specs.Prelude.{count_by}
-use Rattle.std.specs.Int.{sum_through}
+use Rattle.dl_model.proofs.Common.{ℕ, ◌≡◌, ◌+◌, ◌<◌, ◌≤◌, zero, suc, arith, refl, sym, ap, ◌∙◌, List, [], ◌∷◌, length, inl, inr, if◌then◌else◌, ◌==◌, sum_by-cons, ◌≤ℚ◌, whole, sum_to, over_same, over_le, one_pos, Item, weight_at, weight_sum, greatest, probability_at, equally_likely, count_by, sum_through, sum_to_over, le_ind, fun_ext}
 use Rattle.std.proofs.lemmas.Bool.{eq-eqb, ne_eqb}
 use Rattle.std.proofs.lemmas.Bool.Decides.{eqb_tells}
-use Rattle.dl_exact.proofs.SumsOver.{sum_to_over}
 
 -- the weight that an item gives to x
 abbrev pub part_of : ℕ → Item → ℕ
@@ -35,10 +32,6 @@ weight_at-past (item ∷ items) x h =
 
 -- ---- sums of the weights
 
-sum_through_same : (n : ℕ) (f g : ℕ → ℕ) → ((k : ℕ) → f k ≡ g k) → sum_through f n ≡ sum_through g n
-sum_through_same zero f g h = h 0
-sum_through_same (suc n) f g h = omega (arith, sum_through_same n f g h, h (suc n))
-
 sum_through_add : (n : ℕ) (f g : ℕ → ℕ) → sum_through (λ k. f k + g k) n ≡ sum_through f n + sum_through g n
 sum_through_add zero f g = refl
 sum_through_add (suc n) f g = omega (arith, sum_through_add n f g)
@@ -55,17 +48,11 @@ one_within v w (suc n) h = elim (eqb_tells v (suc n)) [
   | inr p ↦ rw p.0 (omega (arith, one_within v w n (omega (arith, p.1))))
 ]
 
-one_weight : (v w n : ℕ) → sum_through (λ x. if v == x then w else 0) n ≤ w
-one_weight v w n = elim (cases_lt n v) [
-  | inl h ↦ omega (arith, none_before v w n h)
-  | inr h ↦ omega (arith, one_within v w n h)
-]
-
 -- the weights of the places up to n, of one more item
 weights-cons : (item : Item) (items : List Item) (n : ℕ) → sum_through (weight_at (item ∷ items)) n
     ≡ sum_through (λ x. part_of x item) n + sum_through (weight_at items) n
 weights-cons item items n =
-    sum_through_same n _ (λ x. (part_of x item) + weight_at items x) (weight_at-cons item items)
+    ap (λ f. sum_through f n) (fun_ext (weight_at-cons item items))
     ∙ sum_through_add n (λ x. part_of x item) (weight_at items)
 
 no_weights : (n : ℕ) → sum_through (weight_at []) n ≡ 0
@@ -73,27 +60,18 @@ no_weights zero = refl
 no_weights (suc n) = omega (arith, no_weights n)
 
 -- places up to n have at most all weight, and all of it from the greatest number on
-pub weights_le : (items : List Item) (n : ℕ) → sum_through (weight_at items) n ≤ weight_sum items
-weights_le [] n = omega (arith, no_weights n)
-weights_le (item ∷ items) n =
-    omega (
-      arith,
-      weights-cons item items n,
-      weight_sum-cons item items,
-      one_weight item.amount item.weight n,
-      weights_le items n,
-    )
-
 pub weights_all : (items : List Item) (n : ℕ) → greatest items ≤ n → sum_through (weight_at items) n ≡ weight_sum items
 weights_all [] n h = no_weights n
-weights_all (item ∷ items) n h =
-    omega (
-      arith,
-      weights-cons item items n,
-      weight_sum-cons item items,
-      one_within item.amount item.weight n (omega arith),
-      weights_all items n (omega arith),
-    )
+weights_all (item ∷ items) n h = rw (weights-cons item items n, weight_sum-cons item items)
+    (omega (arith, one_within item.amount item.weight n (omega arith), weights_all items n (omega arith)))
+
+pub weights_le : (items : List Item) (n : ℕ) → sum_through (weight_at items) n ≤ weight_sum items
+weights_le items n =
+    let m = n + greatest items in
+    let more : sum_through (weight_at items) n ≤ sum_through (weight_at items) m =
+    le_ind {n = n} (λ k. sum_through (weight_at items) n ≤ sum_through (weight_at items) k) (omega arith)
+    (λ k _ h. omega (arith, h)) m (omega arith) in
+    omega (arith, more, weights_all items m (omega arith))
 
 -- ---- probabilities
 
@@ -108,19 +86,16 @@ probabilities_all items n pos h =
     ∙ over_same _ _ 1 1 pos one_pos (omega (arith, weights_all items n h))
 
 pub probabilities_le : (items : List Item) (n : ℕ) → 0 < weight_sum items → sum_to n (probability_at items) ≤ℚ whole 1
-probabilities_le items n pos = le_trans _ _ _
-    (le_of_eq _ _ (sum_to_over n (weight_sum items) (weight_at items) pos))
+probabilities_le items n pos = rw (sum_to_over n (weight_sum items) (weight_at items) pos)
     (over_le _ _ 1 1 pos one_pos (omega (arith, weights_le items n)))
 
 -- ---- numbers that are equally likely
 
 pub equal_total : (values : List ℕ) → weight_sum (equally_likely values) ≡ length values
 equal_total [] = refl
-equal_total (v ∷ values) = omega (
-  arith,
-  weight_sum-cons (record { amount = v; weight = 1 }) (equally_likely values),
-  equal_total values,
-)
+equal_total (v ∷ values) =
+    let item : Item = record { amount = v; weight = 1 } in
+    omega (arith, weight_sum-cons item (equally_likely values), equal_total values)
 
 pub equal_weight : (values : List ℕ) (x : ℕ)
     → weight_at (equally_likely values) x ≡ count_by (λ v. v == x) values

@@ -14,6 +14,7 @@ ghost use Rattle.dl_model.specs.ChangedZero.{without_none, with_none, changed, c
 
 /// No claim comes to 0: so compound sums have the weight of no claim at 0, beside the part from at
 /// least one claim, also after an aggregate clause that maps 0 to 0.
+#[tactic(auto, using(crate::proofs::ChangedZero::compound_with_none, crate::proofs::ChangedZero::clause_with_none))]
 pub fn law_with_none()
     ensures compound { (w f : ℕ → Fraction) (y : ℕ)
         → IsWithNone y (w 0) (cell w f y) (λ N. sum_to N w) (cell (without_none w) f y)
@@ -29,6 +30,7 @@ pub fn law_with_none()
 
 /// The outcomes with the probability `p` of no claim never fall, add up to the whole weight of at
 /// least one claim where its parts do, and have `1 - p` times the mean of these parts.
+#[tactic(auto, using(crate::proofs::ChangedZero::with_none_rises, crate::proofs::ChangedZero::with_none_all, crate::proofs::ChangedZero::with_none_mean))]
 pub fn law_changed_outcomes()
     ensures rises { (p : Fraction) (y : ℕ) (part rest : Series) → Rises part → Rises rest
         → Rises (with_none p y part rest) }

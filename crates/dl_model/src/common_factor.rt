@@ -17,12 +17,14 @@ ghost use Rattle.dl_model.specs.CommonFactor.{PoissonUnit, expected_claims, comm
 
 /// The binomial law of divided powers: the divided power of a sum of two is the sum, over all
 /// splits of `n` into `j + k`, of the convolutions of the divided powers of the parts.
+#[tactic(auto, using(crate::proofs::Divided::divided_plus))]
 pub fn law_divided_powers()
     ensures { (f g : ℕ → Fraction) (n s : ℕ) → divided_power (λ j. f j +ℚ g j) n s
         ≡ sum_pairs n (λ j k. convolve (divided_power f j) (divided_power g k) s) }
 {}
 
 /// The quantities that a list of outcomes counts for by its total alone.
+#[tactic(auto, using(crate::proofs::Pooled::total_point, crate::proofs::Pooled::total_cdf, crate::proofs::Pooled::total_mean, crate::proofs::Pooled::total_layer, crate::proofs::Pooled::total_tail, crate::proofs::Pooled::total_price, crate::proofs::Pooled::total_part))]
 pub fn law_counts_total()
     ensures one { CountsTotal One }
     ensures point { (x : ℕ) → CountsTotal (Point x) }
@@ -37,6 +39,7 @@ pub fn law_counts_total()
 /// Of their total, units under a common factor of shape `r` declare at each level `N` what one unit
 /// does whose count is the gamma of shape `r` and of all their expected claims, and whose severity
 /// is the mixture of theirs; `most` is a number that no amount of it passes.
+#[tactic(auto, using(crate::proofs::Pooled::pooled))]
 pub fn law_pooled()
     ensures { (r : ℕ) (us : List PoissonUnit) → AreSeverities us → whole 0 <ℚ expected_claims us
         → (most : ℕ) → ((a : ℕ) → most < a → pooled_severity us a ≡ whole 0)
@@ -82,6 +85,7 @@ pub fn law_common_joint()
 
 /// The pooled unit with one more in the shape and the raised mean `v * (r + 1) / r` has the gamma
 /// weights of the same part `v / (r + v)`, for the shape `r = q + 1`.
+#[tactic(auto, using(crate::proofs::SharedValues::raised_weights))]
 pub fn law_raised()
     ensures { (q : ℕ) (v : Fraction) (n : ℕ)
         → gamma_of (suc (suc q)) (raised_mean (suc q) v) n
@@ -107,6 +111,7 @@ pub fn law_common_joint_mean()
 
 /// No outcome of a unit is above the total, so its joint sums are at most `x` times those of the
 /// total `x`.
+#[tactic(auto, using(crate::proofs::SharedBounds::joint_within))]
 pub fn law_joint_within()
     ensures { (r : ℕ) (us : List PoissonUnit) (i x N : ℕ)
         → common_sums r us (Joint i x) N ≤ℚ whole x *ℚ common_sums r us (Point x) N }

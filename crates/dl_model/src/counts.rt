@@ -75,6 +75,7 @@ pub fn law_count_powers()
 {}
 
 /// The part of the sum `y` from one claim, and from one trial with probability `a / b`.
+#[tactic(auto, using(crate::proofs::Beginnings::one_claim_cell, crate::proofs::Beginnings::one_trial_cell))]
 pub fn law_at_most_one_claim()
     ensures claim { (f : ℕ → Fraction) (y : ℕ) → cell (fixed 1) f y 1 ≡ f y }
     ensures trial { (f : ℕ → Fraction) (a b y : ℕ) → 0 < b
@@ -91,6 +92,7 @@ pub fn law_no_loss()
 {}
 
 /// Counts added up: `m` times one claim, `m` trials, `k` Poisson counts, `r` geometric counts.
+#[tactic(auto, using(crate::proofs::AddedCounts::fixed_power, crate::proofs::AddedCounts::binomial_power, crate::proofs::PoissonTimes::poisson_power, crate::proofs::Gamma::gamma_power))]
 pub fn law_added_counts()
     ensures fixed { (m n : ℕ) → power (fixed 1) m n ≡ fixed m n }
     ensures binomial { (a b m n : ℕ) → 0 < b → power (binomial 1 a b) m n ≡ binomial m a b n }

@@ -64,12 +64,14 @@ pub fn law_powers()
 {}
 
 /// The sum of `m + n` claims is that of `m` claims and that of `n` claims, added up.
+#[tactic(auto, using(crate::proofs::Powers::power_plus))]
 pub fn law_power_sum()
     ensures { (f : ℕ → Fraction) (m n s : ℕ)
         → power f (m + n) s ≡ convolve (power f m) (power f n) s }
 {}
 
 /// Over whole weights the probability of a sum is its share of the weighted ways.
+#[tactic(auto, using(crate::proofs::CountLaws::power_ways))]
 pub fn law_ways()
     ensures { (w : ℕ → ℕ) (T : ℕ) → 0 < T → (n s : ℕ)
         → power (λ j. w j over T) n s ≡ ways w n s over (T ^ n) }

@@ -25,6 +25,7 @@ pub fn law_probabilities()
 
 /// Of equally likely numbers the weight of `x` is how often it stands there, and the whole weight
 /// is how many there are.
+#[tactic(auto, using(crate::proofs::WeightLaws::equal_weight, crate::proofs::WeightLaws::equal_total))]
 pub fn law_equally_likely()
     ensures weight { (values : List ℕ) (x : ℕ)
         → weight_at (equally_likely values) x ≡ count_by (λ v. v == x) values }
@@ -33,6 +34,7 @@ pub fn law_equally_likely()
 
 /// What encloses the part of the sum `x` that comes from at most the greatest listed count holds
 /// the declared probability of `x`.
+#[tactic(auto, using(crate::proofs::ListedLaws::listed_holds))]
 pub fn law_listed()
     ensures { (counts amounts : List Item) (x : ℕ) (l h : Fraction) → 0 < weight_sum counts
         → 0 < weight_sum amounts
@@ -43,6 +45,7 @@ pub fn law_listed()
 {}
 
 /// With exactly one claim the probability of the sum `x` is that of the amount `x`.
+#[tactic(auto, using(crate::proofs::ListedLaws::one_claim))]
 pub fn law_one_claim()
     ensures { (amounts : List Item) (x : ℕ)
         → cell (probability_at (equally_likely (1 ∷ []))) (probability_at amounts) x
@@ -53,6 +56,7 @@ pub fn law_one_claim()
 /// Horner's rule, for every weight `w` of a count and every severity `f`: the greatest count leaves
 /// its weight at 0, each count before it adds its own weight at 0 to the convolution of the
 /// severity with what stands after it, and the count 0 ends with the compound sum.
+#[tactic(auto, using(crate::proofs::Horner::horner_start, crate::proofs::Horner::horner_next, crate::proofs::Horner::horner_end))]
 pub fn law_horner()
     ensures greatest { (w f : ℕ → Fraction) (k s : ℕ) → cell_from w f k s 0 ≡ w k *ℚ at_zero s }
     ensures step { (w f : ℕ → Fraction) (k s N : ℕ)

@@ -30,6 +30,7 @@ use dl_plan::Plan;
 
 /// The units of a valid plan can be declared: their probabilities add up to 1, their clauses raise
 /// no sum, and their counts are bounded.
+#[tactic(auto, using(crate::proofs::PlanUnits::unit_declared, crate::proofs::PlanUnits::plan_declared, crate::proofs::PlanUnits::plan_units))]
 pub fn law_declared()
     ensures unit { (cells : ℕ) (u : UnitOfPlan) → IsValidUnit cells u
         → IsDeclared (aggregate_of u) }
@@ -39,6 +40,7 @@ pub fn law_declared()
 
 /// What a clause makes of a sum is what it keeps where that is whole; and no sum stands where it
 /// need not be: each is a multiple of the greatest common divisor of the amounts.
+#[tactic(auto, using(crate::proofs::Multiples::clause_whole, crate::proofs::Multiples::no_cell_between))]
 pub fn law_outcome_after()
     ensures whole { (clause : Clause) (s y : ℕ) → kept clause s ≡ whole y
         → outcome_after (Some clause) s ≡ y }

@@ -10,6 +10,7 @@ ghost use Rattle.dl_model.specs.Measures.{IsQuantile};
 
 /// A price is the weighted sum of the tail means of its terms: at each level, and so are low and
 /// high ends of it.
+#[tactic(auto, using(crate::proofs::PriceLaws::price_sums, crate::proofs::PriceLaws::price_least, crate::proofs::PriceLaws::price_most))]
 pub fn law_price()
     ensures sums { (us : List Loss) (terms : List PricedTerm) (N : ℕ)
         → partial_sums us (Price terms) N

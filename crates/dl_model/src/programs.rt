@@ -23,12 +23,14 @@ pub fn law_counts()
 {}
 
 /// Some fraction is a bound of every quantity that can be asked.
+#[tactic(auto, using(crate::proofs::Bounded::quantity_bounded))]
 pub fn law_units_bounded()
     ensures { (us : List Loss) (quantity : Quantity) → AreDeclared us → IsAsked quantity
         → (u : Fraction) × IsBound (partial_sums us quantity) u }
 {}
 
 /// The whole weight is above 0 at some level.
+#[tactic(auto, using(crate::proofs::Bounded::whole_positive))]
 pub fn law_units_positive()
     ensures { (us : List Loss) → AreDeclared us
         → (N : ℕ) × (whole 0 <ℚ partial_sums us One N) }
@@ -36,6 +38,7 @@ pub fn law_units_positive()
 
 /// The declared probabilities add up to 1: for each part `p` of 1, with `q` for the rest, the
 /// distribution is at least `p` somewhere.
+#[tactic(auto, using(crate::proofs::Bounded::adds_up))]
 pub fn law_units_whole()
     ensures { (us : List Loss) (p q : Fraction) → AreDeclared us → p +ℚ q ≡ whole 1
         → whole 0 <ℚ q

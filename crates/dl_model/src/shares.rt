@@ -8,6 +8,7 @@ ghost use Rattle.dl_model.specs.Program.{Loss, AreDeclarable, One, Point, Cdf, T
 ghost use Rattle.dl_model.specs.Shares.{HoldsShare, unit_mean};
 
 /// The joint means of all units at a total `x` add up to `x` times that of the total `x` itself.
+#[tactic(auto, using(crate::proofs::ShareLaws::joint_means_total))]
 pub fn law_joint_total()
     ensures { (us : List Loss) (x N : ℕ)
         → sum_below (length us) (λ i. partial_sums us (Joint i x) N)
@@ -17,6 +18,7 @@ pub fn law_joint_total()
 /// `1 - p` times the shares of all units, and `q` times what lies below the tail, are `1 - p` times
 /// the tail mean, and `p` times `q`: so where the part below the tail has the probability `p`, the
 /// shares add up to the tail mean.
+#[tactic(auto, using(crate::proofs::ShareLaws::shares_total))]
 pub fn law_shares()
     ensures { (p u : Fraction) (q : ℕ) → p <ℚ whole 1 → u ≤ℚ whole 1 → (us : List Loss) (N : ℕ)
         → (whole 1 -ℚ p) *ℚ sum_below (length us) (λ i. partial_sums us (Share i p q u) N) +ℚ

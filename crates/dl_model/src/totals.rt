@@ -31,12 +31,14 @@ pub fn law_total()
 {}
 
 /// No quantity falls as the bound on the claims grows, whatever a list of outcomes counts for.
+#[tactic(auto, using(crate::proofs::Outcomes::outcomes_rise))]
 pub fn law_rises()
     ensures { (us : List Loss) → AreDeclarable us → (value : List ℕ → Fraction)
         → Rises (sum_over_outcomes us value) }
 {}
 
 /// The distribution is the sum of the points, and with what is above it the whole.
+#[tactic(auto, using(crate::proofs::Scores::cdf_points, crate::proofs::Scores::survival_rest))]
 pub fn law_distribution()
     ensures points { (us : List Loss) (x N : ℕ)
         → partial_sums us (Cdf x) N ≡ sum_to x (λ y. partial_sums us (Point y) N) }
@@ -46,6 +48,7 @@ pub fn law_distribution()
 
 /// The mean of a layer is the sum of what the distribution leaves over the layer. A layer and what
 /// is above it make up the layer without a limit, from 0 on the mean.
+#[tactic(auto, using(crate::proofs::Scores::layer_survivals, crate::proofs::Scores::mean_split, crate::proofs::TailEnds::excess_split))]
 pub fn law_layer()
     ensures survivals { (us : List Loss) (limit attachment N : ℕ)
         → partial_sums us (Layer (Some limit) attachment) N
@@ -59,6 +62,7 @@ pub fn law_layer()
 {}
 
 /// The tail mean is the quantile, and what is above it over the rest of the probability.
+#[tactic(auto, using(crate::proofs::TailScores::tail_excess))]
 pub fn law_tail()
     ensures { (us : List Loss) (p : Fraction) (q N : ℕ) → p <ℚ whole 1
         → partial_sums us (Tail p q) N ≡ whole q *ℚ partial_sums us One N +ℚ whole 1 /ℚ
@@ -67,6 +71,7 @@ pub fn law_tail()
 
 /// The joint mean is the sum, over the outcomes of the unit and the totals of the others that add
 /// up to `x`, of the outcome times both.
+#[tactic(auto, using(crate::proofs::Joint::joint_cells))]
 pub fn law_joint()
     ensures { (us : List Loss) → AreDeclarable us → (i x N : ℕ) → i < length us
         → partial_sums us (Joint i x) N ≡ sum_pairs x
@@ -75,6 +80,7 @@ pub fn law_joint()
 
 /// The units without unit `i` are those before it and those after it, and the family of unit `i` is
 /// that of its outcomes.
+#[tactic(auto, using(crate::proofs::Without::without_is, crate::proofs::Without::unit_is, crate::proofs::Without::without_units))]
 pub fn law_without()
     ensures parts { (us : List Loss) (i : ℕ) → without us i ≡ take i us ++ drop (i + 1) us }
     ensures unit { (us : List Loss) (i : ℕ) (default : Loss) → i < length us

@@ -1,15 +1,6 @@
 -- A grid that follows Panjer's recursion from its own cells, rounded outward, encloses the compound sum.
-use Rattle.dl_panjer.proofs.Common.{◌≡◌, inl, inr, ℕ, suc, zero, ◌<◌, ◌≤◌, arith, sym, ap, subst, subst₂, ◌∙◌, mul-pos, Fraction, ◌over◌, ◌*ℚ◌, ◌≤ℚ◌, whole, sum_to, over_same, over_mul, over_le, one_pos, ring, one_times, le_refl, le_trans, le_of_eq, times_le_times, times_le_both, sum_pairs_same, sum_pairs_times, AtLeast, cell, IsPanjer, IsWithinOne, compound, from_before, compound_proper, recursion_there, FollowsOutward}
-use Rattle.dl_exact.proofs.Laws.{times_left_comm, times_zero, times_one, zero_le}
-use Rattle.dl_exact.proofs.Sums.{sum_pairs_le}
-use Rattle.dl_exact.proofs.Orders.{times_right_comm}
-use Rattle.dl_model.specs.Series.{AtMost}
-use Rattle.dl_model.specs.Compound.{at_zero, power}
-use Rattle.dl_model.specs.Family.{Encloses}
-use Rattle.dl_model.specs.Recursion.{Recursion}
+use Rattle.dl_panjer.proofs.Common.{◌≡◌, inl, inr, ℕ, suc, zero, ◌<◌, ◌≤◌, arith, sym, ap, ◌∙◌, mul-pos, Fraction, ◌over◌, ◌*ℚ◌, ◌≤ℚ◌, whole, sum_to, over_same, over_mul, over_le, one_pos, ring, one_times, le_refl, le_trans, le_of_eq, times_le_times, times_le_both, sum_pairs_same, sum_pairs_times, AtLeast, cell, IsPanjer, IsWithinOne, compound, from_before, compound_proper, recursion_there, FollowsOutward, times_left_comm, times_zero, times_one, zero_le, sum_pairs_le, times_right_comm, AtMost, at_zero, power, Encloses, Recursion, cell_at_most_one, cell_from_before, cell_zero}
 use Rattle.dl_model.proofs.Declared.{at_most_wider}
-use Rattle.dl_model.proofs.FamilyLaws.{cell_at_most_one}
-use Rattle.dl_model.proofs.Panjer.{cell_from_before, cell_zero}
 
 pub in_units : (S n : ℕ) → 0 < S → n over S ≡ whole n *ℚ 1 over S
 in_units S n h = sym (over_mul n 1 1 S one_pos h ∙ over_same _ _ _ _ (mul-pos one_pos h) h (omega arith))
@@ -65,7 +56,7 @@ module _ (S K : ℕ) (a b : Fraction) (f : ℕ → Fraction) (lo hi : ℕ → �
         let unit = 1 over S in
         le_trans _ _ _ (le_of_eq _ _ (cell_from_before f w a b z P s M))
         (le_trans _ _ _ (before_le a b f (λ k. cell w f k M) (λ k. unit *ℚ u *ℚ whole (hi k)) s
-        (λ k e. subst (λ t. cell w f k M ≤ℚ t) (turn (hi k) u) (h k e)))
+        (λ k e. rw (turn (hi k) u) at (h k e)))
         (le_trans _ _ _ (le_of_eq _ _ (before_times a b f (unit *ℚ u) (λ k. whole (hi k)) s))
         (le_trans _ _ _ (times_le_both _ _ _ _ (le_refl (unit *ℚ u)) near) (le_of_eq _ _ (sym (turn (hi (suc s)) u))))))
       where
@@ -79,12 +70,11 @@ module _ (S K : ℕ) (a b : Fraction) (f : ℕ → Fraction) (lo hi : ℕ → �
         → ((M k : ℕ) → k ≤ s → cell w f k M ≤ℚ hi k over S *ℚ u)
         → (m : ℕ) → cell w f (suc s) m ≤ℚ hi (suc s) over S *ℚ u
     unfolding sum_to power at_zero
-    high_at s u near h zero = subst (λ t. t ≤ℚ hi (suc s) over S *ℚ u) (sym (times_zero _)) (zero_le _)
+    high_at s u near h zero = rw (times_zero _) (zero_le _)
     high_at s u near h (suc M) = high_step s M u near (h M)
 
     high_up_to : (n s : ℕ) → s ≤ n → s < K → AtMost (cell w f s) (λ N. sum_to N w) (hi s over S)
-    high_up_to n zero h i m u below =
-        subst (λ t. t ≤ℚ hi zero over S *ℚ u) (sym (cell_zero f w a b z P m)) (start m u below)
+    high_up_to n zero h i m u below = rw (cell_zero f w a b z P m) (start m u below)
     high_up_to zero (suc s) h i m u below = absurd (omega arith)
     high_up_to (suc n) (suc s) h i m u below = elim (F.high s i) [
       | inr far ↦ at_most_wider (cell w f (suc s)) (λ N. sum_to N w) (whole 1) (hi (suc s) over S)
@@ -101,10 +91,9 @@ module _ (S K : ℕ) (a b : Fraction) (f : ℕ → Fraction) (lo hi : ℕ → �
             let unit = 1 over S in
             let r : ℕ → Fraction = λ s. cell w f s s in
             let below : lo y over S ≤ℚ lo zero over S *ℚ r y =
-            subst₂ (λ s t. s ≤ℚ t) (sym (in_units S (lo y) pos))
-            (times_right_comm (whole (lo zero)) (r y) unit ∙ ap (λ t. t *ℚ r y) (sym (in_units S (lo zero) pos)))
+            rw (in_units S (lo y) pos, in_units S (lo zero) pos, times_right_comm (whole (lo zero)) unit (r y))
             (times_le_times _ _ unit (low_below r (recursion_there f w a b z P) y h)) in
             let whole_weight : lo zero over S *ℚ sum_to n w ≤ℚ whole 1 = low n (whole 1) (λ m. le_refl _) in
             le_trans _ _ _ (times_le_times _ _ (sum_to n w) below)
-            (subst₂ (λ s t. s ≤ℚ t) (times_right_comm (lo zero over S) (sum_to n w) (r y)) (one_times u)
+            (rw (times_right_comm (lo zero over S) (sum_to n w) (r y), one_times u) at
             (times_le_both _ _ _ _ whole_weight (bound y)))

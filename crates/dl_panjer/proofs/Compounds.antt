@@ -1,9 +1,6 @@
 -- The grids of a Poisson and of a geometric count enclose their compound sums.
-use Rattle.dl_panjer.proofs.Common.{◌≡◌, ℕ, zero, suc, ◌<◌, ◌^◌, true, false, List, length, sym, ap, ap₂, subst, ◌∙◌, Fraction, ◌over◌, ◌+ℚ◌, ◌*ℚ◌, ◌/ℚ◌, ◌≤ℚ◌, ◌<ℚ◌, whole, sum_to, over_zero, pow_pos, one_pos, times_comm, zero_times, one_times, times_cancel, div_times, le_trans, whole_pos, times_le_both, Holds, IsWithinOne, poisson, gamma_of, IsPanjer, compound, GridEncloses, Iv, low_at, high_at, Item, weight_at, FollowsRounded, poisson_class}
-use Rattle.dl_exact.proofs.Laws.{plus_comm, plus_times, div_pos, lt_of_lt_of_le, le_plus}
-use Rattle.dl_model.specs.Series.{Series, IsLeastBound}
+use Rattle.dl_panjer.proofs.Common.{◌≡◌, ℕ, zero, suc, ◌<◌, ◌^◌, true, false, List, length, sym, ap, ap₂, ◌∙◌, Fraction, ◌over◌, ◌+ℚ◌, ◌*ℚ◌, ◌/ℚ◌, ◌≤ℚ◌, ◌<ℚ◌, whole, sum_to, over_zero, pow_pos, one_pos, times_comm, zero_times, one_times, times_cancel, div_times, le_trans, whole_pos, times_le_both, Holds, IsWithinOne, poisson, gamma_of, IsPanjer, compound, GridEncloses, Iv, low_at, high_at, Item, weight_at, FollowsRounded, poisson_class, plus_comm, plus_times, div_pos, lt_of_lt_of_le, le_plus, Series, IsLeastBound, gamma_class}
 use Rattle.dl_model.proofs.Gamma.{geometric_least}
-use Rattle.dl_model.proofs.Panjer.{gamma_class}
 use Rattle.dl_panjer.proofs.Base.{base_encloses}
 use Rattle.dl_panjer.proofs.Outward.{poisson_outward, geometric_outward}
 
@@ -11,9 +8,8 @@ use Rattle.dl_panjer.proofs.Outward.{poisson_outward, geometric_outward}
 reciprocal_of_least : (R : Series) (L d l h : Fraction) → IsLeastBound R L → L *ℚ d ≡ whole 1 → l ≤ℚ d → d ≤ℚ h
     → Holds (λ N. whole 1) R l h
 reciprocal_of_least R L d l h least e low high = (
-  (λ n u b. le_trans _ _ _ (times_le_both _ _ _ _ low (least.0 n))
-      (subst (λ t. t ≤ℚ u) (sym (times_comm d L ∙ e)) (b zero))),
-  (λ n u b. subst (λ t. t ≤ℚ h *ℚ u) (times_comm d L ∙ e) (times_le_both _ _ _ _ high (least.1 u b))),
+  (λ n u b. le_trans _ _ _ (times_le_both _ _ _ _ low (least.0 n)) (rw (times_comm d L, e) (b zero))),
+  (λ n u b. rw (times_comm d L, e) at (times_le_both _ _ _ _ high (least.1 u b))),
 )
 
 module _ (beta : Fraction) where
@@ -42,8 +38,7 @@ module _ (beta : Fraction) where
 
   -- the geometric count is the gamma count of shape 1
   pub geometric_class : IsPanjer (beta /ℚ (whole 1 +ℚ beta)) (whole 0) (gamma_of 1 beta)
-  geometric_class = subst (λ b. IsPanjer (beta /ℚ (whole 1 +ℚ beta)) b (gamma_of 1 beta)) (zero_times _)
-      (gamma_class zero (beta /ℚ (whole 1 +ℚ beta)))
+  geometric_class = rw (zero_times _) at (gamma_class zero (beta /ℚ (whole 1 +ℚ beta)))
 
 -- ---- the two grids
 

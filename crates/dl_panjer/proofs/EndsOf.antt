@@ -1,11 +1,5 @@
 -- A grid from two lists that hold the ends of all cells is these cells.
-use Rattle.dl_panjer.proofs.Common.{ℕ, ◌≡◌, ◌+◌, ◌<◌, ◌≤◌, ◌∙◌, List, length, take, get_or, sym, ap, ap₂}
-use Rattle.std.proofs.Common.{[], ◌∷◌, ◌++◌}
-use Rattle.std.specs.Prelude.{map}
-use Rattle.std.proofs.lemmas.List.{map_more, take_all}
-use Rattle.dl_iv.specs.declared.interval.Iv.{Iv}
-use Rattle.dl_grid.specs.Cells.{low_ends, high_ends, IsGrid, AreEnds}
-use Rattle.dl_grid.proofs.EndLists.{ends_of_grid, same_cells}
+use Rattle.dl_panjer.proofs.Common.{ℕ, ◌≡◌, ◌+◌, ◌<◌, ◌≤◌, ◌∙◌, List, length, take, get_or, sym, ap, ap₂, [], ◌∷◌, ◌++◌, map, map_more, take_all, Iv, low_ends, high_ends, IsGrid, AreEnds, ends_of_grid, same_cells}
 
 -- one more end
 pub end_pushed : {B : ℕ} (f : Iv B → ℕ) (cells : List (Iv B)) (i : ℕ) (cell : Iv B) (ends more : List ℕ)
@@ -16,8 +10,7 @@ end_pushed f cells i cell ends more inside made so is =
 
 pub both_lists : {B : ℕ} (cells : List (Iv B)) (n : ℕ) (lows highs : List ℕ) → IsGrid cells → length cells ≤ n
     → lows ≡ map (λ t. t.lo) (take n cells) → highs ≡ map (λ t. t.hi) (take n cells) → AreEnds B lows highs
-both_lists cells n lows highs grid all low high =
-    rw (low, high, take_all n cells all) (ends_of_grid cells grid)
+both_lists cells n lows highs grid all low high = rw (low, high, take_all n cells all) (ends_of_grid cells grid)
 
 pub cells_made : {B : ℕ} (cells g : List (Iv B)) (n : ℕ) (lows highs : List ℕ) → length cells ≤ n
     → lows ≡ map (λ t. t.lo) (take n cells) → highs ≡ map (λ t. t.hi) (take n cells) → low_ends g ≡ lows

@@ -1,17 +1,11 @@
 -- The list of cells that the recursion makes is a grid, follows the declared recursion, and encloses the compound sum.
-use Rattle.dl_panjer.proofs.Common.{ℕ, suc, ◌≡◌, ◌+◌, ◌-◌, ◌*◌, ◌^◌, ◌<◌, ◌≤◌, Bool, true, false, List, length, arith, sym, ap, subst, subst₂, ◌∙◌, All, pow_pos, Fraction, ◌over◌, ◌+ℚ◌, ◌*ℚ◌, ◌/ℚ◌, ◌≤ℚ◌, whole, sum_to, over_zero, over_mul, over_le, one_pos, le_trans, le_whole, Iv, low_at, high_at, spread, IsGrid, IsGridSize, up, count_below, AtLeast, Holds, poisson, gamma_of, IsPanjer, compound, GridEncloses, IsWithinOne, poisson_class, within_one, Item, Sev, probability_of, weight_at, weight_sum, Follows, FollowsOutward, FollowsRounded, severity_total, zero_weight}
-use Rattle.dl_exact.proofs.Over.{over_cross}
-use Rattle.dl_exact.proofs.Counts.{below_first}
-use Rattle.dl_grid.proofs.PlaceSums.{width_at, high_is, whole_mass, whole_spread}
+use Rattle.dl_panjer.proofs.Common.{ℕ, suc, ◌≡◌, ◌+◌, ◌-◌, ◌*◌, ◌^◌, ◌<◌, ◌≤◌, Bool, true, false, List, length, arith, sym, ap, ◌∙◌, All, pow_pos, Fraction, ◌over◌, ◌+ℚ◌, ◌*ℚ◌, ◌/ℚ◌, ◌≤ℚ◌, whole, sum_to, over_zero, over_mul, over_le, one_pos, le_trans, le_whole, Iv, low_at, high_at, spread, IsGrid, IsGridSize, up, count_below, AtLeast, Holds, poisson, gamma_of, IsPanjer, compound, GridEncloses, IsWithinOne, poisson_class, within_one, Item, Sev, probability_of, weight_at, weight_sum, Follows, FollowsOutward, FollowsRounded, severity_total, zero_weight, over_cross, below_first, width_at, high_is, whole_mass, whole_spread, IsWeighted, IsPoissonBase, IsGeometricBase, amounts_positive}
 use Rattle.dl_grid.proofs.WidthLaws.{up_ceiling}
-use Rattle.dl_plan.specs.Weighted.{IsWeighted}
-use Rattle.dl_panjer.specs.Bases.{IsPoissonBase, IsGeometricBase}
 use Rattle.dl_panjer.proofs.Recursions.{poisson_follows, geometric_follows, one_and}
 use Rattle.dl_panjer.proofs.Outward.{poisson_outward, geometric_outward}
 use Rattle.dl_panjer.proofs.Compounds.{poisson_base, geometric_base, geometric_start, geometric_class}
 use Rattle.dl_panjer.proofs.Mass.{low_mass}
 use Rattle.dl_panjer.proofs.Spreads.{all_widths, half_spread, geometric_spread}
-use Rattle.dl_plan.proofs.Positive.{amounts_positive}
 
 -- the list follows the recursion of items, total and rate
 pub record IsMade {B : ℕ} (by_amount : Bool) (items : List Item) (total : ℕ) (rate : Fraction) (cells : List (Iv B))
@@ -29,7 +23,7 @@ module _ {B : ℕ} {b : Bool} {items : List Item} {T : ℕ} {rate : Fraction} {c
     (made : IsMade b items T rate cells K) where
   -- the same, said of the list's own length
   own : Follows (2 ^ B) b items T rate (low_at cells) (high_at cells) (length cells)
-  own = subst (λ k. Follows (2 ^ B) b items T rate (low_at cells) (high_at cells) k) (sym made.length_is) made.follows
+  own = rw made.length_is made.follows
 
   grid : (x y : Fraction) (w : ℕ → Fraction)
       → FollowsOutward (2 ^ B) (length cells) x y (λ j. weight_at items j over T) (low_at cells) (high_at cells)
@@ -38,8 +32,7 @@ module _ {B : ℕ} {b : Bool} {items : List Item} {T : ℕ} {rate : Fraction} {c
       let n : ℕ = K - 1 in
       let e : suc n ≡ length cells = omega (arith, made.size.some, made.length_is) in
       let mass = low_mass (2 ^ B) n x y (λ j. weight_at items j over T) w (low_at cells) (high_at cells)
-      (subst (λ k. FollowsOutward (2 ^ B) k x y (λ j. weight_at items j over T) (low_at cells) (high_at cells))
-      (sym e) F)
+      (rw e F)
       (ap (λ n. n over T) made.no_zero ∙ over_zero T made.total_above) P (pow_pos B) made.within start in
       record {
         some = rw made.length_is made.size.some;
@@ -54,9 +47,7 @@ module _ {B : ℕ} {b : Bool} {items : List Item} {T : ℕ} {rate : Fraction} {c
   widths_of at_most_one n e =
       let whole_is : spread cells ≡ count_below (suc n) (width_at cells) =
       whole_spread (suc n) cells (omega (arith, made.length_is, e)) in (
-        subst (λ t. rate.den * count_below n (λ s. width_at cells (suc s)) ≤ rate.num * t + 4 * n * rate.den)
-            (sym whole_is)
-            (all_widths b items (2 ^ B) T rate (low_at cells) (high_at cells)
+        rw whole_is (all_widths b items (2 ^ B) T rate (low_at cells) (high_at cells)
             (width_at cells) K made.follows made.total_above at_most_one (high_is cells) n e made.sum),
         whole_is ∙ below_first n (width_at cells),
       )
@@ -125,9 +116,8 @@ geometric_widths p d {cells} {K} pos made at_most_one near =
     let product : whole (4 * K + 1) *ℚ (whole 1 +ℚ p over d) ≡ ((4 * K + 1) * (p + d)) over (1 * d) =
     ap (λ t. whole (4 * K + 1) *ℚ t) (one_and p d pos) ∙ over_mul (4 * K + 1) 1 (p + d) d one_pos pos in
     let below : whole (spread cells) ≤ℚ whole (4 * K + 1) *ℚ (whole 1 +ℚ p over d) =
-    subst (λ t. whole (spread cells) ≤ℚ t) (sym product)
-    (over_le (spread cells) 1 ((4 * K + 1) * (p + d)) (1 * d) one_pos (omega (arith, pos))
-    (omega (arith, subst (λ k. spread cells * d ≤ (4 * k + 1) * (p + d)) last all))) in
+    rw product (over_le (spread cells) 1 ((4 * K + 1) * (p + d)) (1 * d) one_pos (omega (arith, pos))
+    (omega (arith, rw last at all))) in
     le_whole _ _ (le_trans _ _ _ below (up_ceiling (whole (4 * K + 1) *ℚ (whole 1 +ℚ p over d))).above)
 
 -- ---- from what the recursion's loop gives
@@ -141,7 +131,7 @@ made_of {B} b sev cells {K} same rate_is size length_is small follows none =
       length_is = length_is;
       size = size;
       small = small;
-      follows = subst₂ (λ xs t. Follows (2 ^ B) b xs sev.total t (low_at cells) (high_at cells) K) same rate_is follows;
+      follows = rw (← same, ← rate_is) follows;
       total_above = severity_total sev;
       sum = sev.weighted.sum;
       no_zero = zero_weight sev none;
@@ -160,8 +150,7 @@ geometric_is_base sev v cells made = geometric_follows sev.items sev.total (v /�
 pub items_positive : (sev : Sev) (items : List Item) → items ≡ sev.items → probability_of sev 0 ≡ whole 0
     → All (λ item. 0 < item.amount) items
 items_positive sev items same none =
-    subst (λ xs. All (λ item. 0 < item.amount) xs) (sym same)
-    (amounts_positive sev none)
+    rw same (amounts_positive sev none)
 
 pub items_weighted : (sev : Sev) (items : List Item) → items ≡ sev.items → IsWeighted items sev.total
-items_weighted sev items same = subst (λ xs. IsWeighted xs sev.total) (sym same) sev.weighted
+items_weighted sev items same = rw same sev.weighted

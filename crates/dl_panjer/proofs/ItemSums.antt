@@ -1,12 +1,7 @@
 -- Sums over the items of a severity, turned into sums over the pairs of places that add up to a cell's number.
-use Rattle.dl_panjer.proofs.Common.{ℕ, zero, suc, ◌≡◌, ◌+◌, ◌-◌, ◌*◌, ◌<◌, ◌≤◌, Bool, true, false, List, [], ◌∷◌, get_or, take, drop, arith, refl, sym, ap, ap₂, ◌∙◌, inl, inr, All, sum_by, mul-le-mul_right, cases_lt, count_below, below_le, below_plus, below_times, below_pairs, Item, weight_at, weight_sum, counted, coefficient, next_sum}
-use Rattle.std.proofs.Common.{◌≢◌}
-use Rattle.std.specs.Prelude.{if◌then◌else◌, ◌==◌}
-use Rattle.std.proofs.Math.Nat.{zero-add, mul-le-mul, mul-le-mul_left, add-mul, mul-add}
-use Rattle.std.proofs.lemmas.Bool.{eq-eqb, ne_eqb}
-use Rattle.std.proofs.lemmas.List.Elements.{All-tail}
-use Rattle.std.proofs.lemmas.List.Sums.{sum_by-cons, sum_by-take-drop}
-use Rattle.dl_exact.proofs.Counts.{below_same, pairs_le, below_none}
+use Rattle.dl_panjer.proofs.Common.{ℕ, zero, suc, ◌≡◌, ◌+◌, ◌-◌, ◌*◌, ◌<◌, ◌≤◌, Bool, true, false, List, [], ◌∷◌, get_or, take, drop, arith, refl, sym, ap, ap₂, ◌∙◌, inl, inr, All, sum_by, mul-le-mul_right, cases_lt, count_below, below_le, below_plus, below_times, below_pairs, Item, weight_at, weight_sum, counted, coefficient, next_sum, ◌≢◌, if◌then◌else◌, ◌==◌, eq-eqb, ne_eqb, All-tail, sum_by-cons, sum_by-take-drop, below_same, pairs_le, below_none}
+use Rattle.std.proofs.lemmas.Bool.Decides.{eqb_tells}
+use Rattle.std.proofs.Math.Nat.{zero-add, mul-le-mul, mul-le-mul_left, add-mul}
 
 -- ---- one place of a sum
 
@@ -48,15 +43,10 @@ one_item : (b : Bool) (s : ℕ) (g : ℕ → ℕ) (item : Item) → 0 < item.amo
 one_item b s g item some near =
     let a : ℕ = item.amount - 1 in
     let e : suc a ≡ item.amount = omega (arith, some) in
+    let gap : suc s - item.amount ≡ s - a = omega (arith, some, near) in
     below_one (suc s) a _ (omega (arith, some, near)) (λ i inside other.
-    ap (λ t. counted b (suc i) (if t then item.weight else 0) * g (s - i))
-    (ne_eqb item.amount (suc i) (omega (arith, other, e)))
-    ∙ ap (λ t. t * g (s - i)) (counted_zero b (suc i)) ∙ nothing (g (s - i)))
-    ∙ ap (λ t. counted b (suc a) (if t then item.weight else 0) * g (s - a)) (eq-eqb item.amount (suc a) (sym e))
-    ∙ ap₂ (λ t u. counted b t item.weight * g u) e (omega (arith, some, near))
-  where
-    nothing : (n : ℕ) → 0 * n ≡ 0
-    nothing n = omega arith
+    rw (ne_eqb item.amount (suc i) (omega (arith, other, e)), counted_zero b (suc i)) (omega arith))
+    ∙ rw (gap, e, eq-eqb item.amount item.amount refl) refl
 
 -- the items up to s + 1, each with the end that it leaves
 pub near_items : (b : Bool) (s : ℕ) (g : ℕ → ℕ) (items : List Item) → All (λ item. 0 < item.amount) items
@@ -64,16 +54,10 @@ pub near_items : (b : Bool) (s : ℕ) (g : ℕ → ℕ) (items : List Item) → 
     → count_below (suc s) (λ i. coefficient b items i * g (s - i)) ≡ sum_by
     (λ item. counted b item.amount item.weight * g (suc s - item.amount)) items
 near_items b s g [] some near =
-    below_none (suc s) _ (λ i inside. ap (λ t. t * g (s - i)) (counted_zero b (suc i)) ∙ nothing (g (s - i)))
-  where
-    nothing : (n : ℕ) → 0 * n ≡ 0
-    nothing n = omega arith
+    below_none (suc s) _ (λ i inside. rw (counted_zero b (suc i)) (omega arith))
 near_items b s g (item ∷ items) some near =
-    below_same (suc s) _ _ (λ i inside.
-    ap (λ t. counted b (suc i) t * g (s - i)) (weight_at-cons item items (suc i))
-    ∙ ap (λ t. t * g (s - i)) (counted_plus b (suc i) (if item.amount == suc i then item.weight else 0)
-    (weight_at items (suc i)))
-    ∙ add-mul (counted b (suc i) (if item.amount == suc i then item.weight else 0)) (coefficient b items i) (g (s - i)))
+    below_same (suc s) _ _ (λ i inside. rw (weight_at-cons item items (suc i), counted_plus) (add-mul
+    (counted b (suc i) (if item.amount == suc i then item.weight else 0)) (coefficient b items i) (g (s - i))))
     ∙ below_plus (suc s) (λ i. counted b (suc i) (if item.amount == suc i then item.weight else 0) * g (s - i))
     (λ i. coefficient b items i * g (s - i))
     ∙ ap₂ (λ t u. t + u) (one_item b s g item (some 0 item (omega arith)) (near 0 item (omega arith)))
@@ -115,9 +99,7 @@ sum_le f g (item ∷ items) h = omega (
 
 pub sum_times : (k : ℕ) (f : Item → ℕ) (items : List Item) → sum_by (λ item. k * f item) items ≡ k * sum_by f items
 sum_times k f [] = omega arith
-sum_times k f (item ∷ items) =
-    sum_by-cons (λ i. k * f i) item items ∙ ap (λ t. k * f item + t) (sum_times k f items)
-    ∙ sym (mul-add k (f item) (sum_by f items)) ∙ ap (λ t. k * t) (sym (sum_by-cons f item items))
+sum_times k f (item ∷ items) = rw (sum_by-cons, sum_by-cons f item items) (omega (arith, sum_times k f items))
 
 -- what is added up over items up to m, of ends of at most e
 pub items_fit : (b : Bool) (m e : ℕ) (g : ℕ → ℕ) (items : List Item) → 1 ≤ m → ((k : ℕ) → g k ≤ e)
@@ -139,23 +121,14 @@ items_fit b m e g items some ends near =
 -- ---- what all amounts count for
 
 one_weight : (n a w : ℕ) → count_below n (λ i. if a == suc i then w else 0) ≤ w
-one_weight n zero w = omega (
-  arith,
-  below_none n (λ i. if zero == suc i then w else 0)
-      (λ i inside. ap (λ t. if t then w else 0) (ne_eqb 0 (suc i) (omega arith))),
-)
-one_weight n (suc a) w = elim (cases_lt a n) [
-  | inl h ↦ omega (
-    arith,
-    below_one n a (λ i. if suc a == suc i then w else 0) h
-        (λ i inside other. ap (λ t. if t then w else 0) (ne_eqb (suc a) (suc i) (omega (arith, other)))),
-    ap (λ t. if t then w else 0) (eq-eqb (suc a) (suc a) (omega arith)),
-  )
-  | inr h ↦ omega (
-    arith,
-    below_none n (λ i. if suc a == suc i then w else 0)
-        (λ i inside. ap (λ t. if t then w else 0) (ne_eqb (suc a) (suc i) (omega (arith, inside, h)))),
-  )
+unfolding count_below
+one_weight zero a w = omega arith
+one_weight (suc n) a w = elim (eqb_tells a (suc n)) [
+  | inl p ↦
+      let none = below_none n (λ i. if a == suc i then w else 0)
+      (λ i inside. rw (ne_eqb a (suc i) (omega (arith, p.1, inside))) refl) in
+      rw p.0 (omega (arith, none))
+  | inr p ↦ rw p.0 (omega (arith, one_weight n a w))
 ]
 
 pub weights_within : (n : ℕ) (items : List Item) → count_below n (λ i. weight_at items (suc i)) ≤ weight_sum items
@@ -176,19 +149,15 @@ pub coefficients_within : (b : Bool) (s : ℕ) (items : List Item)
     → count_below (suc s) (coefficient b items) ≤ counted b (suc s) (weight_sum items)
 coefficients_within false s items = weights_within (suc s) items
 coefficients_within true s items =
-    let each : count_below (suc s) (coefficient true items) ≤ count_below (suc s)
-    (λ i. weight_at items (suc i) * suc s) =
-    below_le (suc s) _ _ (λ i inside. turned (suc i) (suc s) (weight_at items (suc i)) (omega (arith, inside))) in
+    let each = below_le (suc s) (coefficient true items) (λ i. weight_at items (suc i) * suc s) (λ i inside.
+    let near : suc i ≤ suc s = omega (arith, inside) in
+    omega (arith, mul-le-mul_right (weight_at items (suc i)) near)) in
     omega (
       arith,
       each,
       below_times (suc s) (suc s) (λ i. weight_at items (suc i)),
-      mul-le-mul_right (suc s)
-          (weights_within (suc s) items),
+      mul-le-mul_right (suc s) (weights_within (suc s) items),
     )
-  where
-    turned : (i s w : ℕ) → i ≤ s → i * w ≤ w * s
-    turned i s w h = omega (arith, mul-le-mul_right w h)
 
 -- of ends of at most m
 pub next_sum_le : (c ends : ℕ → ℕ) (s m : ℕ) → ((k : ℕ) → ends k ≤ m) → next_sum c ends s ≤ count_below (suc s) c * m

@@ -1,8 +1,5 @@
 -- The low ends of a grid that follows the recursion add up to at most 1.
-use Rattle.dl_panjer.proofs.Common.{ℕ, zero, suc, ◌≡◌, ◌<◌, ◌≤◌, arith, ap, subst₂, ◌∙◌, Fraction, ◌over◌, ◌+ℚ◌, ◌*ℚ◌, ◌≤ℚ◌, whole, sum_to, one_times, le_refl, le_trans, le_of_eq, times_le_times, over_times_whole, times_le_both, le_whole, count_below, AtLeast, cell, IsPanjer, IsWithinOne, FollowsOutward, compound_proper, recursion_there}
-use Rattle.dl_exact.proofs.Laws.{whole_plus}
-use Rattle.dl_exact.proofs.Sums.{sum_to_le, sum_to_times}
-use Rattle.dl_exact.proofs.Orders.{times_right_comm}
+use Rattle.dl_panjer.proofs.Common.{ℕ, zero, suc, ◌≡◌, ◌<◌, ◌≤◌, arith, ap, ◌∙◌, Fraction, ◌over◌, ◌+ℚ◌, ◌*ℚ◌, ◌≤ℚ◌, whole, sum_to, one_times, le_refl, le_trans, le_of_eq, times_le_times, over_times_whole, times_le_both, le_whole, count_below, AtLeast, cell, IsPanjer, IsWithinOne, FollowsOutward, compound_proper, recursion_there, whole_plus, sum_to_le, sum_to_times, times_right_comm}
 use Rattle.dl_model.proofs.Declared.{rises_to}
 use Rattle.dl_panjer.proofs.Base.{low_below}
 
@@ -24,8 +21,6 @@ low_mass S n a b f w lo hi F z P pos severity start =
     le_trans _ _ _ (le_of_eq _ _ (sum_to_times n (whole (lo 0)) (λ s. cell w f s n)))
     (times_le_both _ _ _ _ (le_refl (whole (lo 0))) (proper.within n n)) in
     let one : lo 0 over S *ℚ sum_to n w ≤ℚ whole 1 = start n (whole 1) (λ m. le_refl _) in
-    let units : whole (lo 0) *ℚ sum_to n w ≤ℚ whole S =
-    subst₂ (λ s t. s ≤ℚ t) (times_right_comm (lo 0 over S) (sum_to n w) (whole S)
-    ∙ ap (λ t. t *ℚ sum_to n w) (over_times_whole (lo 0) S pos)) (one_times (whole S))
+    let units = rw (times_right_comm (lo 0 over S), over_times_whole (lo 0) S pos, one_times) at
     (times_le_times _ _ (whole S) one) in
     le_whole _ S (le_trans _ _ _ (le_of_eq _ _ (whole_sum n lo)) (le_trans _ _ _ below (le_trans _ _ _ all units)))

@@ -1,11 +1,6 @@
 -- The two roundings of a Poisson and of a geometric grid are outward.
-use Rattle.dl_panjer.proofs.Common.{◌≡◌, ◌⊎◌, inl, inr, ℕ, suc, ◌*◌, ◌/◌, ◌^◌, ◌<◌, ◌≤◌, Bool, true, false, List, length, arith, refl, sym, ap, subst, ◌∙◌, mul-pos, zero-lt-suc, cases_lt, div_ceil, Fraction, ◌over◌, ◌+ℚ◌, ◌*ℚ◌, ◌/ℚ◌, ◌≤ℚ◌, ◌<ℚ◌, whole, IsFloor, over_same, over_mul, one_pos, ring, zero_times, le_refl, le_trans, whole_pos, times_cancel, div_times, over_times_whole, times_le_both, floor_div, ceiling_div, sum_pairs_same, sum_pairs_times, from_before, Iv, low_at, high_at, Item, weight_at, coefficient, next_sum, FollowsOutward, FollowsRounded}
-use Rattle.std.proofs.Math.Nat.{min-eq_right}
-use Rattle.dl_exact.proofs.Laws.{times_assoc, zero_plus, plus_zero}
-use Rattle.dl_exact.specs.Count.{count_pairs}
-use Rattle.dl_panjer.specs.Outward.{IsCeilingWithin}
+use Rattle.dl_panjer.proofs.Common.{◌≡◌, ◌⊎◌, inl, inr, ℕ, suc, ◌*◌, ◌/◌, ◌^◌, ◌<◌, ◌≤◌, Bool, true, false, List, length, arith, refl, sym, ap, ◌∙◌, mul-pos, zero-lt-suc, cases_lt, div_ceil, Fraction, ◌over◌, ◌+ℚ◌, ◌*ℚ◌, ◌/ℚ◌, ◌≤ℚ◌, ◌<ℚ◌, whole, IsFloor, over_same, over_mul, one_pos, ring, zero_times, le_refl, le_trans, whole_pos, times_cancel, div_times, over_times_whole, times_le_both, floor_div, ceiling_div, sum_pairs_same, sum_pairs_times, from_before, Iv, low_at, high_at, Item, weight_at, coefficient, next_sum, FollowsOutward, FollowsRounded, min-eq_right, times_assoc, zero_plus, plus_zero, count_pairs, IsCeilingWithin, times_right_comm}
 use Rattle.dl_exact.proofs.SumsOver.{sum_pairs_over}
-use Rattle.dl_exact.proofs.Orders.{times_right_comm}
 
 -- a factor of a quotient that was rounded first
 module _ (T C : ℕ) (c : Fraction) (pos : 0 < T) where
@@ -15,7 +10,7 @@ module _ (T C : ℕ) (c : Fraction) (pos : 0 < T) where
   ceiling_part : (S n : ℕ) → IsCeilingWithin S (c *ℚ whole (div_ceil C T)) n → (c *ℚ C over T ≤ℚ whole n) ⊎ (S ≤ n)
   ceiling_part S n h = elim (cases_lt S h.0) [
     | inl far ↦ inr (omega (arith, h.2))
-    | inr near ↦ inl (subst (λ k. c *ℚ C over T ≤ℚ whole k) (sym (h.2 ∙ min-eq_right near))
+    | inr near ↦ inl (rw (h.2, min-eq_right near)
         (le_trans _ _ _ (times_le_both _ _ _ _ (le_refl c) (ceiling_div C T pos).above) h.1.above))
   ]
 
@@ -29,10 +24,10 @@ pub outward : {B : ℕ} (b : Bool) (factor : ℕ → Fraction) (items : List Ite
     → FollowsOutward (2 ^ B) (length grid) x y (λ j. weight_at items j over T) (low_at grid) (high_at grid)
 outward {B} b factor items T grid x y pos same F = record {
   low = λ s inside.
-      subst (λ t. whole (low_at grid (suc s)) ≤ℚ t) (sym (same (low_at grid) s))
+      rw (same (low_at grid) s)
       (floor_part T (next_sum (coefficient b items) (low_at grid) s) (factor s) pos _ (F.low s inside));
   high = λ s inside.
-      subst (λ t. (t ≤ℚ whole (high_at grid (suc s))) ⊎ (2 ^ B ≤ high_at grid (suc s))) (sym (same (high_at grid) s))
+      rw (same (high_at grid) s)
       (ceiling_part T (next_sum (coefficient b items) (high_at grid) s) (factor s) pos (2 ^ B) _ (F.high s inside));
 }
 

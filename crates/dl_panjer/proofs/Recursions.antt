@@ -1,8 +1,5 @@
 -- Steps in whole numbers are the floors and ceilings of the recursions of Poisson and geometric counts.
-use Rattle.dl_panjer.proofs.Common.{ℕ, suc, ◌≡◌, ◌+◌, ◌*◌, ◌/◌, ◌<◌, ◌^◌, Bool, true, false, length, arith, sym, ap, subst, subst₂, ◌∙◌, mul-pos, List, div_ceil, zero-lt-suc, Fraction, ◌over◌, ◌+ℚ◌, ◌*ℚ◌, ◌/ℚ◌, whole, IsFloor, IsCeiling, over_same, over_add, over_mul, over_div, one_pos, times_comm, floor_div, ceiling_div, Item, Iv, low_at, high_at, counted, coefficient, next_sum, Follows, FollowsRounded}
-use Rattle.std.proofs.Common.{mul_comm}
-use Rattle.dl_exact.proofs.Over.{over_self}
-use Rattle.dl_exact.proofs.Denominators.{units_of}
+use Rattle.dl_panjer.proofs.Common.{ℕ, suc, ◌≡◌, ◌+◌, ◌*◌, ◌/◌, ◌<◌, ◌^◌, Bool, true, false, length, arith, sym, ap, ◌∙◌, mul-pos, List, div_ceil, zero-lt-suc, Fraction, ◌over◌, ◌+ℚ◌, ◌*ℚ◌, ◌/ℚ◌, whole, over_same, over_add, over_mul, over_div, one_pos, times_comm, floor_div, ceiling_div, Item, Iv, low_at, high_at, counted, coefficient, next_sum, Follows, FollowsRounded, mul_comm, over_self, units_of}
 use Rattle.dl_panjer.proofs.Steps.{counted_pos}
 
 -- mean / k by the parts of the mean
@@ -27,12 +24,11 @@ follows_rounded : {B : ℕ} (b : Bool) (factor : ℕ → Fraction) (items : List
 follows_rounded b factor items T v cells is F = record {
   low = λ s inside.
       let x : ℕ = next_sum (coefficient b items) (low_at cells) s / T in
-      subst₂ (λ t n. IsFloor t n) (is x s) (sym (F.low s inside)) (floor_div (x * v.num) _ (there s));
+      rw (← is x s, F.low s inside) (floor_div (x * v.num) _ (there s));
   high = λ s inside.
       let y : ℕ = div_ceil (next_sum (coefficient b items) (high_at cells) s) T in (
         div_ceil (y * v.num) (counted b (suc s) v.den),
-        subst (λ t. IsCeiling t (div_ceil (y * v.num) (counted b (suc s) v.den))) (is y s)
-            (ceiling_div (y * v.num) _ (there s)),
+        rw (← is y s) (ceiling_div (y * v.num) _ (there s)),
         F.high s inside,
       );
 }

@@ -1,8 +1,7 @@
 -- How far apart the ends of a grid that follows the recursion lie.
-use Rattle.dl_panjer.proofs.Common.{ℕ, suc, ◌≡◌, ◌+◌, ◌-◌, ◌*◌, ◌/◌, ◌<◌, ◌≤◌, Bool, true, false, List, arith, sym, ap, subst, ◌∙◌, mul-le-mul, div_ceil, zero-lt-suc, lt-div-mul-add, Fraction, count_below, below_le, below_plus, below_times, below_pairs, Item, weight_at, weight_sum, counted, coefficient, next_sum, Follows}
+use Rattle.dl_panjer.proofs.Common.{ℕ, suc, ◌≡◌, ◌+◌, ◌-◌, ◌*◌, ◌/◌, ◌<◌, ◌≤◌, Bool, true, false, List, arith, ap, ◌∙◌, mul-le-mul, div_ceil, zero-lt-suc, lt-div-mul-add, Fraction, count_below, below_le, below_plus, below_times, below_pairs, Item, weight_at, weight_sum, counted, coefficient, next_sum, Follows, below_constant, pairs_plus, pairs_same, pairs_within, below_grows}
 use Rattle.std.proofs.Common.{mul-le-mul_left, mul-le-mul_right, le_of_mul-le-mul_right}
 use Rattle.std.proofs.lemmas.Grind.{div_ceil_times}
-use Rattle.dl_exact.proofs.Counts.{below_constant, pairs_plus, pairs_same, pairs_within, below_grows}
 use Rattle.dl_panjer.proofs.ItemSums.{weights_within}
 use Rattle.dl_panjer.proofs.Steps.{counted_pos}
 
@@ -18,8 +17,7 @@ step_width L D T num d lo w T_pos pos small low high =
     let down : L ≤ X * T + T = omega (arith, lt-div-mul-add {a = L} {b = T} T_pos) in
     let inner : Y * T ≤ X * T + D + 2 * T = omega (arith, up, down) in
     let over : Z * d ≤ Y * num + d = omega (arith, (div_ceil_times (Y * num) d pos).1) in
-    let under : X * num ≤ lo * d + d = subst (λ t. X * num ≤ t * d + d) (sym low)
-    (omega (arith, lt-div-mul-add {a = X * num} {b = d} pos)) in
+    let under : X * num ≤ lo * d + d = rw low (omega (arith, lt-div-mul-add {a = X * num} {b = d} pos)) in
     let top : (lo + w) * d ≤ Z * d = mul-le-mul_right d high in
     let outer : (lo + w) * d ≤ Y * num + d = omega (arith, top, over) in
     omega (
@@ -41,10 +39,10 @@ pub next_sum_counted : (b : Bool) (items : List Item) (ends : ℕ → ℕ) (s : 
     → next_sum (coefficient b items) ends s ≤ counted b (suc s) (next_sum (λ i. weight_at items (suc i)) ends s)
 next_sum_counted false items ends s = omega arith
 next_sum_counted true items ends s =
-    let each : count_below (suc s) (λ i. suc i * weight_at items (suc i) * ends (s - i)) ≤ count_below (suc s)
-    (λ i. weight_at items (suc i) * ends (s - i) * suc s) =
-    below_le (suc s) _ _ (λ i inside. turned (suc i) (suc s) (weight_at items (suc i)) (ends (s - i))
-    (omega (arith, inside))) in
+    let each = below_le (suc s) (λ i. suc i * weight_at items (suc i) * ends (s - i))
+    (λ i. weight_at items (suc i) * ends (s - i) * suc s) (λ i inside.
+    let near : suc i ≤ suc s = omega (arith, inside) in
+    omega (arith, mul-le-mul_right (weight_at items (suc i) * ends (s - i)) near)) in
     omega (
       arith,
       each,
@@ -52,9 +50,6 @@ next_sum_counted true items ends s =
       below_times (suc s) (suc s) (λ i. weight_at items (suc i) * ends (s - i)),
       ap (λ t. t * suc s) (below_pairs s (λ i k. weight_at items (suc i) * ends k)),
     )
-  where
-    turned : (i s w e : ℕ) → i ≤ s → i * w * e ≤ w * e * s
-    turned i s w e h = omega (arith, mul-le-mul_right (w * e) h)
 
 next_sum_plus : (c f g : ℕ → ℕ) (s : ℕ) → next_sum c (λ k. f k + g k) s ≡ next_sum c f s + next_sum c g s
 next_sum_plus c f g s = pairs_same s (λ i k. c i * (f k + g k)) (λ i k. c i * f k + c i * g k) (λ i k. omega arith)
@@ -74,8 +69,7 @@ module _ (b : Bool) (items : List Item) (S T : ℕ) (rate : Fraction) (lo hi w :
       (λ i k. ap (λ t. coefficient b items i * t) (apart k)) ∙ next_sum_plus (coefficient b items) lo w s in
       let pos : 0 < d = counted_pos b (suc s) rate.den (zero-lt-suc s) rate.positive in
       let high : lo (suc s) + w (suc s) ≤ div_ceil (div_ceil (L + D) T * rate.num) d =
-      subst (λ t. lo (suc s) + w (suc s) ≤ div_ceil (div_ceil t T * rate.num) d) H
-      (omega (arith, apart (suc s), F.high s inside)) in
+      rw (← H) (omega (arith, apart (suc s), F.high s inside)) in
       let one = step_width L D T rate.num d (lo (suc s)) (w (suc s)) T_pos pos
       (wider b (suc s) rate.num rate.den (zero-lt-suc s) at_most_one) (F.low s inside) high in
       let shared : D * rate.num ≤ counted b (suc s) (next_sum (λ i. weight_at items (suc i)) w s) * rate.num =
@@ -102,7 +96,7 @@ module _ (b : Bool) (items : List Item) (S T : ℕ) (rate : Fraction) (lo hi w :
       below_le n _ _ (λ s inside. omega (arith, widths s (omega (arith, inside, last)))) in
       let pairs : count_below n (next_sum v w) ≤ count_below n v * count_below n w = pairs_within n v w in
       let within : count_below n v * count_below n w ≤ T * count_below (suc n) w =
-      mul-le-mul (subst (λ t. count_below n v ≤ t) sum (weights_within n items))
+      mul-le-mul (rw (← sum) (weights_within n items))
       (below_grows n (suc n) w (omega arith)) in
       let scaled : count_below n (next_sum v w) * rate.num ≤ T * count_below (suc n) w * rate.num =
       mul-le-mul_right rate.num (omega (arith, pairs, within)) in

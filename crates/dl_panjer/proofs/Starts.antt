@@ -1,8 +1,6 @@
 -- Cell 0 of a Poisson grid and of a geometric grid.
-use Rattle.dl_panjer.proofs.Common.{ℕ, zero, suc, ◌≡◌, ◌+◌, ◌*◌, ◌/◌, ◌^◌, ◌<◌, ◌≤◌, arith, sym, ap, subst, subst₂, ◌∙◌, mul-pos, div_ceil, zero-lt-suc, lt-div-mul-add, Fraction, ◌over◌, ◌+ℚ◌, ◌*ℚ◌, ◌/ℚ◌, ◌≤ℚ◌, whole, sum_to, over_same, over_div, one_pos, times_cancel, le_refl, le_trans, whole_pos, div_ceil_least, Iv, Holds, poisson, EnclosesExp}
-use Rattle.dl_exact.proofs.Sums.{sum_to_same}
+use Rattle.dl_panjer.proofs.Common.{ℕ, zero, suc, ◌≡◌, ◌+◌, ◌*◌, ◌/◌, ◌^◌, ◌<◌, ◌≤◌, arith, sym, ap, ◌∙◌, mul-pos, div_ceil, zero-lt-suc, lt-div-mul-add, Fraction, ◌over◌, ◌+ℚ◌, ◌*ℚ◌, ◌/ℚ◌, whole, sum_to, over_same, over_div, one_pos, times_cancel, le_refl, le_trans, whole_pos, div_ceil_least, Iv, Holds, poisson, EnclosesExp, sum_to_same, exponential_term, exponential_sum}
 use Rattle.dl_model.proofs.PoissonWeights.{poisson_zero, poisson_next}
-use Rattle.dl_exp.specs.Exponential.{exponential_term, exponential_sum}
 use Rattle.dl_exp.proofs.Terms.{term_zero, term_next}
 use Rattle.dl_panjer.proofs.Recursions.{one_and}
 
@@ -35,10 +33,8 @@ pub poisson_start : {B : ℕ} (v : Fraction) (interval : Iv B) (lo hi : ℕ) →
     → hi ≡ interval.hi
     → Holds (λ N. whole 1) (λ N. sum_to N (poisson v)) (lo over 2 ^ B) (hi over 2 ^ B)
 poisson_start {B} v interval lo hi encloses low high = (
-  (λ N u bound. le_trans _ _ _ (subst₂ (λ n t. n over 2 ^ B *ℚ t ≤ℚ whole 1) (sym low) (sym (sums_are v N))
-      (encloses.low N)) (bound zero)),
-  (λ N u bound. subst (λ n. whole 1 ≤ℚ n over 2 ^ B *ℚ u) (sym high)
-      (encloses.high u (λ M. subst (λ t. t ≤ℚ u) (sums_are v M) (bound M)))),
+  (λ N u bound. le_trans _ _ _ (rw (low, sums_are v N) (encloses.low N)) (bound zero)),
+  (λ N u bound. rw high (encloses.high u (λ M. rw (← sums_are v M) (bound M)))),
 )
 
 -- ---- the geometric count: d over p + d, where beta is p over d

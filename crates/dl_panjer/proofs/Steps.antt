@@ -1,7 +1,5 @@
 -- The bounds of one step of a grid's recursion, and what it reads.
-use Rattle.dl_panjer.proofs.Common.{ℕ, suc, ◌≡◌, ◌+◌, ◌-◌, ◌*◌, ◌/◌, ◌^◌, ◌<◌, ◌≤◌, Bool, true, false, List, [], ◌∷◌, length, arith, sym, ap, ap₂, ◌∙◌, mul-pos, ◌⊎◌, inl, inr, cases_lt, div_ceil, zero-lt-suc, mul-le-mul_right, Fraction, ◌≤ℚ◌, whole, div_ceil_least, Iv, low_at, high_at, count_below, low_at_front, high_at_front, low_at_pushed, high_at_pushed, Item, weight_sum, num_le_den, counted, coefficient, next_sum, low_next, high_next, Follows}
-use Rattle.std.proofs.Common.{◌++◌}
-use Rattle.std.specs.Prelude.{min}
+use Rattle.dl_panjer.proofs.Common.{ℕ, suc, ◌≡◌, ◌+◌, ◌-◌, ◌*◌, ◌/◌, ◌^◌, ◌<◌, ◌≤◌, Bool, true, false, List, [], ◌∷◌, length, arith, sym, ap, ap₂, ◌∙◌, mul-pos, inl, inr, cases_lt, div_ceil, zero-lt-suc, mul-le-mul_right, Fraction, ◌≤ℚ◌, whole, div_ceil_least, Iv, low_at, high_at, count_below, low_at_front, high_at_front, low_at_pushed, high_at_pushed, Item, weight_sum, num_le_den, counted, coefficient, next_sum, low_next, high_next, Follows, ◌++◌, min}
 use Rattle.std.proofs.Math.Nat.{mul-le-mul, div-le_of_le-mul}
 use Rattle.dl_iv.proofs.Rounding.{floor_le_ceiling}
 use Rattle.dl_panjer.proofs.ItemSums.{coefficients_within, next_sum_le, next_sum_rises, next_sum_same}
@@ -97,7 +95,21 @@ high_next_same S b items T rate f g s h =
     ap (λ t. min S (div_ceil (div_ceil t T * rate.num) (counted b (suc s) rate.den)))
     (next_sum_same (coefficient b items) f g s h)
 
--- one more cell
+-- ---- one more cell
+
+-- a step that reads only the ends up to s
+next_pushed : (step : (ℕ → ℕ) → ℕ → ℕ)
+    → ((f g : ℕ → ℕ) (s : ℕ) → ((k : ℕ) → k ≤ s → f k ≡ g k) → step f s ≡ step g s)
+    → (before after : ℕ → ℕ) (n : ℕ) → ((k : ℕ) → k < n → before k ≡ after k) → after n ≡ step before (n - 1)
+    → ((s : ℕ) → suc s < n → before (suc s) ≡ step before s) → (s : ℕ) → suc s < n + 1 → after (suc s) ≡ step after s
+next_pushed step reads before after n kept last old s inside = elim (cases_lt (suc s) n) [
+  | inl h ↦ sym (kept (suc s) h) ∙ old s h ∙ reads before after s (λ k b. kept k (omega (arith, h, b)))
+  | inr h ↦
+      let e : n ≡ suc s = omega (arith, h, inside) in
+      let d : n - 1 ≡ s = omega (arith, e) in
+      ap after (sym e) ∙ last ∙ ap (step before) d ∙ reads before after s (λ k b. kept k (omega (arith, e, b)))
+]
+
 pub follows_pushed : {B : ℕ} (b : Bool) (items : List Item) (T : ℕ) (rate : Fraction) (cells : List (Iv B))
     (cell : Iv B) (n : ℕ) → length cells ≡ n → 1 ≤ n
     → Follows (2 ^ B) b items T rate (low_at cells) (high_at cells) n
@@ -105,25 +117,12 @@ pub follows_pushed : {B : ℕ} (b : Bool) (items : List Item) (T : ℕ) (rate : 
     → cell.hi ≡ high_next (2 ^ B) b items T rate (high_at cells) (length cells - 1)
     → Follows (2 ^ B) b items T rate (low_at (cells ++ cell ∷ [])) (high_at (cells ++ cell ∷ [])) (n + 1)
 follows_pushed {B} b items T rate cells cell n e some before low high = record {
-  low = λ s inside. elim (same_or_less (suc s) n inside) [
-    | inl h ↦ low_at_front cells (cell ∷ []) (suc s) (omega (arith, h)) ∙ before.low s h
-        ∙ low_next_same b items T rate (low_at cells) (low_at (cells ++ cell ∷ [])) s
-        (λ k in_front. sym (low_at_front cells (cell ∷ []) k (omega (arith, h, in_front))))
-    | inr h ↦ low_at_pushed cells cell (suc s) (omega (arith, h)) ∙ low
-        ∙ ap (low_next b items T rate (low_at cells)) (omega (arith, h))
-        ∙ low_next_same b items T rate (low_at cells) (low_at (cells ++ cell ∷ [])) s
-        (λ k in_front. sym (low_at_front cells (cell ∷ []) k (omega (arith, h, in_front))))
-  ];
-  high = λ s inside. elim (same_or_less (suc s) n inside) [
-    | inl h ↦ high_at_front cells (cell ∷ []) (suc s) (omega (arith, h)) ∙ before.high s h
-        ∙ high_next_same (2 ^ B) b items T rate (high_at cells) (high_at (cells ++ cell ∷ [])) s
-        (λ k in_front. sym (high_at_front cells (cell ∷ []) k (omega (arith, h, in_front))))
-    | inr h ↦ high_at_pushed cells cell (suc s) (omega (arith, h)) ∙ high
-        ∙ ap (high_next (2 ^ B) b items T rate (high_at cells)) (omega (arith, h))
-        ∙ high_next_same (2 ^ B) b items T rate (high_at cells) (high_at (cells ++ cell ∷ [])) s
-        (λ k in_front. sym (high_at_front cells (cell ∷ []) k (omega (arith, h, in_front))))
-  ];
+  low = next_pushed (low_next b items T rate) (low_next_same b items T rate)
+      (low_at cells) (low_at (cells ++ cell ∷ [])) n
+      (λ k h. sym (low_at_front cells (cell ∷ []) k (omega (arith, e, h))))
+      (low_at_pushed cells cell n (sym e) ∙ (rw e at low)) before.low;
+  high = next_pushed (high_next (2 ^ B) b items T rate) (high_next_same (2 ^ B) b items T rate)
+      (high_at cells) (high_at (cells ++ cell ∷ [])) n
+      (λ k h. sym (high_at_front cells (cell ∷ []) k (omega (arith, e, h))))
+      (high_at_pushed cells cell n (sym e) ∙ (rw e at high)) before.high;
 }
-  where
-    same_or_less : (m n : ℕ) → m < n + 1 → (m < n) ⊎ (m ≡ n)
-    same_or_less m n h = elim (cases_lt m n) [ inl p ↦ inl p | inr p ↦ inr (omega (arith, p, h)) ]

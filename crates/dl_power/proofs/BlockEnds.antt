@@ -1,9 +1,7 @@
 -- The rounded ends of a product, of a sum and of a mixture of grids, between which what they hold lies.
-use Rattle.dl_power.proofs.Common.{ℕ, zero, suc, ◌≡◌, ◌+◌, ◌*◌, ◌/◌, ◌<◌, ◌≤◌, arith, sym, ap, ap₂, subst, ◌∙◌, mul-pos, min, div_ceil, div-mul-le_self, div_ceil_times, Fraction, whole, ◌over◌, ◌+ℚ◌, ◌*ℚ◌, ◌≤ℚ◌, sum_to, over_le, over_mul, one_pos, le_refl, le_trans, le_of_eq, plus_le_both, times_le_both, sum_to_le, count_pairs, count_below, convolve, power, cell_from, IsWithinOne, compound_proper, LieBetween}
+use Rattle.dl_power.proofs.Common.{ℕ, zero, suc, ◌≡◌, ◌+◌, ◌*◌, ◌/◌, ◌<◌, ◌≤◌, arith, sym, ap, ap₂, ◌∙◌, mul-pos, min, div_ceil, div-mul-le_self, div_ceil_times, Fraction, whole, ◌over◌, ◌+ℚ◌, ◌*ℚ◌, ◌≤ℚ◌, sum_to, over_le, over_mul, one_pos, le_refl, le_trans, le_of_eq, plus_le_both, times_le_both, sum_to_le, count_pairs, count_below, convolve, power, cell_from, IsWithinOne, compound_proper, LieBetween, le_over, over_plus, over_split, to_over}
 use Rattle.std.proofs.Common.{mul-le-mul_right}
-use Rattle.dl_exact.proofs.Over.{le_over}
-use Rattle.dl_exact.proofs.Denominators.{over_plus}
-use Rattle.dl_power.proofs.HornerSteps.{shifted, pairs_low, pairs_high, sum_over, clamped}
+use Rattle.dl_power.proofs.HornerSteps.{shifted, pairs_low, pairs_high, clamped}
 
 -- what counts from k on come to adds up to at most 1
 pub cells_within_one : (w f : ℕ → Fraction) → IsWithinOne w → IsWithinOne f → (k N : ℕ)
@@ -13,11 +11,6 @@ cells_within_one w f p q k N n = le_trans _ _ _ ((compound_proper (λ i. w (k + 
 
 module _ (S : ℕ) (pos : 0 < S) where
   -- low ends below what adds up to at most 1 add up to at most S
-  pub low_sums : (n : ℕ) (lo : ℕ → ℕ) → sum_to n (λ s. lo s over S) ≡ count_below (suc n) lo over S
-  unfolding sum_to count_below
-  low_sums zero lo = ap (λ t. t over S) (omega arith)
-  low_sums (suc n) lo = ap (λ t. t +ℚ lo (suc n) over S) (low_sums n lo) ∙ over_plus _ _ S pos
-
   pub mass_within : (n : ℕ) (lo : ℕ → ℕ) (c : ℕ → Fraction) → IsWithinOne c → ((s : ℕ) → s < n → lo s over S ≤ℚ c s)
       → count_below n lo ≤ S
   unfolding count_below
@@ -26,8 +19,8 @@ module _ (S : ℕ) (pos : 0 < S) where
       omega (
         arith,
         le_over _ _ _ _ pos one_pos
-            (subst (λ t. t ≤ℚ whole 1) (low_sums n lo)
-            (le_trans _ _ _ (sum_to_le n _ c (λ s b. low s (omega arith))) (p n))),
+            (rw (to_over n S lo pos) at
+            (le_trans _ _ _ (sum_to_le n (λ s. lo s over S) c (λ s b. low s (omega arith))) (p n))),
       )
 
   below_min : (h : ℕ) (x : Fraction) → h over S ≤ℚ x → min S h over S ≤ℚ x
@@ -40,9 +33,8 @@ module _ (S : ℕ) (pos : 0 < S) where
       → ((s : ℕ) → s < K → g' s ≡ min S (div_ceil (count_pairs s (λ i j. hi i * hi' j)) S))
       → LieBetween S K g g' (convolve f c)
   product_between K lo hi lo' hi' g g' f c of_f of_c one e e' = record {
-    low = λ s inside. subst (λ t. t over S ≤ℚ convolve f c s) (sym (e s inside))
-        (pairs_low S pos K lo hi lo' hi' f c of_f of_c s inside);
-    high = λ s inside. subst (λ t. convolve f c s ≤ℚ t over S) (sym (e' s inside))
+    low = λ s inside. rw (e s inside) (pairs_low S pos K lo hi lo' hi' f c of_f of_c s inside);
+    high = λ s inside. rw (e' s inside)
         (clamped S pos _ _ (one s) (pairs_high S pos K lo hi lo' hi' f c of_f of_c s inside));
   }
 
@@ -52,14 +44,12 @@ module _ (S : ℕ) (pos : 0 < S) where
       → ((s : ℕ) → s < K → g s ≡ min S (lo s + lo' s)) → ((s : ℕ) → s < K → g' s ≡ min S (hi s + hi' s))
       → LieBetween S K g g' both
   sum_between K lo hi lo' hi' g g' b c both of_b of_c sum one e e' = record {
-    low = λ s inside. subst (λ t. t over S ≤ℚ both s) (sym (e s inside))
-        (below_min _ _ (subst (λ t. (lo s + lo' s) over S ≤ℚ t) (sym (sum s))
-        (le_trans _ _ _ (le_of_eq _ _ (sum_over S pos (lo s) (lo' s)))
+    low = λ s inside. rw (e s inside) (below_min _ _ (rw (sum s)
+        (le_trans _ _ _ (le_of_eq _ _ (over_split (lo s) (lo' s) S pos))
         (plus_le_both _ _ _ _ (of_b.low s inside) (of_c.low s inside)))));
-    high = λ s inside. subst (λ t. both s ≤ℚ t over S) (sym (e' s inside))
-        (clamped S pos _ _ (one s) (subst (λ t. t ≤ℚ (hi s + hi' s) over S) (sym (sum s))
+    high = λ s inside. rw (e' s inside) (clamped S pos _ _ (one s) (rw (sum s)
         (le_trans _ _ _ (plus_le_both _ _ _ _ (of_b.high s inside) (of_c.high s inside))
-        (le_of_eq _ _ (sym (sum_over S pos (hi s) (hi' s)))))));
+        (le_of_eq _ _ (over_plus (hi s) (hi' s) S pos)))));
   }
 
   module _ (total : ℕ) (there : 0 < total) where
@@ -81,17 +71,15 @@ module _ (S : ℕ) (pos : 0 < S) where
     mixed_between K m k a lo hi g g' w f chance of_f one e e' = record {
       low = λ s inside.
           let n = count_below (suc m) (λ i. a i * lo i s) in
-          subst (λ t. t over S ≤ℚ cell_from w f k s m) (sym (e s inside))
+          rw (e s inside)
           (below_min _ _ (le_trans _ _ _ (over_le (n / total) S n (total * S) pos (mul-pos there pos) (scaled n S))
           (le_trans _ _ _ (le_of_eq _ _ (sym (mixed_sums m a (λ i. lo i s))))
-          (sum_to_le m _ _ (λ i b. subst (λ t. a i over total *ℚ lo i s over S ≤ℚ t *ℚ power f i s) (chance i b)
+          (sum_to_le m _ _ (λ i b. rw (← chance i b)
           (times_le_both _ _ _ _ (le_refl _) ((of_f i b).low s inside)))))));
       high = λ s inside.
           let n = count_below (suc m) (λ i. a i * hi i s) in
-          subst (λ t. cell_from w f k s m ≤ℚ t over S) (sym (e' s inside))
-          (clamped S pos _ _ (one s)
-          (le_trans _ _ _ (sum_to_le m _ _ (λ i b. subst
-          (λ t. t *ℚ power f i s ≤ℚ a i over total *ℚ hi i s over S) (chance i b)
+          rw (e' s inside) (clamped S pos _ _ (one s)
+          (le_trans _ _ _ (sum_to_le m _ _ (λ i b. rw (← chance i b)
           (times_le_both _ _ _ _ (le_refl _) ((of_f i b).high s inside))))
           (le_trans _ _ _ (le_of_eq _ _ (mixed_sums m a (λ i. hi i s)))
           (over_le n (total * S) (div_ceil n total) S (mul-pos there pos) pos (raised n S)))));

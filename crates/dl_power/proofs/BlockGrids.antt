@@ -1,7 +1,5 @@
 -- Grids of blocks: their two lists are ends of a grid, between which what the counts come to lies.
-use Rattle.dl_power.proofs.Common.{ℕ, suc, ◌≡◌, ◌+◌, ◌-◌, ◌*◌, ◌/◌, ◌^◌, ◌<◌, ◌≤◌, List, [], length, get_or, arith, refl, sym, ap, subst, ◌∙◌, min, div_ceil, div-mul-le_self, le_of_mul-le-mul_right, mul-le-mul_left, pow_pos, div_ceil_times, Fraction, ◌over◌, ◌≤ℚ◌, Iv, low_at, high_at, AreEnds, IsGridSize, low_le_high, count_below, below_le, cell_from, IsWithinOne, probability_at, probability_is, Item, weight_at, weight_sum, LieBetween, Between, ArePowers, mixture_end}
-use Rattle.dl_grid.specs.Cells.{low_ends, high_ends}
-use Rattle.dl_grid.proofs.EndLists.{low_at_ends, high_at_ends}
+use Rattle.dl_power.proofs.Common.{ℕ, suc, ◌≡◌, ◌+◌, ◌-◌, ◌*◌, ◌/◌, ◌^◌, ◌<◌, ◌≤◌, List, [], length, get_or, arith, refl, sym, ap, ◌∙◌, min, div_ceil, div-mul-le_self, le_of_mul-le-mul_right, mul-le-mul_left, pow_pos, div_ceil_times, Fraction, ◌over◌, ◌≤ℚ◌, Iv, low_at, high_at, AreEnds, IsGridSize, low_le_high, count_below, below_le, cell_from, IsWithinOne, probability_at, probability_is, Item, weight_at, weight_sum, LieBetween, Between, ArePowers, mixture_end, low_ends, high_ends, low_at_ends, high_at_ends}
 use Rattle.dl_power.proofs.WeightLists.{probabilities_within}
 use Rattle.dl_power.proofs.HornerSteps.{from_within_one}
 use Rattle.dl_power.proofs.EndLists.{mixture_end_is, made_ends}
@@ -12,10 +10,8 @@ pub as_made : {B : ℕ} (g : List (Iv B)) (lows highs : List ℕ) (K : ℕ) (c :
     → high_ends g ≡ highs
     → LieBetween (2 ^ B) K (λ x. get_or lows x 0) (λ x. get_or highs x 0) c → Between K g c
 as_made {B} g lows highs K c e h between = record {
-  low = λ s inside. subst (λ t. t over 2 ^ B ≤ℚ c s) (ap (λ t. get_or t s 0) (sym e) ∙ low_at_ends g s)
-      (between.low s inside);
-  high = λ s inside. subst (λ t. c s ≤ℚ t over 2 ^ B) (ap (λ t. get_or t s 0) (sym h) ∙ high_at_ends g s)
-      (between.high s inside);
+  low = λ s inside. rw (← low_at_ends g s, e) (between.low s inside);
+  high = λ s inside. rw (← high_at_ends g s, h) (between.high s inside);
 }
 
 floor_ceiling : (S low high total : ℕ) → 0 < total → low ≤ high → min S (low / total) ≤ min S (div_ceil high total)

@@ -1,7 +1,5 @@
 -- The powers that all blocks share, and which counts each block has.
-use Rattle.dl_power.proofs.Common.{ℕ, suc, ◌≡◌, ◌+◌, ◌-◌, ◌*◌, ◌/◌, ◌^◌, ◌<◌, ◌≤◌, List, length, get_or, take, arith, sym, ap, ap₂, subst, ◌∙◌, All, div-mul-le_self, mul-le-mul_right, sub-zero, length-take-le, Fraction, Iv, mass_low, power, cell_from, IsWithinOne, Between, ArePowers}
-use Rattle.dl_power.specs.Powers.{IsStep}
-use Rattle.std.proofs.Math.Nat.{div-add-mod, mod-lt, zero-mul}
+use Rattle.dl_power.proofs.Common.{ℕ, suc, ◌≡◌, ◌+◌, ◌-◌, ◌*◌, ◌/◌, ◌^◌, ◌<◌, ◌≤◌, List, length, get_or, take, arith, sym, ap, ap₂, subst, ◌∙◌, All, div-mul-le_self, mul-le-mul_right, sub-zero, length-take-le, Fraction, Iv, mass_low, power, cell_from, IsWithinOne, Between, ArePowers, IsStep, div-add-mod, mod-lt, zero-mul}
 use Rattle.std.proofs.lemmas.List.Elements.{All-take}
 use Rattle.dl_power.proofs.PowerGrids.{first_powers, power_at, own, own_within, own_between}
 
@@ -23,7 +21,7 @@ shared {B} base {all} {items} {n} K value many same powers = record {
   same = All-take (λ g. length g ≡ K) n all (subst (All (λ g. length g ≡ K)) (sym value) same);
   powers = λ f q of_f. first_powers K n f all (subst (ArePowers K f) (sym value) (powers f q of_f));
   last_long = λ step is. ap length is ∙ same n step (omega (arith, many));
-  last_power = λ step m is e f q of_f. subst (λ k. Between K step (power f k)) e
+  last_power = λ step m is e f q of_f. rw (← e)
       (power_at K n f items step (omega (arith, many)) is (powers f q of_f));
 }
 
@@ -74,11 +72,9 @@ pub step_to : {B : ℕ} {base step : List (Iv B)} {grids items : List (List (Iv 
 step_to {step = step} K w block later b c d {x} {y} p is inside some e h within of_block of_later f q of_f = record {
   counts = within;
   amounts = q;
-  of_block = subst (λ t. Between K block (λ s. cell_from w f (x * y) s (t - 1))) p.long
-      (of_block f q (p.powers f q of_f));
+  of_block = rw (← p.long) (of_block f q (p.powers f q of_f));
   of_step = p.last_power step (suc (c - 1)) is (omega (arith, some)) f q of_f;
-  of_later = subst (λ t. Between K later (λ s. cell_from w f t s (d * c + (c - 1))))
-      (block_after b c d x y inside some e h) (of_later f q of_f);
+  of_later = rw (← block_after b c d x y inside some e h) (of_later f q of_f);
 }
 
 pub next_block : (b c d x y : ℕ) → x ≡ b - d - 1 → y ≡ c → x * y ≡ (b - (d + 1)) * c

@@ -1,11 +1,7 @@
 -- What encloses the powers of a family, and one claim.
-use Rattle.dl_power.proofs.Common.{ℕ, ◌≡◌, ◌+◌, ◌*◌, ◌/◌, ◌^◌, ◌<◌, ◌≤◌, List, length, take, arith, refl, sym, ap, subst, subst₂, ◌∙◌, div_ceil, ne_eqb, pow_pos, div-mul-le_self, div_ceil_times, Fraction, ◌over◌, ◌≤ℚ◌, whole, over_le, times_one, Iv, low_at, high_at, all_at_zero, IsConvolution, probability_at, fixed, Family, compound, times_itself, IsProper, GridEncloses, finite_encloses, power_one, Item, weight_at, weight_sum, low_take, high_take, probability_is}
+use Rattle.dl_power.proofs.Common.{ℕ, ◌≡◌, ◌+◌, ◌*◌, ◌/◌, ◌^◌, ◌<◌, ◌≤◌, List, length, take, arith, refl, sym, ap, ◌∙◌, div_ceil, ne_eqb, pow_pos, Fraction, ◌over◌, ◌≤ℚ◌, whole, times_one, Iv, low_at, high_at, all_at_zero, IsConvolution, probability_at, fixed, Family, compound, times_itself, IsProper, GridEncloses, finite_encloses, power_one, Item, weight_at, weight_sum, low_take, high_take, probability_is, product, nothing, Encloses, convolution_encloses, encloses_same, encloses_power, itself_none, itself_one, itself_proper, all_at_zero_encloses, fixed_sum, fixed_cell, enclose_low, enclose_high}
 use Rattle.dl_exact.specs.Power.{◌^ℚ◌}
-use Rattle.dl_model.specs.Series.{Holds}
 use Rattle.dl_model.specs.Program.{where_true}
-use Rattle.dl_model.specs.Family.{product, nothing, Encloses}
-use Rattle.dl_model.proofs.FamilyLaws.{convolution_encloses, encloses_same, encloses_power, itself_none, itself_one, itself_proper}
-use Rattle.dl_model.proofs.FiniteCounts.{all_at_zero_encloses, fixed_sum, fixed_cell}
 
 -- ---- powers of a family
 
@@ -25,13 +21,11 @@ one_copy {B} g F = encloses_same (2 ^ B) (length g) (low_at g) (high_at g) F (ti
 pub first_cells : {B : ℕ} (g : List (Iv B)) (n : ℕ) (F : Family) → length (take n g) ≡ n → n ≤ length g
     → GridEncloses g F → GridEncloses (take n g) (times_itself F 1)
 first_cells {B} g n F e within of_g = one_copy (take n g) F (λ y inside.
-    subst₂ (λ l h. Holds (F.cells y) F.all (l over 2 ^ B) (h over 2 ^ B)) (sym (low_take g n y (omega (arith, e))))
-    (sym (high_take g n y (omega (arith, e)))) (of_g y (omega (arith, e))))
+    rw (low_take g n y (omega (arith, e)), high_take g n y (omega (arith, e))) (of_g y (omega (arith, e))))
 
 more_copies : {B : ℕ} (g : List (Iv B)) (F : Family) (m n k : ℕ) → m + n ≡ k
     → GridEncloses g (product (times_itself F m) (times_itself F n)) → GridEncloses g (times_itself F k)
-more_copies {B} g F m n k e of_g = subst (λ t. GridEncloses g (times_itself F t)) e
-    (encloses_power (2 ^ B) (length g) (low_at g) (high_at g) F m n of_g)
+more_copies {B} g F m n k e of_g = rw (← e) (encloses_power (2 ^ B) (length g) (low_at g) (high_at g) F m n of_g)
 
 -- the square of half as many copies
 pub squared : {B : ℕ} (a g : List (Iv B)) (n m k : ℕ) (F : Family) → IsProper F → m + m ≡ k → n ≤ length a
@@ -62,16 +56,10 @@ one_claim S K lo hi f low high =
     let same : (y : ℕ) → (compound (fixed 1) f).cells y 1 ≡ f y = λ y. fixed_cell 1 f y 1 (omega arith)
     ∙ ap (λ g. g y) (power_one f) in
     finite_encloses (fixed 1) f 1 (fixed_sum 1 1 (omega arith)) no_more S K lo hi
-    (λ y h. subst (λ t. lo y over S ≤ℚ t) (sym (same y)) (low y h))
-    (λ y h. subst (λ t. t ≤ℚ hi y over S) (sym (same y)) (high y h))
+    (λ y h. rw (same y) (low y h))
+    (λ y h. rw (same y) (high y h))
 
--- ---- a share, rounded outward
-
-pub share_low : (S w total : ℕ) → 0 < S → 0 < total → (S * w / total) over S ≤ℚ w over total
-share_low S w total pos p = over_le _ _ _ _ pos p (omega (arith, div-mul-le_self (S * w) total))
-
-pub share_high : (S w total : ℕ) → 0 < S → 0 < total → w over total ≤ℚ div_ceil (S * w) total over S
-share_high S w total pos p = over_le _ _ _ _ p pos (omega (arith, (div_ceil_times (S * w) total p).0))
+-- ---- one claim of a listed amount
 
 pub listed_claim : {B : ℕ} (grid : List (Iv B)) (items : List Item) (total : ℕ) → weight_sum items ≡ total → 0 < total
     → ((y : ℕ) → y < length grid → low_at grid y ≡ 2 ^ B * weight_at items y / total)
@@ -81,7 +69,5 @@ listed_claim {B} grid items total sum pos low high =
     let chance : (y : ℕ) → weight_at items y over total ≡ probability_at items y = λ y.
     sym (probability_is items total sum y) in
     one_claim (2 ^ B) (length grid) (low_at grid) (high_at grid) (probability_at items)
-    (λ y h. subst₂ (λ l x. l over 2 ^ B ≤ℚ x) (sym (low y h)) (chance y)
-    (share_low (2 ^ B) (weight_at items y) total (pow_pos B) pos))
-    (λ y h. subst₂ (λ t x. x ≤ℚ t over 2 ^ B) (sym (high y h)) (chance y)
-    (share_high (2 ^ B) (weight_at items y) total (pow_pos B) pos))
+    (λ y h. rw (low y h, ← chance y) (enclose_low (2 ^ B) (pow_pos B) (weight_at items y) total pos))
+    (λ y h. rw (high y h, ← chance y) (enclose_high (2 ^ B) (pow_pos B) (weight_at items y) total pos))

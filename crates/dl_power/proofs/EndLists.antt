@@ -1,11 +1,6 @@
 -- Lists of numbers as loops make them, and the ends of a grid made from two of them.
-use Rattle.dl_power.proofs.Common.{ℕ, ◌≡◌, ◌+◌, ◌*◌, ◌^◌, ◌<◌, ◌≤◌, List, [], ◌∷◌, ◌++◌, length, get_or, arith, refl, sym, ap, ap₂, inl, inr, ◌∙◌, get_or-append_seam, get_or_append_left, get_or_default, cases_lt, Iv, AreEnds, IsGridSize, count_below, below_more, below_same, mixture_end}
-use Rattle.std.specs.Prelude.{sum, zip}
+use Rattle.dl_power.proofs.Common.{ℕ, ◌≡◌, ◌+◌, ◌*◌, ◌^◌, ◌<◌, ◌≤◌, List, [], ◌∷◌, ◌++◌, length, get_or, arith, refl, sym, ap, ap₂, inl, inr, ◌∙◌, get_or-append_seam, get_or_append_left, get_or_default, cases_lt, Iv, AreEnds, IsGridSize, count_below, below_more, below_same, mixture_end, sum, zip, mul-le-mul, sum_by-cons, get_or_default_zero, below_first}
 use Rattle.std.proofs.Math.ListN.{get_or-eq_default}
-use Rattle.std.proofs.Math.Nat.{mul-le-mul}
-use Rattle.std.proofs.lemmas.List.Sums.{sum_by-cons}
-use Rattle.std.proofs.lemmas.Grind.{get_or_default_zero}
-use Rattle.dl_exact.proofs.Counts.{below_first}
 use Rattle.dl_conv.proofs.Ends.{sum_total}
 
 -- the items so far, and the next

@@ -1,7 +1,5 @@
 -- A block of counts, and the counts after it: Horner's rule in steps of several claims.
-use Rattle.dl_power.proofs.Common.{ℕ, zero, suc, ◌≡◌, ◌+◌, arith, refl, sym, ap, ap₂, ◌∙◌, Fraction, ◌+ℚ◌, ◌*ℚ◌, sum_to, sum_pairs, sum_pairs_same, convolve, power, cell_from, power_plus}
-use Rattle.dl_exact.proofs.Laws.{plus_assoc, times_left_comm}
-use Rattle.dl_exact.proofs.Sums.{sum_to_same, sum_to_times, sum_pairs_times, sum_pairs_sum_to}
+use Rattle.dl_power.proofs.Common.{ℕ, zero, suc, ◌≡◌, ◌+◌, arith, refl, sym, ap, ap₂, ◌∙◌, Fraction, ◌+ℚ◌, ◌*ℚ◌, sum_to, sum_pairs, sum_pairs_same, convolve, power, cell_from, power_plus, plus_assoc, times_left_comm, sum_to_same, sum_to_times, sum_pairs_times, sum_pairs_sum_to}
 
 -- the first m + 1 items and n + 1 more
 split : (m n : ℕ) (f : ℕ → Fraction) → sum_to (suc m + n) f ≡ sum_to m f +ℚ sum_to n (λ i. f (suc m + i))

@@ -1,11 +1,7 @@
 -- Horner's rule on grids of listed counts: the greatest count, each count before it, and the whole.
-use Rattle.dl_power.proofs.Common.{ℕ, suc, ◌≡◌, ◌+◌, ◌*◌, ◌/◌, ◌^◌, ◌<◌, ◌≤◌, List, length, arith, sym, ap, subst, ◌∙◌, min, div_ceil, Fraction, ◌over◌, ◌≤ℚ◌, Iv, low_at, high_at, all_at_zero, count_pairs, cell_from, IsWithinOne, probability_at, fixed, compound, GridEncloses, finite_encloses, Item, weight_at, weight_sum, greatest, probability_is, LieBetween}
-use Rattle.dl_model.specs.Compound.{cell}
-use Rattle.dl_model.proofs.FiniteCounts.{severity_between}
+use Rattle.dl_power.proofs.Common.{ℕ, suc, ◌≡◌, ◌+◌, ◌*◌, ◌/◌, ◌^◌, ◌<◌, ◌≤◌, List, length, arith, ap, ◌∙◌, min, div_ceil, Fraction, ◌over◌, ◌≤ℚ◌, Iv, low_at, high_at, all_at_zero, count_pairs, cell_from, IsWithinOne, probability_at, fixed, compound, GridEncloses, finite_encloses, Item, weight_at, weight_sum, greatest, probability_is, LieBetween, cell, severity_between, probabilities_all, probability-past, enclose_low, enclose_high}
 use Rattle.dl_model.proofs.Horner.{horner_end}
-use Rattle.dl_model.proofs.WeightLaws.{probabilities_all, probability-past}
 use Rattle.dl_power.proofs.WeightLists.{probabilities_within}
-use Rattle.dl_power.proofs.Enclosing.{share_low, share_high}
 use Rattle.dl_power.proofs.HornerSteps.{starts, goes_on}
 
 -- a share, rounded outward, holds its probability
@@ -13,17 +9,13 @@ share_below : (S total : ℕ) (items : List Item) (k a : ℕ) → 0 < S → 0 < 
     → a ≡ S * weight_at items k / total
     → a over S ≤ℚ probability_at items k
 share_below S total items k a pos p sum e =
-    subst (λ t. t over S ≤ℚ probability_at items k) (sym e)
-    (subst (λ x. (S * weight_at items k / total) over S ≤ℚ x) (sym (probability_is items total sum k))
-    (share_low S (weight_at items k) total pos p))
+    rw e (rw (probability_is items total sum k) (enclose_low S pos (weight_at items k) total p))
 
 share_above : (S total : ℕ) (items : List Item) (k b : ℕ) → 0 < S → 0 < total → weight_sum items ≡ total
     → b ≡ div_ceil (S * weight_at items k) total
     → probability_at items k ≤ℚ b over S
 share_above S total items k b pos p sum e =
-    subst (λ t. probability_at items k ≤ℚ t over S) (sym e)
-    (subst (λ x. x ≤ℚ div_ceil (S * weight_at items k) total over S) (sym (probability_is items total sum k))
-    (share_high S (weight_at items k) total pos p))
+    rw e (rw (probability_is items total sum k) (enclose_high S pos (weight_at items k) total p))
 
 module _ (S K total : ℕ) (items : List Item) (pos : 0 < S) (p : 0 < total) (sum : weight_sum items ≡ total) where
   pub starts_at : (f : ℕ → Fraction) (g g' : ℕ → ℕ) (a b k m : ℕ) → m ≡ k
@@ -31,8 +23,7 @@ module _ (S K total : ℕ) (items : List Item) (pos : 0 < S) (p : 0 < total) (su
       → ((s : ℕ) → g s ≡ all_at_zero a s) → ((s : ℕ) → g' s ≡ all_at_zero b s)
       → LieBetween S K g g' (λ s. cell_from (probability_at items) f m s 0)
   starts_at f g g' a b k m e low high of_low of_high =
-      subst (λ t. LieBetween S K g g' (λ s. cell_from (probability_at items) f t s 0)) (sym e)
-      (starts S pos K (probability_at items) f g g' a b k
+      rw e (starts S pos K (probability_at items) f g g' a b k
       (share_below S total items k a pos p sum low) (share_above S total items k b pos p sum high) of_low of_high)
 
   pub goes_on_at : (f : ℕ → Fraction) (lo hi lo' hi' g g' : ℕ → ℕ) (a b k m N k' N' : ℕ) → IsWithinOne f
@@ -45,8 +36,7 @@ module _ (S K total : ℕ) (items : List Item) (pos : 0 < S) (p : 0 < total) (su
       → LieBetween S K g g' (λ s. cell_from (probability_at items) f k' s N')
   goes_on_at f lo hi lo' hi' g g' a b k m N k' N' q of_f next e n low high before of_low of_high =
       let w : ℕ → Fraction = probability_at items in
-      subst (λ t. LieBetween S K g g' (λ s. cell_from w f t s N')) (sym e)
-      (subst (λ t. LieBetween S K g g' (λ s. cell_from w f k s t)) (sym n)
+      rw e (rw n
       (goes_on S pos K lo hi w f (probabilities_within items total sum p) q of_f lo' hi' g g' a b k m N next
       (share_below S total items k a pos p sum low) (share_above S total items k b pos p sum high) before
       of_low of_high))
@@ -68,11 +58,11 @@ pub ends : {B : ℕ} (grid : List (Iv B)) (items : List Item) (total : ℕ) (f :
     → GridEncloses grid (compound (probability_at items) f)
 ends {B} grid items total f K k N pos sum none all e between =
     let w : ℕ → Fraction = probability_at items in
-    let there = subst (λ t. 0 < t) (sym sum) pos in
+    let there = rw (← sum) at pos in
     let last : (s : ℕ) → cell_from w f k s N ≡ cell w f s N = λ s. ap (λ t. cell_from w f t s N) none
     ∙ horner_end w f s N in
     finite_encloses w f N (probabilities_all items N there (omega (arith, all)))
     (λ n past. probability-past items n there (omega (arith, all)))
     (2 ^ B) (length grid) (low_at grid) (high_at grid)
-    (λ s inside. subst (λ t. low_at grid s over 2 ^ B ≤ℚ t) (last s) (between.low s (omega (arith, e))))
-    (λ s inside. subst (λ t. t ≤ℚ high_at grid s over 2 ^ B) (last s) (between.high s (omega (arith, e))))
+    (λ s inside. rw (← last s) (between.low s (omega (arith, e))))
+    (λ s inside. rw (← last s) (between.high s (omega (arith, e))))

@@ -1,11 +1,5 @@
 -- One step of Horner's rule on rounded ends: one claim more, and the weight of the next lower count.
-use Rattle.dl_power.proofs.Common.{ℕ, zero, suc, ◌≡◌, ◌+◌, ◌*◌, ◌/◌, ◌^◌, ◌<◌, ◌≤◌, List, length, arith, sym, ap, subst, inl, inr, ◌∙◌, mul-pos, min, div_ceil, div-mul-le_self, mul-le-mul_right, cases_lt, pow_pos, div_ceil_times, Fraction, whole, ◌over◌, ◌+ℚ◌, ◌*ℚ◌, ◌≤ℚ◌, sum_to, sum_pairs, over_le, over_same, over_mul, one_pos, le_refl, le_trans, le_of_eq, plus_le_both, times_one, times_le_both, sum_to_le, sum_pairs_same, item_le_sum, Iv, low_at, mass_low, all_at_zero, count_pairs, below_same, low_within, convolve, at_zero, power, cell_from, LieBetween, IsWithinOne, power_within_one, IsConvolution}
-use Rattle.std.proofs.Math.Nat.{add-zero}
-use Rattle.dl_exact.proofs.Over.{over_add}
-use Rattle.dl_exact.proofs.Laws.{zero_le, times_zero}
-use Rattle.dl_exact.proofs.Sums.{sum_pairs_le}
-use Rattle.dl_grid.proofs.PlaceSums.{whole_mass}
-use Rattle.dl_exact.proofs.SumsOver.{sum_pairs_over}
+use Rattle.dl_power.proofs.Common.{ℕ, zero, suc, ◌≡◌, ◌+◌, ◌*◌, ◌/◌, ◌^◌, ◌<◌, ◌≤◌, List, length, arith, sym, ap, subst, inl, inr, ◌∙◌, mul-pos, min, div_ceil, div-mul-le_self, mul-le-mul_right, cases_lt, pow_pos, div_ceil_times, Fraction, whole, ◌over◌, ◌+ℚ◌, ◌*ℚ◌, ◌≤ℚ◌, sum_to, over_le, one_pos, le_refl, le_trans, le_of_eq, plus_le_both, times_one, times_le_both, sum_to_le, item_le_sum, Iv, low_at, mass_low, all_at_zero, count_pairs, below_same, low_within, convolve, at_zero, power, cell_from, LieBetween, IsWithinOne, power_within_one, IsConvolution, add-zero, add-suc, zero_le, times_zero, sum_pairs_le, whole_mass, plus_comm, over_plus, over_split, over_zero, pairs_in_units}
 use Rattle.dl_model.proofs.Horner.{horner_start, horner_next}
 use Rattle.dl_grid.proofs.Products.{floors_within}
 
@@ -27,47 +21,28 @@ convolved_mass {B} a b cells n top e is =
 
 pub shifted : (w : ℕ → Fraction) (k N : ℕ) → sum_to N (λ n. w (k + n)) ≤ℚ sum_to (k + N) w
 unfolding sum_to
-shifted w k zero = subst (λ t. w t ≤ℚ sum_to t w) (sym (add-zero k)) (item_le_sum k w)
-shifted w k (suc N) =
-    let e : suc (k + N) ≡ k + suc N = omega arith in
-    subst (λ t. sum_to (suc N) (λ n. w (k + n)) ≤ℚ sum_to t w) e
-    (plus_le_both _ _ _ _ (shifted w k N) (le_of_eq _ _ (ap w (sym e))))
+shifted w k zero = rw (add-zero k) (item_le_sum k w)
+shifted w k (suc N) = rw add-suc (plus_le_both _ _ _ _ (shifted w k N) (le_refl _))
 
 -- at most 1
 pub from_within_one : (w f : ℕ → Fraction) → IsWithinOne w → IsWithinOne f → (k s N : ℕ)
     → cell_from w f k s N ≤ℚ whole 1
 from_within_one w f p q k s N =
     le_trans _ _ _ (sum_to_le N _ (λ n. w (k + n)) (λ n b.
-    subst (λ t. w (k + n) *ℚ power f n s ≤ℚ t) (times_one _) (times_le_both _ _ _ _ (le_refl _)
+    rw (times_one (w (k + n))) at (times_le_both _ _ _ _ (le_refl (w (k + n)))
     (le_trans _ _ _ (item_le_sum s (power f n)) (power_within_one f q n s)))))
     (le_trans _ _ _ (shifted w k N) (p (k + N)))
 
 module _ (S : ℕ) (pos : 0 < S) where
-  pub sum_over : (x y : ℕ) → (x + y) over S ≡ x over S +ℚ y over S
-  sum_over x y = sym (over_add x S y S pos pos ∙ over_same _ _ _ _ (mul-pos pos pos) pos (omega arith))
-
-  turned : (x y : ℕ) → x over S +ℚ y over S ≤ℚ (y + x) over S
-  turned x y =
-      let e : x + y ≡ y + x = omega arith in
-      subst (λ t. x over S +ℚ y over S ≤ℚ t over S) e (le_of_eq _ _ (sym (sum_over x y)))
-
-  products : (n : ℕ) (a b : ℕ → ℕ) → sum_pairs n (λ i j. a i over S *ℚ b j over S)
-      ≡ count_pairs n (λ i j. a i * b j) over (S * S)
-  products n a b = sum_pairs_same n _ _ (λ i j e. over_mul (a i) S (b j) S pos pos)
-      ∙ sum_pairs_over n (S * S) (λ i j. a i * b j) (mul-pos pos pos)
-
-  none_over : 0 over S ≡ whole 0
-  none_over = over_same 0 S 0 1 pos one_pos (omega arith)
-
   zero_low : (a s : ℕ) (x : Fraction) → a over S ≤ℚ x → all_at_zero a s over S ≤ℚ x *ℚ at_zero s
   unfolding all_at_zero at_zero
-  zero_low a zero x h = subst (λ t. a over S ≤ℚ t) (sym (times_one x)) h
-  zero_low a (suc s) x h = subst (λ t. t ≤ℚ x *ℚ whole 0) (sym none_over) (zero_le _)
+  zero_low a zero x h = rw (times_one x) h
+  zero_low a (suc s) x h = rw (over_zero S pos) (zero_le _)
 
   zero_high : (b s : ℕ) (x : Fraction) → x ≤ℚ b over S → x *ℚ at_zero s ≤ℚ all_at_zero b s over S
   unfolding all_at_zero at_zero
-  zero_high b zero x h = subst (λ t. t ≤ℚ b over S) (sym (times_one x)) h
-  zero_high b (suc s) x h = le_of_eq _ _ (times_zero x ∙ sym none_over)
+  zero_high b zero x h = rw (times_one x) h
+  zero_high b (suc s) x h = le_of_eq _ _ (times_zero x ∙ sym (over_zero S pos))
 
   module _ (K : ℕ) (lo hi lo' hi' : ℕ → ℕ) (f c : ℕ → Fraction) (of_f : LieBetween S K lo hi f)
       (of_c : LieBetween S K lo' hi' c) where
@@ -75,13 +50,13 @@ module _ (S : ℕ) (pos : 0 < S) where
     pairs_low s inside = le_trans _ _ _
         (over_le _ _ _ _ pos (mul-pos pos pos)
         (omega (arith, mul-le-mul_right S (div-mul-le_self (count_pairs s (λ i j. lo i * lo' j)) S))))
-        (le_trans _ _ _ (le_of_eq _ _ (sym (products s lo lo')))
+        (le_trans _ _ _ (le_of_eq _ _ (sym (pairs_in_units s S lo lo' pos)))
         (sum_pairs_le s _ _ (λ i j e. times_le_both _ _ _ _ (of_f.low i (omega arith)) (of_c.low j (omega arith)))))
 
     pub pairs_high : (s : ℕ) → s < K → convolve f c s ≤ℚ div_ceil (count_pairs s (λ i j. hi i * hi' j)) S over S
     pairs_high s inside = le_trans _ _ _
         (sum_pairs_le s _ _ (λ i j e. times_le_both _ _ _ _ (of_f.high i (omega arith)) (of_c.high j (omega arith))))
-        (le_trans _ _ _ (le_of_eq _ _ (products s hi hi'))
+        (le_trans _ _ _ (le_of_eq _ _ (pairs_in_units s S hi hi' pos))
         (over_le _ _ _ _ (mul-pos pos pos) pos
         (omega (arith, mul-le-mul_right S (div_ceil_times (count_pairs s (λ i j. hi i * hi' j)) S pos).0))))
 
@@ -90,26 +65,24 @@ module _ (S : ℕ) (pos : 0 < S) where
   clamped h x one above = elim (cases_lt S h) [
     | inl far ↦
         let e : S ≡ min S h = omega arith in
-        subst (λ t. x ≤ℚ t over S) e (le_trans _ _ _ one (over_le _ _ _ _ one_pos pos (omega arith)))
+        rw (← e) (le_trans _ _ _ one (over_le _ _ _ _ one_pos pos (omega arith)))
     | inr near ↦
         let e : h ≡ min S h = omega arith in
-        subst (λ t. x ≤ℚ t over S) e above
+        rw (← e) above
   ]
 
   lowered : (h b : ℕ) (x : Fraction) → x ≤ℚ whole 1 → x ≤ℚ (h + b) over S → x ≤ℚ min (min S h + b) S over S
   lowered h b x one above =
       let e : min S (h + b) ≡ min (min S h + b) S = omega arith in
-      subst (λ t. x ≤ℚ t over S) e (clamped (h + b) x one above)
+      rw (← e) (clamped (h + b) x one above)
 
   -- the greatest count
   pub starts : (K : ℕ) (w f : ℕ → Fraction) (g g' : ℕ → ℕ) (a b k : ℕ) → a over S ≤ℚ w k → w k ≤ℚ b over S
       → ((s : ℕ) → g s ≡ all_at_zero a s) → ((s : ℕ) → g' s ≡ all_at_zero b s)
       → LieBetween S K g g' (λ s. cell_from w f k s 0)
   starts K w f g g' a b k low high e e' = record {
-    low = λ s inside. subst (λ t. t ≤ℚ cell_from w f k s 0) (ap (λ t. t over S) (sym (e s)))
-        (le_trans _ _ _ (zero_low a s (w k) low) (le_of_eq _ _ (sym (horner_start w f k s))));
-    high = λ s inside. subst (λ t. cell_from w f k s 0 ≤ℚ t) (ap (λ t. t over S) (sym (e' s)))
-        (le_trans _ _ _ (le_of_eq _ _ (horner_start w f k s)) (zero_high b s (w k) high));
+    low = λ s inside. rw (e s) (le_trans _ _ _ (zero_low a s (w k) low) (le_of_eq _ _ (sym (horner_start w f k s))));
+    high = λ s inside. rw (e' s) (le_trans _ _ _ (le_of_eq _ _ (horner_start w f k s)) (zero_high b s (w k) high));
   }
 
   module _ (K : ℕ) (lo hi : ℕ → ℕ) (w f : ℕ → Fraction) (p : IsWithinOne w) (q : IsWithinOne f)
@@ -126,16 +99,15 @@ module _ (S : ℕ) (pos : 0 < S) where
         record {
           low = λ s inside.
               subst (λ t. t over S ≤ℚ cell_from w f k s (suc N)) (sym (e s inside ∙ omega arith))
-              (le_trans _ _ _ (le_of_eq _ _ (sum_over (all_at_zero a s) (count_pairs s (λ i j. lo i * lo' j) / S)))
+              (le_trans _ _ _ (le_of_eq _ _ (over_split (all_at_zero a s) (count_pairs s (λ i j. lo i * lo' j) / S) S pos))
               (le_trans _ _ _ (plus_le_both _ _ _ _ (zero_low a s (w k) low)
               (pairs_low K lo hi lo' hi' f (λ j. cell_from w f m j N) of_f before s inside))
               (le_of_eq _ _ (sym (step s)))));
           high = λ s inside.
-              subst (λ t. cell_from w f k s (suc N) ≤ℚ t over S) (sym (e' s inside))
-              (lowered (div_ceil (count_pairs s (λ i j. hi i * hi' j)) S) (all_at_zero b s)
+              rw (e' s inside) (lowered (div_ceil (count_pairs s (λ i j. hi i * hi' j)) S) (all_at_zero b s)
               (cell_from w f k s (suc N)) (from_within_one w f p q k s (suc N))
               (le_trans _ _ _ (le_of_eq _ _ (step s))
               (le_trans _ _ _ (plus_le_both _ _ _ _ (zero_high b s (w k) high)
               (pairs_high K lo hi lo' hi' f (λ j. cell_from w f m j N) of_f before s inside))
-              (turned (all_at_zero b s) (div_ceil (count_pairs s (λ i j. hi i * hi' j)) S)))));
+              (le_of_eq _ _ (plus_comm _ _ ∙ over_plus (div_ceil (count_pairs s (λ i j. hi i * hi' j)) S) _ S pos)))));
         }

@@ -1,8 +1,7 @@
 -- Grids of the powers of a severity: the first two, the next one, and those of what a grid's own low ends are.
-use Rattle.dl_power.proofs.Common.{ℕ, zero, suc, ◌≡◌, ◌+◌, ◌*◌, ◌/◌, ◌^◌, ◌<◌, ◌≤◌, List, [], ◌∷◌, ◌++◌, length, get_or, take, arith, sym, ap, ap₂, subst, subst₂, inl, inr, ◌∙◌, min, All, div_ceil, get_or-append_seam, mul-le-mul_right, cases_lt, get_or_append_left, get_or_default, pow_pos, Fraction, whole, ◌over◌, ◌≤ℚ◌, over_le, over_same, one_pos, le_refl, le_trans, le_of_eq, Iv, low_at, high_at, mass_low, all_at_zero, count_pairs, low_take, high_take, low_le_high, low_within, convolve, at_zero, power, IsWithinOne, power_within_one, power_one, power_plus, item_le_sum, Between, ArePowers}
-use Rattle.std.proofs.lemmas.List.{get_or-take, length-take, length-append}
+use Rattle.dl_power.proofs.Common.{ℕ, zero, suc, ◌≡◌, ◌+◌, ◌*◌, ◌/◌, ◌^◌, ◌<◌, ◌≤◌, List, [], ◌∷◌, ◌++◌, length, get_or, take, arith, sym, ap, subst, inl, inr, ◌∙◌, min, All, div_ceil, get_or-append_seam, mul-le-mul_right, cases_lt, get_or_append_left, get_or_default, pow_pos, Fraction, whole, ◌over◌, ◌≤ℚ◌, over_le, over_same, one_pos, le_refl, le_trans, le_of_eq, Iv, low_at, high_at, mass_low, all_at_zero, count_pairs, low_take, high_take, low_le_high, low_within, convolve, at_zero, power, IsWithinOne, power_within_one, power_one, power_plus, item_le_sum, Between, ArePowers, get_or-take, length-take, length-append, to_over}
 use Rattle.std.proofs.lemmas.List.Elements.{All-push}
-use Rattle.dl_power.proofs.BlockEnds.{low_sums, product_between}
+use Rattle.dl_power.proofs.BlockEnds.{product_between}
 
 -- a grid's own low ends are probabilities that it holds
 abbrev pub own : {B : ℕ} → List (Iv B) → ℕ → Fraction
@@ -10,7 +9,7 @@ own {B} base x = low_at base x over 2 ^ B
 
 pub own_within : {B : ℕ} (base : List (Iv B)) → mass_low base ≤ 2 ^ B → IsWithinOne (own base)
 own_within {B} base mass n =
-    subst (λ t. t ≤ℚ whole 1) (sym (low_sums (2 ^ B) (pow_pos B) n (low_at base)))
+    rw (to_over n (2 ^ B) (low_at base) (pow_pos B))
     (over_le _ _ _ _ (pow_pos B) one_pos (omega (arith, low_within (suc n) base)))
 
 pub own_between : {B : ℕ} (base : List (Iv B)) (K : ℕ) → Between K base (own base)
@@ -23,27 +22,23 @@ own_between {B} base K = record {
 pub power_at : {B : ℕ} (K n : ℕ) (f : ℕ → Fraction) (grids : List (List (Iv B))) (g : List (Iv B)) → n < length grids
     → g ≡ get_or grids n g → ArePowers K f grids
     → Between K g (power f n)
-power_at K n f grids g inside is of_f = subst (λ t. Between K t (power f n))
-    (get_or_default grids n [] g inside ∙ sym is) (of_f n inside)
+power_at K n f grids g inside is of_f = rw (get_or_default grids n [] g inside ∙ sym is) at (of_f n inside)
 
 pub first_powers : {B : ℕ} (K m : ℕ) (f : ℕ → Fraction) (grids : List (List (Iv B))) → ArePowers K f grids
     → ArePowers K f (take m grids)
 first_powers K m f grids of_f n inside =
     let both : (n < m) × (n < length grids) = omega (arith, inside, length-take m grids) in
-    subst (λ t. Between K t (power f n)) (sym (get_or-take m grids n [] both.0)) (of_f n both.1)
+    rw (get_or-take m grids n [] both.0) (of_f n both.1)
 
 pub more_powers : {B : ℕ} (K n : ℕ) (f : ℕ → Fraction) (xs ys : List (List (Iv B))) (g : List (Iv B))
     → ys ≡ xs ++ g ∷ [] → length xs ≡ n → ArePowers K f xs
     → Between K g (power f n) → ArePowers K f ys
 more_powers {B} K n f xs ys g e many before here i inside = elim (cases_lt i n) [
-  | inl less ↦ subst (λ t. Between K t (power f i))
-      (sym (ap (λ (t : List (List (Iv B))). get_or t i []) e
-      ∙ get_or_append_left xs (g ∷ []) [] i (omega (arith, many, less)))) (before i (omega (arith, many, less)))
+  | inl less ↦ rw (e, get_or_append_left xs (g ∷ []) [] i (omega (arith, many, less)))
+      (before i (omega (arith, many, less)))
   | inr past ↦
       let at : n ≡ i = omega (arith, past, inside, ap length e, length-append xs (g ∷ []), many) in
-      subst₂ (λ t j. Between K t (power f j))
-      (sym (ap₂ (λ (t : List (List (Iv B))) j. get_or t j []) e (sym (many ∙ at)) ∙ get_or-append_seam xs g [] [])) at
-      here
+      rw (e, ← at, ← many, get_or-append_seam xs g [] [], many) here
 ]
 
 -- no claim, and one claim
@@ -52,8 +47,8 @@ pub no_claim : {B : ℕ} (g : List (Iv B)) (K : ℕ) (f : ℕ → Fraction) → 
     → Between K g (power f 0)
 unfolding power all_at_zero at_zero
 no_claim {B} g K f low high = record {
-  low = λ s inside. subst (λ t. t over 2 ^ B ≤ℚ at_zero s) (sym (low s)) (le_of_eq _ _ (surely s));
-  high = λ s inside. subst (λ t. at_zero s ≤ℚ t over 2 ^ B) (sym (high s)) (le_of_eq _ _ (sym (surely s)));
+  low = λ s inside. rw (low s) (le_of_eq _ _ (surely s));
+  high = λ s inside. rw (high s) (le_of_eq _ _ (sym (surely s)));
 }
   where
     surely : (s : ℕ) → all_at_zero (2 ^ B) s over 2 ^ B ≡ at_zero s
@@ -63,9 +58,9 @@ no_claim {B} g K f low high = record {
 pub one_claim : {B : ℕ} (base g : List (Iv B)) (K : ℕ) (f : ℕ → Fraction) → g ≡ take K base → Between K base f
     → Between K g (power f 1)
 one_claim {B} base g K f is of_f =
-    subst₂ (λ t c. Between K t c) (sym is) (sym (power_one f)) (record {
-      low = λ s inside. subst (λ t. t over 2 ^ B ≤ℚ f s) (sym (low_take base K s inside)) (of_f.low s inside);
-      high = λ s inside. subst (λ t. f s ≤ℚ t over 2 ^ B) (sym (high_take base K s inside)) (of_f.high s inside);
+    rw (is, power_one f) (record {
+      low = λ s inside. rw (low_take base K s inside) (of_f.low s inside);
+      high = λ s inside. rw (high_take base K s inside) (of_f.high s inside);
     })
 
 -- the product of two powers
@@ -76,11 +71,10 @@ pub joined_powers : {B : ℕ} (a b g : List (Iv B)) (K m n k : ℕ) (f : ℕ →
     → Between K a (power f m) → Between K b (power f n) → Between K g (power f k)
 joined_powers {B} a b g K m n k f sum q low high of_a of_b =
     let same : convolve (power f m) (power f n) ≡ power f k = sym (power_plus f m n) ∙ ap (power f) sum in
-    subst (λ c. Between K g c) same
+    rw (← same)
     (product_between (2 ^ B) (pow_pos B) K (low_at a) (high_at a) (low_at b) (high_at b) (low_at g) (high_at g)
     (power f m) (power f n) of_a of_b
-    (λ s. subst (λ c. c s ≤ℚ whole 1) (sym same)
-    (le_trans _ _ _ (item_le_sum s (power f k)) (power_within_one f q k s))) low high)
+    (λ s. subst (λ c. c s ≤ℚ whole 1) (sym same) (le_trans _ _ _ (item_le_sum s (power f k)) (power_within_one f q k s))) low high)
 
 -- lists of grids as a loop makes them
 pub no_powers : {B : ℕ} (K : ℕ) (f : ℕ → Fraction) (grids : List (List (Iv B))) → grids ≡ [] → ArePowers K f grids
@@ -97,5 +91,4 @@ all_more xs ys g K e before here = subst (All (λ t. length t ≡ K)) (sym e)
 pub next_at : {B : ℕ} (K : ℕ) (f : ℕ → Fraction) (xs ys : List (List (Iv B))) (g : List (Iv B)) → xs ≡ ys
     → (ArePowers K f xs → Between K g (power f (length xs)))
     → ArePowers K f ys → Between K g (power f (length ys))
-next_at K f xs ys g e = subst (λ t. (ArePowers K f xs → Between K g (power f (length xs))) → ArePowers K f t
-    → Between K g (power f (length t))) e (λ next. next)
+next_at K f xs ys g e = rw e (λ next. next)

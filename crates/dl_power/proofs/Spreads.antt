@@ -1,7 +1,5 @@
 -- How the width rule bounds the spread of each step.
-use Rattle.dl_power.proofs.Common.{ℕ, suc, ◌≡◌, ◌+◌, ◌*◌, ◌<◌, ◌≤◌, arith, ap, mixed_spread}
-use Rattle.dl_grid.specs.Width.{cv, pw}
-use Rattle.dl_grid.proofs.WidthLaws.{cv_rises, pw_even, pw_odd}
+use Rattle.dl_power.proofs.Common.{ℕ, suc, ◌≡◌, ◌+◌, ◌*◌, ◌<◌, ◌≤◌, arith, ap, mixed_spread, cv, pw, cv_rises, pw_even, pw_odd}
 
 -- a square, and a square with one more
 pub squared_width : (S k b m n x y : ℕ) → 0 < S → 1 ≤ m → m + m ≡ n → x ≤ cv S k y y → y ≤ pw S k b m → x ≤ pw S k b n

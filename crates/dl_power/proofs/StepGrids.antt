@@ -1,7 +1,5 @@
 -- One step of Horner's rule in blocks, on grids.
-use Rattle.dl_power.proofs.Common.{ℕ, suc, ◌≡◌, ◌+◌, ◌*◌, ◌/◌, ◌^◌, ◌<◌, ◌≤◌, List, length, get_or, arith, refl, sym, subst₂, ◌∙◌, min, div_ceil, pow_pos, Fraction, whole, ◌+ℚ◌, ◌≤ℚ◌, le_trans, le_of_eq, Iv, low_at, high_at, AreEnds, IsGridSize, count_pairs, low_le_high, convolve, power, cell_from, LieBetween, Between}
-use Rattle.dl_exact.proofs.Laws.{le_plus, plus_comm}
-use Rattle.dl_power.specs.Powers.{IsStep}
+use Rattle.dl_power.proofs.Common.{ℕ, suc, ◌≡◌, ◌+◌, ◌*◌, ◌/◌, ◌^◌, ◌<◌, ◌≤◌, List, length, get_or, arith, refl, sym, ◌∙◌, min, div_ceil, pow_pos, Fraction, whole, ◌+ℚ◌, ◌≤ℚ◌, le_trans, le_of_eq, Iv, low_at, high_at, AreEnds, IsGridSize, count_pairs, low_le_high, convolve, power, cell_from, LieBetween, Between, le_plus, plus_comm, IsStep}
 use Rattle.dl_power.proofs.EndLists.{made_ends}
 use Rattle.dl_power.proofs.GiantSteps.{block_next}
 use Rattle.dl_power.proofs.HornerSteps.{from_within_one}
@@ -10,7 +8,7 @@ use Rattle.dl_power.proofs.BlockEnds.{mass_within, cells_within_one, product_bet
 -- the same counts
 pub from_same : {B : ℕ} (K : ℕ) (g : List (Iv B)) (w f : ℕ → Fraction) (k n k' n' : ℕ) → k ≡ k' → n ≡ n'
     → Between K g (λ s. cell_from w f k s n) → Between K g (λ s. cell_from w f k' s n')
-from_same K g w f k n k' n' e h = subst₂ (λ i j. Between K g (λ s. cell_from w f i s j)) e h
+from_same K g w f k n k' n' e h = rw (e, h) (λ between. between)
 
 module _ {B : ℕ} (block step later moved : List (Iv B)) (lows highs : List ℕ) (K : ℕ)
     (moved_low : (s : ℕ) → s < K → low_at moved s ≡ count_pairs s (λ i j. low_at step i * low_at later j) / 2 ^ B)

@@ -1,13 +1,7 @@
 -- The weights of a list, as a loop adds them up.
-use Rattle.dl_power.proofs.Common.{ℕ, zero, suc, ◌≡◌, ◌+◌, ◌*◌, ◌/◌, ◌<◌, ◌≤◌, List, [], ◌∷◌, length, get_or, take, arith, refl, sym, ap, inl, inr, ◌∙◌, add-one, div-mul-le_self, mul-le-mul_left, mul-le-mul_right, le_of_mul-le-mul_right, ne_eqb, eqb_tells, sum_by_more, count_below, below_nothing, below_more, below_le, probability_at, IsWithinOne, part_of, Item, weight_at, weight_sum, greatest}
-use Rattle.std.proofs.Common.{◌≢◌}
-use Rattle.std.specs.Prelude.{◌==◌, if◌then◌else◌, max}
+use Rattle.dl_power.proofs.Common.{ℕ, zero, suc, ◌≡◌, ◌+◌, ◌*◌, ◌/◌, ◌<◌, ◌≤◌, List, [], ◌∷◌, length, get_or, take, arith, refl, sym, ap, inl, inr, ◌∙◌, add-one, div-mul-le_self, mul-le-mul_left, mul-le-mul_right, le_of_mul-le-mul_right, ne_eqb, eqb_tells, sum_by_more, count_below, below_nothing, below_more, below_le, probability_at, IsWithinOne, part_of, Item, weight_at, weight_sum, greatest, ◌≢◌, ◌==◌, if◌then◌else◌, max, sum_through, below_times, weights_le, probabilities_le, amounts_of}
 use Rattle.std.specs.List.Sorted.{IsStrictlyIncreasing}
-use Rattle.std.specs.Int.{sum_through}
 use Rattle.std.proofs.lemmas.List.Kept.{AllPairs-from_increasing}
-use Rattle.dl_exact.proofs.Counts.{below_times}
-use Rattle.dl_model.proofs.WeightLaws.{weights_le, probabilities_le}
-use Rattle.dl_plan.specs.Weighted.{amounts_of}
 
 pub part_le : (x : ℕ) (item : Item) → part_of x item ≤ item.weight
 part_le x item = elim (eqb_tells item.amount x) [
@@ -37,8 +31,7 @@ below_through f (suc n) = omega (arith, below_through f n)
 
 weights_below : (items : List Item) (n : ℕ) → count_below n (weight_at items) ≤ weight_sum items
 weights_below items zero = omega (arith, below_nothing (weight_at items))
-weights_below items (suc n) =
-    omega (arith, below_through (weight_at items) n, weights_le items n)
+weights_below items (suc n) = omega (arith, below_through (weight_at items) n, weights_le items n)
 
 -- they add up to at most 1
 pub shares_fit : (S total : ℕ) (items : List Item) (n : ℕ) → 0 < total → weight_sum items ≡ total

@@ -19,6 +19,7 @@ use dl_product::{Workspace, product};
 use std::alloc::{AllocError, Global};
 
 /// Adds an interval to cell 0, and lowers its high end to 1 where it is above.
+#[tactic(auto, using(dl_grid::proofs::CellSets::low_added, dl_grid::proofs::CellSets::high_added, dl_grid::proofs::CellSets::high_kept, dl_grid::proofs::CellSets::mass_set, dl_grid::proofs::CellSets::spread_set, dl_grid::proofs::CellSets::low_in_mass))]
 fn add_at_zero<const B: u32>(grid: &mut Grid<B>, more: Iv<B>)
     requires some { 1 ≤ length grid.old }
     requires small { more.hi ≤ 2 ^ B }

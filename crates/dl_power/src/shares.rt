@@ -66,6 +66,7 @@ pub fn nowhere<const B: u32>(alloc: Global, cells: u32) -> Result<Grid<B>, Alloc
 }
 
 /// Writes one cell where the grid has it.
+#[tactic(auto, using(dl_grid::proofs::CellSets::low_set, dl_grid::proofs::CellSets::high_set, dl_grid::proofs::CellSets::mass_set, dl_grid::proofs::CellSets::spread_set))]
 pub(crate) fn put<const B: u32>(grid: &mut Grid<B>, x: u32, v: Iv<B>)
     requires small { v.hi ≤ 2 ^ B }
     requires mass { mass_low grid.old + v.lo ≤ 2 ^ B }

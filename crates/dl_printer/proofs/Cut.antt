@@ -12,7 +12,7 @@ use Rattle.dl_lexer.specs.Cutting.{IsLongest, Covers, blank_length, token_of, no
 use Rattle.dl_ast.specs.Lexemes.{lexeme}
 use Rattle.dl_ast.specs.WellFormed.{IsWellFormed}
 use Rattle.dl_printer.specs.Canonical.{is_tight_before, begins_line, between}
-use Rattle.dl_lexer.specs.declared.token.Sign.TheVariants.{Open, Close, Colon, Comma, Bang}
+use Rattle.dl_lexer.specs.declared.token.Sign.TheVariants.{Close, Colon}
 use Rattle.dl_lexer.specs.declared.token.Kind.TheVariants as kinds
 use Rattle.dl_lexer.proofs.BlankLemmas.{blank_no_token}
 use Rattle.dl_printer.specs.ReadingBack.{ReadsBack}
@@ -111,14 +111,7 @@ sign_stops b text rest e stop = record { byte = b; more = rest; whole = ap (λ y
 tight_stops : (k : Kind) (text rest : List ℕ) → IsSpelled k text → is_tight_before k ≡ true → Stops (text ++ rest)
 tight_stops (kinds.Sign Close) text rest spelled tight = sign_stops 93 text rest spelled refl
 tight_stops (kinds.Sign Colon) text rest spelled tight = sign_stops 58 text rest spelled refl
-tight_stops (kinds.Sign Open) text rest spelled tight = absurd cc
-tight_stops (kinds.Sign Comma) text rest spelled tight = absurd cc
-tight_stops (kinds.Sign Bang) text rest spelled tight = absurd cc
-tight_stops kinds.Name text rest spelled tight = absurd cc
-tight_stops kinds.Ref text rest spelled tight = absurd cc
-tight_stops kinds.Numeral text rest spelled tight = absurd cc
-tight_stops kinds.Note text rest spelled tight = absurd cc
-tight_stops (kinds.Word k) text rest spelled tight = absurd cc
+tight_stops _ text rest spelled tight = absurd cc
 
 gap_stops : (j k : Kind) (text rest : List ℕ) → is_tight_behind j ≡ false → IsSpelled k text
     → Stops (between j k ++ (text ++ rest))

@@ -206,26 +206,20 @@ sign_ends s rest =
         let other = sign_no_numeral s _ refl in
         cc
 
+behind_stop : (text rest : List ℕ) → ((more : List ℕ) (byte : ℕ) → is_stop byte ≡ true
+    → IsLongest IsToken (text ++ byte ∷ more) (length text)) → Stops rest → IsLongest IsToken (text ++ rest) (length text)
+behind_stop text rest ends s = rw s.whole (ends s.more s.byte s.stop)
+
 -- any token, where a stop follows if it is not a sign behind which nothing stands
 pub token_ends : (k : Kind) (text rest : List ℕ) → IsSpelled k text → (is_tight_behind k ≡ false → Stops rest)
     → IsLongest IsToken (text ++ rest) (length text)
-token_ends (kinds.Word k) text rest spelled follows =
-    let s = follows refl in
-    subst (λ ys. IsLongest IsToken (text ++ ys) (length text)) (sym s.whole)
-    (word_ends (kinds.Word k) text s.more s.byte (subst IsWord (sym spelled) (keyword_is_word k)) spelled s.stop)
+token_ends (kinds.Word k) text rest spelled follows = behind_stop text rest (λ more byte.
+    word_ends (kinds.Word k) text more byte (subst IsWord (sym spelled) (keyword_is_word k)) spelled) (follows refl)
 token_ends kinds.Name text rest spelled follows =
-    let s = follows refl in
-    subst (λ ys. IsLongest IsToken (text ++ ys) (length text)) (sym s.whole)
-    (word_ends kinds.Name text s.more s.byte spelled.word spelled s.stop)
+    behind_stop text rest (λ more byte. word_ends kinds.Name text more byte spelled.word spelled) (follows refl)
 token_ends kinds.Ref text rest spelled follows =
-    let s = follows refl in
-    subst (λ ys. IsLongest IsToken (text ++ ys) (length text)) (sym s.whole)
-    (ref_ends text s.more s.byte spelled s.stop)
+    behind_stop text rest (λ more byte. ref_ends text more byte spelled) (follows refl)
 token_ends kinds.Numeral text rest spelled follows =
-    let s = follows refl in
-    subst (λ ys. IsLongest IsToken (text ++ ys) (length text)) (sym s.whole)
-    (numeral_ends text s.more s.byte spelled s.stop)
+    behind_stop text rest (λ more byte. numeral_ends text more byte spelled) (follows refl)
 token_ends kinds.Note text rest spelled follows = note_ends text rest spelled
-token_ends (kinds.Sign s) text rest spelled follows =
-    subst (λ ys. IsLongest IsToken (ys ++ rest) (length ys)) (sym spelled)
-    (sign_ends s rest)
+token_ends (kinds.Sign s) text rest spelled follows = rw spelled (sign_ends s rest)

@@ -1,35 +1,10 @@
 -- The canonical tokens of a well-formed node are tokens, and spell the node by its line of the grammar.
-use Rattle.dl_printer.proofs.Common.{◌≡◌, ◌∙◌, ◌<◌, ℕ, suc, List, [], ◌∷◌, ◌++◌, map, length, Option, Some, None, Bool, true, false, refl, sym, ap, arith, append_assoc, flat_map, sign_byte, Program, Lexeme, Piece, piece, word_piece, name_piece, numeral_piece, note_piece, optional, behind_colon, item_pieces, list_pieces, limit_pieces, layer_pieces, atom_pieces, weights_pieces, mixture_pieces, cost_pieces, bang_pieces, sev_pieces, definition_pieces, ref_piece, zero_pieces, common_pieces, share_pieces, ceded_pieces, and_ceded_pieces, ceded_layers_pieces, side_pieces, clause_pieces, freq_pieces, exposure_pieces, listed_pieces, count_pieces, late_count_pieces, unit_pieces, head_pieces, program_pieces}
+use Rattle.dl_printer.proofs.Common.{◌≡◌, ◌∙◌, ◌<◌, ℕ, suc, List, [], ◌∷◌, ◌++◌, map, length, Option, Some, None, Bool, true, false, refl, sym, ap, arith, append_assoc, flat_map, sign_byte, Program, Lexeme, Piece, piece, word_piece, name_piece, numeral_piece, note_piece, optional, behind_colon, item_pieces, list_pieces, limit_pieces, layer_pieces, atom_pieces, mixture_pieces, cost_pieces, bang_pieces, sev_pieces, definition_pieces, ref_piece, zero_pieces, common_pieces, share_pieces, ceded_pieces, and_ceded_pieces, ceded_layers_pieces, side_pieces, clause_pieces, freq_pieces, exposure_pieces, listed_pieces, count_pieces, late_count_pieces, unit_pieces, head_pieces, program_pieces, option_map, Keyword, ListItem, ListAst, LimitAst, Finite, Infinite, Layer, Atom, MixAst, SevBody, Mixture, Ref, SevAst, SevDef, ZeroAst, Plain, Truncated, Modified, PortHead, CountAst, Exposed, Listed, Share, CededLayer, Cession, FreqAst, Exposure, Claims, Loss, Premium, UnitAst}
 use Rattle.std.proofs.Common.{is_some, codes, drop}
-use Rattle.std.specs.Prelude.{All, IfSome, IsSome, IsNone}
-use Rattle.std.specs.Option.{option_map}
+use Rattle.std.specs.Prelude.{All, IfSome, IsNone}
 use Rattle.std.proofs.lemmas.List.{append-nil}
 use Rattle.std.proofs.lemmas.List.Elements.{All-head, All-tail}
-use Rattle.dl_lexer.specs.declared.token.Keyword.{Keyword}
 use Rattle.dl_lexer.specs.declared.token.Span.{Span}
-use Rattle.dl_ast.specs.declared.ast.ListItem.{ListItem}
-use Rattle.dl_ast.specs.declared.ast.ListAst.{ListAst}
-use Rattle.dl_ast.specs.declared.ast.LimitAst.{LimitAst}
-use Rattle.dl_ast.specs.declared.ast.LimitAst.TheVariants.{Finite, Infinite}
-use Rattle.dl_ast.specs.declared.ast.Layer.{Layer}
-use Rattle.dl_ast.specs.declared.ast.Atom.{Atom}
-use Rattle.dl_ast.specs.declared.ast.MixAst.{MixAst}
-use Rattle.dl_ast.specs.declared.ast.SevBody.{SevBody}
-use Rattle.dl_ast.specs.declared.ast.SevBody.TheVariants.{Mixture, Ref}
-use Rattle.dl_ast.specs.declared.ast.SevAst.{SevAst}
-use Rattle.dl_ast.specs.declared.ast.SevDef.{SevDef}
-use Rattle.dl_ast.specs.declared.ast.ZeroAst.{ZeroAst}
-use Rattle.dl_ast.specs.declared.ast.ZeroAst.TheVariants.{Plain, Truncated, Modified}
-use Rattle.dl_ast.specs.declared.ast.PortHead.{PortHead}
-use Rattle.dl_ast.specs.declared.ast.CountAst.{CountAst}
-use Rattle.dl_ast.specs.declared.ast.CountAst.TheVariants.{Exposed, Listed}
-use Rattle.dl_ast.specs.declared.ast.Share.{Share}
-use Rattle.dl_ast.specs.declared.ast.CededLayer.{CededLayer}
-use Rattle.dl_ast.specs.declared.ast.Cession.{Cession}
-use Rattle.dl_ast.specs.declared.ast.FreqAst.{FreqAst}
-use Rattle.dl_ast.specs.declared.ast.Exposure.{Exposure}
-use Rattle.dl_ast.specs.declared.ast.Exposure.TheVariants.{Claims, Loss, Premium}
-use Rattle.dl_ast.specs.declared.ast.UnitAst.{UnitAst}
 use Rattle.dl_ast.specs.Rules.{Rule, one, ◌▸◌, maybe}
 use Rattle.dl_ast.specs.Grammar.{◌≫◌, ◌≪◌, ◌means◌, some_of, program, numeral, name, note, item, next_item, list, limit, layer, atom, mixture, reference, cost, sev, sevdef, cession, side, next_cession, clause, count, zero_change, plain_or, freq, claims, premium, exposure, listed, exposed_unit, listed_unit, unit, common, head, book}
 use Rattle.dl_ast.specs.WellFormed.{IsWellFormed, IsFormedName, IsFormedNumeral, IsFormedNote, IsFormedItem, IsFormedList, IsFormedLimit, IsFormedLayer, IsFormedAtom, IsFormedMixture, IsFormedReference, IsFormedBody, IsFormedSeverity, IsFormedDefinition, IsFormedZero, IsFormedShare, IsFormedCeded, IsFormedCession, IsFormedFrequency, IsFormedExposure, IsFormedUnit, IsFormedHead}
@@ -117,11 +92,6 @@ list_shown l h = shows_node (shows_as (shows_behind (Sign signs.Open) (sign_byte
     (shows_before (Sign signs.Close) (sign_byte signs.Close ∷ []) refl (items_shown l.items h.some h.items)))
     (simp append_assoc)) (λ is at e. ap (λ js. record { items = js; span = nowhere }) e)
 
-list_option_shown : (o : Option ListAst) → IfSome o IsFormedList
-    → Shows (maybe list) (option_map bare_list) (option_map bare_list o)
-    (optional list_pieces o)
-list_option_shown o h = shows_maybe list_shown o h
-
 -- layers
 
 limit_shown : (l : LimitAst) → IsFormedLimit l → Shows limit bare_limit (bare_limit l) (limit_pieces l)
@@ -134,11 +104,6 @@ unfolding layer layer_pieces
 layer_shown l h = shows_node (shows_seq (before_word words.Xs (limit_shown l.limit h.limit))
     (numeral_shown l.attach h.attach)) (λ p at e. ap (λ q. record { limit = q.0; attach = q.1; span = nowhere }) e)
 
-layer_option_shown : (o : Option Layer) → IfSome o IsFormedLayer
-    → Shows (maybe layer) (option_map bare_layer) (option_map bare_layer o)
-    (optional layer_pieces o)
-layer_option_shown o h = shows_maybe layer_shown o h
-
 -- severities
 
 -- a list and perhaps another
@@ -148,7 +113,7 @@ bare_lists p = (bare_list p.0, option_map bare_list p.1)
 lists_shown : (l : ListAst) (o : Option ListAst) → IsFormedList l → IfSome o IsFormedList
     → Shows (list ▸ maybe list) bare_lists (bare_list l, option_map bare_list o)
     (list_pieces l ++ optional list_pieces o)
-lists_shown l o h k = shows_seq (list_shown l h) (list_option_shown o k)
+lists_shown l o h k = shows_seq (list_shown l h) (shows_maybe list_shown o k)
 
 atom_shown : (a : Atom) → IsFormedAtom a → Shows atom bare_atom (bare_atom a) (atom_pieces a)
 unfolding atom atom_pieces
@@ -244,11 +209,8 @@ layers_shown : (cs : List CededLayer) → 0 < length cs → All IsFormedCeded cs
     → Shows (some_of cession next_cession) (map bare_ceded) (map bare_ceded cs) (ceded_layers_pieces cs)
 unfolding ceded_layers_pieces
 layers_shown [] some h = absurd (omega arith)
-layers_shown
-    (c ∷ cs) some h =
-    shows_some_of ceded_shown
-    and_ceded_shown c cs
-    (All-head IsFormedCeded c cs h) (All-tail IsFormedCeded c cs h)
+layers_shown (c ∷ cs) some h = shows_some_of ceded_shown and_ceded_shown c cs (All-head IsFormedCeded c cs h)
+    (All-tail IsFormedCeded c cs h)
 
 side_shown : (b : Bool) → Shows side (λ x. x) b (side_pieces b)
 unfolding side side_pieces
@@ -261,11 +223,6 @@ unfolding clause clause_pieces
 clause_shown k c h = shows_node
     (shows_as (behind_word k (shows_seq (side_shown c.net) (layers_shown c.layers h.some h.layers)))
     (simp append_assoc)) (λ p at e. ap (λ q. record { net = q.0; layers = q.1; span = nowhere }) e)
-
-clause_option_shown : (k : Keyword) (o : Option Cession) → IfSome o IsFormedCession
-    → Shows (maybe (clause (Word k))) (option_map bare_cession) (option_map bare_cession o)
-    (optional (clause_pieces k) o)
-clause_option_shown k o h = shows_maybe (clause_shown k) o h
 
 -- claim counts
 
@@ -309,25 +266,16 @@ freq_shown : (f : FreqAst) (z : ZeroAst) → IsFormedFrequency f → IsFormedZer
 unfolding freq
 freq_shown f z h k = shows_made (shows_seq (count_shown f h) (zero_shown z k)) (λ p e. e)
 
-claims_shown : Shows claims piece_of (record { kind = Word words.Claims; text = spelling words.Claims })
-    (word_piece words.Claims)
-unfolding claims
-claims_shown = shows_right (shows_one (Word words.Claims) (spelling words.Claims) refl)
-
-premium_shown : Shows premium piece_of (record { kind = Word words.Premium; text = spelling words.Premium })
-    (word_piece words.Premium)
-unfolding premium
-premium_shown = shows_right (shows_one (Word words.Premium) (spelling words.Premium) refl)
-
 exposure_shown : (x : Exposure) → IsFormedExposure x
     → Shows exposure bare_exposure (bare_exposure x) (exposure_pieces x)
-unfolding exposure exposure_pieces
-exposure_shown (Claims n span) h = shows_spanned (shows_left (shows_made (shows_seq (numeral_shown n h) claims_shown)
+unfolding exposure exposure_pieces claims premium
+exposure_shown (Claims n span) h = shows_spanned (shows_left (shows_made (shows_seq (numeral_shown n h) (shows_right
+    (shows_one (Word words.Claims) (spelling words.Claims) refl)))
     (λ p e. ap (λ q _. Claims q.0 nowhere) e)))
 exposure_shown (Loss n span) h = shows_spanned (shows_right (shows_left (shows_made (before_word words.Loss
     (numeral_shown n h)) (λ p e. ap (λ q _. Loss q nowhere) e))))
 exposure_shown (Premium n r span) h = shows_spanned (shows_right (shows_right (shows_made (shows_as (shows_seq
-    (numeral_shown n h.0) (shows_seq premium_shown (behind_word words.At (before_word words.Lr
+    (numeral_shown n h.0) (shows_seq (shows_right (shows_one (Word words.Premium) (spelling words.Premium) refl)) (behind_word words.At (before_word words.Lr
     (numeral_shown r h.1))))) (simp append_assoc)) (λ p e. ap (λ q _. Premium q.0 q.1.1 nowhere) e))))
 
 listed_shown : (l : ListAst) (o : Option ListAst) (span : Span) → IsFormedList l → IfSome o IsFormedList
@@ -348,15 +296,15 @@ unit_of : (n : NameAst) (c : CountAst) (l : Option Layer) (s : SevAst) (o a : Op
     (unit_pieces (record { name = n; count = c; layer = l; sev = s; occ = o; agr = a; note = t }))
 unfolding unit unit_pieces count_pieces late_count_pieces
 unit_of n (Exposed e f z) l s o a t h = shows_left (shows_made (shows_as (behind_word words.Agg (shows_seq
-    (name_shown n h.name) (shows_seq (exposure_shown e h.count.0) (shows_seq (layer_option_shown l h.layer)
-    (shows_seq (sev_shown s h.sev) (shows_seq (clause_option_shown words.Occurrence o h.occ)
-    (shows_seq (freq_shown f z h.count.1.0 h.count.1.1) (shows_seq (clause_option_shown words.Aggregate a h.agr)
+    (name_shown n h.name) (shows_seq (exposure_shown e h.count.0) (shows_seq (shows_maybe layer_shown l h.layer)
+    (shows_seq (sev_shown s h.sev) (shows_seq (shows_maybe (clause_shown words.Occurrence) o h.occ)
+    (shows_seq (freq_shown f z h.count.1.0 h.count.1.1) (shows_seq (shows_maybe (clause_shown words.Aggregate) a h.agr)
     (note_option_shown t h.note))))))))) (simp append_assoc)) (λ p e. ap exposed_unit e))
 unit_of n (Listed c p span) l s o a t h = shows_right (shows_made (shows_as (behind_word words.Agg (shows_seq
     (name_shown n h.name) (shows_seq (listed_shown c p span h.count.0 h.count.1) (shows_seq
-    (layer_option_shown l h.layer)
-    (shows_seq (sev_shown s h.sev) (shows_seq (clause_option_shown words.Occurrence o h.occ)
-    (shows_seq (clause_option_shown words.Aggregate a h.agr) (note_option_shown t h.note))))))))
+    (shows_maybe layer_shown l h.layer)
+    (shows_seq (sev_shown s h.sev) (shows_seq (shows_maybe (clause_shown words.Occurrence) o h.occ)
+    (shows_seq (shows_maybe (clause_shown words.Aggregate) a h.agr) (note_option_shown t h.note))))))))
     (simp (append_assoc, append-nil))) (λ p e. ap listed_unit e))
 
 unit_shown : (u : UnitAst) → IsFormedUnit u → Shows unit bare_unit (bare_unit u) (unit_pieces u)
@@ -366,14 +314,10 @@ common_shown : (n : Numeral) → IsFormedNumeral n → Shows common bare_numeral
 unfolding common
 common_shown n h = behind_word words.Common (numeral_shown n h)
 
-common_option_shown : (o : Option Numeral) → IfSome o IsFormedNumeral
-    → Shows (maybe common) (option_map bare_numeral) (option_map bare_numeral o) (optional common_pieces o)
-common_option_shown o h = shows_maybe common_shown o h
-
 head_shown : (h : PortHead) → IsFormedHead h → Shows head bare_head (bare_head h) (head_pieces h)
 unfolding head head_pieces
 head_shown h k = shows_made (shows_as (behind_word words.Port (shows_seq (name_shown h.name k.name)
-    (shows_seq (common_option_shown h.common k.common) (note_option_shown h.note k.note)))) (simp append_assoc))
+    (shows_seq (shows_maybe common_shown h.common k.common) (note_option_shown h.note k.note)))) (simp append_assoc))
     (λ p e. ap (λ q. record { name = q.0; common = q.1.0; note = q.1.1 }) e)
 
 -- the head, and the units

@@ -1,7 +1,8 @@
 -- An end is told by its text.
-use Rattle.dl_report.proofs.Common.{ℕ, ◌≡◌, ◌≢◌, true, ◌∙◌, ◌+◌, ◌/◌, ◌%◌, ◌^◌, ◌<◌, zero, suc, List, [], ◌∷◌, ◌++◌, refl, sym, ap, ap₂, subst, length, get_or, All, arith, codes, append_assoc, length-append, leb-true, one-le-pow, All-append, All-push, All-weaker, decimal, last_digits, with_digits, end_text, IsPlainByte, low_plain}
+use Rattle.dl_report.proofs.Common.{ℕ, ◌≡◌, ◌≢◌, true, false, ◌∙◌, ◌+◌, ◌/◌, ◌%◌, ◌^◌, ◌<◌, zero, suc, List, [], ◌∷◌, ◌++◌, refl, sym, ap, ap₂, subst, length, get_or, All, arith, codes, append_assoc, length-append, leb-true, one-le-pow, All-append, All-push, All-weaker, decimal, last_digits, with_digits, end_text, IsPlainByte, low_plain}
 use Rattle.std.proofs.Common.{◌*◌, ◌≤◌}
-use Rattle.std.specs.Prelude.{nat_le}
+use Rattle.std.specs.Prelude.{nat_le, ◌&&◌}
+use Rattle.std.proofs.lemmas.Bool.{and_from, both_ways, le-leb}
 use Rattle.std.proofs.Math.Arith.{mod-mul}
 use Rattle.std.proofs.Math.ListN.{get_or-append}
 use Rattle.std.proofs.Math.Nat.{div-le_self, div-add-mod, mod-one, pow-succ'}
@@ -107,14 +108,12 @@ with_digits_first d n h =
 decimal_first : (n : ℕ) → n < 2 ^ 32 → IsDigit (get_or (decimal n) 0 0)
 decimal_first n h = decimal_digits n (omega arith) 0 0 (decimal_is_IsNumeral_wide n (omega arith)).0.0
 
-not_digit : (text rest : List ℕ) (byte : ℕ) → IsDigit (get_or text 0 0) → text ≡ byte ∷ rest → IsDigit byte
-not_digit text rest byte digit e = subst (λ t. IsDigit (get_or t 0 0)) e digit
-
-not_beyond : IsDigit 98 → ⊥
-not_beyond h = omega (arith, h.to)
-
-not_absent : IsDigit 45 → ⊥
-not_absent h = omega (arith, h.from)
+-- no text that begins with a digit is one that does not
+no_digit : (text other : List ℕ) → IsDigit (get_or text 0 0) → text ≡ other
+    → (nat_le 48 (get_or other 0 0) && nat_le (get_or other 0 0) 57) ≡ false → ⊥
+no_digit text other digit e low =
+    let first : IsDigit (get_or other 0 0) = subst (λ t. IsDigit (get_or t 0 0)) e digit in
+    both_ways _ low (and_from _ _ (le-leb 48 _ first.from) (le-leb _ 57 first.to))
 
 with_digits_not_decimal : (d m n : ℕ) → n < 2 ^ 32 → with_digits d m ≡ decimal n → ⊥
 with_digits_not_decimal d m n h e = no_point n (decimal (m / 10 ^ d)) (last_digits d m) (omega arith)
@@ -125,24 +124,15 @@ pub end_told : (d f : ℕ) (a b : End) → IsInRange a → IsInRange b → end_t
 unfolding end_text
 end_told d f (Number m) (Number n) p q e = ap Number (with_digits_told d f m n p q e)
 end_told d f (Number m) (Whole y) p q e = absurd (with_digits_not_decimal d m y q e)
-end_told d f (Number m) Beyond p q e =
-    absurd (not_beyond (not_digit (with_digits d m) _ 98 (with_digits_first d m p) e))
-end_told d f (Number m) Absent p q e =
-    absurd (not_absent (not_digit (with_digits d m) _ 45 (with_digits_first d m p) e))
+end_told d f (Number m) _ p q e = absurd (no_digit _ _ (with_digits_first d m p) e refl)
 end_told d f (Whole x) (Number n) p q e = absurd (with_digits_not_decimal f n x p (sym e))
 end_told d f (Whole x) (Whole y) p q e = ap Whole (decimal_told x y (omega arith) (omega arith) e)
-end_told d f (Whole x) Beyond p q e = absurd (not_beyond (not_digit (decimal x) _ 98 (decimal_first x p) e))
-end_told d f (Whole x) Absent p q e = absurd (not_absent (not_digit (decimal x) _ 45 (decimal_first x p) e))
-end_told d f Beyond (Number n) p q e =
-    absurd (not_beyond (not_digit (with_digits f n) _ 98 (with_digits_first f n q) (sym e)))
-end_told d f Beyond (Whole y) p q e = absurd (not_beyond (not_digit (decimal y) _ 98 (decimal_first y q) (sym e)))
+end_told d f (Whole x) _ p q e = absurd (no_digit _ _ (decimal_first x p) e refl)
+end_told d f _ (Number n) p q e = absurd (no_digit _ _ (with_digits_first f n q) (sym e) refl)
+end_told d f _ (Whole y) p q e = absurd (no_digit _ _ (decimal_first y q) (sym e) refl)
 end_told d f Beyond Beyond p q e = refl
-end_told d f Beyond Absent p q e = absurd (cc)
-end_told d f Absent (Number n) p q e =
-    absurd (not_absent (not_digit (with_digits f n) _ 45 (with_digits_first f n q) (sym e)))
-end_told d f Absent (Whole y) p q e = absurd (not_absent (not_digit (decimal y) _ 45 (decimal_first y q) (sym e)))
-end_told d f Absent Beyond p q e = absurd (cc)
 end_told d f Absent Absent p q e = refl
+end_told d f _ _ p q e = absurd (cc)
 
 -- each byte of an end is plain
 pub end_plain : (d : ℕ) (a : End) → IsInRange a → All IsPlainByte (end_text d a)

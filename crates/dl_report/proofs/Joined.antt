@@ -1,17 +1,15 @@
 -- Lists written one behind the other: parts behind what was there before, and one more row.
-use Rattle.dl_report.proofs.Common.{◌≡◌, ◌∙◌, ◌++◌, ◌+◌, ◌<◌, ℕ, List, [], ◌∷◌, refl, sym, ap, subst, length, take, get_or, flat_map, Row}
+use Rattle.dl_report.proofs.Common.{◌≡◌, ◌∙◌, append_assoc, ◌++◌, ◌+◌, ◌<◌, ℕ, List, [], ◌∷◌, sym, ap, subst, length, take, get_or, flat_map, Row}
 use Rattle.std.proofs.Common.{add-one, ◌≤◌, Result, Ok, Err}
 use Rattle.std.specs.Prelude.{OnOk, if◌then◌else◌, is_ok}
 use Rattle.std.proofs.Math.Seq.{take-suc}
 use Rattle.std.proofs.lemmas.List.{flat_map_more, take_all}
 
 pub three : (t a b c : List ℕ) → t ++ a ++ b ++ c ≡ t ++ (a ++ b ++ c)
-three [] a b c = refl
-three (x ∷ t) a b c = ap (λ rest. x ∷ rest) (three t a b c)
+three t a b c = simp append_assoc
 
 pub six : (t a b c d e f : List ℕ) → t ++ a ++ b ++ c ++ d ++ e ++ f ≡ t ++ (a ++ b ++ c ++ d ++ e ++ f)
-six [] a b c d e f = refl
-six (x ∷ t) a b c d e f = ap (λ rest. x ∷ rest) (six t a b c d e f)
+six t a b c d e f = simp append_assoc
 
 -- what was there before, and a part behind it, unless there was no room
 pub appended : {T E : Type 0} (r : Result T E) (new old part : List ℕ)

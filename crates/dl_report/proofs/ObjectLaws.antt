@@ -1,5 +1,5 @@
 -- Rows are told by their JSON objects.
-use Rattle.dl_report.proofs.Common.{ℕ, ◌≡◌, ◌≢◌, ◌∙◌, ◌<◌, ◌^◌, false, List, [], ◌∷◌, ◌++◌, refl, sym, ap, ap₂, get_or, map, All, arith, codes, append_assoc, ne_eqb, append_cancel_left, All-head, All-tail, All-weaker, All-append, All-push, decimal, flat_map, ◌==◌, quoted, Fraction, end_text, fraction_text, json_of, row_object, with_commas, IsPlainByte, low_plain, IsPlain, Report, Row}
+use Rattle.dl_report.proofs.Common.{ℕ, ◌≡◌, ◌≢◌, ◌∙◌, ◌<◌, ◌^◌, false, List, [], ◌∷◌, ◌++◌, refl, sym, ap, ap₂, get_or, map, All, arith, codes, append_assoc, ne_eqb, append_cancel_left, All-head, All-tail, All-weaker, All-append, All-push, decimal, flat_map, ◌==◌, Fraction, end_text, fraction_text, json_of, row_object, with_commas, IsPlainByte, low_plain, IsPlain, Report, Row}
 use Rattle.std.proofs.Common.{inl, inr}
 use Rattle.std.proofs.lemmas.Bool.{cases_Bool, le-ltb}
 use Rattle.json.specs.Print.{escape, escape_byte}
@@ -35,9 +35,6 @@ plain_text (byte ∷ rest) all =
     ap₂ (λ (x y : List ℕ). x ++ y) (plain_escape byte (All-head IsPlainByte byte rest all))
     (plain_text rest (All-tail IsPlainByte byte rest all))
 
-plain_quoted : (text : List ℕ) → All IsPlainByte text → quoted text ≡ 34 ∷ (text ++ 34 ∷ [])
-plain_quoted text all = ap (λ (t : List ℕ). 34 ∷ (t ++ 34 ∷ [])) (plain_text text all)
-
 object_layout : (ask high low rest : List ℕ)
     → codes "{\"ask\":" ++ (34 ∷ (ask ++ 34 ∷ [])) ++ codes ",\"high\":" ++ (34 ∷ (high ++ 34 ∷ []))
     ++ codes ",\"low\":"
@@ -51,14 +48,9 @@ object_is : (d : ℕ) (row : Row) (rest : List ℕ) → IsPlain row
     ≡ codes "{\"ask\":\"" ++ (row.ask ++ 34 ∷ (codes ",\"high\":\"" ++ (end_text d row.high
     ++ 34 ∷ (codes ",\"low\":\"" ++ (end_text d row.low ++ 34 ∷ (codes "}" ++ rest))))))
 object_is d row rest h =
-    ap₂ (λ (ask high : List ℕ). codes "{\"ask\":" ++ ask ++ codes ",\"high\":" ++ high ++ codes ",\"low\":" ++ quoted
-    (end_text d row.low)
-    ++ codes "}" ++ rest) (plain_quoted row.ask h.ask)
-    (plain_quoted (end_text d row.high) (end_plain d row.high h.high))
-    ∙ ap (λ (low : List ℕ). codes "{\"ask\":" ++ (34 ∷ (row.ask ++ 34 ∷ [])) ++ codes ",\"high\":" ++
-    (34 ∷ (end_text d row.high ++ 34 ∷ []))
-    ++ codes ",\"low\":" ++ low ++ codes "}" ++ rest) (plain_quoted (end_text d row.low) (end_plain d row.low h.low))
-    ∙ (object_layout row.ask (end_text d row.high) (end_text d row.low) rest)
+    let high = plain_text (end_text d row.high) (end_plain d row.high h.high) in
+    let low = plain_text (end_text d row.low) (end_plain d row.low h.low) in
+    rw (plain_text row.ask h.ask, high, low) (object_layout row.ask (end_text d row.high) (end_text d row.low) rest)
 
 object_told : (d f : ℕ) (r s : Row) (x y : List ℕ) → IsPlain r → IsPlain s → row_object d r ++ x ≡ row_object f s ++ y
     → (r ≡ s) × (x ≡ y)
@@ -122,12 +114,8 @@ report_is : (report : Report) (bs : Fraction) (cells : ℕ) → FitsFrac bs
     ≡ codes "{\"bs\":\"" ++ (fraction_text bs ++ 34 ∷ (codes ",\"cells\":"
     ++ (decimal cells ++ 44 ∷ (codes "\"rows\":[" ++
     (with_commas (map (row_object report.digits) report.rows) ++ codes "]}\n")))))
-report_is report bs cells h =
-    ap (λ (size : List ℕ). codes "{\"bs\":" ++ size ++ codes ",\"cells\":" ++ decimal cells ++ codes ",\"rows\":["
-    ++ with_commas
-    (map (row_object report.digits) report.rows) ++ codes "]}\n")
-    (plain_quoted (fraction_text bs) (fraction_plain bs h))
-    ∙ report_layout (fraction_text bs) (decimal cells) (with_commas (map (row_object report.digits) report.rows))
+report_is report bs cells h = rw (plain_text (fraction_text bs) (fraction_plain bs h))
+    (report_layout (fraction_text bs) (decimal cells) (with_commas (map (row_object report.digits) report.rows)))
 
 pub reports_told : (a b : Report) (x y : Fraction) (m n : ℕ) → FitsFrac x → FitsFrac y → m < 2 ^ 32 → n < 2 ^ 32
     → All IsPlain a.rows → All

@@ -60,14 +60,14 @@ rows_told c write no_c is d f (r ∷ a) (s ∷ b) p q e =
     ap₂ (λ x xs. x ∷ xs) first.0 (rows_told c write no_c is d f a b (All-tail IsPlain r a p)
     (All-tail IsPlain s b q) first.1)
 
-line_is : (ask low high rest : List ℕ) → ask ++ codes " " ++ low ++ codes " " ++ high ++ codes "\n" ++ rest ≡ ask
-    ++ 32 ∷ (low ++ 32 ∷ (high ++ 10 ∷ rest))
-line_is ask low high rest = simp append_assoc refl
+row_is : (c : ℕ) (ask low high rest : List ℕ) → ask ++ (c ∷ []) ++ low ++ (c ∷ []) ++ high ++ codes "\n" ++ rest
+    ≡ ask ++ c ∷ (low ++ c ∷ (high ++ 10 ∷ rest))
+row_is c ask low high rest = simp append_assoc refl
 
 pub lines_told : (d f : ℕ) (a b : List Row) → All IsPlain a → All IsPlain b
     → flat_map (line d) a ≡ flat_map (line f) b → a ≡ b
 lines_told = rows_told 32 line no_blank (λ d row rest _.
-    line_is row.ask (end_text d row.low) (end_text d row.high) rest)
+    row_is 32 row.ask (end_text d row.low) (end_text d row.high) rest)
 
 -- a field of plain bytes needs no quote marks
 plain_field : (text : List ℕ) → All IsPlainByte text → field text ≡ text
@@ -86,10 +86,6 @@ plain_field text all =
               (λ e. omega (arith, h.above)),
         ) refl
 
-record_is : (ask low high rest : List ℕ) → ask ++ codes "," ++ low ++ codes "," ++ high ++ codes "\n" ++ rest ≡ ask
-    ++ 44 ∷ (low ++ 44 ∷ (high ++ 10 ∷ rest))
-record_is ask low high rest = simp append_assoc refl
-
 plain_record : (d : ℕ) (row : Row) (rest : List ℕ) → IsPlain row → row_record d row ++ rest ≡ spaced 44 d row rest
 plain_record d row rest h =
     rw (
@@ -98,7 +94,7 @@ plain_record d row rest h =
       plain_field (end_text d row.high)
           (end_plain d row.high h.high),
     )
-    (record_is row.ask (end_text d row.low) (end_text d row.high) rest)
+    (row_is 44 row.ask (end_text d row.low) (end_text d row.high) rest)
 
 pub records_told : (d f : ℕ) (a b : List Row) → All IsPlain a → All IsPlain b
     → flat_map (row_record d) a ≡ flat_map (row_record f) b → a ≡ b

@@ -1,8 +1,6 @@
 -- Where the steps of an input begin.
-use Rattle.std.proofs.Common.{◌≡◌, ◌+◌, ◌<◌, ℕ, Bool, true, false, ◌&&◌, List, [], ◌∷◌, length, get_or, drop, refl, sym, ap, subst, ◌∙◌, arith}
-use Rattle.std.proofs.lemmas.List.{drop_more, drop_all}
+use Rattle.dl_top.proofs.Common.{◌≡◌, ◌+◌, ◌<◌, ℕ, Bool, true, false, ◌&&◌, List, [], ◌∷◌, length, get_or, drop, refl, sym, ap, subst, ◌∙◌, arith, drop_more, drop_all, is_divided, length_to_steps}
 use Rattle.dl_lexer.specs.Lines.{is_newline}
-use Rattle.dl_top.specs.Inputs.{is_divided, length_to_steps}
 
 ends : (begins : Bool) (x : ℕ) (xs : List ℕ) → (begins && is_divided (x ∷ xs)) ≡ true
     → length_to_steps begins (x ∷ xs) ≡ 0

@@ -1,3 +1,4 @@
+mod Common
 mod ReplyLaws
 mod RunLaws
 mod MadeLines

@@ -1,6 +1,5 @@
 -- One more line of a portfolio that is made.
-use Rattle.std.proofs.Common.{ℕ, ◌≡◌, ◌∙◌, ◌+◌, ◌*◌, List, ◌++◌, sym, ap, arith, add-one, append_assoc}
-use Rattle.dl_top.specs.Made.{next_value, value_after, drawn_below, unit_text, unit_line, unit_lines}
+use Rattle.dl_top.proofs.Common.{ℕ, ◌≡◌, ◌∙◌, ◌+◌, ◌*◌, List, ◌++◌, sym, ap, arith, add-one, append_assoc, next_value, value_after, drawn_below, unit_text, unit_line, unit_lines}
 
 pub value_next : (first n : ℕ) → value_after first (n + 1) ≡ next_value (value_after first n)
 unfolding value_after

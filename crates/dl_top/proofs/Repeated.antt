@@ -1,19 +1,8 @@
 -- Settings of the same bucket and the same grid give a program the same plan and the same first fault.
-use Rattle.std.proofs.Common.{◌≡◌, ◌∙◌, ◌^◌, ℕ, List, refl, sym, ap, subst}
+use Rattle.dl_top.proofs.Common.{◌≡◌, ◌∙◌, ◌^◌, ℕ, List, refl, sym, ap, subst, Iv, Program, Plan, Settings, IsValid, first_fault, first_fault_of, fault_with, fault_on_grid, fault_of_port, IsPlanOf, IsUnitOf, IsCovered, IsVerified, steps_of, IsVerifiable}
 use Rattle.std.specs.List.{AllZip}
 use Rattle.dl_exact.specs.Fraction.{Fraction}
-use Rattle.dl_iv.specs.declared.interval.Iv.{Iv}
-use Rattle.dl_ast.specs.declared.ast.Program.{Program}
-use Rattle.dl_plan.specs.declared.plan.Plan.{Plan}
-use Rattle.dl_plan.specs.declared.settings.Settings.{Settings}
-use Rattle.dl_plan.specs.Valid.{IsValid}
-use Rattle.dl_types.specs.Faults.{first_fault, first_fault_of, fault_with, fault_on_grid, fault_of_port}
-use Rattle.dl_types.specs.Plans.{IsPlanOf, IsUnitOf}
 use Rattle.dl_types.proofs.OnePlan.{one_plan}
-use Rattle.dl_cert.specs.Covered.{IsCovered}
-use Rattle.dl_cert.specs.Verified.{IsVerified}
-use Rattle.dl_top.specs.Inputs.{steps_of}
-use Rattle.dl_top.specs.Answers.{IsVerifiable}
 use Rattle.dl_top.specs.Repeated.{IsHandedOn}
 
 -- settings with another bucket and another grid

@@ -1,57 +1,27 @@
 -- What follows of a reply, and why an accepted text is not refused.
-use Rattle.std.proofs.Common.{ℕ, ◌≡◌, map, String, string_bytes, Global, ◌≤◌, List, [], ◌∷◌, length, get_or, All, Option, None, Some, Ok, Err, IfSome, IsUtf8, arith, refl, sym, ap, subst, inl, inr, ◌∙◌}
-use Rattle.dl_outside.specs.Bytes.{Takes, TakesAtMost}
-use Rattle.dl_outside.specs.Steps.{Step, Reading, all_gave, unread}
-use Rattle.dl_lexer.specs.declared.token.Token.{Token}
-use Rattle.dl_lexer.specs.Cutting.{Covers, IsBad}
+use Rattle.dl_top.proofs.Common.{ℕ, ◌≡◌, map, String, string_bytes, Global, ◌≤◌, List, [], ◌∷◌, length, get_or, All, Option, None, Some, Ok, Err, IfSome, IsUtf8, arith, refl, sym, ap, subst, inl, inr, ◌∙◌, Takes, TakesAtMost, Step, Reading, all_gave, unread, Token, Covers, IsBad, Program, Plan, IsValid, IsCoveredUnit, IsCovered, IsFirstUncovered, IsNotCovered, IsBadStep, IsVerified, Iv, Asked, Settings, UsageFault, settings_in, words_in_range, words_are_text, words_have_few_cells, first_fault, AskBeyond, UnknownUnit, NoShare, TooWide, NoRoom, zip, All-nil, All-cons, All-head, All-tail, All-map, Rows, Row, IsGood, Fault, Read, BadByte, Syntax, Continuous, Typing, Done, fault_line, made_of, Say, IsTooLong, input_of, program_of, program_in, steps_of, limit_of, limit_for, IsReadFault, IsOfText, IfAnswer, HasParts, AreReady, IsPlanOf, HasTokens, SpellsProgram, MeansPlan, AsksOfCert, Certifies, Verifies, IsAccepted, HasForm, IsCertifiable, IsVerifiable, Answers, Refuses, of_asks, usage, not_read, too_long, bad_byte, continuous, syntax, typing, not_covered, bad_step, asking, IsReply, Tells, ◌<◌}
 use Rattle.dl_lexer.proofs.CoverLaws.{cover_one, covered_not_bad}
-use Rattle.dl_ast.specs.declared.ast.Program.{Program}
 use Rattle.dl_ast.specs.Lexemes.{lexemes}
 use Rattle.dl_ast.specs.Rules.{Spells}
 use Rattle.dl_ast.specs.Grammar.{program}
 use Rattle.dl_parser.proofs.Whole.{one_program}
-use Rattle.dl_plan.specs.declared.plan.Plan.{Plan}
 use Rattle.dl_plan.specs.declared.plan.Unit.{Unit as UnitOfPlan}
 use Rattle.dl_plan.specs.Forms.{IsOfCert, IsOfPlan}
-use Rattle.dl_plan.specs.Valid.{IsValid}
-use Rattle.dl_cert.specs.Covered.{IsCoveredUnit, IsCovered, IsFirstUncovered, IsNotCovered}
-use Rattle.dl_cert.specs.Verified.{IsBadStep, IsVerified}
 use Rattle.dl_cert.proofs.Excluding.{no_bad_step}
-use Rattle.dl_iv.specs.declared.interval.Iv.{Iv}
 use Rattle.dl_plan.specs.declared.settings.Ask.TheVariants.{Mean}
-use Rattle.dl_plan.specs.declared.settings.Asked.{Asked}
-use Rattle.dl_plan.specs.declared.settings.Settings.{Settings}
-use Rattle.dl_words.specs.declared.fault.UsageFault.{UsageFault}
 use Rattle.dl_words.specs.Words.{words_of}
-use Rattle.dl_words.proofs.RangeLaws.{settings_in, words_in_range, words_are_text, words_have_few_cells}
-use Rattle.dl_types.specs.Faults.{first_fault}
 use Rattle.dl_types.specs.declared.fault.TypeFault.{TypeFault}
 use Rattle.dl_eval.specs.declared.fault.EvalFault.{EvalFault}
-use Rattle.dl_eval.specs.declared.fault.EvalFault.TheVariants.{AskBeyond, UnknownUnit, NoShare, TooWide, OutOfMemory as NoRoom}
 use Rattle.dl_eval.specs.Answers.{IsFirstNot, AreAdmitted, RefusesAsk as RefusesAsks}
-use Rattle.std.specs.Prelude.{zip}
-use Rattle.std.proofs.lemmas.List.Elements.{All-nil, All-cons, All-head, All-tail, All-map}
 use Rattle.std.proofs.lemmas.Str.{IsUtf8-string_bytes}
-use Rattle.dl_report.specs.declared.report.Report.{Report as Rows}
-use Rattle.dl_report.specs.declared.report.Row.{Row}
 use Rattle.dl_report.specs.Objects.{AsksAreText}
-use Rattle.dl_eval.specs.Rows.{IsGood}
 use Rattle.dl_eval.specs.Answers.{IsAnswered}
-use Rattle.dl_top.specs.declared.fault.Fault.{Fault}
-use Rattle.dl_top.specs.declared.fault.Fault.TheVariants.{Read, BadByte, Syntax, Continuous, Typing}
-use Rattle.dl_top.specs.declared.status.Status.TheVariants.{Done}
 use Rattle.dl_top.specs.declared.reply.Reply.{Reply}
 use Rattle.dl_top.specs.declared.reply.Reply.TheVariants.{Answer, Refusal, OutOfMemory}
-use Rattle.dl_top.specs.Faults.{fault_line}
-use Rattle.dl_top.specs.Made.{made_of}
-use Rattle.dl_top.specs.Inputs.{Say, IsTooLong, input_of, program_of, program_in, steps_of, limit_of, limit_for}
-use Rattle.dl_top.specs.Replies.{IsReadFault, IsOfText, IfAnswer, HasParts, AreReady}
 use Rattle.dl_plan.specs.declared.settings.Form.{Form}
 use Rattle.dl_plan.specs.declared.settings.Form.TheVariants.{Run, Fmt, Cert, Verify}
-use Rattle.dl_types.specs.Plans.{IsPlanOf}
 use Rattle.dl_parser.specs.Viable.{Stops, IsContinuous}
-use Rattle.dl_top.specs.Answers.{HasTokens, SpellsProgram, MeansPlan, AsksOfCert, Certifies, Verifies, IsAccepted, HasForm, IsCertifiable, IsVerifiable, Answers, Refuses, of_asks, usage, not_read, too_long, bad_byte, continuous, syntax, typing, not_covered, bad_step, asking}
-use Rattle.dl_top.specs.Replies.{IsReply, Tells}
+use Rattle.std.proofs.lemmas.Slice.Zip.{get_or-zip, length-zip}
 
 -- a refusal is the reply where the words and the input give its fault, and its text needs no more of the text than its
 -- place
@@ -108,20 +78,6 @@ one_spelled : (form : Form) (input : List ℕ) (p q : Program) → SpellsProgram
 one_spelled form input p q s t =
     one_program p q (lexemes (program_of form input) s.tokens) s.spelled (respelled form input q s.tokens t s.has)
 
--- words have one answer
-no_fault : (words : List (List ℕ)) (settings : Settings) (fault : UsageFault) → words_of words ≡ Ok settings
-    → words_of words ≡ Err fault → ⊥
-no_fault words settings fault e f = differ (sym e ∙ f)
-  where
-    differ : Ok settings ≡ Err fault → ⊥
-    differ e = grind (arith, e)
-
-same_settings : (words : List (List ℕ)) (a b : Settings) → words_of words ≡ Ok a → words_of words ≡ Ok b → a ≡ b
-same_settings words a b e f = ap (settings_in a) (sym e ∙ f)
-
-some_not_none : {A : Type 0} (x : A) → Some x ≡ None → ⊥
-some_not_none x e = grind (arith, e)
-
 -- ---- asks that are admitted are not refused
 
 an_ask : Asked
@@ -153,27 +109,12 @@ not_long : (form : Form) (input : List ℕ) (p : Program) → SpellsProgram form
 not_long form input p spells (inl long) = omega (arith, spells.has.fits.all, long)
 not_long form input p spells (inr long) = omega (arith, spells.has.fits.program, long)
 
--- the words ask by the form of one of the four
-run_is_of_plan : (form : Form) → form ≡ Run → IsOfPlan form
-run_is_of_plan form e = subst IsOfPlan (sym e) tt
-
-run_is_not_of_cert : (form : Form) → form ≡ Run → IsOfCert form → ⊥
-run_is_not_of_cert form e of = subst IsOfCert e of
-
-fmt_is_not_of_plan : (form : Form) → form ≡ Fmt → IsOfPlan form → ⊥
-fmt_is_not_of_plan form e of = subst IsOfPlan e of
-
+-- the form of a certificate is one of a plan
 of_cert_is_of_plan : (form : Form) → IsOfCert form → IsOfPlan form
 of_cert_is_of_plan Run of = tt
 of_cert_is_of_plan Fmt of = of
 of_cert_is_of_plan Cert of = tt
 of_cert_is_of_plan Verify of = tt
-
-cert_is_not_verify : (form : Form) → form ≡ Cert → form ≡ Verify → ⊥
-cert_is_not_verify form e f = differ (sym e ∙ f)
-  where
-    differ : Cert ≡ Verify → ⊥
-    differ e = grind (arith, e)
 
 -- The words have these settings, and the text spells this program. Then it is refused for a failed read alone, where no
 -- rule is broken, and where no later fault is there: a plan that is not covered, a bad step, or one of the asks.
@@ -189,10 +130,10 @@ module _ (words : List (List ℕ)) (input : List ℕ) (a : Settings) (say : Say 
       subst (λ q. IsPlanOf q a plan) (one_spelled a.form input means.program p means.spells spells) means.planned
 
   same : (settings : Settings) → Say words settings → settings ≡ a
-  same settings other = same_settings words settings a other say
+  same settings other = cc
 
   pub settled : (fault : Fault) (tokens : List Token) → Refuses words input fault tokens → fault ≡ Read
-  settled fault tokens (usage f e) = absurd (no_fault words a f say e)
+  settled fault tokens (usage f e) = absurd (cc)
   settled fault tokens (not_read settings other seedless) = refl
   settled fault tokens (too_long settings other long) =
       absurd (not_long a.form input p spells (subst (λ s. IsTooLong s.form input) (same settings other) long))
@@ -210,7 +151,8 @@ module _ (words : List (List ℕ)) (input : List ℕ) (a : Settings) (say : Say 
       let one : q ≡ p = one_spelled a.form input q p (subst (λ s. SpellsProgram s.form input q) set other) spells in
       let broken : first_fault p a ≡ Some f = subst (λ r. first_fault r a ≡ Some f) one
       (subst (λ s. first_fault q s ≡ Some f) set first) in
-      absurd (some_not_none f (sym broken ∙ faultless (subst (λ s. IsOfPlan s.form) set asks.form)))
+      let none : first_fault p a ≡ None = faultless (subst (λ s. IsOfPlan s.form) set asks.form) in
+      absurd (cc)
   settled fault tokens (not_covered settings asks plan other u not) =
       let set : settings ≡ a = same settings asks.say in
       let means : MeansPlan input a plan = subst (λ s. MeansPlan input s plan) set other in
@@ -248,20 +190,17 @@ pub accepted : (words : List (List ℕ)) (input : List ℕ) → IsAccepted words
     → Refuses words input fault tokens → fault ≡ Read
 accepted words input a = settled words input a.settings a.asks.say a.program a.spells
     (λ of. a.faultless)
-    (λ plan planned valid of. absurd (run_is_not_of_cert a.settings.form a.asks.form of))
-    (λ plan planned valid e. absurd (run_is_not_of_cert a.settings.form a.asks.form (subst IsOfCert (sym e) tt)))
+    (λ plan planned valid of. absurd (subst IsOfCert a.asks.form of))
+    (λ plan planned valid e. absurd (cc (a.asks.form)))
     (λ plan planned valid e. a.admitted plan planned valid)
 
 -- so is a text whose canonical form is wanted, and that spells a program
 pub has_form : (words : List (List ℕ)) (input : List ℕ) → HasForm words input → (fault : Fault) (tokens : List Token)
     → Refuses words input fault tokens → fault ≡ Read
 has_form words input a = settled words input a.settings a.formats.say a.program a.spells
-    (λ of. absurd (fmt_is_not_of_plan a.settings.form a.formats.form of))
-    (λ plan planned valid of. absurd (fmt_is_not_of_plan a.settings.form a.formats.form
-    (of_cert_is_of_plan a.settings.form of)))
-    (λ plan planned valid e. absurd (fmt_is_not_of_plan a.settings.form a.formats.form (subst IsOfPlan (sym e) tt)))
-    (λ plan planned valid e. absurd (fmt_is_not_of_plan a.settings.form a.formats.form
-    (run_is_of_plan a.settings.form e)))
+    (λ of. absurd (subst IsOfPlan a.formats.form of))
+    (λ plan planned valid of. absurd (subst IsOfPlan a.formats.form (of_cert_is_of_plan a.settings.form of)))
+    (λ plan planned valid e. absurd (cc (a.formats.form))) (λ plan planned valid e. absurd (cc (a.formats.form)))
 
 -- so is a text of which a certificate is wanted, and whose program is covered and breaks no rule
 pub certifiable : (words : List (List ℕ)) (input : List ℕ) → IsCertifiable words input
@@ -269,8 +208,7 @@ pub certifiable : (words : List (List ℕ)) (input : List ℕ) → IsCertifiable
 certifiable words input a = settled words input a.settings a.certify.say a.program a.spells
     (λ of. a.faultless)
     (λ plan planned valid of u. covered_not_refused plan u (a.covered plan planned valid))
-    (λ plan planned valid e. absurd (cert_is_not_verify a.settings.form a.certify.form e))
-    (λ plan planned valid e. absurd (run_is_not_of_cert a.settings.form e (subst IsOfCert (sym a.certify.form) tt)))
+    (λ plan planned valid e. absurd (cc (a.certify.form))) (λ plan planned valid e. absurd (cc (a.certify.form)))
 
 -- and so is one with steps that certify it, where these are wanted checked
 pub verifiable : (words : List (List ℕ)) (input : List ℕ) → IsVerifiable words input
@@ -279,7 +217,7 @@ verifiable words input a = settled words input a.settings a.verify.say a.program
     (λ of. a.faultless)
     (λ plan planned valid of u. covered_not_refused plan u (a.covered plan planned valid))
     (λ plan planned valid e k covered. not_bad plan (steps_of a.settings.form input) k (a.steps plan planned valid))
-    (λ plan planned valid e. absurd (run_is_not_of_cert a.settings.form e (subst IsOfCert (sym a.verify.form) tt)))
+    (λ plan planned valid e. absurd (cc (a.verify.form)))
 
 -- ---- which text the words are about
 
@@ -312,26 +250,22 @@ are_ready words settings say = record {
   cells = words_have_few_cells (map string_bytes words) settings say;
 }
 
--- the rows of a good report have the asks as they were written
-rows_text : (plan : Plan) (d : ℕ) (asks : List Asked) (rows : List Row) → length rows ≡ length asks
-    → All (λ pair. IsGood plan d pair.0 pair.1) (zip asks rows) → All (λ asked. IsUtf8 asked.text) asks
-    → All (λ row. IsUtf8 row.ask) rows
-rows_text plan d [] [] e good texts = All-nil (λ row. IsUtf8 row.ask)
-rows_text plan d [] (r ∷ rs) e good texts = absurd (omega (arith, e))
-rows_text plan d (a ∷ more) [] e good texts = All-nil (λ row. IsUtf8 row.ask)
-rows_text plan d (a ∷ more) (r ∷ rs) e good texts =
-    let here : IsGood plan d a r = All-head (λ pair. IsGood plan d pair.0 pair.1) (a, r) (zip more rs) good in
-    let text : IsUtf8 a.text = All-head (λ asked. IsUtf8 asked.text) a more texts in
-    All-cons (λ row. IsUtf8 row.ask) r rs (subst IsUtf8 (sym here.ask) text)
-    (rows_text plan d more rs (omega (arith, e))
-    (All-tail (λ pair. IsGood plan d pair.0 pair.1) (a, r) (zip more rs) good)
-    (All-tail (λ asked. IsUtf8 asked.text) a more texts))
+-- what the words of the asks have, the words of a good report's rows have
+pub rows_have : (P : List ℕ → Type 0) (plan : Plan) (d : ℕ) (asks : List Asked) (rows : List Row)
+    → length rows ≡ length asks → All (λ pair. IsGood plan d pair.0 pair.1) (zip asks rows)
+    → All (λ asked. P asked.text) asks → All (λ row. P row.ask) rows
+rows_have P plan d asks rows e good texts = λ k row inside.
+    let near : k < length asks = omega (arith, inside, e) in
+    let is : IsGood plan d (get_or asks k an_ask) (get_or rows k row) =
+    subst (λ pair. IsGood plan d pair.0 pair.1) (get_or-zip asks rows k (an_ask, row) near inside)
+    (good k (an_ask, row) (omega (arith, length-zip asks rows, near, inside))) in
+    subst P (sym is.ask) (texts k an_ask near)
 
 pub answered_text : (plan : Plan) (settings : Settings) (report : Rows) → IsAnswered plan settings report
     → All (λ asked. IsUtf8 asked.text) settings.asks
     → AsksAreText report
 answered_text plan settings report (admitted, good) texts =
-    rows_text plan settings.digits settings.asks report.rows good.as_many good.rows texts
+    rows_have IsUtf8 plan settings.digits settings.asks report.rows good.as_many good.rows texts
 
 pub answered_digits : (plan : Plan) (settings : Settings) (report : Rows) → IsAnswered plan settings report
     → settings.digits ≤ 9 → report.digits ≤ 9
@@ -377,13 +311,12 @@ module _ (words : List (List ℕ)) (input source steps : List ℕ) (settings : S
   -- a fault is written by the program alone
   told_of : (fault : Fault) (tokens : List Token)
       → fault_line fault source tokens ≡ fault_line fault (program_in words input) tokens
-  told_of fault tokens =
-      ap (λ s. fault_line fault s tokens) (sym (in_program words input source settings say parts.program))
+  told_of fault tokens = rw (in_program words input source settings say parts.program) refl
 
   has_tokens : (tokens : List Token) → Covers source (length source) tokens → HasTokens settings.form input tokens
   has_tokens tokens covered = record {
     fits = parts.fits;
-    covered = subst (λ s. Covers s (length s) tokens) (sym parts.program) covered;
+    covered = rw parts.program covered;
   }
 
   pub spells_program : (p : Program) (tokens : List Token) → Covers source (length source) tokens
@@ -391,30 +324,27 @@ module _ (words : List (List ℕ)) (input source steps : List ℕ) (settings : S
   spells_program p tokens covered spelled = record {
     tokens = tokens;
     has = has_tokens tokens covered;
-    spelled = subst (λ s. Spells program p (lexemes s tokens)) (sym parts.program) spelled;
+    spelled = rw parts.program spelled;
   }
 
   pub refused_bad : (r : Reply) (at : ℕ) → Tells r (BadByte at) source [] → IsBad source at → IsReply words input r
   refused_bad r at tells bad = refused words input source [] r (BadByte at) tells (told_of (BadByte at) [])
-      (bad_byte settings say at parts.fits (subst (λ s. IsBad s at) (sym parts.program) bad))
+      (bad_byte settings say at parts.fits (rw parts.program bad))
 
   pub refused_continuous : (r : Reply) (k : ℕ) (tokens : List Token) → Tells r (Continuous k) source tokens
       → Covers source (length source) tokens → Stops (lexemes source tokens) k
       → IsContinuous (lexemes source tokens) k → IsReply words input r
   refused_continuous r k tokens tells covered stops is =
       refused words input source tokens r (Continuous k) tells (told_of (Continuous k) tokens)
-      (continuous settings say tokens k (has_tokens tokens covered)
-      (subst (λ s. Stops (lexemes s tokens) k) (sym parts.program) stops)
-      (subst (λ s. IsContinuous (lexemes s tokens) k) (sym parts.program) is))
+      (continuous settings say tokens k (has_tokens tokens covered) (rw parts.program stops) (rw parts.program is))
 
   pub refused_syntax : (r : Reply) (k : ℕ) (tokens : List Token) → Tells r (Syntax k) source tokens
       → Covers source (length source) tokens → Stops (lexemes source tokens) k
       → ¬ IsContinuous (lexemes source tokens) k → IsReply words input r
   refused_syntax r k tokens tells covered stops not =
       refused words input source tokens r (Syntax k) tells (told_of (Syntax k) tokens)
-      (syntax settings say tokens k (has_tokens tokens covered)
-      (subst (λ s. Stops (lexemes s tokens) k) (sym parts.program) stops)
-      (λ is. not (subst (λ s. IsContinuous (lexemes s tokens) k) parts.program is)))
+      (syntax settings say tokens k (has_tokens tokens covered) (rw parts.program stops)
+      (λ is. not (rw parts.program at is)))
 
   pub refused_typing : (r : Reply) (fault : TypeFault) (p : Program) → Tells r (Typing fault) source []
       → IsOfPlan settings.form → SpellsProgram settings.form input p → first_fault p settings ≡ Some fault

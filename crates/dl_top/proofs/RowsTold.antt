@@ -1,58 +1,26 @@
 -- The bytes of a report tell its rows.
-use Rattle.std.proofs.Common.{ℕ, ◌≡◌, ◌≤◌, ◌<◌, ◌^◌, List, [], ◌∷◌, length, All, arith, sym, subst}
-use Rattle.std.specs.Prelude.{zip}
-use Rattle.std.proofs.Common.{codes}
-use Rattle.std.proofs.Math.Nat.{pow-le-pow_right}
-use Rattle.std.proofs.lemmas.List.{append_cancel_left}
-use Rattle.std.proofs.lemmas.List.Elements.{All-nil, All-cons, All-head, All-tail}
+use Rattle.dl_top.proofs.Common.{ℕ, ◌≡◌, ◌≤◌, ◌<◌, ◌^◌, List, [], ◌∷◌, length, All, arith, sym, subst, zip, codes, pow-le-pow_right, append_cancel_left, All-nil, All-cons, All-head, All-tail, Plan, Asked, Settings, IsValid, words_in_range, Report, Row, IsGood}
 use Rattle.dl_frac.specs.Exact.{FitsFrac}
-use Rattle.dl_plan.specs.declared.plan.Plan.{Plan}
-use Rattle.dl_plan.specs.declared.settings.Asked.{Asked}
-use Rattle.dl_plan.specs.declared.settings.Settings.{Settings}
 use Rattle.dl_plan.specs.declared.settings.Format.{Format}
 use Rattle.dl_plan.specs.declared.settings.Format.TheVariants.{Plain, Csv, Json}
 use Rattle.dl_plan.specs.Ranges.{IsBucket}
-use Rattle.dl_plan.specs.Valid.{IsValid}
 use Rattle.dl_plan.specs.Plain.{IsPlainByte}
 use Rattle.dl_words.proofs.PlainAsks.{asks_are_plain}
-use Rattle.dl_words.proofs.RangeLaws.{words_in_range}
-use Rattle.dl_report.specs.declared.report.Report.{Report}
-use Rattle.dl_report.specs.declared.report.Row.{Row}
 use Rattle.dl_report.specs.Plain.{IsPlain, IsInRange}
 use Rattle.dl_report.proofs.RowLaws.{lines_told, records_told}
 use Rattle.dl_report.proofs.ObjectLaws.{reports_told}
-use Rattle.dl_eval.specs.Rows.{IsGood}
 use Rattle.dl_top.specs.Reports.{written}
 use Rattle.dl_top.specs.Told.{MayWrite}
-
-abbrev IsPlainAsk : Asked → Type 0
-IsPlainAsk asked = All IsPlainByte asked.text
-
-abbrev HoldsEnds : Row → Type 0
-HoldsEnds row = IsInRange row.low × IsInRange row.high
-
--- the rows of a good report over plain asks are plain
-plain_rows : (plan : Plan) (d : ℕ) (asks : List Asked) (rows : List Row) → length rows ≡ length asks
-    → All (λ pair. IsGood plan d pair.0 pair.1) (zip asks rows) → All IsPlainAsk asks → All HoldsEnds rows
-    → All IsPlain rows
-plain_rows plan d [] [] e good plain ends = All-nil IsPlain
-plain_rows plan d [] (r ∷ rs) e good plain ends = absurd (omega (arith, e))
-plain_rows plan d (a ∷ more) [] e good plain ends = All-nil IsPlain
-plain_rows plan d (a ∷ more) (r ∷ rs) e good plain ends =
-    let here : IsGood plan d a r = All-head (λ pair. IsGood plan d pair.0 pair.1) (a, r) (zip more rs) good in
-    let text : All IsPlainByte a.text = All-head IsPlainAsk a more plain in
-    let both : HoldsEnds r = All-head HoldsEnds r rs ends in
-    All-cons IsPlain r rs
-    (record { ask = subst (All IsPlainByte) (sym here.ask) text; low = both.0; high = both.1 })
-    (plain_rows plan d more rs (omega (arith, e))
-    (All-tail (λ pair. IsGood plan d pair.0 pair.1) (a, r) (zip more rs) good)
-    (All-tail IsPlainAsk a more plain) (All-tail HoldsEnds r rs ends))
+use Rattle.dl_top.proofs.ReplyLaws.{rows_have}
 
 written_plain : (words : List (List ℕ)) (input : List ℕ) (settings : Settings) (plan : Plan) (report : Report)
     → MayWrite words input settings plan report → All IsPlain report.rows
-written_plain words input settings plan report may =
-    plain_rows plan settings.digits settings.asks report.rows may.answered.1.as_many may.answered.1.rows
-    (asks_are_plain words settings may.asks.say) may.ends
+written_plain words input settings plan report may = λ k row inside. record {
+  ask = rows_have (All IsPlainByte) plan settings.digits settings.asks report.rows may.answered.1.as_many
+      may.answered.1.rows (asks_are_plain words settings may.asks.say) k row inside;
+  low = (may.ends k row inside).0;
+  high = (may.ends k row inside).1;
+}
 
 -- a bucket size of the words fits
 fits : (plan : Plan) (settings : Settings) → IsBucket settings.bs → plan.bs ≡ settings.bs → FitsFrac plan.bs

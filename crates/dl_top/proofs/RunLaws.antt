@@ -1,20 +1,12 @@
 -- What a call leaves behind once the text of a fault was written, whole or in part.
-use Rattle.std.proofs.Common.{ℕ, ◌≡◌, List, [], Option, arith, refl}
+use Rattle.dl_top.proofs.Common.{ℕ, ◌≡◌, List, [], Option, Some, None, IfSome, arith, refl, AppendsPartOf, Step, Token, UsageFault, Fault, Usage, Read, TooLong, BadByte, Syntax, Continuous, Typing, NotCovered, BadStep, status_of, fault_line, program_in, Answers, Refuses, IsAccepted, HasForm, IsCertifiable, IsVerifiable, refused}
 use Rattle.std.specs.Io.KnownBytes.{Appends}
-use Rattle.dl_outside.specs.Bytes.{AppendsPartOf}
-use Rattle.dl_outside.specs.Steps.{Step}
 use Rattle.dl_outside.specs.declared.ReadFailed.{ReadFailed}
 use Rattle.dl_outside.proofs.Appended.{appends_nothing}
-use Rattle.dl_lexer.specs.declared.token.Token.{Token}
-use Rattle.dl_words.specs.declared.fault.UsageFault.{UsageFault}
 use Rattle.dl_top.specs.declared.status.Status.{Status}
 use Rattle.dl_top.specs.declared.status.Status.TheVariants as statuses
-use Rattle.dl_top.specs.declared.fault.Fault.{Fault}
-use Rattle.dl_top.specs.declared.fault.Fault.TheVariants.{Usage, Read, TooLong, BadByte, Syntax, Continuous, Typing, NotCovered, BadStep, AskBeyond, UnknownUnit, NoShare, TooWide}
-use Rattle.dl_top.specs.Faults.{status_of, fault_line}
+use Rattle.dl_top.specs.declared.fault.Fault.TheVariants.{AskBeyond, UnknownUnit, NoShare, TooWide}
 use Rattle.dl_top.specs.Statuses.{IsWritten, IsAnswerEnd}
-use Rattle.dl_top.specs.Inputs.{program_in}
-use Rattle.dl_top.specs.Answers.{Answers, Refuses, IsAccepted, HasForm, IsCertifiable, IsVerifiable, refused}
 use Rattle.dl_top.specs.Runs.{Answered, PartOfMessage, Ran}
 use Rattle.dl_top.proofs.ReplyLaws.{always, none_taken, none_read}
 
@@ -39,35 +31,22 @@ message words input fault text status out err err' is e gains = record {
   err_gains = gains;
 }
 
-pub read_of_status : (fault : Fault) → status_of fault ≡ statuses.ReadFault → fault ≡ Read
-read_of_status (Usage of) e = grind (arith, e)
-read_of_status Read e = refl
-read_of_status TooLong e = grind (arith, e)
-read_of_status (BadByte at) e = grind (arith, e)
-read_of_status (Syntax k) e = grind (arith, e)
-read_of_status (Continuous k) e = grind (arith, e)
-read_of_status (Typing of) e = grind (arith, e)
-read_of_status (NotCovered u) e = grind (arith, e)
-read_of_status (BadStep k) e = grind (arith, e)
-read_of_status (AskBeyond i) e = grind (arith, e)
-read_of_status (UnknownUnit i) e = grind (arith, e)
-read_of_status (NoShare i) e = grind (arith, e)
-read_of_status (TooWide i width) e = grind (arith, e)
-
-pub usage_of_status : (fault : Fault) → status_of fault ≡ statuses.Usage → (of : UsageFault) × (fault ≡ Usage of)
-usage_of_status (Usage of) e = (of, refl)
-usage_of_status Read e = absurd (grind (arith, e))
-usage_of_status TooLong e = absurd (grind (arith, e))
-usage_of_status (BadByte at) e = absurd (grind (arith, e))
-usage_of_status (Syntax k) e = absurd (grind (arith, e))
-usage_of_status (Continuous k) e = absurd (grind (arith, e))
-usage_of_status (Typing of) e = absurd (grind (arith, e))
-usage_of_status (NotCovered u) e = absurd (grind (arith, e))
-usage_of_status (BadStep k) e = absurd (grind (arith, e))
-usage_of_status (AskBeyond i) e = absurd (grind (arith, e))
-usage_of_status (UnknownUnit i) e = absurd (grind (arith, e))
-usage_of_status (NoShare i) e = absurd (grind (arith, e))
-usage_of_status (TooWide i width) e = absurd (grind (arith, e))
+-- the statuses of a failed read and of a usage fault tell the fault
+pub status_tells : (fault : Fault) → (status_of fault ≡ statuses.ReadFault → fault ≡ Read) ×
+    (status_of fault ≡ statuses.Usage → (of : UsageFault) × (fault ≡ Usage of))
+status_tells (Usage of) = (λ e. absurd (cc), λ e. (of, refl))
+status_tells Read = (λ e. refl, λ e. absurd (cc))
+status_tells TooLong = (λ e. absurd (cc), λ e. absurd (cc))
+status_tells (BadByte at) = (λ e. absurd (cc), λ e. absurd (cc))
+status_tells (Syntax k) = (λ e. absurd (cc), λ e. absurd (cc))
+status_tells (Continuous k) = (λ e. absurd (cc), λ e. absurd (cc))
+status_tells (Typing of) = (λ e. absurd (cc), λ e. absurd (cc))
+status_tells (NotCovered u) = (λ e. absurd (cc), λ e. absurd (cc))
+status_tells (BadStep k) = (λ e. absurd (cc), λ e. absurd (cc))
+status_tells (AskBeyond i) = (λ e. absurd (cc), λ e. absurd (cc))
+status_tells (UnknownUnit i) = (λ e. absurd (cc), λ e. absurd (cc))
+status_tells (NoShare i) = (λ e. absurd (cc), λ e. absurd (cc))
+status_tells (TooWide i width) = (λ e. absurd (cc), λ e. absurd (cc))
 
 pub part : (words : List (List ℕ)) (input : List ℕ) (fault : Fault) (text : List ℕ)
     (err err' : Option (List ℕ)) {ReadFailed : Type 0}
@@ -78,15 +57,17 @@ part words input fault text err err' is read gains = record {
   message = text;
   answer = told_answer words input fault text is;
   gains = gains;
-  read = λ e. read (read_of_status fault e);
+  read = λ e. read ((status_tells fault).0 e);
 }
 
 -- what is refused for a failed read alone ends well
-pub ends_well : (words : List (List ℕ)) (input : List ℕ) (fault : Fault) (text : List ℕ) (status : Status)
-    → IsTold words input fault text → status ≡ status_of fault
-    → ((f : Fault) (tokens : List Token) → Refuses words input f tokens → f ≡ Read) → IsAnswerEnd status
-ends_well words input fault text status (tokens, refuses, is) e settled =
-    let read : fault ≡ Read = settled fault tokens refuses in
+pub ends_well : (words : List (List ℕ)) (left : Option (List ℕ)) (fault : Fault) (text : List ℕ) (status : Status)
+    {Asks : List ℕ → Type 0} → IfSome left (λ input. IsTold words input fault text) → status ≡ status_of fault
+    → ((input : List ℕ) → Asks input → (f : Fault) (tokens : List Token) → Refuses words input f tokens → f ≡ Read)
+    → IfSome left (λ input. Asks input → IsAnswerEnd status)
+ends_well words None fault text status told e settled = tt
+ends_well words (Some input) fault text status (tokens, refuses, is) e settled = λ asks.
+    let read : fault ≡ Read = settled input asks fault tokens refuses in
     rw (e, read) tt
 
 -- a call that found no memory and moved nothing keeps all that `run` promises

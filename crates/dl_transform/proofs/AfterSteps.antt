@@ -1,8 +1,6 @@
 -- One step of a pass at a node of a right table: what it makes of the two halves of a list.
-use Rattle.dl_transform.proofs.Common.{ℕ, ◌≡◌, ◌+◌, ◌-◌, ◌*◌, ◌^◌, ◌<◌, ◌≤◌, List, ◌++◌, take, drop, length, slice_index, get_or, arith, sym, ap, subst, Same, eval, point}
-use Rattle.dl_transform.specs.Table.{IsTable}
+use Rattle.dl_transform.proofs.Common.{ℕ, ◌≡◌, ◌+◌, ◌-◌, ◌*◌, ◌^◌, ◌<◌, ◌≤◌, List, ◌++◌, take, drop, length, slice_index, get_or, arith, Same, eval, point, IsTable}
 use Rattle.dl_transform.specs.declared.tables.Table.{Table}
-use Rattle.dl_transform.proofs.Residues.{same_trans, same_of}
 use Rattle.dl_transform.proofs.Nodes.{inside_roots}
 use Rattle.dl_transform.proofs.Parts.{take_small, drop_small, roots_small, values_step, items_step}
 use Rattle.dl_transform.proofs.Wholes.{undone}
@@ -10,11 +8,11 @@ use Rattle.dl_transform.proofs.Wholes.{undone}
 -- the items of a half are as small as those of the list
 pub front_small : (m B : ℕ) (xs part : List ℕ) → part ≡ take m xs → ((i : ℕ) → get_or xs i 0 < B) → (i : ℕ)
     → get_or part i 0 < B
-front_small m B xs part e h i = subst (λ s. get_or s i 0 < B) (sym e) (take_small m B xs h i)
+front_small m B xs part e h i = rw e (take_small m B xs h i)
 
 pub back_small : (m B : ℕ) (xs part : List ℕ) → part ≡ drop m xs → ((i : ℕ) → get_or xs i 0 < B) → (i : ℕ)
     → get_or part i 0 < B
-back_small m B xs part e h i = subst (λ s. get_or s i 0 < B) (sym e) (drop_small m B xs h i)
+back_small m B xs part e h i = rw e (drop_small m B xs h i)
 
 -- m items in each half, 2^l of them, below a node
 module _ (t : Table) (right : IsTable t) (node m n l : ℕ) (size : m ≡ 2 ^ l) (twice : n ≡ m * 2)
@@ -27,7 +25,7 @@ module _ (t : Table) (right : IsTable t) (node m n l : ℕ) (size : m ≡ 2 ^ l)
     roots = t.roots.items
 
     both_within : (node + 1) * (m * 2) ≤ 2 * length roots
-    both_within = subst (λ k. (node + 1) * k ≤ 2 * length roots) twice within
+    both_within = rw twice at within
 
     tree : (k : ℕ) → k < length roots → Same p (slice_index roots k * slice_index roots k) (point p roots k)
     tree k h = (right.root k h).square
@@ -48,11 +46,7 @@ module _ (t : Table) (right : IsTable t) (node m n l : ℕ) (size : m ≡ 2 ^ l)
         (eval n (λ i. get_or x i 0) (point p roots (node * n + k)))
     values_after r low high first second is long lows highs len firsts seconds =
         values_step p node m n roots x a b low high first second l size twice tree small both_within front back
-        (λ i h. subst (λ r. Same p (get_or low i 0) (get_or a i 0 + r * get_or b i 0)) is
-        (lows i (subst (λ k. i < k) (sym long) h)))
-        (λ i h. subst (λ r. Same p (get_or high i 0) (get_or a i 0 + (p - r) * get_or b i 0)) is
-        (highs i (subst (λ k. i < k) (sym long) h)))
-        len firsts seconds
+        (λ i h. rw is at (lows i (rw long h))) (λ i h. rw is at (highs i (rw long h))) len firsts seconds
 
     -- back towards items, by its inverse v
     pub items_after : (v : ℕ) (low high first second : List ℕ) → v ≡ slice_index t.inverses.items node → 0 < m
@@ -68,10 +62,8 @@ module _ (t : Table) (right : IsTable t) (node m n l : ℕ) (size : m ≡ 2 ^ l)
     items_after v low high first second is some lowered raised long len firsts seconds =
         items_step p node m n v roots x a b low high first second l size twice (omega (arith, right.modulus.large))
         tree small both_within
-        (subst (λ u. Same p (slice_index roots node * u) 1) (sym is)
-        ((right.root node (inside_roots node m (length roots) some both_within)).inverse))
-        front back lowered raised len (λ i h. firsts i (subst (λ k. i < k) (sym long) h))
-        (λ i h. seconds i (subst (λ k. i < k) (sym long) h))
+        (rw is (right.root node (inside_roots node m (length roots) some both_within)).inverse)
+        front back lowered raised len (λ i h. firsts i (rw long h)) (λ i h. seconds i (rw long h))
 
 -- products of values, brought back to items, are those of the polynomial that has them, once they are scaled
 pub items_back : (t : Table) (l : ℕ) (h : ℕ → ℕ) (x y z v : List ℕ) → IsTable t → l < length t.scales.items
@@ -86,9 +78,7 @@ items_back t l h x y z v right inside size products back known =
     let n = 2 ^ l in
     undone t.p n (2 ^ 64) t.unit (get_or t.scales.items l 0) h (λ k. get_or z k 0) (λ k. get_or v k 0)
     (λ k. get_or x k 0 * get_or y k 0) (λ k. point t.p t.roots.items k) right.unit ((right.scale l inside).same)
-    (λ k b. products k (subst (λ t. k < t) (sym size) b)) known
-    (λ f g. back f (λ k b. same_trans (g k b)
-    (same_of t.p (ap (λ i. eval n f (point t.p t.roots.items i)) (sym (place n k))))))
+    (λ k b. products k (rw size b)) known (λ f g. back f (λ k b. rw (place n k) (g k b)))
   where
     place : (n k : ℕ) → 0 * n + k ≡ k
     place n k = omega arith

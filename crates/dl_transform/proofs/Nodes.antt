@@ -1,6 +1,5 @@
 -- Powers of the numbers that stand at the nodes.
-use Rattle.dl_transform.proofs.Common.{ℕ, zero, suc, ◌≡◌, ◌+◌, ◌-◌, ◌*◌, ◌/◌, ◌%◌, ◌^◌, ◌<◌, ◌≤◌, inl, inr, List, length, slice_index, arith, refl, ap, ap₂, subst, ◌∙◌, pow-suc, mul-le-mul_left, pow-zero, pow_pos, cases_lt, Same, point}
-use Rattle.std.proofs.lemmas.Nat.{pow-add}
+use Rattle.dl_transform.proofs.Common.{ℕ, zero, suc, ◌≡◌, ◌+◌, ◌-◌, ◌*◌, ◌/◌, ◌%◌, ◌^◌, ◌<◌, ◌≤◌, inl, inr, List, length, slice_index, arith, refl, ap, ◌∙◌, pow-suc, mul-le-mul_left, pow-zero, pow_pos, cases_lt, Same, point, pow-add}
 use Rattle.dl_transform.proofs.Residues.{same_of, same_by, same_trans, same_times}
 
 -- the square of each root is the number at its node
@@ -30,19 +29,17 @@ lack_square p w h =
 
 pub even_square : (p : ℕ) (roots : List ℕ) (k : ℕ) → IsTree p roots → k < length roots
     → Same p (point p roots (2 * k) * point p roots (2 * k)) (point p roots k)
-even_square p roots k tree b = same_trans (same_of p (ap (λ t. t * t) (point_even p roots k))) (tree k b)
+even_square p roots k tree b = rw (point_even p roots k) (tree k b)
 
 pub odd_square : (p : ℕ) (roots : List ℕ) (k : ℕ) → IsTree p roots → slice_index roots k ≤ p → k < length roots
     → Same p (point p roots (2 * k + 1) * point p roots (2 * k + 1)) (point p roots k)
 odd_square p roots k tree small b =
-    same_trans (same_of p (ap (λ t. t * t) (point_odd p roots k)))
-    (same_trans (lack_square p (slice_index roots k) small) (tree k b))
+    rw (point_odd p roots k) (same_trans (lack_square p (slice_index roots k) small) (tree k b))
 
 square_of_power : (x m : ℕ) → x ^ (m * 2) ≡ x ^ m * x ^ m
-square_of_power x m = ap (λ t. x ^ t) (e m) ∙ pow-add x m m
-  where
-    e : (m : ℕ) → m * 2 ≡ m + m
-    e m = omega arith
+square_of_power x m =
+    let e : m * 2 ≡ m + m = omega arith in
+    rw (e, pow-add)
 
 pub inside_roots : (node m R : ℕ) → 0 < m → (node + 1) * (m * 2) ≤ 2 * R → node < R
 inside_roots node m R pos h = omega (arith, h, mul-le-mul_left (node + 1) pos)
@@ -61,21 +58,16 @@ node_power p roots tree small zero node k b inside =
 node_power p roots tree small (suc l) node k b inside =
     let m = 2 ^ l in
     let s : 2 ^ suc l ≡ m * 2 = pow-suc 2 l in
-    let inside2 : (node + 1) * (m * 2) ≤ 2 * length roots =
-    subst (λ t. (node + 1) * t ≤ 2 * length roots) s inside in
+    let inside2 = rw s at inside in
     let node_in : node < length roots = inside_roots node m (length roots) (pow_pos l) inside2 in
     elim (cases_lt k m) [
       | inl h ↦
           let e : node * 2 ^ suc l + k ≡ 2 * node * m + k = omega (arith, ap (λ t. node * t) s) in
           let ih = node_power p roots tree small l (2 * node) k h (omega (arith, inside2)) in
-          same_trans (same_of p (ap₂ (λ x y. point p roots x ^ y) e s ∙ square_of_power
-          (point p roots (2 * node * m + k)) m))
-          (same_trans (same_times ih ih) (even_square p roots node tree node_in))
+          rw (e, s, square_of_power) (same_trans (same_times ih ih) (even_square p roots node tree node_in))
       | inr h ↦
           let e : node * 2 ^ suc l + k ≡ (2 * node + 1) * m + (k - m) = omega (arith, ap (λ t. node * t) s, h) in
           let ih = node_power p roots tree small l (2 * node + 1) (k - m) (omega (arith, b, s, h))
           (omega (arith, inside2)) in
-          same_trans (same_of p (ap₂ (λ x y. point p roots x ^ y) e s ∙ square_of_power
-          (point p roots ((2 * node + 1) * m + (k - m))) m))
-          (same_trans (same_times ih ih) (odd_square p roots node tree (small node) node_in))
+          rw (e, s, square_of_power) (same_trans (same_times ih ih) (odd_square p roots node tree (small node) node_in))
     ]

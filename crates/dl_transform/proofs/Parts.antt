@@ -1,26 +1,24 @@
 -- The two halves of a list, and what the passes make of them.
-use Rattle.dl_transform.proofs.Common.{ℕ, suc, ◌≡◌, ◌+◌, ◌-◌, ◌*◌, ◌/◌, ◌^◌, ◌<◌, ◌≤◌, inl, inr, List, ◌++◌, take, drop, length, slice_index, get_or, arith, refl, sym, ap, ap₂, subst, ◌∙◌, pow-suc, get_or-take, get_or-drop, get_or_past, pow_pos, cases_lt, Same, eval, point}
+use Rattle.dl_transform.proofs.Common.{ℕ, suc, ◌≡◌, ◌+◌, ◌-◌, ◌*◌, ◌/◌, ◌^◌, ◌<◌, ◌≤◌, inl, inr, List, ◌++◌, take, drop, length, slice_index, get_or, arith, refl, ap, ◌∙◌, pow-suc, get_or-take, get_or-drop, get_or_past, pow_pos, cases_lt, Same, eval, point, get_or-append_right, length-take}
 use Rattle.std.proofs.Math.ListN.{get_or-append}
-use Rattle.std.proofs.lemmas.List.{get_or-append_right, length-take}
 use Rattle.dl_transform.proofs.Residues.{same_refl, same_of, same_sym, same_trans}
 use Rattle.dl_transform.proofs.Nodes.{IsTree, point_even, point_odd, node_power, inside_roots}
 use Rattle.dl_transform.proofs.Halves.{half_value, low_back, high_back}
 
 pub take_small : (m B : ℕ) (xs : List ℕ) → ((i : ℕ) → get_or xs i 0 < B) → (i : ℕ) → get_or (take m xs) i 0 < B
 take_small m B xs h i = elim (cases_lt i m) [
-  | inl b ↦ subst (λ t. t < B) (sym (get_or-take m xs i 0 b)) (h i)
-  | inr b ↦ subst (λ t. t < B) (sym (get_or_past (take m xs) i 0 (omega (arith, length-take m xs))))
-      (omega (arith, h 0))
+  | inl b ↦ rw (get_or-take m xs i 0 b) (h i)
+  | inr b ↦ rw (get_or_past (take m xs) i 0 (omega (arith, length-take m xs))) (omega (arith, h 0))
 ]
 
 pub drop_small : (m B : ℕ) (xs : List ℕ) → ((i : ℕ) → get_or xs i 0 < B) → (i : ℕ) → get_or (drop m xs) i 0 < B
-drop_small m B xs h i = subst (λ t. t < B) (sym (get_or-drop m xs i 0)) (h (m + i))
+drop_small m B xs h i = rw (get_or-drop m xs i 0) (h (m + i))
 
 pub join_small : (B : ℕ) (xs ys : List ℕ) → ((i : ℕ) → get_or xs i 0 < B) → ((i : ℕ) → get_or ys i 0 < B) → (i : ℕ)
     → get_or (xs ++ ys) i 0 < B
 join_small B xs ys h k i = elim (cases_lt i (length xs)) [
-  | inl b ↦ subst (λ t. t < B) (sym (get_or-append xs ys 0 i b)) (h i)
-  | inr b ↦ subst (λ t. t < B) (sym (get_or-append_right xs ys (length xs) i 0 refl b)) (k (i - length xs))
+  | inl b ↦ rw (get_or-append xs ys 0 i b) (h i)
+  | inr b ↦ rw (get_or-append_right xs ys (length xs) i 0 refl b) (k (i - length xs))
 ]
 
 -- the two halves of a list of n items, and the nodes for them below a node, where levels are left
@@ -39,7 +37,7 @@ below levels node R n some h size =
     let m = 2 ^ l in
     let e : levels ≡ suc l = omega (arith, some) in
     let twice : 2 ^ levels ≡ m * 2 = ap (λ t. 2 ^ t) e ∙ pow-suc 2 l in
-    let k : (node + 1) * (m * 2) ≤ 2 * R = subst (λ t. (node + 1) * t ≤ 2 * R) twice h in
+    let k = rw twice at h in
     record {
       inside = inside_roots node m R (pow_pos l) k;
       first = omega (arith, k);
@@ -53,25 +51,26 @@ low_power : (p node m : ℕ) (roots : List ℕ) (l : ℕ) → m ≡ 2 ^ l → Is
     → ((k : ℕ) → slice_index roots k ≤ p) → (node + 1) * (m * 2) ≤ 2 * length roots
     → (k : ℕ) → k < m → Same p (point p roots (2 * node * m + k) ^ m) (slice_index roots node)
 low_power p node m roots l em tree small inside k h =
-    same_trans (subst (λ t. Same p (point p roots (2 * node * t + k) ^ t) (point p roots (2 * node))) (sym em)
-    (node_power p roots tree small l (2 * node) k (omega (arith, em, h))
-    (subst (λ t. (2 * node + 1) * t ≤ 2 * length roots) em (omega (arith, inside)))))
-    (same_of p (point_even p roots node))
+    let sum : (2 * node + 1) * m ≤ 2 * length roots = omega (arith, inside) in
+    rw em (same_trans (node_power p roots tree small l (2 * node) k (rw (← em) h) (rw (← em) sum))
+    (same_of p (point_even p roots node)))
 
 high_power : (p node m : ℕ) (roots : List ℕ) (l : ℕ) → m ≡ 2 ^ l → IsTree p roots
     → ((k : ℕ) → slice_index roots k ≤ p) → (node + 1) * (m * 2) ≤ 2 * length roots
     → (k : ℕ) → k < m → Same p (point p roots ((2 * node + 1) * m + k) ^ m) (p - slice_index roots node)
 high_power p node m roots l em tree small inside k h =
-    same_trans (subst (λ t. Same p (point p roots ((2 * node + 1) * t + k) ^ t) (point p roots (2 * node + 1)))
-    (sym em) (node_power p roots tree small l (2 * node + 1) k (omega (arith, em, h))
-    (subst (λ t. (2 * node + 1 + 1) * t ≤ 2 * length roots) em (omega (arith, inside)))))
-    (same_of p (point_odd p roots node))
+    let sum : (2 * node + 1 + 1) * m ≤ 2 * length roots = omega (arith, inside) in
+    rw em (same_trans (node_power p roots tree small l (2 * node + 1) k (rw (← em) h) (rw (← em) sum))
+    (same_of p (point_odd p roots node)))
 
 low_place : (node m w k : ℕ) → w ≡ m * 2 → 2 * node * m + k ≡ node * w + k
 low_place node m w k e = omega (arith, ap (λ t. node * t) e)
 
 high_place : (node m w k : ℕ) → w ≡ m * 2 → m ≤ k → (2 * node + 1) * m + (k - m) ≡ node * w + k
 high_place node m w k e h = omega (arith, ap (λ t. node * t) e)
+
+next_place : (node m w i : ℕ) → w ≡ m * 2 → (2 * node + 1) * m + i ≡ node * w + (m + i)
+next_place node m w i e = omega (arith, ap (λ t. node * t) e)
 
 twice_sum : (m w : ℕ) → w ≡ m * 2 → m + m ≡ w
 twice_sum m w e = omega (arith, e)
@@ -93,34 +92,18 @@ values_step p node m w roots x a b low high first second l em twice tree small i
     seconds k below = elim (cases_lt k m) [
       | inl h ↦
           let c = slice_index roots node in
-          let r = point p roots (2 * node * m + k) in
-          let e : 2 * node * m + k ≡ node * w + k = low_place node m w k twice in
-          let f : m + m ≡ w = twice_sum m w twice in
-          let v : Same p (eval m (λ i. get_or low i 0) r) (eval (m + m) (λ i. get_or x i 0) r) =
-          half_value p m (λ i. get_or x i 0) (λ i. get_or low i 0) c r
+          rw (get_or-append first second 0 k (omega (arith, len, h)), ← low_place node m w k twice, ← twice_sum m w twice)
+          (same_trans (firsts k h) (half_value p m (λ i. get_or x i 0) (λ i. get_or low i 0) c _
           (low_power p node m roots l em tree small inside k h)
-          (λ i inside. same_trans (lows i inside)
-          (same_of p (ap₂ (λ s t. s + c * t) (ap (λ t. get_or t i 0) ea ∙ get_or-take m x i 0 inside)
-          (ap (λ t. get_or t i 0) eb ∙ get_or-drop m x i 0)))) in
-          same_trans (same_of p (get_or-append first second 0 k (omega (arith, len, h))))
-          (same_trans (firsts k h) (same_trans v
-          (same_of p (ap₂ (λ s t. eval s (λ i. get_or x i 0) (point p roots t)) f e))))
+          (λ i inside. rw (ea, eb, get_or-take m x i 0 inside, get_or-drop m x i 0) at (lows i inside))))
       | inr h ↦
           let c = p - slice_index roots node in
           let j = k - m in
-          let r = point p roots ((2 * node + 1) * m + j) in
-          let e : (2 * node + 1) * m + j ≡ node * w + k = high_place node m w k twice h in
-          let f : m + m ≡ w = twice_sum m w twice in
-          let a' : j < m = omega (arith, below, twice, h) in
-          let v : Same p (eval m (λ i. get_or high i 0) r) (eval (m + m) (λ i. get_or x i 0) r) =
-          half_value p m (λ i. get_or x i 0) (λ i. get_or high i 0) c r
-          (high_power p node m roots l em tree small inside j a')
-          (λ i inside. same_trans (highs i inside)
-          (same_of p (ap₂ (λ s t. s + c * t) (ap (λ t. get_or t i 0) ea ∙ get_or-take m x i 0 inside)
-          (ap (λ t. get_or t i 0) eb ∙ get_or-drop m x i 0)))) in
-          same_trans (same_of p (get_or-append_right first second m k 0 len h))
-          (same_trans (seconds j a') (same_trans v
-          (same_of p (ap₂ (λ s t. eval s (λ i. get_or x i 0) (point p roots t)) f e))))
+          let inside_j : j < m = omega (arith, below, twice, h) in
+          rw (get_or-append_right first second m k 0 len h, ← high_place node m w k twice h, ← twice_sum m w twice)
+          (same_trans (seconds j inside_j) (half_value p m (λ i. get_or x i 0) (λ i. get_or high i 0) c _
+          (high_power p node m roots l em tree small inside j inside_j)
+          (λ i inside. rw (ea, eb, get_or-take m x i 0 inside, get_or-drop m x i 0) at (highs i inside))))
     ]
 
 -- what the halves' values give back is the whole, twice
@@ -140,64 +123,47 @@ pub items_step : (p node m w v : ℕ) (roots x a b low high first second : List 
 items_step p node m w v roots x a b low high first second l em twice pos tree small inside one ea eb lowered raised
     len firsts seconds y known k below =
     let c = slice_index roots node in
-    let f : w ≡ m + m = sym (twice_sum m w twice) in
     let lows : (i : ℕ) → i < m → Same p (get_or low i 0) (m * (y i + c * y (m + i))) =
     lowered (λ i. y i + c * y (m + i)) (λ i inside_i.
-    same_trans (same_of p (ap (λ t. get_or t i 0) ea ∙ get_or-take m x i 0 inside_i))
-    (same_trans (known i (omega (arith, twice)))
-    (same_trans (same_of p (ap₂ (λ s t. eval s y (point p roots t)) f (sym (low_place node m w i twice))))
+    rw (ea, get_or-take m x i 0 inside_i)
+    (same_trans (rw (← low_place node m w i twice, ← twice_sum m w twice) at (known i (omega (arith, twice))))
     (same_sym (half_value p m y (λ i. y i + c * y (m + i)) c (point p roots (2 * node * m + i))
-    (low_power p node m roots l em tree small inside i inside_i) (λ i _. same_refl p (y i + c * y (m + i)))))))) in
+    (low_power p node m roots l em tree small inside i inside_i) (λ i _. same_refl p (y i + c * y (m + i))))))) in
     let highs : (i : ℕ) → i < m → Same p (get_or high i 0) (m * (y i + (p - c) * y (m + i))) =
     raised (λ i. y i + (p - c) * y (m + i)) (λ i inside_i.
-    same_trans (same_of p (ap (λ t. get_or t i 0) eb ∙ get_or-drop m x i 0))
-    (same_trans (known (m + i) (omega (arith, twice)))
-    (same_trans (same_of p (ap₂ (λ s t. eval s y (point p roots t)) f (sym (high_place2 node m w i twice))))
+    rw (eb, get_or-drop m x i 0)
+    (same_trans (rw (← next_place node m w i twice, ← twice_sum m w twice) at (known (m + i) (omega (arith, twice))))
     (same_sym (half_value p m y (λ i. y i + (p - c) * y (m + i)) (p - c) (point p roots ((2 * node + 1) * m + i))
     (high_power p node m roots l em tree small inside i inside_i)
-    (λ i _. same_refl p (y i + (p - c) * y (m + i)))))))) in
-    elim (cases_lt k m) [
+    (λ i _. same_refl p (y i + (p - c) * y (m + i))))))) in
+    rw (← twice_sum m w twice) (elim (cases_lt k m) [
       | inl h ↦
-          same_trans (same_of p (get_or-append first second 0 k (omega (arith, len, h))))
-          (same_trans (low_back p m (y k) (y (m + k)) c (get_or low k 0) (get_or high k 0) (get_or first k 0)
+          rw (get_or-append first second 0 k (omega (arith, len, h)))
+          (low_back p m (y k) (y (m + k)) c (get_or low k 0) (get_or high k 0) (get_or first k 0)
           (small node) (lows k h) (highs k h) (firsts k h))
-          (same_of p (ap (λ t. t * y k) (sym f))))
       | inr h ↦
           let j = k - m in
           let inside_j : j < m = omega (arith, below, twice, h) in
           let e : m + j ≡ k = omega (arith, h) in
-          same_trans (same_of p (get_or-append_right first second m k 0 len h))
-          (same_trans (high_back p m (y j) (y (m + j)) c v (get_or low j 0) (get_or high j 0) (get_or second j 0)
-          pos (small node) one (lows j inside_j) (highs j inside_j) (seconds j inside_j))
-          (same_of p (ap₂ (λ t i. t * y i) (sym f) e)))
-    ]
-  where
-    high_place2 : (node m w i : ℕ) → w ≡ m * 2 → (2 * node + 1) * m + i ≡ node * w + (m + i)
-    high_place2 node m w i e = omega (arith, ap (λ t. node * t) e)
+          rw (get_or-append_right first second m k 0 len h) (rw e at
+          (high_back p m (y j) (y (m + j)) c v (get_or low j 0) (get_or high j 0) (get_or second j 0)
+          pos (small node) one (lows j inside_j) (highs j inside_j) (seconds j inside_j)))
+    ])
 
 pub values_leaf : (p levels : ℕ) (x : ℕ → ℕ) (r : ℕ → ℕ) → levels ≡ 0 → (k : ℕ) → k < 2 ^ levels
     → Same p (x k) (eval (2 ^ levels) x (r k))
 unfolding eval
 values_leaf p levels x r e k b =
-    let o : 2 ^ levels ≡ 1 = ap (λ t. 2 ^ t) e in
-    let z : k ≡ 0 = omega (arith, o, b) in
-    same_of p (sym (ap₂ (λ t j. eval t x (r j)) o z ∙ only (x 0) (r 0) ∙ ap x (sym z)))
-  where
-    only : (a r : ℕ) → a + r * 0 ≡ a
-    only a r = omega arith
+    let z : k ≡ 0 = omega (arith, ap (λ t. 2 ^ t) e, b) in
+    rw (e, z) (same_of p (omega arith))
 
 pub items_leaf : (p levels : ℕ) (x y : ℕ → ℕ) (r : ℕ → ℕ) → levels ≡ 0
     → ((k : ℕ) → k < 2 ^ levels → Same p (x k) (eval (2 ^ levels) y (r k))) → (k : ℕ) → k < 2 ^ levels
     → Same p (x k) (2 ^ levels * y k)
 unfolding eval
 items_leaf p levels x y r e h k b =
-    let o : 2 ^ levels ≡ 1 = ap (λ t. 2 ^ t) e in
-    let z : k ≡ 0 = omega (arith, o, b) in
-    same_trans (h k b) (same_of p (ap₂ (λ t j. eval t y (r j)) o z ∙ only (y 0) (r 0) ∙ ap₂ (λ t j. t * y j) (sym o)
-    (sym z)))
-  where
-    only : (a r : ℕ) → a + r * 0 ≡ 1 * a
-    only a r = omega arith
+    let z : k ≡ 0 = omega (arith, ap (λ t. 2 ^ t) e, b) in
+    rw (e, z) (same_trans (rw (e, z) at (h k b)) (same_of p (omega arith)))
 
 pub roots_small : (p : ℕ) (roots : List ℕ) → ((k : ℕ) → k < length roots → slice_index roots k < p) → (k : ℕ)
     → slice_index roots k ≤ p

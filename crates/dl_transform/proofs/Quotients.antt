@@ -1,10 +1,5 @@
 -- What one product modulo p needs.
-use Rattle.dl_transform.proofs.Common.{ℕ, ◌≡◌, ◌+◌, ◌-◌, ◌*◌, ◌/◌, ◌%◌, ◌^◌, ◌<◌, ◌≤◌, List, length, get_or, arith, ap, subst, sym, ◌∙◌, mul-le-mul_left, mul-le-mul_right, Same}
-use Rattle.std.proofs.Common.{div-mul-le_self}
-use Rattle.std.proofs.lemmas.Nat.{div-add-mod'}
-use Rattle.std.proofs.Math.Nat.{lt-div-mul-add, le_of_mul-le-mul_right, lt_of_mul-lt-mul_right}
-use Rattle.std.proofs.lemmas.List.{get_or_default}
-use Rattle.dl_transform.specs.Residue.{IsFactor}
+use Rattle.dl_transform.proofs.Common.{ℕ, ◌≡◌, ◌+◌, ◌-◌, ◌*◌, ◌/◌, ◌%◌, ◌^◌, ◌<◌, ◌≤◌, List, length, get_or, arith, ap, ◌∙◌, mul-le-mul_left, mul-le-mul_right, Same, div-mul-le_self, div-add-mod', lt-div-mul-add, le_of_mul-le-mul_right, lt_of_mul-lt-mul_right, get_or_default, IsFactor}
 use Rattle.dl_transform.proofs.Residues.{same_by, same_trans, same_mod, same_times, same_refl, same_plus, same_sym, same_cancel}
 
 -- the quotient times p is at most the product
@@ -74,5 +69,4 @@ joined p u v w b n e h =
 pub factor_read : (p : ℕ) (ws qs : List ℕ) (k w q : ℕ) → k < length ws → k < length qs → w ≡ get_or ws k w
     → q ≡ get_or qs k q → IsFactor p (get_or ws k 0) (get_or qs k 0) → IsFactor p w q
 factor_read p ws qs k w q inside within e f h =
-    subst (λ w. IsFactor p w q) (sym (e ∙ get_or_default ws k w 0 inside))
-    (subst (λ q. IsFactor p (get_or ws k 0) q) (sym (f ∙ get_or_default qs k q 0 within)) h)
+    rw (e, f, get_or_default ws k w 0 inside, get_or_default qs k q 0 within) h

@@ -1,7 +1,5 @@
 -- Remainders keep sums and products.
-use Rattle.dl_transform.proofs.Common.{ℕ, zero, suc, ◌≡◌, ◌+◌, ◌-◌, ◌*◌, ◌%◌, ◌<◌, arith, refl, sym, ap, ap₂, ◌∙◌, mod-eq_of_lt, Same}
-use Rattle.std.proofs.Math.Nat.{add-mod, add-mul-mod_self_right, mod-mod}
-use Rattle.std.proofs.lemmas.Nat.{mul-mod}
+use Rattle.dl_transform.proofs.Common.{ℕ, zero, suc, ◌≡◌, ◌+◌, ◌-◌, ◌*◌, ◌%◌, ◌<◌, arith, refl, sym, ap, ap₂, ◌∙◌, mod-eq_of_lt, Same, add-mod, add-mul-mod_self_right, mod-mod, mul-mod}
 
 pub same_refl : (p a : ℕ) → Same p a a
 same_refl p a = record { is = refl }

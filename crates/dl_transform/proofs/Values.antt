@@ -1,6 +1,5 @@
 -- Values of polynomials: sums, halves, products.
-use Rattle.dl_transform.proofs.Common.{ℕ, zero, suc, ◌≡◌, ◌+◌, ◌*◌, ◌^◌, ◌<◌, ◌≤◌, arith, refl, sym, ap, ◌∙◌, pow-suc, pow-zero, Same, count_pairs, pairs_none, eval}
-use Rattle.std.proofs.Math.Nat.{suc-add}
+use Rattle.dl_transform.proofs.Common.{ℕ, zero, suc, ◌≡◌, ◌+◌, ◌*◌, ◌^◌, ◌<◌, ◌≤◌, arith, refl, sym, ap, ◌∙◌, pow-suc, pow-zero, Same, count_pairs, pairs_none, eval, suc-add}
 use mathlib.Core.Path.{fun_ext}
 use Rattle.dl_transform.proofs.Residues.{same_refl, same_plus, same_times}
 

@@ -1,9 +1,5 @@
 -- The product of two lists from its remainders.
-use Rattle.std.proofs.lemmas.List.{length-take-le}
-use Rattle.dl_transform.proofs.Common.{ℕ, zero, suc, ◌≡◌, ◌+◌, ◌-◌, ◌*◌, ◌/◌, ◌%◌, ◌^◌, ◌<◌, ◌≤◌, List, length, get_or, sum_by, mul-le-mul_left, mul-le-mul_right, arith, sym, ap, ap₂, ◌∙◌, inl, inr, div_below, cases_lt, get_or_past, Same, count_pairs, pairs_none, eval}
-use Rattle.std.proofs.Common.{[], ◌∷◌, take, All}
-use Rattle.std.proofs.Math.Nat.{div-add-mod, pow-le-pow_right, mul-le-mul}
-use Rattle.std.proofs.lemmas.Nat.{mod_below}
+use Rattle.dl_transform.proofs.Common.{ℕ, zero, suc, ◌≡◌, ◌+◌, ◌-◌, ◌*◌, ◌/◌, ◌%◌, ◌^◌, ◌<◌, ◌≤◌, List, length, get_or, sum_by, mul-le-mul_left, mul-le-mul_right, arith, sym, ap, ap₂, ◌∙◌, inl, inr, div_below, cases_lt, get_or_past, Same, count_pairs, pairs_none, eval, length-take-le, [], ◌∷◌, take, All, div-add-mod, pow-le-pow_right, mul-le-mul, mod_below}
 use Rattle.std.proofs.lemmas.List.Elements.{All-get_or}
 use Rattle.std.proofs.lemmas.List.Sums.{sum_by-cons}
 use Rattle.dl_transform.proofs.Residues.{same_refl, same_of, same_by, same_sym, same_trans, same_times, same_cancel, same_below, same_mod}
@@ -19,15 +15,11 @@ product_value n a b r room =
     let f : ℕ → ℕ = λ i. get_or a i 0 in
     let g : ℕ → ℕ = λ j. get_or b j 0 in
     let e : la + m ≡ n = omega (arith, room) in
-    let e' : m + la ≡ n = omega (arith, room) in
+    let e' : m + la ≡ la + m = omega arith in
     let za : (i : ℕ) → la ≤ i → f i ≡ 0 = λ i h. get_or_past a i 0 h in
     let zb : (j : ℕ) → m ≤ j → g j ≡ 0 = λ j h. get_or_past b j 0 (omega (arith, h, room)) in
-    let first : eval n f r ≡ eval la f r = ap (λ t. eval t f r) (sym e) ∙ eval_padded la m f r za in
-    let second : eval n g r ≡ eval m g r = ap (λ t. eval t g r) (sym e') ∙ eval_padded m la g r zb in
-    let both : eval (la + m) (λ s. count_pairs s (λ i j. f i * g j)) r ≡ eval la f r * eval m g r =
-    eval_product la m f g r za zb in
-    ap (λ t. eval t (λ s. count_pairs s (λ i j. f i * g j)) r) (sym e) ∙ both ∙ ap₂ (λ s t. s * t) (sym first)
-    (sym second)
+    rw (← e) (eval_product la m f g r za zb
+    ∙ ap₂ (λ s t. s * t) (sym (eval_padded la m f r za)) (sym (rw e' at (eval_padded m la g r zb))))
 
 -- the items of a polynomial from its values over R, times n, where w undoes both
 pub undone : (p n R g w : ℕ) (h z t : ℕ → ℕ) (v r : ℕ → ℕ) → Same p (g * R) 1 → Same p (g * n * w) 1
@@ -79,33 +71,19 @@ from_two p1 p2 w n r1 r2 d v pos big first small second inverse e here below =
     rest q p1 r1 n m e f = omega (arith, e, f)
 
 pub two_room : (p1 p2 : ℕ) → 3 * 2 ^ 60 ≤ p1 → 3 * 2 ^ 60 ≤ p2 → 2 ^ 123 ≤ p1 * p2
-two_room p1 p2 h k =
-    let a : (3 * 2 ^ 60) * (3 * 2 ^ 60) ≤ p1 * p2 = mul-le-mul h k in
-    omega (arith, a)
+two_room p1 p2 h k = omega (arith, mul-le-mul h k)
 
 pub levels_room : (l most R : ℕ) → l ≤ most → 2 ^ most ≤ 2 * R → 2 ^ l ≤ 2 * R
-levels_room l most R h k =
-    let two : 0 < 2 = omega arith in
-    let a : 2 ^ l ≤ 2 ^ most = pow-le-pow_right two h in
-    omega (arith, a, k)
+levels_room l most R h k = omega (arith, pow-le-pow_right {n = 2} (omega arith) {i = l} {j = most} h, k)
 
 -- the sum of one list times what no item of the other is above
 pub pairs_bound : (a : List ℕ) (b : ℕ → ℕ) (m s : ℕ) → ((k : ℕ) → b k ≤ m)
     → count_pairs s (λ i j. get_or a i 0 * b j) ≤ sum_by (λ x. x) a * m
 unfolding count_pairs
-pairs_bound [] b m s h = omega (arith, pairs_none s (λ i j. 0 * b j) (λ i j. zero_times (b j)))
-  where
-    zero_times : (x : ℕ) → 0 * x ≡ 0
-    zero_times x = omega arith
-pairs_bound (x ∷ xs) b m zero h =
-    let e : sum_by (λ x. x) (x ∷ xs) ≡ x + sum_by (λ x. x) xs = sum_by-cons (λ x. x) x xs in
-    let g : x * b 0 ≤ (x + sum_by (λ x. x) xs) * m = omega (arith, mul-le-mul_left x (h 0)) in
-    rw e g
+pairs_bound [] b m s h = omega (arith, pairs_none s (λ i j. 0 * b j) (λ i j. omega arith))
+pairs_bound (x ∷ xs) b m zero h = rw sum_by-cons (omega (arith, mul-le-mul_left x (h 0)))
 pairs_bound (x ∷ xs) b m (suc s) h =
-    let e : sum_by (λ x. x) (x ∷ xs) ≡ x + sum_by (λ x. x) xs = sum_by-cons (λ x. x) x xs in
-    let g : x * b (suc s) + count_pairs s (λ i j. get_or xs i 0 * b j) ≤ (x + sum_by (λ x. x) xs) * m =
-    omega (arith, mul-le-mul_left x (h (suc s)), pairs_bound xs b m s h) in
-    rw e g
+    rw sum_by-cons (omega (arith, mul-le-mul_left x (h (suc s)), pairs_bound xs b m s h))
 
 -- words stay words where they are read past the end
 pub word_at : (xs : List ℕ) → All (λ x. x < 2 ^ 64) xs → (i : ℕ) → get_or xs i 0 < 2 ^ 64

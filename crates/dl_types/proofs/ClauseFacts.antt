@@ -10,7 +10,8 @@ use Rattle.dl_plan.specs.Weighted.{weight_at, common_amount}
 use Rattle.dl_exact.proofs.Denominators.{over_zero as zero_over}
 use Rattle.dl_plan.proofs.Means.{severity_total as total_pos}
 use Rattle.dl_buckets.specs.Rules.{common_amount_of, off_grid_sums}
-use Rattle.dl_buckets.proofs.Items.{support_positive}
+use Rattle.dl_buckets.proofs.Items.{Rising, rises, support_positive}
+use Rattle.dl_types.proofs.OnePlan.{first_weight, other_weight, same_item}
 use Rattle.dl_buckets.specs.Clauses.{is_off_multiples, made_of}
 use Rattle.dl_buckets.specs.Severity.{severity_in_layer}
 use Rattle.dl_buckets.proofs.ClauseLaws.{cession_fine}
@@ -41,36 +42,39 @@ module _ {A : Type 0} (f : A → ℕ) where
       greatest d (gcd g (f x)) xs ((gcd_is g (f x)).2 d h (All-head (λ y. d ∣ f y) x xs all))
       (All-tail (λ y. d ∣ f y) x xs all)
 
--- ---- an amount with a weight is one of the items
+-- ---- an amount with a weight is that of one of the items
 
-weight_found : (items : List Item) (x : ℕ) (Q : ℕ → Type 0) → All (λ (i : Item). Q i.amount) items
-    → (weight_at items x ≡ 0) ⊎ Q x
-weight_found [] x Q all = inl refl
-weight_found (i ∷ items) x Q all = elim (eqb_tells i.amount x) [
-  | inl same ↦ inr (subst Q same.1 (All-head (λ (j : Item). Q j.amount) i items all))
-  | inr other ↦ elim (weight_found items x Q (All-tail (λ (j : Item). Q j.amount) i items all)) [
-    | inl none ↦ inl (sum_by-cons (λ (j : Item). cond (j.amount == x) j.weight 0) i items
-        ∙ ap (λ b. cond b i.weight 0 + weight_at items x) other.0 ∙ omega (arith, none))
-    | inr there ↦ inr there
-  ]
+abbrev item : ℕ → ℕ → Item
+item x w = record { amount = x; weight = w }
+
+item_found : (Q : Item → Type 0) (xs : List Item) → Rising xs → (x : ℕ) → All Q xs
+    → (weight_at xs x ≡ 0) ⊎ Q (item x (weight_at xs x))
+item_found Q [] rising x all = inl refl
+item_found Q (i ∷ xs) rising x all = elim (eqb_tells i.amount x) [
+  | inl same ↦ inr (subst Q (same_item i (item x (weight_at (i ∷ xs) x)) same.1
+      (sym (first_weight i xs rising) ∙ ap (weight_at (i ∷ xs)) same.1)) (All-head Q i xs all))
+  | inr other ↦ subst (λ w. (w ≡ 0) ⊎ Q (item x w)) (sym (other_weight i xs x other.0))
+      (item_found Q xs rising.1 x (All-tail Q i xs all))
 ]
 
 module _ (sev : Sev) (ps : Pairs) (means : Means sev ps) where
-  -- what holds of each amount of the severity holds of each amount of positive probability
-  support_in : (Q : ℕ → Type 0) → All (λ (i : Item). Q i.amount) sev.items → All Q (support ps)
-  support_in Q all k d h = elim (weight_found sev.items (get_or (support ps) k d) Q all) [
-    | inl none ↦ absurd (lt_not_le (whole 0) (whole 0)
-        (subst (λ t. whole 0 <ℚ t) (sym (means (get_or (support ps) k d)) ∙ ap (λ w. w over sev.total) none
-        ∙ zero_over sev.total (total_pos sev)) (support_positive ps k d h))
-        (le_refl (whole 0)))
-    | inr there ↦ there
-  ]
+  -- what holds of each item of the severity holds of each amount of positive probability with its weight
+  pub support_in : (Q : Item → Type 0) → All Q sev.items → All (λ x. Q (item x (weight_at sev.items x))) (support ps)
+  support_in Q all k d h =
+      let x = get_or (support ps) k d in
+      elim (item_found Q sev.items (rises sev.items sev.weighted.rising) x all) [
+        | inl none ↦ absurd (lt_not_le (whole 0) (whole 0)
+            (subst (λ t. whole 0 <ℚ t) (sym (means x) ∙ ap (λ w. w over sev.total) none
+            ∙ zero_over sev.total (total_pos sev)) (support_positive ps k d h))
+            (le_refl (whole 0)))
+        | inr there ↦ there
+      ]
 
   pub same_common : common_amount sev.items ≡ common_amount_of (support ps)
   same_common =
       dvd_antisymm
       (greatest (λ (x : ℕ). x) (common_amount sev.items) 0 (support ps) (dvd-zero (common_amount sev.items))
-      (support_in (λ x. common_amount sev.items ∣ x) (divides_each (λ (i : Item). i.amount) 0 sev.items)))
+      (support_in (λ (i : Item). common_amount sev.items ∣ i.amount) (divides_each (λ (i : Item). i.amount) 0 sev.items)))
       (greatest (λ (i : Item). i.amount) (common_amount_of (support ps)) 0 sev.items
       (dvd-zero (common_amount_of (support ps)))
       (items_in sev ps means (λ x. common_amount_of (support ps) ∣ x) (divides_each (λ (x : ℕ). x) 0 (support ps))))

@@ -1,9 +1,9 @@
 -- Whole numbers, quotients and shapes.
-use Rattle.dl_types.proofs.Common.{ℕ, ◌≡◌, ◌∙◌, ◌*◌, ◌<◌, ◌≤◌, ◌==◌, nat_lt, Bool, true, false, not, inl, inr, refl, sym, ap, ap₂, subst, arith, mul-pos, ◌∣◌, ltb-false, eqb_tells, gcd, Fraction, whole, ◌over◌, ◌*ℚ◌, ◌/ℚ◌, ◌<ℚ◌, lowest_swap, lowest_times, lowest_product, lowest_num, lowest_den, product_is, quotient_is, whole_num, whole_den, is_whole, shape_of, passes}
+use Rattle.dl_types.proofs.Common.{ℕ, ◌≡◌, ◌∙◌, ◌*◌, ◌<◌, ◌≤◌, ◌==◌, nat_lt, Bool, true, false, not, inl, inr, refl, sym, ap, ap₂, subst, arith, mul-pos, ◌∣◌, ltb-false, gcd, Fraction, whole, ◌over◌, ◌*ℚ◌, ◌/ℚ◌, ◌<ℚ◌, lowest_swap, lowest_times, lowest_product, lowest_num, lowest_den, product_is, quotient_is, whole_num, whole_den, is_whole, shape_of, passes}
 use Rattle.std.specs.Cmp.{both_ways}
 use Rattle.dl_buckets.proofs.Values.{zero_above}
 use Rattle.std.proofs.Common.{◌/◌, ◌%◌, nat_eq}
-use Rattle.std.specs.Prelude.{◌||◌, ◌⊎◌}
+use Rattle.std.specs.Prelude.{◌||◌}
 use Rattle.std.proofs.Math.Nat.{eq-one_of_dvd-one, eq-zero-or-pos, dvd-mul_right}
 use Rattle.std.proofs.lemmas.Bool.{eqb-true, eq-eqb}
 use Rattle.std.proofs.lemmas.Bool.Decides.{nat_tests}
@@ -88,15 +88,8 @@ one_only : (n : ℕ) → n * n ≡ 1 → n ≡ 1
 one_only n h = eq-one_of_dvd-one (subst (λ k. n ∣ k) h (dvd-mul_right n n))
 
 one_squared : (n : ℕ) → (n == 1) ≡ (n * n == 1)
-one_squared n = tested (eqb_tells n 1) (eqb_tells (n * n) 1)
-  where
-    tested : (((n == 1) ≡ true) × (n ≡ 1)) ⊎ (((n == 1) ≡ false) × (n ≡ 1 → ⊥)) → (((n * n == 1) ≡ true) × (n * n ≡ 1))
-        ⊎ (((n * n == 1) ≡ false) × (n * n ≡ 1 → ⊥))
-        → (n == 1) ≡ (n * n == 1)
-    tested (inl p) (inl q) = p.0 ∙ sym q.0
-    tested (inl p) (inr q) = absurd (q.1 (ap (λ k. k * k) p.1))
-    tested (inr p) (inl q) = absurd (p.1 (one_only n q.1))
-    tested (inr p) (inr q) = p.0 ∙ sym q.0
+one_squared n = both_ways _ _ (λ t. eq-eqb (n * n) 1 (ap (λ k. k * k) (eqb-true n 1 t)))
+    (λ t. eq-eqb n 1 (one_only n (eqb-true (n * n) 1 t)))
 
 -- a coefficient without a shape is 0, or not 1 over a whole number
 pub no_shape : (c : Fraction) → not (c.num == 1) ≡ (is_zero c || not (is_whole (shape_of c)))

@@ -1,7 +1,7 @@
 -- The bounds of units under a factor, by the units and by their parts.
 use Rattle.std.proofs.Common.{flat_map}
 use Rattle.std.proofs.Math.Bool.{or-true}
-use Rattle.std.proofs.lemmas.Bool.{lt-ltb, le-ltb, or_parts}
+use Rattle.std.proofs.lemmas.Bool.{le-ltb, or_parts}
 use Rattle.std.proofs.lemmas.Simd.{map-map}
 use Rattle.std.proofs.lemmas.List.Concat.{flat_map-cons}
 use Rattle.dl_types.proofs.Common.{◌≡◌, ◌∙◌, ℕ, suc, ◌==◌, inl, inr, eqb_tells, ◌<◌, ◌≤◌, ◌&&◌, ◌||◌, Bool, true, false, not, is_some, if◌then◌else◌, nat_lt, List, [], ◌∷◌, ◌++◌, map, Option, Some, None, refl, sym, ap, ap₂, arith, Fraction, whole, ◌over◌, ◌*ℚ◌, Item, ltb-false, most_shape, passes}
@@ -46,27 +46,17 @@ module _ (r : ℕ) (v h : Fraction) (units : List UnitOfPlan) where
       || not (is_fine xs) || not (is_fine ys)) (claim_shares_are v units) (amount_shares_are v units)
 
 -- the tests in the order of the code
-pub first_passes : (a b d e f g : Bool) → a ≡ true → true ≡ (a || b || d || e || f || g)
-first_passes a b d e f g h = sym (ap (λ t. t || b || d || e || f || g) h)
-
-pub second_passes : (a b d e f g : Bool) → b ≡ true → true ≡ (a || b || d || e || f || g)
-second_passes true b d e f g h = refl
-second_passes false b d e f g h = sym (ap (λ t. t || d || e || f || g) h)
-
-pub middle_passes : (a b d e f g : Bool) → (d || e) ≡ true → true ≡ (a || b || d || e || f || g)
-middle_passes true b d e f g h = refl
-middle_passes false true d e f g h = refl
-middle_passes false false true e f g h = refl
-middle_passes false false false e f g h = sym (ap (λ t. t || f || g) h)
-
 pub last_passes : (a b d e x y : Bool) → a ≡ false → b ≡ false → (d || e) ≡ false
     → not (x && y) ≡ (a || b || d || e || not x || not y)
-last_passes true b d e x y ha hb hd = absurd cc
-last_passes false true d e x y ha hb hd = absurd cc
-last_passes false false true e x y ha hb hd = absurd cc
-last_passes false false false true x y ha hb hd = absurd cc
-last_passes false false false false true y ha hb hd = refl
-last_passes false false false false false y ha hb hd = refl
+last_passes a b d e x y ha hb hd =
+    let hs = or_parts d e hd in
+    let first : d ≡ false = hs.0 in
+    let second : e ≡ false = hs.1 in
+    rw (ha, hb, first, second) (either x y)
+  where
+    either : (x y : Bool) → not (x && y) ≡ (not x || not y)
+    either true y = refl
+    either false y = refl
 
 pub not_zero : (n : ℕ) → (n ≡ 0 → ⊥) → (n == 0) ≡ false
 not_zero n h = elim (eqb_tells n 0) [
@@ -90,11 +80,6 @@ module _ (r : ℕ) (units : List UnitOfPlan) (v h : Option Fraction) (claims : v
       ap₂ (λ x y. nat_lt most_shape (suc r) || passes_with r x y (map part_of units))
       (ap (running_sum (whole 0)) (map-map (λ (p : Part). p.expected) part_of units) ∙ sym claims)
       (ap (running_sum (whole 0)) (map-map (λ (p : Part). p.above) part_of units) ∙ sym above)
-
-pub large_shape : (r : ℕ) (parts : List Part) → most_shape ≤ r → true ≡ is_too_large r parts
-unfolding is_too_large
-large_shape r parts h = sym (ap (λ t. t || passes_with r (running_sum (whole 0) (map (λ (p : Part). p.expected) parts))
-    (running_sum (whole 0) (map (λ (p : Part). p.above) parts)) parts) (lt-ltb most_shape (suc r) (omega (arith, h))))
 
 pub no_claims : (r : ℕ) (units : List UnitOfPlan) → None ≡ claims_of_units units → true ≡ is_too_large r (map part_of units)
 no_claims r units none =

@@ -1,7 +1,7 @@
 -- Units that are not too large for a factor can share it in a valid plan.
 use Rattle.std.proofs.Common.{flat_map}
 use Rattle.std.proofs.lemmas.Bool.{leb-true, or_parts}
-use Rattle.dl_types.proofs.Common.{◌≡◌, ◌∙◌, ℕ, suc, ◌<◌, ◌||◌, Bool, true, false, not, nat_lt, List, map, Option, Some, None, refl, sym, ap, subst, All, ltb-false, not-false, most_shape, Fraction, whole, ◌<ℚ◌, ◌≤ℚ◌, HasPartsOf48Bits, pos_num, is_some, passes, Span, at_if, not_at, Ok, IfSome, Settings, Program, AnswersUnits, shape_of, breaks, ◌else◌}
+use Rattle.dl_types.proofs.Common.{◌≡◌, ◌∙◌, ℕ, suc, ◌<◌, ◌||◌, Bool, true, false, not, nat_lt, List, map, Option, Some, None, refl, sym, ap, ap₂, subst, All, ltb-false, not-false, most_shape, Fraction, whole, ◌<ℚ◌, ◌≤ℚ◌, HasPartsOf48Bits, pos_num, is_some, passes, Span, at_if, not_at, Ok, IfSome, Settings, Program, AnswersUnits, shape_of, breaks, ◌else◌}
 use Rattle.dl_limits.specs.Limits.{most_expected, most_parts}
 use Rattle.dl_plan.specs.declared.plan.Unit.{Unit as UnitOfPlan}
 use Rattle.dl_plan.specs.Common.{CanShare, HasCommonFactor, expected_of, thinned_of, raised, unit_share, shared_probabilities}
@@ -35,16 +35,6 @@ both_there r parts None h e = absurd cc
 both_there r parts (Some v) None e = absurd cc
 both_there r parts (Some v) (Some h) e = (v, h, refl, refl, e)
 
-none_of_six : (a b d e x y : Bool) → (a || b || d || e || not x || not y) ≡ false
-    → (a ≡ false) × (b ≡ false) × (d ≡ false) × (e ≡ false) × (x ≡ true) × (y ≡ true)
-none_of_six true b d e x y h = absurd cc
-none_of_six false true d e x y h = absurd cc
-none_of_six false false true e x y h = absurd cc
-none_of_six false false false true x y h = absurd cc
-none_of_six false false false false false y h = absurd cc
-none_of_six false false false false true false h = absurd cc
-none_of_six false false false false true true h = (refl, refl, refl, refl, refl, refl)
-
 is_fine_list : (xs : List Fraction) → is_fine xs ≡ true → IsFineTo30Bits xs
 is_fine_list xs h = leb-true (common_denominator xs) most_parts h
 
@@ -59,31 +49,40 @@ module _ (r : ℕ) (units : List UnitOfPlan) (some : 0 < r) (can : All CanShare 
   factor_kept =
       let (v, h, claims, above, bounds) = both_there r (map part_of units) (claims_of_units units)
       (above_of_units units) tests.1 in
-      let six = none_of_six (is_zero v) (is_raised_coarse r v) (is_raised_coarse r h)
-      (passes (raised r h) most_expected) (is_fine (map (unit_share v) units))
-      (is_fine (flat_map (shared_probabilities v) units)) (sym (bounds_are r v h units) ∙ bounds) in
+      let products = or_parts _ _ (sym (bounds_are r v h units) ∙ bounds) in
+      let shares = or_parts _ _ products.0 in
+      let large = or_parts _ _ shares.0 in
+      let coarse = or_parts _ _ large.0 in
+      let none = or_parts _ _ coarse.0 in
       let all : v ≡ expected_of units = sum_is (λ (u : UnitOfPlan). expected_count u.freq) units v claims in
       let thinned : h ≡ thinned_of units = sum_is thinned_mean units h above in
       record {
         some_shape = some;
         few_shape = ltb-false most_shape (suc r) tests.0;
         can_share = can;
-        some = subst (λ x. whole 0 <ℚ x) all (pos_num v (zero_above v.num six.0));
+        some = subst (λ x. whole 0 <ℚ x) all (pos_num v (zero_above v.num none.0));
         expected = λ k _ _. first_admitted (λ (u : UnitOfPlan). expected_count u.freq) units v claims k;
         thinned = λ k _ _. first_admitted thinned_mean units h above k;
         raised_expected = subst (λ x. HasPartsOf48Bits (raised r x)) all
-            (admitted_is (raised r v) (not-false _ six.1));
+            (admitted_is (raised r v) (not-false _ none.1));
         raised_thinned = subst (λ x. HasPartsOf48Bits (raised r x)) thinned
-            (admitted_is (raised r h) (not-false _ six.2));
+            (admitted_is (raised r h) (not-false _ coarse.1));
         few = subst (λ x. raised r x ≤ℚ whole most_expected) thinned
-            (not_above (raised r h) (whole most_expected) six.3);
+            (not_above (raised r h) (whole most_expected) large.1);
         shares = subst (λ x. IsFineTo30Bits (map (unit_share x) units)) all
-            (is_fine_list (map (unit_share v) units) six.4);
+            (is_fine_list (map (unit_share v) units) (not-false _ shares.1));
         products = subst (λ x. IsFineTo30Bits (flat_map (shared_probabilities x) units)) all
-            (is_fine_list (flat_map (shared_probabilities v) units) six.5);
+            (is_fine_list (flat_map (shared_probabilities v) units) (not-false _ products.1));
       }
 
 -- ---- the shape that is written
+
+good_shape : (c : Numeral) → has_bad_shape c ≡ false
+    → (0 < (shape_of (value c)).num) × (whole (shape_of (value c)).num ≡ shape_of (value c))
+good_shape c good =
+    let shaped = or_parts (is_zero (value c)) _ (or_parts (is_bad_numeral c) _ good).1 in
+    let same = whole_is (shape_of (value c)) (not-false _ shaped.1) in
+    (shape_above (shape_of (value c)).num (value c) shaped.0 same, same)
 
 pub no_port : (settings : Settings) (program : Program) → program.port ≡ None → fault_of_port settings program ≡ None
 unfolding fault_of_port common_shape
@@ -102,22 +101,27 @@ module _ (port : Option PortHead) (head : PortHead) (c : Numeral) (is : port ≡
   shape_place = rw (is, common) refl
 
   module _ (r : ℕ) (shape : IsShapeIn c r) where
-    pub good_place : None ≡ common_shape port
-    good_place = sym (shape_place ∙ ap (λ b. at_if b c.span) shape.good)
-
-    pub size_is : (parts : List Part) → common_size port parts ≡ at_if (is_too_large r parts) head.name.span
-    size_is parts =
-        common_is ∙ ap (λ n. at_if (is_too_large n parts) head.name.span) (sym shape.value)
+    -- the shape is good, and the size is asked of the units of the plan
+    pub size_told : (settings : Settings) (program : Program) (made : List UnitOfPlan) (large : Bool)
+        → port ≡ program.port → AnswersUnits settings program.port program.sevs program.units (Ok made)
+        → large ≡ is_too_large r (map part_of made)
+        → fault_of_port settings program ≡ breaks 0 rules.CommonSize (at_if large head.name.span)
+    unfolding fault_of_port
+    size_told settings program made large same answer e =
+        let good : common_shape port ≡ None = shape_place ∙ ap (λ b. at_if b c.span) shape.good in
+        let size : common_size port (map part_of made) ≡ at_if large head.name.span =
+        common_is (map part_of made) ∙ ap (λ b. at_if b head.name.span)
+        (ap (λ n. is_too_large n (map part_of made)) (sym shape.value) ∙ sym e) in
+        ap₂ (λ s p. breaks 0 rules.CommonShape s else breaks 0 rules.CommonSize p) (ap common_shape (sym same) ∙ good)
+        (sym (size_place settings program made answer) ∙ ap (λ p. common_size p (map part_of made)) (sym same) ∙ size)
       where
-        common_is : common_size port parts ≡ at_if (is_too_large (shape_of (value c)).num parts) head.name.span
-        common_is = rw (is, common) refl
+        common_is : (parts : List Part)
+            → common_size port parts ≡ at_if (is_too_large (shape_of (value c)).num parts) head.name.span
+        common_is parts = rw (is, common) refl
 
     pub shape_written : IsSharedShape port (Some r)
     shape_written =
-        let parts = or_parts (is_bad_numeral c) _ shape.good in
-        let shaped = or_parts (is_zero (value c)) _ parts.1 in
-        let same : whole r ≡ shape_of (value c) =
-        ap whole shape.value ∙ whole_is (shape_of (value c)) (not-false _ shaped.1) in
+        let same : whole r ≡ shape_of (value c) = ap whole shape.value ∙ (good_shape c shape.good).1 in
         rw (is, common) (r, same, refl)
 
 pub bad_told : (settings : Settings) (program : Program) (place : Span) → common_shape program.port ≡ Some place
@@ -157,11 +161,8 @@ sized_number : (common : Option Numeral) (place : Span) (parts : List Part)
     → (shape : Option ℕ) × IsWrittenShape common shape × Sized parts shape
 sized_number None place parts bad large = (None, refl, tt)
 sized_number (Some c) place parts bad large =
-    let good = or_parts (is_bad_numeral c) _ (not_at _ c.span bad) in
-    let shaped = or_parts (is_zero (value c)) _ good.1 in
-    let r : ℕ = (shape_of (value c)).num in
-    let same : whole r ≡ shape_of (value c) = whole_is (shape_of (value c)) (not-false _ shaped.1) in
-    (Some r, (r, same, refl), (shape_above r (value c) shaped.0 same, not_at _ place large))
+    let (pos, same) = good_shape c (not_at _ c.span bad) in
+    (Some (shape_of (value c)).num, ((shape_of (value c)).num, same, refl), (pos, not_at _ place large))
 
 sized_shape : (port : Option PortHead) (parts : List Part) → common_shape port ≡ None → common_size port parts ≡ None
     → (shape : Option ℕ) × IsSharedShape port shape × Sized parts shape

@@ -1,11 +1,11 @@
 -- The parts of a plan's units are those of the program's: what is too large for a factor is so in both.
 use Rattle.std.proofs.Common.{flat_map}
-use Rattle.std.proofs.lemmas.Bool.{or_parts}
+use Rattle.std.proofs.lemmas.Bool.{and_parts, or_parts}
 use Rattle.std.proofs.lemmas.List.Concat.{flat_map-cons}
 use Rattle.std.proofs.lemmas.List.Elements.{All-append}
 use Rattle.std.proofs.lemmas.Nat.Gcd.{dvd_antisymm}
 use Rattle.std.specs.List.{AllZip}
-use Rattle.dl_types.proofs.Common.{◌≡◌, ◌∙◌, ℕ, zero, suc, ◌+◌, ◌<◌, ◌==◌, ◌&&◌, ◌||◌, ◌∣◌, Bool, true, false, not, cond, is_some, List, [], ◌∷◌, length, map, take, get_or, nat_lt, Option, Some, None, inl, inr, refl, sym, ap, ap₂, subst, arith, All, All-nil, All-cons, All-head, All-tail, All-map, sum_by-cons, eqb_tells, Ok, most_shape, Fraction, whole, ◌over◌, ◌*ℚ◌, ◌<ℚ◌, Item, Sev, Pairs, Means, IsValidUnit, Settings, Program, UnitAst, ◌else◌, Span, else_second, not_at, not-false, GridUnit, GridCount, Exposed, Listed, Fixed, Poisson, Bernoulli, Binomial, Gamma, final_severity, support, first_fault_of, breaks, cells_asked, AnswersUnits}
+use Rattle.dl_types.proofs.Common.{◌≡◌, ◌∙◌, ℕ, zero, suc, ◌<◌, ◌&&◌, ◌||◌, ◌∣◌, true, false, not, is_some, List, [], ◌∷◌, length, map, take, get_or, nat_lt, Option, Some, None, inl, inr, refl, sym, ap, ap₂, subst, arith, All, All-nil, All-cons, All-head, All-tail, All-map, eqb_tells, Ok, most_shape, Fraction, whole, ◌over◌, ◌*ℚ◌, ◌<ℚ◌, Item, Sev, Pairs, Means, IsValidUnit, Settings, Program, UnitAst, ◌else◌, Span, else_second, not_at, not-false, GridUnit, GridCount, Exposed, Listed, Fixed, Poisson, Bernoulli, Binomial, Gamma, final_severity, support, first_fault_of, breaks, cells_asked, AnswersUnits}
 use Rattle.dl_exact.specs.Fraction.{◌-ℚ◌, ◌/ℚ◌}
 use Rattle.dl_exact.proofs.Denominators.{over_zero}
 use Rattle.dl_exact.proofs.Laws.{lt_not_le, le_refl}
@@ -38,7 +38,7 @@ use Rattle.dl_buckets.proofs.Firsts.{from_map}
 unfoldable use Rattle.dl_buckets.specs.Grid.{grid_of}
 use Rattle.dl_buckets.specs.Grid.{grid_count, given_zero, grid_clause}
 use Rattle.dl_buckets.proofs.ClauseLaws.{turn_none}
-use Rattle.dl_buckets.proofs.Items.{Rising, rises, none_later, item_share, items_in, support_positive}
+use Rattle.dl_buckets.proofs.Items.{Rising, rises, item_share, items_in, support_positive}
 use Rattle.dl_buckets.proofs.Shared.{all_left, all_right, common_divides}
 use Rattle.dl_types.specs.Exposures.{shape_of}
 use Rattle.dl_types.specs.Faults.{fault_of_mixture}
@@ -51,40 +51,11 @@ use Rattle.dl_types.specs.Plans.{IsCountOf, IsUnitOn, IsUnitOf, aggregate_clause
 use Rattle.dl_types.specs.Rules.{is_poisson, is_plain_poisson, has_common, common_shape, passes}
 unfoldable use Rattle.dl_types.specs.Rules.{common_unit}
 use Rattle.dl_types.specs.Severities.{mixture_of}
+use Rattle.dl_types.proofs.ClauseFacts.{support_in}
+use Rattle.dl_types.proofs.OnePlan.{map_alike}
 use Rattle.dl_types.proofs.RuleLists.{only}
 
 -- ---- what holds of each probability
-
--- so it holds of the weight of each amount that has one
-weight_holds : (Q : ℕ → Type 0) (xs : List Item) → Rising xs → (x : ℕ) → All (λ (i : Item). Q i.weight) xs
-    → 0 < weight_at xs x → Q (weight_at xs x)
-weight_holds Q [] rising x all pos = absurd (omega (arith, pos))
-weight_holds Q (i ∷ xs) rising x all pos =
-    let here = sum_by-cons (λ (j : Item). cond (j.amount == x) j.weight 0) i xs in
-    elim (eqb_tells i.amount x) [
-      | inl same ↦
-          let later : weight_at xs x ≡ 0 =
-          none_later xs x (subst (λ n. All (λ (j : Item). n < j.amount) xs) same.1 rising.0) in
-          let whole_weight : weight_at (i ∷ xs) x ≡ i.weight =
-          here ∙ ap₂ (λ b n. cond b i.weight 0 + n) same.0 later ∙ plus_none i.weight in
-          subst Q (sym whole_weight) (All-head (λ (j : Item). Q j.weight) i xs all)
-      | inr other ↦
-          let rest : weight_at (i ∷ xs) x ≡ weight_at xs x =
-          here ∙ ap (λ b. cond b i.weight 0 + weight_at xs x) other.0 ∙ none_plus (weight_at xs x) in
-          subst Q (sym rest)
-          (weight_holds Q xs rising.1 x (All-tail (λ (j : Item). Q j.weight) i xs all) (subst (λ n. 0 < n) rest pos))
-    ]
-  where
-    none_plus : (w : ℕ) → 0 + w ≡ w
-    none_plus w = omega arith
-
-    plus_none : (w : ℕ) → w + 0 ≡ w
-    plus_none w = omega arith
-
-some_weight : (w t : ℕ) → 0 < t → whole 0 <ℚ w over t → 0 < w
-some_weight zero t pos h =
-    absurd (lt_not_le (whole 0) (whole 0) (subst (λ y. whole 0 <ℚ y) (over_zero t pos) h) (le_refl (whole 0)))
-some_weight (suc w) t pos h = omega arith
 
 module _ (P : Fraction → Type 0) (sev : Sev) (ps : Pairs) (means : Means sev ps) where
   items_hold : All P (map (probability ps) (support ps)) → All P (map (λ (i : Item). i.weight over sev.total) sev.items)
@@ -98,10 +69,8 @@ module _ (P : Fraction → Type 0) (sev : Sev) (ps : Pairs) (means : Means sev p
   support_holds all =
       All-map P (probability ps) (support ps)
       (λ k d h. subst P (means (get_or (support ps) k d))
-      (weight_holds (λ w. P (w over sev.total)) sev.items (rises sev.items sev.weighted.rising) (get_or (support ps) k d)
-      (from_map P (λ (i : Item). i.weight over sev.total) sev.items all)
-      (some_weight (weight_at sev.items (get_or (support ps) k d)) sev.total (severity_total sev)
-      (subst (λ y. whole 0 <ℚ y) (sym (means (get_or (support ps) k d))) (support_positive ps k d h)))))
+      (support_in sev ps means (λ (i : Item). P (i.weight over sev.total))
+      (from_map P (λ (i : Item). i.weight over sev.total) sev.items all) k d h))
 
 -- ---- equal parts
 
@@ -115,13 +84,6 @@ record SamePart (p q : Part) : Type 0 where
   pub above : p.above ≡ q.above
   pub there : (s : Fraction) (m : ℕ) → Divides s m p.probabilities → Divides s m q.probabilities
   pub back : (s : Fraction) (m : ℕ) → Divides s m q.probabilities → Divides s m p.probabilities
-
-map_alike : (f : Part → Fraction) → ((p q : Part) → SamePart p q → f p ≡ f q) → (ps qs : List Part)
-    → AllZip SamePart ps qs → map f ps ≡ map f qs
-map_alike f alike [] [] h = refl
-map_alike f alike [] (q ∷ qs) h = absurd h
-map_alike f alike (p ∷ ps) [] h = absurd h
-map_alike f alike (p ∷ ps) (q ∷ qs) h = ap₂ (λ x xs. x ∷ xs) (alike p q h.0) (map_alike f alike ps qs h.1)
 
 turned : (p q : Part) → SamePart p q → SamePart q p
 turned p q h = record { expected = sym h.expected; above = sym h.above; there = h.back; back = h.there }
@@ -169,7 +131,7 @@ module _ (ps qs : List Part) (h : AllZip SamePart ps qs) (v : Fraction) where
   same_bounds r u =
       ap₂ (λ xs n. is_zero v || is_raised_coarse r v || is_raised_coarse r u || passes (raised r u) most_expected
       || not (is_fine xs) || not (nat_le n most_parts))
-      (map_alike (claim_share v) (λ p q s. ap (λ n. n /ℚ v) s.expected) ps qs h) same_denominator
+      (map_alike SamePart (claim_share v) (claim_share v) (λ p q s. ap (λ n. n /ℚ v) s.expected) ps qs h) same_denominator
 
 same_with : (ps qs : List Part) → AllZip SamePart ps qs → (r : ℕ) (v u : Option Fraction)
     → passes_with r v u ps ≡ passes_with r v u qs
@@ -182,8 +144,8 @@ unfolding is_too_large
 large_alike r ps qs h =
     ap (λ b. nat_lt most_shape (suc r) || b)
     (ap₂ (λ xs ys. passes_with r (running_sum (whole 0) xs) (running_sum (whole 0) ys) ps)
-    (map_alike (λ (p : Part). p.expected) (λ p q s. s.expected) ps qs h)
-    (map_alike (λ (p : Part). p.above) (λ p q s. s.above) ps qs h)
+    (map_alike SamePart (λ (p : Part). p.expected) (λ p. p.expected) (λ p q s. s.expected) ps qs h)
+    (map_alike SamePart (λ (p : Part). p.above) (λ p. p.above) (λ p q s. s.above) ps qs h)
     ∙ same_with ps qs h r (running_sum (whole 0) (map (λ (q : Part). q.expected) qs))
     (running_sum (whole 0) (map (λ (q : Part). q.above) qs)))
 
@@ -244,16 +206,12 @@ plain_poisson bs g (counts.Exposed e (freqs.Binomial p _) z) freq plain is = abs
 plain_poisson bs g (counts.Exposed e (freqs.Gamma c _) z) freq plain is = absurd cc
 plain_poisson bs g (counts.Listed counted probs span) freq plain is = absurd cc
 
-second_of_both : (a b : Bool) → (a && b) ≡ true → b ≡ true
-second_of_both true b e = e
-second_of_both false b e = absurd cc
-
 plain_zero : (k : CountAst) → is_plain_poisson k ≡ true → given_zero k ≡ None
 plain_zero (counts.Exposed e f Plain) plain = refl
 plain_zero (counts.Exposed e f (Truncated _)) plain =
-    absurd (let kept : false ≡ true = second_of_both (is_poisson f) false plain in cc)
+    absurd (cc ((and_parts (is_poisson f) false plain).1))
 plain_zero (counts.Exposed e f (Modified n _)) plain =
-    absurd (let kept : false ≡ true = second_of_both (is_poisson f) false plain in cc)
+    absurd (cc ((and_parts (is_poisson f) false plain).1))
 plain_zero (counts.Listed counted probs span) plain = refl
 
 none_there : (o : Option Cession) → is_some o ≡ false → o ≡ None
@@ -325,33 +283,22 @@ module _ (settings : Settings) (port : Option PortHead) (sevs : List SevDef) (un
       sym (large_alike r (map (part_in settings.bs sevs) units) (map part_of made)
       (same_parts settings.bs sevs units made all_can_share answer.1))
 
+-- the place of the rule is the same for parts that are too large alike
+size_alike : (port : Option PortHead) (ps qs : List Part)
+    → (has_common port ≡ true → (r : ℕ) → is_too_large r ps ≡ is_too_large r qs)
+    → common_size port ps ≡ common_size port qs
+size_alike None ps qs same = refl
+size_alike (Some h) ps qs same = at_common h.common same
+  where
+    at_common : (common : Option Numeral) → (is_some common ≡ true → (r : ℕ) → is_too_large r ps ≡ is_too_large r qs)
+        → within (λ (c : Numeral). at_if (is_too_large (shape_of (value c)).num ps) h.name.span) common
+        ≡ within (λ (c : Numeral). at_if (is_too_large (shape_of (value c)).num qs) h.name.span) common
+    at_common None same = refl
+    at_common (Some c) same = ap (λ b. at_if b h.name.span) (same refl (shape_of (value c)).num)
+
 -- the place of the rule, by the units of the plan
 pub size_place : (settings : Settings) (program : Program) (made : List UnitOfPlan)
     → AnswersUnits settings program.port program.sevs program.units (Ok made)
     → common_size program.port (map part_of made) ≡ common_size program.port (parts_in settings program)
-size_place settings program made answer = at_port program.port refl
-  where
-    at_common : (h : PortHead) (common : Option Numeral) → h.common ≡ common → program.port ≡ Some h
-        → within (λ (c : Numeral). at_if (is_too_large (shape_of (value c)).num (map part_of made)) h.name.span) common
-        ≡ within (λ (c : Numeral).
-        at_if (is_too_large (shape_of (value c)).num (parts_in settings program)) h.name.span) common
-    at_common h None e is = refl
-    at_common h (Some c) e is =
-        ap (λ b. at_if b h.name.span)
-        (large_parts settings program.port program.sevs program.units made answer
-        (ap has_common is ∙ ap is_some e) (shape_of (value c)).num)
-
-    at_port : (port : Option PortHead) → program.port ≡ port
-        → common_size port (map part_of made) ≡ common_size port (parts_in settings program)
-    at_port None e = refl
-    at_port (Some h) e = at_common h h.common refl e
-
--- where the shape is good, the size is asked
-pub size_last : (settings : Settings) (program : Program) (made : List UnitOfPlan) (place : Option Span)
-    → AnswersUnits settings program.port program.sevs program.units (Ok made)
-    → None ≡ common_shape program.port → common_size program.port (map part_of made) ≡ place
-    → fault_of_port settings program ≡ breaks 0 rules.CommonSize place
-unfolding fault_of_port
-size_last settings program made place answer shape is =
-    ap₂ (λ s p. breaks 0 rules.CommonShape s else breaks 0 rules.CommonSize p) (sym shape)
-    (sym (size_place settings program made answer) ∙ is)
+size_place settings program made answer = size_alike program.port (map part_of made) (parts_in settings program)
+    (large_parts settings program.port program.sevs program.units made answer)

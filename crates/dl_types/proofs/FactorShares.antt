@@ -1,12 +1,12 @@
 -- The shares of units in all expected claims, and their common denominators.
 use Rattle.std.proofs.Common.{drop, flat_map}
-use Rattle.std.proofs.lemmas.Bool.{lt-leb, le-ltb}
+use Rattle.std.proofs.lemmas.Bool.{lt-leb}
+use Rattle.std.proofs.Math.Bool.{and-false}
 use Rattle.std.proofs.lemmas.Grind.{flat_map-append}
-use Rattle.std.proofs.lemmas.List.{append-nil, get_or_default, map-append, take_more, take-append-drop}
-use Rattle.std.proofs.lemmas.List.Concat.{flat_map-cons}
+use Rattle.std.proofs.lemmas.List.{get_or_default, flat_map_more, take-append-drop}
 use Rattle.std.proofs.lemmas.List.Sums.{fold-append, get_or-le-sum_by}
 use Rattle.std.proofs.lemmas.Nat.Gcd.{le_of_dvd}
-use Rattle.dl_types.proofs.Common.{◌≡◌, ◌∙◌, ℕ, ◌+◌, ◌*◌, ◌<◌, ◌≤◌, ◌&&◌, Bool, true, false, if◌then◌else◌, nat_lt, Some, None, admitted, admitted_bound, List, [], ◌∷◌, ◌++◌, length, map, take, get_or, inl, inr, refl, sym, ap, ap₂, subst, arith, Fraction, whole, ◌over◌, ◌*ℚ◌, ◌/ℚ◌, ◌≤ℚ◌, ◌<ℚ◌, div_times, Item, Sev, IsTooFine}
+use Rattle.dl_types.proofs.Common.{◌≡◌, ◌∙◌, ℕ, ◌+◌, ◌*◌, ◌<◌, ◌≤◌, ◌&&◌, Bool, false, List, [], ◌∷◌, ◌++◌, length, map, take, get_or, inl, inr, refl, sym, ap, ap₂, subst, arith, Fraction, whole, ◌over◌, ◌*ℚ◌, ◌/ℚ◌, ◌≤ℚ◌, ◌<ℚ◌, div_times, Item, Sev, IsTooFine}
 use Rattle.dl_limits.specs.Limits.{most_parts}
 use Rattle.dl_exact.specs.Multiples.{lcm}
 use Rattle.dl_exact.proofs.Laws.{one_pos, one_times, times_le_cancel, times_le_both}
@@ -18,6 +18,7 @@ use Rattle.dl_plan.proofs.CommonDenominators.{lcm_pos, common_from_pos, common_f
 use Rattle.dl_plan.proofs.Means.{severity_total}
 use Rattle.dl_buckets.specs.Lists.{is_fine}
 use Rattle.dl_types.specs.Factor.{joined, times_amounts}
+use Rattle.dl_types.proofs.Naming.{one_more, maps_more, maps_split}
 
 -- ---- parts of a whole
 
@@ -71,18 +72,22 @@ joined_within m xs ys pos =
 pub lcm_reaches : (a b : ℕ) → 0 < a → 0 < b → b ≤ lcm a b
 lcm_reaches a b first second = le_of_dvd (lcm_pos a b first second) (lcm_right a b)
 
--- a list is not fine where the front of it is not
-pub front_coarse : (xs ys zs : List Fraction) → zs ≡ xs ++ ys → most_parts < joined 1 xs → is_fine zs ≡ false
-front_coarse xs ys zs is far =
-    lt-leb (joined 1 zs) most_parts
-    (omega (arith, far, joined_within 1 xs ys (omega arith), ap (joined 1) is))
+-- the numbers of the first items, of one more, and of all
+module _ {A : Type 0} (f : A → Fraction) (m : ℕ) (xs : List A) (i : ℕ) (x : A) (lt : i < length xs)
+    (is : x ≡ get_or xs i x) where
+  pub numbers_more : joined m (map f (take (i + 1) xs)) ≡ lcm (joined m (map f (take i xs))) (f x).den
+  numbers_more =
+      ap (joined m) (sym (maps_more xs i x lt is f)) ∙ joined_append m (map f (take i xs)) (f x ∷ [])
 
-both_false : (a b : Bool) → a ≡ false → false ≡ (a && b)
-both_false a b e = sym (ap (λ c. c && b) e)
-
-second_false : (a b : Bool) → b ≡ false → false ≡ (a && b)
-second_false true b e = sym e
-second_false false b e = refl
+  numbers_coarse : 0 < m → most_parts < lcm (joined m (map f (take i xs))) (f x).den → most_parts < joined m (map f xs)
+  numbers_coarse pos far =
+      omega (
+        arith,
+        far,
+        numbers_more,
+        joined_within m (map f (take (i + 1) xs)) (map f (drop (i + 1) xs)) pos,
+        ap (joined m) (maps_split f xs (i + 1)),
+      )
 
 -- the lists of the first units, and of one more
 module _ (v : Fraction) (units : List UnitOfPlan) (i : ℕ) (u : UnitOfPlan) (lt : i < length units)
@@ -93,22 +98,11 @@ module _ (v : Fraction) (units : List UnitOfPlan) (i : ℕ) (u : UnitOfPlan) (lt
   abbrev amounts : List UnitOfPlan → List Fraction
   amounts us = flat_map (shared_probabilities v) us
 
-  one_more : take (i + 1) units ≡ take i units ++ u ∷ []
-  one_more = take_more units i u lt ∙ ap (λ w. take i units ++ w ∷ []) (sym is)
-
-  pub claims_more : joined 1 (claims (take (i + 1) units)) ≡ lcm (joined 1 (claims (take i units))) (unit_share v u).den
-  claims_more = ap (λ us. joined 1 (claims us)) one_more
-      ∙ ap (joined 1) (map-append (unit_share v) (take i units) (u ∷ []))
-      ∙ joined_append 1 (claims (take i units)) (unit_share v u ∷ [])
-
-  alone : amounts (u ∷ []) ≡ shared_probabilities v u
-  alone = flat_map-cons (shared_probabilities v) u [] ∙ append-nil (shared_probabilities v u)
-
   pub amounts_more : joined 1 (amounts (take (i + 1) units))
       ≡ joined (joined 1 (amounts (take i units))) (shared_probabilities v u)
-  amounts_more = ap (λ us. joined 1 (amounts us)) one_more
-      ∙ ap (joined 1) (flat_map-append (shared_probabilities v) (take i units) (u ∷ [])
-      ∙ ap (λ xs. amounts (take i units) ++ xs) alone)
+  amounts_more =
+      ap (λ us. joined 1 (amounts us)) (one_more units i u lt is)
+      ∙ ap (joined 1) (sym (flat_map_more (shared_probabilities v) [] (take i units) u))
       ∙ joined_append 1 (amounts (take i units)) (shared_probabilities v u)
 
   abbrev fine : Bool
@@ -116,12 +110,8 @@ module _ (v : Fraction) (units : List UnitOfPlan) (i : ℕ) (u : UnitOfPlan) (lt
 
   pub claims_coarse : most_parts < lcm (joined 1 (claims (take i units))) (unit_share v u).den → false ≡ fine
   claims_coarse far =
-      let split : claims units ≡ claims (take (i + 1) units) ++ claims (drop (i + 1) units) =
-      ap claims (sym (take-append-drop (i + 1) units))
-      ∙ map-append (unit_share v) (take (i + 1) units) (drop (i + 1) units) in
-      both_false (is_fine (claims units)) (is_fine (amounts units))
-      (front_coarse (claims (take (i + 1) units)) (claims (drop (i + 1) units)) (claims units) split
-      (subst (λ n. most_parts < n) (sym claims_more) far))
+      sym (ap (λ b. b && is_fine (amounts units)) (lt-leb (joined 1 (claims units)) most_parts
+      (numbers_coarse (unit_share v) 1 units i u lt is (omega arith) far)))
 
   pub amounts_coarse : most_parts < joined (joined 1 (amounts (take i units))) (shared_probabilities v u)
       → false ≡ fine
@@ -129,44 +119,15 @@ module _ (v : Fraction) (units : List UnitOfPlan) (i : ℕ) (u : UnitOfPlan) (lt
       let split : amounts units ≡ amounts (take (i + 1) units) ++ amounts (drop (i + 1) units) =
       ap amounts (sym (take-append-drop (i + 1) units))
       ∙ flat_map-append (shared_probabilities v) (take (i + 1) units) (drop (i + 1) units) in
-      second_false (is_fine (claims units)) (is_fine (amounts units))
-      (front_coarse (amounts (take (i + 1) units)) (amounts (drop (i + 1) units)) (amounts units) split
-      (subst (λ n. most_parts < n) (sym amounts_more) far))
-
--- the probabilities of the first amounts, and of one more
-module _ (f : Item → Fraction) (m : ℕ) (items : List Item) (i : ℕ) (item : Item) (lt : i < length items)
-    (is : item ≡ get_or items i item) where
-  pub items_more : joined m (map f (take (i + 1) items)) ≡ lcm (joined m (map f (take i items))) (f item).den
-  items_more =
-      let more : take (i + 1) items ≡ take i items ++ item ∷ [] =
-      take_more items i item lt ∙ ap (λ w. take i items ++ w ∷ []) (sym is) in
-      ap (λ us. joined m (map f us)) more ∙ ap (joined m) (map-append f (take i items) (item ∷ []))
-      ∙ joined_append m (map f (take i items)) (f item ∷ [])
-
-  pub items_coarse : 0 < m → most_parts < lcm (joined m (map f (take i items))) (f item).den
-      → joined m (map f items) ≤ most_parts → ⊥
-  items_coarse pos far few =
-      let split : map f items ≡ map f (take (i + 1) items) ++ map f (drop (i + 1) items) =
-      ap (map f) (sym (take-append-drop (i + 1) items)) ∙ map-append f (take (i + 1) items) (drop (i + 1) items) in
-      omega (
+      let more : most_parts < joined 1 (amounts units) = omega (
         arith,
         far,
-        few,
-        items_more,
-        joined_within m (map f (take (i + 1) items)) (map f (drop (i + 1) items)) pos,
-        ap (joined m) split,
-      )
-
--- ---- a number that is refused is not admitted
-
-pub refused : (x : Fraction) → IsTooFine x → None ≡ admitted true x
-refused x (inl far) =
-    sym (ap (λ b. if b && nat_lt x.den admitted_bound then Some x else None)
-    (le-ltb x.num admitted_bound (omega (arith, far))))
-refused x (inr far) =
-    sym (ap (λ b. if b then Some x else None)
-    (sym (second_false (nat_lt x.num admitted_bound) (nat_lt x.den admitted_bound)
-    (le-ltb x.den admitted_bound (omega (arith, far))))))
+        amounts_more,
+        joined_within 1 (amounts (take (i + 1) units)) (amounts (drop (i + 1) units)) (omega arith),
+        ap (joined 1) split,
+      ) in
+      sym (ap (λ b. is_fine (claims units) && b) (lt-leb (joined 1 (amounts units)) most_parts more)
+      ∙ and-false (is_fine (claims units)))
 
 -- ---- the amounts of one unit, from whole numbers
 
@@ -194,14 +155,12 @@ module _ (share : Fraction) (sev : Sev) (within : share ≤ℚ whole 1) (xs : Li
       (weight_within sev k item (subst (λ (ys : List Item). k < length ys) same lt)
       (subst (λ (ys : List Item). item ≡ get_or ys k item) same is)) within
 
-  listed : (joined m (map f xs) ≤ most_parts → ⊥) → joined m (times_amounts share sev) ≤ most_parts → ⊥
-  listed h few = h (subst (λ (ys : List Item). joined m (map f ys) ≤ most_parts) (sym same) few)
-
   pub amount_coarse : (e : ℕ) → e ≡ (f item).den → (lcm multiple e ≤ most_parts → ⊥)
       → joined m (times_amounts share sev) ≤ most_parts → ⊥
-  amount_coarse e is_den far =
-      listed (items_coarse f m xs k item lt is pos
-      (subst (λ a. most_parts < a) (ap₂ lcm so_far is_den) (omega (arith, far))))
+  amount_coarse e is_den far few =
+      let more = numbers_coarse f m xs k item lt is pos
+      (subst (λ a. most_parts < a) (ap₂ lcm so_far is_den) (omega (arith, far))) in
+      omega (arith, more, few, ap (λ (ys : List Item). joined m (map f ys)) same)
 
   pub amount_refused : IsTooFine ((n * item.weight) over (d * sev.total))
       → joined m (times_amounts share sev) ≤ most_parts → ⊥
@@ -215,4 +174,4 @@ module _ (share : Fraction) (sev : Sev) (within : share ≤ℚ whole 1) (xs : Li
       ))
 
   pub amount_next : (e : ℕ) → e ≡ (f item).den → lcm multiple e ≡ joined m (map f (take (k + 1) xs))
-  amount_next e is_den = ap₂ lcm so_far is_den ∙ sym (items_more f m xs k item lt is)
+  amount_next e is_den = ap₂ lcm so_far is_den ∙ sym (numbers_more f m xs k item lt is)

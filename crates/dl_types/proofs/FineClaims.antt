@@ -8,33 +8,21 @@ module _ (u : GridUnit) where
   abbrev others : Bool
   others = not (is_fine (probs_in_count u.count)) || not (has_shares u.occ) || not (has_shares u.agr)
 
-  fractions_are : fractions_too_fine u ≡ (others || not (has_severity u.sev))
-  fractions_are = regroup (not (is_fine (probs_in_count u.count))) (not (has_shares u.occ)) (not (has_shares u.agr))
-      (not (has_severity u.sev))
-    where
-      regroup : (a b d m : Bool) → (a || b || d || m) ≡ ((a || b || d) || m)
-      regroup true b d m = refl
-      regroup false true d m = refl
-      regroup false false true m = refl
-      regroup false false false m = refl
-
   pub coarse_severity : has_severity u.sev ≡ false → fractions_too_fine u ≡ true
-  coarse_severity h = fractions_are ∙ ap (λ b. others || not b) h ∙ or-true others
+  coarse_severity h = ap (λ b. others || not b) h ∙ or-true others
 
   pub fine_parts : has_severity u.sev ≡ true → others ≡ false → fractions_too_fine u ≡ false
-  fine_parts h g = fractions_are ∙ ap₂ (λ b d. b || not d) g h
+  fine_parts h g = ap₂ (λ b d. b || not d) g h
 
   -- what fine fractions leave
   module _ (fine : fractions_too_fine u ≡ false) where
     parts : (not (is_fine (probs_in_count u.count)) ≡ false) × (not (has_shares u.occ) ≡ false)
         × (not (has_shares u.agr) ≡ false)
-    parts = none_of _ _ _ (not (has_severity u.sev)) fine
-      where
-        none_of : (a b d m : Bool) → (a || b || d || m) ≡ false → (a ≡ false) × (b ≡ false) × (d ≡ false)
-        none_of true b d m h = absurd (cc)
-        none_of false true d m h = absurd (cc)
-        none_of false false true m h = absurd (cc)
-        none_of false false false m h = (refl, refl, refl)
+    parts =
+        let known = or_parts others (not (has_severity u.sev)) fine in
+        let agr = or_parts _ (not (has_shares u.agr)) known.0 in
+        let occ = or_parts _ (not (has_shares u.occ)) agr.0 in
+        (occ.0, occ.1, agr.1)
 
     pub count_probs : is_fine (probs_in_count u.count) ≡ true
     count_probs = not-false _ parts.0

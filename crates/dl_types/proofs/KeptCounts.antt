@@ -13,11 +13,6 @@ use Rattle.dl_buckets.proofs.Values.{zero_above}
 
 -- ---- tests
 
-none_of_three : (a b d : Bool) → (a || b || d) ≡ false → (a ≡ false) × (b ≡ false) × (d ≡ false)
-none_of_three true b d h = absurd (cc)
-none_of_three false true d h = absurd (cc)
-none_of_three false false d h = (refl, refl, h)
-
 -- a number that is there is the one that it may be, which passes the test
 pub given : (b : Bool) (x n : Fraction) → (if b then Some x else None) ≡ Some n → (n ≡ x) × (b ≡ true)
 given true x n e = (cc, refl)
@@ -38,8 +33,9 @@ whole_freq e (Fixed span) n are = not-false _ (not_at _ (exposure_span e) are.wh
 whole_freq e (Poisson span) n are = tt
 whole_freq e (Bernoulli span) n are = not_at _ (exposure_span e) are.within
 whole_freq e (Binomial p span) n are =
-    let parts = none_of_three _ _ _ (not_at _ span are.trials) in
-    record { above = pos_num p (zero_above p.num parts.0); within = parts.1; whole = not-false _ parts.2 }
+    let parts = or_parts _ _ (not_at _ span are.trials) in
+    let range = or_parts _ _ parts.0 in
+    record { above = pos_num p (zero_above p.num range.0); within = range.1; whole = not-false _ parts.1 }
 whole_freq e (Gamma c span) n are =
     let parts = or_parts _ _ (not_at _ span are.shape) in
     record { above = parts.0; whole = not-false _ parts.1 }
@@ -52,8 +48,8 @@ pub number_there : (e : GridExposure) (f : GridFreq) (n above : Option Fraction)
     → (is_some n ≡ true) × ((is_unbounded f && not (is_some above)) ≡ false)
 unfolding exposed_too_fine
 number_there e f n above fine =
-    let parts = none_of_three _ _ _ fine in
-    (not-false _ parts.1, parts.2)
+    let parts = or_parts _ _ fine in
+    (not-false _ (or_parts _ _ parts.0).1, parts.1)
 
 pub whole_count : (k : GridCount) (n above : Option Fraction) → AreWhole k n → exposed_too_fine k n above ≡ false
     → IsWholeCount k n

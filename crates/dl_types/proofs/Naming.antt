@@ -1,7 +1,7 @@
--- A name among those of earlier units.
+-- A name among those of earlier units, and the first parts of a list.
 use Rattle.dl_types.proofs.Common.{◌≡◌, ℕ, ◌+◌, List, [], ◌∷◌, ◌++◌, length, if◌then◌else◌, map, Bool, true, false, not, None, Some, refl, sym, ap, ◌∙◌, arith, Span, at_if, list_any}
-use Rattle.std.proofs.Common.{Bor}
-use Rattle.std.proofs.lemmas.List.{length-append}
+use Rattle.std.proofs.Common.{Bor, take, drop, get_or, ◌<◌}
+use Rattle.std.proofs.lemmas.List.{length-append, map-append, map_more, take_more, take-append-drop}
 use Rattle.std.specs.Prelude.{◌||◌}
 
 -- a test of some parts is one of what is made of them
@@ -34,3 +34,15 @@ taken_up ks new k true true e l = absurd (omega (arith, l, ap length e))
 taken_up ks new k true false e l = refl
 taken_up ks new k false true e l = refl
 taken_up ks new k false false e l = absurd (omega (arith, l, ap length e ∙ length-append ks (k ∷ [])))
+
+-- ---- the first i parts, one more, and the others
+
+module _ {A : Type 0} (xs : List A) (i : ℕ) (x : A) (lt : i < length xs) (is : x ≡ get_or xs i x) where
+  pub one_more : take (i + 1) xs ≡ take i xs ++ x ∷ []
+  one_more = take_more xs i x lt ∙ ap (λ y. take i xs ++ y ∷ []) (sym is)
+
+  pub maps_more : {B : Type 0} (f : A → B) → map f (take i xs) ++ f x ∷ [] ≡ map f (take (i + 1) xs)
+  maps_more f = sym (map_more f xs i x lt ∙ ap (λ y. map f (take i xs) ++ f y ∷ []) (sym is))
+
+pub maps_split : {A B : Type 0} (f : A → B) (xs : List A) (k : ℕ) → map f xs ≡ map f (take k xs) ++ map f (drop k xs)
+maps_split f xs k = ap (map f) (sym (take-append-drop k xs)) ∙ map-append f (take k xs) (drop k xs)

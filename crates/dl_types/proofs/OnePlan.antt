@@ -5,6 +5,7 @@ use Rattle.std.specs.List.{AllZip}
 use mathlib.Core.HLevel.{is_prop→PathP}
 use Rattle.dl_types.proofs.Common.{◌≡◌, ◌∙◌, ℕ, zero, suc, ◌+◌, ◌*◌, ◌<◌, ◌==◌, cond, false, List, [], ◌∷◌, map, Option, Some, None, inl, inr, refl, sym, ap, ap₂, subst, arith, mul-pos, All, All-head, All-tail, sum_by-cons, eqb_tells, Fraction, whole, whole_num, ◌over◌, Item, Sev, Pairs, Means, Plan, Settings, Program, UnitAst, GridUnit, GridCount, Exposed, Listed, Fixed, Poisson, Bernoulli, Binomial, Gamma, final_severity}
 use Rattle.std.proofs.lemmas.Bool.{cases_lt}
+use Rattle.std.proofs.lemmas.List.Elements.{same_from_all_zip}
 use Rattle.dl_exact.proofs.Laws.{le_of_eq}
 use Rattle.dl_exact.proofs.Over.{le_over}
 use Rattle.dl_plan.specs.declared.plan.Freq.{Freq}
@@ -37,7 +38,7 @@ abbrev Positive : List Item → Type 0
 Positive xs = All (λ (i : Item). 0 < i.weight) xs
 
 -- the weight of the first amount, and of the others
-first_weight : (x : Item) (xs : List Item) → Rising (x ∷ xs) → weight_at (x ∷ xs) x.amount ≡ x.weight
+pub first_weight : (x : Item) (xs : List Item) → Rising (x ∷ xs) → weight_at (x ∷ xs) x.amount ≡ x.weight
 first_weight x xs rising =
     sum_by-cons (λ (j : Item). cond (j.amount == x.amount) j.weight 0) x xs
     ∙ ap₂ (λ a b. a + b) (itself x.amount x.weight) (none_later xs x.amount rising.0) ∙ plus_none x.weight
@@ -48,7 +49,7 @@ first_weight x xs rising =
     plus_none : (w : ℕ) → w + 0 ≡ w
     plus_none w = omega arith
 
-other_weight : (x : Item) (xs : List Item) (a : ℕ) → (x.amount == a) ≡ false → weight_at (x ∷ xs) a ≡ weight_at xs a
+pub other_weight : (x : Item) (xs : List Item) (a : ℕ) → (x.amount == a) ≡ false → weight_at (x ∷ xs) a ≡ weight_at xs a
 other_weight x xs a other =
     sum_by-cons (λ (j : Item). cond (j.amount == a) j.weight 0) x xs
     ∙ ap (λ b. cond b x.weight 0 + weight_at xs a) other ∙ none_plus (weight_at xs a)
@@ -65,27 +66,34 @@ no_weight x xs a rising h =
     above zero d b = h
     above (suc k) d b = omega (arith, h, rising.0 k d (omega (arith, b)))
 
-some_product : (w t n : ℕ) → 0 < w → 0 < t → w * t ≡ 0 * n → ⊥
-some_product w t n some pos e = omega (arith, mul-pos some pos, e)
+-- the first amount of a list in the ratio has a weight in the other list
+some_weight : (T V : ℕ) (x : Item) (xs ys : List Item) → 0 < V → Rising (x ∷ xs) → Positive (x ∷ xs)
+    → weight_at (x ∷ xs) x.amount * V ≡ weight_at ys x.amount * T → weight_at ys x.amount ≡ 0 → ⊥
+some_weight T V x xs ys vpos rising some h none =
+    let e : x.weight * V ≡ 0 * T = ap (λ n. n * V) (sym (first_weight x xs rising)) ∙ h ∙ ap (λ n. n * T) none in
+    omega (arith, mul-pos (All-head (λ (i : Item). 0 < i.weight) x xs some) vpos, e)
+
+-- what is alike has the same image
+pub map_alike : {A B : Type 0} (R : A → A → Type 0) (f g : A → B) → ((x y : A) → R x y → f x ≡ g y) → (xs ys : List A)
+    → AllZip R xs ys → map f xs ≡ map g ys
+map_alike R f g alike [] [] h = refl
+map_alike R f g alike [] (y ∷ ys) h = absurd h
+map_alike R f g alike (x ∷ xs) [] h = absurd h
+map_alike R f g alike (x ∷ xs) (y ∷ ys) h = ap₂ (λ z zs. z ∷ zs) (alike x y h.0) (map_alike R f g alike xs ys h.1)
+
+pub same_item : (x y : Item) → x.amount ≡ y.amount → x.weight ≡ y.weight → x ≡ y
+same_item x y a w = λ i. record { amount = a i; weight = w i }
 
 module _ (T V : ℕ) (tpos : 0 < T) (vpos : 0 < V) where
   in_ratio : (xs ys : List Item) → Rising xs → Rising ys → Positive xs → Positive ys → InRatio T V xs ys
       → AllZip (Alike T V) xs ys
   in_ratio [] [] rx ry px py h = tt
-  in_ratio [] (y ∷ ys) rx ry px py h =
-      absurd (some_product y.weight T V (All-head (λ (i : Item). 0 < i.weight) y ys py) tpos
-      (ap (λ n. n * T) (sym (first_weight y ys ry)) ∙ sym (h y.amount)))
-  in_ratio (x ∷ xs) [] rx ry px py h =
-      absurd (some_product x.weight V T (All-head (λ (i : Item). 0 < i.weight) x xs px) vpos
-      (ap (λ n. n * V) (sym (first_weight x xs rx)) ∙ h x.amount))
+  in_ratio [] (y ∷ ys) rx ry px py h = absurd (some_weight V T y ys [] tpos ry py (sym (h y.amount)) refl)
+  in_ratio (x ∷ xs) [] rx ry px py h = absurd (some_weight T V x xs [] vpos rx px (h x.amount) refl)
   in_ratio (x ∷ xs) (y ∷ ys) rx ry px py h = elim (cases_lt x.amount y.amount) [
-    | inl lt ↦ absurd (some_product x.weight V T (All-head (λ (i : Item). 0 < i.weight) x xs px) vpos
-        (ap (λ n. n * V) (sym (first_weight x xs rx)) ∙ h x.amount
-        ∙ ap (λ n. n * T) (no_weight y ys x.amount ry lt)))
+    | inl lt ↦ absurd (some_weight T V x xs (y ∷ ys) vpos rx px (h x.amount) (no_weight y ys x.amount ry lt))
     | inr ge ↦ elim (cases_lt y.amount x.amount) [
-      | inl lt ↦ absurd (some_product y.weight T V (All-head (λ (i : Item). 0 < i.weight) y ys py) tpos
-          (ap (λ n. n * T) (sym (first_weight y ys ry)) ∙ sym (h y.amount)
-          ∙ ap (λ n. n * V) (no_weight x xs y.amount rx lt)))
+      | inl lt ↦ absurd (some_weight V T y ys (x ∷ xs) tpos ry py (sym (h y.amount)) (no_weight x xs y.amount rx lt))
       | inr le ↦
           let same : x.amount ≡ y.amount = omega (arith, ge, le) in
           let first : x.weight * V ≡ y.weight * T =
@@ -110,24 +118,6 @@ module _ (T V : ℕ) (tpos : 0 < T) (vpos : 0 < V) where
       both_none : (m n : ℕ) → 0 * m ≡ 0 * n
       both_none m n = omega arith
 
-  scaled_same : (xs ys : List Item) → AllZip (Alike T V) xs ys → map (times V) xs ≡ map (times T) ys
-  scaled_same [] [] h = refl
-  scaled_same [] (y ∷ ys) h = absurd h
-  scaled_same (x ∷ xs) [] h = absurd h
-  scaled_same (x ∷ xs) (y ∷ ys) h =
-      ap₂ (λ i is. i ∷ is) (λ i. record { amount = h.0.0 i; weight = h.0.1 i }) (scaled_same xs ys h.1)
-
-  cancel : (a b k : ℕ) → 0 < k → a * k ≡ b * k → a ≡ b
-  cancel a b k h e = eq_of_mul-eq-mul_right k h a b e
-
-  same_items : T ≡ V → (xs ys : List Item) → AllZip (Alike T V) xs ys → xs ≡ ys
-  same_items e [] [] h = refl
-  same_items e [] (y ∷ ys) h = absurd h
-  same_items e (x ∷ xs) [] h = absurd h
-  same_items e (x ∷ xs) (y ∷ ys) h =
-      let weight : x.weight ≡ y.weight = cancel x.weight y.weight T tpos (ap (λ n. x.weight * n) e ∙ h.0.1) in
-      ap₂ (λ i is. i ∷ is) (λ i. record { amount = h.0.0 i; weight = weight i }) (same_items e xs ys h.1)
-
 module _ (xs : List Item) (t : ℕ) (ys : List Item) (v : ℕ) (w : IsWeighted xs t) (z : IsWeighted ys v)
     (same : (a : ℕ) → weight_at xs a over t ≡ weight_at ys a over v) where
   tpos : 0 < t
@@ -149,7 +139,8 @@ module _ (xs : List Item) (t : ℕ) (ys : List Item) (v : ℕ) (w : IsWeighted x
   one_total =
       let left : common_weight (map (times v) xs) ≡ v = common_of xs v vpos w.lowest in
       let right : common_weight (map (times t) ys) ≡ t = common_of ys t tpos z.lowest in
-      sym right ∙ ap common_weight (sym (scaled_same t v tpos vpos xs ys alike)) ∙ left
+      sym right ∙ ap common_weight (sym (map_alike (Alike t v) (times v) (times t)
+      (λ x y h. same_item (times v x) (times t y) h.0 h.1) xs ys alike)) ∙ left
     where
       nought : (g : ℕ) → 0 ≡ 0 * g
       nought g = omega arith
@@ -163,7 +154,10 @@ module _ (xs : List Item) (t : ℕ) (ys : List Item) (v : ℕ) (w : IsWeighted x
           ∙ one_times g
 
   pub one_list : xs ≡ ys
-  one_list = same_items t v tpos vpos one_total xs ys alike
+  one_list =
+      sym (same_from_all_zip (Alike t v) xs ys alike
+      (λ x y h. same_item y x (sym h.0) (sym (eq_of_mul-eq-mul_right t tpos x.weight y.weight
+      (ap (λ n. x.weight * n) one_total ∙ h.1)))))
 
 -- ---- severities and counts
 

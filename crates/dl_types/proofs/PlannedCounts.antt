@@ -1,6 +1,6 @@
 -- The claim count of a plan that is made of a count that breaks no rule.
-use Rattle.std.proofs.lemmas.Bool.{ltb-true, or_parts}
-use Rattle.dl_types.proofs.Common.{ℕ, ◌≡◌, ◌∙◌, ◌*◌, ◌<◌, ◌<ℚ◌, ◌&&◌, ◌||◌, not, nat_lt, Bool, true, false, if◌then◌else◌, List, map, Option, Some, None, refl, sym, ap, ap₂, subst, arith, is_some, IfSome, length-map, admitted_bound, most_claims, most_shape, Fraction, whole, ◌*ℚ◌, ◌/ℚ◌, ◌≤ℚ◌, div_times, Sev, HasPartsOf48Bits, Pairs, Means, GridFreq, Fixed, Poisson, Bernoulli, Binomial, Gamma, GridCount, Exposed, Listed, probs_of, is_admitted, not-false, GridUnit, claims_of, claims_above_zero, shape_of, IsFreqKept, IsCountKept, IsCountMade, freq_with, pairs_of_counts, has_too_many_claims, passes}
+use Rattle.std.proofs.lemmas.Bool.{and_parts, ltb-true, or_parts}
+use Rattle.dl_types.proofs.Common.{ℕ, ◌≡◌, ◌∙◌, ◌*◌, ◌<◌, ◌<ℚ◌, ◌&&◌, not, nat_lt, Bool, true, false, if◌then◌else◌, List, map, Option, Some, None, refl, sym, ap, ap₂, subst, arith, is_some, IfSome, length-map, admitted_bound, most_claims, most_shape, Fraction, whole, ◌*ℚ◌, ◌/ℚ◌, ◌≤ℚ◌, div_times, Sev, HasPartsOf48Bits, Pairs, Means, GridFreq, Fixed, Poisson, Bernoulli, Binomial, Gamma, GridCount, Exposed, Listed, probs_of, is_admitted, not-false, GridUnit, claims_of, claims_above_zero, shape_of, IsFreqKept, IsCountKept, IsCountMade, freq_with, pairs_of_counts, has_too_many_claims, passes}
 use Rattle.dl_limits.specs.Limits.{most_expected, rarest_claims}
 use Rattle.dl_exact.specs.Fraction.{◌-ℚ◌, ◌over◌}
 use Rattle.dl_plan.specs.Valid.{IsNewZero}
@@ -35,10 +35,6 @@ admitted_is x h = let parts = go x.num x.den h in record { num = parts.0; den = 
 
 small_admitted : (x : Fraction) → IsSmall x → HasPartsOf48Bits x
 small_admitted x small = record { num = omega (arith, small.num); den = omega (arith, small.den) }
-
-both : (a b : Bool) → (a && b) ≡ true → b ≡ true
-both true b h = h
-both false b h = absurd (cc)
 
 -- ---- with n claims expected
 
@@ -83,13 +79,7 @@ freq_exposed (Binomial p span) n = tt
 freq_exposed (Gamma c span) n = tt
 
 freq_expected : (f : GridFreq) (n : Fraction) → IsFreqKept f n → HasPartsOf48Bits (expected_of_plan (freq_with f n))
-freq_expected (Fixed span) n kept = subst HasPartsOf48Bits (sym (whole_is n kept.whole)) kept.admitted
-freq_expected (Poisson span) n kept = kept.admitted
-freq_expected (Bernoulli span) n kept = kept.admitted
-freq_expected (Binomial p span) n kept =
-    subst HasPartsOf48Bits
-    (sym (ap (λ t. t *ℚ p) (whole_is (n /ℚ p) kept.whole.whole) ∙ div_times n p kept.whole.above)) kept.admitted
-freq_expected (Gamma c span) n kept = kept.admitted
+freq_expected f n kept = subst HasPartsOf48Bits (sym (freq_expects f n kept)) kept.admitted
 
 -- ---- a change of its probability of no claim
 
@@ -137,7 +127,7 @@ pub claims_admitted : (bs : Fraction) (u : GridUnit) (k : GridCount) (n : Option
 claims_admitted bs u k None same = tt
 claims_admitted bs u (Exposed e f) (Some n) same =
     let told = given (has_count u e && is_admitted (expected_count bs u e)) (expected_count bs u e) n (sym same) in
-    subst HasPartsOf48Bits (sym told.0) (admitted_is (expected_count bs u e) (both _ _ told.1))
+    subst HasPartsOf48Bits (sym told.0) (admitted_is (expected_count bs u e) (and_parts _ _ told.1).1)
 claims_admitted bs u (Listed counts probs) (Some n) same = absurd (cc)
 
 -- a change of its probability of no claim that breaks no rule
@@ -187,10 +177,6 @@ module _ (pairs : Pairs) (sev : Sev) (means : Means sev pairs) (n : Fraction) (x
   small_above false fine there few = absurd (cc)
 
 module _ (pairs : Pairs) (sev : Sev) (means : Means sev pairs) where
-  first : (a b : Bool) → (a || b) ≡ false → a ≡ false
-  first true b h = absurd (cc)
-  first false b h = refl
-
   -- the claims above 0 of a count without a greatest number are few
   pub made_thinned : (k : GridCount) (n : Option Fraction) (freq : Freq) → AreKept k n (claims_above_zero pairs n)
       → IsCountMade k n freq → IsUnbounded freq
@@ -210,6 +196,6 @@ module _ (pairs : Pairs) (sev : Sev) (means : Means sev pairs) where
   made_thinned (Exposed e (Gamma c span)) (Some n) freq are made unbounded =
       small_above pairs sev means n (expected_of_plan freq) (ap expected_of_plan made) (is_admitted (thinned pairs n))
       refl (not-false _ (number_there e (Gamma c span) (Some n) (claims_above_zero pairs (Some n)) are.fine).1)
-      (first _ _ are.few)
+      (or_parts _ _ are.few).0
   made_thinned (Listed counts probs) n freq are made unbounded =
       absurd (subst IsUnbounded made.table.2 unbounded)

@@ -1,9 +1,9 @@
 -- The units of a plan, one after another.
-use Rattle.dl_types.proofs.Common.{Bool, true, false, if◌then◌else◌, IfSome, ◌≡◌, ◌∙◌, ℕ, zero, suc, ◌+◌, ◌<◌, ◌≤◌, List, [], ◌∷◌, ◌++◌, take, length, get_or, Option, Some, None, refl, sym, ap, subst, arith, bytes_eq, All, Ok, Err, CheckFault, Typing, OutOfMemory, AnswersUnit, AnswersUnits, All-nil, All-cons, All-head, All-tail, most_units, Fraction, whole, ◌<ℚ◌, Settings, IsValidUnit, UnitAst, ◌else◌, in_turn, Span, names_of, cells_asked, first_fault_of, first_fault, breaks, duplicate_name, too_many_units, IsSet, Program, IsWellFormed, Plan, else_first, not_at, never}
+use Rattle.dl_types.proofs.Common.{Bool, true, false, if◌then◌else◌, IfSome, ◌≡◌, ◌∙◌, ℕ, zero, suc, ◌+◌, ◌<◌, ◌≤◌, List, [], ◌∷◌, ◌++◌, take, length, get_or, Option, Some, None, refl, sym, ap, subst, arith, bytes_eq, All, Ok, Err, CheckFault, Typing, OutOfMemory, AnswersUnit, AnswersUnits, All-nil, All-cons, All-head, All-tail, most_units, Fraction, whole, ◌<ℚ◌, Settings, IsValidUnit, UnitAst, ◌else◌, in_turn, Span, cells_asked, first_fault_of, first_fault, breaks, duplicate_name, too_many_units, IsSet, Program, IsWellFormed, Plan, else_first, not_at, never}
 use Rattle.std.proofs.lemmas.Bool.{both_ways}
 use Rattle.std.proofs.Common.{◌≢◌}
 use Rattle.std.specs.List.{AllZip, AllPairs}
-use Rattle.std.proofs.lemmas.List.{map-append, take_more, take_all}
+use Rattle.std.proofs.lemmas.List.{take_all}
 use Rattle.std.proofs.lemmas.List.Quantifiers.{all_pairs_push}
 use Rattle.std.proofs.lemmas.Slice.Zip.{all_zipped_more, AllZip-long}
 use Rattle.std.proofs.lemmas.Slice.Eq.{bytes_eq-Decides}
@@ -22,6 +22,7 @@ use Rattle.dl_types.specs.Answer.{StopsAt, TellsFault, AnswersWith}
 unfoldable use Rattle.dl_types.specs.Severities.{named, mixture_of}
 use Rattle.dl_types.specs.Severities.{body_span}
 use Rattle.dl_types.specs.declared.fault.TypeFault.{TypeFault}
+use Rattle.dl_types.proofs.Naming.{one_more}
 use Rattle.dl_types.proofs.RuleLists.{both}
 use Rattle.dl_ast.specs.declared.ast.MixAst.{MixAst}
 use Rattle.dl_ast.specs.declared.ast.SevBody.{SevBody}
@@ -80,13 +81,11 @@ module _ (settings : Settings) (port : Option PortHead) (sevs : List SevDef) (un
       → (first_fault_of settings port sevs (take i units) u ≡ None) × IsUnitOf settings.bs sevs u m
       × IsValidUnit (cells_asked settings) m → Planned settings port sevs units (i + 1) (made ++ m ∷ [])
   planned_more m before lt is told =
-      let one_more : take (i + 1) units ≡ take i units ++ u ∷ [] = take_more units i u lt
-      ∙ ap (λ (v : UnitAst). take i units ++ v ∷ []) (sym is) in
       let others = new_name settings.bs sevs u.name.text (take i units) made before.meant
       (other_names (take i units) u (no_duplicate settings port sevs (take i units) u told.0)) in
       record {
         turned = turn_passed (first_fault_of settings port sevs) units i u before.turned lt is (sym told.0);
-        meant = subst (λ us. AllZip (IsUnitOf settings.bs sevs) us (made ++ m ∷ [])) (sym one_more)
+        meant = subst (λ us. AllZip (IsUnitOf settings.bs sevs) us (made ++ m ∷ [])) (sym (one_more units i u lt is))
             (all_zipped_more (IsUnitOf settings.bs sevs) (take i units) made u m before.meant told.1);
         valid = All-append (IsValidUnit (cells_asked settings)) made (m ∷ []) before.valid
             (All-cons (IsValidUnit (cells_asked settings)) m [] told.2 (All-nil (IsValidUnit (cells_asked settings))));
@@ -109,12 +108,6 @@ planned_all settings port sevs units i made before le = (
   before.valid,
   before.apart,
 )
-
-pub names_more : (units : List UnitAst) (i : ℕ) (u : UnitAst) → i < length units → u ≡ get_or units i u
-    → names_of (take i units) ++ u.name.text ∷ [] ≡ names_of (take (i + 1) units)
-names_more units i u lt is =
-    sym (ap names_of (take_more units i u lt ∙ ap (λ (v : UnitAst). take i units ++ v ∷ []) (sym is))
-    ∙ map-append (λ (v : UnitAst). v.name.text) (take i units) (u ∷ []))
 
 -- ---- the program
 

@@ -2,12 +2,13 @@
 use Rattle.std.proofs.Common.{drop}
 use Rattle.std.specs.List.{take-map}
 use Rattle.dl_exact.proofs.Sums.{sum_over_map}
-use Rattle.std.proofs.lemmas.List.{get_or-map, map-append, take_more, take_all, take-append-drop}
+use Rattle.std.proofs.lemmas.List.{get_or-map, take_all}
 use Rattle.dl_types.proofs.Common.{◌≡◌, ◌∙◌, ℕ, suc, zero, ◌+◌, ◌<◌, ◌≤◌, List, [], ◌∷◌, ◌++◌, length, map, take, get_or, whole, Bool, true, false, if◌then◌else◌, Option, Some, None, refl, sym, ap, subst, arith, All, All-nil, All-cons, Fraction, ◌≤ℚ◌, HasPartsOf48Bits, is_admitted, admitted, length-map, whole_num, whole_den}
 use Rattle.dl_exact.specs.Fraction.{◌+ℚ◌}
 unfoldable use Rattle.dl_exact.specs.Sum.{sum_over}
 use Rattle.dl_exact.proofs.Laws.{plus_assoc, plus_comm, plus_zero, zero_plus, le_plus, le_trans}
 unfoldable use Rattle.dl_types.specs.Factor.{running_sum}
+use Rattle.dl_types.proofs.Naming.{maps_more, maps_split}
 use Rattle.dl_types.proofs.PlannedCounts.{admitted_is}
 
 if_some : (b : Bool) (o : Option Fraction) (s : Fraction) → (if b then o else None) ≡ Some s → (b ≡ true) × (o ≡ Some s)
@@ -92,20 +93,14 @@ module _ {A : Type 0} (f : A → Fraction) (xs : List A) (i : ℕ) (x : A) (lt :
     (next : o ≡ admitted true (s +ℚ f x)) where
   sums_step : running_sum (whole 0) (map f (take (i + 1) xs)) ≡ o
   sums_step =
-      let one_more : take (i + 1) xs ≡ take i xs ++ x ∷ [] =
-      take_more xs i x lt ∙ ap (λ y. take i xs ++ y ∷ []) (sym is) in
-      let mapped : map f (take (i + 1) xs) ≡ map f (take i xs) ++ f x ∷ [] =
-      ap (map f) one_more ∙ map-append f (take i xs) (x ∷ []) in
-      ap (running_sum (whole 0)) mapped ∙ running_more (whole 0) (map f (take i xs)) (f x) s so_far ∙ sym next
+      ap (running_sum (whole 0)) (sym (maps_more xs i x lt is f)) ∙ running_more (whole 0) (map f (take i xs)) (f x) s so_far ∙ sym next
 
   pub sums_more : (t : Fraction) → o ≡ Some t → running_sum (whole 0) (map f (take (i + 1) xs)) ≡ Some t
   sums_more t e = sums_step ∙ e
 
   pub sums_none : o ≡ None → None ≡ running_sum (whole 0) (map f xs)
   sums_none e =
-      let split : map f xs ≡ map f (take (i + 1) xs) ++ map f (drop (i + 1) xs) =
-      ap (map f) (sym (take-append-drop (i + 1) xs)) ∙ map-append f (take (i + 1) xs) (drop (i + 1) xs) in
-      sym (ap (running_sum (whole 0)) split
+      sym (ap (running_sum (whole 0)) (maps_split f xs (i + 1))
       ∙ running_none (whole 0) (map f (take (i + 1) xs)) (map f (drop (i + 1) xs)) (sums_step ∙ e))
 
 pub sums_all : {A : Type 0} (f : A → Fraction) (xs : List A) (i : ℕ) (s : Fraction) → length xs ≤ i

@@ -1,11 +1,10 @@
 -- The first severity with a name, one severity after another.
-use Rattle.dl_types.proofs.Common.{◌≡◌, ◌∙◌, ℕ, suc, ◌+◌, ◌<◌, ◌≤◌, List, [], ◌∷◌, ◌++◌, length, take, get_or, Bool, true, false, Some, None, refl, sym, ap, bytes_eq, if◌then◌else◌}
+use Rattle.dl_types.proofs.Common.{◌≡◌, ◌∙◌, ℕ, suc, ◌+◌, ◌<◌, ◌≤◌, List, ◌∷◌, length, get_or, Bool, true, false, Some, None, refl, sym, ap, bytes_eq, if◌then◌else◌}
 use Rattle.std.proofs.Common.{drop, drop-cons, add-one, ◌≢◌}
-use Rattle.std.proofs.lemmas.List.{drop_all, map-append, take_more}
+use Rattle.std.proofs.lemmas.List.{drop_all}
 use Rattle.std.proofs.lemmas.Slice.Eq.{bytes_eq-Decides}
 use Rattle.dl_ast.specs.declared.ast.SevDef.{SevDef}
 unfoldable use Rattle.dl_types.specs.Severities.{named}
-use Rattle.dl_types.specs.UnitNames.{severity_names}
 
 named_one : (d : SevDef) (ds : List SevDef) (name : List ℕ) (t : Bool) → bytes_eq d.name.text name ≡ t
     → named (d ∷ ds) name ≡ (if t then Some d.mix else named ds name)
@@ -36,9 +35,3 @@ named_later ds i d name lt is other =
 pub named_none : (ds : List SevDef) (i : ℕ) (name : List ℕ) → length ds ≤ i → named (drop i ds) name ≡ None
 unfolding named
 named_none ds i name le = rw (drop_all i ds le) refl
-
-pub severity_names_more : (ds : List SevDef) (i : ℕ) (d : SevDef) → i < length ds → d ≡ get_or ds i d
-    → severity_names (take i ds) ++ d.name.text ∷ [] ≡ severity_names (take (i + 1) ds)
-severity_names_more ds i d lt is =
-    sym (ap severity_names (take_more ds i d lt ∙ ap (λ (v : SevDef). take i ds ++ v ∷ []) (sym is))
-    ∙ map-append (λ (v : SevDef). v.name.text) (take i ds) (d ∷ []))

@@ -1,5 +1,5 @@
 -- What a unit in whole buckets keeps where the rules on it are not broken, and its unit of the plan.
-use Rattle.dl_types.proofs.Common.{ℕ, ◌≡◌, ◌∙◌, Bool, true, false, List, [], ◌∷◌, Option, Some, None, Sev, Clause, refl, sym, ap, ap₂, subst, Ok, Err, Fraction, Settings, IsValidUnit, Span, at_if, not_at, GridUnit, GridCount, Exposed, Listed, ◌++◌, has_shares, fractions_too_fine, IsGridUnit, off_grid_cession, final_severity, CheckFault, Typing, OutOfMemory, expected_claims, claims_of, claims_above_zero, breaks, cells_asked, fault_on_grid, IsWholeCount, IsCountKept, IsCountMade, IsCedeOf, too_fine, exposed_too_fine, too_many_claims, has_too_many_claims, horizon_too_large, most_amount_at}
+use Rattle.dl_types.proofs.Common.{ℕ, ◌≡◌, ◌∙◌, Bool, true, false, List, [], ◌∷◌, Option, Some, None, Sev, Clause, refl, sym, ap, ap₂, subst, Ok, Err, Fraction, Settings, Span, at_if, not_at, GridUnit, GridCount, Exposed, Listed, ◌++◌, has_shares, fractions_too_fine, IsGridUnit, off_grid_cession, final_severity, CheckFault, Typing, OutOfMemory, expected_claims, claims_of, claims_above_zero, breaks, cells_asked, fault_on_grid, IsWholeCount, IsCountKept, IsCountMade, IsCedeOf, too_fine, exposed_too_fine, too_many_claims, has_too_many_claims, horizon_too_large, most_amount_at}
 use Rattle.dl_buckets.specs.GridKept.{IsWithin}
 use Rattle.dl_buckets.specs.Clauses.{made_of}
 use Rattle.std.specs.Prelude.{Result, OnOk, IfOk, IfErr}
@@ -15,7 +15,6 @@ use Rattle.dl_types.specs.declared.fault.TypeFault.{TypeFault}
 use Rattle.dl_types.specs.Answer.{StopsAt, TellsFault, AnswersGrid}
 use Rattle.dl_types.specs.Claimed.{IsFinal, AreClaims, IsNumberOf, IsUnitCount, count_of, number_of}
 use Rattle.dl_types.specs.Faults.{first_broken, clause_rules, whole_rules, number_rules, count_rules, change_rules, grid_rules}
-use Rattle.dl_types.specs.Plans.{IsUnitOn}
 use Rattle.dl_types.specs.Rules.{zero_base}
 use Rattle.dl_types.proofs.Aggregates.{aggregate_valid}
 use Rattle.dl_types.proofs.FineClaims.{count_probs, fine_left, occ_shares, agr_shares}
@@ -149,37 +148,6 @@ module _ (bs : Fraction) (unit : ℕ) (u : GridUnit) (grid : IsGridUnit u) (none
   pub kept_is : IsCountKept u.count n
   kept_is = count_kept u.count n above are_kept
 
-  -- ---- the unit of the plan
-
-  module _ (cells : ℕ) (ceded : off_grid_cession u ≡ None) (near : horizon_too_large cells (made_of u.agr) ≡ None)
-      (within : IsWithin (most_amount_at cells) u) (text : List ℕ)
-      (made : UnitOfPlan) (name : made.name ≡ text) (zero : made.zero ≡ u.zero)
-      (base : zero_base u.count u.zero n ≡ None) (sev : IsFinal u made.sev)
-      (freq : IsCountMade u.count n made.freq)
-      (cede : IsCedeOf u.agr made.cede) where
-    pub unit_is : IsUnitOn bs text u made
-    unit_is = record {
-      name = name;
-      severity = sev.means;
-      count = made_is bs u u.count n made.freq claims_is kept_is freq;
-      clause = cede.same;
-      zero = zero;
-    }
-
-    pub unit_valid : IsValidUnit cells made
-    unit_valid =
-        let valid = made_valid u.count n made.freq kept_is freq in
-        record {
-          amounts = sev.near (most_amount_at cells) within.sev;
-          items = λ _. sev.few;
-          count = valid.0;
-          expected = valid.1;
-          thinned = made_thinned (final_severity u) made.sev sev.means u.count n made.freq are_kept freq;
-          clause = aggregate_valid cells u ceded fine_occ near within made.sev sev.means made.cede cede;
-          zero = subst (λ z. IfSome z (IsNewZero made.freq)) (sym zero)
-              (made_zero u.count n u.zero made.freq kept_is freq grid.zero base);
-        }
-
 -- ---- all rules on the unit in whole buckets
 
 -- a check of the unit in whole buckets stops as a check of its part
@@ -236,12 +204,30 @@ module _ (settings : Settings) (unit : ℕ) (u : GridUnit) (grid : IsGridUnit u)
       → AnswersGrid settings unit text u (Ok made)
   grid_answer made name zero sev freq cede =
       let parts = grid_parts settings unit u none in
-      let ceded = (layered_is unit u grid parts.0).1 in (
+      let ceded = (layered_is unit u grid parts.0).1 in
+      let n = expected_claims settings.bs u in
+      let kept = kept_is settings.bs unit u grid parts.1 in
+      let valid = made_valid u.count n made.freq kept freq in (
         none,
-        unit_is settings.bs unit u grid parts.1 (cells_asked settings) ceded parts.2 within text made name zero parts.3
-            sev freq cede,
-        unit_valid settings.bs unit u grid parts.1 (cells_asked settings) ceded parts.2 within text made name zero parts.3
-            sev freq cede,
+        record {
+          name = name;
+          severity = sev.means;
+          count = made_is settings.bs u u.count n made.freq (claims_is settings.bs unit u grid parts.1) kept freq;
+          clause = cede.same;
+          zero = zero;
+        },
+        record {
+          amounts = sev.near (most_amount_at (cells_asked settings)) within.sev;
+          items = λ _. sev.few;
+          count = valid.0;
+          expected = valid.1;
+          thinned = made_thinned (final_severity u) made.sev sev.means u.count n made.freq
+              (are_kept settings.bs unit u grid parts.1) freq;
+          clause = aggregate_valid (cells_asked settings) u ceded (fine_occ settings.bs unit u grid parts.1) parts.2
+              within made.sev sev.means made.cede cede;
+          zero = subst (λ z. IfSome z (IsNewZero made.freq)) (sym zero)
+              (made_zero u.count n u.zero made.freq kept freq grid.zero parts.3);
+        },
       )
 
   -- the unit is made of these parts, or there is no room for it

@@ -1,8 +1,6 @@
 -- The budget of a unit by the kind of its count.
-use Rattle.dl_unit.proofs.Common.{ℕ, ◌≡◌, ◌<◌, arith, refl, sym, subst, Fraction, Poisson, Gamma, thinned_mean, poisson_budget, gamma_budget}
+use Rattle.dl_unit.proofs.Common.{ℕ, ◌≡◌, ◌<◌, arith, refl, sym, subst, Fraction, Poisson, Gamma, thinned_mean, poisson_budget, gamma_budget, IsUnbounded, claims_budget}
 use Rattle.dl_plan.specs.declared.plan.Unit.{Unit as UnitOfPlan}
-use Rattle.dl_plan.specs.Count.{IsUnbounded}
-use Rattle.dl_budget.specs.Claims.{claims_budget}
 use Rattle.dl_budget.proofs.Counts.{poisson_value, gamma_value}
 
 pub poisson_unbounded : (u : UnitOfPlan) (mean : Fraction) → u.freq ≡ Poisson mean → IsUnbounded u.freq

@@ -1,23 +1,13 @@
 -- The probability of no claim: claims of amount 1 alone, on one cell.
-use Rattle.dl_unit.proofs.Common.{ℕ, zero, suc, ◌≡◌, ◌+◌, ◌-◌, ◌*◌, ◌^◌, ◌<◌, ◌≤◌, List, [], ◌∷◌, length, arith, inl, inr, refl, sym, ap, ap₂, subst, ◌∙◌, fun_ext, Fraction, whole, ◌over◌, ◌*ℚ◌, Iv, low_at, high_at, spread, count_below, Item, Sev, probability_of, thinned_mean, weight_at, cell, compound_of, GridEncloses}
+use Rattle.dl_unit.proofs.Common.{ℕ, zero, suc, ◌≡◌, ◌+◌, ◌-◌, ◌*◌, ◌^◌, ◌<◌, ◌≤◌, List, [], ◌∷◌, length, arith, inl, inr, refl, sym, ap, ap₂, subst, ◌∙◌, fun_ext, Fraction, whole, ◌over◌, ◌*ℚ◌, Iv, low_at, high_at, spread, count_below, Item, Sev, probability_of, thinned_mean, weight_at, cell, compound_of, GridEncloses, IsPlanScale, most_cells_at, most_amount_at, long_bits, ◌-ℚ◌, times_one, whole_spread, expected_count, IsClaimCount, HasPartsOf48Bits, claims_alone, IsNewZero, IsValidUnit, at_zero, power, count_weights, claims_budget, count_budget, none_budget}
 use Rattle.std.proofs.lemmas.Bool.Decides.{leb_tells}
 use Rattle.std.proofs.lemmas.List.Elements.{All-cons, All-nil}
-use Rattle.dl_limits.specs.Limits.{IsPlanScale, most_cells_at, most_amount_at, long_bits}
-use Rattle.dl_exact.specs.Fraction.{◌-ℚ◌}
 unfoldable use Rattle.dl_exact.specs.Sum.{sum_to}
-use Rattle.dl_exact.proofs.Laws.{times_one}
 use Rattle.dl_grid.specs.Room.{IsGridSize}
-use Rattle.dl_grid.proofs.PlaceSums.{whole_spread}
 use Rattle.dl_plan.specs.declared.plan.Freq.{Freq}
-use Rattle.dl_plan.specs.Count.{expected_count, IsClaimCount}
-use Rattle.dl_plan.specs.Fine.{HasPartsOf48Bits}
-use Rattle.dl_plan.specs.Valid.{claims_alone, IsNewZero, IsValidUnit}
-unfoldable use Rattle.dl_model.specs.Compound.{at_zero, power}
 use Rattle.dl_model.specs.Series.{Series, Holds}
-use Rattle.dl_model.specs.Plans.{count_weights}
 use Rattle.dl_model.proofs.ChangedZero.{sub_zero}
 use Rattle.dl_model.proofs.CompoundLaws.{cell_stays}
-use Rattle.dl_budget.specs.Claims.{claims_budget, count_budget, none_budget}
 
 -- the items of amount 1 alone
 abbrev pub one_item : List Item

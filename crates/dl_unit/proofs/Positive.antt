@@ -1,13 +1,7 @@
 -- Claims above 0.
-use Rattle.dl_unit.proofs.Common.{zero, suc, ◌≡◌, [], ◌∷◌, arith, refl, sym, ap, ◌∙◌, ne_eqb, Fraction, ◌over◌, whole, ◌+ℚ◌, ◌/ℚ◌, over_zero, Sev, conditioned, probability_of, pairs_of, Means}
-use Rattle.std.proofs.Common.{nat_lt}
+use Rattle.dl_unit.proofs.Common.{zero, suc, ◌≡◌, [], ◌∷◌, arith, refl, sym, ap, ◌∙◌, ne_eqb, Fraction, ◌over◌, whole, ◌+ℚ◌, ◌/ℚ◌, over_zero, Sev, conditioned, probability_of, pairs_of, Means, nat_lt, zero-lt-suc, lt-ltb, sum_over, zero_plus, Pairs, probability}
 use Rattle.std.specs.Prelude.{filter, map}
-use Rattle.std.proofs.Math.Nat.{zero-lt-suc}
-use Rattle.std.proofs.lemmas.Bool.{lt-ltb}
-use Rattle.dl_exact.specs.Sum.{sum_over}
-use Rattle.dl_exact.proofs.Laws.{zero_plus}
 use Rattle.dl_exact.proofs.Over.{over_self}
-use Rattle.dl_plan.specs.Severity.{Pairs, probability}
 
 pub no_parts : (x : Fraction) → x.num ≡ 0 → x ≡ whole 0
 no_parts x e = sym (over_self x) ∙ ap (λ n. n over x.den) e ∙ over_zero x.den x.positive

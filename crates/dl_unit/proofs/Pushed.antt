@@ -1,8 +1,6 @@
 -- Lists of cells as loops make them: the cells so far, and the next.
-use Rattle.dl_unit.proofs.Common.{ℕ, ◌≡◌, ◌+◌, ◌<◌, List, [], ◌∷◌, length, arith, sym, ◌∙◌, Iv, low_at, high_at}
-use Rattle.std.proofs.Common.{◌++◌}
+use Rattle.dl_unit.proofs.Common.{ℕ, ◌≡◌, ◌+◌, ◌<◌, List, [], ◌∷◌, length, arith, sym, ◌∙◌, Iv, low_at, high_at, ◌++◌, low_at_front, high_at_front, low_at_pushed, high_at_pushed}
 use borrow.Author.Count.{below_more as more_below}
-use Rattle.dl_grid.proofs.PlaceSums.{low_at_front, high_at_front, low_at_pushed, high_at_pushed}
 
 pub low_pushed : {B : ℕ} (cells : List (Iv B)) (cell : Iv B) (n : ℕ) (f : ℕ → ℕ) → length cells ≡ n
     → ((s : ℕ) → s < n → low_at cells s ≡ f s) → cell.lo ≡ f n → (s : ℕ) → s < n + 1

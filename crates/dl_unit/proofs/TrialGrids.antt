@@ -1,13 +1,6 @@
 -- The grid of one trial: cell 0 is written last, and what comes of it is a grid of small spread.
-use Rattle.dl_unit.proofs.Common.{ℕ, ◌≡◌, ◌+◌, ◌-◌, ◌*◌, ◌/◌, ◌^◌, ◌<◌, ◌≤◌, List, length, arith, inl, inr, sym, ap, ◌∙◌, min, div_ceil, cases_lt, pow_pos, Fraction, ◌over◌, div_ceil_least, part_within, Iv, low_at, high_at, spread, all_at_zero, IsGrid, below_nothing, below_same, below_le, below_plus, cell, IsWithinOne, fixed, binomial, compound, GridEncloses, Item, weight_at, low_trial, high_trial}
-use Rattle.std.proofs.Common.{set, get_or, subst₂}
-use Rattle.dl_exact.specs.Sum.{sum_to}
-use Rattle.dl_grid.proofs.CellLaws.{high_at_get, low_at_read, high_at_read}
-use Rattle.dl_exact.proofs.Counts.{below_more}
-use Rattle.dl_grid.proofs.PlaceSums.{width_at, low_within, width_within, whole_mass, whole_spread}
+use Rattle.dl_unit.proofs.Common.{ℕ, ◌≡◌, ◌+◌, ◌-◌, ◌*◌, ◌/◌, ◌^◌, ◌<◌, ◌≤◌, List, length, arith, inl, inr, ap, ◌∙◌, min, div_ceil, cases_lt, pow_pos, Fraction, ◌over◌, div_ceil_least, part_within, Iv, low_at, high_at, spread, all_at_zero, IsGrid, below_nothing, below_same, below_le, below_plus, cell, IsWithinOne, fixed, binomial, compound, GridEncloses, Item, weight_at, low_trial, high_trial, set, get_or, high_at_get, low_at_read, high_at_read, below_more, width_at, low_within, width_within, whole_mass, whole_spread, low_added, high_added, high_kept, high_joined}
 use Rattle.dl_grid.proofs.EndLists.{low_le_high}
-use Rattle.dl_model.specs.Series.{Holds}
-use Rattle.dl_grid.proofs.CellSets.{low_added, high_added, high_kept, high_joined}
 use Rattle.dl_unit.proofs.Places.{places}
 use Rattle.dl_unit.proofs.Trials.{trial_mass, trial_width, zero_below, trial_encloses}
 
@@ -145,6 +138,5 @@ pub grid_encloses : {B : ℕ} (claim g : List (Iv B)) (q : Fraction) (f : ℕ �
     → GridEncloses claim (compound (fixed 1) f) → GridEncloses g (compound (binomial 1 q.num q.den) f)
 grid_encloses {B} claim g q f within proper many low high of_claim y inside =
     let here : y < length claim = omega (arith, many) in
-    subst₂ (λ l h. Holds (cell (binomial 1 q.num q.den) f y) (λ N. sum_to N (binomial 1 q.num q.den)) (l over 2 ^ B)
-    (h over 2 ^ B)) (sym (low y here)) (sym (high y here))
+    rw (low y here, high y here)
     (trial_encloses (2 ^ B) (length claim) q (low_at claim) (high_at claim) f (pow_pos B) within proper of_claim y here)

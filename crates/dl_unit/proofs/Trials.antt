@@ -1,16 +1,6 @@
 -- What one trial is worth, from the grid of one claim: its mass, its spread, and what it encloses.
-use Rattle.dl_unit.proofs.Common.{ℕ, zero, suc, ◌≡◌, ◌+◌, ◌-◌, ◌*◌, ◌/◌, ◌<◌, ◌≤◌, arith, inl, inr, sym, ap, subst, ◌∙◌, min, div_ceil, cases_lt, Fraction, ◌over◌, ◌+ℚ◌, ◌*ℚ◌, div_ceil_least, over_zero, all_at_zero, count_below, below_nothing, below_le, below_plus, below_constant, cell, fixed, binomial, IsWithinOne, IsSeverity, compound, trial, compound_proper, low_trial, high_trial}
-use Rattle.std.proofs.Common.{mul-le-mul_left, mul-le-mul_right}
-use Rattle.std.proofs.Math.Nat.{div-mul-le_self, le_of_mul-le-mul_right, add-sub_of_le}
-use Rattle.dl_exact.specs.Fraction.{◌≤ℚ◌}
-use Rattle.dl_exact.proofs.Laws.{le_trans, le_of_eq, zero_le, times_one, times_zero, plus_comm, times_comm}
-use Rattle.dl_exact.proofs.Denominators.{over_one}
+use Rattle.dl_unit.proofs.Common.{ℕ, zero, suc, ◌≡◌, ◌+◌, ◌-◌, ◌*◌, ◌/◌, ◌<◌, ◌≤◌, arith, inl, inr, sym, ap, subst, ◌∙◌, min, div_ceil, cases_lt, Fraction, ◌over◌, ◌+ℚ◌, ◌*ℚ◌, div_ceil_least, over_zero, all_at_zero, count_below, below_nothing, below_le, below_plus, below_constant, cell, fixed, binomial, IsWithinOne, IsSeverity, compound, trial, compound_proper, low_trial, high_trial, mul-le-mul_left, mul-le-mul_right, div-mul-le_self, le_of_mul-le-mul_right, add-sub_of_le, ◌≤ℚ◌, le_trans, le_of_eq, zero_le, times_one, times_zero, plus_comm, times_comm, over_one, below_times, below_first, at_zero, Encloses, one_trial_cell, finite_encloses, severity_between}
 use Rattle.dl_iv.proofs.Operations.{add_low, add_high, scale_low, scale_high, enclose_low, enclose_high}
-use Rattle.dl_exact.proofs.Counts.{below_times, below_first}
-use Rattle.dl_model.specs.Compound.{at_zero}
-use Rattle.dl_model.specs.Family.{Encloses}
-use Rattle.dl_model.proofs.Beginnings.{one_trial_cell}
-use Rattle.dl_model.proofs.FiniteCounts.{finite_encloses, severity_between}
 use Rattle.dl_exact.proofs.Sums.{item_le_sum}
 
 -- ---- mass
@@ -61,9 +51,7 @@ pub trial_width : (S : ℕ) (q : Fraction) (lo hi : ℕ → ℕ) (y : ℕ) → q
 trial_width S q lo hi y within order =
     let d : ℕ = hi y - lo y in
     let e : lo y + d ≡ hi y = omega (arith, order) in
-    let part : div_ceil (hi y * q.num) q.den ≤ lo y * q.num / q.den + d + min (hi y) 1 =
-    subst (λ h. div_ceil (h * q.num) q.den ≤ lo y * q.num / q.den + d + min h 1) e
-    (part_apart (lo y) d q.num q.den q.positive within) in
+    let part = rw e at (part_apart (lo y) d q.num q.den q.positive within) in
     omega (arith, part, rest_apart (S * (q.den - q.num)) q.den y q.positive)
 
 -- ---- enclosure
@@ -76,13 +64,12 @@ least_above S n x top high = elim (cases_lt S n) [
 
 rest_low : (S n b y : ℕ) → 0 < S → 0 < b → all_at_zero (S * n / b) y over S ≤ℚ n over b *ℚ at_zero y
 unfolding all_at_zero at_zero
-rest_low S n b zero pos p = subst (λ t. (S * n / b) over S ≤ℚ t) (sym (times_one (n over b))) (enclose_low S pos n b p)
+rest_low S n b zero pos p = rw (times_one (n over b)) (enclose_low S pos n b p)
 rest_low S n b (suc y) pos p = le_trans _ _ _ (le_of_eq _ _ (over_zero S pos)) (zero_le _)
 
 rest_high : (S n b y : ℕ) → 0 < S → 0 < b → n over b *ℚ at_zero y ≤ℚ all_at_zero (div_ceil (S * n) b) y over S
 unfolding all_at_zero at_zero
-rest_high S n b zero pos p = subst (λ t. t ≤ℚ div_ceil (S * n) b over S) (sym (times_one (n over b)))
-    (enclose_high S pos n b p)
+rest_high S n b zero pos p = rw (times_one (n over b)) (enclose_high S pos n b p)
 rest_high S n b (suc y) pos p = le_trans _ _ _ (le_of_eq _ _ (times_zero (n over b))) (zero_le _)
 
 -- the cell y of one trial in the order of its ends
@@ -96,12 +83,11 @@ pub trial_encloses : (S K : ℕ) (q : Fraction) (lo hi : ℕ → ℕ) (f : ℕ �
     (compound (binomial 1 q.num q.den) f)
 trial_encloses S K q lo hi f pos within proper claim =
     finite_encloses (binomial 1 a b) f 1 all.add_up (λ n far. all.past n far) S K (low_trial S q lo) (high_trial S q hi)
-    (λ y h. subst (λ t. low_trial S q lo y over S ≤ℚ t) (sym (trial_cell f a b y q.positive))
+    (λ y h. rw (trial_cell f a b y q.positive)
     (add_low S pos _ _ _ _ (scale_low S pos (lo y) a b (f y) q.positive (severity_between S K lo hi f claim y h).0)
     (rest_low S (b - a) b y pos q.positive)))
     (λ y h. least_above S _ _ (top y)
-    (subst (λ t. t ≤ℚ (div_ceil (hi y * a) b + all_at_zero (div_ceil (S * (b - a)) b) y) over S)
-    (sym (trial_cell f a b y q.positive))
+    (rw (trial_cell f a b y q.positive)
     (add_high S pos _ _ _ _ (scale_high S pos (hi y) a b (f y) q.positive (severity_between S K lo hi f claim y h).1)
     (rest_high S (b - a) b y pos q.positive))))
   where

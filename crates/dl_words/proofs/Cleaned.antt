@@ -18,17 +18,18 @@ cleaned (Some ps) = if is_clean ps then Some ps else None
 
 cleaned_part : (p : Part) (o : Option (List Part)) → cleaned (with_part p o)
     ≡ (if is_clean_part p then with_part p (cleaned o) else None)
-cleaned_part p None = elim (cases_Bool (is_clean_part p)) [
-  | inl e ↦ rw e refl
-  | inr e ↦ rw e refl
-]
-cleaned_part p (Some ps) = go (is_clean_part p) refl (is_clean ps) refl
+cleaned_part p None = go (is_clean_part p)
   where
-    go : (a : Bool) → is_clean_part p ≡ a → (b : Bool) → is_clean ps ≡ b
-        → cleaned (with_part p (Some ps)) ≡ (if is_clean_part p then with_part p (cleaned (Some ps)) else None)
-    go true e true f = rw (e, f) refl
-    go true e false f = rw (e, f) refl
-    go false e b f = rw e refl
+    go : (a : Bool) → None ≡ (if a then with_part p None else None)
+    go true = refl
+    go false = refl
+cleaned_part p (Some ps) = go (is_clean_part p) (is_clean ps)
+  where
+    go : (a b : Bool) → (if a && b then Some (p ∷ ps) else None)
+        ≡ (if a then with_part p (if b then Some ps else None) else None)
+    go true true = refl
+    go true false = refl
+    go false b = refl
 
 -- the part goes, if it is not clean
 not_clean : (p : Part) (o : Option (List Part)) → is_clean_part p ≡ false → cleaned (with_part p o) ≡ None
@@ -99,11 +100,8 @@ value_same name word o q h = elim (cases_Bool (begins_plainly word)) [
 ]
   where
     or_none : (k : Kind) → begins_plainly word ≡ false → cleaned (value_kind name word k o) ≡ None
-    or_none ends n = refl
-    or_none (whole m v) n = refl
-    or_none (begins m) n = refl
     or_none plain n = not_clean (option name word) o n
-    or_none misfit n = refl
+    or_none _ n = refl
 
 pub same_cleaned : (words : List Text) (mode : Mode) → cleaned (clap_from mode words) ≡ cleaned (parts_from mode words)
 unfolding parts_from

@@ -1,6 +1,7 @@
 -- The answer to what `clap` found is the answer to the words.
-use Rattle.dl_words.proofs.Common.{◌≡◌, ◌∙◌, inl, inr, cases_Bool, ℕ, Bool, true, false, refl, sym, ap, ap₂, subst, List, [], ◌∷◌, ◌++◌, Option, Some, None, Result, Ok, Err, codes, true≢false, length, drop, arith, ◌≤◌, if◌then◌else◌, is_some, slice_get, nat_le, ◌&&◌, ◌||◌, option_and_then, option_map, unwrap_or, ⊤, Bor, is_ascii_digit, IsTrue, list_all, list_any, bytes_eq, append-nil, bytes_eq-Decides, nat_tests, all_of, rows_of, matches_of, IsDecimal, pointed, IsNumeral, decimal, percent, fraction, Asked, Form, Run, Fmt, Cert, Verify, Settings, UsageFault, Line, WordsFault, asks_of, command, Explains, ExplainsAsks, answer_in, asks_in, values_in, Values, are_taken, form_named, is_taken, Part, Mode, is_name, kind_of, parts_from, command_parts, positionals_of, option_values, option, positional, between, value, ended, Text, begins_plainly, is_bucket, is_number_within, admits, answer, to_parts, to_positionals, with_asks, words_of}
-use Rattle.std.proofs.lemmas.Bool.{and_left, and_right}
+use Rattle.dl_words.proofs.Common.{◌≡◌, ◌∙◌, inl, inr, cases_Bool, ℕ, Bool, true, false, refl, sym, ap, ap₂, List, [], ◌∷◌, ◌++◌, Option, Some, None, Result, Ok, Err, codes, true≢false, length, drop, arith, ◌≤◌, if◌then◌else◌, is_some, slice_get, nat_le, ◌&&◌, option_and_then, option_map, unwrap_or, Bor, is_ascii_digit, IsTrue, list_all, bytes_eq, append-nil, bytes_eq-Decides, nat_tests, all_of, rows_of, matches_of, IsDecimal, pointed, IsNumeral, decimal, percent, fraction, Asked, Form, Run, Settings, UsageFault, Line, WordsFault, asks_of, command, Explains, ExplainsAsks, answer_in, asks_in, values_in, Values, are_taken, form_named, is_taken, Part, is_name, command_parts, positionals_of, option_values, option, positional, between, Text, begins_plainly, is_bucket, is_number_within, admits, answer, to_parts, to_positionals, with_asks, words_of}
+use Rattle.std.proofs.Common.{IfSome}
+use Rattle.std.proofs.lemmas.Bool.{and_left, both_ways, false_from_ne_true, leb-true}
 use mathlib.Core.Path.{fun_ext}
 use Rattle.std.specs.Prelude.{take, find, ◌==◌}
 use Rattle.std.specs.Str.Parse.{IsNumeral as IsNumber}
@@ -15,32 +16,15 @@ use Rattle.dl_frac.proofs.NumeralLaws.{digit_or_not}
 use Rattle.dl_words.specs.declared.fault.UsageFault.TheVariants.{Ask}
 use Rattle.dl_words.specs.declared.fault.WordsFault.TheVariants.{Usage, OutOfMemory}
 use Rattle.dl_words.specs.Found.{form_in, list_of}
-use Rattle.dl_words.specs.Options.{Row, format_named, options}
+use Rattle.dl_words.specs.Options.{format_named, is_format}
 use Rattle.dl_words.proofs.Numerals.{both, numeral_test}
-use Rattle.dl_words.proofs.Reading.{clap_from, clap_kind, seen}
+use Rattle.dl_words.proofs.Reading.{clap_from}
 use Rattle.dl_words.proofs.AskLists.{lent}
-use Rattle.dl_words.proofs.Cleaned.{SameKind, alike, cleaned, hyphen, is_clean, kinds, same_cleaned}
+use Rattle.dl_words.proofs.Cleaned.{cleaned, is_clean, same_cleaned}
 use Rattle.dl_words.proofs.RowLemmas.{more}
-use Rattle.dl_words.proofs.Simulation.{bytes_same}
-use Rattle.dl_words.proofs.Whole.{AllNamed, IfParts, Matched, NamedIn, NamedKind, Unfit, all_named, named_kind, named_read, no_form, no_parts, stands_twice, with_named}
-
--- ---- the names of the words' parts
-
-kind_named : (w : Text) → NamedKind (clap_kind w) → SameKind w → NamedKind (kind_of w)
-kind_named w h (alike e) = subst NamedKind e h
-kind_named w h (hyphen e k n) = rw k tt
-
-parts_named : (words : List Text) (mode : Mode) → NamedIn mode → IfParts (parts_from mode words) AllNamed
-unfolding parts_from
-parts_named [] between n = tt
-parts_named [] (value name) n = tt
-parts_named [] ended n = tt
-parts_named (word ∷ rest) between n = named_read word (kind_of word) _
-    (kind_named word (named_kind word (seen word)) (kinds word)) (parts_named rest)
-parts_named (word ∷ rest) (value name) n = with_named (option name word) (parts_from between rest) (λ ps q. (n, q))
-    (parts_named rest between tt)
-parts_named (word ∷ rest) ended n = with_named (positional word) (parts_from ended rest) (λ ps q. q)
-    (parts_named rest ended tt)
+use Rattle.dl_words.proofs.Simulation.{AllNamed, bytes_same}
+use Rattle.dl_words.proofs.Whole.{Matched, Unfit, by_name, clap_named, no_form, no_parts, stands_twice}
+use Rattle.dl_words.proofs.WrittenLaws.{if_read, written_named}
 
 -- ---- values that an option takes begin with no hyphen
 
@@ -102,9 +86,6 @@ taken_plain takes f (text ∷ texts) h =
 
 -- ---- a table of options
 
-too_many : (n : ℕ) → 2 ≤ n → nat_le n 1 ≡ false
-too_many n h = grind (arith, nat_tests, h)
-
 -- a form that takes no asks refuses those that stand
 pub asks_refused : (texts : List (Bor Text)) (b rest : Bool) → b ≡ (length texts == 0) → b ≡ false
     → b ≡ (length (lent texts) == 0 && rest)
@@ -113,56 +94,36 @@ asks_refused texts b rest e some =
     let none : (length (lent texts) == 0) ≡ false = ap (λ n. n == 0) same ∙ sym e ∙ some in
     rw none some
 
--- each option of a table takes such values alone
-abbrev pub ArePlain : List Row → Type 0
-ArePlain [] = ⊤
-ArePlain (row ∷ rows) = ((text : Text) → row.1 text ≡ true → begins_plainly text ≡ true) × ArePlain rows
-
-are_plain : ArePlain options
-are_plain = (
-  whole_plain 0 4294967295,
-  (
-    bucket_plain,
-    (
-      whole_plain 1 16,
-      (
-        whole_plain 1 9,
-        (whole_plain 1 1000000000, (whole_plain 1 1000000000000, (format_plain, tt))),
-      ),
-    ),
-  ),
-)
-
 module _ (values : Values) where
-  -- each option of a table takes its values
-  abbrev pub all_taken : List Row → Bool
-  all_taken rows = list_all (λ row. is_taken row.1 (values row.0)) rows
+  -- the option of a name is taken, and its values begin with no hyphen
+  taken_at : are_taken values ≡ true → (name : Text) → is_name name ≡ true → (takes : Text → Bool)
+      × ((text : Text) → takes text ≡ true → begins_plainly text ≡ true) × (is_taken takes (values name) ≡ true)
+  taken_at make =
+      let bs = (both _ _ make).1 in
+      let log2 = (both _ _ bs).1 in
+      let digits = (both _ _ log2).1 in
+      let width = (both _ _ digits).1 in
+      let mwidth = (both _ _ width).1 in
+      by_name (λ name. (takes : Text → Bool) × ((text : Text) → takes text ≡ true → begins_plainly text ≡ true)
+      × (is_taken takes (values name) ≡ true))
+      (is_number_within 0 4294967295, whole_plain 0 4294967295, (both _ _ make).0)
+      (is_bucket, bucket_plain, (both _ _ bs).0)
+      (is_number_within 1 16, whole_plain 1 16, (both _ _ log2).0)
+      (is_number_within 1 9, whole_plain 1 9, (both _ _ digits).0)
+      (is_number_within 1 1000000000, whole_plain 1 1000000000, (both _ _ width).0)
+      (is_number_within 1 1000000000000, whole_plain 1 1000000000000, (both _ _ mwidth).0)
+      (is_format, format_plain, (both _ _ (both _ _ mwidth).1).0)
 
-  abbrev pub has_name : List Row → Text → Bool
-  has_name rows name = list_any (λ row. bytes_eq row.0 name) rows
-
-  pub values_plain : (rows : List Row) → ArePlain rows → all_taken rows ≡ true → (name : Text)
-      → has_name rows name ≡ true → list_all begins_plainly (values name) ≡ true
-  values_plain [] p t name is = absurd (true≢false (sym is))
-  values_plain (row ∷ rows) p t name is = elim (cases_Bool (bytes_eq row.0 name)) [
-    | inl e ↦
-        let own = taken_plain row.1 p.0 (values row.0)
-        (both (nat_le (length (values row.0)) 1) (list_all row.1 (values row.0))
-        (both (is_taken row.1 (values row.0)) (all_taken rows) t).0).1 in
-        subst (λ n. list_all begins_plainly (values n) ≡ true) ((bytes_eq-Decides row.0 name).0 e) own
-    | inr e ↦ values_plain rows p.1 (both _ _ t).1 name (sym (ap (λ b. b || has_name rows name) e) ∙ is)
-  ]
+  pub values_plain : are_taken values ≡ true → (name : Text) → is_name name ≡ true
+      → list_all begins_plainly (values name) ≡ true
+  values_plain t name is =
+      let at = taken_at t name is in taken_plain at.0 at.1 (values name) (both (nat_le (length (values name)) 1) _ at.2).1
 
   -- an option that stands twice is not taken
-  pub twice_untaken : (rows : List Row) (name : Text) → has_name rows name ≡ true → 2 ≤ length (values name)
-      → all_taken rows ≡ false
-  twice_untaken [] name is two = absurd (true≢false (sym is))
-  twice_untaken (row ∷ rows) name is two = elim (cases_Bool (bytes_eq row.0 name)) [
-    | inl e ↦
-        let own = subst (λ n. 2 ≤ length (values n)) (sym ((bytes_eq-Decides row.0 name).0 e)) two in
-        and_left _ _ (and_left _ _ (too_many (length (values row.0)) own))
-    | inr e ↦ and_right _ _ (twice_untaken rows name (sym (ap (λ b. b || has_name rows name) e) ∙ is) two)
-  ]
+  pub twice_untaken : (name : Text) → is_name name ≡ true → 2 ≤ length (values name) → are_taken values ≡ false
+  twice_untaken name is two = false_from_ne_true _ (λ t.
+      let at = taken_at t name is in
+      let one = leb-true (length (values name)) 1 (both _ (list_all at.0 (values name)) at.2).0 in omega (arith, one, two))
 
 -- ---- parts that are not clean are refused
 
@@ -171,40 +132,46 @@ clean_of : (ps : List Part) → AllNamed ps → ((name : Text) → is_name name 
     → is_clean ps ≡ true
 clean_of [] named options words = refl
 clean_of (option n v ∷ ps) named options words =
-    let own : list_all begins_plainly (v ∷ option_values n ps) ≡ true =
-    subst (λ b. list_all begins_plainly (if b then v ∷ option_values n ps else option_values n ps) ≡ true)
-    (bytes_same n) (options n named.0) in
-    let here = both (begins_plainly v) _ own in
-    rw here.0 (clean_of ps named.1 (λ name is. rest name (bytes_eq n name) (options name is)) words)
+    let here = both (begins_plainly v) _ (rw (bytes_same n) at (options n named.0)) in
+    rw here.0 (clean_of ps named.1 (λ name is. rest (bytes_eq n name) (option_values name ps) (options name is)) words)
   where
-    rest : (name : Text) (b : Bool)
-        → list_all begins_plainly (if b then v ∷ option_values name ps else option_values name ps) ≡ true
-        → list_all begins_plainly (option_values name ps) ≡ true
-    rest name true h = (both (begins_plainly v) _ h).1
-    rest name false h = h
+    rest : (b : Bool) (vs : List Text) → list_all begins_plainly (if b then v ∷ vs else vs) ≡ true
+        → list_all begins_plainly vs ≡ true
+    rest true vs h = (both (begins_plainly v) _ h).1
+    rest false vs h = h
 clean_of (positional w ∷ ps) named options words =
     let here = both (begins_plainly w) _ words in
-    rw here.0 (clean_of ps named options here.1)
+    rw here.0 (clean_of ps named.1 options here.1)
 
 -- the test of an answer that is not `Line` at once
 abbrev pub fits : Option Form → Values → List Text → Bool
 fits None values asks = false
 fits (Some form) values asks = are_taken values && list_all begins_plainly asks && admits form values asks
 
-abbrev pub fits_positionals : Values → List Text → Bool
-fits_positionals values [] = false
-fits_positionals values (form ∷ asks) = fits (form_named form) values asks
+pub misfit_line : (o : Option Form) (values : Values) (asks : List Text) → fits o values asks ≡ false
+    → answer o values asks ≡ Err Line
+misfit_line None values asks e = refl
+misfit_line (Some form) values asks e = rw e refl
 
-misfit_line : (values : Values) (words : List Text) → fits_positionals values words ≡ false
+untaken_misfit : (o : Option Form) (values : Values) (asks : List Text) → are_taken values ≡ false
+    → fits o values asks ≡ false
+untaken_misfit None values asks h = refl
+untaken_misfit (Some form) values asks h = and_left _ _ (and_left _ _ h)
+
+-- the first positional is the form
+abbrev pub form_of : List Text → Option Form
+form_of words = option_and_then form_named (slice_get words 0)
+
+by_positionals : (values : Values) (words : List Text)
+    → to_positionals values words ≡ answer (form_of words) values (drop 1 words)
+by_positionals values [] = refl
+by_positionals values (form ∷ asks) = refl
+
+misfit_words : (values : Values) (words : List Text) → fits (form_of words) values (drop 1 words) ≡ false
     → to_positionals values words ≡ Err Line
-misfit_line values [] h = refl
-misfit_line values (form ∷ asks) h = go (form_named form) h
-  where
-    go : (o : Option Form) → fits o values asks ≡ false → answer o values asks ≡ Err Line
-    go None e = refl
-    go (Some f) e = rw e refl
+misfit_words values words h = by_positionals values words ∙ misfit_line (form_of words) values (drop 1 words) h
 
-fits_plain : (values : Values) (words : List Text) → fits_positionals values words ≡ true
+fits_plain : (values : Values) (words : List Text) → fits (form_of words) values (drop 1 words) ≡ true
     → (are_taken values ≡ true) × (list_all begins_plainly words ≡ true)
 fits_plain values [] h = absurd (true≢false (sym h))
 fits_plain values (form ∷ asks) h = go (form_named form) refl h
@@ -220,44 +187,31 @@ fits_plain values (form ∷ asks) h = go (form_named form) refl h
 abbrev pub values_with : List Part → Values
 values_with ps name = option_values name ps
 
-fitting_clean : (ps : List Part) → AllNamed ps → fits_positionals (values_with ps) (positionals_of ps) ≡ true
-    → is_clean ps ≡ true
-fitting_clean ps named h =
-    let t = fits_plain (values_with ps) (positionals_of ps) h in
-    clean_of ps named (values_plain (values_with ps) options are_plain t.0) t.1
-
-same_judged : (o : Option (List Part)) → IfParts o AllNamed → to_parts (cleaned o) ≡ to_parts o
+same_judged : (o : Option (List Part)) → IfSome o AllNamed → to_parts (cleaned o) ≡ to_parts o
 same_judged None named = refl
-same_judged (Some ps) named = go (is_clean ps) refl (fits_positionals (values_with ps) (positionals_of ps)) refl
-  where
-    go : (a : Bool) → is_clean ps ≡ a → (b : Bool) → fits_positionals (values_with ps) (positionals_of ps) ≡ b
-        → to_parts (cleaned (Some ps)) ≡ to_parts (Some ps)
-    go true e b f = rw e refl
-    go false e true f = absurd (true≢false (sym (fitting_clean ps named f) ∙ e))
-    go false e false f = rw e (sym (misfit_line (values_with ps) (positionals_of ps) f))
+same_judged (Some ps) named = elim (cases_Bool (is_clean ps)) [
+  | inl e ↦ rw e refl
+  | inr e ↦
+      let misfit : fits (form_of (positionals_of ps)) (values_with ps) (drop 1 (positionals_of ps)) ≡ false =
+      false_from_ne_true _ (λ h.
+      let t = fits_plain (values_with ps) (positionals_of ps) h in
+      both_ways _ e (clean_of ps named (values_plain (values_with ps) t.0) t.1)) in
+      rw e (sym (misfit_words (values_with ps) (positionals_of ps) misfit))
+]
 
 pub answer_is : (words : List Text) → words_of words ≡ to_parts (clap_from between words)
-answer_is words = sym (same_judged (command_parts words) (parts_named words between tt))
+answer_is words = sym (same_judged (command_parts words) (if_read words AllNamed (written_named words)))
     ∙ sym (ap to_parts (same_cleaned words between)) ∙ same_judged (clap_from between words)
-    (all_named words between tt)
+    (clap_named words)
 
 -- ---- what a refusal of `clap` gives
-
-untaken_misfit : (values : Values) (words : List Text) → are_taken values ≡ false
-    → fits_positionals values words ≡ false
-untaken_misfit values [] h = refl
-untaken_misfit values (form ∷ asks) h = go (form_named form)
-  where
-    go : (o : Option Form) → fits o values asks ≡ false
-    go None = refl
-    go (Some f) = and_left _ _ (and_left _ _ h)
 
 pub refused : (words : List Text) → Unfit words → words_of words ≡ Err Line
 refused words (no_parts e) = answer_is words ∙ ap to_parts e
 refused words (no_form ps e none) = answer_is words ∙ ap to_parts e ∙ ap (to_positionals (values_with ps)) none
 refused words (stands_twice ps e name is two) =
-    answer_is words ∙ ap to_parts e ∙ misfit_line (values_with ps) (positionals_of ps)
-    (untaken_misfit (values_with ps) (positionals_of ps) (twice_untaken (values_with ps) options name is two))
+    answer_is words ∙ ap to_parts e ∙ misfit_words (values_with ps) (positionals_of ps)
+    (untaken_misfit (form_of (positionals_of ps)) _ _ (twice_untaken (values_with ps) name is two))
 
 -- ---- what a parse gives
 
@@ -294,13 +248,7 @@ told form f asks r =
 told_by_name : (form : Form) (f : Values) (asks : List Text) (r : Result (List Asked) ℕ)
     → told form f asks r ≡ told form (named_values f) asks r
 told_by_name Run f asks (Ok v) = refl
-told_by_name Run f asks (Err i) = refl
-told_by_name Fmt f asks (Ok v) = refl
-told_by_name Fmt f asks (Err i) = refl
-told_by_name Cert f asks (Ok v) = refl
-told_by_name Cert f asks (Err i) = refl
-told_by_name Verify f asks (Ok v) = refl
-told_by_name Verify f asks (Err i) = refl
+told_by_name _ f asks _ = refl
 
 -- an answer depends on these values alone
 same_values : (f g : Values) → ((name : Text) → is_name name ≡ true → f name ≡ g name)
@@ -314,11 +262,6 @@ same_values f g h (Some form) asks =
     go : (name : Text) (b : Bool) → is_name name ≡ b → (if b then f name else []) ≡ (if b then g name else [])
     go name true e = h name e
     go name false e = refl
-
-by_positionals : (values : Values) (words : List Text)
-    → to_positionals values words ≡ answer (option_and_then form_named (slice_get words 0)) values (drop 1 words)
-by_positionals values [] = refl
-by_positionals values (form ∷ asks) = refl
 
 -- what was found of a parse with these matches
 pub given : (words : List Text) (ps : List Part) (m : Matched words ps) (found : Found)
@@ -344,25 +287,17 @@ given words ps m found same =
 
 pub misfit_found : (found : Found) (form : Form) → Some form ≡ form_in found
     → fits (Some form) (values_in found) (asks_in found) ≡ false → answer_in found ≡ Err Line
-misfit_found found form e f = ap (λ o. answer o (values_in found) (asks_in found)) (sym e) ∙ (rw f refl)
-
-pub fitting_found : (found : Found) (form : Form) → Some form ≡ form_in found
-    → fits (Some form) (values_in found) (asks_in found) ≡ true
-    → answer_in found ≡ with_asks form (values_in found) (asks_of (asks_in found))
-fitting_found found form e f = ap (λ o. answer o (values_in found) (asks_in found)) (sym e) ∙ (rw f refl)
+misfit_found found form e f = rw (← e, f) refl
 
 -- the texts that were found, and the test of their first bytes
 pub texts_found : (o : Option (Bor (List (Bor Text)))) (texts d : Bor (List (Bor Text))) (q : Option (List Text))
     → texts ≡ unwrap_or o d → d.now ≡ []
     → option_map (λ s. lent s.now) o ≡ q → lent texts.now ≡ unwrap_or q []
-texts_found o texts d q e none h = ap (λ s. lent s.now) e ∙ go o q h
+texts_found o texts d q e none h = ap (λ s. lent s.now) e ∙ go o ∙ ap (λ q. unwrap_or q []) h
   where
-    go : (o : Option (Bor (List (Bor Text)))) (q : Option (List Text)) → option_map (λ s. lent s.now) o ≡ q
-        → lent (unwrap_or o d).now ≡ unwrap_or q []
-    go None None h = ap lent none
-    go None (Some q) h = absurd (true≢false (ap is_some (sym h)))
-    go (Some s) None h = absurd (true≢false (ap is_some h))
-    go (Some s) (Some q) h = ap (λ o. unwrap_or o []) h
+    go : (o : Option (Bor (List (Bor Text)))) → lent (unwrap_or o d).now ≡ unwrap_or (option_map (λ s. lent s.now) o) []
+    go None = ap lent none
+    go (Some s) = refl
 
 pub plain_found : (r : Bool) (texts : List (Bor Text)) (asks : List Text)
     → r ≡ list_all (λ text. begins_plainly text.now) texts → lent texts ≡ asks → r ≡ list_all begins_plainly asks
@@ -382,7 +317,7 @@ fitting_tests found form texts begin admitted is same taken tested b asked a =
       sym (plain_found begin texts (asks_in found) tested same) ∙ b,
       ap (admits form (values_in found)) (sym same) ∙ sym asked ∙ a,
     ) refl in
-    fitting_found found form is fitting ∙ ap (λ asks. with_asks form (values_in found) (asks_of asks)) (sym same)
+    rw (← is, fitting, same) refl
 
 -- the first misfit of the asks is the answer's fault
 pub explained : (form : Form) (values : Values) (asks : Result (List Asked) ℕ) (a : Result Settings UsageFault)

@@ -3,7 +3,6 @@ pub mod Numerals
 pub mod Kept
 pub mod Cuts
 pub mod AskLists
-pub mod Shapes
 pub mod Reading
 pub mod Simulation
 pub mod RowLemmas

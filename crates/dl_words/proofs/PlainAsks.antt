@@ -1,17 +1,16 @@
 -- The asks of good words are written with plain bytes alone.
-use Rattle.dl_words.proofs.Common.{◌≡◌, ℕ, Bool, true, inl, inr, refl, sym, subst, List, [], ◌∷◌, ◌++◌, All, Ok, IfOk, arith, codes, nat_lt, ◌&&◌, ◌==◌, IsTrue, ⊤, list_all, is_ascii_digit, All-nil, All-cons, nat_tests, is_word_byte, begins_with_letter, Ask, Asked, Settings, command_parts, Text, is_amount, is_number, is_numeral, is_probability, is_word, SpellsAsk, words_of}
+use Rattle.dl_words.proofs.Common.{◌≡◌, ℕ, Bool, true, inl, inr, refl, sym, subst, List, [], ◌∷◌, ◌++◌, All, Ok, arith, codes, nat_lt, ◌&&◌, ◌==◌, IsTrue, list_all, is_ascii_digit, All-nil, All-cons, nat_tests, is_word_byte, begins_with_letter, Ask, Asked, Settings, Text, is_amount, is_number, is_numeral, is_probability, is_word, SpellsAsk, words_of}
 use Rattle.std.specs.Prelude.{not}
-use Rattle.std.proofs.lemmas.List.Elements.{All-append}
 use Rattle.dl_plan.specs.Plain.{IsPlainByte}
 use Rattle.dl_plan.specs.declared.settings.Term.{Term}
 use Rattle.dl_words.specs.Spelling.{is_weight}
 use Rattle.dl_plan.specs.declared.settings.Ask.TheVariants.{Pmf, Cdf, Quantile, LayerMean, Tail, Price, Joint, Kappa, Cotail}
-use Rattle.dl_words.specs.Table.{Row, SpelledBy, amount, by_row, colon, layer, letter_s, letter_x, limit, mean, name, plus, probability, rows, term, terms, unit_amount, unit_level, weight}
+use Rattle.dl_words.specs.Table.{amount, by_row, colon, layer, letter_s, letter_x, limit, mean, name, plus, probability, rows, term, terms, unit_amount, unit_level, weight}
 use Rattle.dl_words.specs.Ways.{AreJoined, Way, behind, last, made, more, pair}
 use Rattle.dl_words.proofs.Numerals.{both}
-use Rattle.dl_words.proofs.NumeralBytes.{written_each}
-use Rattle.dl_words.proofs.RangeLaws.{AreFrom, all_true, asks_each, from_parts, some_parts}
-use Rattle.dl_words.proofs.TableLaws.{EachRow, Spelling, by_each, no_more, table_back, ◌also◌}
+use Rattle.dl_words.proofs.NumeralBytes.{joined, passed, written_each}
+use Rattle.dl_words.proofs.RangeLaws.{asks_each, from_words}
+use Rattle.dl_words.proofs.TableLaws.{EachRow, Spelling, by_each, no_more, spelled_row, table_back, ◌also◌}
 
 -- ---- bytes
 
@@ -37,31 +36,19 @@ word_plain b h = plain_byte b (grind (arith, nat_tests, h))
 
 -- ---- texts of such bytes
 
-module _ (p : ℕ → Bool) (each : (b : ℕ) → p b ≡ true → IsPlainByte b) where
-  passed : (text : Text) → IsTrue (list_all p text) → ArePlain text
-  passed [] h = All-nil IsPlainByte
-  passed (b ∷ text) h = let t = both (p b) (list_all p text) h in
-      All-cons IsPlainByte b text (each b t.0) (passed text t.1)
-
 literal : (text : Text) → IsTrue (list_all is_plain text) → ArePlain text
-literal = passed is_plain plain_byte
-
-together : (a b : Text) → ArePlain a → ArePlain b → ArePlain (a ++ b)
-together a b = All-append IsPlainByte a b
+literal = passed IsPlainByte is_plain plain_byte
 
 around : (a b : Text) (sign : ℕ) → IsTrue (is_plain sign) → ArePlain a → ArePlain b → ArePlain (a ++ sign ∷ b)
-around a b sign s front back = together a (sign ∷ b) front (All-cons IsPlainByte sign b (plain_byte sign s) back)
+around a b sign s = joined IsPlainByte a b sign (plain_byte sign s)
 
 -- ---- the values in an ask
-
-digits_plain : (text : Text) → IsTrue (list_all is_ascii_digit text) → ArePlain text
-digits_plain = passed is_ascii_digit digit_plain
 
 numeral_plain : (text : Text) → IsTrue (is_numeral text) → ArePlain text
 numeral_plain = written_each IsPlainByte digit_plain (plain_byte 46 refl) (plain_byte 37 refl) (plain_byte 47 refl)
 
 amount_plain : (text : Text) → IsTrue (is_amount text) → ArePlain text
-amount_plain text h = digits_plain text (both _ _ (both (is_number text) _ h).0).1
+amount_plain text h = passed IsPlainByte is_ascii_digit digit_plain text (both _ _ (both (is_number text) _ h).0).1
 
 probability_plain : (digits : ℕ) (text : Text) → IsTrue (is_probability digits text) → ArePlain text
 probability_plain digits text h = numeral_plain text (both (is_numeral text) _ (both _ _ h).0).0
@@ -70,7 +57,7 @@ weight_plain : (text : Text) → IsTrue (is_weight text) → ArePlain text
 weight_plain text h = numeral_plain text (both (is_numeral text) _ h).0
 
 name_plain : (text : Text) → IsTrue (is_word text) → ArePlain text
-name_plain text h = passed is_word_byte word_plain text (both (begins_with_letter text) _ h).1
+name_plain text h = passed IsPlainByte is_word_byte word_plain text (both (begins_with_letter text) _ h).1
 
 -- ---- asks
 
@@ -100,8 +87,7 @@ limit_way text x (inl h) = subst ArePlain (sym h.0) (literal (codes "inf") refl)
 limit_way text x (inr h) = amount_plain text h.2.0
 
 attach_way : IsPlainWay (behind letter_s amount)
-attach_way text x (rest, e, h) = subst ArePlain (sym e) (together (codes "s") rest (literal (codes "s") refl)
-    (amount_plain rest h.0))
+attach_way text x (rest, e, h) = subst ArePlain (sym e) (around [] rest 115 refl (All-nil IsPlainByte) (amount_plain rest h.0))
 
 term_way : IsPlainWay term
 term_way text x h =
@@ -115,7 +101,7 @@ terms_way text _ (more front rest x xs h later e) =
 unit_amount_way : IsPlainWay unit_amount
 unit_amount_way = pair_plain colon name amount refl name_way amount_way
 
-rows_plain : EachRow (Spelling (λ text ask. ArePlain text)) rows
+rows_plain : EachRow (λ row. Spelling (λ text ask. ArePlain text) row.follows) rows
 rows_plain =
     made_plain Pmf amount amount_way
     also made_plain Cdf amount amount_way
@@ -130,27 +116,14 @@ rows_plain =
     (pair_plain colon name (probability 4) refl name_way (level_way 4))
     also no_more
 
-are_plain : List Row → Bool
-are_plain [] = true
-are_plain (row ∷ all) = list_all is_plain row.head && are_plain all
-
-heads_plain : IsTrue (are_plain rows)
-unfolding are_plain
-heads_plain = refl
-
-head_plain : (all : List Row) (head rest : Text) (ask : Ask) → IsTrue (are_plain all) → SpelledBy all head rest ask
-    → ArePlain head
-unfolding are_plain
-head_plain [] head rest ask d h = absurd h
-head_plain (row ∷ all) head rest ask d (inl h) = subst ArePlain (sym h.0) (literal row.head (both _ (are_plain all) d).0)
-head_plain (row ∷ all) head rest ask d (inr h) =
-    head_plain all head rest ask (both (list_all is_plain row.head) _ d).1 h
+heads_plain : EachRow (λ row. list_all is_plain row.head ≡ true) rows
+heads_plain = refl also refl also refl also refl also refl also refl also refl also refl also refl also no_more
 
 spelled_plain : (text : Text) (ask : Ask) → SpellsAsk text ask → ArePlain text
 spelled_plain text _ (mean e) = subst ArePlain (sym e) (literal (codes "mean") refl)
 spelled_plain text _ (by_row head rest ask e s) =
-    subst ArePlain (sym e) (around head rest 58 refl (head_plain rows head rest ask heads_plain s)
-    (by_each (λ text ask. ArePlain text) rows head rest ask rows_plain s))
+    let front : ArePlain head = spelled_row rows head rest ask heads_plain s (λ row p h _. rw h (literal row.head p)) in
+    subst ArePlain (sym e) (around head rest 58 refl front (by_each (λ text ask. ArePlain text) head rest ask rows_plain s))
 
 -- ---- the law
 
@@ -159,10 +132,6 @@ HasPlainText asked = ArePlain asked.text
 
 pub asks_are_plain : (words : List Text) (settings : Settings) → words_of words ≡ Ok settings
     → All HasPlainText settings.asks
-asks_are_plain words settings e =
-    let from = from_parts settings (λ _. ⊤) (command_parts words) (some_parts (command_parts words)) e in
-    let a : AreFrom from.0 settings = from.2 in
-    let asks : All HasPlainText a.asks = subst (λ r. IfOk r (All HasPlainText)) a.read
-    (asks_each (λ _. ⊤) HasPlainText (λ text ask is _. spelled_plain text ask (table_back text ask is)) a.texts
-    (all_true a.texts)) in
-    subst (λ s. All HasPlainText s.asks) a.is asks
+asks_are_plain words = from_words (λ s. All HasPlainText s.asks) words (λ word texts form values asks q t a.
+    asks_each (λ texts asks. All HasPlainText asks) (All-nil HasPlainText) (λ text ask texts asks is h.
+    All-cons HasPlainText _ asks (spelled_plain text ask (table_back text ask is)) h) texts asks)

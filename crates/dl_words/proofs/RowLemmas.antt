@@ -1,33 +1,49 @@
 -- What the uses of options and positionals leave in the rows.
-use Rattle.dl_words.proofs.Common.{◌≡◌, ◌∙◌, inl, inr, ℕ, Bool, true, false, refl, sym, ap, subst, List, [], ◌∷◌, ◌++◌, Option, Some, None, true≢false, length, append_assoc, arith, ◌+◌, ◌≤◌, if◌then◌else◌, is_some, unwrap_or, ⊤, fold, bytes_eq, bytes_eq-Decides, cases_Bool, list_all, explicit_source, is_given, Kinds, or_else, Row, Rule, action_of, all_of, arg_by_id, has_row, Shape, repeat_fault, use_fault, Text}
+use Rattle.dl_words.proofs.Common.{◌≡◌, ◌∙◌, inl, inr, ℕ, Bool, true, false, refl, sym, ap, subst, List, [], ◌∷◌, ◌++◌, Option, Some, None, true≢false, length, append_assoc, arith, ◌+◌, ◌≤◌, if◌then◌else◌, is_some, unwrap_or, option_map, ⊤, fold, bytes_eq, bytes_eq-Decides, cases_Bool, explicit_source, is_given, Kinds, or_else, Row, Rule, action_of, all_of, arg_by_id, has_row, Shape, repeat_fault, use_fault, Text}
 use Rattle.clap.specs.declared.parser.matches.ValueSource.TheVariants.{DefaultValue, CommandLine}
-use Rattle.clap.specs.Walk.{is_append, stronger, with_values, without}
+use Rattle.clap.specs.Walk.{is_append, reading_by, stronger, with_values, without}
 use Rattle.clap.specs.declared.builder.action.ArgAction.{ArgAction}
 use Rattle.clap.specs.declared.builder.action.ArgAction.TheVariants.{Set, Append}
 use Rattle.clap.specs.declared.builder.value_parser.Reading.{Reading}
 use Rattle.clap.specs.declared.parser.matches.ValueSource.{ValueSource}
 use Rattle.dl_words.proofs.Simulation.{Fails, Use, bytes_same, fault, faults, step}
-use Rattle.std.proofs.lemmas.Bool.{and_parts}
+use Rattle.std.specs.Prelude.{find}
 
-all_of-same : (id : Text) (how : Reading) (s : ValueSource) (vs : List Text) (rows : List Row)
-    → all_of id (with_values id how s vs rows) ≡ Some (unwrap_or (all_of id rows) [] ++ vs)
-all_of-same id how s vs [] = rw (bytes_same id) refl
-all_of-same id how s vs (r ∷ rs) = elim (cases_Bool (bytes_eq r.id id)) [
-  | inl e ↦ rw (e, e) refl
-  | inr e ↦ rw (e, e) (all_of-same id how s vs rs)
+-- the first row of an id
+abbrev pub look : Text → List Row → Option Row
+look id rows = find (λ r. bytes_eq r.id id) rows
+
+strong : (o : Option ValueSource) → explicit_source (Some (stronger o CommandLine)) ≡ true
+strong None = refl
+strong (Some CommandLine) = refl
+strong (Some DefaultValue) = refl
+
+-- one with these values behind what is there, and which comes from the words
+abbrev HasMore : Text → List Text → List Row → List Row → Type 0
+HasMore id vs rows more = (row : Row) × (look id more ≡ Some row)
+    × (row.values ≡ unwrap_or (all_of id rows) [] ++ vs) × (explicit_source row.source ≡ true)
+
+look_same : (id : Text) (how : Reading) (vs : List Text) (rows : List Row)
+    → HasMore id vs rows (with_values id how CommandLine vs rows)
+look_same id how vs [] =
+    let new : Row = record { id = id; values = vs; count = None; source = Some CommandLine; reading = how } in
+    (new, rw (bytes_same id) refl, refl, refl)
+look_same id how vs (r ∷ rs) = elim (cases_Bool (bytes_eq r.id id)) [
+  | inl e ↦ rw (e, e) (_, refl, refl, strong r.source)
+  | inr e ↦ rw (e, e) (look_same id how vs rs)
 ]
 
-all_of-other : (id other : Text) (how : Reading) (s : ValueSource) (vs : List Text) (rows : List Row)
-    → bytes_eq id other ≡ false → all_of other (with_values id how s vs rows) ≡ all_of other rows
-all_of-other id other how s vs [] d = rw d refl
-all_of-other id other how s vs (r ∷ rs) d = elim (cases_Bool (bytes_eq r.id id)) [
+look_other : (id other : Text) (how : Reading) (vs : List Text) (rows : List Row) → bytes_eq id other ≡ false
+    → look other (with_values id how CommandLine vs rows) ≡ look other rows
+look_other id other how vs [] d = rw d refl
+look_other id other how vs (r ∷ rs) d = elim (cases_Bool (bytes_eq r.id id)) [
   | inl e ↦
       let same : r.id ≡ id = (bytes_eq-Decides r.id id).0 e in
-      let miss : bytes_eq r.id other ≡ false = subst (λ t. bytes_eq t other ≡ false) (sym same) d in
+      let miss : bytes_eq r.id other ≡ false = rw same d in
       rw (e, miss) refl
   | inr e ↦ elim (cases_Bool (bytes_eq r.id other)) [
     | inl f ↦ rw (e, f) refl
-    | inr f ↦ rw (e, f) (all_of-other id other how s vs rs d)
+    | inr f ↦ rw (e, f) (look_other id other how vs rs d)
   ]
 ]
 
@@ -88,27 +104,30 @@ both_empty [] b h = (refl, h)
 both_empty (k ∷ ks) b h = absurd (subst Fails h tt)
 
 module _ (s : Shape) where
-  -- what a use with no fault does
-  use_once : (r : List Row) (u : Use) (a : Rule) → arg_by_id s.rules u.0 ≡ Some a → a.id ≡ u.0 → action_of a ≡ Set
+  use_once : (r : List Row) (u : Use) (a : Rule) → arg_by_id s.rules u.0 ≡ Some a → a.id ≡ u.0
       → ((v : Text) (r : List Row) → use_fault false a (v ∷ []) r ≡ repeat_fault false a.id r)
       → fault s r u ≡ [] → has_row u.0 r ≡ false
-  use_once r u a found same action uf h = subst (λ t. has_row t r ≡ false) same
-      (no_repeat a.id r (sym (uf u.1 r) ∙ (rw found at h)))
+  use_once r u a found same uf h = rw (← same) (no_repeat a.id r (sym (uf u.1 r) ∙ (rw found at h)))
 
-  step_same : (r : List Row) (u : Use) → Kept s u.0 → fault s r u ≡ []
-      → all_of u.0 (step s r u) ≡ Some (unwrap_or (all_of u.0 r) [] ++ u.1 ∷ [])
-  step_same r u (kept_once a found same action uf) h =
-      let gone : without u.0 r ≡ r = without-none u.0 r (use_once r u a found same action uf h) in
-      rw (found, action, same, gone) (all_of-same u.0 _ _ (u.1 ∷ []) r)
-  step_same r u (kept_all a found same action uf) h = rw (found, action, same) (all_of-same u.0 _ _ (u.1 ∷ []) r)
+  -- what a use with no fault does
+  step_is : (r : List Row) (u : Use) → Kept s u.0 → fault s r u ≡ []
+      → (how : Reading) × (step s r u ≡ with_values u.0 how CommandLine (u.1 ∷ []) r)
+  step_is r u (kept_once a found same action uf) h =
+      let gone = without-none u.0 r (use_once r u a found same uf h) in
+      (reading_by a, rw (found, action, same, gone) refl)
+  step_is r u (kept_all a found same action uf) h = (reading_by a, rw (found, action, same) refl)
+
+  step_same : (r : List Row) (u : Use) → Kept s u.0 → fault s r u ≡ [] → HasMore u.0 (u.1 ∷ []) r (step s r u)
+  step_same r u k h = let t = step_is r u k h in rw t.1 (look_same u.0 t.0 (u.1 ∷ []) r)
 
   step_other : (r : List Row) (u : Use) (id : Text) → bytes_eq u.0 id ≡ false → Kept s u.0 → fault s r u ≡ []
-      → all_of id (step s r u) ≡ all_of id r
-  step_other r u id d (kept_once a found same action uf) h =
-      let gone : without u.0 r ≡ r = without-none u.0 r (use_once r u a found same action uf h) in
-      rw (found, action, same, gone) (all_of-other u.0 id _ _ (u.1 ∷ []) r d)
-  step_other r u id d (kept_all a found same action uf) h =
-      rw (found, action, same) (all_of-other u.0 id _ _ (u.1 ∷ []) r d)
+      → look id (step s r u) ≡ look id r
+  step_other r u id d k h = let t = step_is r u k h in ap (look id) t.1 ∙ look_other u.0 id t.0 (u.1 ∷ []) r d
+
+  more_values : (r : List Row) (u : Use) → Kept s u.0 → fault s r u ≡ []
+      → all_of u.0 (step s r u) ≡ Some (unwrap_or (all_of u.0 r) [] ++ u.1 ∷ [])
+  more_values r u k h =
+      let t = step_same r u k h in ap (option_map (λ (r : Row). r.values)) t.1 ∙ ap Some t.2
 
   -- what an id has at the end
   pub gathered : (us : List Use) (r : List Row) (id : Text) → AllKept s us → faults s r us ≡ []
@@ -121,9 +140,9 @@ module _ (s : Shape) where
         | inl e ↦
             let same : all_of id (step s r u) ≡ Some (unwrap_or (all_of id r) [] ++ u.1 ∷ []) =
             subst (λ t. all_of t (step s r u) ≡ Some (unwrap_or (all_of t r) [] ++ u.1 ∷ []))
-            ((bytes_eq-Decides u.0 id).0 e) (step_same r u kept.0 parts.0) in
+            ((bytes_eq-Decides u.0 id).0 e) (more_values r u kept.0 parts.0) in
             rest ∙ ap (λ o. more o (values_in id us)) same ∙ more-more (all_of id r) u.1 (values_in id us) ∙ (rw e refl)
-        | inr e ↦ rest ∙ ap (λ o. more o (values_in id us)) (step_other r u id e kept.0 parts.0) ∙ (rw e refl)
+        | inr e ↦ rest ∙ ap (λ (o : Option Row). more (option_map (λ r. r.values) o) (values_in id us)) (step_other r u id e kept.0 parts.0) ∙ (rw e refl)
       ]
 
   -- how often an id stands, in the rows and in the uses that follow
@@ -138,10 +157,10 @@ module _ (s : Shape) where
         elim k [
           | kept_once a found same action uf ↦
               let none : is_some (all_of id r) ≡ false = subst (λ t. is_some (all_of t r) ≡ false) is
-              (sym (has_row-all_of u.0 r) ∙ use_once r u a found same action uf h) in
+              (sym (has_row-all_of u.0 r) ∙ use_once r u a found same uf h) in
               let after : is_some (all_of id (step s r u)) ≡ true =
               subst (λ t. is_some (all_of t (step s r u)) ≡ true) is
-              (ap is_some (step_same r u (kept_once a found same action uf) h)) in
+              (ap is_some (more_values r u (kept_once a found same action uf) h)) in
               rw (e, none, after) (omega arith)
           | kept_all a found same action uf ↦
               absurd (set_not_append (action_of a)
@@ -194,50 +213,16 @@ module _ (s : Shape) where
           let none : x ∷ xs ≡ [] = sym e ∙ (rw found (uf u.1 r)) in
           absurd (subst Fails none tt)
 
--- ---- every row comes from the words
-
-abbrev pub explicit : List Row → Bool
-explicit = list_all (λ r. explicit_source r.source)
-
-strong : (o : Option ValueSource) → explicit_source (Some (stronger o CommandLine)) ≡ true
-strong None = refl
-strong (Some CommandLine) = refl
-strong (Some DefaultValue) = refl
-
-with_explicit : (id : Text) (how : Reading) (vs : List Text) (rows : List Row) → explicit rows ≡ true
-    → explicit (with_values id how CommandLine vs rows) ≡ true
-with_explicit id how vs [] h = refl
-with_explicit id how vs (r ∷ rs) h =
-    let parts = and_parts (explicit_source r.source) _ h in
-    elim (cases_Bool (bytes_eq r.id id)) [
-      | inl e ↦ rw (e, strong r.source) parts.1
-      | inr e ↦ rw (e, parts.0) (with_explicit id how vs rs parts.1)
-    ]
-
-without_explicit : (id : Text) (rows : List Row) → explicit rows ≡ true → explicit (without id rows) ≡ true
-without_explicit id [] h = refl
-without_explicit id (r ∷ rs) h =
-    let parts = and_parts (explicit_source r.source) _ h in
-    elim (cases_Bool (bytes_eq r.id id)) [
-      | inl e ↦ rw e parts.1
-      | inr e ↦ rw (e, parts.0) (without_explicit id rs parts.1)
-    ]
-
-step_explicit : (s : Shape) (r : List Row) (u : Use) → Kept s u.0 → explicit r ≡ true → explicit (step s r u) ≡ true
-step_explicit s r u (kept_once a found same action uf) h =
-    rw (found, action, same) (with_explicit u.0 _ (u.1 ∷ []) (without u.0 r) (without_explicit u.0 r h))
-step_explicit s r u (kept_all a found same action uf) h = rw (found, action, same) (with_explicit u.0 _ (u.1 ∷ []) r h)
-
-pub all_explicit : (s : Shape) (us : List Use) (r : List Row) → AllKept s us → explicit r ≡ true
-    → explicit (fold (step s) r us) ≡ true
-all_explicit s [] r kept h = h
-all_explicit s (u ∷ us) r kept h = all_explicit s us (step s r u) kept.1 (step_explicit s r u kept.0 h)
-
-pub given_explicit : (id : Text) (rows : List Row) → explicit rows ≡ true → is_given id rows ≡ is_some (all_of id rows)
-given_explicit id [] h = refl
-given_explicit id (r ∷ rs) h =
-    let parts = and_parts (explicit_source r.source) _ h in
-    elim (cases_Bool (bytes_eq r.id id)) [
-      | inl e ↦ rw (e, parts.0) refl
-      | inr e ↦ rw e (given_explicit id rs parts.1)
-    ]
+  -- what an id has comes from the words
+  pub given_told : (id : Text) (us : List Use) (r : List Row) → AllKept s us → faults s r us ≡ []
+      → is_given id r ≡ is_some (all_of id r)
+      → is_given id (fold (step s) r us) ≡ is_some (all_of id (fold (step s) r us))
+  given_told id [] r kept f h = h
+  given_told id (u ∷ us) r kept f h =
+      let free = both_empty (fault s r u) _ f in
+      given_told id us (step s r u) kept.1 free.1 (elim (cases_Bool (bytes_eq u.0 id)) [
+        | inl e ↦
+            let same : u.0 ≡ id = (bytes_eq-Decides u.0 id).0 e in
+            let t = step_same r u kept.0 free.0 in rw (← same, t.1) t.3
+        | inr e ↦ rw (step_other r u id e kept.0 free.0) h
+      ])

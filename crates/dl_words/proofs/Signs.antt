@@ -1,10 +1,14 @@
 -- Texts that are cut at a sign, and values that are read where a test passes.
 use Rattle.dl_words.proofs.Common.{◌≡◌, ◌∙◌, ℕ, Bool, true, false, refl, ap, ◌∷◌, ◌++◌, Option, Some, None, ◌==◌, if◌then◌else◌, option_map, option_and_then, list_any, before_first, after_first, cut_at, Text}
-use Rattle.dl_words.proofs.Numerals.{after_at, any_at, before_at, cut_first}
+use Rattle.std.proofs.lemmas.Bool.{eq-eqb}
+use Rattle.dl_frac.proofs.SpellingLaws.{after_at, any_at, before_at}
+use Rattle.dl_words.proofs.Numerals.{cut_first}
 
 pub cut_there : (s : ℕ) (front back : Text) → list_any (λ b. b == s) front ≡ false
     → cut_at s (front ++ s ∷ back) ≡ Some (front, back)
-cut_there s front back h = rw (any_at s front back, before_at s front back h, after_at s front back h) refl
+cut_there s front back h =
+    let is = eq-eqb s s refl in
+    rw (any_at (λ b. b == s) s is front back, before_at _ front back s h is, after_at _ front back s h is) refl
 
 pub some_is : {A : Type 0} (x y : A) → Some x ≡ Some y → x ≡ y
 some_is x y e = cc
@@ -27,12 +31,6 @@ pub chained : {A B : Type 0} (f : A → Option B) (o : Option A) (y : B) → opt
     → (x : A) × (o ≡ Some x) × (f x ≡ Some y)
 chained f None y e = not_some y e
 chained f (Some x) y e = (x, refl, e)
-
--- what is made of a value that a text writes
-pub written_back : {A B : Type 0} (mk : A → B) (b : Bool) (x : A) (y : B)
-    → option_map mk (if b then Some x else None) ≡ Some y → (b ≡ true) × (mk x ≡ y)
-written_back mk true x y e = (refl, some_is (mk x) y e)
-written_back mk false x y e = not_some y e
 
 pub cut_back : (s : ℕ) (text : Text) (cut : Text × Text) → cut_at s text ≡ Some cut → text ≡ cut.0 ++ s ∷ cut.1
 cut_back s text cut e =

@@ -1,10 +1,14 @@
 -- What is read as an ask is what the table of the asks has.
 use Rattle.dl_words.proofs.Common.{◌≡◌, ◌∙◌, inl, inr, cases_Bool, ℕ, Bool, true, false, refl, sym, ap, subst, List, [], ◌∷◌, ◌++◌, Some, None, codes, true≢false, arith, ◌==◌, ◌&&◌, IsTrue, option_and_then, is_ascii_digit, list_all, list_any, bytes_eq, nat_tests, bytes_eq-Decides, numeral_value, is_word_byte, begins_with_letter, Ask, ask_of, cut_at, Text, is_amount, is_probability, is_word, number, SpellsAsk}
 use Rattle.std.specs.Prelude.{not}
+use Rattle.std.proofs.lemmas.Bool.{false_from_ne_true, not-true}
+use Rattle.std.proofs.lemmas.List.Folds.{list_any_none}
+use Rattle.dl_words.proofs.NumeralBytes.{passed}
 use Rattle.dl_plan.specs.declared.settings.Ask.TheVariants.{Pmf, Cdf, Mean, Quantile, LayerMean, Tail, Price, Joint, Kappa, Cotail}
 use Rattle.dl_words.specs.Table.{Row, SpelledBy, amount, by_row, colon, layer, letter_s, letter_x, limit, mean, name, probability, read_by, rows, terms, unit_amount, unit_level}
 use Rattle.dl_words.specs.Ways.{Way, behind, made}
-use Rattle.dl_words.proofs.Numerals.{any_at, both}
+use Rattle.dl_words.proofs.Numerals.{both}
+use Rattle.dl_frac.proofs.SpellingLaws.{any_at}
 use Rattle.dl_words.proofs.Signs.{chained, cut_back, cut_there, not_some, some_is}
 use Rattle.dl_words.proofs.Prices.{terms_read}
 use Rattle.dl_words.proofs.WayLaws.{IsRead, IsWithout, behind_read, made_read, one_read, pair_read, word_or_read}
@@ -13,10 +17,7 @@ use Rattle.dl_words.proofs.WayLaws.{IsRead, IsWithout, behind_read, made_read, o
 
 none_of : (is_good : ℕ → Bool) (s : ℕ) → ((b : ℕ) → is_good b ≡ true → (b == s) ≡ false) → (text : Text)
     → list_all is_good text ≡ true → list_any (λ b. b == s) text ≡ false
-none_of is_good s f [] h = refl
-none_of is_good s f (b ∷ bs) h =
-    let t = both (is_good b) _ h in
-    rw (f b t.0) (none_of is_good s f bs t.1)
+none_of is_good s f text h = list_any_none _ text (passed (λ b. (b == s) ≡ false) is_good f text h)
 
 digit_no_x : (b : ℕ) → is_ascii_digit b ≡ true → (b == 120) ≡ false
 digit_no_x b h = grind (arith, nat_tests, h)
@@ -59,12 +60,19 @@ unit_level_read = pair_read colon name (probability 4) name_read (level_read 4) 
 -- ---- rows
 
 infixr 5 ◌also◌
--- what follows the head of each row has it
-pub data EachRow (P : Way Ask → Type 0) : List Row → Type 1 where
+-- each row has it
+pub data EachRow (P : Row → Type 0) : List Row → Type 1 where
   no_more : EachRow P []
-  ◌also◌ : {row : Row} {rows : List Row} → P row.follows → EachRow P rows → EachRow P (row ∷ rows)
+  ◌also◌ : {row : Row} {rows : List Row} → P row → EachRow P rows → EachRow P (row ∷ rows)
 
-rows_read : EachRow IsRead rows
+-- what each row has, the row that spells an ask has
+pub spelled_row : {P : Row → Type 0} {C : Type 0} (all : List Row) (head rest : Text) (ask : Ask) → EachRow P all
+    → SpelledBy all head rest ask → ((row : Row) → P row → head ≡ row.head → row.follows.Spells rest ask → C) → C
+spelled_row [] head rest ask each h f = absurd h
+spelled_row (row ∷ all) head rest ask (p also later) (inl h) f = f row p h.0 h.1
+spelled_row (row ∷ all) head rest ask (p also later) (inr h) f = spelled_row all head rest ask later h f
+
+rows_read : EachRow (λ row. IsRead row.follows) rows
 rows_read =
     made_read Pmf amount amount_read
     also made_read Cdf amount amount_read
@@ -82,48 +90,38 @@ differs : Text → List Row → Bool
 differs head [] = true
 differs head (row ∷ all) = not (bytes_eq row.head head) && differs head all
 
--- no head has a colon, and no two rows one head
-are_heads : List Row → Bool
-are_heads [] = true
-are_heads (row ∷ all) = not (list_any (λ b. b == 58) row.head) && (differs row.head all && are_heads all)
+-- no two rows have one head
+all_differ : List Row → Bool
+all_differ [] = true
+all_differ (row ∷ all) = differs row.head all && all_differ all
 
-rows_heads : IsTrue (are_heads rows)
-unfolding are_heads differs
-rows_heads = refl
+rows_differ : IsTrue (all_differ rows)
+unfolding all_differ differs
+rows_differ = refl
 
-is_not : (b : Bool) → IsTrue (not b) → b ≡ false
-is_not true h = absurd (cc)
-is_not false h = refl
+no_colon : EachRow (λ row. list_any (λ b. b == 58) row.head ≡ false) rows
+no_colon = refl also refl also refl also refl also refl also refl also refl also refl also refl also no_more
 
 other_head : (other : Text) (all : List Row) (head rest : Text) (ask : Ask) → IsTrue (differs other all)
     → SpelledBy all head rest ask → bytes_eq head other ≡ false
 unfolding differs
 other_head other [] head rest ask d h = absurd h
 other_head other (row ∷ all) head rest ask d (inl h) =
-    rw h.0 (is_not (bytes_eq row.head other) (both _ (differs other all) d).0)
+    rw h.0 (not-true (bytes_eq row.head other) (both _ (differs other all) d).0)
 other_head other (row ∷ all) head rest ask d (inr h) =
     other_head other all head rest ask (both (not (bytes_eq row.head other)) _ d).1 h
 
-head_without : (all : List Row) (head rest : Text) (ask : Ask) → IsTrue (are_heads all) → SpelledBy all head rest ask
-    → list_any (λ b. b == 58) head ≡ false
-unfolding are_heads
-head_without [] head rest ask d h = absurd h
-head_without (row ∷ all) head rest ask d (inl h) =
-    rw h.0 (is_not (list_any (λ b. b == 58) row.head) (both _ (differs row.head all && are_heads all) d).0)
-head_without (row ∷ all) head rest ask d (inr h) =
-    head_without all head rest ask (both (differs row.head all) _ (both (not (list_any (λ b. b == 58) row.head)) _ d).1).1 h
-
-read_there : (all : List Row) (head rest : Text) (ask : Ask) → EachRow IsRead all → IsTrue (are_heads all)
-    → SpelledBy all head rest ask → read_by all head rest ≡ Some ask
-unfolding are_heads
+read_there : (all : List Row) (head rest : Text) (ask : Ask) → EachRow (λ row. IsRead row.follows) all
+    → IsTrue (all_differ all) → SpelledBy all head rest ask → read_by all head rest ≡ Some ask
+unfolding all_differ
 read_there [] head rest ask r d h = absurd h
 read_there (row ∷ all) head rest ask (r also later) d (inl h) =
     rw ((bytes_eq-Decides head row.head).1 h.0) (r.there rest ask h.1)
 read_there (row ∷ all) head rest ask (r also later) d (inr h) =
-    let t = both (differs row.head all) (are_heads all) (both (not (list_any (λ b. b == 58) row.head)) _ d).1 in
+    let t = both (differs row.head all) (all_differ all) d in
     rw (other_head row.head all head rest ask t.0 h) (read_there all head rest ask later t.1 h)
 
-read_back : (all : List Row) (head rest : Text) (ask : Ask) → EachRow IsRead all → read_by all head rest ≡ Some ask
+read_back : (all : List Row) (head rest : Text) (ask : Ask) → EachRow (λ row. IsRead row.follows) all → read_by all head rest ≡ Some ask
     → SpelledBy all head rest ask
 read_back [] head rest ask r e = not_some ask e
 read_back (row ∷ all) head rest ask (r also later) e = elim (cases_Bool (bytes_eq head row.head)) [
@@ -134,19 +132,16 @@ read_back (row ∷ all) head rest ask (r also later) e = elim (cases_Bool (bytes
 -- ---- the table
 
 not_mean : (head rest : Text) → bytes_eq (head ++ 58 ∷ rest) (codes "mean") ≡ false
-not_mean head rest = elim (cases_Bool (bytes_eq (head ++ 58 ∷ rest) (codes "mean"))) [
-  | inl h ↦ absurd (true≢false (sym (any_at 58 head rest)
-      ∙ ap (list_any (λ b. b == 58)) ((bytes_eq-Decides (head ++ 58 ∷ rest) (codes "mean")).0 h)))
-  | inr h ↦ h
-]
+not_mean head rest = false_from_ne_true _ (λ h. true≢false (sym (any_at (λ b. b == 58) 58 refl head rest)
+    ∙ ap (list_any (λ b. b == 58)) ((bytes_eq-Decides (head ++ 58 ∷ rest) (codes "mean")).0 h)))
 
 pub table_read : (text : Text) (ask : Ask) → SpellsAsk text ask → ask_of text ≡ Some ask
 unfolding ask_of
 table_read text _ (mean e) = rw e refl
 table_read text _ (by_row head rest ask e s) =
-    rw (e, not_mean head rest) (ap (option_and_then (λ cut. read_by rows cut.0 cut.1))
-    (cut_there 58 head rest (head_without rows head rest ask rows_heads s))
-    ∙ read_there rows head rest ask rows_read rows_heads s)
+    let free : list_any (λ b. b == 58) head ≡ false = spelled_row rows head rest ask no_colon s (λ row p h _. rw h p) in
+    rw (e, not_mean head rest) (ap (option_and_then (λ cut. read_by rows cut.0 cut.1)) (cut_there 58 head rest free)
+    ∙ read_there rows head rest ask rows_read rows_differ s)
 
 pub table_back : (text : Text) (ask : Ask) → ask_of text ≡ Some ask → SpellsAsk text ask
 unfolding ask_of
@@ -163,8 +158,6 @@ table_back text ask e = elim (cases_Bool (bytes_eq text (codes "mean"))) [
 abbrev pub Spelling : (Text → Ask → Type 0) → Way Ask → Type 0
 Spelling P w = (rest : Text) (ask : Ask) → w.Spells rest ask → P rest ask
 
-pub by_each : (P : Text → Ask → Type 0) (all : List Row) (head rest : Text) (ask : Ask) → EachRow (Spelling P) all
-    → SpelledBy all head rest ask → P rest ask
-by_each P [] head rest ask each h = absurd h
-by_each P (row ∷ all) head rest ask (each also later) (inl h) = each rest ask h.1
-by_each P (row ∷ all) head rest ask (each also later) (inr h) = by_each P all head rest ask later h
+pub by_each : (P : Text → Ask → Type 0) (head rest : Text) (ask : Ask) → EachRow (λ row. Spelling P row.follows) rows
+    → SpelledBy rows head rest ask → P rest ask
+by_each P head rest ask each h = spelled_row rows head rest ask each h (λ row p _ s. p rest ask s)

@@ -1,5 +1,5 @@
 -- The terms of a price as a loop reads them: those so far, and what the rest is read as.
-use Rattle.dl_words.proofs.Common.{◌≡◌, ◌∙◌, ℕ, suc, ◌≤◌, ◌<◌, ◌+◌, List, [], ◌∷◌, ◌++◌, append_assoc, Option, Some, None, arith, refl, ap, option_map, option_and_then, cut_at, Text}
+use Rattle.dl_words.proofs.Common.{◌≡◌, ◌∙◌, ℕ, suc, ◌≤◌, ◌<◌, ◌+◌, List, [], ◌∷◌, ◌++◌, append_assoc, Option, Some, None, arith, refl, ap, option_map, cut_at, Text}
 use Rattle.std.proofs.Common.{◌-◌}
 use Rattle.dl_plan.specs.declared.settings.Term.{Term}
 use Rattle.dl_words.specs.Table.{plus, term as a_term}
@@ -37,20 +37,15 @@ module _ (i : ℕ) (rest text : Text) (terms : List Term)
 
   pub none_read : i < 8 → (cut : Text × Text) → Some cut ≡ cut_at 43 rest → None ≡ a_term.read cut.0
       → None ≡ joined plus a_term.read 8 text
-  none_read inside cut is none =
-      ap (λ term. before terms (option_and_then (λ t. option_map (λ more. t ∷ more) (joined plus a_term.read (7 - i) cut.1)) term))
-      none ∙ read_there inside (Some cut) is
+  none_read inside cut is none = rw (← none) at (read_there inside (Some cut) is)
 
   pub next_read : i < 8 → (cut : Text × Text) → Some cut ≡ cut_at 43 rest → (term : Term)
       → Some term ≡ a_term.read cut.0 → (pushed : List Term) → pushed ≡ terms ++ term ∷ []
       → before pushed (joined plus a_term.read (8 - (i + 1)) cut.1) ≡ joined plus a_term.read 8 text
   next_read inside cut is term read pushed more =
       let left : 8 - (i + 1) ≡ 7 - i = omega (arith, inside) in
-      ap (λ n. before pushed (joined plus a_term.read n cut.1)) left
-      ∙ ap (λ all. before all (joined plus a_term.read (7 - i) cut.1)) more
-      ∙ one_more terms term (joined plus a_term.read (7 - i) cut.1)
-      ∙ ap (λ t. before terms (option_and_then (λ t. option_map (λ more. t ∷ more) (joined plus a_term.read (7 - i) cut.1)) t))
-      read ∙ read_there inside (Some cut) is
+      rw (left, more) (one_more terms term (joined plus a_term.read (7 - i) cut.1)
+      ∙ (rw (← read) at (read_there inside (Some cut) is)))
 
   pub too_many : 8 ≤ i → None ≡ joined plus a_term.read 8 text
   unfolding joined

@@ -24,15 +24,9 @@ pub pair_read : {A B : Type 0} (sign : ℕ) (a : Way A) (b : Way B) → IsRead a
     → IsRead (pair sign a b)
 pair_read {A} {B} sign a b ra rb free = record { there = there; back = back }
   where
-    second : Text × Text → A → Option (A × B)
-    second cut x = option_map (λ y. (x, y)) (b.read cut.1)
-
     there : (text : Text) (both : A × B) → (pair sign a b).Spells text both → (pair sign a b).read text ≡ Some both
-    there text both (front, rest, e, x, y) =
-        ap (option_and_then (λ cut. option_and_then (λ x. option_map (λ y. (x, y)) (b.read cut.1)) (a.read cut.0)))
-        (ap (cut_at sign) e ∙ cut_there sign front rest (free front both.0 x))
-        ∙ ap (option_and_then (λ x. option_map (λ y. (x, y)) (b.read rest))) (ra.there front both.0 x)
-        ∙ ap (option_map (λ y. (both.0, y))) (rb.there rest both.1 y)
+    there text both (front, rest, e, x, y) = rw e
+        (rw (cut_there sign front rest (free front both.0 x), ra.there front both.0 x, rb.there rest both.1 y) refl)
 
     back : (text : Text) (both : A × B) → (pair sign a b).read text ≡ Some both → (pair sign a b).Spells text both
     back text both e =
@@ -83,7 +77,7 @@ word_or_read {A} word v a same r other = record { there = there; back = back }
 
 pub made_read : {A B : Type 0} (f : A → B) (a : Way A) → IsRead a → IsRead (made f a)
 made_read {A} {B} f a r = record {
-  there = λ text y h. ap (option_map f) (r.there text h.0 h.2) ∙ ap Some h.1;
+  there = λ text y h. rw (r.there text h.0 h.2) (ap Some h.1);
   back = λ text y e. let m = mapped f (a.read text) y e in (m.0, m.2, r.back text m.0 m.1);
 }
 
@@ -91,7 +85,7 @@ pub that_read : {A : Type 0} (passes : A → Bool) (a : Way A) → IsRead a → 
 that_read {A} passes a r = record { there = there; back = back }
   where
     there : (text : Text) (x : A) → (that passes a).Spells text x → (that passes a).read text ≡ Some x
-    there text x h = ap (option_and_then (λ x. if passes x then Some x else None)) (r.there text x h.0) ∙ (rw h.1 refl)
+    there text x h = rw (r.there text x h.0, h.1) refl
 
     back : (text : Text) (x : A) → (that passes a).read text ≡ Some x → (that passes a).Spells text x
     back text x e =
@@ -102,23 +96,16 @@ that_read {A} passes a r = record { there = there; back = back }
 
 -- ---- values joined by a sign
 
-not_cut : (s : ℕ) (text : Text) → list_any (λ b. b == s) text ≡ false → cut_at s text ≡ None
-not_cut s text h = rw h refl
-
 module _ {A : Type 0} (sign : ℕ) (a : Way A) (r : IsRead a) (free : IsWithout sign a) where
   joined_there : (most : ℕ) (text : Text) (xs : List A) → AreJoined sign a.Spells text xs → length xs ≤ most
       → joined sign a.read most text ≡ Some xs
   unfolding joined
   joined_there zero text _ (last x h) few = absurd (omega (arith, few))
   joined_there zero text _ (more front rest x xs h later e) few = absurd (omega (arith, few))
-  joined_there (suc most) text _ (last x h) few =
-      ap (joined_at a.read (λ rest. joined sign a.read most rest) text) (not_cut sign text (free text x h))
-      ∙ ap (option_map (λ x. x ∷ [])) (r.there text x h)
+  joined_there (suc most) text _ (last x h) few = rw (free text x h, r.there text x h) refl
   joined_there (suc most) text _ (more front rest x xs h later e) few =
-      ap (joined_at a.read (λ rest. joined sign a.read most rest) text)
-      (ap (cut_at sign) e ∙ cut_there sign front rest (free front x h))
-      ∙ ap (option_and_then (λ x. option_map (λ xs. x ∷ xs) (joined sign a.read most rest))) (r.there front x h)
-      ∙ ap (option_map (λ xs. x ∷ xs)) (joined_there most rest xs later (omega (arith, few)))
+      let fewer : length xs ≤ most = omega (arith, few) in
+      rw e (rw (cut_there sign front rest (free front x h), r.there front x h, joined_there most rest xs later fewer) refl)
 
   at_back : (most : ℕ) → ((rest : Text) (xs : List A) → joined sign a.read most rest ≡ Some xs
       → (list most sign a).Spells rest xs)
@@ -143,7 +130,4 @@ module _ {A : Type 0} (sign : ℕ) (a : Way A) (r : IsRead a) (free : IsWithout 
       at_back most (λ rest xs e. joined_back most rest xs e) text (cut_at sign text) xs refl e
 
   pub list_read : (most : ℕ) → IsRead (list most sign a)
-  list_read most = record {
-    there = λ text xs h. joined_there most text xs h.0 h.1;
-    back = λ text xs e. joined_back most text xs e;
-  }
+  list_read most = record { there = λ text xs h. joined_there most text xs h.0 h.1; back = joined_back most }

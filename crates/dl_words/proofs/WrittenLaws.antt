@@ -1,9 +1,13 @@
 -- The parts of the words are those that they are written as.
-use Rattle.dl_words.proofs.Common.{◌≡◌, ◌∙◌, inl, inr, cases_Bool, ℕ, Bool, true, false, refl, sym, ap, subst, List, [], ◌∷◌, ◌++◌, Option, Some, None, codes, map, true≢false, arith, ◌==◌, list_any, before_first, after_first, nat_tests, append-nil, before_none, Part, Mode, Kind, is_equals, is_name, kind_of, parts_from, read_kind, with_part, option, positional, between, value, ended, ends, whole, begins, plain, misfit, Text, begins_plainly}
+use Rattle.dl_words.proofs.Common.{◌≡◌, ◌∙◌, inl, inr, cases_Bool, ℕ, Bool, true, false, refl, sym, ap, subst, List, [], ◌∷◌, ◌++◌, Option, Some, None, codes, map, true≢false, arith, ◌==◌, list_any, before_first, after_first, nat_tests, append-nil, before_none, Part, Mode, Kind, is_equals, is_name, kind_of, parts_from, positionals_of, read_kind, with_part, option, positional, between, value, ended, ends, whole, begins, plain, misfit, Text, begins_plainly}
 use Rattle.dl_words.specs.AsWritten.{AreParts, nothing, joined, apart, plain as word_plain, ended as all_plain}
 use Rattle.dl_words.specs.Parts.{named}
-use Rattle.dl_words.proofs.Numerals.{after_at, any_at, before_at, cut_first}
+use Rattle.dl_words.proofs.Numerals.{cut_first}
+use Rattle.dl_frac.proofs.SpellingLaws.{after_at, any_at, before_at}
 use Rattle.dl_words.proofs.Cleaned.{plain_kind}
+use Rattle.std.proofs.Common.{All, IfSome}
+use Rattle.std.proofs.lemmas.List.Elements.{All-cons, All-head, All-tail}
+use Rattle.dl_words.proofs.Simulation.{AllNamed}
 use Rattle.dl_words.proofs.Whole.{by_name}
 
 -- ---- what is written is read
@@ -21,9 +25,9 @@ whole_kind [] v h = absurd (true≢false (sym h))
 whole_kind (c ∷ cs) v h =
     let name : Text = c ∷ cs in
     let none = no_equals name h in
-    let front : before_first is_equals (name ++ 61 ∷ v) ≡ name = before_at 61 name v none in
-    let back : after_first is_equals (name ++ 61 ∷ v) ≡ v = after_at 61 name v none in
-    let some : list_any is_equals (name ++ 61 ∷ v) ≡ true = any_at 61 name v in
+    let front : before_first is_equals (name ++ 61 ∷ v) ≡ name = before_at is_equals name v 61 none refl in
+    let back : after_first is_equals (name ++ 61 ∷ v) ≡ v = after_at is_equals name v 61 none refl in
+    let some : list_any is_equals (name ++ 61 ∷ v) ≡ true = any_at is_equals 61 refl name v in
     let is : named (name ++ 61 ∷ v) ≡ whole name v = rw (front, h, some, back) refl in
     is
 
@@ -136,3 +140,37 @@ read_written (word ∷ rest) (value name) = λ is ps h.
 
 pub parts_written : (words : List Text) (ps : List Part) → parts_from between words ≡ Some ps → AreParts words ps
 parts_written words ps h = read_written words between ps h
+
+-- what holds of the parts that words are written as holds of those that are read
+pub if_read : (words : List Text) (P : List Part → Type 0) → ((ps : List Part) → AreParts words ps → P ps)
+    → IfSome (parts_from between words) P
+if_read words P f = go (parts_from between words) refl
+  where
+    go : (o : Option (List Part)) → parts_from between words ≡ o → IfSome o P
+    go None e = tt
+    go (Some ps) e = f ps (parts_written words ps e)
+
+pub written_named : (words : List Text) (ps : List Part) → AreParts words ps → AllNamed ps
+written_named _ _ nothing = tt
+written_named _ _ (joined name v rest ps is h) = (is, written_named rest ps h)
+written_named _ _ (apart name v rest ps is h) = (is, written_named rest ps h)
+written_named _ _ (word_plain word rest ps is h) = (tt, written_named rest ps h)
+written_named _ _ (all_plain rest) = positional_named rest
+  where
+    positional_named : (rest : List Text) → AllNamed (map positional rest)
+    positional_named [] = tt
+    positional_named (word ∷ rest) = (tt, positional_named rest)
+
+positionals_map : (rest : List Text) → positionals_of (map positional rest) ≡ rest
+positionals_map [] = refl
+positionals_map (word ∷ rest) = ap (λ ws. word ∷ ws) (positionals_map rest)
+
+-- what each word has, each positional has
+pub written_each : (P : Text → Type 0) (words : List Text) (ps : List Part) → AreParts words ps → All P words
+    → All P (positionals_of ps)
+written_each P _ _ nothing a = a
+written_each P _ _ (joined name v rest ps is h) a = written_each P rest ps h (All-tail P _ rest a)
+written_each P _ _ (apart name v rest ps is h) a = written_each P rest ps h (All-tail P v rest (All-tail P _ (v ∷ rest) a))
+written_each P _ _ (word_plain word rest ps is h) a =
+    All-cons P word (positionals_of ps) (All-head P word rest a) (written_each P rest ps h (All-tail P word rest a))
+written_each P _ _ (all_plain rest) a = rw (positionals_map rest) (All-tail P _ rest a)

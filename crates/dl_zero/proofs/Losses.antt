@@ -1,19 +1,5 @@
 -- A unit with a changed probability of no claim as a loss, and its mean as a total of one unit.
-use Rattle.std.proofs.Common.{ℕ, ◌≡◌, ◌*◌, ◌<◌, arith, ap₂, ◌∙◌, [], ◌∷◌}
-use Rattle.dl_exact.specs.Fraction.{Fraction, whole, ◌+ℚ◌, ◌-ℚ◌, ◌*ℚ◌, ◌≤ℚ◌}
-use Rattle.dl_exact.specs.Sum.{sum_to}
-use Rattle.dl_exact.proofs.Laws.{plus_zero, times_zero}
-use Rattle.dl_model.specs.Series.{Holds, SameValue}
-use Rattle.dl_model.specs.Program.{Loss, IsLoss, One, Mean, partial_sums}
-use Rattle.dl_model.specs.Measures.{mean_to_reach}
-use Rattle.dl_model.specs.Units.{Aggregate, IsDeclarable, outcome}
-use Rattle.dl_model.specs.ChangedZero.{without_none, with_claims, changed}
-use Rattle.dl_model.proofs.Picks.{off}
-use Rattle.dl_model.proofs.Alike.{level_same, same_value}
-use Rattle.dl_model.proofs.FamilyLaws.{sum_rises_to}
-use Rattle.dl_model.proofs.Outcomes.{total_alone_all, mean_alone}
-use Rattle.dl_model.proofs.UnitLaws.{unit_within, unit_loss}
-use Rattle.dl_model.proofs.ChangedZero.{with_none_rises, with_none_all}
+use Rattle.dl_zero.proofs.Common.{◌↔◌, ℕ, ◌≡◌, ◌*◌, ◌<◌, arith, ap₂, ◌∙◌, [], ◌∷◌, Fraction, whole, ◌+ℚ◌, ◌-ℚ◌, ◌*ℚ◌, ◌≤ℚ◌, sum_to, plus_zero, times_zero, Holds, SameValue, Loss, IsLoss, One, Mean, partial_sums, mean_to_reach, Aggregate, IsDeclarable, outcome, without_none, with_claims, changed, off, level_same, same_value, sum_rises_to, total_alone_all, mean_alone, unit_within, unit_loss, with_none_rises, with_none_all}
 
 module _ (p : Fraction) (u : Aggregate) (h : IsDeclarable u) where
   abbrev claims : Aggregate
@@ -25,7 +11,7 @@ module _ (p : Fraction) (u : Aggregate) (h : IsDeclarable u) where
   changed_past : (y N : ℕ) → N * u.most < y → (changed p u).family.cells y N ≡ whole 0
   changed_past y N far =
       ap₂ (λ s t. (whole 1 -ℚ p) *ℚ s +ℚ t) (unit_within claims claims_unit y N far)
-      (off y 0 (p *ℚ sum_to N (without_none u.count)) (λ e. omega (arith, e, far)))
+      (off y 0 (p *ℚ sum_to N (without_none u.count)) (λ e. omega arith))
       ∙ plus_zero _ ∙ times_zero _
 
   pub changed_is_loss : p ≤ℚ whole 1 → IsLoss (changed p u)
@@ -44,14 +30,10 @@ pub mean_same : (l : Loss) → IsLoss l
 mean_same l h = same_value (partial_sums (l ∷ []) Mean) (partial_sums (l ∷ []) One) (mean_to_reach l) l.family.all
     (level_same _ _ (mean_alone l h)) (level_same _ _ (total_alone_all l h))
 
-pub mean_of_reach : (l : Loss) (low high : Fraction) → IsLoss l
+pub mean_held : (l : Loss) (low high : Fraction) → IsLoss l
     → Holds (partial_sums (l ∷ []) Mean) (partial_sums (l ∷ []) One) low high
-    → Holds (mean_to_reach l) l.family.all low high
-mean_of_reach l low high h held =
-    (((mean_same l h).0 low).0 held.0, ((mean_same l h).1 high).0 held.1)
-
-pub mean_of_total : (l : Loss) (low high : Fraction) → IsLoss l
-    → Holds (mean_to_reach l) l.family.all low high
-    → Holds (partial_sums (l ∷ []) Mean) (partial_sums (l ∷ []) One) low high
-mean_of_total l low high h held =
-    (((mean_same l h).0 low).1 held.0, ((mean_same l h).1 high).1 held.1)
+    ↔ Holds (mean_to_reach l) l.family.all low high
+mean_held l low high h =
+    let least = (mean_same l h).0 low in
+    let most = (mean_same l h).1 high in
+    (λ held. (least.0 held.0, most.0 held.1), λ held. (least.1 held.0, most.1 held.1))

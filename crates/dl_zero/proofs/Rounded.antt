@@ -1,13 +1,6 @@
 -- Quotients by the probability of a claim, and parts of them, rounded outward: how large they are, and how far apart.
 -- S units make 1; R units are the low end of the probability of a claim, and Z units its width.
-use Rattle.std.proofs.Common.{ℕ, zero, suc, ◌≡◌, ◌+◌, ◌-◌, ◌*◌, ◌/◌, ◌<◌, ◌^◌, ◌≤◌, min, inl, inr, arith, refl, ap, subst}
-use Rattle.std.proofs.lemmas.Bool.{cases_lt}
-use Rattle.std.specs.Int.{div_ceil}
-use Rattle.std.proofs.Math.Nat.{mul-le-mul, mul-le-mul_left, mul-le-mul_right, le_of_mul-le-mul_right, lt-div-mul-add, mul-pos, div-mul-le_self, div-le_of_le-mul}
-use Rattle.std.proofs.lemmas.Grind.{div_ceil_times}
-use Rattle.dl_exact.proofs.RoundingLaws.{div_ceil_least}
-unfoldable use Rattle.dl_exact.specs.Count.{count_below}
-unfoldable use Rattle.dl_grid.specs.Cells.{all_at_zero}
+use Rattle.dl_zero.proofs.Common.{add-sub_of_le, sub-add_cancel, part_within, floor_le_ceiling, ℕ, zero, suc, ◌≡◌, ◌+◌, ◌-◌, ◌*◌, ◌/◌, ◌<◌, ◌^◌, ◌≤◌, min, inl, inr, arith, refl, ap, cases_lt, div_ceil, mul-le-mul, mul-le-mul_left, mul-le-mul_right, le_of_mul-le-mul_right, lt-div-mul-add, mul-pos, div-mul-le_self, div-le_of_le-mul, div_ceil_times, div_ceil_least, count_below, all_at_zero}
 
 -- ---- sizes
 
@@ -20,43 +13,32 @@ pub quotient_fits : (x S R : ℕ) → 0 < R → S ≤ 18 * R → x ≤ 2 ^ 90 �
 quotient_fits x S R pos share small = omega (arith, quotient_small x S R pos share)
 
 pub rest_fits : (x y S : ℕ) → y ≤ S → S ≤ 2 ^ 56 → min x y * S < 2 ^ 128
-rest_fits x y S le small = omega (arith, mul-le-mul (least x y S le small) small)
-  where
-    least : (x y S : ℕ) → y ≤ S → S ≤ 2 ^ 56 → min x y ≤ 2 ^ 56
-    least x y S le small = omega arith
+rest_fits x y S le small = let least : min x y ≤ 2 ^ 56 = omega arith in omega (arith, mul-le-mul least small)
 
--- a factor below 2^37
-pub product_fits : (x a : ℕ) → x ≤ 2 ^ 90 → a < 2 ^ 37 → x * a < 2 ^ 128
-product_fits x a small few =
-    let less : a ≤ 2 ^ 37 - 1 = omega (arith, few) in
-    omega (arith, mul-le-mul small less)
+-- a part, by a factor below 2^37
+pub scale_fits : (x a d : ℕ) → x ≤ 2 ^ 90 → 0 < d → a ≤ d → d < 2 ^ 37 → (x * a < 2 ^ 128) × (div_ceil (x * a) d ≤ x)
+scale_fits x a d small pos le few =
+    let less : a ≤ 2 ^ 37 - 1 = omega arith in
+    (omega (arith, mul-le-mul small less), part_within x a d pos le)
 
 -- ---- what stands at 0 alone
 
 pub nothing_past : (e y : ℕ) → 0 < y → 0 ≡ all_at_zero e y
 unfolding all_at_zero
-nothing_past e zero h = absurd (omega (arith, h))
+nothing_past e zero h = absurd (omega arith)
 nothing_past e (suc y) h = refl
 
 pub all_at : (e y : ℕ) → y ≡ 0 → e ≡ all_at_zero e y
 unfolding all_at_zero
 all_at e zero h = refl
-all_at e (suc y) h = absurd (omega (arith, h))
-
-pub at_zero_most : (e y : ℕ) → all_at_zero e y ≤ e
-unfolding all_at_zero
-at_zero_most e zero = omega arith
-at_zero_most e (suc y) = omega arith
+all_at e (suc y) h = absurd (omega arith)
 
 -- ---- distances
 
 -- a part a / d of q and one of r, which is no greater
 pub part_apart : (q r a d : ℕ) → 0 < d → a ≤ d → r ≤ q → div_ceil (q * a) d ≤ r * a / d + (q - r) + 2
 part_apart q r a d pos less order = div_ceil_least (q * a) d (r * a / d + (q - r) + 2) pos
-    (omega (arith, ap (λ t. t * a) (split q r order), mul-le-mul_left (q - r) less, lt-div-mul-add {a = r * a} pos))
-  where
-    split : (q r : ℕ) → r ≤ q → q ≡ r + (q - r)
-    split q r h = omega arith
+    (omega (arith, ap (λ t. t * a) (add-sub_of_le order), mul-le-mul_left (q - r) less, lt-div-mul-add {a = r * a} pos))
 
 -- the quotients of x + w by R and of x by R + Z
 pub quotient_apart : (S R Z x w q r : ℕ) → q * R ≤ (x + w) * S + R → x * S ≤ r * (R + Z) + (R + Z)
@@ -70,28 +52,14 @@ pub parts_apart : (S R Z x w a d : ℕ) → 0 < R → 0 < d → a ≤ d
 parts_apart S R Z x w a d pos den less =
     let q = div_ceil ((x + w) * S) R in
     let r = x * S / (R + Z) in
-    let ceiling : q * R < (x + w) * S + R = (div_ceil_times ((x + w) * S) R pos).1 in
-    let reach : (x + w) * S ≤ q * R = (div_ceil_times ((x + w) * S) R pos).0 in
-    let floor : x * S < r * (R + Z) + (R + Z) = lt-div-mul-add {a = x * S} (omega arith) in
-    let order : r ≤ q = floor_order S R Z x w q r pos reach (div_le (x * S) (R + Z)) in
-    let far = quotient_apart S R Z x w q r (omega (arith, ceiling)) (omega (arith, floor)) in
-    let near = part_apart q r a d den less order in
+    let order : r ≤ q = floor_le_ceiling (x * S) ((x + w) * S) (R + Z) R pos (omega arith) (omega arith) in
+    let far = quotient_apart S R Z x w q r (omega (arith, (div_ceil_times ((x + w) * S) R pos).1))
+    (omega (arith, lt-div-mul-add {a = x * S} {b = R + Z} (omega arith))) in
     omega (
       arith,
-      mul-le-mul_right (R * (R + Z)) near,
-      ap (λ t. t * (R * (R + Z))) (split q r order),
-      far,
+      mul-le-mul_right (R * (R + Z)) (part_apart q r a d den less order),
+      ap (λ t. t * (R * (R + Z))) (add-sub_of_le order),
     )
-  where
-    split : (q r : ℕ) → r ≤ q → q ≡ r + (q - r)
-    split q r h = omega arith
-
-    div_le : (n d : ℕ) → n / d * d ≤ n
-    div_le n d = div-mul-le_self n d
-
-    floor_order : (S R Z x w q r : ℕ) → 0 < R → (x + w) * S ≤ q * R → r * (R + Z) ≤ x * S → r ≤ q
-    floor_order S R Z x w q r pos up down =
-        le_of_mul-le-mul_right {k = R} (omega (arith, up, down)) pos
 
 -- the ends of a cell, with what stands at 0, and lowered to 1
 pub cell_apart : (S R Z x w a d low high more : ℕ) → 0 < R → 0 < d → a ≤ d → high ≤ low + more
@@ -101,9 +69,6 @@ cell_apart S R Z x w a d low high more pos den less at =
     lowered (div_ceil (div_ceil ((x + w) * S) R * a) d) (x * S / (R + Z) * a / d) (R * (R + Z))
     (S * ((R + Z) * w + Z * x)) (parts_apart S R Z x w a d pos den less)
   where
-    within : (lo P X v : ℕ) → (lo + v) * P ≤ lo * P + X + 4 * P → v * P ≤ X + 4 * P
-    within lo P X v h = omega (arith, h)
-
     contracts : (h l v : ℕ) → h ≤ l + v → min (h + high) S - min (l + low) S ≤ v + more
     contracts h l v p = omega arith
 
@@ -111,13 +76,11 @@ cell_apart S R Z x w a d low high more pos den less at =
         → (min (hi + high) S - min (lo + low) S) * P ≤ X + (4 + more) * P
     lowered hi lo P X far = elim (cases_lt hi lo) [
       | inl l ↦ omega (arith, mul-le-mul_right P (contracts hi lo 0 (omega arith)))
-      | inr l ↦
-          let e : hi ≡ lo + (hi - lo) = omega arith in
-          omega (
-            arith,
-            mul-le-mul_right P (contracts hi lo (hi - lo) (omega arith)),
-            within lo P X (hi - lo) (subst (λ t. t * P ≤ lo * P + X + 4 * P) e far),
-          )
+      | inr l ↦ omega (
+        arith,
+        mul-le-mul_right P (contracts hi lo (hi - lo) (omega arith)),
+        ap (λ t. t * P) (add-sub_of_le l),
+      )
     ]
 
 -- ---- sums over the cells
@@ -139,7 +102,6 @@ spread_within S R Z D n w d x e pos share sum wide mass few =
     le_of_mul-le-mul_right {k = R * (R + Z)}
     (omega (
       arith,
-      sum,
       mul-le-mul_left (S * (R + Z)) wide,
       mul-le-mul_left (S * Z) mass,
       mul-le-mul_right ((R + Z) * (D + 2 * Z)) share,
@@ -166,12 +128,9 @@ lows_fit n S T num den x pos some less fits =
     let r : ℕ → ℕ = λ y. x y * S / T in
     let quotients : count_below n r ≤ S = le_of_mul-le-mul_right {k = T}
     (omega (arith, quotients_sum n S T x, mul-le-mul_right S fits)) pos in
-    let whole : S * ((den - num) + num) ≡ S * den = ap (λ t. S * t) (rest den num less) in
+    let whole : S * ((den - num) + num) ≡ S * den = ap (λ t. S * t) (sub-add_cancel (omega arith)) in
     le_of_mul-le-mul_right {k = den}
     (omega (arith, parts_sum n (den - num) den (S * num) r, mul-le-mul_right (den - num) quotients, whole)) some
-  where
-    rest : (d n : ℕ) → n < d → (d - n) + n ≡ d
-    rest d n h = omega arith
 
 -- ---- the mean
 
@@ -180,32 +139,18 @@ pub mean_within : (S R Z lo hi a d m : ℕ) → 0 < R → 0 < d → a ≤ d → 
     → lo ≤ m * S
     → div_ceil (div_ceil (hi * a) d * S) R - (lo * a / d) * S / (R + Z) ≤ 18 * (hi - lo + 2) + 306 * m * Z + 2
 mean_within S R Z lo hi a d m pos den less share share' order inside =
-    let xh = div_ceil (hi * a) d in
     let xl = lo * a / d in
-    let q = div_ceil (xh * S) R in
+    let x = xl + (hi - lo + 2) in
+    let q = div_ceil (x * S) R in
     let r = xl * S / (R + Z) in
-    let low : xl ≤ lo = part_below lo a d den less in
-    let near : xh ≤ xl + (hi - lo) + 2 = part_apart hi lo a d den less order in
-    let up : q ≤ div_ceil ((xl + (hi - lo + 2)) * S) R =
-    ceiling_grows (xh * S) ((xl + (hi - lo + 2)) * S) R pos (mul-le-mul_right S (omega (arith, near))) in
-    let ceiling : div_ceil ((xl + (hi - lo + 2)) * S) R * R < (xl + (hi - lo + 2)) * S + R =
-    (div_ceil_times ((xl + (hi - lo + 2)) * S) R pos).1 in
-    let floor : xl * S < r * (R + Z) + (R + Z) = lt-div-mul-add {a = xl * S} (omega arith) in
-    let far = quotient_apart S R Z xl (hi - lo + 2) (div_ceil ((xl + (hi - lo + 2)) * S) R) r
-    (omega (arith, ceiling)) (omega (arith, floor)) in
-    omega (
-      arith,
-      up,
-      joined S R Z xl (hi - lo + 2) m (div_ceil ((xl + (hi - lo + 2)) * S) R) r pos share share'
-          (omega (arith, low, inside)) far,
-    )
+    let near : div_ceil (hi * a) d ≤ x = omega (arith, part_apart hi lo a d den less order) in
+    let up : div_ceil (div_ceil (hi * a) d * S) R ≤ q = div_ceil_least _ R q pos
+    (omega (arith, mul-le-mul_right S near, (div_ceil_times (x * S) R pos).0)) in
+    let far = quotient_apart S R Z xl (hi - lo + 2) q r (omega (arith, (div_ceil_times (x * S) R pos).1))
+    (omega (arith, lt-div-mul-add {a = xl * S} {b = R + Z} (omega arith))) in
+    let low : xl ≤ lo = div-le_of_le-mul d (omega (arith, mul-le-mul_left lo less)) in
+    omega (arith, joined S R Z xl (hi - lo + 2) m q r pos share share' (omega arith) far)
   where
-    part_below : (n a d : ℕ) → 0 < d → a ≤ d → n * a / d ≤ n
-    part_below n a d pos less = div-le_of_le-mul d (omega (arith, mul-le-mul_left n less))
-
-    ceiling_grows : (n k d : ℕ) → 0 < d → n ≤ k → div_ceil n d ≤ div_ceil k d
-    ceiling_grows n k d pos h = div_ceil_least n d (div_ceil k d) pos (omega (arith, h, (div_ceil_times k d pos).0))
-
     joined : (S R Z x w m q r : ℕ) → 0 < R → S ≤ 18 * R → S ≤ 17 * (R + Z) → x ≤ m * S
         → q * (R * (R + Z)) ≤ r * (R * (R + Z)) + S * ((R + Z) * w + Z * x) + 2 * (R * (R + Z))
         → q ≤ r + 18 * w + 306 * m * Z + 2
@@ -213,7 +158,6 @@ mean_within S R Z lo hi a d m pos den less share share' order inside =
         le_of_mul-le-mul_right {k = R * (R + Z)}
         (omega (
           arith,
-          far,
           mul-le-mul_right ((R + Z) * w) share,
           mul-le-mul_left (S * Z) inside,
           mul-le-mul_right (Z * m) (mul-le-mul share share'),

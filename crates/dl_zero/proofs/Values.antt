@@ -1,23 +1,6 @@
 -- The ends after the change and those that the law of a changed probability of no claim speaks of. S units make 1.
-use Rattle.std.proofs.Common.{ℕ, zero, suc, ◌≡◌, ◌-◌, ◌*◌, ◌/◌, ◌<◌, ◌≤◌, arith, refl, sym, ap, ap₂, subst, subst₂, ◌∙◌}
-use Rattle.std.specs.Prelude.{nat_eq}
-use Rattle.std.specs.Int.{div_ceil}
-use Rattle.std.proofs.Math.Nat.{mul-pos}
-use Rattle.dl_exact.specs.Fraction.{Fraction, whole, ◌over◌, ◌+ℚ◌, ◌-ℚ◌, ◌*ℚ◌, ◌/ℚ◌, ◌≤ℚ◌, ◌<ℚ◌}
-unfoldable use Rattle.dl_exact.specs.Count.{count_below}
-use Rattle.dl_exact.specs.Sum.{sum_to}
-use Rattle.dl_exact.proofs.Laws.{one_pos, times_comm, one_times, le_trans, le_of_eq, le_plus, zero_le}
-use Rattle.dl_exact.proofs.Over.{over_self, over_same, over_div, le_over}
-use Rattle.dl_exact.proofs.Denominators.{over_minus, over_one, over_pos, over_zero}
+use Rattle.dl_zero.proofs.Common.{ℕ, zero, suc, ◌≡◌, ◌-◌, ◌*◌, ◌/◌, ◌<◌, ◌≤◌, arith, refl, sym, ap, ap₂, subst, subst₂, ◌∙◌, nat_eq, div_ceil, mul-pos, Fraction, whole, ◌over◌, ◌+ℚ◌, ◌-ℚ◌, ◌*ℚ◌, ◌/ℚ◌, ◌≤ℚ◌, ◌<ℚ◌, count_below, sum_to, one_pos, times_comm, one_times, le_trans, le_of_eq, le_plus, zero_le, over_self, over_same, over_div, le_over, over_minus, over_one, over_pos, over_zero, to_over, add_low, add_high, scale_low, scale_high, div_low, div_high, enclose_low, enclose_high, all_at_zero, where_true, changed_end, off, on, sub_zero, low_changed, high_changed}
 use Rattle.dl_exact.proofs.Sums.{sum_to_le}
-use Rattle.dl_exact.proofs.SumsOver.{to_over}
-use Rattle.dl_iv.proofs.Operations.{add_low, add_high, scale_low, scale_high, div_low, div_high, enclose_low, enclose_high}
-unfoldable use Rattle.dl_grid.specs.Cells.{all_at_zero}
-use Rattle.dl_model.specs.Program.{where_true}
-use Rattle.dl_model.specs.ChangedZero.{changed_end}
-use Rattle.dl_model.proofs.Picks.{off, on}
-use Rattle.dl_model.proofs.ChangedZero.{sub_zero}
-unfoldable use Rattle.dl_zero.specs.Ends.{low_changed, high_changed}
 
 -- ---- words
 
@@ -35,18 +18,13 @@ rest_of p = over_minus p.den p.num p.den p.positive ∙ ap₂ (λ s t. s -ℚ t)
 pub rest_units : (S n : ℕ) → 0 < S → (S - n) over S ≡ whole 1 -ℚ n over S
 rest_units S n pos = over_minus S n S pos ∙ ap (λ t. t -ℚ n over S) (over_one S pos)
 
+pub rest_positive : (S n : ℕ) → n < S → whole 0 <ℚ whole 1 -ℚ n over S
+rest_positive S n h = subst (λ t. whole 0 <ℚ t) (rest_units S n (omega arith))
+    (over_pos (S - n) S (omega arith) (omega arith))
+
 -- ---- one outcome
 
 module _ (S nl nh : ℕ) (p : Fraction) (pos : 0 < S) (order : nl ≤ nh) (below : nh < S) where
-  rest_low : whole 1 -ℚ nl over S ≤ℚ (S - nl) over S
-  rest_low = le_of_eq _ _ (sym (rest_units S nl pos))
-
-  rest_high : (S - nh) over S ≤ℚ whole 1 -ℚ nh over S
-  rest_high = le_of_eq _ _ (rest_units S nh pos)
-
-  rest_positive : (n : ℕ) → n < S → whole 0 <ℚ whole 1 -ℚ n over S
-  rest_positive n h = subst (λ t. whole 0 <ℚ t) (rest_units S n pos) (over_pos (S - n) S (omega arith) pos)
-
   -- what is left after `none` is taken off
   taken_off : (e n y : ℕ) → (e - all_at_zero n y) over S ≡ e over S -ℚ where_true (nat_eq y 0) (n over S)
   taken_off e n y = over_minus e (all_at_zero n y) S pos ∙ ap (λ t. e over S -ℚ t) (sym (at_zero_is S n y pos))
@@ -73,7 +51,7 @@ module _ (S nl nh : ℕ) (p : Fraction) (pos : 0 < S) (order : nl ≤ nh) (below
       let left = l - all_at_zero nh y in
       let x = l over S -ℚ where_true (nat_eq y 0) (nh over S) in
       let quotient = div_low S pos left (S - nl) x (whole 1 -ℚ nl over S) (omega arith)
-      (rest_positive nl (omega arith)) (le_of_eq _ _ (taken_off l nh y)) rest_low in
+      (rest_positive S nl (omega arith)) (le_of_eq _ _ (taken_off l nh y)) (le_of_eq _ _ (sym (rest_units S nl pos))) in
       let part = scale_low S pos (left * S / (S - nl)) (p.den - p.num) p.den _ p.positive quotient in
       add_low S pos _ _ _ _ (subst (λ t. (left * S / (S - nl) * (p.den - p.num) / p.den) over S ≤ℚ t) (turned _) part)
       (p_low y)
@@ -85,7 +63,7 @@ module _ (S nl nh : ℕ) (p : Fraction) (pos : 0 < S) (order : nl ≤ nh) (below
       let left = h - all_at_zero nl y in
       let x = h over S -ℚ where_true (nat_eq y 0) (nl over S) in
       let quotient = div_high S pos left (S - nh) x (whole 1 -ℚ nh over S) (omega arith)
-      (le_of_eq _ _ (sym (taken_off h nl y))) rest_high in
+      (le_of_eq _ _ (sym (taken_off h nl y))) (le_of_eq _ _ (rest_units S nh pos)) in
       let part = scale_high S pos (div_ceil (left * S) (S - nh)) (p.den - p.num) p.den _ p.positive quotient in
       add_high S pos _ _ _ _
       (subst (λ t. t ≤ℚ div_ceil (div_ceil (left * S) (S - nh) * (p.den - p.num)) p.den over S) (turned _) part)
@@ -98,15 +76,12 @@ module _ (S nl nh : ℕ) (p : Fraction) (pos : 0 < S) (order : nl ≤ nh) (below
       let q : Fraction = (l over S -ℚ where_true (nat_eq y 0) (nh over S)) /ℚ (whole 1 -ℚ nl over S) in
       let none : Fraction = where_true (nat_eq y 0) (whole 0) in
       let units : (l - all_at_zero nh y) over (S - nl) ≡ q =
-      over_same _ _ _ _ (omega arith) (mul-pos pos (omega arith)) (cross (l - all_at_zero nh y) (S - nl))
+      over_same _ _ _ _ (omega arith) (mul-pos pos (omega arith)) (omega arith)
       ∙ sym (over_div (l - all_at_zero nh y) S (S - nl) S pos pos (omega arith))
       ∙ ap₂ (λ s t. s /ℚ t) (taken_off l nh y) (rest_units S nl pos) in
       subst₂ (λ s t. s ≤ℚ t) (sym units)
       (ap (λ t. t +ℚ none) (sym (one_times q) ∙ ap (λ t. t *ℚ q) (sym (sub_zero (whole 1)))))
       (le_plus q none)
-    where
-      cross : (n r : ℕ) → n * (S * r) ≡ (n * S) * r
-      cross n r = omega arith
 
 -- ---- the low ends together
 

@@ -28,6 +28,7 @@ fn only_at_0<const B: u32>(value: Iv<B>, y: u32) -> Iv<B>
 /// What is left of it after `none` is taken off at `y = 0` is divided by the probability of a claim
 /// first and multiplied by `1 - p` after: in the other order each rounding would be multiplied by
 /// 18. `at_0` holds `p`.
+#[tactic(auto, using(dl_exact::proofs::BelowOne::num_below))]
 fn changed_cell<const B: u32>(cell: Iv<B>, none: Iv<B>, at_0: Iv<B>, p: Frac, y: u32) -> Iv<B>
     requires below_one { p <ℚ whole 1 }
     requires parts { p.den < 2 ^ 37 }

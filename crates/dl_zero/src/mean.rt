@@ -15,6 +15,7 @@ use dl_iv::Iv;
 /// its probability of no claim, of at most 17 / 18. `p` is below 1, with parts below `2^37`. No
 /// claim adds 0, so that the mean is multiplied by `1 - p`, and divided by the probability of a
 /// claim after: in the other order the product could pass 128 bits. It takes no memory.
+#[tactic(auto, using(dl_exact::proofs::BelowOne::num_below))]
 pub fn zero_mean<const B: u32>(mean: Iv<B>, none: Iv<B>, p: Frac) -> Iv<B>
     requires below_one { p <ℚ whole 1 }
     requires parts { p.den < 2 ^ 37 }

@@ -1,4 +1,4 @@
-use Rattle.dl_exp.proofs.Common.{◌≡◌, ℕ, suc, ◌+◌, ◌*◌, ◌/◌, ◌^◌, ◌<◌, ◌≤◌, arith, sym, subst, subst₂, ap, ◌∙◌, mul-pos, mul-le-mul_right, zero-lt-suc, div_ceil, div_ceil_least, floor_le_ceiling, count_below}
+use Rattle.dl_exp.proofs.Common.{◌≡◌, ℕ, suc, ◌+◌, ◌*◌, ◌/◌, ◌^◌, ◌<◌, ◌≤◌, arith, sym, subst, subst₂, ◌∙◌, mul-pos, mul-le-mul_right, zero-lt-suc, div_ceil, div_ceil_least, floor_le_ceiling, count_below}
 use Rattle.std.proofs.Common.{ap₂, add-one, refl}
 unfoldable use Rattle.dl_exp.specs.Ends.{low_term, high_term}
 use Rattle.dl_exp.proofs.Terms.{half_parts}
@@ -72,17 +72,6 @@ loop-n-preserved c =
     partial : (sum : ℕ) (term : ℕ → ℕ) (n : ℕ) → sum ≡ count_below (suc n) term → sum ≡ count_below (n + 1) term
     partial sum term n e = subst (λ k. sum ≡ count_below k term) (sym (add-one n)) e
 
-pub returns-clause-low : goal.returns-clause-low
-returns-clause-low c =
-    let e : c.loop-n.n ≡ 18 = omega (arith, c.loop-n.far-n, c.loop-n-test.false) in
-    c.loop-n.invariant.low_partial ∙ ap (λ k. count_below (suc k) (low_term c.args.x)) e
-
-pub returns-clause-high : goal.returns-clause-high
-returns-clause-high c =
-    let e : c.loop-n.n ≡ 18 = omega (arith, c.loop-n.far-n, c.loop-n-test.false) in
-    ap₂ (λ a b. a + b) c.loop-n.invariant.high_partial c.loop-n.invariant.high_value
-    ∙ ap (λ k. count_below (suc k) (high_term c.args.x) + high_term c.args.x k) e
-
 pub returns-clause-near : goal.returns-clause-near
 returns-clause-near c =
     let i = c.loop-n.invariant in
@@ -91,34 +80,3 @@ returns-clause-near c =
     fallen (2 ^ 63) c.loop-n.high_term fall_far
     (subst (λ k. c.loop-n.high_term * fall k ≤ 2 ^ 63 + 2 * fall k) e i.falls) (omega (arith, fall_far)) in
     omega (arith, last, i.apart)
-
--- the numbers that the code makes are within the bound
-product_fits : (t n : ℕ) → t ≤ 2 ^ 63 → n < 2 ^ 62 → t * n < 2 ^ 128
-product_fits t n small few = omega (arith, mul-le-mul_right n small, few)
-
-divisor_fits : (d n : ℕ) → d < 2 ^ 62 → n < 18 → d * (n + 1) < 2 ^ 128
-divisor_fits d n few early =
-    let below : d ≤ 2 ^ 62 = omega (arith, few) in
-    omega (arith, mul-le-mul_right (n + 1) below, early)
-
-pub overflow_mul-divisor : goal.overflow_mul-divisor
-overflow_mul-divisor c =
-    let early : c.loop-n.n < 18 = omega (arith, c.loop-n-test.true) in
-    omega (arith, divisor_fits _ _ c.den-den.ensures.fits early)
-
-pub overflow_mul-low_term : goal.overflow_mul-low_term
-overflow_mul-low_term c =
-    let small : c.loop-n.low_term ≤ 2 ^ 63 = omega (arith, c.loop-n.invariant.terms, c.loop-n.invariant.small) in
-    omega (arith, product_fits _ _ small c.num-num.ensures.fits)
-
-pub overflow_mul-high_term : goal.overflow_mul-high_term
-overflow_mul-high_term c = omega (arith, product_fits _ _ c.loop-n.invariant.small c.num-num.ensures.fits)
-
-pub returns-clause-one : goal.returns-clause-one
-returns-clause-one c = c.loop-n.invariant.one
-
-pub returns-clause-order : goal.returns-clause-order
-returns-clause-order c = omega (arith, c.loop-n.invariant.order)
-
-pub nonzero_div-low_term : goal.nonzero_div-low_term
-nonzero_div-low_term c = omega (arith, mul-pos c.den-den.ensures.positive (zero-lt-suc c.loop-n.n))

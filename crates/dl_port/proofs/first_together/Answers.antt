@@ -1,16 +1,7 @@
 use Rattle.dl_port.proofs.Common.{arith, IfOk-weaker}
-use Rattle.dl_port.proofs.Added.{to_the_end, all_within}
+use Rattle.dl_port.proofs.Added.{to_the_end}
 use Rattle.dl_port.proofs.OneGrid.{first_run, with_rest}
 use Rattle.dl_port.proofs.first_together.Goals as goal
-
-pub with_units-requires : goal.with_units-requires
-with_units-requires g c = (
-  omega arith,
-  (
-    c.requires.some,
-    (c.in_ok-first.ensures.cells, all_within c.args.cells c.args.units.now c.args.many c.requires.in_each),
-  ),
-)
 
 pub returns-clause-encloses : goal.returns-clause-encloses
 returns-clause-encloses g c =

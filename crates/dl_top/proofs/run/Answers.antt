@@ -1,9 +1,7 @@
 -- A refusal, written whole or in part.
-use Rattle.std.proofs.Common.{refl, inl, inr, sym, ◌∙◌, []}
-use Rattle.dl_top.specs.declared.status.Status.TheVariants.{Done}
-use Rattle.dl_top.specs.Answers.{Answers}
+use Rattle.dl_top.proofs.Common.{refl, inl, inr, sym, ◌∙◌, [], Done, Answers}
 use Rattle.dl_top.proofs.ReplyLaws.{told, accepted, has_form, certifiable, verifiable}
-use Rattle.dl_top.proofs.RunLaws.{IsTold, message, read_of_status, usage_of_status, part, ends_well}
+use Rattle.dl_top.proofs.RunLaws.{IsTold, message, status_tells, part, ends_well}
 use Rattle.dl_top.proofs.run.Goals as goal
 
 pub returns-in-Ok-write_all-clause-answer : goal.returns-in-Ok-write_all-clause-answer
@@ -15,13 +13,11 @@ returns-in-Ok-write_all-clause-answer g c =
 
 pub returns-in-Ok-write_all-clause-complete : goal.returns-in-Ok-write_all-clause-complete
 returns-in-Ok-write_all-clause-complete g c =
-    told _ {P = λ input. IsTold _ input c.in-Refusal.fault c.in-Refusal.text.items} c.in-Refusal.ensures.reply
-    (λ input is accepts.
-    ends_well _ input _ _ c.status.result is c.status.ensures (accepted _ input accepts))
+    ends_well _ _ _ _ c.status.result c.in-Refusal.ensures.reply c.status.ensures (accepted _)
 
 pub returns-in-Ok-write_all-clause-usage : goal.returns-in-Ok-write_all-clause-usage
 returns-in-Ok-write_all-clause-usage g c e = c.in-Refusal.ensures.usage
-    (usage_of_status c.in-Refusal.fault (sym c.status.ensures ∙ e))
+    ((status_tells c.in-Refusal.fault).1 (sym c.status.ensures ∙ e))
 
 pub returns-in-Refusal-clause-write_cause : goal.returns-in-Refusal-clause-write_cause
 returns-in-Refusal-clause-write_cause g c e = inr (
@@ -35,7 +31,7 @@ returns-in-Refusal-clause-write_cause g c e = inr (
 
 pub returns-in-Ok-write_all-clause-read_words : goal.returns-in-Ok-write_all-clause-read_words
 returns-in-Ok-write_all-clause-read_words g c e = c.in-Refusal.ensures.read_words
-    (read_of_status c.in-Refusal.fault (sym c.status.ensures ∙ e))
+    ((status_tells c.in-Refusal.fault).0 (sym c.status.ensures ∙ e))
 
 pub returns-in-Answer-clause-write_cause : goal.returns-in-Answer-clause-write_cause
 returns-in-Answer-clause-write_cause g c e = inl (
@@ -51,21 +47,15 @@ returns-in-Answer-clause-write_cause g c e = inl (
 
 pub returns-in-Ok-write_all-clause-formatted : goal.returns-in-Ok-write_all-clause-formatted
 returns-in-Ok-write_all-clause-formatted g c =
-    told _ {P = λ input. IsTold _ input c.in-Refusal.fault c.in-Refusal.text.items} c.in-Refusal.ensures.reply
-    (λ input is form.
-    ends_well _ input _ _ c.status.result is c.status.ensures (has_form _ input form))
+    ends_well _ _ _ _ c.status.result c.in-Refusal.ensures.reply c.status.ensures (has_form _)
 
 pub returns-in-Ok-write_all-clause-certified : goal.returns-in-Ok-write_all-clause-certified
 returns-in-Ok-write_all-clause-certified g c =
-    told _ {P = λ input. IsTold _ input c.in-Refusal.fault c.in-Refusal.text.items} c.in-Refusal.ensures.reply
-    (λ input is can.
-    ends_well _ input _ _ c.status.result is c.status.ensures (certifiable _ input can))
+    ends_well _ _ _ _ c.status.result c.in-Refusal.ensures.reply c.status.ensures (certifiable _)
 
 pub returns-in-Ok-write_all-clause-verified : goal.returns-in-Ok-write_all-clause-verified
 returns-in-Ok-write_all-clause-verified g c =
-    told _ {P = λ input. IsTold _ input c.in-Refusal.fault c.in-Refusal.text.items} c.in-Refusal.ensures.reply
-    (λ input is can.
-    ends_well _ input _ _ c.status.result is c.status.ensures (verifiable _ input can))
+    ends_well _ _ _ _ c.status.result c.in-Refusal.ensures.reply c.status.ensures (verifiable _)
 
 pub returns-in-Ok-write_all-clause-unread : goal.returns-in-Ok-write_all-clause-unread
 returns-in-Ok-write_all-clause-unread g c (fault, e) =

@@ -1,6 +1,4 @@
-use Rattle.std.proofs.Common.{◌≡◌, ◌-◌, ◌*◌}
-use Rattle.dl_grid.specs.Cells.{low_at, high_at}
-use Rattle.dl_exact.specs.Count.{count_below}
+use Rattle.dl_alloc.proofs.Common.{◌≡◌, ◌-◌, ◌*◌, low_at, high_at, count_below}
 use Rattle.dl_alloc.proofs.joint.weighted_sums.Given as goal
 
 abbrev pub invariant-loop-y : goal.invariant-loop-y

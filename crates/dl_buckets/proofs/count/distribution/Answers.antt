@@ -4,5 +4,4 @@ use Rattle.dl_buckets.proofs.count.distribution.Goals as goal
 
 pub returns-in-Exposed : goal.returns-in-Exposed
 returns-in-Exposed c =
-    rw c.in-Exposed.is (read_both 1 (λ freq zero. (freq, zero)) _ _ _ _ c.grid_freq-freq.result c.zero_number-zero.result
-    c.or.result c.grid_freq-freq.ensures c.zero_number-zero.ensures c.or.ensures)
+    rw c.in-Exposed.is (read_both (λ freq zero. (freq, zero)) c.grid_freq-freq.ensures c.zero_number-zero.ensures c.or.ensures)

@@ -3,6 +3,5 @@ use Rattle.dl_buckets.proofs.LayersRead.{layer_read}
 use Rattle.dl_buckets.proofs.layers.grid_layer.Goals as goal
 
 pub returns : goal.returns
-returns c = layer_read c.args.most c.args.bs c.args.layer.now c.args.limit.now c.grid_limit-most_paid.result
-    c.money-attach.result c.or-limits.result c.or.result c.requires.limit c.grid_limit-most_paid.ensures
+returns c = layer_read c.args.most c.args.bs c.args.layer.now c.requires.limit c.grid_limit-most_paid.ensures
     c.money-attach.ensures c.or-limits.ensures c.or.ensures

@@ -1,40 +1,26 @@
 -- One layer more.
-use Rattle.dl_buckets.proofs.Common.{refl, grid_ceded}
-use Rattle.dl_ast.specs.WellFormed.{IsFormedCeded}
-use Rattle.dl_buckets.specs.Reading.{flaws_of_ceded}
+use Rattle.dl_buckets.proofs.Common.{refl, grid_ceded, IsFormedCeded, flaws_of_ceded}
 use Rattle.dl_buckets.proofs.Agreeing.{read_no_part, read_next}
 use Rattle.dl_buckets.proofs.Firsts.{at_item}
 use Rattle.dl_buckets.proofs.LayersRead.{ceded_read}
 use Rattle.dl_buckets.proofs.layers.grid_layers.Goals as goal
 
 pub layers-init : goal.layers-init
-layers-init c = read_no_part 7 (flaws_of_ceded c.args.most c.args.bs) (grid_ceded c.args.bs) _ _ c.new-made.ensures.items
+layers-init c = read_no_part 7 (flaws_of_ceded c.args.most c.args.bs) (grid_ceded c.args.bs) c.new-made.ensures.items
     c.none-flaws.ensures
 
 pub limit_number-limit-requires : goal.limit_number-limit-requires
-limit_number-limit-requires c = (at_item IsFormedCeded c.args.layers.now c.args.layers.now c.layers.ceded-index c.ceded-item.result refl
-    c.requires.formed c.layers-test.true c.ceded-item.is).layer.limit
+limit_number-limit-requires c = (at_item IsFormedCeded _ _ _ _ refl c.requires.formed c.layers-test.true c.ceded-item.is).layer.limit
 
 pub share_number-share-requires : goal.share_number-share-requires
-share_number-share-requires c = (at_item IsFormedCeded c.args.layers.now c.args.layers.now c.layers.ceded-index c.ceded-item.result refl
-    c.requires.formed c.layers-test.true c.ceded-item.is).share
+share_number-share-requires c = (at_item IsFormedCeded _ _ _ _ refl c.requires.formed c.layers-test.true c.ceded-item.is).share
 
 pub grid_layer-layer-requires-clause-formed : goal.grid_layer-layer-requires-clause-formed
-grid_layer-layer-requires-clause-formed c = (at_item IsFormedCeded c.args.layers.now c.args.layers.now c.layers.ceded-index c.ceded-item.result refl
-    c.requires.formed c.layers-test.true c.ceded-item.is).layer
+grid_layer-layer-requires-clause-formed c = (at_item IsFormedCeded _ _ _ _ refl c.requires.formed c.layers-test.true c.ceded-item.is).layer
 
 pub layers-preserved : goal.layers-preserved
 layers-preserved c =
     read_next 7 (flaws_of_ceded c.args.most c.args.bs) (grid_ceded c.args.bs) c.args.layers.now c.layers.ceded-index
-    c.ceded-item.result c.layers.made.items c.push.new.self.items
-    (record {
-      part = record {
-        share = c.share_number-share.result.part;
-        layer = c.grid_layer-layer.result.part;
-        span = c.ceded-item.result.span;
-      };
-      flaws = c.or.result;
-    }) c.layers.flaws c.or-flaws.result c.layers-test.true c.ceded-item.is c.layers.invariant
-    (ceded_read c.args.most c.args.bs c.ceded-item.result c.limit_number-limit.result c.share_number-share.result
-    c.grid_layer-layer.result c.or.result c.limit_number-limit.ensures.read c.share_number-share.ensures
+    c.layers-test.true c.ceded-item.is c.layers.invariant
+    (ceded_read c.args.most c.args.bs c.ceded-item.result c.limit_number-limit.ensures.read c.share_number-share.ensures
     c.grid_layer-layer.ensures c.or.ensures) c.in_ok-push.ensures.items c.or-flaws.ensures

@@ -1,7 +1,5 @@
 -- The layers so far.
-use Rattle.dl_buckets.proofs.Common.{map, take, grid_ceded}
-use Rattle.dl_buckets.specs.Flaws.{IsRead, flaws_in}
-use Rattle.dl_buckets.specs.Reading.{flaws_of_ceded}
+use Rattle.dl_buckets.proofs.Common.{map, take, grid_ceded, IsRead, flaws_in, flaws_of_ceded}
 use Rattle.dl_buckets.proofs.layers.grid_layers.Given as goal
 
 abbrev pub invariant-layers : goal.invariant-layers

@@ -1,5 +1,6 @@
 -- One atom more.
-use Rattle.dl_buckets.proofs.LongMixtures.{atoms_none, atoms_next, atoms_end}
+use Rattle.dl_buckets.proofs.Common.{take_all}
+use Rattle.dl_buckets.proofs.LongMixtures.{atoms_none, atoms_next}
 use Rattle.dl_buckets.proofs.long_mixtures.atoms_flaws.Goals as goal
 
 pub atoms-init : goal.atoms-init
@@ -12,5 +13,4 @@ atoms-preserved c = λ most bs.
     c.in_ok-values.ensures c.in_ok-probs.ensures c.or.ensures c.or-flaws.ensures
 
 pub returns : goal.returns
-returns c = λ most bs.
-    atoms_end most bs c.atoms.flaws c.args.atoms.now c.atoms.atom-index c.atoms-test.false (c.atoms.invariant most bs)
+returns c = λ most bs. rw (take_all c.atoms.atom-index c.args.atoms.now c.atoms-test.false) at (c.atoms.invariant most bs)

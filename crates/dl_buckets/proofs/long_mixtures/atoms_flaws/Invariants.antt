@@ -1,7 +1,5 @@
 -- The flaws of the atoms so far.
-use Rattle.dl_buckets.proofs.Common.{ℕ, take, Fraction}
-use Rattle.dl_buckets.specs.Flaws.{AgreeEarly, flaws_in}
-use Rattle.dl_buckets.specs.Reading.{flaws_of_atom}
+use Rattle.dl_buckets.proofs.Common.{ℕ, take, Fraction, AgreeEarly, flaws_in, flaws_of_atom}
 use Rattle.dl_buckets.proofs.long_mixtures.atoms_flaws.Given as goal
 
 abbrev pub invariant-atoms : goal.invariant-atoms

@@ -1,14 +1,12 @@
 -- One part more.
-use Rattle.dl_buckets.proofs.Common.{grid_atom}
-use Rattle.dl_buckets.specs.Reading.{flaws_of_atom}
+use Rattle.dl_buckets.proofs.Common.{grid_atom, flaws_of_atom}
 use Rattle.dl_buckets.proofs.Agreeing.{read_no_part, read_next}
 use Rattle.dl_buckets.proofs.losses.grid_atoms.Goals as goal
 
 pub atoms-init : goal.atoms-init
-atoms-init c = read_no_part 7 (flaws_of_atom c.args.most c.args.bs) (grid_atom c.args.bs) _ _ c.new-made.ensures.items c.none-flaws.ensures
+atoms-init c = read_no_part 7 (flaws_of_atom c.args.most c.args.bs) (grid_atom c.args.bs) c.new-made.ensures.items c.none-flaws.ensures
 
 pub atoms-preserved : goal.atoms-preserved
 atoms-preserved c =
-    read_next 7 (flaws_of_atom c.args.most c.args.bs) (grid_atom c.args.bs) c.args.atoms.now c.atoms.atom-index c.atom-item.result
-    c.atoms.made.items c.push.new.self.items c.in_ok-one.one c.atoms.flaws c.or-flaws.result c.atoms-test.true c.atom-item.is
-    c.atoms.invariant c.in_ok-one.ensures c.in_ok-push.ensures.items c.or-flaws.ensures
+    read_next 7 (flaws_of_atom c.args.most c.args.bs) (grid_atom c.args.bs) c.args.atoms.now c.atoms.atom-index
+    c.atoms-test.true c.atom-item.is c.atoms.invariant c.in_ok-one.ensures c.in_ok-push.ensures.items c.or-flaws.ensures

@@ -1,7 +1,5 @@
 -- The atoms so far.
-use Rattle.dl_buckets.proofs.Common.{map, take, grid_atom}
-use Rattle.dl_buckets.specs.Flaws.{IsRead, flaws_in}
-use Rattle.dl_buckets.specs.Reading.{flaws_of_atom}
+use Rattle.dl_buckets.proofs.Common.{map, take, grid_atom, IsRead, flaws_in, flaws_of_atom}
 use Rattle.dl_buckets.proofs.losses.grid_atoms.Given as goal
 
 abbrev pub invariant-atoms : goal.invariant-atoms

@@ -6,7 +6,6 @@ use Rattle.dl_buckets.proofs.losses.probs_beside.Goals as goal
 
 pub returns-in_ok-made-in-Some : goal.returns-in_ok-made-in-Some
 returns-in_ok-made-in-Some c =
-    rw c.in-Some.is (read_made 7 Some _ _ _ (lengths_read c.args.count _ c.in-Some.list
-    c.in_ok-made-in-Some.made c.lengths_at-lengths.result c.or.result c.in_ok-made-in-Some.ensures.read
+    rw c.in-Some.is (read_made Some (lengths_read c.args.count c.in-Some.list c.in_ok-made-in-Some.ensures.read
     c.in_ok-made-in-Some.ensures.values (ap length c.as_slice.ensures)
     (rw c.place_if.ensures at c.lengths_at-lengths.ensures) c.or.ensures))

@@ -5,8 +5,7 @@ use Rattle.dl_buckets.proofs.losses.read_shares.Goals as goal
 
 pub returns-clause-read : goal.returns-clause-read
 returns-clause-read c =
-    shares_read c.args.list.now c.in_ok-listed.listed c.into_vec.result.items c.in_ok-made.made c.or.result
-    c.in_ok-listed.ensures c.into_vec.ensures c.in_ok-made.ensures.read c.or.ensures
+    shares_read c.args.list.now c.in_ok-listed.ensures c.into_vec.ensures c.in_ok-made.ensures.read c.or.ensures
 
 pub returns-clause-values : goal.returns-clause-values
 returns-clause-values c = λ kept.

@@ -1,7 +1,5 @@
 -- No part of the common denominator passes the whole.
-use Rattle.dl_buckets.proofs.Common.{◌≤◌, ◌<◌, ◌∷◌, [], ap, ap₂, ◌∙◌, arith}
-use Rattle.dl_sev.specs.declared.range.Range.{Range}
-use Rattle.dl_sev.specs.Ranges.{range_denominator}
+use Rattle.dl_buckets.proofs.Common.{◌≤◌, ◌<◌, ◌∷◌, [], ap, ap₂, ◌∙◌, arith, Range, range_denominator}
 use Rattle.dl_exact.specs.Multiples.{lcm}
 use Rattle.dl_plan.proofs.CommonDenominators.{common_take-le, lcm_pos}
 use Rattle.dl_buckets.proofs.numbers.shared_denominator.Goals as goal

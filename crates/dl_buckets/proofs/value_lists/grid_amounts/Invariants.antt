@@ -1,7 +1,5 @@
 -- The amounts so far.
-use Rattle.dl_buckets.proofs.Common.{map, take, number_of}
-use Rattle.dl_buckets.specs.Flaws.{IsRead, flaws_in}
-use Rattle.dl_buckets.specs.Reading.{flaws_of_amount}
+use Rattle.dl_buckets.proofs.Common.{map, take, number_of, IsRead, flaws_in, flaws_of_amount}
 use Rattle.dl_buckets.proofs.value_lists.grid_amounts.Given as goal
 
 abbrev pub invariant-placed : goal.invariant-placed

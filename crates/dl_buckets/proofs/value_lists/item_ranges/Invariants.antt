@@ -1,8 +1,5 @@
 -- The items so far.
-use Rattle.dl_buckets.proofs.Common.{map, take}
-use Rattle.dl_buckets.specs.Flaws.{IsReadTo, flaws_in}
-use Rattle.dl_buckets.specs.Reading.{flaws_of_item}
-use Rattle.dl_buckets.specs.Values.{placed_range}
+use Rattle.dl_buckets.proofs.Common.{map, take, IsReadTo, flaws_in, flaws_of_item, placed_range}
 use Rattle.dl_buckets.proofs.value_lists.item_ranges.Given as goal
 
 abbrev pub invariant-items : goal.invariant-items

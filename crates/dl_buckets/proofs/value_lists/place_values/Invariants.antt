@@ -1,7 +1,5 @@
 -- The ranges so far.
-use Rattle.dl_buckets.proofs.Common.{◌≡◌, ◌≤◌, flat_map, take, length}
-use Rattle.dl_limits.specs.Limits.{most_values}
-use Rattle.dl_buckets.specs.Values.{placed_in}
+use Rattle.dl_buckets.proofs.Common.{◌≡◌, ◌≤◌, flat_map, take, length, most_values, placed_in}
 use Rattle.dl_buckets.proofs.value_lists.place_values.Given as goal
 
 abbrev pub invariant-each : goal.invariant-each

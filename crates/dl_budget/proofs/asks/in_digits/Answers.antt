@@ -1,5 +1,4 @@
-use Rattle.dl_budget.proofs.Common.{◌+◌, ◌*◌, ◌^◌, ap, ap₂, sym, ◌∙◌, div_ceil, pow_pos, up_quotient}
-use Rattle.dl_budget.specs.Asks.{in_digits}
+use Rattle.dl_budget.proofs.Common.{◌+◌, ◌*◌, ◌^◌, ap, ap₂, sym, ◌∙◌, div_ceil, pow_pos, up_quotient, in_digits}
 use Rattle.dl_budget.proofs.asks.in_digits.Goals as goal
 
 pub returns : goal.returns

@@ -1,10 +1,6 @@
-use Rattle.dl_budget.proofs.Common.{ℕ, suc, ◌≡◌, ◌≤◌, length, arith, inl, inr, refl, ap, ◌∙◌, leb_tells}
-use Rattle.std.proofs.Common.{Some, None, rules, tests, bytes_eq}
-use Rattle.std.specs.Prelude.{cond, ltb, unwrap_or}
+use Rattle.dl_budget.proofs.Common.{ℕ, suc, ◌≡◌, ◌≤◌, length, arith, inl, inr, refl, ap, ◌∙◌, leb_tells, Some, None, rules, tests, bytes_eq, cond, ltb, unwrap_or, prefix_len-le-length, place_of}
 use Rattle.std.proofs.lemmas.Iterator.{YieldsList-from_slice}
 use Rattle.std.proofs.lemmas.Iterator.Search.{position_from_yields_List}
-use Rattle.std.proofs.lemmas.List.Sums.{prefix_len-le-length}
-use Rattle.dl_budget.specs.Asks.{place_of}
 use Rattle.dl_budget.proofs.asks.place.Goals as goal
 
 -- a place among n, and n where there is none

@@ -1,8 +1,4 @@
-use Rattle.dl_budget.proofs.Common.{◌+◌, ◌^◌, arith, up, whole}
-use Rattle.dl_exact.specs.Fraction.{◌*ℚ◌}
-use Rattle.dl_plan.specs.declared.settings.Term.{Term}
-use Rattle.dl_budget.specs.Asks.{most_tail_budget, tail_budget}
-use Rattle.dl_budget.specs.Units.{mean_budget, total_budget}
+use Rattle.dl_budget.proofs.Common.{◌+◌, ◌^◌, arith, up, whole, ◌*ℚ◌, Term, most_tail_budget, tail_budget, mean_budget, total_budget}
 use Rattle.dl_budget.proofs.Horizons.{few_cells}
 use Rattle.dl_budget.proofs.Tails.{tail_most}
 use Rattle.dl_plan.proofs.TermLevels.{level_there, levels_each}
@@ -29,9 +25,6 @@ returns-clause-small g c =
     (λ i (t : Term) inside. tail_most (mean_budget S plan) (total_budget S plan) plan.cells _
     (omega (arith, mean, c.requires.budgets.mean_small)) (omega (arith, total, c.requires.budgets.total_small))
     (few_cells plan c.requires.valid).1 (levels i t inside)) in
-    omega (
-      arith,
-      small,
-      price_all (λ (t : Term). up (t.weight *ℚ whole (tail_budget S plan t.p)) + 2) c.args.terms.now
-          c.terms.term-index c.terms.sum (omega arith) c.terms.invariant.so_far,
-    )
+    let bound = price_all (λ (t : Term). up (t.weight *ℚ whole (tail_budget S plan t.p)) + 2) c.args.terms.now
+    c.terms.term-index c.terms.sum (omega arith) c.terms.invariant.so_far in
+    omega arith

@@ -1,6 +1,4 @@
-use Rattle.dl_budget.proofs.Common.{◌≡◌, ◌+◌, ◌*◌, ◌^◌, ◌≤◌, take, sum_by, up, whole}
-use Rattle.dl_exact.specs.Fraction.{◌*ℚ◌}
-use Rattle.dl_budget.specs.Asks.{tail_budget}
+use Rattle.dl_budget.proofs.Common.{◌≡◌, ◌+◌, ◌*◌, ◌^◌, ◌≤◌, take, sum_by, up, whole, ◌*ℚ◌, tail_budget}
 use Rattle.dl_budget.proofs.asks.price_budget.Given as goal
 
 abbrev pub invariant-terms : goal.invariant-terms

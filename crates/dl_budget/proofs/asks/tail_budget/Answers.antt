@@ -1,24 +1,7 @@
-use Rattle.dl_budget.proofs.Common.{◌+◌, ◌-◌, ◌^◌, ◌≤◌, arith, ap, ◌∙◌}
-use Rattle.dl_exact.proofs.BelowOne.{num_below}
-use Rattle.std.proofs.Math.Nat.{mul-le-mul}
+use Rattle.dl_budget.proofs.Common.{◌+◌, ◌-◌, arith, ap, ◌∙◌, num_below}
 use Rattle.dl_budget.proofs.Horizons.{few_cells}
 use Rattle.dl_budget.proofs.Tails.{tail_small, tail_sums, tail_value}
 use Rattle.dl_budget.proofs.asks.tail_budget.Goals as goal
-
-pub overflow_mul-sums-2 : goal.overflow_mul-sums-2
-overflow_mul-sums-2 g c =
-    let small : c.args.budgets.total ≤ 2 ^ 44 = omega (arith, c.requires.budgets.total_small) in
-    omega (arith, mul-le-mul (few_cells c.args.plan.now c.requires.valid).1 small)
-
-pub overflow_mul-both-2 : goal.overflow_mul-both-2
-overflow_mul-both-2 g c =
-    let den : c.den-2.result ≤ 10 ^ 9 = omega (arith, c.den-2.ensures.part, c.requires.level.den) in
-    omega (
-      arith,
-      mul-le-mul (tail_sums c.args.budgets.mean c.args.plan.now.cells c.args.budgets.total
-          c.requires.budgets.mean_small (few_cells c.args.plan.now c.requires.valid).1 c.requires.budgets.total_small)
-          den,
-    )
 
 pub overflow_sub-rest : goal.overflow_sub-rest
 overflow_sub-rest g c = let below = num_below c.args.p c.requires.level.below in omega arith
@@ -38,8 +21,4 @@ returns-clause-small g c =
     let below = num_below c.args.p c.requires.level.below in
     let sums = tail_sums c.args.budgets.mean c.args.plan.now.cells c.args.budgets.total c.requires.budgets.mean_small
     (few_cells c.args.plan.now c.requires.valid).1 c.requires.budgets.total_small in
-    omega (
-      arith,
-      c.div_ceil.ensures,
-      tail_small _ c.den-2.result (c.den.result - c.num.result) (omega arith) (omega arith) sums,
-    )
+    omega (arith, tail_small _ c.den-2.result (c.den.result - c.num.result) (omega arith) (omega arith) sums)

@@ -1,6 +1,4 @@
-use Rattle.dl_budget.proofs.Common.{◌^◌, length, arith, ap, ◌∙◌, mixed_spread, count_budget}
-use Rattle.dl_plan.specs.declared.plan.Freq.TheVariants.{Fixed, Table, Bernoulli, Binomial}
-use Rattle.dl_plan.specs.Valid.{claims_alone}
+use Rattle.dl_budget.proofs.Common.{◌^◌, length, arith, ap, ◌∙◌, mixed_spread, count_budget, Fixed, Table, Bernoulli, Binomial, claims_alone}
 use Rattle.dl_plan.specs.Weighted.{greatest}
 use Rattle.dl_plan.proofs.Weights.{greatest_within}
 use Rattle.dl_budget.proofs.Counts.{claims_of, count_of, few_items, power_room, listed_begins, poisson_value, gamma_value}
@@ -24,12 +22,7 @@ listed-requires-clause-room g c =
     listed_begins c.args.cells _ c.greatest_amount.result c.requires.few
     (few_items c.requires.valid.0 (claims_alone c.args.freq.now c.args.sev.now) (Table c.in-Table.counts c.in-Table.total) c.as_slice.result.now
     c.requires.valid.1 c.in-Table.is (λ no. no) c.as_slice.ensures)
-    (omega (
-      arith,
-      c.greatest_amount.ensures,
-      ap greatest c.as_slice-in-Table.ensures,
-      greatest_within c.in-Table.counts 256 count.1,
-    ))
+    (omega (arith, ap greatest c.as_slice-in-Table.ensures, greatest_within c.in-Table.counts 256 count.1))
 
 pub power-requires-in-Binomial-clause-room : goal.power-requires-in-Binomial-clause-room
 power-requires-in-Binomial-clause-room g c =

@@ -1,6 +1,4 @@
-use Rattle.dl_budget.proofs.Common.{◌^◌, arith, ap, sym, subst, ◌∙◌, count_budget}
-use Rattle.dl_plan.specs.Count.{IsClaimCount}
-use Rattle.dl_budget.specs.Claims.{none_budget}
+use Rattle.dl_budget.proofs.Common.{◌^◌, arith, ap, sym, subst, ◌∙◌, count_budget, IsClaimCount, none_budget}
 use Rattle.dl_budget.proofs.Counts.{power_room, where_none}
 use Rattle.dl_budget.proofs.NoneSizes.{none_within}
 use Rattle.dl_budget.proofs.claims.none_budget.Goals as goal

@@ -1,6 +1,5 @@
 -- The units so far.
-use Rattle.dl_budget.proofs.Common.{◌≡◌, take}
-use Rattle.dl_plan.specs.Common.{thinned_of}
+use Rattle.dl_budget.proofs.Common.{◌≡◌, take, thinned_of}
 use Rattle.dl_budget.proofs.shared.above_zero.Given as goal
 
 abbrev pub invariant-units : goal.invariant-units

@@ -1,7 +1,5 @@
 -- The sum of the claims above 0 is admitted, and at most as large as its raised number.
-use Rattle.dl_budget.proofs.Common.{subst, sym, whole, ◌≤ℚ◌}
-use Rattle.dl_limits.specs.Limits.{most_expected}
-use Rattle.dl_plan.specs.Fine.{HasPartsOf48Bits}
+use Rattle.dl_budget.proofs.Common.{subst, sym, whole, ◌≤ℚ◌, most_expected, HasPartsOf48Bits}
 use Rattle.dl_budget.proofs.SharedUnits.{sum_admitted, sum_few}
 use Rattle.dl_budget.proofs.shared.pooled_budget.Goals as goal
 

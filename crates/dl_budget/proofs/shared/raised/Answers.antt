@@ -1,8 +1,5 @@
 -- The raised number is admitted, and so is not refused.
-use Rattle.dl_budget.proofs.Common.{◌∙◌, sym, subst}
-use Rattle.dl_frac.specs.Exact.{FitsFrac}
-use Rattle.dl_plan.proofs.Fits.{given_ok, given_value}
-use Rattle.dl_plan.proofs.Means.{admitted_fits}
+use Rattle.dl_budget.proofs.Common.{◌∙◌, sym, subst, FitsFrac, given_ok, given_value, admitted_fits}
 use Rattle.dl_budget.proofs.SharedUnits.{raised_is}
 use Rattle.dl_budget.proofs.shared.raised.Goals as goal
 

@@ -1,5 +1,4 @@
-use Rattle.dl_budget.proofs.Common.{◌+◌, ◌*◌, ◌^◌, ◌≤◌, ◌∙◌, ap, ap₂, subst, sym, div_ceil, Fraction, up}
-use Rattle.dl_plan.specs.Means.{thinned_mean}
+use Rattle.dl_budget.proofs.Common.{◌+◌, ◌*◌, ◌^◌, ◌≤◌, ◌∙◌, ap, ap₂, subst, sym, div_ceil, Fraction, up, thinned_mean}
 use Rattle.dl_budget.proofs.SharedUnits.{joint_small, shares_unbounded}
 use Rattle.dl_budget.proofs.shared.shared_joint_budget.Goals as goal
 

@@ -1,6 +1,4 @@
-use Rattle.dl_budget.proofs.Common.{◌+◌, ◌^◌, arith, refl, sym, pw_one}
-use Rattle.std.proofs.Common.{◌/◌}
-use Rattle.dl_grid.proofs.WidthLaws.{pw_none}
+use Rattle.dl_budget.proofs.Common.{◌+◌, ◌^◌, arith, refl, sym, pw_one, ◌/◌, pw_none}
 use Rattle.dl_budget.proofs.SizeLaws.{unit_small, square_size, square_value, next_value, odd_size, base_small}
 use Rattle.dl_budget.proofs.steps.+power.Goals as goal
 
@@ -38,11 +36,9 @@ joined-requires-clause-left g t c =
     )
 
 pub joined-requires-clause-right : goal.joined-requires-clause-right
-joined-requires-clause-right g t c = omega (
-  arith,
-  base_small c.args.cells 0 c.args.base c.args.n
-      (omega arith) c.requires.room,
-)
+joined-requires-clause-right g t c =
+    let bound = base_small c.args.cells 0 c.args.base c.args.n (omega arith) c.requires.room in
+    omega arith
 
 pub returns-clause-value : goal.returns-clause-value
 returns-clause-value g t c =

@@ -1,5 +1,4 @@
-use Rattle.dl_limits.specs.Limits.{most_claims_budget}
-use Rattle.dl_budget.proofs.Common.{◌≡◌, ◌*◌, ◌^◌, ◌≤◌, pw, rounded_spread, IsSizeWithin}
+use Rattle.dl_budget.proofs.Common.{most_claims_budget, ◌≡◌, ◌*◌, ◌^◌, ◌≤◌, pw, rounded_spread, IsSizeWithin}
 use Rattle.dl_budget.proofs.steps.doubled.Given as goal
 
 abbrev pub invariant-loop-step : goal.invariant-loop-step

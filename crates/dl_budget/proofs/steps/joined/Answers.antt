@@ -1,5 +1,4 @@
-use Rattle.dl_budget.proofs.Common.{◌≡◌, ◌*◌, ◌^◌, arith, ap, ◌∙◌, div_ceil, pow_pos}
-use Rattle.dl_grid.proofs.WidthLaws.{cv_is}
+use Rattle.dl_budget.proofs.Common.{◌≡◌, ◌*◌, ◌^◌, arith, ap, ◌∙◌, div_ceil, pow_pos, cv_is}
 use Rattle.dl_budget.proofs.SizeLaws.{joined_small}
 use Rattle.dl_budget.proofs.steps.joined.Goals as goal
 
@@ -7,7 +6,6 @@ pub returns-clause-value : goal.returns-clause-value
 returns-clause-value g c =
     omega (
       arith,
-      c.div_ceil-product.ensures,
       ap (λ scale. div_ceil (c.args.x * c.args.y) scale) c.units_of_one.ensures,
       cv_is (2 ^ g.row.B) c.args.cells c.args.x c.args.y (pow_pos g.row.B),
     )

@@ -1,7 +1,6 @@
-use Rattle.dl_budget.proofs.Common.{◌+◌, ◌^◌, arith, ap, sym}
+use Rattle.dl_budget.proofs.Common.{◌+◌, ◌^◌, arith, ap, sym, mixed_none}
 use Rattle.dl_budget.proofs.SizeLaws.{unit_small, base_small, size_least}
 use Rattle.dl_budget.proofs.Repeats.{listed_value, listed_size, listed_room}
-use Rattle.dl_grid.proofs.WidthLaws.{mixed_none}
 use Rattle.dl_budget.proofs.steps.listed.Goals as goal
 
 pub joined-spread-requires-clause-left : goal.joined-spread-requires-clause-left

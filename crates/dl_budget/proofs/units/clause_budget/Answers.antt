@@ -1,5 +1,4 @@
-use Rattle.dl_budget.proofs.Common.{◌*◌, ◌^◌, ap, sym, ◌∙◌, horizon, claims_budget}
-use Rattle.dl_budget.specs.Units.{after_clause}
+use Rattle.dl_budget.proofs.Common.{◌*◌, ◌^◌, ap, sym, ◌∙◌, horizon, claims_budget, after_clause}
 use Rattle.dl_budget.proofs.Horizons.{on_horizon}
 use Rattle.dl_budget.proofs.units.clause_budget.Goals as goal
 

@@ -1,7 +1,4 @@
-use Rattle.dl_budget.proofs.Common.{◌+◌, ◌^◌, ap, ap₂, sym, subst, ◌∙◌, sum_by, horizon, part_width, claims_budget}
-use Rattle.dl_plan.specs.Horizon.{IsHorizonOf}
-use Rattle.dl_plan.specs.MeanWidth.{mean_width}
-use Rattle.dl_plan.proofs.ValidUnits.{alone_valid}
+use Rattle.dl_budget.proofs.Common.{◌+◌, ◌^◌, ap, ap₂, sym, subst, ◌∙◌, sum_by, horizon, part_width, claims_budget, IsHorizonOf, mean_width, alone_valid}
 use Rattle.dl_budget.proofs.Horizons.{on_horizon, edges_few}
 use Rattle.dl_budget.proofs.units.clause_mean_budget.Goals as goal
 

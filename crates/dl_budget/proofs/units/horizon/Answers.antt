@@ -1,6 +1,4 @@
-use Rattle.dl_budget.proofs.Common.{◌≤◌}
-use Rattle.dl_limits.specs.Limits.{most_horizon}
-use Rattle.dl_plan.specs.Horizon.{IsHorizonOf}
+use Rattle.dl_budget.proofs.Common.{◌≤◌, most_horizon, IsHorizonOf}
 use Rattle.dl_budget.proofs.Horizons.{horizon_there, within_any}
 use Rattle.dl_budget.proofs.units.horizon.Goals as goal
 

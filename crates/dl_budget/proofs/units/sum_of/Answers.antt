@@ -1,7 +1,6 @@
-use Rattle.dl_budget.proofs.Common.{◌+◌, ◌-◌, ◌^◌, ◌≤◌, length, take, drop, arith, sym, subst, common_steps, IsValidUnit, from_there}
-use Rattle.std.proofs.lemmas.List.Elements.{All-take, All-drop}
+use Rattle.dl_budget.proofs.Common.{◌+◌, ◌-◌, ◌≤◌, length, take, drop, arith, sym, subst, common_steps, IsValidUnit, All-take, All-drop}
 use Rattle.dl_budget.proofs.Horizons.{unit_horizon}
-use Rattle.dl_budget.proofs.Sums.{later_length, unit_size, size_at, sum_small, sum_from_first}
+use Rattle.dl_budget.proofs.Sums.{later_length, unit_size, size_at, sum_small}
 use Rattle.dl_budget.proofs.units.sum_of.Goals as goal
 
 pub unit_budget-first-requires-clause-horizon : goal.unit_budget-first-requires-clause-horizon
@@ -20,13 +19,6 @@ with_units-requires-clause-room g c = (
   omega (arith, later_length c.args.units.now, c.requires.units),
   unit_size g.row.B c.args.cells c.unit_budget-first.result c.unit_budget-first.ensures.small,
 )
-
-pub returns-clause-value : goal.returns-clause-value
-returns-clause-value g c =
-    let some : 1 ≤ length c.args.units.now = grind (arith, common_steps) in
-    sum_from_first (2 ^ g.row.B) c.args.cells c.args.units.now _ c.index-units-0.result _ _ some
-    (from_there 0 c.args.units.now) c.index-units-0.is
-    c.unit_budget-first.ensures.value c.with_units.ensures.value
 
 pub returns-clause-size : goal.returns-clause-size
 returns-clause-size g c some =

@@ -1,4 +1,4 @@
-use Rattle.dl_plan.proofs.ValidUnits.{new_zero}
+use Rattle.dl_budget.proofs.Common.{new_zero}
 use Rattle.dl_budget.proofs.units.unit_budget.Goals as goal
 
 pub none_budget-requires-clause-changed : goal.none_budget-requires-clause-changed

@@ -1,4 +1,4 @@
-use Rattle.dl_plan.proofs.ValidUnits.{new_zero}
+use Rattle.dl_budget.proofs.Common.{new_zero}
 use Rattle.dl_budget.proofs.units.unit_mean_budget.Goals as goal
 
 pub whole_mean-requires-clause-changed : goal.whole_mean-requires-clause-changed

@@ -1,5 +1,4 @@
-use Rattle.dl_budget.proofs.Common.{ap, sym, ◌∙◌, up, up_quotient}
-use Rattle.dl_plan.proofs.ValidUnits.{near_in_any}
+use Rattle.dl_budget.proofs.Common.{ap, sym, ◌∙◌, up, up_quotient, near_in_any}
 use Rattle.dl_budget.proofs.Means.{whole_small}
 use Rattle.dl_budget.proofs.units.whole_mean.Goals as goal
 

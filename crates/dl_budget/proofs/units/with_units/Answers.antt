@@ -1,6 +1,6 @@
-use Rattle.dl_budget.proofs.Common.{◌+◌, ◌^◌, length, arith, sym, subst, IsValidUnit}
+use Rattle.dl_budget.proofs.Common.{◌+◌, ◌^◌, arith, sym, subst, IsValidUnit}
 use Rattle.dl_budget.proofs.Horizons.{unit_horizon}
-use Rattle.dl_budget.proofs.Sums.{budget_next, budget_all, sum_size_next, sum_small, size_at}
+use Rattle.dl_budget.proofs.Sums.{budget_next, sum_size_next, sum_small, size_at}
 use Rattle.dl_budget.proofs.units.with_units.Goals as goal
 
 pub unit_budget-requires-clause-horizon : goal.unit_budget-requires-clause-horizon
@@ -12,11 +12,9 @@ unit_budget-requires-clause-horizon g c =
 pub joined-total-requires-clause-left : goal.joined-total-requires-clause-left
 joined-total-requires-clause-left g c =
     let size = c.loop-unit.invariant.size c.requires.room.0 c.requires.room.1 c.requires.room.2 in
-    omega (
-      arith,
-      sum_small g.row.B c.args.cells (c.requires.room.0 + c.loop-unit.unit-index) c.loop-unit.total
-          c.requires.scale c.requires.few (omega (arith, c.requires.room.1)) size,
-    )
+    let bound = sum_small g.row.B c.args.cells (c.requires.room.0 + c.loop-unit.unit-index) c.loop-unit.total
+    c.requires.scale c.requires.few (omega (arith, c.requires.room.1)) size in
+    omega arith
 
 pub loop-unit-preserved : goal.loop-unit-preserved
 loop-unit-preserved g c = record {
@@ -29,13 +27,3 @@ loop-unit-preserved g c = record {
       (omega (arith, room)) (c.loop-unit.invariant.size n room start)
       c.unit_budget.ensures.small c.joined-total.ensures.value);
 }
-
-pub returns-clause-value : goal.returns-clause-value
-returns-clause-value g c =
-    budget_all (2 ^ g.row.B) c.args.cells c.args.units.now c.loop-unit.unit-index c.args.sum _
-    (omega arith) c.loop-unit.invariant.value
-
-pub returns-clause-size : goal.returns-clause-size
-returns-clause-size g c n room start =
-    size_at g.row.B c.args.cells (n + c.loop-unit.unit-index) (n + length c.args.units.now) _ (omega arith)
-    (c.loop-unit.invariant.size n room start)

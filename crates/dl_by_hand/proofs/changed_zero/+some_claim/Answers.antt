@@ -1,5 +1,4 @@
-use Rattle.std.proofs.Common.{◌+◌, arith, ap, ◌∙◌}
-use Rattle.dl_exact.specs.Fraction.{◌over◌}
+use Rattle.dl_by_hand.proofs.Common.{◌+◌, arith, ap, ◌∙◌, ◌over◌}
 use Rattle.dl_by_hand.proofs.SomeClaimLaws.{some_none, some_next, some_le}
 use Rattle.dl_by_hand.proofs.changed_zero.+some_claim.Goals as goal
 
@@ -24,14 +23,10 @@ returns-clause-within t c =
 
 pub overflow_add-result : goal.overflow_add-result
 overflow_add-result t c =
-    omega (
-      arith,
-      some_le c.args.counts.now c.requires.there c.args.claims (c.some_claim-fewer.result.0 + c.weight-here.result)
-          c.some_claim-fewer.result.1 c.some_claim-fewer.ensures.denominator
-          (ap (λ k. (c.some_claim-fewer.result.0 + k) over c.some_claim-fewer.result.1) c.weight-here.ensures
-          ∙ some_next c.args.counts.now c.requires.there c.args.claims c.some_claim-fewer.result.0
-          c.some_claim-fewer.result.1 (omega arith) c.some_claim-fewer.ensures.denominator
-          c.some_claim-fewer.ensures.share),
-      c.some_claim-fewer.ensures.denominator,
-      c.requires.fits,
-    )
+    let bound = some_le c.args.counts.now c.requires.there c.args.claims (c.some_claim-fewer.result.0 + c.weight-here.result)
+    c.some_claim-fewer.result.1 c.some_claim-fewer.ensures.denominator
+    (ap (λ k. (c.some_claim-fewer.result.0 + k) over c.some_claim-fewer.result.1) c.weight-here.ensures
+    ∙ some_next c.args.counts.now c.requires.there c.args.claims c.some_claim-fewer.result.0
+    c.some_claim-fewer.result.1 (omega arith) c.some_claim-fewer.ensures.denominator
+    c.some_claim-fewer.ensures.share) in
+    omega arith

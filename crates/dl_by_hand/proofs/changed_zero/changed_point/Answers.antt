@@ -1,11 +1,4 @@
-use Rattle.std.proofs.Common.{◌+◌, ◌-◌, ◌*◌, arith, ap₂, ◌∙◌, mul-pos}
-use Rattle.std.proofs.Math.Nat.{mul-le-mul_right}
-use Rattle.dl_exact.specs.Fraction.{◌over◌}
-use Rattle.dl_exact.specs.Sum.{sum_to}
-use Rattle.dl_model.specs.ChangedZero.{without_none}
-use Rattle.dl_model.specs.Compound.{cell}
-use Rattle.dl_model.specs.Listed.{probability_at}
-use Rattle.dl_plan.specs.Weighted.{weight_sum}
+use Rattle.dl_by_hand.proofs.Common.{◌+◌, ◌-◌, ◌*◌, arith, ap₂, ◌∙◌, mul-pos, mul-le-mul_right, ◌over◌, sum_to, without_none, cell, probability_at, weight_sum}
 use Rattle.dl_by_hand.proofs.PointLaws.{denominator_pos}
 use Rattle.dl_by_hand.proofs.SomeClaimLaws.{changed_above, changed_at, changed_within}
 use Rattle.dl_by_hand.proofs.changed_zero.changed_point.Goals as goal
@@ -23,19 +16,15 @@ returns-then-x-gt0 c =
           (λ N. sum_to N (without_none (probability_at counts))) c.args.claims (omega arith)
           (omega (
             arith,
-            part.ensures.denominator,
             denominator_pos counts amounts c.requires.counts_there c.requires.amounts_there c.args.claims,
           )) part.ensures.cell;
     }
 
 pub some_claim-all-requires-clause-fits : goal.some_claim-all-requires-clause-fits
 some_claim-all-requires-clause-fits c =
-    omega (
-      arith,
-      mul-le-mul_right (weight_sum c.args.counts.now) (mul-pos c.requires.none_there (denominator_pos
-          c.args.counts.now c.args.amounts.now c.requires.counts_there c.requires.amounts_there c.args.claims)),
-      c.requires.fits,
-    )
+    let bound = mul-le-mul_right (weight_sum c.args.counts.now) (mul-pos c.requires.none_there (denominator_pos
+    c.args.counts.now c.args.amounts.now c.requires.counts_there c.requires.amounts_there c.args.claims)) in
+    omega arith
 
 pub overflow_add-result : goal.overflow_add-result
 overflow_add-result c =
@@ -48,7 +37,6 @@ overflow_add-result c =
       changed_within c.args.none.0 c.args.none.1 part.result.0 part.result.1 all.result.0 all.result.1
           c.requires.none_within part.ensures.within all.ensures.within,
       ap₂ (λ D E. c.args.none.1 * D * E) part.ensures.denominator all.ensures.denominator,
-      c.requires.fits,
     )
 
 pub returns : goal.returns
@@ -63,10 +51,6 @@ returns c =
           ∙ changed_at c.args.none.0 c.args.none.1 c.requires.none_there c.args.x part.result.0 part.result.1
           all.result.0 all.result.1 (cell (without_none (probability_at counts)) (probability_at amounts) c.args.x)
           (λ N. sum_to N (without_none (probability_at counts))) c.args.claims (omega arith)
-          (omega (
-            arith,
-            part.ensures.denominator,
-            denominator_pos counts amounts c.requires.counts_there c.requires.amounts_there c.args.claims,
-          ))
+          (omega (arith, denominator_pos counts amounts c.requires.counts_there c.requires.amounts_there c.args.claims))
           (omega (arith, all.ensures.denominator, c.requires.counts_there)) part.ensures.cell all.ensures.share;
     }

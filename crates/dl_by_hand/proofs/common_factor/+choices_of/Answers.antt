@@ -1,7 +1,4 @@
-use Rattle.std.proofs.Common.{◌-◌, arith, sym, ap, ap₂, ◌∙◌}
-use Rattle.dl_exact.specs.Fraction.{◌+ℚ◌, whole}
-use Rattle.dl_exact.specs.Power.{choose}
-use Rattle.dl_exact.proofs.Laws.{whole_plus}
+use Rattle.dl_by_hand.proofs.Common.{◌-◌, arith, sym, ap, ap₂, ◌∙◌, ◌+ℚ◌, whole, choose, whole_plus}
 use Rattle.dl_by_hand.proofs.CountLaws.{choose_none, choose_from_none, choose_next}
 use Rattle.dl_by_hand.proofs.ScoreLaws.{gives_ok}
 use Rattle.dl_by_hand.proofs.common_factor.+choices_of.Goals as goal

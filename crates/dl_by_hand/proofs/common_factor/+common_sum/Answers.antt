@@ -1,7 +1,4 @@
-use Rattle.std.proofs.Common.{arith, ap₂, ◌∙◌}
-use Rattle.dl_exact.specs.Fraction.{◌+ℚ◌}
-use Rattle.dl_model.specs.CommonFactor.{sum_over_claims}
-use Rattle.dl_by_hand.specs.CommonFactor.{units_of}
+use Rattle.dl_by_hand.proofs.Common.{arith, ap₂, ◌∙◌, ◌+ℚ◌, sum_over_claims, units_of}
 use Rattle.dl_by_hand.proofs.ScoreLaws.{gives_ok}
 use Rattle.dl_by_hand.proofs.SharedClaimLaws.{sum_start, sum_next, level_is, worth_among}
 use Rattle.dl_by_hand.proofs.common_factor.+common_sum.Goals as goal

@@ -1,5 +1,4 @@
-use Rattle.std.proofs.Common.{arith, ap₂, ◌∙◌}
-use Rattle.dl_exact.specs.Fraction.{◌*ℚ◌}
+use Rattle.dl_by_hand.proofs.Common.{arith, ap₂, ◌∙◌, ◌*ℚ◌}
 use Rattle.dl_by_hand.proofs.ScoreLaws.{gives_ok}
 use Rattle.dl_by_hand.proofs.SharedClaimLaws.{factorial_start, factorial_step}
 use Rattle.dl_by_hand.proofs.common_factor.+factorial_of.Goals as goal

@@ -1,5 +1,4 @@
-use Rattle.std.proofs.Common.{arith, ap, ◌∙◌}
-use Rattle.dl_exact.specs.Fraction.{◌*ℚ◌}
+use Rattle.dl_by_hand.proofs.Common.{arith, ap, ◌∙◌, ◌*ℚ◌}
 use Rattle.dl_by_hand.proofs.ScoreLaws.{gives_ok}
 use Rattle.dl_by_hand.proofs.SharedClaimLaws.{power_start, power_step}
 use Rattle.dl_by_hand.proofs.common_factor.+fraction_power.Goals as goal

@@ -1,7 +1,4 @@
-use Rattle.std.proofs.Common.{◌*◌, arith, ap₂, ◌∙◌}
-use Rattle.dl_exact.specs.Fraction.{◌+ℚ◌}
-use Rattle.dl_exact.specs.Sum.{sum_to}
-use Rattle.dl_by_hand.specs.CommonFactor.{worth}
+use Rattle.dl_by_hand.proofs.Common.{◌*◌, arith, ap₂, ◌∙◌, ◌+ℚ◌, sum_to, worth}
 use Rattle.dl_by_hand.proofs.ScoreLaws.{gives_ok}
 use Rattle.dl_by_hand.proofs.SharedClaimLaws.{sum_start, sum_next}
 use Rattle.dl_by_hand.proofs.common_factor.+over_first.Goals as goal

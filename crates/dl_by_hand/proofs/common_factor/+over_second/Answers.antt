@@ -1,6 +1,4 @@
-use Rattle.std.proofs.Common.{arith, ap₂, ◌∙◌}
-use Rattle.dl_exact.specs.Fraction.{◌+ℚ◌}
-use Rattle.dl_by_hand.specs.CommonFactor.{worth}
+use Rattle.dl_by_hand.proofs.Common.{arith, ap₂, ◌∙◌, ◌+ℚ◌, worth}
 use Rattle.dl_by_hand.proofs.ScoreLaws.{gives_ok}
 use Rattle.dl_by_hand.proofs.SharedClaimLaws.{sum_start, sum_next}
 use Rattle.dl_by_hand.proofs.common_factor.+over_second.Goals as goal

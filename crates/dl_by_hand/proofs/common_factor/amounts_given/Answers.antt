@@ -1,4 +1,4 @@
-use Rattle.std.proofs.Common.{◌+◌, ◌^◌, arith}
+use Rattle.dl_by_hand.proofs.Common.{◌+◌, ◌^◌, arith}
 use Rattle.dl_by_hand.proofs.PointLaws.{fewer_fit}
 use Rattle.dl_by_hand.proofs.common_factor.amounts_given.Goals as goal
 

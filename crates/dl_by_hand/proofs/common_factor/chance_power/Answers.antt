@@ -1,5 +1,4 @@
-use Rattle.std.proofs.Common.{sym, ap, subst, ◌∙◌}
-use Rattle.dl_exact.specs.Fraction.{◌+ℚ◌, ◌<ℚ◌, whole}
+use Rattle.dl_by_hand.proofs.Common.{sym, ap, subst, ◌∙◌, ◌+ℚ◌, ◌<ℚ◌, whole}
 use Rattle.dl_by_hand.proofs.SharedClaimLaws.{shape_pos}
 use Rattle.dl_by_hand.proofs.common_factor.chance_power.Goals as goal
 

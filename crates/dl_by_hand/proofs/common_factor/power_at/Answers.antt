@@ -1,8 +1,4 @@
-use Rattle.std.proofs.Common.{◌^◌, ◌<◌, sym, ap, ap₂, subst, ◌∙◌}
-use Rattle.std.proofs.Math.Nat.{one-le-pow}
-use Rattle.dl_exact.specs.Fraction.{◌over◌}
-use Rattle.dl_plan.specs.Weighted.{weight_at, weight_sum}
-use Rattle.dl_model.proofs.CountLaws.{power_ways}
+use Rattle.dl_by_hand.proofs.Common.{◌^◌, ◌<◌, sym, ap, ap₂, subst, ◌∙◌, one-le-pow, ◌over◌, weight_at, weight_sum, power_ways}
 use Rattle.dl_by_hand.proofs.ScoreLaws.{gives_ok}
 use Rattle.dl_by_hand.proofs.common_factor.power_at.Goals as goal
 

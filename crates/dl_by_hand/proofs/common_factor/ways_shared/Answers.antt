@@ -1,6 +1,4 @@
-use Rattle.std.proofs.Common.{sym, ap₂, subst, ◌∙◌}
-use Rattle.dl_exact.specs.Fraction.{◌*ℚ◌, ◌/ℚ◌, ◌<ℚ◌, whole}
-use Rattle.dl_exact.proofs.Laws.{whole_times}
+use Rattle.dl_by_hand.proofs.Common.{sym, ap₂, subst, ◌∙◌, ◌*ℚ◌, ◌/ℚ◌, ◌<ℚ◌, whole, whole_times}
 use Rattle.dl_by_hand.proofs.ScoreLaws.{gives_ok}
 use Rattle.dl_by_hand.proofs.SharedClaimLaws.{ways_pos}
 use Rattle.dl_by_hand.proofs.common_factor.ways_shared.Goals as goal

@@ -1,5 +1,4 @@
-use Rattle.std.proofs.Common.{ap₂, ◌∙◌}
-use Rattle.dl_exact.specs.Fraction.{◌*ℚ◌}
+use Rattle.dl_by_hand.proofs.Common.{ap₂, ◌∙◌, ◌*ℚ◌}
 use Rattle.dl_by_hand.proofs.ScoreLaws.{gives_ok}
 use Rattle.dl_by_hand.proofs.SharedClaimLaws.{worth_is}
 use Rattle.dl_by_hand.proofs.common_factor.worth_of.Goals as goal

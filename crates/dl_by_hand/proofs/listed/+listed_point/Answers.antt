@@ -1,39 +1,38 @@
-use Rattle.std.proofs.Common.{◌≡◌, ◌+◌, ◌*◌, ◌^◌, arith, rules, ap, ap₂, ◌∙◌}
-use Rattle.dl_exact.specs.Fraction.{◌over◌}
-use Rattle.dl_by_hand.proofs.PointLaws.{here_le, denominator_next, point_none, point_next, numerator_fits, counts_fit, amounts_fit, denominator_fits}
+use Rattle.dl_by_hand.proofs.Common.{◌≡◌, ◌*◌, ◌^◌, arith, rules, ap₂, ◌∙◌, ◌over◌}
+use Rattle.dl_by_hand.proofs.PointLaws.{here_le, listed_sum, of_none, of_more, numerator_le, counts_fit, amounts_fit, denominator_fits, denominator_none}
 use Rattle.dl_by_hand.proofs.listed.+listed_point.Goals as goal
 
 pub weight-requires : goal.weight-requires
-weight-requires t c =
-    record {
-      fits = counts_fit c.args.counts.now c.args.amounts.now c.requires.counts_there c.requires.amounts_there
-          c.args.claims (2 ^ 128) c.requires.fits;
-    }
+weight-requires t c = record {
+  fits = counts_fit c.args.counts.now c.args.amounts.now c.requires.counts_there c.requires.amounts_there c.args.claims
+      (2 ^ 128) c.requires.fits;
+}
 
 pub overflow_mul-here : goal.overflow_mul-here
 overflow_mul-here t c =
     let here : c.weight.result * c.ways_of.result ≡ _ = ap₂ (λ x y. x * y) c.weight.ensures c.ways_of.ensures in
-    omega (
-      arith,
-      here,
-      here_le c.args.counts.now c.args.amounts.now c.requires.counts_there c.requires.amounts_there c.args.x
-          c.args.claims,
-      c.requires.fits,
-    )
+    let counts = c.args.counts.now in
+    let amounts = c.args.amounts.now in
+    let p = c.requires.counts_there in
+    let q = c.requires.amounts_there in
+    omega (arith, here_le counts amounts p q c.args.x c.args.claims)
 
 pub returns-then-claims-eq0-clause-cell : goal.returns-then-claims-eq0-clause-cell
 returns-then-claims-eq0-clause-cell t c =
-    ap₂ (λ s t. s over t) (ap₂ (λ x y. x * y) c.weight.ensures c.ways_of.ensures) c.total.ensures
-    ∙ point_none c.args.counts.now c.args.amounts.now c.requires.counts_there c.requires.amounts_there c.args.x
-    c.args.claims c.if-claims-eq0.true
+    let counts = c.args.counts.now in
+    let amounts = c.args.amounts.now in
+    let p = c.requires.counts_there in
+    let q = c.requires.amounts_there in
+    (of_none (listed_sum counts amounts p q c.args.x) c.args.claims _ c.total.result c.if-claims-eq0.true (ap₂ (λ x y. x * y) c.weight.ensures c.ways_of.ensures)
+    (c.total.ensures ∙ denominator_none counts amounts p q)).value
 
 pub listed_point-fewer-requires : goal.listed_point-fewer-requires
 listed_point-fewer-requires t c =
-    search (
-      rules,
-      denominator_fits c.args.counts.now c.args.amounts.now c.requires.counts_there
-          c.requires.amounts_there c.args.claims (2 ^ 128) c.requires.fits,
-    )
+    let counts = c.args.counts.now in
+    let amounts = c.args.amounts.now in
+    let p = c.requires.counts_there in
+    let q = c.requires.amounts_there in
+    search (rules, denominator_fits counts amounts p q c.args.claims (2 ^ 128) c.requires.fits)
 
 pub total-each-requires : goal.total-each-requires
 total-each-requires t c = record {
@@ -41,43 +40,30 @@ total-each-requires t c = record {
       (2 ^ 128) (omega arith) c.requires.fits;
 }
 
-pub returns-clause-cell : goal.returns-clause-cell
-returns-clause-cell t c =
-    ap₂ (λ s t. s over t)
-    (c.one_more.ensures.above ∙ ap₂ (λ x y. x + y) (ap (λ T. c.listed_point-fewer.result.0 * T) c.total-each.ensures)
-    (ap₂ (λ x y. x * y) c.weight.ensures c.ways_of.ensures))
-    (c.one_more.ensures.below ∙ ap (λ T. c.listed_point-fewer.result.1 * T) c.total-each.ensures)
-    ∙ point_next c.args.counts.now c.args.amounts.now c.requires.counts_there c.requires.amounts_there c.args.x
-    c.args.claims
-    c.listed_point-fewer.result.0 c.listed_point-fewer.result.1
-    (omega arith) c.listed_point-fewer.ensures.denominator c.listed_point-fewer.ensures.cell
-
-pub returns-clause-denominator : goal.returns-clause-denominator
-returns-clause-denominator t c =
-    c.one_more.ensures.below ∙ ap (λ T. c.listed_point-fewer.result.1 * T) c.total-each.ensures
-    ∙ denominator_next c.args.counts.now c.args.amounts.now c.requires.counts_there c.requires.amounts_there
-    c.args.claims
-    c.listed_point-fewer.result.1 (omega arith) c.listed_point-fewer.ensures.denominator
-
 pub one_more-requires : goal.one_more-requires
 one_more-requires t c =
     let counts = c.args.counts.now in
     let amounts = c.args.amounts.now in
-    let before = c.listed_point-fewer.ensures in
-    let here : c.weight.result * c.ways_of.result ≡ _ = ap₂ (λ x y. x * y) c.weight.ensures c.ways_of.ensures in
+    let p = c.requires.counts_there in
+    let q = c.requires.amounts_there in
+    let fewer = c.listed_point-fewer in
+    let m = of_more (listed_sum counts amounts p q c.args.x) c.args.claims fewer.result.0 fewer.result.1
+    (c.weight.result * c.ways_of.result) c.total-each.result (omega arith) fewer.ensures.cell fewer.ensures.denominator
+    (ap₂ (λ x y. x * y) c.weight.ensures c.ways_of.ensures) c.total-each.ensures in
+    let least = numerator_le counts amounts p q c.args.x c.args.claims _ _ m.denominator m.value in
+    record { above = omega (arith, least, m.denominator); below = omega (arith, m.denominator) }
+
+pub returns : goal.returns
+returns t c =
+    let counts = c.args.counts.now in
+    let amounts = c.args.amounts.now in
+    let p = c.requires.counts_there in
+    let q = c.requires.amounts_there in
+    let fewer = c.listed_point-fewer in
+    let m = of_more (listed_sum counts amounts p q c.args.x) c.args.claims fewer.result.0 fewer.result.1
+    (c.weight.result * c.ways_of.result) c.total-each.result (omega arith) fewer.ensures.cell fewer.ensures.denominator
+    (ap₂ (λ x y. x * y) c.weight.ensures c.ways_of.ensures) c.total-each.ensures in
     record {
-      above = omega (
-        arith,
-        ap (λ T. c.listed_point-fewer.result.0 * T) c.total-each.ensures,
-        here,
-        numerator_fits counts amounts c.requires.counts_there c.requires.amounts_there c.args.x c.args.claims _ _
-            (2 ^ 128) (omega arith) before.denominator before.cell c.requires.fits,
-      );
-      below = omega (
-        arith,
-        ap (λ T. c.listed_point-fewer.result.1 * T) c.total-each.ensures,
-        denominator_next counts amounts c.requires.counts_there c.requires.amounts_there c.args.claims _
-            (omega arith) before.denominator,
-        c.requires.fits,
-      );
+      cell = ap₂ (λ a d. a over d) c.one_more.ensures.above c.one_more.ensures.below ∙ m.value;
+      denominator = c.one_more.ensures.below ∙ m.denominator;
     }

@@ -1,8 +1,4 @@
-use Rattle.std.proofs.Common.{◌≡◌, ℕ, suc, ◌+◌, ◌-◌, ◌*◌, ◌^◌, arith, sym, ap, ap₂, ◌∙◌}
-use Rattle.dl_plan.specs.Weighted.{weight_at}
-use Rattle.dl_exact.specs.Count.{count_below}
-use Rattle.dl_model.specs.Ways.{ways}
-use Rattle.dl_exact.proofs.Counts.{below_nothing, below_more}
+use Rattle.dl_by_hand.proofs.Common.{◌≡◌, ℕ, suc, ◌+◌, ◌-◌, ◌*◌, ◌^◌, arith, sym, ap, ap₂, ◌∙◌, weight_at, count_below, ways, below_nothing, below_more}
 use Rattle.dl_by_hand.proofs.PointLaws.{no_claims, no_way, ways_next, found_le, fewer_fit, one_fits}
 use Rattle.dl_by_hand.proofs.listed.+ways_of.Goals as goal
 
@@ -20,35 +16,24 @@ weight-requires t c =
     record { fits = one_fits c.args.amounts.now c.requires.there c.args.claims (2 ^ 128) (omega arith) c.requires.fits }
 
 pub ways_of-requires : goal.ways_of-requires
-ways_of-requires t c = (
-  omega arith,
-  (
-    c.requires.there,
-    fewer_fit c.args.amounts.now c.requires.there c.args.claims
-        (c.args.claims - 1) (2 ^ 128) (omega arith) c.requires.fits,
-  ),
-)
+ways_of-requires t c =
+    let fits = fewer_fit c.args.amounts.now c.requires.there c.args.claims (c.args.claims - 1) (2 ^ 128) (omega arith)
+    c.requires.fits in
+    (omega arith, (c.requires.there, fits))
 
 pub overflow_mul-found : goal.overflow_mul-found
 overflow_mul-found t c =
     let term : c.weight.result * c.ways_of.result ≡ _ = ap₂ (λ x y. x * y) c.weight.ensures c.ways_of.ensures in
-    omega (
-      arith,
-      term,
-      found_le c.args.amounts.now c.requires.there c.args.claims c.args.sum c.loop-amount.amount
-          (omega arith) c.loop-amount-test.true,
-    )
+    let bound = found_le c.args.amounts.now c.requires.there c.args.claims c.args.sum c.loop-amount.amount
+    (omega arith) c.loop-amount-test.true in
+    omega arith
 
 pub overflow_add-found : goal.overflow_add-found
 overflow_add-found t c =
     let term : c.weight.result * c.ways_of.result ≡ _ = ap₂ (λ x y. x * y) c.weight.ensures c.ways_of.ensures in
-    omega (
-      arith,
-      term,
-      c.loop-amount.invariant,
-      found_le c.args.amounts.now c.requires.there c.args.claims c.args.sum c.loop-amount.amount
-          (omega arith) c.loop-amount-test.true,
-    )
+    let bound = found_le c.args.amounts.now c.requires.there c.args.claims c.args.sum c.loop-amount.amount
+    (omega arith) c.loop-amount-test.true in
+    omega arith
 
 pub loop-amount-preserved : goal.loop-amount-preserved
 loop-amount-preserved t c =

@@ -1,7 +1,4 @@
-use Rattle.std.proofs.Common.{◌≡◌, ◌*◌, ◌-◌}
-use Rattle.dl_plan.specs.Weighted.{weight_at}
-use Rattle.dl_exact.specs.Count.{count_below}
-use Rattle.dl_model.specs.Ways.{ways}
+use Rattle.dl_by_hand.proofs.Common.{◌≡◌, ◌*◌, ◌-◌, weight_at, count_below, ways}
 use Rattle.dl_by_hand.proofs.listed.+ways_of.Given as goal
 
 abbrev pub decreases-ways_of : goal.decreases-ways_of

@@ -1,5 +1,4 @@
-use Rattle.std.proofs.Common.{◌≡◌, take}
-use Rattle.dl_plan.specs.Weighted.{weight_sum}
+use Rattle.dl_by_hand.proofs.Common.{◌≡◌, take, weight_sum}
 use Rattle.dl_by_hand.proofs.listed.total.Given as goal
 
 abbrev pub invariant-loop-item : goal.invariant-loop-item

@@ -1,6 +1,4 @@
-use Rattle.std.proofs.Common.{sym, subst}
-use Rattle.dl_exact.specs.Fraction.{◌<ℚ◌, whole}
-use Rattle.dl_exact.proofs.Laws.{le_of_lt}
+use Rattle.dl_by_hand.proofs.Common.{sym, subst, ◌<ℚ◌, whole, le_of_lt}
 use Rattle.dl_by_hand.proofs.ScoreLaws.{rest_pos}
 use Rattle.dl_by_hand.proofs.scores.above.Goals as goal
 

@@ -1,5 +1,4 @@
-use Rattle.std.proofs.Common.{◌+◌, arith, ◌∙◌}
-use Rattle.dl_exact.specs.Fraction.{whole}
+use Rattle.dl_by_hand.proofs.Common.{◌+◌, arith, ◌∙◌, whole}
 use Rattle.dl_by_hand.proofs.ScoreLaws.{parted_below, parted_at, parted_above}
 use Rattle.dl_by_hand.proofs.scores.part_score.Goals as goal
 

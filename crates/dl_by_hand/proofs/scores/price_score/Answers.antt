@@ -1,5 +1,4 @@
-use Rattle.std.proofs.Common.{ap, ap₂, ◌∙◌}
-use Rattle.dl_exact.specs.Fraction.{◌+ℚ◌, ◌*ℚ◌}
+use Rattle.dl_by_hand.proofs.Common.{ap, ap₂, ◌∙◌, ◌+ℚ◌, ◌*ℚ◌}
 use Rattle.dl_by_hand.specs.Scores.{priced}
 use Rattle.dl_by_hand.proofs.ScoreLaws.{gives_ok, two_priced}
 use Rattle.dl_by_hand.proofs.scores.price_score.Goals as goal

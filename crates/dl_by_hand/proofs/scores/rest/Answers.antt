@@ -1,5 +1,4 @@
-use Rattle.std.proofs.Common.{◌-◌, arith, ap₂, ◌∙◌}
-use Rattle.dl_exact.specs.Fraction.{◌over◌}
+use Rattle.dl_by_hand.proofs.Common.{◌-◌, arith, ap₂, ◌∙◌, ◌over◌}
 use Rattle.dl_by_hand.proofs.ScoreLaws.{gives_ok, rest_is, rest_within}
 use Rattle.dl_by_hand.proofs.scores.rest.Goals as goal
 

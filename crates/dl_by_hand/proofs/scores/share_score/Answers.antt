@@ -1,6 +1,4 @@
-use Rattle.std.proofs.Common.{◌+◌, arith, sym, ap, ap₂, subst, ◌∙◌}
-use Rattle.dl_exact.specs.Fraction.{◌*ℚ◌, ◌/ℚ◌, ◌<ℚ◌, whole}
-use Rattle.dl_exact.proofs.Laws.{le_of_lt}
+use Rattle.dl_by_hand.proofs.Common.{◌+◌, arith, sym, ap, ap₂, subst, ◌∙◌, ◌*ℚ◌, ◌/ℚ◌, ◌<ℚ◌, whole, le_of_lt}
 use Rattle.dl_by_hand.proofs.ScoreLaws.{gives_ok, rest_pos, scored_below, scored_at, scored_above}
 use Rattle.dl_by_hand.proofs.scores.share_score.Goals as goal
 

@@ -1,5 +1,4 @@
-use Rattle.std.proofs.Common.{◌≡◌, ◌+◌, ◌^◌, ap₂, arith, ◌∙◌}
-use Rattle.dl_exact.specs.Power.{choose}
+use Rattle.dl_by_hand.proofs.Common.{◌≡◌, ◌+◌, ◌^◌, ap₂, arith, ◌∙◌, choose}
 use Rattle.dl_by_hand.proofs.CountLaws.{choose_le, choose_none, choose_from_none, choose_next, powers_before}
 use Rattle.dl_by_hand.proofs.unbounded.+choices.Goals as goal
 

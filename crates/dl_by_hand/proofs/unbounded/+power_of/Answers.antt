@@ -1,5 +1,4 @@
-use Rattle.std.proofs.Common.{◌≡◌, ◌*◌, ◌^◌, sym, ap, arith, ◌∙◌}
-use Rattle.std.proofs.Math.Nat.{pow-zero}
+use Rattle.dl_by_hand.proofs.Common.{◌≡◌, ◌*◌, ◌^◌, sym, ap, arith, ◌∙◌, pow-zero}
 use Rattle.dl_by_hand.proofs.CountLaws.{power_next, power_before}
 use Rattle.dl_by_hand.proofs.unbounded.+power_of.Goals as goal
 

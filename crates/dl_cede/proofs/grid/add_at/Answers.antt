@@ -1,5 +1,4 @@
-use Rattle.dl_cede.proofs.Common.{◌^◌, arith, low_at, high_at, spread_set, high_end}
-use Rattle.dl_grid.proofs.CellSets.{low_in_mass, mass_set}
+use Rattle.dl_cede.proofs.Common.{◌^◌, arith, low_at, high_at, spread_set, high_end, low_in_mass, mass_set}
 use Rattle.dl_cede.proofs.Walk.{low_more, high_more, not_here}
 use Rattle.dl_cede.proofs.grid.add_at.Goals as goal
 
@@ -30,4 +29,4 @@ returns-else-y-from-clause-low g c x inside = not_here c.args.y x (low_at c.args
 pub returns-else-y-from-clause-high : goal.returns-else-y-from-clause-high
 returns-else-y-from-clause-high g c x inside =
     let small = high_end c.args.grid.now x c.cells.ensures.grid in
-    omega (arith, small, not_here c.args.y x (high_at c.args.grid.now x) c.args.more.hi (omega arith))
+    omega (arith, not_here c.args.y x (high_at c.args.grid.now x) c.args.more.hi (omega arith))

@@ -1,30 +1,17 @@
-use Rattle.dl_cede.proofs.Common.{◌≡◌, ◌<◌, ◌-◌, ◌^◌, length, arith, sym, ap, ◌∙◌, whole, kept}
-use Rattle.std.proofs.lemmas.List.{length-set}
+use Rattle.dl_cede.proofs.Common.{◌≡◌, ◌<◌, ◌-◌, ◌^◌, length, arith, sym, ap, ◌∙◌, whole, kept, length-set}
 use Rattle.dl_cede.proofs.Ceded.{same_whole}
 use Rattle.dl_cede.proofs.Rest.{all_spread, rest_mass, rest_spread, rest_left, others_taken}
-use Rattle.dl_cede.proofs.grid.kept_cells.Goals as goal
 use Rattle.dl_cede.proofs.grid.kept_cells.Goals.{in-Some, in_default}
+use Rattle.dl_cede.proofs.grid.kept_cells.Goals as goal
 
 pub set-requires : goal.set-requires
 set-requires g c =
     let at = c.in-Some.ensures.0 in
-    let inside : c.in-Some.y < length c.in_ok-grid.grid = omega (arith, at, c.in_ok-grid.ensures.cells) in (
-      omega arith,
-      (
-        omega arith,
-        (
-          inside,
-          (
-            omega (arith, c.complement.ensures.high),
-            rest_mass c.args.cede.now c.args.sums.now c.in_ok-grid.grid c.in-Some.y inside
-                (c.in_ok-grid.ensures.ends c.in-Some.y at)
-                c.complement.result.lo
-                c.in_ok-grid.ensures.mass (omega (arith, c.elsewhere.ensures.within, c.elsewhere.ensures.low))
-                (omega (arith, c.complement.ensures.low, c.elsewhere.ensures.high)),
-          ),
-        ),
-      ),
-    )
+    let inside : c.in-Some.y < length c.in_ok-grid.grid = omega (arith, at, c.in_ok-grid.ensures.cells) in
+    let fits = rest_mass inside (c.in_ok-grid.ensures.ends c.in-Some.y at) c.complement.result.lo
+    c.in_ok-grid.ensures.mass (omega arith)
+    (omega arith) in
+    (omega arith, (omega arith, (inside, (omega arith, fits))))
 
 pub returns : goal.returns
 returns g c = elim c.match-kept_past.branch [
@@ -38,13 +25,11 @@ returns g c = elim c.match-kept_past.branch [
       let high = w.complement.ensures.high ∙ ap (λ n. 2 ^ g.row.B - n) w.elsewhere.ensures.low in
       rw (w.grid-is, w.set.ensures) (record {
         cells = rw length-set c.in_ok-grid.ensures.cells;
-        inside = λ y within other. others_taken c.args.cede.now c.args.sums.now c.in_ok-grid.grid w.in-Some.y at taken
-            w.complement.result y (λ same. other (here ∙ ap whole same)) (c.in_ok-grid.ensures.ends y within);
-        past = λ y within there. rest_left c.args.cede.now c.args.sums.now c.in_ok-grid.grid w.in-Some.y at taken
-            w.complement.result low high (omega (arith, w.elsewhere.ensures.within, w.elsewhere.ensures.low)) y
+        inside = λ y within other. others_taken at taken w.complement.result y (λ same. other (here ∙ ap whole same))
+            (c.in_ok-grid.ensures.ends y within);
+        past = λ y within there. rest_left at taken w.complement.result low high (omega arith) y
             (same_whole w.in-Some.y y (sym here ∙ there));
-        spread = rest_spread c.args.cede.now c.args.sums.now c.in_ok-grid.grid w.in-Some.y at taken
-            w.complement.result low high c.in_ok-grid.ensures.spread;
+        spread = rest_spread at taken w.complement.result low high c.in_ok-grid.ensures.spread;
       })
   | in_default w ↦ rw w.grid-is (record {
     cells = c.in_ok-grid.ensures.cells;

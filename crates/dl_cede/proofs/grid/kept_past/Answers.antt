@@ -6,7 +6,7 @@ pub returns-in_default : goal.returns-in_default
 returns-in_default c y inside e =
     let same : c.in-Some.y ≡ y = same_whole c.in-Some.y y
     (sym c.in-Some.ensures.value ∙ ap (kept c.args.cede.now) c.from.ensures ∙ e) in
-    omega (arith, same)
+    omega arith
 
 pub returns-in_default-2 : goal.returns-in_default-2
 returns-in_default-2 c y inside e =

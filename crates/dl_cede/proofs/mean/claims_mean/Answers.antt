@@ -12,22 +12,8 @@ enclose-requires g c =
     let valid = c.requires.valid in
     let small = unit_small g.row.B c.args.unit.now c.mean_parts-num.result.0 c.mean_parts-num.result.1
     valid.0 valid.1 parts.positive parts.value in
-    let fits = claims_fit g.row.B valid.0 c.requires.scale_below in (
-      omega arith,
-      (
-        omega arith,
-        (
-          omega arith,
-          (
-            parts.positive,
-            (
-              omega (arith, parts.den),
-              (omega (arith, parts.num), omega (arith, small, fits)),
-            ),
-          ),
-        ),
-      ),
-    )
+    let fits = claims_fit g.row.B valid.0 c.requires.scale_below in
+    (omega arith, (omega arith, (omega arith, (parts.positive, (omega arith, (omega arith, omega arith))))))
 
 pub returns-clause-holds : goal.returns-clause-holds
 returns-clause-holds g c =
@@ -42,13 +28,8 @@ returns-clause-ends g c =
 
 pub returns-clause-small : goal.returns-clause-small
 returns-clause-small g c = λ cells valid.
-    let parts = c.mean_parts-num.ensures in
-    omega (
-      arith,
-      c.enclose.ensures.high,
-      unit_small g.row.B c.args.unit.now c.mean_parts-num.result.0 c.mean_parts-num.result.1 cells valid
-          parts.positive parts.value,
-    )
+    let small = unit_small g.row.B c.args.unit.now c.mean_parts-num.result.0 c.mean_parts-num.result.1 cells valid
+    c.mean_parts-num.ensures.positive c.mean_parts-num.ensures.value in omega arith
 
 pub returns-clause-few : goal.returns-clause-few
 returns-clause-few g c = λ n within. ceiling_within c.args.unit.now c.enclose.result n (returns-clause-ends g c) within

@@ -1,14 +1,9 @@
-use Rattle.std.proofs.Common.{◌≡◌, refl, arith, length, true, false}
-use Rattle.dl_grid.specs.Cells.{low_at, high_at}
-use Rattle.dl_cert.specs.Bases.{low_base, high_base}
-use Rattle.dl_cert.proofs.Outside.{one_more_passes, passes_here, none_passes}
+use Rattle.dl_cert.proofs.Common.{◌≡◌, refl, arith, length, true, false, low_at, high_at, low_base, high_base}
+use Rattle.dl_cert.proofs.Outside.{one_more_passes, passes_here}
 use Rattle.dl_cert.proofs.bases.is_start.Goals as goal
 
 clash : false ≡ true → ⊥
 clash e = cc
-
-pub loop-y-init : goal.loop-y-init
-loop-y-init c = none_passes _ _ _
 
 pub loop-y-preserved : goal.loop-y-preserved
 loop-y-preserved c =

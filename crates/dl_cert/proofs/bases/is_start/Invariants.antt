@@ -1,5 +1,4 @@
-use Rattle.dl_grid.specs.Cells.{low_at, high_at}
-use Rattle.dl_cert.specs.Bases.{low_base, high_base, PassesTo}
+use Rattle.dl_cert.proofs.Common.{low_at, high_at, low_base, high_base, PassesTo}
 use Rattle.dl_cert.proofs.bases.is_start.Given as goal
 
 abbrev pub invariant-loop-y : goal.invariant-loop-y

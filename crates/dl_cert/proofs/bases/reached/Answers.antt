@@ -1,6 +1,4 @@
-use Rattle.std.proofs.Common.{arith}
-use Rattle.std.proofs.Common.{leb, leb-true, rules}
-use Rattle.std.proofs.lemmas.Bool.{leb-false}
+use Rattle.dl_cert.proofs.Common.{arith, leb, leb-true, rules, leb-false}
 use Rattle.std.proofs.lemmas.List.Sorted.{IsPartitionPoint-from_clause, IsPartitionedBy-leb}
 use Rattle.dl_panjer.proofs.Reading.{amounts_rise}
 use Rattle.dl_cert.proofs.bases.reached.Goals as goal

@@ -1,4 +1,4 @@
-use Rattle.std.proofs.Common.{◌-◌, arith, sym}
+use Rattle.dl_cert.proofs.Common.{◌-◌, arith, sym}
 use Rattle.dl_cert.proofs.Weights.{none_reached, last_reached, not_reached}
 use Rattle.dl_cert.proofs.bases.weight_of.Goals as goal
 

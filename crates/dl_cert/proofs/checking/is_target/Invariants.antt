@@ -1,5 +1,4 @@
-use Rattle.std.proofs.Common.{ℕ, ◌≡◌, ◌<◌, length, get_or}
-use Rattle.dl_cert.specs.Kept.{label_at}
+use Rattle.dl_cert.proofs.Common.{ℕ, ◌≡◌, ◌<◌, length, get_or, label_at}
 use Rattle.dl_cert.proofs.checking.is_target.Given as goal
 
 abbrev pub invariant-loop-unit : goal.invariant-loop-unit

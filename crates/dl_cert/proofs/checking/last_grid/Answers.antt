@@ -1,7 +1,4 @@
-use Rattle.std.proofs.Common.{ℕ, ◌≡◌, ◌+◌, ◌-◌, arith, sym, subst, refl, length, true, false, []}
-use Rattle.dl_cert.specs.Kept.{Keeps}
-use Rattle.dl_cert.specs.Passes.{made_after}
-use Rattle.dl_cert.specs.Verified.{IsBadStep}
+use Rattle.dl_cert.proofs.Common.{ℕ, ◌≡◌, ◌+◌, ◌-◌, arith, sym, subst, refl, length, true, false, [], Keeps, made_after, IsBadStep}
 use Rattle.dl_cert.proofs.Endings.{ends_badly, no_step_ends, other_end, verified, few_steps, by_targets}
 use Rattle.dl_cert.proofs.checking.last_grid.Goals as goal
 
@@ -19,16 +16,12 @@ pub overflow_cast-result : goal.overflow_cast-result
 overflow_cast-result c = omega (
   arith,
   few_steps c.args.plan.now c.args.text.now c.args.kept.now.places.items c.args.kept.now.labels.items c.requires.kept,
-  c.requires.short,
-  c.len-count.ensures,
 )
 
 pub overflow_cast-count : goal.overflow_cast-count
 overflow_cast-count c = omega (
   arith,
   few_steps c.args.plan.now c.args.text.now c.args.kept.now.places.items c.args.kept.now.labels.items c.requires.kept,
-  c.requires.short,
-  c.len-count.ensures,
 )
 
 pub returns-then-not-is_target : goal.returns-then-not-is_target

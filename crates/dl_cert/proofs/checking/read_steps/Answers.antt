@@ -1,5 +1,4 @@
-use Rattle.std.proofs.Common.{arith, sym, subst₂}
-use Rattle.dl_cert.specs.Kept.{HasPassedTo}
+use Rattle.dl_cert.proofs.Common.{arith, sym, subst₂, HasPassedTo}
 use Rattle.dl_cert.proofs.Endings.{none_passed, steps_before}
 use Rattle.dl_cert.proofs.checking.read_steps.Goals as goal
 
@@ -15,6 +14,4 @@ overflow_cast-number c = omega (
   arith,
   steps_before c.args.plan.now c.args.text.now c.lines.kept.places.items c.lines.kept.labels.items c.lines.place
       c.lines.invariant.0,
-  c.requires.short,
-  c.len-number.ensures,
 )

@@ -1,5 +1,4 @@
-use Rattle.std.proofs.Common.{◌≤◌, ◌-◌, length}
-use Rattle.dl_cert.specs.Kept.{HasPassedTo}
+use Rattle.dl_cert.proofs.Common.{◌≤◌, ◌-◌, length, HasPassedTo}
 use Rattle.dl_cert.proofs.checking.read_steps.Given as goal
 
 abbrev pub invariant-lines : goal.invariant-lines

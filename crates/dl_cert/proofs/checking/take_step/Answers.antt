@@ -1,14 +1,6 @@
-use Rattle.std.proofs.Common.{◌≤◌, ◌∙◌, ◌++◌, ◌∷◌, [], arith, ap, sym, subst, subst₂}
-use Rattle.std.proofs.lemmas.Nat.{pow_pos}
-use Rattle.dl_cert.specs.Kept.{Keeps}
-use Rattle.dl_cert.specs.Lines.{IsStep}
-use Rattle.dl_cert.specs.Passes.{made_after}
-use Rattle.dl_cert.specs.Reading.{line_from}
-use Rattle.dl_cert.specs.Steps.{Step, made_by}
-use Rattle.dl_cert.specs.Verified.{IsBadLine}
+use Rattle.dl_cert.proofs.Common.{◌≤◌, ◌∙◌, ◌++◌, ◌∷◌, [], arith, ap, sym, subst, subst₂, pow_pos, Keeps, IsStep, made_after, line_from, Step, made_by, IsBadLine}
 use Rattle.dl_cert.proofs.Passings.{bad_line, misread, not_passing, line_passes, keeps_more, grid_now}
 use Rattle.dl_cert.proofs.Endings.{step_small}
-use Rattle.dl_cert.proofs.Options.{for_none, for_some}
 use Rattle.dl_cert.proofs.checking.take_step.Goals as goal
 
 pub returns-in_default-clause-bad : goal.returns-in_default-clause-bad
@@ -18,11 +10,11 @@ returns-in_default-clause-bad c = λ no.
     let made = made_after [] passed.steps in
     bad_line plan c.args.text.now c.args.kept.now.places.items c.args.kept.now.labels.items c.args.place passed
     c.requires.inside (subst (IsBadLine plan made) c.line_from-line.ensures
-    (misread plan made c.line_from-line.result.now (for_none c.in_ok-step.field-0 _ _ c.in_default.is c.in_ok-step.ensures)))
+    (misread plan made c.line_from-line.result.now (rw c.in_default.is at c.in_ok-step.ensures)))
 
 pub tested-requires-clause-small : goal.tested-requires-clause-small
 tested-requires-clause-small c =
-    let read = for_some c.in_ok-step.field-0 _ _ c.in-Some.step c.in-Some.is c.in_ok-step.ensures in
+    let read = rw c.in-Some.is at c.in_ok-step.ensures in
     step_small c.line_from-line.result.now (record { kind = c.in-Some.step.kind; cells = c.in-Some.step.cells.items }) read.0
 
 pub returns-in_default-2-clause-bad : goal.returns-in_default-2-clause-bad
@@ -30,12 +22,12 @@ returns-in_default-2-clause-bad c = λ no.
     let plan = c.args.plan.now in
     let passed = c.requires.kept in
     let made = made_after [] passed.steps in
-    let read = for_some c.in_ok-step.field-0 _ _ c.in-Some.step c.in-Some.is c.in_ok-step.ensures in
+    let read = rw c.in-Some.is at c.in_ok-step.ensures in
     bad_line plan c.args.text.now c.args.kept.now.places.items c.args.kept.now.labels.items c.args.place passed
     c.requires.inside (subst (IsBadLine plan made) c.line_from-line.ensures
     (not_passing plan made c.line_from-line.result.now
     (record { kind = c.in-Some.step.kind; cells = c.in-Some.step.cells.items }) read.0
-    (for_none c.in_ok-label.field-0 _ _ c.in_default-2.is (c.in_ok-label.ensures made passed.kept))))
+    (rw c.in_default-2.is at (c.in_ok-label.ensures made passed.kept))))
 
 pub returns-clause-passes : goal.returns-clause-passes
 returns-clause-passes c = λ yes next split.
@@ -46,9 +38,9 @@ returns-clause-passes c = λ yes next split.
     let passed = c.requires.kept in
     let made = made_after [] passed.steps in
     let step : Step = record { kind = c.in-Some.step.kind; cells = c.in-Some.step.cells.items } in
-    let read = for_some c.in_ok-step.field-0 _ _ c.in-Some.step c.in-Some.is c.in_ok-step.ensures in
+    let read = rw c.in-Some.is at c.in_ok-step.ensures in
     let spelled : IsStep (line_from text c.args.place) step = subst (λ l. IsStep l step) c.line_from-line.ensures read.0 in
-    let t = for_some c.in_ok-label.field-0 _ _ c.in-Some-2.label c.in-Some-2.is (c.in_ok-label.ensures made passed.kept) in
+    let t = rw c.in-Some-2.is at (c.in_ok-label.ensures made passed.kept) in
     let some : 1 ≤ plan.cells = rw c.requires.valid.cells.3 (pow_pos c.requires.valid.cells.0) in
     let grid = grid_now plan.cells step.cells some c.requires.few read.1
     (step_small c.line_from-line.result.now step read.0) t.0.mass in

@@ -1,12 +1,4 @@
-use Rattle.std.proofs.Common.{◌≡◌, ◌≤◌, ◌∙◌, arith, ap, sym, subst, subst₂, refl, length, List}
-use Rattle.std.proofs.lemmas.List.{length-map}
-use Rattle.dl_iv.specs.declared.interval.Iv.{Iv}
-use Rattle.dl_grid.specs.Cells.{mass_low}
-use Rattle.dl_cert.specs.Numbers.{one}
-use Rattle.dl_cert.specs.Kept.{IsRow, Keeps}
-use Rattle.dl_cert.specs.Steps.{Step, IsThere}
-use Rattle.dl_cert.specs.Targets.{unit_parts}
-use Rattle.dl_cert.proofs.Options.{for_some}
+use Rattle.dl_cert.proofs.Common.{◌≡◌, ◌≤◌, ◌∙◌, arith, ap, sym, subst, subst₂, refl, length, List, length-map, Iv, mass_low, one, IsRow, Keeps, Step, IsThere, unit_parts}
 use Rattle.dl_cert.proofs.Passings.{passes_now}
 use Rattle.dl_cert.proofs.checking.tested.Goals as goal
 
@@ -24,14 +16,8 @@ returns c = λ before kept.
     subst₂ (λ m n. IsThere m n step.kind) long count (c.if-not-is_there.ensures.0 refl) in
     let row : IsRow labels (length plan.units) step.kind targets c.in-Some.label.items =
     subst₂ (λ l n. IsRow l n step.kind targets c.in-Some.label.items) c.deref-2.ensures.value long
-    (for_some c.in_ok-label.field-0 _ _ c.in-Some.label c.in-Some.is c.in_ok-label.ensures) in
-    let mass : mass_low step.cells ≤ one = omega (
-      arith,
-      c.if-mass_of-units_of_one.false,
-      c.mass_of.ensures,
-      c.units_of_one.ensures,
-      ap (λ (l : List (Iv 56)). mass_low l) c.deref.ensures.value,
-    ) in
+    (rw c.in-Some.is at c.in_ok-label.ensures) in
+    let mass : mass_low step.cells ≤ one = omega (arith, ap (λ (l : List (Iv 56)). mass_low l) c.deref.ensures.value) in
     let passing = (c.in_ok-is_passing.ensures labels before
     (subst (λ l. Keeps plan c.args.text.now l labels before) (sym c.deref-3.ensures.value) kept)).0 c.if-not-branch.false in (
       passes_now plan c.args.text.now places labels before kept step targets c.requires.starts.counts c.in-Some.label.items

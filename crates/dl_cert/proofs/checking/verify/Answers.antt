@@ -1,27 +1,23 @@
-use Rattle.std.proofs.Common.{ℕ, sym, subst, List, Ok, Err}
-use Rattle.std.specs.Prelude.{All, Result, MatchResult, IfOk}
-use Rattle.dl_iv.specs.declared.interval.Iv.{Iv}
-use Rattle.dl_model.specs.Family.{GridEncloses}
-use Rattle.dl_model.specs.Plans.{aggregates_of}
-use Rattle.dl_model.specs.Program.{total}
-use Rattle.dl_plan.specs.declared.plan.Plan.{Plan}
-use Rattle.dl_plan.specs.Valid.{IsValid, IsValidUnit}
+use Rattle.dl_cert.proofs.Common.{ℕ, sym, subst, List, Ok, Err, All, Result, MatchResult, IfOk, Iv, GridEncloses, aggregates_of, total, Plan, IsValid, IsValidUnit, IsVerified, RefusesSteps}
 use Rattle.dl_cert.specs.declared.fault.VerifyFault.{VerifyFault}
-use Rattle.dl_cert.specs.Verified.{IsVerified, RefusesSteps}
 use Rattle.dl_cert.proofs.Passing.{certified}
 use Rattle.dl_cert.proofs.checking.verify.Goals as goal
 
-pub bases_of-requires-clause-valid : goal.bases_of-requires-clause-valid
-bases_of-requires-clause-valid c = (
-  c.args.plan.now.cells,
-  subst (All (IsValidUnit c.args.plan.now.cells)) (sym c.as_slice-units.ensures) c.requires.valid.units,
-)
+pub bases_of-requires : goal.bases_of-requires
+bases_of-requires c = record {
+  valid = (
+    c.args.plan.now.cells,
+    subst (All (IsValidUnit c.args.plan.now.cells)) (sym c.as_slice-units.ensures) c.requires.valid.units,
+  );
+}
 
-pub targets_of-requires-clause-valid : goal.targets_of-requires-clause-valid
-targets_of-requires-clause-valid c = (
-  c.args.plan.now.cells,
-  subst (All (IsValidUnit c.args.plan.now.cells)) (sym c.as_slice-units.ensures) c.requires.valid.units,
-)
+pub targets_of-requires : goal.targets_of-requires
+targets_of-requires c = record {
+  valid = (
+    c.args.plan.now.cells,
+    subst (All (IsValidUnit c.args.plan.now.cells)) (sym c.as_slice-units.ensures) c.requires.valid.units,
+  );
+}
 
 enclosed : (plan : Plan) (text : List ℕ) (r : Result (List (Iv 56)) VerifyFault) → IsValid plan
     → MatchResult r (IsVerified plan text) (RefusesSteps plan text)

@@ -1,5 +1,4 @@
-use Rattle.std.proofs.Common.{ℕ, ◌≡◌, ◌<◌, ◌≤◌, length, get_or}
-use Rattle.dl_cert.specs.Kept.{count_by}
+use Rattle.dl_cert.proofs.Common.{ℕ, ◌≡◌, ◌<◌, ◌≤◌, length, get_or, count_by}
 use Rattle.dl_cert.proofs.kept.label_of.Given as goal
 
 abbrev pub invariant-loop-unit : goal.invariant-loop-unit

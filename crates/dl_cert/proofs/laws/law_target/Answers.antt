@@ -1,4 +1,4 @@
-use Rattle.dl_model.proofs.Alike.{same_cells_enclosed}
+use Rattle.dl_cert.proofs.Common.{same_cells_enclosed}
 use Rattle.dl_cert.proofs.Targets.{plan_made_up}
 use Rattle.dl_cert.proofs.laws.law_target.Goals as goal
 

@@ -1,4 +1,4 @@
-use Rattle.std.proofs.Common.{arith}
+use Rattle.dl_cert.proofs.Common.{arith}
 use Rattle.dl_cert.proofs.Words.{not_blank, none_left}
 use Rattle.dl_cert.proofs.Readings.{cell_begins, no_cell_begins, no_cell_at}
 use Rattle.dl_cert.proofs.lines.cell_from.Goals as goal

@@ -1,11 +1,6 @@
-use Rattle.std.proofs.Common.{arith, sym, subst, ◌+◌}
-use Rattle.dl_cert.proofs.ReadCells.{ReadTo, none_read, one_read, none_more, all_read, more_left}
+use Rattle.dl_cert.proofs.Common.{arith, sym, subst, ◌+◌}
+use Rattle.dl_cert.proofs.ReadCells.{ReadTo, one_read, none_more, all_read, more_left}
 use Rattle.dl_cert.proofs.lines.cells_from.Goals as goal
-
-pub loop-count-init : goal.loop-count-init
-loop-count-init c =
-    subst (λ l. ReadTo c.args.text.now c.args.start c.args.start 0 l) (sym c.in_ok-list.ensures.items)
-    (none_read c.args.text.now c.args.start c.requires)
 
 pub loop-count-preserved : goal.loop-count-preserved
 loop-count-preserved c =

@@ -1,5 +1,4 @@
-use Rattle.std.proofs.Common.{arith, sym, length}
-use Rattle.std.proofs.lemmas.Bool.{eq-eqb}
+use Rattle.dl_cert.proofs.Common.{arith, sym, length, eq-eqb}
 use Rattle.dl_cert.proofs.Words.{at_first}
 use Rattle.dl_cert.proofs.lines.first_place.Goals as goal
 

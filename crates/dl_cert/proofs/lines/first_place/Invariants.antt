@@ -1,5 +1,4 @@
-use Rattle.std.proofs.Common.{ℕ, ◌≡◌, ◌<◌, false, get_or}
-use Rattle.std.specs.Prelude.{◌==◌}
+use Rattle.dl_cert.proofs.Common.{ℕ, ◌≡◌, ◌<◌, false, get_or, ◌==◌}
 use Rattle.dl_cert.proofs.lines.first_place.Given as goal
 
 abbrev pub invariant-loop-i : goal.invariant-loop-i

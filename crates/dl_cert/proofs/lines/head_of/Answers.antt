@@ -1,4 +1,4 @@
-use Rattle.std.proofs.Common.{codes, drop}
+use Rattle.dl_cert.proofs.Common.{codes, drop}
 use Rattle.dl_lexer.proofs.WordLengths.{begins_so, begins_otherwise}
 use Rattle.dl_cert.proofs.Words.{begins_with}
 use Rattle.dl_cert.proofs.Readings.{begins_one, no_step}

@@ -1,4 +1,4 @@
-use Rattle.std.proofs.Common.{◌∙◌, ap, arith, Some}
+use Rattle.dl_cert.proofs.Common.{◌∙◌, ap, arith, Some}
 use Rattle.dl_cert.proofs.Words.{cell_spelled}
 use Rattle.dl_cert.proofs.lines.read_cell.Goals as goal
 

@@ -1,6 +1,4 @@
-use Rattle.std.proofs.Common.{subst, sym, drop}
-use Rattle.dl_cert.specs.declared.step.Kind.TheVariants.{Start}
-use Rattle.dl_cert.specs.Reading.{BeginsStep}
+use Rattle.dl_cert.proofs.Common.{subst, sym, drop, Start, BeginsStep}
 use Rattle.dl_cert.proofs.Readings.{begins_start, no_start}
 use Rattle.dl_cert.proofs.lines.start_of.Goals as goal
 

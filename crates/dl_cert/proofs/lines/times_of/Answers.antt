@@ -1,5 +1,4 @@
-use Rattle.std.proofs.Common.{◌+◌, ◌∙◌, arith, sym, drop}
-use Rattle.std.proofs.lemmas.List.{drop_all}
+use Rattle.dl_cert.proofs.Common.{◌+◌, ◌∙◌, arith, sym, drop, drop_all}
 use Rattle.dl_cert.proofs.Readings.{no_first, no_second, no_more, word_ends, times_read}
 use Rattle.dl_cert.proofs.lines.times_of.Goals as goal
 

@@ -1,4 +1,4 @@
-use Rattle.std.proofs.Common.{arith}
+use Rattle.dl_cert.proofs.Common.{arith}
 use Rattle.dl_cert.proofs.Ladder.{nothing_written}
 use Rattle.dl_cert.proofs.making.all_units.Goals as goal
 

@@ -1,7 +1,4 @@
-use Rattle.std.proofs.Common.{◌≡◌, ◌*◌, ◌≤◌, length}
-use Rattle.std.specs.Prelude.{IfSome}
-use Rattle.dl_cert.specs.declared.steps.Factor.{Factor}
-use Rattle.dl_cert.specs.Written.{IsSum}
+use Rattle.dl_cert.proofs.Common.{◌≡◌, ◌*◌, ◌≤◌, length, IfSome, Factor, IsSum}
 use Rattle.dl_cert.proofs.making.all_units.Given as goal
 
 abbrev pub invariant-loop-unit : goal.invariant-loop-unit

@@ -1,8 +1,4 @@
-use Rattle.std.proofs.Common.{◌∙◌, [], length, sym, ap, subst, arith}
-use Rattle.dl_grid.specs.Cells.{low_at, high_at}
-use Rattle.dl_cert.specs.Labels.{no_unit}
-use Rattle.dl_cert.specs.Targets.{target}
-use Rattle.dl_cert.specs.Written.{first_of, EndsWith, IsSum}
+use Rattle.dl_cert.proofs.Common.{◌∙◌, [], length, sym, ap, subst, arith, low_at, high_at, no_unit, target, first_of, EndsWith, IsSum}
 use Rattle.dl_cert.proofs.Ladder.{renamed, one_step, none_first, first_all, cert_size}
 use Rattle.dl_cert.proofs.SeveralFacts.{if_ok_five}
 use Rattle.dl_cert.proofs.making.whole.Goals as goal

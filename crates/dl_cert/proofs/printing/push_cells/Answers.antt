@@ -1,6 +1,4 @@
-use Rattle.std.proofs.Common.{append-nil, append_assoc}
-use Rattle.dl_grid.specs.Cells.{low_at, high_at}
-use Rattle.dl_cert.specs.Written.{cell_text, cells_text}
+use Rattle.dl_cert.proofs.Common.{append-nil, append_assoc, low_at, high_at, cell_text, cells_text}
 use Rattle.dl_cert.proofs.CellsText.{no_cells, one_more_cell}
 use Rattle.dl_cert.proofs.printing.push_cells.Goals as goal
 

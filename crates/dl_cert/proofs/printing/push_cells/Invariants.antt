@@ -1,6 +1,4 @@
-use Rattle.std.proofs.Common.{◌≡◌, ◌++◌}
-use Rattle.dl_grid.specs.Cells.{low_at, high_at}
-use Rattle.dl_cert.specs.Written.{cells_text}
+use Rattle.dl_cert.proofs.Common.{◌≡◌, ◌++◌, low_at, high_at, cells_text}
 use Rattle.dl_cert.proofs.printing.push_cells.Given as goal
 
 abbrev pub invariant-loop-x : goal.invariant-loop-x

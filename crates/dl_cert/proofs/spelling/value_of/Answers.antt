@@ -1,4 +1,4 @@
-use Rattle.std.proofs.Common.{◌+◌, ◌<◌, arith, length}
+use Rattle.dl_cert.proofs.Common.{◌+◌, ◌<◌, arith, length}
 use Rattle.dl_cert.proofs.Digits.{one_more_digit, value_fits}
 use Rattle.dl_cert.proofs.spelling.value_of.Goals as goal
 
@@ -16,8 +16,6 @@ overflow_add-value c =
     let inside : c.loop-i.i < length c.args.digits.now = omega (arith, c.loop-i-test.true) in
     omega (
       arith,
-      c.loop-i.invariant,
-      c.from.ensures,
       one_more_digit c.args.digits.now c.loop-i.i c.requires.digits inside,
       value_fits c.args.digits.now (c.loop-i.i + 1) c.requires.digits c.requires.few,
     )

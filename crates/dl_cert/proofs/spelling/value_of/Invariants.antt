@@ -1,5 +1,4 @@
-use Rattle.std.proofs.Common.{◌≡◌, take}
-use Rattle.std.specs.Str.Parse.{digits_value}
+use Rattle.dl_cert.proofs.Common.{◌≡◌, take, digits_value}
 use Rattle.dl_cert.proofs.spelling.value_of.Given as goal
 
 abbrev pub invariant-loop-i : goal.invariant-loop-i

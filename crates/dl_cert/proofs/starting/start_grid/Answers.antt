@@ -1,25 +1,15 @@
-use Rattle.std.proofs.Common.{ℕ, ◌≡◌, ◌≤◌, ◌^◌, arith, subst}
-use Rattle.std.proofs.lemmas.Bool.{eq-eqb}
-use Rattle.dl_exact.specs.Fraction.{Fraction, whole}
-use Rattle.dl_plan.specs.Means.{thinned_mean}
-use Rattle.dl_model.proofs.PlanThin.{no_amount_thinned}
-use Rattle.dl_budget.specs.Halvings.{halvings}
-use Rattle.dl_cert.specs.Targets.{parts_of, where_none}
-use Rattle.dl_cert.proofs.ExactStarts.{none_expected}
+use Rattle.dl_cert.proofs.Common.{sym, arith, subst, IsGrid}
+use Rattle.dl_budget.proofs.Rows.{◌also◌}
+use Rattle.dl_cert.proofs.StartGrids.{exact_start, start_is_grid}
 use Rattle.dl_cert.proofs.starting.start_grid.Goals as goal
 
-some_counted : (v : Fraction) (n : ℕ) → 1 ≤ where_none v 0 n → v ≡ whole 0 → ⊥
-some_counted v n some none =
-    omega (arith, (rw (eq-eqb v.num 0 (none_expected v none)) at some))
-
-pub poisson_start-requires-clause-some : goal.poisson_start-requires-clause-some
-poisson_start-requires-clause-some c none =
-    let u = c.args.unit.now in
-    let v = thinned_mean u in
-    some_counted v (2 ^ halvings v) (subst (λ f. 1 ≤ parts_of f v) c.in-Poisson.is c.requires.some) (no_amount_thinned u none)
-
-pub gamma_start-requires-clause-some : goal.gamma_start-requires-clause-some
-gamma_start-requires-clause-some c none =
-    let u = c.args.unit.now in
-    let v = thinned_mean u in
-    some_counted v c.in-Gamma.shape (subst (λ f. 1 ≤ parts_of f v) c.in-Gamma.is c.requires.some) (no_amount_thinned u none)
+pub grid_of-requires : goal.grid_of-requires
+grid_of-requires c =
+    let unit = c.args.unit.now in
+    let list = c.in_ok-list.ensures in
+    let cells = c.in_ok-list.list.items in
+    let exact = exact_start unit c.in_ok-base.base c.in_ok-base.ensures c.requires.some cells c.args.cells list.cells list.low
+    list.high in
+    (omega arith) also (omega arith)
+    also subst IsGrid (sym c.as_slice.ensures.value) (start_is_grid unit c.requires.valid.0 c.requires.valid.1
+    c.requires.some cells (omega (arith, list.cells)) (omega (arith, list.cells)) list.small exact)

@@ -1,7 +1,4 @@
-use Rattle.std.proofs.Common.{ℕ, ◌+◌, ◌/◌, ◌++◌, refl, arith}
-use Rattle.std.proofs.lemmas.Result.{IfOk-weaker}
-use Rattle.dl_cert.specs.Targets.{target}
-use Rattle.dl_cert.specs.Written.{often}
+use Rattle.dl_cert.proofs.Common.{ℕ, ◌+◌, ◌/◌, ◌++◌, refl, arith, IfOk-weaker, target, often}
 use Rattle.dl_cert.proofs.Ladder.{often_both, both_le, joined, digit_fewer}
 use Rattle.dl_cert.proofs.WrittenSteps.{made_kept}
 use Rattle.dl_cert.proofs.steps.+power.Goals as goal

@@ -1,8 +1,4 @@
-use Rattle.std.proofs.Common.{sym, subst, ap, ◌∙◌}
-use Rattle.dl_grid.specs.Convolution.{IsConvolution}
-use Rattle.std.proofs.Common.{length}
-use Rattle.dl_cert.specs.Labels.{together}
-use Rattle.dl_cert.specs.Written.{EndsWith}
+use Rattle.dl_cert.proofs.Common.{sym, subst, ap, ◌∙◌, IsConvolution, length, together, EndsWith}
 use Rattle.dl_cert.proofs.Ladder.{times_step}
 use Rattle.dl_cert.proofs.SeveralFacts.{if_ok_five}
 use Rattle.dl_cert.proofs.steps.times.Goals as goal

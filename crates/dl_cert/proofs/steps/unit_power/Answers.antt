@@ -1,13 +1,6 @@
-use Rattle.std.proofs.Common.{ℕ, ◌≡◌, ◌++◌, length, refl, sym, ap, subst, ◌∙◌, arith, get_or}
-use Rattle.std.proofs.lemmas.Result.{IfOk-weaker}
-use Rattle.dl_plan.specs.Means.{thinned_mean}
-use Rattle.dl_cert.specs.Starts.{IsExactStart}
-use Rattle.dl_cert.specs.Written.{often, EndsWith}
-use Rattle.dl_cert.proofs.Ladder.{start_step, joined, cert_size}
+use Rattle.dl_cert.proofs.Common.{ℕ, ◌≡◌, ◌++◌, length, refl, sym, ap, subst, ◌∙◌, arith, get_or, IfOk-weaker, thinned_mean, IsExactStart, often, EndsWith}
+use Rattle.dl_cert.proofs.Ladder.{start_step, joined}
 use Rattle.dl_cert.proofs.steps.unit_power.Goals as goal
-
-pub start_grid-requires-clause-size : goal.start_grid-requires-clause-size
-start_grid-requires-clause-size c = cert_size c.args.plan.now c.requires.valid c.requires.few_cells
 
 pub power-requires-clause-few : goal.power-requires-clause-few
 power-requires-clause-few c = (17, c.requires.few, omega (arith, c.in_ok-base.ensures.count, c.requires.room))

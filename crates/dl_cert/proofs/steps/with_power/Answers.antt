@@ -1,8 +1,4 @@
-use Rattle.std.proofs.Common.{ℕ, ◌≡◌, ◌+◌, ◌<◌, subst, arith}
-use Rattle.std.proofs.lemmas.Result.{IfOk-weaker}
-use Rattle.dl_cert.specs.Labels.{together}
-use Rattle.dl_cert.specs.Targets.{target}
-use Rattle.dl_cert.specs.Written.{often, first_of, IsMade, IsBefore}
+use Rattle.dl_cert.proofs.Common.{ℕ, ◌≡◌, ◌+◌, ◌<◌, subst, arith, IfOk-weaker, together, target, often, first_of, IsMade, IsBefore}
 use Rattle.dl_cert.proofs.Ladder.{renamed, already, none_first, first_more, first_le}
 use Rattle.dl_cert.proofs.steps.with_power.Goals as goal
 

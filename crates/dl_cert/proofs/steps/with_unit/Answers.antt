@@ -1,6 +1,4 @@
-use Rattle.std.proofs.Common.{ℕ, ◌≡◌, ◌∙◌, sym, ap, subst, get_or}
-use Rattle.dl_cert.specs.Targets.{target}
-use Rattle.dl_cert.specs.Written.{often, EndsWith}
+use Rattle.dl_cert.proofs.Common.{ℕ, ◌≡◌, ◌∙◌, sym, ap, subst, get_or, target, often, EndsWith}
 use Rattle.dl_cert.proofs.Ladder.{sum_more, sum_same, target_is}
 use Rattle.dl_cert.proofs.steps.with_unit.Goals as goal
 

@@ -1,5 +1,4 @@
-use Rattle.std.proofs.Common.{refl, arith, length, true, false, ◌≡◌}
-use Rattle.dl_grid.specs.Cells.{low_at, high_at}
+use Rattle.dl_cert.proofs.Common.{refl, arith, length, true, false, ◌≡◌, low_at, high_at}
 use Rattle.dl_cert.proofs.Outside.{one_more_passes, passes_here}
 use Rattle.dl_cert.proofs.test.is_beside.Goals as goal
 

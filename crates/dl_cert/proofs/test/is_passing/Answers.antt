@@ -1,11 +1,4 @@
-use Rattle.std.proofs.Common.{◌∙◌, ◌<◌, arith, ap, subst, refl, get_or, length, List}
-use Rattle.std.specs.Prelude.{IsTrue, ◌↔◌}
-use Rattle.std.proofs.lemmas.List.{get_or_default}
-use Rattle.dl_iv.specs.declared.interval.Iv.{Iv}
-use Rattle.dl_grid.specs.Cells.{low_at, high_at}
-use Rattle.dl_plan.specs.declared.plan.Unit.{Unit as UnitOfPlan}
-use Rattle.dl_cert.specs.Bases.{low_base, high_base, PassesTo}
-use Rattle.dl_cert.specs.Steps.{IsThere}
+use Rattle.dl_cert.proofs.Common.{◌∙◌, ◌<◌, arith, ap, subst, refl, get_or, length, List, IsTrue, ◌↔◌, get_or_default, Iv, low_at, high_at, UnitOfPlan, low_base, high_base, PassesTo, IsThere}
 use Rattle.dl_cert.proofs.Outside.{grid_size}
 use Rattle.dl_cert.proofs.Tests.{times_tested, start_tested}
 use Rattle.dl_cert.proofs.test.is_passing.Goals as goal

@@ -1,7 +1,4 @@
-use Rattle.std.proofs.Common.{◌*◌, ◌≤◌, ◌^◌, arith, ap, length, get_or}
-use Rattle.std.proofs.lemmas.List.Sums.{sum_by-le, sum_by-take-le}
-use Rattle.dl_iv.specs.declared.interval.Iv.{Iv}
-use Rattle.dl_grid.specs.Cells.{mass_low}
+use Rattle.dl_cert.proofs.Common.{◌*◌, ◌≤◌, ◌^◌, arith, ap, length, get_or, sum_by-le, sum_by-take-le, Iv, mass_low}
 use Rattle.dl_cert.proofs.test.mass_of.Goals as goal
 
 pub overflow_add-mass : goal.overflow_add-mass
@@ -14,13 +11,4 @@ overflow_add-mass c =
     (λ k d inside. omega (arith, (get_or cells k d).ordered, c.requires.small k d inside)) in
     let here = c.requires.small i cell (omega (arith, c.loop-cell-test.true)) in
     let is = ap (λ (t : Iv 56). t.hi) c.cell-item.is in
-    omega (
-      arith,
-      c.loop-cell.invariant,
-      sum_by-take-le (λ (t : Iv 56). t.lo) cells i,
-      all,
-      c.requires.few,
-      here,
-      is,
-      cell.ordered,
-    )
+    omega (arith, sum_by-take-le (λ (t : Iv 56). t.lo) cells i)

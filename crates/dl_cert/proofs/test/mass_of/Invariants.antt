@@ -1,5 +1,4 @@
-use Rattle.std.proofs.Common.{◌≡◌, take}
-use Rattle.dl_grid.specs.Cells.{mass_low}
+use Rattle.dl_cert.proofs.Common.{◌≡◌, take, mass_low}
 use Rattle.dl_cert.proofs.test.mass_of.Given as goal
 
 abbrev pub invariant-loop-cell : goal.invariant-loop-cell

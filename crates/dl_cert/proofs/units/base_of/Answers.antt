@@ -1,9 +1,4 @@
-use Rattle.std.proofs.Common.{◌∙◌, subst, sym, arith}
-use Rattle.dl_exact.specs.Fraction.{whole}
-use Rattle.dl_exact.proofs.Laws.{le_refl}
-use Rattle.dl_exact.proofs.Parts.{whole_num, whole_den}
-use Rattle.dl_plan.specs.Count.{IsProbability}
-use Rattle.dl_cert.specs.Bases.{IsBaseOf}
+use Rattle.dl_cert.proofs.Common.{◌∙◌, subst, sym, arith, whole, le_refl, whole_num, whole_den, IsProbability, IsBaseOf}
 use Rattle.dl_cert.proofs.UnitBases.{fixed_is, bernoulli_is, binomial_is}
 use Rattle.dl_cert.proofs.units.base_of.Goals as goal
 

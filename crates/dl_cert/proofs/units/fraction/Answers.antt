@@ -1,7 +1,5 @@
-use Rattle.std.proofs.Common.{◌≡◌, ◌≤◌, sym, subst}
-use Rattle.dl_exact.specs.Fraction.{◌over◌}
+use Rattle.dl_cert.proofs.Common.{◌≡◌, ◌≤◌, sym, subst, ◌over◌, over_num_le}
 use Rattle.dl_frac.specs.Exact.{Gives, FitsFrac}
-use Rattle.dl_exact.proofs.Parts.{over_num_le}
 use Rattle.dl_plan.proofs.Fits.{over_fits, given_ok}
 use Rattle.dl_cert.proofs.units.fraction.Goals as goal
 

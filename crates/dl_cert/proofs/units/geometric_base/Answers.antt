@@ -1,23 +1,7 @@
-use Rattle.std.proofs.Common.{ℕ, ◌≡◌, ◌+◌, ◌*◌, ◌<◌, ◌^◌, ◌/◌, ◌∙◌, arith, ap, ap₂, sym, subst, refl, mul-pos}
-use Rattle.std.specs.Int.{div_ceil}
-use Rattle.dl_cert.specs.Numbers.{one}
-use Rattle.dl_exact.specs.Fraction.{Fraction}
-use Rattle.dl_model.proofs.PlanThin.{given_part}
-use Rattle.dl_plan.specs.declared.plan.Freq.TheVariants.{Gamma}
-use Rattle.dl_plan.specs.declared.plan.Unit.{Unit as UnitOfPlan}
-use Rattle.dl_plan.specs.Count.{IsClaimCount as IsCountOfPlan, IsUnbounded}
+use Rattle.dl_cert.proofs.Common.{ℕ, ◌≡◌, ◌+◌, ◌*◌, ◌<◌, ◌^◌, ◌/◌, ◌∙◌, arith, ap, ap₂, sym, subst, refl, mul-pos, div_ceil, one, Fraction, given_part, Gamma, UnitOfPlan, IsCountOfPlan, IsUnbounded, thinned_mean, IsValidUnit, amounts_positive}
 use Rattle.dl_plan.specs.Fine.{HasPartsOf48Bits}
-use Rattle.dl_plan.specs.Means.{thinned_mean}
-use Rattle.dl_plan.specs.Valid.{IsValidUnit}
-use Rattle.dl_plan.proofs.Positive.{amounts_positive}
-use Rattle.dl_cert.proofs.Options.{for_none, for_some}
-use Rattle.dl_cert.proofs.UnitBases.{gamma_nothing, geometric_read, part_within_one, start_within}
+use Rattle.dl_cert.proofs.UnitBases.{geometric_is, part_within_one, start_within}
 use Rattle.dl_cert.proofs.units.geometric_base.Goals as goal
-
-pub returns-in_default : goal.returns-in_default
-returns-in_default c =
-    gamma_nothing c.args.unit.now c.args.shape c.requires.count.0 c.requires.count.1
-    (for_none c.in_ok-positive.field-0 _ _ c.in_default.is c.in_ok-positive.ensures)
 
 some_shape : (cells : ℕ) (unit : UnitOfPlan) (shape : ℕ) (mean : Fraction) → IsValidUnit cells unit
     → unit.freq ≡ Gamma shape mean → 0 < shape
@@ -30,7 +14,7 @@ small_num cells unit shape mean valid is = (valid.thinned (subst IsUnbounded (sy
 pub invariant_of-result : goal.invariant_of-result
 invariant_of-result c =
     let unit = c.args.unit.now in
-    let means = for_some c.in_ok-positive.field-0 _ _ c.in-Some.positive c.in-Some.is c.in_ok-positive.ensures in
+    let means = rw c.in-Some.is at c.in_ok-positive.ensures in
     let some = some_shape c.requires.valid.0 unit c.args.shape c.requires.count.0 c.requires.valid.1 c.requires.count.1 in
     let parts = small_num c.requires.valid.0 unit c.args.shape c.requires.count.0 c.requires.valid.1 c.requires.count.1 in
     let n : ℕ = c.num-num.result in
@@ -49,9 +33,9 @@ invariant_of-result c =
 pub returns : goal.returns
 returns c =
     let unit = c.args.unit.now in
-    let means = for_some c.in_ok-positive.field-0 _ _ c.in-Some.positive c.in-Some.is c.in_ok-positive.ensures in
+    let means = rw c.in-Some.is at c.in_ok-positive.ensures in
     let some = some_shape c.requires.valid.0 unit c.args.shape c.requires.count.0 c.requires.valid.1 c.requires.count.1 in
-    geometric_read unit c.args.shape c.requires.count.0 c.thinned-mean.result _ c.num-num.result (c.den.result * c.from.result)
+    geometric_is unit c.args.shape c.requires.count.0 c.thinned-mean.result _ c.num-num.result (c.den.result * c.from.result)
     (c.num-num.result + c.den.result * c.from.result) c.requires.count.1 some means c.thinned-mean.ensures c.num-num.ensures.part
     (ap₂ (λ m n. m * n) c.den.ensures.part c.from.ensures) refl
     c.fraction.ensures.value (c.enclose.ensures.low ∙ ap₂ (λ s t. one * s / t) c.from-2.ensures c.from-3.ensures)

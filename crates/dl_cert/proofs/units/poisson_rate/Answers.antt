@@ -1,10 +1,4 @@
-use Rattle.std.proofs.Common.{ℕ, ◌≡◌, ◌*◌, ◌^◌, ◌<◌, ◌≤◌, ◌∙◌, ◌%◌, arith, sym, ap, ap₂, subst, zero-lt-suc, mul-pos}
-use Rattle.std.proofs.Math.Nat.{pow-le-pow_right, mod-eq_of_lt, mul-le-mul}
-use Rattle.std.proofs.lemmas.Nat.{pow_pos}
-use Rattle.dl_exact.specs.Fraction.{Fraction, whole, ◌over◌, ◌/ℚ◌, ◌≤ℚ◌}
-use Rattle.dl_budget.specs.Halvings.{halvings}
-use Rattle.dl_budget.proofs.HalvingLaws.{halvings_least}
-use Rattle.dl_panjer.proofs.Recursions.{divided}
+use Rattle.dl_cert.proofs.Common.{ℕ, ◌≡◌, ◌*◌, ◌^◌, ◌<◌, ◌≤◌, ◌∙◌, ◌%◌, arith, sym, ap, ap₂, subst, zero-lt-suc, pow-le-pow_right, mod-eq_of_lt, mul-le-mul, pow_pos, Fraction, whole, ◌over◌, ◌/ℚ◌, ◌≤ℚ◌, halvings, halvings_least, divided}
 use Rattle.dl_cert.proofs.units.poisson_rate.Goals as goal
 
 few_halvings : (h : ℕ) → h ≤ 13 → 2 ^ h ≤ 2 ^ 13
@@ -21,17 +15,11 @@ rate_is h mean is few p q e =
     e ∙ ap₂ (λ s t. s over t) p (ap₂ (λ s t. s * t) q (shifted h few)) ∙ divided mean (2 ^ h) (pow_pos h)
     ∙ ap (λ k. mean /ℚ whole (2 ^ k)) is
 
-den_pos : (den h : ℕ) → h ≤ 13 → 0 < den → 0 < den * (1 * 2 ^ h % 2 ^ 64)
-den_pos den h few some = rw (shifted h few) (mul-pos some (pow_pos h))
-
 small_den : (den h : ℕ) → h ≤ 13 → den < 2 ^ 48 → den * (1 * 2 ^ h % 2 ^ 64) < 2 ^ 62
 small_den den h few small =
     let least : den ≤ 2 ^ 48 = omega (arith, small) in
     let product : den * 2 ^ h ≤ 2 ^ 48 * 2 ^ 13 = mul-le-mul least (few_halvings h few) in
     rw (shifted h few) (omega (arith, product))
-
-pub fraction-requires-clause-positive : goal.fraction-requires-clause-positive
-fraction-requires-clause-positive c = den_pos c.den.result c.halvings.result c.halvings.ensures.small c.den.ensures.positive
 
 pub fraction-requires-clause-small_den : goal.fraction-requires-clause-small_den
 fraction-requires-clause-small_den c =

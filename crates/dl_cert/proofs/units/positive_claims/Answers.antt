@@ -1,13 +1,4 @@
-use Rattle.std.proofs.Common.{◌≡◌, ◌≤◌, ◌∙◌, ap, Some, None}
-use Rattle.std.specs.Prelude.{MatchOption, All, Option}
-use Rattle.std.proofs.lemmas.Result.{IfOk-weaker}
-use Rattle.dl_exact.specs.Fraction.{Fraction}
-use Rattle.dl_exact.proofs.Parts.{whole_num}
-use Rattle.dl_plan.specs.declared.plan.Unit.{Unit as UnitOfPlan}
-use Rattle.dl_plan.specs.declared.severity.Sev.{Sev}
-use Rattle.dl_plan.specs.Severity.{pairs_of, conditioned, Means}
-use Rattle.dl_plan.specs.Means.{thinned_mean}
-use Rattle.dl_model.proofs.PlanThin.{no_amount_thinned}
+use Rattle.dl_cert.proofs.Common.{◌≡◌, ◌≤◌, ◌∙◌, ap, Some, None, MatchOption, All, Option, IfOk-weaker, Fraction, whole_num, UnitOfPlan, Sev, pairs_of, conditioned, Means, thinned_mean, no_amount_thinned}
 use Rattle.dl_cert.proofs.units.positive_claims.Goals as goal
 
 kept : (unit : UnitOfPlan) (made : Option Sev)

@@ -1,5 +1,4 @@
-use Rattle.std.proofs.Common.{refl}
-use Rattle.dl_plan.proofs.Clauses.{num_le_den}
+use Rattle.dl_cert.proofs.Common.{refl, num_le_den}
 use Rattle.dl_cert.proofs.units.trial.Goals as goal
 
 pub invariant_of-result : goal.invariant_of-result

@@ -1,9 +1,6 @@
 -- The sums stay small, and an amount above x adds nothing.
-use Rattle.dl_common.proofs.Common.{◌^◌, arith}
+use Rattle.dl_common.proofs.Common.{◌^◌, arith, low_at, high_at, size_of, high_fits, low_le_high}
 use Rattle.std.proofs.Math.Nat.{le_trans}
-use Rattle.dl_grid.specs.Cells.{low_at, high_at}
-use Rattle.dl_grid.proofs.CellLaws.{size_of, high_fits}
-use Rattle.dl_grid.proofs.EndLists.{low_le_high}
 use Rattle.dl_grid.proofs.Room.{size_few}
 use Rattle.dl_common.proofs.Tilted.{amounts_fit}
 use Rattle.dl_common.proofs.joint.amounts_to.Goals as goal
@@ -13,15 +10,15 @@ overflow_add-low g c =
     let fits = amounts_fit c.args.x (low_at c.args.grid.now) c.args.items.now c.items.item-index _ c.items-test.true
     c.items.low c.at-cell.result.lo (2 ^ 56) c.items.invariant.low c.if-item-x.true c.at-cell.ensures.low
     (λ k. le_trans (low_le_high c.args.grid.now k) (high_fits c.args.grid.now k c.requires.grid))
-    (omega (arith, c.requires.inside, size_few (size_of c.args.grid.now c.requires.grid))) (omega arith)
+    (omega (arith, size_few (size_of c.args.grid.now c.requires.grid))) (omega arith)
     c.requires.within in
-    omega (arith, fits)
+    omega arith
 
 pub overflow_add-high : goal.overflow_add-high
 overflow_add-high g c =
     let fits = amounts_fit c.args.x (high_at c.args.grid.now) c.args.items.now c.items.item-index _ c.items-test.true
     c.items.high c.at-cell.result.hi (2 ^ 56) c.items.invariant.high c.if-item-x.true c.at-cell.ensures.high
     (λ k. high_fits c.args.grid.now k c.requires.grid)
-    (omega (arith, c.requires.inside, size_few (size_of c.args.grid.now c.requires.grid))) (omega arith)
+    (omega (arith, size_few (size_of c.args.grid.now c.requires.grid))) (omega arith)
     c.requires.within in
-    omega (arith, fits)
+    omega arith

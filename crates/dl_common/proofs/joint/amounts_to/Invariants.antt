@@ -1,7 +1,5 @@
 -- The items so far.
-use Rattle.dl_common.proofs.Common.{◌≡◌, take}
-use Rattle.dl_grid.specs.Cells.{low_at, high_at}
-use Rattle.dl_common.specs.Amounts.{amounts_to}
+use Rattle.dl_common.proofs.Common.{◌≡◌, take, low_at, high_at, amounts_to}
 use Rattle.dl_common.proofs.joint.amounts_to.Given as goal
 
 abbrev pub invariant-items : goal.invariant-items

@@ -1,8 +1,5 @@
 -- The ends hold the declared joint mean.
-use Rattle.dl_common.proofs.Common.{◌∙◌, ◌*◌, ◌/◌, ◌<◌, ◌^◌, ap, ap₂, sym, arith, Fraction}
-use Rattle.std.proofs.Common.{min}
-use Rattle.std.specs.Int.{div_ceil}
-use Rattle.dl_grid.proofs.CellLaws.{scale_of}
+use Rattle.dl_common.proofs.Common.{rules, ◌∙◌, ap, sym, arith, Fraction, scale_of}
 use Rattle.dl_common.proofs.JointEnds.{poisson_unbounded, some_positive, scaled_fits, ends_width, ends_hold, none_hold, low_within}
 use Rattle.dl_common.proofs.joint.common_joint.Goals as goal
 
@@ -18,32 +15,17 @@ returns-then-num-eq0-clause-holds g c plan r i raised shares there here is enclo
     (sym c.num.ensures.part ∙ c.if-num-eq0.true) c.point.ensures.low c.point.ensures.high
 
 pub one_claim-requires : goal.one_claim-requires
-one_claim-requires g c = (
-  omega arith,
-  (
-    omega arith,
-    (
-      c.cells.ensures.grid,
-      (
-        c.requires.inside,
-        some_positive c.args.unit.now c.thinned-mean.result c.thinned-mean.ensures
-            (λ e. c.if-num-eq0.false (c.num.ensures.part ∙ e)),
-      ),
-    ),
-  ),
-)
+one_claim-requires g c =
+    let some = some_positive c.args.unit.now c.thinned-mean.result c.thinned-mean.ensures
+    (λ e. c.if-num-eq0.false (c.num.ensures.part ∙ e)) in search rules
 
 pub scale-requires : goal.scale-requires
 scale-requires g c =
     let admitted = (c.requires.valid.1.thinned (poisson_unbounded c.args.unit.now.freq c.requires.poisson)).0 in
-    let below : c.num-2.result < 2 ^ 48 = omega (
-      arith,
-      c.num-2.ensures.part,
-      ap (λ (x : Fraction). x.num) c.thinned-mean.ensures,
-      admitted.num,
-    ) in
+    let num = admitted.num in
     let fits = scaled_fits c.args.grid.now c.args.x c.one_claim.result.hi c.num-2.result c.den.result
-    c.cells.ensures.grid c.requires.inside c.one_claim.ensures.small below c.den.ensures.positive in
+    c.cells.ensures.grid c.requires.inside c.one_claim.ensures.small
+    (omega (arith, ap (λ (x : Fraction). x.num) c.thinned-mean.ensures)) c.den.ensures.positive in
     (omega arith, (c.den.ensures.positive, (fits.0, fits.1)))
 
 pub returns-clause-holds : goal.returns-clause-holds
@@ -51,23 +33,13 @@ returns-clause-holds g c plan r i raised shares there here is encloses =
     ends_hold c.args.grid.now plan i c.args.x c.clamp_to.result.lo c.clamp_to.result.hi raised c.args.unit.now
     c.thinned-mean.result c.requires.inside c.thinned-mean.ensures r shares there here is encloses
     (λ e. c.if-num-eq0.false (c.num.ensures.part ∙ e))
-    (c.clamp_to.ensures.low ∙ ap₂ min (c.scale.ensures.low ∙ ap₂ (λ a d. a / d)
-    (ap₂ (λ a n. a * n) c.one_claim.ensures.low c.num-2.ensures.part) c.den.ensures.part)
-    (ap (λ s. c.args.x * s) c.units_of_one.ensures))
-    (c.clamp_to.ensures.high ∙ ap₂ min (c.scale.ensures.high ∙ ap₂ div_ceil
-    (ap₂ (λ a n. a * n) c.one_claim.ensures.high c.num-2.ensures.part) c.den.ensures.part)
-    (ap (λ s. c.args.x * s) c.units_of_one.ensures))
+    (cc) (cc)
 
 pub returns-clause-width : goal.returns-clause-width
 returns-clause-width g c D within =
     ends_width c.args.grid.now c.args.x D c.clamp_to.result.lo c.clamp_to.result.hi c.args.unit.now
     c.thinned-mean.result c.requires.inside c.thinned-mean.ensures (λ e. c.if-num-eq0.false (c.num.ensures.part ∙ e))
-    (c.clamp_to.ensures.low ∙ ap₂ min (c.scale.ensures.low ∙ ap₂ (λ a d. a / d)
-    (ap₂ (λ a n. a * n) c.one_claim.ensures.low c.num-2.ensures.part) c.den.ensures.part)
-    (ap (λ s. c.args.x * s) c.units_of_one.ensures))
-    (c.clamp_to.ensures.high ∙ ap₂ min (c.scale.ensures.high ∙ ap₂ div_ceil
-    (ap₂ (λ a n. a * n) c.one_claim.ensures.high c.num-2.ensures.part) c.den.ensures.part)
-    (ap (λ s. c.args.x * s) c.units_of_one.ensures))
+    (cc) (cc)
     within
 
 pub returns-clause-below : goal.returns-clause-below

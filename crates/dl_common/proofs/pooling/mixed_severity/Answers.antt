@@ -1,6 +1,5 @@
 -- The weights are those of the units' parts of all claims, and the mixture by them is fine.
-use Rattle.dl_common.proofs.Common.{◌∙◌, map, ap, sym, subst, IsFineTo30Bits, pairs_of}
-use Rattle.dl_sev.specs.Weighing.{sum_of}
+use Rattle.dl_common.proofs.Common.{◌∙◌, map, ap, sym, subst, IsFineTo30Bits, pairs_of, sum_of}
 use Rattle.dl_common.proofs.Units.{shares_one}
 use Rattle.dl_common.proofs.Mixtures.{as_many, mixture_products, mixture_pooled}
 use Rattle.dl_common.proofs.pooling.mixed_severity.Goals as goal

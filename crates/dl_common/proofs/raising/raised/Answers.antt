@@ -1,8 +1,7 @@
 -- The raised mean is admitted, and the unit has it with one more in its shape.
-use Rattle.dl_common.proofs.Common.{◌∙◌, ◌over◌, ap₂, sym, subst, refl, arith, FitsFrac, given_ok, given_value, Gamma, weight_at}
+use Rattle.dl_common.proofs.Common.{◌∙◌, ◌over◌, ap₂, sym, subst, refl, arith, FitsFrac, given_ok, given_value, Gamma, weight_at, has_factor}
 use Rattle.dl_common.proofs.Alone.{raised_valid}
 use Rattle.dl_plan.proofs.Raised.{raised_parts}
-use Rattle.dl_plan.proofs.Shared.{has_factor}
 use Rattle.dl_common.proofs.Named.{gamma_shape, gamma_mean, raised_fits}
 use Rattle.dl_common.proofs.raising.raised.Goals as goal
 
@@ -21,7 +20,7 @@ returns-clause-raised c plan r shares pooled =
     let shape = gamma_shape _ c.in-Gamma.shape r _ _ c.in-Gamma.is pooled.count in
     record {
       name = λ default. c.in_ok-name.ensures ∙ c.as_slice.ensures ∙ pooled.name default;
-      count = ap₂ Gamma (omega (arith, shape)) (given_value _ _ c.unwrap.result c.make.ensures c.unwrap.ensures
+      count = ap₂ Gamma (omega arith) (given_value _ _ c.unwrap.result c.make.ensures c.unwrap.ensures
           ∙ raised_parts c.num.result c.den.result c.in-Gamma.shape r c.in-Gamma.mean _ c.num.ensures.part
           c.den.ensures.part (gamma_mean _ _ _ _ _ c.in-Gamma.is pooled.count) shape
           (has_factor plan r shares).some_shape);

@@ -11,7 +11,7 @@ unwrap-sum-requires c =
     let step = sum_step c.args.units.now c.units.unit-index c.unit-item.result c.units.sum c.expected.result
     c.units-test.true c.unit-item.is c.units.invariant c.expected.ensures in
     given_ok _ _ c.add.ensures (subst FitsFrac (sym step)
-    (admitted_fits _ (c.requires.admitted (c.units.unit-index + 1) (omega arith) (omega (arith, c.units-test.true)))))
+    (admitted_fits _ (c.requires.admitted (c.units.unit-index + 1) (omega arith) (omega arith))))
 
 pub units-preserved : goal.units-preserved
 units-preserved c =

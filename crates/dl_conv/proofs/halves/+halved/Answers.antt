@@ -1,5 +1,4 @@
-use Rattle.dl_conv.proofs.Common.{ℕ, ◌*◌, ◌/◌, ◌≡◌, ◌≤◌, arith, length, subst, sym, refl, ◌∙◌, IsHalvable}
-use Rattle.std.proofs.Math.Nat.{one-le-pow}
+use Rattle.dl_conv.proofs.Common.{ℕ, ◌*◌, ◌/◌, ◌≡◌, ◌≤◌, arith, length, subst, sym, refl, ◌∙◌, IsHalvable, one-le-pow}
 use Rattle.dl_conv.proofs.Halving.{twice, front_half, back_half, three_of, small_remainder, values_small, halved_value}
 use Rattle.dl_conv.proofs.halves.+halved.Goals as goal
 
@@ -120,12 +119,3 @@ add_halves-requires g t c =
 pub add_halves-requires-2 : goal.add_halves-requires-2
 add_halves-requires-2 g t c =
     let n = twice (length c.args.a.now) c.requires.halvable c.if-a-eq-BLOCK.false in omega arith
-
-pub take_off-requires-clause-low : goal.take_off-requires-clause-low
-take_off-requires-clause-low g t c = omega arith
-
-pub take_off-requires-clause-high : goal.take_off-requires-clause-high
-take_off-requires-clause-high g t c = omega arith
-
-pub add_middle-requires : goal.add_middle-requires
-add_middle-requires g t c = omega arith

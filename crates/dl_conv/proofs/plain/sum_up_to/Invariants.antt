@@ -1,5 +1,4 @@
-use Rattle.std.specs.Prelude.{max}
-use Rattle.dl_conv.proofs.Common.{◌≡◌, ◌≤◌}
+use Rattle.dl_conv.proofs.Common.{◌≡◌, ◌≤◌, max}
 use Rattle.dl_conv.proofs.Columns.{column}
 use Rattle.dl_conv.proofs.plain.sum_up_to.Given as goal
 

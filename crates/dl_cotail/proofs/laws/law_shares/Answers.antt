@@ -1,8 +1,5 @@
-use Rattle.std.proofs.Common.{◌≡◌, subst}
+use Rattle.dl_cotail.proofs.Common.{◌≡◌, subst, whole, ◌+ℚ◌, ◌-ℚ◌, ◌*ℚ◌, sum_below, One, Tail, Part, Share, partial_sums}
 use Rattle.std.proofs.lemmas.List.{length-map}
-use Rattle.dl_exact.specs.Fraction.{whole, ◌+ℚ◌, ◌-ℚ◌, ◌*ℚ◌}
-use Rattle.dl_exact.specs.Sum.{sum_below}
-use Rattle.dl_model.specs.Program.{One, Tail, Part, Share, partial_sums}
 use Rattle.dl_model.specs.Plans.{aggregates_of, loss_of}
 use Rattle.dl_model.proofs.ShareLaws.{shares_total}
 use Rattle.dl_cotail.proofs.laws.law_shares.Goals as goal

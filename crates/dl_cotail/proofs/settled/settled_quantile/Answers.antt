@@ -1,8 +1,4 @@
-use Rattle.std.proofs.Common.{◌≡◌, ◌^◌, arith, length, subst}
-use Rattle.dl_grid.specs.Cells.{low_at, high_at}
-use Rattle.dl_measures.specs.Brackets.{IsFirstAtLeast, IsFirstFound}
-use Rattle.dl_measures.specs.Ends.{low_cdf, high_cdf}
-use Rattle.dl_measures.proofs.TailLaws.{in_order}
+use Rattle.dl_cotail.proofs.Common.{◌≡◌, ◌^◌, arith, length, subst, low_at, high_at, IsFirstAtLeast, IsFirstFound, low_cdf, high_cdf, in_order}
 use Rattle.dl_cotail.proofs.settled.settled_quantile.Goals as goal
 
 pub returns-clause-some : goal.returns-clause-some
@@ -11,7 +7,7 @@ returns-clause-some g c =
     c.in_ok-hi.was c.quantile-bracket.ensures.hi in
     let order = in_order c.args.g.now c.args.p c.quantile-bracket.result.lo c.in_ok-hi.hi c.cells.ensures.grid
     c.quantile-bracket.ensures.lo found in
-    let same : c.quantile-bracket.result.lo ≡ c.in_ok-hi.hi = omega (arith, order) in (
+    let same : c.quantile-bracket.result.lo ≡ c.in_ok-hi.hi = omega arith in (
       found.0,
       record {
         first = subst (IsFirstAtLeast (high_cdf (2 ^ g.row.B) (high_at c.args.g.now)) c.args.p (length c.args.g.now))

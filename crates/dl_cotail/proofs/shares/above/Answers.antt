@@ -1,7 +1,4 @@
-use Rattle.std.proofs.Common.{ap₂, subst, ◌∙◌}
-use Rattle.dl_exact.specs.Fraction.{◌over◌}
-use Rattle.dl_exact.proofs.Over.{over_self}
-use Rattle.dl_iv.specs.Enclosure.{LiesIn}
+use Rattle.dl_cotail.proofs.Common.{ap₂, subst, ◌∙◌, ◌over◌, over_self, LiesIn}
 use Rattle.dl_cotail.proofs.shares.above.Goals as goal
 
 pub returns-clause-holds : goal.returns-clause-holds

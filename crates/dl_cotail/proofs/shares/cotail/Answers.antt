@@ -1,23 +1,6 @@
-use Rattle.std.proofs.Common.{◌≡◌, inl, inr, ◌+◌, ◌-◌, ◌*◌, ◌/◌, ◌^◌, ◌<◌, ◌≤◌, arith, length, ap₂, refl, subst, subst₂, sym}
-use Rattle.std.specs.Prelude.{◌⊎◌, true, false}
-use Rattle.std.proofs.lemmas.Bool.{cases_lt}
-use Rattle.std.specs.Int.{div_ceil}
-use Rattle.std.proofs.lemmas.Nat.{pow_pos}
-use Rattle.dl_exact.specs.Fraction.{Fraction, whole, ◌over◌, ◌+ℚ◌, ◌-ℚ◌, ◌*ℚ◌, ◌/ℚ◌}
-use Rattle.dl_exact.proofs.BelowOne.{num_below}
-use Rattle.dl_exact.proofs.Laws.{times_comm}
-use Rattle.dl_iv.specs.Enclosure.{LiesIn}
+use Rattle.dl_cotail.proofs.Common.{◌≡◌, inl, inr, ◌+◌, ◌-◌, ◌*◌, ◌/◌, ◌^◌, ◌<◌, ◌≤◌, arith, length, ap₂, refl, subst, subst₂, sym, ◌⊎◌, true, false, cases_lt, div_ceil, pow_pos, Fraction, whole, ◌over◌, ◌+ℚ◌, ◌-ℚ◌, ◌*ℚ◌, ◌/ℚ◌, times_comm, LiesIn, low_at, spread, One, Point, partial_sums, Holds, low_sum, apart, high_mass, HoldsShare, are_units, quantity_bounded, rest_above, room_of}
 use Rattle.dl_iv.proofs.Enclosures.{lies_between}
-use Rattle.dl_grid.specs.Cells.{low_at, spread}
-use Rattle.dl_model.specs.Program.{One, Point, partial_sums}
-use Rattle.dl_model.specs.Series.{Holds}
-use Rattle.dl_grid.proofs.PlaceSums.{low_sum}
-use Rattle.dl_measures.proofs.Sums.{apart, high_mass}
-use Rattle.dl_model.specs.Shares.{HoldsShare}
-use Rattle.dl_model.proofs.Bounded.{are_units, quantity_bounded}
 use Rattle.dl_model.proofs.ShareEnds.{share_ends}
-use Rattle.dl_measures.proofs.TailLaws.{rest_above}
-use Rattle.dl_cotail.proofs.JointSums.{room_of}
 use Rattle.dl_cotail.proofs.ShareEnds.{cdf_holds, over_what_is_left, product_fits, scaled_fits, sum_small, share_wider}
 use Rattle.dl_cotail.proofs.Widths.{product_narrow, above_narrow, cotail_narrow}
 use Rattle.dl_cotail.proofs.Absent.{not_past, not_open, not_rare, settles, absent_rare, absent_open, cell_narrow}
@@ -36,69 +19,38 @@ pub returns-in_err-share-clause-absent : goal.returns-in_err-share-clause-absent
 returns-in_err-share-clause-absent g c us x d e none found =
     let settled = c.in_ok-q.ensures.some in
     absent_rare c.args.total.now c.args.p c.in_ok-q.q settled.0 settled.1 us d e
-    (omega (arith, c.at.ensures.low, c.in_err-share.ensures.none.0 refl))
+    (omega (arith, c.in_err-share.ensures.none.0 refl))
 
 pub mul-at-requires : goal.mul-at-requires
-mul-at-requires g c = (
-  omega arith,
-  omega (
-    arith,
-    (product_fits (2 ^ g.row.B) c.in_ok-q.q c.above.result.hi c.in_ok-share.share.hi
-        (room_of c.args.total.now c.in_ok-q.q c.cells.ensures.grid c.in_ok-q.ensures.some.0)
-        (omega (arith, c.above.ensures.high, c.cdf.ensures.high)) c.in_ok-share.ensures.most).1,
-  ),
-)
+mul-at-requires g c =
+    let fits = product_fits (2 ^ g.row.B) c.in_ok-q.q c.above.result.hi c.in_ok-share.share.hi
+    (room_of c.args.total.now c.in_ok-q.q c.cells.ensures.grid c.in_ok-q.ensures.some.0) (omega arith)
+    c.in_ok-share.ensures.most in
+    (omega arith, omega (arith, fits.1))
 
 pub add-requires : goal.add-requires
-add-requires g c = (
-  omega arith,
-  omega (
-    arith,
-    c.mul-at.ensures.high,
-    sum_small c.args.total.now c.in_ok-q.q c.sub_floor0-beyond.result.hi c.above.result.hi c.in_ok-share.share.hi
-        c.cells.ensures.grid c.in_ok-q.ensures.some.0 (omega (arith, c.above.ensures.high, c.cdf.ensures.high))
-        c.in_ok-share.ensures.most (omega (arith, c.sub_floor0-beyond.ensures.high, c.requires.mean)),
-  ),
-)
-
-pub overflow_sub-den : goal.overflow_sub-den
-overflow_sub-den g c = omega (arith, c.num.ensures.part, c.den-2.ensures.part, num_below c.args.p c.requires.below_one)
+add-requires g c =
+    let sum = sum_small c.args.total.now c.in_ok-q.q c.sub_floor0-beyond.result.hi c.above.result.hi
+    c.in_ok-share.share.hi c.cells.ensures.grid c.in_ok-q.ensures.some.0 (omega arith) c.in_ok-share.ensures.most
+    (omega arith) in
+    (omega arith, omega arith)
 
 pub scale-requires : goal.scale-requires
 scale-requires g c =
-    let left : 0 < c.den-2.result - c.num.result =
-    omega (arith, c.num.ensures.part, c.den-2.ensures.part, rest_above c.args.p c.requires.below_one) in
-    let fits = scaled_fits c.add.result.hi c.den.result (c.den-2.result - c.num.result) left
-    (omega (
-      arith,
-      c.add.ensures.high,
-      c.mul-at.ensures.high,
-      sum_small c.args.total.now c.in_ok-q.q c.sub_floor0-beyond.result.hi c.above.result.hi c.in_ok-share.share.hi
-          c.cells.ensures.grid c.in_ok-q.ensures.some.0 (omega (arith, c.above.ensures.high, c.cdf.ensures.high))
-          c.in_ok-share.ensures.most (omega (arith, c.sub_floor0-beyond.ensures.high, c.requires.mean)),
-    ))
-    (omega (arith, c.den.ensures.part, c.requires.small)) in
+    let left : 0 < c.den-2.result - c.num.result = omega (arith, rest_above c.args.p c.requires.below_one) in
+    let sum = sum_small c.args.total.now c.in_ok-q.q c.sub_floor0-beyond.result.hi c.above.result.hi
+    c.in_ok-share.share.hi c.cells.ensures.grid c.in_ok-q.ensures.some.0 (omega arith) c.in_ok-share.ensures.most
+    (omega arith) in
+    let fits = scaled_fits c.add.result.hi c.den.result _ left (omega arith) (omega arith) in
     (omega arith, (left, (omega (arith, fits.0), omega (arith, fits.1))))
 
 pub returns-clause-small : goal.returns-clause-small
 returns-clause-small g c =
-    let left : 0 < c.den-2.result - c.num.result =
-    omega (arith, c.num.ensures.part, c.den-2.ensures.part, rest_above c.args.p c.requires.below_one) in
-    omega (
-      arith,
-      c.scale.ensures.high,
-      (scaled_fits c.add.result.hi c.den.result (c.den-2.result - c.num.result) left
-          (omega (
-            arith,
-            c.add.ensures.high,
-            c.mul-at.ensures.high,
-            sum_small c.args.total.now c.in_ok-q.q c.sub_floor0-beyond.result.hi c.above.result.hi
-                c.in_ok-share.share.hi c.cells.ensures.grid c.in_ok-q.ensures.some.0
-                (omega (arith, c.above.ensures.high, c.cdf.ensures.high)) c.in_ok-share.ensures.most
-                (omega (arith, c.sub_floor0-beyond.ensures.high, c.requires.mean)),
-          ))
-          (omega (arith, c.den.ensures.part, c.requires.small))).1,
-    )
+    let left : 0 < c.den-2.result - c.num.result = omega (arith, rest_above c.args.p c.requires.below_one) in
+    let sum = sum_small c.args.total.now c.in_ok-q.q c.sub_floor0-beyond.result.hi c.above.result.hi
+    c.in_ok-share.share.hi c.cells.ensures.grid c.in_ok-q.ensures.some.0 (omega arith) c.in_ok-share.ensures.most
+    (omega arith) in
+    omega (arith, (scaled_fits c.add.result.hi c.den.result _ left (omega arith) (omega arith)).1)
 
 pub returns-clause-none : goal.returns-clause-none
 returns-clause-none g c = (
@@ -166,7 +118,7 @@ returns-clause-width g c m d o t of_mean of_unit of_others of_total =
     let S = 2 ^ g.row.B in
     let K = length c.args.unit.now in
     let q = c.in_ok-q.q in
-    let inside : q < K = omega (arith, c.in_ok-q.ensures.some.0, c.requires.total_cells) in
+    let inside : q < K = omega (arith, c.in_ok-q.ensures.some.0) in
     let share = c.in_ok-share.share in
     let above = c.above.result in
     let low : c.scale.result.lo ≡ ((c.args.mean.lo - c.joint_sums.result.hi) + above.lo * share.lo / S) * c.args.p.den /
@@ -178,8 +130,6 @@ returns-clause-width g c m d o t of_mean of_unit of_others of_total =
       arith,
       above_narrow S c.args.p.num c.args.p.den c.cdf.result.lo c.cdf.result.hi above.lo above.hi c.args.p.positive
           c.above.ensures.low c.above.ensures.high,
-      c.cdf.ensures.low,
-      c.cdf.ensures.high,
       apart c.args.total.now (q + 1),
       low_sum (q + 1) c.args.total.now,
       high_mass (q + 1) c.args.total.now,
@@ -189,8 +139,8 @@ returns-clause-width g c m d o t of_mean of_unit of_others of_total =
     (above.lo * share.lo / S) (div_ceil (above.hi * share.hi) S) (share.hi - share.lo) c.scale.result.lo
     c.scale.result.hi c.requires.below_one (pow_pos g.row.B) inside c.joint_sums.ensures.width c.args.mean.ordered
     c.joint_sums.result.ordered narrow (c.in_ok-share.ensures.width (spread c.args.total.now)
-    (omega (arith, c.at.ensures.low, c.at.ensures.high, cell_narrow c.args.total.now q)))
+    (omega (arith, cell_narrow c.args.total.now q)))
     (product_narrow S q above.lo above.hi share.lo share.hi (pow_pos g.row.B) above.ordered share.ordered
-    (omega (arith, c.above.ensures.high, c.cdf.ensures.high))
-    (omega (arith, share.ordered, c.in_ok-share.ensures.most)))
+    (omega arith)
+    (omega (arith, c.in_ok-share.ensures.most)))
     low high of_mean of_unit of_others of_total

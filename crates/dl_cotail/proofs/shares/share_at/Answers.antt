@@ -1,25 +1,14 @@
-use Rattle.std.proofs.Common.{◌≡◌, ◌-◌, ◌*◌, ◌^◌, ◌≤◌, min, arith, length, ap, ap₂, subst₂, sym, ◌∙◌}
-use Rattle.std.proofs.lemmas.Nat.{pow_pos}
-use Rattle.dl_exact.specs.Fraction.{◌over◌}
-use Rattle.dl_grid.specs.Cells.{spread}
-use Rattle.dl_model.specs.Series.{Holds}
-use Rattle.dl_model.specs.Program.{One, Point, Joint, partial_sums}
-use Rattle.dl_cotail.specs.Widths.{joint_width}
-use Rattle.dl_cotail.proofs.JointSums.{room_of}
+use Rattle.dl_cotail.proofs.Common.{◌≡◌, ◌-◌, ◌*◌, ◌^◌, ◌≤◌, min, arith, length, ap, ap₂, subst₂, sym, ◌∙◌, pow_pos, ◌over◌, spread, Holds, One, Point, Joint, partial_sums, joint_width, room_of}
 use Rattle.dl_cotail.proofs.ShareEnds.{joint_lowered, share_lowered, lowered_fits}
 use Rattle.dl_cotail.proofs.Widths.{lowered_narrow, conditional_narrow}
 use Rattle.dl_cotail.proofs.shares.share_at.Goals as goal
 
 pub conditional_mean-requires : goal.conditional_mean-requires
-conditional_mean-requires g c = (
-  omega arith,
-  omega (
-    arith,
-    lowered_fits (2 ^ g.row.B) c.args.q c.clamp_to-joint.result.hi c.args.at.hi
-        (room_of c.args.unit.now c.args.q c.cells.ensures.grid c.requires.in_unit) c.requires.at
-        (omega (arith, c.clamp_to-joint.ensures.high, ap (λ t. t * c.args.at.hi) c.from-most.ensures)),
-  ),
-)
+conditional_mean-requires g c =
+    let most = ap (λ t. t * c.args.at.hi) c.from-most.ensures in
+    let fits = lowered_fits (2 ^ g.row.B) c.args.q c.clamp_to-joint.result.hi c.args.at.hi
+    (room_of c.args.unit.now c.args.q c.cells.ensures.grid c.requires.in_unit) c.requires.at (omega arith) in
+    (omega arith, omega arith)
 
 pub returns-clause-holds : goal.returns-clause-holds
 returns-clause-holds g c us i w here e f at =
@@ -44,22 +33,14 @@ pub returns-clause-width : goal.returns-clause-width
 returns-clause-width g c t at =
     let joint = c.clamp_to-joint.result in
     let few : joint.lo ≤ c.args.q * c.args.at.hi =
-    omega (arith, c.clamp_to-joint.ensures.low, ap (λ t. t * c.args.at.hi) c.from-most.ensures) in
+    omega (arith, ap (λ t. t * c.args.at.hi) c.from-most.ensures) in
     let narrow : joint.hi - joint.lo ≤ joint_width (2 ^ g.row.B) (length c.args.unit.now) (spread c.args.unit.now)
     (spread c.args.others.now) =
-    omega (
-      arith,
-      lowered_narrow c.joint_mean.result.hi c.joint_mean.result.lo (c.from-most.result * c.args.at.hi),
-      c.joint_mean.ensures.width,
-      c.clamp_to-joint.ensures.low,
-      c.clamp_to-joint.ensures.high,
-    ) in
+    omega (arith, lowered_narrow c.joint_mean.result.hi c.joint_mean.result.lo (c.from-most.result * c.args.at.hi)) in
     conditional_narrow (2 ^ g.row.B) (length c.args.unit.now) (spread c.args.unit.now) (spread c.args.others.now) t
     c.args.q (c.args.at.hi - c.args.at.lo) (joint.hi - joint.lo) _ c.in_ok-share.share.hi c.in_ok-share.share.lo
     c.requires.in_unit at narrow (c.in_ok-share.ensures.width c.args.q few)
     (omega (
       arith,
       lowered_narrow c.in_ok-share.share.hi c.in_ok-share.share.lo (c.from-most.result * c.units_of_one.result),
-      c.clamp_to.ensures.low,
-      c.clamp_to.ensures.high,
     ))

@@ -1,9 +1,4 @@
-use Rattle.std.proofs.Common.{◌+◌, arith, sym, ◌∙◌}
-use Rattle.dl_grid.specs.Cells.{low_at, high_at}
-use Rattle.dl_exact.proofs.Counts.{below_nothing}
-use Rattle.dl_grid.proofs.CellLaws.{size_of, scale_of, one_fits}
-use Rattle.dl_grid.proofs.Room.{size_few}
-use Rattle.dl_measures.proofs.Reached.{more, next_sum}
+use Rattle.dl_cotail.proofs.Common.{◌+◌, arith, sym, ◌∙◌, low_at, high_at, below_nothing, size_of, scale_of, one_fits, size_few, next_sum}
 use Rattle.dl_alloc.proofs.WeightedEnds.{high_mass}
 use Rattle.dl_cotail.proofs.PairSums.{all_places}
 use Rattle.dl_cotail.proofs.JointSums.{low_step, high_step}
@@ -15,7 +10,7 @@ point-distribution-requires g c =
     (omega arith, (scale.0, (scale.1, omega arith)))
 
 pub overflow_add-z-end : goal.overflow_add-z-end
-overflow_add-z-end g c = omega (arith, c.requires.in_unit, size_few (size_of c.args.unit.now c.requires.unit))
+overflow_add-z-end g c = omega (arith, size_few (size_of c.args.unit.now c.requires.unit))
 
 pub loop-z-init : goal.loop-z-init
 loop-z-init g c = record {
@@ -26,67 +21,47 @@ loop-z-init g c = record {
 }
 
 pub add-distribution-requires : goal.add-distribution-requires
-add-distribution-requires g c = (
-  omega arith,
-  omega (
-    arith,
-    next_sum (high_at c.args.others.now) c.loop-z.z c.loop-z.distribution.hi c.at.result.hi
-        c.loop-z.invariant.high_end c.at.ensures.high,
-    high_mass c.args.others.now (c.loop-z.z + 1) c.requires.others c.requires.others_narrow,
-    one_fits g.row.B (scale_of c.args.unit.now c.requires.unit.some).1,
-  ),
-)
+add-distribution-requires g c =
+    let sum = next_sum (high_at c.args.others.now) c.loop-z.z _ _ c.loop-z.invariant.high_end c.at.ensures.high in
+    let mass = high_mass c.args.others.now (c.loop-z.z + 1) c.requires.others c.requires.others_narrow in
+    let one = one_fits g.row.B (scale_of c.args.unit.now c.requires.unit.some).1 in
+    (omega arith, omega arith)
 
 pub overflow_mul-low-in-loop-z : goal.overflow_mul-low-in-loop-z
 overflow_mul-low-in-loop-z g c =
     let step = low_step c.args.unit.now c.args.others.now c.args.q c.requires.unit c.requires.others c.requires.in_unit
-    c.loop-z.z c.loop-z.low _ _ (omega arith) c.loop-z.invariant.low c.at-own.ensures.low
-    (c.add-distribution.ensures.low ∙ more (low_at c.args.others.now) c.loop-z.z _ _ c.loop-z.invariant.low_end
-    c.at.ensures.low) in
-    omega (arith, step.1)
+    c.loop-z.z _ _ _ _ _ (omega arith) c.loop-z.invariant.low c.at-own.ensures.low c.add-distribution.ensures.low
+    c.loop-z.invariant.low_end c.at.ensures.low in omega arith
 
 pub overflow_add-low : goal.overflow_add-low
 overflow_add-low g c =
     let step = low_step c.args.unit.now c.args.others.now c.args.q c.requires.unit c.requires.others c.requires.in_unit
-    c.loop-z.z c.loop-z.low _ _ (omega arith) c.loop-z.invariant.low c.at-own.ensures.low
-    (c.add-distribution.ensures.low ∙ more (low_at c.args.others.now) c.loop-z.z _ _ c.loop-z.invariant.low_end
-    c.at.ensures.low) in
-    omega (arith, step.1)
+    c.loop-z.z _ _ _ _ _ (omega arith) c.loop-z.invariant.low c.at-own.ensures.low c.add-distribution.ensures.low
+    c.loop-z.invariant.low_end c.at.ensures.low in omega arith
 
 pub overflow_mul-high-in-loop-z : goal.overflow_mul-high-in-loop-z
 overflow_mul-high-in-loop-z g c =
-    let step = high_step c.args.unit.now c.args.others.now c.args.q c.requires.unit c.requires.others
-    c.requires.in_unit c.requires.unit_narrow c.requires.others_narrow
-    c.loop-z.z c.loop-z.high _ _ (omega arith) c.loop-z.invariant.high c.at-own.ensures.high
-    (c.add-distribution.ensures.high ∙ more (high_at c.args.others.now) c.loop-z.z _ _ c.loop-z.invariant.high_end
-    c.at.ensures.high) in
-    omega (arith, step.1)
+    let step = high_step c.args.unit.now c.args.others.now c.args.q c.requires.unit c.requires.others c.requires.in_unit
+    c.requires.unit_narrow c.requires.others_narrow c.loop-z.z _ _ _ _ _ (omega arith) c.loop-z.invariant.high
+    c.at-own.ensures.high c.add-distribution.ensures.high c.loop-z.invariant.high_end c.at.ensures.high in omega arith
 
 pub overflow_add-high : goal.overflow_add-high
 overflow_add-high g c =
-    let step = high_step c.args.unit.now c.args.others.now c.args.q c.requires.unit c.requires.others
-    c.requires.in_unit c.requires.unit_narrow c.requires.others_narrow
-    c.loop-z.z c.loop-z.high _ _ (omega arith) c.loop-z.invariant.high c.at-own.ensures.high
-    (c.add-distribution.ensures.high ∙ more (high_at c.args.others.now) c.loop-z.z _ _ c.loop-z.invariant.high_end
-    c.at.ensures.high) in
-    omega (arith, step.1)
+    let step = high_step c.args.unit.now c.args.others.now c.args.q c.requires.unit c.requires.others c.requires.in_unit
+    c.requires.unit_narrow c.requires.others_narrow c.loop-z.z _ _ _ _ _ (omega arith) c.loop-z.invariant.high
+    c.at-own.ensures.high c.add-distribution.ensures.high c.loop-z.invariant.high_end c.at.ensures.high in omega arith
 
 pub loop-z-preserved : goal.loop-z-preserved
 loop-z-preserved g c =
     let low = low_step c.args.unit.now c.args.others.now c.args.q c.requires.unit c.requires.others c.requires.in_unit
-    c.loop-z.z c.loop-z.low _ _ (omega arith) c.loop-z.invariant.low c.at-own.ensures.low
-    (c.add-distribution.ensures.low ∙ more (low_at c.args.others.now) c.loop-z.z _ _ c.loop-z.invariant.low_end
-    c.at.ensures.low) in
-    let high = high_step c.args.unit.now c.args.others.now c.args.q c.requires.unit c.requires.others
-    c.requires.in_unit c.requires.unit_narrow c.requires.others_narrow
-    c.loop-z.z c.loop-z.high _ _ (omega arith) c.loop-z.invariant.high c.at-own.ensures.high
-    (c.add-distribution.ensures.high ∙ more (high_at c.args.others.now) c.loop-z.z _ _ c.loop-z.invariant.high_end
-    c.at.ensures.high) in
+    c.loop-z.z _ _ _ _ _ (omega arith) c.loop-z.invariant.low c.at-own.ensures.low c.add-distribution.ensures.low
+    c.loop-z.invariant.low_end c.at.ensures.low in
+    let high = high_step c.args.unit.now c.args.others.now c.args.q c.requires.unit c.requires.others c.requires.in_unit
+    c.requires.unit_narrow c.requires.others_narrow c.loop-z.z _ _ _ _ _ (omega arith) c.loop-z.invariant.high
+    c.at-own.ensures.high c.add-distribution.ensures.high c.loop-z.invariant.high_end c.at.ensures.high in
     record {
-      low_end = c.add-distribution.ensures.low ∙ next_sum (low_at c.args.others.now) c.loop-z.z _ _
-          c.loop-z.invariant.low_end c.at.ensures.low;
-      high_end = c.add-distribution.ensures.high ∙ next_sum (high_at c.args.others.now) c.loop-z.z _ _
-          c.loop-z.invariant.high_end c.at.ensures.high;
+      low_end = c.add-distribution.ensures.low ∙ next_sum _ c.loop-z.z _ _ c.loop-z.invariant.low_end c.at.ensures.low;
+      high_end = c.add-distribution.ensures.high ∙ next_sum _ c.loop-z.z _ _ c.loop-z.invariant.high_end c.at.ensures.high;
       low = low.0;
       high = high.0;
     }

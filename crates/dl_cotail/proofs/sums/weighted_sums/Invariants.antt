@@ -1,6 +1,4 @@
-use Rattle.std.proofs.Common.{suc, ◌≡◌, ◌-◌, ◌*◌}
-use Rattle.dl_grid.specs.Cells.{low_at, high_at}
-use Rattle.dl_exact.specs.Count.{count_below}
+use Rattle.dl_cotail.proofs.Common.{suc, ◌≡◌, ◌-◌, ◌*◌, low_at, high_at, count_below}
 use Rattle.dl_cotail.proofs.sums.weighted_sums.Given as goal
 
 abbrev pub invariant-loop-z : goal.invariant-loop-z

@@ -1,4 +1,4 @@
-use Rattle.dl_direct.proofs.Common.{◌≡◌, ℕ, suc, ◌+◌, ◌-◌, ◌*◌, ◌/◌, ◌^◌, ◌<◌, ◌≤◌, arith, sym, subst, subst₂, ap, ap₂, ◌∙◌, mul-pos, mul-le-mul_left, mul-le-mul_right, div-mul-le_self, add-one, zero-lt-suc, whole, ◌over◌, ◌*ℚ◌, ◌≤ℚ◌, sum_to, poisson, le_of_eq, times_one}
+use Rattle.dl_direct.proofs.Common.{◌≡◌, suc, ◌+◌, ◌-◌, ◌*◌, ◌/◌, ◌^◌, ◌<◌, ◌≤◌, arith, refl, sym, mul-pos, mul-le-mul_left, mul-le-mul_right, div-mul-le_self, add-one, zero-lt-suc, whole, ◌over◌, ◌*ℚ◌, sum_to, poisson, le_of_eq, times_one}
 use Rattle.dl_model.proofs.PoissonWeights.{poisson_zero}
 use Rattle.dl_direct.proofs.Starts.{two_pos}
 use Rattle.dl_direct.proofs.Rounding.{ceil_reaches, floor_ceil, term_small}
@@ -10,20 +10,17 @@ pub loop-n-init : goal.loop-n-init
 unfolding sum_to
 loop-n-init c =
     let v = c.args.num over c.args.den in
-    let e : whole (2 ^ 63) *ℚ poisson v 0 ≡ whole (2 ^ 63) = ap (λ t. whole (2 ^ 63) *ℚ t) (poisson_zero v)
-    ∙ times_one _ in
+    let e : whole (2 ^ 63) *ℚ poisson v 0 ≡ whole (2 ^ 63) = rw (poisson_zero v, times_one) refl in
     record {
       low_term = le_of_eq _ _ (sym e);
       high_term = le_of_eq _ _ e;
       low = le_of_eq _ _ (sym e);
-      high =
-          le_of_eq _ _ e;
+      high = le_of_eq _ _ e;
       terms = omega arith;
       small = omega arith;
       order = omega arith;
       start = omega arith;
-      bound =
-          omega arith;
+      bound = omega arith;
     }
 
 pub loop-n-preserved : goal.loop-n-preserved
@@ -34,45 +31,33 @@ loop-n-preserved c =
     let den = c.args.den in
     let v = num over den in
     let C = whole (2 ^ 63) in
-    let d = c.from.result * c.from-in-loop-n.result in
-    let e : d ≡ den * suc n = ap₂ (λ s t. s * t) c.from.ensures (c.from-in-loop-n.ensures ∙ add-one n) in
-    let dp : 0 < d = subst (λ t. 0 < t) (sym e) (mul-pos c.requires.positive (zero-lt-suc n)) in
-    let a = c.loop-n.low_term * c.from-in-loop-n-2.result in
-    let b = c.loop-n.high_term * c.from-in-loop-n-3.result in
-    let ae : a ≡ c.loop-n.low_term * num = ap (λ t. c.loop-n.low_term * t) c.from-in-loop-n-2.ensures in
-    let be : b ≡ c.loop-n.high_term * num = ap (λ t. c.loop-n.high_term * t) c.from-in-loop-n-3.ensures in
-    let s = a / d in
-    let t = (b + (d - 1)) / d in
-    let low : s * (den * suc n) ≤ c.loop-n.low_term * num = subst₂ (λ x y. s * x ≤ y) e ae (div-mul-le_self a d) in
-    let high : c.loop-n.high_term * num ≤ t * (den * suc n) = subst₂ (λ x y. y ≤ t * x) e be (ceil_reaches b d dp) in
-    let f : whole s ≤ℚ C *ℚ poisson v (suc n) =
-    low_term num den c.requires.positive C n c.loop-n.low_term s low i.low_term in
-    let g : C *ℚ poisson v (suc n) ≤ℚ whole t =
-    high_term num den c.requires.positive C n c.loop-n.high_term t high i.high_term in
-    let ab : a ≤ b = subst₂ (λ x y. x ≤ y) (sym ae) (sym be) (mul-le-mul_right num i.terms) in
-    let st : s ≤ t = floor_ceil a b d dp ab in
-    let dn : num ≤ d =
-    subst (λ t. num ≤ t) (sym e) (omega (arith, c.requires.half, mul-le-mul_left den (suc_least n))) in
-    let small : t ≤ 2 ^ 63 =
-    subst (λ x. (x + (d - 1)) / d ≤ 2 ^ 63) (sym be) (term_small c.loop-n.high_term num d (2 ^ 63) dp dn i.small) in
-    let low_all : whole (c.loop-n.low + s) ≤ℚ C *ℚ sum_to (suc n) (poisson v) =
-    low_sum C (poisson v) n c.loop-n.low s i.low f in
-    let high_all : C *ℚ sum_to (suc n) (poisson v) ≤ℚ whole (c.loop-n.high + t) =
-    high_sum C (poisson v) n c.loop-n.high t i.high g in
-    record {
-      low_term = subst (λ k. whole s ≤ℚ C *ℚ poisson v k) (sym (add-one n)) f;
-      high_term = subst (λ k. C *ℚ poisson v k ≤ℚ whole t) (sym (add-one n)) g;
-      low = subst (λ k. whole (c.loop-n.low + s) ≤ℚ C *ℚ sum_to k (poisson v)) (sym (add-one n)) low_all;
-      high = subst (λ k. C *ℚ sum_to k (poisson v) ≤ℚ whole (c.loop-n.high + t)) (sym (add-one n)) high_all;
-      terms = st;
+    let d = den * suc n in
+    let s = c.loop-n.low_term * num / d in
+    let t = (c.loop-n.high_term * num + (d - 1)) / d in
+    let dp : 0 < d = mul-pos c.requires.positive (zero-lt-suc n) in
+    let f = low_term num den c.requires.positive C n c.loop-n.low_term s (div-mul-le_self _ d) i.low_term in
+    let g = high_term num den c.requires.positive C n c.loop-n.high_term t (ceil_reaches _ d dp) i.high_term in
+    let terms : s ≤ t = floor_ceil _ _ d dp (mul-le-mul_right num i.terms) in
+    let first : 1 ≤ suc n = omega arith in
+    let small : t ≤ 2 ^ 63 = term_small c.loop-n.high_term num d (2 ^ 63) dp
+    (omega (arith, c.requires.half, mul-le-mul_left den first)) i.small in
+    rw (
+      c.from.ensures,
+      c.from-in-loop-n.ensures,
+      c.from-in-loop-n-2.ensures,
+      c.from-in-loop-n-3.ensures,
+      add-one,
+    ) (record {
+      low_term = f;
+      high_term = g;
+      low = low_sum C (poisson v) n c.loop-n.low s i.low f;
+      high = high_sum C (poisson v) n c.loop-n.high t i.high g;
+      terms = terms;
       small = small;
-      order = omega (arith, i.order, st);
+      order = omega (arith, i.order, terms);
       start = omega (arith, i.start);
       bound = omega (arith, i.bound, small);
-    }
-  where
-    suc_least : (n : ℕ) → 1 ≤ suc n
-    suc_least n = omega arith
+    })
 
 pub returns-clause-holds : goal.returns-clause-holds
 returns-clause-holds c =

@@ -1,4 +1,4 @@
-use Rattle.dl_direct.proofs.Common.{◌≡◌, ◌+◌, ◌-◌, ◌*◌, ◌/◌, ◌^◌, ◌<◌, ◌≤◌, arith, subst, div-mul-le_self, lt-div-mul-add}
+use Rattle.dl_direct.proofs.Common.{◌≡◌, ◌+◌, ◌-◌, ◌*◌, ◌/◌, ◌^◌, ◌<◌, arith, div-mul-le_self, lt-div-mul-add}
 use Rattle.dl_direct.proofs.Starts.{two_pos}
 use Rattle.dl_direct.proofs.Beginnings.{geometric_holds}
 use Rattle.dl_direct.proofs.first.geometric_start.Goals as goal
@@ -11,6 +11,5 @@ returns-clause-holds c =
     let part = c.from-part.result * 9223372036854775808 in
     let Ap : 0 < A = omega arith in
     geometric_holds c.args.num c.args.rest (part / A) ((part + (A - 1)) / A) (2 ^ 63) c.requires.positive (two_pos 63)
-    (subst (λ t. part / A * t ≤ c.args.rest * 2 ^ 63) all (omega (arith, div-mul-le_self part A)))
-    (subst (λ t. c.args.rest * 2 ^ 63 ≤ (part + (A - 1)) / A * t) all
-    (omega (arith, lt-div-mul-add {a = part + (A - 1)} {b = A} Ap)))
+    (rw (← all) (omega (arith, div-mul-le_self part A)))
+    (rw (← all) (omega (arith, lt-div-mul-add {a = part + (A - 1)} {b = A} Ap)))

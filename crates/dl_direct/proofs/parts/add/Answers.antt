@@ -1,5 +1,4 @@
-use Rattle.dl_direct.proofs.Common.{◌≡◌, ◌+◌, ◌<◌, ◌∷◌, [], ◌++◌, arith, sym, ap, subst, ◌∙◌, add-one, All, sum_by, flat_map, Part, in_a_row, run_parts}
-use Rattle.std.proofs.lemmas.List.Elements.{All-push}
+use Rattle.dl_direct.proofs.Common.{◌≡◌, ◌+◌, ◌<◌, ◌∷◌, [], ◌++◌, arith, sym, ap, subst, ◌∙◌, add-one, All, sum_by, flat_map, Part, in_a_row, run_parts, All-push}
 use Rattle.dl_direct.proofs.Runs.{row_none, row_more, part_pushed}
 use Rattle.dl_direct.proofs.parts.add.Goals as goal
 

@@ -1,4 +1,4 @@
-use Rattle.dl_direct.proofs.Common.{◌≡◌, inl, ℕ, ◌+◌, ◌-◌, ◌*◌, ◌/◌, ◌^◌, ◌<◌, ◌≤◌, arith, ap₂, subst}
+use Rattle.dl_direct.proofs.Common.{◌≡◌, inl, ℕ, ◌*◌, ◌<◌, ◌≤◌, arith, ap₂}
 use Rattle.dl_direct.proofs.Place.{up_reaches}
 use Rattle.dl_direct.proofs.placing.narrow_high.Goals as goal
 
@@ -9,7 +9,7 @@ returns-else-x-one-clause-above c =
     let pos : 0 < p = pos_of c.if-product-eq0.false in
     let d = c.min-d.result in
     let le : d ≤ c.args.down = omega (arith, c.min-d.ensures) in
-    inl (subst (λ t. t ≤ ((p - 1) / 2 ^ d + 1) * 2 ^ c.args.down) p_is (up_reaches p d c.args.down pos le))
+    inl (rw (← p_is) (up_reaches p d c.args.down pos le))
   where
     pos_of : {p : ℕ} → (p ≡ 0 → ⊥) → 0 < p
     pos_of {p} h = omega (arith, h)

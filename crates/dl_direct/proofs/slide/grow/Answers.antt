@@ -1,4 +1,4 @@
-use Rattle.dl_direct.proofs.Common.{◌≡◌, suc, ◌-◌, ◌*◌, ◌^◌, length, ◌∷◌, [], ◌++◌, arith, ap, subst, ◌≤◌, ◌∙◌, length-append, sum_by, whole, ◌*ℚ◌, ◌≤ℚ◌, all_parts, contribution, IsRound}
+use Rattle.dl_direct.proofs.Common.{◌≡◌, suc, ◌-◌, ◌*◌, ◌^◌, length, ◌∷◌, [], ◌++◌, arith, ap, ◌≤◌, ◌∙◌, length-append, sum_by, whole, ◌*ℚ◌, ◌≤ℚ◌, all_parts, contribution, IsRound}
 use Rattle.dl_direct.proofs.Grow.{cells_pushed, pushed, next_low, next_high}
 use Rattle.dl_direct.proofs.Runs.{all_positive}
 use Rattle.dl_direct.proofs.Totals.{sums_grown}
@@ -43,7 +43,7 @@ returns c =
       shift = omega (arith, fit.shift, told.same_shift);
       round = λ r F R.
           let Q : IsRound r x.shift (suc m) x.low.items x.high.items =
-          subst (λ t. IsRound r x.shift t x.low.items x.high.items) e R in
+          rw (← e) R in
           let Z : IsRound r z.shift (suc m) z.low.items z.high.items =
           rw (told.same_shift, told.same_low, told.same_high) Q in
           let below : whole (c.divided.result.low * 2 ^ z.shift) ≤ℚ whole (2 ^ 61) *ℚ r (suc m) =

@@ -1,5 +1,4 @@
-use Rattle.dl_direct.proofs.Common.{◌≡◌, ℕ, ◌*◌, ◌≤◌, length, Fraction, all_parts, FollowsInWhole, IsRound}
-use Rattle.dl_direct.specs.Slide.{IsSlid}
+use Rattle.dl_direct.proofs.Common.{◌≡◌, ℕ, ◌*◌, ◌≤◌, length, Fraction, all_parts, FollowsInWhole, IsRound, IsSlid}
 use Rattle.dl_direct.proofs.slide.recur.Given as goal
 
 abbrev pub invariant-cells : goal.invariant-cells

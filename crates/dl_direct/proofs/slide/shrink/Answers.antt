@@ -1,4 +1,4 @@
-use Rattle.dl_direct.proofs.Common.{◌≡◌, take, sym, ap, subst, ◌∙◌, AreSums}
+use Rattle.dl_direct.proofs.Common.{◌∙◌}
 use Rattle.dl_direct.proofs.Totals.{sums_kept, settled_low, settled_high}
 use Rattle.dl_direct.proofs.slide.shrink.Goals as goal
 
@@ -8,9 +8,7 @@ returns-clause-sums c h =
     let y = c.shift_cells.new.x in
     let e = c.shift_cells.ensures in
     let sound = c.requires.sound in
-    let kept : c.truncate.new.self.items ≡ take x.first x.sums.items = c.truncate.ensures.items
-    ∙ ap (λ v. take x.first v.items) e.sums in
-    subst (λ l. AreSums l y.low.items y.high.items) (sym kept)
+    rw (c.truncate.ensures.items, e.sums)
     (sums_kept x.first x.sums.items x.low.items x.high.items y.low.items y.high.items
     (λ i l. e.low i ∙ settled_low _ (sound.low_settled i l))
     (λ i l. e.high i ∙ settled_high _ (sound.high_settled i l)) h)

@@ -1,12 +1,10 @@
-use Rattle.dl_direct.proofs.Common.{◌≡◌, ◌+◌, ◌*◌, ◌^◌, ◌≤◌, suc, ◌-◌, ◌/◌, arith, ap, subst, ◌∙◌, pow-suc}
+use Rattle.dl_direct.proofs.Common.{◌≡◌, ◌+◌, ◌*◌, ◌^◌, suc, ◌-◌, arith, ap, ◌∙◌, pow-suc}
 use Rattle.dl_direct.proofs.Starts.{two_le, half_low, half_high, half_top, start_times}
 use Rattle.dl_direct.proofs.start.times.Goals as goal
 use Rattle.dl_direct.proofs.start.times.Goals.{then-high-gt-MOST_START, else-high-gt-MOST_START}
 
 pub overflow_add-high : goal.overflow_add-high
-overflow_add-high c =
-    let p : 2 ^ (126 - c.loop-k.k) ≤ 2 ^ 126 = two_le (126 - c.loop-k.k) 126 (omega arith) in
-    omega (arith, p, c.loop-k.invariant.top)
+overflow_add-high c = omega (arith, two_le (126 - c.loop-k.k) 126 (omega arith), c.loop-k.invariant.top)
 
 pub loop-k-preserved : goal.loop-k-preserved
 loop-k-preserved c =
@@ -18,34 +16,21 @@ loop-k-preserved c =
     let s : 2 ^ c.loop-k.exponent ≡ 2 ^ d * 2 = ap (λ t. 2 ^ t) e ∙ pow-suc 2 d in
     elim c.if-high-gt-MOST_START.branch [
       | then-high-gt-MOST_START w ↦
-          let lo : c.loop-k.low / 2 * T ≤ c.args.a.low * c.args.b.low * 2 ^ d =
-          half_low c.loop-k.low T (c.args.a.low * c.args.b.low) (2 ^ d)
-          (subst (λ t. c.loop-k.low * T ≤ c.args.a.low * c.args.b.low * t) s i.low) in
-          let hi : c.args.a.high * c.args.b.high * 2 ^ d ≤ (c.loop-k.high + 1) / 2 * T =
-          half_high c.loop-k.high T (c.args.a.high * c.args.b.high) (2 ^ d)
-          (subst (λ t. c.args.a.high * c.args.b.high * t ≤ c.loop-k.high * T) s i.high) in
-          let top : (c.loop-k.high + 1) / 2 ≤ 2 ^ (126 - (k + 1)) =
-          half_top c.loop-k.high (126 - k) (126 - (k + 1)) (omega arith) i.top in
-          rw (w.low-is, w.high-is, w.exponent-is)
-          (record {
-            low = lo;
-            high = hi;
-            top = top;
+          rw (w.low-is, w.high-is, w.exponent-is) (record {
+            low = half_low c.loop-k.low T (c.args.a.low * c.args.b.low) (2 ^ d) (rw s at i.low);
+            high = half_high c.loop-k.high T (c.args.a.high * c.args.b.high) (2 ^ d) (rw s at i.high);
+            top = half_top c.loop-k.high (126 - k) (126 - (k + 1)) (omega arith) i.top;
             least = omega arith;
             order = omega (arith, i.order);
-            room =
-                omega (arith, i.room);
+            room = omega (arith, i.room);
           })
       | else-high-gt-MOST_START w ↦
-          let m : 2 ^ 63 ≤ 2 ^ (126 - (k + 1)) = two_le 63 (126 - (k + 1)) (omega arith) in
-          rw (w.low-is, w.high-is, w.exponent-is)
-          (record {
+          rw (w.low-is, w.high-is, w.exponent-is) (record {
             low = i.low;
             high = i.high;
-            top = omega (arith, m);
+            top = omega (arith, two_le 63 (126 - (k + 1)) (omega arith));
             least = omega (arith, i.least);
-            order =
-                i.order;
+            order = i.order;
             room = i.room;
           })
     ]

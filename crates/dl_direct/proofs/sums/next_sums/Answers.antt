@@ -1,6 +1,4 @@
-use Rattle.dl_direct.proofs.Common.{◌≡◌, ℕ, suc, ◌+◌, ◌-◌, ◌<◌, List, length, get_or, arith, sym, ap, subst, ◌∙◌, IsSum, AreSums}
-use Rattle.dl_direct.specs.declared.cells.Total.{Total}
-use Rattle.dl_direct.specs.declared.cells.Sums.{Sums}
+use Rattle.dl_direct.proofs.Common.{◌≡◌, ℕ, suc, ◌-◌, ◌<◌, List, length, get_or, arith, IsSum, AreSums, Total, Sums}
 use Rattle.dl_direct.proofs.Totals.{total_small, first_total, next_total}
 use Rattle.dl_direct.proofs.sums.next_sums.Goals as goal
 
@@ -15,14 +13,10 @@ last_is : (low high : List ℕ) (sums : List Sums) → 0 < length sums → AreSu
 last_is low high sums some all = all (length sums - 1) nothing (omega (arith, some))
 
 pub returns-then-k-eq0 : goal.returns-then-k-eq0
-returns-then-k-eq0 c =
-    subst (λ i. IsSum c.args.low.now c.args.high.now i
-    (record { low = c.first_total.result; high = c.first_total-then-k-eq0.result })) (sym c.if-k-eq0.true)
-    (record {
-      low_total = first_total c.args.low.now _ c.first_total.ensures.cells c.first_total.ensures.before;
-      high_total = first_total c.args.high.now _ c.first_total-then-k-eq0.ensures.cells
-          c.first_total-then-k-eq0.ensures.before;
-    })
+returns-then-k-eq0 c = rw c.if-k-eq0.true (record {
+  low_total = first_total c.args.low.now _ c.first_total.ensures.cells c.first_total.ensures.before;
+  high_total = first_total c.args.high.now _ c.first_total-then-k-eq0.ensures.cells c.first_total-then-k-eq0.ensures.before;
+})
 
 pub next_total-requires : goal.next_total-requires
 next_total-requires c =
@@ -44,12 +38,9 @@ returns c =
     let last = get_or c.args.sums.now j nothing in
     let k : length c.args.sums.now ≡ suc j = omega (arith, c.if-k-eq0.false) in
     let is = last_is c.args.low.now c.args.high.now c.args.sums.now (omega (arith, c.if-k-eq0.false)) c.requires.sums in
-    subst (λ i. IsSum c.args.low.now c.args.high.now i
-    (record { low = c.next_total.result; high = c.next_total-2.result })) (sym k) (record {
+    rw k (record {
       low_total = next_total c.args.low.now j last.low c.next_total.result is.low_total
-          (c.next_total.ensures.cells ∙ ap (λ i. last.low.cells + get_or c.args.low.now i 0) k)
-          c.next_total.ensures.before;
+          (rw (← k) c.next_total.ensures.cells) c.next_total.ensures.before;
       high_total = next_total c.args.high.now j last.high c.next_total-2.result is.high_total
-          (c.next_total-2.ensures.cells ∙ ap (λ i. last.high.cells + get_or c.args.high.now i 0) k)
-          c.next_total-2.ensures.before;
+          (rw (← k) c.next_total-2.ensures.cells) c.next_total-2.ensures.before;
     })

@@ -4,5 +4,5 @@ use Rattle.dl_direct.proofs.sums.reach_parts.Given as goal
 abbrev pub invariant-loop-part : goal.invariant-loop-part
 invariant-loop-part l = record {
   low : l.low_sum ≡ sum_by (contribution l.a l.b l.low (length l.low)) (take l.part-index l.parts);
-  high : l.high_sum ≡ sum_by (contribution l.a l.b l.high (length l.high)) (take l.part-index l.parts);
+  high : l.high_sum ≡ sum_by (contribution l.a l.b l.high (length l.low)) (take l.part-index l.parts);
 }

@@ -1,5 +1,5 @@
-use Rattle.dl_direct.proofs.Common.{◌+◌, length, arith, sym, ap₂, ◌∙◌, Run, contribution}
-use Rattle.dl_direct.proofs.Runs.{run_fits, run_room, runs_more}
+use Rattle.dl_direct.proofs.Common.{length, arith, Run}
+use Rattle.dl_direct.proofs.Runs.{run_fits, run_room}
 use Rattle.dl_direct.proofs.sums.reach_runs.Goals as goal
 
 abbrev no_run : Run
@@ -26,15 +26,3 @@ overflow_add-high_sum c =
           c.args.runs.now c.loop-run.run-index no_run c.loop-run-test.true c.requires.room _ _
           c.loop-run.invariant.high c.reach_run-given.ensures.high,
     )
-
-pub loop-run-preserved : goal.loop-run-preserved
-loop-run-preserved c =
-    let s = length c.args.x.now.low.items in
-    record {
-      low = ap₂ (λ x y. x + y) c.loop-run.invariant.low c.reach_run-given.ensures.low
-          ∙ sym (runs_more (contribution c.args.a c.args.b c.args.x.now.low.items s) c.args.runs.now
-          c.loop-run.run-index no_run c.loop-run-test.true);
-      high = ap₂ (λ x y. x + y) c.loop-run.invariant.high c.reach_run-given.ensures.high
-          ∙ sym (runs_more (contribution c.args.a c.args.b c.args.x.now.high.items s) c.args.runs.now
-          c.loop-run.run-index no_run c.loop-run-test.true);
-    }

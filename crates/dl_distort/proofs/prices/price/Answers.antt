@@ -1,12 +1,5 @@
-use Rattle.std.proofs.Common.{◌≡◌, ◌+◌, ◌-◌, ◌^◌, ◌<◌, ◌≤◌, arith, length, refl, subst, subst₂, sym}
-use Rattle.std.specs.Prelude.{All, None, true, false}
-use Rattle.std.proofs.lemmas.List.Elements.{All-more}
-use Rattle.std.proofs.lemmas.List.{take_all}
-use Rattle.dl_exact.specs.Fraction.{whole, ◌<ℚ◌}
-use Rattle.dl_grid.specs.Cells.{low_at, spread}
-use Rattle.dl_measures.specs.Ends.{low_cdf}
-use Rattle.dl_measures.specs.Brackets.{IsFirstFound}
-use Rattle.dl_distort.proofs.Sums.{IsSumOf, start, step, weight_within, sum_small, all_hold, all_least, all_narrow}
+use Rattle.dl_distort.proofs.Common.{◌≡◌, ◌+◌, ◌-◌, ◌^◌, ◌≤◌, arith, length, refl, subst, sym, All, None, true, false, All-more, take_all, whole, ◌<ℚ◌, low_at, spread, low_cdf, IsFirstFound}
+use Rattle.dl_distort.proofs.Sums.{start, step, weight_within, sum_small, all_hold, all_least, all_narrow}
 use Rattle.dl_distort.proofs.Widths.{price_rises}
 use Rattle.dl_distort.proofs.prices.price.Goals as goal
 
@@ -15,31 +8,19 @@ some_none e = cc
 
 pub loop-term-init : goal.loop-term-init
 loop-term-init g c = record {
-  sum = subst₂ (λ lo hi. IsSumOf c.args.g.now c.args.mean c.args.terms.now 0 lo hi) (sym c.point-sum.ensures.low)
-      (sym c.point-sum.ensures.high) (start c.args.g.now c.args.mean c.args.terms.now);
+  sum = rw (c.point-sum.ensures.low, c.point-sum.ensures.high) (start c.args.g.now c.args.mean c.args.terms.now);
   found = λ k d none. absurd (omega arith);
 }
 
 pub weighted_tail-requires : goal.weighted_tail-requires
-weighted_tail-requires g c = (
-  omega arith,
-  (
-    omega arith,
-    (
-      subst (λ t. t.p <ℚ whole 1) (sym c.term-item.is)
-          (c.requires.below_one c.loop-term.term-index c.term-item.result c.loop-term-test.true),
-      (
-        subst (λ t. t.p.den ≤ 1000000000) (sym c.term-item.is)
-            (c.requires.small c.loop-term.term-index c.term-item.result c.loop-term-test.true),
-        (
-          weight_within c.args.terms.now c.loop-term.term-index c.term-item.result c.loop-term-test.true
-              (sym c.term-item.is) c.requires.priced.total,
-          c.requires.mean,
-        ),
-      ),
-    ),
-  ),
-)
+weighted_tail-requires g c =
+    let i = c.loop-term.term-index in
+    let inside = c.loop-term-test.true in
+    let below = subst (λ t. t.p <ℚ whole 1) (sym c.term-item.is) (c.requires.below_one i _ inside) in
+    let small = subst (λ t. t.p.den ≤ 1000000000) (sym c.term-item.is) (c.requires.small i _ inside) in
+    let part = weight_within c.args.terms.now i c.term-item.result inside (sym c.term-item.is)
+    c.requires.priced.total in
+    (omega arith, (omega arith, (below, (small, (part, c.requires.mean)))))
 
 pub returns-in_err-weighted_tail-clause-none : goal.returns-in_err-weighted_tail-clause-none
 returns-in_err-weighted_tail-clause-none g c = (
@@ -55,27 +36,19 @@ returns-in_err-weighted_tail-clause-none g c = (
 
 pub add-sum-requires : goal.add-sum-requires
 add-sum-requires g c =
-    let more = step c.args.g.now c.args.mean c.args.terms.now c.loop-term.term-index c.loop-term.sum.lo
-    c.loop-term.sum.hi c.term-item.result c.loop-term.invariant.sum c.loop-term-test.true (sym c.term-item.is)
-    c.in_ok-weighted_tail.field-0.lo c.in_ok-weighted_tail.field-0.hi c.in_ok-weighted_tail.ensures.holds
-    c.in_ok-weighted_tail.ensures.least c.in_ok-weighted_tail.ensures.width c.in_ok-weighted_tail.ensures.most in
-    let few : c.loop-term.term-index < 8 = omega (arith, c.loop-term-test.true, c.requires.priced.few) in (
-      omega arith,
-      omega (
-        arith,
-        few,
-        sum_small c.args.terms.now (c.loop-term.term-index + 1) _ c.requires.priced.total more.small,
-      ),
-    )
+    let term = c.in_ok-weighted_tail.ensures in
+    let more = step c.term-item.result c.loop-term.invariant.sum c.loop-term-test.true (sym c.term-item.is)
+    c.in_ok-weighted_tail.field-0.lo c.in_ok-weighted_tail.field-0.hi term.holds term.least term.width term.most in
+    let fits = sum_small c.args.terms.now (c.loop-term.term-index + 1) _ c.requires.priced.total more.small in
+    (omega arith, omega arith)
 
 pub loop-term-preserved : goal.loop-term-preserved
 loop-term-preserved g c = record {
-  sum = subst₂ (λ lo hi. IsSumOf c.args.g.now c.args.mean c.args.terms.now (c.loop-term.term-index + 1) lo hi)
-      (sym c.add-sum.ensures.low) (sym c.add-sum.ensures.high)
-      (step c.args.g.now c.args.mean c.args.terms.now c.loop-term.term-index c.loop-term.sum.lo c.loop-term.sum.hi
-      c.term-item.result c.loop-term.invariant.sum c.loop-term-test.true (sym c.term-item.is)
-      c.in_ok-weighted_tail.field-0.lo c.in_ok-weighted_tail.field-0.hi c.in_ok-weighted_tail.ensures.holds
-      c.in_ok-weighted_tail.ensures.least c.in_ok-weighted_tail.ensures.width c.in_ok-weighted_tail.ensures.most);
+  sum =
+      let term = c.in_ok-weighted_tail.ensures in
+      rw (c.add-sum.ensures.low, c.add-sum.ensures.high) (step c.term-item.result c.loop-term.invariant.sum
+      c.loop-term-test.true (sym c.term-item.is) c.in_ok-weighted_tail.field-0.lo c.in_ok-weighted_tail.field-0.hi
+      term.holds term.least term.width term.most);
   found = All-more (λ t. IsFirstFound (low_cdf (2 ^ g.row.B) (low_at c.args.g.now)) t.p (length c.args.g.now) None → ⊥)
       c.args.terms.now c.loop-term.term-index c.term-item.result c.loop-term-test.true c.loop-term.invariant.found
       (subst (λ t. IsFirstFound (low_cdf (2 ^ g.row.B) (low_at c.args.g.now)) t.p (length c.args.g.now) None → ⊥)
@@ -92,19 +65,13 @@ returns-clause-none g c = (
 )
 
 pub returns-clause-holds : goal.returns-clause-holds
-returns-clause-holds g c = all_hold c.args.g.now c.args.mean c.args.terms.now c.loop-term.term-index c.loop-term.sum.lo
-    c.loop-term.sum.hi c.loop-term.invariant.sum c.loop-term-test.false
+returns-clause-holds g c = all_hold c.loop-term.invariant.sum c.loop-term-test.false
 
 pub returns-clause-least : goal.returns-clause-least
-returns-clause-least g c = all_least c.args.g.now c.args.mean c.args.terms.now c.loop-term.term-index
-    c.loop-term.sum.lo c.loop-term.sum.hi c.loop-term.invariant.sum c.loop-term-test.false
+returns-clause-least g c = all_least c.loop-term.invariant.sum c.loop-term-test.false
 
 pub returns-clause-width : goal.returns-clause-width
 returns-clause-width g c m s of_mean of_spread =
-    omega (
-      arith,
-      all_narrow c.args.g.now c.args.mean c.args.terms.now c.loop-term.term-index c.loop-term.sum.lo
-          c.loop-term.sum.hi c.loop-term.invariant.sum c.loop-term-test.false,
-      price_rises c.args.terms.now (c.args.mean.hi - c.args.mean.lo) m (length c.args.g.now) (spread c.args.g.now) s
-          c.requires.below_one of_mean of_spread,
-    )
+    let narrow = all_narrow c.loop-term.invariant.sum c.loop-term-test.false in
+    let wider = price_rises c.args.terms.now (c.args.mean.hi - c.args.mean.lo) m (length c.args.g.now)
+    (spread c.args.g.now) s c.requires.below_one of_mean of_spread in omega arith

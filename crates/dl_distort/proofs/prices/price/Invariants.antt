@@ -1,8 +1,4 @@
-use Rattle.std.proofs.Common.{take, length, ◌^◌}
-use Rattle.std.specs.Prelude.{All, None}
-use Rattle.dl_grid.specs.Cells.{low_at}
-use Rattle.dl_measures.specs.Ends.{low_cdf}
-use Rattle.dl_measures.specs.Brackets.{IsFirstFound}
+use Rattle.dl_distort.proofs.Common.{take, length, ◌^◌, All, None, low_at, low_cdf, IsFirstFound}
 use Rattle.dl_distort.proofs.Sums.{IsSumOf}
 use Rattle.dl_distort.proofs.prices.price.Given as goal
 

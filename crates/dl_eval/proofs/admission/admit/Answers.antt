@@ -1,5 +1,4 @@
-use Rattle.dl_eval.proofs.Common.{subst, subst₂, All, IsInside, NamesUnit}
-use Rattle.dl_eval.specs.Answers.{HasShare, IsFirstNot}
+use Rattle.dl_eval.proofs.Common.{subst, subst₂, All, IsInside, NamesUnit, HasShare, IsFirstNot}
 use Rattle.dl_eval.proofs.admission.admit.Goals as goal
 
 pub returns-in-Some-first_wide-clause-admitted : goal.returns-in-Some-first_wide-clause-admitted

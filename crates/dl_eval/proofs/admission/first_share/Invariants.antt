@@ -1,5 +1,4 @@
-use Rattle.dl_eval.proofs.Common.{ℕ, ◌<◌, get_or, Asked}
-use Rattle.dl_eval.specs.Answers.{HasShare}
+use Rattle.dl_eval.proofs.Common.{ℕ, ◌<◌, get_or, Asked, HasShare}
 use Rattle.dl_eval.proofs.admission.first_share.Given as goal
 
 abbrev pub invariant-loop-i : goal.invariant-loop-i

@@ -1,5 +1,4 @@
-use Rattle.dl_eval.proofs.Common.{ℕ, ◌<◌, get_or, Asked, scale}
-use Rattle.dl_budget.specs.Asks.{Passes}
+use Rattle.dl_eval.proofs.Common.{ℕ, ◌<◌, get_or, Asked, scale, Passes}
 use Rattle.dl_eval.proofs.admission.first_wide.Given as goal
 
 abbrev pub invariant-loop-i : goal.invariant-loop-i

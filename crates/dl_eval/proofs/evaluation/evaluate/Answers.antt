@@ -1,6 +1,5 @@
 -- The scale is that of the plan's grid.
-use Rattle.dl_eval.proofs.Common.{arith}
-use Rattle.dl_limits.proofs.Scales.{bits_of_short}
+use Rattle.dl_eval.proofs.Common.{arith, bits_of_short}
 use Rattle.dl_eval.proofs.Scales.{bits_of_long}
 use Rattle.dl_eval.proofs.evaluation.evaluate.Goals as goal
 

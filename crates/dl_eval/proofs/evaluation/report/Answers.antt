@@ -1,9 +1,6 @@
-use Rattle.dl_eval.proofs.Common.{◌≡◌, arith, refl, sym, ap, subst₂, length, All, zip, Asked, IsInside, None, NamesUnit, IsGood}
+use Rattle.dl_eval.proofs.Common.{◌≡◌, arith, refl, sym, ap, subst₂, length, All, zip, Asked, IsInside, None, NamesUnit, IsGood, IsAskInRange, HasShare, IfSome_then, ◌also◌}
 use Rattle.dl_plan.specs.declared.settings.Ask.TheVariants.{Mean}
-use Rattle.dl_plan.specs.Ranges.{IsAskInRange}
-use Rattle.dl_eval.specs.Answers.{HasShare}
 use Rattle.dl_eval.proofs.Insides.{ask_has}
-use Rattle.std.proofs.lemmas.Option.{IfSome_then}
 use Rattle.dl_eval.proofs.Lists.{each_next, pushed_length, all_pairs}
 use Rattle.dl_eval.proofs.Named.{named_here, numbers_many}
 use Rattle.dl_eval.proofs.evaluation.report.Goals as goal
@@ -18,52 +15,20 @@ row-requires g c =
     let plan = c.args.plan.now in
     let test = c.loop-i-test.true in
     let unit = named_here plan.units asks all c.args.named.now i asked same c.requires.numbers c.index-asks-i.is test in
-    let many = numbers_many plan.units asks all c.args.named.now same c.requires.numbers in (
-      omega arith,
-      (
-        omega arith,
-        (
-          c.requires.scale,
-          (
-            c.requires.ranges.few_digits,
-            (
-              ask_has (λ (a : Asked). IsAskInRange a.ask) asks all i asked same c.index-asks-i.is test
-                  c.requires.ranges.asks,
-              (
-                c.requires.valid,
-                (
-                  ask_has (λ (a : Asked). IsInside plan.cells a.ask) asks all i asked same c.index-asks-i.is test
-                      c.requires.inside,
-                  (
-                    ask_has (λ (a : Asked). NamesUnit plan.units a.ask) asks all i asked same c.index-asks-i.is test
-                        c.requires.named,
-                    (
-                      ask_has (λ (a : Asked). HasShare plan a.ask) asks all i asked same c.index-asks-i.is test
-                          c.requires.shares,
-                      (
-                        c.requires.grids,
-                        (
-                          unit,
-                          (
-                            IfSome_then c.args.parts.now.grids c.requires.there
-                                (λ made each. each i None (omega (arith, many, test))),
-                            (
-                              λ none. ask_has (λ (a : Asked). a.ask ≡ Mean) asks all i asked same c.index-asks-i.is
-                                  test (c.requires.none none),
-                              (c.requires.mean, c.requires.small),
-                            ),
-                          ),
-                        ),
-                      ),
-                    ),
-                  ),
-                ),
-              ),
-            ),
-          ),
-        ),
-      ),
-    )
+    let many = numbers_many plan.units asks all c.args.named.now same c.requires.numbers in
+    (omega arith) also (omega arith) also c.requires.scale also c.requires.ranges.few_digits
+    also ask_has (λ (a : Asked). IsAskInRange a.ask) asks all i asked same c.index-asks-i.is test c.requires.ranges.asks
+    also c.requires.valid
+    also ask_has (λ (a : Asked). IsInside plan.cells a.ask) asks all i asked same c.index-asks-i.is test
+    c.requires.inside
+    also ask_has (λ (a : Asked). NamesUnit plan.units a.ask) asks all i asked same c.index-asks-i.is test
+    c.requires.named
+    also ask_has (λ (a : Asked). HasShare plan a.ask) asks all i asked same c.index-asks-i.is test c.requires.shares
+    also c.requires.grids also unit
+    also IfSome_then c.args.parts.now.grids c.requires.there (λ made each. each i None (omega (arith, many, test)))
+    also (λ none. ask_has (λ (a : Asked). a.ask ≡ Mean) asks all i asked same c.index-asks-i.is test (c.requires.none
+    none))
+    also c.requires.mean also c.requires.small
 
 pub loop-i-preserved : goal.loop-i-preserved
 loop-i-preserved g c = record {
@@ -79,12 +44,7 @@ loop-i-preserved g c = record {
 pub returns : goal.returns
 returns g c = record {
   digits = refl;
-  as_many = omega (
-    arith,
-    ap (λ t. length t) c.from_vec.ensures,
-    c.loop-i.invariant.as_many,
-    ap (λ t. length t) c.as_slice-asks.ensures,
-  );
+  as_many = omega (arith, ap (λ t. length t) c.from_vec.ensures, ap (λ t. length t) c.as_slice-asks.ensures);
   rows = subst₂ (λ xs ys. All (λ pair. IsGood c.args.plan.now c.args.settings.now.digits pair.0 pair.1) (zip xs ys))
       c.as_slice-asks.ensures (sym c.from_vec.ensures)
       (all_pairs (IsGood c.args.plan.now c.args.settings.now.digits) c.as_slice-asks.result.now c.loop-i.rows.items

@@ -1,4 +1,4 @@
-use Rattle.dl_eval.proofs.Common.{◌≤◌, ◌≡◌, List, length, arith, sym, ap, subst, subst₂, ◌∙◌, All, Iv, few_cells, AreShared, IsTotal, AreSumsWithout}
+use Rattle.dl_eval.proofs.Common.{◌≤◌, ◌≡◌, List, length, arith, sym, ap, subst, subst₂, ◌∙◌, All, Iv, few_cells, AreShared, IsTotal, AreSumsWithout, ◌also◌}
 use Rattle.dl_eval.proofs.Totals.{is_total, are_others, has_others, long_enough}
 use Rattle.dl_eval.proofs.grids.shared_grids.Goals as goal
 
@@ -10,26 +10,13 @@ total_and_others-requires g c =
     ∙ c.requires.units.as_many in
     let asked : length c.as_slice-3.result.now ≡ length plan.units =
     ap (λ t. length t) c.as_slice-3.ensures.value ∙ c.in_ok-asked.ensures.as_many
-    ∙ ap (λ t. length t) c.as_slice.ensures in (
-      omega (arith, c.requires.scale.least, c.requires.scale.most),
-      (
-        omega (arith, c.requires.scale.least, c.requires.scale.most),
-        (
-          omega (arith, many, c.requires.valid.some),
-          (
-            omega (arith, many, c.requires.valid.few),
-            (
-              omega (arith, many, asked),
-              (
-                (few_cells plan c.requires.valid).0,
-                subst (All (λ (g : List (Iv g.row.B)). plan.cells ≤ length g)) (sym grids.ensures.value)
-                    (long_enough plan.cells plan.units c.args.units.items c.requires.units),
-              ),
-            ),
-          ),
-        ),
-      ),
-    )
+    ∙ ap (λ t. length t) c.as_slice.ensures in
+    (omega (arith, c.requires.scale.least, c.requires.scale.most))
+    also (omega (arith, c.requires.scale.least, c.requires.scale.most))
+    also (omega (arith, many, c.requires.valid.some)) also (omega (arith, many, c.requires.valid.few))
+    also (omega (arith, many, asked)) also (few_cells plan c.requires.valid).0
+    also subst (All (λ (g : List (Iv g.row.B)). plan.cells ≤ length g)) (sym grids.ensures.value) (long_enough
+    plan.cells plan.units c.args.units.items c.requires.units)
 
 pub returns-clause-grids : goal.returns-clause-grids
 returns-clause-grids g c =

@@ -1,5 +1,4 @@
-use Rattle.dl_eval.proofs.Common.{ℕ, ◌≡◌, ◌↔◌, false, IsTrue, arith, Any}
-use Rattle.std.proofs.Common.{Bool, Some}
+use Rattle.dl_eval.proofs.Common.{ℕ, ◌≡◌, ◌↔◌, false, IsTrue, arith, Any, Bool, Some}
 use Rattle.dl_eval.proofs.Lists.{pushed_length, each_pushed}
 use Rattle.dl_eval.proofs.grids.shared_units.Goals as goal
 

@@ -1,5 +1,4 @@
-use Rattle.dl_eval.proofs.Common.{ℕ, ◌≡◌, ◌<◌, ◌↔◌, false, IsTrue, length, get_or, Any}
-use Rattle.std.proofs.Common.{Some}
+use Rattle.dl_eval.proofs.Common.{ℕ, ◌≡◌, ◌<◌, ◌↔◌, false, IsTrue, length, get_or, Any, Some}
 use Rattle.dl_eval.proofs.grids.shared_units.Given as goal
 
 abbrev pub invariant-loop-i : goal.invariant-loop-i

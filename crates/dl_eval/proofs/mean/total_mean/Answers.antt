@@ -1,18 +1,13 @@
-use Rattle.dl_eval.proofs.Common.{arith}
+use Rattle.dl_eval.proofs.Common.{arith, ◌also◌}
 use Rattle.dl_eval.proofs.Means.{means_small, is_mean}
 use Rattle.dl_eval.proofs.mean.total_mean.Goals as goal
 
 pub sum-requires : goal.sum-requires
-sum-requires g c = (
-  omega (arith, c.requires.scale.least, c.requires.scale.most),
-  (
-    omega (arith, c.requires.scale.least, c.requires.scale.most),
-    (
-      omega (arith, c.requires.scale.least, c.requires.scale.most),
-      omega (arith, means_small c.args.means.now c.requires.few c.requires.small),
-    ),
-  ),
-)
+sum-requires g c =
+    (omega (arith, c.requires.scale.least, c.requires.scale.most))
+    also (omega (arith, c.requires.scale.least, c.requires.scale.most))
+    also (omega (arith, c.requires.scale.least, c.requires.scale.most))
+    also (omega (arith, means_small c.args.means.now c.requires.few c.requires.small))
 
 pub returns-clause-mean : goal.returns-clause-mean
 returns-clause-mean g c = is_mean c.args.means.now c.sum.result c.sum.ensures.low c.sum.ensures.high

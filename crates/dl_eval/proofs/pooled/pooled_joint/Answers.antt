@@ -1,5 +1,4 @@
-use Rattle.dl_eval.proofs.Common.{◌^◌, arith, sym, mul-le-mul_right, few_cells}
-use Rattle.dl_budget.proofs.Sums.{read_unit}
+use Rattle.dl_eval.proofs.Common.{◌^◌, arith, sym, mul-le-mul_right, few_cells, read_unit, ◌also◌}
 use Rattle.dl_eval.proofs.Places.{unit_there}
 use Rattle.dl_eval.proofs.Scales.{share_fits}
 use Rattle.dl_eval.proofs.PooledUnits.{unit_poisson, pooled_is_joint, raised_there}
@@ -11,23 +10,15 @@ common_joint-requires g c =
     let u = c.index-as_slice-i.result in
     let is = read_unit c.as_slice.result.now plan.units c.args.i u c.as_slice.ensures c.index-as_slice-i.is in
     let made = c.requires.grids in
-    let there = raised_there plan made.shape c.args.grids.now.raised c.in-Some.raised c.in-Some.is made.raised in (
-      omega arith,
-      (
-        omega arith,
-        (
-          (
-            plan.cells,
-            unit_there plan c.as_slice.result.now c.args.i u c.as_slice.ensures c.index-as_slice-i.is c.requires.unit
-                c.requires.valid,
-          ),
-          (
-            unit_poisson plan c.requires.valid made.shape made.shares c.args.i u c.requires.unit is,
-            omega (arith, c.requires.inside, there.cells),
-          ),
-        ),
-      ),
+    let there = raised_there plan made.shape c.args.grids.now.raised c.in-Some.raised c.in-Some.is made.raised in
+    (omega arith) also (omega arith)
+    also (
+      plan.cells,
+      unit_there plan c.as_slice.result.now c.args.i u c.as_slice.ensures c.index-as_slice-i.is
+          c.requires.unit c.requires.valid,
     )
+    also unit_poisson plan c.requires.valid made.shape made.shares c.args.i u c.requires.unit is
+    also (omega (arith, c.requires.inside, there.cells))
 
 pub returns-clause-joint : goal.returns-clause-joint
 returns-clause-joint g c =

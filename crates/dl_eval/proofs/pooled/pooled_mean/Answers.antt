@@ -1,4 +1,4 @@
-use Rattle.dl_eval.proofs.Common.{arith}
+use Rattle.dl_eval.proofs.Common.{arith, ◌also◌}
 use Rattle.dl_eval.proofs.Scales.{plan_scale, mean_fits}
 use Rattle.dl_eval.proofs.PooledUnits.{some_shape, pooled_unit_valid, pooled_is_mean}
 use Rattle.dl_eval.proofs.pooled.pooled_mean.Goals as goal
@@ -7,16 +7,10 @@ pub claims_mean-requires : goal.claims_mean-requires
 claims_mean-requires g c =
     let plan = c.args.plan.now in
     let scale = plan_scale g.row.B plan.cells c.requires.scale in
-    let s = some_shape plan.common c.requires.shares in (
-      omega (arith, scale.least, scale.most),
-      (
-        omega (arith, scale.least, scale.most),
-        (
-          omega (arith, scale.least, scale.most),
-          (plan.cells, pooled_unit_valid plan c.requires.valid s.0 s.1 c.args.pooled.now (c.requires.pooled s.0 s.1)),
-        ),
-      ),
-    )
+    let s = some_shape plan.common c.requires.shares in
+    (omega (arith, scale.least, scale.most)) also (omega (arith, scale.least, scale.most))
+    also (omega (arith, scale.least, scale.most))
+    also (plan.cells, pooled_unit_valid plan c.requires.valid s.0 s.1 c.args.pooled.now (c.requires.pooled s.0 s.1))
 
 pub returns-clause-mean : goal.returns-clause-mean
 returns-clause-mean g c =

@@ -1,6 +1,5 @@
-use Rattle.dl_eval.proofs.Common.{arith, few_cells}
+use Rattle.dl_eval.proofs.Common.{arith, few_cells, if_ok_three, ◌also◌}
 use Rattle.dl_eval.proofs.Scales.{grid_size}
-use Rattle.dl_exact.proofs.Results.{if_ok_three}
 use Rattle.dl_eval.proofs.PooledUnits.{some_shape, raised_unit_valid, raised_is_grid}
 use Rattle.dl_eval.proofs.pooled.raised_grid.Goals as goal
 
@@ -14,17 +13,12 @@ pub unit_grid_with-requires : goal.unit_grid_with-requires
 unit_grid_with-requires g c =
     let plan = c.args.plan.now in
     let s = some_shape plan.common c.requires.shares in
-    let cells = few_cells plan c.requires.valid in (
-      omega arith,
-      (
-        grid_size g.row.B plan.cells c.requires.scale cells.0 cells.1,
-        (
-          plan.cells,
-          raised_unit_valid plan c.requires.valid s.0 s.1 c.in_ok-unit.unit
-              (c.in_ok-unit.ensures.raised plan s.0 (record { shape = s.1; valid = c.requires.valid })
-              (c.requires.pooled s.0 s.1)),
-        ),
-      ),
+    let cells = few_cells plan c.requires.valid in
+    (omega arith) also grid_size g.row.B plan.cells c.requires.scale cells.0 cells.1
+    also (
+      plan.cells,
+      raised_unit_valid plan c.requires.valid s.0 s.1 c.in_ok-unit.unit (c.in_ok-unit.ensures.raised
+          plan s.0 (record { shape = s.1; valid = c.requires.valid }) (c.requires.pooled s.0 s.1)),
     )
 
 pub returns : goal.returns

@@ -1,6 +1,5 @@
-use Rattle.dl_eval.proofs.Common.{arith, few_cells}
+use Rattle.dl_eval.proofs.Common.{arith, few_cells, if_ok_three, ◌also◌}
 use Rattle.dl_eval.proofs.Scales.{grid_size}
-use Rattle.dl_exact.proofs.Results.{if_ok_three}
 use Rattle.dl_eval.proofs.PooledUnits.{some_shape, pooled_unit_valid, pooled_total}
 use Rattle.dl_eval.proofs.pooled.total_grid.Goals as goal
 
@@ -8,13 +7,9 @@ pub unit_grid_with-requires : goal.unit_grid_with-requires
 unit_grid_with-requires g c =
     let plan = c.args.plan.now in
     let s = some_shape plan.common c.requires.shares in
-    let cells = few_cells plan c.requires.valid in (
-      omega arith,
-      (
-        grid_size g.row.B plan.cells c.requires.scale cells.0 cells.1,
-        (plan.cells, pooled_unit_valid plan c.requires.valid s.0 s.1 c.args.pooled.now (c.requires.pooled s.0 s.1)),
-      ),
-    )
+    let cells = few_cells plan c.requires.valid in
+    (omega arith) also grid_size g.row.B plan.cells c.requires.scale cells.0 cells.1
+    also (plan.cells, pooled_unit_valid plan c.requires.valid s.0 s.1 c.args.pooled.now (c.requires.pooled s.0 s.1))
 
 pub returns : goal.returns
 returns g c =

@@ -1,5 +1,4 @@
-use Rattle.dl_eval.proofs.Common.{ap, ◌∙◌, if_ok_two}
-use Rattle.dl_report.specs.declared.report.End.TheVariants.{Number}
+use Rattle.dl_eval.proofs.Common.{ap, ◌∙◌, if_ok_two, Number}
 use Rattle.dl_eval.proofs.rows.ends_row.Goals as goal
 
 pub returns-clause-ends : goal.returns-clause-ends

@@ -1,9 +1,5 @@
-use Rattle.dl_eval.proofs.Common.{[], ◌^◌, arith, ap, IfOk-weaker}
-use Rattle.std.proofs.lemmas.List.Elements.{All-head}
-use Rattle.dl_plan.specs.Facts.{facts_of}
-use Rattle.dl_plan.specs.Ranges.{IsLevel}
+use Rattle.dl_eval.proofs.Common.{[], ◌^◌, arith, ap, IfOk-weaker, All-head, facts_of, IsLevel, ◌also◌}
 use Rattle.dl_eval.proofs.Insides.{layer_inside}
-use Rattle.dl_eval.proofs.DrawnGrids.{drawn_total}
 use Rattle.dl_eval.proofs.GoodRows.{point_answer, cdf_answer, mean_answer, layer_answer}
 use Rattle.dl_eval.proofs.Named.{place_named}
 use Rattle.dl_eval.proofs.Scales.{plan_scale}
@@ -14,69 +10,45 @@ use Rattle.dl_eval.proofs.rows.grid_row.Goals as goal
 
 pub at-requires : goal.at-requires
 at-requires g c =
-    omega (arith, rw c.in-Pmf.is at c.requires.inside, (drawn_total c.args.plan.now c.args.grids.now c.total-total.result.now c.total-total.ensures c.requires.grids).cells)
+    let total = c.total-total.ensures c.args.plan.now c.requires.grids in
+    omega (arith, rw c.in-Pmf.is at c.requires.inside)
 
 pub cdf-requires : goal.cdf-requires
 cdf-requires g c =
-    omega (arith, rw c.in-Cdf.is at c.requires.inside, (drawn_total c.args.plan.now c.args.grids.now c.total-total.result.now c.total-total.ensures c.requires.grids).cells)
+    let total = c.total-total.ensures c.args.plan.now c.requires.grids in
+    omega (arith, rw c.in-Cdf.is at c.requires.inside)
 
 pub layer_mean-layer-requires : goal.layer_mean-layer-requires
 layer_mean-layer-requires g c =
-    let scale = plan_scale g.row.B c.args.plan.now.cells c.requires.scale in (
-      omega (arith, scale.least, scale.most),
-      (
-        omega (arith, scale.least, scale.most),
-        layer_inside c.args.plan.now.cells c.total-total.result.now c.in-LayerMean.limit c.in-LayerMean.attach
-            (rw c.in-LayerMean.is at c.requires.inside)
-            (drawn_total c.args.plan.now c.args.grids.now c.total-total.result.now c.total-total.ensures c.requires.grids).cells,
-      ),
-    )
+    let scale = plan_scale g.row.B c.args.plan.now.cells c.requires.scale in
+    (omega (arith, scale.least, scale.most)) also (omega (arith, scale.least, scale.most))
+    also layer_inside c.args.plan.now.cells c.total-total.result.now c.in-LayerMean.limit c.in-LayerMean.attach (rw
+    c.in-LayerMean.is at c.requires.inside) (c.total-total.ensures c.args.plan.now c.requires.grids).cells
 
 pub quantile_row-requires : goal.quantile_row-requires
-quantile_row-requires g c = (
-  omega arith,
-  (
-    plan_scale g.row.B c.args.plan.now.cells c.requires.scale,
-    All-head IsLevel c.in-Quantile.p [] (rw c.in-Quantile.is at c.requires.values.levels),
-  ),
-)
+quantile_row-requires g c =
+    (omega arith) also plan_scale g.row.B c.args.plan.now.cells c.requires.scale
+    also All-head IsLevel c.in-Quantile.p [] (rw c.in-Quantile.is at c.requires.values.levels)
 
 pub tail_row-requires : goal.tail_row-requires
-tail_row-requires g c = (
-  omega arith,
-  (
-    omega arith,
-    (
-      plan_scale g.row.B c.args.plan.now.cells c.requires.scale,
-      (c.requires.digits, (All-head IsLevel c.in-Tail.p [] (rw c.in-Tail.is at c.requires.values.levels), c.requires.small)),
-    ),
-  ),
-)
+tail_row-requires g c =
+    (omega arith) also (omega arith) also plan_scale g.row.B c.args.plan.now.cells c.requires.scale
+    also c.requires.digits also All-head IsLevel c.in-Tail.p [] (rw c.in-Tail.is at c.requires.values.levels)
+    also c.requires.small
 
 pub price_row-requires : goal.price_row-requires
-price_row-requires g c = (
-  omega arith,
-  (
-    omega arith,
-    (
-      plan_scale g.row.B c.args.plan.now.cells c.requires.scale,
-      (
-        c.requires.digits,
-        (
-          rw c.as_slice.ensures (rw c.in-Price.is at c.requires.values.levels),
-          (rw c.as_slice.ensures (rw c.in-Price.is at c.requires.values.terms), c.requires.small),
-        ),
-      ),
-    ),
-  ),
-)
+price_row-requires g c =
+    (omega arith) also (omega arith) also plan_scale g.row.B c.args.plan.now.cells c.requires.scale
+    also c.requires.digits also (rw c.as_slice.ensures (rw c.in-Price.is at c.requires.values.levels))
+    also (rw c.as_slice.ensures (rw c.in-Price.is at c.requires.values.terms)) also c.requires.small
 
 pub returns-in-Pmf-clause-answer : goal.returns-in-Pmf-clause-answer
 returns-in-Pmf-clause-answer g c =
     IfOk-weaker c.ends_row.result _ _ (λ row printed.
     rw c.in-Pmf.is (point_answer c.args.plan.now c.total-total.result.now c.args.digits c.in-Pmf.x c.at.result.lo
     c.at.result.hi row c.at.ensures.low c.at.ensures.high
-    (omega (arith, rw c.in-Pmf.is at c.requires.inside, (drawn_total c.args.plan.now c.args.grids.now c.total-total.result.now c.total-total.ensures c.requires.grids).cells)) (drawn_total c.args.plan.now c.args.grids.now c.total-total.result.now c.total-total.ensures c.requires.grids) printed))
+    (omega (arith, rw c.in-Pmf.is at c.requires.inside, (c.total-total.ensures c.args.plan.now c.requires.grids).cells))
+    (c.total-total.ensures c.args.plan.now c.requires.grids) printed))
     c.ends_row.ensures.ends
 
 pub returns-in-Cdf-clause-answer : goal.returns-in-Cdf-clause-answer
@@ -84,8 +56,8 @@ returns-in-Cdf-clause-answer g c =
     IfOk-weaker c.ends_row-in-Cdf.result _ _ (λ row printed.
     rw c.in-Cdf.is (cdf_answer c.args.plan.now c.total-total.result.now c.args.digits c.in-Cdf.x c.cdf.result.lo
     c.cdf.result.hi row c.cdf.ensures.low c.cdf.ensures.high
-    (omega (arith, rw c.in-Cdf.is at c.requires.inside, (drawn_total c.args.plan.now c.args.grids.now c.total-total.result.now c.total-total.ensures c.requires.grids).cells)) c.requires.valid
-    (drawn_total c.args.plan.now c.args.grids.now c.total-total.result.now c.total-total.ensures c.requires.grids) printed))
+    (omega (arith, rw c.in-Cdf.is at c.requires.inside, (c.total-total.ensures c.args.plan.now c.requires.grids).cells))
+    c.requires.valid (c.total-total.ensures c.args.plan.now c.requires.grids) printed))
     c.ends_row-in-Cdf.ensures.ends
 
 pub returns-in-LayerMean-clause-answer : goal.returns-in-LayerMean-clause-answer
@@ -94,7 +66,7 @@ returns-in-LayerMean-clause-answer g c =
     rw c.in-LayerMean.is (layer_answer c.args.plan.now c.total-total.result.now c.args.mean c.args.digits
     c.in-LayerMean.attach c.layer_mean-layer.result.lo c.layer_mean-layer.result.hi
     c.in-LayerMean.limit row c.layer_mean-layer.ensures.holds c.layer_mean-layer.ensures.width c.requires.valid
-    (drawn_total c.args.plan.now c.args.grids.now c.total-total.result.now c.total-total.ensures c.requires.grids) c.requires.mean printed))
+    (c.total-total.ensures c.args.plan.now c.requires.grids) c.requires.mean printed))
     c.ends_row-in-LayerMean.ensures.ends
 
 pub returns-in-Mean-clause-answer : goal.returns-in-Mean-clause-answer
@@ -107,7 +79,7 @@ pub returns-in-Tail-clause-answer : goal.returns-in-Tail-clause-answer
 returns-in-Tail-clause-answer g c =
     IfOk-weaker c.tail_row.result _ _ (λ row told.
     rw c.in-Tail.is (tail_asked (2 ^ g.row.B) c.args.plan.now c.in-Tail.p c.args.digits row
-    (told c.args.plan.now c.requires.valid (drawn_total c.args.plan.now c.args.grids.now c.total-total.result.now c.total-total.ensures c.requires.grids) c.requires.mean)))
+    (told c.args.plan.now c.requires.valid (c.total-total.ensures c.args.plan.now c.requires.grids) c.requires.mean)))
     c.tail_row.ensures.tail
 
 pub returns-in-Price-clause-answer : goal.returns-in-Price-clause-answer
@@ -115,7 +87,7 @@ returns-in-Price-clause-answer g c =
     IfOk-weaker c.price_row.result _ _ (λ row told.
     rw c.in-Price.is (price_asked (2 ^ g.row.B) c.args.plan.now c.as_slice.result.now c.in-Price.terms
     c.args.digits row c.as_slice.ensures
-    (told c.args.plan.now c.requires.valid (drawn_total c.args.plan.now c.args.grids.now c.total-total.result.now c.total-total.ensures c.requires.grids) c.requires.mean)))
+    (told c.args.plan.now c.requires.valid (c.total-total.ensures c.args.plan.now c.requires.grids) c.requires.mean)))
     c.price_row.ensures.price
 
 pub returns-in-Joint-clause-answer : goal.returns-in-Joint-clause-answer

@@ -1,20 +1,13 @@
-use Rattle.dl_eval.proofs.Common.{arith, inl, inr, refl, IfOk-weaker}
+use Rattle.dl_eval.proofs.Common.{arith, inl, inr, refl, IfOk-weaker, ◌also◌}
 use Rattle.dl_plan.proofs.TermLevels.{levels_each}
 use Rattle.dl_eval.proofs.PriceRows.{price_answer, price_past}
 use Rattle.dl_eval.proofs.rows.price_row.Goals as goal
 
 pub price-requires : goal.price-requires
 price-requires g c =
-    let levels = levels_each c.args.terms.now c.requires.levels in (
-      omega arith,
-      (
-        omega arith,
-        (
-          c.requires.priced,
-          (λ i t inside. (levels i t inside).below, (λ i t inside. (levels i t inside).den, c.requires.small)),
-        ),
-      ),
-    )
+    let levels = levels_each c.args.terms.now c.requires.levels in
+    (omega arith) also (omega arith) also c.requires.priced also (λ i t inside. (levels i t inside).below)
+    also (λ i t inside. (levels i t inside).den) also c.requires.small
 
 pub returns-in-Some-clause-price : goal.returns-in-Some-clause-price
 returns-in-Some-clause-price g c =

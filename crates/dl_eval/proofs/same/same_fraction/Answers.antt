@@ -1,5 +1,4 @@
-use Rattle.dl_eval.proofs.Common.{ap, sym, ◌∙◌, Decides-eqb, Fraction}
-use Rattle.dl_exact.proofs.Over.{same}
+use Rattle.dl_eval.proofs.Common.{ap, sym, ◌∙◌, Decides-eqb, Fraction, same}
 use Rattle.dl_eval.proofs.same.same_fraction.Goals as goal
 
 pub returns-then-num : goal.returns-then-num

@@ -1,5 +1,4 @@
-use Rattle.dl_eval.proofs.Common.{Decides-eqb}
-use Rattle.std.proofs.Common.{rules}
+use Rattle.dl_eval.proofs.Common.{Decides-eqb, rules}
 use Rattle.std.proofs.lemmas.Slice.Eq.{slice_eq-Decides}
 use Rattle.dl_eval.proofs.same.same_items.Goals as goal
 

@@ -1,5 +1,4 @@
-use Rattle.dl_eval.proofs.Common.{◌≡◌, length, arith, refl}
-use Rattle.std.proofs.lemmas.List.{same_lists}
+use Rattle.dl_eval.proofs.Common.{◌≡◌, length, arith, refl, same_lists}
 use Rattle.dl_eval.proofs.same.same_layers.Goals as goal
 
 pub returns : goal.returns

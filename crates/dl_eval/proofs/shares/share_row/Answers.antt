@@ -1,11 +1,9 @@
 use Rattle.dl_eval.proofs.Common.{arith, inl, inr, refl, IfOk-weaker, if_ok_two}
-use Rattle.dl_eval.proofs.DrawnGrids.{drawn_total}
 use Rattle.dl_eval.proofs.ShareLaws.{share_answer, rare_answer}
 use Rattle.dl_eval.proofs.shares.share_row.Goals as goal
 
 pub at-requires : goal.at-requires
-at-requires g c =
-    omega (arith, c.requires.inside, (drawn_total c.args.plan.now c.args.grids.now c.total.result.now c.total.ensures c.requires.grids).cells)
+at-requires g c = let total = c.total.ensures c.args.plan.now c.requires.grids in omega arith
 
 pub returns-in-Some-clause-share : goal.returns-in-Some-clause-share
 returns-in-Some-clause-share g c =
@@ -13,7 +11,7 @@ returns-in-Some-clause-share g c =
     share_answer c.args.plan.now c.total.result.now c.joint_of-joint.result c.args.i c.args.at c.at.result.lo
     c.at.result.hi c.args.digits c.in-Some.share.lo c.in-Some.share.hi row
     c.at.ensures.low c.at.ensures.high c.in-Some.ensures.holds c.in-Some.ensures.width c.joint_of-joint.ensures.below
-    c.requires.inside (drawn_total c.args.plan.now c.args.grids.now c.total.result.now c.total.ensures c.requires.grids)
+    c.requires.inside (c.total.ensures c.args.plan.now c.requires.grids)
     c.joint_of-joint.ensures.joint printed))
     c.ends_row.ensures.ends
 
@@ -24,6 +22,6 @@ returns-in-None-clause-share g c =
       is_high = high;
       rare = rare_answer c.args.plan.now c.total.result.now c.args.at c.at.result.lo c.at.result.hi
           c.at.ensures.low c.at.ensures.high (c.in-None.ensures.none.0 refl)
-          c.requires.inside (drawn_total c.args.plan.now c.args.grids.now c.total.result.now c.total.ensures c.requires.grids);
+          c.requires.inside (c.total.ensures c.args.plan.now c.requires.grids);
     }))
     c.row_with.ensures.low c.row_with.ensures.high

@@ -1,5 +1,4 @@
-use Rattle.dl_eval.proofs.Common.{ℕ, ◌^◌, length, inl, inr, subst, Option, IfOk-weaker, low_at, low_cdf}
-use Rattle.dl_measures.specs.Brackets.{IsFirstFound}
+use Rattle.dl_eval.proofs.Common.{ℕ, ◌^◌, length, inl, inr, subst, Option, IfOk-weaker, low_at, low_cdf, IsFirstFound}
 use Rattle.dl_eval.proofs.GoodRows.{ends_below}
 use Rattle.dl_eval.proofs.TailShares.{share_told}
 use Rattle.dl_eval.proofs.shares.tail_share_row.Goals as goal

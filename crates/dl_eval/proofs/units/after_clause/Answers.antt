@@ -1,4 +1,4 @@
-use Rattle.dl_exact.proofs.Results.{if_ok_three}
+use Rattle.dl_eval.proofs.Common.{if_ok_three}
 use Rattle.dl_eval.proofs.UnitLaws.{plain_grid, ceded_grid}
 use Rattle.dl_eval.proofs.units.after_clause.Goals as goal
 

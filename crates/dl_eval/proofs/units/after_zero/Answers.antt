@@ -1,23 +1,13 @@
-use Rattle.dl_eval.proofs.Common.{arith, aggregate_of}
-use Rattle.dl_plan.proofs.ValidUnits.{new_zero}
+use Rattle.dl_eval.proofs.Common.{arith, aggregate_of, new_zero, ◌also◌}
 use Rattle.dl_eval.proofs.Scales.{plan_scale}
-use Rattle.dl_eval.proofs.ZeroLaws.{same_grid, same_mean, none_high, before, changed_grid, changed_mean, changed_small, most_small}
+use Rattle.dl_eval.proofs.ZeroLaws.{same_grid, same_mean, none_high, before, changed_grid, most_small}
 use Rattle.dl_eval.proofs.units.after_zero.Goals as goal
 
 pub none_of-requires : goal.none_of-requires
-none_of-requires g c = (
-  omega arith,
-  (
-    plan_scale g.row.B c.args.cells c.requires.scale,
-    (
-      c.requires.valid.count,
-      (
-        c.requires.valid.expected,
-        (c.in-Some.p, new_zero c.args.cells c.args.unit.now c.in-Some.p c.requires.valid c.in-Some.is),
-      ),
-    ),
-  ),
-)
+none_of-requires g c =
+    (omega arith) also plan_scale g.row.B c.args.cells c.requires.scale also c.requires.valid.count
+    also c.requires.valid.expected
+    also (c.in-Some.p, new_zero c.args.cells c.args.unit.now c.in-Some.p c.requires.valid c.in-Some.is)
 
 pub zero_grid-requires : goal.zero_grid-requires
 zero_grid-requires g c =
@@ -25,47 +15,13 @@ zero_grid-requires g c =
     let none = c.in_ok-none-in-Some in
     let p = c.in-Some.p in
     let scale = plan_scale g.row.B c.args.cells c.requires.scale in
-    let zero = new_zero c.args.cells u p c.requires.valid c.in-Some.is in (
-      omega arith,
-      (
-        omega arith,
-        (
-          zero.below,
-          (
-            zero.den,
-            (
-              none_high c.args.cells u p none.none scale c.requires.valid c.in-Some.is none.ensures.holds
-                  none.ensures.width,
-              (
-                aggregate_of u,
-                before c.args.cells u p none.none scale c.requires.valid c.in-Some.is none.ensures.holds
-                    none.ensures.width c.args.grid c.requires.grid,
-              ),
-            ),
-          ),
-        ),
-      ),
-    )
-
-pub zero_mean-requires : goal.zero_mean-requires
-zero_mean-requires g c =
-    let u = c.args.unit.now in
-    let none = c.in_ok-none-in-Some in
-    let p = c.in-Some.p in
-    let scale = plan_scale g.row.B c.args.cells c.requires.scale in
-    let zero = new_zero c.args.cells u p c.requires.valid c.in-Some.is in (
-      omega arith,
-      (
-        zero.below,
-        (
-          zero.den,
-          (
-            none_high c.args.cells u p none.none scale c.requires.valid c.in-Some.is none.ensures.holds
-                none.ensures.width,
-            omega (arith, changed_small u p c.args.mean.hi c.in-Some.is c.requires.small),
-          ),
-        ),
-      ),
+    let zero = new_zero c.args.cells u p c.requires.valid c.in-Some.is in
+    (omega arith) also (omega arith) also zero.below also zero.den
+    also none_high c.args.cells u p none.none scale c.requires.valid c.in-Some.is none.ensures.holds none.ensures.width
+    also (
+      aggregate_of u,
+      before c.args.cells u p none.none scale c.requires.valid c.in-Some.is none.ensures.holds
+          none.ensures.width c.args.grid c.requires.grid,
     )
 
 pub returns-in_ok-changed-in-Some-clause-grid : goal.returns-in_ok-changed-in-Some-clause-grid
@@ -76,23 +32,6 @@ returns-in_ok-changed-in-Some-clause-grid g c =
     (plan_scale g.row.B c.args.cells c.requires.scale) c.requires.valid c.in-Some.is none.ensures.holds
     none.ensures.width c.args.grid made.changed c.requires.grid made.ensures.cells made.ensures.encloses
     made.ensures.spread
-
-pub returns-in_ok-changed-in-Some-clause-mean : goal.returns-in_ok-changed-in-Some-clause-mean
-returns-in_ok-changed-in-Some-clause-mean g c =
-    let none = c.in_ok-none-in-Some in
-    changed_mean c.args.cells c.args.unit.now c.in-Some.p none.none
-    (plan_scale g.row.B c.args.cells c.requires.scale) c.requires.valid c.in-Some.is none.ensures.holds
-    none.ensures.width c.args.mean c.zero_mean.result c.requires.mean c.zero_mean.ensures.holds
-    c.zero_mean.ensures.width
-
-pub returns-in_ok-changed-in-Some-clause-small : goal.returns-in_ok-changed-in-Some-clause-small
-returns-in_ok-changed-in-Some-clause-small g c =
-    omega (
-      arith,
-      c.zero_mean.ensures.small,
-      changed_small c.args.unit.now c.in-Some.p c.args.mean.hi c.in-Some.is
-          c.requires.small,
-    )
 
 pub returns-in-None-clause-grid : goal.returns-in-None-clause-grid
 returns-in-None-clause-grid g c = same_grid c.args.cells c.args.unit.now c.args.grid c.in-None.is c.requires.grid

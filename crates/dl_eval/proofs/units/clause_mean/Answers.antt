@@ -1,4 +1,4 @@
-use Rattle.dl_eval.proofs.Common.{arith}
+use Rattle.dl_eval.proofs.Common.{arith, ◌also◌}
 use Rattle.dl_eval.proofs.Means.{clause_unit_mean, plain_mean}
 use Rattle.dl_eval.proofs.Scales.{plan_scale}
 use Rattle.dl_eval.proofs.ZeroLaws.{small_before}
@@ -6,13 +6,9 @@ use Rattle.dl_eval.proofs.units.clause_mean.Goals as goal
 
 pub claims_mean-requires : goal.claims_mean-requires
 claims_mean-requires g c =
-    let scale = plan_scale g.row.B c.args.cells c.requires.scale in (
-      omega (arith, scale.least, scale.most),
-      (
-        omega (arith, scale.least, scale.most),
-        (omega (arith, scale.least, scale.most), (c.args.cells, c.requires.valid)),
-      ),
-    )
+    let scale = plan_scale g.row.B c.args.cells c.requires.scale in
+    (omega (arith, scale.least, scale.most)) also (omega (arith, scale.least, scale.most))
+    also (omega (arith, scale.least, scale.most)) also (c.args.cells, c.requires.valid)
 
 pub returns-in_ok-claims-in-Some-clause-mean : goal.returns-in_ok-claims-in-Some-clause-mean
 returns-in_ok-claims-in-Some-clause-mean g c =

@@ -1,6 +1,4 @@
-use Rattle.dl_limits.specs.Limits.{most_horizon}
-use Rattle.dl_eval.proofs.Common.{◌≤◌, IsHorizonOf, unit_horizon}
-use Rattle.dl_budget.proofs.Horizons.{horizon_there}
+use Rattle.dl_eval.proofs.Common.{most_horizon, ◌≤◌, IsHorizonOf, unit_horizon, horizon_there}
 use Rattle.dl_eval.proofs.UnitLaws.{horizon_some}
 use Rattle.dl_eval.proofs.units.horizon.Goals as goal
 

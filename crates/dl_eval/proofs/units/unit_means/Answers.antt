@@ -1,4 +1,4 @@
-use Rattle.dl_eval.proofs.Common.{◌≤◌, ◌^◌, length, arith, ap, subst, few_cells, Iv, IsUnitMean, AreUnitMeans}
+use Rattle.dl_eval.proofs.Common.{◌≤◌, ◌^◌, length, arith, ap, subst, few_cells, Iv, IsUnitMean, AreUnitMeans, ◌also◌}
 use Rattle.dl_eval.proofs.Places.{unit_there}
 use Rattle.dl_eval.proofs.Lists.{each_next, pushed_length, all_pushed}
 use Rattle.dl_eval.proofs.units.unit_means.Goals as goal
@@ -7,17 +7,11 @@ pub mean_of-requires : goal.mean_of-requires
 mean_of-requires g c =
     let plan = c.args.plan.now in
     let units = c.as_slice-units in
-    let some = few_cells plan c.requires.valid in (
-      omega arith,
-      (
-        c.requires.scale,
-        (
-          unit_there plan units.result.now c.loop-unit.unit-index c.unit-item.result units.ensures c.unit-item.is
-              (omega (arith, c.loop-unit-test.true, ap length units.ensures)) c.requires.valid,
-          (some.0, some.1),
-        ),
-      ),
-    )
+    let some = few_cells plan c.requires.valid in
+    (omega arith) also c.requires.scale
+    also unit_there plan units.result.now c.loop-unit.unit-index c.unit-item.result units.ensures c.unit-item.is
+    (omega (arith, c.loop-unit-test.true, ap length units.ensures)) c.requires.valid
+    also some.0 also some.1
 
 pub loop-unit-preserved : goal.loop-unit-preserved
 loop-unit-preserved g c = record {

@@ -1,5 +1,4 @@
-use Rattle.dl_eval.proofs.Common.{ℕ, ◌≡◌, ◌^◌, ◌<◌, ◌≤◌, length, get_or, All, Iv, IsUnitMean}
-use Rattle.dl_plan.specs.declared.plan.Unit.{Unit as UnitOfPlan}
+use Rattle.dl_eval.proofs.Common.{ℕ, ◌≡◌, ◌^◌, ◌<◌, ◌≤◌, length, get_or, All, Iv, IsUnitMean, UnitOfPlan}
 use Rattle.dl_eval.proofs.units.unit_means.Given as goal
 
 abbrev pub invariant-loop-unit : goal.invariant-loop-unit

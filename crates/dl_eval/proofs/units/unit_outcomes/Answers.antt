@@ -1,4 +1,4 @@
-use Rattle.dl_eval.proofs.Common.{◌≤◌, ◌^◌, List, [], length, get_or, arith, sym, ap, subst, All, few_cells, Iv, IsUnitGrid, IsUnitMean, AreUnitGrids, AreUnitMeans}
+use Rattle.dl_eval.proofs.Common.{◌≤◌, ◌^◌, List, [], length, get_or, arith, sym, ap, subst, All, few_cells, Iv, IsUnitGrid, IsUnitMean, AreUnitGrids, AreUnitMeans, ◌also◌}
 use Rattle.dl_eval.proofs.Places.{unit_there}
 use Rattle.dl_eval.proofs.Lists.{each_next, pushed_length, all_pushed}
 use Rattle.dl_eval.proofs.units.unit_outcomes.Goals as goal
@@ -11,54 +11,17 @@ outcomes_after-requires g c =
     let grids = c.as_slice.ensures.value in
     let means = c.as_slice-in-loop-unit.ensures.value in
     let many = ap (λ (t : List (List (Iv g.row.B))). length t) grids in
-    let as_many = ap (λ (t : List (Iv g.row.B)). length t) means in (
-      omega arith,
-      (
-        omega arith,
-        (
-          c.requires.scale,
-          (
-            unit_there plan units.result.now c.loop-unit.unit-index c.unit-item.result units.ensures c.unit-item.is
-                (omega (arith, c.loop-unit-test.true, ap (λ t. length t) units.ensures)) c.requires.valid,
-            (
-              some.0,
-              (
-                some.1,
-                (
-                  omega (arith, many, c.loop-unit.invariant.many_grids, c.loop-unit-test.true),
-                  (
-                    omega (arith, many, as_many, c.loop-unit.invariant.many_grids, c.loop-unit.invariant.many_means),
-                    (
-                      λ i u grid inside.
-                          subst (λ (t : List (List (Iv g.row.B))). IsUnitGrid plan.cells (get_or units.result.now i u)
-                          (get_or t i grid)) (sym grids)
-                          (c.loop-unit.invariant.grids i u grid (omega (
-                            arith,
-                            inside,
-                            many,
-                            c.loop-unit.invariant.many_grids,
-                          ))),
-                      (
-                        λ i u m inside.
-                            subst (λ (t : List (Iv g.row.B)). IsUnitMean plan.cells (get_or units.result.now i u)
-                            (get_or t i m)) (sym means)
-                            (c.loop-unit.invariant.means i u m (omega (
-                              arith,
-                              inside,
-                              many,
-                              c.loop-unit.invariant.many_grids,
-                            ))),
-                        subst (All (λ (mean : Iv g.row.B). mean.hi ≤ 2 ^ 93)) (sym means) c.loop-unit.invariant.small,
-                      ),
-                    ),
-                  ),
-                ),
-              ),
-            ),
-          ),
-        ),
-      ),
-    )
+    let as_many = ap (λ (t : List (Iv g.row.B)). length t) means in
+    (omega arith) also (omega arith) also c.requires.scale
+    also unit_there plan units.result.now c.loop-unit.unit-index c.unit-item.result units.ensures c.unit-item.is
+    (omega (arith, c.loop-unit-test.true, ap (λ t. length t) units.ensures)) c.requires.valid
+    also some.0 also some.1 also (omega (arith, many, c.loop-unit.invariant.many_grids, c.loop-unit-test.true))
+    also (omega (arith, many, as_many, c.loop-unit.invariant.many_grids, c.loop-unit.invariant.many_means))
+    also (λ i u grid inside. subst (λ (t : List (List (Iv g.row.B))). IsUnitGrid plan.cells (get_or units.result.now
+    i u) (get_or t i grid)) (sym grids) (c.loop-unit.invariant.grids i u grid (omega arith)))
+    also (λ i u m inside. subst (λ (t : List (Iv g.row.B)). IsUnitMean plan.cells (get_or units.result.now i u)
+    (get_or t i m)) (sym means) (c.loop-unit.invariant.means i u m (omega arith)))
+    also subst (All (λ (mean : Iv g.row.B). mean.hi ≤ 2 ^ 93)) (sym means) c.loop-unit.invariant.small
 
 pub loop-unit-preserved : goal.loop-unit-preserved
 loop-unit-preserved g c = record {

@@ -1,14 +1,11 @@
 -- Up to a slash the text so far is the first part; without one it is a decimal or a percent.
-use Rattle.dl_frac.proofs.Common.{◌≡◌, ◌<◌, ◌+◌, true, false, take, drop, sym, subst, refl, arith, list_any, take-append-drop, take_more, is_slash, digit_count, is_bad, IsReadingOf}
+use Rattle.dl_frac.proofs.Common.{◌≡◌, ◌<◌, ◌+◌, true, false, take, drop, sym, subst, refl, list_any, take-append-drop, take_more, is_slash, digit_count, is_bad}
 use Rattle.std.proofs.lemmas.List.{take_all}
-use Rattle.dl_frac.proofs.NumeralLaws.{few_tens, early_bad, slash_value_at, slash_bad_at, plain_value, plain_bad, front_push, within_limit}
+use Rattle.dl_frac.proofs.NumeralLaws.{early_bad, slash_value_at, slash_bad_at, plain_value, plain_bad, front_push, within_limit}
 use Rattle.dl_frac.proofs.numerals.numeral.Goals as goal
 
 pub bytes-init : goal.bytes-init
 bytes-init c = record { reads = c.new-read.ensures c.args.digits; whole = refl }
-
-pub ratio-requires-clause-small : goal.ratio-requires-clause-small
-ratio-requires-clause-small c = omega (arith, few_tens c.bytes.read.digits c.bytes.read.few)
 
 pub returns-then-byte-eq47-clause-value : goal.returns-then-byte-eq47-clause-value
 returns-then-byte-eq47-clause-value c =
@@ -43,14 +40,12 @@ pub returns-clause-value : goal.returns-clause-value
 returns-clause-value c =
     let text = c.args.text.now in
     let all : take c.bytes.at text ≡ text = take_all c.bytes.at text c.bytes-test.false in
-    let none : list_any is_slash text ≡ false = subst (λ t. list_any is_slash t ≡ false) all c.bytes.invariant.whole in
-    rw (plain_value text none) (c.decimal.ensures.ok text
-    (subst (λ t. IsReadingOf c.args.digits t c.bytes.read) all c.bytes.invariant.reads))
+    let none = rw all at c.bytes.invariant.whole in
+    rw (plain_value text none) (c.decimal.ensures.ok text (rw all at c.bytes.invariant.reads))
 
 pub returns-clause-bad : goal.returns-clause-bad
 returns-clause-bad c =
     let text = c.args.text.now in
     let all : take c.bytes.at text ≡ text = take_all c.bytes.at text c.bytes-test.false in
-    let none : list_any is_slash text ≡ false = subst (λ t. list_any is_slash t ≡ false) all c.bytes.invariant.whole in
-    rw (plain_bad c.args.digits text none) (c.decimal.ensures.bad text
-    (subst (λ t. IsReadingOf c.args.digits t c.bytes.read) all c.bytes.invariant.reads))
+    let none = rw all at c.bytes.invariant.whole in
+    rw (plain_bad c.args.digits text none) (c.decimal.ensures.bad text (rw all at c.bytes.invariant.reads))

@@ -1,7 +1,6 @@
 -- The number is that of the whole text, and digits that pass the limit at some byte pass it in the whole.
-use Rattle.dl_frac.proofs.Common.{◌≡◌, ◌<◌, ◌+◌, ◌||◌, true, take, drop, ap, sym, subst, arith, ◌==◌, nat_lt, take-append-drop, take_more, digit_count, number_in}
-use Rattle.std.proofs.lemmas.Grind.{common_steps}
-use Rattle.dl_frac.proofs.NumeralLaws.{few_tens, too_many}
+use Rattle.dl_frac.proofs.Common.{◌≡◌, ◌<◌, ◌+◌, ◌||◌, true, take, drop, ap, sym, subst, ◌==◌, nat_lt, take-append-drop, take_more, digit_count, number_in}
+use Rattle.dl_frac.proofs.NumeralLaws.{too_many}
 use Rattle.dl_frac.proofs.numerals.ratio.Goals as goal
 
 pub bytes-init : goal.bytes-init
@@ -18,12 +17,3 @@ returns-in_err-read-clause-bad c =
     subst (λ t. nat_lt c.args.digits (digit_count t) ≡ true) (take-append-drop (i + 1) text)
     (too_many c.args.digits (take (i + 1) text) (drop (i + 1) text) far) in
     (λ _. ap (λ b. b || number_in text == 0) many, λ _. c.from_residual.ensures.0)
-
-pub reduced-requires-clause-small_den : goal.reduced-requires-clause-small_den
-reduced-requires-clause-small_den c = omega (arith, few_tens c.bytes.read.digits c.bytes.read.few)
-
-pub reduced-requires-clause-positive : goal.reduced-requires-clause-positive
-reduced-requires-clause-positive c = omega (arith, c.if-read-eq0.false)
-
-pub returns-clause-bad : goal.returns-clause-bad
-returns-clause-bad c = grind (arith, common_steps)

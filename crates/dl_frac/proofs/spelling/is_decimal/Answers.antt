@@ -33,8 +33,6 @@ returns-else-all_digits c =
 
 pub returns-in-None : goal.returns-in-None
 returns-in-None c =
-    let text = c.args.text.now in (
-      λ h. plain (c.is_number.ensures.0 h),
-      λ h. c.is_number.ensures.1
-          (unpointed text (no_place is_point text c.in-None.ensures) h),
-    )
+    let text = c.args.text.now in
+    let none = no_place is_point text c.in-None.ensures in
+    (λ h. plain (c.is_number.ensures.0 h), λ h. c.is_number.ensures.1 (unpointed text none h))

@@ -6,20 +6,16 @@ use Rattle.dl_frac.proofs.spelling.is_numeral.Goals as goal
 pub returns-then-is_number : goal.returns-then-is_number
 returns-then-is_number c =
     let text = c.args.text.now in
-    let place = first_place is_slash text c.in-Some.at c.in-Some.ensures in (
-      λ h. fraction_there text c.in-Some.at place (c.is_number.ensures.0 c.if-is_number.true)
-          (c.is_number-then-is_number.ensures.0 h),
-      λ h. c.is_number-then-is_number.ensures.1 (fraction_back text c.in-Some.at place h).1,
-    )
+    let place = first_place is_slash text c.in-Some.at c.in-Some.ensures in
+    let front = c.is_number.ensures.0 c.if-is_number.true in
+    let behind = c.is_number-then-is_number.ensures in
+    (λ h. fraction_there text _ place front (behind.0 h), λ h. behind.1 (fraction_back text _ place h).1)
 
 pub returns-else-is_number : goal.returns-else-is_number
 returns-else-is_number c =
     let text = c.args.text.now in
-    let place = first_place is_slash text c.in-Some.at c.in-Some.ensures in (
-      λ h. clash c.is_number.result h c.if-is_number.false,
-      λ h. c.is_number.ensures.1
-          (fraction_back text c.in-Some.at place h).0,
-    )
+    let place = first_place is_slash text c.in-Some.at c.in-Some.ensures in
+    (λ h. clash _ h c.if-is_number.false, λ h. c.is_number.ensures.1 (fraction_back text _ place h).0)
 
 pub returns-then-last-eq37 : goal.returns-then-last-eq37
 returns-then-last-eq37 c =
@@ -27,11 +23,8 @@ returns-then-last-eq37 c =
     let front = c.in-Some-split_last.front.now in
     let none = no_place is_slash text c.in_default.ensures in
     let cut : text ≡ front ++ 37 ∷ [] = c.in-Some-split_last.ensures.cases.0
-    ∙ ap (λ b. front ++ b ∷ []) c.if-last-eq37.true in (
-      λ h. percent front (c.is_decimal.ensures.0 h) cut,
-      λ h. c.is_decimal.ensures.1
-          (percent_back text front none cut h),
-    )
+    ∙ ap (λ b. front ++ b ∷ []) c.if-last-eq37.true in
+    (λ h. percent front (c.is_decimal.ensures.0 h) cut, λ h. c.is_decimal.ensures.1 (percent_back text front none cut h))
 
 pub returns-else-last-eq37 : goal.returns-else-last-eq37
 returns-else-last-eq37 c =
@@ -39,8 +32,6 @@ returns-else-last-eq37 c =
     let none = no_place is_slash text c.in_default.ensures in
     let cut = c.in-Some-split_last.ensures.cases.0 in
     let other : (front : List ℕ) → text ≡ front ++ 37 ∷ [] → ⊥ =
-    λ front same. c.if-last-eq37.false (last_is _ _ _ _ (sym cut ∙ same)) in (
-      λ h. decimal (c.is_decimal-else-last-eq37.ensures.0 h),
-      λ h. c.is_decimal-else-last-eq37.ensures.1
-          (decimal_back text none other h),
-    )
+    λ front same. c.if-last-eq37.false (last_is _ _ _ _ (sym cut ∙ same)) in
+    let is = c.is_decimal-else-last-eq37.ensures in
+    (λ h. decimal (is.0 h), λ h. is.1 (decimal_back text none other h))

@@ -1,5 +1,4 @@
-use Rattle.dl_measures.proofs.Common.{◌+◌, arith, sym, ap, ◌∙◌, low_at, high_at, count_below, below_nothing}
-use Rattle.std.proofs.Math.Nat.{add-zero}
+use Rattle.dl_measures.proofs.Common.{◌+◌, arith, sym, ap, ◌∙◌, low_at, high_at, count_below, below_nothing, add-zero}
 use Rattle.dl_measures.proofs.Reached.{high_fits}
 use Rattle.dl_measures.proofs.LayerEnds.{low_more, high_more, one_cell_more, mean_fits}
 use Rattle.dl_measures.proofs.layers.finite_layer.Goals as goal
@@ -15,25 +14,16 @@ loop-i-init g c = record {
 }
 
 pub add-distribution-requires : goal.add-distribution-requires
-add-distribution-requires g c = (
-  omega arith,
-  omega (
-    arith,
-    high_fits c.args.g.now (c.args.attach + c.loop-i.i) c.loop-i.distribution.hi
-        c.at.result.hi c.cells.ensures.grid (omega arith) c.loop-i.invariant.high_sum c.at.ensures.high,
-  ),
-)
+add-distribution-requires g c =
+    let fits = high_fits c.args.g.now (c.args.attach + c.loop-i.i) _ _ c.cells.ensures.grid (omega arith)
+    c.loop-i.invariant.high_sum c.at.ensures.high in
+    (omega arith, omega arith)
 
 pub add-mean-requires : goal.add-mean-requires
-add-mean-requires g c = (
-  omega arith,
-  omega (
-    arith,
-    mean_fits c.args.g.now c.args.attach c.loop-i.i c.loop-i.mean.hi c.complement.result.hi
-        c.add-distribution.result.lo c.cells.ensures.grid
-        (omega arith) c.loop-i.invariant.high c.complement.ensures.high,
-  ),
-)
+add-mean-requires g c =
+    let fits = mean_fits c.args.g.now c.args.attach c.loop-i.i _ _ _ c.cells.ensures.grid (omega arith)
+    c.loop-i.invariant.high c.complement.ensures.high in
+    (omega arith, omega arith)
 
 pub loop-i-preserved : goal.loop-i-preserved
 loop-i-preserved g c =

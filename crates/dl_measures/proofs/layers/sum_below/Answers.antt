@@ -14,14 +14,10 @@ loop-x-init g c = record {
 }
 
 pub add-sum-requires : goal.add-sum-requires
-add-sum-requires g c = (
-  omega arith,
-  omega (
-    arith,
-    high_fits c.args.g.now c.loop-x.x c.loop-x.sum.hi c.at.result.hi c.cells.ensures.grid (omega arith)
-        c.loop-x.invariant.high c.at.ensures.high,
-  ),
-)
+add-sum-requires g c =
+    let fits = high_fits c.args.g.now c.loop-x.x _ _ c.cells.ensures.grid (omega arith) c.loop-x.invariant.high
+    c.at.ensures.high in
+    (omega arith, omega arith)
 
 pub loop-x-preserved : goal.loop-x-preserved
 loop-x-preserved g c = record {

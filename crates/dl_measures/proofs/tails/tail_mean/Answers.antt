@@ -1,5 +1,4 @@
-use Rattle.dl_measures.proofs.Common.{◌≡◌, ℕ, ◌+◌, ◌-◌, ◌*◌, ◌/◌, ◌^◌, ◌<◌, ◌≤◌, List, None, length, arith, ap, ap₂, subst, ◌∙◌, div_ceil, pow_pos, ◌over◌, ◌-ℚ◌, lt_not_le, cells_fit, low_at, high_at, spread, low_cdf, IsTight, are_units, IsFirstFound, AtLeast, Loss, One, Cdf, Layer, partial_sums, total, GridEncloses, AreDeclared}
-use Rattle.dl_model.specs.Program.{Tail}
+use Rattle.dl_measures.proofs.Common.{◌≡◌, ℕ, ◌+◌, ◌-◌, ◌*◌, ◌/◌, ◌^◌, ◌<◌, ◌≤◌, List, None, length, arith, ap, ap₂, subst, div_ceil, pow_pos, ◌over◌, ◌-ℚ◌, lt_not_le, cells_fit, low_at, high_at, spread, low_cdf, IsTight, are_units, IsFirstFound, AtLeast, Loss, One, Cdf, Layer, partial_sums, total, GridEncloses, AreDeclared, Tail}
 use Rattle.dl_measures.proofs.TailLaws.{in_order, near_level, short_of, tail_low, tail_high, tail_narrow, tail_most_units, slack_fits, quotient_fits, rest_above}
 use Rattle.dl_measures.proofs.tails.tail_mean.Goals as goal
 
@@ -14,7 +13,7 @@ pub overflow_mul-slack : goal.overflow_mul-slack
 overflow_mul-slack g c =
     let found = subst (IsFirstFound (low_cdf (2 ^ g.row.B) (low_at c.args.g.now)) c.args.p (length c.args.g.now))
     c.in_ok-hi.was c.quantile-bracket.ensures.hi in
-    let inside : c.from.result ≤ length c.args.g.now = omega (arith, found.0, c.from.ensures) in
+    let inside : c.from.result ≤ length c.args.g.now = omega arith in
     omega (
       arith,
       slack_fits c.args.g.now c.from.result c.cells.ensures.grid inside,
@@ -22,19 +21,13 @@ overflow_mul-slack g c =
     )
 
 pub add-requires : goal.add-requires
-add-requires g c = (
-  omega arith,
-  omega (
-    arith,
-    c.point-start.ensures.high,
-    ap₂ (λ s t. s * t) c.from-2.ensures c.units_of_one.ensures,
-    cells_fit c.args.g.now c.quantile-bracket.result.lo c.cells.ensures.grid c.quantile-bracket.ensures.lo.within,
-    c.over_the_rest.ensures.high,
-    quotient_fits c.layer_mean-excess.result.hi c.args.p.den (c.args.p.den - c.args.p.num)
-        (rest_above c.args.p c.requires.below_one)
-        (omega (arith, c.layer_mean-excess.ensures.most, c.requires.mean)) c.requires.small,
-  ),
-)
+add-requires g c =
+    let start = ap₂ (λ s t. s * t) c.from-2.ensures c.units_of_one.ensures in
+    let cells = cells_fit c.args.g.now c.quantile-bracket.result.lo c.cells.ensures.grid
+    c.quantile-bracket.ensures.lo.within in
+    let rest = quotient_fits c.layer_mean-excess.result.hi c.args.p.den (c.args.p.den - c.args.p.num)
+    (rest_above c.args.p c.requires.below_one) (omega arith) c.requires.small in
+    (omega arith, omega arith)
 
 pub returns : goal.returns
 returns g c =
@@ -42,21 +35,15 @@ returns g c =
     c.in_ok-hi.was c.quantile-bracket.ensures.hi in
     let low : c.add.result.lo ≡ c.quantile-bracket.result.lo * 2 ^ g.row.B
     + (c.layer_mean-excess.result.lo - (c.in_ok-hi.hi - c.quantile-bracket.result.lo) * spread c.args.g.now) *
-    c.args.p.den / (c.args.p.den - c.args.p.num) =
-    c.add.ensures.low ∙ ap₂ (λ s t. s + t) (c.point-start.ensures.low
-    ∙ ap₂ (λ s t. s * t) c.from-2.ensures c.units_of_one.ensures)
-    (c.over_the_rest.ensures.low ∙ ap (λ t. (c.layer_mean-excess.result.lo - t) * c.args.p.den /
-    (c.args.p.den - c.args.p.num)) (ap₂ (λ s t. s * t) c.from.ensures c.spread.ensures)) in
+    c.args.p.den / (c.args.p.den - c.args.p.num) = cc in
     let high : c.add.result.hi ≡ c.quantile-bracket.result.lo * 2 ^ g.row.B + div_ceil
-    (c.layer_mean-excess.result.hi * c.args.p.den) (c.args.p.den - c.args.p.num) =
-    c.add.ensures.high ∙ ap₂ (λ s t. s + t) (c.point-start.ensures.high
-    ∙ ap₂ (λ s t. s * t) c.from-2.ensures c.units_of_one.ensures) c.over_the_rest.ensures.high in
+    (c.layer_mean-excess.result.hi * c.args.p.den) (c.args.p.den - c.args.p.num) = cc in
     let near : (us : List Loss) → AreDeclared us → GridEncloses c.args.g.now (total us) → (x : ℕ)
     → c.quantile-bracket.result.lo ≤ x → x < c.in_ok-hi.hi
     → AtLeast (partial_sums us (Cdf x)) (partial_sums us One)
     (c.args.p -ℚ spread c.args.g.now over 2 ^ g.row.B) =
     λ us d e. near_level us (length c.args.g.now) c.quantile-bracket.result.lo c.in_ok-hi.hi c.args.p _
-    (omega (arith, found.0))
+    (omega arith)
     (subst (λ t. IsTight (partial_sums us) (length c.args.g.now) c.quantile-bracket.result.lo t
     c.args.p (spread c.args.g.now over 2 ^ g.row.B)) c.in_ok-hi.was
     (c.quantile-bracket.ensures.tight us (are_units us d) e)) in
@@ -91,7 +78,7 @@ returns g c =
       width = tail_narrow c.args.p (2 ^ g.row.B) c.quantile-bracket.result.lo c.in_ok-hi.hi (length c.args.g.now)
           (spread c.args.g.now) (c.args.mean.hi - c.args.mean.lo)
           c.layer_mean-excess.result.lo c.layer_mean-excess.result.hi c.add.result.lo c.add.result.hi
-          c.requires.below_one c.quantile-bracket.ensures.lo.within (omega (arith, found.0))
+          c.requires.below_one c.quantile-bracket.ensures.lo.within (omega arith)
           c.layer_mean-excess.ensures.width low high;
       most = tail_most_units c.args.p (2 ^ g.row.B) c.quantile-bracket.result.lo
           (length c.args.g.now) c.args.mean.hi c.layer_mean-excess.result.hi c.add.result.hi c.requires.below_one

@@ -1,4 +1,4 @@
-use Rattle.dl_exact.proofs.Laws.{pos_of_inverse}
+use Rattle.dl_model.proofs.Common.{pos_of_inverse}
 use Rattle.dl_model.proofs.Gamma.{gamma_least}
 use Rattle.dl_model.proofs.counts.law_gamma_least.Goals as goal
 

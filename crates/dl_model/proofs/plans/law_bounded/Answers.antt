@@ -1,7 +1,5 @@
 -- By the factor, if the plan has one.
-use Rattle.dl_model.proofs.Common.{Fraction, IsBound, Series}
-use Rattle.dl_model.specs.Program.{Quantity}
-use Rattle.dl_model.specs.Measures.{IsAsked}
+use Rattle.dl_model.proofs.Common.{Fraction, IsBound, Series, Quantity, IsAsked}
 use Rattle.dl_model.proofs.Bounded.{quantity_bounded}
 use Rattle.dl_model.proofs.PlanUnits.{plan_declared}
 use Rattle.dl_model.proofs.CommonPlans.{by_factor, shared_bounded}

@@ -1,7 +1,5 @@
-use Rattle.dl_model.proofs.Common.{zero, suc, arith, subst, sym, Holds, One, Mean, sum_over}
+use Rattle.dl_model.proofs.Common.{zero, suc, arith, subst, sym, Holds, One, Mean, sum_over, declared_mean, declared_by}
 use Rattle.dl_plan.proofs.Shared.{has_factor}
-use Rattle.dl_plan.specs.Means.{declared_mean}
-use Rattle.dl_model.specs.Plans.{declared_by}
 use Rattle.dl_model.proofs.PlanMeans.{mean_at_most, unit_mean, units_mean}
 use Rattle.dl_model.proofs.CommonPlans.{by_factor}
 use Rattle.dl_model.proofs.CommonMeans.{shared_mean, shared_total}

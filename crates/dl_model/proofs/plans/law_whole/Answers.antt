@@ -1,6 +1,5 @@
 -- By the factor, if the plan has one.
-use Rattle.dl_model.proofs.Common.{ℕ, Fraction, whole, ◌<ℚ◌, lt_gap, AtLeast, Series, One, Cdf}
-use Rattle.dl_model.specs.Program.{Quantity}
+use Rattle.dl_model.proofs.Common.{ℕ, Fraction, whole, ◌<ℚ◌, lt_gap, AtLeast, Series, One, Cdf, Quantity}
 use Rattle.dl_model.proofs.Bounded.{adds_up}
 use Rattle.dl_model.proofs.PlanUnits.{plan_declared}
 use Rattle.dl_model.proofs.CommonPlans.{by_factor, shared_whole}

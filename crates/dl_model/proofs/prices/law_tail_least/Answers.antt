@@ -1,4 +1,4 @@
-use Rattle.dl_model.proofs.PriceLaws.{tail_at_quantile}
+use Rattle.dl_model.proofs.TailEnds.{tail_at_quantile}
 use Rattle.dl_model.proofs.prices.law_tail_least.Goals as goal
 
 pub returns : goal.returns

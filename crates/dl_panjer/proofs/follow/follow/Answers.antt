@@ -1,5 +1,4 @@
-use Rattle.dl_panjer.proofs.Common.{◌≡◌, ◌-◌, ◌≤◌, ◌^◌, eqb, List, [], ◌∷◌, length, arith, refl, subst, ◌∙◌, not, Iv, low_at, high_at, low_at_front, high_at_front, low_at_pushed, high_at_pushed, low_next, high_next}
-use Rattle.std.proofs.lemmas.List.Elements.{All-nil, All-push}
+use Rattle.dl_panjer.proofs.Common.{◌≡◌, ◌-◌, ◌≤◌, ◌^◌, eqb, [], ◌∷◌, length, arith, refl, ◌∙◌, not, Iv, low_at, high_at, low_at_front, high_at_front, low_at_pushed, high_at_pushed, low_next, high_next, All-nil, All-push}
 use Rattle.dl_panjer.proofs.Steps.{follows_pushed}
 use Rattle.dl_panjer.proofs.follow.follow.Goals as goal
 
@@ -20,12 +19,10 @@ loop-s-preserved g c =
     let cell = c.next_cell-cell.result in
     let some : 1 ≤ c.loop-s.s = omega arith in
     let low : cell.lo ≡ low_next b c.args.items.now c.args.total c.args.rate (low_at list) (length list - 1) =
-    subst (λ (xs : List (Iv g.row.B)). cell.lo ≡ low_next b c.args.items.now c.args.total c.args.rate (low_at xs)
-    (length xs - 1)) c.deref.ensures.value c.next_cell-cell.ensures.low in
+    rw (← c.deref.ensures.value) c.next_cell-cell.ensures.low in
     let high : cell.hi ≡ high_next (2 ^ g.row.B) b c.args.items.now c.args.total c.args.rate (high_at list)
     (length list - 1) =
-    subst (λ (xs : List (Iv g.row.B)). cell.hi ≡ high_next (2 ^ g.row.B) b c.args.items.now c.args.total c.args.rate
-    (high_at xs) (length xs - 1)) c.deref.ensures.value c.next_cell-cell.ensures.high in
+    rw (← c.deref.ensures.value) c.next_cell-cell.ensures.high in
     rw c.in_ok-push-2.ensures.items (record {
       cells = grind arith;
       small = All-push (λ (x : Iv g.row.B). x.hi ≤ 2 ^ g.row.B) list cell i.small (omega (arith, high));

@@ -1,7 +1,5 @@
-use Rattle.dl_panjer.proofs.Common.{ℕ, suc, ◌≡◌, ◌-◌, ◌≤◌, ◌^◌, eqb, length, arith, ap, sym, subst₂, ◌∙◌, not, div_ceil, low_at, high_at, one_fits, counted, total_pos, low_le_high, mul-le-mul_right, mass_fits, IsGridSize}
-use Rattle.std.proofs.Common.{◌*◌}
+use Rattle.dl_panjer.proofs.Common.{ℕ, suc, ◌≡◌, ◌-◌, ◌≤◌, ◌^◌, eqb, length, arith, ap, ◌∙◌, not, div_ceil, low_at, high_at, one_fits, counted, total_pos, low_le_high, mul-le-mul_right, mass_fits, IsGridSize, ◌*◌, size_few}
 use Rattle.std.proofs.Math.Nat.{le_trans}
-use Rattle.dl_grid.proofs.Room.{size_few}
 use Rattle.dl_panjer.proofs.Reading.{low_at_most, high_at_most}
 use Rattle.dl_panjer.proofs.Steps.{high_counted, next_order, step_fits, cell_low, cell_high}
 use Rattle.dl_panjer.proofs.follow.next_cell.Goals as goal
@@ -63,8 +61,7 @@ invariant_of-result-clause-ordered g c =
     (length cells) _ _ _ _ c.requires.size.some c.sums_before-low.ensures.low c.from-total.ensures num divisor in
     let high = c.high_end.ensures ∙ cell_high (2 ^ g.row.B) b c.args.items.now c.args.total c.args.rate (high_at cells)
     (length cells) _ _ _ _ c.requires.size.some c.sums_before-low.ensures.high c.from-total.ensures num divisor in
-    subst₂ (λ x y. x ≤ y) (sym low) (sym high)
-    (next_order b c.args.items.now c.args.total (2 ^ g.row.B) (length cells - 1)
+    rw (low, high) (next_order b c.args.items.now c.args.total (2 ^ g.row.B) (length cells - 1)
     (total_pos c.args.items.now c.args.total w) w.sum c.args.rate c.requires.rate
     (low_at cells) (high_at cells) (low_le_high cells) (low_at_most cells c.requires.small))
 

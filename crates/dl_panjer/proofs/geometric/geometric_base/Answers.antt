@@ -1,12 +1,9 @@
-use Rattle.dl_panjer.proofs.Common.{ℕ, ◌≡◌, ◌+◌, ◌*◌, ◌/◌, ◌^◌, ◌<◌, ◌≤◌, List, length, false, arith, rules, sym, ap, ap₂, subst, subst₂, ◌∙◌, All, div_ceil, Fraction, ◌over◌, ◌+ℚ◌, ◌*ℚ◌, ◌/ℚ◌, ◌≤ℚ◌, whole, IsFloor, IsCeiling, floor_div, ceiling_div, over_le, one_pos, Iv, low_at, high_at, spread, up, one_fits, IsGridSize, Item, Sev, probability_of, num_le_den, Follows}
+use Rattle.dl_panjer.proofs.Common.{ℕ, ◌≡◌, ◌+◌, ◌*◌, ◌/◌, ◌^◌, ◌<◌, ◌≤◌, List, length, false, arith, rules, sym, ap, ap₂, subst, ◌∙◌, All, div_ceil, Fraction, ◌over◌, ◌+ℚ◌, ◌*ℚ◌, ◌/ℚ◌, ◌≤ℚ◌, whole, IsFloor, IsCeiling, floor_div, ceiling_div, over_le, one_pos, Iv, low_at, high_at, spread, up, one_fits, IsGridSize, Item, Sev, probability_of, num_le_den, Follows, gamma_of, compound, GridEncloses, IsGeometricBase}
 use Rattle.dl_iv.specs.Enclosure.{LiesIn}
 use Rattle.dl_panjer.proofs.Recursions.{rate_of}
 use Rattle.dl_panjer.proofs.Starts.{reciprocal, ceiling_near, start_small, units_of_reciprocal}
 use Rattle.dl_panjer.proofs.Grids.{IsMade, made_of, geometric_is_base, geometric_grid, geometric_encloses, geometric_widths, items_positive, items_weighted}
 use Rattle.std.proofs.lemmas.Result.{IfOk-weaker}
-use Rattle.dl_model.specs.Counts.{gamma_of}
-use Rattle.dl_model.specs.Family.{compound, GridEncloses}
-use Rattle.dl_panjer.specs.Bases.{IsGeometricBase}
 use Rattle.dl_panjer.proofs.geometric.geometric_base.Goals as goal
 
 at_most_one : (p d : ℕ) → 0 < d → p over (p + d) ≤ℚ whole 1
@@ -33,8 +30,8 @@ based {B} sev p d {v} list {num = num} {den = den} pos mean same is num_is den_i
       made = made_of false sev list same (is ∙ rate_of p d pos ∙ ap (λ t. t /ℚ (whole 1 +ℚ t)) mean) size many
           small follows none;
       made_over = made_of false sev list same is size many small follows none;
-      low = subst₂ (λ a x. a over 2 ^ B ≤ℚ x) (sym at_low) one holds.low;
-      high = subst₂ (λ a x. x ≤ℚ a over 2 ^ B) (sym at_high) one holds.high;
+      low = rw (at_low, ← one) holds.low;
+      high = rw (at_high, ← one) holds.high;
     }
 
 small_start : (B n d num den : ℕ) → 0 < d → B ≤ 56 → num ≡ d → den ≡ n + d → div_ceil (2 ^ B * num) den ≤ 2 ^ B
@@ -57,7 +54,7 @@ follow-requires g c =
       hi,
       items_weighted c.args.sev.now c.as_slice.result.now c.as_slice.ensures,
       items_positive c.args.sev.now c.as_slice.result.now c.as_slice.ensures c.requires.no_zero,
-      subst (λ r. r ≤ℚ whole 1) (sym c.fraction-rate.ensures.value) (at_most_one p d c.shared-num.ensures.positive),
+      rw (← c.fraction-rate.ensures.value) at (at_most_one p d c.shared-num.ensures.positive),
     )
 
 pub grid_of-requires : goal.grid_of-requires
@@ -102,13 +99,13 @@ returns g c =
     record {
       cells = told (λ g. length g ≡ c.args.cells) c.in_ok-list.ensures.cells;
       start_low = told (λ g. IsFloor (whole (2 ^ B) /ℚ (whole 1 +ℚ v)) (low_at g 0))
-          (subst₂ (λ x n. IsFloor x n) units (sym low) (floor_div (2 ^ B * d) (p + d) both));
+          (rw (← units, low) (floor_div (2 ^ B * d) (p + d) both));
       start_high = told (λ g. IsCeiling (whole (2 ^ B) /ℚ (whole 1 +ℚ v)) (high_at g 0))
-          (subst₂ (λ x n. IsCeiling x n) units (sym high) (ceiling_div (2 ^ B * d) (p + d) both));
+          (rw (← units, high) (ceiling_div (2 ^ B * d) (p + d) both));
       follows = told (IsGeometricBase c.args.sev.now v) (geometric_is_base c.args.sev.now v list t.made);
       encloses = told (λ g. GridEncloses g (compound (gamma_of 1 v) (probability_of c.args.sev.now)))
           (geometric_encloses v t.made t.low t.high);
       spread = told (λ g. spread g ≤ up (whole (4 * c.args.cells + 1) *ℚ (whole 1 +ℚ v)))
-          (subst (λ x. spread list ≤ up (whole (4 * c.args.cells + 1) *ℚ (whole 1 +ℚ x))) c.shared-num.ensures.value
+          (rw (← c.shared-num.ensures.value)
           (geometric_widths p d some t.made_over (num_le_den (p over (p + d)) (at_most_one p d some)) near));
     }

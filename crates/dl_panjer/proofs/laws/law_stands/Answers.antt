@@ -1,5 +1,4 @@
-use Rattle.dl_panjer.proofs.Common.{ℕ, ◌^◌, List, length, Fraction, ◌over◌, Iv, low_at, high_at, weight_at, FollowsOutward, total_pos}
-use Rattle.dl_panjer.specs.Bases.{StandsByRecursion}
+use Rattle.dl_panjer.proofs.Common.{ℕ, ◌^◌, List, length, Fraction, ◌over◌, Iv, low_at, high_at, weight_at, FollowsOutward, total_pos, StandsByRecursion}
 use Rattle.dl_panjer.proofs.Base.{low_below, high_above}
 use Rattle.dl_panjer.proofs.Outward.{poisson_outward, geometric_outward}
 use Rattle.dl_panjer.proofs.laws.law_stands.Goals as goal

@@ -1,5 +1,4 @@
-use Rattle.dl_panjer.proofs.Common.{◌≡◌, take}
-use Rattle.std.specs.Prelude.{map}
+use Rattle.dl_panjer.proofs.Common.{◌≡◌, take, map}
 use Rattle.dl_panjer.proofs.made.grid_of.Given as goal
 
 abbrev pub invariant-loop-cell : goal.invariant-loop-cell

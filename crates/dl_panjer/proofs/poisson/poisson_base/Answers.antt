@@ -1,18 +1,10 @@
-use Rattle.dl_panjer.proofs.Common.{ℕ, List, length, ◌+◌, ◌≡◌, ◌*◌, ◌^◌, ◌<◌, ◌≤◌, true, arith, rules, sym, ap, ap₂, subst, ◌∙◌, mul-le-mul, zero-lt-suc, pow_pos, Fraction, ◌over◌, ◌/ℚ◌, ◌≤ℚ◌, whole, over_le, one_pos, le_trans, low_at, high_at, EnclosesExp}
-use Rattle.std.proofs.Common.{◌%◌}
-use Rattle.std.proofs.Math.Nat.{pow-le-pow_right, mod-eq_of_lt}
+use Rattle.dl_panjer.proofs.Common.{ℕ, List, length, ◌+◌, ◌≡◌, ◌*◌, ◌^◌, ◌<◌, ◌≤◌, true, arith, rules, sym, ap, ap₂, subst, ◌∙◌, mul-le-mul, zero-lt-suc, pow_pos, Fraction, ◌over◌, ◌/ℚ◌, ◌≤ℚ◌, whole, over_le, one_pos, le_trans, low_at, high_at, ◌%◌, pow-le-pow_right, mod-eq_of_lt, spread, Iv, poisson, compound, GridEncloses, probability_of, IsPoissonBase, StartsAtExp}
 use Rattle.dl_exp.specs.Ends.{exp_low, exp_high}
 use Rattle.dl_exp.proofs.Terms.{half_parts}
 use Rattle.dl_panjer.proofs.Recursions.{divided}
 use Rattle.dl_panjer.proofs.Starts.{poisson_start}
 use Rattle.dl_panjer.proofs.Grids.{made_of, poisson_is_base, poisson_grid, poisson_encloses, poisson_widths, items_positive, items_weighted}
 use Rattle.std.proofs.lemmas.Result.{IfOk-weaker}
-use Rattle.dl_grid.specs.Cells.{spread}
-use Rattle.dl_iv.specs.declared.interval.Iv.{Iv}
-use Rattle.dl_model.specs.Counts.{poisson}
-use Rattle.dl_model.specs.Family.{compound, GridEncloses}
-use Rattle.dl_plan.specs.Severity.{probability_of}
-use Rattle.dl_panjer.specs.Bases.{IsPoissonBase, StartsAtExp}
 use Rattle.dl_panjer.proofs.poisson.poisson_base.Goals as goal
 
 few_halvings : (h : ℕ) → h ≤ 13 → 2 ^ h ≤ 2 ^ 13
@@ -43,14 +35,16 @@ fraction-rate-requires-clause-small_den g c =
 
 pub exp_neg-start-requires : goal.exp_neg-start-requires
 exp_neg-start-requires g c =
-    let half = subst (λ t. t ≤ℚ 1 over 2) (sym (rate_is c.args.halvings c.args.mean c.requires.halvings
-    c.num.ensures.part c.den.ensures.part c.fraction-rate.ensures.value)) c.requires.half in
+    let e = rate_is c.args.halvings c.args.mean c.requires.halvings c.num.ensures.part c.den.ensures.part
+    c.fraction-rate.ensures.value in
+    let half = rw (← e) at c.requires.half in
     (omega arith, (c.requires.size.scale_above, (c.requires.size.scale_below, half)))
 
 pub follow-requires : goal.follow-requires
 follow-requires g c =
-    let half = subst (λ t. t ≤ℚ 1 over 2) (sym (rate_is c.args.halvings c.args.mean c.requires.halvings
-    c.num.ensures.part c.den.ensures.part c.fraction-rate.ensures.value)) c.requires.half in
+    let e = rate_is c.args.halvings c.args.mean c.requires.halvings c.num.ensures.part c.den.ensures.part
+    c.fraction-rate.ensures.value in
+    let half = rw (← e) at c.requires.half in
     search (
       rules,
       items_weighted c.args.sev.now c.as_slice.result.now c.as_slice.ensures,
@@ -71,7 +65,7 @@ grid_of-requires g c =
         omega arith,
         rw c.deref.ensures.value (poisson_grid made
             (poisson_start v c.exp_neg-start.result (low_at list 0) (high_at list 0)
-            (subst (λ t. EnclosesExp t c.exp_neg-start.result) e c.exp_neg-start.ensures.encloses)
+            (rw e at c.exp_neg-start.ensures.encloses)
             c.in_ok-list.ensures.start_low c.in_ok-list.ensures.start_high)),
       ),
     )
@@ -84,7 +78,7 @@ returns g c =
     let list = c.in_ok-list.list.items in
     let made = made_of true c.args.sev.now list c.as_slice.ensures e c.requires.size
     c.in_ok-list.ensures.cells c.in_ok-list.ensures.small c.in_ok-list.ensures.follows c.requires.no_zero in
-    let holds = subst (λ t. EnclosesExp t c.exp_neg-start.result) e c.exp_neg-start.ensures.encloses in
+    let holds = rw e at c.exp_neg-start.ensures.encloses in
     let told = λ (P : List (Iv g.row.B) → Type 0) (p : P list).
     IfOk-weaker c.grid_of.result _ P (λ made is. subst P (sym (is ∙ c.deref.ensures.value)) p) c.grid_of.ensures in
     record {

@@ -1,5 +1,4 @@
-use Rattle.dl_panjer.proofs.Common.{ℕ, suc, ◌≡◌, ◌-◌, ◌<◌, ◌≤◌, ◌∙◌, Bool, eqb, List, length, take, drop, get_or, arith, rules, ap, subst, All, sum_by, not, sum_by-take-le, low_at, high_at, Item, coefficient, given, next_sum}
-use Rattle.std.proofs.lemmas.List.Elements.{All-take}
+use Rattle.dl_panjer.proofs.Common.{ℕ, suc, ◌≡◌, ◌-◌, ◌<◌, ◌≤◌, ◌∙◌, Bool, eqb, List, length, take, get_or, arith, ap, All, sum_by, not, low_at, high_at, Item, coefficient, given, next_sum, All-take}
 use Rattle.dl_panjer.proofs.ItemSums.{items_next_sum}
 use Rattle.dl_panjer.proofs.Reading.{front, back}
 use Rattle.dl_panjer.proofs.sums.sums_before.Goals as goal
@@ -14,20 +13,8 @@ all_next_sum b items r m ends some bound positive before after =
     let e : m ≡ suc (m - 1) = omega (arith, some) in
     ap (λ k. sum_by (given b ends k) (take r items)) e
     ∙ items_next_sum b (m - 1) r ends items (All-take (λ item. 0 < item.amount) r items positive)
-    (subst (λ k. All (λ item. item.amount ≤ k) (take r items)) e
-    (front (λ item. item.amount ≤ m) items r bound before))
-    (subst (λ k. All (λ item. k < item.amount) (drop r items)) e (back (λ item. m < item.amount) items r bound after))
-
-pub sums_over-requires : goal.sums_over-requires
-sums_over-requires g c =
-    let items = c.args.items.now in
-    let r = c.reached.result in
-    search (
-      rules,
-      All-take (λ item. 0 < item.amount) r items c.requires.no_zero,
-      front (λ item. item.amount ≤ length c.args.cells.now) items r c.reached.ensures.bound c.reached.ensures.before,
-      sum_by-take-le (λ (item : Item). item.weight) items r,
-    )
+    (rw (← e) (front (λ item. item.amount ≤ m) items r bound before))
+    (rw (← e) (back (λ item. m < item.amount) items r bound after))
 
 pub returns-clause-low : goal.returns-clause-low
 returns-clause-low g c =

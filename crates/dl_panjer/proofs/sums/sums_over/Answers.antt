@@ -1,5 +1,4 @@
-use Rattle.dl_panjer.proofs.Common.{◌^◌, ◌∙◌, eqb, ap, arith, length, sum_by, not, low_at, high_at, low_at_read, high_at_read, given, mass_fits}
-use Rattle.std.proofs.lemmas.List.{take_all}
+use Rattle.dl_panjer.proofs.Common.{◌^◌, eqb, arith, length, not, low_at, high_at, low_at_read, high_at_read, mass_fits}
 use Rattle.dl_panjer.proofs.Reading.{low_at_most, high_at_most, leaves, low_small, high_small, more, fits}
 use Rattle.dl_panjer.proofs.sums.sums_over.Goals as goal
 
@@ -53,14 +52,4 @@ items-preserved g c =
       high = more b (high_at c.args.cells.now) n c.args.items.now c.items.item-index _ c.items-test.true
           c.factor-factor.result _ c.product-high.result c.items.high c.factor-factor.ensures high_end
           c.product-high.ensures c.items.invariant.high;
-    }
-
-pub returns : goal.returns
-returns g c =
-    let all = take_all c.items.item-index c.args.items.now c.items-test.false in
-    let b = not (eqb g.row.BY_AMOUNT 0) in
-    let cells = c.args.cells.now in
-    record {
-      low = c.items.invariant.low ∙ ap (sum_by (given b (low_at cells) (length cells))) all;
-      high = c.items.invariant.high ∙ ap (sum_by (given b (high_at cells) (length cells))) all;
     }

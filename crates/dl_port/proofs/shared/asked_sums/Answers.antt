@@ -1,37 +1,7 @@
-use Rattle.dl_port.proofs.Common.{◌<◌, length, arith, ap}
+use Rattle.dl_port.proofs.Common.{◌<◌, length, arith}
 use Rattle.dl_port.proofs.Added.{long_enough}
-use Rattle.dl_port.proofs.PartSums.{no_first, first_taken, next_taken, first_narrow, next_narrow, all_of_them}
+use Rattle.dl_port.proofs.PartSums.{first_taken, next_taken, first_narrow, next_narrow, all_of_them}
 use Rattle.dl_port.proofs.shared.asked_sums.Goals as goal
-
-pub push_without-requires : goal.push_without-requires
-push_without-requires g c =
-    let none = ap length c.new-others.ensures.items in (
-      omega arith,
-      (
-        omega (arith, c.requires.units),
-        (
-          none,
-          (
-            c.requires.asked,
-            (
-              c.requires.some,
-              (
-                c.requires.in_each,
-                (
-                  no_first c.args.cells c.args.units.now,
-                  record {
-                    there = λ i h. absurd (omega (arith, h, none));
-                    each = λ i h. absurd (omega (arith, h, none));
-                    left = omega (arith, none, c.in_ok-ends.ensures.as_many);
-                    ends = c.in_ok-ends.ensures.each;
-                  },
-                ),
-              ),
-            ),
-          ),
-        ),
-      ),
-    )
 
 pub loop-i-init : goal.loop-i-init
 loop-i-init g c = record {
@@ -65,10 +35,3 @@ loop-i-preserved g c =
 pub returns-clause-total : goal.returns-clause-total
 returns-clause-total g c = all_of_them c.args.cells c.loop-i.i c.args.units.now c.loop-i.total
     (omega arith) c.loop-i.invariant.total c.loop-i.invariant.narrow
-
-pub returns-clause-others : goal.returns-clause-others
-returns-clause-others g c = record {
-  as_many = omega (arith, c.loop-i.invariant.many);
-  there = λ i h. c.loop-i.invariant.parts.there i (omega (arith, h, c.loop-i.invariant.many));
-  each = λ i h. c.loop-i.invariant.parts.each i (omega (arith, h, c.loop-i.invariant.many));
-}

@@ -1,6 +1,4 @@
-use Rattle.dl_power.proofs.Common.{ℕ, ◌≡◌, ◌+◌, ◌*◌, ◌/◌, ◌^◌, ◌≤◌, List, take, arith, rules, ap, ◌∙◌, get_or, div_ceil, sum_by_more, mass_low, Item, weight_at, weight_sum}
-use Rattle.std.proofs.lemmas.List.{take_all}
-use Rattle.std.proofs.lemmas.List.Sums.{sum_by_more_le}
+use Rattle.dl_power.proofs.Common.{ℕ, ◌≡◌, ◌+◌, ◌*◌, ◌/◌, ◌^◌, ◌≤◌, List, take, arith, rules, ap, ◌∙◌, get_or, div_ceil, sum_by_more, mass_low, Item, weight_at, weight_sum, take_all, sum_by_more_le}
 use Rattle.dl_power.proofs.WeightLists.{next_cell, mass_next, mass_room}
 use Rattle.dl_power.proofs.Enclosing.{listed_claim}
 use Rattle.dl_power.proofs.claims.claim_grid.Goals as goal

@@ -1,5 +1,4 @@
-use Rattle.dl_power.proofs.Common.{ℕ, ◌≡◌, ◌+◌, ◌-◌, ◌^◌, arith, refl, rules, ap, ◌∙◌, add-one, sub-zero, pow_pos, low_at, high_at, spread, scale_of, size_of, size_within, high_joined, mixed_none}
-use Rattle.dl_grid.proofs.CellSets.{at_zero_small}
+use Rattle.dl_power.proofs.Common.{ℕ, ◌≡◌, ◌+◌, ◌-◌, ◌^◌, arith, refl, rules, ap, ◌∙◌, add-one, sub-zero, pow_pos, low_at, high_at, spread, scale_of, size_of, size_within, high_joined, mixed_none, at_zero_small}
 use Rattle.dl_power.proofs.WeightLists.{shares_below, shares_next, shares_fit}
 use Rattle.dl_power.proofs.HornerGrids.{starts_at, goes_on_at, one_between, ends}
 use Rattle.dl_power.proofs.Spreads.{mixed_more}

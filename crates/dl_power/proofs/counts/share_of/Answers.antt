@@ -1,5 +1,4 @@
-use Rattle.dl_power.proofs.Common.{◌*◌, ◌/◌, ◌^◌, rules, ap, ◌∙◌, div_ceil, weight_at}
-use Rattle.dl_model.proofs.WeightLaws.{weight_within}
+use Rattle.dl_power.proofs.Common.{◌*◌, ◌/◌, ◌^◌, rules, ap, ◌∙◌, div_ceil, weight_at, weight_within}
 use Rattle.dl_power.proofs.counts.share_of.Goals as goal
 
 pub share-requires : goal.share-requires

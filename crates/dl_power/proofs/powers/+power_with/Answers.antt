@@ -1,6 +1,4 @@
-use Rattle.dl_power.proofs.Common.{◌+◌, ◌-◌, ◌/◌, ◌^◌, arith, sym, ap, subst, ◌∙◌, length-take-le, pow_pos, IfOk-weaker, Iv, spread, GridEncloses, times_itself, size_of, size_within, spread_none}
-use Rattle.std.proofs.lemmas.List.Sums.{sum_by-take-le}
-use Rattle.dl_grid.proofs.WidthLaws.{pw_one}
+use Rattle.dl_power.proofs.Common.{◌+◌, ◌-◌, ◌/◌, ◌^◌, arith, sym, ap, ◌∙◌, length-take-le, pow_pos, IfOk-weaker, Iv, spread, size_of, size_within, spread_none, sum_by-take-le, pw_one}
 use Rattle.dl_power.proofs.Enclosing.{no_copy, first_cells, squared, one_more}
 use Rattle.dl_power.proofs.Spreads.{squared_width, one_more_width}
 use Rattle.dl_exact.proofs.Results.{if_ok_two, if_ok_three}
@@ -26,8 +24,7 @@ returns-then-n-eq0-clause-spread g t c =
 pub returns-then-n-eq1-clause-encloses : goal.returns-then-n-eq1-clause-encloses
 returns-then-n-eq1-clause-encloses g t c =
     rw c.if-n-eq1.true (IfOk-weaker c.truncate.result _ _ (λ grid e F p of_base.
-    subst (λ cells. GridEncloses cells (times_itself F 1)) (sym e)
-    (first_cells c.args.base.now c.args.cells F (length-take-le c.args.cells c.args.base.now c.requires.within)
+    rw e (first_cells c.args.base.now c.args.cells F (length-take-le c.args.cells c.args.base.now c.requires.within)
     c.requires.within of_base)) c.truncate.ensures)
 
 pub returns-then-n-eq1-clause-spread : goal.returns-then-n-eq1-clause-spread

@@ -1,5 +1,4 @@
-use Rattle.dl_power.proofs.Common.{◌^◌, arith, sym, ◌∙◌, spread_none}
-use Rattle.dl_grid.proofs.CellSets.{low_emptied, high_emptied, mass_none}
+use Rattle.dl_power.proofs.Common.{◌^◌, arith, sym, ◌∙◌, spread_none, low_emptied, high_emptied, mass_none}
 use Rattle.dl_power.proofs.shares.nowhere.Goals as goal
 
 pub returns-clause-low : goal.returns-clause-low

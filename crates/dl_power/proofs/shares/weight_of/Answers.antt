@@ -1,5 +1,4 @@
-use Rattle.dl_power.proofs.Common.{arith, Item, part_of}
-use Rattle.std.proofs.lemmas.List.Sums.{sum_by_more_le_part}
+use Rattle.dl_power.proofs.Common.{arith, Item, part_of, sum_by_more_le_part}
 use Rattle.dl_power.proofs.WeightLists.{part_le}
 use Rattle.dl_power.proofs.shares.weight_of.Goals as goal
 

@@ -1,5 +1,4 @@
-use Rattle.dl_power.proofs.Common.{◌^◌, arith, sym, mixed_none}
-use Rattle.dl_grid.proofs.WidthLaws.{mixed_next}
+use Rattle.dl_power.proofs.Common.{◌^◌, arith, sym, mixed_none, mixed_next}
 use Rattle.dl_power.proofs.widths.spread_of_counts.Goals as goal
 
 pub loop-init : goal.loop-init

@@ -10,10 +10,8 @@ row_value-requires-clause-ask c =
     let rows : List Row = c.args.report.now.rows in
     let at = c.loop-row.row-index in
     let is = c.as_slice-row-items.ensures in
-    let lt : at < length rows = subst (λ (list : List Row). at < length list) is c.loop-row-test.true in
-    let row : c.row-item.result ≡ get_or rows at c.row-item.result =
-    subst (λ list. c.row-item.result ≡ get_or list at c.row-item.result) is
-    c.row-item.is in
+    let lt : at < length rows = rw is at c.loop-row-test.true in
+    let row : c.row-item.result ≡ get_or rows at c.row-item.result = rw is at c.row-item.is in
     subst (λ (row : Row). IsUtf8 row.ask) (sym row)
     (All-get_or (λ (row : Row). IsUtf8 row.ask) rows at c.row-item.result lt c.requires.asks)
 

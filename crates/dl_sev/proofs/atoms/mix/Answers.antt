@@ -1,6 +1,5 @@
 -- The amounts with the weights of the products are the mixture.
-use Rattle.dl_sev.proofs.Common.{◌∙◌, ◌++◌, map, get_or, ap, subst, ◌over◌, amounts_of, probability, mixture_of, mixed_probability, sum_of}
-use Rattle.dl_plan.specs.Fine.{IsFineTo30Bits}
+use Rattle.dl_sev.proofs.Common.{◌∙◌, ◌++◌, map, get_or, ap, ◌over◌, amounts_of, probability, mixture_of, mixed_probability, sum_of}
 use Rattle.dl_sev.proofs.Mixed.{amounts-more, probs-more, weighed-back, mixture_whole, mixture_one, firsts, seconds}
 use Rattle.dl_sev.proofs.atoms.mix.Goals as goal
 
@@ -36,10 +35,3 @@ returns-clause-step c = λ x.
     c.in_ok-merge.ensures x
     ∙ ap (λ ps. probability ps x) (weighed-back (mixture_of t c.args.atoms.now c.args.weights.now.weights)
     c.deref-3.result.now c.in_ok-whole.whole amounts probs)
-
-pub returns-clause-fine : goal.returns-clause-fine
-returns-clause-fine c =
-    let all = mixture_whole c.args.weights.now.total c.args.atoms.now c.args.weights.now.weights c.atoms.at
-    c.atoms-test.false c.requires.lengths in
-    let told = rw c.in-Some.is at c.common_denominator_of.ensures in
-    subst IsFineTo30Bits (c.deref.ensures.value ∙ c.atoms.invariant.probs ∙ ap seconds all) told.0

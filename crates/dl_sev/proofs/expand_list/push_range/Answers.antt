@@ -1,13 +1,6 @@
 -- Ranges of one number, and others.
-use Rattle.dl_sev.proofs.Common.{inl, inr}
-use Rattle.dl_sev.proofs.Ranged.{equal_if, not_equal}
+use Rattle.dl_sev.proofs.Ranged.{equal_if}
 use Rattle.dl_sev.proofs.expand_list.push_range.Goals as goal
 
 pub push_one-requires-clause-one : goal.push_one-requires-clause-one
 push_one-requires-clause-one c = equal_if c.args.range.now.from c.args.range.now.to c.if-eq.ensures
-
-pub shared_denominator-requires : goal.shared_denominator-requires
-shared_denominator-requires c = elim c.requires.range.shared [
-  | inl one ↦ absurd (not_equal c.args.range.now.from c.args.range.now.to c.if-eq.ensures one)
-  | inr shared ↦ shared
-]

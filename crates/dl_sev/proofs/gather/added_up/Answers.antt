@@ -1,16 +1,7 @@
 -- One item more is added to the last one, or comes after it.
-use Rattle.dl_sev.proofs.Common.{arith}
-use Rattle.dl_sev.proofs.Gathering.{last-within, gathered-same, gathered-next, rising-with, positive-with, sum-all, weights-all}
+use Rattle.dl_sev.proofs.Gathering.{gathered-same, gathered-next, rising-with, positive-with}
 use Rattle.dl_sev.proofs.gather.added_up.Goals as goal
 use Rattle.dl_sev.proofs.gather.added_up.Goals.{then-item-last, else-item-last+in_ok-push_weighed}
-
-pub overflow_add-last : goal.overflow_add-last
-overflow_add-last c = omega (
-  arith,
-  last-within c.args.items.now c.items.item-index c.items.made.items c.items.last (record { amount = 0; weight = 0 })
-      c.items-test.true c.items.invariant,
-  c.requires.within,
-)
 
 pub items-preserved : goal.items-preserved
 items-preserved c = elim c.if-item-last.branch [
@@ -31,12 +22,3 @@ returns-clause-rising c = rw c.in_ok-push_weighed-2.ensures
 pub returns-clause-positive : goal.returns-clause-positive
 returns-clause-positive c =
     rw c.in_ok-push_weighed-2.ensures (positive-with c.items.made.items c.items.last c.items.invariant.positive)
-
-pub returns-clause-sum : goal.returns-clause-sum
-returns-clause-sum c = rw c.in_ok-push_weighed-2.ensures
-    (sum-all c.args.items.now c.items.item-index c.items.made.items c.items.last c.items-test.false c.items.invariant)
-
-pub returns-clause-weights : goal.returns-clause-weights
-returns-clause-weights c = rw c.in_ok-push_weighed-2.ensures
-    (weights-all c.args.items.now c.items.item-index c.items.made.items c.items.last c.items-test.false
-    c.items.invariant)

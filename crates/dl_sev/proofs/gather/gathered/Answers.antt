@@ -1,19 +1,9 @@
 -- A sort changes no sum.
-use Rattle.dl_sev.proofs.Common.{ℕ, ◌≡◌, ◌∙◌, ◌==◌, ◌<◌, ◌≤◌, List, cond, ap, ap₂, sym, subst, arith, ◌^◌, ◌over◌, Item, weight_sum, weight_at}
+use Rattle.dl_sev.proofs.Common.{ℕ, ◌≡◌, ◌∙◌, ◌==◌, ◌<◌, ◌≤◌, List, cond, ap, ap₂, sym, subst, ◌^◌, ◌over◌, Item, weight_sum, weight_at}
 use Rattle.dl_sev.proofs.Gathering.{some_items}
 use Rattle.std.proofs.Common.{IsPermutation}
 use Rattle.std.proofs.lemmas.List.Sorted.{sum_by-IsPermutation}
 use Rattle.dl_sev.proofs.gather.gathered.Goals as goal
-
-pub added_up-requires-clause-within : goal.added_up-requires-clause-within
-added_up-requires-clause-within c =
-    omega (
-      arith,
-      ap weight_sum c.deref.ensures.value,
-      sum_by-IsPermutation
-          (λ (i : Item). i.weight) c.args.items.items c.sorted-sorted.result.items c.sorted-sorted.ensures.same,
-      c.requires.within,
-    )
 
 same_sum : (xs ys zs : List Item) → IsPermutation xs ys → weight_sum zs ≡ weight_sum ys → weight_sum zs ≡ weight_sum xs
 same_sum xs ys zs moved e = e ∙ sum_by-IsPermutation (λ (i : Item). i.weight) xs ys moved

@@ -1,5 +1,5 @@
 -- The clause changes no weight.
-use Rattle.dl_sev.proofs.Common.{ℕ, ◌≡◌, ◌∙◌, ◌<◌, ◌≤◌, ◌^◌, map, ap, sym, subst, kept, with_amount, severity_total, ◌over◌, Sev, weight_sum, weight_at, probability_of}
+use Rattle.dl_sev.proofs.Common.{ℕ, ◌≡◌, ◌∙◌, ◌<◌, map, ap, sym, subst, kept, with_amount, severity_total, ◌over◌, Sev, weight_sum, weight_at, probability_of}
 use Rattle.dl_sev.proofs.Mapped.{mapped_sum, mapped_means, if_ok}
 use Rattle.dl_sev.proofs.kept_whole.cede_whole.Goals as goal
 
@@ -8,12 +8,6 @@ gathered-requires-clause-some c =
     let f : ℕ → ℕ = λ x. (kept c.args.cede.now x).num in
     let items = c.in_ok-items_whole.ensures ∙ ap (map (with_amount f)) c.as_slice.ensures in
     subst (λ n. 0 < n) (sym (mapped_sum c.args.sev.now f _ items)) (severity_total c.args.sev.now)
-
-pub gathered-requires-clause-within : goal.gathered-requires-clause-within
-gathered-requires-clause-within c =
-    let f : ℕ → ℕ = λ x. (kept c.args.cede.now x).num in
-    let items = c.in_ok-items_whole.ensures ∙ ap (map (with_amount f)) c.as_slice.ensures in
-    subst (λ n. n ≤ 2 ^ 30) (sym (mapped_sum c.args.sev.now f _ items)) c.args.sev.now.weighted.within
 
 pub returns : goal.returns
 returns c =

@@ -1,5 +1,5 @@
 -- The layer changes no weight.
-use Rattle.dl_sev.proofs.Common.{ℕ, ◌≡◌, ◌∙◌, ◌<◌, ◌≤◌, ◌^◌, map, ap, sym, subst, ◌over◌, Sev, weight_sum, weight_at, probability_of, layer, with_amount, severity_total}
+use Rattle.dl_sev.proofs.Common.{ℕ, ◌≡◌, ◌∙◌, ◌<◌, map, ap, sym, subst, ◌over◌, Sev, weight_sum, weight_at, probability_of, layer, with_amount, severity_total}
 use Rattle.dl_sev.proofs.Mapped.{mapped_sum, mapped_means, if_ok}
 use Rattle.dl_sev.proofs.layers.cut.Goals as goal
 
@@ -9,13 +9,6 @@ gathered-requires-clause-some c =
     (map (with_amount (layer c.args.limit c.args.attach))) c.as_slice.ensures in
     subst (λ n. 0 < n) (sym (mapped_sum c.args.sev.now (layer c.args.limit c.args.attach) _ items))
     (severity_total c.args.sev.now)
-
-pub gathered-requires-clause-within : goal.gathered-requires-clause-within
-gathered-requires-clause-within c =
-    let items = c.in_ok-items_cut.ensures ∙ ap
-    (map (with_amount (layer c.args.limit c.args.attach))) c.as_slice.ensures in
-    subst (λ n. n ≤ 2 ^ 30) (sym (mapped_sum c.args.sev.now
-    (layer c.args.limit c.args.attach) _ items)) c.args.sev.now.weighted.within
 
 pub returns : goal.returns
 returns c =

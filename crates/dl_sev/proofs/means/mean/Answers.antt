@@ -4,10 +4,6 @@ use Rattle.dl_plan.specs.Weighted.{weighted_sum}
 use Rattle.dl_plan.proofs.Shares.{mean-shares}
 use Rattle.dl_sev.proofs.means.mean.Goals as goal
 
-pub weighted_sum-sum-requires-clause-within : goal.weighted_sum-sum-requires-clause-within
-weighted_sum-sum-requires-clause-within c =
-    omega (arith, ap weight_sum c.as_slice.ensures, c.args.sev.now.weighted.sum, c.args.sev.now.weighted.within)
-
 pub make-requires : goal.make-requires
 make-requires c = severity_total c.args.sev.now
 

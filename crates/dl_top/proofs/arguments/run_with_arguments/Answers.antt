@@ -1,7 +1,5 @@
 -- What `run` promises of the words behind the program's name.
-use Rattle.std.proofs.Common.{◌≡◌, ◌∙◌, drop}
-use Rattle.std.specs.Vec.Iter.{into_iter_items}
-use Rattle.dl_top.specs.declared.status.Status.TheVariants.{OutOfMemory}
+use Rattle.dl_top.proofs.Common.{◌≡◌, ◌∙◌, drop, into_iter_items, OutOfMemory}
 use Rattle.dl_top.proofs.RunLaws.{moved_nothing}
 use Rattle.dl_top.proofs.arguments.run_with_arguments.Goals as goal
 

@@ -1,6 +1,5 @@
 -- What was taken so far, and then what is left.
-use Rattle.std.proofs.Common.{◌≡◌, ◌++◌, drop}
-use Rattle.std.specs.Vec.Iter.{into_iter_items}
+use Rattle.dl_top.proofs.Common.{◌≡◌, ◌++◌, drop, into_iter_items}
 use Rattle.dl_top.proofs.arguments.words_behind.Given as goal
 
 abbrev pub invariant-loop-word : goal.invariant-loop-word

@@ -1,5 +1,4 @@
-use Rattle.std.proofs.Common.{◌≡◌, ◌∙◌, ◌+◌, ◌++◌, codes, ap, arith, rules}
-use Rattle.dl_top.specs.Made.{value_after, unit_text, unit_lines, made_of}
+use Rattle.dl_top.proofs.Common.{◌≡◌, ◌∙◌, ◌+◌, ◌++◌, codes, ap, arith, rules, value_after, unit_text, unit_lines, made_of}
 use Rattle.dl_top.proofs.MadeLines.{line_next, draws_next}
 use Rattle.dl_top.proofs.generator.made.Goals as goal
 

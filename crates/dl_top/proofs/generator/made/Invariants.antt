@@ -1,5 +1,4 @@
-use Rattle.std.proofs.Common.{◌≡◌, ◌*◌, ◌++◌, codes}
-use Rattle.dl_top.specs.Made.{value_after, unit_lines}
+use Rattle.dl_top.proofs.Common.{◌≡◌, ◌*◌, ◌++◌, codes, value_after, unit_lines}
 use Rattle.dl_top.proofs.generator.made.Given as goal
 
 abbrev pub invariant-loop-before : goal.invariant-loop-before

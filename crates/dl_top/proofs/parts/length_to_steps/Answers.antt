@@ -1,7 +1,5 @@
 -- At each place the bytes before it are no line that divides.
-use Rattle.std.proofs.Common.{◌≡◌, ◌+◌, ◌-◌, ◌&&◌, ◌==◌, Bool, true, false, ℕ, List, length, take, drop, get_or, ap, ap₂, sym, refl, ◌∙◌, arith}
-use Rattle.std.proofs.lemmas.List.{take_all, length-drop}
-use Rattle.dl_top.specs.Inputs.{is_divided, length_to_steps}
+use Rattle.dl_top.proofs.Common.{◌≡◌, ◌+◌, ◌-◌, ◌&&◌, ◌==◌, Bool, true, false, ℕ, List, length, take, drop, get_or, ap, ap₂, sym, refl, ◌∙◌, arith, take_all, length-drop, is_divided, length_to_steps}
 use Rattle.dl_top.proofs.Division.{ends_at, goes_at, none_at_end}
 use Rattle.dl_top.proofs.parts.length_to_steps.Goals.{else-begins-via-then-begins+else-is_divided, else-begins-via-else-begins}
 use Rattle.dl_top.proofs.parts.length_to_steps.Goals as goal
@@ -23,13 +21,10 @@ returns-then-is_divided-clause-length c =
     let t = c.args.text.now in
     let at = c.loop-at.at in
     let before : length_to_steps true t ≡ at + length_to_steps c.loop-at.begins (drop at t) = c.loop-at.invariant in
-    omega (
-      arith,
-      before,
-      ends_at t c.loop-at.begins at c.loop-at-test.true
-          (both c.loop-at.begins c.is_divided.result t at true c.is_divided.ensures c.if-is_divided.true
-          c.if-begins.true),
-    )
+    let bound = ends_at t c.loop-at.begins at c.loop-at-test.true
+    (both c.loop-at.begins c.is_divided.result t at true c.is_divided.ensures c.if-is_divided.true
+    c.if-begins.true) in
+    omega arith
 
 pub loop-at-preserved : goal.loop-at-preserved
 loop-at-preserved c =

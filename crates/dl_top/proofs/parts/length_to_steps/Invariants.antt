@@ -1,6 +1,5 @@
 -- The bytes before a place, and those from it on.
-use Rattle.std.proofs.Common.{◌≡◌, ◌+◌, true, drop}
-use Rattle.dl_top.specs.Inputs.{length_to_steps}
+use Rattle.dl_top.proofs.Common.{◌≡◌, ◌+◌, true, drop, length_to_steps}
 use Rattle.dl_top.proofs.parts.length_to_steps.Given as goal
 
 abbrev pub invariant-loop-at : goal.invariant-loop-at

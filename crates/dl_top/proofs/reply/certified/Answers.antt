@@ -1,6 +1,5 @@
 -- A certificate is written where the plan is covered.
-use Rattle.std.proofs.Common.{refl}
-use Rattle.dl_top.specs.Answers.{certified, not_covered}
+use Rattle.dl_top.proofs.Common.{refl, certified, not_covered}
 use Rattle.dl_top.proofs.ReplyLaws.{refused, certifies_of_cert}
 use Rattle.dl_top.proofs.reply.certified.Goals as goal
 

@@ -1,6 +1,5 @@
 -- A program that breaks a rule is refused, and the others are answered by their plans.
-use Rattle.std.proofs.Common.{◌≡◌, ◌≤◌, ◌^◌, arith}
-use Rattle.std.proofs.Math.Nat.{pow-le-pow_right}
+use Rattle.dl_top.proofs.Common.{◌≡◌, ◌≤◌, ◌^◌, arith, pow-le-pow_right}
 use Rattle.dl_top.proofs.ReplyLaws.{refused_typing}
 use Rattle.dl_top.proofs.reply.reply_by_plan.Goals as goal
 

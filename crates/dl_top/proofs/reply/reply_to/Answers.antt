@@ -1,8 +1,5 @@
 -- The reply to good words is that to the text they are about, and other words are refused.
-use Rattle.std.proofs.Common.{refl, map, string_bytes, ℕ, List}
-use Rattle.dl_top.specs.Inputs.{Say}
-use Rattle.dl_top.specs.Answers.{usage}
-use Rattle.dl_top.specs.Replies.{IsReply}
+use Rattle.dl_top.proofs.Common.{refl, map, string_bytes, ℕ, List, Say, usage, IsReply}
 use Rattle.dl_top.proofs.ReplyLaws.{refused, always, none_taken, text_was_read, told, are_ready, limit_said, made_input, read_input}
 use Rattle.dl_top.proofs.reply.reply_to.Goals as goal
 

@@ -1,7 +1,5 @@
 -- A fault of the asks refuses them.
-use Rattle.std.proofs.Common.{refl}
-use Rattle.dl_eval.specs.declared.fault.EvalFault.TheVariants.{AskBeyond, UnknownUnit, NoShare, TooWide}
-use Rattle.dl_top.specs.Answers.{asking}
+use Rattle.dl_top.proofs.Common.{refl, AskBeyond, UnknownUnit, NoShare, TooWide, asking}
 use Rattle.dl_top.proofs.ReplyLaws.{refused}
 use Rattle.dl_top.proofs.reply.reply_to_asks.Goals as goal
 

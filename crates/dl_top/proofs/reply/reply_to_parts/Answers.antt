@@ -1,6 +1,5 @@
 -- A program is refused at its first bad place.
-use Rattle.std.proofs.Common.{arith}
-use Rattle.dl_lexer.specs.Cutting.{IsBad}
+use Rattle.dl_top.proofs.Common.{arith, IsBad}
 use Rattle.dl_top.proofs.ReplyLaws.{refused_bad}
 use Rattle.dl_top.proofs.reply.reply_to_parts.Goals as goal
 

@@ -1,8 +1,5 @@
 -- The reply to what the source has left.
-use Rattle.std.proofs.Common.{◌≡◌, ◌+◌, ◌≤◌, refl, inl, arith, length, ℕ, List}
-use Rattle.dl_top.specs.Inputs.{Say, limit_of}
-use Rattle.dl_top.specs.Answers.{not_read, too_long}
-use Rattle.dl_top.specs.Replies.{IsReply}
+use Rattle.dl_top.proofs.Common.{◌≡◌, ◌+◌, ◌≤◌, refl, inl, arith, length, ℕ, List, Say, limit_of, not_read, too_long, IsReply}
 use Rattle.dl_top.proofs.ReplyLaws.{refused, told, taken, always}
 use Rattle.dl_top.proofs.reply.reply_to_source.Goals as goal
 

@@ -1,9 +1,6 @@
 -- An input is refused where it, or its program, is too long.
-use Rattle.std.proofs.Common.{◌<◌, [], length, refl, inl, inr, arith, subst}
+use Rattle.dl_top.proofs.Common.{◌<◌, [], length, refl, inl, inr, arith, subst, TooLong, limit_of, too_long}
 use Rattle.dl_limits.specs.Limits.{most_text}
-use Rattle.dl_top.specs.declared.fault.Fault.TheVariants.{TooLong}
-use Rattle.dl_top.specs.Inputs.{limit_of}
-use Rattle.dl_top.specs.Answers.{too_long}
 use Rattle.dl_top.proofs.ReplyLaws.{refused}
 use Rattle.dl_top.proofs.reply.reply_to_text.Goals as goal
 

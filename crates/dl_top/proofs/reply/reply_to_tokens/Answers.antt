@@ -1,5 +1,5 @@
 -- Tokens that spell no program are refused where they stop.
-use Rattle.std.proofs.Common.{length}
+use Rattle.dl_top.proofs.Common.{length}
 use Rattle.dl_parser.proofs.Covered.{covered_inside}
 use Rattle.dl_top.proofs.ReplyLaws.{refused_continuous, refused_syntax, spells_program}
 use Rattle.dl_top.proofs.reply.reply_to_tokens.Goals as goal

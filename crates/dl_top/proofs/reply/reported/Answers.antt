@@ -1,7 +1,5 @@
 -- A report answers the asks.
-use Rattle.std.proofs.Common.{subst, sym, []}
-use Rattle.dl_top.specs.declared.status.Status.TheVariants.{Done}
-use Rattle.dl_top.specs.Answers.{Answers, reported}
+use Rattle.dl_top.proofs.Common.{subst, sym, [], Done, Answers, reported}
 use Rattle.dl_top.proofs.ReplyLaws.{answered_text, answered_digits}
 use Rattle.dl_top.proofs.reply.reported.Goals as goal
 

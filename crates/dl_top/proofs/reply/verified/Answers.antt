@@ -1,7 +1,5 @@
 -- Steps are verified where they certify the plan.
-use Rattle.std.proofs.Common.{refl, sym, subst}
-use Rattle.dl_cert.specs.Verified.{IsVerified, IsBadStep}
-use Rattle.dl_top.specs.Answers.{AreVerified, verified, not_covered, bad_step}
+use Rattle.dl_top.proofs.Common.{refl, sym, subst, IsVerified, IsBadStep, AreVerified, verified, not_covered, bad_step}
 use Rattle.dl_top.proofs.ReplyLaws.{refused, verifies_of_cert, in_answer, answer_is_of_text}
 use Rattle.dl_top.proofs.reply.verified.Goals as goal
 

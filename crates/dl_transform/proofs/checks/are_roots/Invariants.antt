@@ -1,5 +1,4 @@
-use Rattle.dl_transform.proofs.Common.{ℕ, ◌<◌}
-use Rattle.dl_transform.specs.Table.{IsRoot}
+use Rattle.dl_transform.proofs.Common.{ℕ, ◌<◌, IsRoot}
 use Rattle.dl_transform.proofs.checks.are_roots.Given as goal
 
 abbrev pub invariant-loop-k : goal.invariant-loop-k

@@ -1,5 +1,4 @@
-use Rattle.dl_transform.proofs.Common.{ℕ, ◌<◌}
-use Rattle.dl_transform.specs.Table.{IsScale}
+use Rattle.dl_transform.proofs.Common.{ℕ, ◌<◌, IsScale}
 use Rattle.dl_transform.proofs.checks.are_scales.Given as goal
 
 abbrev pub invariant-loop-l : goal.invariant-loop-l

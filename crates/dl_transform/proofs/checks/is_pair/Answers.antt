@@ -1,5 +1,5 @@
 use Rattle.dl_transform.proofs.Common.{◌≡◌, ◌*◌, arith, eqb-true}
-use Rattle.dl_transform.proofs.Residues.{same_trans, same_of, same_sym}
+use Rattle.dl_transform.proofs.Residues.{same_trans, same_sym}
 use Rattle.dl_transform.proofs.checks.is_pair.Goals as goal
 
 pub returns : goal.returns
@@ -11,8 +11,6 @@ returns c e =
     record {
       factor = c.is_factor.ensures c.if-not-is_factor.false;
       inverse_factor = c.is_factor-else-not-is_factor.ensures c.if-not-is_factor-2.false;
-      inverse = same_trans (same_sym (same_trans (c.lowered.ensures.same p 1 one) c.times.ensures.same))
-          (same_of p first);
-      square = same_trans (same_sym (same_trans (c.lowered-2.ensures.same p 1 one) c.times-2.ensures.same))
-          (same_of p second);
+      inverse = rw first at (same_sym (same_trans (c.lowered.ensures.same p 1 one) c.times.ensures.same));
+      square = rw second at (same_sym (same_trans (c.lowered-2.ensures.same p 1 one) c.times-2.ensures.same));
     }

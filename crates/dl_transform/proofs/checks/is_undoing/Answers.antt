@@ -1,5 +1,4 @@
-use Rattle.dl_transform.proofs.Common.{◌≡◌, ◌*◌, ◌%◌, ◌^◌, ◌<◌, arith, sym, subst, ◌∙◌, mod-eq_of_lt, eqb-true}
-use Rattle.std.proofs.lemmas.Nat.{one_shl, mul-mod_first}
+use Rattle.dl_transform.proofs.Common.{◌≡◌, ◌*◌, ◌%◌, ◌^◌, ◌<◌, arith, sym, ◌∙◌, mod-eq_of_lt, eqb-true, one_shl, mul-mod_first}
 use Rattle.dl_transform.proofs.checks.is_undoing.Goals as goal
 
 pub returns-clause-same : goal.returns-clause-same
@@ -8,7 +7,7 @@ returns-clause-same c h =
     let s : (1 * 2 ^ c.args.l) % 2 ^ 128 ≡ 2 ^ c.args.l = one_shl c.args.l 128 (omega arith) in
     let e : (c.args.unit * ((1 * 2 ^ c.args.l) % 2 ^ 128)) % p * c.args.w % p ≡ 1 =
     eqb-true (c.args.unit * ((1 * 2 ^ c.args.l) % 2 ^ 128) % p * c.args.w % p) 1 h in
-    let f : (c.args.unit * 2 ^ c.args.l) % p * c.args.w % p ≡ 1 =
-    subst (λ t. (c.args.unit * t) % p * c.args.w % p ≡ 1) s e in
-    let g : 1 < p = omega arith in
-    record { is = sym (mul-mod_first (c.args.unit * 2 ^ c.args.l) c.args.w p) ∙ f ∙ sym (mod-eq_of_lt g) }
+    record {
+      is = sym (mul-mod_first (c.args.unit * 2 ^ c.args.l) c.args.w p) ∙ (rw s at e)
+          ∙ sym (mod-eq_of_lt (omega arith));
+    }

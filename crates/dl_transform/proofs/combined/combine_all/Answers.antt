@@ -1,6 +1,5 @@
-use Rattle.dl_transform.proofs.Common.{ℕ, ◌≡◌, ◌*◌, ◌^◌, ◌<◌, ◌≤◌, get_or, arith, subst, Same}
+use Rattle.dl_transform.proofs.Common.{ℕ, ◌≡◌, ◌*◌, ◌^◌, ◌<◌, ◌≤◌, get_or, arith, Same, set_done}
 use Rattle.dl_transform.proofs.Residues.{same_trans}
-use Rattle.dl_exact.proofs.Writing.{set_done}
 use Rattle.dl_transform.proofs.Wholes.{two_room}
 use Rattle.dl_transform.proofs.combined.combine_all.Goals as goal
 
@@ -13,30 +12,10 @@ loop-s-preserved c =
     let s = c.loop-s.s in
     let f = get_or c.args.setup.now.first.scales.items c.args.levels 0 in
     let g = get_or c.args.setup.now.second.scales.items c.args.levels 0 in
-    let first : Same p1 c.scaled-r1.result (get_or c.args.x.now s 0 * f) =
-    subst (λ t. Same p1 c.scaled-r1.result (get_or c.args.x.now s 0 * t)) c.scale-w1.ensures.value
-    c.scaled-r1.ensures.same in
-    let second : Same p2 c.scaled-r2.result (get_or c.args.y.now s 0 * g) =
-    subst (λ t. Same p2 c.scaled-r2.result (get_or c.args.y.now s 0 * t)) c.scale-w2.ensures.value
-    c.scaled-r2.ensures.same in
+    let first = rw c.scale-w1.ensures.value at c.scaled-r1.ensures.same in
+    let second = rw c.scale-w2.ensures.value at c.scaled-r2.ensures.same in
     let Q : ℕ → ℕ → Type 0 = λ s t. (n : ℕ) → n < 2 ^ 123 → Same p1 (get_or c.args.x.now s 0 * f) n
     → Same p2 (get_or c.args.y.now s 0 * g) n → t ≡ n in
     let here : Q s c.combined.result =
     λ n b h k. c.combined.ensures n (omega (arith, b, room)) (same_trans first h) (same_trans second k) in
     set_done Q c.loop-s.out s c.combined.result (omega arith) c.loop-s.invariant here
-
-pub scaled-r1-requires : goal.scaled-r1-requires
-scaled-r1-requires c = record { modulus = c.requires.setup.first.modulus; factor = c.scale-w1.ensures.factor }
-
-pub scaled-r2-requires : goal.scaled-r2-requires
-scaled-r2-requires c = record { modulus = c.requires.setup.second.modulus; factor = c.scale-w2.ensures.factor }
-
-pub combined-requires : goal.combined-requires
-combined-requires c = let setup = c.requires.setup in record {
-  modulus = setup.second.modulus;
-  factor = setup.factor;
-  inverse = setup.inverse;
-  order = setup.order;
-  first_small = c.scaled-r1.ensures.small;
-  second_small = c.scaled-r2.ensures.small;
-}

@@ -1,5 +1,4 @@
-use Rattle.dl_transform.proofs.Common.{◌≤◌, get_or, arith}
-use Rattle.std.proofs.Common.{below_more}
+use Rattle.dl_transform.proofs.Common.{◌≤◌, get_or, arith, below_more}
 use Rattle.dl_transform.proofs.combined.most.Goals as goal
 use Rattle.dl_transform.proofs.combined.most.Goals.{then-x-most, else-x-most}
 

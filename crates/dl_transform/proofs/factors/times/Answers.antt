@@ -6,15 +6,12 @@ pub overflow_sub-result : goal.overflow_sub-result
 overflow_sub-result c = quotient_low c.args.x c.args.w c.args.q c.args.p c.requires.factor.low
 
 pub overflow_cast-result-4 : goal.overflow_cast-result-4
-overflow_cast-result-4 c = omega
-    (arith, quotient_high c.args.x c.args.w c.args.q c.args.p (omega arith) (omega arith) c.requires.factor.high)
+overflow_cast-result-4 c =
+    omega (arith, quotient_high c.args.x c.args.w _ _ (omega arith) (omega arith) c.requires.factor.high)
 
 pub returns-clause-small : goal.returns-clause-small
-returns-clause-small c = omega (
-  arith,
-  quotient_high c.args.x c.args.w c.args.q c.args.p (omega arith) (omega arith)
-      c.requires.factor.high,
-)
+returns-clause-small c =
+    omega (arith, quotient_high c.args.x c.args.w _ _ (omega arith) (omega arith) c.requires.factor.high)
 
 pub returns-clause-same : goal.returns-clause-same
 returns-clause-same c = left_same c.args.p (c.args.x * c.args.w) _ (c.args.x * c.args.q / 2 ^ 64)

@@ -1,11 +1,7 @@
-use Rattle.dl_transform.proofs.Common.{ℕ, ◌≡◌, ◌+◌, ◌-◌, ◌*◌, ◌^◌, ◌<◌, ◌≤◌, take, drop, length, slice_index, get_or, arith, refl, ap, subst, ◌∙◌, get_or-take, get_or-drop, get_or_past, eval, point}
+use Rattle.dl_transform.proofs.Common.{ℕ, ◌≡◌, ◌+◌, ◌-◌, ◌*◌, ◌^◌, ◌<◌, ◌≤◌, take, drop, length, slice_index, get_or, arith, refl, ◌∙◌, get_or-take, get_or-drop, get_or_past}
 use Rattle.dl_transform.proofs.Residues.{same_trans, same_of}
-use Rattle.dl_transform.proofs.Parts.{IsBelow, below, roots_small, join_small, values_step}
+use Rattle.dl_transform.proofs.Parts.{IsBelow, below, roots_small, values_step}
 use Rattle.dl_transform.proofs.modular.padded_values.Goals as goal
-
-pub returns-clause-small : goal.returns-clause-small
-returns-clause-small c = join_small (4 * c.args.table.now.p) c.to_values.new.x c.to_values-2.new.x
-    c.to_values.ensures.small c.to_values-2.ensures.small
 
 pub returns-clause-values : goal.returns-clause-values
 returns-clause-values c k inside =
@@ -19,20 +15,15 @@ returns-clause-values c k inside =
     below c.args.levels 0 (length roots) (length c.args.x.now) (λ e. absurd (omega (arith, e, c.requires.some))) whole
     c.requires.size in
     let room : length a ≤ m = omega (arith, b.half, c.requires.room) in
-    let start : (w i : ℕ) → i < m → get_or a i 0 ≡ get_or (take m a) i 0 + w * get_or (drop m a) i 0 =
-    λ w i h. plus_nothing (get_or a i 0) w (get_or (take m a) i 0) (get_or (drop m a) i 0) (get_or-take m a i 0 h)
-    (get_or-drop m a i 0 ∙ get_or_past a (m + i) 0 (omega (arith, room))) in
+    let start : (w i : ℕ) → i < m → get_or a i 0 ≡ get_or (take m a) i 0 + w * get_or (drop m a) i 0 = λ w i h.
+    rw (get_or-take m a i 0 h, get_or-drop m a i 0, get_or_past a (m + i) 0 (omega (arith, room))) (omega arith) in
     let len : length c.to_values.new.x ≡ m = omega (arith, b.half, b.rest) in
     let e : 0 * n + k ≡ k = omega arith in
-    same_trans (values_step p 0 m n roots a (take m a) (drop m a) c.load.new.x c.load-2.new.x c.to_values.new.x
+    rw e at (values_step p 0 m n roots a (take m a) (drop m a) c.load.new.x c.load-2.new.x c.to_values.new.x
     c.to_values-2.new.x (c.args.levels - 1) refl b.twice
     (λ k h. (c.requires.table.root k h).square)
     (roots_small p roots (λ k h. (c.requires.table.root k h).factor.below))
-    (subst (λ t. (0 + 1) * t ≤ 2 * length roots) b.twice whole)
+    (rw b.twice at whole)
     refl refl (λ i h. same_trans (c.load.ensures.same i) (same_of p (start (slice_index roots 0) i h)))
     (λ i h. same_trans (c.load-2.ensures.same i) (same_of p (start (p - slice_index roots 0) i h)))
     len c.to_values.ensures.values c.to_values-2.ensures.values k inside)
-    (same_of p (ap (λ t. eval n (λ i. get_or a i 0) (point p roots t)) e))
-  where
-    plus_nothing : (a w b c : ℕ) → b ≡ a → c ≡ 0 → a ≡ b + w * c
-    plus_nothing a w b c e f = omega (arith, e, ap (λ t. w * t) f)

@@ -72,15 +72,3 @@ returns-clause-items t c =
     c.to_items-2.new.x c.join_all.new.low c.join_all.new.high c.inverse-w.ensures.value (pow_pos (c.args.levels - 1))
     c.to_items.ensures.items c.to_items-2.ensures.items (omega (arith, b.half, b.rest))
     (omega (arith, b.half, b.rest)) c.join_all.ensures.low c.join_all.ensures.high
-
-pub overflow_mul-child : goal.overflow_mul-child
-overflow_mul-child t c =
-    let b = below c.args.levels c.args.node (length c.args.table.now.roots.items) (length c.args.x.now)
-    c.if-levels-eq0.false c.requires.within c.requires.size in
-    omega (arith, b.inside, c.requires.table.few)
-
-pub overflow_add-child : goal.overflow_add-child
-overflow_add-child t c =
-    let b = below c.args.levels c.args.node (length c.args.table.now.roots.items) (length c.args.x.now)
-    c.if-levels-eq0.false c.requires.within c.requires.size in
-    omega (arith, b.inside, c.requires.table.few)

@@ -57,15 +57,3 @@ returns-clause-values t c =
     c.part_all.new.high c.to_values.new.x c.to_values-2.new.x c.root-w.ensures.value
     (omega (arith, b.half, b.rest)) c.part_all.ensures.low c.part_all.ensures.high
     (omega (arith, b.half, b.rest)) c.to_values.ensures.values c.to_values-2.ensures.values
-
-pub overflow_mul-child : goal.overflow_mul-child
-overflow_mul-child t c =
-    let b = below c.args.levels c.args.node (length c.args.table.now.roots.items) (length c.args.x.now)
-    c.if-levels-eq0.false c.requires.within c.requires.size in
-    omega (arith, b.inside, c.requires.table.few)
-
-pub overflow_add-child : goal.overflow_add-child
-overflow_add-child t c =
-    let b = below c.args.levels c.args.node (length c.args.table.now.roots.items) (length c.args.x.now)
-    c.if-levels-eq0.false c.requires.within c.requires.size in
-    omega (arith, b.inside, c.requires.table.few)

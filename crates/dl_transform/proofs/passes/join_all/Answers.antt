@@ -1,7 +1,4 @@
-use Rattle.dl_transform.proofs.Common.{◌*◌, ◌<◌, ◌+◌, get_or, arith, ap₂, length, Same}
-use Rattle.std.proofs.Common.{subst₂}
-use Rattle.dl_transform.proofs.Residues.{same_trans, same_of}
-use Rattle.dl_exact.proofs.Writing.{set_each, set_done, set_rest}
+use Rattle.dl_transform.proofs.Common.{◌*◌, ◌<◌, ◌+◌, get_or, arith, length, Same, set_each, set_done, set_rest}
 use Rattle.dl_transform.proofs.passes.join_all.Goals as goal
 
 pub loop-i-preserved : goal.loop-i-preserved
@@ -14,10 +11,8 @@ loop-i-preserved c =
     let f = inv.high_rest i (omega arith) in
     let low_in : i < length c.loop-i.low = omega arith in
     let high_in : i < length c.loop-i.high = omega arith in
-    let first : Same p c.join-a.result.0 (get_or c.args.low.now i 0 + get_or c.args.high.now i 0) =
-    same_trans c.join-a.ensures.first (same_of p (ap₂ (λ s t. s + t) e f)) in
-    let second : Same p (c.join-a.result.1 + w * get_or c.args.high.now i 0) (w * get_or c.args.low.now i 0) =
-    subst₂ (λ s t. Same p (c.join-a.result.1 + w * t) (w * s)) e f c.join-a.ensures.second in
+    let first = rw (e, f) at c.join-a.ensures.first in
+    let second = rw (e, f) at c.join-a.ensures.second in
     record {
       low_small = set_each (λ k t. t < 2 * p) c.loop-i.low i c.join-a.result.0 low_in
           inv.low_small c.join-a.ensures.first_small;

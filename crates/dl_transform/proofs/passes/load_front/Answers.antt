@@ -1,5 +1,4 @@
-use Rattle.dl_transform.proofs.Common.{◌*◌, ◌<◌, get_or, arith, refl, length, Same}
-use Rattle.dl_exact.proofs.Writing.{set_done}
+use Rattle.dl_transform.proofs.Common.{◌*◌, ◌<◌, get_or, arith, refl, length, Same, set_done}
 use Rattle.dl_transform.proofs.passes.load_front.Goals as goal
 
 pub loop-i-preserved : goal.loop-i-preserved

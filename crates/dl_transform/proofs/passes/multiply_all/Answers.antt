@@ -1,6 +1,5 @@
-use Rattle.dl_transform.proofs.Common.{◌*◌, ◌<◌, ◌^◌, get_or, arith, refl, length, Same}
-use Rattle.dl_transform.proofs.Residues.{same_trans, same_of, same_times}
-use Rattle.dl_exact.proofs.Writing.{set_done, set_rest}
+use Rattle.dl_transform.proofs.Common.{◌*◌, ◌<◌, ◌^◌, get_or, arith, refl, length, Same, set_done, set_rest}
+use Rattle.dl_transform.proofs.Residues.{same_trans, same_times}
 use Rattle.dl_transform.proofs.passes.multiply_all.Goals as goal
 
 pub loop-i-preserved : goal.loop-i-preserved
@@ -9,10 +8,8 @@ loop-i-preserved c =
     let inv = c.loop-i.invariant in
     let p = c.args.p in
     let inside : i < length c.loop-i.x = omega arith in
-    let first : Same p c.lowered.result (get_or c.args.x.now i 0) =
-    same_trans (c.lowered.ensures.same p 2 refl) (same_of p (inv.rest i (omega arith))) in
-    let second : Same p c.lowered-in-loop-i.result (get_or c.args.y.now i 0) =
-    c.lowered-in-loop-i.ensures.same p 2 refl in
+    let first = rw (inv.rest i (omega arith)) at (c.lowered.ensures.same p 2 refl) in
+    let second = c.lowered-in-loop-i.ensures.same p 2 refl in
     let here : Same p (c.reduced.result * 2 ^ 64) (get_or c.args.x.now i 0 * get_or c.args.y.now i 0) =
     same_trans c.reduced.ensures.same (same_times first second) in
     record {

@@ -1,6 +1,5 @@
-use Rattle.dl_transform.proofs.Common.{◌*◌, ◌<◌, ◌^◌, get_or, arith, refl, length, Same}
-use Rattle.dl_transform.proofs.Residues.{same_trans, same_of, same_times}
-use Rattle.dl_exact.proofs.Writing.{set_done, set_rest}
+use Rattle.dl_transform.proofs.Common.{◌*◌, ◌<◌, ◌^◌, get_or, arith, refl, length, Same, set_done, set_rest}
+use Rattle.dl_transform.proofs.Residues.{same_trans, same_times}
 use Rattle.dl_transform.proofs.passes.square_all.Goals as goal
 
 pub loop-i-preserved : goal.loop-i-preserved
@@ -9,8 +8,7 @@ loop-i-preserved c =
     let inv = c.loop-i.invariant in
     let p = c.args.p in
     let inside : i < length c.loop-i.x = omega arith in
-    let first : Same p c.lowered-y.result (get_or c.args.x.now i 0) =
-    same_trans (c.lowered-y.ensures.same p 2 refl) (same_of p (inv.rest i (omega arith))) in
+    let first = rw (inv.rest i (omega arith)) at (c.lowered-y.ensures.same p 2 refl) in
     let here : Same p (c.reduced.result * 2 ^ 64) (get_or c.args.x.now i 0 * get_or c.args.x.now i 0) =
     same_trans c.reduced.ensures.same (same_times first first) in
     record {

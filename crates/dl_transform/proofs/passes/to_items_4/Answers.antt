@@ -1,6 +1,6 @@
 use Rattle.dl_transform.proofs.Common.{◌*◌, arith, refl}
 use Rattle.dl_transform.proofs.Parts.{join_small}
-use Rattle.dl_transform.proofs.AfterSteps.{front_small, back_small, items_after}
+use Rattle.dl_transform.proofs.AfterSteps.{items_after}
 use Rattle.dl_transform.proofs.passes.to_items_4.Goals as goal
 
 pub returns-clause-small : goal.returns-clause-small
@@ -17,26 +17,3 @@ returns-clause-items c =
     c.to_items_2.ensures.items c.to_items_2-2.ensures.items
     (omega (arith, c.split_at_mut-low.ensures.front_len)) (omega (arith, c.split_at_mut-low.ensures.front_len))
     c.join_all.ensures.low c.join_all.ensures.high
-
-pub inverse-w-requires-clause-inside : goal.inverse-w-requires-clause-inside
-inverse-w-requires-clause-inside c = omega (arith, c.requires.within)
-
-pub overflow_mul-child : goal.overflow_mul-child
-overflow_mul-child c = omega (arith, c.requires.within, c.requires.table.few)
-
-pub overflow_add-child : goal.overflow_add-child
-overflow_add-child c = omega (arith, c.requires.within, c.requires.table.few)
-
-pub to_items_2-requires-clause-within : goal.to_items_2-requires-clause-within
-to_items_2-requires-clause-within c = omega (arith, c.requires.within)
-
-pub to_items_2-requires-2-clause-within : goal.to_items_2-requires-2-clause-within
-to_items_2-requires-2-clause-within c = omega (arith, c.requires.within)
-
-pub to_items_2-requires-clause-small : goal.to_items_2-requires-clause-small
-to_items_2-requires-clause-small c = front_small 2 (2 * c.args.table.now.p) c.args.x.now _
-    c.split_at_mut-low.ensures.front c.requires.small
-
-pub to_items_2-requires-2-clause-small : goal.to_items_2-requires-2-clause-small
-to_items_2-requires-2-clause-small c = back_small 2 (2 * c.args.table.now.p) c.args.x.now _
-    c.split_at_mut-low.ensures.back c.requires.small

@@ -1,11 +1,11 @@
 -- The units of the plan are as large as those of the program.
-use Rattle.dl_types.proofs.Common.{◌∙◌, ◌≤◌, suc, arith, Some, None, sym, ap, map, IfSome, at_if, most_shape}
+use Rattle.dl_types.proofs.Common.{◌∙◌, ◌≤◌, refl, true, false, suc, arith, Some, None, sym, ap, map, IfSome, at_if, most_shape}
 use Rattle.dl_ast.specs.WellFormed.{IsFormedHead}
 use Rattle.dl_lexer.specs.Numerals.{IsNumeralToken}
 use Rattle.dl_types.specs.Factor.{IsShapeIn, part_of}
 use Rattle.dl_types.proofs.FactorBounds.{small_shape}
-use Rattle.dl_types.proofs.FactorParts.{all_counted, size_last}
-use Rattle.dl_types.proofs.FactorKept.{no_port, no_common, shape_place, good_place, size_is, shape_written, bad_told, factor_there, shape_shared}
+use Rattle.dl_types.proofs.FactorParts.{all_counted}
+use Rattle.dl_types.proofs.FactorKept.{no_port, no_common, shape_place, size_told, shape_written, bad_told, factor_there, shape_shared}
 use Rattle.dl_types.proofs.changes.shared_shape.Goals as goal
 
 pub returns-in_default-clause-kept : goal.returns-in_default-clause-kept
@@ -41,14 +41,9 @@ is_too_large-requires-clause-counted c =
 pub returns-then-is_too_large-clause-broken : goal.returns-then-is_too_large-clause-broken
 returns-then-is_too_large-clause-broken c =
     let program = c.args.program.now in
-    let head = c.in-Some.head in
-    let n = c.in-Some-common.variation in
-    let r = c.in-Some-shape_in.shape in
-    let parts = map part_of c.args.units.now in
-    size_last c.args.settings.now program c.args.units.now (Some head.name.span) c.requires.units
-    (good_place program.port head n c.in-Some.is c.in-Some-common.is r c.in-Some-shape_in.ensures)
-    (size_is program.port head n c.in-Some.is c.in-Some-common.is r c.in-Some-shape_in.ensures parts
-    ∙ ap (λ b. at_if b head.name.span) (sym c.if-is_too_large.ensures))
+    size_told program.port c.in-Some.head c.in-Some-common.variation c.in-Some.is c.in-Some-common.is
+    c.in-Some-shape_in.shape c.in-Some-shape_in.ensures c.args.settings.now program c.args.units.now true refl
+    c.requires.units c.if-is_too_large.ensures
     ∙ ap Some (sym c.of_portfolio-then-is_too_large.ensures)
 
 pub overflow_cast-result : goal.overflow_cast-result
@@ -60,14 +55,9 @@ overflow_cast-result c =
 pub returns-clause-kept : goal.returns-clause-kept
 returns-clause-kept c =
     let program = c.args.program.now in
-    let head = c.in-Some.head in
-    let n = c.in-Some-common.variation in
-    let r = c.in-Some-shape_in.shape in
-    let parts = map part_of c.args.units.now in
-    size_last c.args.settings.now program c.args.units.now None c.requires.units
-    (good_place program.port head n c.in-Some.is c.in-Some-common.is r c.in-Some-shape_in.ensures)
-    (size_is program.port head n c.in-Some.is c.in-Some-common.is r c.in-Some-shape_in.ensures parts
-    ∙ ap (λ b. at_if b head.name.span) (sym c.if-is_too_large.ensures))
+    size_told program.port c.in-Some.head c.in-Some-common.variation c.in-Some.is c.in-Some-common.is
+    c.in-Some-shape_in.shape c.in-Some-shape_in.ensures c.args.settings.now program c.args.units.now false refl
+    c.requires.units c.if-is_too_large.ensures
 
 pub returns-clause-shape : goal.returns-clause-shape
 returns-clause-shape c =

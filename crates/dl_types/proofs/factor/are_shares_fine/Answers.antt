@@ -7,7 +7,7 @@ use Rattle.dl_plan.specs.Common.{unit_share}
 use Rattle.dl_plan.specs.Count.{expected_count}
 use Rattle.dl_plan.proofs.CommonDenominators.{lcm_pos, common_from_pos}
 use Rattle.dl_types.specs.Factor.{joined, times_amounts}
-use Rattle.dl_types.proofs.FactorShares.{share_within, coarse_part, lcm_reaches, claims_more, claims_coarse, amounts_more, amounts_coarse}
+use Rattle.dl_types.proofs.FactorShares.{share_within, coarse_part, lcm_reaches, numbers_more, claims_coarse, amounts_more, amounts_coarse}
 use Rattle.dl_types.proofs.factor.are_shares_fine.Goals as goal
 
 pub returns-in_default : goal.returns-in_default
@@ -61,7 +61,7 @@ units-preserved c =
     let last = c.in-Some-with_amounts.ensures in
     record {
       claims = next.1 ∙ ap₂ lcm c.units.invariant.claims den
-          ∙ sym (claims_more v c.args.units.now c.units.unit-index u c.units-test.true c.unit-item.is);
+          ∙ sym (numbers_more (unit_share v) 1 c.args.units.now c.units.unit-index u c.units-test.true c.unit-item.is);
       some = subst (λ n. 0 < n) (sym next.1)
           (lcm_pos c.units.claims c.den.result c.units.invariant.some c.den.ensures.positive);
       few = omega (arith, next.0, next.1);

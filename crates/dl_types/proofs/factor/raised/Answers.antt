@@ -1,7 +1,7 @@
 -- The raised number from the parts of the number.
 use Rattle.dl_types.proofs.Common.{◌∙◌, ap, refl, subst, true, admitted, IsTooFine}
 use Rattle.dl_plan.proofs.Raised.{raised_parts}
-use Rattle.dl_types.proofs.FactorShares.{refused}
+use Rattle.dl_types.proofs.Ratios.{too_fine_refused}
 use Rattle.dl_types.proofs.factor.raised.Goals as goal
 
 pub returns-in-Ok : goal.returns-in-Ok
@@ -11,5 +11,5 @@ returns-in-Ok c =
 
 pub returns-in-Err : goal.returns-in-Err
 returns-in-Err c =
-    refused _ (subst IsTooFine (raised_parts c.num.result c.den.result c.args.shape c.args.shape c.args.claims
+    too_fine_refused _ (subst IsTooFine (raised_parts c.num.result c.den.result c.args.shape c.args.shape c.args.claims
     c.args.claims c.num.ensures.part c.den.ensures.part refl refl c.requires.some) c.in-Err.ensures)

@@ -2,7 +2,9 @@
 use Rattle.dl_types.proofs.Common.{◌∙◌, ◌+◌, sym, subst, List, AnswersUnits}
 use Rattle.std.proofs.Common.{Ok}
 use Rattle.dl_plan.specs.declared.plan.Unit.{Unit as UnitOfPlan}
-use Rattle.dl_types.proofs.ProgramUnits.{Planned, planned_more, planned_fault, planned_all, names_more}
+use Rattle.dl_types.proofs.ProgramUnits.{Planned, planned_more, planned_fault, planned_all}
+use Rattle.dl_ast.specs.declared.ast.UnitAst.{UnitAst}
+use Rattle.dl_types.proofs.Naming.{maps_more}
 use Rattle.dl_types.proofs.program.check_units.Goals as goal
 
 pub returns-in-Err : goal.returns-in-Err
@@ -18,8 +20,8 @@ units-preserved c = record {
       (planned_more c.args.settings.now c.args.port.now c.args.sevs.now c.args.units.now c.units.at c.index-units-at.result c.units.made.items
       c.in-Ok.unit c.units.invariant.planned
       c.units-test.true c.index-units-at.is c.in-Ok.ensures.answer);
-  names = c.in-Ok.ensures.names ∙ names_more c.args.units.now c.units.at c.index-units-at.result c.units-test.true
-      c.index-units-at.is;
+  names = c.in-Ok.ensures.names ∙ maps_more c.args.units.now c.units.at c.index-units-at.result c.units-test.true
+      c.index-units-at.is (λ (v : UnitAst). v.name.text);
   known = c.in-Ok.ensures.known;
 }
 

@@ -1,4 +1,4 @@
-use Rattle.dl_unit.proofs.Common.{rules, subst, IfOk-weaker, fixed, compound, GridEncloses, severity_total}
+use Rattle.dl_unit.proofs.Common.{rules, IfOk-weaker, severity_total}
 use Rattle.dl_unit.proofs.Severities.{probability_same}
 use Rattle.dl_unit.proofs.claim.one_claim.Goals as goal
 
@@ -9,5 +9,4 @@ claim_grid-requires g c =
 pub returns-clause-encloses : goal.returns-clause-encloses
 returns-clause-encloses g c =
     IfOk-weaker c.claim_grid.result _ _ (λ grid of_claim.
-    subst (λ f. GridEncloses grid (compound (fixed 1) f)) (probability_same c.args.sev.now)
-    (rw c.as_slice.ensures at of_claim)) c.claim_grid.ensures.encloses
+    rw (c.as_slice.ensures, probability_same c.args.sev.now) at of_claim) c.claim_grid.ensures.encloses

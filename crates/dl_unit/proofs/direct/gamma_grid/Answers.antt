@@ -1,7 +1,4 @@
-use Rattle.dl_plan.specs.Valid.{claims_alone}
-use Rattle.dl_unit.proofs.Common.{◌^◌, arith, rules, ap, sym, subst, IfSome, IfOk-weaker, gamma_of, compound, GridEncloses, Gamma, probability_of, gamma_budget}
-use Rattle.dl_plan.specs.Fine.{HasPartsOf48Bits}
-use Rattle.dl_model.proofs.PlanThin.{gamma_thinned}
+use Rattle.dl_unit.proofs.Common.{◌^◌, arith, rules, ap, IfOk-weaker, Gamma, gamma_budget, claims_alone, gamma_thinned}
 use Rattle.dl_budget.proofs.Counts.{count_of}
 use Rattle.dl_unit.proofs.Families.{grid_same}
 use Rattle.dl_unit.proofs.Sizes.{told_few}
@@ -13,7 +10,7 @@ use Rattle.dl_unit.proofs.direct.gamma_grid.Goals as goal
 pub gamma_direct-requires : goal.gamma_direct-requires
 gamma_direct-requires g c =
     let u = claims_alone c.args.freq.now c.args.sev.now in
-    let small = subst HasPartsOf48Bits (sym c.thinned-mean.ensures)
+    let small = rw (← c.thinned-mean.ensures) at
     (c.requires.valid.1.thinned (gamma_unbounded u c.args.shape c.requires.count.0 c.requires.count.1)).0 in
     let shape = count_of c.requires.valid.0 u (Gamma c.args.shape c.requires.count.0) c.requires.valid.1
     c.requires.count.1 in
@@ -30,19 +27,14 @@ returns-then-is_narrow-clause-encloses g c =
     let s = c.args.positive.now in
     let shape = count_of c.requires.valid.0 u (Gamma c.args.shape c.requires.count.0) c.requires.valid.1
     c.requires.count.1 in
-    let told : GridEncloses c.in-Some.grid (compound (gamma_of c.args.shape c.thinned-mean.result) (probability_of s)) =
-    subst (λ made. IfSome made (λ grid. GridEncloses grid
-    (compound (gamma_of c.args.shape c.thinned-mean.result) (probability_of s)))) c.in-Some.is
-    c.in_ok-grid.ensures.encloses in
+    let told = rw c.in-Some.is at c.in_ok-grid.ensures.encloses in
     grid_same c.in-Some.grid _ _ (gamma_whole u s c.args.shape c.requires.count.0 c.requires.count.1 shape.0
-    c.requires.means)
-    (subst (λ m. GridEncloses c.in-Some.grid (compound (gamma_of c.args.shape m) (probability_of s)))
-    c.thinned-mean.ensures told)
+    c.requires.means) (rw c.thinned-mean.ensures at told)
 
 pub gamma_claims-requires : goal.gamma_claims-requires
 gamma_claims-requires g c =
     let u = claims_alone c.args.freq.now c.args.sev.now in
-    let small = subst HasPartsOf48Bits (sym c.thinned-mean.ensures)
+    let small = rw (← c.thinned-mean.ensures) at
     (c.requires.valid.1.thinned (gamma_unbounded u c.args.shape c.requires.count.0 c.requires.count.1)).0 in
     let shape = count_of c.requires.valid.0 u (Gamma c.args.shape c.requires.count.0) c.requires.valid.1
     c.requires.count.1 in

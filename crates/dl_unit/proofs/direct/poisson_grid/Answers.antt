@@ -1,10 +1,4 @@
-use Rattle.dl_plan.specs.Valid.{claims_alone}
-use Rattle.dl_unit.proofs.Common.{◌^◌, arith, ap, sym, subst, IfSome, IfOk-weaker, poisson, compound, GridEncloses, probability_of, thinned_mean, poisson_budget, halvings}
-use Rattle.dl_limits.specs.Limits.{most_expected}
-use Rattle.dl_exact.specs.Fraction.{whole, ◌≤ℚ◌, ◌/ℚ◌}
-use Rattle.dl_model.specs.Family.{times_itself}
-use Rattle.dl_plan.specs.Fine.{HasPartsOf48Bits}
-use Rattle.dl_model.proofs.PlanThin.{poisson_thinned}
+use Rattle.dl_unit.proofs.Common.{◌^◌, arith, ap, IfOk-weaker, thinned_mean, poisson_budget, halvings, claims_alone, ◌≤ℚ◌, ◌/ℚ◌, poisson_thinned}
 use Rattle.dl_unit.proofs.Families.{grid_same}
 use Rattle.dl_unit.proofs.Sizes.{told_few}
 use Rattle.dl_unit.proofs.CountKinds.{poisson_unbounded, poisson_some}
@@ -15,7 +9,7 @@ use Rattle.dl_unit.proofs.direct.poisson_grid.Goals as goal
 pub poisson_direct-requires : goal.poisson_direct-requires
 poisson_direct-requires g c =
     let u = claims_alone c.args.freq.now c.args.sev.now in
-    let small = subst (λ m. HasPartsOf48Bits m × (m ≤ℚ whole most_expected)) (sym c.thinned-mean.ensures)
+    let small = rw (← c.thinned-mean.ensures) at
     (c.requires.valid.1.thinned (poisson_unbounded u c.requires.count.0 c.requires.count.1)) in (
       omega arith,
       (
@@ -33,16 +27,14 @@ pub returns-then-is_narrow-clause-encloses : goal.returns-then-is_narrow-clause-
 returns-then-is_narrow-clause-encloses g c =
     let u = claims_alone c.args.freq.now c.args.sev.now in
     let s = c.args.positive.now in
-    let told : GridEncloses c.in-Some.grid (compound (poisson c.thinned-mean.result) (probability_of s)) =
-    subst (λ made. IfSome made (λ grid. GridEncloses grid
-    (compound (poisson c.thinned-mean.result) (probability_of s)))) c.in-Some.is c.in_ok-grid.ensures.encloses in
+    let told = rw c.in-Some.is at c.in_ok-grid.ensures.encloses in
     grid_same c.in-Some.grid _ _ (poisson_whole u s c.requires.count.0 c.requires.count.1 c.requires.means)
-    (subst (λ m. GridEncloses c.in-Some.grid (compound (poisson m) (probability_of s))) c.thinned-mean.ensures told)
+    (rw c.thinned-mean.ensures at told)
 
 pub poisson_claims-requires : goal.poisson_claims-requires
 poisson_claims-requires g c =
     let u = claims_alone c.args.freq.now c.args.sev.now in
-    let small = subst (λ m. HasPartsOf48Bits m × (m ≤ℚ whole most_expected)) (sym c.thinned-mean.ensures)
+    let small = rw (← c.thinned-mean.ensures) at
     (c.requires.valid.1.thinned (poisson_unbounded u c.requires.count.0 c.requires.count.1)) in (
       omega arith,
       (
@@ -57,9 +49,7 @@ returns-clause-encloses g c =
     IfOk-weaker c.poisson_claims.result _ _ (λ grid copies.
     grid_same grid _ _ (poisson_thinned u c.args.positive.now c.requires.count.0
     (halvings (thinned_mean u)) c.requires.count.1 c.requires.means)
-    (subst (λ m. GridEncloses grid (times_itself (compound (poisson (m /ℚ whole (2 ^ halvings m)))
-    (probability_of c.args.positive.now)) (2 ^ halvings m))) c.thinned-mean.ensures copies))
-    c.poisson_claims.ensures.encloses
+    (rw c.thinned-mean.ensures at copies)) c.poisson_claims.ensures.encloses
 
 pub returns-clause-spread : goal.returns-clause-spread
 returns-clause-spread g c =

@@ -1,5 +1,4 @@
-use Rattle.dl_unit.proofs.Common.{◌^◌, arith, pow_pos, IfOk-weaker, pw_rises, binomial, compound_proper, probability_of, within_one}
-use Rattle.dl_model.proofs.Beginnings.{trials}
+use Rattle.dl_unit.proofs.Common.{◌^◌, arith, pow_pos, IfOk-weaker, pw_rises, binomial, compound_proper, probability_of, within_one, trials}
 use Rattle.dl_unit.proofs.Families.{grid_same}
 use Rattle.dl_unit.proofs.finite.binomial_claims.Goals as goal
 

@@ -1,6 +1,4 @@
-use Rattle.dl_unit.proofs.Common.{◌^◌, arith, rules, subst, pow_pos, IfOk-weaker, fun_ext, compound, GridEncloses, probability_of, probability_is, total_pos, within_one}
-use Rattle.dl_plan.specs.Weighted.{greatest}
-use Rattle.dl_grid.proofs.WidthLaws.{mixed_rises}
+use Rattle.dl_unit.proofs.Common.{◌^◌, arith, rules, subst, pow_pos, IfOk-weaker, fun_ext, compound, GridEncloses, probability_of, probability_is, total_pos, within_one, greatest, mixed_rises}
 use Rattle.dl_unit.proofs.finite.listed_claims.Goals as goal
 
 pub mix_counts_with-requires : goal.mix_counts_with-requires

@@ -1,15 +1,12 @@
 -- The number of trials is a sum of single trials.
-use Rattle.dl_unit.proofs.Common.{◌≡◌, ℕ, ◌*◌, ◌<◌, ◌≤◌, subst, arith, binomial, IsSeverity, trial}
-use Rattle.dl_model.proofs.AddedCounts.{binomial_power}
+use Rattle.dl_unit.proofs.Common.{◌≡◌, ℕ, ◌*◌, ◌<◌, ◌≤◌, arith, binomial, IsSeverity, trial, binomial_power}
 use Rattle.dl_model.proofs.CompoundLaws.{power_severity}
 use Rattle.dl_unit.proofs.law.law_trials.Goals as goal
 
 trials_severity : (m a b : ℕ) → 0 < b → a ≤ b → IsSeverity (binomial m a b) m
 trials_severity m a b pos h =
     let once : m * 1 ≡ m = omega arith in
-    subst (λ k. IsSeverity (binomial m a b) k) once
-    (subst (λ w. IsSeverity w (m * 1)) (binomial_power a b pos m)
-    (power_severity (binomial 1 a b) 1 (trial a b pos h) m))
+    rw (binomial_power a b pos m, once) at (power_severity (binomial 1 a b) 1 (trial a b pos h) m)
 
 pub returns-clause-add_up : goal.returns-clause-add_up
 returns-clause-add_up c m a b pos h = (trials_severity m a b pos h).add_up

@@ -1,5 +1,4 @@
-use Rattle.dl_unit.proofs.Common.{◌≡◌, ◌-◌, ◌*◌, ◌/◌, ◌^◌, ◌<◌, ◌≤◌, arith, rules, ap₂, ◌∙◌, div_ceil, num_le_den, part_within}
-use Rattle.dl_grid.proofs.CellLaws.{one_fits}
+use Rattle.dl_unit.proofs.Common.{◌≡◌, ◌-◌, ◌*◌, ◌/◌, ◌^◌, ◌<◌, ◌≤◌, arith, rules, ap₂, ◌∙◌, div_ceil, num_le_den, part_within, one_fits}
 use Rattle.dl_unit.proofs.trial.first_cell.Goals as goal
 
 pub overflow_sub-den : goal.overflow_sub-den

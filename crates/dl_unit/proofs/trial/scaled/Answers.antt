@@ -1,7 +1,5 @@
-use Rattle.dl_unit.proofs.Common.{◌*◌, ◌/◌, ◌^◌, ◌≤◌, arith, ap₂, ◌∙◌, div_ceil, pow-le-pow_right, low_at, high_at, num_le_den, part_within}
-use Rattle.std.proofs.Common.{mul-le-mul}
+use Rattle.dl_unit.proofs.Common.{◌*◌, ◌/◌, ◌^◌, ◌≤◌, arith, ap₂, ◌∙◌, div_ceil, pow-le-pow_right, low_at, high_at, num_le_den, part_within, mul-le-mul, scale_of}
 use Rattle.std.proofs.Math.Nat.{le_trans}
-use Rattle.dl_grid.proofs.CellLaws.{scale_of}
 use Rattle.dl_unit.proofs.Pushed.{low_pushed, high_pushed}
 use Rattle.dl_unit.proofs.trial.scaled.Goals as goal
 

@@ -1,7 +1,4 @@
-use Rattle.dl_unit.proofs.Common.{ℕ, ◌≡◌, ◌*◌, ◌^◌, ◌≤◌, arith, ap, subst, ◌∙◌, pow-le-pow_right, pow_pos, IfOk-weaker, whole, ◌/ℚ◌, spread, poisson, compound, GridEncloses, compound_proper, probability_of, within_one}
-use Rattle.std.proofs.Common.{◌%◌}
-use Rattle.std.proofs.Math.Nat.{mod-eq_of_lt}
-use Rattle.dl_model.specs.Family.{times_itself}
+use Rattle.dl_unit.proofs.Common.{ℕ, ◌≡◌, ◌*◌, ◌^◌, ◌≤◌, arith, ap, ◌∙◌, pow-le-pow_right, pow_pos, IfOk-weaker, whole, ◌/ℚ◌, spread, poisson, compound_proper, probability_of, within_one, ◌%◌, mod-eq_of_lt}
 use Rattle.dl_unit.proofs.Widths.{poisson_within}
 use Rattle.dl_unit.proofs.unbounded.poisson_claims.Goals as goal
 
@@ -16,12 +13,9 @@ returns-clause-encloses g c =
     let f = probability_of c.args.sev.now in
     let h = c.halvings-halvings.result in
     IfOk-weaker c.power_with.result _ _ (λ grid copies.
-    subst (λ k. GridEncloses grid (times_itself (compound (poisson (c.args.mean /ℚ whole (2 ^ k))) f) (2 ^ k)))
-    c.halvings-halvings.ensures.value
-    (subst (λ n. GridEncloses grid (times_itself (compound (poisson (c.args.mean /ℚ whole (2 ^ h))) f) n))
-    (shifted h c.halvings-halvings.ensures.small)
+    rw (shifted h c.halvings-halvings.ensures.small, c.halvings-halvings.ensures.value) at
     (copies _ (compound_proper (poisson (c.args.mean /ℚ whole (2 ^ h))) f (within_one c.args.sev.now))
-    c.in_ok-base.ensures.encloses))) c.power_with.ensures.encloses
+    c.in_ok-base.ensures.encloses)) c.power_with.ensures.encloses
 
 pub returns-clause-spread : goal.returns-clause-spread
 returns-clause-spread g c =

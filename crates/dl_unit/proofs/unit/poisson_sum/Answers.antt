@@ -1,6 +1,4 @@
-use Rattle.dl_plan.specs.Valid.{claims_alone}
-use Rattle.dl_unit.proofs.Common.{arith, sym, ◌∙◌, nothing, compound_of, none_thinned, spread_none, if_ok_three}
-use Rattle.dl_model.proofs.FiniteCounts.{all_at_zero_encloses}
+use Rattle.dl_unit.proofs.Common.{arith, sym, ◌∙◌, nothing, compound_of, none_thinned, spread_none, if_ok_three, claims_alone, all_at_zero_encloses}
 use Rattle.dl_unit.proofs.Families.{grid_same}
 use Rattle.dl_unit.proofs.CountKinds.{poisson_unbounded}
 use Rattle.dl_unit.proofs.unit.poisson_sum.Goals as goal

@@ -1,20 +1,19 @@
 -- One more text.
-use Rattle.dl_words.proofs.Common.{◌∙◌, Ok, sym, ap, subst, asks_of, ExplainsAsks}
-use Rattle.dl_words.proofs.AskLists.{lent, lent_ask, lent_misfit}
+use Rattle.dl_words.proofs.Common.{arith, sym, ◌∙◌, subst, asks_of, ExplainsAsks}
+use Rattle.dl_words.proofs.AskLists.{all_read, lent, lent_ask, lent_misfit}
 use Rattle.dl_words.proofs.asks.read_asks.Goals as goal
-
-pub loop-index-init : goal.loop-index-init
-unfolding asks_of
-loop-index-init c = ap Ok (sym c.new-asks.ensures.items)
 
 pub returns-in-None-clause-fault : goal.returns-in-None-clause-fault
 returns-in-None-clause-fault c =
-    let none = lent_misfit c.args.texts.now c.loop-index.index _ c.loop-index-test.true c.loop-index.asks.items
-    c.loop-index.invariant (sym c.in_ok-asked.ensures ∙ c.in-None.is) in
+    let none = lent_misfit c.args.texts.now c.loop-index.index c.loop-index.asks.items c.loop-index.invariant _
+    c.loop-index-test.true (sym c.in_ok-asked.ensures ∙ c.in-None.is) in
     subst (ExplainsAsks (asks_of (lent c.args.texts.now))) (sym c.misfit.ensures) none
 
 pub loop-index-preserved : goal.loop-index-preserved
 loop-index-preserved c =
-    lent_ask c.args.texts.now c.loop-index.index _ c.loop-index-test.true c.loop-index.asks.items c.in-Some.asked
-    c.loop-index.invariant (sym c.in_ok-asked.ensures ∙ c.in-Some.is)
-    ∙ ap Ok (sym c.in_ok-push-in-Some.ensures.items)
+    rw c.in_ok-push-in-Some.ensures.items (lent_ask c.args.texts.now c.loop-index.index c.loop-index.asks.items
+    c.loop-index.invariant _ c.in-Some.asked c.loop-index-test.true (sym c.in_ok-asked.ensures ∙ c.in-Some.is))
+
+pub returns-clause-asks : goal.returns-clause-asks
+returns-clause-asks c =
+    all_read c.args.texts.now c.loop-index.index c.loop-index.asks.items c.loop-index.invariant (omega arith)

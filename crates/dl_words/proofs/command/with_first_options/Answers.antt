@@ -2,7 +2,4 @@
 use Rattle.dl_words.proofs.command.with_first_options.Goals as goal
 
 pub returns : goal.returns
-returns c = λ app is.
-    let make = c.with_option-command.ensures app is in
-    let bs = c.with_option-command-2.ensures _ make in
-    c.with_option.ensures _ bs
+returns c = λ app is. c.with_option.ensures _ (c.with_option-command-2.ensures _ (c.with_option-command.ensures app is))

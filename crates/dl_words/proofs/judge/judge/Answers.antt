@@ -6,11 +6,6 @@ use Rattle.dl_words.proofs.Judged.{asks_no_line, explained, fitting_tests, misfi
 use Rattle.dl_words.proofs.judge.judge.Goals as goal
 use Rattle.dl_words.proofs.judge.judge.Goals.{then-not-begin_plainly-via-then-not-begin_plainly, then-not-begin_plainly-via-else-not-begin_plainly+then-not-admits}
 
-pub returns-in_default-settings_of-clause-fault : goal.returns-in_default-settings_of-clause-fault
-returns-in_default-settings_of-clause-fault c =
-    misfit_found (found_of c.args.matches.now) c.in-Some.form c.in-Some.ensures
-    (and_left _ _ (and_left _ _ c.in_default-settings_of.ensures.none))
-
 pub returns-then-not-begin_plainly-clause-fault : goal.returns-then-not-begin_plainly-clause-fault
 returns-then-not-begin_plainly-clause-fault c =
     let found = found_of c.args.matches.now in

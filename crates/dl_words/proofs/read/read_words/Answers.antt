@@ -9,9 +9,8 @@ use Rattle.clap.specs.declared.error.kind.ErrorKind.{ErrorKind}
 use Rattle.clap.specs.declared.error.kind.ErrorKind.TheVariants as refusals
 use Rattle.dl_words.specs.Faults.{TellsRefusal}
 use Rattle.dl_words.proofs.Judged.{given, refused}
-use Rattle.dl_words.proofs.Shapes.{simple_command_is, simple_is}
 use Rattle.dl_words.proofs.Simulation.{Fails}
-use Rattle.dl_words.proofs.Whole.{matched, unfit}
+use Rattle.dl_words.proofs.Whole.{matched, simple_command_is, simple_is, unfit}
 use Rattle.dl_words.proofs.read.read_words.Goals as goal
 
 -- an error that is not for want of memory means that there is a fault

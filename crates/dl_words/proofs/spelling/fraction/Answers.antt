@@ -1,6 +1,7 @@
 -- The numeral's own test is the one of the words.
 use Rattle.dl_words.proofs.Common.{rules, ◌≡◌, ◌∙◌, true, false, refl, sym, ap, subst, IsNumeral, is_bad, is_numeral}
-use Rattle.dl_words.proofs.Numerals.{not_passed, numeral_is}
+use Rattle.dl_words.proofs.Numerals.{numeral_is}
+use Rattle.std.proofs.lemmas.Bool.{false_from_ne_true}
 use Rattle.dl_words.proofs.spelling.fraction.Goals as goal
 
 pub returns-then-not-is_numeral : goal.returns-then-not-is_numeral
@@ -22,6 +23,6 @@ returns-in-Ok c =
     let yes : is_numeral c.args.text.now ≡ true = ap is_numeral (sym bytes)
     ∙ sym (numeral_is c.as_bytes.result.now _ c.is_numeral.ensures) ∙ c.if-not-is_numeral.false in
     let good : is_bad c.args.digits c.args.text.now ≡ false = ap (is_bad c.args.digits) (sym again)
-    ∙ not_passed (is_bad c.args.digits c.as_bytes-2.result.now)
+    ∙ false_from_ne_true (is_bad c.args.digits c.as_bytes-2.result.now)
     (λ h. absurd (let e : false ≡ true = c.in-Ok.ensures.bad.1 h in cc)) in
     rw (yes, good, ← again, ← c.in-Ok.ensures.value) refl

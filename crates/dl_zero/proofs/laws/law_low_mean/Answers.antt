@@ -1,5 +1,4 @@
-use Rattle.std.proofs.Common.{◌^◌}
-use Rattle.std.proofs.lemmas.Nat.{pow_pos}
+use Rattle.dl_zero.proofs.Common.{◌^◌, pow_pos}
 use Rattle.dl_zero.proofs.Means.{mean_low}
 use Rattle.dl_zero.proofs.laws.law_low_mean.Goals as goal
 

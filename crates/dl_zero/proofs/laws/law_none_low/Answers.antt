@@ -1,5 +1,4 @@
-use Rattle.std.proofs.Common.{◌^◌}
-use Rattle.std.proofs.lemmas.Nat.{pow_pos}
+use Rattle.dl_zero.proofs.Common.{◌^◌, pow_pos}
 use Rattle.dl_zero.proofs.Means.{none_low}
 use Rattle.dl_zero.proofs.laws.law_none_low.Goals as goal
 

@@ -1,20 +1,14 @@
-use Rattle.dl_grid.proofs.Common.{arith}
-use Rattle.dl_grid.proofs.EndLists.{viewed, ends_long, ends_set, view_set}
+use Rattle.dl_grid.proofs.Common.{set, ap, ◌∙◌}
+use Rattle.dl_grid.proofs.EndLists.{cells_long, low_of, low_total, ends_set, view_set}
 use Rattle.dl_grid.proofs.grid.Grid.set.Goals as goal
-
-pub index_mut-requires : goal.index_mut-requires
-index_mut-requires g c = omega (arith, ends_long _ (viewed c.args.self.now c.self.invariant c.self.view_is))
-
-pub index_mut-requires-2 : goal.index_mut-requires-2
-index_mut-requires-2 g c = omega (arith, ends_long _ (viewed c.args.self.now c.self.invariant c.self.view_is))
 
 pub invariant_of-self : goal.invariant_of-self
 invariant_of-self g c =
-    let v = viewed c.args.self.now c.self.invariant c.self.view_is in
-    ends_set c.args.x c.args.v v c.requires.within c.requires.small c.requires.mass c.self.invariant
+    let p = c.self.invariant in
+    ends_set c.args.x c.args.v (rw (← c.self.view_is, cells_long p) at c.requires.within) c.requires.small
+    (rw (← c.self.view_is, low_total p, low_of c.args.x p) at c.requires.mass) p
 
 pub returns : goal.returns
 returns g c =
-    let v = viewed c.args.self.now c.self.invariant c.self.view_is in
-    view_set c.args.x c.args.v
-    (ends_set c.args.x c.args.v v c.requires.within c.requires.small c.requires.mass c.self.invariant) v
+    view_set c.args.x c.args.v (invariant_of-self g c) c.self.invariant
+    ∙ ap (λ cells. set cells c.args.x c.args.v) c.self.view_is

@@ -1,11 +1,10 @@
-use Rattle.dl_grid.proofs.Common.{◌^◌, ◌∙◌, refl, sym}
-use Rattle.dl_grid.proofs.EndLists.{viewed, ends_long, low_at_now, high_at_now, zero_at, zero_ends, zero_length}
+use Rattle.dl_grid.proofs.Common.{◌^◌, ◌∙◌, length-set, length-replicate}
+use Rattle.dl_grid.proofs.EndLists.{cells_long, low_of, high_of, zero_at, zero_ends}
 use Rattle.dl_grid.proofs.grid.Grid.zero.Goals as goal
 
 pub returns : goal.returns
 returns g c =
-    let r = c.requires in
-    let v = viewed _ (zero_ends g.row.B c.args.cells r) refl in
+    let made = zero_ends g.row.B c.args.cells c.requires in
     rw (
       c.in_ok-lows.ensures.items_if_clones_equal (λ y same. same),
       c.in_ok-highs.ensures.items_if_clones_equal (λ y same. same),
@@ -13,9 +12,9 @@ returns g c =
       c.units_of_one-2.ensures,
     )
     (record {
-      cells = sym (ends_long _ v) ∙ zero_length c.args.cells (2 ^ g.row.B);
-      low = λ x. sym (low_at_now x v) ∙ zero_at c.args.cells (2 ^ g.row.B) x r.some;
-      high = λ x. sym (high_at_now x v) ∙ zero_at c.args.cells (2 ^ g.row.B) x r.some;
+      cells = cells_long made ∙ rw (length-set, length-replicate);
+      low = λ x. low_of x made ∙ zero_at c.args.cells (2 ^ g.row.B) x c.requires.some;
+      high = λ x. high_of x made ∙ zero_at c.args.cells (2 ^ g.row.B) x c.requires.some;
     })
 
 pub invariant_of-result : goal.invariant_of-result

@@ -1,4 +1,4 @@
-use Rattle.std.proofs.Common.{rules}
+use Rattle.dl_top.proofs.Common.{rules}
 use Rattle.dl_top.proofs.fault.Fault.status.Goals as goal
 
 pub returns-in_default : goal.returns-in_default

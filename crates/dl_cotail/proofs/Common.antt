@@ -1,0 +1,30 @@
+-- The names that the proofs of this crate cite most, passed on from one place. Declares nothing.
+pub use Rattle.dl_measures.proofs.Common.{AreDeclarable, AreDeclared, AtLeast, AtMost, Cdf, Fraction, GridEncloses, Holds, IsFirstAtLeast, IsFirstFound, IsGrid, IsQuantile, Iv, List, Loss, Mean, One, Point, Some, Tail, add-one, ap, ap₂, are_units, arith, at_least_wider, at_most_wider, below_grows, below_more, below_nothing, cases_lt, cells_fit, div_ceil, fun_ext, get_or, high_at, high_cdf, inl, inr, length, low_at, low_cdf, lt_not_le, mass_high, min, min-eq_left, min-eq_right, mul-le-mul, mul-le-mul_left, mul-le-mul_right, mul-pos, num_below, one_fits, one_pos, outcomes_rise, over_add, over_lt, over_same, over_self, partial_sums, pow_pos, quantity_bounded, refl, scale_of, score, size_of, spread, subst, subst₂, suc, sym, take, to_holds, total, whole, zero, ℕ, ◌*ℚ◌, ◌*◌, ◌+ℚ◌, ◌+◌, ◌-ℚ◌, ◌-◌, ◌/ℚ◌, ◌/◌, ◌<ℚ◌, ◌<◌, ◌^◌, ◌over◌, ◌∙◌, ◌≡◌, ◌≤ℚ◌, ◌≤◌}
+unfoldable pub use Rattle.dl_measures.proofs.Common.{count_below}
+pub use Rattle.std.proofs.Common.{[], ◌∷◌}
+pub use Rattle.std.proofs.Math.Nat.{le_trans, lt-div-mul-add, min-le_left}
+pub use Rattle.std.specs.Prelude.{false, true, ◌⊎◌}
+pub use Rattle.dl_alloc.proofs.JointEnds.{all_split, joint_ends}
+pub use Rattle.dl_alloc.proofs.WeightedEnds.{fits, room_of}
+pub use Rattle.dl_cotail.specs.Widths.{conditional_width, cotail_width, joint_width}
+pub use Rattle.dl_exact.proofs.Counts.{below_first, below_le, below_pairs, below_plus, below_same, below_times, pairs_le, pairs_plus, pairs_same, pairs_within}
+pub use Rattle.dl_exact.proofs.Laws.{le_refl, ring, times_comm, times_le_both, times_left_comm, times_one}
+pub use Rattle.dl_exact.proofs.RoundingLaws.{div_ceil_least}
+unfoldable pub use Rattle.dl_exact.specs.Count.{count_pairs}
+pub use Rattle.dl_exact.specs.Sum.{sum_below, sum_to}
+pub use Rattle.dl_grid.proofs.PlaceSums.{high_is, low_sum, low_within, width_at, width_within}
+pub use Rattle.dl_grid.proofs.Room.{grid_room, size_few, size_within}
+pub use Rattle.dl_grid.proofs.WidthLaws.{cv_is, cv_rises, up_quotient}
+pub use Rattle.dl_grid.specs.Cells.{mass_low}
+pub use Rattle.dl_grid.specs.Room.{HasRoom}
+pub use Rattle.dl_iv.specs.Enclosure.{LiesIn}
+pub use Rattle.dl_measures.proofs.Reached.{is_around, is_bracket, is_tight, more, next_sum}
+pub use Rattle.dl_measures.proofs.Sums.{apart, high_mass}
+pub use Rattle.dl_measures.proofs.TailLaws.{in_order, inverse, parts, quotients_apart, rest, rest_above, rest_pos}
+pub use Rattle.dl_model.proofs.Declared.{holds_times, self_holds}
+pub use Rattle.dl_model.proofs.Outcomes.{loss_proper, mean_alone, outcomes_same, outcomes_times, total_alone_all, total_more_all}
+pub use Rattle.dl_model.specs.Measures.{mean_to_reach, unit_of, without}
+pub use Rattle.dl_model.specs.Program.{IsLoss, Joint, Part, Quantity, Share}
+unfoldable pub use Rattle.dl_model.specs.Program.{sum_over_outcomes}
+pub use Rattle.dl_model.specs.Series.{Rises, Series, times}
+pub use Rattle.dl_model.specs.Shares.{HoldsShare, unit_mean}
