@@ -3,7 +3,7 @@
 ghost use Rattle.std.specs.Prelude.{◌≡◌, ℕ, ◌-◌, ◌*◌, ◌^◌, ◌<◌, ◌≤◌, List, length};
 ghost use Rattle.dl_exact.specs.Fraction.{◌over◌};
 ghost use Rattle.dl_grid.specs.Cells.{low_at, high_at, spread, IsGrid};
-ghost use Rattle.dl_grid.specs.Width.{cv};
+ghost use Rattle.dl_grid.specs.Width.{convolution_spread};
 ghost use Rattle.dl_model.specs.Series.{AtMost, Holds};
 ghost use Rattle.dl_model.specs.Program.{Loss, AreDeclarable, One, Point, Joint, partial_sums, total};
 ghost use Rattle.dl_model.specs.Family.{GridEncloses};
@@ -50,7 +50,7 @@ pub fn joint_mean<const B: u32>(unit: &Grid<B>, others: &Grid<B>, x: u32) -> Iv<
         → Holds (partial_sums us (Joint i x)) (partial_sums us One) (result.lo over 2 ^ B)
         (result.hi over 2 ^ B) }
     ensures width { result.hi - result.lo
-        ≤ length unit.now * cv (2 ^ B) (length unit.now) (spread unit.now) (spread others.now) }
+        ≤ length unit.now * convolution_spread (2 ^ B) (length unit.now) (spread unit.now) (spread others.now) }
     // the unit has at most x, so the mean is at most x times each high end h of the probability of
     // x
     ensures below { (us : List Loss) (i h : ℕ) → AreDeclared us → i < length us

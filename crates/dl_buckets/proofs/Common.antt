@@ -19,7 +19,7 @@ pub use Rattle.dl_plan.proofs.CommonDenominators.{common_pos, den_divides}
 pub use Rattle.dl_plan.proofs.Fits.{given_ok, over_fits}
 pub use Rattle.dl_plan.specs.Clause.{Clause, IsClause, Overlap, kept, layer}
 pub use Rattle.dl_plan.specs.Fine.{IsFineTo30Bits, IsWhole, common_denominator}
-pub use Rattle.dl_plan.specs.Severity.{Means, Pairs, conditioned, mass, pairs_of, probability, shares}
+pub use Rattle.dl_plan.specs.Severity.{HasDistribution, Pairs, conditioned, mass, pairs_of, probability, shares}
 pub use Rattle.dl_plan.specs.Weighted.{amounts_of, weight_at, weight_sum}
 pub use Rattle.dl_plan.specs.declared.cede.CedeLayer.{CedeLayer}
 pub use Rattle.dl_plan.specs.declared.item.Item.{Item}

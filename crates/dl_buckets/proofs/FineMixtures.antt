@@ -1,5 +1,5 @@
 -- The products of the atoms of a mixture are fine exactly where those of the text are.
-use Rattle.dl_buckets.proofs.Common.{ℕ, ◌≡◌, ◌∙◌, ◌+◌, ◌<◌, ◌^◌, ◌==◌, List, [], ◌∷◌, ◌++◌, map, true, false, le-leb, cond, sym, ap, ap₂, subst, arith, inl, inr, AllZip, All, ◌∣◌, eqb_tells, map-append, All-nil, All-head, All-tail, All-append, All-map, sum_by-cons, Fraction, whole, ◌over◌, ◌*ℚ◌, times_zero, Item, Sev, IsFineTo30Bits, common_denominator, weight_at, Pairs, probability, pairs_of, Means, den_divides, whole_den, Weights, IsWeighing, scaled, mixture_of, mixture, is_fine, shares_in_mixture}
+use Rattle.dl_buckets.proofs.Common.{ℕ, ◌≡◌, ◌∙◌, ◌+◌, ◌<◌, ◌^◌, ◌==◌, List, [], ◌∷◌, ◌++◌, map, true, false, le-leb, cond, sym, ap, ap₂, subst, arith, inl, inr, AllZip, All, ◌∣◌, eqb_tells, map-append, All-nil, All-head, All-tail, All-append, All-map, sum_by-cons, Fraction, whole, ◌over◌, ◌*ℚ◌, times_zero, Item, Sev, IsFineTo30Bits, common_denominator, weight_at, Pairs, probability, pairs_of, HasDistribution, den_divides, whole_den, Weights, IsWeighing, scaled, mixture_of, mixture, is_fine, shares_in_mixture}
 use Rattle.dl_plan.proofs.CommonDenominators.{common_from_divides}
 use Rattle.dl_exact.proofs.Denominators.{over_zero as zero_over}
 use Rattle.dl_plan.proofs.Means.{severity_total as total_pos}
@@ -33,7 +33,7 @@ at_weight Q (i ∷ items) rising none all x = elim (eqb_tells i.amount x) [
     none_plus n = omega arith
 
 -- what holds of 0 and of each product of an atom holds of each product of what it means
-atom_back : (P : Fraction → Type 0) (w : Fraction) (sev : Sev) (ps : Pairs) → Means sev ps → P (whole 0)
+atom_back : (P : Fraction → Type 0) (w : Fraction) (sev : Sev) (ps : Pairs) → HasDistribution sev ps → P (whole 0)
     → All P (map (λ pair. pair.1) (scaled w (pairs_of sev))) → (x : ℕ) → P (w *ℚ probability ps x)
 atom_back P w sev ps means none all x =
     subst (λ t. P (w *ℚ t)) (means x)
@@ -43,7 +43,7 @@ atom_back P w sev ps means none all x =
     (subst (All P) (products_are w sev.total sev.items) all)) x)
 
 mixture_back : (P : Fraction → Type 0) (t : ℕ) (atoms : List Sev) (ws : List ℕ) (lists : List Pairs)
-    → AllZip Means atoms lists → P (whole 0)
+    → AllZip HasDistribution atoms lists → P (whole 0)
     → All P (map (λ pair. pair.1) (mixture_of t atoms ws)) → All P (shares_in_mixture (map (λ w. w over t) ws) lists)
 mixture_back P t [] [] [] means none all = All-nil P
 mixture_back P t [] (w ∷ ws) [] means none all = All-nil P
@@ -63,7 +63,7 @@ mixture_back P t (a ∷ atoms) (w ∷ ws) (ps ∷ lists) means none all =
     (all_right P (map (λ pair. pair.1) first) (map (λ pair. pair.1) others) apart))
 
 module _ (atoms : List Sev) (weights : Weights) (probs : List Fraction) (lists : List Pairs)
-    (is : IsWeighing probs weights) (means : AllZip Means atoms lists) where
+    (is : IsWeighing probs weights) (means : AllZip HasDistribution atoms lists) where
   fine_back : IsFineTo30Bits (map (λ pair. pair.1) (mixture atoms weights)) → IsFineTo30Bits
       (shares_in_mixture probs lists)
   fine_back fine =

@@ -1,5 +1,5 @@
 -- What a unit that keeps all rules on its severity gives.
-use Rattle.dl_buckets.proofs.Common.{leb-true, get_or, ◌≡◌, ◌^◌, ◌||◌, ◌&&◌, not, Bool, true, false, Option, Some, None, refl, sym, subst, All, IfSome, ◌≤◌, ℕ, Item, arith, length, length-map, Fraction, IsClause, IsClauseLayered, IsSevWithin, final_severity, made_of, GridSev, IsGridSev, has_atoms, has_severity, weights_of, probs_in_count, GridClause, GridUnit, IsFineTo30Bits, IsWhole, common_denominator, Pairs, Means, pairs_of, kept, Sev, is_fine, clause_of, shares_of, is_off, severity_in_layer, ceded_pairs, mixture_shares, support, off_grid_cession, AreProbabilities, atom_probs, not-false}
+use Rattle.dl_buckets.proofs.Common.{leb-true, get_or, ◌≡◌, ◌^◌, ◌||◌, ◌&&◌, not, Bool, true, false, Option, Some, None, refl, sym, subst, All, IfSome, ◌≤◌, ℕ, Item, arith, length, length-map, Fraction, IsClause, IsClauseLayered, IsSevWithin, final_severity, made_of, GridSev, IsGridSev, has_atoms, has_severity, weights_of, probs_in_count, GridClause, GridUnit, IsFineTo30Bits, IsWhole, common_denominator, Pairs, HasDistribution, pairs_of, kept, Sev, is_fine, clause_of, shares_of, is_off, severity_in_layer, ceded_pairs, mixture_shares, support, off_grid_cession, AreProbabilities, atom_probs, not-false}
 use Rattle.dl_buckets.specs.FineParts.{has_shares}
 use Rattle.dl_buckets.specs.Kept.{IsFineSev}
 use Rattle.dl_buckets.proofs.PastEdges.{whole_unless}
@@ -77,7 +77,7 @@ module _ (u : GridUnit) (fine : IsFineSev u) where
     cession_is = made_cession c (subst (λ o. IfSome o IsClauseLayered) is (occ_layered u fine.layered)) shares_fine
 
   -- what a severity that means the one in the layer gives the occurrence clause
-  pub keeps_whole : (sev : Sev) → Means sev (severity_in_layer u) → KeepsWhole (made_of u.occ) sev
+  pub keeps_whole : (sev : Sev) → HasDistribution sev (severity_in_layer u) → KeepsWhole (made_of u.occ) sev
   keeps_whole sev means = by_clause u.occ refl
     where
       by_clause : (o : Option GridClause) → u.occ ≡ o → KeepsWhole (made_of o) sev
@@ -85,17 +85,17 @@ module _ (u : GridUnit) (fine : IsFineSev u) where
       by_clause (Some c) is = subst (λ made. KeepsWhole made sev) (sym (made_whole c (shares_fine c is)))
           (cession_is c is, items_in sev (severity_in_layer u) means (λ x. IsWhole (kept (clause_of c) x)) (support_whole c is))
 
-  pub final_means : (layered made : Sev) → Means layered (severity_in_layer u)
-      → Means made (made_pairs (made_of u.occ) (pairs_of layered)) → Means made (final_severity u)
+  pub final_means : (layered made : Sev) → HasDistribution layered (severity_in_layer u)
+      → HasDistribution made (made_pairs (made_of u.occ) (pairs_of layered)) → HasDistribution made (final_severity u)
   final_means layered made means = by_clause u.occ refl
     where
-      by_clause : (o : Option GridClause) → u.occ ≡ o → Means made (made_pairs (made_of o) (pairs_of layered))
-          → Means made (ceded_pairs o (severity_in_layer u))
+      by_clause : (o : Option GridClause) → u.occ ≡ o → HasDistribution made (made_pairs (made_of o) (pairs_of layered))
+          → HasDistribution made (ceded_pairs o (severity_in_layer u))
       by_clause None is h = means_alike made _ _ h (alike_own layered _ means)
       by_clause (Some c) is h = mapped_means layered made (severity_in_layer u) (λ x. (kept (clause_of c) x).num) means
-          (subst (λ m. Means made (made_pairs m (pairs_of layered))) (made_whole c (shares_fine c is)) h)
+          (subst (λ m. HasDistribution made (made_pairs m (pairs_of layered))) (made_whole c (shares_fine c is)) h)
 
-  module _ (sev : Sev) (means : Means sev (final_severity u)) where
+  module _ (sev : Sev) (means : HasDistribution sev (final_severity u)) where
     -- its amounts are at most what bounds those of the atoms
     pub final_near : (b : ℕ) → IsSevWithin b u.sev → All (λ (i : Item). i.amount ≤ b) sev.items
     final_near b within = items_in sev (final_severity u) means (λ x. x ≤ b) (by_clause u.occ refl)

@@ -1,5 +1,5 @@
 -- The items of a severity stand among the amounts of positive probability of what it means.
-use Rattle.dl_buckets.proofs.Common.{◌≡◌, ◌∙◌, ℕ, zero, suc, ◌+◌, ◌<◌, ◌≤◌, ◌==◌, List, [], ◌∷◌, map, Bool, true, false, cond, get_or, refl, sym, ap, ap₂, subst, arith, inl, inr, AllZip, All, eqb_tells, All-nil, All-cons, All-head, All-tail, All-weaker, All-append, All-map, sum_by-cons, map-append, Fraction, whole, ◌over◌, ◌+ℚ◌, ◌*ℚ◌, ◌≤ℚ◌, ◌<ℚ◌, cases_lt, zero_plus, zero_or_pos, lt_of_lt_of_le, le_plus, plus_comm, over_lt, Item, Sev, amounts_of, weight_at, Pairs, probability, pairs_of, shares, Means, scaled, mixture_of, support, shares_in_mixture}
+use Rattle.dl_buckets.proofs.Common.{◌≡◌, ◌∙◌, ℕ, zero, suc, ◌+◌, ◌<◌, ◌≤◌, ◌==◌, List, [], ◌∷◌, map, Bool, true, false, cond, get_or, refl, sym, ap, ap₂, subst, arith, inl, inr, AllZip, All, eqb_tells, All-nil, All-cons, All-head, All-tail, All-weaker, All-append, All-map, sum_by-cons, map-append, Fraction, whole, ◌over◌, ◌+ℚ◌, ◌*ℚ◌, ◌≤ℚ◌, ◌<ℚ◌, cases_lt, zero_plus, zero_or_pos, lt_of_lt_of_le, le_plus, plus_comm, over_lt, Item, Sev, amounts_of, weight_at, Pairs, probability, pairs_of, shares, HasDistribution, scaled, mixture_of, support, shares_in_mixture}
 use Rattle.std.specs.List.Sorted.{IsStrictlyIncreasing}
 use Rattle.dl_exact.specs.Sum.{sum_over}
 use Rattle.dl_exact.proofs.Laws.{lt_not_le, le_refl}
@@ -99,7 +99,7 @@ own_weights (x ∷ xs) h =
     plus_none : (w : ℕ) → w + 0 ≡ w
     plus_none w = omega arith
 
-module _ (sev : Sev) (ps : Pairs) (means : Means sev ps) where
+module _ (sev : Sev) (ps : Pairs) (means : HasDistribution sev ps) where
   pub item_share : All (λ (i : Item). i.weight over sev.total ≡ probability ps i.amount) sev.items
   item_share k d h = ap (λ w. w over sev.total)
       (sym (own_weights sev.items (rises sev.items sev.weighted.rising) k d h)) ∙ means (get_or sev.items k d).amount
@@ -132,7 +132,7 @@ pub products_are : (w : Fraction) (t : ℕ) (items : List Item)
 products_are w t [] = refl
 products_are w t (i ∷ items) = ap (λ xs. w *ℚ i.weight over t ∷ xs) (products_are w t items)
 
-atom_products : (P : Fraction → Type 0) (w : Fraction) (sev : Sev) (ps : Pairs) → Means sev ps
+atom_products : (P : Fraction → Type 0) (w : Fraction) (sev : Sev) (ps : Pairs) → HasDistribution sev ps
     → All P (map (λ pair. w *ℚ probability ps pair.0) ps) → All P (map (λ pair. pair.1) (scaled w (pairs_of sev)))
 atom_products P w sev ps means all =
     subst (All P) (sym (products_are w sev.total sev.items))
@@ -143,7 +143,7 @@ atom_products P w sev ps means all =
 
 -- what holds of each product of what the atoms mean holds of each product of the atoms
 pub mixture_products : (P : Fraction → Type 0) (t : ℕ) (atoms : List Sev) (ws : List ℕ) (lists : List Pairs)
-    → AllZip Means atoms lists
+    → AllZip HasDistribution atoms lists
     → All P (shares_in_mixture (map (λ w. w over t) ws) lists) → All P (map (λ pair. pair.1) (mixture_of t atoms ws))
 mixture_products P t [] ws lists means all = All-nil P
 mixture_products P t (a ∷ atoms) [] lists means all = All-nil P
@@ -197,7 +197,7 @@ support_positive (p ∷ ps) =
     ])
 
 -- where no amount of the severity exceeds a, none of what it means does
-pub support_within : (sev : Sev) (ps : Pairs) → Means sev ps → (a : ℕ) → All (λ (i : Item). i.amount ≤ a) sev.items
+pub support_within : (sev : Sev) (ps : Pairs) → HasDistribution sev ps → (a : ℕ) → All (λ (i : Item). i.amount ≤ a) sev.items
     → All (λ x. x ≤ a) (support ps)
 support_within sev ps means a all k d h = elim (cases_lt a (get_or (support ps) k d)) [
   | inr le ↦ le

@@ -1,5 +1,5 @@
 -- What a severity means tells what each step makes of it.
-use Rattle.dl_buckets.proofs.Common.{ℕ, zero, suc, ◌≡◌, ◌∙◌, ◌+◌, ◌*◌, ◌/◌, ◌<◌, ◌≤◌, ◌⊎◌, List, [], ◌∷◌, ◌++◌, map, filter, Bool, true, false, cond, nat_lt, ◌==◌, refl, sym, ap, ap₂, arith, mul-pos, inl, inr, cases_lt, lt-ltb, le-ltb, Fraction, whole, ◌over◌, ◌+ℚ◌, ◌*ℚ◌, ◌/ℚ◌, zero_plus, times_zero, zero_times, over_same, Sev, Pairs, probability, mass, conditioned, pairs_of, Means, whole_num, whole_den, scaled, mixture_of, with_amounts, AllZip, mixed}
+use Rattle.dl_buckets.proofs.Common.{ℕ, zero, suc, ◌≡◌, ◌∙◌, ◌+◌, ◌*◌, ◌/◌, ◌<◌, ◌≤◌, ◌⊎◌, List, [], ◌∷◌, ◌++◌, map, filter, Bool, true, false, cond, nat_lt, ◌==◌, refl, sym, ap, ap₂, arith, mul-pos, inl, inr, cases_lt, lt-ltb, le-ltb, Fraction, whole, ◌over◌, ◌+ℚ◌, ◌*ℚ◌, ◌/ℚ◌, zero_plus, times_zero, zero_times, over_same, Sev, Pairs, probability, mass, conditioned, pairs_of, HasDistribution, whole_num, whole_den, scaled, mixture_of, with_amounts, AllZip, mixed}
 use Rattle.std.proofs.Math.Nat.{eq-zero-or-pos}
 use Rattle.dl_exact.specs.Gcd.{gcd}
 use Rattle.dl_exact.specs.Fraction.{nought, read_as}
@@ -188,22 +188,22 @@ conditioned_alike a ps qs h y =
 
 -- ---- the steps of a severity
 
-pub alike_own : (sev : Sev) (ps : Pairs) → Means sev ps → Alike (pairs_of sev) ps
+pub alike_own : (sev : Sev) (ps : Pairs) → HasDistribution sev ps → Alike (pairs_of sev) ps
 alike_own sev ps h x = probability-shares sev.items sev.total x (total_pos sev) ∙ h x
 
-pub own_means : (sev : Sev) → Means sev (pairs_of sev)
+pub own_means : (sev : Sev) → HasDistribution sev (pairs_of sev)
 own_means sev x = sym (probability-shares sev.items sev.total x (total_pos sev))
 
-pub means_alike : (sev : Sev) (ps qs : Pairs) → Means sev ps → Alike ps qs → Means sev qs
+pub means_alike : (sev : Sev) (ps qs : Pairs) → HasDistribution sev ps → Alike ps qs → HasDistribution sev qs
 means_alike sev ps qs h alike x = h x ∙ alike x
 
-pub conditioned_means : (sev made : Sev) (ps : Pairs) (a : ℕ) → Means sev ps → Means made (conditioned a (pairs_of sev))
-    → Means made (conditioned a ps)
+pub conditioned_means : (sev made : Sev) (ps : Pairs) (a : ℕ) → HasDistribution sev ps → HasDistribution made (conditioned a (pairs_of sev))
+    → HasDistribution made (conditioned a ps)
 conditioned_means sev made ps a h m = means_alike made _ _ m
     (conditioned_alike a (pairs_of sev) ps (alike_own sev ps h))
 
-pub mapped_means : (sev made : Sev) (ps : Pairs) (f : ℕ → ℕ) → Means sev ps → Means made (with_amounts f (pairs_of sev))
-    → Means made (with_amounts f ps)
+pub mapped_means : (sev made : Sev) (ps : Pairs) (f : ℕ → ℕ) → HasDistribution sev ps → HasDistribution made (with_amounts f (pairs_of sev))
+    → HasDistribution made (with_amounts f ps)
 mapped_means sev made ps f h m = means_alike made _ _ m (mapped_alike f (pairs_of sev) ps (alike_own sev ps h))
 
 -- ---- mixtures
@@ -222,7 +222,7 @@ probability-scaled w ps x =
     ∙ sum_over_times w (λ pair. cond (pair.0 == x) pair.1 (whole 0)) ps
 
 -- the mixture of severities by whole weights is that of what they mean
-pub mixture_alike : (t : ℕ) (atoms : List Sev) (ws : List ℕ) (lists : List Pairs) → AllZip Means atoms lists
+pub mixture_alike : (t : ℕ) (atoms : List Sev) (ws : List ℕ) (lists : List Pairs) → AllZip HasDistribution atoms lists
     → Alike (mixture_of t atoms ws) (mixed (map (λ w. w over t) ws) lists)
 mixture_alike t [] [] [] h x = refl
 mixture_alike t [] (w ∷ ws) [] h x = refl

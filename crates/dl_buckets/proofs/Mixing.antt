@@ -1,5 +1,5 @@
 -- The severities of the atoms, and their mixture, mean what the text says.
-use Rattle.dl_buckets.proofs.Common.{◌≡◌, ◌∙◌, ℕ, ◌+◌, ◌<◌, List, [], ◌∷◌, ◌++◌, map, zip, length, take, get_or, sym, ap, subst, AllZip, All, ◌∣◌, length-map, map_more, Fraction, ◌over◌, Sev, IsFineTo30Bits, common_denominator, Pairs, probability, Means, den_divides, Weights, IsWeighing, weighed, mixture, mixed, shares_in_mixture}
+use Rattle.dl_buckets.proofs.Common.{◌≡◌, ◌∙◌, ℕ, ◌+◌, ◌<◌, List, [], ◌∷◌, ◌++◌, map, zip, length, take, get_or, sym, ap, subst, AllZip, All, ◌∣◌, length-map, map_more, Fraction, ◌over◌, Sev, IsFineTo30Bits, common_denominator, Pairs, probability, HasDistribution, den_divides, Weights, IsWeighing, weighed, mixture, mixed, shares_in_mixture}
 use Rattle.std.proofs.lemmas.Slice.Zip.{all_zipped_more, AllZip-long, firsts-zip as zipped_firsts, seconds-zip as zipped_seconds}
 use Rattle.dl_sev.proofs.Mixed.{seconds, weighed-back}
 use Rattle.dl_buckets.proofs.Shared.{fine_with}
@@ -23,22 +23,22 @@ weighed_are xs probs made same is = weighed-back (zip xs probs) xs made (sym (zi
 
 pub pair-more : {A : Type 0} (g : A → Pairs) (atoms : List A) (i : ℕ) (a : A) (made new : List Sev) (x : Sev)
     → i < length atoms → a ≡ get_or atoms i a
-    → AllZip Means made (map g (take i atoms)) → new ≡ made ++ x ∷ [] → Means x (g a)
-    → AllZip Means new (map g (take (i + 1) atoms))
+    → AllZip HasDistribution made (map g (take i atoms)) → new ≡ made ++ x ∷ [] → HasDistribution x (g a)
+    → AllZip HasDistribution new (map g (take (i + 1) atoms))
 pair-more g atoms i a made new x h is so_far pushed m =
-    subst (λ ys. AllZip Means new ys) (ap (λ (b : _). map g (take i atoms) ++ g b ∷ []) is
+    subst (λ ys. AllZip HasDistribution new ys) (ap (λ (b : _). map g (take i atoms) ++ g b ∷ []) is
     ∙ sym (map_more g atoms i a h))
-    (subst (λ xs. AllZip Means xs (map g (take i atoms) ++ g a ∷ [])) (sym pushed)
-    (all_zipped_more Means made (map g (take i atoms)) x (g a) so_far m))
+    (subst (λ xs. AllZip HasDistribution xs (map g (take i atoms) ++ g a ∷ [])) (sym pushed)
+    (all_zipped_more HasDistribution made (map g (take i atoms)) x (g a) so_far m))
 
-pub pair_length : (xs : List Sev) (ys : List Pairs) → AllZip Means xs ys → length xs ≡ length ys
-pair_length xs ys h = sym (AllZip-long Means xs ys h)
+pub pair_length : (xs : List Sev) (ys : List Pairs) → AllZip HasDistribution xs ys → length xs ≡ length ys
+pair_length xs ys h = sym (AllZip-long HasDistribution xs ys h)
 
 -- ---- the mixture
 
 module _ (atoms : List Sev) (weights : Weights) (shares : List Fraction) (lists : List Pairs)
-    (is : IsWeighing shares weights) (means : AllZip Means atoms lists) where
-  pub mixture_means : (made : Sev) → Means made (mixture atoms weights) → Means made (mixed shares lists)
+    (is : IsWeighing shares weights) (means : AllZip HasDistribution atoms lists) where
+  pub mixture_means : (made : Sev) → HasDistribution made (mixture atoms weights) → HasDistribution made (mixed shares lists)
   mixture_means made h x = h x ∙ mixture_alike weights.total atoms weights.weights lists means x
       ∙ ap (λ ws. probability (mixed ws lists) x) is.shares
 

@@ -1,5 +1,5 @@
 -- How large the amounts of a severity are, and how many there are.
-use Rattle.dl_buckets.proofs.Common.{◌==◌, amounts_of, ℕ, ◌≡◌, ◌∙◌, ◌*◌, ◌/◌, ◌<◌, ◌≤◌, List, [], ◌∷◌, map, filter, zip, length, get_or, nat_lt, Option, Some, None, Bool, true, false, cond, refl, sym, ap, subst, arith, All, length-map, All-nil, All-cons, All-head, All-tail, All-weaker, All-append, All-map, Fraction, ◌*ℚ◌, IsWhole, Item, Sev, Pairs, conditioned, Means, Clause, layer, kept, IsClause, whole_num, scaled, with_amounts, layered, ceded_each, GridSev, GridLayer, atom_probs, atom_pairs, mixed, mixed_pairs, weights_of, is_conditioned, layer_pairs, support, IsGridAtom, IsGridSev, IsSevWithin}
+use Rattle.dl_buckets.proofs.Common.{◌==◌, amounts_of, ℕ, ◌≡◌, ◌∙◌, ◌*◌, ◌/◌, ◌<◌, ◌≤◌, List, [], ◌∷◌, map, filter, zip, length, get_or, nat_lt, Option, Some, None, Bool, true, false, cond, refl, sym, ap, subst, arith, All, length-map, All-nil, All-cons, All-head, All-tail, All-weaker, All-append, All-map, Fraction, ◌*ℚ◌, IsWhole, Item, Sev, Pairs, conditioned, HasDistribution, Clause, layer, kept, IsClause, whole_num, scaled, with_amounts, layered, ceded_each, GridSev, GridLayer, atom_probs, atom_pairs, mixed, mixed_pairs, weights_of, is_conditioned, layer_pairs, support, IsGridAtom, IsGridSev, IsSevWithin}
 use Rattle.std.proofs.Common.{length-append}
 use Rattle.std.specs.Cmp.{IsEquivalence}
 use Rattle.std.specs.Set.{is_member}
@@ -132,7 +132,7 @@ same_laws = record {
   congr = λ x y z e. grind (arith, nat_tests, e);
 }
 
-members_few : (sev : Sev) (ps : Pairs) → Means sev ps → length (amounts_of sev.items) ≤ length (support ps)
+members_few : (sev : Sev) (ps : Pairs) → HasDistribution sev ps → length (amounts_of sev.items) ≤ length (support ps)
 members_few sev ps means =
     let xs : List ℕ = amounts_of sev.items in
     let Q : ℕ → Type 0 = λ x. is_member ◌==◌ (support ps) x ≡ true in
@@ -148,7 +148,7 @@ support_few ps = subst (λ n. n ≤ length ps) (sym (length-map (filter (λ pair
     (filter_few (λ pair. is_positive pair.1) ps)
 
 -- a severity has no more items than what it means has amounts
-pub items_few : (sev : Sev) (ps : Pairs) → Means sev ps → length sev.items ≤ length ps
+pub items_few : (sev : Sev) (ps : Pairs) → HasDistribution sev ps → length sev.items ≤ length ps
 items_few sev ps means =
     omega (
       arith,
@@ -157,7 +157,7 @@ items_few sev ps means =
       length-map sev.items (λ (i : Item). i.amount),
     )
 
-pub items_near : (b : ℕ) (sev : Sev) (ps : Pairs) → Means sev ps → Near b ps
+pub items_near : (b : ℕ) (sev : Sev) (ps : Pairs) → HasDistribution sev ps → Near b ps
     → All (λ (i : Item). i.amount ≤ b) sev.items
 items_near b sev ps means near = items_in sev ps means (λ x. x ≤ b) (support_all (λ x. x ≤ b) ps near)
 

@@ -1,5 +1,5 @@
 -- Each step of a severity that is not refused gives one.
-use Rattle.dl_buckets.proofs.Common.{ℕ, ◌≡◌, ◌∙◌, ◌<◌, ◌≤◌, ◌^◌, List, map, length, nat_lt, refl, sym, ap, subst, arith, inl, inr, All, length-map, whole, ◌over◌, Item, Sev, IsFineTo30Bits, weight_sum, weight_at, Pairs, pairs_of, conditioned, probability, Means, Weights, sum_of, IsWeighing, with_amounts}
+use Rattle.dl_buckets.proofs.Common.{ℕ, ◌≡◌, ◌∙◌, ◌<◌, ◌≤◌, ◌^◌, List, map, length, nat_lt, refl, sym, ap, subst, arith, inl, inr, All, length-map, whole, ◌over◌, Item, Sev, IsFineTo30Bits, weight_sum, weight_at, Pairs, pairs_of, conditioned, probability, HasDistribution, Weights, sum_of, IsWeighing, with_amounts}
 use Rattle.std.proofs.Math.Nat.{eq-zero-or-pos}
 use Rattle.dl_sev.specs.Steps.{items_of, with_amount}
 use Rattle.dl_sev.proofs.Mixed.{firsts, seconds, weighed-back}
@@ -12,7 +12,7 @@ use Rattle.dl_buckets.proofs.Shared.{over_common, weighing}
 use Rattle.dl_buckets.proofs.Tables.{gathered}
 
 -- amounts with probabilities that are fine and sum to 1
-pub sev_of : (ps : Pairs) → IsFineTo30Bits (seconds ps) → sum_of (seconds ps) ≡ whole 1 → (sev : Sev) × Means sev ps
+pub sev_of : (ps : Pairs) → IsFineTo30Bits (seconds ps) → sum_of (seconds ps) ≡ whole 1 → (sev : Sev) × HasDistribution sev ps
 sev_of ps fine one =
     let weights : Weights = over_common (seconds ps) in
     let is : IsWeighing (seconds ps) weights = weighing (seconds ps) fine one in
@@ -29,7 +29,7 @@ sev_of ps fine one =
     )
 
 -- amounts mapped
-pub mapped_sev : (f : ℕ → ℕ) (sev : Sev) → (made : Sev) × Means made (with_amounts f (pairs_of sev))
+pub mapped_sev : (f : ℕ → ℕ) (sev : Sev) → (made : Sev) × HasDistribution made (with_amounts f (pairs_of sev))
 mapped_sev f sev =
     let items : List Item = map (with_amount f) sev.items in
     let total : weight_sum items ≡ sev.total = mapped_sum sev f items refl in
@@ -39,7 +39,7 @@ mapped_sev f sev =
 
 -- the part above an amount that one exceeds
 pub exceeding_sev : (a : ℕ) (sev : Sev) → (All (λ (i : Item). i.amount ≤ a) sev.items → ⊥)
-    → (made : Sev) × Means made (conditioned a (pairs_of sev))
+    → (made : Sev) × HasDistribution made (conditioned a (pairs_of sev))
 exceeding_sev a sev reached =
     let items : List Item = items_over a sev.items in
     let some : 0 < length items = elim (eq-zero-or-pos (length items)) [

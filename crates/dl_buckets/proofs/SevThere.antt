@@ -1,5 +1,5 @@
 -- A unit whose fractions are fine has a final severity.
-use Rattle.dl_buckets.proofs.Common.{ℕ, ◌≡◌, ◌∙◌, ◌≤◌, List, [], ◌∷◌, map, length, Bool, true, false, cond, Option, Some, None, refl, sym, subst, All, AllZip, length-map, All-head, All-tail, whole, Item, Sev, Weights, IsWeighing, IsFineTo30Bits, Pairs, conditioned, Means, layer, kept, sum_of, mixture, layered, GridAtom, GridLayer, GridClause, GridUnit, clause_of, atom_probs, atom_pairs, weights_of, mixed_pairs, is_conditioned, layer_pairs, severity_in_layer, ceded_pairs, final_severity, IsGridAtom, IsSevWithin, IsSevWeighted, AreProbabilities}
+use Rattle.dl_buckets.proofs.Common.{ℕ, ◌≡◌, ◌∙◌, ◌≤◌, List, [], ◌∷◌, map, length, Bool, true, false, cond, Option, Some, None, refl, sym, subst, All, AllZip, length-map, All-head, All-tail, whole, Item, Sev, Weights, IsWeighing, IsFineTo30Bits, Pairs, conditioned, HasDistribution, layer, kept, sum_of, mixture, layered, GridAtom, GridLayer, GridClause, GridUnit, clause_of, atom_probs, atom_pairs, weights_of, mixed_pairs, is_conditioned, layer_pairs, severity_in_layer, ceded_pairs, final_severity, IsGridAtom, IsSevWithin, IsSevWeighted, AreProbabilities}
 use Rattle.dl_buckets.specs.Kept.{IsFineSev}
 use Rattle.dl_sev.proofs.Mixed.{mixture_one}
 use Rattle.dl_buckets.proofs.Parts.{sev_weighted}
@@ -13,7 +13,7 @@ use Rattle.dl_buckets.proofs.SevSteps.{sev_of, mapped_sev, exceeding_sev}
 
 -- a severity that means these amounts
 abbrev pub Meant : Pairs → Type 0
-Meant ps = (sev : Sev) × Means sev ps
+Meant ps = (sev : Sev) × HasDistribution sev ps
 
 atom_sev : (a : GridAtom) → IsGridAtom a → AreProbabilities (atom_probs a)
     → Meant (atom_pairs a)
@@ -23,7 +23,7 @@ atom_sev a grid shared =
 
 atom_sevs : (atoms : List GridAtom) → All IsGridAtom atoms
     → All (λ a. AreProbabilities (atom_probs a)) atoms
-    → (sevs : List Sev) × AllZip Means sevs (map atom_pairs atoms)
+    → (sevs : List Sev) × AllZip HasDistribution sevs (map atom_pairs atoms)
 atom_sevs [] grid shared = ([], tt)
 atom_sevs (a ∷ atoms) grid shared =
     let first = atom_sev a (All-head IsGridAtom a atoms grid)
@@ -69,7 +69,7 @@ module _ (u : GridUnit) (fine : IsFineSev u) where
         (support_within all.0 mixed all.1 attach none)) in
         let made = mapped_sev cut part.0 in (
           made.0,
-          subst (λ b. Means made.0 (layered l.limit attach (cond b (conditioned attach mixed) mixed)))
+          subst (λ b. HasDistribution made.0 (layered l.limit attach (cond b (conditioned attach mixed) mixed)))
               (sym large)
               (mapped_means part.0 made.0 (conditioned attach mixed) cut
               (conditioned_means all.0 part.0 mixed attach all.1 part.1) made.1),
@@ -78,7 +78,7 @@ module _ (u : GridUnit) (fine : IsFineSev u) where
         let all = mixture_sev in
         let made = mapped_sev cut all.0 in (
           made.0,
-          subst (λ b. Means made.0 (layered l.limit attach (cond b (conditioned attach mixed) mixed)))
+          subst (λ b. HasDistribution made.0 (layered l.limit attach (cond b (conditioned attach mixed) mixed)))
               (sym small)
               (mapped_means all.0 made.0 mixed cut all.1 made.1),
         )
@@ -99,7 +99,7 @@ module _ (u : GridUnit) (fine : IsFineSev u) where
       (made.0, mapped_means sev.0 made.0 (severity_in_layer u) f sev.1 made.1)
 
   -- with few items, and small amounts
-  pub final_there : (sev : Sev) × Means sev (final_severity u)
+  pub final_there : (sev : Sev) × HasDistribution sev (final_severity u)
       × ((b : ℕ) → IsSevWithin b u.sev → All (λ (i : Item). i.amount ≤ b) sev.items) × (length sev.items ≤ 65536)
   final_there =
       let sev = final_of u.occ in

@@ -3,7 +3,7 @@ use Rattle.std.specs.Prelude.{◌≡◌, ◌&&◌, ◌||◌, Bool, true, false, 
 use Rattle.std.specs.List.{list_all}
 use Rattle.std.specs.Option.{MatchOption}
 use Rattle.dl_plan.specs.declared.severity.Sev.{Sev}
-use Rattle.dl_plan.specs.Severity.{Means, Pairs}
+use Rattle.dl_plan.specs.Severity.{HasDistribution, Pairs}
 use Rattle.dl_buckets.specs.Lists.{is_fine, probs_in_count}
 use Rattle.dl_buckets.specs.declared.grid.GridSev.{GridSev}
 use Rattle.dl_buckets.specs.declared.grid.GridClause.{GridClause}
@@ -22,7 +22,7 @@ has_severity s = has_atoms s && is_fine (weights_of s) && is_fine (mixture_share
 -- the result means these pairs, and is there exactly where a test passes
 abbrev pub MeansWhere : Bool → Pairs → Option Sev → Type 0
 MeansWhere test pairs made = MatchOption made (test ≡ false)
-    (λ sev. (test ≡ true) × Means sev pairs)
+    (λ sev. (test ≡ true) × HasDistribution sev pairs)
 
 -- the result is the severity in the layer, where the parts of the severity are fine
 abbrev pub IsWeighed : GridUnit → Option Sev → Type 0

@@ -3,7 +3,7 @@
 ghost use Rattle.std.specs.Prelude.{◌≡◌, None, true, false, map, IfOk, MatchOption};
 ghost use Rattle.std.specs.List.{AllZip};
 ghost use Rattle.dl_buckets.specs.Lists.{is_fine};
-ghost use Rattle.dl_plan.specs.Severity.{pairs_of, Means};
+ghost use Rattle.dl_plan.specs.Severity.{pairs_of, HasDistribution};
 ghost use Rattle.dl_buckets.specs.Severity.{atom_probs, atom_pairs, mixed_pairs, severity_in_layer, made_pairs, KeepsWhole};
 ghost use Rattle.dl_buckets.specs.Parts.{IsSevWeighted};
 ghost use Rattle.dl_buckets.specs.Kept.{IsWeighted, IsFineSev};
@@ -57,7 +57,7 @@ fn mixture(alloc: Global, sev: &GridSev) -> Result<Option<Sev>, AllocError>
 fn atom_severities(alloc: Global, sev: &GridSev) -> Result<Option<Vec<Sev>>, AllocError>
     requires { IsGridSev sev.now }
     ensures { IfOk result (λ made. MatchOption made (has_atoms sev.now ≡ false)
-        (λ sevs. (has_atoms sev.now ≡ true) × AllZip Means sevs.items (map atom_pairs sev.now.atoms))) }
+        (λ sevs. (has_atoms sev.now ≡ true) × AllZip HasDistribution sevs.items (map atom_pairs sev.now.atoms))) }
 {
     let mut made = Vec::new(alloc);
     'atoms: for atom in sev.atoms.as_slice() {
@@ -86,8 +86,8 @@ fn atom_severity(alloc: Global, atom: &GridAtom) -> Result<Option<Sev>, AllocErr
 fn severity_in_layer(alloc: Global, unit: &GridUnit, mixed: Sev) -> Result<Sev, AllocError>
     requires weighted { IsWeighted unit.now }
     requires reached { none_above unit.now ≡ None }
-    requires mixed { Means mixed (mixed_pairs unit.now.sev) }
-    ensures { IfOk result (λ sev. Means sev (severity_in_layer unit.now)) }
+    requires mixed { HasDistribution mixed (mixed_pairs unit.now.sev) }
+    ensures { IfOk result (λ sev. HasDistribution sev (severity_in_layer unit.now)) }
 {
     match &unit.layer {
         Some(layer) => {
@@ -106,7 +106,7 @@ fn severity_in_layer(alloc: Global, unit: &GridUnit, mixed: Sev) -> Result<Sev, 
 /// amount, which is whole.
 pub fn final_severity(alloc: Global, layered: Sev, occ: &MadeClause) -> Result<Sev, AllocError>
     requires { KeepsWhole occ.now layered }
-    ensures { IfOk result (λ sev. Means sev (made_pairs occ.now (pairs_of layered))) }
+    ensures { IfOk result (λ sev. HasDistribution sev (made_pairs occ.now (pairs_of layered))) }
 {
     match occ {
         MadeClause::Whole(cede, _) => cede_whole(alloc, &layered, cede),

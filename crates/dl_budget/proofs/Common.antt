@@ -21,7 +21,7 @@ unfoldable pub use Rattle.dl_exact.specs.Fraction.{◌/ℚ◌, ◌over◌, ◌�
 pub use Rattle.dl_frac.specs.Exact.{FitsFrac}
 pub use Rattle.dl_grid.proofs.WidthLaws.{cv_is, mixed_next, mixed_none, pw_doubled, pw_even, pw_none, pw_odd, pw_one, size_joined, size_step, up_quotient}
 pub use Rattle.dl_grid.specs.Width.{IsSizeWithin, sum_spread}
-unfoldable pub use Rattle.dl_grid.specs.Width.{cv, mixed_spread, pw, rounded_spread, up}
+unfoldable pub use Rattle.dl_grid.specs.Width.{convolution_spread, mixed_spread, power_spread, rounded_spread, up}
 pub use Rattle.dl_limits.specs.Limits.{IsPlanScale, most_amount, most_cells, most_claims_budget, most_expected, most_horizon, most_none_budget, most_operands, most_plan_cells, most_unit_budget, rarest_parts}
 pub use Rattle.dl_plan.proofs.Fits.{given_ok, given_value}
 pub use Rattle.dl_plan.proofs.Means.{admitted_fits}

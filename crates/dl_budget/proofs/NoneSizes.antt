@@ -1,5 +1,5 @@
 -- How large the budget of the probability of no claim can be: that of claims of amount 1 alone, on one cell.
-use Rattle.dl_budget.proofs.Common.{IsPlanScale, ℕ, zero, suc, ◌≡◌, ◌+◌, ◌*◌, ◌^◌, ◌≤◌, arith, inl, inr, refl, sym, ap, subst, ◌∙◌, div_ceil, mul-le-mul, mul-pos, pow_pos, pow-le-pow_right, most_operands, Fraction, whole, ◌≤ℚ◌, le_over, over_self, one_pos, cv, pw, rounded_spread, IsSizeWithin, pw_one, count_budget, gamma_budget, poisson_budget, ◌/◌, ◌%◌, ◌==◌, if◌then◌else◌, eqb_tells, div_ceil_times, most_none_budget, Freq, Fixed, Table, Bernoulli, Binomial, Poisson, Gamma, IsClaimCount, IsNewZero, pw_none, pw_even, pw_odd, halvings, none_budget}
+use Rattle.dl_budget.proofs.Common.{IsPlanScale, ℕ, zero, suc, ◌≡◌, ◌+◌, ◌*◌, ◌^◌, ◌≤◌, arith, inl, inr, refl, sym, ap, subst, ◌∙◌, div_ceil, mul-le-mul, mul-pos, pow_pos, pow-le-pow_right, most_operands, Fraction, whole, ◌≤ℚ◌, le_over, over_self, one_pos, convolution_spread, power_spread, rounded_spread, IsSizeWithin, pw_one, count_budget, gamma_budget, poisson_budget, ◌/◌, ◌%◌, ◌==◌, if◌then◌else◌, eqb_tells, div_ceil_times, most_none_budget, Freq, Fixed, Table, Bernoulli, Binomial, Poisson, Gamma, IsClaimCount, IsNewZero, pw_none, pw_even, pw_odd, halvings, none_budget}
 use Rattle.dl_budget.proofs.Bases.{gamma_base, gamma_parts}
 use Rattle.dl_budget.proofs.HalvingLaws.{first_below_14}
 use Rattle.dl_budget.proofs.SizeLaws.{room_below, size_least, square_size, odd_size, spread_near, far_below}
@@ -8,14 +8,14 @@ use Rattle.dl_budget.proofs.SizeLaws.{room_below, size_least, square_size, odd_s
 
 -- the power of a grid of which n together have room
 pw_size : (B k b fuel m : ℕ) → IsPlanScale B → m ≤ fuel → 1 ≤ m → m * rounded_spread k 0 b ≤ most_operands
-    → IsSizeWithin (2 ^ B) (m * rounded_spread k 0 b) (rounded_spread k 0 (pw (2 ^ B) k b m))
+    → IsSizeWithin (2 ^ B) (m * rounded_spread k 0 b) (rounded_spread k 0 (power_spread (2 ^ B) k b m))
 pw_size B k b zero m e few some room = absurd (omega (arith, few, some))
 pw_size B k b (suc fuel) m e few some room = elim (eqb_tells m 1) [
   | inl one ↦ size_least (2 ^ B) _ _
       (omega (
         arith,
         ap (λ t. t * rounded_spread k 0 b) one.1,
-        ap (λ t. rounded_spread k 0 (pw (2 ^ B) k b t)) one.1,
+        ap (λ t. rounded_spread k 0 (power_spread (2 ^ B) k b t)) one.1,
         ap (rounded_spread k 0) (pw_one (2 ^ B) k b),
       ))
   | inr more ↦ elim (eqb_tells (m % 2) 0) [
@@ -26,7 +26,7 @@ pw_size B k b (suc fuel) m e few some room = elim (eqb_tells m 1) [
         let least : 1 ≤ j = omega (arith, half, some) in
         square_size B k b j m _ _ e half room
         (pw_size B k b fuel j e (omega (arith, half, few, least)) least (room_of j m (omega (arith, half)) room))
-        (ap (pw (2 ^ B) k b) double ∙ pw_even (2 ^ B) k b j least)
+        (ap (power_spread (2 ^ B) k b) double ∙ pw_even (2 ^ B) k b j least)
     | inr odd ↦
         let j = m / 2 in
         let half : j + j + 1 ≡ m = omega (arith, odd.1) in
@@ -34,8 +34,8 @@ pw_size B k b (suc fuel) m e few some room = elim (eqb_tells m 1) [
         let least : 1 ≤ j = omega (arith, half, some, more.1) in
         (odd_size B k b j m _ _ _ e half room
         (pw_size B k b fuel j e (omega (arith, half, few)) least (room_of j m (omega (arith, half)) room)) refl
-        (ap (pw (2 ^ B) k b) double ∙ pw_odd (2 ^ B) k b j least
-        ∙ ap (λ t. cv (2 ^ B) k t b) (pw_even (2 ^ B) k b j least))).1
+        (ap (power_spread (2 ^ B) k b) double ∙ pw_odd (2 ^ B) k b j least
+        ∙ ap (λ t. convolution_spread (2 ^ B) k t b) (pw_even (2 ^ B) k b j least))).1
   ]
 ]
   where
@@ -43,18 +43,18 @@ pw_size B k b (suc fuel) m e few some room = elim (eqb_tells m 1) [
     room_of j m less room = room_below (rounded_spread k 0 b) j m less room
 
 pub pw_near : (B k b m c : ℕ) → IsPlanScale B → 1 ≤ m → m * rounded_spread k 0 b ≤ c → c ≤ most_operands
-    → 63 * pw (2 ^ B) k b m ≤ 64 * c
+    → 63 * power_spread (2 ^ B) k b m ≤ 64 * c
 pw_near B k b m c e some within room =
     let few : m * rounded_spread k 0 b ≤ most_operands = omega (arith, within, room) in
     omega (
       arith,
-      spread_near 63 (2 ^ B) k 0 _ (pw (2 ^ B) k b m) (pow_pos B) (far_below B _ e (omega (arith, few)))
+      spread_near 63 (2 ^ B) k 0 _ (power_spread (2 ^ B) k b m) (pow_pos B) (far_below B _ e (omega (arith, few)))
           (pw_size B k b m m e (omega arith) some few),
     )
 
 -- ---- each kind of count
 
-trials_small : (B b m : ℕ) → IsPlanScale B → b ≤ 6 → m ≤ 65536 → pw (2 ^ B) 1 b m ≤ most_none_budget
+trials_small : (B b m : ℕ) → IsPlanScale B → b ≤ 6 → m ≤ 65536 → power_spread (2 ^ B) 1 b m ≤ most_none_budget
 unfolding rounded_spread
 trials_small B b zero e narrow few = omega (arith, pw_none (2 ^ B) 1 b)
 trials_small B b (suc m) e narrow few =
@@ -84,7 +84,7 @@ gamma_small B r m e some most within =
     gamma_parts 5 r m.den m.num (div_ceil P w) m.positive (omega (arith, cross)) above in
     omega (
       arith,
-      ap (λ b. pw (2 ^ B) 1 b r) (gamma_base 5 r m some),
+      ap (λ b. power_spread (2 ^ B) 1 b r) (gamma_base 5 r m some),
       pw_near B 1 (div_ceil P w) r 110480 e some (omega (arith, power, most)) (omega arith),
     )
 

@@ -1,6 +1,6 @@
 -- How large spreads grow, over plain numbers. S is the scale, and a size is a spread with what one more convolution
 -- rounds.
-use Rattle.dl_budget.proofs.Common.{IsPlanScale, ℕ, ◌≡◌, ◌+◌, ◌-◌, ◌*◌, ◌^◌, ◌<◌, ◌≤◌, arith, refl, sym, ap, subst, ◌∙◌, mul-le-mul, mul-le-mul_left, mul-le-mul_right, pow-le-pow_right, le_of_mul-le-mul_right, pow_pos, div_ceil, most_operands, div_ceil_least, cv, pw, rounded_spread, IsSizeWithin, most_claims_budget, size_step, size_joined, pw_even, pw_odd}
+use Rattle.dl_budget.proofs.Common.{IsPlanScale, ℕ, ◌≡◌, ◌+◌, ◌-◌, ◌*◌, ◌^◌, ◌<◌, ◌≤◌, arith, refl, sym, ap, subst, ◌∙◌, mul-le-mul, mul-le-mul_left, mul-le-mul_right, pow-le-pow_right, le_of_mul-le-mul_right, pow_pos, div_ceil, most_operands, div_ceil_least, convolution_spread, power_spread, rounded_spread, IsSizeWithin, most_claims_budget, size_step, size_joined, pw_even, pw_odd}
 
 -- a size is within itself, and within what is greater
 pub size_least : (S c x : ℕ) → x ≤ c → IsSizeWithin S c x
@@ -31,7 +31,7 @@ spread_near n S k more c x pos far size =
 -- one step
 pub size_step_of : (S k more c d x y z : ℕ) → 0 < S → c + d ≤ S → IsSizeWithin S c (rounded_spread k more x)
     → IsSizeWithin S d (rounded_spread k more y)
-    → z ≡ cv S k x y + more → IsSizeWithin S (c + d) (rounded_spread k more z)
+    → z ≡ convolution_spread S k x y + more → IsSizeWithin S (c + d) (rounded_spread k more z)
 size_step_of S k more c d x y z pos room hx hy e =
     size_joined S c d _ _ _ pos room hx hy
     (subst (λ t. (S + rounded_spread k more t) * S ≤ (S + rounded_spread k more x) * (S + rounded_spread k more y))
@@ -52,7 +52,7 @@ below B c scale h = omega (arith, h, scale_least B scale)
 -- one step that stays below
 pub within_step : (B k more c d n x y z : ℕ) → IsPlanScale B → c + d ≡ n → n ≤ 2 ^ 44
     → IsSizeWithin (2 ^ B) c (rounded_spread k more x) → IsSizeWithin (2 ^ B) d (rounded_spread k more y)
-    → z ≡ cv (2 ^ B) k x y + more → IsSizeWithin (2 ^ B) n (rounded_spread k more z)
+    → z ≡ convolution_spread (2 ^ B) k x y + more → IsSizeWithin (2 ^ B) n (rounded_spread k more z)
 within_step B k more c d n x y z e sum room hx hy step =
     subst (λ t. IsSizeWithin (2 ^ B) t (rounded_spread k more z)) sum
     (size_step_of (2 ^ B) k more c d x y z (pow_pos B) (omega (arith, sum, below B n e room)) hx hy step)
@@ -69,14 +69,14 @@ unit_small B k more c x e room size =
 -- a square, and a square with one more
 pub square_size : (B k b m n x y : ℕ) → IsPlanScale B → m + m ≡ n → n * rounded_spread k 0 b ≤ most_operands
     → IsSizeWithin (2 ^ B) (m * rounded_spread k 0 b) (rounded_spread k 0 x)
-    → y ≡ cv (2 ^ B) k x x → IsSizeWithin (2 ^ B) (n * rounded_spread k 0 b) (rounded_spread k 0 y)
+    → y ≡ convolution_spread (2 ^ B) k x x → IsSizeWithin (2 ^ B) (n * rounded_spread k 0 b) (rounded_spread k 0 y)
 square_size B k b m n x y e sum room size step =
     within_step B k 0 _ _ _ x x y e (omega (arith, ap (λ t. t * rounded_spread k 0 b) sum)) (omega (arith, room))
     size size (step ∙ omega arith)
 
 pub next_size : (B k b m n x y : ℕ) → IsPlanScale B → m + 1 ≡ n → n * rounded_spread k 0 b ≤ most_operands
     → IsSizeWithin (2 ^ B) (m * rounded_spread k 0 b) (rounded_spread k 0 x)
-    → y ≡ cv (2 ^ B) k x b → IsSizeWithin (2 ^ B) (n * rounded_spread k 0 b) (rounded_spread k 0 y)
+    → y ≡ convolution_spread (2 ^ B) k x b → IsSizeWithin (2 ^ B) (n * rounded_spread k 0 b) (rounded_spread k 0 y)
 next_size B k b m n x y e sum room size step =
     within_step B k 0 _ (rounded_spread k 0 b) _ x b y e (omega (arith, ap (λ t. t * rounded_spread k 0 b) sum))
     (omega (arith, room)) size (size_least (2 ^ B) _ _ (omega arith)) (step ∙ omega arith)
@@ -89,21 +89,21 @@ pub base_small : (k more b n : ℕ) → 1 ≤ n → n * rounded_spread k more b 
 unfolding rounded_spread
 base_small k more b n some room = omega (arith, room_below (b + 2 * k + 1 + more) 1 n some room)
 
-pub square_value : (S k b m n x y : ℕ) → 1 ≤ m → m + m ≡ n → x ≡ pw S k b m → y ≡ cv S k x x → y ≡ pw S k b n
+pub square_value : (S k b m n x y : ℕ) → 1 ≤ m → m + m ≡ n → x ≡ power_spread S k b m → y ≡ convolution_spread S k x x → y ≡ power_spread S k b n
 square_value S k b m n x y some sum half step =
     let double : 2 * m ≡ n = omega (arith, sum) in
-    step ∙ ap (λ t. cv S k t t) half ∙ sym (pw_even S k b m some) ∙ ap (pw S k b) double
+    step ∙ ap (λ t. convolution_spread S k t t) half ∙ sym (pw_even S k b m some) ∙ ap (power_spread S k b) double
 
-pub next_value : (S k b m n x y : ℕ) → 1 ≤ m → m + m + 1 ≡ n → x ≡ pw S k b (m + m) → y ≡ cv S k x b → y ≡ pw S k b n
+pub next_value : (S k b m n x y : ℕ) → 1 ≤ m → m + m + 1 ≡ n → x ≡ power_spread S k b (m + m) → y ≡ convolution_spread S k x b → y ≡ power_spread S k b n
 next_value S k b m n x y some sum even step =
     let double : m + m ≡ 2 * m = omega arith in
     let more : 2 * m + 1 ≡ n = omega (arith, sum) in
-    step ∙ ap (λ t. cv S k t b) (even ∙ ap (pw S k b) double) ∙ sym (pw_odd S k b m some) ∙ ap (pw S k b) more
+    step ∙ ap (λ t. convolution_spread S k t b) (even ∙ ap (power_spread S k b) double) ∙ sym (pw_odd S k b m some) ∙ ap (power_spread S k b) more
 
 -- a square's, and that of one more, from the half
 pub odd_size : (B k b m n x y z : ℕ) → IsPlanScale B → m + m + 1 ≡ n → n * rounded_spread k 0 b ≤ most_operands
-    → IsSizeWithin (2 ^ B) (m * rounded_spread k 0 b) (rounded_spread k 0 x) → y ≡ cv (2 ^ B) k x x
-    → z ≡ cv (2 ^ B) k y b
+    → IsSizeWithin (2 ^ B) (m * rounded_spread k 0 b) (rounded_spread k 0 x) → y ≡ convolution_spread (2 ^ B) k x x
+    → z ≡ convolution_spread (2 ^ B) k y b
     → (y ≤ most_claims_budget) × IsSizeWithin (2 ^ B) (n * rounded_spread k 0 b) (rounded_spread k 0 z)
 odd_size B k b m n x y z e sum room half square step =
     let less : (m + m) * rounded_spread k 0 b ≤ most_operands =

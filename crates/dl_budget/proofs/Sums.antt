@@ -1,5 +1,5 @@
 -- Budgets of sums of units, as a loop over the units makes them.
-use Rattle.dl_budget.proofs.Common.{IsPlanScale, ℕ, suc, ◌≡◌, ◌+◌, ◌-◌, ◌*◌, ◌^◌, ◌<◌, ◌≤◌, List, [], ◌∷◌, length, get_or, take, drop, arith, sym, ap, ap₂, subst, ◌∙◌, fold, remove, mul-le-mul, pow_pos, take_all, cv, rounded_spread, IsSizeWithin, sum_spread, IsOfUnits, unit_budgets, from_there, ◌++◌, length-map, length-take, length-drop, get_or-map, take-map, drop-map, fold_more, fold-append, most_unit_budget, UnitOfPlan, unit_budget}
+use Rattle.dl_budget.proofs.Common.{IsPlanScale, ℕ, suc, ◌≡◌, ◌+◌, ◌-◌, ◌*◌, ◌^◌, ◌<◌, ◌≤◌, List, [], ◌∷◌, length, get_or, take, drop, arith, sym, ap, ap₂, subst, ◌∙◌, fold, remove, mul-le-mul, pow_pos, take_all, convolution_spread, rounded_spread, IsSizeWithin, sum_spread, IsOfUnits, unit_budgets, from_there, ◌++◌, length-map, length-take, length-drop, get_or-map, take-map, drop-map, fold_more, fold-append, most_unit_budget, UnitOfPlan, unit_budget}
 use Rattle.dl_budget.proofs.SizeLaws.{size_least, within_step, spread_near, below}
 
 pub budgets_length : (S cells : ℕ) (us : List UnitOfPlan) → length (unit_budgets S cells us) ≡ length us
@@ -15,16 +15,16 @@ budget_here S cells us i b u inside is here =
 -- one more unit
 pub budget_next : (S cells : ℕ) (us : List UnitOfPlan) (i sum t x b : ℕ) (u : UnitOfPlan) → i < length us
     → u ≡ get_or us i u
-    → t ≡ fold (cv S cells) sum (take i (unit_budgets S cells us)) → b ≡ unit_budget S cells u → x ≡ cv S cells t b
-    → x ≡ fold (cv S cells) sum (take (i + 1) (unit_budgets S cells us))
+    → t ≡ fold (convolution_spread S cells) sum (take i (unit_budgets S cells us)) → b ≡ unit_budget S cells u → x ≡ convolution_spread S cells t b
+    → x ≡ fold (convolution_spread S cells) sum (take (i + 1) (unit_budgets S cells us))
 budget_next S cells us i sum t x b u inside is before here step =
-    step ∙ ap₂ (cv S cells) before (budget_here S cells us i b u inside is here)
-    ∙ sym (fold_more (cv S cells) sum (unit_budgets S cells us) i 0 (omega (arith, budgets_length S cells us, inside)))
+    step ∙ ap₂ (convolution_spread S cells) before (budget_here S cells us i b u inside is here)
+    ∙ sym (fold_more (convolution_spread S cells) sum (unit_budgets S cells us) i 0 (omega (arith, budgets_length S cells us, inside)))
 
 pub budget_all : (S cells : ℕ) (us : List UnitOfPlan) (i sum t : ℕ) → length us ≤ i
-    → t ≡ fold (cv S cells) sum (take i (unit_budgets S cells us)) → t ≡ fold (cv S cells) sum (unit_budgets S cells us)
+    → t ≡ fold (convolution_spread S cells) sum (take i (unit_budgets S cells us)) → t ≡ fold (convolution_spread S cells) sum (unit_budgets S cells us)
 budget_all S cells us i sum t past e =
-    e ∙ ap (fold (cv S cells) sum) (take_all i (unit_budgets S cells us)
+    e ∙ ap (fold (convolution_spread S cells) sum) (take_all i (unit_budgets S cells us)
     (omega (arith, budgets_length S cells us, past)))
 
 -- ---- sizes
@@ -48,7 +48,7 @@ one_unit B cells x small = size_least (2 ^ B) _ _ (omega (arith, small))
 
 -- one unit more
 pub sum_size_next : (B cells n sum b x : ℕ) → IsPlanScale B → cells ≤ 65536 → n + 1 ≤ 16 → IsOfUnits (2 ^ B) cells n sum
-    → b ≤ most_unit_budget → x ≡ cv (2 ^ B) cells sum b
+    → b ≤ most_unit_budget → x ≡ convolution_spread (2 ^ B) cells sum b
     → IsOfUnits (2 ^ B) cells (n + 1) x
 sum_size_next B cells n sum b x e few most before small step =
     within_step B cells 0 _ _ _ sum b x e (omega arith) (omega (arith, units_small cells (n + 1) few most)) before
@@ -70,23 +70,23 @@ size_at B cells m n x e size = subst (λ t. IsOfUnits (2 ^ B) cells t x) e size
 
 pub sum_from_first : (S cells : ℕ) (us rest : List UnitOfPlan) (u : UnitOfPlan) (b x : ℕ) → 1 ≤ length us
     → rest ≡ drop 1 us → u ≡ get_or us 0 u
-    → b ≡ unit_budget S cells u → x ≡ fold (cv S cells) b (unit_budgets S cells rest)
+    → b ≡ unit_budget S cells u → x ≡ fold (convolution_spread S cells) b (unit_budgets S cells rest)
     → x ≡ sum_spread S cells (unit_budgets S cells us)
 sum_from_first S cells [] rest u b x some split is here later = absurd (omega (arith, some))
 sum_from_first S cells (v ∷ us) rest u b x some split is here later =
-    later ∙ ap₂ (λ y t. fold (cv S cells) y (unit_budgets S cells t)) (here ∙ ap (unit_budget S cells) is) split
+    later ∙ ap₂ (λ y t. fold (convolution_spread S cells) y (unit_budgets S cells t)) (here ∙ ap (unit_budget S cells) is) split
 
 -- ---- all units but one
 
 sum_joined : (S cells : ℕ) (ds more : List ℕ) → 1 ≤ length ds
-    → sum_spread S cells (ds ++ more) ≡ fold (cv S cells) (sum_spread S cells ds) more
+    → sum_spread S cells (ds ++ more) ≡ fold (convolution_spread S cells) (sum_spread S cells ds) more
 sum_joined S cells [] more some = absurd (omega (arith, some))
-sum_joined S cells (d ∷ ds) more some = fold-append (cv S cells) d ds more
+sum_joined S cells (d ∷ ds) more some = fold-append (convolution_spread S cells) d ds more
 
 -- the units before i and those after it
 pub sum_of_others : (S cells : ℕ) (us before after : List UnitOfPlan) (i x y : ℕ) → before ≡ take i us
     → after ≡ drop (suc i) us → 1 ≤ length before
-    → x ≡ sum_spread S cells (unit_budgets S cells before) → y ≡ fold (cv S cells) x (unit_budgets S cells after)
+    → x ≡ sum_spread S cells (unit_budgets S cells before) → y ≡ fold (convolution_spread S cells) x (unit_budgets S cells after)
     → y ≡ sum_spread S cells (remove (unit_budgets S cells us) i)
 sum_of_others S cells us before after i x y cut rest some first further =
     let front : unit_budgets S cells before ≡ take i (unit_budgets S cells us) = ap (unit_budgets S cells) cut
@@ -95,7 +95,7 @@ sum_of_others S cells us before after i x y cut rest some first further =
     ∙ sym (drop-map (unit_budget S cells) (suc i) us) in
     let long : 1 ≤ length (take i (unit_budgets S cells us)) =
     omega (arith, some, ap length front, budgets_length S cells before) in
-    further ∙ ap₂ (fold (cv S cells)) (first ∙ ap (sum_spread S cells) front) back
+    further ∙ ap₂ (fold (convolution_spread S cells)) (first ∙ ap (sum_spread S cells) front) back
     ∙ sym (sum_joined S cells (take i (unit_budgets S cells us)) (drop (suc i) (unit_budgets S cells us)) long)
 
 -- no unit before i

@@ -3,7 +3,7 @@ use Rattle.std.specs.Prelude.{ℕ, ◌+◌, ◌-◌, ◌*◌, ◌^◌, ◌<◌, 
 use Rattle.std.specs.List.{position_or_len}
 use Rattle.dl_limits.specs.Limits.{rarest_parts}
 use Rattle.dl_exact.specs.Fraction.{Fraction, whole, ◌over◌, ◌*ℚ◌}
-use Rattle.dl_grid.specs.Width.{up, cv, layer_width, tail_width}
+use Rattle.dl_grid.specs.Width.{up, convolution_spread, layer_width, tail_width}
 use Rattle.dl_plan.specs.declared.plan.Unit.{Unit as UnitOfPlan}
 use Rattle.dl_plan.specs.declared.plan.Plan.{Plan}
 use Rattle.dl_plan.specs.declared.settings.Ask.{Ask}
@@ -32,7 +32,7 @@ named_units units asks = map (λ asked. named_unit units asked.ask) asks
 -- the share of unit i in the total: of independent units all of its outcomes beside all of those of
 -- the others, on each cell; of units that share a factor, all of its claims beside the raised unit
 abbrev pub joint_by : Option ℕ → (S : ℕ) → Plan → ℕ → ℕ
-joint_by None S plan i = plan.cells * cv S plan.cells
+joint_by None S plan i = plan.cells * convolution_spread S plan.cells
     (get_or (unit_budgets S plan.cells plan.units) i 0) (others_budget S plan i)
 joint_by (Some r) S plan i = shared_joint_budget plan.cells
     (raised_budget S plan.cells r plan.units) (thinned_at plan.units i)

@@ -13,7 +13,7 @@ ghost use Rattle.dl_budget.specs.Once.{AreBudgetsOf};
 
 use crate::once::{Budgets, budgets_of};
 use crate::shared::{raised_budget, shared_joint_budget};
-use crate::steps::joined;
+use crate::steps::convolution_spread;
 use crate::units::{others_budget, unit_budget, unit_mean_budget};
 use dl_frac::Frac;
 use dl_grid::units_of_one;
@@ -152,7 +152,7 @@ fn joint_alone<const B: u32>(plan: &Plan, i: u32) -> u128
     ensures small { result ≤ 2 ^ 62 }
 {
     let unit = unit_budget::<B>(&plan.units.as_slice()[i as usize], plan.cells);
-    plan.cells as u128 * joined::<B>(plan.cells, unit, others_budget::<B>(plan, i))
+    plan.cells as u128 * convolution_spread::<B>(plan.cells, unit, others_budget::<B>(plan, i))
 }
 
 /// The budget of that share over the probability of the total.

@@ -8,7 +8,7 @@ ghost use Rattle.dl_plan.specs.Count.{expected_count, IsClaimCount};
 ghost use Rattle.dl_plan.specs.Valid.{claims_alone, IsNewZero, IsValidUnit};
 ghost use Rattle.dl_budget.specs.Claims.{poisson_budget, gamma_budget, claims_budget, none_budget};
 
-use crate::steps::{doubled, halvings, listed, power};
+use crate::steps::{doubled, halvings, listed, power_spread};
 use dl_frac::Frac;
 use dl_plan::{Freq, Sev, greatest_amount};
 
@@ -23,10 +23,10 @@ pub fn claims_budget<const B: u32>(freq: &Freq, sev: &Sev, cells: u32) -> u128
 {
     let items = sev.items.as_slice().len() as u128;
     match freq {
-        Freq::Fixed(claims) => power::<B>(cells, items, *claims),
+        Freq::Fixed(claims) => power_spread::<B>(cells, items, *claims),
         Freq::Table { counts, .. } => listed::<B>(cells, items, greatest_amount(counts.as_slice())),
         Freq::Bernoulli(_) => 3 * (items + 1),
-        Freq::Binomial { trials, .. } => power::<B>(cells, 3 * (items + 1), *trials),
+        Freq::Binomial { trials, .. } => power_spread::<B>(cells, 3 * (items + 1), *trials),
         Freq::Poisson(_) => poisson_budget::<B>(freq.thinned(sev), cells),
         Freq::Gamma { shape, .. } => gamma_budget::<B>(freq.thinned(sev), *shape, cells),
     }
@@ -43,10 +43,10 @@ pub fn none_budget<const B: u32>(freq: &Freq) -> u128
     ensures small { result ≤ most_none_budget }
 {
     match freq {
-        Freq::Fixed(claims) => power::<B>(1, 1, *claims),
+        Freq::Fixed(claims) => power_spread::<B>(1, 1, *claims),
         Freq::Table { .. } => 0,
         Freq::Bernoulli(_) => 6,
-        Freq::Binomial { trials, .. } => power::<B>(1, 6, *trials),
+        Freq::Binomial { trials, .. } => power_spread::<B>(1, 6, *trials),
         Freq::Poisson(mean) => poisson_budget::<B>(*mean, 1),
         Freq::Gamma { shape, mean } => gamma_budget::<B>(*mean, *shape, 1),
     }
@@ -84,5 +84,5 @@ pub(crate) fn gamma_budget<const B: u32>(mean: Frac, shape: u32, cells: u32) -> 
     }
     let whole = mean.den() as u128 * shape as u128;
     let parts = (4 * cells as u128 + 1) * (whole + mean.num() as u128);
-    power::<B>(cells, parts.div_ceil(whole), shape)
+    power_spread::<B>(cells, parts.div_ceil(whole), shape)
 }

@@ -11,7 +11,7 @@ ghost use Rattle.dl_budget.specs.Halvings.{IsHalvings, halvings};
 /// Each unit of a valid plan has the horizon that `horizon` tells, of at most 16,384 cells where
 /// the plan has up to 4,096 cells, else 65,536, and no other: budgets are functions of the plan.
 pub fn law_horizons()
-    ensures told { (plan : Plan) → IsValid plan
+    ensures known { (plan : Plan) → IsValid plan
         → All (λ u. IsHorizonOf u.cede plan.cells (horizon u.cede plan.cells)) plan.units }
     ensures few { (plan : Plan) → IsValid plan
         → All (λ u. horizon u.cede plan.cells ≤ most_horizon plan.cells) plan.units }

@@ -15,5 +15,5 @@ pub use asks::{ask_budget, named_unit, needed, needed_with, passes};
 pub use claims::{claims_budget, none_budget};
 pub use laws::{law_halvings, law_horizons};
 pub use once::{Budgets, budgets_of};
-pub use steps::{doubled, halvings, joined, listed, power};
+pub use steps::{convolution_spread, doubled, halvings, listed, power_spread};
 pub use units::{others_budget, total_budget, unit_budget};

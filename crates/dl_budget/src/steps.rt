@@ -3,18 +3,18 @@
 ghost use Rattle.std.specs.Prelude.{ℕ, ◌≡◌, ◌+◌, ◌*◌, ◌^◌, ◌≤◌};
 ghost use Rattle.dl_limits.specs.Limits.{IsPlanScale, budget_bound, most_claims_budget, most_expected, most_operands};
 ghost use Rattle.dl_exact.specs.Fraction.{whole, ◌≤ℚ◌};
-ghost use Rattle.dl_grid.specs.Width.{cv, pw, mixed_spread, rounded_spread, IsSizeWithin};
+ghost use Rattle.dl_grid.specs.Width.{convolution_spread, power_spread, mixed_spread, rounded_spread, IsSizeWithin};
 ghost use Rattle.dl_budget.specs.Halvings.{IsHalvings, halvings};
 
 use dl_frac::Frac;
 use dl_grid::units_of_one;
 
 /// The spread of a convolution on `cells` cells, of grids with the spreads `x` and `y`.
-pub fn joined<const B: u32>(cells: u32, x: u128, y: u128) -> u128
+pub fn convolution_spread<const B: u32>(cells: u32, x: u128, y: u128) -> u128
     requires scale { IsPlanScale B }
     requires left { x ≤ budget_bound }
     requires right { y ≤ budget_bound }
-    ensures value { result ≡ cv (2 ^ B) cells x y }
+    ensures value { result ≡ convolution_spread (2 ^ B) cells x y }
     ensures small { result ≤ 2 ^ 46 }
 {
     let product = (x * y).div_ceil(units_of_one(B));
@@ -22,10 +22,10 @@ pub fn joined<const B: u32>(cells: u32, x: u128, y: u128) -> u128
 }
 
 /// The spread of the `n`-th power of a grid with the spread `base`.
-pub fn power<const B: u32>(cells: u32, base: u128, n: u32) -> u128
+pub fn power_spread<const B: u32>(cells: u32, base: u128, n: u32) -> u128
     requires scale { IsPlanScale B }
     requires room { n * rounded_spread cells 0 base ≤ most_operands }
-    ensures value { result ≡ pw (2 ^ B) cells base n }
+    ensures value { result ≡ power_spread (2 ^ B) cells base n }
     ensures size { 1 ≤ n → IsSizeWithin (2 ^ B) (n * rounded_spread cells 0 base)
         (rounded_spread cells 0 result) }
     ensures small { result ≤ most_claims_budget }
@@ -36,12 +36,12 @@ pub fn power<const B: u32>(cells: u32, base: u128, n: u32) -> u128
     if n == 1 {
         return base;
     }
-    let half = power::<B>(cells, base, n / 2);
-    let even = joined::<B>(cells, half, half);
+    let half = power_spread::<B>(cells, base, n / 2);
+    let even = convolution_spread::<B>(cells, half, half);
     if n % 2 == 0 {
         return even;
     }
-    joined::<B>(cells, even, base)
+    convolution_spread::<B>(cells, even, base)
 }
 
 /// The spread of a listed number of claims of which the greatest is `greatest`, where the grid of
@@ -55,7 +55,7 @@ pub fn listed<const B: u32>(cells: u32, base: u128, greatest: u32) -> u128
 {
     let mut spread = 1;
     for _step in 0..greatest {
-        spread = joined::<B>(cells, base, spread) + 2;
+        spread = convolution_spread::<B>(cells, base, spread) + 2;
     }
     spread
 }
@@ -64,12 +64,12 @@ pub fn listed<const B: u32>(cells: u32, base: u128, greatest: u32) -> u128
 pub fn doubled<const B: u32>(cells: u32, base: u128, times: u32) -> u128
     requires scale { IsPlanScale B }
     requires room { 2 ^ times * rounded_spread cells 0 base ≤ most_operands }
-    ensures value { result ≡ pw (2 ^ B) cells base (2 ^ times) }
+    ensures value { result ≡ power_spread (2 ^ B) cells base (2 ^ times) }
     ensures small { result ≤ most_claims_budget }
 {
     let mut spread = base;
     for _step in 0..times {
-        spread = joined::<B>(cells, spread, spread);
+        spread = convolution_spread::<B>(cells, spread, spread);
     }
     spread
 }

@@ -3,7 +3,7 @@
 ghost use Rattle.std.specs.Prelude.{ℕ, ◌≡◌, ◌+◌, ◌*◌, ◌^◌, ◌<◌, ◌≤◌, List, All, length, sum_by, fold, remove};
 ghost use Rattle.dl_limits.specs.Limits.{IsPlanScale, budget_bound, most_cells, most_claims_budget, most_clause_budget, most_horizon, most_layers, most_plan_cells, most_units, most_unit_budget, most_mean_budget};
 ghost use Rattle.dl_exact.specs.Fraction.{Fraction};
-ghost use Rattle.dl_grid.specs.Width.{cv, sum_spread, up};
+ghost use Rattle.dl_grid.specs.Width.{convolution_spread, sum_spread, up};
 ghost use Rattle.dl_plan.specs.Horizon.{IsHorizonOf, edge, horizon};
 ghost use Rattle.dl_plan.specs.Means.{declared_mean};
 ghost use Rattle.dl_plan.specs.Valid.{IsNewZero, IsValidUnit, IsValid};
@@ -14,7 +14,7 @@ ghost use Rattle.dl_budget.specs.Units.{after_clause, unit_budget, unit_budgets,
 
 use crate::claims::{claims_budget, none_budget};
 use crate::shared::pooled_budget;
-use crate::steps::joined;
+use crate::steps::convolution_spread;
 use dl_plan::{CedeLayer, Plan, Unit};
 
 /// The number of cells on which the claims of a unit of a valid plan are added up, for a grid of
@@ -71,13 +71,13 @@ fn with_units<const B: u32>(sum: u128, units: &[Unit], cells: u32) -> u128
     requires some { 1 ≤ cells }
     requires few { cells ≤ most_plan_cells }
     requires room { (n : ℕ) × (n + length units.now ≤ most_units) × IsOfUnits (2 ^ B) cells n sum }
-    ensures value { result ≡ fold (cv (2 ^ B) cells) sum (unit_budgets (2 ^ B) cells units.now) }
+    ensures value { result ≡ fold (convolution_spread (2 ^ B) cells) sum (unit_budgets (2 ^ B) cells units.now) }
     ensures size { (n : ℕ) → n + length units.now ≤ most_units → IsOfUnits (2 ^ B) cells n sum
         → IsOfUnits (2 ^ B) cells (n + length units.now) result }
 {
     let mut total = sum;
     for unit in units {
-        total = joined::<B>(cells, total, unit_budget::<B>(unit, cells));
+        total = convolution_spread::<B>(cells, total, unit_budget::<B>(unit, cells));
     }
     total
 }

@@ -13,10 +13,9 @@ ghost use Rattle.dl_plan.specs.Clause.{kept, IsClause};
 ghost use Rattle.dl_exact.specs.Count.{count_below};
 ghost use Rattle.dl_plan.specs.Valid.{IsValidUnit};
 
-use dl_grid::{Grid, units_of_one};
+use dl_grid::{Grid, empty_grid, units_of_one};
 use dl_iv::Iv;
 use dl_plan::{Cede, Unit};
-use dl_power::nowhere;
 use std::alloc::{AllocError, Global};
 
 /// Adds `more` to the cell of `y` buckets, and lowers its high end to 1 where it is above. Nothing
@@ -57,7 +56,7 @@ fn taken_in<const B: u32>(
     ensures spread { IfOk result (λ g. spread g
         ≤ count_below (length sums.now) (where_whole cede.now (width_at sums.now))) }
 {
-    let mut grid = nowhere(alloc, cells)?;
+    let mut grid = empty_grid(alloc, cells)?;
     for s in 0..sums.cells() {
         if let Some(y) = cede.at(u64::from(s)) {
             add_at(&mut grid, y, sums.at(s));

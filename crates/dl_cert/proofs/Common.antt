@@ -66,7 +66,7 @@ pub use Rattle.dl_plan.proofs.Means.{severity_total, total_pos}
 pub use Rattle.dl_plan.proofs.Positive.{amounts_positive}
 pub use Rattle.dl_plan.specs.Count.{IsClaimCount as IsCountOfPlan, IsProbability, IsUnbounded, expected_count}
 pub use Rattle.dl_plan.specs.Means.{thinned_mean}
-pub use Rattle.dl_plan.specs.Severity.{Means, conditioned, pairs_of, probability_of}
+pub use Rattle.dl_plan.specs.Severity.{HasDistribution, conditioned, pairs_of, probability_of}
 pub use Rattle.dl_plan.specs.Valid.{IsValid, IsValidUnit}
 pub use Rattle.dl_plan.specs.Weighted.{IsWeighted, amounts_of, weight_at, weight_sum}
 pub use Rattle.dl_plan.specs.declared.item.Item.{Item}

@@ -1,5 +1,5 @@
 -- The numbers of a base are those of the starts of its unit.
-use Rattle.dl_cert.proofs.Common.{refl, Freq, List, ℕ, zero, suc, ◌≡◌, ◌+◌, ◌-◌, ◌*◌, ◌/◌, ◌<◌, ◌≤◌, ◌^◌, ◌∙◌, sym, ap, ap₂, subst, arith, true, false, mul_comm, mul-pos, zero-lt-suc, min, div_ceil, Fraction, whole, ◌+ℚ◌, ◌*ℚ◌, ◌/ℚ◌, ◌over◌, IsFloor, IsCeiling, one_pos, times_comm, times_one, times_zero, zero_plus, mul-le-mul_left, ◌≤ℚ◌, div_ceil_least, num_le_den, over_le, over_self, over_same, over_mul, over_div, over_add, units_of, whole_num, whole_den, floor_div, ceiling_div, floor_one, ceiling_one, sum_pairs_same, sum_pairs_over, halvings, exp_low, exp_high, at_zero, cell, fixed, binomial, one_claim_cell, one_trial_cell, coefficient, next_sum, divided, one_and, rate_of, Item, Sev, probability_of, pairs_of, conditioned, Means, weight_at, severity_total, cond, eq-eqb, Fixed, Bernoulli, Binomial, PoissonCount, GammaCount, UnitOfPlan, thinned_mean, Share, above_zero, parts_of, unit_parts, one, floor_of, ceiling_of, sum_plain, sum_by_amount, low_recursion, high_recursion, low_start, high_start, trial_parts, low_share, high_share, IsBaseOf}
+use Rattle.dl_cert.proofs.Common.{refl, Freq, List, ℕ, zero, suc, ◌≡◌, ◌+◌, ◌-◌, ◌*◌, ◌/◌, ◌<◌, ◌≤◌, ◌^◌, ◌∙◌, sym, ap, ap₂, subst, arith, true, false, mul_comm, mul-pos, zero-lt-suc, min, div_ceil, Fraction, whole, ◌+ℚ◌, ◌*ℚ◌, ◌/ℚ◌, ◌over◌, IsFloor, IsCeiling, one_pos, times_comm, times_one, times_zero, zero_plus, mul-le-mul_left, ◌≤ℚ◌, div_ceil_least, num_le_den, over_le, over_self, over_same, over_mul, over_div, over_add, units_of, whole_num, whole_den, floor_div, ceiling_div, floor_one, ceiling_one, sum_pairs_same, sum_pairs_over, halvings, exp_low, exp_high, at_zero, cell, fixed, binomial, one_claim_cell, one_trial_cell, coefficient, next_sum, divided, one_and, rate_of, Item, Sev, probability_of, pairs_of, conditioned, HasDistribution, weight_at, severity_total, cond, eq-eqb, Fixed, Bernoulli, Binomial, PoissonCount, GammaCount, UnitOfPlan, thinned_mean, Share, above_zero, parts_of, unit_parts, one, floor_of, ceiling_of, sum_plain, sum_by_amount, low_recursion, high_recursion, low_start, high_start, trial_parts, low_share, high_share, IsBaseOf}
 use Rattle.dl_cert.specs.declared.base.Chance.{Chance}
 use Rattle.dl_cert.specs.declared.base.Base.TheVariants.{Nothing, Trial, Poisson, Geometric}
 
@@ -109,7 +109,7 @@ stepped round quotient rounds C T num den x factor T_pos pos is by =
     sym (rounds (quotient C T * num) den pos) ∙ ap round (by (quotient C T))
     ∙ ap (λ k. round (factor *ℚ whole k)) (sym (ap round is ∙ rounds C T T_pos))
 
-module _ (share : Share) (sev : Sev) (means : Means share.positive (conditioned 0 (pairs_of sev))) (ends : ℕ → ℕ) where
+module _ (share : Share) (sev : Sev) (means : HasDistribution share.positive (conditioned 0 (pairs_of sev))) (ends : ℕ → ℕ) where
   abbrev T : ℕ
   T = share.positive.total
 
@@ -181,7 +181,7 @@ module _ (unit : UnitOfPlan) where
       nothing_is (ap (λ f. parts_of f v) e ∙ ap (λ b. cond b 0 shape) (eq-eqb v.num 0 none))
 
   pub poisson_is : (mean : Fraction) (share : Share) → unit.freq ≡ PoissonCount mean
-      → Means share.positive (conditioned 0 (pairs_of unit.sev))
+      → HasDistribution share.positive (conditioned 0 (pairs_of unit.sev))
       → share.rate ≡ v /ℚ whole (2 ^ halvings v)
       → share.first.lo ≡ exp_low 56 (v /ℚ whole (2 ^ halvings v))
       → share.first.hi ≡ exp_high 56 (v /ℚ whole (2 ^ halvings v)) → IsBaseOf unit (Poisson share)
@@ -198,7 +198,7 @@ module _ (unit : UnitOfPlan) where
 
   -- by the numbers as they are read
   pub geometric_is : (shape : ℕ) (mean w : Fraction) (share : Share) (num den all : ℕ) → unit.freq ≡ GammaCount shape mean
-      → 0 < shape → Means share.positive (conditioned 0 (pairs_of unit.sev)) → w ≡ v → num ≡ w.num
+      → 0 < shape → HasDistribution share.positive (conditioned 0 (pairs_of unit.sev)) → w ≡ v → num ≡ w.num
       → den ≡ w.den * shape → all ≡ num + den → share.rate ≡ num over all → share.first.lo ≡ one * den / all
       → share.first.hi ≡ div_ceil (one * den) all → IsBaseOf unit (Geometric share)
   geometric_is shape mean w share num den all e some means same num_is den_is all_is rate low high =

@@ -6,7 +6,7 @@ ghost use Rattle.dl_budget.specs.Halvings.{halvings};
 ghost use Rattle.dl_exact.specs.Fraction.{Fraction, whole, ◌over◌, ◌/ℚ◌, ◌≤ℚ◌};
 ghost use Rattle.dl_plan.specs.Count.{IsProbability, IsUnbounded};
 ghost use Rattle.dl_plan.specs.Fine.{HasPartsOf48Bits};
-ghost use Rattle.dl_plan.specs.Severity.{pairs_of, conditioned, Means};
+ghost use Rattle.dl_plan.specs.Severity.{pairs_of, conditioned, HasDistribution};
 ghost use Rattle.dl_plan.specs.declared.plan.Unit.{Unit as UnitOfPlan};
 ghost use Rattle.dl_plan.specs.declared.plan.Freq.TheVariants.{Gamma, Poisson};
 ghost use Rattle.dl_plan.specs.Means.{thinned_mean};
@@ -85,7 +85,7 @@ fn positive_claims(alloc: Global, unit: &Unit) -> Result<Option<Sev>, AllocError
     requires valid { (cells : ℕ) × IsValidUnit cells unit.now }
     requires unbounded { IsUnbounded unit.now.freq }
     ensures { IfOk result (λ made. MatchOption made ((thinned_mean unit.now).num ≡ 0)
-        (λ positive. Means positive (conditioned 0 (pairs_of unit.now.sev)))) }
+        (λ positive. HasDistribution positive (conditioned 0 (pairs_of unit.now.sev)))) }
 {
     if unit.freq.thinned(&unit.sev).num() == 0 {
         return Ok(None);

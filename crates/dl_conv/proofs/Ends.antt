@@ -4,7 +4,7 @@ use Rattle.std.proofs.lemmas.List.Sums.{sum_by-cons}
 use Rattle.dl_iv.specs.declared.interval.Iv.{Iv}
 use Rattle.dl_grid.specs.Cells.{low_at, high_at, spread, IsGrid, AreEnds}
 use Rattle.dl_grid.specs.Convolution.{IsConvolution}
-use Rattle.dl_grid.specs.Width.{cv}
+use Rattle.dl_grid.specs.Width.{convolution_spread}
 use Rattle.dl_grid.proofs.Room.{grid_room, size_within}
 use Rattle.dl_grid.proofs.EndLists.{low_le_high}
 use Rattle.dl_grid.proofs.PlaceSums.{width_at, high_is, low_within, width_within, whole_spread}
@@ -28,7 +28,7 @@ ends_order {B} a b s p q = rounded_order (2 ^ B) (lows a b s) (highs a b s) (pow
 
 -- and their widths to at most what the width rule says
 pub convolved_spread : {B : ℕ} (a b cells : List (Iv B)) (n : ℕ) → IsGrid a → IsGrid b → length cells ≡ n
-    → IsConvolution n a b cells → spread cells ≤ cv (2 ^ B) n (spread a) (spread b)
+    → IsConvolution n a b cells → spread cells ≤ convolution_spread (2 ^ B) n (spread a) (spread b)
 convolved_spread {B} a b cells n p q e rounded_ends =
     let rounded = rounded_spread_le n (2 ^ B) (spread a) (spread b) (low_at a) (width_at a) (low_at b)
     (width_at b) (pow_pos B)

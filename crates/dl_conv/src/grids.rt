@@ -6,7 +6,7 @@ ghost use Rattle.dl_grid.specs.Cells.{low_at, high_at, spread};
 ghost use Rattle.dl_exact.specs.Count.{count_pairs};
 ghost use Rattle.dl_conv.specs.Sums.{pair_sum, halved_from, ItemsFit};
 ghost use Rattle.dl_grid.specs.Convolution.{IsConvolution};
-ghost use Rattle.dl_grid.specs.Width.{cv};
+ghost use Rattle.dl_grid.specs.Width.{convolution_spread};
 
 use crate::plain::plain_sums;
 use crate::short::{halved_sums, work_for};
@@ -62,7 +62,7 @@ pub fn grid_of_sums<const B: u32>(
         → get_or highs.items s 0 ≡ count_pairs s (λ i j. high_at a.now i * high_at b.now j) }
     ensures cells { length result ≡ length lows.items }
     ensures convolution { IsConvolution (length lows.items) a.now b.now result }
-    ensures spread { spread result ≤ cv (2 ^ B) (length lows.items) (spread a.now) (spread b.now) }
+    ensures spread { spread result ≤ convolution_spread (2 ^ B) (length lows.items) (spread a.now) (spread b.now) }
 {
     prove!(lows.len() <= a.cells() as usize);
     prove!(lows.len() <= b.cells() as usize);
@@ -122,7 +122,7 @@ pub fn convolve_plain<const B: u32>(
     requires in_second { cells ≤ length b.now }
     ensures cells { IfOk result (λ g. length g ≡ cells) }
     ensures convolution { IfOk result (λ g. IsConvolution cells a.now b.now g) }
-    ensures spread { IfOk result (λ g. spread g ≤ cv (2 ^ B) cells (spread a.now) (spread b.now)) }
+    ensures spread { IfOk result (λ g. spread g ≤ convolution_spread (2 ^ B) cells (spread a.now) (spread b.now)) }
 {
     let (lows, highs) = room_for_sums(alloc, cells)?;
     let lows = with_plain_sums(a.lows(), b.lows(), lows);
@@ -144,7 +144,7 @@ pub fn convolve<const B: u32>(
     requires in_second { cells ≤ length b.now }
     ensures cells { IfOk result (λ g. length g ≡ cells) }
     ensures convolution { IfOk result (λ g. IsConvolution cells a.now b.now g) }
-    ensures spread { IfOk result (λ g. spread g ≤ cv (2 ^ B) cells (spread a.now) (spread b.now)) }
+    ensures spread { IfOk result (λ g. spread g ≤ convolution_spread (2 ^ B) cells (spread a.now) (spread b.now)) }
 {
     let mut work = Vec::from_elem(alloc, 0, work_for(cells))?;
     let (lows, highs) = room_for_sums(alloc, cells)?;

@@ -1,6 +1,6 @@
 -- How wide the share of a unit in the tail mean is, in plain numbers. S units make 1.
 use Rattle.dl_cotail.proofs.Common.{ℕ, ◌≡◌, ◌+◌, ◌-◌, ◌*◌, ◌/◌, ◌<◌, ◌≤◌, min, arith, ap, div_ceil, mul-le-mul, mul-le-mul_left, mul-le-mul_right, lt-div-mul-add, Fraction, whole, ◌<ℚ◌, div_ceil_least, num_below, up_quotient, cv_rises, quotients_apart, joint_width, conditional_width, cotail_width}
-use Rattle.dl_grid.specs.Width.{cv}
+use Rattle.dl_grid.specs.Width.{convolution_spread}
 
 -- ---- the conditional mean
 
@@ -42,7 +42,7 @@ above_narrow S n d fl fh al ah pos low high =
 wide : (S K u o t d e f : ℕ) → 0 < S → u ≤ d → o ≤ e → t ≤ f
     → (joint_width S K u o ≤ joint_width S K d e) × (conditional_width S K u o t ≤ conditional_width S K d e f)
 wide S K u o t d e f s of_unit of_others of_total =
-    let joint : K * cv S K u o ≤ K * cv S K d e =
+    let joint : K * convolution_spread S K u o ≤ K * convolution_spread S K d e =
     mul-le-mul_left K (cv_rises S K K u d o e s (omega arith) of_unit of_others) in
     (joint, omega (arith, mul-le-mul_left K of_total))
 

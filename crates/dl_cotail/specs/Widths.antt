@@ -2,11 +2,11 @@
 use Rattle.std.specs.Prelude.{ℕ, ◌+◌, ◌-◌, ◌*◌}
 use Rattle.dl_limits.specs.Limits.{rarest_parts}
 use Rattle.dl_exact.specs.Fraction.{Fraction, ◌over◌}
-use Rattle.dl_grid.specs.Width.{up, cv}
+use Rattle.dl_grid.specs.Width.{up, convolution_spread}
 
 -- a joint mean of the unit, on so many cells, from the spreads of its grid and of the others'
 abbrev pub joint_width : (S cells unit others : ℕ) → ℕ
-joint_width S cells unit others = cells * cv S cells unit others
+joint_width S cells unit others = cells * convolution_spread S cells unit others
 
 -- its mean outcome at a total that is not too rare
 abbrev pub conditional_width : (S cells unit others total : ℕ) → ℕ

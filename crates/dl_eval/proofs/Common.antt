@@ -35,7 +35,7 @@ pub use Rattle.dl_grid.proofs.WidthLaws.{cv_rises, up_quotient}
 pub use Rattle.dl_grid.specs.Cells.{IsGrid, mass_high, mass_low, spread}
 unfoldable pub use Rattle.dl_grid.specs.Cells.{high_at, low_at}
 pub use Rattle.dl_grid.specs.Width.{layer_width, sum_spread, sum_spread as sum_budget, tail_width}
-unfoldable pub use Rattle.dl_grid.specs.Width.{cv, up}
+unfoldable pub use Rattle.dl_grid.specs.Width.{convolution_spread, up}
 pub use Rattle.dl_iv.specs.declared.interval.Iv.{Iv}
 pub use Rattle.dl_limits.proofs.Scales.{bits_of_short, cells_fit, is_plan_scale}
 pub use Rattle.dl_limits.specs.Limits.{IsPlanScale, most_cells_at, most_expected, most_horizon, most_plan_cells, most_short_cells}

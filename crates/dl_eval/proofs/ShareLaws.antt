@@ -1,5 +1,5 @@
 -- The share of a unit in a total, from the grids of the unit, of all others and of the total.
-use Rattle.dl_eval.proofs.Common.{ℕ, ◌≡◌, ◌+◌, ◌-◌, ◌*◌, ◌^◌, ◌<◌, ◌≤◌, List, length, get_or, arith, sym, subst, mul-le-mul_left, pow_pos, length-map, None, Fraction, ◌over◌, ◌+ℚ◌, ◌≤ℚ◌, ◌<ℚ◌, Iv, over_le_over, low_at, high_at, spread, cv, cv_rises, Holds, AreDeclarable, One, Point, partial_sums, total, GridEncloses, unit_of, AreDeclared, aggregates_of, at_most_wider, plan_declared, plan_units, Plan, IsValid, Row, unit_budgets, total_budget, place_of, tail_budget, ask_budget, in_digits, Declares, DeclaresGiven, IsBelow, IsTailMean, IsAnswerTo, total_error, IsTotalOf, AreOthersOf, Prints, Loss, loss_of, ◌⊎◌, mul-le-mul, over_lt, over_plus, Series, AtLeast, AtMost, Joint, without, others_budget, joint_budget, kappa_budget, least_likely, IsAtMost, IsBeyond, IsShareOfUnit, IsTooRare, IsJointOf, independent, declared, IsGridOfUnit}
+use Rattle.dl_eval.proofs.Common.{ℕ, ◌≡◌, ◌+◌, ◌-◌, ◌*◌, ◌^◌, ◌<◌, ◌≤◌, List, length, get_or, arith, sym, subst, mul-le-mul_left, pow_pos, length-map, None, Fraction, ◌over◌, ◌+ℚ◌, ◌≤ℚ◌, ◌<ℚ◌, Iv, over_le_over, low_at, high_at, spread, convolution_spread, cv_rises, Holds, AreDeclarable, One, Point, partial_sums, total, GridEncloses, unit_of, AreDeclared, aggregates_of, at_most_wider, plan_declared, plan_units, Plan, IsValid, Row, unit_budgets, total_budget, place_of, tail_budget, ask_budget, in_digits, Declares, DeclaresGiven, IsBelow, IsTailMean, IsAnswerTo, total_error, IsTotalOf, AreOthersOf, Prints, Loss, loss_of, ◌⊎◌, mul-le-mul, over_lt, over_plus, Series, AtLeast, AtMost, Joint, without, others_budget, joint_budget, kappa_budget, least_likely, IsAtMost, IsBeyond, IsShareOfUnit, IsTooRare, IsJointOf, independent, declared, IsGridOfUnit}
 use Rattle.dl_plan.specs.declared.settings.Ask.TheVariants as asks
 use Rattle.dl_eval.proofs.Losses.{is_independent}
 use Rattle.dl_eval.proofs.Printed.{are_ends, declared_ends, given_widens}
@@ -8,22 +8,22 @@ use Rattle.dl_eval.proofs.GoodRows.{cell_apart, plus_lt}
 -- ---- joint means
 
 joint_width : {B : ℕ} (S K u v x y : ℕ) (g : List (Iv B)) → 0 < S → length g ≡ K → u ≤ x → v ≤ y
-    → length g * cv S (length g) u v ≤ K * cv S K x y
+    → length g * convolution_spread S (length g) u v ≤ K * convolution_spread S K x y
 joint_width S K u v x y g pos same p q =
-    subst (λ n. n * cv S n u v ≤ K * cv S K x y) (sym same)
+    subst (λ n. n * convolution_spread S n u v ≤ K * convolution_spread S K x y) (sym same)
     (mul-le-mul_left K (cv_rises S K K u x v y pos (omega arith) p q))
 
 pub is_joint : {B : ℕ} (plan : Plan) (unit others : List (Iv B)) (i at : ℕ) (mean : Iv B)
     → ((us : List Loss) (j : ℕ) → AreDeclarable us → j < length us → GridEncloses unit (unit_of us j)
     → GridEncloses others (total (without us j))
     → Holds (partial_sums us (Joint j at)) (partial_sums us One) (mean.lo over 2 ^ B) (mean.hi over 2 ^ B))
-    → mean.hi - mean.lo ≤ length unit * cv (2 ^ B) (length unit) (spread unit) (spread others)
+    → mean.hi - mean.lo ≤ length unit * convolution_spread (2 ^ B) (length unit) (spread unit) (spread others)
     → IsGridOfUnit plan i unit → i < length plan.units → IsValid plan → AreOthersOf plan i others
     → plan.common ≡ None → IsJointOf plan i at mean
 is_joint {B} plan unit others i at mean holds width own inside valid rest none =
     subst (λ whole. IsJointOf whole i at mean) (is_independent plan none) alone
   where
-    wide : length unit * cv (2 ^ B) (length unit) (spread unit) (spread others)
+    wide : length unit * convolution_spread (2 ^ B) (length unit) (spread unit) (spread others)
         ≤ joint_budget (2 ^ B) (independent plan) i
     wide = joint_width (2 ^ B) plan.cells (spread unit) (spread others)
         (get_or (unit_budgets (2 ^ B) plan.cells plan.units) i 0) (others_budget (2 ^ B) plan i) unit (pow_pos B)

@@ -1,5 +1,5 @@
 -- The grid of a total, from those of its units.
-use Rattle.dl_eval.proofs.Common.{ℕ, zero, suc, ◌≡◌, ◌^◌, ◌<◌, ◌≤◌, List, [], ◌∷◌, ◌++◌, length, get_or, map, arith, refl, sym, ap, subst, subst₂, ◌∙◌, Option, None, Some, IfSome, All, pow_pos, length-append, length-map, get_or_default, Iv, spread, low_at, high_at, cv, cv_rises, mapped, GridEncloses, unit_of, outcome_after, aggregate_of, aggregates_of, compound_of, unit_declared, plan_units, Plan, IsValidUnit, IsValid, unit_budget, unit_budgets, IsTotal, AreSumsWithout, AreUnitGrids, AreShared, IsTotalOf, AreOthersOf, AreOthers, HasOthers, loss_of, IfSome_then, Bool, false, IsTrue, fold, remove, get_or-map, sum_budget, sum_spread, encloses_same, UnitOfPlan, budgets_length, budget_here, IsSumWithout, independent, AreGridsOf, AreUnitMeans, AreUnits, most_unit_mean}
+use Rattle.dl_eval.proofs.Common.{ℕ, zero, suc, ◌≡◌, ◌^◌, ◌<◌, ◌≤◌, List, [], ◌∷◌, ◌++◌, length, get_or, map, arith, refl, sym, ap, subst, subst₂, ◌∙◌, Option, None, Some, IfSome, All, pow_pos, length-append, length-map, get_or_default, Iv, spread, low_at, high_at, convolution_spread, cv_rises, mapped, GridEncloses, unit_of, outcome_after, aggregate_of, aggregates_of, compound_of, unit_declared, plan_units, Plan, IsValidUnit, IsValid, unit_budget, unit_budgets, IsTotal, AreSumsWithout, AreUnitGrids, AreShared, IsTotalOf, AreOthersOf, AreOthers, HasOthers, loss_of, IfSome_then, Bool, false, IsTrue, fold, remove, get_or-map, sum_budget, sum_spread, encloses_same, UnitOfPlan, budgets_length, budget_here, IsSumWithout, independent, AreGridsOf, AreUnitMeans, AreUnits, most_unit_mean}
 use Rattle.dl_model.proofs.UnitLaws.{unit_plain}
 use Rattle.dl_port.specs.Sums.{EncloseEach}
 use Rattle.dl_eval.proofs.Lists.{any_here}
@@ -81,12 +81,12 @@ removed_no_more zero (x ∷ xs) (y ∷ ys) h = later_no_more x y xs ys h
 removed_no_more (suc i) (x ∷ xs) (y ∷ ys) h = one_no_more x y (remove xs i) (remove ys i) (h.each 0 (omega arith))
     (removed_no_more i xs ys (later_no_more x y xs ys h))
 
-folds_rise : (S k x y : ℕ) (xs ys : List ℕ) → 0 < S → x ≤ y → AreNoMore xs ys → fold (cv S k) x xs ≤ fold (cv S k) y ys
+folds_rise : (S k x y : ℕ) (xs ys : List ℕ) → 0 < S → x ≤ y → AreNoMore xs ys → fold (convolution_spread S k) x xs ≤ fold (convolution_spread S k) y ys
 folds_rise S k x y [] [] pos start h = start
 folds_rise S k x y [] (b ∷ ys) pos start h = absurd (omega (arith, h.as_many))
 folds_rise S k x y (a ∷ xs) [] pos start h = absurd (omega (arith, h.as_many))
 folds_rise S k x y (a ∷ xs) (b ∷ ys) pos start h =
-    folds_rise S k (cv S k x a) (cv S k y b) xs ys pos
+    folds_rise S k (convolution_spread S k x a) (convolution_spread S k y b) xs ys pos
     (cv_rises S k k x y a b pos (omega arith) start (h.each 0 (omega arith))) (later_no_more a b xs ys h)
 
 sums_rise : (S k : ℕ) (xs ys : List ℕ) → 0 < S → AreNoMore xs ys → sum_spread S k xs ≤ sum_budget S k ys

@@ -4,7 +4,7 @@ use Rattle.dl_exact.specs.Fraction.{Fraction, ◌over◌}
 use Rattle.dl_exact.specs.Rounding.{IsCeiling}
 use Rattle.dl_exact.proofs.Over.{over_self}
 use Rattle.dl_exact.proofs.RoundingLaws.{div_ceil_least, ceiling_div, ceiling_one}
-use Rattle.dl_grid.specs.Width.{up, cv, Binary, one, twice, twice_and_one, next, binary, power_spread, pw, mixed_spread, rounded_spread, IsSizeWithin}
+use Rattle.dl_grid.specs.Width.{up, convolution_spread, Binary, one, twice, twice_and_one, next, binary, binary_spread, power_spread, mixed_spread, rounded_spread, IsSizeWithin}
 
 pub up_ceiling : (x : Fraction) → IsCeiling x (up x)
 unfolding up
@@ -15,14 +15,14 @@ pub up_quotient : (n d : ℕ) → 0 < d → up (n over d) ≡ div_ceil n d
 up_quotient n d pos = ceiling_one (n over d) (up (n over d)) (div_ceil n d) (up_ceiling (n over d))
     (ceiling_div n d pos)
 
-pub cv_is : (S k x y : ℕ) → 0 < S → cv S k x y ≡ x + y + div_ceil (x * y) S + 2 * k
-unfolding cv
+pub cv_is : (S k x y : ℕ) → 0 < S → convolution_spread S k x y ≡ x + y + div_ceil (x * y) S + 2 * k
+unfolding convolution_spread
 cv_is S k x y pos = ap (λ t. x + y + t + 2 * k) (up_quotient (x * y) S pos)
 
 ceiling_rises : (m n d : ℕ) → 0 < d → m ≤ n → div_ceil m d ≤ div_ceil n d
 ceiling_rises m n d pos h = div_ceil_least m d (div_ceil n d) pos (omega (arith, (div_ceil_times n d pos).0))
 
-pub cv_rises : (S k l x u y v : ℕ) → 0 < S → k ≤ l → x ≤ u → y ≤ v → cv S k x y ≤ cv S l u v
+pub cv_rises : (S k l x u y v : ℕ) → 0 < S → k ≤ l → x ≤ u → y ≤ v → convolution_spread S k x y ≤ convolution_spread S l u v
 cv_rises S k l x u y v pos h p q = omega (
   arith,
   cv_is S k x y pos,
@@ -42,37 +42,37 @@ digits (suc m) =
     let two_less : 2 * suc m + 2 ≡ suc (suc (2 * m + 2)) = omega arith in
     (ap binary one_less ∙ even, ap binary two_less ∙ odd)
 
-pub pw_none : (S k b : ℕ) → pw S k b 0 ≡ 0
-unfolding pw
+pub pw_none : (S k b : ℕ) → power_spread S k b 0 ≡ 0
+unfolding power_spread
 pw_none S k b = refl
 
-pub pw_one : (S k b : ℕ) → pw S k b 1 ≡ b
-unfolding pw power_spread binary
+pub pw_one : (S k b : ℕ) → power_spread S k b 1 ≡ b
+unfolding power_spread binary_spread binary
 pw_one S k b = refl
 
-pub pw_even : (S k b m : ℕ) → 1 ≤ m → pw S k b (2 * m) ≡ cv S k (pw S k b m) (pw S k b m)
-unfolding pw power_spread
+pub pw_even : (S k b m : ℕ) → 1 ≤ m → power_spread S k b (2 * m) ≡ convolution_spread S k (power_spread S k b m) (power_spread S k b m)
+unfolding power_spread binary_spread
 pw_even S k b zero some = absurd (omega arith)
 pw_even S k b (suc m) some =
     let twice_suc : 2 * suc m ≡ suc (2 * m + 1) = omega arith in
-    ap (pw S k b) twice_suc ∙ ap (power_spread S k b) (digits m).0
+    ap (power_spread S k b) twice_suc ∙ ap (binary_spread S k b) (digits m).0
 
-pub pw_odd : (S k b m : ℕ) → 1 ≤ m → pw S k b (2 * m + 1) ≡ cv S k (pw S k b (2 * m)) b
-unfolding pw power_spread
+pub pw_odd : (S k b m : ℕ) → 1 ≤ m → power_spread S k b (2 * m + 1) ≡ convolution_spread S k (power_spread S k b (2 * m)) b
+unfolding power_spread binary_spread
 pw_odd S k b zero some = absurd (omega arith)
 pw_odd S k b (suc m) some =
     let odd_suc : 2 * suc m + 1 ≡ suc (2 * m + 2) = omega arith in
-    ap (pw S k b) odd_suc ∙ ap (power_spread S k b) (digits m).1
-    ∙ ap (λ even. cv S k even b) (sym (pw_even S k b (suc m) some))
+    ap (power_spread S k b) odd_suc ∙ ap (binary_spread S k b) (digits m).1
+    ∙ ap (λ even. convolution_spread S k even b) (sym (pw_even S k b (suc m) some))
 
 -- a power of 2^h factors, by one squaring more
-pub pw_doubled : (S k b h : ℕ) → pw S k b (2 ^ (h + 1)) ≡ cv S k (pw S k b (2 ^ h)) (pw S k b (2 ^ h))
+pub pw_doubled : (S k b h : ℕ) → power_spread S k b (2 ^ (h + 1)) ≡ convolution_spread S k (power_spread S k b (2 ^ h)) (power_spread S k b (2 ^ h))
 pw_doubled S k b h =
     let more : 2 ^ (h + 1) ≡ 2 * 2 ^ h = omega (arith, pow_more 2 h) in
-    ap (pw S k b) more ∙ pw_even S k b (2 ^ h) (pow_pos h)
+    ap (power_spread S k b) more ∙ pw_even S k b (2 ^ h) (pow_pos h)
 
-spread_rises : (S k l b c : ℕ) (m : Binary) → 0 < S → k ≤ l → b ≤ c → power_spread S k b m ≤ power_spread S l c m
-unfolding power_spread
+spread_rises : (S k l b c : ℕ) (m : Binary) → 0 < S → k ≤ l → b ≤ c → binary_spread S k b m ≤ binary_spread S l c m
+unfolding binary_spread
 spread_rises S k l b c one pos p q = q
 spread_rises S k l b c (twice m) pos p q =
     let half = spread_rises S k l b c m pos p q in cv_rises S k l _ _ _ _ pos p half half
@@ -80,8 +80,8 @@ spread_rises S k l b c (twice_and_one m) pos p q =
     let half = spread_rises S k l b c m pos p q in
     cv_rises S k l _ _ _ _ pos p (cv_rises S k l _ _ _ _ pos p half half) q
 
-pub pw_rises : (S k l b c m : ℕ) → 0 < S → k ≤ l → b ≤ c → pw S k b m ≤ pw S l c m
-unfolding pw
+pub pw_rises : (S k l b c m : ℕ) → 0 < S → k ≤ l → b ≤ c → power_spread S k b m ≤ power_spread S l c m
+unfolding power_spread
 pw_rises S k l b c zero pos p q = omega arith
 pw_rises S k l b c (suc m) pos p q = spread_rises S k l b c (binary m) pos p q
 
@@ -91,7 +91,7 @@ pub mixed_none : (S k b : ℕ) → mixed_spread S k b 0 ≡ 1
 unfolding mixed_spread
 mixed_none S k b = refl
 
-pub mixed_next : (S k b c : ℕ) → mixed_spread S k b (c + 1) ≡ cv S k b (mixed_spread S k b c) + 2
+pub mixed_next : (S k b c : ℕ) → mixed_spread S k b (c + 1) ≡ convolution_spread S k b (mixed_spread S k b c) + 2
 unfolding mixed_spread
 mixed_next S k b c = ap (mixed_spread S k b) (add-one c)
 
@@ -104,7 +104,7 @@ mixed_rises S k l b c (suc n) pos p q =
 -- ---- sizes
 
 pub size_step : (S k more x y : ℕ) → 0 < S
-    → (S + rounded_spread k more (cv S k x y + more)) * S ≤ (S + rounded_spread k more x) *
+    → (S + rounded_spread k more (convolution_spread S k x y + more)) * S ≤ (S + rounded_spread k more x) *
     (S + rounded_spread k more y)
 unfolding rounded_spread
 size_step S k more x y pos =

@@ -12,8 +12,8 @@ up x = div_ceil x.num x.den
 -- ---- grids
 
 -- the spread of a convolution on k cells, of grids with the spreads x and y
-unfoldable pub cv : (S k x y : ℕ) → ℕ
-cv S k x y = x + y + up ((x * y) over S) + 2 * k
+unfoldable pub convolution_spread : (S k x y : ℕ) → ℕ
+convolution_spread S k x y = x + y + up ((x * y) over S) + 2 * k
 
 -- a number of at least 1, by its binary digits
 pub data Binary : Type 0 where
@@ -34,29 +34,29 @@ binary (suc m) = next (binary m)
 
 -- the spread of a power of a grid with the spread b, on k cells: half of the factors, that squared,
 -- and for an odd number one factor more
-unfoldable pub power_spread : (S k b : ℕ) → Binary → ℕ
-power_spread S k b one = b
-power_spread S k b (twice m) = cv S k (power_spread S k b m) (power_spread S k b m)
-power_spread S k b (twice_and_one m) =
-    cv S k (cv S k (power_spread S k b m) (power_spread S k b m)) b
+unfoldable pub binary_spread : (S k b : ℕ) → Binary → ℕ
+binary_spread S k b one = b
+binary_spread S k b (twice m) = convolution_spread S k (binary_spread S k b m) (binary_spread S k b m)
+binary_spread S k b (twice_and_one m) =
+    convolution_spread S k (convolution_spread S k (binary_spread S k b m) (binary_spread S k b m)) b
 
 -- that of the m-th power; the power of no factors has no spread
-unfoldable pub pw : (S k b m : ℕ) → ℕ
-pw S k b zero = 0
-pw S k b (suc m) = power_spread S k b (binary m)
+unfoldable pub power_spread : (S k b m : ℕ) → ℕ
+power_spread S k b zero = 0
+power_spread S k b (suc m) = binary_spread S k b (binary m)
 
 -- the spread of a listed number of claims on k cells, of which the greatest is c, where one claim's
 -- grid has the spread b: 1 for the greatest itself, and for each number before it that of a
 -- convolution with one more claim, and 2 units more
 unfoldable pub mixed_spread : (S k b c : ℕ) → ℕ
 mixed_spread S k b zero = 1
-mixed_spread S k b (suc c) = cv S k b (mixed_spread S k b c) + 2
+mixed_spread S k b (suc c) = convolution_spread S k b (mixed_spread S k b c) + 2
 
 -- the spread of grids added up on k cells, from the spread of each: it starts with that of the
 -- first grid and takes in each further one as a convolution does; that of no grid is 0
 abbrev pub sum_spread : (S k : ℕ) → List ℕ → ℕ
 sum_spread S k [] = 0
-sum_spread S k (x ∷ xs) = fold (cv S k) x xs
+sum_spread S k (x ∷ xs) = fold (convolution_spread S k) x xs
 
 -- ---- what is read from a grid
 

@@ -183,7 +183,7 @@ impl<const B: u32> Grid<B> {
     pub fn put(&mut self, x: u32, v: Iv<B>) -> bool
         ensures written { result ≡ true → self.new ≡ slice_set self.old x v.entry }
         ensures left { result ≡ false → self.new ≡ self.old }
-        ensures told { x < length self.old → v.entry.hi ≤ 2 ^ B
+        ensures room { x < length self.old → v.entry.hi ≤ 2 ^ B
             → mass_low self.old - low_at self.old x + v.entry.lo ≤ 2 ^ B → result ≡ true }
     {
         let one = units_of_one(B);

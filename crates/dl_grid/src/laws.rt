@@ -4,7 +4,7 @@ ghost use Rattle.std.specs.Prelude.{◌≡◌, ℕ, ◌+◌, ◌*◌, ◌<◌, �
 ghost use Rattle.std.specs.Int.{div_ceil};
 ghost use Rattle.dl_exact.specs.Fraction.{Fraction, ◌over◌};
 ghost use Rattle.dl_exact.specs.Rounding.{IsCeiling};
-ghost use Rattle.dl_grid.specs.Width.{up, cv, pw, rounded_spread, IsSizeWithin};
+ghost use Rattle.dl_grid.specs.Width.{up, convolution_spread, power_spread, rounded_spread, IsSizeWithin};
 
 /// `up` is the ceiling, and of a quotient it is the quotient rounded up.
 #[tactic(auto, using(crate::proofs::WidthLaws::up_quotient))]
@@ -15,24 +15,24 @@ pub fn law_up()
 
 /// More cells and wider operands never give a narrower convolution.
 #[tactic(auto, using(crate::proofs::WidthLaws::cv_rises))]
-pub fn law_cv_rises()
-    ensures { (S k l x u y v : ℕ) → 0 < S → k ≤ l → x ≤ u → y ≤ v → cv S k x y ≤ cv S l u v }
+pub fn law_convolution_spread_rises()
+    ensures { (S k l x u y v : ℕ) → 0 < S → k ≤ l → x ≤ u → y ≤ v → convolution_spread S k x y ≤ convolution_spread S l u v }
 {}
 
 /// The spread of a power, case by case: of none, of one, of an even and of an odd number of
 /// factors.
 #[tactic(auto, using(crate::proofs::WidthLaws::pw_none, crate::proofs::WidthLaws::pw_one, crate::proofs::WidthLaws::pw_even, crate::proofs::WidthLaws::pw_odd))]
-pub fn law_pw()
-    ensures none { (S k b : ℕ) → pw S k b 0 ≡ 0 }
-    ensures one { (S k b : ℕ) → pw S k b 1 ≡ b }
-    ensures even { (S k b m : ℕ) → 1 ≤ m → pw S k b (2 * m) ≡ cv S k (pw S k b m) (pw S k b m) }
-    ensures odd { (S k b m : ℕ) → 1 ≤ m → pw S k b (2 * m + 1) ≡ cv S k (pw S k b (2 * m)) b }
+pub fn law_power_spread()
+    ensures none { (S k b : ℕ) → power_spread S k b 0 ≡ 0 }
+    ensures one { (S k b : ℕ) → power_spread S k b 1 ≡ b }
+    ensures even { (S k b m : ℕ) → 1 ≤ m → power_spread S k b (2 * m) ≡ convolution_spread S k (power_spread S k b m) (power_spread S k b m) }
+    ensures odd { (S k b m : ℕ) → 1 ≤ m → power_spread S k b (2 * m + 1) ≡ convolution_spread S k (power_spread S k b (2 * m)) b }
 {}
 
 /// More cells and a wider base never give a narrower power.
 #[tactic(auto, using(crate::proofs::WidthLaws::pw_rises))]
-pub fn law_pw_rises()
-    ensures { (S k l b c m : ℕ) → 0 < S → k ≤ l → b ≤ c → pw S k b m ≤ pw S l c m }
+pub fn law_power_spread_rises()
+    ensures { (S k l b c m : ℕ) → 0 < S → k ≤ l → b ≤ c → power_spread S k b m ≤ power_spread S l c m }
 {}
 
 /// How large spreads grow. With `x'`, `y'` and `z'` the rounded spreads of two operands and of what
@@ -43,7 +43,7 @@ pub fn law_pw_rises()
 #[tactic(auto, using(crate::proofs::WidthLaws::size_step, crate::proofs::WidthLaws::size_one, crate::proofs::WidthLaws::size_joined))]
 pub fn law_size()
     ensures step { (S k more x y : ℕ) → 0 < S
-        → (S + rounded_spread k more (cv S k x y + more)) * S
+        → (S + rounded_spread k more (convolution_spread S k x y + more)) * S
         ≤ (S + rounded_spread k more x) * (S + rounded_spread k more y) }
     ensures one { (S c : ℕ) → IsSizeWithin S c c }
     ensures joined { (S c d x y z : ℕ) → 0 < S → c + d ≤ S → IsSizeWithin S c x → IsSizeWithin S d y

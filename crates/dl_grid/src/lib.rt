@@ -4,11 +4,15 @@
 //! too.
 #![tactic(auto)]
 
+mod empty;
 mod grid;
 mod laws;
 mod widths;
 
 pub use dl_iv::units_of_one;
+pub use empty::empty_grid;
 pub use grid::Grid;
-pub use laws::{law_cv_rises, law_pw, law_pw_rises, law_size, law_up};
-pub use widths::joined_spread;
+pub use laws::{
+    law_convolution_spread_rises, law_power_spread, law_power_spread_rises, law_size, law_up,
+};
+pub use widths::convolution_spread;

@@ -1,16 +1,16 @@
 //! The width rule, computed.
 
 ghost use Rattle.std.specs.Prelude.{◌≡◌, ◌*◌, ◌^◌, ◌<◌, ◌≤◌, IfSome, IsSome};
-ghost use Rattle.dl_grid.specs.Width.{cv};
+ghost use Rattle.dl_grid.specs.Width.{convolution_spread};
 
 use dl_iv::units_of_one;
 
 /// The spread that a convolution on `cells` cells may have, of grids with the spreads `x` and `y`,
 /// in units of `1 / 2^B`. None only where it, or the product of the two spreads, passes 128 bits.
-pub fn joined_spread<const B: u32>(x: u128, y: u128, cells: u32) -> Option<u128>
+pub fn convolution_spread<const B: u32>(x: u128, y: u128, cells: u32) -> Option<u128>
     requires { B ≤ 56 }
-    ensures value { IfSome result (λ most. most ≡ cv (2 ^ B) cells x y) }
-    ensures told { x * y < 2 ^ 128 → cv (2 ^ B) cells x y < 2 ^ 128 → IsSome result }
+    ensures value { IfSome result (λ most. most ≡ convolution_spread (2 ^ B) cells x y) }
+    ensures room { x * y < 2 ^ 128 → convolution_spread (2 ^ B) cells x y < 2 ^ 128 → IsSome result }
 {
     let both = x.checked_add(y)?;
     let crossed = x.checked_mul(y)?.div_ceil(units_of_one(B));

@@ -26,7 +26,7 @@ pub use Rattle.dl_plan.proofs.Clauses.{num_le_den, bucket_pos, kept_is, layer_le
 pub use Rattle.dl_plan.proofs.Means.{total_pos, positive_share, weight_at-le}
 pub use Rattle.dl_plan.specs.Clause.{Clause, kept, layer, IsClause, ceded}
 pub use Rattle.dl_plan.specs.Count.{expected_count}
-pub use Rattle.dl_plan.specs.Severity.{mean_amount, pairs_of, probability_of, Means, Pairs, conditioned, mass, probability, shares}
+pub use Rattle.dl_plan.specs.Severity.{mean_amount, pairs_of, probability_of, HasDistribution, Pairs, conditioned, mass, probability, shares}
 pub use Rattle.dl_plan.specs.Valid.{IsAggregate, IsValidUnit, IsNewZero, IsValid}
 pub use Rattle.dl_plan.specs.Weighted.{common_amount, greatest, weight_at, weight_sum, IsWeighted, weighted_sum}
 pub use Rattle.dl_plan.specs.declared.item.Item.{Item}

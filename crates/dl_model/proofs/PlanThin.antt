@@ -1,5 +1,5 @@
 -- Thinning and division of the units of a plan.
-use Rattle.dl_model.proofs.Common.{ℕ, zero, suc, ◌≡◌, ◌+◌, ◌*◌, ◌^◌, ◌<◌, ◌≤◌, List, [], ◌∷◌, length, map, nat_lt, arith, refl, sym, ap, subst, inl, inr, ◌∙◌, fun_ext, All, cases_lt, lt-ltb, le-ltb, All-head, All-tail, pow_pos, Fraction, whole, ◌over◌, ◌+ℚ◌, ◌-ℚ◌, ◌*ℚ◌, ◌/ℚ◌, ◌≤ℚ◌, sum_over, over_same, over_mul, over_le, plus_comm, times_comm, times_zero, sub_plus, div_times, whole_pos, Item, Sev, Freq, Fixed, Table, Bernoulli, Binomial, Poisson, Gamma, weight_at, weight_sum, probability_of, pairs_of, expected_count, over_zero, total_pos, IsPositivePart, nothing, times_itself, SameCells, compound_of, All-filter, Pairs, probability, conditioned, mass, shares, Means, thinned_mean, items_over, filter-shares, probability-conditioned, positive_share, weight_at-le, total}
+use Rattle.dl_model.proofs.Common.{ℕ, zero, suc, ◌≡◌, ◌+◌, ◌*◌, ◌^◌, ◌<◌, ◌≤◌, List, [], ◌∷◌, length, map, nat_lt, arith, refl, sym, ap, subst, inl, inr, ◌∙◌, fun_ext, All, cases_lt, lt-ltb, le-ltb, All-head, All-tail, pow_pos, Fraction, whole, ◌over◌, ◌+ℚ◌, ◌-ℚ◌, ◌*ℚ◌, ◌/ℚ◌, ◌≤ℚ◌, sum_over, over_same, over_mul, over_le, plus_comm, times_comm, times_zero, sub_plus, div_times, whole_pos, Item, Sev, Freq, Fixed, Table, Bernoulli, Binomial, Poisson, Gamma, weight_at, weight_sum, probability_of, pairs_of, expected_count, over_zero, total_pos, IsPositivePart, nothing, times_itself, SameCells, compound_of, All-filter, Pairs, probability, conditioned, mass, shares, HasDistribution, thinned_mean, items_over, filter-shares, probability-conditioned, positive_share, weight_at-le, total}
 use Rattle.std.proofs.Math.Nat.{eq-zero-or-pos, mul-pos}
 use Rattle.std.proofs.lemmas.Bool.{ne_eqb, eq-eqb}
 use Rattle.dl_plan.specs.declared.plan.Unit.{Unit as UnitOfPlan}
@@ -136,7 +136,7 @@ module _ (sev : Sev) where
 
 -- ---- of a unit
 
-pub part_of_means : (sev s : Sev) → Means s (conditioned 0 (pairs_of sev))
+pub part_of_means : (sev s : Sev) → HasDistribution s (conditioned 0 (pairs_of sev))
     → IsPositivePart (probability_of sev) (positive sev) (probability_of s)
 part_of_means sev s means =
     subst (λ g. IsPositivePart (probability_of sev) (positive sev) g) (sym (fun_ext means)) (given_part sev)
@@ -146,7 +146,7 @@ shares_make_up : (m : Fraction) (k : ℕ) → 0 < k → whole k *ℚ (m /ℚ who
 shares_make_up m k pos = times_comm _ _ ∙ div_times m (whole k) (whole_pos k pos)
 
 pub poisson_thinned : (u : UnitOfPlan) (s : Sev) (mean : Fraction) (h : ℕ) → u.freq ≡ Poisson mean
-    → Means s (conditioned 0 (pairs_of u.sev))
+    → HasDistribution s (conditioned 0 (pairs_of u.sev))
     → SameCells (times_itself (compound_of (Poisson (thinned_mean u /ℚ whole (2 ^ h))) s) (2 ^ h))
     (compound_of u.freq u.sev)
 poisson_thinned u s mean h is means =
@@ -159,7 +159,7 @@ poisson_thinned u s mean h is means =
     (shares_make_up m k (pow_pos h) ∙ ap (λ freq. expected_count freq *ℚ positive u.sev) is))
 
 pub gamma_thinned : (u : UnitOfPlan) (s : Sev) (shape : ℕ) (mean : Fraction) → u.freq ≡ Gamma shape mean → 1 ≤ shape
-    → Means s (conditioned 0 (pairs_of u.sev))
+    → HasDistribution s (conditioned 0 (pairs_of u.sev))
     → SameCells (times_itself (compound_of (Gamma 1 (thinned_mean u /ℚ whole shape)) s) shape)
     (compound_of u.freq u.sev)
 gamma_thinned u s zero mean is some means = absurd (omega (arith, some))

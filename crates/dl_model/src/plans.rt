@@ -10,7 +10,7 @@ ghost use Rattle.dl_plan.specs.declared.plan.Freq.{Freq};
 ghost use Rattle.dl_plan.specs.declared.plan.Freq.TheVariants.{Poisson, Gamma};
 ghost use Rattle.dl_plan.specs.declared.plan.Unit.{Unit as UnitOfPlan};
 ghost use Rattle.dl_plan.specs.declared.plan.Plan.{Plan};
-ghost use Rattle.dl_plan.specs.Severity.{probability_of, pairs_of, mean_amount, conditioned, Means};
+ghost use Rattle.dl_plan.specs.Severity.{probability_of, pairs_of, mean_amount, conditioned, HasDistribution};
 ghost use Rattle.dl_plan.specs.Weighted.{common_amount};
 ghost use Rattle.dl_plan.specs.Clause.{Clause, kept};
 ghost use Rattle.dl_plan.specs.Count.{expected_count, IsUnbounded, IsClaimCount as IsCountOfPlan};
@@ -124,12 +124,12 @@ pub fn law_plan_mean()
 /// amount is positive, there is no loss.
 pub fn law_thinned()
     ensures poisson { (u : UnitOfPlan) (positive : Sev) (mean : Fraction) (h : ℕ)
-        → u.freq ≡ Poisson mean → Means positive (conditioned 0 (pairs_of u.sev))
+        → u.freq ≡ Poisson mean → HasDistribution positive (conditioned 0 (pairs_of u.sev))
         → SameCells (times_itself (compound_of
         (Poisson (thinned_mean u /ℚ whole (2 ^ h))) positive) (2 ^ h)) (compound_of u.freq u.sev) }
     ensures gamma { (u : UnitOfPlan) (positive : Sev) (shape : ℕ) (mean : Fraction)
         → u.freq ≡ Gamma shape mean → 1 ≤ shape
-        → Means positive (conditioned 0 (pairs_of u.sev))
+        → HasDistribution positive (conditioned 0 (pairs_of u.sev))
         → SameCells (times_itself (compound_of
         (Gamma 1 (thinned_mean u /ℚ whole shape)) positive) shape) (compound_of u.freq u.sev) }
     ensures none { (u : UnitOfPlan) → IsCountOfPlan u.freq → IsUnbounded u.freq

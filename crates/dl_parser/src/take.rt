@@ -113,14 +113,14 @@ impl<'a> Parser<'a> {
         &mut self,
         kind: Kind,
         behind: Kind,
-        told: T,
+        meaning: T,
     ) -> Result<T, Stop>
         ensures source { self.new.source ≡ self.old.source }
-        ensures reads { ReadsBy (kind ≫ behind means told) self.old self.new result }
+        ensures reads { ReadsBy (kind ≫ behind means meaning) self.old self.new result }
     {
         self.take(kind)?;
         self.take(behind)?;
-        Ok(told)
+        Ok(meaning)
     }
 
     /// The text of a token.

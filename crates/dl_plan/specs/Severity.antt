@@ -40,5 +40,5 @@ abbrev pub probability_of : Sev → ℕ → Fraction
 probability_of sev x = weight_at sev.items x over sev.total
 
 -- the severity means these amounts, equal ones added up
-abbrev pub Means : Sev → Pairs → Type 0
-Means sev pairs = (x : ℕ) → probability_of sev x ≡ probability pairs x
+abbrev pub HasDistribution : Sev → Pairs → Type 0
+HasDistribution sev pairs = (x : ℕ) → probability_of sev x ≡ probability pairs x

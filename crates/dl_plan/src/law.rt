@@ -24,7 +24,7 @@ pub fn law_numerals()
 pub fn law_horizon()
     ensures one { (clause : Option Clause) (cells j k : ℕ) → IsHorizonOf clause cells j
         → IsHorizonOf clause cells k → j ≡ k }
-    ensures told { (clause : Option Clause) (cells : ℕ) → IfSome clause IsClause
+    ensures known { (clause : Option Clause) (cells : ℕ) → IfSome clause IsClause
         → IsHorizonOf clause cells (horizon clause cells) }
     ensures from_one { (clause : Clause) (cells k : ℕ) → IsHorizon clause cells k → 1 ≤ k }
     ensures edges { (clause : Clause) (cells k : ℕ) → IsHorizon clause cells k

@@ -5,7 +5,7 @@ ghost use Rattle.std.specs.List.Sorted.{IsStrictlyIncreasing};
 ghost use Rattle.dl_limits.specs.Limits.{most_parts};
 ghost use Rattle.dl_exact.specs.Fraction.{◌over◌};
 ghost use Rattle.dl_plan.specs.Weighted.{amounts_of, weight_sum, weight_at, common_weight, divided_by};
-ghost use Rattle.dl_plan.specs.Severity.{probability_of, pairs_of, conditioned, Means};
+ghost use Rattle.dl_plan.specs.Severity.{probability_of, pairs_of, conditioned, HasDistribution};
 
 use crate::item::Item;
 use crate::severity::Sev;
@@ -53,7 +53,7 @@ impl Sev {
     pub fn exceeding(&self, alloc: Global, attach: u32) -> Result<Option<Sev>, AllocError>
         ensures { IfOk result (λ made. MatchOption made
             (All (λ item. item.amount ≤ attach) self.now.items)
-            (λ sev. Means sev (conditioned attach (pairs_of self.now)))) }
+            (λ sev. HasDistribution sev (conditioned attach (pairs_of self.now)))) }
     {
         let kept = items_above(alloc, self.items.as_slice(), attach)?;
         if kept.is_empty() {
@@ -66,7 +66,7 @@ impl Sev {
     pub fn positive(&self, alloc: Global) -> Result<Option<Sev>, AllocError>
         ensures { IfOk result (λ made. MatchOption made
             (All (λ item. item.amount ≤ 0) self.now.items)
-            (λ sev. Means sev (conditioned 0 (pairs_of self.now)))) }
+            (λ sev. HasDistribution sev (conditioned 0 (pairs_of self.now)))) }
     {
         self.exceeding(alloc, 0)
     }

@@ -1,5 +1,5 @@
 -- What encloses a sum of units after one more is taken in, and how wide it is.
-use Rattle.dl_port.proofs.Common.{ℕ, zero, suc, ◌≡◌, ◌+◌, ◌-◌, ◌^◌, ◌<◌, ◌≤◌, List, [], ◌∷◌, ◌++◌, length, get_or, take, drop, map, arith, refl, sym, ap, ap₂, subst, subst₂, ◌∙◌, fold, remove, pow_pos, fold_more, sum_by-take-le, get_or-map, get_or_default, length-map, length-take, take_all, drop_all, Iv, IsConvolution, spread, cv, sum_spread, cv_rises, Loss, IsLoss, AreDeclarable, total, GridEncloses, unit_of, without_suc, EncloseEach}
+use Rattle.dl_port.proofs.Common.{ℕ, zero, suc, ◌≡◌, ◌+◌, ◌-◌, ◌^◌, ◌<◌, ◌≤◌, List, [], ◌∷◌, ◌++◌, length, get_or, take, drop, map, arith, refl, sym, ap, ap₂, subst, subst₂, ◌∙◌, fold, remove, pow_pos, fold_more, sum_by-take-le, get_or-map, get_or_default, length-map, length-take, take_all, drop_all, Iv, IsConvolution, spread, convolution_spread, sum_spread, cv_rises, Loss, IsLoss, AreDeclarable, total, GridEncloses, unit_of, without_suc, EncloseEach}
 use Rattle.std.proofs.Common.{append_assoc, zero-add}
 use Rattle.std.specs.Prelude.{All}
 use Rattle.std.proofs.lemmas.List.Elements.{All-take, All-drop}
@@ -81,15 +81,15 @@ joins {B} a b g n i us vs w z inside in_a in_b e conv of_a of_b =
 
 pub widens : {B : ℕ} (grids : List (List (Iv B))) (k i x y z : ℕ) (b : List (Iv B)) → i < length grids
     → b ≡ get_or grids i b
-    → y ≤ cv (2 ^ B) k x (spread b) → x ≤ fold (cv (2 ^ B) k) z (take i (map spread grids))
-    → y ≤ fold (cv (2 ^ B) k) z (take (i + 1) (map spread grids))
+    → y ≤ convolution_spread (2 ^ B) k x (spread b) → x ≤ fold (convolution_spread (2 ^ B) k) z (take i (map spread grids))
+    → y ≤ fold (convolution_spread (2 ^ B) k) z (take (i + 1) (map spread grids))
 widens {B} grids k i x y z b inside is h before =
-    let more = fold_more (cv (2 ^ B) k) z (map spread grids) i 0 (rw length-map inside) in
+    let more = fold_more (convolution_spread (2 ^ B) k) z (map spread grids) i 0 (rw length-map inside) in
     let here : get_or (map spread grids) i 0 ≡ spread b = get_or-map spread grids i b 0 inside ∙ sym (ap spread is) in
     rw (more, here) (omega (
       arith,
       h,
-      cv_rises (2 ^ B) k k x (fold (cv (2 ^ B) k) z (take i (map spread grids)))
+      cv_rises (2 ^ B) k k x (fold (convolution_spread (2 ^ B) k) z (take i (map spread grids)))
           (spread b) (spread b) (pow_pos B) (omega arith) before (omega arith),
     ))
 
@@ -168,32 +168,32 @@ all_units (b ∷ bs) rest first sum g k (u ∷ us) some split is within of_first
 
 -- ---- spreads
 
-pub fold_rises : (S k x y : ℕ) (zs : List ℕ) → 0 < S → x ≤ y → fold (cv S k) x zs ≤ fold (cv S k) y zs
+pub fold_rises : (S k x y : ℕ) (zs : List ℕ) → 0 < S → x ≤ y → fold (convolution_spread S k) x zs ≤ fold (convolution_spread S k) y zs
 fold_rises S k x y [] pos h = h
-fold_rises S k x y (z ∷ zs) pos h = fold_rises S k (cv S k x z) (cv S k y z) zs pos
+fold_rises S k x y (z ∷ zs) pos h = fold_rises S k (convolution_spread S k x z) (convolution_spread S k y z) zs pos
     (cv_rises S k k x y z z pos (omega arith) h (omega arith))
 
 -- a grid that begins with the first cells of the first grid
 pub all_spread : {B : ℕ} (grids rest : List (List (Iv B))) (first : List (Iv B)) (k x y : ℕ) → 1 ≤ length grids
     → rest ≡ drop 1 grids → first ≡ get_or grids 0 first
-    → x ≡ spread (take k first) → y ≤ fold (cv (2 ^ B) k) x (map spread rest)
+    → x ≡ spread (take k first) → y ≤ fold (convolution_spread (2 ^ B) k) x (map spread rest)
     → y ≤ sum_spread (2 ^ B) k (map spread grids)
 all_spread [] rest first k x y some split is e h = absurd (omega arith)
 all_spread {B} (b ∷ bs) rest first k x y some split is e h =
     omega (
       arith,
       h,
-      ap (λ t. fold (cv (2 ^ B) k) x (map spread t)) split,
+      ap (λ t. fold (convolution_spread (2 ^ B) k) x (map spread t)) split,
       fold_rises (2 ^ B) k x (spread b) (map spread bs) (pow_pos B)
           (omega (arith, e, ap spread is, sum_by-take-le (λ (cell : Iv B). cell.hi - cell.lo) first k)),
     )
 
 -- a sum of some units, and further ones
 pub further_spread : (S k x y : ℕ) (zs more : List ℕ) → 0 < S → 1 ≤ length zs → x ≤ sum_spread S k zs
-    → y ≤ fold (cv S k) x more → y ≤ sum_spread S k (zs ++ more)
+    → y ≤ fold (convolution_spread S k) x more → y ≤ sum_spread S k (zs ++ more)
 further_spread S k x y [] more pos some h g = absurd (omega arith)
 further_spread S k x y (z ∷ zs) more pos some h g =
-    omega (arith, g, fold_rises S k x (fold (cv S k) z zs) more pos h, fold-append (cv S k) z zs more)
+    omega (arith, g, fold_rises S k x (fold (convolution_spread S k) z zs) more pos h, fold-append (convolution_spread S k) z zs more)
 
 -- ---- no unit
 
@@ -240,7 +240,7 @@ alone_left grids g i us none few of_g e =
 
 pub both_spreads : {B : ℕ} (grids before after : List (List (Iv B))) (k i x y : ℕ) → before ≡ take i grids
     → after ≡ drop (suc i) grids → 1 ≤ length before
-    → x ≤ sum_spread (2 ^ B) k (map spread before) → y ≤ fold (cv (2 ^ B) k) x (map spread after)
+    → x ≤ sum_spread (2 ^ B) k (map spread before) → y ≤ fold (convolution_spread (2 ^ B) k) x (map spread after)
     → y ≤ sum_spread (2 ^ B) k (map spread (remove grids i))
 both_spreads {B} grids before after k i x y cut rest some h g =
     subst (λ t. y ≤ sum_spread (2 ^ B) k (map spread t)) (ap₂ (λ s t. s ++ t) cut rest)

@@ -11,7 +11,7 @@ pub use Rattle.dl_grid.proofs.WidthLaws.{cv_rises}
 pub use Rattle.dl_grid.specs.Cells.{spread}
 pub use Rattle.dl_grid.specs.Convolution.{IsConvolution}
 pub use Rattle.dl_grid.specs.Width.{sum_spread}
-unfoldable pub use Rattle.dl_grid.specs.Width.{cv}
+unfoldable pub use Rattle.dl_grid.specs.Width.{convolution_spread}
 pub use Rattle.dl_iv.specs.declared.interval.Iv.{Iv}
 pub use Rattle.dl_exact.proofs.Results.{if_ok_two}
 pub use Rattle.std.proofs.Common.{List, [], add-one, ap, ap₂, arith, drop, get_or, length, map, refl, subst, subst₂, suc, sym, take, zero, ℕ, ◌++◌, ◌+◌, ◌-◌, ◌<◌, ◌^◌, ◌∙◌, ◌∷◌, ◌≡◌, ◌≤◌}

@@ -1,5 +1,5 @@
 -- Sums of the first units and of the last, and what they add up to.
-use Rattle.dl_port.proofs.Common.{ℕ, zero, suc, ◌≡◌, ◌+◌, ◌-◌, ◌^◌, ◌<◌, ◌≤◌, List, [], ◌∷◌, ◌++◌, length, get_or, take, drop, map, arith, refl, sym, ap, ap₂, subst, subst₂, ◌∙◌, add-one, false, IsTrue, ◌↔◌, Option, Some, None, IsSome, IfSome, option_to_list, fold, remove, slice_get, fold_more, sum_by-take-le, pow_pos, get_or-map, get_or_default, length-map, length-append, length-take, take_all, drop_all, Iv, Loss, AreDeclarable, total, GridEncloses, IsConvolution, spread, cv, sum_spread, cv_rises, without_suc, EnclosesSum, IsSumOfPart, IsTotal, IsSumWithout, AreSumsOfEnds}
+use Rattle.dl_port.proofs.Common.{ℕ, zero, suc, ◌≡◌, ◌+◌, ◌-◌, ◌^◌, ◌<◌, ◌≤◌, List, [], ◌∷◌, ◌++◌, length, get_or, take, drop, map, arith, refl, sym, ap, ap₂, subst, subst₂, ◌∙◌, add-one, false, IsTrue, ◌↔◌, Option, Some, None, IsSome, IfSome, option_to_list, fold, remove, slice_get, fold_more, sum_by-take-le, pow_pos, get_or-map, get_or_default, length-map, length-append, length-take, take_all, drop_all, Iv, Loss, AreDeclarable, total, GridEncloses, IsConvolution, spread, convolution_spread, sum_spread, cv_rises, without_suc, EnclosesSum, IsSumOfPart, IsTotal, IsSumWithout, AreSumsOfEnds}
 use Rattle.std.proofs.Common.{inl, inr, replicate}
 use Rattle.dl_port.specs.Shared.{AreSumsWithout}
 use Rattle.std.specs.Prelude.{Bool, true, Any, MatchOption}
@@ -43,12 +43,12 @@ none_at_all g before after us vs e h of_none of_us of_vs =
 -- the grid at place i is taken in
 pub one_wider : {B : ℕ} (grids : List (List (Iv B))) (k i x y z : ℕ) (b : List (Iv B)) → i < length grids
     → b ≡ get_or grids i b
-    → y ≡ cv (2 ^ B) k x (spread b) → x ≡ fold (cv (2 ^ B) k) z (take i (map spread grids))
-    → y ≡ fold (cv (2 ^ B) k) z (take (i + 1) (map spread grids))
+    → y ≡ convolution_spread (2 ^ B) k x (spread b) → x ≡ fold (convolution_spread (2 ^ B) k) z (take i (map spread grids))
+    → y ≡ fold (convolution_spread (2 ^ B) k) z (take (i + 1) (map spread grids))
 one_wider {B} grids k i x y z b inside is h before =
-    let more = fold_more (cv (2 ^ B) k) z (map spread grids) i 0 (rw length-map inside) in
+    let more = fold_more (convolution_spread (2 ^ B) k) z (map spread grids) i 0 (rw length-map inside) in
     let here : get_or (map spread grids) i 0 ≡ spread b = get_or-map spread grids i b 0 inside ∙ sym (ap spread is) in
-    rw (more, here) (h ∙ ap (λ t. cv (2 ^ B) k t (spread b)) before)
+    rw (more, here) (h ∙ ap (λ t. convolution_spread (2 ^ B) k t (spread b)) before)
 
 -- ---- the sums of the last units
 
@@ -163,12 +163,12 @@ next_taken {B} k i grids a b g part inside is long cells conv = record {
 }
 
 sum_more : (S k : ℕ) (zs : List ℕ) (i d : ℕ) → 1 ≤ i → i < length zs
-    → sum_spread S k (take (i + 1) zs) ≡ cv S k (sum_spread S k (take i zs)) (get_or zs i d)
+    → sum_spread S k (take (i + 1) zs) ≡ convolution_spread S k (sum_spread S k (take i zs)) (get_or zs i d)
 sum_more S k [] i d some inside = absurd (omega arith)
 sum_more S k (z ∷ zs) zero d some inside = absurd (omega arith)
 sum_more S k (z ∷ zs) (suc i) d some inside =
     ap (λ n. sum_spread S k (take n (z ∷ zs))) (add-one (suc i))
-    ∙ ap (λ n. fold (cv S k) z (take n zs)) (sym (add-one i)) ∙ fold_more (cv S k) z zs i d (omega arith)
+    ∙ ap (λ n. fold (convolution_spread S k) z (take n zs)) (sym (add-one i)) ∙ fold_more (convolution_spread S k) z zs i d (omega arith)
 
 pub first_narrow : {B : ℕ} (k : ℕ) (grids : List (List (Iv B))) (first sum : List (Iv B)) → 1 ≤ length grids
     → first ≡ get_or grids 0 first → sum ≡ take k first
@@ -178,7 +178,7 @@ first_narrow {B} k (b ∷ bs) first sum some is e =
     omega (arith, ap spread e, ap spread is, sum_by-take-le (λ (cell : Iv B). cell.hi - cell.lo) first k)
 
 pub next_narrow : {B : ℕ} (k i x y : ℕ) (grids : List (List (Iv B))) (b : List (Iv B)) → 1 ≤ i → i < length grids
-    → b ≡ get_or grids i b → y ≤ cv (2 ^ B) k x (spread b)
+    → b ≡ get_or grids i b → y ≤ convolution_spread (2 ^ B) k x (spread b)
     → x ≤ sum_spread (2 ^ B) k (take i (map spread grids)) → y ≤ sum_spread (2 ^ B) k (take (i + 1) (map spread grids))
 next_narrow {B} k i x y grids b some inside is h before =
     let more = sum_more (2 ^ B) k (map spread grids) i 0 some (rw length-map inside) in

@@ -20,7 +20,7 @@ ghost use Rattle.dl_port.specs.Shared.{IsSumOfPart};
 ghost use Rattle.dl_grid.specs.Cells.{spread};
 ghost use Rattle.std.specs.List.{fold, remove};
 ghost use Rattle.dl_model.specs.Measures.{without};
-ghost use Rattle.dl_grid.specs.Width.{cv, sum_spread};
+ghost use Rattle.dl_grid.specs.Width.{convolution_spread, sum_spread};
 ghost use Rattle.dl_model.specs.Program.{Loss, AreDeclarable, total};
 ghost use Rattle.dl_model.specs.Family.{GridEncloses};
 
@@ -48,7 +48,7 @@ fn with_units<const B: u32>(
         → AreDeclarable vs
         → GridEncloses sum.entry (total us) → EncloseEach units.now vs
         → GridEncloses g (total (us ++ vs))) }
-    ensures spread { IfOk result (λ g. spread g ≤ fold (cv (2 ^ B) cells) (spread sum.entry)
+    ensures spread { IfOk result (λ g. spread g ≤ fold (convolution_spread (2 ^ B) cells) (spread sum.entry)
         (map spread units.now)) }
 {
     let mut sum = sum;

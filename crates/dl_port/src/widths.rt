@@ -3,19 +3,19 @@
 ghost use Rattle.std.specs.Prelude.{◌≡◌, ◌^◌, ◌<◌, ◌≤◌, length, map, IfSome};
 ghost use Rattle.std.specs.List.{fold, remove};
 ghost use Rattle.dl_grid.specs.Cells.{spread};
-ghost use Rattle.dl_grid.specs.Width.{cv, sum_spread};
+ghost use Rattle.dl_grid.specs.Width.{convolution_spread, sum_spread};
 
-use dl_grid::{Grid, joined_spread};
+use dl_grid::{Grid, convolution_spread};
 
 /// The spread that a sum of units may have where they are taken in one by one, in order, from a sum
 /// with the spread `sum`, in units of `1 / 2^B`. None where a part of it passes 128 bits.
 fn spread_with<const B: u32>(sum: u128, units: &[Grid<B>], cells: u32) -> Option<u128>
-    ensures { IfSome result (λ most. most ≡ fold (cv (2 ^ B) cells) sum (map spread units.now)) }
+    ensures { IfSome result (λ most. most ≡ fold (convolution_spread (2 ^ B) cells) sum (map spread units.now)) }
 {
     let mut most = sum;
     for unit in units {
         unit.cells();
-        most = joined_spread::<B>(most, unit.spread(), cells)?;
+        most = convolution_spread::<B>(most, unit.spread(), cells)?;
     }
     Some(most)
 }

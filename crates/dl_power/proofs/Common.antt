@@ -34,7 +34,7 @@ unfoldable pub use Rattle.dl_grid.specs.Cells.{all_at_zero, high_at, low_at}
 pub use Rattle.dl_grid.specs.Room.{IsGridSize}
 pub use Rattle.dl_grid.specs.Convolution.{IsConvolution}
 unfoldable pub use Rattle.dl_grid.specs.Width.{mixed_spread}
-pub use Rattle.dl_grid.specs.Width.{cv, pw}
+pub use Rattle.dl_grid.specs.Width.{convolution_spread, power_spread}
 pub use Rattle.dl_plan.specs.Weighted.{amounts_of, greatest, weight_at, weight_sum}
 pub use Rattle.dl_plan.specs.declared.item.Item.{Item}
 pub use Rattle.dl_model.proofs.CompoundLaws.{power_within_one}

@@ -10,8 +10,8 @@ ghost use Rattle.dl_model.specs.Counts.{fixed};
 ghost use Rattle.dl_model.specs.Family.{compound, GridEncloses};
 ghost use Rattle.dl_plan.specs.Weighted.{amounts_of, weight_at, weight_sum};
 
-use crate::shares::{nowhere, put, share};
-use dl_grid::Grid;
+use crate::shares::{put, share};
+use dl_grid::{Grid, empty_grid};
 use dl_plan::Item;
 use std::alloc::{AllocError, Global};
 
@@ -36,7 +36,7 @@ pub fn claim_grid<const B: u32>(
         (compound (fixed 1) (probability_at amounts.now))) }
     ensures spread { IfOk result (λ g. spread g ≤ length amounts.now) }
 {
-    let mut grid = nowhere(alloc, cells)?;
+    let mut grid = empty_grid(alloc, cells)?;
     for item in amounts {
         put(&mut grid, item.amount, share(item.weight, total));
     }

@@ -4,15 +4,15 @@ ghost use Rattle.std.specs.Prelude.{◌≡◌, ℕ, suc, ◌+◌, ◌-◌, ◌*�
 ghost use Rattle.std.specs.Int.{div_ceil};
 ghost use Rattle.dl_grid.specs.Cells.{low_at, high_at, mass_low, spread, all_at_zero};
 ghost use Rattle.dl_exact.specs.Count.{count_pairs};
-ghost use Rattle.dl_grid.specs.Width.{cv, mixed_spread};
+ghost use Rattle.dl_grid.specs.Width.{convolution_spread, mixed_spread};
 ghost use Rattle.dl_plan.specs.Weighted.{weight_at, weight_sum, greatest};
 ghost use Rattle.dl_power.specs.Powers.{EnclosesListed};
 
 use crate::blocks::by_blocks;
 use crate::powers::power_with;
-use crate::shares::{greatest_of, nowhere, share, weight_of};
+use crate::shares::{greatest_of, share, weight_of};
 use crate::widths::spread_of_counts;
-use dl_grid::{Grid, units_of_one};
+use dl_grid::{Grid, empty_grid, units_of_one};
 use dl_iv::Iv;
 use dl_plan::Item;
 use dl_product::{Workspace, product};
@@ -59,7 +59,7 @@ fn one_claim_more<const B: u32>(
         (div_ceil (count_pairs s (λ i j. high_at base.now i * high_at later.now j)) (2 ^ B))
         + all_at_zero share.entry.hi s) (2 ^ B)) }
     ensures mass { IfOk result (λ g. mass_low g ≤ mass_low later.now + share.entry.lo) }
-    ensures spread { IfOk result (λ g. spread g ≤ cv (2 ^ B) cells (spread base.now)
+    ensures spread { IfOk result (λ g. spread g ≤ convolution_spread (2 ^ B) cells (spread base.now)
         (spread later.now) + (share.entry.hi - share.entry.lo)) }
 {
     base.cells();
@@ -102,7 +102,7 @@ fn by_horner<const B: u32>(
 {
     base.cells();
     let greatest = greatest_of(table);
-    let mut grid = nowhere(alloc, cells)?;
+    let mut grid = empty_grid(alloc, cells)?;
     add_at_zero(&mut grid, share_of(table, greatest, total));
     for step in 0..greatest {
         let count = greatest - step - 1;

@@ -14,4 +14,3 @@ mod widths;
 pub use claims::claim_grid;
 pub use counts::{mix_counts, mix_counts_with};
 pub use powers::{power, power_with};
-pub use shares::nowhere;

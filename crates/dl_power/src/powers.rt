@@ -2,7 +2,7 @@
 
 ghost use Rattle.std.specs.Prelude.{◌≡◌, ℕ, ◌^◌, ◌≤◌, length, IfOk};
 ghost use Rattle.dl_grid.specs.Cells.{spread};
-ghost use Rattle.dl_grid.specs.Width.{pw};
+ghost use Rattle.dl_grid.specs.Width.{power_spread};
 ghost use Rattle.dl_model.specs.Family.{Family, IsProper, GridEncloses, times_itself};
 
 use dl_grid::Grid;
@@ -24,7 +24,7 @@ pub fn power<const B: u32>(
     ensures cells { IfOk result (λ g. length g ≡ cells) }
     ensures encloses { IfOk result (λ g. (F : Family) → IsProper F → GridEncloses base.now F
         → GridEncloses g (times_itself F n)) }
-    ensures spread { IfOk result (λ g. spread g ≤ pw (2 ^ B) cells (spread base.now) n) }
+    ensures spread { IfOk result (λ g. spread g ≤ power_spread (2 ^ B) cells (spread base.now) n) }
 {
     power_with(alloc, &mut Workspace::new(alloc), base, n, cells)
 }
@@ -42,7 +42,7 @@ pub fn power_with<const B: u32>(
     ensures cells { IfOk result (λ g. length g ≡ cells) }
     ensures encloses { IfOk result (λ g. (F : Family) → IsProper F → GridEncloses base.now F
         → GridEncloses g (times_itself F n)) }
-    ensures spread { IfOk result (λ g. spread g ≤ pw (2 ^ B) cells (spread base.now) n) }
+    ensures spread { IfOk result (λ g. spread g ≤ power_spread (2 ^ B) cells (spread base.now) n) }
 {
     base.cells();
     if n == 0 {

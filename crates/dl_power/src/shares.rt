@@ -50,21 +50,6 @@ pub(crate) fn share<const B: u32>(weight: u32, total: u32) -> Iv<B>
     Iv::enclose(u128::from(weight), u128::from(total))
 }
 
-/// The grid whose cells are all 0: no probability is in it yet. An error is a want of memory.
-pub fn nowhere<const B: u32>(alloc: Global, cells: u32) -> Result<Grid<B>, AllocError>
-    requires { IsGridSize B cells }
-    ensures cells { IfOk result (λ g. length g ≡ cells) }
-    ensures low { IfOk result (λ g. (x : ℕ) → low_at g x ≡ 0) }
-    ensures high { IfOk result (λ g. (x : ℕ) → high_at g x ≡ 0) }
-    ensures mass { IfOk result (λ g. mass_low g ≡ 0) }
-    ensures spread { IfOk result (λ g. spread g ≡ 0) }
-{
-    let mut grid = Grid::zero(alloc, cells)?;
-    grid.cells();
-    grid.set(0, Iv::point(0));
-    Ok(grid)
-}
-
 /// Writes one cell where the grid has it.
 #[tactic(auto, using(dl_grid::proofs::CellSets::low_set, dl_grid::proofs::CellSets::high_set, dl_grid::proofs::CellSets::mass_set, dl_grid::proofs::CellSets::spread_set))]
 pub(crate) fn put<const B: u32>(grid: &mut Grid<B>, x: u32, v: Iv<B>)

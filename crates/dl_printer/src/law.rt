@@ -30,7 +30,7 @@ pub fn law_reads_nothing_else()
     ensures again { (p q : Program) (tokens : List Token) → IsWellFormed p
         → Covers (canonical p) (length (canonical p)) tokens
         → Spells program q (lexemes (canonical p) tokens) → canonical q ≡ canonical p }
-    ensures told { (p q : Program) → IsWellFormed p → IsWellFormed q → canonical p ≡ canonical q
+    ensures texts { (p q : Program) → IsWellFormed p → IsWellFormed q → canonical p ≡ canonical q
         → SameProgram p q }
 {}
 

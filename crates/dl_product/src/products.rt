@@ -3,7 +3,7 @@
 ghost use Rattle.std.specs.Prelude.{◌≡◌, ◌^◌, ◌≤◌, length, IfOk};
 ghost use Rattle.dl_grid.specs.Cells.{spread};
 ghost use Rattle.dl_grid.specs.Convolution.{IsConvolution};
-ghost use Rattle.dl_grid.specs.Width.{cv};
+ghost use Rattle.dl_grid.specs.Width.{convolution_spread};
 
 use crate::lists::{square_sums, sums};
 use crate::room::Workspace;
@@ -24,7 +24,7 @@ pub fn product<const B: u32>(
     requires in_first { cells ≤ length a.now }
     requires some { 1 ≤ cells }
     requires in_second { cells ≤ length b.now }
-    ensures spread { IfOk result (λ g. spread g ≤ cv (2 ^ B) cells (spread a.now) (spread b.now)) }
+    ensures spread { IfOk result (λ g. spread g ≤ convolution_spread (2 ^ B) cells (spread a.now) (spread b.now)) }
     ensures convolution { IfOk result (λ g. IsConvolution cells a.now b.now g) }
     ensures cells { IfOk result (λ g. length g ≡ cells) }
 {
@@ -44,7 +44,7 @@ pub fn square<const B: u32>(
     requires in_first { cells ≤ length a.now }
     ensures cells { IfOk result (λ g. length g ≡ cells) }
     ensures convolution { IfOk result (λ g. IsConvolution cells a.now a.now g) }
-    ensures spread { IfOk result (λ g. spread g ≤ cv (2 ^ B) cells (spread a.now) (spread a.now)) }
+    ensures spread { IfOk result (λ g. spread g ≤ convolution_spread (2 ^ B) cells (spread a.now) (spread a.now)) }
 {
     let lows = square_sums(alloc, work, a.lows(), cells)?;
     let highs = square_sums(alloc, work, a.highs(), cells)?;

@@ -52,7 +52,7 @@ impl Workspace {
     ) -> Result<bool, AllocError>
         requires levels { levels < 40 }
         requires fits { ItemsFit a.now b.now (length out.old) }
-        ensures { IfOk result (λ told. told ≡ true → (s : ℕ) → s < length out.old
+        ensures { IfOk result (λ found. found ≡ true → (s : ℕ) → s < length out.old
             → get_or out.new s 0 ≡ pair_sum a.now b.now s) }
     {
         self.prepare(alloc, levels)?;
@@ -72,7 +72,7 @@ impl Workspace {
     ) -> Result<bool, AllocError>
         requires levels { levels < 40 }
         requires fits { ItemsFit a.now a.now (length out.old) }
-        ensures { IfOk result (λ told. told ≡ true → (s : ℕ) → s < length out.old
+        ensures { IfOk result (λ found. found ≡ true → (s : ℕ) → s < length out.old
             → get_or out.new s 0 ≡ pair_sum a.now a.now s) }
     {
         self.prepare(alloc, levels)?;

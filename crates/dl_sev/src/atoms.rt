@@ -5,7 +5,7 @@ ghost use Rattle.dl_limits.specs.Limits.{most_parts};
 ghost use Rattle.dl_exact.specs.Fraction.{◌over◌};
 ghost use Rattle.dl_plan.specs.Fine.{IsFineTo30Bits};
 ghost use Rattle.dl_plan.specs.Weighted.{amounts_of};
-ghost use Rattle.dl_plan.specs.Severity.{Means};
+ghost use Rattle.dl_plan.specs.Severity.{HasDistribution};
 ghost use Rattle.dl_sev.specs.Steps.{weighed, items_of, mixture, mixed_probability};
 ghost use Rattle.dl_sev.specs.Refusals.{RefusesMixture};
 
@@ -23,7 +23,7 @@ pub fn merge(alloc: Global, amounts: &[u32], weights: &Weights) -> Result<Sev, A
     requires sum { sum weights.now.weights ≡ weights.now.total }
     requires some { 1 ≤ weights.now.total }
     requires within { weights.now.total ≤ most_parts }
-    ensures { IfOk result (λ sev. Means sev (weighed amounts.now weights.now)) }
+    ensures { IfOk result (λ sev. HasDistribution sev (weighed amounts.now weights.now)) }
 {
     gathered(alloc, items_of(alloc, amounts, weights.weights.as_slice())?)
 }
@@ -50,7 +50,7 @@ pub fn mix(alloc: Global, atoms: &[Sev], weights: &Weights) -> Result<Sev, MixFa
     requires sum { sum weights.now.weights ≡ weights.now.total }
     requires some { 1 ≤ weights.now.total }
     requires within { weights.now.total ≤ most_parts }
-    ensures step { MatchResult result (λ made. Means made (mixture atoms.now weights.now))
+    ensures step { MatchResult result (λ made. HasDistribution made (mixture atoms.now weights.now))
         (RefusesMixture atoms.now weights.now) }
     ensures fine { OnOk result
         (IsFineTo30Bits (map (λ pair. pair.1) (mixture atoms.now weights.now))) }

@@ -2,7 +2,7 @@
 
 ghost use Rattle.std.specs.Prelude.{◌≡◌, map, All, IfOk};
 ghost use Rattle.dl_plan.specs.Fine.{IsWhole};
-ghost use Rattle.dl_plan.specs.Severity.{pairs_of, Means};
+ghost use Rattle.dl_plan.specs.Severity.{pairs_of, HasDistribution};
 ghost use Rattle.dl_plan.specs.Clause.{kept, IsClause};
 ghost use Rattle.dl_sev.specs.Steps.{ceded_each, with_amount};
 
@@ -14,7 +14,7 @@ use std::alloc::{AllocError, Global};
 pub fn cede_whole(alloc: Global, sev: &Sev, cede: &Cede) -> Result<Sev, AllocError>
     requires clause { IsClause cede.now }
     requires whole { All (λ item. IsWhole (kept cede.now item.amount)) sev.now.items }
-    ensures { IfOk result (λ made. Means made (ceded_each cede.now (pairs_of sev.now))) }
+    ensures { IfOk result (λ made. HasDistribution made (ceded_each cede.now (pairs_of sev.now))) }
 {
     gathered(alloc, items_whole(alloc, sev.items.as_slice(), cede)?)
 }

@@ -2,7 +2,7 @@
 
 ghost use Rattle.std.specs.Prelude.{◌≡◌, Option, map, All, IfOk, OnOk, MatchResult};
 ghost use Rattle.dl_plan.specs.Fine.{IsWhole};
-ghost use Rattle.dl_plan.specs.Severity.{pairs_of, conditioned, Means};
+ghost use Rattle.dl_plan.specs.Severity.{pairs_of, conditioned, HasDistribution};
 ghost use Rattle.dl_plan.specs.Clause.{layer, kept, IsClause};
 ghost use Rattle.dl_sev.specs.Steps.{layered, ceded_each, with_amount};
 ghost use Rattle.dl_sev.specs.Refusals.{RefusesAbove, RefusesClause};
@@ -16,7 +16,7 @@ use std::alloc::{AllocError, Global};
 /// The severity conditioned on exceeding `attach` buckets. `NoneAbove` exactly where no amount
 /// does.
 pub fn above(alloc: Global, sev: &Sev, attach: u32) -> Result<Sev, AboveFault>
-    ensures { MatchResult result (λ made. Means made (conditioned attach (pairs_of sev.now)))
+    ensures { MatchResult result (λ made. HasDistribution made (conditioned attach (pairs_of sev.now)))
         (RefusesAbove sev.now attach) }
 {
     match sev.exceeding(alloc, attach)? {
@@ -27,7 +27,7 @@ pub fn above(alloc: Global, sev: &Sev, attach: u32) -> Result<Sev, AboveFault>
 
 /// What of each amount lies above `attach` and within the limit, if there is one; in buckets.
 pub fn cut(alloc: Global, sev: &Sev, limit: Option<u32>, attach: u32) -> Result<Sev, AllocError>
-    ensures { IfOk result (λ made. Means made (layered limit attach (pairs_of sev.now))) }
+    ensures { IfOk result (λ made. HasDistribution made (layered limit attach (pairs_of sev.now))) }
 {
     gathered(
         alloc,
@@ -65,7 +65,7 @@ pub fn cut_amount(amount: u32, limit: Option<u32>, attach: u32) -> u32
 /// number of buckets.
 pub fn cede_each(alloc: Global, sev: &Sev, cede: &Cede) -> Result<Sev, CedeFault>
     requires { IsClause cede.now }
-    ensures step { MatchResult result (λ made. Means made (ceded_each cede.now (pairs_of sev.now)))
+    ensures step { MatchResult result (λ made. HasDistribution made (ceded_each cede.now (pairs_of sev.now)))
         (RefusesClause sev.now.items cede.now) }
     ensures whole { OnOk result (All (λ item. IsWhole (kept cede.now item.amount)) sev.now.items) }
 {

@@ -213,7 +213,7 @@ fn fits(a: &[u128], b: &[u128], cells: usize, levels: u32) -> bool
     ensures within { result ≡ true → cells ≤ length a.now + length b.now }
     ensures sums { result ≡ true → (s : ℕ)
         → count_pairs s (λ i j. slice_index a.now i * slice_index b.now j) < 2 ^ 123 }
-    ensures told { length a.now + length b.now ≤ 2 ^ levels
+    ensures found { length a.now + length b.now ≤ 2 ^ levels
         → cells ≤ length a.now + length b.now → sum_by (λ x. x) a.now < 2 ^ 64
         → (m : ℕ) → ((k : ℕ) → slice_index b.now k ≤ m)
         → m * sum_by (λ x. x) a.now < 2 ^ 123 → result ≡ true }
@@ -247,13 +247,13 @@ pub fn checked_product(
     requires setup { IsSetup setup.now }
     requires first { All (λ x. x < 2 ^ 64) a.now }
     requires second { All (λ x. x < 2 ^ 64) b.now }
-    ensures each { IfOk result (λ told. told ≡ true → (s : ℕ) → s < length out.old
+    ensures each { IfOk result (λ found. found ≡ true → (s : ℕ) → s < length out.old
         → slice_index out.new s
         ≡ count_pairs s (λ i j. slice_index a.now i * slice_index b.now j)) }
-    ensures told { IfOk result (λ told. length a.now + length b.now ≤ 2 ^ setup.now.levels
+    ensures found { IfOk result (λ found. length a.now + length b.now ≤ 2 ^ setup.now.levels
         → length out.old ≤ length a.now + length b.now → sum_by (λ x. x) a.now < 2 ^ 64
         → (m : ℕ) → ((k : ℕ) → slice_index b.now k ≤ m)
-        → m * sum_by (λ x. x) a.now < 2 ^ 123 → told ≡ true) }
+        → m * sum_by (λ x. x) a.now < 2 ^ 123 → found ≡ true) }
 {
     if !fits(a, b, out.len(), setup.levels) {
         return Ok(false);
@@ -272,13 +272,13 @@ pub fn checked_square(
 ) -> Result<bool, AllocError>
     requires setup { IsSetup setup.now }
     requires items { All (λ x. x < 2 ^ 64) a.now }
-    ensures each { IfOk result (λ told. told ≡ true → (s : ℕ) → s < length out.old
+    ensures each { IfOk result (λ found. found ≡ true → (s : ℕ) → s < length out.old
         → slice_index out.new s
         ≡ count_pairs s (λ i j. slice_index a.now i * slice_index a.now j)) }
-    ensures told { IfOk result (λ told. length a.now + length a.now ≤ 2 ^ setup.now.levels
+    ensures found { IfOk result (λ found. length a.now + length a.now ≤ 2 ^ setup.now.levels
         → length out.old ≤ length a.now + length a.now → sum_by (λ x. x) a.now < 2 ^ 64
         → (m : ℕ) → ((k : ℕ) → slice_index a.now k ≤ m)
-        → m * sum_by (λ x. x) a.now < 2 ^ 123 → told ≡ true) }
+        → m * sum_by (λ x. x) a.now < 2 ^ 123 → found ≡ true) }
 {
     if !fits(a, a, out.len(), setup.levels) {
         return Ok(false);

@@ -1,5 +1,5 @@
 -- An aggregate clause that breaks no rule is one of a valid plan.
-use Rattle.dl_types.proofs.Common.{◌≡◌, ◌∙◌, ap, ℕ, ◌≤◌, true, Option, Some, None, refl, sym, subst, All, IfSome, ltb-false, All-map, most_horizon, most_amount_at, Sev, Means, Clause, IsClause, horizon, horizon_is, not_at, GridClause, GridUnit, clause_of, has_shares, off_grid_cession, final_severity, aggregate_clause, IsCedeOf, horizon_too_large}
+use Rattle.dl_types.proofs.Common.{◌≡◌, ◌∙◌, ap, ℕ, ◌≤◌, true, Option, Some, None, refl, sym, subst, All, IfSome, ltb-false, All-map, most_horizon, most_amount_at, Sev, HasDistribution, Clause, IsClause, horizon, horizon_is, not_at, GridClause, GridUnit, clause_of, has_shares, off_grid_cession, final_severity, aggregate_clause, IsCedeOf, horizon_too_large}
 use Rattle.dl_plan.specs.Valid.{IsWithinMostAmount, IsAggregate}
 use Rattle.dl_buckets.specs.Clauses.{ceded_layer}
 use Rattle.dl_buckets.specs.GridKept.{IsClauseWithin, IsWithin}
@@ -22,7 +22,7 @@ near_most cells c fine near = ltb-false (most_horizon cells) (horizon (Some (cla
 
 module _ (cells : ℕ) (u : GridUnit) (none : off_grid_cession u ≡ None) (shares : has_shares u.occ ≡ true)
     (near : horizon_too_large cells (made_of u.agr) ≡ None) (within : IsWithin (most_amount_at cells) u) (sev : Sev)
-    (means : Means sev (final_severity u)) where
+    (means : HasDistribution sev (final_severity u)) where
   layers_near : (c : GridClause) → IsClauseWithin (most_amount_at cells) c
       → All (IsWithinMostAmount cells) (clause_of c).1
   layers_near c small = All-map (IsWithinMostAmount cells) ceded_layer c.layers

@@ -1,6 +1,6 @@
 -- What an aggregate clause of a valid plan keeps: its multiples are whole numbers, and its horizon is small. The
 -- greatest common divisor of a severity's amounts is that of the amounts of positive probability of what it means.
-use Rattle.dl_types.proofs.Common.{◌∣◌, ℕ, ◌≡◌, ◌∙◌, ◌+◌, ◌*◌, ◌==◌, get_or, true, false, cond, List, [], ◌∷◌, Some, None, refl, sym, ap, subst, arith, inl, inr, All, eqb_tells, All-nil, All-cons, All-head, All-tail, sum_by-cons, whole, ◌over◌, ◌<ℚ◌, gcd, gcd_is, IsClause, Item, Sev, Pairs, Means, GridClause, GridUnit, clause_of, support, final_severity, has_shares, off_grid_cession, items_in}
+use Rattle.dl_types.proofs.Common.{◌∣◌, ℕ, ◌≡◌, ◌∙◌, ◌+◌, ◌*◌, ◌==◌, get_or, true, false, cond, List, [], ◌∷◌, Some, None, refl, sym, ap, subst, arith, inl, inr, All, eqb_tells, All-nil, All-cons, All-head, All-tail, sum_by-cons, whole, ◌over◌, ◌<ℚ◌, gcd, gcd_is, IsClause, Item, Sev, Pairs, HasDistribution, GridClause, GridUnit, clause_of, support, final_severity, has_shares, off_grid_cession, items_in}
 use Rattle.std.proofs.Common.{◌⊎◌, fold}
 use Rattle.std.proofs.lemmas.Nat.Gcd.{dvd_refl, dvd_trans, dvd-zero, dvd_antisymm}
 use Rattle.dl_exact.proofs.Laws.{lt_not_le, le_refl}
@@ -57,7 +57,7 @@ item_found Q (i ∷ xs) rising x all = elim (eqb_tells i.amount x) [
       (item_found Q xs rising.1 x (All-tail Q i xs all))
 ]
 
-module _ (sev : Sev) (ps : Pairs) (means : Means sev ps) where
+module _ (sev : Sev) (ps : Pairs) (means : HasDistribution sev ps) where
   -- what holds of each item of the severity holds of each amount of positive probability with its weight
   pub support_in : (Q : Item → Type 0) → All Q sev.items → All (λ x. Q (item x (weight_at sev.items x))) (support ps)
   support_in Q all k d h =
@@ -83,7 +83,7 @@ module _ (sev : Sev) (ps : Pairs) (means : Means sev ps) where
 
 module _ (u : GridUnit) (c : GridClause) (is : u.agr ≡ Some c) (cession : IsClause (clause_of c))
     (none : off_grid_cession u ≡ None)
-    (has : has_shares u.occ ≡ true) (sev : Sev) (means : Means sev (final_severity u)) where
+    (has : has_shares u.occ ≡ true) (sev : Sev) (means : HasDistribution sev (final_severity u)) where
   aggregate_none : off_grid_sums (made_of (Some c)) (support (final_severity u)) ≡ None
   unfolding off_grid_cession
   aggregate_none = subst (λ a. off_grid_sums (made_of a) (support (final_severity u)) ≡ None) is

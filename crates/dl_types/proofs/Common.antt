@@ -27,7 +27,7 @@ pub use Rattle.dl_plan.proofs.Horizons.{horizon_is}
 pub use Rattle.dl_plan.specs.Clause.{Clause, IsClause}
 pub use Rattle.dl_plan.specs.Fine.{HasPartsOf48Bits}
 unfoldable pub use Rattle.dl_plan.specs.Horizon.{horizon}
-pub use Rattle.dl_plan.specs.Severity.{Means, Pairs, mean_amount}
+pub use Rattle.dl_plan.specs.Severity.{HasDistribution, Pairs, mean_amount}
 pub use Rattle.dl_plan.specs.Valid.{IsValidUnit}
 pub use Rattle.dl_plan.specs.declared.item.Item.{Item}
 pub use Rattle.dl_plan.specs.declared.plan.Plan.{Plan}

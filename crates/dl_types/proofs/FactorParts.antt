@@ -5,7 +5,7 @@ use Rattle.std.proofs.lemmas.List.Concat.{flat_map-cons}
 use Rattle.std.proofs.lemmas.List.Elements.{All-append}
 use Rattle.std.proofs.lemmas.Nat.Gcd.{dvd_antisymm}
 use Rattle.std.specs.List.{AllZip}
-use Rattle.dl_types.proofs.Common.{◌≡◌, ◌∙◌, ℕ, zero, suc, ◌<◌, ◌&&◌, ◌||◌, ◌∣◌, true, false, not, is_some, List, [], ◌∷◌, length, map, take, get_or, nat_lt, Option, Some, None, inl, inr, refl, sym, ap, ap₂, subst, arith, All, All-nil, All-cons, All-head, All-tail, All-map, eqb_tells, Ok, most_shape, Fraction, whole, ◌over◌, ◌*ℚ◌, ◌<ℚ◌, Item, Sev, Pairs, Means, IsValidUnit, Settings, Program, UnitAst, ◌else◌, Span, else_second, not_at, not-false, GridUnit, GridCount, Exposed, Listed, Fixed, Poisson, Bernoulli, Binomial, Gamma, final_severity, support, first_fault_of, breaks, cells_asked, AnswersUnits}
+use Rattle.dl_types.proofs.Common.{◌≡◌, ◌∙◌, ℕ, zero, suc, ◌<◌, ◌&&◌, ◌||◌, ◌∣◌, true, false, not, is_some, List, [], ◌∷◌, length, map, take, get_or, nat_lt, Option, Some, None, inl, inr, refl, sym, ap, ap₂, subst, arith, All, All-nil, All-cons, All-head, All-tail, All-map, eqb_tells, Ok, most_shape, Fraction, whole, ◌over◌, ◌*ℚ◌, ◌<ℚ◌, Item, Sev, Pairs, HasDistribution, IsValidUnit, Settings, Program, UnitAst, ◌else◌, Span, else_second, not_at, not-false, GridUnit, GridCount, Exposed, Listed, Fixed, Poisson, Bernoulli, Binomial, Gamma, final_severity, support, first_fault_of, breaks, cells_asked, AnswersUnits}
 use Rattle.dl_exact.specs.Fraction.{◌-ℚ◌, ◌/ℚ◌}
 use Rattle.dl_exact.proofs.Denominators.{over_zero}
 use Rattle.dl_exact.proofs.Laws.{lt_not_le, le_refl}
@@ -57,7 +57,7 @@ use Rattle.dl_types.proofs.RuleLists.{only}
 
 -- ---- what holds of each probability
 
-module _ (P : Fraction → Type 0) (sev : Sev) (ps : Pairs) (means : Means sev ps) where
+module _ (P : Fraction → Type 0) (sev : Sev) (ps : Pairs) (means : HasDistribution sev ps) where
   items_hold : All P (map (probability ps) (support ps)) → All P (map (λ (i : Item). i.weight over sev.total) sev.items)
   items_hold all =
       All-map P (λ (i : Item). i.weight over sev.total) sev.items

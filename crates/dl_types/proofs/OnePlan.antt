@@ -3,7 +3,7 @@ use Rattle.std.proofs.Math.Nat.{ℕ_set, eq_of_mul-eq-mul_right}
 use Rattle.std.proofs.Math.Bridge.{le_prop}
 use Rattle.std.specs.List.{AllZip}
 use mathlib.Core.HLevel.{is_prop→PathP}
-use Rattle.dl_types.proofs.Common.{◌≡◌, ◌∙◌, ℕ, zero, suc, ◌+◌, ◌*◌, ◌<◌, ◌==◌, cond, false, List, [], ◌∷◌, map, Option, Some, None, inl, inr, refl, sym, ap, ap₂, subst, arith, mul-pos, All, All-head, All-tail, sum_by-cons, eqb_tells, Fraction, whole, whole_num, ◌over◌, Item, Sev, Pairs, Means, Plan, Settings, Program, UnitAst, GridUnit, GridCount, Exposed, Listed, Fixed, Poisson, Bernoulli, Binomial, Gamma, final_severity}
+use Rattle.dl_types.proofs.Common.{◌≡◌, ◌∙◌, ℕ, zero, suc, ◌+◌, ◌*◌, ◌<◌, ◌==◌, cond, false, List, [], ◌∷◌, map, Option, Some, None, inl, inr, refl, sym, ap, ap₂, subst, arith, mul-pos, All, All-head, All-tail, sum_by-cons, eqb_tells, Fraction, whole, whole_num, ◌over◌, Item, Sev, Pairs, HasDistribution, Plan, Settings, Program, UnitAst, GridUnit, GridCount, Exposed, Listed, Fixed, Poisson, Bernoulli, Binomial, Gamma, final_severity}
 use Rattle.std.proofs.lemmas.Bool.{cases_lt}
 use Rattle.std.proofs.lemmas.List.Elements.{same_from_all_zip}
 use Rattle.dl_exact.proofs.Laws.{le_of_eq}
@@ -171,7 +171,7 @@ weighted_prop items total x y = λ i. record {
   lowest = ℕ_set _ _ x.lowest y.lowest i;
 }
 
-one_severity : (s u : Sev) (ps : Pairs) → Means s ps → Means u ps → s ≡ u
+one_severity : (s u : Sev) (ps : Pairs) → HasDistribution s ps → HasDistribution u ps → s ≡ u
 one_severity s u ps a b =
     let same : (x : ℕ) → weight_at s.items x over s.total ≡ weight_at u.items x over u.total =
     λ x. a x ∙ sym (b x) in

@@ -1,6 +1,6 @@
 -- The claim count of a plan that is made of a count that breaks no rule.
 use Rattle.std.proofs.lemmas.Bool.{and_parts, ltb-true, or_parts}
-use Rattle.dl_types.proofs.Common.{ℕ, ◌≡◌, ◌∙◌, ◌*◌, ◌<◌, ◌<ℚ◌, ◌&&◌, not, nat_lt, Bool, true, false, if◌then◌else◌, List, map, Option, Some, None, refl, sym, ap, ap₂, subst, arith, is_some, IfSome, length-map, admitted_bound, most_claims, most_shape, Fraction, whole, ◌*ℚ◌, ◌/ℚ◌, ◌≤ℚ◌, div_times, Sev, HasPartsOf48Bits, Pairs, Means, GridFreq, Fixed, Poisson, Bernoulli, Binomial, Gamma, GridCount, Exposed, Listed, probs_of, is_admitted, not-false, GridUnit, claims_of, claims_above_zero, shape_of, IsFreqKept, IsCountKept, IsCountMade, freq_with, pairs_of_counts, has_too_many_claims, passes}
+use Rattle.dl_types.proofs.Common.{ℕ, ◌≡◌, ◌∙◌, ◌*◌, ◌<◌, ◌<ℚ◌, ◌&&◌, not, nat_lt, Bool, true, false, if◌then◌else◌, List, map, Option, Some, None, refl, sym, ap, ap₂, subst, arith, is_some, IfSome, length-map, admitted_bound, most_claims, most_shape, Fraction, whole, ◌*ℚ◌, ◌/ℚ◌, ◌≤ℚ◌, div_times, Sev, HasPartsOf48Bits, Pairs, HasDistribution, GridFreq, Fixed, Poisson, Bernoulli, Binomial, Gamma, GridCount, Exposed, Listed, probs_of, is_admitted, not-false, GridUnit, claims_of, claims_above_zero, shape_of, IsFreqKept, IsCountKept, IsCountMade, freq_with, pairs_of_counts, has_too_many_claims, passes}
 use Rattle.dl_limits.specs.Limits.{most_expected, rarest_claims}
 use Rattle.dl_exact.specs.Fraction.{◌-ℚ◌, ◌over◌}
 use Rattle.dl_plan.specs.Valid.{IsNewZero}
@@ -161,7 +161,7 @@ count_there (Listed counts probs) n are =
 
 -- ---- claims above 0
 
-module _ (pairs : Pairs) (sev : Sev) (means : Means sev pairs) (n : Fraction) (x : Fraction) (is : x ≡ n) where
+module _ (pairs : Pairs) (sev : Sev) (means : HasDistribution sev pairs) (n : Fraction) (x : Fraction) (is : x ≡ n) where
   abbrev z : Fraction
   z = thinned pairs n
 
@@ -176,7 +176,7 @@ module _ (pairs : Pairs) (sev : Sev) (means : Means sev pairs) (n : Fraction) (x
       (admitted_is z fine, not_above z (whole most_expected) few)
   small_above false fine there few = absurd (cc)
 
-module _ (pairs : Pairs) (sev : Sev) (means : Means sev pairs) where
+module _ (pairs : Pairs) (sev : Sev) (means : HasDistribution sev pairs) where
   -- the claims above 0 of a count without a greatest number are few
   pub made_thinned : (k : GridCount) (n : Option Fraction) (freq : Freq) → AreKept k n (claims_above_zero pairs n)
       → IsCountMade k n freq → IsUnbounded freq

@@ -3,7 +3,7 @@ use Rattle.std.specs.Prelude.{ℕ, ◌≡◌, ◌≤◌, ⊤, true, false, lengt
 use Rattle.std.specs.Option.{MatchOption}
 use Rattle.dl_limits.specs.Limits.{most_items}
 use Rattle.dl_plan.specs.declared.severity.Sev.{Sev}
-use Rattle.dl_plan.specs.Severity.{Means}
+use Rattle.dl_plan.specs.Severity.{HasDistribution}
 use Rattle.dl_exact.specs.Fraction.{Fraction}
 use Rattle.dl_buckets.specs.declared.grid.GridCount.{GridCount}
 use Rattle.dl_buckets.specs.declared.grid.GridCount.TheVariants.{Exposed, Listed}
@@ -18,7 +18,7 @@ use Rattle.dl_types.specs.Exposures.{claims_above_zero}
 
 -- the final severity of a unit: at most 65,536 amounts, none above what bounds those of the atoms
 pub record IsFinal (u : GridUnit) (sev : Sev) : Type 0 where
-  pub means : Means sev (final_severity u)
+  pub means : HasDistribution sev (final_severity u)
   pub near : (most : ℕ) → IsSevWithin most u.sev → All (λ item. item.amount ≤ most) sev.items
   pub few : length sev.items ≤ most_items
 

@@ -8,7 +8,7 @@ use Rattle.dl_plan.specs.declared.plan.Plan.{Plan}
 use Rattle.dl_plan.specs.declared.settings.Settings.{Settings}
 use Rattle.dl_plan.specs.declared.item.Item.{Item}
 use Rattle.dl_plan.specs.Weighted.{weight_at}
-use Rattle.dl_plan.specs.Severity.{Pairs, probability, Means}
+use Rattle.dl_plan.specs.Severity.{Pairs, probability, HasDistribution}
 use Rattle.dl_plan.specs.Clause.{Clause, IsClause}
 use Rattle.dl_plan.specs.Count.{IsClaimCount, expected_count as expected_of_plan}
 use Rattle.dl_plan.specs.Fine.{HasPartsOf48Bits}
@@ -102,7 +102,7 @@ pub record IsCedeOf (cession : Option GridClause) (made : Option Clause) : Type 
 pub record IsUnitOn (bs : Fraction) (text : List ℕ) (u : GridUnit) (made : UnitOfPlan) : Type 0
   where
     pub name : made.name ≡ text
-    pub severity : Means made.sev (final_severity u)
+    pub severity : HasDistribution made.sev (final_severity u)
     pub count : IsCountOf bs u u.count made.freq
     pub clause : made.cede ≡ aggregate_clause u.agr
     pub zero : made.zero ≡ u.zero

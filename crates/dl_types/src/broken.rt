@@ -30,7 +30,7 @@ pub(crate) fn broken(unit: u32, rule: Rule, place: Option<Span>) -> Result<(), C
 /// The value where the rules on it are kept. Where one is broken the value is dropped here, so that
 /// a check owns nothing on its ways out.
 pub(crate) fn kept<T: Drop>(value: T, rules: Result<(), CheckFault>) -> Result<T, CheckFault>
-    ensures told { (fault : Option FaultOfTypes) → TellsFault fault rules
+    ensures fault { (fault : Option FaultOfTypes) → TellsFault fault rules
         → TellsFault fault result }
     ensures same { IfOk result (λ made. made ≡ value) }
     ensures kept { OnOk result (rules ≡ Ok tt) }

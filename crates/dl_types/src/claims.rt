@@ -1,7 +1,7 @@
 //! The claims of a unit.
 
 ghost use Rattle.std.specs.Prelude.{◌≡◌, true};
-ghost use Rattle.dl_plan.specs.Severity.{Pairs, Means};
+ghost use Rattle.dl_plan.specs.Severity.{Pairs, HasDistribution};
 ghost use Rattle.dl_buckets.specs.Lists.{is_admitted};
 ghost use Rattle.dl_types.specs.Exposures.{admitted, claims_above_zero};
 
@@ -32,7 +32,7 @@ pub(crate) enum UnitCount<'a> {
 
 /// Of so many claims the expected number above 0, where both are there and admitted.
 pub(crate) fn above_zero(severity: &Sev, number: &Option<Frac>) -> Option<Frac>
-    ensures { (pairs : Pairs) → Means severity.now pairs
+    ensures { (pairs : Pairs) → HasDistribution severity.now pairs
         → result ≡ claims_above_zero pairs number.now }
 {
     match number {

@@ -36,7 +36,7 @@ pub(crate) fn check_clauses(
     unit: &GridUnit,
 ) -> Result<Reached, CheckFault>
     requires grid { IsGridUnit unit.now }
-    ensures told { TellsFault (first_broken number (clause_rules unit.now)) result }
+    ensures fault { TellsFault (first_broken number (clause_rules unit.now)) result }
     ensures layered { OnOk result (IsLayered unit.now) }
     ensures ceded { OnOk result (off_grid_cession unit.now ≡ None) }
     ensures amounts { IfOk result (λ reached. reached.amounts.items
@@ -60,7 +60,7 @@ fn check_layers(
     requires weighted { IsWeighted unit.now }
     requires reached { none_above unit.now ≡ None }
     requires mixed { mixed.items ≡ support (mixed_pairs unit.now.sev) }
-    ensures told { TellsFault (first_broken number (layer_rules unit.now)) result }
+    ensures fault { TellsFault (first_broken number (layer_rules unit.now)) result }
     ensures layered { OnOk result (IsLayered unit.now) }
     ensures ceded { OnOk result (off_grid_cession unit.now ≡ None) }
     ensures amounts { IfOk result (λ reached. reached.amounts.items
@@ -82,7 +82,7 @@ fn check_cessions(
 ) -> Result<Reached, CheckFault>
     requires layered { IsLayered unit.now }
     requires amounts { amounts.items ≡ support (severity_in_layer unit.now) }
-    ensures told { TellsFault (breaks number OffGridCession
+    ensures fault { TellsFault (breaks number OffGridCession
         (off_grid_cession unit.now)) result }
     ensures amounts { IfOk result (λ reached. reached.amounts ≡ amounts) }
     ensures clauses { IfOk result (λ reached. AreClausesOf unit.now reached.clauses) }

@@ -43,7 +43,7 @@ pub(crate) fn check_count<'a>(
     requires ceded { off_grid_cession unit.now ≡ None }
     requires amounts { reached.now.amounts.items ≡ support (severity_in_layer unit.now) }
     requires clauses { AreClausesOf unit.now reached.now.clauses }
-    ensures told { TellsFault (first_broken number (count_rules bs unit.now)) result }
+    ensures fault { TellsFault (first_broken number (count_rules bs unit.now)) result }
     ensures claims { IfOk result (AreClaims unit.now) }
     ensures count { IfOk result (λ claims. IsUnitCount unit.now.count
         (expected_claims bs unit.now) claims.count) }
@@ -94,15 +94,15 @@ fn check_number<'a>(
     requires made { AreClausesOf unit.now clauses.now }
     requires weighed { IsWeighed unit.now layered }
     requires number { IsNumberOf unit.now.count count }
-    ensures told { TellsFault (first_broken number (number_rules unit.now count)) result }
+    ensures fault { TellsFault (first_broken number (number_rules unit.now count)) result }
     ensures claims { IfOk result (AreClaims unit.now) }
     ensures count { IfOk result (λ claims. IsUnitCount unit.now.count count claims.count) }
 {
     check_whole(number, &unit.count, &count)?;
     let claims = check_fine(alloc, number, unit, clauses, layered, count)?;
     let many = too_many_claims(&claims.count, &claims.above);
-    let told = broken(number, Rule::TooManyClaims, place_if(many, unit.name));
-    kept(claims, told)
+    let checked = broken(number, Rule::TooManyClaims, place_if(many, unit.name));
+    kept(claims, checked)
 }
 
 /// The rule on fractions, and what the claims of a unit come to whose fractions are fine.
@@ -119,7 +119,7 @@ fn check_fine<'a>(
     requires made { AreClausesOf unit.now clauses.now }
     requires weighed { IsWeighed unit.now layered }
     requires number { IsNumberOf unit.now.count count }
-    ensures told { TellsFault (breaks number TooFine (too_fine unit.now count)) result }
+    ensures fault { TellsFault (breaks number TooFine (too_fine unit.now count)) result }
     ensures claims { IfOk result (AreClaims unit.now) }
     ensures count { IfOk result (λ claims. IsUnitCount unit.now.count count claims.count) }
 {

@@ -7,7 +7,7 @@ ghost use Rattle.std.specs.List.{list_any};
 ghost use Rattle.dl_types.specs.Plans.{pairs_of_counts, IsTabled, IsCountMade};
 ghost use Rattle.dl_limits.specs.Limits.{most_count};
 ghost use Rattle.dl_types.specs.Listed.{AreCounts};
-ghost use Rattle.dl_plan.specs.Severity.{Means};
+ghost use Rattle.dl_plan.specs.Severity.{HasDistribution};
 ghost use Rattle.dl_types.specs.Kept.{IsWholeCount, IsCountKept};
 ghost use Rattle.dl_buckets.specs.First.{at_if};
 ghost use Rattle.dl_buckets.specs.Lists.{is_whole};
@@ -97,7 +97,7 @@ fn weighed_counts(
     probs: &Option<Shares>,
 ) -> Result<Sev, AllocError>
     requires { AreCounts counts.now probs.now }
-    ensures means { IfOk result (λ made. Means made (pairs_of_counts counts.now probs.now)) }
+    ensures means { IfOk result (λ made. HasDistribution made (pairs_of_counts counts.now probs.now)) }
     ensures few { IfOk result (λ made. All (λ item. item.amount ≤ most_count) made.items) }
 {
     let values = counts.values.as_slice();

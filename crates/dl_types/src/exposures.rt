@@ -4,7 +4,7 @@ ghost use Rattle.std.specs.Prelude.{◌≡◌, nat_lt, not, false, None};
 ghost use Rattle.std.specs.List.{list_any};
 ghost use Rattle.dl_exact.specs.Fraction.{whole, ◌*ℚ◌, ◌/ℚ◌, ◌<ℚ◌};
 ghost use Rattle.dl_plan.specs.Ranges.{IsBucket};
-ghost use Rattle.dl_plan.specs.Severity.{mean_amount, Means};
+ghost use Rattle.dl_plan.specs.Severity.{mean_amount, HasDistribution};
 ghost use Rattle.dl_buckets.specs.declared.grid.GridCount.TheVariants.{Exposed};
 ghost use Rattle.dl_buckets.specs.Lists.{is_whole};
 ghost use Rattle.dl_buckets.specs.FineParts.{has_severity, IsWeighed};
@@ -117,7 +117,7 @@ fn over_mean(
 /// The mean of the severity in the layer, in buckets, of which an amount is above 0.
 fn mean_in_layer(unit: &GridUnit, layered: &Sev) -> Frac
     requires grid { IsGridUnit unit.now }
-    requires layered { Means layered.now (severity_in_layer unit.now) }
+    requires layered { HasDistribution layered.now (severity_in_layer unit.now) }
     requires loss { has_no_loss (support (severity_in_layer unit.now)) ≡ false }
     ensures mean { result ≡ mean_amount (severity_in_layer unit.now) }
     ensures above { whole 0 <ℚ result }

@@ -37,7 +37,7 @@ use std::alloc::Global;
 #[tactic(auto, unfolding(crate::specs::Rules::horizon_too_large))]
 fn check_horizon(number: u32, agr: MadeClause, cells: u32) -> Result<Option<Cede>, CheckFault>
     requires { IsMade agr }
-    ensures told { TellsFault (breaks number HorizonTooLarge
+    ensures fault { TellsFault (breaks number HorizonTooLarge
         (horizon_too_large cells agr)) result }
     ensures made { IfOk result (λ made. made ≡ cede_of agr) }
 {

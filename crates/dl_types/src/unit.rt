@@ -38,7 +38,7 @@ fn check_name<'a>(
     unit: &'a UnitAst,
 ) -> Result<(), CheckFault>
     requires { map (λ name. name.now) names.old.keys ≡ names_of before.now }
-    ensures told { TellsFault (breaks number DuplicateName
+    ensures fault { TellsFault (breaks number DuplicateName
         (duplicate_name before.now unit.now)) result }
     ensures names { OnOk result (map (λ name. name.now) names.new.keys
         ≡ names_of before.now ++ unit.now.name.text ∷ []) }
@@ -75,7 +75,7 @@ fn check_text(
     requires set { IsSet settings.now }
     requires formed { IsFormedUnit unit.now }
     requires sev { (mix : Mixture) × IsMixtureRead settings.now mix sev }
-    ensures told { (mix : Mixture) → IsMixtureRead settings.now mix sev
+    ensures fault { (mix : Mixture) → IsMixtureRead settings.now mix sev
         → TellsFault (fault_of_text number
         (flaws_of (most_asked settings.now) settings.now.bs unit.now mix)) result }
     ensures same { (mix : Mixture) → IsMixtureRead settings.now mix sev
@@ -84,8 +84,8 @@ fn check_text(
     ensures within { IfOk result (IsWithin (most_asked settings.now)) }
 {
     let made = grid_unit(alloc, unit, sev, settings.bs, most_asked(settings))?;
-    let told = check_flaws(number, made.flaws);
-    kept(made.part, told)
+    let checked = check_flaws(number, made.flaws);
+    kept(made.part, checked)
 }
 
 /// The unit of the plan, or the first rule that the unit with this severity breaks.

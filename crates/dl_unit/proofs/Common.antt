@@ -27,7 +27,7 @@ pub use Rattle.dl_grid.proofs.CellLaws.{high_at_get, high_at_read, low_at_read, 
 pub use Rattle.dl_grid.proofs.PlaceSums.{high_at_front, high_at_pushed, low_at_front, low_at_pushed, low_within, whole_mass, whole_spread, width_at, width_within}
 pub use Rattle.dl_plan.proofs.Clauses.{num_le_den}
 pub use Rattle.dl_plan.proofs.Means.{severity_total, total_pos}
-pub use Rattle.dl_plan.specs.Severity.{Means, Pairs, conditioned, pairs_of, probability, probability_of}
+pub use Rattle.dl_plan.specs.Severity.{HasDistribution, Pairs, conditioned, pairs_of, probability, probability_of}
 pub use Rattle.dl_plan.specs.Means.{thinned_mean}
 pub use Rattle.dl_plan.specs.Weighted.{greatest, weight_at}
 pub use Rattle.dl_plan.specs.declared.item.Item.{Item}

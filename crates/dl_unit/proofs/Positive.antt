@@ -1,5 +1,5 @@
 -- Claims above 0.
-use Rattle.dl_unit.proofs.Common.{zero, suc, ◌≡◌, [], ◌∷◌, arith, refl, sym, ap, ◌∙◌, ne_eqb, Fraction, ◌over◌, whole, ◌+ℚ◌, ◌/ℚ◌, over_zero, Sev, conditioned, probability_of, pairs_of, Means, nat_lt, zero-lt-suc, lt-ltb, sum_over, zero_plus, Pairs, probability}
+use Rattle.dl_unit.proofs.Common.{zero, suc, ◌≡◌, [], ◌∷◌, arith, refl, sym, ap, ◌∙◌, ne_eqb, Fraction, ◌over◌, whole, ◌+ℚ◌, ◌/ℚ◌, over_zero, Sev, conditioned, probability_of, pairs_of, HasDistribution, nat_lt, zero-lt-suc, lt-ltb, sum_over, zero_plus, Pairs, probability}
 use Rattle.std.specs.Prelude.{filter, map}
 use Rattle.dl_exact.proofs.Over.{over_self}
 
@@ -15,5 +15,5 @@ above_zero all ((zero, x) ∷ pairs) = above_zero all pairs
 above_zero all ((suc n, x) ∷ pairs) = rw (lt-ltb 0 (suc n) (zero-lt-suc n), ne_eqb (suc n) 0 (omega arith))
     (ap (λ t. whole 0 +ℚ t) (above_zero all pairs) ∙ zero_plus (whole 0))
 
-pub no_zero : (sev positive : Sev) → Means positive (conditioned 0 (pairs_of sev)) → probability_of positive 0 ≡ whole 0
+pub no_zero : (sev positive : Sev) → HasDistribution positive (conditioned 0 (pairs_of sev)) → probability_of positive 0 ≡ whole 0
 no_zero sev positive means = means 0 ∙ above_zero _ (pairs_of sev)

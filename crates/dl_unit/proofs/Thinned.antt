@@ -1,19 +1,19 @@
 -- A unit's sum of claims is that of its claims above 0, whose number is thinned.
-use Rattle.dl_unit.proofs.Common.{ℕ, suc, zero, ◌≡◌, ◌≤◌, arith, Fraction, ◌*ℚ◌, poisson, gamma_of, compound, SameCells, compound_of, Poisson, Gamma, Sev, pairs_of, conditioned, probability_of, Means, thinned_mean, positive, part_of_means}
+use Rattle.dl_unit.proofs.Common.{ℕ, suc, zero, ◌≡◌, ◌≤◌, arith, Fraction, ◌*ℚ◌, poisson, gamma_of, compound, SameCells, compound_of, Poisson, Gamma, Sev, pairs_of, conditioned, probability_of, HasDistribution, thinned_mean, positive, part_of_means}
 use Rattle.dl_model.proofs.Alike.{value_sym}
 use Rattle.dl_model.proofs.PoissonThin.{thin_poisson}
 use Rattle.dl_model.proofs.GammaThin.{thin_gamma}
 use Rattle.dl_plan.specs.declared.plan.Unit.{Unit as UnitOfPlan}
 
 pub poisson_whole : (u : UnitOfPlan) (s : Sev) (mean : Fraction) → u.freq ≡ Poisson mean
-    → Means s (conditioned 0 (pairs_of u.sev))
+    → HasDistribution s (conditioned 0 (pairs_of u.sev))
     → SameCells (compound (poisson (thinned_mean u)) (probability_of s)) (compound_of u.freq u.sev)
 poisson_whole u s mean is means =
     rw is (λ y. value_sym _ _ _ _ (thin_poisson mean (probability_of u.sev) (positive u.sev) (probability_of s)
     (part_of_means u.sev s means) y))
 
 pub gamma_whole : (u : UnitOfPlan) (s : Sev) (shape : ℕ) (mean : Fraction) → u.freq ≡ Gamma shape mean → 1 ≤ shape
-    → Means s (conditioned 0 (pairs_of u.sev))
+    → HasDistribution s (conditioned 0 (pairs_of u.sev))
     → SameCells (compound (gamma_of shape (thinned_mean u)) (probability_of s)) (compound_of u.freq u.sev)
 gamma_whole u s zero mean is some means = absurd (omega (arith, some))
 gamma_whole u s (suc q) mean is some means =

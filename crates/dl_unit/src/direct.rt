@@ -9,18 +9,18 @@ ghost use Rattle.dl_grid.specs.Room.{IsGridSize};
 ghost use Rattle.dl_model.specs.Family.{GridEncloses};
 ghost use Rattle.dl_model.specs.Plans.{compound_of};
 ghost use Rattle.dl_plan.specs.declared.plan.Freq.TheVariants.{Poisson, Gamma};
-ghost use Rattle.dl_plan.specs.Severity.{pairs_of, conditioned, Means};
+ghost use Rattle.dl_plan.specs.Severity.{pairs_of, conditioned, HasDistribution};
 ghost use Rattle.dl_plan.specs.Means.{thinned_mean};
 ghost use Rattle.dl_plan.specs.Valid.{claims_alone, IsValidUnit};
 ghost use Rattle.dl_budget.specs.Claims.{claims_budget};
 
 use crate::unbounded::{gamma_claims, poisson_claims};
 use dl_budget::claims_budget;
-use dl_direct::{gamma_direct, poisson_direct};
 use dl_grid::Grid;
 use dl_limits::LONG_BITS;
 use dl_plan::{Freq, Sev};
 use dl_product::Workspace;
+use dl_recursion::{gamma_direct, poisson_direct};
 use std::alloc::{AllocError, Global};
 
 /// Whether a grid's spread is at most the budget of the sum of these
@@ -52,7 +52,7 @@ pub(crate) fn poisson_grid<const B: u32>(
     requires valid { (h : ℕ) × IsValidUnit h (claims_alone freq.now sev.now) }
     requires count { (mean : Fraction) × (freq.now ≡ Poisson mean) }
     requires expected { 0 < (thinned_mean (claims_alone freq.now sev.now)).num }
-    requires means { Means positive.now (conditioned 0 (pairs_of sev.now)) }
+    requires means { HasDistribution positive.now (conditioned 0 (pairs_of sev.now)) }
     ensures cells { IfOk result (λ g. length g ≡ cells) }
     ensures encloses { IfOk result (λ g. GridEncloses g (compound_of freq.now sev.now)) }
     ensures spread { IfOk result (λ g.
@@ -81,7 +81,7 @@ pub(crate) fn gamma_grid<const B: u32>(
     requires valid { (h : ℕ) × IsValidUnit h (claims_alone freq.now sev.now) }
     requires count { (mean : Fraction) × (freq.now ≡ Gamma shape mean) }
     requires expected { 0 < (thinned_mean (claims_alone freq.now sev.now)).num }
-    requires means { Means positive.now (conditioned 0 (pairs_of sev.now)) }
+    requires means { HasDistribution positive.now (conditioned 0 (pairs_of sev.now)) }
     ensures cells { IfOk result (λ g. length g ≡ cells) }
     ensures encloses { IfOk result (λ g. GridEncloses g (compound_of freq.now sev.now)) }
     ensures spread { IfOk result (λ g.

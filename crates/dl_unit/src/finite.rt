@@ -4,7 +4,7 @@ ghost use Rattle.std.specs.Prelude.{◌≡◌, ℕ, ◌+◌, ◌*◌, ◌^◌, �
 ghost use Rattle.dl_exact.specs.Fraction.{◌over◌};
 ghost use Rattle.dl_grid.specs.Cells.{spread};
 ghost use Rattle.dl_grid.specs.Room.{IsGridSize};
-ghost use Rattle.dl_grid.specs.Width.{pw, mixed_spread};
+ghost use Rattle.dl_grid.specs.Width.{power_spread, mixed_spread};
 ghost use Rattle.dl_model.specs.Counts.{fixed, binomial};
 ghost use Rattle.dl_model.specs.Family.{compound, GridEncloses};
 ghost use Rattle.dl_plan.specs.Count.{IsProbability};
@@ -33,7 +33,7 @@ pub(crate) fn fixed_claims<const B: u32>(
     ensures cells { IfOk result (λ g. length g ≡ cells) }
     ensures encloses { IfOk result (λ g.
         GridEncloses g (compound (fixed claims) (probability_of sev.now))) }
-    ensures spread { IfOk result (λ g. spread g ≤ pw (2 ^ B) cells (length sev.now.items) claims) }
+    ensures spread { IfOk result (λ g. spread g ≤ power_spread (2 ^ B) cells (length sev.now.items) claims) }
 {
     let claim = one_claim(alloc, sev, cells)?;
     power_with(alloc, work, &claim, claims, cells)
@@ -76,7 +76,7 @@ pub(crate) fn binomial_claims<const B: u32>(
     ensures encloses { IfOk result (λ g.
         GridEncloses g (compound (binomial trials q.num q.den) (probability_of sev.now))) }
     ensures spread { IfOk result (λ g.
-        spread g ≤ pw (2 ^ B) cells (3 * (length sev.now.items + 1)) trials) }
+        spread g ≤ power_spread (2 ^ B) cells (3 * (length sev.now.items + 1)) trials) }
 {
     let trial = one_trial(alloc, sev, q, cells)?;
     power_with(alloc, work, &trial, trials, cells)

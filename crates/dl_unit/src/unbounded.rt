@@ -11,7 +11,7 @@ ghost use Rattle.dl_model.specs.Family.{compound, times_itself, GridEncloses};
 ghost use Rattle.dl_plan.specs.declared.severity.Sev.{Sev};
 ghost use Rattle.dl_plan.specs.Count.{IsUnbounded};
 ghost use Rattle.dl_plan.specs.Fine.{HasPartsOf48Bits};
-ghost use Rattle.dl_plan.specs.Severity.{probability_of, pairs_of, conditioned, Means};
+ghost use Rattle.dl_plan.specs.Severity.{probability_of, pairs_of, conditioned, HasDistribution};
 ghost use Rattle.dl_plan.specs.Means.{thinned_mean};
 ghost use Rattle.dl_plan.specs.Valid.{claims_alone, IsValidUnit};
 ghost use Rattle.dl_budget.specs.Claims.{poisson_budget, gamma_budget};
@@ -39,7 +39,7 @@ pub(crate) fn positive_claims(
     ensures some { IfOk result (λ made. (positive : Sev) → made ≡ Some positive
         → 0 < (thinned_mean (claims_alone freq.now sev.now)).num) }
     ensures means { IfOk result (λ made. (positive : Sev) → made ≡ Some positive
-        → Means positive (conditioned 0 (pairs_of sev.now))) }
+        → HasDistribution positive (conditioned 0 (pairs_of sev.now))) }
 {
     if freq.thinned(sev).num() == 0 {
         return Ok(None);

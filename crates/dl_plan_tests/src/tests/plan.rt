@@ -290,10 +290,10 @@ fn small(num: u32, den: u32) -> Option<Frac>
 }
 
 /// The thinned mean and the mean of the claims of a unit, each as two numbers.
-type Means = ((u64, u64), (u128, u128));
+type HasDistribution = ((u64, u64), (u128, u128));
 
 /// Those of the claims above with a Poisson count of this small mean.
-fn means_of(alloc: Global, num: u32, den: u32) -> Result<Option<Means>, AllocError> {
+fn means_of(alloc: Global, num: u32, den: u32) -> Result<Option<HasDistribution>, AllocError> {
     let Some(mean) = small(num, den) else {
         return Ok(None);
     };

@@ -3,7 +3,7 @@
 
 ghost use Rattle.dl_limits.specs.Limits.{IsPlanScale};
 
-use dl_budget::{doubled, halvings, joined, listed, power};
+use dl_budget::{convolution_spread, doubled, halvings, listed, power_spread};
 use dl_plan::CedeLayer;
 
 /// The spread of a power; 0 past the limits.
@@ -14,7 +14,7 @@ fn power_of<const B: u32>(cells: u32, base: u32, steps: u32) -> u128
     if cells > 65_536 || base > 196_611 || steps > 65_536 {
         return 0;
     }
-    power::<B>(cells, base as u128, steps)
+    power_spread::<B>(cells, base as u128, steps)
 }
 
 /// The spread of a listed count; 0 past the limits.
@@ -54,7 +54,7 @@ fn equal_units<const B: u32>(cells: u32, unit: u128, many: u32) -> u128
         if sum > 1 << 40 || unit > 1 << 40 {
             return 0;
         }
-        sum = joined::<B>(cells, sum, unit);
+        sum = convolution_spread::<B>(cells, sum, unit);
     }
     sum
 }

@@ -12,12 +12,12 @@ ghost use Rattle.dl_plan.specs.Weighted.{IsWeighted};
 
 use crate::tests::helpers::{agrees, fraction, one_bucket};
 use dl_budget::claims_budget;
-use dl_direct::{gamma_direct, poisson_direct};
 use dl_frac::Frac;
 use dl_grid::{Grid, units_of_one};
 use dl_lexer::Text;
 use dl_plan::{Freq, Item, Items, Sev, Unit};
 use dl_product::Workspace;
+use dl_recursion::{gamma_direct, poisson_direct};
 use dl_unit::{gamma_claims, poisson_claims, unit_grid};
 use std::alloc::{AllocError, Global};
 

@@ -1,5 +1,5 @@
 -- One atom more.
-use Rattle.dl_buckets.proofs.Common.{Bool, ◌∙◌, ◌&&◌, ◌<◌, ◌≤◌, map, AllZip, Means, List, length, get_or, ap, ap₂, sym, subst, GridAtom, atom_pairs, atom_probs, is_fine, take_all}
+use Rattle.dl_buckets.proofs.Common.{Bool, ◌∙◌, ◌&&◌, ◌<◌, ◌≤◌, map, AllZip, HasDistribution, List, length, get_or, ap, ap₂, sym, subst, GridAtom, atom_pairs, atom_probs, is_fine, take_all}
 use Rattle.std.specs.List.{list_all}
 use Rattle.std.proofs.lemmas.List.Folds.{list_all_at, list_all_more}
 use Rattle.dl_buckets.proofs.Mixing.{pair-more}
@@ -37,5 +37,5 @@ returns c =
     let all = take_all c.atoms.atom-index atoms
     (subst (λ (xs : List GridAtom). length xs ≤ c.atoms.atom-index) c.as_slice-atom-items.ensures c.atoms-test.false) in (
       ap (list_all fine_atom) (sym all) ∙ c.atoms.invariant.0,
-      subst (λ xs. AllZip Means c.atoms.made.items (map atom_pairs xs)) all c.atoms.invariant.1,
+      subst (λ xs. AllZip HasDistribution c.atoms.made.items (map atom_pairs xs)) all c.atoms.invariant.1,
     )

@@ -1,5 +1,5 @@
 -- The mixture of the atoms is that of the text, and refused exactly where that is not fine.
-use Rattle.dl_buckets.proofs.Common.{◌≡◌, ◌∙◌, ◌&&◌, true, false, Bool, length, map, ap, ap₂, sym, subst, refl, length-map, Means, AllZip, atom_pairs, weights_of, is_fine, has_atoms, mixture_shares}
+use Rattle.dl_buckets.proofs.Common.{◌≡◌, ◌∙◌, ◌&&◌, true, false, Bool, length, map, ap, ap₂, sym, subst, refl, length-map, HasDistribution, AllZip, atom_pairs, weights_of, is_fine, has_atoms, mixture_shares}
 use Rattle.dl_buckets.proofs.Mixing.{weights_length, pair_length, mixture_means}
 use Rattle.dl_buckets.proofs.Shared.{weighing_fine}
 use Rattle.dl_buckets.proofs.FineMixtures.{mixed_fine, mixed_coarse}
@@ -35,7 +35,7 @@ returns-in-Ok c =
     let lists = map atom_pairs s.atoms in
     let atoms = rw c.in-Some.is at c.in_ok-atoms.ensures in
     let is = rw (c.in-Some-2.is, c.as_slice.ensures) at c.in_ok-weights.ensures in
-    let means = subst (λ xs. AllZip Means xs lists) (sym c.deref.ensures.value) atoms.1 in
+    let means = subst (λ xs. AllZip HasDistribution xs lists) (sym c.deref.ensures.value) atoms.1 in
     let w = c.in-Some-2.weights in (
       ap₂ (λ a b. a && b) (ap₂ (λ a b. a && b) atoms.0 (weighing_fine (weights_of s) w is))
           (mixed_fine c.deref.result.now w (weights_of s) lists is means c.in-Ok.ensures.fine),
@@ -48,7 +48,7 @@ returns-in-Err-TooFine c =
     let lists = map atom_pairs s.atoms in
     let atoms = rw c.in-Some.is at c.in_ok-atoms.ensures in
     let is = rw (c.in-Some-2.is, c.as_slice.ensures) at c.in_ok-weights.ensures in
-    let means = subst (λ xs. AllZip Means xs lists) (sym c.deref.ensures.value) atoms.1 in
+    let means = subst (λ xs. AllZip HasDistribution xs lists) (sym c.deref.ensures.value) atoms.1 in
     let refused = rw c.in-Err-TooFine.field-0-is at c.in-Err-TooFine.ensures.step in
     and_false (has_atoms s && is_fine (weights_of s)) (is_fine (mixture_shares s))
     (mixed_coarse c.deref.result.now c.in-Some-2.weights (weights_of s) lists is means refused)

@@ -1,5 +1,5 @@
 -- The steps of the layer, where it is conditioned and where it is not.
-use Rattle.dl_buckets.proofs.Common.{MatchOption, Option, Some, None, refl, Sev, ◌∙◌, sym, subst, conditioned, pairs_of, Means, layer, layered, if_ok, mixed_pairs}
+use Rattle.dl_buckets.proofs.Common.{MatchOption, Option, Some, None, refl, Sev, ◌∙◌, sym, subst, conditioned, pairs_of, HasDistribution, layer, layered, if_ok, mixed_pairs}
 use Rattle.std.specs.Option.{IsSome}
 use Rattle.dl_buckets.proofs.Meaning.{conditioned_means, mapped_means}
 use Rattle.dl_buckets.proofs.Positive.{in_layer_is, reached}
@@ -24,8 +24,8 @@ returns-then-is_conditioned c =
     let large = c.unwrap-large.result in
     let is = in_layer_is c.args.unit.now.layer l c.args.unit.now.bang c.args.unit.now.sev _ c.in-Some.is
     (sym c.is_conditioned.ensures ∙ c.if-is_conditioned.true) in
-    if_ok c.cut.result (λ sev. Means sev (layered l.limit l.attach (pairs_of large))) _
-    (λ sev means. subst (Means sev) is (mapped_means large sev (conditioned l.attach mixed) (layer l.limit l.attach)
+    if_ok c.cut.result (λ sev. HasDistribution sev (layered l.limit l.attach (pairs_of large))) _
+    (λ sev means. subst (HasDistribution sev) is (mapped_means large sev (conditioned l.attach mixed) (layer l.limit l.attach)
     (conditioned_means c.args.mixed large mixed l.attach c.requires.mixed (rw c.unwrap-large.ensures at c.in_ok-exceeding-in-Some.ensures)) means))
     c.cut.ensures
 
@@ -35,7 +35,7 @@ returns-in-Some c =
     let mixed = mixed_pairs c.args.unit.now.sev in
     let is = in_layer_is c.args.unit.now.layer l c.args.unit.now.bang c.args.unit.now.sev _ c.in-Some.is
     (sym c.is_conditioned.ensures ∙ c.if-is_conditioned.false) in
-    if_ok c.cut-else-is_conditioned.result (λ sev. Means sev (layered l.limit l.attach (pairs_of c.args.mixed))) _
-    (λ sev means. subst (Means sev) is (mapped_means c.args.mixed sev mixed (layer l.limit l.attach) c.requires.mixed
+    if_ok c.cut-else-is_conditioned.result (λ sev. HasDistribution sev (layered l.limit l.attach (pairs_of c.args.mixed))) _
+    (λ sev means. subst (HasDistribution sev) is (mapped_means c.args.mixed sev mixed (layer l.limit l.attach) c.requires.mixed
     means))
     c.cut-else-is_conditioned.ensures

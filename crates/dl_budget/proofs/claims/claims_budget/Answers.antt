@@ -4,8 +4,8 @@ use Rattle.dl_plan.proofs.Weights.{greatest_within}
 use Rattle.dl_budget.proofs.Counts.{claims_of, count_of, few_items, power_room, listed_begins, poisson_value, gamma_value}
 use Rattle.dl_budget.proofs.claims.claims_budget.Goals as goal
 
-pub power-requires-clause-room : goal.power-requires-clause-room
-power-requires-clause-room g c =
+pub power_spread-requires-clause-room : goal.power_spread-requires-clause-room
+power_spread-requires-clause-room g c =
     power_room c.args.cells _ c.in-Fixed.claims c.requires.few
     (omega (
       arith,
@@ -24,8 +24,8 @@ listed-requires-clause-room g c =
     c.requires.valid.1 c.in-Table.is (λ no. no) c.as_slice.ensures)
     (omega (arith, ap greatest c.as_slice-in-Table.ensures, greatest_within c.in-Table.counts 256 count.1))
 
-pub power-requires-in-Binomial-clause-room : goal.power-requires-in-Binomial-clause-room
-power-requires-in-Binomial-clause-room g c =
+pub power_spread-requires-in-Binomial-clause-room : goal.power_spread-requires-in-Binomial-clause-room
+power_spread-requires-in-Binomial-clause-room g c =
     power_room c.args.cells _ c.in-Binomial.trials c.requires.few
     (omega (
       arith,
@@ -39,7 +39,7 @@ power-requires-in-Binomial-clause-room g c =
 pub returns-in-Fixed-clause-value : goal.returns-in-Fixed-clause-value
 unfolding count_budget
 returns-in-Fixed-clause-value g c =
-    c.power.ensures.value ∙ claims_of (2 ^ g.row.B) c.args.cells (claims_alone c.args.freq.now c.args.sev.now)
+    c.power_spread.ensures.value ∙ claims_of (2 ^ g.row.B) c.args.cells (claims_alone c.args.freq.now c.args.sev.now)
     (Fixed c.in-Fixed.claims) c.as_slice.result.now c.in-Fixed.is c.as_slice.ensures
 
 pub returns-in-Table-clause-value : goal.returns-in-Table-clause-value
@@ -59,7 +59,7 @@ returns-in-Bernoulli-clause-value g c = claims_of (2 ^ g.row.B) c.args.cells (cl
 pub returns-in-Binomial-clause-value : goal.returns-in-Binomial-clause-value
 unfolding count_budget
 returns-in-Binomial-clause-value g c =
-    c.power-in-Binomial.ensures.value
+    c.power_spread-in-Binomial.ensures.value
     ∙ claims_of (2 ^ g.row.B) c.args.cells (claims_alone c.args.freq.now c.args.sev.now)
     (Binomial c.in-Binomial.trials c.in-Binomial.q) c.as_slice.result.now c.in-Binomial.is c.as_slice.ensures
 

@@ -3,20 +3,20 @@ use Rattle.dl_budget.proofs.Counts.{power_room, where_none}
 use Rattle.dl_budget.proofs.NoneSizes.{none_within}
 use Rattle.dl_budget.proofs.claims.none_budget.Goals as goal
 
-pub power-requires-clause-room : goal.power-requires-clause-room
-power-requires-clause-room g c = power_room 1 1 c.in-Fixed.claims (omega arith) (omega arith)
+pub power_spread-requires-clause-room : goal.power_spread-requires-clause-room
+power_spread-requires-clause-room g c = power_room 1 1 c.in-Fixed.claims (omega arith) (omega arith)
     (subst IsClaimCount c.in-Fixed.is c.requires.count)
 
-pub power-requires-in-Binomial-clause-room : goal.power-requires-in-Binomial-clause-room
-power-requires-in-Binomial-clause-room g c = power_room 1 6 c.in-Binomial.trials (omega arith) (omega arith)
+pub power_spread-requires-in-Binomial-clause-room : goal.power_spread-requires-in-Binomial-clause-room
+power_spread-requires-in-Binomial-clause-room g c = power_room 1 6 c.in-Binomial.trials (omega arith) (omega arith)
     (subst IsClaimCount c.in-Binomial.is c.requires.count).0
 
 pub returns-in-Fixed-clause-value : goal.returns-in-Fixed-clause-value
 unfolding count_budget
-returns-in-Fixed-clause-value g c = c.power.ensures.value ∙ ap (none_budget (2 ^ g.row.B)) (sym c.in-Fixed.is)
+returns-in-Fixed-clause-value g c = c.power_spread.ensures.value ∙ ap (none_budget (2 ^ g.row.B)) (sym c.in-Fixed.is)
 
 pub returns-in-Fixed-clause-small : goal.returns-in-Fixed-clause-small
-returns-in-Fixed-clause-small g c = none_within g.row.B c.args.freq.now c.power.result c.requires.scale
+returns-in-Fixed-clause-small g c = none_within g.row.B c.args.freq.now c.power_spread.result c.requires.scale
     c.requires.count c.requires.changed (returns-in-Fixed-clause-value g c)
 
 pub returns-in-Bernoulli-clause-value : goal.returns-in-Bernoulli-clause-value
@@ -26,10 +26,10 @@ returns-in-Bernoulli-clause-value g c = ap (none_budget (2 ^ g.row.B)) (sym c.in
 pub returns-in-Binomial-clause-value : goal.returns-in-Binomial-clause-value
 unfolding count_budget
 returns-in-Binomial-clause-value g c =
-    c.power-in-Binomial.ensures.value ∙ ap (none_budget (2 ^ g.row.B)) (sym c.in-Binomial.is)
+    c.power_spread-in-Binomial.ensures.value ∙ ap (none_budget (2 ^ g.row.B)) (sym c.in-Binomial.is)
 
 pub returns-in-Binomial-clause-small : goal.returns-in-Binomial-clause-small
-returns-in-Binomial-clause-small g c = none_within g.row.B c.args.freq.now c.power-in-Binomial.result c.requires.scale
+returns-in-Binomial-clause-small g c = none_within g.row.B c.args.freq.now c.power_spread-in-Binomial.result c.requires.scale
     c.requires.count c.requires.changed (returns-in-Binomial-clause-value g c)
 
 pub returns-in-Poisson-clause-value : goal.returns-in-Poisson-clause-value

@@ -16,11 +16,11 @@ loop-step-preserved g c =
     let room = doubled_room c.args.cells c.args.base (c.loop-step._step + 1) c.args.times (omega arith)
     c.requires.room in
     let size = doubled_size g.row.B c.args.cells c.args.base c.loop-step._step _ _ c.requires.scale room
-    c.loop-step.invariant.size c.joined-spread.ensures.value in
+    c.loop-step.invariant.size c.convolution_spread-spread.ensures.value in
     record {
       inside = omega arith;
       value = doubled_value (2 ^ g.row.B) c.args.cells c.args.base c.loop-step._step _ _ c.loop-step.invariant.value
-          c.joined-spread.ensures.value;
+          c.convolution_spread-spread.ensures.value;
       size = size;
       small = unit_small g.row.B c.args.cells 0 _ _ c.requires.scale room size;
     }

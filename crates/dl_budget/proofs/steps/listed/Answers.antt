@@ -3,8 +3,8 @@ use Rattle.dl_budget.proofs.SizeLaws.{unit_small, base_small, size_least}
 use Rattle.dl_budget.proofs.Repeats.{listed_value, listed_size, listed_room}
 use Rattle.dl_budget.proofs.steps.listed.Goals as goal
 
-pub joined-spread-requires-clause-left : goal.joined-spread-requires-clause-left
-joined-spread-requires-clause-left g c = omega
+pub convolution_spread-spread-requires-clause-left : goal.convolution_spread-spread-requires-clause-left
+convolution_spread-spread-requires-clause-left g c = omega
     (arith, base_small c.args.cells 2 c.args.base c.args.greatest (omega arith) (omega (arith, c.requires.room)))
 
 pub loop-step-init : goal.loop-step-init
@@ -19,7 +19,7 @@ pub loop-step-preserved : goal.loop-step-preserved
 loop-step-preserved g c =
     let room = listed_room c.args.cells c.args.base (c.loop-step._step + 1) c.args.greatest (omega arith)
     c.requires.room in
-    let spread = ap (λ t. t + 2) c.joined-spread.ensures.value in
+    let spread = ap (λ t. t + 2) c.convolution_spread-spread.ensures.value in
     let size = listed_size g.row.B c.args.cells c.args.base c.loop-step._step _ _ c.requires.scale room
     c.loop-step.invariant.size spread in
     record {

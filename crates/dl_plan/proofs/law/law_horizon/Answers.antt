@@ -5,7 +5,7 @@ use Rattle.dl_plan.proofs.law.law_horizon.Goals as goal
 pub returns : goal.returns
 returns c = record {
   one = same_horizon;
-  told = horizon_is;
+  known = horizon_is;
   from_one = horizon_one;
   edges = horizon_edges;
   settled =

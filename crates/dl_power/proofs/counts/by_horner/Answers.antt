@@ -4,8 +4,8 @@ use Rattle.dl_power.proofs.HornerGrids.{starts_at, goes_on_at, one_between, ends
 use Rattle.dl_power.proofs.Spreads.{mixed_more}
 use Rattle.dl_power.proofs.counts.by_horner.Goals as goal
 
-pub nowhere-requires : goal.nowhere-requires
-nowhere-requires g c =
+pub empty_grid-requires : goal.empty_grid-requires
+empty_grid-requires g c =
     let size = size_of c.args.base.now c.cells.ensures.grid in
     (omega arith, size_within size c.requires.some c.requires.within)
 

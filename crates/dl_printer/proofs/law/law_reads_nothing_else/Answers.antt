@@ -23,8 +23,8 @@ nothing_else p q tokens w covered spelled =
     (λ ts. Spells program q (lexemes (canonical p) ts)) same_tokens spelled in
     ap bare (one_program q back.read (lexemes (canonical p) back.tokens) again back.spelled) ∙ back.same
 
-told : (p q : Program) → IsWellFormed p → IsWellFormed q → canonical p ≡ canonical q → SameProgram p q
-told p q v w e =
+texts : (p q : Program) → IsWellFormed p → IsWellFormed q → canonical p ≡ canonical q → SameProgram p q
+texts p q v w e =
     let back = reads_back p v in
     let covered : Covers (canonical q) (length (canonical q)) back.tokens = subst
     (λ bytes. Covers bytes (length bytes) back.tokens) e back.covered in
@@ -38,5 +38,5 @@ returns-clause-read c = nothing_else
 pub returns-clause-again : goal.returns-clause-again
 returns-clause-again c = λ p q tokens w covered spelled. same_text q p (nothing_else p q tokens w covered spelled)
 
-pub returns-clause-told : goal.returns-clause-told
-returns-clause-told c = told
+pub returns-clause-texts : goal.returns-clause-texts
+returns-clause-texts c = texts

@@ -8,9 +8,9 @@ returns-clause-sums c _ s =
     (2 ^ 123) s c.total-all.ensures c.most.ensures.above
     (omega arith)
 
-pub returns-then-most-all-ge10633823966279326983230456482242756608-clause-told :
-    goal.returns-then-most-all-ge10633823966279326983230456482242756608-clause-told
-returns-then-most-all-ge10633823966279326983230456482242756608-clause-told c room few small m bound low =
+pub returns-then-most-all-ge10633823966279326983230456482242756608-clause-found :
+    goal.returns-then-most-all-ge10633823966279326983230456482242756608-clause-found
+returns-then-most-all-ge10633823966279326983230456482242756608-clause-found c room few small m bound low =
     absurd (too_large c.args.a.now c.total-all.result c.most.result m (2 ^ 123) c.total-all.ensures
     (c.most.ensures.least m bound)
     (omega (arith, c.if-most-all-ge10633823966279326983230456482242756608.true)) (omega (arith, low)))

@@ -6,13 +6,13 @@ use Rattle.dl_types.specs.Answer.{TellsFault}
 use Rattle.dl_types.specs.declared.rule.Rule.TheVariants.{OffGridCession}
 use Rattle.dl_types.proofs.clause_rules.check_cessions.Goals as goal
 
-pub returns-clause-told : goal.returns-clause-told
+pub returns-clause-fault : goal.returns-clause-fault
 unfolding off_grid_cession
-returns-clause-told c =
+returns-clause-fault c =
     let u = c.args.unit.now in
     let clauses = c.in_ok-clauses.ensures in
     let place : c.in_ok-place.place ≡ off_grid_cession u =
     c.in_ok-place.ensures ∙ ap₂ (λ o a. off_grid_amounts o a c.deref.result.now) clauses.occ clauses.agr
     ∙ ap (off_grid_amounts (made_of u.occ) (made_of u.agr)) (c.deref.ensures.value ∙ c.requires.amounts) in
     subst (λ p. TellsFault (breaks c.args.number OffGridCession p) c.kept.result) place
-    (c.kept.ensures.told _ c.broken.ensures)
+    (c.kept.ensures.fault _ c.broken.ensures)

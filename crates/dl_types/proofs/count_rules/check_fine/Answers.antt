@@ -3,13 +3,13 @@ use Rattle.dl_types.proofs.Common.{◌∙◌, true, false, sym, ap, final_severi
 use Rattle.dl_types.proofs.FineClaims.{coarse_place, fine_place}
 use Rattle.dl_types.proofs.count_rules.check_fine.Goals as goal
 
-pub returns-in_default-clause-told : goal.returns-in_default-clause-told
-returns-in_default-clause-told c =
+pub returns-in_default-clause-fault : goal.returns-in_default-clause-fault
+returns-in_default-clause-fault c =
     let told = rw c.in_default.is at c.in_ok-severity.ensures in
     rw c.typing.ensures (ap (breaks c.args.number TooFine) (coarse_place c.args.unit.now c.args.count told))
 
-pub returns-in-Some-fine_count-clause-told : goal.returns-in-Some-fine_count-clause-told
-returns-in-Some-fine_count-clause-told c =
+pub returns-in-Some-fine_count-clause-fault : goal.returns-in-Some-fine_count-clause-fault
+returns-in-Some-fine_count-clause-fault c =
     let u = c.args.unit.now in
     let told = rw c.in-Some.is at c.in_ok-severity.ensures in
     let above = c.above_zero-above.ensures (final_severity u) told.1.means in
@@ -25,8 +25,8 @@ returns-in-Some-fine_count-clause-claims c =
           ∙ ap (claims_above_zero (final_severity c.args.unit.now)) (sym c.in-Some-fine_count.ensures.1.number);
     }
 
-pub returns-clause-told : goal.returns-clause-told
-returns-clause-told c =
+pub returns-clause-fault : goal.returns-clause-fault
+returns-clause-fault c =
     let u = c.args.unit.now in
     let told = rw c.in-Some.is at c.in_ok-severity.ensures in
     let above = c.above_zero-above.ensures (final_severity u) told.1.means in

@@ -1,5 +1,5 @@
 -- The whole weights are those of the probabilities, and the numbers are those of the counts.
-use Rattle.dl_types.proofs.Common.{◌∙◌, ◌≤◌, length, map, zip, ap, sym, subst, List, All, length-map, most_count, Fraction, Means, pairs_of_counts, probs_of}
+use Rattle.dl_types.proofs.Common.{◌∙◌, ◌≤◌, length, map, zip, ap, sym, subst, List, All, length-map, most_count, Fraction, HasDistribution, pairs_of_counts, probs_of}
 use Rattle.std.proofs.lemmas.Result.{IfOk-weaker}
 use Rattle.dl_plan.specs.Severity.{probability}
 use Rattle.dl_sev.specs.Steps.{weighed}
@@ -31,7 +31,7 @@ returns-clause-means c =
     let is = rw (c.unwrap-weights.ensures, c.as_slice-values.ensures) at c.in_ok-weights_among.ensures in
     let same = ap length numbers ∙ length-map counts.values (λ (x : Fraction). x.num)
     ∙ sym (same_length counts probs c.requires.lengths) in
-    IfOk-weaker c.merge.result (λ sev. Means sev (weighed c.deref.result.now c.unwrap-weights.result)) _
+    IfOk-weaker c.merge.result (λ sev. HasDistribution sev (weighed c.deref.result.now c.unwrap-weights.result)) _
     (λ sev means x. means x ∙ ap (λ ps. probability ps x)
     (weighed_are c.deref.result.now (probs_of counts probs) c.unwrap-weights.result same is
     ∙ ap (λ xs. zip xs (probs_of counts probs)) numbers))
@@ -39,5 +39,5 @@ returns-clause-means c =
 
 pub returns-clause-few : goal.returns-clause-few
 returns-clause-few c =
-    IfOk-weaker c.merge.result (λ sev. Means sev (pairs_of_counts c.args.counts.now c.args.probs.now)) _
+    IfOk-weaker c.merge.result (λ sev. HasDistribution sev (pairs_of_counts c.args.counts.now c.args.probs.now)) _
     (λ sev means. small_table c.args.counts.now c.args.probs.now c.requires sev means) (returns-clause-means c)

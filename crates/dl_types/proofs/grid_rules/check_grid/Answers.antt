@@ -15,7 +15,7 @@ returns-in_err-reached c =
     let u = c.args.grid.now in
     let n = c.args.number in
     grid_told c.args.settings.now n u c.args.unit.now.name.text (first_broken n (clause_rules u))
-    c.from_residual.result c.in_err-reached.field-0.0 c.from_residual.ensures c.in_err-reached.ensures.told
+    c.from_residual.result c.in_err-reached.field-0.0 c.from_residual.ensures c.in_err-reached.ensures.fault
     (first_more n (clause_rules u) _)
 
 pub returns-in_err-claims : goal.returns-in_err-claims
@@ -26,8 +26,8 @@ returns-in_err-claims c =
     let counted = count_rules settings.bs u in
     grid_told settings n u c.args.unit.now.name.text (first_broken n counted)
     c.from_residual-in_err-claims.result c.in_err-claims.field-0.0 c.from_residual-in_err-claims.ensures
-    c.in_err-claims.ensures.told
-    (λ t e. later_more n (clause_rules u) _ c.in_ok-reached.ensures.told ∙ first_more n counted _ t e)
+    c.in_err-claims.ensures.fault
+    (λ t e. later_more n (clause_rules u) _ c.in_ok-reached.ensures.fault ∙ first_more n counted _ t e)
 
 pub check_horizon-requires : goal.check_horizon-requires
 check_horizon-requires c = c.in_ok-reached.ensures.clauses.agr_made
@@ -40,9 +40,9 @@ returns-in_err-cede c =
     let at = λ (k : ℕ) (made : MadeClause). breaks n HorizonTooLarge (horizon_too_large k made) in
     grid_told settings n u c.args.unit.now.name.text (at c.cells.result c.in_ok-reached.reached.clauses.agr)
     c.from_residual-in_err-cede.result c.in_err-cede.field-0.0 c.from_residual-in_err-cede.ensures
-    c.in_err-cede.ensures.told
+    c.in_err-cede.ensures.fault
     (λ t e. next_told n (clause_rules u ++ count_rules settings.bs u) _
-    (both_kept n (clause_rules u) (count_rules settings.bs u) c.in_ok-reached.ensures.told c.in_ok-claims.ensures.told)
+    (both_kept n (clause_rules u) (count_rules settings.bs u) c.in_ok-reached.ensures.fault c.in_ok-claims.ensures.fault)
     HorizonTooLarge _ t (sym (ap₂ at c.cells.ensures c.in_ok-reached.ensures.clauses.agr) ∙ e))
 
 pub returns-in_err-broken : goal.returns-in_err-broken
@@ -56,15 +56,15 @@ returns-in_err-broken c =
     grid_told settings n u c.args.unit.now.name.text (breaks n ZeroBase c.zero_base-place.result)
     c.from_residual-in_err-broken.result c.in_err-broken.field-0.0 c.from_residual-in_err-broken.ensures
     c.in_err-broken.ensures
-    (λ t e. last_told settings n u c.in_ok-reached.ensures.told c.in_ok-claims.ensures.told
-    (sym (ap₂ at c.cells.ensures c.in_ok-reached.ensures.clauses.agr) ∙ c.in_ok-cede.ensures.told) _
+    (λ t e. last_told settings n u c.in_ok-reached.ensures.fault c.in_ok-claims.ensures.fault
+    (sym (ap₂ at c.cells.ensures c.in_ok-reached.ensures.clauses.agr) ∙ c.in_ok-cede.ensures.fault) _
     (sym (ap (breaks n ZeroBase) place) ∙ e))
 
 pub planned-requires : goal.planned-requires
 planned-requires c =
     let is = c.in_ok-claims.ensures.count in
     rw (is.same, is.number)
-    (kept_is c.args.settings.now.bs c.args.number c.args.grid.now c.requires.grid c.in_ok-claims.ensures.told)
+    (kept_is c.args.settings.now.bs c.args.number c.args.grid.now c.requires.grid c.in_ok-claims.ensures.fault)
 
 pub returns : goal.returns
 returns c =
@@ -76,10 +76,10 @@ returns c =
     let agr = c.in_ok-reached.reached.clauses.agr in
     let same = c.in_ok-reached.ensures.clauses.agr in
     let cede = cede_is u.agr agr (agr_layered u c.in_ok-reached.ensures.layered)
-    (fine_agr settings.bs c.args.number u c.requires.grid c.in_ok-claims.ensures.told) same in
+    (fine_agr settings.bs c.args.number u c.requires.grid c.in_ok-claims.ensures.fault) same in
     let place = c.zero_base-place.ensures ∙ ap₂ (λ k m. zero_base k u.zero m) is.same is.number in
-    let near = sym (ap₂ at c.cells.ensures same) ∙ c.in_ok-cede.ensures.told in
-    let none = none_told settings c.args.number u c.in_ok-reached.ensures.told c.in_ok-claims.ensures.told near
+    let near = sym (ap₂ at c.cells.ensures same) ∙ c.in_ok-cede.ensures.fault in
+    let none = none_told settings c.args.number u c.in_ok-reached.ensures.fault c.in_ok-claims.ensures.fault near
     (sym (ap (breaks c.args.number ZeroBase) place) ∙ c.in_ok-broken.ensures) in
     made_answer settings c.args.number u c.requires.grid c.requires.within none c.args.unit.now.name.text
     c.in_ok-claims.claims.severity c.in_ok-cede.cede c.in_ok-claims.ensures.claims.severity

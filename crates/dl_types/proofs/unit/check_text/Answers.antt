@@ -33,17 +33,17 @@ module _ (c : goal.After-kept) (m : MixAst) (sev : IsMixtureRead c.args.settings
   told : TellsFault (fault_of_text c.args.number
       (flaws_of (most_asked settings) settings.bs c.args.unit.now m)) c.kept.result
   told = subst (λ fault. TellsFault fault c.kept.result) (same_fault c.args.number _ part c.in_ok-made.made read)
-      (c.kept.ensures.told _ c.check_flaws-told.ensures)
+      (c.kept.ensures.fault _ c.check_flaws-checked.ensures)
 
   -- what holds of the unit of a text without flaws
   keeps : (P : GridUnit → Type 0)
       → (IsClean (flaws_of (most_asked settings) settings.bs c.args.unit.now m) → P part) → IfOk c.kept.result P
   keeps P h =
       kept_as P _ _ c.kept.result c.kept.ensures.same c.kept.ensures.kept
-      (part_keeps c.args.number _ part c.in_ok-made.made read P c.check_flaws-told.result c.check_flaws-told.ensures h)
+      (part_keeps c.args.number _ part c.in_ok-made.made read P c.check_flaws-checked.result c.check_flaws-checked.ensures h)
 
-pub returns-clause-told : goal.returns-clause-told
-returns-clause-told c = told c
+pub returns-clause-fault : goal.returns-clause-fault
+returns-clause-fault c = told c
 
 pub returns-clause-same : goal.returns-clause-same
 returns-clause-same c =

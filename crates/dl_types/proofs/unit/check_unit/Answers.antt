@@ -21,7 +21,7 @@ returns-in_ok-made-in-Some-clause-answer c =
     let sev = rw c.in-Some.is at c.in_ok-sev.ensures.read in
     answer_with c.args.settings.now c.args.port.now c.args.sevs.now c.args.before.now c.args.unit.now sev.mix
     c.in_ok-made-in-Some.made c.kept.result sev.there (c.in_ok-made-in-Some.ensures.answer sev.mix sev.read)
-    (rw c.common_unit.ensures at (c.kept.ensures.told _ c.broken.ensures)) c.kept.ensures.same
+    (rw c.common_unit.ensures at (c.kept.ensures.fault _ c.broken.ensures)) c.kept.ensures.same
 
 pub returns-in-None-clause-answer : goal.returns-in-None-clause-answer
 returns-in-None-clause-answer c =

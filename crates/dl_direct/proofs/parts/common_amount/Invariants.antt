@@ -1,6 +1,0 @@
--- The divisor is that of the items read so far.
-use Rattle.dl_direct.proofs.Common.{◌≡◌, take, common_amount}
-use Rattle.dl_direct.proofs.parts.common_amount.Given as goal
-
-abbrev pub invariant-items : goal.invariant-items
-invariant-items l = l.common ≡ common_amount (take l.item-index l.items)

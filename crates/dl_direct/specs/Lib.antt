@@ -1,4 +1,0 @@
-pub mod Runs
-pub mod Slide
-pub mod Start
-pub mod Placed

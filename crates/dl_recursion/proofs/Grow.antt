@@ -1,0 +1,78 @@
+-- One more cell.
+use Rattle.dl_recursion.proofs.Common.{◌≡◌, inl, inr, ℕ, suc, zero, ◌+◌, ◌-◌, ◌*◌, ◌/◌, ◌^◌, ◌<◌, ◌≤◌, List, [], ◌∷◌, ◌++◌, length, get_or, arith, refl, sym, ◌∙◌, mul-pos, div-mul-le_self, sum_by, All, zero-lt-suc, cases_lt, length-append, Fraction, ◌*ℚ◌, ◌≤ℚ◌, whole, times_one, le_of_eq, Part, contribution, FollowsInWhole, EncloseScaled, AreScaledCells, get_or-append, get_or_push}
+use Rattle.dl_recursion.proofs.Rounding.{ceil_reaches}
+use Rattle.dl_recursion.proofs.Pairs.{contribution_pairs}
+use Rattle.dl_recursion.proofs.Steps.{low_step, high_step}
+
+-- what holds at each place and of one more number holds at each place with it at the end
+pushed_at : (P : ℕ → ℕ → Type 0) (xs : List ℕ) (x n : ℕ) → length xs ≡ n → ((k : ℕ) → k < n → P k (get_or xs k 0))
+    → P n x → (k : ℕ) → k < suc n → P k (get_or (xs ++ x ∷ []) k 0)
+pushed_at P xs x n e h last k b = elim (cases_lt k n) [
+  | inl l ↦ rw (get_or-append xs (x ∷ []) 0 k (omega (arith, e, l))) (h k l)
+  | inr l ↦
+      let k_is : k ≡ n = omega (arith, b, l) in
+      rw (k_is, get_or_push xs x 0 n e) last
+]
+
+small_pushed : (xs : List ℕ) (x B : ℕ) → ((k : ℕ) → get_or xs k 0 ≤ B) → x ≤ B → (k : ℕ)
+    → get_or (xs ++ x ∷ []) k 0 ≤ B
+small_pushed [] x B h b zero = b
+small_pushed [] x B h b (suc k) = omega arith
+small_pushed (y ∷ ys) x B h b zero = h zero
+small_pushed (y ∷ ys) x B h b (suc k) = small_pushed ys x B (λ k. h (suc k)) b k
+
+-- a cell at the end
+pub pushed : (r : ℕ → Fraction) (e n : ℕ) (low high : List ℕ) (x y : ℕ) → length low ≡ n → length high ≡ n
+    → EncloseScaled r e n low high
+    → whole (x * 2 ^ e) ≤ℚ whole (2 ^ 61) *ℚ r n → whole (2 ^ 61) *ℚ r n ≤ℚ whole (y * 2 ^ e)
+    → EncloseScaled r e (suc n) (low ++ x ∷ []) (high ++ y ∷ [])
+pushed r e n low high x y p q h f g = record {
+  low_end = pushed_at (λ k t. whole (t * 2 ^ e) ≤ℚ whole (2 ^ 61) *ℚ r k) low x n p h.low_end f;
+  high_end = pushed_at (λ k t. whole (2 ^ 61) *ℚ r k ≤ℚ whole (t * 2 ^ e)) high y n q h.high_end g;
+}
+
+pub cells_pushed : (low high : List ℕ) (first x y : ℕ) → AreScaledCells low high first → first ≤ length low → x ≤ 2 ^ 62
+    → y ≤ 2 ^ 62 → AreScaledCells (low ++ x ∷ []) (high ++ y ∷ []) first
+cells_pushed low high first x y h within p q = record {
+  alike = simp length-append (omega (arith, h.alike));
+  low_small = small_pushed low x (2 ^ 62) h.low_small p;
+  high_small = small_pushed high y (2 ^ 62) h.high_small q;
+  low_settled = λ k l. get_or-append low (x ∷ []) 0 k (omega (arith, l, within)) ∙ h.low_settled k l;
+  high_settled = λ k l. rw (get_or-append high (y ∷ []) 0 k (omega (arith, l, within, h.alike))) (h.high_settled k l);
+}
+
+module _ (parts : List Part) (a b q : ℕ) (r : ℕ → Fraction) (amounts : All (λ p. 0 < p.amount) parts) (q_pos : 0 < q)
+    (F : FollowsInWhole parts a b q r) (e m : ℕ) (low high : List ℕ) (R : EncloseScaled r e (suc m) low high) where
+  pub next_low : (d sum : ℕ) → d ≡ q * suc m → sum ≡ sum_by (contribution a b low (suc m)) parts
+      → whole (sum / d * 2 ^ e) ≤ℚ whole (2 ^ 61) *ℚ r (suc m)
+  next_low d sum p s =
+      low_step m (q * suc m) (2 ^ e) (whole (2 ^ 61)) _ r (mul-pos q_pos (zero-lt-suc m)) (F.next m)
+      (λ k. get_or low k 0) (sum / d)
+      (rw (← p, ← contribution_pairs a b m low parts amounts, ← s) (div-mul-le_self sum d))
+      (λ k l. R.low_end k (omega (arith, l)))
+
+  pub next_high : (d sum : ℕ) → d ≡ q * suc m → sum ≡ sum_by (contribution a b high (suc m)) parts
+      → whole (2 ^ 61) *ℚ r (suc m) ≤ℚ whole ((sum + (d - 1)) / d * 2 ^ e)
+  next_high d sum p s =
+      let dp : 0 < d = rw p (mul-pos q_pos (zero-lt-suc m)) in
+      high_step m (q * suc m) (2 ^ e) (whole (2 ^ 61)) _ r (mul-pos q_pos (zero-lt-suc m)) (F.next m)
+      (λ k. get_or high k 0) ((sum + (d - 1)) / d)
+      (rw (← p, ← contribution_pairs a b m high parts amounts, ← s) (ceil_reaches sum d dp))
+      (λ k l. R.high_end k (omega (arith, l)))
+
+-- cell 0 alone
+pub begun : (r : ℕ → Fraction) → r 0 ≡ whole 1 → EncloseScaled r 0 1 (2305843009213693952 ∷ []) (2305843009213693952 ∷ [])
+begun r h =
+    let e : whole (2 ^ 61) *ℚ r 0 ≡ whole (2 ^ 61) = rw (h, times_one) refl in
+    record {
+      low_end = λ k b.
+          let z : k ≡ 0 = omega (arith, b) in
+          rw z (le_of_eq _ _ (sym e));
+      high_end = λ k b.
+          let z : k ≡ 0 = omega (arith, b) in
+          rw z (le_of_eq _ _ e);
+    }
+
+pub begun_small : (k : ℕ) → get_or (2305843009213693952 ∷ []) k 0 ≤ 2 ^ 62
+begun_small zero = omega arith
+begun_small (suc k) = omega arith

@@ -1,0 +1,118 @@
+-- Equal shares of a count, the steps of its weights, and items with their weights times a factor.
+use Rattle.dl_recursion.proofs.Common.{◌≡◌, inl, inr, ℕ, suc, zero, ◌+◌, ◌-◌, ◌*◌, ◌/◌, ◌<◌, ◌≤◌, List, [], ◌∷◌, length, take, get_or, arith, sym, ap, ◌∙◌, mul-pos, refl, add-one, All, sum_by, sum_by-cons, sum_by_more, Fraction, ◌over◌, ◌+ℚ◌, ◌*ℚ◌, ◌/ℚ◌, whole, over_add, over_mul, over_same, over_self, over_times_whole, whole_times, one_pos, one_times, power, poisson, gamma, IsPanjer, Part, in_a_row, eq-zero-or-pos, mul-add, ◌≢◌, add-zero, lt_of_mul-lt-mul_right, eq_of_mul-eq-mul_right, eq-eqb, ne_eqb, All-head, All-tail, ◌==◌, if◌then◌else◌, eqb_tells, over_div, times_assoc, zero_times, times_comm, Item, weight_sum, weight_at}
+use Prim.Native.Nat.{◌∣◌}
+use Rattle.dl_model.proofs.Panjer.{poisson_class, gamma_class}
+use Rattle.dl_model.proofs.PoissonTimes.{poisson_power}
+use Rattle.dl_model.proofs.Gamma.{gamma_power}
+use Rattle.dl_model.proofs.Multiples.{multiple_of}
+use Rattle.dl_recursion.proofs.Runs.{row_none, row_more}
+
+pub few_shares : (s num den : ℕ) → s * den < num + num → num ≤ 4096 * den → s < 8192
+few_shares s num den p q = lt_of_mul-lt-mul_right den (omega (arith, p, q))
+
+-- equal shares of a Poisson mean, together
+pub shares : (num den s : ℕ) → 0 < den → 0 < s → power (poisson (num over (s * den))) s ≡ poisson (num over den)
+shares num den s d p =
+    poisson_power (num over (s * den)) s
+    ∙ ap poisson
+    (over_mul s 1 num (s * den) one_pos (mul-pos p d)
+    ∙ over_same _ _ _ _ (mul-pos one_pos (mul-pos p d)) d (omega arith))
+
+-- as many geometric counts as the shape says, together
+pub shapes : (x : Fraction) (s : ℕ) → 0 < s → power (gamma 1 x) s ≡ gamma s x
+shapes x zero p = absurd (omega (arith, p))
+shapes x (suc s) p = gamma_power s x
+
+-- ---- an item with its amount in steps of g and its weight times k
+
+abbrev pub times_item : ℕ → ℕ → Item → Part
+times_item g k item = record { amount = item.amount / g; weight = k * item.weight }
+
+-- an amount above 0 comes to a step or more
+pub some_steps : (g a : ℕ) → g ∣ a → 0 < a → 0 < a / g
+some_steps g a d p = elim (eq-zero-or-pos (a / g)) [
+  | inl none ↦ absurd (omega (arith, p, multiple_of g a d, ap (λ t. t * g) none))
+  | inr some ↦ some
+]
+
+-- it is j steps exactly where it is g * j
+times_at : (g k j : ℕ) (item : Item) → 0 < g → g ∣ item.amount
+    → (if (times_item g k item).amount == j then (times_item g k item).weight else 0) ≡ k *
+    (if item.amount == g * j then item.weight else 0)
+times_at g k j item p d = elim (eqb_tells (item.amount / g) j) [
+  | inl t ↦ rw (t.0, eq-eqb item.amount (g * j) (omega (arith, multiple_of g item.amount d, ap (λ t. t * g) t.1))) refl
+  | inr t ↦
+      let other : item.amount ≢ g * j = λ e. t.1 (eq_of_mul-eq-mul_right g p (item.amount / g) j
+      (omega (arith, multiple_of g item.amount d, e))) in
+      rw (t.0, ne_eqb item.amount (g * j) other) (omega arith)
+]
+
+-- sums over items with their weights times k
+pub times_sum : (k : ℕ) (items : List Item) → sum_by (λ (item : Item). k * item.weight) items ≡ k * weight_sum items
+times_sum k [] = omega arith
+times_sum k (x ∷ xs) =
+    rw (sum_by-cons, sum_by-cons (λ (item : Item). item.weight) x xs) (omega (arith, times_sum k xs))
+
+pub times_each : (g k j : ℕ) (items : List Item) → 0 < g → All (λ (item : Item). g ∣ item.amount) items
+    → sum_by (λ (item : Item). if (times_item g k item).amount == j then
+    (times_item g k item).weight else 0) items ≡ k * weight_at items (g * j)
+times_each g k j [] p d = omega arith
+times_each g k j (x ∷ xs) p d = omega (
+  arith,
+  sum_by-cons (λ (item : Item). if (times_item g k item).amount == j then (times_item g k item).weight else 0) x xs,
+  ap (λ t. k * t) (sum_by-cons (λ (item : Item). if item.amount == g * j then item.weight else 0) x xs),
+  times_at g k j x p (All-head (λ (item : Item). g ∣ item.amount) x xs d),
+  times_each g k j xs p (All-tail (λ (item : Item). g ∣ item.amount) x xs d),
+  mul-add k (if x.amount == g * j then x.weight else 0) (weight_at xs (g * j)),
+)
+
+module _ (f : Part → ℕ) (g k : ℕ) (items : List Item) (i : ℕ) (d : Item) (h : i < length items) where
+  -- one item more for the run at the end
+  pub item_joined : (m n w S : ℕ) → (get_or items i d).amount / g ≡ m + n → k * (get_or items i d).weight ≡ w
+      → S + sum_by f (in_a_row m n w) ≡ sum_by (λ item. f (times_item g k item)) (take i items)
+      → S + sum_by f (in_a_row m (n + 1) w) ≡ sum_by (λ item. f (times_item g k item)) (take (i + 1) items)
+  item_joined m n w S p q e =
+      rw (sum_by_more (λ (item : Item). f (times_item g k item)) items i d h, add-one n, row_more f m n w, p, q)
+      (omega (arith, e))
+
+  -- a new run of this item alone
+  pub item_begun : (w S : ℕ) → k * (get_or items i d).weight ≡ w
+      → S ≡ sum_by (λ item. f (times_item g k item)) (take i items)
+      → S + sum_by f (in_a_row ((get_or items i d).amount / g) 1 w) ≡ sum_by (λ item. f (times_item g k item))
+      (take (i + 1) items)
+  item_begun w S q e =
+      rw (sum_by_more (λ (item : Item). f (times_item g k item)) items i d h, row_more f _ 0 w, row_none, add-zero, q)
+      (omega (arith, e))
+
+-- the weights by their lowest terms: q times the ratio of a weight is its numerator
+pub chance_scaled : (base total num w v : ℕ) (ratio : Fraction) → 0 < base → 0 < total
+    → ratio ≡ num over (base * total) → v ≡ ratio.num * w
+    → whole ratio.den *ℚ (num over base *ℚ w over total) ≡ whole v
+chance_scaled base total num w v ratio b t is e =
+    let product : num over base *ℚ w over total ≡ ratio *ℚ whole w =
+    over_mul num base w total b t
+    ∙ over_same _ _ _ _ (mul-pos b t) (mul-pos (mul-pos b t) one_pos) (omega arith)
+    ∙ sym (over_mul num (base * total) w 1 (mul-pos b t) one_pos) ∙ ap (λ x. x *ℚ whole w) (sym is) in
+    let back : whole ratio.den *ℚ ratio ≡ whole ratio.num =
+    times_comm _ _ ∙ ap (λ x. x *ℚ whole ratio.den) (sym (over_self ratio)) ∙ over_times_whole _ _ ratio.positive in
+    rw (product, ← times_assoc, back, e, whole_times)
+
+-- ---- the two classes
+
+pub poisson_steps : (v : Fraction) → IsPanjer (whole 0 *ℚ v) (whole 1 *ℚ v) (poisson v)
+poisson_steps v = rw (zero_times, one_times) (poisson_class v)
+
+pub gamma_steps : (s b : ℕ) (x : Fraction) → 0 < s → b ≡ s - 1 → IsPanjer (whole 1 *ℚ x) (whole b *ℚ x) (gamma s x)
+gamma_steps zero b x p e = absurd (omega (arith, p))
+gamma_steps (suc s) b x p e =
+    let q : b ≡ s = omega (arith, e) in
+    rw (q, one_times) (gamma_class s x)
+
+pub contribution_is : (num den s : ℕ) → 0 < den → 0 < s
+    → num over (num + s * den) ≡ num over den /ℚ (whole s +ℚ num over den)
+contribution_is num den s d p =
+    let q : 0 < s * den = mul-pos p d in
+    let r : 0 < s * den + num * 1 = omega (arith, q) in
+    let e : whole s +ℚ num over den ≡ (s * den + num * 1) over (1 * den) = over_add s 1 num den one_pos d in
+    sym (ap (λ t. num over den /ℚ t) e ∙ over_div num den (s * den + num * 1) (1 * den) d (mul-pos one_pos d) r
+    ∙ over_same _ _ _ _ (mul-pos d r) (omega (arith, q)) (omega arith))

@@ -1,0 +1,125 @@
+use Rattle.dl_recursion.proofs.Common.{◌≡◌, ℕ, zero, suc, List, ◌+◌, ◌-◌, ◌*◌, ◌/◌, ◌^◌, ◌<◌, ◌≤◌, arith, refl, sym, mul-pos, mul-le-mul, div-mul-le_self, lt-div-mul-add, Fraction, whole, ◌over◌, cell, all_parts, part_at, EncloseScaled, IsPlaced, IsScaled, pos_of_dvd_of_pos, most_cells, most_shape, weight_at, common_amount, Item}
+use Prim.Native.Nat.{◌∣◌}
+use Rattle.std.proofs.Common.{All, div-le_self, mul-zero}
+use Rattle.dl_grid.specs.Cells.{low_at, high_at}
+use Rattle.dl_grid.proofs.Room.{size_few}
+use Rattle.dl_plan.specs.declared.severity.Sev.{Sev}
+use Rattle.dl_plan.specs.Severity.{probability_of}
+use Rattle.dl_plan.proofs.Positive.{amounts_positive}
+use Rattle.dl_model.proofs.WithinOne.{within_one}
+use Rattle.dl_model.proofs.Stretched.{common_divides, multiples_within, multiples_enclose}
+use Rattle.dl_recursion.proofs.Starts.{two_pos}
+use Rattle.dl_recursion.proofs.Units.{chance_scaled}
+use Rattle.dl_recursion.proofs.Top.{follows, placed_encloses}
+use Rattle.dl_recursion.proofs.direct.compound_direct.Goals as goal
+use Rattle.dl_plan.proofs.Means.{severity_total}
+
+few_steps : (a b n : ℕ) → a ≤ 1 → b ≤ most_shape → n ≤ most_cells → (a + b) * n < 2 ^ 32
+few_steps a b n p q few =
+    omega (arith, mul-le-mul {n₁ = a + b} {m₁ = n} {n₂ = 10001} {m₂ = 65536} (omega (arith, p, q)) few)
+
+one_factor : (s n : ℕ) → 0 < s → s * n < 2 ^ 64 → n < 2 ^ 64
+one_factor zero n p h = absurd (omega (arith, p))
+one_factor (suc s) n p h = omega (arith, h)
+
+-- the multiples of the step that are below the number of cells
+rows_few : (step cells : ℕ) → 0 < cells → (cells - 1) / step + 1 ≤ cells
+rows_few step cells p = omega (arith, p, div-le_self (cells - 1) step)
+
+rows_within : (step cells : ℕ) → 0 < cells → step * ((cells - 1) / step + 1) < cells + step
+rows_within step cells p = omega (arith, p, div-mul-le_self (cells - 1) step)
+
+rows_reach : (step cells : ℕ) → 0 < step → 0 < cells → cells ≤ step * ((cells - 1) / step + 1)
+rows_reach step cells p q = omega (arith, q, lt-div-mul-add {a = cells - 1} {b = step} p)
+
+-- the step divides each amount, and an amount is above 0
+module _ (sev : Sev) {items : List Item} {step : ℕ} (is : step ≡ common_amount items) (same : items ≡ sev.items) where
+  step_divides : All (λ (item : Item). step ∣ item.amount) sev.items
+  step_divides = rw (is, same) (common_divides 0 sev.items)
+
+  step_above : probability_of sev 0 ≡ whole 0 → 0 < step
+  step_above no_zero =
+      let item : Item = record { amount = 0; weight = 0 } in
+      pos_of_dvd_of_pos (step_divides 0 item sev.weighted.some) (amounts_positive sev no_zero 0 item sev.weighted.some)
+
+pub make-requires : goal.make-requires
+make-requires g c =
+    rw (c.from.ensures, c.from-2.ensures) (mul-pos c.requires.base_positive (severity_total c.args.sev.now))
+
+pub nonzero_div-rows : goal.nonzero_div-rows
+nonzero_div-rows g c =
+    omega (arith, step_above c.args.sev.now c.common_amount-step.ensures c.as_slice.ensures c.requires.no_zero)
+
+pub fits-requires-clause-cells_small : goal.fits-requires-clause-cells_small
+fits-requires-clause-cells_small g c =
+    omega (arith, rows_few c.common_amount-step.result c.args.cells c.requires.size.some, size_few c.requires.size)
+
+pub amounts_of-requires-clause-apart : goal.amounts_of-requires-clause-apart
+amounts_of-requires-clause-apart g c =
+    step_above c.args.sev.now c.common_amount-step.ensures c.as_slice.ensures c.requires.no_zero
+
+pub amounts_of-requires-clause-whole : goal.amounts_of-requires-clause-whole
+amounts_of-requires-clause-whole g c =
+    rw c.as_slice-2.ensures (step_divides c.args.sev.now c.common_amount-step.ensures c.as_slice.ensures)
+
+pub amounts_of-requires-clause-room : goal.amounts_of-requires-clause-room
+amounts_of-requires-clause-room g c =
+    let sev = c.args.sev.now in
+    let s = c.args.steps in
+    let rows = (c.args.cells - 1) / c.common_amount-step.result + 1 in
+    rw (c.num.ensures.part, c.as_slice-2.ensures, sev.weighted.sum)
+    (one_factor ((s.a + s.b) * rows) (c.in-Ok.ratio.num * sev.total)
+    (mul-pos c.requires.some_step (omega arith)) (c.if-not-fits.ensures.factors refl))
+
+pub amounts_of-requires-clause-no_zero : goal.amounts_of-requires-clause-no_zero
+amounts_of-requires-clause-no_zero g c = rw c.as_slice-2.ensures (amounts_positive c.args.sev.now c.requires.no_zero)
+
+pub recur-requires-clause-few : goal.recur-requires-clause-few
+recur-requires-clause-few g c =
+    omega (arith, rows_few c.common_amount-step.result c.args.cells c.requires.size.some, size_few c.requires.size)
+
+pub recur-requires-clause-steps : goal.recur-requires-clause-steps
+recur-requires-clause-steps g c =
+    few_steps c.args.steps.a c.args.steps.b _ c.requires.a_small c.requires.b_small
+    (omega (arith, rows_few c.common_amount-step.result c.args.cells c.requires.size.some, size_few c.requires.size))
+
+pub place-requires : goal.place-requires
+place-requires g c =
+    let r = c.requires in
+    let x = c.in_ok-x.ensures in
+    let apart = step_above c.args.sev.now c.common_amount-step.ensures c.as_slice.ensures r.no_zero in
+    let rows = rows_within c.common_amount-step.result c.args.cells r.size.some in
+    (omega arith, (r.size, (apart, (rw x.cells rows, (x.sound, (r.low_small, (r.high_small, omega arith)))))))
+
+pub returns-clause-encloses : goal.returns-clause-encloses
+returns-clause-encloses g c w P H =
+    let B = g.row.B in
+    let sev = c.args.sev.now in
+    let f : ℕ → Fraction = probability_of sev in
+    let s = c.args.steps in
+    let x = s.num over s.base in
+    let ratio = c.in-Ok.ratio in
+    let step = c.common_amount-step.result in
+    let rows = (c.args.cells - 1) / step + 1 in
+    let parts = all_parts c.in_ok-amounts.amounts in
+    let in_scale = c.in_ok-x.x in
+    let grid = c.in_ok-grid.grid in
+    let is : step ≡ common_amount sev.items = rw (← c.as_slice.ensures) c.common_amount-step.ensures in
+    let apart : 0 < step = step_above sev is refl c.requires.no_zero in
+    let lowest : ratio ≡ s.num over (s.base * sev.total) =
+    rw (c.from.ensures, c.from-2.ensures, c.from-3.ensures) at c.in-Ok.ensures.0 in
+    let smaller : ℕ → Fraction = λ j. f (step * j) in
+    let no_zero : smaller 0 ≡ whole 0 = rw mul-zero c.requires.no_zero in
+    let scaled : IsScaled parts c.den.result x smaller = λ j.
+    rw c.den.ensures.part (chance_scaled s.base sev.total s.num (weight_at sev.items (step * j)) (part_at parts j) ratio
+    c.requires.base_positive (severity_total sev) lowest
+    (rw (← c.num.ensures.part, ← c.as_slice-2.ensures) (c.in_ok-amounts.ensures.each j))) in
+    let round : EncloseScaled (λ k. cell w smaller k k) in_scale.shift rows in_scale.low.items in_scale.high.items =
+    c.in_ok-x.ensures.round (λ k. cell w smaller k k)
+    (follows smaller w x s.a s.b c.den.result parts no_zero P scaled) in
+    let placed : IsPlaced B c.args.start in_scale.shift step rows in_scale.low.items in_scale.high.items (low_at grid)
+    (high_at grid) = rw (← c.in_ok-x.ensures.cells) c.in_ok-grid.ensures.placed in
+    rw c.in_ok-grid.ensures.cells (multiples_enclose sev w step (2 ^ B) c.args.cells rows (low_at grid) (high_at grid)
+    (sym is) apart (two_pos B) (rows_reach step c.args.cells apart c.requires.size.some) placed.between
+    (placed_encloses smaller w no_zero (multiples_within f step apart (within_one sev)) c.args.start H B in_scale.shift step
+    rows in_scale.low.items in_scale.high.items (low_at grid) (high_at grid) round placed))

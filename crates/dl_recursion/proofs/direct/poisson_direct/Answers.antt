@@ -1,0 +1,21 @@
+use Rattle.dl_recursion.proofs.Common.{arith, whole, ◌over◌, ◌≤ℚ◌, one_pos, over_self, poisson, HoldsNoClaim, le_over}
+use Rattle.std.proofs.lemmas.Result.{IfOk-weaker}
+use Rattle.std.proofs.lemmas.Option.{IfSome_then}
+use Rattle.dl_recursion.proofs.Units.{poisson_steps}
+use Rattle.dl_recursion.proofs.direct.poisson_direct.Goals as goal
+
+pub poisson_start-start-requires-clause-mean : goal.poisson_start-start-requires-clause-mean
+poisson_start-start-requires-clause-mean g c =
+    let v = c.args.mean in
+    let within : v.num over v.den ≤ℚ whole 4096 = rw (over_self v) c.requires.within in
+    omega (arith, le_over v.num v.den 4096 1 v.positive one_pos within, c.num.ensures.part, c.den.ensures.part)
+
+pub returns-clause-encloses : goal.returns-clause-encloses
+returns-clause-encloses g c =
+    let v = c.args.mean in
+    let start = c.poisson_start-start.result in
+    let holds : HoldsNoClaim (poisson v) start =
+    rw (c.num.ensures.part, c.den.ensures.part, over_self v) at c.poisson_start-start.ensures.holds in
+    IfOk-weaker c.compound_direct.result _ _ (λ made told. IfSome_then made told (λ grid all. all (poisson v)
+    (rw (c.num-2.ensures.part, c.den-2.ensures.part, over_self v) (poisson_steps v)) holds))
+    c.compound_direct.ensures.encloses

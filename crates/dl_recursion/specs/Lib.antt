@@ -1,0 +1,4 @@
+pub mod Runs
+pub mod Recursion
+pub mod Start
+pub mod Placed

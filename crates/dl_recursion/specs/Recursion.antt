@@ -1,0 +1,108 @@
+-- Panjer's recursion in whole numbers (Loss Models, "The recursive method"), and cells that share
+-- an exponent.
+use Rattle.std.specs.Prelude.{ℕ, zero, suc, ◌≡◌, ◌+◌, ◌-◌, ◌*◌, ◌^◌, ◌<◌, ◌≤◌, if◌then◌else◌, nat_le, List, [], ◌∷◌, get_or, slice_index, length, sum_by}
+use Rattle.dl_limits.specs.Limits.{start_bits, most_end, most_given}
+use Rattle.dl_exact.specs.Fraction.{Fraction, whole, ◌*ℚ◌, ◌≤ℚ◌}
+use Rattle.dl_exact.specs.Sum.{sum_pairs}
+use Rattle.dl_exact.specs.Count.{count_below}
+use Rattle.dl_recursion.specs.declared.parts.Part.{Part}
+use Rattle.dl_recursion.specs.declared.cells.Total.{Total}
+use Rattle.dl_recursion.specs.declared.cells.Sums.{Sums}
+use Rattle.dl_recursion.specs.declared.cells.Ends.{Ends}
+use Rattle.dl_recursion.specs.declared.cells.ScaledCells.{ScaledCells}
+use Rattle.dl_recursion.specs.Runs.{part_at}
+
+-- what one part gives to cell s: (a * s + b * amount) * weight times the cell that lies its amount
+-- before, where there is one
+abbrev pub contribution : ℕ → ℕ → List ℕ → ℕ → Part → ℕ
+contribution a b cells s p =
+    if nat_le p.amount s
+    then (a * s + b * p.amount) * p.weight * slice_index cells (s - p.amount) else 0
+
+-- the recursion in whole numbers: q * (n + 1) * r (n + 1) is the sum over the amounts 1 + i and the
+-- cells k with i + k = n
+pub record FollowsInWhole (parts : List Part) (a b q : ℕ) (r : ℕ → Fraction) : Type 0 where
+  pub start : r zero ≡ whole 1
+  pub next : (n : ℕ) → whole (q * suc n) *ℚ r (suc n)
+      ≡ sum_pairs n (λ i k. whole ((a * suc n + b * suc i) * part_at parts (suc i)) *ℚ r k)
+
+-- in units of 2^e the numbers enclose 2^61 times r k, for each k below n
+pub record EncloseScaled (r : ℕ → Fraction) (e n : ℕ) (low high : List ℕ) : Type 0 where
+  pub low_end : (k : ℕ) → k < n → whole (slice_index low k * 2 ^ e) ≤ℚ whole (2 ^ start_bits) *ℚ r k
+  pub high_end : (k : ℕ) → k < n → whole (2 ^ start_bits) *ℚ r k ≤ℚ whole
+      (slice_index high k * 2 ^ e)
+
+-- the ends of as many cells, each at most 2^62; those of the first cells are 0, and 0 or 1, which
+-- no shift down changes
+pub record AreScaledCells (low high : List ℕ) (first : ℕ) : Type 0 where
+  pub alike : length high ≡ length low
+  pub low_small : (k : ℕ) → slice_index low k ≤ most_end
+  pub high_small : (k : ℕ) → slice_index high k ≤ most_end
+  pub low_settled : (k : ℕ) → k < first → slice_index low k ≡ 0
+  pub high_settled : (k : ℕ) → k < first → slice_index high k ≤ 1
+
+-- the sum of the ends up to cell k
+abbrev pub sum_to_cell : List ℕ → ℕ → ℕ
+sum_to_cell ends k = count_below (suc k) (λ i. slice_index ends i)
+
+-- the sum of such sums of the cells before k
+abbrev pub sums_before : List ℕ → ℕ → ℕ
+sums_before ends k = count_below k (λ i. sum_to_cell ends i)
+
+-- the sums of ends up to cell k
+pub record IsTotal (ends : List ℕ) (k : ℕ) (total : Total) : Type 0 where
+  pub cells : total.cells ≡ sum_to_cell ends k
+  pub before : total.before ≡ sums_before ends k
+
+-- those of the low ends and of the high ends
+pub record IsSum (low high : List ℕ) (k : ℕ) (sums : Sums) : Type 0 where
+  pub low_total : IsTotal low k sums.low
+  pub high_total : IsTotal high k sums.high
+
+-- the sums up to each of the first cells
+abbrev pub AreSums : List Sums → List ℕ → List ℕ → Type 0
+AreSums sums low high = (k : ℕ) (d : Sums) → k < length sums → IsSum low high k (get_or sums k d)
+
+-- cells with their sums
+pub record AreInScale (x : ScaledCells) : Type 0 where
+  pub sound : AreScaledCells x.low.items x.high.items x.first
+  pub within : x.first ≤ length x.low.items
+  pub sums : AreSums x.sums.items x.low.items x.high.items
+  pub sums_within : length x.sums.items ≤ length x.low.items
+
+-- what the parts give to the cell after those of x; y is x with all sums that it takes
+pub record IsReached (parts : List Part) (a b : ℕ) (x y : ScaledCells) (ends : Ends) : Type 0 where
+  pub low : ends.low ≡ sum_by (contribution a b x.low.items (length x.low.items)) parts
+  pub high : ends.high ≡ sum_by (contribution a b x.high.items (length x.low.items)) parts
+  pub high_room : ends.high ≤ most_given
+  pub sums : AreSums y.sums.items y.low.items y.high.items
+  pub within : length y.sums.items ≤ length y.low.items
+  pub same_low : y.low ≡ x.low
+  pub same_high : y.high ≡ x.high
+  pub same_first : y.first ≡ x.first
+  pub same_shift : y.shift ≡ x.shift
+
+-- y has one cell more than x, the next one of the recursion
+pub record IsGrown (parts : List Part) (a b q : ℕ) (x y : ScaledCells) : Type 0 where
+  pub in_scale : AreInScale y
+  pub cells : length y.low.items ≡ length x.low.items + 1
+  pub shift : y.shift ≤ x.shift + 64
+  pub round : (r : ℕ → Fraction) → FollowsInWhole parts a b q r
+      → EncloseScaled r x.shift (length x.low.items) x.low.items x.high.items
+      → EncloseScaled r y.shift (length y.low.items) y.low.items y.high.items
+
+-- cell 0 alone
+pub record IsBegun (x : ScaledCells) : Type 0 where
+  pub low : x.low.items ≡ 2 ^ start_bits ∷ []
+  pub high : x.high.items ≡ 2 ^ start_bits ∷ []
+  pub first : x.first ≡ 0
+  pub shift : x.shift ≡ 0
+  pub sums : x.sums.items ≡ []
+
+-- the first n cells of the recursion
+pub record AreFirst (parts : List Part) (a b q n : ℕ) (x : ScaledCells) : Type 0 where
+  pub cells : length x.low.items ≡ n
+  pub shift : x.shift ≤ 64 * n
+  pub sound : AreScaledCells x.low.items x.high.items x.first
+  pub round : (r : ℕ → Fraction) → FollowsInWhole parts a b q r
+      → EncloseScaled r x.shift n x.low.items x.high.items

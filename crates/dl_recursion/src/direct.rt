@@ -1,0 +1,159 @@
+//! The grids of units whose counts are of the (a, b, 0) class, by one recursion.
+
+ghost use Rattle.std.specs.Prelude.{◌≡◌, ℕ, ◌+◌, ◌-◌, ◌*◌, ◌^◌, ◌<◌, ◌≤◌, length, IfOk, IfSome, IsTrue};
+ghost use Rattle.dl_limits.specs.Limits.{most_cells, most_expected, most_shape, most_parts, admitted_bound, frac_bound, most_start};
+ghost use Rattle.dl_exact.specs.Fraction.{Fraction, whole, ◌over◌, ◌*ℚ◌, ◌≤ℚ◌};
+ghost use Rattle.dl_grid.specs.Cells.{IsGrid};
+ghost use Rattle.dl_grid.specs.Room.{IsGridSize};
+ghost use Rattle.dl_model.specs.Counts.{poisson, gamma_of, IsPanjer};
+ghost use Rattle.dl_model.specs.Family.{compound, GridEncloses};
+ghost use Rattle.dl_plan.specs.Severity.{probability_of};
+ghost use Rattle.dl_recursion.specs.Start.{HoldsNoClaim};
+
+use crate::cells::START_BITS;
+use crate::first::{gamma_start, poisson_start};
+use crate::parts::{amounts_of, common_amount};
+use crate::placing::place;
+use crate::recursion::recur;
+use crate::start::Scaled;
+use dl_frac::Frac;
+use dl_grid::Grid;
+use dl_plan::Sev;
+use std::alloc::{AllocError, Global};
+
+/// How the weights of a count step: the weight of `n + 1` claims is `(a + b / (n + 1)) * num /
+/// base` times that of `n`.
+#[derive(Clone, Copy)]
+struct Steps {
+    a: u64,
+    b: u64,
+    num: u64,
+    base: u64,
+}
+
+/// Whether the sums of the recursion stay in their words: the factors of a cell in 64 bits, and
+/// what it is divided by in 64 bits. `ratio` is `num / base` over the total of the weights.
+fn fits(steps: Steps, ratio: Frac, total: u32, cells: u32) -> bool
+    requires a_small { steps.a ≤ 1 }
+    requires b_small { steps.b ≤ most_shape }
+    requires total_small { total ≤ most_parts }
+    requires cells_small { cells ≤ most_cells }
+    ensures factors { IsTrue result → (steps.a + steps.b) * cells * (ratio.num * total) < 2 ^ 64 }
+    ensures divisors { IsTrue result → ratio.den * cells < 2 ^ 64 }
+{
+    let limit: u128 = 1 << 64;
+    let factors = u128::from((steps.a + steps.b) * u64::from(cells));
+    let weights = u128::from(ratio.num()) * u128::from(total);
+    factors * weights < limit && u128::from(ratio.den()) * u128::from(cells) < limit
+}
+
+/// The grid of the compound sum of a count whose weights step so, and whose probability of no claim
+/// is `start`; None where a number of the recursion does not fit its word, which no clause
+/// excludes. The recursion goes over the multiples of the common divisor of the amounts alone,
+/// since no other sum has a probability above 0.
+fn compound_direct<const B: u32>(
+    alloc: Global,
+    sev: &Sev,
+    steps: Steps,
+    start: Scaled,
+    cells: u32,
+) -> Result<Option<Grid<B>>, AllocError>
+    requires size { IsGridSize B cells }
+    requires no_zero { probability_of sev.now 0 ≡ whole 0 }
+    requires base_positive { 0 < steps.base }
+    requires some_step { 0 < steps.a + steps.b }
+    requires a_small { steps.a ≤ 1 }
+    requires b_small { steps.b ≤ most_shape }
+    requires num_small { steps.num < admitted_bound }
+    requires base_small { steps.base < frac_bound }
+    requires low_small { start.low ≤ most_start }
+    requires high_small { start.high ≤ most_start }
+    ensures cells { IfOk result (λ made. IfSome made (λ g. length g ≡ cells)) }
+    ensures encloses { IfOk result (λ made. IfSome made (λ g. (w : ℕ → Fraction)
+        → IsPanjer (whole steps.a *ℚ steps.num over steps.base)
+        (whole steps.b *ℚ steps.num over steps.base) w
+        → HoldsNoClaim w start → GridEncloses g (compound w (probability_of sev.now)))) }
+{
+    let divisor = u128::from(steps.base) * u128::from(sev.total);
+    let Ok(ratio) = Frac::make(u128::from(steps.num), divisor) else {
+        return Ok(None);
+    };
+    let step = common_amount(sev.items.as_slice());
+    let rows = (cells - 1) / step + 1;
+    if !fits(steps, ratio, sev.total, rows) {
+        return Ok(None);
+    }
+    let amounts = amounts_of(alloc, sev.items.as_slice(), step, ratio.num())?;
+    let x = recur(
+        alloc,
+        &amounts,
+        steps.a,
+        steps.b,
+        ratio.den(),
+        rows as usize,
+    )?;
+    let scale = START_BITS + u64::from(start.exponent);
+    let raised = x.shift + u64::from(B);
+    if raised > scale {
+        return Ok(None);
+    }
+    let grid = place(alloc, &x, start, scale - raised, step, cells)?;
+    Ok(Some(grid))
+}
+
+/// The first `cells` cells of a Poisson number of claims of this mean, by one recursion, without a
+/// bound on their spread. Or None: no clause says when a number of the recursion does not fit its
+/// word, so a caller has to have another way, and None costs it time alone.
+pub fn poisson_direct<const B: u32>(
+    alloc: Global,
+    sev: &Sev,
+    mean: Frac,
+    cells: u32,
+) -> Result<Option<Grid<B>>, AllocError>
+    requires size { IsGridSize B cells }
+    requires no_zero { probability_of sev.now 0 ≡ whole 0 }
+    requires num { mean.num < admitted_bound }
+    requires den { mean.den < admitted_bound }
+    requires within { mean ≤ℚ whole most_expected }
+    ensures cells { IfOk result (λ made. IfSome made (λ g. length g ≡ cells)) }
+    ensures encloses { IfOk result (λ made. IfSome made (λ g.
+        GridEncloses g (compound (poisson mean) (probability_of sev.now)))) }
+{
+    let start = poisson_start(mean.num(), mean.den());
+    let steps = Steps {
+        a: 0,
+        b: 1,
+        num: mean.num(),
+        base: mean.den(),
+    };
+    compound_direct(alloc, sev, steps, start, cells)
+}
+
+/// The first `cells` cells of a gamma number of claims of this shape and mean, by one recursion,
+/// without a bound on their spread. Or None, as for a Poisson number.
+pub fn gamma_direct<const B: u32>(
+    alloc: Global,
+    sev: &Sev,
+    shape: u32,
+    mean: Frac,
+    cells: u32,
+) -> Result<Option<Grid<B>>, AllocError>
+    requires size { IsGridSize B cells }
+    requires no_zero { probability_of sev.now 0 ≡ whole 0 }
+    requires shape_above { 1 ≤ shape }
+    requires shape_below { shape ≤ most_shape }
+    requires num { mean.num < admitted_bound }
+    requires den { mean.den < admitted_bound }
+    ensures cells { IfOk result (λ made. IfSome made (λ g. length g ≡ cells)) }
+    ensures encloses { IfOk result (λ made. IfSome made (λ g.
+        GridEncloses g (compound (gamma_of shape mean) (probability_of sev.now)))) }
+{
+    let start = gamma_start(mean.num(), mean.den(), shape);
+    let steps = Steps {
+        a: 1,
+        b: u64::from(shape - 1),
+        num: mean.num(),
+        base: mean.num() + u64::from(shape) * mean.den(),
+    };
+    compound_direct(alloc, sev, steps, start, cells)
+}

@@ -1,0 +1,97 @@
+//! The probability of no claim of Poisson and of gamma counts.
+
+ghost use Rattle.std.specs.Prelude.{◌≡◌, ◌+◌, ◌*◌, ◌^◌, ◌<◌, ◌≤◌};
+ghost use Rattle.dl_limits.specs.Limits.{most_expected, most_shape, admitted_bound, most_start};
+ghost use Rattle.dl_exact.specs.Fraction.{◌over◌};
+ghost use Rattle.dl_model.specs.Counts.{poisson, gamma};
+ghost use Rattle.dl_recursion.specs.Start.{HoldsNoClaim};
+
+use crate::start::{Scaled, power_of};
+
+/// What 1 is, in units of 1 / 2^63.
+const ONE: u128 = 1 << 63;
+
+/// Of the geometric count with the ratio `num / (num + rest)`: the rest of 1, `rest / (num +
+/// rest)`.
+fn geometric_start(num: u64, rest: u64) -> Scaled
+    requires positive { 0 < rest }
+    requires room { num + rest < 2 ^ 64 }
+    ensures top { result.high ≤ most_start }
+    ensures exponent { result.exponent ≡ 63 }
+    ensures order { result.low ≤ result.high }
+    ensures holds { HoldsNoClaim (gamma 1 (num over (num + rest))) result }
+{
+    let all = u128::from(num + rest);
+    let part = u128::from(rest) * ONE;
+    Scaled {
+        low: (part / all) as u64,
+        high: ((part + (all - 1)) / all) as u64,
+        exponent: 63,
+    }
+}
+
+/// How many terms of the exponential's series past the first are added up.
+const TERMS: u64 = 18;
+
+/// Of the Poisson count of mean `num / den`, at most 1/2: exp of minus the mean, by its inverse.
+/// The terms of the series are rounded each; as they at least halve, the last one stands once more
+/// for the rest.
+fn exponential_start(num: u64, den: u64) -> Scaled
+    requires positive { 0 < den }
+    requires half { num + num ≤ den }
+    ensures top { result.high ≤ most_start }
+    ensures exponent { result.exponent ≡ 63 }
+    ensures order { result.low ≤ result.high }
+    ensures holds { HoldsNoClaim (poisson (num over den)) result }
+{
+    let mut low_term = ONE;
+    let mut high_term = ONE;
+    let mut low = ONE;
+    let mut high = ONE;
+    for n in 0..TERMS {
+        let d = u128::from(den) * u128::from(n + 1);
+        low_term = low_term * u128::from(num) / d;
+        high_term = (high_term * u128::from(num) + (d - 1)) / d;
+        low = low + low_term;
+        high = high + high_term;
+    }
+    high = high + high_term;
+    Scaled {
+        low: (ONE * ONE / high) as u64,
+        high: ((ONE * ONE + (low - 1)) / low) as u64,
+        exponent: 63,
+    }
+}
+
+/// Of the Poisson count of mean `num / den`, at most 4,096: a power of that of an equal share of
+/// the mean, at most 1/2. The shares are a power of two.
+pub(crate) fn poisson_start(num: u64, den: u64) -> Scaled
+    requires positive { 0 < den }
+    requires num_small { num < admitted_bound }
+    requires den_small { den < admitted_bound }
+    requires mean { num ≤ most_expected * den }
+    ensures top { result.high ≤ most_start }
+    ensures order { result.low ≤ result.high }
+    ensures holds { HoldsNoClaim (poisson (num over den)) result }
+{
+    let mut shares: u32 = 1;
+    while u64::from(shares) * den < num + num {
+        shares *= 2;
+    }
+    power_of(exponential_start(num, u64::from(shares) * den), shares)
+}
+
+/// Of the gamma count of this shape and mean `num / den`: the power by the shape of that of the
+/// geometric count of the mean over the shape.
+pub(crate) fn gamma_start(num: u64, den: u64, shape: u32) -> Scaled
+    requires positive { 0 < den }
+    requires num_small { num < admitted_bound }
+    requires den_small { den < admitted_bound }
+    requires shape_positive { 0 < shape }
+    requires shape_small { shape ≤ most_shape }
+    ensures top { result.high ≤ most_start }
+    ensures order { result.low ≤ result.high }
+    ensures holds { HoldsNoClaim (gamma shape (num over (num + shape * den))) result }
+{
+    power_of(geometric_start(num, u64::from(shape) * den), shape)
+}

@@ -1,0 +1,24 @@
+//! Grids of compound Poisson and compound gamma sums by Panjer's recursion at the full mean
+//! (Klugman, Panjer and Willmot, Loss Models, "The recursive method"). The cells are numbers of 64
+//! bits that share one exponent: where one grows too large all are shifted down, low ends by floor
+//! and high ends by ceiling. Cell 0 is 1 until the end, when each cell is multiplied by the
+//! probability of no claim. The recursion goes over the multiples of the common divisor of the
+//! amounts alone, since no other sum has a probability above 0.
+//!
+//! `parts` makes the amounts and their weights of a severity, in steps of their common divisor,
+//! rows of one weight as runs; `sums` adds up what they give to the next cell; `quotient` divides;
+//! `recursion` adds the cell and shifts; `start` and `first` hold the probability of no claim;
+//! `placing` makes the grid, and `direct` has the two counts.
+#![tactic(auto)]
+
+mod cells;
+mod direct;
+mod first;
+mod parts;
+mod placing;
+mod quotient;
+mod recursion;
+mod start;
+mod sums;
+
+pub use direct::{gamma_direct, poisson_direct};
