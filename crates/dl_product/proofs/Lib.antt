@@ -1,3 +1,4 @@
+pub mod Apart
 mod Common
 pub mod Mirror
 pub mod Placed

@@ -1,5 +1,5 @@
 -- A product that is written into the middle of a list of zeros.
-use Rattle.dl_product.proofs.Common.{ℕ, ◌≡◌, ◌+◌, ◌-◌, ◌*◌, ◌<◌, inl, inr, List, take, drop, length, get_or, arith, refl, sym, ap, ap₂, ◌∙◌, cases_lt, get_or-take, get_or-drop, length-take, pairs_same, pair_sum}
+use Rattle.dl_product.proofs.Common.{ℕ, ◌≡◌, ◌+◌, ◌-◌, ◌*◌, ◌<◌, inl, inr, List, take, drop, length, get_or, arith, refl, sym, ap, ap₂, ◌∙◌, cases_lt, get_or-take, get_or-drop, get_or_past, length-take, pairs_same, pair_sum}
 use Rattle.std.proofs.Common.{◌++◌, length-drop}
 use Rattle.std.specs.Prelude.{min}
 use Rattle.std.proofs.Math.ListN.{get_or-append}
@@ -49,6 +49,13 @@ placed_at a b zeros new p q e f place count cells x y is_place is_count long non
                 (omega (arith, here, d, is_count, is_place, x.order, y.order, inside)))
           ]
     ]
+
+-- a part of a list of zeros
+pub zeros_within : (p e : ℕ) (xs : List ℕ) → ((s : ℕ) → get_or xs s 0 ≡ 0) → (s : ℕ) → get_or (take e (drop p xs)) s 0 ≡ 0
+zeros_within p e xs none s = elim (cases_lt s e) [
+  | inl b ↦ get_or-take e (drop p xs) s 0 b ∙ get_or-drop p xs s 0 ∙ none (p + s)
+  | inr b ↦ get_or_past (take e (drop p xs)) s 0 (omega (arith, b, length-take e (drop p xs)))
+]
 
 -- a list of zeros with the product of the windows at its place is the product of the lists
 pub product_placed : (a b zeros new : List ℕ) (p q e f place count : ℕ) → IsWindow a p e → IsWindow b q f

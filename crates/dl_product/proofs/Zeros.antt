@@ -5,7 +5,7 @@ use Rattle.std.proofs.Common.{zero-add}
 use Rattle.dl_exact.proofs.Counts.{below_none, below_pairs, nothing_times}
 
 -- no sum of products that are each 0
-no_products : (n : ℕ) (f g : ℕ → ℕ) → ((i : ℕ) → i ≤ n → f i * g (n - i) ≡ 0) → count_pairs n (λ i j. f i * g j) ≡ 0
+pub no_products : (n : ℕ) (f g : ℕ → ℕ) → ((i : ℕ) → i ≤ n → f i * g (n - i) ≡ 0) → count_pairs n (λ i j. f i * g j) ≡ 0
 no_products n f g none =
     sym (below_pairs n (λ i j. f i * g j)) ∙ below_none (suc n) (λ i. f i * g (n - i)) (λ i b. none i (omega arith))
 

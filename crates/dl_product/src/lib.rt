@@ -7,6 +7,7 @@ mod lists;
 mod products;
 mod room;
 mod short;
+mod steps;
 mod windows;
 
 pub use products::{product, square};

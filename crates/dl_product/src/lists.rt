@@ -3,9 +3,11 @@
 ghost use Rattle.std.specs.Prelude.{◌≡◌, ℕ, ◌<◌, ◌≤◌, length, get_or, IfOk, IfSome};
 ghost use Rattle.dl_limits.specs.Limits.{most_cells};
 ghost use Rattle.dl_conv.specs.Sums.{pair_sum, ItemsFit};
+ghost use Rattle.dl_product.specs.Steps.{LieApart};
 
 use crate::room::Workspace;
 use crate::short::short_square;
+use crate::steps::{at_multiples, spread_out, step_with};
 use crate::windows::window_of;
 use dl_conv::{halved_sums, plain_sums, work_for};
 use dl_transform::levels_for;
@@ -86,6 +88,56 @@ fn multiply(
     multiply_plainly(alloc, a, b, out)
 }
 
+/// The first items of the product of two lists whose items lie `step` apart, in the place of as
+/// many zeros: the product of their items at the multiples of the step.
+fn multiply_apart(
+    alloc: Global,
+    work: &mut Workspace,
+    a: &[u128],
+    b: &[u128],
+    step: usize,
+    out: &mut [u128],
+) -> Result<(), AllocError>
+    requires fits { ItemsFit a.now b.now (length out.old) }
+    requires first_few { length a.now ≤ most_cells }
+    requires second_few { length b.now ≤ most_cells }
+    requires zeros { (s : ℕ) → get_or out.old s 0 ≡ 0 }
+    requires some { 0 < step }
+    requires first_apart { LieApart step a.now }
+    requires second_apart { LieApart step b.now }
+    ensures { IfOk result (λ _. (s : ℕ) → s < length out.old
+        → get_or out.new s 0 ≡ pair_sum a.now b.now s) }
+{
+    let first = at_multiples(alloc, a, step)?;
+    let second = at_multiples(alloc, b, step)?;
+    let mut sums = Vec::from_elem(alloc, 0, out.len().div_ceil(step))?;
+    multiply(alloc, work, &first, &second, sums.as_mut_slice())?;
+    spread_out(&sums, step, out);
+    Ok(())
+}
+
+/// The first items of the product of two lists, in the place of as many zeros, the shorter way.
+fn multiply_by_steps(
+    alloc: Global,
+    work: &mut Workspace,
+    a: &[u128],
+    b: &[u128],
+    out: &mut [u128],
+) -> Result<(), AllocError>
+    requires fits { ItemsFit a.now b.now (length out.old) }
+    requires first_few { length a.now ≤ most_cells }
+    requires second_few { length b.now ≤ most_cells }
+    requires zeros { (s : ℕ) → get_or out.old s 0 ≡ 0 }
+    ensures { IfOk result (λ _. (s : ℕ) → s < length out.old
+        → get_or out.new s 0 ≡ pair_sum a.now b.now s) }
+{
+    let step = step_with(b, step_with(a, 0));
+    if step > 1 {
+        return multiply_apart(alloc, work, a, b, step as usize, out);
+    }
+    multiply(alloc, work, a, b, out)
+}
+
 /// The first items of the product of two lists, in the place of as many zeros.
 fn put_sums(
     alloc: Global,
@@ -105,7 +157,7 @@ fn put_sums(
     let (q, f) = window_of(b);
     let place = out.len().min(p + q);
     let count = (out.len() - place).min(e - p + (f - q));
-    multiply(
+    multiply_by_steps(
         alloc,
         work,
         &a[p..e],
@@ -156,6 +208,51 @@ fn multiply_by_itself(
     Ok(())
 }
 
+/// The first items of the product of a list with itself, in the place of as many zeros, where its
+/// items lie `step` apart.
+fn square_apart(
+    alloc: Global,
+    work: &mut Workspace,
+    a: &[u128],
+    step: usize,
+    out: &mut [u128],
+) -> Result<(), AllocError>
+    requires fits { ItemsFit a.now a.now (length out.old) }
+    requires items_few { length a.now ≤ most_cells }
+    requires zeros { (s : ℕ) → get_or out.old s 0 ≡ 0 }
+    requires some { 0 < step }
+    requires apart { LieApart step a.now }
+    ensures { IfOk result (λ _. (s : ℕ) → s < length out.old
+        → get_or out.new s 0 ≡ pair_sum a.now a.now s) }
+{
+    let items = at_multiples(alloc, a, step)?;
+    let mut sums = Vec::from_elem(alloc, 0, out.len().div_ceil(step))?;
+    multiply_by_itself(alloc, work, &items, sums.as_mut_slice())?;
+    spread_out(&sums, step, out);
+    Ok(())
+}
+
+/// The first items of the product of a list with itself, in the place of as many zeros, the shorter
+/// way.
+fn square_by_steps(
+    alloc: Global,
+    work: &mut Workspace,
+    a: &[u128],
+    out: &mut [u128],
+) -> Result<(), AllocError>
+    requires fits { ItemsFit a.now a.now (length out.old) }
+    requires items_few { length a.now ≤ most_cells }
+    requires zeros { (s : ℕ) → get_or out.old s 0 ≡ 0 }
+    ensures { IfOk result (λ _. (s : ℕ) → s < length out.old
+        → get_or out.new s 0 ≡ pair_sum a.now a.now s) }
+{
+    let step = step_with(a, 0);
+    if step > 1 {
+        return square_apart(alloc, work, a, step as usize, out);
+    }
+    multiply_by_itself(alloc, work, a, out)
+}
+
 /// The first items of the product of a list with itself, in the place of as many zeros.
 fn put_square_sums(
     alloc: Global,
@@ -172,7 +269,7 @@ fn put_square_sums(
     let (p, e) = window_of(a);
     let place = out.len().min(p + p);
     let count = (out.len() - place).min(e - p + (e - p));
-    multiply_by_itself(alloc, work, &a[p..e], &mut out[place..place + count])
+    square_by_steps(alloc, work, &a[p..e], &mut out[place..place + count])
 }
 
 /// The first `cells` items of the product of a list with itself.

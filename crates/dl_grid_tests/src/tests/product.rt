@@ -22,12 +22,13 @@ enum Ends {
     Sure,
 }
 
-/// A grid with the same ends at some cells, and 0 elsewhere.
+/// A grid with the same ends at every `step`-th of `count` cells from `start` on, and 0 elsewhere.
 #[derive(Clone, Copy, PartialEq, Eq)]
 struct Shape {
     ends: Ends,
     start: u32,
     count: u32,
+    step: u32,
 }
 
 /// Two grids on so many cells.
@@ -64,6 +65,7 @@ fn shaped<const B: u32>(
         || cells > most_cells(B)
         || shape.start > cells
         || shape.count > cells - shape.start
+        || shape.step == 0
     {
         return Ok(None);
     }
@@ -72,7 +74,9 @@ fn shaped<const B: u32>(
     };
     let mut good = true;
     for x in shape.start..shape.start + shape.count {
-        good = g.put(x, interval(shape.ends)) && good;
+        if (x - shape.start) % shape.step == 0 {
+            good = g.put(x, interval(shape.ends)) && good;
+        }
     }
     Ok(if good { Some(g) } else { None })
 }
@@ -153,7 +157,16 @@ fn agrees<const B: u32>(
 }
 
 fn alike(ends: Ends, start: u32, count: u32) -> Shape {
-    Shape { ends, start, count }
+    apart(1, ends, start, count)
+}
+
+fn apart(step: u32, ends: Ends, start: u32, count: u32) -> Shape {
+    Shape {
+        ends,
+        start,
+        count,
+        step,
+    }
 }
 
 fn pair(cells: u32, first: Shape, second: Shape) -> Case {
@@ -193,6 +206,34 @@ fn all_ways_give_the_same_cells(rt: HostRuntime) {
             1500,
             alike(Ends::Part(700), 1, 700),
             alike(Ends::Part(400), 5, 400),
+        ),
+        // items a common step apart: both, one of them, no multiple of the other's step, by
+        // transforms, and past the grid
+        pair(
+            40,
+            apart(3, Ends::Part(7), 2, 19),
+            apart(3, Ends::Part(4), 5, 10),
+        ),
+        pair(
+            40,
+            apart(3, Ends::Part(7), 2, 19),
+            alike(Ends::Part(4), 5, 4),
+        ),
+        pair(
+            40,
+            apart(6, Ends::Part(7), 0, 37),
+            apart(4, Ends::Part(9), 1, 33),
+        ),
+        pair(40, apart(6, Ends::Part(7), 0, 37), alike(Ends::Sure, 5, 1)),
+        pair(
+            1401,
+            apart(2, Ends::Part(700), 0, 1399),
+            apart(2, Ends::Part(650), 1, 1299),
+        ),
+        pair(
+            50,
+            apart(7, Ends::Part(8), 0, 50),
+            apart(7, Ends::Part(7), 1, 43),
         ),
         // too large for transforms
         pair(

@@ -1,0 +1,27 @@
+use Rattle.dl_product.proofs.Common.{◌≡◌, ◌*◌, get_or, arith, refl, ◌∙◌}
+use Rattle.std.proofs.Math.ListN.{length-set}
+use Rattle.dl_exact.proofs.Writing.{set_done}
+use Rattle.dl_product.proofs.Apart.{all_taken}
+use Rattle.dl_product.proofs.steps.at_multiples.Goals as goal
+
+pub loop-k-init : goal.loop-k-init
+loop-k-init c = record {
+  long = omega (arith, c.in_ok-items.ensures.len, c.in_ok-items.items.ok.0, c.div_ceil.ensures);
+  done = λ k b. absurd (omega (arith, b));
+}
+
+pub loop-k-preserved : goal.loop-k-preserved
+loop-k-preserved c =
+    let i = c.loop-k.invariant in
+    let v = get_or c.args.xs.now (c.loop-k.k * c.args.step) 0 in
+    record {
+      long = length-set c.loop-k.items.items c.loop-k.k v ∙ i.long;
+      done = set_done (λ k item. item ≡ get_or c.args.xs.now (k * c.args.step) 0) c.loop-k.items.items c.loop-k.k v
+          (omega (arith, c.loop-k-test.true, c.len-k-end.ensures, c.in_ok-items.ensures.len, c.div_ceil.ensures, i.long)) i.done refl;
+    }
+
+pub returns-clause-each : goal.returns-clause-each
+returns-clause-each c =
+    let i = c.loop-k.invariant in
+    all_taken c.args.step c.loop-k.k c.args.xs.now c.loop-k.items.items c.requires i.long
+    (omega (arith, c.loop-k-test.false, c.len-k-end.ensures, c.in_ok-items.ensures.len, c.div_ceil.ensures, i.long)) i.done
