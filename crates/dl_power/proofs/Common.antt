@@ -11,7 +11,7 @@ pub use Rattle.std.proofs.lemmas.Nat.{pow_pos}
 pub use Rattle.std.proofs.lemmas.Result.{IfOk-weaker}
 pub use Rattle.std.specs.Int.{div_ceil, sum_through}
 pub use Rattle.std.specs.Prelude.{All, false, if◌then◌else◌, max, min, sum, true, zip, ◌==◌}
-pub use Rattle.dl_exact.proofs.Counts.{below_first, below_le, below_more, below_nothing, below_same, below_times}
+pub use Rattle.dl_exact.proofs.Counts.{below_first, below_le, below_more, below_nothing, below_same, below_times, nothing_times, pairs_same, times_nothing}
 pub use Rattle.dl_exact.proofs.Denominators.{over_plus, over_split, over_zero}
 pub use Rattle.dl_exact.proofs.Laws.{le_of_eq, le_plus, le_refl, le_trans, one_pos, plus_assoc, plus_comm, plus_le_both, times_le_both, times_left_comm, times_one, times_zero, zero_le}
 pub use Rattle.dl_exact.proofs.Over.{le_over, over_le, over_mul, over_same}
@@ -49,4 +49,4 @@ pub use Rattle.dl_model.specs.Counts.{fixed}
 pub use Rattle.dl_model.specs.Family.{Encloses, Family, GridEncloses, IsProper, compound, nothing, product, times_itself}
 pub use Rattle.dl_model.specs.Listed.{probability_at}
 pub use Rattle.dl_model.specs.Severity.{IsWithinOne}
-pub use Rattle.dl_power.specs.Powers.{ArePowers, Between, IsStep, LieBetween, mixture_end}
+pub use Rattle.dl_power.specs.Powers.{AreBetween, ArePairable, AreParts, ArePowers, Between, IsStep, LieBetween, mixture_end}

@@ -6,9 +6,11 @@ mod HornerSteps
 mod BlockEnds
 pub mod Spreads
 mod EndLists
+mod Ends
 mod BlockGrids
 mod PowerGrids
 mod StepGrids
-mod BlockLists
+mod ShortGrids
+mod Neighbours
 mod SingleCount
 pub mod HornerGrids

@@ -1,5 +1,5 @@
--- Grids of the powers of a severity: the first two, the next one, and those of what a grid's own low ends are.
-use Rattle.dl_power.proofs.Common.{ℕ, zero, suc, ◌≡◌, ◌+◌, ◌*◌, ◌/◌, ◌^◌, ◌<◌, ◌≤◌, List, [], ◌∷◌, ◌++◌, length, get_or, take, arith, sym, ap, subst, inl, inr, ◌∙◌, min, All, div_ceil, get_or-append_seam, mul-le-mul_right, cases_lt, get_or_append_left, get_or_default, pow_pos, Fraction, whole, ◌over◌, ◌≤ℚ◌, over_le, over_same, one_pos, le_refl, le_trans, le_of_eq, Iv, low_at, high_at, mass_low, all_at_zero, count_pairs, low_take, high_take, low_le_high, low_within, convolve, at_zero, power, IsWithinOne, power_within_one, power_one, power_plus, item_le_sum, Between, ArePowers, get_or-take, length-take, length-append, to_over}
+-- Grids of the powers of a severity: that of no claim, the next one, and those of what a grid's own low ends are.
+use Rattle.dl_power.proofs.Common.{ℕ, zero, suc, ◌≡◌, ◌+◌, ◌*◌, ◌/◌, ◌^◌, ◌<◌, ◌≤◌, List, [], ◌∷◌, ◌++◌, length, get_or, arith, sym, ap, subst, inl, inr, ◌∙◌, min, All, div_ceil, get_or-append_seam, mul-le-mul_right, cases_lt, get_or_append_left, get_or_default, pow_pos, Fraction, whole, ◌over◌, ◌≤ℚ◌, over_le, over_same, one_pos, le_refl, le_trans, le_of_eq, Iv, low_at, high_at, mass_low, all_at_zero, count_pairs, low_le_high, low_within, convolve, at_zero, power, IsWithinOne, power_within_one, power_plus, item_le_sum, Between, AreBetween, ArePowers, length-append, to_over}
 use Rattle.std.proofs.lemmas.List.Elements.{All-push}
 use Rattle.dl_power.proofs.BlockEnds.{product_between}
 
@@ -19,21 +19,13 @@ own_between {B} base K = record {
 }
 
 -- the grid at a place
-pub power_at : {B : ℕ} (K n : ℕ) (f : ℕ → Fraction) (grids : List (List (Iv B))) (g : List (Iv B)) → n < length grids
-    → g ≡ get_or grids n g → ArePowers K f grids
-    → Between K g (power f n)
-power_at K n f grids g inside is of_f = rw (get_or_default grids n [] g inside ∙ sym is) at (of_f n inside)
+pub grid_at : {B : ℕ} (K n : ℕ) (c : ℕ → ℕ → Fraction) (grids : List (List (Iv B))) (g : List (Iv B))
+    → n < length grids → g ≡ get_or grids n g → AreBetween K c grids → Between K g (c n)
+grid_at K n c grids g inside is of_c = rw (get_or_default grids n [] g inside ∙ sym is) at (of_c n inside)
 
-pub first_powers : {B : ℕ} (K m : ℕ) (f : ℕ → Fraction) (grids : List (List (Iv B))) → ArePowers K f grids
-    → ArePowers K f (take m grids)
-first_powers K m f grids of_f n inside =
-    let both : (n < m) × (n < length grids) = omega (arith, inside, length-take m grids) in
-    rw (get_or-take m grids n [] both.0) (of_f n both.1)
-
-pub more_powers : {B : ℕ} (K n : ℕ) (f : ℕ → Fraction) (xs ys : List (List (Iv B))) (g : List (Iv B))
-    → ys ≡ xs ++ g ∷ [] → length xs ≡ n → ArePowers K f xs
-    → Between K g (power f n) → ArePowers K f ys
-more_powers {B} K n f xs ys g e many before here i inside = elim (cases_lt i n) [
+pub more_between : {B : ℕ} (K n : ℕ) (c : ℕ → ℕ → Fraction) (xs ys : List (List (Iv B))) (g : List (Iv B))
+    → ys ≡ xs ++ g ∷ [] → length xs ≡ n → AreBetween K c xs → Between K g (c n) → AreBetween K c ys
+more_between {B} K n c xs ys g e many before here i inside = elim (cases_lt i n) [
   | inl less ↦ rw (e, get_or_append_left xs (g ∷ []) [] i (omega (arith, many, less)))
       (before i (omega (arith, many, less)))
   | inr past ↦
@@ -41,7 +33,7 @@ more_powers {B} K n f xs ys g e many before here i inside = elim (cases_lt i n) 
       rw (e, ← at, ← many, get_or-append_seam xs g [] [], many) here
 ]
 
--- no claim, and one claim
+-- no claim
 pub no_claim : {B : ℕ} (g : List (Iv B)) (K : ℕ) (f : ℕ → Fraction) → ((x : ℕ) → low_at g x ≡ all_at_zero (2 ^ B) x)
     → ((x : ℕ) → high_at g x ≡ all_at_zero (2 ^ B) x)
     → Between K g (power f 0)
@@ -54,14 +46,6 @@ no_claim {B} g K f low high = record {
     surely : (s : ℕ) → all_at_zero (2 ^ B) s over 2 ^ B ≡ at_zero s
     surely zero = over_same _ _ 1 1 (pow_pos B) one_pos (omega arith)
     surely (suc s) = over_same _ _ 0 1 (pow_pos B) one_pos (omega arith)
-
-pub one_claim : {B : ℕ} (base g : List (Iv B)) (K : ℕ) (f : ℕ → Fraction) → g ≡ take K base → Between K base f
-    → Between K g (power f 1)
-one_claim {B} base g K f is of_f =
-    rw (is, power_one f) (record {
-      low = λ s inside. rw (low_take base K s inside) (of_f.low s inside);
-      high = λ s inside. rw (high_take base K s inside) (of_f.high s inside);
-    })
 
 -- the product of two powers
 pub joined_powers : {B : ℕ} (a b g : List (Iv B)) (K m n k : ℕ) (f : ℕ → Fraction) → m + n ≡ k → IsWithinOne f
@@ -77,16 +61,21 @@ joined_powers {B} a b g K m n k f sum q low high of_a of_b =
     (λ s. subst (λ c. c s ≤ℚ whole 1) (sym same) (le_trans _ _ _ (item_le_sum s (power f k)) (power_within_one f q k s))) low high)
 
 -- lists of grids as a loop makes them
-pub no_powers : {B : ℕ} (K : ℕ) (f : ℕ → Fraction) (grids : List (List (Iv B))) → grids ≡ [] → ArePowers K f grids
-no_powers K f grids e n inside = absurd (omega (arith, inside, ap length e))
+pub none_between : {B : ℕ} (K : ℕ) (c : ℕ → ℕ → Fraction) (grids : List (List (Iv B))) → grids ≡ []
+    → AreBetween K c grids
+none_between K c grids e n inside = absurd (omega (arith, inside, ap length e))
 
-pub no_grids : {B : ℕ} (grids : List (List (Iv B))) (K : ℕ) → grids ≡ [] → All (λ t. length t ≡ K) grids
+pub no_grids : {B : ℕ} (grids : List (List (Iv B))) (K : ℕ) → grids ≡ [] → All (λ t. length t ≤ K) grids
 no_grids grids K e n d inside = absurd (omega (arith, inside, ap length e))
 
 pub all_more : {B : ℕ} (xs ys : List (List (Iv B))) (g : List (Iv B)) (K : ℕ) → ys ≡ xs ++ g ∷ []
-    → All (λ t. length t ≡ K) xs → length g ≡ K → All (λ t. length t ≡ K) ys
-all_more xs ys g K e before here = subst (All (λ t. length t ≡ K)) (sym e)
-    (All-push (λ t. length t ≡ K) xs g before here)
+    → All (λ t. length t ≤ K) xs → length g ≤ K → All (λ t. length t ≤ K) ys
+all_more xs ys g K e before here = subst (All (λ t. length t ≤ K)) (sym e)
+    (All-push (λ t. length t ≤ K) xs g before here)
+
+pub few_in : {B : ℕ} {xs ys : List (List (Iv B))} {K : ℕ} → xs ≡ ys → All (λ t. length t ≤ K) ys
+    → All (λ t. length t ≤ K) xs
+few_in {K = K} e = subst (All (λ t. length t ≤ K)) (sym e)
 
 pub next_at : {B : ℕ} (K : ℕ) (f : ℕ → Fraction) (xs ys : List (List (Iv B))) (g : List (Iv B)) → xs ≡ ys
     → (ArePowers K f xs → Between K g (power f (length xs)))

@@ -1,4 +1,4 @@
--- One step of Horner's rule in blocks, on grids.
+-- A block of counts and the counts after it, on grids.
 use Rattle.dl_power.proofs.Common.{ℕ, suc, ◌≡◌, ◌+◌, ◌*◌, ◌/◌, ◌^◌, ◌<◌, ◌≤◌, List, length, get_or, arith, refl, sym, ◌∙◌, min, div_ceil, pow_pos, Fraction, whole, ◌+ℚ◌, ◌≤ℚ◌, le_trans, le_of_eq, Iv, low_at, high_at, AreEnds, IsGridSize, count_pairs, low_le_high, convolve, power, cell_from, LieBetween, Between, le_plus, plus_comm, IsStep}
 use Rattle.dl_power.proofs.EndLists.{made_ends}
 use Rattle.dl_power.proofs.GiantSteps.{block_next}
@@ -34,12 +34,19 @@ module _ {B : ℕ} (block step later moved : List (Iv B)) (lows highs : List ℕ
       p.of_step p.of_later less moved_low moved_high)
       p.of_block all one low high
 
-  pub step_ends : IsGridSize B K → length lows ≡ K → length highs ≡ K
+  pub step_ends : (L : ℕ) → L ≤ K → IsGridSize B L → length lows ≡ L → length highs ≡ L
       → (w f : ℕ → Fraction) (k m n : ℕ) → IsStep K w f k m n block step later → AreEnds B lows highs
-  step_ends size many many' w f k m n p =
-      made_ends B K lows highs (λ x. get_or lows x 0) (λ x. get_or highs x 0) size many many'
+  step_ends L within size many many' w f k m n p =
+      made_ends B L lows highs (λ x. get_or lows x 0) (λ x. get_or highs x 0) size many many'
       (λ x b. refl) (λ x b. refl)
-      (λ x b. omega (arith, low x b, high x b, low_le_high moved x, low_le_high block x))
-      (λ x b. omega (arith, high x b))
-      (mass_within (2 ^ B) (pow_pos B) K (λ x. get_or lows x 0) (λ s. cell_from w f k s (suc m + n))
-      (cells_within_one w f p.counts p.amounts k (suc m + n)) (λ s b. (step_between w f k m n p).low s b))
+      (λ x b. omega (
+        arith,
+        low x (omega arith),
+        high x (omega arith),
+        low_le_high moved x,
+        low_le_high block x,
+      ))
+      (λ x b. omega (arith, high x (omega arith)))
+      (mass_within (2 ^ B) (pow_pos B) L (λ x. get_or lows x 0) (λ s. cell_from w f k s (suc m + n))
+      (cells_within_one w f p.counts p.amounts k (suc m + n))
+      (λ s b. (step_between w f k m n p).low s (omega arith)))

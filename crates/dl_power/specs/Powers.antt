@@ -26,17 +26,35 @@ pub record LieBetween (S K : ℕ) (lo hi : ℕ → ℕ) (c : ℕ → Fraction) :
 abbrev pub Between : {B : ℕ} → ℕ → List (Iv B) → (ℕ → Fraction) → Type 0
 Between {B} K grid c = LieBetween (2 ^ B) K (low_at grid) (high_at grid) c
 
+-- between the ends of each grid of a list lies its own of many sequences
+abbrev pub AreBetween : {B : ℕ} → ℕ → (ℕ → ℕ → Fraction) → List (List (Iv B)) → Type 0
+AreBetween K c grids = (n : ℕ) → n < length grids → Between K (get_or grids n []) (c n)
+
 -- grids of no claim, of one claim, of two claims and so on: the powers of f lie between their ends
 abbrev pub ArePowers : {B : ℕ} → ℕ → (ℕ → Fraction) → List (List (Iv B)) → Type 0
-ArePowers K f grids = (n : ℕ) → n < length grids → Between K (get_or grids n []) (power f n)
+ArePowers K f grids = AreBetween K (power f) grids
 
 -- the sum of the grids' ends at one place, each times its weight
 abbrev pub mixture_end : {B : ℕ} → List ℕ → List (List (Iv B)) → (List (Iv B) → ℕ) → ℕ
 mixture_end weights grids end = sum_by (λ pair. pair.0 * end pair.1) (zip weights grids)
 
--- one step of Horner's rule: between the ends of three grids lie what the counts from k to k + m
--- come to, m + 1 claims, and what the n + 1 counts after them come to, each without m + 1 of its
--- claims; all of them are probabilities
+-- grids of equal blocks of counts, m + 1 counts to a block: between the ends of grid i lies what the
+-- counts from i * (m + 1) to i * (m + 1) + m come to, each without i * (m + 1) of its claims
+abbrev pub AreParts : {B : ℕ} → ℕ → (w f : ℕ → Fraction) → ℕ → List (List (Iv B)) → Type 0
+AreParts K w f m parts = AreBetween K (λ i s. cell_from w f (i * suc m) s m) parts
+
+-- such blocks, and the grid of m + 1 claims, by which two neighbours are joined; all of them are
+-- probabilities
+pub record ArePairable {B : ℕ} (K : ℕ) (w f : ℕ → Fraction) (m : ℕ) (parts : List (List (Iv B)))
+    (step : List (Iv B)) : Type 0 where
+  pub counts : IsWithinOne w
+  pub amounts : IsWithinOne f
+  pub of_parts : AreParts K w f m parts
+  pub of_step : Between K step (power f (suc m))
+
+-- a block of counts and those after it: between the ends of three grids lie what the counts from k
+-- to k + m come to, m + 1 claims, and what the n + 1 counts after them come to, each without m + 1
+-- of its claims; all of them are probabilities
 pub record IsStep {B : ℕ} (K : ℕ) (w f : ℕ → Fraction) (k m n : ℕ)
     (block step later : List (Iv B)) : Type 0 where
   pub counts : IsWithinOne w

@@ -8,7 +8,8 @@ ghost use Rattle.dl_grid.specs.Width.{convolution_spread, mixed_spread};
 ghost use Rattle.dl_plan.specs.Weighted.{weight_at, weight_sum, greatest};
 ghost use Rattle.dl_power.specs.Powers.{EnclosesListed};
 
-use crate::blocks::by_blocks;
+use crate::halves::by_halves;
+use crate::listed::Listed;
 use crate::powers::power_with;
 use crate::shares::{greatest_of, share, weight_of};
 use crate::widths::spread_of_counts;
@@ -86,20 +87,20 @@ fn share_of<const B: u32>(table: &[Item], count: u32, total: u32) -> Iv<B>
 fn by_horner<const B: u32>(
     alloc: Global,
     work: &mut Workspace,
-    base: &Grid<B>,
-    table: &[Item],
-    total: u32,
-    cells: u32,
+    listed: Listed<B>,
 ) -> Result<Grid<B>, AllocError>
-    requires sum { weight_sum table.now ≡ total }
-    requires positive { 0 < total }
-    requires some { 1 ≤ cells }
-    requires within { cells ≤ length base.now }
-    ensures cells { IfOk result (λ g. length g ≡ cells) }
-    ensures encloses { IfOk result (λ g. EnclosesListed base.now table.now g) }
-    ensures spread { IfOk result (λ g. spread g ≤ mixed_spread (2 ^ B) cells (spread base.now)
-        (greatest table.now)) }
+    ensures cells { IfOk result (λ g. length g ≡ listed.entry.cells) }
+    ensures encloses { IfOk result (λ g.
+        EnclosesListed listed.entry.base.now listed.entry.table.now g) }
+    ensures spread { IfOk result (λ g. spread g ≤ mixed_spread (2 ^ B) listed.entry.cells
+        (spread listed.entry.base.now) (greatest listed.entry.table.now)) }
 {
+    let Listed {
+        base,
+        table,
+        total,
+        cells,
+    } = listed;
     base.cells();
     let greatest = greatest_of(table);
     let mut grid = empty_grid(alloc, cells)?;
@@ -112,27 +113,26 @@ fn by_horner<const B: u32>(
     Ok(grid)
 }
 
-/// The sum of a listed number of claims by fewer products: where one number is listed it is a
-/// power.
+/// The sum of a listed number of claims by halves; where one number is listed it is a power.
 fn by_fewer<const B: u32>(
     alloc: Global,
     work: &mut Workspace,
-    base: &Grid<B>,
-    table: &[Item],
-    total: u32,
-    cells: u32,
+    listed: Listed<B>,
 ) -> Result<Grid<B>, AllocError>
-    requires sum { weight_sum table.now ≡ total }
-    requires positive { 0 < total }
-    requires some { 1 ≤ cells }
-    requires within { cells ≤ length base.now }
-    ensures cells { IfOk result (λ g. length g ≡ cells) }
-    ensures encloses { IfOk result (λ g. EnclosesListed base.now table.now g) }
+    ensures cells { IfOk result (λ g. length g ≡ listed.entry.cells) }
+    ensures encloses { IfOk result (λ g.
+        EnclosesListed listed.entry.base.now listed.entry.table.now g) }
 {
-    if table.len() == 1 {
-        return power_with(alloc, work, base, table[0].amount, cells);
+    if listed.table.len() == 1 {
+        return power_with(
+            alloc,
+            work,
+            listed.base,
+            listed.table[0].amount,
+            listed.cells,
+        );
     }
-    by_blocks(alloc, work, base, table, total, cells)
+    by_halves(alloc, work, listed)
 }
 
 /// The first `cells` cells of the sum of a listed number of claims: `table` has the numbers of
@@ -156,8 +156,8 @@ pub fn mix_counts<const B: u32>(
     mix_counts_with(alloc, &mut Workspace::new(alloc), base, table, total, cells)
 }
 
-/// The same sum, by products in a workspace that is lent: by as few as there can be; where that
-/// comes out wider than by Horner's rule it may be, by Horner's rule.
+/// The same sum, by products in a workspace that is lent: by halves; where that comes out wider than
+/// by Horner's rule it may be, by Horner's rule.
 pub fn mix_counts_with<const B: u32>(
     alloc: Global,
     work: &mut Workspace,
@@ -175,11 +175,17 @@ pub fn mix_counts_with<const B: u32>(
     ensures spread { IfOk result (λ g. spread g ≤ mixed_spread (2 ^ B) cells (spread base.now)
         (greatest table.now)) }
 {
-    let grid = by_fewer(alloc, work, base, table, total, cells)?;
+    let listed = Listed {
+        base,
+        table,
+        total,
+        cells,
+    };
+    let grid = by_fewer(alloc, work, listed)?;
     if let Some(most) = spread_of_counts::<B>(base.spread(), greatest_of(table), cells) {
         if grid.spread() <= most {
             return Ok(grid);
         }
     }
-    by_horner(alloc, work, base, table, total, cells)
+    by_horner(alloc, work, listed)
 }

@@ -6,9 +6,12 @@
 mod blocks;
 mod claims;
 mod counts;
+mod halves;
+mod listed;
 mod mixture;
 mod powers;
 mod shares;
+mod short;
 mod widths;
 
 pub use claims::claim_grid;

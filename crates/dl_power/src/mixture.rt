@@ -1,5 +1,5 @@
 //! A mixture of grids: the ends of each cell, each times its grid's weight, over the total of the
-//! weights.
+//! weights. Past its last cell a grid has the ends 0.
 
 ghost use Rattle.std.specs.Prelude.{◌≡◌, ℕ, ◌+◌, ◌-◌, ◌*◌, ◌/◌, ◌^◌, ◌<◌, ◌≤◌, length, get_or, All, IfOk};
 ghost use Rattle.std.specs.Int.{div_ceil};
@@ -13,6 +13,7 @@ ghost use Rattle.dl_plan.specs.Weighted.{weight_at, weight_sum};
 ghost use Rattle.dl_power.specs.Powers.{Between, ArePowers, mixture_end};
 
 use crate::shares::weight_of;
+use crate::short::end_at;
 use dl_grid::{Grid, units_of_one};
 use dl_plan::Item;
 use std::alloc::{AllocError, Global};
@@ -43,7 +44,6 @@ fn sums_at<const B: u32>(weights: &[u32], grids: &[Grid<B>], x: usize) -> (u128,
     requires scale { B ≤ 56 }
     requires as_many { length weights.now ≡ length grids.now }
     requires few { length grids.now < 2 ^ 32 }
-    requires inside { All (λ g. x < length g) grids.now }
     ensures low { result.0 ≡ mixture_end weights.now grids.now (λ g. low_at g x) }
     ensures high { result.1 ≡ mixture_end weights.now grids.now (λ g. high_at g x) }
     ensures small { result.1 ≤ 2 ^ 120 }
@@ -53,8 +53,8 @@ fn sums_at<const B: u32>(weights: &[u32], grids: &[Grid<B>], x: usize) -> (u128,
     for i in 0..grids.len() {
         let grid = &grids[i];
         let weight = u128::from(weights[i]);
-        low += weight * grid.lows()[x];
-        high += weight * grid.highs()[x];
+        low += weight * end_at(grid.lows(), x);
+        high += weight * end_at(grid.highs(), x);
     }
     (low, high)
 }
@@ -65,7 +65,6 @@ fn ends_at<const B: u32>(weights: &[u32], grids: &[Grid<B>], x: usize, total: u3
     requires scale { B ≤ 56 }
     requires as_many { length weights.now ≡ length grids.now }
     requires few { length grids.now < 2 ^ 32 }
-    requires inside { All (λ g. x < length g) grids.now }
     requires positive { 0 < total }
     ensures low { result.0 ≡ mixture_end weights.now grids.now (λ g. low_at g x) / total }
     ensures high { result.1
@@ -76,8 +75,21 @@ fn ends_at<const B: u32>(weights: &[u32], grids: &[Grid<B>], x: usize, total: u3
     (low / total, high.div_ceil(total))
 }
 
+/// The number of cells of the longest grid, at least 1.
+fn longest<const B: u32>(grids: &[Grid<B>]) -> u32
+    ensures some { 1 ≤ result }
+    ensures within { All (λ g. length g ≤ result) grids.now }
+    ensures least { (n : ℕ) → 1 ≤ n → All (λ g. length g ≤ n) grids.now → result ≤ n }
+{
+    let mut most = 1;
+    for grid in grids {
+        most = most.max(grid.cells());
+    }
+    most
+}
+
 /// The counts from `first` on, as many as there are powers: of each its power, times its weight
-/// over the total. The cells are rounded once.
+/// over the total. The cells are rounded once. The grid is as long as the longest power.
 pub(crate) fn block<const B: u32>(
     alloc: Global,
     powers: &[Grid<B>],
@@ -92,9 +104,9 @@ pub(crate) fn block<const B: u32>(
     requires one { 1 ≤ length powers.now }
     requires most { length powers.now < 2 ^ 32 }
     requires near { first < 2 ^ 33 }
-    requires same { All (λ g. length g ≡ cells) powers.now }
+    requires few { All (λ g. length g ≤ cells) powers.now }
     requires powers { (f : ℕ → Fraction) × IsWithinOne f × ArePowers cells f powers.now }
-    ensures cells { IfOk result (λ g. length g ≡ cells) }
+    ensures few { IfOk result (λ g. length g ≤ cells) }
     ensures between { IfOk result (λ g. (f : ℕ → Fraction) → IsWithinOne f
         → ArePowers cells f powers.now
         → Between cells g (λ s. cell_from (probability_at table.now) f first s
@@ -102,9 +114,10 @@ pub(crate) fn block<const B: u32>(
 {
     let weights = weights_from(alloc, table, first, powers.len())?;
     let one = units_of_one(B);
-    let mut lows = Vec::with_capacity(alloc, cells as usize)?;
-    let mut highs = Vec::with_capacity(alloc, cells as usize)?;
-    for x in 0..cells as usize {
+    let long = longest(powers) as usize;
+    let mut lows = Vec::with_capacity(alloc, long)?;
+    let mut highs = Vec::with_capacity(alloc, long)?;
+    for x in 0..long {
         let (low, high) = ends_at(weights.as_slice(), powers, x, total);
         lows.push(one.min(low))?;
         highs.push(one.min(high))?;

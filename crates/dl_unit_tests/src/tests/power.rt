@@ -96,11 +96,11 @@ const AT_48: Sums = Sums {
         lows: [
             93824992236885,
             15637498706147,
-            18243748490505,
+            18243748490504,
             20849998274862,
             23456248059220,
             26062497843578,
-            28668747627936,
+            28668747627935,
             15637498706146,
             13031248921788,
             10424999137431,
@@ -111,11 +111,11 @@ const AT_48: Sums = Sums {
         highs: [
             93824992236886,
             15637498706148,
-            18243748490506,
-            20849998274864,
-            23456248059222,
-            26062497843580,
-            28668747627938,
+            18243748490507,
+            20849998274865,
+            23456248059223,
+            26062497843581,
+            28668747627939,
             15637498706149,
             13031248921791,
             10424999137433,
@@ -123,7 +123,7 @@ const AT_48: Sums = Sums {
             5212499568717,
             2606249784359,
         ],
-        spread: 25,
+        spread: 32,
     },
 };
 
@@ -197,14 +197,14 @@ const AT_56: Sums = Sums {
     mixed: Ends {
         lows: [
             24019198012642645,
-            4003199668773773,
+            4003199668773774,
             4670399613569402,
             5337599558365031,
             6004799503160660,
             6671999447956289,
-            7339199392751917,
-            4003199668773772,
-            3335999723978143,
+            7339199392751918,
+            4003199668773773,
+            3335999723978144,
             2668799779182515,
             2001599834386886,
             1334399889591257,
@@ -213,19 +213,19 @@ const AT_56: Sums = Sums {
         highs: [
             24019198012642646,
             4003199668773775,
-            4670399613569404,
-            5337599558365033,
+            4670399613569405,
+            5337599558365034,
             6004799503160663,
             6671999447956292,
             7339199392751921,
-            4003199668773776,
+            4003199668773775,
             3335999723978146,
             2668799779182517,
             2001599834386888,
             1334399889591259,
             667199944795630,
         ],
-        spread: 32,
+        spread: 29,
     },
 };
 
@@ -242,7 +242,7 @@ fn die<const B: u32>(alloc: Global, cells: u32) -> Result<Grid<B>, AllocError>
     requires scale_above { 1 ≤ B }
     requires scale_below { B ≤ 56 }
     requires some { 1 ≤ cells }
-    requires few { cells ≤ 49 }
+    requires few { cells ≤ 1537 }
     ensures { IfOk result (λ g. length g ≡ cells) }
 {
     claim_grid::<B>(alloc, &DIE, 6, cells)
@@ -257,12 +257,14 @@ fn item(amount: u32, weight: u32) -> Item
 }
 
 /// The sum of so many dice.
-fn sum_of<const B: u32>(alloc: Global, dice: u32) -> Result<Grid<B>, AllocError>
+fn sum_of<const B: u32>(alloc: Global, dice: u32, cells: u32) -> Result<Grid<B>, AllocError>
     requires scale_above { 1 ≤ B }
     requires scale_below { B ≤ 56 }
+    requires some { 1 ≤ cells }
+    requires few { cells ≤ 1537 }
 {
-    let die = die::<B>(alloc, 13)?;
-    power(alloc, &die, dice, 13)
+    let die = die::<B>(alloc, cells)?;
+    power(alloc, &die, dice, cells)
 }
 
 /// Whether the sum of so many dice has the ends that were worked out.
@@ -270,7 +272,7 @@ fn is_sum<const B: u32>(alloc: Global, dice: u32, want: &Ends) -> Result<bool, A
     requires scale_above { 1 ≤ B }
     requires scale_below { B ≤ 56 }
 {
-    let sum = sum_of::<B>(alloc, dice)?;
+    let sum = sum_of::<B>(alloc, dice, 13)?;
     Ok(has(&sum, want))
 }
 
@@ -314,14 +316,14 @@ const COUNTED: [(u32, u128, u128); 7] = [
     (48, 5362653877, 5362653878),
 ];
 
-/// The sum of counts that take three blocks.
+/// The sum of counts that take two blocks.
 fn in_blocks(alloc: Global) -> Result<Grid<56>, AllocError> {
     let counts = [item(0, 1), item(3, 2), item(4, 1), item(5, 3), item(8, 1)];
     let die = die::<56>(alloc, 49)?;
     mix_counts(alloc, &die, &counts, 8, 49)
 }
 
-/// Whether the cells of counts that take three blocks hold what was worked out.
+/// Whether the cells of counts that take two blocks hold what was worked out.
 fn are_held(alloc: Global) -> Result<bool, AllocError> {
     let sum = in_blocks(alloc)?;
     let mut held = sum.cells() == 49 && sum.spread() <= 857;
@@ -337,5 +339,83 @@ fn are_held(alloc: Global) -> Result<bool, AllocError> {
 #[test]
 fn counts_in_blocks(rt: HostRuntime) -> Result<(), AllocError> {
     assert!(rt; are_held(rt.alloc())?);
+    Ok(())
+}
+
+/// Cells of none, 16, 17, 100, 255 or 256 dice, with the weights 1, 2, 1, 2, 1 and 1, as above.
+const PAIRED: [(u32, u128, u128); 9] = [
+    (0, 9007199254740992, 9007199254740992),
+    (16, 6385, 6386),
+    (56, 1490312180026016, 1490312180026017),
+    (60, 1387369306112766, 1387369306112767),
+    (350, 420142719040072, 420142719040073),
+    (700, 1776, 1777),
+    (890, 259427182031004, 259427182031005),
+    (1000, 145567011074, 145567011075),
+    (1100, 75, 76),
+];
+
+/// The sum of counts that take 16 blocks of 17 counts: the first and the last of a block, and one
+/// alone in the last block.
+fn by_halves(alloc: Global) -> Result<Grid<56>, AllocError> {
+    let counts = [
+        item(0, 1),
+        item(16, 2),
+        item(17, 1),
+        item(100, 2),
+        item(255, 1),
+        item(256, 1),
+    ];
+    let die = die::<56>(alloc, 1537)?;
+    mix_counts(alloc, &die, &counts, 8, 1537)
+}
+
+/// Whether the cells of counts that take 16 blocks hold what was worked out, as closely as whole
+/// numbers of any size say of the same way.
+fn are_close(alloc: Global) -> Result<bool, AllocError> {
+    let sum = by_halves(alloc)?;
+    let mut held = sum.cells() == 1537 && sum.spread() == 6489;
+    for (x, floor, ceiling) in PAIRED {
+        if x < sum.cells() {
+            let cell = sum.at(x);
+            held = held && cell.lo <= floor && ceiling <= cell.hi;
+        }
+    }
+    Ok(held)
+}
+
+#[test]
+fn counts_by_halves(rt: HostRuntime) -> Result<(), AllocError> {
+    assert!(rt; are_close(rt.alloc())?);
+    Ok(())
+}
+
+/// The sum of none, 16 or 100 dice, with the weights 1, 2 and 1.
+fn some_dice(alloc: Global) -> Result<Grid<56>, AllocError> {
+    let counts = [item(0, 1), item(16, 2), item(100, 1)];
+    let die = die::<56>(alloc, 601)?;
+    mix_counts(alloc, &die, &counts, 4, 601)
+}
+
+/// Whether the sum of none, 16 or 100 dice meets the mixture of its powers in each cell past 0.
+fn meets_powers(alloc: Global) -> Result<bool, AllocError> {
+    let sum = some_dice(alloc)?;
+    let few = sum_of::<56>(alloc, 16, 601)?;
+    let many = sum_of::<56>(alloc, 100, 601)?;
+    let mut meets = sum.cells() == few.cells() && sum.cells() == many.cells();
+    for x in 1..601 {
+        if x < sum.cells() && x < few.cells() && x < many.cells() {
+            let cell = sum.at(x);
+            let (one, other) = (few.at(x), many.at(x));
+            meets = meets && 4 * cell.lo <= 2 * one.hi + other.hi;
+            meets = meets && 2 * one.lo + other.lo <= 4 * cell.hi;
+        }
+    }
+    Ok(meets)
+}
+
+#[test]
+fn counts_beside_powers(rt: HostRuntime) -> Result<(), AllocError> {
+    assert!(rt; meets_powers(rt.alloc())?);
     Ok(())
 }

@@ -1,6 +1,7 @@
-use Rattle.dl_power.proofs.Common.{ℕ, ◌≡◌, ◌/◌, ◌^◌, arith, ap, ap₂, ◌∙◌, min, div_ceil, low_at, high_at, mixture_end}
+use Rattle.dl_power.proofs.Common.{ℕ, ◌≡◌, ◌/◌, ◌^◌, ◌≤◌, length, arith, ap, ap₂, ◌∙◌, min, div_ceil, low_at, high_at, mixture_end, size_within}
+use Rattle.dl_grid.proofs.EndLists.{low_ends_long}
 use Rattle.dl_power.proofs.EndLists.{one_more_item}
-use Rattle.dl_power.proofs.BlockGrids.{as_made, mixture_between, mixture_ends}
+use Rattle.dl_power.proofs.BlockGrids.{as_made, mixed_lists, mixture_between, mixture_ends}
 use Rattle.dl_power.proofs.mixture.block.Goals as goal
 
 pub loop-x-preserved : goal.loop-x-preserved
@@ -26,23 +27,43 @@ loop-x-preserved g c =
 
 pub from_ends-requires : goal.from_ends-requires
 from_ends-requires g c =
-    let all : c.loop-x.x ≡ c.args.cells = omega arith in (
+    let weights = c.in_ok-weights.weights.items in
+    let long : ℕ = c.longest-long.result in
+    let lows : length c.loop-x.lows.items ≡ long = omega (arith, c.loop-x.invariant.lows) in
+    let highs : length c.loop-x.highs.items ≡ long = omega (arith, c.loop-x.invariant.highs) in
+    let within : long ≤ c.args.cells = c.longest-long.ensures.least c.args.cells (omega (arith, c.requires.size.some))
+    c.requires.few in
+    let mixed = mixed_lists weights c.args.powers.now c.args.total c.loop-x.lows.items c.loop-x.highs.items long
+    c.requires.positive c.in_ok-weights.ensures.many lows highs c.longest-long.ensures.within
+    (λ x b. c.loop-x.invariant.low x (omega arith)) (λ x b. c.loop-x.invariant.high x (omega arith)) in (
       omega arith,
-      mixture_ends c.args.powers.now c.in_ok-weights.weights.items c.loop-x.lows.items c.loop-x.highs.items
-          c.args.table.now c.args.total c.args.first c.args.cells
-          c.requires.positive c.requires.sum c.requires.one c.in_ok-weights.ensures.many c.in_ok-weights.ensures.each
-          (λ x b. c.loop-x.invariant.low x (omega arith)) (λ x b. c.loop-x.invariant.high x (omega arith))
-          c.requires.size
-          (omega (arith, c.loop-x.invariant.lows)) (omega (arith, c.loop-x.invariant.highs))
+      mixture_ends c.args.powers.now weights c.loop-x.lows.items c.loop-x.highs.items c.args.table.now c.args.total
+          c.args.first c.requires.positive c.requires.sum c.requires.one c.in_ok-weights.ensures.many
+          c.in_ok-weights.ensures.each mixed c.args.cells long within
+          (size_within c.requires.size c.longest-long.ensures.some within) lows highs
           c.requires.powers.0 c.requires.powers.1 c.requires.powers.2,
+    )
+
+pub returns-clause-few : goal.returns-clause-few
+returns-clause-few g c =
+    omega (
+      arith,
+      low_ends_long c.from_ends.result,
+      ap length c.from_ends.ensures.low,
+      c.loop-x.invariant.lows,
+      c.longest-long.ensures.least c.args.cells (omega (arith, c.requires.size.some)) c.requires.few,
     )
 
 pub returns-clause-between : goal.returns-clause-between
 returns-clause-between g c f q of_f =
-    let all : c.loop-x.x ≡ c.args.cells = omega arith in
+    let weights = c.in_ok-weights.weights.items in
+    let lows : length c.loop-x.lows.items ≡ c.longest-long.result = omega (arith, c.loop-x.invariant.lows) in
+    let highs : length c.loop-x.highs.items ≡ c.longest-long.result = omega (arith, c.loop-x.invariant.highs) in
+    let mixed = mixed_lists weights c.args.powers.now c.args.total c.loop-x.lows.items c.loop-x.highs.items _
+    c.requires.positive c.in_ok-weights.ensures.many lows highs c.longest-long.ensures.within
+    (λ x b. c.loop-x.invariant.low x (omega arith)) (λ x b. c.loop-x.invariant.high x (omega arith)) in
     as_made c.from_ends.result c.loop-x.lows.items c.loop-x.highs.items c.args.cells _ c.from_ends.ensures.low
     c.from_ends.ensures.high
-    (mixture_between c.args.powers.now c.in_ok-weights.weights.items c.loop-x.lows.items c.loop-x.highs.items
-    c.args.table.now c.args.total c.args.first c.args.cells
-    c.requires.positive c.requires.sum c.requires.one c.in_ok-weights.ensures.many c.in_ok-weights.ensures.each
-    (λ x b. c.loop-x.invariant.low x (omega arith)) (λ x b. c.loop-x.invariant.high x (omega arith)) f q of_f)
+    (mixture_between c.args.powers.now weights c.loop-x.lows.items c.loop-x.highs.items c.args.table.now c.args.total
+    c.args.first c.requires.positive c.requires.sum c.requires.one c.in_ok-weights.ensures.many
+    c.in_ok-weights.ensures.each mixed c.args.cells f q of_f)

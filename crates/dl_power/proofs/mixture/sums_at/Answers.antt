@@ -17,23 +17,17 @@ loop-i-preserved g c =
     let inside : c.loop-i.i < length c.args.grids.now = omega arith in
     let grid = c.index-grids-i.result in
     let weight : c.from-weight.result ≡ get_or c.args.weights.now c.loop-i.i 0 = c.from-weight.ensures in
-    let long : x < length grid = omega (
-      arith,
-      c.requires.inside c.loop-i.i c.index-grids-i.result inside,
-      ap length c.index-grids-i.is,
-    ) in
     let few : c.from-weight.result < 2 ^ 32 = omega (arith, weight, c.type_inv.weights c.loop-i.i) in
-    let small_low = product_small c.from-weight.result (get_or c.lows.result.now x 0) few
-    (c.lows.ensures.fits x 0 (omega (arith, c.lows.ensures.cells, long))) in
-    let small = product_small c.from-weight.result (get_or c.highs.result.now x 0) few
-    (c.highs.ensures.fits x 0 (omega (arith, c.highs.ensures.cells, long))) in
+    let low = c.end_at.ensures.end ∙ c.lows.ensures.each x in
+    let high = c.end_at-in-loop-i.ensures.end ∙ c.highs.ensures.each x in
+    let small_low = product_small c.from-weight.result c.end_at.result few (c.end_at.ensures.small c.lows.ensures.fits) in
+    let small = product_small c.from-weight.result c.end_at-in-loop-i.result few
+    (c.end_at-in-loop-i.ensures.small c.highs.ensures.fits) in
     record {
       low = mixture_end_more c.args.weights.now c.args.grids.now grid c.loop-i.i c.loop-i.low c.from-weight.result
-          (get_or c.lows.result.now x 0) (λ g. low_at g x) inside c.index-grids-i.is weight
-          (c.lows.ensures.each x) c.loop-i.invariant.low;
+          c.end_at.result (λ g. low_at g x) inside c.index-grids-i.is weight low c.loop-i.invariant.low;
       high = mixture_end_more c.args.weights.now c.args.grids.now grid c.loop-i.i c.loop-i.high c.from-weight.result
-          (get_or c.highs.result.now x 0) (λ g. high_at g x) inside c.index-grids-i.is weight
-          (c.highs.ensures.each x) c.loop-i.invariant.high;
+          c.end_at-in-loop-i.result (λ g. high_at g x) inside c.index-grids-i.is weight high c.loop-i.invariant.high;
       small_low = omega (arith, c.loop-i.invariant.small_low, small_low);
       small = omega (arith, c.loop-i.invariant.small, small);
     }

@@ -1,5 +1,5 @@
 use Rattle.dl_power.proofs.Common.{ℕ, ◌≡◌, ◌+◌, ◌<◌, length, get_or, min}
-use Rattle.dl_power.proofs.blocks.added.Given as goal
+use Rattle.dl_power.proofs.halves.added.Given as goal
 
 abbrev pub invariant-loop-x : goal.invariant-loop-x
 invariant-loop-x l = record {
