@@ -1,7 +1,7 @@
 //! The nodes of the syntax, from the program down to its numerals. A span runs from the start of a
 //! node's first token to the end of its last one, and counts bytes of the text.
 
-use dl_lexer::{Items, Span, Text};
+use dl_lexer::{Items, Rare, Span, Text};
 
 /// A program: named severities, and then one unit, or a portfolio of units.
 #[derive(Drop)]
@@ -219,9 +219,9 @@ pub struct ListItem {
     /// The number, or the first of the range.
     pub from: Numeral,
     /// What the range does not pass.
-    pub to: Option<Numeral>,
+    pub to: Rare<Numeral>,
     /// What one number of the range is above the one before; where there is none it is 1.
-    pub step: Option<Numeral>,
+    pub step: Rare<Numeral>,
     /// From the first numeral to the last.
     pub span: Span,
 }

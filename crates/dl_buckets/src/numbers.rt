@@ -20,7 +20,7 @@ use crate::flaws::{Flaws, Gridded};
 use crate::places::place_if;
 use dl_ast::{ListItem, Numeral};
 use dl_frac::{Frac, lcm_to, numeral};
-use dl_lexer::Span;
+use dl_lexer::{Rare, Span};
 use dl_limits::MOST_RANGE_PARTS;
 use dl_sev::Range;
 
@@ -40,11 +40,11 @@ pub(crate) fn number(written: &Numeral) -> Gridded<Frac>
 }
 
 /// The value of a numeral, or a default where it is missing.
-fn number_or(other: Frac, part: &Option<Numeral>) -> Gridded<Frac>
+fn number_or(other: Frac, part: &Rare<Numeral>) -> Gridded<Frac>
     requires { IfSome part.now (λ n. IsNumeralToken n.text) }
     ensures { IsReadTo 1 (flaws_within flaws_of_numeral part.now) (value_or other part.now) result }
 {
-    match part {
+    match part.as_ref() {
         Some(numeral) => number(numeral),
         None => Gridded::clean(other),
     }
@@ -75,7 +75,7 @@ pub(crate) fn item_range(item: &ListItem) -> Gridded<Range>
 fn bad_range(item: &ListItem, range: &Range) -> Option<Span>
     ensures { result ≡ at_if (is_some item.now.to && is_no_range range.now) item.now.span }
 {
-    place_if(item.to.is_some() && is_no_range(range), item.span)
+    place_if(item.to.as_ref().is_some() && is_no_range(range), item.span)
 }
 
 /// The numbers go down, their step is 0, or their common denominator is above 1,000,000.

@@ -8,6 +8,7 @@ pub mod items;
 pub mod law;
 pub mod pair;
 pub mod place;
+pub mod rare;
 pub mod text;
 pub mod token;
 
@@ -15,5 +16,6 @@ pub use cut::{LexFault, lex};
 pub use items::Items;
 pub use pair::both;
 pub use place::line_col;
+pub use rare::Rare;
 pub use text::Text;
 pub use token::{Keyword, Kind, Sign, Span, Token};

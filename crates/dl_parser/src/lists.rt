@@ -1,6 +1,6 @@
 //! Lists of numbers.
 
-ghost use Rattle.std.specs.Prelude.{◌≡◌};
+ghost use Rattle.std.specs.Prelude.{◌≡◌, IfOk, IfErr};
 ghost use Rattle.dl_ast.specs.Rules.{◌▸◌, maybe};
 ghost use Rattle.dl_parser.specs.Factored.{bounds, item_of, list, step};
 ghost use Rattle.dl_parser.specs.Parsing.{ReadsBy};
@@ -9,22 +9,30 @@ use crate::cursor::Parser;
 use crate::parts::Part;
 use crate::stop::Stop;
 use dl_ast::{ListAst, ListItem, Numeral};
-use dl_lexer::{Kind, Sign, Span, both};
+use dl_lexer::{Kind, Rare, Sign, Span, both};
+use std::alloc::Global;
 
 /// The item of a number and of what follows it: the end of a range, and its step.
-fn item_of(from: Numeral, bounds: Option<(Numeral, Option<Numeral>)>, span: Span) -> ListItem
-    ensures { result ≡ item_of (from, bounds) span }
+fn item_of(
+    alloc: Global,
+    from: Numeral,
+    bounds: Option<(Numeral, Option<Numeral>)>,
+    span: Span,
+) -> Result<ListItem, Stop>
+    ensures item { IfOk result (λ item. item ≡ item_of (from, bounds) span) }
+    ensures stop { IfErr result (λ stop. stop ≡ Stop.OutOfMemory) }
 {
     let (to, step) = match bounds {
         Some((to, step)) => (Some(to), step),
         None => (None, None),
     };
-    ListItem {
+    let (to, step) = both(Rare::new(alloc, to)?, Rare::new(alloc, step))?;
+    Ok(ListItem {
         from,
         to,
         step,
         span,
-    }
+    })
 }
 
 impl<'a> Parser<'a> {
@@ -67,7 +75,7 @@ impl Part for ListItem {
     fn first(parser: &mut Parser<'_>) -> Result<ListItem, Stop> {
         let start = parser.start();
         let (from, bounds) = both(parser.numeral()?, parser.bounds())?;
-        Ok(item_of(from, bounds, parser.since(start)))
+        item_of(parser.alloc, from, bounds, parser.since(start))
     }
 
     /// `','? item`

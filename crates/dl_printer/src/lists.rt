@@ -7,17 +7,17 @@ ghost use Rattle.dl_printer.specs.Printing.{with_pieces};
 use crate::parts::Printed;
 use crate::printer::Printer;
 use dl_ast::{ListAst, ListItem, Numeral};
-use dl_lexer::Sign;
+use dl_lexer::{Rare, Sign};
 use std::alloc::AllocError;
 
 impl Printer {
     /// A numeral behind a colon, where there is one.
     #[tactic(auto, using(crate::proofs::Growing::with_append), unfolding(crate::specs::Pieces::optional, crate::specs::Printing::with_pieces))]
-    fn behind_colon(&mut self, numeral: &Option<Numeral>) -> Result<(), AllocError>
+    fn behind_colon(&mut self, numeral: &Rare<Numeral>) -> Result<(), AllocError>
         ensures { OnOk result (self.new ≡ with_pieces self.old
             (optional behind_colon numeral.now)) }
     {
-        match numeral {
+        match numeral.as_ref() {
             Some(numeral) => {
                 self.sign(Sign::Colon)?;
                 self.numeral(numeral)

@@ -2,4 +2,4 @@
 use Rattle.dl_buckets.proofs.numbers.number_or.Goals as goal
 
 pub number-requires : goal.number-requires
-number-requires c = rw c.in-Some.is at c.requires
+number-requires c = rw (← c.as_ref.ensures, c.in-Some.is) at c.requires
