@@ -14,25 +14,14 @@ agree_same [] = tt
 agree_same (x ∷ xs) = (refl, λ none. agree_same xs)
 
 pub agree_take : (k : ℕ) (xs ys : List (Option Span)) → AgreeToFirst xs ys → AgreeToFirst (take k xs) (take k ys)
-agree_take zero xs ys h = tt
-agree_take (suc k) [] [] h = tt
-agree_take (suc k) [] (y ∷ ys) h = tt
-agree_take (suc k) (x ∷ xs) [] h = tt
 agree_take (suc k) (x ∷ xs) (y ∷ ys) h = (h.0, λ none. agree_take k xs ys (h.1 none))
+agree_take k xs ys h = tt
 
 -- those of a second part are right only if the first part keeps the first k rules, of which those
 -- of the second part are right in any case
 agree_after : (k : ℕ) (xs ys us vs : List (Option Span)) → AgreeToFirst xs ys
     → AgreeToFirst (take k us) (take k vs) → (AreNone (take k ys) → AgreeToFirst us vs)
     → AgreeToFirst (zip_else xs us) (zip_else ys vs)
-agree_after k [] [] us vs h early late = tt
-agree_after k [] (y ∷ ys) us [] h early late = tt
-agree_after k [] (y ∷ ys) us (v ∷ vs) h early late = tt
-agree_after k (x ∷ xs) [] [] vs h early late = tt
-agree_after k (x ∷ xs) [] (u ∷ us) vs h early late = tt
-agree_after k (x ∷ xs) (y ∷ ys) [] [] h early late = tt
-agree_after k (x ∷ xs) (y ∷ ys) [] (v ∷ vs) h early late = tt
-agree_after k (x ∷ xs) (y ∷ ys) (u ∷ us) [] h early late = tt
 agree_after zero (x ∷ xs) (y ∷ ys) (u ∷ us) (v ∷ vs) h early late =
     let second = late tt in (
       ap₂ (λ a b. a else b) h.0 second.0,
@@ -43,6 +32,8 @@ agree_after (suc k) (x ∷ xs) (y ∷ ys) (u ∷ us) (v ∷ vs) h early late = (
   λ none. agree_after k xs ys us vs (h.1 (else_first y v none)) (early.1 (else_second y v none))
       (λ clean. (late (else_first y v none, clean)).1 (else_second y v none)),
 )
+agree_after k (x ∷ xs) [] [] vs h early late = tt
+agree_after k xs ys us vs h early late = tt
 
 pub agree_else : (xs ys us vs : List (Option Span)) → AgreeToFirst xs ys → AgreeToFirst us vs
     → AgreeToFirst (zip_else xs us) (zip_else ys vs)
@@ -51,13 +42,12 @@ agree_else xs ys us vs h second = agree_after 0 xs ys us vs h tt (λ none. secon
 -- both parts keep the first k rules where both together do
 none_both : (k : ℕ) (xs ys : List (Option Span)) → length xs ≡ length ys → AreNone (take k (zip_else xs ys))
     → AreNone (take k xs) × AreNone (take k ys)
-none_both zero xs ys e h = (tt, tt)
-none_both (suc k) [] [] e h = (tt, tt)
-none_both (suc k) [] (y ∷ ys) e h = absurd (cc)
-none_both (suc k) (x ∷ xs) [] e h = absurd (cc)
 none_both (suc k) (x ∷ xs) (y ∷ ys) e h =
     let rest = none_both k xs ys (omega (arith, e)) h.1 in
     ((else_first x y h.0, rest.0), (else_second x y h.0, rest.1))
+none_both (suc k) [] (y ∷ ys) e h = absurd (cc)
+none_both (suc k) (x ∷ xs) [] e h = absurd (cc)
+none_both k xs ys e h = (tt, tt)
 
 pub keeps_first : (k : ℕ) (f g : Flaws) → AreNone (take k (places (flaws_else f g))) → AreNone (take k (places f))
 keeps_first k f g h = (none_both k (places f) (places g) refl h).0
@@ -73,18 +63,12 @@ flaws_assoc f g h = simp else_assoc
 pub flaws_none : (f : Flaws) → flaws_else f no_flaws ≡ f
 flaws_none f = simp else_none
 
-flaws_in-append : {A : Type 0} (f : A → Flaws) (xs ys : List A)
-    → flaws_in f (xs ++ ys) ≡ flaws_else (flaws_in f xs) (flaws_in f ys)
-unfolding flaws_in
-flaws_in-append f [] ys = refl
-flaws_in-append f (x ∷ xs) ys = ap (flaws_else (f x)) (flaws_in-append f xs ys)
-    ∙ sym (flaws_assoc (f x) (flaws_in f xs) (flaws_in f ys))
-
 -- one part more
 pub flaws_more : {A : Type 0} (f : A → Flaws) (xs : List A) (x : A)
     → flaws_in f (xs ++ x ∷ []) ≡ flaws_else (flaws_in f xs) (f x)
 unfolding flaws_in
-flaws_more f xs x = flaws_in-append f xs (x ∷ []) ∙ ap (flaws_else (flaws_in f xs)) (flaws_none (f x))
+flaws_more f [] x = flaws_none (f x)
+flaws_more f (y ∷ ys) x = rw (flaws_more f ys x) (sym (flaws_assoc (f y) (flaws_in f ys) (f x)))
 
 -- ---- parts that are read
 
@@ -114,10 +98,9 @@ read_earlier false own severity is = read_both pair own severity is
 
 -- what is read is right the sooner, the more rules are kept
 none_shorter : (k m : ℕ) (xs : List (Option Span)) → k ≤ m → AreNone (take m xs) → AreNone (take k xs)
-none_shorter zero m xs le h = tt
-none_shorter (suc k) zero xs le h = absurd (omega arith)
-none_shorter (suc k) (suc m) [] le h = tt
 none_shorter (suc k) (suc m) (x ∷ xs) le h = (h.0, none_shorter k m xs (omega arith) h.1)
+none_shorter (suc k) zero xs le h = absurd (omega arith)
+none_shorter k m xs le h = tt
 
 pub read_longer : {A : Type 0} (k m : ℕ) {f : Flaws} {x : A} {a : Gridded A} → k ≤ m → IsReadTo k f x a
     → IsReadTo m f x a

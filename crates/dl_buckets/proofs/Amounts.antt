@@ -1,5 +1,5 @@
 -- An amount of money in whole buckets, and its flaws.
-use Rattle.dl_buckets.proofs.Common.{ℕ, ◌≡◌, ◌∙◌, ◌*◌, ◌/◌, ◌%◌, ◌<◌, ◌≤◌, nat_lt, not, true, false, Option, None, sym, ap, subst, arith, inl, inr, cases_lt, lt-ltb, eq-eqb, eqb-true, Fraction, whole, ◌<ℚ◌, over_lt, whole_num, Span, at_if, is_whole, is_above, not_at, not-false, number_of, IsRead, buckets, places, flaws_of_amount}
+use Rattle.dl_buckets.proofs.Common.{ℕ, ◌≡◌, ◌∙◌, ◌*◌, ◌/◌, ◌%◌, ◌<◌, ◌≤◌, nat_lt, not, true, false, Option, sym, ap, subst, arith, inl, inr, cases_lt, lt-ltb, eq-eqb, eqb-true, Fraction, whole, ◌<ℚ◌, over_lt, whole_num, Span, at_if, is_whole, is_above, not_at, not-false, number_of, IsRead, buckets, places, no_flaws, flaws_of_amount}
 use Rattle.std.proofs.Common.{min, nat_eq}
 use Rattle.std.proofs.lemmas.Bool.{ltb-true}
 use Rattle.std.specs.Cmp.{both_ways}
@@ -36,12 +36,11 @@ module _ (most : ℕ) (x bs : Fraction) (n d e m : ℕ) (h : whole 0 <ℚ bs) (p
   far : whole most <ℚ buckets bs x → e * m * most < n * d
   far above = omega (
     arith,
-    lt_over most 1 (n * d) (e * m) (omega arith) (pos x bs n d e m h pn pd pe pm)
-        (subst (λ y. whole most <ℚ y) (same x bs n d e m h pn pd pe pm) above),
+    lt_over most 1 (n * d) (e * m) (omega arith) (pos x bs n d e m h pn pd pe pm) (rw (same x bs n d e m h pn pd pe pm) at above),
   )
 
   is_far : e * m * most < n * d → whole most <ℚ buckets bs x
-  is_far more = subst (λ y. whole most <ℚ y) (sym (same x bs n d e m h pn pd pe pm))
+  is_far more = rw (same x bs n d e m h pn pd pe pm)
       (over_lt most 1 (n * d) (e * m) (omega arith) (pos x bs n d e m h pn pd pe pm) (omega (arith, more)))
 
   too_far_is : nat_lt (e * m * most) (n * d) ≡ is_above (buckets bs x) (whole most)
@@ -54,26 +53,15 @@ module _ (most : ℕ) (x bs : Fraction) (n d e m : ℕ) (h : whole 0 <ℚ bs) (p
       let k : ℕ = n * d / (e * m) in
       let value : buckets bs x ≡ whole k =
       quotient_whole x bs n d e m h pn pd pe pm (eqb-true (buckets bs x).den 1 (not-false _ on_grid)) in
-      is ∙ within_most k (not_far most k (buckets bs x) value near)
-      ∙ sym (ap (λ (y : Fraction). y.num) value ∙ whole_num k)
-    where
-      within_most : (k : ℕ) → k ≤ most → min k most ≡ k
-      within_most k h = omega (arith, h)
+      let least : min k most ≡ k = omega (arith, not_far most k (buckets bs x) value near) in
+      is ∙ least ∙ sym (ap (λ (y : Fraction). y.num) value ∙ whole_num k)
 
   pub amount_read : (place : Span) (q : ℕ) (off too : Option Span) → q ≡ min (n * d / (e * m)) most
       → off ≡ at_if (not (nat_eq (n * d % (e * m)) 0)) place → too ≡ at_if (nat_lt (e * m * most) (n * d)) place
       → IsRead (flaws_of_amount most bs x place) (number_of bs x)
       (record {
         part = q;
-        flaws = record {
-          numeral = None;
-          range = None;
-          long = None;
-          lengths = None;
-          sum = None;
-          off_grid = off;
-          too_far = too;
-        };
+        flaws = record no_flaws { off_grid = off; too_far = too };
       })
   amount_read place q off too is off_is too_is =
       let off_told : off ≡ at_if (not (is_whole (buckets bs x))) place = off_is ∙ ap (λ b. at_if b place) off_grid_is in

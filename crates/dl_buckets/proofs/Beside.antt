@@ -1,5 +1,5 @@
 -- Probabilities beside values, of which there must be as many.
-use Rattle.dl_buckets.proofs.Common.{ℕ, ◌≡◌, ◌∙◌, List, take, length, Option, Some, None, refl, ap, arith, length-map, Fraction, ValueList, Shares, IsRead, at_if, not, ◌==◌, flaws_else, is_not_one, ListAst, Flaws, Gridded, IsReadTo, KeepsLists, places, flaws_within, lengths_at, sum_at, grid_list, grid_shares, shares_at, flaws_of_list, flaws_of_shares, flaws_beside, if_there, placed_values, values_of}
+use Rattle.dl_buckets.proofs.Common.{ℕ, ◌≡◌, List, take, length, Option, Some, None, refl, arith, length-map, Fraction, Shares, IsRead, at_if, not, ◌==◌, flaws_else, is_not_one, ListAst, Flaws, Gridded, IsReadTo, KeepsLists, places, flaws_within, lengths_at, sum_at, grid_shares, flaws_of_list, flaws_of_shares, flaws_beside, if_there, placed_values, values_of}
 use Rattle.dl_buckets.proofs.Agreeing.{read_after, read_also, keeps_first}
 
 -- the first rules do not ask how many values there are
@@ -18,27 +18,18 @@ beside_read count make probs {x = x} {a = a} first counted second is =
     read_after 3 7 (λ z. flaws_within (flaws_beside (count z)) probs) (λ z. if_there grid_shares probs) make (omega arith)
     first (same_early (count a.part) (count x) probs) (rw counted at second) is
 
--- probabilities with their weights, which are right where the values are
-pub shares_read : (l : ListAst) {a : Gridded ValueList} {values : List Fraction} {b : Gridded Shares} {all : Flaws}
-    → IsReadTo 3 (flaws_of_list l) (grid_list l) a → values ≡ a.part.values
-    → IsRead (sum_at (at_if (is_not_one values) l.span)) (shares_at values l.span) b → all ≡ flaws_else a.flaws b.flaws
-    → IsRead (flaws_of_shares l) (grid_shares l) (record { part = b.part; flaws = all })
-shares_read l listed same weighed is =
-    read_after 3 7 (λ (v : ValueList). sum_at (at_if (is_not_one v.values) l.span))
-    (λ (v : ValueList). shares_at v.values l.span) (λ v s. s) (omega arith) listed refl (rw same at weighed) is
-
 -- a list of probabilities and its length
-pub lengths_read : (count : ℕ) (l : ListAst) {n : ℕ} {a : Gridded Shares} {bad all : Flaws}
+pub lengths_read : (count : ℕ) (l : ListAst) {n : ℕ} {a : Gridded Shares} {all : Flaws}
     → IsRead (flaws_of_shares l) (grid_shares l) a → (KeepsLists (flaws_of_list l) → a.part.values ≡ values_of l)
-    → n ≡ length a.part.values → bad ≡ lengths_at (at_if (not (count == n)) l.span) → all ≡ flaws_else a.flaws bad
+    → n ≡ length a.part.values → all ≡ flaws_else a.flaws (lengths_at (at_if (not (count == n)) l.span))
     → IsRead (flaws_beside count l) (grid_shares l) (record { part = a.part; flaws = all })
-lengths_read count l {a = a} own values counted told is =
+lengths_read count l {a = a} own values counted is =
     let view : IsReadTo 3 (flaws_of_shares l) (values_of l) (record { part = a.part.values; flaws = a.flaws }) = record {
       first = own.first;
       right = λ clean. values (keeps_first 3 (flaws_of_list l) (sum_at (at_if (is_not_one (values_of l)) l.span)) clean);
     } in
     let also = read_also 3 (λ (vs : List Fraction). lengths_at (at_if (not (count == length vs)) l.span)) view refl
-    (is ∙ ap (flaws_else a.flaws) (rw counted at told)) in
+    (rw counted at is) in
     let number = length-map {B = Fraction} (placed_values l) (λ pair. pair.0) in
     record {
       first = (rw number at also).first;

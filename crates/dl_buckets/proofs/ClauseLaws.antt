@@ -1,5 +1,5 @@
 -- Layers that keep the rules make a clause where their shares are fine.
-use Rattle.dl_buckets.proofs.Common.{le-leb, Clause, or_parts, false_from_ne_true, leb-true, ◌≡◌, ◌∙◌, ℕ, zero, suc, ◌*◌, ◌^◌, ◌<◌, ◌≤◌, List, [], ◌∷◌, ◌++◌, length, map, take, get_or, Option, None, true, false, sym, ap, ap₂, subst, arith, append_assoc, mul-pos, inl, inr, Some, All, list_any, append-nil, get_or-map, length-map, length-take, All-map, list_any_at, Fraction, whole, ◌/ℚ◌, ◌≤ℚ◌, quotient_is, CedeLayer, IsFineTo30Bits, common_denominator, Overlap, IsClause, common_pos, den_divides, GridCeded, GridClause, in_turn, is_fine, is_above, share_of, shares_of, ceded_layer, clause_of, overlaps, share_exceeds, share_above_one_in, overlap_in, IsClauseLayered, else_first, else_second, none_each, not_at}
+use Rattle.dl_buckets.proofs.Common.{le-leb, Clause, or_parts, false_from_ne_true, leb-true, ◌≡◌, ◌∙◌, ℕ, zero, suc, ◌*◌, ◌^◌, ◌<◌, ◌≤◌, List, [], ◌∷◌, ◌++◌, length, map, take, get_or, Option, None, true, false, sym, ap, subst, arith, append_assoc, mul-pos, inl, inr, Some, All, list_any, append-nil, get_or-map, length-map, length-take, All-map, list_any_at, Fraction, whole, ◌/ℚ◌, ◌≤ℚ◌, quotient_is, CedeLayer, IsFineTo30Bits, common_denominator, Overlap, IsClause, common_pos, den_divides, GridCeded, GridClause, in_turn, is_fine, is_above, share_of, shares_of, ceded_layer, clause_of, overlaps, share_exceeds, share_above_one_in, overlap_in, IsClauseLayered, else_first, else_second, none_each, not_at}
 use Rattle.std.proofs.lemmas.Bool.{ltb-false}
 use Rattle.dl_plan.specs.Clause.{layer_shares}
 use Rattle.std.specs.List.{AllPairs}
@@ -10,6 +10,7 @@ use Rattle.dl_buckets.specs.Lists.{is_zero}
 use Rattle.dl_buckets.proofs.Values.{not_above, zero_above}
 use Rattle.std.specs.Prelude.{◌||◌}
 use Rattle.std.proofs.lemmas.Simd.{map-map}
+use Rattle.dl_exact.proofs.Laws.{le_refl}
 use Rattle.dl_exact.proofs.Over.{over_le}
 use Rattle.dl_frac.specs.Exact.{IsTooFine}
 use Rattle.dl_plan.proofs.Clauses.{num_le_den}
@@ -22,11 +23,8 @@ use Rattle.dl_buckets.proofs.Turns.{yes_overlap, overlap_at, share_at}
 pub one_too_fine : (xs : List Fraction) (i : ℕ) (d : Fraction) → i < length xs → 2 ^ 30 < (get_or xs i d).den
     → is_fine xs ≡ false
 one_too_fine xs i d h far = false_from_ne_true (is_fine xs)
-    (λ yes. over (get_or xs i d).den (common_denominator xs) (le_of_dvd (common_pos xs) (den_divides 1 xs i d h))
-    (leb-true (common_denominator xs) (2 ^ 30) yes) far)
-  where
-    over : (n m : ℕ) → n ≤ m → m ≤ 2 ^ 30 → 2 ^ 30 < n → ⊥
-    over n m p q r = omega (arith, p, q, r)
+    (λ yes. let le : (get_or xs i d).den ≤ common_denominator xs = le_of_dvd (common_pos xs) (den_divides 1 xs i d h) in
+    omega (arith, le, leb-true (common_denominator xs) (2 ^ 30) yes, far))
 
 -- ---- shares of at most 1
 
@@ -48,12 +46,8 @@ part_far x y h far = elim far [
   | inr den ↦ omega (arith, den)
 ]
 
-one_le : whole 1 ≤ℚ whole 1
-unfolding ◌≤ℚ◌
-one_le = omega arith
-
 share_le : (s : GridShare) → share_exceeds s ≡ false → share_of s ≤ℚ whole 1
-share_le Whole e = one_le
+share_le Whole e = le_refl (whole 1)
 share_le (So x) e = not_above x (whole 1) e
 share_le (Po x (Some n)) e = part_le x n e
 share_le (Po x None) e = absurd (cc)
@@ -122,9 +116,3 @@ module _ (c : GridClause) (layered : IsClauseLayered c) where
 
   pub no_cession : (IsClause (clause_of c) → ⊥) → is_fine (shares_of c) ≡ false
   no_cession none = false_from_ne_true (is_fine (shares_of c)) (λ fine. none (made_cession fine))
-
-pub layer_is : (l m : CedeLayer) → l.share ≡ m.share → l.limit ≡ m.limit → l.attach ≡ m.attach → l ≡ m
-layer_is l m s o a = ap₂ (λ (x : Fraction) (y : Option ℕ). make x y l.attach) s o ∙ ap (make m.share m.limit) a
-  where
-    make : Fraction → Option ℕ → ℕ → CedeLayer
-    make x y n = record { share = x; limit = y; attach = n }

@@ -30,10 +30,13 @@ clean_first f g clean = keeps_first 7 f g clean
 pub clean_second : (f g : Flaws) → IsClean (flaws_else f g) → IsClean g
 clean_second f g clean = keeps_second 7 f g clean
 
+pub clean_both : (f g : Flaws) → IsClean (flaws_else f g) → IsClean f × IsClean g
+clean_both f g clean = (keeps_first 7 f g clean, keeps_second 7 f g clean)
+
 pub clean_earlier : (named : Bool) (own severity : Flaws) → IsClean (earlier_flaws named own severity)
     → IsClean own × IsClean severity
 clean_earlier true own severity clean = (clean_second severity own clean, clean_first severity own clean)
-clean_earlier false own severity clean = (clean_first own severity clean, clean_second own severity clean)
+clean_earlier false own severity clean = clean_both own severity clean
 
 module _ {A : Type 0} (f : A → Flaws) where
   pub clean_each : (xs : List A) → IsClean (flaws_in f xs) → All (λ x. IsClean (f x)) xs

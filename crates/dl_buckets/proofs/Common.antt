@@ -29,7 +29,7 @@ pub use Rattle.dl_sev.specs.Steps.{ceded_each, layered, mixture, mixture_of, sca
 pub use Rattle.dl_sev.specs.Weighed.{IsWeighing}
 pub use Rattle.dl_sev.specs.Weighing.{sum_of}
 pub use Rattle.dl_sev.specs.declared.weights.Weights.{Weights}
-pub use Rattle.dl_buckets.proofs.Firsts.{at_item, else_or}
+pub use Rattle.dl_buckets.proofs.Firsts.{at_item}
 pub use Rattle.dl_buckets.proofs.Nothing.{else_first, else_second, none_each, not_at}
 pub use Rattle.dl_buckets.specs.First.{at_if, first_in, in_turn, within, ◌else◌}
 unfoldable pub use Rattle.dl_buckets.specs.First.{in_turn}

@@ -1,5 +1,5 @@
 -- The products of the atoms of a mixture are fine exactly where those of the text are.
-use Rattle.dl_buckets.proofs.Common.{ℕ, ◌≡◌, ◌∙◌, ◌+◌, ◌<◌, ◌^◌, ◌==◌, List, [], ◌∷◌, ◌++◌, map, true, false, le-leb, cond, sym, ap, ap₂, subst, arith, inl, inr, AllZip, All, ◌∣◌, eqb_tells, map-append, All-nil, All-head, All-tail, All-append, All-map, sum_by-cons, Fraction, whole, ◌over◌, ◌*ℚ◌, times_zero, Item, Sev, IsFineTo30Bits, common_denominator, weight_at, Pairs, probability, pairs_of, HasDistribution, den_divides, whole_den, Weights, IsWeighing, scaled, mixture_of, mixture, is_fine, shares_in_mixture}
+use Rattle.dl_buckets.proofs.Common.{refl, ℕ, ◌≡◌, ◌∙◌, ◌+◌, ◌<◌, ◌^◌, ◌==◌, List, [], ◌∷◌, ◌++◌, map, true, false, le-leb, cond, sym, ap, subst, arith, inl, inr, AllZip, All, ◌∣◌, eqb_tells, map-append, All-nil, All-head, All-tail, All-append, All-map, sum_by-cons, Fraction, whole, ◌over◌, ◌*ℚ◌, times_zero, Item, Sev, IsFineTo30Bits, common_denominator, weight_at, Pairs, probability, pairs_of, HasDistribution, den_divides, whole_den, Weights, IsWeighing, scaled, mixture_of, mixture, is_fine, shares_in_mixture}
 use Rattle.dl_plan.proofs.CommonDenominators.{common_from_divides}
 use Rattle.dl_exact.proofs.Denominators.{over_zero as zero_over}
 use Rattle.dl_plan.proofs.Means.{severity_total as total_pos}
@@ -14,23 +14,18 @@ at_weight : (Q : ℕ → Type 0) (items : List Item) → Rising items → Q 0 �
 at_weight Q [] rising none all x = none
 at_weight Q (i ∷ items) rising none all x = elim (eqb_tells i.amount x) [
   | inl same ↦
-      subst Q (sym (step ∙ ap₂ (λ b n. cond b i.weight 0 + n) same.0
-      (none_later items x (subst (λ n. All (λ (j : Item). n < j.amount) items) same.1 rising.0))
-      ∙ plus_none i.weight))
-      (All-head (λ (j : Item). Q j.weight) i items all)
+      let own : cond (i.amount == x) i.weight 0 ≡ i.weight = rw same.0 refl in
+      let past = none_later items x (subst (λ n. All (λ (j : Item). n < j.amount) items) same.1 rising.0) in
+      let all_of : weight_at (i ∷ items) x ≡ i.weight = omega (arith, step, own, past) in
+      subst Q (sym all_of) (All-head (λ (j : Item). Q j.weight) i items all)
   | inr other ↦
-      subst Q (sym (step ∙ ap (λ b. cond b i.weight 0 + weight_at items x) other.0 ∙ none_plus (weight_at items x)))
-      (at_weight Q items rising.1 none (All-tail (λ (j : Item). Q j.weight) i items all) x)
+      let apart : cond (i.amount == x) i.weight 0 ≡ 0 = rw other.0 refl in
+      let rest : weight_at (i ∷ items) x ≡ weight_at items x = omega (arith, step, apart) in
+      subst Q (sym rest) (at_weight Q items rising.1 none (All-tail (λ (j : Item). Q j.weight) i items all) x)
 ]
   where
     step : weight_at (i ∷ items) x ≡ cond (i.amount == x) i.weight 0 + weight_at items x
     step = sum_by-cons (λ (j : Item). cond (j.amount == x) j.weight 0) i items
-
-    plus_none : (n : ℕ) → n + 0 ≡ n
-    plus_none n = omega arith
-
-    none_plus : (n : ℕ) → 0 + n ≡ n
-    none_plus n = omega arith
 
 -- what holds of 0 and of each product of an atom holds of each product of what it means
 atom_back : (P : Fraction → Type 0) (w : Fraction) (sev : Sev) (ps : Pairs) → HasDistribution sev ps → P (whole 0)
@@ -45,11 +40,6 @@ atom_back P w sev ps means none all x =
 mixture_back : (P : Fraction → Type 0) (t : ℕ) (atoms : List Sev) (ws : List ℕ) (lists : List Pairs)
     → AllZip HasDistribution atoms lists → P (whole 0)
     → All P (map (λ pair. pair.1) (mixture_of t atoms ws)) → All P (shares_in_mixture (map (λ w. w over t) ws) lists)
-mixture_back P t [] [] [] means none all = All-nil P
-mixture_back P t [] (w ∷ ws) [] means none all = All-nil P
-mixture_back P t [] ws (ps ∷ lists) means none all = absurd means
-mixture_back P t (a ∷ atoms) ws [] means none all = absurd means
-mixture_back P t (a ∷ atoms) [] (ps ∷ lists) means none all = All-nil P
 mixture_back P t (a ∷ atoms) (w ∷ ws) (ps ∷ lists) means none all =
     let first : Pairs = scaled (w over t) (pairs_of a) in
     let others : Pairs = mixture_of t atoms ws in
@@ -61,6 +51,10 @@ mixture_back P t (a ∷ atoms) (w ∷ ws) (ps ∷ lists) means none all =
     (all_left P (map (λ pair. pair.1) first) (map (λ pair. pair.1) others) apart) _))
     (mixture_back P t atoms ws lists means.1 none
     (all_right P (map (λ pair. pair.1) first) (map (λ pair. pair.1) others) apart))
+mixture_back P t [] ws (ps ∷ lists) means none all = absurd means
+mixture_back P t (a ∷ atoms) ws [] means none all = absurd means
+mixture_back P t [] (w ∷ ws) [] means none all = All-nil P
+mixture_back P t atoms ws lists means none all = All-nil P
 
 module _ (atoms : List Sev) (weights : Weights) (probs : List Fraction) (lists : List Pairs)
     (is : IsWeighing probs weights) (means : AllZip HasDistribution atoms lists) where

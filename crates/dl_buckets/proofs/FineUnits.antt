@@ -1,5 +1,5 @@
 -- What a unit that keeps all rules on its severity gives.
-use Rattle.dl_buckets.proofs.Common.{leb-true, get_or, ◌≡◌, ◌^◌, ◌||◌, ◌&&◌, not, Bool, true, false, Option, Some, None, refl, sym, subst, All, IfSome, ◌≤◌, ℕ, Item, arith, length, length-map, Fraction, IsClause, IsClauseLayered, IsSevWithin, final_severity, made_of, GridSev, IsGridSev, has_atoms, has_severity, weights_of, probs_in_count, GridClause, GridUnit, IsFineTo30Bits, IsWhole, common_denominator, Pairs, HasDistribution, pairs_of, kept, Sev, is_fine, clause_of, shares_of, is_off, severity_in_layer, ceded_pairs, mixture_shares, support, off_grid_cession, AreProbabilities, atom_probs, not-false}
+use Rattle.dl_buckets.proofs.Common.{leb-true, get_or, ◌≡◌, ◌^◌, ◌||◌, ◌&&◌, nat_tests, not, Bool, true, false, Option, Some, None, refl, sym, subst, All, IfSome, ◌≤◌, ℕ, Item, arith, length, length-map, Fraction, IsClause, IsClauseLayered, IsSevWithin, final_severity, made_of, GridSev, IsGridSev, has_atoms, has_severity, weights_of, probs_in_count, GridClause, GridUnit, IsFineTo30Bits, IsWhole, common_denominator, Pairs, HasDistribution, pairs_of, kept, Sev, is_fine, clause_of, shares_of, is_off, severity_in_layer, ceded_pairs, mixture_shares, support, off_grid_cession, AreProbabilities, atom_probs, not-false}
 use Rattle.dl_buckets.specs.FineParts.{has_shares}
 use Rattle.dl_buckets.specs.Kept.{IsFineSev}
 use Rattle.dl_buckets.proofs.PastEdges.{whole_unless}
@@ -21,10 +21,7 @@ pub parts_of : (s : GridSev) → has_severity s ≡ true
 parts_of s e = three (has_atoms s) (is_fine (weights_of s)) (is_fine (mixture_shares s)) e
   where
     three : (a b c : Bool) → (a && b && c) ≡ true → (a ≡ true) × (b ≡ true) × (c ≡ true)
-    three true true true h = (refl, refl, refl)
-    three true true false h = absurd (cc)
-    three true false c h = absurd (cc)
-    three false b c h = absurd (cc)
+    three a b c h = grind (arith, nat_tests, h)
 
 -- the probabilities of each atom, and the weights of the atoms
 pub record IsSevShared (s : GridSev) : Type 0 where
@@ -40,11 +37,7 @@ sev_shared s grid e = record {
 }
 
 none_of : (a b c d : Bool) → (a || b || c || d) ≡ false → (b ≡ false) × (d ≡ false)
-none_of true b c d h = absurd (cc)
-none_of false true c d h = absurd (cc)
-none_of false false true d h = absurd (cc)
-none_of false false false true h = absurd (cc)
-none_of false false false false h = (refl, refl)
+none_of a b c d h = grind (arith, nat_tests, h)
 
 module _ (u : GridUnit) (fine : IsFineSev u) where
   facts : (not (has_shares u.occ) ≡ false) × (not (has_severity u.sev) ≡ false)

@@ -1,7 +1,8 @@
 -- What a unit without flaws keeps in whole buckets, part by part.
-use Rattle.dl_buckets.proofs.Common.{ℕ, ◌≡◌, ◌∙◌, ◌*◌, ◌≤◌, ◌==◌, length, nat_lt, not, false, Option, Some, None, refl, sym, ap, arith, All, IfSome, length-map, All-map, eqb-true, eq-eqb, not-false, not_at, Fraction, whole, whole_num, whole_den, Span, IsShares, ◌over◌, subst, probs_among, IsClean, flaws_else, number_of, grid_atom, grid_layer, grid_ceded, grid_clause, grid_mixture, GridLayer, IsGridAtom, IsGridSev, IsLayerWithin, IsClauseWithin, IsSevWithin, IsGridClause, IsGridUnit, IsWithin, other_length, most_amount, most_atoms, most_layers, buckets, Numeral, ListAst, Atom, MixAst, IsFormedAtom, IsFormedMixture, IsFormedCession, IsFormedCount, IsFormedUnit, Flaws, flaws_in, flaws_within, earlier_flaws, long_at, grid_shares, limit_value, grid_exposure, grid_freq, grid_count, zero_value, given_zero, flaws_of_numeral, flaws_of_amount, flaws_of_money, flaws_of_list, flaws_of_amounts, flaws_of_shares, flaws_beside, flaws_of_atom, flaws_of_mixture, flaws_of_limit, flaws_of_layer, flaws_of_share, flaws_of_ceded, flaws_of_clause, flaws_of_exposure, flaws_of_count, flaws_of_freq, flaws_of_zero, flaws_of_distribution, is_named, if_there, value, values_of, placed_values}
+use Rattle.dl_buckets.proofs.Common.{ℕ, ◌≡◌, ◌∙◌, ◌*◌, ◌≤◌, length, nat_lt, not, Option, Some, None, refl, sym, ap, arith, All, IfSome, length-map, All-map, eqb-true, eq-eqb, not-false, not_at, Fraction, whole, whole_num, whole_den, Span, IsShares, ◌over◌, subst, probs_among, IsClean, flaws_else, number_of, grid_atom, grid_layer, grid_ceded, grid_clause, grid_mixture, GridLayer, IsGridAtom, IsGridSev, IsLayerWithin, IsClauseWithin, IsSevWithin, IsGridClause, IsGridUnit, IsWithin, other_length, most_amount, most_atoms, most_layers, buckets, Numeral, ListAst, Atom, MixAst, IsFormedAtom, IsFormedMixture, IsFormedCession, IsFormedCount, IsFormedUnit, Flaws, flaws_in, flaws_within, earlier_flaws, long_at, grid_shares, limit_value, grid_exposure, grid_freq, grid_count, zero_value, given_zero, flaws_of_numeral, flaws_of_amount, flaws_of_money, flaws_of_list, flaws_of_amounts, flaws_of_shares, flaws_beside, flaws_of_atom, flaws_of_mixture, flaws_of_limit, flaws_of_layer, flaws_of_share, flaws_of_ceded, flaws_of_clause, flaws_of_exposure, flaws_of_count, flaws_of_freq, flaws_of_zero, flaws_of_distribution, is_named, if_there, value, values_of, placed_values}
 use Rattle.std.proofs.Math.Nat.{le_trans}
 use Rattle.std.proofs.lemmas.Bool.{ltb-false}
+use Rattle.std.proofs.lemmas.Option.{IfSome_then}
 use Rattle.std.proofs.lemmas.List.{length-replicate}
 use Rattle.dl_ast.specs.declared.ast.LimitAst.{LimitAst}
 use Rattle.dl_ast.specs.declared.ast.LimitAst.TheVariants.{Finite, Infinite}
@@ -21,7 +22,7 @@ unfoldable use Rattle.dl_buckets.specs.Grid.{grid_of}
 unfoldable use Rattle.dl_buckets.specs.Reading.{flaws_of}
 use Rattle.dl_buckets.specs.Rules.{count_lengths}
 use Rattle.dl_buckets.specs.Small.{IsSmall, IsGridExposure, IsGridFreq, IsGridCount}
-use Rattle.dl_buckets.proofs.Clean.{each_none, clean_first, clean_second, clean_earlier, clean_each}
+use Rattle.dl_buckets.proofs.Clean.{each_none, clean_first, clean_second, clean_both, clean_earlier, clean_each}
 use Rattle.dl_buckets.proofs.ItemRanges.{number_is, list_is}
 
 -- what holds of each part without flaws holds of one that may be missing
@@ -53,19 +54,14 @@ module _ (n : ℕ) where
 
 -- ---- amounts of money
 
-small_num : (most n d m e : ℕ) → not (d == 1) ≡ false → m ≡ most → e ≡ 1 → nat_lt (m * d) (n * e) ≡ false
-    → n ≤ most
-small_num most n d m e hd hm he h = plain n d (eqb-true d 1 (not-false _ hd)) (rw (hm, he) at h)
-  where
-    plain : (n d : ℕ) → d ≡ 1 → nat_lt (most * d) (n * 1) ≡ false → n ≤ most
-    plain n d e h = omega (arith, ltb-false (most * 1) (n * 1) (rw e at h))
-
 pub amount_small : (most : ℕ) (bs x : Fraction) (place : Span) → IsClean (flaws_of_amount most bs x place)
     → number_of bs x ≤ most
 amount_small most bs x place clean =
     let none = each_none (flaws_of_amount most bs x place) clean in
-    small_num most (buckets bs x).num (buckets bs x).den (whole most).num (whole most).den
-    (not_at _ place none.off_grid) (whole_num most) (whole_den most) (not_at _ place none.too_far)
+    let one : (buckets bs x).den ≡ 1 = eqb-true _ 1 (not-false _ (not_at _ place none.off_grid)) in
+    let near = ltb-false ((whole most).num * (buckets bs x).den) ((buckets bs x).num * (whole most).den)
+    (not_at _ place none.too_far) in
+    omega (arith, rw (whole_num most, whole_den most, one) at near)
 
 money_small : (most : ℕ) (bs : Fraction) (place : Span) (n : Numeral) → IsClean (flaws_of_money most bs place n)
     → number_of bs (value n) ≤ most
@@ -78,18 +74,11 @@ too_long m = long_at (at_if (nat_lt most_atoms (length m.atoms)) m.span)
 module _ (most : ℕ) (bs : Fraction) where
   -- ---- the severity
 
-  atom_amounts : (a : Atom) → IsClean (flaws_of_atom most bs a) → IsClean (flaws_of_amounts most bs a.values)
-  atom_amounts a clean = clean_first (flaws_of_amounts most bs a.values) _ clean
-
-  atom_probs : (a : Atom) → IsClean (flaws_of_atom most bs a)
-      → IsClean (flaws_within (flaws_beside (length (placed_values a.values))) a.probs)
-  atom_probs a clean = clean_second (flaws_of_amounts most bs a.values) _ clean
-
   atom_within : (a : Atom) → IsClean (flaws_of_atom most bs a)
       → All (λ n. n ≤ most) (grid_atom bs a).amounts
   atom_within a clean =
       let each = clean_each (λ pair. flaws_of_amount most bs pair.0 pair.1) (placed_values a.values)
-      (clean_second (flaws_of_list a.values) _ (atom_amounts a clean)) in
+      (clean_second (flaws_of_list a.values) _ (clean_first (flaws_of_amounts most bs a.values) _ clean)) in
       All-map (λ n. n ≤ most) (number_of bs) (values_of a.values)
       (All-map (λ x. number_of bs x ≤ most) (λ pair. pair.0) (placed_values a.values)
       (λ k d h. amount_small most bs _ _ (each k d h)))
@@ -126,26 +115,25 @@ module _ (most : ℕ) (bs : Fraction) where
 -- ---- what holds of any amounts of at most 2^22
 
 layer_weaker : (m n : ℕ) (l : GridLayer) → m ≤ n → IsLayerWithin m l → IsLayerWithin n l
-layer_weaker m n l le h = record { limit = of_limit l.limit h.limit; attach = le_trans h.attach le }
-  where
-    of_limit : (o : Option ℕ) → IfSome o (λ k. k ≤ m) → IfSome o (λ k. k ≤ n)
-    of_limit None e = tt
-    of_limit (Some k) e = le_trans e le
+layer_weaker m n l le h = record {
+  limit = IfSome_then l.limit h.limit (λ k e. le_trans e le);
+  attach = le_trans h.attach le;
+}
 
 module _ (most : ℕ) (bs : Fraction) (le : most ≤ most_amount) where
   atom_is : (a : Atom) → IsFormedAtom a → IsClean (flaws_of_atom most bs a) → IsGridAtom (grid_atom bs a)
   atom_is a formed clean =
-      let list = list_is a.values formed.values
-      (clean_first (flaws_of_list a.values) _ (atom_amounts most bs a clean)) in
+      let both = clean_both (flaws_of_amounts most bs a.values) _ clean in
+      let list = list_is a.values formed.values (clean_first (flaws_of_list a.values) _ both.0) in
       let each = length-map (values_of a.values) (number_of bs) in
       record {
         some = omega (arith, each, list.some);
         few = omega (arith, each, list.few);
         near = λ k d h. le_trans (atom_within most bs a clean k d h) le;
-        probs = beside_is (length (placed_values a.values)) a.probs (atom_probs most bs a clean);
+        probs = beside_is (length (placed_values a.values)) a.probs both.1;
         each = subst (λ n. length (probs_among n (if_there grid_shares a.probs)) ≡ n)
             (sym (each ∙ length-map (placed_values a.values) (λ pair. pair.0)))
-            (beside_length (length (placed_values a.values)) a.probs (atom_probs most bs a clean));
+            (beside_length (length (placed_values a.values)) a.probs both.1);
       }
 
   sev_is : (m : MixAst) → IsFormedMixture m → IsClean (flaws_of_mixture most bs m)
@@ -183,10 +171,8 @@ module _ (most : ℕ) (bs : Fraction) (le : most ≤ most_amount) where
 exposure_is : (e : Exposure) → IsClean (flaws_of_exposure e) → IsGridExposure (grid_exposure e)
 exposure_is (Claims n span) clean = number_is n clean
 exposure_is (Loss n span) clean = number_is n clean
-exposure_is (Premium p r span) clean = (
-  number_is p (clean_first (flaws_of_numeral p) _ clean),
-  number_is r (clean_second (flaws_of_numeral p) _ clean),
-)
+exposure_is (Premium p r span) clean =
+    let both = clean_both (flaws_of_numeral p) _ clean in (number_is p both.0, number_is r both.1)
 
 freq_is : (f : FreqAst) → IsClean (flaws_of_freq f) → IsGridFreq (grid_freq f)
 freq_is (Fixed span) clean = tt
@@ -205,10 +191,9 @@ count_is : (k : CountAst) → IsFormedCount k → IsClean (flaws_of_count k) →
     → IsGridCount (grid_count k)
 count_is (Exposed exposure freq zero) formed clean later =
     (exposure_is exposure clean, freq_is freq (clean_first (flaws_of_freq freq) _ later))
-count_is (Listed values probs span) formed clean later = (
-  list_is values formed.0 (clean_first (flaws_of_list values) _ clean),
-  beside_is (length (placed_values values)) probs (clean_second (flaws_of_list values) _ clean),
-)
+count_is (Listed values probs span) formed clean later =
+    let both = clean_both (flaws_of_list values) _ clean in
+    (list_is values formed.0 both.0, beside_is (length (placed_values values)) probs both.1)
 
 paired_is : (k : CountAst) → IsClean (flaws_of_count k) → count_lengths (grid_count k) ≡ None
 unfolding other_length
@@ -233,45 +218,38 @@ module _ (most : ℕ) (bs : Fraction) (u : UnitAst) (m : MixAst) (clean : IsClea
   front = earlier_flaws (is_named u.sev.body) own (flaws_of_mixture most bs m)
 
   parts : IsClean front × IsClean (flaws_within (flaws_of_clause most bs) u.occ)
-      × IsClean (flaws_of_distribution u.count) × IsClean (flaws_within (flaws_of_clause most bs) u.agr)
+      × (IsClean (flaws_of_distribution u.count) × IsClean (flaws_within (flaws_of_clause most bs) u.agr))
   unfolding flaws_of
   parts =
-      let later = clean_second front _ clean in
-      let rest = clean_second (flaws_within (flaws_of_clause most bs) u.occ) _ later in (
-        clean_first front _ clean,
-        clean_first (flaws_within (flaws_of_clause most bs) u.occ) _ later,
-        clean_first (flaws_of_distribution u.count) _ rest,
-        clean_second (flaws_of_distribution u.count) _ rest,
-      )
+      let outer = clean_both front _ clean in
+      let terms = clean_both (flaws_within (flaws_of_clause most bs) u.occ) _ outer.1 in
+      (outer.0, terms.0, clean_both (flaws_of_distribution u.count) _ terms.1)
 
-  fronts : IsClean (flaws_of_count u.count) × IsClean (flaws_within (flaws_of_layer most bs) u.layer)
+  fronts : (IsClean (flaws_of_count u.count) × IsClean (flaws_within (flaws_of_layer most bs) u.layer))
       × IsClean (flaws_of_mixture most bs m)
   fronts =
-      let both = clean_earlier (is_named u.sev.body) own (flaws_of_mixture most bs m) parts.0 in (
-        clean_first (flaws_of_count u.count) _ both.0,
-        clean_second (flaws_of_count u.count) _ both.0,
-        both.1,
-      )
+      let both = clean_earlier (is_named u.sev.body) own (flaws_of_mixture most bs m) parts.0 in
+      (clean_both (flaws_of_count u.count) _ both.0, both.1)
 
   -- no amount passes the most
   pub within_is : IsWithin most (grid_of bs u m)
   unfolding grid_of
   within_is = record {
-    layer = if_there_is (flaws_of_layer most bs) (grid_layer bs) (IsLayerWithin most) (layer_within most bs) u.layer fronts.1;
-    sev = sev_within most bs m fronts.2;
+    layer = if_there_is (flaws_of_layer most bs) (grid_layer bs) (IsLayerWithin most) (layer_within most bs) u.layer fronts.0.1;
+    sev = sev_within most bs m fronts.1;
     occ = if_there_is (flaws_of_clause most bs) (grid_clause bs) (IsClauseWithin most) (clause_within most bs) u.occ parts.1;
-    agr = if_there_is (flaws_of_clause most bs) (grid_clause bs) (IsClauseWithin most) (clause_within most bs) u.agr parts.3;
+    agr = if_there_is (flaws_of_clause most bs) (grid_clause bs) (IsClauseWithin most) (clause_within most bs) u.agr parts.2.1;
   }
 
   pub grid_is : most ≤ most_amount → IsFormedUnit u → IsFormedMixture m → IsGridUnit (grid_of bs u m)
   unfolding grid_of
   grid_is le formed mixed = record {
-    count = count_is u.count formed.count fronts.0 parts.2;
-    paired = paired_is u.count fronts.0;
+    count = count_is u.count formed.count fronts.0.0 parts.2.0;
+    paired = paired_is u.count fronts.0.0;
     layer = if_there_is (flaws_of_layer most bs) (grid_layer bs) (IsLayerWithin most_amount)
-        (λ l own. layer_weaker most most_amount _ le (layer_within most bs l own)) u.layer fronts.1;
-    sev = sev_is most bs le m mixed fronts.2;
-    zero = given_is u.count parts.2;
+        (λ l own. layer_weaker most most_amount _ le (layer_within most bs l own)) u.layer fronts.0.1;
+    sev = sev_is most bs le m mixed fronts.1;
+    zero = given_is u.count parts.2.0;
     occ = clause_is most bs le u.occ formed.occ parts.1;
-    agr = clause_is most bs le u.agr formed.agr parts.3;
+    agr = clause_is most bs le u.agr formed.agr parts.2.1;
   }

@@ -18,9 +18,6 @@ use Rattle.dl_buckets.proofs.Clean.{each_none, clean_first, clean_second, clean_
 
 -- ---- the range of an item
 
-not_zero : (x : Fraction) → is_zero x ≡ false → whole 0 <ℚ x
-not_zero x h = pos_num x (zero_above x.num h)
-
 three_tests : (a b : Bool) (n : ℕ) → (a || b || nat_lt most_range_parts n) ≡ false
     → (a ≡ false) × (b ≡ false) × (n ≤ most_range_parts)
 three_tests a b n h = grind (arith, nat_tests, h)
@@ -31,10 +28,9 @@ range_is true r to alone passed =
     let tests = three_tests (is_above r.from r.to) (is_zero r.step) _ passed in
     record {
       rising = not_above r.from r.to tests.0;
-      step = not_zero r.step tests.1;
+      step = pos_num r.step (zero_above r.step.num tests.1);
       digits = to.num;
-      shared =
-          inr tests.2;
+      shared = inr tests.2;
     }
 range_is false r to alone passed =
     let one = alone refl in
@@ -78,11 +74,8 @@ item_is i formed clean =
 -- ---- the values of an item are small
 
 modest_over : (n d : ℕ) → 0 < d → n ≤ 10 ^ 17 → d ≤ 10 ^ 6 → HasPartsOf18Digits (n over d)
-modest_over n d pos num den = record {
-  num = omega (arith, num_of_over-le n d pos, num);
-  den =
-      omega (arith, den_of_over-le n d pos, den);
-}
+modest_over n d pos num den =
+    record { num = omega (arith, num_of_over-le n d pos, num); den = omega (arith, den_of_over-le n d pos, den) }
 
 module _ (r : Range) (range : IsRange r) (shared : range_denominator r ≤ 1000000) where
   abbrev common : ℕ

@@ -1,6 +1,8 @@
 -- The items of a severity stand among the amounts of positive probability of what it means.
-use Rattle.dl_buckets.proofs.Common.{◌≡◌, ◌∙◌, ℕ, zero, suc, ◌+◌, ◌<◌, ◌≤◌, ◌==◌, List, [], ◌∷◌, map, Bool, true, false, cond, get_or, refl, sym, ap, ap₂, subst, arith, inl, inr, AllZip, All, eqb_tells, All-nil, All-cons, All-head, All-tail, All-weaker, All-append, All-map, sum_by-cons, map-append, Fraction, whole, ◌over◌, ◌+ℚ◌, ◌*ℚ◌, ◌≤ℚ◌, ◌<ℚ◌, cases_lt, zero_plus, zero_or_pos, lt_of_lt_of_le, le_plus, plus_comm, over_lt, Item, Sev, amounts_of, weight_at, Pairs, probability, pairs_of, shares, HasDistribution, scaled, mixture_of, support, shares_in_mixture}
+use Rattle.dl_buckets.proofs.Common.{◌≡◌, ◌≢◌, ◌∙◌, ℕ, zero, suc, ◌+◌, ◌<◌, ◌≤◌, ◌==◌, List, [], ◌∷◌, map, filter, Bool, true, false, cond, get_or, refl, sym, ap, subst, arith, inl, inr, AllZip, All, eqb_tells, nat_tests, All-nil, All-cons, All-head, All-tail, All-weaker, All-append, All-map, sum_by-cons, map-append, Fraction, whole, ◌over◌, ◌+ℚ◌, ◌*ℚ◌, ◌<ℚ◌, cases_lt, zero_plus, zero_or_pos, lt_of_lt_of_le, le_plus, plus_comm, over_lt, Item, Sev, amounts_of, weight_at, Pairs, probability, pairs_of, shares, HasDistribution, scaled, mixture_of, support, shares_in_mixture}
 use Rattle.std.specs.List.Sorted.{IsStrictlyIncreasing}
+use Rattle.std.proofs.lemmas.List.Elements.{All-filter}
+use Rattle.std.proofs.lemmas.List.Sums.{sum_by-le}
 use Rattle.dl_exact.specs.Sum.{sum_over}
 use Rattle.dl_exact.proofs.Laws.{lt_not_le, le_refl}
 use Rattle.dl_buckets.proofs.Firsts.{from_map}
@@ -8,7 +10,7 @@ use Rattle.std.proofs.lemmas.List.Kept.{AllPairs-from_increasing}
 use Rattle.dl_exact.proofs.Denominators.{over_zero as zero_over}
 use Rattle.dl_plan.proofs.Means.{severity_total as total_pos}
 use Rattle.dl_buckets.proofs.Shared.{all_left, all_right}
-use Rattle.dl_buckets.proofs.Positive.{is_positive, positive_yes, positive_no, support_step}
+use Rattle.dl_buckets.proofs.Positive.{is_positive, positive_yes, positive_no}
 
 -- ---- the amounts of positive probability
 
@@ -23,34 +25,33 @@ pub found : (ps : Pairs) (x : ℕ) (Q : ℕ → Type 0) → All Q (support ps) �
 unfolding sum_over
 found [] x Q all h = absurd (zero_not_pos h)
 found (p ∷ ps) x Q all h = elim (zero_or_pos p.1) [
-  | inl e ↦ found ps x Q (subst (All Q) (support_step p ps
-      ∙ ap (λ b. cond b (p.0 ∷ support ps) (support ps)) (positive_no p.1 e)) all)
+  | inl e ↦ found ps x Q (rw (positive_no p.1 e) at all)
       (subst (λ t. whole 0 <ℚ t) (no_part (p.0 == x) p.1 (probability ps x) e) h)
   | inr pos ↦
-      let those : All Q (p.0 ∷ support ps) = subst (All Q)
-      (support_step p ps ∙ ap (λ b. cond b (p.0 ∷ support ps) (support ps)) (positive_yes p.1 pos)) all in
+      let those : All Q (p.0 ∷ support ps) = rw (positive_yes p.1 pos) at all in
       elim (eqb_tells p.0 x) [
         | inl same ↦ subst Q same.1 (All-head Q p.0 (support ps) those)
-        | inr other ↦ found ps x Q (All-tail Q p.0 (support ps) those)
-            (subst (λ t. whole 0 <ℚ t) (ap (λ b. cond b p.1 (whole 0) +ℚ probability ps x) other.0
-            ∙ zero_plus (probability ps x)) h)
+        | inr other ↦ found ps x Q (All-tail Q p.0 (support ps) those) (rw (other.0, zero_plus (probability ps x)) at h)
       ]
 ]
 
--- a weight stands at no other amount
-pub none_earlier : (a x w : ℕ) → x < a → cond (a == x) w 0 ≡ 0
-none_earlier a x w h = grind arith
-
-pub none_behind : (a x w : ℕ) → a < x → cond (a == x) w 0 ≡ 0
-none_behind a x w h = grind arith
-
 -- ---- the weight of an item is that of its amount
+
+-- no item has this amount
+absent : (xs : List Item) (x : ℕ) → All (λ (i : Item). i.amount ≢ x) xs → weight_at xs x ≡ 0
+absent xs x others = omega (
+  arith,
+  sum_by-le (λ (i : Item). cond (i.amount == x) i.weight 0) 0 xs (λ k d h. none (get_or xs k d) (others k d h)),
+)
+  where
+    none : (i : Item) → i.amount ≢ x → cond (i.amount == x) i.weight 0 ≤ 0
+    none i other = grind (arith, nat_tests, other)
+
 pub none_later : (xs : List Item) (x : ℕ) → All (λ (i : Item). x < i.amount) xs → weight_at xs x ≡ 0
-none_later [] x h = refl
-none_later (i ∷ xs) x h =
-    sum_by-cons (λ (j : Item). cond (j.amount == x) j.weight 0) i xs
-    ∙ ap₂ (λ a b. a + b) (none_earlier i.amount x i.weight (All-head (λ (j : Item). x < j.amount) i xs h))
-    (none_later xs x (All-tail (λ (j : Item). x < j.amount) i xs h))
+none_later xs x h = absent xs x (λ k d b e. omega (arith, e, h k d b))
+
+own_part : {A : Type 0} (a : ℕ) (q none : A) → cond (a == a) q none ≡ q
+own_part a q none = grind arith
 
 -- rising amounts, by recursion
 abbrev pub Rising : List Item → Type 0
@@ -59,22 +60,14 @@ Rising (x ∷ xs) = All (λ (i : Item). x.amount < i.amount) xs × Rising xs
 
 later : (x : Item) (xs : List Item) → IsStrictlyIncreasing (amounts_of (x ∷ xs))
     → All (λ (i : Item). x.amount < i.amount) xs
-later x xs rising = go xs (λ k d h. AllPairs-from_increasing (amounts_of (x ∷ xs)) rising zero (suc k) d (omega arith)
-    (omega (arith, h)))
-  where
-    go : (ys : List Item) → All (λ n. x.amount < n) (amounts_of ys) → All (λ (i : Item). x.amount < i.amount) ys
-    go [] h = All-nil (λ (i : Item). x.amount < i.amount)
-    go (y ∷ ys) h = All-cons (λ (i : Item). x.amount < i.amount) y ys
-        (All-head (λ n. x.amount < n) y.amount (amounts_of ys) h)
-        (go ys (All-tail (λ n. x.amount < n) y.amount (amounts_of ys) h))
+later x xs rising = from_map (λ n. x.amount < n) (λ (i : Item). i.amount) xs
+    (λ k d h. AllPairs-from_increasing (amounts_of (x ∷ xs)) rising zero (suc k) d (omega arith) (omega (arith, h)))
 
 pub rises : (xs : List Item) → IsStrictlyIncreasing (amounts_of xs) → Rising xs
 rises [] h = tt
 rises (x ∷ xs) h = (
   later x xs h,
-  rises xs
-      (λ k b. subst (λ n. get_or (amounts_of (x ∷ xs)) (suc k) 0 < get_or (amounts_of (x ∷ xs)) n 0) (moved k)
-      (h (suc k) (omega (arith, b)))),
+  rises xs (λ k b. rw (moved k) at (h (suc k) (omega (arith, b)))),
 )
   where
     moved : (k : ℕ) → suc k + 1 ≡ suc (k + 1)
@@ -84,20 +77,14 @@ own_weights : (xs : List Item) → Rising xs → All (λ (i : Item). weight_at x
 own_weights [] h = All-nil (λ (i : Item). weight_at [] i.amount ≡ i.weight)
 own_weights (x ∷ xs) h =
     All-cons (λ (i : Item). weight_at (x ∷ xs) i.amount ≡ i.weight) x xs
-    (sum_by-cons (λ (j : Item). cond (j.amount == x.amount) j.weight 0) x xs
-    ∙ ap₂ (λ a b. a + b) (itself x.amount x.weight) (none_later xs x.amount h.0) ∙ plus_none x.weight)
-    (λ k d b. sum_by-cons (λ (j : Item). cond (j.amount == (get_or xs k d).amount) j.weight 0) x xs
-    ∙ ap₂ (λ a c. a + c) (none_behind x.amount (get_or xs k d).amount x.weight (h.0 k d b)) (own_weights xs h.1 k d b)
-    ∙ none_plus (get_or xs k d).weight)
+    (omega (arith, step x.amount, own_part x.amount x.weight 0, none_later xs x.amount h.0))
+    (λ k d b. omega (arith, step (get_or xs k d).amount, other (get_or xs k d).amount (h.0 k d b), own_weights xs h.1 k d b))
   where
-    none_plus : (w : ℕ) → 0 + w ≡ w
-    none_plus w = omega arith
+    step : (n : ℕ) → weight_at (x ∷ xs) n ≡ cond (x.amount == n) x.weight 0 + weight_at xs n
+    step n = sum_by-cons (λ (j : Item). cond (j.amount == n) j.weight 0) x xs
 
-    itself : (a w : ℕ) → cond (a == a) w 0 ≡ w
-    itself a w = grind arith
-
-    plus_none : (w : ℕ) → w + 0 ≡ w
-    plus_none w = omega arith
+    other : (n : ℕ) → x.amount < n → cond (x.amount == n) x.weight 0 ≡ 0
+    other n h = grind arith
 
 module _ (sev : Sev) (ps : Pairs) (means : HasDistribution sev ps) where
   pub item_share : All (λ (i : Item). i.weight over sev.total ≡ probability ps i.amount) sev.items
@@ -115,14 +102,8 @@ module _ (sev : Sev) (ps : Pairs) (means : HasDistribution sev ps) where
   items_in Q all k d h = found ps (get_or sev.items k d).amount Q all (item_positive k d h)
 
 pub support_all : (Q : ℕ → Type 0) (ps : Pairs) → All (λ pair. Q pair.0) ps → All Q (support ps)
-support_all Q [] h = All-nil Q
-support_all Q (p ∷ ps) h = subst (All Q) (sym (support_step p ps))
-    (split (is_positive p.1) (support ps) (All-head (λ pair. Q pair.0) p ps h)
-    (support_all Q ps (All-tail (λ pair. Q pair.0) p ps h)))
-  where
-    split : (b : Bool) (xs : List ℕ) → Q p.0 → All Q xs → All Q (cond b (p.0 ∷ xs) xs)
-    split true xs q all = All-cons Q p.0 xs q all
-    split false xs q all = all
+support_all Q ps h = All-map Q (λ pair. pair.0) (filter (λ pair. is_positive pair.1) ps)
+    (All-filter (λ pair. is_positive pair.1) (λ pair. Q pair.0) ps h)
 
 -- ---- the products of a mixture
 
@@ -158,31 +139,18 @@ mixture_products P t (a ∷ atoms) (w ∷ ws) (ps ∷ lists) means all =
 
 -- ---- what exceeds an amount
 
-none_above_amount : (xs : List Item) (a x : ℕ) → a < x → All (λ (i : Item). i.amount ≤ a) xs → weight_at xs x ≡ 0
-none_above_amount [] a x h all = refl
-none_above_amount (i ∷ xs) a x h all =
-    sum_by-cons (λ (j : Item). cond (j.amount == x) j.weight 0) i xs
-    ∙ ap₂ (λ b d. b + d) (apart i.amount i.weight (All-head (λ (j : Item). j.amount ≤ a) i xs all))
-    (none_above_amount xs a x h (All-tail (λ (j : Item). j.amount ≤ a) i xs all))
-  where
-    apart : (b w : ℕ) → b ≤ a → cond (b == x) w 0 ≡ 0
-    apart b w p = grind arith
-
-own_part : (a : ℕ) (q : Fraction) → cond (a == a) q (whole 0) ≡ q
-own_part a q = grind arith
-
 more_likely : (p : ℕ × Fraction) (ps : Pairs) (x : ℕ) → whole 0 <ℚ probability ps x → whole 0 <ℚ probability (p ∷ ps) x
 unfolding sum_over
 more_likely p ps x h =
+    let other : Fraction = cond (p.0 == x) p.1 (whole 0) in
     lt_of_lt_of_le (whole 0) (probability ps x) (probability (p ∷ ps) x) h
-    (subst (λ t. probability ps x ≤ℚ t) (plus_comm (probability ps x) (cond (p.0 == x) p.1 (whole 0)))
-    (le_plus (probability ps x) (cond (p.0 == x) p.1 (whole 0))))
+    (rw (plus_comm other (probability ps x)) (le_plus (probability ps x) other))
 
 first_likely : (p : ℕ × Fraction) (ps : Pairs) → whole 0 <ℚ p.1 → whole 0 <ℚ probability (p ∷ ps) p.0
 unfolding sum_over
 first_likely p ps h =
     lt_of_lt_of_le (whole 0) p.1 (probability (p ∷ ps) p.0) h
-    (subst (λ t. p.1 ≤ℚ t +ℚ probability ps p.0) (sym (own_part p.0 p.1)) (le_plus p.1 (probability ps p.0)))
+    (rw (own_part p.0 p.1 (whole 0)) (le_plus p.1 (probability ps p.0)))
 
 pub support_positive : (ps : Pairs) → All (λ x. whole 0 <ℚ probability ps x) (support ps)
 support_positive [] = All-nil (λ x. whole 0 <ℚ probability [] x)
@@ -190,11 +158,10 @@ support_positive (p ∷ ps) =
     let P : ℕ → Type 0 = λ x. whole 0 <ℚ probability (p ∷ ps) x in
     let rest : All P (support ps) = All-weaker (λ x. whole 0 <ℚ probability ps x) P (more_likely p ps) (support ps)
     (support_positive ps) in
-    subst (All P) (sym (support_step p ps)) (elim (zero_or_pos p.1) [
-      | inl e ↦ subst (λ b. All P (cond b (p.0 ∷ support ps) (support ps))) (sym (positive_no p.1 e)) rest
-      | inr pos ↦ subst (λ b. All P (cond b (p.0 ∷ support ps) (support ps))) (sym (positive_yes p.1 pos))
-          (All-cons P p.0 (support ps) (first_likely p ps pos) rest)
-    ])
+    elim (zero_or_pos p.1) [
+      | inl e ↦ rw (positive_no p.1 e) rest
+      | inr pos ↦ rw (positive_yes p.1 pos) (All-cons P p.0 (support ps) (first_likely p ps pos) rest)
+    ]
 
 -- where no amount of the severity exceeds a, none of what it means does
 pub support_within : (sev : Sev) (ps : Pairs) → HasDistribution sev ps → (a : ℕ) → All (λ (i : Item). i.amount ≤ a) sev.items
@@ -203,6 +170,7 @@ support_within sev ps means a all k d h = elim (cases_lt a (get_or (support ps) 
   | inr le ↦ le
   | inl lt ↦ absurd (zero_not_pos (subst (λ t. whole 0 <ℚ t)
       (sym (means (get_or (support ps) k d)) ∙ ap (λ w. w over sev.total)
-      (none_above_amount sev.items a (get_or (support ps) k d) lt all) ∙ zero_over sev.total (total_pos sev))
+      (absent sev.items (get_or (support ps) k d) (λ i e b same. omega (arith, same, lt, all i e b)))
+      ∙ zero_over sev.total (total_pos sev))
       (support_positive ps k d h)))
 ]

@@ -1,5 +1,5 @@
 -- Layers that are read, and shares of them: both are right where the limit is.
-use Rattle.dl_buckets.proofs.Common.{ℕ, ◌≡◌, ◌∙◌, Option, Some, None, ap, take, Fraction, Span, refl, arith, IsClean, IsRead, flaws_else, GridLayer, GridCeded, number_of, grid_layer, grid_ceded, Flaws, Gridded, IsReadTo, AreNone, places, flaws_within, limit_value, share_beside, flaws_of_amount, flaws_of_numeral, flaws_of_money, flaws_of_limit, flaws_of_limit_number, flaws_of_layer, flaws_of_share, flaws_of_ceded, value, if_there}
+use Rattle.dl_buckets.proofs.Common.{ℕ, ◌≡◌, ◌∙◌, ◌∷◌, [], Option, Some, None, sym, ap, take, Fraction, Span, refl, arith, IsClean, IsRead, flaws_else, GridLayer, GridCeded, number_of, grid_layer, grid_ceded, Flaws, Gridded, IsReadTo, AreNone, places, flaws_within, limit_value, share_beside, flaws_of_amount, flaws_of_numeral, flaws_of_money, flaws_of_limit, flaws_of_limit_number, flaws_of_layer, flaws_of_share, flaws_of_ceded, value, if_there}
 use Rattle.dl_ast.specs.declared.ast.Layer.{Layer}
 use Rattle.dl_ast.specs.declared.ast.CededLayer.{CededLayer}
 use Rattle.dl_ast.specs.declared.ast.LimitAst.{LimitAst}
@@ -13,12 +13,9 @@ module _ (most : ℕ) (bs : Fraction) where
   amount_flaws place limit = flaws_within (λ x. flaws_of_amount most bs x place) limit
 
   -- an amount is no bad numeral, whichever it is
-  same_early : (place : Span) (x y : Option Fraction)
-      → take 1 (places (amount_flaws place x)) ≡ take 1 (places (amount_flaws place y))
-  same_early place None None = refl
-  same_early place None (Some y) = refl
-  same_early place (Some x) None = refl
-  same_early place (Some x) (Some y) = refl
+  no_numeral : (place : Span) (x : Option Fraction) → take 1 (places (amount_flaws place x)) ≡ None ∷ []
+  no_numeral place None = refl
+  no_numeral place (Some x) = refl
 
   limit_flaws : (place : Span) (limit : LimitAst)
       → flaws_else (flaws_of_limit_number limit) (amount_flaws place (limit_value limit))
@@ -41,7 +38,7 @@ module _ (most : ℕ) (bs : Fraction) where
       (record { part = record { limit = paid.part; attach = attach.part; span = l.span }; flaws = all })
   layer_read l {limit = limit} number amount attached joined is =
       let both = read_after 1 7 (amount_flaws l.span) (if_there (number_of bs)) (λ x n. n) (omega arith) number
-      (same_early l.span limit.part (limit_value l.limit)) amount joined in
+      (no_numeral l.span limit.part ∙ sym (no_numeral l.span (limit_value l.limit))) amount joined in
       read_both (λ (n : Option ℕ) (a : ℕ). record { limit = n; attach = a; span = l.span })
       (rw (limit_flaws l.span l.limit) at both) attached is
 

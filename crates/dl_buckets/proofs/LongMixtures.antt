@@ -1,5 +1,5 @@
 -- The flaws of numerals and ranges alone, and mixtures of too many atoms.
-use Rattle.dl_buckets.proofs.Common.{ℕ, ◌≡◌, ◌∙◌, ◌+◌, ◌<◌, get_or, take_more, not, ◌==◌, List, [], ◌∷◌, ◌++◌, length, take, nat_lt, Option, Some, None, refl, sym, ap, subst, Fraction, Span, ◌else◌, at_if, flaws_else, IsRead, GridSev, grid_mixture, is_not_one, most_atoms, Atom, ListAst, MixAst, Flaws, AgreeEarly, AgreeToFirst, places, no_flaws, flaws_in, flaws_within, long_at, lengths_at, sum_at, flaws_of_list, flaws_of_amount, flaws_of_amounts, flaws_of_shares, flaws_beside, flaws_of_atom, flaws_of_mixture, placed_values, values_of}
+use Rattle.dl_buckets.proofs.Common.{ℕ, ◌≡◌, ◌∙◌, ◌+◌, ◌<◌, get_or, take_more, not, ◌==◌, List, [], ◌∷◌, ◌++◌, length, take, Option, Some, None, refl, sym, ap, subst, Fraction, Span, at_if, flaws_else, IsRead, GridSev, grid_mixture, is_not_one, most_atoms, Atom, ListAst, MixAst, Flaws, AgreeEarly, AgreeToFirst, places, no_flaws, flaws_in, flaws_within, long_at, lengths_at, sum_at, flaws_of_list, flaws_of_amount, flaws_of_amounts, flaws_of_shares, flaws_beside, flaws_of_atom, flaws_of_mixture, placed_values, values_of}
 use Rattle.dl_buckets.proofs.Firsts.{else_none, passes_limit}
 use Rattle.dl_buckets.proofs.Agreeing.{agree_same, agree_else, flaws_more}
 
@@ -59,10 +59,8 @@ module _ (most : ℕ) (bs : Fraction) where
       let f = flaws_of_atom most bs in
       let more : take (i + 1) atoms ≡ take i atoms ++ a ∷ [] =
       take_more atoms i a lt ∙ ap (λ b. take i atoms ++ b ∷ []) (sym at) in
-      rw (is, joined) (subst (λ t. AgreeEarly (flaws_else flaws (flaws_else values probs)) t)
-      (sym (ap (flaws_in f) more ∙ flaws_more f (take i atoms) a))
-      (early_both flaws (flaws_else values probs) (flaws_in f (take i atoms)) (f a) before
-      (atom_early values probs a own beside)))
+      rw (is, joined, more, flaws_more f (take i atoms) a) (early_both flaws (flaws_else values probs)
+      (flaws_in f (take i atoms)) (f a) before (atom_early values probs a own beside))
 
   pub atoms_none : (flaws : Flaws) → flaws ≡ no_flaws → AgreeEarly flaws (flaws_in (flaws_of_atom most bs) [])
   unfolding flaws_in
@@ -79,13 +77,9 @@ module _ (most : ℕ) (bs : Fraction) where
       let f = flaws_in (flaws_of_atom most bs) m.atoms in
       let g = flaws_within flaws_of_shares m.weights in
       let both = early_both atoms weights f g own (weights_early weights m.weights others) in
-      let told : AgreeToFirst (places (flaws_else (long_at (Some m.span)) (flaws_else atoms weights)))
-      (places (flaws_else (long_at (Some m.span)) (flaws_else f g))) =
-      (both.0, λ none. ((both.1 none).0, λ n. (refl, λ e. absurd (cc)))) in
       record {
-        first = rw (is, joined) (subst (λ o. AgreeToFirst (places (flaws_else (long_at (Some m.span))
-            (flaws_else atoms weights))) (places (flaws_else (long_at o) (flaws_else f g)))) far told);
+        first = rw (is, joined, ← far) (both.0, λ none. ((both.1 none).0, λ n. (refl, λ e. absurd (cc))));
         right = λ clean.
-            let none : (at_if (nat_lt most_atoms (length m.atoms)) m.span else (f.long else g.long)) ≡ None = clean.1.1.0 in
-            absurd (let e = ap (λ o. o else (f.long else g.long)) far ∙ none in cc);
+            let none : Some m.span ≡ None = rw (← far) at (clean.1.1.0) in
+            absurd (cc);
       }

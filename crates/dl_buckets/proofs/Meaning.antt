@@ -1,12 +1,11 @@
 -- What a severity means tells what each step makes of it.
-use Rattle.dl_buckets.proofs.Common.{ℕ, zero, suc, ◌≡◌, ◌∙◌, ◌+◌, ◌*◌, ◌/◌, ◌<◌, ◌≤◌, ◌⊎◌, List, [], ◌∷◌, ◌++◌, map, filter, Bool, true, false, cond, nat_lt, ◌==◌, refl, sym, ap, ap₂, arith, mul-pos, inl, inr, cases_lt, lt-ltb, le-ltb, Fraction, whole, ◌over◌, ◌+ℚ◌, ◌*ℚ◌, ◌/ℚ◌, zero_plus, times_zero, zero_times, over_same, Sev, Pairs, probability, mass, conditioned, pairs_of, HasDistribution, whole_num, whole_den, scaled, mixture_of, with_amounts, AllZip, mixed}
-use Rattle.std.proofs.Math.Nat.{eq-zero-or-pos}
+use Rattle.dl_buckets.proofs.Common.{ℕ, zero, suc, ◌≡◌, ◌≢◌, ◌∙◌, ◌+◌, ◌*◌, ◌/◌, ◌<◌, ◌≤◌, ◌⊎◌, List, [], ◌∷◌, ◌++◌, map, filter, Bool, true, false, cond, nat_lt, ◌==◌, refl, sym, ap, ap₂, arith, inl, inr, cases_lt, lt-ltb, le-ltb, Fraction, whole, ◌over◌, ◌+ℚ◌, ◌*ℚ◌, ◌/ℚ◌, zero_plus, times_zero, zero_or_pos, zero_times, Sev, Pairs, probability, mass, conditioned, pairs_of, HasDistribution, whole_num, whole_den, scaled, mixture_of, with_amounts, AllZip, mixed}
 use Rattle.dl_exact.specs.Gcd.{gcd}
 use Rattle.dl_exact.specs.Fraction.{nought, read_as}
 use Rattle.dl_exact.specs.Sum.{sum_over, sum_to}
-use Rattle.dl_exact.proofs.Laws.{plus_zero, one_times, times_plus, ring, by_two}
-use Rattle.dl_exact.proofs.Over.{same, over_mul, over_div}
-use Rattle.dl_exact.proofs.Sums.{sum_over_map, sum_to_same, sum_to_plus, sum_over_same, sum_over_append, sum_over_times}
+use Rattle.dl_exact.proofs.Laws.{div_times, one_times, ring, times_assoc, times_cancel, times_one, times_plus}
+use Rattle.dl_exact.proofs.Over.{same}
+use Rattle.dl_exact.proofs.Sums.{sum_over_map, sum_to_longer, sum_to_plus, sum_to_same, sum_to_zero, sum_over_same, sum_over_append, sum_over_times}
 use Rattle.dl_plan.proofs.Shares.{probability-shares}
 use Rattle.dl_plan.proofs.Means.{severity_total as total_pos}
 
@@ -23,46 +22,25 @@ scored g ps = sum_over ps (λ p. g p.0 *ℚ p.1)
 abbrev at : ℕ → Fraction → ℕ → Fraction
 at a p x = cond (a == x) p (whole 0)
 
-at_itself : (a : ℕ) (p : Fraction) → at a p a ≡ p
-at_itself a p = grind arith
+none_at : (a x : ℕ) (g : ℕ → Fraction) (p : Fraction) → a ≢ x → g x *ℚ at a p x ≡ whole 0
+none_at a x g p h = let none : at a p x ≡ whole 0 = grind arith in rw none (times_zero (g x))
 
-at_other : (a x : ℕ) (p : Fraction) → (a ≡ x → ⊥) → at a p x ≡ whole 0
-at_other a x p h = grind arith
-
-none_below : (n a : ℕ) (g : ℕ → Fraction) (p : Fraction) → n < a → sum_to n (λ x. g x *ℚ at a p x) ≡ whole 0
+last_amount : (a : ℕ) (g : ℕ → Fraction) (p : Fraction) → sum_to a (λ x. g x *ℚ at a p x) ≡ g a *ℚ p
 unfolding sum_to
-none_below zero a g p h = ap (λ t. g zero *ℚ t) (at_other a zero p (λ e. omega (arith, h, e))) ∙ times_zero _
-none_below (suc n) a g p h =
-    ap₂ (λ s t. s +ℚ g (suc n) *ℚ t) (none_below n a g p (omega (arith, h)))
-    (at_other a (suc n) p (λ e. omega (arith, h, e)))
-    ∙ ap (λ t. whole 0 +ℚ t) (times_zero _) ∙ zero_plus _
+last_amount zero g p = refl
+last_amount (suc a) g p =
+    let here : at (suc a) p (suc a) ≡ p = grind arith in
+    rw (sum_to_zero a (λ x. g x *ℚ at (suc a) p x) (λ x b. none_at (suc a) x g p (λ e. omega (arith, b, e))), here) (zero_plus _)
 
 one_amount : (n a : ℕ) (g : ℕ → Fraction) (p : Fraction) → a ≤ n → sum_to n (λ x. g x *ℚ at a p x) ≡ g a *ℚ p
-unfolding sum_to
-one_amount zero a g p h =
-    let e : a ≡ zero = omega (arith, h) in
-    rw e (ap (λ t. g zero *ℚ t) (at_itself zero p))
-one_amount (suc n) a g p h = elim (cases_lt a (suc n)) [
-  | inl l ↦
-      ap₂ (λ s t. s +ℚ g (suc n) *ℚ t) (one_amount n a g p (omega (arith, l)))
-      (at_other a (suc n) p (λ e. omega (arith, l, e)))
-      ∙ ap (λ t. g a *ℚ p +ℚ t) (times_zero _) ∙ plus_zero _
-  | inr l ↦
-      let e : a ≡ suc n = omega (arith, h, l) in
-      rw e (ap₂ (λ s t. s +ℚ g (suc n) *ℚ t) (none_below n (suc n) g p (omega arith)) (at_itself (suc n) p)
-      ∙ zero_plus _)
-]
-
-none_at_all : (n : ℕ) (g : ℕ → Fraction) → sum_to n (λ x. g x *ℚ whole 0) ≡ whole 0
-unfolding sum_to
-none_at_all zero g = times_zero _
-none_at_all (suc n) g = ap₂ (λ s t. s +ℚ t) (none_at_all n g) (times_zero _) ∙ zero_plus _
+one_amount n a g p h = sum_to_longer a n (λ x. g x *ℚ at a p x) h (λ x lt. none_at a x g p (λ e. omega (arith, lt, e)))
+    ∙ last_amount a g p
 
 -- the sum of a score over the pairs is that over the amounts, by their probabilities
 pub by_amounts : (n : ℕ) (g : ℕ → Fraction) (ps : Pairs) → bound ps ≤ n
     → scored g ps ≡ sum_to n (λ x. g x *ℚ probability ps x)
 unfolding sum_over
-by_amounts n g [] h = sym (none_at_all n g)
+by_amounts n g [] h = sym (sum_to_zero n (λ x. g x *ℚ whole 0) (λ x b. times_zero (g x)))
 by_amounts n g (p ∷ ps) h =
     ap₂ (λ s t. s +ℚ t) (sym (one_amount n p.0 g p.1 (omega (arith, h)))) (by_amounts n g ps (omega (arith, h)))
     ∙ sym (sum_to_plus n (λ x. g x *ℚ at p.0 p.1 x) (λ x. g x *ℚ probability ps x))
@@ -104,45 +82,24 @@ read_none n d (inl none) q e = refl
 read_none n d (inr some) (inl lowest) e = absurd (omega (arith, some, e))
 read_none n d (inr some) (inr common) e = refl
 
-nothing_divided : (k : ℕ) → 0 / k ≡ 0
-nothing_divided k = omega arith
+over_nothing : (n : ℕ) → n over 0 ≡ whole 0
+unfolding ◌over◌ nought
+over_nothing n =
+    read_none (n / gcd n 0) (0 / gcd n 0) _ _ (omega arith) ∙ same nought (whole 0) (sym (whole_num 0)) (sym (whole_den 0))
 
-over_none : (n : ℕ) → n over 0 ≡ nought
-unfolding ◌over◌
-over_none n = read_none (n / gcd n 0) (0 / gcd n 0) _ _ (nothing_divided (gcd n 0))
-
-nought_is : nought ≡ whole 0
-unfolding nought
-nought_is = same nought (whole 0) (sym (whole_num 0)) (sym (whole_den 0))
-
-pub over_nothing : (n : ℕ) → n over 0 ≡ whole 0
-over_nothing n = over_none n ∙ nought_is
-
-times_nought : (k : ℕ) → k * 0 ≡ 0
-times_nought k = omega arith
-
-div_nothing : (x y : Fraction) → y ≡ whole 0 → x /ℚ y ≡ x *ℚ (whole 1 /ℚ y)
+div_nothing : (x : Fraction) → x /ℚ whole 0 ≡ whole 0
 unfolding ◌/ℚ◌
-div_nothing x y e =
-    let none : y.num ≡ 0 = ap (λ (t : Fraction). t.num) e ∙ whole_num 0 in
-    ap (λ k. (x.num * y.den) over k) (ap (λ k. x.den * k) none ∙ times_nought x.den) ∙ over_nothing (x.num * y.den)
-    ∙ sym (ap (λ t. x *ℚ t) (ap (λ k. ((whole 1).num * y.den) over k)
-    (ap (λ k. (whole 1).den * k) none ∙ times_nought (whole 1).den) ∙ over_nothing ((whole 1).num * y.den))
-    ∙ times_zero x)
-
-div_over : (n d m e : ℕ) → 0 < d → 0 < e → n over d /ℚ m over e ≡ n over d *ℚ (whole 1 /ℚ m over e)
-div_over n d m e hd he = elim (eq-zero-or-pos m) [
-  | inl none ↦ div_nothing (n over d) (m over e) (over_same m e 0 1 he (omega arith) (omega (arith, none)))
-  | inr some ↦
-      over_div n d m e hd he some
-      ∙ sym (ap (λ t. n over d *ℚ t) (over_div 1 1 m e (omega arith) he some)
-      ∙ over_mul n d (1 * e) (1 * m) hd (mul-pos (omega arith) some)
-      ∙ over_same _ _ _ _ (mul-pos hd (mul-pos (omega arith) some)) (mul-pos hd some) (omega arith))
-]
+div_nothing x =
+    let none : x.den * (whole 0).num ≡ 0 = rw (whole_num 0) (omega arith) in
+    rw none (over_nothing (x.num * (whole 0).den))
 
 -- a quotient is a product with the inverse, which is 0 for 0
 pub div_as_times : (x y : Fraction) → x /ℚ y ≡ x *ℚ (whole 1 /ℚ y)
-div_as_times = by_two (λ x y. x /ℚ y ≡ x *ℚ (whole 1 /ℚ y)) div_over
+div_as_times x y = elim (zero_or_pos y) [
+  | inl none ↦ rw none (div_nothing x ∙ sym (rw (div_nothing (whole 1)) (times_zero x)))
+  | inr some ↦ times_cancel (x /ℚ y) (x *ℚ (whole 1 /ℚ y)) y some
+      (div_times x y some ∙ sym (times_assoc x (whole 1 /ℚ y) y ∙ rw (div_times (whole 1) y some) (times_one x)))
+]
 
 abbrev pub above : ℕ → Pairs → Pairs
 above a ps = filter (λ p. nat_lt a p.0) ps
@@ -154,8 +111,7 @@ unfolding sum_over
 above_score a g [] = refl
 above_score a g (p ∷ ps) = elim (cases_lt a p.0) [
   | inl h ↦ rw (lt-ltb a p.0 h) (ap (λ t. g p.0 *ℚ p.1 +ℚ t) (above_score a g ps))
-  | inr h ↦ rw (le-ltb a p.0 h) (above_score a g ps
-      ∙ sym (ap (λ t. t +ℚ scored (λ x. cond (nat_lt a x) (g x) (whole 0)) ps) (zero_times p.1) ∙ zero_plus _))
+  | inr h ↦ rw (le-ltb a p.0 h, zero_times p.1, zero_plus (scored (λ x. cond (nat_lt a x) (g x) (whole 0)) ps)) (above_score a g ps)
 ]
 
 above_alike : (a : ℕ) (g : ℕ → Fraction) (ps qs : Pairs) → Alike ps qs → scored g (above a ps) ≡ scored g (above a qs)
@@ -197,13 +153,13 @@ own_means sev x = sym (probability-shares sev.items sev.total x (total_pos sev))
 pub means_alike : (sev : Sev) (ps qs : Pairs) → HasDistribution sev ps → Alike ps qs → HasDistribution sev qs
 means_alike sev ps qs h alike x = h x ∙ alike x
 
-pub conditioned_means : (sev made : Sev) (ps : Pairs) (a : ℕ) → HasDistribution sev ps → HasDistribution made (conditioned a (pairs_of sev))
-    → HasDistribution made (conditioned a ps)
+pub conditioned_means : (sev made : Sev) (ps : Pairs) (a : ℕ) → HasDistribution sev ps
+    → HasDistribution made (conditioned a (pairs_of sev)) → HasDistribution made (conditioned a ps)
 conditioned_means sev made ps a h m = means_alike made _ _ m
     (conditioned_alike a (pairs_of sev) ps (alike_own sev ps h))
 
-pub mapped_means : (sev made : Sev) (ps : Pairs) (f : ℕ → ℕ) → HasDistribution sev ps → HasDistribution made (with_amounts f (pairs_of sev))
-    → HasDistribution made (with_amounts f ps)
+pub mapped_means : (sev made : Sev) (ps : Pairs) (f : ℕ → ℕ) → HasDistribution sev ps
+    → HasDistribution made (with_amounts f (pairs_of sev)) → HasDistribution made (with_amounts f ps)
 mapped_means sev made ps f h m = means_alike made _ _ m (mapped_alike f (pairs_of sev) ps (alike_own sev ps h))
 
 -- ---- mixtures
@@ -224,11 +180,6 @@ probability-scaled w ps x =
 -- the mixture of severities by whole weights is that of what they mean
 pub mixture_alike : (t : ℕ) (atoms : List Sev) (ws : List ℕ) (lists : List Pairs) → AllZip HasDistribution atoms lists
     → Alike (mixture_of t atoms ws) (mixed (map (λ w. w over t) ws) lists)
-mixture_alike t [] [] [] h x = refl
-mixture_alike t [] (w ∷ ws) [] h x = refl
-mixture_alike t (a ∷ atoms) [] (ps ∷ lists) h x = refl
-mixture_alike t [] ws (ps ∷ lists) h x = absurd h
-mixture_alike t (a ∷ atoms) ws [] h x = absurd h
 mixture_alike t (a ∷ atoms) (w ∷ ws) (ps ∷ lists) h x =
     probability-append (scaled (w over t) (pairs_of a)) (mixture_of t atoms ws) x
     ∙ ap₂ (λ s r. s +ℚ r)
@@ -236,3 +187,7 @@ mixture_alike t (a ∷ atoms) (w ∷ ws) (ps ∷ lists) h x =
     ∙ sym (probability-scaled (w over t) ps x))
     (mixture_alike t atoms ws lists h.1 x)
     ∙ sym (probability-append (scaled (w over t) ps) (mixed (map (λ v. v over t) ws) lists) x)
+mixture_alike t [] ws (ps ∷ lists) h x = absurd h
+mixture_alike t (a ∷ atoms) ws [] h x = absurd h
+mixture_alike t [] (w ∷ ws) [] h x = refl
+mixture_alike t atoms ws lists h x = refl

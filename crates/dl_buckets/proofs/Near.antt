@@ -1,20 +1,20 @@
 -- How large the amounts of a severity are, and how many there are.
-use Rattle.dl_buckets.proofs.Common.{◌==◌, amounts_of, ℕ, ◌≡◌, ◌∙◌, ◌*◌, ◌/◌, ◌<◌, ◌≤◌, List, [], ◌∷◌, map, filter, zip, length, get_or, nat_lt, Option, Some, None, Bool, true, false, cond, refl, sym, ap, subst, arith, All, length-map, All-nil, All-cons, All-head, All-tail, All-weaker, All-append, All-map, Fraction, ◌*ℚ◌, IsWhole, Item, Sev, Pairs, conditioned, HasDistribution, Clause, layer, kept, IsClause, whole_num, scaled, with_amounts, layered, ceded_each, GridSev, GridLayer, atom_probs, atom_pairs, mixed, mixed_pairs, weights_of, is_conditioned, layer_pairs, support, IsGridAtom, IsGridSev, IsSevWithin}
+use Rattle.dl_buckets.proofs.Common.{◌==◌, amounts_of, ℕ, ◌≡◌, ◌*◌, ◌/◌, ◌≤◌, List, [], ◌∷◌, map, filter, zip, length, get_or, nat_lt, Option, Some, None, Bool, true, cond, refl, sym, subst, arith, All, length-map, All-nil, All-head, All-tail, All-weaker, All-append, All-map, Fraction, ◌*ℚ◌, IsWhole, Item, Sev, Pairs, conditioned, HasDistribution, Clause, layer, kept, IsClause, whole_num, scaled, with_amounts, layered, ceded_each, GridSev, GridLayer, atom_probs, atom_pairs, mixed, mixed_pairs, weights_of, is_conditioned, layer_pairs, support, IsGridAtom, IsGridSev, IsSevWithin}
 use Rattle.std.proofs.Common.{length-append}
 use Rattle.std.specs.Cmp.{IsEquivalence}
 use Rattle.std.specs.Set.{is_member}
 use Rattle.std.proofs.lemmas.Bool.Decides.{Decides-eqb, nat_tests}
 use Rattle.std.proofs.lemmas.Map.Made.{All-is_member, is_member-Decides, IsDistinct-from_AllPairs, length-le_from_is_member}
 use Rattle.std.proofs.lemmas.List.Kept.{AllPairs-from_increasing}
-use Rattle.std.proofs.Math.Nat.{div-le_of_le-mul}
+use Rattle.std.proofs.Math.Nat.{div-le_of_le-mul, le_refl, le_trans}
+use Rattle.std.proofs.lemmas.Bool.{cond_both}
 use Rattle.std.proofs.lemmas.List.Elements.{All-contains, All-filter}
 use Rattle.std.proofs.lemmas.List.Sums.{count_by-le-length, length-filter}
-use Rattle.std.proofs.lemmas.Slice.Zip.{length-zip}
+use Rattle.std.proofs.lemmas.Slice.Zip.{get_or-zip, length-zip}
 use Rattle.dl_plan.specs.Parts.{kept_parts, parts_in_bucket}
-use Rattle.dl_plan.proofs.Clauses.{layer_le, bucket_pos, kept_whole, kept_only}
+use Rattle.dl_plan.proofs.Clauses.{layer_le, kept_whole, kept_only}
 use Rattle.dl_plan.proofs.Apart.{kept_le}
 use Rattle.dl_buckets.proofs.Items.{items_in, support_all}
-use Rattle.std.proofs.Math.Nat.{le_trans}
 use Rattle.dl_buckets.proofs.Positive.{is_positive, support-mapped}
 
 -- no amount is above b
@@ -24,11 +24,9 @@ Near b ps = All (λ pair. pair.0 ≤ b) ps
 -- ---- the atoms
 
 zip_near : (b : ℕ) (xs : List ℕ) (ys : List Fraction) → All (λ x. x ≤ b) xs → Near b (zip xs ys)
-zip_near b [] ys h = All-nil (λ pair. pair.0 ≤ b)
-zip_near b (x ∷ xs) [] h = All-nil (λ pair. pair.0 ≤ b)
-zip_near b (x ∷ xs) (y ∷ ys) h =
-    All-cons (λ pair. pair.0 ≤ b) (x, y) (zip xs ys) (All-head (λ n. n ≤ b) x xs h)
-    (zip_near b xs ys (All-tail (λ n. n ≤ b) x xs h))
+zip_near b xs ys h k d lt =
+    let both = length-zip xs ys in
+    rw (get_or-zip xs ys k d (omega (arith, both, lt)) (omega (arith, both, lt))) (h k d.0 (omega (arith, both, lt)))
 
 -- ---- the mixture
 
@@ -55,10 +53,8 @@ all_mixed_few n (w ∷ ws) (ps ∷ lists) h =
 
 mixed_near : (b : ℕ) (s : GridSev) → IsSevWithin b s → Near b (mixed_pairs s)
 mixed_near b s near =
-    all_mixed_near b (weights_of s) (map atom_pairs s.atoms)
-    (All-map (Near b) atom_pairs s.atoms
-    (All-weaker (λ a. All (λ amount. amount ≤ b) a.amounts) (λ a. Near b (atom_pairs a)) (λ a. zip_near b a.amounts (atom_probs a))
-    s.atoms near))
+    all_mixed_near b (weights_of s) (map atom_pairs s.atoms) (All-map (Near b) atom_pairs s.atoms
+    (λ k d h. zip_near b (get_or s.atoms k d).amounts (atom_probs (get_or s.atoms k d)) (near k d h)))
 
 mixed_few : (s : GridSev) → IsGridSev s → length (mixed_pairs s) ≤ 65536
 mixed_few s grid =
@@ -82,8 +78,7 @@ conditioned_near b a ps h = All-map (λ pair. pair.0 ≤ b) _ (filter (λ pair. 
     (All-filter (λ pair. nat_lt a pair.0) (λ pair. pair.0 ≤ b) ps h)
 
 conditioned_few : (a : ℕ) (ps : Pairs) → length (conditioned a ps) ≤ length ps
-conditioned_few a ps = subst (λ n. n ≤ length ps) (sym (length-map (filter (λ pair. nat_lt a pair.0) ps) _))
-    (filter_few (λ pair. nat_lt a pair.0) ps)
+conditioned_few a ps = rw length-map (filter_few (λ pair. nat_lt a pair.0) ps)
 
 mapped_near : (b : ℕ) (f : ℕ → ℕ) (ps : Pairs) → ((x : ℕ) → f x ≤ x) → Near b ps → Near b (with_amounts f ps)
 mapped_near b f ps le h =
@@ -92,23 +87,13 @@ mapped_near b f ps le h =
 
 layered_near : (b : ℕ) (limit : Option ℕ) (a : ℕ) (large : Bool) (ps : Pairs) → Near b ps
     → Near b (layered limit a (cond large (conditioned a ps) ps))
-layered_near b limit a true ps h = mapped_near b (layer limit a) (conditioned a ps) (layer_le limit a)
-    (conditioned_near b a ps h)
-layered_near b limit a false ps h = mapped_near b (layer limit a) ps (layer_le limit a) h
+layered_near b limit a large ps h = mapped_near b (layer limit a) (cond large (conditioned a ps) ps) (layer_le limit a)
+    (cond_both large (conditioned a ps) ps (Near b) (λ _. conditioned_near b a ps h) (λ _. h))
 
 layered_few : (limit : Option ℕ) (a : ℕ) (large : Bool) (ps : Pairs)
     → length (layered limit a (cond large (conditioned a ps) ps)) ≤ length ps
-layered_few limit a true ps = omega (
-  arith,
-  length-map {B = ℕ × Fraction} (conditioned a ps)
-      (λ (pair : ℕ × Fraction). (layer limit a pair.0, pair.1)),
-  conditioned_few a ps,
-)
-layered_few limit a false ps = omega (
-  arith,
-  length-map {B = ℕ × Fraction} ps
-      (λ (pair : ℕ × Fraction). (layer limit a pair.0, pair.1)),
-)
+layered_few limit a large ps =
+    rw length-map (cond_both large (conditioned a ps) ps (λ qs. length qs ≤ length ps) (λ _. conditioned_few a ps) (λ _. le_refl _))
 
 -- a layer has no greater amounts, and no more of them
 pub in_layer_near : (o : Option GridLayer) (bang : Bool) (s : GridSev) (b : ℕ) → IsSevWithin b s
@@ -144,8 +129,7 @@ members_few sev ps means =
     ((is_member-Decides Decides-eqb xs q).0 h))
 
 support_few : (ps : Pairs) → length (support ps) ≤ length ps
-support_few ps = subst (λ n. n ≤ length ps) (sym (length-map (filter (λ pair. is_positive pair.1) ps) (λ pair. pair.0)))
-    (filter_few (λ pair. is_positive pair.1) ps)
+support_few ps = rw length-map (filter_few (λ pair. is_positive pair.1) ps)
 
 -- a severity has no more items than what it means has amounts
 pub items_few : (sev : Sev) (ps : Pairs) → HasDistribution sev ps → length sev.items ≤ length ps
@@ -167,12 +151,8 @@ kept_small : (clause : Clause) (x : ℕ) → IsClause clause → IsWhole (kept c
 kept_small clause x cession is =
     let c : ℕ = parts_in_bucket clause in
     let p : ℕ = kept_parts clause c x in
-    subst (λ n. n ≤ x) (sym (ap (λ (y : Fraction). y.num)
-    (kept_whole clause x c p refl refl (kept_only clause x c p refl refl is)) ∙ whole_num (p / c)))
-    (at_most p c x (bucket_pos clause) (kept_le clause c x cession))
-  where
-    at_most : (p c x : ℕ) → 0 < c → p ≤ x * c → p / c ≤ x
-    at_most p c x pos h = div-le_of_le-mul c (omega (arith, h))
+    let le : p ≤ c * x = omega (arith, kept_le clause c x cession) in
+    rw (kept_whole clause x c p refl refl (kept_only clause x c p refl refl is), whole_num (p / c)) (div-le_of_le-mul c le)
 
 -- a clause with fine shares that maps each amount of positive probability to a whole number makes none greater
 pub ceded_near : (b : ℕ) (clause : Clause) (ps : Pairs) → IsClause clause

@@ -12,8 +12,7 @@ use Rattle.dl_buckets.proofs.Positive.{support-mapped}
 
 pub kept_num : (o : Option ℕ) (x : Fraction) (y : ℕ) → MatchOption o (¬ IsWhole x) (λ z. x ≡ whole z)
     → o ≡ Some y → x.num ≡ y
-kept_num o x y h is = ap (λ (z : Fraction). z.num)
-    (subst (λ (p : Option ℕ). MatchOption p (¬ IsWhole x) (λ z. x ≡ whole z)) is h) ∙ whole_num y
+kept_num o x y h is = ap (λ (z : Fraction). z.num) (rw is at h) ∙ whole_num y
 
 module _ (clause : Clause) (xs ys : List ℕ) (i : ℕ) (lt : i < length xs)
     (so_far : ys ≡ map (λ x. (kept clause x).num) (take i xs) ++ drop i xs) where

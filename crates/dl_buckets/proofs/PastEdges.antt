@@ -1,40 +1,23 @@
 -- Past its greatest edge a clause's map is a straight line: what that makes of the multiples of a step.
-use Rattle.dl_buckets.proofs.Common.{◌↔◌, length, get_or, ℕ, zero, suc, ◌≡◌, ◌∙◌, ◌+◌, ◌*◌, ◌/◌, ◌<◌, ◌≤◌, ◌==◌, ◌⊎◌, not, max, Bool, true, false, List, [], ◌∷◌, Option, Some, None, sym, ap, subst, arith, inl, inr, All, MatchOption, cases_lt, eqb-true, ne_eqb, not-false, list_any_none, All-nil, All-cons, Fraction, whole, CedeLayer, IsWhole, Clause, kept, IsClause, whole_den, is_whole, is_off, is_off_multiples}
-use Rattle.std.proofs.Common.{is_some, mul-le-mul_right, fold}
+use Rattle.dl_buckets.proofs.Common.{◌↔◌, length, get_or, ℕ, zero, suc, ◌≡◌, ◌∙◌, ◌+◌, ◌*◌, ◌/◌, ◌<◌, ◌≤◌, ◌==◌, ◌⊎◌, not, Bool, true, false, Option, Some, None, sym, ap, subst, arith, inl, inr, All, MatchOption, cases_lt, eqb-true, ne_eqb, not-false, list_any_none, Fraction, whole, IsWhole, Clause, kept, IsClause, whole_den, is_whole, is_off, is_off_multiples}
+use Rattle.std.proofs.Common.{is_some, mul-le-mul_right}
 use Rattle.std.specs.List.{range_with_len}
 use Rattle.std.proofs.lemmas.Bool.{not_from_false}
-use Rattle.std.proofs.Math.Nat.{eq-zero-or-pos, le-max_left, le-max_right}
+use Rattle.std.proofs.Math.Nat.{eq-zero-or-pos}
 use Rattle.dl_buckets.specs.Clauses.{greatest_edge}
 use Rattle.std.proofs.lemmas.List.FromFn.{length-range_with_len, get_or-range_with_len}
 use Rattle.dl_plan.specs.Horizon.{edge}
-use Rattle.dl_plan.proofs.Horizons.{attach_le}
+use Rattle.dl_plan.proofs.Horizons.{attach_le, edges_from}
 use Rattle.dl_plan.proofs.Straight.{IsClear}
 use Rattle.dl_sev.proofs.Lattices.{on_line}
 use Rattle.dl_buckets.proofs.Values.{never}
 
--- ---- edges
-
-edges_from : ℕ → List CedeLayer → ℕ
-edges_from m ls = fold (λ greatest l. max greatest (edge l)) m ls
-
-edges_above : (m : ℕ) (ls : List CedeLayer) → m ≤ edges_from m ls
-unfolding edges_from
-edges_above m [] = omega arith
-edges_above m (l ∷ ls) = omega (arith, le-max_left m (edge l), edges_above (max m (edge l)) ls)
-
-clear_past : (m : ℕ) (ls : List CedeLayer) (x y : ℕ) → edges_from m ls ≤ x → All (IsClear x y) ls
-unfolding edges_from
-clear_past m [] x y h = All-nil (IsClear x y)
-clear_past m (l ∷ ls) x y h =
-    let top : edge l ≤ x = omega (arith, le-max_right m (edge l), edges_above (max m (edge l)) ls, h) in
-    All-cons (IsClear x y) l ls
-    (record { attach = inl (omega (arith, attach_le l.limit l.attach, top)); edge = inl top })
-    (clear_past (max m (edge l)) ls x y h)
-
-module _ (clause : Clause) (s : ℕ) (edges : greatest_edge clause ≤ s) where
-  clear_at : (x y : ℕ) → s ≤ x → All (IsClear x y) clause.1
-  unfolding edges_from
-  clear_at x y h = clear_past 0 clause.1 x y (omega (arith, edges, h))
+-- past the greatest edge the map does not bend
+clear_at : (clause : Clause) (x y : ℕ) → greatest_edge clause ≤ x → All (IsClear x y) clause.1
+clear_at clause x y h k d lt =
+    let l = get_or clause.1 k d in
+    let top : edge l ≤ x = edges_from 0 clause.1 x h k d lt in
+    record { attach = inl (omega (arith, attach_le l.limit l.attach, top)); edge = inl top }
 
 -- ---- amounts that are mapped to no whole number
 
@@ -88,10 +71,8 @@ module _ (clause : Clause) (step : ℕ) where
           → IsWhole (kept clause (n * step + 2 * step))
       last before (inl low) = subst (λ x. IsWhole (kept clause x)) (omega arith) (known none (n + 2) low)
       last before (inr high) =
-          on_line clause step cession (n * step) (clear_at clause (n * step)
-          (past_edge (greatest_edge clause) n step pos (omega (arith, high))) (n * step)
-          (n * step + 2 * step) (omega arith))
-          before.0 before.1
+          on_line clause step cession (n * step) (clear_at clause (n * step) (n * step + 2 * step)
+          (past_edge (greatest_edge clause) n step pos (omega (arith, high)))) before.0 before.1
 
   -- where the multiples that are tried are mapped to whole numbers, all are
   pub fits_tried : IsClause clause → is_off_multiples clause step ≡ false → (n : ℕ) → IsWhole (kept clause (n * step))

@@ -1,6 +1,5 @@
 -- The values of a list whose numerals and ranges are good.
-use Rattle.dl_buckets.proofs.Common.{ℕ, ◌≡◌, ◌∙◌, ◌<◌, ◌≤◌, List, [], ◌∷◌, map, flat_map, length, take, get_or, nat_lt, Option, Some, None, refl, sym, ap, subst, arith, All, All-nil, All-cons, All-map, length-map, Fraction, Span, at_if, else_second, IsClean, flaws_else, most_values, HasPartsOf18Digits, IsRange, PassesRoom, range_values, Range, Numeral, ListItem, ListAst, IsFormedList, Flaws, Gridded, IsReadTo, AgreeToFirst, AreNone, places, flaws_in, flaws_within, range_at, long_at, flaws_of_numeral, is_no_range, flaws_of_item, flaws_of_list, range_of, placed_range, placed_in, placed_item, placed_values, AreTooMany}
-use Rattle.std.specs.Prelude.{◌&&◌, is_some}
+use Rattle.dl_buckets.proofs.Common.{ℕ, ◌≡◌, ◌∙◌, ◌<◌, ◌≤◌, List, [], ◌∷◌, map, flat_map, length, take, get_or, nat_lt, Option, Some, None, refl, sym, ap, subst, arith, All, All-nil, All-cons, All-map, length-map, Fraction, Span, at_if, else_second, IsClean, flaws_else, most_values, HasPartsOf18Digits, IsRange, PassesRoom, range_values, Range, Numeral, ListItem, ListAst, IsFormedList, Flaws, Gridded, IsReadTo, AgreeToFirst, AreNone, places, flaws_in, flaws_within, range_at, long_at, flaws_of_numeral, flaws_of_item, flaws_of_list, placed_range, placed_in, placed_item, placed_values, AreTooMany}
 use Rattle.std.proofs.lemmas.List.Folds.{flat_map-map, length-flat_map-take}
 use Rattle.dl_sev.specs.declared.fault.ExpandFault.{ExpandFault}
 use Rattle.dl_sev.specs.declared.fault.ExpandFault.TheVariants.{TooLong, OutOfMemory}
@@ -37,16 +36,13 @@ no_later from None (Some n) bad h = (h.0, (h.1.0, (refl, (refl, (refl, (refl, (r
 no_later from (Some n) None bad h = (h.0, (h.1.0, (refl, (refl, (refl, (refl, (refl, tt)))))))
 no_later from (Some n) (Some m) bad h = (h.0, (h.1.0, (refl, (refl, (refl, (refl, (refl, tt)))))))
 
-item_clean : (i : ListItem) → AreNone (take 2 (places (flaws_of_item i))) → IsClean (flaws_of_item i)
-item_clean i h = no_later i.from i.to i.step (at_if (is_some i.to && is_no_range (range_of i)) i.span) h
-
 items_clean : (items : List ListItem) → AreNone (take 2 (places (flaws_in flaws_of_item items)))
     → All (λ i. IsClean (flaws_of_item i)) items
 unfolding flaws_in
 items_clean [] h = All-nil (λ i. IsClean (flaws_of_item i))
 items_clean (i ∷ items) h =
     All-cons (λ j. IsClean (flaws_of_item j)) i items
-    (item_clean i (keeps_first 2 (flaws_of_item i) (flaws_in flaws_of_item items) h))
+    (no_later i.from i.to i.step _ (keeps_first 2 (flaws_of_item i) (flaws_in flaws_of_item items) h))
     (items_clean items (keeps_second 2 (flaws_of_item i) (flaws_in flaws_of_item items) h))
 
 module _ (l : ListAst) (formed : IsFormedList l) (ranges : Gridded (List (Range × Span)))

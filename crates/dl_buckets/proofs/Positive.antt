@@ -1,5 +1,6 @@
 -- The amounts of positive probability, step by step.
-use Rattle.dl_buckets.proofs.Common.{◌≡◌, ◌∙◌, ℕ, ◌+◌, ◌<◌, ◌≤◌, ◌&&◌, List, [], ◌∷◌, ◌++◌, map, filter, zip, length, take, get_or, nat_lt, not, Bool, true, false, Option, Some, None, cond, refl, sym, ap, ap₂, subst, arith, inl, inr, append_assoc, All, list_any, lt-ltb, le-ltb, map-append, map_more, take_more, take_all, length-map, append-nil, list_any_none, All-nil, All-cons, All-head, All-tail, All-weaker, Fraction, whole, ◌*ℚ◌, ◌/ℚ◌, ◌≤ℚ◌, ◌<ℚ◌, zero_or_pos, times_zero, zero_times, lt_of_lt_of_le, le_plus, plus_comm, num_pos, whole_num, Pairs, mass, conditioned, layer, scaled, with_amounts, layered, GridSev, GridLayer, GridUnit, at_if, within, not_at, mixed, mixed_pairs, is_conditioned, layer_pairs, support}
+use Rattle.dl_buckets.proofs.Common.{◌≡◌, ◌∙◌, ℕ, ◌+◌, ◌<◌, ◌≤◌, ◌&&◌, List, [], ◌∷◌, ◌++◌, map, filter, zip, length, take, get_or, nat_lt, Bool, true, false, Option, Some, None, cond, refl, sym, ap, ap₂, subst, arith, inl, inr, append_assoc, All, lt-ltb, le-ltb, map-append, map_more, take_more, take_all, length-map, append-nil, list_any_none, All-nil, All-cons, All-head, All-tail, All-weaker, Fraction, whole, ◌*ℚ◌, ◌/ℚ◌, ◌≤ℚ◌, ◌<ℚ◌, zero_or_pos, times_zero, zero_times, lt_of_lt_of_le, le_plus, plus_comm, num_pos, whole_num, Pairs, mass, conditioned, layer, scaled, with_amounts, layered, GridSev, GridLayer, GridUnit, mixed, mixed_pairs, is_conditioned, layer_pairs, support}
+use Rattle.std.proofs.lemmas.Bool.{cases_Bool}
 use Rattle.std.proofs.lemmas.List.{length-take-le}
 use Rattle.std.proofs.lemmas.Slice.Zip.{get_or-zip, length-zip}
 use Rattle.std.proofs.lemmas.List.Elements.{filter-append}
@@ -20,21 +21,17 @@ positive_no x e = le-ltb 0 x.num (subst (λ n. n ≤ 0) (sym (ap (λ (y : Fracti
 
 positive_times : (w p : Fraction) → is_positive (w *ℚ p) ≡ (is_positive w && is_positive p)
 positive_times w p = elim (zero_or_pos w) [
-  | inl e ↦ positive_no (w *ℚ p) (ap (λ t. t *ℚ p) e ∙ zero_times p)
-      ∙ sym (ap (λ b. b && is_positive p) (positive_no w e))
+  | inl e ↦ rw (e, zero_times p, positive_no (whole 0) refl) refl
   | inr h ↦ elim (zero_or_pos p) [
-    | inl f ↦ positive_no (w *ℚ p) (ap (λ t. w *ℚ t) f ∙ times_zero w)
-        ∙ sym (ap₂ (λ b d. b && d) (positive_yes w h) (positive_no p f))
-    | inr k ↦ positive_yes (w *ℚ p) (times_pos w p h k)
-        ∙ sym (ap₂ (λ b d. b && d) (positive_yes w h) (positive_yes p k))
+    | inl f ↦ rw (f, times_zero w, positive_yes w h) refl
+    | inr k ↦ rw (positive_yes w h, positive_yes p k) (positive_yes (w *ℚ p) (times_pos w p h k))
   ]
 ]
 
 -- a quotient by what is at least as large is positive with it
 positive_div : (p m : Fraction) → p ≤ℚ m → is_positive (p /ℚ m) ≡ is_positive p
 positive_div p m h = elim (zero_or_pos p) [
-  | inl e ↦ positive_no (p /ℚ m) (div_as_times p m ∙ ap (λ t. t *ℚ (whole 1 /ℚ m)) e ∙ zero_times _)
-      ∙ sym (positive_no p e)
+  | inl e ↦ rw (e, div_as_times (whole 0) m, zero_times (whole 1 /ℚ m)) refl
   | inr k ↦ positive_yes (p /ℚ m) (div_pos p m k (lt_of_lt_of_le (whole 0) p m k h)) ∙ sym (positive_yes p k)
 ]
 
@@ -42,47 +39,30 @@ positive_div p m h = elim (zero_or_pos p) [
 
 pub support-append : (ps qs : Pairs) → support (ps ++ qs) ≡ support ps ++ support qs
 support-append ps qs =
-    ap (map (λ pair. pair.0)) (filter-append (λ pair. is_positive pair.1) ps qs)
-    ∙ map-append (λ pair. pair.0) (filter (λ pair. is_positive pair.1) ps) (filter (λ pair. is_positive pair.1) qs)
-
-kept_if : (b d : Bool) (x : ℕ) (xs ys : List ℕ) → ys ≡ cond b xs []
-    → cond (b && d) (x ∷ ys) ys ≡ cond b (cond d (x ∷ xs) xs) []
-kept_if true true x xs ys e = ap (λ zs. x ∷ zs) e
-kept_if true false x xs ys e = e
-kept_if false d x xs ys e = e
+    rw (filter-append (λ pair. is_positive pair.1) ps qs) (map-append (λ pair. pair.0) _ _)
 
 pub support_step : (p : ℕ × Fraction) (ps : Pairs)
     → support (p ∷ ps) ≡ cond (is_positive p.1) (p.0 ∷ support ps) (support ps)
-support_step p ps = split (is_positive p.1)
-  where
-    split : (b : Bool) → map (λ (pair : ℕ × Fraction). pair.0)
-        (cond b (p ∷ filter (λ pair. is_positive pair.1) ps) (filter (λ pair. is_positive pair.1) ps))
-        ≡ cond b (p.0 ∷ support ps) (support ps)
-    split true = refl
-    split false = refl
-
-same_if : (b : Bool) (xs : List ℕ) → xs ≡ cond b xs xs
-same_if true xs = refl
-same_if false xs = refl
+support_step p ps = elim (cases_Bool (is_positive p.1)) [ inl e ↦ rw e refl | inr e ↦ rw e refl ]
 
 pub support-scaled : (w : Fraction) (ps : Pairs) → support (scaled w ps) ≡ cond (is_positive w) (support ps) []
-support-scaled w [] = same_if (is_positive w) []
-support-scaled w (p ∷ ps) =
-    support_step (p.0, w *ℚ p.1) (scaled w ps)
-    ∙ ap (λ b. cond b (p.0 ∷ support (scaled w ps)) (support (scaled w ps))) (positive_times w p.1)
-    ∙ kept_if (is_positive w) (is_positive p.1) p.0 (support ps) (support (scaled w ps)) (support-scaled w ps)
-    ∙ ap (λ xs. cond (is_positive w) xs []) (sym (support_step p ps))
+support-scaled w [] = elim (cases_Bool (is_positive w)) [ inl e ↦ rw e refl | inr e ↦ rw e refl ]
+support-scaled w (p ∷ ps) = elim (cases_Bool (is_positive w)) [
+  | inr e ↦ rw (positive_times w p.1, e) (rw e at (support-scaled w ps))
+  | inl e ↦ elim (cases_Bool (is_positive p.1)) [
+    | inl f ↦ rw (positive_times w p.1, e, f) (ap (λ xs. p.0 ∷ xs) (rw e at (support-scaled w ps)))
+    | inr f ↦ rw (positive_times w p.1, e, f) (rw e at (support-scaled w ps))
+  ]
+]
 
 -- a test of what is mapped is one of what it is mapped to
 filter-mapped : {X Y : Type 0} (p : Y → Bool) (f : X → Y) (xs : List X)
     → filter p (map f xs) ≡ map f (filter (λ x. p (f x)) xs)
 filter-mapped p f [] = refl
-filter-mapped p f (x ∷ xs) =
-    ap (λ ys. cond (p (f x)) (f x ∷ ys) ys) (filter-mapped p f xs) ∙ split (p (f x)) (filter (λ y. p (f y)) xs)
-  where
-    split : (b : Bool) (ys : List _) → cond b (f x ∷ map f ys) (map f ys) ≡ map f (cond b (x ∷ ys) ys)
-    split true ys = refl
-    split false ys = refl
+filter-mapped p f (x ∷ xs) = elim (cases_Bool (p (f x))) [
+  | inl e ↦ rw e (ap (λ ys. f x ∷ ys) (filter-mapped p f xs))
+  | inr e ↦ rw e (filter-mapped p f xs)
+]
 
 filter-turned : {X : Type 0} (p q : X → Bool) (xs : List X) → filter p (filter q xs) ≡ filter q (filter p xs)
 filter-turned p q [] = refl
@@ -116,7 +96,7 @@ mass_bounds (q ∷ qs) =
     All-cons (λ r. r.1 ≤ℚ mass (q ∷ qs)) q qs (le_plus q.1 (mass qs))
     (All-weaker (λ r. r.1 ≤ℚ mass qs) (λ r. r.1 ≤ℚ mass (q ∷ qs))
     (λ r h. le_trans r.1 (mass qs) (mass (q ∷ qs)) h
-    (subst (λ t. mass qs ≤ℚ t) (plus_comm (mass qs) q.1) (le_plus (mass qs) q.1))) qs (mass_bounds qs))
+    (rw (plus_comm q.1 (mass qs)) (le_plus (mass qs) q.1))) qs (mass_bounds qs))
 
 abbrev over_mass : Fraction → Pairs → Pairs
 over_mass m qs = map (λ pair. (pair.0, pair.1 /ℚ m)) qs
@@ -147,19 +127,9 @@ support_to-more xs ys i d e h same =
 
 module _ (start made : List ℕ) (xs : List ℕ) (ys : List Fraction) (i d : ℕ) (p : Fraction) (b : Bool) (h : i < length xs)
     (same : length xs ≡ length ys) (test : b ≡ is_positive (get_or ys i p)) (so_far : made ≡ start ++ support_to xs ys i) where
-  next : start ++ support_to xs ys (i + 1) ≡ made ++ cond b (get_or xs i d ∷ []) []
-  next =
-      ap (λ zs. start ++ zs) (support_to-more xs ys i d p h same
-      ∙ ap (λ zs. support_to xs ys i ++ zs) (support_step (get_or xs i d, get_or ys i p) []))
-      ∙ sym (append_assoc start (support_to xs ys i) (cond (is_positive (get_or ys i p)) (get_or xs i d ∷ []) []))
-      ∙ ap₂ (λ zs t. zs ++ cond t (get_or xs i d ∷ []) []) (sym so_far) (sym test)
-
-  pub positive-more : (new : List ℕ) → b ≡ true → new ≡ made ++ get_or xs i d ∷ []
-      → new ≡ start ++ support_to xs ys (i + 1)
-  positive-more new passes pushed = pushed ∙ ap (λ t. made ++ cond t (get_or xs i d ∷ []) []) (sym passes) ∙ sym next
-
-  pub zero-more : b ≡ false → made ≡ start ++ support_to xs ys (i + 1)
-  zero-more fails = sym (append-nil made) ∙ ap (λ t. made ++ cond t (get_or xs i d ∷ []) []) (sym fails) ∙ sym next
+  pub amount-more : made ++ cond b (get_or xs i d ∷ []) [] ≡ start ++ support_to xs ys (i + 1)
+  amount-more = rw (so_far, test, support_to-more xs ys i d p h same, support_step (get_or xs i d, get_or ys i p) [])
+      (append_assoc start (support_to xs ys i) _)
 
 mixed-push : (ws : List Fraction) (lists : List Pairs) (w : Fraction) (ps : Pairs) → length ws ≡ length lists
     → mixed (ws ++ w ∷ []) (lists ++ ps ∷ []) ≡ mixed ws lists ++ scaled w ps
@@ -188,19 +158,12 @@ module _ {A : Type 0} (g : A → Pairs) (ws : List Fraction) (atoms : List A) (i
     (made : List ℕ) (h : i < length atoms) (same : length ws ≡ length atoms)
     (test : b ≡ is_positive (get_or ws i w)) (is : a ≡ get_or atoms i a)
     (so_far : made ≡ support (mixed_to g ws atoms i)) where
-  next_atom : support (mixed_to g ws atoms (i + 1)) ≡ made ++ cond b (support (g a)) []
-  next_atom =
-      ap support (mixed_to-more g ws atoms i w a h same
+  pub atom-more : made ++ cond b (support (g a)) [] ≡ support (mixed_to g ws atoms (i + 1))
+  atom-more = sym (ap support (mixed_to-more g ws atoms i w a h same
       ∙ ap (λ (c : A). mixed_to g ws atoms i ++ scaled (get_or ws i w) (g c)) (sym is))
       ∙ support-append (mixed_to g ws atoms i) (scaled (get_or ws i w) (g a))
       ∙ ap₂ (λ zs ps. zs ++ ps) (sym so_far)
-      (support-scaled (get_or ws i w) (g a) ∙ ap (λ t. cond t (support (g a)) []) (sym test))
-
-  pub atom-more : (new : List ℕ) → b ≡ true → new ≡ made ++ support (g a) → new ≡ support (mixed_to g ws atoms (i + 1))
-  atom-more new passes pushed = pushed ∙ ap (λ t. made ++ cond t (support (g a)) []) (sym passes) ∙ sym next_atom
-
-  pub atom-none : b ≡ false → made ≡ support (mixed_to g ws atoms (i + 1))
-  atom-none fails = sym (append-nil made) ∙ ap (λ t. made ++ cond t (support (g a)) []) (sym fails) ∙ sym next_atom
+      (support-scaled (get_or ws i w) (g a) ∙ ap (λ t. cond t (support (g a)) []) (sym test)))
 
 pub all-atoms : {A : Type 0} (g : A → Pairs) (ws : List Fraction) (atoms : List A) (i : ℕ) → length atoms ≤ i
     → length ws ≡ length atoms → support (mixed_to g ws atoms i) ≡ support (mixed ws (map g atoms))
@@ -221,35 +184,25 @@ layer_support b limit a ps = support-mapped (layer limit a) (cond b (conditioned
     ∙ ap (map (layer limit a)) (support_if b a ps)
 
 -- what the layer takes of the amounts
-pub taken_support : (o : Option GridLayer) (l : GridLayer) (bang : Bool) (s : GridSev) (xs made : List ℕ) (large : Bool) → o ≡ Some l
-    → xs ≡ support (mixed_pairs s) → large ≡ is_conditioned bang l
+pub taken_support : (o : Option GridLayer) (l : GridLayer) (bang : Bool) (s : GridSev) (xs made : List ℕ) (large : Bool)
+    → o ≡ Some l → xs ≡ support (mixed_pairs s) → large ≡ is_conditioned bang l
     → made ≡ map (layer l.limit l.attach) (cond large (filter (nat_lt l.attach) xs) xs)
     → made ≡ support (layer_pairs o bang s)
 taken_support o l bang s xs made large is amounts test e =
-    e ∙ ap₂ (λ (b : Bool) (ys : List ℕ). map (layer l.limit l.attach) (cond b (filter (nat_lt l.attach) ys) ys)) test
-    amounts
-    ∙ sym (layer_support (is_conditioned bang l) l.limit l.attach (mixed_pairs s))
-    ∙ ap (λ p. support (layer_pairs p bang s)) (sym is)
+    rw (is, e, amounts, test) (sym (layer_support (is_conditioned bang l) l.limit l.attach (mixed_pairs s)))
 
 -- what the layer makes of the mixture
 pub in_layer_is : (o : Option GridLayer) (l : GridLayer) (bang : Bool) (s : GridSev) (large : Bool) → o ≡ Some l
     → is_conditioned bang l ≡ large
     → layered l.limit l.attach (cond large (conditioned l.attach (mixed_pairs s)) (mixed_pairs s)) ≡ layer_pairs o bang s
 in_layer_is o l bang s large is test =
-    ap (λ b. layered l.limit l.attach (cond b (conditioned l.attach (mixed_pairs s)) (mixed_pairs s))) (sym test)
-    ∙ ap (λ p. layer_pairs p bang s) (sym is)
+    rw (is, test) refl
 
 -- an amount exceeds the attachment where it should
 pub reached : (u : GridUnit) (l : GridLayer) → u.layer ≡ Some l → is_conditioned u.bang l ≡ true → none_above u ≡ None
     → All (λ x. x ≤ l.attach) (support (mixed_pairs u.sev)) → ⊥
 unfolding none_above
 reached u l is large none all =
-    clash (is_conditioned u.bang l) (list_any (nat_lt l.attach) (support (mixed_pairs u.sev))) large
-    (list_any_none (nat_lt l.attach) (support (mixed_pairs u.sev)) (λ k d h. le-ltb l.attach _ (all k d h)))
-    (not_at _ l.span (ap (within (λ (m : GridLayer). at_if (is_conditioned u.bang m
-    && not (list_any (nat_lt m.attach) (support (mixed_pairs u.sev)))) m.span)) (sym is) ∙ none))
-  where
-    clash : (a b : Bool) → a ≡ true → b ≡ false → (a && not b) ≡ false → ⊥
-    clash true true p q r = absurd (cc)
-    clash true false p q r = absurd (cc)
-    clash false b p q r = absurd (cc)
+    let under = list_any_none (nat_lt l.attach) (support (mixed_pairs u.sev)) (λ k d h. le-ltb l.attach _ (all k d h)) in
+    let told : Some l.span ≡ None = rw (is, large, under) at none in
+    absurd (cc)

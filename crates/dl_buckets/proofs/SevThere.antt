@@ -1,5 +1,5 @@
 -- A unit whose fractions are fine has a final severity.
-use Rattle.dl_buckets.proofs.Common.{ℕ, ◌≡◌, ◌∙◌, ◌≤◌, List, [], ◌∷◌, map, length, Bool, true, false, cond, Option, Some, None, refl, sym, subst, All, AllZip, length-map, All-head, All-tail, whole, Item, Sev, Weights, IsWeighing, IsFineTo30Bits, Pairs, conditioned, HasDistribution, layer, kept, sum_of, mixture, layered, GridAtom, GridLayer, GridClause, GridUnit, clause_of, atom_probs, atom_pairs, weights_of, mixed_pairs, is_conditioned, layer_pairs, severity_in_layer, ceded_pairs, final_severity, IsGridAtom, IsSevWithin, IsSevWeighted, AreProbabilities}
+use Rattle.dl_buckets.proofs.Common.{ℕ, ◌≡◌, ◌∙◌, ◌≤◌, List, [], ◌∷◌, map, length, Bool, true, false, cond, Option, Some, None, refl, sym, subst, All, AllZip, length-map, All-head, All-tail, whole, Item, Sev, Weights, IsWeighing, IsFineTo30Bits, Pairs, conditioned, HasDistribution, layer, kept, sum_of, mixture, with_amounts, GridAtom, GridLayer, GridClause, GridUnit, clause_of, atom_probs, atom_pairs, weights_of, mixed_pairs, is_conditioned, layer_pairs, severity_in_layer, ceded_pairs, final_severity, IsGridAtom, IsSevWithin, IsSevWeighted, AreProbabilities}
 use Rattle.dl_buckets.specs.Kept.{IsFineSev}
 use Rattle.dl_sev.proofs.Mixed.{mixture_one}
 use Rattle.dl_buckets.proofs.Parts.{sev_weighted}
@@ -14,6 +14,9 @@ use Rattle.dl_buckets.proofs.SevSteps.{sev_of, mapped_sev, exceeding_sev}
 -- a severity that means these amounts
 abbrev pub Meant : Pairs → Type 0
 Meant ps = (sev : Sev) × HasDistribution sev ps
+
+mapped_meant : (f : ℕ → ℕ) (ps : Pairs) → Meant ps → Meant (with_amounts f ps)
+mapped_meant f ps sev = let made = mapped_sev f sev.0 in (made.0, mapped_means sev.0 made.0 ps f sev.1 made.1)
 
 atom_sev : (a : GridAtom) → IsGridAtom a → AreProbabilities (atom_probs a)
     → Meant (atom_pairs a)
@@ -51,52 +54,22 @@ module _ (u : GridUnit) (fine : IsFineSev u) where
       (mixture_one w.total atoms.0 w.weights weighed.some lengths weighed.sum) in
       (made.0, mixture_means atoms.0 w (weights_of u.sev) lists weighed atoms.1 made.0 made.1)
 
-  module _ (l : GridLayer) (is : u.layer ≡ Some l) where
-    abbrev attach : ℕ
-    attach = l.attach
-
-    abbrev cut : ℕ → ℕ
-    cut = layer l.limit l.attach
-
-    abbrev mixed : Pairs
-    mixed = mixed_pairs u.sev
-
-    by_size : (b : Bool) → is_conditioned u.bang l ≡ b → Meant (layer_pairs (Some l) u.bang u.sev)
-    by_size true large =
-        let all = mixture_sev in
-        let part = exceeding_sev attach all.0
-        (λ none. reached u l is large fine.layered.reached
-        (support_within all.0 mixed all.1 attach none)) in
-        let made = mapped_sev cut part.0 in (
-          made.0,
-          subst (λ b. HasDistribution made.0 (layered l.limit attach (cond b (conditioned attach mixed) mixed)))
-              (sym large)
-              (mapped_means part.0 made.0 (conditioned attach mixed) cut
-              (conditioned_means all.0 part.0 mixed attach all.1 part.1) made.1),
-        )
-    by_size false small =
-        let all = mixture_sev in
-        let made = mapped_sev cut all.0 in (
-          made.0,
-          subst (λ b. HasDistribution made.0 (layered l.limit attach (cond b (conditioned attach mixed) mixed)))
-              (sym small)
-              (mapped_means all.0 made.0 mixed cut all.1 made.1),
-        )
+  by_size : (l : GridLayer) → u.layer ≡ Some l → (b : Bool) → is_conditioned u.bang l ≡ b
+      → Meant (cond b (conditioned l.attach (mixed_pairs u.sev)) (mixed_pairs u.sev))
+  by_size l is true large =
+      let all = mixture_sev in
+      let part = exceeding_sev l.attach all.0 (λ none. reached u l is large fine.layered.reached
+      (support_within all.0 (mixed_pairs u.sev) all.1 l.attach none)) in
+      (part.0, conditioned_means all.0 part.0 (mixed_pairs u.sev) l.attach all.1 part.1)
+  by_size l is false small = mixture_sev
 
   in_layer : (o : Option GridLayer) → u.layer ≡ o → Meant (layer_pairs o u.bang u.sev)
   in_layer None is = mixture_sev
-  in_layer (Some l) is = by_size l is (is_conditioned u.bang l) refl
-
-  layer_sev : Meant (severity_in_layer u)
-  layer_sev = in_layer u.layer refl
+  in_layer (Some l) is = mapped_meant (layer l.limit l.attach) _ (by_size l is (is_conditioned u.bang l) refl)
 
   final_of : (o : Option GridClause) → Meant (ceded_pairs o (severity_in_layer u))
-  final_of None = layer_sev
-  final_of (Some c) =
-      let f : ℕ → ℕ = λ x. (kept (clause_of c) x).num in
-      let sev = layer_sev in
-      let made = mapped_sev f sev.0 in
-      (made.0, mapped_means sev.0 made.0 (severity_in_layer u) f sev.1 made.1)
+  final_of None = in_layer u.layer refl
+  final_of (Some c) = mapped_meant (λ x. (kept (clause_of c) x).num) (severity_in_layer u) (in_layer u.layer refl)
 
   -- with few items, and small amounts
   pub final_there : (sev : Sev) × HasDistribution sev (final_severity u)

@@ -1,20 +1,17 @@
 -- Fine probabilities that sum to 1, and their whole weights.
-use Rattle.dl_buckets.proofs.Common.{not-false, leb-true, le-leb, eqb-true, ne_eqb, eq-eqb, false_from_ne_true, ◌≡◌, ◌≢◌, ◌∙◌, ℕ, zero, suc, ◌*◌, ◌<◌, ◌≤◌, ◌^◌, List, [], ◌∷◌, ◌++◌, map, length, not, ◌&&◌, Bool, true, false, Option, Some, None, refl, sym, ap, ap₂, subst, arith, All, sum_by, ◌∣◌, IfSome, MatchOption, All-nil, All-cons, All-head, All-tail, Fraction, whole, ◌over◌, over_self, over_same, whole_num, whole_den, IsFineTo30Bits, common_denominator, common_pos, den_divides, sum_of, Weights, IsWeighing, Span, at_if, Shares, is_fine, is_one, is_not_one, probs_among, weights_over, IsShares, AreProbabilities}
+use Rattle.dl_buckets.proofs.Common.{not-false, leb-true, le-leb, eqb-true, false_from_ne_true, ◌≡◌, ◌≢◌, ◌∙◌, ℕ, zero, suc, ◌<◌, ◌≤◌, ◌^◌, List, [], ◌∷◌, ◌++◌, map, length, true, false, Option, Some, None, inl, inr, refl, sym, ap, ap₂, subst, arith, All, ◌∣◌, IfSome, MatchOption, All-head, All-tail, Fraction, whole, ◌over◌, over_self, over_same, whole_num, whole_den, IsFineTo30Bits, common_denominator, common_pos, den_divides, sum_of, Weights, IsWeighing, Span, at_if, Shares, is_fine, is_one, is_not_one, probs_among, weights_over, IsShares, AreProbabilities}
 use Rattle.std.specs.Prelude.{replicate}
-use Rattle.std.proofs.Common.{sum}
-use Rattle.std.proofs.lemmas.Bool.{and_right, not_from_true}
-use Rattle.std.proofs.lemmas.List.{length-replicate, get_or-replicate}
+use Rattle.std.proofs.lemmas.Bool.{cases_Bool}
+use Rattle.std.proofs.lemmas.List.{drop_at, get_or-replicate, length-replicate, take_at}
+use Rattle.std.proofs.lemmas.List.Elements.{All-drop, All-replicate, All-take}
 use Rattle.std.proofs.lemmas.List.Folds.{sum_by-replicate}
 use Rattle.std.proofs.lemmas.Nat.Gcd.{dvd_of_mod-eq-zero, dvd_refl, le_of_dvd}
-use Rattle.dl_exact.specs.Gcd.{gcd}
 use Rattle.dl_exact.specs.Multiples.{lcm}
-use Rattle.dl_exact.proofs.Over.{le_over}
+use Rattle.dl_exact.proofs.Denominators.{same_num}
 use Rattle.dl_exact.proofs.Parts.{lowest_den}
-use Rattle.dl_exact.proofs.Laws.{le_of_eq}
 use Rattle.dl_exact.proofs.Sums.{sum_over_map}
 use Rattle.dl_exact.proofs.SumsOver.{sum_over_common}
-use Rattle.dl_exact.proofs.GcdLaws.{gcd_is, gcd_pos}
-use Rattle.dl_exact.proofs.Multiples.{lcm_least}
+use Rattle.dl_exact.proofs.Multiples.{lcm_least, lowest_by}
 use Rattle.dl_plan.specs.Fine.{numerator_over}
 use Rattle.dl_plan.proofs.CommonDenominators.{common_from}
 use Rattle.dl_sev.proofs.Sharing.{shares_back, sum_one, sum_map}
@@ -69,43 +66,26 @@ probabilities_of xs made is = record {
   one =
       ap sum_of (sym is.shares) ∙ sum_over_map (λ w. w over made.total) (λ x. x) made.weights
       ∙ sum_over_common (λ w. w) made.total made.weights is.some
-      ∙ ap (λ n. n over made.total) (sum_itself made.weights ∙ is.sum)
+      ∙ ap (λ n. n over made.total) is.sum
       ∙ over_same made.total made.total 1 1 is.some (omega arith) (omega arith);
 }
-  where
-    sum_itself : (ws : List ℕ) → sum_by (λ w. w) ws ≡ sum ws
-    sum_itself ws = refl
 
 pub weighing_fine : (xs : List Fraction) (made : Weights) → IsWeighing xs made → is_fine xs ≡ true
 weighing_fine xs made is = le-leb (common_denominator xs) (2 ^ 30) (probabilities_of xs made is).fine
-
-same_over : (n m t : ℕ) → 0 < t → n over t ≡ m over t → n ≡ m
-same_over n m t h e =
-    let up : n * t ≤ m * t = le_over n t m t h h (le_of_eq (n over t) (m over t) e) in
-    let down : m * t ≤ n * t = le_over m t n t h h (le_of_eq (m over t) (n over t) (sym e)) in
-    cancel n m t h up down
-  where
-    cancel : (n m t : ℕ) → 0 < t → n * t ≤ m * t → m * t ≤ n * t → n ≡ m
-    cancel n m t h up down = grind (arith, h, up, down)
 
 same_weights : (vs ws : List ℕ) (t : ℕ) → 0 < t → map (λ w. w over t) vs ≡ map (λ w. w over t) ws → vs ≡ ws
 same_weights [] [] t h e = refl
 same_weights [] (w ∷ ws) t h e = absurd (cc)
 same_weights (v ∷ vs) [] t h e = absurd (cc)
 same_weights (v ∷ vs) (w ∷ ws) t h e =
-    ap₂ (λ x xs. x ∷ xs) (same_over v w t h (cc)) (same_weights vs ws t h (cc))
+    ap₂ (λ x xs. x ∷ xs) (same_num v w t h (cc)) (same_weights vs ws t h (cc))
 
 weights_as : (xs : List Fraction) (made : Weights) → IsWeighing xs made → made ≡ over_common xs
 weights_as xs made is =
     let c = common_denominator xs in
-    let some : 0 < c = common_pos xs in
-    ap₂ (λ (ws : List ℕ) (t : ℕ). both ws t)
-    (same_weights made.weights (map (numerator_over c) xs) c some
-    (subst (λ t. map (λ w. w over t) made.weights ≡ xs) is.total is.shares ∙ sym (shares_back xs)))
-    is.total
-  where
-    both : List ℕ → ℕ → Weights
-    both ws t = record { weights = ws; total = t }
+    ap₂ (λ (ws : List ℕ) (t : ℕ). record { weights = ws; total = t })
+    (same_weights made.weights (map (numerator_over c) xs) c (common_pos xs)
+    ((rw is.total at is.shares) ∙ sym (shares_back xs))) is.total
 
 -- ---- a list with its weights
 
@@ -115,54 +95,35 @@ fine_weights xs made is = ap (λ w. Some w) (weights_as xs made is) ∙ sym (rw 
 pub coarse_test : (xs : List Fraction) → ¬ IsFineTo30Bits xs → is_fine xs ≡ false
 coarse_test xs coarse = false_from_ne_true (is_fine xs) (λ yes. coarse (leb-true (common_denominator xs) (2 ^ 30) yes))
 
-pub coarse_weights : (xs : List Fraction) → ¬ IsFineTo30Bits xs → None ≡ weights_over xs
-coarse_weights xs coarse = sym (rw (coarse_test xs coarse) refl)
-
 one_yes : (x : Fraction) → is_one x ≡ true → x ≡ whole 1
 one_yes x e = sym (over_self x) ∙ over_same x.num x.den 1 1 x.positive (omega arith)
     (omega (arith, eqb-true x.num x.den e))
-
-second : (a b : Bool) → a ≡ true → (a && not b) ≡ false → b ≡ true
-second true b e h = not-false b h
-second false b e h = absurd (cc)
 
 -- fine probabilities of a list sum to 1
 pub list_probabilities : (xs : List Fraction) → is_not_one xs ≡ false → is_fine xs ≡ true → AreProbabilities xs
 list_probabilities xs one fine = record {
   fine = leb-true (common_denominator xs) (2 ^ 30) fine;
-  one = one_yes (sum_of xs) (second (is_fine xs) (is_one (sum_of xs)) fine one);
+  one = one_yes (sum_of xs) (not-false (is_one (sum_of xs)) (rw fine at one));
 }
 
 -- the weights of a list are none exactly where it is not fine
 pub list_weighed : (l : Shares) → IsShares l → MatchOption l.weights (is_fine l.values ≡ false) (IsWeighing l.values)
-list_weighed l is = subst (λ o. MatchOption o (is_fine l.values ≡ false) (IsWeighing l.values)) (sym is.weights)
-    (by_test (is_fine l.values) refl)
-  where
-    by_test : (b : Bool) → is_fine l.values ≡ b
-        → MatchOption (weights_over l.values) (is_fine l.values ≡ false) (IsWeighing l.values)
-    by_test true e =
-        let are = list_probabilities l.values is.one e in
-        rw e (weighing l.values are.fine are.one)
-    by_test false e = rw e refl
+list_weighed l is = rw is.weights (elim (cases_Bool (is_fine l.values)) [
+  | inl e ↦ let are = list_probabilities l.values is.one e in rw e (weighing l.values are.fine are.one)
+  | inr e ↦ rw e refl
+])
 
 -- ---- the sum of a list
 
 module _ (xs : List Fraction) (place : Span) where
   pub keeps_weighed : (made : Weights) → IsWeighing xs made → None ≡ at_if (is_not_one xs) place
   keeps_weighed made is =
-      let one : sum_of xs ≡ whole 1 = (probabilities_of xs made is).one in
-      ap (λ b. at_if b place) (sym (and_right (is_fine xs) (not (is_one (sum_of xs))) (not_from_true _
-      (eq-eqb (sum_of xs).num (sum_of xs).den (ap (λ (y : Fraction). y.num) one ∙ whole_num 1
-      ∙ sym (ap (λ (y : Fraction). y.den) one ∙ whole_den 1))))))
-
-  pub keeps_coarse : ¬ IsFineTo30Bits xs → None ≡ at_if (is_not_one xs) place
-  keeps_coarse coarse = ap (λ b. at_if (b && not (is_one (sum_of xs))) place) (sym (coarse_test xs coarse))
+      rw (weighing_fine xs made is, (probabilities_of xs made is).one, whole_num 1, whole_den 1) refl
 
   pub breaks_one : IsFineTo30Bits xs → sum_of xs ≢ whole 1 → Some place ≡ at_if (is_not_one xs) place
   breaks_one fine other =
-      ap (λ b. at_if (b && not false) place) (sym (le-leb (common_denominator xs) (2 ^ 30) fine))
-      ∙ ap (λ b. at_if (is_fine xs && not b) place)
-      (sym (ne_eqb (sum_of xs).num (sum_of xs).den (λ e. other (one_yes (sum_of xs) (eq-eqb _ _ e)))))
+      let not_one = false_from_ne_true (is_one (sum_of xs)) (λ e. other (one_yes (sum_of xs) e)) in
+      rw (le-leb (common_denominator xs) (2 ^ 30) fine, not_one) refl
 
 -- ---- equal shares
 
@@ -170,13 +131,8 @@ pub map_replicate : {A B : Type 0} (f : A → B) (n : ℕ) (x : A) → map f (re
 map_replicate f zero x = refl
 map_replicate f (suc n) x = ap (λ xs. f x ∷ xs) (map_replicate f n x)
 
-one_and : (n : ℕ) → 0 < n → gcd 1 n ≡ 1
-one_and n h =
-    let up : gcd 1 n ≤ 1 = le_of_dvd (omega arith) (gcd_is 1 n).0 in
-    omega (arith, up, gcd_pos 1 n h)
-
 share_den : (n : ℕ) → 0 < n → (1 over n).den ≡ n
-share_den n h = lowest_den 1 n h (one_and n h)
+share_den n h = lowest_den 1 n h (lowest_by 1 n (λ d one other. one))
 
 equal_common : (n : ℕ) → 0 < n → n ≡ common_denominator (replicate n (1 over n))
 equal_common n h =
@@ -185,10 +141,9 @@ equal_common n h =
     let below : n ≤ common_denominator xs = subst (λ d. d ≤ common_denominator xs)
     (ap (λ (y : Fraction). y.den) (get_or-replicate n 0 (1 over n) (1 over n) h) ∙ share_den n h)
     (le_of_dvd (common_pos xs) (den_divides 1 xs 0 (1 over n) some)) in
-    let above : common_denominator xs ≤ n = le_of_dvd h (common_divides xs n (λ k d lt.
-    subst (λ (y : Fraction). y.den ∣ n)
-    (sym (get_or-replicate n k (1 over n) d (omega (arith, lt, length-replicate n (1 over n)))))
-    (subst (λ m. m ∣ n) (sym (share_den n h)) (dvd_refl n)))) in
+    let own : (1 over n).den ∣ n = rw (share_den n h) (dvd_refl n) in
+    let above : common_denominator xs ≤ n = le_of_dvd h (common_divides xs n
+    (All-replicate (λ x. x.den ∣ n) n (1 over n) own)) in
     omega (arith, below, above)
 
 -- so many equal shares of 1 have the weight 1 each
@@ -197,13 +152,10 @@ pub equal_weighing : (n : ℕ) (ws : List ℕ) → 0 < n → n ≤ 1024 → ws �
 equal_weighing n ws some few e = record {
   shares = ap (map (λ w. w over n)) e ∙ map_replicate (λ w. w over n) n 1;
   total = equal_common n some;
-  sum = ap sum e ∙ ones n;
+  sum = rw e (omega (arith, sum_by-replicate (λ x. x) n 1));
   some = omega (arith, some);
   within = omega (arith, few);
 }
-  where
-    ones : (m : ℕ) → sum (replicate m 1) ≡ m
-    ones m = omega (arith, sum_by-replicate (λ x. x) m 1)
 
 -- ---- probabilities of so many values
 
@@ -217,9 +169,7 @@ among_probabilities n (Some l) some few is fine = list_probabilities l.values is
 -- ---- parts of lists
 
 pub all_left : {A : Type 0} (P : A → Type 0) (xs ys : List A) → All P (xs ++ ys) → All P xs
-all_left P [] ys h = All-nil P
-all_left P (x ∷ xs) ys h = All-cons P x xs (All-head P x (xs ++ ys) h) (all_left P xs ys (All-tail P x (xs ++ ys) h))
+all_left P xs ys h = rw (take_at xs ys (length xs) refl) at (All-take P (length xs) (xs ++ ys) h)
 
 pub all_right : {A : Type 0} (P : A → Type 0) (xs ys : List A) → All P (xs ++ ys) → All P ys
-all_right P [] ys h = h
-all_right P (x ∷ xs) ys h = all_right P xs ys (All-tail P x (xs ++ ys) h)
+all_right P xs ys h = rw (drop_at xs ys (length xs) refl) at (All-drop P (length xs) (xs ++ ys) h)

@@ -1,15 +1,13 @@
 -- Items in any order give a severity: equal amounts are added up, rising.
-use Rattle.dl_buckets.proofs.Common.{ℕ, zero, suc, ◌≡◌, ◌∙◌, ◌+◌, ◌/◌, ◌<◌, ◌≤◌, ◌^◌, ◌==◌, List, [], ◌∷◌, map, length, cond, refl, sym, ap, ap₂, subst, arith, inl, inr, All, cases_lt, All-nil, sum_by-cons, ◌over◌, Item, Sev, amounts_of, weight_sum, weight_at}
-use Rattle.dl_buckets.proofs.Items.{none_earlier, none_behind}
+use Rattle.dl_buckets.proofs.Common.{ℕ, zero, suc, ◌≡◌, ◌∙◌, ◌+◌, ◌/◌, ◌<◌, ◌≤◌, ◌^◌, ◌==◌, List, [], ◌∷◌, map, length, cond, refl, sym, ap₂, subst, arith, inl, inr, All, All-nil, eqb_tells, nat_tests, sum_by-cons, ◌over◌, Item, Sev, amounts_of, weight_sum, weight_at}
 use Rattle.std.specs.List.Sorted.{IsStrictlyIncreasing}
+unfoldable use Rattle.dl_exact.specs.Count.{count_below}
+use Rattle.dl_exact.proofs.Counts.{below_none, below_plus, below_same}
 use Rattle.dl_plan.specs.Weighted.{common_weight, divided_by}
 use Rattle.dl_plan.specs.Severity.{probability_of}
 use Rattle.dl_plan.proofs.Weights.{divided_is, divided_means}
 use Rattle.dl_sev.specs.Steps.{with_weighed}
 use Rattle.dl_sev.proofs.Gathering.{rising-with, positive-with, below-with, weight_sum-with, weight_at-with, some_items}
-
-here : (a x w : ℕ) → a ≡ x → cond (a == x) w 0 ≡ w
-here a x w h = grind arith
 
 abbrev at_amount : List Item → ℕ → Item
 at_amount items n = record { amount = n; weight = weight_at items n }
@@ -31,44 +29,24 @@ positive : (items : List Item) (n : ℕ) → All (λ (i : Item). 0 < i.weight) (
 positive items zero = All-nil (λ (i : Item). 0 < i.weight)
 positive items (suc n) = positive-with (table items n) (at_amount items n) (positive items n)
 
--- the weights of the amounts below n
-abbrev summed : List Item → ℕ → ℕ
-summed items zero = 0
-summed items (suc n) = summed items n + weight_at items n
-
-table_sum : (items : List Item) (n : ℕ) → weight_sum (table items n) ≡ summed items n
+table_sum : (items : List Item) (n : ℕ) → weight_sum (table items n) ≡ count_below n (weight_at items)
+unfolding count_below
 table_sum items zero = refl
-table_sum items (suc n) = weight_sum-with (table items n) (at_amount items n)
-    ∙ ap (λ w. w + weight_at items n) (table_sum items n)
+table_sum items (suc n) = rw (weight_sum-with (table items n) (at_amount items n), table_sum items n)
 
-weight_at-cons : (i : Item) (items : List Item) (x : ℕ)
-    → weight_at (i ∷ items) x ≡ cond (i.amount == x) i.weight 0 + weight_at items x
-weight_at-cons i items x = sum_by-cons (λ (j : Item). cond (j.amount == x) j.weight 0) i items
+table_at : (items : List Item) (n x : ℕ)
+    → weight_at (table items n) x ≡ count_below n (λ k. cond (k == x) (weight_at items k) 0)
+unfolding count_below
+table_at items zero x = refl
+table_at items (suc n) x = rw (weight_at-with (table items n) (at_amount items n) x, table_at items n x)
 
-summed_none : (n : ℕ) → summed [] n ≡ 0
-summed_none zero = refl
-summed_none (suc n) = ap (λ w. w + 0) (summed_none n)
-
-summed_before : (i : Item) (items : List Item) (n : ℕ) → n ≤ i.amount → summed (i ∷ items) n ≡ summed items n
-summed_before i items zero h = refl
-summed_before i items (suc n) h =
-    omega (
-      arith,
-      summed_before i items n (omega (arith, h)),
-      weight_at-cons i items n,
-      none_earlier i.amount n i.weight (omega (arith, h)),
-    )
-
-summed_cons : (i : Item) (items : List Item) (n : ℕ) → i.amount < n → summed (i ∷ items) n ≡ i.weight + summed items n
-summed_cons i items zero h = absurd (omega (arith, h))
-summed_cons i items (suc n) h = elim (cases_lt i.amount n) [
-  | inl lt ↦ omega (arith, summed_cons i items n lt, weight_at-cons i items n, none_behind i.amount n i.weight lt)
-  | inr le ↦ omega (
-    arith,
-    summed_before i items n le,
-    weight_at-cons i items n,
-    here i.amount n i.weight (omega (arith, le, h)),
-  )
+-- one place alone counts
+one_place : (n x : ℕ) (f : ℕ → ℕ) → (n ≤ x → f x ≡ 0) → count_below n (λ k. cond (k == x) (f k) 0) ≡ f x
+unfolding count_below
+one_place zero x f past = sym (past (omega arith))
+one_place (suc n) x f past = elim (eqb_tells n x) [
+  | inl same ↦ rw (same.0, same.1) (omega (arith, below_none x (λ k. cond (k == x) (f k) 0) (λ k lt. grind arith)))
+  | inr other ↦ rw other.0 (omega (arith, one_place n x f (λ le. past (omega (arith, le, other.1)))))
 ]
 
 -- past all amounts
@@ -76,55 +54,26 @@ abbrev beyond : List Item → ℕ
 beyond [] = 0
 beyond (i ∷ items) = suc i.amount + beyond items
 
-all_summed : (items : List Item) (n : ℕ) → beyond items ≤ n → summed items n ≡ weight_sum items
-all_summed [] n h = summed_none n
-all_summed (i ∷ items) n h =
-    omega (
-      arith,
-      summed_cons i items n (omega (arith, h)),
-      all_summed items n (omega (arith, h)),
-      sum_by-cons (λ (j : Item). j.weight) i items,
-    )
-
 none_beyond : (items : List Item) (x : ℕ) → beyond items ≤ x → weight_at items x ≡ 0
 none_beyond [] x h = refl
 none_beyond (i ∷ items) x h =
+    let none : cond (i.amount == x) i.weight 0 ≡ 0 = grind arith in
+    omega (arith, none, sum_by-cons (λ (j : Item). cond (j.amount == x) j.weight 0) i items, none_beyond items x (omega (arith, h)))
+
+all_summed : (items : List Item) (n : ℕ) → beyond items ≤ n → count_below n (weight_at items) ≡ weight_sum items
+all_summed [] n h = below_none n (weight_at []) (λ k lt. refl)
+all_summed (i ∷ items) n h =
+    let own : ℕ → ℕ = λ k. cond (k == i.amount) i.weight 0 in
+    let each : (k : ℕ) → weight_at (i ∷ items) k ≡ own k + weight_at items k =
+    λ k. sum_by-cons (λ (j : Item). cond (j.amount == k) j.weight 0) i items ∙ grind (arith, nat_tests) in
     omega (
       arith,
-      weight_at-cons i items x,
-      none_behind i.amount x i.weight (omega (arith, h)),
-      none_beyond items x (omega (arith, h)),
+      below_same n (weight_at (i ∷ items)) (λ k. own k + weight_at items k) (λ k lt. each k),
+      below_plus n own (weight_at items),
+      one_place n i.amount (λ k. i.weight) (λ le. absurd (omega (arith, h, le))),
+      all_summed items n (omega (arith, h)),
+      sum_by-cons (λ (j : Item). j.weight) i items,
     )
-
-table_past : (items : List Item) (n x : ℕ) → n ≤ x → weight_at (table items n) x ≡ 0
-table_past items zero x h = refl
-table_past items (suc n) x h =
-    omega (
-      arith,
-      weight_at-with (table items n) (at_amount items n) x,
-      table_past items n x (omega (arith, h)),
-      none_behind n x (weight_at items n) (omega (arith, h)),
-    )
-
-table_at : (items : List Item) (n x : ℕ) → x < n → weight_at (table items n) x ≡ weight_at items x
-table_at items zero x h = absurd (omega (arith, h))
-table_at items (suc n) x h = elim (cases_lt x n) [
-  | inl lt ↦ omega (
-    arith,
-    weight_at-with (table items n) (at_amount items n) x,
-    table_at items n x lt,
-    none_earlier n x (weight_at items n) lt,
-  )
-  | inr le ↦
-      let same : n ≡ x = omega (arith, le, h) in
-      omega (
-        arith,
-        weight_at-with (table items n) (at_amount items n) x,
-        table_past items n x le,
-        here n x (weight_at items n) same,
-        ap (weight_at items) same,
-      )
-]
 
 module _ (items : List Item) (some : 0 < weight_sum items) (within : weight_sum items ≤ 2 ^ 30) where
   abbrev made : List Item
@@ -132,12 +81,6 @@ module _ (items : List Item) (some : 0 < weight_sum items) (within : weight_sum 
 
   made_sum : weight_sum made ≡ weight_sum items
   made_sum = table_sum items (beyond items) ∙ all_summed items (beyond items) (omega arith)
-
-  made_at : (x : ℕ) → weight_at made x ≡ weight_at items x
-  made_at x = elim (cases_lt x (beyond items)) [
-    | inl lt ↦ table_at items (beyond items) x lt
-    | inr le ↦ table_past items (beyond items) x le ∙ sym (none_beyond items x le)
-  ]
 
   made_some : 0 < length made
   made_some = some_items made (subst (λ n. 0 < n) (sym made_sum) some)
@@ -151,5 +94,6 @@ module _ (items : List Item) (some : 0 < weight_sum items) (within : weight_sum 
       weighted = divided_is made made_some (positive items (beyond items)) (rising items (beyond items))
           (subst (λ n. n ≤ 2 ^ 30) (sym made_sum) within);
     },
-    λ x. divided_means made made_some (positive items (beyond items)) x ∙ ap₂ (λ n d. n over d) (made_at x) made_sum,
+    λ x. divided_means made made_some (positive items (beyond items)) x ∙ ap₂ (λ n d. n over d)
+        (table_at items (beyond items) x ∙ one_place (beyond items) x (weight_at items) (none_beyond items x)) made_sum,
   )

@@ -47,59 +47,19 @@ flaws_in f (x ∷ xs) = flaws_else (f x) (flaws_in f xs)
 -- ---- a place of one rule alone
 
 abbrev pub numeral_at : Option Span → Flaws
-numeral_at place = record {
-  numeral = place;
-  range = None;
-  long = None;
-  lengths = None;
-  sum = None;
-  off_grid = None;
-  too_far = None;
-}
+numeral_at place = record no_flaws { numeral = place }
 
 abbrev pub range_at : Option Span → Flaws
-range_at place = record {
-  numeral = None;
-  range = place;
-  long = None;
-  lengths = None;
-  sum = None;
-  off_grid = None;
-  too_far = None;
-}
+range_at place = record no_flaws { range = place }
 
 abbrev pub long_at : Option Span → Flaws
-long_at place = record {
-  numeral = None;
-  range = None;
-  long = place;
-  lengths = None;
-  sum = None;
-  off_grid = None;
-  too_far = None;
-}
+long_at place = record no_flaws { long = place }
 
 abbrev pub lengths_at : Option Span → Flaws
-lengths_at place = record {
-  numeral = None;
-  range = None;
-  long = None;
-  lengths = place;
-  sum = None;
-  off_grid = None;
-  too_far = None;
-}
+lengths_at place = record no_flaws { lengths = place }
 
 abbrev pub sum_at : Option Span → Flaws
-sum_at place = record {
-  numeral = None;
-  range = None;
-  long = None;
-  lengths = None;
-  sum = place;
-  off_grid = None;
-  too_far = None;
-}
+sum_at place = record no_flaws { sum = place }
 
 -- ---- a text with its flaws that was read
 
@@ -110,8 +70,7 @@ places f =
 
 -- the same up to the first rule that is broken
 abbrev pub AgreeToFirst : List (Option Span) → List (Option Span) → Type 0
-AgreeToFirst [] [] = ⊤
-AgreeToFirst [] (y ∷ ys) = ⊤
+AgreeToFirst [] ys = ⊤
 AgreeToFirst (x ∷ xs) [] = ⊤
 AgreeToFirst (x ∷ xs) (y ∷ ys) = (x ≡ y) × (y ≡ None → AgreeToFirst xs ys)
 

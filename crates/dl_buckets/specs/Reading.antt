@@ -1,6 +1,6 @@
 -- What reading a unit tells of: the rules 2 to 8, each at the first place in the text where it is
 -- broken. Amounts of money are in buckets of size bs, and at most so many.
-use Rattle.std.specs.Prelude.{ℕ, Bool, true, false, not, ◌&&◌, ◌||◌, ◌==◌, nat_lt, is_some, length, None}
+use Rattle.std.specs.Prelude.{ℕ, Bool, true, false, not, ◌&&◌, ◌||◌, ◌==◌, nat_lt, is_some, length}
 use Rattle.dl_limits.specs.Limits.{most_values, most_atoms, most_layers, most_range_parts}
 use Rattle.dl_exact.specs.Fraction.{Fraction, whole}
 use Rattle.dl_sev.specs.Buckets.{buckets}
@@ -45,12 +45,7 @@ flaws_of_numeral n = numeral_at (at_if (is_bad_numeral n) n.span)
 -- 7 OffGrid: an amount of money is no whole number of buckets
 -- 8 TooFar: it passes so many buckets
 abbrev pub flaws_of_amount : ℕ → Fraction → Fraction → Span → Flaws
-flaws_of_amount most bs x place = record {
-  numeral = None;
-  range = None;
-  long = None;
-  lengths = None;
-  sum = None;
+flaws_of_amount most bs x place = record no_flaws {
   off_grid = at_if (not (is_whole (buckets bs x))) place;
   too_far = at_if (is_above (buckets bs x) (whole most)) place;
 }

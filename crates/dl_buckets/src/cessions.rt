@@ -82,9 +82,7 @@ fn kept_amounts(cede: &Cede, mut amounts: Vec<u32>) -> Vec<u32>
 fn common_amount(amounts: &[u32]) -> u32
     ensures { result ≡ common_amount_of amounts.now }
 {
-    let mut common = 0;
-    'amounts: for &amount in amounts {
-        common = small_divisor(common, amount);
-    }
-    common
+    amounts
+        .iter()
+        .fold(0, |common, &amount| small_divisor(common, amount))
 }

@@ -1,8 +1,8 @@
 //! The rules on the reinsurance clauses of a unit.
 
 ghost use Rattle.std.specs.Prelude.{◌≡◌};
-ghost use Rattle.std.specs.List.{list_any};
-ghost use Rattle.dl_buckets.specs.First.{within};
+ghost use Rattle.std.specs.List.{find, list_any};
+ghost use Rattle.std.specs.Option.{option_map};
 ghost use Rattle.dl_buckets.specs.Clauses.{ceded_layer, overlaps};
 ghost use Rattle.dl_buckets.specs.Rules.{overlap_in, overlap, part_exceeds, share_exceeds, share_above_one_in, share_above_one};
 
@@ -13,17 +13,13 @@ use dl_lexer::Span;
 use dl_plan::CedeLayer;
 
 /// The place of the first layer that overlaps an earlier one of its clause.
+#[tactic(auto, using(crate::proofs::Firsts::or_is), unfolding(crate::specs::Rules::overlap))]
 pub fn overlap(unit: &GridUnit) -> Option<Span>
     ensures { result ≡ overlap unit.now }
 {
-    overlap_in_own(&unit.occ).or(overlap_in_own(&unit.agr))
-}
-
-/// The place of the first layer of a clause, which may be missing, that overlaps an earlier one.
-fn overlap_in_own(clause: &Option<GridClause>) -> Option<Span>
-    ensures { result ≡ within overlap_in clause.now }
-{
-    clause.as_ref().and_then(|clause| overlap_in(clause))
+    let occ = unit.occ.as_ref().and_then(|clause| overlap_in(clause));
+    let agr = unit.agr.as_ref().and_then(|clause| overlap_in(clause));
+    occ.or(agr)
 }
 
 /// The place of the first layer of a clause that overlaps an earlier one.
@@ -69,29 +65,25 @@ pub(crate) fn part_of(layer: &GridLayer, share: Frac) -> CedeLayer
 }
 
 /// The place of the first ceded layer whose share is above 1.
+#[tactic(auto, using(crate::proofs::Firsts::or_is, crate::proofs::Firsts::find_first), unfolding(crate::specs::Rules::share_above_one, crate::specs::Rules::share_above_one_in))]
 pub fn share_above_one(unit: &GridUnit) -> Option<Span>
     ensures { result ≡ share_above_one unit.now }
 {
-    share_in_own(&unit.occ).or(share_in_own(&unit.agr))
-}
-
-/// The place of the first share above 1 of a clause that may be missing.
-fn share_in_own(clause: &Option<GridClause>) -> Option<Span>
-    ensures { result ≡ within share_above_one_in clause.now }
-{
-    clause.as_ref().and_then(|clause| share_in(clause))
+    let occ = unit.occ.as_ref().and_then(|clause| share_in(clause));
+    let agr = unit.agr.as_ref().and_then(|clause| share_in(clause));
+    occ.or(agr)
 }
 
 /// The place of the first share above 1 of a clause.
 fn share_in(clause: &GridClause) -> Option<Span>
-    ensures { result ≡ share_above_one_in clause.now }
+    ensures { result ≡ option_map (λ l. l.span) (find (λ l. share_exceeds l.share)
+        clause.now.layers) }
 {
-    'layers: for ceded in clause.layers.as_slice() {
-        if share_exceeds(&ceded.share) {
-            return Some(ceded.span);
-        }
-    }
-    None
+    let layers = clause.layers.as_slice();
+    layers
+        .iter()
+        .find(|ceded| share_exceeds(&ceded.share))
+        .map(|ceded| ceded.span)
 }
 
 /// Whether a share of a layer is above 1.

@@ -26,25 +26,17 @@ pub(crate) fn grid_count(
 {
     match count {
         CountAst::Exposed { exposure, .. } => {
-            let exposure = grid_exposure(exposure);
-            Ok(Gridded {
-                part: GridCount::Exposed {
-                    exposure: exposure.part,
-                    freq,
-                },
-                flaws: exposure.flaws,
-            })
+            let read = grid_exposure(exposure);
+            let exposure = read.part;
+            Ok(read.with(GridCount::Exposed { exposure, freq }))
         }
         CountAst::Listed { counts, probs, .. } => {
             let counts = value_list(alloc, counts)?;
             let probs = probs_beside(alloc, counts.part.values.as_slice().len(), probs)?;
-            Ok(Gridded {
-                part: GridCount::Listed {
-                    counts: counts.part,
-                    probs: probs.part,
-                },
-                flaws: counts.flaws.or(probs.flaws),
-            })
+            let flaws = counts.flaws.or(probs.flaws);
+            let (counts, probs) = (counts.part, probs.part);
+            let part = GridCount::Listed { counts, probs };
+            Ok(Gridded { part, flaws })
         }
     }
 }

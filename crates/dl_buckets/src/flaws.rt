@@ -1,7 +1,7 @@
 //! What reading a unit tells of beside the unit: the first place where each rule is broken.
 
 ghost use Rattle.std.specs.Prelude.{◌≡◌, Some};
-ghost use Rattle.dl_buckets.specs.Flaws.{no_flaws, flaws_else, earlier_flaws, numeral_at, range_at, long_at, lengths_at, sum_at};
+ghost use Rattle.dl_buckets.specs.Flaws.{no_flaws, flaws_else, earlier_flaws, long_at};
 
 use dl_lexer::Span;
 
@@ -42,52 +42,12 @@ impl Flaws {
         }
     }
 
-    /// The place of a bad numeral.
-    pub(crate) fn numeral_at(place: Option<Span>) -> Flaws
-        ensures { result ≡ numeral_at place }
-    {
-        Flaws {
-            numeral: place,
-            ..Flaws::none()
-        }
-    }
-
-    /// The place of a bad range.
-    pub(crate) fn range_at(place: Option<Span>) -> Flaws
-        ensures { result ≡ range_at place }
-    {
-        Flaws {
-            range: place,
-            ..Flaws::none()
-        }
-    }
-
     /// The place of what is too long.
     pub(crate) fn long_at(place: Option<Span>) -> Flaws
         ensures { result ≡ long_at place }
     {
         Flaws {
             long: place,
-            ..Flaws::none()
-        }
-    }
-
-    /// The place of probabilities beside another number of values.
-    pub(crate) fn lengths_at(place: Option<Span>) -> Flaws
-        ensures { result ≡ lengths_at place }
-    {
-        Flaws {
-            lengths: place,
-            ..Flaws::none()
-        }
-    }
-
-    /// The place of probabilities that do not sum to 1.
-    pub(crate) fn sum_at(place: Option<Span>) -> Flaws
-        ensures { result ≡ sum_at place }
-    {
-        Flaws {
-            sum: place,
             ..Flaws::none()
         }
     }

@@ -151,10 +151,8 @@ fn grid_layers(
         })?;
         flaws = flaws.or(share.flaws.or(layer.flaws));
     }
-    Ok(Gridded {
-        part: Items::from_vec(made),
-        flaws,
-    })
+    let part = Items::from_vec(made);
+    Ok(Gridded { part, flaws })
 }
 
 /// The limit of a layer in money; none where there is no limit.

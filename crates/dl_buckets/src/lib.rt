@@ -11,7 +11,6 @@ mod flaws;
 mod grid;
 mod law;
 mod layers;
-mod lists;
 mod long_mixtures;
 mod losses;
 mod made;
@@ -32,10 +31,9 @@ pub use grid::{
     GridShare, GridUnit, Shares, ValueList,
 };
 pub use law::law_clauses;
-pub use lists::weights_differ;
 pub use made::{Clauses, MadeClause, make_clauses};
 pub use places::place_if;
 pub use reading::{grid_mixture, grid_unit};
 pub use severity::{final_severity, weighed_severity};
-pub use shares::{are_fine, weights_among};
+pub use shares::{are_fine, weights_among, weights_differ};
 pub use support::{none_above, positive_amounts, support_in_layer};

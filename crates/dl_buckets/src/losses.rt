@@ -39,10 +39,8 @@ pub(crate) fn grid_atoms(
         made.push(one.part)?;
         flaws = flaws.or(one.flaws);
     }
-    Ok(Gridded {
-        part: Items::from_vec(made),
-        flaws,
-    })
+    let part = Items::from_vec(made);
+    Ok(Gridded { part, flaws })
 }
 
 /// An atom.
@@ -85,7 +83,10 @@ pub(crate) fn probs_beside(
         Some(list) => {
             let made = read_shares(alloc, list)?;
             let is_other = count != made.part.values.as_slice().len();
-            let lengths = Flaws::lengths_at(place_if(is_other, list.span));
+            let lengths = Flaws {
+                lengths: place_if(is_other, list.span),
+                ..Flaws::none()
+            };
             Ok(Gridded {
                 part: Some(made.part),
                 flaws: made.flaws.or(lengths),

@@ -34,7 +34,10 @@ pub(crate) fn number(written: &Numeral) -> Gridded<Frac>
         Ok(part) => Gridded::clean(part),
         Err(_) => Gridded {
             part: Frac::whole(1),
-            flaws: Flaws::numeral_at(Some(written.span)),
+            flaws: Flaws {
+                numeral: Some(written.span),
+                ..Flaws::none()
+            },
         },
     }
 }
@@ -64,7 +67,10 @@ pub(crate) fn item_range(item: &ListItem) -> Gridded<Range>
         step: step.part,
     };
     let numerals = from.flaws.or(to.flaws.or(step.flaws));
-    let bad = Flaws::range_at(bad_range(item, &range));
+    let bad = Flaws {
+        range: bad_range(item, &range),
+        ..Flaws::none()
+    };
     Gridded {
         part: range,
         flaws: numerals.or(bad),

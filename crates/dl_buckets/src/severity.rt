@@ -31,8 +31,7 @@ pub fn weighed_severity(alloc: Global, unit: &GridUnit) -> Result<Option<Sev>, A
     let Some(mixed) = mixture(alloc, &unit.sev)? else {
         return Ok(None);
     };
-    let made = severity_in_layer(alloc, unit, mixed)?;
-    Ok(Some(made))
+    Ok(Some(severity_in_layer(alloc, unit, mixed)?))
 }
 
 /// The mixture of the atoms; `None` exactly where it or a part of it is not fine.
@@ -78,8 +77,7 @@ fn atom_severity(alloc: Global, atom: &GridAtom) -> Result<Option<Sev>, AllocErr
     let Some(weights) = weights_among(alloc, amounts.len(), &atom.probs)? else {
         return Ok(None);
     };
-    let made = merge(alloc, amounts, &weights)?;
-    Ok(Some(made))
+    Ok(Some(merge(alloc, amounts, &weights)?))
 }
 
 /// What the layer makes of the mixture.

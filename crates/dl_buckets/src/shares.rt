@@ -8,11 +8,13 @@ ghost use Rattle.dl_buckets.specs.First.{at_if};
 ghost use Rattle.dl_buckets.specs.Flaws.{IsRead, sum_at};
 ghost use Rattle.dl_buckets.specs.Grid.{shares_at};
 ghost use Rattle.dl_buckets.specs.Lists.{is_fine, is_not_one, probs_among};
+ghost use Rattle.dl_buckets.specs.Rules.{weights_differ};
 ghost use Rattle.dl_buckets.specs.Small.{IsShares};
 
 use crate::copies::copy_weights;
 use crate::flaws::{Flaws, Gridded};
-use crate::grid::Shares;
+use crate::grid::{GridUnit, Shares};
+use crate::places::place_if;
 use dl_frac::Frac;
 use dl_lexer::Span;
 use dl_plan::Items;
@@ -21,6 +23,7 @@ use std::alloc::{AllocError, Global};
 
 /// The list of these probabilities at a place, with its weights. Its one flaw is that fine
 /// probabilities do not sum to 1.
+#[tactic(auto, using(crate::proofs::Shared::keeps_weighed, crate::proofs::Shared::fine_weights, crate::proofs::Shared::breaks_one))]
 pub(crate) fn shares(
     alloc: Global,
     values: Vec<Frac>,
@@ -56,7 +59,10 @@ fn weighed(
             weights,
             span,
         },
-        flaws: Flaws::sum_at(sum),
+        flaws: Flaws {
+            sum,
+            ..Flaws::none()
+        },
     }
 }
 
@@ -101,4 +107,14 @@ pub fn are_fine(probs: &Option<Shares>) -> bool
         Some(probs) => probs.weights.is_some(),
         None => true,
     }
+}
+
+/// The place of a list of weights that are not one for each atom.
+#[tactic(auto, unfolding(crate::specs::Rules::weights_differ))]
+pub fn weights_differ(unit: &GridUnit) -> Option<Span>
+    ensures { result ≡ weights_differ unit.now }
+{
+    let weights = unit.sev.weights.as_ref()?;
+    let is_other = weights.values.as_slice().len() != unit.sev.atoms.as_slice().len();
+    place_if(is_other, weights.span)
 }

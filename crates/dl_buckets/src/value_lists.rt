@@ -30,7 +30,7 @@ pub(crate) fn value_list(alloc: Global, list: &ListAst) -> Result<Gridded<ValueL
     let placed = placed_values(alloc, list)?;
     Ok(Gridded {
         part: ValueList {
-            values: values_alone(alloc, placed.part.as_slice())?,
+            values: Items::from_vec(values_alone(alloc, placed.part.as_slice())?),
             span: list.span,
         },
         flaws: placed.flaws,
@@ -65,10 +65,8 @@ fn no_values(alloc: Global, flaws: Flaws) -> Gridded<Items<(Frac, Span)>>
     ensures part { result.part ≡ [] }
     ensures flaws { result.flaws ≡ flaws }
 {
-    Gridded {
-        part: Items::from_vec(Vec::new(alloc)),
-        flaws,
-    }
+    let part = Items::from_vec(Vec::new(alloc));
+    Gridded { part, flaws }
 }
 
 /// The flaws of the numerals and ranges of a list, which is not expanded.
@@ -96,10 +94,8 @@ fn item_ranges(
         made.push((one.part, item.span))?;
         flaws = flaws.or(one.flaws);
     }
-    Ok(Gridded {
-        part: Items::from_vec(made),
-        flaws,
-    })
+    let part = Items::from_vec(made);
+    Ok(Gridded { part, flaws })
 }
 
 /// The values of ranges, each with the place of its range. `TooLong` exactly where there are more
@@ -154,14 +150,10 @@ fn push_each(values: &mut Vec<(Frac, Span)>, part: &[Frac], place: Span) -> Resu
 }
 
 /// Values without their places.
-fn values_alone(alloc: Global, placed: &[(Frac, Span)]) -> Result<Items<Frac>, AllocError>
-    ensures { IfOk result (λ values. values ≡ map (λ pair. pair.0) placed.now) }
+fn values_alone(alloc: Global, placed: &[(Frac, Span)]) -> Result<Vec<Frac>, AllocError>
+    ensures { IfOk result (λ values. values.items ≡ map (λ pair. pair.0) placed.now) }
 {
-    let mut values = Vec::new(alloc);
-    'placed: for &(value, _) in placed {
-        values.push(value)?;
-    }
-    Ok(Items::from_vec(values))
+    placed.iter().map(|pair| pair.0).collect(alloc)
 }
 
 /// Amounts of money, each with its place, as numbers of buckets.
@@ -185,8 +177,6 @@ pub(crate) fn grid_amounts(
         made.push(amount.part)?;
         flaws = flaws.or(amount.flaws);
     }
-    Ok(Gridded {
-        part: Items::from_vec(made),
-        flaws,
-    })
+    let part = Items::from_vec(made);
+    Ok(Gridded { part, flaws })
 }

@@ -1,5 +1,5 @@
 -- The two ends of the exponential enclose it.
-use Rattle.dl_exp.proofs.Common.{ℕ, zero, suc, ◌≡◌, ◌*◌, ◌<◌, ◌^◌, ◌≤◌, ◌∙◌, arith, sym, ap, subst₂, mul-pos, div-mul-le_self, zero-lt-suc, Fraction, whole, ◌over◌, ◌*ℚ◌, ◌≤ℚ◌, sum_to, le_refl, le_trans, times_one, times_plus, plus_le_both, whole_plus, times_le_both, ceiling_reaches, exponential_term, exponential_sum, low_sum, high_sum, count_below}
+use Rattle.dl_exp.proofs.Common.{ℕ, zero, suc, ◌≡◌, ◌*◌, ◌^◌, ◌≤◌, ◌∙◌, arith, sym, ap, subst₂, mul-pos, div-mul-le_self, zero-lt-suc, Fraction, whole, ◌over◌, ◌*ℚ◌, ◌≤ℚ◌, sum_to, le_refl, le_trans, times_one, times_plus, plus_le_both, whole_plus, times_le_both, ceiling_reaches, exponential_term, exponential_sum, low_sum, high_sum, count_below}
 use Rattle.dl_exp.specs.Ends.{low_exponential, high_exponential, exp_low, exp_high}
 unfoldable use Rattle.dl_exp.specs.Ends.{low_term, high_term}
 use Rattle.dl_exp.proofs.Terms.{term_zero, low_term as low_from_before, high_term as high_from_before, rest_bound}
@@ -44,9 +44,6 @@ module _ (x : Fraction) where
   one_low zero = omega arith
   one_low (suc n) = omega (arith, one_low n)
 
-  low_exponential_pos : 0 < low_exponential x
-  low_exponential_pos = omega (arith, one_low 18)
-
   pub high_above : x ≤ℚ 1 over 2 → (N : ℕ) → C *ℚ exponential_sum x N ≤ℚ whole (high_exponential x)
   high_above half N =
       le_trans _ _ _ (times_le_both _ _ _ _ (le_refl C) (rest_bound x half 18 N))
@@ -63,5 +60,5 @@ module _ (x : Fraction) where
     pub high_encloses : (u : Fraction) → ((N : ℕ) → exponential_sum x N ≤ℚ u) → whole 1 ≤ℚ exp_high B x over 2 ^ B *ℚ u
     high_encloses u bound =
         high_reciprocal (2 ^ B) (2 ^ 63) (pow_pos B) (omega arith) (low_exponential x) _ u
-        (ceiling_reaches _ _ low_exponential_pos)
+        (ceiling_reaches (2 ^ B * 2 ^ 63) (low_exponential x) (omega (arith, one_low 18)))
         (le_trans _ _ _ (low_sums 18) (times_le_both _ _ _ _ (le_refl C) (bound 18)))

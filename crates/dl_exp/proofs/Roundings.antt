@@ -1,5 +1,6 @@
 -- Terms rounded down and up stay near each other, and fall as fast as 1 / (2^n * n!).
-use Rattle.dl_exp.proofs.Common.{◌≡◌, ℕ, suc, zero, ◌+◌, ◌*◌, ◌/◌, ◌^◌, ◌<◌, ◌≤◌, arith, ap, mul-pos, mul-le-mul_left, mul-le-mul_right, le_of_mul-le-mul_right, zero-lt-suc, lt-div-mul-add, div_ceil_times, div_ceil}
+use Rattle.std.proofs.Common.{add-one}
+use Rattle.dl_exp.proofs.Common.{ℕ, suc, zero, ◌+◌, ◌*◌, ◌/◌, ◌^◌, ◌<◌, ◌≤◌, arith, ap, mul-pos, mul-le-mul_left, mul-le-mul_right, le_of_mul-le-mul_right, zero-lt-suc, lt-div-mul-add, div_ceil_times, div_ceil}
 
 -- the next terms down and up from two that are at most 4 apart
 pub near_next : (l h n d k : ℕ) → 0 < d → n + n ≤ d → 0 < k → h ≤ l + 4 → div_ceil (h * n) (d * k) ≤ l * n / (d * k) + 4
@@ -17,10 +18,6 @@ unfoldable pub fall : ℕ → ℕ
 fall zero = 1
 fall (suc n) = 2 * suc n * fall n
 
-pub fall_zero : fall 0 ≡ 1
-unfolding fall
-fall_zero = omega arith
-
 -- past 18 terms no whole unit of 2^63 is left
 pub fall_far : 2 ^ 63 ≤ fall 18
 unfolding fall
@@ -35,10 +32,7 @@ fall_next T h n d k pos half bound =
     let up = (div_ceil_times (h * n) (d * suc k) (mul-pos pos (zero-lt-suc k))).1 in
     let halved : h * (n + n) ≤ h * d = mul-le-mul_left h half in
     let one : t * (2 * suc k) ≤ h + 2 * suc k = le_of_mul-le-mul_right {k = d} (omega (arith, up, halved)) pos in
-    omega (arith, mul-le-mul_right (fall k) one, bound, ap (λ x. x * fall k) (refl_of k))
-  where
-    refl_of : (k : ℕ) → suc k ≡ k + 1
-    refl_of k = omega arith
+    omega (arith, mul-le-mul_right (fall k) one, bound, ap (λ x. x * fall k) (add-one k))
 
 pub fallen : (T h : ℕ) → T ≤ fall 18 → h * fall 18 ≤ T + 2 * fall 18 → 0 < fall 18 → h ≤ 3
 fallen T h far bound pos = le_of_mul-le-mul_right {k = fall 18} (omega (arith, bound, far)) pos

@@ -7,6 +7,7 @@ ghost use Rattle.dl_exp.specs.Ends.{exp_low, exp_high};
 
 /// For `x` up to 1/2 the numbers `exp_low` and `exp_high`, in units of `1 / 2^B`, are at most and
 /// at least 1 over the least upper bound of the partial sums of the exponential's series.
+#[tactic(auto, using(crate::proofs::EndLaws::low_encloses, crate::proofs::EndLaws::high_encloses))]
 pub fn law_ends()
     ensures low { (B : ℕ) (x : Fraction) → x ≤ℚ 1 over 2 → (N : ℕ)
         → exp_low B x over 2 ^ B *ℚ exponential_sum x N ≤ℚ whole 1 }

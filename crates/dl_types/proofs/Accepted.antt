@@ -1,28 +1,6 @@
 -- A program that breaks no rule has a plan.
-use Rattle.dl_types.proofs.Common.{ℕ, zero, suc, ◌≡◌, ◌∙◌, ◌<◌, ◌≤◌, List, [], ◌∷◌, ◌++◌, length, take, get_or, None, refl, sym, ap, subst, arith, Ok, All, All-nil, most_units, Plan, Settings, IsValidUnit, UnitAst, Program, IsWellFormed, in_turn, expected_claims, cells_asked, fault_on_grid, first_fault_of, first_fault, AnswersUnit, AnswersUnits, aggregate_clause, GridUnit, IsGridUnit, too_many_units, breaks, IsSet, else_first, else_second, agr_layered, most_amount_at}
-use Rattle.dl_limits.proofs.Scales.{amount_fits}
-use Rattle.dl_buckets.specs.GridKept.{IsWithin}
-use Rattle.std.proofs.Common.{add-one}
-use Rattle.dl_plan.specs.declared.plan.Unit.{Unit as UnitOfPlan}
-use Rattle.dl_plan.specs.Valid.{IsValid}
-use Rattle.dl_ast.specs.WellFormed.{IsFormedUnit, IsFormedMixture, IsFormedDefinition}
+use Rattle.dl_types.proofs.Common.{ℕ, zero, suc, ◌≡◌, ◌∙◌, ◌<◌, ◌≤◌, List, [], ◌∷◌, ◌++◌, length, take, get_or, None, refl, sym, ap, subst, arith, Ok, All, All-nil, most_units, Plan, Settings, IsValidUnit, UnitAst, Program, IsWellFormed, in_turn, expected_claims, cells_asked, fault_on_grid, first_fault_of, first_fault, AnswersUnit, AnswersUnits, aggregate_clause, GridUnit, IsGridUnit, too_many_units, breaks, IsSet, else_first, else_second, agr_layered, most_amount_at, amount_fits, IsWithin, add-one, UnitOfPlan, IsValid, IsFormedUnit, IsFormedMixture, IsFormedDefinition, fault_of_text, fault_of_mixture, fault_of_severity, fault_with, AnswersWith, mixture_of, MixAst, PortHead, SevDef, Option, Some, IfSome, IsPlanOf, common_unit, grid_of, IsClean, flaws_of, turn_start, turn_none, grid_is, within_is}
 use Rattle.dl_types.specs.declared.rule.Rule.TheVariants as rules
-use Rattle.dl_types.specs.Faults.{fault_of_text, fault_of_mixture, fault_of_severity}
-unfoldable use Rattle.dl_types.specs.Faults.{fault_with}
-use Rattle.dl_types.specs.Answer.{AnswersWith}
-use Rattle.dl_types.specs.Severities.{mixture_of}
-use Rattle.dl_ast.specs.declared.ast.MixAst.{MixAst}
-use Rattle.dl_ast.specs.declared.ast.PortHead.{PortHead}
-use Rattle.dl_ast.specs.declared.ast.SevDef.{SevDef}
-use Rattle.std.proofs.Common.{Option, Some, IfSome}
-use Rattle.dl_types.specs.Plans.{IsPlanOf}
-use Rattle.dl_types.specs.Rules.{common_unit}
-use Rattle.dl_buckets.specs.Grid.{grid_of}
-use Rattle.dl_buckets.specs.Flaws.{IsClean}
-use Rattle.dl_buckets.specs.Reading.{flaws_of}
-use Rattle.dl_buckets.proofs.Turns.{turn_start}
-use Rattle.dl_buckets.proofs.ClauseLaws.{turn_none}
-use Rattle.dl_buckets.proofs.GridUnits.{grid_is, within_is}
 use Rattle.dl_buckets.proofs.SevThere.{final_there}
 use Rattle.dl_types.proofs.Aggregates.{clause_there}
 use Rattle.dl_types.proofs.PlannedCounts.{count_there}
@@ -107,8 +85,7 @@ element (x ∷ xs) zero h = (x, refl)
 element (x ∷ xs) (suc i) h = element xs i (omega (arith, h))
 
 module _ (settings : Settings) (port : Option PortHead) (sevs : List SevDef) (units : List UnitAst) (defined : All IsFormedDefinition sevs)
-    (formed : All IsFormedUnit units)
-    (none : in_turn (first_fault_of settings port sevs) [] units ≡ None) where
+    (formed : All IsFormedUnit units) (none : in_turn (first_fault_of settings port sevs) [] units ≡ None) where
   up_to : (i : ℕ) → i ≤ length units → (made : List UnitOfPlan) × Planned settings port sevs units i made
   up_to zero h = (
     [],
@@ -139,8 +116,7 @@ module _ (settings : Settings) (port : Option PortHead) (sevs : List SevDef) (un
 -- ---- the program
 
 pub accepted : (program : Program) (settings : Settings) → IsWellFormed program → IsSet settings
-    → first_fault program settings ≡ None
-    → (plan : Plan) × IsPlanOf program settings plan × IsValid plan
+    → first_fault program settings ≡ None → (plan : Plan) × IsPlanOf program settings plan × IsValid plan
 unfolding first_fault
 accepted program settings formed set none =
     let many = both most_units rules.TooManyUnits (too_many_units program.units) _ none in

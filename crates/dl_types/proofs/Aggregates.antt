@@ -1,15 +1,6 @@
 -- An aggregate clause that breaks no rule is one of a valid plan.
-use Rattle.dl_types.proofs.Common.{◌≡◌, ◌∙◌, ap, ℕ, ◌≤◌, true, Option, Some, None, refl, sym, subst, All, IfSome, ltb-false, All-map, most_horizon, most_amount_at, Sev, HasDistribution, Clause, IsClause, horizon, horizon_is, not_at, GridClause, GridUnit, clause_of, has_shares, off_grid_cession, final_severity, aggregate_clause, IsCedeOf, horizon_too_large}
-use Rattle.dl_plan.specs.Valid.{IsWithinMostAmount, IsAggregate}
-use Rattle.dl_buckets.specs.Clauses.{ceded_layer}
-use Rattle.dl_buckets.specs.GridKept.{IsClauseWithin, IsWithin}
+use Rattle.dl_types.proofs.Common.{◌≡◌, ◌∙◌, ap, ℕ, ◌≤◌, true, Option, Some, None, refl, sym, subst, All, IfSome, ltb-false, All-map, most_horizon, most_amount_at, Sev, HasDistribution, Clause, IsClause, horizon, horizon_is, not_at, GridClause, GridUnit, clause_of, has_shares, off_grid_cession, final_severity, aggregate_clause, IsCedeOf, horizon_too_large, IsWithinMostAmount, IsAggregate, ceded_layer, IsClauseWithin, IsWithin, made_of, shares_of, is_fine, MadeClause, cession_fine, made_cession, made_whole, cede_of}
 use Rattle.dl_buckets.specs.ClausesKept.{IsClauseLayered}
-use Rattle.dl_buckets.specs.Clauses.{made_of, shares_of}
-use Rattle.dl_buckets.specs.Lists.{is_fine}
-use Rattle.dl_buckets.specs.declared.made.MadeClause.{MadeClause}
-use Rattle.dl_buckets.proofs.ClauseLaws.{cession_fine, made_cession}
-use Rattle.dl_buckets.proofs.OffGrid.{made_whole}
-use Rattle.dl_types.specs.Plans.{cede_of}
 use Rattle.dl_types.proofs.ClauseFacts.{sums_whole}
 
 -- ---- the horizon

@@ -1,21 +1,7 @@
 -- What an aggregate clause of a valid plan keeps: its multiples are whole numbers, and its horizon is small. The
 -- greatest common divisor of a severity's amounts is that of the amounts of positive probability of what it means.
-use Rattle.dl_types.proofs.Common.{◌∣◌, ℕ, ◌≡◌, ◌∙◌, ◌+◌, ◌*◌, ◌==◌, get_or, true, false, cond, List, [], ◌∷◌, Some, None, refl, sym, ap, subst, arith, inl, inr, All, eqb_tells, All-nil, All-cons, All-head, All-tail, sum_by-cons, whole, ◌over◌, ◌<ℚ◌, gcd, gcd_is, IsClause, Item, Sev, Pairs, HasDistribution, GridClause, GridUnit, clause_of, support, final_severity, has_shares, off_grid_cession, items_in}
-use Rattle.std.proofs.Common.{◌⊎◌, fold}
-use Rattle.std.proofs.lemmas.Nat.Gcd.{dvd_refl, dvd_trans, dvd-zero, dvd_antisymm}
-use Rattle.dl_exact.proofs.Laws.{lt_not_le, le_refl}
-use Rattle.dl_plan.specs.Fine.{IsWhole}
-use Rattle.dl_plan.specs.Clause.{kept}
-use Rattle.dl_plan.specs.Weighted.{weight_at, common_amount}
-use Rattle.dl_exact.proofs.Denominators.{over_zero as zero_over}
-use Rattle.dl_plan.proofs.Means.{severity_total as total_pos}
-use Rattle.dl_buckets.specs.Rules.{common_amount_of, off_grid_sums}
-use Rattle.dl_buckets.proofs.Items.{Rising, rises, support_positive}
+use Rattle.dl_types.proofs.Common.{◌∣◌, ℕ, ◌≡◌, ◌∙◌, ◌*◌, get_or, true, false, List, [], ◌∷◌, Some, None, refl, sym, ap, subst, inl, inr, All, eqb_tells, All-nil, All-cons, All-head, All-tail, whole, ◌over◌, ◌<ℚ◌, gcd, gcd_is, IsClause, Item, Sev, Pairs, HasDistribution, GridClause, GridUnit, clause_of, support, final_severity, has_shares, off_grid_cession, items_in, ◌⊎◌, fold, dvd_refl, dvd_trans, dvd-zero, dvd_antisymm, lt_not_le, le_refl, IsWhole, kept, weight_at, common_amount, zero_over, total_pos, common_amount_of, off_grid_sums, Rising, rises, support_positive, is_off_multiples, made_of, severity_in_layer, cession_fine, multiples_none, sums_none}
 use Rattle.dl_types.proofs.OnePlan.{first_weight, other_weight, same_item}
-use Rattle.dl_buckets.specs.Clauses.{is_off_multiples, made_of}
-use Rattle.dl_buckets.specs.Severity.{severity_in_layer}
-use Rattle.dl_buckets.proofs.ClauseLaws.{cession_fine}
-use Rattle.dl_buckets.proofs.OffGrid.{multiples_none, sums_none}
 use Rattle.dl_buckets.proofs.PastEdges.{fits_tried}
 
 -- ---- the common divisor of a list
@@ -65,8 +51,7 @@ module _ (sev : Sev) (ps : Pairs) (means : HasDistribution sev ps) where
       elim (item_found Q sev.items (rises sev.items sev.weighted.rising) x all) [
         | inl none ↦ absurd (lt_not_le (whole 0) (whole 0)
             (subst (λ t. whole 0 <ℚ t) (sym (means x) ∙ ap (λ w. w over sev.total) none
-            ∙ zero_over sev.total (total_pos sev)) (support_positive ps k d h))
-            (le_refl (whole 0)))
+            ∙ zero_over sev.total (total_pos sev)) (support_positive ps k d h)) (le_refl (whole 0)))
         | inr there ↦ there
       ]
 

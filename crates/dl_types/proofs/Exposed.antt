@@ -1,8 +1,5 @@
 -- The mean of a severity, and a quotient by it.
-use Rattle.dl_types.proofs.Common.{◌≡◌, ◌∙◌, ℕ, ◌<◌, Bool, true, false, nat_lt, ◌||◌, cond, [], ◌∷◌, refl, sym, ap₂, subst, arith, list_any, Fraction, whole, ◌*ℚ◌, ◌/ℚ◌, ◌<ℚ◌, ◌≤ℚ◌, div_times, pos_num, Pairs, mean_amount, support}
-use Rattle.dl_exact.specs.Fraction.{◌+ℚ◌}
-use Rattle.dl_exact.specs.Sum.{sum_over}
-use Rattle.dl_exact.proofs.Laws.{ring, times_cancel, times_pos, le_plus, plus_comm, lt_of_lt_of_le, whole_pos}
+use Rattle.dl_types.proofs.Common.{◌≡◌, ◌∙◌, ℕ, ◌<◌, Bool, true, false, nat_lt, ◌||◌, cond, [], ◌∷◌, refl, sym, ap₂, subst, list_any, Fraction, whole, ◌*ℚ◌, ◌/ℚ◌, ◌<ℚ◌, ◌≤ℚ◌, div_times, pos_num, Pairs, mean_amount, support, ◌+ℚ◌, sum_over, ring, times_cancel, times_pos, le_plus, plus_comm, lt_of_lt_of_le, whole_pos, ltb-true}
 use Rattle.dl_buckets.proofs.Positive.{is_positive, support_step}
 
 -- ---- the mean
@@ -21,18 +18,15 @@ module _ (p : ℕ × Fraction) (ps : Pairs) where
       lt_of_lt_of_le (whole 0) (whole p.0 *ℚ p.1) (whole p.0 *ℚ p.1 +ℚ mean_amount ps)
       (times_pos (whole p.0) p.1 (whole_pos p.0 a) (pos_num p.1 b)) (le_plus (whole p.0 *ℚ p.1) (mean_amount ps))
 
-  test_pos : (n : ℕ) → nat_lt 0 n ≡ true → 0 < n
-  test_pos n e = grind arith
-
   module _ (rest : list_any (nat_lt 0) (support ps) ≡ true → whole 0 <ℚ mean_amount ps) where
     by_amount : (b : Bool) → nat_lt 0 p.0 ≡ b → 0 < p.1.num → (b || list_any (nat_lt 0) (support ps)) ≡ true
         → whole 0 <ℚ mean_amount (p ∷ ps)
-    by_amount true is some k = first (test_pos p.0 is) some
+    by_amount true is some k = first (ltb-true 0 p.0 is) some
     by_amount false is some k = more (rest k)
 
     by_weight : (b : Bool) → is_positive p.1 ≡ b → list_any (nat_lt 0) (cond b (p.0 ∷ support ps) (support ps)) ≡ true
         → whole 0 <ℚ mean_amount (p ∷ ps)
-    by_weight true is k = by_amount (nat_lt 0 p.0) refl (test_pos p.1.num is) k
+    by_weight true is k = by_amount (nat_lt 0 p.0) refl (ltb-true 0 p.1.num is) k
     by_weight false is k = more (rest k)
 
 pub mean_above : (ps : Pairs) → list_any (nat_lt 0) (support ps) ≡ true → whole 0 <ℚ mean_amount ps

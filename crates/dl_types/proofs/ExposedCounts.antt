@@ -1,16 +1,6 @@
 -- Whole numbers, quotients and shapes.
-use Rattle.dl_types.proofs.Common.{ℕ, ◌≡◌, ◌∙◌, ◌*◌, ◌<◌, ◌≤◌, ◌==◌, nat_lt, Bool, true, false, not, inl, inr, refl, sym, ap, ap₂, subst, arith, mul-pos, ◌∣◌, ltb-false, gcd, Fraction, whole, ◌over◌, ◌*ℚ◌, ◌/ℚ◌, ◌<ℚ◌, lowest_swap, lowest_times, lowest_product, lowest_num, lowest_den, product_is, quotient_is, whole_num, whole_den, is_whole, shape_of, passes}
+use Rattle.dl_types.proofs.Common.{ℕ, ◌≡◌, ◌∙◌, ◌*◌, ◌<◌, ◌≤◌, ◌==◌, nat_lt, Bool, true, false, not, inl, inr, refl, sym, ap, ap₂, subst, arith, mul-pos, ◌∣◌, ltb-false, gcd, Fraction, whole, ◌over◌, ◌*ℚ◌, ◌/ℚ◌, ◌<ℚ◌, lowest_swap, lowest_times, lowest_product, lowest_num, lowest_den, product_is, quotient_is, whole_num, whole_den, is_whole, shape_of, passes, zero_above, ◌/◌, ◌%◌, nat_eq, ◌||◌, eq-one_of_dvd-one, eq-zero-or-pos, dvd-mul_right, eqb-true, eq-eqb, nat_tests, div_pos, one_pos, times_pos, whole_pos, same, num_pos, pos_num, is_zero}
 use Rattle.std.specs.Cmp.{both_ways}
-use Rattle.dl_buckets.proofs.Values.{zero_above}
-use Rattle.std.proofs.Common.{◌/◌, ◌%◌, nat_eq}
-use Rattle.std.specs.Prelude.{◌||◌}
-use Rattle.std.proofs.Math.Nat.{eq-one_of_dvd-one, eq-zero-or-pos, dvd-mul_right}
-use Rattle.std.proofs.lemmas.Bool.{eqb-true, eq-eqb}
-use Rattle.std.proofs.lemmas.Bool.Decides.{nat_tests}
-use Rattle.dl_exact.proofs.Laws.{div_pos, one_pos, times_pos, whole_pos}
-use Rattle.dl_exact.proofs.Over.{same}
-use Rattle.dl_exact.proofs.Parts.{num_pos, pos_num}
-use Rattle.dl_buckets.specs.Lists.{is_zero}
 use Rattle.dl_sev.proofs.Whole.{divides_whole, whole_divides, quotient_whole}
 use Rattle.dl_types.proofs.ListedCounts.{passes_is}
 
@@ -57,14 +47,12 @@ module _ (c : Fraction) (above : 0 < c.num) where
 
   square_num : (c *ℚ c).num ≡ c.num * c.num
   square_num =
-      ap (λ (x : Fraction). x.num) square
-      ∙ lowest_num (c.num * c.num) (c.den * c.den) (mul-pos c.positive c.positive)
+      ap (λ (x : Fraction). x.num) square ∙ lowest_num (c.num * c.num) (c.den * c.den) (mul-pos c.positive c.positive)
       (lowest_swap (c.den * c.den) (c.num * c.num) squares)
 
   square_den : (c *ℚ c).den ≡ c.den * c.den
   square_den =
-      ap (λ (x : Fraction). x.den) square
-      ∙ lowest_den (c.num * c.num) (c.den * c.den) (mul-pos c.positive c.positive)
+      ap (λ (x : Fraction). x.den) square ∙ lowest_den (c.num * c.num) (c.den * c.den) (mul-pos c.positive c.positive)
       (lowest_swap (c.den * c.den) (c.num * c.num) squares)
 
   shape_is : shape_of c ≡ (c.den * c.den) over (c.num * c.num)
@@ -111,13 +99,6 @@ pub shape_whole : (c : Fraction) (d : ℕ) → is_zero c ≡ false → is_whole 
     → whole (d * d) ≡ shape_of c
 shape_whole c d above h same_part =
     ap (λ k. whole (k * k)) same_part ∙ ap whole (sym (shape_num c (zero_above c.num above))) ∙ whole_is (shape_of c) h
-
--- a whole shape is above 0
-pub shape_some : (c : Fraction) (r : ℕ) → is_zero c ≡ false → whole r ≡ shape_of c → 1 ≤ r
-shape_some c r above is =
-    let same_num : r ≡ c.den * c.den = sym (whole_num r) ∙ ap (λ (x : Fraction). x.num) is
-    ∙ shape_num c (zero_above c.num above) in
-    subst (λ k. 1 ≤ k) (sym same_num) (mul-pos c.positive c.positive)
 
 -- a shape is above 0
 pub shape_above : (r : ℕ) (c : Fraction) → is_zero c ≡ false → whole r ≡ shape_of c → 0 < r

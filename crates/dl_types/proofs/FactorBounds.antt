@@ -1,18 +1,6 @@
 -- The bounds of units under a factor, by the units and by their parts.
-use Rattle.std.proofs.Common.{flat_map}
-use Rattle.std.proofs.Math.Bool.{or-true}
-use Rattle.std.proofs.lemmas.Bool.{le-ltb, or_parts}
 use Rattle.std.proofs.lemmas.Simd.{map-map}
-use Rattle.std.proofs.lemmas.List.Concat.{flat_map-cons}
-use Rattle.dl_types.proofs.Common.{◌≡◌, ◌∙◌, ℕ, suc, ◌==◌, inl, inr, eqb_tells, ◌<◌, ◌≤◌, ◌&&◌, ◌||◌, Bool, true, false, not, is_some, if◌then◌else◌, nat_lt, List, [], ◌∷◌, ◌++◌, map, Option, Some, None, refl, sym, ap, ap₂, arith, Fraction, whole, ◌over◌, ◌*ℚ◌, Item, ltb-false, most_shape, passes}
-use Rattle.dl_limits.specs.Limits.{most_expected}
-use Rattle.dl_plan.specs.declared.plan.Unit.{Unit as UnitOfPlan}
-use Rattle.dl_plan.specs.Common.{raised, unit_share, shared_probabilities}
-use Rattle.dl_plan.specs.Count.{expected_count}
-use Rattle.dl_plan.specs.Means.{thinned_mean}
-use Rattle.dl_buckets.specs.Lists.{is_fine, is_zero}
-use Rattle.dl_types.specs.Factor.{Part, part_of, claim_share, amount_shares, is_raised_coarse, passes_bounds, passes_with}
-unfoldable use Rattle.dl_types.specs.Factor.{running_sum, is_too_large}
+use Rattle.dl_types.proofs.Common.{◌≡◌, ◌∙◌, ℕ, suc, ◌<◌, ◌≤◌, ◌&&◌, ◌||◌, Bool, true, false, not, is_some, if◌then◌else◌, nat_lt, List, [], ◌∷◌, ◌++◌, map, Option, Some, None, refl, sym, ap, ap₂, arith, Fraction, whole, ◌over◌, ◌*ℚ◌, Item, ltb-false, most_shape, passes, flat_map, or-true, le-ltb, or_parts, flat_map-cons, most_expected, UnitOfPlan, raised, unit_share, shared_probabilities, expected_count, thinned_mean, is_fine, is_zero, Part, part_of, claim_share, amount_shares, is_raised_coarse, passes_bounds, passes_with, running_sum, is_too_large}
 
 abbrev pub claims_of_units : List UnitOfPlan → Option Fraction
 claims_of_units units = running_sum (whole 0) (map (λ (u : UnitOfPlan). expected_count u.freq) units)
@@ -48,21 +36,8 @@ module _ (r : ℕ) (v h : Fraction) (units : List UnitOfPlan) where
 -- the tests in the order of the code
 pub last_passes : (a b d e x y : Bool) → a ≡ false → b ≡ false → (d || e) ≡ false
     → not (x && y) ≡ (a || b || d || e || not x || not y)
-last_passes a b d e x y ha hb hd =
-    let hs = or_parts d e hd in
-    let first : d ≡ false = hs.0 in
-    let second : e ≡ false = hs.1 in
-    rw (ha, hb, first, second) (either x y)
-  where
-    either : (x y : Bool) → not (x && y) ≡ (not x || not y)
-    either true y = refl
-    either false y = refl
-
-pub not_zero : (n : ℕ) → (n ≡ 0 → ⊥) → (n == 0) ≡ false
-not_zero n h = elim (eqb_tells n 0) [
-  | inl e ↦ absurd (h e.1)
-  | inr e ↦ e.0
-]
+last_passes a b d e true y ha hb hd = rw (ha, hb, (or_parts d e hd).0, (or_parts d e hd).1) refl
+last_passes a b d e false y ha hb hd = rw (ha, hb, (or_parts d e hd).0, (or_parts d e hd).1) refl
 
 -- a number that is there is admitted
 pub some_admitted : (b : Bool) (x : Fraction) → is_some (if b then Some x else None) ≡ true → not b ≡ false
@@ -81,19 +56,23 @@ module _ (r : ℕ) (units : List UnitOfPlan) (v h : Option Fraction) (claims : v
       (ap (running_sum (whole 0)) (map-map (λ (p : Part). p.expected) part_of units) ∙ sym claims)
       (ap (running_sum (whole 0)) (map-map (λ (p : Part). p.above) part_of units) ∙ sym above)
 
-pub no_claims : (r : ℕ) (units : List UnitOfPlan) → None ≡ claims_of_units units → true ≡ is_too_large r (map part_of units)
-no_claims r units none =
-    sym (large_is r units None (above_of_units units) none refl ∙ or-true (nat_lt most_shape (suc r)))
+module _ (r : ℕ) (units : List UnitOfPlan) where
+  pub no_claims : claims_of_units units ≡ None → is_too_large r (map part_of units) ≡ true
+  no_claims none = large_is r units None (above_of_units units) (sym none) refl ∙ or-true (nat_lt most_shape (suc r))
 
-pub none_above : (r : ℕ) (units : List UnitOfPlan) (v : Fraction) → Some v ≡ claims_of_units units
-    → None ≡ above_of_units units → true ≡ is_too_large r (map part_of units)
-none_above r units v claims none =
-    sym (large_is r units (Some v) None claims none ∙ or-true (nat_lt most_shape (suc r)))
+  pub no_above : above_of_units units ≡ None → is_too_large r (map part_of units) ≡ true
+  no_above none =
+      large_is r units (claims_of_units units) None refl (sym none)
+      ∙ ap (λ t. nat_lt most_shape (suc r) || t) (passed (claims_of_units units)) ∙ or-true (nat_lt most_shape (suc r))
+    where
+      passed : (v : Option Fraction) → passes_with r v None (map part_of units) ≡ true
+      passed None = refl
+      passed (Some v) = refl
 
-pub bounds_large : (r : ℕ) (units : List UnitOfPlan) (v h : Fraction) → r < most_shape → Some v ≡ claims_of_units units
-    → Some h ≡ above_of_units units → passes_bounds r v h (map part_of units) ≡ is_too_large r (map part_of units)
+pub bounds_large : (r : ℕ) (units : List UnitOfPlan) (v h : Fraction) → r < most_shape → claims_of_units units ≡ Some v
+    → above_of_units units ≡ Some h → passes_bounds r v h (map part_of units) ≡ is_too_large r (map part_of units)
 bounds_large r units v h few claims above =
-    sym (large_is r units (Some v) (Some h) claims above
+    sym (large_is r units (Some v) (Some h) (sym claims) (sym above)
     ∙ ap (λ t. t || passes_bounds r v h (map part_of units)) (le-ltb most_shape (suc r) (omega (arith, few))))
 
 pub small_shape : (r : ℕ) (parts : List Part) → is_too_large r parts ≡ false → suc r ≤ most_shape

@@ -1,26 +1,6 @@
 -- Units that are not too large for a factor can share it in a valid plan.
-use Rattle.std.proofs.Common.{flat_map}
-use Rattle.std.proofs.lemmas.Bool.{leb-true, or_parts}
-use Rattle.dl_types.proofs.Common.{◌≡◌, ◌∙◌, ℕ, suc, ◌<◌, ◌||◌, Bool, true, false, not, nat_lt, List, map, Option, Some, None, refl, sym, ap, ap₂, subst, All, ltb-false, not-false, most_shape, Fraction, whole, ◌<ℚ◌, ◌≤ℚ◌, HasPartsOf48Bits, pos_num, is_some, passes, Span, at_if, not_at, Ok, IfSome, Settings, Program, AnswersUnits, shape_of, breaks, ◌else◌}
-use Rattle.dl_limits.specs.Limits.{most_expected, most_parts}
-use Rattle.dl_plan.specs.declared.plan.Unit.{Unit as UnitOfPlan}
-use Rattle.dl_plan.specs.Common.{CanShare, HasCommonFactor, expected_of, thinned_of, raised, unit_share, shared_probabilities}
-use Rattle.dl_plan.specs.Count.{expected_count}
-use Rattle.dl_plan.specs.Fine.{IsFineTo30Bits, common_denominator}
-use Rattle.dl_plan.specs.Means.{thinned_mean}
-use Rattle.dl_buckets.specs.Lists.{is_fine, is_zero}
-use Rattle.dl_buckets.proofs.Values.{not_above, zero_above}
-use Rattle.dl_types.specs.Factor.{IsShapeIn, Part, part_of, is_raised_coarse, passes_bounds, passes_with, is_too_large}
+use Rattle.dl_types.proofs.Common.{◌≡◌, ◌∙◌, ℕ, suc, ◌<◌, Bool, true, false, nat_lt, List, map, Option, Some, None, refl, sym, ap, ap₂, subst, All, ltb-false, not-false, most_shape, Fraction, whole, ◌<ℚ◌, ◌≤ℚ◌, HasPartsOf48Bits, pos_num, is_some, Span, at_if, not_at, Ok, IfSome, Settings, Program, AnswersUnits, shape_of, breaks, ◌else◌, flat_map, leb-true, or_parts, most_expected, most_parts, UnitOfPlan, CanShare, HasCommonFactor, expected_of, thinned_of, raised, unit_share, shared_probabilities, expected_count, IsFineTo30Bits, common_denominator, thinned_mean, is_fine, is_zero, not_above, zero_above, IsShapeIn, Part, part_of, passes_bounds, passes_with, is_too_large, Numeral, PortHead, value, is_bad_numeral, within, IsSharedShape, IsWrittenShape, has_bad_shape, has_common, common_shape, common_size, parts_in, fault_of_port}
 use Rattle.dl_types.proofs.PlannedCounts.{admitted_is}
-use Rattle.dl_ast.specs.declared.ast.Numeral.{Numeral}
-use Rattle.dl_ast.specs.declared.ast.PortHead.{PortHead}
-use Rattle.dl_buckets.specs.Values.{value, is_bad_numeral}
-use Rattle.dl_buckets.specs.First.{within}
-use Rattle.dl_types.specs.Plans.{IsSharedShape, IsWrittenShape}
-use Rattle.dl_types.specs.Rules.{has_bad_shape, has_common}
-unfoldable use Rattle.dl_types.specs.Rules.{common_shape}
-use Rattle.dl_types.specs.Faults.{common_size, parts_in}
-unfoldable use Rattle.dl_types.specs.Faults.{fault_of_port}
 use Rattle.dl_types.specs.declared.rule.Rule.TheVariants as rules
 use Rattle.dl_types.proofs.ExposedCounts.{shape_above, whole_is}
 use Rattle.dl_types.proofs.RuleLists.{both, only}

@@ -1,56 +1,12 @@
 -- The parts of a plan's units are those of the program's: what is too large for a factor is so in both.
-use Rattle.std.proofs.Common.{flat_map}
-use Rattle.std.proofs.lemmas.Bool.{and_parts, or_parts}
-use Rattle.std.proofs.lemmas.List.Concat.{flat_map-cons}
-use Rattle.std.proofs.lemmas.List.Elements.{All-append}
-use Rattle.std.proofs.lemmas.Nat.Gcd.{dvd_antisymm}
-use Rattle.std.specs.List.{AllZip}
-use Rattle.dl_types.proofs.Common.{◌≡◌, ◌∙◌, ℕ, zero, suc, ◌<◌, ◌&&◌, ◌||◌, ◌∣◌, true, false, not, is_some, List, [], ◌∷◌, length, map, take, get_or, nat_lt, Option, Some, None, inl, inr, refl, sym, ap, ap₂, subst, arith, All, All-nil, All-cons, All-head, All-tail, All-map, eqb_tells, Ok, most_shape, Fraction, whole, ◌over◌, ◌*ℚ◌, ◌<ℚ◌, Item, Sev, Pairs, HasDistribution, IsValidUnit, Settings, Program, UnitAst, ◌else◌, Span, else_second, not_at, not-false, GridUnit, GridCount, Exposed, Listed, Fixed, Poisson, Bernoulli, Binomial, Gamma, final_severity, support, first_fault_of, breaks, cells_asked, AnswersUnits}
-use Rattle.dl_exact.specs.Fraction.{◌-ℚ◌, ◌/ℚ◌}
-use Rattle.dl_exact.proofs.Denominators.{over_zero}
-use Rattle.dl_exact.proofs.Laws.{lt_not_le, le_refl}
-use Rattle.dl_plan.specs.Fine.{common_denominator}
-use Rattle.dl_plan.specs.Severity.{probability}
-use Rattle.dl_plan.specs.Weighted.{weight_at}
-use Rattle.dl_plan.specs.Count.{IsUnbounded, expected_count as expected_of_plan}
-use Rattle.dl_plan.specs.Common.{IsPoisson, CanShare}
-use Rattle.dl_plan.specs.declared.plan.Freq.{Freq}
+use Rattle.dl_types.proofs.Common.{◌≡◌, ◌∙◌, ℕ, suc, ◌&&◌, ◌||◌, ◌∣◌, true, false, not, is_some, List, [], ◌∷◌, length, map, take, get_or, nat_lt, Option, Some, None, refl, sym, ap, ap₂, subst, All, All-nil, All-cons, All-head, All-tail, All-map, Ok, most_shape, Fraction, whole, ◌over◌, ◌*ℚ◌, Item, Sev, Pairs, HasDistribution, IsValidUnit, Settings, Program, UnitAst, else_second, not_at, not-false, GridUnit, GridCount, Exposed, Listed, Fixed, Poisson, Bernoulli, Binomial, Gamma, final_severity, support, first_fault_of, cells_asked, AnswersUnits, flat_map, and_parts, or_parts, flat_map-cons, All-append, dvd_antisymm, AllZip, ◌-ℚ◌, ◌/ℚ◌, common_denominator, probability, IsUnbounded, expected_of_plan, IsPoisson, CanShare, Freq, UnitOfPlan, den_divides, MixAst, Numeral, PortHead, SevDef, value, if_there, at_if, within, nat_le, most_expected, most_parts, raised, is_fine, is_zero, from_map, grid_of, grid_count, given_zero, grid_clause, turn_none, item_share, items_in, all_left, all_right, common_divides, shape_of, fault_of_mixture, common_size, parts_in, Part, claim_share, amount_shares, claims_expected, part_on, part_of_mixture, part_in, part_of, is_raised_coarse, passes_bounds, passes_with, IsCounted, running_sum, is_too_large, IsCountOf, IsUnitOn, IsUnitOf, aggregate_clause, is_poisson, is_plain_poisson, has_common, passes, common_unit, mixture_of}
 use Rattle.dl_plan.specs.declared.plan.Freq.TheVariants as of_plan
-use Rattle.dl_plan.specs.declared.plan.Unit.{Unit as UnitOfPlan}
-use Rattle.dl_plan.proofs.CommonDenominators.{den_divides}
-use Rattle.dl_plan.proofs.Means.{severity_total}
 use Rattle.dl_ast.specs.declared.ast.CountAst.{CountAst}
 use Rattle.dl_ast.specs.declared.ast.CountAst.TheVariants as counts
 use Rattle.dl_ast.specs.declared.ast.FreqAst.TheVariants as freqs
 use Rattle.dl_ast.specs.declared.ast.ZeroAst.TheVariants.{Plain, Truncated, Modified}
-use Rattle.dl_ast.specs.declared.ast.MixAst.{MixAst}
-use Rattle.dl_ast.specs.declared.ast.Numeral.{Numeral}
-use Rattle.dl_ast.specs.declared.ast.PortHead.{PortHead}
-use Rattle.dl_ast.specs.declared.ast.SevDef.{SevDef}
 use Rattle.dl_ast.specs.declared.ast.Cession.{Cession}
-use Rattle.dl_buckets.specs.Values.{value, if_there}
-use Rattle.dl_buckets.specs.First.{at_if, within}
-use Rattle.std.specs.Prelude.{nat_le}
-use Rattle.dl_limits.specs.Limits.{most_expected, most_parts}
-use Rattle.dl_plan.specs.Common.{raised}
-use Rattle.dl_buckets.specs.Lists.{is_fine, is_zero}
-use Rattle.dl_buckets.proofs.Firsts.{from_map}
-unfoldable use Rattle.dl_buckets.specs.Grid.{grid_of}
-use Rattle.dl_buckets.specs.Grid.{grid_count, given_zero, grid_clause}
-use Rattle.dl_buckets.proofs.ClauseLaws.{turn_none}
-use Rattle.dl_buckets.proofs.Items.{Rising, rises, item_share, items_in, support_positive}
-use Rattle.dl_buckets.proofs.Shared.{all_left, all_right, common_divides}
-use Rattle.dl_types.specs.Exposures.{shape_of}
-use Rattle.dl_types.specs.Faults.{fault_of_mixture}
-use Rattle.dl_types.specs.Faults.{common_size, parts_in}
-unfoldable use Rattle.dl_types.specs.Faults.{fault_of_port}
 use Rattle.dl_types.specs.declared.rule.Rule.TheVariants as rules
-use Rattle.dl_types.specs.Factor.{Part, claim_share, amount_shares, claims_expected, part_on, part_of_mixture, part_in, part_of, is_raised_coarse, passes_bounds, passes_with, IsCounted}
-unfoldable use Rattle.dl_types.specs.Factor.{running_sum, is_too_large}
-use Rattle.dl_types.specs.Plans.{IsCountOf, IsUnitOn, IsUnitOf, aggregate_clause}
-use Rattle.dl_types.specs.Rules.{is_poisson, is_plain_poisson, has_common, common_shape, passes}
-unfoldable use Rattle.dl_types.specs.Rules.{common_unit}
-use Rattle.dl_types.specs.Severities.{mixture_of}
 use Rattle.dl_types.proofs.ClauseFacts.{support_in}
 use Rattle.dl_types.proofs.OnePlan.{map_alike}
 use Rattle.dl_types.proofs.RuleLists.{only}
@@ -67,8 +23,7 @@ module _ (P : Fraction → Type 0) (sev : Sev) (ps : Pairs) (means : HasDistribu
   support_holds : All P (map (λ (i : Item). i.weight over sev.total) sev.items)
       → All P (map (probability ps) (support ps))
   support_holds all =
-      All-map P (probability ps) (support ps)
-      (λ k d h. subst P (means (get_or (support ps) k d))
+      All-map P (probability ps) (support ps) (λ k d h. subst P (means (get_or (support ps) k d))
       (support_in sev ps means (λ (i : Item). P (i.weight over sev.total))
       (from_map P (λ (i : Item). i.weight over sev.total) sev.items all) k d h))
 
@@ -121,8 +76,7 @@ module _ (ps qs : List Part) (h : AllZip SamePart ps qs) (v : Fraction) where
 
   same_denominator : common_denominator (amounts ps) ≡ common_denominator (amounts qs)
   same_denominator =
-      dvd_antisymm
-      (common_divides (amounts ps) (common_denominator (amounts qs))
+      dvd_antisymm (common_divides (amounts ps) (common_denominator (amounts qs))
       (amounts_divide v (common_denominator (amounts qs)) qs ps (all_turned ps qs h) (den_divides 1 (amounts qs))))
       (common_divides (amounts qs) (common_denominator (amounts ps))
       (amounts_divide v (common_denominator (amounts ps)) ps qs h (den_divides 1 (amounts ps))))
@@ -208,10 +162,8 @@ plain_poisson bs g (counts.Listed counted probs span) freq plain is = absurd cc
 
 plain_zero : (k : CountAst) → is_plain_poisson k ≡ true → given_zero k ≡ None
 plain_zero (counts.Exposed e f Plain) plain = refl
-plain_zero (counts.Exposed e f (Truncated _)) plain =
-    absurd (cc ((and_parts (is_poisson f) false plain).1))
-plain_zero (counts.Exposed e f (Modified n _)) plain =
-    absurd (cc ((and_parts (is_poisson f) false plain).1))
+plain_zero (counts.Exposed e f (Truncated _)) plain = absurd (cc ((and_parts (is_poisson f) false plain).1))
+plain_zero (counts.Exposed e f (Modified n _)) plain = absurd (cc ((and_parts (is_poisson f) false plain).1))
 plain_zero (counts.Listed counted probs span) plain = refl
 
 none_there : (o : Option Cession) → is_some o ≡ false → o ≡ None

@@ -1,23 +1,6 @@
 -- The shares of units in all expected claims, and their common denominators.
-use Rattle.std.proofs.Common.{drop, flat_map}
-use Rattle.std.proofs.lemmas.Bool.{lt-leb}
-use Rattle.std.proofs.Math.Bool.{and-false}
 use Rattle.std.proofs.lemmas.Grind.{flat_map-append}
-use Rattle.std.proofs.lemmas.List.{get_or_default, flat_map_more, take-append-drop}
-use Rattle.std.proofs.lemmas.List.Sums.{fold-append, get_or-le-sum_by}
-use Rattle.std.proofs.lemmas.Nat.Gcd.{le_of_dvd}
-use Rattle.dl_types.proofs.Common.{◌≡◌, ◌∙◌, ℕ, ◌+◌, ◌*◌, ◌<◌, ◌≤◌, ◌&&◌, Bool, false, List, [], ◌∷◌, ◌++◌, length, map, take, get_or, inl, inr, refl, sym, ap, ap₂, subst, arith, Fraction, whole, ◌over◌, ◌*ℚ◌, ◌/ℚ◌, ◌≤ℚ◌, ◌<ℚ◌, div_times, Item, Sev, IsTooFine}
-use Rattle.dl_limits.specs.Limits.{most_parts}
-use Rattle.dl_exact.specs.Multiples.{lcm}
-use Rattle.dl_exact.proofs.Laws.{one_pos, one_times, times_le_cancel, times_le_both}
-use Rattle.dl_exact.proofs.Multiples.{lcm_right}
-use Rattle.dl_exact.proofs.Over.{le_over, over_le, over_mul, over_self}
-use Rattle.dl_plan.specs.declared.plan.Unit.{Unit as UnitOfPlan}
-use Rattle.dl_plan.specs.Common.{unit_share, shared_probabilities}
-use Rattle.dl_plan.proofs.CommonDenominators.{lcm_pos, common_from_pos, common_from_divides}
-use Rattle.dl_plan.proofs.Means.{severity_total}
-use Rattle.dl_buckets.specs.Lists.{is_fine}
-use Rattle.dl_types.specs.Factor.{joined, times_amounts}
+use Rattle.dl_types.proofs.Common.{◌≡◌, ◌∙◌, ℕ, ◌+◌, ◌*◌, ◌<◌, ◌≤◌, ◌&&◌, Bool, false, List, [], ◌∷◌, ◌++◌, length, map, take, get_or, inl, inr, refl, sym, ap, ap₂, subst, arith, Fraction, whole, ◌over◌, ◌*ℚ◌, ◌/ℚ◌, ◌≤ℚ◌, ◌<ℚ◌, div_times, Item, Sev, IsTooFine, drop, flat_map, lt-leb, and-false, get_or_default, flat_map_more, take-append-drop, fold-append, get_or-le-sum_by, le_of_dvd, most_parts, lcm, one_pos, one_times, times_le_cancel, times_le_both, lcm_right, le_over, over_le, over_mul, over_self, UnitOfPlan, unit_share, shared_probabilities, lcm_pos, common_from_pos, common_from_divides, severity_total, is_fine, joined, times_amounts}
 use Rattle.dl_types.proofs.Naming.{one_more, maps_more, maps_split}
 
 -- ---- parts of a whole
@@ -76,8 +59,7 @@ lcm_reaches a b first second = le_of_dvd (lcm_pos a b first second) (lcm_right a
 module _ {A : Type 0} (f : A → Fraction) (m : ℕ) (xs : List A) (i : ℕ) (x : A) (lt : i < length xs)
     (is : x ≡ get_or xs i x) where
   pub numbers_more : joined m (map f (take (i + 1) xs)) ≡ lcm (joined m (map f (take i xs))) (f x).den
-  numbers_more =
-      ap (joined m) (sym (maps_more xs i x lt is f)) ∙ joined_append m (map f (take i xs)) (f x ∷ [])
+  numbers_more = ap (joined m) (sym (maps_more xs i x lt is f)) ∙ joined_append m (map f (take i xs)) (f x ∷ [])
 
   numbers_coarse : 0 < m → most_parts < lcm (joined m (map f (take i xs))) (f x).den → most_parts < joined m (map f xs)
   numbers_coarse pos far =
@@ -113,8 +95,7 @@ module _ (v : Fraction) (units : List UnitOfPlan) (i : ℕ) (u : UnitOfPlan) (lt
       sym (ap (λ b. b && is_fine (amounts units)) (lt-leb (joined 1 (claims units)) most_parts
       (numbers_coarse (unit_share v) 1 units i u lt is (omega arith) far)))
 
-  pub amounts_coarse : most_parts < joined (joined 1 (amounts (take i units))) (shared_probabilities v u)
-      → false ≡ fine
+  pub amounts_coarse : most_parts < joined (joined 1 (amounts (take i units))) (shared_probabilities v u) → false ≡ fine
   amounts_coarse far =
       let split : amounts units ≡ amounts (take (i + 1) units) ++ amounts (drop (i + 1) units) =
       ap amounts (sym (take-append-drop (i + 1) units))
@@ -165,8 +146,7 @@ module _ (share : Fraction) (sev : Sev) (within : share ≤ℚ whole 1) (xs : Li
   pub amount_refused : IsTooFine ((n * item.weight) over (d * sev.total))
       → joined m (times_amounts share sev) ≤ most_parts → ⊥
   amount_refused fine =
-      amount_coarse (f item).den refl
-      (λ few. omega (
+      amount_coarse (f item).den refl (λ few. omega (
         arith,
         few,
         lcm_reaches multiple (f item).den some (f item).positive,

@@ -1,8 +1,5 @@
 -- What the rule on fractions says of the parts of a unit.
-use Rattle.dl_types.proofs.Common.{◌≡◌, ◌∙◌, ◌||◌, Bool, true, false, not, Option, Some, None, refl, sym, ap, ap₂, Fraction, at_if, probs_in_count, not_at, not-false, GridUnit, final_severity, has_severity, has_shares, fractions_too_fine, claims_above_zero, too_fine, exposed_too_fine}
-use Rattle.std.proofs.lemmas.Bool.{or_parts}
-use Rattle.std.proofs.Math.Bool.{or-true}
-use Rattle.dl_buckets.specs.Lists.{is_fine}
+use Rattle.dl_types.proofs.Common.{◌≡◌, ◌∙◌, ◌||◌, Bool, true, false, not, Option, Some, None, sym, ap, ap₂, Fraction, at_if, probs_in_count, not_at, not-false, GridUnit, final_severity, has_severity, has_shares, fractions_too_fine, claims_above_zero, too_fine, exposed_too_fine, or_parts, or-true, is_fine}
 
 module _ (u : GridUnit) where
   abbrev others : Bool

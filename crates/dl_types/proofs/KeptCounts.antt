@@ -1,15 +1,6 @@
 -- What the rules on a count leave of it.
-use Rattle.dl_types.proofs.Common.{◌≡◌, ◌||◌, ◌&&◌, Bool, true, false, not, if◌then◌else◌, length, Option, Some, None, refl, IfSome, is_some, Fraction, pos_num, HasPartsOf48Bits, GridFreq, Fixed, Poisson, Bernoulli, Binomial, Gamma, GridCount, Exposed, Listed, probs_in_count, not_at, not-false, IsWholeFreq, IsWholeCount, IsCountKept, exposed_too_fine, has_too_many_claims}
-use Rattle.std.proofs.lemmas.Bool.{or_parts}
+use Rattle.dl_types.proofs.Common.{◌≡◌, ◌&&◌, Bool, true, false, not, if◌then◌else◌, length, Option, Some, None, refl, IfSome, is_some, Fraction, pos_num, HasPartsOf48Bits, GridFreq, Fixed, Poisson, Bernoulli, Binomial, Gamma, GridCount, Exposed, Listed, probs_in_count, not_at, not-false, IsWholeFreq, IsWholeCount, IsCountKept, exposed_too_fine, has_too_many_claims, or_parts, IsGridCount, is_fine, count_lengths, among_probabilities, is_unbounded, IsSmallFreq, exposure_span, count_not_whole, count_above_one, trials_not_whole, shape_not_whole, zero_above}
 use Rattle.dl_buckets.specs.declared.grid.GridExposure.{GridExposure}
-use Rattle.dl_buckets.specs.Small.{IsGridCount}
-use Rattle.dl_buckets.specs.Lists.{is_fine}
-use Rattle.dl_buckets.specs.Rules.{count_lengths}
-use Rattle.dl_buckets.proofs.Shared.{among_probabilities}
-use Rattle.dl_types.specs.Exposures.{is_unbounded}
-use Rattle.dl_types.specs.Kept.{IsSmallFreq}
-use Rattle.dl_types.specs.Rules.{exposure_span, count_not_whole, count_above_one, trials_not_whole, shape_not_whole}
-use Rattle.dl_buckets.proofs.Values.{zero_above}
 
 -- ---- tests
 

@@ -1,7 +1,7 @@
 mod Common
 mod Naming
 mod SeverityNames
-mod LaterFaults
+mod Stops
 pub mod ClauseFacts
 pub mod ListedCounts
 pub mod Ratios

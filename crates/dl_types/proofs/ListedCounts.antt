@@ -1,15 +1,6 @@
 -- Listed counts: what the rules leave of them, and what their table is.
-use Rattle.dl_types.proofs.Common.{◌≡◌, ◌∙◌, ℕ, ◌*◌, ◌≤◌, ◌==◌, false, not, nat_lt, List, [], ◌∷◌, zip, map, length, get_or, Option, Some, None, sym, ap, ap₂, arith, All, All-nil, All-cons, All-head, All-tail, All-map, sum_by-cons, most_count, Fraction, whole, ◌over◌, Item, Sev, HasPartsOf48Bits, HasDistribution, whole_num, whole_den, ValueList, Shares, probs_of, is_whole, not_at, not-false, pairs_of_counts, passes, never, items_in}
-use Rattle.std.proofs.lemmas.Bool.{eqb-true}
-use Rattle.std.proofs.lemmas.List.{length-replicate}
-use Rattle.std.proofs.Math.Nat.{mul-le-mul_right}
-use Rattle.dl_plan.specs.Weighted.{weight_sum, weighted_sum}
-use Rattle.dl_exact.proofs.Parts.{over_num_le as num_of_over-le, over_den_le as den_of_over-le}
-use Rattle.dl_plan.proofs.Means.{severity_total as total_pos}
-use Rattle.dl_buckets.specs.First.{within}
-use Rattle.dl_buckets.specs.Rules.{other_length}
+use Rattle.dl_types.proofs.Common.{◌≡◌, ◌∙◌, ℕ, ◌*◌, ◌≤◌, ◌==◌, false, not, nat_lt, List, [], ◌∷◌, zip, map, length, get_or, Option, Some, None, sym, ap, ap₂, arith, All, All-nil, All-cons, All-head, All-tail, All-map, sum_by-cons, most_count, Fraction, whole, ◌over◌, Item, Sev, HasPartsOf48Bits, HasDistribution, whole_num, whole_den, ValueList, Shares, probs_of, is_whole, not_at, not-false, pairs_of_counts, passes, never, items_in, eqb-true, length-replicate, mul-le-mul_right, weight_sum, weighted_sum, num_of_over-le, den_of_over-le, total_pos, within, other_length, support_all}
 use Rattle.dl_types.specs.Listed.{AreCounts}
-use Rattle.dl_buckets.proofs.Items.{support_all}
 
 -- ---- limits
 
@@ -49,8 +40,7 @@ all_zip Q (x ∷ xs) (p ∷ ps) h = All-cons (λ pair. Q pair.0) (x, p) (zip xs 
     (all_zip Q xs ps (All-tail Q x xs h))
 
 pub small_table : (counts : ValueList) (probs : Option Shares) → AreCounts counts probs → (sev : Sev)
-    → HasDistribution sev (pairs_of_counts counts probs)
-    → All (λ (i : Item). i.amount ≤ most_count) sev.items
+    → HasDistribution sev (pairs_of_counts counts probs) → All (λ (i : Item). i.amount ≤ most_count) sev.items
 small_table counts probs are sev means =
     let numbers : List ℕ = map (λ (x : Fraction). x.num) counts.values in
     items_in sev (pairs_of_counts counts probs) means (λ n. n ≤ most_count)

@@ -1,39 +1,31 @@
--- A name among those of earlier units, and the first parts of a list.
-use Rattle.dl_types.proofs.Common.{◌≡◌, ℕ, ◌+◌, List, [], ◌∷◌, ◌++◌, length, if◌then◌else◌, map, Bool, true, false, not, None, Some, refl, sym, ap, ◌∙◌, arith, Span, at_if, list_any}
-use Rattle.std.proofs.Common.{Bor, take, drop, get_or, ◌<◌}
-use Rattle.std.proofs.lemmas.List.{length-append, map-append, map_more, take_more, take-append-drop}
-use Rattle.std.specs.Prelude.{◌||◌}
+-- A name among those before it, and the first parts of a list.
+use Rattle.dl_types.proofs.Common.{◌≡◌, ◌∙◌, ℕ, ◌+◌, ◌<◌, List, [], ◌∷◌, ◌++◌, length, take, get_or, if◌then◌else◌, map, Bool, true, false, not, refl, sym, ap, Span, at_if, list_any, bytes_eq, breaks, CheckFault, Ok, Err, ◌||◌, Bor, drop, map-append, map_more, take_more, take-append-drop, Result, OnOk, TellsFault, Rule}
 
--- a test of some parts is one of what is made of them
-any_of : {A B : Type 0} (p : B → Bool) (f : A → B) (xs : List A) → list_any p (map f xs) ≡ list_any (λ x. p (f x)) xs
+-- a test of what is made of some parts is one of the parts
+pub any_of : {A B : Type 0} (p : B → Bool) (f : A → B) (xs : List A) → list_any p (map f xs) ≡ list_any (λ x. p (f x)) xs
 any_of p f [] = refl
 any_of p f (x ∷ xs) = ap (λ b. p (f x) || b) (any_of p f xs)
 
--- whether one of the names that were taken up passes a test is whether that of one of the parts does
-pub any_named : {A : Type 0} (f : A → List ℕ) (p : List ℕ → Bool) (keys : List (Bor (List ℕ))) (before : List A)
-    → map (λ (k : Bor (List ℕ)). k.now) keys ≡ map f before
-    → list_any (λ (k : Bor (List ℕ)). p k.now) keys ≡ list_any (λ v. p (f v)) before
-any_named f p keys before same =
-    sym (any_of p (λ (k : Bor (List ℕ)). k.now) keys) ∙ ap (list_any p) same ∙ any_of p f before
+abbrev pub texts : List (Bor (List ℕ)) → List (List ℕ)
+texts keys = map (λ (key : Bor (List ℕ)). key.now) keys
 
--- a place where the name is not new, and none where it is
-pub new_name : (place : Span) (is_new here there : Bool) → is_new ≡ not here → is_new ≡ true → here ≡ there
-    → None ≡ at_if there place
-new_name place is_new true there h new same = absurd (grind (arith, h, new))
-new_name place is_new false there h new same = ap (λ b. at_if b place) same
+pub is_old : (text : List ℕ) (keys : List (Bor (List ℕ))) (is_new : Bool)
+    → is_new ≡ not (list_any (λ key. bytes_eq text key.now) keys) → not is_new ≡ list_any (bytes_eq text) (texts keys)
+is_old text keys is_new e = ap not e ∙ twice _ ∙ sym (any_of (bytes_eq text) (λ (key : Bor (List ℕ)). key.now) keys)
+  where
+    twice : (b : Bool) → not (not b) ≡ b
+    twice true = refl
+    twice false = refl
 
-pub old_name : (place : Span) (is_new here there : Bool) → is_new ≡ not here → is_new ≡ false → here ≡ there
-    → Some place ≡ at_if there place
-old_name place is_new true there h old same = ap (λ b. at_if b place) same
-old_name place is_new false there h old same = absurd (grind (arith, h, old))
-
--- a name was taken up exactly where there is one more
-pub taken_up : {A : Type 0} (ks new : List A) (k : A) (is_new here : Bool) → new ≡ (if here then ks else ks ++ k ∷ [])
-    → length new ≡ length ks + (if is_new then 1 else 0) → is_new ≡ not here
-taken_up ks new k true true e l = absurd (omega (arith, l, ap length e))
-taken_up ks new k true false e l = refl
-taken_up ks new k false true e l = refl
-taken_up ks new k false false e l = absurd (omega (arith, l, ap length e ∙ length-append ks (k ∷ [])))
+-- a name that is new stands behind those before it
+pub name_taken : (unit : ℕ) (rule : Rule) (span : Span) (keys new : List (Bor (List ℕ))) (key : Bor (List ℕ))
+    (is_new old : Bool) (r : Result Unit CheckFault) → is_new ≡ not old → new ≡ (if old then keys else keys ++ key ∷ [])
+    → TellsFault (breaks unit rule (at_if (not is_new) span)) r → OnOk r (texts new ≡ texts keys ++ key.now ∷ [])
+name_taken unit rule span keys new key true true (Ok x) added e told = absurd cc
+name_taken unit rule span keys new key false true (Ok x) added e told = absurd cc
+name_taken unit rule span keys new key is_new false (Ok x) added e told =
+    ap texts e ∙ map-append (λ (k : Bor (List ℕ)). k.now) keys (key ∷ [])
+name_taken unit rule span keys new key is_new old (Err stop) added e told = tt
 
 -- ---- the first i parts, one more, and the others
 

@@ -1,29 +1,10 @@
 -- A program and settings have one plan.
-use Rattle.std.proofs.Math.Nat.{ℕ_set, eq_of_mul-eq-mul_right}
 use Rattle.std.proofs.Math.Bridge.{le_prop}
-use Rattle.std.specs.List.{AllZip}
 use mathlib.Core.HLevel.{is_prop→PathP}
-use Rattle.dl_types.proofs.Common.{◌≡◌, ◌∙◌, ℕ, zero, suc, ◌+◌, ◌*◌, ◌<◌, ◌==◌, cond, false, List, [], ◌∷◌, map, Option, Some, None, inl, inr, refl, sym, ap, ap₂, subst, arith, mul-pos, All, All-head, All-tail, sum_by-cons, eqb_tells, Fraction, whole, whole_num, ◌over◌, Item, Sev, Pairs, HasDistribution, Plan, Settings, Program, UnitAst, GridUnit, GridCount, Exposed, Listed, Fixed, Poisson, Bernoulli, Binomial, Gamma, final_severity}
-use Rattle.std.proofs.lemmas.Bool.{cases_lt}
-use Rattle.std.proofs.lemmas.List.Elements.{same_from_all_zip}
-use Rattle.dl_exact.proofs.Laws.{le_of_eq}
-use Rattle.dl_exact.proofs.Over.{le_over}
-use Rattle.dl_plan.specs.declared.plan.Freq.{Freq}
+use Rattle.dl_types.proofs.Common.{◌≡◌, ◌∙◌, ℕ, zero, suc, ◌*◌, ◌<◌, ◌==◌, cond, false, List, [], ◌∷◌, map, Option, Some, None, inl, inr, refl, sym, ap, ap₂, subst, arith, mul-pos, All, All-head, All-tail, sum_by-cons, eqb_tells, Fraction, whole, whole_num, ◌over◌, Item, Sev, Pairs, HasDistribution, Plan, Settings, Program, UnitAst, GridUnit, GridCount, Exposed, Listed, Fixed, Poisson, Bernoulli, Binomial, Gamma, final_severity, ℕ_set, eq_of_mul-eq-mul_right, AllZip, cases_lt, same_from_all_zip, le_of_eq, le_over, Freq, UnitOfPlan, IsClaimCount, IsWeighted, weight_at, common_weight, Rising, rises, none_later, grid_of, ValueList, Shares, MixAst, Numeral, PortHead, SevDef, IsTableOf, IsCountOf, IsUnitOn, IsUnitOf, IsWrittenShape, IsSharedShape, IsPlanOf}
 use Rattle.dl_plan.specs.declared.plan.Freq.TheVariants as of_plan
-use Rattle.dl_plan.specs.declared.plan.Unit.{Unit as UnitOfPlan}
-use Rattle.dl_plan.specs.Count.{IsClaimCount}
-use Rattle.dl_plan.specs.Weighted.{IsWeighted, weight_at, common_weight}
 use Rattle.dl_plan.proofs.Weights.{common_from, common-times, times, weight_sum_pos}
-use Rattle.dl_buckets.proofs.Items.{Rising, rises, none_later}
-use Rattle.dl_buckets.specs.Grid.{grid_of}
-use Rattle.dl_buckets.specs.declared.grid.ValueList.{ValueList}
-use Rattle.dl_buckets.specs.declared.grid.Shares.{Shares}
-use Rattle.dl_ast.specs.declared.ast.MixAst.{MixAst}
-use Rattle.dl_ast.specs.declared.ast.Numeral.{Numeral}
-use Rattle.dl_ast.specs.declared.ast.PortHead.{PortHead}
-use Rattle.dl_ast.specs.declared.ast.SevDef.{SevDef}
 use Rattle.dl_types.specs.Exposures.{expected_count}
-use Rattle.dl_types.specs.Plans.{IsTableOf, IsCountOf, IsUnitOn, IsUnitOf, IsWrittenShape, IsSharedShape, IsPlanOf}
 
 -- ---- whole weights are told by the probabilities that they mean
 
@@ -39,28 +20,26 @@ Positive xs = All (λ (i : Item). 0 < i.weight) xs
 
 -- the weight of the first amount, and of the others
 pub first_weight : (x : Item) (xs : List Item) → Rising (x ∷ xs) → weight_at (x ∷ xs) x.amount ≡ x.weight
-first_weight x xs rising =
-    sum_by-cons (λ (j : Item). cond (j.amount == x.amount) j.weight 0) x xs
-    ∙ ap₂ (λ a b. a + b) (itself x.amount x.weight) (none_later xs x.amount rising.0) ∙ plus_none x.weight
+first_weight x xs rising = omega (
+  arith,
+  sum_by-cons (λ (j : Item). cond (j.amount == x.amount) j.weight 0) x xs,
+  itself x.amount x.weight,
+  none_later xs x.amount rising.0,
+)
   where
     itself : (a w : ℕ) → cond (a == a) w 0 ≡ w
     itself a w = grind arith
 
-    plus_none : (w : ℕ) → w + 0 ≡ w
-    plus_none w = omega arith
-
 pub other_weight : (x : Item) (xs : List Item) (a : ℕ) → (x.amount == a) ≡ false → weight_at (x ∷ xs) a ≡ weight_at xs a
-other_weight x xs a other =
-    sum_by-cons (λ (j : Item). cond (j.amount == a) j.weight 0) x xs
-    ∙ ap (λ b. cond b x.weight 0 + weight_at xs a) other ∙ none_plus (weight_at xs a)
-  where
-    none_plus : (w : ℕ) → 0 + w ≡ w
-    none_plus w = omega arith
+other_weight x xs a other = omega (
+  arith,
+  sum_by-cons (λ (j : Item). cond (j.amount == a) j.weight 0) x xs,
+  ap (λ b. cond b x.weight 0) other,
+)
 
 -- an amount below all has no weight
 no_weight : (x : Item) (xs : List Item) (a : ℕ) → Rising (x ∷ xs) → a < x.amount → weight_at (x ∷ xs) a ≡ 0
-no_weight x xs a rising h =
-    none_later (x ∷ xs) a above
+no_weight x xs a rising h = none_later (x ∷ xs) a above
   where
     above : All (λ (i : Item). a < i.amount) (x ∷ xs)
     above zero d b = h
@@ -74,8 +53,8 @@ some_weight T V x xs ys vpos rising some h none =
     omega (arith, mul-pos (All-head (λ (i : Item). 0 < i.weight) x xs some) vpos, e)
 
 -- what is alike has the same image
-pub map_alike : {A B : Type 0} (R : A → A → Type 0) (f g : A → B) → ((x y : A) → R x y → f x ≡ g y) → (xs ys : List A)
-    → AllZip R xs ys → map f xs ≡ map g ys
+pub map_alike : {A B C : Type 0} (R : A → C → Type 0) (f : A → B) (g : C → B) → ((x : A) (y : C) → R x y → f x ≡ g y)
+    → (xs : List A) (ys : List C) → AllZip R xs ys → map f xs ≡ map g ys
 map_alike R f g alike [] [] h = refl
 map_alike R f g alike [] (y ∷ ys) h = absurd h
 map_alike R f g alike (x ∷ xs) [] h = absurd h
@@ -101,8 +80,7 @@ module _ (T V : ℕ) (tpos : 0 < T) (vpos : 0 < V) where
           ∙ ap (λ n. n * T) (first_weight y ys ry) in (
             (same, first),
             in_ratio xs ys rx.1 ry.1 (All-tail (λ (i : Item). 0 < i.weight) x xs px)
-                (All-tail (λ (i : Item). 0 < i.weight) y ys py)
-                (λ a. elim (eqb_tells x.amount a) [
+                (All-tail (λ (i : Item). 0 < i.weight) y ys py) (λ a. elim (eqb_tells x.amount a) [
                   | inl here ↦
                       ap (λ n. n * V) (none_later xs a (subst (λ b. All (λ (i : Item). b < i.amount) xs) here.1 rx.0))
                       ∙ both_none V T ∙ sym (ap (λ n. n * T)
@@ -128,8 +106,7 @@ module _ (xs : List Item) (t : ℕ) (ys : List Item) (v : ℕ) (w : IsWeighted x
 
   alike : AllZip (Alike t v) xs ys
   alike =
-      in_ratio t v tpos vpos xs ys (rises xs w.rising) (rises ys z.rising) w.positive z.positive
-      (λ a. omega (
+      in_ratio t v tpos vpos xs ys (rises xs w.rising) (rises ys z.rising) w.positive z.positive (λ a. omega (
         arith,
         le_over (weight_at xs a) t (weight_at ys a) v tpos vpos (le_of_eq _ _ (same a)),
         le_over (weight_at ys a) v (weight_at xs a) t vpos tpos (le_of_eq _ _ (sym (same a))),

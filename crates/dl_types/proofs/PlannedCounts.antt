@@ -1,27 +1,11 @@
 -- The claim count of a plan that is made of a count that breaks no rule.
-use Rattle.std.proofs.lemmas.Bool.{and_parts, ltb-true, or_parts}
-use Rattle.dl_types.proofs.Common.{ℕ, ◌≡◌, ◌∙◌, ◌*◌, ◌<◌, ◌<ℚ◌, ◌&&◌, not, nat_lt, Bool, true, false, if◌then◌else◌, List, map, Option, Some, None, refl, sym, ap, ap₂, subst, arith, is_some, IfSome, length-map, admitted_bound, most_claims, most_shape, Fraction, whole, ◌*ℚ◌, ◌/ℚ◌, ◌≤ℚ◌, div_times, Sev, HasPartsOf48Bits, Pairs, HasDistribution, GridFreq, Fixed, Poisson, Bernoulli, Binomial, Gamma, GridCount, Exposed, Listed, probs_of, is_admitted, not-false, GridUnit, claims_of, claims_above_zero, shape_of, IsFreqKept, IsCountKept, IsCountMade, freq_with, pairs_of_counts, has_too_many_claims, passes}
-use Rattle.dl_limits.specs.Limits.{most_expected, rarest_claims}
-use Rattle.dl_exact.specs.Fraction.{◌-ℚ◌, ◌over◌}
-use Rattle.dl_plan.specs.Valid.{IsNewZero}
-use Rattle.dl_plan.specs.declared.plan.Freq.{Freq}
+use Rattle.dl_types.proofs.Common.{ℕ, ◌≡◌, ◌∙◌, ◌*◌, ◌<◌, ◌<ℚ◌, ◌&&◌, not, nat_lt, Bool, true, false, if◌then◌else◌, List, map, Option, Some, None, refl, sym, ap, ap₂, subst, arith, is_some, IfSome, length-map, admitted_bound, most_claims, most_shape, Fraction, whole, ◌*ℚ◌, ◌/ℚ◌, ◌≤ℚ◌, div_times, Sev, HasPartsOf48Bits, Pairs, HasDistribution, GridFreq, Fixed, Poisson, Bernoulli, Binomial, Gamma, GridCount, Exposed, Listed, probs_of, is_admitted, not-false, GridUnit, claims_of, claims_above_zero, shape_of, IsFreqKept, IsCountKept, IsCountMade, freq_with, pairs_of_counts, has_too_many_claims, passes, and_parts, ltb-true, or_parts, most_expected, rarest_claims, ◌-ℚ◌, ◌over◌, IsNewZero, Freq, IsFineTo30Bits, probability_of, IsClaimCount, IsUnbounded, IsExposed, expected_of_plan, IsSmall, not_above, seconds-zip, has_count, is_there_and, thinned, freq_span, has_no_base, zero_base, is_above, IsCountWith, IsCountOf, not_at}
 use Rattle.dl_plan.specs.declared.plan.Freq.TheVariants as of_plan
-use Rattle.dl_plan.specs.Fine.{IsFineTo30Bits}
-use Rattle.dl_plan.specs.Severity.{probability_of}
-use Rattle.dl_plan.specs.Count.{IsClaimCount, IsUnbounded, IsExposed, expected_count as expected_of_plan}
 use Rattle.dl_sev.specs.Weighing.{sum_of}
-use Rattle.dl_buckets.specs.Small.{IsSmall}
-use Rattle.dl_buckets.proofs.Values.{not_above}
-use Rattle.dl_buckets.proofs.Mixing.{seconds-zip}
 use Rattle.dl_buckets.proofs.SevSteps.{sev_of}
-use Rattle.dl_types.specs.Exposures.{expected_count, has_count, is_there_and, thinned}
-use Rattle.dl_types.specs.Rules.{freq_span, has_no_base}
-unfoldable use Rattle.dl_types.specs.Rules.{zero_base}
-use Rattle.dl_buckets.specs.Lists.{is_above}
-use Rattle.dl_types.specs.Plans.{IsCountWith, IsCountOf}
+use Rattle.dl_types.specs.Exposures.{expected_count}
 use Rattle.dl_types.proofs.ListedCounts.{same_length, small_table, table_admitted}
-use Rattle.dl_types.proofs.ExposedCounts.{whole_is, few_is, shape_some}
-use Rattle.dl_buckets.proofs.Nothing.{not_at}
+use Rattle.dl_types.proofs.ExposedCounts.{whole_is, few_is, shape_above}
 use Rattle.dl_types.proofs.KeptCounts.{given, AreKept, number_there}
 
 -- ---- admitted numbers
@@ -32,9 +16,6 @@ admitted_is x h = let parts = go x.num x.den h in record { num = parts.0; den = 
     go : (n d : ℕ) → (nat_lt n admitted_bound && nat_lt d admitted_bound) ≡ true
         → (n < admitted_bound) × (d < admitted_bound)
     go n d h = grind arith
-
-small_admitted : (x : Fraction) → IsSmall x → HasPartsOf48Bits x
-small_admitted x small = record { num = omega (arith, small.num); den = omega (arith, small.den) }
 
 -- ---- with n claims expected
 
@@ -54,11 +35,14 @@ freq_valid (Bernoulli span) n kept = record {
 }
 freq_valid (Binomial p span) n kept = (
   few_is most_claims (n /ℚ p).num (n /ℚ p) (whole_is (n /ℚ p) kept.whole.whole) kept.few,
-  record { within = not_above p (whole 1) kept.whole.within; admitted = small_admitted p kept.read },
+  record {
+    within = not_above p (whole 1) kept.whole.within;
+    admitted = record { num = omega (arith, kept.read.num); den = omega (arith, kept.read.den) };
+  },
 )
 freq_valid (Gamma c span) n kept =
     let same = whole_is (shape_of c) kept.whole.whole in (
-      shape_some c (shape_of c).num kept.whole.above same,
+      shape_above (shape_of c).num c kept.whole.above same,
       few_is most_shape (shape_of c).num (shape_of c) same kept.few,
     )
 
@@ -77,9 +61,6 @@ freq_exposed (Poisson span) n = tt
 freq_exposed (Bernoulli span) n = tt
 freq_exposed (Binomial p span) n = tt
 freq_exposed (Gamma c span) n = tt
-
-freq_expected : (f : GridFreq) (n : Fraction) → IsFreqKept f n → HasPartsOf48Bits (expected_of_plan (freq_with f n))
-freq_expected f n kept = subst HasPartsOf48Bits (sym (freq_expects f n kept)) kept.admitted
 
 -- ---- a change of its probability of no claim
 
@@ -109,7 +90,7 @@ pub made_valid : (k : GridCount) (n : Option Fraction) (freq : Freq) → IsCount
 made_valid (Exposed e f) None freq kept made = absurd kept
 made_valid (Exposed e f) (Some n) freq kept made = (
   subst IsClaimCount (sym made) (freq_valid f n kept),
-  subst (λ (q : Freq). HasPartsOf48Bits (expected_of_plan q)) (sym made) (freq_expected f n kept),
+  subst HasPartsOf48Bits (sym (ap expected_of_plan made ∙ freq_expects f n kept)) kept.admitted,
 )
 made_valid (Listed counts probs) n freq kept made = (made.valid, made.expected)
 
@@ -183,19 +164,16 @@ module _ (pairs : Pairs) (sev : Sev) (means : HasDistribution sev pairs) where
       → HasPartsOf48Bits (expected_of_plan freq *ℚ (whole 1 -ℚ probability_of sev 0))
       × (expected_of_plan freq *ℚ (whole 1 -ℚ probability_of sev 0) ≤ℚ whole most_expected)
   unfolding has_too_many_claims
-  made_thinned (Exposed e f) None freq are made unbounded =
-      absurd (cc ((number_there e f None None are.fine).0))
+  made_thinned (Exposed e f) None freq are made unbounded = absurd (cc ((number_there e f None None are.fine).0))
   made_thinned (Exposed e (Fixed span)) (Some n) freq are made unbounded = absurd (subst IsUnbounded made unbounded)
   made_thinned (Exposed e (Poisson span)) (Some n) freq are made unbounded =
       small_above pairs sev means n (expected_of_plan freq) (ap expected_of_plan made) (is_admitted (thinned pairs n))
       refl (not-false _ (number_there e (Poisson span) (Some n) (claims_above_zero pairs (Some n)) are.fine).1) are.few
-  made_thinned (Exposed e (Bernoulli span)) (Some n) freq are made unbounded =
-      absurd (subst IsUnbounded made unbounded)
+  made_thinned (Exposed e (Bernoulli span)) (Some n) freq are made unbounded = absurd (subst IsUnbounded made unbounded)
   made_thinned (Exposed e (Binomial p span)) (Some n) freq are made unbounded =
       absurd (subst IsUnbounded made unbounded)
   made_thinned (Exposed e (Gamma c span)) (Some n) freq are made unbounded =
       small_above pairs sev means n (expected_of_plan freq) (ap expected_of_plan made) (is_admitted (thinned pairs n))
       refl (not-false _ (number_there e (Gamma c span) (Some n) (claims_above_zero pairs (Some n)) are.fine).1)
       (or_parts _ _ are.few).0
-  made_thinned (Listed counts probs) n freq are made unbounded =
-      absurd (subst IsUnbounded made.table.2 unbounded)
+  made_thinned (Listed counts probs) n freq are made unbounded = absurd (subst IsUnbounded made.table.2 unbounded)

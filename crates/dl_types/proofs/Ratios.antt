@@ -1,12 +1,5 @@
 -- Quotients and products of fractions, cut across.
-use Rattle.dl_types.proofs.Common.{◌≡◌, ◌∙◌, ℕ, ◌*◌, ◌<◌, ◌≤◌, nat_lt, ◌&&◌, if◌then◌else◌, true, false, Some, None, refl, sym, ap, ap₂, subst, arith, inl, inr, mul-pos, ◌∣◌, gcd, Fraction, whole, ◌over◌, ◌*ℚ◌, ◌/ℚ◌, gcd_is, IsTooFine, lowest_swap, lowest_times, lowest_product, lowest_num, lowest_den, product_is, quotient_is, whole_num, whole_den, admitted_bound, is_admitted, admitted}
-use Rattle.std.proofs.Common.{mul_comm}
-use Rattle.std.proofs.Math.Nat.{mul-le-mul, pos_of_dvd_of_pos}
-use Rattle.dl_exact.proofs.Denominators.{over_zero}
-use Rattle.dl_exact.proofs.Over.{over_self, over_mul, over_num as num_of_over, over_den as den_of_over}
-use Rattle.dl_exact.proofs.Laws.{zero_times, times_comm}
-use Rattle.dl_exact.proofs.Multiples.{lowest_parts, part_divides}
-use Rattle.dl_limits.specs.Limits.{frac_bound}
+use Rattle.dl_types.proofs.Common.{◌≡◌, ◌∙◌, ℕ, ◌*◌, ◌<◌, ◌≤◌, nat_lt, ◌&&◌, if◌then◌else◌, true, false, Some, None, refl, sym, ap, ap₂, subst, arith, inl, inr, mul-pos, ◌∣◌, gcd, Fraction, whole, ◌over◌, ◌*ℚ◌, ◌/ℚ◌, gcd_is, IsTooFine, lowest_swap, lowest_times, lowest_product, lowest_num, lowest_den, product_is, quotient_is, whole_num, whole_den, admitted_bound, is_admitted, admitted, mul_comm, mul-le-mul, pos_of_dvd_of_pos, over_zero, over_self, over_mul, num_of_over, den_of_over, zero_times, times_comm, lowest_parts, part_divides, frac_bound, ◌⊎◌}
 
 num_divides : (n d : ℕ) → 0 < d → (n over d).num ∣ n
 num_divides n d h = subst (λ k. k ∣ n) (sym (num_of_over n d h)) (part_divides n (gcd n d) (gcd_is n d).0)
@@ -41,8 +34,7 @@ module _ (a b c d : ℕ) (hb : 0 < b) (hd : 0 < d) where
 -- ---- quotients
 
 module _ (x y u v : Fraction) (n m d e : ℕ) (above : 0 < y.num) (tops : u ≡ x.num over y.num)
-    (bottoms : v ≡ y.den over x.den)
-    (hn : n ≡ u.num) (hm : m ≡ v.num) (hd : d ≡ u.den) (he : e ≡ v.den) where
+    (bottoms : v ≡ y.den over x.den) (hn : n ≡ u.num) (hm : m ≡ v.num) (hd : d ≡ u.den) (he : e ≡ v.den) where
   num_is : n * m ≡ (x.num over y.num).num * (y.den over x.den).num
   num_is = ap₂ (λ a b. a * b) (hn ∙ ap (λ (z : Fraction). z.num) tops) (hm ∙ ap (λ (z : Fraction). z.num) bottoms)
 
@@ -60,21 +52,12 @@ module _ (x y u v : Fraction) (n m d e : ℕ) (above : 0 < y.num) (tops : u ≡ 
 
 -- ---- products that may be too fine
 
-not_admitted_num : (n d : ℕ) → frac_bound ≤ n → (nat_lt n (admitted_bound) && nat_lt d (admitted_bound)) ≡ false
-not_admitted_num n d h = grind arith
-
-not_admitted_den : (n d : ℕ) → frac_bound ≤ d → (nat_lt n (admitted_bound) && nat_lt d (admitted_bound)) ≡ false
-not_admitted_den n d h = grind arith
-
-too_fine_not_admitted : (x : Fraction) → IsTooFine x → is_admitted x ≡ false
-too_fine_not_admitted x (inl h) = not_admitted_num x.num x.den h
-too_fine_not_admitted x (inr h) = not_admitted_den x.num x.den h
-
-refused : (x : Fraction) → is_admitted x ≡ false → None ≡ admitted true x
-refused x h = ap (λ b. if b then Some x else None) (sym h)
+not_admitted : (n d : ℕ) → (frac_bound ≤ n) ⊎ (frac_bound ≤ d) → (nat_lt n admitted_bound && nat_lt d admitted_bound) ≡ false
+not_admitted n d (inl h) = grind arith
+not_admitted n d (inr h) = grind arith
 
 pub too_fine_refused : (x : Fraction) → IsTooFine x → None ≡ admitted true x
-too_fine_refused x far = refused x (too_fine_not_admitted x far)
+too_fine_refused x far = ap (λ b. if b then Some x else None) (sym (not_admitted x.num x.den far))
 
 at_least : (k m n : ℕ) → 0 < n → k ≤ m → k ≤ m * n
 at_least k m n h le =
@@ -111,8 +94,7 @@ module _ (x y : Fraction) where
 
   pub first_too_fine : 0 < y.num → IsTooFine first → None ≡ admitted true (x *ℚ y)
   first_too_fine h (inl far) =
-      too_fine_refused (x *ℚ y)
-      (inl (subst (λ k. frac_bound ≤ k) (sym parts_num)
+      too_fine_refused (x *ℚ y) (inl (subst (λ k. frac_bound ≤ k) (sym parts_num)
       (at_least _ first.num second.num (num_above_zero y.num x.den x.positive h) far)))
   first_too_fine h (inr far) =
       too_fine_refused (x *ℚ y)

@@ -1,13 +1,6 @@
 -- Sums that are admitted after each number.
-use Rattle.std.proofs.Common.{drop}
-use Rattle.std.specs.List.{take-map}
 use Rattle.dl_exact.proofs.Sums.{sum_over_map}
-use Rattle.std.proofs.lemmas.List.{get_or-map, take_all}
-use Rattle.dl_types.proofs.Common.{◌≡◌, ◌∙◌, ℕ, suc, zero, ◌+◌, ◌<◌, ◌≤◌, List, [], ◌∷◌, ◌++◌, length, map, take, get_or, whole, Bool, true, false, if◌then◌else◌, Option, Some, None, refl, sym, ap, subst, arith, All, All-nil, All-cons, Fraction, ◌≤ℚ◌, HasPartsOf48Bits, is_admitted, admitted, length-map, whole_num, whole_den}
-use Rattle.dl_exact.specs.Fraction.{◌+ℚ◌}
-unfoldable use Rattle.dl_exact.specs.Sum.{sum_over}
-use Rattle.dl_exact.proofs.Laws.{plus_assoc, plus_comm, plus_zero, zero_plus, le_plus, le_trans}
-unfoldable use Rattle.dl_types.specs.Factor.{running_sum}
+use Rattle.dl_types.proofs.Common.{◌≡◌, ◌∙◌, ℕ, ◌+◌, ◌<◌, ◌≤◌, List, [], ◌∷◌, ◌++◌, length, map, take, get_or, whole, Bool, true, false, if◌then◌else◌, Option, Some, None, refl, sym, ap, subst, arith, All, All-nil, All-cons, Fraction, ◌≤ℚ◌, HasPartsOf48Bits, is_admitted, admitted, length-map, whole_num, whole_den, drop, take-map, get_or-map, take_all, ◌+ℚ◌, sum_over, plus_assoc, plus_comm, plus_zero, zero_plus, le_plus, le_trans, running_sum, take-append-drop, option_and_then}
 use Rattle.dl_types.proofs.Naming.{maps_more, maps_split}
 use Rattle.dl_types.proofs.PlannedCounts.{admitted_is}
 
@@ -15,27 +8,26 @@ if_some : (b : Bool) (o : Option Fraction) (s : Fraction) → (if b then o else 
 if_some true o s e = (refl, e)
 if_some false o s e = absurd cc
 
-if_none : (b : Bool) (o p : Option Fraction) → (if b then o else None) ≡ None → (o ≡ None → p ≡ None)
-    → (if b then p else None) ≡ None
-if_none true o p e f = f e
-if_none false o p e f = refl
+if_then : (f : Fraction → Option Fraction) (b : Bool) (o p : Option Fraction) → o ≡ option_and_then f p
+    → (if b then o else None) ≡ option_and_then f (if b then p else None)
+if_then f true o p e = e
+if_then f false o p e = refl
 
--- one number more
+-- the numbers of one list, and then those of another
+running_append : (x : Fraction) (xs ys : List Fraction)
+    → running_sum x (xs ++ ys) ≡ option_and_then (λ s. running_sum s ys) (running_sum x xs)
+unfolding running_sum
+running_append x [] ys = refl
+running_append x (z ∷ zs) ys = if_then (λ s. running_sum s ys) (is_admitted (x +ℚ z)) (running_sum (x +ℚ z) (zs ++ ys))
+    (running_sum (x +ℚ z) zs) (running_append (x +ℚ z) zs ys)
+
 pub running_more : (x : Fraction) (xs : List Fraction) (y s : Fraction) → running_sum x xs ≡ Some s
     → running_sum x (xs ++ y ∷ []) ≡ admitted true (s +ℚ y)
 unfolding running_sum
-running_more x [] y s e = let same : x ≡ s = cc in ap (λ t. admitted true (t +ℚ y)) same
-running_more x (z ∷ zs) y s e =
-    let told = if_some (is_admitted (x +ℚ z)) (running_sum (x +ℚ z) zs) s e in
-    ap (λ b. if b then running_sum (x +ℚ z) (zs ++ y ∷ []) else None) told.0 ∙ running_more (x +ℚ z) zs y s told.1
+running_more x xs y s e = running_append x xs (y ∷ []) ∙ ap (option_and_then (λ s. running_sum s (y ∷ []))) e
 
--- where a sum is not admitted, that of a longer list is not there
 pub running_none : (x : Fraction) (xs ys : List Fraction) → running_sum x xs ≡ None → running_sum x (xs ++ ys) ≡ None
-unfolding running_sum
-running_none x [] ys e = absurd cc
-running_none x (z ∷ zs) ys e =
-    if_none (is_admitted (x +ℚ z)) (running_sum (x +ℚ z) zs) (running_sum (x +ℚ z) (zs ++ ys)) e
-    (running_none (x +ℚ z) zs ys)
+running_none x xs ys e = running_append x xs ys ∙ ap (option_and_then (λ s. running_sum s ys)) e
 
 abbrev plain_sum : List Fraction → Fraction
 plain_sum xs = sum_over xs (λ y. y)
@@ -60,15 +52,12 @@ running_admitted x (z ∷ zs) s fits e =
 
 pub running_front : (x : Fraction) (xs : List Fraction) (s : Fraction) (k : ℕ) → running_sum x xs ≡ Some s
     → (t : Fraction) × (running_sum x (take k xs) ≡ Some t)
-unfolding running_sum
-running_front x xs s zero e = (x, refl)
-running_front x [] s (suc k) e = (x, refl)
-running_front x (z ∷ zs) s (suc k) e =
-    let told = if_some (is_admitted (x +ℚ z)) (running_sum (x +ℚ z) zs) s e in
-    let front = running_front (x +ℚ z) zs s k told.1 in (
-      front.0,
-      ap (λ b. if b then running_sum (x +ℚ z) (take k zs) else None) told.0 ∙ front.1,
-    )
+running_front x xs s k e = there (running_sum x (take k xs)) refl
+  where
+    there : (o : Option Fraction) → running_sum x (take k xs) ≡ o → (t : Fraction) × (running_sum x (take k xs) ≡ Some t)
+    there None none = absurd (cc (sym (running_none x (take k xs) (drop k xs) none)
+        ∙ ap (running_sum x) (take-append-drop k xs) ∙ e))
+    there (Some t) is = (t, is)
 
 -- each number is at most the sum
 each_within : (x : Fraction) (xs : List Fraction) → All (λ y. y ≤ℚ x +ℚ plain_sum xs) xs
@@ -76,8 +65,7 @@ unfolding sum_over
 each_within x [] = All-nil (λ y. y ≤ℚ x +ℚ plain_sum [])
 each_within x (z ∷ zs) =
     let regrouped : x +ℚ z +ℚ plain_sum zs ≡ x +ℚ (z +ℚ plain_sum zs) = plus_assoc x z (plain_sum zs) in
-    All-cons (λ y. y ≤ℚ x +ℚ (z +ℚ plain_sum zs)) z zs
-    (subst (λ t. z ≤ℚ t) (plus_comm (z +ℚ plain_sum zs) x)
+    All-cons (λ y. y ≤ℚ x +ℚ (z +ℚ plain_sum zs)) z zs (subst (λ t. z ≤ℚ t) (plus_comm (z +ℚ plain_sum zs) x)
     (le_trans z (z +ℚ plain_sum zs) (z +ℚ plain_sum zs +ℚ x) (le_plus z (plain_sum zs))
     (le_plus (z +ℚ plain_sum zs) x)))
     (λ k d inside. subst (λ t. get_or zs k d ≤ℚ t) regrouped (each_within (x +ℚ z) zs k d inside))
@@ -123,8 +111,7 @@ each_below_of f xs s e k d inside =
 -- the sum of all, and of the first k
 pub sum_is : {A : Type 0} (f : A → Fraction) (xs : List A) (s : Fraction)
     → running_sum (whole 0) (map f xs) ≡ Some s → s ≡ sum_over xs f
-sum_is f xs s e =
-    running_value (whole 0) (map f xs) s e ∙ zero_plus (plain_sum (map f xs)) ∙ sum_over_map f (λ y. y) xs
+sum_is f xs s e = running_value (whole 0) (map f xs) s e ∙ zero_plus (plain_sum (map f xs)) ∙ sum_over_map f (λ y. y) xs
 
 pub first_admitted : {A : Type 0} (f : A → Fraction) (xs : List A) (s : Fraction)
     → running_sum (whole 0) (map f xs) ≡ Some s → (k : ℕ) → HasPartsOf48Bits (sum_over (take k xs) f)

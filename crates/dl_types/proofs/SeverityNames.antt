@@ -1,10 +1,5 @@
 -- The first severity with a name, one severity after another.
-use Rattle.dl_types.proofs.Common.{◌≡◌, ◌∙◌, ℕ, suc, ◌+◌, ◌<◌, ◌≤◌, List, ◌∷◌, length, get_or, Bool, true, false, Some, None, refl, sym, ap, bytes_eq, if◌then◌else◌}
-use Rattle.std.proofs.Common.{drop, drop-cons, add-one, ◌≢◌}
-use Rattle.std.proofs.lemmas.List.{drop_all}
-use Rattle.std.proofs.lemmas.Slice.Eq.{bytes_eq-Decides}
-use Rattle.dl_ast.specs.declared.ast.SevDef.{SevDef}
-unfoldable use Rattle.dl_types.specs.Severities.{named}
+use Rattle.dl_types.proofs.Common.{◌≡◌, ◌∙◌, ℕ, suc, ◌+◌, ◌<◌, ◌≤◌, List, ◌∷◌, length, get_or, Bool, true, false, Some, None, refl, sym, ap, bytes_eq, if◌then◌else◌, drop, drop-cons, add-one, ◌≢◌, drop_all, bytes_eq-Decides, SevDef, named}
 
 named_one : (d : SevDef) (ds : List SevDef) (name : List ℕ) (t : Bool) → bytes_eq d.name.text name ≡ t
     → named (d ∷ ds) name ≡ (if t then Some d.mix else named ds name)

@@ -1,20 +1,8 @@
 -- A unit that is read tells of the rules that its text breaks, and where it breaks none it is the unit of the text.
-use Rattle.dl_types.proofs.Common.{ℕ, ◌≡◌, ◌∙◌, List, [], ◌∷◌, Option, Some, None, refl, sym, ap, subst, arith, Ok, Err, Fraction, Span, ◌else◌, breaks, CheckFault, GridUnit, UnitAst}
-use Rattle.std.proofs.Common.{length}
-use Rattle.std.specs.Prelude.{Result, OnOk}
-use Rattle.dl_types.specs.declared.rule.Rule.{Rule}
+use Rattle.dl_types.proofs.Common.{ℕ, ◌≡◌, ◌∙◌, List, [], ◌∷◌, Option, Some, None, refl, sym, ap, subst, arith, Ok, Err, Fraction, Span, ◌else◌, breaks, CheckFault, GridUnit, UnitAst, length, Result, OnOk, Rule, MixAst, first_in, places, AgreeToFirst, IsClean, IsRead, grid_mixture, grid_with, grid_of, flaws_of_mixture, flaws_with, flaws_of, TellsFault, first_broken, fault_of_text, text_rules}
 use Rattle.dl_types.specs.declared.rule.Rule.TheVariants as rules
-use Rattle.dl_ast.specs.declared.ast.MixAst.{MixAst}
 use Rattle.dl_buckets.specs.declared.flaws.Flaws.{Flaws}
 use Rattle.dl_buckets.specs.declared.flaws.Gridded.{Gridded}
-unfoldable use Rattle.dl_buckets.specs.First.{first_in}
-use Rattle.dl_buckets.specs.Flaws.{places, AgreeToFirst, IsClean, IsRead}
-use Rattle.dl_buckets.specs.Grid.{grid_mixture, grid_with}
-unfoldable use Rattle.dl_buckets.specs.Grid.{grid_of}
-use Rattle.dl_buckets.specs.Reading.{flaws_of_mixture, flaws_with}
-unfoldable use Rattle.dl_buckets.specs.Reading.{flaws_of}
-use Rattle.dl_types.specs.Answer.{TellsFault}
-use Rattle.dl_types.specs.Faults.{first_broken, fault_of_text, text_rules}
 use Rattle.dl_types.proofs.RuleLists.{all_kept}
 
 -- each of these rules beside its place

@@ -1,40 +1,14 @@
 -- What a unit in whole buckets keeps where the rules on it are not broken, and its unit of the plan.
-use Rattle.dl_types.proofs.Common.{ℕ, ◌≡◌, ◌∙◌, Bool, true, false, List, [], ◌∷◌, Option, Some, None, Sev, Clause, refl, sym, ap, ap₂, subst, Ok, Err, Fraction, Settings, Span, at_if, not_at, GridUnit, GridCount, Exposed, Listed, ◌++◌, has_shares, fractions_too_fine, IsGridUnit, off_grid_cession, final_severity, CheckFault, Typing, OutOfMemory, expected_claims, claims_of, claims_above_zero, breaks, cells_asked, fault_on_grid, IsWholeCount, IsCountKept, IsCountMade, IsCedeOf, too_fine, exposed_too_fine, too_many_claims, has_too_many_claims, horizon_too_large, most_amount_at}
-use Rattle.dl_buckets.specs.GridKept.{IsWithin}
-use Rattle.dl_buckets.specs.Clauses.{made_of}
-use Rattle.std.specs.Prelude.{Result, OnOk, IfOk, IfErr}
-use Rattle.std.specs.Result.{IsErr, IsErrAnd}
-use Rattle.dl_plan.specs.declared.plan.Unit.{Unit as UnitOfPlan}
-use Rattle.dl_plan.specs.Valid.{IsNewZero}
-use Rattle.std.specs.Option.{IfSome}
-use Rattle.dl_buckets.specs.Kept.{IsLayered, IsFineSev}
-use Rattle.dl_types.specs.declared.rule.Rule.{Rule}
+use Rattle.dl_types.proofs.Common.{ℕ, ◌≡◌, ◌∙◌, Bool, true, false, List, [], ◌∷◌, Option, None, Sev, Clause, refl, sym, ap, ap₂, subst, Ok, Err, Fraction, Settings, Span, at_if, not_at, ◌else◌, else_first, else_second, GridUnit, GridCount, Exposed, Listed, ◌++◌, has_shares, fractions_too_fine, IsGridUnit, off_grid_cession, severity_in_layer, support, final_severity, CheckFault, OutOfMemory, expected_claims, claims_of, claims_above_zero, breaks, cells_asked, fault_on_grid, IsWholeCount, IsCountKept, IsCountMade, IsCedeOf, too_fine, exposed_too_fine, too_many_claims, has_too_many_claims, horizon_too_large, most_amount_at, IsWithin, made_of, Result, OnOk, IfOk, IfErr, UnitOfPlan, IsNewZero, IfSome, IsLayered, IsFineSev, TypeFault, StopsAt, TellsFault, AnswersGrid, first_broken, clause_rules, whole_rules, number_rules, count_rules, change_rules, zero_base, zero_mean, IsErr, IsErrAnd, else_none, first_in, AllKept}
 use Rattle.dl_types.specs.declared.rule.Rule.TheVariants as rules
 use Rattle.dl_types.specs.declared.claims.Claims.{Claims}
-use Rattle.dl_types.specs.declared.fault.TypeFault.{TypeFault}
-use Rattle.dl_types.specs.Answer.{StopsAt, TellsFault, AnswersGrid}
 use Rattle.dl_types.specs.Claimed.{IsFinal, AreClaims, IsNumberOf, IsUnitCount, count_of, number_of}
-use Rattle.dl_types.specs.Faults.{first_broken, clause_rules, whole_rules, number_rules, count_rules, change_rules, grid_rules}
-use Rattle.dl_types.specs.Rules.{zero_base}
 use Rattle.dl_types.proofs.Aggregates.{aggregate_valid}
 use Rattle.dl_types.proofs.FineClaims.{count_probs, fine_left, occ_shares, agr_shares}
 use Rattle.dl_types.proofs.KeptCounts.{AreWhole, AreKept, whole_count, count_kept}
-use Rattle.dl_types.proofs.RuleLists.{all_kept, none_broken, first_kept, both_kept, last_is}
+use Rattle.dl_types.proofs.Stops.{stopped}
+use Rattle.dl_types.proofs.RuleLists.{only, both, all_kept, lists}
 use Rattle.dl_types.proofs.PlannedCounts.{claims_admitted, made_valid, made_is, made_zero, made_thinned}
-
--- ---- a check that stops
-
--- a fault of the one part is one of the other
-module _ (p q : Option TypeFault) (same : (t : TypeFault) → p ≡ Some t → q ≡ Some t) where
-  stop_as : (f : CheckFault) → StopsAt p f → StopsAt q f
-  stop_as (Typing t) h = same t h
-  stop_as OutOfMemory h = tt
-
-  -- where a call stops, its caller does
-  pub told_as : {A : Type 0} (r : Result A CheckFault) (f : CheckFault) → IsErr r × IsErrAnd r (λ e. e ≡ f)
-      → StopsAt p f → TellsFault q r
-  told_as (Ok x) f h told = absurd (cc (h.0))
-  told_as (Err g) f h told = subst (StopsAt q) (sym h.1) (stop_as f told)
 
 -- a value that is given back where rules on it are kept
 pub kept_as : {A : Type 0} (P : A → Type 0) (x : A) (rules : Result Unit CheckFault) (r : Result A CheckFault)
@@ -65,15 +39,12 @@ pub record Counted (u : GridUnit) (n : Option Fraction) : Type 0 where
   pub fine : too_fine u n ≡ None
   pub few : too_many_claims u n ≡ None
 
-counted_is : (unit : ℕ) (u : GridUnit) (n : Option Fraction) → first_broken unit (number_rules u n) ≡ None
-    → Counted u n
-counted_is unit u n none =
-    let kept = all_kept unit (number_rules u n) none in
-    record {
-      whole = record { whole = kept.0; within = kept.1.0; trials = kept.1.1.0; shape = kept.1.1.1.0 };
-      fine = kept.1.1.1.1.0;
-      few = kept.1.1.1.1.1.0;
-    }
+counted_is : (u : GridUnit) (n : Option Fraction) → AllKept (number_rules u n) → Counted u n
+counted_is u n kept = record {
+  whole = record { whole = kept.0; within = kept.1.0; trials = kept.1.1.0; shape = kept.1.1.1.0 };
+  fine = kept.1.1.1.1.0;
+  few = kept.1.1.1.1.1.0;
+}
 
 pub whole_is : (unit : ℕ) (k : GridCount) (n : Option Fraction) → first_broken unit (whole_rules k n) ≡ None
     → AreWhole k n
@@ -83,8 +54,7 @@ whole_is unit k n none =
 
 pub whole_here : (u : GridUnit) (n : Option Fraction) → AreWhole u.count n → too_fine u n ≡ None
     → IsWholeCount u.count n
-whole_here u n are fine =
-    whole_count u.count n (claims_above_zero (final_severity u) n) are (fine_left u n fine).1
+whole_here u n are fine = whole_count u.count n (claims_above_zero (final_severity u) n) are (fine_left u n fine).1
 
 pub many_place : (u : GridUnit) (n : Option Fraction) (claims : Claims) (r : Bool) → AreClaims u claims
     → IsUnitCount u.count n claims.count
@@ -104,6 +74,30 @@ number_is bs u = of_count u.count
     of_count (Exposed exposure freq) = tt
     of_count (Listed values probs) = refl
 
+-- the rules on its count, from what they are asked of
+module _ (bs : Fraction) (unit : ℕ) (u : GridUnit) (xs : List ℕ) (n : Option Fraction) (place : Option Span)
+    (amounts : xs ≡ support (severity_in_layer u)) (number : n ≡ expected_claims bs u) (at : place ≡ zero_mean xs u.count)
+  where
+    abbrev asked : Option TypeFault
+    asked =
+        breaks unit rules.ZeroMean place else first_broken unit (whole_rules u.count n)
+        else breaks unit rules.TooFine (too_fine u n) else breaks unit rules.TooManyClaims (too_many_claims u n)
+
+    pub count_fault : first_broken unit (count_rules bs u) ≡ asked
+    unfolding first_in
+    count_fault =
+        ap₂ (λ p m. breaks unit rules.ZeroMean p else first_broken unit (number_rules u m))
+        (sym (at ∙ ap (λ ys. zero_mean ys u.count) amounts)) (sym number)
+        ∙ ap (λ o. breaks unit rules.ZeroMean place else o) (lists unit (whole_rules u.count n)
+        ((rules.TooFine, too_fine u n) ∷ (rules.TooManyClaims, too_many_claims u n) ∷ [])
+        ∙ ap (λ o. first_broken unit (whole_rules u.count n) else breaks unit rules.TooFine (too_fine u n) else o)
+        (else_none (breaks unit rules.TooManyClaims (too_many_claims u n))))
+
+    pub count_told : {A : Type 0} (r : Result A CheckFault) (stop : CheckFault) → IsErr r × IsErrAnd r (λ e. e ≡ stop)
+        → StopsAt asked stop → TellsFault (first_broken unit (count_rules bs u)) r
+    count_told r stop is told =
+        stopped (TellsFault (first_broken unit (count_rules bs u))) r stop is (subst (λ o. StopsAt o stop) (sym count_fault) told)
+
 module _ (bs : Fraction) (unit : ℕ) (u : GridUnit) (grid : IsGridUnit u) (none : first_broken unit (count_rules bs u) ≡ None) where
   abbrev n : Option Fraction
   n = expected_claims bs u
@@ -112,7 +106,7 @@ module _ (bs : Fraction) (unit : ℕ) (u : GridUnit) (grid : IsGridUnit u) (none
   above = claims_above_zero (final_severity u) n
 
   counted : Counted u n
-  counted = counted_is unit u n (none_broken unit (number_rules u n) (all_kept unit (count_rules bs u) none).1)
+  counted = counted_is u n (all_kept unit (count_rules bs u) none).1
 
   parts : (fractions_too_fine u ≡ false) × (exposed_too_fine u.count n above ≡ false)
   parts = fine_left u n counted.fine
@@ -150,51 +144,41 @@ module _ (bs : Fraction) (unit : ℕ) (u : GridUnit) (grid : IsGridUnit u) (none
 
 -- ---- all rules on the unit in whole buckets
 
--- a check of the unit in whole buckets stops as a check of its part
-pub grid_told : (settings : Settings) (unit : ℕ) (u : GridUnit) (text : List ℕ) (p : Option TypeFault)
-    (r : Result UnitOfPlan CheckFault) (f : CheckFault) → IsErr r × IsErrAnd r (λ e. e ≡ f) → StopsAt p f
-    → ((t : TypeFault) → p ≡ Some t → first_broken unit (grid_rules settings u) ≡ Some t)
-    → AnswersGrid settings unit text u r
-unfolding fault_on_grid
-grid_told settings unit u text p (Ok x) f h told same = absurd (cc (h.0))
-grid_told settings unit u text p (Err g) f h told same =
-    subst (StopsAt (fault_on_grid settings unit u)) (sym h.1) (stop_as p (fault_on_grid settings unit u) same f told)
+module _ (settings : Settings) (unit : ℕ) (u : GridUnit) where
+  abbrev clauses : Option TypeFault
+  clauses = first_broken unit (clause_rules u)
 
--- the last rule, where all before it are kept
-module _ (settings : Settings) (unit : ℕ) (u : GridUnit) (clauses : first_broken unit (clause_rules u) ≡ None)
-    (counted : first_broken unit (count_rules settings.bs u) ≡ None)
-    (near : breaks unit rules.HorizonTooLarge (horizon_too_large (cells_asked settings) (made_of u.agr)) ≡ None) where
-  abbrev before : List (Rule × Option Span)
-  before =
-      clause_rules u ++ count_rules settings.bs u
-      ++ (rules.HorizonTooLarge, horizon_too_large (cells_asked settings) (made_of u.agr)) ∷ []
+  abbrev counted_fault : Option TypeFault
+  counted_fault = first_broken unit (count_rules settings.bs u)
+
+  abbrev far : Option Span
+  far = horizon_too_large (cells_asked settings) (made_of u.agr)
 
   abbrev base : Option Span
   base = zero_base u.count u.zero (expected_claims settings.bs u)
 
-  all_before : first_broken unit before ≡ None
-  all_before = both_kept unit (clause_rules u) _ clauses
-      (last_is unit (count_rules settings.bs u) counted rules.HorizonTooLarge _ ∙ near)
+  abbrev all_asked : Option TypeFault
+  all_asked = clauses else counted_fault else breaks unit rules.HorizonTooLarge far else breaks unit rules.ZeroBase base
 
-  pub last_told : (t : TypeFault) → breaks unit rules.ZeroBase base ≡ Some t
-      → first_broken unit (grid_rules settings u) ≡ Some t
-  last_told t e = last_is unit before all_before rules.ZeroBase base ∙ e
+  pub grid_fault : fault_on_grid settings unit u ≡ all_asked
+  unfolding fault_on_grid first_in
+  grid_fault =
+      lists unit (clause_rules u) (count_rules settings.bs u ++ change_rules settings u)
+      ∙ ap (λ o. clauses else o) (lists unit (count_rules settings.bs u) (change_rules settings u)
+      ∙ ap (λ o. counted_fault else breaks unit rules.HorizonTooLarge far else o) (else_none (breaks unit rules.ZeroBase base)))
 
-  pub none_told : breaks unit rules.ZeroBase base ≡ None → fault_on_grid settings unit u ≡ None
-  unfolding fault_on_grid
-  none_told e = last_is unit before all_before rules.ZeroBase base ∙ e
+  -- a check of the unit in whole buckets stops as a check of its part
+  pub grid_told : (text : List ℕ) (r : Result UnitOfPlan CheckFault) (stop : CheckFault)
+      → IsErr r × IsErrAnd r (λ e. e ≡ stop) → StopsAt all_asked stop → AnswersGrid settings unit text u r
+  grid_told text r stop is told =
+      stopped (AnswersGrid settings unit text u) r stop is (subst (λ o. StopsAt o stop) (sym grid_fault) told)
 
-pub grid_parts : (settings : Settings) (unit : ℕ) (u : GridUnit) → fault_on_grid settings unit u ≡ None
-    → (first_broken unit (clause_rules u) ≡ None) × (first_broken unit (count_rules settings.bs u) ≡ None)
-    × (horizon_too_large (cells_asked settings) (made_of u.agr) ≡ None)
-    × (zero_base u.count u.zero (expected_claims settings.bs u) ≡ None)
-unfolding fault_on_grid
-grid_parts settings unit u none =
-    let counted = count_rules settings.bs u in
-    let first = first_kept unit (clause_rules u) (counted ++ change_rules settings u) none in
-    let rest = first_kept unit counted (change_rules settings u) first.1 in
-    let last = all_kept unit (change_rules settings u) rest.1 in
-    (first.0, rest.0, last.0, last.1.0)
+  pub grid_parts : fault_on_grid settings unit u ≡ None → (clauses ≡ None) × (counted_fault ≡ None) × (far ≡ None) × (base ≡ None)
+  grid_parts none =
+      let all = sym grid_fault ∙ none in
+      let later = else_second clauses _ all in
+      let last = both unit rules.HorizonTooLarge far _ (else_second counted_fault _ later) in
+      (else_first clauses _ all, else_first counted_fault _ later, last.0, only unit rules.ZeroBase base last.1)
 
 module _ (settings : Settings) (unit : ℕ) (u : GridUnit) (grid : IsGridUnit u)
     (within : IsWithin (most_amount_at (cells_asked settings)) u)

@@ -51,9 +51,8 @@ abbrev pub AnswersUnit : Settings → Option PortHead → List SevDef → List U
 AnswersUnit settings port sevs before u (Ok made) =
     (first_fault_of settings port sevs before u ≡ None) × IsUnitOf settings.bs sevs u made
     × IsValidUnit (cells_asked settings) made
-AnswersUnit settings port sevs before u (Err (Typing fault)) =
-    first_fault_of settings port sevs before u ≡ Some fault
-AnswersUnit settings port sevs before u (Err OutOfMemory) = Unit {0}
+AnswersUnit settings port sevs before u (Err stop) =
+    StopsAt (first_fault_of settings port sevs before u) stop
 
 -- the units of the plan, which are valid and have different names; the first fault of the first
 -- unit that has one; or want of memory
@@ -63,9 +62,8 @@ AnswersUnits settings port sevs units (Ok made) =
     (in_turn (first_fault_of settings port sevs) [] units ≡ None)
     × AllZip (IsUnitOf settings.bs sevs) units made
     × All (IsValidUnit (cells_asked settings)) made × AllPairs (λ u v. u.name ≢ v.name) made
-AnswersUnits settings port sevs units (Err (Typing fault)) =
-    in_turn (first_fault_of settings port sevs) [] units ≡ Some fault
-AnswersUnits settings port sevs units (Err OutOfMemory) = Unit {0}
+AnswersUnits settings port sevs units (Err stop) =
+    StopsAt (in_turn (first_fault_of settings port sevs) [] units) stop
 
 -- the plan, which is valid, where no rule is broken; the first fault, where there is one; or want
 -- of memory

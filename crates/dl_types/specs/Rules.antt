@@ -10,6 +10,7 @@ use Rattle.dl_plan.specs.Horizon.{horizon}
 use Rattle.dl_exact.specs.Fraction.{Fraction, whole, ◌over◌, ◌/ℚ◌}
 use Rattle.dl_lexer.specs.declared.token.Span.{Span}
 use Rattle.dl_ast.specs.declared.ast.UnitAst.{UnitAst}
+use Rattle.dl_ast.specs.declared.ast.NameAst.{NameAst}
 use Rattle.dl_ast.specs.declared.ast.Numeral.{Numeral}
 use Rattle.dl_ast.specs.declared.ast.SevDef.{SevDef}
 use Rattle.dl_ast.specs.declared.ast.PortHead.{PortHead}
@@ -33,12 +34,16 @@ use Rattle.dl_buckets.specs.declared.made.MadeClause.TheVariants as made
 use Rattle.dl_buckets.specs.declared.grid.GridUnit.{GridUnit}
 use Rattle.dl_buckets.specs.Severity.{final_severity}
 use Rattle.dl_buckets.specs.FineParts.{fractions_too_fine}
+use Rattle.dl_types.specs.UnitNames.{names_of, severity_names}
 use Rattle.dl_types.specs.Exposures.{expected_loss, is_unbounded, claims_above_zero, is_there_and, shape_of}
+
+-- the place of a name that is one of these
+abbrev pub repeated : List (List ℕ) → NameAst → Option Span
+repeated names name = at_if (list_any (bytes_eq name.text) names) name.span
 
 -- 1 DuplicateName: the unit's name is that of an earlier unit
 unfoldable pub duplicate_name : List UnitAst → UnitAst → Option Span
-duplicate_name before u = at_if (list_any (λ (v : UnitAst). bytes_eq u.name.text v.name.text)
-    before) u.name.span
+duplicate_name before u = repeated (names_of before) u.name
 
 -- 14 ZeroMean: the exposure is a loss or a premium, and the severity in the layer, of these amounts
 -- of positive probability, has none above 0
@@ -164,8 +169,7 @@ too_many_units units = seventeenth (slice_get units most_units)
 
 -- 23 DuplicateSeverity: the name of a severity is that of an earlier one
 unfoldable pub duplicate_severity : List SevDef → SevDef → Option Span
-duplicate_severity before d = at_if (list_any (λ (e : SevDef). bytes_eq d.name.text e.name.text)
-    before) d.name.span
+duplicate_severity before d = repeated (severity_names before) d.name
 
 -- 25 ZeroBase: the probability of no claim is changed to 1 or more, or where fewer than 1/16 or
 -- more than 4,096 claims are expected; no text changes that of a `dfreq` count

@@ -1,22 +1,23 @@
 //! A changed probability of no claim, and a factor that all units share: the rules on them, and the
 //! shape of the factor.
 
-ghost use Rattle.std.specs.Prelude.{◌≡◌, true, None, Some, Ok, OnOk, IfOk, IfErr, IfSome};
+ghost use Rattle.std.specs.Prelude.{◌≡◌, true, Some, Ok, IfOk, IfSome};
 ghost use Rattle.std.specs.Option.{MatchOption};
 ghost use Rattle.dl_plan.specs.Common.{HasCommonFactor};
 ghost use Rattle.dl_types.specs.Plans.{IsSharedShape};
-ghost use Rattle.dl_types.specs.Answer.{AnswersUnits};
+ghost use Rattle.dl_types.specs.Answer.{TellsFault, AnswersUnits};
 ghost use Rattle.dl_types.specs.Claimed.{count_of, number_of};
 ghost use Rattle.dl_types.specs.Factor.{IsShapeIn};
 ghost use Rattle.dl_ast.specs.WellFormed.{IsFormedHead};
 ghost use Rattle.dl_lexer.specs.Numerals.{IsNumeralToken};
 ghost use Rattle.dl_types.specs.Faults.{fault_of_port};
-ghost use Rattle.dl_types.specs.Rules.{is_no_base, has_no_base, freq_span, zero_base, is_changed, is_poisson, is_plain_poisson, has_common, common_unit, has_bad_shape};
+ghost use Rattle.dl_types.specs.Rules.{has_no_base, freq_span, zero_base, is_plain_poisson, has_common, common_unit, has_bad_shape};
 
+use crate::broken::typing;
 use crate::claims::UnitCount;
 use crate::counts::passes;
 use crate::factor::is_too_large;
-use crate::fault::TypeFault;
+use crate::fault::CheckFault;
 use crate::frequencies::{has_no_shape, shape};
 use crate::rule::Rule;
 use dl_ast::{CountAst, FreqAst, Numeral, PortHead, Program, UnitAst, ZeroAst};
@@ -35,14 +36,13 @@ pub(crate) fn shared_shape(
     program: &Program,
     settings: &Settings,
     units: &[Unit],
-) -> Result<Option<u32>, TypeFault>
+) -> Result<Option<u32>, CheckFault>
     requires head { IfSome program.now.port IsFormedHead }
     requires units { AnswersUnits settings.now program.now.port program.now.sevs program.now.units
         (Ok units.now) }
-    ensures kept { OnOk result (fault_of_port settings.now program.now ≡ None) }
+    ensures fault { TellsFault (fault_of_port settings.now program.now) result }
     ensures shape { IfOk result (λ common. IsSharedShape program.now.port common) }
     ensures factor { IfOk result (λ common. IfSome common (λ r. HasCommonFactor r units.now)) }
-    ensures broken { IfErr result (λ fault. fault_of_port settings.now program.now ≡ Some fault) }
 {
     let Some(head) = &program.port else {
         return Ok(None);
@@ -51,23 +51,12 @@ pub(crate) fn shared_shape(
         return Ok(None);
     };
     let Some(shape) = shape_in(variation) else {
-        return Err(of_portfolio(Rule::CommonShape, variation.span));
+        return Err(typing(0, Rule::CommonShape, variation.span));
     };
     if is_too_large(units, shape) {
-        return Err(of_portfolio(Rule::CommonSize, head.name.span));
+        return Err(typing(0, Rule::CommonSize, head.name.span));
     }
     Ok(Some(shape as u32))
-}
-
-/// A rule that the portfolio as a whole breaks.
-fn of_portfolio(rule: Rule, span: Span) -> TypeFault
-    ensures { result ≡ record { unit = 0; rule = rule; span = span } }
-{
-    TypeFault {
-        unit: 0,
-        rule,
-        span,
-    }
 }
 
 /// The shape of a factor with this coefficient of variation; none where that is a bad numeral, or
@@ -76,16 +65,13 @@ fn shape_in(variation: &Numeral) -> Option<u128>
     requires { IsNumeralToken variation.now.text }
     ensures { MatchOption result (has_bad_shape variation.now ≡ true) (IsShapeIn variation.now) }
 {
-    match numeral(variation.text.as_slice(), 11) {
-        Ok(value) => {
-            if has_no_shape(value) {
-                None
-            } else {
-                Some(shape(value))
-            }
-        }
-        Err(_) => None,
+    let Ok(value) = numeral(variation.text.as_slice(), 11) else {
+        return None;
+    };
+    if has_no_shape(value) {
+        return None;
     }
+    Some(shape(value))
 }
 
 /// The place of the distribution of a count whose probability of no claim is changed to 1 or more,
@@ -95,14 +81,13 @@ fn shape_in(variation: &Numeral) -> Option<u128>
 pub(crate) fn zero_base(count: &UnitCount, zero: &Option<Frac>) -> Option<Span>
     ensures { result ≡ zero_base (count_of count.now) zero.now (number_of count.now) }
 {
-    let Some(zero) = zero else {
-        return None;
-    };
+    let zero = (*zero)?;
     match count {
         UnitCount::Listed(counts, _) => Some(counts.span),
-        UnitCount::Exposed(_, freq, number) => {
-            place_if(has_no_base(*zero, *number), freq_place(freq))
-        }
+        UnitCount::Exposed(_, freq, number) => place_if(
+            has_no_base(zero, *number),
+            freq_place(freq),
+        ),
     }
 }
 
@@ -114,13 +99,6 @@ fn has_no_base(zero: Frac, number: Frac) -> bool
     if !is_above(Frac::whole(1), zero) {
         return true;
     }
-    is_no_base(number)
-}
-
-/// Whether a number of claims is below 1/16 or above 4,096.
-fn is_no_base(number: Frac) -> bool
-    ensures { result ≡ is_no_base number }
-{
     let rarest = Frac::make(1, RAREST_CLAIMS as u128).unwrap();
     is_above(rarest, number) || passes(number, MOST_EXPECTED)
 }
@@ -130,11 +108,8 @@ fn freq_place(freq: &GridFreq) -> Span
     ensures { result ≡ freq_span freq.now }
 {
     match freq {
-        GridFreq::Fixed(span) => *span,
-        GridFreq::Poisson(span) => *span,
-        GridFreq::Bernoulli(span) => *span,
-        GridFreq::Binomial(_, span) => *span,
-        GridFreq::Gamma(_, span) => *span,
+        GridFreq::Fixed(span) | GridFreq::Poisson(span) | GridFreq::Bernoulli(span) => *span,
+        GridFreq::Binomial(_, span) | GridFreq::Gamma(_, span) => *span,
     }
 }
 
@@ -152,10 +127,7 @@ pub(crate) fn common_unit(port: &Option<PortHead>, unit: &UnitAst) -> Option<Spa
 fn has_common(port: &Option<PortHead>) -> bool
     ensures { result ≡ has_common port.now }
 {
-    match port {
-        Some(head) => head.common.is_some(),
-        None => false,
-    }
+    matches!(port, Some(head) if head.common.is_some())
 }
 
 /// Whether a claim count is Poisson without `zt` and `zm`.
@@ -163,24 +135,9 @@ fn is_plain_poisson(count: &CountAst) -> bool
     ensures { result ≡ is_plain_poisson count.now }
 {
     match count {
-        CountAst::Exposed { freq, zero, .. } => is_poisson(freq) && !is_changed(zero),
+        CountAst::Exposed { freq, zero, .. } => {
+            matches!(freq, FreqAst::Poisson(_)) && matches!(zero, ZeroAst::Plain)
+        }
         CountAst::Listed { .. } => false,
-    }
-}
-
-/// Whether a distribution is Poisson.
-fn is_poisson(freq: &FreqAst) -> bool
-    ensures { result ≡ is_poisson freq.now }
-{
-    matches!(freq, FreqAst::Poisson(_))
-}
-
-/// Whether it is `zt` or `zm`.
-fn is_changed(zero: &ZeroAst) -> bool
-    ensures { result ≡ is_changed zero.now }
-{
-    match zero {
-        ZeroAst::Plain => false,
-        ZeroAst::Truncated(_) | ZeroAst::Modified(_, _) => true,
     }
 }

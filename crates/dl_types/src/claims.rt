@@ -1,12 +1,14 @@
 //! The claims of a unit.
 
 ghost use Rattle.std.specs.Prelude.{◌≡◌, true};
+ghost use Rattle.dl_exact.specs.Fraction.{Fraction};
+ghost use Rattle.dl_frac.specs.Exact.{Gives};
 ghost use Rattle.dl_plan.specs.Severity.{Pairs, HasDistribution};
 ghost use Rattle.dl_buckets.specs.Lists.{is_admitted};
 ghost use Rattle.dl_types.specs.Exposures.{admitted, claims_above_zero};
 
 use dl_buckets::{GridExposure, GridFreq, Shares, ValueList};
-use dl_frac::Frac;
+use dl_frac::{Frac, TooFine};
 use dl_limits::ADMITTED_BOUND;
 use dl_plan::Sev;
 
@@ -35,24 +37,23 @@ pub(crate) fn above_zero(severity: &Sev, number: &Option<Frac>) -> Option<Frac>
     ensures { (pairs : Pairs) → HasDistribution severity.now pairs
         → result ≡ claims_above_zero pairs number.now }
 {
-    match number {
-        Some(number) => match number.mul(severity.share_above_zero()) {
-            Ok(mean) => admitted(mean),
-            Err(_) => None,
-        },
-        None => None,
-    }
+    let number = (*number)?;
+    small(number.mul(severity.share_above_zero()))
 }
 
 /// The value, where both parts of it are below 2^48.
 pub(crate) fn admitted(value: Frac) -> Option<Frac>
     ensures { result ≡ admitted true value }
 {
-    if is_admitted(value) {
-        Some(value)
-    } else {
-        None
-    }
+    is_admitted(value).then_some(value)
+}
+
+/// The exact result, where both parts of it are below 2^48.
+#[tactic(auto, using(crate::proofs::Ratios::too_fine_refused))]
+pub(crate) fn small(exact: Result<Frac, TooFine>) -> Option<Frac>
+    ensures { (value : Fraction) → Gives exact value → result ≡ admitted true value }
+{
+    admitted(exact.ok()?)
 }
 
 /// Whether both parts are below 2^48.

@@ -1,12 +1,12 @@
 //! The rules on the severity, the layer and the clauses of a unit.
 
 ghost use Rattle.std.specs.Prelude.{◌≡◌, ◌<◌, None, IfOk, OnOk};
-ghost use Rattle.dl_types.specs.Faults.{breaks, first_broken, layer_rules, clause_rules};
+ghost use Rattle.dl_types.specs.Faults.{breaks, first_broken, clause_rules};
 ghost use Rattle.dl_types.specs.Answer.{TellsFault};
 ghost use Rattle.dl_types.specs.declared.rule.Rule.TheVariants.{OffGridCession};
-ghost use Rattle.dl_buckets.specs.Rules.{none_above, off_grid_cession};
-ghost use Rattle.dl_buckets.specs.Severity.{mixed_pairs, severity_in_layer, support};
-ghost use Rattle.dl_buckets.specs.Kept.{IsWeighted, IsLayered};
+ghost use Rattle.dl_buckets.specs.Rules.{off_grid_cession};
+ghost use Rattle.dl_buckets.specs.Severity.{severity_in_layer, support};
+ghost use Rattle.dl_buckets.specs.Kept.{IsLayered};
 ghost use Rattle.dl_buckets.specs.ClausesKept.{AreClausesOf};
 ghost use Rattle.dl_buckets.specs.GridKept.{IsGridUnit};
 
@@ -46,27 +46,6 @@ pub(crate) fn check_clauses(
     broken(number, Rule::WeightsDiffer, weights_differ(unit))?;
     let mixed = positive_amounts(alloc, unit)?;
     broken(number, Rule::NoneAbove, none_above(unit, &mixed))?;
-    check_layers(alloc, number, unit, mixed)
-}
-
-/// The rules on its clauses, for a severity of these amounts of positive probability.
-#[tactic(auto, unfolding(dl_buckets::specs::First::first_in))]
-fn check_layers(
-    alloc: Global,
-    number: u32,
-    unit: &GridUnit,
-    mixed: Vec<u32>,
-) -> Result<Reached, CheckFault>
-    requires weighted { IsWeighted unit.now }
-    requires reached { none_above unit.now ≡ None }
-    requires mixed { mixed.items ≡ support (mixed_pairs unit.now.sev) }
-    ensures fault { TellsFault (first_broken number (layer_rules unit.now)) result }
-    ensures layered { OnOk result (IsLayered unit.now) }
-    ensures ceded { OnOk result (off_grid_cession unit.now ≡ None) }
-    ensures amounts { IfOk result (λ reached. reached.amounts.items
-        ≡ support (severity_in_layer unit.now)) }
-    ensures clauses { IfOk result (λ reached. AreClausesOf unit.now reached.clauses) }
-{
     broken(number, Rule::Overlap, overlap(unit))?;
     broken(number, Rule::ShareAboveOne, share_above_one(unit))?;
     let amounts = support_in_layer(alloc, unit, mixed)?;

@@ -1,7 +1,7 @@
 //! The rules on the claim count of a unit, and on its fractions.
 
 ghost use Rattle.std.specs.Prelude.{◌≡◌, ◌<◌, Option, None, Some, IfOk, Ok, Err};
-ghost use Rattle.dl_types.specs.Faults.{breaks, first_broken, whole_rules, number_rules, count_rules};
+ghost use Rattle.dl_types.specs.Faults.{breaks, first_broken, whole_rules, count_rules};
 ghost use Rattle.dl_types.specs.Answer.{TellsFault};
 ghost use Rattle.dl_types.specs.declared.rule.Rule.TheVariants.{TooFine};
 ghost use Rattle.dl_buckets.specs.Rules.{off_grid_cession};
@@ -52,7 +52,11 @@ pub(crate) fn check_count<'a>(
     broken(number, Rule::ZeroMean, place)?;
     let layered = weighed_severity(alloc, unit)?;
     let count = expected_claims(unit, bs, &layered);
-    check_number(alloc, number, unit, &reached.clauses, layered, count)
+    check_whole(number, &unit.count, &count)?;
+    let claims = check_fine(alloc, number, unit, &reached.clauses, layered, count)?;
+    let many = too_many_claims(&claims.count, &claims.above);
+    let checked = broken(number, Rule::TooManyClaims, place_if(many, unit.name));
+    kept(claims, checked)
 }
 
 /// The rules on whole numbers, with so many claims expected.
@@ -60,49 +64,13 @@ pub(crate) fn check_count<'a>(
 fn check_whole(number: u32, count: &GridCount, expected: &Option<Frac>) -> Result<(), CheckFault>
     ensures { TellsFault (first_broken number (whole_rules count.now expected.now)) result }
 {
-    broken(
-        number,
-        Rule::CountNotWhole,
-        count_not_whole(count, expected),
-    )?;
-    broken(
-        number,
-        Rule::CountAboveOne,
-        count_above_one(count, expected),
-    )?;
-    broken(
-        number,
-        Rule::TrialsNotWhole,
-        trials_not_whole(count, expected),
-    )?;
+    let place = count_not_whole(count, expected);
+    broken(number, Rule::CountNotWhole, place)?;
+    let place = count_above_one(count, expected);
+    broken(number, Rule::CountAboveOne, place)?;
+    let place = trials_not_whole(count, expected);
+    broken(number, Rule::TrialsNotWhole, place)?;
     broken(number, Rule::ShapeNotWhole, shape_not_whole(count))
-}
-
-/// The rules on its count with so many claims expected, and on the sizes of what it means. What its
-/// claims come to.
-#[tactic(auto, unfolding(dl_buckets::specs::First::first_in))]
-fn check_number<'a>(
-    alloc: Global,
-    number: u32,
-    unit: &'a GridUnit,
-    clauses: &Clauses,
-    layered: Option<Sev>,
-    count: Option<Frac>,
-) -> Result<Claims<'a>, CheckFault>
-    requires layered { IsLayered unit.now }
-    requires ceded { off_grid_cession unit.now ≡ None }
-    requires made { AreClausesOf unit.now clauses.now }
-    requires weighed { IsWeighed unit.now layered }
-    requires number { IsNumberOf unit.now.count count }
-    ensures fault { TellsFault (first_broken number (number_rules unit.now count)) result }
-    ensures claims { IfOk result (AreClaims unit.now) }
-    ensures count { IfOk result (λ claims. IsUnitCount unit.now.count count claims.count) }
-{
-    check_whole(number, &unit.count, &count)?;
-    let claims = check_fine(alloc, number, unit, clauses, layered, count)?;
-    let many = too_many_claims(&claims.count, &claims.above);
-    let checked = broken(number, Rule::TooManyClaims, place_if(many, unit.name));
-    kept(claims, checked)
 }
 
 /// The rule on fractions, and what the claims of a unit come to whose fractions are fine.
@@ -127,12 +95,12 @@ fn check_fine<'a>(
         return Err(typing(number, Rule::TooFine, unit.name));
     };
     let above = above_zero(&severity, &count);
-    match fine_count(&unit.count, &count, &above) {
-        Some(count) => Ok(Claims {
-            severity,
-            count,
-            above,
-        }),
-        None => Err(typing(number, Rule::TooFine, unit.name)),
-    }
+    let Some(count) = fine_count(&unit.count, &count, &above) else {
+        return Err(typing(number, Rule::TooFine, unit.name));
+    };
+    Ok(Claims {
+        severity,
+        count,
+        above,
+    })
 }

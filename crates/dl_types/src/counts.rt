@@ -4,10 +4,9 @@ ghost use Rattle.std.specs.Prelude.{◌≡◌, ◌≤◌, not, map, All, IfOk};
 ghost use Rattle.dl_types.specs.Claimed.{count_of, number_of};
 ghost use Rattle.dl_types.specs.Rules.{has_too_many_claims, passes};
 ghost use Rattle.std.specs.List.{list_any};
-ghost use Rattle.dl_types.specs.Plans.{pairs_of_counts, IsTabled, IsCountMade};
+ghost use Rattle.dl_types.specs.Plans.{IsTabled, IsCountMade};
 ghost use Rattle.dl_limits.specs.Limits.{most_count};
 ghost use Rattle.dl_types.specs.Listed.{AreCounts};
-ghost use Rattle.dl_plan.specs.Severity.{HasDistribution};
 ghost use Rattle.dl_types.specs.Kept.{IsWholeCount, IsCountKept};
 ghost use Rattle.dl_buckets.specs.First.{at_if};
 ghost use Rattle.dl_buckets.specs.Lists.{is_whole};
@@ -18,7 +17,7 @@ use dl_buckets::{GridCount, Shares, ValueList, is_above, place_if, weights_among
 use dl_frac::Frac;
 use dl_lexer::Span;
 use dl_limits::MOST_COUNT;
-use dl_plan::{Freq, Sev};
+use dl_plan::Freq;
 use dl_sev::merge;
 use std::alloc::{AllocError, Global};
 
@@ -74,7 +73,7 @@ pub(crate) fn unit_count(alloc: Global, count: &UnitCount) -> Result<Freq, Alloc
     }
 }
 
-/// The claim count of listed counts.
+/// The claim count of listed counts: whole weights, those of equal counts added up.
 fn count_table(
     alloc: Global,
     counts: &ValueList,
@@ -83,27 +82,14 @@ fn count_table(
     requires { AreCounts counts.now probs.now }
     ensures { IfOk result (IsTabled counts.now probs.now) }
 {
-    let table = weighed_counts(alloc, counts, probs)?;
+    let values = counts.values.as_slice();
+    let numbers = numbers_of(alloc, values)?;
+    let weights = weights_among(alloc, values.len(), probs)?.unwrap();
+    let table = merge(alloc, &numbers, &weights)?;
     Ok(Freq::Table {
         counts: table.items,
         total: table.total,
     })
-}
-
-/// Listed counts with whole weights, equal ones added up.
-fn weighed_counts(
-    alloc: Global,
-    counts: &ValueList,
-    probs: &Option<Shares>,
-) -> Result<Sev, AllocError>
-    requires { AreCounts counts.now probs.now }
-    ensures means { IfOk result (λ made. HasDistribution made (pairs_of_counts counts.now probs.now)) }
-    ensures few { IfOk result (λ made. All (λ item. item.amount ≤ most_count) made.items) }
-{
-    let values = counts.values.as_slice();
-    let numbers = numbers_of(alloc, values)?;
-    let weights = weights_among(alloc, values.len(), probs)?.unwrap();
-    merge(alloc, &numbers, &weights)
 }
 
 /// Whole values of at most 256 as numbers.

@@ -40,8 +40,9 @@ fn zero_loss(exposure: &GridExposure, amounts: &[u32]) -> Option<Span>
 {
     match exposure {
         GridExposure::Claims(_, _) => None,
-        GridExposure::Loss(_, span) => place_if(!is_any_above_zero(amounts), *span),
-        GridExposure::Premium { span, .. } => place_if(!is_any_above_zero(amounts), *span),
+        GridExposure::Loss(_, span) | GridExposure::Premium { span, .. } => {
+            place_if(!is_any_above_zero(amounts), *span)
+        }
     }
 }
 
@@ -54,6 +55,7 @@ fn is_any_above_zero(amounts: &[u32]) -> bool
 
 /// The expected claim count of the unit, where it has an exposure whose count is there and both
 /// parts of it are below 2^48. The severity in the layer is there where it can be weighed.
+#[tactic(auto, unfolding(crate::specs::Exposures::expected_claims, crate::specs::Rules::zero_mean))]
 pub(crate) fn expected_claims(unit: &GridUnit, bs: Frac, layered: &Option<Sev>) -> Option<Frac>
     requires bucket { IsBucket bs }
     requires grid { IsGridUnit unit.now }
@@ -68,6 +70,7 @@ pub(crate) fn expected_claims(unit: &GridUnit, bs: Frac, layered: &Option<Sev>) 
 }
 
 /// The expected claim count of an exposure, where it is there and both parts are below 2^48.
+#[tactic(auto, using(dl_exact::proofs::Laws::times_one))]
 fn exposed_claims(
     unit: &GridUnit,
     exposure: &GridExposure,
@@ -130,9 +133,9 @@ fn exposure_place(exposure: &GridExposure) -> Span
     ensures { result ≡ exposure_span exposure.now }
 {
     match exposure {
-        GridExposure::Claims(_, span) => *span,
-        GridExposure::Loss(_, span) => *span,
-        GridExposure::Premium { span, .. } => *span,
+        GridExposure::Claims(_, span)
+        | GridExposure::Loss(_, span)
+        | GridExposure::Premium { span, .. } => *span,
     }
 }
 
@@ -166,24 +169,14 @@ fn fixed_not_whole(exposure: &GridExposure, freq: &GridFreq, number: &Option<Fra
 pub(crate) fn count_above_one(count: &GridCount, number: &Option<Frac>) -> Option<Span>
     ensures { result ≡ count_above_one count.now number.now }
 {
-    match count {
-        GridCount::Exposed { exposure, freq } => single_above_one(exposure, freq, number),
-        GridCount::Listed { .. } => None,
-    }
-}
-
-/// The place of an expected count above 1 for a count of at most one claim.
-#[tactic(auto, unfolding(crate::specs::Rules::count_above_one))]
-fn single_above_one(exposure: &GridExposure, freq: &GridFreq, number: &Option<Frac>) -> Option<Span>
-    ensures { result ≡ count_above_one (Exposed exposure.now freq.now) number.now }
-{
+    let GridCount::Exposed { exposure, freq } = count else {
+        return None;
+    };
     if !matches!(freq, GridFreq::Bernoulli(_)) {
         return None;
     }
-    match number {
-        Some(number) => place_if(is_above(*number, Frac::whole(1)), exposure_place(exposure)),
-        None => None,
-    }
+    let above = is_above((*number)?, Frac::whole(1));
+    place_if(above, exposure_place(exposure))
 }
 
 /// The place of trials that are no whole number, or whose probability is 0 or above 1.
@@ -214,6 +207,7 @@ fn is_no_trial(chance: Frac, number: &Option<Frac>) -> bool
 }
 
 /// Whether a value is no whole number of times another, which is above 0.
+#[tactic(auto, using(crate::proofs::ExposedCounts::no_multiple))]
 fn is_no_multiple(value: Frac, part: Frac) -> bool
     requires { whole 0 <ℚ part }
     ensures { result ≡ not (is_whole (value /ℚ part)) }

@@ -1,10 +1,10 @@
 //! The bounds on the units of a plan that share a factor: on the sums of their claims, and on their
 //! shares.
 
-ghost use Rattle.std.specs.Prelude.{◌≡◌, ◌<◌, ◌≤◌, ◌&&◌, ◌||◌, map, flat_map, true, All};
+ghost use Rattle.std.specs.Prelude.{◌≡◌, ◌<◌, ◌≤◌, ◌&&◌, ◌||◌, ℕ, map, flat_map, true, All, Some, IfSome, IfNone};
 ghost use Rattle.std.specs.Option.{SomeIff};
 ghost use Rattle.dl_limits.specs.Limits.{most_expected, most_parts, most_shape};
-ghost use Rattle.dl_exact.specs.Fraction.{whole, ◌+ℚ◌, ◌≤ℚ◌, ◌<ℚ◌};
+ghost use Rattle.dl_exact.specs.Fraction.{whole, ◌≤ℚ◌, ◌<ℚ◌};
 ghost use Rattle.dl_plan.specs.Common.{raised, unit_share, shared_probabilities};
 ghost use Rattle.dl_plan.specs.Count.{expected_count};
 ghost use Rattle.dl_plan.specs.Fine.{HasPartsOf48Bits};
@@ -14,7 +14,7 @@ ghost use Rattle.dl_types.specs.Exposures.{admitted};
 ghost use Rattle.dl_types.specs.Factor.{running_sum, joined, times_amounts, is_raised_coarse, passes_bounds, is_too_large, part_of, IsCounted};
 ghost use Rattle.dl_types.specs.Rules.{passes};
 
-use crate::claims::admitted;
+use crate::claims::small;
 use crate::counts::passes;
 use dl_frac::{Frac, lcm_to};
 use dl_limits::{MOST_EXPECTED, MOST_PARTS, MOST_SHAPE};
@@ -32,53 +32,28 @@ pub(crate) fn is_too_large(units: &[Unit], shape: u128) -> bool
     if shape >= MOST_SHAPE as u128 {
         return true;
     }
-    let Some(expected) = expected_sum(units) else {
+    let Some(sums) = claim_sums(units) else {
         return true;
     };
-    let Some(above) = above_sum(units) else {
-        return true;
-    };
-    passes_bounds(units, shape, expected, above)
+    passes_bounds(units, shape, sums.0, sums.1)
 }
 
-/// The expected claims of all units, where each running sum is admitted.
-fn expected_sum(units: &[Unit]) -> Option<Frac>
+/// The expected claims of all units, and of these the number above 0, where each running sum is
+/// admitted.
+fn claim_sums(units: &[Unit]) -> Option<(Frac, Frac)>
     requires { All IsCounted units.now }
-    ensures { result ≡ running_sum (whole 0) (map (λ u. expected_count u.freq) units.now) }
+    ensures expected { IfSome result (λ sums. running_sum (whole 0)
+        (map (λ u. expected_count u.freq) units.now) ≡ Some sums.0) }
+    ensures above { IfSome result (λ sums. running_sum (whole 0) (map thinned_mean units.now) ≡ Some sums.1) }
+    ensures none { IfNone result ((r : ℕ) → is_too_large r (map part_of units.now) ≡ true) }
 {
-    let mut sum = Frac::whole(0);
+    let mut expected = Frac::whole(0);
+    let mut above = Frac::whole(0);
     'units: for unit in units {
-        match added(sum, unit.freq.expected()) {
-            Some(next) => sum = next,
-            None => return None,
-        }
+        expected = small(expected.add(unit.freq.expected()))?;
+        above = small(above.add(unit.freq.thinned(&unit.sev)))?;
     }
-    Some(sum)
-}
-
-/// The expected claims above 0 of all units, where each running sum is admitted.
-fn above_sum(units: &[Unit]) -> Option<Frac>
-    requires { All IsCounted units.now }
-    ensures { result ≡ running_sum (whole 0) (map thinned_mean units.now) }
-{
-    let mut sum = Frac::whole(0);
-    'units: for unit in units {
-        match added(sum, unit.freq.thinned(&unit.sev)) {
-            Some(next) => sum = next,
-            None => return None,
-        }
-    }
-    Some(sum)
-}
-
-/// The sum of two numbers, where it is admitted.
-fn added(x: Frac, y: Frac) -> Option<Frac>
-    ensures { result ≡ admitted true (x +ℚ y) }
-{
-    match x.add(y) {
-        Ok(sum) => admitted(sum),
-        Err(_) => None,
-    }
+    Some((expected, above))
 }
 
 /// Whether units of which so many claims are expected, and so many above 0, pass a bound of a
@@ -108,13 +83,8 @@ fn raised(claims: Frac, shape: u128) -> Option<Frac>
     requires claims { HasPartsOf48Bits claims }
     ensures { result ≡ admitted true (raised shape claims) }
 {
-    match Frac::make(
-        claims.num() as u128 * (shape + 1),
-        claims.den() as u128 * shape,
-    ) {
-        Ok(value) => admitted(value),
-        Err(_) => None,
-    }
+    let num = claims.num() as u128 * (shape + 1);
+    small(Frac::make(num, claims.den() as u128 * shape))
 }
 
 /// Whether a number of claims above 0 is not admitted for the next shape, or passes 4,096.

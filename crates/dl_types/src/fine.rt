@@ -14,7 +14,7 @@ ghost use Rattle.dl_buckets.specs.Small.{IsGridCount};
 ghost use Rattle.dl_buckets.specs.Rules.{off_grid_cession};
 ghost use Rattle.dl_types.specs.Claimed.{IsFineSeverity, IsNumberOf, IsUnitCount};
 
-use crate::claims::{UnitCount, is_admitted};
+use crate::claims::{UnitCount, is_admitted, small};
 use dl_buckets::{
     Clauses, GridCount, GridExposure, GridFreq, GridUnit, MadeClause, are_fine, final_severity,
 };
@@ -42,8 +42,7 @@ pub(crate) fn fine_severity(
     if parts_too_fine(unit, clauses) {
         return Ok(None);
     }
-    let made = final_severity(alloc, layered, &clauses.occ)?;
-    Ok(Some(made))
+    Ok(Some(final_severity(alloc, layered, &clauses.occ)?))
 }
 
 /// Whether the probabilities of listed counts, or the shares of a clause, are not fine.
@@ -61,11 +60,7 @@ fn is_too_fine(made: &MadeClause) -> bool
     ensures { (clause : Option ClauseInGrid) → made.now ≡ made_of clause
         → result ≡ not (has_shares clause) }
 {
-    match made {
-        MadeClause::Missing => false,
-        MadeClause::TooFine => true,
-        MadeClause::Whole(..) => false,
-    }
+    matches!(made, MadeClause::TooFine)
 }
 
 /// Whether the probabilities of listed counts are not fine.
@@ -99,10 +94,7 @@ pub(crate) fn fine_count<'a>(
             if loss_too_fine(exposure) || is_unbounded(freq) && above.is_none() {
                 return None;
             }
-            match number {
-                Some(number) => Some(UnitCount::Exposed(*exposure, *freq, *number)),
-                None => None,
-            }
+            number.map(|number| UnitCount::Exposed(*exposure, *freq, number))
         }
     }
 }
@@ -121,9 +113,6 @@ fn loss_too_fine(exposure: &GridExposure) -> bool
     match exposure {
         GridExposure::Claims(..) => false,
         GridExposure::Loss(number, _) => !is_admitted(*number),
-        GridExposure::Premium { amount, ratio, .. } => match amount.mul(*ratio) {
-            Ok(loss) => !is_admitted(loss),
-            Err(_) => true,
-        },
+        GridExposure::Premium { amount, ratio, .. } => small(amount.mul(*ratio)).is_none(),
     }
 }

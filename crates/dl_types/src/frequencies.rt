@@ -39,10 +39,7 @@ pub(crate) fn exposed_too_many(freq: &GridFreq, number: Frac, above: &Option<Fra
 fn is_above_most(above: &Option<Frac>) -> bool
     ensures { result ≡ is_there_and (λ x. passes x most_expected) above.now }
 {
-    match above {
-        Some(number) => passes(*number, MOST_EXPECTED),
-        None => false,
-    }
+    matches!(above, Some(number) if passes(*number, MOST_EXPECTED))
 }
 
 /// The claim count of a distribution that breaks no rule, with so many expected claims.
@@ -66,6 +63,7 @@ pub(crate) fn exposed_count(freq: &GridFreq, number: Frac) -> Freq
 }
 
 /// The trials of a binomial count: the expected count over the probability of each.
+#[tactic(auto, using(crate::proofs::ExposedCounts::times_whole))]
 fn trials(number: Frac, chance: Frac) -> u128
     requires { AreTrials chance number }
     ensures { whole result ≡ number /ℚ chance }
@@ -75,6 +73,7 @@ fn trials(number: Frac, chance: Frac) -> u128
 
 /// Whether a coefficient of variation has no whole shape: 1 over its square is whole exactly where
 /// it is 1 over a whole number.
+#[tactic(auto, using(crate::proofs::ExposedCounts::no_shape))]
 pub(crate) fn has_no_shape(variation: Frac) -> bool
     ensures { result ≡ (is_zero variation || not (is_whole (shape_of variation))) }
 {
@@ -82,6 +81,7 @@ pub(crate) fn has_no_shape(variation: Frac) -> bool
 }
 
 /// The whole shape of a gamma factor with this coefficient of variation: 1 over its square.
+#[tactic(auto, using(crate::proofs::ExposedCounts::shape_whole))]
 pub(crate) fn shape(variation: Frac) -> u128
     requires { IsShaped variation }
     ensures { whole result ≡ shape_of variation }

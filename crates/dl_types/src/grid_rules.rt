@@ -1,16 +1,14 @@
 //! The rules on a unit in whole buckets, and its unit of the plan.
 
-ghost use Rattle.std.specs.Prelude.{◌≡◌, ◌<◌, nat_lt, Option, None, Some, IfOk, IfErr, Ok};
+ghost use Rattle.std.specs.Prelude.{◌≡◌, ◌<◌, Option, None, Some, IfOk, IfErr, Ok};
 ghost use Rattle.dl_types.specs.Faults.{breaks, most_asked};
 ghost use Rattle.dl_types.specs.Answer.{TellsFault, AnswersGrid};
 ghost use Rattle.dl_types.specs.declared.rule.Rule.TheVariants.{HorizonTooLarge};
 ghost use Rattle.dl_types.specs.Rules.{horizon_too_large};
-ghost use Rattle.dl_plan.specs.Clause.{IsClause};
 ghost use Rattle.dl_plan.specs.Horizon.{horizon};
 ghost use Rattle.dl_types.specs.Plans.{IsCountMade, cede_of};
 ghost use Rattle.dl_types.specs.Kept.{IsSet, IsCountKept};
 ghost use Rattle.dl_buckets.specs.Clauses.{IsMade};
-ghost use Rattle.dl_buckets.specs.First.{at_if};
 ghost use Rattle.dl_buckets.specs.GridKept.{IsGridUnit, IsWithin};
 ghost use Rattle.dl_limits.specs.Limits.{most_horizon};
 ghost use Rattle.dl_types.specs.declared.fault.CheckFault.TheVariants.{OutOfMemory};
@@ -41,22 +39,11 @@ fn check_horizon(number: u32, agr: MadeClause, cells: u32) -> Result<Option<Cede
         (horizon_too_large cells agr)) result }
     ensures made { IfOk result (λ made. made ≡ cede_of agr) }
 {
-    match agr {
-        MadeClause::Whole(cede, span) => {
-            let place = horizon_passes(&cede, span, cells);
-            kept(Some(cede), broken(number, Rule::HorizonTooLarge, place))
-        }
-        MadeClause::Missing => Ok(None),
-        MadeClause::TooFine => Ok(None),
-    }
-}
-
-/// The place of a clause whose horizon on a grid of so many cells passes the greatest one.
-fn horizon_passes(cede: &Cede, span: Span, cells: u32) -> Option<Span>
-    requires { IsClause cede.now }
-    ensures { result ≡ at_if (nat_lt (most_horizon cells) (horizon (Some cede.now) cells)) span }
-{
-    place_if(cede.horizon(cells) > most_horizon(cells) as u128, span)
+    let MadeClause::Whole(cede, span) = agr else {
+        return Ok(None);
+    };
+    let place = place_if(cede.horizon(cells) > most_horizon(cells) as u128, span);
+    kept(Some(cede), broken(number, Rule::HorizonTooLarge, place))
 }
 
 /// The unit of the plan with this name, of what its claims come to, its aggregate clause and

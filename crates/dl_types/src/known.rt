@@ -44,7 +44,7 @@ pub(crate) fn unit_severity<'a>(
 {
     match body {
         SevBody::Mixture(mix) => Ok(Some(read_mixture(alloc, mix, settings)?)),
-        SevBody::Ref(name) => { named_severity(alloc, known, sevs, name.text.as_slice(), settings) }
+        SevBody::Ref(name) => named_severity(alloc, known, sevs, name.text.as_slice(), settings),
     }
 }
 

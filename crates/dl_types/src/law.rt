@@ -18,6 +18,7 @@ pub fn law_accepted()
 {}
 
 /// A program and settings have at most one plan.
+#[tactic(auto, using(crate::proofs::OnePlan::one_plan))]
 pub fn law_plan_unique()
     ensures { (program : Program) (settings : Settings) (a b : Plan) → IsPlanOf program settings a
         → IsPlanOf program settings b → a ≡ b }

@@ -1,30 +1,29 @@
-//! The names of the units, numbered in the order of the text.
+//! Names, taken up in the order of the text.
 
-ghost use Rattle.std.specs.Prelude.{◌≡◌, ◌∷◌, ◌++◌, [], IfOk, map, None, length};
-ghost use Rattle.dl_types.specs.UnitNames.{names_of};
-ghost use Rattle.dl_types.specs.Rules.{duplicate_name};
+ghost use Rattle.std.specs.Prelude.{◌≡◌, ◌∷◌, ◌++◌, [], OnOk, map};
+ghost use Rattle.dl_types.specs.Answer.{TellsFault};
+ghost use Rattle.dl_types.specs.Faults.{breaks};
+ghost use Rattle.dl_types.specs.Rules.{repeated};
 
-use dl_ast::UnitAst;
-use dl_lexer::Span;
+use crate::broken::broken;
+use crate::fault::CheckFault;
+use crate::rule::Rule;
+use dl_ast::NameAst;
+use dl_buckets::place_if;
 use indexmap::IndexSet;
-use std::alloc::AllocError;
 
-/// Takes the name of a unit up among those of the units before it. Its place, where it is one of
-/// them.
-pub(crate) fn duplicate_name<'a>(
+/// Takes a name up among those before it. The rule is broken where it is one of them.
+pub(crate) fn check_name<'a>(
+    number: u32,
+    rule: Rule,
     names: &mut IndexSet<&'a [u8]>,
-    before: &'a [UnitAst],
-    unit: &'a UnitAst,
-) -> Result<Option<Span>, AllocError>
-    requires { map (λ name. name.now) names.old.keys ≡ names_of before.now }
-    ensures place { IfOk result (λ place. place ≡ duplicate_name before.now unit.now) }
-    ensures kept { IfOk result (λ place. place ≡ None
-        → map (λ name. name.now) names.new.keys ≡ names_of before.now ++ unit.now.name.text ∷ []) }
+    name: &'a NameAst,
+) -> Result<(), CheckFault>
+    ensures fault { TellsFault (breaks number rule
+        (repeated (map (λ key. key.now) names.old.keys) name.now)) result }
+    ensures names { OnOk result (map (λ key. key.now) names.new.keys
+        ≡ map (λ key. key.now) names.old.keys ++ name.now.text ∷ []) }
 {
-    let (_number, is_new) = names.insert_full(unit.name.text.as_slice())?;
-    if is_new {
-        Ok(None)
-    } else {
-        Ok(Some(unit.name.span))
-    }
+    let is_new = names.insert(name.text.as_slice())?;
+    broken(number, rule, place_if(!is_new, name.span))
 }

@@ -1,6 +1,6 @@
 //! The plan of a program, or its first fault.
 
-ghost use Rattle.std.specs.Prelude.{◌≡◌, ◌≤◌, ℕ, [], None, Ok, All, length};
+ghost use Rattle.std.specs.Prelude.{◌≡◌, ◌≤◌, [], None, Ok, All, length};
 ghost use Rattle.dl_buckets.specs.First.{in_turn};
 ghost use Rattle.dl_types.specs.Faults.{fault_of_severity};
 ghost use Rattle.dl_limits.specs.Limits.{most_units};
@@ -9,8 +9,9 @@ ghost use Rattle.dl_types.specs.Rules.{too_many_units};
 ghost use Rattle.dl_types.specs.Kept.{IsSet};
 ghost use Rattle.dl_types.specs.Answer.{IsCheckOf, AnswersUnits};
 
+use crate::broken::typing;
 use crate::changes::shared_shape;
-use crate::fault::{CheckFault, TypeFault};
+use crate::fault::CheckFault;
 use crate::rule::Rule;
 use crate::scale::cells;
 use crate::severities::check_severities;
@@ -35,26 +36,18 @@ pub fn check(alloc: Global, program: &Program, settings: &Settings) -> Result<Pl
     ensures { IsCheckOf program.now settings.now result }
 {
     if let Some(span) = too_many_units(program.units.as_slice()) {
-        return Err(CheckFault::Typing(TypeFault {
-            unit: MOST_UNITS as u32,
-            rule: Rule::TooManyUnits,
-            span,
-        }));
+        return Err(typing(MOST_UNITS as u32, Rule::TooManyUnits, span));
     }
     let sevs = program.sevs.as_slice();
-    if let Err(fault) = check_severities(alloc, sevs) {
-        return Err(fault);
-    }
-    match check_units(
+    check_severities(alloc, sevs)?;
+    let units = check_units(
         alloc,
         &program.port,
         sevs,
         program.units.as_slice(),
         settings,
-    ) {
-        Ok(units) => planned(program, settings, units),
-        Err(fault) => Err(fault),
-    }
+    )?;
+    planned(program, settings, units)
 }
 
 /// The plan of a program with these units, or the first rule that the portfolio breaks.
@@ -66,15 +59,13 @@ fn planned(program: &Program, settings: &Settings, units: Items<Unit>) -> Result
     requires units { AnswersUnits settings.now program.now.port program.now.sevs program.now.units (Ok units) }
     ensures { IsCheckOf program.now settings.now result }
 {
-    match shared_shape(program, settings, units.as_slice()) {
-        Ok(common) => Ok(Plan {
-            bs: settings.bs,
-            cells: cells(settings),
-            units,
-            common,
-        }),
-        Err(fault) => Err(CheckFault::Typing(fault)),
-    }
+    let common = shared_shape(program, settings, units.as_slice())?;
+    Ok(Plan {
+        bs: settings.bs,
+        cells: cells(settings),
+        units,
+        common,
+    })
 }
 
 /// The place of the seventeenth unit.
@@ -82,10 +73,7 @@ fn planned(program: &Program, settings: &Settings, units: Items<Unit>) -> Result
 fn too_many_units(units: &[UnitAst]) -> Option<Span>
     ensures { result ≡ too_many_units units.now }
 {
-    match units.get(MOST_UNITS) {
-        Some(unit) => Some(unit.name.span),
-        None => None,
-    }
+    Some(units.get(MOST_UNITS)?.name.span)
 }
 
 /// The units of the plan, or the first fault of the first unit that has one.
@@ -107,12 +95,10 @@ fn check_units(
     let mut made = Vec::new(alloc);
     'units: for (at, unit) in units.iter().enumerate() {
         let before = &units[..at];
-        match check_unit(
+        let unit = check_unit(
             alloc, &mut names, &mut known, port, sevs, before, unit, settings,
-        ) {
-            Ok(unit) => made.push(unit)?,
-            Err(fault) => return Err(fault),
-        }
+        )?;
+        made.push(unit)?;
     }
     Ok(Items::from_vec(made))
 }

@@ -5,7 +5,7 @@ ghost use Rattle.dl_exact.specs.Gcd.{gcd};
 ghost use Rattle.dl_exact.specs.Fraction.{whole, ◌*ℚ◌, ◌/ℚ◌, ◌<ℚ◌};
 ghost use Rattle.dl_types.specs.Exposures.{admitted};
 
-use crate::claims::admitted;
+use crate::claims::small;
 use dl_frac::Frac;
 use std::marker::Model;
 
@@ -57,9 +57,6 @@ impl Ratio {
         let Ok(second) = Frac::make(o.num, self.den) else {
             return None;
         };
-        match first.mul(second) {
-            Ok(product) => admitted(product),
-            Err(_) => None,
-        }
+        small(first.mul(second))
     }
 }

@@ -7,64 +7,64 @@ ghost use Rattle.dl_types.specs.Names.{rule_name, rule_number};
 #[derive(Clone, Copy, Debug, PartialEq, Eq)]
 pub enum Rule {
     /// The unit's name is that of an earlier unit.
-    DuplicateName,
+    DuplicateName = 1,
     /// A numeral has too many digits, or is a fraction over 0.
-    BadNumeral,
+    BadNumeral = 2,
     /// A range goes down, has the step 0, or its numbers have a common denominator above 1,000,000.
-    BadRange,
+    BadRange = 3,
     /// A list has more than 1,024 values, the severity more than 64 atoms, or a clause more than 16
     /// layers.
-    ListTooLong,
+    ListTooLong = 4,
     /// Two lists that belong together have different numbers of values.
-    LengthsDiffer,
+    LengthsDiffer = 5,
     /// A list of probabilities does not sum to 1.
-    NotOne,
+    NotOne = 6,
     /// An amount is no whole number of buckets.
-    OffGrid,
+    OffGrid = 7,
     /// An amount passes 2^20 buckets, or 2^22 on a grid of more than 4,096 cells.
-    TooFar,
+    TooFar = 8,
     /// There is not one weight for each atom.
-    WeightsDiffer,
+    WeightsDiffer = 9,
     /// No amount of positive probability exceeds the attachment.
-    NoneAbove,
+    NoneAbove = 10,
     /// Two layers of a clause overlap.
-    Overlap,
+    Overlap = 11,
     /// A share exceeds 1, or a part its limit.
-    ShareAboveOne,
+    ShareAboveOne = 12,
     /// A clause maps an amount to no whole number of buckets.
-    OffGridCession,
+    OffGridCession = 13,
     /// A loss or a premium is divided by a severity of mean 0.
-    ZeroMean,
+    ZeroMean = 14,
     /// A number of claims is not whole.
-    CountNotWhole,
+    CountNotWhole = 15,
     /// The expected count of a Bernoulli count exceeds 1.
-    CountAboveOne,
+    CountAboveOne = 16,
     /// The number of trials is not whole.
-    TrialsNotWhole,
+    TrialsNotWhole = 17,
     /// The shape of the gamma factor is not whole.
-    ShapeNotWhole,
+    ShapeNotWhole = 18,
     /// A fraction has parts that are too large.
-    TooFine,
+    TooFine = 19,
     /// There are too many claims.
-    TooManyClaims,
+    TooManyClaims = 20,
     /// The horizon of the aggregate clause is too large.
-    HorizonTooLarge,
+    HorizonTooLarge = 21,
     /// There are more than 16 units.
-    TooManyUnits,
+    TooManyUnits = 22,
     /// The name of a severity is that of an earlier one.
-    DuplicateSeverity,
+    DuplicateSeverity = 23,
     /// No severity has the name that a unit refers to.
-    UnknownSeverity,
+    UnknownSeverity = 24,
     /// The probability of no claim is changed to 1 or more, or where fewer than 1/16 or more than
     /// 4,096 claims are expected.
-    ZeroBase,
+    ZeroBase = 25,
     /// A unit under `common` has a count that is not Poisson, `zt` or `zm`, or an aggregate clause.
-    CommonUnit,
+    CommonUnit = 26,
     /// The coefficient of variation of `common` is a bad numeral, or its shape is no whole number.
-    CommonShape,
+    CommonShape = 27,
     /// The units under `common` are too large: the shape, a sum of their claims, or the common
     /// denominator of their shares passes its bound, or no claim is expected.
-    CommonSize,
+    CommonSize = 28,
 }
 
 impl Rule {
@@ -72,36 +72,7 @@ impl Rule {
     pub fn number(self) -> u32
         ensures { result ≡ rule_number self }
     {
-        match self {
-            Rule::DuplicateName => 1,
-            Rule::BadNumeral => 2,
-            Rule::BadRange => 3,
-            Rule::ListTooLong => 4,
-            Rule::LengthsDiffer => 5,
-            Rule::NotOne => 6,
-            Rule::OffGrid => 7,
-            Rule::TooFar => 8,
-            Rule::WeightsDiffer => 9,
-            Rule::NoneAbove => 10,
-            Rule::Overlap => 11,
-            Rule::ShareAboveOne => 12,
-            Rule::OffGridCession => 13,
-            Rule::ZeroMean => 14,
-            Rule::CountNotWhole => 15,
-            Rule::CountAboveOne => 16,
-            Rule::TrialsNotWhole => 17,
-            Rule::ShapeNotWhole => 18,
-            Rule::TooFine => 19,
-            Rule::TooManyClaims => 20,
-            Rule::HorizonTooLarge => 21,
-            Rule::TooManyUnits => 22,
-            Rule::DuplicateSeverity => 23,
-            Rule::UnknownSeverity => 24,
-            Rule::ZeroBase => 25,
-            Rule::CommonUnit => 26,
-            Rule::CommonShape => 27,
-            Rule::CommonSize => 28,
-        }
+        self as u32
     }
 
     /// Its name.

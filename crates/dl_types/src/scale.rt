@@ -17,6 +17,7 @@ pub(crate) fn cells(settings: &Settings) -> u32
 }
 
 /// The greatest amount on that grid, in buckets.
+#[tactic(auto, using(dl_limits::proofs::Scales::amount_fits))]
 pub(crate) fn most_asked(settings: &Settings) -> u32
     requires { IsSet settings.now }
     ensures value { result ≡ most_asked settings.now }

@@ -1,19 +1,18 @@
 //! Severities with names: what a reference stands for, and the rule on their names.
 
-ghost use Rattle.std.specs.Prelude.{◌≡◌, ◌<◌, ◌^◌, ◌∷◌, ◌++◌, [], None, Some, IfOk, IfSome, IfNone, length, map};
+ghost use Rattle.std.specs.Prelude.{◌≡◌, ◌<◌, ◌^◌, [], None, Some, IfSome, IfNone, length};
 ghost use Rattle.dl_buckets.specs.First.{in_turn};
 ghost use Rattle.dl_types.specs.Answer.{TellsFault};
 ghost use Rattle.dl_types.specs.Faults.{fault_of_severity};
-ghost use Rattle.dl_types.specs.Rules.{duplicate_severity};
 ghost use Rattle.dl_types.specs.Severities.{named, body_span};
-ghost use Rattle.dl_types.specs.UnitNames.{severity_names};
 
-use crate::fault::{CheckFault, TypeFault};
+use crate::fault::CheckFault;
+use crate::names::check_name;
 use crate::rule::Rule;
 use dl_ast::{MixAst, SevBody, SevDef};
 use dl_lexer::Span;
 use indexmap::IndexSet;
-use std::alloc::{AllocError, Global};
+use std::alloc::Global;
 
 /// The mixture of the first of these severities that has this name.
 pub(crate) fn named<'a>(sevs: &'a [SevDef], name: &[u8]) -> Option<&'a MixAst>
@@ -38,27 +37,6 @@ pub(crate) fn body_span(body: &SevBody) -> Span
     }
 }
 
-/// Takes the name of a severity up among those of the severities before it. Its place, where it is
-/// one of them.
-fn duplicate_severity<'a>(
-    names: &mut IndexSet<&'a [u8]>,
-    before: &'a [SevDef],
-    sev: &'a SevDef,
-) -> Result<Option<Span>, AllocError>
-    requires { map (λ name. name.now) names.old.keys ≡ severity_names before.now }
-    ensures place { IfOk result (λ place. place ≡ duplicate_severity before.now sev.now) }
-    ensures kept { IfOk result (λ place. place ≡ None
-        → map (λ name. name.now) names.new.keys ≡ severity_names before.now
-        ++ sev.now.name.text ∷ []) }
-{
-    let (_number, is_new) = names.insert_full(sev.name.text.as_slice())?;
-    if is_new {
-        Ok(None)
-    } else {
-        Ok(Some(sev.name.span))
-    }
-}
-
 /// The rule on the names of severities.
 pub(crate) fn check_severities(alloc: Global, sevs: &[SevDef]) -> Result<(), CheckFault>
     requires few { length sevs.now < 2 ^ 32 }
@@ -66,22 +44,7 @@ pub(crate) fn check_severities(alloc: Global, sevs: &[SevDef]) -> Result<(), Che
 {
     let mut names = IndexSet::new(alloc);
     'sevs: for (at, sev) in sevs.iter().enumerate() {
-        match duplicate_severity(&mut names, &sevs[..at], sev)? {
-            Some(span) => return Err(duplicate(at as u32, span)),
-            None => {}
-        }
+        check_name(at as u32, Rule::DuplicateSeverity, &mut names, &sev.name)?;
     }
     Ok(())
-}
-
-/// That the severity of this number has the name of an earlier one.
-fn duplicate(number: u32, span: Span) -> CheckFault
-    ensures { result ≡ CheckFault.Typing
-        (record { unit = number; rule = Rule.DuplicateSeverity; span = span }) }
-{
-    CheckFault::Typing(TypeFault {
-        unit: number,
-        rule: Rule::DuplicateSeverity,
-        span,
-    })
 }

@@ -1,13 +1,11 @@
 //! The rules of one unit, in their order.
 
-ghost use Rattle.std.specs.Prelude.{All, ◌≡◌, ◌<◌, ◌∷◌, ◌++◌, [], Option, None, Some, IfOk, OnOk, Err, length, map};
-ghost use Rattle.dl_types.specs.Faults.{breaks, most_asked, fault_of_text};
+ghost use Rattle.std.specs.Prelude.{All, ◌≡◌, ◌<◌, ◌∷◌, ◌++◌, [], Option, None, Some, IfOk, Err, length, map};
+ghost use Rattle.dl_types.specs.Faults.{most_asked, fault_of_text};
 ghost use Rattle.dl_types.specs.Answer.{TellsFault, AnswersWith, AnswersUnit};
-ghost use Rattle.dl_types.specs.declared.rule.Rule.TheVariants.{DuplicateName};
 ghost use Rattle.dl_ast.specs.WellFormed.{IsFormedUnit, IsFormedDefinition};
 ghost use Rattle.dl_ast.specs.declared.ast.MixAst.{MixAst as Mixture};
 ghost use Rattle.dl_types.specs.Known.{IsMixtureRead, IsKnown};
-ghost use Rattle.dl_types.specs.Rules.{duplicate_name};
 ghost use Rattle.dl_types.specs.Kept.{IsSet};
 ghost use Rattle.dl_buckets.specs.Grid.{grid_of};
 ghost use Rattle.dl_buckets.specs.Reading.{flaws_of};
@@ -20,7 +18,7 @@ use crate::changes::common_unit;
 use crate::fault::CheckFault;
 use crate::grid_rules::check_grid;
 use crate::known::{KnownSeverity, unit_severity};
-use crate::names::duplicate_name;
+use crate::names::check_name;
 use crate::rule::Rule;
 use crate::scale::most_asked;
 use crate::severities::body_span;
@@ -29,26 +27,6 @@ use dl_buckets::{Flaws, GridSev, GridUnit, Gridded, grid_unit};
 use dl_plan::{Settings, Unit};
 use indexmap::IndexSet;
 use std::alloc::Global;
-
-/// The rule on its name.
-fn check_name<'a>(
-    number: u32,
-    names: &mut IndexSet<&'a [u8]>,
-    before: &'a [UnitAst],
-    unit: &'a UnitAst,
-) -> Result<(), CheckFault>
-    requires { map (λ name. name.now) names.old.keys ≡ names_of before.now }
-    ensures fault { TellsFault (breaks number DuplicateName
-        (duplicate_name before.now unit.now)) result }
-    ensures names { OnOk result (map (λ name. name.now) names.new.keys
-        ≡ names_of before.now ++ unit.now.name.text ∷ []) }
-{
-    broken(
-        number,
-        Rule::DuplicateName,
-        duplicate_name(names, before, unit)?,
-    )
-}
 
 /// The rules that reading a unit can break.
 #[tactic(auto, unfolding(dl_buckets::specs::First::first_in))]
@@ -109,7 +87,7 @@ fn check_with<'a>(
         ≡ names_of before.now ++ unit.now.name.text ∷ []) }
 {
     let number = before.len() as u32;
-    check_name(number, names, before, unit)?;
+    check_name(number, Rule::DuplicateName, names, &unit.name)?;
     let grid = check_text(alloc, number, unit, sev, settings)?;
     check_grid(alloc, number, unit, &grid, settings)
 }
@@ -141,10 +119,8 @@ pub(crate) fn check_unit<'a>(
     match unit_severity(alloc, known, sevs, &unit.sev.body, settings)? {
         Some(sev) => {
             let made = check_with(alloc, names, before, unit, sev, settings)?;
-            kept(
-                made,
-                broken(number, Rule::CommonUnit, common_unit(port, unit)),
-            )
+            let place = common_unit(port, unit);
+            kept(made, broken(number, Rule::CommonUnit, place))
         }
         None => Err(typing(number, Rule::UnknownSeverity, body_span(&unit.sev.body))),
     }

@@ -2,11 +2,12 @@ use Rattle.dl_exp.proofs.Common.{◌≡◌, ℕ, suc, ◌+◌, ◌*◌, ◌/◌,
 use Rattle.std.proofs.Common.{ap₂, add-one, refl}
 unfoldable use Rattle.dl_exp.specs.Ends.{low_term, high_term}
 use Rattle.dl_exp.proofs.Terms.{half_parts}
-use Rattle.dl_exp.proofs.Roundings.{fall, fall_zero, fall_far, fall_next, fallen, near_next}
+unfoldable use Rattle.dl_exp.proofs.Roundings.{fall}
+use Rattle.dl_exp.proofs.Roundings.{fall_far, fall_next, fallen, near_next}
 use Rattle.dl_exp.proofs.exponential.Goals as goal
 
 pub loop-n-init : goal.loop-n-init
-unfolding low_term high_term count_below
+unfolding low_term high_term count_below fall
 loop-n-init c = record {
   low_value = refl;
   high_value = refl;
@@ -14,7 +15,7 @@ loop-n-init c = record {
   high_partial = refl;
   terms = omega arith;
   near = omega arith;
-  falls = omega (arith, fall_zero);
+  falls = omega arith;
   small = omega arith;
   one = omega arith;
   order = omega arith;
@@ -46,7 +47,7 @@ loop-n-preserved c =
     (den * k) * fall k ≤ 2 ^ 63 + 2 * fall k) (sym (add-one n))
     (fall_next (2 ^ 63) c.loop-n.high_term num den n positive half i.falls)) in
     let small : t ≤ 2 ^ 63 = rw c.div_ceil-high_term.ensures
-    (div_ceil_least _ _ _ dp (shrinks c.loop-n.high_term num den n half i.small)) in
+    (div_ceil_least _ _ _ dp (omega (arith, mul-le-mul_right num i.small, half))) in
     let low_value : s ≡ low_term x (n + 1) = subst (λ k. s ≡ low_term x k) (sym (add-one n))
     (ap₂ (λ a b. a / b) (ap₂ (λ a b. a * b) i.low_value c.num-num.ensures.part) d) in
     let high_value : t ≡ high_term x (n + 1) = subst (λ k. t ≡ high_term x k) (sym (add-one n))
@@ -66,9 +67,6 @@ loop-n-preserved c =
       within = omega (arith, i.within, small);
     }
   where
-    shrinks : (h num den n : ℕ) → num + num ≤ den → h ≤ 2 ^ 63 → h * num ≤ 2 ^ 63 * (den * (n + 1))
-    shrinks h num den n half small = omega (arith, mul-le-mul_right num small, half)
-
     partial : (sum : ℕ) (term : ℕ → ℕ) (n : ℕ) → sum ≡ count_below (suc n) term → sum ≡ count_below (n + 1) term
     partial sum term n e = subst (λ k. sum ≡ count_below k term) (sym (add-one n)) e
 

@@ -1,9 +1,8 @@
 -- The multiples that are tried tell of all sums.
-use Rattle.dl_buckets.proofs.Common.{◌≡◌, ◌∙◌, ◌↔◌, ℕ, Bool, true, false, not, refl, sym, ap, subst, at_if, Clause, IsClause, IsMade, is_off_multiples}
+use Rattle.dl_buckets.proofs.Common.{◌≡◌, ◌∙◌, ◌↔◌, ℕ, Bool, true, false, not, refl, sym, ap, at_if, Clause, IsClause, is_off_multiples}
 use Rattle.std.proofs.Common.{IsTrue}
 use Rattle.std.proofs.lemmas.Bool.{true_from_ne_false}
 use Rattle.dl_sev.specs.Fits.{FitsStep}
-use Rattle.dl_buckets.specs.Rules.{off_grid_sums}
 use Rattle.dl_buckets.proofs.PastEdges.{fits_tried, tried_fits}
 use Rattle.dl_buckets.proofs.cessions.off_grid_sums.Goals as goal
 
@@ -16,10 +15,5 @@ off_is clause step false cession means =
 
 pub returns-in-Whole : goal.returns-in-Whole
 returns-in-Whole c =
-    let clause = c.in-Whole.cede in
-    let place = c.in-Whole.span in
-    c.place_if.ensures
-    ∙ ap (λ b. at_if b place) (off_is clause c.common_amount.result c.fits.result
-    (subst IsMade c.in-Whole.is c.requires) c.fits.ensures)
-    ∙ ap (λ n. at_if (is_off_multiples clause n) place) c.common_amount.ensures
-    ∙ ap (λ made. off_grid_sums made c.args.amounts.now) (sym c.in-Whole.is)
+    let off = off_is c.in-Whole.cede c.common_amount.result c.fits.result (rw c.in-Whole.is at c.requires) c.fits.ensures in
+    rw (c.in-Whole.is, ← c.common_amount.ensures) (c.place_if.ensures ∙ ap (λ b. at_if b c.in-Whole.span) off)

@@ -9,14 +9,9 @@ pub layers-init : goal.layers-init
 layers-init c = read_no_part 7 (flaws_of_ceded c.args.most c.args.bs) (grid_ceded c.args.bs) c.new-made.ensures.items
     c.none-flaws.ensures
 
-pub limit_number-limit-requires : goal.limit_number-limit-requires
-limit_number-limit-requires c = (at_item IsFormedCeded _ _ _ _ refl c.requires.formed c.layers-test.true c.ceded-item.is).layer.limit
-
-pub share_number-share-requires : goal.share_number-share-requires
-share_number-share-requires c = (at_item IsFormedCeded _ _ _ _ refl c.requires.formed c.layers-test.true c.ceded-item.is).share
-
 pub grid_layer-layer-requires-clause-formed : goal.grid_layer-layer-requires-clause-formed
-grid_layer-layer-requires-clause-formed c = (at_item IsFormedCeded _ _ _ _ refl c.requires.formed c.layers-test.true c.ceded-item.is).layer
+grid_layer-layer-requires-clause-formed c =
+    (at_item IsFormedCeded _ _ _ _ refl c.requires.formed c.layers-test.true c.ceded-item.is).layer
 
 pub layers-preserved : goal.layers-preserved
 layers-preserved c =

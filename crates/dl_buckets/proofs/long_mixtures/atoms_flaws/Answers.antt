@@ -1,5 +1,4 @@
 -- One atom more.
-use Rattle.dl_buckets.proofs.Common.{take_all}
 use Rattle.dl_buckets.proofs.LongMixtures.{atoms_none, atoms_next}
 use Rattle.dl_buckets.proofs.long_mixtures.atoms_flaws.Goals as goal
 
@@ -11,6 +10,3 @@ atoms-preserved c = λ most bs.
     atoms_next most bs c.atoms.flaws c.in_ok-values.values c.in_ok-probs.probs c.or.result c.or-flaws.result
     c.args.atoms.now c.atoms.atom-index c.atom-item.result c.atoms-test.true c.atom-item.is (c.atoms.invariant most bs)
     c.in_ok-values.ensures c.in_ok-probs.ensures c.or.ensures c.or-flaws.ensures
-
-pub returns : goal.returns
-returns c = λ most bs. rw (take_all c.atoms.atom-index c.args.atoms.now c.atoms-test.false) at (c.atoms.invariant most bs)

@@ -22,7 +22,8 @@ atom_read most bs a {placed = placed} {own = own} listed same gridded beside joi
     (none_early most bs placed.part ∙ sym (none_early most bs right)) (rw same at gridded) joined in
     let listed_only : IsReadTo 3 (flaws_else f (amount_flaws most bs right)) right (record { part = placed.part; flaws = own }) =
     record { first = numbers.first; right = λ clean. listed.right (keeps_first 3 f (amount_flaws most bs right) clean) } in
-    let both = beside_read (λ (xs : List (Fraction × Span)). length xs) (λ xs p. p) a.probs listed_only (ap length same) beside is in
+    let both = beside_read (λ (xs : List (Fraction × Span)). length xs) (λ xs p. p) a.probs listed_only
+    (ap length same) beside is in
     record {
       first = both.first;
       right = λ clean. ap₂ (λ (ns : List ℕ) (p : Option Shares). record { amounts = ns; probs = p })

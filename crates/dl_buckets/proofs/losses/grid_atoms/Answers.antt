@@ -4,7 +4,8 @@ use Rattle.dl_buckets.proofs.Agreeing.{read_no_part, read_next}
 use Rattle.dl_buckets.proofs.losses.grid_atoms.Goals as goal
 
 pub atoms-init : goal.atoms-init
-atoms-init c = read_no_part 7 (flaws_of_atom c.args.most c.args.bs) (grid_atom c.args.bs) c.new-made.ensures.items c.none-flaws.ensures
+atoms-init c = read_no_part 7 (flaws_of_atom c.args.most c.args.bs) (grid_atom c.args.bs) c.new-made.ensures.items
+    c.none-flaws.ensures
 
 pub atoms-preserved : goal.atoms-preserved
 atoms-preserved c =

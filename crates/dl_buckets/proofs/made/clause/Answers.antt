@@ -1,5 +1,5 @@
 -- Fine shares make a clause.
-use Rattle.dl_buckets.proofs.Common.{◌≡◌, ◌∙◌, List, map, true, false, sym, ap, subst, MatchOption, CedeLayer, IsClause, is_fine, ceded_layer, clause_of, shares_of}
+use Rattle.dl_buckets.proofs.Common.{◌≡◌, ◌∙◌, List, true, sym, ap, subst, CedeLayer, IsClause, clause_of}
 use Rattle.dl_buckets.proofs.ClauseLaws.{no_cession}
 use Rattle.dl_buckets.proofs.made.clause.Goals as goal
 
@@ -7,15 +7,8 @@ pub returns-clause-value : goal.returns-clause-value
 returns-clause-value c =
     let a = c.args.cession.now in
     no_cession a c.requires.layered (λ cession.
-    let made : c.in-Some.layers.items ≡ map ceded_layer a.layers =
-    subst (λ o. MatchOption o (is_fine (shares_of a) ≡ false)
-    (λ layers. layers.items ≡ map ceded_layer a.layers)) c.in-Some.is c.in_ok-layers.ensures in
+    let made = rw c.in-Some.is at c.in_ok-layers.ensures in
     let same : c.in_ok-clause.clause ≡ clause_of a = c.in_ok-clause.ensures
     ∙ ap (λ (ls : List CedeLayer). (a.net, ls)) (c.deref.ensures.value ∙ made) in
     let is : c.is_clause.result ≡ true = c.is_clause.ensures.1 (subst IsClause (sym same) cession) in
     absurd (cc (is, c.if-is_clause.false)))
-
-pub returns-then-is_clause-clause-value : goal.returns-then-is_clause-clause-value
-returns-then-is_clause-clause-value c =
-    let made = rw c.in-Some.is at c.in_ok-layers.ensures in
-    c.in_ok-clause.ensures ∙ ap (λ (ls : List CedeLayer). (c.args.cession.now.net, ls)) (c.deref.ensures.value ∙ made)

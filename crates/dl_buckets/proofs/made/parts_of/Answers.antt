@@ -1,5 +1,5 @@
 -- Each layer with its share.
-use Rattle.dl_buckets.proofs.Common.{◌≡◌, ◌∙◌, false, map, get_or, length, sym, ap, subst, ◌<◌, ◌^◌, arith, get_or-map, length-map, Fraction, GridCeded, share_of, shares_of, share_exceeds, at_item}
+use Rattle.dl_buckets.proofs.Common.{◌≡◌, ◌∙◌, false, map, get_or, sym, ap, subst, ◌<◌, ◌^◌, arith, get_or-map, length-map, Fraction, GridCeded, share_of, shares_of, share_exceeds, at_item}
 use Rattle.dl_buckets.proofs.ClauseLaws.{shares_kept, one_too_fine}
 use Rattle.dl_buckets.proofs.made.parts_of.Goals as goal
 
@@ -13,10 +13,8 @@ pub returns-in_default : goal.returns-in_default
 returns-in_default c =
     let layers = c.args.cession.now.layers in
     let i = c.layers.ceded-index in
-    let lt : i < length layers = subst (λ xs. i < length xs) c.as_slice-ceded-items.ensures c.layers-test.true in
-    let is : c.ceded-item.result ≡ get_or layers i c.ceded-item.result =
-    subst (λ xs. c.ceded-item.result ≡ get_or xs i c.ceded-item.result) c.as_slice-ceded-items.ensures
-    c.ceded-item.is in
+    let lt = rw c.as_slice-ceded-items.ensures at c.layers-test.true in
+    let is = rw c.as_slice-ceded-items.ensures at c.ceded-item.is in
     let share = λ (l : GridCeded). share_of l.share in
     let d = share c.ceded-item.result in
     let at : get_or (map share layers) i d ≡ d = get_or-map share layers i c.ceded-item.result d lt

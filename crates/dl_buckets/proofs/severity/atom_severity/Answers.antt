@@ -4,9 +4,6 @@ use Rattle.dl_buckets.proofs.Mixing.{weighed_are}
 use Rattle.dl_buckets.proofs.Shared.{weighing_fine}
 use Rattle.dl_buckets.proofs.severity.atom_severity.Goals as goal
 
-pub returns-in_default : goal.returns-in_default
-returns-in_default c = rw (c.in_default.is, c.as_slice-amounts.ensures) at c.in_ok-weights.ensures
-
 pub returns : goal.returns
 returns c =
     let a = c.args.atom.now in
@@ -14,7 +11,7 @@ returns c =
     let w = c.in-Some.weights in
     let is = rw (c.in-Some.is, amounts) at c.in_ok-weights.ensures in (
       weighing_fine (atom_probs a) w is,
-      λ x. c.in_ok-made.ensures x ∙ ap (λ ps. probability ps x)
+      λ x. c.in_ok-merge.ensures x ∙ ap (λ ps. probability ps x)
           (weighed_are c.as_slice-amounts.result.now (atom_probs a) w (ap length amounts ∙ sym c.requires.each) is
           ∙ ap (λ xs. zip xs (atom_probs a)) amounts),
     )

@@ -1,13 +1,10 @@
 -- The mixture of the atoms is that of the text, and refused exactly where that is not fine.
-use Rattle.dl_buckets.proofs.Common.{◌≡◌, ◌∙◌, ◌&&◌, true, false, Bool, length, map, ap, ap₂, sym, subst, refl, length-map, HasDistribution, AllZip, atom_pairs, weights_of, is_fine, has_atoms, mixture_shares}
+use Rattle.dl_buckets.proofs.Common.{◌∙◌, ◌&&◌, length, map, ap, ap₂, sym, subst, length-map, HasDistribution, AllZip, atom_pairs, weights_of, is_fine, has_atoms, mixture_shares}
+use Rattle.std.proofs.lemmas.Bool.{and_right}
 use Rattle.dl_buckets.proofs.Mixing.{weights_length, pair_length, mixture_means}
 use Rattle.dl_buckets.proofs.Shared.{weighing_fine}
 use Rattle.dl_buckets.proofs.FineMixtures.{mixed_fine, mixed_coarse}
 use Rattle.dl_buckets.proofs.severity.mixture.Goals as goal
-
-and_false : (a b : Bool) → b ≡ false → (a && b) ≡ false
-and_false true b e = e
-and_false false b e = refl
 
 pub mix-requires-clause-lengths : goal.mix-requires-clause-lengths
 mix-requires-clause-lengths c =
@@ -17,17 +14,6 @@ mix-requires-clause-lengths c =
     ap length c.deref.ensures.value ∙ pair_length c.in-Some.atoms.items (map atom_pairs s.atoms) atoms.1
     ∙ length-map s.atoms atom_pairs
     ∙ sym (weights_length (weights_of s) c.in-Some-2.weights is ∙ c.requires.each)
-
-pub returns-in_default : goal.returns-in_default
-returns-in_default c =
-    let s = c.args.sev.now in
-    ap (λ b. b && is_fine (weights_of s) && is_fine (mixture_shares s)) (rw c.in_default.is at c.in_ok-atoms.ensures)
-
-pub returns-in_default-2 : goal.returns-in_default-2
-returns-in_default-2 c =
-    let s = c.args.sev.now in
-    ap (λ b. b && is_fine (mixture_shares s)) (and_false (has_atoms s) (is_fine (weights_of s))
-    (rw (c.in_default-2.is, c.as_slice.ensures) at c.in_ok-weights.ensures))
 
 pub returns-in-Ok : goal.returns-in-Ok
 returns-in-Ok c =
@@ -50,5 +36,5 @@ returns-in-Err-TooFine c =
     let is = rw (c.in-Some-2.is, c.as_slice.ensures) at c.in_ok-weights.ensures in
     let means = subst (λ xs. AllZip HasDistribution xs lists) (sym c.deref.ensures.value) atoms.1 in
     let refused = rw c.in-Err-TooFine.field-0-is at c.in-Err-TooFine.ensures.step in
-    and_false (has_atoms s && is_fine (weights_of s)) (is_fine (mixture_shares s))
+    and_right (has_atoms s && is_fine (weights_of s)) (is_fine (mixture_shares s))
     (mixed_coarse c.deref.result.now c.in-Some-2.weights (weights_of s) lists is means refused)

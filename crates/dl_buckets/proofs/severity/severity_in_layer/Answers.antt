@@ -1,18 +1,14 @@
 -- The steps of the layer, where it is conditioned and where it is not.
-use Rattle.dl_buckets.proofs.Common.{MatchOption, Option, Some, None, refl, Sev, ◌∙◌, sym, subst, conditioned, pairs_of, HasDistribution, layer, layered, if_ok, mixed_pairs}
-use Rattle.std.specs.Option.{IsSome}
+use Rattle.dl_buckets.proofs.Common.{◌∙◌, sym, subst, conditioned, pairs_of, HasDistribution, layer, layered, if_ok, mixed_pairs}
+use Rattle.std.proofs.lemmas.Bool.{some_since}
 use Rattle.dl_buckets.proofs.Meaning.{conditioned_means, mapped_means}
 use Rattle.dl_buckets.proofs.Positive.{in_layer_is, reached}
 use Rattle.dl_buckets.proofs.Items.{support_within}
 use Rattle.dl_buckets.proofs.severity.severity_in_layer.Goals as goal
 
-some_made : (o : Option Sev) (N : Type 0) (Q : Sev → Type 0) → MatchOption o N Q → ¬ N → IsSome o
-some_made None N Q h never = absurd (never h)
-some_made (Some sev) N Q h never = refl
-
 pub unwrap-large-requires : goal.unwrap-large-requires
 unwrap-large-requires c =
-    some_made c.in_ok-exceeding-in-Some.field-0 _ _ c.in_ok-exceeding-in-Some.ensures
+    some_since c.in_ok-exceeding-in-Some.field-0 _ _ c.in_ok-exceeding-in-Some.ensures
     (λ all. reached c.args.unit.now c.in-Some.layer c.in-Some.is
     (sym c.is_conditioned.ensures ∙ c.if-is_conditioned.true) c.requires.reached
     (support_within c.args.mixed (mixed_pairs c.args.unit.now.sev) c.requires.mixed c.in-Some.layer.attach all))
@@ -26,7 +22,8 @@ returns-then-is_conditioned c =
     (sym c.is_conditioned.ensures ∙ c.if-is_conditioned.true) in
     if_ok c.cut.result (λ sev. HasDistribution sev (layered l.limit l.attach (pairs_of large))) _
     (λ sev means. subst (HasDistribution sev) is (mapped_means large sev (conditioned l.attach mixed) (layer l.limit l.attach)
-    (conditioned_means c.args.mixed large mixed l.attach c.requires.mixed (rw c.unwrap-large.ensures at c.in_ok-exceeding-in-Some.ensures)) means))
+    (conditioned_means c.args.mixed large mixed l.attach c.requires.mixed
+    (rw c.unwrap-large.ensures at c.in_ok-exceeding-in-Some.ensures)) means))
     c.cut.ensures
 
 pub returns-in-Some : goal.returns-in-Some

@@ -9,6 +9,6 @@ returns-in-Some c =
     let l = c.in-Some.layer in
     if_ok c.in_layer.result (λ made. made.items ≡ map (layer l.limit l.attach)
     (cond c.is_conditioned-large.result (filter (nat_lt l.attach) xs) xs)) _
-    (λ made. taken_support c.args.unit.now.layer l c.args.unit.now.bang c.args.unit.now.sev xs made.items c.is_conditioned-large.result
-    c.in-Some.is (c.deref.ensures.value ∙ c.requires.mixed) c.is_conditioned-large.ensures)
+    (λ made. taken_support c.args.unit.now.layer l c.args.unit.now.bang c.args.unit.now.sev xs made.items
+    c.is_conditioned-large.result c.in-Some.is (c.deref.ensures.value ∙ c.requires.mixed) c.is_conditioned-large.ensures)
     c.in_layer.ensures

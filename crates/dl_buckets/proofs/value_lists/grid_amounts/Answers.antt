@@ -18,4 +18,4 @@ pub returns : goal.returns
 returns c =
     read_end 7 (λ (pair : Fraction × Span). flaws_of_amount c.args.most c.args.bs pair.0 pair.1)
     (λ (pair : Fraction × Span). number_of c.args.bs pair.0) c.args.placed.now c.placed.value-index c.placed-test.false
-    c.from_vec.ensures c.placed.invariant
+    c.from_vec-part.ensures c.placed.invariant

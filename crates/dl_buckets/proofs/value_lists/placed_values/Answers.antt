@@ -20,8 +20,9 @@ returns-in-Ok-clause-read c = rw (c.with.ensures, c.from_vec.ensures) (few_read 
     (rw c.as_slice-2.ensures at c.in-Ok.ensures.values) c.in-Ok.ensures.few)
 
 pub returns-in-Ok-clause-modest : goal.returns-in-Ok-clause-modest
-returns-in-Ok-clause-modest c = rw (c.with.ensures, c.from_vec.ensures) (values_modest c.args.list.now c.requires c.in_ok-ranges.ranges
-    (rw c.as_slice.ensures at c.in_ok-ranges.ensures) (none_is _ (sym c.is_some.ensures ∙ c.if-is_some.false))
+returns-in-Ok-clause-modest c = rw (c.with.ensures, c.from_vec.ensures)
+    (values_modest c.args.list.now c.requires c.in_ok-ranges.ranges (rw c.as_slice.ensures at c.in_ok-ranges.ensures)
+    (none_is _ (sym c.is_some.ensures ∙ c.if-is_some.false))
     (none_is _ (sym c.is_some-else-is_some.ensures ∙ c.if-is_some-2.false)) c.in-Ok.values.items
     (rw c.as_slice-2.ensures at c.in-Ok.ensures.values))
 

@@ -1,10 +1,6 @@
 -- A numeral that is read has a whole shape or none.
-use Rattle.dl_types.proofs.Common.{◌≡◌, ◌∙◌, ◌||◌, Bool, true, false, not, refl, sym, ap, whole_num, is_whole, shape_of, Fraction}
-use Rattle.std.proofs.lemmas.Bool.{or_parts}
-use Rattle.std.proofs.Math.Bool.{or-true}
+use Rattle.dl_types.proofs.Common.{◌≡◌, ◌∙◌, ◌||◌, Bool, true, false, not, refl, sym, ap, whole_num, is_whole, shape_of, Fraction, or_parts, or-true, value, is_bad_numeral, is_zero}
 use Rattle.dl_plan.proofs.NumeralLaws.{numeral_to}
-use Rattle.dl_buckets.specs.Values.{value, is_bad_numeral}
-use Rattle.dl_buckets.specs.Lists.{is_zero}
 use Rattle.dl_types.proofs.ExposedCounts.{shape_above}
 use Rattle.dl_types.proofs.changes.shape_in.Goals as goal
 
@@ -25,8 +21,8 @@ returns-then-has_no_shape c =
     (sym (ap no_shape same) ∙ sym c.has_no_shape.ensures ∙ c.if-has_no_shape.true)
     ∙ or-true (is_bad_numeral c.args.variation.now)
 
-pub returns-else-has_no_shape : goal.returns-else-has_no_shape
-returns-else-has_no_shape c =
+pub returns : goal.returns
+returns c =
     let same = rw c.as_slice.ensures at c.in-Ok.ensures.value in
     let none : no_shape c.in-Ok.value ≡ false = sym c.has_no_shape.ensures ∙ c.if-has_no_shape.false in
     record {
@@ -37,6 +33,6 @@ returns-else-has_no_shape c =
       some = shape_above c.shape.result c.in-Ok.value (or_parts _ _ none).0 c.shape.ensures;
     }
 
-pub returns-in-Err : goal.returns-in-Err
-returns-in-Err c =
-    rw c.as_slice.ensures at (ap (λ b. b || no_shape (value c.args.variation.now)) (c.in-Err.ensures.bad.0 refl))
+pub returns-in_default : goal.returns-in_default
+returns-in_default c =
+    rw c.as_slice.ensures at (ap (λ b. b || no_shape (value c.args.variation.now)) (c.in_default.ensures.bad.0 refl))

@@ -1,18 +1,16 @@
 -- The units of the plan are as large as those of the program.
-use Rattle.dl_types.proofs.Common.{◌∙◌, ◌≤◌, refl, true, false, suc, arith, Some, None, sym, ap, map, IfSome, at_if, most_shape}
-use Rattle.dl_ast.specs.WellFormed.{IsFormedHead}
+use Rattle.dl_types.proofs.Common.{◌∙◌, ◌≤◌, refl, true, false, suc, arith, Some, sym, ap, map, IfSome, at_if, most_shape, IsFormedHead, IsShapeIn, part_of}
 use Rattle.dl_lexer.specs.Numerals.{IsNumeralToken}
-use Rattle.dl_types.specs.Factor.{IsShapeIn, part_of}
 use Rattle.dl_types.proofs.FactorBounds.{small_shape}
 use Rattle.dl_types.proofs.FactorParts.{all_counted}
 use Rattle.dl_types.proofs.FactorKept.{no_port, no_common, shape_place, size_told, shape_written, bad_told, factor_there, shape_shared}
 use Rattle.dl_types.proofs.changes.shared_shape.Goals as goal
 
-pub returns-in_default-clause-kept : goal.returns-in_default-clause-kept
-returns-in_default-clause-kept c = no_port c.args.settings.now c.args.program.now c.in_default.is
+pub returns-in_default-clause-fault : goal.returns-in_default-clause-fault
+returns-in_default-clause-fault c = no_port c.args.settings.now c.args.program.now c.in_default.is
 
-pub returns-in_default-common-clause-kept : goal.returns-in_default-common-clause-kept
-returns-in_default-common-clause-kept c =
+pub returns-in_default-common-clause-fault : goal.returns-in_default-common-clause-fault
+returns-in_default-common-clause-fault c =
     no_common c.args.settings.now c.args.program.now c.in-Some.head c.in-Some.is c.in_default-common.is
 
 pub shape_in-requires : goal.shape_in-requires
@@ -21,14 +19,13 @@ shape_in-requires c =
     let common : IfSome c.in-Some.head.common (λ n. IsNumeralToken n.text) = head.common in
     rw c.in-Some-common.is at common
 
-pub returns-in_default-shape_in-clause-broken : goal.returns-in_default-shape_in-clause-broken
-returns-in_default-shape_in-clause-broken c =
+pub returns-in_default-shape_in-clause-fault : goal.returns-in_default-shape_in-clause-fault
+returns-in_default-shape_in-clause-fault c =
     let n = c.in-Some-common.variation in
     let bad = rw c.in_default-shape_in.is at c.shape_in.ensures in
-    bad_told c.args.settings.now c.args.program.now n.span
+    rw c.typing.ensures (bad_told c.args.settings.now c.args.program.now n.span
     (shape_place c.args.program.now.port c.in-Some.head n c.in-Some.is c.in-Some-common.is
-    ∙ ap (λ b. at_if b n.span) bad)
-    ∙ ap Some (sym c.of_portfolio.ensures)
+    ∙ ap (λ b. at_if b n.span) bad))
 
 pub is_too_large-requires-clause-counted : goal.is_too_large-requires-clause-counted
 is_too_large-requires-clause-counted c =
@@ -38,13 +35,12 @@ is_too_large-requires-clause-counted c =
     all_counted c.args.settings.now program.port program.sevs program.units c.args.units.now c.requires.units
     (shape_shared program.port c.in-Some-shape_in.shape written)
 
-pub returns-then-is_too_large-clause-broken : goal.returns-then-is_too_large-clause-broken
-returns-then-is_too_large-clause-broken c =
+pub returns-then-is_too_large-clause-fault : goal.returns-then-is_too_large-clause-fault
+returns-then-is_too_large-clause-fault c =
     let program = c.args.program.now in
-    size_told program.port c.in-Some.head c.in-Some-common.variation c.in-Some.is c.in-Some-common.is
-    c.in-Some-shape_in.shape c.in-Some-shape_in.ensures c.args.settings.now program c.args.units.now true refl
-    c.requires.units c.if-is_too_large.ensures
-    ∙ ap Some (sym c.of_portfolio-then-is_too_large.ensures)
+    rw c.typing-then-is_too_large.ensures (size_told program.port c.in-Some.head c.in-Some-common.variation c.in-Some.is
+    c.in-Some-common.is c.in-Some-shape_in.shape c.in-Some-shape_in.ensures c.args.settings.now program c.args.units.now
+    true refl c.requires.units c.if-is_too_large.ensures)
 
 pub overflow_cast-result : goal.overflow_cast-result
 overflow_cast-result c =
@@ -52,8 +48,8 @@ overflow_cast-result c =
     small_shape c.in-Some-shape_in.shape (map part_of c.args.units.now) (sym c.if-is_too_large.ensures) in
     omega (arith, few)
 
-pub returns-clause-kept : goal.returns-clause-kept
-returns-clause-kept c =
+pub returns-clause-fault : goal.returns-clause-fault
+returns-clause-fault c =
     let program = c.args.program.now in
     size_told program.port c.in-Some.head c.in-Some-common.variation c.in-Some.is c.in-Some-common.is
     c.in-Some-shape_in.shape c.in-Some-shape_in.ensures c.args.settings.now program c.args.units.now false refl

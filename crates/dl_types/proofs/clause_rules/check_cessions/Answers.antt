@@ -1,9 +1,5 @@
 -- The place that is looked for decides.
-use Rattle.dl_types.proofs.Common.{◌≡◌, ◌∙◌, ap, ap₂, subst, breaks, off_grid_cession}
-use Rattle.dl_buckets.specs.Clauses.{made_of}
-use Rattle.dl_buckets.specs.Rules.{off_grid_amounts}
-use Rattle.dl_types.specs.Answer.{TellsFault}
-use Rattle.dl_types.specs.declared.rule.Rule.TheVariants.{OffGridCession}
+use Rattle.dl_types.proofs.Common.{◌≡◌, ◌∙◌, ap, ap₂, subst, breaks, off_grid_cession, made_of, off_grid_amounts, TellsFault, OffGridCession}
 use Rattle.dl_types.proofs.clause_rules.check_cessions.Goals as goal
 
 pub returns-clause-fault : goal.returns-clause-fault

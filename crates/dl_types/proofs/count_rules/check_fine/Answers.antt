@@ -8,16 +8,16 @@ returns-in_default-clause-fault c =
     let told = rw c.in_default.is at c.in_ok-severity.ensures in
     rw c.typing.ensures (ap (breaks c.args.number TooFine) (coarse_place c.args.unit.now c.args.count told))
 
-pub returns-in-Some-fine_count-clause-fault : goal.returns-in-Some-fine_count-clause-fault
-returns-in-Some-fine_count-clause-fault c =
+pub returns-clause-fault : goal.returns-clause-fault
+returns-clause-fault c =
     let u = c.args.unit.now in
     let told = rw c.in-Some.is at c.in_ok-severity.ensures in
     let above = c.above_zero-above.ensures (final_severity u) told.1.means in
     ap (breaks c.args.number TooFine) (sym (fine_place u c.args.count false told.0
     (sym (ap (exposed_too_fine u.count c.args.count) (sym above) ∙ c.in-Some-fine_count.ensures.0))))
 
-pub returns-in-Some-fine_count-clause-claims : goal.returns-in-Some-fine_count-clause-claims
-returns-in-Some-fine_count-clause-claims c =
+pub returns-clause-claims : goal.returns-clause-claims
+returns-clause-claims c =
     let told = rw c.in-Some.is at c.in_ok-severity.ensures in
     record {
       severity = told.1;
@@ -25,10 +25,10 @@ returns-in-Some-fine_count-clause-claims c =
           ∙ ap (claims_above_zero (final_severity c.args.unit.now)) (sym c.in-Some-fine_count.ensures.1.number);
     }
 
-pub returns-clause-fault : goal.returns-clause-fault
-returns-clause-fault c =
+pub returns-in_default-fine_count-clause-fault : goal.returns-in_default-fine_count-clause-fault
+returns-in_default-fine_count-clause-fault c =
     let u = c.args.unit.now in
     let told = rw c.in-Some.is at c.in_ok-severity.ensures in
     let above = c.above_zero-above.ensures (final_severity u) told.1.means in
-    rw c.typing-in-None.ensures (ap (breaks c.args.number TooFine) (sym (fine_place u c.args.count true told.0
-    (sym (ap (exposed_too_fine u.count c.args.count) (sym above) ∙ c.in-None.ensures)))))
+    rw c.typing-in_default-fine_count.ensures (ap (breaks c.args.number TooFine) (sym (fine_place u c.args.count true told.0
+    (sym (ap (exposed_too_fine u.count c.args.count) (sym above) ∙ c.in_default-fine_count.ensures)))))

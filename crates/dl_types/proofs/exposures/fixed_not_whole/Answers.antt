@@ -1,6 +1,5 @@
 -- A fixed count that is there decides.
-use Rattle.std.proofs.Common.{rules}
-use Rattle.dl_types.specs.Rules.{count_not_whole}
+use Rattle.dl_types.proofs.Common.{rules, count_not_whole}
 use Rattle.dl_types.proofs.exposures.fixed_not_whole.Goals as goal
 
 pub returns-in-Some : goal.returns-in-Some

@@ -1,7 +1,5 @@
 -- The mean of what the severity means, which is above 0.
-use Rattle.dl_types.proofs.Common.{◌≡◌, ◌∙◌, sym, subst, whole, ◌<ℚ◌, mean_amount, severity_in_layer, not-false}
-use Rattle.dl_limits.specs.Limits.{most_amount}
-use Rattle.dl_plan.specs.Severity.{pairs_of}
+use Rattle.dl_types.proofs.Common.{◌≡◌, ◌∙◌, sym, subst, whole, ◌<ℚ◌, mean_amount, severity_in_layer, not-false, most_amount, pairs_of}
 use Rattle.dl_buckets.proofs.Near.{in_layer_near, items_near}
 use Rattle.dl_buckets.proofs.Meaning.{scored_alike, alike_own}
 use Rattle.dl_types.proofs.Exposed.{mean_above}

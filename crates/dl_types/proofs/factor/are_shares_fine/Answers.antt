@@ -1,12 +1,5 @@
 -- A share that is refused, or whose denominator passes 2^30 with those before, is not fine.
-use Rattle.dl_types.proofs.Common.{◌≡◌, ◌∙◌, ◌<◌, sym, ap, ap₂, subst, arith, Fraction, whole, ◌/ℚ◌, ◌≤ℚ◌, IsTooFine}
-use Rattle.dl_limits.specs.Limits.{most_parts}
-use Rattle.dl_exact.specs.Multiples.{lcm}
-use Rattle.dl_plan.specs.declared.plan.Unit.{Unit as UnitOfPlan}
-use Rattle.dl_plan.specs.Common.{unit_share}
-use Rattle.dl_plan.specs.Count.{expected_count}
-use Rattle.dl_plan.proofs.CommonDenominators.{lcm_pos, common_from_pos}
-use Rattle.dl_types.specs.Factor.{joined, times_amounts}
+use Rattle.dl_types.proofs.Common.{◌≡◌, ◌∙◌, ◌<◌, sym, ap, ap₂, subst, arith, Fraction, whole, ◌/ℚ◌, ◌≤ℚ◌, IsTooFine, most_parts, lcm, UnitOfPlan, unit_share, expected_count, lcm_pos, common_from_pos, joined, times_amounts}
 use Rattle.dl_types.proofs.FactorShares.{share_within, coarse_part, lcm_reaches, numbers_more, claims_coarse, amounts_more, amounts_coarse}
 use Rattle.dl_types.proofs.factor.are_shares_fine.Goals as goal
 

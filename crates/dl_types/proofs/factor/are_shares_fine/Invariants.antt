@@ -1,9 +1,5 @@
 -- The common multiples of the units so far.
-use Rattle.dl_types.proofs.Common.{◌≡◌, ◌<◌, ◌≤◌, map, take}
-use Rattle.std.proofs.Common.{flat_map}
-use Rattle.dl_limits.specs.Limits.{most_parts}
-use Rattle.dl_plan.specs.Common.{unit_share, shared_probabilities}
-use Rattle.dl_types.specs.Factor.{joined}
+use Rattle.dl_types.proofs.Common.{◌≡◌, ◌<◌, ◌≤◌, map, take, flat_map, most_parts, unit_share, shared_probabilities, joined}
 use Rattle.dl_types.proofs.factor.are_shares_fine.Given as goal
 
 abbrev pub invariant-units : goal.invariant-units

@@ -1,12 +1,6 @@
 -- The tests in the order of the code.
-use Rattle.dl_types.proofs.Common.{◌≡◌, ◌∙◌, true, false, not, map, sym, ap, subst, is_some, Option, Fraction}
-use Rattle.dl_limits.specs.Limits.{most_expected}
-use Rattle.dl_plan.specs.Common.{raised, unit_share, shared_probabilities}
-use Rattle.dl_buckets.specs.Lists.{is_fine, is_zero}
-use Rattle.std.proofs.Common.{flat_map}
-use Rattle.dl_types.specs.Factor.{is_raised_coarse}
-use Rattle.dl_types.specs.Rules.{passes}
-use Rattle.dl_types.proofs.FactorBounds.{bounds_are, last_passes, not_zero, some_admitted}
+use Rattle.dl_types.proofs.Common.{◌≡◌, ◌∙◌, true, false, not, map, sym, ap, subst, is_some, Option, Fraction, most_expected, raised, unit_share, shared_probabilities, is_fine, is_zero, flat_map, is_raised_coarse, passes, ne_eqb}
+use Rattle.dl_types.proofs.FactorBounds.{bounds_are, last_passes, some_admitted}
 use Rattle.dl_types.proofs.factor.passes_bounds.Goals as goal
 
 pub returns : goal.returns
@@ -15,11 +9,10 @@ returns c =
     let v = c.args.expected in
     let h = c.args.above in
     let units = c.args.units.now in
-    let zero : is_zero v ≡ false = not_zero v.num (λ e. c.if-num-eq0.false (c.num.ensures.part ∙ e)) in
+    let zero : is_zero v ≡ false = ne_eqb v.num 0 (λ e. c.if-num-eq0.false (c.num.ensures.part ∙ e)) in
     let coarse : is_raised_coarse r v ≡ false = some_admitted _ (raised r v)
     (subst (λ (o : Option Fraction). is_some o ≡ true) c.raised.ensures c.if-is_none.ensures) in
     ap not c.are_shares_fine.ensures
     ∙ last_passes (is_zero v) (is_raised_coarse r v) (is_raised_coarse r h) (passes (raised r h) most_expected)
     (is_fine (map (unit_share v) units)) (is_fine (flat_map (shared_probabilities v) units)) zero coarse
-    (sym c.if-is_raised_large.ensures)
-    ∙ sym (bounds_are r v h units)
+    (sym c.if-is_raised_large.ensures) ∙ sym (bounds_are r v h units)

@@ -1,6 +1,5 @@
 -- A product that is refused, or whose denominator passes 2^30 with those before, leaves none.
-use Rattle.dl_types.proofs.Common.{◌∙◌, ◌<◌, sym, ap, subst, arith, Fraction, Item}
-use Rattle.dl_plan.proofs.CommonDenominators.{lcm_pos}
+use Rattle.dl_types.proofs.Common.{◌∙◌, ◌<◌, sym, ap, subst, arith, Fraction, Item, lcm_pos}
 use Rattle.dl_types.proofs.FactorShares.{product_is_share, amount_coarse, amount_refused, amount_next}
 use Rattle.dl_types.proofs.factor.with_amounts.Goals as goal
 

@@ -1,7 +1,5 @@
 -- The common multiple of the amounts so far.
-use Rattle.dl_types.proofs.Common.{◌≡◌, ◌<◌, ◌≤◌, map, take, ◌over◌, ◌*ℚ◌, Item}
-use Rattle.dl_limits.specs.Limits.{most_parts}
-use Rattle.dl_types.specs.Factor.{joined}
+use Rattle.dl_types.proofs.Common.{◌≡◌, ◌<◌, ◌≤◌, map, take, ◌over◌, ◌*ℚ◌, Item, most_parts, joined}
 use Rattle.dl_types.proofs.factor.with_amounts.Given as goal
 
 abbrev pub invariant-items : goal.invariant-items

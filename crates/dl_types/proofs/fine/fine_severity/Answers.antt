@@ -1,8 +1,5 @@
 -- The severity is there, and the other fractions are fine.
-use Rattle.dl_types.proofs.Common.{◌∙◌, sym, subst, HasDistribution}
-use Rattle.dl_plan.specs.Severity.{pairs_of}
-use Rattle.dl_buckets.specs.Kept.{IsFineSev}
-use Rattle.dl_buckets.specs.Severity.{KeepsWhole, made_pairs}
+use Rattle.dl_types.proofs.Common.{◌∙◌, sym, subst, HasDistribution, pairs_of, IsFineSev, KeepsWhole, made_pairs}
 use Rattle.dl_buckets.proofs.FineUnits.{keeps_whole, final_means, final_near, final_few}
 use Rattle.dl_types.proofs.FineClaims.{coarse_severity, fine_parts}
 use Rattle.dl_types.proofs.fine.fine_severity.Goals as goal
@@ -27,10 +24,10 @@ returns-in_default c =
 pub returns : goal.returns
 returns c =
     let u = c.args.unit.now in
-    let sev = c.in_ok-made.made in
+    let sev = c.in_ok-final_severity.field-0 in
     let told = rw c.in-Some.is at c.requires.layered in
     let parts = fine_parts u told.0 (sym c.parts_too_fine.ensures ∙ c.if-parts_too_fine.false) in
     let fine : IsFineSev u = record { layered = c.requires.unit; ceded = c.requires.ceded; fine = parts } in
     let means = final_means u fine c.in-Some.layered sev told.1
-    (subst (λ made. HasDistribution sev (made_pairs made (pairs_of c.in-Some.layered))) c.requires.made.occ c.in_ok-made.ensures) in
+    (subst (λ made. HasDistribution sev (made_pairs made (pairs_of c.in-Some.layered))) c.requires.made.occ c.in_ok-final_severity.ensures) in
     (parts, record { means = means; near = final_near u fine sev means; few = final_few u fine sev means })

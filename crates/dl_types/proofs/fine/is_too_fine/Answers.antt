@@ -1,8 +1,5 @@
 -- A clause is made where its shares are fine.
-use Rattle.dl_types.proofs.Common.{◌≡◌, ◌∙◌, Bool, true, false, not, Option, Some, None, refl, sym, ap, GridClause, has_shares}
-use Rattle.dl_buckets.specs.Clauses.{made_of, shares_of}
-use Rattle.dl_buckets.specs.Lists.{is_fine}
-use Rattle.dl_buckets.specs.declared.made.MadeClause.{MadeClause}
+use Rattle.dl_types.proofs.Common.{◌≡◌, ◌∙◌, Bool, true, false, not, Option, Some, None, refl, sym, ap, GridClause, has_shares, made_of, shares_of, is_fine, MadeClause}
 use Rattle.dl_buckets.specs.declared.made.MadeClause.TheVariants.{Missing, TooFine, Whole}
 use Rattle.dl_types.proofs.fine.is_too_fine.Goals as goal
 
@@ -19,11 +16,13 @@ coarse_is (Some c) = by_test (is_fine (shares_of c)) refl
     by_test true e = rw e refl
     by_test false e = rw e refl
 
-pub returns-in-Missing : goal.returns-in-Missing
-returns-in-Missing c = λ o e. ap coarse (sym c.in-Missing.is ∙ e) ∙ coarse_is o
+not_coarse : (made : MadeClause) → (made ≡ TooFine → ⊥) → false ≡ coarse made
+not_coarse Missing other = refl
+not_coarse TooFine other = absurd (other refl)
+not_coarse (Whole clause place) other = refl
 
 pub returns-in-TooFine : goal.returns-in-TooFine
 returns-in-TooFine c = λ o e. ap coarse (sym c.in-TooFine.is ∙ e) ∙ coarse_is o
 
-pub returns-in-Whole : goal.returns-in-Whole
-returns-in-Whole c = λ o e. ap coarse (sym c.in-Whole.is ∙ e) ∙ coarse_is o
+pub returns-in_default : goal.returns-in_default
+returns-in_default c = λ o e. not_coarse c.args.made.now c.in_default.not-TooFine ∙ ap coarse e ∙ coarse_is o

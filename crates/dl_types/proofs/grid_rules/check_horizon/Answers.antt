@@ -1,12 +1,17 @@
--- The clause decides.
-use Rattle.dl_types.proofs.Common.{◌≡◌, ◌∙◌, sym, ap, subst, HorizonTooLarge, breaks, horizon_too_large}
-use Rattle.dl_types.specs.Answer.{TellsFault}
+-- The clause decides, by its horizon.
+use Rattle.dl_types.proofs.Common.{◌≡◌, ◌∙◌, Some, nat_lt, sym, ap, ap₂, subst, at_if, horizon, horizon_is, HorizonTooLarge, breaks, horizon_too_large, same_horizon, TellsFault}
 use Rattle.dl_types.proofs.grid_rules.check_horizon.Goals as goal
 
-pub returns-in-Whole-clause-fault : goal.returns-in-Whole-clause-fault
+pub returns-clause-fault : goal.returns-clause-fault
 unfolding horizon_too_large
-returns-in-Whole-clause-fault c =
-    let place : c.horizon_passes-place.result ≡ horizon_too_large c.args.cells c.args.agr =
-    c.horizon_passes-place.ensures ∙ ap (horizon_too_large c.args.cells) (sym c.in-Whole.is) in
+returns-clause-fault c =
+    let cells = c.args.cells in
+    let clause = c.in-Whole.cede in
+    let same : c.horizon.result ≡ horizon (Some clause) cells =
+    same_horizon (Some clause) cells c.horizon.result _ c.horizon.ensures
+    (horizon_is (Some clause) cells (rw c.in-Whole.is at c.requires)) in
+    let place : c.place_if-place.result ≡ horizon_too_large cells c.args.agr =
+    c.place_if-place.ensures ∙ ap₂ (λ m k. at_if (nat_lt m k) c.in-Whole.span) c.most_horizon.ensures.most same
+    ∙ ap (horizon_too_large cells) (sym c.in-Whole.is) in
     subst (λ p. TellsFault (breaks c.args.number HorizonTooLarge p) c.kept.result) place
     (c.kept.ensures.fault _ c.broken.ensures)

@@ -1,23 +1,19 @@
 -- One more severity is known.
-use Rattle.dl_types.proofs.Common.{[], ◌∷◌, sym, subst, All, All-nil, All-cons}
-use Rattle.std.proofs.lemmas.List.Elements.{All-append}
-use Rattle.dl_types.specs.Known.{IsKnown}
-use Rattle.dl_types.specs.Severities.{named}
+use Rattle.dl_types.proofs.Common.{[], ◌∷◌, sym, subst, All, All-nil, All-cons, All-append, IsKnown, IfSome, IsFormedMixture}
 use Rattle.dl_types.specs.declared.known.KnownSeverity.{KnownSeverity}
-use Rattle.dl_types.proofs.ProgramUnits.{formed_named, mixture_is}
+use Rattle.dl_types.proofs.ProgramUnits.{formed_named}
 use Rattle.dl_types.proofs.known.named_severity.Goals as goal
 
 pub read_mixture-requires-clause-formed : goal.read_mixture-requires-clause-formed
 read_mixture-requires-clause-formed c =
-    mixture_is (named c.args.sevs.now c.args.name.now) c.in-Some-named.mix.now
-    (formed_named c.args.sevs.now c.args.name.now c.requires.defined) c.in-Some-named.ensures.found
+    subst (λ o. IfSome o IsFormedMixture) c.in-Some-named.ensures.found
+    (formed_named c.args.sevs.now c.args.name.now c.requires.defined)
 
 pub returns-clause-known : goal.returns-clause-known
 returns-clause-known c =
     let is = IsKnown c.args.settings.now c.args.sevs.now in
     let one : KnownSeverity = record { name = c.args.name; made = c.in_ok-made.made } in
-    subst (All is) (sym c.in_ok-push.ensures.items)
-    (All-append is c.args.known.now.items (one ∷ []) c.requires.known
+    subst (All is) (sym c.in_ok-push.ensures.items) (All-append is c.args.known.now.items (one ∷ []) c.requires.known
     (All-cons is one [] (record {
       mix = c.in-Some-named.mix.now;
       there = c.in-Some-named.ensures.found;

@@ -1,6 +1,5 @@
 -- The units so far, and their names.
-use Rattle.dl_types.proofs.Common.{◌≡◌, All, map, take, names_of}
-use Rattle.dl_types.specs.Known.{IsKnown}
+use Rattle.dl_types.proofs.Common.{◌≡◌, All, map, take, names_of, IsKnown}
 use Rattle.dl_types.proofs.ProgramUnits.{Planned}
 use Rattle.dl_types.proofs.program.check_units.Given as goal
 

@@ -1,8 +1,7 @@
 -- What the portfolio breaks comes last.
-use Rattle.dl_types.proofs.Common.{Ok, Some, refl, sym, subst, AnswersUnits, IfSome, List}
-use Rattle.dl_plan.specs.Common.{HasCommonFactor}
-use Rattle.dl_plan.specs.declared.plan.Unit.{Unit as UnitOfPlan}
-use Rattle.dl_types.proofs.ProgramUnits.{fault_of_rest, few_units, plan_of_units}
+use Rattle.dl_types.proofs.Common.{Ok, refl, sym, subst, AnswersUnits, IfSome, List, HasCommonFactor, UnitOfPlan, StopsAt, IsCheckOf}
+use Rattle.dl_types.proofs.ProgramUnits.{check_stopped, fault_of_rest, few_units, plan_of_units}
+use Rattle.dl_types.proofs.Stops.{stopped}
 use Rattle.dl_types.proofs.program.planned.Goals as goal
 
 pub shared_shape-requires : goal.shared_shape-requires
@@ -13,20 +12,23 @@ shared_shape-requires c = record {
       (sym c.as_slice.ensures) c.requires.units;
 }
 
-pub returns-in-Err : goal.returns-in-Err
-returns-in-Err c =
-    fault_of_rest c.args.program.now c.args.settings.now (Some c.in-Err.fault) c.args.units c.requires.few c.requires.fresh
-    c.requires.units c.in-Err.ensures.broken
+pub returns-in_err-common : goal.returns-in_err-common
+returns-in_err-common c =
+    let stop = c.in_err-common.field-0.0 in
+    stopped (IsCheckOf c.args.program.now c.args.settings.now) c.from_residual.result stop c.from_residual.ensures
+    (check_stopped c.args.program.now c.args.settings.now stop (subst (λ o. StopsAt o stop)
+    (sym (fault_of_rest c.args.program.now c.args.settings.now c.requires.few c.args.units c.requires.fresh
+    c.requires.units)) c.in_err-common.ensures.fault))
 
-pub returns-in-Ok : goal.returns-in-Ok
-returns-in-Ok c =
+pub returns : goal.returns
+returns c =
     plan_of_units c.args.program.now c.args.settings.now (record {
       bs = c.args.settings.now.bs;
       cells = c.cells.result;
       units = c.args.units;
-      common = c.in-Ok.common;
-    }) refl c.cells.ensures c.in-Ok.ensures.shape
-    (subst (λ (us : List UnitOfPlan). IfSome c.in-Ok.common (λ r. HasCommonFactor r us)) c.as_slice.ensures
-    c.in-Ok.ensures.factor)
+      common = c.in_ok-common.common;
+    }) refl c.cells.ensures c.in_ok-common.ensures.shape
+    (subst (λ (us : List UnitOfPlan). IfSome c.in_ok-common.common (λ r. HasCommonFactor r us)) c.as_slice.ensures
+    c.in_ok-common.ensures.factor)
     c.requires.set c.requires.formed (few_units c.args.program.now.units c.requires.few) c.requires.few c.requires.fresh
-    c.requires.units c.in-Ok.ensures.kept
+    c.requires.units c.in_ok-common.ensures.fault

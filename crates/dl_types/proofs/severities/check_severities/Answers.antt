@@ -1,25 +1,26 @@
 -- The severities in turn.
-use Rattle.dl_types.proofs.Common.{◌∙◌, [], sym, subst, in_turn}
-use Rattle.dl_types.specs.Answer.{StopsAt}
-use Rattle.dl_types.specs.Faults.{fault_of_severity}
-use Rattle.dl_buckets.proofs.Turns.{turn_ended}
-use Rattle.dl_ast.specs.declared.ast.SevDef.{SevDef}
+use Rattle.dl_types.proofs.Common.{◌∙◌, [], ◌∷◌, ◌++◌, ap, sym, subst, in_turn, StopsAt, TellsFault, fault_of_severity, turn_ended, turn_passed, SevDef}
 use Rattle.dl_types.proofs.Naming.{maps_more}
-use Rattle.dl_types.proofs.LaterFaults.{duplicate_told, duplicate_passed}
+use Rattle.dl_types.proofs.Stops.{stopped, turn_stopped, severity_rule}
 use Rattle.dl_types.proofs.severities.check_severities.Goals as goal
 
-pub returns-in-Some : goal.returns-in-Some
-returns-in-Some c =
-    subst (StopsAt (in_turn fault_of_severity [] c.args.sevs.now)) (sym c.duplicate.ensures)
-    (duplicate_told c.args.sevs.now c.sevs.at c.index-sevs-at.result c.sevs.invariant.turned c.sevs-test.true
-    c.index-sevs-at.is c.in-Some.span (sym c.in-Some.is ∙ c.in_ok-span.ensures.place))
+pub returns-in_err-check_name : goal.returns-in_err-check_name
+returns-in_err-check_name c =
+    let stop = c.in_err-check_name.field-0.0 in
+    stopped (TellsFault (in_turn fault_of_severity [] c.args.sevs.now)) c.from_residual.result stop c.from_residual.ensures
+    (turn_stopped fault_of_severity c.args.sevs.now c.sevs.at c.index-sevs-at.result c.sevs.invariant.turned
+    c.sevs-test.true c.index-sevs-at.is stop (subst (λ fault. StopsAt fault stop)
+    (severity_rule c.args.sevs.now c.sevs.at c.index-sevs-at.result _ c.sevs-test.true c.sevs.invariant.names)
+    c.in_err-check_name.ensures.fault))
 
 pub sevs-preserved : goal.sevs-preserved
 sevs-preserved c = record {
-  turned = duplicate_passed c.args.sevs.now c.sevs.at c.index-sevs-at.result c.sevs.invariant.turned c.sevs-test.true
-      c.index-sevs-at.is (sym c.in-None.is ∙ c.in_ok-span.ensures.place);
-  names = c.in_ok-span.ensures.kept c.in-None.is
-      ∙ maps_more c.args.sevs.now c.sevs.at c.index-sevs-at.result c.sevs-test.true c.index-sevs-at.is (λ (v : SevDef). v.name.text);
+  turned = turn_passed fault_of_severity c.args.sevs.now c.sevs.at c.index-sevs-at.result c.sevs.invariant.turned
+      c.sevs-test.true c.index-sevs-at.is (sym c.in_ok-check_name.ensures.fault
+      ∙ severity_rule c.args.sevs.now c.sevs.at c.index-sevs-at.result _ c.sevs-test.true c.sevs.invariant.names);
+  names = c.in_ok-check_name.ensures.names
+      ∙ ap (λ names. names ++ c.index-sevs-at.result.name.text ∷ []) c.sevs.invariant.names ∙ maps_more c.args.sevs.now
+      c.sevs.at c.index-sevs-at.result c.sevs-test.true c.index-sevs-at.is (λ (v : SevDef). v.name.text);
 }
 
 pub returns : goal.returns

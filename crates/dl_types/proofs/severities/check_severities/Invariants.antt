@@ -1,8 +1,5 @@
 -- The severities so far, which have different names, and these.
-use Rattle.dl_types.proofs.Common.{◌≡◌, map, take}
-use Rattle.dl_buckets.proofs.Turns.{NoneTurned}
-use Rattle.dl_types.specs.Faults.{fault_of_severity}
-use Rattle.dl_types.specs.UnitNames.{severity_names}
+use Rattle.dl_types.proofs.Common.{◌≡◌, map, take, NoneTurned, fault_of_severity, severity_names}
 use Rattle.dl_types.proofs.severities.check_severities.Given as goal
 
 abbrev pub invariant-sevs : goal.invariant-sevs

@@ -1,6 +1,5 @@
 -- One severity is compared, and the rest is searched.
-use Rattle.dl_types.proofs.Common.{◌≡◌, ◌∙◌, List, ℕ, sym}
-use Rattle.std.proofs.Common.{rules, ◌≢◌}
+use Rattle.dl_types.proofs.Common.{◌≡◌, ◌∙◌, List, ℕ, sym, rules, ◌≢◌}
 use Rattle.dl_types.proofs.SeverityNames.{named_here, named_later, named_none}
 use Rattle.dl_types.proofs.severities.named.Goals as goal
 

@@ -1,7 +1,5 @@
 -- The rest of the severities has the name that all of them have.
-use Rattle.dl_types.proofs.Common.{◌≡◌}
-use Rattle.std.proofs.Common.{drop}
-unfoldable use Rattle.dl_types.specs.Severities.{named}
+use Rattle.dl_types.proofs.Common.{◌≡◌, drop, named}
 use Rattle.dl_types.proofs.severities.named.Given as goal
 
 abbrev pub invariant-loop-sev : goal.invariant-loop-sev

@@ -1,16 +1,5 @@
 -- What is read tells the faults of the text, and is the unit where there is none.
-use Rattle.dl_types.proofs.Common.{◌≡◌, refl, sym, subst, GridUnit, IsGridUnit, Settings, cells_asked}
-use Rattle.std.specs.Prelude.{IfOk}
-use Rattle.dl_limits.proofs.Scales.{amount_fits}
-use Rattle.dl_ast.specs.declared.ast.MixAst.{MixAst}
-use Rattle.dl_buckets.specs.Flaws.{IsClean, IsRead}
-use Rattle.dl_buckets.specs.Grid.{grid_mixture, grid_of}
-use Rattle.dl_buckets.specs.GridKept.{IsWithin}
-use Rattle.dl_buckets.specs.Reading.{flaws_of_mixture, flaws_of}
-use Rattle.dl_buckets.proofs.GridUnits.{grid_is, within_is}
-use Rattle.dl_types.specs.Answer.{TellsFault}
-use Rattle.dl_types.specs.Faults.{fault_of_text, most_asked}
-use Rattle.dl_types.specs.Known.{IsMixtureRead}
+use Rattle.dl_types.proofs.Common.{◌≡◌, refl, sym, subst, GridUnit, IsGridUnit, Settings, cells_asked, IfOk, amount_fits, MixAst, IsClean, IsRead, grid_mixture, grid_of, IsWithin, flaws_of_mixture, flaws_of, grid_is, within_is, TellsFault, fault_of_text, most_asked, IsMixtureRead}
 use Rattle.dl_types.proofs.Texts.{same_fault, part_keeps, unit_read}
 use Rattle.dl_types.proofs.UnitFacts.{kept_as}
 use Rattle.dl_types.proofs.unit.check_text.Goals as goal

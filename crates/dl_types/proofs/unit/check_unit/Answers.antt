@@ -1,6 +1,8 @@
 -- The mixture that the severity is decides.
+use Rattle.dl_types.proofs.Common.{AnswersUnit}
+use Rattle.dl_types.proofs.Stops.{stopped}
 use Rattle.dl_types.proofs.unit.check_unit.Goals as goal
-use Rattle.dl_types.proofs.ProgramUnits.{answer_as, answer_stopped, answer_with, answer_unknown}
+use Rattle.dl_types.proofs.ProgramUnits.{answer_stopped, answer_with, answer_unknown}
 
 pub check_with-requires-clause-sev : goal.check_with-requires-clause-sev
 check_with-requires-clause-sev c =
@@ -11,7 +13,7 @@ pub returns-in_err-made-in-Some-clause-answer : goal.returns-in_err-made-in-Some
 returns-in_err-made-in-Some-clause-answer c =
     let sev = rw c.in-Some.is at c.in_ok-sev.ensures.read in
     let stop = c.in_err-made-in-Some.field-0.0 in
-    answer_as c.args.settings.now c.args.port.now c.args.sevs.now c.args.before.now c.args.unit.now
+    stopped (AnswersUnit c.args.settings.now c.args.port.now c.args.sevs.now c.args.before.now c.args.unit.now)
     c.from_residual-in_err-made-in-Some.result stop c.from_residual-in_err-made-in-Some.ensures
     (answer_stopped c.args.settings.now c.args.port.now c.args.sevs.now c.args.before.now c.args.unit.now sev.mix stop
     sev.there (c.in_err-made-in-Some.ensures.answer sev.mix sev.read))
@@ -21,7 +23,7 @@ returns-in_ok-made-in-Some-clause-answer c =
     let sev = rw c.in-Some.is at c.in_ok-sev.ensures.read in
     answer_with c.args.settings.now c.args.port.now c.args.sevs.now c.args.before.now c.args.unit.now sev.mix
     c.in_ok-made-in-Some.made c.kept.result sev.there (c.in_ok-made-in-Some.ensures.answer sev.mix sev.read)
-    (rw c.common_unit.ensures at (c.kept.ensures.fault _ c.broken.ensures)) c.kept.ensures.same
+    (rw c.common_unit-place.ensures at (c.kept.ensures.fault _ c.broken.ensures)) c.kept.ensures.same
 
 pub returns-in-None-clause-answer : goal.returns-in-None-clause-answer
 returns-in-None-clause-answer c =

@@ -1,7 +1,5 @@
 -- The parts cut across are in lowest terms.
-use Rattle.dl_types.proofs.Common.{◌∙◌, ap₂, mul-pos, ◌over◌}
-use Rattle.dl_exact.proofs.Parts.{lowest_self, num_pos}
-use Rattle.dl_plan.proofs.Fits.{over_fits, given_ok, given_value}
+use Rattle.dl_types.proofs.Common.{◌∙◌, ap₂, mul-pos, ◌over◌, lowest_self, num_pos, over_fits, given_ok, given_value}
 use Rattle.dl_types.proofs.Ratios.{quotient_lowest, quotient_value}
 use Rattle.dl_types.proofs.ratio.Ratio.of.Goals as goal
 
@@ -21,8 +19,7 @@ invariant_of-result c =
     let tops = given_value _ (c.num.result over c.num-2.result) c.unwrap-up.result c.make.ensures c.unwrap-up.ensures
     ∙ ap₂ (λ n d. n over d) c.num.ensures.part c.num-2.ensures.part in
     let bottoms = given_value _ (c.den.result over c.den-2.result) c.unwrap-down.result c.make-2.ensures
-    c.unwrap-down.ensures
-    ∙ ap₂ (λ n d. n over d) c.den.ensures.part c.den-2.ensures.part in (
+    c.unwrap-down.ensures ∙ ap₂ (λ n d. n over d) c.den.ensures.part c.den-2.ensures.part in (
       quotient_lowest c.args.x c.args.y c.unwrap-up.result c.unwrap-down.result _ _ _ _
           (num_pos c.args.y c.requires) tops bottoms
           c.num-3.ensures.part c.num-4.ensures.part c.den-3.ensures.part c.den-4.ensures.part,
@@ -34,9 +31,7 @@ returns c =
     let tops = given_value _ (c.num.result over c.num-2.result) c.unwrap-up.result c.make.ensures c.unwrap-up.ensures
     ∙ ap₂ (λ n d. n over d) c.num.ensures.part c.num-2.ensures.part in
     let bottoms = given_value _ (c.den.result over c.den-2.result) c.unwrap-down.result c.make-2.ensures
-    c.unwrap-down.ensures
-    ∙ ap₂ (λ n d. n over d) c.den.ensures.part c.den-2.ensures.part in
-    lowest_self _ _ _ _
-    ∙ quotient_value c.args.x c.args.y c.unwrap-up.result c.unwrap-down.result _ _ _ _
+    c.unwrap-down.ensures ∙ ap₂ (λ n d. n over d) c.den.ensures.part c.den-2.ensures.part in
+    lowest_self _ _ _ _ ∙ quotient_value c.args.x c.args.y c.unwrap-up.result c.unwrap-down.result _ _ _ _
     (num_pos c.args.y c.requires) tops bottoms
     c.num-3.ensures.part c.num-4.ensures.part c.den-3.ensures.part c.den-4.ensures.part

@@ -1,6 +1,6 @@
 -- Where a part is too fine, the product is not admitted.
 use Rattle.dl_types.proofs.Common.{◌≡◌, ◌∙◌, Some, true, ap, ap₂, sym, subst, Fraction, ◌over◌, ◌*ℚ◌, whole, IsTooFine, admitted}
-use Rattle.dl_types.proofs.Ratios.{first_too_fine, second_too_fine, product_value, too_fine_refused, nothing_left, nothing_right, zero_admitted, above_zero}
+use Rattle.dl_types.proofs.Ratios.{first_too_fine, second_too_fine, product_value, nothing_left, nothing_right, zero_admitted, above_zero}
 use Rattle.dl_types.proofs.ratio.Ratio.times.Goals as goal
 use Rattle.dl_types.proofs.ratio.Ratio.times.Goals.{then-self-eq0-via-then-self-eq0, then-self-eq0-via-else-self-eq0+then-o-eq0}
 
@@ -27,22 +27,11 @@ returns-in_default-make c =
     (subst IsTooFine (ap₂ (λ n d. n over d) (ap (λ (z : Fraction). z.num) c.o.view_is)
     (ap (λ (z : Fraction). z.den) c.self.view_is)) c.in_default-make.ensures)
 
-pub returns-in-Ok-mul : goal.returns-in-Ok-mul
-returns-in-Ok-mul c =
+pub returns : goal.returns
+returns c =
     let product = ap₂ (λ a b. a *ℚ b)
     (c.in-Ok.ensures.0 ∙ ap₂ (λ n d. n over d) (ap (λ (z : Fraction). z.num) c.self.view_is)
     (ap (λ (z : Fraction). z.den) c.o.view_is))
     (c.in-Ok-make.ensures.0 ∙ ap₂ (λ n d. n over d) (ap (λ (z : Fraction). z.num) c.o.view_is)
-    (ap (λ (z : Fraction). z.den) c.self.view_is))
-    ∙ product_value c.args.self c.args.o in
-    c.admitted.ensures ∙ ap (admitted true) (c.in-Ok-mul.ensures.0 ∙ product)
-
-pub returns-in-Err : goal.returns-in-Err
-returns-in-Err c =
-    let product = ap₂ (λ a b. a *ℚ b)
-    (c.in-Ok.ensures.0 ∙ ap₂ (λ n d. n over d) (ap (λ (z : Fraction). z.num) c.self.view_is)
-    (ap (λ (z : Fraction). z.den) c.o.view_is))
-    (c.in-Ok-make.ensures.0 ∙ ap₂ (λ n d. n over d) (ap (λ (z : Fraction). z.num) c.o.view_is)
-    (ap (λ (z : Fraction). z.den) c.self.view_is))
-    ∙ product_value c.args.self c.args.o in
-    too_fine_refused (c.args.self *ℚ c.args.o) (subst IsTooFine product c.in-Err.ensures)
+    (ap (λ (z : Fraction). z.den) c.self.view_is)) ∙ product_value c.args.self c.args.o in
+    c.small.ensures _ c.mul.ensures ∙ ap (admitted true) product

@@ -1,7 +1,6 @@
 -- One in sixteen is a fraction of small parts.
-use Rattle.dl_types.proofs.Common.{arith, ◌over◌}
-use Rattle.dl_plan.proofs.Fits.{over_fits, given_ok}
-use Rattle.dl_types.proofs.changes.is_no_base.Goals as goal
+use Rattle.dl_types.proofs.Common.{arith, ◌over◌, over_fits, given_ok}
+use Rattle.dl_types.proofs.changes.has_no_base.Goals as goal
 
 pub unwrap-rarest-requires : goal.unwrap-rarest-requires
 unwrap-rarest-requires c =
