@@ -34,8 +34,7 @@ fixed_power (suc m) = ap (convolve (fixed 1)) (fixed_power m) ∙ fun_ext next
 
     next : (n : ℕ) → convolve (fixed 1) (fixed m) n ≡ fixed (suc m) n
     next zero = ap (λ t. t *ℚ fixed m zero) none ∙ zero_times _ ∙ sym (off zero (suc m) (whole 1) (λ e. omega (arith, e)))
-    next (suc n) =
-        none_or_one (fixed 1) (λ i. off (suc (suc i)) 1 (whole 1) (λ e. omega (arith, e))) (fixed m) n
+    next (suc n) = none_or_one (fixed 1) (λ i. off (suc (suc i)) 1 (whole 1) (λ e. omega (arith, e))) (fixed m) n
         ∙ ap₂ (λ s t. s +ℚ t) (ap (λ t. t *ℚ fixed m (suc n)) none ∙ zero_times _)
         (ap (λ t. t *ℚ fixed m n) (on 1 1 (whole 1) refl) ∙ one_times _) ∙ zero_plus _ ∙ fixed_shift m n
 
@@ -99,8 +98,7 @@ module _ (a b : ℕ) (pos : 0 < b) where
       over_same _ _ _ _ (below 1) pos (ap₂ (λ s t. s * t) alone (sym (power_of_one b)))
 
   one_trial_more : (i : ℕ) → binomial 1 a b (suc (suc i)) ≡ whole 0
-  one_trial_more i = over_same _ _ 0 1 (below 1) one_pos
-      (rw (choose-above 1 (suc (suc i)) (omega arith)) (omega arith))
+  one_trial_more i = over_same _ _ 0 1 (below 1) one_pos (rw (choose-above 1 (suc (suc i)) (omega arith)) (omega arith))
 
   pub binomial_power : (m : ℕ) → power (binomial 1 a b) m ≡ binomial m a b
   unfolding power sum_pairs
@@ -111,17 +109,12 @@ module _ (a b : ℕ) (pos : 0 < b) where
       more = pow-suc b m ∙ omega arith
 
       next : (n : ℕ) → convolve (binomial 1 a b) (binomial m a b) n ≡ binomial (suc m) a b n
-      next zero =
-          ap (λ t. t *ℚ binomial m a b zero) one_trial_none
-          ∙ over_mul _ _ _ _ pos (below m)
-          ∙ ap₂ (λ s t. s over t) (sym (numerator_zero m)) (sym more)
-      next (suc n) =
-          none_or_one (binomial 1 a b) one_trial_more (binomial m a b) n
-          ∙ ap₂ (λ s t. s +ℚ t)
-          (ap (λ t. t *ℚ binomial m a b (suc n)) one_trial_none ∙ over_mul _ _ _ _ pos (below m))
-          (ap (λ t. t *ℚ binomial m a b n) one_trial_one ∙ over_mul _ _ _ _ pos (below m))
-          ∙ over_plus _ _ (b * b ^ m) (mul-pos pos (below m))
-          ∙ ap₂ (λ s t. s over t) (sym (numerator_next m n)) (sym more)
+      next zero = ap (λ t. t *ℚ binomial m a b zero) one_trial_none
+          ∙ over_mul _ _ _ _ pos (below m) ∙ ap₂ (λ s t. s over t) (sym (numerator_zero m)) (sym more)
+      next (suc n) = none_or_one (binomial 1 a b) one_trial_more (binomial m a b) n
+          ∙ ap₂ (λ s t. s +ℚ t) (ap (λ t. t *ℚ binomial m a b (suc n)) one_trial_none ∙ over_mul _ _ _ _ pos (below m))
+          (ap (λ t. t *ℚ binomial m a b n) one_trial_one ∙ over_mul _ _ _ _ pos (below m)) ∙ over_plus _ _ (b * b ^ m)
+          (mul-pos pos (below m)) ∙ ap₂ (λ s t. s over t) (sym (numerator_next m n)) (sym more)
 
   -- one trial is a severity of the amounts 0 and 1
   pub trial : a ≤ b → IsSeverity (binomial 1 a b) 1

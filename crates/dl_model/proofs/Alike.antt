@@ -26,9 +26,8 @@ level_trans Q R T a b = (under Q R T a.0 b.0, under T R Q b.1 a.1)
 
 -- sums and products of rising series, by how each rises
 pub level_both : (op : Fraction → Fraction → Fraction)
-    → ((a b c d : Fraction) → a ≤ℚ b → c ≤ℚ d → op a c ≤ℚ op b d)
-    → (Q Q' R R' : Series) → Rises Q → Rises Q' → Rises R → Rises R' → AreLevel Q Q' → AreLevel R R'
-    → AreLevel (λ N. op (Q N) (R N)) (λ N. op (Q' N) (R' N))
+    → ((a b c d : Fraction) → a ≤ℚ b → c ≤ℚ d → op a c ≤ℚ op b d) → (Q Q' R R' : Series) → Rises Q → Rises Q'
+    → Rises R → Rises R' → AreLevel Q Q' → AreLevel R R' → AreLevel (λ N. op (Q N) (R N)) (λ N. op (Q' N) (R' N))
 level_both op grows Q Q' R R' q q' r r' a b = (under Q Q' R R' q' r' a.0 b.0, under Q' Q R' R q r a.1 b.1)
   where
     under : (Q Q' R R' : Series) → Rises Q' → Rises R' → IsUnder Q Q' → IsUnder R R'

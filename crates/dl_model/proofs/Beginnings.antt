@@ -1,13 +1,8 @@
 -- The grids that powers begin from, and counts of no loss.
 use Rattle.dl_model.proofs.Common.{◌≡◌, ℕ, suc, zero, ◌+◌, ◌-◌, ◌<◌, arith, sym, ap, ap₂, subst₂, ◌∙◌, fun_ext, Fraction, ◌over◌, ◌+ℚ◌, ◌*ℚ◌, ◌/ℚ◌, whole, ◌^ℚ◌, choose, sum_to, zero_times, times_zero, times_cancel, div_times, SameValue, at_zero, power, cell, IsPositivePart, fixed, binomial, poisson, gamma, gamma_of, compound, nothing, times_itself, SameCells, refl}
-use Rattle.dl_model.proofs.ValueLaws.{value_sym, sum_at_zero}
-use Rattle.dl_model.proofs.FiniteCounts.{fixed_cell, power_one}
-use Rattle.dl_model.proofs.Itself.{count_power, sum_to_at_zero}
-use Rattle.dl_model.proofs.AddedCounts.{fixed_power, binomial_power, one_trial_none, one_trial_one}
+use Rattle.dl_model.proofs.TotalLaws.{value_sym, sum_at_zero, fixed_cell, power_one, count_power, sum_to_at_zero, fixed_power, binomial_power, one_trial_none, one_trial_one, gamma_zero, gamma_is, thin_gamma, mean_pos}
 use Rattle.dl_model.proofs.PoissonThin.{thin_poisson}
 use Rattle.dl_model.proofs.PoissonTimes.{poisson_none}
-use Rattle.dl_model.proofs.Gamma.{gamma_zero, gamma_is}
-use Rattle.dl_model.proofs.GammaThin.{thin_gamma, mean_pos}
 
 -- ---- exact claims and trials
 
@@ -25,8 +20,7 @@ one_claim_cell f y = fixed_cell 1 f y 1 (omega arith) ∙ ap (λ g. g y) (power_
 pub one_trial_cell : (f : ℕ → Fraction) (a b y : ℕ) → 0 < b
     → cell (binomial 1 a b) f y 1 ≡ (b - a) over b *ℚ at_zero y +ℚ a over b *ℚ f y
 unfolding sum_to power
-one_trial_cell f a b y pos =
-    ap₂ (λ s t. s +ℚ t) (ap (λ p. p *ℚ at_zero y) (one_trial_none a b pos))
+one_trial_cell f a b y pos = ap₂ (λ s t. s +ℚ t) (ap (λ p. p *ℚ at_zero y) (one_trial_none a b pos))
     (ap₂ (λ p q. p *ℚ q) (one_trial_one a b pos) (ap (λ g. g y) (power_one f)))
 
 -- ---- no loss
@@ -39,8 +33,7 @@ none_cell f y N = sum_to_at_zero N (λ n. power f n y)
 none_value : (w v f g : ℕ → Fraction) (y : ℕ) → v ≡ at_zero
     → SameValue (cell w f y) (λ N. sum_to N w) (cell v g y) (λ N. sum_to N v)
     → SameValue (nothing.cells y) nothing.all (cell w f y) (λ N. sum_to N w)
-none_value w v f g y e s =
-    value_sym _ _ _ _ (subst₂ (λ Q R. SameValue (cell w f y) (λ N. sum_to N w) Q R)
+none_value w v f g y e s = value_sym _ _ _ _ (subst₂ (λ Q R. SameValue (cell w f y) (λ N. sum_to N w) Q R)
     (fun_ext (λ N. ap (λ c. cell c g y N) e ∙ none_cell g y N))
     (fun_ext (λ N. ap (λ c. sum_to N c) e ∙ sum_at_zero N)) s)
 

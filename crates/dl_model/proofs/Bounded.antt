@@ -1,10 +1,7 @@
 -- Every quantity of declared losses is bounded, their whole weight is somewhere above 0, and their probabilities add up
 -- to 1.
-use Rattle.dl_model.proofs.Common.{◌≡◌, ℕ, zero, ◌+◌, ◌-◌, ◌≤◌, max, Bool, true, false, nat_eq, nat_lt, nat_le, arith, sym, ap, subst, ◌∙◌, List, [], ◌∷◌, sum, get_or, le-max_left, le-max_right, le-ltb, Fraction, ◌+ℚ◌, ◌-ℚ◌, ◌*ℚ◌, ◌/ℚ◌, ◌≤ℚ◌, ◌<ℚ◌, whole, ring, plus_comm, zero_plus, times_zero, times_one, one_times, whole_pos, one_pos, le_refl, le_trans, le_of_eq, zero_le, le_plus, plus_le_both, times_pos, lt_of_lt_of_le, times_le_both, whole_le, sum_over, sum_to_zero, IsBound, AtLeast, Settles, layer, Loss, fun_ext, AreDeclarable, One, Point, Cdf, Mean, Layer, Tail, Joint, where_true, score, sum_over_outcomes, partial_sums, survival, AreDeclared, item_le_total, layer_le, Quantity, Price, Part, Share, PricedTerm, IsAsked, ArePriced, times_plus, order}
-use Rattle.dl_model.proofs.Declared.{rises_to}
-use Rattle.dl_model.proofs.Outcomes.{loss_proper, outcomes_same, outcomes_plus, outcomes_times, outcomes_le, outcomes_rise, sum-cons, total_more_all, mean_more}
-use Rattle.dl_model.proofs.Scores.{survival_rest}
-use Rattle.dl_model.proofs.TailScores.{rest_pos, div_is_times}
+use Rattle.dl_model.proofs.Common.{◌≡◌, ℕ, zero, ◌+◌, ◌-◌, ◌≤◌, max, Bool, true, false, nat_eq, nat_lt, nat_le, arith, sym, ap, subst, ◌∙◌, List, [], ◌∷◌, sum, get_or, le-max_left, le-max_right, le-ltb, Fraction, ◌+ℚ◌, ◌-ℚ◌, ◌*ℚ◌, ◌/ℚ◌, ◌≤ℚ◌, ◌<ℚ◌, whole, ring, plus_comm, zero_plus, times_zero, times_one, one_times, whole_pos, one_pos, le_refl, le_trans, le_of_eq, zero_le, le_plus, plus_le_both, times_pos, lt_of_lt_of_le, times_le_both, whole_le, sum_over, sum_to_zero, IsBound, AtLeast, Settles, layer, Loss, fun_ext, AreDeclarable, One, Point, Cdf, Mean, Layer, Tail, Joint, where_true, score, sum_over_outcomes, partial_sums, survival, AreDeclared, item_le_total, layer_le, Quantity, Series, Rises, Price, Part, Share, PricedTerm, IsAsked, ArePriced, times_plus, order}
+use Rattle.dl_model.proofs.TotalLaws.{rises_to, loss_proper, outcomes_same, outcomes_plus, outcomes_times, outcomes_le, outcomes_rise, sum-cons, total_more_all, mean_more, survival_rest, cdf_grows, rest_pos, div_is_times}
 use Rattle.dl_model.proofs.SettlesGamma.{settles_times}
 
 pub are_units : (us : List Loss) → AreDeclared us → AreDeclarable us
@@ -140,8 +137,7 @@ whole_positive (u ∷ us) h =
 
 one_settles : (us : List Loss) → AreDeclared us → Settles (partial_sums us One)
 unfolding sum_over_outcomes
-one_settles [] h =
-    λ p q one qp. (zero, λ N. rw (times_one, ← one) (le_plus p q))
+one_settles [] h = λ p q one qp. (zero, λ N. rw (times_one, ← one) (le_plus p q))
 one_settles (u ∷ us) h =
     subst Settles (sym (fun_ext (total_more_all u us h.0.loss)))
     (settles_times u.family.all (partial_sums us One) (loss_proper u h.0.loss).all_rises
@@ -173,3 +169,22 @@ adds_up us p q h one pos =
     let all : partial_sums us (Cdf x) s.0 ≡ partial_sums us One s.0 = sym (zero_plus _)
     ∙ ap (λ t. t +ℚ partial_sums us (Cdf x) s.0) (sym nothing_left) ∙ survival_rest us x s.0 in
     (x, λ n u b. le_trans _ _ _ (s.1 n) (subst (λ t. t ≤ℚ u) all (b s.0)))
+
+-- ---- together
+
+-- What D declares is bounded, above 0 somewhere, and adds up to 1; nothing falls.
+pub record IsDistribution (D : Quantity → Series) : Type 0 where
+  pub bounded : (quantity : Quantity) → IsAsked quantity → (u : Fraction) × IsBound (D quantity) u
+  pub positive : (N : ℕ) × (whole 0 <ℚ D One N)
+  pub adds_up : (p q : Fraction) → p +ℚ q ≡ whole 1 → whole 0 <ℚ q → (x : ℕ) × AtLeast (D (Cdf x)) (D One) p
+  pub grows : (x y N : ℕ) → x ≤ y → D (Cdf x) N ≤ℚ D (Cdf y) N
+  pub rises : Rises (D One)
+
+pub losses_distribution : (us : List Loss) → AreDeclared us → IsDistribution (partial_sums us)
+losses_distribution us h = record {
+  bounded = λ quantity. quantity_bounded us quantity h;
+  positive = whole_positive us h;
+  adds_up = λ p q. adds_up us p q h;
+  grows = cdf_grows us;
+  rises = outcomes_rise us (are_units us h) (score One);
+}

@@ -40,14 +40,7 @@ module _ (phi : Quantity → Series) (grows : (x y N : ℕ) → x ≤ y → phi 
 -- ---- of units
 
 pub quantile_inside : (us : List Loss) (e p : Fraction) (k q lo : ℕ) (hi : Option ℕ) → AreDeclarable us
-    → IsBound (partial_sums us One) e → whole 0 <ℚ partial_sums us One k
-    → IsQuantile (partial_sums us) q p → IsBracketed (partial_sums us) lo hi p
-    → (lo ≤ q) × ((x : ℕ) → hi ≡ Some x → q ≤ x)
+    → IsBound (partial_sums us One) e → whole 0 <ℚ partial_sums us One k → IsQuantile (partial_sums us) q p
+    → IsBracketed (partial_sums us) lo hi p → (lo ≤ q) × ((x : ℕ) → hi ≡ Some x → q ≤ x)
 quantile_inside us e p k q lo hi w b pos =
     bracket_holds (partial_sums us) (cdf_grows us) (outcomes_rise us w (score One)) e k b pos p q lo hi
-
-pub quantile_one : (us : List Loss) (e p : Fraction) (k q q' : ℕ) → AreDeclarable us
-    → IsBound (partial_sums us One) e → whole 0 <ℚ partial_sums us One k
-    → IsQuantile (partial_sums us) q p → IsQuantile (partial_sums us) q' p → q ≡ q'
-quantile_one us e p k q q' w b pos =
-    one_quantile (partial_sums us) (cdf_grows us) (outcomes_rise us w (score One)) e k b pos p q q'

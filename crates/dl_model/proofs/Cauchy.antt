@@ -22,18 +22,15 @@ pub triangle_le_square : (n m : ℕ) (h : ℕ → ℕ → Fraction) → n ≤ m
     → sum_to n (λ s. sum_pairs s h) ≤ℚ sum_to n (λ i. sum_to m (h i))
 unfolding sum_to sum_pairs
 triangle_le_square zero m h b = sum_to_grows zero m (h zero) b
-triangle_le_square (suc n) m h b =
-    subst₂ (λ s t. s ≤ℚ t) (sym (triangle_first n h)) (sym (sum_to_first n (λ i. sum_to m (h i))))
-    (plus_le_both _ _ _ _ (sum_to_grows (suc n) m (h zero) b)
+triangle_le_square (suc n) m h b = subst₂ (λ s t. s ≤ℚ t) (sym (triangle_first n h))
+    (sym (sum_to_first n (λ i. sum_to m (h i)))) (plus_le_both _ _ _ _ (sum_to_grows (suc n) m (h zero) b)
     (triangle_le_square n m (λ i j. h (suc i) j) (omega arith)))
 
 pub square_le_triangle : (n m : ℕ) (h : ℕ → ℕ → Fraction)
     → sum_to n (λ i. sum_to m (h i)) ≤ℚ sum_to (n + m) (λ s. sum_pairs s h)
 unfolding sum_to
-square_le_triangle zero m h =
-    rw (zero-add m) (sum_to_le m _ _ (λ s b. pair_le_sum s h))
-square_le_triangle (suc n) m h =
-    subst₂ (λ s t. s ≤ℚ t) (sym (sum_to_first n (λ i. sum_to m (h i))))
+square_le_triangle zero m h = rw (zero-add m) (sum_to_le m _ _ (λ s b. pair_le_sum s h))
+square_le_triangle (suc n) m h = subst₂ (λ s t. s ≤ℚ t) (sym (sum_to_first n (λ i. sum_to m (h i))))
     (sym (ap (λ k. sum_to k (λ s. sum_pairs s h)) (suc-add n m) ∙ triangle_first (n + m) h))
     (plus_le_both _ _ _ _ (sum_to_grows m (suc (n + m)) (h zero) (omega arith))
     (square_le_triangle n m (λ i j. h (suc i) j)))
@@ -68,7 +65,6 @@ by_total value a b p q far pa pb h =
 
 -- a sum over all i + j up to a level that both stay below
 pub sum_convolve : (f g : ℕ → Fraction) (m n k : ℕ) → ((i : ℕ) → m < i → f i ≡ whole 0)
-    → ((j : ℕ) → n < j → g j ≡ whole 0) → m + n ≤ k
-    → sum_to k (convolve f g) ≡ sum_to m f *ℚ sum_to n g
+    → ((j : ℕ) → n < j → g j ≡ whole 0) → m + n ≤ k → sum_to k (convolve f g) ≡ sum_to m f *ℚ sum_to n g
 sum_convolve f g m n k pf pg h =
     sym (simp one_times at (by_total (λ x. whole 1) f g m n k pf pg h)) ∙ sum_to_times_right m (sum_to n g) f

@@ -1,9 +1,7 @@
 -- The loss of a unit with a changed probability of no claim: that it can be declared, its mean, and its ends.
 use Rattle.dl_model.proofs.Common.{◌≡◌, ℕ, suc, zero, ◌*◌, ◌<◌, ◌≤◌, arith, sym, ap, refl, subst, ◌∙◌, false, Fraction, whole, ◌+ℚ◌, ◌-ℚ◌, ◌*ℚ◌, ◌/ℚ◌, ◌≤ℚ◌, ◌<ℚ◌, plus_comm, plus_zero, zero_times, times_zero, le_trans, le_plus, sum_to, sum_to_same, sum_to_le, sum_to_grows, AtLeast, Holds, Rises, Aggregate, IsDeclarable, IsDeclared, IsDeclaredLoss, Loss, IsLoss, loss, outcome, mean_to_reach, without_none, with_claims, changed, changed_end, IsWithNone, fun_ext, order}
-use Rattle.dl_model.proofs.ValueLaws.{sum_rises_to, off, on}
-use Rattle.dl_model.proofs.UnitLaws.{unit_within, unit_loss, unit_proper}
+use Rattle.dl_model.proofs.TotalLaws.{sum_rises_to, off, on, unit_within, unit_loss, unit_proper, sub_zero, clause_with_none, changed_zero_holds, changed_holds, changed_lows, weights_apart, with_none_rises, with_none_all, with_none_mean}
 use Rattle.dl_model.proofs.UnitLosses.{unit_declared_loss}
-use Rattle.dl_model.proofs.ChangedZero.{sub_zero, clause_with_none, changed_zero_holds, changed_holds, changed_lows, weights_apart, with_none_rises, with_none_all, with_none_mean}
 use Rattle.dl_model.proofs.SomeClaim.{claims_count}
 
 pub unit_with_none : (u : Aggregate) → IsDeclarable u → (y : ℕ) → IsWithNone y (u.count zero) (outcome u y)
@@ -11,8 +9,7 @@ pub unit_with_none : (u : Aggregate) → IsDeclarable u → (y : ℕ) → IsWith
 unit_with_none u h y = clause_with_none u.count u.severity u.clause u.most y (omega (arith, h.clause 0))
 
 mean_rises : (u : Loss) → IsLoss u → Rises (mean_to_reach u)
-mean_rises u h N = le_trans _ _ _
-    (sum_to_le (u.reach N) _ _ (λ y b. grw (order, h.cells_rise y N)))
+mean_rises u h N = le_trans _ _ _ (sum_to_le (u.reach N) _ _ (λ y b. grw (order, h.cells_rise y N)))
     (sum_to_grows (u.reach N) (u.reach (suc N)) _ (h.reach_rises N))
 
 module _ (p : Fraction) (u : Aggregate) (h : IsDeclared u) where
@@ -104,11 +101,10 @@ module _ (p : Fraction) (u : Aggregate) (h : IsDeclared u) where
   none_within : (N : ℕ) → u.count zero ≤ℚ outcome u zero N
   none_within N = rw ((unit_with_none u h.unit zero).outcome N, on 0 0 (u.count zero) refl, plus_comm) (le_plus _ _)
 
-  pub unit_changed_lows : (none_low none_high : Fraction) (k : ℕ) (low : ℕ → Fraction) → p ≤ℚ whole 1
-      → ((y : ℕ) → y ≤ k → AtLeast (outcome u y) (λ N. sum_to N u.count) (low y))
-      → AtLeast (λ N. u.count zero) (λ N. sum_to N u.count) none_low
-      → none_low ≤ℚ none_high → none_low <ℚ whole 1 → sum_to k low ≤ℚ whole 1
-      → sum_to k (λ y. changed_end p y (low y) none_high none_low) ≤ℚ whole 1
+  pub unit_changed_lows : (none_low none_high : Fraction) (k : ℕ) (low : ℕ → Fraction)
+      → p ≤ℚ whole 1 → ((y : ℕ) → y ≤ k → AtLeast (outcome u y) (λ N. sum_to N u.count) (low y))
+      → AtLeast (λ N. u.count zero) (λ N. sum_to N u.count) none_low → none_low ≤ℚ none_high → none_low <ℚ whole 1
+      → sum_to k low ≤ℚ whole 1 → sum_to k (λ y. changed_end p y (low y) none_high none_low) ≤ℚ whole 1
   unit_changed_lows none_low none_high k low within lows none_held order below add_up =
       changed_lows (u.count zero) none_low none_high h.count.bound k h.count.level (outcome u)
       (λ N. sum_to N u.count) low (unit_loss u h.unit).cells_rise (sum_rises_to u.count) h.count.bounded

@@ -122,8 +122,7 @@ pub none_apart : (w f : ℕ → Fraction) (N : ℕ) → sum_to N (λ n. w n *ℚ
     ≡ sum_to N (λ n. without_none w n *ℚ f n) +ℚ w zero *ℚ f zero
 unfolding sum_to without_none
 none_apart w f zero = sym (ap (λ t. t +ℚ w zero *ℚ f zero) (zero_times _) ∙ zero_plus _)
-none_apart w f (suc N) = ap (λ t. t +ℚ w (suc N) *ℚ f (suc N)) (none_apart w f N)
-    ∙ plus_assoc _ _ _ ∙ plus_swap _ _ _
+none_apart w f (suc N) = ap (λ t. t +ℚ w (suc N) *ℚ f (suc N)) (none_apart w f N) ∙ plus_assoc _ _ _ ∙ plus_swap _ _ _
 
 pub weights_apart : (w : ℕ → Fraction) (N : ℕ) → sum_to N w ≡ sum_to N (without_none w) +ℚ w zero
 weights_apart w N = simp times_one at (none_apart w (λ n. whole 1) N)

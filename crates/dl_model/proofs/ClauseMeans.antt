@@ -1,12 +1,9 @@
 -- The mean of a unit after its aggregate clause, from the layers of the sum of its claims.
-use Rattle.dl_model.proofs.Common.{◌≡◌, ℕ, ◌*◌, ◌/◌, List, [], ◌∷◌, ◌++◌, Bool, true, false, arith, refl, sym, ap, ap₂, subst, subst₂, ◌∙◌, sum, if◌then◌else◌, IfSome, All, fun_ext, ◌∣◌, dec_dvd, div-one, dvd-mul_left, All-head, All-tail, Fraction, whole, ◌over◌, ◌+ℚ◌, ◌-ℚ◌, ◌*ℚ◌, ◌≤ℚ◌, sum_to, sum_over, over_self, plus_assoc, plus_zero, zero_plus, times_comm, times_zero, sub_plus, sum_to_same, Sev, common_amount, greatest, probability_of, pairs_of, mean_amount, Clause, layer, kept, expected_count, IsAggregate, IsValidUnit, Holds, cell, Series, IsDeclarable, Loss, AreDeclared, loss, One, Mean, score, sum_over_outcomes, partial_sums, total, Encloses, IsDeclared, count_weights, outcome_after, aggregate_of, compound_of, ceded, claims_of, mean_ceded}
+use Rattle.dl_model.proofs.Common.{◌≡◌, ℕ, ◌*◌, ◌/◌, List, [], ◌∷◌, ◌++◌, Bool, true, false, arith, refl, sym, ap, ap₂, subst, subst₂, ◌∙◌, sum, if◌then◌else◌, IfSome, All, fun_ext, ◌∣◌, dec_dvd, div-one, dvd-mul_left, All-head, All-tail, Fraction, whole, ◌over◌, ◌+ℚ◌, ◌-ℚ◌, ◌*ℚ◌, ◌≤ℚ◌, sum_to, sum_over, over_self, plus_assoc, plus_zero, zero_plus, times_comm, times_zero, sub_plus, sum_to_same, Sev, common_amount, greatest, probability_of, pairs_of, mean_amount, Clause, layer, kept, expected_count, IsAggregate, IsValidUnit, Holds, cell, Series, IsDeclarable, Loss, AreDeclared, loss, One, Mean, score, sum_over_outcomes, partial_sums, total, Encloses, IsDeclared, count_weights, outcome_after, aggregate_of, compound_of, ceded, claims_of, mean_ceded, UnitOfPlan}
 use Rattle.std.proofs.Common.{Some, None}
 use Rattle.dl_plan.specs.declared.cede.CedeLayer.{CedeLayer}
-use Rattle.dl_plan.specs.declared.plan.Unit.{Unit as UnitOfPlan}
 use Rattle.dl_plan.specs.Fine.{IsWhole}
-use Rattle.dl_model.proofs.ValueLaws.{holds_plus, scaled, none_holds, holds_minus, encloses_same}
-use Rattle.dl_model.proofs.UnitLaws.{unit_loss, unit_plain}
-use Rattle.dl_model.proofs.Outcomes.{outcomes_same, outcomes_none, outcomes_plus, outcomes_times, outcomes_rise, sum-cons, total_alone, total_alone_all, mean_alone}
+use Rattle.dl_model.proofs.TotalLaws.{holds_plus, scaled, none_holds, holds_minus, encloses_same, unit_loss, unit_plain, outcomes_same, outcomes_none, outcomes_plus, outcomes_times, outcomes_rise, sum-cons, total_alone, total_alone_all, mean_alone}
 use Rattle.dl_model.proofs.UnitLosses.{clause_mean, unit_declared_loss}
 use Rattle.dl_model.proofs.Bounded.{are_units, quantity_bounded}
 use Rattle.dl_model.proofs.PlanUnits.{kept_within, unit_declared}
@@ -48,8 +45,7 @@ pub claims_mean : (cells : ℕ) (u : UnitOfPlan) → IsValidUnit cells u
 claims_mean cells u h = plain_mean u.freq u.sev (λ s. s) (claims_declared cells u h).unit h.count (λ s. refl)
 
 -- what a sum counts for weighs its cell
-claims_score : (u : UnitOfPlan) → IsDeclarable (claims_of u) → (g : ℕ → Fraction) (N : ℕ)
-    → counted u g N
+claims_score : (u : UnitOfPlan) → IsDeclarable (claims_of u) → (g : ℕ → Fraction) (N : ℕ) → counted u g N
     ≡ sum_to (N * greatest u.sev.items) (λ s. g s *ℚ cell (count_weights u.freq) (probability_of u.sev) s N)
 unfolding sum_over_outcomes
 claims_score u is g N = sum_to_same _ _ _ (λ y b.
@@ -67,8 +63,7 @@ unfolding sum_over
 ceded_alone l x = plus_zero _
 
 pub alone_ceded : (u : UnitOfPlan) (l : CedeLayer) (m n : Fraction)
-    → Counted u (λ s. whole (layer l.limit l.attach s)) m n
-    → Counted u (ceded (l ∷ [])) (l.share *ℚ m) (l.share *ℚ n)
+    → Counted u (λ s. whole (layer l.limit l.attach s)) m n → Counted u (ceded (l ∷ [])) (l.share *ℚ m) (l.share *ℚ n)
 alone_ceded u l m n v =
     let P : List ℕ → Fraction = λ ys. whole (layer l.limit l.attach (sum ys)) in
     let same : mean_ceded u (l ∷ []) ≡ (λ N. l.share *ℚ sum_over_outcomes (claims u) P N) =

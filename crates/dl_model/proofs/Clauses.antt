@@ -1,8 +1,6 @@
 -- A unit after its aggregate clause, from a grid of the sums before it.
 use Rattle.dl_model.proofs.Common.{◌≡◌, inl, inr, ℕ, suc, ◌+◌, ◌-◌, ◌*◌, ◌<◌, ◌≤◌, min, Bool, true, false, nat_eq, arith, refl, sym, ap, ap₂, subst, subst₂, ◌∙◌, eq-eqb, if◌then◌else◌, fun_ext, min-eq_right, cases_lt, Fraction, whole, ◌over◌, ◌+ℚ◌, sum_to, plus_zero, zero_plus, plus_comm, sum_to_same, sum_to_plus, sum_to_longer, sum_to_either, Series, IsBound, AtMost, AtLeast, Holds, cell, Aggregate, IsDeclarable, where_true, outcome, compound, mapped, Encloses, min-eq_left, count_below, to_over, over_rest, over_one, over_zero}
-use Rattle.dl_model.proofs.ValueLaws.{none_holds, where_rises, at_least_rest, at_most_rest, cell_past, cells_all, sum_rises_to, cell_at_most_one, off}
-use Rattle.dl_model.proofs.UnitLaws.{unit_proper}
-use Rattle.dl_model.proofs.Ends.{to_rises, to_holds, part_most_one}
+use Rattle.dl_model.proofs.TotalLaws.{none_holds, where_rises, at_least_rest, at_most_rest, cell_past, cells_all, sum_rises_to, cell_at_most_one, off, unit_proper, to_rises, to_holds, part_most_one}
 
 not : Bool → Bool
 not true = false

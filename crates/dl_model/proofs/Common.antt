@@ -1,18 +1,23 @@
 -- The names that the proofs of this crate cite most, passed on from one place, and what `grw` may use on an order.
-pub use Rattle.std.proofs.Common.{Bool, List, Option, [], ap, ap₂, arith, eq-eqb, false, inl, inr, length, map, max, min, mul-le-mul_right, mul-pos, nat_eq, nat_le, nat_lt, ne_eqb, pow-suc, refl, subst, subst₂, suc, suc-add, sym, true, zero, zero-add, ℕ, ◌*◌, ◌++◌, ◌+◌, ◌-◌, ◌/◌, ◌<◌, ◌^◌, ◌∙◌, ◌∷◌, ◌≡◌, ◌≢◌, ◌≤◌, div-mul-le_self, le-mul_of_pos_right, mul-le-mul, ◌↔◌, ◌⊎◌}
+pub use Rattle.std.proofs.Common.{Bool, List, Option, [], ap, ap₂, arith, eq-eqb, false, inl, inr, length, map, max, min, mul-le-mul_right, mul-pos, nat_eq, nat_le, nat_lt, ne_eqb, pow-suc, refl, subst, subst₂, suc, suc-add, sym, true, zero, zero-add, ℕ, ◌*◌, ◌++◌, ◌+◌, ◌-◌, ◌/◌, ◌<◌, ◌^◌, ◌∙◌, ◌∷◌, ◌≡◌, ◌≢◌, ◌≤◌, div-mul-le_self, le-mul_of_pos_right, mul-le-mul, ◌↔◌, ◌⊎◌, add-one, add-zero, drop, fold, take}
 pub use Rattle.std.proofs.Math.Decide.{dec_dvd}
-pub use Rattle.std.proofs.Math.Nat.{div-one, dvd-mul_left, le-max_left, le-max_right, min-eq_right, one-le-pow, pow-zero, zero-lt-suc, div-add-mod, dvd-add_iff_right, eq_of_mul-eq-mul_left, lt_of_mul-lt-mul_left, min-eq_left}
+pub use Rattle.std.proofs.Math.Nat.{div-one, dvd-mul_left, le-max_left, le-max_right, min-eq_right, one-le-pow, pow-zero, zero-lt-suc, div-add-mod, dvd-add_iff_right, eq_of_mul-eq-mul_left, lt_of_mul-lt-mul_left, min-eq_left, div-le_of_le-mul, eq-zero-or-pos, le_refl as le_refl_n, pow-succ'}
 pub use Rattle.std.proofs.lemmas.Bool.{cases_eq, cases_lt, le-ltb, lt-ltb, le-leb, lt-leb}
 pub use Rattle.std.proofs.lemmas.List.Elements.{All-head, All-tail, All-cons, All-filter, All-nil}
 pub use Rattle.std.proofs.lemmas.List.Sums.{sum_by-cons}
-pub use Rattle.std.proofs.lemmas.Nat.{pow_pos}
+pub use Rattle.std.proofs.lemmas.Nat.{pow_pos, mul-pow}
 pub use Rattle.std.specs.Prelude.{All, IfSome, None, Some, get_or, if◌then◌else◌, sum, ◌==◌, count_by}
 pub use Prim.Native.Nat.{◌∣◌}
 pub use mathlib.Core.Path.{fun_ext}
 pub use native.Mathlib.Decide.{le_ind}
+pub use Rattle.dl_model.specs.Recursion.{Recursion, from_before}
+pub use Rattle.dl_model.specs.Shares.{HoldsShare, unit_mean}
+pub use Rattle.dl_plan.specs.declared.plan.Unit.{Unit as UnitOfPlan}
+pub use Rattle.std.proofs.lemmas.Bool.Decides.{eqb_tells, nat_tests}
+unfoldable pub use Rattle.dl_model.specs.Ways.{ways}
 pub use Rattle.dl_exact.proofs.Denominators.{over_plus, over_zero, over_one, over_pos, over_rest, over_times}
 pub use Rattle.dl_exact.proofs.Laws.{archimedes, div_pos, div_times, le_antisymm, le_div, le_of_eq, le_of_lt, le_plus, le_refl, le_sub, le_trans, lt_gap, lt_not_le, lt_of_lt_of_le, lt_or_le, one_pos, one_times, plus_assoc, plus_cancel, plus_comm, plus_le_both, plus_le_cancel, plus_times, plus_zero, ring, sub_plus, times_assoc, times_cancel, times_comm, times_le_both, times_le_cancel, times_le_times, times_left_comm, times_one, times_plus, times_pos, times_zero, whole_plus, whole_pos, whole_suc, zero_le, zero_or_pos, zero_plus, zero_times, lt_of_le_of_lt, over_times_whole, plus_le_from_sub, plus_le_plus, pos_of_inverse, sub_le_both, sub_nothing, whole_times}
-pub use Rattle.dl_exact.proofs.Over.{le_over, over_le, over_mul, over_same, over_self, over_add}
+pub use Rattle.dl_exact.proofs.Over.{le_over, over_le, over_mul, over_same, over_self, over_add, over_cross, over_div, over_lt, over_sub}
 pub use Rattle.dl_exact.proofs.Powers.{pow_plus, factorial_pos, pow_times}
 pub use Rattle.dl_exact.proofs.RoundingLaws.{whole_le}
 pub use Rattle.dl_exact.proofs.Sums.{halving_bound, item_le_sum, sum_pairs_assoc, sum_pairs_none, sum_pairs_plus, sum_pairs_same, sum_pairs_sum_to, sum_pairs_times, sum_pairs_times_right, sum_pairs_turn, sum_pairs_weighed, sum_to_either, sum_to_first, sum_to_grows, sum_to_le, sum_to_longer, sum_to_none, sum_to_plus, sum_to_product, sum_to_same, sum_to_swap, sum_to_times, sum_to_times_right, sum_to_zero, sum_below_constant, sum_over_map, sum_over_same, sum_over_times, sum_pairs_first, sum_pairs_last, sum_pairs_le, sum_pairs_swap, sum_to_pairs}
@@ -25,7 +30,7 @@ unfoldable pub use Rattle.dl_exact.specs.Sum.{sum_below, sum_over, sum_pairs, su
 pub use Rattle.dl_plan.proofs.Clauses.{num_le_den, bucket_pos, kept_is, layer_le}
 pub use Rattle.dl_plan.proofs.Means.{total_pos, positive_share, weight_at-le}
 pub use Rattle.dl_plan.specs.Clause.{Clause, kept, layer, IsClause, ceded}
-pub use Rattle.dl_plan.specs.Count.{expected_count}
+pub use Rattle.dl_plan.specs.Count.{expected_count, IsClaimCount as IsCountOfPlan, IsUnbounded}
 pub use Rattle.dl_plan.specs.Severity.{mean_amount, pairs_of, probability_of, HasDistribution, Pairs, conditioned, mass, probability, shares}
 pub use Rattle.dl_plan.specs.Valid.{IsAggregate, IsValidUnit, IsNewZero, IsValid}
 pub use Rattle.dl_plan.specs.Weighted.{common_amount, greatest, weight_at, weight_sum, IsWeighted, weighted_sum}

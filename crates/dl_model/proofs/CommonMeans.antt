@@ -1,21 +1,12 @@
 -- The mean under a common factor: the sum of the means of the units.
-use Rattle.dl_model.proofs.Common.{◌≡◌, ℕ, suc, ◌≤◌, arith, sym, ap, ap₂, subst, ◌∙◌, List, [], ◌∷◌, All, Fraction, whole, ◌+ℚ◌, ◌*ℚ◌, ◌/ℚ◌, ◌<ℚ◌, ring, sum_to, sum_over, sum_to_same, sum_to_plus, sum_to_times, times_zero, plus_times, zero_times, div_times, total_pos, greatest, pairs_of, mean_amount, probability_of, expected_count, IsValidUnit, Holds, One, Mean, partial_sums, loss_of, map, declared_mean, CanShare, HasCommonFactor, expected_of, mean-shares, common_sums, pooled_severity, expected_claims, poisson_units, fun_ext, sum_to_none, times_right_comm}
-use Rattle.dl_plan.specs.declared.plan.Unit.{Unit as UnitOfPlan}
-use Rattle.dl_model.proofs.ValueLaws.{ends_in_order, holds_wider}
+use Rattle.dl_model.proofs.Common.{◌≡◌, ℕ, suc, ◌≤◌, arith, ap, ap₂, subst, ◌∙◌, List, [], ◌∷◌, All, Fraction, whole, ◌+ℚ◌, ◌*ℚ◌, ◌/ℚ◌, ◌<ℚ◌, ring, sum_to, sum_over, sum_to_same, sum_to_plus, sum_to_times, times_zero, plus_times, zero_times, div_times, pairs_of, mean_amount, probability_of, expected_count, IsValidUnit, Holds, One, Mean, partial_sums, loss_of, map, declared_mean, CanShare, HasCommonFactor, expected_of, common_sums, pooled_severity, expected_claims, poisson_units, fun_ext, sum_to_none, times_right_comm, UnitOfPlan}
+use Rattle.dl_model.proofs.TotalLaws.{ends_in_order, holds_wider, outcomes_rise}
 use Rattle.dl_model.proofs.Bounded.{are_units, quantity_bounded, whole_positive}
-use Rattle.dl_model.proofs.ItemWeights.{shares_mean}
-use Rattle.dl_model.proofs.Outcomes.{outcomes_rise}
+use Rattle.dl_model.proofs.ItemWeights.{severity_mean}
 use Rattle.dl_model.proofs.PooledLoss.{common_mean}
 use Rattle.dl_model.proofs.PlanUnits.{units_declared}
 use Rattle.dl_model.proofs.PlanMeans.{MeanHolds, unit_mean, units_mean}
 use Rattle.dl_model.proofs.CommonPlans.{expected_units, are_severities, pooled_over, greatest_of, pooled_past, some}
-
--- up to any number from the greatest amount on
-one_mean : (u : UnitOfPlan) (far : ℕ) → greatest u.sev.items ≤ far
-    → sum_to far (λ j. whole j *ℚ probability_of u.sev j) ≡ mean_amount (pairs_of u.sev)
-one_mean u far near =
-    let pos = total_pos u.sev.items u.sev.total u.sev.weighted in
-    shares_mean u.sev.items u.sev.total far pos near ∙ sym (mean-shares u.sev.items u.sev.total pos)
 
 -- the mean of a claim of whatever unit, times the number of all
 mixed_mean : (v : Fraction) → whole 0 <ℚ v → (units : List UnitOfPlan) (far : ℕ) → greatest_of units ≤ far
@@ -29,7 +20,7 @@ mixed_mean v pos (u ∷ us) far near =
     ap (λ t. t *ℚ v) (sum_to_same far _ (λ j. share *ℚ (whole j *ℚ probability_of u.sev j) +ℚ whole j *ℚ rest j)
     (λ j b. (simp ring)) ∙ sum_to_plus far _ _ ∙ ap (λ t. t +ℚ sum_to far (λ j. whole j *ℚ rest j))
     (sum_to_times far share (λ j. whole j *ℚ probability_of u.sev j)
-    ∙ ap (λ m. share *ℚ m) (one_mean u far (omega (arith, near)))))
+    ∙ ap (λ m. share *ℚ m) (severity_mean u.sev far (omega (arith, near)))))
     ∙ plus_times _ _ v ∙ ap₂ (λ s t. s +ℚ t) (times_right_comm share _ v
     ∙ ap (λ t. t *ℚ mean_amount (pairs_of u.sev)) (div_times (expected_count u.freq) v pos))
     (mixed_mean v pos us far (omega (arith, near)))
@@ -48,9 +39,8 @@ module _ (units : List UnitOfPlan) (q : ℕ) (factor : HasCommonFactor (suc q) u
       (common_sums (suc q) (poisson_units units) One)
       (sum_over units declared_mean) (sum_over units declared_mean)
   shared_mean = subst (λ m. Holds (common_sums (suc q) (poisson_units units) Mean)
-      (common_sums (suc q) (poisson_units units) One) m m) claims_mean
-      (common_mean q (poisson_units units) (some units q factor) (are_severities units) (greatest_of units)
-      (pooled_past units))
+      (common_sums (suc q) (poisson_units units) One) m m) claims_mean (common_mean q (poisson_units units)
+      (some units q factor) (are_severities units) (greatest_of units) (pooled_past units))
 
 -- units that can share a factor have their means alone
 each_mean : (cells : ℕ) (units : List UnitOfPlan) → All (IsValidUnit cells) units → All CanShare units

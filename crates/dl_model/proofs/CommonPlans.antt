@@ -1,9 +1,10 @@
 -- Plans whose units share a common factor: what they declare is bounded, above 0 somewhere, and adds up to 1.
-use Rattle.dl_model.proofs.Common.{◌≡◌, ℕ, zero, suc, ◌<◌, ◌≤◌, max, arith, refl, ap, ◌∙◌, List, [], ◌∷◌, Option, None, Some, IfSome, Fraction, whole, ◌*ℚ◌, ◌/ℚ◌, ◌<ℚ◌, sum_over, times_zero, plus_zero, lt_gap, greatest, probability_of, expected_count, IsBound, AtLeast, Rises, Series, One, Cdf, IsQuantile, sum_over_map, Plan, HasCommonFactor, expected_of, Quantity, IsAsked, IsBracketed, PoissonUnit, expected_claims, common_sums, pooled_severity, AreSeverities, poisson_unit, poisson_units, declared, declared_by}
-use Rattle.dl_plan.specs.declared.plan.Unit.{Unit as UnitOfPlan}
+use Rattle.dl_model.proofs.Common.{◌≡◌, ℕ, zero, suc, ◌<◌, ◌≤◌, max, arith, refl, ap, ◌∙◌, List, [], ◌∷◌, Option, None, Some, IfSome, Fraction, whole, ◌*ℚ◌, ◌/ℚ◌, ◌<ℚ◌, sum_over, times_zero, plus_zero, greatest, probability_of, expected_count, Series, One, IsQuantile, sum_over_map, Plan, HasCommonFactor, expected_of, Quantity, IsBracketed, IsValid, aggregates_of, PoissonUnit, expected_claims, common_sums, pooled_severity, AreSeverities, poisson_unit, poisson_units, declared, declared_by, UnitOfPlan}
 use Rattle.dl_model.proofs.ItemWeights.{shares_severity}
-use Rattle.dl_model.proofs.PooledLoss.{common_bounded, common_positive, common_rises, common_grows, common_whole, common_quantile}
-use Rattle.dl_model.proofs.Bracket.{bracket_holds}
+use Rattle.dl_model.proofs.PooledLoss.{common_distribution}
+use Rattle.dl_model.proofs.Bracket.{bracket_holds, one_quantile}
+use Rattle.dl_model.proofs.Bounded.{IsDistribution, losses_distribution}
+use Rattle.dl_model.proofs.PlanUnits.{plan_declared}
 
 -- ---- the units as units under a common factor
 
@@ -40,44 +41,13 @@ pub pooled_past : (units : List UnitOfPlan) (a : ℕ) → greatest_of units < a
     → pooled_severity (poisson_units units) a ≡ whole 0
 pooled_past units a far = pooled_over units a ∙ none_past (expected_of units) units a far
 
--- ---- what they declare
-
 module _ (units : List UnitOfPlan) (q : ℕ) (factor : HasCommonFactor (suc q) units) where
-  abbrev pub us : List PoissonUnit
-  us = poisson_units units
-
-  pub some : whole 0 <ℚ expected_claims us
+  pub some : whole 0 <ℚ expected_claims (poisson_units units)
   some = rw (expected_units units) factor.some
 
-  abbrev pub D : Quantity → Series
-  D = common_sums (suc q) us
-
-  abbrev M : ℕ
-  M = greatest_of units
-
-  pub shared_bounded : (quantity : Quantity) → IsAsked quantity → (u : Fraction) × IsBound (D quantity) u
-  shared_bounded = common_bounded q us some (are_severities units) M (pooled_past units)
-
-  pub shared_positive : (N : ℕ) × (whole 0 <ℚ D One N)
-  shared_positive = common_positive q us some (are_severities units) M (pooled_past units)
-
-  pub shared_whole : (p : Fraction) → p <ℚ whole 1 → (x : ℕ) × AtLeast (D (Cdf x)) (D One) p
-  shared_whole p below =
-      let rest = lt_gap p (whole 1) below in
-      common_whole q us some (are_severities units) M (pooled_past units) p rest.0 rest.2 rest.1
-
-  pub shared_quantile : (p : Fraction) (x x' : ℕ) → IsQuantile D x p → IsQuantile D x' p → x ≡ x'
-  shared_quantile = common_quantile q us some (are_severities units) M (pooled_past units)
-
-  pub shared_rises : Rises (D One)
-  shared_rises = common_rises q us some (are_severities units) M (pooled_past units)
-
-  pub shared_inside : (p : Fraction) (x lo : ℕ) (hi : Option ℕ) → IsQuantile D x p → IsBracketed D lo hi p
-      → (lo ≤ x) × ((y : ℕ) → hi ≡ Some y → x ≤ y)
-  shared_inside p x lo hi quantile bracket =
-      let bound = shared_bounded One tt in
-      bracket_holds D (common_grows q us some (are_severities units) M (pooled_past units)) shared_rises bound.0
-      shared_positive.0 bound.1 shared_positive.1 p x lo hi quantile bracket
+  pub shared_distribution : IsDistribution (common_sums (suc q) (poisson_units units))
+  shared_distribution =
+      common_distribution q (poisson_units units) some (are_severities units) (greatest_of units) (pooled_past units)
 
 -- ---- by the factor that a plan has, or has not
 
@@ -93,3 +63,17 @@ pub by_factor : (P : (Quantity → Series) → Type 0) (common : Option ℕ) (un
 by_factor P None units factor none some = none
 by_factor P (Some zero) units factor none some = absurd (omega (arith, factor.some_shape))
 by_factor P (Some (suc q)) units factor none some = some q factor
+
+pub plan_distribution : (plan : Plan) → IsValid plan → IsDistribution (declared plan)
+plan_distribution plan h = by_factor IsDistribution plan.common plan.units h.common
+    (losses_distribution (aggregates_of plan) (plan_declared plan h)) (shared_distribution plan.units)
+
+-- ---- quantiles
+
+module _ (D : Quantity → Series) (d : IsDistribution D) (p : Fraction) where
+  pub inside : (q lo : ℕ) (hi : Option ℕ) → IsQuantile D q p → IsBracketed D lo hi p
+      → (lo ≤ q) × ((x : ℕ) → hi ≡ Some x → q ≤ x)
+  inside = bracket_holds D d.grows d.rises (d.bounded One tt).0 d.positive.0 (d.bounded One tt).1 d.positive.1 p
+
+  pub at_most_one : (q q' : ℕ) → IsQuantile D q p → IsQuantile D q' p → q ≡ q'
+  at_most_one = one_quantile D d.grows d.rises (d.bounded One tt).0 d.positive.0 (d.bounded One tt).1 d.positive.1 p

@@ -1,6 +1,5 @@
 -- Sums of a number of claims: what they can come to, and that their probabilities add up to 1.
-use Rattle.dl_model.proofs.Common.{ℕ, ◌≡◌, ◌+◌, ◌*◌, ◌<◌, ◌≤◌, zero, suc, arith, refl, ap, ap₂, ◌∙◌, inl, inr, le_ind, cases_lt, Fraction, whole, ◌+ℚ◌, ◌*ℚ◌, sum_to, sum_pairs, plus_zero, zero_times, times_zero, times_one, le_trans, le_of_eq, sum_to_same, sum_to_times, sum_to_swap, sum_to_grows, sum_pairs_same, sum_to_zero, sum_to_longer, sum_pairs_none, at_zero, power, cell, IsWithinOne, IsSeverity, order, convolve}
-use Rattle.std.proofs.Math.Nat.{mul-le-mul_right}
+use Rattle.dl_model.proofs.Common.{ℕ, ◌≡◌, ◌+◌, ◌*◌, ◌<◌, ◌≤◌, zero, suc, arith, refl, ap, ap₂, ◌∙◌, inl, inr, le_ind, cases_lt, Fraction, whole, ◌+ℚ◌, ◌*ℚ◌, sum_to, sum_pairs, plus_zero, zero_times, times_zero, times_one, le_trans, le_of_eq, sum_to_same, sum_to_times, sum_to_swap, sum_to_grows, sum_pairs_same, sum_to_zero, sum_to_longer, sum_pairs_none, at_zero, power, cell, IsWithinOne, IsSeverity, order, convolve, mul-le-mul_right}
 use Rattle.dl_model.proofs.Cauchy.{cauchy_low, sum_convolve}
 
 pub sum_at_zero : (y : ℕ) → sum_to y at_zero ≡ whole 1
@@ -11,8 +10,7 @@ sum_at_zero (suc y) = ap (λ t. t +ℚ whole 0) (sum_at_zero y) ∙ plus_zero _
 pub power_within_one : (f : ℕ → Fraction) → IsWithinOne f → (n : ℕ) → IsWithinOne (power f n)
 unfolding power
 power_within_one f h zero y = le_of_eq _ _ (sum_at_zero y)
-power_within_one f h (suc n) y =
-    le_trans _ _ _ (cauchy_low y f (power f n))
+power_within_one f h (suc n) y = le_trans _ _ _ (cauchy_low y f (power f n))
     (grw (order, h y, power_within_one f h n y) (le_of_eq _ _ (times_one _)))
 
 -- ---- severities whose probabilities add up to 1
@@ -39,8 +37,7 @@ pub power_past : (f : ℕ → Fraction) (m : ℕ) → ((j : ℕ) → m < j → f
 unfolding power at_zero
 power_past f m past zero zero h = absurd (omega (arith, h))
 power_past f m past zero (suc s) h = refl
-power_past f m past (suc n) s h =
-    convolve_past f (power f n) m (n * m) s past (power_past f m past n) (omega arith)
+power_past f m past (suc n) s h = convolve_past f (power f n) m (n * m) s past (power_past f m past n) (omega arith)
 
 -- n claims of such a severity have such a severity again
 pub power_severity : (f : ℕ → Fraction) (m : ℕ) → IsSeverity f m → (n : ℕ) → IsSeverity (power f n) (n * m)
@@ -79,8 +76,7 @@ pub no_power : (f : ℕ → Fraction) → f zero ≡ whole 0 → (n s : ℕ) →
 unfolding power sum_pairs
 no_power f z zero s h = absurd (omega arith)
 no_power f z (suc n) zero h = ap (λ t. t *ℚ power f n zero) z ∙ zero_times _
-no_power f z (suc n) (suc s) h =
-    ap₂ (λ x y. x +ℚ y) (simp (z, zero_times)) (sum_pairs_same s _ (λ i j. whole 0)
+no_power f z (suc n) (suc s) h = ap₂ (λ x y. x +ℚ y) (simp (z, zero_times)) (sum_pairs_same s _ (λ i j. whole 0)
     (λ i j e. simp (no_power f z n j (omega arith), times_zero)) ∙ sum_pairs_none s) ∙ plus_zero _
 
 -- from N = y on the cell at y does not change

@@ -1,13 +1,8 @@
 -- The counts that can be declared: finite counts, trials, Poisson and gamma counts.
 use Rattle.dl_model.proofs.Common.{ℕ, suc, zero, ◌*◌, ◌<◌, ◌≤◌, arith, subst, Fraction, ◌+ℚ◌, ◌*ℚ◌, ◌/ℚ◌, whole, ◌^ℚ◌, sum_to, one_pos, times_one, whole_pos, le_plus, times_zero, power, IsSeverity, fixed, binomial, poisson, gamma_of, AreCountWeights, le_of_eq, order}
-use Rattle.dl_model.proofs.FiniteCounts.{bounded_by_all, fixed_sum}
-use Rattle.dl_model.proofs.CompoundLaws.{power_severity, severity_within_one}
-use Rattle.dl_model.proofs.AddedCounts.{fixed_past, binomial_power, trial}
-use Rattle.dl_model.proofs.PoissonWeights.{poisson_zero, poisson_bound}
+use Rattle.dl_model.proofs.TotalLaws.{bounded_by_all, fixed_sum, power_severity, severity_within_one, fixed_past, binomial_power, trial, poisson_zero, poisson_bound, gamma_of_least, parts_one, rest_part_pos, gamma_zero}
 use Rattle.dl_model.proofs.Settles.{poisson_settles}
 use Rattle.dl_model.proofs.SettlesGamma.{gamma_settles}
-use Rattle.dl_model.proofs.GammaThin.{gamma_of_least, parts_one, rest_part_pos}
-use Rattle.dl_model.proofs.Gamma.{gamma_zero}
 use Rattle.dl_model.proofs.CountMeans.{poisson_mean, gamma_mean}
 
 -- ---- finitely many claims

@@ -1,15 +1,8 @@
 -- The expected numbers of claims.
-use Rattle.dl_model.proofs.Common.{◌≡◌, ℕ, suc, zero, ◌*◌, ◌<◌, ◌≤◌, nat_eq, refl, sym, ap, ap₂, subst, ◌∙◌, Fraction, ◌over◌, ◌+ℚ◌, ◌*ℚ◌, ◌/ℚ◌, ◌≤ℚ◌, whole, sum_to, ring, zero_times, times_zero, zero_plus, times_one, one_times, le_refl, le_of_eq, zero_le, sum_to_same, sum_to_first, sum_to_times, Series, Holds, IsSeverity, power, fixed, binomial, poisson, gamma, gamma_of, Series, times_left_comm}
-use Rattle.dl_model.proofs.CompoundLaws.{severity_within_one}
-use Rattle.std.proofs.Math.Nat.{le_refl as le_refl_n}
-use Rattle.dl_model.proofs.ValueLaws.{pick, times_where, power_severity, times_self, IsUnder, AreLevel, level_same, same_value, sum_rises_to}
-use Rattle.dl_model.proofs.AddedCounts.{fixed_past, binomial_power, trial, one_trial_one}
+use Rattle.dl_model.proofs.Common.{◌≡◌, ℕ, suc, zero, ◌*◌, ◌<◌, ◌≤◌, nat_eq, refl, sym, ap, ap₂, subst, ◌∙◌, Fraction, ◌over◌, ◌+ℚ◌, ◌*ℚ◌, ◌/ℚ◌, ◌≤ℚ◌, whole, sum_to, ring, zero_times, times_zero, zero_plus, times_one, one_times, le_refl, le_of_eq, zero_le, sum_to_same, sum_to_first, sum_to_times, Series, Holds, IsSeverity, power, fixed, binomial, poisson, gamma, gamma_of, Series, times_left_comm, le_refl_n}
+use Rattle.dl_model.proofs.TotalLaws.{severity_within_one, pick, times_where, power_severity, times_self, IsUnder, AreLevel, level_same, same_value, sum_rises_to, fixed_past, binomial_power, trial, one_trial_one, holds_reached, bounded_by_all, fixed_sum, next_of, gamma_of_least, shape_times, gamma_next, gamma_shift}
 use Rattle.dl_model.proofs.Means.{power_mean}
 use Rattle.dl_model.proofs.Least.{least_from, least_scaled, least_iff, most_iff}
-use Rattle.dl_model.proofs.FiniteCounts.{holds_reached, bounded_by_all, fixed_sum}
-use Rattle.dl_model.proofs.PoissonWeights.{next_of}
-use Rattle.dl_model.proofs.GammaThin.{gamma_of_least, shape_times}
-use Rattle.dl_model.proofs.Gamma.{gamma_next, gamma_shift}
 
 -- each number times its weight, summed
 abbrev counted : (ℕ → Fraction) → Series
@@ -21,10 +14,9 @@ HasMean w v = Holds (λ N. sum_to N (λ n. whole n *ℚ w n)) (λ N. sum_to N w)
 
 -- a count of finitely many claims
 pub finite_mean : (w : ℕ → Fraction) (far : ℕ) → IsSeverity w far → HasMean w (sum_to far (λ n. whole n *ℚ w n))
-finite_mean w far h =
-    holds_reached (counted w) (λ N. sum_to N w) (sum_to far (λ n. whole n *ℚ w n)) _ _ far refl
-    (bounded_by_all far (λ n. whole n *ℚ w n) (λ n b. simp (h.past n b, times_zero)))
-    h.add_up (severity_within_one w far h) (le_refl _) (le_refl _)
+finite_mean w far h = holds_reached (counted w)
+    (λ N. sum_to N w) (sum_to far (λ n. whole n *ℚ w n)) _ _ far refl (bounded_by_all far (λ n. whole n *ℚ w n)
+    (λ n b. simp (h.past n b, times_zero))) h.add_up (severity_within_one w far h) (le_refl _) (le_refl _)
 
 counted_none : (w : ℕ → Fraction) → counted w zero ≡ whole 0
 unfolding sum_to

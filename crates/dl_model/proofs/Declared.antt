@@ -60,9 +60,8 @@ at_most_plus Q Q' R h h' a a' n u b = rw (plus_times h h' u) (plus_le_both _ _ _
 
 pub at_least_shifted : (Q R : Series) (l : Fraction) → AtLeast Q R l → (v w : Fraction) → ((m : ℕ) → Q m +ℚ v ≤ℚ w)
     → (n : ℕ) → l *ℚ R n +ℚ v ≤ℚ w
-at_least_shifted Q R l a v w h n =
-    plus_le_from_sub _ _ _ (le_trans _ _ _ (le_plus v (Q zero)) (rw (plus_comm v) (h zero)))
-    (a n (w -ℚ v) (λ m. le_sub _ _ _ (h m)))
+at_least_shifted Q R l a v w h n = plus_le_from_sub _ _ _ (le_trans _ _ _ (le_plus v (Q zero))
+    (rw (plus_comm v) (h zero))) (a n (w -ℚ v) (λ m. le_sub _ _ _ (h m)))
 
 pub at_least_plus : (Q Q' R : Series) (l l' : Fraction) → Rises Q → Rises Q' → AtLeast Q R l → AtLeast Q' R l'
     → AtLeast (plus Q Q') R (l +ℚ l')
@@ -79,9 +78,8 @@ pub holds_plus : (Q Q' R : Series) (l l' h h' : Fraction) → Rises Q → Rises 
     → Holds (plus Q Q') R (l +ℚ l') (h +ℚ h')
 holds_plus Q Q' R l l' h h' r r' a b = (at_least_plus Q Q' R l l' r r' a.0 b.0, at_most_plus Q Q' R h h' a.1 b.1)
 
-pub holds_times : (Q R Q' R' : Series) (l l' h h' : Fraction) → Rises Q → Rises R → Rises Q' → Rises R' → Holds Q R l h
-    → Holds Q' R' l' h'
-    → Holds (times Q Q') (times R R') (l *ℚ l') (h *ℚ h')
+pub holds_times : (Q R Q' R' : Series) (l l' h h' : Fraction) → Rises Q → Rises R
+    → Rises Q' → Rises R' → Holds Q R l h → Holds Q' R' l' h' → Holds (times Q Q') (times R R') (l *ℚ l') (h *ℚ h')
 holds_times Q R Q' R' l l' h h' q r q' r' a b =
     (at_least_times Q R Q' R' l l' q q' a.0 b.0, at_most_times Q R Q' R' h h' r r' a.1 b.1)
 

@@ -17,8 +17,7 @@ divided_none f n s e = times_cancel _ _ (whole (factorial n)) (whole_pos (factor
 
 pub convolve_divided : (t f : ℕ → Fraction) (n s : ℕ)
     → convolve t (divided_power f n) s *ℚ whole (factorial n) ≡ convolve t (power f n) s
-convolve_divided t f n s =
-    sym (sum_pairs_times_right s (whole (factorial n)) (λ i j. t i *ℚ divided_power f n j))
+convolve_divided t f n s = sym (sum_pairs_times_right s (whole (factorial n)) (λ i j. t i *ℚ divided_power f n j))
     ∙ sum_pairs_same s _ _ (λ i j e. times_assoc _ _ _ ∙ ap (λ x. t i *ℚ x) (divided_whole f n j))
 
 -- n + 1 times a divided power is the convolution with the one before
@@ -52,8 +51,7 @@ convolve_plus_left f g h s = simp (plus_times, sum_pairs_plus)
 
 pub convolve_pairs : (f : ℕ → Fraction) (n s : ℕ) (h : ℕ → ℕ → ℕ → Fraction)
     → convolve f (λ t. sum_pairs n (λ j k. h j k t)) s ≡ sum_pairs n (λ j k. convolve f (h j k) s)
-convolve_pairs f n s h =
-    sum_pairs_same s _ _ (λ a b e. sym (sum_pairs_times n (f a) (λ j k. h j k b)))
+convolve_pairs f n s h = sum_pairs_same s _ _ (λ a b e. sym (sum_pairs_times n (f a) (λ j k. h j k b)))
     ∙ sum_pairs_swap s n (λ a b j k. f a *ℚ h j k b)
 
 -- ---- the binomial law

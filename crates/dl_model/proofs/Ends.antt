@@ -12,21 +12,17 @@ below_rises zero P r N = le_refl _
 below_rises (suc n) P r N = plus_le_both _ _ _ _ (below_rises n P r N) (r n N)
 
 pub below_least : (n : ℕ) (P : ℕ → Series) (R : Series) (l : ℕ → Fraction) → ((i : ℕ) → Rises (P i))
-    → ((i : ℕ) → i < n → AtLeast (P i) R (l i))
-    → AtLeast (λ N. sum_below n (λ i. P i N)) R (sum_below n l)
+    → ((i : ℕ) → i < n → AtLeast (P i) R (l i)) → AtLeast (λ N. sum_below n (λ i. P i N)) R (sum_below n l)
 unfolding sum_below
 below_least zero P R l r a = λ n u b. subst (λ t. t ≤ℚ u) (sym (zero_times (R n))) (zero_le u)
 below_least (suc n) P R l r a =
-    at_least_plus (λ N. sum_below n (λ i. P i N)) (P n) R (sum_below n l) (l n) (below_rises n P r) (r n)
-    (below_least n P R l r (λ i c. a i (omega arith))) (a n (omega arith))
+    at_least_plus _ _ R _ _ (below_rises n P r) (r n) (below_least n P R l r (λ i c. a i (omega arith))) (a n (omega arith))
 
 pub below_most : (n : ℕ) (P : ℕ → Series) (R : Series) (h : ℕ → Fraction) → ((i : ℕ) → i < n → AtMost (P i) R (h i))
     → AtMost (λ N. sum_below n (λ i. P i N)) R (sum_below n h)
 unfolding sum_below
 below_most zero P R h a = λ n u b. zero_le _
-below_most (suc n) P R h a =
-    at_most_plus (λ N. sum_below n (λ i. P i N)) (P n) R (sum_below n h) (h n)
-    (below_most n P R h (λ i c. a i (omega arith))) (a n (omega arith))
+below_most (suc n) P R h a = at_most_plus _ _ R _ _ (below_most n P R h (λ i c. a i (omega arith))) (a n (omega arith))
 
 pub below_holds : (n : ℕ) (P : ℕ → Series) (R : Series) (l h : ℕ → Fraction) → ((i : ℕ) → Rises (P i))
     → ((i : ℕ) → i < n → Holds (P i) R (l i) (h i))
@@ -49,8 +45,7 @@ pub to_rises : (n : ℕ) (P : ℕ → Series) → ((i : ℕ) → Rises (P i)) �
 to_rises n P r = subst Rises (fun_ext (λ N. to_below n (λ i. P i N))) (below_rises (suc n) P r)
 
 pub to_holds : (n : ℕ) (P : ℕ → Series) (R : Series) (l h : ℕ → Fraction) → ((i : ℕ) → Rises (P i))
-    → ((i : ℕ) → i ≤ n → Holds (P i) R (l i) (h i))
-    → Holds (λ N. sum_to n (λ i. P i N)) R (sum_to n l) (sum_to n h)
+    → ((i : ℕ) → i ≤ n → Holds (P i) R (l i) (h i)) → Holds (λ N. sum_to n (λ i. P i N)) R (sum_to n l) (sum_to n h)
 to_holds n P R l h r a = subst (λ Q. Holds Q R (sum_to n l) (sum_to n h)) (fun_ext (λ N. to_below n (λ i. P i N)))
     (subst₂ (Holds (λ N. sum_below (suc n) (λ i. P i N)) R) (to_below n l) (to_below n h)
     (below_holds (suc n) P R l h r (λ i b. a i (omega arith))))
@@ -79,11 +74,10 @@ above_ends us x l h l' h' v w b e f a =
 
 -- ---- the layer without a limit, from the mean
 
-pub excess_ends : (us : List Loss) (A : ℕ) (l h m n l' h' v : Fraction) → AreDeclarable us
-    → IsBound (partial_sums us One) v
-    → Holds (partial_sums us Mean) (partial_sums us One) m n
-    → Holds (partial_sums us (Layer (Some A) 0)) (partial_sums us One) l h → l' +ℚ h ≤ℚ m → n ≤ℚ h' +ℚ l
-    → Holds (partial_sums us (Layer None A)) (partial_sums us One) l' h'
+pub excess_ends : (us : List Loss) (A : ℕ) (l h m n l' h' v : Fraction)
+    → AreDeclarable us → IsBound (partial_sums us One) v → Holds (partial_sums us Mean) (partial_sums us One) m n
+    → Holds (partial_sums us (Layer (Some A) 0)) (partial_sums us One) l h
+    → l' +ℚ h ≤ℚ m → n ≤ℚ h' +ℚ l → Holds (partial_sums us (Layer None A)) (partial_sums us One) l' h'
 excess_ends us A l h m n l' h' v w b a c e f =
     let L = partial_sums us (Layer None A) in
     let B = partial_sums us (Layer (Some A) 0) in

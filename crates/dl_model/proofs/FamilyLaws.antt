@@ -2,7 +2,7 @@
 use Rattle.dl_model.proofs.Common.{◌≡◌, ℕ, suc, zero, ◌+◌, ◌*◌, ◌/◌, ◌^◌, ◌<◌, ◌≤◌, List, length, min, arith, refl, sym, ap, subst, subst₂, ◌∙◌, mul-pos, inl, inr, mul-le-mul_right, fun_ext, min-eq_right, cases_lt, pow_pos, Fraction, whole, ◌over◌, ◌*ℚ◌, ◌^ℚ◌, sum_to, sum_pairs, over_le, one_pos, le_refl, le_trans, le_of_eq, plus_le_both, le_plus, one_times, times_one, times_le_both, sum_to_le, sum_to_times, sum_to_swap, item_le_sum, Series, Rises, AtMost, AtLeast, Holds, times, at_zero, power, IsWithinOne, count_pairs, Family, compound, product, nothing, times_itself, IsProper, Encloses, pairs_in_units, pow_plus, ◌⊎◌, div-mul-le_self, div_ceil, Iv, low_at, high_at, GridEncloses, above, order}
 use Rattle.std.proofs.lemmas.Grind.{div_ceil_times}
 use Rattle.dl_grid.specs.Convolution.{IsConvolution}
-use Rattle.dl_model.proofs.Declared.{at_most_plus, at_least_plus, at_most_times, at_least_times, at_most_wider, at_least_wider}
+use Rattle.dl_model.proofs.Declared.{at_most_plus, at_least_plus, at_most_wider, at_least_wider, holds_times}
 use Rattle.dl_model.proofs.Cauchy.{cauchy_low}
 use Rattle.dl_model.proofs.CompoundLaws.{sum_at_zero, power_within_one}
 use Rattle.dl_model.proofs.Powers.{power_plus, at_zero_convolve, convolve_comm}
@@ -19,21 +19,23 @@ pub sum_at_most : (n : ℕ) (P : ℕ → ℕ → Series) (R : Series) (h : ℕ �
     → ((i j : ℕ) → i + j ≡ n → AtMost (P i j) R (h i j)) → AtMost (λ N. sum_pairs n (λ i j. P i j N)) R (sum_pairs n h)
 unfolding sum_pairs
 sum_at_most zero P R h a = a zero zero (omega arith)
-sum_at_most (suc n) P R h a =
-    at_most_plus (P zero (suc n)) (λ N. sum_pairs n (λ i j. P (suc i) j N)) R _ _ (a zero (suc n) (omega arith))
+sum_at_most (suc n) P R h a = at_most_plus _ _ R _ _ (a zero (suc n) (omega arith))
     (sum_at_most n (λ i j. P (suc i) j) R (λ i j. h (suc i) j) (λ i j e. a (suc i) j (omega arith)))
 
 pub sum_at_least : (n : ℕ) (P : ℕ → ℕ → Series) (R : Series) (l : ℕ → ℕ → Fraction)
-    → ((i j : ℕ) → i + j ≡ n → Rises (P i j))
-    → ((i j : ℕ) → i + j ≡ n → AtLeast (P i j) R (l i j))
+    → ((i j : ℕ) → i + j ≡ n → Rises (P i j)) → ((i j : ℕ) → i + j ≡ n → AtLeast (P i j) R (l i j))
     → AtLeast (λ N. sum_pairs n (λ i j. P i j N)) R (sum_pairs n l)
 unfolding sum_pairs
 sum_at_least zero P R l r a = a zero zero (omega arith)
-sum_at_least (suc n) P R l r a =
-    at_least_plus (P zero (suc n)) (λ N. sum_pairs n (λ i j. P (suc i) j N)) R _ _ (r zero (suc n) (omega arith))
-    (sum_rises n (λ i j. P (suc i) j) (λ i j e. r (suc i) j (omega arith))) (a zero (suc n) (omega arith))
-    (sum_at_least n (λ i j. P (suc i) j) R (λ i j. l (suc i) j) (λ i j e. r (suc i) j (omega arith))
-    (λ i j e. a (suc i) j (omega arith)))
+sum_at_least (suc n) P R l r a = at_least_plus _ _ R _ _ (r zero (suc n) (omega arith))
+    (sum_rises n (λ i j. P (suc i) j) (λ i j e. r (suc i) j (omega arith)))
+    (a zero (suc n) (omega arith)) (sum_at_least n (λ i j. P (suc i) j) R (λ i j. l (suc i) j)
+    (λ i j e. r (suc i) j (omega arith)) (λ i j e. a (suc i) j (omega arith)))
+
+pub sum_holds : (n : ℕ) (P : ℕ → ℕ → Series) (R : Series) (l h : ℕ → ℕ → Fraction)
+    → ((i j : ℕ) → i + j ≡ n → Rises (P i j)) → ((i j : ℕ) → i + j ≡ n → Holds (P i j) R (l i j) (h i j))
+    → Holds (λ N. sum_pairs n (λ i j. P i j N)) R (sum_pairs n l) (sum_pairs n h)
+sum_holds n P R l h r a = (sum_at_least n P R l r (λ i j e. (a i j e).0), sum_at_most n P R h (λ i j e. (a i j e).1))
 
 -- ---- proper families
 
@@ -79,36 +81,27 @@ itself_proper F p (suc n) = proper_product F (times_itself F n) p (itself_proper
 
 module _ (S K : ℕ) (lo hi lo' hi' : ℕ → ℕ) (F G : Family) (pos : 0 < S) (p : IsProper F) (q : IsProper G)
     (e : Encloses S K lo hi F) (e' : Encloses S K lo' hi' G) where
-  product_low : (y k : ℕ) → y < K → k * S ≤ count_pairs y (λ i j. lo i * lo' j)
-      → AtLeast ((product F G).cells y) (product F G).all (k over S)
-  product_low y k b h = at_least_wider _ _ _ _
-      (sum_at_least y (λ i j. times (F.cells i) (G.cells j)) (times F.all G.all) (λ i j. lo i over S *ℚ lo' j over S)
-      (λ i j s. rises_times _ _ (p.cells_rise i) (q.cells_rise j))
-      (λ i j s. at_least_times (F.cells i) F.all (G.cells j) G.all (lo i over S) (lo' j over S) (p.cells_rise i)
-      (q.cells_rise j) (e i (omega arith)).0 (e' j (omega arith)).0))
-      (rw (pairs_in_units y S lo lo' pos) (over_le _ _ _ _ pos (mul-pos pos pos) (omega (arith, mul-le-mul_right S h))))
-
-  product_high : (y k : ℕ) → y < K → count_pairs y (λ i j. hi i * hi' j) ≤ k * S
-      → AtMost ((product F G).cells y) (product F G).all (k over S)
-  product_high y k b h = at_most_wider _ _ _ _
-      (sum_at_most y (λ i j. times (F.cells i) (G.cells j)) (times F.all G.all) (λ i j. hi i over S *ℚ hi' j over S)
-      (λ i j s. at_most_times (F.cells i) F.all (G.cells j) G.all (hi i over S) (hi' j over S) p.all_rises q.all_rises
-      (e i (omega arith)).1 (e' j (omega arith)).1))
-      (rw (pairs_in_units y S hi hi' pos) (over_le _ _ _ _ (mul-pos pos pos) pos (omega (arith, mul-le-mul_right S h))))
+  product_holds : (y : ℕ) → y < K → Holds ((product F G).cells y) (product F G).all
+      (sum_pairs y (λ i j. lo i over S *ℚ lo' j over S)) (sum_pairs y (λ i j. hi i over S *ℚ hi' j over S))
+  product_holds y b = sum_holds y (λ i j. times (F.cells i) (G.cells j))
+      (times F.all G.all) _ _ (λ i j s. rises_times _ _ (p.cells_rise i) (q.cells_rise j))
+      (λ i j s. holds_times (F.cells i) F.all (G.cells j) G.all (lo i over S) (lo' j over S) (hi i over S)
+      (hi' j over S) (p.cells_rise i) p.all_rises (q.cells_rise j) q.all_rises (e i (omega arith)) (e' j (omega arith)))
 
   -- no cell is above the whole weight
-  product_clamped : (y k : ℕ) → S ≤ k → AtMost ((product F G).cells y) (product F G).all (k over S)
-  product_clamped y k h = at_most_wider _ _ (whole 1) (k over S)
-      (cell_at_most_one (product F G) (proper_product F G p q) y)
-      (over_le _ _ _ _ one_pos pos (omega arith))
-
   pub encloses_product : (low high : ℕ → ℕ) → ((y : ℕ) → y < K → low y * S ≤ count_pairs y (λ i j. lo i * lo' j))
       → ((y : ℕ) → y < K → (count_pairs y (λ i j. hi i * hi' j) ≤ high y * S) ⊎ (S ≤ high y))
       → Encloses S K low high (product F G)
   encloses_product low high below above y b = (
-    product_low y (low y) b (below y b),
-    elim
-        (above y b) [ inl h ↦ product_high y (high y) b h | inr h ↦ product_clamped y (high y) h ],
+    at_least_wider _ _ _ _ (product_holds y b).0 (rw (pairs_in_units y S lo lo' pos)
+        (over_le _ _ _ _ pos (mul-pos pos pos) (omega (arith, mul-le-mul_right S (below y b))))),
+    elim (above y b) [
+      | inl h ↦ at_most_wider _ _ _ _ (product_holds y b).1 (rw (pairs_in_units y S hi hi' pos)
+          (over_le _ _ _ _ (mul-pos pos pos) pos (omega (arith, mul-le-mul_right S h))))
+      | inr h ↦ at_most_wider _ _ (whole 1) (high y over S)
+          (cell_at_most_one (product F G) (proper_product F G p q) y)
+          (over_le _ _ _ _ one_pos pos (omega arith))
+    ],
   )
 
   -- one floor and one ceiling for each cell, and no high end above S
@@ -135,8 +128,7 @@ convolution_encloses {B} a b g n F G p q in_a in_b e convolution of_a of_b y ins
 -- ---- families with equal cells and whole weights
 
 pub encloses_same : (S K : ℕ) (lo hi : ℕ → ℕ) (F G : Family) → ((y N : ℕ) → F.cells y N ≡ G.cells y N)
-    → ((N : ℕ) → F.all N ≡ G.all N)
-    → Encloses S K lo hi F → Encloses S K lo hi G
+    → ((N : ℕ) → F.all N ≡ G.all N) → Encloses S K lo hi F → Encloses S K lo hi G
 encloses_same S K lo hi F G cells all e y b =
     subst₂ (λ Q R. Holds Q R (lo y over S) (hi y over S)) (fun_ext (cells y)) (fun_ext all) (e y b)
 

@@ -1,7 +1,6 @@
 -- Counts of finitely many claims: their compound sums stand at one level.
-use Rattle.dl_model.proofs.Common.{◌≡◌, inl, inr, ℕ, suc, zero, ◌<◌, ◌≤◌, nat_eq, arith, refl, ap, subst, subst₂, ◌∙◌, cases_lt, Fraction, ◌over◌, ◌*ℚ◌, ◌≤ℚ◌, whole, sum_to, over_le, one_pos, le_refl, le_trans, le_of_eq, zero_le, times_one, zero_times, times_le_both, sum_to_same, sum_to_grows, sum_to_longer, Series, IsBound, Holds, at_zero, power, cell, fixed, compound, nothing, Encloses, sym, Iv, low_at, high_at, all_at_zero, GridEncloses, order}
+use Rattle.dl_model.proofs.Common.{◌≡◌, inl, inr, ℕ, suc, zero, ◌<◌, ◌≤◌, nat_eq, arith, refl, ap, subst, subst₂, ◌∙◌, cases_lt, Fraction, ◌over◌, ◌*ℚ◌, ◌≤ℚ◌, whole, sum_to, over_le, one_pos, le_refl, le_trans, le_of_eq, zero_le, times_one, zero_times, times_le_both, sum_to_same, sum_to_grows, sum_to_longer, Series, IsBound, Holds, at_zero, power, cell, fixed, compound, nothing, Encloses, sym, Iv, low_at, high_at, all_at_zero, GridEncloses, order, pow_pos}
 use Rattle.std.specs.Prelude.{List, length, ◌^◌}
-use Rattle.std.proofs.lemmas.Nat.{pow_pos}
 use Rattle.dl_model.proofs.ValueLaws.{pick, where_factor, convolve_comm, at_zero_convolve}
 use Rattle.dl_model.proofs.AddedCounts.{fixed_past}
 
@@ -30,8 +29,7 @@ module _ (w f : ℕ → Fraction) (far : ℕ) (one : sum_to far w ≡ whole 1) (
       (λ N. subst (λ t. sum_to N w ≤ℚ t) one (bounded_by_all far w none N)) low high
 
   pub finite_encloses : (S K : ℕ) (lo hi : ℕ → ℕ) → ((y : ℕ) → y < K → lo y over S ≤ℚ cell w f y far)
-      → ((y : ℕ) → y < K → cell w f y far ≤ℚ hi y over S)
-      → Encloses S K lo hi (compound w f)
+      → ((y : ℕ) → y < K → cell w f y far ≤ℚ hi y over S) → Encloses S K lo hi (compound w f)
   finite_encloses S K lo hi low high y b = finite_holds y _ _ (low y b) (high y b)
 
 -- ---- the outcome 0

@@ -1,5 +1,5 @@
 -- Gamma counts: their weights, sums and powers.
-use Rattle.dl_model.proofs.Common.{◌≡◌, ℕ, suc, zero, ◌+◌, ◌-◌, ◌*◌, arith, sym, ap, ap₂, subst, subst₂, ◌∙◌, zero-lt-suc, fun_ext, Fraction, ◌+ℚ◌, ◌*ℚ◌, ◌≤ℚ◌, ◌<ℚ◌, whole, sum_to, sum_pairs, IsLeastBound, convolve, at_zero, power, gamma, choose, ◌^ℚ◌, ring, plus_comm, times_comm, times_assoc, plus_times, one_times, times_one, whole_plus, whole_pos, times_cancel, le_refl, le_plus, times_le_cancel, times_le_both, sum_to_same, sum_to_first, sum_to_times, eq_of_mul-eq-mul_left, whole_times}
+use Rattle.dl_model.proofs.Common.{◌≡◌, ℕ, suc, zero, ◌+◌, ◌-◌, ◌*◌, arith, sym, ap, ap₂, subst, subst₂, ◌∙◌, zero-lt-suc, fun_ext, Fraction, ◌+ℚ◌, ◌*ℚ◌, ◌≤ℚ◌, ◌<ℚ◌, whole, sum_to, sum_pairs, IsLeastBound, convolve, at_zero, power, gamma, choose, ◌^ℚ◌, ring, plus_comm, times_comm, times_assoc, plus_times, one_times, times_one, whole_plus, whole_pos, times_cancel, le_refl, le_plus, times_le_cancel, times_le_both, sum_to_same, sum_to_first, sum_to_times, whole_times}
 use Rattle.dl_model.proofs.ValueLaws.{at_zero_convolve, convolve_comm, convolve_next, sum_rises_to, at_most_rest, cauchy_level}
 use Rattle.dl_model.proofs.Least.{least_times, least_from}
 
@@ -10,22 +10,12 @@ choose-absorb zero (suc k) = omega arith
 choose-absorb (suc m) zero = omega (arith, choose-absorb m zero)
 choose-absorb (suc m) (suc k) = omega (arith, choose-absorb m k, choose-absorb m (suc k))
 
-shift_step : (q i : ℕ) → suc q * choose (suc (q + i)) i ≡ suc (q + i) * choose (q + i) i
-    → suc q * choose (suc (suc (q + i))) (suc i) ≡ suc (suc (q + i)) * choose (suc (q + i)) (suc i)
-shift_step q i h =
-    eq_of_mul-eq-mul_left (suc i) (omega arith) _ _
-    (
-    let a = ap (λ t. suc q * t) (choose-absorb (suc (q + i)) i) in
-    let b = ap (λ t. suc (suc (q + i)) * t) (choose-absorb (q + i) i) in
-    omega (arith, a, b, ap (λ t. suc (suc (q + i)) * t) h)
-    )
-
 pub choose-shift : (q i : ℕ) → suc q * choose (suc (q + i)) i ≡ suc (q + i) * choose (q + i) i
 unfolding choose
 choose-shift q zero = omega arith
 choose-shift q (suc i) =
     let d : q + suc i ≡ suc (q + i) = omega arith in
-    subst (λ m. suc q * choose (suc m) (suc i) ≡ suc m * choose m (suc i)) (sym d) (shift_step q i (choose-shift q i))
+    rw d (omega (arith, choose-shift q i, choose-absorb (q + i) i))
 
 -- ---- weights
 
@@ -87,18 +77,14 @@ geometric_next x n =
     (times_comm _ _ ∙ gamma_next zero x n ∙ ap (λ m. whole m *ℚ (x *ℚ gamma 1 x n)) e ∙ times_comm _ _)
 
 geometric_sum : (x : Fraction) (N : ℕ) → sum_to (suc N) (gamma 1 x) ≡ x *ℚ sum_to N (gamma 1 x) +ℚ whole 1
-geometric_sum x N =
-    sum_to_first N (gamma 1 x)
-    ∙ ap₂ (λ a b. a +ℚ b) (gamma_zero zero x)
-    (sum_to_same N _ _ (λ n e. geometric_next x n) ∙ sum_to_times N x (gamma 1 x))
-    ∙ plus_comm _ _
+geometric_sum x N = sum_to_first N (gamma 1 x) ∙ ap₂ (λ a b. a +ℚ b)
+    (gamma_zero zero x) (sum_to_same N _ _ (λ n e. geometric_next x n) ∙ sum_to_times N x (gamma 1 x)) ∙ plus_comm _ _
 
 module _ (x d : Fraction) (one : x +ℚ d ≡ whole 1) where
   pub geometric_identity : (N : ℕ) → d *ℚ sum_to N (gamma 1 x) +ℚ gamma 1 x (suc N) ≡ whole 1
   unfolding sum_to
-  geometric_identity zero = ap₂ (λ s t. d *ℚ s +ℚ t) (gamma_zero zero x)
-      (geometric_next x zero ∙ ap (λ t. x *ℚ t) (gamma_zero zero x)) ∙ ap₂ (λ s t. s +ℚ t) (times_one d) (times_one x)
-      ∙ plus_comm d x ∙ one
+  geometric_identity zero = ap₂ (λ s t. d *ℚ s +ℚ t) (gamma_zero zero x) (geometric_next x zero
+      ∙ ap (λ t. x *ℚ t) (gamma_zero zero x)) ∙ ap₂ (λ s t. s +ℚ t) (times_one d) (times_one x) ∙ plus_comm d x ∙ one
   geometric_identity (suc N) =
       let g = gamma 1 x (suc N) in
       ap (λ t. d *ℚ (sum_to N (gamma 1 x) +ℚ g) +ℚ t) (geometric_next x (suc N))

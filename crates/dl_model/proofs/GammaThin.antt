@@ -1,6 +1,6 @@
 -- Claims of amount 0 left out of a gamma count.
-use Rattle.dl_model.proofs.Common.{◌≡◌, ℕ, suc, zero, ◌+◌, arith, sym, ap, ap₂, subst, ◌∙◌, zero-lt-suc, fun_ext, Fraction, ◌+ℚ◌, ◌*ℚ◌, ◌/ℚ◌, ◌<ℚ◌, whole, sum_to, sum_pairs, Series, IsLeastBound, SameValue, power, cell, gamma, gamma_of, choose, ◌^ℚ◌, IsPositivePart, compound, times_itself, ring, plus_comm, times_comm, times_assoc, times_left_comm, times_zero, plus_times, times_plus, one_times, times_one, whole_pos, times_cancel, le_trans, le_plus, times_pos, lt_of_lt_of_le, plus_cancel, div_times, div_pos, sum_to_same, sum_to_times, sum_pairs_turn, pow_plus, times_right_comm, times_second, refl, one_pos, sum_to_none}
-use Rattle.dl_exact.proofs.Powers.{pow_times, pow_pos}
+use Rattle.dl_model.proofs.Common.{◌≡◌, ℕ, suc, zero, ◌+◌, arith, sym, ap, ap₂, subst, ◌∙◌, zero-lt-suc, fun_ext, Fraction, ◌+ℚ◌, ◌*ℚ◌, ◌/ℚ◌, ◌<ℚ◌, whole, sum_to, sum_pairs, Series, IsLeastBound, SameValue, power, cell, gamma, gamma_of, choose, ◌^ℚ◌, IsPositivePart, compound, times_itself, ring, plus_comm, times_comm, times_assoc, times_left_comm, times_zero, plus_times, times_plus, one_times, times_one, whole_pos, times_cancel, le_trans, le_plus, times_pos, lt_of_lt_of_le, plus_cancel, div_times, div_pos, sum_to_same, sum_to_times, sum_pairs_turn, pow_plus, times_right_comm, times_second, refl, one_pos, sum_to_none, pow_times}
+use Rattle.dl_exact.proofs.Powers.{pow_pos}
 use Rattle.dl_model.proofs.ValueLaws.{sum_rises_to, triangle_le_square, square_le_triangle, no_power, AreLevel, value_trans, value_sym}
 use Rattle.dl_model.proofs.FiniteCounts.{bounded_by_all}
 use Rattle.dl_model.proofs.Thin.{split}
@@ -40,10 +40,8 @@ module _ (f : ℕ → Fraction) (p : Fraction) (g : ℕ → Fraction) (h : IsPos
       ∙ simp ring
 
   split_gamma : (n y : ℕ) → gamma (suc q) x n *ℚ power f n y ≡ sum_pairs n (λ j i. t i j *ℚ power g j y)
-  split_gamma n y =
-      split f p g h (gamma (suc q) x) (λ n. whole (suc q + n) *ℚ x) t t_start
-      (λ n. gamma_next q x n ∙ sym (times_assoc _ _ _)) t_left t_right n y
-      ∙ sym (sum_pairs_turn n (λ i j. t i j *ℚ power g j y))
+  split_gamma n y = split f p g h (gamma (suc q) x) (λ n. whole (suc q + n) *ℚ x) t t_start (λ n. gamma_next q x n
+      ∙ sym (times_assoc _ _ _)) t_left t_right n y ∙ sym (sum_pairs_turn n (λ i j. t i j *ℚ power g j y))
 
   -- the cell, up to N claims of each kind, and with at most y claims above 0
   abbrev wide : ℕ → Series
@@ -90,23 +88,19 @@ module _ (f : ℕ → Fraction) (p : Fraction) (g : ℕ → Fraction) (h : IsPos
         ∙ ap (λ s. L ^ℚ suc q *ℚ (s *ℚ power g j y)) (sym (gamma_is q x' j))
 
     wide_least : (y : ℕ) → IsLeastBound (wide y) (L ^ℚ suc q *ℚ cell (gamma (suc q) x') g y y)
-    wide_least y =
-        subst (IsLeastBound (wide y)) (sum_to_same y _ _ (λ j b. term_part y j)
-        ∙ sum_to_times y (L ^ℚ suc q) (λ j. gamma (suc q) x' j *ℚ power g j y))
-        (least_sum y (λ j N. sum_to N (λ i. t i j *ℚ power g j y)) (λ j. term y j *ℚ L ^ℚ suc (q + j))
-        (λ j. sum_rises_to (λ i. t i j *ℚ power g j y)) (item y))
+    wide_least y = subst (IsLeastBound (wide y)) (sum_to_same y _ _ (λ j b. term_part y j) ∙ sum_to_times y (L ^ℚ suc q)
+        (λ j. gamma (suc q) x' j *ℚ power g j y)) (least_sum y (λ j N. sum_to N (λ i. t i j *ℚ power g j y))
+        (λ j. term y j *ℚ L ^ℚ suc (q + j)) (λ j. sum_rises_to (λ i. t i j *ℚ power g j y)) (item y))
 
     module _ (d : Fraction) (one : x +ℚ d ≡ whole 1) (dp : whole 0 <ℚ d) where
       -- what is left of 1 over the amounts above 0
       c_is : c ≡ x *ℚ p +ℚ d
-      c_is = plus_cancel c (x *ℚ p +ℚ d) (x *ℚ f zero)
-          (plus_comm _ _ ∙ rest ∙ sym one ∙ ap (λ s. s +ℚ d) (sym (times_one x) ∙ ap (λ s. x *ℚ s) (sym h.share))
-          ∙ simp ring)
+      c_is = plus_cancel c (x *ℚ p +ℚ d) (x *ℚ f zero) (plus_comm _ _
+          ∙ rest ∙ sym one ∙ ap (λ s. s +ℚ d) (sym (times_one x) ∙ ap (λ s. x *ℚ s) (sym h.share)) ∙ simp ring)
 
       one' : x' +ℚ d *ℚ L ≡ whole 1
-      one' = times_cancel _ _ c cp (plus_times _ _ c
-          ∙ ap₂ (λ a b. a +ℚ b) part (times_assoc d L c ∙ ap (λ s. d *ℚ s) inverse ∙ times_one d) ∙ sym c_is
-          ∙ sym (one_times c))
+      one' = times_cancel _ _ c cp (plus_times _ _ c ∙ ap₂ (λ a b. a +ℚ b) part (times_assoc d L c
+          ∙ ap (λ s. d *ℚ s) inverse ∙ times_one d) ∙ sym c_is ∙ sym (one_times c))
 
       thin_value : (y : ℕ) → SameValue (cell (gamma (suc q) x) f y) (λ N. sum_to N (gamma (suc q) x))
           (cell (gamma (suc q) x') g y) (λ N. sum_to N (gamma (suc q) x'))
@@ -180,7 +174,7 @@ part_of v p V w Vp h = times_cancel _ _ w h
     (rw (times_assoc, div_times V w h, div_times (v *ℚ p) V Vp, times_right_comm (v /ℚ w), div_times v w h) refl)
 
 -- u / (1 + u) = m / (r + m) where r * u = m
-share_of : (r u m : Fraction) → whole 0 <ℚ r → r *ℚ u ≡ m → u /ℚ (whole 1 +ℚ u) ≡ m /ℚ (r +ℚ m)
+pub share_of : (r u m : Fraction) → whole 0 <ℚ r → r *ℚ u ≡ m → u /ℚ (whole 1 +ℚ u) ≡ m /ℚ (r +ℚ m)
 share_of r u m rp e =
     let op : whole 0 <ℚ whole 1 +ℚ u = pos_plus (whole 1) u (whole_pos 1 (zero-lt-suc zero)) in
     let Vp : whole 0 <ℚ r +ℚ m = pos_plus r m rp in

@@ -9,8 +9,7 @@ unfolding sum_pairs
 level_sum zero P P' r r' u = u zero zero
 level_sum (suc n) P P' r r' u =
     let later : (ℕ → ℕ → Series) → ℕ → ℕ → Series = λ P i j. P (suc i) j in
-    level_both (λ x y. x +ℚ y) plus_le_both (P zero (suc n)) (P' zero (suc n)) (λ N. sum_pairs n (λ i j. P (suc i) j N))
-    (λ N. sum_pairs n (λ i j. P' (suc i) j N)) (r zero (suc n)) (r' zero (suc n))
+    level_both (λ x y. x +ℚ y) plus_le_both _ _ _ _ (r zero (suc n)) (r' zero (suc n))
     (sum_rises n (later P) (λ i j e. r (suc i) j)) (sum_rises n (later P') (λ i j e. r' (suc i) j)) (u zero (suc n))
     (level_sum n (later P) (later P') (λ i j. r (suc i) j) (λ i j. r' (suc i) j) (λ i j. u (suc i) j))
 
@@ -21,9 +20,8 @@ module _ (a b f : ℕ → Fraction) (y : ℕ) where
   square : (N : ℕ) → (product (compound a f) (compound b f)).cells y N ≡ sum_to N (λ n. sum_to N (both n))
   square N =
       sum_pairs_same y _ _ (λ i j e. sym (sum_to_product N N (λ n. a n *ℚ power f n i) (λ m. b m *ℚ power f m j)))
-      ∙ sum_pairs_sum_to y N _
-      ∙ sum_to_same N _ _ (λ n e. sum_pairs_sum_to y N _ ∙ sum_to_same N _ _ (λ m e'.
-      sum_pairs_same y _ _ (λ i j e''. simp ring)
+      ∙ sum_pairs_sum_to y N _ ∙ sum_to_same N _ _ (λ n e. sum_pairs_sum_to y N _
+      ∙ sum_to_same N _ _ (λ m e'. sum_pairs_same y _ _ (λ i j e''. simp ring)
       ∙ sum_pairs_times y (a n *ℚ b m) (λ i j. power f n i *ℚ power f m j)
       ∙ ap (λ t. a n *ℚ b m *ℚ t) (ap (λ g. g y) (sym (power_plus f n m)))))
 
@@ -74,10 +72,9 @@ module _ (w f : ℕ → Fraction) where
   unfolding power ◌^ℚ◌
   all_level zero = level_same _ _
       (λ N. sym (sum_to_same N _ _ (λ n e. sym (times_one (at_zero n))) ∙ sum_to_at_zero N (λ n. whole 1)))
-  all_level (suc n) =
-      level_trans _ (times (λ N. sum_to N w) (λ N. sum_to N (power w n))) _
-      (level_both (λ x y. x *ℚ y) times_le_both _ _ _ _ (sum_rises_to w) (sum_rises_to w) (all_rises n)
-      (sum_rises_to (power w n)) (level_same _ _ (λ N. refl)) (all_level n))
+  all_level (suc n) = level_trans _ (times (λ N. sum_to N w)
+      (λ N. sum_to N (power w n))) _ (level_both (λ x y. x *ℚ y) times_le_both _ _ _ _ (sum_rises_to w)
+      (sum_rises_to w) (all_rises n) (sum_rises_to (power w n)) (level_same _ _ (λ N. refl)) (all_level n))
       ((cauchy_level w (power w n)).1, (cauchy_level w (power w n)).0)
 
   -- n times a compound sum, in every cell

@@ -44,12 +44,10 @@ pub least_from : (R Q : Series) (A : Fraction) → AreLevel R Q → IsLeastBound
 least_from R Q A r a = (bound_from R Q r.0 A a.0, λ u b. a.1 u (bound_from Q R r.1 u b))
 
 pub least_sum : (n : ℕ) (P : ℕ → Series) (A : ℕ → Fraction) → ((j : ℕ) → Rises (P j))
-    → ((j : ℕ) → IsLeastBound (P j) (A j))
-    → IsLeastBound (λ N. sum_to n (λ j. P j N)) (sum_to n A)
+    → ((j : ℕ) → IsLeastBound (P j) (A j)) → IsLeastBound (λ N. sum_to n (λ j. P j N)) (sum_to n A)
 unfolding sum_to
 least_sum zero P A r a = a zero
-least_sum (suc n) P A r a = least_plus (λ N. sum_to n (λ j. P j N)) (P (suc n)) (sum_to n A) (A (suc n)) (rises n)
-    (r (suc n)) (least_sum n P A r a) (a (suc n))
+least_sum (suc n) P A r a = least_plus _ _ _ _ (rises n) (r (suc n)) (least_sum n P A r a) (a (suc n))
   where
     rises : (n : ℕ) → Rises (λ N. sum_to n (λ j. P j N))
     rises zero = λ N. r zero N
@@ -75,8 +73,7 @@ least_iff Q R A B l r a b = (to, from)
 
 -- a factor k of both least bounds changes no declared value
 pub value_of_least : (Q R Q' R' : Series) (k A B : Fraction) → whole 0 <ℚ k → Rises R → Rises R'
-    → IsLeastBound Q (k *ℚ A) → IsLeastBound R (k *ℚ B) → IsLeastBound Q' A → IsLeastBound R' B
-    → SameValue Q R Q' R'
+    → IsLeastBound Q (k *ℚ A) → IsLeastBound R (k *ℚ B) → IsLeastBound Q' A → IsLeastBound R' B → SameValue Q R Q' R'
 value_of_least Q R Q' R' k A B kp r r' a b a' b' =
     let down = λ (x y : Fraction) (h : k *ℚ x ≤ℚ k *ℚ y). times_le_cancel x y k kp (rw (times_comm x, times_comm y) h) in
     let up = λ (x y : Fraction) (h : x ≤ℚ y). times_le_both k k x y (le_refl k) h in (

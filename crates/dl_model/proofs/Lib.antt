@@ -9,6 +9,12 @@ pub mod CompoundLaws
 pub mod WeightLaws
 pub mod CountLaws
 pub mod FiniteCounts
+pub mod Ratios
+pub mod ExamplesClaims
+pub mod ExamplesUnits
+pub mod ExamplesTotals
+pub mod ExamplesParts
+pub mod ExamplesShared
 pub mod ListedLaws
 pub mod Horner
 pub mod FamilyLaws
@@ -57,6 +63,7 @@ pub mod Pooled
 pub mod SharedJoint
 pub mod SharedValues
 pub mod ChangedZero
+mod TotalLaws
 pub mod SomeClaim
 pub mod PriceLaws
 pub mod ShareLaws

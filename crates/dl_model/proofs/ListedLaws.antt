@@ -1,10 +1,6 @@
 -- One unit without an aggregate clause, and what encloses its probability where its counts and amounts are listed.
-use Rattle.dl_model.proofs.Common.{ℕ, ◌≡◌, ◌<◌, List, ap, ap₂, subst₂, fun_ext, ◌∙◌, [], ◌∷◌, Fraction, ◌+ℚ◌, ◌≤ℚ◌, sum_to, one_times, zero_times, zero_plus, Holds, power, cell, IsSeverity, Item, weight_sum, greatest, probability_at, equally_likely, One, Point, partial_sums, refl, loss, IsDeclarable, sym, listed_aggregate, amounts}
-use Rattle.std.proofs.Math.Nat.{le_refl as le_refl_n}
-use Rattle.dl_model.proofs.Outcomes.{total_alone, total_alone_all}
-use Rattle.dl_model.proofs.UnitLaws.{unit_loss, unit_plain}
-use Rattle.dl_model.proofs.FiniteCounts.{finite_holds, power_one}
-use Rattle.dl_model.proofs.WeightLaws.{probability-past, probabilities_all}
+use Rattle.dl_model.proofs.Common.{ℕ, ◌≡◌, ◌<◌, List, ap, ap₂, subst₂, fun_ext, ◌∙◌, [], ◌∷◌, Fraction, ◌+ℚ◌, ◌≤ℚ◌, sum_to, one_times, zero_times, zero_plus, Holds, power, cell, IsSeverity, Item, weight_sum, greatest, probability_at, equally_likely, One, Point, partial_sums, refl, loss, IsDeclarable, sym, listed_aggregate, amounts, le_refl_n}
+use Rattle.dl_model.proofs.TotalLaws.{total_alone, total_alone_all, unit_loss, unit_plain, finite_holds, power_one, probability-past, probabilities_all}
 
 pub listed_severity : (amounts : List Item) → 0 < weight_sum amounts
     → IsSeverity (probability_at amounts) (greatest amounts)

@@ -1,10 +1,6 @@
 -- Means: of a compound sum, and of a unit without an aggregate clause.
-use Rattle.dl_model.proofs.Common.{◌≡◌, ℕ, suc, zero, ◌*◌, ◌≤◌, arith, sym, ap, subst₂, ◌∙◌, mul-le-mul_right, [], ◌∷◌, fun_ext, Fraction, ◌*ℚ◌, whole, sum_to, times_left_comm, times_zero, zero_times, times_one, sum_to_same, sum_to_times, sum_to_swap, sum_to_zero, Holds, convolve, at_zero, power, cell, IsSeverity, Aggregate, IsDeclarable, loss, One, Mean, partial_sums, times_reverse}
-use Rattle.dl_model.proofs.Cauchy.{sum_convolve}
-use Rattle.std.proofs.Math.Nat.{le_refl as le_refl_n}
-use Rattle.dl_model.proofs.ValueLaws.{scaled, power_tilt, tilt_at_zero, power_severity}
-use Rattle.dl_model.proofs.UnitLaws.{unit_loss, unit_plain}
-use Rattle.dl_model.proofs.Outcomes.{total_alone_all, mean_alone}
+use Rattle.dl_model.proofs.Common.{◌≡◌, ℕ, suc, zero, ◌*◌, ◌≤◌, arith, sym, ap, subst₂, ◌∙◌, mul-le-mul_right, [], ◌∷◌, fun_ext, Fraction, ◌*ℚ◌, whole, sum_to, times_left_comm, times_zero, zero_times, times_one, sum_to_same, sum_to_times, sum_to_swap, sum_to_zero, Holds, convolve, at_zero, power, cell, IsSeverity, Aggregate, IsDeclarable, loss, One, Mean, partial_sums, times_reverse, le_refl_n}
+use Rattle.dl_model.proofs.TotalLaws.{sum_convolve, scaled, power_tilt, tilt_at_zero, power_severity, unit_loss, unit_plain, total_alone_all, mean_alone}
 
 module _ (f : ℕ → Fraction) (m : ℕ) (h : IsSeverity f m) where
   -- the mean of one claim
@@ -14,12 +10,10 @@ module _ (f : ℕ → Fraction) (m : ℕ) (h : IsSeverity f m) where
   pub power_mean : (n k : ℕ) → n * m ≤ k → sum_to k (λ s. whole s *ℚ power f n s) ≡ whole n *ℚ severity_mean
   unfolding power at_zero
   power_mean zero k b = sum_to_zero k _ (λ s c. tilt_at_zero s) ∙ sym (zero_times _)
-  power_mean (suc n) k b =
-      sum_to_same k _ _ (λ s c. power_tilt f n s)
-      ∙ sum_to_times k (whole (suc n)) (convolve (λ j. whole j *ℚ f j) (power f n))
-      ∙ ap (λ t. whole (suc n) *ℚ t)
-      (sum_convolve (λ j. whole j *ℚ f j) (power f n) m (n * m) k
-      (λ j c. ap (λ t. whole j *ℚ t) (h.past j c) ∙ times_zero _) (power_severity f m h n).past (omega arith)
+  power_mean (suc n) k b = sum_to_same k _ _ (λ s c. power_tilt f n s)
+      ∙ sum_to_times k (whole (suc n)) (convolve (λ j. whole j *ℚ f j) (power f n)) ∙ ap (λ t. whole (suc n) *ℚ t)
+      (sum_convolve (λ j. whole j *ℚ f j) (power f n) m (n * m) k (λ j c. ap (λ t. whole j *ℚ t) (h.past j c)
+      ∙ times_zero _) (power_severity f m h n).past (omega arith)
       ∙ ap (λ t. severity_mean *ℚ t) ((power_severity f m h n).add_up) ∙ times_one _)
 
   -- the mean of at most N claims is the mean of one times that of the count

@@ -13,9 +13,8 @@ descend P d step (suc k) v p h =
       | inr l ↦ lt_not_le v _ h (rw (whole_suc k, plus_times, one_times) (grw (order, l) s.1))
     ]
 
-pub no_descent : (P : Fraction → Type 0) (d : Fraction) → whole 0 <ℚ d
-    → ((v : Fraction) → P v → (w : Fraction) × (w +ℚ d ≤ℚ v) × P w)
-    → (v : Fraction) → P v → ⊥
+pub no_descent : (P : Fraction → Type 0) (d : Fraction)
+    → whole 0 <ℚ d → ((v : Fraction) → P v → (w : Fraction) × (w +ℚ d ≤ℚ v) × P w) → (v : Fraction) → P v → ⊥
 no_descent P d h step v p = let a = archimedes v d h in descend P d step a.0 v p a.1
 
 -- R comes as near to its bounds as one likes
@@ -65,9 +64,8 @@ at_most_minus Q Q' R h l r r' a a' n u b = close R u (Q n) (h *ℚ u) l b (λ v 
 
 pub at_most_rest : (Q Q' R : Series) (l k : Fraction) → Rises Q → Rises Q' → ((n : ℕ) → Q n +ℚ Q' n ≡ R n)
     → l +ℚ k ≡ whole 1 → AtLeast Q R l → AtMost Q' R k
-at_most_rest Q Q' R l k r r' e one a = at_most_minus Q' Q R k l r' r
-    (subst₂ (λ S t. AtMost S R t) (fun_ext (λ n. sym (e n) ∙ plus_comm _ _)) (sym one ∙ plus_comm l k)
-    (self_holds R).1) a
+at_most_rest Q Q' R l k r r' e one a = at_most_minus Q' Q R k l r' r (subst₂ (λ S t. AtMost S R t)
+    (fun_ext (λ n. sym (e n) ∙ plus_comm _ _)) (sym one ∙ plus_comm l k) (self_holds R).1) a
 
 pub le_sub_plus : (x y : Fraction) → x ≤ℚ x -ℚ y +ℚ y
 le_sub_plus x y = elim (lt_or_le x y) [

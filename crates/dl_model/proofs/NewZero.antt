@@ -1,9 +1,7 @@
 -- Where the probability of no claim of a count of a plan can be changed: it is at most 16 / 17, and some number of claims
 -- above 0 has a positive weight.
-use Rattle.dl_model.proofs.Common.{◌≡◌, inl, inr, ℕ, suc, zero, ◌*◌, ◌≤◌, max, arith, sym, ap, subst, ◌∙◌, le-max_left, le-max_right, Fraction, whole, ◌over◌, ◌+ℚ◌, ◌*ℚ◌, ◌/ℚ◌, ◌≤ℚ◌, ◌<ℚ◌, sum_to, over_same, over_self, le_over, one_pos, one_times, times_comm, times_assoc, zero_plus, le_trans, le_div, zero_or_pos, times_le_times, times_le_cancel, div_times, lt_of_lt_of_le, AtMost, IsBound, AreCountWeights, Freq, Fixed, Table, Bernoulli, Binomial, Poisson, Gamma, num_le_den, count_weights, over_pos, over_add, IsNewZero, without_none, total}
-use Rattle.dl_plan.specs.Count.{IsClaimCount as IsCountOfPlan}
-use Rattle.dl_model.proofs.ValueLaws.{rises_to, sum_rises_to}
-use Rattle.dl_model.proofs.ChangedZero.{weights_apart}
+use Rattle.dl_model.proofs.Common.{◌≡◌, inl, inr, ℕ, suc, zero, ◌*◌, ◌≤◌, max, arith, sym, ap, subst, ◌∙◌, le-max_left, le-max_right, Fraction, whole, ◌over◌, ◌+ℚ◌, ◌*ℚ◌, ◌/ℚ◌, ◌≤ℚ◌, ◌<ℚ◌, sum_to, over_same, over_self, le_over, one_pos, one_times, times_comm, times_assoc, zero_plus, le_trans, le_div, zero_or_pos, times_le_times, times_le_cancel, div_times, lt_of_lt_of_le, AtMost, IsBound, AreCountWeights, Freq, Fixed, Table, Bernoulli, Binomial, Poisson, Gamma, num_le_den, count_weights, over_pos, over_add, IsNewZero, without_none, total, IsCountOfPlan}
+use Rattle.dl_model.proofs.TotalLaws.{rises_to, sum_rises_to, weights_apart}
 use Rattle.dl_model.proofs.SomeClaim.{fixed_some_claim, binomial_some_claim, poisson_some_claim, gamma_some_claim}
 
 pub count_new_zero : (freq : Freq) (p : Fraction) → IsCountOfPlan freq → IsNewZero freq p
@@ -12,11 +10,9 @@ count_new_zero (Fixed m) p h z =
     let some : 1 * 1 ≤ m * 16 = le_over 1 16 m 1 (omega arith) one_pos z.least in
     fixed_some_claim m (omega (arith, some))
 count_new_zero (Table counts total) p h z = absurd z.exposed
-count_new_zero (Bernoulli q) p h z =
-    binomial_some_claim 1 q.num q.den q.positive (num_le_den q h.within)
+count_new_zero (Bernoulli q) p h z = binomial_some_claim 1 q.num q.den q.positive (num_le_den q h.within)
     (subst (λ t. 1 over 16 ≤ℚ t) (sym (one_times _ ∙ over_self q)) z.least)
-count_new_zero (Binomial trials q) p h z =
-    binomial_some_claim trials q.num q.den q.positive (num_le_den q h.1.within)
+count_new_zero (Binomial trials q) p h z = binomial_some_claim trials q.num q.den q.positive (num_le_den q h.1.within)
     (subst (λ t. 1 over 16 ≤ℚ whole trials *ℚ t) (sym (over_self q)) z.least)
 count_new_zero (Poisson mean) p h z = poisson_some_claim mean z.least
 count_new_zero (Gamma zero mean) p h z = absurd (omega (arith, h))
@@ -27,8 +23,7 @@ module _ (w : ℕ → Fraction) (W : AreCountWeights w) (most : AtMost (λ N. w 
   near = 33 over 34
 
   rest_to_one : near +ℚ 1 over 34 ≡ whole 1
-  rest_to_one = over_add 33 34 1 34 (omega arith) (omega arith)
-      ∙ over_same _ _ 1 1 (omega arith) one_pos (omega arith)
+  rest_to_one = over_add 33 34 1 34 (omega arith) (omega arith) ∙ over_same _ _ 1 1 (omega arith) one_pos (omega arith)
 
   near_pos : whole 0 <ℚ near
   near_pos = over_pos 33 34 (omega arith) (omega arith)

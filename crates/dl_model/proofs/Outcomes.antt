@@ -114,8 +114,7 @@ unfolding sum_over_outcomes
 total_more_all u us h N = sum_to_times_right _ _ _ ∙ ap (λ t. t *ℚ partial_sums us One N) (h.full N)
 
 -- the mean, by the outcome of the first unit
-pub mean_more : (u : Loss) (us : List Loss) → IsLoss u → (N : ℕ)
-    → partial_sums (u ∷ us) Mean N
+pub mean_more : (u : Loss) (us : List Loss) → IsLoss u → (N : ℕ) → partial_sums (u ∷ us) Mean N
     ≡ mean_to_reach u N *ℚ partial_sums us One N +ℚ u.family.all N *ℚ partial_sums us Mean N
 unfolding sum_over_outcomes
 mean_more u us h N =
@@ -143,9 +142,8 @@ proper_same F G cells all p =
 pub total_proper : (us : List Loss) → AreDeclarable us → IsProper (total us)
 unfolding sum_over_outcomes
 total_proper [] h = proper_same nothing (total []) (λ x N. sym (no_units x N)) (λ N. refl) nothing_proper
-total_proper (u ∷ us) h =
-    proper_same (product u.family (total us)) (total (u ∷ us)) (λ x N. sym (total_more u us h.0 x N))
-    (λ N. sym (total_more_all u us h.0 N))
+total_proper (u ∷ us) h = proper_same (product u.family (total us))
+    (total (u ∷ us)) (λ x N. sym (total_more u us h.0 x N)) (λ N. sym (total_more_all u us h.0 N))
     (proper_product u.family (total us) (loss_proper u h.0) (total_proper us h.1))
 
 -- ---- totals side by side
@@ -161,10 +159,8 @@ points_append : (us vs : List Loss) → AreDeclarable us → (N : ℕ)
     → points (us ++ vs) N ≡ convolve (points us N) (points vs N)
 points_append [] vs h N =
     sym (ap (λ g. convolve g (points vs N)) (fun_ext (λ x. no_units x N)) ∙ at_zero_convolve (points vs N))
-points_append (u ∷ us) vs h N =
-    points_more u (us ++ vs) h.0 N
-    ∙ ap (convolve (cells_at u N)) (points_append us vs h.1 N)
-    ∙ sym (ap (λ g. convolve g (points vs N)) (points_more u us h.0 N)
+points_append (u ∷ us) vs h N = points_more u (us ++ vs) h.0 N ∙ ap (convolve (cells_at u N))
+    (points_append us vs h.1 N) ∙ sym (ap (λ g. convolve g (points vs N)) (points_more u us h.0 N)
     ∙ convolve_assoc (cells_at u N) (points us N) (points vs N))
 
 pub total_append : (us vs : List Loss) → AreDeclarable us → (x N : ℕ)
@@ -181,8 +177,7 @@ total_append_all (u ∷ us) vs h N =
 
 -- one unit alone
 pub total_alone : (u : Loss) → IsLoss u → (x N : ℕ) → (total (u ∷ [])).cells x N ≡ u.family.cells x N
-total_alone u h x N =
-    ap (λ g. g x) (points_more u [] h N ∙ convolve_comm _ _
+total_alone u h x N = ap (λ g. g x) (points_more u [] h N ∙ convolve_comm _ _
     ∙ ap (λ g. convolve g (cells_at u N)) (fun_ext (λ x. no_units x N)) ∙ at_zero_convolve (cells_at u N))
 
 pub total_alone_all : (u : Loss) → IsLoss u → (N : ℕ) → (total (u ∷ [])).all N ≡ u.family.all N

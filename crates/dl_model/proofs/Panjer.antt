@@ -1,9 +1,6 @@
 -- Panjer's recursion for every count of the (a, b, 0) class.
-use Rattle.dl_model.proofs.Common.{◌≡◌, ℕ, suc, zero, ◌+◌, ◌≤◌, arith, sym, ap, ap₂, ◌∙◌, zero-lt-suc, Fraction, ◌over◌, ◌+ℚ◌, ◌*ℚ◌, whole, sum_to, sum_pairs, at_zero, power, cell, poisson, gamma, ring, times_comm, zero_plus, plus_zero, times_zero, zero_times, times_one, whole_pos, whole_plus, times_cancel, sum_to_same, sum_to_first, sum_to_times, sum_to_times_right, sum_pairs_same, sum_pairs_plus, sum_pairs_times, sum_pairs_times_right, sum_pairs_sum_to, IsPanjer, over_times_whole, sum_pairs_first}
-use Rattle.dl_model.specs.Recursion.{Recursion, from_before}
-use Rattle.dl_model.proofs.ValueLaws.{power_tilt, no_power, cell_stays}
-use Rattle.dl_model.proofs.PoissonWeights.{poisson_zero, poisson_next}
-use Rattle.dl_model.proofs.Gamma.{gamma_zero, gamma_next}
+use Rattle.dl_model.proofs.Common.{◌≡◌, ℕ, suc, zero, ◌+◌, ◌≤◌, arith, sym, ap, ap₂, ◌∙◌, zero-lt-suc, Fraction, ◌over◌, ◌+ℚ◌, ◌*ℚ◌, whole, sum_to, sum_pairs, at_zero, power, cell, poisson, gamma, ring, times_comm, zero_plus, plus_zero, times_zero, zero_times, times_one, whole_pos, whole_plus, times_cancel, sum_to_same, sum_to_first, sum_to_times, sum_to_times_right, sum_pairs_same, sum_pairs_plus, sum_pairs_times, sum_pairs_times_right, sum_pairs_sum_to, IsPanjer, over_times_whole, sum_pairs_first, Recursion, from_before}
+use Rattle.dl_model.proofs.TotalLaws.{power_tilt, no_power, cell_stays, poisson_zero, poisson_next, gamma_zero, gamma_next}
 
 module _ (f w : ℕ → Fraction) (a b : Fraction) (z : f zero ≡ whole 0) (P : IsPanjer a b w) where
   -- the factor of f at amount suc i in the cell at suc s, times s + 1
@@ -44,10 +41,9 @@ module _ (f w : ℕ → Fraction) (a b : Fraction) (z : f zero ≡ whole 0) (P :
   pub cell_next : (s M : ℕ) → cell w f (suc s) (suc M) *ℚ whole (suc s) ≡ sum_pairs s
       (λ i k. factor s i *ℚ f (suc i) *ℚ cell w f k M)
   unfolding power at_zero
-  cell_next s M =
-      ap (λ t. t *ℚ whole (suc s)) (sum_to_first M (λ n. w n *ℚ power f n (suc s)) ∙ simp (times_zero, zero_plus))
-      ∙ sym (sum_to_times_right M (whole (suc s)) (λ n. w (suc n) *ℚ power f (suc n) (suc s)))
-      ∙ sum_to_same M _ _ (λ n e. one_term n s)
+  cell_next s M = ap (λ t. t *ℚ whole (suc s)) (sum_to_first M (λ n. w n *ℚ power f n (suc s))
+      ∙ simp (times_zero, zero_plus)) ∙ sym (sum_to_times_right M (whole (suc s))
+      (λ n. w (suc n) *ℚ power f (suc n) (suc s))) ∙ sum_to_same M _ _ (λ n e. one_term n s)
       ∙ sym (sum_pairs_sum_to s M (λ i k n. factor s i *ℚ f (suc i) *ℚ (w n *ℚ power f n k)))
       ∙ sum_pairs_same s _ _ (λ i k e. sum_to_times M (factor s i *ℚ f (suc i)) (λ n. w n *ℚ power f n k))
 

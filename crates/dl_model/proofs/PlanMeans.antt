@@ -1,19 +1,14 @@
 -- The expected counts of a plan's units, and their means.
-use Rattle.dl_model.proofs.Common.{ℕ, zero, suc, ◌≡◌, List, [], ◌∷◌, map, arith, refl, sym, ap, subst, ◌∙◌, All, All-head, All-tail, Fraction, whole, ◌*ℚ◌, ◌≤ℚ◌, sum_over, over_self, ring, times_comm, one_times, le_trans, Freq, Fixed, Table, Bernoulli, Binomial, Poisson, Gamma, pairs_of, mean_amount, greatest, expected_count, IsValidUnit, num_le_den, total_pos, AtMost, Holds, One, Mean, sum_over_outcomes, partial_sums, count_weights, outcome_after, loss_of, Sev, probability_of, Aggregate, IsDeclarable, loss, aggregate_of, after_zero, le_of_eq, total, order}
-use Rattle.dl_model.proofs.Declared.{none_holds}
+use Rattle.dl_model.proofs.Common.{ℕ, zero, suc, ◌≡◌, List, [], ◌∷◌, map, arith, refl, sym, ap, subst, ◌∙◌, All, All-head, All-tail, Fraction, whole, ◌*ℚ◌, ◌≤ℚ◌, sum_over, over_self, ring, times_comm, one_times, le_trans, Freq, Fixed, Table, Bernoulli, Binomial, Poisson, Gamma, pairs_of, mean_amount, greatest, expected_count, IsValidUnit, num_le_den, total_pos, AtMost, Holds, One, Mean, sum_over_outcomes, partial_sums, count_weights, outcome_after, loss_of, Sev, probability_of, Aggregate, IsDeclarable, loss, aggregate_of, after_zero, le_of_eq, total, order, le_refl_n, UnitOfPlan, IsCountOfPlan}
+use Rattle.dl_model.proofs.TotalLaws.{none_holds, unit_loss, mean_alone, total_alone_all}
 use Rattle.std.proofs.Common.{None}
-use Rattle.std.proofs.Math.Nat.{le_refl as le_refl_n}
-use Rattle.dl_plan.specs.declared.plan.Unit.{Unit as UnitOfPlan}
-use Rattle.dl_plan.specs.Count.{IsClaimCount as IsCountOfPlan}
 use Rattle.dl_model.proofs.CountMeans.{finite_mean, fixed_mean, binomial_mean, poisson_mean, gamma_mean, HasMean}
 use Rattle.dl_model.proofs.Means.{mean_of_unit}
 use Rattle.dl_model.proofs.TotalMeans.{mean_of_total}
 use Rattle.dl_model.proofs.Bounded.{are_units}
 use Rattle.dl_model.proofs.ItemWeights.{shares_severity, shares_mean, severity_mean}
 use Rattle.dl_model.proofs.PlanUnits.{unit_declared, units_declared}
-use Rattle.dl_model.proofs.UnitLaws.{unit_loss}
 use Rattle.dl_model.proofs.UnitLosses.{unit_mean_le}
-use Rattle.dl_model.proofs.Outcomes.{mean_alone, total_alone_all}
 
 pub count_mean : (freq : Freq) → IsCountOfPlan freq → HasMean (count_weights freq) (expected_count freq)
 count_mean (Fixed m) h = fixed_mean m
@@ -21,12 +16,10 @@ count_mean (Table counts total) h =
     let far = greatest counts in
     subst (HasMean (count_weights (Table counts total))) (shares_mean counts total far (total_pos counts total h.0) (le_refl_n far))
     (finite_mean _ far (shares_severity counts total h.0))
-count_mean (Bernoulli q) h =
-    subst (HasMean (count_weights (Bernoulli q))) (one_times _ ∙ over_self q)
-    (binomial_mean 1 q.num q.den q.positive (num_le_den q h.within))
-count_mean (Binomial trials q) h =
-    subst (HasMean (count_weights (Binomial trials q))) (ap (λ x. whole trials *ℚ x) (over_self q))
-    (binomial_mean trials q.num q.den q.positive (num_le_den q h.1.within))
+count_mean (Bernoulli q) h = subst (HasMean (count_weights (Bernoulli q)))
+    (one_times _ ∙ over_self q) (binomial_mean 1 q.num q.den q.positive (num_le_den q h.within))
+count_mean (Binomial trials q) h = subst (HasMean (count_weights (Binomial trials q)))
+    (ap (λ x. whole trials *ℚ x) (over_self q)) (binomial_mean trials q.num q.den q.positive (num_le_den q h.1.within))
 count_mean (Poisson mean) h = poisson_mean mean
 count_mean (Gamma zero mean) h = absurd (omega (arith, h))
 count_mean (Gamma (suc q) mean) h = gamma_mean q mean
@@ -50,7 +43,7 @@ plain_mean freq sev clause is count same =
     let u = with_clause freq sev clause in
     let e = expected_count freq in
     subst (λ v. Holds (partial_sums (loss u ∷ []) Mean) (partial_sums (loss u ∷ []) One) v v)
-    (ap (λ m. m *ℚ e) (severity_mean sev) ∙ times_comm _ e) (mean_of_unit u is same e e (count_mean freq count))
+    (ap (λ m. m *ℚ e) (severity_mean sev _ (le_refl_n _)) ∙ times_comm _ e) (mean_of_unit u is same e e (count_mean freq count))
 
 -- the declared mean of units lies from l to h
 abbrev pub MeanHolds : List UnitOfPlan → Fraction → Fraction → Type 0
@@ -79,7 +72,7 @@ mean_at_most cells u h N v bound =
     let claims = (count_mean u.freq h.count).1 N v
     (λ M. subst (λ t. t ≤ℚ v) (total_alone_all l is M) (bound M)) in
     rw (mean_alone l is N) (le_trans _ _ _ (unit_mean_le (aggregate_of u) unit N) (grw (order, claims)
-    (le_of_eq _ _ (ap (λ m. m *ℚ (e *ℚ v)) (severity_mean u.sev) ∙ simp ring))))
+    (le_of_eq _ _ (ap (λ m. m *ℚ (e *ℚ v)) (severity_mean u.sev _ (le_refl_n _)) ∙ simp ring))))
 
 pub units_mean : (cells : ℕ) (l h : UnitOfPlan → Fraction) (units : List UnitOfPlan) → All (IsValidUnit cells) units
     → All (λ u. MeanHolds (u ∷ []) (l u) (h u)) units → MeanHolds units (sum_over units l) (sum_over units h)

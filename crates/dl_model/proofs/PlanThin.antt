@@ -1,50 +1,42 @@
 -- Thinning and division of the units of a plan.
-use Rattle.dl_model.proofs.Common.{ℕ, zero, suc, ◌≡◌, ◌+◌, ◌*◌, ◌^◌, ◌<◌, ◌≤◌, List, [], ◌∷◌, length, map, nat_lt, arith, refl, sym, ap, subst, inl, inr, ◌∙◌, fun_ext, All, cases_lt, lt-ltb, le-ltb, All-head, All-tail, pow_pos, Fraction, whole, ◌over◌, ◌+ℚ◌, ◌-ℚ◌, ◌*ℚ◌, ◌/ℚ◌, ◌≤ℚ◌, sum_over, over_same, over_mul, over_le, plus_comm, times_comm, times_zero, sub_plus, div_times, whole_pos, Item, Sev, Freq, Fixed, Table, Bernoulli, Binomial, Poisson, Gamma, weight_at, weight_sum, probability_of, pairs_of, expected_count, over_zero, total_pos, IsPositivePart, nothing, times_itself, SameCells, compound_of, All-filter, Pairs, probability, conditioned, mass, shares, HasDistribution, thinned_mean, items_over, filter-shares, probability-conditioned, positive_share, weight_at-le, total}
-use Rattle.std.proofs.Math.Nat.{eq-zero-or-pos, mul-pos}
-use Rattle.std.proofs.lemmas.Bool.{ne_eqb, eq-eqb}
-use Rattle.dl_plan.specs.declared.plan.Unit.{Unit as UnitOfPlan}
-use Rattle.dl_plan.specs.Count.{IsUnbounded, IsClaimCount as IsCountOfPlan}
+use Rattle.dl_model.proofs.Common.{ℕ, zero, suc, ◌≡◌, ◌+◌, ◌*◌, ◌^◌, ◌<◌, ◌≤◌, List, [], ◌∷◌, length, map, nat_lt, arith, refl, sym, ap, subst, inl, inr, ◌∙◌, fun_ext, All, cases_lt, lt-ltb, le-ltb, All-head, All-tail, pow_pos, Fraction, whole, ◌over◌, ◌+ℚ◌, ◌-ℚ◌, ◌*ℚ◌, ◌/ℚ◌, ◌≤ℚ◌, sum_over, over_same, over_mul, over_le, plus_comm, times_comm, times_zero, sub_plus, div_times, whole_pos, Item, Sev, Freq, Fixed, Table, Bernoulli, Binomial, Poisson, Gamma, weight_at, weight_sum, probability_of, pairs_of, expected_count, over_zero, total_pos, IsPositivePart, nothing, times_itself, SameCells, compound_of, All-filter, Pairs, probability, conditioned, mass, shares, HasDistribution, thinned_mean, items_over, filter-shares, probability-conditioned, positive_share, weight_at-le, total, eq-zero-or-pos, mul-pos, ne_eqb, eq-eqb, UnitOfPlan, IsUnbounded, IsCountOfPlan}
 use Rattle.dl_plan.proofs.Weights.{weight_sum_pos}
 use Rattle.dl_model.proofs.PoissonTimes.{poisson_shares}
-use Rattle.dl_model.proofs.GammaThin.{gamma_shares}
+use Rattle.dl_model.proofs.TotalLaws.{gamma_shares, part_of, weight_within, weight_sum-cons, weight_at-cons}
 use Rattle.dl_model.proofs.Beginnings.{poisson_no_loss, gamma_no_loss}
-use Rattle.dl_model.proofs.WeightLaws.{part_of, weight_within, weight_sum-cons, weight_at-cons}
 
 -- ---- the weights of the amounts above 0
 
--- leaving out amount 0 leaves the weights of the others, and with that of 0 they make up all
-record Parts (xs : List Item) : Type 0 where
-  none : weight_at (items_over 0 xs) 0 ≡ 0
-  each : (j : ℕ) → weight_at (items_over 0 xs) (suc j) ≡ weight_at xs (suc j)
-  all : weight_at xs 0 + weight_sum (items_over 0 xs) ≡ weight_sum xs
+-- the items ys are xs without amount 0: they leave the weights of the others, and with that of 0 they make up all
+record IsApart (xs ys : List Item) : Type 0 where
+  none : weight_at ys 0 ≡ 0
+  each : (j : ℕ) → weight_at ys (suc j) ≡ weight_at xs (suc j)
+  all : weight_at xs 0 + weight_sum ys ≡ weight_sum xs
 
-parts : (xs : List Item) → Parts xs
+parts : (xs : List Item) → IsApart xs (items_over 0 xs)
 parts [] = record { none = refl; each = λ j. refl; all = refl }
 parts (x ∷ xs) =
     let rest = parts xs in
+    let zero_more = weight_at-cons x xs 0 in
+    let all_more = weight_sum-cons x xs in
     elim (cases_lt 0 x.amount) [
       | inl h ↦
+          let none : part_of 0 x ≡ 0 = rw (ne_eqb x.amount 0 (omega (arith, h))) refl in
           let kept : items_over 0 (x ∷ xs) ≡ x ∷ items_over 0 xs = rw (lt-ltb 0 x.amount h) refl in
-          let not_here : part_of 0 x ≡ 0 = rw (ne_eqb x.amount 0 (λ e. omega (arith, h, e))) refl in
-          record {
-            none = ap (λ ys. weight_at ys 0) kept ∙ weight_at-cons x (items_over 0 xs) 0 ∙ omega (arith, not_here, rest.none);
-            each = λ j. ap (λ ys. weight_at ys (suc j)) kept ∙ weight_at-cons x (items_over 0 xs) (suc j)
-                ∙ ap (λ t. part_of (suc j) x + t) (rest.each j) ∙ sym (weight_at-cons x xs (suc j));
-            all =
-                let s = weight_sum-cons x (items_over 0 xs) in
-                omega (arith, ap weight_sum kept, s, weight_sum-cons x xs, weight_at-cons x xs 0, not_here, rest.all);
-          }
+          subst (IsApart (x ∷ xs)) (sym kept) (record {
+            none = omega (arith, weight_at-cons x (items_over 0 xs) 0, none, rest.none);
+            each = λ j. rw (weight_at-cons x (items_over 0 xs) (suc j), rest.each j) (sym (weight_at-cons x xs (suc j)));
+            all = omega (arith, weight_sum-cons x (items_over 0 xs), all_more, zero_more, none, rest.all);
+          })
       | inr h ↦
-          let at_zero : x.amount ≡ 0 = omega (arith, h) in
+          let e : x.amount ≡ 0 = omega (arith, h) in
+          let here : part_of 0 x ≡ x.weight = rw (eq-eqb x.amount 0 e) refl in
           let dropped : items_over 0 (x ∷ xs) ≡ items_over 0 xs = rw (le-ltb 0 x.amount h) refl in
-          let here : part_of 0 x ≡ x.weight = rw (eq-eqb x.amount 0 at_zero) refl in
-          record {
-            none = ap (λ ys. weight_at ys 0) dropped ∙ rest.none;
-            each = λ j.
-                let other : part_of (suc j) x ≡ 0 = rw (ne_eqb x.amount (suc j) (λ e. omega (arith, at_zero, e))) refl in
-                ap (λ ys. weight_at ys (suc j)) dropped ∙ rest.each j ∙ omega (arith, weight_at-cons x xs (suc j), other);
-            all = omega (arith, ap weight_sum dropped, weight_sum-cons x xs, weight_at-cons x xs 0, here, rest.all);
-          }
+          subst (IsApart (x ∷ xs)) (sym dropped) (record {
+            none = rest.none;
+            each = λ j. rw (weight_at-cons x xs (suc j), ne_eqb x.amount (suc j) (omega (arith, e)), rest.each j) (omega arith);
+            all = omega (arith, all_more, zero_more, here, rest.all);
+          })
     ]
 
 no_weight : (xs : List Item) → length xs ≡ 0 → weight_sum xs ≡ 0
@@ -66,8 +58,7 @@ module _ (sev : Sev) where
   positive = whole 1 -ℚ probability_of sev 0
 
   kept_share : positive ≡ weight_sum kept over sev.total
-  kept_share =
-      sym (positive_share (weight_at xs 0) sev.total pos)
+  kept_share = sym (positive_share (weight_at xs 0) sev.total pos)
       ∙ ap (λ n. n over sev.total) (omega (arith, (parts xs).all, sev.weighted.sum))
 
   zero_within : probability_of sev 0 ≤ℚ whole 1
@@ -172,9 +163,8 @@ gamma_thinned u s (suc q) mean is some means =
     (shares_make_up m (suc q) (omega arith) ∙ ap (λ freq. expected_count freq *ℚ positive u.sev) is))
 
 -- where the thinned mean is 0 there is no loss
-pub none_thinned : (freq : Freq) (sev : Sev) → IsCountOfPlan freq → IsUnbounded freq
-    → expected_count freq *ℚ positive sev ≡ whole 0
-    → SameCells nothing (compound_of freq sev)
+pub none_thinned : (freq : Freq) (sev : Sev) → IsCountOfPlan freq
+    → IsUnbounded freq → expected_count freq *ℚ positive sev ≡ whole 0 → SameCells nothing (compound_of freq sev)
 none_thinned (Fixed m) sev h bounded none = absurd bounded
 none_thinned (Table counts total) sev h bounded none = absurd bounded
 none_thinned (Bernoulli q) sev h bounded none = absurd bounded
@@ -195,7 +185,5 @@ no_item (x ∷ xs) h =
     dropped here = rw (le-ltb 0 x.amount here) refl
 
 pub no_amount_thinned : (u : UnitOfPlan) → All (λ (i : Item). i.amount ≤ 0) u.sev.items → thinned_mean u ≡ whole 0
-no_amount_thinned u h =
-    ap (λ p. expected_count u.freq *ℚ p) (kept_share u.sev ∙ ap (λ n. n over u.sev.total) (no_item u.sev.items h)
-    ∙ over_zero u.sev.total (pos u.sev))
-    ∙ times_zero _
+no_amount_thinned u h = ap (λ p. expected_count u.freq *ℚ p) (kept_share u.sev
+    ∙ ap (λ n. n over u.sev.total) (no_item u.sev.items h) ∙ over_zero u.sev.total (pos u.sev)) ∙ times_zero _

@@ -13,11 +13,9 @@ poisson_zero v = over_same _ _ _ _ (poisson_den v zero) one_pos (simp pow-zero (
 pub poisson_next : (v : Fraction) (n : ℕ) → poisson v (suc n) *ℚ whole (suc n) ≡ v *ℚ poisson v n
 unfolding poisson factorial
 poisson_next v n =
-    over_mul _ _ (suc n) 1 (poisson_den v (suc n)) one_pos
-    ∙ over_same _ _ _ _ (mul-pos (poisson_den v (suc n)) one_pos) (mul-pos v.positive (poisson_den v n))
-    (simp pow-suc (omega arith))
-    ∙ sym (over_mul v.num v.den _ _ v.positive (poisson_den v n))
-    ∙ ap (λ t. t *ℚ poisson v n) (over_self v)
+    over_mul _ _ (suc n) 1 (poisson_den v (suc n)) one_pos ∙ over_same _ _ _ _ (mul-pos (poisson_den v (suc n)) one_pos)
+    (mul-pos v.positive (poisson_den v n)) (simp pow-suc (omega arith))
+    ∙ sym (over_mul v.num v.den _ _ v.positive (poisson_den v n)) ∙ ap (λ t. t *ℚ poisson v n) (over_self v)
 
 -- ---- bounds
 
@@ -61,8 +59,7 @@ pub poisson_plus : (u v : Fraction) (n : ℕ) → poisson (u +ℚ v) n ≡ convo
 unfolding sum_pairs
 poisson_plus u v zero =
     poisson_zero (u +ℚ v) ∙ sym (ap₂ (λ s t. s *ℚ t) (poisson_zero u) (poisson_zero v) ∙ times_one _)
-poisson_plus u v (suc n) =
-    times_cancel _ _ (whole (suc n)) (whole_pos (suc n) (zero-lt-suc n))
-    (poisson_next (u +ℚ v) n ∙ ap (λ t. (u +ℚ v) *ℚ t) (poisson_plus u v n)
+poisson_plus u v (suc n) = times_cancel _ _ (whole (suc n))
+    (whole_pos (suc n) (zero-lt-suc n)) (poisson_next (u +ℚ v) n ∙ ap (λ t. (u +ℚ v) *ℚ t) (poisson_plus u v n)
     ∙ sym (convolve_next n (poisson u) (poisson v) (λ i. u) (λ j. v) (u +ℚ v) (next_of u) (next_of v) (λ i j e. refl))
     ∙ times_comm _ _)

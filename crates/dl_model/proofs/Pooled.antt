@@ -1,10 +1,6 @@
 -- A portfolio under a common factor declares of its total what one gamma unit with the pooled severity does.
-use Rattle.dl_model.proofs.Common.{◌≡◌, ℕ, ◌+◌, ◌-◌, ◌*◌, ◌<◌, ◌≤◌, arith, refl, sym, ap, ap₂, ◌∙◌, mul-le-mul_right, List, [], ◌∷◌, fun_ext, sum, sum_by-cons, Fraction, ◌+ℚ◌, ◌*ℚ◌, ◌/ℚ◌, ◌<ℚ◌, whole, choose, sum_to, sum_over, ring, div_times, plus_comm, times_comm, times_assoc, times_cancel, times_zero, sum_to_same, sum_to_times, sum_to_times_right, sum_to_swap, sum_to_none, sum_to_plus, sum_to_either, times_one, IsSeverity, power, cell, gamma, gamma_of, One, Point, Cdf, Mean, Layer, Tail, score, where_true, layer, nat_eq, nat_le, nat_lt, Option, ◌-ℚ◌, factorial, whole_times, sum_over_same, sum_over_times, times_right_comm, divided_power, Quantity, PricedTerm, above_quantile, Price, Part, PoissonUnit, amounts, amounts_given_counts, ways_to_share, chances, expected_claims, common_sums, pooled_severity, AreSeverities, CountsTotal, sum_over_claims, total}
-use Rattle.dl_model.proofs.TailScores.{div_is_times}
-use Rattle.std.proofs.Math.Nat.{le_refl as le_refl_n}
-use Rattle.dl_model.proofs.GammaThin.{pos_plus}
-use Rattle.dl_model.proofs.CompoundLaws.{cells_all}
-use Rattle.dl_model.proofs.Divided.{divided_whole}
+use Rattle.dl_model.proofs.Common.{◌≡◌, ℕ, ◌+◌, ◌-◌, ◌*◌, ◌<◌, ◌≤◌, arith, refl, sym, ap, ap₂, ◌∙◌, mul-le-mul_right, List, [], ◌∷◌, fun_ext, sum, sum_by-cons, Fraction, ◌+ℚ◌, ◌*ℚ◌, ◌/ℚ◌, ◌<ℚ◌, whole, choose, sum_to, sum_over, ring, div_times, plus_comm, times_comm, times_assoc, times_cancel, times_zero, sum_to_same, sum_to_times, sum_to_times_right, sum_to_swap, sum_to_none, sum_to_plus, sum_to_either, times_one, IsSeverity, power, cell, gamma, gamma_of, One, Point, Cdf, Mean, Layer, Tail, score, where_true, layer, nat_eq, nat_le, nat_lt, Option, ◌-ℚ◌, factorial, whole_times, sum_over_same, sum_over_times, times_right_comm, divided_power, Quantity, PricedTerm, above_quantile, Price, Part, PoissonUnit, amounts, amounts_given_counts, ways_to_share, chances, expected_claims, common_sums, pooled_severity, AreSeverities, CountsTotal, sum_over_claims, total, le_refl_n}
+use Rattle.dl_model.proofs.TotalLaws.{div_is_times, pos_plus, cells_all, divided_whole}
 use Rattle.dl_model.proofs.SharedClaims.{mixed, weighed, weighed_same, weighed_by_total, first_none, others_none, four_factors, claims_same, claims_times, scaled_power}
 
 pub sum_alone : (x : ℕ) → sum (x ∷ []) ≡ x
@@ -65,9 +61,8 @@ module _ (r : ℕ) (us : List PoissonUnit) where
       score quantity (amounts claims) *ℚ amounts_given_counts claims *ℚ ways_to_share r n claims *ℚ
       chances r (expected_claims us) claims)
       ≡ whole (orders r n) *ℚ weighed chance us n (score quantity)
-  level_sum quantity n =
-      claims_same us n _ _ (λ claims. four_factors chance (score quantity (amounts claims)) (whole (orders r n)) claims)
-      ∙ claims_times us n (whole (orders r n)) _
+  level_sum quantity n = claims_same us n _ _ (λ claims. four_factors chance (score quantity (amounts claims))
+      (whole (orders r n)) claims) ∙ claims_times us n (whole (orders r n)) _
 
   module _ (some : whole 0 <ℚ expected_claims us) where
     pub claims_pos : whole 0 <ℚ whole r +ℚ expected_claims us
@@ -124,10 +119,8 @@ scaled_all : (y : PoissonUnit → Fraction) (us : List PoissonUnit) → AreSever
     → ((a : ℕ) → M < a → mixed y us a ≡ whole 0) → sum_to M (mixed y us) ≡ sum_over us y
 unfolding sum_over
 scaled_all y [] h M past = sum_to_none M
-scaled_all y (u ∷ us) h M past =
-    sum_to_plus M (λ a. y u *ℚ u.severity a) (mixed y us)
-    ∙ ap₂ (λ s t. s +ℚ t)
-    (sum_to_either M u.most (λ a. y u *ℚ u.severity a) (λ a c. first_none y u us a (past a c))
+scaled_all y (u ∷ us) h M past = sum_to_plus M (λ a. y u *ℚ u.severity a) (mixed y us)
+    ∙ ap₂ (λ s t. s +ℚ t) (sum_to_either M u.most (λ a. y u *ℚ u.severity a) (λ a c. first_none y u us a (past a c))
     (λ a c. simp (h.0.past a c, times_zero)) ∙ rw (sum_to_times u.most (y u) u.severity, h.0.add_up) (times_one _))
     (scaled_all y us h.1 M (λ a c. others_none y u us a (past a c)))
 
@@ -146,8 +139,6 @@ pooled_is_severity us h some M past =
 pub pooled_one : (r : ℕ) (us : List PoissonUnit) → AreSeverities us → whole 0 <ℚ expected_claims us → (M : ℕ)
     → ((a : ℕ) → M < a → pooled_severity us a ≡ whole 0) → (N : ℕ)
     → common_sums r us One N ≡ sum_to N (gamma_of r (expected_claims us))
-pooled_one r us h some M past N =
-    pooled r us some h M past One (λ ys. refl) N
-    ∙ sum_to_same (N * M) _ _ (λ x c. times_one _)
-    ∙ cells_all (gamma_of r (expected_claims us)) (pooled_severity us) M (pooled_is_severity us h some M past) N (N * M)
-    (le_refl_n _)
+pooled_one r us h some M past N = pooled r us some h M past One (λ ys. refl) N
+    ∙ sum_to_same (N * M) _ _ (λ x c. times_one _) ∙ cells_all (gamma_of r (expected_claims us))
+    (pooled_severity us) M (pooled_is_severity us h some M past) N (N * M) (le_refl_n _)

@@ -1,13 +1,11 @@
 -- A portfolio under a common factor as one loss: what it declares is bounded, above 0 somewhere, and adds up to 1.
-use Rattle.dl_model.proofs.Common.{◌≡◌, ℕ, suc, ◌*◌, ◌<◌, ◌≤◌, arith, refl, sym, ap, subst, subst₂, ◌∙◌, List, [], ◌∷◌, fun_ext, Fraction, whole, ◌+ℚ◌, ◌*ℚ◌, ◌≤ℚ◌, ◌<ℚ◌, le_trans, sum_to, sum_to_same, IsBound, AtLeast, Holds, Rises, Loss, One, Cdf, Mean, score, sum_over_outcomes, partial_sums, loss, IsDeclared, IsDeclaredLoss, IsQuantile, Quantity, IsAsked, AreDeclared, PoissonUnit, expected_claims, common_sums, pooled_severity, pooled_unit, AreSeverities, CountsTotal, total, order}
+use Rattle.dl_model.proofs.Common.{◌≡◌, ℕ, suc, ◌*◌, ◌<◌, ◌≤◌, arith, refl, sym, ap, subst, subst₂, ◌∙◌, List, [], ◌∷◌, fun_ext, Fraction, whole, ◌+ℚ◌, ◌*ℚ◌, ◌≤ℚ◌, ◌<ℚ◌, le_trans, sum_to, sum_to_same, IsBound, AtLeast, Holds, Rises, Loss, One, Cdf, Mean, score, sum_over_outcomes, partial_sums, loss, IsDeclared, IsDeclaredLoss, Quantity, IsAsked, AreDeclared, PoissonUnit, expected_claims, common_sums, pooled_severity, pooled_unit, AreSeverities, CountsTotal, total, order}
 use Rattle.dl_model.proofs.CountBounds.{gamma_of_count}
 use Rattle.dl_model.proofs.CountMeans.{gamma_mean}
 use Rattle.dl_model.proofs.Means.{mean_of_unit}
-use Rattle.dl_model.proofs.UnitLaws.{unit_plain}
+use Rattle.dl_model.proofs.TotalLaws.{unit_plain, outcomes_rise, cdf_grows}
 use Rattle.dl_model.proofs.UnitLosses.{unit_declared_loss}
-use Rattle.dl_model.proofs.Outcomes.{outcomes_rise}
-use Rattle.dl_model.proofs.Bounded.{are_units, quantity_bounded, whole_positive, adds_up}
-use Rattle.dl_model.proofs.Bracket.{cdf_grows, one_quantile}
+use Rattle.dl_model.proofs.Bounded.{are_units, quantity_bounded, whole_positive, adds_up, IsDistribution}
 use Rattle.dl_model.proofs.Pooled.{pooled, pooled_is_severity, total_cdf, total_mean}
 use Rattle.dl_model.proofs.SharedBounds.{asked_within}
 
@@ -35,8 +33,7 @@ module _ (q : ℕ) (us : List PoissonUnit) (some : whole 0 <ℚ expected_claims 
       ∙ sum_to_same (N * M) _ _ (λ x c. ap (λ t. t *ℚ score quantity (x ∷ []))
       (sym (unit_plain (pooled_unit (suc q) us M) unit_declared.unit (λ s. refl) x N)))
 
-  same : (quantity : Quantity) → CountsTotal quantity
-      → partial_sums one_loss quantity ≡ common_sums (suc q) us quantity
+  same : (quantity : Quantity) → CountsTotal quantity → partial_sums one_loss quantity ≡ common_sums (suc q) us quantity
   same quantity total = fun_ext (λ N. sym (as_one_loss quantity total N))
 
   total_bounded : (quantity : Quantity) → CountsTotal quantity → IsAsked quantity
@@ -74,12 +71,14 @@ module _ (q : ℕ) (us : List PoissonUnit) (some : whole 0 <ℚ expected_claims 
   common_rises =
       subst Rises (same One (λ ys. refl)) (outcomes_rise one_loss (are_units one_loss all_declared) (score One))
 
-  pub common_quantile : (p : Fraction) (x x' : ℕ) → IsQuantile (common_sums (suc q) us) x p
-      → IsQuantile (common_sums (suc q) us) x' p → x ≡ x'
-  common_quantile p x x' i j =
-      let b = common_bounded One tt in
-      let k = common_positive in
-      one_quantile (common_sums (suc q) us) common_grows common_rises b.0 k.0 b.1 k.1 p x x' i j
+  pub common_distribution : IsDistribution (common_sums (suc q) us)
+  common_distribution = record {
+    bounded = common_bounded;
+    positive = common_positive;
+    adds_up = common_whole;
+    grows = common_grows;
+    rises = common_rises;
+  }
 
   -- the mean is that of the count times that of one claim
   pub common_mean : Holds (common_sums (suc q) us Mean) (common_sums (suc q) us One)

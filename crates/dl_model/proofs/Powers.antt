@@ -6,10 +6,9 @@ convolve_comm f g =
     fun_ext (λ s. sym (sum_pairs_turn s (λ i j. f i *ℚ g j)) ∙ sum_pairs_same s _ _ (λ i j e. times_comm _ _))
 
 pub convolve_assoc : (f g h : ℕ → Fraction) → convolve (convolve f g) h ≡ convolve f (convolve g h)
-convolve_assoc f g h = fun_ext (λ s.
-    sum_pairs_same s _ _ (λ i j e. sym (sum_pairs_times_right i (h j) (λ k l. f k *ℚ g l))
-    ∙ sum_pairs_same i _ _ (λ k l e. times_assoc _ _ _))
-    ∙ sum_pairs_assoc s (λ k l j. f k *ℚ (g l *ℚ h j))
+convolve_assoc f g h =
+    fun_ext (λ s. sum_pairs_same s _ _ (λ i j e. sym (sum_pairs_times_right i (h j) (λ k l. f k *ℚ g l))
+    ∙ sum_pairs_same i _ _ (λ k l e. times_assoc _ _ _)) ∙ sum_pairs_assoc s (λ k l j. f k *ℚ (g l *ℚ h j))
     ∙ sum_pairs_same s _ _ (λ k m e. sum_pairs_times m (f k) (λ l j. g l *ℚ h j)))
 
 pub convolve_first : (f g h : ℕ → Fraction) (s : ℕ) → convolve g (convolve f h) s ≡ convolve f (convolve g h) s
@@ -35,12 +34,10 @@ power_plus f (suc n) k =
 pub convolve_next : (n : ℕ) (f g a b : ℕ → Fraction) (c : Fraction)
     → ((i : ℕ) → whole (suc i) *ℚ f (suc i) ≡ a i *ℚ f i) → ((j : ℕ) → whole (suc j) *ℚ g (suc j) ≡ b j *ℚ g j)
     → ((i j : ℕ) → i + j ≡ n → a i +ℚ b j ≡ c) → whole (suc n) *ℚ convolve f g (suc n) ≡ c *ℚ convolve f g n
-convolve_next n f g a b c left right both =
-    sum_pairs_weighed n (λ i j. f i *ℚ g j) ∙ sym (sum_pairs_plus n _ _)
-    ∙ sum_pairs_same n _ (λ i j. c *ℚ (f i *ℚ g j)) (λ i j e. ap₂ (λ s t. s +ℚ t)
+convolve_next n f g a b c left right both = sum_pairs_weighed n (λ i j. f i *ℚ g j)
+    ∙ sym (sum_pairs_plus n _ _) ∙ sum_pairs_same n _ (λ i j. c *ℚ (f i *ℚ g j)) (λ i j e. ap₂ (λ s t. s +ℚ t)
     (sym (times_assoc _ _ _) ∙ ap (λ t. t *ℚ g j) (left i)) (times_left_comm _ _ _ ∙ ap (λ t. f i *ℚ t) (right j))
-    ∙ (simp ring) ∙ ap (λ t. t *ℚ (f i *ℚ g j)) (both i j e))
-    ∙ sum_pairs_times n c (λ i j. f i *ℚ g j)
+    ∙ (simp ring) ∙ ap (λ t. t *ℚ (f i *ℚ g j)) (both i j e)) ∙ sum_pairs_times n c (λ i j. f i *ℚ g j)
 
 -- ---- s * f s, which goes over a convolution as a derivative does
 
@@ -48,11 +45,9 @@ abbrev tilt : (ℕ → Fraction) → ℕ → Fraction
 tilt f s = whole s *ℚ f s
 
 tilt_convolve : (f g : ℕ → Fraction) (s : ℕ) → tilt (convolve f g) s ≡ convolve (tilt f) g s +ℚ convolve f (tilt g) s
-tilt_convolve f g s =
-    sym (sum_pairs_times s (whole s) (λ i j. f i *ℚ g j))
-    ∙ sum_pairs_same s _ _ (λ i j e. ap (λ t. whole t *ℚ (f i *ℚ g j)) (sym e)
-    ∙ ap (λ t. t *ℚ (f i *ℚ g j)) (whole_plus i j) ∙ simp ring)
-    ∙ sum_pairs_plus s (λ i j. tilt f i *ℚ g j) (λ i j. f i *ℚ tilt g j)
+tilt_convolve f g s = sym (sum_pairs_times s (whole s) (λ i j. f i *ℚ g j))
+    ∙ sum_pairs_same s _ _ (λ i j e. ap (λ t. whole t *ℚ (f i *ℚ g j)) (sym e) ∙ ap (λ t. t *ℚ (f i *ℚ g j))
+    (whole_plus i j) ∙ simp ring) ∙ sum_pairs_plus s (λ i j. tilt f i *ℚ g j) (λ i j. f i *ℚ tilt g j)
 
 pub convolve_times : (k : Fraction) (f g : ℕ → Fraction) (s : ℕ) → convolve f (λ i. k *ℚ g i) s ≡ k *ℚ convolve f g s
 convolve_times k f g s =
@@ -70,11 +65,8 @@ tilt_at_zero (suc s) = times_zero _
 pub power_tilt : (f : ℕ → Fraction) (n s : ℕ)
     → whole s *ℚ power f (suc n) s ≡ whole (suc n) *ℚ convolve (λ j. whole j *ℚ f j) (power f n) s
 unfolding power
-power_tilt f zero s =
-    tilt_convolve f at_zero s
-    ∙ ap₂ (λ x y. x +ℚ y) (sym (one_times _))
-    (ap (λ g. convolve f g s) (fun_ext tilt_at_zero) ∙ sum_pairs_same s _ _ (λ i j e. times_zero _) ∙ sum_pairs_none s)
-    ∙ plus_zero _
+power_tilt f zero s = tilt_convolve f at_zero s ∙ ap₂ (λ x y. x +ℚ y) (sym (one_times _)) (ap (λ g. convolve f g s)
+    (fun_ext tilt_at_zero) ∙ sum_pairs_same s _ _ (λ i j e. times_zero _) ∙ sum_pairs_none s) ∙ plus_zero _
 power_tilt f (suc n) s =
     let c = power f n in
     let t : ℕ → Fraction = λ j. whole j *ℚ f j in

@@ -12,8 +12,7 @@ points_to x t = elim (cases_lt x t) [
   | inr l ↦ ap chosen (le-leb t x l) ∙ sym (passed x t (λ y. whole 1) l)
 ]
 
-pub cdf_points : (us : List Loss) (x N : ℕ)
-    → partial_sums us (Cdf x) N ≡ sum_to x (λ y. partial_sums us (Point y) N)
+pub cdf_points : (us : List Loss) (x N : ℕ) → partial_sums us (Cdf x) N ≡ sum_to x (λ y. partial_sums us (Point y) N)
 cdf_points us x N = outcomes_same us _ _ N (λ ys. points_to x (sum ys)) ∙ outcomes_sum us x (λ y. score (Point y)) N
 
 pub above_cdf : (x t : ℕ) → where_true (nat_lt x t) (whole 1) +ℚ where_true (nat_le t x) (whole 1) ≡ whole 1
@@ -22,8 +21,7 @@ above_cdf x t = elim (cases_lt x t) [
   | inr l ↦ rw (le-ltb x t l, le-leb t x l) (zero_plus _)
 ]
 
-pub survival_rest : (us : List Loss) (x N : ℕ)
-    → survival us x N +ℚ partial_sums us (Cdf x) N ≡ partial_sums us One N
+pub survival_rest : (us : List Loss) (x N : ℕ) → survival us x N +ℚ partial_sums us (Cdf x) N ≡ partial_sums us One N
 survival_rest us x N = sym (outcomes_plus us _ _ N) ∙ outcomes_same us _ _ N (λ ys. above_cdf x (sum ys))
 
 pub cdf_rest : (us : List Loss) (x N : ℕ) → partial_sums us (Cdf x) N +ℚ survival us x N ≡ partial_sums us One N

@@ -1,6 +1,5 @@
 -- The declared probabilities add up to 1.
-use Rattle.dl_model.proofs.Common.{◌≡◌, ℕ, suc, zero, ◌+◌, ◌≤◌, arith, sym, ap, ◌∙◌, zero-lt-suc, Fraction, ◌+ℚ◌, ◌*ℚ◌, ◌≤ℚ◌, ◌<ℚ◌, whole, sum_to, IsBound, Settles, poisson, times_comm, plus_times, times_plus, one_times, whole_suc, whole_pos, le_refl, le_trans, le_of_eq, le_of_lt, le_plus, times_le_cancel, times_le_times, archimedes, times_le_both, sum_to_grows, halving_bound, whole_le, order}
-use Rattle.std.proofs.Common.{add-zero}
+use Rattle.dl_model.proofs.Common.{◌≡◌, ℕ, suc, zero, ◌+◌, ◌≤◌, arith, sym, ap, ◌∙◌, zero-lt-suc, Fraction, ◌+ℚ◌, ◌*ℚ◌, ◌≤ℚ◌, ◌<ℚ◌, whole, sum_to, IsBound, Settles, poisson, times_comm, plus_times, times_plus, one_times, whole_suc, whole_pos, le_refl, le_trans, le_of_eq, le_of_lt, le_plus, times_le_cancel, times_le_times, archimedes, times_le_both, sum_to_grows, halving_bound, whole_le, order, add-zero}
 use Rattle.dl_model.proofs.PoissonWeights.{poisson_halves, poisson_zero}
 
 -- weights that halve from K on come below every fraction

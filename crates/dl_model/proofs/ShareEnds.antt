@@ -1,11 +1,6 @@
 -- Ends of a share of the tail mean, from the unit's mean, its joint means up to the quantile, and its share at it.
-use Rattle.dl_model.proofs.Common.{◌≡◌, inl, inr, ℕ, nat_eq, nat_lt, nat_le, arith, sym, ap, ap₂, subst, subst₂, ◌∙◌, List, sum, get_or, fun_ext, cases_lt, cases_eq, lt-ltb, le-ltb, eq-eqb, ne_eqb, Fraction, whole, ◌+ℚ◌, ◌-ℚ◌, ◌*ℚ◌, ◌/ℚ◌, ◌≤ℚ◌, ◌<ℚ◌, sum_to, ring, times_one, one_times, times_comm, times_assoc, zero_plus, plus_times, sub_plus, sum_to_same, sum_to_times_right, Series, IsBound, Rises, AtMost, AtLeast, Holds, plus, Loss, AreDeclarable, One, Point, Cdf, Joint, Part, Share, score, sum_over_outcomes, partial_sums, where_true, lt-leb, le-leb, Bool, false, true, times_plus, times_zero}
-use Rattle.dl_model.specs.Shares.{HoldsShare, unit_mean}
-use Rattle.dl_model.proofs.ValueLaws.{scaled_least, scaled_most, at_most_plus, at_least_plus, scaled_rises, most_with_factor, least_with_factor, minus_most, minus_least, where_factor, times_where}
-use Rattle.dl_model.proofs.Ends.{to_rises}
-use Rattle.dl_model.proofs.Outcomes.{outcomes_same, outcomes_plus, outcomes_times, outcomes_sum, outcomes_rise}
-use Rattle.dl_model.proofs.Scores.{points_to, above_cdf}
-use Rattle.dl_model.proofs.TailScores.{div_is_times, rest_pos}
+use Rattle.dl_model.proofs.Common.{◌≡◌, inl, inr, ℕ, nat_eq, nat_lt, nat_le, arith, sym, ap, ap₂, subst, subst₂, ◌∙◌, List, sum, get_or, fun_ext, cases_lt, cases_eq, lt-ltb, le-ltb, eq-eqb, ne_eqb, Fraction, whole, ◌+ℚ◌, ◌-ℚ◌, ◌*ℚ◌, ◌/ℚ◌, ◌≤ℚ◌, ◌<ℚ◌, sum_to, ring, times_one, one_times, times_comm, times_assoc, zero_plus, plus_times, sub_plus, sum_to_same, sum_to_times_right, Series, IsBound, Rises, AtMost, AtLeast, Holds, plus, Loss, AreDeclarable, One, Point, Cdf, Joint, Part, Share, score, sum_over_outcomes, partial_sums, where_true, lt-leb, le-leb, Bool, false, true, times_plus, times_zero, HoldsShare, unit_mean}
+use Rattle.dl_model.proofs.TotalLaws.{scaled_least, scaled_most, at_most_plus, at_least_plus, scaled_rises, most_with_factor, least_with_factor, minus_most, minus_least, where_factor, times_where, to_rises, outcomes_same, outcomes_plus, outcomes_times, outcomes_sum, outcomes_rise, points_to, above_cdf, div_is_times, rest_pos}
 use Rattle.dl_model.proofs.ShareLaws.{r_pos}
 
 -- ---- a value over a value
@@ -123,32 +118,27 @@ module _ (us : List Loss) (w : AreDeclarable us) (i q : ℕ) (p v : Fraction) (b
     share_high : AtLeast (partial_sums us (Part q u)) O p
         → AtMost (partial_sums us (Share i p q u)) O ((mh -ℚ bl +ℚ kh *ℚ (fh -ℚ p)) /ℚ (whole 1 -ℚ p))
     share_high part =
-        let d = minus_most (in_tail us i q u le) (partial_sums us (Part q u)) O fh p
-        (scaled_rises k' _ (rises (score (Point q)))) (rises (score (Part q u)))
+        let d = minus_most _ _ O fh p (scaled_rises k' _ (rises (score (Point q)))) (rises (score (Part q u)))
         (subst (λ S. AtMost S O fh) (sym (fun_ext (cdf_parts us i q u le))) cdf.1) part in
-        let j = most_chain (joint_in_tail us i q u le) (in_tail us i q u le) O kh (fh -ℚ p)
-        (both_most k' (partial_sums us (Joint i q)) (partial_sums us (Point q)) kh share.1) d in
-        let b = minus_most (beyond us i q) (up_to us i q) O mh bl (rises _) up_to_rises
+        let j = most_chain _ _ O kh (fh -ℚ p) (both_most k' _ _ kh share.1) d in
+        let b = minus_most _ _ O mh bl (rises _) up_to_rises
         (subst (λ S. AtMost S O mh) (sym (fun_ext (mean_parts us i q))) mean.1) joints.0 in
         subst₂ (λ Q t. AtMost Q O t) (sym (fun_ext (share_parts us i q u le p below)))
         (over_rest (mh -ℚ bl +ℚ kh *ℚ (fh -ℚ p)))
-        (scaled_most (whole 1 /ℚ (whole 1 -ℚ p)) (plus (beyond us i q) (joint_in_tail us i q u le)) O _
-        (at_most_plus (beyond us i q) (joint_in_tail us i q u le) O (mh -ℚ bl) (kh *ℚ (fh -ℚ p)) b j))
+        (scaled_most (whole 1 /ℚ (whole 1 -ℚ p)) _ O _ (at_most_plus _ _ O _ _ b j))
 
     share_low : AtMost (partial_sums us (Part q u)) O p
         → AtLeast (partial_sums us (Share i p q u)) O ((ml -ℚ bh +ℚ kl *ℚ (fl -ℚ p)) /ℚ (whole 1 -ℚ p))
     share_low part =
-        let d = minus_least (in_tail us i q u le) (partial_sums us (Part q u)) O fl p v (rises (score One)) bound
+        let d = minus_least _ _ O fl p v (rises (score One)) bound
         (subst (λ S. AtLeast S O fl) (sym (fun_ext (cdf_parts us i q u le))) cdf.0) part in
-        let j = least_chain (joint_in_tail us i q u le) (in_tail us i q u le) O kl (fl -ℚ p)
-        (both_least k' (partial_sums us (Joint i q)) (partial_sums us (Point q)) kl share.0) d in
-        let b = minus_least (beyond us i q) (up_to us i q) O ml bh v (rises (score One)) bound
+        let j = least_chain _ _ O kl (fl -ℚ p) (both_least k' _ _ kl share.0) d in
+        let b = minus_least _ _ O ml bh v (rises (score One)) bound
         (subst (λ S. AtLeast S O ml) (sym (fun_ext (mean_parts us i q))) mean.0) joints.1 in
         subst₂ (λ Q t. AtLeast Q O t) (sym (fun_ext (share_parts us i q u le p below)))
         (over_rest (ml -ℚ bh +ℚ kl *ℚ (fl -ℚ p)))
-        (scaled_least (whole 1 /ℚ (whole 1 -ℚ p)) (plus (beyond us i q) (joint_in_tail us i q u le)) O _
-        (at_least_plus (beyond us i q) (joint_in_tail us i q u le) O (ml -ℚ bh) (kl *ℚ (fl -ℚ p)) (rises _)
-        (scaled_rises k' _ (rises (score (Joint i q)))) b j))
+        (scaled_least (whole 1 /ℚ (whole 1 -ℚ p)) _ O _
+        (at_least_plus _ _ O _ _ (rises _) (scaled_rises k' _ (rises (score (Joint i q)))) b j))
 
   pub share_ends : HoldsShare (partial_sums us) i p q ((ml -ℚ bh +ℚ kl *ℚ (fl -ℚ p)) /ℚ (whole 1 -ℚ p))
       ((mh -ℚ bl +ℚ kh *ℚ (fh -ℚ p)) /ℚ (whole 1 -ℚ p))

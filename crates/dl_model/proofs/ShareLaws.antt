@@ -1,16 +1,12 @@
 -- Shares of the tail mean, and joint means of all units together.
 use Rattle.dl_model.proofs.Common.{◌≡◌, inl, inr, ℕ, zero, suc, ◌+◌, ◌-◌, Bool, true, false, nat_eq, nat_lt, arith, refl, sym, ap, ap₂, ◌∙◌, List, [], ◌∷◌, length, sum, get_or, fun_ext, cases_lt, cases_eq, lt-ltb, le-ltb, eq-eqb, ne_eqb, Fraction, whole, ◌+ℚ◌, ◌-ℚ◌, ◌*ℚ◌, ◌/ℚ◌, ◌≤ℚ◌, ◌<ℚ◌, sum_to, sum_below, ring, times_one, one_times, times_zero, zero_times, times_comm, whole_plus, plus_times, times_plus, le_of_lt, div_times, sub_plus, Loss, One, Point, Tail, Joint, Part, Share, score, sum_over_outcomes, partial_sums, where_true}
-use Rattle.dl_model.proofs.Ends.{below_first}
-use Rattle.dl_model.proofs.Outcomes.{outcomes_same, outcomes_plus, outcomes_times, outcomes_below, sum-cons}
-use Rattle.dl_model.proofs.Picks.{where_factor}
-use Rattle.dl_model.proofs.TailScores.{rest_pos}
+use Rattle.dl_model.proofs.TotalLaws.{below_first, outcomes_same, outcomes_plus, outcomes_times, outcomes_below, sum-cons, where_factor, rest_pos}
 
 -- ---- sums over the units
 
 -- a sum over outcomes reads only lists with one outcome of each loss
 pub outcomes_of_length : (us : List Loss) (f g : List ℕ → Fraction) (N : ℕ)
-    → ((ys : List ℕ) → length ys ≡ length us → f ys ≡ g ys)
-    → sum_over_outcomes us f N ≡ sum_over_outcomes us g N
+    → ((ys : List ℕ) → length ys ≡ length us → f ys ≡ g ys) → sum_over_outcomes us f N ≡ sum_over_outcomes us g N
 unfolding sum_over_outcomes
 outcomes_of_length [] f g N h = h [] refl
 outcomes_of_length (u ∷ us) f g N h = ap (sum_to (u.reach N)) (fun_ext (λ y. ap (λ t. u.family.cells y N *ℚ t)
@@ -28,8 +24,7 @@ below_times (suc n) k f = ap (λ t. t +ℚ k *ℚ f n) (below_times n k f) ∙ s
 outcomes_total : (ys : List ℕ) → sum_below (length ys) (λ i. whole (get_or ys i 0)) ≡ whole (sum ys)
 unfolding sum_below
 outcomes_total [] = refl
-outcomes_total (y ∷ ys) =
-    below_first (length ys) (λ i. whole (get_or (y ∷ ys) i 0))
+outcomes_total (y ∷ ys) = below_first (length ys) (λ i. whole (get_or (y ∷ ys) i 0))
     ∙ ap (λ t. whole y +ℚ t) (outcomes_total ys) ∙ sym (ap whole (sum-cons y ys) ∙ whole_plus y (sum ys))
 
 each_outcome : (us : List Loss) (ys : List ℕ) → length ys ≡ length us

@@ -42,16 +42,12 @@ module _ (r : ℕ) (us : List PoissonUnit) where
       (times_le_times _ _ (amounts_given_counts claims) (h (amounts claims))))))
 
   values_times : (k : Fraction) (f : List ℕ → Fraction) (N : ℕ) → values (λ ys. k *ℚ f ys) N ≡ k *ℚ values f N
-  values_times k f N =
-      sum_to_same N _ _ (λ n d. ap (sum_over_claims us n) (fun_ext (λ claims. (simp ring)))
-      ∙ claims_times us n k (counted f n))
-      ∙ sum_to_times N k (λ n. sum_over_claims us n (counted f n))
+  values_times k f N = sum_to_same N _ _ (λ n d. ap (sum_over_claims us n) (fun_ext (λ claims. (simp ring)))
+      ∙ claims_times us n k (counted f n)) ∙ sum_to_times N k (λ n. sum_over_claims us n (counted f n))
 
   values_plus : (f g : List ℕ → Fraction) (N : ℕ) → values (λ ys. f ys +ℚ g ys) N ≡ values f N +ℚ values g N
-  values_plus f g N =
-      sum_to_same N _ _ (λ n d. ap (sum_over_claims us n) (fun_ext (λ claims. (simp ring)))
-      ∙ claims_plus us n (counted f n) (counted g n))
-      ∙ sum_to_plus N _ _
+  values_plus f g N = sum_to_same N _ _ (λ n d. ap (sum_over_claims us n) (fun_ext (λ claims. (simp ring)))
+      ∙ claims_plus us n (counted f n) (counted g n)) ∙ sum_to_plus N _ _
 
   -- ---- of quantities
 

@@ -1,18 +1,13 @@
 -- Sums over claims lists of what counts the total alone: one severity, mixed from those of the units, serves for all.
-use Rattle.dl_model.proofs.Common.{◌≡◌, ℕ, suc, zero, ◌+◌, ◌*◌, ◌<◌, ◌≤◌, arith, refl, sym, ap, ap₂, subst, ◌∙◌, List, [], ◌∷◌, fun_ext, sum, sum_by-cons, Fraction, ◌*ℚ◌, ◌/ℚ◌, ◌≤ℚ◌, ◌<ℚ◌, whole, ◌^ℚ◌, sum_to, sum_over, sum_pairs, ring, le_antisymm, le_plus, zero_le, div_times, whole_pos, times_pos, plus_comm, times_comm, times_assoc, times_left_comm, times_zero, zero_times, one_times, times_cancel, one_pos, sum_to_same, sum_to_times, sum_to_none, sum_to_either, sum_pairs_same, sum_pairs_none, sum_pairs_times, sum_pairs_sum_to, at_zero, convolve, power, factorial, factorial_pos, divided_power, product_over, sum_over_claims, PoissonUnit, Claims, amounts, amounts_given_counts, AreSeverities, score}
-use Rattle.dl_model.proofs.Cauchy.{by_total}
-use Rattle.std.proofs.Math.Nat.{le_refl as le_refl_n}
-use Rattle.dl_model.proofs.ValueLaws.{power_past}
-use Rattle.dl_model.proofs.Itself.{sum_to_at_zero}
-use Rattle.dl_model.proofs.Divided.{divided_whole, divided_plus, undivided, divided_none}
+use Rattle.dl_model.proofs.Common.{◌≡◌, ℕ, suc, zero, ◌+◌, ◌*◌, ◌<◌, ◌≤◌, arith, refl, sym, ap, ap₂, subst, ◌∙◌, List, [], ◌∷◌, fun_ext, sum, sum_by-cons, Fraction, ◌*ℚ◌, ◌/ℚ◌, ◌≤ℚ◌, ◌<ℚ◌, whole, ◌^ℚ◌, sum_to, sum_over, sum_pairs, ring, le_antisymm, le_plus, zero_le, div_times, whole_pos, times_pos, plus_comm, times_comm, times_assoc, times_left_comm, times_zero, zero_times, one_times, times_cancel, one_pos, sum_to_same, sum_to_times, sum_to_none, sum_to_either, sum_pairs_same, sum_pairs_none, sum_pairs_times, sum_pairs_sum_to, at_zero, convolve, power, factorial, factorial_pos, divided_power, product_over, sum_over_claims, PoissonUnit, Claims, amounts, amounts_given_counts, AreSeverities, score, le_refl_n, IsSeverity}
+use Rattle.dl_model.proofs.TotalLaws.{by_total, power_past, sum_to_at_zero, divided_whole, divided_plus, undivided, divided_none}
 
 -- ---- powers of a scaled severity
 
 pub scaled_power : (y : Fraction) (f : ℕ → Fraction) (n s : ℕ) → power (λ a. y *ℚ f a) n s ≡ y ^ℚ n *ℚ power f n s
 unfolding power ◌^ℚ◌
 scaled_power y f zero s = sym (one_times _)
-scaled_power y f (suc n) s =
-    sum_pairs_same s _ _ (λ i j e. ap (λ t. y *ℚ f i *ℚ t) (scaled_power y f n j) ∙ simp ring)
+scaled_power y f (suc n) s = sum_pairs_same s _ _ (λ i j e. ap (λ t. y *ℚ f i *ℚ t) (scaled_power y f n j) ∙ simp ring)
     ∙ sum_pairs_times s (y *ℚ y ^ℚ n) (λ i j. f i *ℚ power f n j)
 
 pub divided_past : (f : ℕ → Fraction) (m : ℕ) → ((j : ℕ) → m < j → f j ≡ whole 0) → (n s : ℕ) → n * m < s
@@ -116,22 +111,30 @@ module _ (y : PoissonUnit → Fraction) where
   others_none u us a e = le_antisymm _ _
       (subst (λ t. mixed us a ≤ℚ t) (plus_comm _ _ ∙ e) (le_plus (mixed us a) (scaled_severity u a))) (zero_le _)
 
-  -- the first unit apart: its amounts, and what the others come to, each none past some number
-  pub by_first : (u : PoissonUnit) (us : List PoissonUnit) (V : List ℕ → Fraction) (M n far : ℕ) (value : ℕ → Fraction)
-      (a b : ℕ → ℕ → Fraction) → ((j s : ℕ) → j * u.most < s → a j s ≡ whole 0)
-      → ((j s : ℕ) → j * M < s → a j s ≡ whole 0) → ((k t : ℕ) → k * M < t → b k t ≡ whole 0) → n * M ≤ far
-      → ((j k s : ℕ) → divided_power (scaled_severity u) j s *ℚ weighed us k (λ ys. V (s ∷ ys))
-      ≡ a j s *ℚ sum_to (k * M) (λ t. value (s + t) *ℚ b k t))
-      → weighed (u ∷ us) n V ≡ sum_to far (λ x. value x *ℚ sum_pairs n (λ j k. convolve (a j) (b k) x))
-  by_first u us V M n far value a b own past others h each =
+  -- the first unit apart: its amounts, each by a value of it, and what the others come to, none past some number
+  pub by_first : (u : PoissonUnit) (us : List PoissonUnit) (V : List ℕ → Fraction) (M n far : ℕ) (k value : ℕ → Fraction)
+      (b : ℕ → ℕ → Fraction) → IsSeverity u.severity u.most → ((a : ℕ) → M < a → mixed (u ∷ us) a ≡ whole 0)
+      → ((l t : ℕ) → l * M < t → b l t ≡ whole 0) → n * M ≤ far
+      → ((l s : ℕ) → weighed us l (λ ys. V (s ∷ ys)) ≡ k s *ℚ sum_to (l * M) (λ t. value (s + t) *ℚ b l t))
+      → weighed (u ∷ us) n V ≡ sum_to far (λ x. value x *ℚ sum_pairs n
+      (λ j l. convolve (λ s. k s *ℚ divided_power (scaled_severity u) j s) (b l) x))
+  by_first u us V M n far k value b is past others h each =
+      let f = scaled_severity u in
+      let a : ℕ → ℕ → Fraction = λ j s. k s *ℚ divided_power f j s in
+      let none : (m : ℕ) → ((c : ℕ) → m < c → f c ≡ whole 0) → (j s : ℕ) → j * m < s → a j s ≡ whole 0 =
+      λ m p j s c. simp (divided_past f m p j s c, times_zero) in
+      let all_none = none M (λ c d. first_none u us c (past c d)) in
       weighed_more u us n V
-      ∙ sum_pairs_same n _ (λ j k. sum_to far (λ x. value x *ℚ convolve (a j) (b k) x)) (λ j k e.
-      sum_to_same (j * u.most) _ (λ s. a j s *ℚ sum_to (k * M) (λ t. value (s + t) *ℚ b k t)) (λ s c. each j k s)
-      ∙ sum_to_either (j * u.most) (j * M) _ (λ s c. simp (own j s c, zero_times)) (λ s c. simp (past j s c, zero_times))
-      ∙ by_total value (a j) (b k) (j * M) (k * M) far (past j) (others k)
+      ∙ sum_pairs_same n _ (λ j l. sum_to far (λ x. value x *ℚ convolve (a j) (b l) x)) (λ j l e.
+      sum_to_same (j * u.most) _ (λ s. a j s *ℚ sum_to (l * M) (λ t. value (s + t) *ℚ b l t))
+      (λ s c. rw (each l s) (simp ring))
+      ∙ sum_to_either (j * u.most) (j * M) _
+      (λ s c. simp (none u.most (λ c d. simp (is.past c d, times_zero)) j s c, zero_times))
+      (λ s c. simp (all_none j s c, zero_times))
+      ∙ by_total value (a j) (b l) (j * M) (l * M) far (all_none j) (others l)
       (omega (arith, subst (λ t. t * M ≤ far) (sym e) h)))
-      ∙ sum_pairs_sum_to n far (λ j k x. value x *ℚ convolve (a j) (b k) x)
-      ∙ sum_to_same far _ _ (λ x c. sum_pairs_times n (value x) (λ j k. convolve (a j) (b k) x))
+      ∙ sum_pairs_sum_to n far (λ j l x. value x *ℚ convolve (a j) (b l) x)
+      ∙ sum_to_same far _ _ (λ x c. sum_pairs_times n (value x) (λ j l. convolve (a j) (b l) x))
 
   pub weighed_by_total : (us : List PoissonUnit) → AreSeverities us → (M : ℕ)
       → ((a : ℕ) → M < a → mixed us a ≡ whole 0) → (n far : ℕ) → n * M ≤ far → (value : ℕ → Fraction)
@@ -147,12 +150,9 @@ module _ (y : PoissonUnit → Fraction) where
   weighed_by_total (u ∷ us) h M past n far b value =
       let f = scaled_severity u in
       let g = mixed us in
-      let f_past : (a : ℕ) → M < a → f a ≡ whole 0 = λ a c. first_none u us a (past a c) in
       let g_past : (a : ℕ) → M < a → g a ≡ whole 0 = λ a c. others_none u us a (past a c) in
-      let f_own : (a : ℕ) → u.most < a → f a ≡ whole 0 = λ a c. ap (λ t. y u *ℚ t) (h.0.past a c) ∙ times_zero _ in
-      by_first u us (λ ys. value (sum ys)) M n far value (divided_power f) (divided_power g)
-      (divided_past f u.most f_own) (divided_past f M f_past) (divided_past g M g_past) b
-      (λ j k s. ap (λ t. divided_power f j s *ℚ t)
-      (weighed_same us k _ (λ ys. value (s + sum ys)) (λ ys. ap value (sum_by-cons (λ (x : ℕ). x) s ys))
-      ∙ weighed_by_total us h.1 M g_past k (k * M) (le_refl_n (k * M)) (λ t. value (s + t))))
-      ∙ sum_to_same far _ _ (λ x c. ap (λ t. value x *ℚ t) (sym (divided_plus f g n x)))
+      by_first u us (λ ys. value (sum ys)) M n far (λ s. whole 1) value (divided_power g) h.0 past
+      (divided_past g M g_past) b (λ l s. weighed_same us l _ (λ ys. value (s + sum ys))
+      (λ ys. ap value (sum_by-cons (λ (x : ℕ). x) s ys))
+      ∙ weighed_by_total us h.1 M g_past l (l * M) (le_refl_n (l * M)) (λ t. value (s + t)) ∙ sym (one_times _))
+      ∙ sum_to_same far _ _ (λ x c. ap (λ t. value x *ℚ t) (simp one_times (sym (divided_plus f g n x))))

@@ -1,11 +1,6 @@
 -- One unit beside the total under a common factor: one claim of the unit apart, the others with one more in the shape.
-use Rattle.dl_model.proofs.Common.{◌≡◌, ℕ, suc, zero, ◌+◌, ◌-◌, ◌*◌, ◌<◌, ◌≤◌, arith, refl, sym, ap, ap₂, subst, ◌∙◌, List, [], ◌∷◌, nat_eq, fun_ext, get_or, sum, sum_by-cons, Fraction, ◌+ℚ◌, ◌*ℚ◌, ◌<ℚ◌, whole, choose, sum_to, sum_over, sum_pairs, ring, times_comm, times_assoc, times_left_comm, times_zero, zero_times, zero_plus, plus_zero, sum_to_same, sum_to_first, sum_to_times, sum_pairs_same, sum_pairs_none, sum_pairs_sum_to, convolve, power, cell, gamma, Joint, score, where_true, factorial, whole_times, sum_pairs_first, sum_pairs_last, divided_power, PoissonUnit, expected_claims, common_sums, pooled_severity, AreSeverities, IsUnit}
-use Rattle.dl_model.proofs.CompoundLaws.{convolve_past}
-use Rattle.dl_model.proofs.Powers.{tilt_at_zero}
-use Rattle.std.proofs.Math.Nat.{le_refl as le_refl_n}
-use Rattle.dl_model.proofs.ValueLaws.{pick, where_factor, convolve_assoc, convolve_times, convolve_scaled, convolve_first}
-use Rattle.dl_model.proofs.Gamma.{choose-absorb, choose-shift}
-use Rattle.dl_model.proofs.Divided.{divided_plus, divided_tilt, undivided, convolve_pairs}
+use Rattle.dl_model.proofs.Common.{◌≡◌, ℕ, suc, zero, ◌+◌, ◌-◌, ◌*◌, ◌<◌, ◌≤◌, arith, refl, sym, ap, ap₂, subst, ◌∙◌, List, [], ◌∷◌, nat_eq, fun_ext, get_or, sum, sum_by-cons, Fraction, ◌+ℚ◌, ◌*ℚ◌, ◌<ℚ◌, whole, choose, sum_to, sum_over, sum_pairs, ring, times_comm, times_left_comm, times_zero, zero_times, zero_plus, plus_zero, sum_to_same, sum_to_first, sum_to_times, sum_pairs_same, sum_pairs_none, sum_pairs_sum_to, convolve, power, cell, gamma, Joint, score, where_true, factorial, whole_times, sum_pairs_first, sum_pairs_last, divided_power, PoissonUnit, expected_claims, common_sums, pooled_severity, AreSeverities, IsUnit, le_refl_n, one_times}
+use Rattle.dl_model.proofs.TotalLaws.{convolve_past, tilt_at_zero, pick, where_factor, convolve_assoc, convolve_times, convolve_scaled, convolve_first, choose-absorb, choose-shift, divided_plus, divided_tilt, undivided, convolve_pairs}
 use Rattle.dl_model.proofs.SharedClaims.{mixed, scaled_severity, weighed, weighed_same, weighed_times, weighed_by_total, first_none, others_none, divided_past, by_first}
 use Rattle.dl_model.proofs.Pooled.{chance, any_chance, orders, level_sum, mixed_pooled, gamma_divided}
 
@@ -46,29 +41,24 @@ module _ (f g : ℕ → Fraction) where
   first_apart zero x = convolve_none (λ s. whole s *ℚ divided_power f zero s) (divided_power g zero) x no_tilt
   first_apart (suc m) x =
       sum_pairs_first m (λ j k. convolve (λ s. whole s *ℚ divided_power f j s) (divided_power g k) x)
-      ∙ ap₂ (λ a b. a +ℚ b)
-      (convolve_none (λ s. whole s *ℚ divided_power f zero s) (divided_power g (suc m)) x no_tilt)
-      (sum_pairs_same m _ (λ j k. convolve (tilt f) (convolve (divided_power f j) (divided_power g k)) x) (λ j k e.
-      ap (λ t. convolve t (divided_power g k) x) (fun_ext (divided_tilt f j))
+      ∙ ap₂ (λ a b. a +ℚ b) (convolve_none (λ s. whole s *ℚ divided_power f zero s) (divided_power g (suc m)) x no_tilt)
+      (sum_pairs_same m _ (λ j k. convolve (tilt f) (convolve (divided_power f j) (divided_power g k)) x)
+      (λ j k e. ap (λ t. convolve t (divided_power g k) x) (fun_ext (divided_tilt f j))
       ∙ ap (λ t. t x) (convolve_assoc (tilt f) (divided_power f j) (divided_power g k)))
       ∙ sym (convolve_pairs (tilt f) m x (λ j k. convolve (divided_power f j) (divided_power g k)))
-      ∙ ap (λ t. convolve (tilt f) t x) (sym (fun_ext (divided_plus f g m))))
-      ∙ zero_plus _
+      ∙ ap (λ t. convolve (tilt f) t x) (sym (fun_ext (divided_plus f g m)))) ∙ zero_plus _
 
   -- the claim is of the other part
   others_apart : (t : ℕ → Fraction) (n x : ℕ) → sum_pairs n (λ j k. convolve (divided_power f j) (claim_apart t g k) x)
       ≡ claim_apart t both n x
   unfolding sum_pairs claim_apart
   others_apart t zero x = convolve_no_other (divided_power f zero) (claim_apart t g zero) x (λ j. refl)
-  others_apart t (suc m) x =
-      sum_pairs_last m (λ j k. convolve (divided_power f j) (claim_apart t g k) x)
-      ∙ ap₂ (λ a b. a +ℚ b)
-      (sum_pairs_same m _ (λ j k. convolve t (convolve (divided_power f j) (divided_power g k)) x) (λ j k e.
-      convolve_first t (divided_power f j) (divided_power g k) x)
+  others_apart t (suc m) x = sum_pairs_last m (λ j k. convolve (divided_power f j) (claim_apart t g k) x)
+      ∙ ap₂ (λ a b. a +ℚ b) (sum_pairs_same m _ (λ j k. convolve t (convolve (divided_power f j) (divided_power g k)) x)
+      (λ j k e. convolve_first t (divided_power f j) (divided_power g k) x)
       ∙ sym (convolve_pairs t m x (λ j k. convolve (divided_power f j) (divided_power g k)))
       ∙ ap (λ h. convolve t h x) (sym (fun_ext (divided_plus f g m))))
-      (convolve_no_other (divided_power f (suc m)) (claim_apart t g zero) x (λ j. refl))
-      ∙ plus_zero _
+      (convolve_no_other (divided_power f (suc m)) (claim_apart t g zero) x (λ j. refl)) ∙ plus_zero _
 
 module _ (y : PoissonUnit → Fraction) (u : PoissonUnit) where
   unit_past : (us : List PoissonUnit) (i : ℕ) → IsUnit us i u → (a : ℕ) → mixed y us a ≡ whole 0
@@ -87,36 +77,27 @@ module _ (y : PoissonUnit → Fraction) (u : PoissonUnit) where
   weighed_joint (w ∷ us) zero e h M past n far b value =
       let f = scaled_severity y w in
       let g = mixed y us in
-      let f_past : (a : ℕ) → M < a → f a ≡ whole 0 = λ a c. first_none y w us a (past a c) in
       let g_past : (a : ℕ) → M < a → g a ≡ whole 0 = λ a c. others_none y w us a (past a c) in
-      let f_own : (a : ℕ) → w.most < a → f a ≡ whole 0 = λ a c. ap (λ t. y w *ℚ t) (h.0.past a c) ∙ times_zero _ in
-      let T : ℕ → ℕ → Fraction = λ j s. whole s *ℚ divided_power f j s in
-      by_first y w us (λ ys. value (sum ys) *ℚ whole (get_or ys zero 0)) M n far value T (divided_power g)
-      (λ j s c. simp (divided_past f w.most f_own j s c, times_zero))
-      (λ j s c. simp (divided_past f M f_past j s c, times_zero)) (divided_past g M g_past) b
-      (λ j k s. ap (λ t. divided_power f j s *ℚ t) (weighed_same y us k _ (λ ys. whole s *ℚ value (s + sum ys))
+      by_first y w us (λ ys. value (sum ys) *ℚ whole (get_or ys zero 0)) M n far whole value (divided_power g) h.0 past
+      (divided_past g M g_past) b (λ l s. weighed_same y us l _ (λ ys. whole s *ℚ value (s + sum ys))
       (λ ys. times_comm _ _ ∙ ap (λ t. whole s *ℚ value t) (sum_by-cons (λ (x : ℕ). x) s ys))
-      ∙ weighed_times y us k (whole s) (λ ys. value (s + sum ys)) ∙ ap (λ t. whole s *ℚ t)
-      (weighed_by_total y us h.1 M g_past k (k * M) (le_refl_n (k * M)) (λ t. value (s + t))))
-      ∙ times_left_comm _ _ _ ∙ sym (times_assoc _ _ _))
+      ∙ weighed_times y us l (whole s) (λ ys. value (s + sum ys)) ∙ ap (λ t. whole s *ℚ t)
+      (weighed_by_total y us h.1 M g_past l (l * M) (le_refl_n (l * M)) (λ t. value (s + t))))
       ∙ sum_to_same far _ _ (λ x c. ap (λ t. value x *ℚ t) (first_apart f g n x
       ∙ ap (λ v. claim_apart (tilt (scaled_severity y v)) (mixed y (w ∷ us)) n x) e))
   weighed_joint (w ∷ us) (suc i) e h M past n far b value =
       let f = scaled_severity y w in
       let g = mixed y us in
       let t = tilt (scaled_severity y u) in
-      let f_past : (a : ℕ) → M < a → f a ≡ whole 0 = λ a c. first_none y w us a (past a c) in
       let g_past : (a : ℕ) → M < a → g a ≡ whole 0 = λ a c. others_none y w us a (past a c) in
       let t_past : (a : ℕ) → M < a → t a ≡ whole 0 =
       λ a c. ap (λ z. whole a *ℚ z) (unit_past us i e a (g_past a c)) ∙ times_zero _ in
-      let f_own : (a : ℕ) → w.most < a → f a ≡ whole 0 = λ a c. ap (λ t. y w *ℚ t) (h.0.past a c) ∙ times_zero _ in
-      by_first y w us (λ ys. value (sum ys) *ℚ whole (get_or ys (suc i) 0)) M n far value (divided_power f)
-      (claim_apart t g) (divided_past f w.most f_own) (divided_past f M f_past) (apart_past t g M t_past g_past) b
-      (λ j k s. ap (λ z. divided_power f j s *ℚ z)
-      (weighed_same y us k _ (λ ys. value (s + sum ys) *ℚ whole (get_or ys i 0))
+      by_first y w us (λ ys. value (sum ys) *ℚ whole (get_or ys (suc i) 0)) M n far (λ s. whole 1) value
+      (claim_apart t g) h.0 past (apart_past t g M t_past g_past) b
+      (λ l s. weighed_same y us l _ (λ ys. value (s + sum ys) *ℚ whole (get_or ys i 0))
       (λ ys. ap (λ z. value z *ℚ whole (get_or ys i 0)) (sum_by-cons (λ (x : ℕ). x) s ys))
-      ∙ weighed_joint us i e h.1 M g_past k (k * M) (le_refl_n (k * M)) (λ z. value (s + z))))
-      ∙ sum_to_same far _ _ (λ x c. ap (λ z. value x *ℚ z) (others_apart f g t n x))
+      ∙ weighed_joint us i e h.1 M g_past l (l * M) (le_refl_n (l * M)) (λ z. value (s + z)) ∙ sym (one_times _))
+      ∙ sum_to_same far _ _ (λ x c. ap (λ z. value x *ℚ z) (simp one_times (others_apart f g t n x)))
 
 -- ---- the joint sums
 
@@ -148,8 +129,7 @@ module _ (q : ℕ) (us : List PoissonUnit) (some : whole 0 <ℚ expected_claims 
   apart n x = claim_apart (tilt (scaled_severity y u)) (mixed y us) n x
 
   level_joint : (n x : ℕ) → weighed y us n (score (Joint i x)) ≡ apart n x
-  level_joint n x =
-      weighed_same y us n _ _ (λ ys. where_factor (nat_eq (sum ys) x) (whole (get_or ys i 0)))
+  level_joint n x = weighed_same y us n _ _ (λ ys. where_factor (nat_eq (sum ys) x) (whole (get_or ys i 0)))
       ∙ weighed_joint y u us i at h M mixed_past n (n * M + x) (omega arith) (λ s. where_true (nat_eq s x) (whole 1))
       ∙ sum_to_same (n * M + x) _ _ (λ s d. sym (where_factor (nat_eq s x) (apart n s)))
       ∙ pick (n * M + x) x (apart n) (omega arith)

@@ -1,23 +1,19 @@
 -- Declared joint means under a common factor, from the cells of the pooled unit with one more in the shape.
-use Rattle.dl_model.proofs.Common.{◌≡◌, ℕ, suc, ◌<◌, ◌≤◌, arith, sym, ap, subst, ◌∙◌, zero-lt-suc, List, fun_ext, Fraction, ◌+ℚ◌, ◌*ℚ◌, ◌/ℚ◌, ◌≤ℚ◌, ◌<ℚ◌, whole, ◌^ℚ◌, sum_to, sum_pairs, ring, times_assoc, times_cancel, div_times, times_pos, whole_pos, le_refl, le_trans, le_of_eq, times_le_both, IsLeastBound, Holds, AtMost, AtLeast, Rises, Series, cell, gamma, gamma_of, One, Joint, plus_times, PoissonUnit, expected_claims, common_sums, pooled_severity, raised_mean, AreSeverities, IsUnit, refl}
-use Rattle.dl_model.proofs.ValueLaws.{same_value, level_same, least_scaled, scaled, scaled_most, scaled_least, scaled_rises, sum_at_most, sum_at_least, sum_rises_to}
-use Rattle.dl_model.proofs.GammaThin.{mean_pos, gamma_of_least, shape_pos, shape_times}
+use Rattle.dl_model.proofs.Common.{◌≡◌, ℕ, suc, ◌<◌, ◌≤◌, arith, sym, ap, subst, ◌∙◌, List, fun_ext, Fraction, ◌+ℚ◌, ◌*ℚ◌, ◌/ℚ◌, ◌<ℚ◌, whole, ◌^ℚ◌, sum_to, sum_pairs, ring, div_times, le_refl, le_trans, times_le_both, IsLeastBound, Holds, Rises, Series, cell, gamma, gamma_of, One, Joint, PoissonUnit, expected_claims, common_sums, pooled_severity, raised_mean, AreSeverities, IsUnit, refl, times_comm}
+use Rattle.dl_model.proofs.TotalLaws.{same_value, level_same, least_scaled, scaled, scaled_rises, sum_holds, sum_rises_to, gamma_of_least, shape_pos, shape_times, share_of, div_is_times}
 use Rattle.dl_model.proofs.Pooled.{pooled_one}
 use Rattle.dl_model.proofs.SharedJoint.{joint_none, joint_next}
 use Rattle.dl_model.proofs.CountMeans.{shifted}
 
 -- ---- a value over another series, by the least bounds of both
 
-pub most_over_other : (Q R R' : Series) (A A' h h' : Fraction) → IsLeastBound R A → IsLeastBound R' A'
-    → h' *ℚ A' ≤ℚ h *ℚ A → AtMost Q R' h' → AtMost Q R h
-most_over_other Q R R' A A' h h' a a' e m n u b =
-    le_trans _ _ _ (m n A' a'.0) (le_trans _ _ _ e (times_le_both h h _ _ (le_refl h) (a.1 u b)))
-
-pub least_over_other : (Q R R' : Series) (A A' l l' : Fraction) → Rises R' → IsLeastBound R A → IsLeastBound R' A'
-    → l *ℚ A ≤ℚ l' *ℚ A' → AtLeast Q R' l' → AtLeast Q R l
-least_over_other Q R R' A A' l l' r a a' e m n u b =
-    le_trans _ _ _ (times_le_both l l _ _ (le_refl l) (a.0 n))
-    (le_trans _ _ _ e ((least_scaled l' R' A' r a').1 u (λ k. m k u b)))
+pub over_other : (Q R R' : Series) (A A' l h l' h' : Fraction) → Rises R' → IsLeastBound R A → IsLeastBound R' A'
+    → l' *ℚ A' ≡ l *ℚ A → h' *ℚ A' ≡ h *ℚ A → Holds Q R' l' h' → Holds Q R l h
+over_other Q R R' A A' l h l' h' r a a' e f v = (
+  λ n u b. le_trans _ _ _ (times_le_both l l _ _ (le_refl l) (a.0 n))
+      (rw (← e) ((least_scaled l' R' A' r a').1 u (λ k. v.0 k u b))),
+  λ n u b. le_trans _ _ _ (v.1 n A' a'.0) (rw f (times_le_both h h _ _ (le_refl h) (a.1 u b))),
+)
 
 -- ---- the raised mean keeps the part v / (r + v)
 
@@ -33,17 +29,12 @@ module _ (q : ℕ) (v : Fraction) where
 
   pub raised_part : raised_mean (suc q) v /ℚ (r1 +ℚ raised_mean (suc q) v) ≡ v /ℚ W
   raised_part =
-      let r1_pos : whole 0 <ℚ r1 = whole_pos (suc (suc q)) (zero-lt-suc (suc q)) in
-      let v1 = raised_mean (suc q) v in
-      let W1 = r1 +ℚ v1 in
-      let X1 = v1 /ℚ W1 in
-      let X = v /ℚ W in
-      let back : v1 *ℚ r ≡ v *ℚ r1 = div_times (v *ℚ r1) r (shape_pos q v) in
-      let all : W1 *ℚ r ≡ r1 *ℚ W = plus_times r1 v1 r ∙ ap (λ t. r1 *ℚ r +ℚ t) back ∙ simp ring in
-      times_cancel _ _ (r1 *ℚ W) (times_pos r1 W r1_pos (mean_pos q v))
-      (ap (λ t. X1 *ℚ t) (sym all) ∙ sym (times_assoc X1 W1 r)
-      ∙ ap (λ t. t *ℚ r) (div_times v1 W1 (mean_pos (suc q) v1)) ∙ back
-      ∙ sym ((simp ring) ∙ ap (λ t. t *ℚ r1) (div_times v W (mean_pos q v))))
+      let rp = shape_pos q v in
+      let u = v /ℚ r in
+      let up : r1 *ℚ u ≡ raised_mean (suc q) v =
+      rw (div_is_times v r rp, div_is_times (v *ℚ r1) r rp) (simp ring) in
+      sym (share_of r1 u (raised_mean (suc q) v) (shape_pos (suc q) v) up)
+      ∙ share_of r u v rp (times_comm r u ∙ div_times v r rp)
 
   pub raised_weights : (n : ℕ) → gamma_of (suc (suc q)) (raised_mean (suc q) v) n ≡ gamma (suc (suc q)) (v /ℚ W) n
   raised_weights n = ap (λ x. gamma (suc (suc q)) x n) raised_part
@@ -95,13 +86,9 @@ module _ (q : ℕ) (us : List PoissonUnit) (some : whole 0 <ℚ expected_claims 
 
   module _ (cells : (k : ℕ) → k ≤ x → Holds (part k) all_more (lo k) (hi k)) where
     terms_hold : Holds terms all_more (ends lo) (ends hi)
-    terms_hold = (
-      sum_at_least x (λ a k N. t a *ℚ part k N) all_more (λ a k. t a *ℚ lo k)
-          (λ a k e. scaled_rises (t a) (part k) (sum_rises_to _))
-          (λ a k e. scaled_least (t a) (part k) all_more (lo k) (cells k (omega arith)).0),
-      sum_at_most x (λ a k N. t a *ℚ part k N) all_more (λ a k. t a *ℚ hi k)
-          (λ a k e. scaled_most (t a) (part k) all_more (hi k) (cells k (omega arith)).1),
-    )
+    terms_hold = sum_holds x (λ a k N. t a *ℚ part k N) all_more (λ a k. t a *ℚ lo k)
+        (λ a k. t a *ℚ hi k) (λ a k e. scaled_rises (t a) (part k) (sum_rises_to _))
+        (λ a k e. scaled (t a) (part k) all_more (lo k) (hi k) (cells k (omega arith)))
 
     abbrev joint : Series
     joint = common_sums (suc q) us (Joint i x)
@@ -109,22 +96,17 @@ module _ (q : ℕ) (us : List PoissonUnit) (some : whole 0 <ℚ expected_claims 
     abbrev later : Series
     later N = factor *ℚ terms N
 
-    later_most : AtMost later all (u.mean *ℚ ends hi)
-    later_most = most_over_other later all all_more _ _ _ _ (gamma_of_least q v q) (gamma_of_least q v (suc q))
-        (le_of_eq _ _ (one_more q v u.mean (ends hi)))
-        (scaled factor terms all_more (ends lo) (ends hi) terms_hold).1
-
-    later_least : AtLeast later all (u.mean *ℚ ends lo)
-    later_least = least_over_other later all all_more _ _ _ _ (sum_rises_to (gamma (suc (suc q)) c)) (gamma_of_least q v q)
-        (gamma_of_least q v (suc q)) (le_of_eq _ _ (sym (one_more q v u.mean (ends lo))))
-        (scaled factor terms all_more (ends lo) (ends hi) terms_hold).0
+    later_holds : Holds later all (u.mean *ℚ ends lo) (u.mean *ℚ ends hi)
+    later_holds = over_other later all all_more _ _ _ _ _ _ (sum_rises_to (gamma (suc (suc q)) c)) (gamma_of_least q v q)
+        (gamma_of_least q v (suc q)) (one_more q v u.mean (ends lo)) (one_more q v u.mean (ends hi))
+        (scaled factor terms all_more (ends lo) (ends hi) terms_hold)
 
     pub joint_holds : Holds joint (common_sums (suc q) us One) (u.mean *ℚ ends lo) (u.mean *ℚ ends hi)
     joint_holds =
         let level = same_value joint all later all (shifted joint later (joint_none q us some h M past i u at x)
         (joint_next q us some h M past i u at x)) (level_same all all (λ N. refl)) in
         subst (λ R. Holds joint R (u.mean *ℚ ends lo) (u.mean *ℚ ends hi))
-        (sym (fun_ext (pooled_one (suc q) us h some M past))) ((level.0 _).1 later_least, (level.1 _).1 later_most)
+        (sym (fun_ext (pooled_one (suc q) us h some M past))) ((level.0 _).1 later_holds.0, (level.1 _).1 later_holds.1)
 
 -- with the raised mean
 pub joint_raised : (q : ℕ) (us : List PoissonUnit) → whole 0 <ℚ expected_claims us → AreSeverities us → (M : ℕ)

@@ -1,21 +1,13 @@
 -- The probability of no claim where at least 1 / 16 of a claim is expected, and the weights of at least one claim.
 use Rattle.dl_model.proofs.Common.{◌≡◌, ℕ, suc, zero, ◌+◌, ◌-◌, ◌*◌, ◌<◌, ◌≤◌, max, arith, refl, sym, ap, ap₂, subst, subst₂, ◌∙◌, Fraction, whole, ◌over◌, ◌+ℚ◌, ◌-ℚ◌, ◌*ℚ◌, ◌/ℚ◌, ◌≤ℚ◌, ◌<ℚ◌, ◌^ℚ◌, sum_to, sum_pairs, ring, over_same, over_mul, one_pos, plus_comm, times_comm, times_zero, zero_times, times_one, one_times, times_plus, plus_times, le_refl, le_trans, zero_le, le_plus, sub_plus, plus_le_both, plus_le_cancel, times_le_both, times_le_times, times_le_cancel, times_cancel, times_pos, div_times, div_pos, lt_of_lt_of_le, AtMost, Settles, at_zero, power, fixed, binomial, poisson, gamma_of, AreCountWeights, plus_assoc, over_rest, over_add, pow_times, without_none, plus_swap, order, fun_ext, Series, le_of_eq}
 use Rattle.dl_exact.proofs.Bernoulli.{bernoulli, pow_below_one}
-use Rattle.dl_model.proofs.ValueLaws.{rises_to, sum_rises_to, power_severity}
-use Rattle.dl_model.proofs.AddedCounts.{binomial_power, trial, one_trial_none}
-use Rattle.dl_model.proofs.PoissonWeights.{poisson_zero, poisson_next}
-use Rattle.dl_model.proofs.Gamma.{gamma_zero}
-use Rattle.dl_model.proofs.GammaThin.{gamma_of_least, shape_pos}
-use Rattle.dl_model.proofs.ChangedZero.{weights_apart}
-use Rattle.dl_model.proofs.Picks.{off}
+use Rattle.dl_model.proofs.TotalLaws.{rises_to, sum_rises_to, power_severity, binomial_power, trial, one_trial_none, poisson_zero, poisson_next, gamma_zero, gamma_of_least, shape_pos, weights_apart, off}
 
 -- ---- at most 16 / 17
 
 sixteenths : 16 over 17 *ℚ (whole 1 +ℚ 1 over 16) ≡ whole 1
-sixteenths =
-    ap (λ t. 16 over 17 *ℚ t) (over_add 1 1 1 16 one_pos (omega arith))
-    ∙ over_mul 16 17 (1 * 16 + 1 * 1) (1 * 16) (omega arith) (omega arith)
-    ∙ over_same _ _ 1 1 (omega arith) one_pos (omega arith)
+sixteenths = ap (λ t. 16 over 17 *ℚ t) (over_add 1 1 1 16 one_pos (omega arith)) ∙ over_mul 16 17 (1 * 16 + 1 * 1)
+    (1 * 16) (omega arith) (omega arith) ∙ over_same _ _ 1 1 (omega arith) one_pos (omega arith)
 
 some_claim : (c u : Fraction) → c *ℚ (whole 1 +ℚ 1 over 16) ≤ℚ u → c ≤ℚ 16 over 17 *ℚ u
 some_claim c u h = subst (λ t. t ≤ℚ 16 over 17 *ℚ u) ((simp ring) ∙ ap (λ t. c *ℚ t) sixteenths ∙ times_one c)

@@ -50,9 +50,8 @@ module _ (f : ℕ → Fraction) (g : ℕ) (pos : 0 < g) (none : (j : ℕ) → ¬
       let above : g * suc t ≡ suc (g * t + (g - 1)) = omega (arith, pos) in
       ap at_zero above
   power_of_multiples (suc n) t =
-      sum_pairs_multiples g t (λ i j. f i *ℚ power f n j) pos
-      (λ i j h. ap (λ x. x *ℚ power f n j) (none i h) ∙ zero_times _)
-      ∙ sum_pairs_same t _ _ (λ i j e. ap (λ x. f (g * i) *ℚ x) (power_of_multiples n j))
+      sum_pairs_multiples g t (λ i j. f i *ℚ power f n j) pos (λ i j h. ap (λ x. x *ℚ power f n j) (none i h)
+      ∙ zero_times _) ∙ sum_pairs_same t _ _ (λ i j e. ap (λ x. f (g * i) *ℚ x) (power_of_multiples n j))
 
   pub cell_of_multiples : (w : ℕ → Fraction) (t N : ℕ) → cell w f (g * t) N ≡ cell w (λ j. f (g * j)) t N
   cell_of_multiples w t N = sum_to_same N _ _ (λ n b. ap (λ x. w n *ℚ x) (power_of_multiples n t))
@@ -76,14 +75,12 @@ multiples_within f g pos h n = le_trans _ _ _ (some_of n) (h (g * n))
 pub common_divides : (d : ℕ) (items : List Item) → All (λ (item : Item). divisor_from d items ∣ item.amount) items
 common_divides d [] = All-nil (λ (item : Item). divisor_from d [] ∣ item.amount)
 common_divides d (x ∷ xs) =
-    All-cons (λ (item : Item). divisor_from d (x ∷ xs) ∣ item.amount) x xs
-    (dvd_trans (divisor_from d (x ∷ xs)) (divides_start (gcd d x.amount) xs) (gcd_is d x.amount).1)
-    (common_divides (gcd d x.amount) xs)
+    All-cons (λ (item : Item). divisor_from d (x ∷ xs) ∣ item.amount) x xs (dvd_trans (divisor_from d (x ∷ xs))
+    (divides_start (gcd d x.amount) xs) (gcd_is d x.amount).1) (common_divides (gcd d x.amount) xs)
 
 -- an amount that its divisor does not divide is not there
 no_amount : (sev : Sev) (g j : ℕ) → common_amount sev.items ≡ g → ¬ (g ∣ j) → probability_of sev j ≡ whole 0
-no_amount sev g j is p = ap (λ k. k over sev.total)
-    (no_weight_between sev.items 0 j (λ q. p (subst (λ d. d ∣ j) is q)))
+no_amount sev g j is p = ap (λ k. k over sev.total) (no_weight_between sev.items 0 j (λ q. p (subst (λ d. d ∣ j) is q)))
     ∙ over_zero sev.total (total_pos sev.items sev.total sev.weighted)
 
 no_multiple : (g d y m : ℕ) → d ≡ g → ¬ (g ∣ y) → y ≢ m * d
@@ -91,8 +88,7 @@ no_multiple g d y m is p e = p (subst (λ k. g ∣ k) (sym (e ∙ ap (λ d. m * 
 
 -- a grid that encloses the sums of the amounts over g at its multiples of g, and has the low end 0 between them
 pub multiples_enclose : (sev : Sev) (w : ℕ → Fraction) (g S n rows : ℕ) (lo hi : ℕ → ℕ)
-    → common_amount sev.items ≡ g → 0 < g → 0 < S → n ≤ g * rows
-    → ((s : ℕ) → ¬ (g ∣ s) → lo s ≡ 0)
+    → common_amount sev.items ≡ g → 0 < g → 0 < S → n ≤ g * rows → ((s : ℕ) → ¬ (g ∣ s) → lo s ≡ 0)
     → Encloses S rows (λ t. lo (g * t)) (λ t. hi (g * t)) (compound w (λ j. probability_of sev (g * j)))
     → Encloses S n lo hi (compound w (probability_of sev))
 multiples_enclose sev w g S n rows lo hi is pos scale far none H y within =

@@ -1,12 +1,6 @@
 -- The tail mean from the excess at the low end of the bracket.
 use Rattle.dl_model.proofs.Common.{◌≡◌, inl, inr, ℕ, ◌+◌, ◌-◌, ◌<◌, ◌≤◌, min, arith, sym, ap, subst, subst₂, ◌∙◌, List, sum, Some, None, fun_ext, Fraction, whole, ◌+ℚ◌, ◌-ℚ◌, ◌*ℚ◌, ◌/ℚ◌, ◌≤ℚ◌, ◌<ℚ◌, ring, one_times, plus_comm, plus_assoc, zero_plus, whole_plus, le_refl, le_trans, le_of_lt, lt_or_le, lt_not_le, plus_le_cancel, plus_le_both, le_plus, sub_plus, plus_cancel, div_times, whole_le, Series, IsBound, Rises, AtMost, AtLeast, Holds, Loss, AreDeclarable, One, Cdf, Layer, Tail, score, partial_sums, above, survival, IsQuantile, sum_below_constant, plus_swap, times_swap, cases_lt, plus_zero, times_zero, order}
-use Rattle.dl_model.proofs.ChangedZero.{sub_zero}
-use Rattle.dl_model.proofs.ValueLaws.{at_most_wider, at_least_wider, times_self, at_most_plus, scaled_rises, at_least_plus, scaled_most, scaled_least, at_least_rest, at_most_rest, at_least_minus, at_most_minus}
-use Rattle.dl_model.proofs.Outcomes.{outcomes_same, outcomes_plus, outcomes_rise}
-use Rattle.dl_model.proofs.Scores.{survival_rest, cdf_rest, layer_survivals}
-use Rattle.dl_model.proofs.TailScores.{tail_excess}
-use Rattle.dl_model.proofs.Ends.{below_least, below_most, part_most_one}
-use Rattle.dl_model.proofs.Bracket.{cdf_grows}
+use Rattle.dl_model.proofs.TotalLaws.{sub_zero, at_most_wider, at_least_wider, times_self, at_most_plus, scaled_rises, at_least_plus, scaled_most, scaled_least, at_least_rest, at_most_rest, at_least_minus, at_most_minus, outcomes_same, outcomes_plus, outcomes_rise, survival_rest, cdf_rest, layer_survivals, tail_excess, below_least, below_most, part_most_one, cdf_grows}
 
 parts : (a k t : ℕ) → whole (t - (a + k)) +ℚ whole (min (t - a) k) ≡ whole (t - a)
 parts a k t = sym (whole_plus _ _) ∙ ap whole (omega arith)
@@ -27,8 +21,7 @@ module _ (us : List Loss) (w : AreDeclarable us) where
   pub above_most : (x : ℕ) (p r s : Fraction) → p +ℚ r ≡ whole 1 → AtLeast (partial_sums us (Cdf x)) R (p -ℚ s)
       → AtMost (survival us x) R (r +ℚ s)
   above_most x p r s e a = elim (lt_or_le p s) [
-    | inr l ↦ at_most_rest (partial_sums us (Cdf x)) (survival us x) R (p -ℚ s) (r +ℚ s)
-        (outcomes_rise us w (score (Cdf x))) (outcomes_rise us w (above x)) (cdf_rest us x)
+    | inr l ↦ at_most_rest _ _ R _ _ (outcomes_rise us w (score (Cdf x))) (outcomes_rise us w (above x)) (cdf_rest us x)
         (plus_swap (p -ℚ s) r s ∙ ap (λ t. t +ℚ r) (sub_plus p s l) ∙ e) a
     | inl l ↦ at_most_wider (survival us x) R (whole 1) (r +ℚ s) (part_most_one _ _ R (survival_rest us x))
         (subst₂ (λ x y. x ≤ℚ y) e (plus_comm s r) (plus_le_both _ _ _ _ (le_of_lt p s l) (le_refl r)))
@@ -36,15 +29,13 @@ module _ (us : List Loss) (w : AreDeclarable us) where
 
   pub layer_least : (k a : ℕ) (r : Fraction) → ((x : ℕ) → a ≤ x → x < a + k → AtLeast (survival us x) R r)
       → AtLeast (partial_sums us (Layer (Some k) a)) R (whole k *ℚ r)
-  layer_least k a r h =
-      subst₂ (λ Q l. AtLeast Q R l) (sym (fun_ext (layer_survivals us k a))) (sum_below_constant k r)
-      (below_least k (λ i. survival us (a + i)) R (λ i. r) (λ i. outcomes_rise us w (above (a + i)))
-      (λ i c. h (a + i) (omega arith) (omega arith)))
+  layer_least k a r h = subst₂ (λ Q l. AtLeast Q R l) (sym (fun_ext (layer_survivals us k a)))
+      (sum_below_constant k r) (below_least k (λ i. survival us (a + i)) R (λ i. r)
+      (λ i. outcomes_rise us w (above (a + i))) (λ i c. h (a + i) (omega arith) (omega arith)))
 
   pub layer_most : (k a : ℕ) (r : Fraction) → ((x : ℕ) → a ≤ x → x < a + k → AtMost (survival us x) R r)
       → AtMost (partial_sums us (Layer (Some k) a)) R (whole k *ℚ r)
-  layer_most k a r h =
-      subst₂ (λ Q l. AtMost Q R l) (sym (fun_ext (layer_survivals us k a))) (sum_below_constant k r)
+  layer_most k a r h = subst₂ (λ Q l. AtMost Q R l) (sym (fun_ext (layer_survivals us k a))) (sum_below_constant k r)
       (below_most k (λ i. survival us (a + i)) R (λ i. r) (λ i c. h (a + i) (omega arith) (omega arith)))
 
 pub lt_plus : (x y : Fraction) → whole 0 <ℚ y → x <ℚ x +ℚ y
@@ -94,11 +85,9 @@ module _ (us : List Loss) (w : AreDeclarable us) (p r v : Fraction) (bound : IsB
 
   -- from q to q + k
   steps : (q k N : ℕ) → tail q N +ℚ whole_part k N ≡ tail (q + k) N +ℚ layer_c k q N
-  steps q k N =
-      ap (λ t. t +ℚ whole k *ℚ A N) (tail_is q N ∙ ap (λ t. whole q *ℚ A N +ℚ c *ℚ t) (sym (excess_split us q k N)))
-      ∙ (simp ring)
-      ∙ sym (ap (λ t. t +ℚ c *ℚ W k q N) (tail_is (q + k) N
-      ∙ ap (λ t. t *ℚ A N +ℚ c *ℚ E (q + k) N) (whole_plus q k)))
+  steps q k N = ap (λ t. t +ℚ whole k *ℚ A N)
+      (tail_is q N ∙ ap (λ t. whole q *ℚ A N +ℚ c *ℚ t) (sym (excess_split us q k N))) ∙ (simp ring)
+      ∙ sym (ap (λ t. t +ℚ c *ℚ W k q N) (tail_is (q + k) N ∙ ap (λ t. t *ℚ A N +ℚ c *ℚ E (q + k) N) (whole_plus q k)))
 
   -- below the quantile at least r lies above
   layer_low : (q k : ℕ) → ((x : ℕ) → q ≤ x → x < q + k → AtMost (partial_sums us (Cdf x)) A p)
@@ -109,21 +98,18 @@ module _ (us : List Loss) (w : AreDeclarable us) (p r v : Fraction) (bound : IsB
   tail_down : (q k : ℕ) (m : Fraction) → ((x : ℕ) → q ≤ x → x < q + k → AtMost (partial_sums us (Cdf x)) A p)
       → AtLeast (tail (q + k)) A m → AtLeast (tail q) A m
   tail_down q k m below a =
-      at_least_minus (tail q) (whole_part k) A m (whole k) v (outcomes_rise us w (score One)) bound
-      (subst (λ Q. AtLeast Q A (m +ℚ whole k)) (sym (fun_ext (steps q k)))
-      (at_least_plus (tail (q + k)) (layer_c k q) A m (whole k) (tail_rises (q + k))
+      at_least_minus _ _ A m _ v (outcomes_rise us w (score One)) bound
+      (subst (λ Q. AtLeast Q A (m +ℚ whole k)) (sym (fun_ext (steps q k))) (at_least_plus _ _ A m _ (tail_rises (q + k))
       (scaled_rises c (W k q) (outcomes_rise us w _)) a (layer_low q k below))) (times_self (whole k) A).1
 
   tail_past : (q k : ℕ) (m : Fraction) → ((x : ℕ) → q ≤ x → x < q + k → AtMost (partial_sums us (Cdf x)) A p)
       → AtMost (tail q) A m → AtMost (tail (q + k)) A m
-  tail_past q k m below a =
-      at_most_minus (tail (q + k)) (layer_c k q) A m (whole k) (tail_rises (q + k))
-      (scaled_rises c (W k q) (outcomes_rise us w _)) (subst (λ Q. AtMost Q A (m +ℚ whole k)) (fun_ext (steps q k))
-      (at_most_plus (tail q) (whole_part k) A m (whole k) a (times_self (whole k) A).1)) (layer_low q k below)
+  tail_past q k m below a = at_most_minus _ _ A m _ (tail_rises (q + k))
+      (scaled_rises c (W k q) (outcomes_rise us w _)) (subst (λ Q. AtMost Q A (m +ℚ whole k))
+      (fun_ext (steps q k)) (at_most_plus _ _ A m _ a (times_self (whole k) A).1)) (layer_low q k below)
 
   -- past the quantile, where at most r + s lies above
-  tail_up : (q k : ℕ) (m s : Fraction)
-      → ((x : ℕ) → q ≤ x → x < q + k → AtLeast (partial_sums us (Cdf x)) A (p -ℚ s))
+  tail_up : (q k : ℕ) (m s : Fraction) → ((x : ℕ) → q ≤ x → x < q + k → AtLeast (partial_sums us (Cdf x)) A (p -ℚ s))
       → AtLeast (tail q) A (m +ℚ whole k *ℚ (c *ℚ s)) → AtLeast (tail (q + k)) A m
   tail_up q k m s near a =
       let lay : AtMost (layer_c k q) A (whole k *ℚ (c *ℚ s) +ℚ whole k) =
@@ -131,11 +117,10 @@ module _ (us : List Loss) (w : AreDeclarable us) (p r v : Fraction) (bound : IsB
       ∙ ap (λ t. whole k *ℚ (c *ℚ s) +ℚ t) (over_r (whole k)))
       (scaled_most c (W k q) A (whole k *ℚ (r +ℚ s))
       (layer_most us w k q (r +ℚ s) (λ x i j. above_most us w x p r s pr (near x i j)))) in
-      at_least_minus (tail (q + k)) (layer_c k q) A m (whole k *ℚ (c *ℚ s) +ℚ whole k) v
-      (outcomes_rise us w (score One)) bound
+      at_least_minus _ _ A m _ v (outcomes_rise us w (score One)) bound
       (subst₂ (λ Q t. AtLeast Q A t) (fun_ext (steps q k)) (plus_assoc _ _ _)
-      (at_least_plus (tail q) (whole_part k) A (m +ℚ whole k *ℚ (c *ℚ s)) (whole k) (tail_rises q)
-      (scaled_rises (whole k) A (outcomes_rise us w _)) a (times_self (whole k) A).0)) lay
+      (at_least_plus _ _ A _ _ (tail_rises q) (scaled_rises (whole k) A (outcomes_rise us w _)) a
+      (times_self (whole k) A).0)) lay
 
   -- ---- where the distribution reaches p
 
@@ -148,9 +133,8 @@ module _ (us : List Loss) (w : AreDeclarable us) (p r v : Fraction) (bound : IsB
 
   from_reached : (b q : ℕ) (m : Fraction) → b ≤ q → AtLeast (partial_sums us (Cdf b)) A p → AtLeast (tail b) A m
       → AtLeast (tail q) A m
-  from_reached b q m h reached a = subst (λ t. AtLeast (tail t) A m) (omega arith)
-      (tail_up b (q - b) m (whole 0) (λ x i j. cdf_past x b i reached)
-      (subst (AtLeast (tail b) A) (sym (none_open (q - b) m)) a))
+  from_reached b q m h reached a = subst (λ t. AtLeast (tail t) A m) (omega arith) (tail_up b (q - b) m (whole 0)
+      (λ x i j. cdf_past x b i reached) (subst (AtLeast (tail b) A) (sym (none_open (q - b) m)) a))
 
   from_below : (a q : ℕ) (m : Fraction) → q ≤ a → ((x : ℕ) → x < a → AtMost (partial_sums us (Cdf x)) A p)
       → AtLeast (tail a) A m → AtLeast (tail q) A m
@@ -174,14 +158,12 @@ module _ (us : List Loss) (w : AreDeclarable us) (p r v : Fraction) (bound : IsB
   -- at the low end of a bracket, from the excess there
   excess_least : (a : ℕ) (l : Fraction) → AtLeast (E a) A l → AtLeast (tail a) A (whole a +ℚ c *ℚ l)
   excess_least a l x = subst (λ Q. AtLeast Q A (whole a +ℚ c *ℚ l)) (sym (fun_ext (tail_is a)))
-      (at_least_plus (whole_part a) (λ N. c *ℚ E a N) A (whole a) (c *ℚ l)
-      (scaled_rises (whole a) A (outcomes_rise us w _)) (scaled_rises c (E a) (outcomes_rise us w _))
-      (times_self (whole a) A).0 (scaled_least c (E a) A l x))
+      (at_least_plus _ _ A _ _ (scaled_rises (whole a) A (outcomes_rise us w _))
+      (scaled_rises c (E a) (outcomes_rise us w _)) (times_self (whole a) A).0 (scaled_least c (E a) A l x))
 
   excess_most : (a : ℕ) (h : Fraction) → AtMost (E a) A h → AtMost (tail a) A (whole a +ℚ c *ℚ h)
   excess_most a h x = subst (λ Q. AtMost Q A (whole a +ℚ c *ℚ h)) (sym (fun_ext (tail_is a)))
-      (at_most_plus (whole_part a) (λ N. c *ℚ E a N) A (whole a) (c *ℚ h) (times_self (whole a) A).1
-      (scaled_most c (E a) A h x))
+      (at_most_plus _ _ A _ _ (times_self (whole a) A).1 (scaled_most c (E a) A h x))
 
   tail_inside : (a b q : ℕ) (s l m : Fraction) → a ≤ q → q ≤ b
       → ((x : ℕ) → a ≤ x → x < b → AtLeast (partial_sums us (Cdf x)) A (p -ℚ s)) → AtLeast (E a) A l

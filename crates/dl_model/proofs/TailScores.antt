@@ -12,9 +12,8 @@ pub div_is_times : (x y : Fraction) → whole 0 <ℚ y → x /ℚ y ≡ whole 1 
 div_is_times x y h = times_cancel _ _ y h
     (rw (div_times x y h, times_right_comm, div_times (whole 1) y h) (sym (one_times x)))
 
-pub tail_excess : (us : List Loss) (p : Fraction) (q N : ℕ) → p <ℚ whole 1
-    → partial_sums us (Tail p q) N ≡ whole q *ℚ partial_sums us One N +ℚ whole 1 /ℚ (whole 1 -ℚ p) *ℚ partial_sums us
-    (Layer None q) N
+pub tail_excess : (us : List Loss) (p : Fraction) (q N : ℕ) → p <ℚ whole 1 → partial_sums us (Tail p q) N
+    ≡ whole q *ℚ partial_sums us One N +ℚ whole 1 /ℚ (whole 1 -ℚ p) *ℚ partial_sums us (Layer None q) N
 tail_excess us p q N h =
     let k = whole 1 /ℚ (whole 1 -ℚ p) in
     outcomes_same us _ (λ ys. whole q *ℚ score One ys +ℚ k *ℚ score (Layer None q) ys) N

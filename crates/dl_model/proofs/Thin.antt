@@ -9,11 +9,9 @@ unfolding at_zero
 parts f p g h zero = rw h.no_zero (simp ring)
 parts f p g h (suc j) = h.above j ∙ simp ring
 
-convolve_parts : (f : ℕ → Fraction) (p : Fraction) (g : ℕ → Fraction) → IsPositivePart f p g
-    → (H : ℕ → Fraction) (y : ℕ)
-    → convolve f H y ≡ f zero *ℚ H y +ℚ p *ℚ convolve g H y
-convolve_parts f p g h H y =
-    sum_pairs_same y _ _ (λ i j e. ap (λ t. t *ℚ H j) (parts f p g h i) ∙ simp ring)
+convolve_parts : (f : ℕ → Fraction) (p : Fraction) (g : ℕ → Fraction)
+    → IsPositivePart f p g → (H : ℕ → Fraction) (y : ℕ) → convolve f H y ≡ f zero *ℚ H y +ℚ p *ℚ convolve g H y
+convolve_parts f p g h H y = sum_pairs_same y _ _ (λ i j e. ap (λ t. t *ℚ H j) (parts f p g h i) ∙ simp ring)
     ∙ sum_pairs_plus y (λ i j. f zero *ℚ (at_zero i *ℚ H j)) (λ i j. p *ℚ (g i *ℚ H j))
     ∙ ap₂ (λ x y. x +ℚ y) (sum_pairs_times y (f zero) (λ i j. at_zero i *ℚ H j)
     ∙ ap (λ t. f zero *ℚ t y) (at_zero_convolve H)) (sum_pairs_times y p (λ i j. g i *ℚ H j))
@@ -50,8 +48,7 @@ module _ (f : ℕ → Fraction) (p : Fraction) (g : ℕ → Fraction) (h : IsPos
   pub split : (n y : ℕ) → w n *ℚ power f n y ≡ sum_pairs n (λ i j. t i j *ℚ power g j y)
   unfolding power sum_pairs
   split zero y = ap (λ s. s *ℚ at_zero y) start
-  split (suc n) y =
-      times_cancel _ _ (whole (suc n)) (whole_pos (suc n) (zero-lt-suc n))
+  split (suc n) y = times_cancel _ _ (whole (suc n)) (whole_pos (suc n) (zero-lt-suc n))
       (times_comm _ _ ∙ sym (times_assoc _ _ _) ∙ ap (λ s. s *ℚ convolve f (power f n) y) (next n) ∙ times_assoc _ _ _
       ∙ ap (λ s. k n *ℚ s) (sym (convolve_times (w n) f (power f n) y) ∙ ap (λ H. convolve f H y) (fun_ext (split n)))
       ∙ sym (split_next n y) ∙ times_comm _ _)

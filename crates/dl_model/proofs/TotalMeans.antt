@@ -1,7 +1,6 @@
 -- The mean of a total is the sum of the means.
 use Rattle.dl_model.proofs.Common.{sym, subst, subst₂, List, [], ◌∷◌, fun_ext, Fraction, ◌+ℚ◌, whole, times_one, one_times, Rises, Holds, times, Loss, IsLoss, AreDeclarable, One, Mean, score, partial_sums, mean_to_reach}
-use Rattle.dl_model.proofs.ValueLaws.{self_holds, holds_plus, holds_times, rises_times}
-use Rattle.dl_model.proofs.Outcomes.{loss_proper, outcomes_rise, total_alone_all, total_more_all, mean_more, mean_alone}
+use Rattle.dl_model.proofs.TotalLaws.{self_holds, holds_plus, holds_times, rises_times, loss_proper, outcomes_rise, total_alone_all, total_more_all, mean_more, mean_alone}
 
 pub mean_of_total : (u : Loss) (us : List Loss) → IsLoss u → AreDeclarable us → (l h l' h' : Fraction)
     → Holds (partial_sums (u ∷ []) Mean) (partial_sums (u ∷ []) One) l h

@@ -1,7 +1,6 @@
 -- The outcomes of a unit are a loss: up to the level times the greatest amount, where they make up its whole weight.
-use Rattle.dl_model.proofs.Common.{◌≡◌, inl, inr, ℕ, suc, ◌*◌, ◌<◌, nat_eq, arith, sym, ap, ◌∙◌, cases_lt, whole, sum_to, le_trans, sum_to_same, sum_to_swap, sum_to_le, sum_to_grows, sum_to_zero, cell, power, mapped, IsProper, IsLoss, Aggregate, IsDeclarable, loss, outcome, where_true, ◌*ℚ◌}
+use Rattle.dl_model.proofs.Common.{◌≡◌, inl, inr, ℕ, suc, ◌*◌, ◌<◌, nat_eq, arith, sym, ap, ◌∙◌, cases_lt, whole, sum_to, le_trans, sum_to_same, sum_to_swap, sum_to_le, sum_to_grows, sum_to_zero, cell, power, mapped, IsProper, IsLoss, Aggregate, IsDeclarable, loss, outcome, where_true, ◌*ℚ◌, le_refl_n}
 use Rattle.dl_model.proofs.ValueLaws.{where_rises, pick, pick_none, off, passed, cell_past, cells_all, sum_rises_to}
-use Rattle.std.proofs.Math.Nat.{le_refl as le_refl_n}
 use Rattle.dl_model.proofs.Outcomes.{loss_proper}
 
 module _ (u : Aggregate) (h : IsDeclarable u) where
@@ -13,8 +12,7 @@ module _ (u : Aggregate) (h : IsDeclarable u) where
   unit_whole N =
       sum_to_swap (N * u.most) (N * u.most) (λ y s. where_true (nat_eq (u.clause s) y) (cell u.count u.severity s N))
       ∙ sum_to_same (N * u.most) _ _ (λ s b. passed (N * u.most) (u.clause s) (λ y. cell u.count u.severity s N)
-      (omega (arith, h.clause s)))
-      ∙ cells_all u.count u.severity u.most h.severity N (N * u.most) (le_refl_n _)
+      (omega (arith, h.clause s))) ∙ cells_all u.count u.severity u.most h.severity N (N * u.most) (le_refl_n _)
 
   pub unit_loss : IsLoss (loss u)
   unit_loss = record {

@@ -1,8 +1,6 @@
 -- The loss of a unit that can be declared: its mean, by what the clause makes of each sum, and that it can be declared.
-use Rattle.dl_model.proofs.Common.{◌≡◌, ℕ, ◌*◌, nat_eq, arith, sym, ◌∙◌, Fraction, ◌*ℚ◌, ◌≤ℚ◌, whole, sum_to, le_trans, le_of_eq, whole_le, sum_to_same, sum_to_times, sum_to_swap, sum_to_le, cell, Aggregate, IsDeclarable, IsDeclared, IsDeclaredLoss, loss, where_true, mean_to_reach, order}
-use Rattle.std.proofs.Math.Nat.{le_refl as le_refl_n}
-use Rattle.dl_model.proofs.Picks.{passed, times_where}
-use Rattle.dl_model.proofs.UnitLaws.{unit_loss}
+use Rattle.dl_model.proofs.Common.{◌≡◌, ℕ, ◌*◌, nat_eq, arith, sym, ◌∙◌, Fraction, ◌*ℚ◌, ◌≤ℚ◌, whole, sum_to, le_trans, le_of_eq, whole_le, sum_to_same, sum_to_times, sum_to_swap, sum_to_le, cell, Aggregate, IsDeclarable, IsDeclared, IsDeclaredLoss, loss, where_true, mean_to_reach, order, le_refl_n}
+use Rattle.dl_model.proofs.TotalLaws.{passed, times_where, unit_loss}
 use Rattle.dl_model.proofs.Means.{cells_mean}
 
 module _ (u : Aggregate) (h : IsDeclarable u) where

@@ -1,7 +1,6 @@
 -- Probabilities from whole weights: none past the greatest number, and 1 in all.
-use Rattle.dl_model.proofs.Common.{ℕ, ◌≡◌, ◌+◌, ◌<◌, ◌≤◌, zero, suc, arith, refl, sym, ap, ◌∙◌, List, [], ◌∷◌, length, inl, inr, if◌then◌else◌, ◌==◌, sum_by-cons, ◌≤ℚ◌, whole, sum_to, over_same, over_le, one_pos, Item, weight_at, weight_sum, greatest, probability_at, equally_likely, count_by, sum_through, sum_to_over, le_ind, fun_ext}
-use Rattle.std.proofs.lemmas.Bool.{eq-eqb, ne_eqb}
-use Rattle.std.proofs.lemmas.Bool.Decides.{eqb_tells}
+use Rattle.std.specs.Prelude.{sum_by}
+use Rattle.dl_model.proofs.Common.{ℕ, ◌≡◌, ◌+◌, ◌<◌, ◌≤◌, zero, suc, arith, refl, sym, ap, ◌∙◌, List, [], ◌∷◌, length, inl, inr, if◌then◌else◌, ◌==◌, sum_by-cons, ◌≤ℚ◌, whole, sum_to, over_same, over_le, one_pos, Item, weight_at, weight_sum, greatest, probability_at, equally_likely, count_by, sum_through, sum_to_over, le_ind, fun_ext, ne_eqb, eqb_tells, ◌*◌, ap₂}
 
 -- the weight that an item gives to x
 abbrev pub part_of : ℕ → Item → ℕ
@@ -26,8 +25,7 @@ weight_within (item ∷ items) x = elim (eqb_tells item.amount x) [
 -- no weight stands past the greatest number
 pub weight_at-past : (items : List Item) (x : ℕ) → greatest items < x → weight_at items x ≡ 0
 weight_at-past [] x h = refl
-weight_at-past (item ∷ items) x h =
-    rw (weight_at-cons item items x, ne_eqb item.amount x (omega arith))
+weight_at-past (item ∷ items) x h = rw (weight_at-cons item items x, ne_eqb item.amount x (omega arith))
     (omega (arith, weight_at-past items x (omega arith)))
 
 -- ---- sums of the weights
@@ -36,34 +34,41 @@ sum_through_add : (n : ℕ) (f g : ℕ → ℕ) → sum_through (λ k. f k + g k
 sum_through_add zero f g = refl
 sum_through_add (suc n) f g = omega (arith, sum_through_add n f g)
 
--- one number's weight, summed over all places up to n
-none_before : (v w n : ℕ) → n < v → sum_through (λ x. if v == x then w else 0) n ≡ 0
-none_before v w zero h = rw (ne_eqb v 0 (omega arith)) refl
-none_before v w (suc n) h = rw (ne_eqb v (suc n) (omega arith)) (omega (arith, none_before v w n (omega arith)))
+-- the weight of one number, times a value of the place, summed over the places up to n
+none_before : (f : ℕ → ℕ) (v w n : ℕ) → n < v → sum_through (λ x. f x * (if v == x then w else 0)) n ≡ 0
+none_before f v w zero h = rw (ne_eqb v 0 (omega arith)) (omega arith)
+none_before f v w (suc n) h = rw (ne_eqb v (suc n) (omega arith)) (omega (arith, none_before f v w n (omega arith)))
 
-one_within : (v w n : ℕ) → v ≤ n → sum_through (λ x. if v == x then w else 0) n ≡ w
-one_within v w zero h = rw (eq-eqb v 0 (omega arith)) refl
-one_within v w (suc n) h = elim (eqb_tells v (suc n)) [
-  | inl p ↦ rw p.0 (omega (arith, none_before v w n (omega (arith, p.1))))
-  | inr p ↦ rw p.0 (omega (arith, one_within v w n (omega (arith, p.1))))
+one_within : (f : ℕ → ℕ) (v w n : ℕ) → v ≤ n → sum_through (λ x. f x * (if v == x then w else 0)) n ≡ f v * w
+one_within f zero w zero h = refl
+one_within f (suc v) w zero h = absurd (omega arith)
+one_within f v w (suc n) h = elim (eqb_tells v (suc n)) [
+  | inl p ↦ rw p.0 (omega (arith, none_before f v w n (omega (arith, p.1)), ap (λ k. f k * w) p.1))
+  | inr p ↦ rw p.0 (omega (arith, one_within f v w n (omega (arith, p.1))))
 ]
 
--- the weights of the places up to n, of one more item
-weights-cons : (item : Item) (items : List Item) (n : ℕ) → sum_through (weight_at (item ∷ items)) n
-    ≡ sum_through (λ x. part_of x item) n + sum_through (weight_at items) n
-weights-cons item items n =
-    ap (λ f. sum_through f n) (fun_ext (weight_at-cons item items))
-    ∙ sum_through_add n (λ x. part_of x item) (weight_at items)
+no_weights : (f : ℕ → ℕ) (n : ℕ) → sum_through (λ x. f x * weight_at [] x) n ≡ 0
+no_weights f zero = omega arith
+no_weights f (suc n) = omega (arith, no_weights f n)
 
-no_weights : (n : ℕ) → sum_through (weight_at []) n ≡ 0
-no_weights zero = refl
-no_weights (suc n) = omega (arith, no_weights n)
+-- each place up to n by a value of it: as each item by the value of its number, from the greatest number on
+pub weights_times : (f : ℕ → ℕ) (items : List Item) (n : ℕ) → greatest items ≤ n
+    → sum_through (λ x. f x * weight_at items x) n ≡ sum_by (λ item. f item.amount * item.weight) items
+weights_times f [] n h = no_weights f n
+weights_times f (item ∷ items) n h =
+    let each : (x : ℕ) → f x * weight_at (item ∷ items) x ≡ f x * part_of x item + f x * weight_at items x =
+    λ x. rw (weight_at-cons item items x) (omega arith) in
+    ap (λ g. sum_through g n) (fun_ext each)
+    ∙ sum_through_add n (λ x. f x * part_of x item) (λ x. f x * weight_at items x)
+    ∙ ap₂ (λ a b. a + b) (one_within f item.amount item.weight n (omega arith)) (weights_times f items n (omega arith))
+    ∙ sym (sum_by-cons (λ (i : Item). f i.amount * i.weight) item items)
 
 -- places up to n have at most all weight, and all of it from the greatest number on
 pub weights_all : (items : List Item) (n : ℕ) → greatest items ≤ n → sum_through (weight_at items) n ≡ weight_sum items
-weights_all [] n h = no_weights n
-weights_all (item ∷ items) n h = rw (weights-cons item items n, weight_sum-cons item items)
-    (omega (arith, one_within item.amount item.weight n (omega arith), weights_all items n (omega arith)))
+weights_all items n h =
+    let by_one : (k : ℕ) → k ≡ 1 * k = λ k. omega arith in
+    ap (λ g. sum_through g n) (fun_ext (λ x. by_one (weight_at items x))) ∙ weights_times (λ x. 1) items n h
+    ∙ sym (ap (λ g. sum_by g items) (fun_ext (λ (item : Item). by_one item.weight)))
 
 pub weights_le : (items : List Item) (n : ℕ) → sum_through (weight_at items) n ≤ weight_sum items
 weights_le items n =
@@ -81,8 +86,7 @@ probability-past items x pos h = over_same _ _ 0 1 pos one_pos (omega (arith, we
 
 pub probabilities_all : (items : List Item) (n : ℕ) → 0 < weight_sum items → greatest items ≤ n
     → sum_to n (probability_at items) ≡ whole 1
-probabilities_all items n pos h =
-    sum_to_over n (weight_sum items) (weight_at items) pos
+probabilities_all items n pos h = sum_to_over n (weight_sum items) (weight_at items) pos
     ∙ over_same _ _ 1 1 pos one_pos (omega (arith, weights_all items n h))
 
 pub probabilities_le : (items : List Item) (n : ℕ) → 0 < weight_sum items → sum_to n (probability_at items) ≤ℚ whole 1
@@ -97,8 +101,7 @@ equal_total (v ∷ values) =
     let item : Item = record { amount = v; weight = 1 } in
     omega (arith, weight_sum-cons item (equally_likely values), equal_total values)
 
-pub equal_weight : (values : List ℕ) (x : ℕ)
-    → weight_at (equally_likely values) x ≡ count_by (λ v. v == x) values
+pub equal_weight : (values : List ℕ) (x : ℕ) → weight_at (equally_likely values) x ≡ count_by (λ v. v == x) values
 equal_weight [] x = refl
 equal_weight (v ∷ values) x =
     weight_at-cons (record { amount = v; weight = 1 }) (equally_likely values) x

@@ -1,6 +1,6 @@
 -- The units without one of them.
-use Rattle.dl_model.proofs.Common.{◌≡◌, ℕ, suc, zero, ◌+◌, ◌<◌, arith, refl, sym, ap, ◌∙◌, List, [], ◌∷◌, ◌++◌, length, Loss, AreDeclarable, unit_of, without}
-use Rattle.std.proofs.Common.{take, drop, get_or, add-one}
+use Rattle.dl_model.proofs.Common.{◌≡◌, ℕ, suc, zero, ◌+◌, ◌<◌, arith, refl, sym, ap, ◌∙◌, List, [], ◌∷◌, ◌++◌, length, Loss, AreDeclarable, unit_of, without, take, drop, add-one}
+use Rattle.std.proofs.Common.{get_or}
 
 pub without_suc : (us : List Loss) (i : ℕ) → without us i ≡ take i us ++ drop (suc i) us
 without_suc [] zero = refl

@@ -13,6 +13,7 @@ ghost use Rattle.dl_model.specs.Measures.{IsDeclaredLoss};
 
 /// A unit's outcomes are a proper family, go up to the level times the greatest amount, and make up
 /// the whole weight there. So they are a loss, and where the unit can be declared, its loss can.
+#[tactic(auto, using(crate::proofs::UnitLaws::unit_proper, crate::proofs::UnitLaws::unit_within, crate::proofs::UnitLaws::unit_whole, crate::proofs::UnitLaws::unit_loss))]
 pub fn law_unit()
     ensures proper { (u : Aggregate) → IsDeclarable u → IsProper (mapped u) }
     ensures within { (u : Aggregate) → IsDeclarable u → (y N : ℕ) → N * u.most < y

@@ -1,8 +1,6 @@
-//! Tests of claim counts, powers, budgets, unit grids and small cases by hand.
+//! Tests of claim counts, powers, budgets and unit grids.
 
 mod budget;
-mod by_hand;
-mod by_hand_scores;
 mod common;
 mod factor;
 mod helpers;

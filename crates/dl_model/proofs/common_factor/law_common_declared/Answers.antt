@@ -1,4 +1,5 @@
-use Rattle.dl_model.proofs.PooledLoss.{common_bounded, common_positive, common_whole, common_quantile}
+use Rattle.dl_model.proofs.PooledLoss.{common_bounded, common_positive, common_whole, common_distribution}
+use Rattle.dl_model.proofs.CommonPlans.{at_most_one}
 use Rattle.dl_model.proofs.common_factor.law_common_declared.Goals as goal
 
 pub returns : goal.returns
@@ -6,5 +7,5 @@ returns c = record {
   bounded = common_bounded;
   positive = common_positive;
   adds_up = common_whole;
-  quantile = common_quantile;
+  quantile = λ q us some h M past. at_most_one _ (common_distribution q us some h M past);
 }

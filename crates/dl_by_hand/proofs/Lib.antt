@@ -1,6 +1,0 @@
-mod Common
-mod PointLaws
-mod CountLaws
-mod SomeClaimLaws
-mod ScoreLaws
-mod SharedClaimLaws
