@@ -1,5 +1,5 @@
 -- What all steps of a text come to, and where they end.
-use Rattle.dl_cert.proofs.Common.{get_or_past, ℕ, ◌≡◌, ◌+◌, ◌<◌, ◌≤◌, ◌^◌, ◌∙◌, inl, inr, refl, sym, ap, ap₂, subst, arith, List, [], ◌∷◌, ◌++◌, length, get_or, take, drop, append-nil, length-append, map, All, ◌↔◌, get_or-append_seam, cases_lt, take_more, take_all, drop_all, length-map, All-nil, All-cons, Iv, Plan, label_at, HasPassedTo, lines_of, AreCells, AreSteps, with_byte, IsStep, made_after, Step, Made, made_at, unit_parts, target, IsBadStep, EndsAtTarget, Verifies}
+use Rattle.dl_cert.proofs.Common.{get_or_past, ℕ, ◌≡◌, ◌+◌, ◌<◌, ◌≤◌, ◌^◌, ◌∙◌, inl, inr, refl, sym, ap, ap₂, arith, List, [], ◌∷◌, ◌++◌, length, get_or, take, drop, append-nil, length-append, map, All, ◌↔◌, get_or-append_seam, cases_lt, take_more, take_all, drop_all, length-map, All-nil, All-cons, Iv, Plan, label_at, HasPassedTo, lines_of, AreCells, AreSteps, with_byte, IsStep, made_after, Step, Made, made_at, unit_parts, target, IsBadStep, EndsAtTarget, Verifies}
 use Rattle.dl_cert.proofs.LineLists.{no_lines, line_or_more}
 use Rattle.dl_cert.proofs.Readings.{begun}
 use Rattle.dl_cert.proofs.Passings.{counted}
@@ -28,12 +28,12 @@ cells_small text (cell ∷ cells) (spelled, rest, here, later, is) =
 
 pub step_small : (line : List ℕ) (step : Step) → IsStep line step → All (λ cell. cell.hi ≤ 2 ^ 56) step.cells
 step_small line step h =
-    let b = begun line step h in
+    let b = begun step h in
     cells_small b.rest step.cells b.cells
 
 -- ---- at the end of the text
 
-module _ (plan : Plan) (text places labels : List ℕ) (passed : HasPassedTo plan text (length text) places labels) where
+module _ {plan : Plan} {text places labels : List ℕ} (passed : HasPassedTo plan text (length text) places labels) where
   abbrev made : List Made
   made = made_after [] passed.steps
 
@@ -42,13 +42,12 @@ module _ (plan : Plan) (text places labels : List ℕ) (passed : HasPassedTo pla
       ∙ append-nil passed.lines
 
   pub all_counted : length places ≡ length (lines_of text)
-  all_counted = counted plan text places labels (length text) passed ∙ sym (ap length all_lines)
+  all_counted = counted passed ∙ sym (ap length all_lines)
 
   pub ends_badly : ¬ EndsAtTarget plan made → IsBadStep plan text (length places)
   ends_badly none = record {
     steps = passed.steps;
-    spelled = subst (λ l. AreSteps l passed.steps)
-        (sym (take_all (length places) (lines_of text) (omega (arith, all_counted)) ∙ all_lines)) passed.spelled;
+    spelled = rw (take_all (length places) (lines_of text) (omega (arith, all_counted)), all_lines) passed.spelled;
     pass = passed.pass;
     bad = inr (all_counted, none);
   }
@@ -73,12 +72,12 @@ module _ (plan : Plan) (text places labels : List ℕ) (passed : HasPassedTo pla
         sym (passed.kept.counts n i within inside) ∙ ap (λ (m : Made). m.label i) (last_is ends.before ends.last ends.ends)
         ∙ ends.label i)
 
-    pub verified : (grid : List (Iv 56)) → grid ≡ (made_at made n).cells
+    pub verified : {grid : List (Iv 56)} → grid ≡ (made_at made n).cells
         → ((i : ℕ) → i < length plan.units → label_at labels (length plan.units) n i ≡ target plan i)
         → Verifies plan text grid
-    verified grid cells label = record {
+    verified cells label = record {
       steps = passed.steps;
-      spelled = subst (λ l. AreSteps l passed.steps) (sym all_lines) passed.spelled;
+      spelled = rw all_lines passed.spelled;
       certify = record {
         pass = passed.pass;
         before = take n made;
@@ -114,10 +113,9 @@ none_passed plan text = record {
   };
 }
 
-pub few_steps : (plan : Plan) (text places labels : List ℕ) → HasPassedTo plan text (length text) places labels
+pub few_steps : {plan : Plan} (text : List ℕ) {places labels : List ℕ} → HasPassedTo plan text (length text) places labels
     → length places ≤ length text
-few_steps plan text places labels passed =
-    omega (arith, all_counted plan text places labels passed, lines_few text)
+few_steps text passed = omega (arith, all_counted passed, lines_few text)
 
 -- the label of a step is that of the target, by the targets and the labels as they are read
 pub by_targets : (plan : Plan) (targets labels read : List ℕ) (n : ℕ) → targets ≡ map unit_parts plan.units → read ≡ labels
@@ -126,11 +124,11 @@ pub by_targets : (plan : Plan) (targets labels read : List ℕ) (n : ℕ) → ta
 by_targets plan targets labels read n is same = rw (is, same, length-map plan.units unit_parts) (λ h. h, λ h. h)
 
 -- there are at most as many steps as bytes
-pub steps_before : (plan : Plan) (text places labels : List ℕ) (place : ℕ) → HasPassedTo plan text place places labels
-    → length places ≤ length text
-steps_before plan text places labels place passed = omega (
+pub steps_before : {plan : Plan} (text : List ℕ) {places labels : List ℕ} (place : ℕ)
+    → HasPassedTo plan text place places labels → length places ≤ length text
+steps_before text place passed = omega (
   arith,
-  counted plan text places labels place passed,
+  counted passed,
   ap length passed.split,
   length-append passed.lines (lines_of (drop place text)),
   lines_few text,

@@ -10,7 +10,7 @@ steps_are [] [] (t ∷ ts) h k = absurd k
 steps_are [] (s ∷ ss) ts h k = absurd h
 steps_are (l ∷ ls) [] ts h k = absurd h
 steps_are (l ∷ ls) (s ∷ ss) [] h k = absurd k
-steps_are (l ∷ ls) (s ∷ ss) (t ∷ ts) h k = ap₂ (λ x xs. x ∷ xs) (step_is l s t h.0 k.0) (steps_are ls ss ts h.1 k.1)
+steps_are (l ∷ ls) (s ∷ ss) (t ∷ ts) h k = ap₂ (λ x xs. x ∷ xs) (step_is h.0 k.0) (steps_are ls ss ts h.1 k.1)
 
 -- where all steps pass, none is bad after those before it
 good_line : (plan : Plan) (before : List Made) (lines : List (List ℕ)) (all first : List Step) (k : ℕ) → k < length lines
@@ -23,7 +23,7 @@ good_line plan before (l ∷ ls) (s ∷ ss) [] zero inside spelled pass begin ba
 good_line plan before (l ∷ ls) (s ∷ ss) (t ∷ ts) zero inside spelled pass begin bad = begin
 good_line plan before (l ∷ ls) (s ∷ ss) [] (suc k) inside spelled pass begin bad = begin
 good_line plan before (l ∷ ls) (s ∷ ss) (t ∷ ts) (suc k) inside spelled pass begin bad =
-    let same : t ≡ s = step_is l t s begin.0 spelled.0 in
+    let same : t ≡ s = step_is begin.0 spelled.0 in
     good_line plan (before ++ made_by before s ∷ []) ls ss ts k (omega (arith, inside)) spelled.1 pass.1 begin.1
     (subst (λ x. IsBadLine plan (made_after (before ++ made_by before x ∷ []) ts) (get_or ls k [])) same bad)
 

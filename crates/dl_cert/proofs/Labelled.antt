@@ -1,5 +1,5 @@
 -- Labels: of no unit, of one unit, and of two labels together.
-use Rattle.dl_cert.proofs.Common.{cases_eq, eq-eqb, ne_eqb, cond, ℕ, zero, suc, ◌≡◌, ◌<◌, ◌∙◌, inl, inr, refl, sym, ap, ap₂, arith, List, [], ◌∷◌, length, get_or, Fraction, whole, ◌*ℚ◌, ◌^ℚ◌, ring, one_times, times_one, convolve, at_zero, power, Family, product, nothing, Encloses, encloses_same, itself_one, fun_ext, labelled, Label, no_unit, once, together}
+use Rattle.dl_cert.proofs.Common.{nat_tests, ℕ, zero, suc, ◌≡◌, ◌<◌, ◌∙◌, refl, sym, ap, ap₂, arith, List, [], ◌∷◌, length, get_or, Fraction, whole, ◌*ℚ◌, ◌^ℚ◌, ring, one_times, times_one, convolve, at_zero, power, Family, product, nothing, Encloses, encloses_same, itself_one, fun_ext, labelled, Label, no_unit, once, together}
 use Rattle.dl_exact.proofs.Powers.{pow_plus}
 use Rattle.dl_model.proofs.Powers.{convolve_comm, convolve_assoc, at_zero_convolve, power_plus}
 
@@ -51,16 +51,13 @@ none_all (F ∷ Fs) N = none_all Fs N ∙ sym (one_times _)
 
 -- the label of one unit, without the first one
 once_first : (λ i. once 0 (suc i)) ≡ no_unit
-once_first = fun_ext (λ i. ap (λ b. cond b 1 0) (ne_eqb (suc i) 0 (λ e. absurd (omega (arith, e)))))
+once_first = fun_ext (λ i. grind (arith, nat_tests))
 
 once_later : (u : ℕ) → (λ i. once (suc u) (suc i)) ≡ once u
-once_later u = fun_ext (λ i. elim (cases_eq i u) [
-  | inl e ↦ ap (λ b. cond b 1 0) (eq-eqb (suc i) (suc u) (ap suc e) ∙ sym (eq-eqb i u e))
-  | inr n ↦ ap (λ b. cond b 1 0) (ne_eqb (suc i) (suc u) (λ e. n (omega (arith, e))) ∙ sym (ne_eqb i u n))
-])
+once_later u = fun_ext (λ i. grind (arith, nat_tests))
 
 once_none : (u : ℕ) → once (suc u) 0 ≡ 0
-once_none u = ap (λ b. cond b 1 0) (ne_eqb 0 (suc u) (λ e. absurd (omega (arith, e))))
+once_none u = grind (arith, nat_tests)
 
 once_cells : (Fs : List Family) (u N : ℕ) → u < length Fs
     → (λ y. (get_or Fs u nothing).cells y N) ≡ cells_at Fs (once u) N

@@ -1,35 +1,26 @@
 -- Steps of each kind whose ends are their numbers, and what they count.
-use Rattle.dl_cert.proofs.Common.{fun_ext, get_or-map, ℕ, zero, suc, ◌≡◌, ◌+◌, ◌*◌, ◌/◌, ◌<◌, ◌≤◌, ◌^◌, ◌∙◌, inl, inr, refl, sym, ap, ap₂, subst, arith, List, [], ◌∷◌, ◌++◌, length, map, get_or, append_assoc, append-nil, Option, Some, None, pow-suc, cases_eq, cases_lt, eq-eqb, ne_eqb, lt-ltb, le-ltb, get_or_past, length-map, pow_pos, more_below, most_cert_cells, most_cells_at, IsGridSize, Iv, low_at, high_at, all_at_zero, IsGrid, IsConvolution, Plan, UnitOfPlan, thinned_mean, IsValid, Factor, One, Start, Times, Label, together, no_unit, low_start, high_start, IsExactStart, Made, target, unit_parts, All-nil, text_of, line_of, CanBeWritten, IsWritten, IsMade, EndsWith, often, first_of, IsSum, IsBefore}
+use Rattle.dl_cert.proofs.Common.{fun_ext, ℕ, zero, suc, ◌≡◌, ◌+◌, ◌*◌, ◌/◌, ◌<◌, ◌≤◌, ◌^◌, ◌∙◌, inl, inr, refl, sym, ap₂, subst, arith, List, [], ◌∷◌, ◌++◌, length, map, get_or, append_assoc, append-nil, Option, Some, None, pow-suc, cases_lt, lt-ltb, le-ltb, nat_tests, get_or_past, length-map, pow_pos, more_below, most_cert_cells, most_cells_at, IsGridSize, Iv, low_at, high_at, all_at_zero, IsGrid, IsConvolution, Plan, UnitOfPlan, thinned_mean, IsValid, Factor, One, Start, Times, Label, together, no_unit, low_start, high_start, IsExactStart, Made, target, unit_parts, All-nil, text_of, line_of, CanBeWritten, IsWritten, IsMade, EndsWith, often, first_of, IsSum, IsBefore}
+use Rattle.dl_cert.proofs.Tests.{start_is}
 use Rattle.dl_cert.proofs.WrittenSteps.{exact_step, made_kept}
 
 -- ---- labels
 
 pub often_le : (u n : ℕ) (most : Label) → n ≤ most u → (i : ℕ) → often u n i ≤ most i
-often_le u n most h i = elim (cases_eq i u) [
-  | inl same ↦ rw (eq-eqb i u same) (subst (λ j. n ≤ most j) (sym same) h)
-  | inr other ↦ rw (ne_eqb i u other) (omega arith)
-]
+often_le u n most h i = grind (arith, nat_tests)
 
 pub often_both : (u m n k : ℕ) → m + n ≡ k → (i : ℕ) → often u m i + often u n i ≡ often u k i
-often_both u m n k e i = elim (cases_eq i u) [
-  | inl same ↦ rw (eq-eqb i u same) e
-  | inr other ↦ rw (ne_eqb i u other) refl
-]
+often_both u m n k e i = grind (arith, nat_tests)
 
 pub both_le : (u m n k : ℕ) (most : Label) → m + n ≡ k → k ≤ most u → (i : ℕ) → often u m i + often u n i ≤ most i
 both_le u m n k most e h i = omega (arith, often_both u m n k e i, often_le u k most h i)
 
-pub target_is : (plan : Plan) (u : ℕ) (unit : UnitOfPlan) → u < length plan.units → unit ≡ get_or plan.units u unit
-    → target plan u ≡ unit_parts unit
-target_is plan u unit inside here = get_or-map unit_parts plan.units u unit 0 inside ∙ ap unit_parts (sym here)
-
-module _ (plan : Plan) where
+module _ {plan : Plan} where
   -- ---- what was written before, and what came later
 
-  pub joined : (text : List ℕ) (count : ℕ) (made later : List Made) (k : ℕ) (cells : List (Iv 56)) (x y : Label)
+  pub joined : {text : List ℕ} {count : ℕ} {made : List Made} (later : List Made) {k : ℕ} {cells : List (Iv 56)} {x y : Label}
       → EndsWith plan text count (made ++ later) k cells x → ((i : ℕ) → x i ≡ y i)
       → EndsWith plan text count made k cells y
-  joined text count made later k cells x y e same = subst (EndsWith plan text count made k cells) (fun_ext same) (record {
+  joined {text} {count} {made} later {k} {cells} e same = subst (EndsWith plan text count made k cells) (fun_ext same) (record {
     later = later ++ e.later;
     written = rw (← append_assoc made later e.later) e.written;
     step = rw (← append_assoc made later e.later) e.step;
@@ -37,14 +28,14 @@ module _ (plan : Plan) where
   })
 
   -- the same label, written otherwise
-  pub renamed : (text : List ℕ) (count : ℕ) (made : List Made) (k : ℕ) (cells : List (Iv 56)) (x y : Label)
+  pub renamed : {text : List ℕ} {count : ℕ} {made : List Made} {k : ℕ} {cells : List (Iv 56)} {x y : Label}
       → EndsWith plan text count made k cells x → ((i : ℕ) → x i ≡ y i) → EndsWith plan text count made k cells y
-  renamed text count made k cells x y e same = subst (EndsWith plan text count made k cells) (fun_ext same) e
+  renamed {text} {count} {made} {k} {cells} e same = subst (EndsWith plan text count made k cells) (fun_ext same) e
 
-  pub already : (text : List ℕ) (count : ℕ) (made : List Made) (k : ℕ) (cells : List (Iv 56)) (x : Label)
+  pub already : {text : List ℕ} {count : ℕ} {made : List Made} {k : ℕ} {cells : List (Iv 56)} {x : Label}
       → IsWritten plan text count made → IsMade made k cells x → suc k ≡ length made
       → EndsWith plan text count made k cells x
-  already text count made k cells x w m last = record {
+  already {made = made} w m last = record {
     later = [];
     written = rw (append-nil made) w;
     step = rw (append-nil made) m;
@@ -53,15 +44,14 @@ module _ (plan : Plan) where
 
   -- ---- a step of each kind
 
-  pub times_step : (text text' : List ℕ) (count count' : ℕ) (made : List Made) (a b : ℕ) (A B g : List (Iv 56))
-      (x y : Label)
-      → IsWritten plan text count made → count < 10 ^ 9
+  pub times_step : {text text' : List ℕ} {count count' : ℕ} {made : List Made} {a b : ℕ} {A B : List (Iv 56)}
+      (g : List (Iv 56)) {x y : Label} → IsWritten plan text count made → count < 10 ^ 9
       → text' ≡ text ++ (line_of (record { kind = Times a b; cells = g }) ++ (10 ∷ [])) → count' ≡ count + 1
       → IsMade made a A x → IsMade made b B y → ((i : ℕ) → x i + y i ≤ target plan i)
       → IsConvolution plan.cells A B g → IsGrid g → length g ≡ plan.cells
       → EndsWith plan text' count' made count g (together x y)
-  times_step text text' count count' made a b A B g x y w few is more m n within conv grid long =
-      exact_step plan text text' count count' made (Times a b) g (together x y) w is more
+  times_step {a = a} {b} g {x} {y} w few is more m n within conv grid long =
+      exact_step (Times a b) g (together x y) w is more
       (omega (arith, m.there, w.many, few), omega (arith, n.there, w.many, few)) (m.there, n.there) grid long
       (λ i. ap₂ (λ s t. s + t) (m.label_is i) (n.label_is i)) within
       (record {
@@ -69,33 +59,26 @@ module _ (plan : Plan) where
         high = λ z inside. rw (m.same, n.same) (conv.high z inside);
       })
 
-  pub start_step : (text text' : List ℕ) (count count' : ℕ) (made : List Made) (u : ℕ) (unit : UnitOfPlan)
-      (g : List (Iv 56))
+  pub start_step : {text text' : List ℕ} {count count' : ℕ} {made : List Made} (u : ℕ) {unit : UnitOfPlan} (g : List (Iv 56))
       → IsWritten plan text count made → u < length plan.units → u < 10 ^ 9 → unit ≡ get_or plan.units u unit
       → text' ≡ text ++ (line_of (record { kind = Start u; cells = g }) ++ (10 ∷ [])) → count' ≡ count + 1
       → IsExactStart unit.freq unit.sev (thinned_mean unit) g → IsGrid g → length g ≡ plan.cells
       → 1 ≤ target plan u → EndsWith plan text' count' made count g (often u 1)
-  start_step text text' count count' made u unit g w inside few here is more exact grid long counted =
-      exact_step plan text text' count count' made (Start u) g (often u 1) w is more few inside grid long
-      (λ i. refl) (often_le u 1 (target plan) counted)
+  start_step u {unit} g w inside few here is more exact grid long counted =
+      exact_step (Start u) g (often u 1) w is more few inside grid long (λ i. refl) (often_le u 1 (target plan) counted)
       (record {
         low = λ y below. exact.low y (omega (arith, below, long))
-            ∙ sym (get_or-map (λ (z : UnitOfPlan). low_start z.freq z.sev (thinned_mean z) (low_at g) y) plan.units u unit 0
-            inside
-            ∙ ap (λ (z : UnitOfPlan). low_start z.freq z.sev (thinned_mean z) (low_at g) y) (sym here));
+            ∙ start_is plan.units u unit inside here (λ z. low_start z.freq z.sev (thinned_mean z) (low_at g) y);
         high = λ y below. exact.high y (omega (arith, below, long))
-            ∙ sym (get_or-map (λ (z : UnitOfPlan). high_start z.freq z.sev (thinned_mean z) (high_at g) y) plan.units u unit 0
-            inside
-            ∙ ap (λ (z : UnitOfPlan). high_start z.freq z.sev (thinned_mean z) (high_at g) y) (sym here));
+            ∙ start_is plan.units u unit inside here (λ z. high_start z.freq z.sev (thinned_mean z) (high_at g) y);
       })
 
-  pub one_step : (text text' : List ℕ) (count count' : ℕ) (made : List Made) (g : List (Iv 56))
-      → IsWritten plan text count made
+  pub one_step : {text text' : List ℕ} {count count' : ℕ} {made : List Made} (g : List (Iv 56)) → IsWritten plan text count made
       → text' ≡ text ++ (line_of (record { kind = One; cells = g }) ++ (10 ∷ [])) → count' ≡ count + 1
       → ((y : ℕ) → low_at g y ≡ all_at_zero (2 ^ 56) y) → ((y : ℕ) → high_at g y ≡ all_at_zero (2 ^ 56) y)
       → IsGrid g → length g ≡ plan.cells → EndsWith plan text' count' made count g no_unit
-  one_step text text' count count' made g w is more low high grid long =
-      exact_step plan text text' count count' made One g no_unit w is more tt tt grid long (λ i. refl)
+  one_step g w is more low high grid long =
+      exact_step One g no_unit w is more tt tt grid long (λ i. refl)
       (λ i. omega arith) (record { low = λ y inside. low y; high = λ y inside. high y })
 
 -- ---- binary digits
@@ -121,28 +104,14 @@ cert_size plan valid few = record {
 -- ---- sums of units
 
 pub none_first : (plan : Plan) (u : ℕ) → ((i : ℕ) → i < u → target plan i ≡ 0) → (i : ℕ) → 0 ≡ first_of plan u i
-none_first plan u none i = elim (cases_lt i u) [
-  | inl before ↦ rw (lt-ltb i u before) (sym (none i before))
-  | inr after ↦ rw (le-ltb i u after) refl
-]
+none_first plan u none i = grind (arith, nat_tests, none)
 
 -- one unit more
 pub first_more : (plan : Plan) (u i : ℕ) → first_of plan u i + often u (target plan u) i ≡ first_of plan (u + 1) i
-first_more plan u i = elim (cases_lt i u) [
-  | inl before ↦ rw (lt-ltb i u before, lt-ltb i (u + 1) (omega (arith, before)), ne_eqb i u (omega (arith, before)))
-      (omega arith)
-  | inr after ↦ elim (cases_eq i u) [
-    | inl same ↦ rw (le-ltb i u after, lt-ltb i (u + 1) (omega (arith, same)), eq-eqb i u same)
-        (omega (arith, ap (target plan) same))
-    | inr other ↦ rw (le-ltb i u after, le-ltb i (u + 1) (omega (arith, after, other)), ne_eqb i u other) refl
-  ]
-]
+first_more plan u i = grind (arith, nat_tests)
 
 pub first_le : (plan : Plan) (u i : ℕ) → first_of plan u i ≤ target plan i
-first_le plan u i = elim (cases_lt i u) [
-  | inl before ↦ rw (lt-ltb i u before) (omega arith)
-  | inr after ↦ rw (le-ltb i u after) (omega arith)
-]
+first_le plan u i = grind (arith, nat_tests)
 
 -- a unit that does not count
 pub first_same : (plan : Plan) (u i : ℕ) → target plan u ≡ 0 → first_of plan u i ≡ first_of plan (u + 1) i
@@ -158,7 +127,7 @@ first_all plan i = elim (cases_lt i (length plan.units)) [
 
 module _ (plan : Plan) (u : ℕ) where
   -- the sum of the units before, and the power of this unit, added up
-  pub sum_more : (text text1 text2 : List ℕ) (count count1 count2 : ℕ) (sum : Option Factor) (p f : Factor)
+  pub sum_more : (text text1 : List ℕ) {text2 : List ℕ} (count count1 : ℕ) {count2 : ℕ} (sum : Option Factor) (p f : Factor)
       → IsSum plan u text count sum
       → ((made : List Made) → IsWritten plan text count made
       → EndsWith plan text1 count1 made p.step p.grid (often u (target plan u)))
@@ -166,25 +135,24 @@ module _ (plan : Plan) (u : ℕ) where
       → suc p.step ≡ length made → IsBefore plan u made sum
       → EndsWith plan text2 count2 made f.step f.grid (first_of plan (u + 1)))
       → EndsWith plan text2 count2 [] f.step f.grid (first_of plan (u + 1))
-  sum_more text text1 text2 count count1 count2 None p f s power all =
+  sum_more text text1 count count1 None p f s power all =
       let e = power [] s.0 in
-      joined plan text2 count2 [] e.later _ _ _ _ (all e.later e.written e.step e.last s.1) (λ i. refl)
-  sum_more text text1 text2 count count1 count2 (Some b) p f s power all =
+      joined e.later (all e.later e.written e.step e.last s.1) (λ i. refl)
+  sum_more text text1 count count1 (Some b) p f s power all =
       let e = power s.later s.written in
-      joined plan text2 count2 [] (s.later ++ e.later) _ _ _ _
-      (all (s.later ++ e.later) e.written e.step e.last (made_kept plan s.later e.later _ _ _ s.step)) (λ i. refl)
+      joined (s.later ++ e.later)
+      (all (s.later ++ e.later) e.written e.step e.last (made_kept e.later s.step)) (λ i. refl)
 
   -- a unit that does not count changes nothing
   pub sum_same : (text : List ℕ) (count : ℕ) (sum : Option Factor) → target plan u ≡ 0
       → IsSum plan u text count sum → IsSum plan (u + 1) text count sum
   sum_same text count None none s = (s.0, more_below (λ i. target plan i ≡ 0) u s.1 none)
-  sum_same text count (Some b) none s = joined plan text count [] s.later _ _ _ _ (already plan text count s.later _ _ _
-      s.written s.step s.last) (λ i. first_same plan u i none)
+  sum_same text count (Some b) none s = joined s.later (already s.written s.step s.last) (λ i. first_same plan u i none)
 
 -- no step yet
-pub nothing_written : (plan : Plan) (text : List ℕ) (count : ℕ) → text ≡ [] → count ≡ 0 → IsSum plan 0 text count None
+pub nothing_written : (plan : Plan) {text : List ℕ} {count : ℕ} → text ≡ [] → count ≡ 0 → IsSum plan 0 text count None
 unfolding text_of
-nothing_written plan text count empty none = (
+nothing_written plan empty none = (
   record {
     steps = [];
     lines = empty;

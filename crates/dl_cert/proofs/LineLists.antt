@@ -27,7 +27,7 @@ pub no_lines : lines_of [] ≡ []
 unfolding lines_of
 no_lines = refl
 
-module _ (text rest : List ℕ) (place end : ℕ) (inside : place < length text) (is : rest ≡ drop place text)
+module _ (text : List ℕ) {rest : List ℕ} (place : ℕ) {end : ℕ} (inside : place < length text) (is : rest ≡ drop place text)
     (at : end ≡ position_or_len is_newline rest) where
   left : length rest ≡ length text - place
   left = ap length is ∙ length-drop place text
@@ -81,8 +81,8 @@ next_there text place inside =
     let rest : List ℕ = drop place text in
     let end : ℕ = position_or_len is_newline rest in
     elim (cases_lt (place + end) (length text)) [
-      | inl more ↦ (place + end + 1, ended_line text rest place end inside refl refl more)
-      | inr over ↦ (place + end, open_line text rest place end inside refl refl over)
+      | inl more ↦ (place + end + 1, ended_line text place inside refl refl more)
+      | inr over ↦ (place + end, open_line text place inside refl refl over)
     ]
 
 -- a byte ends a line or is one more of the first

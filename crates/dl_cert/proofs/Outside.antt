@@ -1,6 +1,6 @@
 -- The numbers that the cells of a start are compared with, and cells that pass one after the other.
-use Rattle.dl_cert.proofs.Common.{ℕ, zero, suc, ◌≡◌, ◌≢◌, ◌⊎◌, ◌+◌, ◌-◌, ◌<◌, ◌≤◌, ◌∙◌, inl, inr, refl, sym, ap, subst, subst₂, arith, Bool, true, false, List, length, get_or, cases_lt, most_cert_cells, most_cells_at, IsGridSize, Fraction, whole, ◌≤ℚ◌, one_pos, over_self, over_le, Iv, low_at, high_at, low_next, high_next, Sev, Base, Share, one, low_share, high_share, low_base, high_base, PassesTo}
-use Rattle.dl_grid.proofs.CellLaws.{low_at_get, high_at_get}
+use Rattle.dl_cert.proofs.Common.{ℕ, zero, suc, ◌≡◌, ◌≢◌, ◌⊎◌, ◌+◌, ◌<◌, ◌≤◌, inl, inr, refl, sym, subst, subst₂, arith, Bool, true, false, List, length, get_or, cases_lt, most_cert_cells, most_cells_at, IsGridSize, Fraction, whole, ◌≤ℚ◌, one_pos, over_self, over_le, Iv, low_at, high_at, Sev, Base, Share, one, low_share, high_share, low_base, high_base, PassesTo}
+use Rattle.dl_grid.proofs.CellLaws.{low_at_read, high_at_read}
 use Rattle.dl_panjer.proofs.Steps.{low_next_same, high_next_same}
 use Rattle.dl_cert.specs.declared.base.Base.TheVariants.{Nothing, Trial, Poisson, Geometric}
 
@@ -9,17 +9,6 @@ within_one x h =
     subst (λ t. t ≤ℚ whole 1) (over_self x) (over_le x.num x.den 1 1 x.positive one_pos (omega (arith, h)))
 
 -- ---- a share
-
--- the number of a cell behind another
-pub share_next : (b : Bool) (share : Share) (lo hi : ℕ → ℕ) (n : ℕ) → n ≢ 0
-    → (low_share b share lo n ≡ low_next b share.positive.items share.positive.total share.rate lo (n - 1)) ×
-    (high_share b share hi n ≡ high_next one b share.positive.items share.positive.total share.rate hi (n - 1))
-share_next b share lo hi zero some = absurd (some refl)
-share_next b share lo hi (suc n) some =
-    let e : n ≡ suc n - 1 = omega arith in (
-      ap (low_next b share.positive.items share.positive.total share.rate lo) e,
-      ap (high_next one b share.positive.items share.positive.total share.rate hi) e,
-    )
 
 share_same : (b : Bool) (share : Share) (f g : ℕ → ℕ) (y : ℕ) → ((k : ℕ) → k < y → f k ≡ g k)
     → (low_share b share f y ≡ low_share b share g y) × (high_share b share f y ≡ high_share b share g y)
@@ -44,43 +33,30 @@ base_same (Geometric share) sev f g y same = share_same false share f g y same
 abbrev pub IsOutside : (cell number : Iv 56) → Type 0
 IsOutside cell number = (cell.lo ≤ number.lo) × ((number.hi ≤ cell.hi) ⊎ (one ≤ cell.hi))
 
-module _ (cells : List (Iv 56)) (lo hi : ℕ → ℕ) (y : ℕ) (cell number : Iv 56) (inside : y < length cells)
+module _ {cells : List (Iv 56)} {lo hi : ℕ → ℕ} (y : ℕ) {cell : Iv 56} (number : Iv 56) (inside : y < length cells)
     (is : cell ≡ get_or cells y cell) (low : number.lo ≡ lo y) (high : number.hi ≡ hi y) where
-  low_is : cell.lo ≡ low_at cells y
-  low_is = ap (λ (c : Iv 56). c.lo) is ∙ low_at_get cells y cell inside
-
-  high_is : cell.hi ≡ high_at cells y
-  high_is = ap (λ (c : Iv 56). c.hi) is ∙ high_at_get cells y cell inside
-
   pub one_more_passes : PassesTo y cells lo hi → IsOutside cell number → PassesTo (y + 1) cells lo hi
   one_more_passes before (below, above) = record {
     low_ends = λ k near. elim (cases_lt k y) [
       | inl earlier ↦ before.low_ends k earlier
       | inr last ↦
           let e : y ≡ k = omega (arith, near, last) in
-          subst (λ n. low_at cells n ≤ lo n) e (omega (arith, below, low_is, low))
+          subst (λ n. low_at cells n ≤ lo n) e (omega (arith, below, low_at_read cells y cell inside is, low))
     ];
     high_ends = λ k near. elim (cases_lt k y) [
       | inl earlier ↦ before.high_ends k earlier
       | inr last ↦
           let e : y ≡ k = omega (arith, near, last) in
           subst (λ n. (hi n ≤ high_at cells n) ⊎ (one ≤ high_at cells n)) e
-          (subst₂ (λ m n. (m ≤ n) ⊎ (one ≤ n)) high high_is above)
+          (subst₂ (λ m n. (m ≤ n) ⊎ (one ≤ n)) high (high_at_read cells y cell inside is) above)
     ];
   }
 
-  pub passes_here : (n : ℕ) → y < n → PassesTo n cells lo hi → IsOutside cell number
-  passes_here n near all = (
-    omega (arith, all.low_ends y near, low_is, low),
-    subst₂ (λ m n. (m ≤ n) ⊎ (one ≤ n)) (sym high) (sym high_is) (all.high_ends y near),
+  pub passes_here : {n : ℕ} → y < n → PassesTo n cells lo hi → IsOutside cell number
+  passes_here near all = (
+    omega (arith, all.low_ends y near, low_at_read cells y cell inside is, low),
+    subst₂ (λ m n. (m ≤ n) ⊎ (one ≤ n)) (sym high) (sym (high_at_read cells y cell inside is)) (all.high_ends y near),
   )
-
--- no cell yet
-pub none_passes : (cells : List (Iv 56)) (lo hi : ℕ → ℕ) → PassesTo 0 cells lo hi
-none_passes cells lo hi = record {
-  low_ends = λ y near. absurd (omega (arith, near));
-  high_ends = λ y near. absurd (omega (arith, near));
-}
 
 -- so many cells as a certificate has at most are a grid's
 pub grid_size : (n : ℕ) → n ≢ 0 → n ≤ most_cert_cells → IsGridSize 56 n

@@ -4,8 +4,9 @@ use Rattle.dl_model.proofs.AddedCounts.{fixed_past, trial}
 use Rattle.dl_model.proofs.Panjer.{poisson_class}
 use Rattle.dl_exp.proofs.EndLaws.{low_encloses, high_encloses}
 use Rattle.dl_panjer.proofs.Compounds.{geometric_start, geometric_class}
+use Rattle.dl_panjer.proofs.Outward.{sums_by_number, sums_by_rate}
 use Rattle.dl_panjer.proofs.Starts.{sums_are}
-use Rattle.dl_cert.proofs.Starts.{from_floor, from_ceiling, finite_start, recursion_start, poisson_sums, geometric_sums}
+use Rattle.dl_cert.proofs.Starts.{from_floor, from_ceiling, finite_start, recursion_start}
 use Rattle.dl_cert.proofs.Targets.{above_within}
 
 -- cell 0 of a Poisson share holds the probability of no claim
@@ -47,7 +48,7 @@ module _ (sev : Sev) (v : Fraction) (K : ℕ) (some : 0 < K) (lo hi : ℕ → �
         let g = above_zero sev in
         rw (ne_eqb v.num 0 above)
         (recursion_start one (omega arith) (whole 0) u g (λ s. u /ℚ whole (suc s)) (sum_by_amount g)
-        (poisson_sums u g) (poisson u) K (exp_low 56 u) (exp_high 56 u) lo hi (given_part sev).no_zero (poisson_class u)
+        (sums_by_number u g) (poisson u) K (exp_low 56 u) (exp_high 56 u) lo hi (given_part sev).no_zero (poisson_class u)
         (above_within sev v mean is above) low high refl some (exp_low_holds u (halvings_least v).enough)
         (exp_high_holds u))
   ]
@@ -64,6 +65,6 @@ module _ (sev : Sev) (v : Fraction) (K : ℕ) (some : 0 < K) (lo hi : ℕ → �
         let g = above_zero sev in
         rw (ne_eqb v.num 0 above)
         (recursion_start one (omega arith) x (whole 0) g (λ s. x) (sum_plain g)
-        (geometric_sums x g) (gamma_of 1 beta) K l u lo hi (given_part sev).no_zero (geometric_class beta)
+        (sums_by_rate x g) (gamma_of 1 beta) K l u lo hi (given_part sev).no_zero (geometric_class beta)
         (above_within sev v mean is above) low high refl some holds.0 holds.1)
   ]

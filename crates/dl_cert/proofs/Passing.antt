@@ -1,5 +1,5 @@
 -- Steps that pass enclose what their labels count, and a certificate's grid encloses the total.
-use Rattle.dl_cert.proofs.Common.{length-map, ℕ, zero, suc, ◌≡◌, ◌⊎◌, ◌*◌, ◌/◌, ◌<◌, ◌≤◌, inl, inr, refl, sym, subst, arith, div-mul-le_self, List, [], ◌∷◌, ◌++◌, length, map, get_or, min, mul-le-mul_right, get_or-append_seam, cases_lt, eq-eqb, pow_pos, cond, length-append, get_or_append_left, All-head, All-tail, div_ceil, All, fun_ext, count_pairs, Iv, low_at, high_at, all_at_zero, Plan, UnitOfPlan, thinned_mean, IsValid, IsValidUnit, nothing, Encloses, aggregates_of, total, same_cells_enclosed, encloses_product, nothing_encloses, Kind, One, Start, Times, IsCovered, Label, labelled, HasValues, one, low_start, high_start, Passes, AllPass, made_after, Certifies, Step, Made, made_at, made_by, label_of, unit_part, unit_parts, parts_of_plan, target}
+use Rattle.dl_cert.proofs.Common.{length-map, ℕ, zero, suc, ◌≡◌, ◌⊎◌, ◌*◌, ◌/◌, ◌<◌, ◌≤◌, inl, inr, refl, sym, subst, arith, div-mul-le_self, List, [], ◌∷◌, ◌++◌, length, map, get_or, min, mul-le-mul_right, get_or-append_seam, cases_lt, eq-eqb, pow_pos, length-append, get_or_append_left, All-head, All-tail, div_ceil, All, fun_ext, count_pairs, Iv, low_at, high_at, all_at_zero, Plan, UnitOfPlan, thinned_mean, IsValid, IsValidUnit, nothing, Encloses, aggregates_of, total, same_cells_enclosed, encloses_product, nothing_encloses, Kind, One, Start, Times, IsCovered, Label, labelled, HasValues, one, low_start, high_start, Passes, AllPass, made_after, Certifies, Step, Made, made_at, made_by, label_of, unit_part, unit_parts, parts_of_plan}
 use Rattle.std.proofs.lemmas.Grind.{div_ceil_times}
 use Rattle.dl_cert.proofs.Labelled.{encloses_none, encloses_once, encloses_together}
 use Rattle.dl_cert.proofs.Parts.{start_encloses}
@@ -68,16 +68,15 @@ module _ (plan : Plan) (valid : IsValid plan) (covered : IsCovered plan) where
         let unit = n.unit in
         let v = thinned_mean unit in
         let ok : IsValidUnit plan.cells unit = n.holds (IsValidUnit plan.cells) valid.units in
-        let counted : 1 ≤ unit_parts unit =
-        subst (λ k. 1 ≤ k) (n.reads unit_parts 0) (subst (λ b. cond b 1 0 ≤ target plan u) (eq-eqb u u refl) (p.label u)) in
+        let counted : 1 ≤ unit_parts unit = rw (n.reads unit_parts 0, eq-eqb u u refl) at (p.label u) in
         encloses_once one plan.cells (low_at cells) (high_at cells) (parts_of_plan plan) u
         (rw (length-map plan.units unit_part) p.there)
         (subst (Encloses one plan.cells (low_at cells) (high_at cells)) (sym (n.reads unit_part nothing))
         (start_encloses unit.sev v plan.cells K_pos (low_at cells) (high_at cells) unit.freq ok.count refl counted
-        (λ y inside. subst (λ k. low_at cells y ≤ k)
-        (n.reads (λ (x : UnitOfPlan). low_start x.freq x.sev (thinned_mean x) (low_at cells) y) 0) (p.low y inside))
-        (λ y inside. subst (λ k. (k ≤ high_at cells y) ⊎ (one ≤ high_at cells y))
-        (n.reads (λ (x : UnitOfPlan). high_start x.freq x.sev (thinned_mean x) (high_at cells) y) 0) (p.high y inside))))
+        (λ y inside. rw (n.reads (λ (x : UnitOfPlan). low_start x.freq x.sev (thinned_mean x) (low_at cells) y) 0) at
+        (p.low y inside))
+        (λ y inside. rw (n.reads (λ (x : UnitOfPlan). high_start x.freq x.sev (thinned_mean x) (high_at cells) y) 0) at
+        (p.high y inside))))
 
     step_times : (a b : ℕ) → Passes plan before (record { kind = Times a b; cells = cells })
         → Meets before (record { kind = Times a b; cells = cells })
@@ -152,7 +151,6 @@ module _ (plan : Plan) (valid : IsValid plan) (covered : IsCovered plan) where
       let here : IsSound c.last =
       subst IsSound (get_or-append_seam c.before c.last [] _)
       (subst (λ made. (k : ℕ) → k < length made → IsSound (made_at made k)) c.made all (length c.before) place) in
-      let sound = subst (λ label. Encloses one plan.cells (low_at c.last.cells) (high_at c.last.cells)
-      (labelled (parts_of_plan plan) label)) (fun_ext c.label) here.encloses in
+      let sound = rw (fun_ext c.label) at here.encloses in
       same_cells_enclosed one (length grid) (low_at grid) (high_at grid) _ _ (plan_made_up plan valid covered)
       (rw (c.cells, here.long) sound)

@@ -1,11 +1,11 @@
 -- A step that passes joins those that are kept.
-use Rattle.dl_cert.proofs.Common.{take-append_seam, get_or_past, ℕ, suc, ◌≡◌, ◌≢◌, ◌+◌, ◌*◌, ◌<◌, ◌≤◌, ◌^◌, ◌∙◌, cond, inl, inr, refl, sym, ap, ap₂, subst, subst₂, arith, List, [], ◌∷◌, ◌++◌, length, get_or, take, drop, append_assoc, length-append, mul-le-mul_right, map, All, cases_lt, ne_eqb, get_or_append_left, length-map, get_or-append_seam, most_cert_cells, most_cells_at, Iv, mass_low, IsGrid, Plan, Kind, One, Start, Times, Keeps, IsRow, IsOver, IsPlaced, count_by, label_at, HasPassedTo, AreSteps, lines_of, IsStep, one, Passes, AllPass, made_after, line_from, Step, Made, made_at, made_by, label_of, IsThere, unit_parts, target, IsBadStep, IsBadLine}
+use Rattle.dl_cert.proofs.Common.{take-append_seam, get_or_past, ℕ, suc, ◌≡◌, ◌≢◌, ◌+◌, ◌*◌, ◌<◌, ◌≤◌, ◌^◌, ◌∙◌, cond, inl, inr, refl, sym, ap, ap₂, subst, subst₂, arith, List, [], ◌∷◌, ◌++◌, length, get_or, drop, append_assoc, length-append, mul-le-mul_right, map, All, cases_lt, ne_eqb, get_or_append_left, get_or-append_seam, most_cert_cells, most_cells_at, Iv, mass_low, IsGrid, Plan, Kind, One, Start, Times, Keeps, IsRow, IsPlaced, count_by, label_at, HasPassedTo, AreSteps, lines_of, IsStep, one, Passes, AllPass, made_after, line_from, Step, Made, made_at, made_by, label_of, IsThere, unit_parts, IsBadStep, IsBadLine}
 use Rattle.dl_cert.proofs.LineLists.{next_there}
 use Rattle.dl_cert.proofs.Readings.{step_is}
 use Rattle.dl_cert.proofs.Tests.{IsTested}
 use Rattle.std.proofs.lemmas.List.{get_or-append-add}
 
-module _ (plan : Plan) (text places labels : List ℕ) (before : List Made) (kept : Keeps plan text places labels before) where
+module _ {plan : Plan} {text places labels : List ℕ} {before : List Made} (kept : Keeps plan text places labels before) where
   abbrev units : ℕ
   units = length plan.units
 
@@ -22,101 +22,84 @@ module _ (plan : Plan) (text places labels : List ℕ) (before : List Made) (kep
   none_counted (Start u) there i past = ap (λ b. cond b 1 0) (ne_eqb i u (λ e. absurd (omega (arith, e, past, there))))
   none_counted (Times a b) there i past = omega (arith, kept.others a i past, kept.others b i past)
 
-  module _ (step : Step) (targets : List ℕ) (counts : targets ≡ map unit_parts plan.units) where
-    -- a unit is counted too often
-    pub over_fails : IsThere units (length before) step.kind → IsOver labels (length targets) step.kind targets
-        → ¬ Passes plan before step
-    over_fails there over p =
-        let long : length targets ≡ units = ap length counts ∙ length-map plan.units unit_parts in
-        let inside : over.unit < units = omega (arith, over.inside, long) in
-        let here : get_or targets over.unit 0 < label_of before step.kind over.unit =
-        subst (λ n. get_or targets over.unit 0 < n)
-        (ap (λ n. count_by labels n step.kind over.unit) long ∙ count_is step.kind there over.unit inside) over.over in
-        let is : get_or targets over.unit 0 ≡ target plan over.unit = ap (λ l. get_or l over.unit 0) counts in
-        omega (arith, here, is, p.label over.unit)
+  module _ (step : Step) {targets row : List ℕ} (counts : targets ≡ map unit_parts plan.units)
+      (there : IsThere units (length before) step.kind) (is_row : IsRow labels units step.kind targets row) where
+    pub passes_now : length step.cells ≡ plan.cells → mass_low step.cells ≤ one
+        → IsTested plan before step.kind step.cells → Passes plan before step
+    passes_now cells mass tested = record {
+      there = there;
+      cells = cells;
+      label = λ i. elim (cases_lt i units) [
+        | inl inside ↦ omega (
+          arith,
+          is_row.counts i inside,
+          count_is step.kind there i inside,
+          is_row.within i inside,
+          ap (λ l. get_or l i 0) counts,
+        )
+        | inr past ↦ omega (arith, none_counted step.kind there i past)
+      ];
+      mass = mass;
+      low = tested.low_ends;
+      high = tested.high_ends;
+    }
 
-    pub cells_fail : ¬ IsTested plan before step.kind step.cells → ¬ Passes plan before step
-    cells_fail none p = none (record { low_ends = p.low; high_ends = p.high })
+    module _ (place : ℕ) (inside : place ≤ length text) (spelled : IsStep (line_from text place) step)
+        (many : length step.cells ≡ plan.cells) (grid : IsGrid step.cells) where
+      abbrev more : List Made
+      more = before ++ made_by before step ∷ []
 
-    module _ (row : List ℕ) (there : IsThere units (length before) step.kind)
-        (is_row : IsRow labels units step.kind targets row) where
-      pub passes_now : length step.cells ≡ plan.cells → mass_low step.cells ≤ one
-          → IsTested plan before step.kind step.cells → Passes plan before step
-      passes_now cells mass tested = record {
-        there = there;
-        cells = cells;
-        label = λ i. elim (cases_lt i units) [
-          | inl inside ↦ omega (
-            arith,
-            is_row.counts i inside,
-            count_is step.kind there i inside,
-            is_row.within i inside,
-            ap (λ l. get_or l i 0) counts,
-          )
-          | inr past ↦ omega (arith, none_counted step.kind there i past)
+      earlier : (k : ℕ) → k < length before → made_at more k ≡ made_at before k
+      earlier k near = get_or_append_left before (made_by before step ∷ []) _ k near
+
+      last : made_at more (length before) ≡ made_by before step
+      last = get_or-append_seam before (made_by before step) [] _
+
+      by_place : (P : ℕ → Type 0) → ((k : ℕ) → k < length before → P k) → P (length before) → (k : ℕ)
+          → k < length more → P k
+      by_place P early now k near = elim (cases_lt k (length before)) [
+        | inl h ↦ early k h
+        | inr h ↦ subst P (omega (arith, near, h, length-append before (made_by before step ∷ []))) now
+      ]
+
+      before_row : (k i : ℕ) → k < length before → i < units → k * units + i < length labels
+      before_row k i near small =
+          let all : (k + 1) * units ≤ length before * units = mul-le-mul_right units (omega (arith, near)) in
+          omega (arith, all, small, kept.long)
+
+      pub keeps_more : Keeps plan text (places ++ place ∷ []) (labels ++ row) more
+      keeps_more = record {
+        many = length-append places (place ∷ []) ∙ ap (λ n. n + 1) kept.many
+            ∙ sym (length-append before (made_by before step ∷ []));
+        long =
+            let a = length-append labels row in
+            let b = length-append before (made_by before step ∷ []) in
+            a ∙ ap₂ (λ m n. m + n) kept.long is_row.long ∙ omega arith ∙ ap (λ n. n * units) (sym b);
+        placed = by_place (λ k. IsPlaced plan text (get_or (places ++ place ∷ []) k 0) (made_at more k))
+            (λ k near. subst₂ (IsPlaced plan text)
+            (sym (get_or_append_left places (place ∷ []) 0 k (omega (arith, near, kept.many)))) (sym (earlier k near))
+            (kept.placed k near)) (subst₂ (IsPlaced plan text)
+            (sym (ap (λ k. get_or (places ++ place ∷ []) k 0) (sym kept.many) ∙ get_or-append_seam places place [] 0))
+            (sym last) (record {
+              inside = inside;
+              kind = step.kind;
+              spelled = spelled;
+              cells = many;
+              grid = grid;
+            }));
+        counts = λ k i near small. by_place
+            (λ k. (made_at more k).label i ≡ label_at (labels ++ row) units k i)
+            (λ k close. ap (λ (m : Made). m.label i) (earlier k close) ∙ kept.counts k i close small
+            ∙ sym (get_or_append_left labels row 0 (k * units + i) (before_row k i close small)))
+            (ap (λ (m : Made). m.label i) last ∙ sym (count_is step.kind there i small) ∙ sym (is_row.counts i small)
+            ∙ sym (get_or-append-add labels row i 0) ∙ ap (λ n. get_or (labels ++ row) (n + i) 0) kept.long) k near;
+        others = λ k i past. elim (cases_lt k (length more)) [
+          | inl near ↦ by_place (λ k. (made_at more k).label i ≡ 0)
+              (λ k close. ap (λ (m : Made). m.label i) (earlier k close) ∙ kept.others k i past)
+              (ap (λ (m : Made). m.label i) last ∙ none_counted step.kind there i past) k near
+          | inr far ↦ ap (λ (m : Made). m.label i) (get_or_past more k _ far)
         ];
-        mass = mass;
-        low = tested.low_ends;
-        high = tested.high_ends;
       }
-
-      module _ (place : ℕ) (inside : place ≤ length text) (spelled : IsStep (line_from text place) step)
-          (many : length step.cells ≡ plan.cells) (grid : IsGrid step.cells) where
-        abbrev more : List Made
-        more = before ++ made_by before step ∷ []
-
-        earlier : (k : ℕ) → k < length before → made_at more k ≡ made_at before k
-        earlier k near = get_or_append_left before (made_by before step ∷ []) _ k near
-
-        last : made_at more (length before) ≡ made_by before step
-        last = get_or-append_seam before (made_by before step) [] _
-
-        by_place : (P : ℕ → Type 0) → ((k : ℕ) → k < length before → P k) → P (length before) → (k : ℕ)
-            → k < length more → P k
-        by_place P early now k near = elim (cases_lt k (length before)) [
-          | inl h ↦ early k h
-          | inr h ↦ subst P (omega (arith, near, h, length-append before (made_by before step ∷ []))) now
-        ]
-
-        before_row : (k i : ℕ) → k < length before → i < units → k * units + i < length labels
-        before_row k i near small =
-            let all : (k + 1) * units ≤ length before * units = mul-le-mul_right units (omega (arith, near)) in
-            omega (arith, all, small, kept.long)
-
-        pub keeps_more : Keeps plan text (places ++ place ∷ []) (labels ++ row) more
-        keeps_more = record {
-          many = length-append places (place ∷ []) ∙ ap (λ n. n + 1) kept.many
-              ∙ sym (length-append before (made_by before step ∷ []));
-          long =
-              let a = length-append labels row in
-              let b = length-append before (made_by before step ∷ []) in
-              a ∙ ap₂ (λ m n. m + n) kept.long is_row.long ∙ omega arith ∙ ap (λ n. n * units) (sym b);
-          placed = by_place (λ k. IsPlaced plan text (get_or (places ++ place ∷ []) k 0) (made_at more k))
-              (λ k near. subst₂ (IsPlaced plan text)
-              (sym (get_or_append_left places (place ∷ []) 0 k (omega (arith, near, kept.many)))) (sym (earlier k near))
-              (kept.placed k near))
-              (subst₂ (IsPlaced plan text)
-              (sym (ap (λ k. get_or (places ++ place ∷ []) k 0) (sym kept.many) ∙ get_or-append_seam places place [] 0))
-              (sym last) (record {
-                inside = inside;
-                kind = step.kind;
-                spelled = spelled;
-                cells = many;
-                grid = grid;
-              }));
-          counts = λ k i near small. by_place
-              (λ k. (made_at more k).label i ≡ label_at (labels ++ row) units k i)
-              (λ k close. ap (λ (m : Made). m.label i) (earlier k close) ∙ kept.counts k i close small
-              ∙ sym (get_or_append_left labels row 0 (k * units + i) (before_row k i close small)))
-              (ap (λ (m : Made). m.label i) last ∙ sym (count_is step.kind there i small) ∙ sym (is_row.counts i small)
-              ∙ sym (get_or-append-add labels row i 0) ∙ ap (λ n. get_or (labels ++ row) (n + i) 0) kept.long) k near;
-          others = λ k i past. elim (cases_lt k (length more)) [
-            | inl near ↦ by_place (λ k. (made_at more k).label i ≡ 0)
-                (λ k close. ap (λ (m : Made). m.label i) (earlier k close) ∙ kept.others k i past)
-                (ap (λ (m : Made). m.label i) last ∙ none_counted step.kind there i past) k near
-            | inr far ↦ ap (λ (m : Made). m.label i) (get_or_past more k _ far)
-          ];
-        }
 
 -- ---- lists of steps
 
@@ -151,7 +134,7 @@ pub pass_more : (plan : Plan) (before : List Made) (steps : List Step) (step : S
 pass_more plan before [] step h now = (now, tt)
 pass_more plan before (s ∷ ss) step h now = (h.0, pass_more plan (before ++ made_by before s ∷ []) ss step h.1 now)
 
-module _ (plan : Plan) (text places labels : List ℕ) (place : ℕ) (passed : HasPassedTo plan text place places labels) where
+module _ {plan : Plan} {text places labels : List ℕ} {place : ℕ} (passed : HasPassedTo plan text place places labels) where
   abbrev made : List Made
   made = made_after [] passed.steps
 
@@ -171,29 +154,27 @@ module _ (plan : Plan) (text places labels : List ℕ) (place : ℕ) (passed : H
       passed.split ∙ ap (λ l. passed.lines ++ l) n.1 in
       record {
         steps = passed.steps;
-        spelled = subst (λ l. AreSteps l passed.steps)
-            (sym (ap₂ take counted all ∙ take-append_seam passed.lines (line ∷ lines_of (drop n.0 text)))) passed.spelled;
+        spelled = rw (counted, all, take-append_seam passed.lines (line ∷ lines_of (drop n.0 text))) passed.spelled;
         pass = passed.pass;
         bad = inl (
           omega (arith, counted, ap length all, length-append passed.lines (line ∷ lines_of (drop n.0 text))),
-          subst (IsBadLine plan made) (sym (ap₂ (λ l k. get_or l k []) all counted
-              ∙ get_or-append_seam passed.lines line (lines_of (drop n.0 text)) [])) bad,
+          rw (all, counted, get_or-append_seam passed.lines line (lines_of (drop n.0 text)) []) bad,
         );
       }
 
   -- one line more has passed
-  pub line_passes : (next : ℕ) (step : Step) (places' labels' : List ℕ)
+  pub line_passes : {next : ℕ} (step : Step) {places' labels' : List ℕ}
       → lines_of (drop place text) ≡ line_from text place ∷ lines_of (drop next text)
       → IsStep (line_from text place) step → Passes plan made step
       → Keeps plan text places' labels' (made ++ made_by made step ∷ []) → HasPassedTo plan text next places' labels'
-  line_passes next step places' labels' split spelled pass kept = record {
+  line_passes {next} step split spelled pass kept = record {
     lines = passed.lines ++ line_from text place ∷ [];
     steps = passed.steps ++ step ∷ [];
     split = passed.split ∙ ap (λ l. passed.lines ++ l) split
         ∙ sym (append_assoc passed.lines (line_from text place ∷ []) (lines_of (drop next text)));
     spelled = steps_more passed.lines passed.steps (line_from text place) step passed.spelled spelled;
     pass = pass_more plan [] passed.steps step passed.pass pass;
-    kept = subst (Keeps plan text places' labels') (sym (made_more [] passed.steps step)) kept;
+    kept = rw (made_more [] passed.steps step) kept;
   }
 
 pub misread : (plan : Plan) (before : List Made) (line : List ℕ)
@@ -202,8 +183,7 @@ misread plan before line none step spelled p = none step spelled p.cells
 
 pub not_passing : (plan : Plan) (before : List Made) (line : List ℕ) (step : Step) → IsStep line step
     → ¬ Passes plan before step → IsBadLine plan before line
-not_passing plan before line step spelled fails other is p =
-    fails (subst (Passes plan before) (step_is line other step is spelled) p)
+not_passing plan before line step spelled fails other is p = fails (subst (Passes plan before) (step_is is spelled) p)
 
 -- cells that pass are a grid
 pub grid_now : (n : ℕ) (cells : List (Iv 56)) → 1 ≤ n → n ≤ most_cert_cells → length cells ≡ n

@@ -17,10 +17,10 @@ none_read text start within = record {
   only = λ all are few. (all, refl, are);
 }
 
-pub one_read : (text : List ℕ) (start from next n : ℕ) (cells : List (Iv 56)) (cell : Iv 56)
+pub one_read : {text : List ℕ} {start from next n : ℕ} {cells : List (Iv 56)} {cell : Iv 56}
     → ReadTo text start from n cells → BeginsCell (drop from text) cell (drop next text) → next ≤ length text
     → ReadTo text start next (n + 1) (cells ++ cell ∷ [])
-one_read text start from next n cells cell before here within = record {
+one_read {text} {start} {from} {next} {n} {cells} {cell} before here within = record {
   many = length-append cells (cell ∷ []) ∙ omega (arith, before.many);
   within = within;
   spells = λ more are. subst (λ l. AreCells (drop start text) l) (sym (append_assoc cells (cell ∷ []) more))
@@ -38,10 +38,10 @@ one_read text start from next n cells cell before here within = record {
         (more, is ∙ ap (λ c. cells ++ c ∷ more) t.0 ∙ sym (append_assoc cells (cell ∷ []) more), t.1)
 
 -- no cell can follow
-pub none_more : (text : List ℕ) (start from n k : ℕ) (cells : List (Iv 56)) → ReadTo text start from n cells → n < k
+pub none_more : {text : List ℕ} {start from n : ℕ} (k : ℕ) {cells : List (Iv 56)} → ReadTo text start from n cells → n < k
     → ((cell : Iv 56) (rest : List (Iv 56)) → ¬ AreCells (drop from text) (cell ∷ rest))
     → (all : List (Iv 56)) → AreCells (drop start text) all → length all ≢ k
-none_more text start from n k cells before inside none all are long =
+none_more {text = text} {from = from} k {cells = cells} before inside none all are long =
     more (before.only all are (omega (arith, inside, long)))
   where
     more : (rest : List (Iv 56)) × (all ≡ cells ++ rest) × AreCells (drop from text) rest → ⊥
@@ -49,17 +49,17 @@ none_more text start from n k cells before inside none all are long =
     more (cell ∷ rest, is, later) = none cell rest later
 
 -- the text is at its end
-pub all_read : (text : List ℕ) (start from n : ℕ) (cells : List (Iv 56)) → ReadTo text start from n cells
+pub all_read : {text : List ℕ} {start from n : ℕ} {cells : List (Iv 56)} → ReadTo text start from n cells
     → length text ≤ from → AreCells (drop start text) cells
 unfolding AreCells
-all_read text start from n cells before past =
+all_read {text = text} {start = start} {from = from} {cells = cells} before past =
     subst (λ l. AreCells (drop start text) l) (append-nil cells) (before.spells [] (drop_all from text past))
 
 -- the text goes on
-pub more_left : (text : List ℕ) (start from n : ℕ) (cells : List (Iv 56)) → ReadTo text start from n cells
+pub more_left : {text : List ℕ} {start from n : ℕ} {cells : List (Iv 56)} → ReadTo text start from n cells
     → from < length text → (all : List (Iv 56)) → AreCells (drop start text) all → length all ≢ n
 unfolding AreCells
-more_left text start from n cells before inside all are long =
+more_left {text = text} {from = from} {cells = cells} before inside all are long =
     more (before.only all are (omega (arith, long)))
   where
     more : (rest : List (Iv 56)) × (all ≡ cells ++ rest) × AreCells (drop from text) rest → ⊥

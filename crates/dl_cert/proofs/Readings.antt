@@ -1,18 +1,18 @@
 -- A line spells at most one step, which is read from the left.
-use Rattle.dl_cert.proofs.Common.{ℕ, ◌≡◌, ◌∙◌, inl, inr, refl, sym, ap, ap₂, subst, arith, List, [], ◌∷◌, ◌++◌, get_or, codes, length, take, drop, ◌+◌, ◌<◌, ◌≢◌, true, length-drop, cases_lt, nat_tests, passes_at_first, append_cancel_left, drop_more, Iv, One, Start, Times, Step, IsNumber, IsCell, AreCells, IsStep, start, position_or_len, is_blank, first_word, after_word, BeginsCell, BeginsStep}
+use Rattle.dl_cert.proofs.Common.{ℕ, ◌≡◌, ◌∙◌, inl, inr, refl, sym, ap, ap₂, subst, arith, List, [], ◌∷◌, ◌++◌, get_or, codes, length, take, drop, ◌+◌, ◌<◌, true, length-drop, cases_lt, nat_tests, passes_at_first, append_cancel_left, drop_more, Iv, One, Start, Times, Step, IsNumber, IsCell, AreCells, IsStep, start, position_or_len, is_blank, first_word, after_word, BeginsCell, BeginsStep}
 use Rattle.dl_grid.proofs.EndLists.{same_cells}
 use Rattle.dl_cert.specs.Lines.{one, times}
 use Rattle.dl_cert.proofs.Words.{by_word, cut, number_front, cell_front, cells_tail, at_blank, drop_by}
 
 -- ---- cells
 
-number_is : (most : ℕ) (text : List ℕ) (m n : ℕ) → IsNumber most text m → IsNumber most text n → m ≡ n
-number_is most text m n h k = sym h.value ∙ k.value
+number_is : {most : ℕ} {text : List ℕ} {m n : ℕ} → IsNumber most text m → IsNumber most text n → m ≡ n
+number_is h k = sym h.value ∙ k.value
 
-cell_is : (text : List ℕ) (c d : Iv 56) → IsCell text c → IsCell text d → c ≡ d
-cell_is text c d h k =
-    ap (λ l. get_or l 0 c) (same_cells (c ∷ []) (d ∷ []) (ap (λ n. n ∷ []) (number_is 17 _ _ _ h.low k.low))
-    (ap (λ n. n ∷ []) (number_is 17 _ _ _ h.high k.high)))
+cell_is : {text : List ℕ} {c d : Iv 56} → IsCell text c → IsCell text d → c ≡ d
+cell_is {c = c} {d = d} h k =
+    ap (λ l. get_or l 0 c) (same_cells (c ∷ []) (d ∷ []) (ap (λ n. n ∷ []) (number_is h.low k.low))
+    (ap (λ n. n ∷ []) (number_is h.high k.high)))
 
 module _ (text : List ℕ) (rest : List ℕ) (e : text ≡ 32 ∷ rest) where
   pub record CellParts (cell : Iv 56) (cells : List (Iv 56)) : Type 0 where
@@ -23,7 +23,7 @@ module _ (text : List ℕ) (rest : List ℕ) (e : text ≡ 32 ∷ rest) where
   unfolding AreCells
   cell_parts cell cells (spelled, more, h, later, is) =
       let same : rest ≡ spelled ++ more = cc in
-      let parts = cut spelled more (cell_front spelled cell h) (cells_tail more cells later) in
+      let parts = cut spelled more (cell_front h) (cells_tail more cells later) in
       record {
         here = subst (λ t. IsCell t cell) (sym (ap first_word same ∙ parts.0)) h;
         later = subst (λ t. AreCells t cells) (sym (ap after_word same ∙ parts.1)) later;
@@ -34,7 +34,7 @@ module _ (text : List ℕ) (rest : List ℕ) (e : text ≡ 32 ∷ rest) where
   begins_cell cell h = record {
     spells = λ cells later. (first_word rest, after_word rest, h, later, e ∙ ap (λ t. 32 ∷ t) (by_word rest));
     only = λ other cells are. (
-      cell_is _ other cell (cell_parts other cells are).here h,
+      cell_is (cell_parts other cells are).here h,
       (cell_parts other cells are).later,
     );
   }
@@ -43,14 +43,14 @@ module _ (text : List ℕ) (rest : List ℕ) (e : text ≡ 32 ∷ rest) where
       → ¬ AreCells text (cell ∷ cells)
   no_cell none cell cells are = none cell (cell_parts cell cells are).here
 
-module _ (text rest : List ℕ) (from end : ℕ) (inside : from < length text) (blank : get_or text from 0 ≡ 32)
+module _ (text : List ℕ) {rest : List ℕ} (from : ℕ) {end : ℕ} (inside : from < length text) (blank : get_or text from 0 ≡ 32)
     (is : rest ≡ drop (from + 1) text) (at : end ≡ position_or_len is_blank rest) where
   here : drop from text ≡ 32 ∷ rest
   here = at_blank text from inside blank ∙ ap (λ t. 32 ∷ t) (sym is)
 
-  pub cell_begins : (cell : Iv 56) → IsCell (take end rest) cell
+  pub cell_begins : {cell : Iv 56} → IsCell (take end rest) cell
       → BeginsCell (drop from text) cell (drop (from + 1 + end) text)
-  cell_begins cell h =
+  cell_begins {cell = cell} h =
       subst (λ t. BeginsCell (drop from text) cell t)
       (ap (λ n. drop n rest) (sym at) ∙ ap (drop end) is ∙ sym (drop_by text (from + 1) end))
       (begins_cell (drop from text) rest here cell (subst (λ n. IsCell (take n rest) cell) at h))
@@ -73,7 +73,7 @@ cells_are text (c ∷ cs) [] (spelled, more, cell, later, is) k = absurd (cc)
 cells_are text (c ∷ cs) (d ∷ ds) (spelled, more, cell, later, is) k =
     let first = cell_parts text (spelled ++ more) is c cs (spelled, more, cell, later, is) in
     let second = cell_parts text (spelled ++ more) is d ds k in
-    ap₂ (λ x xs. x ∷ xs) (cell_is _ c d first.here second.here)
+    ap₂ (λ x xs. x ∷ xs) (cell_is first.here second.here)
     (cells_are (after_word (spelled ++ more)) cs ds first.later second.later)
 
 -- ---- kinds
@@ -82,7 +82,28 @@ cells_are text (c ∷ cs) (d ∷ ds) (spelled, more, cell, later, is) k =
 byte_of : (line other : List ℕ) → line ≡ other → get_or line 0 0 ≡ get_or other 0 0
 byte_of line other e = ap (λ t. get_or t 0 0) e
 
-module _ (line : List ℕ) where
+pub record StartParts (words : List ℕ) (step : Step) : Type 0 where
+  pub u : ℕ
+  pub number : IsNumber 9 (first_word words) u
+  pub kind : step.kind ≡ Start u
+  pub cells : AreCells (after_word words) step.cells
+
+pub record TimesParts (words : List ℕ) (step : Step) : Type 0 where
+  pub a : ℕ
+  pub b : ℕ
+  pub more : List ℕ
+  pub first : IsNumber 9 (first_word words) a
+  pub behind : after_word words ≡ 32 ∷ more
+  pub second : IsNumber 9 (first_word more) b
+  pub kind : step.kind ≡ Times a b
+  pub cells : AreCells (after_word more) step.cells
+
+pub record Begun (line : List ℕ) (step : Step) : Type 0 where
+  pub rest : List ℕ
+  pub begins : BeginsStep line step.kind rest
+  pub cells : AreCells rest step.cells
+
+module _ {line : List ℕ} where
   pub begins_one : (rest : List ℕ) → line ≡ codes "one" ++ rest → BeginsStep line One rest
   begins_one rest e = record { spells = λ cells are. one rest cells are e; only = λ step is. parts step is }
     where
@@ -92,56 +113,40 @@ module _ (line : List ℕ) where
       parts step (start text more u cells number are is) = absurd (omega (arith, byte_of _ _ (sym e ∙ is)))
       parts step (times first second more a b cells na nb are is) = absurd (omega (arith, byte_of _ _ (sym e ∙ is)))
 
-  pub record StartParts (words : List ℕ) (step : Step) : Type 0 where
-    pub u : ℕ
-    pub number : IsNumber 9 (first_word words) u
-    pub kind : step.kind ≡ Start u
-    pub cells : AreCells (after_word words) step.cells
-
-  pub start_parts : (words : List ℕ) → line ≡ codes "start " ++ words → (step : Step) → IsStep line step
+  pub start_parts : (words : List ℕ) → line ≡ codes "start " ++ words → {step : Step} → IsStep line step
       → StartParts words step
-  start_parts words e step (one more cells are is) = absurd (omega (arith, byte_of _ _ (sym e ∙ is)))
-  start_parts words e step (start text more u cells number are is) =
+  start_parts words e (one more cells are is) = absurd (omega (arith, byte_of _ _ (sym e ∙ is)))
+  start_parts words e (start text more u cells number are is) =
       let same : words ≡ text ++ more = append_cancel_left (codes "start ") words (text ++ more) (sym e ∙ is) in
-      let parts = cut text more (number_front 9 text u number) (cells_tail more cells are) in
+      let parts = cut text more (number_front number) (cells_tail more cells are) in
       record {
         u = u;
         number = subst (λ t. IsNumber 9 t u) (sym (ap first_word same ∙ parts.0)) number;
         kind = refl;
         cells = subst (λ t. AreCells t cells) (sym (ap after_word same ∙ parts.1)) are;
       }
-  start_parts words e step (times first second more a b cells na nb are is) =
+  start_parts words e (times first second more a b cells na nb are is) =
       absurd (omega (arith, byte_of _ _ (sym e ∙ is)))
 
-  pub begins_start : (words : List ℕ) → line ≡ codes "start " ++ words → (u : ℕ) → IsNumber 9 (first_word words) u
+  pub begins_start : (words : List ℕ) → line ≡ codes "start " ++ words → {u : ℕ} → IsNumber 9 (first_word words) u
       → BeginsStep line (Start u) (after_word words)
-  begins_start words e u number = record {
+  begins_start words e {u = u} number = record {
     spells = λ cells are. start (first_word words) (after_word words) u cells number are
         (e ∙ ap (λ t. codes "start " ++ t) (by_word words));
     only = λ step is.
-        let p = start_parts words e step is in
-        (p.kind ∙ ap Start (number_is 9 _ _ _ p.number number), p.cells);
+        let p = start_parts words e is in
+        (p.kind ∙ ap Start (number_is p.number number), p.cells);
   }
 
-  pub record TimesParts (words : List ℕ) (step : Step) : Type 0 where
-    pub a : ℕ
-    pub b : ℕ
-    pub more : List ℕ
-    pub first : IsNumber 9 (first_word words) a
-    pub behind : after_word words ≡ 32 ∷ more
-    pub second : IsNumber 9 (first_word more) b
-    pub kind : step.kind ≡ Times a b
-    pub cells : AreCells (after_word more) step.cells
-
-  pub times_parts : (words : List ℕ) → line ≡ codes "times " ++ words → (step : Step) → IsStep line step
+  pub times_parts : (words : List ℕ) → line ≡ codes "times " ++ words → {step : Step} → IsStep line step
       → TimesParts words step
-  times_parts words e step (one more cells are is) = absurd (omega (arith, byte_of _ _ (sym e ∙ is)))
-  times_parts words e step (start text more u cells number are is) = absurd (omega (arith, byte_of _ _ (sym e ∙ is)))
-  times_parts words e step (times first second rest a b cells na nb are is) =
+  times_parts words e (one more cells are is) = absurd (omega (arith, byte_of _ _ (sym e ∙ is)))
+  times_parts words e (start text more u cells number are is) = absurd (omega (arith, byte_of _ _ (sym e ∙ is)))
+  times_parts words e (times first second rest a b cells na nb are is) =
       let same : words ≡ first ++ (codes " " ++ (second ++ rest)) =
       append_cancel_left (codes "times ") words _ (sym e ∙ is) in
-      let outer = cut first (32 ∷ second ++ rest) (number_front 9 first a na) (inr (second ++ rest, refl)) in
-      let inner = cut second rest (number_front 9 second b nb) (cells_tail rest cells are) in
+      let outer = cut first (32 ∷ second ++ rest) (number_front na) (inr (second ++ rest, refl)) in
+      let inner = cut second rest (number_front nb) (cells_tail rest cells are) in
       record {
         a = a;
         b = b;
@@ -153,18 +158,18 @@ module _ (line : List ℕ) where
         cells = subst (λ t. AreCells t cells) (sym inner.1) are;
       }
 
-  pub begins_times : (words more : List ℕ) → line ≡ codes "times " ++ words → (a b : ℕ)
+  pub begins_times : (words : List ℕ) {more : List ℕ} → line ≡ codes "times " ++ words → {a b : ℕ}
       → IsNumber 9 (first_word words) a → after_word words ≡ 32 ∷ more → IsNumber 9 (first_word more) b
       → BeginsStep line (Times a b) (after_word more)
-  begins_times words more e a b na behind nb = record {
+  begins_times words {more = more} e {a = a} {b = b} na behind nb = record {
     spells = λ cells are. times (first_word words) (first_word more) (after_word more) a b cells na nb are
         (e ∙ ap (λ t. codes "times " ++ t) (by_word words
         ∙ ap (λ t. first_word words ++ t) (behind ∙ ap (λ t. 32 ∷ t) (by_word more))));
     only = λ step is.
-        let p = times_parts words e step is in
+        let p = times_parts words e is in
         let same : p.more ≡ more = cc in (
-          p.kind ∙ ap₂ (λ m n. Times m n) (number_is 9 _ _ _ p.first na)
-              (number_is 9 _ _ _ (subst (λ t. IsNumber 9 (first_word t) p.b) same p.second) nb),
+          p.kind ∙ ap₂ (λ m n. Times m n) (number_is p.first na)
+              (number_is (subst (λ t. IsNumber 9 (first_word t) p.b) same p.second) nb),
           subst (λ t. AreCells (after_word t) step.cells) same p.cells,
         );
   }
@@ -177,33 +182,28 @@ module _ (line : List ℕ) where
   no_step n_one n_start n_times step (times first second rest a b cells na nb are is) =
       n_times (first ++ (codes " " ++ (second ++ rest))) is
 
-  pub record Begun (step : Step) : Type 0 where
-    pub rest : List ℕ
-    pub begins : BeginsStep line step.kind rest
-    pub cells : AreCells rest step.cells
-
-  pub begun : (step : Step) → IsStep line step → Begun step
+  pub begun : (step : Step) → IsStep line step → Begun line step
   begun step (one more cells are is) = record { rest = more; begins = begins_one more is; cells = are }
   begun step (start text more u cells number are is) =
-      let p = start_parts (text ++ more) is step (start text more u cells number are is) in
+      let p = start_parts (text ++ more) is (start text more u cells number are is) in
       record {
         rest = after_word (text ++ more);
         begins = subst (λ k. BeginsStep line k (after_word (text ++ more))) (sym p.kind)
-            (begins_start (text ++ more) is p.u p.number);
+            (begins_start (text ++ more) is p.number);
         cells = p.cells;
       }
   begun step (times first second rest a b cells na nb are is) =
-      let p = times_parts (first ++ (codes " " ++ (second ++ rest))) is step (times first second rest a b cells na nb are is) in
+      let p = times_parts (first ++ (codes " " ++ (second ++ rest))) is (times first second rest a b cells na nb are is) in
       record {
         rest = after_word p.more;
         begins = subst (λ k. BeginsStep line k (after_word p.more)) (sym p.kind)
-            (begins_times (first ++ (codes " " ++ (second ++ rest))) p.more is p.a p.b p.first p.behind p.second);
+            (begins_times (first ++ (codes " " ++ (second ++ rest))) is p.first p.behind p.second);
         cells = p.cells;
       }
 
   -- the steps that a line spells are one
-  pub step_is : (s t : Step) → IsStep line s → IsStep line t → s ≡ t
-  step_is s t h k =
+  pub step_is : {s t : Step} → IsStep line s → IsStep line t → s ≡ t
+  step_is {s = s} {t = t} h k =
       let b = begun s h in
       let other = b.begins.only t k in
       ap₂ (λ kind cells. record { kind = kind; cells = cells }) (sym other.0)
@@ -211,34 +211,27 @@ module _ (line : List ℕ) where
 
 -- ---- lines that are read by words
 
--- a line that begins with one of the three words begins with no other
-pub other_word : (line front other rest : List ℕ) → line ≡ front ++ rest → get_or front 0 0 ≢ get_or other 0 0
-    → 0 < length front → 0 < length other → (more : List ℕ) → ¬ (line ≡ other ++ more)
-other_word line [] other rest e differs some any more is = absurd (omega (arith, some))
-other_word line (x ∷ xs) [] rest e differs some any more is = absurd (omega (arith, any))
-other_word line (x ∷ xs) (y ∷ ys) rest e differs some any more is = differs (cc)
-
 module _ (line : List ℕ) where
   -- no number of a unit
   pub no_start : (words : List ℕ) → line ≡ codes "start " ++ words
       → ((n : ℕ) → ¬ IsNumber 9 (first_word words) n) → (step : Step) → ¬ IsStep line step
   no_start words e none step h =
-      let p = start_parts line words e step h in
+      let p = start_parts words e h in
       none p.u p.number
 
   module _ (words : List ℕ) (e : line ≡ codes "times " ++ words) where
     pub no_first : ((n : ℕ) → ¬ IsNumber 9 (first_word words) n) → (step : Step) → ¬ IsStep line step
     no_first none step h =
-        let p = times_parts line words e step h in
+        let p = times_parts words e h in
         none p.a p.first
 
     pub no_more : after_word words ≡ [] → (step : Step) → ¬ IsStep line step
-    no_more over step h = let p = times_parts line words e step h in cc
+    no_more over step h = let p = times_parts words e h in cc
 
     pub no_second : (more : List ℕ) → after_word words ≡ 32 ∷ more
         → ((n : ℕ) → ¬ IsNumber 9 (first_word more) n) → (step : Step) → ¬ IsStep line step
     no_second more behind none step h =
-        let p = times_parts line words e step h in
+        let p = times_parts words e h in
         let same : p.more ≡ more = cc in
         none p.b (subst (λ t. IsNumber 9 (first_word t) p.b) same p.second)
 
@@ -268,10 +261,10 @@ word_ends text words next inside is =
         blank_is b h = grind (arith, nat_tests)
 
 -- a line of a product whose two numbers are read
-pub times_read : (line : List ℕ) (a b next last : ℕ) → line ≡ codes "times " ++ drop 6 line
+pub times_read : {line : List ℕ} {a b : ℕ} (next last : ℕ) → line ≡ codes "times " ++ drop 6 line
     → IsNumber 9 (first_word (drop 6 line)) a → drop next line ≡ after_word (drop 6 line) → next < length line
     → IsNumber 9 (first_word (drop (next + 1) line)) b → drop last line ≡ after_word (drop (next + 1) line)
     → BeginsStep line (Times a b) (drop last line)
-times_read line a b next last e na behind inside nb is =
+times_read {line = line} {a = a} {b = b} next last e na behind inside nb is =
     subst (λ t. BeginsStep line (Times a b) t) (sym is)
-    (begins_times line (drop 6 line) (drop (next + 1) line) e a b na (word_ends line (drop 6 line) next inside behind) nb)
+    (begins_times (drop 6 line) e na (word_ends line (drop 6 line) next inside behind) nb)

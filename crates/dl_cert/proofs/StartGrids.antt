@@ -17,12 +17,12 @@ one_more_is number f g n by_ends same before here = more_below (λ k. g k ≡ nu
     (λ k near. same k near ∙ before k near ∙ sym (by_ends g f k (λ j less. same j (omega (arith, less, near)))))
     (here ∙ sym (by_ends g f n same))
 
-pub exact_start : (unit : UnitOfPlan) (base : Base) → IsBaseOf unit base → 1 ≤ unit_parts unit
-    → (cells : List (Iv 56)) (n : ℕ) → length cells ≡ n
+pub exact_start : {unit : UnitOfPlan} {base : Base} → IsBaseOf unit base → 1 ≤ unit_parts unit
+    → {cells : List (Iv 56)} {n : ℕ} → length cells ≡ n
     → ((y : ℕ) → y < n → low_at cells y ≡ low_base base unit.sev (low_at cells) y)
     → ((y : ℕ) → y < n → high_at cells y ≡ high_base base unit.sev (high_at cells) y)
     → IsExactStart unit.freq unit.sev (thinned_mean unit) cells
-exact_start unit base is some cells n long low high = record {
+exact_start is some {cells = cells} long low high = record {
   low = λ y inside. low y (omega (arith, inside, long)) ∙ is.low some (low_at cells) y;
   high = λ y inside. high y (omega (arith, inside, long)) ∙ is.high some (high_at cells) y;
 }
@@ -45,10 +45,10 @@ low_mass F values S n lo hi pos encloses =
           (subst (λ t. t ≤ℚ whole 1) (to_over n S lo pos) most),
     )
 
-pub start_is_grid : (unit : UnitOfPlan) (h : ℕ) → IsValidUnit h unit → 1 ≤ unit_parts unit → (cells : List (Iv 56))
+pub start_is_grid : {unit : UnitOfPlan} {h : ℕ} → IsValidUnit h unit → 1 ≤ unit_parts unit → {cells : List (Iv 56)}
     → 1 ≤ length cells → length cells ≤ most_cert_cells → All (λ cell. cell.hi ≤ 2 ^ 56) cells
     → IsExactStart unit.freq unit.sev (thinned_mean unit) cells → IsGrid cells
-start_is_grid unit h valid counted cells some few small exact =
+start_is_grid {unit = unit} valid counted {cells = cells} some few small exact =
     let n : ℕ = length cells - 1 in
     let v = thinned_mean unit in
     let long : suc n ≡ length cells = omega (arith, some) in

@@ -1,32 +1,23 @@
 -- A start whose cells are not inside its numbers encloses the part of its unit.
-use Rattle.dl_cert.proofs.Common.{ℕ, zero, suc, ◌≡◌, ◌⊎◌, ◌*◌, ◌<◌, ◌≤◌, ◌^◌, ◌∙◌, inl, inr, refl, sym, ap, subst, subst₂, arith, mul-le-mul_right, zero-lt-suc, cases_lt, Fraction, whole, ◌+ℚ◌, ◌*ℚ◌, ◌/ℚ◌, ◌≤ℚ◌, ◌<ℚ◌, ◌over◌, sum_to, ring, one_pos, whole_pos, le_refl, le_trans, times_comm, times_assoc, times_cancel, times_le_cancel, times_le_both, one_times, zero_times, zero_plus, plus_zero, over_times_whole, div_times, over_self, over_le, floor_div, ceiling_div, whole_le, sum_pairs_same, sum_pairs_times, cell, IsPanjer, compound, Encloses, AtMost, AtLeast, IsBound, IsWithinOne, at_most_wider, cell_at_most_one, compound_proper, finite_holds, FollowsOutward, floor_of, ceiling_of, sum_plain, sum_by_amount, low_recursion, high_recursion}
-use Rattle.dl_exact.proofs.Orders.{times_right_comm}
+use Rattle.dl_cert.proofs.Common.{ℕ, zero, suc, ◌≡◌, ◌⊎◌, ◌*◌, ◌<◌, ◌≤◌, ◌^◌, inl, inr, refl, sym, subst, subst₂, arith, mul-le-mul_right, cases_lt, Fraction, whole, ◌*ℚ◌, ◌≤ℚ◌, ◌over◌, sum_to, one_pos, le_refl, le_trans, times_le_both, one_times, over_self, over_le, floor_div, ceiling_div, IsFloor, IsCeiling, whole_le, cell, IsPanjer, compound, Encloses, AtMost, AtLeast, IsBound, IsWithinOne, at_most_wider, cell_at_most_one, compound_proper, finite_holds, FollowsOutward, floor_of, ceiling_of, low_recursion, high_recursion}
 use Rattle.dl_model.specs.Recursion.{from_before}
 use Rattle.dl_panjer.proofs.Base.{base_encloses}
+use Rattle.dl_panjer.proofs.Starts.{units_below, units_above}
 
 -- ---- a fraction rounded
 
-pub floor_below : (x : Fraction) → whole (floor_of x) ≤ℚ x
-floor_below x = subst (λ t. whole (floor_of x) ≤ℚ t) (over_self x) (floor_div x.num x.den x.positive).below
+pub floor_is : (x : Fraction) → IsFloor x (floor_of x)
+floor_is x = rw (over_self x) at (floor_div x.num x.den x.positive)
 
-pub ceiling_above : (x : Fraction) → x ≤ℚ whole (ceiling_of x)
-ceiling_above x = subst (λ t. t ≤ℚ whole (ceiling_of x)) (over_self x) (ceiling_div x.num x.den x.positive).above
+pub ceiling_is : (x : Fraction) → IsCeiling x (ceiling_of x)
+ceiling_is x = rw (over_self x) at (ceiling_div x.num x.den x.positive)
 
 module _ (S : ℕ) (pos : 0 < S) where
-  -- n units are at most x where n is at most x in units
-  pub units_below : (n : ℕ) (x : Fraction) → whole n ≤ℚ whole S *ℚ x → n over S ≤ℚ x
-  units_below n x h = times_le_cancel _ _ (whole S) (whole_pos S pos)
-      (subst₂ (λ s t. s ≤ℚ t) (sym (over_times_whole n S pos)) (times_comm _ _) h)
-
-  pub units_above : (n : ℕ) (x : Fraction) → whole S *ℚ x ≤ℚ whole n → x ≤ℚ n over S
-  units_above n x h = times_le_cancel _ _ (whole S) (whole_pos S pos)
-      (subst₂ (λ s t. s ≤ℚ t) (times_comm _ _) (sym (over_times_whole n S pos)) h)
-
   pub from_floor : (n : ℕ) (x : Fraction) → n ≤ floor_of (whole S *ℚ x) → n over S ≤ℚ x
-  from_floor n x h = units_below n x (le_trans _ _ _ (whole_le _ _ h) (floor_below (whole S *ℚ x)))
+  from_floor n x h = units_below S pos n x (le_trans _ _ _ (whole_le _ _ h) (floor_is (whole S *ℚ x)).below)
 
   pub from_ceiling : (n : ℕ) (x : Fraction) → ceiling_of (whole S *ℚ x) ≤ n → x ≤ℚ n over S
-  from_ceiling n x h = units_above n x (le_trans _ _ _ (ceiling_above (whole S *ℚ x)) (whole_le _ _ h))
+  from_ceiling n x h = units_above S pos n x (le_trans _ _ _ (ceiling_is (whole S *ℚ x)).above (whole_le _ _ h))
 
   one_within : (n : ℕ) → S ≤ n → whole 1 ≤ℚ n over S
   one_within n h = over_le 1 1 n S one_pos pos (omega arith)
@@ -60,8 +51,8 @@ module _ (S : ℕ) (pos : 0 < S) where
     follows K l h lo hi low high scale = record {
       low = λ s inside. subst (λ t. whole (lo (suc s)) ≤ℚ t) (sym (same lo s))
           (le_trans _ _ _ (whole_le _ _ (low (suc s) inside))
-          (le_trans _ _ _ (floor_below (factor s *ℚ whole (floor_of (sum lo s))))
-          (times_le_both _ _ _ _ (le_refl (factor s)) (floor_below (sum lo s)))));
+          (le_trans _ _ _ (floor_is (factor s *ℚ whole (floor_of (sum lo s)))).below
+          (times_le_both _ _ _ _ (le_refl (factor s)) (floor_is (sum lo s)).below)));
       high = λ s inside. elim (high (suc s) inside) [
         | inr far ↦ inr far
         | inl near ↦
@@ -69,8 +60,8 @@ module _ (S : ℕ) (pos : 0 < S) where
             elim (cases_lt (2 ^ 56) c) [
               | inl past ↦ inr (omega (arith, near, past, scale))
               | inr within ↦ inl (subst (λ t. t ≤ℚ whole (hi (suc s))) (sym (same hi s))
-                  (le_trans _ _ _ (times_le_both _ _ _ _ (le_refl (factor s)) (ceiling_above (sum hi s)))
-                  (le_trans _ _ _ (ceiling_above (factor s *ℚ whole (ceiling_of (sum hi s))))
+                  (le_trans _ _ _ (times_le_both _ _ _ _ (le_refl (factor s)) (ceiling_is (sum hi s)).above)
+                  (le_trans _ _ _ (ceiling_is (factor s *ℚ whole (ceiling_of (sum hi s)))).above
                   (whole_le _ _ (omega (arith, near, within))))))
             ]
       ];
@@ -106,31 +97,3 @@ module _ (S : ℕ) (pos : 0 < S) where
 
         first : (u : Fraction) → IsBound (λ N. sum_to N w) u → w zero ≤ℚ u
         first u bound = bound zero
-
--- the Poisson recursion, and the geometric one
-pub poisson_sums : (v : Fraction) (f : ℕ → Fraction) (g : ℕ → ℕ) (s : ℕ)
-    → from_before (whole 0) v f (λ k. whole (g k)) s ≡ v /ℚ whole (suc s) *ℚ sum_by_amount f g s
-poisson_sums v f g s =
-    sum_pairs_same s _ _ (λ i k e.
-    ap (λ t. t *ℚ f (suc i) *ℚ whole (g k)) (zero_plus _ ∙ by_suc i)
-    ∙ turn (v /ℚ whole (suc s)) (whole (suc i)) (f (suc i)) (whole (g k)))
-    ∙ sum_pairs_times s (v /ℚ whole (suc s)) (λ i k. whole (suc i) *ℚ f (suc i) *ℚ whole (g k))
-  where
-    S' : whole 0 <ℚ whole (suc s)
-    S' = whole_pos (suc s) (zero-lt-suc s)
-
-    turn : (a b c d : Fraction) → a *ℚ b *ℚ c *ℚ d ≡ a *ℚ (b *ℚ c *ℚ d)
-    turn a b c d = simp ring
-
-    by_suc : (i : ℕ) → v *ℚ suc i over suc s ≡ v /ℚ whole (suc s) *ℚ whole (suc i)
-    by_suc i = times_cancel _ _ (whole (suc s)) S'
-        (times_assoc _ _ _ ∙ ap (λ t. v *ℚ t) (over_times_whole (suc i) (suc s) (zero-lt-suc s))
-        ∙ sym (times_right_comm _ _ _ ∙ ap (λ t. t *ℚ whole (suc i)) (div_times v (whole (suc s)) S')))
-
-pub geometric_sums : (x : Fraction) (f : ℕ → Fraction) (g : ℕ → ℕ) (s : ℕ)
-    → from_before x (whole 0) f (λ k. whole (g k)) s ≡ x *ℚ sum_plain f g s
-geometric_sums x f g s =
-    sum_pairs_same s _ _ (λ i k e.
-    ap (λ t. t *ℚ f (suc i) *ℚ whole (g k)) (ap (λ t. x +ℚ t) (zero_times _) ∙ plus_zero x)
-    ∙ times_assoc x (f (suc i)) (whole (g k)))
-    ∙ sum_pairs_times s x (λ i k. f (suc i) *ℚ whole (g k))

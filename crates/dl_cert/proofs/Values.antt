@@ -1,5 +1,5 @@
 -- Families whose cells have declared values.
-use Rattle.dl_cert.proofs.Common.{ℕ, zero, suc, ◌≡◌, ◌∙◌, sym, ap, ap₂, subst₂, max, List, [], ◌∷◌, le-max_left, le-max_right, All-head, All-tail, All, Fraction, whole, ◌+ℚ◌, ◌*ℚ◌, ◌≤ℚ◌, ◌<ℚ◌, ◌^ℚ◌, sum_to, one_pos, whole_pos, le_refl, times_zero, times_comm, one_times, plus_comm, plus_assoc, plus_zero, plus_le_cancel, times_le_cancel, times_le_both, times_pos, lt_of_lt_of_le, sum_to_times, AreCountWeights, IsWithinOne, IsPositivePart, Family, compound, product, nothing, times_itself, SameCells, same_value, level_same, value_trans, rises_to, compound_proper, nothing_proper, proper_product, itself_proper, HasValues, Label, labelled}
+use Rattle.dl_cert.proofs.Common.{ℕ, zero, suc, ◌≡◌, ◌∙◌, sym, ap, ap₂, subst₂, max, List, [], ◌∷◌, le-max_left, le-max_right, All-head, All-tail, All, Fraction, whole, ◌+ℚ◌, ◌*ℚ◌, ◌≤ℚ◌, ◌<ℚ◌, ◌^ℚ◌, sum_to, one_pos, whole_pos, le_refl, times_zero, times_comm, one_times, plus_comm, plus_assoc, plus_zero, plus_le_cancel, times_le_cancel, times_le_both, times_pos, lt_of_lt_of_le, sum_to_times, AreCountWeights, IsWithinOne, IsPositivePart, Family, compound, product, nothing, power, times_itself, SameCells, same_value, level_same, value_trans, rises_to, compound_proper, nothing_proper, proper_product, HasValues, Label, labelled}
 
 -- ---- families with values
 
@@ -33,24 +33,9 @@ product_values F G f g = record {
 }
 
 pub itself_values : (F : Family) → HasValues F → (n : ℕ) → HasValues (times_itself F n)
-unfolding ◌^ℚ◌
-itself_values F f zero = record {
-  proper = itself_proper F f.proper zero;
-  bound = whole 1;
-  bounded = λ N. le_refl _;
-  level = zero;
-  positive = whole_pos 1 one_pos;
-}
-itself_values F f (suc n) =
-    let g = itself_values F f n in
-    let all = product_values F (times_itself F n) f g in
-    record {
-      proper = itself_proper F f.proper (suc n);
-      bound = all.bound;
-      bounded = all.bounded;
-      level = all.level;
-      positive = all.positive;
-    }
+unfolding power ◌^ℚ◌
+itself_values F f zero = nothing_values
+itself_values F f (suc n) = product_values F (times_itself F n) f (itself_values F f n)
 
 pub labelled_values : (Fs : List Family) (label : Label) → All HasValues Fs → HasValues (labelled Fs label)
 unfolding labelled

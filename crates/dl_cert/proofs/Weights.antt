@@ -1,5 +1,6 @@
 -- The weight of an amount among items whose amounts rise.
-use Rattle.dl_cert.proofs.Common.{ℕ, zero, suc, ◌≡◌, ◌≢◌, ◌+◌, ◌-◌, ◌*◌, ◌<◌, ◌≤◌, ◌∙◌, inl, inr, refl, sym, ap, ap₂, subst, arith, cond, List, [], ◌∷◌, length, get_or, ◌^◌, Bool, true, false, mul-le-mul_left, mul-le-mul, add-mul, sub-add_cancel, cases_lt, cases_eq, eq-eqb, ne_eqb, get_or-map, get_or_default, length-map, sum_by-le-sum_by, Item, amounts_of, weight_at, weight_sum, ◌==◌}
+use Rattle.dl_cert.proofs.Common.{ℕ, zero, suc, ◌≡◌, ◌≢◌, ◌+◌, ◌-◌, ◌*◌, ◌<◌, ◌≤◌, ◌∙◌, inl, inr, refl, sym, ap, subst, arith, cond, List, [], ◌∷◌, length, get_or, ◌^◌, Bool, true, false, mul-le-mul_left, mul-le-mul, add-mul, sub-add_cancel, cases_lt, cases_eq, eq-eqb, ne_eqb, get_or-map, get_or_default, length-map, sum_by-le-sum_by, Item, amounts_of, weight_at, weight_sum, ◌==◌}
+use Rattle.std.proofs.Math.Nat.{zero-add}
 use Rattle.std.specs.List.Sorted.{IsStrictlyIncreasing}
 use Rattle.std.proofs.lemmas.List.Kept.{AllPairs-from_increasing}
 use Rattle.dl_panjer.proofs.ItemSums.{weight_at-cons}
@@ -9,8 +10,7 @@ weight_none : (items : List Item) (y : ℕ) → ((k : ℕ) (d : Item) → k < le
     → weight_at items y ≡ 0
 weight_none [] y other = refl
 weight_none (item ∷ items) y other =
-    weight_at-cons item items y
-    ∙ ap₂ (λ a b. a + b) (ap (λ b. cond b item.weight 0) (ne_eqb item.amount y (other 0 item (omega arith))))
+    rw (weight_at-cons item items y, ne_eqb item.amount y (other 0 item (omega arith)), zero-add)
     (weight_none items y (λ k d inside. other (suc k) d (omega (arith, inside))))
 
 -- an amount that one item alone has
@@ -19,17 +19,18 @@ weight_only : (items : List Item) (y p : ℕ) (d : Item) → p < length items �
     → weight_at items y ≡ (get_or items p d).weight
 weight_only [] y p d inside is other = absurd (omega (arith, inside))
 weight_only (item ∷ items) y zero d inside is other =
-    weight_at-cons item items y
-    ∙ ap₂ (λ a b. a + b) (ap (λ b. cond b item.weight 0) (eq-eqb item.amount y is))
-    (weight_none items y (λ k e within. other (suc k) e (omega (arith, within)) (λ h. absurd (omega (arith, h)))))
-    ∙ omega arith
+    rw (
+      weight_at-cons item items y,
+      eq-eqb item.amount y is,
+      weight_none items y (λ k e within. other (suc k) e (omega (arith, within)) (λ h. absurd (omega (arith, h)))),
+    ) (omega arith)
 weight_only (item ∷ items) y (suc p) d inside is other =
-    weight_at-cons item items y
-    ∙ ap₂ (λ a b. a + b) (ap (λ b. cond b item.weight 0)
-    (ne_eqb item.amount y (other 0 item (omega arith) (λ h. absurd (omega (arith, h))))))
-    (weight_only items y p d (omega (arith, inside)) is
+    rw (
+      weight_at-cons item items y,
+      ne_eqb item.amount y (other 0 item (omega arith) (λ h. absurd (omega (arith, h)))),
+      zero-add,
+    ) (weight_only items y p d (omega (arith, inside)) is
     (λ k e within differs. other (suc k) e (omega (arith, within)) (λ h. differs (omega (arith, h)))))
-    ∙ omega arith
 
 module _ (items : List Item) (rising : IsStrictlyIncreasing (amounts_of items)) where
   rise : (i j : ℕ) (d e : Item) → i < j → j < length items → (get_or items i d).amount < (get_or items j e).amount

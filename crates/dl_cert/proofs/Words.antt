@@ -52,8 +52,9 @@ number_few most text h =
     let u = (and_parts (nat_lt 0 (length text)) (nat_le (length text) most) t.0).1 in
     grind (arith, nat_tests, u)
 
-pub number_front : (most : ℕ) (text : List ℕ) (n : ℕ) → IsNumber most text n → list_any is_blank text ≡ false
-number_front most text n h = lacked is_blank (λ byte digit. grind (arith, nat_tests)) text (number_digits most text h.digits)
+pub number_front : {most : ℕ} {text : List ℕ} {n : ℕ} → IsNumber most text n → list_any is_blank text ≡ false
+number_front {most} {text} h =
+    lacked is_blank (λ byte digit. grind (arith, nat_tests)) text (number_digits most text h.digits)
 
 comma_is : (byte : ℕ) → is_comma byte ≡ true → byte ≡ 44
 comma_is byte h = grind (arith, nat_tests)
@@ -70,12 +71,11 @@ comma_split text h = elim (cases_lt (position_or_len is_comma text) (length text
       absurd (cc)
 ]
 
-pub cell_front : (text : List ℕ) (cell : Iv 56) → IsCell text cell → list_any is_blank text ≡ false
-cell_front text cell h =
+pub cell_front : {text : List ℕ} {cell : Iv 56} → IsCell text cell → list_any is_blank text ≡ false
+cell_front {text = text} h =
     ap (list_any is_blank) (comma_split text h.comma)
     ∙ list_any-append is_blank (before_first is_comma text) (44 ∷ after_first is_comma text)
-    ∙ ap₂ (λ s t. s || t) (number_front 17 (before_first is_comma text) cell.lo h.low)
-    (number_front 17 (after_first is_comma text) cell.hi h.high)
+    ∙ ap₂ (λ s t. s || t) (number_front h.low) (number_front h.high)
 
 -- ---- cells
 
@@ -86,20 +86,17 @@ cells_tail rest (cell ∷ cells) (spelled, more, h, later, e) = inr (spelled ++ 
 
 -- ---- what is read
 
-pub number_read : (most : ℕ) (text : List ℕ) (n : ℕ)
+pub number_read : (most : ℕ) (text : List ℕ) {n : ℕ}
     → Some n ≡ (if is_number_of most text then Some (digits_value 10 text) else None) → IsNumber most text n
-number_read most text n e = elim (cases_Bool (is_number_of most text)) [
+number_read most text e = elim (cases_Bool (is_number_of most text)) [
   | inl is ↦ record { digits = is; value = cc }
   | inr other ↦ absurd (cc)
 ]
 
-pub number_not : (most : ℕ) (text : List ℕ)
-    → None ≡ (if is_number_of most text then Some (digits_value 10 text) else None) → (n : ℕ) → ¬ IsNumber most text n
-number_not most text e n h = let is = h.digits in absurd (cc)
-
 -- a number of at most 9 digits
-pub number_small : (text : List ℕ) (n : ℕ) → IsNumber 9 text n → n < 10 ^ 9
-number_small text n h = subst (λ m. m < 10 ^ 9) h.value (number_below text (number_digits 9 text h.digits) (number_few 9 text h.digits))
+pub number_small : {text : List ℕ} {n : ℕ} → IsNumber 9 text n → n < 10 ^ 9
+number_small {text} h =
+    subst (λ m. m < 10 ^ 9) h.value (number_below text (number_digits 9 text h.digits) (number_few 9 text h.digits))
 
 pub drop_by : (text : List ℕ) (from n : ℕ) → drop (from + n) text ≡ drop n (drop from text)
 drop_by text from n = sym (drop-drop n from text)
@@ -125,29 +122,30 @@ has_comma text inside = elim (cases_Bool (list_any is_comma text)) [
       absurd (cc)
 ]
 
-pub cell_spelled : (text back : List ℕ) (comma lo hi : ℕ) (o : Option (Iv 56)) → comma ≡ position_or_len is_comma text
+pub cell_spelled : (text : List ℕ) {back : List ℕ} {comma lo hi : ℕ} (o : Option (Iv 56)) → comma ≡ position_or_len is_comma text
     → comma < length text → back ≡ drop (comma + 1) text
     → Some lo ≡ (if is_number_of 17 (take comma text) then Some (digits_value 10 (take comma text)) else None)
     → Some hi ≡ (if is_number_of 17 back then Some (digits_value 10 back) else None)
     → MatchOption o (¬ ((lo ≤ hi) × (hi ≤ one))) (λ cell. (cell.lo ≡ lo) × (cell.hi ≡ hi) × (hi ≤ one))
     → MatchOption o ((cell : Iv 56) → ¬ IsCell text cell) (IsCell text)
-cell_spelled text back comma lo hi None at inside rest low high bad = λ cell h.
-    let first = number_read 17 (take comma text) lo low in
-    let second = number_read 17 back hi high in
+cell_spelled text {back = back} {comma = comma} {lo = lo} {hi = hi} None at inside rest low high bad = λ cell h.
+    let first = number_read 17 (take comma text) low in
+    let second = number_read 17 back high in
     let lo_is : cell.lo ≡ lo = sym h.low.value ∙ ap (λ n. digits_value 10 (take n text)) (sym at) ∙ first.value in
     let hi_is : cell.hi ≡ hi = sym h.high.value ∙ ap (λ n. digits_value 10 (drop (n + 1) text)) (sym at)
     ∙ ap (digits_value 10) (sym rest) ∙ second.value in
     bad (omega (arith, cell.ordered, lo_is, hi_is), omega (arith, h.small, hi_is))
-cell_spelled text back comma lo hi (Some cell) at inside rest low high (lo_is, hi_is, small) = record {
+cell_spelled text {back = back} {comma = comma} (Some cell) at inside rest low high (lo_is, hi_is, small) = record {
   comma = has_comma text (omega (arith, at, inside));
-  low = subst₂ (λ n m. IsNumber 17 (take n text) m) at (sym lo_is) (number_read 17 (take comma text) lo low);
+  low = subst₂ (λ n m. IsNumber 17 (take n text) m) at (sym lo_is) (number_read 17 (take comma text) low);
   high = subst₂ (λ t m. IsNumber 17 t m) (rest ∙ ap (λ n. drop (n + 1) text) at) (sym hi_is)
-      (number_read 17 back hi high);
+      (number_read 17 back high);
   small = omega (arith, hi_is, small);
 }
 
 -- a word from a place of a line on, and what follows
-module _ (line rest : List ℕ) (from end : ℕ) (is : rest ≡ drop from line) (at : end ≡ position_or_len is_blank rest) where
+module _ (line : List ℕ) {rest : List ℕ} (from : ℕ) {end : ℕ} (is : rest ≡ drop from line)
+    (at : end ≡ position_or_len is_blank rest) where
   pub word_is : take end rest ≡ first_word (drop from line)
   word_is = ap (λ n. take n rest) at ∙ ap first_word is
 

@@ -21,21 +21,9 @@ use dl_budget::halvings;
 use dl_exp::exp_neg;
 use dl_frac::Frac;
 use dl_iv::{Iv, units_of_one};
-use dl_panjer::next_cell;
+use dl_panjer::{next_cell, reached};
 use dl_plan::{Freq, Item, Sev, Unit};
 use std::alloc::{AllocError, Global};
-
-/// How many of the amounts are at most `most`: the first ones.
-fn reached(items: &[Item], most: usize) -> usize
-    requires rising { IsStrictlyIncreasing (amounts_of items.now) }
-    ensures bound { result ≤ length items.now }
-    ensures before { (k : ℕ) (d : Item) → k < result
-        → (slice_index_or items.now k d).amount ≤ most }
-    ensures after { (k : ℕ) (d : Item) → result ≤ k → k < length items.now
-        → most < (slice_index_or items.now k d).amount }
-{
-    items.partition_point(|item| item.amount as usize <= most)
-}
 
 /// The weight of an amount.
 fn weight_of(items: &[Item], amount: usize) -> u32

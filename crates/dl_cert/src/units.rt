@@ -21,7 +21,7 @@ use crate::base::{Base, Chance, Share};
 use dl_budget::halvings;
 use dl_exp::exp_neg;
 use dl_frac::Frac;
-use dl_iv::Iv;
+use dl_panjer::{geometric_start, halved};
 use dl_plan::{Freq, Sev, Unit};
 use std::alloc::{AllocError, Global};
 
@@ -58,28 +58,6 @@ pub(crate) fn parts(unit: &Unit) -> u32
     }
 }
 
-/// `num` over `den`. Both are so small that their fraction is never too fine.
-fn fraction(num: u64, den: u64) -> Frac
-    requires positive { 0 < den }
-    requires small_num { num < frac_bound }
-    requires small_den { den < frac_bound }
-    ensures value { result ≡ num over den }
-    ensures num { result.num ≤ num }
-{
-    Frac::make(u128::from(num), u128::from(den)).unwrap()
-}
-
-/// The mean that is halved until it is at most 1/2.
-fn poisson_rate(mean: Frac) -> Frac
-    requires admitted { HasPartsOf48Bits mean }
-    requires few { mean ≤ℚ whole most_expected }
-    ensures value { result ≡ mean /ℚ whole (2 ^ halvings mean) }
-    ensures half { result ≤ℚ 1 over 2 }
-    ensures small { result.num < admitted_bound }
-{
-    fraction(mean.num(), mean.den() * (1u64 << halvings(mean)))
-}
-
 /// The severity of the claims above 0 of a unit, where any are expected.
 fn positive_claims(alloc: Global, unit: &Unit) -> Result<Option<Sev>, AllocError>
     requires valid { (cells : ℕ) × IsValidUnit cells unit.now }
@@ -102,7 +80,8 @@ fn poisson_base(alloc: Global, unit: &Unit) -> Result<Base, AllocError>
     let Some(positive) = positive_claims(alloc, unit)? else {
         return Ok(Base::Nothing);
     };
-    let rate = poisson_rate(unit.freq.thinned(&unit.sev));
+    let mean = unit.freq.thinned(&unit.sev);
+    let rate = halved(mean, halvings(mean));
     Ok(Base::Poisson(Share {
         positive,
         rate,
@@ -119,13 +98,11 @@ fn geometric_base(alloc: Global, unit: &Unit, shape: u32) -> Result<Base, AllocE
     let Some(positive) = positive_claims(alloc, unit)? else {
         return Ok(Base::Nothing);
     };
-    let mean = unit.freq.thinned(&unit.sev);
-    let num = mean.num();
-    let den = mean.den() * u64::from(shape);
+    let (rate, first) = geometric_start::<56>(unit.freq.thinned(&unit.sev), shape);
     Ok(Base::Geometric(Share {
         positive,
-        rate: fraction(num, num + den),
-        first: Iv::enclose(u128::from(den), u128::from(num + den)),
+        rate,
+        first,
     }))
 }
 

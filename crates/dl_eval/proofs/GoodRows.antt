@@ -1,5 +1,5 @@
 -- The answer to each kind of ask, from the grid and the mean of the total.
-use Rattle.dl_eval.proofs.Common.{ℕ, suc, ◌≡◌, ◌+◌, ◌-◌, ◌^◌, ◌<◌, ◌≤◌, List, length, take, arith, inl, inr, sym, ap, subst, ◌∙◌, Option, None, Some, mul-le-mul_left, pow_pos, cases_lt, Fraction, ◌over◌, ◌+ℚ◌, ◌≤ℚ◌, ◌<ℚ◌, le_trans, lt_or_le, lt_not_le, Iv, over_le_over, low_at, high_at, spread, count_below, Holds, AreDeclarable, One, Point, Mean, partial_sums, total, GridEncloses, AreDeclared, low_cdf, at_least_wider, at_most_wider, cdf_ends, IsFirstAtLeast, Plan, IsValid, Row, total_budget, mean_budget, ask_budget, few_cells, Declares, IsBelow, at_the_end, IsAnswerTo, total_error, IsTotalOf, IsMeanOf, Prints, Loss, add-one, min, MatchOption, le_refl, plus_le_both, plus_le_cancel, sub_le_both, over_plus, mass_low, mass_high, IsGrid, below_more, Below, Cdf, Layer, IsBracketed, high_cdf, IsTight, IsFirstFound, layer_width, Whole, layer_mean_budget, IsBracket, bracket_end, total_cdf, total_layer, total_mean}
+use Rattle.dl_eval.proofs.Common.{ℕ, suc, ◌≡◌, ◌+◌, ◌-◌, ◌^◌, ◌<◌, ◌≤◌, List, length, take, arith, inl, inr, sym, ap, ◌∙◌, Option, None, Some, mul-le-mul_left, pow_pos, cases_lt, Fraction, ◌over◌, ◌+ℚ◌, ◌≤ℚ◌, ◌<ℚ◌, le_trans, lt_or_le, lt_not_le, Iv, over_le_over, low_at, high_at, spread, count_below, Holds, AreDeclarable, One, Point, Mean, partial_sums, total, GridEncloses, AreDeclared, low_cdf, at_least_wider, at_most_wider, cdf_ends, IsFirstAtLeast, Plan, IsValid, Row, total_budget, mean_budget, ask_budget, few_cells, IsBelow, at_the_end, IsAnswerTo, total_error, IsTotalOf, IsMeanOf, Prints, Loss, add-one, min, MatchOption, le_refl, plus_le_both, plus_le_cancel, sub_le_both, over_plus, mass_low, mass_high, IsGrid, below_more, Below, Cdf, Layer, IsBracketed, high_cdf, IsTight, IsFirstFound, layer_width, Whole, layer_mean_budget, IsBracket, bracket_end, total_cdf, total_layer, total_mean}
 use Rattle.dl_grid.proofs.PlaceSums.{low_sum, width_at, high_is, width_within}
 use Rattle.dl_measures.proofs.Sums.{high_mass, low_most, low_high, apart}
 use Rattle.dl_plan.specs.declared.settings.Ask.TheVariants as asks
@@ -11,15 +11,14 @@ use Rattle.dl_eval.proofs.Printed.{declared_ends}
 pub cell_apart : {B : ℕ} (g : List (Iv B)) (x : ℕ) → high_at g x ≤ low_at g x + spread g
 cell_apart g x = omega (arith, high_is g x, width_within (x + 1) g, below_more x (width_at g))
 
-pub point_answer : {B : ℕ} (plan : Plan) (g : List (Iv B)) (d x lo hi : ℕ) (row : Row) → lo ≡ low_at g x
+pub point_answer : {B : ℕ} {plan : Plan} {g : List (Iv B)} {d : ℕ} (x : ℕ) {lo hi : ℕ} {row : Row} → lo ≡ low_at g x
     → hi ≡ high_at g x
     → x < length g
     → IsTotalOf plan g → Prints (2 ^ B) lo hi d row → IsAnswerTo (2 ^ B) plan d (asks.Pmf x) row
 unfolding ask_budget
-point_answer {B} plan g d x lo hi row low high inside t printed =
+point_answer {B} {plan = plan} {g = g} {d = d} x {lo = lo} {hi = hi} {row = row} low high inside t printed =
     declared_ends B plan (Point x) lo hi d (total_budget (2 ^ B) plan) row printed
-    (subst (λ l. Declares plan (Point x) (l over 2 ^ B) (hi over 2 ^ B)) (sym low)
-    (subst (λ h. Declares plan (Point x) (low_at g x over 2 ^ B) (h over 2 ^ B)) (sym high) (t.encloses x inside)))
+    (rw (low, high) (t.encloses x inside))
     (omega (arith, low, high, cell_apart g x, t.narrow))
 
 cdf_low : {B : ℕ} (g : List (Iv B)) (x : ℕ) → mass_low (take (x + 1) g) ≡ count_below (suc x) (low_at g)
@@ -31,14 +30,14 @@ cdf_high g x = sym (high_mass (x + 1) g) ∙ ap (λ n. count_below n (high_at g)
 least_apart : (top a b w lo hi : ℕ) → lo ≡ min a top → hi ≡ min b top → b ≤ a + w → hi ≤ lo + w
 least_apart top a b w lo hi low high h = omega (arith, low, high, h)
 
-pub cdf_answer : {B : ℕ} (plan : Plan) (g : List (Iv B)) (d x lo hi : ℕ) (row : Row)
+pub cdf_answer : {B : ℕ} {plan : Plan} {g : List (Iv B)} {d : ℕ} (x : ℕ) {lo hi : ℕ} {row : Row}
     → lo ≡ min (mass_low (take (x + 1) g)) (2 ^ B) → hi ≡ min (mass_high (take (x + 1) g)) (2 ^ B) → x < length g
     → IsValid plan → IsTotalOf plan g → Prints (2 ^ B) lo hi d row → IsAnswerTo (2 ^ B) plan d (asks.Cdf x) row
 unfolding ask_budget
-cdf_answer {B} plan g d x lo hi row low high inside valid t printed =
-    let ends = holds_told plan valid (Cdf x) (total_cdf x) _ _
-    (cdf_ends (losses_of plan) (2 ^ B) (length g) (low_at g) (high_at g) (losses_units plan valid)
-    (pow_pos B) (encloses_losses plan valid g t) x inside) in
+cdf_answer {B} {plan = plan} {g = g} {d = d} x {lo = lo} {hi = hi} {row = row} low high inside valid t printed =
+    let ends = holds_told valid (Cdf x) (total_cdf x) _ _
+    (cdf_ends (losses_of plan) (2 ^ B) (length g) (low_at g) (high_at g) (losses_units valid)
+    (pow_pos B) (encloses_losses valid t) x inside) in
     let low_sum : count_below (suc x) (low_at g) ≡ mass_low (take (x + 1) g) = sym (cdf_low g x) in
     let high_sum : count_below (suc x) (high_at g) ≡ mass_high (take (x + 1) g) = sym (cdf_high g x) in
     declared_ends B plan (Cdf x) lo hi d (total_budget (2 ^ B) plan) row printed (
@@ -53,11 +52,11 @@ cdf_answer {B} plan g d x lo hi row low high inside valid t printed =
 
 -- ---- means
 
-pub mean_answer : {B : ℕ} (plan : Plan) (d : ℕ) (mean : Iv B) (row : Row) → IsMeanOf plan mean
+pub mean_answer : {B : ℕ} {plan : Plan} {d : ℕ} {mean : Iv B} {row : Row} → IsMeanOf plan mean
     → Prints (2 ^ B) mean.lo mean.hi d row
     → IsAnswerTo (2 ^ B) plan d asks.Mean row
 unfolding ask_budget
-mean_answer {B} plan d mean row m printed = declared_ends B plan Mean mean.lo mean.hi d
+mean_answer {B} {plan = plan} {d = d} {mean = mean} {row = row} m printed = declared_ends B plan Mean mean.lo mean.hi d
     (mean_budget (2 ^ B) plan) row printed m.holds m.narrow
 
 layer_narrow : (S : ℕ) (plan : Plan) (limit : Option ℕ) (attach mean spread : ℕ) → mean ≤ mean_budget S plan
@@ -66,8 +65,8 @@ layer_narrow : (S : ℕ) (plan : Plan) (limit : Option ℕ) (attach mean spread 
 layer_narrow S plan None attach mean spread p q = omega (arith, p, mul-le-mul_left attach q)
 layer_narrow S plan (Some limit) attach mean spread p q = mul-le-mul_left limit q
 
-pub layer_answer : {B : ℕ} (plan : Plan) (g : List (Iv B)) (mean : Iv B) (d attach lo hi : ℕ) (limit : Option ℕ)
-    (row : Row)
+pub layer_answer : {B : ℕ} {plan : Plan} {g : List (Iv B)} {mean : Iv B} {d : ℕ} (attach : ℕ) {lo hi : ℕ} (limit : Option ℕ)
+    {row : Row}
     → ((us : List Loss) → AreDeclared us → GridEncloses g (total us)
     → (limit ≡ None → Holds (partial_sums us Mean) (partial_sums us One) (mean.lo over 2 ^ B) (mean.hi over 2 ^ B))
     → Holds (partial_sums us (Layer limit attach)) (partial_sums us One) (lo over 2 ^ B) (hi over 2 ^ B))
@@ -75,12 +74,11 @@ pub layer_answer : {B : ℕ} (plan : Plan) (g : List (Iv B)) (mean : Iv B) (d at
     → IsValid plan → IsTotalOf plan g → IsMeanOf plan mean → Prints (2 ^ B) lo hi d row
     → IsAnswerTo (2 ^ B) plan d (asks.LayerMean limit attach) row
 unfolding ask_budget
-layer_answer {B} plan g mean d attach lo hi limit row holds width valid t m printed =
+layer_answer {B} {plan} {g} {mean} {d} attach {lo} {hi} limit {row} holds width valid t m printed =
     declared_ends B plan (Layer limit attach) lo hi d (layer_mean_budget (2 ^ B) plan limit attach) row printed
-    (holds_told plan valid (Layer limit attach) (total_layer limit attach) _ _
-    (holds (losses_of plan) (losses_declared plan valid) (encloses_losses plan valid g t)
-    (λ none. holds_back plan valid Mean total_mean _ _ m.holds)))
-    (omega (
+    (holds_told valid (Layer limit attach) (total_layer limit attach) _ _
+    (holds (losses_of plan) (losses_declared valid) (encloses_losses valid t)
+    (λ none. holds_back valid Mean total_mean _ _ m.holds))) (omega (
       arith,
       layer_narrow (2 ^ B) plan limit attach (mean.hi - mean.lo) (spread g)
           (omega (arith, m.narrow)) t.narrow,
@@ -133,23 +131,23 @@ beyond_below {B} us g p d x units encloses inside below narrow =
     ≡ low_cdf (2 ^ B) (low_at g) x +ℚ spread g over 2 ^ B =
     over_plus (count_below (suc x) (low_at g)) (spread g) (2 ^ B) (pow_pos B) in
     let high : high_cdf (2 ^ B) (high_at g) x ≤ℚ low_cdf (2 ^ B) (low_at g) x +ℚ d =
-    le_trans _ _ _ (subst (λ t. high_cdf (2 ^ B) (high_at g) x ≤ℚ t) parts sum)
+    le_trans _ _ _ (rw parts at sum)
     (plus_le_both _ _ _ _ (le_refl (low_cdf (2 ^ B) (low_at g) x)) narrow) in
     (low_cdf (2 ^ B) (low_at g) x +ℚ d, plus_lt _ p d below, at_most_wider _ _ _ _ ends.1 high)
 
 -- where the grid ends before p is reached, the distribution is below p there, or a little above
-pub ends_below : {B : ℕ} (plan : Plan) (g : List (Iv B)) (p : Fraction)
+pub ends_below : {B : ℕ} {plan : Plan} {g : List (Iv B)} {p : Fraction}
     → IsFirstAtLeast (low_cdf (2 ^ B) (low_at g)) p (length g) (length g)
     → IsValid plan → IsTotalOf plan g → IsBelow plan (at_the_end plan) (p +ℚ total_error (2 ^ B) plan)
-ends_below {B} plan g p last valid t =
+ends_below {B} {plan = plan} {g = g} {p = p} last valid t =
     let some = few_cells plan valid in
-    told_of plan valid (λ Q O. Below Q O (p +ℚ total_error (2 ^ B) plan)) (at_the_end plan) (total_cdf (plan.cells - 1))
-    (beyond_below (losses_of plan) g p (total_error (2 ^ B) plan) (plan.cells - 1) (losses_units plan valid)
-    (encloses_losses plan valid g t) (omega (arith, t.cells, some.0))
+    told_of valid (λ Q O. Below Q O (p +ℚ total_error (2 ^ B) plan)) (at_the_end plan) (total_cdf (plan.cells - 1))
+    (beyond_below (losses_of plan) g p (total_error (2 ^ B) plan) (plan.cells - 1) (losses_units valid)
+    (encloses_losses valid t) (omega (arith, t.cells, some.0))
     (last.before (plan.cells - 1) (omega (arith, t.cells, some.0)))
     (over_le_over (spread g) (total_budget (2 ^ B) plan) (2 ^ B) (pow_pos B) t.narrow))
 
-pub is_bracket : {B : ℕ} (plan : Plan) (g : List (Iv B)) (p : Fraction) (lo : ℕ) (hi : Option ℕ) (row : Row)
+pub is_bracket : {B : ℕ} {plan : Plan} {g : List (Iv B)} {p : Fraction} {lo : ℕ} (hi : Option ℕ) {row : Row}
     → row.low ≡ Whole lo → row.high ≡ bracket_end hi
     → IsFirstAtLeast (high_cdf (2 ^ B) (high_at g)) p (length g) lo
     → IsFirstFound (low_cdf (2 ^ B) (low_at g)) p (length g) hi
@@ -157,9 +155,9 @@ pub is_bracket : {B : ℕ} (plan : Plan) (g : List (Iv B)) (p : Fraction) (lo : 
     → ((us : List Loss) → AreDeclarable us → GridEncloses g (total us)
     → IsTight (partial_sums us) (length g) lo hi p (spread g over 2 ^ B))
     → IsGrid g → IsValid plan → IsTotalOf plan g → IsBracket plan p (total_error (2 ^ B) plan) row
-is_bracket {B} plan g p lo hi row is_low is_high first found holds tight grid valid t =
-    let units = losses_units plan valid in
-    let encloses = encloses_losses plan valid g t in
+is_bracket {B} {plan = plan} {g = g} {p = p} {lo = lo} hi is_low is_high first found holds tight grid valid t =
+    let units = losses_units valid in
+    let encloses = encloses_losses valid t in
     let narrow : spread g over 2 ^ B ≤ℚ total_budget (2 ^ B) plan over 2 ^ B =
     over_le_over (spread g) (total_budget (2 ^ B) plan) (2 ^ B) (pow_pos B) t.narrow in
     record {
@@ -168,10 +166,9 @@ is_bracket {B} plan g p lo hi row is_low is_high first found holds tight grid va
       is_low = is_low;
       is_high = is_high;
       inside = bracket_inside g p plan.cells lo hi grid t.cells first found;
-      bracketed = bracket_told plan valid lo hi p (holds (losses_of plan) units encloses);
-      tight = tight_told plan valid plan.cells lo hi p _
+      bracketed = bracket_told valid lo hi p (holds (losses_of plan) units encloses);
+      tight = tight_told valid plan.cells lo hi p _
           (wider_tight (losses_of plan) (length g) plan.cells lo hi p _ _ t.cells narrow
           (tight (losses_of plan) units encloses));
-      beyond = λ none. ends_below plan g p
-          (subst (λ (h : Option ℕ). IsFirstFound (low_cdf (2 ^ B) (low_at g)) p (length g) h) none found) valid t;
+      beyond = λ none. ends_below (rw none at found) valid t;
     }

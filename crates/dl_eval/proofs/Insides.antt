@@ -3,9 +3,9 @@ use Rattle.dl_eval.proofs.Common.{ℕ, ◌≡◌, ◌<◌, ◌≤◌, List, leng
 use Rattle.dl_plan.specs.declared.settings.Ask.TheVariants.{LayerMean}
 
 -- an ask that was read there has what all have
-pub ask_has : (P : Asked → Type 0) (all asks : List Asked) (i : ℕ) (a : Asked) → all ≡ asks → a ≡ get_or all i a
+pub ask_has : (P : Asked → Type 0) {all asks : List Asked} (i : ℕ) {a : Asked} → all ≡ asks → a ≡ get_or all i a
     → i < length all → All P asks → P a
-ask_has P all asks i a same is inside each = subst P (sym (is ∙ ap (λ t. get_or t i a) same))
+ask_has P i {a = a} same is inside each = subst P (sym (is ∙ ap (λ t. get_or t i a) same))
     (each i a (omega (arith, inside, ap (λ t. length t) same)))
 
 -- a layer inside the grid is one of the total that was made

@@ -1,5 +1,5 @@
 -- Lists made one by one from another list.
-use Rattle.dl_eval.proofs.Common.{ℕ, zero, suc, ◌≡◌, ◌+◌, ◌<◌, List, [], ◌∷◌, ◌++◌, length, get_or, arith, inl, inr, sym, ap, subst, subst₂, ◌∙◌, All, Any, zip, cases_lt, get_or_default, length-append, All-nil, All-cons, All-append, get_or_append_left, get_or_push}
+use Rattle.dl_eval.proofs.Common.{ℕ, zero, suc, ◌≡◌, ◌+◌, ◌<◌, List, [], ◌∷◌, ◌++◌, length, get_or, arith, inl, inr, sym, ap, ◌∙◌, All, Any, zip, cases_lt, get_or_default, length-append, All-nil, All-cons, All-append, get_or_append_left, get_or_push}
 
 -- one item more
 pub pushed_length : {R : Type 0} (ys zs : List R) (i : ℕ) (y : R) → length ys ≡ i → zs ≡ ys ++ y ∷ []
@@ -13,13 +13,11 @@ pub each_next : {A R : Type 0} (P : A → R → Type 0) (xs : List A) (ys zs : L
     → x ≡ get_or xs i x → P x y
     → (j : ℕ) (a : A) (r : R) → j < i + 1 → P (get_or xs j a) (get_or zs j r)
 each_next P xs ys zs i x y many before pushed inside is here j a r below = elim (cases_lt j i) [
-  | inl earlier ↦ subst (λ t. P (get_or xs j a) t)
-      (sym (ap (λ t. get_or t j r) pushed ∙ get_or_append_left ys (y ∷ []) r j (omega (arith, earlier, many))))
-      (before j a r earlier)
+  | inl earlier ↦ rw (pushed, get_or_append_left ys (y ∷ []) r j (omega (arith, earlier, many))) (before j a r earlier)
   | inr later ↦
       let last : j ≡ i = omega (arith, later, below) in
       let same : x ≡ get_or xs j a = is ∙ get_or_default xs i x a inside ∙ ap (λ k. get_or xs k a) (sym last) in
-      subst₂ P same (sym (ap (λ t. get_or t j r) pushed ∙ get_or_push ys y r j (omega (arith, last, many)))) here
+      rw (← same, pushed, get_or_push ys y r j (omega (arith, last, many))) here
 ]
 
 -- each has it at its place, and one more
@@ -27,12 +25,10 @@ pub each_pushed : {R : Type 0} (P : ℕ → R → Type 0) (ys zs : List R) (i : 
     → ((k : ℕ) → k < i → P k (get_or ys k d)) → zs ≡ ys ++ y ∷ [] → P i y
     → (k : ℕ) → k < i + 1 → P k (get_or zs k d)
 each_pushed P ys zs i y d many before pushed here k below = elim (cases_lt k i) [
-  | inl earlier ↦ subst (P k) (sym (ap (λ t. get_or t k d) pushed
-      ∙ get_or_append_left ys (y ∷ []) d k (omega (arith, earlier, many)))) (before k earlier)
+  | inl earlier ↦ rw (pushed, get_or_append_left ys (y ∷ []) d k (omega (arith, earlier, many))) (before k earlier)
   | inr later ↦
       let last : k ≡ i = omega (arith, later, below) in
-      subst (P k) (sym (ap (λ t. get_or t k d) pushed ∙ get_or_push ys y d k (omega (arith, last, many))))
-      (subst (λ n. P n y) (sym last) here)
+      rw (pushed, get_or_push ys y d k (omega (arith, last, many)), last) here
 ]
 
 -- one of them has it
@@ -42,8 +38,7 @@ any_here P xs k d inside here = (k, get_or xs k d, inside, get_or_default xs k (
 
 -- all have it, and one more
 pub all_pushed : {R : Type 0} (P : R → Type 0) (ys zs : List R) (y : R) → All P ys → zs ≡ ys ++ y ∷ [] → P y → All P zs
-all_pushed P ys zs y all pushed here = subst (All P) (sym pushed)
-    (All-append P ys (y ∷ []) all (All-cons P y [] here (All-nil P)))
+all_pushed P ys zs y all pushed here = rw pushed (All-append P ys (y ∷ []) all (All-cons P y [] here (All-nil P)))
 
 -- all of them
 pub all_pairs : {A R : Type 0} (P : A → R → Type 0) (xs : List A) (ys : List R) → length ys ≡ length xs

@@ -30,7 +30,7 @@ told_by (Some (suc q)) units factor quantity total =
     fun_ext (λ N. sym (as_one_loss q (poisson_units units) (some units q factor) (are_severities units)
     (greatest_of units) (pooled_past units) quantity total N))
 
-module _ (plan : Plan) (valid : IsValid plan) where
+module _ {plan : Plan} (valid : IsValid plan) where
   pub losses_declared : AreDeclared (losses_of plan)
   losses_declared = declared_losses plan.common plan.units valid.common (plan_declared plan valid)
 
@@ -89,8 +89,8 @@ module _ (plan : Plan) (valid : IsValid plan) where
         told_of (λ Q O. AtLeast Q O (p -ℚ d)) (Cdf x) (total_cdf x) both.1,
       )
 
-  pub encloses_losses : {B : ℕ} (g : List (Iv B)) → IsTotalOf plan g → GridEncloses g (total (losses_of plan))
-  encloses_losses {B} g t y inside =
+  pub encloses_losses : {B : ℕ} {g : List (Iv B)} → IsTotalOf plan g → GridEncloses g (total (losses_of plan))
+  encloses_losses {B} {g = g} t y inside =
       holds_back (Point y) (total_point y) (low_at g y over 2 ^ B) (high_at g y over 2 ^ B) (t.encloses y inside)
 
 -- ---- a plan without a factor
@@ -103,6 +103,6 @@ is_independent plan none = sym (ap (λ o. record {
   common = o;
 }) none)
 
-pub total_alone : {B : ℕ} (plan : Plan) (g : List (Iv B)) → plan.common ≡ None → IsTotalOf plan g
+pub total_alone : {B : ℕ} {plan : Plan} {g : List (Iv B)} → plan.common ≡ None → IsTotalOf plan g
     → IsTotalOf (independent plan) g
-total_alone plan g none t = subst (λ whole. IsTotalOf whole g) (sym (is_independent plan none)) t
+total_alone {plan = plan} {g = g} none t = subst (λ whole. IsTotalOf whole g) (sym (is_independent plan none)) t

@@ -1,5 +1,5 @@
 -- The mean of a total, from those of its units.
-use Rattle.dl_eval.proofs.Common.{ℕ, suc, ◌≡◌, ◌+◌, ◌-◌, ◌*◌, ◌^◌, ◌≤◌, List, [], ◌∷◌, length, map, arith, sym, ap, subst, subst₂, ◌∙◌, Option, None, Some, All, mul-le-mul_left, pow_pos, Fraction, whole, ◌over◌, ◌+ℚ◌, Iv, spread, Holds, One, Mean, partial_sums, CedeLayer, Plan, Clause, IsHorizonOf, horizon, IsValidUnit, IsValid, claims_budget, mean_width, unit_mean_budget, one_horizon, AreUnitMeans, IsMeanOf, loss, loss_of, sum_by, All-tail, over_same, one_pos, over_plus, are_units, no_clause, units_declared, MeanHolds, units_mean, UnitOfPlan, layer_budget, clause_mean, part_width, HoldsClaims, HoldsMean, independent, IsClauseMean}
+use Rattle.dl_eval.proofs.Common.{ℕ, suc, ◌≡◌, ◌+◌, ◌-◌, ◌*◌, ◌^◌, ◌≤◌, List, [], ◌∷◌, length, map, arith, sym, ap, subst, subst₂, ◌∙◌, Option, None, Some, All, mul-le-mul_left, pow_pos, Fraction, whole, ◌over◌, ◌+ℚ◌, Iv, spread, CedeLayer, Plan, Clause, IsHorizonOf, horizon, IsValidUnit, IsValid, claims_budget, mean_width, unit_mean_budget, one_horizon, AreUnitMeans, IsMeanOf, loss_of, sum_by, All-tail, over_same, one_pos, over_plus, are_units, no_clause, units_declared, MeanHolds, units_mean, UnitOfPlan, layer_budget, clause_mean, part_width, HoldsClaims, HoldsMean, independent, IsClauseMean}
 use Rattle.std.proofs.lemmas.List.Sums.{sum_by-cons}
 use Rattle.dl_exact.specs.Sum.{sum_over}
 use Rattle.dl_model.proofs.TotalMeans.{mean_of_total}
@@ -7,11 +7,10 @@ use Rattle.dl_eval.proofs.Losses.{is_independent}
 
 -- ---- of a unit without a clause
 
-pub plain_mean : {B : ℕ} (cells : ℕ) (u : UnitOfPlan) (mean : Iv B) → u.cede ≡ None → HoldsClaims u mean
+pub plain_mean : {B : ℕ} {cells : ℕ} {u : UnitOfPlan} {mean : Iv B} → u.cede ≡ None → HoldsClaims u mean
     → mean.hi ≤ mean.lo + 1 → IsClauseMean cells u mean
-plain_mean {B} cells u mean none holds narrow = record {
-  holds = subst (λ a. Holds (partial_sums (loss a ∷ []) Mean) (partial_sums (loss a ∷ []) One) (mean.lo over 2 ^ B)
-      (mean.hi over 2 ^ B)) (sym (no_clause u none)) holds;
+plain_mean {B} {cells = cells} {u = u} {mean = mean} none holds narrow = record {
+  holds = rw (no_clause u none) holds;
   narrow = omega (arith, narrow, ap (λ c. clause_mean c (claims_budget (2 ^ B) (horizon u.cede cells) u)) none);
 }
 
@@ -38,17 +37,16 @@ clause_rises : (v w : ℕ) (cede : Option Clause) → v ≤ w → mean_width ced
 clause_rises v w None h = omega arith
 clause_rises v w (Some clause) h = omega (arith, layers_rise v w clause.1 h)
 
-pub clause_unit_mean : {B : ℕ} (cells : ℕ) (u : UnitOfPlan) (g : List (Iv B)) (mean : Iv B) → IsValidUnit cells u
+pub clause_unit_mean : {B : ℕ} {cells : ℕ} {u : UnitOfPlan} (g : List (Iv B)) {mean : Iv B} → IsValidUnit cells u
     → HoldsMean u mean → mean.hi - mean.lo ≤ mean_width u.cede (spread g) → IsHorizonOf u.cede cells (length g)
     → spread g ≤ claims_budget (2 ^ B) (length g) u → IsClauseMean cells u mean
-clause_unit_mean {B} cells u g mean valid holds width there narrow = record {
+clause_unit_mean {B} {cells = cells} {u = u} g valid holds width there narrow = record {
   holds = holds;
   narrow =
       omega (
         arith,
         clause_rises (spread g) (claims_budget (2 ^ B) (horizon u.cede cells) u) u.cede
-            (subst (λ n. spread g ≤ claims_budget (2 ^ B) n u)
-            (one_horizon cells cells (length g) u valid there) narrow),
+            (rw (one_horizon cells cells (length g) u valid there) at narrow),
       );
 }
 

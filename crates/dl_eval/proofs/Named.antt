@@ -13,24 +13,24 @@ names_inside units ask = inside (facts_of ask).unit
     inside (Some name) = (λ h. h, λ h. h)
 
 -- the number that was read is that of the ask that was read
-pub named_here : (units : List UnitOfPlan) (slice asks : List Asked) (named : List (Option ℕ)) (i : ℕ) (asked : Asked)
+pub named_here : (units : List UnitOfPlan) {slice asks : List Asked} {named : List (Option ℕ)} (i : ℕ) {asked : Asked}
     → slice ≡ asks → named ≡ named_units units asks → asked ≡ get_or slice i asked → i < length slice
     → get_or named i None ≡ named_unit units asked.ask
-named_here units slice asks named i asked sliced same here inside =
+named_here units {slice = slice} i {asked = asked} sliced same here inside =
     ap (λ t. get_or t i None) (same ∙ ap (named_units units) (sym sliced))
     ∙ get_or-map (λ (a : Asked). named_unit units a.ask) slice i asked None inside
     ∙ ap (λ (a : Asked). named_unit units a.ask) (sym here)
 
 -- as many numbers as asks
-pub numbers_many : (units : List UnitOfPlan) (slice asks : List Asked) (named : List (Option ℕ)) → slice ≡ asks
+pub numbers_many : (units : List UnitOfPlan) {slice asks : List Asked} {named : List (Option ℕ)} → slice ≡ asks
     → named ≡ named_units units asks → length named ≡ length slice
-numbers_many units slice asks named sliced same = ap (λ t. length t) same
+numbers_many units {asks = asks} sliced same = ap (λ t. length t) same
     ∙ length-map asks (λ (a : Asked). named_unit units a.ask) ∙ sym (ap (λ t. length t) sliced)
 
 -- the number of the unit with the name that an ask has
-pub place_named : (units : List UnitOfPlan) (ask : Ask) (name : List ℕ) (unit : Option ℕ) (i : ℕ)
+pub place_named : (units : List UnitOfPlan) (ask : Ask) {name : List ℕ} {unit : Option ℕ} {i : ℕ}
     → (facts_of ask).unit ≡ Some name → unit ≡ named_unit units ask → unit ≡ Some i → i ≡ place_of name units
-place_named units ask name unit i names same is =
+place_named units ask {name = name} {i = i} names same is =
     some_same i (place_of name units) (sym is ∙ same ∙ ap (option_map (λ n. place_of n units)) names)
   where
     some_same : (x y : ℕ) → Some x ≡ Some y → x ≡ y
@@ -46,8 +46,8 @@ names_there units asks named i a same inside =
     (names_inside units (get_or asks i a).ask)
 
 -- each is that of a unit, where each ask names one
-pub are_units : (units : List UnitOfPlan) (asks : List Asked) (named : List (Option ℕ)) → named ≡ named_units units asks
+pub are_units : (units : List UnitOfPlan) (asks : List Asked) {named : List (Option ℕ)} → named ≡ named_units units asks
     → All (λ asked. NamesUnit units asked.ask) asks → AreUnits (length units) named
-are_units units asks named same all = subst (AreUnits (length units)) (sym same)
+are_units units asks same all = subst (AreUnits (length units)) (sym same)
     (All-map (λ unit. IfSome unit (λ i. i < length units)) (λ (asked : Asked). named_unit units asked.ask) asks
     (λ k d inside. (names_inside units (get_or asks k d).ask).1 (all k d inside)))

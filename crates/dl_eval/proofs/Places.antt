@@ -2,57 +2,57 @@
 use Rattle.dl_eval.proofs.Common.{refl, ℕ, ◌≡◌, ◌^◌, ◌<◌, ◌≤◌, List, [], length, get_or, arith, sym, ap, subst, ◌∙◌, Option, None, Some, IfSome, get_or_default, Iv, spread, Plan, IsHorizonOf, IsValidUnit, IsValid, unit_budget, few_cells, unit_horizon, AreUnitGrids, AreOthersOf, AreOthers, most_horizon, UnitOfPlan, IsGridOfUnit}
 use Rattle.dl_eval.proofs.Totals.{each_cells, each_encloses, unit_narrow}
 
-pub read_as : {A : Type 0} (slice xs : List A) (i : ℕ) (x d : A) → slice ≡ xs → x ≡ get_or slice i x → i < length xs
+pub read_as : {A : Type 0} {slice xs : List A} (i : ℕ) {x : A} (d : A) → slice ≡ xs → x ≡ get_or slice i x → i < length xs
     → x ≡ get_or xs i d
-read_as slice xs i x d same is inside = is ∙ ap (λ t. get_or t i x) same ∙ get_or_default xs i x d inside
+read_as {xs = xs} i {x = x} d same is inside = is ∙ ap (λ t. get_or t i x) same ∙ get_or_default xs i x d inside
 
 -- ---- units
 
 -- a unit of a valid plan has a horizon
-pub unit_there : (plan : Plan) (units : List UnitOfPlan) (i : ℕ) (u : UnitOfPlan) → units ≡ plan.units
+pub unit_there : {plan : Plan} {units : List UnitOfPlan} (i : ℕ) {u : UnitOfPlan} → units ≡ plan.units
     → u ≡ get_or units i u → i < length plan.units → IsValid plan
     → IsValidUnit plan.cells u
-unit_there plan units i u same is inside valid = subst (IsValidUnit plan.cells) (sym (is ∙ ap (λ t. get_or t i u) same))
-    (valid.units i u inside)
+unit_there {plan} {units} i {u} same is inside valid =
+    subst (IsValidUnit plan.cells) (sym (is ∙ ap (λ t. get_or t i u) same)) (valid.units i u inside)
 
-pub horizon_there : (plan : Plan) (units : List UnitOfPlan) (i : ℕ) (u : UnitOfPlan) → units ≡ plan.units
+pub horizon_there : {plan : Plan} {units : List UnitOfPlan} (i : ℕ) {u : UnitOfPlan} → units ≡ plan.units
     → u ≡ get_or units i u → i < length plan.units → IsValid plan
     → (k : ℕ) × IsHorizonOf u.cede plan.cells k × (k ≤ most_horizon plan.cells)
-horizon_there plan units i u same is inside valid =
-    unit_horizon plan.cells u (few_cells plan valid).1 (unit_there plan units i u same is inside valid)
+horizon_there {plan = plan} i {u = u} same is inside valid =
+    unit_horizon plan.cells u (few_cells plan valid).1 (unit_there i same is inside valid)
 
 -- ---- grids
 
 -- the spread of a unit's grid is within its budget
-pub spread_within : {B : ℕ} (plan : Plan) (units : List UnitOfPlan) (grids slice : List (List (Iv B))) (u : UnitOfPlan)
-    (g : List (Iv B)) (i budget : ℕ)
+pub spread_within : {B : ℕ} (plan : Plan) {units : List UnitOfPlan} {grids slice : List (List (Iv B))} {u : UnitOfPlan}
+    {g : List (Iv B)} (i : ℕ) {budget : ℕ}
     → units ≡ plan.units → u ≡ get_or units i u → slice ≡ grids → g ≡ get_or slice i g → i < length plan.units
     → AreUnitGrids plan.cells plan.units grids
     → budget ≡ unit_budget (2 ^ B) plan.cells u → spread g ≤ budget
-spread_within {B} plan units grids slice u g i budget same is sliced read inside each value =
+spread_within {B} plan {units = units} {grids = grids} {u = u} i same is sliced read inside each value =
     let v : UnitOfPlan = get_or plan.units i u in
     let e : u ≡ v = is ∙ ap (λ t. get_or t i u) same in
     let narrow : spread (get_or grids i []) ≤ unit_budget (2 ^ B) plan.cells v = (each.each i u inside).narrow in
     omega (
       arith,
-      ap spread (read_as slice grids i g [] sliced read (omega (arith, inside, each.as_many))),
+      ap spread (read_as i [] sliced read (omega (arith, inside, each.as_many))),
       ap (unit_budget (2 ^ B) plan.cells) e,
     )
 
 -- the grid of all other units that was read there
-pub others_there : {B : ℕ} (plan : Plan) (slice others : List (Option (List (Iv B)))) (i : ℕ)
-    (read : Option (List (Iv B))) (g : List (Iv B))
+pub others_there : {B : ℕ} {plan : Plan} {slice others : List (Option (List (Iv B)))} (i : ℕ)
+    {read : Option (List (Iv B))} {g : List (Iv B)}
     → slice ≡ others → read ≡ get_or slice i read → read ≡ Some g → i < length plan.units → AreOthers plan others
     → AreOthersOf plan i g
-others_there {B} plan slice others i read g same is there inside all =
+others_there {B} {plan = plan} i same is there inside all =
     subst (λ (o : Option (List (Iv B))). IfSome o (AreOthersOf plan i))
-    (sym (read_as slice others i read None same is (omega (arith, inside, all.as_many))) ∙ there) (all.each i inside)
+    (sym (read_as i None same is (omega (arith, inside, all.as_many))) ∙ there) (all.each i inside)
 
 -- the grid of a unit that was read there
-pub grid_of_unit : {B : ℕ} (plan : Plan) (grids slice : List (List (Iv B))) (g : List (Iv B)) (i : ℕ) → slice ≡ grids
+pub grid_of_unit : {B : ℕ} {plan : Plan} {grids slice : List (List (Iv B))} {g : List (Iv B)} (i : ℕ) → slice ≡ grids
     → g ≡ get_or slice i g → i < length plan.units → AreUnitGrids plan.cells plan.units grids → IsGridOfUnit plan i g
-grid_of_unit {B} plan grids slice g i same is inside each =
-    subst (IsGridOfUnit plan i) (sym (read_as slice grids i g [] same is (omega (arith, inside, each.as_many)))) (record {
+grid_of_unit {B} {plan = plan} {grids = grids} i same is inside each =
+    subst (IsGridOfUnit plan i) (sym (read_as i [] same is (omega (arith, inside, each.as_many)))) (record {
       cells = each_cells plan.cells plan.units grids (get_or grids i []) i refl inside each;
       encloses = each_encloses plan.cells plan.units grids i inside each;
       narrow = unit_narrow plan.cells plan.units grids i inside each;

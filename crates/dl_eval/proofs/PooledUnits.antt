@@ -20,7 +20,7 @@ unfolding count_budget
 gamma_claims S cells r u v thinned count is =
     ap (count_budget S cells (length u.sev.items) (thinned_mean u)) count ∙ ap (shape_budget S cells r) is
 
-module _ (plan : Plan) (valid : IsValid plan) (r : ℕ) (shape : plan.common ≡ Some r) (u : UnitOfPlan) where
+module _ {plan : Plan} (valid : IsValid plan) {r : ℕ} (shape : plan.common ≡ Some r) (u : UnitOfPlan) where
   abbrev shares : SharesFactor plan r
   shares = record { shape = shape; valid = valid }
 
@@ -34,10 +34,10 @@ module _ (plan : Plan) (valid : IsValid plan) (r : ℕ) (shape : plan.common ≡
       (ap (λ f. expected_count f *ℚ (whole 1 -ℚ probability_of u.sev 0)) is.count
       ∙ raised_thinned plan.units (has_factor plan r shares).some u is.severity r (has_factor plan r shares).some_shape)
 
-  pub raised_is_grid : {B : ℕ} → IsRaised r plan.units u → (g : List (Iv B)) → length g ≡ plan.cells
+  pub raised_is_grid : {B : ℕ} → IsRaised r plan.units u → {g : List (Iv B)} → length g ≡ plan.cells
       → GridEncloses g (compound_of u.freq u.sev) → spread g ≤ claims_budget (2 ^ B) plan.cells u
       → IsRaisedGridOf r plan g
-  raised_is_grid {B} is g cells encloses narrow = record {
+  raised_is_grid {B} is {g = g} cells encloses narrow = record {
     cells = cells;
     unit = u;
     raised = is;
@@ -64,7 +64,7 @@ module _ (plan : Plan) (valid : IsValid plan) (r : ℕ) (shape : plan.common ≡
         (total (loss (aggregate_of u) ∷ []))
         (λ x N. sym (total_alone (loss (aggregate_of u)) of_loss x N))
         (λ N. sym (total_alone_all (loss (aggregate_of u)) of_loss N))
-        (plain_encloses g plan.cells u pooled_unit_valid is.clause encloses)
+        (plain_encloses g pooled_unit_valid is.clause encloses)
 
     pooled_narrow : (S : ℕ) → claims_budget S plan.cells u ≡ total_budget S plan
     pooled_narrow S =
@@ -73,9 +73,9 @@ module _ (plan : Plan) (valid : IsValid plan) (r : ℕ) (shape : plan.common ≡
         ∙ pooled_thinned plan.units (has_factor plan r shares).some u is.severity)
         ∙ ap (λ o. total_by o S plan.cells plan.units) (sym shape)
 
-    pub pooled_total : {B : ℕ} (g : List (Iv B)) → length g ≡ plan.cells
+    pub pooled_total : {B : ℕ} {g : List (Iv B)} → length g ≡ plan.cells
         → GridEncloses g (compound_of u.freq u.sev) → spread g ≤ claims_budget (2 ^ B) plan.cells u → IsTotalOf plan g
-    pooled_total {B} g cells encloses narrow = record {
+    pooled_total {B} {g = g} cells encloses narrow = record {
       cells = cells;
       encloses = λ x inside. subst₂ (λ Q O. Holds Q O (low_at g x over 2 ^ B) (high_at g x over 2 ^ B))
           (declares (Point x) (total_point x)) (declares One (λ ys. refl))
@@ -83,8 +83,8 @@ module _ (plan : Plan) (valid : IsValid plan) (r : ℕ) (shape : plan.common ≡
       narrow = subst (λ b. spread g ≤ b) (pooled_narrow (2 ^ B)) narrow;
     }
 
-    pub pooled_is_mean : {B : ℕ} (mean : Iv B) → HoldsClaims u mean → mean.hi ≤ mean.lo + 1 → IsMeanOf plan mean
-    pooled_is_mean {B} mean holds narrow = record {
+    pub pooled_is_mean : {B : ℕ} {mean : Iv B} → HoldsClaims u mean → mean.hi ≤ mean.lo + 1 → IsMeanOf plan mean
+    pooled_is_mean {B} {mean = mean} holds narrow = record {
       holds = subst₂ (λ Q O. Holds Q O (mean.lo over 2 ^ B) (mean.hi over 2 ^ B)) (declares Mean total_mean)
           (declares One (λ ys. refl)) (subst (λ us. HoldsOf us) one_loss
           (subst (λ a. HoldsOf (loss a ∷ [])) (sym (no_clause u is.clause)) holds));
@@ -96,13 +96,13 @@ module _ (plan : Plan) (valid : IsValid plan) (r : ℕ) (shape : plan.common ≡
 
 -- ---- joint means
 
-pub raised_there : {B : ℕ} (plan : Plan) (r : ℕ) (raised : Option (List (Iv B))) (g : List (Iv B)) → raised ≡ Some g
+pub raised_there : {B : ℕ} (plan : Plan) (r : ℕ) {raised : Option (List (Iv B))} {g : List (Iv B)} → raised ≡ Some g
     → IfSome raised (IsRaisedGridOf r plan) → IsRaisedGridOf r plan g
-raised_there plan r raised g is all = subst (λ o. IfSome o (IsRaisedGridOf r plan)) is all
+raised_there plan r is all = subst (λ o. IfSome o (IsRaisedGridOf r plan)) is all
 
-pub unit_poisson : (plan : Plan) → IsValid plan → (r : ℕ) → plan.common ≡ Some r → (i : ℕ) (u : UnitOfPlan)
+pub unit_poisson : {plan : Plan} → IsValid plan → {r : ℕ} → plan.common ≡ Some r → (i : ℕ) {u : UnitOfPlan}
     → i < length plan.units → u ≡ get_or plan.units i u → IsPoisson u.freq
-unit_poisson plan valid r shape i u inside is =
+unit_poisson {plan = plan} valid {r = r} shape i {u = u} inside is =
     subst (λ (w : UnitOfPlan). IsPoisson w.freq) (sym is)
     ((has_factor plan r (record { shape = shape; valid = valid })).can_share i u inside).count
 
@@ -111,12 +111,12 @@ joint_narrow : (K n E lo hi claims most : ℕ) → n ≡ K → claims ≡ most �
 joint_narrow K n E lo hi claims most cells same order width =
     omega (arith, order, subst₂ (λ k c. hi - lo ≤ (k * E + 2) * c + 2) cells same width)
 
-pub pooled_is_joint : {B : ℕ} (plan : Plan) → IsValid plan → (r : ℕ) → plan.common ≡ Some r → (g : List (Iv B))
-    → IsRaisedGridOf r plan g → (i at : ℕ) (u : UnitOfPlan) (mean : Iv B) → i < length plan.units
+pub pooled_is_joint : {B : ℕ} {plan : Plan} → IsValid plan → {r : ℕ} → plan.common ≡ Some r → {g : List (Iv B)}
+    → IsRaisedGridOf r plan g → {i at : ℕ} {u : UnitOfPlan} {mean : Iv B} → i < length plan.units
     → u ≡ get_or plan.units i u → Declares plan (Joint i at) (mean.lo over 2 ^ B) (mean.hi over 2 ^ B)
     → ((D : ℕ) → spread g ≤ D → mean.hi - mean.lo ≤ (length g * D + 2) * up (thinned_mean u) + 2)
     → IsJointOf plan i at mean
-pooled_is_joint {B} plan valid r shape g raised i at u mean inside is holds width = record {
+pooled_is_joint {B} {plan = plan} valid {r = r} shape {g = g} raised {i = i} {u = u} {mean = mean} inside is holds width = record {
   holds = holds;
   narrow = subst (λ b. mean.hi ≤ mean.lo + b) (ap (λ o. joint_by o (2 ^ B) plan i) (sym shape))
       (joint_narrow plan.cells (length g) (raised_budget (2 ^ B) plan.cells r plan.units) mean.lo mean.hi

@@ -1,5 +1,5 @@
 -- The answer to an ask for a price.
-use Rattle.dl_eval.proofs.Common.{ℕ, ◌≡◌, ◌-◌, ◌^◌, ◌≤◌, List, length, get_or, arith, subst, Any, None, ◌over◌, ◌+ℚ◌, Iv, low_at, spread, Holds, One, Mean, partial_sums, total, GridEncloses, AreDeclared, low_cdf, at_least_wider, Plan, IsValid, Row, total_budget, mean_budget, ask_budget, in_digits, IsBelow, at_the_end, IsAnswerTo, total_error, IsTotalOf, IsMeanOf, Prints, Loss, ◌⊎◌, AreTermsOf, AreQuantiles, price_width, IsFirstFound, PricedTerm, Price, AtLeast, price_budget, IsPriceBetween, IsPrice, IsBeyondSome, total_mean, total_price}
+use Rattle.dl_eval.proofs.Common.{ℕ, ◌≡◌, ◌-◌, ◌^◌, ◌≤◌, List, length, get_or, arith, Any, None, ◌over◌, ◌+ℚ◌, Iv, low_at, spread, Holds, One, Mean, partial_sums, total, GridEncloses, AreDeclared, low_cdf, at_least_wider, Plan, IsValid, Row, total_budget, mean_budget, ask_budget, in_digits, IsBelow, at_the_end, IsAnswerTo, total_error, IsTotalOf, IsMeanOf, Prints, Loss, ◌⊎◌, AreTermsOf, AreQuantiles, price_width, IsFirstFound, PricedTerm, Price, AtLeast, price_budget, IsPriceBetween, IsPrice, IsBeyondSome, total_mean, total_price}
 use Rattle.dl_plan.specs.declared.settings.Ask.TheVariants as asks
 use Rattle.dl_plan.specs.declared.settings.Term.{Term}
 use Rattle.dl_eval.proofs.Lists.{any_here}
@@ -18,7 +18,7 @@ price_widens plan terms l m h k low high b = record {
 abbrev pub IsPastIn : {B : ℕ} → List (Iv B) → Term → Type 0
 IsPastIn {B} g term = IsFirstFound (low_cdf (2 ^ B) (low_at g)) term.p (length g) None
 
-module _ {B : ℕ} (plan : Plan) (g : List (Iv B)) (mean : Iv B) (terms : List Term) (d lo hi : ℕ) (row : Row)
+module _ {B : ℕ} {plan : Plan} {g : List (Iv B)} {mean : Iv B} (terms : List Term) {d lo hi : ℕ} {row : Row}
     (valid : IsValid plan) (t : IsTotalOf plan g) (m : IsMeanOf plan mean) where
   pub price_answer : ¬ Any (IsPastIn g) terms
       → ((us : List Loss) (priced : List PricedTerm) → AreDeclared us → GridEncloses g (total us)
@@ -34,37 +34,35 @@ module _ {B : ℕ} (plan : Plan) (g : List (Iv B)) (mean : Iv B) (terms : List T
       → IsPrice plan terms d (in_digits (2 ^ B) (price_budget (2 ^ B) plan terms) d) row
   price_answer inside holds least width printed = record {
     reached = λ i default here.
-        tail_reached plan g (get_or terms i default).p
+        tail_reached (get_or terms i default).p
         (λ past. inside (any_here (IsPastIn g) terms i default here past)) valid t;
     ends = are_ends B (IsPriceBetween plan terms) lo hi d (price_budget (2 ^ B) plan terms) row
         (price_widens plan terms) printed (record {
-          holds = λ priced are is. holds_told plan valid (Price priced) (total_price priced) _ _
-              (holds (losses_of plan) priced (losses_declared plan valid) (encloses_losses plan valid g t) mean_back are
-              (quantiles_back plan valid priced is));
-          least = λ priced are. told_of plan valid (λ Q O. AtLeast Q O (lo over 2 ^ B)) (Price priced) (total_price priced)
-              (least (losses_of plan) priced (losses_declared plan valid) (encloses_losses plan valid g t) mean_back are);
+          holds = λ priced are is. holds_told valid (Price priced) (total_price priced) _ _
+              (holds (losses_of plan) priced (losses_declared valid) (encloses_losses valid t) mean_back are
+              (quantiles_back valid priced is));
+          least = λ priced are. told_of valid (λ Q O. AtLeast Q O (lo over 2 ^ B)) (Price priced) (total_price priced)
+              (least (losses_of plan) priced (losses_declared valid) (encloses_losses valid t) mean_back are);
         }) (omega (arith, wide));
   }
     where
       mean_back : Holds (partial_sums (losses_of plan) Mean) (partial_sums (losses_of plan) One) (mean.lo over 2 ^ B)
           (mean.hi over 2 ^ B)
-      mean_back = holds_back plan valid Mean total_mean _ _ m.holds
+      mean_back = holds_back valid Mean total_mean _ _ m.holds
 
       wide : hi - lo ≤ price_budget (2 ^ B) plan terms
-      wide = subst (λ n. hi - lo ≤ price_width terms (mean_budget (2 ^ B) plan) n (total_budget (2 ^ B) plan)) t.cells
+      wide = rw t.cells at
           (width (mean_budget (2 ^ B) plan) (total_budget (2 ^ B) plan) (omega (arith, m.narrow)) t.narrow)
 
 -- where the quantile of some term lies past the grid, the distribution is below its probability, or a little above
-pub price_past : {B : ℕ} (plan : Plan) (g : List (Iv B)) (terms : List Term) → IsValid plan → IsTotalOf plan g
+pub price_past : {B : ℕ} {plan : Plan} {g : List (Iv B)} (terms : List Term) → IsValid plan → IsTotalOf plan g
     → Any (IsPastIn g) terms
     → Any (λ term. IsBelow plan (at_the_end plan) (term.p +ℚ total_error (2 ^ B) plan)) terms
-price_past plan g terms valid t (k, term, inside, is, past) =
-    (k, term, inside, is, ends_below plan g term.p past valid t)
+price_past terms valid t (k, term, inside, is, past) =
+    (k, term, inside, is, ends_below past valid t)
 
-pub price_asked : (S : ℕ) (plan : Plan) (slice terms : List Term) (d : ℕ) (row : Row) → slice ≡ terms
+pub price_asked : (S : ℕ) {plan : Plan} {slice terms : List Term} {d : ℕ} {row : Row} → slice ≡ terms
     → IsPrice plan slice d (in_digits S (price_budget S plan slice) d) row ⊎ IsBeyondSome plan slice (total_error S plan) row
     → IsAnswerTo S plan d (asks.Price terms) row
 unfolding ask_budget
-price_asked S plan slice terms d row same told =
-    subst (λ ts. IsPrice plan ts d (in_digits S (price_budget S plan ts) d) row
-    ⊎ IsBeyondSome plan ts (total_error S plan) row) same told
+price_asked S same told = rw (← same) told

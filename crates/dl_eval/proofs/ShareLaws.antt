@@ -13,14 +13,14 @@ joint_width S K u v x y g pos same p q =
     subst (λ n. n * convolution_spread S n u v ≤ K * convolution_spread S K x y) (sym same)
     (mul-le-mul_left K (cv_rises S K K u x v y pos (omega arith) p q))
 
-pub is_joint : {B : ℕ} (plan : Plan) (unit others : List (Iv B)) (i at : ℕ) (mean : Iv B)
+pub is_joint : {B : ℕ} {plan : Plan} {unit others : List (Iv B)} {i at : ℕ} {mean : Iv B}
     → ((us : List Loss) (j : ℕ) → AreDeclarable us → j < length us → GridEncloses unit (unit_of us j)
     → GridEncloses others (total (without us j))
     → Holds (partial_sums us (Joint j at)) (partial_sums us One) (mean.lo over 2 ^ B) (mean.hi over 2 ^ B))
     → mean.hi - mean.lo ≤ length unit * convolution_spread (2 ^ B) (length unit) (spread unit) (spread others)
     → IsGridOfUnit plan i unit → i < length plan.units → IsValid plan → AreOthersOf plan i others
     → plan.common ≡ None → IsJointOf plan i at mean
-is_joint {B} plan unit others i at mean holds width own inside valid rest none =
+is_joint {B} {plan = plan} {unit = unit} {others = others} {i = i} {at = at} {mean = mean} holds width own inside valid rest none =
     subst (λ whole. IsJointOf whole i at mean) (is_independent plan none) alone
   where
     wide : length unit * convolution_spread (2 ^ B) (length unit) (spread unit) (spread others)
@@ -37,13 +37,13 @@ is_joint {B} plan unit others i at mean holds width own inside valid rest none =
     }
 
 -- a unit has at most the whole of a total
-pub is_below : {B : ℕ} (plan : Plan) (unit others : List (Iv B)) (i at low : ℕ)
+pub is_below : {B : ℕ} {plan : Plan} {unit others : List (Iv B)} {i : ℕ} (at low : ℕ)
     → ((us : List Loss) (j h : ℕ) → AreDeclared us → j < length us → GridEncloses unit (unit_of us j)
     → GridEncloses others (total (without us j))
     → AtMost (partial_sums us (Point at)) (partial_sums us One) (h over 2 ^ B) → low ≤ at * h)
     → IsGridOfUnit plan i unit → i < length plan.units → IsValid plan → AreOthersOf plan i others
     → plan.common ≡ None → (h : ℕ) → IsAtMost plan (Point at) (h over 2 ^ B) → low ≤ at * h
-is_below {B} plan unit others i at low below own inside valid rest none h most =
+is_below {B} {plan = plan} {i = i} at low below own inside valid rest none h most =
     below (aggregates_of plan) i h (plan_declared plan valid)
     (omega (arith, inside, length-map plan.units loss_of)) own.encloses rest.encloses
     (subst (λ whole. IsAtMost whole (Point at) (h over 2 ^ B)) (sym (is_independent plan none)) most)
@@ -61,13 +61,12 @@ share_width K D J at low high l h w inside cell joint width =
     narrow_cell : (low high D : ℕ) → high ≤ low + D → high - low ≤ D
     narrow_cell low high D cell = omega (arith, cell)
 
-pub cell_holds : {B : ℕ} (plan : Plan) (g : List (Iv B)) (at low high : ℕ) → low ≡ low_at g at → high ≡ high_at g at
+pub cell_holds : {B : ℕ} {plan : Plan} {g : List (Iv B)} (at : ℕ) {low high : ℕ} → low ≡ low_at g at → high ≡ high_at g at
     → at < plan.cells → IsTotalOf plan g
     → Declares plan (Point at) (low over 2 ^ B) (high over 2 ^ B)
-cell_holds plan g at low high of_low of_high inside t =
-    rw (of_low, of_high) (t.encloses at (omega (arith, inside, t.cells)))
+cell_holds at of_low of_high inside t = rw (of_low, of_high) (t.encloses at (omega (arith, inside, t.cells)))
 
-pub share_answer : {B : ℕ} (plan : Plan) (g : List (Iv B)) (joint : Iv B) (i at low high d lo hi : ℕ) (row : Row)
+pub share_answer : {B : ℕ} {plan : Plan} {g : List (Iv B)} {joint : Iv B} {i at low high d lo hi : ℕ} {row : Row}
     → low ≡ low_at g at → high ≡ high_at g at
     → ((Q R O : Series) → Holds Q O (joint.lo over 2 ^ B) (joint.hi over 2 ^ B)
     → Holds R O (low over 2 ^ B) (high over 2 ^ B)
@@ -76,9 +75,10 @@ pub share_answer : {B : ℕ} (plan : Plan) (g : List (Iv B)) (joint : Iv B) (i a
     → ((h : ℕ) → IsAtMost plan (Point at) (h over 2 ^ B) → joint.lo ≤ at * h)
     → at < plan.cells → IsTotalOf plan g → IsJointOf plan i at joint → Prints (2 ^ B) lo hi d row
     → IsShareOfUnit plan i at d (in_digits (2 ^ B) (kappa_budget (2 ^ B) plan i) d) row
-share_answer {B} plan g joint i at low high d lo hi row of_low of_high divided width below inside t j printed =
+share_answer {B} {plan} {g} {joint} {i} {at} {low} {high} {d} {lo} {hi} {row} of_low of_high divided width below inside t j
+    printed =
     let cell : Declares plan (Point at) (low over 2 ^ B) (high over 2 ^ B) =
-    cell_holds plan g at low high of_low of_high inside t in
+    cell_holds at of_low of_high inside t in
     let both = divided (declared plan (Joint i at)) (declared plan (Point at)) (declared plan One) j.holds cell in
     let apart : high ≤ low + total_budget (2 ^ B) plan = omega (arith, of_low, of_high, cell_apart g at, t.narrow) in
     record {
@@ -96,12 +96,12 @@ share_answer {B} plan g joint i at low high d lo hi row of_low of_high divided w
 
 -- ---- totals that are too rare
 
-pub rare_answer : {B : ℕ} (plan : Plan) (g : List (Iv B)) (at low high : ℕ) → low ≡ low_at g at → high ≡ high_at g at
+pub rare_answer : {B : ℕ} {plan : Plan} {g : List (Iv B)} (at : ℕ) {low high : ℕ} → low ≡ low_at g at → high ≡ high_at g at
     → low * 2 ^ 16 < 2 ^ B
     → at < plan.cells → IsTotalOf plan g → IsBelow plan (Point at) (least_likely +ℚ total_error (2 ^ B) plan)
-rare_answer {B} plan g at low high of_low of_high rare inside t =
+rare_answer {B} {plan = plan} {g = g} at {low = low} {high = high} of_low of_high rare inside t =
     let D : ℕ = total_budget (2 ^ B) plan in
-    let cell = cell_holds plan g at low high of_low of_high inside t in
+    let cell = cell_holds at of_low of_high inside t in
     let sum : high over 2 ^ B ≤ℚ (low + D) over 2 ^ B =
     over_le_over high (low + D) (2 ^ B) (pow_pos B) (omega (arith, of_low, of_high, cell_apart g at, t.narrow)) in
     let less : low over 2 ^ B <ℚ 1 over 2 ^ 16 = over_lt low (2 ^ B) 1 (2 ^ 16) (pow_pos B) (omega arith)
@@ -113,26 +113,24 @@ rare_answer {B} plan g at low high of_low of_high rare inside t =
 
 -- ---- what is asked
 
-pub joint_asked : {B : ℕ} (plan : Plan) (unit : List ℕ) (at i d : ℕ) (mean : Iv B) (row : Row)
+pub joint_asked : {B : ℕ} {plan : Plan} (unit : List ℕ) {at i d : ℕ} {mean : Iv B} {row : Row}
     → i ≡ place_of unit plan.units
     → IsJointOf plan i at mean
     → Prints (2 ^ B) mean.lo mean.hi d row → IsAnswerTo (2 ^ B) plan d (asks.Joint unit at) row
 unfolding ask_budget
-joint_asked {B} plan unit at i d mean row place joint printed =
-    let there : IsJointOf plan (place_of unit plan.units) at mean = subst (λ n. IsJointOf plan n at mean) place joint in
+joint_asked {B} {plan = plan} unit {at = at} {d = d} {mean = mean} {row = row} place joint printed =
+    let there = rw place at joint in
     declared_ends B plan (Joint (place_of unit plan.units) at) mean.lo mean.hi d
     (joint_budget (2 ^ B) plan (place_of unit plan.units)) row printed there.holds there.narrow
 
-pub share_asked : (S : ℕ) (plan : Plan) (unit : List ℕ) (at i d : ℕ) (row : Row) → i ≡ place_of unit plan.units
+pub share_asked : (S : ℕ) {plan : Plan} (unit : List ℕ) (at : ℕ) {i d : ℕ} {row : Row} → i ≡ place_of unit plan.units
     → IsShareOfUnit plan i at d (in_digits S (kappa_budget S plan i) d) row ⊎ IsTooRare plan at (total_error S plan) row
     → IsAnswerTo S plan d (asks.Kappa unit at) row
 unfolding ask_budget
-share_asked S plan unit at i d row place told =
-    subst (λ n. IsShareOfUnit plan n at d (in_digits S (kappa_budget S plan n) d) row
-    ⊎ IsTooRare plan at (total_error S plan) row) place told
+share_asked S unit at place told = rw (← place) told
 
-pub tail_asked : (S : ℕ) (plan : Plan) (p : Fraction) (d : ℕ) (row : Row)
+pub tail_asked : (S : ℕ) {plan : Plan} {p : Fraction} {d : ℕ} {row : Row}
     → IsTailMean plan p d (in_digits S (tail_budget S plan p) d) row ⊎ IsBeyond plan p (total_error S plan) row
     → IsAnswerTo S plan d (asks.Tail p) row
 unfolding ask_budget
-tail_asked S plan p d row told = told
+tail_asked S told = told

@@ -11,7 +11,7 @@ use Rattle.dl_eval.proofs.Tails.{tail_reached}
 -- ---- the mean of a unit
 
 -- a mean of the unit alone is one of it beside the others
-pub mean_beside : {B : ℕ} (plan : Plan) (means : List (Iv B)) (mean : Iv B) (i : ℕ)
+pub mean_beside : {B : ℕ} {plan : Plan} {means : List (Iv B)} {mean : Iv B} (i : ℕ)
     → ((us : List Loss) (j : ℕ) (u : Loss) (l h : Fraction) → AreDeclarable us → j < length us
     → Holds (partial_sums (get_or us j u ∷ []) Mean) (partial_sums (get_or us j u ∷ []) One) l h
     → Holds (unit_mean us j) (partial_sums us One) l h)
@@ -19,7 +19,7 @@ pub mean_beside : {B : ℕ} (plan : Plan) (means : List (Iv B)) (mean : Iv B) (i
     → AreUnitMeans plan.cells plan.units means
     → Holds (unit_mean (aggregates_of plan) i) (partial_sums (aggregates_of plan) One) (mean.lo over 2 ^ B)
     (mean.hi over 2 ^ B)
-mean_beside {B} plan means mean i beside u is inside valid each =
+mean_beside {B} {plan = plan} {mean = mean} i beside u is inside valid each =
     beside (aggregates_of plan) i (loss_of u) (mean.lo over 2 ^ B) (mean.hi over 2 ^ B) (plan_units plan valid)
     (omega (arith, inside, length-map plan.units loss_of)) alone
   where
@@ -33,10 +33,10 @@ mean_beside {B} plan means mean i beside u is inside valid each =
     alone = subst (λ a. HoldsOf a mean) (sym (get_or-map loss_of plan.units i u (loss_of u) inside)) here
 
 -- it is within the budget of that unit
-pub mean_within : {B : ℕ} (plan : Plan) (means : List (Iv B)) (mean : Iv B) (i : ℕ) (u : UnitOfPlan)
+pub mean_within : {B : ℕ} (plan : Plan) {means : List (Iv B)} {mean : Iv B} (i : ℕ) (u : UnitOfPlan)
     → mean ≡ get_or means i mean → i < length plan.units → AreUnitMeans plan.cells plan.units means
     → mean.hi - mean.lo ≤ get_or (map (unit_mean_budget (2 ^ B) plan.cells) plan.units) i 0
-mean_within {B} plan means mean i u is inside each =
+mean_within {B} plan {mean = mean} i u is inside each =
     let narrow = (each.each i u mean inside).narrow in
     let here : unit_mean_budget (2 ^ B) plan.cells (get_or plan.units i u)
     ≡ get_or (map (unit_mean_budget (2 ^ B) plan.cells) plan.units) i 0 =
@@ -55,7 +55,7 @@ some_unit : (us : List UnitOfPlan) (i : ℕ) → i < length us → UnitOfPlan
 some_unit [] i inside = absurd (omega (arith, inside))
 some_unit (u ∷ us) i inside = u
 
-pub tail_share : {B : ℕ} (plan : Plan) (means : List (Iv B)) (unit others g : List (Iv B)) (mean : Iv B) (i : ℕ)
+pub tail_share : {B : ℕ} {plan : Plan} {means : List (Iv B)} {unit others g : List (Iv B)} {mean : Iv B} {i : ℕ}
     (p : Fraction) (result : Option (Iv B))
     → ((us : List Loss) (j : ℕ) → AreDeclared us → j < length us → GridEncloses unit (unit_of us j)
     → GridEncloses others (total (without us j)) → GridEncloses g (total us)
@@ -70,7 +70,7 @@ pub tail_share : {B : ℕ} (plan : Plan) (means : List (Iv B)) (unit others g : 
     → IsGridOfUnit plan i unit → mean ≡ get_or means i mean → i < length plan.units → IsValid plan
     → AreUnitMeans plan.cells plan.units means → AreOthersOf plan i others → IsTotalOf plan g → plan.common ≡ None
     → IfSome result (IsTailShareOf plan i p)
-tail_share {B} plan means unit others g mean i p result holds width beside own read inside valid each rest t none =
+tail_share {B} {plan = plan} {g = g} {i = i} p result holds width beside own read inside valid each rest t none =
     subst (λ whole. IfSome result (IsTailShareOf whole i p)) (is_independent plan none)
     (if_some_two result _ _ _ (λ r held narrow. record {
       holds = held;
@@ -79,12 +79,11 @@ tail_share {B} plan means unit others g mean i p result holds width beside own r
         r.ordered,
         subst (λ n. r.hi - r.lo ≤ cotail_width p (2 ^ B) of_mean n spreads (others_budget (2 ^ B) plan i) most)
             own.cells (narrow of_mean spreads (others_budget (2 ^ B) plan i) most
-            (mean_within plan means mean i u read inside each) own.narrow rest.narrow (total_alone plan g none t).narrow),
+            (mean_within plan i u read inside each) own.narrow rest.narrow (total_alone none t).narrow),
       );
     })
     (holds (aggregates_of plan) i (plan_declared plan valid) (omega (arith, inside, length-map plan.units loss_of))
-    own.encloses rest.encloses (total_alone plan g none t).encloses
-    (mean_beside plan means mean i beside u read inside valid each)) width)
+    own.encloses rest.encloses (total_alone none t).encloses (mean_beside i beside u read inside valid each)) width)
   where
     u : UnitOfPlan
     u = some_unit plan.units i inside
@@ -99,11 +98,11 @@ tail_share {B} plan means unit others g mean i p result holds width beside own r
     most = total_budget (2 ^ B) (independent plan)
 
 -- where there is a share, the distribution reaches p inside the grid
-pub share_reached : {B : ℕ} (plan : Plan) (g : List (Iv B)) (p : Fraction) (result : Option (Iv B))
+pub share_reached : {B : ℕ} {plan : Plan} {g : List (Iv B)} (p : Fraction) (result : Option (Iv B))
     → (IsPast g p → IsNone result) → IsValid plan → IsTotalOf plan g
     → IfSome result (λ r. IsAtLeast plan (at_the_end plan) p)
-share_reached plan g p None past valid t = tt
-share_reached plan g p (Some r) past valid t = tail_reached plan g p (λ none. let some = past none in cc) valid t
+share_reached p None past valid t = tt
+share_reached p (Some r) past valid t = tail_reached p (λ none. let some = past none in cc) valid t
 
 -- ---- no share
 
@@ -124,17 +123,17 @@ absent_wider plan K L p d e same wider why = elim why [
   })
 ]
 
-pub share_absent : {B : ℕ} (plan : Plan) (g : List (Iv B)) (p : Fraction) (result : Option (Iv B)) (x : ℕ)
+pub share_absent : {B : ℕ} {plan : Plan} {g : List (Iv B)} (p : Fraction) (result : Option (Iv B)) (x : ℕ)
     → ((us : List Loss) (y : ℕ) → AreDeclared us → GridEncloses g (total us) → IsNone result
     → IsFirstFound (low_cdf (2 ^ B) (low_at g)) p (length g) (Some y)
     → MayBeAbsent (partial_sums us) (length g) p (spread g over 2 ^ B))
     → IsNone result → IsFirstFound (low_cdf (2 ^ B) (low_at g)) p plan.cells (Some x) → IsValid plan → IsTotalOf plan g
     → plan.common ≡ None → MayBeAbsent (declared plan) plan.cells p (total_error (2 ^ B) plan)
-share_absent {B} plan g p result x absent none found valid t alone =
+share_absent {B} {plan = plan} {g = g} p result x absent none found valid t alone =
     absent_wider plan (length g) plan.cells p _ _ t.cells
     (over_le_over (spread g) (total_budget (2 ^ B) plan) (2 ^ B) (pow_pos B) t.narrow)
     (subst (λ whole. MayBeAbsent (declared whole) (length g) p (spread g over 2 ^ B)) (is_independent plan alone)
-    (absent (aggregates_of plan) x (plan_declared plan valid) (total_alone plan g alone t).encloses none
+    (absent (aggregates_of plan) x (plan_declared plan valid) (total_alone alone t).encloses none
     (subst (λ n. IsFirstFound (low_cdf (2 ^ B) (low_at g)) p n (Some x)) (sym t.cells) found)))
 
 -- ---- what is told
@@ -145,21 +144,19 @@ share_widens plan i p l m h k low high holds = λ q is. record {
   at_least = λ u le part. at_least_wider _ _ _ _ ((holds q is).at_least u le part) low;
 }
 
-pub share_told : {B : ℕ} (plan : Plan) (i d : ℕ) (p : Fraction) (share : Iv B) (row : Row) → IsTailShareOf plan i p share
+pub share_told : {B : ℕ} {plan : Plan} {i d : ℕ} {p : Fraction} {share : Iv B} {row : Row} → IsTailShareOf plan i p share
     → IsAtLeast plan (at_the_end plan) p → Prints (2 ^ B) share.lo share.hi d row
     → IsTailShare plan i p d (in_digits (2 ^ B) (cotail_budget (2 ^ B) plan i p) d) row
-share_told {B} plan i d p share row s reached printed = record {
+share_told {B} {plan = plan} {i = i} {d = d} {p = p} {share = share} {row = row} s reached printed = record {
   reached = reached;
   ends = are_ends B (DeclaresShare plan i p) share.lo share.hi d (cotail_budget (2 ^ B) plan i p) row
       (share_widens plan i p) printed s.holds s.narrow;
 }
 
-pub tail_share_asked : (S : ℕ) (plan : Plan) (unit : List ℕ) (i d : ℕ) (p : Fraction) (row : Row)
+pub tail_share_asked : (S : ℕ) {plan : Plan} (unit : List ℕ) {i d : ℕ} {p : Fraction} {row : Row}
     → i ≡ place_of unit plan.units
     → IsTailShare plan i p d (in_digits S (cotail_budget S plan i p) d) row
     ⊎ (IsBeyond plan p (total_error S plan) row ⊎ IsNoTailShare plan p (total_error S plan) row)
     → IsAnswerTo S plan d (asks.Cotail unit p) row
 unfolding ask_budget
-tail_share_asked S plan unit i d p row place told =
-    subst (λ n. IsTailShare plan n p d (in_digits S (cotail_budget S plan n p) d) row
-    ⊎ (IsBeyond plan p (total_error S plan) row ⊎ IsNoTailShare plan p (total_error S plan) row)) place told
+tail_share_asked S unit place told = rw (← place) told

@@ -1,5 +1,5 @@
 -- The answer to an ask for a tail mean.
-use Rattle.dl_eval.proofs.Common.{ℕ, suc, ◌≡◌, ◌+◌, ◌-◌, ◌*◌, ◌^◌, ◌<◌, ◌≤◌, List, length, arith, inl, inr, sym, subst, div_ceil, mul-le-mul_left, mul-le-mul_right, pow_pos, div_ceil_times, Fraction, ◌over◌, ◌≤ℚ◌, ◌<ℚ◌, le_trans, lt_or_le, lt_not_le, div_ceil_least, Iv, over_le_over, low_at, high_at, spread, up_quotient, count_below, Holds, One, Mean, Tail, partial_sums, total, GridEncloses, AreDeclared, low_cdf, at_least_wider, cdf_ends, IsFirstAtLeast, Plan, IsValid, Row, total_budget, mean_budget, tail_budget, in_digits, few_cells, at_the_end, IsTailMean, DeclaresTail, IsTotalOf, IsMeanOf, Prints, Loss, up, tail_width, IsQuantile, count_below_grows, IsLevel, IsAtLeast, total_cdf, total_mean, total_tail}
+use Rattle.dl_eval.proofs.Common.{ℕ, suc, ◌≡◌, ◌+◌, ◌-◌, ◌*◌, ◌^◌, ◌<◌, ◌≤◌, List, length, arith, inl, inr, div_ceil, mul-le-mul_left, mul-le-mul_right, pow_pos, div_ceil_times, Fraction, ◌over◌, ◌≤ℚ◌, ◌<ℚ◌, le_trans, lt_or_le, lt_not_le, div_ceil_least, Iv, over_le_over, low_at, high_at, spread, up_quotient, count_below, Holds, One, Mean, Tail, partial_sums, total, GridEncloses, AreDeclared, low_cdf, at_least_wider, cdf_ends, IsFirstAtLeast, Plan, IsValid, Row, total_budget, mean_budget, tail_budget, in_digits, few_cells, at_the_end, IsTailMean, DeclaresTail, IsTotalOf, IsMeanOf, Prints, Loss, up, tail_width, IsQuantile, count_below_grows, IsLevel, IsAtLeast, total_cdf, total_mean, total_tail}
 use Rattle.dl_exact.proofs.BelowOne.{num_below}
 use Rattle.dl_eval.proofs.Losses.{losses_of, losses_declared, losses_units, encloses_losses, holds_told, holds_back, quantile_back}
 use Rattle.dl_eval.proofs.Printed.{are_ends, tail_widens}
@@ -52,17 +52,17 @@ last_reaches {B} g p n x last found = elim (lt_or_le (low_cdf (2 ^ B) (low_at g)
   | inr reached ↦ reached
 ]
 
-pub tail_reached : {B : ℕ} (plan : Plan) (g : List (Iv B)) (p : Fraction)
+pub tail_reached : {B : ℕ} {plan : Plan} {g : List (Iv B)} (p : Fraction)
     → ¬ IsFirstAtLeast (low_cdf (2 ^ B) (low_at g)) p (length g) (length g)
     → IsValid plan → IsTotalOf plan g → IsAtLeast plan (at_the_end plan) p
-tail_reached {B} plan g p found valid t =
+tail_reached {B} {plan = plan} {g = g} p found valid t =
     let some = few_cells plan valid in
-    let ends = holds_told plan valid (at_the_end plan) (total_cdf (plan.cells - 1)) _ _
-    (cdf_ends (losses_of plan) (2 ^ B) (length g) (low_at g) (high_at g) (losses_units plan valid)
-    (pow_pos B) (encloses_losses plan valid g t) (plan.cells - 1) (omega (arith, t.cells, some.0))) in
+    let ends = holds_told valid (at_the_end plan) (total_cdf (plan.cells - 1)) _ _
+    (cdf_ends (losses_of plan) (2 ^ B) (length g) (low_at g) (high_at g) (losses_units valid)
+    (pow_pos B) (encloses_losses valid t) (plan.cells - 1) (omega (arith, t.cells, some.0))) in
     at_least_wider _ _ _ _ ends.0 (last_reaches g p (length g) (plan.cells - 1) (omega (arith, t.cells, some.0)) found)
 
-pub tail_answer : {B : ℕ} (plan : Plan) (g : List (Iv B)) (mean : Iv B) (p : Fraction) (d lo hi : ℕ) (row : Row)
+pub tail_answer : {B : ℕ} {plan : Plan} {g : List (Iv B)} {mean : Iv B} {p : Fraction} {d lo hi : ℕ} {row : Row}
     → ¬ IsFirstAtLeast (low_cdf (2 ^ B) (low_at g)) p (length g) (length g)
     → ((us : List Loss) (q : ℕ) → AreDeclared us → GridEncloses g (total us)
     → Holds (partial_sums us Mean) (partial_sums us One) (mean.lo over 2 ^ B) (mean.hi over 2 ^ B)
@@ -71,16 +71,15 @@ pub tail_answer : {B : ℕ} (plan : Plan) (g : List (Iv B)) (mean : Iv B) (p : F
     → hi - lo ≤ tail_width p (mean.hi - mean.lo) (length g) (spread g)
     → IsLevel p → IsValid plan → IsTotalOf plan g → IsMeanOf plan mean → Prints (2 ^ B) lo hi d row
     → IsTailMean plan p d (in_digits (2 ^ B) (tail_budget (2 ^ B) plan p) d) row
-tail_answer {B} plan g mean p d lo hi row found holds width level valid t m printed = record {
-  reached = tail_reached plan g p found valid t;
+tail_answer {B} {plan} {g} {mean} {p} {d} {lo} {hi} {row} found holds width level valid t m printed = record {
+  reached = tail_reached p found valid t;
   ends = are_ends B (DeclaresTail plan p) lo hi d (tail_budget (2 ^ B) plan p) row (tail_widens plan p) printed
-      (λ q is. holds_told plan valid (Tail p q) (total_tail p q) _ _
-      (holds (losses_of plan) q (losses_declared plan valid) (encloses_losses plan valid g t)
-      (holds_back plan valid Mean total_mean _ _ m.holds) (quantile_back plan valid q p is)))
-      (omega (arith, width, wide));
+      (λ q is. holds_told valid (Tail p q) (total_tail p q) _ _
+      (holds (losses_of plan) q (losses_declared valid) (encloses_losses valid t)
+      (holds_back valid Mean total_mean _ _ m.holds) (quantile_back valid q p is))) (omega (arith, width, wide));
 }
   where
     wide : tail_width p (mean.hi - mean.lo) (length g) (spread g) ≤ tail_budget (2 ^ B) plan p
-    wide = subst (λ n. tail_width p (mean.hi - mean.lo) n (spread g) ≤ tail_budget (2 ^ B) plan p) (sym t.cells)
+    wide = rw t.cells
         (tail_narrow p (mean.hi - mean.lo) (mean_budget (2 ^ B) plan) plan.cells (spread g) (total_budget (2 ^ B) plan)
         (num_below p level.below) (omega (arith, m.narrow)) t.narrow)

@@ -14,9 +14,9 @@ unit_there [] i u inside = absurd (omega (arith, inside))
 unit_there (v ∷ us) zero u inside = refl
 unit_there (v ∷ us) (suc i) u inside = unit_there us i u (omega (arith, inside))
 
-pub plain_encloses : {B : ℕ} (g : List (Iv B)) (cells : ℕ) (u : UnitOfPlan) → IsValidUnit cells u → u.cede ≡ None
+pub plain_encloses : {B : ℕ} (g : List (Iv B)) {cells : ℕ} {u : UnitOfPlan} → IsValidUnit cells u → u.cede ≡ None
     → GridEncloses g (compound_of u.freq u.sev) → GridEncloses g (mapped (aggregate_of u))
-plain_encloses {B} g cells u valid none encloses =
+plain_encloses {B} g {cells = cells} {u = u} valid none encloses =
     encloses_same (2 ^ B) (length g) (low_at g) (high_at g) (compound_of u.freq u.sev) (mapped (aggregate_of u))
     (λ y N. sym (unit_plain (aggregate_of u) (unit_declared cells u valid).unit
     (λ s. ap (λ c. outcome_after c s) none) y N)) (λ N. refl) encloses
@@ -35,9 +35,9 @@ pub each_cells : {B : ℕ} (cells : ℕ) (us : List UnitOfPlan) (grids : List (L
 each_cells cells [] grids g i is inside each = absurd (omega (arith, inside))
 each_cells cells (u ∷ us) grids g i is inside each = ap (λ t. length t) is ∙ (each.each i u inside).cells
 
-enclose_each : {B : ℕ} (plan : Plan) (grids : List (List (Iv B))) → AreUnitGrids plan.cells plan.units grids
+enclose_each : {B : ℕ} (plan : Plan) {grids : List (List (Iv B))} → AreUnitGrids plan.cells plan.units grids
     → EncloseEach grids (aggregates_of plan)
-enclose_each plan grids each = record {
+enclose_each plan {grids = grids} each = record {
   as_many = each.as_many ∙ sym (length-map plan.units loss_of);
   each = λ i inside. each_encloses plan.cells plan.units grids i (omega (arith, inside, each.as_many)) each;
 }
@@ -81,7 +81,8 @@ removed_no_more zero (x ∷ xs) (y ∷ ys) h = later_no_more x y xs ys h
 removed_no_more (suc i) (x ∷ xs) (y ∷ ys) h = one_no_more x y (remove xs i) (remove ys i) (h.each 0 (omega arith))
     (removed_no_more i xs ys (later_no_more x y xs ys h))
 
-folds_rise : (S k x y : ℕ) (xs ys : List ℕ) → 0 < S → x ≤ y → AreNoMore xs ys → fold (convolution_spread S k) x xs ≤ fold (convolution_spread S k) y ys
+folds_rise : (S k x y : ℕ) (xs ys : List ℕ) → 0 < S → x ≤ y → AreNoMore xs ys
+    → fold (convolution_spread S k) x xs ≤ fold (convolution_spread S k) y ys
 folds_rise S k x y [] [] pos start h = start
 folds_rise S k x y [] (b ∷ ys) pos start h = absurd (omega (arith, h.as_many))
 folds_rise S k x y (a ∷ xs) [] pos start h = absurd (omega (arith, h.as_many))
@@ -108,9 +109,9 @@ unit_narrow {B} cells (u ∷ us) grids i inside each =
     (get_or_default (u ∷ us) i u v inside) refl in
     omega (arith, (each.each i u inside).narrow, same)
 
-each_narrow : {B : ℕ} (plan : Plan) (grids : List (List (Iv B))) → AreUnitGrids plan.cells plan.units grids
+each_narrow : {B : ℕ} (plan : Plan) {grids : List (List (Iv B))} → AreUnitGrids plan.cells plan.units grids
     → AreNoMore (map spread grids) (unit_budgets (2 ^ B) plan.cells plan.units)
-each_narrow {B} plan grids each = record {
+each_narrow {B} plan {grids = grids} each = record {
   as_many = length-map grids spread ∙ each.as_many ∙ sym (budgets_length (2 ^ B) plan.cells plan.units);
   each = λ i inside.
       let there : i < length grids = omega (arith, inside, length-map grids spread) in
@@ -123,52 +124,51 @@ each_narrow {B} plan grids each = record {
 
 -- ---- the total
 
-pub is_total : {B : ℕ} (plan : Plan) (grids : List (List (Iv B))) (g : List (Iv B)) → IsValid plan
+pub is_total : {B : ℕ} {plan : Plan} {grids : List (List (Iv B))} {g : List (Iv B)} → IsValid plan
     → plan.common ≡ None → AreUnitGrids plan.cells plan.units grids
     → IsTotal plan.cells grids g → IsTotalOf plan g
-is_total {B} plan grids g valid none each sum = subst (λ whole. IsTotalOf whole g) (is_independent plan none) alone
+is_total {B} {plan = plan} {g = g} valid none each sum = subst (λ whole. IsTotalOf whole g) (is_independent plan none) alone
   where
     alone : IsTotalOf (independent plan) g
     alone = record {
       cells = sum.cells;
-      encloses = sum.encloses (aggregates_of plan) (plan_units plan valid) (enclose_each plan grids each);
-      narrow = omega (arith, sums_rise (2 ^ B) plan.cells _ _ (pow_pos B) (each_narrow plan grids each));
+      encloses = sum.encloses (aggregates_of plan) (plan_units plan valid) (enclose_each plan each);
+      narrow = omega (arith, sums_rise (2 ^ B) plan.cells _ _ (pow_pos B) (each_narrow plan each));
     }
 
 -- ---- all units but one
 
-others_of : {B : ℕ} (plan : Plan) (grids : List (List (Iv B))) (i : ℕ) (g : List (Iv B)) → IsValid plan
+others_of : {B : ℕ} {plan : Plan} {grids : List (List (Iv B))} {i : ℕ} {g : List (Iv B)} → IsValid plan
     → AreUnitGrids plan.cells plan.units grids
     → IsSumWithout plan.cells grids i g → AreOthersOf plan i g
-others_of {B} plan grids i g valid each sum = record {
+others_of {B} {plan = plan} {grids = grids} {i = i} valid each sum = record {
   cells = sum.cells;
-  encloses = sum.encloses (aggregates_of plan) (plan_units plan valid) (enclose_each plan grids each);
+  encloses = sum.encloses (aggregates_of plan) (plan_units plan valid) (enclose_each plan each);
   narrow = omega (
     arith,
     ap (sum_spread (2 ^ B) plan.cells) (map_remove spread grids i),
-    sums_rise (2 ^ B) plan.cells _ _ (pow_pos B) (removed_no_more i _ _ (each_narrow plan grids each)),
+    sums_rise (2 ^ B) plan.cells _ _ (pow_pos B) (removed_no_more i _ _ (each_narrow plan each)),
   );
 }
 
-pub are_others : {B : ℕ} (plan : Plan) (grids : List (List (Iv B))) (asked : List Bool)
-    (sums : List (Option (List (Iv B))))
+pub are_others : {B : ℕ} {plan : Plan} {grids : List (List (Iv B))} {asked : List Bool}
+    {sums : List (Option (List (Iv B)))}
     → IsValid plan → AreUnitGrids plan.cells plan.units grids
     → AreSumsWithout plan.cells grids asked sums → AreOthers plan sums
-are_others plan grids asked sums valid each rest = record {
+are_others {sums = sums} valid each rest = record {
   as_many = rest.as_many ∙ each.as_many;
   each = λ i inside.
       IfSome_then (get_or sums i None)
-      (rest.each i (omega (arith, inside, each.as_many)))
-      (λ g sum. others_of plan grids i g valid each sum);
+      (rest.each i (omega (arith, inside, each.as_many))) (λ g sum. others_of valid each sum);
 }
 
 -- for the unit that an ask names, the sum of all others is there
-pub has_others : {B : ℕ} (plan : Plan) (grids : List (List (Iv B))) (named : List (Option ℕ)) (asked : List Bool)
+pub has_others : {B : ℕ} (plan : Plan) {grids : List (List (Iv B))} (named : List (Option ℕ)) {asked : List Bool}
     (made : Grids B)
     → AreUnitGrids plan.cells plan.units grids
     → AreShared (length plan.units) named asked → AreSumsWithout plan.cells grids asked made.sums.others.items
     → AreUnits (length plan.units) named → All (HasOthers made) named
-has_others plan grids named asked made each shared rest all = λ k d inside.
+has_others plan named made each shared rest all = λ k d inside.
     there k d inside (get_or named k d) refl (all k d inside)
   where
     there : (k : ℕ) (d : Option ℕ) → k < length named → (unit : Option ℕ) → get_or named k d ≡ unit
@@ -197,7 +197,7 @@ only_one xs [] x is one = is
 only_one xs (y ∷ rest) x is one = absurd (omega (arith, ap (λ t. length t) is, one, length-append rest (x ∷ [])))
 
 -- its grid is that of the total
-module _ {B : ℕ} (plan : Plan) (grids : List (List (Iv B))) (g : List (Iv B)) (made : Grids B) where
+module _ {B : ℕ} {plan : Plan} {grids : List (List (Iv B))} {g : List (Iv B)} {made : Grids B} where
   pub grids_of_one : IsValid plan → plan.common ≡ None → AreUnitGrids plan.cells plan.units grids
       → AreUnitMeans plan.cells plan.units made.means.items → All (λ mean. mean.hi ≤ most_unit_mean) made.means.items
       → grids ≡ g ∷ []
@@ -206,14 +206,13 @@ module _ {B : ℕ} (plan : Plan) (grids : List (List (Iv B))) (g : List (Iv B)) 
   grids_of_one valid none each means small only total rest =
       let long : length g ≡ plan.cells = each_cells plan.cells plan.units grids g 0 (sym (ap (λ t. get_or t 0 []) only))
       (omega (arith, valid.some)) each in
-      let of_total = subst₂ (λ k t. IsTotal k t made.sums.total) long (sym only) total in
-      let of_rest = subst₂ (λ k t. AreSumsWithout k t (false ∷ []) made.sums.others.items) long
-      (sym only) rest in record {
+      let of_total = rw (long, ← only) at total in
+      let of_rest = rw (long, ← only) at rest in record {
         units = λ i inside some. absurd (unasked i ((of_rest.there i (omega (arith, inside, each.as_many))).0 some));
         means = means;
         small = small;
-        others = are_others plan grids (false ∷ []) made.sums.others.items valid each of_rest;
-        total = is_total plan grids made.sums.total valid none each of_total;
+        others = are_others valid each of_rest;
+        total = is_total valid none each of_total;
       }
     where
       unasked : (i : ℕ) → ¬ IsTrue (get_or (false ∷ []) i false)

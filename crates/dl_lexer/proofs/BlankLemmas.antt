@@ -1,5 +1,5 @@
 -- Where a blank stands no token begins, and how long a comment is.
-use Rattle.dl_lexer.proofs.Common.{ℕ, zero, suc, ◌≡◌, ◌≢◌, ◌∙◌, ◌+◌, ◌<◌, ◌≤◌, List, [], ◌∷◌, length, take, drop, ◌-◌, sym, subst, Bool, true, false, ◌||◌, ◌==◌, cond, refl, ap, arith, Some, slice_get, prefix_len, nat_tests, Sign, Open, is_letter, is_digit, IsNumeralToken, sign_byte, NoToken, blank_length}
+use Rattle.dl_lexer.proofs.Common.{ℕ, zero, suc, ◌≡◌, ◌≢◌, ◌+◌, ◌<◌, ◌≤◌, List, [], ◌∷◌, length, take, drop, ◌-◌, true, false, ◌||◌, ◌==◌, refl, arith, Some, slice_get, prefix_len, nat_tests, Sign, Open, is_letter, is_digit, IsNumeralToken, sign_byte, NoToken, blank_length}
 use Rattle.std.proofs.lemmas.List.{take_all}
 use Rattle.dl_lexer.specs.Bytes.{is_white, is_comment_byte}
 use Rattle.dl_lexer.proofs.Longest.{longest_none}
@@ -7,12 +7,7 @@ use Rattle.dl_lexer.proofs.TokenKinds.{begins_numeral, numeral_begins, longest_n
 
 -- what a blank begins with
 blank_first : (b : ℕ) (bytes : List ℕ) → 0 < blank_length (b ∷ bytes) → (is_white b || b == 35) ≡ true
-blank_first b bytes some = here (is_white b) (b == 35) (1 + prefix_len is_comment_byte bytes) some
-  where
-    here : (white mark : Bool) (n : ℕ) → 0 < cond white 1 (cond mark n 0) → (white || mark) ≡ true
-    here true mark n some = refl
-    here false true n some = refl
-    here false false n some = absurd (omega arith)
+blank_first b bytes some = grind arith
 
 no_letter : (b : ℕ) → (is_white b || b == 35) ≡ true → is_letter b ≡ false
 no_letter b h = grind (arith, nat_tests)
@@ -34,19 +29,12 @@ blank_no_token (b ∷ bytes) some =
     numeral : (is_white b || b == 35) ≡ true → (m : ℕ) → m ≤ length (b ∷ bytes)
         → IsNumeralToken (take m (b ∷ bytes)) → ⊥
     numeral first zero h t = let begins : begins_numeral [] ≡ true = numeral_begins [] t in cc
-    numeral first (suc m) h t =
-        let begins : (is_digit b || b == 46) ≡ true = numeral_begins (b ∷ take m bytes) t in
-        let begins_not : (is_digit b || b == 46) ≡ false = no_numeral b first in cc
+    numeral first (suc m) h t = grind (arith, numeral_begins (b ∷ take m bytes) t, no_numeral b first)
 
     sign : (is_white b || b == 35) ≡ true → (s : Sign) → slice_get (b ∷ bytes) 0 ≢ Some (sign_byte s)
-    sign first s e =
-        let same : b ≡ sign_byte s = cc in
-        let other : (is_white b || b == 35) ≡ false = ap (λ n. is_white n || n == 35) same ∙ no_sign s in cc
+    sign first s e = grind (arith, no_sign s)
 
 pub comment_length : (bytes : List ℕ) (n : ℕ) → slice_get bytes 0 ≡ Some 35
     → n ≡ prefix_len is_comment_byte (take (length bytes - 1) (drop 1 bytes)) → 1 + n ≡ blank_length bytes
 comment_length [] n h e = absurd cc
-comment_length (b ∷ bytes) n h e =
-    let mark : b ≡ 35 = cc in
-    subst (λ k. 1 + n ≡ blank_length (k ∷ bytes)) (sym mark)
-    (ap (λ k. 1 + k) (e ∙ ap (prefix_len is_comment_byte) (take_all (length (b ∷ bytes) - 1) bytes (omega arith))))
+comment_length (b ∷ bytes) n h e = grind (arith, take_all (length (b ∷ bytes) - 1) bytes (omega arith))

@@ -33,17 +33,13 @@ token_takes kind (suc n) bytes t = omega arith
 -- where no token begins none stands
 none_stands : (kind : Kind) (n : ℕ) (bytes : List ℕ) → NoToken bytes → IsLongest IsToken bytes n
     → IsSpelled kind (take n bytes) → ⊥
-none_stands kind n bytes none longest t =
-    let some : 0 < n = token_takes kind n bytes t in
-    let most : n ≤ 0 = none.longest n longest.within (record { kind = kind; spelled = t }) in
-    omega arith
+none_stands kind n bytes none longest t = grind (arith, token_takes kind n bytes t)
 
 run_le : (bytes : List ℕ) (end at : ℕ) (ts : List Token) → Run bytes end at ts → at ≤ end
 run_le bytes end at ts (done from e) = omega arith
 run_le bytes end at ts (blank_then from tokens some none r) =
     let more = run_le bytes end (from + blank_length (drop from bytes)) tokens r in omega arith
-run_le bytes end at ts (token_then from n kind tokens t longest r) =
-    let more = run_le bytes end (from + n) tokens r in omega arith
+run_le bytes end at ts (token_then from n kind tokens t longest r) = grind (arith, run_le bytes end (from + n) tokens r)
 
 -- a run that has reached its end has no tokens left
 run_stays : (bytes : List ℕ) (end at : ℕ) (ts : List Token) → Run bytes end at ts → end ≤ at → ts ≡ []
@@ -51,9 +47,7 @@ run_stays bytes end at ts (done from e) h = refl
 run_stays bytes end at ts (blank_then from tokens some none r) h =
     let more = run_le bytes end (from + blank_length (drop from bytes)) tokens r in absurd (omega arith)
 run_stays bytes end at ts (token_then from n kind tokens t longest r) h =
-    let more = run_le bytes end (from + n) tokens r in
-    let takes : 0 < n = token_takes kind n (drop from bytes) t in
-    absurd (omega arith)
+    grind (arith, run_le bytes end (from + n) tokens r, token_takes kind n (drop from bytes) t)
 
 -- what is left of a longer run, behind a shorter one from the same place
 record Rest (bytes : List ℕ) (end far : ℕ) (ts us : List Token) : Type 0 where
@@ -63,15 +57,11 @@ record Rest (bytes : List ℕ) (end far : ℕ) (ts us : List Token) : Type 0 whe
 
 same_length : (bytes : List ℕ) (j k : Kind) (m n : ℕ) → IsLongest IsToken bytes m → IsSpelled j (take m bytes)
     → IsLongest IsToken bytes n → IsSpelled k (take n bytes) → n ≡ m
-same_length bytes j k m n a s b t =
-    let up : m ≤ n = b.longest m a.within (record { kind = j; spelled = s }) in
-    let down : n ≤ m = a.longest n b.within (record { kind = k; spelled = t }) in
-    omega arith
+same_length bytes j k m n a s b t = grind arith
 
 rest : (bytes : List ℕ) (end far at : ℕ) (ts us : List Token) → end ≤ far → Run bytes end at ts → Run bytes far at us
     → Rest bytes end far ts us
-rest bytes end far at ts us h (done from e) r =
-    record { tokens = us; run = subst (λ n. Run bytes far n us) e r; all = refl }
+rest bytes end far at ts us h (done from e) r = grind arith
 rest bytes end far at ts us h (blank_then from tokens some none r) (done _ e) =
     let more = run_le bytes end (from + blank_length (drop from bytes)) tokens r in absurd (omega arith)
 rest bytes end far at ts us h (blank_then from tokens some none r) (blank_then _ others _ _ q) =
@@ -79,9 +69,7 @@ rest bytes end far at ts us h (blank_then from tokens some none r) (blank_then _
 rest bytes end far at ts us h (blank_then from tokens some none r) (token_then _ n kind others t longest q) =
     absurd (none_stands kind n (drop from bytes) none longest t)
 rest bytes end far at ts us h (token_then from n kind tokens t longest r) (done _ e) =
-    let more = run_le bytes end (from + n) tokens r in
-    let takes : 0 < n = token_takes kind n (drop from bytes) t in
-    absurd (omega arith)
+    grind (arith, run_le bytes end (from + n) tokens r, token_takes kind n (drop from bytes) t)
 rest bytes end far at ts us h (token_then from n kind tokens t longest r) (blank_then _ others some none q) =
     absurd (none_stands kind n (drop from bytes) none longest t)
 rest bytes end far at ts us h (token_then from n kind tokens t longest r) (token_then _ m other others s most q) =
@@ -124,10 +112,7 @@ bad_last bytes at end tokens bad c = either (cases_lt at end)
     (λ ge. ge)
 
 pub bad_one : (bytes : List ℕ) (a b : ℕ) → IsBad bytes a → IsBad bytes b → a ≡ b
-bad_one bytes a b p q =
-    let up : b ≤ a = bad_last bytes a b q.tokens p q.reached in
-    let down : a ≤ b = bad_last bytes b a p.tokens q p.reached in
-    omega arith
+bad_one bytes a b p q = grind (arith, bad_last bytes a b q.tokens p q.reached, bad_last bytes b a p.tokens q p.reached)
 
 pub covered_not_bad : (bytes : List ℕ) (tokens : List Token) (at : ℕ) → Covers bytes (length bytes) tokens
     → IsBad bytes at → ⊥

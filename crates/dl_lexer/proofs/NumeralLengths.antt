@@ -45,9 +45,7 @@ are_digits : (bytes : List ℕ) (n : ℕ) → n ≡ run bytes → AreDigits (tak
 are_digits bytes n e = rw e (prefix_passes is_digit bytes)
 
 some_digits : (bytes : List ℕ) (n : ℕ) → n ≡ run bytes → 0 < n → IsDigits (take n bytes)
-some_digits bytes n e some =
-    let size : length (take n bytes) ≡ n = rw e (length-prefix_len is_digit bytes) in
-    (omega arith, are_digits bytes n e)
+some_digits bytes n e some = grind (arith, length-prefix_len is_digit bytes, are_digits bytes n e)
 
 -- digits, a mark and digits lie within the bytes
 round_within : (c : ℕ) (bytes : List ℕ) (w p : ℕ) → slice_get bytes w ≡ Some c → p ≡ run (drop (w + 1) bytes)
@@ -94,8 +92,7 @@ decimal_with_point bytes w p first mark second some = record {
 
     most : (m : ℕ) → m ≤ length bytes → IsDecimalToken (take m bytes) → m ≤ w + 1 + p
     most m h (digits d) = let short : m ≤ run bytes = prefix_most is_digit bytes m h d.1 in omega arith
-    most m h (digits_point a b e all_a all_b) =
-        let at = marked 46 bytes w m a b refl first h e all_a.1 all_b in omega arith
+    most m h (digits_point a b e all_a all_b) = grind (arith, marked 46 bytes w m a b refl first h e all_a.1 all_b)
     most m h (point_digits b e all_b) =
         let at = marked 46 bytes w m [] b refl first h e refl all_b.1 in omega arith
 
@@ -105,8 +102,7 @@ pub decimal_with_bare_point : (bytes : List ℕ) (w p : ℕ) → w ≡ run bytes
 decimal_with_bare_point bytes w p first second none = longest_none IsDecimalToken bytes no_decimal
   where
     no_decimal : (m : ℕ) → m ≤ length bytes → IsDecimalToken (take m bytes) → ⊥
-    no_decimal m h (digits d) =
-        let short : m ≤ run bytes = prefix_most is_digit bytes m h d.1 in omega (arith, length-take-le m bytes h, d.0)
+    no_decimal m h (digits d) = grind (arith, prefix_most is_digit bytes m h d.1, length-take-le m bytes h)
     no_decimal m h (digits_point a b e all_a all_b) =
         let at = marked 46 bytes w m a b refl first h e all_a.1 all_b in omega (arith, all_a.0)
     no_decimal m h (point_digits b e all_b) =
@@ -124,8 +120,7 @@ fraction_with_slash bytes w p first mark second above below = record {
 }
   where
     most : (m : ℕ) → m ≤ length bytes → IsFraction (take m bytes) → m ≤ w + 1 + p
-    most m h (fraction a b e all_a all_b) =
-        let at = marked 47 bytes w m a b refl first h e all_a.1 all_b.1 in omega arith
+    most m h (fraction a b e all_a all_b) = grind (arith, marked 47 bytes w m a b refl first h e all_a.1 all_b.1)
 
 -- no fraction begins without a slash, or without digits round it
 pub fraction_none : (bytes : List ℕ) (w p : ℕ) → w ≡ run bytes → p ≡ run (drop (w + 1) bytes)

@@ -1,5 +1,5 @@
 -- How many elements a list begins with that pass a test.
-use Rattle.dl_lexer.proofs.Common.{ℕ, suc, ◌≡◌, ◌∙◌, ◌+◌, ◌<◌, ◌≤◌, List, [], ◌∷◌, ◌++◌, length, get_or, take, drop, Bool, true, false, cond, refl, sym, ap, arith, add-one, drop-cons, Some, slice_get, subst, list_all, prefix_len, take-append-add, take-append-drop, length-take-le, slice_get_within, get_or_from_slice_get, and_parts}
+use Rattle.dl_lexer.proofs.Common.{ℕ, suc, ◌≡◌, ◌∙◌, ◌+◌, ◌<◌, ◌≤◌, List, [], ◌∷◌, ◌++◌, length, get_or, take, drop, Bool, true, false, cond, refl, sym, ap, arith, add-one, drop-cons, Some, slice_get, list_all, prefix_len, take-append-add, take-append-drop, length-take-le, slice_get_within, get_or_from_slice_get, and_parts}
 use Rattle.std.proofs.Math.Seq.{drop-append-add}
 
 -- elements that pass, at the front, are counted
@@ -26,10 +26,7 @@ prefix_passes p (x ∷ xs) = here (p x) refl (prefix_passes p xs)
 pub prefix_most : (p : ℕ → Bool) (xs : List ℕ) (m : ℕ) → m ≤ length xs → list_all p (take m xs) ≡ true
     → m ≤ prefix_len p xs
 prefix_most p xs m h all =
-    let most = passes_prefix p (take m xs) (drop m xs) all in
-    let same : length (take m xs) ≡ m = length-take-le m xs h in
-    let split : take m xs ++ drop m xs ≡ xs = take-append-drop m xs in
-    subst (λ n. n ≤ prefix_len p xs) same (subst (λ ys. length (take m xs) ≤ prefix_len p ys) split most)
+    grind (arith, passes_prefix p (take m xs) (drop m xs) all, length-take-le m xs h, take-append-drop m xs)
 
 -- the count ends at the first element that fails
 pub prefix_ends : (p : ℕ → Bool) (c : ℕ) (a b : List ℕ) → p c ≡ false → list_all p a ≡ true

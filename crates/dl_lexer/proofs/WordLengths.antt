@@ -47,8 +47,7 @@ record IsNoteAt (text : List ℕ) (m : ℕ) : Type 0 where
 
 behind_note : (text inside after : List ℕ)
     → codes "note{" ++ text ≡ (codes "note{" ++ inside ++ 125 ∷ []) ++ after → text ≡ inside ++ 125 ∷ after
-behind_note text inside after e =
-    let same : text ≡ (inside ++ 125 ∷ []) ++ after = cc in same ∙ append_assoc inside (125 ∷ []) after
+behind_note text inside after e = grind (arith, append_assoc inside (125 ∷ []) after)
 
 note_at : (text : List ℕ) (m : ℕ) → m ≤ length
     (codes "note{" ++ text) → IsNote (take m (codes "note{" ++ text)) → IsNoteAt text m
@@ -158,22 +157,15 @@ ref_none bytes other = longest_none IsRef bytes no_ref
   where
     no_ref : (m : ℕ) → m ≤ length bytes → IsRef (take m bytes) → ⊥
     no_ref m h (ref inside e w) =
-        other (inside ++ drop m bytes)
-        (sym (take-append-drop m bytes) ∙ ap (λ ys. ys ++ drop m bytes) e
-        ∙ append_assoc (codes "sev.") inside (drop m bytes))
+        grind (arith, take-append-drop m bytes, append_assoc (codes "sev.") inside (drop m bytes), inside)
 
 -- bytes begin with some others, as the first of them show
 pub begins_so : (front bytes text : List ℕ) → bytes_eq (take (length front) bytes) front ≡ true
     → text ≡ drop (length front) bytes → bytes ≡ front ++ text
 begins_so front bytes text same rest =
-    let here : take (length front) bytes ≡ front = (bytes_eq-Decides (take (length front) bytes) front).0 same in
-    sym (take-append-drop (length front) bytes) ∙ ap (λ ys. ys ++ drop (length front) bytes) here
-    ∙ ap (λ ys. front ++ ys) (sym rest)
+    grind (arith, bytes_eq-Decides (take (length front) bytes) front, take-append-drop (length front) bytes)
 
 pub begins_otherwise : (front bytes : List ℕ) → bytes_eq (take (length front) bytes) front ≡ false → (text : List ℕ)
     → bytes ≢ front ++ text
 begins_otherwise front bytes differ text e =
-    let here : take (length front) bytes ≡ front = ap (take (length front)) e ∙ take-append_seam front text in
-    let same : bytes_eq (take (length front) bytes) front ≡ true =
-    (bytes_eq-Decides (take (length front) bytes) front).1 here in
-    cc
+    grind (arith, take-append_seam front text, bytes_eq-Decides (take (length front) bytes) front)

@@ -49,6 +49,7 @@ fn sign_at(bytes: &[u8]) -> Option<Sign>
 }
 
 /// The longest word, note or reference that begins bytes whose first is a letter, and its length.
+#[tactic(auto, using(crate::proofs::WordLengths::word_some))]
 fn word_at(bytes: &[u8]) -> (Kind, usize)
     requires { IsTrue (begins_with_letter bytes.now) }
     ensures spelled { IsSpelled result.0 (take result.1 bytes.now) }
@@ -70,6 +71,7 @@ fn word_at(bytes: &[u8]) -> (Kind, usize)
 }
 
 /// The longest token that begins the bytes, and its length.
+#[tactic(auto, using(crate::proofs::TokenKinds::longest_nothing))]
 fn token_at(bytes: &[u8]) -> Option<(Kind, usize)>
     ensures spelled { IfSome result (λ token. IsSpelled token.0 (take token.1 bytes.now)) }
     ensures longest { IfSome result (λ token. IsLongest IsToken bytes.now token.1) }
@@ -110,6 +112,7 @@ fn bad_byte(at: usize) -> LexFault
 
 /// The tokens of a text, in order, or the first place where neither a blank nor a token begins.
 /// A text has at most 1,048,576 bytes.
+#[tactic(auto, using(crate::proofs::CoverLaws::token_takes, crate::proofs::CutSteps::blank_step, crate::proofs::CutSteps::token_step))]
 pub fn lex(alloc: Global, source: &[u8]) -> Result<Vec<Token>, LexFault>
     requires short { length source.now ≤ most_text }
     ensures tokens { IfOk result (λ tokens. Covers source.now (length source.now) tokens.items) }

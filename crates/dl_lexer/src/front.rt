@@ -54,6 +54,7 @@ fn is_at(bytes: &[u8], at: usize, byte: u8) -> bool
 }
 
 /// The length of the blank that begins the bytes, 0 where none does.
+#[tactic(auto, using(crate::proofs::BlankLemmas::comment_length))]
 pub(crate) fn blank_length(bytes: &[u8]) -> usize
     ensures length { result ≡ blank_length bytes.now }
     ensures within { result ≤ length bytes.now }
@@ -76,6 +77,7 @@ pub(crate) fn begins_with_letter(bytes: &[u8]) -> bool
 }
 
 /// The length of the word that begins the bytes, 0 where none does.
+#[tactic(auto, using(crate::proofs::WordLengths::word_none))]
 pub(crate) fn word_length(bytes: &[u8]) -> usize
     ensures { IsLongest IsWord bytes.now result }
 {
@@ -87,6 +89,7 @@ pub(crate) fn word_length(bytes: &[u8]) -> usize
 }
 
 /// The length of the note that begins the bytes, 0 where none does.
+#[tactic(auto, using(crate::proofs::WordLengths::note_none, crate::proofs::WordLengths::begins_otherwise))]
 pub(crate) fn note_length(bytes: &[u8]) -> usize
     ensures { IsLongest IsNote bytes.now result }
 {
@@ -102,6 +105,7 @@ pub(crate) fn note_length(bytes: &[u8]) -> usize
 }
 
 /// The length of the severity's reference that begins the bytes, 0 where none does.
+#[tactic(auto, using(crate::proofs::WordLengths::ref_unnamed, crate::proofs::WordLengths::begins_so))]
 pub(crate) fn ref_length(bytes: &[u8]) -> usize
     ensures { IsLongest IsRef bytes.now result }
 {
@@ -130,6 +134,7 @@ fn digits_round(bytes: &[u8], mark: u8) -> Option<(usize, usize)>
 }
 
 /// The length of the longest decimal that begins the bytes, 0 where none does.
+#[tactic(auto, using(crate::proofs::NumeralLengths::decimal_no_point, crate::proofs::NumeralLengths::decimal_with_bare_point))]
 fn decimal_length(bytes: &[u8]) -> usize
     ensures { IsLongest IsDecimalToken bytes.now result }
 {
@@ -144,6 +149,7 @@ fn decimal_length(bytes: &[u8]) -> usize
 }
 
 /// The length of the percent that begins the bytes, 0 where none does.
+#[tactic(auto, using(crate::proofs::NumeralLengths::percent_with_mark))]
 fn percent_length(bytes: &[u8]) -> usize
     ensures { IsLongest IsPercent bytes.now result }
 {
@@ -156,6 +162,7 @@ fn percent_length(bytes: &[u8]) -> usize
 }
 
 /// The length of the fraction that begins the bytes, 0 where none does.
+#[tactic(auto, using(crate::proofs::Longest::either, crate::proofs::NumeralLengths::fraction_with_slash, crate::proofs::NumeralLengths::fraction_none))]
 fn fraction_length(bytes: &[u8]) -> usize
     ensures { IsLongest IsFraction bytes.now result }
 {

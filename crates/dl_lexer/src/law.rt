@@ -9,16 +9,19 @@ ghost use Rattle.dl_lexer.specs.Tokens.{IsSpelled};
 use crate::token::{Keyword, Kind, Token};
 
 /// No two keywords are written alike.
+#[tactic(auto, using(crate::proofs::Spellings::spelling_one))]
 pub fn one_keyword()
     ensures { (a b : Keyword) → spelling a ≡ spelling b → a ≡ b }
 {}
 
 /// Bytes spell a token of at most one kind.
+#[tactic(auto, using(crate::proofs::TokenKinds::kind_one))]
 pub fn one_kind()
     ensures { (a b : Kind) (bytes : List ℕ) → IsSpelled a bytes → IsSpelled b bytes → a ≡ b }
 {}
 
 /// A text has at most one list of tokens that covers it, up to any place.
+#[tactic(auto, using(crate::proofs::CoverLaws::cover_one))]
 pub fn one_cover()
     ensures { (bytes : List ℕ) (end : ℕ) (a b : List Token) → Covers bytes end a
         → Covers bytes end b

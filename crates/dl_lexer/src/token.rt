@@ -114,6 +114,7 @@ impl Keyword {
     }
 
     /// The keyword that is written with these bytes, if there is one.
+    #[tactic(auto, using(crate::proofs::Spellings::first_spelled_is, crate::proofs::Spellings::none_spelled))]
     pub fn read(bytes: &[u8]) -> Option<Keyword>
         ensures found { IfSome result (λ keyword. spelling keyword ≡ bytes.now) }
         ensures none { IfNone result ((keyword : Keyword) → spelling keyword ≢ bytes.now) }
@@ -123,6 +124,7 @@ impl Keyword {
 }
 
 /// The first keyword of a table that is written with these bytes.
+#[tactic(auto, using(crate::proofs::Spellings::table_ends))]
 fn find_in(table: &[(Keyword, &[u8])], bytes: &[u8]) -> Option<Keyword>
     ensures { result ≡ first_spelled (map (λ item. item.0) table.now) bytes.now }
 {

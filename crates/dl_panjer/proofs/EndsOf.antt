@@ -1,13 +1,6 @@
 -- A grid from two lists that hold the ends of all cells is these cells.
 use Rattle.dl_panjer.proofs.Common.{ℕ, ◌≡◌, ◌+◌, ◌<◌, ◌≤◌, ◌∙◌, List, length, take, get_or, sym, ap, ap₂, [], ◌∷◌, ◌++◌, map, map_more, take_all, Iv, low_ends, high_ends, IsGrid, AreEnds, ends_of_grid, same_cells}
 
--- one more end
-pub end_pushed : {B : ℕ} (f : Iv B → ℕ) (cells : List (Iv B)) (i : ℕ) (cell : Iv B) (ends more : List ℕ)
-    → i < length cells → more ≡ ends ++ f cell ∷ [] → ends ≡ map f (take i cells) → cell ≡ get_or cells i cell
-    → more ≡ map f (take (i + 1) cells)
-end_pushed f cells i cell ends more inside made so is =
-    made ∙ ap₂ (λ l x. l ++ f x ∷ []) so is ∙ sym (map_more f cells i cell inside)
-
 pub both_lists : {B : ℕ} (cells : List (Iv B)) (n : ℕ) (lows highs : List ℕ) → IsGrid cells → length cells ≤ n
     → lows ≡ map (λ t. t.lo) (take n cells) → highs ≡ map (λ t. t.hi) (take n cells) → AreEnds B lows highs
 both_lists cells n lows highs grid all low high = rw (low, high, take_all n cells all) (ends_of_grid cells grid)

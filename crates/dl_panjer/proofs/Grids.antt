@@ -1,7 +1,7 @@
 -- The list of cells that the recursion makes is a grid, follows the declared recursion, and encloses the compound sum.
-use Rattle.dl_panjer.proofs.Common.{ℕ, suc, ◌≡◌, ◌+◌, ◌-◌, ◌*◌, ◌^◌, ◌<◌, ◌≤◌, Bool, true, false, List, length, arith, sym, ap, ◌∙◌, All, pow_pos, Fraction, ◌over◌, ◌+ℚ◌, ◌*ℚ◌, ◌/ℚ◌, ◌≤ℚ◌, whole, sum_to, over_zero, over_mul, over_le, one_pos, le_trans, le_whole, Iv, low_at, high_at, spread, IsGrid, IsGridSize, up, count_below, AtLeast, Holds, poisson, gamma_of, IsPanjer, compound, GridEncloses, IsWithinOne, poisson_class, within_one, Item, Sev, probability_of, weight_at, weight_sum, Follows, FollowsOutward, FollowsRounded, severity_total, zero_weight, over_cross, below_first, width_at, high_is, whole_mass, whole_spread, IsWeighted, IsPoissonBase, IsGeometricBase, amounts_positive}
+use Rattle.dl_panjer.proofs.Common.{ℕ, suc, ◌≡◌, ◌+◌, ◌-◌, ◌*◌, ◌^◌, ◌<◌, ◌≤◌, Bool, true, false, List, length, arith, sym, ap, ◌∙◌, All, pow_pos, Fraction, ◌over◌, ◌+ℚ◌, ◌*ℚ◌, ◌/ℚ◌, ◌≤ℚ◌, whole, sum_to, over_zero, over_mul, over_le, one_pos, le_trans, le_whole, Iv, low_at, high_at, spread, IsGrid, IsGridSize, up, count_below, AtLeast, Holds, poisson, gamma_of, IsPanjer, compound, GridEncloses, IsWithinOne, poisson_class, within_one, Item, Sev, probability_of, weight_at, weight_sum, Follows, FollowsOutward, FollowsRounded, severity_total, zero_weight, over_cross, over_self, num_le_den, below_first, width_at, high_is, whole_mass, whole_spread, IsWeighted, IsPoissonBase, IsGeometricBase, amounts_positive}
 use Rattle.dl_grid.proofs.WidthLaws.{up_ceiling}
-use Rattle.dl_panjer.proofs.Recursions.{poisson_follows, geometric_follows, one_and}
+use Rattle.dl_panjer.proofs.Recursions.{poisson_follows, geometric_follows, one_and, rate_of}
 use Rattle.dl_panjer.proofs.Outward.{poisson_outward, geometric_outward}
 use Rattle.dl_panjer.proofs.Compounds.{poisson_base, geometric_base, geometric_start, geometric_class}
 use Rattle.dl_panjer.proofs.Mass.{low_mass}
@@ -101,24 +101,27 @@ module _ {B : ℕ} {items : List Item} {T : ℕ} (v : Fraction) {cells : List (I
       geometric_base items T v cells made.total_above made.within
       made.no_zero follows_g low high
 
-pub geometric_widths : {B : ℕ} {items : List Item} {T : ℕ} (p d : ℕ) {cells : List (Iv B)} {K : ℕ} → 0 < d
-    → IsMade false items T (p over (p + d)) cells K
-    → (p over (p + d)).num ≤ (p over (p + d)).den → high_at cells 0 ≤ low_at cells 0 + 1
-    → spread cells ≤ up (whole (4 * K + 1) *ℚ (whole 1 +ℚ p over d))
-geometric_widths p d {cells} {K} pos made at_most_one near =
+pub geometric_widths : {B : ℕ} {items : List Item} {T : ℕ} (v : Fraction) {cells : List (Iv B)} {K : ℕ}
+    → IsMade false items T (v /ℚ (whole 1 +ℚ v)) cells K → v /ℚ (whole 1 +ℚ v) ≤ℚ whole 1
+    → high_at cells 0 ≤ low_at cells 0 + 1 → spread cells ≤ up (whole (4 * K + 1) *ℚ (whole 1 +ℚ v))
+geometric_widths v {cells} {K} made at_most_one near =
     let n : ℕ = K - 1 in
     let e : suc n ≡ K = omega (arith, made.size.some) in
-    let r : Fraction = p over (p + d) in
-    let w = widths_of made at_most_one n e in
+    let p : ℕ = v.num in
+    let d : ℕ = v.den in
+    let r : Fraction = v /ℚ (whole 1 +ℚ v) in
+    let is : p over (p + d) ≡ r = rate_of p d v.positive ∙ ap (λ t. t /ℚ (whole 1 +ℚ t)) (over_self v) in
+    let w = widths_of made (num_le_den r at_most_one) n e in
     let all = geometric_spread n r.num r.den p d (width_at cells 0) (count_below n (λ s. width_at cells (suc s)))
-    (spread cells) r.positive (over_cross p (p + d) (omega (arith, pos))) w.1 w.0 (omega (arith, near)) in
+    (spread cells) r.positive (rw is at (over_cross p (p + d) (omega (arith, v.positive)))) w.1 w.0 (omega (arith, near)) in
     let last : n + 1 ≡ K = omega (arith, e) in
-    let product : whole (4 * K + 1) *ℚ (whole 1 +ℚ p over d) ≡ ((4 * K + 1) * (p + d)) over (1 * d) =
-    ap (λ t. whole (4 * K + 1) *ℚ t) (one_and p d pos) ∙ over_mul (4 * K + 1) 1 (p + d) d one_pos pos in
-    let below : whole (spread cells) ≤ℚ whole (4 * K + 1) *ℚ (whole 1 +ℚ p over d) =
-    rw product (over_le (spread cells) 1 ((4 * K + 1) * (p + d)) (1 * d) one_pos (omega (arith, pos))
+    let product : whole (4 * K + 1) *ℚ (whole 1 +ℚ v) ≡ ((4 * K + 1) * (p + d)) over (1 * d) =
+    ap (λ t. whole (4 * K + 1) *ℚ t) (ap (λ t. whole 1 +ℚ t) (sym (over_self v)) ∙ one_and p d v.positive)
+    ∙ over_mul (4 * K + 1) 1 (p + d) d one_pos v.positive in
+    let below : whole (spread cells) ≤ℚ whole (4 * K + 1) *ℚ (whole 1 +ℚ v) =
+    rw product (over_le (spread cells) 1 ((4 * K + 1) * (p + d)) (1 * d) one_pos (omega (arith, v.positive))
     (omega (arith, rw last at all))) in
-    le_whole _ _ (le_trans _ _ _ below (up_ceiling (whole (4 * K + 1) *ℚ (whole 1 +ℚ p over d))).above)
+    le_whole _ _ (le_trans _ _ _ below (up_ceiling (whole (4 * K + 1) *ℚ (whole 1 +ℚ v))).above)
 
 -- ---- from what the recursion's loop gives
 

@@ -1,19 +1,8 @@
 -- Sums over the items of a severity, turned into sums over the pairs of places that add up to a cell's number.
 use Rattle.dl_panjer.proofs.Common.{ℕ, zero, suc, ◌≡◌, ◌+◌, ◌-◌, ◌*◌, ◌<◌, ◌≤◌, Bool, true, false, List, [], ◌∷◌, get_or, take, drop, arith, refl, sym, ap, ap₂, ◌∙◌, inl, inr, All, sum_by, mul-le-mul_right, cases_lt, count_below, below_le, below_plus, below_times, below_pairs, Item, weight_at, weight_sum, counted, coefficient, next_sum, ◌≢◌, if◌then◌else◌, ◌==◌, eq-eqb, ne_eqb, All-tail, sum_by-cons, sum_by-take-drop, below_same, pairs_le, below_none}
+use Rattle.dl_exact.proofs.Counts.{pairs_only}
 use Rattle.std.proofs.lemmas.Bool.Decides.{eqb_tells}
 use Rattle.std.proofs.Math.Nat.{zero-add, mul-le-mul, mul-le-mul_left, add-mul}
-
--- ---- one place of a sum
-
-below_one : (n a : ℕ) (f : ℕ → ℕ) → a < n → ((i : ℕ) → i < n → i ≢ a → f i ≡ 0) → count_below n f ≡ f a
-unfolding count_below
-below_one zero a f inside h = absurd (omega arith)
-below_one (suc n) a f inside h = elim (cases_lt a n) [
-  | inl b ↦ omega (arith, below_one n a f b (λ i c. h i (omega arith)), h n (omega arith) (omega (arith, b)))
-  | inr b ↦
-      let e : a ≡ n = omega (arith, b, inside) in
-      omega (arith, below_none n f (λ i c. h i (omega arith) (omega (arith, e))), ap f e)
-]
 
 -- ---- the weights of a list of items
 
@@ -38,15 +27,15 @@ counted_zero false j = refl
 
 -- one item's part of the sum
 one_item : (b : Bool) (s : ℕ) (g : ℕ → ℕ) (item : Item) → 0 < item.amount → item.amount ≤ suc s
-    → count_below (suc s) (λ i. counted b (suc i) (if item.amount == suc i then item.weight else 0) * g
-    (s - i)) ≡ counted b item.amount item.weight * g (suc s - item.amount)
+    → count_below (suc s) (λ i. counted b (suc i) (if item.amount == suc i then item.weight else 0) * g (s - i))
+    ≡ counted b item.amount item.weight * g (suc s - item.amount)
 one_item b s g item some near =
     let a : ℕ = item.amount - 1 in
     let e : suc a ≡ item.amount = omega (arith, some) in
-    let gap : suc s - item.amount ≡ s - a = omega (arith, some, near) in
-    below_one (suc s) a _ (omega (arith, some, near)) (λ i inside other.
+    below_pairs s (λ i k. counted b (suc i) (if item.amount == suc i then item.weight else 0) * g k)
+    ∙ pairs_only s a (suc s - item.amount) _ (omega (arith, some, near)) (λ i k other.
     rw (ne_eqb item.amount (suc i) (omega (arith, other, e)), counted_zero b (suc i)) (omega arith))
-    ∙ rw (gap, e, eq-eqb item.amount item.amount refl) refl
+    ∙ rw (e, eq-eqb item.amount item.amount refl) refl
 
 -- the items up to s + 1, each with the end that it leaves
 pub near_items : (b : Bool) (s : ℕ) (g : ℕ → ℕ) (items : List Item) → All (λ item. 0 < item.amount) items
@@ -86,37 +75,22 @@ pub counted_le : (b : Bool) (j n m : ℕ) → 1 ≤ m → j ≤ m → counted b 
 counted_le true j n m h k = mul-le-mul_right n k
 counted_le false j n m h k = omega (arith, mul-le-mul_right n h)
 
-pub sum_le : (f g : Item → ℕ) (items : List Item) → All (λ item. f item ≤ g item) items
-    → sum_by f items ≤ sum_by g items
-sum_le f g [] h = omega arith
-sum_le f g (item ∷ items) h = omega (
-  arith,
-  sum_by-cons f item items,
-  sum_by-cons g item items,
-  h 0 item (omega arith),
-  sum_le f g items (All-tail (λ i. f i ≤ g i) item items h),
-)
-
-pub sum_times : (k : ℕ) (f : Item → ℕ) (items : List Item) → sum_by (λ item. k * f item) items ≡ k * sum_by f items
-sum_times k f [] = omega arith
-sum_times k f (item ∷ items) = rw (sum_by-cons, sum_by-cons f item items) (omega (arith, sum_times k f items))
-
 -- what is added up over items up to m, of ends of at most e
 pub items_fit : (b : Bool) (m e : ℕ) (g : ℕ → ℕ) (items : List Item) → 1 ≤ m → ((k : ℕ) → g k ≤ e)
     → All (λ item. item.amount ≤ m) items
     → sum_by (λ item. counted b item.amount item.weight * g (m - item.amount)) items ≤ m * e * weight_sum items
-items_fit b m e g items some ends near =
-    let each : sum_by (λ item. counted b item.amount item.weight * g (m - item.amount)) items ≤ sum_by
-    (λ item. m * e * item.weight) items =
-    sum_le _ _ items (λ k d inside. one (get_or items k d) (near k d inside)) in
-    omega (arith, each, sum_times (m * e) (λ item. item.weight) items)
-  where
-    one : (item : Item) → item.amount ≤ m → counted b item.amount item.weight * g (m - item.amount)
-        ≤ m * e * item.weight
-    one item h =
-        let product : counted b item.amount item.weight * g (m - item.amount) ≤ m * item.weight * e =
-        mul-le-mul (counted_le b item.amount item.weight m some h) (ends (m - item.amount)) in
-        omega (arith, product)
+items_fit b m e g [] some ends near = omega arith
+items_fit b m e g (item ∷ items) some ends near =
+    let product : counted b item.amount item.weight * g (m - item.amount) ≤ m * item.weight * e =
+    mul-le-mul (counted_le b item.amount item.weight m some (near 0 item (omega arith))) (ends (m - item.amount)) in
+    rw (
+      sum_by-cons (λ (i : Item). counted b i.amount i.weight * g (m - i.amount)) item items,
+      sum_by-cons (λ (i : Item). i.weight) item items,
+    ) (omega (
+      arith,
+      product,
+      items_fit b m e g items some ends (All-tail (λ i. i.amount ≤ m) item items near),
+    ))
 
 -- ---- what all amounts count for
 

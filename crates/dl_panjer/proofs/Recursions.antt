@@ -9,7 +9,7 @@ divided mean k pos =
     (mul-pos mean.positive pos) (omega arith)
     ∙ sym (over_div mean.num mean.den k 1 mean.positive one_pos pos) ∙ ap (λ t. t /ℚ whole k) (over_self mean)
 
-by_number : (x s : ℕ) (v : Fraction) → (x * v.num) over (suc s * v.den) ≡ v /ℚ whole (suc s) *ℚ whole x
+pub by_number : (x s : ℕ) (v : Fraction) → (x * v.num) over (suc s * v.den) ≡ v /ℚ whole (suc s) *ℚ whole x
 by_number x s v =
     over_same _ _ _ _ (mul-pos (zero-lt-suc s) v.positive) (mul-pos (mul-pos v.positive (zero-lt-suc s)) one_pos)
     (omega arith)
@@ -44,7 +44,7 @@ poisson_follows items T v cells =
 
 -- ---- the geometric count
 
-by_rate : (x : ℕ) (r : Fraction) → (x * r.num) over r.den ≡ r *ℚ whole x
+pub by_rate : (x : ℕ) (r : Fraction) → (x * r.num) over r.den ≡ r *ℚ whole x
 by_rate x r = ap (λ n. n over r.den) (mul_comm x r.num) ∙ units_of x r ∙ times_comm (whole x) r
 
 pub geometric_follows : {B : ℕ} (items : List Item) (T : ℕ) (r : Fraction) (cells : List (Iv B))

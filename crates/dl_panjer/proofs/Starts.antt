@@ -1,5 +1,8 @@
 -- Cell 0 of a Poisson grid and of a geometric grid.
-use Rattle.dl_panjer.proofs.Common.{ℕ, zero, suc, ◌≡◌, ◌+◌, ◌*◌, ◌/◌, ◌^◌, ◌<◌, ◌≤◌, arith, sym, ap, ◌∙◌, mul-pos, div_ceil, zero-lt-suc, lt-div-mul-add, Fraction, ◌over◌, ◌+ℚ◌, ◌*ℚ◌, ◌/ℚ◌, whole, sum_to, over_same, over_div, one_pos, times_cancel, le_refl, le_trans, whole_pos, div_ceil_least, Iv, Holds, poisson, EnclosesExp, sum_to_same, exponential_term, exponential_sum}
+use Rattle.dl_panjer.proofs.Common.{ℕ, zero, suc, ◌≡◌, ◌+◌, ◌*◌, ◌/◌, ◌^◌, ◌<◌, ◌≤◌, arith, sym, ap, ◌∙◌, mul-pos, div_ceil, zero-lt-suc, lt-div-mul-add, Fraction, ◌over◌, ◌+ℚ◌, ◌*ℚ◌, ◌/ℚ◌, ◌≤ℚ◌, whole, pow_pos, IsFloor, sum_to, over_same, over_div, one_pos, times_cancel, times_comm, over_times_whole, lt_of_lt_of_le, le_plus, le_refl, le_trans, whole_pos, div_ceil_least, Iv, Holds, poisson, EnclosesExp, sum_to_same, exponential_term, exponential_sum}
+use Rattle.dl_exact.proofs.Laws.{times_le_cancel}
+use Rattle.dl_exact.specs.Rounding.{IsCeiling}
+use Rattle.dl_model.proofs.TailScores.{div_is_times}
 use Rattle.dl_model.proofs.PoissonWeights.{poisson_zero, poisson_next}
 use Rattle.dl_exp.proofs.Terms.{term_zero, term_next}
 use Rattle.dl_panjer.proofs.Recursions.{one_and}
@@ -53,7 +56,27 @@ units_of_reciprocal S p d v pos e =
     ∙ sym (over_div S 1 (p + d) d one_pos pos (omega (arith, pos))) ∙ ap (λ t. whole S /ℚ t) (sym (one_and p d pos))
     ∙ ap (λ t. whole S /ℚ (whole 1 +ℚ t)) e
 
-pub reciprocal : (p d : ℕ) (v : Fraction) → 0 < d → p over d ≡ v → d over (p + d) ≡ whole 1 /ℚ (whole 1 +ℚ v)
-reciprocal p d v pos e =
-    let one : d ≡ 1 * d = omega arith in
-    ap (λ n. n over (p + d)) one ∙ units_of_reciprocal 1 p d v pos e
+-- a whole number of units of 1 / S, at most or at least S times x
+module _ (S : ℕ) (pos : 0 < S) where
+  pub units_below : (n : ℕ) (x : Fraction) → whole n ≤ℚ whole S *ℚ x → n over S ≤ℚ x
+  units_below n x h =
+      times_le_cancel _ _ (whole S) (whole_pos S pos) (rw (over_times_whole n S pos, times_comm x (whole S)) h)
+
+  pub units_above : (n : ℕ) (x : Fraction) → whole S *ℚ x ≤ℚ whole n → x ≤ℚ n over S
+  units_above n x h =
+      times_le_cancel _ _ (whole S) (whole_pos S pos) (rw (over_times_whole n S pos, times_comm x (whole S)) h)
+
+-- S over 1 + v as a multiple of its reciprocal
+pub units_over : (S : ℕ) (v : Fraction) → whole S /ℚ (whole 1 +ℚ v) ≡ whole S *ℚ (whole 1 /ℚ (whole 1 +ℚ v))
+units_over S v =
+    div_is_times (whole S) (whole 1 +ℚ v) (lt_of_lt_of_le _ _ _ (whole_pos 1 one_pos) (le_plus (whole 1) v))
+    ∙ times_comm _ _
+
+-- cell 0 of a geometric grid lies round 1 / (1 + v)
+pub floor_start : (B : ℕ) (v : Fraction) (n : ℕ) → IsFloor (whole (2 ^ B) /ℚ (whole 1 +ℚ v)) n
+    → n over 2 ^ B ≤ℚ whole 1 /ℚ (whole 1 +ℚ v)
+floor_start B v n h = units_below (2 ^ B) (pow_pos B) n _ (rw (← units_over (2 ^ B) v) h.below)
+
+pub ceiling_start : (B : ℕ) (v : Fraction) (n : ℕ) → IsCeiling (whole (2 ^ B) /ℚ (whole 1 +ℚ v)) n
+    → whole 1 /ℚ (whole 1 +ℚ v) ≤ℚ n over 2 ^ B
+ceiling_start B v n h = units_above (2 ^ B) (pow_pos B) n _ (rw (← units_over (2 ^ B) v) h.above)

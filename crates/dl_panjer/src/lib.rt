@@ -12,7 +12,9 @@ mod rates;
 mod sums;
 
 pub use follow::next_cell;
-pub use geometric::geometric_base;
+pub use geometric::{geometric_base, geometric_start};
 pub use laws::{law_exponential, law_stands};
 pub use made::grid_of;
 pub use poisson::poisson_base;
+pub use rates::halved;
+pub use sums::reached;

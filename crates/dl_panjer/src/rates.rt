@@ -30,3 +30,14 @@ pub(crate) fn shared(mean: Frac, shape: u32) -> (u64, u64)
 {
     (mean.num(), mean.den() * u64::from(shape))
 }
+
+/// `mean / 2^halvings`.
+pub fn halved(mean: Frac, halvings: u32) -> Frac
+    requires num { mean.num < admitted_bound }
+    requires den { mean.den < admitted_bound }
+    requires halvings { halvings ≤ 13 }
+    ensures value { result ≡ mean /ℚ whole (2 ^ halvings) }
+    ensures num { result.num ≤ mean.num }
+{
+    fraction(mean.num(), mean.den() * (1u64 << halvings))
+}

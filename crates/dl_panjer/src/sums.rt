@@ -12,7 +12,7 @@ use dl_iv::Iv;
 use dl_plan::Item;
 
 /// How many of the amounts are at most `most`: the first ones.
-fn reached(items: &[Item], most: usize) -> usize
+pub fn reached(items: &[Item], most: usize) -> usize
     requires rising { IsStrictlyIncreasing (amounts_of items.now) }
     ensures bound { result ≤ length items.now }
     ensures before { (k : ℕ) (d : Item) → k < result

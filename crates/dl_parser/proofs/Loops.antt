@@ -44,8 +44,7 @@ loop_starts a b p q x e = rw e (bind_assoc (read (many b) q) (λ y s. got (x, y)
 
 pub loop_ends : {A : Type 0} (a : Rule A) (o : Outcome (List A)) (p : Place) (xs : List A) → Loops a o p xs
     → begins (first a) p.rest ≡ false → o ≡ got xs p
-loop_ends a o p xs l t =
-    l ∙ bind_of _ _ [] p _ (whole_none a p.rest p.end (length p.rest) t) (ap (λ ys. got ys p) (append-nil xs))
+loop_ends a o p xs l t = grind (arith, whole_none a p.rest p.end (length p.rest) t, append-nil xs, bind_of)
 
 some_length : (ts : List Lexeme) (n : ℕ) → n < length ts → (m : ℕ) × (length ts ≡ suc m)
 some_length [] n h = absurd (omega arith)

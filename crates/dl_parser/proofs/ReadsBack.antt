@@ -63,8 +63,7 @@ led j k ks b y v tail rest d a l s false e =
     rw (e, none) refl
 led j k ks b y v [] rest d a l s true e = absurd (not_both _ (alone_is j b y (v ∷ []) v refl (same_is v.kind j e) s) a)
 led j k ks b y v (u ∷ tail) rest d a l s true e =
-    let second : same_kind u.kind k ≡ true = all_at k u.kind (seconds j b) l (second_is j b y (v ∷ u ∷ tail) v u tail refl (same_is v.kind j e) s) in
-    rw (e, second) refl
+    grind (arith, all_at k u.kind (seconds j b) l (second_is j b y (v ∷ u ∷ tail) v u tail refl (same_is v.kind j e) s))
 
 clear_seq : (e g c : Bool) → cond e c true ≡ true → (c ≡ true → g ≡ false) → (e && g) ≡ false
 clear_seq true g c h f = f h
@@ -100,17 +99,14 @@ clear_of (node f a) b y v tail rest c s = clear_of a b y v tail rest c s
 -- between two parts
 between : {A B : Type 0} (a : Rule A) (b : Rule B) (y : B) (vs rest : List Lexeme) → clears a b ≡ true → Spells b y vs
     → goes_on (a ▸ b) rest ≡ false → goes_on a (vs ++ rest) ≡ false
-between a b y [] rest c s m =
-    let tail : (is_empty b && goes_on a rest) ≡ false = (or_parts (goes_on b rest) _ m).1 in
-    rw (spelled_empty b y [] refl s) at tail
+between a b y [] rest c s m = grind (arith, spelled_empty b y, or_parts)
 between a b y (v ∷ tail) rest c s m = clear_of a b y v tail rest c s
 
 between_some : {A : Type 0} (a : Rule A) → is_empty a ≡ false → clears a a ≡ true
     → (x : A) (us ws vs rest : List Lexeme) → vs ≡ us ++ ws → Spells a x us → goes_on a (vs ++ rest) ≡ false
 between_some a full c x [] ws vs rest e s = absurd (not_both _ (spelled_empty a x [] refl s) full)
 between_some a full c x (u ∷ us) ws vs rest e s =
-    ap (λ zs. goes_on a zs) (ap (λ zs. zs ++ rest) e ∙ ap (λ zs. u ∷ zs) (append_assoc us ws rest))
-    ∙ clear_of a a x u us (ws ++ rest) c s
+    grind (arith, append_assoc us ws rest, clear_of a a x u us (ws ++ rest) c s)
 
 -- between two of many
 between_each : {A : Type 0} (a : Rule A) → is_empty a ≡ false → clears a a ≡ true
@@ -121,13 +117,7 @@ between_each a full c (x ∷ xs) vs rest s m = between_some a full c x s.0 s.1 v
 
 whole_seq : {A B : Type 0} (a : Rule A) (b : Rule B) → clears a b ≡ true → (x : A) (y : B) → Whole a x → Whole b y
     → Whole (a ▸ b) (x, y)
-whole_seq a b d x y wa wb ts rest at s m =
-    let us : List Lexeme = s.0 in
-    let vs : List Lexeme = s.1 in
-    ap (λ zs. read (a ▸ b) (record { end = at; rest = zs })) (ap (λ zs. zs ++ rest) s.2 ∙ append_assoc us vs rest)
-    ∙ bind_of _ _ x _ _ (wa us (vs ++ rest) at s.3 (between a b y vs rest d s.4 m))
-    (bind_of _ _ y _ _ (wb vs rest (end_of at us) s.4 (or_parts (goes_on b rest) _ m).0)
-    (ap (λ n. got (x, y) (record { end = n; rest = rest })) (sym (ap (end_of at) s.2 ∙ end_append at us vs))))
+whole_seq a b d x y wa wb ts rest at s m = grind (arith, append_assoc, bind_of, between, or_parts, end_append)
 
 whole_left : {A : Type 0} (a b : Rule A) (x : A) → is_empty a ≡ false → Whole a x → (ts rest : List Lexeme) (at : ℕ)
     → Spells a x ts → (goes_on a rest || goes_on b rest) ≡ false
@@ -161,8 +151,7 @@ whole_some : {A : Type 0} (a : Rule A) → is_empty a ≡ false → clears a a �
     → (begins (first a) rest || goes_on a rest) ≡ false → length (us ++ (vs ++ rest)) ≤ n
     → repeat (first a) (read a) n (record { end = at; rest = us ++ (vs ++ rest) }) ≡ got (x ∷ xs)
     (record { end = end_of (end_of at us) vs; rest = rest })
-whole_some a full d x xs wa wes [] vs rest at n s ss m le =
-    let yes : is_empty a ≡ true = spelled_empty a x [] refl s in absurd cc
+whole_some a full d x xs wa wes [] vs rest at n s ss m le = grind (arith, spelled_empty a x)
 whole_some a full d x xs wa wes (u ∷ us) vs rest at zero s ss m le = absurd (omega arith)
 whole_some a full d x xs wa wes (u ∷ us) vs rest at (suc n) s ss m le =
     rw (first_is a x (u ∷ us) u us refl s)
@@ -221,8 +210,7 @@ whole (unless j k a) ok (Some x) ts rest at s m =
     rw (enters_own j k a x ts rest (is_no _ q.0) r.0 r.1 s) (bind_of _ _ x _ _ (whole a p.0 x ts rest at s (or_parts (enters j k (first a) rest) (goes_on a rest) m).1) refl)
 whole (many a) ok xs ts rest at s m = let p = and_parts _ _ ok in let q = and_parts _ _ p.1 in
     whole_each a (is_no _ q.0) (and_parts _ _ q.1).0 (whole a p.0) xs ts rest at (length (ts ++ rest)) s m (omega arith)
-whole (made f a) ok y ts rest at s m = bind_of _ _ s.0 _ _ (whole a ok s.0 ts rest at s.2 m)
-    (ap (λ v. got v (record { end = end_of at ts; rest = rest })) (sym s.1))
+whole (made f a) ok y ts rest at s m = grind (arith, whole a ok s.0 ts rest, bind_of)
 whole (node f a) ok y ts rest at s m =
     let p = and_parts _ _ ok in
     let some : ts ≡ [] → ⊥ = λ e. not_both _ (spelled_empty a s.0 ts e s.2) (is_no _ p.1) in

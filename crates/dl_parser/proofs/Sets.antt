@@ -1,4 +1,6 @@
 -- Kinds, and lists of them.
+use Rattle.std.proofs.lemmas.Bool.Decides.{nat_tests}
+use Rattle.std.proofs.lemmas.Grind.{common_steps}
 use Rattle.dl_parser.proofs.Common.{◌≡◌, zero, suc, arith, Bool, true, false, cond, ◌||◌, List, [], ◌∷◌, ◌++◌, refl, sym, ap, subst, rules, Kind, Word, Sign, same_kind, among, apart}
 use Rattle.std.specs.Prelude.{Contains}
 use Rattle.std.proofs.lemmas.Map.Views.{Contains-from_any}
@@ -58,8 +60,7 @@ same_self a b e = subst (λ k. same_kind a k ≡ true) e (self a)
 
 pub among_append : (k : Kind) (js ks : List Kind) → among k (js ++ ks) ≡ (among k js || among k ks)
 among_append k [] ks = refl
-among_append k (j ∷ js) ks = elim (same_kind k j) as
-    (λ b. (b || among k (js ++ ks)) ≡ ((b || among k js) || among k ks)) [ true ↦ refl | false ↦ among_append k js ks ]
+among_append k (j ∷ js) ks = grind (arith, nat_tests, common_steps)
 
 -- a kind of one list is not in the other
 abbrev ApartAt : List Kind → List Kind → Kind → Type 0
@@ -69,8 +70,7 @@ apart_step : (j : Kind) (js ks : List Kind) (k : Kind) → ApartAt js ks k → (
     → same_kind k j ≡ s
     → cond b false (apart js ks) ≡ true → among k ks ≡ true → (s || among k js) ≡ false
 apart_step j js ks k rest true e s d g m = absurd cc
-apart_step j js ks k rest false e true d g m =
-    let here : among j ks ≡ true = subst (λ i. among i ks ≡ true) (same_is k j d) m in absurd cc
+apart_step j js ks k rest false e true d g m = grind (arith, same_is k j d)
 apart_step j js ks k rest false e false d g m = rest g m
 
 pub apart_at : (js ks : List Kind) (k : Kind) → ApartAt js ks k
@@ -83,8 +83,7 @@ pub among_contains : (ks : List Kind) (k : Kind) → Contains ks k → among k k
 among_contains [] k c = absurd (omega (arith, c.1))
 among_contains (j ∷ js) k (zero, lt, e) = rw (same_self k j (sym e)) refl
 among_contains (j ∷ js) k (suc i, lt, e) =
-    rw (among_contains js k (i, omega arith, e))
-    (elim (same_kind k j) as (λ b. (b || true) ≡ true) [ true ↦ refl | false ↦ refl ])
+    grind (arith, nat_tests, common_steps, among_contains js k (i, omega arith, e))
 
 pub contains_among : (ks : List Kind) (k : Kind) → among k ks ≡ true → Contains ks k
 contains_among ks k h = Contains-from_any {eq = same_kind} same_is k ks h

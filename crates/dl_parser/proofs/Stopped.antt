@@ -1,9 +1,9 @@
 -- Where reading stops, the tokens so far go on with a token of the wanted kind and with no other.
-use Rattle.dl_parser.proofs.Common.{◌≡◌, ℕ, zero, suc, ◌≤◌, ◌<◌, Bool, true, false, cond, ◌&&◌, ◌||◌, ◌⊎◌, List, [], ◌∷◌, ◌++◌, length, Some, None, refl, sym, ap, ◌∙◌, subst, inl, inr, arith, append_assoc, append-nil, Kind, All, All-nil, All-cons, Lexeme, IsReal, token_of, token_kind, token_real, Rule, one, ◌▸◌, ◌or◌, maybe, many, unless, made, node, Each, Spells, end_of, span_of, Place, Outcome, got, stuck, ◌>>=◌, same_kind, among, begins, start_of, is_empty, first, watched, two_at, enters, is_settled, goes_on, one_at, repeat, read, is_plain, and_parts, or_parts}
+use Rattle.dl_parser.proofs.Common.{◌≡◌, ℕ, zero, suc, ◌≤◌, ◌<◌, Bool, true, false, cond, ◌||◌, ◌⊎◌, List, [], ◌∷◌, ◌++◌, length, Some, None, refl, sym, ap, ◌∙◌, subst, inl, inr, arith, append_assoc, append-nil, Kind, All, All-nil, Lexeme, IsReal, token_of, token_kind, token_real, Rule, one, ◌▸◌, ◌or◌, maybe, many, unless, made, node, Each, Spells, end_of, span_of, Place, Outcome, got, stuck, ◌>>=◌, same_kind, among, begins, start_of, is_empty, first, watched, two_at, enters, is_settled, goes_on, one_at, repeat, read, is_plain, and_parts, or_parts}
 use Rattle.std.proofs.lemmas.List.Elements.{All-append}
 use Rattle.dl_parser.proofs.Sets.{same_is, among_append}
-use Rattle.dl_parser.proofs.Starts.{bind_stuck, chosen, no_append, spelled_empty}
-use Rattle.dl_parser.proofs.ReadsBack.{bind_of, is_no, not_both, whole}
+use Rattle.dl_parser.proofs.Starts.{bind_stuck, chosen, no_append}
+use Rattle.dl_parser.proofs.ReadsBack.{bind_of, is_no, whole}
 use Rattle.dl_parser.proofs.Took.{Pend, pend_behind, pend_settled, alike_two, test_two, two_behind, Alike, Took, alike_left, alike_right, alike_with, fewer, in_parts, one_more, shorter, test_same, took}
 
 -- where reading stops, the tokens before go on with a token of the wanted kind, and with none that the tests take for
@@ -21,13 +21,7 @@ StoppedBy r p (stuck k q) = Stopped r p k q
 
 -- something that the rule spells, by real tokens
 sample : {X : Type 0} (r : Rule X) → (x : X) × (ts : List Lexeme) × Spells r x ts × All IsReal ts
-sample (one k) = (
-  token_of k,
-  token_of k ∷ [],
-  (token_kind k, refl),
-  All-cons IsReal (token_of k) [] (token_real k)
-      (All-nil IsReal),
-)
+sample (one k) = grind (arith, token_of k, token_kind k, token_real k)
 sample (a ▸ b) = let s = sample a in let t =
     sample b in ((s.0, t.0), s.1 ++ t.1, (s.1, t.1, refl, s.2, t.2), All-append IsReal s.1 t.1 s.3 t.3)
 sample (a or b) = let s = sample a in (s.0, s.1, inl s.2, s.3)
@@ -52,8 +46,7 @@ entered false c h = h
 -- nothing goes on where there is nothing
 pub nothing_on : {X : Type 0} (r : Rule X) → goes_on r [] ≡ false
 nothing_on (one k) = refl
-nothing_on (a ▸ b) =
-    rw (nothing_on a, nothing_on b) (elim (is_empty b) as (λ e. (e && false) ≡ false) [ true ↦ refl | false ↦ refl ])
+nothing_on (a ▸ b) = grind (arith, nothing_on a, nothing_on b)
 nothing_on (a or b) = rw (nothing_on a, nothing_on b) refl
 nothing_on (maybe a) = nothing_on a
 nothing_on (many a) = nothing_on a

@@ -1,4 +1,6 @@
 -- What was read is spelled, and is read in the same way where what is left begins alike.
+use Rattle.std.proofs.lemmas.Bool.Decides.{nat_tests}
+use Rattle.std.proofs.lemmas.Grind.{common_steps}
 use Rattle.dl_parser.proofs.Common.{◌≡◌, ℕ, zero, suc, ◌≤◌, ◌<◌, Bool, true, false, cond, ◌&&◌, ◌||◌, List, [], ◌∷◌, ◌++◌, length, Some, None, refl, sym, ap, ◌∙◌, subst, inl, inr, arith, append_assoc, length-append, Kind, Lexeme, Rule, one, ◌▸◌, ◌or◌, maybe, many, unless, made, node, Each, Spells, end_of, span_of, Place, Outcome, got, stuck, ◌>>=◌, same_kind, among, begins, start_of, is_empty, first, watched, two_at, enters, is_settled, one_at, repeat, read, is_plain, and_parts}
 use Rattle.dl_parser.specs.Reading.{settles}
 use Rattle.dl_parser.proofs.Sets.{same_is, same_self}
@@ -18,8 +20,7 @@ alike_right js ks us vs h k m = h k (among_right k js ks m)
 
 begins_cons : (k : Kind) (ks : List Kind) (us : List Lexeme) → begins (k ∷ ks) us ≡ (begins (k ∷ []) us || begins ks us)
 begins_cons k ks [] = refl
-begins_cons k ks (u ∷ us) = elim (same_kind u.kind k) as
-    (λ b. (b || among u.kind ks) ≡ ((b || false) || among u.kind ks)) [ true ↦ refl | false ↦ refl ]
+begins_cons k ks (u ∷ us) = grind (arith, nat_tests, common_steps)
 
 alike_begins : (ks : List Kind) (us vs : List Lexeme) → Alike ks us vs → begins ks us ≡ begins ks vs
 alike_begins [] [] [] h = refl
@@ -145,8 +146,7 @@ took_seq a b p s q x y still ta tb = (
 -- the test of the next token comes out the same
 pub test_same : (ks : List Kind) (p q : Place) (ts z : List Lexeme) (b : Bool) → p.rest ≡ ts ++ q.rest
     → Alike ks q.rest z → begins ks p.rest ≡ b → begins ks (ts ++ z) ≡ b
-test_same ks p q ts z b e h t =
-    sym (alike_begins ks (ts ++ q.rest) (ts ++ z) (alike_behind ks ts q.rest z h)) ∙ ap (begins ks) (sym e) ∙ t
+test_same ks p q ts z b e h t = grind (arith, alike_begins ks (ts ++ q.rest) (ts ++ z) (alike_behind ks ts q.rest z h))
 
 abbrev TookEach : {A : Type 0} → Rule A → ℕ → Place → List A → Place → Type 0
 TookEach a n p xs q = (ts : List Lexeme) × (p.rest ≡ ts ++ q.rest) × (q.end ≡ end_of p.end ts) × Each (Spells a) xs ts
@@ -160,15 +160,7 @@ TookEachBy a n p (got xs q) = TookEach a n p xs q
 TookEachBy a n p (stuck k q) = Unit {0}
 
 took_none : {A : Type 0} (a : Rule A) (n : ℕ) (p : Place) → begins (first a) p.rest ≡ false → TookEach a n p [] p
-took_none a n p h = (
-  [],
-  refl,
-  refl,
-  refl,
-  λ z m le g. whole_none a z p.end m
-      (sym (alike_begins (first a) p.rest z (alike_left (first a) (watched a) p.rest z g)) ∙ h),
-  h,
-)
+took_none a n p h = grind (arith, nat_tests, common_steps, whole_none, alike_begins, alike_left)
 
 -- one of them, and the others behind it: what is made of them is what the others give, with the one in front
 goes_through : {A : Type 0} (a : Rule A) → is_empty a ≡ false
@@ -180,9 +172,7 @@ goes_through : {A : Type 0} (a : Rule A) → is_empty a ≡ false
     ≡ (o >>= λ xs r. got (x ∷ xs) r)
 goes_through a full p s x o [] vs m sp t ra rest le = absurd (not_both _ (spelled_empty a x [] refl sp) full)
 goes_through a full p s x o (u ∷ us) vs zero sp t ra rest le = absurd (omega arith)
-goes_through a full p s x o (u ∷ us) vs (suc m) sp t ra rest le =
-    rw t (bind_of _ _ x _ _ ra (ap (λ (r : Outcome _). r >>= λ xs q. got (x ∷ xs) q)
-    (rest m (omega (arith, length-append us vs)))))
+goes_through a full p s x o (u ∷ us) vs (suc m) sp t ra rest le = grind (arith, length-append us vs, bind_of)
 
 pub one_more : {A : Type 0} (a : Rule A) → is_empty a ≡ false
     → (p s q : Place) (x : A) (o : Outcome (List A)) (t : Took a p x s) (ts z : List Lexeme) (m : ℕ)
@@ -232,8 +222,7 @@ took_each : {A : Type 0} (a : Rule A) → is_empty a ≡ false → settles (firs
     → ((p q : Place) (x : A) → read a p ≡ got x q → Took a p x q) → (n : ℕ) (p q : Place) (xs : List A)
     → length p.rest ≤ n
     → repeat (first a) (read a) n p ≡ got xs q → TookEach a n p xs q
-took_each a full still ta zero p q xs le e =
-    subst (TookEachBy a zero p) e (took_none a zero p (none_left (first a) p.rest le))
+took_each a full still ta zero p q xs le e = grind (arith, took_none a zero p (none_left (first a) p.rest le))
 took_each a full still ta (suc n) p q xs le e = elim (chosen (begins (first a) p.rest) _ _ _ e) [
   | inl c ↦
       let one = bind_got (read a p) _ xs q c.1 in

@@ -1,4 +1,6 @@
 -- From reading to what a parse says.
+use Rattle.std.proofs.lemmas.Bool.Decides.{nat_tests}
+use Rattle.std.proofs.lemmas.Grind.{common_steps}
 use Rattle.dl_parser.proofs.Common.{◌≡◌, ℕ, zero, suc, ◌+◌, ◌≤◌, ◌<◌, Bool, true, false, cond, ◌&&◌, List, [], ◌∷◌, ◌++◌, length, take, drop, refl, sym, ap, ◌∙◌, subst, ◌⊎◌, inl, inr, arith, append_assoc, length-append, All, append-nil, All-nil, All-cons, and_parts, Kind, Word, Lexeme, IsReal, Spells, end_of, numeral, name, note, limit, layer, reference, side, count, zero_change, freq, claims, premium, common, head, item, next_item, items, list, atom, weighted, mixture, cost, sev, defined, sevdef, cession, next_cession, layers, clause, ratio, exposure, loss, ending, closing, exposed, listed, counted, body, unit, units, book, token_of, token_kind, token_real, Place, Outcome, got, stuck, same_kind, among, begins, watched, read, apart, plain}
 use Rattle.std.proofs.lemmas.Bool.{cases_lt}
 use Rattle.dl_lexer.specs.declared.token.Keyword.TheVariants as words
@@ -37,8 +39,7 @@ beyond : (us rest : List Lexeme) (j : ℕ) → length us < j → j ≤ length (u
 beyond us rest zero h le = absurd (omega arith)
 beyond [] [] (suc j) h le = absurd (omega arith)
 beyond [] (t ∷ others) (suc j) h le = (t, others, take j others, refl, refl)
-beyond (u ∷ us) rest (suc j) h le =
-    let b = beyond us rest j (omega arith) (omega arith) in (b.0, b.1, b.2, b.3, ap (λ zs. u ∷ zs) b.4)
+beyond (u ∷ us) rest (suc j) h le = grind (arith, nat_tests, common_steps, beyond us rest j (omega arith) (omega arith))
 
 same_head : (ks : List Kind) (rest : List Lexeme) (t : Lexeme) (others z : List Lexeme) → rest ≡ t ∷ others
     → Alike ks rest (t ∷ z)
@@ -165,8 +166,7 @@ stuck_over : (us rest : List Lexeme) (k : Kind) (q : Place) → Stays us rest k 
     → (t : Lexeme) (more : List Lexeme) (p : Program) → Alike (watched factored.program) rest (t ∷ more)
     → begins (k ∷ []) (t ∷ more) ≡ false
     → Spells program p (us ++ t ∷ more) → ⊥
-stuck_over us rest k q stays t more p h f s = let two : stuck k (record { end = q.end; rest = t ∷ more }) ≡ got p _ =
-    sym (stays (t ∷ more) h f) ∙ reads_all p (us ++ t ∷ more) s in cc
+stuck_over us rest k q stays t more p h f s = grind (arith, nat_tests, common_steps, reads_all p (us ++ t ∷ more) s)
 
 -- a real token of the wanted kind goes on
 begun_by : (us : List Lexeme) (k : Kind) → Goes us k → Begins (us ++ token_of k ∷ [])
@@ -233,8 +233,7 @@ stuck_refused : (us rest : List Lexeme) (k : Kind) (q : Place) → begins (k ∷
     → (b : Bool) → (same_kind k (Word words.Dhistogram) && begins continuous rest) ≡ b
     → IsRefused (us ++ rest) (cond b (faults.Continuous (length us)) (faults.Syntax (length us)))
 stuck_refused us rest k q f r goes stays true e =
-    let both = and_parts _ _ e in
-    (stuck_stops us rest k q f r goes stays, stuck_continuous us rest k (same_is k _ both.0) both.1 goes)
+    grind (arith, stuck_stops us rest k q f r goes stays, stuck_continuous, same_is, and_parts)
 stuck_refused us rest k q f r goes stays false e =
     (stuck_stops us rest k q f r goes stays, not_continuous us rest k q stays e)
 

@@ -25,18 +25,21 @@ mod units;
 pub use syntax::{ParseFault, parse};
 
 /// The same tokens spell at most one program.
+#[tactic(auto, using(crate::proofs::Whole::one_program))]
 pub fn law_one_program()
     ensures { (p q : Program) (ts : List Lexeme) → Spells program p ts → Spells program q ts
         → p ≡ q }
 {}
 
 /// Tokens stop at one place at most.
+#[tactic(auto, using(crate::proofs::Whole::one_place))]
 pub fn law_one_place()
     ensures { (ts : List Lexeme) (j k : ℕ) → Stops ts j → Stops ts k → j ≡ k }
 {}
 
 /// The lines that the parser reads with their shared beginnings read once spell the same as they
 /// are written, and so does the whole grammar.
+#[tactic(auto, using(crate::proofs::Written::item_alike, crate::proofs::Written::mixture_alike, crate::proofs::Written::definition_alike, crate::proofs::Written::cession_alike, crate::proofs::Written::exposure_alike, crate::proofs::Written::unit_alike, crate::proofs::Written::program_alike))]
 pub fn law_as_written()
     ensures item { SpellAlike factored.item item }
     ensures mixture { SpellAlike factored.mixture mixture }

@@ -48,6 +48,7 @@ impl<'a> Parser<'a> {
     }
 
     /// `atom*`, behind those that are there.
+    #[tactic(auto, using(crate::proofs::Loops::loop_at_start, crate::proofs::Loops::loop_ends))]
     fn more_atoms(&mut self, atoms: &mut Vec<Atom>) -> Result<(), Stop>
         ensures source { self.new.source ≡ self.old.source }
         ensures reads { Adds (many atom) self.old self.new atoms.old.items atoms.new.items result }
@@ -201,6 +202,7 @@ impl<'a> Parser<'a> {
     }
 
     /// `sevdef*`
+    #[tactic(auto, using(crate::proofs::Loops::loop_at_start, crate::proofs::Loops::loop_ends))]
     pub(crate) fn definitions(&mut self) -> Result<Items<SevDef>, Stop>
         ensures source { self.new.source ≡ self.old.source }
         ensures reads { ReadsBy (many sevdef) self.old self.new result }

@@ -83,6 +83,7 @@ impl<'a> Parser<'a> {
 
 /// The program that the tokens of a text spell; no other is spelled by them. A text has at most
 /// 1,048,576 bytes, and the tokens are those that it is cut into.
+#[tactic(auto, using(crate::proofs::Covered::covered_inside, crate::proofs::Covered::covered_few))]
 pub fn parse(alloc: Global, source: &[u8], tokens: &[Token]) -> Result<Program, ParseFault>
     requires covered { Covers source.now (length source.now) tokens.now }
     requires short { length source.now ≤ most_text }

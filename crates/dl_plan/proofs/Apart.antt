@@ -1,5 +1,5 @@
 -- Layers that do not overlap take, together, at most what there is.
-use Rattle.dl_plan.proofs.Common.{ℕ, zero, suc, ◌≡◌, ◌∙◌, ◌+◌, ◌*◌, ◌/◌, ◌≤◌, ◌⊎◌, max, List, [], ◌∷◌, Option, Some, None, true, false, refl, sym, ap, ap₂, subst, arith, inl, inr, All, AllPairs, sum_by, cases_lt, All-head, All-tail, sum_by-cons, whole, ◌≤ℚ◌, CedeLayer, Clause, layer, Overlap, IsClause, layer_parts, kept_parts}
+use Rattle.dl_plan.proofs.Common.{ℕ, zero, suc, ◌≡◌, ◌∙◌, ◌+◌, ◌*◌, ◌/◌, ◌≤◌, ◌⊎◌, List, [], ◌∷◌, Option, Some, None, true, false, refl, sym, ap, ap₂, arith, inl, inr, All, AllPairs, sum_by, All-head, All-tail, sum_by-cons, whole, ◌≤ℚ◌, CedeLayer, Clause, layer, Overlap, IsClause, layer_parts, kept_parts}
 use Rattle.dl_plan.specs.Clause.{IsBelowTop}
 use Rattle.dl_plan.proofs.Clauses.{scaled_le}
 
@@ -15,17 +15,8 @@ pub record IsIn (x : ℕ) (l : CedeLayer) : Type 0 where
 -- the bucket x adds nothing to a layer, or one, and then it is in it
 grows_by : (limit : Option ℕ) (a x : ℕ) → (layer limit a (x + 1) ≡ layer limit a x)
     ⊎ ((layer limit a (x + 1) ≡ layer limit a x + 1) × (a ≤ x) × IsBelowTop limit a x)
-grows_by None a x = elim (cases_lt x a) [
-  | inl h ↦ inl (omega (arith, h))
-  | inr h ↦ inr (omega (arith, h), h, tt)
-]
-grows_by (Some l) a x = elim (cases_lt x a) [
-  | inl h ↦ inl (omega (arith, h))
-  | inr h ↦ elim (cases_lt x (a + l)) [
-    | inl p ↦ inr (omega (arith, h, p), h, p)
-    | inr p ↦ inl (omega (arith, h, p))
-  ]
-]
+grows_by None a x = grind arith
+grows_by (Some l) a x = grind arith
 
 below_less : (limit : Option ℕ) (b a x : ℕ) → a ≤ x → IsBelowTop limit b x → IsBelowTop limit b a
 below_less None b a x h below = tt
@@ -33,17 +24,10 @@ below_less (Some m) b a x h below = omega (arith, h, below)
 
 -- two layers that share a bucket overlap
 overlap : (l m : CedeLayer) (x : ℕ) → IsIn x l → IsIn x m → Overlap l m
-overlap l m x p q =
-    let a : max l.attach m.attach ≤ x = omega (arith, p.attached, q.attached) in (
-      below_less l.limit l.attach (max l.attach m.attach) x a p.below,
-      below_less m.limit m.attach (max l.attach m.attach) x a q.below,
-    )
+overlap l m x p q = grind (arith, below_less)
 
 grows : (l : CedeLayer) (x : ℕ) → (taken (x + 1) l ≡ taken x l) ⊎ ((taken (x + 1) l ≡ taken x l + 1) × IsIn x l)
-grows l x = elim (grows_by l.limit l.attach x) [
-  | inl e ↦ inl e
-  | inr e ↦ inr (e.0, record { attached = e.1; below = e.2 })
-]
+grows l x = grind (arith, grows_by l.limit l.attach x)
 
 part_same : (c x y : ℕ) (l : CedeLayer) → taken y l ≡ taken x l → layer_parts c y l ≡ layer_parts c x l
 part_same c x y l e = ap (λ n. l.share.num * (c / l.share.den) * n) e
@@ -97,19 +81,13 @@ taken_none (Some l) a = omega arith
 
 none_ceded : (c : ℕ) (ls : List CedeLayer) → sum_by (layer_parts c 0) ls ≡ 0
 none_ceded c [] = refl
-none_ceded c (l ∷ ls) =
-    let none : layer_parts c 0 l ≡ 0 = ap (λ n. l.share.num * (c / l.share.den) * n) (taken_none l.limit l.attach)
-    ∙ omega arith in
-    sum_by-cons (layer_parts c 0) l ls ∙ ap₂ (λ a b. a + b) none (none_ceded c ls)
+none_ceded c (l ∷ ls) = grind (arith, taken_none l.limit l.attach, sum_by-cons (layer_parts c 0) l ls, none_ceded c ls)
 
 -- what is ceded of x is at most x
 pub ceded_le : (clause : Clause) (c x : ℕ) → IsClause clause → sum_by (layer_parts c x) clause.1 ≤ x * c
 ceded_le clause c zero accepted = omega (arith, none_ceded c clause.1)
 ceded_le clause c (suc x) accepted =
-    let more : sum_by (layer_parts c (suc x)) clause.1 ≤ sum_by (layer_parts c x) clause.1 + c =
-    subst (λ n. sum_by (layer_parts c n) clause.1 ≤ sum_by (layer_parts c x) clause.1 + c) (omega arith)
-    (ceded_more c x clause.1 accepted.apart accepted.within).1 in
-    omega (arith, more, ceded_le clause c x accepted)
+    grind (arith, ceded_more c x clause.1 accepted.apart accepted.within, ceded_le clause c x accepted)
 
 pub kept_le : (clause : Clause) (c x : ℕ) → IsClause clause → kept_parts clause c x ≤ x * c
 kept_le (true, layers) c x accepted = omega arith
@@ -126,14 +104,6 @@ kept_more (false, layers) c x accepted = (ceded_more c x layers accepted.apart a
 
 -- what is kept never falls
 pub kept_rises : (clause : Clause) (c x n : ℕ) → IsClause clause → kept_parts clause c x ≤ kept_parts clause c (x + n)
-kept_rises clause c x zero accepted =
-    let none : x + 0 ≡ x = omega arith in
-    omega (arith, ap (λ y. kept_parts clause c y) none)
+kept_rises clause c x zero accepted = grind arith
 kept_rises clause c x (suc n) accepted =
-    let next : x + suc n ≡ x + n + 1 = omega arith in
-    omega (
-      arith,
-      ap (λ y. kept_parts clause c y) next,
-      kept_more clause c (x + n) accepted,
-      kept_rises clause c x n accepted,
-    )
+    grind (arith, kept_more clause c (x + n) accepted, kept_rises clause c x n accepted)

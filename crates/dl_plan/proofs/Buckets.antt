@@ -5,8 +5,4 @@ use Rattle.dl_exact.proofs.Parts.{whole_num, whole_den}
 use Rattle.dl_plan.specs.Ranges.{IsBucket}
 
 pub one_bucket : IsBucket (whole 1)
-one_bucket = record {
-  above = whole_pos 1 (omega arith);
-  num = omega (arith, whole_num 1);
-  den = omega (arith, whole_den 1);
-}
+one_bucket = grind (arith, whole_pos 1 (omega arith), whole_num 1, whole_den 1)

@@ -1,7 +1,6 @@
 -- What a clause cedes, over the common denominator of its shares.
-use Rattle.dl_plan.proofs.Common.{ℕ, ◌≡◌, ◌∙◌, ◌-◌, ◌*◌, ◌/◌, ◌<◌, ◌≤◌, true, false, List, [], ◌∷◌, Option, Some, None, sym, ap, ap₂, subst, arith, mul-pos, mul-le-mul_right, All, sum_by, All-nil, All-cons, All-tail, sum_by-cons, div-mul_cancel, ◌∣◌, gcd, Fraction, whole, ◌over◌, ◌-ℚ◌, ◌*ℚ◌, ◌≤ℚ◌, gcd_is, over_self, over_same, over_mul, over_sub, le_over, CedeLayer, Clause, layer, layer_shares, layer_parts, kept_parts, parts_in_bucket}
-use Rattle.std.proofs.Common.{◌%◌, ◌+◌, ◌++◌, get_or, length, take}
-use Rattle.std.proofs.lemmas.List.{map-append, take_more}
+use Rattle.dl_plan.proofs.Common.{ℕ, ◌≡◌, ◌∙◌, ◌*◌, ◌/◌, ◌<◌, ◌≤◌, true, false, List, [], ◌∷◌, Option, Some, None, sym, ap, ap₂, subst, arith, mul-pos, mul-le-mul_right, All, sum_by, All-nil, All-cons, All-tail, sum_by-cons, div-mul_cancel, ◌∣◌, Fraction, whole, ◌over◌, ◌*ℚ◌, ◌≤ℚ◌, gcd_is, over_self, over_same, over_mul, over_sub, le_over, CedeLayer, Clause, layer, layer_shares, layer_parts, kept_parts, parts_in_bucket}
+use Rattle.std.proofs.Common.{◌%◌}
 use Rattle.std.proofs.Math.Nat.{div-mul-le_self, div-add-mod}
 use Rattle.std.proofs.lemmas.Nat.Gcd.{mod-eq-zero_of_dvd}
 use Rattle.dl_exact.specs.Fraction.{◌+ℚ◌}
@@ -15,22 +14,13 @@ use Rattle.dl_exact.proofs.Denominators.{over_zero, over_plus}
 
 -- ---- one layer
 
-pub shares_more : (layers : List CedeLayer) (i : ℕ) (l : CedeLayer) → i < length layers → l ≡ get_or layers i l
-    → layer_shares (take i layers) ++ l.share ∷ [] ≡ layer_shares (take (i + 1) layers)
-shares_more layers i l h is =
-    let more : take (i + 1) layers ≡ take i layers ++ l ∷ [] = take_more layers i l h
-    ∙ ap (λ (k : CedeLayer). take i layers ++ k ∷ []) (sym is) in
-    sym (ap layer_shares more ∙ map-append (λ (k : CedeLayer). k.share) (take i layers) (l ∷ []))
-
 pub layer_le : (limit : Option ℕ) (a x : ℕ) → layer limit a x ≤ x
 layer_le None a x = omega arith
 layer_le (Some l) a x = omega arith
 
 pub num_le_den : (x : Fraction) → x ≤ℚ whole 1 → x.num ≤ x.den
 num_le_den x h =
-    let cross : x.num * 1 ≤ 1 * x.den = le_over x.num x.den 1 1 x.positive (omega arith)
-    (subst (λ y. y ≤ℚ whole 1) (sym (over_self x)) h) in
-    omega (arith, cross)
+    grind (arith, le_over x.num x.den 1 1 x.positive (omega arith) (subst (λ y. y ≤ℚ whole 1) (sym (over_self x)) h))
 
 -- a share of at most 1 takes at most all of the parts
 pub scaled_le : (x : Fraction) (c : ℕ) → x ≤ℚ whole 1 → x.num * (c / x.den) ≤ c
@@ -62,12 +52,7 @@ ceded_over (l ∷ ls) c x h d =
 
 pub kept_over : (clause : Clause) (c x : ℕ) → 0 < c → All (λ l. l.share.den ∣ c) clause.1
     → kept clause x ≡ kept_parts clause c x over c
-kept_over (true, layers) c x h d =
-    let s = sum_by (layer_parts c x) layers in
-    ap (λ y. whole x -ℚ y) (ceded_over layers c x h d)
-    ∙ over_sub x 1 s c (omega arith) h
-    ∙ over_same (x * c - s * 1) (1 * c) (x * c - s) c (omega (arith, h)) h
-    (ap₂ (λ a b. (x * c - a) * b) (omega arith) (omega arith))
+kept_over (true, layers) c x h d = grind (arith, ceded_over layers c x h d, over_sub, over_same)
 kept_over (false, layers) c x h d = ceded_over layers c x h d
 
 -- ---- whole numbers
@@ -76,10 +61,7 @@ pub whole_if : (n d : ℕ) → 0 < d → n % d ≡ 0 → n over d ≡ whole (n /
 whole_if n d h e = over_same n d (n / d) 1 h (omega arith) (omega (arith, div-add-mod n d))
 
 pub whole_only : (n d : ℕ) → 0 < d → (n over d).den ≡ 1 → n % d ≡ 0
-whole_only n d h e =
-    let g = gcd n d in
-    let all : d ≡ g = omega (arith, cut_right n d, ap (λ k. k * g) (sym (over_den n d h) ∙ e)) in
-    mod-eq-zero_of_dvd d (subst (λ k. k ∣ n) (sym all) (gcd_is n d).0)
+whole_only n d h e = grind (arith, cut_right n d, over_den n d h, gcd_is n d, mod-eq-zero_of_dvd)
 
 -- ---- over the common denominator
 
@@ -95,17 +77,12 @@ share_divides c (l ∷ ls) d =
 
 pub kept_is : (clause : Clause) (x : ℕ) → kept clause x
     ≡ kept_parts clause (parts_in_bucket clause) x over parts_in_bucket clause
-kept_is clause x = kept_over clause (parts_in_bucket clause) x (bucket_pos clause)
-    (share_divides _ clause.1 (den_divides 1 (layer_shares clause.1)))
+kept_is clause x = grind (arith, bucket_pos clause, den_divides 1 (layer_shares clause.1), kept_over, share_divides)
 
 pub kept_whole : (clause : Clause) (x c p : ℕ) → c ≡ parts_in_bucket clause
     → p ≡ kept_parts clause (parts_in_bucket clause) x → p % c ≡ 0 → kept clause x ≡ whole (p / c)
-kept_whole clause x c p bucket parts e =
-    let same : kept clause x ≡ p over c = rw (bucket, parts) (kept_is clause x) in
-    same ∙ whole_if p c (rw bucket (bucket_pos clause)) e
+kept_whole clause x c p bucket parts e = grind (arith, kept_is clause x, whole_if p c (rw bucket (bucket_pos clause)) e)
 
 pub kept_only : (clause : Clause) (x c p : ℕ) → c ≡ parts_in_bucket clause
     → p ≡ kept_parts clause (parts_in_bucket clause) x → IsWhole (kept clause x) → p % c ≡ 0
-kept_only clause x c p bucket parts e =
-    let same : kept clause x ≡ p over c = rw (bucket, parts) (kept_is clause x) in
-    whole_only p c (rw bucket (bucket_pos clause)) (ap (λ (y : Fraction). y.den) (sym same) ∙ e)
+kept_only clause x c p bucket parts e = grind (arith, kept_is clause x, bucket_pos clause, whole_only)

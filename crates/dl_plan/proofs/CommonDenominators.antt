@@ -1,5 +1,5 @@
 -- The common denominator of a list of fractions.
-use Rattle.dl_plan.proofs.Common.{ℕ, ◌≡◌, ◌∙◌, ◌+◌, ◌*◌, ◌<◌, ◌≤◌, List, [], ◌∷◌, length, get_or, take, drop, fold, sym, ap, arith, mul-pos, inl, inr, All, All-cons, All-nil, ◌∣◌, dvd_trans, dvd_refl, gcd, Fraction, common_denominator}
+use Rattle.dl_plan.proofs.Common.{ℕ, ◌≡◌, ◌∙◌, ◌+◌, ◌<◌, ◌≤◌, List, [], ◌∷◌, length, get_or, take, drop, fold, sym, ap, arith, mul-pos, All, All-cons, All-nil, ◌∣◌, dvd_trans, dvd_refl, Fraction, common_denominator}
 use Rattle.std.proofs.Math.Nat.{eq-zero-or-pos}
 use Rattle.std.proofs.lemmas.List.{take-append-drop}
 use Rattle.std.proofs.lemmas.List.Sums.{fold-append, fold_more}
@@ -9,10 +9,7 @@ use Rattle.dl_exact.proofs.Multiples.{lcm_left, lcm_right, lcm_gcd}
 
 -- the least common multiple of numbers above 0 is above 0
 pub lcm_pos : (a b : ℕ) → 0 < a → 0 < b → 0 < lcm a b
-lcm_pos a b ha hb = elim (eq-zero-or-pos (lcm a b)) [
-  | inl none ↦ absurd (omega (arith, mul-pos ha hb, lcm_gcd a b, ap (λ n. n * gcd a b) none))
-  | inr pos ↦ pos
-]
+lcm_pos a b ha hb = grind (arith, eq-zero-or-pos (lcm a b), mul-pos ha hb, lcm_gcd a b)
 
 -- the common multiple of m and the denominators
 abbrev pub common_from : ℕ → List Fraction → ℕ
@@ -46,9 +43,7 @@ common_take-le xs i =
 pub common_step : (xs : List Fraction) (i : ℕ) (x : Fraction) (common d : ℕ) → i < length xs
     → x ≡ get_or xs i x → d ≡ x.den
     → common ≡ common_denominator (take i xs) → common_denominator (take (i + 1) xs) ≡ lcm common d
-common_step xs i x common d h is den so_far =
-    rw (so_far, den) (fold_more (λ m (y : Fraction). lcm m y.den) 1 xs i x h
-    ∙ ap (λ (y : Fraction). lcm (common_denominator (take i xs)) y.den) (sym is))
+common_step xs i x common d h is den so_far = grind (arith, fold_more (λ m (y : Fraction). lcm m y.den) 1 xs i x h)
 
 pub common_pos : (xs : List Fraction) → 0 < common_denominator xs
 common_pos xs = common_from_pos 1 xs (omega arith)

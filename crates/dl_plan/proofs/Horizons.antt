@@ -1,5 +1,5 @@
 -- The horizon of a clause, over the common denominator of its shares.
-use Rattle.dl_plan.proofs.Common.{ℕ, refl, ◌≡◌, ◌∙◌, ◌+◌, ◌-◌, ◌*◌, ◌<◌, ◌≤◌, max, fold, List, [], ◌∷◌, Option, Some, None, sym, ap, subst, arith, inl, inr, All, IfSome, div_ceil, cases_lt, All-nil, All-cons, whole, ◌over◌, ◌≤ℚ◌, over_le, le_over, CedeLayer, Clause, IsClause, edge_of, edge, last_edge, IsHorizon, kept_parts, parts_in_bucket}
+use Rattle.dl_plan.proofs.Common.{ℕ, refl, ◌≡◌, ◌∙◌, ◌+◌, ◌-◌, ◌*◌, ◌<◌, ◌≤◌, max, fold, List, [], ◌∷◌, Option, Some, None, sym, ap, subst, arith, inl, inr, All, IfSome, div_ceil, cases_lt, All-nil, All-cons, whole, ◌≤ℚ◌, over_le, le_over, CedeLayer, Clause, IsClause, edge_of, edge, last_edge, IsHorizon, kept_parts, parts_in_bucket}
 use Rattle.std.proofs.Math.Nat.{le-max_left, le-max_right}
 use Rattle.std.proofs.lemmas.Bool.Decides.{eqb_tells}
 use Rattle.dl_exact.proofs.Denominators.{same_num}
@@ -50,8 +50,7 @@ module _ (clause : Clause) (h : ℕ) where
   settled_to s (inl reached) = inl (subst (λ x. whole h ≤ℚ x) (sym (kept_is clause s))
       (over_le h 1 (parts_of clause s) (parts_in_bucket clause) (omega arith) (bucket_pos clause)
       (omega (arith, reached))))
-  settled_to s (inr flat) = inr (λ r after. kept_is clause r ∙ ap (λ n. n over parts_in_bucket clause) (flat r after)
-      ∙ sym (kept_is clause s))
+  settled_to s (inr flat) = grind (arith, kept_is clause s, kept_is)
 
   settled_back : (s : ℕ) → IsSettled clause h s → IsSettledAt (parts_of clause) (h * parts_in_bucket clause) s
   settled_back s (inl reached) =
@@ -134,20 +133,14 @@ pub edges_from : (m : ℕ) (ls : List CedeLayer) (k : ℕ) → fold (λ j l. max
     → All (λ l. edge l ≤ k) ls
 edges_from m [] k h = All-nil (λ l. edge l ≤ k)
 edges_from m (l ∷ ls) k h =
-    All-cons (λ n. edge n ≤ k) l ls (omega (arith, le-max_right m (edge l), from-le (max m (edge l)) ls, h))
-    (edges_from (max m (edge l)) ls k h)
+    grind (arith, le-max_right m (edge l), from-le (max m (edge l)) ls, edges_from (max m (edge l)) ls k h)
 
 pub horizon_edges : (clause : Clause) (h k : ℕ) → IsHorizon clause h k → All (λ l. edge l ≤ k) clause.1
 horizon_edges clause h k horizon = edges_from 1 clause.1 k
     (omega (arith, horizon.2, le-max_left (last_edge clause.1) horizon.0))
 
 pub horizon_one : (clause : Clause) (h k : ℕ) → IsHorizon clause h k → 1 ≤ k
-horizon_one clause h k horizon = omega (
-  arith,
-  horizon.2,
-  le-max_left (last_edge clause.1) horizon.0,
-  from-le 1 clause.1,
-)
+horizon_one clause h k horizon = grind (arith, le-max_left (last_edge clause.1) horizon.0, from-le 1 clause.1)
 
 pub horizon_settled : (clause : Clause) (h k : ℕ) → IsClause clause → IsHorizon clause h k → IsSettled clause h k
 horizon_settled clause h k accepted horizon =

@@ -23,10 +23,7 @@ trials_times t q =
 -- the mean of a count times that of a severity
 pub mean_over : (x : Fraction) (sev : Sev) → (x.num * weighted_sum sev.items) over (x.den * sev.total)
     ≡ x *ℚ mean_amount (pairs_of sev)
-mean_over x sev =
-    let h = total_pos sev.items sev.total sev.weighted in
-    sym (ap₂ (λ y z. y *ℚ z) (sym (over_self x)) (mean-shares sev.items sev.total h)
-    ∙ over_mul x.num x.den (weighted_sum sev.items) sev.total x.positive h)
+mean_over x sev = grind (arith, total_pos sev.items sev.total sev.weighted, over_self x, mean-shares, over_mul)
 
 pub positive_share : (w t : ℕ) → 0 < t → (t - w) over t ≡ whole 1 -ℚ w over t
 positive_share w t h = sym (over_sub 1 1 w t (omega arith) h
@@ -79,15 +76,9 @@ weight_at-le (x ∷ xs) =
 pub zero_yes : (xs : List Item) (d : Item) → 0 < length xs → IsStrictlyIncreasing (amounts_of xs)
     → (get_or xs zero d).amount ≡ 0 → (get_or xs zero d).weight ≡ weight_at xs 0
 zero_yes [] d some rising e = absurd (omega (arith, some))
-zero_yes (x ∷ xs) d some rising e = sym (zero_first x xs rising ∙ yes x.amount x.weight e)
-  where
-    yes : (a w : ℕ) → a ≡ 0 → cond (a == 0) w 0 ≡ w
-    yes a w h = grind arith
+zero_yes (x ∷ xs) d some rising e = grind (arith, zero_first x xs rising)
 
 pub zero_no : (xs : List Item) (d : Item) → 0 < length xs → IsStrictlyIncreasing (amounts_of xs)
     → ((get_or xs zero d).amount ≡ 0 → ⊥) → 0 ≡ weight_at xs 0
 zero_no [] d some rising e = absurd (omega (arith, some))
-zero_no (x ∷ xs) d some rising e = sym (zero_first x xs rising ∙ no x.amount x.weight e)
-  where
-    no : (a w : ℕ) → (a ≡ 0 → ⊥) → cond (a == 0) w 0 ≡ 0
-    no a w h = grind arith
+zero_no (x ∷ xs) d some rising e = grind (arith, zero_first x xs rising)

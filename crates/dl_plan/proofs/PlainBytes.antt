@@ -4,18 +4,8 @@ use Rattle.dl_plan.specs.Plain.{IsPlainByte}
 
 -- a byte from `-` to below the backslash
 pub low_plain : (byte : ℕ) → 45 ≤ byte → byte < 92 → IsPlainByte byte
-low_plain byte h k = record {
-  above = omega arith;
-  quote_mark = λ e. omega arith;
-  comma = λ e. omega arith;
-  backslash = λ e. omega arith;
-}
+low_plain byte h k = grind arith
 
 -- a byte from `a` on
 pub high_plain : (byte : ℕ) → 97 ≤ byte → IsPlainByte byte
-high_plain byte h = record {
-  above = omega arith;
-  quote_mark = λ e. omega arith;
-  comma = λ e. omega arith;
-  backslash = λ e. omega arith;
-}
+high_plain byte h = grind arith

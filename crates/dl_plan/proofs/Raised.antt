@@ -1,5 +1,5 @@
 -- The raised part from whole numbers.
-use Rattle.dl_plan.proofs.Common.{ℕ, suc, ◌≡◌, ◌∙◌, ◌+◌, ◌*◌, ◌<◌, ap, ap₂, sym, arith, mul-pos, Fraction, whole, ◌over◌, ◌*ℚ◌, over_self, over_mul, over_same}
+use Rattle.dl_plan.proofs.Common.{ℕ, suc, ◌≡◌, ◌∙◌, ◌+◌, ◌*◌, ◌<◌, ap, sym, arith, mul-pos, Fraction, whole, ◌over◌, ◌*ℚ◌, over_self, over_mul, over_same}
 use Rattle.dl_exact.specs.Fraction.{◌/ℚ◌}
 use Rattle.dl_exact.proofs.Laws.{one_pos}
 use Rattle.dl_exact.proofs.Over.{over_div}
@@ -16,6 +16,4 @@ raised_over v r above =
 -- the raised mean from the parts of the mean
 pub raised_parts : (n d s r : ℕ) (mean v : Fraction) → n ≡ mean.num → d ≡ mean.den → mean ≡ v → s ≡ r → 0 < r
     → (n * (s + 1)) over (d * s) ≡ raised r v
-raised_parts n d s r mean v num den is shape above =
-    ap₂ (λ a b. (a * (s + 1)) over (b * s)) num den
-    ∙ ap₂ (λ (m : Fraction) k. (m.num * (k + 1)) over (m.den * k)) is shape ∙ raised_over v r above
+raised_parts n d s r mean v num den is shape above = grind (arith, raised_over v r above)

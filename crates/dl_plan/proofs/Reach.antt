@@ -37,15 +37,8 @@ pub record IsBent (f : ℕ → ℕ) (e : ℕ) (rise : ℕ) : Type 0 where
 pub line_from : (f : ℕ → ℕ) (e : ℕ) → f e ≤ f (e + 1)
     → ((n : ℕ) → f (e + n) + f (e + n + 2) ≡ 2 * f (e + n + 1)) → (n : ℕ)
     → (f (e + n) ≡ f e + n * (f (e + 1) - f e)) × (f (e + n + 1) ≡ f e + (n + 1) * (f (e + 1) - f e))
-line_from f e step mean zero =
-    let here : e + 0 ≡ e = omega arith in
-    let next : e + 0 + 1 ≡ e + 1 = omega arith in
-    (omega (arith, ap f here), omega (arith, ap f next, step))
-line_from f e step mean (suc n) =
-    let before = line_from f e step mean n in
-    let here : e + suc n ≡ e + n + 1 = omega arith in
-    let next : e + suc n + 1 ≡ e + n + 2 = omega arith in
-    (omega (arith, ap f here, before.1), omega (arith, ap f next, mean n, before.0, before.1))
+line_from f e step mean zero = grind arith
+line_from f e step mean (suc n) = grind (arith, line_from f e step mean n)
 
 -- at s the map has reached w, or it is constant from there on
 abbrev pub IsSettledAt : (ℕ → ℕ) → ℕ → ℕ → Type 0
@@ -68,10 +61,7 @@ module _ (f : ℕ → ℕ) (e w rise : ℕ) (bent : IsBent f e rise) where
 
   -- with no rise past e, a number before e with the value of e is one from which the map is constant
   flat_from : (s : ℕ) → s ≤ e → rise ≡ 0 → f e ≡ f s → (r : ℕ) → s ≤ r → f r ≡ f s
-  flat_from s h none same r after = elim (cases_lt r e) [
-    | inl p ↦ omega (arith, same, from_to s r after, from_to r e (omega (arith, p)))
-    | inr p ↦ past r p ∙ ap (λ n. f e + (r - e) * n) none ∙ omega (arith, same)
-  ]
+  flat_from s h none same r after = grind (arith, from_to s r after, from_to, past)
 
   -- what is constant from s on does not rise past e
   no_rise : (s : ℕ) → s ≤ e → ((r : ℕ) → s ≤ r → f r ≡ f s) → (f e ≡ f s) × (rise ≡ 0)
@@ -106,10 +96,8 @@ module _ (f : ℕ → ℕ) (e w rise : ℕ) (bent : IsBent f e rise) where
 
   -- where the map is settled at e, the least such number is at most e
   pub reach_before : ((rise ≡ 0) ⊎ (w ≤ f e)) → (s : ℕ) × IsLeastSettled f w s × (e ≡ max e s)
-  reach_before at_edge = elim (first_below (IsSettledAt f w) (suc e) (known at_edge)) [
-    | inl found ↦ (found.0, record { settled = found.2; least = found.3 }, sym (max-eq_left (omega (arith, found.1))))
-    | inr none ↦ absurd (none e (omega arith) (settled_edge at_edge))
-  ]
+  reach_before at_edge =
+      grind (arith, first_below (IsSettledAt f w) (suc e) (known at_edge), settled_edge at_edge, max-eq_left)
 
   -- else it is where the line past e reaches w
   pub reach_after : 0 < rise → f e < w → (s : ℕ) × IsLeastSettled f w s × (e + div_ceil (w - f e) rise ≡ max e s)

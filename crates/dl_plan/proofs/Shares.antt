@@ -1,9 +1,7 @@
 -- What whole weights mean, and the conditioning on large amounts.
-use Rattle.dl_plan.proofs.Common.{ℕ, suc, true, false, ◌≡◌, ◌∙◌, ◌+◌, ◌*◌, ◌<◌, ◌≤◌, ◌++◌, List, [], ◌∷◌, get_or, length, map, sym, take, cond, nat_lt, ◌==◌, refl, ap, arith, mul-pos, inl, inr, cases_lt, All, All-cons, All-nil, Fraction, whole, ◌over◌, ◌*ℚ◌, over_same, Item, weight_sum, weight_at, weighted_sum, probability, mean_amount, conditioned, shares}
+use Rattle.dl_plan.proofs.Common.{ℕ, suc, ◌≡◌, ◌∙◌, ◌*◌, ◌<◌, ◌≤◌, List, [], ◌∷◌, length, map, cond, nat_lt, ◌==◌, refl, ap, arith, mul-pos, inl, inr, cases_lt, All, All-cons, All-nil, Fraction, whole, ◌over◌, ◌*ℚ◌, over_same, Item, weight_sum, weight_at, weighted_sum, probability, mean_amount, conditioned, shares}
 use Rattle.std.proofs.Common.{Bool, not, filter}
-use Rattle.std.proofs.lemmas.Bool.{cases_Bool, lt-ltb, le-ltb}
-use Rattle.std.proofs.lemmas.List.{append-nil}
-use Rattle.std.proofs.lemmas.List.Elements.{filter_more}
+use Rattle.std.proofs.lemmas.Bool.{lt-ltb, le-ltb}
 use Rattle.std.proofs.lemmas.List.Filters.{sum_by-filter_both}
 use Rattle.dl_exact.specs.Fraction.{◌/ℚ◌}
 use Rattle.dl_exact.proofs.Over.{over_div}
@@ -34,10 +32,7 @@ items_over a xs = filter (λ (i : Item). nat_lt a i.amount) xs
 pub filter-map : {B : Type 0} (p : B → Bool) (f : Item → B) (xs : List Item)
     → filter p (map f xs) ≡ map f (filter (λ x. p (f x)) xs)
 filter-map p f [] = refl
-filter-map p f (x ∷ xs) = elim (cases_Bool (p (f x))) [
-  | inl e ↦ rw e (ap (λ ys. f x ∷ ys) (filter-map p f xs))
-  | inr e ↦ rw e (filter-map p f xs)
-]
+filter-map p f (x ∷ xs) = grind (arith, filter-map p f xs)
 
 pub filter-shares : (a : ℕ) (xs : List Item) (t : ℕ) → filter (λ pair. nat_lt a pair.0) (shares xs t)
     ≡ shares (items_over a xs) t
@@ -87,17 +82,3 @@ mean-shares xs t h =
     sum_over_map (λ (i : Item). (i.amount, i.weight over t)) (λ pair. whole pair.0 *ℚ pair.1) xs
     ∙ sum_over_same _ (λ (i : Item). (i.amount * i.weight) over t) xs (λ i. over_times i.amount i.weight t h)
     ∙ sum_over_common (λ (i : Item). i.amount * i.weight) t xs h
-
--- the items above an amount among one more
-module _ (a : ℕ) (items : List Item) (i : ℕ) (d : Item) (h : i < length items) where
-  with_next : (keep : Bool) → nat_lt a (get_or items i d).amount ≡ keep
-      → items_over a (take (i + 1) items) ≡ items_over a (take i items) ++ cond keep (get_or items i d ∷ []) []
-  with_next keep e = filter_more (λ (item : Item). nat_lt a item.amount) items i d h
-      ∙ ap (λ k. items_over a (take i items) ++ cond k (get_or items i d ∷ []) []) e
-
-  pub over_kept : a < (get_or items i d).amount
-      → items_over a (take i items) ++ get_or items i d ∷ [] ≡ items_over a (take (i + 1) items)
-  over_kept above = sym (with_next true (lt-ltb a (get_or items i d).amount above))
-
-  pub over_left : (get_or items i d).amount ≤ a → items_over a (take i items) ≡ items_over a (take (i + 1) items)
-  over_left below = sym (with_next false (le-ltb a (get_or items i d).amount below) ∙ append-nil _)

@@ -1,5 +1,5 @@
 -- The probabilities of the terms of a price.
-use Rattle.dl_plan.proofs.Common.{ℕ, ◌≡◌, ◌∙◌, ◌<◌, List, length, map, get_or, sym, ap, subst, arith, All}
+use Rattle.dl_plan.proofs.Common.{ℕ, ◌≡◌, ◌<◌, List, length, map, get_or, arith, All}
 use Rattle.std.proofs.lemmas.List.{get_or-map, get_or_default, length-map}
 use Rattle.dl_plan.specs.declared.settings.Term.{Term}
 use Rattle.dl_plan.specs.Ranges.{IsLevel}
@@ -8,8 +8,7 @@ use Rattle.dl_plan.specs.Ranges.{IsLevel}
 pub level_there : (terms : List Term) (i : ℕ) (t : Term) → i < length terms → t ≡ get_or terms i t
     → All IsLevel (map (λ (t : Term). t.p) terms) → IsLevel t.p
 level_there terms i t inside is levels =
-    subst IsLevel (get_or-map (λ (t : Term). t.p) terms i t t.p inside ∙ ap (λ (t : Term). t.p) (sym is))
-    (levels i t.p (omega (arith, inside, length-map terms (λ (t : Term). t.p))))
+    grind (arith, get_or-map (λ (t : Term). t.p) terms i t t.p inside, length-map terms (λ (t : Term). t.p))
 
 pub levels_each : (terms : List Term) → All IsLevel (map (λ (t : Term). t.p) terms)
     → All (λ (t : Term). IsLevel t.p) terms

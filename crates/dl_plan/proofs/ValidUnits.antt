@@ -14,15 +14,7 @@ use Rattle.dl_plan.proofs.Shares.{mean-shares}
 
 -- without its clause and its change
 pub alone_valid : (cells : ℕ) (u : UnitOfPlan) → IsValidUnit cells u → IsValidUnit cells (claims_alone u.freq u.sev)
-alone_valid cells u h = record {
-  amounts = h.amounts;
-  items = h.items;
-  count = h.count;
-  expected = h.expected;
-  thinned = h.thinned;
-  clause = tt;
-  zero = tt;
-}
+alone_valid cells u h = grind arith
 
 -- a probability of no claim that is changed can be
 pub new_zero : (cells : ℕ) (u : UnitOfPlan) (p : Fraction) → IsValidUnit cells u → u.zero ≡ Some p → IsNewZero u.freq p
@@ -58,6 +50,4 @@ amount_most n sev near =
 -- of at most m expected claims of at most n each
 pub mean_most : (m n : ℕ) (u : UnitOfPlan) → expected_count u.freq ≤ℚ whole m
     → All (λ (i : Item). i.amount ≤ n) u.sev.items → declared_mean u ≤ℚ whole (m * n)
-mean_most m n u few near =
-    subst (λ t. declared_mean u ≤ℚ t) (sym (whole_times m n))
-    (times_le_both _ _ _ _ few (amount_most n u.sev near))
+mean_most m n u few near = grind (arith, whole_times m n, amount_most n u.sev near, times_le_both)

@@ -57,8 +57,7 @@ common_from d xs = fold (λ c (i : Item). gcd c i.weight) d xs
 
 pub common-times : (g d : ℕ) (xs : List Item) → 0 < g → common_from (d * g) (map (times g) xs) ≡ common_from d xs * g
 common-times g d [] h = refl
-common-times g d (x ∷ xs) h =
-    ap (λ c. common_from c (map (times g) xs)) (gcd-scale d x.weight g h) ∙ common-times g (gcd d x.weight) xs h
+common-times g d (x ∷ xs) h = grind (arith, gcd-scale d x.weight g h, common-times g (gcd d x.weight) xs h)
 
 pub common-divides_start : (d : ℕ) (xs : List Item) → common_from d xs ∣ d
 common-divides_start d [] = dvd_refl d
@@ -126,11 +125,7 @@ module _ (xs : List Item) (some : 0 < length xs) (positive : All (λ (i : Item).
   total_is = ap (λ n. n / g) (sym sum_back) ∙ mul-div_cancel (weight_sum ys) g_pos
 
   lowest : common_weight ys ≡ 1
-  lowest =
-      let e : common_weight ys * g ≡ 1 * g =
-      sym (common-times g 0 ys g_pos) ∙ ap (λ d. common_from d (map (times g) ys)) (nought_times g)
-      ∙ ap common_weight back ∙ one_times g in
-      cancel (common_weight ys) 1 g g_pos e
+  lowest = grind (arith, common-times g 0 ys g_pos, nought_times g, one_times g, back, cancel, g_pos)
 
   -- the greatest common divisor taken out
   pub divided_is : IsStrictlyIncreasing (amounts_of xs) → weight_sum xs ≤ 2 ^ 30 → IsWeighted ys (weight_sum xs / g)
@@ -157,14 +152,7 @@ module _ (xs : List Item) (some : 0 < length xs) (positive : All (λ (i : Item).
 -- one amount alone
 pub one_item : (items : List Item) (item : Item) → items ≡ [] → item.weight ≡ 1 → IsWeighted (items ++ item ∷ []) 1
 unfolding gcd euclid
-one_item items item none weight = rw none (record {
-  some = omega arith;
-  rising = λ k inside. absurd (omega (arith, inside));
-  positive = All-cons (λ (i : Item). 0 < i.weight) item [] (omega (arith, weight)) (All-nil _);
-  sum = omega (arith, weight);
-  within = omega arith;
-  lowest = ap (λ w. gcd 0 w) weight;
-})
+one_item items item none weight = grind (arith, lowest)
 
 -- ---- the greatest amount
 
@@ -195,18 +183,4 @@ none_and_one = refl
 
 -- one amount alone, with the weight 1
 pub one_weighted : (amount : ℕ) → IsWeighted (record { amount = amount; weight = 1 } ∷ []) 1
-one_weighted amount = record {
-  some = omega arith;
-  rising = λ i below. absurd (omega (arith, below));
-  positive = λ i d inside. first i d (omega (arith, inside));
-  sum = refl;
-  within = omega arith;
-  lowest = none_and_one;
-}
-  where
-    one : List Item
-    one = record { amount = amount; weight = 1 } ∷ []
-
-    first : (i : ℕ) (d : Item) → i < 1 → 0 < (get_or one i d).weight
-    first zero d inside = omega arith
-    first (suc i) d inside = absurd (omega (arith, inside))
+one_weighted amount = grind (arith, lowest, none_and_one)

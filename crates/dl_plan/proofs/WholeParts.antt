@@ -1,4 +1,6 @@
 -- Fractions as whole numbers over their common denominator, and their sum.
+use Rattle.std.proofs.lemmas.Bool.Decides.{nat_tests}
+use Rattle.std.proofs.lemmas.Grind.{common_steps}
 use Rattle.dl_plan.proofs.Common.{ℕ, ◌≡◌, ◌∙◌, ◌+◌, ◌*◌, ◌/◌, ◌<◌, ◌≤◌, List, [], ◌∷◌, length, get_or, take, refl, sym, ap, ap₂, arith, All, sum_by, ◌∣◌, div-mul_cancel, All-head, All-tail, sum_by_more, Fraction, whole, ◌over◌, over_self, over_same, le_over, common_denominator}
 use Rattle.std.proofs.lemmas.List.{take_all}
 use Rattle.std.proofs.lemmas.List.Sums.{sum_by-take-le}
@@ -48,16 +50,11 @@ sum_one xs c common e = rw common (one_only _ (common_denominator xs) (common_po
 -- and back
 pub one_sum : (xs : List Fraction) (c : ℕ) → c ≡ common_denominator xs → sum_by (numerator_over c) xs ≡ c
     → sum_of xs ≡ whole 1
-one_sum xs c common e =
-    let all : sum_by (numerator_over (common_denominator xs)) xs ≡ common_denominator xs = rw (sym common) e in
-    sum_is xs ∙ ap (λ n. n over common_denominator xs) all
-    ∙ over_same _ _ 1 1 (common_pos xs) (omega arith) (omega arith)
+one_sum xs c common e = grind (arith, nat_tests, common_steps, sum_is xs, common_pos xs, over_same)
 
 pub weight_more : (xs : List Fraction) (c i : ℕ) (x : Fraction) → i < length xs → x ≡ get_or xs i x
     → sum_by (numerator_over c) (take (i + 1) xs) ≡ sum_by (numerator_over c) (take i xs) + numerator_over c x
-weight_more xs c i x h is =
-    sum_by_more (numerator_over c) xs i x h ∙ ap (λ y. sum_by (numerator_over c) (take i xs) + numerator_over c y)
-    (sym is)
+weight_more xs c i x h is = grind (arith, nat_tests, common_steps, sum_by_more (numerator_over c) xs i x h)
 
 -- so no part of the list has weights that sum to more
 pub part_within : (xs : List Fraction) (c i : ℕ) → c ≡ common_denominator xs → sum_of xs ≡ whole 1

@@ -170,6 +170,7 @@ impl Cede {
     }
 
     /// What the clause keeps of an amount of `x` buckets; `None` exactly where that is not whole.
+    #[tactic(auto, using(crate::proofs::Clauses::kept_whole, crate::proofs::Clauses::kept_only))]
     pub fn at(&self, x: u64) -> Option<u64>
         requires amount { x < sum_bound }
         requires clause { IsClause self.now }
@@ -215,6 +216,7 @@ impl Cede {
     }
 
     /// What the clause keeps of an amount of `x` buckets, in parts.
+    #[tactic(auto, using(crate::proofs::Apart::ceded_le))]
     fn parts(&self, x: u64) -> u128
         requires amount { x < sum_bound }
         requires clause { IsClause self.now }
@@ -256,6 +258,7 @@ fn shares_of(alloc: Global, layers: &[CedeLayer]) -> Result<Vec<Frac>, AllocErro
 }
 
 /// What is ceded of `x`, in parts of which `common` make a bucket.
+#[tactic(auto, using(std::proofs::lemmas::List::Sums::sum_by_more, crate::proofs::Clauses::scaled_le, crate::proofs::Clauses::layer_le))]
 fn ceded_parts(layers: &[CedeLayer], common: u32, x: u64) -> u128
     requires few { length layers.now ≤ most_layers }
     requires within { All (λ l. l.share ≤ℚ whole 1) layers.now }

@@ -10,6 +10,7 @@ use dl_frac::{Frac, lcm_to};
 use dl_limits::MOST_PARTS;
 
 /// The common denominator of the fractions; `None` exactly where it passes 2^30. Takes no memory.
+#[tactic(auto, using(crate::proofs::CommonDenominators::lcm_pos, crate::proofs::CommonDenominators::common_step))]
 pub fn common_denominator_of(fracs: &[Frac]) -> Option<u32>
     ensures { SomeIff result (IsFineTo30Bits fracs.now) (common_denominator fracs.now) }
 {
@@ -31,6 +32,7 @@ pub fn numerator_over(x: Frac, common: u64) -> u128
 }
 
 /// Whether fractions sum to 1, by their numerators over their common denominator. Takes no memory.
+#[tactic(auto, using(std::proofs::lemmas::List::take_all, crate::proofs::WholeParts::whole_within, crate::proofs::WholeParts::one_sum))]
 pub fn sum_to_one(fracs: &[Frac], common: u32) -> bool
     requires { common ≡ common_denominator fracs.now }
     ensures { IsTrue result ↔ (sum_over fracs.now (λ x. x) ≡ whole 1) }

@@ -27,6 +27,7 @@ fn weights_of(alloc: Global, terms: &[Term]) -> Result<Vec<Frac>, AllocError>
 
 /// Whether these are the terms of a price: 1 to 8 of them, with weights that have a common
 /// denominator of at most 1,000,000 and sum to 1.
+#[tactic(auto, using(dl_exact::proofs::Sums::sum_over_map))]
 pub fn are_priced(alloc: Global, terms: &[Term]) -> Result<bool, AllocError>
     ensures { IfOk result (λ priced. IsTrue priced ↔ ArePriced terms.now) }
 {

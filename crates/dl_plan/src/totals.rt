@@ -34,6 +34,7 @@ pub(crate) fn total_weight(items: &[Item]) -> u32
 }
 
 /// The greatest amount, 0 of none.
+#[tactic(auto, using(crate::proofs::Weights::greatest_more))]
 pub fn greatest_amount(items: &[Item]) -> u32
     ensures { result ≡ greatest items.now }
 {

@@ -22,6 +22,7 @@ use dl_limits::most_horizon;
 
 impl Freq {
     /// The expected number of claims, of a count of a valid plan.
+    #[tactic(auto, using(crate::proofs::Fits::given_ok, crate::proofs::Fits::given_value, crate::proofs::Means::admitted_fits, crate::proofs::Means::total_pos, crate::proofs::Means::trials_times))]
     pub fn expected(&self) -> Frac
         requires count { IsClaimCount self.now }
         requires admitted { HasPartsOf48Bits (expected_count self.now) }
@@ -69,6 +70,7 @@ impl Unit {
     /// A numerator below 2^100 and a denominator below 2^80 of the mean in buckets, before the
     /// aggregate clause and before the probability of no claim is changed, of a unit of a valid
     /// plan.
+    #[tactic(auto, using(crate::proofs::Means::mean_over))]
     pub fn mean_parts(&self) -> (u128, u128)
         requires count { IsClaimCount self.now.freq }
         requires expected { HasPartsOf48Bits (expected_count self.now.freq) }
@@ -108,6 +110,7 @@ impl Unit {
 }
 
 /// The weight of amount 0 in a list of rising amounts.
+#[tactic(auto, using(crate::proofs::Means::zero_yes, crate::proofs::Means::zero_no))]
 fn weight_of_zero(items: &[Item]) -> u32
     requires some { 0 < length items.now }
     requires rising { IsStrictlyIncreasing (amounts_of items.now) }

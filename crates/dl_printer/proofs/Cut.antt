@@ -1,6 +1,6 @@
 -- The bytes of some tokens, with what stands between them, are cut into just these tokens.
 use Rattle.dl_printer.proofs.Common.{ℕ, ◌≡◌, ◌∙◌, ◌+◌, ◌<◌, List, [], ◌∷◌, ◌++◌, length, take, map, Bool, true, false, ◌||◌, refl, sym, ap, arith, subst, append_assoc, length-append, Option, Some, None, codes, IsSpelled, IsToken, Program, lexemes, Piece, program_pieces, is_tight_behind, gap, spaced, canonical}
-use Rattle.std.proofs.Common.{◌-◌, drop, cond}
+use Rattle.std.proofs.Common.{drop, cond}
 use Rattle.std.specs.Prelude.{All}
 use Rattle.std.proofs.Math.Seq.{take-append_seam, drop-append_seam}
 use Rattle.std.proofs.lemmas.List.{append-nil, map-append}
@@ -53,8 +53,7 @@ blank_cut bytes front rest b ps white e c =
 -- the token that stands on n bytes from a place on, with its text
 stands : (bytes text : List ℕ) (k : Kind) (at : ℕ) → take (length text) (drop at bytes) ≡ text
     → piece_of (lexeme bytes (token_of k at (length text))) ≡ record { kind = k; text = text }
-stands bytes text k at e = let size : (at + length text) - at
-    ≡ length text = omega arith in ap (λ ys. record { kind = k; text = ys }) (ap (λ n. take n (drop at bytes)) size ∙ e)
+stands bytes text k at e = grind arith
 
 token_cut : (bytes front text rest : List ℕ) (k : Kind) (ps : List Piece) → bytes ≡ front ++ (text ++ rest)
     → IsSpelled k text
@@ -93,10 +92,7 @@ gap_is (Some j) k = here (is_tight_behind j || is_tight_before k) (begins_line k
 
 gap_cut : (bytes front space after : List ℕ) (ps : List Piece) → IsGap space → bytes ≡ front ++ (space ++ after)
     → Cut bytes (length front) ps → Cut bytes (length (front ++ space)) ps
-gap_cut bytes front space after ps (no_byte none) e c =
-    let size : length front ≡ length (front ++ space) = ap length (sym (append-nil front))
-    ∙ ap (λ ys. length (front ++ ys)) (sym none) in
-    cut_as bytes _ _ ps ps size refl c
+gap_cut bytes front space after ps (no_byte none) e c = grind (arith, append-nil front, cut_as)
 gap_cut bytes front space after ps (one_byte b white one) e c =
     let size : length front + 1 ≡ length (front ++ space) = sym (length-append front (b ∷ []))
     ∙ ap (λ ys. length (front ++ ys)) (sym one) in
@@ -116,13 +112,7 @@ tight_stops _ text rest spelled tight = absurd cc
 gap_stops : (j k : Kind) (text rest : List ℕ) → is_tight_behind j ≡ false → IsSpelled k text
     → Stops (between j k ++ (text ++ rest))
 unfolding between
-gap_stops j k text rest loose spelled = rw loose (here (is_tight_before k) (begins_line k) refl)
-  where
-    here : (tight line : Bool) → is_tight_before k ≡ tight
-        → Stops (cond tight [] (cond line (codes "\n") (codes " ")) ++ (text ++ rest))
-    here true line e = tight_stops k text rest spelled e
-    here false true e = record { byte = 10; more = text ++ rest; whole = refl; stop = refl }
-    here false false e = record { byte = 32; more = text ++ rest; whole = refl; stop = refl }
+gap_stops j k text rest loose spelled = grind (arith, tight_stops)
 
 follows : (k : Kind) (ps : List Piece) → All IsPiece ps → is_tight_behind k ≡ false
     → Stops (spaced (Some k) ps ++ codes "\n")

@@ -63,8 +63,7 @@ decimal_passes bs (point_digits b e all_b) = ap (list_all is_numeral_byte) e ∙
 
 numeral_passes : (bs : List ℕ) → IsNumeralToken bs → list_all is_numeral_byte bs ≡ true
 numeral_passes bs (a_decimal t) = decimal_passes bs t
-numeral_passes bs (a_percent (percent d e t)) =
-    ap (list_all is_numeral_byte) e ∙ parts_pass d (37 ∷ []) (decimal_passes d t) refl
+numeral_passes bs (a_percent (percent d e t)) = grind (arith, parts_pass d (37 ∷ []) (decimal_passes d t) refl)
 numeral_passes bs (a_fraction (fraction a b e all_a all_b)) = ap (list_all is_numeral_byte) e
     ∙ parts_pass a (47 ∷ b) (digits_pass a all_a.1) (digits_pass b all_b.1)
 
@@ -80,15 +79,7 @@ no_front : (text more front after : List ℕ) (byte mark size : ℕ) → list_al
     → slice_get (front ++ after) size ≡ Some mark → is_stop mark ≡ false
     → text ++ byte ∷ more ≢ front ++ after
 no_front text more front after byte mark size all stop count at other e =
-    let run : prefix_len is_word_byte (text ++ byte ∷ more) ≡ length text = prefix_ends is_word_byte byte text more
-    (no_word_byte byte stop) all in
-    let as_long : length text ≡ size = sym run ∙ ap (prefix_len is_word_byte) e ∙ count in
-    let here : slice_get (text ++ byte ∷ more) (length text) ≡ Some byte = get_behind text more byte in
-    let same : Some byte ≡ Some mark = sym here ∙ ap (slice_get (text ++ byte ∷ more)) as_long
-    ∙ ap (λ ys. slice_get ys size) e ∙ at in
-    let is_mark : byte ≡ mark = cc in
-    let no_stop : is_stop byte ≡ false = ap is_stop is_mark ∙ other in
-    cc
+    grind (arith, prefix_ends is_word_byte byte text more (no_word_byte byte stop) all, get_behind text more byte)
 
 word_ends : (k : Kind) (text more : List ℕ) (byte : ℕ) → IsWord text → IsSpelled k text → is_stop byte ≡ true
     → IsLongest IsToken (text ++ byte ∷ more) (length text)
@@ -127,12 +118,7 @@ ref_ends_here name more byte word stop =
 
 ref_ends : (text more : List ℕ) (byte : ℕ) → IsRef text → is_stop byte ≡ true
     → IsLongest IsToken (text ++ byte ∷ more) (length text)
-ref_ends text more byte (ref name e word) stop =
-    let size : length text ≡ length name + 4 = omega (arith, ap length e) in
-    let whole : text ++ byte ∷ more ≡ codes "sev." ++ (name ++ byte ∷ more) = ap (λ ys. ys ++ byte ∷ more) e in
-    subst (λ ys. IsLongest IsToken ys (length text)) (sym whole)
-    (subst (IsLongest IsToken (codes "sev." ++ (name ++ byte ∷ more))) (sym size)
-    (ref_ends_here name more byte word stop))
+ref_ends text more byte (ref name e word) stop = grind (arith, ref_ends_here name more byte word stop)
 
 -- numerals
 
@@ -185,11 +171,7 @@ note_ends_here inside rest all =
 
 note_ends : (text rest : List ℕ) → IsNote text → IsLongest IsToken (text ++ rest) (length text)
 note_ends text rest (note inside e all) =
-    let size : length text ≡ length inside + 6 = omega (arith, ap length e, length-append inside (125 ∷ [])) in
-    let whole : text ++ rest ≡ codes "note{" ++ (inside ++ 125 ∷ rest) = ap (λ ys. ys ++ rest) e
-    ∙ ap (λ ys. codes "note{" ++ ys) (append_assoc inside (125 ∷ []) rest) in
-    subst (λ ys. IsLongest IsToken ys (length text)) (sym whole)
-    (subst (IsLongest IsToken (codes "note{" ++ (inside ++ 125 ∷ rest))) (sym size) (note_ends_here inside rest all))
+    grind (arith, length-append inside (125 ∷ []), append_assoc inside (125 ∷ []) rest, note_ends_here inside rest all)
 
 -- signs
 
@@ -200,11 +182,7 @@ sign_ends s rest =
   where
     none : (m : ℕ) → m ≤ length (sign_byte s ∷ rest) → IsNumeralToken (take m (sign_byte s ∷ rest)) → ⊥
     none zero h t = let begins : begins_numeral [] ≡ true = numeral_begins [] t in cc
-    none (suc m) h t =
-        let begins : (is_digit (sign_byte s) || sign_byte s == 46) ≡ true =
-        numeral_begins (sign_byte s ∷ take m rest) t in
-        let other = sign_no_numeral s _ refl in
-        cc
+    none (suc m) h t = grind (arith, numeral_begins (sign_byte s ∷ take m rest) t, sign_no_numeral)
 
 behind_stop : (text rest : List ℕ) → ((more : List ℕ) (byte : ℕ) → is_stop byte ≡ true
     → IsLongest IsToken (text ++ byte ∷ more) (length text)) → Stops rest → IsLongest IsToken (text ++ rest) (length text)

@@ -1,5 +1,5 @@
 -- The canonical tokens of a well-formed node are tokens, and spell the node by its line of the grammar.
-use Rattle.dl_printer.proofs.Common.{◌≡◌, ◌∙◌, ◌<◌, ℕ, suc, List, [], ◌∷◌, ◌++◌, map, length, Option, Some, None, Bool, true, false, refl, sym, ap, arith, append_assoc, flat_map, sign_byte, Program, Lexeme, Piece, piece, word_piece, name_piece, numeral_piece, note_piece, optional, behind_colon, item_pieces, list_pieces, limit_pieces, layer_pieces, atom_pieces, mixture_pieces, cost_pieces, bang_pieces, sev_pieces, definition_pieces, ref_piece, zero_pieces, common_pieces, share_pieces, ceded_pieces, and_ceded_pieces, ceded_layers_pieces, side_pieces, clause_pieces, freq_pieces, exposure_pieces, listed_pieces, count_pieces, late_count_pieces, unit_pieces, head_pieces, program_pieces, option_map, Keyword, ListItem, ListAst, LimitAst, Finite, Infinite, Layer, Atom, MixAst, SevBody, Mixture, Ref, SevAst, SevDef, ZeroAst, Plain, Truncated, Modified, PortHead, CountAst, Exposed, Listed, Share, CededLayer, Cession, FreqAst, Exposure, Claims, Loss, Premium, UnitAst}
+use Rattle.dl_printer.proofs.Common.{◌≡◌, ◌∙◌, ◌<◌, ℕ, List, [], ◌∷◌, ◌++◌, map, length, Option, Some, None, Bool, true, false, refl, sym, ap, arith, append_assoc, flat_map, sign_byte, Program, Lexeme, Piece, piece, word_piece, name_piece, numeral_piece, note_piece, optional, behind_colon, item_pieces, list_pieces, limit_pieces, layer_pieces, atom_pieces, mixture_pieces, cost_pieces, bang_pieces, sev_pieces, definition_pieces, ref_piece, zero_pieces, common_pieces, share_pieces, ceded_pieces, and_ceded_pieces, ceded_layers_pieces, side_pieces, clause_pieces, freq_pieces, exposure_pieces, listed_pieces, count_pieces, late_count_pieces, unit_pieces, head_pieces, program_pieces, option_map, Keyword, ListItem, ListAst, LimitAst, Finite, Infinite, Layer, Atom, MixAst, SevBody, Mixture, Ref, SevAst, SevDef, ZeroAst, Plain, Truncated, Modified, PortHead, CountAst, Exposed, Listed, Share, CededLayer, Cession, FreqAst, Exposure, Claims, Loss, Premium, UnitAst}
 use Rattle.std.proofs.Common.{is_some, codes, drop}
 use Rattle.std.specs.Prelude.{All, IfSome, IsNone}
 use Rattle.std.proofs.lemmas.List.{append-nil}
@@ -333,8 +333,7 @@ book_shown None [] k some all alone = absurd (omega arith)
 book_shown None (u ∷ []) k some all alone = shows_left
     (shows_made (shows_as (unit_shown u (All-head IsFormedUnit u [] all)) (simp append-nil))
     (λ v e. ap (λ x. (None, x ∷ [])) e))
-book_shown None (u ∷ v ∷ us) k some all alone =
-    let two : suc (suc (length us)) ≡ 1 = alone refl in absurd (omega arith)
+book_shown None (u ∷ v ∷ us) k some all alone = grind arith
 book_shown (Some h) [] k some all alone = absurd (omega arith)
 book_shown (Some h) (u ∷ us) k some all alone = shows_right
     (shows_made (shows_seq (head_shown h k) (shows_some_of unit_shown unit_shown u us

@@ -16,6 +16,7 @@ ghost use Rattle.dl_printer.specs.ReadingBack.{ReadsBack};
 /// The canonical text of a well-formed program has a token list, which spells the same program
 /// apart from spans. Where the text has fewer than 2^32 bytes, the places of these tokens are
 /// `u32`s.
+#[tactic(auto, using(crate::proofs::Cut::reads_back))]
 pub fn law_reads_back()
     ensures { (p : Program) → IsWellFormed p → ReadsBack p }
 {}
@@ -35,6 +36,7 @@ pub fn law_reads_nothing_else()
 {}
 
 /// Programs that differ in their spans alone have one canonical text.
+#[tactic(auto, using(crate::proofs::SameText::same_text))]
 pub fn law_same_text()
     ensures { (p q : Program) → SameProgram p q → canonical p ≡ canonical q }
 {}

@@ -1,5 +1,5 @@
 -- One more cell.
-use Rattle.dl_recursion.proofs.Common.{◌≡◌, inl, inr, ℕ, suc, zero, ◌+◌, ◌-◌, ◌*◌, ◌/◌, ◌^◌, ◌<◌, ◌≤◌, List, [], ◌∷◌, ◌++◌, length, get_or, arith, refl, sym, ◌∙◌, mul-pos, div-mul-le_self, sum_by, All, zero-lt-suc, cases_lt, length-append, Fraction, ◌*ℚ◌, ◌≤ℚ◌, whole, times_one, le_of_eq, Part, contribution, FollowsInWhole, EncloseScaled, AreScaledCells, get_or-append, get_or_push}
+use Rattle.dl_recursion.proofs.Common.{◌≡◌, ℕ, suc, zero, ◌+◌, ◌-◌, ◌*◌, ◌/◌, ◌^◌, ◌<◌, ◌≤◌, List, [], ◌∷◌, ◌++◌, length, get_or, arith, ◌∙◌, mul-pos, div-mul-le_self, sum_by, All, zero-lt-suc, length-append, Fraction, ◌*ℚ◌, ◌≤ℚ◌, whole, times_one, le_of_eq, Part, contribution, FollowsInWhole, EncloseScaled, AreScaledCells, get_or-append, get_or_push}
 use Rattle.dl_recursion.proofs.Rounding.{ceil_reaches}
 use Rattle.dl_recursion.proofs.Pairs.{contribution_pairs}
 use Rattle.dl_recursion.proofs.Steps.{low_step, high_step}
@@ -7,12 +7,7 @@ use Rattle.dl_recursion.proofs.Steps.{low_step, high_step}
 -- what holds at each place and of one more number holds at each place with it at the end
 pushed_at : (P : ℕ → ℕ → Type 0) (xs : List ℕ) (x n : ℕ) → length xs ≡ n → ((k : ℕ) → k < n → P k (get_or xs k 0))
     → P n x → (k : ℕ) → k < suc n → P k (get_or (xs ++ x ∷ []) k 0)
-pushed_at P xs x n e h last k b = elim (cases_lt k n) [
-  | inl l ↦ rw (get_or-append xs (x ∷ []) 0 k (omega (arith, e, l))) (h k l)
-  | inr l ↦
-      let k_is : k ≡ n = omega (arith, b, l) in
-      rw (k_is, get_or_push xs x 0 n e) last
-]
+pushed_at P xs x n e h last k b = grind (arith, get_or_push xs x 0 n e, get_or-append)
 
 small_pushed : (xs : List ℕ) (x B : ℕ) → ((k : ℕ) → get_or xs k 0 ≤ B) → x ≤ B → (k : ℕ)
     → get_or (xs ++ x ∷ []) k 0 ≤ B
@@ -62,16 +57,7 @@ module _ (parts : List Part) (a b q : ℕ) (r : ℕ → Fraction) (amounts : All
 
 -- cell 0 alone
 pub begun : (r : ℕ → Fraction) → r 0 ≡ whole 1 → EncloseScaled r 0 1 (2305843009213693952 ∷ []) (2305843009213693952 ∷ [])
-begun r h =
-    let e : whole (2 ^ 61) *ℚ r 0 ≡ whole (2 ^ 61) = rw (h, times_one) refl in
-    record {
-      low_end = λ k b.
-          let z : k ≡ 0 = omega (arith, b) in
-          rw z (le_of_eq _ _ (sym e));
-      high_end = λ k b.
-          let z : k ≡ 0 = omega (arith, b) in
-          rw z (le_of_eq _ _ e);
-    }
+begun r h = grind (arith, times_one, le_of_eq)
 
 pub begun_small : (k : ℕ) → get_or (2305843009213693952 ∷ []) k 0 ≤ 2 ^ 62
 begun_small zero = omega arith

@@ -8,16 +8,10 @@ abbrev at : Part → ℕ → ℕ
 at p j = cond (nat_eq p.amount j) p.weight 0
 
 at_same : (p : Part) → at p p.amount ≡ p.weight
-at_same p = elim (eqb_tells p.amount p.amount) [
-  | inl t ↦ ap (λ v. cond v p.weight 0) t.0
-  | inr t ↦ absurd (t.1 refl)
-]
+at_same p = grind (arith, eqb_tells p.amount p.amount)
 
 at_other : (p : Part) (j : ℕ) → p.amount ≢ j → at p j ≡ 0
-at_other p j h = elim (eqb_tells p.amount j) [
-  | inl t ↦ absurd (h t.1)
-  | inr t ↦ ap (λ v. cond v p.weight 0) t.0
-]
+at_other p j h = grind (arith, eqb_tells p.amount j)
 
 module _ (a b n : ℕ) (cells : List ℕ) where
   term : (ℕ → ℕ) → ℕ → ℕ → ℕ
@@ -25,9 +19,7 @@ module _ (a b n : ℕ) (cells : List ℕ) where
 
   zero_term : (w : ℕ → ℕ) (i k : ℕ) → w (suc i) ≡ 0 → term w i k ≡ 0
   unfolding term
-  zero_term w i k e =
-      let z : (a * suc n + b * suc i) * w (suc i) ≡ 0 = ap (λ t. (a * suc n + b * suc i) * t) e ∙ omega arith in
-      ap (λ t. t * get_or cells k 0) z ∙ zero-mul _
+  zero_term w i k e = grind (arith, zero-mul)
 
   one_part : (p : Part) (j : ℕ) → p.amount ≡ suc j → contribution a b cells (suc n) p ≡ count_pairs n (term (at p))
   unfolding term

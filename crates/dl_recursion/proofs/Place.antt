@@ -1,55 +1,29 @@
 -- Placed cells, one by one.
-use Rattle.dl_recursion.proofs.Common.{◌≡◌, ◌⊎◌, inl, inr, ℕ, ◌+◌, ◌-◌, ◌*◌, ◌/◌, ◌^◌, ◌<◌, ◌≤◌, List, length, get_or, arith, ◌∙◌, pow-add, mul-le-mul_left, mul-le-mul_right, div-mul-le_self, lt-div-mul-add, cases_lt, sum, IsPlaced, min, set, replicate, dvd-mul_right, eq_of_mul-eq-mul_left, get_or-set_same, get_or-set_other, get_or-replicate, length-replicate, sum_by-set, cases_eq, get_or_past}
+use Rattle.dl_recursion.proofs.Common.{◌≡◌, ◌⊎◌, inl, inr, ℕ, ◌+◌, ◌-◌, ◌*◌, ◌/◌, ◌^◌, ◌<◌, ◌≤◌, List, length, get_or, arith, ◌∙◌, pow-add, mul-le-mul_left, mul-le-mul_right, div-mul-le_self, lt-div-mul-add, cases_lt, sum, IsPlaced, min, set, dvd-mul_right, eq_of_mul-eq-mul_left, get_or-set_same, get_or-set_other, sum_by-set}
 use Prim.Native.Nat.{◌∣◌}
-use Rattle.std.proofs.lemmas.List.Folds.{sum_by-replicate}
 use Rattle.dl_recursion.specs.declared.start.Scaled.{Scaled}
 use Rattle.dl_recursion.proofs.Starts.{two_pos, two_le}
 
 pub up_reaches : (p d e : ℕ) → 0 < p → d ≤ e → p ≤ ((p - 1) / 2 ^ d + 1) * 2 ^ e
-up_reaches p d e h l =
-    let a : p - 1 < (p - 1) / 2 ^ d * 2 ^ d + 2 ^ d = lt-div-mul-add {a = p - 1} {b = 2 ^ d} (two_pos d) in
-    omega (arith, a, h, mul-le-mul_left ((p - 1) / 2 ^ d + 1) (two_le d e l))
+up_reaches p d e h l = grind (arith, two_pos d, mul-le-mul_left ((p - 1) / 2 ^ d + 1) (two_le d e l), lt-div-mul-add)
 
 -- down by as many bits as the product can have, where more are asked for
 pub down_reaches : (p e x : ℕ) → p ≤ 2 ^ 62 * 2 ^ 63 → x ≤ p / 2 ^ min e 126 → x * 2 ^ e ≤ p
-down_reaches p e x top h = elim (cases_lt e 126) [
-  | inl l ↦
-      let all : min e 126 ≡ e = omega (arith, l) in
-      let few : x ≤ p / 2 ^ e = rw all at h in
-      omega (arith, mul-le-mul_right (2 ^ e) few, div-mul-le_self p (2 ^ e))
-  | inr l ↦
-      let all : min e 126 ≡ 126 = omega (arith, l) in
-      let few : x ≤ p / 2 ^ 126 = rw all at h in
-      let none : x ≤ 0 = omega (arith, few, top, div-mul-le_self p (2 ^ 126)) in
-      omega (arith, mul-le-mul_right (2 ^ e) none)
-]
+down_reaches p e x top h = grind (arith, div-mul-le_self p (2 ^ e), div-mul-le_self p (2 ^ 126), mul-le-mul_right)
 
 -- ---- one cell written
-
--- zeros
-pub zeros_at : (n x : ℕ) → get_or (replicate {A = ℕ} n 0) x 0 ≡ 0
-zeros_at n x = elim (cases_lt x n) [
-  | inl within ↦ get_or-replicate {A = ℕ} n x 0 0 within
-  | inr past ↦ get_or_past (replicate {A = ℕ} n 0) x 0 (rw length-replicate past)
-]
-
-pub zeros_sum : (n : ℕ) → sum (replicate {A = ℕ} n 0) ≡ 0
-zeros_sum n = omega (arith, sum_by-replicate (λ (e : ℕ). e) n 0)
 
 -- each low end at most its high end
 pub ordered_set : (lows highs : List ℕ) (x lo hi : ℕ) → x < length lows → x < length highs → lo ≤ hi
     → ((y : ℕ) → get_or lows y 0 ≤ get_or highs y 0)
     → (y : ℕ) → get_or (set lows x lo) y 0 ≤ get_or (set highs x hi) y 0
-ordered_set lows highs x lo hi p q l h y = elim (cases_eq y x) [
-  | inl e ↦ rw (e, get_or-set_same lows x lo 0 p, get_or-set_same highs x hi 0 q) l
-  | inr e ↦ rw (get_or-set_other lows x y lo 0 e, get_or-set_other highs x y hi 0 e) (h y)
-]
+ordered_set lows highs x lo hi p q l h y =
+    grind (arith, get_or-set_same lows x lo 0 p, get_or-set_same highs x hi 0 q, get_or-set_other)
 
 -- what a low end leaves of 1
 pub mass_set : (lows : List ℕ) (x lo room one : ℕ) → x < length lows → get_or lows x 0 ≡ 0 → lo ≤ room
     → sum lows + room ≡ one → sum (set lows x lo) + (room - lo) ≡ one
-mass_set lows x lo room one inside none within left =
-    omega (arith, sum_by-set (λ (e : ℕ). e) lows x lo 0 inside, none, within, left)
+mass_set lows x lo room one inside none within left = grind (arith, sum_by-set (λ (e : ℕ). e) lows x lo 0 inside)
 
 module _ (step : ℕ) (apart : 0 < step) (n : ℕ) (ends : List ℕ) (v : ℕ) where
   -- the cells past the one that is written
@@ -72,15 +46,6 @@ raised_low o p d m s e h = rw (e, pow-add) (omega (arith, mul-le-mul_right (2 ^ 
 
 raised_high : (o p d m s : ℕ) → s ≡ d + m → p ≤ o * 2 ^ d → p * 2 ^ m ≤ o * 2 ^ s
 raised_high o p d m s e h = rw (e, pow-add) (omega (arith, mul-le-mul_right (2 ^ m) h))
-
--- none is written yet
-pub placed_none : (B : ℕ) (start : Scaled) (e step : ℕ) (low high : List ℕ) (lo hi : ℕ → ℕ) → ((x : ℕ) → lo x ≡ 0)
-    → IsPlaced B start e step 0 low high lo hi
-placed_none B start e step low high lo hi none = record {
-  low_end = λ k b. absurd (omega (arith, b));
-  high_end = λ k b. absurd (omega (arith, b));
-  between = λ x b. none x;
-}
 
 module _ (B : ℕ) (start : Scaled) (e step : ℕ) (low high lows highs : List ℕ) (lo hi down : ℕ)
     (apart : 0 < step) (scale : 61 + start.exponent ≡ down + (e + B)) where

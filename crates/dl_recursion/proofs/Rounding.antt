@@ -6,10 +6,7 @@ pub ceil_reaches : (a d : ℕ) → 0 < d → a ≤ (a + (d - 1)) / d * d
 ceil_reaches a d h = omega (arith, lt-div-mul-add {a = a + (d - 1)} {b = d} h)
 
 pub ceil_least : (a d m : ℕ) → 0 < d → a ≤ m * d → (a + (d - 1)) / d ≤ m
-ceil_least a d m h p =
-    let q : a + (d - 1) < suc m * d = omega (arith, p, h) in
-    let r : (a + (d - 1)) / d < suc m = (div-lt_iff_lt-mul {k = d} {x = a + (d - 1)} {y = suc m} h).1 q in
-    omega (arith, r)
+ceil_least a d m h p = grind (arith, div-lt_iff_lt-mul {k = d} {x = a + (d - 1)} {y = suc m} h)
 
 pub floor_ceil : (a b d : ℕ) → 0 < d → a ≤ b → a / d ≤ (b + (d - 1)) / d
 floor_ceil a b d h p = le-div (a / d) (b + (d - 1)) d h (omega (arith, div-mul-le_self a d, p))

@@ -1,5 +1,7 @@
 -- Runs: their amounts one by one, and what they give to the next cell by the sums of the cells.
-use Rattle.dl_recursion.proofs.Common.{◌≡◌, inl, inr, ℕ, suc, zero, ◌+◌, ◌-◌, ◌*◌, ◌^◌, ◌<◌, ◌≤◌, List, [], ◌∷◌, ◌++◌, length, take, get_or, arith, refl, ap, mul-le-mul, mul-le-mul_left, mul-le-mul_right, zero-lt-suc, sum_by, All, flat_map, sum_by-cons, sum_by-append, sum_by_push, sum_by_more, sum_by_more_le, cases_lt, count_below, Part, Run, in_a_row, run_parts, all_parts, part_sum, ArePositiveAmounts, contribution, sum_to_cell, sums_before, add-zero, add-suc, suc-add, IsTotal, Total, All-append}
+use Rattle.std.proofs.lemmas.Bool.Decides.{nat_tests}
+use Rattle.std.proofs.lemmas.Grind.{common_steps}
+use Rattle.dl_recursion.proofs.Common.{◌≡◌, inl, inr, ℕ, suc, zero, ◌+◌, ◌-◌, ◌*◌, ◌^◌, ◌<◌, ◌≤◌, List, [], ◌∷◌, ◌++◌, length, take, get_or, arith, refl, ap, mul-le-mul, mul-le-mul_left, mul-le-mul_right, zero-lt-suc, sum_by, All, flat_map, sum_by-cons, sum_by-append, sum_by_push, sum_by_more_le, cases_lt, count_below, Part, Run, in_a_row, run_parts, all_parts, part_sum, ArePositiveAmounts, contribution, sum_to_cell, sums_before, add-zero, add-suc, suc-add, IsTotal, Total, All-append}
 use Rattle.dl_recursion.specs.declared.parts.Amounts.{Amounts}
 use Rattle.dl_recursion.proofs.Reach.{contribution_yes, contribution_at, contribution_no}
 
@@ -11,13 +13,7 @@ pub row_more : (f : Part → ℕ) (m n w : ℕ)
 unfolding in_a_row
 row_more f m zero w = rw add-zero (omega arith)
 row_more f m (suc n) w =
-    let p : Part = record { amount = m; weight = w } in
-    rw (add-suc m n, ← suc-add m n) (omega (
-      arith,
-      row_more f (suc m) n w,
-      sum_by-cons f p (in_a_row (suc m) (suc n) w),
-      sum_by-cons f p (in_a_row (suc m) n w),
-    ))
+    grind (arith, nat_tests, common_steps, add-suc m n, suc-add m n, row_more f (suc m) n w, sum_by-cons)
 
 pub row_none : (f : Part → ℕ) (m w : ℕ) → sum_by f (in_a_row m 0 w) ≡ 0
 unfolding in_a_row
@@ -43,21 +39,12 @@ runs_positive (run ∷ runs) h =
     (runs_positive runs (λ k d q. h (suc k) d (omega (arith, q))))
 
 pub all_positive : (amounts : Amounts) → ArePositiveAmounts amounts → All (λ p. 0 < p.amount) (all_parts amounts)
-all_positive amounts h =
-    All-append (λ (p : Part). 0 < p.amount) amounts.parts.items (flat_map run_parts amounts.runs.items) h.parts
-    (runs_positive amounts.runs.items h.runs)
-
--- one more run
-pub runs_more : (f : Part → ℕ) (runs : List Run) (i : ℕ) (d : Run) → i < length runs
-    → sum_by f (flat_map run_parts (take (i + 1) runs)) ≡ sum_by f (flat_map run_parts (take i runs)) + sum_by f
-    (run_parts (get_or runs i d))
-runs_more f runs i d h = rw (runs_sum, runs_sum) (sum_by_more (λ (run : Run). sum_by f (run_parts run)) runs i d h)
+all_positive amounts h = grind (arith, nat_tests, common_steps, runs_positive amounts.runs.items h.runs)
 
 pub runs_more_le : (f : Part → ℕ) (runs : List Run) (i : ℕ) (d : Run) → i < length runs
     → sum_by f (flat_map run_parts (take i runs)) + sum_by f (run_parts (get_or runs i d)) ≤ sum_by f
     (flat_map run_parts runs)
-runs_more_le f runs i d h =
-    rw (runs_sum, runs_sum) (sum_by_more_le (λ (run : Run). sum_by f (run_parts run)) runs i d h)
+runs_more_le f runs i d h = grind (arith, sum_by_more_le (λ (run : Run). sum_by f (run_parts run)) runs i d h, runs_sum)
 
 pub run_fits : (K : ℕ) (runs : List Run) (i : ℕ) (d : Run) → i < length runs
     → K * part_sum (flat_map run_parts runs) < 2 ^ 64 → K * part_sum (run_parts (get_or runs i d)) < 2 ^ 64
@@ -67,12 +54,7 @@ run_fits K runs i d h room = omega (arith, room, mul-le-mul_left K (runs_more_le
 
 module _ (a b s : ℕ) (cells : List ℕ) (small : (k : ℕ) → get_or cells k 0 ≤ 2 ^ 62) where
   contribution_le : (p : Part) → contribution a b cells s p ≤ (a + b) * s * p.weight * 2 ^ 62
-  contribution_le p = elim (cases_lt s p.amount) [
-    | inl l ↦ rw (contribution_no a b cells s p l) (omega arith)
-    | inr l ↦
-        let f : a * s + b * p.amount ≤ (a + b) * s = omega (arith, mul-le-mul_left b l) in
-        rw (contribution_yes a b cells s p l) (mul-le-mul (mul-le-mul_right p.weight f) (small (s - p.amount)))
-  ]
+  contribution_le p = grind (arith, contribution_no, mul-le-mul_left, contribution_yes, mul-le-mul, mul-le-mul_right)
 
   contributions_le : (parts : List Part) → sum_by (contribution a b cells s) parts ≤
       (a + b) * s * part_sum parts * 2 ^ 62
@@ -109,9 +91,7 @@ module _ (a b s : ℕ) (cells : List ℕ) where
 
   pub onward_none : (m : ℕ) → s < m → 0 ≡ onward m
   unfolding in_a_row
-  onward_none m l =
-      let none : suc s - m ≡ 0 = omega (arith, l) in
-      rw none refl
+  onward_none m l = grind arith
 
   -- by the sums up to the cell that lies m before
   by_cells : (k m : ℕ) → k + m ≡ s
@@ -120,19 +100,11 @@ module _ (a b s : ℕ) (cells : List ℕ) where
   unfolding in_a_row count_below
   by_cells zero m e = omega (arith, contribution_at a b cells s (record { amount = m; weight = 1 }) 0 e)
   by_cells (suc k) m e =
-      let p : Part = record { amount = m; weight = 1 } in
-      omega (
-        arith,
-        by_cells k (suc m) (omega (arith, e)),
-        sum_by-cons (contribution a b cells s) p (in_a_row (suc m) (suc k) 1),
-        contribution_at a b cells s p (suc k) e,
-      )
+      grind (arith, nat_tests, common_steps, by_cells k (suc m) (omega (arith, e)), sum_by-cons, contribution_at)
 
   pub onward_is : (m : ℕ) (total : Total) → m ≤ s → IsTotal cells (s - m) total
       → (a * s + b * m) * total.cells + b * total.before ≡ onward m
-  onward_is m total within is =
-      let k : suc s - m ≡ suc (s - m) = omega (arith, within) in
-      rw (is.cells, is.before, k) (by_cells (s - m) m (omega (arith, within)))
+  onward_is m total within is = grind (arith, by_cells (s - m) m (omega (arith, within)))
 
   -- w times what m gives, and w times those past m
   one_more : (m w : ℕ) → contribution a b cells s (record { amount = m; weight = w }) + w * onward (suc m) ≡ w * onward m
@@ -160,22 +132,14 @@ module _ (a b s : ℕ) (cells : List ℕ) where
   unfolding in_a_row
   run_is m zero w = rw add-zero (omega arith)
   run_is m (suc n) w =
-      let p : Part = record { amount = m; weight = w } in
-      rw (add-suc m n, ← suc-add m n) (omega (
-        arith,
-        sum_by-cons (contribution a b cells s) p (in_a_row (suc m) n w),
-        run_is (suc m) n w,
-        one_more m w,
-      ))
+      grind (arith, nat_tests, common_steps, add-suc m n, suc-add m n, run_is (suc m) n w, one_more m w, sum_by-cons)
 
   -- the amounts past the last of a run give at most what all from its first on do; the difference is the run's
   pub past_le : (m n : ℕ) → onward (m + n) ≤ onward m
   past_le m n = omega (arith, run_is m n 1)
 
   pub run_less : (m n w : ℕ) → (onward m - onward (m + n)) * w ≡ sum_by (contribution a b cells s) (in_a_row m n w)
-  run_less m n w =
-      let apart : onward m - onward (m + n) + onward (m + n) ≡ onward m = omega (arith, past_le m n) in
-      omega (arith, run_is m n w, ap (λ t. t * w) apart)
+  run_less m n w = grind (arith, past_le m n, run_is m n w)
 
 -- ---- amounts that are added
 

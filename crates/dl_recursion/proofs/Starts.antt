@@ -1,5 +1,5 @@
 -- The probability of cell 0: products, and powers of weights.
-use Rattle.dl_recursion.proofs.Common.{◌≡◌, ℕ, suc, zero, ◌+◌, ◌*◌, ◌/◌, ◌^◌, ◌<◌, ◌≤◌, arith, sym, ap, ◌∙◌, mul-pos, mul-le-mul_right, pow-suc, div-mul-le_self, pow-add, zero-lt-suc, lt-div-mul-add, Fraction, ◌over◌, ◌*ℚ◌, ◌≤ℚ◌, whole, sum_to, over_le, over_mul, one_times, le_refl, le_of_eq, le_of_mul-le-mul_right, one-le-pow, pow-le-pow_right, AtMost, AtLeast, Holds, Series, times, convolve}
+use Rattle.dl_recursion.proofs.Common.{◌≡◌, ℕ, suc, zero, ◌+◌, ◌*◌, ◌/◌, ◌^◌, ◌<◌, ◌≤◌, arith, sym, mul-pos, mul-le-mul_right, pow-suc, div-mul-le_self, pow-add, zero-lt-suc, lt-div-mul-add, Fraction, ◌over◌, ◌*ℚ◌, ◌≤ℚ◌, whole, sum_to, over_le, over_mul, one_times, le_refl, le_of_eq, le_of_mul-le-mul_right, one-le-pow, pow-le-pow_right, AtMost, AtLeast, Holds, Series, times, convolve}
 use Rattle.dl_model.proofs.Declared.{at_most_wider, at_least_wider, at_most_times, at_least_times}
 use Rattle.dl_model.proofs.FamilyLaws.{sum_rises_to}
 use Rattle.dl_model.proofs.Alike.{most_from, least_from}
@@ -20,9 +20,7 @@ half_high l T p P h =
     le_of_mul-le-mul_right {k = 2} (omega (arith, mul-le-mul_right T r, h)) (zero-lt-suc 1)
 
 pub half_top : (h e d : ℕ) → e ≡ suc d → h ≤ 2 ^ e → (h + 1) / 2 ≤ 2 ^ d
-half_top h e d q p =
-    let s : 2 ^ e ≡ 2 ^ d * 2 = ap (λ k. 2 ^ k) q ∙ pow-suc 2 d in
-    omega (arith, s)
+half_top h e d q p = grind (arith, pow-suc 2 d)
 
 -- ---- the product
 

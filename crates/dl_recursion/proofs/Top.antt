@@ -42,10 +42,7 @@ module _ (T P S X : ℕ) (T_pos : 0 < T) (P_pos : 0 < P) (S_pos : 0 < S) (r : Fr
       turn x r s p t = simp ring
 
   mid : (l a : ℕ) → whole (l * X) *ℚ whole (a * S) ≡ whole (l * a * (X * S))
-  mid l a = sym (whole_times (l * X) (a * S)) ∙ ap whole (plain l X a S)
-    where
-      plain : (l X a S : ℕ) → l * X * (a * S) ≡ l * a * (X * S)
-      plain l X a S = omega arith
+  mid l a = grind (arith, whole_times (l * X) (a * S))
 
   pub low_number : (o l a : ℕ) → o * (T * P) ≤ l * a * (X * S) → whole (l * X) ≤ℚ whole T *ℚ r
       → o over S ≤ℚ a over P *ℚ r
@@ -65,9 +62,6 @@ module _ (T P S X : ℕ) (T_pos : 0 < T) (P_pos : 0 < P) (S_pos : 0 < S) (r : Fr
 
 module _ (f w : ℕ → Fraction) (z : f zero ≡ whole 0) (severity : IsWithinOne f) (start : Scaled)
     (H : HoldsNoClaim w start) where
-  abbrev pub level : ℕ → Fraction
-  level s = cell w f s s
-
   low_holds : (B o y : ℕ) → o over (2 ^ B) ≤ℚ start.low over 2 ^ start.exponent *ℚ cell w f y y
       → AtLeast (cell w f y) (λ N. sum_to N w) (o over (2 ^ B))
   low_holds B o y h N u b =
@@ -137,5 +131,4 @@ follows f w x a b q parts z P W =
     each q a x s b i f r = simp ring
 
     factor : (n i : ℕ) → whole a *ℚ whole (suc n) +ℚ whole b *ℚ whole (suc i) ≡ whole (a * suc n + b * suc i)
-    factor n i = ap₂ (λ s t. s +ℚ t) (sym (whole_times a (suc n))) (sym (whole_times b (suc i)))
-        ∙ sym (whole_plus (a * suc n) (b * suc i))
+    factor n i = grind (arith, whole_times a (suc n), whole_times b (suc i), whole_plus (a * suc n) (b * suc i))

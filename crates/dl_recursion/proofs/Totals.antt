@@ -1,6 +1,5 @@
 -- The sums of the cells: bounds, one more, and which of them stay when cells change.
-use Rattle.dl_recursion.proofs.Common.{◌≡◌, inl, inr, ℕ, suc, ◌+◌, ◌*◌, ◌/◌, ◌^◌, ◌<◌, ◌≤◌, List, [], ◌∷◌, ◌++◌, length, length-append, take, get_or, arith, sym, ◌∙◌, mul-le-mul, mul-le-mul_right, cases_lt, count_below, sum_to_cell, sums_before, IsSum, AreSums, get_or-append, most_cells, Total, Sums, IsTotal, get_or-take, length-take}
-use Rattle.std.proofs.Math.Seq.{get_or-append_seam}
+use Rattle.dl_recursion.proofs.Common.{◌≡◌, ℕ, suc, ◌+◌, ◌*◌, ◌/◌, ◌^◌, ◌<◌, ◌≤◌, List, [], ◌∷◌, ◌++◌, length, take, get_or, arith, sym, ◌∙◌, mul-le-mul, mul-le-mul_right, count_below, sum_to_cell, sums_before, IsSum, AreSums, get_or-append, most_cells, Total, Sums, IsTotal, get_or-take, length-take}
 use Rattle.dl_exact.proofs.Counts.{below_bound, below_same}
 
 -- ---- bounds
@@ -17,10 +16,7 @@ before_sums_le ends k M h =
 pub total_small : (ends : List ℕ) (k : ℕ) (total : Total) → ((i : ℕ) → get_or ends i 0 ≤ 2 ^ 62) → k < most_cells
     → IsTotal ends k total → (total.cells ≤ 2 ^ 78) × (total.before ≤ 2 ^ 94)
 total_small ends k total h l is =
-    let few : k ≤ most_cells = omega (arith, l) in (
-      omega (arith, to_cell_le ends k (2 ^ 62) h, is.cells, l),
-      omega (arith, before_sums_le ends k (2 ^ 62) h, is.before, mul-le-mul few (mul-le-mul_right (2 ^ 62) few)),
-    )
+    grind (arith, to_cell_le ends k (2 ^ 62) h, before_sums_le ends k (2 ^ 62) h, mul-le-mul, mul-le-mul_right)
 
 -- ---- one more cell
 
@@ -33,22 +29,10 @@ pub next_total : (ends : List ℕ) (k : ℕ) (last total : Total) → IsTotal en
     → total.cells ≡ last.cells + get_or ends (suc k) 0 → total.before ≡ last.before + last.cells
     → IsTotal ends (suc k) total
 unfolding count_below
-next_total ends k last total is p q = record {
-  cells = omega (arith, p, is.cells);
-  before = omega (arith, q, is.before, is.cells);
-}
+next_total ends k last total is p q = grind arith
 
 pub sums_none : (low high : List ℕ) → AreSums [] low high
 sums_none low high k d l = absurd (omega (arith, l))
-
-pub sums_pushed : (low high : List ℕ) (sums : List Sums) (one : Sums) → AreSums sums low high
-    → IsSum low high (length sums) one → AreSums (sums ++ one ∷ []) low high
-sums_pushed low high sums one h g k d l = elim (cases_lt k (length sums)) [
-  | inl b ↦ rw (get_or-append sums (one ∷ []) d k b) (h k d b)
-  | inr b ↦
-      let e : k ≡ length sums = omega (arith, b, simp length-append at l) in
-      rw (e, get_or-append_seam sums one [] d) g
-]
 
 -- ---- cells that change
 
@@ -67,10 +51,8 @@ is_total_same ends more k total same is = record {
 is_sum_same : (low high low' high' : List ℕ) (k : ℕ) (sums : Sums)
     → ((i : ℕ) → i ≤ k → get_or low' i 0 ≡ get_or low i 0) → ((i : ℕ) → i ≤ k → get_or high' i 0 ≡ get_or high i 0)
     → IsSum low high k sums → IsSum low' high' k sums
-is_sum_same low high low' high' k sums p q h = record {
-  low_total = is_total_same low low' k sums.low p h.low_total;
-  high_total = is_total_same high high' k sums.high q h.high_total;
-}
+is_sum_same low high low' high' k sums p q h =
+    grind (arith, is_total_same low low' k sums.low p h.low_total, is_total_same high high' k sums.high q h.high_total)
 
 -- the first n sums, where the first n cells stay
 pub sums_kept : (n : ℕ) (sums : List Sums) (low high low' high' : List ℕ)

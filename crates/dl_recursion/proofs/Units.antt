@@ -1,14 +1,11 @@
 -- Equal shares of a count, the steps of its weights, and items with their weights times a factor.
-use Rattle.dl_recursion.proofs.Common.{◌≡◌, inl, inr, ℕ, suc, zero, ◌+◌, ◌-◌, ◌*◌, ◌/◌, ◌<◌, ◌≤◌, List, [], ◌∷◌, length, take, get_or, arith, sym, ap, ◌∙◌, mul-pos, refl, add-one, All, sum_by, sum_by-cons, sum_by_more, Fraction, ◌over◌, ◌+ℚ◌, ◌*ℚ◌, ◌/ℚ◌, whole, over_add, over_mul, over_same, over_self, over_times_whole, whole_times, one_pos, one_times, power, poisson, gamma, IsPanjer, Part, in_a_row, eq-zero-or-pos, mul-add, ◌≢◌, add-zero, lt_of_mul-lt-mul_right, eq_of_mul-eq-mul_right, eq-eqb, ne_eqb, All-head, All-tail, ◌==◌, if◌then◌else◌, eqb_tells, over_div, times_assoc, zero_times, times_comm, Item, weight_sum, weight_at}
+use Rattle.dl_recursion.proofs.Common.{◌≡◌, inl, inr, ℕ, suc, zero, ◌+◌, ◌-◌, ◌*◌, ◌/◌, ◌<◌, List, [], ◌∷◌, length, take, get_or, arith, sym, ap, ◌∙◌, mul-pos, refl, add-one, All, sum_by, sum_by-cons, sum_by_more, Fraction, ◌over◌, ◌+ℚ◌, ◌*ℚ◌, ◌/ℚ◌, whole, over_add, over_mul, over_same, over_self, over_times_whole, whole_times, one_pos, one_times, power, poisson, gamma, IsPanjer, Part, in_a_row, eq-zero-or-pos, mul-add, ◌≢◌, add-zero, eq_of_mul-eq-mul_right, eq-eqb, ne_eqb, All-head, All-tail, ◌==◌, if◌then◌else◌, eqb_tells, over_div, times_assoc, zero_times, times_comm, Item, weight_sum, weight_at}
 use Prim.Native.Nat.{◌∣◌}
 use Rattle.dl_model.proofs.Panjer.{poisson_class, gamma_class}
 use Rattle.dl_model.proofs.PoissonTimes.{poisson_power}
 use Rattle.dl_model.proofs.Gamma.{gamma_power}
 use Rattle.dl_model.proofs.Multiples.{multiple_of}
 use Rattle.dl_recursion.proofs.Runs.{row_none, row_more}
-
-pub few_shares : (s num den : ℕ) → s * den < num + num → num ≤ 4096 * den → s < 8192
-few_shares s num den p q = lt_of_mul-lt-mul_right den (omega (arith, p, q))
 
 -- equal shares of a Poisson mean, together
 pub shares : (num den s : ℕ) → 0 < den → 0 < s → power (poisson (num over (s * den))) s ≡ poisson (num over den)
@@ -30,10 +27,7 @@ times_item g k item = record { amount = item.amount / g; weight = k * item.weigh
 
 -- an amount above 0 comes to a step or more
 pub some_steps : (g a : ℕ) → g ∣ a → 0 < a → 0 < a / g
-some_steps g a d p = elim (eq-zero-or-pos (a / g)) [
-  | inl none ↦ absurd (omega (arith, p, multiple_of g a d, ap (λ t. t * g) none))
-  | inr some ↦ some
-]
+some_steps g a d p = grind (arith, eq-zero-or-pos (a / g), multiple_of g a d)
 
 -- it is j steps exactly where it is g * j
 times_at : (g k j : ℕ) (item : Item) → 0 < g → g ∣ item.amount
@@ -72,8 +66,7 @@ module _ (f : Part → ℕ) (g k : ℕ) (items : List Item) (i : ℕ) (d : Item)
       → S + sum_by f (in_a_row m n w) ≡ sum_by (λ item. f (times_item g k item)) (take i items)
       → S + sum_by f (in_a_row m (n + 1) w) ≡ sum_by (λ item. f (times_item g k item)) (take (i + 1) items)
   item_joined m n w S p q e =
-      rw (sum_by_more (λ (item : Item). f (times_item g k item)) items i d h, add-one n, row_more f m n w, p, q)
-      (omega (arith, e))
+      grind (arith, sum_by_more (λ (item : Item). f (times_item g k item)) items i d h, add-one n, row_more f m n w)
 
   -- a new run of this item alone
   pub item_begun : (w S : ℕ) → k * (get_or items i d).weight ≡ w
@@ -81,8 +74,7 @@ module _ (f : Part → ℕ) (g k : ℕ) (items : List Item) (i : ℕ) (d : Item)
       → S + sum_by f (in_a_row ((get_or items i d).amount / g) 1 w) ≡ sum_by (λ item. f (times_item g k item))
       (take (i + 1) items)
   item_begun w S q e =
-      rw (sum_by_more (λ (item : Item). f (times_item g k item)) items i d h, row_more f _ 0 w, row_none, add-zero, q)
-      (omega (arith, e))
+      grind (arith, sum_by_more (λ (item : Item). f (times_item g k item)) items i d h, row_more, row_none, add-zero)
 
 -- the weights by their lowest terms: q times the ratio of a weight is its numerator
 pub chance_scaled : (base total num w v : ℕ) (ratio : Fraction) → 0 < base → 0 < total
@@ -104,15 +96,9 @@ poisson_steps v = rw (zero_times, one_times) (poisson_class v)
 
 pub gamma_steps : (s b : ℕ) (x : Fraction) → 0 < s → b ≡ s - 1 → IsPanjer (whole 1 *ℚ x) (whole b *ℚ x) (gamma s x)
 gamma_steps zero b x p e = absurd (omega (arith, p))
-gamma_steps (suc s) b x p e =
-    let q : b ≡ s = omega (arith, e) in
-    rw (q, one_times) (gamma_class s x)
+gamma_steps (suc s) b x p e = grind (arith, gamma_class s x, one_times)
 
 pub contribution_is : (num den s : ℕ) → 0 < den → 0 < s
     → num over (num + s * den) ≡ num over den /ℚ (whole s +ℚ num over den)
 contribution_is num den s d p =
-    let q : 0 < s * den = mul-pos p d in
-    let r : 0 < s * den + num * 1 = omega (arith, q) in
-    let e : whole s +ℚ num over den ≡ (s * den + num * 1) over (1 * den) = over_add s 1 num den one_pos d in
-    sym (ap (λ t. num over den /ℚ t) e ∙ over_div num den (s * den + num * 1) (1 * den) d (mul-pos one_pos d) r
-    ∙ over_same _ _ _ _ (mul-pos d r) (omega (arith, q)) (omega arith))
+    grind (arith, mul-pos p d, over_add s 1 num den one_pos d, mul-pos one_pos d, over_div, over_same, mul-pos)

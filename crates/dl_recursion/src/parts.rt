@@ -45,6 +45,7 @@ pub struct Amounts {
 const LONG: usize = 16;
 
 /// Adds the amounts of a run: as a run where it is long, else one by one.
+#[tactic(auto, using(crate::proofs::Runs::row_none))]
 fn add(amounts: &mut Amounts, run: Run) -> Result<(), AllocError>
     requires sound { ArePositiveAmounts amounts.old }
     requires amount { 0 < run.amount }
@@ -95,6 +96,7 @@ pub(crate) fn common_amount(items: &[Item]) -> u32
 
 /// The amounts of the items, which rise, in steps of so many buckets that each is a whole number of
 /// them, each with its weight times the factor.
+#[tactic(auto, using(crate::proofs::Runs::row_none))]
 pub(crate) fn amounts_of(
     alloc: Global,
     items: &[Item],

@@ -16,6 +16,7 @@ use std::alloc::{AllocError, Global};
 const PRODUCT_BITS: u64 = 126;
 
 /// The product by `down` bits down, rounded down, and at most `one`.
+#[tactic(auto, using(crate::proofs::Place::down_reaches))]
 fn narrow_low(a: u64, b: u64, down: u64, one: u128) -> u128
     requires a_small { a ≤ most_end }
     requires b_small { b ≤ most_start }
@@ -28,6 +29,7 @@ fn narrow_low(a: u64, b: u64, down: u64, one: u128) -> u128
 }
 
 /// The product by `down` bits down, rounded up, or `one` where it is more.
+#[tactic(auto, using(crate::proofs::Place::up_reaches))]
 fn narrow_high(a: u64, b: u64, down: u64, one: u128) -> u128
     requires a_small { a ≤ most_end }
     requires b_small { b ≤ most_start }

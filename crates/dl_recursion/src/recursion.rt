@@ -97,6 +97,7 @@ fn shrink(x: &mut ScaledCells)
 }
 
 /// Shifts all cells down, and the next one with them, until that one is at most 2^62.
+#[tactic(auto, using(crate::proofs::Starts::two_le))]
 fn fit(x: &mut ScaledCells, next: Ends) -> Ends
     requires sound { AreScaledCells x.old.low.items x.old.high.items x.old.first }
     requires within { x.old.first ≤ length x.old.low.items }
@@ -214,6 +215,7 @@ fn begin(alloc: Global, amounts: &Amounts, cells: usize) -> Result<ScaledCells, 
 }
 
 /// The first `cells` cells of the recursion.
+#[tactic(auto, using(crate::proofs::Grow::begun, crate::proofs::Grow::begun_small, crate::proofs::Totals::sums_none))]
 pub(crate) fn recur(
     alloc: Global,
     amounts: &Amounts,

@@ -13,6 +13,7 @@ use std::alloc::AllocError;
 
 /// What an amount taken alone gives to cell `s`, the next one, for one end: its factor times the
 /// end of the cell that lies it before.
+#[tactic(auto, using(crate::proofs::Reach::factor_le))]
 fn contribution(part: Part, a: u64, b: u64, s: usize, cells: &[u64]) -> u128
     requires next { length cells.now ≡ s }
     requires steps { (a + b) * s < 2 ^ 64 }
@@ -29,6 +30,7 @@ fn contribution(part: Part, a: u64, b: u64, s: usize, cells: &[u64]) -> u128
 /// What amounts taken one by one give. One that is above the cell gives nothing. As a function of
 /// its own, which adds one product before it makes the other, it keeps both sums in registers.
 #[inline(never)]
+#[tactic(auto, using(std::proofs::lemmas::List::Sums::sum_by_more_le, crate::proofs::Runs::contributions_top))]
 fn reach_parts(parts: &[Part], a: u64, b: u64, low: &[u64], high: &[u64]) -> Ends
     requires alike { length high.now ≡ length low.now }
     requires steps { (a + b) * length low.now < 2 ^ 64 }
@@ -159,6 +161,7 @@ fn onward(x: &ScaledCells, a: u64, b: u64, amount: usize) -> Ends
 }
 
 /// What a run gives.
+#[tactic(auto, using(crate::proofs::Runs::past_le, crate::proofs::Runs::run_less, crate::proofs::Runs::contributions_top))]
 fn reach_run(x: &ScaledCells, run: Run, a: u64, b: u64) -> Ends
     requires few { length x.now.low.items ≤ most_cells }
     requires settled { AreScaledCells x.now.low.items x.now.high.items x.now.first }
@@ -183,6 +186,7 @@ fn reach_run(x: &ScaledCells, run: Run, a: u64, b: u64) -> Ends
 }
 
 /// What runs give.
+#[tactic(auto, using(crate::proofs::Runs::run_fits, crate::proofs::Runs::run_room))]
 fn reach_runs(x: &ScaledCells, runs: &[Run], a: u64, b: u64) -> Ends
     requires few { length x.now.low.items ≤ most_cells }
     requires settled { AreScaledCells x.now.low.items x.now.high.items x.now.first }

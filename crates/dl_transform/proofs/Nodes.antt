@@ -1,5 +1,5 @@
 -- Powers of the numbers that stand at the nodes.
-use Rattle.dl_transform.proofs.Common.{ℕ, zero, suc, ◌≡◌, ◌+◌, ◌-◌, ◌*◌, ◌/◌, ◌%◌, ◌^◌, ◌<◌, ◌≤◌, inl, inr, List, length, slice_index, arith, refl, ap, ◌∙◌, pow-suc, mul-le-mul_left, pow-zero, pow_pos, cases_lt, Same, point, pow-add}
+use Rattle.dl_transform.proofs.Common.{ℕ, zero, suc, ◌≡◌, ◌+◌, ◌-◌, ◌*◌, ◌^◌, ◌<◌, ◌≤◌, inl, inr, List, length, slice_index, arith, refl, ap, ◌∙◌, pow-suc, mul-le-mul_left, pow-zero, pow_pos, cases_lt, Same, point, pow-add}
 use Rattle.dl_transform.proofs.Residues.{same_of, same_by, same_trans, same_times}
 
 -- the square of each root is the number at its node
@@ -8,17 +8,11 @@ IsTree p roots = (k : ℕ) → k < length roots → Same p (slice_index roots k 
 
 pub point_even : (p : ℕ) (roots : List ℕ) (k : ℕ) → point p roots (2 * k) ≡ slice_index roots k
 unfolding point
-point_even p roots k =
-    let e : 2 * k % 2 ≡ 0 = omega arith in
-    let f : 2 * k / 2 ≡ k = omega arith in
-    rw (e, f) refl
+point_even p roots k = grind arith
 
 pub point_odd : (p : ℕ) (roots : List ℕ) (k : ℕ) → point p roots (2 * k + 1) ≡ p - slice_index roots k
 unfolding point
-point_odd p roots k =
-    let e : (2 * k + 1) % 2 ≡ 1 = omega arith in
-    let f : (2 * k + 1) / 2 ≡ k = omega arith in
-    rw (e, f) refl
+point_odd p roots k = grind arith
 
 -- what a number lacks of p has the same square
 lack_square : (p w : ℕ) → w ≤ p → Same p ((p - w) * (p - w)) (w * w)

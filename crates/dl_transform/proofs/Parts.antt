@@ -1,5 +1,5 @@
 -- The two halves of a list, and what the passes make of them.
-use Rattle.dl_transform.proofs.Common.{ℕ, suc, ◌≡◌, ◌+◌, ◌-◌, ◌*◌, ◌/◌, ◌^◌, ◌<◌, ◌≤◌, inl, inr, List, ◌++◌, take, drop, length, slice_index, get_or, arith, refl, ap, ◌∙◌, pow-suc, get_or-take, get_or-drop, get_or_past, pow_pos, cases_lt, Same, eval, point, get_or-append_right, length-take}
+use Rattle.dl_transform.proofs.Common.{ℕ, suc, ◌≡◌, ◌+◌, ◌-◌, ◌*◌, ◌/◌, ◌^◌, ◌<◌, ◌≤◌, inl, inr, List, ◌++◌, take, drop, length, slice_index, get_or, arith, ap, ◌∙◌, pow-suc, get_or-take, get_or-drop, get_or_past, pow_pos, cases_lt, Same, eval, point, get_or-append_right, length-take}
 use Rattle.std.proofs.Math.ListN.{get_or-append}
 use Rattle.dl_transform.proofs.Residues.{same_refl, same_of, same_sym, same_trans}
 use Rattle.dl_transform.proofs.Nodes.{IsTree, point_even, point_odd, node_power, inside_roots}
@@ -16,10 +16,7 @@ drop_small m B xs h i = rw (get_or-drop m xs i 0) (h (m + i))
 
 pub join_small : (B : ℕ) (xs ys : List ℕ) → ((i : ℕ) → get_or xs i 0 < B) → ((i : ℕ) → get_or ys i 0 < B) → (i : ℕ)
     → get_or (xs ++ ys) i 0 < B
-join_small B xs ys h k i = elim (cases_lt i (length xs)) [
-  | inl b ↦ rw (get_or-append xs ys 0 i b) (h i)
-  | inr b ↦ rw (get_or-append_right xs ys (length xs) i 0 refl b) (k (i - length xs))
-]
+join_small B xs ys h k i = grind (arith, get_or-append, get_or-append_right)
 
 -- the two halves of a list of n items, and the nodes for them below a node, where levels are left
 pub record IsBelow (levels node R n : ℕ) : Type 0 where
@@ -51,17 +48,13 @@ low_power : (p node m : ℕ) (roots : List ℕ) (l : ℕ) → m ≡ 2 ^ l → Is
     → ((k : ℕ) → slice_index roots k ≤ p) → (node + 1) * (m * 2) ≤ 2 * length roots
     → (k : ℕ) → k < m → Same p (point p roots (2 * node * m + k) ^ m) (slice_index roots node)
 low_power p node m roots l em tree small inside k h =
-    let sum : (2 * node + 1) * m ≤ 2 * length roots = omega (arith, inside) in
-    rw em (same_trans (node_power p roots tree small l (2 * node) k (rw (← em) h) (rw (← em) sum))
-    (same_of p (point_even p roots node)))
+    grind (arith, same_of p (point_even p roots node), same_trans, node_power)
 
 high_power : (p node m : ℕ) (roots : List ℕ) (l : ℕ) → m ≡ 2 ^ l → IsTree p roots
     → ((k : ℕ) → slice_index roots k ≤ p) → (node + 1) * (m * 2) ≤ 2 * length roots
     → (k : ℕ) → k < m → Same p (point p roots ((2 * node + 1) * m + k) ^ m) (p - slice_index roots node)
 high_power p node m roots l em tree small inside k h =
-    let sum : (2 * node + 1 + 1) * m ≤ 2 * length roots = omega (arith, inside) in
-    rw em (same_trans (node_power p roots tree small l (2 * node + 1) k (rw (← em) h) (rw (← em) sum))
-    (same_of p (point_odd p roots node)))
+    grind (arith, same_of p (point_odd p roots node), same_trans, node_power)
 
 low_place : (node m w k : ℕ) → w ≡ m * 2 → 2 * node * m + k ≡ node * w + k
 low_place node m w k e = omega (arith, ap (λ t. node * t) e)
@@ -167,7 +160,4 @@ items_leaf p levels x y r e h k b =
 
 pub roots_small : (p : ℕ) (roots : List ℕ) → ((k : ℕ) → k < length roots → slice_index roots k < p) → (k : ℕ)
     → slice_index roots k ≤ p
-roots_small p roots h k = elim (cases_lt k (length roots)) [
-  | inl b ↦ omega (arith, h k b)
-  | inr b ↦ omega (arith, get_or_past roots k 0 b)
-]
+roots_small p roots h k = grind (arith, get_or_past)

@@ -1,14 +1,10 @@
 -- What one product modulo p needs.
-use Rattle.dl_transform.proofs.Common.{ℕ, ◌≡◌, ◌+◌, ◌-◌, ◌*◌, ◌/◌, ◌%◌, ◌^◌, ◌<◌, ◌≤◌, List, length, get_or, arith, ap, ◌∙◌, mul-le-mul_left, mul-le-mul_right, Same, div-mul-le_self, div-add-mod', lt-div-mul-add, le_of_mul-le-mul_right, lt_of_mul-lt-mul_right, get_or_default, IsFactor}
+use Rattle.dl_transform.proofs.Common.{ℕ, ◌≡◌, ◌+◌, ◌-◌, ◌*◌, ◌/◌, ◌%◌, ◌^◌, ◌<◌, ◌≤◌, arith, ap, ◌∙◌, mul-le-mul_left, mul-le-mul_right, Same, div-mul-le_self, div-add-mod', lt-div-mul-add, lt_of_mul-lt-mul_right}
 use Rattle.dl_transform.proofs.Residues.{same_by, same_trans, same_mod, same_times, same_refl, same_plus, same_sym, same_cancel}
 
 -- the quotient times p is at most the product
 pub quotient_low : (x w q p : ℕ) → q * p ≤ w * 2 ^ 64 → x * q / 2 ^ 64 * p ≤ x * w
-quotient_low x w q p h =
-    let k = x * q / 2 ^ 64 in
-    let a : k * 2 ^ 64 * p ≤ x * q * p = mul-le-mul_right p (div-mul-le_self (x * q) (2 ^ 64)) in
-    let b : x * (q * p) ≤ x * (w * 2 ^ 64) = mul-le-mul_left x h in
-    le_of_mul-le-mul_right {k = 2 ^ 64} (omega (arith, a, b)) (omega arith)
+quotient_low x w q p h = omega (arith, mul-le-mul_right p (div-mul-le_self (x * q) (2 ^ 64)), mul-le-mul_left x h)
 
 -- and lacks less than 2 * p
 pub quotient_high : (x w q p : ℕ) → 0 < p → x < 2 ^ 64 → w * 2 ^ 64 < q * p + p → x * w < x * q / 2 ^ 64 * p + 2 * p
@@ -64,9 +60,3 @@ pub joined : (p u v w b n : ℕ) → n + v ≡ u + 2 * p → Same p b (n * w) �
 joined p u v w b n e h =
     same_trans (same_plus h (same_refl p (w * v)))
     (same_by p (n * w + w * v) (w * u) 0 (2 * w) (omega (arith, ap (λ t. t * w) e)))
-
--- a factor and its quotient, as they are read from two lists
-pub factor_read : (p : ℕ) (ws qs : List ℕ) (k w q : ℕ) → k < length ws → k < length qs → w ≡ get_or ws k w
-    → q ≡ get_or qs k q → IsFactor p (get_or ws k 0) (get_or qs k 0) → IsFactor p w q
-factor_read p ws qs k w q inside within e f h =
-    rw (e, f, get_or_default ws k w 0 inside, get_or_default qs k q 0 within) h

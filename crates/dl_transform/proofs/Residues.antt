@@ -1,5 +1,5 @@
 -- Remainders keep sums and products.
-use Rattle.dl_transform.proofs.Common.{ℕ, zero, suc, ◌≡◌, ◌+◌, ◌-◌, ◌*◌, ◌%◌, ◌<◌, arith, refl, sym, ap, ap₂, ◌∙◌, mod-eq_of_lt, Same, add-mod, add-mul-mod_self_right, mod-mod, mul-mod}
+use Rattle.dl_transform.proofs.Common.{ℕ, zero, suc, ◌≡◌, ◌+◌, ◌-◌, ◌*◌, ◌%◌, ◌<◌, arith, refl, sym, ap, ◌∙◌, mod-eq_of_lt, Same, add-mod, add-mul-mod_self_right, mod-mod, mul-mod}
 
 pub same_refl : (p a : ℕ) → Same p a a
 same_refl p a = record { is = refl }
@@ -14,12 +14,10 @@ pub same_trans : {p a b c : ℕ} → Same p a b → Same p b c → Same p a c
 same_trans h k = record { is = h.is ∙ k.is }
 
 pub same_plus : {p a b c d : ℕ} → Same p a b → Same p c d → Same p (a + c) (b + d)
-same_plus {p = p} {a = a} {b = b} {c = c} {d = d} h k =
-    record { is = add-mod a c p ∙ ap₂ (λ x y. (x + y) % p) h.is k.is ∙ sym (add-mod b d p) }
+same_plus {p = p} {a = a} {b = b} {c = c} {d = d} h k = grind (arith, add-mod a c p, add-mod b d p)
 
 pub same_times : {p a b c d : ℕ} → Same p a b → Same p c d → Same p (a * c) (b * d)
-same_times {p = p} {a = a} {b = b} {c = c} {d = d} h k =
-    record { is = mul-mod a c p ∙ ap₂ (λ x y. (x * y) % p) h.is k.is ∙ sym (mul-mod b d p) }
+same_times {p = p} {a = a} {b = b} {c = c} {d = d} h k = grind (arith, mul-mod a c p, mul-mod b d p)
 
 pub same_mod : (p a : ℕ) → Same p (a % p) a
 same_mod p a = record { is = mod-mod a p }

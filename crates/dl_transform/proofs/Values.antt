@@ -1,5 +1,5 @@
 -- Values of polynomials: sums, halves, products.
-use Rattle.dl_transform.proofs.Common.{ℕ, zero, suc, ◌≡◌, ◌+◌, ◌*◌, ◌^◌, ◌<◌, ◌≤◌, arith, refl, sym, ap, ◌∙◌, pow-suc, pow-zero, Same, count_pairs, pairs_none, eval, suc-add}
+use Rattle.dl_transform.proofs.Common.{ℕ, zero, suc, ◌≡◌, ◌+◌, ◌*◌, ◌^◌, ◌<◌, ◌≤◌, arith, refl, ap, ◌∙◌, pow-suc, pow-zero, Same, count_pairs, pairs_none, eval, suc-add}
 use mathlib.Core.Path.{fun_ext}
 use Rattle.dl_transform.proofs.Residues.{same_refl, same_plus, same_times}
 
@@ -19,9 +19,7 @@ eval_linear (suc n) c f g r = omega (arith, ap (λ t. r * t) (eval_linear n c (�
 
 pub eval_split : (m n : ℕ) (f : ℕ → ℕ) (r : ℕ) → eval (m + n) f r ≡ eval m f r + r ^ m * eval n (λ i. f (m + i)) r
 unfolding eval
-eval_split zero n f r =
-    let e : (λ i. f (zero + i)) ≡ f = fun_ext (λ i. ap f (omega arith)) in
-    rw e (let k : zero + n ≡ n = omega arith in rw (k, pow-zero r) (omega arith))
+eval_split zero n f r = grind (arith, pow-zero r)
 eval_split (suc m) n f r =
     let k : suc m + n ≡ suc (m + n) = suc-add m n in
     let e : (λ i. f (suc m + i)) ≡ (λ i. f (suc (m + i))) = fun_ext (λ i. ap f (suc-add m i)) in
@@ -34,13 +32,7 @@ eval_zero (suc n) f r h = omega (arith, h zero, ap (λ t. r * t) (eval_zero n (�
 
 -- zeros past the end do not count
 pub eval_padded : (m n : ℕ) (f : ℕ → ℕ) (r : ℕ) → ((i : ℕ) → m ≤ i → f i ≡ 0) → eval (m + n) f r ≡ eval m f r
-eval_padded m n f r h =
-    omega (
-      arith,
-      eval_split m n f r,
-      ap (λ t. r ^ m * t)
-          (eval_zero n (λ i. f (m + i)) r (λ i. h (m + i) (omega arith))),
-    )
+eval_padded m n f r h = grind (arith, eval_split m n f r, eval_zero n (λ i. f (m + i)) r (λ i. h (m + i) (omega arith)))
 
 pub eval_scale : (n c : ℕ) (f : ℕ → ℕ) (r : ℕ) → eval n (λ i. c * f i) r ≡ c * eval n f r
 unfolding eval
@@ -63,11 +55,7 @@ zero_times x = omega arith
 pub eval_product : (m n : ℕ) (a b : ℕ → ℕ) (r : ℕ) → ((i : ℕ) → m ≤ i → a i ≡ 0) → ((j : ℕ) → n ≤ j → b j ≡ 0)
     → eval (m + n) (λ s. count_pairs s (λ i j. a i * b j)) r ≡ eval m a r * eval n b r
 unfolding eval
-eval_product zero n a b r p q =
-    let none : (i j : ℕ) → a i * b j ≡ 0 = λ i j. ap (λ t. t * b j) (p i (omega arith)) ∙ zero_times (b j) in
-    let all : eval (zero + n) (λ s. count_pairs s (λ i j. a i * b j)) r ≡ 0 =
-    eval_zero (zero + n) (λ s. count_pairs s (λ i j. a i * b j)) r (λ s. pairs_none s (λ i j. a i * b j) none) in
-    all ∙ sym (zero_times (eval n b r))
+eval_product zero n a b r p q = grind (arith, zero_times (eval n b r), zero_times, eval_zero, pairs_none)
 eval_product (suc m) n a b r p q =
     let H : ℕ → ℕ = λ s. count_pairs s (λ i j. a i * b j) in
     let H' : ℕ → ℕ = λ s. count_pairs s (λ i j. a (suc i) * b j) in

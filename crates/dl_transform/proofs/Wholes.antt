@@ -1,6 +1,5 @@
 -- The product of two lists from its remainders.
-use Rattle.dl_transform.proofs.Common.{ℕ, zero, suc, ◌≡◌, ◌+◌, ◌-◌, ◌*◌, ◌/◌, ◌%◌, ◌^◌, ◌<◌, ◌≤◌, List, length, get_or, sum_by, mul-le-mul_left, mul-le-mul_right, arith, sym, ap, ap₂, ◌∙◌, inl, inr, div_below, cases_lt, get_or_past, Same, count_pairs, pairs_none, eval, length-take-le, [], ◌∷◌, take, All, div-add-mod, pow-le-pow_right, mul-le-mul, mod_below}
-use Rattle.std.proofs.lemmas.List.Elements.{All-get_or}
+use Rattle.dl_transform.proofs.Common.{ℕ, zero, suc, ◌≡◌, ◌+◌, ◌-◌, ◌*◌, ◌/◌, ◌%◌, ◌^◌, ◌<◌, ◌≤◌, List, length, get_or, sum_by, mul-le-mul_left, mul-le-mul_right, arith, sym, ap, ap₂, ◌∙◌, div_below, get_or_past, Same, count_pairs, pairs_none, eval, [], ◌∷◌, All, div-add-mod, pow-le-pow_right, mul-le-mul, mod_below}
 use Rattle.std.proofs.lemmas.List.Sums.{sum_by-cons}
 use Rattle.dl_transform.proofs.Residues.{same_refl, same_of, same_by, same_sym, same_trans, same_times, same_cancel, same_below, same_mod}
 use Rattle.dl_transform.proofs.Values.{eval_scale, eval_padded, eval_product}
@@ -87,10 +86,7 @@ pairs_bound (x ∷ xs) b m (suc s) h =
 
 -- words stay words where they are read past the end
 pub word_at : (xs : List ℕ) → All (λ x. x < 2 ^ 64) xs → (i : ℕ) → get_or xs i 0 < 2 ^ 64
-word_at xs h i = elim (cases_lt i (length xs)) [
-  | inl b ↦ All-get_or (λ x. x < 2 ^ 64) xs i 0 b h
-  | inr b ↦ omega (arith, get_or_past xs i 0 b)
-]
+word_at xs h i = grind (arith, get_or_past)
 
 -- so no sum of the product passes what both come to
 pub sums_small : (a : List ℕ) (b : ℕ → ℕ) (all most bound s : ℕ) → all ≡ sum_by (λ x. x) a → ((k : ℕ) → b k ≤ most)
@@ -101,8 +97,7 @@ sums_small a b all most bound s e above h =
 -- where both come to too much, so does the sum times each number that is no less than the items
 pub too_large : (a : List ℕ) (all most m bound : ℕ) → all ≡ sum_by (λ x. x) a → most ≤ m → bound ≤ most * all
     → m * sum_by (λ x. x) a < bound → ⊥
-too_large a all most m bound e least large small =
-    omega (arith, mul-le-mul_right (sum_by (λ x. x) a) least, ap (λ t. most * t) e, large, small)
+too_large a all most m bound e least large small = grind (arith, mul-le-mul_right (sum_by (λ x. x) a) least)
 
 -- words multiplied
 pub words_fit : (b : List ℕ) (all most : ℕ) → All (λ x. x < 2 ^ 64) b
@@ -111,7 +106,3 @@ words_fit b all most words least small =
     let first : most ≤ 2 ^ 64 - 1 = least (2 ^ 64 - 1) (λ k. omega (arith, word_at b words k)) in
     let second : all ≤ 2 ^ 64 - 1 = omega (arith, small) in
     omega (arith, mul-le-mul first second)
-
--- the first items of a list, as many as so many levels have cells
-pub cut_to : (size l : ℕ) (xs : List ℕ) → size ≡ 2 ^ l → size ≤ length xs → length (take size xs) ≡ 2 ^ l
-cut_to size l xs e h = length-take-le size xs h ∙ e

@@ -34,6 +34,7 @@ fn is_pair(p: u64, w: u64, q: u64, v: u64, r: u64, wanted: u64) -> bool
 }
 
 /// The number at a node.
+#[tactic(auto, using(std::proofs::lemmas::Grind::get_or_default_zero), unfolding(crate::specs::Table::point))]
 fn node_number(t: &Table, k: usize) -> u64
     requires inside { k / 2 < length t.now.roots.items }
     ensures { result ≡ point t.now.p t.now.roots.items k }

@@ -205,6 +205,7 @@ fn most(xs: &[u128]) -> u128
 
 /// Whether a setup of so many levels serves the first `cells` items of the product of two lists: it
 /// has room for both, and the sum of `a` times the greatest item of `b` is below `2^123`.
+#[tactic(auto, using(crate::proofs::Wholes::too_large))]
 fn fits(a: &[u128], b: &[u128], cells: usize, levels: u32) -> bool
     requires few { levels < 40 }
     requires first { All (λ x. x < 2 ^ 64) a.now }

@@ -4,6 +4,7 @@ ghost use Rattle.std.specs.Prelude.{◌≡◌, ℕ, ◌+◌, ◌-◌, ◌*◌, �
 ghost use Rattle.dl_transform.specs.Residue.{Same, IsFactor, IsModulus};
 
 /// The product of `x` and the factor `w` modulo `p`, below `2 * p`; `q` is the quotient of `w`.
+#[tactic(auto, using(crate::proofs::Quotients::quotient_low, crate::proofs::Quotients::quotient_high, crate::proofs::Quotients::left_same))]
 pub(crate) fn times(x: u64, w: u64, q: u64, p: u64) -> u64
     requires modulus { IsModulus p }
     requires factor { IsFactor p w q }
@@ -16,6 +17,7 @@ pub(crate) fn times(x: u64, w: u64, q: u64, p: u64) -> u64
 
 /// `x` less `most` where it is no less. Where `most` is a multiple of `p` the remainder by `p`
 /// stays.
+#[tactic(auto, using(crate::proofs::Quotients::less_same))]
 pub(crate) fn lowered(x: u64, most: u64) -> u64
     ensures small { x < most + most → result < most }
     ensures within { (b : ℕ) → most ≤ b → x < b + most → result < b }
@@ -42,6 +44,7 @@ pub(crate) fn part(u: u64, v: u64, w: u64, q: u64, p: u64) -> (u64, u64)
 
 /// One step back towards items: the sum of `u` and `v`, and `w` times the difference of `u` and
 /// `v`.
+#[tactic(auto, using(crate::proofs::Quotients::joined))]
 pub(crate) fn join(u: u64, v: u64, w: u64, q: u64, p: u64) -> (u64, u64)
     requires modulus { IsModulus p }
     requires factor { IsFactor p w q }
@@ -59,6 +62,7 @@ pub(crate) fn join(u: u64, v: u64, w: u64, q: u64, p: u64) -> (u64, u64)
 
 /// The product of `x` and `y` over `2^64`, modulo `p` (Montgomery); `k` is such that `p * k + 1` is
 /// a multiple of `2^64`.
+#[tactic(auto, using(crate::proofs::Quotients::filled_same))]
 pub(crate) fn reduced(x: u64, y: u64, k: u64, p: u64) -> u64
     requires modulus { IsModulus p }
     requires inverse { (p * k + 1) % 2 ^ 64 ≡ 0 }

@@ -53,6 +53,7 @@ fn join_all(low: &mut [u64], high: &mut [u64], w: u64, q: u64, p: u64)
 
 /// The values of 2 items at the lowest nodes below a node.
 #[inline(always)]
+#[tactic(auto, using(crate::proofs::Parts::join_small))]
 fn to_values_2(x: &mut [u64], node: usize, table: &Table)
     requires table { IsTable table.now }
     requires size { length x.old ≡ 2 }
@@ -87,6 +88,7 @@ fn to_values_4(x: &mut [u64], node: usize, table: &Table)
 }
 
 /// The values of the polynomial `x` at the lowest nodes below a node, so many levels down.
+#[tactic(auto, using(crate::proofs::Parts::join_small))]
 pub(crate) fn to_values(x: &mut [u64], node: usize, table: &Table, levels: u32)
     requires table { IsTable table.now }
     requires size { length x.old ≡ 2 ^ levels }
@@ -114,6 +116,7 @@ pub(crate) fn to_values(x: &mut [u64], node: usize, table: &Table, levels: u32)
 
 /// The 2 items with these values at the lowest nodes below a node, times 2.
 #[inline(always)]
+#[tactic(auto, using(crate::proofs::Parts::join_small))]
 fn to_items_2(x: &mut [u64], node: usize, table: &Table)
     requires table { IsTable table.now }
     requires size { length x.old ≡ 2 }
@@ -132,6 +135,7 @@ fn to_items_2(x: &mut [u64], node: usize, table: &Table)
 
 /// The 4 items with these values at the lowest nodes below a node, times 4.
 #[inline(always)]
+#[tactic(auto, using(crate::proofs::Parts::join_small))]
 fn to_items_4(x: &mut [u64], node: usize, table: &Table)
     requires table { IsTable table.now }
     requires size { length x.old ≡ 4 }
@@ -152,6 +156,7 @@ fn to_items_4(x: &mut [u64], node: usize, table: &Table)
 }
 
 /// The polynomial with these values at the lowest nodes below a node, `2^levels` times.
+#[tactic(auto, using(crate::proofs::Parts::join_small))]
 pub(crate) fn to_items(x: &mut [u64], node: usize, table: &Table, levels: u32)
     requires table { IsTable table.now }
     requires size { length x.old ≡ 2 ^ levels }

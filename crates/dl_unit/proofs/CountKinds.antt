@@ -3,21 +3,15 @@ use Rattle.dl_unit.proofs.Common.{ℕ, ◌≡◌, ◌<◌, arith, refl, sym, sub
 use Rattle.dl_plan.specs.declared.plan.Unit.{Unit as UnitOfPlan}
 use Rattle.dl_budget.proofs.Counts.{poisson_value, gamma_value}
 
-pub poisson_unbounded : (u : UnitOfPlan) (mean : Fraction) → u.freq ≡ Poisson mean → IsUnbounded u.freq
-poisson_unbounded u mean is = subst IsUnbounded (sym is) tt
-
-pub gamma_unbounded : (u : UnitOfPlan) (shape : ℕ) (mean : Fraction) → u.freq ≡ Gamma shape mean → IsUnbounded u.freq
-gamma_unbounded u shape mean is = subst IsUnbounded (sym is) tt
-
-pub poisson_some : (S K : ℕ) (u : UnitOfPlan) (mean : Fraction) → u.freq ≡ Poisson mean → 0 < (thinned_mean u).num
+pub poisson_some : (S K : ℕ) (u : UnitOfPlan) {mean : Fraction} → u.freq ≡ Poisson mean → 0 < (thinned_mean u).num
     → poisson_budget S K (thinned_mean u) ≡ claims_budget S K u
-poisson_some S K u mean is some =
+poisson_some S K u {mean} is some =
     poisson_value S K u mean (thinned_mean u) (poisson_budget S K (thinned_mean u)) is refl
     (λ none. absurd (omega (arith, none, some))) (λ more. refl)
 
-pub gamma_some : (S K : ℕ) (u : UnitOfPlan) (shape : ℕ) (mean : Fraction) → u.freq ≡ Gamma shape mean
+pub gamma_some : (S K : ℕ) (u : UnitOfPlan) {shape : ℕ} {mean : Fraction} → u.freq ≡ Gamma shape mean
     → 0 < (thinned_mean u).num
     → gamma_budget S K shape (thinned_mean u) ≡ claims_budget S K u
-gamma_some S K u shape mean is some =
+gamma_some S K u {shape} {mean} is some =
     gamma_value S K u shape mean (thinned_mean u) (gamma_budget S K shape (thinned_mean u)) is refl
     (λ none. absurd (omega (arith, none, some))) (λ more. refl)

@@ -5,17 +5,17 @@ use Rattle.dl_model.proofs.PoissonThin.{thin_poisson}
 use Rattle.dl_model.proofs.GammaThin.{thin_gamma}
 use Rattle.dl_plan.specs.declared.plan.Unit.{Unit as UnitOfPlan}
 
-pub poisson_whole : (u : UnitOfPlan) (s : Sev) (mean : Fraction) → u.freq ≡ Poisson mean
+pub poisson_whole : (u : UnitOfPlan) (s : Sev) {mean : Fraction} → u.freq ≡ Poisson mean
     → HasDistribution s (conditioned 0 (pairs_of u.sev))
     → SameCells (compound (poisson (thinned_mean u)) (probability_of s)) (compound_of u.freq u.sev)
-poisson_whole u s mean is means =
+poisson_whole u s {mean} is means =
     rw is (λ y. value_sym _ _ _ _ (thin_poisson mean (probability_of u.sev) (positive u.sev) (probability_of s)
     (part_of_means u.sev s means) y))
 
-pub gamma_whole : (u : UnitOfPlan) (s : Sev) (shape : ℕ) (mean : Fraction) → u.freq ≡ Gamma shape mean → 1 ≤ shape
+pub gamma_whole : (u : UnitOfPlan) (s : Sev) (shape : ℕ) {mean : Fraction} → u.freq ≡ Gamma shape mean → 1 ≤ shape
     → HasDistribution s (conditioned 0 (pairs_of u.sev))
     → SameCells (compound (gamma_of shape (thinned_mean u)) (probability_of s)) (compound_of u.freq u.sev)
-gamma_whole u s zero mean is some means = absurd (omega (arith, some))
-gamma_whole u s (suc q) mean is some means =
+gamma_whole u s zero {mean} is some means = absurd (omega (arith, some))
+gamma_whole u s (suc q) {mean} is some means =
     rw is (λ y. value_sym _ _ _ _ (thin_gamma q mean (probability_of u.sev) (positive u.sev) (probability_of s)
     (part_of_means u.sev s means) y))

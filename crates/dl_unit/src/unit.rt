@@ -1,12 +1,14 @@
 //! The grid of a unit, by the kind of its count.
 
 ghost use Rattle.std.specs.Prelude.{◌≡◌, ℕ, ◌^◌, ◌≤◌, length, IfOk};
-ghost use Rattle.dl_exact.specs.Fraction.{Fraction};
+ghost use Rattle.dl_exact.specs.Fraction.{Fraction, whole};
 ghost use Rattle.dl_grid.specs.Cells.{spread};
 ghost use Rattle.dl_grid.specs.Room.{IsGridSize};
 ghost use Rattle.dl_budget.specs.Claims.{claims_budget};
 ghost use Rattle.dl_model.specs.Family.{GridEncloses};
 ghost use Rattle.dl_model.specs.Plans.{compound_of};
+ghost use Rattle.dl_plan.specs.Count.{IsUnbounded};
+ghost use Rattle.dl_plan.specs.Means.{thinned_mean};
 ghost use Rattle.dl_plan.specs.Valid.{claims_alone, IsValidUnit};
 ghost use Rattle.dl_plan.specs.declared.plan.Freq.TheVariants.{Poisson, Gamma};
 
@@ -80,6 +82,25 @@ pub(crate) fn sum_grid<const B: u32>(
     }
 }
 
+/// The grid of a sum of which no claim above 0 is expected: the outcome 0.
+fn no_claims<const B: u32>(
+    alloc: Global,
+    freq: &Freq,
+    sev: &Sev,
+    cells: u32,
+) -> Result<Grid<B>, AllocError>
+    requires size { IsGridSize B cells }
+    requires valid { (h : ℕ) × IsValidUnit h (claims_alone freq.now sev.now) }
+    requires unbounded { IsUnbounded freq.now }
+    requires none { thinned_mean (claims_alone freq.now sev.now) ≡ whole 0 }
+    ensures cells { IfOk result (λ g. length g ≡ cells) }
+    ensures encloses { IfOk result (λ g. GridEncloses g (compound_of freq.now sev.now)) }
+    ensures spread { IfOk result (λ g.
+        spread g ≤ claims_budget (2 ^ B) cells (claims_alone freq.now sev.now)) }
+{
+    Grid::zero(alloc, cells)
+}
+
 /// The grid of a sum with a Poisson count.
 fn poisson_sum<const B: u32>(
     alloc: Global,
@@ -98,7 +119,7 @@ fn poisson_sum<const B: u32>(
 {
     match positive_claims(alloc, freq, sev)? {
         Some(positive) => poisson_grid(alloc, work, freq, sev, &positive, cells),
-        None => Grid::zero(alloc, cells),
+        None => no_claims(alloc, freq, sev, cells),
     }
 }
 
@@ -121,6 +142,6 @@ fn gamma_sum<const B: u32>(
 {
     match positive_claims(alloc, freq, sev)? {
         Some(positive) => gamma_grid(alloc, work, freq, sev, &positive, shape, cells),
-        None => Grid::zero(alloc, cells),
+        None => no_claims(alloc, freq, sev, cells),
     }
 }

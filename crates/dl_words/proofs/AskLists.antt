@@ -1,5 +1,5 @@
 -- The asks of texts as a loop reads them: those so far, and what the rest of the texts ask.
-use Rattle.dl_words.proofs.Common.{◌≡◌, ◌∙◌, ℕ, suc, ◌+◌, ◌<◌, ◌≤◌, List, [], ◌∷◌, ◌++◌, length, map, drop, append_assoc, append-nil, Option, Some, None, Result, Ok, Err, arith, refl, sym, ap, option_map, Bor, Ask, Asked, ask_of, asks_of, with_ask, Text}
+use Rattle.dl_words.proofs.Common.{◌≡◌, ◌∙◌, ℕ, suc, ◌+◌, ◌<◌, ◌≤◌, List, [], ◌∷◌, ◌++◌, length, map, drop, append_assoc, append-nil, Option, Some, None, Result, Ok, Err, arith, ap, option_map, Bor, Ask, Asked, ask_of, asks_of, with_ask, Text}
 use Rattle.std.proofs.Common.{add-one, drop-cons, get_or}
 use Rattle.std.proofs.lemmas.List.{drop_all}
 
@@ -7,10 +7,6 @@ use Rattle.std.proofs.lemmas.List.{drop_all}
 abbrev pub followed : List Asked → ℕ → Result (List Asked) ℕ → Result (List Asked) ℕ
 followed asks n (Ok more) = Ok (asks ++ more)
 followed asks n (Err i) = Err (n + i)
-
-pub none_first : (rest : Result (List Asked) ℕ) → rest ≡ followed [] 0 rest
-none_first (Ok more) = refl
-none_first (Err i) = ap Err (omega arith)
 
 -- a text with what it asks, where it is an ask
 abbrev pub asked_of : Text → Option Ask → Option Asked
@@ -22,9 +18,7 @@ one_more : (asks : List Asked) (n : ℕ) (text : Text) (ask : Option Ask) (asked
     → followed asks n (with_ask text ask rest) ≡ followed (asks ++ asked ∷ []) (suc n) rest
 one_more asks n text None asked rest e = absurd (cc)
 one_more asks n text (Some ask) asked (Err i) e = ap Err (omega arith)
-one_more asks n text (Some ask) asked (Ok more) e =
-    let same : record { text = text; ask = ask } ≡ asked = cc in
-    ap (λ one. Ok (asks ++ one ∷ more)) same ∙ ap Ok (sym (append_assoc asks (asked ∷ []) more))
+one_more asks n text (Some ask) asked (Ok more) e = grind (arith, append_assoc asks (asked ∷ []) more)
 
 misfit : (asks : List Asked) (n : ℕ) (text : Text) (ask : Option Ask) (rest : Result (List Asked) ℕ)
     → asked_of text ask ≡ None → followed asks n (with_ask text ask rest) ≡ Err n

@@ -1,7 +1,7 @@
 -- What `split_once` and `strip_prefix` say, in the words of the definitions.
-use Rattle.dl_words.proofs.Common.{◌≡◌, ℕ, ◌+◌, ◌<◌, Bool, true, false, [], ◌∷◌, length, Option, Some, None, arith, refl, ap, inl, inr, ◌==◌, option_map, Bor, list_any, nat_tests, cases_Bool, begins_plainly, behind_sign, cut_at, slice_get, Text}
+use Rattle.dl_words.proofs.Common.{◌≡◌, ℕ, ◌+◌, ◌<◌, Bool, true, false, [], ◌∷◌, length, Option, Some, None, arith, refl, ap, inl, inr, ◌==◌, option_map, Bor, list_any, nat_tests, cases_Bool, behind_sign, cut_at, Text}
 use Rattle.std.proofs.Common.{◌≢◌}
-use Rattle.std.specs.Prelude.{MatchOption, not}
+use Rattle.std.specs.Prelude.{MatchOption}
 use Rattle.std.specs.List.{position_or_len}
 use Rattle.std.proofs.lemmas.Str.Pattern.{IsSplitOnceResult, split_once_first}
 
@@ -26,22 +26,13 @@ module _ (p : ℕ → Bool) where
     | inr miss ↦ rw miss (none_any xs (omega (arith, h, next_place x xs miss)))
   ]
 
-pub first_tells : (text : Text) (b : ℕ) → Some b ≡ slice_get text 0 → not (b == 45) ≡ begins_plainly text
-first_tells [] b e = absurd (cc)
-first_tells (c ∷ cs) b e = let same : b ≡ c = cc in rw same refl
-
 abbrev both_now : Bor Text × Bor Text → Text × Text
 both_now cut = (cut.0.now, cut.1.now)
 
 pub cut_is : (s : ℕ) (text : Text) (r : Option (Bor Text × Bor Text)) → IsSplitOnceResult s text r → s < 128
     → option_map both_now r ≡ cut_at s text
-cut_is s text None h small =
-    let none : list_any (λ b. b == s) text ≡ false = none_any _ text (split_once_first s text None h small) in
-    rw none refl
-cut_is s text (Some x) h small =
-    let f = split_once_first s text (Some x) h small in
-    let some : list_any (λ b. b == s) text ≡ true = found_any _ text f.0 in
-    rw (some, f.1, f.2) refl
+cut_is s text None h small = grind (arith, split_once_first s text None h small, none_any)
+cut_is s text (Some x) h small = grind (arith, split_once_first s text (Some x) h small, found_any)
 
 pub behind_is : (text : Text) (r : Option (Bor Text))
     → MatchOption r ((rest : Text) → text ≢ 115 ∷ rest) (λ x. text ≡ 115 ∷ x.now)

@@ -1,23 +1,20 @@
 -- The answer to what `clap` found is the answer to the words.
-use Rattle.dl_words.proofs.Common.{◌≡◌, ◌∙◌, inl, inr, cases_Bool, ℕ, Bool, true, false, refl, sym, ap, ap₂, List, [], ◌∷◌, ◌++◌, Option, Some, None, Result, Ok, Err, codes, true≢false, length, drop, arith, ◌≤◌, if◌then◌else◌, is_some, slice_get, nat_le, ◌&&◌, option_and_then, option_map, unwrap_or, Bor, is_ascii_digit, IsTrue, list_all, bytes_eq, append-nil, bytes_eq-Decides, nat_tests, all_of, rows_of, matches_of, IsDecimal, pointed, IsNumeral, decimal, percent, fraction, Asked, Form, Run, Settings, UsageFault, Line, WordsFault, asks_of, command, Explains, ExplainsAsks, answer_in, asks_in, values_in, Values, are_taken, form_named, is_taken, Part, is_name, command_parts, positionals_of, option_values, option, positional, between, Text, begins_plainly, is_bucket, is_number_within, admits, answer, to_parts, to_positionals, with_asks, words_of}
-use Rattle.std.proofs.Common.{IfSome}
+use Rattle.std.proofs.lemmas.Grind.{common_steps}
+use Rattle.dl_words.proofs.Common.{◌≡◌, ◌∙◌, inl, inr, cases_Bool, ℕ, Bool, true, false, refl, sym, ap, ap₂, List, [], ◌∷◌, Option, Some, None, Result, Ok, Err, codes, true≢false, length, drop, arith, ◌≤◌, if◌then◌else◌, is_some, slice_get, ◌&&◌, option_and_then, option_map, unwrap_or, Bor, is_ascii_digit, IsTrue, list_all, bytes_eq, bytes_eq-Decides, nat_tests, all_of, rows_of, matches_of, Asked, Form, Run, Settings, UsageFault, Line, WordsFault, asks_of, command, Explains, ExplainsAsks, answer_in, asks_in, values_in, Values, are_taken, form_named, is_taken, Part, is_name, command_parts, positionals_of, option_values, option, positional, between, Text, begins_plainly, is_bucket, is_number_within, admits, answer, to_parts, to_positionals, with_asks, words_of}
+use Rattle.std.proofs.Common.{All, IfSome}
 use Rattle.std.proofs.lemmas.Bool.{and_left, both_ways, false_from_ne_true, leb-true}
-use mathlib.Core.Path.{fun_ext}
-use Rattle.std.specs.Prelude.{take, find, ◌==◌}
-use Rattle.std.specs.Str.Parse.{IsNumeral as IsNumber}
-use Rattle.std.proofs.lemmas.List.{length-map}
+use Rattle.std.specs.Prelude.{take, ◌==◌}
 use Rattle.std.proofs.lemmas.List.Folds.{list_all-map}
 use Rattle.clap.specs.Matches.{first_value}
 use Rattle.clap.specs.declared.parser.matches.Found.{Found}
 use Rattle.clap.specs.Walk.{Row as FoundRow, first_of}
 use Rattle.clap.proofs.WalkLemmas.{first_value-rows, raw_values-rows}
-use Rattle.dl_frac.specs.Numerals.{plain}
-use Rattle.dl_frac.proofs.NumeralLaws.{digit_or_not}
 use Rattle.dl_words.specs.declared.fault.UsageFault.TheVariants.{Ask}
 use Rattle.dl_words.specs.declared.fault.WordsFault.TheVariants.{Usage, OutOfMemory}
 use Rattle.dl_words.specs.Found.{form_in, list_of}
 use Rattle.dl_words.specs.Options.{format_named, is_format}
-use Rattle.dl_words.proofs.Numerals.{both, numeral_test}
+use Rattle.dl_words.proofs.Numerals.{both}
+use Rattle.dl_words.proofs.NumeralBytes.{passed, written_each}
 use Rattle.dl_words.proofs.Reading.{clap_from}
 use Rattle.dl_words.proofs.AskLists.{lent}
 use Rattle.dl_words.proofs.Cleaned.{cleaned, is_clean, same_cleaned}
@@ -28,54 +25,30 @@ use Rattle.dl_words.proofs.WrittenLaws.{if_read, written_named}
 
 -- ---- values that an option takes begin with no hyphen
 
-digit_plain : (c : ℕ) (cs : Text) → is_ascii_digit c ≡ true → begins_plainly (c ∷ cs) ≡ true
-digit_plain c cs d = grind (arith, nat_tests, d)
+digit_no_hyphen : (b : ℕ) → is_ascii_digit b ≡ true → (b == 45) ≡ false
+digit_no_hyphen b d = grind (arith, nat_tests, d)
 
-number_plain : (first rest : Text) → IsNumber 10 first → begins_plainly (first ++ rest) ≡ true
-number_plain [] rest h = absurd (omega (arith, h.0))
-number_plain (c ∷ cs) rest h = digit_plain c (cs ++ rest) (digit_or_not c h.1.0)
-
-decimal_plain : (text rest : Text) → IsDecimal text → begins_plainly (text ++ rest) ≡ true
-decimal_plain text rest (plain n) = number_plain text rest n
-decimal_plain text rest (pointed [] back a b some cut) = rw cut refl
-decimal_plain text rest (pointed (c ∷ cs) back a b some cut) =
-    rw cut (digit_plain c ((cs ++ 46 ∷ back) ++ rest) (digit_or_not c a.0))
-
-numeral_plain : (text : Text) → IsNumeral text → begins_plainly text ≡ true
-numeral_plain text (decimal d) = ap begins_plainly (sym (append-nil text)) ∙ decimal_plain text [] d
-numeral_plain text (percent front d cut) = rw cut (decimal_plain front (37 ∷ []) d)
-numeral_plain text (fraction first second a b cut) = rw cut (number_plain first (47 ∷ second) a)
+no_hyphens : (text : Text) → All (λ b. (b == 45) ≡ false) text → begins_plainly text ≡ true
+no_hyphens [] h = refl
+no_hyphens (c ∷ cs) h = rw (h 0 c (omega arith)) refl
 
 whole_plain : (low high : ℕ) (text : Text) → is_number_within low high text ≡ true → begins_plainly text ≡ true
-whole_plain low high [] h = refl
-whole_plain low high (c ∷ cs) h =
-    let digits = both _ _ (both _ _ (both _ _ (both _ _ h).0).0).0 in
-    digit_plain c cs (both _ _ digits.1).0
+whole_plain low high text h = grind (arith, nat_tests, common_steps, no_hyphens, passed, digit_no_hyphen, both)
 
 bucket_plain : (text : Text) → is_bucket text ≡ true → begins_plainly text ≡ true
-bucket_plain text h = numeral_plain text ((numeral_test text).0 (both _ _ (both _ _ h).0).0)
+bucket_plain text h = no_hyphens text
+    (written_each (λ b. (b == 45) ≡ false) digit_no_hyphen refl refl refl text (both _ _ (both _ _ h).0).0)
 
 -- a text that is one of some names
 named_plain : (text name : Text) → begins_plainly name ≡ true
     → (bytes_eq text name ≡ false → begins_plainly text ≡ true) → begins_plainly text ≡ true
-named_plain text name p other = elim (cases_Bool (bytes_eq text name)) [
-  | inl e ↦ rw ((bytes_eq-Decides text name).0 e) p
-  | inr e ↦ other e
-]
+named_plain text name p other = grind (arith, bytes_eq-Decides text name)
 
 format_plain : (text : Text) → is_some (format_named text) ≡ true → begins_plainly text ≡ true
-format_plain text h =
-    named_plain text (codes "text") refl (λ a. named_plain text (codes "csv") refl
-    (λ b. named_plain text (codes "json") refl (λ c.
-    let none : is_some (format_named text) ≡ false = rw (a, b, c) refl in
-    absurd (true≢false (sym h ∙ none)))))
+format_plain text h = grind (arith, nat_tests, common_steps, named_plain)
 
 form_plain : (text : Text) → is_some (form_named text) ≡ true → begins_plainly text ≡ true
-form_plain text h =
-    named_plain text (codes "run") refl (λ a. named_plain text (codes "fmt") refl (λ b.
-    named_plain text (codes "cert") refl (λ c. named_plain text (codes "verify") refl (λ d.
-    let none : is_some (form_named text) ≡ false = rw (a, b, c, d) refl in
-    absurd (true≢false (sym h ∙ none))))))
+form_plain text h = grind (arith, nat_tests, common_steps, named_plain)
 
 taken_plain : (takes : Text → Bool) → ((text : Text) → takes text ≡ true → begins_plainly text ≡ true)
     → (texts : List Text) → list_all takes texts ≡ true → list_all begins_plainly texts ≡ true
@@ -85,14 +58,6 @@ taken_plain takes f (text ∷ texts) h =
     rw (f text t.0) (taken_plain takes f texts t.1)
 
 -- ---- a table of options
-
--- a form that takes no asks refuses those that stand
-pub asks_refused : (texts : List (Bor Text)) (b rest : Bool) → b ≡ (length texts == 0) → b ≡ false
-    → b ≡ (length (lent texts) == 0 && rest)
-asks_refused texts b rest e some =
-    let same : length (lent texts) ≡ length texts = length-map _ _ in
-    let none : (length (lent texts) == 0) ≡ false = ap (λ n. n == 0) same ∙ sym e ∙ some in
-    rw none some
 
 module _ (values : Values) where
   -- the option of a name is taken, and its values begin with no hyphen
@@ -116,14 +81,11 @@ module _ (values : Values) where
 
   pub values_plain : are_taken values ≡ true → (name : Text) → is_name name ≡ true
       → list_all begins_plainly (values name) ≡ true
-  values_plain t name is =
-      let at = taken_at t name is in taken_plain at.0 at.1 (values name) (both (nat_le (length (values name)) 1) _ at.2).1
+  values_plain t name is = grind (arith, taken_at t name is, taken_plain, both)
 
   -- an option that stands twice is not taken
   pub twice_untaken : (name : Text) → is_name name ≡ true → 2 ≤ length (values name) → are_taken values ≡ false
-  twice_untaken name is two = false_from_ne_true _ (λ t.
-      let at = taken_at t name is in
-      let one = leb-true (length (values name)) 1 (both _ (list_all at.0 (values name)) at.2).0 in omega (arith, one, two))
+  twice_untaken name is two = grind (arith, false_from_ne_true, taken_at, leb-true, both)
 
 -- ---- parts that are not clean are refused
 
@@ -179,9 +141,7 @@ fits_plain values (form ∷ asks) h = go (form_named form) refl h
     go : (o : Option Form) → form_named form ≡ o → fits o values asks ≡ true
         → (are_taken values ≡ true) × (list_all begins_plainly (form ∷ asks) ≡ true)
     go None e f = absurd (true≢false (sym f))
-    go (Some f) e g =
-        let t = both _ _ (both _ _ g).0 in
-        (t.0, (rw (form_plain form (ap is_some e)) t.1))
+    go (Some f) e g = grind (arith, form_plain form (ap is_some e), both)
 
 -- the values of some parts
 abbrev pub values_with : List Part → Values
@@ -210,19 +170,13 @@ pub refused : (words : List Text) → Unfit words → words_of words ≡ Err Lin
 refused words (no_parts e) = answer_is words ∙ ap to_parts e
 refused words (no_form ps e none) = answer_is words ∙ ap to_parts e ∙ ap (to_positionals (values_with ps)) none
 refused words (stands_twice ps e name is two) =
-    answer_is words ∙ ap to_parts e ∙ misfit_words (values_with ps) (positionals_of ps)
-    (untaken_misfit (form_of (positionals_of ps)) _ _ (twice_untaken (values_with ps) name is two))
+    grind (arith, answer_is words, twice_untaken (values_with ps) name is two, misfit_words, untaken_misfit)
 
 -- ---- what a parse gives
 
 first_of-all_of : (id : Text) (rows : List FoundRow)
     → first_of id rows ≡ option_and_then (λ vs. slice_get vs 0) (all_of id rows)
-first_of-all_of id rows = go (find (λ r. bytes_eq r.id id) rows)
-  where
-    go : (o : Option FoundRow) → option_and_then (λ r. slice_get r.values 0) o
-        ≡ option_and_then (λ vs. slice_get vs 0) (option_map (λ r. r.values) o)
-    go None = refl
-    go (Some r) = refl
+first_of-all_of id rows = grind arith
 
 first_more : (ws : List Text) → option_and_then (λ vs. slice_get vs 0) (more None (take 1 ws)) ≡ slice_get ws 0
 first_more [] = refl
@@ -255,13 +209,7 @@ same_values : (f g : Values) → ((name : Text) → is_name name ≡ true → f 
     → (form : Option Form) (asks : List Text) → answer form f asks ≡ answer form g asks
 same_values f g h None asks = refl
 same_values f g h (Some form) asks =
-    told_by_name form f asks (asks_of asks)
-    ∙ ap (λ (v : Values). told form v asks (asks_of asks)) (fun_ext (λ name. go name (is_name name) refl))
-    ∙ sym (told_by_name form g asks (asks_of asks))
-  where
-    go : (name : Text) (b : Bool) → is_name name ≡ b → (if b then f name else []) ≡ (if b then g name else [])
-    go name true e = h name e
-    go name false e = refl
+    grind (arith, told_by_name form f asks (asks_of asks), told_by_name form g asks (asks_of asks))
 
 -- what was found of a parse with these matches
 pub given : (words : List Text) (ps : List Part) (m : Matched words ps) (found : Found)
@@ -293,16 +241,11 @@ misfit_found found form e f = rw (← e, f) refl
 pub texts_found : (o : Option (Bor (List (Bor Text)))) (texts d : Bor (List (Bor Text))) (q : Option (List Text))
     → texts ≡ unwrap_or o d → d.now ≡ []
     → option_map (λ s. lent s.now) o ≡ q → lent texts.now ≡ unwrap_or q []
-texts_found o texts d q e none h = ap (λ s. lent s.now) e ∙ go o ∙ ap (λ q. unwrap_or q []) h
-  where
-    go : (o : Option (Bor (List (Bor Text)))) → lent (unwrap_or o d).now ≡ unwrap_or (option_map (λ s. lent s.now) o) []
-    go None = ap lent none
-    go (Some s) = refl
+texts_found o texts d q e none h = grind arith
 
 pub plain_found : (r : Bool) (texts : List (Bor Text)) (asks : List Text)
     → r ≡ list_all (λ text. begins_plainly text.now) texts → lent texts ≡ asks → r ≡ list_all begins_plainly asks
-plain_found r texts asks h e = h ∙ sym (list_all-map begins_plainly (λ text. text.now) texts)
-    ∙ ap (list_all begins_plainly) e
+plain_found r texts asks h e = grind (arith, list_all-map begins_plainly (λ text. text.now) texts)
 
 -- where the values are taken, and the tests of the texts of the asks pass, what was found fits the form
 pub fitting_tests : (found : Found) (form : Form) (texts : List (Bor Text)) (begin admitted : Bool)
@@ -311,13 +254,7 @@ pub fitting_tests : (found : Found) (form : Form) (texts : List (Bor Text)) (beg
     → admitted ≡ admits form (values_in found) (lent texts) → IsTrue admitted
     → answer_in found ≡ with_asks form (values_in found) (asks_of (lent texts))
 fitting_tests found form texts begin admitted is same taken tested b asked a =
-    let fitting : fits (Some form) (values_in found) (asks_in found) ≡ true =
-    rw (
-      taken,
-      sym (plain_found begin texts (asks_in found) tested same) ∙ b,
-      ap (admits form (values_in found)) (sym same) ∙ sym asked ∙ a,
-    ) refl in
-    rw (← is, fitting, same) refl
+    grind (arith, plain_found begin texts (asks_in found) tested same)
 
 -- the first misfit of the asks is the answer's fault
 pub explained : (form : Form) (values : Values) (asks : Result (List Asked) ℕ) (a : Result Settings UsageFault)

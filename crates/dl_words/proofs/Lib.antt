@@ -1,6 +1,5 @@
 mod Common
 pub mod Numerals
-pub mod Kept
 pub mod Cuts
 pub mod AskLists
 pub mod Reading

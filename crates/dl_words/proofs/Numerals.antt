@@ -33,10 +33,7 @@ cut_first s (b ∷ bs) h = elim (cases_Bool (b == s)) [
 -- ---- numbers
 
 pub number_test : (text : Text) → IsTrue (is_number text) ↔ IsNumber 10 text
-number_test text = (
-  λ h. let t = both _ _ h in (ltb-true _ _ t.0, (digits_pass text).0 t.1),
-  λ h. and_from _ _ (lt-ltb _ _ h.0) ((digits_pass text).1 h.1),
-)
+number_test text = grind (arith, digits_pass text, both, ltb-true, and_from, lt-ltb)
 
 -- ---- decimals
 

@@ -21,12 +21,7 @@ abbrev is_plain : ℕ → Bool
 is_plain b = nat_lt 32 b && not (b == 34) && not (b == 44) && not (b == 92)
 
 plain_byte : (b : ℕ) → is_plain b ≡ true → IsPlainByte b
-plain_byte b h = record {
-  above = grind (arith, nat_tests, h);
-  quote_mark = λ e. grind (arith, nat_tests, h, e);
-  comma = λ e. grind (arith, nat_tests, h, e);
-  backslash = λ e. grind (arith, nat_tests, h, e);
-}
+plain_byte b h = grind arith
 
 digit_plain : (b : ℕ) → is_ascii_digit b ≡ true → IsPlainByte b
 digit_plain b h = plain_byte b (grind (arith, nat_tests, h))

@@ -1,5 +1,5 @@
 -- The terms of a price, as they are read and as they are spelled.
-use Rattle.dl_words.proofs.Common.{◌≡◌, ◌∙◌, ℕ, ◌≤◌, true, false, refl, sym, ap, List, ◌∷◌, ◌++◌, length, map, All, Option, Some, None, arith, ◌==◌, IsTrue, nat_le, if◌then◌else◌, option_and_then, is_ascii_digit, nat_tests, Fraction, numeral_value, Text, is_numeral, is_probability}
+use Rattle.dl_words.proofs.Common.{◌≡◌, ◌∙◌, ℕ, ◌≤◌, true, false, refl, sym, ap, List, ◌∷◌, ◌++◌, length, map, All, Option, Some, None, arith, ◌==◌, IsTrue, if◌then◌else◌, option_and_then, is_ascii_digit, nat_tests, Fraction, numeral_value, Text, is_numeral, is_probability}
 use Rattle.std.proofs.lemmas.Bool.{and_from, eq-eqb, eqb-true, le-leb, leb-true, false_from_ne_true}
 use Rattle.std.proofs.lemmas.List.Folds.{list_any_none}
 use Rattle.dl_exact.specs.Fraction.{whole}
@@ -69,13 +69,7 @@ priced_weighted terms priced =
 
 pub weighted_priced : (terms : List Term) → 1 ≤ length terms → length terms ≤ most_terms → are_weighted terms ≡ true
     → ArePriced terms
-weighted_priced terms some few h =
-    let t = both (nat_le (common_denominator (map (λ term. term.weight) terms)) most_weight_parts) _ h in record {
-      some = some;
-      few = few;
-      fine = leb-true (common_denominator (map (λ term. term.weight) terms)) most_weight_parts t.0;
-      total = parts_one (sum_over terms (λ term. term.weight)) t.1;
-    }
+weighted_priced terms some few h = grind (arith, both, leb-true, parts_one)
 
 -- ---- what is read
 
@@ -87,8 +81,7 @@ if_weighted all = if are_weighted all then Some all else None
 
 module _ (text : Text) (all : List Term) (read : Some all ≡ joined plus term.read most_terms text) where
   pub price_told : ArePriced all → Some all ≡ terms.read text
-  price_told priced =
-      sym (ap (option_and_then if_weighted) (sym read) ∙ (rw (priced_weighted all priced) refl))
+  price_told priced = grind (arith, priced_weighted all priced)
 
   pub price_refused : ¬ ArePriced all → None ≡ terms.read text
   price_refused not_priced = sym (ap (option_and_then if_weighted) (sym read) ∙ (rw none refl))

@@ -1,5 +1,5 @@
 -- What good words say lies in its ranges, and the asks are words.
-use Rattle.dl_words.proofs.Common.{◌≡◌, inl, inr, cases_Bool, ℕ, suc, ◌≤◌, Bool, refl, ap, subst, List, [], ◌∷◌, length, map, All, Option, Some, None, Result, Ok, Err, IfOk, arith, codes, nat_le, nat_lt, ◌&&◌, ◌==◌, IsTrue, list_all, All-nil, All-cons, nat_tests, is_bad, numeral_value, Ask, Asked, Form, Run, Cert, Verify, Settings, UsageFault, ask_of, asks_of, with_ask, Values, are_taken, form_named, is_taken, Part, command_parts, positionals_of, option_values, Text, begins_plainly, is_bucket, is_numeral, is_probability, is_number_within, number, SpellsAsk, admits, answer, to_parts, to_positionals, with_asks, words_of}
+use Rattle.dl_words.proofs.Common.{◌≡◌, inl, inr, cases_Bool, ℕ, suc, ◌≤◌, Bool, refl, ap, subst, List, [], ◌∷◌, length, map, All, Option, Some, None, Result, Ok, Err, IfOk, arith, codes, nat_lt, ◌&&◌, ◌==◌, IsTrue, list_all, All-nil, All-cons, nat_tests, is_bad, numeral_value, Ask, Asked, Form, Run, Cert, Verify, Settings, ask_of, asks_of, with_ask, Values, are_taken, form_named, is_taken, Part, command_parts, positionals_of, option_values, Text, begins_plainly, is_bucket, is_numeral, is_probability, is_number_within, number, SpellsAsk, admits, answer, to_parts, to_positionals, with_asks, words_of}
 use Rattle.dl_exact.proofs.BelowOne.{below_one}
 use Rattle.std.proofs.lemmas.Bool.{leb-true, ltb-true, not-true}
 use Rattle.std.proofs.Math.Nat.{pow-le-pow_right}
@@ -55,17 +55,14 @@ taken : {A : Type 0} (P : A → Type 0) (takes : Text → Bool) (default : A) (r
     → ((text : Text) → IsTrue (takes text) → P (read text)) → IsTrue (is_taken takes texts)
     → P (or_default default read texts)
 taken P takes default read [] p f h = p
-taken P takes default read (text ∷ texts) p f h =
-    f text (both (takes text) _ (both (nat_le (length (text ∷ texts)) 1) _ h).1).0
+taken P takes default read (text ∷ texts) p f h = grind (arith, both)
 
 -- a number of the settings lies between its bounds
 abbrev pub Between : ℕ → ℕ → ℕ → Type 0
 Between low high n = (low ≤ n) × (n ≤ high)
 
 number_between : (low high : ℕ) (text : Text) → IsTrue (is_number_within low high text) → Between low high (number text)
-number_between low high text h =
-    let t = both _ (nat_le (number text) high) h in
-    (leb-true low (number text) (both _ (nat_le low (number text)) t.0).1, leb-true (number text) high t.1)
+number_between low high text h = grind (arith, both, leb-true)
 
 module _ (low high default : ℕ) (texts : List Text) where
   pub between_of : Between low high default → IsTrue (is_taken (is_number_within low high) texts)
@@ -89,8 +86,7 @@ one_level p h = All-cons IsLevel p [] h (All-nil IsLevel)
 
 term_levels : (text : Text) (all : List Term) → AreJoined plus term.Spells text all → All IsLevel (map (λ t. t.p) all)
 term_levels text _ (last x h) = one_level x.p (term_level text x h)
-term_levels text _ (more front rest x xs h later e) =
-    All-cons IsLevel x.p (map (λ t. t.p) xs) (term_level front x h) (term_levels rest xs later)
+term_levels text _ (more front rest x xs h later e) = grind (arith, term_level front x h, term_levels rest xs later)
 
 -- what is made of values is in range
 made_in_range : {A : Type 0} (f : A → Ask) (w : Way A)
@@ -180,8 +176,7 @@ module _ (form : Form) (values : Values) (texts : List Text) (asks : List Asked)
 of_cert : (form : Form) (values : Values) (texts : List Text) → IsTrue (admits form values texts) → IsOfCert form
     → IsTrue (are_of_cert values)
 of_cert Cert values texts h of = (both (length texts == 0) (are_of_cert values) h).1
-of_cert Verify values texts h of =
-    (both _ (are_of_cert values) (both (length texts == 0) (are_of_verify values) h).1).1
+of_cert Verify values texts h of = grind (arith, both (length texts == 0) (are_of_verify values) h, both)
 of_cert _ values texts h of = absurd of
 
 few_power : (values : Values) → IsTrue (are_of_cert values)
@@ -190,10 +185,6 @@ few_power values h = (between_of 1 10 10 (values (codes "log2")) (omega arith, o
     (both (is_taken (is_number_within 1 most_cert_log2) (values (codes "log2"))) (is_report_plain values) h).0).1
 
 -- ---- from the answer back to the form, the values and the asks
-
-abbrev pub settings_in : Settings → Result Settings UsageFault → Settings
-settings_in default (Ok settings) = settings
-settings_in default (Err fault) = default
 
 -- what holds of the settings of a form, of values and of asks, all as they must be and taken from the words, holds of
 -- the settings of the words

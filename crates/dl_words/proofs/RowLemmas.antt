@@ -1,5 +1,7 @@
 -- What the uses of options and positionals leave in the rows.
-use Rattle.dl_words.proofs.Common.{◌≡◌, ◌∙◌, inl, inr, ℕ, Bool, true, false, refl, sym, ap, subst, List, [], ◌∷◌, ◌++◌, Option, Some, None, true≢false, length, append_assoc, arith, ◌+◌, ◌≤◌, if◌then◌else◌, is_some, unwrap_or, option_map, ⊤, fold, bytes_eq, bytes_eq-Decides, cases_Bool, explicit_source, is_given, Kinds, or_else, Row, Rule, action_of, all_of, arg_by_id, has_row, Shape, repeat_fault, use_fault, Text}
+use Rattle.std.proofs.lemmas.Bool.Decides.{nat_tests}
+use Rattle.std.proofs.lemmas.Grind.{common_steps}
+use Rattle.dl_words.proofs.Common.{◌≡◌, ◌∙◌, inl, inr, ℕ, true, false, refl, sym, ap, subst, List, [], ◌∷◌, ◌++◌, Option, Some, None, true≢false, length, append_assoc, arith, ◌+◌, ◌≤◌, if◌then◌else◌, is_some, unwrap_or, option_map, ⊤, fold, bytes_eq, bytes_eq-Decides, cases_Bool, explicit_source, is_given, Kinds, or_else, Row, Rule, action_of, all_of, arg_by_id, has_row, Shape, repeat_fault, use_fault, Text}
 use Rattle.clap.specs.declared.parser.matches.ValueSource.TheVariants.{DefaultValue, CommandLine}
 use Rattle.clap.specs.Walk.{is_append, reading_by, stronger, with_values, without}
 use Rattle.clap.specs.declared.builder.action.ArgAction.{ArgAction}
@@ -36,16 +38,7 @@ look_same id how vs (r ∷ rs) = elim (cases_Bool (bytes_eq r.id id)) [
 look_other : (id other : Text) (how : Reading) (vs : List Text) (rows : List Row) → bytes_eq id other ≡ false
     → look other (with_values id how CommandLine vs rows) ≡ look other rows
 look_other id other how vs [] d = rw d refl
-look_other id other how vs (r ∷ rs) d = elim (cases_Bool (bytes_eq r.id id)) [
-  | inl e ↦
-      let same : r.id ≡ id = (bytes_eq-Decides r.id id).0 e in
-      let miss : bytes_eq r.id other ≡ false = rw same d in
-      rw (e, miss) refl
-  | inr e ↦ elim (cases_Bool (bytes_eq r.id other)) [
-    | inl f ↦ rw (e, f) refl
-    | inr f ↦ rw (e, f) (look_other id other how vs rs d)
-  ]
-]
+look_other id other how vs (r ∷ rs) d = grind (arith, bytes_eq-Decides r.id id, look_other id other how vs rs d)
 
 without-none : (id : Text) (rows : List Row) → has_row id rows ≡ false → without id rows ≡ rows
 without-none id [] h = refl
@@ -56,10 +49,7 @@ without-none id (r ∷ rs) h = elim (cases_Bool (bytes_eq r.id id)) [
 
 has_row-all_of : (id : Text) (rows : List Row) → has_row id rows ≡ is_some (all_of id rows)
 has_row-all_of id [] = refl
-has_row-all_of id (r ∷ rs) = elim (cases_Bool (bytes_eq r.id id)) [
-  | inl e ↦ rw e refl
-  | inr e ↦ rw e (has_row-all_of id rs)
-]
+has_row-all_of id (r ∷ rs) = grind (arith, has_row-all_of id rs)
 
 -- ---- uses of arguments that keep their values: one that may stand once, or one that gathers them
 
@@ -94,10 +84,7 @@ more-more o v [] = refl
 more-more o v (w ∷ vs) = ap Some (append_assoc (unwrap_or o []) (v ∷ []) (w ∷ vs))
 
 no_repeat : (id : Text) (r : List Row) → repeat_fault false id r ≡ [] → has_row id r ≡ false
-no_repeat id r h = elim (cases_Bool (has_row id r)) [
-  | inl e ↦ absurd (subst Fails (rw e at h) tt)
-  | inr e ↦ e
-]
+no_repeat id r h = grind arith
 
 pub both_empty : (a b : Kinds) → or_else a b ≡ [] → (a ≡ []) × (b ≡ [])
 both_empty [] b h = (refl, h)
@@ -113,8 +100,7 @@ module _ (s : Shape) where
   step_is : (r : List Row) (u : Use) → Kept s u.0 → fault s r u ≡ []
       → (how : Reading) × (step s r u ≡ with_values u.0 how CommandLine (u.1 ∷ []) r)
   step_is r u (kept_once a found same action uf) h =
-      let gone = without-none u.0 r (use_once r u a found same uf h) in
-      (reading_by a, rw (found, action, same, gone) refl)
+      grind (arith, nat_tests, common_steps, without-none u.0 r (use_once r u a found same uf h))
   step_is r u (kept_all a found same action uf) h = (reading_by a, rw (found, action, same) refl)
 
   step_same : (r : List Row) (u : Use) → Kept s u.0 → fault s r u ≡ [] → HasMore u.0 (u.1 ∷ []) r (step s r u)
@@ -172,11 +158,7 @@ module _ (s : Shape) where
   -- with no fault an id that may stand once does so
   pub at_most_once : (us : List Use) (r : List Row) (id : Text) → AllKept s us → IsSingle s id → faults s r us ≡ []
       → count id r us ≤ 1
-  at_most_once [] r id kept single h = go (is_some (all_of id r))
-    where
-      go : (b : Bool) → (if b then 1 else 0) + 0 ≤ 1
-      go true = omega arith
-      go false = omega arith
+  at_most_once [] r id kept single h = grind arith
   at_most_once (u ∷ us) r id kept single h =
       let parts = both_empty (fault s r u) _ h in
       subst (λ n. n ≤ 1) (counted us r u id kept.0 parts.0 single)
@@ -192,13 +174,7 @@ module _ (s : Shape) where
       single_of a id found action = λ b is. ap (λ o. action_of (unwrap_or o a)) (sym is ∙ found) ∙ action
 
       there : (a : Rule) → a.id ≡ u.0 → Fails (repeat_fault false a.id r) → 2 ≤ count u.0 r (u ∷ us)
-      there a same f = elim (cases_Bool (has_row a.id r)) [
-        | inl e ↦
-            let some : is_some (all_of u.0 r) ≡ true = sym (has_row-all_of u.0 r)
-            ∙ subst (λ t. has_row t r ≡ true) same e in
-            rw (some, bytes_same u.0) (omega arith)
-        | inr e ↦ absurd (rw e at f)
-      ]
+      there a same f = grind (arith, has_row-all_of u.0 r, bytes_same u.0)
 
       go : (Fails (faults s (step s r u) us) → (id : Text) × IsSingle s id × (2 ≤ count id (step s r u) us))
           → (f : Kinds) → fault s r u ≡ f → Kept s u.0 → Fails (or_else f (faults s (step s r u) us))
@@ -206,12 +182,8 @@ module _ (s : Shape) where
       go rest [] e k h =
           let got = rest h in
           (got.0, got.1, subst (λ n. 2 ≤ n) (counted us r u got.0 k e got.1) got.2)
-      go rest (x ∷ xs) e (kept_once a found same action uf) h =
-          let bad : Fails (repeat_fault false a.id r) = subst Fails (sym e ∙ (rw found (uf u.1 r))) tt in
-          (u.0, single_of a u.0 found action, there a same bad)
-      go rest (x ∷ xs) e (kept_all a found same action uf) h =
-          let none : x ∷ xs ≡ [] = sym e ∙ (rw found (uf u.1 r)) in
-          absurd (subst Fails none tt)
+      go rest (x ∷ xs) e (kept_once a found same action uf) h = grind (arith, single_of a u.0 found action, there)
+      go rest (x ∷ xs) e (kept_all a found same action uf) h = grind arith
 
   -- what an id has comes from the words
   pub given_told : (id : Text) (us : List Use) (r : List Row) → AllKept s us → faults s r us ≡ []

@@ -106,8 +106,7 @@ other_head : (other : Text) (all : List Row) (head rest : Text) (ask : Ask) → 
     → SpelledBy all head rest ask → bytes_eq head other ≡ false
 unfolding differs
 other_head other [] head rest ask d h = absurd h
-other_head other (row ∷ all) head rest ask d (inl h) =
-    rw h.0 (not-true (bytes_eq row.head other) (both _ (differs other all) d).0)
+other_head other (row ∷ all) head rest ask d (inl h) = grind (arith, not-true, both)
 other_head other (row ∷ all) head rest ask d (inr h) =
     other_head other all head rest ask (both (not (bytes_eq row.head other)) _ d).1 h
 
@@ -115,8 +114,7 @@ read_there : (all : List Row) (head rest : Text) (ask : Ask) → EachRow (λ row
     → IsTrue (all_differ all) → SpelledBy all head rest ask → read_by all head rest ≡ Some ask
 unfolding all_differ
 read_there [] head rest ask r d h = absurd h
-read_there (row ∷ all) head rest ask (r also later) d (inl h) =
-    rw ((bytes_eq-Decides head row.head).1 h.0) (r.there rest ask h.1)
+read_there (row ∷ all) head rest ask (r also later) d (inl h) = grind (arith, bytes_eq-Decides head row.head)
 read_there (row ∷ all) head rest ask (r also later) d (inr h) =
     let t = both (differs row.head all) (all_differ all) d in
     rw (other_head row.head all head rest ask t.0 h) (read_there all head rest ask later t.1 h)

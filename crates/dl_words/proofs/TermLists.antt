@@ -43,11 +43,8 @@ module _ (i : ℕ) (rest text : Text) (terms : List Term)
       → Some term ≡ a_term.read cut.0 → (pushed : List Term) → pushed ≡ terms ++ term ∷ []
       → before pushed (joined plus a_term.read (8 - (i + 1)) cut.1) ≡ joined plus a_term.read 8 text
   next_read inside cut is term read pushed more =
-      let left : 8 - (i + 1) ≡ 7 - i = omega (arith, inside) in
-      rw (left, more) (one_more terms term (joined plus a_term.read (7 - i) cut.1)
-      ∙ (rw (← read) at (read_there inside (Some cut) is)))
+      grind (arith, one_more terms term (joined plus a_term.read (7 - i) cut.1), read_there inside (Some cut) is)
 
   pub too_many : 8 ≤ i → None ≡ joined plus a_term.read 8 text
   unfolding joined
-  too_many past =
-      let none : 0 ≡ 8 - i = omega (arith, past) in ap (λ n. before terms (joined plus a_term.read n rest)) none ∙ so_far
+  too_many past = grind arith

@@ -1,5 +1,5 @@
 -- What spells a value is read as it, and what is read as a value spells it: for each way to write values.
-use Rattle.dl_words.proofs.Common.{◌≡◌, ◌∙◌, inl, inr, cases_Bool, ℕ, suc, ◌≤◌, Bool, true, false, refl, ap, subst, List, [], ◌∷◌, length, Option, Some, None, arith, ◌==◌, IsTrue, if◌then◌else◌, option_map, option_and_then, list_any, bytes_eq, nat_tests, bytes_eq-Decides, behind_sign, cut_at, Text}
+use Rattle.dl_words.proofs.Common.{◌≡◌, ◌∙◌, inl, inr, cases_Bool, ℕ, suc, ◌≤◌, Bool, true, false, refl, ap, subst, List, [], ◌∷◌, length, Option, Some, None, arith, ◌==◌, IsTrue, if◌then◌else◌, option_map, option_and_then, list_any, bytes_eq, bytes_eq-Decides, behind_sign, cut_at, Text}
 use Rattle.std.proofs.Common.{zero}
 use Rattle.dl_words.specs.Ways.{Way, one, pair, behind, word_or, made, that, list, AreJoined, last, more, joined_at}
 unfoldable use Rattle.dl_words.specs.Ways.{joined}
@@ -25,8 +25,7 @@ pub pair_read : {A B : Type 0} (sign : ℕ) (a : Way A) (b : Way B) → IsRead a
 pair_read {A} {B} sign a b ra rb free = record { there = there; back = back }
   where
     there : (text : Text) (both : A × B) → (pair sign a b).Spells text both → (pair sign a b).read text ≡ Some both
-    there text both (front, rest, e, x, y) = rw e
-        (rw (cut_there sign front rest (free front both.0 x), ra.there front both.0 x, rb.there rest both.1 y) refl)
+    there text both (front, rest, e, x, y) = grind (arith, cut_there sign front rest (free front both.0 x))
 
     back : (text : Text) (both : A × B) → (pair sign a b).read text ≡ Some both → (pair sign a b).Spells text both
     back text both e =
@@ -49,10 +48,7 @@ behind_read {A} sign a same r = record { there = there; back = back }
 
     found : (text rest : Text) → behind_sign sign text ≡ Some rest → text ≡ sign ∷ rest
     found [] rest e = not_some rest e
-    found (c ∷ cs) rest e =
-        let t = tested (c == sign) (Some cs) rest e in
-        let is : c ≡ sign = grind (arith, nat_tests, t.0) in
-        rw (is, some_is cs rest t.1) refl
+    found (c ∷ cs) rest e = grind (arith, tested (c == sign) (Some cs) rest e, some_is)
 
     back : (text : Text) (x : A) → (behind sign a).read text ≡ Some x → (behind sign a).Spells text x
     back text x e =
@@ -64,10 +60,7 @@ word_or_read {A} word v a same r other = record { there = there; back = back }
   where
     there : (text : Text) (x : A) → (word_or word v a).Spells text x → (word_or word v a).read text ≡ Some x
     there text x (inl (e, is)) = rw e (rw same (ap Some is))
-    there text x (inr h) = elim (cases_Bool (bytes_eq text word)) [
-      | inl e ↦ absurd (other x (subst (λ t. a.Spells t x) ((bytes_eq-Decides text word).0 e) h))
-      | inr e ↦ rw e (r.there text x h)
-    ]
+    there text x (inr h) = grind (arith, bytes_eq-Decides text word)
 
     back : (text : Text) (x : A) → (word_or word v a).read text ≡ Some x → (word_or word v a).Spells text x
     back text x e = elim (cases_Bool (bytes_eq text word)) [

@@ -1,6 +1,8 @@
 -- What `clap` makes of any words, by their parts.
-use Rattle.dl_words.proofs.Common.{◌≡◌, ◌∙◌, inl, inr, ℕ, Bool, true, false, refl, sym, ap, ap₂, subst, List, [], ◌∷◌, Option, Some, None, codes, true≢false, length, arith, ◌≤◌, if◌then◌else◌, is_some, unwrap_or, ⊤, fold, bytes_eq, bytes_eq-Decides, cases_Bool, Kinds, or_else, Row, Rule, action_of, all_of, arg_by_id, arg_by_index, arg_by_long, arg_by_short, has_row, walk, walk_from, is_given, Shape, built, is_simple, is_simple_and_free, matches_of, repeat_fault, fault_of, settle_fault, command, Text, Part, is_name, positionals_of, option_values, option, positional, between}
-use Rattle.std.proofs.Common.{IfSome, ◌==◌}
+use Rattle.std.proofs.lemmas.Bool.Decides.{nat_tests}
+use Rattle.std.proofs.lemmas.Grind.{common_steps}
+use Rattle.dl_words.proofs.Common.{◌≡◌, ◌∙◌, inl, inr, ℕ, Bool, true, false, refl, sym, ap, ap₂, subst, List, [], ◌∷◌, Option, Some, None, codes, true≢false, length, arith, ◌≤◌, if◌then◌else◌, is_some, unwrap_or, ⊤, fold, bytes_eq, bytes_eq-Decides, cases_Bool, Kinds, or_else, Row, Rule, action_of, all_of, arg_by_id, arg_by_index, arg_by_long, arg_by_short, walk, walk_from, is_given, Shape, built, is_simple, is_simple_and_free, matches_of, repeat_fault, fault_of, settle_fault, command, Text, Part, is_name, positionals_of, option_values, option, positional, between}
+use Rattle.std.proofs.Common.{IfSome}
 use Rattle.std.proofs.lemmas.Bool.{both_ways}
 use Rattle.std.specs.Prelude.{take, drop}
 use Rattle.clap.specs.Facts.{unwrap_or_range}
@@ -36,10 +38,7 @@ rule_at k = slice_index_or shape.rules k (new_rule [])
 
 -- a name is this one, or another
 split : (P : Text → Type 0) (name k : Text) → P k → (bytes_eq k name ≡ false → P name) → P name
-split P name k here other = elim (cases_Bool (bytes_eq k name)) [
-  | inl e ↦ subst P ((bytes_eq-Decides k name).0 e) here
-  | inr e ↦ other e
-]
+split P name k here other = grind (arith, bytes_eq-Decides k name)
 
 -- what holds of each name, and of what is none and has no argument before the eighth, holds of all
 each_name : (P : Text → Type 0) → P (codes "make") → P (codes "bs") → P (codes "log2") → P (codes "digits")
@@ -62,8 +61,7 @@ by_name P make bs log2 digits width mwidth format name h =
 
 takes_literal : (name : Text) (a : Rule) → arg_by_id shape.rules name ≡ Some a → a.id ≡ name → takes_values a ≡ true
     → takes_several a ≡ false → most_values a ≡ 1 → (unwrap_or_range a.range).start_inclusive ≡ 1 → TakesOne shape name a
-takes_literal name a found same takes single most least =
-    record { found = found; same = same; takes = takes; single = single; most = most; least = least }
+takes_literal name a found same takes single most least = grind arith
 
 -- `--help` always fails
 help_fails : (v : Option Text) (h : Held) → Fails (long_fault shape.rules false (Some (rule_at 9)) v h)
@@ -86,10 +84,7 @@ long_met name = each_name (LongMet shape)
 
 short_met : (c : ℕ) (rest : Text) (h : Held) (next : Held → Kinds)
     → Fails (short_fault shape.rules false (arg_by_short shape.rules c) rest h next)
-short_met c rest h next = elim (cases_Bool (104 == c)) [
-  | inl e ↦ rw e (fails_first _ (next _) (fails_next (settle_fault shape.rules false h) _ tt))
-  | inr e ↦ rw e tt
-]
+short_met c rest h next = grind (arith, fails_first, fails_next)
 
 pub ready : IsReady shape place
 ready = record { once = refl; long = long_met; short = short_met; places = place_met }
@@ -97,8 +92,7 @@ ready = record { once = refl; long = long_met; short = short_met; places = place
     placed : (id : Text) (position : ℕ) (rule : Rule) → arg_by_index shape.rules position ≡ Some rule
         → TakesOne shape id rule → next_position rule position ≡ 2 → rule.trailing_var_arg ≡ false
         → IsPlace shape id position
-    placed id position rule at takes next goes_on =
-        record { rule = rule; at = at; takes = takes; next = next; goes_on = goes_on }
+    placed id position rule at takes next goes_on = grind (arith, nat_tests, common_steps)
 
     place_met : (first : Bool) → IsPlace shape (place first) (position_of first)
     place_met true = placed (codes "form") 1 (rule_at 0) refl
@@ -113,10 +107,7 @@ NoDefaults [] = ⊤
 NoDefaults (a ∷ rest) = (a.defaults ≡ []) × NoDefaults rest
 
 no_default : (a : Rule) (rows : List Row) → a.defaults ≡ [] → (with_default rows a ≡ rows) × (default_fault rows a ≡ [])
-no_default a rows e = elim (cases_Bool (has_row a.id rows)) [
-  | inl there ↦ rw there (refl, refl)
-  | inr none ↦ rw (none, e) (refl, refl)
-]
+no_default a rows e = grind arith
 
 no_defaults : (rules : List Rule) (rows : List Row) → NoDefaults rules
     → (fold with_default rows rules ≡ rows) × (defaults_fault rows rules ≡ [])
@@ -194,8 +185,7 @@ no_place false = by_name (λ n. bytes_eq (codes "asks") n ≡ false) refl refl r
 named_values : (ps : List Part) (first : Bool) (name : Text) → is_name name ≡ true
     → values_in name (uses_of place first ps) ≡ option_values name ps
 named_values [] first name h = refl
-named_values (option n v ∷ ps) first name h = ap (λ l. if bytes_eq n name then v ∷ l else l)
-    (named_values ps first name h)
+named_values (option n v ∷ ps) first name h = grind (arith, named_values ps first name h)
 named_values (positional w ∷ ps) first name h = rw (no_place first name h) (named_values ps false name h)
 
 -- and what is no name has positionals alone: those behind the first if it is the id of the asks
@@ -210,10 +200,7 @@ module _ (id : Text) (unnamed : is_name id ≡ false) where
       → values_in id (uses_of place false ps) ≡ (if bytes_eq (codes "asks") id then positionals_of ps else [])
   further [] h = elim (cases_Bool (bytes_eq (codes "asks") id)) [ inl e ↦ rw e refl | inr e ↦ rw e refl ]
   further (option m v ∷ ps) h = rw (other_name m h.0) (further ps h.1)
-  further (positional w ∷ ps) h = elim (cases_Bool (bytes_eq (codes "asks") id)) [
-    | inl e ↦ rw (e, further ps h.1, e) refl
-    | inr e ↦ rw (e, further ps h.1, e) refl
-  ]
+  further (positional w ∷ ps) h = grind (arith, further ps h.1)
 
   -- the first positional is the form, and the others are the asks
   abbrev placed : List Text → List Text
@@ -229,10 +216,7 @@ module _ (id : Text) (unnamed : is_name id ≡ false) where
 
   one_placed : bytes_eq (codes "asks") id ≡ false → (ws : List Text) → length (placed ws) ≤ 1
   one_placed a [] = omega arith
-  one_placed a (w ∷ ws) = elim (cases_Bool (bytes_eq (codes "form") id)) [
-    | inl e ↦ rw (e, a) (omega arith)
-    | inr e ↦ rw (e, a) (omega arith)
-  ]
+  one_placed a (w ∷ ws) = grind arith
 
 form_placed : (ws : List Text) → placed (codes "form") refl ws ≡ take 1 ws
 form_placed [] = refl

@@ -16,8 +16,7 @@ no_equals : (name : Text) → is_name name ≡ true → list_any is_equals name 
 no_equals = by_name (λ name. list_any is_equals name ≡ false) refl refl refl refl refl refl refl
 
 all_before : (name : Text) → list_any is_equals name ≡ false → before_first is_equals name ≡ name
-all_before name h = ap (before_first is_equals) (sym (append-nil name)) ∙ before_none is_equals name [] h
-    ∙ append-nil name
+all_before name h = grind (arith, append-nil name, before_none is_equals name)
 
 -- two hyphens and a name
 whole_kind : (name v : Text) → is_name name ≡ true → kind_of (codes "--" ++ (name ++ (codes "=" ++ v))) ≡ whole name v
@@ -33,12 +32,7 @@ whole_kind (c ∷ cs) v h =
 
 begins_kind : (name : Text) → is_name name ≡ true → kind_of (codes "--" ++ name) ≡ begins name
 begins_kind [] h = absurd (true≢false (sym h))
-begins_kind (c ∷ cs) h =
-    let name : Text = c ∷ cs in
-    let none = no_equals name h in
-    let front : before_first is_equals name ≡ name = all_before name none in
-    let is : named name ≡ begins name = rw (front, h, none) refl in
-    is
+begins_kind (c ∷ cs) h = grind (arith, all_before (c ∷ cs) (no_equals (c ∷ cs) h), no_equals (c ∷ cs) h)
 
 all_positional : (rest : List Text) → parts_from ended rest ≡ Some (map positional rest)
 unfolding parts_from
@@ -48,12 +42,9 @@ all_positional (word ∷ rest) = ap (with_part (positional word)) (all_positiona
 pub written_read : (words : List Text) (ps : List Part) → AreParts words ps → parts_from between words ≡ Some ps
 unfolding parts_from
 written_read _ _ nothing = refl
-written_read _ _ (joined name v rest ps is h) = rw (whole_kind name v is)
-    (ap (with_part (option name v)) (written_read rest ps h))
-written_read _ _ (apart name v rest ps is h) = rw (begins_kind name is)
-    (ap (with_part (option name v)) (written_read rest ps h))
-written_read _ _ (word_plain word rest ps is h) = rw (plain_kind word is)
-    (ap (with_part (positional word)) (written_read rest ps h))
+written_read _ _ (joined name v rest ps is h) = grind (arith, whole_kind name v is, written_read rest ps h)
+written_read _ _ (apart name v rest ps is h) = grind (arith, begins_kind name is, written_read rest ps h)
+written_read _ _ (word_plain word rest ps is h) = grind (arith, plain_kind word is, written_read rest ps h)
 written_read _ _ (all_plain rest) = all_positional rest
 
 -- ---- what is read is written
@@ -129,8 +120,7 @@ unfolding parts_from
 read_written [] between = λ ps h. let e : [] ≡ ps = cc in subst (AreParts []) e nothing
 read_written [] ended = λ ps h. cc
 read_written [] (value name) = λ is ps h. absurd (cc)
-read_written (word ∷ rest) between = λ ps h. between_read word rest (kind_of word) (written word)
-    (read_written rest) ps h
+read_written (word ∷ rest) between = grind (arith, written word, read_written rest, between_read)
 read_written (word ∷ rest) ended = λ ps h.
     let t = some_parts (positional word) (parts_from ended rest) ps h in
     ap (λ qs. positional word ∷ qs) (read_written rest ended t.0 t.1) ∙ t.2

@@ -18,6 +18,7 @@ use dl_plan::{Ask, Asked, Items, MOST_TERMS, Term, are_priced};
 use std::alloc::{AllocError, Global};
 
 /// What the texts ask, or the index of the first that is not spelled as an ask.
+#[tactic(auto, using(crate::proofs::AskLists::all_read))]
 pub(crate) fn read_asks(alloc: Global, texts: &[&str]) -> Result<Vec<Asked>, WordsFault>
     requires { length texts.now ≤ most_asks }
     ensures asks { IfOk result (λ asks.
@@ -87,6 +88,7 @@ fn ask_between(alloc: Global, head: &str, rest: &str) -> Result<Option<Ask>, All
 }
 
 /// Terms of a price, joined by `+`: 1 to 8 of them, whose weights sum to 1.
+#[tactic(auto, using(crate::proofs::Prices::price_refused, crate::proofs::Prices::price_told))]
 fn price(alloc: Global, text: &str) -> Result<Option<Vec<Term>>, AllocError>
     ensures { IfOk result (λ all. option_map (λ t. t.items) all ≡ terms.read text.now) }
 {

@@ -24,6 +24,7 @@ const LINE: WordsFault = WordsFault::Usage(UsageFault::Line);
 
 /// The settings of what was found, or the first fault. Where what was found does not fit the
 /// command, it says so, and never that memory ran out.
+#[tactic(auto, using(std::proofs::lemmas::Bool::and_left, std::proofs::lemmas::Bool::and_right, crate::proofs::Judged::asks_no_line, crate::proofs::Judged::explained, crate::proofs::Judged::fitting_tests, crate::proofs::Judged::misfit_found, crate::proofs::Judged::plain_found, crate::proofs::Judged::texts_found))]
 pub(crate) fn judge(alloc: Global, matches: &ArgMatches<'_>) -> Result<Settings, WordsFault>
     ensures settings { IfOk result (λ settings. answer_in (found_of matches.now) ≡ Ok settings) }
     ensures fault { IfErr result (Explains (answer_in (found_of matches.now))) }

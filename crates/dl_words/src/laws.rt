@@ -11,6 +11,7 @@ ghost use Rattle.dl_words.specs.Spelling.{is_numeral, is_word};
 ghost use Rattle.dl_words.specs.Table.{SpellsAsk, ask_of};
 
 /// What is read as an ask is exactly what the table of the asks has; so no text is two asks.
+#[tactic(auto, using(crate::proofs::TableLaws::table_back, crate::proofs::TableLaws::table_read))]
 pub fn law_asks()
     ensures table { (text : List ℕ) (ask : Ask) → (ask_of text ≡ Some ask) ↔ SpellsAsk text ask }
 {}
@@ -23,6 +24,7 @@ pub fn law_spellings()
 
 /// The parts that the words are cut into from the left are exactly those that they are written as;
 /// so no words have two.
+#[tactic(auto, using(crate::proofs::WrittenLaws::parts_written, crate::proofs::WrittenLaws::written_read))]
 pub fn law_parts()
     ensures { (words : List (List ℕ)) (parts : List Part)
         → (command_parts words ≡ Some parts) ↔ AreParts words parts }

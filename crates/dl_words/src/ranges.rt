@@ -23,6 +23,7 @@ pub fn law_ranges()
 
 /// Each ask of good words is written with plain bytes alone, whatever bytes the words have. So a
 /// report with these asks can be read back from its text, from its records and from its JSON.
+#[tactic(auto, using(crate::proofs::PlainAsks::asks_are_plain))]
 pub fn law_plain_asks()
     ensures { (words : List (List ℕ)) (settings : Settings)
         → words_of words ≡ Ok settings → All (λ asked. All IsPlainByte asked.text) settings.asks }

@@ -1,17 +1,9 @@
-use Rattle.dl_cert.proofs.Common.{arith, sym, subst₂, HasPassedTo}
+use Rattle.dl_cert.proofs.Common.{arith}
 use Rattle.dl_cert.proofs.Endings.{none_passed, steps_before}
 use Rattle.dl_cert.proofs.checking.read_steps.Goals as goal
 
 pub lines-init : goal.lines-init
-lines-init c = (
-  subst₂ (HasPassedTo c.args.plan.now c.args.text.now 0) (sym c.new.ensures.items) (sym c.new-2.ensures.items)
-      (none_passed c.args.plan.now c.args.text.now),
-  omega arith,
-)
+lines-init c = (rw (c.new.ensures.items, c.new-2.ensures.items) (none_passed c.args.plan.now c.args.text.now), omega arith)
 
 pub overflow_cast-number : goal.overflow_cast-number
-overflow_cast-number c = omega (
-  arith,
-  steps_before c.args.plan.now c.args.text.now c.lines.kept.places.items c.lines.kept.labels.items c.lines.place
-      c.lines.invariant.0,
-)
+overflow_cast-number c = omega (arith, steps_before c.args.text.now c.lines.place c.lines.invariant.0)

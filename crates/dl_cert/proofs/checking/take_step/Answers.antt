@@ -1,16 +1,12 @@
-use Rattle.dl_cert.proofs.Common.{◌≤◌, ◌∙◌, ◌++◌, ◌∷◌, [], arith, ap, sym, subst, subst₂, pow_pos, Keeps, IsStep, made_after, line_from, Step, made_by, IsBadLine}
+use Rattle.dl_cert.proofs.Common.{◌≤◌, [], arith, pow_pos, IsStep, made_after, line_from, Step}
 use Rattle.dl_cert.proofs.Passings.{bad_line, misread, not_passing, line_passes, keeps_more, grid_now}
 use Rattle.dl_cert.proofs.Endings.{step_small}
 use Rattle.dl_cert.proofs.checking.take_step.Goals as goal
 
 pub returns-in_default-clause-bad : goal.returns-in_default-clause-bad
 returns-in_default-clause-bad c = λ no.
-    let plan = c.args.plan.now in
-    let passed = c.requires.kept in
-    let made = made_after [] passed.steps in
-    bad_line plan c.args.text.now c.args.kept.now.places.items c.args.kept.now.labels.items c.args.place passed
-    c.requires.inside (subst (IsBadLine plan made) c.line_from-line.ensures
-    (misread plan made c.line_from-line.result.now (rw c.in_default.is at c.in_ok-step.ensures)))
+    bad_line c.requires.kept c.requires.inside (rw (← c.line_from-line.ensures)
+    (misread c.args.plan.now _ c.line_from-line.result.now (rw c.in_default.is at c.in_ok-step.ensures)))
 
 pub tested-requires-clause-small : goal.tested-requires-clause-small
 tested-requires-clause-small c =
@@ -19,34 +15,27 @@ tested-requires-clause-small c =
 
 pub returns-in_default-2-clause-bad : goal.returns-in_default-2-clause-bad
 returns-in_default-2-clause-bad c = λ no.
-    let plan = c.args.plan.now in
     let passed = c.requires.kept in
     let made = made_after [] passed.steps in
     let read = rw c.in-Some.is at c.in_ok-step.ensures in
-    bad_line plan c.args.text.now c.args.kept.now.places.items c.args.kept.now.labels.items c.args.place passed
-    c.requires.inside (subst (IsBadLine plan made) c.line_from-line.ensures
-    (not_passing plan made c.line_from-line.result.now
+    bad_line passed c.requires.inside (rw (← c.line_from-line.ensures)
+    (not_passing c.args.plan.now made c.line_from-line.result.now
     (record { kind = c.in-Some.step.kind; cells = c.in-Some.step.cells.items }) read.0
     (rw c.in_default-2.is at (c.in_ok-label.ensures made passed.kept))))
 
 pub returns-clause-passes : goal.returns-clause-passes
 returns-clause-passes c = λ yes next split.
     let plan = c.args.plan.now in
-    let text = c.args.text.now in
-    let places = c.args.kept.now.places.items in
     let labels = c.args.kept.now.labels.items in
     let passed = c.requires.kept in
-    let made = made_after [] passed.steps in
     let step : Step = record { kind = c.in-Some.step.kind; cells = c.in-Some.step.cells.items } in
     let read = rw c.in-Some.is at c.in_ok-step.ensures in
-    let spelled : IsStep (line_from text c.args.place) step = subst (λ l. IsStep l step) c.line_from-line.ensures read.0 in
-    let t = rw c.in-Some-2.is at (c.in_ok-label.ensures made passed.kept) in
+    let spelled : IsStep (line_from c.args.text.now c.args.place) step = rw c.line_from-line.ensures at read.0 in
+    let t = rw c.in-Some-2.is at (c.in_ok-label.ensures (made_after [] passed.steps) passed.kept) in
     let some : 1 ≤ plan.cells = rw c.requires.valid.cells.3 (pow_pos c.requires.valid.cells.0) in
     let grid = grid_now plan.cells step.cells some c.requires.few read.1
     (step_small c.line_from-line.result.now step read.0) t.0.mass in
-    line_passes plan text places labels c.args.place passed next step c.push.new.self.items
-    c.extend_from_slice.new.self.items split spelled t.0
-    (subst₂ (λ p l. Keeps plan text p l (made ++ made_by made step ∷ [])) (sym c.in_ok-push.ensures.items)
-    (sym (c.in_ok-extend_from_slice.ensures.items ∙ ap (λ l. labels ++ l) c.deref.ensures.value))
-    (keeps_more plan text places labels made passed.kept step c.args.targets.now c.requires.starts.counts
-    c.in-Some-2.label.items t.0.there t.1 c.args.place (omega (arith, c.requires.inside)) spelled read.1 grid))
+    line_passes passed step split spelled t.0
+    (rw (c.in_ok-push.ensures.items, c.in_ok-extend_from_slice.ensures.items, c.deref.ensures.value)
+    (keeps_more passed.kept step c.requires.starts.counts t.0.there t.1 c.args.place (omega (arith, c.requires.inside)) spelled
+    read.1 grid))

@@ -1,23 +1,13 @@
-use Rattle.dl_cert.proofs.Common.{ℕ, sym, subst, List, Ok, Err, All, Result, MatchResult, IfOk, Iv, GridEncloses, aggregates_of, total, Plan, IsValid, IsValidUnit, IsVerified, RefusesSteps}
+use Rattle.dl_cert.proofs.Common.{ℕ, List, Ok, Err, Result, MatchResult, IfOk, Iv, GridEncloses, aggregates_of, total, Plan, IsValid, IsVerified, RefusesSteps}
 use Rattle.dl_cert.specs.declared.fault.VerifyFault.{VerifyFault}
 use Rattle.dl_cert.proofs.Passing.{certified}
 use Rattle.dl_cert.proofs.checking.verify.Goals as goal
 
 pub bases_of-requires : goal.bases_of-requires
-bases_of-requires c = record {
-  valid = (
-    c.args.plan.now.cells,
-    subst (All (IsValidUnit c.args.plan.now.cells)) (sym c.as_slice-units.ensures) c.requires.valid.units,
-  );
-}
+bases_of-requires c = record { valid = (c.args.plan.now.cells, rw c.as_slice-units.ensures c.requires.valid.units) }
 
 pub targets_of-requires : goal.targets_of-requires
-targets_of-requires c = record {
-  valid = (
-    c.args.plan.now.cells,
-    subst (All (IsValidUnit c.args.plan.now.cells)) (sym c.as_slice-units.ensures) c.requires.valid.units,
-  );
-}
+targets_of-requires c = record { valid = (c.args.plan.now.cells, rw c.as_slice-units.ensures c.requires.valid.units) }
 
 enclosed : (plan : Plan) (text : List ℕ) (r : Result (List (Iv 56)) VerifyFault) → IsValid plan
     → MatchResult r (IsVerified plan text) (RefusesSteps plan text)

@@ -14,12 +14,12 @@ returns-then-text-from-ne32-clause-cell c =
 
 pub returns-in_default-clause-cell : goal.returns-in_default-clause-cell
 returns-in_default-clause-cell c =
-    no_cell_begins c.args.text.now c.after-rest.result.now c.args.from c.first_place-end.result
+    no_cell_begins c.args.text.now c.args.from
     (omega (arith, c.if-from-text.false, c.requires)) c.if-text-from-ne32.false c.after-rest.ensures
     c.first_place-end.ensures.place c.in_default.ensures
 
 pub returns-clause-cell : goal.returns-clause-cell
 returns-clause-cell c =
-    cell_begins c.args.text.now c.after-rest.result.now c.args.from c.first_place-end.result
+    cell_begins c.args.text.now c.args.from
     (omega (arith, c.if-from-text.false, c.requires)) c.if-text-from-ne32.false c.after-rest.ensures
-    c.first_place-end.ensures.place c.in-Some.cell c.in-Some.ensures
+    c.first_place-end.ensures.place c.in-Some.ensures

@@ -9,12 +9,12 @@ returns-in-Some-clause-head c =
     let line = c.args.line.now in
     let rest = c.in-Some._cells.now in
     let cases = c.in-Some.ensures.cases in
-    begins_one line (drop 3 line) (begins_with (codes "one") line rest
+    begins_one (drop 3 line) (begins_with (codes "one") line rest
     (begins_so (codes "one") line rest cases.0 cases.1) cases.1)
 
 pub returns-clause-head : goal.returns-clause-head
 returns-clause-head c =
     let line = c.args.line.now in
-    no_step line (begins_otherwise (codes "one") line c.in_default.ensures.cases)
+    no_step (begins_otherwise (codes "one") line c.in_default.ensures.cases)
     (begins_otherwise (codes "start ") line c.in_default-strip_prefix.ensures.cases)
     (begins_otherwise (codes "times ") line c.in_default-strip_prefix-2.ensures.cases)

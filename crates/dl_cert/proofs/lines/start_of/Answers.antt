@@ -9,4 +9,4 @@ returns-in_default-clause-head c =
 pub returns-clause-head : goal.returns-clause-head
 returns-clause-head c =
     subst (λ t. BeginsStep c.args.line.now (Start c.in-Some.unit.number) t) (sym c.in-Some.ensures.next)
-    (begins_start c.args.line.now (drop 6 c.args.line.now) c.requires.begins c.in-Some.unit.number c.in-Some.ensures.number)
+    (begins_start (drop 6 c.args.line.now) c.requires.begins c.in-Some.ensures.number)

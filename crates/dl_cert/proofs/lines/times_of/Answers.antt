@@ -21,7 +21,7 @@ returns-in_default-number_from-clause-head c =
 
 pub returns-clause-head : goal.returns-clause-head
 returns-clause-head c =
-    times_read c.args.line.now c.in-Some.first.number c.in-Some-number_from.second.number c.in-Some.first.next
+    times_read c.in-Some.first.next
     c.in-Some-number_from.second.next c.requires.begins c.in-Some.ensures.number c.in-Some.ensures.next
     (omega (arith, c.if-first-line.false, c.in-Some.ensures.within)) c.in-Some-number_from.ensures.number
     c.in-Some-number_from.ensures.next

@@ -6,5 +6,5 @@ pub loop-unit-init : goal.loop-unit-init
 loop-unit-init c = record {
   cells = tt;
   count = omega arith;
-  sum = nothing_written c.args.plan.now c.args.steps.now.text.items c.args.steps.now.count c.requires.empty c.requires.none;
+  sum = nothing_written c.args.plan.now c.requires.empty c.requires.none;
 }

@@ -8,8 +8,6 @@ grid_of-requires c =
     let unit = c.args.unit.now in
     let list = c.in_ok-list.ensures in
     let cells = c.in_ok-list.list.items in
-    let exact = exact_start unit c.in_ok-base.base c.in_ok-base.ensures c.requires.some cells c.args.cells list.cells list.low
-    list.high in
-    (omega arith) also (omega arith)
-    also subst IsGrid (sym c.as_slice.ensures.value) (start_is_grid unit c.requires.valid.0 c.requires.valid.1
-    c.requires.some cells (omega (arith, list.cells)) (omega (arith, list.cells)) list.small exact)
+    let exact = exact_start c.in_ok-base.ensures c.requires.some list.cells list.low list.high in
+    (omega arith) also (omega arith) also subst IsGrid (sym c.as_slice.ensures.value) (start_is_grid c.requires.valid.1
+    c.requires.some (omega (arith, list.cells)) (omega (arith, list.cells)) list.small exact)

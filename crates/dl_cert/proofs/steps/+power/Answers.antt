@@ -27,7 +27,7 @@ returns-then-n-eq0-clause-ends t c made u w m last within =
     let h = c.in_ok-half.ensures.ends made u w m last (omega (arith, within)) in
     let e = c.in_ok-even.ensures.ends (made ++ h.later) (often u (n / 2)) (often u (n / 2)) h.written h.step h.step
     (both_le u (n / 2) (n / 2) n (target plan) (omega arith) within) in
-    joined plan _ _ made h.later _ _ _ _ e (often_both u (n / 2) (n / 2) n (omega arith))
+    joined h.later e (often_both u (n / 2) (n / 2) n (omega arith))
 
 pub returns-clause-ends : goal.returns-clause-ends
 returns-clause-ends t c =
@@ -38,8 +38,7 @@ returns-clause-ends t c =
     let h = c.in_ok-half.ensures.ends made u w m last (omega (arith, within)) in
     let e = c.in_ok-even.ensures.ends (made ++ h.later) (often u (n / 2)) (often u (n / 2)) h.written h.step h.step
     (both_le u (n / 2) (n / 2) k (target plan) refl (omega (arith, within))) in
-    let even = joined plan _ _ made h.later _ _ _ (often u k) e (often_both u (n / 2) (n / 2) k refl) in
-    joined plan _ _ made even.later _ _ _ _
-    (ends (made ++ even.later) (often u k) (often u 1) even.written even.step
-    (made_kept plan made even.later _ _ _ m) (both_le u k 1 n (target plan) (omega arith) within))
+    let even = joined h.later {y = often u k} e (often_both u (n / 2) (n / 2) k refl) in
+    joined even.later (ends (made ++ even.later) (often u k) (often u 1) even.written even.step
+    (made_kept even.later m) (both_le u k 1 n (target plan) (omega arith) within))
     (often_both u k 1 n (omega arith))) c.times-2.ensures.ends

@@ -1,4 +1,4 @@
-use Rattle.dl_cert.proofs.Common.{ℕ, ◌≡◌, ◌++◌, length, refl, sym, ap, subst, ◌∙◌, arith, get_or, IfOk-weaker, thinned_mean, IsExactStart, often, EndsWith}
+use Rattle.dl_cert.proofs.Common.{ℕ, ◌≡◌, ◌++◌, length, refl, ap, ◌∙◌, arith, get_or, IfOk-weaker, thinned_mean, IsExactStart, often, EndsWith, ◌<◌, ◌≤◌, ◌^◌, target}
 use Rattle.dl_cert.proofs.Ladder.{start_step, joined}
 use Rattle.dl_cert.proofs.steps.unit_power.Goals as goal
 
@@ -12,7 +12,6 @@ returns-clause-count c =
 
 pub returns-clause-ends : goal.returns-clause-ends
 returns-clause-ends c =
-    IfOk-weaker c.power.result _ _ (λ f ends made w.
     let plan = c.args.plan.now in
     let u : ℕ = c.args.unit in
     let base = c.in_ok-base.ensures in
@@ -20,16 +19,13 @@ returns-clause-ends c =
     let here : unit ≡ get_or plan.units u unit =
     c.index-units-unit.is ∙ ap (λ t. get_or t u unit) c.as_slice-units.ensures in
     let exact : IsExactStart unit.freq unit.sev (thinned_mean unit) c.in_ok-base.base.grid =
-    subst (IsExactStart unit.freq unit.sev (thinned_mean unit)) (sym base.grid) c.in_ok-grid.ensures.exact in
-    let s = start_step plan c.args.steps.now.text.items c.add.new.steps.text.items c.args.steps.now.count
-    c.add.new.steps.count made u unit c.in_ok-base.base.grid w c.requires.inside
-    (omega (arith, c.requires.inside, c.requires.valid.few)) here base.text base.count exact base.is_grid
-    (ap length base.grid ∙ c.in_ok-grid.ensures.cells) (omega (arith, c.requires.counted, c.requires.above)) in
+    rw base.grid c.in_ok-grid.ensures.exact in
+    let few : u < 10 ^ 9 = omega (arith, c.requires.inside, c.requires.valid.few) in
+    let all : c.args.parts ≤ target plan u = omega (arith, c.requires.counted) in
+    let some : 1 ≤ target plan u = omega (arith, all, c.requires.above) in
+    IfOk-weaker c.power.result _ _ (λ f ends made w.
     let b : EndsWith plan c.add.new.steps.text.items c.add.new.steps.count made c.in_ok-base.base.step
     c.in_ok-base.base.grid (often u 1) =
-    subst (λ k. EndsWith plan c.add.new.steps.text.items c.add.new.steps.count made k c.in_ok-base.base.grid (often u 1))
-    (sym base.step) s in
-    joined plan c.power.new.steps.text.items c.power.new.steps.count made b.later f.step f.grid (often u c.args.parts)
-    (often u c.args.parts) (ends (made ++ b.later) u b.written b.step b.last (omega (arith, c.requires.counted)))
-    (λ i. refl))
-    c.power.ensures.ends
+    rw base.step (start_step u c.in_ok-base.base.grid w c.requires.inside few here base.text base.count exact base.is_grid
+    (ap length base.grid ∙ c.in_ok-grid.ensures.cells) some) in
+    joined b.later (ends (made ++ b.later) u b.written b.step b.last all) (λ i. refl)) c.power.ensures.ends

@@ -1,4 +1,4 @@
-use Rattle.dl_cert.proofs.Common.{◌∙◌, arith, sym, subst, IfOk-weaker, IsGrid}
+use Rattle.dl_cert.proofs.Common.{◌∙◌, arith, IfOk-weaker}
 use Rattle.dl_budget.proofs.Rows.{◌also◌}
 use Rattle.dl_cert.proofs.Tests.{cells_again}
 use Rattle.dl_cert.proofs.test.cells_at.Goals as goal
@@ -7,20 +7,19 @@ pub grid_of-requires : goal.grid_of-requires
 grid_of-requires c =
     let read = rw c.in-Some.is at c.in_ok-step.ensures in
     let kept = c.requires.kept.2 in
-    let same = cells_again c.args.plan.now c.args.text.now c.args.places.now c.requires.kept.0 c.requires.kept.1 c.args.step
-    c.line_from-line.result.now (record { kind = c.in-Some.step.kind; cells = c.in-Some.step.cells.items }) kept
-    c.requires.inside c.line_from-line.ensures read.0 in
-    (omega arith) also (omega arith)
-    also (subst IsGrid (sym (c.deref.ensures.value ∙ same)) (kept.placed c.args.step (omega (
+    let same = cells_again c.args.step c.line_from-line.result.now
+    (record { kind = c.in-Some.step.kind; cells = c.in-Some.step.cells.items }) kept c.requires.inside
+    c.line_from-line.ensures read.0 in
+    (omega arith) also (omega arith) also rw (c.deref.ensures.value, same) (kept.placed c.args.step (omega (
       arith,
       c.requires.inside,
       kept.many,
-    ))).grid)
+    ))).grid
 
 pub returns-clause-cells : goal.returns-clause-cells
 returns-clause-cells c =
     let read = rw c.in-Some.is at c.in_ok-step.ensures in
     IfOk-weaker c.grid_of.result _ _ (λ grid is labels before kept.
-    is ∙ c.deref.ensures.value ∙ cells_again c.args.plan.now c.args.text.now c.args.places.now labels before c.args.step
-    c.line_from-line.result.now (record { kind = c.in-Some.step.kind; cells = c.in-Some.step.cells.items }) kept
-    c.requires.inside c.line_from-line.ensures read.0) c.grid_of.ensures
+    is ∙ c.deref.ensures.value ∙ cells_again c.args.step c.line_from-line.result.now
+    (record { kind = c.in-Some.step.kind; cells = c.in-Some.step.cells.items }) kept c.requires.inside
+    c.line_from-line.ensures read.0) c.grid_of.ensures

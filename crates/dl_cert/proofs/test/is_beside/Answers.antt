@@ -1,4 +1,4 @@
-use Rattle.dl_cert.proofs.Common.{refl, arith, length, true, false, ◌≡◌, low_at, high_at}
+use Rattle.dl_cert.proofs.Common.{refl, arith, true, false, ◌≡◌}
 use Rattle.dl_cert.proofs.Outside.{one_more_passes, passes_here}
 use Rattle.dl_cert.proofs.test.is_beside.Goals as goal
 
@@ -7,15 +7,13 @@ clash e = cc
 
 pub loop-y-preserved : goal.loop-y-preserved
 loop-y-preserved c =
-    one_more_passes c.args.cells.now (low_at c.args.numbers.now) (high_at c.args.numbers.now) c.loop-y.y
-    c.index-cells-y.result c.at.result (omega (arith, c.loop-y-test.true)) c.index-cells-y.is c.at.ensures.low
+    one_more_passes c.loop-y.y c.at.result (omega (arith, c.loop-y-test.true)) c.index-cells-y.is c.at.ensures.low
     c.at.ensures.high c.loop-y.invariant (c.if-not-is_outside.ensures.0 refl)
 
 pub returns-then-not-is_outside : goal.returns-then-not-is_outside
 returns-then-not-is_outside c = (
   λ e. absurd (clash e),
   λ all. absurd (clash (c.if-not-is_outside.ensures.1
-      (passes_here c.args.cells.now (low_at c.args.numbers.now) (high_at c.args.numbers.now) c.loop-y.y
-      c.index-cells-y.result c.at.result (omega (arith, c.loop-y-test.true)) c.index-cells-y.is c.at.ensures.low
-      c.at.ensures.high (length c.args.cells.now) (omega (arith, c.loop-y-test.true)) all))),
+      (passes_here c.loop-y.y c.at.result (omega (arith, c.loop-y-test.true)) c.index-cells-y.is c.at.ensures.low
+      c.at.ensures.high (omega (arith, c.loop-y-test.true)) all))),
 )

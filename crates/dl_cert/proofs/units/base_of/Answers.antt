@@ -14,16 +14,14 @@ trial-requires c = subst IsProbability (sym c.whole.ensures) sure
 pub returns-in-Fixed : goal.returns-in-Fixed
 returns-in-Fixed c =
     let h = c.trial.ensures in
-    subst (IsBaseOf c.args.unit.now) (sym h.1)
-    (fixed_is c.args.unit.now c.in-Fixed.field-0 h.0 c.in-Fixed.is (h.2 ∙ c.whole.ensures))
+    subst (IsBaseOf c.args.unit.now) (sym h.1) (fixed_is c.in-Fixed.is (h.2 ∙ c.whole.ensures))
 
 pub returns-in-Bernoulli : goal.returns-in-Bernoulli
 returns-in-Bernoulli c =
     let h = c.trial-in-Bernoulli.ensures in
-    subst (IsBaseOf c.args.unit.now) (sym h.1) (bernoulli_is c.args.unit.now c.in-Bernoulli.q h.0 c.in-Bernoulli.is h.2)
+    subst (IsBaseOf c.args.unit.now) (sym h.1) (bernoulli_is c.in-Bernoulli.is h.2)
 
 pub returns-in-Binomial : goal.returns-in-Binomial
 returns-in-Binomial c =
     let h = c.trial-in-Binomial.ensures in
-    subst (IsBaseOf c.args.unit.now) (sym h.1)
-    (binomial_is c.args.unit.now c.in-Binomial.trials c.in-Binomial.q h.0 c.in-Binomial.is h.2)
+    subst (IsBaseOf c.args.unit.now) (sym h.1) (binomial_is c.in-Binomial.is h.2)

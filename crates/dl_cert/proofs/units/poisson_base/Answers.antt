@@ -1,4 +1,4 @@
-use Rattle.dl_cert.proofs.Common.{◌≡◌, ◌^◌, ◌∙◌, arith, ap, Fraction, whole, ◌/ℚ◌, halvings, exp_low, exp_high, given_part, thinned_mean, amounts_positive}
+use Rattle.dl_cert.proofs.Common.{◌∙◌, ◌^◌, arith, ap, ap₂, Fraction, whole, ◌/ℚ◌, halvings, given_part, amounts_positive}
 use Rattle.dl_exp.proofs.Terms.{half_parts}
 use Rattle.dl_cert.proofs.UnitBases.{poisson_is}
 use Rattle.dl_cert.proofs.units.poisson_base.Goals as goal
@@ -6,17 +6,18 @@ use Rattle.dl_cert.proofs.units.poisson_base.Goals as goal
 pub invariant_of-result : goal.invariant_of-result
 invariant_of-result c =
     let means = rw c.in-Some.is at c.in_ok-positive.ensures in
+    let half = rw (← c.halved-rate.ensures.value) at c.halvings.ensures.least.enough in
+    let parts = (c.requires.valid.1.thinned (rw c.requires.count.1 tt)).0 in
     record {
       no_zero = amounts_positive c.in-Some.positive (means 0 ∙ (given_part c.args.unit.now.sev).no_zero);
-      within = omega (arith, half_parts c.poisson_rate-rate.result c.poisson_rate-rate.ensures.half);
-      small = c.poisson_rate-rate.ensures.small;
+      within = omega (arith, half_parts c.halved-rate.result half);
+      small = omega (arith, c.halved-rate.ensures.num, ap (λ (x : Fraction). x.num) c.thinned-mean.ensures, parts.num);
       first_small = c.exp_neg.ensures.small;
     }
 
 pub returns : goal.returns
 returns c =
-    let rate : c.poisson_rate-rate.result ≡ thinned_mean c.args.unit.now /ℚ whole (2 ^ halvings (thinned_mean c.args.unit.now)) =
-    c.poisson_rate-rate.ensures.value ∙ ap (λ (v : Fraction). v /ℚ whole (2 ^ halvings v)) c.thinned.ensures in
     let means = rw c.in-Some.is at c.in_ok-positive.ensures in
-    poisson_is c.args.unit.now c.requires.count.0 _ c.requires.count.1 means rate
-    (c.exp_neg.ensures.low ∙ ap (λ x. exp_low 56 x) rate) (c.exp_neg.ensures.high ∙ ap (λ x. exp_high 56 x) rate)
+    let halved = c.halved-rate.ensures.value ∙ ap₂ (λ v h. v /ℚ whole (2 ^ h)) c.thinned-mean.ensures
+    (c.halvings.ensures.value ∙ ap halvings c.thinned-mean.ensures) in
+    poisson_is c.requires.count.1 means halved c.exp_neg.ensures.low c.exp_neg.ensures.high

@@ -14,32 +14,25 @@ row-requires g c =
     let same = c.as_slice-asks.ensures in
     let plan = c.args.plan.now in
     let test = c.loop-i-test.true in
-    let unit = named_here plan.units asks all c.args.named.now i asked same c.requires.numbers c.index-asks-i.is test in
-    let many = numbers_many plan.units asks all c.args.named.now same c.requires.numbers in
+    let unit = named_here plan.units i same c.requires.numbers c.index-asks-i.is test in
+    let many = numbers_many plan.units same c.requires.numbers in
     (omega arith) also (omega arith) also c.requires.scale also c.requires.ranges.few_digits
-    also ask_has (λ (a : Asked). IsAskInRange a.ask) asks all i asked same c.index-asks-i.is test c.requires.ranges.asks
-    also c.requires.valid
-    also ask_has (λ (a : Asked). IsInside plan.cells a.ask) asks all i asked same c.index-asks-i.is test
-    c.requires.inside
-    also ask_has (λ (a : Asked). NamesUnit plan.units a.ask) asks all i asked same c.index-asks-i.is test
-    c.requires.named
-    also ask_has (λ (a : Asked). HasShare plan a.ask) asks all i asked same c.index-asks-i.is test c.requires.shares
+    also ask_has (λ (a : Asked). IsAskInRange a.ask) i same c.index-asks-i.is test c.requires.ranges.asks
+    also c.requires.valid also ask_has (λ (a : Asked). IsInside plan.cells a.ask) i same c.index-asks-i.is test
+    c.requires.inside also ask_has (λ (a : Asked). NamesUnit plan.units a.ask) i same c.index-asks-i.is test
+    c.requires.named also ask_has (λ (a : Asked). HasShare plan a.ask) i same c.index-asks-i.is test c.requires.shares
     also c.requires.grids also unit
     also IfSome_then c.args.parts.now.grids c.requires.there (λ made each. each i None (omega (arith, many, test)))
-    also (λ none. ask_has (λ (a : Asked). a.ask ≡ Mean) asks all i asked same c.index-asks-i.is test (c.requires.none
-    none))
+    also (λ none. ask_has (λ (a : Asked). a.ask ≡ Mean) i same c.index-asks-i.is test (c.requires.none none))
     also c.requires.mean also c.requires.small
 
 pub loop-i-preserved : goal.loop-i-preserved
-loop-i-preserved g c = record {
-  as_many = pushed_length c.loop-i.rows.items c.push.new.self.items c.loop-i.i c.in_ok-row.row
-      c.loop-i.invariant.as_many c.in_ok-push.ensures.items;
-  each = each_next (IsGood c.args.plan.now c.args.settings.now.digits) c.as_slice-asks.result.now
-      c.loop-i.rows.items c.push.new.self.items c.loop-i.i c.index-asks-i.result c.in_ok-row.row
-      c.loop-i.invariant.as_many c.loop-i.invariant.each c.in_ok-push.ensures.items c.loop-i-test.true
-      c.index-asks-i.is
-      c.in_ok-row.ensures;
-}
+loop-i-preserved g c =
+    let i = c.loop-i.invariant in record {
+      as_many = pushed_length _ _ _ _ i.as_many c.in_ok-push.ensures.items;
+      each = each_next (IsGood c.args.plan.now c.args.settings.now.digits) _ _ _ _ _ _ i.as_many i.each
+          c.in_ok-push.ensures.items c.loop-i-test.true c.index-asks-i.is c.in_ok-row.ensures;
+    }
 
 pub returns : goal.returns
 returns g c = record {

@@ -9,7 +9,5 @@ returns-then-not-is_named-clause-grids g c =
     only_one c.args.units.items c.pop.new.self.items c.unwrap-unit.result
     (c.pop.ensures.items ∙ ap (λ (top : Option (List (Iv g.row.B))). c.pop.new.self.items ++ option_to_list top)
     c.unwrap-unit.ensures) (omega arith) in
-    grids_of_one c.args.plan.now c.args.units.items c.unwrap-unit.result
-    (record { units = c.pop.new.self; means = c.args.means; sums = c.in_ok-sums.sums }) c.requires.valid
-    c.requires.independent c.requires.units c.requires.means c.requires.small only
+    grids_of_one c.requires.valid c.requires.independent c.requires.units c.requires.means c.requires.small only
     c.in_ok-sums.ensures.total c.in_ok-sums.ensures.others

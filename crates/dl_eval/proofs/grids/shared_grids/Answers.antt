@@ -1,4 +1,4 @@
-use Rattle.dl_eval.proofs.Common.{◌≤◌, ◌≡◌, List, length, arith, sym, ap, subst, subst₂, ◌∙◌, All, Iv, few_cells, AreShared, IsTotal, AreSumsWithout, ◌also◌}
+use Rattle.dl_eval.proofs.Common.{◌≡◌, length, arith, ap, ◌∙◌, few_cells, ◌also◌}
 use Rattle.dl_eval.proofs.Totals.{is_total, are_others, has_others, long_enough}
 use Rattle.dl_eval.proofs.grids.shared_grids.Goals as goal
 
@@ -15,31 +15,21 @@ total_and_others-requires g c =
     also (omega (arith, c.requires.scale.least, c.requires.scale.most))
     also (omega (arith, many, c.requires.valid.some)) also (omega (arith, many, c.requires.valid.few))
     also (omega (arith, many, asked)) also (few_cells plan c.requires.valid).0
-    also subst (All (λ (g : List (Iv g.row.B)). plan.cells ≤ length g)) (sym grids.ensures.value) (long_enough
-    plan.cells plan.units c.args.units.items c.requires.units)
+    also rw grids.ensures.value (long_enough plan.cells plan.units c.args.units.items c.requires.units)
 
 pub returns-clause-grids : goal.returns-clause-grids
 returns-clause-grids g c =
-    let plan = c.args.plan.now in
-    let sums = c.in_ok-sums.sums in record {
+    let sums = c.in_ok-sums.ensures in record {
       units = λ i inside some. c.requires.units;
       means = c.requires.means;
       small = c.requires.small;
-      others = are_others plan c.args.units.items c.as_slice-3.result.now sums.others.items c.requires.valid
-          c.requires.units
-          (subst (λ grids. AreSumsWithout plan.cells grids c.as_slice-3.result.now sums.others.items)
-          c.as_slice-2.ensures.value c.in_ok-sums.ensures.others);
-      total = is_total plan c.args.units.items sums.total c.requires.valid c.requires.independent c.requires.units
-          (subst (λ grids. IsTotal plan.cells grids sums.total) c.as_slice-2.ensures.value c.in_ok-sums.ensures.total);
+      others = are_others c.requires.valid c.requires.units (rw c.as_slice-2.ensures.value at sums.others);
+      total = is_total c.requires.valid c.requires.independent c.requires.units (rw c.as_slice-2.ensures.value at sums.total);
     }
 
 pub returns-clause-there : goal.returns-clause-there
 returns-clause-there g c =
-    let plan = c.args.plan.now in
-    let sums = c.in_ok-sums.sums in
-    let rest = subst₂ (λ grids asked. AreSumsWithout plan.cells grids asked sums.others.items)
-    c.as_slice-2.ensures.value c.as_slice-3.ensures.value c.in_ok-sums.ensures.others in
-    has_others plan c.args.units.items c.args.named.now c.in_ok-asked.asked.items
-    (record { units = c.args.units; means = c.args.means; sums = sums }) c.requires.units
-    (subst (λ units. AreShared (length units) c.args.named.now c.in_ok-asked.asked.items) c.as_slice.ensures
-    c.in_ok-asked.ensures) rest c.requires.named
+    let rest = rw (c.as_slice-2.ensures.value, c.as_slice-3.ensures.value) at c.in_ok-sums.ensures.others in
+    has_others c.args.plan.now c.args.named.now
+    (record { units = c.args.units; means = c.args.means; sums = c.in_ok-sums.sums }) c.requires.units
+    (rw c.as_slice.ensures at c.in_ok-asked.ensures) rest c.requires.named

@@ -3,13 +3,12 @@ use Rattle.dl_eval.proofs.Lists.{pushed_length, each_pushed}
 use Rattle.dl_eval.proofs.grids.shared_units.Goals as goal
 
 pub loop-i-preserved : goal.loop-i-preserved
-loop-i-preserved c = record {
-  as_many = pushed_length c.loop-i.asked.items c.push.new.self.items c.loop-i.i c.is_named.result
-      c.loop-i.invariant.as_many c.in_ok-push.ensures.items;
-  each = each_pushed (λ (k : ℕ) (b : Bool). IsTrue b ↔ Any (λ unit. unit ≡ Some k) c.args.named.now)
-      c.loop-i.asked.items c.push.new.self.items c.loop-i.i c.is_named.result false
-      c.loop-i.invariant.as_many c.loop-i.invariant.each c.in_ok-push.ensures.items c.is_named.ensures;
-}
+loop-i-preserved c =
+    let i = c.loop-i.invariant in record {
+      as_many = pushed_length _ _ _ _ i.as_many c.in_ok-push.ensures.items;
+      each = each_pushed (λ (k : ℕ) (b : Bool). IsTrue b ↔ Any (λ unit. unit ≡ Some k) c.args.named.now) _ _ _ _ false
+          i.as_many i.each c.in_ok-push.ensures.items c.is_named.ensures;
+    }
 
 pub returns : goal.returns
 returns c = record {

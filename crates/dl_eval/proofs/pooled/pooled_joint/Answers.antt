@@ -10,14 +10,13 @@ common_joint-requires g c =
     let u = c.index-as_slice-i.result in
     let is = read_unit c.as_slice.result.now plan.units c.args.i u c.as_slice.ensures c.index-as_slice-i.is in
     let made = c.requires.grids in
-    let there = raised_there plan made.shape c.args.grids.now.raised c.in-Some.raised c.in-Some.is made.raised in
+    let there = raised_there plan made.shape c.in-Some.is made.raised in
     (omega arith) also (omega arith)
     also (
       plan.cells,
-      unit_there plan c.as_slice.result.now c.args.i u c.as_slice.ensures c.index-as_slice-i.is
+      unit_there c.args.i c.as_slice.ensures c.index-as_slice-i.is
           c.requires.unit c.requires.valid,
-    )
-    also unit_poisson plan c.requires.valid made.shape made.shares c.args.i u c.requires.unit is
+    ) also unit_poisson c.requires.valid made.shares c.args.i c.requires.unit is
     also (omega (arith, c.requires.inside, there.cells))
 
 pub returns-clause-joint : goal.returns-clause-joint
@@ -26,9 +25,8 @@ returns-clause-joint g c =
     let u = c.index-as_slice-i.result in
     let is = read_unit c.as_slice.result.now plan.units c.args.i u c.as_slice.ensures c.index-as_slice-i.is in
     let made = c.requires.grids in
-    let there = raised_there plan made.shape c.args.grids.now.raised c.in-Some.raised c.in-Some.is made.raised in
-    pooled_is_joint plan c.requires.valid made.shape made.shares c.in-Some.raised there c.args.i c.args.at u
-    c.common_joint.result c.requires.unit is
+    let there = raised_there plan made.shape c.in-Some.is made.raised in
+    pooled_is_joint c.requires.valid made.shares there c.requires.unit is
     (c.common_joint.ensures.holds plan made.shape c.args.i there.unit (record { shape = made.shares; valid = c.requires.valid })
     c.requires.unit (sym is) there.raised there.encloses)
     c.common_joint.ensures.width
@@ -39,7 +37,7 @@ returns-clause-below g c h most =
     let u = c.index-as_slice-i.result in
     let is = read_unit c.as_slice.result.now plan.units c.args.i u c.as_slice.ensures c.index-as_slice-i.is in
     let made = c.requires.grids in
-    let there = raised_there plan made.shape c.args.grids.now.raised c.in-Some.raised c.in-Some.is made.raised in
+    let there = raised_there plan made.shape c.in-Some.is made.raised in
     c.common_joint.ensures.below plan made.shape c.args.i h there.unit
     (record { shape = made.shares; valid = c.requires.valid }) c.requires.unit (sym is) there.raised there.encloses most
 

@@ -10,19 +10,18 @@ claims_mean-requires g c =
     let s = some_shape plan.common c.requires.shares in
     (omega (arith, scale.least, scale.most)) also (omega (arith, scale.least, scale.most))
     also (omega (arith, scale.least, scale.most))
-    also (plan.cells, pooled_unit_valid plan c.requires.valid s.0 s.1 c.args.pooled.now (c.requires.pooled s.0 s.1))
+    also (plan.cells, pooled_unit_valid c.requires.valid s.1 _ (c.requires.pooled s.0 s.1))
 
 pub returns-clause-mean : goal.returns-clause-mean
 returns-clause-mean g c =
     let plan = c.args.plan.now in
     let s = some_shape plan.common c.requires.shares in
-    pooled_is_mean plan c.requires.valid s.0 s.1 c.args.pooled.now (c.requires.pooled s.0 s.1) c.claims_mean.result
-    c.claims_mean.ensures.holds c.claims_mean.ensures.width
+    pooled_is_mean c.requires.valid s.1 _ (c.requires.pooled s.0 s.1) c.claims_mean.ensures.holds c.claims_mean.ensures.width
 
 pub returns-clause-small : goal.returns-clause-small
 returns-clause-small g c =
     let plan = c.args.plan.now in
     let s = some_shape plan.common c.requires.shares in
     let within = c.claims_mean.ensures.small plan.cells
-    (pooled_unit_valid plan c.requires.valid s.0 s.1 c.args.pooled.now (c.requires.pooled s.0 s.1)) in
+    (pooled_unit_valid c.requires.valid s.1 _ (c.requires.pooled s.0 s.1)) in
     omega (arith, mean_fits g.row.B plan.cells c.claims_mean.result.hi c.requires.scale (omega (arith, within)))

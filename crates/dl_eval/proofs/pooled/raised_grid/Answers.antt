@@ -17,15 +17,13 @@ unit_grid_with-requires g c =
     (omega arith) also grid_size g.row.B plan.cells c.requires.scale cells.0 cells.1
     also (
       plan.cells,
-      raised_unit_valid plan c.requires.valid s.0 s.1 c.in_ok-unit.unit (c.in_ok-unit.ensures.raised
+      raised_unit_valid c.requires.valid s.1 _ (c.in_ok-unit.ensures.raised
           plan s.0 (record { shape = s.1; valid = c.requires.valid }) (c.requires.pooled s.0 s.1)),
     )
 
 pub returns : goal.returns
 returns g c =
-    let plan = c.args.plan.now in
     if_ok_three c.unit_grid_with.result _ _ _ _ (λ g cells encloses narrow r shape.
-    raised_is_grid plan c.requires.valid r shape c.in_ok-unit.unit
-    (c.in_ok-unit.ensures.raised plan r (record { shape = shape; valid = c.requires.valid }) (c.requires.pooled r shape))
-    g cells encloses narrow)
+    raised_is_grid c.requires.valid shape _ (c.in_ok-unit.ensures.raised c.args.plan.now r
+    (record { shape = shape; valid = c.requires.valid }) (c.requires.pooled r shape)) cells encloses narrow)
     c.unit_grid_with.ensures.cells c.unit_grid_with.ensures.encloses c.unit_grid_with.ensures.spread

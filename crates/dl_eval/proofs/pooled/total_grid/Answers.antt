@@ -9,12 +9,12 @@ unit_grid_with-requires g c =
     let s = some_shape plan.common c.requires.shares in
     let cells = few_cells plan c.requires.valid in
     (omega arith) also grid_size g.row.B plan.cells c.requires.scale cells.0 cells.1
-    also (plan.cells, pooled_unit_valid plan c.requires.valid s.0 s.1 c.args.pooled.now (c.requires.pooled s.0 s.1))
+    also (plan.cells, pooled_unit_valid c.requires.valid s.1 _ (c.requires.pooled s.0 s.1))
 
 pub returns : goal.returns
 returns g c =
     let plan = c.args.plan.now in
     let s = some_shape plan.common c.requires.shares in
     if_ok_three c.unit_grid_with.result _ _ _ _ (λ g cells encloses narrow.
-    pooled_total plan c.requires.valid s.0 s.1 c.args.pooled.now (c.requires.pooled s.0 s.1) g cells encloses narrow)
+    pooled_total c.requires.valid s.1 _ (c.requires.pooled s.0 s.1) cells encloses narrow)
     c.unit_grid_with.ensures.cells c.unit_grid_with.ensures.encloses c.unit_grid_with.ensures.spread

@@ -45,8 +45,7 @@ price_row-requires g c =
 pub returns-in-Pmf-clause-answer : goal.returns-in-Pmf-clause-answer
 returns-in-Pmf-clause-answer g c =
     IfOk-weaker c.ends_row.result _ _ (λ row printed.
-    rw c.in-Pmf.is (point_answer c.args.plan.now c.total-total.result.now c.args.digits c.in-Pmf.x c.at.result.lo
-    c.at.result.hi row c.at.ensures.low c.at.ensures.high
+    rw c.in-Pmf.is (point_answer c.in-Pmf.x c.at.ensures.low c.at.ensures.high
     (omega (arith, rw c.in-Pmf.is at c.requires.inside, (c.total-total.ensures c.args.plan.now c.requires.grids).cells))
     (c.total-total.ensures c.args.plan.now c.requires.grids) printed))
     c.ends_row.ensures.ends
@@ -54,67 +53,54 @@ returns-in-Pmf-clause-answer g c =
 pub returns-in-Cdf-clause-answer : goal.returns-in-Cdf-clause-answer
 returns-in-Cdf-clause-answer g c =
     IfOk-weaker c.ends_row-in-Cdf.result _ _ (λ row printed.
-    rw c.in-Cdf.is (cdf_answer c.args.plan.now c.total-total.result.now c.args.digits c.in-Cdf.x c.cdf.result.lo
-    c.cdf.result.hi row c.cdf.ensures.low c.cdf.ensures.high
+    rw c.in-Cdf.is (cdf_answer c.in-Cdf.x c.cdf.ensures.low c.cdf.ensures.high
     (omega (arith, rw c.in-Cdf.is at c.requires.inside, (c.total-total.ensures c.args.plan.now c.requires.grids).cells))
     c.requires.valid (c.total-total.ensures c.args.plan.now c.requires.grids) printed))
     c.ends_row-in-Cdf.ensures.ends
 
 pub returns-in-LayerMean-clause-answer : goal.returns-in-LayerMean-clause-answer
 returns-in-LayerMean-clause-answer g c =
-    IfOk-weaker c.ends_row-in-LayerMean.result _ _ (λ row printed.
-    rw c.in-LayerMean.is (layer_answer c.args.plan.now c.total-total.result.now c.args.mean c.args.digits
-    c.in-LayerMean.attach c.layer_mean-layer.result.lo c.layer_mean-layer.result.hi
-    c.in-LayerMean.limit row c.layer_mean-layer.ensures.holds c.layer_mean-layer.ensures.width c.requires.valid
+    IfOk-weaker c.ends_row-in-LayerMean.result _ _ (λ row printed. rw c.in-LayerMean.is (layer_answer
+    c.in-LayerMean.attach
+    c.in-LayerMean.limit c.layer_mean-layer.ensures.holds c.layer_mean-layer.ensures.width c.requires.valid
     (c.total-total.ensures c.args.plan.now c.requires.grids) c.requires.mean printed))
     c.ends_row-in-LayerMean.ensures.ends
 
 pub returns-in-Mean-clause-answer : goal.returns-in-Mean-clause-answer
 returns-in-Mean-clause-answer g c =
-    IfOk-weaker c.ends_row-in-Mean.result _ _ (λ row printed.
-    rw c.in-Mean.is (mean_answer c.args.plan.now c.args.digits c.args.mean row c.requires.mean printed))
+    IfOk-weaker c.ends_row-in-Mean.result _ _ (λ row printed. rw c.in-Mean.is (mean_answer c.requires.mean printed))
     c.ends_row-in-Mean.ensures.ends
 
 pub returns-in-Tail-clause-answer : goal.returns-in-Tail-clause-answer
 returns-in-Tail-clause-answer g c =
-    IfOk-weaker c.tail_row.result _ _ (λ row told.
-    rw c.in-Tail.is (tail_asked (2 ^ g.row.B) c.args.plan.now c.in-Tail.p c.args.digits row
+    IfOk-weaker c.tail_row.result _ _ (λ row told. rw c.in-Tail.is (tail_asked (2 ^ g.row.B)
     (told c.args.plan.now c.requires.valid (c.total-total.ensures c.args.plan.now c.requires.grids) c.requires.mean)))
     c.tail_row.ensures.tail
 
 pub returns-in-Price-clause-answer : goal.returns-in-Price-clause-answer
 returns-in-Price-clause-answer g c =
-    IfOk-weaker c.price_row.result _ _ (λ row told.
-    rw c.in-Price.is (price_asked (2 ^ g.row.B) c.args.plan.now c.as_slice.result.now c.in-Price.terms
-    c.args.digits row c.as_slice.ensures
+    IfOk-weaker c.price_row.result _ _ (λ row told. rw c.in-Price.is (price_asked (2 ^ g.row.B) c.as_slice.ensures
     (told c.args.plan.now c.requires.valid (c.total-total.ensures c.args.plan.now c.requires.grids) c.requires.mean)))
     c.price_row.ensures.price
 
 pub returns-in-Joint-clause-answer : goal.returns-in-Joint-clause-answer
 returns-in-Joint-clause-answer g c =
-    let named = place_named c.args.plan.now.units c.args.asked.now.ask c.in-Joint.unit c.args.unit c.unwrap.result
+    let named = place_named c.args.plan.now.units c.args.asked.now.ask
     (ap (λ ask. (facts_of ask).unit) c.in-Joint.is) c.requires.unit c.unwrap.ensures in
     IfOk-weaker c.ends_row-in-Joint.result _ _ (λ row printed.
-    rw c.in-Joint.is (joint_asked c.args.plan.now c.in-Joint.unit c.in-Joint.at c.unwrap.result c.args.digits
-    c.joint_of.result row named c.joint_of.ensures.joint printed))
+    rw c.in-Joint.is (joint_asked c.in-Joint.unit named c.joint_of.ensures.joint printed))
     c.ends_row-in-Joint.ensures.ends
 
 pub returns-in-Kappa-clause-answer : goal.returns-in-Kappa-clause-answer
 returns-in-Kappa-clause-answer g c =
-    let named = place_named c.args.plan.now.units c.args.asked.now.ask c.in-Kappa.unit c.args.unit
-    c.unwrap-in-Kappa.result (ap (λ ask. (facts_of ask).unit) c.in-Kappa.is) c.requires.unit
-    c.unwrap-in-Kappa.ensures in
+    let named = place_named c.args.plan.now.units c.args.asked.now.ask
+    (ap (λ ask. (facts_of ask).unit) c.in-Kappa.is) c.requires.unit c.unwrap-in-Kappa.ensures in
     IfOk-weaker c.share_row.result _ _ (λ row told.
-    rw c.in-Kappa.is (share_asked (2 ^ g.row.B) c.args.plan.now c.in-Kappa.unit c.in-Kappa.at c.unwrap-in-Kappa.result
-    c.args.digits row named told))
-    c.share_row.ensures.share
+    rw c.in-Kappa.is (share_asked (2 ^ g.row.B) c.in-Kappa.unit c.in-Kappa.at named told)) c.share_row.ensures.share
 
 pub returns-in-Independent-clause-answer : goal.returns-in-Independent-clause-answer
 returns-in-Independent-clause-answer g c =
-    let named = place_named c.args.plan.now.units c.args.asked.now.ask c.in-Cotail.unit c.args.unit
-    c.unwrap-in-Independent.result (ap (λ ask. (facts_of ask).unit) c.in-Cotail.is) c.requires.unit
-    c.unwrap-in-Independent.ensures in
+    let named = place_named c.args.plan.now.units c.args.asked.now.ask
+    (ap (λ ask. (facts_of ask).unit) c.in-Cotail.is) c.requires.unit c.unwrap-in-Independent.ensures in
     IfOk-weaker c.tail_share_row.result _ _ (λ row told.
-    rw c.in-Cotail.is (tail_share_asked (2 ^ g.row.B) c.args.plan.now c.in-Cotail.unit c.unwrap-in-Independent.result
-    c.args.digits c.in-Cotail.p row named told))
-    c.tail_share_row.ensures.share
+    rw c.in-Cotail.is (tail_share_asked (2 ^ g.row.B) c.in-Cotail.unit named told)) c.tail_share_row.ensures.share

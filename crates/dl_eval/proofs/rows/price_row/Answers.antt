@@ -12,8 +12,7 @@ price-requires g c =
 pub returns-in-Some-clause-price : goal.returns-in-Some-clause-price
 returns-in-Some-clause-price g c =
     IfOk-weaker c.ends_row.result _ _ (λ row printed plan valid t m. inl (
-    price_answer plan c.args.total.now c.args.mean c.args.terms.now c.args.digits c.in-Some.price.lo c.in-Some.price.hi
-    row valid t m (λ past. let some = c.in-Some.ensures.none.1 past in cc) c.in-Some.ensures.holds
+    price_answer c.args.terms.now valid t m (λ past. let some = c.in-Some.ensures.none.1 past in cc) c.in-Some.ensures.holds
     c.in-Some.ensures.least c.in-Some.ensures.width printed))
     c.ends_row.ensures.ends
 
@@ -21,6 +20,6 @@ pub returns-in-None-clause-price : goal.returns-in-None-clause-price
 returns-in-None-clause-price g c =
     IfOk-weaker c.beyond_row.result _ _ (λ row past plan valid t m. inr (record {
       past = past;
-      below = price_past plan c.args.total.now c.args.terms.now valid t (c.in-None.ensures.none.0 refl);
+      below = price_past c.args.terms.now valid t (c.in-None.ensures.none.0 refl);
     }))
     c.beyond_row.ensures.ends

@@ -5,8 +5,7 @@ use Rattle.dl_eval.proofs.rows.quantile_row.Goals as goal
 pub returns-clause-bracket : goal.returns-clause-bracket
 returns-clause-bracket g c =
     let bracket = c.quantile-bracket in
-    if_ok_two c.row_with.result _ _ _ (λ row low high plan valid t.
-    is_bracket plan c.args.total.now c.args.p bracket.result.lo bracket.result.hi row low
+    if_ok_two c.row_with.result _ _ _ (λ row low high plan valid t. is_bracket bracket.result.hi low
     (high ∙ c.bracket_end-end.ensures) bracket.ensures.lo bracket.ensures.hi
     bracket.ensures.holds bracket.ensures.tight c.cells.ensures.grid valid t)
     c.row_with.ensures.low c.row_with.ensures.high

@@ -1,4 +1,4 @@
-use Rattle.dl_eval.proofs.Common.{◌^◌, subst, if_ok_two, IsAnswerTo}
+use Rattle.dl_eval.proofs.Common.{if_ok_two}
 use Rattle.dl_eval.proofs.GoodRows.{mean_answer}
 use Rattle.dl_eval.proofs.rows.row.Goals as goal
 
@@ -6,8 +6,7 @@ pub returns-in-Some : goal.returns-in-Some
 returns-in-Some g c =
     if_ok_two c.grid_row.result _ _ _ (λ row word told. record {
       ask = word;
-      answer = subst (λ b. IsAnswerTo (2 ^ b) c.args.plan.now c.args.digits c.args.asked.now.ask row) c.requires.scale
-          told;
+      answer = rw (← c.requires.scale) told;
     })
     c.grid_row.ensures.ask c.grid_row.ensures.answer
 
@@ -15,8 +14,6 @@ pub returns-in-None : goal.returns-in-None
 returns-in-None g c =
     if_ok_two c.ends_row.result _ _ _ (λ row word printed. record {
       ask = word;
-      answer = subst (λ b. IsAnswerTo (2 ^ b) c.args.plan.now c.args.digits c.args.asked.now.ask row) c.requires.scale
-          (rw (c.requires.none c.in-None.is)
-          (mean_answer c.args.plan.now c.args.digits c.args.mean row c.requires.mean printed));
+      answer = rw (← c.requires.scale, c.requires.none c.in-None.is) (mean_answer c.requires.mean printed);
     })
     c.ends_row.ensures.ask c.ends_row.ensures.ends

@@ -6,8 +6,7 @@ use Rattle.dl_eval.proofs.rows.tail_row.Goals as goal
 pub returns-in-Some-clause-tail : goal.returns-in-Some-clause-tail
 returns-in-Some-clause-tail g c =
     IfOk-weaker c.ends_row.result _ _ (λ row printed plan valid t m. inl (
-    tail_answer plan c.args.total.now c.args.mean c.args.p c.args.digits c.in-Some.tail.lo c.in-Some.tail.hi row
-    (λ none. let some = c.in-Some.ensures.none.1 none in cc) c.in-Some.ensures.holds c.in-Some.ensures.width
+    tail_answer (λ none. let some = c.in-Some.ensures.none.1 none in cc) c.in-Some.ensures.holds c.in-Some.ensures.width
     c.requires.level valid t m printed))
     c.ends_row.ensures.ends
 
@@ -15,6 +14,6 @@ pub returns-in-None-clause-tail : goal.returns-in-None-clause-tail
 returns-in-None-clause-tail g c =
     IfOk-weaker c.beyond_row.result _ _ (λ row past plan valid t m. inr (record {
       past = past;
-      below = ends_below plan c.args.total.now c.args.p (c.in-None.ensures.none.0 refl) valid t;
+      below = ends_below (c.in-None.ensures.none.0 refl) valid t;
     }))
     c.beyond_row.ensures.ends

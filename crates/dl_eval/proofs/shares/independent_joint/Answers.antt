@@ -14,13 +14,12 @@ joint_mean-requires g c =
 
 pub returns-clause-joint : goal.returns-clause-joint
 returns-clause-joint g c =
-    is_joint c.args.plan.now c.unit.result.now c.others.result.now c.args.i c.args.at c.joint_mean.result
-    c.joint_mean.ensures.holds c.joint_mean.ensures.width c.unit.ensures.is c.requires.unit c.requires.valid
+    is_joint c.joint_mean.ensures.holds c.joint_mean.ensures.width c.unit.ensures.is c.requires.unit c.requires.valid
     c.others.ensures.are c.requires.independent
 
 pub returns-clause-below : goal.returns-clause-below
 returns-clause-below g c =
-    is_below c.args.plan.now c.unit.result.now c.others.result.now c.args.i c.args.at c.joint_mean.result.lo
+    is_below c.args.at c.joint_mean.result.lo
     c.joint_mean.ensures.below c.unit.ensures.is c.requires.unit c.requires.valid c.others.ensures.are
     c.requires.independent
 

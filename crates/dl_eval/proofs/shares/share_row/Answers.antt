@@ -8,8 +8,7 @@ at-requires g c = let total = c.total.ensures c.args.plan.now c.requires.grids i
 pub returns-in-Some-clause-share : goal.returns-in-Some-clause-share
 returns-in-Some-clause-share g c =
     IfOk-weaker c.ends_row.result _ _ (λ row printed. inl (
-    share_answer c.args.plan.now c.total.result.now c.joint_of-joint.result c.args.i c.args.at c.at.result.lo
-    c.at.result.hi c.args.digits c.in-Some.share.lo c.in-Some.share.hi row
+    share_answer
     c.at.ensures.low c.at.ensures.high c.in-Some.ensures.holds c.in-Some.ensures.width c.joint_of-joint.ensures.below
     c.requires.inside (c.total.ensures c.args.plan.now c.requires.grids)
     c.joint_of-joint.ensures.joint printed))
@@ -20,7 +19,7 @@ returns-in-None-clause-share g c =
     if_ok_two c.row_with.result _ _ _ (λ row low high. inr (record {
       is_low = low;
       is_high = high;
-      rare = rare_answer c.args.plan.now c.total.result.now c.args.at c.at.result.lo c.at.result.hi
+      rare = rare_answer c.args.at
           c.at.ensures.low c.at.ensures.high (c.in-None.ensures.none.0 refl)
           c.requires.inside (c.total.ensures c.args.plan.now c.requires.grids);
     }))

@@ -6,22 +6,21 @@ use Rattle.dl_eval.proofs.shares.tail_share_of.Goals as goal
 
 pub returns-clause-reached : goal.returns-clause-reached
 returns-clause-reached g c =
-    share_reached c.args.plan.now c.args.grids.now.sums.total c.args.p c.cotail.result
+    share_reached c.args.p c.cotail.result
     (λ past. c.cotail.ensures.none.1 (inl past)) c.requires.valid c.requires.grids.total
 
 pub returns-clause-absent : goal.returns-clause-absent
 returns-clause-absent g c x none found =
-    share_absent c.args.plan.now c.args.grids.now.sums.total c.args.p c.cotail.result x c.cotail.ensures.absent none
+    share_absent c.args.p c.cotail.result x c.cotail.ensures.absent none
     found c.requires.valid c.requires.grids.total c.requires.independent
 
 pub returns-clause-share : goal.returns-clause-share
 returns-clause-share g c =
     let made = c.requires.grids in
     let mean = c.index-as_slice-i in
-    let read = read_as c.as_slice.result.now c.args.grids.now.means.items c.args.i mean.result mean.result
+    let read = read_as c.args.i mean.result
     c.as_slice.ensures.value mean.is (omega (arith, c.requires.unit, made.means.as_many)) in
-    tail_share c.args.plan.now c.args.grids.now.means.items c.unit.result.now c.others.result.now
-    c.args.grids.now.sums.total mean.result c.args.i c.args.p c.cotail.result c.cotail.ensures.holds
+    tail_share c.args.p c.cotail.result c.cotail.ensures.holds
     c.cotail.ensures.width c.law_unit_mean.ensures c.unit.ensures.is read c.requires.unit c.requires.valid made.means
     c.others.ensures.are made.total c.requires.independent
 
@@ -31,7 +30,7 @@ cotail-requires g c =
     let least = scale_least g.row.B scale in
     let made = c.requires.grids in
     let mean = c.index-as_slice-i in
-    let read = read_as c.as_slice.result.now c.args.grids.now.means.items c.args.i mean.result mean.result
+    let read = read_as c.args.i mean.result
     c.as_slice.ensures.value mean.is (omega (arith, c.requires.unit, made.means.as_many)) in
     let small = made.small c.args.i mean.result (omega (arith, c.requires.unit, made.means.as_many)) in
     (omega (arith, scale.least, scale.most)) also (omega (arith, scale.least, scale.most))

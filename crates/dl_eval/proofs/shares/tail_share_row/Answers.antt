@@ -6,16 +6,14 @@ use Rattle.dl_eval.proofs.shares.tail_share_row.Goals as goal
 pub returns-in-Some-clause-share : goal.returns-in-Some-clause-share
 returns-in-Some-clause-share g c =
     IfOk-weaker c.ends_row.result _ _ (λ row printed. inl (
-    share_told c.args.plan.now c.args.i c.args.digits c.args.p c.in-Some.share row c.in-Some.ensures.share
-    c.in-Some.ensures.reached printed))
-    c.ends_row.ensures.ends
+    share_told c.in-Some.ensures.share c.in-Some.ensures.reached printed)) c.ends_row.ensures.ends
 
 pub returns-in-None-clause-share : goal.returns-in-None-clause-share
 returns-in-None-clause-share g c =
     let total = c.args.grids.now.sums.total in
     IfOk-weaker c.beyond_row.result _ _ (λ row past. inr (inl (record {
       past = past;
-      below = ends_below c.args.plan.now total c.args.p
+      below = ends_below
           (subst (λ (hi : Option ℕ). IsFirstFound (low_cdf (2 ^ g.row.B) (low_at total)) c.args.p (length total) hi)
           c.in-None.is c.quantile.ensures.hi)
           c.requires.valid c.requires.grids.total;

@@ -17,27 +17,23 @@ zero_grid-requires g c =
     let scale = plan_scale g.row.B c.args.cells c.requires.scale in
     let zero = new_zero c.args.cells u p c.requires.valid c.in-Some.is in
     (omega arith) also (omega arith) also zero.below also zero.den
-    also none_high c.args.cells u p none.none scale c.requires.valid c.in-Some.is none.ensures.holds none.ensures.width
-    also (
+    also none_high none.none scale c.requires.valid c.in-Some.is none.ensures.holds none.ensures.width also (
       aggregate_of u,
-      before c.args.cells u p none.none scale c.requires.valid c.in-Some.is none.ensures.holds
-          none.ensures.width c.args.grid c.requires.grid,
+      before none.none scale c.requires.valid c.in-Some.is none.ensures.holds none.ensures.width c.requires.grid,
     )
 
 pub returns-in_ok-changed-in-Some-clause-grid : goal.returns-in_ok-changed-in-Some-clause-grid
 returns-in_ok-changed-in-Some-clause-grid g c =
     let none = c.in_ok-none-in-Some in
     let made = c.in_ok-changed-in-Some in
-    changed_grid c.args.cells c.args.unit.now c.in-Some.p none.none
-    (plan_scale g.row.B c.args.cells c.requires.scale) c.requires.valid c.in-Some.is none.ensures.holds
-    none.ensures.width c.args.grid made.changed c.requires.grid made.ensures.cells made.ensures.encloses
-    made.ensures.spread
+    changed_grid none.none (plan_scale g.row.B c.args.cells c.requires.scale) c.requires.valid c.in-Some.is
+    none.ensures.holds none.ensures.width c.requires.grid made.ensures.cells made.ensures.encloses made.ensures.spread
 
 pub returns-in-None-clause-grid : goal.returns-in-None-clause-grid
-returns-in-None-clause-grid g c = same_grid c.args.cells c.args.unit.now c.args.grid c.in-None.is c.requires.grid
+returns-in-None-clause-grid g c = same_grid c.in-None.is c.requires.grid
 
 pub returns-in-None-clause-mean : goal.returns-in-None-clause-mean
-returns-in-None-clause-mean g c = same_mean c.args.cells c.args.unit.now c.args.mean c.in-None.is c.requires.mean
+returns-in-None-clause-mean g c = same_mean c.in-None.is c.requires.mean
 
 pub returns-in-None-clause-small : goal.returns-in-None-clause-small
 returns-in-None-clause-small g c = most_small c.args.unit.now.zero c.args.mean.hi c.requires.small

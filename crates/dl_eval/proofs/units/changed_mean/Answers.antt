@@ -10,16 +10,15 @@ zero_mean-requires g c =
     let scale = plan_scale g.row.B c.args.cells c.requires.scale in
     let zero = new_zero c.args.cells u p c.requires.valid c.requires.zero in
     (omega arith) also zero.below also zero.den
-    also none_high c.args.cells u p c.args.none scale c.requires.valid c.requires.zero c.requires.none c.requires.width
-    also (omega (arith, changed_small u p c.args.mean.hi c.requires.zero c.requires.small))
+    also none_high c.args.none scale c.requires.valid c.requires.zero c.requires.none c.requires.width
+    also (omega (arith, changed_small u c.args.mean.hi c.requires.zero c.requires.small))
 
 pub returns-clause-mean : goal.returns-clause-mean
 returns-clause-mean g c =
-    changed_mean c.args.cells c.args.unit.now c.args.p c.args.none (plan_scale g.row.B c.args.cells c.requires.scale)
-    c.requires.valid c.requires.zero c.requires.none c.requires.width c.args.mean c.zero_mean.result c.requires.mean
-    c.zero_mean.ensures.holds c.zero_mean.ensures.width
+    changed_mean c.args.none (plan_scale g.row.B c.args.cells c.requires.scale) c.requires.valid c.requires.zero
+    c.requires.none c.requires.width c.requires.mean c.zero_mean.ensures.holds c.zero_mean.ensures.width
 
 pub returns-clause-small : goal.returns-clause-small
 returns-clause-small g c =
-    let bound = changed_small c.args.unit.now c.args.p c.args.mean.hi c.requires.zero c.requires.small in
+    let bound = changed_small c.args.unit.now c.args.mean.hi c.requires.zero c.requires.small in
     omega arith

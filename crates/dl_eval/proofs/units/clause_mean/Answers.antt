@@ -12,21 +12,20 @@ claims_mean-requires g c =
 
 pub returns-in_ok-claims-in-Some-clause-mean : goal.returns-in_ok-claims-in-Some-clause-mean
 returns-in_ok-claims-in-Some-clause-mean g c =
-    clause_unit_mean c.args.cells c.args.unit.now c.in_ok-claims-in-Some.claims c.cede_mean.result c.requires.valid
-    c.cede_mean.ensures.holds c.cede_mean.ensures.width
+    clause_unit_mean c.in_ok-claims-in-Some.claims c.requires.valid c.cede_mean.ensures.holds c.cede_mean.ensures.width
     c.in_ok-claims-in-Some.ensures.horizon c.in_ok-claims-in-Some.ensures.spread
 
 pub returns-in_ok-claims-in-Some-clause-small : goal.returns-in_ok-claims-in-Some-clause-small
 returns-in_ok-claims-in-Some-clause-small g c =
-    small_before c.args.cells c.args.unit.now c.cede_mean.result c.requires.scale c.requires.valid
+    small_before c.cede_mean.result c.requires.scale c.requires.valid
     (c.cede_mean.ensures.small c.args.cells c.requires.valid) c.cede_mean.ensures.few
 
 pub returns-in-None-clause-mean : goal.returns-in-None-clause-mean
-returns-in-None-clause-mean g c = plain_mean c.args.cells c.args.unit.now c.claims_mean.result c.in-None.is
+returns-in-None-clause-mean g c = plain_mean c.in-None.is
     c.claims_mean.ensures.holds c.claims_mean.ensures.width
 
 pub returns-in-None-clause-small : goal.returns-in-None-clause-small
 returns-in-None-clause-small g c =
     let claims = c.claims_mean.ensures in
-    small_before c.args.cells c.args.unit.now c.claims_mean.result c.requires.scale c.requires.valid
+    small_before c.claims_mean.result c.requires.scale c.requires.valid
     (omega (arith, claims.small c.args.cells c.requires.valid)) (λ n within. omega (arith, claims.few n within))

@@ -10,7 +10,7 @@ none_of-requires g c =
     also (c.in-Some.p, new_zero c.args.cells c.args.unit.now c.in-Some.p c.requires.valid c.in-Some.is)
 
 pub returns-in-None-clause-mean : goal.returns-in-None-clause-mean
-returns-in-None-clause-mean g c = same_mean c.args.cells c.args.unit.now c.in_ok-mean.mean c.in-None.is
+returns-in-None-clause-mean g c = same_mean c.in-None.is
     c.in_ok-mean.ensures.mean
 
 pub returns-in-None-clause-small : goal.returns-in-None-clause-small

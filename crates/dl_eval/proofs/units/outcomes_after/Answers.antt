@@ -1,4 +1,4 @@
-use Rattle.dl_eval.proofs.Common.{take, get_or, arith, sym, ap, subst, ◌∙◌, IsUnitMean}
+use Rattle.dl_eval.proofs.Common.{take, arith, sym, ap, subst, ◌∙◌, IsUnitMean}
 use Rattle.dl_eval.proofs.AlikeLaws.{alike_grid, alike_mean}
 use Rattle.dl_eval.proofs.units.outcomes_after.Goals as goal
 
@@ -7,8 +7,7 @@ returns-clause-grid g c =
     let unit = c.args.unit.now in
     let grid = c.index-grids-j in
     let j = c.in-Some.j in
-    alike_grid c.args.cells (get_or c.args.units.now j unit) unit
-    (get_or c.args.grids.now j grid.result) c.in_ok-grid.grid (c.in-Some.ensures.alike unit)
+    alike_grid (c.in-Some.ensures.alike unit)
     (c.requires.grids j unit grid.result (omega (arith, c.in-Some.ensures.inside)))
     (c.in_ok-grid.ensures ∙ ap (take c.args.cells) grid.is)
 
@@ -17,7 +16,5 @@ returns-clause-mean g c =
     let unit = c.args.unit.now in
     let mean = c.index-means-j in
     let j = c.in-Some.j in
-    subst (IsUnitMean c.args.cells unit) (sym mean.is)
-    (alike_mean c.args.cells (get_or c.args.units.now j unit) unit (get_or c.args.means.now j mean.result)
-    (c.in-Some.ensures.alike unit)
+    subst (IsUnitMean c.args.cells unit) (sym mean.is) (alike_mean (c.in-Some.ensures.alike unit)
     (c.requires.means j unit mean.result (omega (arith, c.in-Some.ensures.inside))))

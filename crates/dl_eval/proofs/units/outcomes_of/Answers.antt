@@ -9,7 +9,7 @@ after_zero-requires g c =
     let mean = c.cede_mean-mean in
     (omega arith) also (omega arith) also c.requires.scale also c.requires.valid also c.requires.some
     also c.requires.few also c.in_ok-grid.ensures
-    also clause_unit_mean c.args.cells u c.in_ok-claims.claims mean.result c.requires.valid mean.ensures.holds
+    also clause_unit_mean c.in_ok-claims.claims c.requires.valid mean.ensures.holds
     mean.ensures.width c.in_ok-claims.ensures.horizon c.in_ok-claims.ensures.spread
-    also small_before c.args.cells u mean.result c.requires.scale c.requires.valid (mean.ensures.small c.args.cells
+    also small_before mean.result c.requires.scale c.requires.valid (mean.ensures.small c.args.cells
     c.requires.valid) mean.ensures.few

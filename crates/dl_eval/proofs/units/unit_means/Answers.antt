@@ -8,23 +8,19 @@ mean_of-requires g c =
     let plan = c.args.plan.now in
     let units = c.as_slice-units in
     let some = few_cells plan c.requires.valid in
-    (omega arith) also c.requires.scale
-    also unit_there plan units.result.now c.loop-unit.unit-index c.unit-item.result units.ensures c.unit-item.is
+    (omega arith) also c.requires.scale also unit_there c.loop-unit.unit-index units.ensures c.unit-item.is
     (omega (arith, c.loop-unit-test.true, ap length units.ensures)) c.requires.valid
     also some.0 also some.1
 
 pub loop-unit-preserved : goal.loop-unit-preserved
-loop-unit-preserved g c = record {
-  many_means = pushed_length c.loop-unit.means.items c.push.new.self.items c.loop-unit.unit-index c.in_ok-mean.mean
-      c.loop-unit.invariant.many_means c.in_ok-push.ensures.items;
-  means = each_next (IsUnitMean c.args.plan.now.cells) c.as_slice-units.result.now c.loop-unit.means.items
-      c.push.new.self.items c.loop-unit.unit-index c.unit-item.result c.in_ok-mean.mean
-      c.loop-unit.invariant.many_means c.loop-unit.invariant.means c.in_ok-push.ensures.items c.loop-unit-test.true
-      c.unit-item.is c.in_ok-mean.ensures.mean;
-  small = all_pushed (λ (mean : Iv g.row.B). mean.hi ≤ 2 ^ 93) c.loop-unit.means.items c.push.new.self.items
-      c.in_ok-mean.mean c.loop-unit.invariant.small c.in_ok-push.ensures.items
-      c.in_ok-mean.ensures.small;
-}
+loop-unit-preserved g c =
+    let i = c.loop-unit.invariant in
+    let pushed = c.in_ok-push.ensures.items in record {
+      many_means = pushed_length _ _ _ _ i.many_means pushed;
+      means = each_next (IsUnitMean c.args.plan.now.cells) _ _ _ _ _ _ i.many_means i.means pushed c.loop-unit-test.true
+          c.unit-item.is c.in_ok-mean.ensures.mean;
+      small = all_pushed (λ (mean : Iv g.row.B). mean.hi ≤ 2 ^ 93) _ _ _ i.small pushed c.in_ok-mean.ensures.small;
+    }
 
 pub returns-clause-means : goal.returns-clause-means
 returns-clause-means g c =

@@ -1,4 +1,4 @@
-use Rattle.dl_eval.proofs.Common.{◌≤◌, ◌^◌, List, [], length, get_or, arith, sym, ap, subst, All, few_cells, Iv, IsUnitGrid, IsUnitMean, AreUnitGrids, AreUnitMeans, ◌also◌}
+use Rattle.dl_eval.proofs.Common.{◌≤◌, ◌^◌, List, [], length, arith, ap, subst, few_cells, Iv, IsUnitGrid, IsUnitMean, AreUnitGrids, AreUnitMeans, ◌also◌}
 use Rattle.dl_eval.proofs.Places.{unit_there}
 use Rattle.dl_eval.proofs.Lists.{each_next, pushed_length, all_pushed}
 use Rattle.dl_eval.proofs.units.unit_outcomes.Goals as goal
@@ -13,34 +13,29 @@ outcomes_after-requires g c =
     let many = ap (λ (t : List (List (Iv g.row.B))). length t) grids in
     let as_many = ap (λ (t : List (Iv g.row.B)). length t) means in
     (omega arith) also (omega arith) also c.requires.scale
-    also unit_there plan units.result.now c.loop-unit.unit-index c.unit-item.result units.ensures c.unit-item.is
+    also unit_there c.loop-unit.unit-index units.ensures c.unit-item.is
     (omega (arith, c.loop-unit-test.true, ap (λ t. length t) units.ensures)) c.requires.valid
     also some.0 also some.1 also (omega (arith, many, c.loop-unit.invariant.many_grids, c.loop-unit-test.true))
     also (omega (arith, many, as_many, c.loop-unit.invariant.many_grids, c.loop-unit.invariant.many_means))
-    also (λ i u grid inside. subst (λ (t : List (List (Iv g.row.B))). IsUnitGrid plan.cells (get_or units.result.now
-    i u) (get_or t i grid)) (sym grids) (c.loop-unit.invariant.grids i u grid (omega arith)))
-    also (λ i u m inside. subst (λ (t : List (Iv g.row.B)). IsUnitMean plan.cells (get_or units.result.now i u)
-    (get_or t i m)) (sym means) (c.loop-unit.invariant.means i u m (omega arith)))
-    also subst (All (λ (mean : Iv g.row.B). mean.hi ≤ 2 ^ 93)) (sym means) c.loop-unit.invariant.small
+    also (λ i u grid inside. rw grids (c.loop-unit.invariant.grids i u grid (omega arith)))
+    also (λ i u m inside. rw means (c.loop-unit.invariant.means i u m (omega arith)))
+    also rw means c.loop-unit.invariant.small
 
 pub loop-unit-preserved : goal.loop-unit-preserved
-loop-unit-preserved g c = record {
-  many_grids = pushed_length c.loop-unit.grids.items c.push.new.self.items c.loop-unit.unit-index c.in_ok-grid.grid
-      c.loop-unit.invariant.many_grids c.in_ok-push.ensures.items;
-  grids = each_next (IsUnitGrid c.args.plan.now.cells) c.as_slice-units.result.now c.loop-unit.grids.items
-      c.push.new.self.items c.loop-unit.unit-index c.unit-item.result c.in_ok-grid.grid
-      c.loop-unit.invariant.many_grids c.loop-unit.invariant.grids c.in_ok-push.ensures.items c.loop-unit-test.true
-      c.unit-item.is c.in_ok-grid.ensures.grid;
-  many_means = pushed_length c.loop-unit.means.items c.push-in-loop-unit.new.self.items c.loop-unit.unit-index
-      c.in_ok-grid.mean c.loop-unit.invariant.many_means c.in_ok-push-2.ensures.items;
-  means = each_next (IsUnitMean c.args.plan.now.cells) c.as_slice-units.result.now c.loop-unit.means.items
-      c.push-in-loop-unit.new.self.items c.loop-unit.unit-index c.unit-item.result c.in_ok-grid.mean
-      c.loop-unit.invariant.many_means c.loop-unit.invariant.means c.in_ok-push-2.ensures.items c.loop-unit-test.true
-      c.unit-item.is c.in_ok-grid.ensures.mean;
-  small = all_pushed (λ (mean : Iv g.row.B). mean.hi ≤ 2 ^ 93) c.loop-unit.means.items
-      c.push-in-loop-unit.new.self.items c.in_ok-grid.mean c.loop-unit.invariant.small c.in_ok-push-2.ensures.items
-      c.in_ok-grid.ensures.small;
-}
+loop-unit-preserved g c =
+    let i = c.loop-unit.invariant in
+    let plan = c.args.plan.now in
+    let grids = c.in_ok-push.ensures.items in
+    let means = c.in_ok-push-2.ensures.items in
+    let made = c.in_ok-grid.ensures in record {
+      many_grids = pushed_length _ _ _ _ i.many_grids grids;
+      grids = each_next (IsUnitGrid plan.cells) _ _ _ _ _ _ i.many_grids i.grids grids c.loop-unit-test.true c.unit-item.is
+          made.grid;
+      many_means = pushed_length _ _ _ _ i.many_means means;
+      means = each_next (IsUnitMean plan.cells) _ _ _ _ _ _ i.many_means i.means means c.loop-unit-test.true c.unit-item.is
+          made.mean;
+      small = all_pushed (λ (mean : Iv g.row.B). mean.hi ≤ 2 ^ 93) _ _ _ i.small means made.small;
+    }
 
 pub returns-clause-grids : goal.returns-clause-grids
 returns-clause-grids g c =

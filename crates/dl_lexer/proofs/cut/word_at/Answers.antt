@@ -2,7 +2,6 @@
 use Rattle.dl_lexer.proofs.Common.{arith, sym}
 use Rattle.dl_lexer.specs.declared.token.Kind.TheVariants as kind
 use Rattle.dl_lexer.proofs.TokenKinds.{longest_lettered}
-use Rattle.dl_lexer.proofs.WordLengths.{word_some}
 use Rattle.dl_lexer.proofs.cut.word_at.Goals as goal
 
 pub returns-then-reference-max-clause-spelled : goal.returns-then-reference-max-clause-spelled
@@ -31,13 +30,6 @@ returns-in-Some-clause-longest c =
     c.word_length-word.result (kind.Word c.in-Some.keyword) c.requires c.word_length-word.ensures
     c.note_length-note.ensures c.ref_length-reference.ensures (omega arith, omega arith, omega arith)
     c.word_length-word.ensures.within (λ some. sym c.in-Some.ensures.found)
-
-pub returns-in-None-clause-spelled : goal.returns-in-None-clause-spelled
-returns-in-None-clause-spelled c = record {
-  word = c.word_length-word.ensures.spelled
-      (word_some c.args.bytes.now c.word_length-word.result c.requires c.word_length-word.ensures);
-  no_keyword = c.in-None.ensures.none;
-}
 
 pub returns-in-None-clause-longest : goal.returns-in-None-clause-longest
 returns-in-None-clause-longest c =

@@ -1,11 +1,8 @@
 -- The note, where its text ends with a closing brace.
 use Rattle.dl_lexer.proofs.Common.{◌≢◌, ◌+◌, List, ℕ, sym, subst, Some, slice_get, rules, IsNote, IsLongest}
 use Rattle.std.proofs.Common.{codes}
-use Rattle.dl_lexer.proofs.WordLengths.{note_closed, note_open, note_none, begins_so, begins_otherwise}
+use Rattle.dl_lexer.proofs.WordLengths.{note_closed, note_open, begins_so}
 use Rattle.dl_lexer.proofs.front.note_length.Goals as goal
-
-pub returns-in_default : goal.returns-in_default
-returns-in_default c = note_none c.args.bytes.now (begins_otherwise (codes "note{") c.args.bytes.now c.in_default.ensures.cases)
 
 pub returns-then-is_at : goal.returns-then-is_at
 returns-then-is_at c =

@@ -1,13 +1,8 @@
 -- The percent: the longest decimal, and a percent sign behind it.
 use Rattle.dl_lexer.proofs.Common.{arith, rules}
-use Rattle.dl_lexer.proofs.NumeralLengths.{percent_with_mark, percent_without_mark}
+use Rattle.dl_lexer.proofs.NumeralLengths.{percent_without_mark}
 use Rattle.dl_lexer.proofs.front.percent_length.Goals as goal
 use Rattle.dl_lexer.proofs.front.percent_length.Goals.{else-decimal-gt0-via-then-decimal-gt0+else-is_at, else-decimal-gt0-via-else-decimal-gt0}
-
-pub returns-then-is_at : goal.returns-then-is_at
-returns-then-is_at c =
-    percent_with_mark c.args.bytes.now c.decimal_length-decimal.result c.decimal_length-decimal.ensures (omega arith)
-    (c.is_at.ensures.is.0 c.if-is_at.true)
 
 pub returns-else-decimal-gt0 : goal.returns-else-decimal-gt0
 returns-else-decimal-gt0 c =

@@ -1,7 +1,7 @@
 -- The reference, where a word stands behind its first bytes.
 use Rattle.dl_lexer.proofs.Common.{ℕ, List, ◌+◌, sym, subst, arith, IsRef, IsLongest}
 use Rattle.std.proofs.Common.{codes}
-use Rattle.dl_lexer.proofs.WordLengths.{ref_longest, ref_unnamed, ref_none, begins_so, begins_otherwise}
+use Rattle.dl_lexer.proofs.WordLengths.{ref_longest, ref_none, begins_so, begins_otherwise}
 use Rattle.dl_lexer.proofs.front.ref_length.Goals as goal
 
 pub returns-in_default : goal.returns-in_default
@@ -14,10 +14,3 @@ returns-then-length-gt0 c =
     let n : ℕ = c.word_length-length.result in
     let split = begins_so (codes "sev.") c.args.bytes.now name c.in-Some.ensures.cases.0 c.in-Some.ensures.cases.1 in
     subst (λ ys. IsLongest IsRef ys (n + 4)) (sym split) (ref_longest name n c.word_length-length.ensures (omega arith))
-
-pub returns-else-length-gt0 : goal.returns-else-length-gt0
-returns-else-length-gt0 c =
-    let name : List ℕ = c.in-Some.name.now in
-    let n : ℕ = c.word_length-length.result in
-    let split = begins_so (codes "sev.") c.args.bytes.now name c.in-Some.ensures.cases.0 c.in-Some.ensures.cases.1 in
-    subst (λ ys. IsLongest IsRef ys 0) (sym split) (ref_unnamed name n c.word_length-length.ensures (omega arith))

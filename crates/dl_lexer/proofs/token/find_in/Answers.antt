@@ -1,6 +1,6 @@
 -- One entry of the table is compared, and the rest is searched.
 use Rattle.dl_lexer.proofs.Common.{◌≡◌, ◌≢◌, ◌∙◌, List, ℕ, ap, sym, rules, first_spelled}
-use Rattle.dl_lexer.proofs.Spellings.{first_spelled_here, first_spelled_later, rest_of_table, table_ends}
+use Rattle.dl_lexer.proofs.Spellings.{first_spelled_here, first_spelled_later, rest_of_table}
 use Rattle.dl_lexer.proofs.token.find_in.Goals as goal
 
 pub returns-then-eq : goal.returns-then-eq
@@ -18,7 +18,3 @@ loop-keyword-preserved c =
     let at = ap (λ ks. first_spelled ks bytes)
     (rest_of_table c.args.table.now c.loop-keyword.keyword-index _ c.loop-keyword-test.true) in
     sym (first_spelled_later _ _ bytes (λ e. other (c.spelling.ensures ∙ e))) ∙ sym at ∙ c.loop-keyword.invariant
-
-pub returns : goal.returns
-returns c = sym (table_ends c.args.table.now c.loop-keyword.keyword-index c.args.bytes.now c.loop-keyword-test.false)
-    ∙ c.loop-keyword.invariant

@@ -1,4 +1,4 @@
-use Rattle.dl_panjer.proofs.Common.{ℕ, suc, ◌≡◌, ◌-◌, ◌≤◌, ◌^◌, eqb, length, arith, ap, ◌∙◌, not, div_ceil, low_at, high_at, one_fits, counted, total_pos, low_le_high, mul-le-mul_right, mass_fits, IsGridSize, ◌*◌, size_few}
+use Rattle.dl_panjer.proofs.Common.{ℕ, suc, ◌≡◌, ◌-◌, ◌≤◌, ◌^◌, eqb, length, arith, ap, ◌∙◌, not, div_ceil, low_at, high_at, one_fits, counted, total_pos, low_le_high, mul-le-mul_right, mass_fits, IsGridSize, ◌*◌, size_few, Bool, List, Item, IsWeighted, coefficient, next_sum, ◌<◌}
 use Rattle.std.proofs.Math.Nat.{le_trans}
 use Rattle.dl_panjer.proofs.Reading.{low_at_most, high_at_most}
 use Rattle.dl_panjer.proofs.Steps.{high_counted, next_order, step_fits, cell_low, cell_high}
@@ -10,6 +10,14 @@ all_mass {B} {n} size =
     let within : suc (n - 1) ≤ n = omega (arith, size.some) in
     le_trans (mul-le-mul_right (2 ^ B) within) (mass_fits size)
 
+-- the product of a sum over the total weight and the rate's first part
+fits : (b : Bool) {B n T total sum num : ℕ} {items : List Item} {ends : ℕ → ℕ} → IsWeighted items T → IsGridSize B n
+    → ((k : ℕ) → ends k ≤ 2 ^ B) → sum ≡ next_sum (coefficient b items) ends (n - 1) → total ≡ T → num < 2 ^ 48
+    → div_ceil sum total * num < 2 ^ 128
+fits b {B} {n} {T} {num = num} {items} {ends} w size small is all less =
+    step_fits b (suc (n - 1)) (2 ^ B) _ num (omega (arith, size.some)) (all_mass size)
+    (rw (is, all) (high_counted b items T (2 ^ B) (n - 1) (total_pos items T w) w.sum ends small)) less
+
 pub divisor-den-requires : goal.divisor-den-requires
 divisor-den-requires g c = size_few c.requires.size
 
@@ -19,16 +27,8 @@ low_end-requires-clause-total g c =
 
 pub low_end-requires-clause-fits : goal.low_end-requires-clause-fits
 low_end-requires-clause-fits g c =
-    let b = not (eqb g.row.BY_AMOUNT 0) in
-    let cells = c.args.cells.now in
-    let s : ℕ = length cells - 1 in
-    let w = c.requires.weighted in
-    let x : div_ceil c.sums_before-low.result.0 c.from-total.result ≤ counted b (suc s) (2 ^ g.row.B) =
-    rw (c.sums_before-low.ensures.low, c.from-total.ensures)
-    (high_counted b c.args.items.now c.args.total (2 ^ g.row.B) s (total_pos c.args.items.now c.args.total w) w.sum
-    (low_at cells) (low_at_most cells c.requires.small)) in
-    step_fits b (suc s) (2 ^ g.row.B) _ c.from-num.result
-    (omega (arith, c.requires.size.some)) (all_mass c.requires.size) x
+    fits (not (eqb g.row.BY_AMOUNT 0)) c.requires.weighted c.requires.size (low_at_most c.args.cells.now c.requires.small)
+    c.sums_before-low.ensures.low c.from-total.ensures
     (omega (arith, c.from-num.ensures, c.num.ensures.part, c.requires.rate_num))
 
 pub high_end-requires-clause-total : goal.high_end-requires-clause-total
@@ -37,16 +37,8 @@ high_end-requires-clause-total g c =
 
 pub high_end-requires-clause-fits : goal.high_end-requires-clause-fits
 high_end-requires-clause-fits g c =
-    let b = not (eqb g.row.BY_AMOUNT 0) in
-    let cells = c.args.cells.now in
-    let s : ℕ = length cells - 1 in
-    let w = c.requires.weighted in
-    let x : div_ceil c.sums_before-low.result.1 c.from-total.result ≤ counted b (suc s) (2 ^ g.row.B) =
-    rw (c.sums_before-low.ensures.high, c.from-total.ensures)
-    (high_counted b c.args.items.now c.args.total (2 ^ g.row.B) s (total_pos c.args.items.now c.args.total w) w.sum
-    (high_at cells) (high_at_most cells c.requires.small)) in
-    step_fits b (suc s) (2 ^ g.row.B) _ c.from-num.result
-    (omega (arith, c.requires.size.some)) (all_mass c.requires.size) x
+    fits (not (eqb g.row.BY_AMOUNT 0)) c.requires.weighted c.requires.size (high_at_most c.args.cells.now c.requires.small)
+    c.sums_before-low.ensures.high c.from-total.ensures
     (omega (arith, c.from-num.ensures, c.num.ensures.part, c.requires.rate_num))
 
 pub invariant_of-result-clause-ordered : goal.invariant_of-result-clause-ordered

@@ -7,55 +7,25 @@ use Rattle.dl_panjer.proofs.Grids.{made_of, poisson_is_base, poisson_grid, poiss
 use Rattle.std.proofs.lemmas.Result.{IfOk-weaker}
 use Rattle.dl_panjer.proofs.poisson.poisson_base.Goals as goal
 
-few_halvings : (h : ℕ) → h ≤ 13 → 2 ^ h ≤ 2 ^ 13
-few_halvings h few = pow-le-pow_right (zero-lt-suc 1) few
-
-shifted : (h : ℕ) → h ≤ 13 → 1 * 2 ^ h % 2 ^ 64 ≡ 2 ^ h
-shifted h few =
-    let e : 1 * 2 ^ h ≡ 2 ^ h = omega arith in
-    ap (λ n. n % 2 ^ 64) e ∙ mod-eq_of_lt (omega (arith, few_halvings h few))
-
-rate_is : (h : ℕ) (mean : Fraction) {r : Fraction} {num den : ℕ} → h ≤ 13 → num ≡ mean.num → den ≡ mean.den
-    → r ≡ num over (den * (1 * 2 ^ h % 2 ^ 64)) → r ≡ mean /ℚ whole (2 ^ h)
-rate_is h mean few p q e =
-    e ∙ ap₂ (λ s t. s over t) p (ap₂ (λ s t. s * t) q (shifted h few)) ∙ divided mean (2 ^ h) (pow_pos h)
-
-small_den : (den h : ℕ) → h ≤ 13 → den < 2 ^ 48 → den * (1 * 2 ^ h % 2 ^ 64) < 2 ^ 62
-small_den den h few small =
-    let least : den ≤ 2 ^ 48 = omega (arith, small) in
-    let product : den * 2 ^ h ≤ 2 ^ 48 * 2 ^ 13 = mul-le-mul least (few_halvings h few) in
-    rw (shifted h few) (omega (arith, product))
-
 half_le_one : (x : Fraction) → x ≤ℚ 1 over 2 → x ≤ℚ whole 1
 half_le_one x h = le_trans _ _ _ h (over_le 1 2 1 1 (zero-lt-suc 1) one_pos (omega arith))
 
-pub fraction-rate-requires-clause-small_den : goal.fraction-rate-requires-clause-small_den
-fraction-rate-requires-clause-small_den g c =
-    small_den c.den.result c.args.halvings c.requires.halvings (omega (arith, c.den.ensures.part, c.requires.den))
-
 pub exp_neg-start-requires : goal.exp_neg-start-requires
 exp_neg-start-requires g c =
-    let e = rate_is c.args.halvings c.args.mean c.requires.halvings c.num.ensures.part c.den.ensures.part
-    c.fraction-rate.ensures.value in
-    let half = rw (← e) at c.requires.half in
-    (omega arith, (c.requires.size.scale_above, (c.requires.size.scale_below, half)))
+    (omega arith, (c.requires.size.scale_above, (c.requires.size.scale_below, rw c.halved-rate.ensures.value c.requires.half)))
 
 pub follow-requires : goal.follow-requires
 follow-requires g c =
-    let e = rate_is c.args.halvings c.args.mean c.requires.halvings c.num.ensures.part c.den.ensures.part
-    c.fraction-rate.ensures.value in
-    let half = rw (← e) at c.requires.half in
     search (
       rules,
       items_weighted c.args.sev.now c.as_slice.result.now c.as_slice.ensures,
       items_positive c.args.sev.now c.as_slice.result.now c.as_slice.ensures c.requires.no_zero,
-      half_le_one c.fraction-rate.result half,
+      half_le_one c.halved-rate.result (rw c.halved-rate.ensures.value c.requires.half),
     )
 
 pub grid_of-requires : goal.grid_of-requires
 grid_of-requires g c =
-    let e = rate_is c.args.halvings c.args.mean c.requires.halvings c.num.ensures.part c.den.ensures.part
-    c.fraction-rate.ensures.value in
+    let e = c.halved-rate.ensures.value in
     let v = c.args.mean /ℚ whole (2 ^ c.args.halvings) in
     let list = c.in_ok-list.list.items in
     let made = made_of true c.args.sev.now list c.as_slice.ensures e c.requires.size
@@ -72,8 +42,7 @@ grid_of-requires g c =
 
 pub returns : goal.returns
 returns g c =
-    let e = rate_is c.args.halvings c.args.mean c.requires.halvings c.num.ensures.part c.den.ensures.part
-    c.fraction-rate.ensures.value in
+    let e = c.halved-rate.ensures.value in
     let v = c.args.mean /ℚ whole (2 ^ c.args.halvings) in
     let list = c.in_ok-list.list.items in
     let made = made_of true c.args.sev.now list c.as_slice.ensures e c.requires.size

@@ -1,8 +1,9 @@
 -- The three ends of a parse, and that what is left is no longer than all.
+use Rattle.std.proofs.lemmas.Grind.{common_steps}
 use Rattle.dl_parser.proofs.Common.{◌≡◌, ℕ, ◌+◌, ◌-◌, ◌≤◌, List, [], ◌∷◌, length, map, arith, refl, ap, sym, ◌∙◌, true, ◌==◌, length-map, place}
 use Rattle.std.proofs.lemmas.Bool.Decides.{nat_tests}
 use Rattle.dl_ast.proofs.Formed.{program_formed}
-use Rattle.dl_parser.proofs.Covered.{covered_inside, covered_real, covered_few}
+use Rattle.dl_parser.proofs.Covered.{covered_real, covered_few}
 use Rattle.dl_parser.proofs.Whole.{read_whole, read_further, read_stuck, left_got, left_stuck}
 use Rattle.dl_parser.proofs.syntax.parse.Goals as goal
 
@@ -13,29 +14,14 @@ nil_of (x ∷ xs) h = absurd (grind (arith, nat_tests))
 left : (n m a b : ℕ) → n ≡ a → m ≡ b → b ≤ a → (n - m) + b ≡ a
 left n m a b h g le = omega arith
 
-pub invariant_of-parser : goal.invariant_of-parser
-invariant_of-parser c = record { inside = covered_inside c.args.source.now _ c.args.tokens.now c.requires.covered }
-
 pub taken-requires-clause-left : goal.taken-requires-clause-left
-taken-requires-clause-left c =
-    simp length-map at (left_got _ c.in-Ok.program (place c.program.new.self) c.in-Ok.ensures.reads)
-
-pub taken-requires-clause-few : goal.taken-requires-clause-few
-taken-requires-clause-few c = covered_few c.args.source.now c.args.tokens.now c.requires.covered c.requires.short
+taken-requires-clause-left c = grind (arith, nat_tests, common_steps, length-map, left_got)
 
 pub taken-requires-in-Err-Wanted-clause-left : goal.taken-requires-in-Err-Wanted-clause-left
-taken-requires-in-Err-Wanted-clause-left c =
-    simp length-map at (left_stuck _ c.in-Err-Wanted.kind (place c.program.new.self)
-    (rw c.in-Err-Wanted.field-0-is at c.in-Err-Wanted.ensures.reads))
-
-pub taken-requires-in-Err-Wanted-clause-few : goal.taken-requires-in-Err-Wanted-clause-few
-taken-requires-in-Err-Wanted-clause-few c =
-    covered_few c.args.source.now c.args.tokens.now c.requires.covered c.requires.short
+taken-requires-in-Err-Wanted-clause-left c = grind (arith, nat_tests, common_steps, length-map, left_stuck)
 
 pub returns-then-is_at_end-clause-spelled : goal.returns-then-is_at_end-clause-spelled
-returns-then-is_at_end-clause-spelled c =
-    read_whole _ c.in-Ok.program (place c.program.new.self) c.in-Ok.ensures.reads
-    (ap (map _) (nil_of _ (sym c.is_at_end.ensures ∙ c.if-is_at_end.true)))
+returns-then-is_at_end-clause-spelled c = grind (arith, nat_tests, common_steps, read_whole, nil_of)
 
 pub returns-then-is_at_end-clause-formed : goal.returns-then-is_at_end-clause-formed
 returns-then-is_at_end-clause-formed c =

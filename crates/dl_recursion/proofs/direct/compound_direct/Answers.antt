@@ -43,8 +43,7 @@ module _ (sev : Sev) {items : List Item} {step : ℕ} (is : step ≡ common_amou
       pos_of_dvd_of_pos (step_divides 0 item sev.weighted.some) (amounts_positive sev no_zero 0 item sev.weighted.some)
 
 pub make-requires : goal.make-requires
-make-requires g c =
-    rw (c.from.ensures, c.from-2.ensures) (mul-pos c.requires.base_positive (severity_total c.args.sev.now))
+make-requires g c = grind (arith, mul-pos c.requires.base_positive (severity_total c.args.sev.now))
 
 pub nonzero_div-rows : goal.nonzero_div-rows
 nonzero_div-rows g c =
@@ -84,12 +83,7 @@ recur-requires-clause-steps g c =
     (omega (arith, rows_few c.common_amount-step.result c.args.cells c.requires.size.some, size_few c.requires.size))
 
 pub place-requires : goal.place-requires
-place-requires g c =
-    let r = c.requires in
-    let x = c.in_ok-x.ensures in
-    let apart = step_above c.args.sev.now c.common_amount-step.ensures c.as_slice.ensures r.no_zero in
-    let rows = rows_within c.common_amount-step.result c.args.cells r.size.some in
-    (omega arith, (r.size, (apart, (rw x.cells rows, (x.sound, (r.low_small, (r.high_small, omega arith)))))))
+place-requires g c = grind (arith, step_above, rows_within)
 
 pub returns-clause-encloses : goal.returns-clause-encloses
 returns-clause-encloses g c w P H =

@@ -1,14 +1,11 @@
-use Rattle.dl_recursion.proofs.Common.{arith, whole, ◌over◌, ◌≤ℚ◌, one_pos, over_self, poisson, HoldsNoClaim, le_over}
+use Rattle.dl_recursion.proofs.Common.{arith, one_pos, over_self, poisson, HoldsNoClaim, le_over}
 use Rattle.std.proofs.lemmas.Result.{IfOk-weaker}
 use Rattle.std.proofs.lemmas.Option.{IfSome_then}
 use Rattle.dl_recursion.proofs.Units.{poisson_steps}
 use Rattle.dl_recursion.proofs.direct.poisson_direct.Goals as goal
 
 pub poisson_start-start-requires-clause-mean : goal.poisson_start-start-requires-clause-mean
-poisson_start-start-requires-clause-mean g c =
-    let v = c.args.mean in
-    let within : v.num over v.den ≤ℚ whole 4096 = rw (over_self v) c.requires.within in
-    omega (arith, le_over v.num v.den 4096 1 v.positive one_pos within, c.num.ensures.part, c.den.ensures.part)
+poisson_start-start-requires-clause-mean g c = grind (arith, over_self c.args.mean, le_over, one_pos)
 
 pub returns-clause-encloses : goal.returns-clause-encloses
 returns-clause-encloses g c =

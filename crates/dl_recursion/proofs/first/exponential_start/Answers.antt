@@ -1,27 +1,9 @@
-use Rattle.dl_recursion.proofs.Common.{◌≡◌, suc, ◌+◌, ◌-◌, ◌*◌, ◌/◌, ◌^◌, ◌<◌, ◌≤◌, arith, refl, sym, mul-pos, mul-le-mul_left, mul-le-mul_right, div-mul-le_self, add-one, zero-lt-suc, whole, ◌over◌, ◌*ℚ◌, sum_to, poisson, le_of_eq, times_one}
-use Rattle.dl_model.proofs.PoissonWeights.{poisson_zero}
+use Rattle.dl_recursion.proofs.Common.{suc, ◌+◌, ◌-◌, ◌*◌, ◌/◌, ◌^◌, ◌<◌, ◌≤◌, arith, mul-pos, mul-le-mul_left, mul-le-mul_right, div-mul-le_self, add-one, zero-lt-suc, whole, ◌over◌, poisson}
 use Rattle.dl_recursion.proofs.Starts.{two_pos}
 use Rattle.dl_recursion.proofs.Rounding.{ceil_reaches, floor_ceil, term_small}
 use Rattle.dl_exact.proofs.SumsOver.{low_sum, high_sum}
 use Rattle.dl_recursion.proofs.Beginnings.{half_over, low_term, high_term, poisson_holds}
 use Rattle.dl_recursion.proofs.first.exponential_start.Goals as goal
-
-pub loop-n-init : goal.loop-n-init
-unfolding sum_to
-loop-n-init c =
-    let v = c.args.num over c.args.den in
-    let e : whole (2 ^ 63) *ℚ poisson v 0 ≡ whole (2 ^ 63) = rw (poisson_zero v, times_one) refl in
-    record {
-      low_term = le_of_eq _ _ (sym e);
-      high_term = le_of_eq _ _ e;
-      low = le_of_eq _ _ (sym e);
-      high = le_of_eq _ _ e;
-      terms = omega arith;
-      small = omega arith;
-      order = omega arith;
-      start = omega arith;
-      bound = omega arith;
-    }
 
 pub loop-n-preserved : goal.loop-n-preserved
 loop-n-preserved c =

@@ -1,10 +1,6 @@
 use Rattle.dl_recursion.proofs.Common.{◌≡◌, ◌+◌, ◌<◌, ◌∷◌, [], ◌++◌, arith, sym, ap, subst, ◌∙◌, add-one, All, sum_by, flat_map, Part, in_a_row, run_parts, All-push}
-use Rattle.dl_recursion.proofs.Runs.{row_none, row_more, part_pushed}
+use Rattle.dl_recursion.proofs.Runs.{row_more, part_pushed}
 use Rattle.dl_recursion.proofs.parts.add.Goals as goal
-
-pub each-init : goal.each-init
-each-init c =
-    record { sound = c.requires.sound; parts = λ f. omega (arith, row_none f c.args.run.amount c.args.run.weight) }
 
 pub each-preserved : goal.each-preserved
 each-preserved c =

@@ -1,21 +1,9 @@
+use Rattle.std.proofs.lemmas.Bool.Decides.{nat_tests}
+use Rattle.std.proofs.lemmas.Grind.{common_steps}
 use Rattle.dl_recursion.proofs.Common.{◌*◌, get_or, arith, refl, sym, ◌∙◌, sum_by, all_parts, Item, take_all}
-use Rattle.dl_recursion.proofs.Runs.{row_none}
 use Rattle.dl_recursion.proofs.Units.{some_steps, times_sum, times_each, item_joined, item_begun}
 use Rattle.dl_recursion.proofs.parts.amounts_of.Goals as goal
 use Rattle.dl_recursion.proofs.parts.amounts_of.Goals.{then-next-run+then-next-run-2, else-next-run+in_ok-add}
-
-pub items-init : goal.items-init
-items-init c =
-    simp (c.new.ensures.items, c.new-2.ensures.items) (record {
-      sound = record {
-        parts = λ k d l. absurd (omega (arith, l));
-        runs = λ k d l. absurd (omega (arith, l));
-        ends = λ k d l. absurd (omega (arith, l));
-      };
-      amount = omega arith;
-      end = omega arith;
-      parts = λ f. omega (arith, row_none f 1 0);
-    })
 
 pub items-preserved : goal.items-preserved
 items-preserved c =
@@ -52,9 +40,7 @@ items-preserved c =
 
 -- the loop came to the end of the items
 pub returns-clause-sum : goal.returns-clause-sum
-returns-clause-sum c =
-    rw (c.in_ok-add-2.ensures.parts, c.items.invariant.parts, take_all _ _ c.items-test.false)
-    (times_sum c.args.factor c.args.items.now)
+returns-clause-sum c = grind (arith, nat_tests, common_steps, times_sum c.args.factor c.args.items.now, take_all)
 
 pub returns-clause-each : goal.returns-clause-each
 returns-clause-each c j =

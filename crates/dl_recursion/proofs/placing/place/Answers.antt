@@ -1,6 +1,5 @@
-use Rattle.dl_recursion.proofs.Common.{◌≡◌, ℕ, ◌+◌, ◌*◌, ◌^◌, ◌<◌, ◌≤◌, length, get_or, arith, sym, ap, ◌∙◌, mul-le-mul_left, mul-le-mul_right, All-set, length-set}
+use Rattle.dl_recursion.proofs.Common.{ℕ, ◌+◌, ◌*◌, ◌^◌, ◌<◌, ◌≤◌, length, arith, ◌∙◌, mul-le-mul_left, mul-le-mul_right, All-set, length-set}
 use Rattle.std.proofs.Math.Path.{fun_ext}
-use Rattle.dl_grid.specs.Cells.{low_at, high_at}
 use Rattle.std.proofs.lemmas.Grind.{get_or_default_zero}
 use Rattle.dl_grid.proofs.EndLists.{low_at_ends, high_at_ends}
 use Rattle.dl_recursion.proofs.Place.{ordered_set, mass_set, zeros_left, placed_more}
@@ -8,9 +7,7 @@ use Rattle.dl_recursion.proofs.placing.place.Goals as goal
 
 -- the cell that is written is one of the grid's
 inside : (step i rows cells : ℕ) → i < rows → step * rows < cells + step → step * i < cells
-inside step i rows cells l within =
-    let next : i + 1 ≤ rows = omega (arith, l) in
-    omega (arith, within, mul-le-mul_left step next)
+inside step i rows cells l within = grind (arith, mul-le-mul_left)
 
 pub rows-preserved : goal.rows-preserved
 rows-preserved g c =
@@ -46,12 +43,4 @@ rows-preserved g c =
     }
 
 pub returns-clause-placed : goal.returns-clause-placed
-returns-clause-placed g c =
-    let made = c.from_ends.result in
-    let n : length c.args.x.now.low.items ≡ c.rows.i =
-    omega (arith, c.rows-test.false, c.rows.auto.i-end, c.len-i-end.ensures, c.args.x.now.low.ok.0) in
-    let low_is : low_at made ≡ (λ x. get_or c.rows.lows.items x 0) =
-    fun_ext (λ x. sym (low_at_ends made x) ∙ ap (λ l. get_or l x 0) c.from_ends.ensures.low) in
-    let high_is : high_at made ≡ (λ x. get_or c.rows.highs.items x 0) =
-    fun_ext (λ x. sym (high_at_ends made x) ∙ ap (λ l. get_or l x 0) c.from_ends.ensures.high) in
-    rw (n, low_is, high_is) c.rows.invariant.placed
+returns-clause-placed g c = grind (arith, fun_ext, low_at_ends, high_at_ends)

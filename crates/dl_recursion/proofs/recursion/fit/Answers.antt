@@ -4,9 +4,6 @@ use Rattle.dl_recursion.proofs.Steps.{shifted, shift_low, shift_high, fit_top}
 use Rattle.dl_recursion.proofs.recursion.fit.Goals as goal
 use Rattle.dl_recursion.proofs.recursion.fit.Goals.{then-high-gt-MOST_END, else-high-gt-MOST_END}
 
-pub overflow_add-high : goal.overflow_add-high
-overflow_add-high c = omega (arith, two_le (126 - 8 * c.loop-k.k) 126 (omega arith), c.loop-k.invariant.top)
-
 pub loop-k-preserved : goal.loop-k-preserved
 loop-k-preserved c =
     let i = c.loop-k.invariant in

@@ -1,28 +1,5 @@
-use Rattle.dl_recursion.proofs.Common.{◌≡◌, length, arith, refl}
-use Rattle.dl_recursion.proofs.Grow.{begun, begun_small}
-use Rattle.dl_recursion.proofs.Totals.{sums_none}
+use Rattle.dl_recursion.proofs.Common.{◌≡◌, length, arith}
 use Rattle.dl_recursion.proofs.recursion.recur.Goals as goal
-
-pub cells-init : goal.cells-init
-cells-init c =
-    let b = c.in_ok-x.ensures in
-    record {
-      in_scale = record {
-        sound = rw (b.low, b.high, b.first) (record {
-          alike = refl;
-          low_small = begun_small;
-          high_small = begun_small;
-          low_settled = λ k l. absurd (omega (arith, l));
-          high_settled = λ k l. absurd (omega (arith, l));
-        });
-        within = omega (arith, b.first);
-        sums = rw b.sums (sums_none _ _);
-        sums_within = rw b.sums (omega arith);
-      };
-      count = rw b.low refl;
-      shift = omega (arith, b.shift);
-      round = λ r F. rw (b.low, b.high, b.shift) (begun r F.start);
-    }
 
 pub returns : goal.returns
 returns c =

@@ -7,22 +7,10 @@ pub returns-then-n-eq1-clause-holds : goal.returns-then-n-eq1-clause-holds
 returns-then-n-eq1-clause-holds t c w h = rw (c.if-n-eq1.true, power_one w) h
 
 pub times-square-requires-clause-room : goal.times-square-requires-clause-room
-times-square-requires-clause-room t c =
-    omega (
-      arith,
-      c.power_of-root.ensures.room,
-      c.requires.room,
-      mul-le-mul_right c.args.x.exponent (div-mul-le_self c.args.n 2),
-    )
+times-square-requires-clause-room t c = grind (arith, mul-le-mul_right c.args.x.exponent (div-mul-le_self c.args.n 2))
 
 pub returns-then-n-eq0-clause-room : goal.returns-then-n-eq0-clause-room
-returns-then-n-eq0-clause-room t c =
-    omega (
-      arith,
-      c.times-square.ensures.room,
-      c.power_of-root.ensures.room,
-      mul-le-mul_right c.args.x.exponent (div-mul-le_self c.args.n 2),
-    )
+returns-then-n-eq0-clause-room t c = grind (arith, mul-le-mul_right c.args.x.exponent (div-mul-le_self c.args.n 2))
 
 pub returns-then-n-eq0-clause-holds : goal.returns-then-n-eq0-clause-holds
 returns-then-n-eq0-clause-holds t c w h =

@@ -2,10 +2,6 @@ use Rattle.dl_recursion.proofs.Common.{◌-◌, ◌^◌, ◌≤◌, arith, mul-l
 use Rattle.dl_recursion.proofs.Reach.{factor_le}
 use Rattle.dl_recursion.proofs.sums.contribution.Goals as goal
 
-pub overflow_mul-factor-3 : goal.overflow_mul-factor-3
-overflow_mul-factor-3 c =
-    omega (arith, factor_le c.args.a c.args.b c.args.s _ c.args.part.weight c.requires.within, c.requires.room)
-
 pub overflow_mul-result : goal.overflow_mul-result
 overflow_mul-result c =
     let part = c.args.part in

@@ -5,10 +5,7 @@ use Rattle.dl_recursion.proofs.Totals.{total_small}
 use Rattle.dl_recursion.proofs.sums.onward.Goals as goal
 
 pub returns-then-amount-s : goal.returns-then-amount-s
-returns-then-amount-s c =
-    let past : length c.args.x.now.low.items < c.args.amount =
-    omega (arith, c.if-amount-s.true, c.len-s.ensures, c.args.x.now.low.ok.0) in
-    record { low = onward_none _ _ _ _ _ past; high = onward_none _ _ _ _ _ past }
+returns-then-amount-s c = grind (arith, onward_none)
 
 -- what is known where the sums of a cell are found: m cells before the next of s
 record Found (x : ScaledCells) (a b s m : ℕ) (sums : Sums) : Type 0 where
@@ -44,20 +41,7 @@ by_sums-requires c =
     record { factor_small = f.factor; step_small = f.step; cells_small = f.low_small.0; before_small = f.low_small.1 }
 
 pub by_sums-requires-2 : goal.by_sums-requires-2
-by_sums-requires-2 c =
-    let r = c.requires in
-    let f = found c.args.x.now c.args.a c.args.b c.len-s.result c.args.amount c.index-sums.result.now
-    (c.len-s.ensures ∙ c.args.x.now.low.ok.0) c.if-amount-s.false r.amount r.few r.settled r.steps r.cells r.sums
-    c.index-sums.ensures in
-    record { factor_small = f.factor; step_small = f.step; cells_small = f.high_small.0; before_small = f.high_small.1 }
+by_sums-requires-2 c = grind (arith, found)
 
 pub returns : goal.returns
-returns c =
-    let r = c.requires in
-    let n = c.len-s.ensures ∙ c.args.x.now.low.ok.0 in
-    let f = found c.args.x.now c.args.a c.args.b c.len-s.result c.args.amount c.index-sums.result.now n
-    c.if-amount-s.false r.amount r.few r.settled r.steps r.cells r.sums c.index-sums.ensures in
-    rw (← n) (record {
-      low = c.by_sums.ensures ∙ onward_is _ _ _ _ _ _ c.if-amount-s.false f.is.low_total;
-      high = c.by_sums-2.ensures ∙ onward_is _ _ _ _ _ _ c.if-amount-s.false f.is.high_total;
-    })
+returns c = grind (arith, found, onward_is)

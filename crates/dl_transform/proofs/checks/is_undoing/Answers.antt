@@ -1,4 +1,4 @@
-use Rattle.dl_transform.proofs.Common.{◌≡◌, ◌*◌, ◌%◌, ◌^◌, ◌<◌, arith, sym, ◌∙◌, mod-eq_of_lt, eqb-true, one_shl, mul-mod_first}
+use Rattle.dl_transform.proofs.Common.{◌≡◌, ◌*◌, ◌%◌, ◌^◌, arith, sym, ◌∙◌, mod-eq_of_lt, eqb-true, one_shl, mul-mod_first}
 use Rattle.dl_transform.proofs.checks.is_undoing.Goals as goal
 
 pub returns-clause-same : goal.returns-clause-same

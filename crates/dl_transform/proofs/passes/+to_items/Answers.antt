@@ -1,5 +1,5 @@
 use Rattle.dl_transform.proofs.Common.{◌+◌, ◌-◌, ◌*◌, ◌/◌, ◌^◌, take, drop, length, get_or, arith, refl, ap, ◌∙◌, pow_pos, point}
-use Rattle.dl_transform.proofs.Parts.{below, join_small, items_leaf}
+use Rattle.dl_transform.proofs.Parts.{below, items_leaf}
 use Rattle.dl_transform.proofs.AfterSteps.{front_small, back_small, items_after}
 use Rattle.dl_transform.proofs.passes.+to_items.Goals as goal
 
@@ -55,11 +55,6 @@ join_all-requires-clause-alike t c =
     let b = below c.args.levels c.args.node (length c.args.table.now.roots.items) (length c.args.x.now)
     c.if-levels-eq0.false c.requires.within c.requires.size in
     omega (arith, b.half, b.rest)
-
-pub returns-clause-small : goal.returns-clause-small
-returns-clause-small t c =
-    join_small (2 * c.args.table.now.p) c.join_all.new.low c.join_all.new.high c.join_all.ensures.low_small
-    c.join_all.ensures.high_small
 
 pub returns-clause-items : goal.returns-clause-items
 returns-clause-items t c =

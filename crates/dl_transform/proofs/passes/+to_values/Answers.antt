@@ -1,5 +1,5 @@
 use Rattle.dl_transform.proofs.Common.{◌+◌, ◌-◌, ◌*◌, ◌/◌, ◌^◌, take, drop, length, get_or, arith, refl, ap, ◌∙◌, point}
-use Rattle.dl_transform.proofs.Parts.{below, join_small, values_leaf}
+use Rattle.dl_transform.proofs.Parts.{below, values_leaf}
 use Rattle.dl_transform.proofs.AfterSteps.{front_small, values_after}
 use Rattle.dl_transform.proofs.passes.+to_values.Goals as goal
 
@@ -40,11 +40,6 @@ to_values-requires-2 t c =
       omega (arith, c.if-levels-eq0.false, c.decreases),
       (c.requires.table, (omega (arith, b.half, b.rest), (b.second, c.part_all.ensures.high_small))),
     )
-
-pub returns-clause-small : goal.returns-clause-small
-returns-clause-small t c =
-    join_small (4 * c.args.table.now.p) c.to_values.new.x c.to_values-2.new.x c.to_values.ensures.small
-    c.to_values-2.ensures.small
 
 pub returns-clause-values : goal.returns-clause-values
 returns-clause-values t c =

@@ -1,12 +1,7 @@
 use Rattle.dl_transform.proofs.Common.{◌+◌, ◌*◌, get_or, arith, refl, point}
-use Rattle.dl_transform.proofs.Parts.{join_small, items_leaf}
+use Rattle.dl_transform.proofs.Parts.{items_leaf}
 use Rattle.dl_transform.proofs.AfterSteps.{items_after}
 use Rattle.dl_transform.proofs.passes.to_items_2.Goals as goal
-
-pub returns-clause-small : goal.returns-clause-small
-returns-clause-small c =
-    join_small (2 * c.args.table.now.p) c.join_all.new.low c.join_all.new.high c.join_all.ensures.low_small
-    c.join_all.ensures.high_small
 
 pub returns-clause-items : goal.returns-clause-items
 returns-clause-items c =

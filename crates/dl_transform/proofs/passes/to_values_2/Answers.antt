@@ -1,12 +1,7 @@
 use Rattle.dl_transform.proofs.Common.{◌+◌, ◌*◌, get_or, arith, refl, point}
-use Rattle.dl_transform.proofs.Parts.{join_small, values_leaf}
+use Rattle.dl_transform.proofs.Parts.{values_leaf}
 use Rattle.dl_transform.proofs.AfterSteps.{values_after}
 use Rattle.dl_transform.proofs.passes.to_values_2.Goals as goal
-
-pub returns-clause-small : goal.returns-clause-small
-returns-clause-small c =
-    join_small (4 * c.args.table.now.p) c.part_all.new.low c.part_all.new.high c.part_all.ensures.low_small
-    c.part_all.ensures.high_small
 
 pub returns-clause-values : goal.returns-clause-values
 returns-clause-values c =

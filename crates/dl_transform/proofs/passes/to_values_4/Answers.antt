@@ -1,4 +1,4 @@
-use Rattle.dl_transform.proofs.Common.{◌*◌, arith, refl}
+use Rattle.dl_transform.proofs.Common.{arith, refl}
 use Rattle.dl_transform.proofs.AfterSteps.{values_after}
 use Rattle.dl_transform.proofs.passes.to_values_4.Goals as goal
 

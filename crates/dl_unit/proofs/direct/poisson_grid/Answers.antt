@@ -1,20 +1,18 @@
 use Rattle.dl_unit.proofs.Common.{◌^◌, arith, ap, IfOk-weaker, thinned_mean, poisson_budget, halvings, claims_alone, ◌≤ℚ◌, ◌/ℚ◌, poisson_thinned}
 use Rattle.dl_unit.proofs.Families.{grid_same}
 use Rattle.dl_unit.proofs.Sizes.{told_few}
-use Rattle.dl_unit.proofs.CountKinds.{poisson_unbounded, poisson_some}
+use Rattle.dl_unit.proofs.CountKinds.{poisson_some}
 use Rattle.dl_unit.proofs.Positive.{no_zero}
 use Rattle.dl_unit.proofs.Thinned.{poisson_whole}
 use Rattle.dl_unit.proofs.direct.poisson_grid.Goals as goal
 
 pub poisson_direct-requires : goal.poisson_direct-requires
 poisson_direct-requires g c =
-    let u = claims_alone c.args.freq.now c.args.sev.now in
-    let small = rw (← c.thinned-mean.ensures) at
-    (c.requires.valid.1.thinned (poisson_unbounded u c.requires.count.0 c.requires.count.1)) in (
+    let small = rw (← c.thinned-mean.ensures) at (c.requires.valid.1.thinned (rw c.requires.count.1 tt)) in (
       omega arith,
       (
         c.requires.size,
-        (no_zero u.sev c.args.positive.now c.requires.means, (small.0.num, (small.0.den, small.1))),
+        (no_zero c.args.sev.now c.args.positive.now c.requires.means, (small.0.num, (small.0.den, small.1))),
       ),
     )
 
@@ -28,18 +26,16 @@ returns-then-is_narrow-clause-encloses g c =
     let u = claims_alone c.args.freq.now c.args.sev.now in
     let s = c.args.positive.now in
     let told = rw c.in-Some.is at c.in_ok-grid.ensures.encloses in
-    grid_same c.in-Some.grid _ _ (poisson_whole u s c.requires.count.0 c.requires.count.1 c.requires.means)
+    grid_same c.in-Some.grid _ _ (poisson_whole u s c.requires.count.1 c.requires.means)
     (rw c.thinned-mean.ensures at told)
 
 pub poisson_claims-requires : goal.poisson_claims-requires
 poisson_claims-requires g c =
-    let u = claims_alone c.args.freq.now c.args.sev.now in
-    let small = rw (← c.thinned-mean.ensures) at
-    (c.requires.valid.1.thinned (poisson_unbounded u c.requires.count.0 c.requires.count.1)) in (
+    let small = rw (← c.thinned-mean.ensures) at (c.requires.valid.1.thinned (rw c.requires.count.1 tt)) in (
       omega arith,
       (
         c.requires.size,
-        (no_zero u.sev c.args.positive.now c.requires.means, (small.0, small.1)),
+        (no_zero c.args.sev.now c.args.positive.now c.requires.means, (small.0, small.1)),
       ),
     )
 
@@ -58,5 +54,5 @@ returns-clause-spread g c =
       arith,
       narrow,
       ap (poisson_budget (2 ^ g.row.B) c.args.cells) c.thinned-mean.ensures,
-      poisson_some (2 ^ g.row.B) c.args.cells (claims_alone c.args.freq.now c.args.sev.now) c.requires.count.0 c.requires.count.1 c.requires.expected,
+      poisson_some (2 ^ g.row.B) c.args.cells (claims_alone c.args.freq.now c.args.sev.now) c.requires.count.1 c.requires.expected,
     )) c.poisson_claims.ensures.spread

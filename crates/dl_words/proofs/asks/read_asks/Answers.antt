@@ -1,6 +1,6 @@
 -- One more text.
-use Rattle.dl_words.proofs.Common.{arith, sym, ◌∙◌, subst, asks_of, ExplainsAsks}
-use Rattle.dl_words.proofs.AskLists.{all_read, lent, lent_ask, lent_misfit}
+use Rattle.dl_words.proofs.Common.{sym, ◌∙◌, subst, asks_of, ExplainsAsks}
+use Rattle.dl_words.proofs.AskLists.{lent, lent_ask, lent_misfit}
 use Rattle.dl_words.proofs.asks.read_asks.Goals as goal
 
 pub returns-in-None-clause-fault : goal.returns-in-None-clause-fault
@@ -13,7 +13,3 @@ pub loop-index-preserved : goal.loop-index-preserved
 loop-index-preserved c =
     rw c.in_ok-push-in-Some.ensures.items (lent_ask c.args.texts.now c.loop-index.index c.loop-index.asks.items
     c.loop-index.invariant _ c.in-Some.asked c.loop-index-test.true (sym c.in_ok-asked.ensures ∙ c.in-Some.is))
-
-pub returns-clause-asks : goal.returns-clause-asks
-returns-clause-asks c =
-    all_read c.args.texts.now c.loop-index.index c.loop-index.asks.items c.loop-index.invariant (omega arith)

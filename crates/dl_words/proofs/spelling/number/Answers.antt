@@ -20,10 +20,4 @@ returns-in-Err c =
     absurd (refused (some, omega arith))
 
 pub returns-in-Ok-clause-below : goal.returns-in-Ok-clause-below
-returns-in-Ok-clause-below c =
-    let t : List ℕ = c.args.text.now in
-    let digits : list_all is_ascii_digit t ≡ true = search rules in
-    let most : length t ≤ c.args.most = search rules in
-    let small : digits_value 10 t < 10 ^ c.args.most = digits_value_short own t c.args.most digits most in
-    let value : c.in-Ok.value ≡ digits_value 10 t = search rules in
-    rw value small
+returns-in-Ok-clause-below c = grind (arith, digits_value_short, own)

@@ -4,8 +4,7 @@ use Rattle.dl_eval.proofs.grids.Grids.others.Goals as goal
 
 pub returns-clause-are : goal.returns-clause-are
 returns-clause-are g c =
-    others_there c.args.plan.now c.as_slice.result.now c.args.self.now.sums.others.items c.args.i c.index-as_slice-i.result
-    c.in-Some.others c.as_slice.ensures.value c.index-as_slice-i.is c.in-Some.is c.requires.unit c.requires.grids.others
+    others_there c.args.i c.as_slice.ensures.value c.index-as_slice-i.is c.in-Some.is c.requires.unit c.requires.grids.others
 
 pub returns-clause-narrow : goal.returns-clause-narrow
 returns-clause-narrow g c =

@@ -1,11 +1,8 @@
 -- The loop over definitions reads as many as there are.
-use Rattle.dl_parser.proofs.Common.{rules, sym, place, sevdef, plain}
-use Rattle.dl_parser.proofs.Loops.{loop_at_start, loop_goes_on, loop_ends}
+use Rattle.dl_parser.proofs.Common.{rules, sym, sevdef, plain}
+use Rattle.dl_parser.proofs.Loops.{loop_goes_on}
 use Rattle.dl_parser.proofs.Steps.{fewer_tokens}
 use Rattle.dl_parser.proofs.cursor.Parser.definitions.Goals as goal
-
-pub definitions-init : goal.definitions-init
-definitions-init c = record { source = search rules; so_far = rw c.new-made.ensures.items (loop_at_start _) }
 
 pub definitions-smaller : goal.definitions-smaller
 definitions-smaller c =
@@ -19,8 +16,3 @@ definitions-preserved c = record {
       (loop_goes_on sevdef plain.by_definitions _ _ _ _ _ c.definitions.invariant.so_far
       (sym c.definitions-test.ensures) c.in_ok-definition.ensures.reads);
 }
-
-pub returns-clause-reads : goal.returns-clause-reads
-returns-clause-reads c =
-    rw c.from_vec.ensures (loop_ends sevdef _ (place c.definitions.self) c.definitions.made.items
-    c.definitions.invariant.so_far (sym c.definitions-test.ensures))

@@ -1,11 +1,8 @@
 -- The loop over atoms reads as many as there are.
-use Rattle.dl_parser.proofs.Common.{rules, sym, [], ◌∷◌, ◌++◌, ap, ◌∙◌, append_assoc, append-nil, atom, plain}
-use Rattle.dl_parser.proofs.Loops.{loop_at_start, loop_goes_on, loop_ends}
+use Rattle.dl_parser.proofs.Common.{rules, sym, [], ◌∷◌, ◌++◌, ap, ◌∙◌, append_assoc, atom, plain}
+use Rattle.dl_parser.proofs.Loops.{loop_goes_on}
 use Rattle.dl_parser.proofs.Steps.{fewer_tokens}
 use Rattle.dl_parser.proofs.cursor.Parser.more_atoms.Goals as goal
-
-pub atoms-init : goal.atoms-init
-atoms-init c = record { source = search rules; so_far = ([], sym (append-nil _), loop_at_start _) }
 
 pub atoms-smaller : goal.atoms-smaller
 atoms-smaller c =
@@ -22,8 +19,3 @@ atoms-preserved c =
         loop_goes_on atom plain.by_atoms _ _ _ _ _ before.2 (sym c.atoms-test.ensures) c.in_ok-atom.ensures.reads,
       );
     }
-
-pub returns-clause-reads : goal.returns-clause-reads
-returns-clause-reads c =
-    let so_far = c.atoms.invariant.so_far in
-    (so_far.0, so_far.1, loop_ends atom _ _ _ so_far.2 (sym c.atoms-test.ensures))

@@ -21,19 +21,10 @@ module _ (clause : Clause) (h e kept next : ℕ) (accepted : IsClause clause)
   line : (c missing steps : ℕ) → c ≡ parts_in_bucket clause → missing ≡ h * c - kept
       → steps ≡ div_ceil missing (next - kept) → (next - kept ≡ 0 → ⊥) → IsHorizon clause h (e + steps)
   line c missing steps bucket lack quotient some =
-      let missing_is : missing ≡ h * parts_in_bucket clause - parts_of clause (last_edge clause.1) =
-      lack ∙ ap₂ (λ a b. h * a - b) bucket kept_is in
-      let value : e + steps ≡ last_edge clause.1 + div_ceil
-      (h * parts_in_bucket clause - parts_of clause (last_edge clause.1)) (next - kept) =
-      ap₂ (λ a b. a + b) edge (quotient ∙ ap (λ m. div_ceil m (next - kept)) missing_is) in
-      subst (λ k. IsHorizon clause h k) (sym value)
-      (horizon_line clause h (next - kept) accepted rise_is (omega (arith, some)))
+      grind (arith, horizon_line clause h (next - kept) accepted rise_is (omega (arith, some)), kept_is)
 
 pub overflow_sub-rise : goal.overflow_sub-rise
-overflow_sub-rise c =
-    let edge = c.last_edge-edge.ensures.value ∙ ap last_edge c.layers.ensures in
-    rises c.args.self.now c.args.cells c.last_edge-edge.result c.parts-kept.result c.parts.result c.requires edge
-    c.parts-kept.ensures.value c.parts.ensures.value
+overflow_sub-rise c = grind (arith, rises)
 
 pub returns-then-rise-eq0 : goal.returns-then-rise-eq0
 returns-then-rise-eq0 c =

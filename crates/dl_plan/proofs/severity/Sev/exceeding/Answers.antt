@@ -1,4 +1,6 @@
 -- The items above an amount are rising, of positive weights, and weigh no more.
+use Rattle.std.proofs.lemmas.Bool.Decides.{nat_tests}
+use Rattle.std.proofs.lemmas.Grind.{common_steps}
 use Rattle.dl_plan.proofs.Common.{ℕ, ◌≡◌, ◌∙◌, ◌<◌, List, nat_lt, length, true, false, ◌==◌, sym, ap, subst, arith, IsStrictlyIncreasing, ◌over◌, Item, Sev, amounts_of, weight_sum, weight_at, probability, conditioned, shares}
 use Rattle.std.proofs.Common.{All, Bool}
 use Rattle.std.proofs.lemmas.List.Kept.{IsStrictlyIncreasing-filter}
@@ -26,10 +28,7 @@ kept_is sev a y some = sym (probability-conditioned a sev.items sev.total y (sev
 
 pub returns-then-is_empty : goal.returns-then-is_empty
 returns-then-is_empty c =
-    let same : c.in_ok-kept.kept.items ≡ items_over c.args.attach c.args.self.now.items = c.in_ok-kept.ensures
-    ∙ ap (items_over c.args.attach) c.as_slice.ensures in
-    none_over c.args.attach c.args.self.now.items (ap (λ (xs : List Item). length xs) (sym same)
-    ∙ sym c.in_ok-kept.kept.ok.0 ∙ is_zero c.in_ok-kept.kept.len c.if-is_empty.ensures)
+    grind (arith, nat_tests, common_steps, is_zero c.in_ok-kept.kept.len c.if-is_empty.ensures, none_over)
 
 pub from_rising-requires : goal.from_rising-requires
 from_rising-requires c =

@@ -5,27 +5,14 @@ use Rattle.dl_plan.proofs.Means.{total_pos, positive_share, weight_at-le}
 use Rattle.dl_plan.proofs.severity.Sev.share_above_zero.Goals as goal
 
 pub overflow_sub-above : goal.overflow_sub-above
-overflow_sub-above c =
-    let sev = c.args.self.now in
-    omega (
-      arith,
-      c.weight_of_zero.ensures,
-      ap (λ xs. weight_at xs 0) c.as_slice.ensures,
-      weight_at-le sev.items,
-      sev.weighted.sum,
-    )
+overflow_sub-above c = grind (arith, weight_at-le)
 
 pub make-requires : goal.make-requires
-make-requires c =
-    let sev = c.args.self.now in
-    total_pos sev.items sev.total sev.weighted
+make-requires c = grind (arith, total_pos c.args.self.now.items c.args.self.now.total c.args.self.now.weighted)
 
 pub unwrap-requires : goal.unwrap-requires
 unwrap-requires c =
-    let sev = c.args.self.now in
-    given_ok _ _ c.make.ensures
-    (over_fits _ sev.total (total_pos sev.items sev.total sev.weighted) (omega (arith, sev.weighted.within))
-    (omega (arith, sev.weighted.within)))
+    grind (arith, total_pos c.args.self.now.items c.args.self.now.total c.args.self.now.weighted, given_ok, over_fits)
 
 pub returns : goal.returns
 returns c =
