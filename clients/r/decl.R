@@ -9,7 +9,7 @@
 # decl_run    the report on asks about a text
 # decl_check  the fault of a text, if it has one
 # decl_fmt    a text in its one canonical spelling
-# decl_made   a made program
+# decl_made   the text of a generated program
 # decl_certify  a certificate of a text's total
 # decl_verify   whether steps are such a certificate
 # decl_bucket the greatest size of a bucket that divides every amount of a text
@@ -59,7 +59,8 @@ decl_fmt <- function(text, timeout = 0) {
     paste0(decl_call("fmt", text, character(), timeout), "\n", collapse = "")
 }
 
-# The made program of this number, 0 to 4294967295: a portfolio to measure and to compare with.
+# The text of the program that --make generates from this number, 0 to 4294967295, to measure and to compare with: eight units, two
+# with each of the counts poisson, mixed gamma 0.5, binomial 0.5 and fixed.
 decl_made <- function(number, timeout = 0) {
     paste0(decl_call(c("fmt", decl_options(make = number)), "", character(), timeout), "\n", collapse = "")
 }

@@ -10,9 +10,9 @@ use dl_iv::Iv;
 use dl_limits::RAREST_PARTS;
 
 /// The conditional mean, in buckets: a joint mean divided by the probability `at` of its total.
-/// None where the low end of that probability is below one in `RAREST_PARTS`. Where the low end of
-/// the quotient is at most `k` buckets, the result is at most so many times as wide as `k` widths
-/// of the probability and the width of the joint mean together, and 2 units for rounding.
+/// None exactly where the low end of that probability is below `1 / RAREST_PARTS`. Where the mean
+/// is at most `k` buckets, its width is at most `RAREST_PARTS * (k * w + v) + 2` units, with `w`
+/// the width of the probability and `v` that of the joint mean.
 pub fn conditional_mean<const B: u32>(joint: Iv<B>, at: Iv<B>) -> Option<Iv<B>>
     requires small { joint.hi * 2 ^ B ≤ 2 ^ 127 }
     ensures none { IsNone result ↔ (at.entry.lo * rarest_parts < 2 ^ B) }

@@ -38,7 +38,7 @@ fn weighted_sums<const B: u32>(unit: &Grid<B>, others: &Grid<B>, x: u32) -> (u12
 
 /// The joint mean of one unit at `x`, in buckets: the mean of the unit's outcome where the total is
 /// `x`, and of 0 elsewhere. `unit` is the grid of that unit, and `others` that of all other units
-/// together. It is a convolution (Loss Models, "Loss loss models"): where the unit has `y` of
+/// together. It is a convolution (Loss Models, "Aggregate loss models"): where the unit has `y` of
 /// a total of `x`, the others have `x - y`. The low end is rounded down once, and the high end up.
 pub fn joint_mean<const B: u32>(unit: &Grid<B>, others: &Grid<B>, x: u32) -> Iv<B>
     requires in_unit { x < length unit.now }

@@ -1,4 +1,4 @@
--- What a well-formed program is: one that could have been read from a text, whatever its spans.
+-- Well-formed programs: those that some text spells, whatever their spans.
 use Rattle.std.specs.Prelude.{◌≡◌, ℕ, ◌<◌, ◌^◌, ◌++◌, codes, List, length, All, IfSome, IsSome, IsNone}
 use Rattle.dl_lexer.specs.declared.token.Kind.TheVariants as kinds
 use Rattle.dl_lexer.specs.Tokens.{IsSpelled}

@@ -78,7 +78,7 @@ pub struct UnitAst {
 pub enum CountAst {
     /// An exposure, and a distribution that takes its mean from it.
     Exposed {
-        /// What the expected count is taken from.
+        /// The source of the expected count.
         exposure: Exposure,
         /// The claim count's distribution.
         freq: FreqAst,
@@ -96,7 +96,7 @@ pub enum CountAst {
     },
 }
 
-/// What the expected claim count is taken from.
+/// The source of the expected claim count: a number of claims, a loss, or a premium.
 #[derive(Drop)]
 pub enum Exposure {
     /// `N claims`: it is the numeral.
@@ -131,8 +131,8 @@ pub enum FreqAst {
     Gamma(Numeral, Span),
 }
 
-/// What a claim count's probability of no claim is changed to; the probabilities of all other
-/// numbers of claims keep their proportions.
+/// The new probability of no claim of a claim count; the probabilities of all other numbers of
+/// claims keep their proportions.
 #[derive(Drop)]
 pub enum ZeroAst {
     /// It is not changed.
@@ -166,7 +166,7 @@ pub enum LimitAst {
 /// The severity of a unit.
 #[derive(Drop)]
 pub struct SevAst {
-    /// What one claim costs.
+    /// The amounts of one claim.
     pub body: SevBody,
     /// Whether a final `!` keeps the severity from being conditioned on exceeding the attachment.
     pub bang: bool,
@@ -174,7 +174,7 @@ pub struct SevAst {
     pub span: Span,
 }
 
-/// What one claim costs.
+/// The amounts of one claim: a mixture, or the name of one.
 #[derive(Drop)]
 pub enum SevBody {
     /// This mixture.
@@ -207,7 +207,7 @@ pub struct Atom {
 /// `[..]`: a list of numbers.
 #[derive(Drop)]
 pub struct ListAst {
-    /// What is between the brackets, at least one item.
+    /// The items between the brackets, at least one.
     pub items: Items<ListItem>,
     /// From the opening to the closing bracket.
     pub span: Span,
@@ -218,9 +218,9 @@ pub struct ListAst {
 pub struct ListItem {
     /// The number, or the first of the range.
     pub from: Numeral,
-    /// What the range does not pass.
+    /// The bound that no number of the range passes.
     pub to: Rare<Numeral>,
-    /// What one number of the range is above the one before; where there is none it is 1.
+    /// The difference of two neighbours in the range, 1 where it is missing.
     pub step: Rare<Numeral>,
     /// From the first numeral to the last.
     pub span: Span,

@@ -25,14 +25,14 @@ pub fn law_each_kind()
     ensures { (k : Kind) → (text : List ℕ) × IsSpelled k text }
 {}
 
-/// What fewer than 2^32 real tokens spell is well formed.
+/// A program that fewer than 2^32 real tokens spell is well formed.
 pub fn law_well_formed()
     ensures { (p : Program) (ts : List Lexeme) → All IsReal ts → length ts < 2 ^ 32
         → Spells program p ts → IsWellFormed p }
 {}
 
-/// What tokens spell by the grammar without named severities, `geometric`, `zt`, `zm` and `common`,
-/// they spell by the whole grammar, and it names no severity.
+/// A program that tokens spell by the grammar without named severities, `geometric`, `zt`, `zm` and
+/// `common` is what they spell by the whole grammar too, and it names no severity.
 pub fn law_old_texts()
     ensures spelled { (p : Program) (ts : List Lexeme) → Spells old.program p ts
         → Spells program p ts }

@@ -37,7 +37,7 @@ clause_of c = (c.net, map ceded_layer c.layers)
 abbrev pub shares_of : GridClause → List Fraction
 shares_of c = map (λ l. share_of l.share) c.layers
 
--- a clause as it is made, where its shares are fine
+-- a clause, none, or the mark that its shares are not fine
 abbrev pub made_of : Option GridClause → MadeClause
 made_of None = Missing
 made_of (Some c) = if is_fine (shares_of c) then Whole (clause_of c) c.span else TooFine
@@ -67,7 +67,7 @@ abbrev pub greatest_edge : Clause → ℕ
 greatest_edge clause = fold (λ greatest l. max greatest (edge l)) 0 clause.1
 
 -- The clause maps a multiple of step to no whole number. From the greatest edge on it is linear, so
--- that the multiples up to the second one past that edge tell of all.
+-- the multiples up to the second one past that edge decide for all.
 abbrev pub is_off_multiples : Clause → ℕ → Bool
 is_off_multiples clause step = list_any (λ n. is_off clause (n * step))
     (range_with_len 0 (greatest_edge clause / step + 3))

@@ -1,4 +1,4 @@
--- What the clauses of a unit keep once the rules on them are not broken.
+-- The properties of a unit's clauses where the rules on them are kept.
 use Rattle.std.specs.Prelude.{◌≡◌, None}
 use Rattle.dl_buckets.specs.declared.grid.GridClause.{GridClause}
 use Rattle.dl_buckets.specs.GridKept.{IsGridClause}

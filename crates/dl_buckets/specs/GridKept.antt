@@ -1,4 +1,4 @@
--- What a unit in whole buckets keeps: small amounts, and lists, severities and clauses of some
+-- Properties of a unit in whole buckets: small amounts, and lists, severities and clauses of some
 -- parts, but not too many. Lists that belong together are equally long, and fine probabilities sum
 -- to 1.
 use Rattle.std.specs.Prelude.{ℕ, ◌≡◌, ◌<◌, ◌≤◌, length, All, IfSome, None}

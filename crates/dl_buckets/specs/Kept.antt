@@ -1,5 +1,5 @@
--- What a unit in whole buckets keeps once the rules on it are not broken: what later rules may ask
--- of it.
+-- The properties of a unit in whole buckets that keeps the rules so far: later rules
+-- rest on them.
 use Rattle.std.specs.Prelude.{◌≡◌, None, false}
 use Rattle.dl_buckets.specs.declared.grid.GridUnit.{GridUnit}
 use Rattle.dl_buckets.specs.FineParts.{fractions_too_fine}

@@ -1,5 +1,5 @@
--- What reading a unit tells of: the rules 2 to 8, each at the first place in the text where it is
--- broken. Amounts of money are in buckets of size bs, and at most so many.
+-- The flaws of a unit: of each of the rules 2 to 8 the first place in the text where it is broken.
+-- Amounts of money are in buckets of size bs, and at most `most` of them.
 use Rattle.std.specs.Prelude.{ℕ, Bool, true, false, not, ◌&&◌, ◌||◌, ◌==◌, nat_lt, is_some, length}
 use Rattle.dl_limits.specs.Limits.{most_values, most_atoms, most_layers, most_range_parts}
 use Rattle.dl_exact.specs.Fraction.{Fraction, whole}
@@ -50,7 +50,7 @@ flaws_of_amount most bs x place = record no_flaws {
   too_far = at_if (is_above (buckets bs x) (whole most)) place;
 }
 
--- an amount of money that stands at a place
+-- of the numeral n as an amount of money, at this place
 abbrev pub flaws_of_money : ℕ → Fraction → Span → Numeral → Flaws
 flaws_of_money most bs place n =
     flaws_else (flaws_of_numeral n) (flaws_of_amount most bs (value n) place)

@@ -80,14 +80,14 @@ share_above_one u = within share_above_one_in u.occ else within share_above_one_
 abbrev pub common_amount_of : List ℕ → ℕ
 common_amount_of amounts = fold gcd 0 amounts
 
--- what the aggregate clause breaks, on final amounts
+-- where the aggregate clause breaks the rule, on final amounts
 abbrev pub off_grid_sums : MadeClause → List ℕ → Option Span
 off_grid_sums Missing amounts = None
 off_grid_sums TooFine amounts = None
 off_grid_sums (made.Whole clause place) amounts =
     at_if (is_off_multiples clause (common_amount_of amounts)) place
 
--- what both break, on amounts in the layer
+-- where one of both clauses breaks the rule, on amounts in the layer
 abbrev pub off_grid_amounts : MadeClause → MadeClause → List ℕ → Option Span
 off_grid_amounts Missing agr amounts = off_grid_sums agr amounts
 off_grid_amounts TooFine agr amounts = None

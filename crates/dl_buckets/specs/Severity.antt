@@ -41,7 +41,7 @@ mixed_pairs s = mixed (weights_of s) (map atom_pairs s.atoms)
 abbrev pub is_conditioned : Bool → GridLayer → Bool
 is_conditioned bang l = not bang && nat_lt 0 l.attach
 
--- what a layer makes of the severity
+-- the severity in the layer
 abbrev pub layer_pairs : Option GridLayer → Bool → GridSev → Pairs
 layer_pairs None bang s = mixed_pairs s
 layer_pairs (Some l) bang s =
@@ -57,7 +57,7 @@ abbrev pub ceded_pairs : Option GridClause → Pairs → Pairs
 ceded_pairs None pairs = pairs
 ceded_pairs (Some c) pairs = ceded_each (clause_of c) pairs
 
--- what a clause that is made makes of a severity
+-- a severity after a clause; unchanged where there is none, or its shares are not fine
 abbrev pub made_pairs : MadeClause → Pairs → Pairs
 made_pairs Missing pairs = pairs
 made_pairs TooFine pairs = pairs

@@ -1,4 +1,4 @@
--- What the numbers of a unit keep: small parts, and lists of some values, but not too many.
+-- The bounds of a unit's numbers: small parts, and lists of some values, but not too many.
 use Rattle.std.specs.Prelude.{◌≡◌, ◌<◌, ◌≤◌, ◌^◌, ⊤, false, length, All, IfSome}
 use Rattle.dl_limits.specs.Limits.{most_values}
 use Rattle.dl_exact.specs.Fraction.{Fraction}

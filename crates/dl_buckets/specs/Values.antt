@@ -1,4 +1,4 @@
--- What a text writes: each numeral is its value, each list the values of its items.
+-- The values of a text: of each numeral its value, of each list the values of its items.
 use Rattle.std.specs.Prelude.{ℕ, ◌<◌, ⊤, Bool, List, map, flat_map, Option, Some, None}
 use Rattle.dl_exact.specs.Fraction.{Fraction, whole}
 use Rattle.dl_frac.specs.Numerals.{numeral_value, is_bad}

@@ -66,7 +66,7 @@ fn is_off(cede: &Cede, amount: u32) -> bool
     cede.at(amount as u64).is_none()
 }
 
-/// What the clause keeps of each amount, a whole number.
+/// The outcome of each amount after the clause, a whole number.
 fn kept_amounts(cede: &Cede, mut amounts: Vec<u32>) -> Vec<u32>
     requires cession { IsClause cede.now }
     requires whole { list_any (is_off cede.now) amounts.items ≡ false }

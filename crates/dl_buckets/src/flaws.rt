@@ -1,4 +1,4 @@
-//! What reading a unit tells of beside the unit: the first place where each rule is broken.
+//! Of each rule on reading a unit, the first place in the text where it is broken.
 
 ghost use Rattle.std.specs.Prelude.{◌≡◌, Some};
 ghost use Rattle.dl_buckets.specs.Flaws.{no_flaws, flaws_else, earlier_flaws, long_at};

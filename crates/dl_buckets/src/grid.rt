@@ -87,7 +87,7 @@ pub struct GridClause {
     pub span: Span,
 }
 
-/// What the expected claim count is taken from.
+/// The source of the expected claim count: a number of claims, a loss, or a premium.
 #[derive(Clone, Copy)]
 pub enum GridExposure {
     /// It is this number.
@@ -125,7 +125,7 @@ pub enum GridFreq {
 pub enum GridCount {
     /// An exposure, and a distribution that takes its mean from it.
     Exposed {
-        /// What the expected count is taken from.
+        /// The source of the expected count.
         exposure: GridExposure,
         /// The claim count's distribution.
         freq: GridFreq,

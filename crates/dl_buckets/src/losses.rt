@@ -69,7 +69,7 @@ fn grid_atom(
     })
 }
 
-/// The probabilities beside so many values, where there are some.
+/// The probabilities of `count` values, where the text has some.
 pub(crate) fn probs_beside(
     alloc: Global,
     count: usize,

@@ -1,4 +1,4 @@
-//! The clauses of a unit, each made once.
+//! The clauses of a unit, each built once.
 
 ghost use Rattle.std.specs.Prelude.{◌≡◌, ◌<◌, false, IfOk, IfSome, MatchOption, map};
 ghost use Rattle.dl_limits.specs.Limits.{most_parts};
@@ -16,10 +16,10 @@ use dl_lexer::Span;
 use dl_plan::{Cede, CedeLayer};
 use std::alloc::{AllocError, Global};
 
-/// A clause of a unit as it is made.
+/// A clause of a unit, or why there is none.
 #[derive(Drop)]
 pub enum MadeClause {
-    /// There is none.
+    /// The unit has no such clause.
     Missing,
     /// Its shares are not fine.
     TooFine,
@@ -46,7 +46,7 @@ pub fn make_clauses(alloc: Global, unit: &GridUnit) -> Result<Clauses, AllocErro
     Ok(Clauses { occ, agr })
 }
 
-/// A clause that may be missing.
+/// The clause that a unit may have, with its place in the text.
 fn made(alloc: Global, cession: &Option<GridClause>) -> Result<MadeClause, AllocError>
     requires { IfSome cession.now IsClauseLayered }
     ensures same { IfOk result (λ clause. clause ≡ made_of cession.now) }

@@ -80,7 +80,7 @@ fn atom_severity(alloc: Global, atom: &GridAtom) -> Result<Option<Sev>, AllocErr
     Ok(Some(merge(alloc, amounts, &weights)?))
 }
 
-/// What the layer makes of the mixture.
+/// The mixture in the layer: conditioned, where the layer says so, and cut.
 fn severity_in_layer(alloc: Global, unit: &GridUnit, mixed: Sev) -> Result<Sev, AllocError>
     requires weighted { IsWeighted unit.now }
     requires reached { none_above unit.now ≡ None }

@@ -66,7 +66,7 @@ fn weighed(
     }
 }
 
-/// The whole weights of the probabilities of so many values; none exactly where they are not fine.
+/// The whole weights of the probabilities of `count` values; none exactly where these are not fine.
 pub fn weights_among(
     alloc: Global,
     count: usize,
@@ -84,7 +84,7 @@ pub fn weights_among(
     }
 }
 
-/// The weights of so many equal shares of 1.
+/// The weights of `count` equal shares of 1.
 fn equal_weights(alloc: Global, count: usize) -> Result<Weights, AllocError>
     requires some { 0 < count }
     requires few { count ≤ most_values }

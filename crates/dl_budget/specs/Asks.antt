@@ -60,7 +60,7 @@ abbrev pub price_budget : (S : ℕ) → Plan → List Term → ℕ
 price_budget S plan terms =
     sum_by (λ term. up (term.weight *ℚ whole (tail_budget S plan term.p)) + 2) terms
 
--- that of a share: it is told where the total is not too rare
+-- that of a share of a total, which has probability 1 / rarest_parts or more
 abbrev pub kappa_budget : (S : ℕ) → Plan → ℕ → ℕ
 kappa_budget S plan i =
     rarest_parts * (plan.cells * total_budget S plan + joint_budget S plan i) + 2
@@ -89,7 +89,7 @@ ask_budget S plan (Cotail unit p) = cotail_budget S plan (place_of unit plan.uni
 unfoldable pub in_digits : (S budget digits : ℕ) → ℕ
 in_digits S budget digits = 1 + up ((budget * 10 ^ digits) over S)
 
--- what an ask needs
+-- the width that an ask needs
 abbrev pub needed : (S : ℕ) → Plan → Ask → ℕ → ℕ
 needed S plan ask digits = in_digits S (ask_budget S plan ask) digits
 

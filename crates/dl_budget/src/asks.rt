@@ -20,7 +20,7 @@ use dl_grid::units_of_one;
 use dl_limits::RAREST_PARTS;
 use dl_plan::{Ask, Plan, Settings, Term, Unit};
 
-/// The budget of an ask: how far apart the ends of its answer may lie before they are printed. It
+/// The budget of an ask: how far apart its two ends may lie before they are printed. It
 /// follows from the plan and the ask alone. The ask lies inside the grid, names a unit of the
 /// plan, if it names one, and its probability is below 1 and has parts of at most 10^9.
 pub fn ask_budget<const B: u32>(plan: &Plan, ask: &Ask) -> u128
@@ -98,7 +98,7 @@ fn tail_budget<const B: u32>(plan: &Plan, budgets: Budgets, p: Frac) -> u128
     (both * p.den() as u128).div_ceil(rest as u128) + 4
 }
 
-/// What a part of a tail mean may be wide, rounded once at each end: `weight` times `tail`, the
+/// The width of a part of a tail mean, rounded once at each end: `weight` times `tail`, the
 /// width of the tail mean.
 fn part_budget(weight: Frac, tail: u128) -> u128
     requires weight { weight.num ≤ most_weight_parts }
@@ -208,7 +208,7 @@ pub fn named_unit(units: &[Unit], ask: &Ask) -> Option<u32>
     }
 }
 
-/// How many units of the last of so many printed digits a budget comes to, and one more.
+/// A budget in units of the last of `digits` printed digits, rounded up, and one more.
 fn in_digits<const B: u32>(budget: u128, digits: u32) -> u128
     requires scale { IsPlanScale B }
     requires small { budget ≤ most_ask_budget }
@@ -218,7 +218,7 @@ fn in_digits<const B: u32>(budget: u128, digits: u32) -> u128
     1 + (budget * 10u128.pow(digits)).div_ceil(units_of_one(B))
 }
 
-/// How many units of the last of so many printed digits an ask needs: its printed ends lie no
+/// The width that an ask needs, in units of the last of `digits` digits: its printed ends lie no
 /// farther apart. Of the ask as of `ask_budget`; at most 9 digits.
 pub fn needed<const B: u32>(plan: &Plan, ask: &Ask, digits: u32) -> u128
     requires scale { IsPlanScale B }

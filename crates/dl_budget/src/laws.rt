@@ -1,4 +1,4 @@
-//! What follows from the definitions alone. Nothing here runs.
+//! Laws of the definitions alone. Nothing here runs.
 
 ghost use Rattle.std.specs.Prelude.{ℕ, ◌≡◌, ◌≤◌, All};
 ghost use Rattle.dl_limits.specs.Limits.{most_horizon};
@@ -8,8 +8,8 @@ ghost use Rattle.dl_plan.specs.Horizon.{IsHorizonOf, horizon};
 ghost use Rattle.dl_plan.specs.Valid.{IsValid};
 ghost use Rattle.dl_budget.specs.Halvings.{IsHalvings, halvings};
 
-/// Each unit of a valid plan has the horizon that `horizon` tells, of at most 16,384 cells where
-/// the plan has up to 4,096 cells, else 65,536, and no other: budgets are functions of the plan.
+/// Each unit of a valid plan has one horizon, which is `horizon`: at most 16,384 cells where
+/// the plan has up to 4,096 cells, else 65,536. So budgets are functions of the plan.
 pub fn law_horizons()
     ensures known { (plan : Plan) → IsValid plan
         → All (λ u. IsHorizonOf u.cede plan.cells (horizon u.cede plan.cells)) plan.units }

@@ -1,5 +1,5 @@
 //! The width rule: how far apart the ends of each row may lie, from the plan, the ask and
-//! the settings alone, before any grid is made. Budgets are in units of `1 / 2^B`. Nothing here
+//! the settings alone, before any grid is computed. Budgets are in units of `1 / 2^B`. Nothing here
 //! takes memory.
 #![tactic(auto)]
 

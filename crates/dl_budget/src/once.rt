@@ -17,7 +17,7 @@ pub struct Budgets {
     pub mean: u128,
 }
 
-/// These budgets of a valid plan.
+/// The budgets of the total of a valid plan and of its mean.
 pub fn budgets_of<const B: u32>(plan: &Plan) -> Budgets
     requires scale { IsPlanScale B }
     requires valid { IsValid plan.now }

@@ -1,4 +1,4 @@
-//! What convolutions make of a spread: one of them, powers, listed counts and halvings.
+//! The spreads of convolutions: of one, of powers, of listed counts and of halvings.
 
 ghost use Rattle.std.specs.Prelude.{ℕ, ◌≡◌, ◌+◌, ◌*◌, ◌^◌, ◌≤◌};
 ghost use Rattle.dl_limits.specs.Limits.{IsPlanScale, budget_bound, most_claims_budget, most_expected, most_operands};
@@ -60,7 +60,7 @@ pub fn listed<const B: u32>(cells: u32, base: u128, greatest: u32) -> u128
     spread
 }
 
-/// The spread of a grid with the spread `base` that is convolved with itself so many times.
+/// The spread of a grid with the spread `base` after `times` convolutions of it with itself.
 pub fn doubled<const B: u32>(cells: u32, base: u128, times: u32) -> u128
     requires scale { IsPlanScale B }
     requires room { 2 ^ times * rounded_spread cells 0 base ≤ most_operands }

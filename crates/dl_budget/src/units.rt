@@ -149,7 +149,7 @@ pub fn others_budget<const B: u32>(plan: &Plan, i: u32) -> u128
     sum_without::<B>(plan.units.as_slice(), i, plan.cells)
 }
 
-/// What a layer of an aggregate clause adds to the budget of a mean, for a budget before the
+/// The part of a mean's budget that a layer of an aggregate clause adds, for a budget before the
 /// clause. The layer ends within a horizon.
 fn part_width(layer: &CedeLayer, before: u128) -> u128
     requires inside { edge layer.now ≤ most_cells }
@@ -163,7 +163,7 @@ fn part_width(layer: &CedeLayer, before: u128) -> u128
     }
 }
 
-/// What the layers of an aggregate clause add together.
+/// The part that all layers of an aggregate clause add.
 fn layers_budget(layers: &[CedeLayer], before: u128) -> u128
     requires few { length layers.now ≤ most_layers }
     requires inside { All (λ l. edge l ≤ most_cells) layers.now }

@@ -11,28 +11,28 @@ use Rattle.dl_model.specs.Plans.{outcome_after}
 abbrev pub width_at : {B : ℕ} → List (Iv B) → ℕ → ℕ
 width_at cells s = high_at cells s - low_at cells s
 
--- the end at s where what the clause keeps of s is a whole number, else 0: no other sum of claims
--- is there
+-- the end at s where the outcome of s is a whole number, else 0: no other sum of claims
+-- occurs
 unfoldable pub where_whole : Clause → (ℕ → ℕ) → ℕ → ℕ
 where_whole clause f s = if nat_eq (kept clause s).den 1 then f s else 0
 
--- the ends, added up, of the sums below n of which the clause keeps y
+-- the sum of the ends at the sums of claims below n whose outcome is y
 abbrev pub sum_kept : Clause → ℕ → (ℕ → ℕ) → ℕ → ℕ
 sum_kept clause n f y = count_below n (λ s. if nat_eq (outcome_after (Some clause) s) y
     then where_whole clause f s else 0)
 
--- those of the sums below n of which it keeps another number
+-- the same for those whose outcome is another
 abbrev pub sum_elsewhere : Clause → ℕ → (ℕ → ℕ) → ℕ → ℕ
 sum_elsewhere clause n f y = count_below n (λ s. if nat_eq (outcome_after (Some clause) s) y then 0
     else where_whole clause f s)
 
--- cell y of a grid takes in the cells of the sums of which the clause keeps y: its high end is at
--- most 1
+-- cell y of a grid is the sum of the cells of all sums of claims whose outcome is y; its high end
+-- is at most 1
 pub record IsTakenIn {B : ℕ} (clause : Clause) (sums grid : List (Iv B)) (y : ℕ) : Type 0 where
   pub low : low_at grid y ≡ sum_kept clause (length sums) (low_at sums) y
   pub high : high_at grid y ≡ min (2 ^ B) (sum_kept clause (length sums) (high_at sums) y)
 
--- cell y is what the cells of the other sums leave of 1; their low ends are not above it
+-- cell y is 1 less the cells of all sums with another outcome, whose low ends add up to at most 1
 pub record IsLeft {B : ℕ} (clause : Clause) (sums grid : List (Iv B)) (y : ℕ) : Type 0 where
   pub low : low_at grid y ≡ 2 ^ B - sum_elsewhere clause (length sums) (high_at sums) y
   pub high : high_at grid y ≡ 2 ^ B - sum_elsewhere clause (length sums) (low_at sums) y

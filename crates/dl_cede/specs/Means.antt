@@ -50,6 +50,6 @@ most_claims_mean cells one = most_claims * most_amount_at cells * one
 abbrev pub IsNear : CedeLayer → Type 0
 IsNear l = IfSome l.limit (λ limit. limit ≤ most_amount)
 
--- what the layers of a clause that have a limit take together
+-- the most that the layers of a clause with a limit take together
 abbrev pub most_limited : (one : ℕ) → ℕ
 most_limited one = most_layers * most_amount * one

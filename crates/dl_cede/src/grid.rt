@@ -85,7 +85,7 @@ fn elsewhere<const B: u32>(cede: &Cede, sums: &Grid<B>, y: u32) -> Iv<B>
     total
 }
 
-/// What the clause keeps of the first sum past a grid, where that is a whole number below `cells`.
+/// The outcome of the first sum past a grid, where it is a whole number below `cells`.
 fn kept_past(cede: &Cede, sums: u32, cells: u32) -> Option<u32>
     requires clause { IsClause cede.now }
     ensures { MatchOption result ((y : ℕ) → y < cells → kept cede.now sums ≢ whole y)

@@ -1,4 +1,4 @@
--- What is kept of a plan's units, to test starts by: a trial, or a share of the claims above 0.
+-- The base of each unit of a plan, to test starts by: a trial, or a share of the claims above 0.
 use Rattle.std.specs.Prelude.{ℕ, zero, suc, Bool, ◌≡◌, ◌⊎◌, ◌+◌, ◌-◌, ◌*◌, ◌/◌, ◌<◌, ◌≤◌, true, false, List, length, get_or, map}
 use Rattle.std.specs.Int.{div_ceil}
 use Rattle.dl_exact.specs.Fraction.{Fraction}

@@ -1,4 +1,4 @@
--- What is kept of the steps that have passed: where each begins in the text, and its label.
+-- The record of the steps that have passed: where each begins in the text, and its label.
 use Rattle.std.specs.Prelude.{ℕ, ◌≡◌, ◌+◌, ◌*◌, ◌<◌, ◌≤◌, List, [], ◌++◌, length, get_or, drop, nat_eq, if◌then◌else◌}
 use Rattle.dl_grid.specs.Cells.{IsGrid}
 use Rattle.dl_plan.specs.declared.plan.Plan.{Plan}

@@ -16,7 +16,7 @@ no_unit i = 0
 abbrev pub once : ℕ → Label
 once u i = if nat_eq i u then 1 else 0
 
--- what two labels count together
+-- the sum of two labels
 abbrev pub together : Label → Label → Label
 together a b i = a i + b i
 

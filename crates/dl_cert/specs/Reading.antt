@@ -17,7 +17,7 @@ is_newline byte = byte == 10
 abbrev pub line_from : List ℕ → ℕ → List ℕ
 line_from text place = before_first is_newline (drop place text)
 
--- what stands before the first blank, and what stands from it on
+-- the bytes before the first blank, and those from it on
 abbrev pub first_word : List ℕ → List ℕ
 first_word text = before_first is_blank text
 

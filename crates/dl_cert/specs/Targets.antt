@@ -21,9 +21,9 @@ above_zero sev = probability (conditioned 0 (pairs_of sev))
 abbrev pub where_none : {A : Type 0} → Fraction → A → A → A
 where_none v none some = if nat_eq v.num 0 then none else some
 
--- The part of a claim count, where v claims above 0 are expected, that a start stands for: one
--- claim, one trial, or an equal share of the claims above 0, of which a Poisson count has 2^h and a
--- gamma count as many as its shape.
+-- The part of a claim count that a start counts, where v claims above 0 are expected: one claim,
+-- one trial, or an equal share of the claims above 0, of which a Poisson count has 2^h and a gamma
+-- count as many as its shape.
 abbrev pub part_of : Freq → Sev → Fraction → Family
 part_of (Fixed m) sev v = compound (fixed 1) (probability_of sev)
 part_of (Table counts total) sev v = nothing

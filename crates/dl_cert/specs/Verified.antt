@@ -61,7 +61,7 @@ pub record IsCertificate (plan : Plan) (text : List ℕ) : Type 0 where
   pub verifies : Verifies plan text grid
   pub exact : AllExact plan [] verifies.steps
 
--- what `verify` gives: the grid of the last step; or why there is none
+-- the result of `verify`: the grid of the last step; or why there is none
 abbrev pub IsVerified : Plan → List ℕ → List (Iv 56) → Type 0
 IsVerified plan text grid = IsCovered plan × Verifies plan text grid
 

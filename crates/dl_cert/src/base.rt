@@ -1,4 +1,4 @@
-//! What is kept of a unit, to test its starts by.
+//! The base of a unit, to test its starts by.
 
 ghost use Rattle.std.specs.Prelude.{◌^◌, ◌<◌, ◌≤◌, All};
 ghost use Rattle.dl_limits.specs.Limits.{admitted_bound};
@@ -14,7 +14,7 @@ pub(crate) struct Share {
     pub positive: Sev,
     /// By what each sum of the recursion is multiplied.
     pub rate: Frac,
-    /// What cell 0 is compared with.
+    /// The number with which cell 0 is compared.
     pub first: Iv<56>,
     ghost no_zero: { All (λ item. 0 < item.amount) positive.items },
     ghost within: { rate.num ≤ rate.den },
@@ -32,7 +32,7 @@ pub(crate) struct Chance {
     ghost den: { q.den < admitted_bound },
 }
 
-/// What the cells of a start are compared with.
+/// The base of a unit: it decides the numbers with which the cells of a start are compared.
 #[derive(Drop)]
 pub(crate) enum Base {
     /// Nothing: no part of this unit makes up the total.

@@ -54,7 +54,7 @@ fn trial_parts(chance: Chance, sev: &Sev, y: usize) -> u128
     u128::from(q.den() - q.num()) * u128::from(sev.total) + claim
 }
 
-/// What a cell of one trial is compared with.
+/// The number with which a cell of one trial is compared.
 fn trial_number(chance: Chance, sev: &Sev, y: usize) -> Iv<56>
     ensures low { result.lo ≡ one * trial_parts chance.q sev.now y / (chance.q.den * sev.now.total) }
     ensures high { result.hi
@@ -65,7 +65,7 @@ fn trial_number(chance: Chance, sev: &Sev, y: usize) -> Iv<56>
     Iv::enclose(trial_parts(chance, sev, y), parts)
 }
 
-/// What the cell after `before` of a share is compared with.
+/// The number with which the cell after `before` of a share is compared.
 fn share_number<const BY_AMOUNT: bool>(share: &Share, before: &[Iv<56>]) -> Iv<56>
     requires few { length before.now ≤ most_cert_cells }
     requires small { All (λ cell. cell.hi ≤ 2 ^ 56) before.now }
@@ -82,7 +82,7 @@ fn share_number<const BY_AMOUNT: bool>(share: &Share, before: &[Iv<56>]) -> Iv<5
     next_cell::<56, BY_AMOUNT>(sev.items.as_slice(), sev.total, share.rate, before)
 }
 
-/// What the cell after `before` of a start is compared with.
+/// The number with which the cell after `before` of a start is compared.
 pub(crate) fn number_after(base: &Base, sev: &Sev, before: &[Iv<56>]) -> Iv<56>
     requires few { length before.now ≤ most_cert_cells }
     requires small { All (λ cell. cell.hi ≤ 2 ^ 56) before.now }
@@ -99,7 +99,7 @@ pub(crate) fn number_after(base: &Base, sev: &Sev, before: &[Iv<56>]) -> Iv<56>
     }
 }
 
-/// What a cell of a start is compared with.
+/// The number with which a cell of a start is compared.
 fn number_at(base: &Base, sev: &Sev, cells: &[Iv<56>], y: usize) -> Iv<56>
     requires few { length cells.now ≤ most_cert_cells }
     requires small { All (λ cell. cell.hi ≤ 2 ^ 56) cells.now }

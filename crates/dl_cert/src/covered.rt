@@ -37,7 +37,7 @@ fn first_uncovered(units: &[Unit]) -> Option<u32>
     None
 }
 
-/// What keeps a valid plan from having a certificate: the number of its first unit that is not
+/// The reason why a valid plan has no certificate: the number of its first unit that is not
 /// covered, or 0 where its units share a factor. `None` where the plan is covered.
 pub fn not_covered(plan: &Plan) -> Option<u32>
     requires valid { IsValid plan.now }

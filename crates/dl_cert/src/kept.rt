@@ -1,4 +1,4 @@
-//! What is kept of the steps that have passed.
+//! The record of the steps that have passed.
 
 ghost use Rattle.std.specs.Prelude.{ℕ, ◌≡◌, ◌+◌, ◌*◌, ◌<◌, ◌≤◌, ◌↔◌, ◌^◌, IsTrue, length, get_or, IfOk, MatchOption};
 ghost use Rattle.dl_limits.specs.Limits.{most_steps_text, most_units};

@@ -20,9 +20,9 @@ pub fn law_same_products()
         → SameCells F F' → SameCells G G' → SameCells (product F G) (product F' G') }
 {}
 
-/// What encloses the outcome 0 encloses the label of no unit, what encloses a unit's family
-/// encloses the label that counts it once, and what encloses the product of two labels encloses
-/// what they count together.
+/// A grid that encloses the outcome 0 encloses the label of no unit, one that encloses a unit's
+/// family the label that counts it once, and one that encloses the product of two labels their
+/// sum.
 pub fn law_labelled()
     ensures none { (Fs : List Family) (scale cells : ℕ) (lo hi : ℕ → ℕ)
         → Encloses scale cells lo hi nothing → Encloses scale cells lo hi (labelled Fs no_unit) }

@@ -1,4 +1,4 @@
-//! Certificates of the total of a plan: steps, each of which can be checked alone. Here stand
+//! Certificates of the total of a plan: steps, each of which can be checked alone. Here is
 //! which plans can have one, what the labels of steps mean, when a step passes its test, and that
 //! the grid of steps that pass encloses the total.
 #![tactic(auto)]

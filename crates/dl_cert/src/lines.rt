@@ -27,7 +27,7 @@ fn first_place(text: &[u8], sign: u8) -> usize
     text.len()
 }
 
-/// What stands from a place of a text on.
+/// The bytes of a text from a place on.
 fn after(text: &[u8], place: usize) -> &[u8]
     requires { place ≤ length text.now }
     ensures { result.now ≡ drop place text.now }
@@ -118,7 +118,7 @@ fn cell_from(text: &[u8], from: usize) -> Option<ReadCell>
     })
 }
 
-/// The cells that are spelled from a place of a text to its end, where they are so many.
+/// The cells that are spelled from `start` to the end of a text, where there are `cells` of them.
 fn cells_from(
     alloc: Global,
     text: &[u8],
@@ -256,7 +256,7 @@ pub(crate) struct ReadStep {
     pub cells: Vec<Iv<56>>,
 }
 
-/// The step that a line spells, where it has so many cells.
+/// The step that a line spells, where it has `cells` cells.
 pub(crate) fn read_step(
     alloc: Global,
     line: &[u8],

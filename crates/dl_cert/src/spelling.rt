@@ -27,7 +27,7 @@ fn value_of(digits: &[u8]) -> u64
 }
 
 /// The number that 1 to `most` digits write, at most 17 of them. None where they are no digits, or
-/// not so many.
+/// another number of them.
 pub(crate) fn number(text: &[u8], most: usize) -> Option<u64>
     requires most { most ≤ 17 }
     ensures { result ≡ (if is_number_of most text.now

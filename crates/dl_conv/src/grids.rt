@@ -71,7 +71,7 @@ pub fn grid_of_sums<const B: u32>(
     Grid::from_ends(lows, highs)
 }
 
-/// Two lists of so many zeros: room for the sums of the low ends and of the high ends of two grids.
+/// Two lists of `cells` zeros: room for the sums of the low and of the high ends of two grids.
 pub fn room_for_sums(alloc: Global, cells: u32) -> Result<(Vec<u128>, Vec<u128>), AllocError>
     ensures low { IfOk result (λ v. v.0.items ≡ replicate cells 0) }
     ensures high { IfOk result (λ v. v.1.items ≡ replicate cells 0) }
@@ -95,7 +95,7 @@ fn with_plain_sums(a: &[u128], b: &[u128], mut sums: Vec<u128>) -> Vec<u128>
     sums
 }
 
-/// What `with_plain_sums` gives, by halves where there are many sums.
+/// The result of `with_plain_sums`, by halves where there are many sums.
 fn with_halved_sums(a: &[u128], b: &[u128], mut sums: Vec<u128>, work: &mut [u128]) -> Vec<u128>
     requires fits { ItemsFit a.now b.now (length sums.items) }
     requires in_first { length sums.items ≤ length a.now }
@@ -109,7 +109,7 @@ fn with_halved_sums(a: &[u128], b: &[u128], mut sums: Vec<u128>, work: &mut [u12
     sums
 }
 
-/// What `convolve` gives, with each product of two ends by itself. It takes memory for
+/// The result of `convolve`, with each product of two ends by itself. It takes memory for
 /// exactly these cells.
 pub fn convolve_plain<const B: u32>(
     alloc: Global,

@@ -23,7 +23,7 @@ pub trait Ring {
         ensures value { IsSame (value result) (value a + value b) }
         ensures products { products self.new ≡ products self.old };
 
-    /// The difference modulo `2^128`: what makes `a` when `b` is added.
+    /// The difference `a - b` modulo `2^128`.
     fn sub(&mut self, a: Self::Elem, b: Self::Elem) -> Self::Elem
         ensures value { IsSame (value result + value b) (value a) }
         ensures products { products self.new ≡ products self.old };
@@ -68,15 +68,15 @@ impl Ring for Words {
     ghost small = { remainder_small };
 }
 
-/// The words of 128 bits, with a counter of the products so far. It clings to its greatest
-/// value.
+/// The words of 128 bits, with the number of products so far, which stays at `2^64 - 1` once it is
+/// reached.
 #[derive(Clone, Copy, Debug)]
 pub struct Counted {
     count: u64,
 }
 
 impl Counted {
-    /// Words with a counter at 0.
+    /// Words with no product so far.
     pub fn new() -> Counted
         ensures { result.count ≡ 0 }
     {

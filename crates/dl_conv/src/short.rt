@@ -11,7 +11,7 @@ use crate::ring::Words;
 /// The number of items from which on halving is faster than the plain product.
 const HALVED_FROM: usize = 1536;
 
-/// How many items of work memory a product of so many items takes.
+/// The number of items of work memory that a product of `cells` items takes.
 pub fn work_for(cells: u32) -> usize
     ensures { halved_from ≤ cells → 6 * cells ≤ result }
 {

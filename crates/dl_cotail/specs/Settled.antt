@@ -41,7 +41,7 @@ pub record IsNearAt (declares : Quantity → Series) (cells : ℕ) (p d : Fracti
   pub at_most : AtMost (declares (Cdf x)) (declares One) (p +ℚ d)
   pub at_least : AtLeast (declares (Cdf x)) (declares One) (p -ℚ d)
 
--- the quantile at p lies inside the grid, and its probability is below one in `rarest_parts` and d
+-- the quantile at p lies inside the grid, and its probability is below 1 / rarest_parts + d
 pub record IsRareQuantile (declares : Quantity → Series) (cells : ℕ) (p d : Fraction) : Type 0 where
   pub q : ℕ
   pub inside : q < cells

@@ -4,10 +4,10 @@ use Rattle.dl_exact.specs.Count.{count_below}
 use Rattle.dl_iv.specs.declared.interval.Iv.{Iv}
 use Rattle.dl_alloc.specs.Weighted.{low_weighted, high_weighted}
 
--- by the low ends
+-- the sum of the low ends of the joint means at the totals up to q
 abbrev pub low_sums : {B : ℕ} → List (Iv B) → List (Iv B) → ℕ → ℕ
 low_sums unit others q = count_below (suc q) (low_weighted unit others)
 
--- by the high ends
+-- the sum of the high ends
 abbrev pub high_sums : {B : ℕ} → List (Iv B) → List (Iv B) → ℕ → ℕ
 high_sums unit others q = count_below (suc q) (high_weighted unit others)

@@ -52,7 +52,7 @@ fn share_at<const B: u32>(unit: &Grid<B>, others: &Grid<B>, at: Iv<B>, q: u32) -
     Some(share.clamp_to(most * units_of_one(B)))
 }
 
-/// What the distribution `cdf` has above `p`, 0 where it is below.
+/// The difference `cdf - p`, 0 where `cdf` is below `p`.
 fn above<const B: u32>(cdf: Iv<B>, p: Frac) -> Iv<B>
     requires below_one { p <ℚ whole 1 }
     requires small { p.den ≤ 1000000000 }

@@ -18,7 +18,7 @@ use dl_iv::Iv;
 use dl_measures::tail_mean;
 use dl_plan::Term;
 
-/// What a term adds to a price, in buckets: its weight times the tail mean at its probability. None
+/// The part of a price from a term, in buckets: its weight times the tail mean at its `p`. None
 /// exactly where the bracket of the quantile has no high end.
 fn weighted_tail<const B: u32>(g: &Grid<B>, term: Term, mean: Iv<B>) -> Option<Iv<B>>
     requires below_one { term.p <ℚ whole 1 }

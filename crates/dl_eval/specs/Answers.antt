@@ -25,7 +25,7 @@ AreInside plan settings = All (λ asked. IsInside plan.cells asked.ask) settings
 abbrev pub NameUnits : Plan → Settings → Type 0
 NameUnits plan settings = All (λ asked. NamesUnit plan.units asked.ask) settings.asks
 
--- a share of the tail mean is told of a plan whose units share no factor
+-- an ask for a share of the tail mean is admitted only where the units share no factor
 abbrev pub HasShare : Plan → Ask → Type 0
 HasShare plan (Cotail unit p) = plan.common ≡ None
 HasShare plan ask = ⊤

@@ -68,7 +68,7 @@ DeclaresShare plan i p l h = (q : ℕ) → IsQuantile (declared plan) q p
 abbrev pub at_the_end : Plan → Quantity
 at_the_end plan = Cdf (plan.cells - 1)
 
--- the least probability of a total over which a share is told
+-- the least probability of a total for which a share is reported
 abbrev pub least_likely : Fraction
 least_likely = 1 over rarest_parts
 
@@ -132,13 +132,13 @@ pub record IsBeyondSome (plan : Plan) (terms : List Term) (d : Fraction) (row : 
   pub below : Any (λ term. IsBelow plan (at_the_end plan) (term.p +ℚ d)) terms
 
 -- The share of unit i in the total x in numbers: its mean outcome, given that total. They come only
--- where the total is not too rare.
+-- where the probability of that total is at least 1 / rarest_parts.
 pub record IsShareOfUnit (plan : Plan) (i x d most : ℕ) (row : Row) : Type 0 where
   pub likely : IsAtLeast plan (Point x) least_likely
   pub ends : AreRowEnds (DeclaresGiven plan (Point x) (Joint i x)) d most row
 
--- No share in the total x: only where the probability of that total is below the least that is
--- likely enough, and d.
+-- No share in the total x: only where the probability of that total is below 1 / rarest_parts
+-- + d.
 pub record IsTooRare (plan : Plan) (x : ℕ) (d : Fraction) (row : Row) : Type 0 where
   pub is_low : row.low ≡ Absent
   pub is_high : row.high ≡ Absent
@@ -151,17 +151,17 @@ pub record IsTailShare (plan : Plan) (i : ℕ) (p : Fraction) (d most : ℕ) (ro
   pub ends : AreRowEnds (DeclaresShare plan i p) d most row
 
 -- No share in the tail mean at p: only where the distribution is within d of p at some total of the
--- grid, or the probability of the quantile is below the least that is likely enough, and d.
+-- grid, or the probability of the quantile is below 1 / rarest_parts + d.
 pub record IsNoTailShare (plan : Plan) (p d : Fraction) (row : Row) : Type 0 where
   pub is_low : row.low ≡ Absent
   pub is_high : row.high ≡ Absent
   pub why : MayBeAbsent (declared plan) plan.cells p d
 
--- what the distribution and its points may be away from what is declared, with ends in units of 1/S
+-- the most that the ends of the distribution and of its points lie apart; ends in units of 1/S
 abbrev pub total_error : (S : ℕ) → Plan → Fraction
 total_error S plan = total_budget S plan over S
 
--- a good answer to an ask, with d digits, from ends in units of 1/S
+-- a good row of an ask, with d digits, from ends in units of 1/S
 abbrev pub IsAnswerTo : (S : ℕ) → Plan → ℕ → Ask → Row → Type 0
 IsAnswerTo S plan d (asks.Pmf x) row = AreRowEnds (Declares plan (Point x)) d
     (needed S plan (asks.Pmf x) d) row
@@ -190,7 +190,7 @@ IsAnswerTo S plan d (asks.Cotail unit p) row =
     ⊎ IsBeyond plan p (total_error S plan) row
     ⊎ IsNoTailShare plan p (total_error S plan) row
 
--- the ask as it was written, and a good answer
+-- the ask as it was written, and two good ends
 pub record IsGood (plan : Plan) (d : ℕ) (asked : Asked) (row : Row) : Type 0 where
   pub ask : row.ask ≡ asked.text
   pub answer : IsAnswerTo (scale plan) plan d asked.ask row

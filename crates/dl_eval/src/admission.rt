@@ -12,7 +12,7 @@ use dl_budget::{budgets_of, named_unit, needed_with};
 use dl_plan::{Ask, Asked, Plan, Settings, Unit};
 use std::alloc::{AllocError, Global};
 
-/// Whether an ask lies inside a grid of so many cells.
+/// Whether an ask lies inside a grid of `cells` cells.
 fn is_inside(cells: u32, ask: &Ask) -> bool
     ensures { IsTrue result ↔ IsInside cells ask.now }
 {
@@ -77,7 +77,7 @@ fn first_unknown(units: &[Unit], asks: &[Asked], named: &[Option<u32>]) -> Optio
     None
 }
 
-/// Whether a share of the tail mean, where the ask is for one, is told of this plan.
+/// Whether the ask is for no share of the tail mean, or the units share no factor.
 fn has_share(plan: &Plan, ask: &Ask) -> bool
     ensures { IsTrue result ↔ HasShare plan.now ask.now }
 {

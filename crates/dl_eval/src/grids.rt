@@ -30,7 +30,7 @@ fn is_named(named: &[Option<u32>], i: u32) -> bool
     named.iter().any(|unit| *unit == Some(i))
 }
 
-/// For each of so many units, whether it is one of those that asks name.
+/// For each of `units` units, whether an ask names it.
 fn shared_units(alloc: Global, units: usize, named: &[Option<u32>]) -> Result<Vec<bool>, AllocError>
     requires few { units ≤ most_units }
     ensures { IfOk result (λ asked. AreShared units named.now asked.items) }

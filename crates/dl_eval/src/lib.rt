@@ -1,4 +1,4 @@
-//! The answers to the asks about a plan: one row for each ask, with two ends that hold the declared
+//! The report on a plan: one row for each ask, with two ends that hold the declared
 //! value, as narrow as the width rule says; or the first ask that is refused.
 #![tactic(auto)]
 

@@ -1,4 +1,4 @@
-//! What rows are drawn from where the units of a plan share a factor: the grid of the one unit in
+//! The grids that rows come from where the units of a plan share a factor: that of the one unit in
 //! their place, and that of the same with one more in its shape.
 
 ghost use Rattle.std.specs.Prelude.{ℕ, ◌≡◌, ◌*◌, ◌^◌, ◌<◌, ◌≤◌, Some, IsSome, IsTrue, IfOk, length};

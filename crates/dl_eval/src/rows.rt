@@ -35,7 +35,7 @@ pub(crate) fn row_with(alloc: Global, asked: &Asked, low: End, high: End) -> Res
     Ok(Row { ask, low, high })
 }
 
-/// The row of an ask whose answer lies in `value`, with so many digits.
+/// The row of an ask whose declared value lies in `value`, with `digits` digits.
 #[tactic(auto, using(crate::proofs::Scales::digits_fit))]
 pub(crate) fn ends_row<const B: u32>(
     alloc: Global,
@@ -204,7 +204,7 @@ fn grid_row<const B: u32>(
 }
 
 /// The row of an ask about a valid plan, from the mean of its total, the number of the unit that
-/// the ask names, and its grids where they were made; without them, the ask is for the mean.
+/// the ask names, and its grids; without them, the ask is for the mean.
 #[tactic(auto, using(crate::proofs::Scales::plan_scale))]
 pub(crate) fn row<const B: u32>(
     alloc: Global,

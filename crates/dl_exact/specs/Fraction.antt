@@ -37,24 +37,27 @@ n over d =
     read_as (n / common) (d / common) (eq-zero-or-pos (d / common))
     (eqb_tells (gcd (n / common) (d / common)) 1)
 
--- sum, difference, product and order by cross multiplication; the difference is 0 where `y` is
--- above `x`
+-- the sum
 unfoldable pub ◌+ℚ◌ : Fraction → Fraction → Fraction
 x +ℚ y = (x.num * y.den + y.num * x.den) over (x.den * y.den)
 
+-- the difference, 0 where `y` is above `x`
 unfoldable pub ◌-ℚ◌ : Fraction → Fraction → Fraction
 x -ℚ y = (x.num * y.den - y.num * x.den) over (x.den * y.den)
 
+-- the product
 unfoldable pub ◌*ℚ◌ : Fraction → Fraction → Fraction
 x *ℚ y = (x.num * y.num) over (x.den * y.den)
 
--- 0 where `y` is 0
+-- the quotient, 0 where `y` is 0
 unfoldable pub ◌/ℚ◌ : Fraction → Fraction → Fraction
 x /ℚ y = (x.num * y.den) over (x.den * y.num)
 
+-- the order, by cross multiplication
 unfoldable pub ◌≤ℚ◌ : Fraction → Fraction → Type 0
 x ≤ℚ y = x.num * y.den ≤ y.num * x.den
 
+-- the strict order, by cross multiplication
 unfoldable pub ◌<ℚ◌ : Fraction → Fraction → Type 0
 x <ℚ y = x.num * y.den < y.num * x.den
 

@@ -1,4 +1,4 @@
-//! What the ends of the exponential enclose. Nothing here runs.
+//! The laws of the ends of the exponential. Nothing here runs.
 
 ghost use Rattle.std.specs.Prelude.{ℕ, ◌^◌};
 ghost use Rattle.dl_exact.specs.Fraction.{Fraction, whole, ◌over◌, ◌*ℚ◌, ◌≤ℚ◌};

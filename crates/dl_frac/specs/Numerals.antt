@@ -23,9 +23,11 @@ pub data IsNumeral (text : List ℕ) : Type 0 where
 abbrev pub is_percent : ℕ → Bool
 is_percent byte = byte == 37
 
+-- the byte `.`
 abbrev pub is_point : ℕ → Bool
 is_point byte = byte == 46
 
+-- the byte `/`
 abbrev pub is_slash : ℕ → Bool
 is_slash byte = byte == 47
 

@@ -1,4 +1,4 @@
--- What the bytes read so far have shown.
+-- The state of reading a numeral, after some of its bytes.
 use Rattle.std.specs.Prelude.{ℕ, ◌≡◌, ◌^◌, ◌≤◌, List}
 use Rattle.std.specs.List.{list_any}
 use Rattle.dl_frac.specs.declared.reading.Reading.{Reading}

@@ -45,7 +45,7 @@ impl Model for Frac {
 }
 
 impl Frac {
-    /// The first part, in lowest terms.
+    /// The numerator, in lowest terms.
     pub fn num(self) -> u64
         ensures part { result ≡ self.num }
         ensures above { (0 < result) ↔ (whole 0 <ℚ self) }
@@ -54,7 +54,7 @@ impl Frac {
         self.num
     }
 
-    /// The second part, in lowest terms.
+    /// The denominator, in lowest terms.
     pub fn den(self) -> u64
         ensures part { result ≡ self.den }
         ensures positive { 0 < result }

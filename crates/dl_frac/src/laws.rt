@@ -1,4 +1,4 @@
-//! What follows from the definitions alone. Nothing here runs: each law is the contract of a
+//! Laws of the definitions alone. Nothing here runs: each law is the contract of a
 //! function with an empty body.
 
 ghost use Rattle.std.specs.Prelude.{◌≡◌, ◌⊎◌, ℕ, List, [], ◌∷◌, ◌++◌, length, ◌+◌, ◌-◌, ◌^◌, ◌<◌, ◌↔◌, IsTrue};
@@ -8,13 +8,13 @@ ghost use Rattle.dl_frac.specs.Exact.{FitsFrac, IsTooFine};
 ghost use Rattle.dl_exact.specs.Multiples.{IsLcm, lcm};
 ghost use Rattle.dl_frac.specs.Numerals.{IsDecimal, numeral_value, is_bad, digit_count};
 
-/// Each fraction either fits or is too fine, and never both.
+/// Each fraction either fits in a `Frac` or is too fine, and never both.
 pub fn law_fits()
     ensures decided { (x : Fraction) → FitsFrac x ⊎ IsTooFine x }
     ensures apart { (x : Fraction) → FitsFrac x → ¬ IsTooFine x }
 {}
 
-/// The least common multiple is what its name says, and there is one.
+/// `lcm a b` is the one least common multiple of `a` and `b`.
 pub fn law_lcm()
     ensures is { (a b : ℕ) → 0 < b → IsLcm a b (lcm a b) }
     ensures one { (a b m n : ℕ) → IsLcm a b m → IsLcm a b n → m ≡ n }
@@ -34,7 +34,8 @@ pub fn law_numeral_values()
         → numeral_value (first ++ 47 ∷ second) ≡ digits_value 10 first over digits_value 10 second }
 {}
 
-/// When each kind of numeral is bad with a limit of `d` digits.
+/// With a limit of `d` digits a decimal is bad exactly where it has more, a percent where it has
+/// more than `d - 2`, and a fraction where a part has more, or the second is 0.
 pub fn law_bad_numerals()
     ensures decimal { (d : ℕ) (text : List ℕ) → IsDecimal text
         → IsTrue (is_bad d text) ↔ (d < digit_count text) }

@@ -1,9 +1,9 @@
-//! What the bytes of a numeral have shown so far.
+//! The state of reading a numeral, after some of its bytes.
 
 ghost use Rattle.std.specs.Prelude.{◌<◌, ◌≤◌, ◌^◌};
 
-/// What the bytes of a numeral have shown so far: at most 11 digits, and numbers that they can
-/// write.
+/// The state of reading a numeral, after some of its bytes: at most 11 digits, and numbers that
+/// these can write.
 #[derive(Clone, Copy)]
 pub(crate) struct Reading {
     /// The number of the digits, without the point.

@@ -1,4 +1,4 @@
--- What it is that an interval holds a fraction.
+-- When an interval holds a fraction.
 use Rattle.std.specs.Prelude.{ℕ, List, [], ◌∷◌, ◌^◌}
 use Rattle.dl_exact.specs.Fraction.{Fraction, ◌over◌, ◌≤ℚ◌}
 use Rattle.dl_iv.specs.declared.interval.Iv.{Iv}

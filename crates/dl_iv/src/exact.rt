@@ -59,7 +59,7 @@ impl<const B: u32> Iv<B> {
         }
     }
 
-    /// What the values lack to 1, 0 where they are above 1.
+    /// `1 - v` for each value `v`, 0 where it is above 1.
     pub fn complement(self) -> Self
         ensures low { result.lo ≡ 2 ^ B - self.entry.hi }
         ensures high { result.hi ≡ 2 ^ B - self.entry.lo }

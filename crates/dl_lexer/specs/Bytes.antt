@@ -13,7 +13,7 @@ is_letter b = (nat_le 65 b && nat_le b 90) || (nat_le 97 b && nat_le b 122)
 abbrev pub is_digit : ℕ → Bool
 is_digit b = nat_le 48 b && nat_le b 57
 
--- what a word goes on with: a letter, a digit, `_` or `-`
+-- a byte of a word behind its first: a letter, a digit, `_` or `-`
 abbrev pub is_word_byte : ℕ → Bool
 is_word_byte b = is_letter b || is_digit b || b == 95 || b == 45
 

@@ -90,7 +90,7 @@ fn token_at(bytes: &[u8]) -> Option<(Kind, usize)>
     }
 }
 
-/// The token of this kind of so many bytes from a place on.
+/// The token of this kind of `length` bytes from the place `at` on.
 fn token_of(kind: Kind, at: usize, length: usize) -> Token
     requires { at + length ≤ most_text }
     ensures { result ≡ token_of kind at length }

@@ -2,8 +2,8 @@
 
 ghost use Rattle.std.specs.Prelude.{◌≡◌, Ok, Err, IfOk, IfErr};
 
-/// Two parts that were read one behind the other. Where the second one was not, the first is
-/// dropped here, so that a reader owns nothing on its ways out.
+/// Two parts that were read one behind the other. Where the second one was not read, the first is
+/// dropped here, so that a caller that returns the error owns nothing.
 ///
 /// # Errors
 ///

@@ -146,7 +146,7 @@ pub enum Sign {
     Bang,
 }
 
-/// What a token is.
+/// The kind of a token.
 #[derive(Clone, Copy, Debug, PartialEq, Eq)]
 pub enum Kind {
     /// A word whose bytes are in the table of keywords, in lower case.

@@ -40,11 +40,11 @@ most_cells = 65536
 abbrev pub most_fine_cells : ℕ
 most_fine_cells = 16384
 
--- the cells of a grid with ends in units of 1 over 2 to the power `bits`
+-- the most cells of a grid with ends in units of 1 over 2 to the power `bits`
 unfoldable pub most_cells_at : ℕ → ℕ
 most_cells_at bits = if nat_le bits long_bits then most_cells else most_fine_cells
 
--- the horizon of a clause, in a plan with a grid of so many cells
+-- the most buckets of a clause's horizon, in a plan with a grid of so many cells
 abbrev pub most_horizon : ℕ → ℕ
 most_horizon cells = most_cells_at (bits_of cells)
 
@@ -165,7 +165,7 @@ most_claims_budget = 22 * 2 ^ 30
 abbrev pub budget_bound : ℕ
 budget_bound = 2 ^ 44
 
--- ---- how wide an answer can be, in units of the scale
+-- ---- how far two ends can lie apart, in units of the scale
 
 -- the operands of a power, of a listed count or of halvings, each with its roundings, all together:
 -- what they come to is then at most the greatest budget of a unit's claims

@@ -1,5 +1,5 @@
-//! The bounds of a plan, of its settings and of the numbers that are made from them: each stands
-//! once, in `specs/Limits.antt`, and here those that code compares with.
+//! The bounds of a plan, of its settings and of the numbers that follow from them: each is defined
+//! once, in `specs/Limits.antt`, and here are those that code compares with.
 #![tactic(auto)]
 
 ghost use Rattle.std.specs.Prelude.{◌≡◌};

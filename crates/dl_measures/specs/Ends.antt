@@ -14,13 +14,13 @@ low_cdf scale lo x = count_below (suc x) lo over scale
 abbrev pub high_cdf : (scale : ℕ) → (hi : ℕ → ℕ) → ℕ → Fraction
 high_cdf scale hi x = min scale (count_below (suc x) hi) over scale
 
--- the low end of a layer with a limit: what the high ends of the distribution leave of the scale,
--- over the layer
+-- the low end of a layer with a limit: the sum, over the totals in the layer, of 1 less the high
+-- end of the distribution
 abbrev pub low_layer : (scale : ℕ) → (hi : ℕ → ℕ) → (limit attachment : ℕ) → Fraction
 low_layer scale hi limit attachment =
     count_below limit (λ i. scale - min scale (count_below (suc (attachment + i)) hi)) over scale
 
--- its high end: what the low ends leave
+-- its high end: the same sum of 1 less the low end
 abbrev pub high_layer : (scale : ℕ) → (lo : ℕ → ℕ) → (limit attachment : ℕ) → Fraction
 high_layer scale lo limit attachment =
     count_below limit (λ i. scale - count_below (suc (attachment + i)) lo) over scale

@@ -18,7 +18,7 @@ use dl_frac::Frac;
 use dl_grid::{Grid, units_of_one};
 use dl_iv::Iv;
 
-/// What lies above, for each part of the tail: the quotients by `1 - p`, of which the low end is
+/// The mean above the quantile over `1 - p`: the quotients, of which the low end is
 /// lowered first by `slack` units.
 #[tactic(auto, using(dl_exact::proofs::BelowOne::num_below))]
 fn over_the_rest<const B: u32>(excess: Iv<B>, slack: u128, p: Frac) -> Iv<B>

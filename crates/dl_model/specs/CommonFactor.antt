@@ -60,7 +60,7 @@ abbrev pub chances : ℕ → Fraction → List Claims → Fraction
 chances r v claims = product_over claims (λ c. (c.unit.mean /ℚ (whole r +ℚ v)) ^ℚ c.count)
 
 -- The quantity over the claims lists of at most N claims in all; without the constant factor
--- (r / (r + v)) ^ r, which stands in the sums of every quantity.
+-- (r / (r + v)) ^ r, which the sums of every quantity have.
 abbrev pub common_sums : ℕ → List PoissonUnit → Quantity → Series
 common_sums r us quantity N = sum_to N (λ n. sum_over_claims us n (λ claims.
     score quantity (amounts claims) *ℚ amounts_given_counts claims *ℚ ways_to_share r n claims *ℚ

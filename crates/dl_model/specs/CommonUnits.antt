@@ -6,7 +6,7 @@ use Rattle.dl_plan.specs.Severity.{probability_of}
 use Rattle.dl_plan.specs.Count.{expected_count}
 use Rattle.dl_model.specs.CommonFactor.{PoissonUnit}
 
--- what a common factor knows of a unit with a Poisson count
+-- a unit of a plan with a Poisson count, as a unit under a common factor
 abbrev pub poisson_unit : UnitOfPlan → PoissonUnit
 poisson_unit u = record {
   mean = expected_count u.freq;

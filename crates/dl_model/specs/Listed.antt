@@ -8,6 +8,6 @@ use Rattle.dl_plan.specs.Weighted.{weight_at, weight_sum}
 abbrev pub probability_at : List Item → ℕ → Fraction
 probability_at items x = weight_at items x over weight_sum items
 
--- these numbers with equal weights; one that stands there k times is k times as likely
+-- these numbers with equal weights; one that is listed k times is k times as likely
 abbrev pub equally_likely : List ℕ → List Item
 equally_likely values = map (λ value. record { amount = value; weight = 1 }) values

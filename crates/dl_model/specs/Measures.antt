@@ -11,7 +11,7 @@ use Rattle.dl_model.specs.Family.{Family, nothing}
 abbrev pub above : ℕ → List ℕ → Fraction
 above x ys = where_true (nat_lt x (sum ys)) (whole 1)
 
--- what the distribution at x leaves of the whole
+-- the whole less the distribution at x
 abbrev pub survival : List Loss → ℕ → Series
 survival us x = sum_over_outcomes us (above x)
 

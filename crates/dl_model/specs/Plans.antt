@@ -1,4 +1,4 @@
--- What the units of a plan declare.
+-- The quantities that the units of a plan declare.
 use Rattle.std.specs.Prelude.{ℕ, ◌/◌, Option, None, Some, List, [], ◌∷◌, map, sum}
 use Rattle.dl_exact.specs.Fraction.{Fraction, ◌over◌}
 use Rattle.dl_plan.specs.declared.cede.CedeLayer.{CedeLayer}
@@ -28,7 +28,7 @@ count_weights (Binomial trials q) = binomial trials q.num q.den
 count_weights (Poisson mean) = poisson mean
 count_weights (Gamma shape mean) = gamma_of shape mean
 
--- What an aggregate clause makes of a sum. A sum of claims is a multiple of the common divisor of
+-- The outcome of a sum after an aggregate clause. A sum of claims is a multiple of the divisor of
 -- the amounts, and there the clause of a valid plan keeps a whole number; the floor gives a value
 -- at each other number, which no sum is.
 abbrev pub outcome_after : Option Clause → ℕ → ℕ
@@ -57,13 +57,13 @@ loss_of u = after_zero u.zero (aggregate_of u)
 abbrev pub aggregates_of : Plan → List Loss
 aggregates_of plan = map loss_of plan.units
 
--- what units declare: each quantity of their total, where they are independent, or where they share
--- a factor of shape r
+-- each quantity of the total that units declare, where they are independent, or where they share a
+-- factor of shape r
 abbrev pub declared_by : Option ℕ → List UnitOfPlan → Quantity → Series
 declared_by None units = partial_sums (map loss_of units)
 declared_by (Some r) units = common_sums r (poisson_units units)
 
--- what a plan declares
+-- each quantity of the total that a plan declares
 abbrev pub declared : Plan → Quantity → Series
 declared plan = declared_by plan.common plan.units
 

@@ -1,4 +1,4 @@
--- What independent losses declare of their total.
+-- The quantities that independent losses declare of their total.
 use Rattle.std.specs.Prelude.{ℕ, suc, ◌≡◌, ◌-◌, ◌<◌, ◌≤◌, Bool, true, false, nat_eq, nat_le, nat_lt, Option, List, [], ◌∷◌, sum, get_or}
 use Rattle.dl_exact.specs.Fraction.{Fraction, whole, ◌+ℚ◌, ◌-ℚ◌, ◌*ℚ◌, ◌/ℚ◌}
 use Rattle.dl_exact.specs.Sum.{sum_to, sum_over}

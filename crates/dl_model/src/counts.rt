@@ -48,8 +48,8 @@ pub fn law_settles()
         → Settles (λ N. sum_to N (gamma (suc s) x)) }
 {}
 
-/// A bounded factor that is above 0 somewhere changes no declared value when it stands in both
-/// series.
+/// A bounded factor of both series that is above 0 somewhere changes no declared
+/// value.
 pub fn law_common_factor()
     ensures { (E Q R : Series) (e : Fraction) (k : ℕ) → Rises E → IsBound E e → whole 0 <ℚ E k
         → Rises Q → Rises R

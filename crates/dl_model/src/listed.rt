@@ -23,8 +23,8 @@ pub fn law_probabilities()
         → probability_at items x ≡ whole 0 }
 {}
 
-/// Of equally likely numbers the weight of `x` is how often it stands there, and the whole weight
-/// is how many there are.
+/// Of equally likely numbers the weight of `x` is how often it is listed, and the whole weight
+/// is the length of the list.
 #[tactic(auto, using(crate::proofs::WeightLaws::equal_weight, crate::proofs::WeightLaws::equal_total))]
 pub fn law_equally_likely()
     ensures weight { (values : List ℕ) (x : ℕ)
@@ -55,7 +55,7 @@ pub fn law_one_claim()
 
 /// Horner's rule, for every weight `w` of a count and every severity `f`: the greatest count leaves
 /// its weight at 0, each count before it adds its own weight at 0 to the convolution of the
-/// severity with what stands after it, and the count 0 ends with the compound sum.
+/// severity with the result for the greater counts, and the count 0 ends with the compound sum.
 #[tactic(auto, using(crate::proofs::Horner::horner_start, crate::proofs::Horner::horner_next, crate::proofs::Horner::horner_end))]
 pub fn law_horner()
     ensures greatest { (w f : ℕ → Fraction) (k s : ℕ) → cell_from w f k s 0 ≡ w k *ℚ at_zero s }
@@ -66,7 +66,7 @@ pub fn law_horner()
 {}
 
 /// A step of Horner's rule on a grid of `cells` cells, in units of 1 / `scale`, rounded outward:
-/// with `lo` below the severity, `low` below what stands after it, and `start` below the count's
+/// with `lo` below the severity, `low` below the step before, and `start` below the count's
 /// weight, the next low ends are a floor of the convolution, and `start` more at 0. The high ends
 /// go the other way.
 pub fn law_horner_outward()

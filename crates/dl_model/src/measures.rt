@@ -30,9 +30,9 @@ pub fn law_units_quantile()
         → IsQuantile (partial_sums us) q p → IsQuantile (partial_sums us) q' p → q ≡ q' }
 {}
 
-/// The tail mean at `p`, with `r` for `1 - p`, for the quantile `q` anywhere in a bracket from `a`
-/// to `b` where the distribution is within `s` of `p`: from the mean of the layer above `a`, the
-/// low end lowered by what the bracket leaves open.
+/// Ends of the tail mean at `p`, with `r = 1 - p`, where the quantile is from `a` to `b` and the
+/// distribution at least `p - s` between these: with the ends `l` and `h` of the mean of the layer
+/// above `a`, the high end `a + h / r`, and a low end at most `a + l / r - (b - a) * s / r`.
 pub fn law_tail_ends()
     ensures { (us : List Loss) (p r s bound : Fraction) (a b q : ℕ) → AreDeclarable us
         → IsBound (partial_sums us One) bound → p +ℚ r ≡ whole 1 → whole 0 <ℚ r

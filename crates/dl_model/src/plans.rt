@@ -38,8 +38,8 @@ pub fn law_declared()
     ensures units { (plan : Plan) → IsValid plan → AreDeclarable (aggregates_of plan) }
 {}
 
-/// What a clause makes of a sum is what it keeps where that is whole; and no sum stands where it
-/// need not be: each is a multiple of the greatest common divisor of the amounts.
+/// The outcome of a sum is what the clause keeps of it, where that is a whole number. It need be
+/// whole only at multiples of the amounts' greatest common divisor: no other sum has a weight.
 #[tactic(auto, using(crate::proofs::Multiples::clause_whole, crate::proofs::Multiples::no_cell_between))]
 pub fn law_outcome_after()
     ensures whole { (clause : Clause) (s y : ℕ) → kept clause s ≡ whole y

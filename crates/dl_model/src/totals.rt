@@ -70,7 +70,7 @@ pub fn law_tail()
 {}
 
 /// The joint mean is the sum, over the outcomes of the unit and the totals of the others that add
-/// up to `x`, of the outcome times both.
+/// up to `x`, of the outcome times the weights of both.
 #[tactic(auto, using(crate::proofs::Joint::joint_cells))]
 pub fn law_joint()
     ensures { (us : List Loss) → AreDeclarable us → (i x N : ℕ) → i < length us

@@ -23,6 +23,7 @@ impl Model for Schedule {
 impl Schedule {
     ghost use Rattle.dl_outside.specs.Faults.{no_calls, FailsNext, after_success, after_failure};
 
+    /// The schedule before the first call: the calls with these numbers, counted from 0, fail.
     pub(crate) fn new(fails: Vec<u64>) -> Self
         ensures { result ≡ no_calls fails.items }
     {

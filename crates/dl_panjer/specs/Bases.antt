@@ -49,8 +49,8 @@ abbrev pub IsGeometricBase : {B : ℕ} → Sev → Fraction → List (Iv B) → 
 IsGeometricBase sev beta grid =
     FollowsRounded false (λ s. beta /ℚ (whole 1 +ℚ beta)) sev.items sev.total grid
 
--- Each cell stands to cell 0 as the recursion r over f says: its low end is at most, and its high
--- end at least, r s times that of cell 0; the high end where no cell up to s reaches 1.
+-- With the recursion r over f, the low end of each cell s is at most, and its high end at least,
+-- r s times that of cell 0; the high end where no cell up to s reaches 1.
 pub record StandsByRecursion {B : ℕ} (a b : Fraction) (f : ℕ → Fraction)
     (grid : List (Iv B)) : Type 0 where
   pub low : (r : ℕ → Fraction) → Recursion a b f r → (s : ℕ) → s < length grid

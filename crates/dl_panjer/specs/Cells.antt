@@ -6,30 +6,30 @@ use Rattle.dl_exact.specs.Count.{count_pairs}
 use Rattle.dl_plan.specs.declared.item.Item.{Item}
 use Rattle.dl_plan.specs.Weighted.{weight_at}
 
--- n counted by an amount, or n alone
+-- amount * n, or n where amounts do not count
 abbrev pub counted : Bool → ℕ → ℕ → ℕ
 counted by_amount amount n = if by_amount then amount * n else n
 
--- what an item gives to cell n: what it counts for times the end of the cell that lies its amount
--- before
+-- the term of an item in the sum for cell n: its weight, or its amount times its weight, times the
+-- end of cell n - amount
 abbrev pub given : Bool → (ℕ → ℕ) → ℕ → Item → ℕ
 given by_amount ends n item = counted by_amount item.amount item.weight * ends (n - item.amount)
 
--- what the amount i + 1 counts for
+-- the coefficient of the amount i + 1: its weight, or i + 1 times its weight
 abbrev pub coefficient : Bool → List Item → ℕ → ℕ
 coefficient by_amount items i = counted by_amount (suc i) (weight_at items (suc i))
 
--- the ends of the cells up to s, each times what the amount counts for that leads from it to cell s
--- + 1
+-- the sum for cell s + 1, before its divisions: of c i * ends k over all i + k = s
 abbrev pub next_sum : (ℕ → ℕ) → (ℕ → ℕ) → ℕ → ℕ
 next_sum c ends s = count_pairs s (λ i k. c i * ends k)
 
--- the ends of cell s + 1 from those before it, in units of 1 / scale
+-- the low end of cell s + 1 from those before it, in units of 1 / scale, by two floors
 abbrev pub low_next : Bool → List Item → ℕ → Fraction → (ℕ → ℕ) → ℕ → ℕ
 low_next by_amount items total rate ends s =
     next_sum (coefficient by_amount items) ends s / total * rate.num / counted by_amount
     (suc s) rate.den
 
+-- its high end, by two ceilings, and at most the scale
 abbrev pub high_next : ℕ → Bool → List Item → ℕ → Fraction → (ℕ → ℕ) → ℕ → ℕ
 high_next scale by_amount items total rate ends s =
     min scale (div_ceil (div_ceil (next_sum (coefficient by_amount items) ends s) total * rate.num)

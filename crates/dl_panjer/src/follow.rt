@@ -16,11 +16,11 @@ use dl_iv::Iv;
 use dl_plan::Item;
 use std::alloc::{AllocError, Global};
 
-/// The cell that follows `cells` in Panjer's recursion, over amounts above 0 whose whole weights
-/// add up to `total`: each sum over the total weight, times `rate`, which for weights by amount is
-/// divided by the cell's number too. Both steps are rounded outward, and the high end is at most 1.
-/// With weights by amount and the mean as its rate, the count is Poisson; with plain weights and a
-/// rate of `beta / (1 + beta)`, geometric of mean `beta`. It takes no memory.
+/// Cell `s`, the next after `cells`, by Panjer's recursion over amounts `j` above 0 whose whole
+/// weights `w_j` add up to `total`: the sum of `w_j * cell(s - j)`, over `total`, times `rate`; or
+/// `BY_AMOUNT` the sum of `j * w_j * cell(s - j)`, over `total`, times `rate / s`. Both steps are
+/// rounded outward, and the high end is at most 1. The second form with the mean as its rate is for
+/// a Poisson count, the first with `beta / (1 + beta)` for a geometric one of mean `beta`.
 pub fn next_cell<const B: u32, const BY_AMOUNT: bool>(
     items: &[Item],
     total: u32,

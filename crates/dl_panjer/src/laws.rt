@@ -17,8 +17,8 @@ ghost use Rattle.dl_plan.specs.Severity.{probability_of};
 ghost use Rattle.dl_panjer.specs.Outward.{FollowsOutward};
 ghost use Rattle.dl_panjer.specs.Bases.{IsPoissonBase, IsGeometricBase, StandsByRecursion};
 
-/// In a grid that follows the recursion outward each cell stands to cell 0 as the recursion says:
-/// the low ends below, and the high ends above while none has reached the scale.
+/// In a grid that follows the recursion `r` outward, the low end of cell `s` is at most `r s` times
+/// that of cell 0, and its high end at least, while no high end has reached the scale.
 pub fn law_outward()
     ensures low { (scale cells : ℕ) (a b : Fraction) (f : ℕ → Fraction) (lo hi : ℕ → ℕ)
         → FollowsOutward scale cells a b f lo hi → (r : ℕ → Fraction) → Recursion a b f r
@@ -72,7 +72,7 @@ pub fn law_geometric_base()
         → GridEncloses grid (compound (gamma_of 1 beta) (probability_of sev)) }
 {}
 
-/// Each cell stands to cell 0 by Panjer's recursion.
+/// The ends of each cell are to those of cell 0 as Panjer's recursion says.
 pub fn law_stands()
     ensures poisson { (B : ℕ) (sev : Sev) (v : Fraction) (grid : List (Iv B))
         → IsPoissonBase sev v grid

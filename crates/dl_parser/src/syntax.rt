@@ -81,8 +81,8 @@ impl<'a> Parser<'a> {
     }
 }
 
-/// The program that the tokens of a text spell; no other is spelled by them. A text has at most
-/// 1,048,576 bytes, and the tokens are those that it is cut into.
+/// The one program that the tokens of a text of at most 1,048,576 bytes spell. Else the number of
+/// the first token with which no program goes on, counted from 0, or want of memory.
 #[tactic(auto, using(crate::proofs::Covered::covered_inside, crate::proofs::Covered::covered_few))]
 pub fn parse(alloc: Global, source: &[u8], tokens: &[Token]) -> Result<Program, ParseFault>
     requires covered { Covers source.now (length source.now) tokens.now }

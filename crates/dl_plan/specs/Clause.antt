@@ -16,6 +16,7 @@ layer (Some limit) a x = min (x - a) limit
 abbrev pub ceded : List CedeLayer → ℕ → Fraction
 ceded layers x = sum_over layers (λ l. l.share *ℚ whole (layer l.limit l.attach x))
 
+-- the shares of layers, in order
 abbrev pub layer_shares : List CedeLayer → List Fraction
 layer_shares layers = map (λ l. l.share) layers
 

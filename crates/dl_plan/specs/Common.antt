@@ -19,17 +19,18 @@ IsPoisson (Binomial trials q) = ⊥
 IsPoisson (Poisson mean) = ⊤
 IsPoisson (Gamma shape mean) = ⊥
 
--- a unit that can share a factor: its count is Poisson, and neither an aggregate clause nor a
--- changed probability of no claim stands behind it
+-- a unit that can share a factor: its count is Poisson, without an aggregate clause and without a
+-- changed probability of no claim
 pub record CanShare (u : UnitOfPlan) : Type 0 where
   pub count : IsPoisson u.freq
   pub clause : u.cede ≡ None
   pub zero : u.zero ≡ None
 
--- the expected number of claims of all units, and that of their claims above 0
+-- the expected number of claims of all units
 abbrev pub expected_of : List UnitOfPlan → Fraction
 expected_of units = sum_over units (λ u. expected_count u.freq)
 
+-- the expected claims above 0 of all units
 abbrev pub thinned_of : List UnitOfPlan → Fraction
 thinned_of units = sum_over units thinned_mean
 

@@ -1,5 +1,5 @@
--- What there is to know of an ask before it is answered: a row for each, from which follow whether
--- it fits a grid and a plan, and how wide its answer may be.
+-- The facts of each ask before anything is computed, one row for each, from which follow whether it
+-- fits a grid and a plan, and how far its ends may lie apart.
 use Rattle.std.specs.Prelude.{ℕ, ◌+◌, Option, Some, None, List, [], ◌∷◌, map}
 use Rattle.dl_exact.specs.Fraction.{Fraction}
 use Rattle.dl_plan.specs.declared.settings.Ask.{Ask}
@@ -15,6 +15,7 @@ pub record AskFacts : Type 0 where
   pub levels : List Fraction
   pub most : Settings → ℕ
 
+-- a row of the table
 abbrev pub facts : ℕ → Option (List ℕ) → List Fraction → (Settings → ℕ) → AskFacts
 facts reach unit levels most = record { reach = reach; unit = unit; levels = levels; most = most }
 

@@ -10,7 +10,7 @@ IsOfCert Fmt = ⊥
 IsOfCert Cert = ⊤
 IsOfCert Verify = ⊤
 
--- the program has to keep the rules, since it is answered by its plan
+-- the program has to keep the rules, since its plan is needed
 abbrev pub IsOfPlan : Form → Type 0
 IsOfPlan Run = ⊤
 IsOfPlan Fmt = ⊥

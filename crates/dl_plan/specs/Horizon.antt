@@ -7,11 +7,12 @@ use Rattle.dl_plan.specs.declared.cede.CedeLayer.{CedeLayer}
 use Rattle.dl_plan.specs.Clause.{Clause, kept}
 use Rattle.dl_plan.specs.Parts.{kept_parts, parts_in_bucket}
 
--- where a layer from a ends; where it has no top, where it begins
+-- the end of a layer from a; where it has no limit, its beginning
 abbrev pub edge_of : Option ℕ → ℕ → ℕ
 edge_of None a = a
 edge_of (Some limit) a = a + limit
 
+-- the end of a layer; its attachment where it has no limit
 abbrev pub edge : CedeLayer → ℕ
 edge l = edge_of l.limit l.attach
 

@@ -32,10 +32,11 @@ conditioned a pairs =
 abbrev pub shares : List Item → ℕ → Pairs
 shares items total = map (λ item. (item.amount, item.weight over total)) items
 
--- what the severity means
+-- the amounts of a severity with their probabilities
 abbrev pub pairs_of : Sev → Pairs
 pairs_of sev = shares sev.items sev.total
 
+-- the probability of x: its weight over the total
 abbrev pub probability_of : Sev → ℕ → Fraction
 probability_of sev x = weight_at sev.items x over sev.total
 

@@ -5,9 +5,11 @@ use Rattle.dl_limits.specs.Limits.{most_parts}
 use Rattle.dl_exact.specs.Gcd.{gcd}
 use Rattle.dl_plan.specs.declared.item.Item.{Item}
 
+-- the amounts of items, in order
 abbrev pub amounts_of : List Item → List ℕ
 amounts_of items = map (λ item. item.amount) items
 
+-- the sum of the weights of items
 abbrev pub weight_sum : List Item → ℕ
 weight_sum items = sum_by (λ item. item.weight) items
 

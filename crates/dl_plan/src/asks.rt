@@ -1,4 +1,4 @@
-//! What there is to know of an ask before it is answered.
+//! The facts of an ask before anything is computed.
 
 ghost use Rattle.std.specs.Prelude.{◌≡◌, option_map};
 ghost use Rattle.dl_plan.specs.Facts.{facts_of};

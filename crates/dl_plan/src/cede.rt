@@ -187,7 +187,7 @@ impl Cede {
         }
     }
 
-    /// The horizon on so many cells: the greatest of 1, each edge, and the least amount at which
+    /// The horizon on `cells` cells: the greatest of 1, each edge, and the least amount at which
     /// what is kept has reached the cells, or is constant from there on.
     pub fn horizon(&self, cells: u32) -> u128
         requires { IsClause self.now }

@@ -9,7 +9,7 @@ use dl_lexer::{Items, Text};
 /// The claim count of a unit.
 #[derive(Drop)]
 pub enum Freq {
-    /// Exactly so many claims.
+    /// Exactly this number of claims.
     Fixed(u32),
     /// Listed numbers of claims, rising, each with a whole weight.
     Table {
@@ -20,7 +20,7 @@ pub enum Freq {
     },
     /// One claim with this probability, else none.
     Bernoulli(Frac),
-    /// Binomial: so many trials, each a claim with probability `q`.
+    /// Binomial: `trials` trials, each a claim with probability `q`.
     Binomial {
         /// The number of trials.
         trials: u32,
@@ -54,7 +54,7 @@ pub struct Unit {
     pub zero: Option<Frac>,
 }
 
-/// What a program means.
+/// The plan of a program: what it declares, in buckets.
 #[derive(Drop)]
 pub struct Plan {
     /// The bucket size, in money.

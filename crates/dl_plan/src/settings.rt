@@ -6,7 +6,7 @@ use dl_lexer::{Items, Text};
 /// What is done with the text.
 #[derive(Clone, Copy, Debug, PartialEq, Eq)]
 pub enum Form {
-    /// Its asks are answered.
+    /// A report on its asks.
     Run,
     /// It is printed in its canonical form.
     Fmt,
@@ -101,7 +101,7 @@ pub struct Settings {
     pub bs: Frac,
     /// The grid has 2 to this power cells, from 1 to 16.
     pub log2: u32,
-    /// How many digits stand behind the point, from 1 to 9.
+    /// The number of digits behind the point, from 1 to 9.
     pub digits: u32,
     /// The most that the ends of a probability may lie apart, in units of the last digit.
     pub width: u64,

@@ -1,4 +1,4 @@
-//! What a unit's claims come to.
+//! The expected number of a unit's claims, their mean and the horizon of their sum.
 
 ghost use Rattle.std.specs.Prelude.{◌≡◌, ◌<◌, ◌≤◌, ◌^◌, All, length, IfSome, MatchOption};
 ghost use Rattle.std.specs.List.Sorted.{IsStrictlyIncreasing};
@@ -88,7 +88,7 @@ impl Unit {
         )
     }
 
-    /// The horizon of the unit's sums on so many cells: the cells without an aggregate clause; else
+    /// The horizon of the unit's sums on `cells` cells: `cells` without an aggregate clause; else
     /// the greatest of 1, each edge of the clause, and the least sum at which what it keeps has
     /// reached the cells, or is constant from there on. `None` exactly where it passes 16,384, for
     /// at most 4,096 cells, or 65,536, for more. Takes no memory.

@@ -23,6 +23,7 @@ in_some tests i = nat_lt 0 (passed tests i)
 abbrev pub AreApart : List (ℕ → Bool) → Type 0
 AreApart tests = (i : ℕ) → passed tests i ≤ 1
 
+-- the test that no place passes
 abbrev pub no_place : ℕ → Bool
 no_place i = false
 

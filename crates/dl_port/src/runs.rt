@@ -16,7 +16,7 @@ fn are_same<const B: u32>(a: &Grid<B>, b: &Grid<B>) -> bool
     a.lows() == b.lows() && a.highs() == b.highs()
 }
 
-/// How many units from the first on have one grid.
+/// The number of units from the first on whose grids are equal, cell by cell.
 pub(crate) fn alike<const B: u32>(units: &[Grid<B>]) -> usize
     requires { 1 ≤ length units.now }
     ensures some { 1 ≤ result }

@@ -20,7 +20,7 @@ fn spread_with<const B: u32>(sum: u128, units: &[Grid<B>], cells: u32) -> Option
     Some(most)
 }
 
-/// The same for the sum of all units, of which there is at least one.
+/// The spread that the sum of all units may have, taken in one by one; there is at least one unit.
 pub(crate) fn spread_of_sum<const B: u32>(units: &[Grid<B>], cells: u32) -> Option<u128>
     requires { 1 ≤ length units.now }
     ensures { IfSome result (λ most. most ≡ sum_spread (2 ^ B) cells (map spread units.now)) }
@@ -28,7 +28,7 @@ pub(crate) fn spread_of_sum<const B: u32>(units: &[Grid<B>], cells: u32) -> Opti
     spread_with(units[0].spread(), &units[1..], cells)
 }
 
-/// The same for the sum of all units but unit `i`, counted from 0; 0 where there is no other.
+/// The spread that the sum of all units but `i`, counted from 0, may have; 0 where it has none.
 pub(crate) fn spread_without<const B: u32>(units: &[Grid<B>], i: u32, cells: u32) -> Option<u128>
     requires { i < length units.now }
     ensures { IfSome result (λ most. most ≡ sum_spread (2 ^ B) cells

@@ -18,7 +18,7 @@ use dl_grid::{Grid, units_of_one};
 use dl_plan::Item;
 use std::alloc::{AllocError, Global};
 
-/// The weights of so many counts from `first` on.
+/// The weights of `many` counts from `first` on.
 fn weights_from(
     alloc: Global,
     table: &[Item],

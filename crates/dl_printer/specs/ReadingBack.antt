@@ -1,4 +1,4 @@
--- What it is that the canonical text of a program reads back.
+-- When the canonical text of a program reads back as that program.
 use Rattle.std.specs.Prelude.{List, length}
 use Rattle.dl_lexer.specs.declared.token.Token.{Token}
 use Rattle.dl_lexer.specs.Cutting.{Covers}

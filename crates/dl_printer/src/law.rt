@@ -1,4 +1,4 @@
-//! What follows from the definition of the canonical text. Each law is the contract of a function
+//! Laws of the definition of the canonical text. Each law is the contract of a function
 //! that does nothing.
 
 ghost use Rattle.std.specs.Prelude.{◌≡◌, List, length};

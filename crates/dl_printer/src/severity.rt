@@ -60,7 +60,7 @@ impl Printer {
         self.weights(&mix.weights)
     }
 
-    /// What one claim costs.
+    /// The amounts of one claim.
     #[tactic(auto, unfolding(crate::specs::Pieces::cost_pieces))]
     fn cost(&mut self, body: &SevBody) -> Result<(), AllocError>
         ensures { OnOk result (self.new ≡ with_pieces self.old (cost_pieces body.now)) }

@@ -1,4 +1,4 @@
--- What of a list is not 0.
+-- The part of a list outside of which all items are 0.
 use Rattle.std.specs.Prelude.{ℕ, ◌≡◌, ◌<◌, ◌≤◌, List, length, get_or}
 
 -- the items from place p to before place e, where those before and after are 0

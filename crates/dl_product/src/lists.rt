@@ -21,7 +21,7 @@ const PRODUCTS_A_STEP: usize = 8;
 /// item at one level of the transform of a square: measured.
 const SQUARES_A_STEP: usize = 10;
 
-/// Two lists of at most 65,536 items fit a transform of 2 to the power of so many items.
+/// The most levels: two lists of at most 65,536 items fit a transform of `2^17` items.
 const MOST_LEVELS: u32 = 17;
 
 /// The levels of the transform that multiplies two lists, where it takes less time than the

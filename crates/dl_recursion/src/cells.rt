@@ -12,7 +12,7 @@ pub struct Ends {
     pub high: u128,
 }
 
-/// What the ends of the cells up to one add up to, and what such sums of the cells before it do.
+/// The running sum of the ends of the cells up to one, and the sum of the running sums before it.
 #[derive(Clone, Copy)]
 pub struct Total {
     /// The ends up to this cell.

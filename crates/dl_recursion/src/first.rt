@@ -8,7 +8,7 @@ ghost use Rattle.dl_recursion.specs.Start.{HoldsNoClaim};
 
 use crate::start::{Scaled, power_of};
 
-/// What 1 is, in units of 1 / 2^63.
+/// The number 1, in units of 1 / 2^63.
 const ONE: u128 = 1 << 63;
 
 /// Of the geometric count with the ratio `num / (num + rest)`: the rest of 1, `rest / (num +
@@ -34,8 +34,8 @@ fn geometric_start(num: u64, rest: u64) -> Scaled
 const TERMS: u64 = 18;
 
 /// Of the Poisson count of mean `num / den`, at most 1/2: exp of minus the mean, by its inverse.
-/// The terms of the series are rounded each; as they at least halve, the last one stands once more
-/// for the rest.
+/// Each term of the series is rounded; as they at least halve, the last one, counted once more, is
+/// at least the rest.
 #[tactic(auto, using(dl_exact::proofs::Laws::le_of_eq, dl_exact::proofs::Laws::times_one, dl_model::proofs::PoissonWeights::poisson_zero, crate::proofs::Beginnings::low_term, crate::proofs::Beginnings::high_term), unfolding(dl_exact::specs::Sum::sum_to))]
 fn exponential_start(num: u64, den: u64) -> Scaled
     requires positive { 0 < den }

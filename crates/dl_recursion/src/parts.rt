@@ -41,7 +41,7 @@ pub struct Amounts {
     pub runs: Vec<Run>,
 }
 
-/// From so many amounts on a run costs less than its amounts one by one.
+/// The least number of amounts with which a run costs less than its amounts one by one.
 const LONG: usize = 16;
 
 /// Adds the amounts of a run: as a run where it is long, else one by one.
@@ -94,8 +94,8 @@ pub(crate) fn common_amount(items: &[Item]) -> u32
     common
 }
 
-/// The amounts of the items, which rise, in steps of so many buckets that each is a whole number of
-/// them, each with its weight times the factor.
+/// The rising amounts of the items, each over `step`, of which it is a multiple, with its weight
+/// times `factor`.
 #[tactic(auto, using(crate::proofs::Runs::row_none))]
 pub(crate) fn amounts_of(
     alloc: Global,

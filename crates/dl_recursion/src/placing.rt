@@ -45,9 +45,9 @@ fn narrow_high(a: u64, b: u64, down: u64, one: u128) -> u128
     if x > one { one } else { x }
 }
 
-/// The grid of `cells` cells that has each cell of the recursion times the probability of no claim,
-/// by `down` bits down, `step` cells apart, and 0 between. A low end is lowered to its high end,
-/// and to what the low ends before it leave of 1.
+/// The grid of `cells` cells with each cell of the recursion times the probability of no claim,
+/// over `2^down`, at every `step`-th cell, and 0 between. A low end is lowered to its high end, and
+/// to 1 less the low ends before it.
 pub(crate) fn place<const B: u32>(
     alloc: Global,
     x: &ScaledCells,

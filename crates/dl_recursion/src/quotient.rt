@@ -18,7 +18,7 @@ const WHOLE: u128 = 1 << 127;
 /// 2^64.
 const WORD: u128 = 1 << 64;
 
-/// From so many cells on the next divisor is near enough to the last.
+/// The number of cells from which on the next divisor is near enough to the last.
 const NEAR: usize = 256;
 
 /// The lowest 64 bits of a number that has no more, else as many ones.
@@ -34,7 +34,8 @@ fn nearer(about: u64, shifted: u64) -> u64 {
     word((about * (WORD - product)) >> 63)
 }
 
-/// A guess for the divisor `d`, which is `n` times the first, from that for `n - 1` times it.
+/// A guess at `2^127` over the divisor `d`, moved up to 64 bits. `d` is `n` times the first
+/// divisor, and `last` the guess for `n - 1` times it.
 pub(crate) fn inverse_of(d: u64, n: usize, last: Inverse) -> Inverse {
     let up = d.leading_zeros().min(63);
     let shifted = d << up;

@@ -187,7 +187,7 @@ fn grow(
     Ok(())
 }
 
-/// Cell 0 in a list with room for so many cells.
+/// Cell 0 in a list with room for `cells` cells.
 fn first_end(alloc: Global, cells: usize) -> Result<Vec<u64>, AllocError>
     ensures { IfOk result (λ list. list.items ≡ 2 ^ start_bits ∷ []) }
 {
@@ -196,7 +196,7 @@ fn first_end(alloc: Global, cells: usize) -> Result<Vec<u64>, AllocError>
     Ok(list)
 }
 
-/// Cell 0. It takes memory once for each end, for exactly so many cells; and for sums up to them
+/// Cell 0. It takes memory once for each end, for exactly `cells` cells, and for sums up to them
 /// where the amounts have runs.
 fn begin(alloc: Global, amounts: &Amounts, cells: usize) -> Result<ScaledCells, AllocError>
     ensures { IfOk result IsBegun }

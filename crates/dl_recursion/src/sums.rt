@@ -215,7 +215,7 @@ fn reach_runs(x: &ScaledCells, runs: &[Run], a: u64, b: u64) -> Ends
     }
 }
 
-/// What all amounts give to the next cell.
+/// The sum of what each amount adds to the next cell, by its low and its high ends.
 pub(crate) fn reach(
     x: &mut ScaledCells,
     amounts: &Amounts,

@@ -1,4 +1,4 @@
-//! What a report says.
+//! A report: its rows, and the number of its digits.
 
 use dl_lexer::Text;
 use dl_plan::Items;

@@ -16,9 +16,11 @@ floor_of x = x.num / x.den
 abbrev pub steps_in : Range → ℕ
 steps_in r = floor_of ((r.to -ℚ r.from) /ℚ r.step)
 
+-- number k of a range, from 0
 abbrev pub value_at : Range → ℕ → Fraction
 value_at r k = r.from +ℚ whole k *ℚ r.step
 
+-- the numbers of a range, in order
 abbrev pub range_values : Range → List Fraction
 range_values r = map (value_at r) (range_with_len 0 (steps_in r + 1))
 
@@ -30,6 +32,7 @@ list_values ranges = flat_map range_values ranges
 abbrev pub range_denominator : Range → ℕ
 range_denominator r = common_denominator (r.from ∷ r.to ∷ r.step ∷ [])
 
+-- the common denominator is at most 1,000,000
 abbrev pub IsShared : Range → Type 0
 IsShared r = range_denominator r ≤ most_range_parts
 

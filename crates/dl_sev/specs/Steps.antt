@@ -28,6 +28,7 @@ mixture_of total (atom ∷ atoms) [] = []
 mixture_of total (atom ∷ atoms) (weight ∷ weights) =
     scaled (weight over total) (pairs_of atom) ++ mixture_of total atoms weights
 
+-- the mixture of atoms by these weights over their total
 abbrev pub mixture : List Sev → Weights → Pairs
 mixture atoms weights = mixture_of weights.total atoms weights.weights
 
@@ -39,11 +40,11 @@ mixed_probability share total item = share *ℚ item.weight over total
 abbrev pub with_amounts : (ℕ → ℕ) → Pairs → Pairs
 with_amounts f pairs = map (λ pair. (f pair.0, pair.1)) pairs
 
--- what of each amount lies in a layer
+-- the part of each amount in a layer
 abbrev pub layered : Option ℕ → ℕ → Pairs → Pairs
 layered limit attach pairs = with_amounts (layer limit attach) pairs
 
--- what a clause keeps of each amount; a whole number is its numerator
+-- the outcome of each amount after a clause; a whole number is its numerator
 abbrev pub ceded_each : Clause → Pairs → Pairs
 ceded_each clause pairs = with_amounts (λ x. (kept clause x).num) pairs
 

@@ -1,4 +1,4 @@
--- What the whole weights of a list of probabilities are.
+-- The whole weights of a list of probabilities.
 use Rattle.std.specs.Prelude.{◌≡◌, ◌≤◌, List, map, sum}
 use Rattle.dl_limits.specs.Limits.{most_parts}
 use Rattle.dl_exact.specs.Fraction.{Fraction, ◌over◌}

@@ -6,6 +6,7 @@ use Rattle.dl_plan.specs.Fine.{IsFineTo30Bits}
 use Rattle.dl_sev.specs.declared.fault.WeighFault.{WeighFault}
 use Rattle.dl_sev.specs.declared.fault.WeighFault.TheVariants.{TooFine, NotOne, OutOfMemory}
 
+-- the sum of fractions
 abbrev pub sum_of : List Fraction → Fraction
 sum_of xs = sum_over xs (λ x. x)
 

@@ -1,4 +1,4 @@
-//! What an occurrence clause keeps of amounts of which it keeps whole numbers.
+//! The outcomes of amounts after an occurrence clause, where they are whole numbers.
 
 ghost use Rattle.std.specs.Prelude.{◌≡◌, map, All, IfOk};
 ghost use Rattle.dl_plan.specs.Fine.{IsWhole};
@@ -10,7 +10,7 @@ use crate::gather::gathered;
 use dl_plan::{Cede, Item, Sev};
 use std::alloc::{AllocError, Global};
 
-/// What the clause keeps of each amount, a whole number of buckets.
+/// The severity of the outcomes after the clause, each a whole number of buckets.
 pub fn cede_whole(alloc: Global, sev: &Sev, cede: &Cede) -> Result<Sev, AllocError>
     requires clause { IsClause cede.now }
     requires whole { All (λ item. IsWhole (kept cede.now item.amount)) sev.now.items }

@@ -25,7 +25,7 @@ pub fn above(alloc: Global, sev: &Sev, attach: u32) -> Result<Sev, AboveFault>
     }
 }
 
-/// What of each amount lies above `attach` and within the limit, if there is one; in buckets.
+/// The part of each amount above `attach` and within the limit, if there is one; in buckets.
 pub fn cut(alloc: Global, sev: &Sev, limit: Option<u32>, attach: u32) -> Result<Sev, AllocError>
     ensures { IfOk result (λ made. HasDistribution made (layered limit attach (pairs_of sev.now))) }
 {
@@ -54,14 +54,14 @@ fn items_cut(
     Ok(made)
 }
 
-/// What of an amount lies above the attachment and within the limit, in buckets. Takes no memory.
+/// The part of an amount above the attachment and within the limit, in buckets. Takes no memory.
 pub fn cut_amount(amount: u32, limit: Option<u32>, attach: u32) -> u32
     ensures { result ≡ layer limit attach amount }
 {
     in_layer(amount as u64, limit, attach) as u32
 }
 
-/// What the clause keeps of each amount. `OffGrid` exactly where that of an amount is no whole
+/// The severity of the outcomes after the clause. `OffGrid` exactly where an outcome is no whole
 /// number of buckets.
 pub fn cede_each(alloc: Global, sev: &Sev, cede: &Cede) -> Result<Sev, CedeFault>
     requires { IsClause cede.now }

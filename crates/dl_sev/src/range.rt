@@ -7,7 +7,7 @@ use dl_frac::Frac;
 pub struct Range {
     /// The first value.
     pub from: Frac,
-    /// What no value passes.
+    /// The bound that no value passes.
     pub to: Frac,
     /// From each value to the next.
     pub step: Frac,

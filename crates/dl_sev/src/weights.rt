@@ -16,7 +16,7 @@ use std::alloc::{AllocError, Global};
 pub struct Weights {
     /// The weights, in order.
     pub weights: Items<u32>,
-    /// What they sum to.
+    /// Their sum.
     pub total: u32,
 }
 

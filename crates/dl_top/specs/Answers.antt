@@ -48,7 +48,7 @@ pub record Formats (words : List (List ℕ)) (settings : Settings) : Type 0 wher
   pub say : Say words settings
   pub form : settings.form ≡ Fmt
 
--- the words want an answer by the program's plan: to asks, or a certificate that is written or
+-- the words want what needs the program's plan: a report, or a certificate that is written or
 -- checked
 pub record AsksOfPlan (words : List (List ℕ)) (settings : Settings) : Type 0 where
   pub say : Say words settings

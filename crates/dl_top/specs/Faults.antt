@@ -65,7 +65,7 @@ typing_text fault source =
     ++ decimal (rule_number fault.rule) ++ codes " "
     ++ rule_name fault.rule
 
--- what is wrong, in a text with these tokens
+-- the text of a fault, in an input with these tokens
 abbrev pub reason : Fault → List ℕ → List Token → List ℕ
 reason (Usage fault) source tokens = usage_text fault
 reason Read source tokens = codes "the input could not be read"

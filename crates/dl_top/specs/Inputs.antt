@@ -37,6 +37,7 @@ abbrev pub text_for : Option ℕ → Option (List ℕ) → Option (List ℕ)
 text_for (Some seed) left = Some (made_of seed)
 text_for None left = left
 
+-- the same by the settings of the words; where these have a fault, what the source has left
 abbrev pub text_by : Result Settings UsageFault → Option (List ℕ) → Option (List ℕ)
 text_by (Ok settings) left = text_for settings.make left
 text_by (Err fault) left = left
@@ -59,14 +60,14 @@ limit_of Verify = most_steps_text
 abbrev pub is_divided : List ℕ → Bool
 is_divided text = starts_with nat_eq text (codes "---\n") || bytes_eq text (codes "---")
 
--- how many bytes stand before the first line that is `---`: all, where there is none; at the start
--- of the text a line begins, or not
+-- the number of bytes before the first line that is `---`: all, where there is none; `begins` says
+-- whether a line begins at the start of the text
 unfoldable pub length_to_steps : Bool → List ℕ → ℕ
 length_to_steps begins [] = 0
 length_to_steps begins (byte ∷ rest) =
     if begins && is_divided (byte ∷ rest) then 0 else 1 + length_to_steps (is_newline byte) rest
 
--- the program: the input, or with `verify` what stands before the first line that is `---`
+-- the program: the input, or with `verify` the bytes before the first line that is `---`
 abbrev pub program_of : Form → List ℕ → List ℕ
 program_of Run input = input
 program_of Fmt input = input
@@ -80,6 +81,7 @@ steps_of Fmt input = []
 steps_of Cert input = []
 steps_of Verify input = drop (length_to_steps true input + 4) input
 
+-- the program by the settings of the words, or the input where these have a fault
 abbrev pub program_by : Result Settings UsageFault → List ℕ → List ℕ
 program_by (Ok settings) input = program_of settings.form input
 program_by (Err fault) input = input
@@ -102,5 +104,6 @@ abbrev pub limit_by : Result Settings UsageFault → ℕ
 limit_by (Ok settings) = limit_of settings.form
 limit_by (Err fault) = most_text
 
+-- the most bytes of an input for these words
 unfoldable pub limit_for : List (List ℕ) → ℕ
 limit_for words = limit_by (words_of words)

@@ -11,7 +11,7 @@ unfoldable pub value_after : ℕ → ℕ → ℕ
 value_after first zero = first
 value_after first (suc n) = next_value (value_after first n)
 
--- what the draw that leads to a value gives: a number below m, from the value's upper half
+-- the number below m that is drawn by a value: the remainder of its upper half
 abbrev pub drawn_below : ℕ → ℕ → ℕ
 drawn_below m value = value / 65536 % m
 
@@ -23,10 +23,11 @@ frequency i =
     else if i % 4 == 3 then codes "binomial 0.5"
     else codes "fixed"
 
--- the line of unit i, with its expected count and its greatest amount
+-- the beginning of the line of unit i, up to its expected count
 abbrev pub claims_text : ℕ → ℕ → List ℕ
 claims_text i claims = codes "agg U" ++ decimal i ++ codes " " ++ decimal claims ++ codes " claims "
 
+-- the line of unit i: so many claims, each from 1 to `greatest` alike
 abbrev pub unit_text : ℕ → ℕ → ℕ → List ℕ
 unit_text i claims greatest =
     claims_text i claims ++ codes "dsev [1:" ++ decimal greatest ++ codes "] " ++ frequency i
@@ -42,5 +43,6 @@ unfoldable pub unit_lines : ℕ → ℕ → List ℕ
 unit_lines first zero = []
 unit_lines first (suc k) = unit_lines first k ++ unit_line first k
 
+-- the text of the portfolio by this number
 unfoldable pub made_of : ℕ → List ℕ
 made_of first = codes "port Made\n" ++ unit_lines first 8

@@ -1,4 +1,4 @@
--- What `cert` writes, handed to `verify`.
+-- A text that `cert` writes, handed to `verify`.
 use Rattle.std.specs.Prelude.{ℕ, ◌≡◌, List}
 use Rattle.dl_plan.specs.declared.plan.Plan.{Plan}
 use Rattle.dl_plan.specs.declared.settings.Settings.{Settings}

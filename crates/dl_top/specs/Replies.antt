@@ -1,4 +1,4 @@
--- What a reply means before it is written.
+-- The meaning of a reply before it is written.
 use Rattle.std.specs.Prelude.{◌≡◌, ◌≢◌, ◌≤◌, ℕ, List, [], ⊤, All, IsUtf8}
 use Rattle.dl_lexer.specs.declared.token.Token.{Token}
 use Rattle.dl_plan.specs.declared.settings.Form.{Form}

@@ -8,6 +8,7 @@ use Rattle.dl_report.specs.Lines.{lines_of}
 use Rattle.dl_report.specs.Records.{csv_of}
 use Rattle.dl_report.specs.Objects.{json_of}
 
+-- the bytes of a report in this format
 abbrev pub written : Format → Plan → Report → List ℕ
 written Plain plan report = lines_of report
 written Csv plan report = csv_of report

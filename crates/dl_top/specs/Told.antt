@@ -1,4 +1,4 @@
--- What follows from the bytes of a report.
+-- The rows that the bytes of a report determine.
 use Rattle.std.specs.Prelude.{◌≡◌, ℕ, List, All}
 use Rattle.dl_plan.specs.declared.plan.Plan.{Plan}
 use Rattle.dl_plan.specs.declared.settings.Settings.{Settings}

@@ -1,4 +1,4 @@
-//! What follows from the definitions alone. Nothing here runs.
+//! Laws of the definitions alone. Nothing here runs.
 
 ghost use Rattle.std.specs.Prelude.{ℕ, List};
 ghost use Rattle.dl_plan.specs.declared.plan.Plan.{Plan};
@@ -8,9 +8,9 @@ ghost use Rattle.dl_top.specs.Answers.{IsVerifiable};
 ghost use Rattle.dl_top.specs.Repeated.{IsHandedOn};
 ghost use Rattle.dl_top.specs.Told.{MayWrite, TellsItsRows};
 
-/// The rows can be read off what the program writes, in each of the three forms: of two reports
-/// that it may write for the same words with their settings, and the same input with one plan that
-/// it means, the same bytes come of the same rows alone.
+/// The bytes of a report determine its rows, in each of the three forms: two reports that may be
+/// written for the same words and input, with one plan, have the same bytes only where they have
+/// the same rows.
 pub fn law_rows_told()
     ensures { (words : List (List ℕ)) (input : List ℕ) (settings : Settings) (plan : Plan)
         (a b : Report) → MayWrite words input settings plan a

@@ -24,7 +24,7 @@ fn is_divided(text: &[u8]) -> bool
     text.starts_with(b"---\n") || text == b"---".as_slice()
 }
 
-/// How many bytes stand before the first line that is `---`; all where there is none.
+/// The number of bytes before the first line that is `---`; all where there is none.
 fn length_to_steps(text: &[u8]) -> usize
     ensures length { result ≡ length_to_steps true text.now }
     ensures within { result ≤ length text.now }
@@ -39,8 +39,8 @@ fn length_to_steps(text: &[u8]) -> usize
     text.len()
 }
 
-/// The program in an input of this form, and the steps behind it: with `verify` what stands before
-/// the first line that is `---`, and what follows its newline; else all of the input, and nothing.
+/// The program in an input of this form, and the steps behind it: with `verify` the bytes before
+/// the first line that is `---`, and those behind its newline; else all of the input, and none.
 pub fn parts_of(form: Form, input: &[u8]) -> (&[u8], &[u8])
     ensures program { result.0.now ≡ program_of form input.now }
     ensures steps { result.1.now ≡ steps_of form input.now }

@@ -341,7 +341,7 @@ pub fn reply_to<R: Source>(alloc: Global, words: &[String], src: &mut R) -> Repl
     ensures reply { IfSome (input_of (map string_bytes words.now) (R.left src.old))
         (λ input. IsReply (map string_bytes words.now) input result) }
 
-    // A fault of the words comes from them alone, and is told; the source is not read.
+    // A fault of the words comes from them alone, and is returned; the source is not read.
     ensures usage { IsUsage result → HasFault (map string_bytes words.now) }
     ensures unread { (fault : UsageFault) → words_of (map string_bytes words.now) ≡ Err fault
         → Tells result (Fault.Usage fault) [] [] × (src.new ≡ src.old) }

@@ -4,7 +4,7 @@ use Rattle.dl_transform.specs.Residue.{Same, IsFactor}
 use Rattle.dl_transform.specs.Table.{IsTable}
 use Rattle.dl_transform.specs.declared.combined.Setup.{Setup}
 
--- both tables are right and reach as many levels as told, and the first p has its inverse by the
+-- both tables are right and have at least `levels` levels, and the first p has its inverse by the
 -- second
 pub record IsSetup (s : Setup) : Type 0 where
   pub first : IsTable s.first

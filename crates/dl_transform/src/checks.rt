@@ -80,7 +80,7 @@ fn is_undoing(p: u64, unit: u64, l: u32, w: u64, q: u64) -> bool
     lifted * (w as u128) % p as u128 == 1
 }
 
-/// Whether the number that undoes so many levels is right.
+/// Whether the scale of `l` levels is right.
 fn is_scale(t: &Table, l: usize) -> bool
     requires modulus { IsModulus t.now.p }
     requires few { l < 40 }
@@ -150,7 +150,7 @@ fn is_table(t: &Table) -> bool
     are_roots(t) && are_scales(t)
 }
 
-/// Whether so many roots are enough for so many levels.
+/// Whether `roots` roots are enough for `levels` levels.
 fn has_room(levels: u32, roots: usize) -> bool
     requires { levels < 40 }
     ensures { result ≡ true → 2 ^ levels ≤ 2 * roots }

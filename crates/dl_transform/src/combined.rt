@@ -119,7 +119,7 @@ fn combine_all(x: &[u64], y: &[u64], setup: &Setup, levels: u32, out: &mut [u128
     }
 }
 
-/// How many levels have room for so many cells.
+/// The least number of levels with room for `cells` cells.
 pub fn levels_for(cells: usize, most: u32) -> u32
     requires room { cells ≤ 2 ^ most }
     requires few { most < 40 }
@@ -134,7 +134,7 @@ pub fn levels_for(cells: usize, most: u32) -> u32
     most
 }
 
-/// How many cells so many levels have.
+/// The number of cells of `levels` levels.
 fn cells_of(levels: u32) -> usize
     requires { levels < 40 }
     ensures { result ≡ 2 ^ levels }
@@ -203,7 +203,7 @@ fn most(xs: &[u128]) -> u128
     most
 }
 
-/// Whether a setup of so many levels serves the first `cells` items of the product of two lists: it
+/// Whether `levels` levels serve the first `cells` items of the product of two lists: the setup
 /// has room for both, and the sum of `a` times the greatest item of `b` is below `2^123`.
 #[tactic(auto, using(crate::proofs::Wholes::too_large))]
 fn fits(a: &[u128], b: &[u128], cells: usize, levels: u32) -> bool

@@ -52,8 +52,8 @@ fn power(x: u64, e: u64, p: u64) -> u64
     result
 }
 
-/// What times `p` leaves 1 by `2^64`, for an odd `p`: each step of Newton's doubles the bits that
-/// are right.
+/// The inverse of an odd `p` modulo `2^64`: each step of Newton's method doubles the number of
+/// right bits.
 fn inverse_by_words(p: u64) -> u64 {
     let mut inverse: u64 = 1;
     for _ in 0..6u32 {
@@ -63,7 +63,7 @@ fn inverse_by_words(p: u64) -> u64 {
     inverse
 }
 
-/// What `2^126 / p` is above `2^64`, for the quotients.
+/// `2^126 / p` less `2^64`, rounded down, for the quotients.
 fn excess(p: u64) -> u64
     requires { 0 < p }
 {
@@ -142,8 +142,8 @@ fn at_places(alloc: Global, p: u64, steps: &[Factor], count: usize) -> Result<Ve
     Ok(all)
 }
 
-/// What undoes `2^64` and so many levels, for each number of levels: the first is `lift`, and each
-/// is half of the one before; and their quotients.
+/// For each number of levels, the inverse of the product of `2^levels` and the unit: the first is
+/// `lift`, and each is half of the one before; and their quotients.
 fn scales(alloc: Global, p: u64, lift: u64, levels: u32) -> Result<(Vec<u64>, Vec<u64>), AllocError>
     requires modulus { IsModulus p }
 {
@@ -175,7 +175,7 @@ fn nodes(
     Ok((numbers, quotients))
 }
 
-/// The constants for up to so many levels. What they are worth `is_setup` finds out.
+/// The constants for up to `levels` levels, which `is_setup` checks.
 fn table(alloc: Global, p: u64, levels: u32) -> Result<Table, AllocError>
     requires modulus { IsModulus p }
     requires few { levels < 40 }

@@ -87,7 +87,7 @@ fn to_values_4(x: &mut [u64], node: usize, table: &Table)
     to_values_2(high, child + 1, table);
 }
 
-/// The values of the polynomial `x` at the lowest nodes below a node, so many levels down.
+/// The values of the polynomial `x` at the lowest nodes below `node`, `levels` levels down.
 #[tactic(auto, using(crate::proofs::Parts::join_small))]
 pub(crate) fn to_values(x: &mut [u64], node: usize, table: &Table, levels: u32)
     requires table { IsTable table.now }

@@ -8,7 +8,7 @@ ghost use Rattle.dl_transform.specs.Table.{IsTable};
 /// by it needs.
 #[derive(Drop)]
 pub(crate) struct Table {
-    /// What all numbers are remainders by.
+    /// The modulus.
     pub(crate) p: u64,
     /// The root at each node: its square is the number of the node.
     pub(crate) roots: Vec<u64>,
@@ -16,11 +16,11 @@ pub(crate) struct Table {
     /// The inverse of the root at each node.
     pub(crate) inverses: Vec<u64>,
     pub(crate) inverse_quotients: Vec<u64>,
-    /// What times `p` is one less than a multiple of `2^64`.
+    /// The inverse of `-p` modulo `2^64`.
     pub(crate) minus_inverse: u64,
-    /// What times `2^64` leaves 1.
+    /// The unit: the inverse of `2^64` modulo `p`.
     pub(crate) unit: u64,
-    /// For each number of levels, what times `2^levels` and the unit leaves 1.
+    /// For each number of levels, the inverse of the product of `2^levels` and the unit.
     pub(crate) scales: Vec<u64>,
     pub(crate) scale_quotients: Vec<u64>,
 }
@@ -46,7 +46,7 @@ impl Table {
         (self.inverses[node], self.inverse_quotients[node])
     }
 
-    /// What undoes `2^levels` and the unit, and its quotient.
+    /// The inverse of the product of `2^levels` and the unit, modulo `p`, and its quotient.
     pub(crate) fn scale(&self, levels: u32) -> (u64, u64)
         requires table { IsTable self.now }
         requires inside { levels < length self.now.scales.items }

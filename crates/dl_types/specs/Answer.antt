@@ -1,4 +1,4 @@
--- What a check answers.
+-- The results of checks.
 use Rattle.std.specs.Prelude.{ℕ, ◌≡◌, ◌≢◌, Result, Ok, Err, List, [], All, AllPairs, Option, Some, None}
 use Rattle.dl_ast.specs.declared.ast.MixAst.{MixAst}
 use Rattle.dl_ast.specs.declared.ast.PortHead.{PortHead}
@@ -23,7 +23,7 @@ abbrev pub StopsAt : Option TypeFault → CheckFault → Type 0
 StopsAt fault (Typing f) = fault ≡ Some f
 StopsAt fault OutOfMemory = Unit {0}
 
--- a check of some rules tells their first fault, or that there is none
+-- a check of some rules ends with their first fault, or without one where none is broken
 abbrev pub TellsFault : {A : Type 0} → Option TypeFault → Result A CheckFault → Type 0
 TellsFault fault (Ok _) = fault ≡ None
 TellsFault fault (Err stop) = StopsAt fault stop

@@ -22,7 +22,7 @@ pub record IsFinal (u : GridUnit) (sev : Sev) : Type 0 where
   pub near : (most : ℕ) → IsSevWithin most u.sev → All (λ item. item.amount ≤ most) sev.items
   pub few : length sev.items ≤ most_items
 
--- the answer is that severity, where the fractions of the unit are fine, apart from those of its
+-- it is that severity, where the fractions of the unit are fine, apart from those of its
 -- exposure
 abbrev pub IsFineSeverity : GridUnit → Option Sev → Type 0
 IsFineSeverity u made = MatchOption made (fractions_too_fine u ≡ true)
@@ -37,7 +37,7 @@ abbrev pub number_of : UnitCount → Option Fraction
 number_of (counts.Listed values probs) = None
 number_of (counts.Exposed exposure freq n) = Some n
 
--- of listed counts no number is expected
+-- the expected number of claims of the count; none of listed counts
 abbrev pub IsNumberOf : GridCount → Option Fraction → Type 0
 IsNumberOf (Exposed exposure freq) n = ⊤
 IsNumberOf (Listed values probs) n = n ≡ None

@@ -136,7 +136,7 @@ abbrev pub common_size : Option PortHead → List Part → Option Span
 common_size port parts = within (λ (h : PortHead). within (λ (c : Numeral).
     at_if (is_too_large (shape_of (value c)).num parts) h.name.span) h.common) port
 
--- what the units of a program bring
+-- the claims that the units of a program bring
 abbrev pub parts_in : Settings → Program → List Part
 parts_in settings program = map (part_in settings.bs program.sevs) program.units
 

@@ -1,4 +1,4 @@
--- What a unit keeps once rules are not broken: what later steps may ask of it.
+-- The properties of a unit that keeps the rules so far: later steps rest on them.
 use Rattle.std.specs.Prelude.{◌≡◌, ◌≤◌, ⊤, Option, true, false, IsSomeAnd}
 use Rattle.dl_limits.specs.Limits.{most_claims, most_log2, most_shape}
 use Rattle.dl_exact.specs.Fraction.{Fraction, whole, ◌/ℚ◌, ◌<ℚ◌}

@@ -1,4 +1,4 @@
--- The number and the name of each rule, as the user is told them.
+-- The number and the name of each rule, as they are printed.
 use Rattle.std.specs.Prelude.{ℕ, List, codes}
 use Rattle.dl_types.specs.declared.rule.Rule.{Rule}
 use Rattle.dl_types.specs.declared.rule.Rule.TheVariants.{DuplicateName, BadNumeral, BadRange, ListTooLong, LengthsDiffer, NotOne, OffGrid, TooFar, WeightsDiffer, NoneAbove, Overlap, ShareAboveOne, OffGridCession, ZeroMean, CountNotWhole, CountAboveOne, TrialsNotWhole, ShapeNotWhole, TooFine, TooManyClaims, HorizonTooLarge, TooManyUnits, DuplicateSeverity, UnknownSeverity, ZeroBase, CommonUnit, CommonShape, CommonSize}

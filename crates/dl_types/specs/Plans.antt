@@ -1,4 +1,4 @@
--- What a program means: its plan.
+-- The plan of a program: its meaning.
 use Rattle.std.specs.Prelude.{ℕ, ◌≡◌, List, map, zip, Option, Some, None, IfSome}
 use Rattle.dl_exact.specs.Fraction.{Fraction, whole, ◌over◌, ◌/ℚ◌}
 use Rattle.dl_plan.specs.declared.plan.Freq.{Freq}
@@ -77,7 +77,7 @@ pub record IsTabled (counts : ValueList) (probs : Option Shares) (freq : Freq) :
   pub valid : IsClaimCount freq
   pub expected : HasPartsOf48Bits (expected_of_plan freq)
 
--- the claim count that is made of the text
+-- the plan's claim count from that of the text
 abbrev pub IsCountMade : GridCount → Option Fraction → Freq → Type 0
 IsCountMade (Exposed exposure dist) n freq = IfSome n (λ x. freq ≡ freq_with dist x)
 IsCountMade (Listed counts probs) n freq = IsTabled counts probs freq
@@ -86,7 +86,7 @@ abbrev pub aggregate_clause : Option GridClause → Option Clause
 aggregate_clause None = None
 aggregate_clause (Some c) = Some (clause_of c)
 
--- a clause that is made
+-- the clause, where its shares are fine
 abbrev pub cede_of : MadeClause → Option Clause
 cede_of Missing = None
 cede_of TooFine = None

@@ -1,5 +1,5 @@
--- The typing rules: the first place where each is broken, if any. They stand here in the order in
--- which they are asked. A unit is asked a rule only where it keeps the rules before it, so that
+-- The typing rules: the first place where each is broken, if any, in the order in which they
+-- are checked. A unit is checked by a rule only where it keeps the rules before it, so that
 -- each value that a rule needs is there. Where a rule speaks of the number of claims that are
 -- expected, that is the number where it is there and admitted.
 use Rattle.std.specs.Prelude.{ℕ, Bool, true, false, not, ◌&&◌, ◌||◌, nat_lt, is_some, List, slice_get, Option, Some, None}

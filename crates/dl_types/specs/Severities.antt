@@ -1,4 +1,4 @@
--- Severities with names: what a reference stands for.
+-- Severities with names, and the mixture that a reference names.
 use Rattle.std.specs.Prelude.{ℕ, List, [], ◌∷◌, Option, Some, None, if◌then◌else◌}
 use Rattle.std.specs.Str.{bytes_eq}
 use Rattle.dl_lexer.specs.declared.token.Span.{Span}

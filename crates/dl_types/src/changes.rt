@@ -27,7 +27,7 @@ use dl_lexer::Span;
 use dl_limits::MOST_EXPECTED;
 use dl_plan::{Settings, Unit};
 
-/// The probability of no claim is changed where at least 1 claim in so many units is expected.
+/// A changed probability of no claim needs at least `1 / RAREST_CLAIMS` expected claims.
 const RAREST_CLAIMS: u32 = 16;
 
 /// The shape of the factor that all units of a portfolio share, whose units have these in the plan,
@@ -91,8 +91,8 @@ pub(crate) fn zero_base(count: &UnitCount, zero: &Option<Frac>) -> Option<Span>
     }
 }
 
-/// Whether a probability of no claim is 1 or more, or stands where fewer than 1/16 or more than
-/// 4,096 claims are expected.
+/// Whether a changed probability of no claim is 1 or more, or the expected number of claims is
+/// below 1/16 or above 4,096.
 fn has_no_base(zero: Frac, number: Frac) -> bool
     ensures { result ≡ has_no_base zero (Some number) }
 {

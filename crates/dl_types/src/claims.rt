@@ -12,7 +12,7 @@ use dl_frac::{Frac, TooFine};
 use dl_limits::ADMITTED_BOUND;
 use dl_plan::Sev;
 
-/// What the claims of a unit come to, once its fractions are fine.
+/// The claims of a unit, where its fractions are fine.
 #[derive(Drop)]
 pub(crate) struct Claims<'a> {
     /// The severity of one claim, after its layer and its occurrence clause.
@@ -32,7 +32,7 @@ pub(crate) enum UnitCount<'a> {
     Exposed(GridExposure, GridFreq, Frac),
 }
 
-/// Of so many claims the expected number above 0, where both are there and admitted.
+/// The expected number of claims above 0, of `number` claims, where both are there and admitted.
 pub(crate) fn above_zero(severity: &Sev, number: &Option<Frac>) -> Option<Frac>
     ensures { (pairs : Pairs) → HasDistribution severity.now pairs
         → result ≡ claims_above_zero pairs number.now }

@@ -19,7 +19,7 @@ use dl_buckets::{
 };
 use std::alloc::Global;
 
-/// What the rules on its clauses leave of a unit.
+/// The amounts and the clauses of a unit that keeps the rules on these.
 #[derive(Drop)]
 pub(crate) struct Reached {
     /// The amounts of positive probability of the severity in the layer.

@@ -59,7 +59,7 @@ pub(crate) fn check_count<'a>(
     kept(claims, checked)
 }
 
-/// The rules on whole numbers, with so many claims expected.
+/// The rules on whole numbers, with `expected` claims expected.
 #[tactic(auto, unfolding(dl_buckets::specs::First::first_in))]
 fn check_whole(number: u32, count: &GridCount, expected: &Option<Frac>) -> Result<(), CheckFault>
     ensures { TellsFault (first_broken number (whole_rules count.now expected.now)) result }

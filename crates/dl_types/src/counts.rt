@@ -35,7 +35,7 @@ fn is_any_split(values: &[Frac]) -> bool
     values.iter().any(|value| value.den() != 1)
 }
 
-/// Whether a count, of whose expected claims so many are above 0, has too many claims. Its trials
+/// Whether a count has too many claims, of which `above` are expected above 0. Its trials
 /// and its shape are whole.
 #[tactic(auto, unfolding(crate::specs::Rules::has_too_many_claims))]
 pub(crate) fn too_many_claims(count: &UnitCount, above: &Option<Frac>) -> bool

@@ -193,7 +193,7 @@ pub(crate) fn trials_not_whole(count: &GridCount, number: &Option<Frac>) -> Opti
     place_if(is_no_trial(*chance, number), *span)
 }
 
-/// Whether a probability is 0 or above 1, or so many expected claims are no whole number of trials.
+/// Whether a chance is 0 or above 1, or `number` expected claims are no whole number of trials.
 fn is_no_trial(chance: Frac, number: &Option<Frac>) -> bool
     ensures { result ≡ has_no_trials chance number.now }
 {

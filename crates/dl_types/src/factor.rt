@@ -56,7 +56,7 @@ fn claim_sums(units: &[Unit]) -> Option<(Frac, Frac)>
     Some((expected, above))
 }
 
-/// Whether units of which so many claims are expected, and so many above 0, pass a bound of a
+/// Whether units with these expected numbers of claims, and of claims above 0, pass a bound of a
 /// factor of this shape.
 fn passes_bounds(units: &[Unit], shape: u128, expected: Frac, above: Frac) -> bool
     requires some { 0 < shape }

@@ -74,7 +74,7 @@ fn count_too_fine(count: &GridCount) -> bool
     }
 }
 
-/// The claim count of a unit with so many expected claims, of them so many above 0; none where the
+/// The claim count of a unit with `number` expected claims, `above` of them above 0; none where the
 /// expected loss, the expected count, or for a Poisson or a gamma count the number above 0, is not
 /// admitted.
 #[tactic(auto, unfolding(crate::specs::Rules::exposed_too_fine))]

@@ -17,7 +17,7 @@ use dl_frac::Frac;
 use dl_limits::{MOST_CLAIMS, MOST_EXPECTED, MOST_SHAPE};
 use dl_plan::Freq;
 
-/// Whether a distribution with so many expected claims, and so many above 0, has too many.
+/// Whether a distribution with `number` expected claims, `above` of them above 0, has too many.
 #[tactic(auto, unfolding(crate::specs::Rules::has_too_many_claims))]
 pub(crate) fn exposed_too_many(freq: &GridFreq, number: Frac, above: &Option<Frac>) -> bool
     requires { IsWholeFreq freq.now number }
@@ -42,7 +42,7 @@ fn is_above_most(above: &Option<Frac>) -> bool
     matches!(above, Some(number) if passes(*number, MOST_EXPECTED))
 }
 
-/// The claim count of a distribution that breaks no rule, with so many expected claims.
+/// The claim count of a distribution that breaks no rule, with `number` expected claims.
 pub(crate) fn exposed_count(freq: &GridFreq, number: Frac) -> Freq
     requires { IsFreqKept freq.now number }
     ensures { result ≡ freq_with freq.now number }

@@ -1,4 +1,4 @@
-//! What callers may rely on.
+//! Laws for the callers.
 
 ghost use Rattle.std.specs.Prelude.{◌≡◌, None};
 ghost use Rattle.dl_ast.specs.declared.ast.Program.{Program};

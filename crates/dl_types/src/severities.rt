@@ -1,4 +1,4 @@
-//! Severities with names: what a reference stands for, and the rule on their names.
+//! Severities with names: the mixture that a reference names, and the rule on their names.
 
 ghost use Rattle.std.specs.Prelude.{◌≡◌, ◌<◌, ◌^◌, [], None, Some, IfSome, IfNone, length};
 ghost use Rattle.dl_buckets.specs.First.{in_turn};

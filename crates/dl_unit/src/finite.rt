@@ -21,7 +21,7 @@ use dl_power::{mix_counts_with, power_with};
 use dl_product::Workspace;
 use std::alloc::{AllocError, Global};
 
-/// Exactly so many claims.
+/// The grid of exactly `claims` claims.
 pub(crate) fn fixed_claims<const B: u32>(
     alloc: Global,
     work: &mut Workspace,
@@ -39,7 +39,7 @@ pub(crate) fn fixed_claims<const B: u32>(
     power_with(alloc, work, &claim, claims, cells)
 }
 
-/// Listed numbers of claims: `counts` has each with its weight out of `total`.
+/// The grid of a listed number of claims: `counts` has each with its weight out of `total`.
 pub(crate) fn listed_claims<const B: u32>(
     alloc: Global,
     work: &mut Workspace,
@@ -61,7 +61,7 @@ pub(crate) fn listed_claims<const B: u32>(
     mix_counts_with(alloc, work, &claim, counts, total, cells)
 }
 
-/// So many trials, each a claim with probability `q`.
+/// The grid of `trials` trials, each a claim with probability `q`.
 pub(crate) fn binomial_claims<const B: u32>(
     alloc: Global,
     work: &mut Workspace,

@@ -1,4 +1,4 @@
-//! What follows from the definitions alone. Nothing here runs.
+//! Laws of the definitions alone. Nothing here runs.
 
 ghost use Rattle.std.specs.Prelude.{ℕ, ◌≡◌, ◌<◌, ◌≤◌};
 ghost use Rattle.dl_exact.specs.Fraction.{whole};

@@ -35,7 +35,7 @@ fn scaled<const B: u32>(alloc: Global, claim: &Grid<B>, q: Frac) -> Result<Vec<I
     Ok(list)
 }
 
-/// What the claims of amount 0 give to cell 0, and the trials without a claim besides; at most 1.
+/// Cell 0 of one trial: from a claim of amount 0, and from a trial without a claim; at most 1.
 fn first_cell<const B: u32>(part: Iv<B>, q: Frac) -> Iv<B>
     requires probability { IsProbability q }
     requires small { part.hi ≤ 2 ^ B }

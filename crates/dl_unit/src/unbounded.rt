@@ -47,8 +47,8 @@ pub(crate) fn positive_claims(
     sev.positive(alloc)
 }
 
-/// A Poisson number of claims above 0. The mean is halved until it is at most 1/2, and the sum of
-/// such a share of it is doubled as often.
+/// The grid of a Poisson number of claims above 0: the mean is halved to at most 1/2, and the sum
+/// of such a share of it is doubled as often.
 pub fn poisson_claims<const B: u32>(
     alloc: Global,
     work: &mut Workspace,
@@ -71,8 +71,8 @@ pub fn poisson_claims<const B: u32>(
     power_with(alloc, work, &base, 1 << halvings, cells)
 }
 
-/// A gamma number of claims above 0: as many sums as its shape says, each of a geometric number of
-/// claims.
+/// The grid of a gamma number of claims above 0: that of `shape` sums of a geometric number of
+/// claims each, added up. It fails only for want of memory.
 pub fn gamma_claims<const B: u32>(
     alloc: Global,
     work: &mut Workspace,

@@ -23,7 +23,7 @@ use std::alloc::{AllocError, Global};
 
 /// The first `cells` cells of the sum of a unit's claims, before its aggregate clause and before
 /// its probability of no claim is changed. The unit is of a valid plan. The spread is at most the
-/// budget of its claims on so many cells.
+/// budget of its claims on `cells` cells.
 pub fn unit_grid<const B: u32>(
     alloc: Global,
     unit: &Unit,
@@ -54,7 +54,7 @@ pub fn unit_grid_with<const B: u32>(
     sum_grid(alloc, work, &unit.freq, &unit.sev, cells)
 }
 
-/// The first `cells` cells of the sum of so many claims of this severity, of a unit of a valid
+/// The first `cells` cells of the sum of claims with this count and severity, of a unit of a valid
 /// plan.
 pub(crate) fn sum_grid<const B: u32>(
     alloc: Global,

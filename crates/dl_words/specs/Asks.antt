@@ -1,4 +1,4 @@
--- What the texts of the command line ask.
+-- The asks of the command line.
 use Rattle.std.specs.Prelude.{ℕ, ◌+◌, List, [], ◌∷◌, Option, Some, None, Result, Ok, Err}
 use Rattle.std.specs.Result.{result_map_both}
 use Rattle.dl_plan.specs.declared.settings.Ask.{Ask}
@@ -13,7 +13,7 @@ with_ask text None rest = Err 0
 with_ask text (Some ask) rest = result_map_both (λ asks. record { text = text; ask = ask } ∷ asks)
     (λ i. 1 + i) rest
 
--- what the texts ask, or the index of the first that is not spelled as an ask
+-- the asks that the texts spell, or the index of the first that spells none
 unfoldable pub asks_of : List Text → Result (List Asked) ℕ
 asks_of [] = Ok []
 asks_of (text ∷ rest) = with_ask text (ask_of text) (asks_of rest)

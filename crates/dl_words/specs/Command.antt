@@ -4,9 +4,11 @@ use Rattle.clap.specs.Words.{App, Rule, Text, new_app, new_rule, with_rule}
 use Rattle.clap.specs.Simple.{on_top}
 use Rattle.clap.specs.declared.builder.action.ArgAction.TheVariants.{Append}
 
+-- the first positional word
 abbrev pub form : Rule
 form = record (new_rule (codes "form")) { required = true }
 
+-- all other positional words
 abbrev pub asks : Rule
 asks = record (new_rule (codes "asks")) { action = Some Append }
 
@@ -14,9 +16,11 @@ asks = record (new_rule (codes "asks")) { action = Some Append }
 abbrev pub option_of : Text → Rule
 option_of name = record (new_rule name) { long = Some name }
 
+-- the command with no argument yet
 abbrev pub bare_command : App
 bare_command = on_top (λ s. record s { no_binary_name = true }) (new_app (codes "decl"))
 
+-- the command with its positional words and no option
 abbrev pub places : App
 places = with_rule (with_rule bare_command form) asks
 

@@ -1,4 +1,4 @@
--- What a fault of the words means.
+-- The meaning of each fault of the words.
 use Rattle.std.specs.Prelude.{ℕ, ◌≡◌, ◌≢◌, ◌⊎◌, ⊤, List, Result, Err}
 use Rattle.clap.specs.declared.error.kind.ErrorKind.{ErrorKind}
 use Rattle.clap.specs.declared.error.kind.ErrorKind.TheVariants as refusals
@@ -14,8 +14,8 @@ abbrev pub Explains : Result Settings UsageFault → WordsFault → Type 0
 Explains answer (Usage fault) = answer ≡ Err fault
 Explains answer OutOfMemory = ⊤
 
--- what a refusal by `clap` of this kind means: that memory ran out where it says so, and else that
--- the words do not fit the command
+-- the meaning of a refusal by `clap` of this kind: memory ran out where it says so, and else the
+-- words do not fit the command
 abbrev pub TellsRefusal : ErrorKind → WordsFault → Type 0
 TellsRefusal kind fault =
     ((kind ≡ refusals.OutOfMemory) × (fault ≡ OutOfMemory))

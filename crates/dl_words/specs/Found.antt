@@ -1,4 +1,4 @@
--- What `clap` found of an option, as the definitions of the words speak of it.
+-- The values that `clap` found of an option, in terms of the words' definitions.
 use Rattle.std.specs.Prelude.{◌≡◌, Bool, true, false, List, [], ◌∷◌, MatchOption, Option, Some, None, Result, codes, option_and_then, option_map, unwrap_or}
 use Rattle.clap.specs.Matches.{first_value, matched_of, raw_values}
 use Rattle.clap.specs.declared.parser.matches.Found.{Found}
@@ -18,10 +18,11 @@ list_of (Some text) = text ∷ []
 abbrev pub values_in : Found → Values
 values_in found name = list_of (first_value found name)
 
--- the form that was found, and the asks
+-- the form among the words
 abbrev pub form_in : Found → Option Form
 form_in found = option_and_then form_named (first_value found (codes "form"))
 
+-- the words of the asks, in order
 abbrev pub asks_in : Found → List Text
 asks_in found = unwrap_or (option_map raw_values (matched_of found (codes "asks"))) []
 

@@ -1,4 +1,4 @@
--- The options of the command line, the values that each takes, and what stands for one that is not
+-- The options of the command line, the values that each takes, and the default of one that is not
 -- there.
 use Rattle.std.specs.Prelude.{ℕ, Bool, List, [], ◌∷◌, ◌&&◌, Option, Some, None, codes, if◌then◌else◌, is_some, length, drop, nat_le, unwrap_or, ◌==◌}
 use Rattle.std.specs.List.{list_all}
@@ -22,6 +22,7 @@ format_named text =
     else if bytes_eq text (codes "json") then Some Json
     else None
 
+-- the text names a format
 abbrev pub is_format : Text → Bool
 is_format text = is_some (format_named text)
 

@@ -16,7 +16,7 @@ pub data Mode : Type 0 where
   value : Text → Mode
   ended : Mode
 
--- what a word between two parts is: `--`, `--NAME=v`, `--NAME`, a word that no hyphen begins, or
+-- the kind of a word between two parts: `--`, `--NAME=v`, `--NAME`, one that no hyphen begins, or
 -- one that fits nothing
 pub data Kind : Type 0 where
   ends : Kind
@@ -49,6 +49,7 @@ abbrev pub after_hyphen : Text → Kind
 after_hyphen [] = misfit
 after_hyphen (c ∷ cs) = if c == 45 then after_hyphens cs else misfit
 
+-- the kind of a word
 abbrev pub kind_of : Text → Kind
 kind_of [] = plain
 kind_of (c ∷ cs) = if c == 45 then after_hyphen cs else plain
@@ -73,6 +74,7 @@ parts_from between (word ∷ rest) = read_kind word (kind_of word) (λ mode. par
 parts_from (value name) (word ∷ rest) = with_part (option name word) (parts_from between rest)
 parts_from ended (word ∷ rest) = with_part (positional word) (parts_from ended rest)
 
+-- the parts of all words; none where the words fit no command
 abbrev pub command_parts : List Text → Option (List Part)
 command_parts = parts_from between
 

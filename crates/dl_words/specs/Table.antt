@@ -89,6 +89,7 @@ pub record Row : Type 1 where
 abbrev pub row : Text → Way Ask → Row
 row head follows = record { head = head; follows = follows }
 
+-- the table of the asks, each by its head and what follows it
 abbrev pub rows : List Row
 rows =
     row (codes "pmf") (made Pmf amount)
@@ -108,7 +109,7 @@ SpelledBy [] head rest ask = ⊥
 SpelledBy (row ∷ rows) head rest ask =
     (head ≡ row.head) × row.follows.Spells rest ask ⊎ SpelledBy rows head rest ask
 
--- what the text behind the colon is read as, by the first row that has the head
+-- the ask of the text behind the colon, by the first row that has the head
 abbrev pub read_by : List Row → (head rest : Text) → Option Ask
 read_by [] head rest = None
 read_by (row ∷ rows) head rest =
@@ -120,7 +121,7 @@ pub data SpellsAsk (text : Text) : Ask → Type 0 where
   by_row : (head rest : Text) (ask : Ask) → text ≡ head ++ colon ∷ rest → SpelledBy rows head rest ask
       → SpellsAsk text ask
 
--- what the text asks, where it is spelled as an ask
+-- the ask that the text spells, if it does
 unfoldable pub ask_of : Text → Option Ask
 ask_of text = if bytes_eq text (codes "mean") then Some Mean
     else option_and_then (λ cut. read_by rows cut.0 cut.1) (cut_at colon text)

@@ -4,13 +4,13 @@ use Rattle.std.specs.List.{list_any, before_first, after_first}
 use Rattle.std.specs.Str.{bytes_eq}
 use Rattle.dl_words.specs.Spelling.{Text}
 
--- what stands in front of the first byte that is the sign, and what stands behind it
+-- the text before the first byte that is the sign, and the text behind it
 abbrev pub cut_at : ℕ → Text → Option (Text × Text)
 cut_at sign text =
     if list_any (λ b. b == sign) text then Some
     (before_first (λ b. b == sign) text, after_first (λ b. b == sign) text) else None
 
--- what stands behind the sign, where it begins the text
+-- the text behind the sign, where the sign begins it
 abbrev pub behind_sign : ℕ → Text → Option Text
 behind_sign sign [] = None
 behind_sign sign (c ∷ rest) = if c == sign then Some rest else None

@@ -1,4 +1,4 @@
--- What the words ask for, or their first fault.
+-- The settings that the words spell, or their first fault.
 use Rattle.std.specs.Prelude.{ℕ, ◌==◌, ◌&&◌, Bool, List, [], ◌∷◌, Option, Some, None, Result, Ok, Err, length, nat_le, nat_lt, if◌then◌else◌}
 use Rattle.std.specs.List.{list_all}
 use Rattle.dl_limits.specs.Limits.{most_asks}
@@ -38,10 +38,11 @@ abbrev pub to_positionals : Values → List Text → Result Settings UsageFault
 to_positionals values [] = Err Line
 to_positionals values (form ∷ asks) = answer (form_named form) values asks
 
+-- the settings of the parts of the words; the fault `Line` where there are none
 abbrev pub to_parts : Option (List Part) → Result Settings UsageFault
 to_parts None = Err Line
 to_parts (Some ps) = to_positionals (λ name. option_values name ps) (positionals_of ps)
 
--- what the words ask for, or their first fault
+-- the settings that the words spell, or their first fault
 abbrev pub words_of : List Text → Result Settings UsageFault
 words_of words = to_parts (command_parts words)

@@ -1,4 +1,4 @@
-//! What asks are, by their spelling.
+//! Asks, by their spelling.
 
 ghost use Rattle.std.specs.Prelude.{◌≡◌, ◌<◌, ◌≤◌, ◌^◌, ◌++◌, ◌∷◌, [], IfErr, IfOk, Ok, length, map, option_map};
 ghost use Rattle.dl_limits.specs.Limits.{most_asks};
@@ -17,7 +17,7 @@ use dl_lexer::Text;
 use dl_plan::{Ask, Asked, Items, MOST_TERMS, Term, are_priced};
 use std::alloc::{AllocError, Global};
 
-/// What the texts ask, or the index of the first that is not spelled as an ask.
+/// The asks that the texts spell, or the index of the first that spells none.
 #[tactic(auto, using(crate::proofs::AskLists::all_read))]
 pub(crate) fn read_asks(alloc: Global, texts: &[&str]) -> Result<Vec<Asked>, WordsFault>
     requires { length texts.now ≤ most_asks }
@@ -43,7 +43,7 @@ fn misfit(index: usize) -> WordsFault
     WordsFault::Usage(UsageFault::Ask(index as u32))
 }
 
-/// What the text asks, with a copy of the text, where it is spelled as an ask.
+/// The ask that the text spells, with a copy of the text; none where it spells none.
 fn read_asked(alloc: Global, text: &str) -> Result<Option<Asked>, AllocError>
     ensures { IfOk result (λ asked. asked ≡ option_map
         (λ ask. record { text = text.now; ask = ask }) (ask_of text.now)) }
@@ -55,7 +55,7 @@ fn read_asked(alloc: Global, text: &str) -> Result<Option<Asked>, AllocError>
     Ok(Some(Asked { text, ask }))
 }
 
-/// What the text asks, where it is spelled as an ask.
+/// The ask that the text spells; none where it spells none.
 #[tactic(auto, unfolding(crate::specs::Table::ask_of))]
 fn read_ask(alloc: Global, text: &str) -> Result<Option<Ask>, AllocError>
     ensures { IfOk result (λ ask. ask ≡ ask_of text.now) }
@@ -69,7 +69,7 @@ fn read_ask(alloc: Global, text: &str) -> Result<Option<Ask>, AllocError>
     }
 }
 
-/// The ask of what stands in front of the first colon and what stands behind it.
+/// The ask of the text before the first colon and the text behind it; none where it is no ask.
 fn ask_between(alloc: Global, head: &str, rest: &str) -> Result<Option<Ask>, AllocError>
     ensures { IfOk result (λ ask. ask ≡ read_by rows head.now rest.now) }
 {
@@ -154,7 +154,7 @@ fn layer(text: &str) -> Option<(Option<u32>, u32)>
     Some((limit, attach))
 }
 
-/// What stands behind an `s` that begins the text.
+/// The text behind an `s` that begins it; none where it begins otherwise.
 fn behind_s(text: &str) -> Option<&str>
     ensures { option_map (λ rest. rest.now) result ≡ behind_sign letter_s text.now }
 {
@@ -206,7 +206,7 @@ fn unit_level(alloc: Global, text: &str) -> Result<Option<(Text, Frac)>, AllocEr
     Ok(Some((Text::copy(alloc, name.as_bytes())?, p)))
 }
 
-/// What stands in front of the first such sign, which is ASCII, and what stands behind it.
+/// The text before the first `sign`, which is ASCII, and the text behind it; none without one.
 fn cut(text: &str, sign: char) -> Option<(&str, &str)>
     requires { sign < 128 }
     ensures { option_map (λ cut. (cut.0.now, cut.1.now)) result ≡ cut_at sign text.now }

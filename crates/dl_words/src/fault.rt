@@ -1,9 +1,9 @@
-//! What can be wrong with the words.
+//! The faults of the words.
 
 use std::alloc::{AllocError, AllocFailed};
 use thiserror::Error;
 
-/// What is wrong with the words.
+/// A fault of the words.
 #[derive(Clone, Copy, Debug, PartialEq, Eq, Error)]
 pub enum UsageFault {
     /// The words do not fit the command, or a value is not in its range.

@@ -22,8 +22,8 @@ use std::alloc::Global;
 /// The words do not fit the command.
 const LINE: WordsFault = WordsFault::Usage(UsageFault::Line);
 
-/// The settings of what was found, or the first fault. Where what was found does not fit the
-/// command, it says so, and never that memory ran out.
+/// The settings of the values that `clap` found, or the first fault. Where these do not fit the
+/// command, the fault is `Line`, and never want of memory.
 #[tactic(auto, using(std::proofs::lemmas::Bool::and_left, std::proofs::lemmas::Bool::and_right, crate::proofs::Judged::asks_no_line, crate::proofs::Judged::explained, crate::proofs::Judged::fitting_tests, crate::proofs::Judged::misfit_found, crate::proofs::Judged::plain_found, crate::proofs::Judged::texts_found))]
 pub(crate) fn judge(alloc: Global, matches: &ArgMatches<'_>) -> Result<Settings, WordsFault>
     ensures settings { IfOk result (λ settings. answer_in (found_of matches.now) ≡ Ok settings) }
@@ -63,7 +63,7 @@ fn begin_plainly(texts: &[&str]) -> bool
     texts.iter().all(|text| begins_plainly(text.as_bytes()))
 }
 
-/// Whether the form takes so many asks, and the options that are given.
+/// Whether the form takes this number of asks, and the options that are given.
 fn admits(form: Form, matches: &ArgMatches<'_>, texts: &[&str]) -> bool
     ensures { result ≡ admits form (values_in (found_of matches.now))
         (map (λ text. text.now) texts.now) }

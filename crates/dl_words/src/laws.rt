@@ -1,4 +1,4 @@
-//! What follows from the definitions of the words alone. Nothing here runs: each law is the
+//! Laws of the definitions of the words alone. Nothing here runs: each law is the
 //! contract of a function with an empty body.
 
 ghost use Rattle.std.specs.Prelude.{◌≡◌, ◌↔◌, ℕ, List, Some, IsTrue};
@@ -10,7 +10,7 @@ ghost use Rattle.dl_words.specs.Parts.{Part, command_parts};
 ghost use Rattle.dl_words.specs.Spelling.{is_numeral, is_word};
 ghost use Rattle.dl_words.specs.Table.{SpellsAsk, ask_of};
 
-/// What is read as an ask is exactly what the table of the asks has; so no text is two asks.
+/// A text is read as an ask exactly where the table of the asks has it; so no text is two asks.
 #[tactic(auto, using(crate::proofs::TableLaws::table_back, crate::proofs::TableLaws::table_read))]
 pub fn law_asks()
     ensures table { (text : List ℕ) (ask : Ask) → (ask_of text ≡ Some ask) ↔ SpellsAsk text ask }

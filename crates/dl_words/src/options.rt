@@ -133,8 +133,8 @@ fn is_report_plain(matches: &ArgMatches<'_>) -> bool
         && is_absent(matches, "format")
 }
 
-/// Whether no option is given but `--make`, `--bs` and `--log2`, and a plan with so many cells can
-/// have a certificate.
+/// Whether no option is given but `--make`, `--bs` and `--log2`, and a plan with the cells of the
+/// last one can have a certificate.
 pub(crate) fn are_of_cert(matches: &ArgMatches<'_>) -> bool
     ensures { result ≡ are_of_cert (values_in (found_of matches.now)) }
 {

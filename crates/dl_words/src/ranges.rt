@@ -1,4 +1,4 @@
-//! What the words' definitions say of the settings. Nothing here runs: each law is the contract of
+//! Laws of the settings that words spell. Nothing here runs: each law is the contract of
 //! a function with an empty body.
 
 ghost use Rattle.std.specs.Prelude.{◌≡◌, ◌≤◌, List, ℕ, All, IsUtf8, Ok};
@@ -9,8 +9,8 @@ ghost use Rattle.dl_plan.specs.Plain.{IsPlainByte};
 ghost use Rattle.dl_words.specs.Words.{words_of};
 ghost use Rattle.dl_words.specs.Options.{most_cert_log2};
 
-/// What good words say lies in its ranges, each ask is text where each word is, and a plan that is
-/// to have a certificate has few cells.
+/// The settings of good words lie in their ranges, each ask is UTF-8 where each word is, and a plan
+/// that is to have a certificate has few cells.
 pub fn law_ranges()
     ensures ranges { (words : List (List ℕ)) (settings : Settings)
         → words_of words ≡ Ok settings → AreInRange settings }

@@ -1,4 +1,4 @@
--- What is known of a unit before its probability of no claim is changed, and of its mean after.
+-- A unit before its probability of no claim is changed, and its mean after.
 use Rattle.std.specs.Prelude.{ℕ, ◌^◌, List, [], ◌∷◌}
 use Rattle.dl_exact.specs.Fraction.{◌over◌}
 use Rattle.dl_exact.specs.Sum.{sum_to}

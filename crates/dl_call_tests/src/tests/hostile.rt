@@ -77,8 +77,8 @@ struct Due<'a> {
     message: &'a [u8],
 }
 
-/// What is due where an object fails after `moved` bytes went through it, if the call comes so far:
-/// it has its own answer else.
+/// The end that is due where an object fails after `moved` bytes went through it; `own` is that of
+/// a call in which nothing fails.
 fn due_of<'a>(failing: Object, moved: usize, input: &[u8], own: Due<'a>) -> Due<'a> {
     let none: &'a [u8] = b"";
     match failing {
@@ -127,7 +127,7 @@ fn tells_each_failed_call(rt: HostRuntime) -> Result<(), Fail> {
         report: b"",
         message: b"decl: ask 0: needs width 2\n",
     };
-    // the words, the text, the object that fails, one call more than it has, and the answer else
+    // the words, the text, the object that fails, one call more than it has, and the end else
     let rows = [
         (ASKS, BOOK, Object::Source, 49u8, done),
         (ASKS, BOOK, Object::Out, 20, done),

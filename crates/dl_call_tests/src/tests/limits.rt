@@ -1,5 +1,5 @@
-//! The limits of the language and of a call: what meets a limit is answered, and what passes it by
-//! one is refused. The values were worked by hand.
+//! The limits of the language and of a call: a text that meets a limit has its report, and one that
+//! passes it by one is refused. The values were worked by hand.
 
 use crate::tests::helpers::{DIE, Ended, Objects, STEADY, call};
 use dl_top::Status;
@@ -8,14 +8,14 @@ use std::process::Abort;
 use std::test::Fail;
 
 /// A table of `N` limits on texts, with a line `==` between them: the words of a call, a text that
-/// meets the limit, its report, a text that passes the limit by one, and its message. A line `--`
-/// stands between these.
+/// meets the limit, its report, a text that passes the limit by one, and its message, divided by
+/// lines `--`.
 #[derive(Clone, Copy)]
 struct Table<const N: usize> {
     rows: &'static str,
 }
 
-/// A table of limits on a number that stands between two texts, and of one on the units of a
+/// A table of limits on a number between two texts, and of one on the units of a
 /// portfolio: the ask with its two ends, the numbers that meet the limit and pass it, and the
 /// fault.
 macro_rules! limits {
@@ -36,7 +36,7 @@ macro_rules! limits {
     };
 }
 
-/// Whether a text that meets a limit is answered, and one that passes it is refused.
+/// Whether a text that meets a limit has its report, and one that passes it is refused.
 fn is_kept(alloc: Global, row: &str) -> Result<bool, AllocError> {
     let mut parts = row.split("--\n");
     let words = parts.next().unwrap_or("").trim_end();
@@ -109,7 +109,7 @@ const SIXTH: &str = "pmf:3 0.166666 0.166667\n";
 /// The most bytes of a text, without those of a die.
 const BLANKS: usize = 1_048_576 - DIE.len();
 
-/// Long lists, clauses and texts, the longest that are answered and others.
+/// Long lists, clauses and texts, the longest that are admitted and longer ones.
 const LONG: [Long; 9] = [
     Long {
         head: "agg D dfreq [1]",

@@ -7,9 +7,9 @@ use std::process::Abort;
 use std::test::Fail;
 
 /// Calls, with a line `==` between them: the words, the input, how the call ends, and what it
-/// writes, what was asked for to the one sink or the text of a fault to the other. A line `%%`
-/// stands between these. There is one for each form, each status and each kind of fault; further
-/// ones stand in clients/calls.txt, where they cost no proof.
+/// writes, what was asked for to the one sink or the text of a fault to the other, divided by lines
+/// `%%`. There is one for each form, each status and each kind of fault; further ones are in
+/// clients/calls.txt, where they cost no proof.
 const CALLS: &str = "run --log2 4 pmf:1
 %%
 agg B 1/3 claims dsev [1] bernoulli
@@ -280,7 +280,7 @@ Done
 mean 1194.500000 1194.500000
 ";
 
-/// The program that is made from 0.
+/// The made program of number 0.
 const MADE: &[u8] = b"port Made
 agg U1 34 claims dsev [1:9] poisson
 agg U2 31 claims dsev [1:10] mixed gamma 0.5

@@ -3,7 +3,7 @@
 
 use dl_iv::{Iv, units_of_one};
 
-/// The ends of an interval, what it is taken by, and the ends of the answer.
+/// The ends of an interval, its divisor, and the ends of the quotient.
 struct Row {
     ends: (u128, u128),
     by: (u128, u128),

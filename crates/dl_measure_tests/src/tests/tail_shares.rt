@@ -11,7 +11,7 @@ use std::alloc::{AllocError, Global};
 
 /// How many parts of 6 each outcome of the unit has, of the other, and of 36 their total, up to 6;
 /// the unit's mean in parts of 6; a probability; and the unit's share of the tail mean at it by
-/// exact fractions, none where none is told.
+/// exact fractions, none where the report has `-`.
 #[derive(Clone, Copy)]
 struct Case {
     unit: [u8; 7],

@@ -8,8 +8,8 @@ use std::alloc::Global;
 use std::io::{self, Read, Write};
 use std::test::Fail;
 
-/// A whole read: the bytes, the piece, the call that fails, the limit, the answer as `told` has it,
-/// and what is left then.
+/// A whole read: the bytes, the piece, the call that fails, the limit, the result as a text,
+/// and the bytes that are left then.
 type ReadCase = (&'static [u8], usize, u64, u16, &'static [u8], &'static [u8]);
 
 const READS: [ReadCase; 10] = [

@@ -1,5 +1,5 @@
-//! Numbers of the width rule, worked out by exact fractions outside the program. What is told of a
-//! plan is tried in `dl_eval`, which has one, and in clients/calls.txt.
+//! Numbers of the width rule, worked out by exact fractions outside the program. Budgets of whole
+//! plans are tested in `dl_eval`, which has plans, and in clients/calls.txt.
 
 ghost use Rattle.dl_limits.specs.Limits.{IsPlanScale};
 
