@@ -1,5 +1,5 @@
 -- Flaws that agree up to the first rule that is broken, and what is read of parts.
-use Rattle.dl_buckets.proofs.Common.{ℕ, ◌+◌, ◌<◌, ◌≤◌, zero, suc, get_or, take_all, take_more, ◌≡◌, ◌∙◌, List, [], ◌∷◌, ◌++◌, map, take, Option, Bool, true, false, refl, sym, ap, ap₂, subst, arith, length, map-append, Span, ◌else◌, else_first, else_second, earlier_flaws, flaws_else, AgreeToFirst, AreNone, IsReadTo, places, no_flaws, flaws_in, Flaws, Gridded}
+use Rattle.dl_buckets.proofs.Common.{ℕ, ◌+◌, ◌<◌, ◌≤◌, zero, suc, get_or, take_all, take_more, ◌≡◌, ◌∙◌, List, [], ◌∷◌, ◌++◌, map, take, Option, Bool, true, false, refl, sym, ap, ap₂, subst, arith, length, map-append, Span, ◌else◌, else_first, else_second, earlier_flaws, flaws_else, AgreeToFirst, AreNone, IsReadTo, spans, no_flaws, flaws_in, Flaws, Gridded}
 use Rattle.dl_buckets.proofs.Firsts.{else_assoc, else_none}
 
 -- ---- places
@@ -49,11 +49,11 @@ none_both (suc k) [] (y ∷ ys) e h = absurd (cc)
 none_both (suc k) (x ∷ xs) [] e h = absurd (cc)
 none_both k xs ys e h = (tt, tt)
 
-pub keeps_first : (k : ℕ) (f g : Flaws) → AreNone (take k (places (flaws_else f g))) → AreNone (take k (places f))
-keeps_first k f g h = (none_both k (places f) (places g) refl h).0
+pub keeps_first : (k : ℕ) (f g : Flaws) → AreNone (take k (spans (flaws_else f g))) → AreNone (take k (spans f))
+keeps_first k f g h = (none_both k (spans f) (spans g) refl h).0
 
-pub keeps_second : (k : ℕ) (f g : Flaws) → AreNone (take k (places (flaws_else f g))) → AreNone (take k (places g))
-keeps_second k f g h = (none_both k (places f) (places g) refl h).1
+pub keeps_second : (k : ℕ) (f g : Flaws) → AreNone (take k (spans (flaws_else f g))) → AreNone (take k (spans g))
+keeps_second k f g h = (none_both k (spans f) (spans g) refl h).1
 
 -- ---- flaws
 
@@ -82,7 +82,7 @@ pub read_both : {A B C : Type 0} {k : ℕ} (make : A → B → C) {f g : Flaws} 
     {all : Flaws} → IsReadTo k f x a → IsReadTo k g y b → all ≡ flaws_else a.flaws b.flaws
     → IsReadTo k (flaws_else f g) (make x y) (record { part = make a.part b.part; flaws = all })
 read_both {k = k} make {f = f} {g = g} {a = a} {b = b} first second is = record {
-  first = rw is (agree_else (places a.flaws) (places f) (places b.flaws) (places g) first.first second.first);
+  first = rw is (agree_else (spans a.flaws) (spans f) (spans b.flaws) (spans g) first.first second.first);
   right = λ clean. ap₂ make (first.right (keeps_first k f g clean)) (second.right (keeps_second k f g clean));
 }
 
@@ -106,35 +106,35 @@ pub read_longer : {A : Type 0} (k m : ℕ) {f : Flaws} {x : A} {a : Gridded A} �
     → IsReadTo m f x a
 read_longer k m {f = f} le h = record {
   first = h.first;
-  right = λ clean. h.right (none_shorter k m (places f) le clean);
+  right = λ clean. h.right (none_shorter k m (spans f) le clean);
 }
 
 -- a part y that is made of a first part, with the flaws g, and right where that is; the first rules do
 -- not ask which it is
 pub read_after : {A B C : Type 0} (k m : ℕ) (g : A → Flaws) (y : A → B) (make : A → B → C) {f : Flaws} {x : A}
     {a : Gridded A} {b : Gridded B} {all : Flaws} → k ≤ m → IsReadTo k f x a
-    → take k (places (g a.part)) ≡ take k (places (g x)) → IsReadTo m (g a.part) (y a.part) b
+    → take k (spans (g a.part)) ≡ take k (spans (g x)) → IsReadTo m (g a.part) (y a.part) b
     → all ≡ flaws_else a.flaws b.flaws
     → IsReadTo m (flaws_else f (g x)) (make x (y x)) (record { part = make a.part b.part; flaws = all })
 read_after k m g y make {f = f} {x = x} {a = a} {b = b} le first early second is =
     let late : a.part ≡ x → IsReadTo m (g x) (y x) b = λ same. subst (λ z. IsReadTo m (g z) (y z) b) same second in
     record {
-      first = rw is (agree_after k (places a.flaws) (places f) (places b.flaws) (places (g x)) first.first
-          (subst (AgreeToFirst (take k (places b.flaws))) early
-          (agree_take k (places b.flaws) (places (g a.part)) second.first))
+      first = rw is (agree_after k (spans a.flaws) (spans f) (spans b.flaws) (spans (g x)) first.first
+          (subst (AgreeToFirst (take k (spans b.flaws))) early
+          (agree_take k (spans b.flaws) (spans (g a.part)) second.first))
           (λ clean. (late (first.right clean)).first));
       right = λ clean.
-          let same = first.right (none_shorter k m (places f) le (keeps_first m f (g x) clean)) in
+          let same = first.right (none_shorter k m (spans f) le (keeps_first m f (g x) clean)) in
           ap₂ make same ((late same).right (keeps_second m f (g x) clean));
     }
 
 -- flaws that are told of a part, of later rules alone
 pub read_also : {A : Type 0} (k : ℕ) (g : A → Flaws) {f : Flaws} {x : A} {a : Gridded A} {all : Flaws} → IsReadTo k f x a
-    → take k (places (g a.part)) ≡ take k (places (g x)) → all ≡ flaws_else a.flaws (g a.part)
+    → take k (spans (g a.part)) ≡ take k (spans (g x)) → all ≡ flaws_else a.flaws (g a.part)
     → IsReadTo k (flaws_else f (g x)) x (record { part = a.part; flaws = all })
 read_also k g {a = a} first early is =
     read_after k k g (λ x. x) (λ x y. y) {b = record { part = a.part; flaws = g a.part }} (omega arith) first early
-    (record { first = agree_same (places (g a.part)); right = λ clean. refl }) is
+    (record { first = agree_same (spans (g a.part)); right = λ clean. refl }) is
 
 -- ---- parts that are read in turn
 
@@ -142,7 +142,7 @@ module _ {X A : Type 0} (k : ℕ) (f : X → Flaws) (g : X → A) where
   pub read_no_part : {made : List A} {flaws : Flaws} → made ≡ [] → flaws ≡ no_flaws
       → IsReadTo k (flaws_in f []) (map g []) (record { part = made; flaws = flaws })
   unfolding flaws_in
-  read_no_part e p = record { first = rw p (agree_same (places no_flaws)); right = λ clean. e }
+  read_no_part e p = record { first = rw p (agree_same (spans no_flaws)); right = λ clean. e }
 
   pub read_next : (zs : List X) (i : ℕ) {x : X} {made new : List A} {one : Gridded A} {flaws all : Flaws} → i < length zs
       → x ≡ get_or zs i x

@@ -1,5 +1,5 @@
 -- An amount of money in whole buckets, and its flaws.
-use Rattle.dl_buckets.proofs.Common.{ℕ, ◌≡◌, ◌∙◌, ◌*◌, ◌/◌, ◌%◌, ◌<◌, ◌≤◌, nat_lt, not, true, false, Option, sym, ap, subst, arith, inl, inr, cases_lt, lt-ltb, eq-eqb, eqb-true, Fraction, whole, ◌<ℚ◌, over_lt, whole_num, Span, at_if, is_whole, is_above, not_at, not-false, number_of, IsRead, buckets, places, no_flaws, flaws_of_amount}
+use Rattle.dl_buckets.proofs.Common.{ℕ, ◌≡◌, ◌∙◌, ◌*◌, ◌/◌, ◌%◌, ◌<◌, ◌≤◌, nat_lt, not, true, false, Option, sym, ap, subst, arith, inl, inr, cases_lt, lt-ltb, eq-eqb, eqb-true, Fraction, whole, ◌<ℚ◌, over_lt, whole_num, Span, at_if, is_whole, is_above, not_at, not-false, number_of, IsRead, buckets, spans, no_flaws, flaws_of_amount}
 use Rattle.std.proofs.Common.{min, nat_eq}
 use Rattle.std.proofs.lemmas.Bool.{ltb-true}
 use Rattle.std.specs.Cmp.{both_ways}
@@ -56,18 +56,18 @@ module _ (most : ℕ) (x bs : Fraction) (n d e m : ℕ) (h : whole 0 <ℚ bs) (p
       let least : min k most ≡ k = omega (arith, not_far most k (buckets bs x) value near) in
       is ∙ least ∙ sym (ap (λ (y : Fraction). y.num) value ∙ whole_num k)
 
-  pub amount_read : (place : Span) (q : ℕ) (off too : Option Span) → q ≡ min (n * d / (e * m)) most
-      → off ≡ at_if (not (nat_eq (n * d % (e * m)) 0)) place → too ≡ at_if (nat_lt (e * m * most) (n * d)) place
-      → IsRead (flaws_of_amount most bs x place) (number_of bs x)
+  pub amount_read : (span : Span) (q : ℕ) (off too : Option Span) → q ≡ min (n * d / (e * m)) most
+      → off ≡ at_if (not (nat_eq (n * d % (e * m)) 0)) span → too ≡ at_if (nat_lt (e * m * most) (n * d)) span
+      → IsRead (flaws_of_amount most bs x span) (number_of bs x)
       (record {
         part = q;
         flaws = record no_flaws { off_grid = off; too_far = too };
       })
-  amount_read place q off too is off_is too_is =
-      let off_told : off ≡ at_if (not (is_whole (buckets bs x))) place = off_is ∙ ap (λ b. at_if b place) off_grid_is in
-      let far_told : too ≡ at_if (is_above (buckets bs x) (whole most)) place =
-      too_is ∙ ap (λ b. at_if b place) too_far_is in
+  amount_read span q off too is off_is too_is =
+      let off_told : off ≡ at_if (not (is_whole (buckets bs x))) span = off_is ∙ ap (λ b. at_if b span) off_grid_is in
+      let far_told : too ≡ at_if (is_above (buckets bs x) (whole most)) span =
+      too_is ∙ ap (λ b. at_if b span) too_far_is in
       record {
-        first = rw (off_told, far_told) (agree_same (places (flaws_of_amount most bs x place)));
-        right = λ clean. number_is q is (not_at _ place clean.1.1.1.1.1.0) (not_at _ place clean.1.1.1.1.1.1.0);
+        first = rw (off_told, far_told) (agree_same (spans (flaws_of_amount most bs x span)));
+        right = λ clean. number_is q is (not_at _ span clean.1.1.1.1.1.0) (not_at _ span clean.1.1.1.1.1.1.0);
       }

@@ -1,10 +1,10 @@
 -- Probabilities beside values, of which there must be as many.
-use Rattle.dl_buckets.proofs.Common.{ℕ, ◌≡◌, List, take, length, Option, Some, None, refl, arith, length-map, Fraction, Shares, IsRead, at_if, not, ◌==◌, flaws_else, is_not_one, ListAst, Flaws, Gridded, IsReadTo, KeepsLists, places, flaws_within, lengths_at, sum_at, grid_shares, flaws_of_list, flaws_of_shares, flaws_beside, if_there, placed_values, values_of}
+use Rattle.dl_buckets.proofs.Common.{ℕ, ◌≡◌, List, take, length, Option, Some, None, refl, arith, length-map, Fraction, Shares, IsRead, at_if, not, ◌==◌, flaws_else, is_not_one, ListAst, Flaws, Gridded, IsReadTo, KeepsLists, spans, flaws_within, lengths_at, sum_at, grid_shares, flaws_of_list, flaws_of_shares, flaws_beside, if_there, spanned_values, values_of}
 use Rattle.dl_buckets.proofs.Agreeing.{read_after, read_also, keeps_first}
 
 -- the first rules do not ask how many values there are
 same_early : (m n : ℕ) (o : Option ListAst)
-    → take 3 (places (flaws_within (flaws_beside m) o)) ≡ take 3 (places (flaws_within (flaws_beside n) o))
+    → take 3 (spans (flaws_within (flaws_beside m) o)) ≡ take 3 (spans (flaws_within (flaws_beside n) o))
 same_early m n None = refl
 same_early m n (Some l) = refl
 
@@ -30,7 +30,7 @@ lengths_read count l {a = a} own values counted is =
     } in
     let also = read_also 3 (λ (vs : List Fraction). lengths_at (at_if (not (count == length vs)) l.span)) view refl
     (rw counted at is) in
-    let number = length-map {B = Fraction} (placed_values l) (λ pair. pair.0) in
+    let number = length-map {B = Fraction} (spanned_values l) (λ pair. pair.0) in
     record {
       first = (rw number at also).first;
       right = λ clean. own.right (keeps_first 7 (flaws_of_shares l) _ clean);

@@ -1,6 +1,6 @@
 -- What the clauses of a unit keep.
 use Rattle.dl_buckets.proofs.Common.{◌≡◌, Option, Some, None, IfSome, within, else_first, else_second, GridClause, GridUnit, IsGridClause, overlap_in, overlap, share_above_one_in, share_above_one, IsClauseLayered}
-use Rattle.dl_buckets.specs.Kept.{IsLayered}
+use Rattle.dl_buckets.specs.CheckedUnit.{IsLayered}
 
 clause_layered : (o : Option GridClause) → IfSome o IsGridClause → within overlap_in o ≡ None
     → within share_above_one_in o ≡ None → IfSome o IsClauseLayered

@@ -88,9 +88,9 @@ pairs_map R f (y ∷ ys) h i j d p q =
     (subst (λ b. R (f (get_or (y ∷ ys) i y)) b) (sym (get_or-map f (y ∷ ys) j y d lt)) (h i j y p lt))
 
 -- a clause has fine shares
-pub cession_fine : (c : GridClause) (clause : Clause) → (clause ≡ clause_of c) × IsClause clause
+pub clause_fine : (c : GridClause) (clause : Clause) → (clause ≡ clause_of c) × IsClause clause
     → is_fine (shares_of c) ≡ true
-cession_fine c clause told = le-leb (common_denominator (shares_of c)) (2 ^ 30) (subst IsFineTo30Bits
+clause_fine c clause told = le-leb (common_denominator (shares_of c)) (2 ^ 30) (subst IsFineTo30Bits
     (ap (λ (d : Clause). layer_shares d.1) told.0 ∙ map-map (λ (l : CedeLayer). l.share) ceded_layer c.layers) told.1.fine)
 
 -- ---- the clause
@@ -100,8 +100,8 @@ module _ (c : GridClause) (layered : IsClauseLayered c) where
   unfolding overlap_in
   turned = layered.apart
 
-  pub made_cession : is_fine (shares_of c) ≡ true → IsClause (clause_of c)
-  made_cession fine = record {
+  pub made_is_clause : is_fine (shares_of c) ≡ true → IsClause (clause_of c)
+  made_is_clause fine = record {
     some = omega (arith, length-map c.layers ceded_layer, layered.grid.some);
     few = omega (arith, length-map c.layers ceded_layer, layered.grid.few);
     apart = pairs_map (λ l m. ¬ Overlap l m) ceded_layer c.layers
@@ -114,5 +114,5 @@ module _ (c : GridClause) (layered : IsClauseLayered c) where
         (leb-true (common_denominator (shares_of c)) (2 ^ 30) fine);
   }
 
-  pub no_cession : (IsClause (clause_of c) → ⊥) → is_fine (shares_of c) ≡ false
-  no_cession none = false_from_ne_true (is_fine (shares_of c)) (λ fine. none (made_cession fine))
+  pub no_clause : (IsClause (clause_of c) → ⊥) → is_fine (shares_of c) ≡ false
+  no_clause none = false_from_ne_true (is_fine (shares_of c)) (λ fine. none (made_is_clause fine))

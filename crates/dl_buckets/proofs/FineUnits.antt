@@ -1,7 +1,7 @@
 -- What a unit that keeps all rules on its severity gives.
 use Rattle.dl_buckets.proofs.Common.{leb-true, get_or, ◌≡◌, ◌^◌, ◌||◌, ◌&&◌, nat_tests, not, Bool, true, false, Option, Some, None, refl, sym, subst, All, IfSome, ◌≤◌, ℕ, Item, arith, length, length-map, Fraction, IsClause, IsClauseLayered, IsSevWithin, final_severity, made_of, GridSev, IsGridSev, has_atoms, has_severity, weights_of, probs_in_count, GridClause, GridUnit, IsFineTo30Bits, IsWhole, common_denominator, Pairs, HasDistribution, pairs_of, kept, Sev, is_fine, clause_of, shares_of, is_off, severity_in_layer, ceded_pairs, mixture_shares, support, off_grid_cession, AreProbabilities, atom_probs, not-false}
 use Rattle.dl_buckets.specs.FineParts.{has_shares}
-use Rattle.dl_buckets.specs.Kept.{IsFineSev}
+use Rattle.dl_buckets.specs.CheckedUnit.{IsFineSev}
 use Rattle.dl_buckets.proofs.PastEdges.{whole_unless}
 use Rattle.dl_buckets.proofs.Values.{never}
 use Rattle.std.proofs.lemmas.List.Sums.{AllPass-from_list_all}
@@ -10,7 +10,7 @@ use Rattle.dl_buckets.specs.Rules.{off_grid_amounts}
 use Rattle.dl_buckets.specs.Severity.{made_pairs, KeepsWhole}
 use Rattle.dl_buckets.proofs.Meaning.{alike_own, mapped_means, means_alike}
 use Rattle.dl_buckets.proofs.ClauseGrids.{occ_layered}
-use Rattle.dl_buckets.proofs.ClauseLaws.{made_cession}
+use Rattle.dl_buckets.proofs.ClauseLaws.{made_is_clause}
 use Rattle.dl_buckets.proofs.Items.{items_in, support_all}
 use Rattle.dl_buckets.proofs.Near.{ceded_near, in_layer_few, in_layer_near, items_few}
 use Rattle.dl_buckets.proofs.OffGrid.{made_whole, occurrence_none}
@@ -66,8 +66,8 @@ module _ (u : GridUnit) (fine : IsFineSev u) where
         (subst (λ o. off_grid_amounts (made_of o) (made_of u.agr) (support (severity_in_layer u)) ≡ None) is fine.ceded))
         k d h)
 
-    pub cession_is : IsClause (clause_of c)
-    cession_is = made_cession c (subst (λ o. IfSome o IsClauseLayered) is (occ_layered u fine.layered)) shares_fine
+    pub clause_is_one : IsClause (clause_of c)
+    clause_is_one = made_is_clause c (subst (λ o. IfSome o IsClauseLayered) is (occ_layered u fine.layered)) shares_fine
 
   -- what a severity that means the one in the layer gives the occurrence clause
   pub keeps_whole : (sev : Sev) → HasDistribution sev (severity_in_layer u) → KeepsWhole (made_of u.occ) sev
@@ -76,7 +76,7 @@ module _ (u : GridUnit) (fine : IsFineSev u) where
       by_clause : (o : Option GridClause) → u.occ ≡ o → KeepsWhole (made_of o) sev
       by_clause None is = tt
       by_clause (Some c) is = subst (λ made. KeepsWhole made sev) (sym (made_whole c (shares_fine c is)))
-          (cession_is c is, items_in sev (severity_in_layer u) means (λ x. IsWhole (kept (clause_of c) x)) (support_whole c is))
+          (clause_is_one c is, items_in sev (severity_in_layer u) means (λ x. IsWhole (kept (clause_of c) x)) (support_whole c is))
 
   pub final_means : (layered made : Sev) → HasDistribution layered (severity_in_layer u)
       → HasDistribution made (made_pairs (made_of u.occ) (pairs_of layered)) → HasDistribution made (final_severity u)
@@ -99,7 +99,7 @@ module _ (u : GridUnit) (fine : IsFineSev u) where
         by_clause : (o : Option GridClause) → u.occ ≡ o
             → All (λ x. x ≤ b) (support (ceded_pairs o (severity_in_layer u)))
         by_clause None is = support_all (λ x. x ≤ b) (severity_in_layer u) near
-        by_clause (Some c) is = ceded_near b (clause_of c) (severity_in_layer u) (cession_is c is) (support_whole c is) near
+        by_clause (Some c) is = ceded_near b (clause_of c) (severity_in_layer u) (clause_is_one c is) (support_whole c is) near
 
     pub final_few : length sev.items ≤ 65536
     final_few = omega (

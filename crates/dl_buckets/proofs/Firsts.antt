@@ -36,13 +36,13 @@ else_none None = refl
 else_none (Some x) = refl
 
 -- the first item that passes a test
-pub find_first : {A : Type 0} (p : A → Bool) (place : A → Span) (xs : List A)
-    → option_map place (find p xs) ≡ first_in (λ x. at_if (p x) (place x)) xs
+pub find_first : {A : Type 0} (p : A → Bool) (span : A → Span) (xs : List A)
+    → option_map span (find p xs) ≡ first_in (λ x. at_if (p x) (span x)) xs
 unfolding first_in
-find_first p place [] = refl
-find_first p place (x ∷ xs) = elim (cases_Bool (p x)) [
+find_first p span [] = refl
+find_first p span (x ∷ xs) = elim (cases_Bool (p x)) [
   | inl e ↦ rw e refl
-  | inr e ↦ rw e (find_first p place xs)
+  | inr e ↦ rw e (find_first p span xs)
 ]
 
 -- what holds of each item holds of the one that is read

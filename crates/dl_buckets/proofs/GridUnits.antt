@@ -1,5 +1,5 @@
 -- What a unit without flaws keeps in whole buckets, part by part.
-use Rattle.dl_buckets.proofs.Common.{ℕ, ◌≡◌, ◌∙◌, ◌*◌, ◌≤◌, length, nat_lt, not, Option, Some, None, refl, sym, ap, arith, All, IfSome, length-map, All-map, eqb-true, eq-eqb, not-false, not_at, Fraction, whole, whole_num, whole_den, Span, IsShares, ◌over◌, subst, probs_among, IsClean, flaws_else, number_of, grid_atom, grid_layer, grid_ceded, grid_clause, grid_mixture, GridLayer, IsGridAtom, IsGridSev, IsLayerWithin, IsClauseWithin, IsSevWithin, IsGridClause, IsGridUnit, IsWithin, other_length, most_amount, most_atoms, most_layers, buckets, Numeral, ListAst, Atom, MixAst, IsFormedAtom, IsFormedMixture, IsFormedCession, IsFormedCount, IsFormedUnit, Flaws, flaws_in, flaws_within, earlier_flaws, long_at, grid_shares, limit_value, grid_exposure, grid_freq, grid_count, zero_value, given_zero, flaws_of_numeral, flaws_of_amount, flaws_of_money, flaws_of_list, flaws_of_amounts, flaws_of_shares, flaws_beside, flaws_of_atom, flaws_of_mixture, flaws_of_limit, flaws_of_layer, flaws_of_share, flaws_of_ceded, flaws_of_clause, flaws_of_exposure, flaws_of_count, flaws_of_freq, flaws_of_zero, flaws_of_distribution, is_named, if_there, value, values_of, placed_values}
+use Rattle.dl_buckets.proofs.Common.{ℕ, ◌≡◌, ◌∙◌, ◌*◌, ◌≤◌, length, nat_lt, not, Option, Some, None, refl, sym, ap, arith, All, IfSome, length-map, All-map, eqb-true, eq-eqb, not-false, not_at, Fraction, whole, whole_num, whole_den, Span, IsShares, ◌over◌, subst, probs_among, IsClean, flaws_else, number_of, grid_atom, grid_layer, grid_ceded, grid_clause, grid_mixture, GridLayer, IsGridAtom, IsGridSev, IsLayerWithin, IsClauseWithin, IsSevWithin, IsGridClause, IsGridUnit, IsWithin, other_length, most_amount, most_atoms, most_layers, buckets, Numeral, ListAst, Atom, MixAst, IsFormedAtom, IsFormedMixture, IsFormedCession, IsFormedCount, IsFormedUnit, Flaws, flaws_in, flaws_within, earlier_flaws, long_at, grid_shares, limit_value, grid_exposure, grid_freq, grid_count, zero_value, given_zero, flaws_of_numeral, flaws_of_amount, flaws_of_money, flaws_of_list, flaws_of_amounts, flaws_of_shares, flaws_beside, flaws_of_atom, flaws_of_mixture, flaws_of_limit, flaws_of_layer, flaws_of_share, flaws_of_ceded, flaws_of_clause, flaws_of_exposure, flaws_of_count, flaws_of_freq, flaws_of_zero, flaws_of_distribution, is_named, if_there, value, values_of, spanned_values}
 use Rattle.std.proofs.Math.Nat.{le_trans}
 use Rattle.std.proofs.lemmas.Bool.{ltb-false}
 use Rattle.std.proofs.lemmas.Option.{IfSome_then}
@@ -48,25 +48,25 @@ module _ (n : ℕ) where
       → length (probs_among n (if_there grid_shares o)) ≡ n
   beside_length None clean = length-replicate n (1 over n)
   beside_length (Some l) clean =
-      length-map (placed_values l) (λ pair. pair.0)
-      ∙ sym (eqb-true n (length (placed_values l)) (not-false _ (not_at _ l.span
+      length-map (spanned_values l) (λ pair. pair.0)
+      ∙ sym (eqb-true n (length (spanned_values l)) (not-false _ (not_at _ l.span
       (each_none _ (clean_second (flaws_of_shares l) _ clean)).lengths)))
 
 -- ---- amounts of money
 
-pub amount_small : (most : ℕ) (bs x : Fraction) (place : Span) → IsClean (flaws_of_amount most bs x place)
+pub amount_small : (most : ℕ) (bs x : Fraction) (span : Span) → IsClean (flaws_of_amount most bs x span)
     → number_of bs x ≤ most
-amount_small most bs x place clean =
-    let none = each_none (flaws_of_amount most bs x place) clean in
-    let one : (buckets bs x).den ≡ 1 = eqb-true _ 1 (not-false _ (not_at _ place none.off_grid)) in
+amount_small most bs x span clean =
+    let none = each_none (flaws_of_amount most bs x span) clean in
+    let one : (buckets bs x).den ≡ 1 = eqb-true _ 1 (not-false _ (not_at _ span none.off_grid)) in
     let near = ltb-false ((whole most).num * (buckets bs x).den) ((buckets bs x).num * (whole most).den)
-    (not_at _ place none.too_far) in
+    (not_at _ span none.too_far) in
     omega (arith, rw (whole_num most, whole_den most, one) at near)
 
-money_small : (most : ℕ) (bs : Fraction) (place : Span) (n : Numeral) → IsClean (flaws_of_money most bs place n)
+money_small : (most : ℕ) (bs : Fraction) (span : Span) (n : Numeral) → IsClean (flaws_of_money most bs span n)
     → number_of bs (value n) ≤ most
-money_small most bs place n clean =
-    amount_small most bs (value n) place (clean_second (flaws_of_numeral n) _ clean)
+money_small most bs span n clean =
+    amount_small most bs (value n) span (clean_second (flaws_of_numeral n) _ clean)
 
 abbrev too_long : MixAst → Flaws
 too_long m = long_at (at_if (nat_lt most_atoms (length m.atoms)) m.span)
@@ -77,10 +77,10 @@ module _ (most : ℕ) (bs : Fraction) where
   atom_within : (a : Atom) → IsClean (flaws_of_atom most bs a)
       → All (λ n. n ≤ most) (grid_atom bs a).amounts
   atom_within a clean =
-      let each = clean_each (λ pair. flaws_of_amount most bs pair.0 pair.1) (placed_values a.values)
+      let each = clean_each (λ pair. flaws_of_amount most bs pair.0 pair.1) (spanned_values a.values)
       (clean_second (flaws_of_list a.values) _ (clean_first (flaws_of_amounts most bs a.values) _ clean)) in
       All-map (λ n. n ≤ most) (number_of bs) (values_of a.values)
-      (All-map (λ x. number_of bs x ≤ most) (λ pair. pair.0) (placed_values a.values)
+      (All-map (λ x. number_of bs x ≤ most) (λ pair. pair.0) (spanned_values a.values)
       (λ k d h. amount_small most bs _ _ (each k d h)))
 
   mixture_atoms : (m : MixAst) → IsClean (flaws_of_mixture most bs m)
@@ -94,10 +94,10 @@ module _ (most : ℕ) (bs : Fraction) where
 
   -- ---- layers and clauses
 
-  limit_small : (place : Span) (limit : LimitAst) → IsClean (flaws_of_limit most bs place limit)
+  limit_small : (span : Span) (limit : LimitAst) → IsClean (flaws_of_limit most bs span limit)
       → IfSome (if_there (number_of bs) (limit_value limit)) (λ n. n ≤ most)
-  limit_small place (Finite n) clean = money_small most bs place n clean
-  limit_small place Infinite clean = tt
+  limit_small span (Finite n) clean = money_small most bs span n clean
+  limit_small span Infinite clean = tt
 
   layer_within : (l : Layer) → IsClean (flaws_of_layer most bs l) → IsLayerWithin most (grid_layer bs l)
   layer_within l clean = record {
@@ -130,10 +130,10 @@ module _ (most : ℕ) (bs : Fraction) (le : most ≤ most_amount) where
         some = omega (arith, each, list.some);
         few = omega (arith, each, list.few);
         near = λ k d h. le_trans (atom_within most bs a clean k d h) le;
-        probs = beside_is (length (placed_values a.values)) a.probs both.1;
+        probs = beside_is (length (spanned_values a.values)) a.probs both.1;
         each = subst (λ n. length (probs_among n (if_there grid_shares a.probs)) ≡ n)
-            (sym (each ∙ length-map (placed_values a.values) (λ pair. pair.0)))
-            (beside_length (length (placed_values a.values)) a.probs both.1);
+            (sym (each ∙ length-map (spanned_values a.values) (λ pair. pair.0)))
+            (beside_length (length (spanned_values a.values)) a.probs both.1);
       }
 
   sev_is : (m : MixAst) → IsFormedMixture m → IsClean (flaws_of_mixture most bs m)
@@ -193,15 +193,15 @@ count_is (Exposed exposure freq zero) formed clean later =
     (exposure_is exposure clean, freq_is freq (clean_first (flaws_of_freq freq) _ later))
 count_is (Listed values probs span) formed clean later =
     let both = clean_both (flaws_of_list values) _ clean in
-    (list_is values formed.0 both.0, beside_is (length (placed_values values)) probs both.1)
+    (list_is values formed.0 both.0, beside_is (length (spanned_values values)) probs both.1)
 
 paired_is : (k : CountAst) → IsClean (flaws_of_count k) → count_lengths (grid_count k) ≡ None
 unfolding other_length
 paired_is (Exposed exposure freq zero) clean = refl
 paired_is (Listed values None span) clean = refl
 paired_is (Listed values (Some l) span) clean =
-    let each = length-map (placed_values values) (λ pair. pair.0) in
-    let same = beside_length (length (placed_values values)) (Some l) (clean_second (flaws_of_list values) _ clean) in
+    let each = length-map (spanned_values values) (λ pair. pair.0) in
+    let same = beside_length (length (spanned_values values)) (Some l) (clean_second (flaws_of_list values) _ clean) in
     ap (λ b. at_if (not b) l.span) (eq-eqb (length (values_of values)) (length (values_of l)) (each ∙ sym same))
 
 given_is : (k : CountAst) → IsClean (flaws_of_distribution k) → IfSome (given_zero k) IsSmall

@@ -1,5 +1,5 @@
 -- Layers that are read, and shares of them: both are right where the limit is.
-use Rattle.dl_buckets.proofs.Common.{ℕ, ◌≡◌, ◌∙◌, ◌∷◌, [], Option, Some, None, sym, ap, take, Fraction, Span, refl, arith, IsClean, IsRead, flaws_else, GridLayer, GridCeded, number_of, grid_layer, grid_ceded, Flaws, Gridded, IsReadTo, AreNone, places, flaws_within, limit_value, share_beside, flaws_of_amount, flaws_of_numeral, flaws_of_money, flaws_of_limit, flaws_of_limit_number, flaws_of_layer, flaws_of_share, flaws_of_ceded, value, if_there}
+use Rattle.dl_buckets.proofs.Common.{ℕ, ◌≡◌, ◌∙◌, ◌∷◌, [], Option, Some, None, sym, ap, take, Fraction, Span, refl, arith, IsClean, IsRead, flaws_else, GridLayer, GridCeded, number_of, grid_layer, grid_ceded, Flaws, Gridded, IsReadTo, AreNone, spans, flaws_within, limit_value, share_beside, flaws_of_amount, flaws_of_numeral, flaws_of_money, flaws_of_limit, flaws_of_limit_number, flaws_of_layer, flaws_of_share, flaws_of_ceded, value, if_there}
 use Rattle.dl_ast.specs.declared.ast.Layer.{Layer}
 use Rattle.dl_ast.specs.declared.ast.CededLayer.{CededLayer}
 use Rattle.dl_ast.specs.declared.ast.LimitAst.{LimitAst}
@@ -10,24 +10,24 @@ use Rattle.dl_buckets.proofs.Clean.{clean_first, clean_second}
 
 module _ (most : ℕ) (bs : Fraction) where
   abbrev amount_flaws : Span → Option Fraction → Flaws
-  amount_flaws place limit = flaws_within (λ x. flaws_of_amount most bs x place) limit
+  amount_flaws span limit = flaws_within (λ x. flaws_of_amount most bs x span) limit
 
   -- an amount is no bad numeral, whichever it is
-  no_numeral : (place : Span) (x : Option Fraction) → take 1 (places (amount_flaws place x)) ≡ None ∷ []
-  no_numeral place None = refl
-  no_numeral place (Some x) = refl
+  no_numeral : (span : Span) (x : Option Fraction) → take 1 (spans (amount_flaws span x)) ≡ None ∷ []
+  no_numeral span None = refl
+  no_numeral span (Some x) = refl
 
-  limit_flaws : (place : Span) (limit : LimitAst)
-      → flaws_else (flaws_of_limit_number limit) (amount_flaws place (limit_value limit))
-      ≡ flaws_of_limit most bs place limit
-  limit_flaws place (Finite n) = refl
-  limit_flaws place Infinite = refl
+  limit_flaws : (span : Span) (limit : LimitAst)
+      → flaws_else (flaws_of_limit_number limit) (amount_flaws span (limit_value limit))
+      ≡ flaws_of_limit most bs span limit
+  limit_flaws span (Finite n) = refl
+  limit_flaws span Infinite = refl
 
-  limit_clean : (place : Span) (limit : LimitAst) → IsClean (flaws_of_limit most bs place limit)
-      → AreNone (take 1 (places (flaws_of_limit_number limit)))
-  limit_clean place (Finite n) clean =
-      keeps_first 1 (flaws_of_numeral n) (flaws_of_amount most bs (value n) place) (clean.0, tt)
-  limit_clean place Infinite clean = (refl, tt)
+  limit_clean : (span : Span) (limit : LimitAst) → IsClean (flaws_of_limit most bs span limit)
+      → AreNone (take 1 (spans (flaws_of_limit_number limit)))
+  limit_clean span (Finite n) clean =
+      keeps_first 1 (flaws_of_numeral n) (flaws_of_amount most bs (value n) span) (clean.0, tt)
+  limit_clean span Infinite clean = (refl, tt)
 
   pub layer_read : (l : Layer) {limit : Gridded (Option Fraction)} {paid : Gridded (Option ℕ)} {attach : Gridded ℕ}
       {limits all : Flaws} → IsReadTo 1 (flaws_of_limit_number l.limit) (limit_value l.limit) limit

@@ -26,6 +26,6 @@ pub mod SevThere
 pub mod Clean
 pub mod ItemRanges
 pub mod GridUnits
-pub mod Placed
+pub mod Spanned
 pub mod LongMixtures
 pub mod ReadUnits

@@ -1,10 +1,10 @@
 -- The flaws of numerals and ranges alone, and mixtures of too many atoms.
-use Rattle.dl_buckets.proofs.Common.{ℕ, ◌≡◌, ◌∙◌, ◌+◌, ◌<◌, get_or, take_more, not, ◌==◌, List, [], ◌∷◌, ◌++◌, length, take, Option, Some, None, refl, sym, ap, subst, Fraction, Span, at_if, flaws_else, IsRead, GridSev, grid_mixture, is_not_one, most_atoms, Atom, ListAst, MixAst, Flaws, AgreeEarly, AgreeToFirst, places, no_flaws, flaws_in, flaws_within, long_at, lengths_at, sum_at, flaws_of_list, flaws_of_amount, flaws_of_amounts, flaws_of_shares, flaws_beside, flaws_of_atom, flaws_of_mixture, placed_values, values_of}
+use Rattle.dl_buckets.proofs.Common.{ℕ, ◌≡◌, ◌∙◌, ◌+◌, ◌<◌, get_or, take_more, not, ◌==◌, List, [], ◌∷◌, ◌++◌, length, take, Option, Some, None, refl, sym, ap, subst, Fraction, Span, at_if, flaws_else, IsRead, GridSev, grid_mixture, is_not_one, most_atoms, Atom, ListAst, MixAst, Flaws, AgreeEarly, AgreeToFirst, spans, no_flaws, flaws_in, flaws_within, long_at, lengths_at, sum_at, flaws_of_list, flaws_of_amount, flaws_of_amounts, flaws_of_shares, flaws_beside, flaws_of_atom, flaws_of_mixture, spanned_values, values_of}
 use Rattle.dl_buckets.proofs.Firsts.{else_none, passes_limit}
 use Rattle.dl_buckets.proofs.Agreeing.{agree_same, agree_else, flaws_more}
 
 abbrev early : Flaws → List (Option Span)
-early f = take 2 (places f)
+early f = take 2 (spans f)
 
 -- flaws of later rules do not count
 agree_alone : (m f g : Flaws) → early g ≡ None ∷ None ∷ [] → AgreeEarly m f → AgreeEarly m (flaws_else f g)
@@ -29,25 +29,25 @@ beside_early : (m : Flaws) (n : ℕ) (o : Option ListAst) → AgreeEarly m (flaw
     → AgreeEarly m (flaws_within (flaws_beside n) o)
 beside_early m n None h = h
 beside_early m n (Some l) h = agree_alone m (flaws_of_shares l)
-    (lengths_at (at_if (not (n == length (placed_values l))) l.span)) refl (shares_early m l h)
+    (lengths_at (at_if (not (n == length (spanned_values l))) l.span)) refl (shares_early m l h)
 
 module _ (most : ℕ) (bs : Fraction) where
   abbrev pub amount_flaws : List (Fraction × Span) → Flaws
-  amount_flaws placed = flaws_in (λ pair. flaws_of_amount most bs pair.0 pair.1) placed
+  amount_flaws spanned = flaws_in (λ pair. flaws_of_amount most bs pair.0 pair.1) spanned
 
   -- amounts have flaws of the last rules alone
-  pub none_early : (placed : List (Fraction × Span)) → take 3 (places (amount_flaws placed)) ≡ None ∷ None ∷ None ∷ []
+  pub none_early : (spanned : List (Fraction × Span)) → take 3 (spans (amount_flaws spanned)) ≡ None ∷ None ∷ None ∷ []
   unfolding flaws_in
   none_early [] = refl
-  none_early (pair ∷ placed) = none_early placed
+  none_early (pair ∷ spanned) = none_early spanned
 
   atom_early : (m n : Flaws) (a : Atom) → AgreeEarly m (flaws_of_list a.values)
       → AgreeEarly n (flaws_within flaws_of_list a.probs) → AgreeEarly (flaws_else m n) (flaws_of_atom most bs a)
   atom_early m n a values probs =
-      let placed = placed_values a.values in
-      early_both m n (flaws_of_amounts most bs a.values) (flaws_within (flaws_beside (length placed)) a.probs)
-      (agree_alone m (flaws_of_list a.values) (amount_flaws placed) (ap (take 2) (none_early placed)) values)
-      (beside_early n (length placed) a.probs probs)
+      let spanned = spanned_values a.values in
+      early_both m n (flaws_of_amounts most bs a.values) (flaws_within (flaws_beside (length spanned)) a.probs)
+      (agree_alone m (flaws_of_list a.values) (amount_flaws spanned) (ap (take 2) (none_early spanned)) values)
+      (beside_early n (length spanned) a.probs probs)
 
   -- one atom more
   pub atoms_next : (flaws values probs one all : Flaws) (atoms : List Atom) (i : ℕ) (a : Atom) → i < length atoms

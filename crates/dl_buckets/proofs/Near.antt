@@ -148,18 +148,18 @@ items_near b sev ps means near = items_in sev ps means (λ x. x ≤ b) (support_
 -- ---- the occurrence clause
 
 kept_small : (clause : Clause) (x : ℕ) → IsClause clause → IsWhole (kept clause x) → (kept clause x).num ≤ x
-kept_small clause x cession is =
+kept_small clause x is_clause is =
     let c : ℕ = parts_in_bucket clause in
     let p : ℕ = kept_parts clause c x in
-    let le : p ≤ c * x = omega (arith, kept_le clause c x cession) in
+    let le : p ≤ c * x = omega (arith, kept_le clause c x is_clause) in
     rw (kept_whole clause x c p refl refl (kept_only clause x c p refl refl is), whole_num (p / c)) (div-le_of_le-mul c le)
 
 -- a clause with fine shares that maps each amount of positive probability to a whole number makes none greater
 pub ceded_near : (b : ℕ) (clause : Clause) (ps : Pairs) → IsClause clause
     → All (λ x. IsWhole (kept clause x)) (support ps) → Near b ps
     → All (λ x. x ≤ b) (support (ceded_each clause ps))
-ceded_near b clause ps cession w near =
+ceded_near b clause ps is_clause w near =
     subst (All (λ x. x ≤ b)) (sym (support-mapped (λ x. (kept clause x).num) ps))
     (All-map (λ x. x ≤ b) (λ x. (kept clause x).num) (support ps)
-    (λ k d h. le_trans (kept_small clause (get_or (support ps) k d) cession (w k d h))
+    (λ k d h. le_trans (kept_small clause (get_or (support ps) k d) is_clause (w k d h))
     (support_all (λ x. x ≤ b) ps near k d h)))

@@ -20,6 +20,6 @@ module _ {A B : Type 0} (f : A → Option B) where
   none_each (x ∷ xs) e = All-cons (λ y. f y ≡ None) x xs (else_first (f x) (first_in f xs) e)
       (none_each xs (else_second (f x) (first_in f xs) e))
 
-pub not_at : (b : Bool) (place : Span) → at_if b place ≡ None → b ≡ false
-not_at true place e = absurd (cc)
-not_at false place e = refl
+pub not_at : (b : Bool) (span : Span) → at_if b span ≡ None → b ≡ false
+not_at true span e = absurd (cc)
+not_at false span e = refl

@@ -2,7 +2,7 @@
 use Rattle.dl_buckets.proofs.Common.{◌≡◌, ℕ, ◌<◌, ◌==◌, length, not, Option, Some, None, arith, IfSome, eqb-true, ◌over◌, Shares, at_if, within, not_at, not-false, GridUnit, probs_among, IsSevWeighted}
 use Rattle.std.proofs.lemmas.List.{length-replicate}
 use Rattle.dl_buckets.specs.Rules.{weights_differ}
-use Rattle.dl_buckets.specs.Kept.{IsWeighted}
+use Rattle.dl_buckets.specs.CheckedUnit.{IsWeighted}
 
 -- a list of so many probabilities has one for each number below
 pub among_inside : (o : Option Shares) (n i : ℕ) → length (probs_among n o) ≡ n → i < n

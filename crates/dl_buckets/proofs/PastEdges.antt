@@ -54,12 +54,12 @@ module _ (clause : Clause) (step : ℕ) where
 
   two_fit : IsClause clause → 0 < step → is_off_multiples clause step ≡ false → (n : ℕ)
       → IsWhole (kept clause (n * step)) × IsWhole (kept clause (n * step + step))
-  two_fit cession pos none zero = (
+  two_fit is_clause pos none zero = (
     known none 0 (omega arith),
     subst (λ x. IsWhole (kept clause x)) (omega arith) (known none 1 (omega arith)),
   )
-  two_fit cession pos none (suc n) =
-      let before = two_fit cession pos none n in
+  two_fit is_clause pos none (suc n) =
+      let before = two_fit is_clause pos none n in
       let next : n * step + step ≡ suc n * step = omega arith in
       let further : n * step + 2 * step ≡ suc n * step + step = omega arith in (
         subst (λ x. IsWhole (kept clause x)) next before.1,
@@ -71,15 +71,15 @@ module _ (clause : Clause) (step : ℕ) where
           → IsWhole (kept clause (n * step + 2 * step))
       last before (inl low) = subst (λ x. IsWhole (kept clause x)) (omega arith) (known none (n + 2) low)
       last before (inr high) =
-          on_line clause step cession (n * step) (clear_at clause (n * step) (n * step + 2 * step)
+          on_line clause step is_clause (n * step) (clear_at clause (n * step) (n * step + 2 * step)
           (past_edge (greatest_edge clause) n step pos (omega (arith, high)))) before.0 before.1
 
   -- where the multiples that are tried are mapped to whole numbers, all are
   pub fits_tried : IsClause clause → is_off_multiples clause step ≡ false → (n : ℕ) → IsWhole (kept clause (n * step))
-  fits_tried cession none n = elim (eq-zero-or-pos step) [
+  fits_tried is_clause none n = elim (eq-zero-or-pos step) [
     | inl zero_step ↦ subst (λ x. IsWhole (kept clause x)) (omega (arith, ap (λ s. n * s) zero_step))
         (known none 0 (omega arith))
-    | inr pos ↦ (two_fit cession pos none n).0
+    | inr pos ↦ (two_fit is_clause pos none n).0
   ]
 
   pub tried_fits : ((n : ℕ) → IsWhole (kept clause (n * step))) → is_off_multiples clause step ≡ false
@@ -89,4 +89,4 @@ module _ (clause : Clause) (step : ℕ) where
 
   pub all_multiples : IsClause clause → (is_off_multiples clause step ≡ false)
       ↔ ((n : ℕ) → IsWhole (kept clause (n * step)))
-  all_multiples cession = (fits_tried cession, tried_fits)
+  all_multiples is_clause = (fits_tried is_clause, tried_fits)

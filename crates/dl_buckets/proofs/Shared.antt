@@ -115,12 +115,12 @@ list_weighed l is = rw is.weights (elim (cases_Bool (is_fine l.values)) [
 
 -- ---- the sum of a list
 
-module _ (xs : List Fraction) (place : Span) where
-  pub keeps_weighed : (made : Weights) → IsWeighing xs made → None ≡ at_if (is_not_one xs) place
+module _ (xs : List Fraction) (span : Span) where
+  pub keeps_weighed : (made : Weights) → IsWeighing xs made → None ≡ at_if (is_not_one xs) span
   keeps_weighed made is =
       rw (weighing_fine xs made is, (probabilities_of xs made is).one, whole_num 1, whole_den 1) refl
 
-  pub breaks_one : IsFineTo30Bits xs → sum_of xs ≢ whole 1 → Some place ≡ at_if (is_not_one xs) place
+  pub breaks_one : IsFineTo30Bits xs → sum_of xs ≢ whole 1 → Some span ≡ at_if (is_not_one xs) span
   breaks_one fine other =
       let not_one = false_from_ne_true (is_one (sum_of xs)) (λ e. other (one_yes (sum_of xs) e)) in
       rw (le-leb (common_denominator xs) (2 ^ 30) fine, not_one) refl

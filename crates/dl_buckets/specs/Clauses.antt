@@ -46,7 +46,7 @@ made_of (Some c) = if is_fine (shares_of c) then Whole (clause_of c) c.span else
 abbrev pub IsMade : MadeClause → Type 0
 IsMade Missing = ⊤
 IsMade TooFine = ⊤
-IsMade (Whole clause place) = IsClause clause
+IsMade (Whole clause span) = IsClause clause
 
 -- x lies below the top of a layer from a, where it has one
 abbrev pub is_below_top : Option ℕ → ℕ → ℕ → Bool

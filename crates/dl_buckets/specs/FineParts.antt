@@ -20,13 +20,13 @@ abbrev pub has_severity : GridSev → Bool
 has_severity s = has_atoms s && is_fine (weights_of s) && is_fine (mixture_shares s)
 
 -- the result means these pairs, and is there exactly where a test passes
-abbrev pub MeansWhere : Bool → Pairs → Option Sev → Type 0
-MeansWhere test pairs made = MatchOption made (test ≡ false)
+abbrev pub HasPairsWhere : Bool → Pairs → Option Sev → Type 0
+HasPairsWhere test pairs made = MatchOption made (test ≡ false)
     (λ sev. (test ≡ true) × HasDistribution sev pairs)
 
 -- the result is the severity in the layer, where the parts of the severity are fine
 abbrev pub IsWeighed : GridUnit → Option Sev → Type 0
-IsWeighed u made = MeansWhere (has_severity u.sev) (severity_in_layer u) made
+IsWeighed u made = HasPairsWhere (has_severity u.sev) (severity_in_layer u) made
 
 -- the shares of a clause, if there is one, are fine
 abbrev pub has_shares : Option GridClause → Bool

@@ -10,8 +10,8 @@ None else y = y
 
 -- the place, where the test passes
 abbrev pub at_if : Bool → Span → Option Span
-at_if true place = Some place
-at_if false place = None
+at_if true span = Some span
+at_if false span = None
 
 -- the place in a part that may be missing
 abbrev pub within : {A B : Type 0} → (A → Option B) → Option A → Option B

@@ -47,25 +47,25 @@ flaws_in f (x ∷ xs) = flaws_else (f x) (flaws_in f xs)
 -- ---- a place of one rule alone
 
 abbrev pub numeral_at : Option Span → Flaws
-numeral_at place = record no_flaws { numeral = place }
+numeral_at span = record no_flaws { numeral = span }
 
 abbrev pub range_at : Option Span → Flaws
-range_at place = record no_flaws { range = place }
+range_at span = record no_flaws { range = span }
 
 abbrev pub long_at : Option Span → Flaws
-long_at place = record no_flaws { long = place }
+long_at span = record no_flaws { long = span }
 
 abbrev pub lengths_at : Option Span → Flaws
-lengths_at place = record no_flaws { lengths = place }
+lengths_at span = record no_flaws { lengths = span }
 
 abbrev pub sum_at : Option Span → Flaws
-sum_at place = record no_flaws { sum = place }
+sum_at span = record no_flaws { sum = span }
 
 -- ---- a text with its flaws that was read
 
 -- the places in the order of the rules
-abbrev pub places : Flaws → List (Option Span)
-places f =
+abbrev pub spans : Flaws → List (Option Span)
+spans f =
     f.numeral ∷ f.range ∷ f.long ∷ f.lengths ∷ f.sum ∷ f.off_grid ∷ f.too_far ∷ []
 
 -- the same up to the first rule that is broken
@@ -80,21 +80,21 @@ AreNone (x ∷ xs) = (x ≡ None) × AreNone xs
 
 -- the same as far as the rules on numerals and ranges
 abbrev pub AgreeEarly : Flaws → Flaws → Type 0
-AgreeEarly made flaws = AgreeToFirst (take 2 (places made)) (take 2 (places flaws))
+AgreeEarly made flaws = AgreeToFirst (take 2 (spans made)) (take 2 (spans flaws))
 
 -- the rules on numerals, ranges and the lengths of lists are kept
 abbrev pub KeepsLists : Flaws → Type 0
-KeepsLists flaws = AreNone (take 3 (places flaws))
+KeepsLists flaws = AreNone (take 3 (spans flaws))
 
 -- no rule is broken
 abbrev pub IsClean : Flaws → Type 0
-IsClean flaws = AreNone (places flaws)
+IsClean flaws = AreNone (spans flaws)
 
 -- the first broken rule and its place are those of the text; the part is the one in whole buckets
 -- as soon as the text keeps so many of the first rules
 pub record IsReadTo {A : Type 0} (rules : ℕ) (flaws : Flaws) (part : A) (made : Gridded A) : Type 0 where
-  pub first : AgreeToFirst (places made.flaws) (places flaws)
-  pub right : AreNone (take rules (places flaws)) → made.part ≡ part
+  pub first : AgreeToFirst (spans made.flaws) (spans flaws)
+  pub right : AreNone (take rules (spans flaws)) → made.part ≡ part
 
 -- the same, where the part is right if no rule is broken
 abbrev pub IsRead : {A : Type 0} → Flaws → A → Gridded A → Type 0

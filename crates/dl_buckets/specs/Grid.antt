@@ -50,11 +50,11 @@ grid_list l = record { values = values_of l; span = l.span }
 
 -- probabilities at a place, with their weights
 abbrev pub shares_at : List Fraction → Span → Shares
-shares_at values place = record {
+shares_at values span = record {
   values = values;
   weights = weights_over values;
   span =
-      place;
+      span;
 }
 
 abbrev pub grid_shares : ListAst → Shares

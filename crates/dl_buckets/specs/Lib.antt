@@ -9,7 +9,7 @@ pub mod Clauses
 pub mod Severity
 pub mod FineParts
 pub mod Rules
-pub mod GridKept
-pub mod Kept
+pub mod CheckedGrid
+pub mod CheckedUnit
 pub mod Parts
-pub mod ClausesKept
+pub mod CheckedClauses

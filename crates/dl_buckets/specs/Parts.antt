@@ -5,7 +5,7 @@ use Rattle.dl_plan.specs.Fine.{IsFineTo30Bits}
 use Rattle.dl_sev.specs.Weighing.{sum_of}
 use Rattle.dl_buckets.specs.declared.grid.GridSev.{GridSev}
 use Rattle.dl_buckets.specs.Severity.{weights_of}
-use Rattle.dl_buckets.specs.GridKept.{IsGridSev}
+use Rattle.dl_buckets.specs.CheckedGrid.{IsGridSev}
 
 -- one weight for each atom
 pub record IsSevWeighted (s : GridSev) : Type 0 where

@@ -34,7 +34,7 @@ use Rattle.dl_buckets.specs.declared.flaws.Flaws.{Flaws}
 use Rattle.dl_buckets.specs.First.{at_if}
 use Rattle.dl_buckets.specs.Flaws.{no_flaws, flaws_else, earlier_flaws, flaws_within, flaws_in, numeral_at, range_at, long_at, lengths_at, sum_at}
 use Rattle.dl_buckets.specs.Lists.{is_above, is_zero, is_whole, is_not_one}
-use Rattle.dl_buckets.specs.Values.{value, is_bad_numeral, range_of, placed_values, values_of}
+use Rattle.dl_buckets.specs.Values.{value, is_bad_numeral, range_of, spanned_values, values_of}
 
 -- ---- numbers
 
@@ -45,15 +45,15 @@ flaws_of_numeral n = numeral_at (at_if (is_bad_numeral n) n.span)
 -- 7 OffGrid: an amount of money is no whole number of buckets
 -- 8 TooFar: it passes so many buckets
 abbrev pub flaws_of_amount : ℕ → Fraction → Fraction → Span → Flaws
-flaws_of_amount most bs x place = record no_flaws {
-  off_grid = at_if (not (is_whole (buckets bs x))) place;
-  too_far = at_if (is_above (buckets bs x) (whole most)) place;
+flaws_of_amount most bs x span = record no_flaws {
+  off_grid = at_if (not (is_whole (buckets bs x))) span;
+  too_far = at_if (is_above (buckets bs x) (whole most)) span;
 }
 
 -- of the numeral n as an amount of money, at this place
 abbrev pub flaws_of_money : ℕ → Fraction → Span → Numeral → Flaws
-flaws_of_money most bs place n =
-    flaws_else (flaws_of_numeral n) (flaws_of_amount most bs (value n) place)
+flaws_of_money most bs span n =
+    flaws_else (flaws_of_numeral n) (flaws_of_amount most bs (value n) span)
 
 -- ---- lists
 
@@ -74,13 +74,13 @@ flaws_of_item i =
 abbrev pub flaws_of_list : ListAst → Flaws
 flaws_of_list l =
     flaws_else (flaws_in flaws_of_item l.items)
-    (long_at (at_if (nat_lt most_values (length (placed_values l))) l.span))
+    (long_at (at_if (nat_lt most_values (length (spanned_values l))) l.span))
 
 -- a list of amounts of money
 abbrev pub flaws_of_amounts : ℕ → Fraction → ListAst → Flaws
 flaws_of_amounts most bs l =
     flaws_else (flaws_of_list l)
-    (flaws_in (λ pair. flaws_of_amount most bs pair.0 pair.1) (placed_values l))
+    (flaws_in (λ pair. flaws_of_amount most bs pair.0 pair.1) (spanned_values l))
 
 -- 6 NotOne: a fine list of probabilities does not sum to 1
 abbrev pub flaws_of_shares : ListAst → Flaws
@@ -90,12 +90,12 @@ flaws_of_shares l = flaws_else (flaws_of_list l) (sum_at (at_if (is_not_one (val
 abbrev pub flaws_beside : ℕ → ListAst → Flaws
 flaws_beside count l =
     flaws_else (flaws_of_shares l)
-    (lengths_at (at_if (not (count == length (placed_values l))) l.span))
+    (lengths_at (at_if (not (count == length (spanned_values l))) l.span))
 
 abbrev pub flaws_of_atom : ℕ → Fraction → Atom → Flaws
 flaws_of_atom most bs a =
     flaws_else (flaws_of_amounts most bs a.values)
-    (flaws_within (flaws_beside (length (placed_values a.values))) a.probs)
+    (flaws_within (flaws_beside (length (spanned_values a.values))) a.probs)
 
 abbrev pub flaws_of_mixture : ℕ → Fraction → MixAst → Flaws
 flaws_of_mixture most bs m =
@@ -105,8 +105,8 @@ flaws_of_mixture most bs m =
 -- ---- layers and clauses
 
 abbrev pub flaws_of_limit : ℕ → Fraction → Span → LimitAst → Flaws
-flaws_of_limit most bs place (Finite n) = flaws_of_money most bs place n
-flaws_of_limit most bs place Infinite = no_flaws
+flaws_of_limit most bs span (Finite n) = flaws_of_money most bs span n
+flaws_of_limit most bs span Infinite = no_flaws
 
 -- of its numeral alone
 abbrev pub flaws_of_limit_number : LimitAst → Flaws
@@ -141,7 +141,8 @@ flaws_of_exposure (Premium p r _) = flaws_else (flaws_of_numeral p) (flaws_of_nu
 abbrev pub flaws_of_count : CountAst → Flaws
 flaws_of_count (Exposed exposure freq zero) = flaws_of_exposure exposure
 flaws_of_count (Listed values probs _) =
-    flaws_else (flaws_of_list values) (flaws_within (flaws_beside (length (placed_values values))) probs)
+    flaws_else (flaws_of_list values) (flaws_within
+    (flaws_beside (length (spanned_values values))) probs)
 
 abbrev pub flaws_of_freq : FreqAst → Flaws
 flaws_of_freq (Fixed _) = no_flaws

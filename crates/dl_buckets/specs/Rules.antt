@@ -84,15 +84,15 @@ common_amount_of amounts = fold gcd 0 amounts
 abbrev pub off_grid_sums : MadeClause → List ℕ → Option Span
 off_grid_sums Missing amounts = None
 off_grid_sums TooFine amounts = None
-off_grid_sums (made.Whole clause place) amounts =
-    at_if (is_off_multiples clause (common_amount_of amounts)) place
+off_grid_sums (made.Whole clause span) amounts =
+    at_if (is_off_multiples clause (common_amount_of amounts)) span
 
 -- where one of both clauses breaks the rule, on amounts in the layer
 abbrev pub off_grid_amounts : MadeClause → MadeClause → List ℕ → Option Span
 off_grid_amounts Missing agr amounts = off_grid_sums agr amounts
 off_grid_amounts TooFine agr amounts = None
-off_grid_amounts (made.Whole clause place) agr amounts =
-    at_if (list_any (is_off clause) amounts) place else off_grid_sums agr
+off_grid_amounts (made.Whole clause span) agr amounts =
+    at_if (list_any (is_off clause) amounts) span else off_grid_sums agr
     (map (λ x. (kept clause x).num) amounts)
 
 unfoldable pub off_grid_cession : GridUnit → Option Span

@@ -61,13 +61,13 @@ ceded_pairs (Some c) pairs = ceded_each (clause_of c) pairs
 abbrev pub made_pairs : MadeClause → Pairs → Pairs
 made_pairs Missing pairs = pairs
 made_pairs TooFine pairs = pairs
-made_pairs (Whole clause place) pairs = ceded_each clause pairs
+made_pairs (Whole clause span) pairs = ceded_each clause pairs
 
 -- it keeps a whole number of each amount
 abbrev pub KeepsWhole : MadeClause → Sev → Type 0
 KeepsWhole Missing sev = ⊤
 KeepsWhole TooFine sev = ⊤
-KeepsWhole (Whole clause place) sev =
+KeepsWhole (Whole clause span) sev =
     IsClause clause × All (λ item. IsWhole (kept clause item.amount)) sev.items
 
 abbrev pub final_severity : GridUnit → Pairs

@@ -38,16 +38,16 @@ range_of i = record {
 }
 
 -- the values of an item, a, a + s, a + 2s, and so on up to b, each with the place of the item
-abbrev pub placed_item : ListItem → List (Fraction × Span)
-placed_item i = map (λ x. (x, i.span)) (range_values (range_of i))
+abbrev pub spanned_item : ListItem → List (Fraction × Span)
+spanned_item i = map (λ x. (x, i.span)) (range_values (range_of i))
 
 -- the range of an item, with the place of the item
-abbrev pub placed_range : ListItem → Range × Span
-placed_range i = (range_of i, i.span)
+abbrev pub spanned_range : ListItem → Range × Span
+spanned_range i = (range_of i, i.span)
 
 -- the values of a range, each with the place of the range
-abbrev pub placed_in : Range × Span → List (Fraction × Span)
-placed_in pair = map (λ x. (x, pair.1)) (range_values pair.0)
+abbrev pub spanned_in : Range × Span → List (Fraction × Span)
+spanned_in pair = map (λ x. (x, pair.1)) (range_values pair.0)
 
 -- so many values are more than 1,024, where memory did not run out
 abbrev pub AreTooMany : ℕ → ExpandFault → Type 0
@@ -55,9 +55,9 @@ AreTooMany count TooLong = most_values < count
 AreTooMany count OutOfMemory = ⊤
 
 -- those of a list are those of its items, in order
-abbrev pub placed_values : ListAst → List (Fraction × Span)
-placed_values l = flat_map placed_item l.items
+abbrev pub spanned_values : ListAst → List (Fraction × Span)
+spanned_values l = flat_map spanned_item l.items
 
 -- the same without places
 abbrev pub values_of : ListAst → List Fraction
-values_of l = map (λ pair. pair.0) (placed_values l)
+values_of l = map (λ pair. pair.0) (spanned_values l)

@@ -12,7 +12,7 @@ use dl_frac::Frac;
 use dl_lexer::Span;
 use dl_plan::CedeLayer;
 
-/// The place of the first layer that overlaps an earlier one of its clause.
+/// The span of the first layer that overlaps an earlier one of its clause.
 #[tactic(auto, using(crate::proofs::Firsts::or_is), unfolding(crate::specs::Rules::overlap))]
 pub fn overlap(unit: &GridUnit) -> Option<Span>
     ensures { result ≡ overlap unit.now }
@@ -22,7 +22,7 @@ pub fn overlap(unit: &GridUnit) -> Option<Span>
     occ.or(agr)
 }
 
-/// The place of the first layer of a clause that overlaps an earlier one.
+/// The span of the first layer of a clause that overlaps an earlier one.
 fn overlap_in(clause: &GridClause) -> Option<Span>
     ensures { result ≡ overlap_in clause.now }
 {
@@ -64,7 +64,7 @@ pub(crate) fn part_of(layer: &GridLayer, share: Frac) -> CedeLayer
     }
 }
 
-/// The place of the first ceded layer whose share is above 1.
+/// The span of the first ceded layer whose share is above 1.
 #[tactic(auto, using(crate::proofs::Firsts::or_is, crate::proofs::Firsts::find_first), unfolding(crate::specs::Rules::share_above_one, crate::specs::Rules::share_above_one_in))]
 pub fn share_above_one(unit: &GridUnit) -> Option<Span>
     ensures { result ≡ share_above_one unit.now }
@@ -74,7 +74,7 @@ pub fn share_above_one(unit: &GridUnit) -> Option<Span>
     occ.or(agr)
 }
 
-/// The place of the first share above 1 of a clause.
+/// The span of the first share above 1 of a clause.
 fn share_in(clause: &GridClause) -> Option<Span>
     ensures { result ≡ option_map (λ l. l.span) (find (λ l. share_exceeds l.share)
         clause.now.layers) }

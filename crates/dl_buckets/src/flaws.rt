@@ -42,12 +42,12 @@ impl Flaws {
         }
     }
 
-    /// The place of what is too long.
-    pub(crate) fn long_at(place: Option<Span>) -> Flaws
-        ensures { result ≡ long_at place }
+    /// The span of what is too long.
+    pub(crate) fn long_at(span: Option<Span>) -> Flaws
+        ensures { result ≡ long_at span }
     {
         Flaws {
-            long: place,
+            long: span,
             ..Flaws::none()
         }
     }

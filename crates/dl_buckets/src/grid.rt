@@ -10,7 +10,7 @@ use dl_sev::Weights;
 pub struct ValueList {
     /// The values of its items in order, 1 to 1,024 of them.
     pub values: Items<Frac>,
-    /// The place of the list.
+    /// The span of the list.
     pub span: Span,
 }
 
@@ -21,7 +21,7 @@ pub struct Shares {
     pub values: Items<Frac>,
     /// Their whole weights over the common denominator; none where that passes 2^30.
     pub weights: Option<Weights>,
-    /// The place of the list.
+    /// The span of the list.
     pub span: Span,
 }
 
@@ -50,7 +50,7 @@ pub struct GridLayer {
     pub limit: Option<u32>,
     /// Where the layer attaches, in buckets, at most 2^22.
     pub attach: u32,
-    /// The place of the layer.
+    /// The span of the layer.
     pub span: Span,
 }
 
@@ -72,7 +72,7 @@ pub struct GridCeded {
     pub share: GridShare,
     /// The layer.
     pub layer: GridLayer,
-    /// The place of both.
+    /// The span of both.
     pub span: Span,
 }
 
@@ -83,7 +83,7 @@ pub struct GridClause {
     pub net: bool,
     /// The ceded layers, 1 to 16 of them.
     pub layers: Items<GridCeded>,
-    /// The place of the clause.
+    /// The span of the clause.
     pub span: Span,
 }
 
@@ -100,7 +100,7 @@ pub enum GridExposure {
         amount: Frac,
         /// The loss ratio.
         ratio: Frac,
-        /// The place of the exposure.
+        /// The span of the exposure.
         span: Span,
     },
 }
@@ -142,7 +142,7 @@ pub enum GridCount {
 /// One unit.
 #[derive(Drop)]
 pub struct GridUnit {
-    /// The place of the unit's name.
+    /// The span of the unit's name.
     pub name: Span,
     /// How many claims there are.
     pub count: GridCount,

@@ -13,7 +13,7 @@ ghost use Rattle.dl_buckets.specs.Values.{if_there};
 use crate::flaws::{Flaws, Gridded};
 use crate::grid::{GridCeded, GridClause, GridLayer, GridShare};
 use crate::numbers::{grid_amount, money, number};
-use crate::places::place_if;
+use crate::spans::span_if;
 use dl_ast::{CededLayer, Cession, Layer, LimitAst, Share};
 use dl_frac::Frac;
 use dl_lexer::Span;
@@ -22,7 +22,7 @@ use dl_plan::Items;
 use std::alloc::{AllocError, Global};
 
 /// The layer of a unit, where there is one.
-pub(crate) fn own_layer(layer: &Option<Layer>, bs: Frac, most: u32) -> Gridded<Option<GridLayer>>
+pub(crate) fn unit_layer(layer: &Option<Layer>, bs: Frac, most: u32) -> Gridded<Option<GridLayer>>
     requires bucket { IsBucket bs }
     requires most { most ≤ most_amount }
     requires formed { IfSome layer.now IsFormedLayer }
@@ -67,21 +67,21 @@ fn grid_layer(
 }
 
 /// A limit in money, of a layer at a place, in buckets; none where there is no limit.
-fn grid_limit(limit: Option<Frac>, bs: Frac, most: u32, place: Span) -> Gridded<Option<u32>>
+fn grid_limit(limit: Option<Frac>, bs: Frac, most: u32, span: Span) -> Gridded<Option<u32>>
     requires bucket { IsBucket bs }
     requires most { most ≤ most_amount }
     requires small { IfSome limit IsSmall }
-    ensures { IsRead (flaws_within (λ x. flaws_of_amount most bs x place) limit)
+    ensures { IsRead (flaws_within (λ x. flaws_of_amount most bs x span) limit)
         (if_there (number_of bs) limit) result }
 {
     match limit {
-        Some(limit) => grid_amount(limit, bs, most, place).some(),
+        Some(limit) => grid_amount(limit, bs, most, span).some(),
         None => Gridded::clean(None),
     }
 }
 
 /// A clause of a unit, where there is one.
-pub(crate) fn own_clause(
+pub(crate) fn unit_clause(
     alloc: Global,
     clause: &Option<Cession>,
     bs: Frac,
@@ -114,7 +114,7 @@ fn grid_clause(
 {
     let ceded = clause.layers.as_slice();
     let layers = grid_layers(alloc, ceded, bs, most)?;
-    let long = Flaws::long_at(place_if(ceded.len() > MOST_LAYERS, clause.span));
+    let long = Flaws::long_at(span_if(ceded.len() > MOST_LAYERS, clause.span));
     Ok(Gridded {
         part: GridClause {
             net: clause.net,

@@ -2,7 +2,6 @@
 //! step, its layer and its clauses, and the rules on them.
 #![tactic(auto)]
 
-mod cessions;
 mod clauses;
 mod compare;
 mod copies;
@@ -15,14 +14,14 @@ mod long_mixtures;
 mod losses;
 mod made;
 mod numbers;
-mod places;
+mod off_grid;
 mod reading;
 mod severity;
 mod shares;
+mod spans;
 mod support;
 mod value_lists;
 
-pub use cessions::off_grid_cession;
 pub use clauses::{overlap, share_above_one};
 pub use compare::is_above;
 pub use flaws::{Flaws, Gridded};
@@ -32,8 +31,9 @@ pub use grid::{
 };
 pub use law::law_clauses;
 pub use made::{Clauses, MadeClause, make_clauses};
-pub use places::place_if;
+pub use off_grid::off_grid_cession;
 pub use reading::{grid_mixture, grid_unit};
 pub use severity::{final_severity, weighed_severity};
 pub use shares::{are_fine, weights_among, weights_differ};
+pub use spans::span_if;
 pub use support::{none_above, positive_amounts, support_in_layer};

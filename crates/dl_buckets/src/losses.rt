@@ -11,9 +11,9 @@ ghost use Rattle.dl_buckets.specs.Values.{if_there, values_of};
 
 use crate::flaws::{Flaws, Gridded};
 use crate::grid::{GridAtom, Shares};
-use crate::places::place_if;
 use crate::shares::shares;
-use crate::value_lists::{grid_amounts, placed_values, value_list};
+use crate::spans::span_if;
+use crate::value_lists::{grid_amounts, spanned_values, value_list};
 use dl_ast::{Atom, ListAst};
 use dl_frac::Frac;
 use dl_plan::Items;
@@ -55,11 +55,11 @@ fn grid_atom(
     requires formed { IsFormedAtom atom.now }
     ensures { IfOk result (IsRead (flaws_of_atom most bs atom.now) (grid_atom bs atom.now)) }
 {
-    let placed = placed_values(alloc, &atom.values)?;
-    let values = placed.part.as_slice();
+    let spanned = spanned_values(alloc, &atom.values)?;
+    let values = spanned.part.as_slice();
     let amounts = grid_amounts(alloc, values, bs, most)?;
     let probs = probs_beside(alloc, values.len(), &atom.probs)?;
-    let own = placed.flaws.or(amounts.flaws);
+    let own = spanned.flaws.or(amounts.flaws);
     Ok(Gridded {
         part: GridAtom {
             amounts: amounts.part,
@@ -84,7 +84,7 @@ pub(crate) fn probs_beside(
             let made = read_shares(alloc, list)?;
             let is_other = count != made.part.values.as_slice().len();
             let lengths = Flaws {
-                lengths: place_if(is_other, list.span),
+                lengths: span_if(is_other, list.span),
                 ..Flaws::none()
             };
             Ok(Gridded {
@@ -97,7 +97,7 @@ pub(crate) fn probs_beside(
 }
 
 /// The weights of the atoms, where there are some.
-pub(crate) fn own_weights(
+pub(crate) fn mixture_weights(
     alloc: Global,
     weights: &Option<ListAst>,
 ) -> Result<Gridded<Option<Shares>>, AllocError>

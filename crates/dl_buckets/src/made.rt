@@ -5,8 +5,8 @@ ghost use Rattle.dl_limits.specs.Limits.{most_parts};
 ghost use Rattle.dl_plan.specs.Clause.{IsClause};
 ghost use Rattle.dl_buckets.specs.Lists.{is_fine};
 ghost use Rattle.dl_buckets.specs.Clauses.{ceded_layer, clause_of, made_of, part_of, share_of, shares_of, IsMade};
-ghost use Rattle.dl_buckets.specs.ClausesKept.{AreClausesOf, IsClauseLayered};
-ghost use Rattle.dl_buckets.specs.Kept.{IsLayered};
+ghost use Rattle.dl_buckets.specs.CheckedClauses.{AreClausesOf, IsClauseLayered};
+ghost use Rattle.dl_buckets.specs.CheckedUnit.{IsLayered};
 ghost use Rattle.dl_buckets.specs.Rules.{part_exceeds, share_exceeds};
 
 use crate::clauses::part_of;
@@ -47,31 +47,31 @@ pub fn make_clauses(alloc: Global, unit: &GridUnit) -> Result<Clauses, AllocErro
 }
 
 /// The clause that a unit may have, with its place in the text.
-fn made(alloc: Global, cession: &Option<GridClause>) -> Result<MadeClause, AllocError>
-    requires { IfSome cession.now IsClauseLayered }
-    ensures same { IfOk result (λ clause. clause ≡ made_of cession.now) }
+fn made(alloc: Global, written: &Option<GridClause>) -> Result<MadeClause, AllocError>
+    requires { IfSome written.now IsClauseLayered }
+    ensures same { IfOk result (λ clause. clause ≡ made_of written.now) }
     ensures made { IfOk result IsMade }
 {
-    let Some(cession) = cession else {
+    let Some(written) = written else {
         return Ok(MadeClause::Missing);
     };
-    match clause(alloc, cession)? {
-        Some(cede) => Ok(MadeClause::Whole(cede, cession.span)),
+    match clause(alloc, written)? {
+        Some(cede) => Ok(MadeClause::Whole(cede, written.span)),
         None => Ok(MadeClause::TooFine),
     }
 }
 
 /// A clause; none exactly where its shares are not fine.
-fn clause(alloc: Global, cession: &GridClause) -> Result<Option<Cede>, AllocError>
-    requires layered { IsClauseLayered cession.now }
-    ensures value { IfOk result (λ made. MatchOption made (is_fine (shares_of cession.now) ≡ false)
-        (λ clause. clause ≡ clause_of cession.now)) }
-    ensures cession { IfOk result (λ made. IfSome made IsClause) }
+fn clause(alloc: Global, written: &GridClause) -> Result<Option<Cede>, AllocError>
+    requires layered { IsClauseLayered written.now }
+    ensures value { IfOk result (λ made. MatchOption made (is_fine (shares_of written.now) ≡ false)
+        (λ clause. clause ≡ clause_of written.now)) }
+    ensures is_clause { IfOk result (λ made. IfSome made IsClause) }
 {
-    let Some(layers) = parts_of(alloc, cession)? else {
+    let Some(layers) = parts_of(alloc, written)? else {
         return Ok(None);
     };
-    let clause = Cede::from_slice(alloc, cession.net, &layers)?;
+    let clause = Cede::from_slice(alloc, written.net, &layers)?;
     if clause.is_clause() {
         Ok(Some(clause))
     } else {
@@ -80,13 +80,13 @@ fn clause(alloc: Global, cession: &GridClause) -> Result<Option<Cede>, AllocErro
 }
 
 /// The layers of a clause with their shares; none only where the shares are not fine.
-fn parts_of(alloc: Global, cession: &GridClause) -> Result<Option<Vec<CedeLayer>>, AllocError>
-    requires layered { IsClauseLayered cession.now }
-    ensures { IfOk result (λ made. MatchOption made (is_fine (shares_of cession.now) ≡ false)
-        (λ layers. layers.items ≡ map ceded_layer cession.now.layers)) }
+fn parts_of(alloc: Global, written: &GridClause) -> Result<Option<Vec<CedeLayer>>, AllocError>
+    requires layered { IsClauseLayered written.now }
+    ensures { IfOk result (λ made. MatchOption made (is_fine (shares_of written.now) ≡ false)
+        (λ layers. layers.items ≡ map ceded_layer written.now.layers)) }
 {
     let mut layers = Vec::new(alloc);
-    'layers: for ceded in cession.layers.as_slice() {
+    'layers: for ceded in written.layers.as_slice() {
         let Some(share) = share_of(&ceded.share) else {
             return Ok(None);
         };

@@ -17,7 +17,7 @@ ghost use Rattle.dl_buckets.specs.Values.{value, value_or, range_of};
 
 use crate::compare::is_above;
 use crate::flaws::{Flaws, Gridded};
-use crate::places::place_if;
+use crate::spans::span_if;
 use dl_ast::{ListItem, Numeral};
 use dl_frac::{Frac, lcm_to, numeral};
 use dl_lexer::{Rare, Span};
@@ -77,11 +77,11 @@ pub(crate) fn item_range(item: &ListItem) -> Gridded<Range>
     }
 }
 
-/// The place of an item of several numbers that are no range.
+/// The span of an item of several numbers that are no range.
 fn bad_range(item: &ListItem, range: &Range) -> Option<Span>
     ensures { result ≡ at_if (is_some item.now.to && is_no_range range.now) item.now.span }
 {
-    place_if(item.to.as_ref().is_some() && is_no_range(range), item.span)
+    span_if(item.to.as_ref().is_some() && is_no_range(range), item.span)
 }
 
 /// The numbers go down, their step is 0, or their common denominator is above 1,000,000.
@@ -105,15 +105,15 @@ fn shared_denominator(range: &Range) -> Option<u64>
 }
 
 /// An amount of money that is written at a place.
-pub(crate) fn money(written: &Numeral, bs: Frac, most: u32, place: Span) -> Gridded<u32>
+pub(crate) fn money(written: &Numeral, bs: Frac, most: u32, span: Span) -> Gridded<u32>
     requires bucket { IsBucket bs }
     requires most { most ≤ most_amount }
     requires numeral { IsNumeralToken written.now.text }
-    ensures { IsRead (flaws_of_money most bs place written.now) (number_of bs (value written.now))
+    ensures { IsRead (flaws_of_money most bs span written.now) (number_of bs (value written.now))
         result }
 {
     let value = number(written);
-    let amount = grid_amount(value.part, bs, most, place);
+    let amount = grid_amount(value.part, bs, most, span);
     Gridded {
         part: amount.part,
         flaws: value.flaws.or(amount.flaws),
@@ -121,11 +121,11 @@ pub(crate) fn money(written: &Numeral, bs: Frac, most: u32, place: Span) -> Grid
 }
 
 /// An amount of money at a place, as a number of buckets.
-pub(crate) fn grid_amount(amount: Frac, bs: Frac, most: u32, place: Span) -> Gridded<u32>
+pub(crate) fn grid_amount(amount: Frac, bs: Frac, most: u32, span: Span) -> Gridded<u32>
     requires bucket { IsBucket bs }
     requires most { most ≤ most_amount }
     requires parts { HasPartsOf18Digits amount }
-    ensures { IsRead (flaws_of_amount most bs amount place) (number_of bs amount) result }
+    ensures { IsRead (flaws_of_amount most bs amount span) (number_of bs amount) result }
 {
     let num = amount.num() as u128 * bs.den() as u128;
     let den = amount.den() as u128 * bs.num() as u128;
@@ -133,8 +133,8 @@ pub(crate) fn grid_amount(amount: Frac, bs: Frac, most: u32, place: Span) -> Gri
     Gridded {
         part: (num / den).min(most) as u32,
         flaws: Flaws {
-            off_grid: place_if(num % den != 0, place),
-            too_far: place_if(den * most < num, place),
+            off_grid: span_if(num % den != 0, span),
+            too_far: span_if(den * most < num, span),
             ..Flaws::none()
         },
     }

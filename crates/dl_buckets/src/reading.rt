@@ -7,15 +7,15 @@ ghost use Rattle.dl_plan.specs.Ranges.{IsBucket};
 ghost use Rattle.dl_buckets.specs.Flaws.{IsRead};
 ghost use Rattle.dl_buckets.specs.Grid.{grid_mixture, grid_with};
 ghost use Rattle.dl_buckets.specs.Reading.{flaws_of_mixture, flaws_with, is_named};
-ghost use Rattle.dl_buckets.specs.declared.flaws.Flaws.{Flaws as Places};
+ghost use Rattle.dl_buckets.specs.declared.flaws.Flaws.{Flaws as FlawsOfText};
 ghost use Rattle.dl_buckets.specs.declared.grid.GridSev.{GridSev as Severity};
 
 use crate::count::{distribution, grid_count};
 use crate::flaws::{Flaws, Gridded};
 use crate::grid::{GridSev, GridUnit};
-use crate::layers::{own_clause, own_layer};
+use crate::layers::{unit_clause, unit_layer};
 use crate::long_mixtures::long_mixture;
-use crate::losses::{grid_atoms, own_weights};
+use crate::losses::{grid_atoms, mixture_weights};
 use dl_ast::{MixAst, SevBody, UnitAst};
 use dl_frac::Frac;
 use dl_limits::MOST_ATOMS;
@@ -39,7 +39,7 @@ pub fn grid_mixture(
         return long_mixture(alloc, mix);
     }
     let atoms = grid_atoms(alloc, atoms, bs, most)?;
-    let weights = own_weights(alloc, &mix.weights)?;
+    let weights = mixture_weights(alloc, &mix.weights)?;
     Ok(Gridded {
         part: GridSev {
             atoms: atoms.part,
@@ -61,15 +61,15 @@ pub fn grid_unit(
     requires bucket { IsBucket bs }
     requires most { most ≤ most_amount }
     requires formed { IsFormedUnit unit.now }
-    ensures { (flaws : Places) (right : Severity) → IsRead flaws right sev
+    ensures { (flaws : FlawsOfText) (right : Severity) → IsRead flaws right sev
         → IfOk result (IsRead (flaws_with most bs flaws unit.now) (grid_with bs right unit.now)) }
 {
     let given = distribution(&unit.count);
     let (freq, zero) = given.part;
     let count = grid_count(alloc, &unit.count, freq)?;
-    let layer = own_layer(&unit.layer, bs, most);
-    let occ = own_clause(alloc, &unit.occ, bs, most)?;
-    let agr = own_clause(alloc, &unit.agr, bs, most)?;
+    let layer = unit_layer(&unit.layer, bs, most);
+    let occ = unit_clause(alloc, &unit.occ, bs, most)?;
+    let agr = unit_clause(alloc, &unit.agr, bs, most)?;
     let own = count.flaws.or(layer.flaws);
     let front = Flaws::earlier(is_named(&unit.sev.body), own, sev.flaws);
     let terms = occ.flaws.or(given.flaws.or(agr.flaws));

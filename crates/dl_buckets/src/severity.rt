@@ -6,11 +6,11 @@ ghost use Rattle.dl_buckets.specs.Lists.{is_fine};
 ghost use Rattle.dl_plan.specs.Severity.{pairs_of, HasDistribution};
 ghost use Rattle.dl_buckets.specs.Severity.{atom_probs, atom_pairs, mixed_pairs, severity_in_layer, made_pairs, KeepsWhole};
 ghost use Rattle.dl_buckets.specs.Parts.{IsSevWeighted};
-ghost use Rattle.dl_buckets.specs.Kept.{IsWeighted, IsFineSev};
+ghost use Rattle.dl_buckets.specs.CheckedUnit.{IsWeighted, IsFineSev};
 ghost use Rattle.dl_buckets.specs.Clauses.{clause_of, shares_of};
-ghost use Rattle.dl_buckets.specs.ClausesKept.{IsClauseLayered};
-ghost use Rattle.dl_buckets.specs.GridKept.{IsGridAtom, IsGridSev, IsSevWithin};
-ghost use Rattle.dl_buckets.specs.FineParts.{has_atoms, has_severity, IsWeighed, MeansWhere};
+ghost use Rattle.dl_buckets.specs.CheckedClauses.{IsClauseLayered};
+ghost use Rattle.dl_buckets.specs.CheckedGrid.{IsGridAtom, IsGridSev, IsSevWithin};
+ghost use Rattle.dl_buckets.specs.FineParts.{has_atoms, has_severity, IsWeighed, HasPairsWhere};
 ghost use Rattle.dl_buckets.specs.Rules.{none_above};
 
 use crate::grid::{GridAtom, GridSev, GridUnit};
@@ -37,7 +37,7 @@ pub fn weighed_severity(alloc: Global, unit: &GridUnit) -> Result<Option<Sev>, A
 /// The mixture of the atoms; `None` exactly where it or a part of it is not fine.
 fn mixture(alloc: Global, sev: &GridSev) -> Result<Option<Sev>, AllocError>
     requires { IsSevWeighted sev.now }
-    ensures { IfOk result (MeansWhere (has_severity sev.now) (mixed_pairs sev.now)) }
+    ensures { IfOk result (HasPairsWhere (has_severity sev.now) (mixed_pairs sev.now)) }
 {
     let Some(atoms) = atom_severities(alloc, sev)? else {
         return Ok(None);
@@ -71,7 +71,7 @@ fn atom_severities(alloc: Global, sev: &GridSev) -> Result<Option<Vec<Sev>>, All
 /// The severity of an atom; `None` exactly where its probabilities are not fine.
 fn atom_severity(alloc: Global, atom: &GridAtom) -> Result<Option<Sev>, AllocError>
     requires { IsGridAtom atom.now }
-    ensures { IfOk result (MeansWhere (is_fine (atom_probs atom.now)) (atom_pairs atom.now)) }
+    ensures { IfOk result (HasPairsWhere (is_fine (atom_probs atom.now)) (atom_pairs atom.now)) }
 {
     let amounts = atom.amounts.as_slice();
     let Some(weights) = weights_among(alloc, amounts.len(), &atom.probs)? else {

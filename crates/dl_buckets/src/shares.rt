@@ -14,7 +14,7 @@ ghost use Rattle.dl_buckets.specs.Small.{IsShares};
 use crate::copies::copy_weights;
 use crate::flaws::{Flaws, Gridded};
 use crate::grid::{GridUnit, Shares};
-use crate::places::place_if;
+use crate::spans::span_if;
 use dl_frac::Frac;
 use dl_lexer::Span;
 use dl_plan::Items;
@@ -109,12 +109,12 @@ pub fn are_fine(probs: &Option<Shares>) -> bool
     }
 }
 
-/// The place of a list of weights that are not one for each atom.
+/// The span of a list of weights that are not one for each atom.
 #[tactic(auto, unfolding(crate::specs::Rules::weights_differ))]
 pub fn weights_differ(unit: &GridUnit) -> Option<Span>
     ensures { result ≡ weights_differ unit.now }
 {
     let weights = unit.sev.weights.as_ref()?;
     let is_other = weights.values.as_slice().len() != unit.sev.atoms.as_slice().len();
-    place_if(is_other, weights.span)
+    span_if(is_other, weights.span)
 }

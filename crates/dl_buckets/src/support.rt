@@ -7,11 +7,11 @@ ghost use Rattle.dl_plan.specs.Clause.{layer};
 ghost use Rattle.dl_buckets.specs.Lists.{probs_among};
 ghost use Rattle.dl_buckets.specs.Severity.{atom_pairs, mixed_pairs, severity_in_layer, support};
 ghost use Rattle.dl_buckets.specs.Rules.{none_above};
-ghost use Rattle.dl_buckets.specs.Kept.{IsWeighted};
-ghost use Rattle.dl_buckets.specs.GridKept.{IsGridAtom};
+ghost use Rattle.dl_buckets.specs.CheckedUnit.{IsWeighted};
+ghost use Rattle.dl_buckets.specs.CheckedGrid.{IsGridAtom};
 
 use crate::grid::{GridAtom, GridUnit, Shares};
-use crate::places::place_if;
+use crate::spans::span_if;
 use dl_lexer::Span;
 use dl_sev::cut_amount;
 use std::alloc::{AllocError, Global};
@@ -35,7 +35,7 @@ pub fn support_in_layer(
     }
 }
 
-/// The place of a layer that no amount of positive probability exceeds, though it should.
+/// The span of a layer that no amount of positive probability exceeds, though it should.
 #[tactic(auto, unfolding(crate::specs::Rules::none_above))]
 pub fn none_above(unit: &GridUnit, mixed: &[u32]) -> Option<Span>
     requires weighted { IsWeighted unit.now }
@@ -44,7 +44,7 @@ pub fn none_above(unit: &GridUnit, mixed: &[u32]) -> Option<Span>
 {
     let layer = unit.layer.as_ref()?;
     let is_reached = !is_conditioned(unit.bang, layer.attach) || is_any_above(mixed, layer.attach);
-    place_if(!is_reached, layer.span)
+    span_if(!is_reached, layer.span)
 }
 
 /// The amounts of positive probability of the mixture, of the atoms of positive weight in turn, at

@@ -9,7 +9,7 @@ ghost use Rattle.dl_sev.specs.Ranges.{IsRange, PassesRoom};
 ghost use Rattle.dl_buckets.specs.Flaws.{AgreeEarly, IsRead, IsReadTo, flaws_in};
 ghost use Rattle.dl_buckets.specs.Grid.{grid_list, number_of};
 ghost use Rattle.dl_buckets.specs.Reading.{flaws_of_item, flaws_of_list, flaws_of_amount};
-ghost use Rattle.dl_buckets.specs.Values.{placed_range, placed_in, placed_values, AreTooMany};
+ghost use Rattle.dl_buckets.specs.Values.{spanned_range, spanned_in, spanned_values, AreTooMany};
 
 use crate::flaws::{Flaws, Gridded};
 use crate::grid::ValueList;
@@ -27,30 +27,30 @@ pub(crate) fn value_list(alloc: Global, list: &ListAst) -> Result<Gridded<ValueL
     requires { IsFormedList list.now }
     ensures { IfOk result (IsReadTo 3 (flaws_of_list list.now) (grid_list list.now)) }
 {
-    let placed = placed_values(alloc, list)?;
+    let spanned = spanned_values(alloc, list)?;
     Ok(Gridded {
         part: ValueList {
-            values: Items::from_vec(values_alone(alloc, placed.part.as_slice())?),
+            values: Items::from_vec(values_alone(alloc, spanned.part.as_slice())?),
             span: list.span,
         },
-        flaws: placed.flaws,
+        flaws: spanned.flaws,
     })
 }
 
 /// The values of a list, each with the place of its item; none where the list has a flaw.
-pub(crate) fn placed_values(
+pub(crate) fn spanned_values(
     alloc: Global,
     list: &ListAst,
 ) -> Result<Gridded<Items<(Frac, Span)>>, AllocError>
     requires { IsFormedList list.now }
-    ensures read { IfOk result (IsReadTo 3 (flaws_of_list list.now) (placed_values list.now)) }
+    ensures read { IfOk result (IsReadTo 3 (flaws_of_list list.now) (spanned_values list.now)) }
     ensures modest { IfOk result (λ made. All (λ pair. HasPartsOf18Digits pair.0) made.part) }
 {
     let ranges = item_ranges(alloc, list.items.as_slice())?;
     if ranges.flaws.numeral.is_some() || ranges.flaws.range.is_some() {
         return Ok(no_values(alloc, ranges.flaws));
     }
-    match place_values(alloc, ranges.part.as_slice()) {
+    match values_of_ranges(alloc, ranges.part.as_slice()) {
         Ok(values) => Ok(ranges.with(Items::from_vec(values))),
         Err(ExpandFault::TooLong) => {
             let long = Flaws::long_at(Some(list.span));
@@ -85,7 +85,7 @@ fn item_ranges(
 ) -> Result<Gridded<Items<(Range, Span)>>, AllocError>
     requires { All IsFormedItem items.now }
     ensures { IfOk result (IsReadTo 2 (flaws_in flaws_of_item items.now)
-        (map placed_range items.now)) }
+        (map spanned_range items.now)) }
 {
     let mut made = Vec::new(alloc);
     let mut flaws = Flaws::none();
@@ -100,15 +100,18 @@ fn item_ranges(
 
 /// The values of ranges, each with the place of its range. `TooLong` exactly where there are more
 /// than 1,024 values.
-fn place_values(alloc: Global, ranges: &[(Range, Span)]) -> Result<Vec<(Frac, Span)>, ExpandFault>
+fn values_of_ranges(
+    alloc: Global,
+    ranges: &[(Range, Span)],
+) -> Result<Vec<(Frac, Span)>, ExpandFault>
     requires { All (λ pair. IsRange pair.0) ranges.now }
-    ensures values { IfOk result (λ values. values.items ≡ flat_map placed_in ranges.now) }
+    ensures values { IfOk result (λ values. values.items ≡ flat_map spanned_in ranges.now) }
     ensures few { IfOk result (λ values. length values.items ≤ most_values) }
-    ensures long { IfErr result (AreTooMany (length (flat_map placed_in ranges.now))) }
+    ensures long { IfErr result (AreTooMany (length (flat_map spanned_in ranges.now))) }
 {
     let mut values = Vec::new(alloc);
-    'each: for &(range, place) in ranges {
-        if let Err(fault) = push_placed(alloc, range, place, &mut values) {
+    'each: for &(range, span) in ranges {
+        if let Err(fault) = push_spanned(alloc, range, span, &mut values) {
             return Err(fault);
         }
     }
@@ -117,16 +120,16 @@ fn place_values(alloc: Global, ranges: &[(Range, Span)]) -> Result<Vec<(Frac, Sp
 
 /// The values of a range put behind others, each with this place. `TooLong` exactly where there are
 /// then more than 1,024 values.
-fn push_placed(
+fn push_spanned(
     alloc: Global,
     range: Range,
-    place: Span,
+    span: Span,
     values: &mut Vec<(Frac, Span)>,
 ) -> Result<(), ExpandFault>
     requires range { IsRange range }
     requires room { length values.old.items ≤ most_values }
     ensures values { IfOk result (λ _. values.new.items
-        ≡ values.old.items ++ placed_in (range, place)) }
+        ≡ values.old.items ++ spanned_in (range, span)) }
     ensures few { IfOk result (λ _. length values.new.items ≤ most_values) }
     ensures long { IfErr result (PassesRoom (length values.old.items) range) }
 {
@@ -134,46 +137,46 @@ fn push_placed(
     if part.len() > MOST_VALUES - values.len() {
         return Err(ExpandFault::TooLong);
     }
-    push_each(values, &part, place)?;
+    push_each(values, &part, span)?;
     Ok(())
 }
 
 /// Numbers put behind others, each with this place.
-fn push_each(values: &mut Vec<(Frac, Span)>, part: &[Frac], place: Span) -> Result<(), AllocError>
+fn push_each(values: &mut Vec<(Frac, Span)>, part: &[Frac], span: Span) -> Result<(), AllocError>
     ensures { IfOk result (λ _. values.new.items
-        ≡ values.old.items ++ map (λ x. (x, place)) part.now) }
+        ≡ values.old.items ++ map (λ x. (x, span)) part.now) }
 {
     'part: for &value in part {
-        values.push((value, place))?;
+        values.push((value, span))?;
     }
     Ok(())
 }
 
 /// Values without their places.
-fn values_alone(alloc: Global, placed: &[(Frac, Span)]) -> Result<Vec<Frac>, AllocError>
-    ensures { IfOk result (λ values. values.items ≡ map (λ pair. pair.0) placed.now) }
+fn values_alone(alloc: Global, spanned: &[(Frac, Span)]) -> Result<Vec<Frac>, AllocError>
+    ensures { IfOk result (λ values. values.items ≡ map (λ pair. pair.0) spanned.now) }
 {
-    placed.iter().map(|pair| pair.0).collect(alloc)
+    spanned.iter().map(|pair| pair.0).collect(alloc)
 }
 
 /// Amounts of money, each with its place, as numbers of buckets.
 pub(crate) fn grid_amounts(
     alloc: Global,
-    placed: &[(Frac, Span)],
+    spanned: &[(Frac, Span)],
     bs: Frac,
     most: u32,
 ) -> Result<Gridded<Items<u32>>, AllocError>
     requires bucket { IsBucket bs }
     requires most { most ≤ most_amount }
-    requires modest { All (λ pair. HasPartsOf18Digits pair.0) placed.now }
+    requires modest { All (λ pair. HasPartsOf18Digits pair.0) spanned.now }
     ensures { IfOk result (IsRead
-        (flaws_in (λ pair. flaws_of_amount most bs pair.0 pair.1) placed.now)
-        (map (λ pair. number_of bs pair.0) placed.now)) }
+        (flaws_in (λ pair. flaws_of_amount most bs pair.0 pair.1) spanned.now)
+        (map (λ pair. number_of bs pair.0) spanned.now)) }
 {
     let mut made = Vec::new(alloc);
     let mut flaws = Flaws::none();
-    'placed: for &(value, place) in placed {
-        let amount = grid_amount(value, bs, most, place);
+    'spanned: for &(value, span) in spanned {
+        let amount = grid_amount(value, bs, most, span);
         made.push(amount.part)?;
         flaws = flaws.or(amount.flaws);
     }

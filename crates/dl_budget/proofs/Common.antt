@@ -41,7 +41,7 @@ pub use Rattle.dl_plan.specs.declared.plan.Freq.TheVariants.{Bernoulli, Binomial
 pub use Rattle.dl_plan.specs.declared.plan.Plan.{Plan}
 pub use Rattle.dl_plan.specs.declared.plan.Unit.{Unit as UnitOfPlan}
 pub use Rattle.dl_plan.specs.declared.settings.Term.{Term}
-pub use Rattle.dl_budget.specs.Asks.{most_tail_budget, place_of, tail_budget}
+pub use Rattle.dl_budget.specs.Asks.{most_tail_budget, index_of, tail_budget}
 unfoldable pub use Rattle.dl_budget.specs.Asks.{in_digits}
 pub use Rattle.dl_budget.specs.Claims.{claims_budget, none_budget}
 unfoldable pub use Rattle.dl_budget.specs.Claims.{count_budget, gamma_budget, poisson_budget}

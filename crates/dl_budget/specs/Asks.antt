@@ -17,13 +17,13 @@ use Rattle.dl_budget.specs.Shared.{raised_budget, shared_joint_budget, thinned_a
 use Rattle.dl_budget.specs.Units.{unit_budgets, unit_mean_budget, total_budget, others_budget, mean_budget}
 
 -- how many units come before the one of this name
-abbrev pub place_of : List ℕ → List UnitOfPlan → ℕ
-place_of name units = position_or_len (λ u. bytes_eq u.name name) units
+abbrev pub index_of : List ℕ → List UnitOfPlan → ℕ
+index_of name units = position_or_len (λ u. bytes_eq u.name name) units
 
 -- the number of the unit that an ask names, counted from 0; that of all units where none has the
 -- name
 abbrev pub named_unit : List UnitOfPlan → Ask → Option ℕ
-named_unit units ask = option_map (λ name. place_of name units) (facts_of ask).unit
+named_unit units ask = option_map (λ name. index_of name units) (facts_of ask).unit
 
 -- for each ask, that number
 abbrev pub named_units : List UnitOfPlan → List Asked → List (Option ℕ)
@@ -81,9 +81,9 @@ ask_budget S plan (Quantile p) = total_budget S plan
 ask_budget S plan (LayerMean limit attach) = layer_mean_budget S plan limit attach
 ask_budget S plan (Tail p) = tail_budget S plan p
 ask_budget S plan (Price terms) = price_budget S plan terms
-ask_budget S plan (Joint unit at) = joint_budget S plan (place_of unit plan.units)
-ask_budget S plan (Kappa unit at) = kappa_budget S plan (place_of unit plan.units)
-ask_budget S plan (Cotail unit p) = cotail_budget S plan (place_of unit plan.units) p
+ask_budget S plan (Joint unit at) = joint_budget S plan (index_of unit plan.units)
+ask_budget S plan (Kappa unit at) = kappa_budget S plan (index_of unit plan.units)
+ask_budget S plan (Cotail unit p) = cotail_budget S plan (index_of unit plan.units) p
 
 -- how many units of the last printed digit a budget comes to, and one more
 unfoldable pub in_digits : (S budget digits : ℕ) → ℕ
@@ -104,11 +104,11 @@ Passes S plan ask settings = needed S plan ask settings.digits ≤ most_for sett
 
 -- the ask lies inside a grid of so many cells
 abbrev pub IsInside : ℕ → Ask → Type 0
-IsInside cells ask = (facts_of ask).reach ≤ cells
+IsInside cells ask = (facts_of ask).least_cells ≤ cells
 
 -- there is a unit of this name
 abbrev pub IsNamed : List ℕ → List UnitOfPlan → Type 0
-IsNamed name units = place_of name units < length units
+IsNamed name units = index_of name units < length units
 
 -- a unit that the ask names is there
 abbrev pub NamesUnit : List UnitOfPlan → Ask → Type 0

@@ -8,7 +8,7 @@ ghost use Rattle.dl_plan.specs.Terms.{ArePriced, most_weight_parts};
 ghost use Rattle.dl_plan.specs.declared.settings.Ask.TheVariants.{LayerMean};
 ghost use Rattle.dl_plan.specs.Ranges.{IsLevel};
 ghost use Rattle.dl_plan.specs.Valid.{IsValid};
-ghost use Rattle.dl_budget.specs.Asks.{IsInside, IsAskOf, place_of, named_unit, ask_budget, layer_mean_budget, tail_budget, most_tail_budget, price_budget, joint_by, joint_budget, kappa_budget, cotail_budget, in_digits, needed, Passes};
+ghost use Rattle.dl_budget.specs.Asks.{IsInside, IsAskOf, index_of, named_unit, ask_budget, layer_mean_budget, tail_budget, most_tail_budget, price_budget, joint_by, joint_budget, kappa_budget, cotail_budget, in_digits, needed, Passes};
 ghost use Rattle.dl_budget.specs.Once.{AreBudgetsOf};
 
 use crate::once::{Budgets, budgets_of};
@@ -93,9 +93,9 @@ fn tail_budget<const B: u32>(plan: &Plan, budgets: Budgets, p: Frac) -> u128
     ensures small { result ≤ most_tail_budget }
 {
     let sums = 3 * plan.cells as u128 * budgets.total;
-    let both = 2 * budgets.mean + sums;
+    let widths = 2 * budgets.mean + sums;
     let rest = p.den() - p.num();
-    (both * p.den() as u128).div_ceil(rest as u128) + 4
+    (widths * p.den() as u128).div_ceil(rest as u128) + 4
 }
 
 /// The width of a part of a tail mean, rounded once at each end: `weight` times `tail`, the
@@ -188,12 +188,12 @@ fn cotail_budget<const B: u32>(plan: &Plan, budgets: Budgets, i: u32, p: Frac) -
 }
 
 /// How many units come before the one of this name.
-fn place(units: &[Unit], name: &[u8]) -> u32
+fn index_of(units: &[Unit], name: &[u8]) -> u32
     requires { length units.now ≤ most_units }
-    ensures { result ≡ place_of name.now units.now }
+    ensures { result ≡ index_of name.now units.now }
 {
-    let place = units.iter().position(|unit| unit.name.as_slice() == name);
-    place.unwrap_or(units.len()) as u32
+    let index = units.iter().position(|unit| unit.name.as_slice() == name);
+    index.unwrap_or(units.len()) as u32
 }
 
 /// The number of the unit that an ask names, counted from 0; the number of units where none has the
@@ -203,7 +203,7 @@ pub fn named_unit(units: &[Unit], ask: &Ask) -> Option<u32>
     ensures { result ≡ named_unit units.now ask.now }
 {
     match ask.unit() {
-        Some(name) => Some(place(units, name.as_slice())),
+        Some(name) => Some(index_of(units, name.as_slice())),
         None => None,
     }
 }

@@ -6,8 +6,8 @@ pub use Rattle.std.proofs.lemmas.Bool.Decides.{eqb_tells, leb_tells}
 pub use Rattle.std.proofs.lemmas.List.{get_or-map, length-map, length-set, take_all}
 pub use Rattle.std.specs.List.{sum_by}
 pub use Rattle.std.specs.Prelude.{All, AllPairs, IfSome, if◌then◌else◌, nat_lt, ◌==◌}
-pub use Rattle.dl_cede.specs.Kept.{IsLeft, IsTakenIn, sum_elsewhere, sum_kept, width_at}
-unfoldable pub use Rattle.dl_cede.specs.Kept.{where_whole}
+pub use Rattle.dl_cede.specs.TakenIn.{IsLeft, IsTakenIn, sum_elsewhere, sum_kept, width_at}
+unfoldable pub use Rattle.dl_cede.specs.TakenIn.{where_whole}
 pub use Rattle.dl_cede.specs.Means.{AreNearestEnds, HoldsCeded, HoldsClaims, HoldsMean, IsNear, most_claims_mean, most_limited}
 pub use Rattle.dl_exact.proofs.Counts.{below_le, below_more as count_below_more, below_nothing as count_below_none, below_plus, below_rest, below_same}
 pub use Rattle.dl_exact.proofs.Laws.{le_refl, one_times, plus_zero, sub_le_both, times_assoc, times_comm, times_le_both, times_le_times, whole_times}

@@ -206,10 +206,10 @@ module _ (layers : List CedeLayer) (i : ℕ) (l : CedeLayer) (inside : i < lengt
 
 pub most_fits : (clause : Clause) (one mean n hi : ℕ) → IsClause clause → All IsNear clause.1
     → hi ≤ mosts one mean (take n clause.1) → hi ≤ mean + most_limited one
-most_fits clause one mean n hi cession near h =
-    let few : length clause.1 * (2 ^ 22 * one) ≤ 16 * (2 ^ 22 * one) = mul-le-mul_right (2 ^ 22 * one) cession.few in
+most_fits clause one mean n hi is_clause near h =
+    let few : length clause.1 * (2 ^ 22 * one) ≤ 16 * (2 ^ 22 * one) = mul-le-mul_right (2 ^ 22 * one) is_clause.few in
     let less = sum_by-take-le (λ (m : CedeLayer). layer_most m.limit one mean) clause.1 n in
-    omega (arith, mosts_small one mean clause.1 cession.apart near)
+    omega (arith, mosts_small one mean clause.1 is_clause.apart near)
 
 -- all of that, in words
 pub limited_fits : (B mean hi : ℕ) → B ≤ 56 → mean ≤ 2 ^ 94 → hi ≤ mean + most_limited (2 ^ B) → hi ≤ 2 ^ 95

@@ -1,7 +1,7 @@
 //! The grid of what a clause keeps.
 
 ghost use Rattle.std.specs.Prelude.{◌≡◌, ◌≢◌, ℕ, ◌+◌, ◌-◌, ◌*◌, ◌^◌, ◌<◌, ◌≤◌, ◌==◌, if◌then◌else◌, min, length, IfOk, IsSome, MatchOption};
-ghost use Rattle.dl_cede.specs.Kept.{width_at, where_whole, sum_elsewhere, IsTakenIn, IsLeft};
+ghost use Rattle.dl_cede.specs.TakenIn.{width_at, where_whole, sum_elsewhere, IsTakenIn, IsLeft};
 ghost use Rattle.dl_grid.specs.Cells.{low_at, high_at, mass_low, spread};
 ghost use Rattle.dl_grid.specs.Room.{IsGridSize};
 ghost use Rattle.dl_exact.specs.Fraction.{whole};
@@ -34,8 +34,8 @@ fn add_at<const B: u32>(grid: &mut Grid<B>, y: u64, more: Iv<B>)
 {
     if y < u64::from(grid.cells()) {
         let x = y as u32;
-        let both = grid.at(x).add(more);
-        grid.set(x, both.clamp_to(units_of_one(B)));
+        let sum = grid.at(x).add(more);
+        grid.set(x, sum.clamp_to(units_of_one(B)));
     }
 }
 

@@ -33,7 +33,7 @@ step_small line step h =
 
 -- ---- at the end of the text
 
-module _ {plan : Plan} {text places labels : List ℕ} (passed : HasPassedTo plan text (length text) places labels) where
+module _ {plan : Plan} {text offsets labels : List ℕ} (passed : HasPassedTo plan text (length text) offsets labels) where
   abbrev made : List Made
   made = made_after [] passed.steps
 
@@ -41,35 +41,35 @@ module _ {plan : Plan} {text places labels : List ℕ} (passed : HasPassedTo pla
   all_lines = passed.split ∙ ap (λ l. passed.lines ++ l) (ap lines_of (drop_all (length text) text (omega arith)) ∙ no_lines)
       ∙ append-nil passed.lines
 
-  pub all_counted : length places ≡ length (lines_of text)
+  pub all_counted : length offsets ≡ length (lines_of text)
   all_counted = counted passed ∙ sym (ap length all_lines)
 
-  pub ends_badly : ¬ EndsAtTarget plan made → IsBadStep plan text (length places)
+  pub ends_badly : ¬ EndsAtTarget plan made → IsBadStep plan text (length offsets)
   ends_badly none = record {
     steps = passed.steps;
-    spelled = rw (take_all (length places) (lines_of text) (omega (arith, all_counted)), all_lines) passed.spelled;
+    spelled = rw (take_all (length offsets) (lines_of text) (omega (arith, all_counted)), all_lines) passed.spelled;
     pass = passed.pass;
     bad = inr (all_counted, none);
   }
 
-  pub no_step_ends : length places ≡ 0 → ¬ EndsAtTarget plan made
+  pub no_step_ends : length offsets ≡ 0 → ¬ EndsAtTarget plan made
   no_step_ends none ends =
-      omega (arith, none, passed.kept.many, ap length ends.ends, length-append ends.before (ends.last ∷ []))
+      omega (arith, none, passed.so_far.many, ap length ends.ends, length-append ends.before (ends.last ∷ []))
 
-  module _ (n : ℕ) (is : n + 1 ≡ length places) where
+  module _ (n : ℕ) (is : n + 1 ≡ length offsets) where
     within : n < length made
-    within = omega (arith, is, passed.kept.many)
+    within = omega (arith, is, passed.so_far.many)
 
     pub last_is : (before : List Made) (last : Made) → made ≡ before ++ last ∷ [] → made_at made n ≡ last
     last_is before last e =
         let long : length before ≡ n =
-        omega (arith, is, passed.kept.many, ap length e, length-append before (last ∷ [])) in
+        omega (arith, is, passed.so_far.many, ap length e, length-append before (last ∷ [])) in
         ap₂ (λ l k. made_at l k) e (sym long) ∙ get_or-append_seam before last [] _
 
     pub other_end : ¬ ((i : ℕ) → i < length plan.units → label_at labels (length plan.units) n i ≡ target plan i)
         → ¬ EndsAtTarget plan made
     other_end none ends = none (λ i inside.
-        sym (passed.kept.counts n i within inside) ∙ ap (λ (m : Made). m.label i) (last_is ends.before ends.last ends.ends)
+        sym (passed.so_far.counts n i within inside) ∙ ap (λ (m : Made). m.label i) (last_is ends.before ends.last ends.ends)
         ∙ ends.label i)
 
     pub verified : {grid : List (Iv 56)} → grid ≡ (made_at made n).cells
@@ -82,10 +82,10 @@ module _ {plan : Plan} {text places labels : List ℕ} (passed : HasPassedTo pla
         pass = passed.pass;
         before = take n made;
         last = made_at made n;
-        made = sym (take_all (n + 1) made (omega (arith, is, passed.kept.many))) ∙ take_more made n _ within;
+        made = sym (take_all (n + 1) made (omega (arith, is, passed.so_far.many))) ∙ take_more made n _ within;
         label = λ i. elim (cases_lt i (length plan.units)) [
-          | inl inside ↦ passed.kept.counts n i within inside ∙ label i inside
-          | inr past ↦ passed.kept.others n i past ∙ sym (get_or_past (map unit_parts plan.units) i 0
+          | inl inside ↦ passed.so_far.counts n i within inside ∙ label i inside
+          | inr past ↦ passed.so_far.others n i past ∙ sym (get_or_past (map unit_parts plan.units) i 0
               (omega (arith, length-map plan.units unit_parts, past)))
         ];
         cells = cells;
@@ -104,17 +104,17 @@ none_passed plan text = record {
   split = refl;
   spelled = none_spelled;
   pass = tt;
-  kept = record {
+  so_far = record {
     many = refl;
     long = omega arith;
-    placed = λ k near. absurd (omega (arith, near));
+    steps_at = λ k near. absurd (omega (arith, near));
     counts = λ k i near small. absurd (omega (arith, near));
     others = λ k i past. refl;
   };
 }
 
-pub few_steps : {plan : Plan} (text : List ℕ) {places labels : List ℕ} → HasPassedTo plan text (length text) places labels
-    → length places ≤ length text
+pub few_steps : {plan : Plan} (text : List ℕ) {offsets labels : List ℕ} → HasPassedTo plan text (length text) offsets labels
+    → length offsets ≤ length text
 few_steps text passed = omega (arith, all_counted passed, lines_few text)
 
 -- the label of a step is that of the target, by the targets and the labels as they are read
@@ -124,12 +124,12 @@ pub by_targets : (plan : Plan) (targets labels read : List ℕ) (n : ℕ) → ta
 by_targets plan targets labels read n is same = rw (is, same, length-map plan.units unit_parts) (λ h. h, λ h. h)
 
 -- there are at most as many steps as bytes
-pub steps_before : {plan : Plan} (text : List ℕ) {places labels : List ℕ} (place : ℕ)
-    → HasPassedTo plan text place places labels → length places ≤ length text
-steps_before text place passed = omega (
+pub steps_before : {plan : Plan} (text : List ℕ) {offsets labels : List ℕ} (offset : ℕ)
+    → HasPassedTo plan text offset offsets labels → length offsets ≤ length text
+steps_before text offset passed = omega (
   arith,
   counted passed,
   ap length passed.split,
-  length-append passed.lines (lines_of (drop place text)),
+  length-append passed.lines (lines_of (drop offset text)),
   lines_few text,
 )

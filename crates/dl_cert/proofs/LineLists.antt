@@ -27,14 +27,14 @@ pub no_lines : lines_of [] ≡ []
 unfolding lines_of
 no_lines = refl
 
-module _ (text : List ℕ) {rest : List ℕ} (place : ℕ) {end : ℕ} (inside : place < length text) (is : rest ≡ drop place text)
+module _ (text : List ℕ) {rest : List ℕ} (offset : ℕ) {end : ℕ} (inside : offset < length text) (is : rest ≡ drop offset text)
     (at : end ≡ position_or_len is_newline rest) where
-  left : length rest ≡ length text - place
-  left = ap length is ∙ length-drop place text
+  left : length rest ≡ length text - offset
+  left = ap length is ∙ length-drop offset text
 
   -- a newline ends the line
-  pub ended_line : place + end < length text
-      → lines_of (drop place text) ≡ line_from text place ∷ lines_of (drop (place + end + 1) text)
+  pub ended_line : offset + end < length text
+      → lines_of (drop offset text) ≡ line_from text offset ∷ lines_of (drop (offset + end + 1) text)
   ended_line more =
       let here : position_or_len is_newline rest < length rest = omega (arith, at, left, more) in
       let n : ℕ = position_or_len is_newline rest in
@@ -42,8 +42,8 @@ module _ (text : List ℕ) {rest : List ℕ} (place : ℕ) {end : ℕ} (inside :
       let split : rest ≡ front ++ 10 ∷ drop (n + 1) rest =
       split_at_first is_newline rest 0 here
       ∙ ap (λ b. front ++ b ∷ drop (n + 1) rest) (newline_is _ (passes_at_first is_newline rest 0 here)) in
-      let behind : drop (n + 1) rest ≡ drop (place + end + 1) text =
-      ap (drop (n + 1)) is ∙ drop-drop (n + 1) place text ∙ ap (λ k. drop k text) (omega (arith, at)) in
+      let behind : drop (n + 1) rest ≡ drop (offset + end + 1) text =
+      ap (drop (n + 1)) is ∙ drop-drop (n + 1) offset text ∙ ap (λ k. drop k text) (omega (arith, at)) in
       ap lines_of (sym is ∙ split) ∙ line_and_rest front (drop (n + 1) rest) front_plain
       ∙ ap₂ (λ l t. l ∷ lines_of t) (ap (λ t. take (position_or_len is_newline t) t) is) behind
     where
@@ -59,15 +59,15 @@ module _ (text : List ℕ) {rest : List ℕ} (place : ℕ) {end : ℕ} (inside :
           ∙ fails_before_first is_newline rest k 0 few
 
   -- the text ends the line
-  pub open_line : length text ≤ place + end
-      → lines_of (drop place text) ≡ line_from text place ∷ lines_of (drop (place + end) text)
+  pub open_line : length text ≤ offset + end
+      → lines_of (drop offset text) ≡ line_from text offset ∷ lines_of (drop (offset + end) text)
   open_line over =
       let n : ℕ = position_or_len is_newline rest in
       let all : take n rest ≡ rest = take_all n rest (omega (arith, at, left, over, inside)) in
       ap lines_of (sym is) ∙ whole_line rest (omega (arith, left, inside)) (λ k near.
       fails_before_first is_newline rest k 0 (omega (arith, near, at, left, over, inside)))
       ∙ ap₂ (λ l t. l ∷ t) (sym all ∙ ap (λ t. take (position_or_len is_newline t) t) is)
-      (sym (ap lines_of (drop_all (place + end) text over) ∙ no_lines))
+      (sym (ap lines_of (drop_all (offset + end) text over) ∙ no_lines))
     where
       whole_line : (xs : List ℕ) → 0 < length xs → ((k : ℕ) → k < length xs → is_newline (get_or xs k 0) ≡ false)
           → lines_of xs ≡ xs ∷ []
@@ -75,14 +75,14 @@ module _ (text : List ℕ) {rest : List ℕ} (place : ℕ) {end : ℕ} (inside :
       whole_line (x ∷ xs) some none = last_line x xs none
 
 -- a place inside a text is where a line begins, and behind it the others follow
-pub next_there : (text : List ℕ) (place : ℕ) → place < length text
-    → (next : ℕ) × (lines_of (drop place text) ≡ line_from text place ∷ lines_of (drop next text))
-next_there text place inside =
-    let rest : List ℕ = drop place text in
+pub next_there : (text : List ℕ) (offset : ℕ) → offset < length text
+    → (next : ℕ) × (lines_of (drop offset text) ≡ line_from text offset ∷ lines_of (drop next text))
+next_there text offset inside =
+    let rest : List ℕ = drop offset text in
     let end : ℕ = position_or_len is_newline rest in
-    elim (cases_lt (place + end) (length text)) [
-      | inl more ↦ (place + end + 1, ended_line text place inside refl refl more)
-      | inr over ↦ (place + end, open_line text place inside refl refl over)
+    elim (cases_lt (offset + end) (length text)) [
+      | inl more ↦ (offset + end + 1, ended_line text offset inside refl refl more)
+      | inr over ↦ (offset + end, open_line text offset inside refl refl over)
     ]
 
 -- a byte ends a line or is one more of the first

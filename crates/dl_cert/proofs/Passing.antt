@@ -146,11 +146,11 @@ module _ (plan : Plan) (valid : IsValid plan) (covered : IsCovered plan) where
   unfolding AreSound
   certified steps grid c =
       let all = all_sound [] steps (λ k inside. absurd (omega (arith, inside))) c.pass in
-      let place : length c.before < length (c.before ++ c.last ∷ []) =
+      let offset : length c.before < length (c.before ++ c.last ∷ []) =
       omega (arith, length-append c.before (c.last ∷ [])) in
       let here : IsSound c.last =
       subst IsSound (get_or-append_seam c.before c.last [] _)
-      (subst (λ made. (k : ℕ) → k < length made → IsSound (made_at made k)) c.made all (length c.before) place) in
+      (subst (λ made. (k : ℕ) → k < length made → IsSound (made_at made k)) c.made all (length c.before) offset) in
       let sound = rw (fun_ext c.label) at here.encloses in
       same_cells_enclosed one (length grid) (low_at grid) (high_at grid) _ _ (plan_made_up plan valid covered)
       (rw (c.cells, here.long) sound)

@@ -1,11 +1,11 @@
 -- A step that passes joins those that are kept.
-use Rattle.dl_cert.proofs.Common.{take-append_seam, get_or_past, ℕ, suc, ◌≡◌, ◌≢◌, ◌+◌, ◌*◌, ◌<◌, ◌≤◌, ◌^◌, ◌∙◌, cond, inl, inr, refl, sym, ap, ap₂, subst, subst₂, arith, List, [], ◌∷◌, ◌++◌, length, get_or, drop, append_assoc, length-append, mul-le-mul_right, map, All, cases_lt, ne_eqb, get_or_append_left, get_or-append_seam, most_cert_cells, most_cells_at, Iv, mass_low, IsGrid, Plan, Kind, One, Start, Times, Keeps, IsRow, IsPlaced, count_by, label_at, HasPassedTo, AreSteps, lines_of, IsStep, one, Passes, AllPass, made_after, line_from, Step, Made, made_at, made_by, label_of, IsThere, unit_parts, IsBadStep, IsBadLine}
+use Rattle.dl_cert.proofs.Common.{take-append_seam, get_or_past, ℕ, suc, ◌≡◌, ◌≢◌, ◌+◌, ◌*◌, ◌<◌, ◌≤◌, ◌^◌, ◌∙◌, cond, inl, inr, refl, sym, ap, ap₂, subst, subst₂, arith, List, [], ◌∷◌, ◌++◌, length, get_or, drop, append_assoc, length-append, mul-le-mul_right, map, All, cases_lt, ne_eqb, get_or_append_left, get_or-append_seam, most_cert_cells, most_cells_at, Iv, mass_low, IsGrid, Plan, Kind, One, Start, Times, HavePassed, IsRow, IsStepAt, count_by, label_at, HasPassedTo, AreSteps, lines_of, IsStep, one, Passes, AllPass, made_after, line_from, Step, Made, made_at, made_by, label_of, IsThere, unit_parts, IsBadStep, IsBadLine}
 use Rattle.dl_cert.proofs.LineLists.{next_there}
 use Rattle.dl_cert.proofs.Readings.{step_is}
 use Rattle.dl_cert.proofs.Tests.{IsTested}
 use Rattle.std.proofs.lemmas.List.{get_or-append-add}
 
-module _ {plan : Plan} {text places labels : List ℕ} {before : List Made} (kept : Keeps plan text places labels before) where
+module _ {plan : Plan} {text offsets labels : List ℕ} {before : List Made} (so_far : HavePassed plan text offsets labels before) where
   abbrev units : ℕ
   units = length plan.units
 
@@ -14,13 +14,13 @@ module _ {plan : Plan} {text places labels : List ℕ} {before : List Made} (kep
   count_is One there i inside = refl
   count_is (Start u) there i inside = refl
   count_is (Times a b) there i inside =
-      ap₂ (λ m n. m + n) (sym (kept.counts a i there.0 inside)) (sym (kept.counts b i there.1 inside))
+      ap₂ (λ m n. m + n) (sym (so_far.counts a i there.0 inside)) (sym (so_far.counts b i there.1 inside))
 
   pub none_counted : (kind : Kind) → IsThere units (length before) kind → (i : ℕ) → units ≤ i
       → label_of before kind i ≡ 0
   none_counted One there i past = refl
   none_counted (Start u) there i past = ap (λ b. cond b 1 0) (ne_eqb i u (λ e. absurd (omega (arith, e, past, there))))
-  none_counted (Times a b) there i past = omega (arith, kept.others a i past, kept.others b i past)
+  none_counted (Times a b) there i past = omega (arith, so_far.others a i past, so_far.others b i past)
 
   module _ (step : Step) {targets row : List ℕ} (counts : targets ≡ map unit_parts plan.units)
       (there : IsThere units (length before) step.kind) (is_row : IsRow labels units step.kind targets row) where
@@ -44,7 +44,7 @@ module _ {plan : Plan} {text places labels : List ℕ} {before : List Made} (kep
       high = tested.high_ends;
     }
 
-    module _ (place : ℕ) (inside : place ≤ length text) (spelled : IsStep (line_from text place) step)
+    module _ (offset : ℕ) (inside : offset ≤ length text) (spelled : IsStep (line_from text offset) step)
         (many : length step.cells ≡ plan.cells) (grid : IsGrid step.cells) where
       abbrev more : List Made
       more = before ++ made_by before step ∷ []
@@ -55,9 +55,9 @@ module _ {plan : Plan} {text places labels : List ℕ} {before : List Made} (kep
       last : made_at more (length before) ≡ made_by before step
       last = get_or-append_seam before (made_by before step) [] _
 
-      by_place : (P : ℕ → Type 0) → ((k : ℕ) → k < length before → P k) → P (length before) → (k : ℕ)
+      by_offset : (P : ℕ → Type 0) → ((k : ℕ) → k < length before → P k) → P (length before) → (k : ℕ)
           → k < length more → P k
-      by_place P early now k near = elim (cases_lt k (length before)) [
+      by_offset P early now k near = elim (cases_lt k (length before)) [
         | inl h ↦ early k h
         | inr h ↦ subst P (omega (arith, near, h, length-append before (made_by before step ∷ []))) now
       ]
@@ -65,21 +65,21 @@ module _ {plan : Plan} {text places labels : List ℕ} {before : List Made} (kep
       before_row : (k i : ℕ) → k < length before → i < units → k * units + i < length labels
       before_row k i near small =
           let all : (k + 1) * units ≤ length before * units = mul-le-mul_right units (omega (arith, near)) in
-          omega (arith, all, small, kept.long)
+          omega (arith, all, small, so_far.long)
 
-      pub keeps_more : Keeps plan text (places ++ place ∷ []) (labels ++ row) more
+      pub keeps_more : HavePassed plan text (offsets ++ offset ∷ []) (labels ++ row) more
       keeps_more = record {
-        many = length-append places (place ∷ []) ∙ ap (λ n. n + 1) kept.many
+        many = length-append offsets (offset ∷ []) ∙ ap (λ n. n + 1) so_far.many
             ∙ sym (length-append before (made_by before step ∷ []));
         long =
             let a = length-append labels row in
             let b = length-append before (made_by before step ∷ []) in
-            a ∙ ap₂ (λ m n. m + n) kept.long is_row.long ∙ omega arith ∙ ap (λ n. n * units) (sym b);
-        placed = by_place (λ k. IsPlaced plan text (get_or (places ++ place ∷ []) k 0) (made_at more k))
-            (λ k near. subst₂ (IsPlaced plan text)
-            (sym (get_or_append_left places (place ∷ []) 0 k (omega (arith, near, kept.many)))) (sym (earlier k near))
-            (kept.placed k near)) (subst₂ (IsPlaced plan text)
-            (sym (ap (λ k. get_or (places ++ place ∷ []) k 0) (sym kept.many) ∙ get_or-append_seam places place [] 0))
+            a ∙ ap₂ (λ m n. m + n) so_far.long is_row.long ∙ omega arith ∙ ap (λ n. n * units) (sym b);
+        steps_at = by_offset (λ k. IsStepAt plan text (get_or (offsets ++ offset ∷ []) k 0) (made_at more k))
+            (λ k near. subst₂ (IsStepAt plan text)
+            (sym (get_or_append_left offsets (offset ∷ []) 0 k (omega (arith, near, so_far.many)))) (sym (earlier k near))
+            (so_far.steps_at k near)) (subst₂ (IsStepAt plan text)
+            (sym (ap (λ k. get_or (offsets ++ offset ∷ []) k 0) (sym so_far.many) ∙ get_or-append_seam offsets offset [] 0))
             (sym last) (record {
               inside = inside;
               kind = step.kind;
@@ -87,15 +87,15 @@ module _ {plan : Plan} {text places labels : List ℕ} {before : List Made} (kep
               cells = many;
               grid = grid;
             }));
-        counts = λ k i near small. by_place
+        counts = λ k i near small. by_offset
             (λ k. (made_at more k).label i ≡ label_at (labels ++ row) units k i)
-            (λ k close. ap (λ (m : Made). m.label i) (earlier k close) ∙ kept.counts k i close small
+            (λ k close. ap (λ (m : Made). m.label i) (earlier k close) ∙ so_far.counts k i close small
             ∙ sym (get_or_append_left labels row 0 (k * units + i) (before_row k i close small)))
             (ap (λ (m : Made). m.label i) last ∙ sym (count_is step.kind there i small) ∙ sym (is_row.counts i small)
-            ∙ sym (get_or-append-add labels row i 0) ∙ ap (λ n. get_or (labels ++ row) (n + i) 0) kept.long) k near;
+            ∙ sym (get_or-append-add labels row i 0) ∙ ap (λ n. get_or (labels ++ row) (n + i) 0) so_far.long) k near;
         others = λ k i past. elim (cases_lt k (length more)) [
-          | inl near ↦ by_place (λ k. (made_at more k).label i ≡ 0)
-              (λ k close. ap (λ (m : Made). m.label i) (earlier k close) ∙ kept.others k i past)
+          | inl near ↦ by_offset (λ k. (made_at more k).label i ≡ 0)
+              (λ k close. ap (λ (m : Made). m.label i) (earlier k close) ∙ so_far.others k i past)
               (ap (λ (m : Made). m.label i) last ∙ none_counted step.kind there i past) k near
           | inr far ↦ ap (λ (m : Made). m.label i) (get_or_past more k _ far)
         ];
@@ -134,22 +134,22 @@ pub pass_more : (plan : Plan) (before : List Made) (steps : List Step) (step : S
 pass_more plan before [] step h now = (now, tt)
 pass_more plan before (s ∷ ss) step h now = (h.0, pass_more plan (before ++ made_by before s ∷ []) ss step h.1 now)
 
-module _ {plan : Plan} {text places labels : List ℕ} {place : ℕ} (passed : HasPassedTo plan text place places labels) where
+module _ {plan : Plan} {text offsets labels : List ℕ} {offset : ℕ} (passed : HasPassedTo plan text offset offsets labels) where
   abbrev made : List Made
   made = made_after [] passed.steps
 
-  pub counted : length places ≡ length passed.lines
-  counted = passed.kept.many ∙ made_many [] passed.steps ∙ nothing (length passed.steps)
+  pub counted : length offsets ≡ length passed.lines
+  counted = passed.so_far.many ∙ made_many [] passed.steps ∙ nothing (length passed.steps)
       ∙ sym (steps_many passed.lines passed.steps passed.spelled)
     where
       nothing : (n : ℕ) → 0 + n ≡ n
       nothing n = omega arith
 
   -- the line at the place is the first bad one
-  pub bad_line : place < length text → IsBadLine plan made (line_from text place) → IsBadStep plan text (length places)
+  pub bad_line : offset < length text → IsBadLine plan made (line_from text offset) → IsBadStep plan text (length offsets)
   bad_line inside bad =
-      let n = next_there text place inside in
-      let line = line_from text place in
+      let n = next_there text offset inside in
+      let line = line_from text offset in
       let all : lines_of text ≡ passed.lines ++ line ∷ lines_of (drop n.0 text) =
       passed.split ∙ ap (λ l. passed.lines ++ l) n.1 in
       record {
@@ -163,18 +163,18 @@ module _ {plan : Plan} {text places labels : List ℕ} {place : ℕ} (passed : H
       }
 
   -- one line more has passed
-  pub line_passes : {next : ℕ} (step : Step) {places' labels' : List ℕ}
-      → lines_of (drop place text) ≡ line_from text place ∷ lines_of (drop next text)
-      → IsStep (line_from text place) step → Passes plan made step
-      → Keeps plan text places' labels' (made ++ made_by made step ∷ []) → HasPassedTo plan text next places' labels'
-  line_passes {next} step split spelled pass kept = record {
-    lines = passed.lines ++ line_from text place ∷ [];
+  pub line_passes : {next : ℕ} (step : Step) {offsets' labels' : List ℕ}
+      → lines_of (drop offset text) ≡ line_from text offset ∷ lines_of (drop next text)
+      → IsStep (line_from text offset) step → Passes plan made step
+      → HavePassed plan text offsets' labels' (made ++ made_by made step ∷ []) → HasPassedTo plan text next offsets' labels'
+  line_passes {next} step split spelled pass so_far = record {
+    lines = passed.lines ++ line_from text offset ∷ [];
     steps = passed.steps ++ step ∷ [];
     split = passed.split ∙ ap (λ l. passed.lines ++ l) split
-        ∙ sym (append_assoc passed.lines (line_from text place ∷ []) (lines_of (drop next text)));
-    spelled = steps_more passed.lines passed.steps (line_from text place) step passed.spelled spelled;
+        ∙ sym (append_assoc passed.lines (line_from text offset ∷ []) (lines_of (drop next text)));
+    spelled = steps_more passed.lines passed.steps (line_from text offset) step passed.spelled spelled;
     pass = pass_more plan [] passed.steps step passed.pass pass;
-    kept = rw (made_more [] passed.steps step) kept;
+    so_far = rw (made_more [] passed.steps step) so_far;
   }
 
 pub misread : (plan : Plan) (before : List Made) (line : List ℕ)

@@ -241,20 +241,20 @@ pub word_ends : (text words : List ℕ) (next : ℕ) → next < length text → 
 word_ends text words next inside is =
     sym is ∙ drop_more text next 0 inside ∙ ap (λ b. b ∷ drop (next + 1) text) blank
   where
-    place : ℕ
-    place = position_or_len is_blank words
+    offset : ℕ
+    offset = position_or_len is_blank words
 
-    left : place < length words
-    left = elim (cases_lt place (length words)) [
+    left : offset < length words
+    left = elim (cases_lt offset (length words)) [
       | inl h ↦ h
-      | inr past ↦ absurd (omega (arith, inside, length-drop next text, ap length is, length-drop place words, past))
+      | inr past ↦ absurd (omega (arith, inside, length-drop next text, ap length is, length-drop offset words, past))
     ]
 
     blank : get_or text next 0 ≡ 32
     blank =
         let first = drop_more text next 0 inside in
-        let second = drop_more words place 0 left in
-        let same : get_or text next 0 ≡ get_or words place 0 = cc in
+        let second = drop_more words offset 0 left in
+        let same : get_or text next 0 ≡ get_or words offset 0 = cc in
         same ∙ blank_is _ (passes_at_first is_blank words 0 left)
       where
         blank_is : (b : ℕ) → is_blank b ≡ true → b ≡ 32

@@ -1,5 +1,5 @@
 -- The test of a step's cells, by the kind of the step.
-use Rattle.dl_cert.proofs.Common.{ℕ, ◌≡◌, ◌⊎◌, ◌<◌, ◌≤◌, ◌∙◌, sym, ap, subst, arith, List, length, get_or, map, ◌↔◌, get_or-map, Iv, low_at, high_at, IsConvolution, Plan, UnitOfPlan, thinned_mean, Base, Kind, Start, Times, low_base, high_base, IsBaseOf, AreStarts, PassesTo, Keeps, IsStep, one, low_number, high_number, low_start, high_start, line_from, Step, Made, made_at, unit_parts, target}
+use Rattle.dl_cert.proofs.Common.{ℕ, ◌≡◌, ◌⊎◌, ◌<◌, ◌≤◌, ◌∙◌, sym, ap, subst, arith, List, length, get_or, map, ◌↔◌, get_or-map, Iv, low_at, high_at, IsConvolution, Plan, UnitOfPlan, thinned_mean, Base, Kind, Start, Times, low_base, high_base, IsBaseOf, AreStarts, PassesTo, HavePassed, IsStep, one, low_number, high_number, low_start, high_start, line_from, Step, Made, made_at, unit_parts, target}
 use Rattle.dl_cert.proofs.Readings.{step_is}
 
 -- the cells pass beside the numbers of a step
@@ -49,10 +49,10 @@ module _ (P : Type 0) (plan : Plan) (before : List Made) (cells : List (Iv 56)) 
       (λ y near. h.high some (high_at cells) y ∙ same (λ x. high_start x.freq x.sev (thinned_mean x) (high_at cells) y)))
 
 -- what is read again at the place of a step are its cells
-pub cells_again : {plan : Plan} {text places labels : List ℕ} {before : List Made} (k : ℕ) (line : List ℕ) (step : Step)
-    → Keeps plan text places labels before → k < length places → line ≡ line_from text (get_or places k 0)
+pub cells_again : {plan : Plan} {text offsets labels : List ℕ} {before : List Made} (k : ℕ) (line : List ℕ) (step : Step)
+    → HavePassed plan text offsets labels before → k < length offsets → line ≡ line_from text (get_or offsets k 0)
     → IsStep line step → step.cells ≡ (made_at before k).cells
-cells_again {before = before} k line step kept inside is spelled =
-    let p = kept.placed k (omega (arith, inside, kept.many)) in
+cells_again {before = before} k line step so_far inside is spelled =
+    let p = so_far.steps_at k (omega (arith, inside, so_far.many)) in
     let again : IsStep line (record { kind = p.kind; cells = (made_at before k).cells }) = rw is p.spelled in
     ap (λ (s : Step). s.cells) (step_is spelled again)

@@ -8,7 +8,7 @@ pub mod Spelling
 pub mod Lines
 pub mod Bases
 pub mod Reading
-pub mod Kept
+pub mod PassedSteps
 pub mod Verified
 pub mod Written
 pub mod Starts

@@ -15,7 +15,7 @@ is_newline byte = byte == 10
 
 -- the line that begins at a place of a text
 abbrev pub line_from : List ℕ → ℕ → List ℕ
-line_from text place = before_first is_newline (drop place text)
+line_from text offset = before_first is_newline (drop offset text)
 
 -- the bytes before the first blank, and those from it on
 abbrev pub first_word : List ℕ → List ℕ

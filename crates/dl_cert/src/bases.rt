@@ -21,7 +21,7 @@ use dl_budget::halvings;
 use dl_exp::exp_neg;
 use dl_frac::Frac;
 use dl_iv::{Iv, units_of_one};
-use dl_panjer::{next_cell, reached};
+use dl_panjer::{count_at_most, next_cell};
 use dl_plan::{Freq, Item, Sev, Unit};
 use std::alloc::{AllocError, Global};
 
@@ -30,14 +30,14 @@ fn weight_of(items: &[Item], amount: usize) -> u32
     requires rising { IsStrictlyIncreasing (amounts_of items.now) }
     ensures { result ≡ weight_at items.now amount }
 {
-    let reached = reached(items, amount);
-    if reached == 0 {
+    let count = count_at_most(items, amount);
+    if count == 0 {
         return 0;
     }
-    if items[reached - 1].amount as usize != amount {
+    if items[count - 1].amount as usize != amount {
         return 0;
     }
-    items[reached - 1].weight
+    items[count - 1].weight
 }
 
 /// The probability of an amount in one trial, in parts of which the chance's second part times the

@@ -8,7 +8,7 @@ ghost use Rattle.dl_model.specs.Program.{total};
 ghost use Rattle.dl_model.specs.Plans.{aggregates_of};
 ghost use Rattle.dl_cert.specs.Bases.{AreStarts};
 ghost use Rattle.dl_cert.specs.Covered.{IsCovered};
-ghost use Rattle.dl_cert.specs.Kept.{Keeps, IsRow, label_at, HasPassedTo};
+ghost use Rattle.dl_cert.specs.PassedSteps.{HavePassed, IsRow, label_at, HasPassedTo};
 ghost use Rattle.dl_cert.specs.Lines.{lines_of};
 ghost use Rattle.dl_cert.specs.Passes.{Passes};
 ghost use Rattle.dl_cert.specs.Reading.{line_from};
@@ -19,8 +19,8 @@ ghost use Rattle.dl_cert.specs.Verified.{IsVerified, RefusesSteps, IsBadStep};
 use crate::base::Base;
 use crate::covered::not_covered;
 use crate::fault::VerifyFault;
-use crate::kept::{Kept, is_there, label_of};
 use crate::lines::{ReadStep, line_from, next_line, read_step};
+use crate::passed_steps::{PassedSteps, is_there, label_of};
 use crate::test::{cells_at, is_passing, mass_of};
 use crate::units::{bases_of, targets_of};
 use dl_grid::{Grid, units_of_one};
@@ -36,7 +36,7 @@ fn tested(
     bases: &[Base],
     targets: &[u32],
     text: &[u8],
-    kept: &Kept,
+    so_far: &PassedSteps,
     step: &ReadStep,
 ) -> Result<Option<Vec<u32>>, AllocError>
     requires valid { IsValid plan.now }
@@ -44,27 +44,28 @@ fn tested(
     requires starts { AreStarts plan.now bases.now targets.now }
     requires cells { length step.now.cells.items ≡ plan.now.cells }
     requires small { All (λ cell. cell.hi ≤ 2 ^ 56) step.now.cells.items }
-    requires kept { (before : List Made)
-        × Keeps plan.now text.now kept.now.places.items kept.now.labels.items before }
+    requires so_far { (before : List Made)
+        × HavePassed plan.now text.now so_far.now.offsets.items so_far.now.labels.items before }
     ensures { IfOk result (λ label. (before : List Made)
-        → Keeps plan.now text.now kept.now.places.items kept.now.labels.items before
+        → HavePassed plan.now text.now so_far.now.offsets.items so_far.now.labels.items before
         → MatchOption label
         (¬ Passes plan.now before (record { kind = step.now.kind; cells = step.now.cells.items }))
         (λ row. Passes plan.now before
         (record { kind = step.now.kind; cells = step.now.cells.items })
-        × IsRow kept.now.labels.items (length plan.now.units) step.now.kind targets.now row.items)) }
+        × IsRow so_far.now.labels.items (length plan.now.units) step.now.kind targets.now
+        row.items)) }
 {
-    let count = kept.places.len();
+    let count = so_far.offsets.len();
     if !is_there(step.kind, targets.len(), count) {
         return Ok(None);
     }
     if mass_of(&step.cells) > units_of_one(56) {
         return Ok(None);
     }
-    let Some(label) = label_of(alloc, &kept.labels, step.kind, count, targets)? else {
+    let Some(label) = label_of(alloc, &so_far.labels, step.kind, count, targets)? else {
         return Ok(None);
     };
-    if !is_passing(alloc, work, plan, bases, text, &kept.places, step)? {
+    if !is_passing(alloc, work, plan, bases, text, &so_far.offsets, step)? {
         return Ok(None);
     }
     Ok(Some(label))
@@ -78,31 +79,31 @@ fn take_step(
     bases: &[Base],
     targets: &[u32],
     text: &[u8],
-    place: usize,
-    kept: &mut Kept,
+    offset: usize,
+    so_far: &mut PassedSteps,
 ) -> Result<bool, AllocError>
     requires valid { IsValid plan.now }
     requires few { plan.now.cells ≤ most_cert_cells }
     requires short { length text.now ≤ most_steps_text }
     requires starts { AreStarts plan.now bases.now targets.now }
-    requires inside { place < length text.now }
-    requires kept { HasPassedTo plan.now text.now place kept.old.places.items
-        kept.old.labels.items }
-    ensures passes { IfOk result (λ ok. IsTrue ok → (next : ℕ) → lines_of (drop place text.now)
-        ≡ line_from text.now place ∷ lines_of (drop next text.now)
-        → HasPassedTo plan.now text.now next kept.new.places.items kept.new.labels.items) }
+    requires inside { offset < length text.now }
+    requires so_far { HasPassedTo plan.now text.now offset so_far.old.offsets.items
+        so_far.old.labels.items }
+    ensures passes { IfOk result (λ ok. IsTrue ok → (next : ℕ) → lines_of (drop offset text.now)
+        ≡ line_from text.now offset ∷ lines_of (drop next text.now)
+        → HasPassedTo plan.now text.now next so_far.new.offsets.items so_far.new.labels.items) }
     ensures bad { IfOk result (λ ok. ¬ IsTrue ok
-        → IsBadStep plan.now text.now (length kept.old.places.items)) }
+        → IsBadStep plan.now text.now (length so_far.old.offsets.items)) }
 {
-    let line = line_from(text, place);
+    let line = line_from(text, offset);
     let Some(step) = read_step(alloc, line, plan.cells)? else {
         return Ok(false);
     };
-    let Some(label) = tested(alloc, work, plan, bases, targets, text, kept, &step)? else {
+    let Some(label) = tested(alloc, work, plan, bases, targets, text, so_far, &step)? else {
         return Ok(false);
     };
-    kept.labels.extend_from_slice(&label)?;
-    kept.places.push(place as u32)?;
+    so_far.labels.extend_from_slice(&label)?;
+    so_far.offsets.push(offset as u32)?;
     Ok(true)
 }
 
@@ -113,33 +114,40 @@ fn read_steps(
     bases: &[Base],
     targets: &[u32],
     text: &[u8],
-) -> Result<Kept, VerifyFault>
+) -> Result<PassedSteps, VerifyFault>
     requires valid { IsValid plan.now }
     requires covered { IsCovered plan.now }
     requires few { plan.now.cells ≤ most_cert_cells }
     requires short { length text.now ≤ most_steps_text }
     requires starts { AreStarts plan.now bases.now targets.now }
     ensures { MatchResult result
-        (λ kept. HasPassedTo plan.now text.now (length text.now) kept.places.items
-        kept.labels.items)
+        (λ so_far. HasPassedTo plan.now text.now (length text.now) so_far.offsets.items
+        so_far.labels.items)
         (RefusesSteps plan.now text.now) }
 {
     let mut work = Workspace::new(alloc);
-    let mut kept = Kept {
-        places: Vec::new(alloc),
+    let mut so_far = PassedSteps {
+        offsets: Vec::new(alloc),
         labels: Vec::new(alloc),
     };
-    let mut place = 0;
-    'lines: while place < text.len() {
-        let number = kept.places.len() as u32;
+    let mut offset = 0;
+    'lines: while offset < text.len() {
+        let number = so_far.offsets.len() as u32;
         if !take_step(
-            alloc, &mut work, plan, bases, targets, text, place, &mut kept,
+            alloc,
+            &mut work,
+            plan,
+            bases,
+            targets,
+            text,
+            offset,
+            &mut so_far,
         )? {
             return Err(VerifyFault::BadStep(number));
         }
-        place = next_line(text, place);
+        offset = next_line(text, offset);
     }
-    Ok(kept)
+    Ok(so_far)
 }
 
 /// Whether a step counts each unit as often as its target.
@@ -164,25 +172,25 @@ fn last_grid(
     plan: &Plan,
     targets: &[u32],
     text: &[u8],
-    kept: &Kept,
+    so_far: &PassedSteps,
 ) -> Result<Grid<56>, VerifyFault>
     requires valid { IsValid plan.now }
     requires covered { IsCovered plan.now }
     requires few { plan.now.cells ≤ most_cert_cells }
     requires short { length text.now ≤ most_steps_text }
     requires targets { targets.now ≡ map unit_parts plan.now.units }
-    requires kept { HasPassedTo plan.now text.now (length text.now) kept.now.places.items
-        kept.now.labels.items }
+    requires so_far { HasPassedTo plan.now text.now (length text.now) so_far.now.offsets.items
+        so_far.now.labels.items }
     ensures { MatchResult result (IsVerified plan.now text.now) (RefusesSteps plan.now text.now) }
 {
-    let count = kept.places.len();
+    let count = so_far.offsets.len();
     if count == 0 {
         return Err(VerifyFault::BadStep(0));
     }
-    if !is_target(&kept.labels, targets, count - 1) {
+    if !is_target(&so_far.labels, targets, count - 1) {
         return Err(VerifyFault::BadStep(count as u32));
     }
-    let grid = cells_at(alloc, plan, text, &kept.places, count as u32 - 1)?;
+    let grid = cells_at(alloc, plan, text, &so_far.offsets, count as u32 - 1)?;
     Ok(grid)
 }
 
@@ -203,6 +211,6 @@ pub fn verify(alloc: Global, plan: &Plan, steps: &[u8]) -> Result<Grid<56>, Veri
     let units = plan.units.as_slice();
     let bases = bases_of(alloc, units)?;
     let targets = targets_of(alloc, units)?;
-    let kept = read_steps(alloc, plan, &bases, &targets, steps)?;
-    last_grid(alloc, plan, &targets, steps, &kept)
+    let so_far = read_steps(alloc, plan, &bases, &targets, steps)?;
+    last_grid(alloc, plan, &targets, steps, &so_far)
 }

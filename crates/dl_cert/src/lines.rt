@@ -15,8 +15,8 @@ use dl_iv::{Iv, units_of_one};
 use std::alloc::{AllocError, Global};
 
 /// The place of the first such byte, or the number of all bytes.
-fn first_place(text: &[u8], sign: u8) -> usize
-    ensures place { result ≡ position_or_len (λ byte. byte == sign) text.now }
+fn index_of(text: &[u8], sign: u8) -> usize
+    ensures offset { result ≡ position_or_len (λ byte. byte == sign) text.now }
     ensures within { result ≤ length text.now }
 {
     for i in 0..text.len() {
@@ -28,31 +28,31 @@ fn first_place(text: &[u8], sign: u8) -> usize
 }
 
 /// The bytes of a text from a place on.
-fn after(text: &[u8], place: usize) -> &[u8]
-    requires { place ≤ length text.now }
-    ensures { result.now ≡ drop place text.now }
+fn after(text: &[u8], offset: usize) -> &[u8]
+    requires { offset ≤ length text.now }
+    ensures { result.now ≡ drop offset text.now }
 {
-    &text[place..]
+    &text[offset..]
 }
 
 /// The line that begins at a place of a text, without its newline.
-pub(crate) fn line_from(text: &[u8], place: usize) -> &[u8]
-    requires { place ≤ length text.now }
-    ensures { result.now ≡ line_from text.now place }
+pub(crate) fn line_from(text: &[u8], offset: usize) -> &[u8]
+    requires { offset ≤ length text.now }
+    ensures { result.now ≡ line_from text.now offset }
 {
-    let rest = after(text, place);
-    &rest[..first_place(rest, b'\n')]
+    let rest = after(text, offset);
+    &rest[..index_of(rest, b'\n')]
 }
 
 /// The place behind the line that begins at a place of a text, and behind its newline.
-pub(crate) fn next_line(text: &[u8], place: usize) -> usize
-    requires { place < length text.now }
-    ensures lines { lines_of (drop place text.now)
-        ≡ line_from text.now place ∷ lines_of (drop result text.now) }
-    ensures after { place < result }
+pub(crate) fn next_line(text: &[u8], offset: usize) -> usize
+    requires { offset < length text.now }
+    ensures lines { lines_of (drop offset text.now)
+        ≡ line_from text.now offset ∷ lines_of (drop result text.now) }
+    ensures after { offset < result }
     ensures within { result ≤ length text.now }
 {
-    let end = place + first_place(after(text, place), b'\n');
+    let end = offset + index_of(after(text, offset), b'\n');
     if end < text.len() { end + 1 } else { end }
 }
 
@@ -71,7 +71,7 @@ fn cell_of(lo: u128, hi: u128) -> Option<Iv<56>>
 fn read_cell(text: &[u8]) -> Option<Iv<56>>
     ensures { MatchOption result ((cell : Iv 56) → ¬ IsCell text.now cell) (IsCell text.now) }
 {
-    let comma = first_place(text, b',');
+    let comma = index_of(text, b',');
     if comma == text.len() {
         return None;
     }
@@ -108,7 +108,7 @@ fn cell_from(text: &[u8], from: usize) -> Option<ReadCell>
         return None;
     }
     let rest = after(text, from + 1);
-    let end = first_place(rest, b' ');
+    let end = index_of(rest, b' ');
     let Some(cell) = read_cell(&rest[..end]) else {
         return None;
     };
@@ -176,7 +176,7 @@ fn number_from(line: &[u8], from: usize) -> Option<ReadNumber>
     ensures within { IfSome result (λ read. read.next ≤ length line.now) }
 {
     let rest = after(line, from);
-    let end = first_place(rest, b' ');
+    let end = index_of(rest, b' ');
     let Some(number) = number(&rest[..end], 9) else {
         return None;
     };

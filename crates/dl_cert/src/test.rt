@@ -6,7 +6,7 @@ ghost use Rattle.dl_iv.specs.declared.interval.Iv.{Iv};
 ghost use Rattle.dl_grid.specs.Cells.{low_at, high_at, mass_low};
 ghost use Rattle.dl_plan.specs.declared.plan.Plan.{Plan};
 ghost use Rattle.dl_cert.specs.Bases.{AreStarts, PassesTo};
-ghost use Rattle.dl_cert.specs.Kept.{Keeps};
+ghost use Rattle.dl_cert.specs.PassedSteps.{HavePassed};
 ghost use Rattle.dl_cert.specs.declared.step.Kind.TheVariants.{Start};
 ghost use Rattle.dl_cert.specs.Numbers.{low_number, high_number};
 ghost use Rattle.dl_cert.specs.Steps.{Made, IsThere, made_at};
@@ -56,18 +56,18 @@ pub(crate) fn cells_at(
     alloc: Global,
     plan: &Plan,
     text: &[u8],
-    places: &[u32],
+    offsets: &[u32],
     step: u32,
 ) -> Result<Grid<56>, AllocError>
-    requires kept { (labels : List ℕ) × (before : List Made)
-        × Keeps plan.now text.now places.now labels before }
-    requires inside { step < length places.now }
+    requires so_far { (labels : List ℕ) × (before : List Made)
+        × HavePassed plan.now text.now offsets.now labels before }
+    requires inside { step < length offsets.now }
     ensures cells { IfOk result (λ grid. (labels : List ℕ) (before : List Made)
-        → Keeps plan.now text.now places.now labels before
+        → HavePassed plan.now text.now offsets.now labels before
         → grid ≡ (made_at before step).cells) }
     ensures many { IfOk result (λ grid. length grid ≡ plan.now.cells) }
 {
-    let line = line_from(text, places[step as usize] as usize);
+    let line = line_from(text, offsets[step as usize] as usize);
     match read_step(alloc, line, plan.cells)? {
         Some(step) => grid_of(alloc, &step.cells),
         None => unreachable!(),
@@ -81,20 +81,20 @@ pub(crate) fn is_passing(
     plan: &Plan,
     bases: &[Base],
     text: &[u8],
-    places: &[u32],
+    offsets: &[u32],
     step: &ReadStep,
 ) -> Result<bool, AllocError>
     requires few { plan.now.cells ≤ most_cert_cells }
     requires some { 1 ≤ plan.now.cells }
     requires cells { length step.now.cells.items ≡ plan.now.cells }
     requires small { All (λ cell. cell.hi ≤ 2 ^ 56) step.now.cells.items }
-    requires there { IsThere (length plan.now.units) (length places.now) step.now.kind }
+    requires there { IsThere (length plan.now.units) (length offsets.now) step.now.kind }
     requires counted { (u : ℕ) → step.now.kind ≡ Start u → 1 ≤ target plan.now u }
     requires starts { (targets : List ℕ) × AreStarts plan.now bases.now targets }
-    requires kept { (labels : List ℕ) × (before : List Made)
-        × Keeps plan.now text.now places.now labels before }
+    requires so_far { (labels : List ℕ) × (before : List Made)
+        × HavePassed plan.now text.now offsets.now labels before }
     ensures { IfOk result (λ passing. (labels : List ℕ) (before : List Made)
-        → Keeps plan.now text.now places.now labels before
+        → HavePassed plan.now text.now offsets.now labels before
         → IsTrue passing ↔ PassesTo plan.now.cells step.now.cells.items
         (low_number plan.now.units before step.now.kind (low_at step.now.cells.items))
         (high_number plan.now.units before step.now.kind (high_at step.now.cells.items))) }
@@ -110,8 +110,8 @@ pub(crate) fn is_passing(
             Ok(is_start(&bases[unit as usize], sev, cells))
         }
         Kind::Times(first, second) => {
-            let left = cells_at(alloc, plan, text, places, first)?;
-            let right = cells_at(alloc, plan, text, places, second)?;
+            let left = cells_at(alloc, plan, text, offsets, first)?;
+            let right = cells_at(alloc, plan, text, offsets, second)?;
             let numbers = product(alloc, work, &left, &right, plan.cells)?;
             Ok(is_beside(cells, &numbers))
         }

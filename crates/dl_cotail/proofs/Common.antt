@@ -23,7 +23,7 @@ pub use Rattle.dl_measures.proofs.Sums.{apart, high_mass}
 pub use Rattle.dl_measures.proofs.TailLaws.{in_order, inverse, parts, quotients_apart, rest, rest_above, rest_pos}
 pub use Rattle.dl_model.proofs.Declared.{holds_times, self_holds}
 pub use Rattle.dl_model.proofs.Outcomes.{loss_proper, mean_alone, outcomes_same, outcomes_times, total_alone_all, total_more_all}
-pub use Rattle.dl_model.specs.Measures.{mean_to_reach, unit_of, without}
+pub use Rattle.dl_model.specs.Measures.{level_mean, unit_of, without}
 pub use Rattle.dl_model.specs.Program.{IsLoss, Joint, Part, Quantity, Share}
 unfoldable pub use Rattle.dl_model.specs.Program.{sum_over_outcomes}
 pub use Rattle.dl_model.specs.Series.{Rises, Series, times}

@@ -15,7 +15,7 @@ pub use Rattle.std.specs.Prelude.{All, Any, Bool, IfSome, IsNone, IsSome, MatchO
 pub use Rattle.dl_budget.proofs.Horizons.{few_cells, horizon_there, one_horizon, unit_horizon}
 pub use Rattle.dl_budget.proofs.Rows.{◌also◌}
 pub use Rattle.dl_budget.proofs.Sums.{budget_here, budgets_length, read_unit}
-pub use Rattle.dl_budget.specs.Asks.{IsInside, IsNamed, NamesUnit, Passes, cotail_budget, joint_budget, joint_by, kappa_budget, layer_mean_budget, named_unit, named_units, place_of, price_budget, tail_budget}
+pub use Rattle.dl_budget.specs.Asks.{IsInside, IsNamed, NamesUnit, Passes, cotail_budget, joint_budget, joint_by, kappa_budget, layer_mean_budget, named_unit, named_units, index_of, price_budget, tail_budget}
 unfoldable pub use Rattle.dl_budget.specs.Asks.{ask_budget, in_digits}
 pub use Rattle.dl_budget.specs.Claims.{claims_budget, none_budget}
 unfoldable pub use Rattle.dl_budget.specs.Claims.{count_budget}

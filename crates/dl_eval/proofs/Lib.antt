@@ -1,7 +1,7 @@
 mod Common
 mod Scales
 pub mod Lists
-pub mod Places
+pub mod ReadAs
 pub mod Insides
 pub mod Losses
 pub mod Printed

@@ -1,5 +1,5 @@
 -- The numbers of the units that asks name.
-use Rattle.dl_eval.proofs.Common.{ℕ, ◌≡◌, ◌<◌, ◌↔◌, List, length, get_or, sym, ap, ◌∙◌, subst, length-map, Option, None, Some, IfSome, All, Asked, NamesUnit, place_of, named_unit, named_units, option_map, get_or-map, All-map, UnitOfPlan, facts_of, IsNamed, AreUnits}
+use Rattle.dl_eval.proofs.Common.{ℕ, ◌≡◌, ◌<◌, ◌↔◌, List, length, get_or, sym, ap, ◌∙◌, subst, length-map, Option, None, Some, IfSome, All, Asked, NamesUnit, index_of, named_unit, named_units, option_map, get_or-map, All-map, UnitOfPlan, facts_of, IsNamed, AreUnits}
 use Rattle.dl_plan.specs.declared.settings.Ask.{Ask}
 
 -- an ask names a unit where the number is that of one
@@ -7,7 +7,7 @@ pub names_inside : (units : List UnitOfPlan) (ask : Ask) → IfSome (named_unit 
     ↔ NamesUnit units ask
 names_inside units ask = inside (facts_of ask).unit
   where
-    inside : (name : Option (List ℕ)) → IfSome (option_map (λ n. place_of n units) name) (λ i. i < length units)
+    inside : (name : Option (List ℕ)) → IfSome (option_map (λ n. index_of n units) name) (λ i. i < length units)
         ↔ IfSome name (λ n. IsNamed n units)
     inside None = (λ h. h, λ h. h)
     inside (Some name) = (λ h. h, λ h. h)
@@ -28,10 +28,10 @@ numbers_many units {asks = asks} sliced same = ap (λ t. length t) same
     ∙ length-map asks (λ (a : Asked). named_unit units a.ask) ∙ sym (ap (λ t. length t) sliced)
 
 -- the number of the unit with the name that an ask has
-pub place_named : (units : List UnitOfPlan) (ask : Ask) {name : List ℕ} {unit : Option ℕ} {i : ℕ}
-    → (facts_of ask).unit ≡ Some name → unit ≡ named_unit units ask → unit ≡ Some i → i ≡ place_of name units
-place_named units ask {name = name} {i = i} names same is =
-    some_same i (place_of name units) (sym is ∙ same ∙ ap (option_map (λ n. place_of n units)) names)
+pub index_named : (units : List UnitOfPlan) (ask : Ask) {name : List ℕ} {unit : Option ℕ} {i : ℕ}
+    → (facts_of ask).unit ≡ Some name → unit ≡ named_unit units ask → unit ≡ Some i → i ≡ index_of name units
+index_named units ask {name = name} {i = i} names same is =
+    some_same i (index_of name units) (sym is ∙ same ∙ ap (option_map (λ n. index_of n units)) names)
   where
     some_same : (x y : ℕ) → Some x ≡ Some y → x ≡ y
     some_same x y e = cc

@@ -1,5 +1,5 @@
 -- The share of a unit in a total, from the grids of the unit, of all others and of the total.
-use Rattle.dl_eval.proofs.Common.{ℕ, ◌≡◌, ◌+◌, ◌-◌, ◌*◌, ◌^◌, ◌<◌, ◌≤◌, List, length, get_or, arith, sym, subst, mul-le-mul_left, pow_pos, length-map, None, Fraction, ◌over◌, ◌+ℚ◌, ◌≤ℚ◌, ◌<ℚ◌, Iv, over_le_over, low_at, high_at, spread, convolution_spread, cv_rises, Holds, AreDeclarable, One, Point, partial_sums, total, GridEncloses, unit_of, AreDeclared, aggregates_of, at_most_wider, plan_declared, plan_units, Plan, IsValid, Row, unit_budgets, total_budget, place_of, tail_budget, ask_budget, in_digits, Declares, DeclaresGiven, IsBelow, IsTailMean, IsAnswerTo, total_error, IsTotalOf, AreOthersOf, Prints, Loss, loss_of, ◌⊎◌, mul-le-mul, over_lt, over_plus, Series, AtLeast, AtMost, Joint, without, others_budget, joint_budget, kappa_budget, least_likely, IsAtMost, IsBeyond, IsShareOfUnit, IsTooRare, IsJointOf, independent, declared, IsGridOfUnit}
+use Rattle.dl_eval.proofs.Common.{ℕ, ◌≡◌, ◌+◌, ◌-◌, ◌*◌, ◌^◌, ◌<◌, ◌≤◌, List, length, get_or, arith, sym, subst, mul-le-mul_left, pow_pos, length-map, None, Fraction, ◌over◌, ◌+ℚ◌, ◌≤ℚ◌, ◌<ℚ◌, Iv, over_le_over, low_at, high_at, spread, convolution_spread, cv_rises, Holds, AreDeclarable, One, Point, partial_sums, total, GridEncloses, unit_of, AreDeclared, aggregates_of, at_most_wider, plan_declared, plan_units, Plan, IsValid, Row, unit_budgets, total_budget, index_of, tail_budget, ask_budget, in_digits, Declares, DeclaresGiven, IsBelow, IsTailMean, IsAnswerTo, total_error, IsTotalOf, AreOthersOf, Prints, Loss, loss_of, ◌⊎◌, mul-le-mul, over_lt, over_plus, Series, AtLeast, AtMost, Joint, without, others_budget, joint_budget, kappa_budget, least_likely, IsAtMost, IsBeyond, IsShareOfUnit, IsTooRare, IsJointOf, independent, declared, IsGridOfUnit}
 use Rattle.dl_plan.specs.declared.settings.Ask.TheVariants as asks
 use Rattle.dl_eval.proofs.Losses.{is_independent}
 use Rattle.dl_eval.proofs.Printed.{are_ends, declared_ends, given_widens}
@@ -114,20 +114,20 @@ rare_answer {B} {plan = plan} {g = g} at {low = low} {high = high} of_low of_hig
 -- ---- what is asked
 
 pub joint_asked : {B : ℕ} {plan : Plan} (unit : List ℕ) {at i d : ℕ} {mean : Iv B} {row : Row}
-    → i ≡ place_of unit plan.units
+    → i ≡ index_of unit plan.units
     → IsJointOf plan i at mean
     → Prints (2 ^ B) mean.lo mean.hi d row → IsAnswerTo (2 ^ B) plan d (asks.Joint unit at) row
 unfolding ask_budget
-joint_asked {B} {plan = plan} unit {at = at} {d = d} {mean = mean} {row = row} place joint printed =
-    let there = rw place at joint in
-    declared_ends B plan (Joint (place_of unit plan.units) at) mean.lo mean.hi d
-    (joint_budget (2 ^ B) plan (place_of unit plan.units)) row printed there.holds there.narrow
+joint_asked {B} {plan = plan} unit {at = at} {d = d} {mean = mean} {row = row} index joint printed =
+    let there = rw index at joint in
+    declared_ends B plan (Joint (index_of unit plan.units) at) mean.lo mean.hi d
+    (joint_budget (2 ^ B) plan (index_of unit plan.units)) row printed there.holds there.narrow
 
-pub share_asked : (S : ℕ) {plan : Plan} (unit : List ℕ) (at : ℕ) {i d : ℕ} {row : Row} → i ≡ place_of unit plan.units
+pub share_asked : (S : ℕ) {plan : Plan} (unit : List ℕ) (at : ℕ) {i d : ℕ} {row : Row} → i ≡ index_of unit plan.units
     → IsShareOfUnit plan i at d (in_digits S (kappa_budget S plan i) d) row ⊎ IsTooRare plan at (total_error S plan) row
     → IsAnswerTo S plan d (asks.Kappa unit at) row
 unfolding ask_budget
-share_asked S unit at place told = rw (← place) told
+share_asked S unit at index told = rw (← index) told
 
 pub tail_asked : (S : ℕ) {plan : Plan} {p : Fraction} {d : ℕ} {row : Row}
     → IsTailMean plan p d (in_digits S (tail_budget S plan p) d) row ⊎ IsBeyond plan p (total_error S plan) row

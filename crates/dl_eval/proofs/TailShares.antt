@@ -1,5 +1,5 @@
 -- The answer to an ask for a share of the tail mean.
-use Rattle.dl_eval.proofs.Common.{ℕ, ◌≡◌, ◌-◌, ◌^◌, ◌<◌, ◌≤◌, List, [], ◌∷◌, length, get_or, map, arith, inl, inr, sym, ap, subst, pow_pos, length-map, Option, None, Some, IfSome, Fraction, ◌over◌, ◌≤ℚ◌, Iv, over_le_over, low_at, spread, low_cdf, Holds, One, Mean, partial_sums, total, GridEncloses, unit_of, AreDeclarable, AreDeclared, Loss, loss_of, aggregates_of, plan_declared, plan_units, at_least_wider, at_most_wider, Plan, IsValid, Row, ask_budget, in_digits, unit_budgets, unit_mean_budget, total_budget, at_the_end, place_of, IsAnswerTo, total_error, AreUnitMeans, IsTotalOf, AreOthersOf, Prints, ◌⊎◌, get_or-map, IsNone, UnitOfPlan, others_budget, cotail_budget, IsQuantile, without, declared, IsFirstFound, DeclaresShare, IsAtLeast, IsBeyond, IsTailShare, IsNoTailShare, IsTailShareOf, independent, le_refl, plus_le_both, sub_le_both, lt_of_lt_of_le, IsGridOfUnit}
+use Rattle.dl_eval.proofs.Common.{ℕ, ◌≡◌, ◌-◌, ◌^◌, ◌<◌, ◌≤◌, List, [], ◌∷◌, length, get_or, map, arith, inl, inr, sym, ap, subst, pow_pos, length-map, Option, None, Some, IfSome, Fraction, ◌over◌, ◌≤ℚ◌, Iv, over_le_over, low_at, spread, low_cdf, Holds, One, Mean, partial_sums, total, GridEncloses, unit_of, AreDeclarable, AreDeclared, Loss, loss_of, aggregates_of, plan_declared, plan_units, at_least_wider, at_most_wider, Plan, IsValid, Row, ask_budget, in_digits, unit_budgets, unit_mean_budget, total_budget, at_the_end, index_of, IsAnswerTo, total_error, AreUnitMeans, IsTotalOf, AreOthersOf, Prints, ◌⊎◌, get_or-map, IsNone, UnitOfPlan, others_budget, cotail_budget, IsQuantile, without, declared, IsFirstFound, DeclaresShare, IsAtLeast, IsBeyond, IsTailShare, IsNoTailShare, IsTailShareOf, independent, le_refl, plus_le_both, sub_le_both, lt_of_lt_of_le, IsGridOfUnit}
 use Rattle.dl_plan.specs.declared.settings.Ask.TheVariants as asks
 use Rattle.dl_model.specs.Shares.{HoldsShare, unit_mean}
 use Rattle.dl_cotail.specs.Settled.{IsPast, MayBeAbsent}
@@ -154,9 +154,9 @@ share_told {B} {plan = plan} {i = i} {d = d} {p = p} {share = share} {row = row}
 }
 
 pub tail_share_asked : (S : ℕ) {plan : Plan} (unit : List ℕ) {i d : ℕ} {p : Fraction} {row : Row}
-    → i ≡ place_of unit plan.units
+    → i ≡ index_of unit plan.units
     → IsTailShare plan i p d (in_digits S (cotail_budget S plan i p) d) row
     ⊎ (IsBeyond plan p (total_error S plan) row ⊎ IsNoTailShare plan p (total_error S plan) row)
     → IsAnswerTo S plan d (asks.Cotail unit p) row
 unfolding ask_budget
-tail_share_asked S unit place told = rw (← place) told
+tail_share_asked S unit index told = rw (← index) told

@@ -173,10 +173,10 @@ has_others plan named made each shared rest all = λ k d inside.
   where
     there : (k : ℕ) (d : Option ℕ) → k < length named → (unit : Option ℕ) → get_or named k d ≡ unit
         → IfSome unit (λ i. i < length plan.units) → HasOthers made unit
-    there k d inside None is place = place
-    there k d inside (Some i) is place =
-        (rest.there i (omega (arith, place, each.as_many))).1
-        ((shared.each i place).1 (any_here (λ (unit : Option ℕ). unit ≡ Some i) named k d inside is))
+    there k d inside None is index = index
+    there k d inside (Some i) is index =
+        (rest.there i (omega (arith, index, each.as_many))).1
+        ((shared.each i index).1 (any_here (λ (unit : Option ℕ). unit ≡ Some i) named k d inside is))
 
 -- each grid has the cells
 pub long_enough : {B : ℕ} (cells : ℕ) (us : List UnitOfPlan) (grids : List (List (Iv B))) → AreUnitGrids cells us grids

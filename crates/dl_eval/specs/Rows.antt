@@ -20,7 +20,7 @@ use Rattle.dl_report.specs.declared.report.End.{End}
 use Rattle.dl_report.specs.declared.report.End.TheVariants.{Number, Whole, Beyond, Absent}
 use Rattle.dl_report.specs.declared.report.Row.{Row}
 use Rattle.dl_budget.specs.Units.{total_budget}
-use Rattle.dl_budget.specs.Asks.{place_of, needed}
+use Rattle.dl_budget.specs.Asks.{index_of, needed}
 
 -- the ends of a plan's grids and means are in units of 1 over this
 abbrev pub scale : Plan → ℕ
@@ -180,13 +180,13 @@ IsAnswerTo S plan d (asks.Price terms) row =
     IsPrice plan terms d (needed S plan (asks.Price terms) d) row
     ⊎ IsBeyondSome plan terms (total_error S plan) row
 IsAnswerTo S plan d (asks.Joint unit at) row =
-    AreRowEnds (Declares plan (Joint (place_of unit plan.units) at)) d
+    AreRowEnds (Declares plan (Joint (index_of unit plan.units) at)) d
     (needed S plan (asks.Joint unit at) d) row
 IsAnswerTo S plan d (asks.Kappa unit at) row =
-    IsShareOfUnit plan (place_of unit plan.units) at d (needed S plan (asks.Kappa unit at) d) row
+    IsShareOfUnit plan (index_of unit plan.units) at d (needed S plan (asks.Kappa unit at) d) row
     ⊎ IsTooRare plan at (total_error S plan) row
 IsAnswerTo S plan d (asks.Cotail unit p) row =
-    IsTailShare plan (place_of unit plan.units) p d (needed S plan (asks.Cotail unit p) d) row
+    IsTailShare plan (index_of unit plan.units) p d (needed S plan (asks.Cotail unit p) d) row
     ⊎ IsBeyond plan p (total_error S plan) row
     ⊎ IsNoTailShare plan p (total_error S plan) row
 

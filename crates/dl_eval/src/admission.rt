@@ -16,7 +16,7 @@ use std::alloc::{AllocError, Global};
 fn is_inside(cells: u32, ask: &Ask) -> bool
     ensures { IsTrue result ↔ IsInside cells ask.now }
 {
-    ask.reach() <= cells as u64
+    ask.least_cells() <= cells as u64
 }
 
 /// For each ask, the number of the unit that it names, counted from 0; the number of units where

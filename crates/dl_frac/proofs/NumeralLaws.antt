@@ -1,5 +1,5 @@
 -- How the digits, the places and the parts of a text change with one more byte.
-use Rattle.dl_frac.proofs.Common.{◌≡◌, inl, inr, ℕ, suc, ◌+◌, ◌*◌, ◌-◌, ◌^◌, ◌<◌, ◌≤◌, Bool, true, false, cond, ◌||◌, List, [], ◌∷◌, ◌++◌, length, take, drop, get_or, arith, refl, sym, ap, ap₂, ◌∙◌, ◌==◌, nat_lt, IsTrue, ◌↔◌, list_any, before_first, after_first, position_or_len, is_ascii_digit, digit_value, AllDigits, length-append, append-nil, take-append-drop, take_more, nat_tests, pow-le-pow_right, whole, ◌over◌, ◌/ℚ◌, rest_whole, is_point, is_percent, is_slash, digits_in, digit_count, number_in, places_in, numeral_value, is_bad, IsDecimal, plain, pointed}
+use Rattle.dl_frac.proofs.Common.{◌≡◌, inl, inr, ℕ, suc, ◌+◌, ◌*◌, ◌-◌, ◌^◌, ◌<◌, ◌≤◌, Bool, true, false, cond, ◌||◌, List, [], ◌∷◌, ◌++◌, length, take, drop, get_or, arith, refl, sym, ap, ap₂, ◌∙◌, ◌==◌, nat_lt, IsTrue, ◌↔◌, list_any, before_first, after_first, position_or_len, is_ascii_digit, digit_value, AllDigits, length-append, append-nil, take-append-drop, take_more, nat_tests, pow-le-pow_right, whole, ◌over◌, ◌/ℚ◌, rest_whole, is_point, is_percent, is_slash, digits_in, digit_count, number_in, decimals_in, numeral_value, is_bad, IsDecimal, plain, pointed}
 use Rattle.std.proofs.Common.{◌≢◌, ◌⊎◌, append_assoc, mul_comm}
 use Rattle.std.proofs.lemmas.Nat.{pow-add}
 use Rattle.std.specs.Str.Parse.{IsNumeral as IsNumber, digits_value}
@@ -93,21 +93,21 @@ number_push text d h =
     ap (λ t. digits_value 10 t) (digits_push_yes text (48 + d) (digit_is d h))
     ∙ digits_value_push 10 (digits_in text) (48 + d) ∙ ap (λ t. number_in text * 10 + t) (digit_worth d h) ∙ omega arith
 
-pub places_push_yes : (text : List ℕ) (d : ℕ) → d < 10 → list_any is_point text ≡ true
-    → places_in (text ++ (48 + d) ∷ []) ≡ places_in text + 1
-places_push_yes text d h hit = ap digit_count (after_push_yes is_point text (48 + d) hit)
+pub decimals_push_yes : (text : List ℕ) (d : ℕ) → d < 10 → list_any is_point text ≡ true
+    → decimals_in (text ++ (48 + d) ∷ []) ≡ decimals_in text + 1
+decimals_push_yes text d h hit = ap digit_count (after_push_yes is_point text (48 + d) hit)
     ∙ count_push (after_first is_point text) (48 + d) (digit_is d h)
 
-pub places_push_no : (text : List ℕ) (b : ℕ) → list_any is_point text ≡ false
-    → places_in (text ++ b ∷ []) ≡ places_in text
-places_push_no text b miss =
+pub decimals_push_no : (text : List ℕ) (b : ℕ) → list_any is_point text ≡ false
+    → decimals_in (text ++ b ∷ []) ≡ decimals_in text
+decimals_push_no text b miss =
     ap digit_count (after_push_no is_point text b miss) ∙ sym (ap digit_count (after_nothing is_point text miss))
 
-pub places_push_other : (text : List ℕ) (b : ℕ) → is_ascii_digit b ≡ false → places_in (text ++ b ∷ []) ≡ places_in text
-places_push_other text b h = elim (cases_Bool (list_any is_point text)) [
+pub decimals_push_other : (text : List ℕ) (b : ℕ) → is_ascii_digit b ≡ false → decimals_in (text ++ b ∷ []) ≡ decimals_in text
+decimals_push_other text b h = elim (cases_Bool (list_any is_point text)) [
   | inl hit ↦ ap digit_count (after_push_yes is_point text b hit)
       ∙ ap length (digits_push_no (after_first is_point text) b h)
-  | inr miss ↦ places_push_no text b miss
+  | inr miss ↦ decimals_push_no text b miss
 ]
 
 pub no_mark : (d : ℕ) → d < 10 → (is_point (48 + d) ≡ false) × (is_percent (48 + d) ≡ false) ×
@@ -118,13 +118,13 @@ pub any_push_no : (p : ℕ → Bool) (text : List ℕ) (b : ℕ) → p b ≡ fal
 any_push_no p text b h = any_push p text b ∙ ap (λ t. list_any p text || t) h ∙ or-false (list_any p text)
 
 -- the scale is 10 for each place
-pub scale_push : (text : List ℕ) (d s t : ℕ) → d < 10 → s ≡ 10 ^ places_in text
+pub scale_push : (text : List ℕ) (d s t : ℕ) → d < 10 → s ≡ 10 ^ decimals_in text
     → ((list_any is_point text ≡ true) × (t ≡ 10 * s)) ⊎ ((list_any is_point text ≡ false) × (t ≡ s))
-    → t ≡ 10 ^ places_in (text ++ (48 + d) ∷ [])
+    → t ≡ 10 ^ decimals_in (text ++ (48 + d) ∷ [])
 scale_push text d s t h e (inl hit) =
-    hit.1 ∙ ap (λ n. 10 * n) e ∙ mul_comm 10 (10 ^ places_in text) ∙ sym (pow-add 10 (places_in text) 1)
-    ∙ ap (λ n. 10 ^ n) (sym (places_push_yes text d h hit.0))
-scale_push text d s t h e (inr miss) = miss.1 ∙ e ∙ ap (λ n. 10 ^ n) (sym (places_push_no text (48 + d) miss.0))
+    hit.1 ∙ ap (λ n. 10 * n) e ∙ mul_comm 10 (10 ^ decimals_in text) ∙ sym (pow-add 10 (decimals_in text) 1)
+    ∙ ap (λ n. 10 ^ n) (sym (decimals_push_yes text d h hit.0))
+scale_push text d s t h e (inr miss) = miss.1 ∙ e ∙ ap (λ n. 10 ^ n) (sym (decimals_push_no text (48 + d) miss.0))
 
 -- ---- bounds
 
@@ -276,7 +276,7 @@ percent_there front = any_push is_percent front 37 ∙ or-true (list_any is_perc
 
 percent_decimal : (front : List ℕ) → decimal_value (front ++ 37 ∷ []) ≡ decimal_value front
 percent_decimal front =
-    ap₂ (λ n k. digits_value 10 n over 10 ^ k) (digits_push_no front 37 refl) (places_push_other front 37 refl)
+    ap₂ (λ n k. digits_value 10 n over 10 ^ k) (digits_push_no front 37 refl) (decimals_push_other front 37 refl)
 
 pub plain_law : (text : List ℕ) → IsNumber 10 text → numeral_value text ≡ whole (digits_value 10 text)
 plain_law text h =

@@ -1,5 +1,5 @@
 -- The parts of a numeral that is not bad are small.
-use Rattle.dl_frac.proofs.Common.{◌≡◌, inl, inr, ℕ, suc, ◌-◌, ◌*◌, ◌^◌, ◌<◌, ◌≤◌, true, false, List, [], ◌∷◌, arith, refl, sym, ap, ◌∙◌, ◌==◌, nat_lt, IsTrue, list_any, list_all, before_first, after_first, is_ascii_digit, pow-le-pow_right, nat_tests, Fraction, ◌over◌, is_point, is_slash, is_percent, digits_in, digit_count, number_in, places_in, numeral_value, is_bad}
+use Rattle.dl_frac.proofs.Common.{◌≡◌, inl, inr, ℕ, suc, ◌-◌, ◌*◌, ◌^◌, ◌<◌, ◌≤◌, true, false, List, [], ◌∷◌, arith, refl, sym, ap, ◌∙◌, ◌==◌, nat_lt, IsTrue, list_any, list_all, before_first, after_first, is_ascii_digit, pow-le-pow_right, nat_tests, Fraction, ◌over◌, is_point, is_slash, is_percent, digits_in, digit_count, number_in, decimals_in, numeral_value, is_bad}
 use Rattle.std.specs.Prelude.{◌||◌}
 use Rattle.std.proofs.Math.Nat.{one-le-pow}
 use Rattle.std.proofs.lemmas.Int.Digits.{digits_value-lt}
@@ -39,15 +39,15 @@ number_small text d few =
     )
 
 -- no more digits stand behind the point than in all
-places_le : (text : List ℕ) → places_in text ≤ digit_count text
-places_le [] = omega arith
-places_le (x ∷ xs) = elim (cases_Bool (is_point x)) [
+decimals_le : (text : List ℕ) → decimals_in text ≤ digit_count text
+decimals_le [] = omega arith
+decimals_le (x ∷ xs) = elim (cases_Bool (is_point x)) [
   | inl point ↦
-      let rest : places_in (x ∷ xs) ≡ digit_count xs = ap digit_count (after_yes is_point x xs point) in
+      let rest : decimals_in (x ∷ xs) ≡ digit_count xs = ap digit_count (after_yes is_point x xs point) in
       omega (arith, rest, count-append (x ∷ []) xs)
   | inr other ↦
-      let rest : places_in (x ∷ xs) ≡ places_in xs = ap digit_count (after_none is_point (x ∷ []) xs (rw other)) in
-      omega (arith, rest, count-append (x ∷ []) xs, places_le xs)
+      let rest : decimals_in (x ∷ xs) ≡ decimals_in xs = ap digit_count (after_none is_point (x ∷ []) xs (rw other)) in
+      omega (arith, rest, count-append (x ∷ []) xs, decimals_le xs)
 ]
 
 fraction_within : (d m n k : ℕ) → (nat_lt d m || nat_lt d n || k == 0) ≡ false → (m ≤ d) × (n ≤ d) × (0 < k)
@@ -70,12 +70,12 @@ percent_small e text slash percent good =
     let few : digit_count text ≤ suc (suc e) - 2 = ltb-false (suc (suc e) - 2) (digit_count text)
     (rw percent at (sym (plain_bad (suc (suc e)) text slash) ∙ good)) in
     let more : 10 ^ suc (suc e) ≡ 100 * 10 ^ e = omega arith in
-    let places : 10 ^ places_in text ≤ 10 ^ e = tens (places_in text) e (omega (arith, few, places_le text)) in
-    let pos : 0 < 10 ^ places_in text = one-le-pow (places_in text) 10 (omega arith) in
-    rw (plain_value text slash, percent, ← hundredth (number_in text) (10 ^ places_in text) pos)
-    (small_over (suc (suc e)) (number_in text) (100 * 10 ^ places_in text) (omega (arith, pos))
+    let decimals : 10 ^ decimals_in text ≤ 10 ^ e = tens (decimals_in text) e (omega (arith, few, decimals_le text)) in
+    let pos : 0 < 10 ^ decimals_in text = one-le-pow (decimals_in text) 10 (omega arith) in
+    rw (plain_value text slash, percent, ← hundredth (number_in text) (10 ^ decimals_in text) pos)
+    (small_over (suc (suc e)) (number_in text) (100 * 10 ^ decimals_in text) (omega (arith, pos))
     (number_small text (suc (suc e)) (omega (arith, few)))
-    (omega (arith, places, more)))
+    (omega (arith, decimals, more)))
 
 decimal_small : (d : ℕ) (text : List ℕ) → list_any is_slash text ≡ false → list_any is_percent text ≡ false
     → is_bad d text ≡ false
@@ -83,10 +83,10 @@ decimal_small : (d : ℕ) (text : List ℕ) → list_any is_slash text ≡ false
 decimal_small d text slash percent good =
     let few : digit_count text ≤ d = ltb-false d (digit_count text)
     (rw percent at (sym (plain_bad d text slash) ∙ good)) in
-    let places : 10 ^ places_in text ≤ 10 ^ d = tens (places_in text) d (omega (arith, few, places_le text)) in
-    let pos : 0 < 10 ^ places_in text = one-le-pow (places_in text) 10 (omega arith) in
-    rw (plain_value text slash, percent) (small_over d (number_in text) (10 ^ places_in text) pos
-    (number_small text d few) places)
+    let decimals : 10 ^ decimals_in text ≤ 10 ^ d = tens (decimals_in text) d (omega (arith, few, decimals_le text)) in
+    let pos : 0 < 10 ^ decimals_in text = one-le-pow (decimals_in text) 10 (omega arith) in
+    rw (plain_value text slash, percent) (small_over d (number_in text) (10 ^ decimals_in text) pos
+    (number_small text d few) decimals)
 
 pub numeral_small : (e : ℕ) (text : List ℕ) → is_bad (suc (suc e)) text ≡ false
     → IsSmall (suc (suc e)) (numeral_value text)

@@ -30,23 +30,23 @@ number_pass text b e = (λ h. (digits_pass text).0 (sym e ∙ h), λ h. e ∙ (d
 
 -- ---- the first place of a sign
 
-far_place : (p : ℕ → Bool) (text : List ℕ) → length text ≤ position_or_len p text → list_any p text ≡ false
-far_place p [] h = refl
-far_place p (x ∷ xs) h = elim (cases_Bool (p x)) [
+far_index : (p : ℕ → Bool) (text : List ℕ) → length text ≤ position_or_len p text → list_any p text ≡ false
+far_index p [] h = refl
+far_index p (x ∷ xs) h = elim (cases_Bool (p x)) [
   | inl hit ↦
       let near : position_or_len p (x ∷ xs) ≡ 0 = rw hit in
       absurd (omega (arith, near, h))
   | inr miss ↦
       let next : position_or_len p (x ∷ xs) ≡ 1 + position_or_len p xs = rw miss in
-      rw miss (far_place p xs (omega (arith, next, h)))
+      rw miss (far_index p xs (omega (arith, next, h)))
 ]
 
-pub no_place : (p : ℕ → Bool) (text : List ℕ) → None ≡ position p text → list_any p text ≡ false
-no_place p text e = elim (cases_Bool (nat_lt (position_or_len p text) (length text))) [
+pub no_index : (p : ℕ → Bool) (text : List ℕ) → None ≡ position p text → list_any p text ≡ false
+no_index p text e = elim (cases_Bool (nat_lt (position_or_len p text) (length text))) [
   | inl hit ↦
       let f : None ≡ Some (position_or_len p text) = e ∙ ap (λ b. cond b (Some (position_or_len p text)) None) hit in
       absurd (cc)
-  | inr miss ↦ far_place p text (ltb-false _ _ miss)
+  | inr miss ↦ far_index p text (ltb-false _ _ miss)
 ]
 
 none_before : (p : ℕ → Bool) (text : List ℕ) (i : ℕ) → i ≤ length text
@@ -57,13 +57,13 @@ none_before p (x ∷ xs) (suc i) h f =
     rw (f 0 (omega arith)) (none_before p xs i (omega arith) (λ k lt. f (suc k) (omega arith)))
 
 -- the place is in the text, the sign is there, and none is in front of it
-pub record FirstPlace (p : ℕ → Bool) (text : List ℕ) (i : ℕ) : Type 0 where
+pub record FirstIndex (p : ℕ → Bool) (text : List ℕ) (i : ℕ) : Type 0 where
   pub inside : i < length text
   pub there : p (get_or text i 0) ≡ true
   pub none : list_any p (take i text) ≡ false
 
-pub first_place : (p : ℕ → Bool) (text : List ℕ) (i : ℕ) → Some i ≡ position p text → FirstPlace p text i
-first_place p text i e =
+pub first_index : (p : ℕ → Bool) (text : List ℕ) (i : ℕ) → Some i ≡ position p text → FirstIndex p text i
+first_index p text i e =
     let s = position-Some p text i 0 (sym e) in
     record { inside = s.0; there = s.1; none = none_before p text i (omega (arith, s.0)) s.2 }
 
@@ -77,23 +77,23 @@ pub after_at : (p : ℕ → Bool) (front back : List ℕ) (b : ℕ) → list_any
 after_at p front back b h e = after_none p front (b ∷ back) h ∙ after_yes p b back e
 
 -- a text is cut in one way at its first sign
-front_is : (p : ℕ → Bool) (text : List ℕ) (i : ℕ) → FirstPlace p text i → (front back : List ℕ) (b : ℕ)
+front_is : (p : ℕ → Bool) (text : List ℕ) (i : ℕ) → FirstIndex p text i → (front back : List ℕ) (b : ℕ)
     → list_any p front ≡ false → p b ≡ true → text ≡ front ++ b ∷ back → take i text ≡ front
 front_is p text i f front back b h e cut =
     sym (before_at p (take i text) (drop (i + 1) text) (get_or text i 0) f.none f.there)
     ∙ ap (before_first p) (sym (cut_at text i f.inside) ∙ cut) ∙ before_at p front back b h e
 
-back_is : (p : ℕ → Bool) (text : List ℕ) (i : ℕ) → FirstPlace p text i → (front back : List ℕ) (b : ℕ)
+back_is : (p : ℕ → Bool) (text : List ℕ) (i : ℕ) → FirstIndex p text i → (front back : List ℕ) (b : ℕ)
     → list_any p front ≡ false → p b ≡ true → text ≡ front ++ b ∷ back → drop (i + 1) text ≡ back
 back_is p text i f front back b h e cut =
     sym (after_at p (take i text) (drop (i + 1) text) (get_or text i 0) f.none f.there)
     ∙ ap (after_first p) (sym (cut_at text i f.inside) ∙ cut) ∙ after_at p front back b h e
 
-cut_sign : (s : ℕ) (text : List ℕ) (i : ℕ) → FirstPlace (λ b. b == s) text i
+cut_sign : (s : ℕ) (text : List ℕ) (i : ℕ) → FirstIndex (λ b. b == s) text i
     → text ≡ take i text ++ s ∷ drop (i + 1) text
 cut_sign s text i f = cut_at text i f.inside ∙ ap (λ b. take i text ++ b ∷ drop (i + 1) text) (eqb-true _ s f.there)
 
-there_any : (p : ℕ → Bool) (text : List ℕ) (i : ℕ) → FirstPlace p text i → list_any p text ≡ true
+there_any : (p : ℕ → Bool) (text : List ℕ) (i : ℕ) → FirstIndex p text i → list_any p text ≡ true
 there_any p text i f = list_any_at p text i 0 f.inside f.there
 
 pub clash : {P : Type 0} (b : Bool) → b ≡ true → b ≡ false → P
@@ -105,7 +105,7 @@ pub any_at : (p : ℕ → Bool) (b : ℕ) → p b ≡ true → (front back : Lis
 any_at p b h [] back = rw h
 any_at p b h (x ∷ xs) back = elim (cases_Bool (p x)) [ inl hit ↦ rw hit | inr miss ↦ rw miss (any_at p b h xs back) ]
 
-module _ (text : List ℕ) (i : ℕ) (f : FirstPlace is_point text i) where
+module _ (text : List ℕ) (i : ℕ) (f : FirstIndex is_point text i) where
   pub pointed_there : 1 < length text → AllDigits 10 (take i text)
       → AllDigits 10 (take (length text - (i + 1)) (drop (i + 1) text)) → IsDecimal text
   pointed_there long a b =
@@ -134,7 +134,7 @@ unpointed text none (pointed front back a b some cut) =
 
 -- ---- numerals
 
-module _ (text : List ℕ) (i : ℕ) (f : FirstPlace is_slash text i) where
+module _ (text : List ℕ) (i : ℕ) (f : FirstIndex is_slash text i) where
   pub fraction_there : IsNumber 10 (take i text) → IsNumber 10 (take (length text - (i + 1)) (drop (i + 1) text))
       → IsNumeral text
   fraction_there a b =

@@ -42,12 +42,12 @@ abbrev pub number_in : List ℕ → ℕ
 number_in text = digits_value 10 (digits_in text)
 
 -- how many digits follow the point
-abbrev pub places_in : List ℕ → ℕ
-places_in text = digit_count (after_first is_point text)
+abbrev pub decimals_in : List ℕ → ℕ
+decimals_in text = digit_count (after_first is_point text)
 
 -- the number of the digits without the point, divided by 10 for each digit after the point
 abbrev pub decimal_value : List ℕ → Fraction
-decimal_value text = number_in text over 10 ^ places_in text
+decimal_value text = number_in text over 10 ^ decimals_in text
 
 -- a fraction is its first number over its second, and a percent is its decimal divided by 100
 unfoldable pub numeral_value : List ℕ → Fraction

@@ -77,7 +77,7 @@ impl Frac {
         ensures { Gives result (num over den) }
     {
         let common = wide_divisor(num, den);
-        fit(num / common, den / common)
+        lowest_terms(num / common, den / common)
     }
 
     /// The sum. `TooFine` exactly where a part of it in lowest terms is 2^62 or more.
@@ -90,7 +90,7 @@ impl Frac {
         let left = self.num as u128 * (o.den / shared) as u128;
         let right = o.num as u128 * (self.den / shared) as u128;
         let cut = wide_divisor(left + right, shared as u128);
-        fit(
+        lowest_terms(
             (left + right) / cut,
             (self.den / shared) as u128 * (o.den as u128 / cut),
         )
@@ -149,14 +149,14 @@ fn product(a: u64, b: u64, c: u64, d: u64) -> Result<Frac, TooFine>
 {
     let down = divisor(a, d);
     let up = divisor(c, b);
-    fit(
+    lowest_terms(
         (a / down) as u128 * (c / up) as u128,
         (b / up) as u128 * (d / down) as u128,
     )
 }
 
 /// Two parts in lowest terms as a fraction, where they fit.
-fn fit(num: u128, den: u128) -> Result<Frac, TooFine>
+fn lowest_terms(num: u128, den: u128) -> Result<Frac, TooFine>
     requires positive { 0 < den }
     requires lowest { gcd num den ≡ 1 }
     ensures { Gives result (num over den) }

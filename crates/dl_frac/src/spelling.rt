@@ -10,7 +10,7 @@ ghost use Rattle.dl_frac.specs.Numerals.{IsDecimal, IsNumeral};
 pub fn is_numeral(text: &[u8]) -> bool
     ensures { IsTrue result ↔ IsNumeral text.now }
 {
-    if let Some(at) = place_of(text, b'/') {
+    if let Some(at) = index_of(text, b'/') {
         return is_number(&text[..at]) && is_number(&text[at + 1..]);
     }
     let Some((last, front)) = text.split_last() else {
@@ -27,7 +27,7 @@ pub fn is_numeral(text: &[u8]) -> bool
 fn is_decimal(text: &[u8]) -> bool
     ensures { IsTrue result ↔ IsDecimal text.now }
 {
-    match place_of(text, b'.') {
+    match index_of(text, b'.') {
         Some(at) => text.len() > 1 && all_digits(&text[..at]) && all_digits(&text[at + 1..]),
         None => is_number(text),
     }
@@ -48,7 +48,7 @@ fn all_digits(text: &[u8]) -> bool
 }
 
 /// The first place of a sign.
-fn place_of(text: &[u8], sign: u8) -> Option<usize>
+fn index_of(text: &[u8], sign: u8) -> Option<usize>
     ensures { result ≡ position (λ byte. byte == sign) text.now }
 {
     text.iter().position(|byte| *byte == sign)

@@ -180,7 +180,7 @@ impl<const B: u32> Grid<B> {
     }
 
     /// Writes one cell where the grid stays one, and leaves the others as they are; whether it did.
-    pub fn put(&mut self, x: u32, v: Iv<B>) -> bool
+    pub fn try_set(&mut self, x: u32, v: Iv<B>) -> bool
         ensures written { result ≡ true → self.new ≡ slice_set self.old x v.entry }
         ensures left { result ≡ false → self.new ≡ self.old }
         ensures room { x < length self.old → v.entry.hi ≤ 2 ^ B

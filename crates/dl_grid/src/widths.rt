@@ -12,8 +12,8 @@ pub fn convolution_spread<const B: u32>(x: u128, y: u128, cells: u32) -> Option<
     ensures value { IfSome result (λ most. most ≡ convolution_spread (2 ^ B) cells x y) }
     ensures room { x * y < 2 ^ 128 → convolution_spread (2 ^ B) cells x y < 2 ^ 128 → IsSome result }
 {
-    let both = x.checked_add(y)?;
+    let sum = x.checked_add(y)?;
     let crossed = x.checked_mul(y)?.div_ceil(units_of_one(B));
     let rounded = 2 * u128::from(cells);
-    both.checked_add(crossed)?.checked_add(rounded)
+    sum.checked_add(crossed)?.checked_add(rounded)
 }

@@ -35,7 +35,7 @@ pub fn covered_is_not_bad()
 {}
 
 /// A text has at most one bad place, and the cutting reaches none behind it.
-pub fn one_bad_place()
+pub fn one_bad_byte()
     ensures one { (bytes : List ℕ) (a b : ℕ) → IsBad bytes a → IsBad bytes b → a ≡ b }
     ensures last { (bytes : List ℕ) (at end : ℕ) (tokens : List Token) → IsBad bytes at
         → Covers bytes end tokens → end ≤ at }

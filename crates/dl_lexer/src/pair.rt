@@ -8,9 +8,9 @@ ghost use Rattle.std.specs.Prelude.{◌≡◌, Ok, Err, IfOk, IfErr};
 /// # Errors
 ///
 /// Those of the second part.
-pub fn both<A: Drop, B, E>(first: A, second: Result<B, E>) -> Result<(A, B), E>
-    ensures first { IfOk result (λ both. both.0 ≡ first) }
-    ensures second { IfOk result (λ both. second ≡ Ok both.1) }
+pub fn pair_of<A: Drop, B, E>(first: A, second: Result<B, E>) -> Result<(A, B), E>
+    ensures first { IfOk result (λ pair. pair.0 ≡ first) }
+    ensures second { IfOk result (λ pair. second ≡ Ok pair.1) }
     ensures fault { IfErr result (λ fault. second ≡ Err fault) }
 {
     match second {

@@ -144,16 +144,16 @@ one_settles (u ∷ us) h =
     (outcomes_rise us (are_units us h.1) (score One)) h.0.settles (one_settles us h.1))
 
 -- the greatest total at a level
-reach_of : List Loss → ℕ → ℕ
-reach_of [] N = 0
-reach_of (u ∷ us) N = u.reach N + reach_of us N
+last_outcomes : List Loss → ℕ → ℕ
+last_outcomes [] N = 0
+last_outcomes (u ∷ us) N = u.last_outcome N + last_outcomes us N
 
-none_above : (us : List Loss) (N a x : ℕ) → a + reach_of us N ≤ x
+none_above : (us : List Loss) (N a x : ℕ) → a + last_outcomes us N ≤ x
     → sum_over_outcomes us (λ ys. where_true (nat_lt x (a + sum ys)) (whole 1)) N ≡ whole 0
-unfolding sum_over_outcomes reach_of
+unfolding sum_over_outcomes last_outcomes
 none_above [] N a x h = ap (λ b. where_true b (whole 1)) (le-ltb x (a + 0) (omega arith))
 none_above (u ∷ us) N a x h =
-    sum_to_zero (u.reach N) _ (λ y b. ap (λ t. u.family.cells y N *ℚ t)
+    sum_to_zero (u.last_outcome N) _ (λ y b. ap (λ t. u.family.cells y N *ℚ t)
     (outcomes_same us _ (λ ys. where_true (nat_lt x (a + y + sum ys)) (whole 1)) N
     (λ ys. ap (λ s. where_true (nat_lt x s) (whole 1)) (omega (arith, sum-cons y ys)))
     ∙ none_above us N (a + y) x (omega arith)) ∙ times_zero _)
@@ -162,7 +162,7 @@ pub adds_up : (us : List Loss) (p q : Fraction) → AreDeclared us → p +ℚ q 
     → (x : ℕ) × AtLeast (partial_sums us (Cdf x)) (partial_sums us One) p
 adds_up us p q h one pos =
     let s = one_settles us h p q one pos in
-    let x = reach_of us s.0 in
+    let x = last_outcomes us s.0 in
     let nothing_left : survival us x s.0 ≡ whole 0 =
     outcomes_same us _ (λ ys. where_true (nat_lt x (0 + sum ys)) (whole 1)) s.0
     (λ ys. ap (λ s. where_true (nat_lt x s) (whole 1)) (omega arith)) ∙ none_above us s.0 0 x (omega arith) in

@@ -44,7 +44,7 @@ pub use Rattle.dl_model.specs.Counts.{AreCountWeights, binomial, fixed, gamma_of
 unfoldable pub use Rattle.dl_model.specs.Counts.{gamma, poisson}
 pub use Rattle.dl_model.specs.Family.{Encloses, Family, IsProper, SameCells, compound, nothing, product, times_itself, GridEncloses}
 pub use Rattle.dl_model.specs.Listed.{equally_likely, probability_at}
-pub use Rattle.dl_model.specs.Measures.{AreDeclared, IsDeclaredLoss, IsQuantile, above, mean_to_reach, survival, unit_of, without, ArePriced, IsAsked, IsBracketed}
+pub use Rattle.dl_model.specs.Measures.{AreDeclared, IsDeclaredLoss, IsQuantile, above, level_mean, survival, unit_of, without, ArePriced, IsAsked, IsBracketed}
 pub use Rattle.dl_model.specs.Plans.{aggregate_of, compound_of, count_weights, loss_of, outcome_after, after_zero, aggregates_of, claims_of, declared, declared_by, mean_ceded}
 pub use Rattle.dl_model.specs.Program.{AreDeclarable, Cdf, IsLoss, Joint, Layer, Loss, Mean, One, Part, Point, Price, PricedTerm, Share, Tail, partial_sums, score, total, where_true, Quantity, above_quantile}
 unfoldable pub use Rattle.dl_model.specs.Program.{sum_over_outcomes}

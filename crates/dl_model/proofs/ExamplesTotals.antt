@@ -13,7 +13,7 @@ unfoldable pub over_outcomes_is : (us : List Worked) {value : List ℕ → Fract
 unfolding sum_over_outcomes
 over_outcomes_is [] p N = p []
 over_outcomes_is (u ∷ us) p N =
-    through_is (λ y. times_is (u.are y N) (over_outcomes_is us (λ ys. p (y ∷ ys)) N)) (u.loss.reach N)
+    through_is (λ y. times_is (u.are y N) (over_outcomes_is us (λ ys. p (y ∷ ys)) N)) (u.loss.last_outcome N)
 
 -- what is above q, where p = a / b is below 1
 abbrev pub above_is : (a b : ℕ) → a < b → (q x : ℕ) → Known (above_quantile (a over b) q x)
@@ -113,7 +113,7 @@ abbrev surely_one : List Loss
 surely_one =
     record {
       family = record { cells = λ y N. probability_at (equally_likely (1 ∷ [])) y; all = λ N. whole 1 };
-      reach = λ N. 1;
+      last_outcome = λ N. 1;
     } ∷ []
 
 unfoldable surely : {value : List ℕ → Fraction} → ((ys : List ℕ) → Known (value ys)) → (N : ℕ)

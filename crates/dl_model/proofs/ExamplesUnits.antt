@@ -1,6 +1,6 @@
 -- Outcomes of a unit, after its aggregate clause and with its probability of no claim changed, on small cases worked by
 -- hand.
-use Rattle.dl_model.proofs.Common.{List, [], ◌∷◌, ℕ, zero, suc, ◌≡◌, ◌-◌, ◌*◌, ◌<◌, refl, nat_eq, zero-lt-suc, one_pos, Fraction, whole, ◌over◌, count_pairs, sum_to, Item, weight_sum, greatest, equally_likely, probability_at, cell, Loss, Aggregate, outcome, loss, listed_aggregate, mean_to_reach, without_none, with_none, changed, changed_end, ways}
+use Rattle.dl_model.proofs.Common.{List, [], ◌∷◌, ℕ, zero, suc, ◌≡◌, ◌-◌, ◌*◌, ◌<◌, refl, nat_eq, zero-lt-suc, one_pos, Fraction, whole, ◌over◌, count_pairs, sum_to, Item, weight_sum, greatest, equally_likely, probability_at, cell, Loss, Aggregate, outcome, loss, listed_aggregate, level_mean, without_none, with_none, changed, changed_end, ways}
 use Rattle.dl_model.proofs.Ratios.{Known, worked, over_is, whole_is, plus_is, minus_is, times_is, divided_is, where_is}
 unfoldable use Rattle.dl_model.proofs.Ratios.{through_is, pairs_is}
 use Rattle.dl_model.proofs.ExamplesClaims.{listed_is, cells_are, none_or_one, one_or_two}
@@ -28,8 +28,8 @@ listed_loss counts amounts p q = record {
   are = outcomes_are (listed_is counts p) amounts q (λ s. s);
 }
 
-abbrev pub mean_is : (u : Worked) (N : ℕ) → Known (mean_to_reach u.loss N)
-mean_is u N = through_is (λ y. times_is (whole_is y) (u.are y N)) (u.loss.reach N)
+abbrev pub mean_is : (u : Worked) (N : ℕ) → Known (level_mean u.loss N)
+mean_is u N = through_is (λ y. times_is (whole_is y) (u.are y N)) (u.loss.last_outcome N)
 
 unfoldable pub some_are : {w : ℕ → Fraction} → ((n : ℕ) → Known (w n)) → (n : ℕ) → Known (without_none w n)
 unfolding without_none
@@ -66,10 +66,10 @@ layer_above = (
 )
 
 -- two claims of 1 or 2 alike go up to 4, of mean 3
-pub reach_two : (loss (listed_aggregate (equally_likely (2 ∷ [])) one_or_two)).reach 2 ≡ 4
+pub reach_two : (loss (listed_aggregate (equally_likely (2 ∷ [])) one_or_two)).last_outcome 2 ≡ 4
 reach_two = refl
 
-pub mean_two : mean_to_reach (loss (listed_aggregate (equally_likely (2 ∷ [])) one_or_two)) 2 ≡ whole 3
+pub mean_two : level_mean (loss (listed_aggregate (equally_likely (2 ∷ [])) one_or_two)) 2 ≡ whole 3
 unfolding ways count_pairs through_is
 mean_two =
     worked 3 1 (mean_is (listed_loss (equally_likely (2 ∷ [])) one_or_two (zero-lt-suc _) (zero-lt-suc _)) 2) one_pos refl

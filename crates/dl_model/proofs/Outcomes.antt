@@ -1,22 +1,22 @@
 -- Losses are proper families. Sums over the outcomes of all units are linear in the score, and the totals of units are
 -- products of families.
-use Rattle.dl_model.proofs.Common.{◌≡◌, inl, inr, ℕ, suc, zero, ◌+◌, ◌-◌, ◌<◌, ◌≤◌, nat_eq, arith, refl, sym, ap, ap₂, subst₂, ◌∙◌, List, [], ◌∷◌, ◌++◌, ne_eqb, eq-eqb, sum, fun_ext, cases_eq, sum_by-cons, Fraction, ◌+ℚ◌, ◌*ℚ◌, ◌≤ℚ◌, whole, sum_to, sum_pairs, sum_below, ring, whole_plus, plus_zero, times_plus, times_left_comm, times_assoc, times_one, one_times, times_zero, zero_times, le_refl, le_trans, times_le_both, sum_to_same, sum_to_plus, sum_to_times, sum_to_times_right, sum_to_le, sum_to_grows, sum_to_none, sum_to_either, sum_to_longer, le_of_eq, Rises, at_zero, convolve, Loss, IsLoss, One, Point, Mean, AreDeclarable, where_true, score, sum_over_outcomes, partial_sums, Family, total, mean_to_reach, product, nothing, IsProper, sum_to_pairs, order}
+use Rattle.dl_model.proofs.Common.{◌≡◌, inl, inr, ℕ, suc, zero, ◌+◌, ◌-◌, ◌<◌, ◌≤◌, nat_eq, arith, refl, sym, ap, ap₂, subst₂, ◌∙◌, List, [], ◌∷◌, ◌++◌, ne_eqb, eq-eqb, sum, fun_ext, cases_eq, sum_by-cons, Fraction, ◌+ℚ◌, ◌*ℚ◌, ◌≤ℚ◌, whole, sum_to, sum_pairs, sum_below, ring, whole_plus, plus_zero, times_plus, times_left_comm, times_assoc, times_one, one_times, times_zero, zero_times, le_refl, le_trans, times_le_both, sum_to_same, sum_to_plus, sum_to_times, sum_to_times_right, sum_to_le, sum_to_grows, sum_to_none, sum_to_either, sum_to_longer, le_of_eq, Rises, at_zero, convolve, Loss, IsLoss, One, Point, Mean, AreDeclarable, where_true, score, sum_over_outcomes, partial_sums, Family, total, level_mean, product, nothing, IsProper, sum_to_pairs, order}
 use Rattle.dl_model.proofs.ValueLaws.{at_zero_convolve, convolve_assoc, convolve_comm, proper_product, nothing_proper}
 
 abbrev cells_at : Loss → ℕ → ℕ → Fraction
 cells_at u N y = u.family.cells y N
 
 -- up to a place past the reach the cells make up the whole weight
-full_to : (u : Loss) → IsLoss u → (k N : ℕ) → u.reach N ≤ k → sum_to k (cells_at u N) ≡ u.family.all N
-full_to u h k N b = sum_to_longer (u.reach N) k _ b (λ y c. h.past y N c) ∙ h.full N
+full_to : (u : Loss) → IsLoss u → (k N : ℕ) → u.last_outcome N ≤ k → sum_to k (cells_at u N) ≡ u.family.all N
+full_to u h k N b = sum_to_longer (u.last_outcome N) k _ b (λ y c. h.past y N c) ∙ h.full N
 
 pub loss_proper : (u : Loss) → IsLoss u → IsProper u.family
 loss_proper u h = record {
   cells_rise = h.cells_rise;
-  all_rises = λ N. subst₂ (λ s t. s ≤ℚ t) (full_to u h (u.reach (suc N)) N (h.reach_rises N)) (h.full (suc N))
-      (sum_to_le (u.reach (suc N)) _ _ (λ y b. h.cells_rise y N));
-  within = λ y N. le_trans _ _ _ (sum_to_grows y (y + u.reach N) _ (omega arith))
-      (le_of_eq _ _ (full_to u h (y + u.reach N) N (omega arith)));
+  all_rises = λ N. subst₂ (λ s t. s ≤ℚ t) (full_to u h (u.last_outcome (suc N)) N (h.last_rises N)) (h.full (suc N))
+      (sum_to_le (u.last_outcome (suc N)) _ _ (λ y b. h.cells_rise y N));
+  within = λ y N. le_trans _ _ _ (sum_to_grows y (y + u.last_outcome N) _ (omega arith))
+      (le_of_eq _ _ (full_to u h (y + u.last_outcome N) N (omega arith)));
 }
 
 pub outcomes_same : (us : List Loss) (f g : List ℕ → Fraction) (N : ℕ) → ((ys : List ℕ) → f ys ≡ g ys)
@@ -57,16 +57,16 @@ pub outcomes_le : (us : List Loss) (f g : List ℕ → Fraction) → ((ys : List
     → sum_over_outcomes us f N ≤ℚ sum_over_outcomes us g N
 unfolding sum_over_outcomes
 outcomes_le [] f g h N = h []
-outcomes_le (u ∷ us) f g h N = sum_to_le (u.reach N) _ _
+outcomes_le (u ∷ us) f g h N = sum_to_le (u.last_outcome N) _ _
     (λ y b. grw (order, outcomes_le us (λ ys. f (y ∷ ys)) (λ ys. g (y ∷ ys)) (λ ys. h (y ∷ ys)) N))
 
 pub outcomes_rise : (us : List Loss) → AreDeclarable us → (f : List ℕ → Fraction) → Rises (sum_over_outcomes us f)
 unfolding sum_over_outcomes
 outcomes_rise [] h f N = le_refl _
 outcomes_rise (u ∷ us) h f N =
-    le_trans _ _ _ (sum_to_le (u.reach N) _ _
+    le_trans _ _ _ (sum_to_le (u.last_outcome N) _ _
     (λ y b. times_le_both _ _ _ _ (h.0.cells_rise y N) (outcomes_rise us h.1 (λ ys. f (y ∷ ys)) N)))
-    (sum_to_grows (u.reach N) (u.reach (suc N)) _ (h.0.reach_rises N))
+    (sum_to_grows (u.last_outcome N) (u.last_outcome (suc N)) _ (h.0.last_rises N))
 
 -- ---- the total
 
@@ -90,11 +90,11 @@ total_below x y s k h = ap (λ b. where_true b k) (elim (cases_eq s (x - y)) [
 
 -- a score that is 0 but where the total is x, by the outcome of the first unit
 pub first_unit : (u : Loss) (us : List Loss) → IsLoss u → (v : ℕ → List ℕ → Fraction) (x N : ℕ)
-    → sum_to (u.reach N) (λ y. u.family.cells y N *ℚ sum_over_outcomes us
+    → sum_to (u.last_outcome N) (λ y. u.family.cells y N *ℚ sum_over_outcomes us
     (λ ys. where_true (nat_eq (sum (y ∷ ys)) x) (v y ys)) N)
     ≡ sum_pairs x (λ y z. u.family.cells y N *ℚ sum_over_outcomes us (λ ys. where_true (nat_eq (sum ys) z) (v y ys)) N)
 first_unit u us h v x N =
-    sum_to_either (u.reach N) x _ (λ y b. simp (h.past y N b, zero_times))
+    sum_to_either (u.last_outcome N) x _ (λ y b. simp (h.past y N b, zero_times))
     (λ y b. ap (λ t. u.family.cells y N *ℚ t) (outcomes_same us _ (λ ys. whole 0) N
     (λ ys. rw (sum-cons y ys) (total_above x y (sum ys) (v y ys) b)) ∙ outcomes_none us N) ∙ times_zero _)
     ∙ sum_to_same x _ (λ y. cells_at u N y *ℚ sum_over_outcomes us (λ ys. where_true (nat_eq (sum ys) (x - y)) (v y ys)) N)
@@ -115,10 +115,10 @@ total_more_all u us h N = sum_to_times_right _ _ _ ∙ ap (λ t. t *ℚ partial_
 
 -- the mean, by the outcome of the first unit
 pub mean_more : (u : Loss) (us : List Loss) → IsLoss u → (N : ℕ) → partial_sums (u ∷ us) Mean N
-    ≡ mean_to_reach u N *ℚ partial_sums us One N +ℚ u.family.all N *ℚ partial_sums us Mean N
+    ≡ level_mean u N *ℚ partial_sums us One N +ℚ u.family.all N *ℚ partial_sums us Mean N
 unfolding sum_over_outcomes
 mean_more u us h N =
-    let M = u.reach N in
+    let M = u.last_outcome N in
     sum_to_same M _ _ (λ y b. ap (λ t. u.family.cells y N *ℚ t)
     (outcomes_same us _ _ N (λ ys. ap whole (sum-cons y ys) ∙ whole_plus y (sum ys)
     ∙ ap (λ t. t +ℚ whole (sum ys)) (sym (times_one (whole y))))
@@ -184,6 +184,6 @@ pub total_alone_all : (u : Loss) → IsLoss u → (N : ℕ) → (total (u ∷ []
 unfolding sum_over_outcomes
 total_alone_all u h N = total_more_all u [] h N ∙ times_one _
 
-pub mean_alone : (u : Loss) → IsLoss u → (N : ℕ) → partial_sums (u ∷ []) Mean N ≡ mean_to_reach u N
+pub mean_alone : (u : Loss) → IsLoss u → (N : ℕ) → partial_sums (u ∷ []) Mean N ≡ level_mean u N
 unfolding sum_over_outcomes
 mean_alone u h N = mean_more u [] h N ∙ ap₂ (λ s t. s +ℚ t) (times_one _) (times_zero _) ∙ plus_zero _

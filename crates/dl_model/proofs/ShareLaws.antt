@@ -9,7 +9,7 @@ pub outcomes_of_length : (us : List Loss) (f g : List ℕ → Fraction) (N : ℕ
     → ((ys : List ℕ) → length ys ≡ length us → f ys ≡ g ys) → sum_over_outcomes us f N ≡ sum_over_outcomes us g N
 unfolding sum_over_outcomes
 outcomes_of_length [] f g N h = h [] refl
-outcomes_of_length (u ∷ us) f g N h = ap (sum_to (u.reach N)) (fun_ext (λ y. ap (λ t. u.family.cells y N *ℚ t)
+outcomes_of_length (u ∷ us) f g N h = ap (sum_to (u.last_outcome N)) (fun_ext (λ y. ap (λ t. u.family.cells y N *ℚ t)
     (outcomes_of_length us (λ ys. f (y ∷ ys)) (λ ys. g (y ∷ ys)) N (λ ys e. h (y ∷ ys) (ap suc e)))))
 
 below_same : (n : ℕ) (f g : ℕ → Fraction) → ((i : ℕ) → f i ≡ g i) → sum_below n f ≡ sum_below n g

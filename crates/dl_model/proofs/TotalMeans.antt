@@ -1,5 +1,5 @@
 -- The mean of a total is the sum of the means.
-use Rattle.dl_model.proofs.Common.{sym, subst, subst₂, List, [], ◌∷◌, fun_ext, Fraction, ◌+ℚ◌, whole, times_one, one_times, Rises, Holds, times, Loss, IsLoss, AreDeclarable, One, Mean, score, partial_sums, mean_to_reach}
+use Rattle.dl_model.proofs.Common.{sym, subst, subst₂, List, [], ◌∷◌, fun_ext, Fraction, ◌+ℚ◌, whole, times_one, one_times, Rises, Holds, times, Loss, IsLoss, AreDeclarable, One, Mean, score, partial_sums, level_mean}
 use Rattle.dl_model.proofs.TotalLaws.{self_holds, holds_plus, holds_times, rises_times, loss_proper, outcomes_rise, total_alone_all, total_more_all, mean_more, mean_alone}
 
 pub mean_of_total : (u : Loss) (us : List Loss) → IsLoss u → AreDeclarable us → (l h l' h' : Fraction)
@@ -8,7 +8,7 @@ pub mean_of_total : (u : Loss) (us : List Loss) → IsLoss u → AreDeclarable u
     → Holds (partial_sums (u ∷ us) Mean) (partial_sums (u ∷ us) One) (l +ℚ l') (h +ℚ h')
 mean_of_total u us is are l h l' h' v v' =
     let W = u.family.all in
-    let A = mean_to_reach u in
+    let A = level_mean u in
     let O = partial_sums us One in
     let M = partial_sums us Mean in
     let alone = fun_ext (mean_alone u is) in

@@ -20,7 +20,7 @@ module _ (u : Aggregate) (h : IsDeclarable u) where
         λ y N. le_trans _ _ _ (sum_to_le (N * u.most) _ _
         (λ s b. where_rises (nat_eq (u.clause s) y) _ (sum_rises_to (λ n. u.count n *ℚ power u.severity n s)) N))
         (sum_to_grows (N * u.most) (suc N * u.most) _ (omega arith));
-    reach_rises = λ N. omega arith;
+    last_rises = λ N. omega arith;
     past = unit_within;
     full = unit_whole;
   }

@@ -48,5 +48,5 @@ changed p u = record {
     cells = λ y. with_none p y (outcome (with_claims u) y) (λ N. sum_to N (without_none u.count));
     all = λ N. sum_to N (without_none u.count);
   };
-  reach = λ N. N * u.most;
+  last_outcome = λ N. N * u.most;
 }

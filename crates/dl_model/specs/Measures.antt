@@ -41,8 +41,8 @@ without (u ∷ us) zero = us
 without (u ∷ us) (suc i) = u ∷ without us i
 
 -- The mean of a loss from at most N claims: the sum of each outcome times its cell.
-abbrev pub mean_to_reach : Loss → Series
-mean_to_reach u N = sum_to (u.reach N) (λ y. whole y *ℚ u.family.cells y N)
+abbrev pub level_mean : Loss → Series
+level_mean u N = sum_to (u.last_outcome N) (λ y. whole y *ℚ u.family.cells y N)
 
 -- A loss that can be declared: its whole weight is bounded, above 0 at some level, and comes near
 -- its least upper bound; and its mean is bounded.
@@ -54,7 +54,7 @@ pub record IsDeclaredLoss (u : Loss) : Type 0 where
   pub positive : whole 0 <ℚ u.family.all level
   pub settles : Settles u.family.all
   pub mean_bound : Fraction
-  pub mean_bounded : IsBound (mean_to_reach u) mean_bound
+  pub mean_bounded : IsBound (level_mean u) mean_bound
 
 -- each of them can be
 abbrev pub AreDeclared : List Loss → Type 0

@@ -15,15 +15,15 @@ where_true false x = whole 0
 -- the greatest outcome at each level.
 pub record Loss : Type 0 where
   pub family : Family
-  pub reach : ℕ → ℕ
+  pub last_outcome : ℕ → ℕ
 
--- At each level the outcomes of a loss go up to its reach and make up the whole weight there, and
+-- At each level the outcomes of a loss go up to the last and make up the whole weight there, and
 -- nothing falls as claims are added.
 pub record IsLoss (u : Loss) : Type 0 where
   pub cells_rise : (y : ℕ) → Rises (u.family.cells y)
-  pub reach_rises : (N : ℕ) → u.reach N ≤ u.reach (suc N)
-  pub past : (y N : ℕ) → u.reach N < y → u.family.cells y N ≡ whole 0
-  pub full : (N : ℕ) → sum_to (u.reach N) (λ y. u.family.cells y N) ≡ u.family.all N
+  pub last_rises : (N : ℕ) → u.last_outcome N ≤ u.last_outcome (suc N)
+  pub past : (y N : ℕ) → u.last_outcome N < y → u.family.cells y N ≡ whole 0
+  pub full : (N : ℕ) → sum_to (u.last_outcome N) (λ y. u.family.cells y N) ≡ u.family.all N
 
 -- each of them is one
 abbrev pub AreDeclarable : List Loss → Type 0
@@ -72,12 +72,12 @@ score (Share i p q u) ys = where_true (nat_lt q (sum ys)) (whole (get_or ys i 0)
     +ℚ where_true (nat_eq (sum ys) q)
     ((whole 1 -ℚ u) *ℚ whole (get_or ys i 0) /ℚ (whole 1 -ℚ p))
 
--- the sum, over all lists of one outcome from 0 to the reach for each unit, of the value times the
+-- the sum, over all lists of one outcome from 0 to the last of each unit, of the value times the
 -- product of the outcomes' cells
 unfoldable pub sum_over_outcomes : List Loss → (List ℕ → Fraction) → Series
 sum_over_outcomes [] value N = value []
 sum_over_outcomes (u ∷ us) value N =
-    sum_to (u.reach N)
+    sum_to (u.last_outcome N)
     (λ y. u.family.cells y N *ℚ sum_over_outcomes us (λ ys. value (y ∷ ys)) N)
 
 -- the quantity over at most N claims of each unit; its declared value is the least upper bound of

@@ -31,7 +31,7 @@ mapped u = record { cells = outcome u; all = λ N. sum_to N u.count }
 
 -- the loss of a unit: from at most N claims no outcome is above N times the greatest amount
 abbrev pub loss : Aggregate → Loss
-loss u = record { family = mapped u; reach = λ N. N * u.most }
+loss u = record { family = mapped u; last_outcome = λ N. N * u.most }
 
 -- a unit without an aggregate clause: its outcome is the sum of its claims
 abbrev pub plain : (count severity : ℕ → Fraction) → (most : ℕ) → Aggregate

@@ -9,7 +9,7 @@ ghost use Rattle.dl_model.specs.Compound.{cell};
 ghost use Rattle.dl_model.specs.Counts.{fixed, binomial, poisson, gamma_of, AreCountWeights};
 ghost use Rattle.dl_model.specs.Program.{where_true};
 ghost use Rattle.dl_model.specs.Units.{Aggregate, IsDeclared, outcome, loss};
-ghost use Rattle.dl_model.specs.Measures.{IsDeclaredLoss, mean_to_reach};
+ghost use Rattle.dl_model.specs.Measures.{IsDeclaredLoss, level_mean};
 ghost use Rattle.dl_model.specs.ChangedZero.{without_none, with_none, changed, changed_end, IsWithNone};
 
 /// No claim comes to 0: so compound sums have the weight of no claim at 0, beside the part from at
@@ -82,7 +82,7 @@ pub fn law_changed_loss()
         → (level : ℕ) → whole 0 <ℚ sum_to level (without_none u.count)
         → IsDeclaredLoss (changed p u) }
     ensures mean { (p : Fraction) (u : Aggregate) → IsDeclared u → (N : ℕ)
-        → mean_to_reach (changed p u) N ≡ (whole 1 -ℚ p) *ℚ mean_to_reach (loss u) N }
+        → level_mean (changed p u) N ≡ (whole 1 -ℚ p) *ℚ level_mean (loss u) N }
 {}
 
 /// The outcome `y` and the mean of that loss, from ends of those of the unit and ends of the unit's
@@ -96,10 +96,10 @@ pub fn law_changed_values()
         → Holds ((changed p u).family.cells y) (changed p u).family.all
         (changed_end p y low none_high none_low) (changed_end p y high none_low none_high) }
     ensures mean { (p low high none_low none_high : Fraction) (u : Aggregate)
-        → IsDeclared u → Holds (mean_to_reach (loss u)) (λ N. sum_to N u.count) low high
+        → IsDeclared u → Holds (level_mean (loss u)) (λ N. sum_to N u.count) low high
         → Holds (λ N. u.count 0) (λ N. sum_to N u.count) none_low none_high
         → none_low ≤ℚ none_high → none_high <ℚ whole 1
-        → Holds (mean_to_reach (changed p u)) (changed p u).family.all
+        → Holds (level_mean (changed p u)) (changed p u).family.all
         ((whole 1 -ℚ p) *ℚ (low /ℚ (whole 1 -ℚ none_low)))
         ((whole 1 -ℚ p) *ℚ (high /ℚ (whole 1 -ℚ none_high))) }
     ensures lows { (p none_low none_high : Fraction) (k : ℕ) (u : Aggregate) (low : ℕ → Fraction)

@@ -17,4 +17,4 @@ pub use laws::{law_exponential, law_stands};
 pub use made::grid_of;
 pub use poisson::poisson_base;
 pub use rates::halved;
-pub use sums::reached;
+pub use sums::count_at_most;

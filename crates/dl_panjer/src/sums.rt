@@ -12,7 +12,7 @@ use dl_iv::Iv;
 use dl_plan::Item;
 
 /// How many of the amounts are at most `most`: the first ones.
-pub fn reached(items: &[Item], most: usize) -> usize
+pub fn count_at_most(items: &[Item], most: usize) -> usize
     requires rising { IsStrictlyIncreasing (amounts_of items.now) }
     ensures bound { result ≤ length items.now }
     ensures before { (k : ℕ) (d : Item) → k < result
@@ -82,6 +82,6 @@ pub(crate) fn sums_before<const B: u32, const BY_AMOUNT: bool>(
     ensures high { result.1 ≡ next_sum (coefficient BY_AMOUNT items.now) (high_at cells.now)
         (length cells.now - 1) }
 {
-    let near = &items[..reached(items, cells.len())];
+    let near = &items[..count_at_most(items, cells.len())];
     sums_over::<B, BY_AMOUNT>(near, cells)
 }

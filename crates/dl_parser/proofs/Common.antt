@@ -13,6 +13,6 @@ pub use Rattle.dl_ast.specs.Lexemes.{IsReal, Lexeme, lexeme}
 pub use Rattle.dl_ast.specs.Rules.{Each, Rule, Spells, end_of, made, many, maybe, node, one, span_of, unless, ◌or◌, ◌▸◌}
 pub use Rattle.dl_ast.specs.declared.ast.Atom.{Atom}
 unfoldable pub use Rattle.dl_parser.specs.Factored.{atom, body, book, cession, clause, closing, cost, counted, defined, ending, exposed, exposure, item, items, layers, list, listed, loss, mixture, next_cession, next_item, ratio, sev, sevdef, unit, units, weighted}
-pub use Rattle.dl_parser.specs.Parsing.{place}
+pub use Rattle.dl_parser.specs.Parsing.{state}
 pub use Rattle.dl_parser.specs.Plain.{plain}
-pub use Rattle.dl_parser.specs.Reading.{Outcome, Place, alone, among, apart, begins, enters, first, goes_on, got, is_empty, is_plain, is_settled, one_at, read, repeat, same_kind, seconds, start_of, stuck, two_at, watched, ◌>>=◌}
+pub use Rattle.dl_parser.specs.Reading.{Outcome, State, alone, among, apart, begins, enters, first, goes_on, got, is_empty, is_plain, is_settled, one_at, read, repeat, same_kind, seconds, start_of, stuck, two_at, watched, ◌>>=◌}

@@ -11,7 +11,7 @@ use Rattle.dl_lexer.specs.Bytes.{is_white, is_comment_byte}
 use Rattle.dl_lexer.specs.Tokens.{IsSpelled}
 use Rattle.dl_lexer.specs.Cutting.{Covers, nothing, blank, token, blank_length, token_of}
 use Rattle.dl_ast.specs.Lexemes.{lexemes}
-use Rattle.dl_parser.specs.Placed.{Inside, AllInside}
+use Rattle.dl_parser.specs.Within.{Inside, AllInside}
 use Rattle.dl_lexer.proofs.CoverLaws.{token_takes}
 
 blank_cases : (white comment : Bool) (run all : ℕ) → run ≤ all

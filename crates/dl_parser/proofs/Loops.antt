@@ -1,5 +1,5 @@
 -- A loop that reads any number of things.
-use Rattle.dl_parser.proofs.Common.{◌≡◌, ℕ, zero, suc, ◌≤◌, ◌<◌, Bool, true, false, List, [], ◌∷◌, ◌++◌, length, refl, sym, ap, ◌∙◌, arith, append_assoc, append-nil, Lexeme, Rule, many, Place, Outcome, got, stuck, ◌>>=◌, begins, first, repeat, read, is_plain, some_of, and_parts}
+use Rattle.dl_parser.proofs.Common.{◌≡◌, ℕ, zero, suc, ◌≤◌, ◌<◌, Bool, true, false, List, [], ◌∷◌, ◌++◌, length, refl, sym, ap, ◌∙◌, arith, append_assoc, append-nil, Lexeme, Rule, many, State, Outcome, got, stuck, ◌>>=◌, begins, first, repeat, read, is_plain, some_of, and_parts}
 use Rattle.dl_parser.specs.Reading.{front}
 use Rattle.dl_parser.proofs.ReadsBack.{bind_of, is_no, whole_none}
 use Rattle.dl_parser.proofs.Took.{none_left}
@@ -8,11 +8,11 @@ use Rattle.dl_parser.proofs.Stopped.{less}
 -- the count that bounds the loop doesn't matter
 
 abbrev SameAt : {A : Type 0} → Rule A → ℕ → Type 0
-SameAt a n = (m : ℕ) (p : Place) → length p.rest ≤ n → length p.rest ≤ m
+SameAt a n = (m : ℕ) (p : State) → length p.rest ≤ n → length p.rest ≤ m
     → repeat (first a) (read a) n p ≡ repeat (first a) (read a) m p
 
-same_step : {A : Type 0} (a : Rule A) (n m : ℕ) (p : Place) → SameAt a n
-    → ((x : A) (q : Place) → read a p ≡ got x q → length q.rest < length p.rest) → length p.rest ≤ suc n
+same_step : {A : Type 0} (a : Rule A) (n m : ℕ) (p : State) → SameAt a n
+    → ((x : A) (q : State) → read a p ≡ got x q → length q.rest < length p.rest) → length p.rest ≤ suc n
     → length p.rest ≤ suc m
     → (b : Bool) → begins (first a) p.rest ≡ b → (o : Outcome A) → read a p ≡ o
     → repeat (first a) (read a) (suc n) p ≡ repeat (first a) (read a) (suc m) p
@@ -22,7 +22,7 @@ same_step a n m p rest lt ln lm true t (got x q) e =
     let h : length q.rest < length p.rest = lt x q e in
     rw (t, e) (ap (λ (o : Outcome _). o >>= λ xs s. got (x ∷ xs) s) (rest m q (omega arith) (omega arith)))
 
-same_count : {A : Type 0} (a : Rule A) → ((p q : Place) (x : A) → read a p ≡ got x q → length q.rest < length p.rest)
+same_count : {A : Type 0} (a : Rule A) → ((p q : State) (x : A) → read a p ≡ got x q → length q.rest < length p.rest)
     → (n : ℕ) → SameAt a n
 same_count a lt zero m p ln lm = sym (whole_none a p.rest p.end m (none_left (first a) p.rest ln))
 same_count a lt (suc n) zero p ln lm = whole_none a p.rest p.end (suc n) (none_left (first a) p.rest lm)
@@ -30,19 +30,19 @@ same_count a lt (suc n) (suc m) p ln lm =
     same_step a n m p (same_count a lt n) (λ x q e. lt p q x e) ln lm (begins (first a) p.rest) refl (read a p) refl
 
 -- what is read, as far as a loop has come
-abbrev pub Loops : {A : Type 0} → Rule A → Outcome (List A) → Place → List A → Type 0
+abbrev pub Loops : {A : Type 0} → Rule A → Outcome (List A) → State → List A → Type 0
 Loops a o p xs = o ≡ (read (many a) p >>= front xs)
 
-bind_assoc : {A B C : Type 0} (o : Outcome A) (f : A → Place → Outcome B) (g : B → Place → Outcome C)
+bind_assoc : {A B C : Type 0} (o : Outcome A) (f : A → State → Outcome B) (g : B → State → Outcome C)
     → ((o >>= f) >>= g) ≡ (o >>= λ x q. f x q >>= g)
 bind_assoc (got x q) f g = refl
 bind_assoc (stuck k q) f g = refl
 
-pub loop_starts : {A : Type 0} (a b : Rule A) (p q : Place) (x : A) → read a p ≡ got x q
+pub loop_starts : {A : Type 0} (a b : Rule A) (p q : State) (x : A) → read a p ≡ got x q
     → Loops b (read (some_of a b) p) q (x ∷ [])
 loop_starts a b p q x e = rw e (bind_assoc (read (many b) q) (λ y s. got (x, y) s) (λ y s. got (y.0 ∷ y.1) s))
 
-pub loop_ends : {A : Type 0} (a : Rule A) (o : Outcome (List A)) (p : Place) (xs : List A) → Loops a o p xs
+pub loop_ends : {A : Type 0} (a : Rule A) (o : Outcome (List A)) (p : State) (xs : List A) → Loops a o p xs
     → begins (first a) p.rest ≡ false → o ≡ got xs p
 loop_ends a o p xs l t = grind (arith, whole_none a p.rest p.end (length p.rest) t, append-nil xs, bind_of)
 
@@ -56,13 +56,13 @@ joined (got ys q) x xs = ap (λ zs. got zs q) (sym (append_assoc xs (x ∷ []) y
 joined (stuck k q) x xs = refl
 
 pub loop_goes_on : {A : Type 0} (a : Rule A) → is_plain (many a) ≡ true
-    → (o : Outcome (List A)) (p q : Place) (x : A) (xs : List A) → Loops a o p xs → begins (first a) p.rest ≡ true
+    → (o : Outcome (List A)) (p q : State) (x : A) (xs : List A) → Loops a o p xs → begins (first a) p.rest ≡ true
     → read a p ≡ got x q
     → Loops a o q (xs ++ x ∷ [])
 loop_goes_on {A} a ok o p q x xs l t e =
     let i = and_parts _ _ ok in
     let j = and_parts _ _ i.1 in
-    let lt : (p q : Place) (x : A) → read a p ≡ got x q → length q.rest < length p.rest = less a i.0 (is_no _ j.0) in
+    let lt : (p q : State) (x : A) → read a p ≡ got x q → length q.rest < length p.rest = less a i.0 (is_no _ j.0) in
     let some = some_length p.rest (length q.rest) (lt p q x e) in
     let step : read (many a) p ≡ (read (many a) q >>= λ ys s. got (x ∷ ys) s) =
     ap (λ n. repeat (first a) (read a) n p) some.1

@@ -1,12 +1,12 @@
 -- A spelling is read as what it spells.
-use Rattle.dl_parser.proofs.Common.{◌≡◌, ℕ, zero, suc, ◌≤◌, Bool, true, false, cond, ◌&&◌, ◌||◌, List, [], ◌∷◌, ◌++◌, length, Some, None, refl, sym, ap, ◌∙◌, subst, inl, inr, arith, append_assoc, length-append, Kind, Lexeme, Rule, one, ◌▸◌, ◌or◌, maybe, many, unless, made, node, Each, Spells, end_of, span_of, Place, Outcome, got, ◌>>=◌, among, begins, start_of, is_empty, first, goes_on, repeat, read, apart, is_plain, and_parts, or_parts}
+use Rattle.dl_parser.proofs.Common.{◌≡◌, ℕ, zero, suc, ◌≤◌, Bool, true, false, cond, ◌&&◌, ◌||◌, List, [], ◌∷◌, ◌++◌, length, Some, None, refl, sym, ap, ◌∙◌, subst, inl, inr, arith, append_assoc, length-append, Kind, Lexeme, Rule, one, ◌▸◌, ◌or◌, maybe, many, unless, made, node, Each, Spells, end_of, span_of, State, Outcome, got, ◌>>=◌, among, begins, start_of, is_empty, first, goes_on, repeat, read, apart, is_plain, and_parts, or_parts}
 use Rattle.dl_parser.specs.Reading.{same_kind, two_at, enters, alone, seconds, others, all_are, no as not, clears}
 use Rattle.dl_parser.proofs.Sets.{same_is, same_self, apart_at}
 use Rattle.dl_parser.proofs.Starts.{alone_is, end_append, first_is, second_is, spelled_empty}
 
 -- a spelling is read as what it spells, where what follows doesn't go on with it
 
-pub bind_of : {A B : Type 0} (o : Outcome A) (f : A → Place → Outcome B) (x : A) (s : Place) (z : Outcome B)
+pub bind_of : {A B : Type 0} (o : Outcome A) (f : A → State → Outcome B) (x : A) (s : State) (z : Outcome B)
     → o ≡ got x s → f x s ≡ z → (o >>= f) ≡ z
 bind_of o f x s z h e = ap (λ u. u >>= f) h ∙ e
 

@@ -1,17 +1,17 @@
 -- What the tokens of a spelling begin with, and what stands second.
-use Rattle.dl_parser.proofs.Common.{◌≡◌, ℕ, Bool, true, false, cond, ◌&&◌, ◌||◌, List, [], ◌∷◌, ◌++◌, Some, None, refl, sym, ap, ◌∙◌, ◌⊎◌, inl, inr, Kind, Lexeme, Rule, one, ◌▸◌, ◌or◌, maybe, many, unless, made, node, Each, Spells, end_of, Place, Outcome, got, stuck, ◌>>=◌, among, is_empty, first, alone, seconds}
+use Rattle.dl_parser.proofs.Common.{◌≡◌, ℕ, Bool, true, false, cond, ◌&&◌, ◌||◌, List, [], ◌∷◌, ◌++◌, Some, None, refl, sym, ap, ◌∙◌, ◌⊎◌, inl, inr, Kind, Lexeme, Rule, one, ◌▸◌, ◌or◌, maybe, many, unless, made, node, Each, Spells, end_of, State, Outcome, got, stuck, ◌>>=◌, among, is_empty, first, alone, seconds}
 use Rattle.dl_parser.proofs.Sets.{same_self, among_append}
 
 -- the outcome of a chain, by its first part
 
-pub bind_got : {A B : Type 0} (o : Outcome A) (f : A → Place → Outcome B) (y : B) (q : Place) → (o >>= f) ≡ got y q
-    → (x : A) × (s : Place) × (o ≡ got x s) × (f x s ≡ got y q)
+pub bind_got : {A B : Type 0} (o : Outcome A) (f : A → State → Outcome B) (y : B) (q : State) → (o >>= f) ≡ got y q
+    → (x : A) × (s : State) × (o ≡ got x s) × (f x s ≡ got y q)
 bind_got (got x s) f y q e = (x, s, refl, e)
 bind_got (stuck k s) f y q e = absurd cc
 
-pub bind_stuck : {A B : Type 0} (o : Outcome A) (f : A → Place → Outcome B) (k : Kind) (q : Place)
+pub bind_stuck : {A B : Type 0} (o : Outcome A) (f : A → State → Outcome B) (k : Kind) (q : State)
     → (o >>= f) ≡ stuck k q
-    → (o ≡ stuck k q) ⊎ ((x : A) × (s : Place) × (o ≡ got x s) × (f x s ≡ stuck k q))
+    → (o ≡ stuck k q) ⊎ ((x : A) × (s : State) × (o ≡ got x s) × (f x s ≡ stuck k q))
 bind_stuck (got x s) f k q e = inr (x, s, refl, e)
 bind_stuck (stuck j s) f k q e = inl cc
 

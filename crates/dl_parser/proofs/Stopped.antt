@@ -1,5 +1,5 @@
 -- Where reading stops, the tokens so far go on with a token of the wanted kind and with no other.
-use Rattle.dl_parser.proofs.Common.{◌≡◌, ℕ, zero, suc, ◌≤◌, ◌<◌, Bool, true, false, cond, ◌||◌, ◌⊎◌, List, [], ◌∷◌, ◌++◌, length, Some, None, refl, sym, ap, ◌∙◌, subst, inl, inr, arith, append_assoc, append-nil, Kind, All, All-nil, Lexeme, IsReal, token_of, token_kind, token_real, Rule, one, ◌▸◌, ◌or◌, maybe, many, unless, made, node, Each, Spells, end_of, span_of, Place, Outcome, got, stuck, ◌>>=◌, same_kind, among, begins, start_of, is_empty, first, watched, two_at, enters, is_settled, goes_on, one_at, repeat, read, is_plain, and_parts, or_parts}
+use Rattle.dl_parser.proofs.Common.{◌≡◌, ℕ, zero, suc, ◌≤◌, ◌<◌, Bool, true, false, cond, ◌||◌, ◌⊎◌, List, [], ◌∷◌, ◌++◌, length, Some, None, refl, sym, ap, ◌∙◌, subst, inl, inr, arith, append_assoc, append-nil, Kind, All, All-nil, Lexeme, IsReal, token_of, token_kind, token_real, Rule, one, ◌▸◌, ◌or◌, maybe, many, unless, made, node, Each, Spells, end_of, span_of, State, Outcome, got, stuck, ◌>>=◌, same_kind, among, begins, start_of, is_empty, first, watched, two_at, enters, is_settled, goes_on, one_at, repeat, read, is_plain, and_parts, or_parts}
 use Rattle.std.proofs.lemmas.List.Elements.{All-append}
 use Rattle.dl_parser.proofs.Sets.{same_is, among_append}
 use Rattle.dl_parser.proofs.Starts.{bind_stuck, chosen, no_append}
@@ -9,13 +9,13 @@ use Rattle.dl_parser.proofs.Took.{Pend, pend_behind, pend_settled, alike_two, te
 -- where reading stops, the tokens before go on with a token of the wanted kind, and with none that the tests take for
 -- another
 
-abbrev pub Stopped : {X : Type 0} → Rule X → Place → Kind → Place → Type 0
+abbrev pub Stopped : {X : Type 0} → Rule X → State → Kind → State → Type 0
 Stopped {X} r p k q = (ts : List Lexeme) × (p.rest ≡ ts ++ q.rest) × (begins (k ∷ []) q.rest ≡ false)
     × ((t : Lexeme) → t.kind ≡ k → (after : List Lexeme) × (x : X) × Spells r x (ts ++ t ∷ after) × All IsReal after)
     × ((z : List Lexeme) → Alike (watched r) q.rest z → begins (k ∷ []) z ≡ false
     → read r (record { end = p.end; rest = ts ++ z }) ≡ stuck k (record { end = q.end; rest = z }))
 
-abbrev StoppedBy : {X : Type 0} → Rule X → Place → Outcome X → Type 0
+abbrev StoppedBy : {X : Type 0} → Rule X → State → Outcome X → Type 0
 StoppedBy r p (got x q) = Unit {0}
 StoppedBy r p (stuck k q) = Stopped r p k q
 
@@ -88,12 +88,12 @@ begun (unless j k a) t h = let s = begun a t h in (Some s.0, s.1, s.2)
 begun (made f a) t h = let s = begun a t h in (f s.0, s.1, (s.0, refl, s.2))
 begun (node f a) t h = let s = begun a t h in (f s.0 (span_of (t ∷ s.1)), s.1, (s.0, refl, s.2))
 
-no_two : {X : Type 0} (o : Outcome X) (k : Kind) (q : Place) (x : X) (s : Place) → o ≡ stuck k q → o ≡ got x s → ⊥
+no_two : {X : Type 0} (o : Outcome X) (k : Kind) (q : State) (x : X) (s : State) → o ≡ stuck k q → o ≡ got x s → ⊥
 no_two (got y r) k q x s e f = cc
 no_two (stuck i r) k q x s e f = cc
 
 -- where the next token may begin it, reading doesn't stop there
-not_at_once : {X : Type 0} (r : Rule X) → is_plain r ≡ true → (at : ℕ) (k : Kind) (q : Place) (rest : List Lexeme) → begins (first r) rest ≡ true → begins (k ∷ []) rest ≡ false
+not_at_once : {X : Type 0} (r : Rule X) → is_plain r ≡ true → (at : ℕ) (k : Kind) (q : State) (rest : List Lexeme) → begins (first r) rest ≡ true → begins (k ∷ []) rest ≡ false
     → ((z : List Lexeme) → Alike (watched r) rest z → begins (k ∷ []) z ≡ false → read r (record { end = at; rest = z }) ≡ stuck k (record { end = q.end; rest = z })) → ⊥
 not_at_once r ok at k q [] b f stays = cc
 not_at_once {X} r ok at k q (t ∷ rest) b f stays =
@@ -103,7 +103,7 @@ not_at_once {X} r ok at k q (t ∷ rest) b f stays =
     let there : read r (record { end = at; rest = t ∷ s.1 }) ≡ stuck k (record { end = q.end; rest = t ∷ s.1 }) = stays (t ∷ s.1) (λ i m. refl) f in
     no_two (read r (record { end = at; rest = t ∷ s.1 })) k (record { end = q.end; rest = t ∷ s.1 }) s.0 (record { end = end_of at (t ∷ s.1); rest = [] }) there here
 
-stopped_some : {X : Type 0} (r : Rule X) → is_plain r ≡ true → (p q : Place) (k : Kind) → begins (first r) p.rest ≡ true → (s : Stopped r p k q) → s.0 ≡ [] → ⊥
+stopped_some : {X : Type 0} (r : Rule X) → is_plain r ≡ true → (p q : State) (k : Kind) → begins (first r) p.rest ≡ true → (s : Stopped r p k q) → s.0 ≡ [] → ⊥
 stopped_some r ok p q k b s e =
     let same : p.rest ≡ q.rest = s.1 ∙ ap (λ zs. zs ++ q.rest) e in
     not_at_once r ok p.end k q q.rest (sym (ap (begins (first r)) same) ∙ b) s.2
@@ -129,7 +129,7 @@ stopped_none : (j : Kind) (at : ℕ) (ts : List Lexeme) → begins (j ∷ []) ts
     → Stopped (one j) (record { end = at; rest = ts }) j (record { end = at; rest = ts })
 stopped_none j at ts h = ([], refl, h, λ t e. ([], t, (e, refl), All-nil IsReal), λ z g i. one_stays j at z i)
 
-stopped_one : (j : Kind) (at : ℕ) (ts : List Lexeme) (k : Kind) (q : Place) → one_at j at ts ≡ stuck k q
+stopped_one : (j : Kind) (at : ℕ) (ts : List Lexeme) (k : Kind) (q : State) → one_at j at ts ≡ stuck k q
     → Stopped (one j) (record { end = at; rest = ts }) k q
 stopped_one j at [] k q e = subst (StoppedBy (one j) (record { end = at; rest = [] })) e (stopped_none j at [] refl)
 stopped_one j at (t ∷ ts) k q e = elim (chosen (same_kind t.kind j) _ _ _ e) [
@@ -138,7 +138,7 @@ stopped_one j at (t ∷ ts) k q e = elim (chosen (same_kind t.kind j) _ _ _ e) [
       (stopped_none j at (t ∷ ts) (rw (c.0) refl))
 ]
 
-stopped_front : {A B : Type 0} (a : Rule A) (b : Rule B) (p q : Place) (k : Kind) → Stopped a p k q
+stopped_front : {A B : Type 0} (a : Rule A) (b : Rule B) (p q : State) (k : Kind) → Stopped a p k q
     → Stopped (a ▸ b) p k q
 stopped_front a b p q k s =
     let tail = sample b in (
@@ -155,7 +155,7 @@ stopped_front a b p q k s =
           (s.4 z (alike_left (watched a) (watched b) q.rest z h) i),
     )
 
-stopped_behind : {A B : Type 0} (a : Rule A) (b : Rule B) (p s q : Place) (x : A) (k : Kind)
+stopped_behind : {A B : Type 0} (a : Rule A) (b : Rule B) (p s q : State) (x : A) (k : Kind)
     → is_settled a ≡ true → Took a p x s → Stopped b s k q → Stopped (a ▸ b) p k q
 stopped_behind a b p s q x k still ta sb = (
   ta.0 ++ sb.0,
@@ -169,7 +169,7 @@ stopped_behind a b p s q x k still ta sb = (
 )
 
 -- another rule that the same tokens begin
-stopped_by : {A B : Type 0} (a : Rule A) (b : Rule B) (p q : Place) (k : Kind) (s : Stopped a p k q)
+stopped_by : {A B : Type 0} (a : Rule A) (b : Rule B) (p q : State) (k : Kind) (s : Stopped a p k q)
     → ((x : A) (ts : List Lexeme) → Spells a x ts → (y : B) × Spells b y ts)
     → ((z : List Lexeme) → Alike (watched b) q.rest z → begins (k ∷ []) z ≡ false
     → read b (record { end = p.end; rest = s.0 ++ z }) ≡ stuck k (record { end = q.end; rest = z }))
@@ -182,27 +182,27 @@ stopped_by a b p q k s on same = (
   same,
 )
 
-stopped_left : {A : Type 0} (a b : Rule A) (p q : Place) (k : Kind) → begins (first a) p.rest ≡ true → Stopped a p k q
+stopped_left : {A : Type 0} (a b : Rule A) (p q : State) (k : Kind) → begins (first a) p.rest ≡ true → Stopped a p k q
     → Stopped (a or b) p k q
 stopped_left a b p q k c s = stopped_by a (a or b) p q k s (λ x ts m. (x, inl m))
     (λ z h i. rw (test_same (first a) p q s.0 z true s.1 (alike_left (first a) (watched a ++ watched b) q.rest z h) c)
     (s.4 z (alike_left (watched a) (watched b) q.rest z
     (alike_right (first a) (watched a ++ watched b) q.rest z h)) i))
 
-stopped_right : {A : Type 0} (a b : Rule A) (p q : Place) (k : Kind) → begins (first a) p.rest ≡ false
+stopped_right : {A : Type 0} (a b : Rule A) (p q : State) (k : Kind) → begins (first a) p.rest ≡ false
     → Stopped b p k q → Stopped (a or b) p k q
 stopped_right a b p q k c s = stopped_by b (a or b) p q k s (λ x ts m. (x, inr m))
     (λ z h i. rw (test_same (first a) p q s.0 z false s.1 (alike_left (first a) (watched a ++ watched b) q.rest z h) c)
     (s.4 z (alike_right (watched a) (watched b) q.rest z
     (alike_right (first a) (watched a ++ watched b) q.rest z h)) i))
 
-stopped_maybe : {A : Type 0} (a : Rule A) (p q : Place) (k : Kind) → begins (first a) p.rest ≡ true → Stopped a p k q
+stopped_maybe : {A : Type 0} (a : Rule A) (p q : State) (k : Kind) → begins (first a) p.rest ≡ true → Stopped a p k q
     → Stopped (maybe a) p k q
 stopped_maybe a p q k c s = stopped_by a (maybe a) p q k s (λ x ts m. (Some x, m))
     (λ z h i. rw (test_same (first a) p q s.0 z true s.1 (alike_left (first a) (watched a) q.rest z h) c)
     (ap (λ (o : Outcome _). o >>= λ x q. got (Some x) q) (s.4 z (alike_right (first a) (watched a) q.rest z h) i)))
 
-stopped_unless : {A : Type 0} (j i : Kind) (a : Rule A) → is_plain a ≡ true → (p q : Place) (k : Kind)
+stopped_unless : {A : Type 0} (j i : Kind) (a : Rule A) → is_plain a ≡ true → (p q : State) (k : Kind)
     → enters j i (first a) p.rest ≡ true → Stopped a p k q → Stopped (unless j i a) p k q
 stopped_unless j i a ok p q k c s = stopped_by a (unless j i a) p q k s (λ x ts m. (Some x, m))
     (λ z h f.
@@ -213,7 +213,7 @@ stopped_unless j i a ok p q k c s = stopped_by a (unless j i a) p q k s (λ x ts
     (ap (λ (o : Outcome _). o >>= λ x q. got (Some x) q)
     (s.4 z (alike_right (j ∷ i ∷ first a) (watched a) q.rest z h) f)))
 
-abbrev StoppedEach : {A : Type 0} → Rule A → ℕ → Place → Kind → Place → Type 0
+abbrev StoppedEach : {A : Type 0} → Rule A → ℕ → State → Kind → State → Type 0
 StoppedEach {A} a n p k q = (ts : List Lexeme) × (p.rest ≡ ts ++ q.rest) × (begins (k ∷ []) q.rest ≡ false)
     × ((t : Lexeme) → t.kind ≡ k → (after : List Lexeme) × (xs : List A) × Each (Spells a) xs (ts ++ t ∷ after)
     × All IsReal after)
@@ -228,7 +228,7 @@ some_left ks (t ∷ ts) zero h le = absurd (omega arith)
 some_left ks (t ∷ ts) (suc n) h le = (n, refl)
 
 -- at the first of them
-stopped_first : {A : Type 0} (a : Rule A) → is_plain a ≡ true → (n : ℕ) (p q : Place) (k : Kind) → begins (first a) p.rest ≡ true
+stopped_first : {A : Type 0} (a : Rule A) → is_plain a ≡ true → (n : ℕ) (p q : State) (k : Kind) → begins (first a) p.rest ≡ true
     → Stopped a p k q → StoppedEach a n p k q
 stopped_first a ok n p q k c s = (
   s.0,
@@ -244,7 +244,7 @@ stopped_first a ok n p q k c s = (
   stopped_some a ok p q k c s,
 )
 
-stopped_later : {A : Type 0} (a : Rule A) → is_empty a ≡ false → (n : ℕ) (p s q : Place) (x : A) (k : Kind)
+stopped_later : {A : Type 0} (a : Rule A) → is_empty a ≡ false → (n : ℕ) (p s q : State) (x : A) (k : Kind)
     → begins (first a) p.rest ≡ true → Took a p x s → StoppedEach a n s k q → StoppedEach a (suc n) p k q
 stopped_later a full n p s q x k c ta sb = (
   ta.0 ++ sb.0,
@@ -259,9 +259,9 @@ stopped_later a full n p s q x k c ta sb = (
 )
 
 stopped_each : {A : Type 0} (a : Rule A) → is_plain a ≡ true → is_empty a ≡ false
-    → ((p q : Place) (x : A) → read a p ≡ got x q → Took a p x q)
-    → ((p q : Place) (k : Kind) → read a p ≡ stuck k q → Stopped a p k q)
-    → (n : ℕ) (p q : Place) (k : Kind) → length p.rest ≤ n → repeat (first a) (read a) n p ≡ stuck k q
+    → ((p q : State) (x : A) → read a p ≡ got x q → Took a p x q)
+    → ((p q : State) (k : Kind) → read a p ≡ stuck k q → Stopped a p k q)
+    → (n : ℕ) (p q : State) (k : Kind) → length p.rest ≤ n → repeat (first a) (read a) n p ≡ stuck k q
     → StoppedEach a n p k q
 stopped_each a ok full ta sa zero p q k le e = absurd cc
 stopped_each a ok full ta sa (suc n) p q k le e = elim (chosen (begins (first a) p.rest) _ _ _ e) [
@@ -277,7 +277,7 @@ stopped_each a ok full ta sa (suc n) p q k le e = elim (chosen (begins (first a)
   ]
 ]
 
-pub stopped : {X : Type 0} (r : Rule X) → is_plain r ≡ true → (p q : Place) (k : Kind) → read r p ≡ stuck k q
+pub stopped : {X : Type 0} (r : Rule X) → is_plain r ≡ true → (p q : State) (k : Kind) → read r p ≡ stuck k q
     → Stopped r p k q
 stopped (one j) ok p q k e = stopped_one j p.end p.rest k q e
 stopped (a ▸ b) ok p q k e =
@@ -332,6 +332,6 @@ stopped (node f a) ok p q k e = let i = and_parts _ _ ok in elim (bind_stuck (re
 ]
 
 -- reading takes tokens
-pub less : {A : Type 0} (a : Rule A) → is_plain a ≡ true → is_empty a ≡ false → (p q : Place) (x : A)
+pub less : {A : Type 0} (a : Rule A) → is_plain a ≡ true → is_empty a ≡ false → (p q : State) (x : A)
     → read a p ≡ got x q → length q.rest < length p.rest
 less a ok full p q x e = let t : Took a p x q = took a ok p q x e in fewer a full t.0 p.rest q.rest x t.3 t.1

@@ -1,7 +1,7 @@
 -- What was read is spelled, and is read in the same way where what is left begins alike.
 use Rattle.std.proofs.lemmas.Bool.Decides.{nat_tests}
 use Rattle.std.proofs.lemmas.Grind.{common_steps}
-use Rattle.dl_parser.proofs.Common.{◌≡◌, ℕ, zero, suc, ◌≤◌, ◌<◌, Bool, true, false, cond, ◌&&◌, ◌||◌, List, [], ◌∷◌, ◌++◌, length, Some, None, refl, sym, ap, ◌∙◌, subst, inl, inr, arith, append_assoc, length-append, Kind, Lexeme, Rule, one, ◌▸◌, ◌or◌, maybe, many, unless, made, node, Each, Spells, end_of, span_of, Place, Outcome, got, stuck, ◌>>=◌, same_kind, among, begins, start_of, is_empty, first, watched, two_at, enters, is_settled, one_at, repeat, read, is_plain, and_parts}
+use Rattle.dl_parser.proofs.Common.{◌≡◌, ℕ, zero, suc, ◌≤◌, ◌<◌, Bool, true, false, cond, ◌&&◌, ◌||◌, List, [], ◌∷◌, ◌++◌, length, Some, None, refl, sym, ap, ◌∙◌, subst, inl, inr, arith, append_assoc, length-append, Kind, Lexeme, Rule, one, ◌▸◌, ◌or◌, maybe, many, unless, made, node, Each, Spells, end_of, span_of, State, Outcome, got, stuck, ◌>>=◌, same_kind, among, begins, start_of, is_empty, first, watched, two_at, enters, is_settled, one_at, repeat, read, is_plain, and_parts}
 use Rattle.dl_parser.specs.Reading.{settles}
 use Rattle.dl_parser.proofs.Sets.{same_is, same_self}
 use Rattle.dl_parser.proofs.Starts.{true_right, among_left, among_right, bind_got, chosen, end_append, spelled_empty}
@@ -107,20 +107,20 @@ pend_mid r (t ∷ ts) us vs h b c g = pend_behind r t ts us vs g
 pub in_parts : (ts us vs ws zs : List Lexeme) → ws ≡ ts ++ vs → vs ≡ us ++ zs → ws ≡ (ts ++ us) ++ zs
 in_parts ts us vs ws zs e f = e ∙ ap (λ ys. ts ++ ys) f ∙ sym (append_assoc ts us zs)
 
-abbrev pub Took : {X : Type 0} → Rule X → Place → X → Place → Type 0
+abbrev pub Took : {X : Type 0} → Rule X → State → X → State → Type 0
 Took r p x q = (ts : List Lexeme) × (p.rest ≡ ts ++ q.rest) × (q.end ≡ end_of p.end ts) × Spells r x ts
     × ((z : List Lexeme) → Alike (watched r) q.rest z → Pend r q.rest z
     → read r (record { end = p.end; rest = ts ++ z }) ≡ got x (record { end = q.end; rest = z }))
 
-abbrev TookBy : {X : Type 0} → Rule X → Place → Outcome X → Type 0
+abbrev TookBy : {X : Type 0} → Rule X → State → Outcome X → Type 0
 TookBy r p (got x q) = Took r p x q
 TookBy r p (stuck k q) = Unit {0}
 
-took_as : {X : Type 0} (r : Rule X) (p : Place) (x y : X) (q s : Place) → got x q ≡ got y s → Took r p x q
+took_as : {X : Type 0} (r : Rule X) (p : State) (x y : X) (q s : State) → got x q ≡ got y s → Took r p x q
     → Took r p y s
 took_as r p x y q s e t = subst (TookBy r p) e t
 
-took_one : (k : Kind) (at : ℕ) (ts : List Lexeme) (x : Lexeme) (q : Place) → one_at k at ts ≡ got x q
+took_one : (k : Kind) (at : ℕ) (ts : List Lexeme) (x : Lexeme) (q : State) → one_at k at ts ≡ got x q
     → Took (one k) (record { end = at; rest = ts }) x q
 took_one k at [] x q e = absurd cc
 took_one k at (t ∷ ts) x q e = elim (chosen (same_kind t.kind k) _ _ _ e) [
@@ -129,7 +129,7 @@ took_one k at (t ∷ ts) x q e = elim (chosen (same_kind t.kind k) _ _ _ e) [
   | inr c ↦ absurd cc
 ]
 
-took_seq : {A B : Type 0} (a : Rule A) (b : Rule B) (p s q : Place) (x : A) (y : B) → is_settled a ≡ true
+took_seq : {A B : Type 0} (a : Rule A) (b : Rule B) (p s q : State) (x : A) (y : B) → is_settled a ≡ true
     → Took a p x s → Took b s y q
     → Took (a ▸ b) p (x, y) q
 took_seq a b p s q x y still ta tb = (
@@ -144,27 +144,27 @@ took_seq a b p s q x y still ta tb = (
 )
 
 -- the test of the next token comes out the same
-pub test_same : (ks : List Kind) (p q : Place) (ts z : List Lexeme) (b : Bool) → p.rest ≡ ts ++ q.rest
+pub test_same : (ks : List Kind) (p q : State) (ts z : List Lexeme) (b : Bool) → p.rest ≡ ts ++ q.rest
     → Alike ks q.rest z → begins ks p.rest ≡ b → begins ks (ts ++ z) ≡ b
 test_same ks p q ts z b e h t = grind (arith, alike_begins ks (ts ++ q.rest) (ts ++ z) (alike_behind ks ts q.rest z h))
 
-abbrev TookEach : {A : Type 0} → Rule A → ℕ → Place → List A → Place → Type 0
+abbrev TookEach : {A : Type 0} → Rule A → ℕ → State → List A → State → Type 0
 TookEach a n p xs q = (ts : List Lexeme) × (p.rest ≡ ts ++ q.rest) × (q.end ≡ end_of p.end ts) × Each (Spells a) xs ts
     × ((z : List Lexeme) (m : ℕ) → length (ts ++ z) ≤ m → Alike (first a ++ watched a) q.rest z
     → repeat (first a) (read a) m (record { end = p.end; rest = ts ++ z }) ≡ got xs
     (record { end = q.end; rest = z }))
     × (begins (first a) q.rest ≡ false)
 
-abbrev TookEachBy : {A : Type 0} → Rule A → ℕ → Place → Outcome (List A) → Type 0
+abbrev TookEachBy : {A : Type 0} → Rule A → ℕ → State → Outcome (List A) → Type 0
 TookEachBy a n p (got xs q) = TookEach a n p xs q
 TookEachBy a n p (stuck k q) = Unit {0}
 
-took_none : {A : Type 0} (a : Rule A) (n : ℕ) (p : Place) → begins (first a) p.rest ≡ false → TookEach a n p [] p
+took_none : {A : Type 0} (a : Rule A) (n : ℕ) (p : State) → begins (first a) p.rest ≡ false → TookEach a n p [] p
 took_none a n p h = grind (arith, nat_tests, common_steps, whole_none, alike_begins, alike_left)
 
 -- one of them, and the others behind it: what is made of them is what the others give, with the one in front
 goes_through : {A : Type 0} (a : Rule A) → is_empty a ≡ false
-    → (p s : Place) (x : A) (o : Outcome (List A)) (us vs : List Lexeme) (m : ℕ) → Spells a x us
+    → (p s : State) (x : A) (o : Outcome (List A)) (us vs : List Lexeme) (m : ℕ) → Spells a x us
     → begins (first a) (us ++ vs) ≡ true
     → read a (record { end = p.end; rest = us ++ vs }) ≡ got x (record { end = s.end; rest = vs })
     → ((j : ℕ) → length vs ≤ j → repeat (first a) (read a) j (record { end = s.end; rest = vs }) ≡ o)
@@ -175,7 +175,7 @@ goes_through a full p s x o (u ∷ us) vs zero sp t ra rest le = absurd (omega a
 goes_through a full p s x o (u ∷ us) vs (suc m) sp t ra rest le = grind (arith, length-append us vs, bind_of)
 
 pub one_more : {A : Type 0} (a : Rule A) → is_empty a ≡ false
-    → (p s q : Place) (x : A) (o : Outcome (List A)) (t : Took a p x s) (ts z : List Lexeme) (m : ℕ)
+    → (p s q : State) (x : A) (o : Outcome (List A)) (t : Took a p x s) (ts z : List Lexeme) (m : ℕ)
     → begins (first a) p.rest ≡ true → s.rest ≡ ts ++ q.rest → length ((t.0 ++ ts) ++ z) ≤ m
     → Alike (first a ++ watched a) q.rest z → Pend a s.rest (ts ++ z)
     → ((j : ℕ) → length (ts ++ z) ≤ j → repeat (first a) (read a) j (record { end = s.end; rest = ts ++ z }) ≡ o)
@@ -189,7 +189,7 @@ one_more a full p s q x o t ts z m c e le h pend rest =
     (t.4 (ts ++ z) (alike_with (watched a) ts q.rest z s.rest e (alike_right (first a) (watched a) q.rest z h)) pend)
     rest (subst (λ zs. length zs ≤ m) same le)
 
-took_some : {A : Type 0} (a : Rule A) → is_empty a ≡ false → settles (first a) a ≡ true → (n : ℕ) (p s q : Place) (x : A) (xs : List A)
+took_some : {A : Type 0} (a : Rule A) → is_empty a ≡ false → settles (first a) a ≡ true → (n : ℕ) (p s q : State) (x : A) (xs : List A)
     → begins (first a) p.rest ≡ true → Took a p x s → TookEach a n s xs q → TookEach a (suc n) p (x ∷ xs) q
 took_some a full still n p s q x xs c ta tb = (
   ta.0 ++ tb.0,
@@ -219,7 +219,7 @@ fewer a full [] us vs x s e = absurd (not_both _ (spelled_empty a x [] refl s) f
 fewer a full (t ∷ ts) us vs x s e = omega (arith, ap length e, length-append ts vs)
 
 took_each : {A : Type 0} (a : Rule A) → is_empty a ≡ false → settles (first a) a ≡ true
-    → ((p q : Place) (x : A) → read a p ≡ got x q → Took a p x q) → (n : ℕ) (p q : Place) (xs : List A)
+    → ((p q : State) (x : A) → read a p ≡ got x q → Took a p x q) → (n : ℕ) (p q : State) (xs : List A)
     → length p.rest ≤ n
     → repeat (first a) (read a) n p ≡ got xs q → TookEach a n p xs q
 took_each a full still ta zero p q xs le e = grind (arith, took_none a zero p (none_left (first a) p.rest le))
@@ -236,33 +236,33 @@ took_each a full still ta (suc n) p q xs le e = elim (chosen (begins (first a) p
 ]
 
 -- another rule that the same tokens spell
-took_by : {A B : Type 0} (a : Rule A) (b : Rule B) (p q : Place) (x : A) (y : B) (t : Took a p x q) → Spells b y t.0
+took_by : {A B : Type 0} (a : Rule A) (b : Rule B) (p q : State) (x : A) (y : B) (t : Took a p x q) → Spells b y t.0
     → ((z : List Lexeme) → Alike (watched b) q.rest z → Pend b q.rest z
     → read b (record { end = p.end; rest = t.0 ++ z }) ≡ got y (record { end = q.end; rest = z }))
     → Took b p y q
 took_by a b p q x y t spelled same = (t.0, t.1, t.2, spelled, same)
 
-took_left : {A : Type 0} (a b : Rule A) (p q : Place) (x : A) → begins (first a) p.rest ≡ true → Took a p x q
+took_left : {A : Type 0} (a b : Rule A) (p q : State) (x : A) → begins (first a) p.rest ≡ true → Took a p x q
     → Took (a or b) p x q
 took_left a b p q x c t = took_by a (a or b) p q x x t (inl t.3)
     (λ z h g. rw (test_same (first a) p q t.0 z true t.1 (alike_left (first a) (watched a ++ watched b) q.rest z h) c)
     (t.4 z (alike_left (watched a) (watched b) q.rest z
     (alike_right (first a) (watched a ++ watched b) q.rest z h)) g.0))
 
-took_right : {A : Type 0} (a b : Rule A) (p q : Place) (x : A) → begins (first a) p.rest ≡ false → Took b p x q
+took_right : {A : Type 0} (a b : Rule A) (p q : State) (x : A) → begins (first a) p.rest ≡ false → Took b p x q
     → Took (a or b) p x q
 took_right a b p q x c t = took_by b (a or b) p q x x t (inr t.3)
     (λ z h g. rw (test_same (first a) p q t.0 z false t.1 (alike_left (first a) (watched a ++ watched b) q.rest z h) c)
     (t.4 z (alike_right (watched a) (watched b) q.rest z
     (alike_right (first a) (watched a ++ watched b) q.rest z h)) g.1))
 
-took_some_of : {A : Type 0} (a : Rule A) (p q : Place) (x : A) → begins (first a) p.rest ≡ true → Took a p x q
+took_some_of : {A : Type 0} (a : Rule A) (p q : State) (x : A) → begins (first a) p.rest ≡ true → Took a p x q
     → Took (maybe a) p (Some x) q
 took_some_of a p q x c t = took_by a (maybe a) p q x (Some x) t t.3
     (λ z h g. rw (test_same (first a) p q t.0 z true t.1 (alike_left (first a) (watched a) q.rest z h) c)
     (bind_of _ _ x _ _ (t.4 z (alike_right (first a) (watched a) q.rest z h) g) refl))
 
-took_none_of : {A : Type 0} (a : Rule A) (p : Place) → begins (first a) p.rest ≡ false → Took (maybe a) p None p
+took_none_of : {A : Type 0} (a : Rule A) (p : State) → begins (first a) p.rest ≡ false → Took (maybe a) p None p
 took_none_of a p c = (
   [],
   refl,
@@ -280,13 +280,13 @@ two_on j k [] us vs h g = h
 two_on j k (t ∷ ts) us vs h g = two_behind j k t ts us vs g
 
 -- a look at two tokens comes out the same
-pub test_two : (j k : Kind) (ks : List Kind) (p q : Place) (ts z : List Lexeme) (b : Bool) → p.rest ≡ ts ++ q.rest → Alike (j ∷ k ∷ ks) q.rest z → two_at j k (ts ++ q.rest) ≡ two_at j k (ts ++ z) → enters j k ks p.rest ≡ b → enters j k ks (ts ++ z) ≡ b
+pub test_two : (j k : Kind) (ks : List Kind) (p q : State) (ts z : List Lexeme) (b : Bool) → p.rest ≡ ts ++ q.rest → Alike (j ∷ k ∷ ks) q.rest z → two_at j k (ts ++ q.rest) ≡ two_at j k (ts ++ z) → enters j k ks p.rest ≡ b → enters j k ks (ts ++ z) ≡ b
 test_two j k ks p q ts z b e h g t = enters_same j k ks (ts ++ q.rest) (ts ++ z) b g (alike_begins ks (ts ++ q.rest) (ts ++ z) (alike_behind ks ts q.rest z (alike_right (j ∷ k ∷ []) ks q.rest z h))) (ap (enters j k ks) (sym e) ∙ t)
 
 pub alike_two : (j k : Kind) (ks : List Kind) (us vs : List Lexeme) → Alike (j ∷ k ∷ ks) us vs → begins (k ∷ []) us ≡ begins (k ∷ []) vs
 alike_two j k ks us vs h = h k (rw (same_self k k refl) (true_right (same_kind k j) true refl))
 
-took_unless_some : {A : Type 0} (j k : Kind) (a : Rule A) (p q : Place) (x : A) → enters j k (first a) p.rest ≡ true → Took a p x q → Took (unless j k a) p (Some x) q
+took_unless_some : {A : Type 0} (j k : Kind) (a : Rule A) (p q : State) (x : A) → enters j k (first a) p.rest ≡ true → Took a p x q → Took (unless j k a) p (Some x) q
 took_unless_some j k a p q x c t = (
   t.0,
   t.1,
@@ -298,7 +298,7 @@ took_unless_some j k a p q x c t = (
       (bind_of _ _ x _ _ (t.4 z (alike_right (j ∷ k ∷ first a) (watched a) q.rest z h) g.1) refl),
 )
 
-took_unless_none : {A : Type 0} (j k : Kind) (a : Rule A) (p : Place) → enters j k (first a) p.rest ≡ false → Took (unless j k a) p None p
+took_unless_none : {A : Type 0} (j k : Kind) (a : Rule A) (p : State) → enters j k (first a) p.rest ≡ false → Took (unless j k a) p None p
 took_unless_none j k a p c = (
   [],
   refl,
@@ -308,7 +308,7 @@ took_unless_none j k a p c = (
       rw (test_two j k (first a) p p [] z false refl (alike_left (j ∷ k ∷ first a) (watched a) p.rest z h) g.0 c) refl,
 )
 
-pub took : {X : Type 0} (r : Rule X) → is_plain r ≡ true → (p q : Place) (x : X) → read r p ≡ got x q → Took r p x q
+pub took : {X : Type 0} (r : Rule X) → is_plain r ≡ true → (p q : State) (x : X) → read r p ≡ got x q → Took r p x q
 took (one k) ok p q x e = took_one k p.end p.rest x q e
 took (a ▸ b) ok p q v e =
     let k = and_parts _ _ ok in

@@ -1,7 +1,7 @@
 -- From reading to what a parse says.
 use Rattle.std.proofs.lemmas.Bool.Decides.{nat_tests}
 use Rattle.std.proofs.lemmas.Grind.{common_steps}
-use Rattle.dl_parser.proofs.Common.{◌≡◌, ℕ, zero, suc, ◌+◌, ◌≤◌, ◌<◌, Bool, true, false, cond, ◌&&◌, List, [], ◌∷◌, ◌++◌, length, take, drop, refl, sym, ap, ◌∙◌, subst, ◌⊎◌, inl, inr, arith, append_assoc, length-append, All, append-nil, All-nil, All-cons, and_parts, Kind, Word, Lexeme, IsReal, Spells, end_of, numeral, name, note, limit, layer, reference, side, count, zero_change, freq, claims, premium, common, head, item, next_item, items, list, atom, weighted, mixture, cost, sev, defined, sevdef, cession, next_cession, layers, clause, ratio, exposure, loss, ending, closing, exposed, listed, counted, body, unit, units, book, token_of, token_kind, token_real, Place, Outcome, got, stuck, same_kind, among, begins, watched, read, apart, plain}
+use Rattle.dl_parser.proofs.Common.{◌≡◌, ℕ, zero, suc, ◌+◌, ◌≤◌, ◌<◌, Bool, true, false, cond, ◌&&◌, List, [], ◌∷◌, ◌++◌, length, take, drop, refl, sym, ap, ◌∙◌, subst, ◌⊎◌, inl, inr, arith, append_assoc, length-append, All, append-nil, All-nil, All-cons, and_parts, Kind, Word, Lexeme, IsReal, Spells, end_of, numeral, name, note, limit, layer, reference, side, count, zero_change, freq, claims, premium, common, head, item, next_item, items, list, atom, weighted, mixture, cost, sev, defined, sevdef, cession, next_cession, layers, clause, ratio, exposure, loss, ending, closing, exposed, listed, counted, body, unit, units, book, token_of, token_kind, token_real, State, Outcome, got, stuck, same_kind, among, begins, watched, read, apart, plain}
 use Rattle.std.proofs.lemmas.Bool.{cases_lt}
 use Rattle.dl_lexer.specs.declared.token.Keyword.TheVariants as words
 use Rattle.dl_ast.specs.declared.ast.Program.{Program}
@@ -15,7 +15,7 @@ use Rattle.dl_parser.proofs.Took.{pend_settled, took, Took, Alike}
 use Rattle.dl_parser.proofs.Stopped.{nothing_on, stopped, Stopped}
 use Rattle.dl_parser.proofs.Written.{program_alike}
 
-abbrev at_start : List Lexeme → Place
+abbrev at_start : List Lexeme → State
 at_start ts = record { end = 0; rest = ts }
 
 -- a program's tokens are read as that program, to their end
@@ -111,11 +111,11 @@ rest_of : Outcome Program → List Lexeme
 rest_of (got p q) = q.rest
 rest_of (stuck k q) = q.rest
 
-rest_got : (p : Program) (q : Place) → rest_of (got p q) ≡ q.rest
+rest_got : (p : Program) (q : State) → rest_of (got p q) ≡ q.rest
 unfolding rest_of
 rest_got p q = refl
 
-two_rests : (p x : Program) (q s : Place) → got p q ≡ got x s → q.rest ≡ s.rest
+two_rests : (p x : Program) (q s : State) → got p q ≡ got x s → q.rest ≡ s.rest
 two_rests p x q s e = sym (rest_got p q) ∙ ap rest_of e ∙ rest_got x s
 
 -- the word of a continuous severity stands there
@@ -128,7 +128,7 @@ goes_on_with : (us rest : List Lexeme) → (c : IsContinuous (us ++ rest) (lengt
 goes_on_with us rest c = subst (λ zs. Begins (zs ++ c.discrete ∷ [])) (front_is us rest) c.viable
 
 -- a program, and then other tokens
-trailing : (us rest : List Lexeme) (x : Program) (q : Place) → q.rest ≡ rest → 0 < length rest → Spells program x us
+trailing : (us rest : List Lexeme) (x : Program) (q : State) → q.rest ≡ rest → 0 < length rest → Spells program x us
     → read factored.program (at_start (us ++ rest)) ≡ got x q
     → ((z : List Lexeme) → Alike (watched factored.program) rest z
     → read factored.program (record { end = 0; rest = us ++ z }) ≡ got x (record { end = q.end; rest = z }))
@@ -150,7 +150,7 @@ trailing us rest x q e some sp r stays =
     )
 
 -- tokens that go on in no program
-stuck_not : (us rest : List Lexeme) (k : Kind) (q : Place) → read factored.program (at_start (us ++ rest)) ≡ stuck k q
+stuck_not : (us rest : List Lexeme) (k : Kind) (q : State) → read factored.program (at_start (us ++ rest)) ≡ stuck k q
     → (p : Program) → Spells program p (us ++ rest) → ⊥
 stuck_not us rest k q r p s = let two : stuck k q ≡ got p _ = sym r ∙ reads_all p (us ++ rest) s in cc
 
@@ -158,11 +158,11 @@ abbrev Goes : List Lexeme → Kind → Type 0
 Goes us k = (t : Lexeme) → t.kind ≡ k → (after : List Lexeme) × (x : Program) × Spells program x (us ++ t ∷ after)
     × All IsReal after
 
-abbrev Stays : List Lexeme → List Lexeme → Kind → Place → Type 0
+abbrev Stays : List Lexeme → List Lexeme → Kind → State → Type 0
 Stays us rest k q = (z : List Lexeme) → Alike (watched factored.program) rest z → begins (k ∷ []) z ≡ false
     → read factored.program (record { end = 0; rest = us ++ z }) ≡ stuck k (record { end = q.end; rest = z })
 
-stuck_over : (us rest : List Lexeme) (k : Kind) (q : Place) → Stays us rest k q
+stuck_over : (us rest : List Lexeme) (k : Kind) (q : State) → Stays us rest k q
     → (t : Lexeme) (more : List Lexeme) (p : Program) → Alike (watched factored.program) rest (t ∷ more)
     → begins (k ∷ []) (t ∷ more) ≡ false
     → Spells program p (us ++ t ∷ more) → ⊥
@@ -174,7 +174,7 @@ begun_by us k goes =
     let g = goes (token_of k) (token_kind k) in
     record { rest = g.0; real = g.3; begun = g.1; spelled = rw append_assoc g.2 }
 
-stuck_stops : (us rest : List Lexeme) (k : Kind) (q : Place) → begins (k ∷ []) rest ≡ false
+stuck_stops : (us rest : List Lexeme) (k : Kind) (q : State) → begins (k ∷ []) rest ≡ false
     → read factored.program (at_start (us ++ rest)) ≡ stuck k q → Goes us k → Stays us rest k q
     → Stops (us ++ rest) (length us)
 stuck_stops us rest k q f r goes stays =
@@ -214,7 +214,7 @@ and_left : (b c : Bool) → (b && c) ≡ false → c ≡ true → b ≡ false
 and_left false c h e = refl
 and_left true c h e = cc
 
-not_continuous : (us rest : List Lexeme) (k : Kind) (q : Place) → Stays us rest k q
+not_continuous : (us rest : List Lexeme) (k : Kind) (q : State) → Stays us rest k q
     → (same_kind k (Word words.Dhistogram) && begins continuous rest) ≡ false → IsContinuous (us ++ rest) (length us)
     → ⊥
 not_continuous us rest k q stays n c =
@@ -228,7 +228,7 @@ not_continuous us rest k q stays n c =
     (sym (same_is t.kind k e) ∙ c.dhistogram) in cc)) refl)
     (rw append_assoc at b.spelled)
 
-stuck_refused : (us rest : List Lexeme) (k : Kind) (q : Place) → begins (k ∷ []) rest ≡ false
+stuck_refused : (us rest : List Lexeme) (k : Kind) (q : State) → begins (k ∷ []) rest ≡ false
     → read factored.program (at_start (us ++ rest)) ≡ stuck k q → Goes us k → Stays us rest k q
     → (b : Bool) → (same_kind k (Word words.Dhistogram) && begins continuous rest) ≡ b
     → IsRefused (us ++ rest) (cond b (faults.Continuous (length us)) (faults.Syntax (length us)))
@@ -239,14 +239,14 @@ stuck_refused us rest k q f r goes stays false e =
 
 -- the three ends of a parse
 
-pub read_whole : (ts : List Lexeme) (x : Program) (q : Place) → read factored.program (at_start ts) ≡ got x q
+pub read_whole : (ts : List Lexeme) (x : Program) (q : State) → read factored.program (at_start ts) ≡ got x q
     → q.rest ≡ [] → Spells program x ts
 read_whole ts x q r e =
     let t : Took factored.program (at_start ts) x q = took factored.program plain.whole (at_start ts) q x r in
     let same : ts ≡ t.0 = t.1 ∙ ap (λ zs. t.0 ++ zs) e ∙ append-nil t.0 in
     subst (Spells program x) (sym same) (program_alike.to x t.0 t.3)
 
-pub read_further : (ts : List Lexeme) (x : Program) (q : Place) (n : ℕ) → read factored.program (at_start ts) ≡ got x q
+pub read_further : (ts : List Lexeme) (x : Program) (q : State) (n : ℕ) → read factored.program (at_start ts) ≡ got x q
     → 0 < length q.rest → n + length q.rest ≡ length ts → IsRefused ts (faults.Syntax n)
 read_further ts x q n r some e =
     let t : Took factored.program (at_start ts) x q = took factored.program plain.whole (at_start ts) q x r in
@@ -257,7 +257,7 @@ read_further ts x q n r some e =
     (subst (λ zs. read factored.program (at_start zs) ≡ got x q) t.1 r)
     (λ z h. t.4 z h (pend_settled factored.program q.rest z plain.settled))))
 
-pub read_stuck : (ts : List Lexeme) (k : Kind) (q : Place) (n : ℕ) → read factored.program (at_start ts) ≡ stuck k q
+pub read_stuck : (ts : List Lexeme) (k : Kind) (q : State) (n : ℕ) → read factored.program (at_start ts) ≡ stuck k q
     → n + length q.rest ≡ length ts
     → IsRefused ts (cond (same_kind k (Word words.Dhistogram) && begins continuous q.rest) (faults.Continuous n)
     (faults.Syntax n))
@@ -275,16 +275,16 @@ pub one_program : (p q : Program) (ts : List Lexeme) → Spells program p ts →
 one_program p q ts s t = let two : got p _ ≡ got q _ = sym (reads_all p ts s) ∙ reads_all q ts t in cc
 
 -- what is left is no longer than all
-pub left_got : (ts : List Lexeme) (x : Program) (q : Place) → read factored.program (at_start ts) ≡ got x q
+pub left_got : (ts : List Lexeme) (x : Program) (q : State) → read factored.program (at_start ts) ≡ got x q
     → length q.rest ≤ length ts
 left_got ts x q r = let t : Took factored.program (at_start ts) x q =
     took factored.program plain.whole (at_start ts) q x r in omega (arith, ap length t.1, length-append t.0 q.rest)
 
-pub left_stuck : (ts : List Lexeme) (k : Kind) (q : Place) → read factored.program (at_start ts) ≡ stuck k q
+pub left_stuck : (ts : List Lexeme) (k : Kind) (q : State) → read factored.program (at_start ts) ≡ stuck k q
     → length q.rest ≤ length ts
 left_stuck ts k q r = let s : Stopped factored.program (at_start ts) k q =
     stopped factored.program plain.whole (at_start ts) q k r in omega (arith, ap length s.1, length-append s.0 q.rest)
 
 -- tokens stop at one place
-pub one_place : (ts : List Lexeme) (j k : ℕ) → Stops ts j → Stops ts k → j ≡ k
-one_place ts j k a b = omega (arith, a.greatest k b.within b.viable, b.greatest j a.within a.viable)
+pub one_stop : (ts : List Lexeme) (j k : ℕ) → Stops ts j → Stops ts k → j ≡ k
+one_stop ts j k a b = omega (arith, a.greatest k b.within b.viable, b.greatest j a.within a.viable)

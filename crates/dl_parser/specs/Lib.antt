@@ -1,6 +1,6 @@
 pub mod Reading
 pub mod Factored
 pub mod Plain
-pub mod Placed
+pub mod Within
 pub mod Parsing
 pub mod Viable

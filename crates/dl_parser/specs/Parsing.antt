@@ -6,37 +6,37 @@ use Rattle.dl_parser.specs.declared.stop.Stop.{Stop}
 use Rattle.dl_parser.specs.declared.stop.Stop.TheVariants.{Wanted, OutOfMemory}
 use Rattle.dl_ast.specs.Lexemes.{Lexeme, lexeme, lexemes}
 use Rattle.dl_ast.specs.Rules.{Rule}
-use Rattle.dl_parser.specs.Reading.{Place, got, stuck, read}
+use Rattle.dl_parser.specs.Reading.{State, got, stuck, read}
 
 -- the place of a parser
-abbrev pub place : Parser → Place
-place p = record { end = p.end; rest = lexemes p.source.now p.rest.now }
+abbrev pub state : Parser → State
+state p = record { end = p.end; rest = lexemes p.source.now p.rest.now }
 
 -- What a method returns is what reading by the rule gives, and the parser's place is that of the
 -- reader.
 abbrev pub ReadsBy : {X : Type 0} → Rule X → Parser → Parser → Result X Stop → Type 0
-ReadsBy r old new (Ok x) = read r (place old) ≡ got x (place new)
-ReadsBy r old new (Err (Wanted kind)) = read r (place old) ≡ stuck kind (place new)
+ReadsBy r old new (Ok x) = read r (state old) ≡ got x (state new)
+ReadsBy r old new (Err (Wanted kind)) = read r (state old) ≡ stuck kind (state new)
 ReadsBy r old new (Err OutOfMemory) = Unit {0}
 
 -- the same of a token
 abbrev pub TakesBy : Rule Lexeme → Parser → Parser → Result Token Stop → Type 0
-TakesBy r old new (Ok t) = read r (place old) ≡ got (lexeme old.source.now t) (place new)
-TakesBy r old new (Err (Wanted k)) = read r (place old) ≡ stuck k (place new)
+TakesBy r old new (Ok t) = read r (state old) ≡ got (lexeme old.source.now t) (state new)
+TakesBy r old new (Err (Wanted k)) = read r (state old) ≡ stuck k (state new)
 TakesBy r old new (Err OutOfMemory) = ⊥
 
 -- the same where what is read comes behind what is there
 abbrev pub Adds : {A : Type 0} → Rule (List A) → Parser → Parser → List A → List A
     → Result Unit Stop → Type 0
 Adds {A} r old new xs ys (Ok _) = (zs : List A) × (ys ≡ xs ++ zs) ×
-    (read r (place old) ≡ got zs (place new))
-Adds r old new xs ys (Err (Wanted k)) = read r (place old) ≡ stuck k (place new)
+    (read r (state old) ≡ got zs (state new))
+Adds r old new xs ys (Err (Wanted k)) = read r (state old) ≡ stuck k (state new)
 Adds r old new xs ys (Err OutOfMemory) = Unit {0}
 
 -- the same, and something more behind it
 abbrev pub AddsAnd : {A B : Type 0} → Rule (List A × B) → Parser → Parser → List A → List A
     → Result B Stop → Type 0
 AddsAnd {A} r old new xs ys (Ok y) = (zs : List A) × (ys ≡ xs ++ zs) ×
-    (read r (place old) ≡ got (zs, y) (place new))
-AddsAnd r old new xs ys (Err (Wanted k)) = read r (place old) ≡ stuck k (place new)
+    (read r (state old) ≡ got (zs, y) (state new))
+AddsAnd r old new xs ys (Err (Wanted k)) = read r (state old) ≡ stuck k (state new)
 AddsAnd r old new xs ys (Err OutOfMemory) = Unit {0}

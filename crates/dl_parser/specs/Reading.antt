@@ -23,17 +23,17 @@ abbrev pub among : Kind → List Kind → Bool
 among k ks = list_any (same_kind k) ks
 
 -- the place of a reader: the end of the last token, and the tokens that are left
-pub record Place : Type 0 where
+pub record State : Type 0 where
   pub end : ℕ
   pub rest : List Lexeme
 
 -- what was read and the place behind it, or the kind that the next token is not
 pub data Outcome (X : Type 0) : Type 0 where
-  got : X → Place → Outcome X
-  stuck : Kind → Place → Outcome X
+  got : X → State → Outcome X
+  stuck : Kind → State → Outcome X
 
 infixl 10 ◌>>=◌
-abbrev pub ◌>>=◌ : {A B : Type 0} → Outcome A → (A → Place → Outcome B) → Outcome B
+abbrev pub ◌>>=◌ : {A B : Type 0} → Outcome A → (A → State → Outcome B) → Outcome B
 (got x p) >>= f = f x p
 (stuck k p) >>= f = stuck k p
 
@@ -128,16 +128,16 @@ one_at k end [] = stuck k (record { end = end; rest = [] })
 one_at k end (t ∷ ts) = cond (same_kind t.kind k) (got t (record { end = t.span.end; rest = ts }))
     (stuck k (record { end = end; rest = t ∷ ts }))
 
-abbrev pub repeat : {A : Type 0} → List Kind → (Place → Outcome A) → ℕ → Place → Outcome (List A)
+abbrev pub repeat : {A : Type 0} → List Kind → (State → Outcome A) → ℕ → State → Outcome (List A)
 repeat ks f zero p = got [] p
 repeat ks f (suc n) p =
     cond (begins ks p.rest) (f p >>= λ x q. repeat ks f n q >>= λ xs s. got (x ∷ xs) s) (got [] p)
 
 -- with these before what is read
-abbrev pub front : {A : Type 0} → List A → List A → Place → Outcome (List A)
+abbrev pub front : {A : Type 0} → List A → List A → State → Outcome (List A)
 front xs ys p = got (xs ++ ys) p
 
-abbrev pub read : {X : Type 0} → Rule X → Place → Outcome X
+abbrev pub read : {X : Type 0} → Rule X → State → Outcome X
 read (one k) p = one_at k p.end p.rest
 read (a ▸ b) p = read a p >>= λ x q. read b q >>= λ y s. got (x, y) s
 read (a or b) p = cond (begins (first a) p.rest) (read a p) (read b p)

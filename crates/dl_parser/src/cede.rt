@@ -10,7 +10,7 @@ use crate::cursor::Parser;
 use crate::parts::Part;
 use crate::stop::Stop;
 use dl_ast::{CededLayer, Cession, Items, Layer, LimitAst, Numeral, Share};
-use dl_lexer::{Keyword, Kind, both};
+use dl_lexer::{Keyword, Kind, pair_of};
 
 impl<'a> Parser<'a> {
     /// A layer that is ceded whole, from `start` to the last token taken.
@@ -65,16 +65,16 @@ impl Part for CededLayer {
         let number = parser.numeral()?;
         if parser.is_next(Kind::Word(Keyword::Xs)) {
             let attach = parser.numeral_behind(Kind::Word(Keyword::Xs));
-            let (number, attach) = both(number, attach)?;
+            let (number, attach) = pair_of(number, attach)?;
             return Ok(parser.whole(LimitAst::Finite(number), attach, start));
         }
         if parser.is_next(Kind::Word(Keyword::So)) {
             let layer = parser.layer_behind(Kind::Word(Keyword::So));
-            let (number, layer) = both(number, layer)?;
+            let (number, layer) = pair_of(number, layer)?;
             return Ok(parser.share(Share::So(number), layer, start));
         }
         let layer = parser.layer_behind(Kind::Word(Keyword::Po));
-        let (number, layer) = both(number, layer)?;
+        let (number, layer) = pair_of(number, layer)?;
         Ok(parser.share(Share::Po(number), layer, start))
     }
 
@@ -101,9 +101,9 @@ impl<'a> Parser<'a> {
         ensures reads { ReadsBy side self.old self.new result }
     {
         if self.is_next(Kind::Word(Keyword::Net)) {
-            return self.take_both(Kind::Word(Keyword::Net), Kind::Word(Keyword::Of), true);
+            return self.take_pair(Kind::Word(Keyword::Net), Kind::Word(Keyword::Of), true);
         }
-        self.take_both(Kind::Word(Keyword::Ceded), Kind::Word(Keyword::To), false)
+        self.take_pair(Kind::Word(Keyword::Ceded), Kind::Word(Keyword::To), false)
     }
 
     /// `cession ('and' cession)*`

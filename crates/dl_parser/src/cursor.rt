@@ -1,6 +1,6 @@
 //! The place of a parser.
 
-ghost use Rattle.dl_parser.specs.Placed.{AllInside};
+ghost use Rattle.dl_parser.specs.Within.{AllInside};
 
 use dl_lexer::Token;
 use std::alloc::Global;

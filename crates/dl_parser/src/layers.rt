@@ -4,12 +4,12 @@ ghost use Rattle.std.specs.Prelude.{◌≡◌};
 ghost use Rattle.dl_ast.specs.Rules.{maybe};
 ghost use Rattle.dl_ast.specs.Grammar.{◌≫◌, limit, layer};
 ghost use Rattle.dl_parser.specs.Reading.{begins, first};
-ghost use Rattle.dl_parser.specs.Parsing.{place, ReadsBy};
+ghost use Rattle.dl_parser.specs.Parsing.{state, ReadsBy};
 
 use crate::cursor::Parser;
 use crate::stop::Stop;
 use dl_ast::{Layer, LimitAst};
-use dl_lexer::{Keyword, Kind, both};
+use dl_lexer::{Keyword, Kind, pair_of};
 
 impl<'a> Parser<'a> {
     /// `NUMERAL | 'inf'`
@@ -32,8 +32,8 @@ impl<'a> Parser<'a> {
         ensures reads { ReadsBy layer self.old self.new result }
     {
         let start = self.start();
-        let (limit, _) = both(self.limit()?, self.take(Kind::Word(Keyword::Xs)))?;
-        let (limit, attach) = both(limit, self.numeral())?;
+        let (limit, _) = pair_of(self.limit()?, self.take(Kind::Word(Keyword::Xs)))?;
+        let (limit, attach) = pair_of(limit, self.numeral())?;
         Ok(Layer {
             limit,
             attach,
@@ -54,7 +54,7 @@ impl<'a> Parser<'a> {
     /// Whether a layer follows.
     #[tactic(auto, unfolding(dl_ast::specs::Grammar::layer, dl_ast::specs::Grammar::limit, dl_ast::specs::Grammar::numeral,))]
     fn is_layer_next(&self) -> bool
-        ensures { result ≡ begins (first layer) (place self.now).rest }
+        ensures { result ≡ begins (first layer) (state self.now).rest }
     {
         self.is_next(Kind::Numeral) || self.is_next(Kind::Word(Keyword::Inf))
     }

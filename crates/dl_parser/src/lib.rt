@@ -32,8 +32,8 @@ pub fn law_one_program()
 {}
 
 /// Tokens stop at one place at most.
-#[tactic(auto, using(crate::proofs::Whole::one_place))]
-pub fn law_one_place()
+#[tactic(auto, using(crate::proofs::Whole::one_stop))]
+pub fn law_one_stop()
     ensures { (ts : List Lexeme) (j k : ℕ) → Stops ts j → Stops ts k → j ≡ k }
 {}
 

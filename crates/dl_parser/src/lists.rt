@@ -9,7 +9,7 @@ use crate::cursor::Parser;
 use crate::parts::Part;
 use crate::stop::Stop;
 use dl_ast::{ListAst, ListItem, Numeral};
-use dl_lexer::{Kind, Rare, Sign, Span, both};
+use dl_lexer::{Kind, Rare, Sign, Span, pair_of};
 use std::alloc::Global;
 
 /// The item of a number and of what follows it: the end of a range, and its step.
@@ -26,7 +26,7 @@ fn item_of(
         Some((to, step)) => (Some(to), step),
         None => (None, None),
     };
-    let (to, step) = both(Rare::new(alloc, to)?, Rare::new(alloc, step))?;
+    let (to, step) = pair_of(Rare::new(alloc, to)?, Rare::new(alloc, step))?;
     Ok(ListItem {
         from,
         to,
@@ -58,7 +58,7 @@ impl<'a> Parser<'a> {
             return Ok(None);
         }
         self.take(Kind::Sign(Sign::Colon))?;
-        Ok(Some(both(self.numeral()?, self.step())?))
+        Ok(Some(pair_of(self.numeral()?, self.step())?))
     }
 }
 
@@ -74,7 +74,7 @@ impl Part for ListItem {
     #[tactic(auto, unfolding(crate::specs::Factored::item))]
     fn first(parser: &mut Parser<'_>) -> Result<ListItem, Stop> {
         let start = parser.start();
-        let (from, bounds) = both(parser.numeral()?, parser.bounds())?;
+        let (from, bounds) = pair_of(parser.numeral()?, parser.bounds())?;
         item_of(parser.alloc, from, bounds, parser.since(start))
     }
 
@@ -104,7 +104,7 @@ impl<'a> Parser<'a> {
     {
         let start = self.start();
         self.take(Kind::Sign(Sign::Open))?;
-        let (items, _) = both(self.parts()?, self.take(Kind::Sign(Sign::Close)))?;
+        let (items, _) = pair_of(self.parts()?, self.take(Kind::Sign(Sign::Close)))?;
         Ok(ListAst {
             items,
             span: self.since(start),
@@ -116,7 +116,7 @@ impl<'a> Parser<'a> {
         ensures source { self.new.source ≡ self.old.source }
         ensures reads { ReadsBy (list ▸ maybe list) self.old self.new result }
     {
-        both(self.list()?, self.list_option())
+        pair_of(self.list()?, self.list_option())
     }
 
     /// `list?`

@@ -3,7 +3,7 @@
 ghost use Rattle.std.specs.Prelude.{◌≡◌};
 ghost use Rattle.dl_ast.specs.Grammar.{some_of};
 ghost use Rattle.dl_parser.specs.Reading.{begins, first};
-ghost use Rattle.dl_parser.specs.Parsing.{place, ReadsBy};
+ghost use Rattle.dl_parser.specs.Parsing.{state, ReadsBy};
 
 use crate::cursor::Parser;
 use crate::stop::{Stop, only};
@@ -34,7 +34,7 @@ pub(crate) trait Part: Sized + Drop {
 
     /// Whether another one follows.
     fn is_next(parser: &Parser<'_>) -> bool
-        ensures { result ≡ begins (first next_rule) (place parser.now).rest };
+        ensures { result ≡ begins (first next_rule) (state parser.now).rest };
 
     ghost plain: { is_plain (many next_rule) ≡ true };
 }

@@ -4,12 +4,12 @@ ghost use Rattle.std.specs.Prelude.{◌≡◌};
 ghost use Rattle.dl_ast.specs.Rules.{many};
 ghost use Rattle.dl_parser.specs.Factored.{atom, weighted, mixture, cost, sev, defined, sevdef};
 ghost use Rattle.dl_parser.specs.Reading.{begins, first, enters};
-ghost use Rattle.dl_parser.specs.Parsing.{place, ReadsBy, Adds, AddsAnd};
+ghost use Rattle.dl_parser.specs.Parsing.{state, ReadsBy, Adds, AddsAnd};
 
 use crate::cursor::Parser;
 use crate::stop::{Stop, only};
 use dl_ast::{Atom, Items, ListAst, MixAst, SevAst, SevBody, SevDef};
-use dl_lexer::{Keyword, Kind, Sign, both};
+use dl_lexer::{Keyword, Kind, Sign, pair_of};
 
 impl<'a> Parser<'a> {
     /// `'dsev' list list? | 'sev' 'dhistogram' 'xps' list list?`
@@ -32,7 +32,7 @@ impl<'a> Parser<'a> {
     /// Whether an atom follows.
     #[tactic(auto, unfolding(crate::specs::Factored::atom))]
     fn is_atom_next(&self) -> bool
-        ensures { result ≡ begins (first atom) (place self.now).rest }
+        ensures { result ≡ begins (first atom) (state self.now).rest }
     {
         self.is_next(Kind::Word(Keyword::Dsev)) || self.is_next(Kind::Word(Keyword::Sev))
     }
@@ -40,7 +40,7 @@ impl<'a> Parser<'a> {
     /// Whether further atoms follow, or the weights.
     #[tactic(auto, unfolding(crate::specs::Factored::weighted, crate::specs::Factored::atom))]
     fn is_weighted_next(&self) -> bool
-        ensures { result ≡ begins (first weighted) (place self.now).rest }
+        ensures { result ≡ begins (first weighted) (state self.now).rest }
     {
         self.is_next(Kind::Word(Keyword::Dsev))
             || self.is_next(Kind::Word(Keyword::Sev))
@@ -115,7 +115,7 @@ impl<'a> Parser<'a> {
     /// Whether a mixture follows.
     #[tactic(auto, unfolding(crate::specs::Factored::mixture, crate::specs::Factored::atom))]
     fn is_mixture_next(&self) -> bool
-        ensures { result ≡ begins (first mixture) (place self.now).rest }
+        ensures { result ≡ begins (first mixture) (state self.now).rest }
     {
         self.is_atom_next()
     }
@@ -146,7 +146,7 @@ impl<'a> Parser<'a> {
         if !self.is_next(Kind::Sign(Sign::Bang)) {
             return Ok(self.severity(body, false, start));
         }
-        let (body, _) = both(body, self.take(Kind::Sign(Sign::Bang)))?;
+        let (body, _) = pair_of(body, self.take(Kind::Sign(Sign::Bang)))?;
         Ok(self.severity(body, true, start))
     }
 
@@ -154,7 +154,7 @@ impl<'a> Parser<'a> {
     /// other definition does.
     fn is_defined_further(&self) -> bool
         ensures { result ≡ enters (Kind.Word Keyword.Sev) Kind.Name (first weighted)
-            (place self.now).rest }
+            (state self.now).rest }
     {
         if self.are_next(Kind::Word(Keyword::Sev), Kind::Name) {
             return false;
@@ -185,7 +185,7 @@ impl<'a> Parser<'a> {
     {
         let start = self.start();
         self.take(Kind::Word(Keyword::Sev))?;
-        let (name, mix) = both(self.name()?, self.defined())?;
+        let (name, mix) = pair_of(self.name()?, self.defined())?;
         Ok(SevDef {
             name,
             mix,
@@ -196,7 +196,7 @@ impl<'a> Parser<'a> {
     /// Whether a definition follows.
     #[tactic(auto, unfolding(crate::specs::Factored::sevdef))]
     fn is_definition_next(&self) -> bool
-        ensures { result ≡ begins (first sevdef) (place self.now).rest }
+        ensures { result ≡ begins (first sevdef) (state self.now).rest }
     {
         self.is_next(Kind::Word(Keyword::Sev))
     }

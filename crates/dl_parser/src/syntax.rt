@@ -8,7 +8,7 @@ ghost use Rattle.dl_ast.specs.Rules.{Spells};
 ghost use Rattle.dl_ast.specs.Grammar.{program};
 ghost use Rattle.dl_ast.specs.WellFormed.{IsWellFormed};
 ghost use Rattle.dl_parser.specs.Reading.{begins, same_kind};
-ghost use Rattle.dl_parser.specs.Parsing.{place};
+ghost use Rattle.dl_parser.specs.Parsing.{state};
 ghost use Rattle.dl_parser.specs.Viable.{IsRefused, continuous};
 
 use crate::cursor::Parser;
@@ -36,7 +36,7 @@ pub enum ParseFault {
 impl<'a> Parser<'a> {
     /// Whether the next token is the word of a continuous severity.
     fn is_continuous_next(&self) -> bool
-        ensures { result ≡ begins continuous (place self.now).rest }
+        ensures { result ≡ begins continuous (state self.now).rest }
     {
         self.is_any_next(&[
             Kind::Word(Keyword::Lognorm),
@@ -70,7 +70,7 @@ impl<'a> Parser<'a> {
     /// Why the parser stops at token `at`, where a token of this kind is wanted.
     fn fault(&self, kind: Kind, at: u32) -> ParseFault
         ensures { result ≡ if same_kind kind (Kind.Word Keyword.Dhistogram)
-            && begins continuous (place self.now).rest
+            && begins continuous (state self.now).rest
             then ParseFault.Continuous at else ParseFault.Syntax at }
     {
         if kind == Kind::Word(Keyword::Dhistogram) && self.is_continuous_next() {

@@ -5,8 +5,8 @@ ghost use Rattle.dl_ast.specs.Lexemes.{lexemes};
 ghost use Rattle.dl_ast.specs.Rules.{one, ◌or◌, maybe};
 ghost use Rattle.dl_ast.specs.Grammar.{◌≫◌, ◌means◌, numeral, name, note, reference};
 ghost use Rattle.dl_parser.specs.Reading.{among, begins, start_of, two_at};
-ghost use Rattle.dl_parser.specs.Placed.{Inside};
-ghost use Rattle.dl_parser.specs.Parsing.{place, ReadsBy, TakesBy};
+ghost use Rattle.dl_parser.specs.Within.{Inside};
+ghost use Rattle.dl_parser.specs.Parsing.{state, ReadsBy, TakesBy};
 
 use crate::cursor::Parser;
 use crate::stop::Stop;
@@ -33,7 +33,7 @@ fn is_first(tokens: &[Token], kind: Kind) -> bool
 impl<'a> Parser<'a> {
     /// Whether the next token is of this kind.
     pub(crate) fn is_next(&self, kind: Kind) -> bool
-        ensures { result ≡ begins (kind ∷ []) (place self.now).rest }
+        ensures { result ≡ begins (kind ∷ []) (state self.now).rest }
     {
         match self.rest.first() {
             Some(token) => token.kind == kind,
@@ -43,7 +43,7 @@ impl<'a> Parser<'a> {
 
     /// Whether the next two tokens are of these kinds.
     pub(crate) fn are_next(&self, kind: Kind, behind: Kind) -> bool
-        ensures { result ≡ two_at kind behind (place self.now).rest }
+        ensures { result ≡ two_at kind behind (state self.now).rest }
     {
         match self.rest.split_first() {
             Some((token, rest)) => token.kind == kind && is_first(rest, behind),
@@ -53,7 +53,7 @@ impl<'a> Parser<'a> {
 
     /// Whether the next token is of one of these kinds.
     pub(crate) fn is_any_next(&self, kinds: &[Kind]) -> bool
-        ensures { result ≡ begins kinds.now (place self.now).rest }
+        ensures { result ≡ begins kinds.now (state self.now).rest }
     {
         match self.rest.first() {
             Some(token) => is_among(token.kind, kinds),
@@ -63,7 +63,7 @@ impl<'a> Parser<'a> {
 
     /// Where the next token starts.
     pub(crate) fn start(&self) -> u32
-        ensures { result ≡ start_of (place self.now).end (place self.now).rest }
+        ensures { result ≡ start_of (state self.now).end (state self.now).rest }
     {
         match self.rest.first() {
             Some(token) => token.span.start,
@@ -109,7 +109,7 @@ impl<'a> Parser<'a> {
     }
 
     /// Takes a token of one kind and one of another behind it, which mean this together.
-    pub(crate) fn take_both<T: Copy>(
+    pub(crate) fn take_pair<T: Copy>(
         &mut self,
         kind: Kind,
         behind: Kind,

@@ -5,7 +5,7 @@ ghost use Rattle.dl_ast.specs.Rules.{maybe};
 ghost use Rattle.dl_ast.specs.Grammar.{claims, count, zero_change, plain_or, freq, common, head};
 ghost use Rattle.dl_parser.specs.Factored.{ratio, exposure, loss, ending, closing, exposed, listed, counted, body, named, units, book, program};
 ghost use Rattle.dl_parser.specs.Reading.{begins, first};
-ghost use Rattle.dl_parser.specs.Parsing.{place, ReadsBy};
+ghost use Rattle.dl_parser.specs.Parsing.{state, ReadsBy};
 
 use crate::cursor::Parser;
 use crate::parts::Part;
@@ -14,7 +14,7 @@ use dl_ast::{
     Cession, CountAst, Exposure, FreqAst, Items, Layer, NameAst, Numeral, PortHead, Program,
     SevAst, UnitAst, ZeroAst,
 };
-use dl_lexer::{Keyword, Kind, Text, both};
+use dl_lexer::{Keyword, Kind, Text, pair_of};
 
 /// The sizes of a unit's claims: `layer? sev occ?`.
 #[derive(Drop)]
@@ -112,7 +112,7 @@ impl<'a> Parser<'a> {
     /// Whether `'zt'` follows, or `'zm'`.
     #[tactic(auto, unfolding(dl_ast::specs::Grammar::zero_change))]
     fn is_zero_change_next(&self) -> bool
-        ensures { result ≡ begins (first zero_change) (place self.now).rest }
+        ensures { result ≡ begins (first zero_change) (state self.now).rest }
     {
         self.is_next(Kind::Word(Keyword::Zt)) || self.is_next(Kind::Word(Keyword::Zm))
     }
@@ -134,7 +134,7 @@ impl<'a> Parser<'a> {
         ensures source { self.new.source ≡ self.old.source }
         ensures reads { ReadsBy freq self.old self.new result }
     {
-        let (count, zero) = both(self.count()?, self.zero_option())?;
+        let (count, zero) = pair_of(self.count()?, self.zero_option())?;
         Ok((count, plain_or(zero)))
     }
 
@@ -146,14 +146,14 @@ impl<'a> Parser<'a> {
     {
         self.take_either(Kind::Word(Keyword::Prem), Kind::Word(Keyword::Premium))?;
         self.take(Kind::Word(Keyword::At))?;
-        let (ratio, _) = both(self.numeral()?, self.take(Kind::Word(Keyword::Lr)))?;
+        let (ratio, _) = pair_of(self.numeral()?, self.take(Kind::Word(Keyword::Lr)))?;
         Ok(ratio)
     }
 
     /// Whether `'claims'` follows, or `'claim'`.
     #[tactic(auto, unfolding(dl_ast::specs::Grammar::claims))]
     fn is_claims_next(&self) -> bool
-        ensures { result ≡ begins (first claims) (place self.now).rest }
+        ensures { result ≡ begins (first claims) (state self.now).rest }
     {
         self.is_next(Kind::Word(Keyword::Claim)) || self.is_next(Kind::Word(Keyword::Claims))
     }
@@ -168,14 +168,14 @@ impl<'a> Parser<'a> {
         let number = self.numeral()?;
         if self.is_claims_next() {
             let claims = self.take_either(Kind::Word(Keyword::Claim), Kind::Word(Keyword::Claims));
-            let (number, _) = both(number, claims)?;
+            let (number, _) = pair_of(number, claims)?;
             return Ok(Exposure::Claims(number, self.since(start)));
         }
         if self.is_next(Kind::Word(Keyword::Loss)) {
-            let (number, _) = both(number, self.take(Kind::Word(Keyword::Loss)))?;
+            let (number, _) = pair_of(number, self.take(Kind::Word(Keyword::Loss)))?;
             return Ok(Exposure::Loss(number, self.since(start)));
         }
-        let (amount, ratio) = both(number, self.ratio())?;
+        let (amount, ratio) = pair_of(number, self.ratio())?;
         Ok(Exposure::Premium {
             amount,
             ratio,
@@ -205,9 +205,9 @@ impl<'a> Parser<'a> {
         ensures source { self.new.source ≡ self.old.source }
         ensures reads { ReadsBy loss self.old self.new result }
     {
-        let layered = both(self.layer_option()?, self.sev())?;
+        let layered = pair_of(self.layer_option()?, self.sev())?;
         let occ = self.clause_option(Kind::Word(Keyword::Occurrence));
-        let ((layer, sev), occ) = both(layered, occ)?;
+        let ((layer, sev), occ) = pair_of(layered, occ)?;
         Ok(Loss { layer, sev, occ })
     }
 
@@ -218,7 +218,7 @@ impl<'a> Parser<'a> {
         ensures reads { ReadsBy ending self.old self.new result }
     {
         let agr = self.clause_option(Kind::Word(Keyword::Aggregate))?;
-        both(agr, self.note_option())
+        pair_of(agr, self.note_option())
     }
 
     /// `freq agr? NOTE?`
@@ -227,7 +227,7 @@ impl<'a> Parser<'a> {
         ensures source { self.new.source ≡ self.old.source }
         ensures reads { ReadsBy closing self.old self.new result }
     {
-        both(self.freq()?, self.ending())
+        pair_of(self.freq()?, self.ending())
     }
 
     /// `exposure layer? sev occ? freq agr? NOTE?`
@@ -236,8 +236,8 @@ impl<'a> Parser<'a> {
         ensures source { self.new.source ≡ self.old.source }
         ensures reads { ReadsBy exposed self.old self.new result }
     {
-        let exposed = both(self.exposure()?, self.loss())?;
-        let ((exposure, loss), ((freq, zero), (agr, note))) = both(exposed, self.closing())?;
+        let exposed = pair_of(self.exposure()?, self.loss())?;
+        let ((exposure, loss), ((freq, zero), (agr, note))) = pair_of(exposed, self.closing())?;
         Ok(Body {
             count: CountAst::Exposed {
                 exposure,
@@ -256,8 +256,8 @@ impl<'a> Parser<'a> {
         ensures source { self.new.source ≡ self.old.source }
         ensures reads { ReadsBy counted self.old self.new result }
     {
-        let counted = both(self.listed()?, self.loss())?;
-        let ((count, loss), (agr, note)) = both(counted, self.ending())?;
+        let counted = pair_of(self.listed()?, self.loss())?;
+        let ((count, loss), (agr, note)) = pair_of(counted, self.ending())?;
         Ok(Body {
             count,
             loss,
@@ -291,7 +291,7 @@ impl Part for UnitAst {
     #[tactic(auto, unfolding(crate::specs::Factored::unit))]
     fn first(parser: &mut Parser<'_>) -> Result<UnitAst, Stop> {
         parser.take(Kind::Word(Keyword::Agg))?;
-        let (name, body) = both(parser.name()?, parser.body())?;
+        let (name, body) = pair_of(parser.name()?, parser.body())?;
         Ok(body.named(name))
     }
 
@@ -327,8 +327,8 @@ impl<'a> Parser<'a> {
         ensures reads { ReadsBy head self.old self.new result }
     {
         self.take(Kind::Word(Keyword::Port))?;
-        let (name, common) = both(self.name()?, self.common_option())?;
-        let ((name, common), note) = both((name, common), self.note_option())?;
+        let (name, common) = pair_of(self.name()?, self.common_option())?;
+        let ((name, common), note) = pair_of((name, common), self.note_option())?;
         Ok(PortHead { name, common, note })
     }
 
@@ -351,7 +351,7 @@ impl<'a> Parser<'a> {
             let units = only(self.alloc, UnitAst::first(self)?)?;
             return Ok((None, Items::from_vec(units)));
         }
-        let (head, units) = both(self.head()?, self.units())?;
+        let (head, units) = pair_of(self.head()?, self.units())?;
         Ok((Some(head), units))
     }
 
@@ -361,7 +361,7 @@ impl<'a> Parser<'a> {
         ensures source { self.new.source ≡ self.old.source }
         ensures reads { ReadsBy program self.old self.new result }
     {
-        let (sevs, (port, units)) = both(self.definitions()?, self.book())?;
+        let (sevs, (port, units)) = pair_of(self.definitions()?, self.book())?;
         Ok(Program { sevs, port, units })
     }
 }

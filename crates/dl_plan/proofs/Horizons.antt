@@ -3,11 +3,11 @@ use Rattle.dl_plan.proofs.Common.{ℕ, refl, ◌≡◌, ◌∙◌, ◌+◌, ◌-
 use Rattle.std.proofs.Math.Nat.{le-max_left, le-max_right}
 use Rattle.std.proofs.lemmas.Bool.Decides.{eqb_tells}
 use Rattle.dl_exact.proofs.Denominators.{same_num}
-use Rattle.dl_plan.specs.Horizon.{IsSettled, IsReach, IsHorizonOf, buckets_behind, horizon}
+use Rattle.dl_plan.specs.Horizon.{IsSettled, IsFirstSettled, IsHorizonOf, buckets_behind, horizon}
 use Rattle.dl_plan.proofs.Clauses.{bucket_pos, kept_is}
 use Rattle.dl_plan.proofs.Apart.{kept_rises}
 use Rattle.dl_plan.proofs.Straight.{IsClear, kept_straight}
-use Rattle.dl_plan.proofs.Reach.{IsBent, IsSettledAt, IsLeastSettled, line_from, settled_on, reach_before, reach_after}
+use Rattle.dl_plan.proofs.Settling.{IsBent, IsSettledAt, IsLeastSettled, line_from, settled_on, settled_before, settled_after}
 
 -- ---- edges
 
@@ -62,8 +62,8 @@ module _ (clause : Clause) (h : ℕ) where
   settled_back s (inr flat) = inr (λ r after. same_num (parts_of clause r) (parts_of clause s) (parts_in_bucket clause)
       (bucket_pos clause) (sym (kept_is clause r) ∙ flat r after ∙ kept_is clause s))
 
-  reach_of : (s : ℕ) → IsLeastSettled (parts_of clause) (h * parts_in_bucket clause) s → IsReach clause h s
-  reach_of s least = record {
+  first_settled : (s : ℕ) → IsLeastSettled (parts_of clause) (h * parts_in_bucket clause) s → IsFirstSettled clause h s
+  first_settled s least = record {
     settled = settled_to s least.settled;
     least = λ r settled.
         least.least r (settled_back r settled);
@@ -74,10 +74,10 @@ module _ (clause : Clause) (h : ℕ) where
       ≡ 0 → IsHorizon clause h (last_edge clause.1)
   horizon_flat accepted flat =
       let e = last_edge clause.1 in
-      let found = reach_before (parts_of clause) e (h * parts_in_bucket clause)
+      let found = settled_before (parts_of clause) e (h * parts_in_bucket clause)
       (parts_of clause (e + 1) - parts_of clause e)
       (kept_bent clause (parts_in_bucket clause) e accepted (omega arith)) (inl flat) in
-      (found.0, reach_of found.0 found.1, found.2)
+      (found.0, first_settled found.0 found.1, found.2)
 
   pub horizon_line : (rise : ℕ) → IsClause clause → rise ≡ parts_of clause (last_edge clause.1 + 1) - parts_of clause
       (last_edge clause.1) → 0 < rise
@@ -89,11 +89,11 @@ module _ (clause : Clause) (h : ℕ) where
       (kept_bent clause (parts_in_bucket clause) e accepted (omega arith)) in
       elim (cases_lt (parts_of clause e) (h * parts_in_bucket clause)) [
         | inl below ↦
-            let found = reach_after (parts_of clause) e (h * parts_in_bucket clause) rise bent rising below in
-            (found.0, reach_of found.0 found.1, found.2)
+            let found = settled_after (parts_of clause) e (h * parts_in_bucket clause) rise bent rising below in
+            (found.0, first_settled found.0 found.1, found.2)
         | inr reached ↦
-            let found = reach_before (parts_of clause) e (h * parts_in_bucket clause) rise bent (inr reached) in
-            (found.0, reach_of found.0 found.1, none reached ∙ found.2)
+            let found = settled_before (parts_of clause) e (h * parts_in_bucket clause) rise bent (inr reached) in
+            (found.0, first_settled found.0 found.1, none reached ∙ found.2)
       ]
     where
       none : h * parts_in_bucket clause ≤ parts_of clause (last_edge clause.1)

@@ -6,7 +6,7 @@ pub mod TermLevels
 pub mod Clauses
 pub mod Apart
 pub mod Straight
-pub mod Reach
+pub mod Settling
 pub mod Horizons
 pub mod Weights
 pub mod Shares

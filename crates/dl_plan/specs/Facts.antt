@@ -10,14 +10,15 @@ use Rattle.dl_plan.specs.Horizon.{edge_of}
 -- the fewest cells of a grid that the ask lies inside, 0 where any will do; the unit that it names;
 -- the probabilities that it is for; and the most that the settings let its ends lie apart
 pub record AskFacts : Type 0 where
-  pub reach : ℕ
+  pub least_cells : ℕ
   pub unit : Option (List ℕ)
   pub levels : List Fraction
   pub most : Settings → ℕ
 
 -- a row of the table
 abbrev pub facts : ℕ → Option (List ℕ) → List Fraction → (Settings → ℕ) → AskFacts
-facts reach unit levels most = record { reach = reach; unit = unit; levels = levels; most = most }
+facts least_cells unit levels most =
+    record { least_cells = least_cells; unit = unit; levels = levels; most = most }
 
 -- the settings' width of a probability or a quantile, and that of a mean
 abbrev pub of_probability : Settings → ℕ
@@ -26,7 +27,7 @@ of_probability settings = settings.width
 abbrev pub of_mean : Settings → ℕ
 of_mean settings = settings.mwidth
 
--- the table: reach, unit, probabilities, and which width
+-- the table: least cells, unit, probabilities, and which width
 abbrev pub facts_of : Ask → AskFacts
 facts_of (Pmf x) = facts (x + 1) None [] of_probability
 facts_of (Cdf x) = facts (x + 1) None [] of_probability

@@ -26,13 +26,13 @@ IsSettled clause h s = (whole h ≤ℚ kept clause s)
     ⊎ ((r : ℕ) → s ≤ r → kept clause r ≡ kept clause s)
 
 -- the least number at which the map is settled
-pub record IsReach (clause : Clause) (h : ℕ) (s : ℕ) : Type 0 where
+pub record IsFirstSettled (clause : Clause) (h : ℕ) (s : ℕ) : Type 0 where
   pub settled : IsSettled clause h s
   pub least : (r : ℕ) → IsSettled clause h r → s ≤ r
 
 -- the greatest of 1, each edge, and the least number at which the map is settled
 abbrev pub IsHorizon : Clause → ℕ → ℕ → Type 0
-IsHorizon clause h k = (s : ℕ) × IsReach clause h s × (k ≡ max (last_edge clause.1) s)
+IsHorizon clause h k = (s : ℕ) × IsFirstSettled clause h s × (k ≡ max (last_edge clause.1) s)
 
 -- the horizon of sums on h cells: h itself where no clause maps them
 abbrev pub IsHorizonOf : Option Clause → ℕ → ℕ → Type 0

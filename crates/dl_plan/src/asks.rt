@@ -9,8 +9,8 @@ use dl_lexer::Text;
 
 impl Ask {
     /// The fewest cells of a grid that the ask lies inside; 0 where any will do.
-    pub fn reach(&self) -> u64
-        ensures { result ≡ (facts_of self.now).reach }
+    pub fn least_cells(&self) -> u64
+        ensures { result ≡ (facts_of self.now).least_cells }
     {
         match self {
             Ask::Pmf(x) | Ask::Cdf(x) => *x as u64 + 1,

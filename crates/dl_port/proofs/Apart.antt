@@ -9,7 +9,7 @@ use Rattle.std.proofs.lemmas.List.Sums.{sum_by-append, sum_by-cons, sum_by-remov
 use Rattle.std.proofs.lemmas.List.{length-append}
 use Rattle.std.specs.List.{All}
 use mathlib.Core.Path.{fun_ext}
-use Rattle.dl_port.specs.Chosen.{chosen, passed, in_some, no_place, AreApart, AreSumsOfChosen, KeepsChosen}
+use Rattle.dl_port.specs.Chosen.{chosen, passed, in_some, no_choice, AreApart, AreSumsOfChosen, KeepsChosen}
 use Rattle.dl_port.proofs.Chosen.{both_chosen, Apart}
 
 -- what one test counts at a place
@@ -32,11 +32,11 @@ module _ {B : ℕ} (k : ℕ) (grids : List (List (Iv B))) where
     );
     each = λ i h. elim (cases_lt i j) [
       | inl below ↦ subst₂ (λ p g. Encloses k grids p g)
-          (sym (get_or-remove_below tests j no_place i below (omega (arith, inside, are.as_many))))
+          (sym (get_or-remove_below tests j no_choice i below (omega (arith, inside, are.as_many))))
           (sym (get_or-remove_below sums j [] i below inside))
           (are.each i (omega (arith, below, inside)))
       | inr above ↦ subst₂ (λ p g. Encloses k grids p g)
-          (sym (get_or-remove_above tests j no_place i above (omega (arith, inside, are.as_many))))
+          (sym (get_or-remove_above tests j no_choice i above (omega (arith, inside, are.as_many))))
           (sym (get_or-remove_above sums j [] i above inside))
           (are.each (i + 1) (omega (arith, h, length-remove sums j inside)))
     ];
@@ -49,13 +49,13 @@ module _ {B : ℕ} (k : ℕ) (grids : List (List (Iv B))) where
     as_many = omega (arith, are.as_many, length-append sums (g ∷ []), length-append tests (p ∷ []));
     each = λ i h. elim (cases_lt i (length sums)) [
       | inl before ↦ subst₂ (λ q f. Encloses k grids q f)
-          (sym (get_or_append_left tests (p ∷ []) no_place i (omega (arith, before, are.as_many))))
+          (sym (get_or_append_left tests (p ∷ []) no_choice i (omega (arith, before, are.as_many))))
           (sym (get_or_append_left sums (g ∷ []) [] i before)) (are.each i before)
       | inr after ↦
           let last : i ≡ length sums = omega (arith, h, after, length-append sums (g ∷ [])) in
           subst₂ (λ q f. Encloses k grids q f)
-          (sym (ap (λ m. get_or (tests ++ p ∷ []) m no_place) (last ∙ sym are.as_many)
-          ∙ get_or-append_seam tests p [] no_place))
+          (sym (ap (λ m. get_or (tests ++ p ∷ []) m no_choice) (last ∙ sym are.as_many)
+          ∙ get_or-append_seam tests p [] no_choice))
           (sym (ap (λ m. get_or (sums ++ g ∷ []) m []) last ∙ get_or-append_seam sums g [] [])) new
     ];
   }
@@ -68,8 +68,8 @@ passed_more tests p i = omega (
 )
 
 pub passed_less : (tests : List (ℕ → Bool)) (j i : ℕ) → j < length tests
-    → passed (remove tests j) i + counts i (get_or tests j no_place) ≡ passed tests i
-passed_less tests j i inside = sum_by-remove (counts i) tests j no_place inside
+    → passed (remove tests j) i + counts i (get_or tests j no_choice) ≡ passed tests i
+passed_less tests j i inside = sum_by-remove (counts i) tests j no_choice inside
 
 not_both : (b d : Bool) → cond b 1 0 + cond d 1 0 ≤ 1 → (b && d) ≡ false
 not_both true true h = absurd (omega (arith, h))
@@ -84,10 +84,10 @@ either false false e = refl
 
 -- two tests are taken out, and one for both put behind
 abbrev pub first : List (ℕ → Bool) → ℕ → ℕ → Bool
-first tests a = get_or tests a no_place
+first tests a = get_or tests a no_choice
 
 abbrev pub second : List (ℕ → Bool) → ℕ → ℕ → ℕ → Bool
-second tests a b = get_or (remove tests a) b no_place
+second tests a b = get_or (remove tests a) b no_choice
 
 abbrev pub joint : List (ℕ → Bool) → ℕ → ℕ → List (ℕ → Bool)
 joint tests a b = remove (remove tests a) b ++ (λ i. first tests a i || second tests a b i) ∷ []
@@ -130,29 +130,29 @@ all_removed P xs j inside all i d h = elim (cases_lt i j) [
 
 module _ {B : ℕ} (k : ℕ) (grids : List (List (Iv B))) where
   -- the grid at a place
-  at_place : (sums : List (List (Iv B))) (tests : List (ℕ → Bool)) (j : ℕ) (f : List (Iv B)) → j < length sums
-      → f ≡ get_or sums j f → AreSumsOfChosen k grids sums tests → Encloses k grids (get_or tests j no_place) f
-  at_place sums tests j f inside is are =
-      subst (Encloses k grids (get_or tests j no_place)) (get_or_default sums j [] f inside ∙ sym is) (are.each j inside)
+  at_index : (sums : List (List (Iv B))) (tests : List (ℕ → Bool)) (j : ℕ) (f : List (Iv B)) → j < length sums
+      → f ≡ get_or sums j f → AreSumsOfChosen k grids sums tests → Encloses k grids (get_or tests j no_choice) f
+  at_index sums tests j f inside is are =
+      subst (Encloses k grids (get_or tests j no_choice)) (get_or_default sums j [] f inside ∙ sym is) (are.each j inside)
 
   pub only : (sums : List (List (Iv B))) (tests : List (ℕ → Bool)) (f : List (Iv B)) → length sums ≡ 1
       → f ≡ get_or sums 0 f → KeepsChosen k grids sums tests → Encloses k grids (in_some tests) f
   only sums tests f one is keeps = alone keeps.now (omega (arith, one, keeps.are.as_many)) keeps.same
-      (at_place sums keeps.now 0 f (omega (arith, one)) is keeps.are)
+      (at_index sums keeps.now 0 f (omega (arith, one)) is keeps.are)
     where
       alone : (now : List (ℕ → Bool)) → length now ≡ 1 → ((i : ℕ) → passed now i ≡ passed tests i)
-          → Encloses k grids (get_or now 0 no_place) f → Encloses k grids (in_some tests) f
+          → Encloses k grids (get_or now 0 no_choice) f → Encloses k grids (in_some tests) f
       alone [] e same h = absurd (omega (arith, e))
       alone (p ∷ []) e same h =
           subst (λ q. Encloses k grids q f) (sym (in_one p) ∙ fun_ext (λ i. ap (nat_lt 0) (same i))) h
       alone (p ∷ q ∷ now) e same h = absurd (omega (arith, e))
 
-  pub joined : (sums : List (List (Iv B))) (tests : List (ℕ → Bool)) (a b : ℕ) (f s g : List (Iv B)) → a < length sums
+  pub sum_of_two : (sums : List (List (Iv B))) (tests : List (ℕ → Bool)) (a b : ℕ) (f s g : List (Iv B)) → a < length sums
       → b < length (remove sums a) → f ≡ get_or sums a f → s ≡ get_or (remove sums a) b s
       → All (λ h. length h ≡ k) sums → length g ≡ k → IsConvolution k f s g
       → AreSumsOfChosen k grids sums tests → AreApart tests
       → KeepsChosen k grids (remove (remove sums a) b ++ g ∷ []) tests
-  joined sums tests a b f s g in_a in_b is_f is_s long cells conv are apart =
+  sum_of_two sums tests a b f s g in_a in_b is_f is_s long cells conv are apart =
       let less = removed k grids sums tests a in_a are in
       let a' : a < length tests = omega (arith, in_a, are.as_many) in
       let b' : b < length (remove tests a) = omega (arith, in_b, less.as_many) in
@@ -164,8 +164,8 @@ module _ {B : ℕ} (k : ℕ) (grids : List (List (Iv B))) where
             (removed k grids (remove sums a) (remove tests a) b in_b less)
             (both_chosen k grids f s g (first tests a) (second tests a b)
             (two_apart tests a b a' b' apart)
-            (at_place sums tests a f in_a is_f are).encloses
-            (at_place (remove sums a) (remove tests a) b s in_b is_s less).encloses
+            (at_index sums tests a f in_a is_f are).encloses
+            (at_index (remove sums a) (remove tests a) b s in_b is_s less).encloses
             (at_least f (subst (λ h. length h ≡ k) (sym is_f) (long a f in_a)))
             (at_least s (subst (λ h. length h ≡ k) (sym is_s) (all_removed (λ h. length h ≡ k) sums a in_a long b s in_b)))
             cells conv);

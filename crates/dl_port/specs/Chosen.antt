@@ -24,15 +24,15 @@ abbrev pub AreApart : List (ℕ → Bool) → Type 0
 AreApart tests = (i : ℕ) → passed tests i ≤ 1
 
 -- the test that no place passes
-abbrev pub no_place : ℕ → Bool
-no_place i = false
+abbrev pub no_choice : ℕ → Bool
+no_choice i = false
 
 -- each of the sums, of k cells, encloses the sum of the units that its test picks
 pub record AreSumsOfChosen {B : ℕ} (k : ℕ) (grids sums : List (List (Iv B)))
     (tests : List (ℕ → Bool)) : Type 0 where
   pub as_many : length tests ≡ length sums
   pub each : (j : ℕ) → j < length sums
-      → IsSumOfPart k grids (λ us. chosen us (get_or tests j no_place)) (Some (get_or sums j []))
+      → IsSumOfPart k grids (λ us. chosen us (get_or tests j no_choice)) (Some (get_or sums j []))
 
 -- each of the sums encloses that of some units, and every unit is in as many of them as it is in by
 -- these tests

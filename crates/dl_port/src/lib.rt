@@ -71,7 +71,7 @@ fn no_units<const B: u32>(alloc: Global, like: &Grid<B>, cells: u32) -> Result<G
 }
 
 /// The first `cells` cells of the sum of all units, which are taken in one by one, in order.
-fn in_order<const B: u32>(
+fn sum_one_by_one<const B: u32>(
     alloc: Global,
     work: &mut Workspace,
     units: &[Grid<B>],
@@ -174,7 +174,7 @@ pub fn total_with<const B: u32>(
             }
         }
     }
-    in_order(alloc, work, units, cells)
+    sum_one_by_one(alloc, work, units, cells)
 }
 
 /// The first `cells` cells of the sum of all units but unit `i`, counted from 0. Where there is no
@@ -218,11 +218,11 @@ pub fn others_with<const B: u32>(
     let before = &units[..i as usize];
     let after = &units[i as usize + 1..];
     if i > 0 {
-        let sum = in_order(alloc, work, before, cells)?;
+        let sum = sum_one_by_one(alloc, work, before, cells)?;
         return with_units(alloc, work, sum, after, cells);
     }
     if units.len() > 1 {
-        return in_order(alloc, work, after, cells);
+        return sum_one_by_one(alloc, work, after, cells);
     }
     no_units(alloc, &units[i as usize], cells)
 }

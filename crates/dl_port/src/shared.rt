@@ -27,7 +27,7 @@ pub struct Sums<const B: u32> {
 
 /// The sum of two sums of units, of which either may have no units. Where both have none, it is
 /// surely 0, on the first cells of the grid `like`.
-fn joined<const B: u32>(
+fn sum_of_two<const B: u32>(
     alloc: Global,
     work: &mut Workspace,
     before: Option<&Grid<B>>,
@@ -69,7 +69,7 @@ fn sums_of_ends<const B: u32>(
     let mut ends = Vec::new(alloc);
     for i in (1..units.len()).rev() {
         let unit = &units[i];
-        let sum = joined(alloc, work, Some(unit), ends.last(), unit, cells)?;
+        let sum = sum_of_two(alloc, work, Some(unit), ends.last(), unit, cells)?;
         ends.push(sum)?;
     }
     Ok(ends)
@@ -100,7 +100,7 @@ fn others_where_asked<const B: u32>(
     if !asked[i as usize] {
         return Ok(None);
     }
-    let sum = joined(alloc, work, before, after, &units[i as usize], cells)?;
+    let sum = sum_of_two(alloc, work, before, after, &units[i as usize], cells)?;
     if let Some(most) = spread_without(units, i, cells) {
         if sum.spread() <= most {
             return Ok(Some(sum));

@@ -10,7 +10,7 @@ ghost use Rattle.dl_model.specs.Counts.{fixed};
 ghost use Rattle.dl_model.specs.Family.{compound, GridEncloses};
 ghost use Rattle.dl_plan.specs.Weighted.{amounts_of, weight_at, weight_sum};
 
-use crate::shares::{put, share};
+use crate::shares::{set_if_inside, share};
 use dl_grid::{Grid, empty_grid};
 use dl_plan::Item;
 use std::alloc::{AllocError, Global};
@@ -38,7 +38,7 @@ pub fn claim_grid<const B: u32>(
 {
     let mut grid = empty_grid(alloc, cells)?;
     for item in amounts {
-        put(&mut grid, item.amount, share(item.weight, total));
+        set_if_inside(&mut grid, item.amount, share(item.weight, total));
     }
     Ok(grid)
 }

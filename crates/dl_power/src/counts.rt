@@ -32,8 +32,8 @@ fn add_at_zero<const B: u32>(grid: &mut Grid<B>, more: Iv<B>)
     ensures mass { mass_low grid.new ≡ mass_low grid.old + more.entry.lo }
     ensures spread { spread grid.new ≤ spread grid.old + (more.entry.hi - more.entry.lo) }
 {
-    let both = grid.at(0).add(more);
-    grid.set(0, both.clamp_to(units_of_one(B)));
+    let sum = grid.at(0).add(more);
+    grid.set(0, sum.clamp_to(units_of_one(B)));
 }
 
 /// One step of Horner's rule: one claim more before each of the counts so far, and the next lower

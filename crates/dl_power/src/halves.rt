@@ -36,7 +36,7 @@ fn added(alloc: Global, first: &[u128], second: &[u128], one: u128) -> Result<Ve
 
 /// A block of counts and the counts after it: `block + step * later`, where `step` is the sum of as
 /// many claims as the block has counts.
-fn joined<const B: u32>(
+fn block_with_later<const B: u32>(
     alloc: Global,
     work: &mut Workspace,
     block: &Grid<B>,
@@ -83,7 +83,7 @@ fn paired<const B: u32>(
 {
     let mut pairs = Vec::new(alloc);
     for i in 0..parts.len() / 2 {
-        let pair = joined(alloc, work, &parts[2 * i], step, &parts[2 * i + 1], cells)?;
+        let pair = block_with_later(alloc, work, &parts[2 * i], step, &parts[2 * i + 1], cells)?;
         pairs.push(pair)?;
     }
     Ok(pairs)
@@ -127,6 +127,6 @@ pub(crate) fn by_halves<const B: u32>(
         parts = paired(alloc, work, parts.as_slice(), &step, cells)?;
         step = short_square(alloc, work, &step, cells)?;
     }
-    let whole = joined(alloc, work, &parts[0], &step, &parts[1], cells)?;
+    let whole = block_with_later(alloc, work, &parts[0], &step, &parts[1], cells)?;
     extended(alloc, &whole, cells)
 }

@@ -52,7 +52,7 @@ pub(crate) fn share<const B: u32>(weight: u32, total: u32) -> Iv<B>
 
 /// Writes one cell where the grid has it.
 #[tactic(auto, using(dl_grid::proofs::CellSets::low_set, dl_grid::proofs::CellSets::high_set, dl_grid::proofs::CellSets::mass_set, dl_grid::proofs::CellSets::spread_set))]
-pub(crate) fn put<const B: u32>(grid: &mut Grid<B>, x: u32, v: Iv<B>)
+pub(crate) fn set_if_inside<const B: u32>(grid: &mut Grid<B>, x: u32, v: Iv<B>)
     requires small { v.hi ≤ 2 ^ B }
     requires mass { mass_low grid.old + v.lo ≤ 2 ^ B }
     ensures cells { length grid.new ≡ length grid.old }

@@ -96,7 +96,7 @@ impl Printer {
 
     /// A token, with the gap before it.
     #[tactic(auto, unfolding(crate::specs::Canonical::gap, crate::specs::Printing::with_pieces, crate::specs::Pieces::piece,))]
-    fn put(&mut self, kind: Kind, bytes: &[u8]) -> Result<(), AllocError>
+    fn write(&mut self, kind: Kind, bytes: &[u8]) -> Result<(), AllocError>
         ensures { OnOk result (self.new ≡ with_pieces self.old (piece kind bytes.now)) }
     {
         if let Some(last) = self.last {
@@ -109,7 +109,7 @@ impl Printer {
 
     /// A token of two parts, with the gap before it.
     #[tactic(auto, using(crate::proofs::Growing::in_two_parts), unfolding(crate::specs::Canonical::gap, crate::specs::Printing::with_pieces, crate::specs::Pieces::piece,))]
-    fn put_both(&mut self, kind: Kind, front: &[u8], back: &[u8]) -> Result<(), AllocError>
+    fn write_pair(&mut self, kind: Kind, front: &[u8], back: &[u8]) -> Result<(), AllocError>
         ensures { OnOk result (self.new
             ≡ with_pieces self.old (piece kind (front.now ++ back.now))) }
     {
@@ -126,42 +126,42 @@ impl Printer {
     pub(crate) fn word(&mut self, keyword: Keyword) -> Result<(), AllocError>
         ensures { OnOk result (self.new ≡ with_pieces self.old (word_piece keyword)) }
     {
-        self.put(Kind::Word(keyword), keyword.spelling())
+        self.write(Kind::Word(keyword), keyword.spelling())
     }
 
     /// A sign.
     pub(crate) fn sign(&mut self, sign: Sign) -> Result<(), AllocError>
         ensures { OnOk result (self.new ≡ with_pieces self.old (sign_piece sign)) }
     {
-        self.put(Kind::Sign(sign), byte_of(sign))
+        self.write(Kind::Sign(sign), byte_of(sign))
     }
 
     /// A name.
     pub(crate) fn name(&mut self, name: &NameAst) -> Result<(), AllocError>
         ensures { OnOk result (self.new ≡ with_pieces self.old (name_piece name.now)) }
     {
-        self.put(Kind::Name, name.text.as_slice())
+        self.write(Kind::Name, name.text.as_slice())
     }
 
     /// A reference to the severity of this name.
     pub(crate) fn reference(&mut self, name: &NameAst) -> Result<(), AllocError>
         ensures { OnOk result (self.new ≡ with_pieces self.old (ref_piece name.now)) }
     {
-        self.put_both(Kind::Ref, b"sev.", name.text.as_slice())
+        self.write_pair(Kind::Ref, b"sev.", name.text.as_slice())
     }
 
     /// A numeral.
     pub(crate) fn numeral(&mut self, numeral: &Numeral) -> Result<(), AllocError>
         ensures { OnOk result (self.new ≡ with_pieces self.old (numeral_piece numeral.now)) }
     {
-        self.put(Kind::Numeral, numeral.text.as_slice())
+        self.write(Kind::Numeral, numeral.text.as_slice())
     }
 
     /// A note.
     pub(crate) fn note(&mut self, note: &Text) -> Result<(), AllocError>
         ensures { OnOk result (self.new ≡ with_pieces self.old (note_piece note.now)) }
     {
-        self.put(Kind::Note, note.as_slice())
+        self.write(Kind::Note, note.as_slice())
     }
 
     /// The bytes of the text, and a newline.

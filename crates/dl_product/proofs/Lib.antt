@@ -1,5 +1,5 @@
 pub mod Apart
 mod Common
 pub mod Mirror
-pub mod Placed
+pub mod Shifted
 pub mod Zeros

@@ -139,7 +139,7 @@ fn multiply_by_steps(
 }
 
 /// The first items of the product of two lists, in the place of as many zeros.
-fn put_sums(
+fn write_sums(
     alloc: Global,
     work: &mut Workspace,
     a: &[u128],
@@ -155,14 +155,14 @@ fn put_sums(
 {
     let (p, e) = window_of(a);
     let (q, f) = window_of(b);
-    let place = out.len().min(p + q);
-    let count = (out.len() - place).min(e - p + (f - q));
+    let start = out.len().min(p + q);
+    let count = (out.len() - start).min(e - p + (f - q));
     multiply_by_steps(
         alloc,
         work,
         &a[p..e],
         &b[q..f],
-        &mut out[place..place + count],
+        &mut out[start..start + count],
     )
 }
 
@@ -182,7 +182,7 @@ pub(crate) fn sums(
         → get_or v.items s 0 ≡ pair_sum a.now b.now s) }
 {
     let mut sums = Vec::from_elem(alloc, 0, cells as usize)?;
-    put_sums(alloc, work, a, b, sums.as_mut_slice())?;
+    write_sums(alloc, work, a, b, sums.as_mut_slice())?;
     Ok(sums)
 }
 
@@ -254,7 +254,7 @@ fn square_by_steps(
 }
 
 /// The first items of the product of a list with itself, in the place of as many zeros.
-fn put_square_sums(
+fn write_square_sums(
     alloc: Global,
     work: &mut Workspace,
     a: &[u128],
@@ -267,9 +267,9 @@ fn put_square_sums(
         → get_or out.new s 0 ≡ pair_sum a.now a.now s) }
 {
     let (p, e) = window_of(a);
-    let place = out.len().min(p + p);
-    let count = (out.len() - place).min(e - p + (e - p));
-    square_by_steps(alloc, work, &a[p..e], &mut out[place..place + count])
+    let start = out.len().min(p + p);
+    let count = (out.len() - start).min(e - p + (e - p));
+    square_by_steps(alloc, work, &a[p..e], &mut out[start..start + count])
 }
 
 /// The first `cells` items of the product of a list with itself.
@@ -286,6 +286,6 @@ pub(crate) fn square_sums(
         → get_or v.items s 0 ≡ pair_sum a.now a.now s) }
 {
     let mut sums = Vec::from_elem(alloc, 0, cells as usize)?;
-    put_square_sums(alloc, work, a, sums.as_mut_slice())?;
+    write_square_sums(alloc, work, a, sums.as_mut_slice())?;
     Ok(sums)
 }

@@ -26,7 +26,7 @@ unfoldable pub use Rattle.dl_model.specs.Compound.{power}
 pub use Rattle.dl_model.specs.Counts.{IsPanjer}
 unfoldable pub use Rattle.dl_model.specs.Counts.{gamma, poisson}
 pub use Rattle.dl_model.specs.Series.{AtLeast, AtMost, Holds, IsBound, Series, times}
-pub use Rattle.dl_recursion.specs.Placed.{IsPlaced, IsScaled}
+pub use Rattle.dl_recursion.specs.ToGrid.{HasGridEnds, IsScaled}
 pub use Rattle.dl_recursion.specs.Runs.{ArePositiveAmounts, all_parts, part_at, part_sum, run_parts}
 unfoldable pub use Rattle.dl_recursion.specs.Runs.{in_a_row}
 pub use Rattle.dl_recursion.specs.Recursion.{AreScaledCells, AreSums, FollowsInWhole, EncloseScaled, AreInScale, IsSum, IsTotal, contribution, sum_to_cell, sums_before}

@@ -2,12 +2,12 @@ mod Common
 pub mod Starts
 pub mod Beginnings
 pub mod Rounding
-pub mod Reach
+pub mod Contributions
 pub mod Runs
 pub mod Totals
 pub mod Pairs
 pub mod Steps
 pub mod Grow
-pub mod Place
+pub mod GridEnds
 pub mod Top
 pub mod Units

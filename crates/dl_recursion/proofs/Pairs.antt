@@ -1,6 +1,6 @@
 -- The sum over the parts is the sum over amounts and cells that the recursion has.
 use Rattle.dl_recursion.proofs.Common.{◌≡◌, inl, inr, ℕ, suc, zero, ◌+◌, ◌-◌, ◌*◌, ◌<◌, List, [], ◌∷◌, cond, get_or, arith, refl, sym, ap, ap₂, ◌∙◌, zero-lt-suc, sum_by, All, sum_by-cons, cases_lt, count_pairs, Part, part_at, contribution, ◌≢◌, zero-mul, eqb_tells, nat_eq}
-use Rattle.dl_recursion.proofs.Reach.{contribution_yes, contribution_no}
+use Rattle.dl_recursion.proofs.Contributions.{contribution_yes, contribution_no}
 use Rattle.dl_exact.proofs.Counts.{pairs_same, pairs_plus, pairs_none, pairs_only, pairs_past}
 
 -- one part's weight at an amount

@@ -3,7 +3,7 @@ use Rattle.std.proofs.lemmas.Bool.Decides.{nat_tests}
 use Rattle.std.proofs.lemmas.Grind.{common_steps}
 use Rattle.dl_recursion.proofs.Common.{◌≡◌, inl, inr, ℕ, suc, zero, ◌+◌, ◌-◌, ◌*◌, ◌^◌, ◌<◌, ◌≤◌, List, [], ◌∷◌, ◌++◌, length, take, get_or, arith, refl, ap, mul-le-mul, mul-le-mul_left, mul-le-mul_right, zero-lt-suc, sum_by, All, flat_map, sum_by-cons, sum_by-append, sum_by_push, sum_by_more_le, cases_lt, count_below, Part, Run, in_a_row, run_parts, all_parts, part_sum, ArePositiveAmounts, contribution, sum_to_cell, sums_before, add-zero, add-suc, suc-add, IsTotal, Total, All-append}
 use Rattle.dl_recursion.specs.declared.parts.Amounts.{Amounts}
-use Rattle.dl_recursion.proofs.Reach.{contribution_yes, contribution_at, contribution_no}
+use Rattle.dl_recursion.proofs.Contributions.{contribution_yes, contribution_at, contribution_no}
 
 -- ---- the amounts of a run
 

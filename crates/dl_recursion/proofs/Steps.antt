@@ -56,7 +56,7 @@ shifted r e n low high low' high' p q h = record {
   high_end = λ k b. rw (q k) (le_trans _ _ _ (h.high_end k b) (whole_le _ _ (shift_high (get_or high k 0) e)));
 }
 
-pub fit_top : (h k : ℕ) → k < 8 → h ≤ 2 ^ (126 - 8 * k) → (h + 255) / 256 ≤ 2 ^ (126 - 8 * (k + 1))
-fit_top h k l p =
+pub shift_down_top : (h k : ℕ) → k < 8 → h ≤ 2 ^ (126 - 8 * k) → (h + 255) / 256 ≤ 2 ^ (126 - 8 * (k + 1))
+shift_down_top h k l p =
     let e : 126 - 8 * k ≡ 126 - 8 * (k + 1) + 8 = omega (arith, l) in
     ceil_least h 256 (2 ^ (126 - 8 * (k + 1))) (zero-lt-suc 255) (omega (arith, rw (e, pow-add) at p))

@@ -1,5 +1,5 @@
 -- The placed cells enclose the compound sum.
-use Rattle.dl_recursion.proofs.Common.{◌≡◌, inl, inr, ℕ, suc, zero, ◌+◌, ◌*◌, ◌^◌, ◌<◌, ◌≤◌, List, arith, sym, ap, ap₂, ◌∙◌, pow-add, Fraction, ◌over◌, ◌+ℚ◌, ◌*ℚ◌, ◌≤ℚ◌, ◌<ℚ◌, whole, sum_to, cell, over_same, ring, one_pos, times_one, one_times, le_refl, le_trans, times_le_times, times_le_cancel, whole_pos, whole_times, whole_plus, over_times_whole, times_le_both, Part, IsPanjer, HoldsNoClaim, part_at, FollowsInWhole, EncloseScaled, IsPlaced, IsScaled, whole_le, max, AtMost, AtLeast, times_pos, sum_pairs_same, sum_pairs_times, times_right_comm, times_second, le-max_left, le-max_right}
+use Rattle.dl_recursion.proofs.Common.{◌≡◌, inl, inr, ℕ, suc, zero, ◌+◌, ◌*◌, ◌^◌, ◌<◌, ◌≤◌, List, arith, sym, ap, ap₂, ◌∙◌, pow-add, Fraction, ◌over◌, ◌+ℚ◌, ◌*ℚ◌, ◌≤ℚ◌, ◌<ℚ◌, whole, sum_to, cell, over_same, ring, one_pos, times_one, one_times, le_refl, le_trans, times_le_times, times_le_cancel, whole_pos, whole_times, whole_plus, over_times_whole, times_le_both, Part, IsPanjer, HoldsNoClaim, part_at, FollowsInWhole, EncloseScaled, HasGridEnds, IsScaled, whole_le, max, AtMost, AtLeast, times_pos, sum_pairs_same, sum_pairs_times, times_right_comm, times_second, le-max_left, le-max_right}
 use Rattle.dl_model.specs.Family.{compound, Encloses}
 use Rattle.dl_recursion.specs.declared.start.Scaled.{Scaled}
 use Rattle.dl_model.specs.Recursion.{Recursion}
@@ -83,10 +83,10 @@ module _ (f w : ℕ → Fraction) (z : f zero ≡ whole 0) (severity : IsWithinO
       (le_trans _ _ _ (rw (times_one r) at (times_le_both r r _ _ (le_refl r) c))
       (rw (times_second p r u) at (times_le_times _ _ u h)))
 
-  pub placed_encloses : (B e step n : ℕ) (low high : List ℕ) (lo hi : ℕ → ℕ)
-      → EncloseScaled (λ s. cell w f s s) e n low high → IsPlaced B start e step n low high lo hi
+  pub ends_enclose : (B e step n : ℕ) (low high : List ℕ) (lo hi : ℕ → ℕ)
+      → EncloseScaled (λ s. cell w f s s) e n low high → HasGridEnds B start e step n low high lo hi
       → Encloses (2 ^ B) n (λ k. lo (step * k)) (λ k. hi (step * k)) (compound w f)
-  placed_encloses B e step n low high lo hi R Q y l =
+  ends_enclose B e step n low high lo hi R Q y l =
       let E = start.exponent in
       let low_is = rw (pow-add 2 61 E, pow-add 2 e B) at (Q.low_end y l) in (
         low_holds B (lo (step * y)) y

@@ -1,4 +1,4 @@
 pub mod Runs
 pub mod Recursion
 pub mod Start
-pub mod Placed
+pub mod ToGrid

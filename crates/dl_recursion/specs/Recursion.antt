@@ -71,7 +71,8 @@ pub record AreInScale (x : ScaledCells) : Type 0 where
   pub sums_within : length x.sums.items ≤ length x.low.items
 
 -- what the parts give to the cell after those of x; y is x with all sums that it takes
-pub record IsReached (parts : List Part) (a b : ℕ) (x y : ScaledCells) (ends : Ends) : Type 0 where
+pub record AreContributions (parts : List Part) (a b : ℕ) (x y : ScaledCells) (ends : Ends)
+    : Type 0 where
   pub low : ends.low ≡ sum_by (contribution a b x.low.items (length x.low.items)) parts
   pub high : ends.high ≡ sum_by (contribution a b x.high.items (length x.low.items)) parts
   pub high_room : ends.high ≤ most_given

@@ -13,36 +13,38 @@ ghost use Rattle.dl_recursion.specs.Start.{HoldsNoClaim};
 use crate::cells::START_BITS;
 use crate::first::{gamma_start, poisson_start};
 use crate::parts::{amounts_of, common_amount};
-use crate::placing::place;
 use crate::recursion::recur;
 use crate::start::Scaled;
+use crate::to_grid::to_grid;
 use dl_frac::Frac;
 use dl_grid::Grid;
 use dl_plan::Sev;
 use std::alloc::{AllocError, Global};
 
-/// How the weights of a count step: the weight of `n + 1` claims is `(a + b / (n + 1)) * num /
-/// base` times that of `n`.
+/// How the weights of a count step: the weight of `n + 1` claims is
+/// `(constant + inverse / (n + 1)) * numerator / denominator` times that of `n`.
 #[derive(Clone, Copy)]
 struct Steps {
-    a: u64,
-    b: u64,
-    num: u64,
-    base: u64,
+    constant: u64,
+    inverse: u64,
+    numerator: u64,
+    denominator: u64,
 }
 
 /// Whether the sums of the recursion stay in their words: the factors of a cell in 64 bits, and
-/// what it is divided by in 64 bits. `ratio` is `num / base` over the total of the weights.
-fn fits(steps: Steps, ratio: Frac, total: u32, cells: u32) -> bool
-    requires a_small { steps.a ≤ 1 }
-    requires b_small { steps.b ≤ most_shape }
+/// what it is divided by in 64 bits. `ratio` is `numerator / denominator` over the total of
+/// the weights.
+fn is_within_words(steps: Steps, ratio: Frac, total: u32, cells: u32) -> bool
+    requires a_small { steps.constant ≤ 1 }
+    requires b_small { steps.inverse ≤ most_shape }
     requires total_small { total ≤ most_parts }
     requires cells_small { cells ≤ most_cells }
-    ensures factors { IsTrue result → (steps.a + steps.b) * cells * (ratio.num * total) < 2 ^ 64 }
+    ensures factors { IsTrue result
+        → (steps.constant + steps.inverse) * cells * (ratio.num * total) < 2 ^ 64 }
     ensures divisors { IsTrue result → ratio.den * cells < 2 ^ 64 }
 {
     let limit: u128 = 1 << 64;
-    let factors = u128::from((steps.a + steps.b) * u64::from(cells));
+    let factors = u128::from((steps.constant + steps.inverse) * u64::from(cells));
     let weights = u128::from(ratio.num()) * u128::from(total);
     factors * weights < limit && u128::from(ratio.den()) * u128::from(cells) < limit
 }
@@ -60,35 +62,35 @@ fn compound_direct<const B: u32>(
 ) -> Result<Option<Grid<B>>, AllocError>
     requires size { IsGridSize B cells }
     requires no_zero { probability_of sev.now 0 ≡ whole 0 }
-    requires base_positive { 0 < steps.base }
-    requires some_step { 0 < steps.a + steps.b }
-    requires a_small { steps.a ≤ 1 }
-    requires b_small { steps.b ≤ most_shape }
-    requires num_small { steps.num < admitted_bound }
-    requires base_small { steps.base < frac_bound }
+    requires base_positive { 0 < steps.denominator }
+    requires some_step { 0 < steps.constant + steps.inverse }
+    requires a_small { steps.constant ≤ 1 }
+    requires b_small { steps.inverse ≤ most_shape }
+    requires num_small { steps.numerator < admitted_bound }
+    requires base_small { steps.denominator < frac_bound }
     requires low_small { start.low ≤ most_start }
     requires high_small { start.high ≤ most_start }
     ensures cells { IfOk result (λ made. IfSome made (λ g. length g ≡ cells)) }
     ensures encloses { IfOk result (λ made. IfSome made (λ g. (w : ℕ → Fraction)
-        → IsPanjer (whole steps.a *ℚ steps.num over steps.base)
-        (whole steps.b *ℚ steps.num over steps.base) w
+        → IsPanjer (whole steps.constant *ℚ steps.numerator over steps.denominator)
+        (whole steps.inverse *ℚ steps.numerator over steps.denominator) w
         → HoldsNoClaim w start → GridEncloses g (compound w (probability_of sev.now)))) }
 {
-    let divisor = u128::from(steps.base) * u128::from(sev.total);
-    let Ok(ratio) = Frac::make(u128::from(steps.num), divisor) else {
+    let divisor = u128::from(steps.denominator) * u128::from(sev.total);
+    let Ok(ratio) = Frac::make(u128::from(steps.numerator), divisor) else {
         return Ok(None);
     };
     let step = common_amount(sev.items.as_slice());
     let rows = (cells - 1) / step + 1;
-    if !fits(steps, ratio, sev.total, rows) {
+    if !is_within_words(steps, ratio, sev.total, rows) {
         return Ok(None);
     }
     let amounts = amounts_of(alloc, sev.items.as_slice(), step, ratio.num())?;
     let x = recur(
         alloc,
         &amounts,
-        steps.a,
-        steps.b,
+        steps.constant,
+        steps.inverse,
         ratio.den(),
         rows as usize,
     )?;
@@ -97,7 +99,7 @@ fn compound_direct<const B: u32>(
     if raised > scale {
         return Ok(None);
     }
-    let grid = place(alloc, &x, start, scale - raised, step, cells)?;
+    let grid = to_grid(alloc, &x, start, scale - raised, step, cells)?;
     Ok(Some(grid))
 }
 
@@ -121,10 +123,10 @@ pub fn poisson_direct<const B: u32>(
 {
     let start = poisson_start(mean.num(), mean.den());
     let steps = Steps {
-        a: 0,
-        b: 1,
-        num: mean.num(),
-        base: mean.den(),
+        constant: 0,
+        inverse: 1,
+        numerator: mean.num(),
+        denominator: mean.den(),
     };
     compound_direct(alloc, sev, steps, start, cells)
 }
@@ -150,10 +152,10 @@ pub fn gamma_direct<const B: u32>(
 {
     let start = gamma_start(mean.num(), mean.den(), shape);
     let steps = Steps {
-        a: 1,
-        b: u64::from(shape - 1),
-        num: mean.num(),
-        base: mean.num() + u64::from(shape) * mean.den(),
+        constant: 1,
+        inverse: u64::from(shape - 1),
+        numerator: mean.num(),
+        denominator: mean.num() + u64::from(shape) * mean.den(),
     };
     compound_direct(alloc, sev, steps, start, cells)
 }

@@ -15,10 +15,10 @@ mod cells;
 mod direct;
 mod first;
 mod parts;
-mod placing;
 mod quotient;
 mod recursion;
 mod start;
 mod sums;
+mod to_grid;
 
 pub use direct::{gamma_direct, poisson_direct};

@@ -9,7 +9,7 @@ ghost use Rattle.dl_recursion.specs.Recursion.{AreSums, EncloseScaled, AreScaled
 use crate::cells::{Ends, ScaledCells};
 use crate::parts::Amounts;
 use crate::quotient::{Inverse, inverse_of, quotient};
-use crate::sums::reach;
+use crate::sums::contributions;
 use dl_limits::MOST_END;
 use std::alloc::{AllocError, Global};
 
@@ -98,7 +98,7 @@ fn shrink(x: &mut ScaledCells)
 
 /// Shifts all cells down, and the next one with them, until that one is at most 2^62.
 #[tactic(auto, using(crate::proofs::Starts::two_le))]
-fn fit(x: &mut ScaledCells, next: Ends) -> Ends
+fn shift_down(x: &mut ScaledCells, next: Ends) -> Ends
     requires sound { AreScaledCells x.old.low.items x.old.high.items x.old.first }
     requires within { x.old.first ≤ length x.old.low.items }
     requires room { x.old.shift + 64 < 2 ^ 64 }
@@ -180,8 +180,8 @@ fn grow(
     let n = x.low.len();
     let d = q * (n as u64);
     *inverse = inverse_of(d, n, *inverse);
-    let sums = reach(x, amounts, a, b)?;
-    let ends = fit(x, divided(sums, d, *inverse));
+    let sums = contributions(x, amounts, a, b)?;
+    let ends = shift_down(x, divided(sums, d, *inverse));
     x.low.push(ends.low as u64)?;
     x.high.push(ends.high as u64)?;
     Ok(())

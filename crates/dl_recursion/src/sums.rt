@@ -5,7 +5,7 @@
 ghost use Rattle.std.specs.Prelude.{◌≡◌, ℕ, ◌+◌, ◌-◌, ◌*◌, ◌/◌, ◌^◌, ◌<◌, ◌≤◌, suc, length, slice_index, sum_by, flat_map, All, IfOk};
 ghost use Rattle.dl_limits.specs.Limits.{most_cells, most_end};
 ghost use Rattle.dl_recursion.specs.Runs.{in_a_row, run_parts, all_parts, part_sum, ArePositiveAmounts};
-ghost use Rattle.dl_recursion.specs.Recursion.{contribution, IsSum, AreSums, AreScaledCells, AreInScale, IsReached};
+ghost use Rattle.dl_recursion.specs.Recursion.{contribution, IsSum, AreSums, AreScaledCells, AreInScale, AreContributions};
 
 use crate::cells::{Ends, ScaledCells, Sums, Total};
 use crate::parts::{Amounts, Part, Run};
@@ -13,7 +13,7 @@ use std::alloc::AllocError;
 
 /// What an amount taken alone gives to cell `s`, the next one, for one end: its factor times the
 /// end of the cell that lies it before.
-#[tactic(auto, using(crate::proofs::Reach::factor_le))]
+#[tactic(auto, using(crate::proofs::Contributions::factor_le))]
 fn contribution(part: Part, a: u64, b: u64, s: usize, cells: &[u64]) -> u128
     requires next { length cells.now ≡ s }
     requires steps { (a + b) * s < 2 ^ 64 }
@@ -31,7 +31,7 @@ fn contribution(part: Part, a: u64, b: u64, s: usize, cells: &[u64]) -> u128
 /// its own, which adds one product before it makes the other, it keeps both sums in registers.
 #[inline(never)]
 #[tactic(auto, using(std::proofs::lemmas::List::Sums::sum_by_more_le, crate::proofs::Runs::contributions_top))]
-fn reach_parts(parts: &[Part], a: u64, b: u64, low: &[u64], high: &[u64]) -> Ends
+fn parts_contribution(parts: &[Part], a: u64, b: u64, low: &[u64], high: &[u64]) -> Ends
     requires alike { length high.now ≡ length low.now }
     requires steps { (a + b) * length low.now < 2 ^ 64 }
     requires room { (a + b) * length low.now * part_sum parts.now < 2 ^ 64 }
@@ -162,7 +162,7 @@ fn onward(x: &ScaledCells, a: u64, b: u64, amount: usize) -> Ends
 
 /// What a run gives.
 #[tactic(auto, using(crate::proofs::Runs::past_le, crate::proofs::Runs::run_less, crate::proofs::Runs::contributions_top))]
-fn reach_run(x: &ScaledCells, run: Run, a: u64, b: u64) -> Ends
+fn run_contribution(x: &ScaledCells, run: Run, a: u64, b: u64) -> Ends
     requires few { length x.now.low.items ≤ most_cells }
     requires settled { AreScaledCells x.now.low.items x.now.high.items x.now.first }
     requires sums { AreSums x.now.sums.items x.now.low.items x.now.high.items }
@@ -187,7 +187,7 @@ fn reach_run(x: &ScaledCells, run: Run, a: u64, b: u64) -> Ends
 
 /// What runs give.
 #[tactic(auto, using(crate::proofs::Runs::run_fits, crate::proofs::Runs::run_room))]
-fn reach_runs(x: &ScaledCells, runs: &[Run], a: u64, b: u64) -> Ends
+fn runs_contribution(x: &ScaledCells, runs: &[Run], a: u64, b: u64) -> Ends
     requires few { length x.now.low.items ≤ most_cells }
     requires settled { AreScaledCells x.now.low.items x.now.high.items x.now.first }
     requires sums { AreSums x.now.sums.items x.now.low.items x.now.high.items }
@@ -205,7 +205,7 @@ fn reach_runs(x: &ScaledCells, runs: &[Run], a: u64, b: u64) -> Ends
     let mut low_sum: u128 = 0;
     let mut high_sum: u128 = 0;
     for run in runs {
-        let given = reach_run(x, *run, a, b);
+        let given = run_contribution(x, *run, a, b);
         low_sum += given.low;
         high_sum += given.high;
     }
@@ -216,7 +216,7 @@ fn reach_runs(x: &ScaledCells, runs: &[Run], a: u64, b: u64) -> Ends
 }
 
 /// The sum of what each amount adds to the next cell, by its low and its high ends.
-pub(crate) fn reach(
+pub(crate) fn contributions(
     x: &mut ScaledCells,
     amounts: &Amounts,
     a: u64,
@@ -227,14 +227,14 @@ pub(crate) fn reach(
     requires steps { (a + b) * length x.old.low.items < 2 ^ 32 }
     requires room { (a + b) * length x.old.low.items * part_sum (all_parts amounts.now) < 2 ^ 64 }
     requires amounts { ArePositiveAmounts amounts.now }
-    ensures { IfOk result (IsReached (all_parts amounts.now) a b x.old x.new) }
+    ensures { IfOk result (AreContributions (all_parts amounts.now) a b x.old x.new) }
 {
-    let alone = reach_parts(&amounts.parts, a, b, x.low.as_slice(), x.high.as_slice());
+    let alone = parts_contribution(&amounts.parts, a, b, x.low.as_slice(), x.high.as_slice());
     if amounts.runs.is_empty() {
         return Ok(alone);
     }
     sum_up(&mut x.sums, x.low.as_slice(), x.high.as_slice())?;
-    let together = reach_runs(x, &amounts.runs, a, b);
+    let together = runs_contribution(x, &amounts.runs, a, b);
     Ok(Ends {
         low: alone.low + together.low,
         high: alone.high + together.high,

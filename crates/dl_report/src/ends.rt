@@ -20,12 +20,12 @@ fn digit(number: u128, power: u128) -> u8
 
 /// Appends the last decimal digits of a number, the highest first.
 #[tactic(auto, unfolding(crate::specs::Ends::last_digits))]
-fn push_digits(text: &mut Vec<u8>, number: u128, places: u32) -> Result<(), AllocError>
-    requires { places ≤ most_digits }
-    ensures { OnOk result (text.new.items ≡ text.old.items ++ last_digits places number) }
+fn push_digits(text: &mut Vec<u8>, number: u128, count: u32) -> Result<(), AllocError>
+    requires { count ≤ most_digits }
+    ensures { OnOk result (text.new.items ≡ text.old.items ++ last_digits count number) }
 {
-    for done in 0..places {
-        text.push(digit(number, 10u128.pow(places - 1 - done)))?;
+    for done in 0..count {
+        text.push(digit(number, 10u128.pow(count - 1 - done)))?;
     }
     Ok(())
 }

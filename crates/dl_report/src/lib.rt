@@ -8,7 +8,7 @@ mod objects;
 mod records;
 mod report;
 
-pub use law::{law_csv_tells_rows, law_json_tells_rows, law_text_tells_rows};
+pub use law::{law_csv_determines_rows, law_json_determines_rows, law_text_determines_rows};
 pub use lines::text;
 pub use objects::json;
 pub use records::csv;

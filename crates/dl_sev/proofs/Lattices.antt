@@ -28,29 +28,29 @@ module _ (clause : Clause) (step : ℕ) where
   -- on a straight line two values decide the third
   pub on_line : IsClause clause → (x : ℕ) → All (IsClear x (x + 2 * step)) clause.1 → IsWhole (kept clause x)
       → IsWhole (kept clause (x + step)) → IsWhole (kept clause (x + 2 * step))
-  on_line cession x clear first second =
+  on_line is_clause x clear first second =
       let c = parts_in_bucket clause in
       let parts : ℕ → ℕ = λ y. kept_parts clause c y in
       let rest = third c (parts x) (parts (x + step)) (parts (x + 2 * step))
-      (kept_straight clause c x step cession clear)
+      (kept_straight clause c x step is_clause clear)
       (kept_only clause x c (parts x) refl refl first)
       (kept_only clause (x + step) c (parts (x + step)) refl refl second) in
       ap (λ y. y.den) (kept_whole clause (x + 2 * step) c (parts (x + 2 * step)) refl refl rest) ∙ whole_den _
 
   -- an end between two multiples, one step apart from the third, is one past which the third was tried
-  tried : 0 < step → (place m : ℕ) → FitsAfter clause step place
-      → IsWhole (kept clause (m * step + 2 * step)) ⊎ IsOutside (m * step) (m * step + 2 * step) place
-  tried pos place m after = elim (cases_lt (m * step) place) [
+  tried : 0 < step → (bound m : ℕ) → FitsAfter clause step bound
+      → IsWhole (kept clause (m * step + 2 * step)) ⊎ IsOutside (m * step) (m * step + 2 * step) bound
+  tried pos bound m after = elim (cases_lt (m * step) bound) [
     | inr low ↦ inr (inl low)
-    | inl above ↦ elim (cases_lt place (m * step + 2 * step)) [
+    | inl above ↦ elim (cases_lt bound (m * step + 2 * step)) [
       | inr high ↦ inr (inr high)
-      | inl below ↦ inl (between (div_ceil place step) (div_ceil_times place step pos) after above below)
+      | inl below ↦ inl (between (div_ceil bound step) (div_ceil_times bound step pos) after above below)
     ]
   ]
     where
-      between : (first : ℕ) → (place ≤ first * step) × (first * step < place + step)
+      between : (first : ℕ) → (bound ≤ first * step) × (first * step < bound + step)
           → IsWhole (kept clause (first * step)) × IsWhole (kept clause (first * step + step))
-          → m * step < place → place < m * step + 2 * step → IsWhole (kept clause (m * step + 2 * step))
+          → m * step < bound → bound < m * step + 2 * step → IsWhole (kept clause (m * step + 2 * step))
       between first near after above below =
           let more : m < first = lt_of_mul-lt-mul_right step (omega (arith, near.0, above)) in
           let less : first < m + 3 = lt_of_mul-lt-mul_right step (omega (arith, near.1, below)) in
@@ -88,13 +88,13 @@ module _ (clause : Clause) (step : ℕ) where
 
   two_fit : IsClause clause → 0 < step → IsWhole (kept clause step) → All (FitsLayer clause step) clause.1 → (n : ℕ)
       → IsWhole (kept clause (n * step)) × IsWhole (kept clause (n * step + step))
-  two_fit cession pos one after zero = (
+  two_fit is_clause pos one after zero = (
     subst (λ x. IsWhole (kept clause x)) (omega arith) none_whole,
     subst (λ x. IsWhole (kept clause x))
         (omega arith) one,
   )
-  two_fit cession pos one after (suc n) =
-      let before = two_fit cession pos one after n in
+  two_fit is_clause pos one after (suc n) =
+      let before = two_fit is_clause pos one after n in
       let next : n * step + step ≡ suc n * step = omega arith in
       let further : n * step + 2 * step ≡ suc n * step + step = omega arith in (
         subst (λ x. IsWhole (kept clause x)) next before.1,
@@ -105,26 +105,26 @@ module _ (clause : Clause) (step : ℕ) where
           → IsWhole (kept clause (n * step)) × IsWhole (kept clause (n * step + step))
           → IsWhole (kept clause (n * step + 2 * step))
       last (inl there) before = there
-      last (inr clear) before = on_line cession (n * step) clear before.0 before.1
+      last (inr clear) before = on_line is_clause (n * step) clear before.0 before.1
 
   pub fits_all : IsClause clause → 0 < step → IsWhole (kept clause step) → All (FitsLayer clause step) clause.1
       → FitsStep clause step
-  fits_all cession pos one after = λ n. (two_fit cession pos one after n).0
+  fits_all is_clause pos one after = λ n. (two_fit is_clause pos one after n).0
 
   pub fits_none : step ≡ 0 → FitsStep clause step
   fits_none none = λ n. subst (λ x. IsWhole (kept clause x)) (sym (ap (λ s. n * s) none ∙ omega arith)) none_whole
 
   -- what fits all multiples fits those past each end
-  fits_place : FitsStep clause step → (place : ℕ) → FitsAfter clause step place
-  fits_place fits place =
-      let first = div_ceil place step in
+  fits_bound : FitsStep clause step → (bound : ℕ) → FitsAfter clause step bound
+  fits_bound fits bound =
+      let first = div_ceil bound step in
       let next : suc first * step ≡ first * step + step = omega arith in
       (fits first, subst (λ x. IsWhole (kept clause x)) next (fits (suc first)))
 
   pub fits_ends : FitsStep clause step → (ls : List CedeLayer) → All (FitsLayer clause step) ls
   fits_ends fits [] = All-nil (FitsLayer clause step)
   fits_ends fits (l ∷ ls) =
-      All-cons (FitsLayer clause step) l ls (fits_place fits l.attach, fits_place fits (edge l)) (fits_ends fits ls)
+      All-cons (FitsLayer clause step) l ls (fits_bound fits l.attach, fits_bound fits (edge l)) (fits_ends fits ls)
 
   pub fits_one : FitsStep clause step → IsWhole (kept clause step)
   fits_one fits = subst (λ x. IsWhole (kept clause x)) (omega arith) (fits 1)

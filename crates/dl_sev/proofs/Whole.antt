@@ -53,10 +53,10 @@ pub more_before : (P : Fraction → Type 0) (values : List Fraction) (i : ℕ) (
 more_before P values i x h is so_far here k d below = elim (cases_lt k i) [
   | inl less ↦ so_far k d less
   | inr more ↦
-      let same_place : k ≡ i = omega (arith, below, more) in
-      subst (λ n. P (get_or values n d)) (sym same_place) (subst P (is ∙ get_or_default values i x d h) here)
+      let same_index : k ≡ i = omega (arith, below, more) in
+      subst (λ n. P (get_or values n d)) (sym same_index) (subst P (is ∙ get_or_default values i x d h) here)
 ]
 
-pub at_place : (P : Fraction → Type 0) (values : List Fraction) (i : ℕ) (x : Fraction) → i < length values
+pub at_index : (P : Fraction → Type 0) (values : List Fraction) (i : ℕ) (x : Fraction) → i < length values
     → x ≡ get_or values i x → P x → (d : Fraction) → P (get_or values i d)
-at_place P values i x h is here d = subst P (is ∙ get_or_default values i x d h) here
+at_index P values i x h is here d = subst P (is ∙ get_or_default values i x d h) here

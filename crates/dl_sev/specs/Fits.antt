@@ -12,8 +12,8 @@ FitsStep clause step = (n : ℕ) → IsWhole (kept clause (n * step))
 
 -- it does so for the first two multiples that are not below a place
 abbrev pub FitsAfter : Clause → ℕ → ℕ → Type 0
-FitsAfter clause step place =
-    let first : ℕ = div_ceil place step * step in
+FitsAfter clause step bound =
+    let first : ℕ = div_ceil bound step * step in
     IsWhole (kept clause first) × IsWhole (kept clause (first + step))
 
 -- and for those past where a layer begins and where it ends

@@ -7,7 +7,7 @@ ghost use Rattle.dl_plan.specs.Fine.{IsWhole};
 ghost use Rattle.dl_sev.specs.Buckets.{HasPartsOf18Digits, IsFirstWhere, AreInBuckets, RefusesAmounts, buckets};
 
 use crate::fault::AmountFault;
-use crate::list::put;
+use crate::list::push_item;
 use dl_frac::Frac;
 use std::alloc::Global;
 
@@ -32,7 +32,7 @@ pub fn amounts(alloc: Global, values: &[Frac], bs: Frac, top: u32) -> Result<Vec
         if amount > top as u128 {
             return Err(AmountFault::TooFar(at as u32));
         }
-        put(&mut made, amount as u32)?;
+        push_item(&mut made, amount as u32)?;
     }
     Ok(made)
 }

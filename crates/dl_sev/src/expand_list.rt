@@ -5,7 +5,7 @@ ghost use Rattle.dl_limits.specs.Limits.{most_range_parts, most_values};
 ghost use Rattle.dl_sev.specs.Ranges.{IsRange, IsShared, RefusesRanges, PassesRoom, list_values, range_values, range_denominator};
 
 use crate::fault::ExpandFault;
-use crate::list::put;
+use crate::list::push_item;
 use crate::range::Range;
 use dl_frac::Frac;
 use dl_limits::MOST_VALUES;
@@ -56,7 +56,7 @@ fn push_one(values: &mut Vec<Frac>, range: &Range) -> Result<(), ExpandFault>
     if values.len() >= MOST_VALUES {
         return Err(ExpandFault::TooLong);
     }
-    put(values, range.from)?;
+    push_item(values, range.from)?;
     Ok(())
 }
 
@@ -79,7 +79,7 @@ fn push_steps(values: &mut Vec<Frac>, range: &Range, den: u64) -> Result<(), Exp
     }
     'steps: for k in 0..steps as u64 + 1 {
         let value = Frac::make(from + k as u128 * step, den as u128).unwrap();
-        put(values, value)?;
+        push_item(values, value)?;
     }
     Ok(())
 }

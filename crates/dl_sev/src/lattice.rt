@@ -37,15 +37,15 @@ fn fits_layer(cede: &Cede, step: u32, layer: &CedeLayer) -> bool
     fits_after(cede, step, layer.attach as u64) && fits_after(cede, step, layer.edge())
 }
 
-/// Whether the first two multiples of `step` that are not below `place` are mapped to whole
+/// Whether the first two multiples of `step` that are not below `bound` are mapped to whole
 /// numbers.
-fn fits_after(cede: &Cede, step: u32, place: u64) -> bool
+fn fits_after(cede: &Cede, step: u32, bound: u64) -> bool
     requires step { 0 < step }
-    requires place { place < 2 ^ 33 }
+    requires bound { bound < 2 ^ 33 }
     requires clause { IsClause cede.now }
-    ensures { IsTrue result ↔ FitsAfter cede.now step place }
+    ensures { IsTrue result ↔ FitsAfter cede.now step bound }
 {
-    let first = place.div_ceil(step as u64) * step as u64;
+    let first = bound.div_ceil(step as u64) * step as u64;
     is_whole_at(cede, first) && is_whole_at(cede, first + step as u64)
 }
 

@@ -9,7 +9,7 @@ ghost use Rattle.dl_sev.specs.Refusals.{RefusesAbove, RefusesClause};
 
 use crate::fault::{AboveFault, CedeFault};
 use crate::gather::gathered;
-use crate::list::put;
+use crate::list::push_item;
 use dl_plan::{Cede, Item, Sev, in_layer};
 use std::alloc::{AllocError, Global};
 
@@ -87,7 +87,7 @@ fn items_ceded(alloc: Global, items: &[Item], cede: &Cede) -> Result<Vec<Item>, 
             return Err(CedeFault::OffGrid);
         };
         let amount = amount as u32;
-        put(
+        push_item(
             &mut made,
             Item {
                 amount,

@@ -23,15 +23,15 @@ pub use Rattle.dl_report.specs.declared.report.Report.{Report, Report as Rows}
 pub use Rattle.dl_report.specs.declared.report.Row.{Row}
 unfoldable pub use Rattle.dl_types.specs.Faults.{fault_of_port, fault_on_grid, fault_with, first_fault, first_fault_of}
 pub use Rattle.dl_types.specs.Plans.{IsPlanOf, IsUnitOf}
-pub use Rattle.dl_words.proofs.RangeLaws.{settings_in, words_are_text, words_have_few_cells, words_in_range}
+pub use Rattle.dl_words.proofs.RangeLaws.{words_are_text, words_have_few_cells, words_in_range}
 pub use Rattle.dl_words.specs.declared.fault.UsageFault.{UsageFault}
-pub use Rattle.dl_top.specs.Answers.{Answers, AreVerified, AsksOfCert, Certifies, HasForm, HasTokens, IsAccepted, IsCertifiable, IsVerifiable, MeansPlan, Refuses, SpellsProgram, Verifies, asking, bad_byte, bad_step, certified, continuous, formatted, not_covered, not_read, of_asks, refused, reported, syntax, too_long, typing, usage, verified}
+pub use Rattle.dl_top.specs.Answers.{Answers, AreVerified, AsksOfCert, Certifies, HasForm, HasTokens, IsAccepted, IsCertifiable, IsVerifiable, HasPlan, Refuses, SpellsProgram, Verifies, asking, bad_byte, bad_step, certified, continuous, formatted, not_covered, not_read, of_asks, refused, reported, syntax, too_long, typing, usage, verified}
 pub use Rattle.dl_top.specs.Faults.{fault_line, status_of}
 pub use Rattle.dl_top.specs.Inputs.{IsTooLong, Say, is_divided, limit_of, program_of, steps_of}
 unfoldable pub use Rattle.dl_top.specs.Inputs.{input_of, length_to_steps, limit_for, program_in}
 pub use Rattle.dl_top.specs.Made.{drawn_below, next_value, unit_line, unit_text}
 unfoldable pub use Rattle.dl_top.specs.Made.{made_of, unit_lines, value_after}
-pub use Rattle.dl_top.specs.Replies.{AreReady, HasParts, IfAnswer, IsOfText, IsReadFault, IsReply, Tells}
+pub use Rattle.dl_top.specs.Replies.{AreReady, HasParts, IfAnswer, IsOfText, IsReadFault, IsReply, IsRefusalOf}
 pub use Rattle.dl_top.specs.declared.fault.Fault.{Fault}
 pub use Rattle.dl_top.specs.declared.fault.Fault.TheVariants.{BadByte, BadStep, Continuous, NotCovered, Read, Syntax, TooLong, Typing, Usage}
 pub use Rattle.dl_top.specs.declared.status.Status.TheVariants.{Done, OutOfMemory}

@@ -3,5 +3,5 @@ mod ReplyLaws
 mod RunLaws
 mod MadeLines
 mod Division
-mod RowsTold
+mod RowsDetermined
 mod Repeated

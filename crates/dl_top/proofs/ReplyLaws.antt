@@ -1,5 +1,5 @@
 -- What follows of a reply, and why an accepted text is not refused.
-use Rattle.dl_top.proofs.Common.{ℕ, ◌≡◌, map, String, string_bytes, Global, ◌≤◌, List, [], ◌∷◌, length, get_or, All, Option, None, Some, Ok, Err, IfSome, IsUtf8, arith, refl, sym, ap, subst, inl, inr, ◌∙◌, Takes, TakesAtMost, Step, Reading, all_gave, unread, Token, Covers, IsBad, Program, Plan, IsValid, IsCoveredUnit, IsCovered, IsFirstUncovered, IsNotCovered, IsBadStep, IsVerified, Iv, Asked, Settings, UsageFault, settings_in, words_in_range, words_are_text, words_have_few_cells, first_fault, AskBeyond, UnknownUnit, NoShare, TooWide, NoRoom, zip, All-nil, All-cons, All-head, All-tail, All-map, Rows, Row, IsGood, Fault, Read, BadByte, Syntax, Continuous, Typing, Done, fault_line, made_of, Say, IsTooLong, input_of, program_of, program_in, steps_of, limit_of, limit_for, IsReadFault, IsOfText, IfAnswer, HasParts, AreReady, IsPlanOf, HasTokens, SpellsProgram, MeansPlan, AsksOfCert, Certifies, Verifies, IsAccepted, HasForm, IsCertifiable, IsVerifiable, Answers, Refuses, of_asks, usage, not_read, too_long, bad_byte, continuous, syntax, typing, not_covered, bad_step, asking, IsReply, Tells, ◌<◌}
+use Rattle.dl_top.proofs.Common.{ℕ, ◌≡◌, map, String, string_bytes, Global, ◌≤◌, List, [], ◌∷◌, length, get_or, All, Option, None, Some, Ok, Err, IfSome, IsUtf8, arith, refl, sym, ap, subst, inl, inr, ◌∙◌, Takes, TakesAtMost, Step, Reading, all_gave, unread, Token, Covers, IsBad, Program, Plan, IsValid, IsCoveredUnit, IsCovered, IsFirstUncovered, IsNotCovered, IsBadStep, IsVerified, Iv, Asked, Settings, UsageFault, words_in_range, words_are_text, words_have_few_cells, first_fault, AskBeyond, UnknownUnit, NoShare, TooWide, NoRoom, zip, All-nil, All-cons, All-head, All-tail, All-map, Rows, Row, IsGood, Fault, Read, BadByte, Syntax, Continuous, Typing, Done, fault_line, made_of, Say, IsTooLong, input_of, program_of, program_in, steps_of, limit_of, limit_for, IsReadFault, IsOfText, IfAnswer, HasParts, AreReady, IsPlanOf, HasTokens, SpellsProgram, HasPlan, AsksOfCert, Certifies, Verifies, IsAccepted, HasForm, IsCertifiable, IsVerifiable, Answers, Refuses, of_asks, usage, not_read, too_long, bad_byte, continuous, syntax, typing, not_covered, bad_step, asking, IsReply, IsRefusalOf, ◌<◌}
 use Rattle.dl_lexer.proofs.CoverLaws.{cover_one, covered_not_bad}
 use Rattle.dl_ast.specs.Lexemes.{lexemes}
 use Rattle.dl_ast.specs.Rules.{Spells}
@@ -26,7 +26,7 @@ use Rattle.std.proofs.lemmas.Slice.Zip.{get_or-zip, length-zip}
 -- a refusal is the reply where the words and the input give its fault, and its text needs no more of the text than its
 -- place
 pub refused : (words : List (List ℕ)) (input source : List ℕ) (tokens : List Token) (r : Reply) (fault : Fault)
-    → Tells r fault source tokens
+    → IsRefusalOf r fault source tokens
     → fault_line fault source tokens ≡ fault_line fault (program_in words input) tokens
     → Refuses words input fault tokens
     → IsReply words input r
@@ -125,7 +125,7 @@ module _ (words : List (List ℕ)) (input : List ℕ) (a : Settings) (say : Say 
     → IsBadStep plan (steps_of a.form input) k → ⊥)
     (admitted : (plan : Plan) → IsPlanOf p a plan → IsValid plan → a.form ≡ Run → AreAdmitted plan a) where
   -- a plan that the text means is one of this program
-  of_program : (plan : Plan) → MeansPlan input a plan → IsPlanOf p a plan
+  of_program : (plan : Plan) → HasPlan input a plan → IsPlanOf p a plan
   of_program plan means =
       subst (λ q. IsPlanOf q a plan) (one_spelled a.form input means.program p means.spells spells) means.planned
 
@@ -155,16 +155,16 @@ module _ (words : List (List ℕ)) (input : List ℕ) (a : Settings) (say : Say 
       absurd (cc)
   settled fault tokens (not_covered settings asks plan other u not) =
       let set : settings ≡ a = same settings asks.say in
-      let means : MeansPlan input a plan = subst (λ s. MeansPlan input s plan) set other in
+      let means : HasPlan input a plan = subst (λ s. HasPlan input s plan) set other in
       absurd (covered plan (of_program plan means) means.valid (subst (λ s. IsOfCert s.form) set asks.form) u not)
   settled fault tokens (bad_step settings asks plan other k is_covered bad) =
       let set : settings ≡ a = same settings asks.say in
-      let means : MeansPlan input a plan = subst (λ s. MeansPlan input s plan) set other in
+      let means : HasPlan input a plan = subst (λ s. HasPlan input s plan) set other in
       absurd (certified plan (of_program plan means) means.valid (subst (λ s. s.form ≡ Verify) set asks.form) k is_covered
       (subst (λ s. IsBadStep plan (steps_of s.form input) k) set bad))
   settled fault tokens (asking settings asks plan other of f is refuses) =
       let set : settings ≡ a = same settings asks.say in
-      let means : MeansPlan input a plan = subst (λ s. MeansPlan input s plan) set other in
+      let means : HasPlan input a plan = subst (λ s. HasPlan input s plan) set other in
       absurd (admitted_not_refused plan a of f is
       (admitted plan (of_program plan means) means.valid (subst (λ s. s.form ≡ Run) set asks.form))
       (subst (λ s. RefusesAsks plan s of) set refuses))
@@ -327,18 +327,18 @@ module _ (words : List (List ℕ)) (input source steps : List ℕ) (settings : S
     spelled = rw parts.program spelled;
   }
 
-  pub refused_bad : (r : Reply) (at : ℕ) → Tells r (BadByte at) source [] → IsBad source at → IsReply words input r
+  pub refused_bad : (r : Reply) (at : ℕ) → IsRefusalOf r (BadByte at) source [] → IsBad source at → IsReply words input r
   refused_bad r at tells bad = refused words input source [] r (BadByte at) tells (told_of (BadByte at) [])
       (bad_byte settings say at parts.fits (rw parts.program bad))
 
-  pub refused_continuous : (r : Reply) (k : ℕ) (tokens : List Token) → Tells r (Continuous k) source tokens
+  pub refused_continuous : (r : Reply) (k : ℕ) (tokens : List Token) → IsRefusalOf r (Continuous k) source tokens
       → Covers source (length source) tokens → Stops (lexemes source tokens) k
       → IsContinuous (lexemes source tokens) k → IsReply words input r
   refused_continuous r k tokens tells covered stops is =
       refused words input source tokens r (Continuous k) tells (told_of (Continuous k) tokens)
       (continuous settings say tokens k (has_tokens tokens covered) (rw parts.program stops) (rw parts.program is))
 
-  pub refused_syntax : (r : Reply) (k : ℕ) (tokens : List Token) → Tells r (Syntax k) source tokens
+  pub refused_syntax : (r : Reply) (k : ℕ) (tokens : List Token) → IsRefusalOf r (Syntax k) source tokens
       → Covers source (length source) tokens → Stops (lexemes source tokens) k
       → ¬ IsContinuous (lexemes source tokens) k → IsReply words input r
   refused_syntax r k tokens tells covered stops not =
@@ -346,7 +346,7 @@ module _ (words : List (List ℕ)) (input source steps : List ℕ) (settings : S
       (syntax settings say tokens k (has_tokens tokens covered) (rw parts.program stops)
       (λ is. not (rw parts.program at is)))
 
-  pub refused_typing : (r : Reply) (fault : TypeFault) (p : Program) → Tells r (Typing fault) source []
+  pub refused_typing : (r : Reply) (fault : TypeFault) (p : Program) → IsRefusalOf r (Typing fault) source []
       → IsOfPlan settings.form → SpellsProgram settings.form input p → first_fault p settings ≡ Some fault
       → IsReply words input r
   refused_typing r fault p tells of spells first =

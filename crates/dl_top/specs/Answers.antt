@@ -35,7 +35,7 @@ use Rattle.dl_top.specs.declared.status.Status.TheVariants as statuses
 use Rattle.dl_top.specs.declared.fault.Fault.{Fault}
 use Rattle.dl_top.specs.declared.fault.Fault.TheVariants as faults
 use Rattle.dl_top.specs.Faults.{status_of, fault_line}
-use Rattle.dl_top.specs.Inputs.{Say, Fits, IsTooLong, program_of, steps_of, program_in}
+use Rattle.dl_top.specs.Inputs.{Say, IsShort, IsTooLong, program_of, steps_of, program_in}
 use Rattle.dl_top.specs.Reports.{written}
 
 -- the words ask what these settings say about a program
@@ -71,7 +71,7 @@ pub record Verifies (words : List (List ℕ)) (settings : Settings) : Type 0 whe
 
 -- the input of this form is not too long, and these are the tokens of its program
 pub record HasTokens (form : Form) (input : List ℕ) (tokens : List Token) : Type 0 where
-  pub fits : Fits form input
+  pub fits : IsShort form input
   pub covered : Covers (program_of form input) (length (program_of form input)) tokens
 
 -- the input of this form spells this program
@@ -81,7 +81,7 @@ pub record SpellsProgram (form : Form) (input : List ℕ) (p : Program) : Type 0
   pub spelled : Spells program p (lexemes (program_of form input) tokens)
 
 -- the input spells a program that breaks no rule, and means this plan
-pub record MeansPlan (input : List ℕ) (settings : Settings) (plan : Plan) : Type 0 where
+pub record HasPlan (input : List ℕ) (settings : Settings) (plan : Plan) : Type 0 where
   pub program : Program
   pub spells : SpellsProgram settings.form input program
   pub faultless : first_fault program settings ≡ None
@@ -115,7 +115,7 @@ pub data Refuses (words : List (List ℕ)) (input : List ℕ) : Fault → List T
       → Refuses words input faults.Read []
   too_long : (settings : Settings) → Say words settings → IsTooLong settings.form input
       → Refuses words input faults.TooLong []
-  bad_byte : (settings : Settings) → Say words settings → (at : ℕ) → Fits settings.form input
+  bad_byte : (settings : Settings) → Say words settings → (at : ℕ) → IsShort settings.form input
       → IsBad (program_of settings.form input) at → Refuses words input (faults.BadByte at) []
   continuous : (settings : Settings) → Say words settings → (tokens : List Token) (k : ℕ)
       → HasTokens settings.form input tokens
@@ -131,14 +131,14 @@ pub data Refuses (words : List (List ℕ)) (input : List ℕ) : Fault → List T
       → SpellsProgram settings.form input p → (fault : TypeFault)
       → first_fault p settings ≡ Some fault → Refuses words input (faults.Typing fault) []
   not_covered : (settings : Settings) → AsksOfCert words settings → (plan : Plan)
-      → MeansPlan input settings plan → (unit : ℕ) → IsNotCovered plan unit
+      → HasPlan input settings plan → (unit : ℕ) → IsNotCovered plan unit
       → Refuses words input (faults.NotCovered unit) []
   bad_step : (settings : Settings) → Verifies words settings → (plan : Plan)
-      → MeansPlan input settings plan → (step : ℕ) → IsCovered plan
+      → HasPlan input settings plan → (step : ℕ) → IsCovered plan
       → IsBadStep plan (steps_of settings.form input) step
       → Refuses words input (faults.BadStep step) []
   asking : (settings : Settings) → Asks words settings → (plan : Plan)
-      → MeansPlan input settings plan → (of : EvalFault) (fault : Fault) → of_asks of fault
+      → HasPlan input settings plan → (of : EvalFault) (fault : Fault) → of_asks of fault
       → RefusesAsks plan settings of → Refuses words input fault []
 
 -- How the program ends, what it writes to the output, and what it writes of a fault. The output
@@ -150,13 +150,13 @@ pub data Answers (words : List (List ℕ)) (input : List ℕ) : Status → List 
   formatted : (settings : Settings) → Formats words settings → (p : Program)
       → SpellsProgram settings.form input p → Answers words input statuses.Done (canonical p) []
   certified : (settings : Settings) → Certifies words settings → (plan : Plan)
-      → MeansPlan input settings plan → (text : List ℕ) → IsCertificate plan text
+      → HasPlan input settings plan → (text : List ℕ) → IsCertificate plan text
       → length text ≤ most_cert_text → Answers words input statuses.Done text []
   verified : (settings : Settings) → Verifies words settings → (plan : Plan)
-      → MeansPlan input settings plan → AreVerified plan (steps_of settings.form input)
+      → HasPlan input settings plan → AreVerified plan (steps_of settings.form input)
       → Answers words input statuses.Done (codes "verified\n") []
   reported : (settings : Settings) (plan : Plan) (report : Report) → Asks words settings
-      → MeansPlan input settings plan → IsAnswered plan settings report
+      → HasPlan input settings plan → IsAnswered plan settings report
       → Answers words input statuses.Done (written settings.format plan report) []
 
 -- The words ask, the text spells a program that breaks no rule, and each ask is admitted, whichever

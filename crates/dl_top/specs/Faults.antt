@@ -30,8 +30,8 @@ status_of (NoShare i) = statuses.AskFault
 status_of (TooWide i width) = statuses.TooWide
 
 -- the line and the column of a place
-abbrev pub place_text : List ℕ → ℕ → List ℕ
-place_text source at = decimal (line_of source at) ++ codes ":" ++ decimal (column_of source at)
+abbrev pub line_col_text : List ℕ → ℕ → List ℕ
+line_col_text source at = decimal (line_of source at) ++ codes ":" ++ decimal (column_of source at)
     ++ codes ": "
 
 -- where a token starts; past the last one, where the text ends
@@ -61,7 +61,7 @@ usage_text (usage.Ask i) = ask_text i ++ codes "not an ask"
 -- the place, the unit, and the rule by its number and its name
 abbrev pub typing_text : TypeFault → List ℕ → List ℕ
 typing_text fault source =
-    place_text source fault.span.start ++ codes "unit " ++ decimal fault.unit ++ codes ": rule "
+    line_col_text source fault.span.start ++ codes "unit " ++ decimal fault.unit ++ codes ": rule "
     ++ decimal (rule_number fault.rule) ++ codes " "
     ++ rule_name fault.rule
 
@@ -70,10 +70,10 @@ abbrev pub reason : Fault → List ℕ → List Token → List ℕ
 reason (Usage fault) source tokens = usage_text fault
 reason Read source tokens = codes "the input could not be read"
 reason TooLong source tokens = codes "the input has more than 1048576 bytes"
-reason (BadByte at) source tokens = place_text source at ++ codes "no token begins here"
-reason (Syntax k) source tokens = place_text source (token_start source (slice_get tokens k))
+reason (BadByte at) source tokens = line_col_text source at ++ codes "no token begins here"
+reason (Syntax k) source tokens = line_col_text source (token_start source (slice_get tokens k))
     ++ codes "syntax"
-reason (Continuous k) source tokens = place_text source (token_start source (slice_get tokens k))
+reason (Continuous k) source tokens = line_col_text source (token_start source (slice_get tokens k))
     ++ codes "continuous severity " ++ token_text source (slice_get tokens k)
 reason (Typing fault) source tokens = typing_text fault source
 reason (NotCovered u) source tokens = unit_text u ++ codes "not covered"
@@ -88,6 +88,6 @@ abbrev pub fault_line : Fault → List ℕ → List Token → List ℕ
 fault_line fault source tokens = codes "decl: " ++ reason fault source tokens ++ codes "\n"
 
 -- the place of a bad byte lies in the text
-abbrev pub HasPlace : Fault → List ℕ → Type 0
-HasPlace (BadByte at) source = at ≤ length source
-HasPlace fault source = ⊤
+abbrev pub IsInSource : Fault → List ℕ → Type 0
+IsInSource (BadByte at) source = at ≤ length source
+IsInSource fault source = ⊤

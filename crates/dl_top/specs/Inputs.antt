@@ -91,7 +91,7 @@ unfoldable pub program_in : List (List ℕ) → List ℕ → List ℕ
 program_in words input = program_by (words_of words) input
 
 -- neither the input nor its program is too long
-pub record Fits (form : Form) (input : List ℕ) : Type 0 where
+pub record IsShort (form : Form) (input : List ℕ) : Type 0 where
   pub all : length input ≤ limit_of form
   pub program : length (program_of form input) ≤ most_text
 

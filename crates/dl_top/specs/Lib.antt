@@ -6,5 +6,5 @@ pub mod Reports
 pub mod Answers
 pub mod Replies
 pub mod Runs
-pub mod Told
+pub mod Determined
 pub mod Repeated

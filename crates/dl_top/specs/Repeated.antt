@@ -4,7 +4,7 @@ use Rattle.dl_plan.specs.declared.plan.Plan.{Plan}
 use Rattle.dl_plan.specs.declared.settings.Settings.{Settings}
 use Rattle.dl_cert.specs.Verified.{IsCertificate}
 use Rattle.dl_top.specs.Inputs.{steps_of}
-use Rattle.dl_top.specs.Answers.{Certifies, Verifies, MeansPlan, SpellsProgram}
+use Rattle.dl_top.specs.Answers.{Certifies, Verifies, HasPlan, SpellsProgram}
 
 -- The first words want a certificate of the program in their input, and this text is one; the
 -- second words want steps checked on the same grid, and their input has the same program and that
@@ -14,7 +14,7 @@ pub record IsHandedOn (words : List (List ℕ)) (input text : List ℕ) (words' 
   pub writer : Settings
   pub certifies : Certifies words writer
   pub plan : Plan
-  pub means : MeansPlan input writer plan
+  pub means : HasPlan input writer plan
   pub written : IsCertificate plan text
   pub reader : Settings
   pub verifies : Verifies words' reader

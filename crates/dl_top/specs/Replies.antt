@@ -14,7 +14,7 @@ use Rattle.dl_top.specs.declared.reply.Reply.TheVariants.{Answer, Refusal, OutOf
 use Rattle.dl_top.specs.declared.status.Status.TheVariants as statuses
 use Rattle.dl_top.specs.Faults.{fault_line}
 use Rattle.dl_top.specs.Answers.{Answers, Refuses}
-use Rattle.dl_top.specs.Inputs.{program_in, program_of, steps_of, Fits}
+use Rattle.dl_top.specs.Inputs.{program_in, program_of, steps_of, IsShort}
 
 -- the reply is what the program writes for the words and the input, unless memory ran out
 abbrev pub IsReply : List (List ℕ) → List ℕ → Reply → Type 0
@@ -24,11 +24,11 @@ IsReply words input (Refusal fault text) = (tokens : List Token) × Refuses word
 IsReply words input OutOfMemory = ⊤
 
 -- the reply is a refusal for this fault, with its text, unless memory ran out
-abbrev pub Tells : Reply → Fault → List ℕ → List Token → Type 0
-Tells (Answer text) fault source tokens = ⊥
-Tells (Refusal f text) fault source tokens = (f ≡ fault)
+abbrev pub IsRefusalOf : Reply → Fault → List ℕ → List Token → Type 0
+IsRefusalOf (Answer text) fault source tokens = ⊥
+IsRefusalOf (Refusal f text) fault source tokens = (f ≡ fault)
     × (text.items ≡ fault_line fault source tokens)
-Tells OutOfMemory fault source tokens = ⊤
+IsRefusalOf OutOfMemory fault source tokens = ⊤
 
 -- the reply is this text, unless memory ran out
 abbrev pub IfAnswer : Reply → List ℕ → Type 0
@@ -56,7 +56,7 @@ IsOfText OutOfMemory = ⊤
 
 -- an input of this form that is not too long has this program, and these steps behind it
 pub record HasParts (form : Form) (input source behind : List ℕ) : Type 0 where
-  pub fits : Fits form input
+  pub fits : IsShort form input
   pub program : program_of form input ≡ source
   pub steps : steps_of form input ≡ behind
 

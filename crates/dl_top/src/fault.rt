@@ -3,8 +3,8 @@
 ghost use Rattle.std.specs.Prelude.{◌≡◌, ◌≤◌, ◌++◌, IfOk, OnOk, length, slice_get, codes};
 ghost use Rattle.std.specs.Fmt.{decimal};
 ghost use Rattle.dl_limits.specs.Limits.{most_text};
-ghost use Rattle.dl_parser.specs.Placed.{AllInside};
-ghost use Rattle.dl_top.specs.Faults.{status_of, fault_line, place_text, token_start, token_text, ask_text, unit_text, step_text, usage_text, typing_text, reason, HasPlace};
+ghost use Rattle.dl_parser.specs.Within.{AllInside};
+ghost use Rattle.dl_top.specs.Faults.{status_of, fault_line, line_col_text, token_start, token_text, ask_text, unit_text, step_text, usage_text, typing_text, reason, IsInSource};
 
 use crate::number::push_number;
 use crate::status::Status;
@@ -75,10 +75,15 @@ fn start_of(source: &[u8], tokens: &[Token], k: u32) -> u32
 }
 
 /// Appends the line and the column of a place.
-fn push_place(alloc: Global, text: &mut Vec<u8>, source: &[u8], at: u32) -> Result<(), AllocError>
+fn push_line_col(
+    alloc: Global,
+    text: &mut Vec<u8>,
+    source: &[u8],
+    at: u32,
+) -> Result<(), AllocError>
     requires short { length source.now ≤ most_text }
     requires within { at ≤ length source.now }
-    ensures { OnOk result (text.new.items ≡ text.old.items ++ place_text source.now at) }
+    ensures { OnOk result (text.new.items ≡ text.old.items ++ line_col_text source.now at) }
 {
     let (line, column) = line_col(source, at);
     push_number(alloc, text, line as u128)?;
@@ -160,7 +165,7 @@ fn push_typing(
     ensures { OnOk result (text.new.items ≡ text.old.items ++ typing_text typing source.now) }
 {
     // a place past the end is the end, and has its line and column
-    push_place(
+    push_line_col(
         alloc,
         text,
         source,
@@ -193,7 +198,7 @@ fn push_reason(
     tokens: &[Token],
 ) -> Result<(), AllocError>
     requires short { length source.now ≤ most_text }
-    requires place { HasPlace fault source.now }
+    requires in_source { IsInSource fault source.now }
     requires inside { AllInside source.now tokens.now }
     ensures { OnOk result (text.new.items ≡ text.old.items ++ reason fault source.now tokens.now) }
 {
@@ -202,15 +207,15 @@ fn push_reason(
         Fault::Read => text.extend_from_slice(b"the input could not be read"),
         Fault::TooLong => text.extend_from_slice(b"the input has more than 1048576 bytes"),
         Fault::BadByte(at) => {
-            push_place(alloc, text, source, at)?;
+            push_line_col(alloc, text, source, at)?;
             text.extend_from_slice(b"no token begins here")
         }
         Fault::Syntax(k) => {
-            push_place(alloc, text, source, start_of(source, tokens, k))?;
+            push_line_col(alloc, text, source, start_of(source, tokens, k))?;
             text.extend_from_slice(b"syntax")
         }
         Fault::Continuous(k) => {
-            push_place(alloc, text, source, start_of(source, tokens, k))?;
+            push_line_col(alloc, text, source, start_of(source, tokens, k))?;
             text.extend_from_slice(b"continuous severity ")?;
             push_token(text, source, tokens, k)
         }
@@ -242,7 +247,7 @@ pub fn fault_text(
     tokens: &[Token],
 ) -> Result<Vec<u8>, AllocError>
     requires short { length source.now ≤ most_text }
-    requires place { HasPlace fault.now source.now }
+    requires in_source { IsInSource fault.now source.now }
     requires inside { AllInside source.now tokens.now }
     ensures { IfOk result (λ text. text.items ≡ fault_line fault.now source.now tokens.now) }
 {

@@ -6,15 +6,15 @@ ghost use Rattle.dl_plan.specs.declared.settings.Settings.{Settings};
 ghost use Rattle.dl_report.specs.declared.report.Report.{Report};
 ghost use Rattle.dl_top.specs.Answers.{IsVerifiable};
 ghost use Rattle.dl_top.specs.Repeated.{IsHandedOn};
-ghost use Rattle.dl_top.specs.Told.{MayWrite, TellsItsRows};
+ghost use Rattle.dl_top.specs.Determined.{MayWrite, DeterminesRows};
 
 /// The bytes of a report determine its rows, in each of the three forms: two reports that may be
 /// written for the same words and input, with one plan, have the same bytes only where they have
 /// the same rows.
-pub fn law_rows_told()
+pub fn law_rows_determined()
     ensures { (words : List (List ℕ)) (input : List ℕ) (settings : Settings) (plan : Plan)
         (a b : Report) → MayWrite words input settings plan a
-        → MayWrite words input settings plan b → TellsItsRows settings plan a b }
+        → MayWrite words input settings plan b → DeterminesRows settings plan a b }
 {}
 
 /// What `cert` writes is verified: words that want steps checked on the same grid, and an input

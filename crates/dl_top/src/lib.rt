@@ -36,7 +36,7 @@ pub use arguments::run_with_arguments;
 use dl_outside::{Sink, Source, write_all};
 pub use fault::{Fault, fault_text};
 pub use generator::made;
-pub use law::{law_rows_told, law_written_verifies};
+pub use law::{law_rows_determined, law_written_verifies};
 pub use status::Status;
 use std::alloc::Global;
 

@@ -1,14 +1,14 @@
 //! The reply, before any of it is written.
 
 ghost use Rattle.std.specs.Prelude.{◌≡◌, ℕ, ◌+◌, ◌≤◌, List, [], None, Err, codes, IfSome, IfOk, map, length};
-ghost use Rattle.dl_top.specs.Replies.{IsReply, Tells, IsUsage, IsReadFault, IsOfText, IfAnswer, AreReady, HasParts};
-ghost use Rattle.dl_top.specs.Faults.{HasPlace};
+ghost use Rattle.dl_top.specs.Replies.{IsReply, IsRefusalOf, IsUsage, IsReadFault, IsOfText, IfAnswer, AreReady, HasParts};
+ghost use Rattle.dl_top.specs.Faults.{IsInSource};
 ghost use Rattle.std.specs.String.{string_bytes};
 ghost use Rattle.dl_words.specs.declared.fault.UsageFault.{UsageFault};
 ghost use Rattle.dl_lexer.specs.Cutting.{Covers};
 ghost use Rattle.dl_plan.specs.declared.settings.Settings.{Settings};
 ghost use Rattle.dl_plan.specs.Forms.{IsOfCert, IsOfPlan};
-ghost use Rattle.dl_top.specs.Answers.{Asks, Formats, Certifies, Verifies, SpellsProgram, MeansPlan};
+ghost use Rattle.dl_top.specs.Answers.{Asks, Formats, Certifies, Verifies, SpellsProgram, HasPlan};
 ghost use Rattle.dl_limits.specs.Limits.{most_digits, most_text, most_cert_cells, most_steps_text};
 ghost use Rattle.dl_top.specs.Inputs.{Say, HasFault, MakeText, ReadText, input_of, limit_of, limit_for, steps_of};
 ghost use Rattle.dl_outside.specs.Faults.{Rose};
@@ -19,7 +19,7 @@ ghost use Rattle.dl_outside.specs.Bytes.{TakesAtMost};
 ghost use Rattle.dl_outside.specs.Steps.{Reading};
 ghost use Rattle.dl_ast.specs.WellFormed.{IsWellFormed};
 ghost use Rattle.dl_plan.specs.Valid.{IsValid};
-ghost use Rattle.dl_parser.specs.Placed.{AllInside};
+ghost use Rattle.dl_parser.specs.Within.{AllInside};
 ghost use Rattle.dl_report.specs.Objects.{AsksAreText};
 ghost use Rattle.dl_eval.specs.Answers.{IsAnswered};
 
@@ -55,9 +55,9 @@ pub enum Reply {
 /// The refusal with the text of a fault.
 fn refusal(alloc: Global, fault: Fault, source: &[u8], tokens: &[Token]) -> Reply
     requires short { length source.now ≤ most_text }
-    requires place { HasPlace fault source.now }
+    requires in_source { IsInSource fault source.now }
     requires inside { AllInside source.now tokens.now }
-    ensures { Tells result fault source.now tokens.now }
+    ensures { IsRefusalOf result fault source.now tokens.now }
 {
     match fault_text(alloc, &fault, source, tokens) {
         Ok(text) => Reply::Refusal(fault, text),
@@ -88,7 +88,7 @@ fn reported(alloc: Global, report: &Report, plan: &Plan, settings: &Settings) ->
     requires settings { AreReady settings.now }
     requires answered { IsAnswered plan.now settings.now report.now }
     ensures reply { (words : List (List ℕ)) (input : List ℕ) → Asks words settings.now
-        → MeansPlan input settings.now plan.now → IsReply words input result }
+        → HasPlan input settings.now plan.now → IsReply words input result }
     ensures of_text { IsOfText result }
 {
     match in_form(alloc, report, plan, settings) {
@@ -102,7 +102,7 @@ fn reply_to_asks(alloc: Global, settings: &Settings, plan: &Plan) -> Reply
     requires settings { AreReady settings.now }
     requires valid { IsValid plan.now }
     ensures reply { (words : List (List ℕ)) (input : List ℕ) → Asks words settings.now
-        → MeansPlan input settings.now plan.now → IsReply words input result }
+        → HasPlan input settings.now plan.now → IsReply words input result }
     ensures of_text { IsOfText result }
 {
     match evaluate(alloc, plan, settings) {
@@ -122,7 +122,7 @@ fn certified(alloc: Global, plan: &Plan) -> Reply
     requires valid { IsValid plan.now }
     requires few { plan.now.cells ≤ most_cert_cells }
     ensures reply { (words : List (List ℕ)) (input : List ℕ) (settings : Settings)
-        → Certifies words settings → MeansPlan input settings plan.now
+        → Certifies words settings → HasPlan input settings plan.now
         → IsReply words input result }
     ensures of_text { IsOfText result }
 {
@@ -149,7 +149,7 @@ fn verified(alloc: Global, plan: &Plan, steps: &[u8]) -> Reply
     requires few { plan.now.cells ≤ most_cert_cells }
     requires short { length steps.now ≤ most_steps_text }
     ensures reply { (words : List (List ℕ)) (input : List ℕ) (settings : Settings)
-        → Verifies words settings → MeansPlan input settings plan.now
+        → Verifies words settings → HasPlan input settings plan.now
         → steps_of settings.form input ≡ steps.now → IsReply words input result }
     ensures of_text { IsOfText result }
 {
@@ -169,7 +169,7 @@ fn reply_to_plan(alloc: Global, settings: &Settings, plan: &Plan, steps: &[u8]) 
     requires few { IsOfCert settings.now.form → plan.now.cells ≤ most_cert_cells }
     requires short { length steps.now ≤ most_steps_text }
     ensures reply { (words : List (List ℕ)) (input : List ℕ) → Say words settings.now
-        → MeansPlan input settings.now plan.now → steps_of settings.now.form input ≡ steps.now
+        → HasPlan input settings.now plan.now → steps_of settings.now.form input ≡ steps.now
         → IsReply words input result }
     ensures of_text { IsOfText result }
 {
@@ -321,7 +321,7 @@ fn reply_to_source<R: Source>(alloc: Global, settings: &Settings, src: &mut R) -
     ensures reply { IfSome (R.left src.old) (λ input. (words : List (List ℕ))
         → Say words settings.now → IsReply words input result) }
     ensures read_cause { IsReadFault result → Rose (R.faults src.old) (R.faults src.new) }
-    ensures read_text { IsReadFault result → Tells result Fault.Read [] [] }
+    ensures read_text { IsReadFault result → IsRefusalOf result Fault.Read [] [] }
     ensures not_usage { ¬ IsUsage result }
     ensures taken { TakesAtMost (R.left src.old) (R.left src.new)
         (limit_of settings.now.form + 1) }
@@ -344,7 +344,7 @@ pub fn reply_to<R: Source>(alloc: Global, words: &[String], src: &mut R) -> Repl
     // A fault of the words comes from them alone, and is returned; the source is not read.
     ensures usage { IsUsage result → HasFault (map string_bytes words.now) }
     ensures unread { (fault : UsageFault) → words_of (map string_bytes words.now) ≡ Err fault
-        → Tells result (Fault.Usage fault) [] [] × (src.new ≡ src.old) }
+        → IsRefusalOf result (Fault.Usage fault) [] [] × (src.new ≡ src.old) }
 
     // With a seed the source is not read.
     ensures made { MakeText (map string_bytes words.now)
@@ -357,7 +357,7 @@ pub fn reply_to<R: Source>(alloc: Global, words: &[String], src: &mut R) -> Repl
     // A failed read has its cause.
     ensures read_cause { IsReadFault result → Rose (R.faults src.old) (R.faults src.new) }
     ensures read_words { IsReadFault result → ReadText (map string_bytes words.now) }
-    ensures read_text { IsReadFault result → Tells result Fault.Read [] [] }
+    ensures read_text { IsReadFault result → IsRefusalOf result Fault.Read [] [] }
 {
     match read_words(alloc, words) {
         Ok(settings) => match settings.make {

@@ -56,14 +56,14 @@ high_power : (p node m : ℕ) (roots : List ℕ) (l : ℕ) → m ≡ 2 ^ l → I
 high_power p node m roots l em tree small inside k h =
     grind (arith, same_of p (point_odd p roots node), same_trans, node_power)
 
-low_place : (node m w k : ℕ) → w ≡ m * 2 → 2 * node * m + k ≡ node * w + k
-low_place node m w k e = omega (arith, ap (λ t. node * t) e)
+low_index : (node m w k : ℕ) → w ≡ m * 2 → 2 * node * m + k ≡ node * w + k
+low_index node m w k e = omega (arith, ap (λ t. node * t) e)
 
-high_place : (node m w k : ℕ) → w ≡ m * 2 → m ≤ k → (2 * node + 1) * m + (k - m) ≡ node * w + k
-high_place node m w k e h = omega (arith, ap (λ t. node * t) e)
+high_index : (node m w k : ℕ) → w ≡ m * 2 → m ≤ k → (2 * node + 1) * m + (k - m) ≡ node * w + k
+high_index node m w k e h = omega (arith, ap (λ t. node * t) e)
 
-next_place : (node m w i : ℕ) → w ≡ m * 2 → (2 * node + 1) * m + i ≡ node * w + (m + i)
-next_place node m w i e = omega (arith, ap (λ t. node * t) e)
+next_index : (node m w i : ℕ) → w ≡ m * 2 → (2 * node + 1) * m + i ≡ node * w + (m + i)
+next_index node m w i e = omega (arith, ap (λ t. node * t) e)
 
 twice_sum : (m w : ℕ) → w ≡ m * 2 → m + m ≡ w
 twice_sum m w e = omega (arith, e)
@@ -85,7 +85,7 @@ values_step p node m w roots x a b low high first second l em twice tree small i
     seconds k below = elim (cases_lt k m) [
       | inl h ↦
           let c = slice_index roots node in
-          rw (get_or-append first second 0 k (omega (arith, len, h)), ← low_place node m w k twice, ← twice_sum m w twice)
+          rw (get_or-append first second 0 k (omega (arith, len, h)), ← low_index node m w k twice, ← twice_sum m w twice)
           (same_trans (firsts k h) (half_value p m (λ i. get_or x i 0) (λ i. get_or low i 0) c _
           (low_power p node m roots l em tree small inside k h)
           (λ i inside. rw (ea, eb, get_or-take m x i 0 inside, get_or-drop m x i 0) at (lows i inside))))
@@ -93,7 +93,7 @@ values_step p node m w roots x a b low high first second l em twice tree small i
           let c = p - slice_index roots node in
           let j = k - m in
           let inside_j : j < m = omega (arith, below, twice, h) in
-          rw (get_or-append_right first second m k 0 len h, ← high_place node m w k twice h, ← twice_sum m w twice)
+          rw (get_or-append_right first second m k 0 len h, ← high_index node m w k twice h, ← twice_sum m w twice)
           (same_trans (seconds j inside_j) (half_value p m (λ i. get_or x i 0) (λ i. get_or high i 0) c _
           (high_power p node m roots l em tree small inside j inside_j)
           (λ i inside. rw (ea, eb, get_or-take m x i 0 inside, get_or-drop m x i 0) at (highs i inside))))
@@ -119,13 +119,13 @@ items_step p node m w v roots x a b low high first second l em twice pos tree sm
     let lows : (i : ℕ) → i < m → Same p (get_or low i 0) (m * (y i + c * y (m + i))) =
     lowered (λ i. y i + c * y (m + i)) (λ i inside_i.
     rw (ea, get_or-take m x i 0 inside_i)
-    (same_trans (rw (← low_place node m w i twice, ← twice_sum m w twice) at (known i (omega (arith, twice))))
+    (same_trans (rw (← low_index node m w i twice, ← twice_sum m w twice) at (known i (omega (arith, twice))))
     (same_sym (half_value p m y (λ i. y i + c * y (m + i)) c (point p roots (2 * node * m + i))
     (low_power p node m roots l em tree small inside i inside_i) (λ i _. same_refl p (y i + c * y (m + i))))))) in
     let highs : (i : ℕ) → i < m → Same p (get_or high i 0) (m * (y i + (p - c) * y (m + i))) =
     raised (λ i. y i + (p - c) * y (m + i)) (λ i inside_i.
     rw (eb, get_or-drop m x i 0)
-    (same_trans (rw (← next_place node m w i twice, ← twice_sum m w twice) at (known (m + i) (omega (arith, twice))))
+    (same_trans (rw (← next_index node m w i twice, ← twice_sum m w twice) at (known (m + i) (omega (arith, twice))))
     (same_sym (half_value p m y (λ i. y i + (p - c) * y (m + i)) (p - c) (point p roots ((2 * node + 1) * m + i))
     (high_power p node m roots l em tree small inside i inside_i)
     (λ i _. same_refl p (y i + (p - c) * y (m + i))))))) in

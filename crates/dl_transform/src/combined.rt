@@ -206,7 +206,7 @@ fn most(xs: &[u128]) -> u128
 /// Whether `levels` levels serve the first `cells` items of the product of two lists: the setup
 /// has room for both, and the sum of `a` times the greatest item of `b` is below `2^123`.
 #[tactic(auto, using(crate::proofs::Wholes::too_large))]
-fn fits(a: &[u128], b: &[u128], cells: usize, levels: u32) -> bool
+fn is_large_enough(a: &[u128], b: &[u128], cells: usize, levels: u32) -> bool
     requires few { levels < 40 }
     requires first { All (λ x. x < 2 ^ 64) a.now }
     requires second { All (λ x. x < 2 ^ 64) b.now }
@@ -220,8 +220,8 @@ fn fits(a: &[u128], b: &[u128], cells: usize, levels: u32) -> bool
         → m * sum_by (λ x. x) a.now < 2 ^ 123 → result ≡ true }
 {
     let all = total(a);
-    let both = a.len() + b.len();
-    if cells > both || both > cells_of(levels) {
+    let items = a.len() + b.len();
+    if cells > items || items > cells_of(levels) {
         return false;
     }
     if all >= 18446744073709551616 {
@@ -256,7 +256,7 @@ pub fn checked_product(
         → (m : ℕ) → ((k : ℕ) → slice_index b.now k ≤ m)
         → m * sum_by (λ x. x) a.now < 2 ^ 123 → found ≡ true) }
 {
-    if !fits(a, b, out.len(), setup.levels) {
+    if !is_large_enough(a, b, out.len(), setup.levels) {
         return Ok(false);
     }
     product(alloc, a, b, false, setup, buffers, out)?;
@@ -281,7 +281,7 @@ pub fn checked_square(
         → (m : ℕ) → ((k : ℕ) → slice_index a.now k ≤ m)
         → m * sum_by (λ x. x) a.now < 2 ^ 123 → found ≡ true) }
 {
-    if !fits(a, a, out.len(), setup.levels) {
+    if !is_large_enough(a, a, out.len(), setup.levels) {
         return Ok(false);
     }
     product(alloc, a, a, true, setup, buffers, out)?;

@@ -124,7 +124,7 @@ fn squares(alloc: Global, p: u64, first: u64, levels: u32) -> Result<Vec<Factor>
 
 /// The number at each of `count` places, where a step goes with each bit of the place, the lowest
 /// bit's last.
-fn at_places(alloc: Global, p: u64, steps: &[Factor], count: usize) -> Result<Vec<u64>, AllocError>
+fn at_indices(alloc: Global, p: u64, steps: &[Factor], count: usize) -> Result<Vec<u64>, AllocError>
     requires modulus { IsModulus p }
 {
     let mut all = Vec::with_capacity(alloc, count)?;
@@ -170,7 +170,7 @@ fn nodes(
     requires modulus { IsModulus p }
 {
     let steps = squares(alloc, p, first, levels)?;
-    let numbers = at_places(alloc, p, steps.as_slice(), count)?;
+    let numbers = at_indices(alloc, p, steps.as_slice(), count)?;
     let quotients = quotients(alloc, p, numbers.as_slice())?;
     Ok((numbers, quotients))
 }

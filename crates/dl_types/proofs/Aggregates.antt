@@ -1,6 +1,6 @@
 -- An aggregate clause that breaks no rule is one of a valid plan.
-use Rattle.dl_types.proofs.Common.{◌≡◌, ◌∙◌, ap, ℕ, ◌≤◌, true, Option, Some, None, refl, sym, subst, All, IfSome, ltb-false, All-map, most_horizon, most_amount_at, Sev, HasDistribution, Clause, IsClause, horizon, horizon_is, not_at, GridClause, GridUnit, clause_of, has_shares, off_grid_cession, final_severity, aggregate_clause, IsCedeOf, horizon_too_large, IsWithinMostAmount, IsAggregate, ceded_layer, IsClauseWithin, IsWithin, made_of, shares_of, is_fine, MadeClause, cession_fine, made_cession, made_whole, cede_of}
-use Rattle.dl_buckets.specs.ClausesKept.{IsClauseLayered}
+use Rattle.dl_types.proofs.Common.{◌≡◌, ◌∙◌, ap, ℕ, ◌≤◌, true, Option, Some, None, refl, sym, subst, All, IfSome, ltb-false, All-map, most_horizon, most_amount_at, Sev, HasDistribution, Clause, IsClause, horizon, horizon_is, not_at, GridClause, GridUnit, clause_of, has_shares, off_grid_cession, final_severity, aggregate_clause, IsCedeOf, horizon_too_large, IsWithinMostAmount, IsAggregate, ceded_layer, IsClauseWithin, IsWithin, made_of, shares_of, is_fine, MadeClause, clause_fine, made_is_clause, made_whole, cede_of}
+use Rattle.dl_buckets.specs.CheckedClauses.{IsClauseLayered}
 use Rattle.dl_types.proofs.ClauseFacts.{sums_whole}
 
 -- ---- the horizon
@@ -34,7 +34,7 @@ module _ (cells : ℕ) (u : GridUnit) (none : off_grid_cession u ≡ None) (shar
         horizon = (
           horizon (Some (clause_of c)) cells,
           horizon_is (Some (clause_of c)) cells accepted,
-          near_most cells c (cession_fine c (clause_of c) (refl, accepted))
+          near_most cells c (clause_fine c (clause_of c) (refl, accepted))
               (subst (λ a. horizon_too_large cells (made_of a) ≡ None) is near),
         );
       })
@@ -49,7 +49,7 @@ pub clause_there : (o : Option GridClause) → IfSome o IsClauseLayered → has_
 clause_there None layered shares = record { same = refl; accepted = tt }
 clause_there (Some c) layered shares = record {
   same = refl;
-  accepted = made_cession c layered shares;
+  accepted = made_is_clause c layered shares;
 }
 
 pub cede_is : (o : Option GridClause) (made : MadeClause) → IfSome o IsClauseLayered → has_shares o ≡ true

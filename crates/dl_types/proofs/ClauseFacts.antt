@@ -1,6 +1,6 @@
 -- What an aggregate clause of a valid plan keeps: its multiples are whole numbers, and its horizon is small. The
 -- greatest common divisor of a severity's amounts is that of the amounts of positive probability of what it means.
-use Rattle.dl_types.proofs.Common.{◌∣◌, ℕ, ◌≡◌, ◌∙◌, ◌*◌, get_or, true, false, List, [], ◌∷◌, Some, None, refl, sym, ap, subst, inl, inr, All, eqb_tells, All-nil, All-cons, All-head, All-tail, whole, ◌over◌, ◌<ℚ◌, gcd, gcd_is, IsClause, Item, Sev, Pairs, HasDistribution, GridClause, GridUnit, clause_of, support, final_severity, has_shares, off_grid_cession, items_in, ◌⊎◌, fold, dvd_refl, dvd_trans, dvd-zero, dvd_antisymm, lt_not_le, le_refl, IsWhole, kept, weight_at, common_amount, zero_over, total_pos, common_amount_of, off_grid_sums, Rising, rises, support_positive, is_off_multiples, made_of, severity_in_layer, cession_fine, multiples_none, sums_none}
+use Rattle.dl_types.proofs.Common.{◌∣◌, ℕ, ◌≡◌, ◌∙◌, ◌*◌, get_or, true, false, List, [], ◌∷◌, Some, None, refl, sym, ap, subst, inl, inr, All, eqb_tells, All-nil, All-cons, All-head, All-tail, whole, ◌over◌, ◌<ℚ◌, gcd, gcd_is, IsClause, Item, Sev, Pairs, HasDistribution, GridClause, GridUnit, clause_of, support, final_severity, has_shares, off_grid_cession, items_in, ◌⊎◌, fold, dvd_refl, dvd_trans, dvd-zero, dvd_antisymm, lt_not_le, le_refl, IsWhole, kept, weight_at, common_amount, zero_over, total_pos, common_amount_of, off_grid_sums, Rising, rises, support_positive, is_off_multiples, made_of, severity_in_layer, clause_fine, multiples_none, sums_none}
 use Rattle.dl_types.proofs.OnePlan.{first_weight, other_weight, same_item}
 use Rattle.dl_buckets.proofs.PastEdges.{fits_tried}
 
@@ -66,7 +66,7 @@ module _ (sev : Sev) (ps : Pairs) (means : HasDistribution sev ps) where
 
 -- ---- the aggregate clause over sums of a severity
 
-module _ (u : GridUnit) (c : GridClause) (is : u.agr ≡ Some c) (cession : IsClause (clause_of c))
+module _ (u : GridUnit) (c : GridClause) (is : u.agr ≡ Some c) (is_clause : IsClause (clause_of c))
     (none : off_grid_cession u ≡ None)
     (has : has_shares u.occ ≡ true) (sev : Sev) (means : HasDistribution sev (final_severity u)) where
   aggregate_none : off_grid_sums (made_of (Some c)) (support (final_severity u)) ≡ None
@@ -77,6 +77,6 @@ module _ (u : GridUnit) (c : GridClause) (is : u.agr ≡ Some c) (cession : IsCl
   -- the clause maps each multiple of the greatest common divisor of the amounts to a whole number
   pub sums_whole : (n : ℕ) → IsWhole (kept (clause_of c) (n * common_amount sev.items))
   sums_whole =
-      fits_tried (clause_of c) (common_amount sev.items) cession
+      fits_tried (clause_of c) (common_amount sev.items) is_clause
       (subst (λ n. is_off_multiples (clause_of c) n ≡ false) (sym (same_common sev (final_severity u) means))
-      (multiples_none c (support (final_severity u)) (cession_fine c (clause_of c) (refl, cession)) aggregate_none))
+      (multiples_none c (support (final_severity u)) (clause_fine c (clause_of c) (refl, is_clause)) aggregate_none))

@@ -48,17 +48,17 @@ pub use Rattle.dl_buckets.proofs.Items.{items_in, Rising, rises, support_positiv
 pub use Rattle.dl_buckets.proofs.Values.{never, zero_above, not_above}
 pub use Rattle.dl_buckets.specs.Clauses.{clause_of, made_of, shares_of, ceded_layer, is_off_multiples}
 pub use Rattle.dl_buckets.specs.FineParts.{fractions_too_fine, has_severity, has_shares}
-pub use Rattle.dl_buckets.specs.GridKept.{IsGridUnit, IsWithin, IsClauseWithin}
+pub use Rattle.dl_buckets.specs.CheckedGrid.{IsGridUnit, IsWithin, IsClauseWithin}
 unfoldable pub use Rattle.dl_buckets.specs.Rules.{off_grid_cession, other_length}
 pub use Rattle.dl_buckets.specs.Severity.{final_severity, severity_in_layer, support, KeepsWhole, made_pairs}
 pub use Rattle.dl_buckets.specs.declared.grid.GridClause.{GridClause}
 pub use Rattle.dl_buckets.specs.declared.grid.GridUnit.{GridUnit}
-pub use Rattle.dl_types.specs.Answer.{AnswersUnit, AnswersUnits, TellsFault, StopsAt, IsCheckOf, AnswersWith, AnswersGrid}
+pub use Rattle.dl_types.specs.Answer.{AnswersUnit, AnswersUnits, HasFault, StopsAt, IsCheckOf, AnswersWith, AnswersGrid}
 pub use Rattle.dl_types.specs.Exposures.{admitted, claims_above_zero, claims_of, shape_of, is_unbounded, has_count, is_there_and, thinned}
 unfoldable pub use Rattle.dl_types.specs.Exposures.{expected_claims}
 pub use Rattle.dl_types.specs.Faults.{breaks, cells_asked, fault_of_severity, first_broken, fault_of_text, fault_of_mixture, common_size, parts_in, clause_rules, whole_rules, count_rules, most_asked, AllKept, number_rules, change_rules, grid_rules, text_rules}
 unfoldable pub use Rattle.dl_types.specs.Faults.{fault_on_grid, first_fault, first_fault_of, fault_of_port, fault_with}
-pub use Rattle.dl_types.specs.Kept.{IsCountKept, IsFreqKept, IsSet, IsWholeCount, IsWholeFreq, IsSmallFreq}
+pub use Rattle.dl_types.specs.Checked.{IsCountChecked, IsFreqChecked, IsSet, IsWholeCount, IsWholeFreq, IsSmallFreq}
 pub use Rattle.dl_types.specs.Plans.{IsCedeOf, IsCountMade, aggregate_clause, pairs_of_counts, freq_with, IsCountOf, IsUnitOn, IsUnitOf, IsSharedShape, IsWrittenShape, IsPlanOf, IsTableOf, cede_of, IsCountWith, IsUnitWith}
 pub use Rattle.dl_types.specs.Rules.{passes, repeated, has_common, exposure_span, is_poisson, is_plain_poisson, freq_span, has_no_base, has_bad_shape, seventeenth}
 unfoldable pub use Rattle.dl_types.specs.Rules.{duplicate_name, exposed_too_fine, has_too_many_claims, horizon_too_large, too_fine, too_many_claims, too_many_units, common_unit, zero_base, common_shape, duplicate_severity, count_not_whole, count_above_one, trials_not_whole, shape_not_whole, zero_mean}
@@ -76,7 +76,7 @@ pub use Rattle.dl_plan.specs.Common.{unit_share, shared_probabilities, raised, H
 pub use Rattle.dl_ast.specs.declared.ast.PortHead.{PortHead}
 pub use Rattle.dl_plan.specs.Means.{thinned_mean}
 pub use Rattle.dl_types.specs.declared.fault.TypeFault.{TypeFault}
-pub use Rattle.dl_types.specs.Factor.{part_of, is_raised_coarse, joined, Part, passes_bounds, passes_with, claim_share, amount_shares, IsShapeIn, times_amounts, claims_expected, part_on, part_of_mixture, part_in, IsCounted}
+pub use Rattle.dl_types.specs.Factor.{part_of, is_raised_coarse, common_multiple, Part, passes_bounds, passes_with, claim_share, amount_shares, IsShapeIn, times_amounts, claims_expected, part_on, part_of_mixture, part_in, IsCounted}
 pub use Rattle.dl_types.specs.declared.rule.Rule.{Rule}
 unfoldable pub use Rattle.dl_types.specs.Severities.{named, mixture_of}
 unfoldable pub use Rattle.dl_buckets.specs.Reading.{flaws_of}
@@ -88,7 +88,7 @@ pub use Rattle.std.proofs.Math.Bool.{or-true, and-false}
 pub use Rattle.dl_buckets.specs.declared.made.MadeClause.{MadeClause}
 pub use Rattle.dl_plan.proofs.CommonDenominators.{lcm_pos, common_from_pos, den_divides, common_from_divides}
 pub use Rattle.dl_buckets.specs.Values.{value, is_bad_numeral, if_there}
-pub use Rattle.dl_buckets.specs.Flaws.{IsClean, IsRead, places, AgreeToFirst}
+pub use Rattle.dl_buckets.specs.Flaws.{IsClean, IsRead, spans, AgreeToFirst}
 pub use Rattle.dl_limits.proofs.Scales.{amount_fits}
 pub use Rattle.std.specs.Result.{IsErr, IsErrAnd}
 pub use Rattle.dl_exact.proofs.Over.{le_over, over_self, over_mul, over_num as num_of_over, over_den as den_of_over, same, over_le}
@@ -96,12 +96,12 @@ pub use Rattle.dl_buckets.specs.Grid.{grid_mixture, grid_count, given_zero, grid
 unfoldable pub use Rattle.dl_exact.specs.Sum.{sum_over}
 pub use Rattle.std.proofs.lemmas.List.Concat.{flat_map-cons}
 pub use Rattle.dl_buckets.proofs.Firsts.{from_map, first-append, else_none}
-pub use Rattle.dl_buckets.proofs.ClauseLaws.{cession_fine, turn_none, made_cession}
+pub use Rattle.dl_buckets.proofs.ClauseLaws.{clause_fine, turn_none, made_is_clause}
 pub use Rattle.std.proofs.lemmas.Slice.Eq.{bytes_eq-Decides}
 pub use Rattle.std.proofs.lemmas.Nat.Gcd.{dvd_antisymm, dvd_refl, dvd_trans, dvd-zero, le_of_dvd}
 pub use Rattle.dl_exact.proofs.Denominators.{over_zero, over_zero as zero_over}
 pub use Rattle.dl_plan.proofs.Means.{severity_total, severity_total as total_pos}
-pub use Rattle.dl_buckets.specs.Kept.{IsFineSev, IsLayered}
+pub use Rattle.dl_buckets.specs.CheckedUnit.{IsFineSev, IsLayered}
 pub use Rattle.dl_buckets.specs.Reading.{flaws_of_mixture, flaws_with}
 pub use Rattle.dl_exact.specs.Multiples.{lcm}
 pub use Rattle.dl_buckets.proofs.GridUnits.{grid_is, within_is}

@@ -4,7 +4,7 @@ use Rattle.dl_types.proofs.PlannedCounts.{admitted_is}
 use Rattle.dl_types.specs.declared.rule.Rule.TheVariants as rules
 use Rattle.dl_types.proofs.ExposedCounts.{shape_above, whole_is}
 use Rattle.dl_types.proofs.RuleLists.{both, only}
-use Rattle.dl_types.proofs.FactorParts.{all_can_share, size_place}
+use Rattle.dl_types.proofs.FactorParts.{all_can_share, size_span}
 use Rattle.dl_types.proofs.RunningSums.{sum_is, first_admitted}
 use Rattle.dl_types.proofs.FactorBounds.{claims_of_units, above_of_units, bounds_are, large_is}
 
@@ -76,9 +76,9 @@ no_common settings program head is none = rw (is, none) refl
 -- a portfolio with this coefficient of variation
 module _ (port : Option PortHead) (head : PortHead) (c : Numeral) (is : port ≡ Some head)
     (common : head.common ≡ Some c) where
-  pub shape_place : common_shape port ≡ at_if (has_bad_shape c) c.span
+  pub shape_span : common_shape port ≡ at_if (has_bad_shape c) c.span
   unfolding common_shape
-  shape_place = rw (is, common) refl
+  shape_span = rw (is, common) refl
 
   module _ (r : ℕ) (shape : IsShapeIn c r) where
     -- the shape is good, and the size is asked of the units of the plan
@@ -88,12 +88,12 @@ module _ (port : Option PortHead) (head : PortHead) (c : Numeral) (is : port ≡
         → fault_of_port settings program ≡ breaks 0 rules.CommonSize (at_if large head.name.span)
     unfolding fault_of_port
     size_told settings program made large same answer e =
-        let good : common_shape port ≡ None = shape_place ∙ ap (λ b. at_if b c.span) shape.good in
+        let good : common_shape port ≡ None = shape_span ∙ ap (λ b. at_if b c.span) shape.good in
         let size : common_size port (map part_of made) ≡ at_if large head.name.span =
         common_is (map part_of made) ∙ ap (λ b. at_if b head.name.span)
         (ap (λ n. is_too_large n (map part_of made)) (sym shape.value) ∙ sym e) in
         ap₂ (λ s p. breaks 0 rules.CommonShape s else breaks 0 rules.CommonSize p) (ap common_shape (sym same) ∙ good)
-        (sym (size_place settings program made answer) ∙ ap (λ p. common_size p (map part_of made)) (sym same) ∙ size)
+        (sym (size_span settings program made answer) ∙ ap (λ p. common_size p (map part_of made)) (sym same) ∙ size)
       where
         common_is : (parts : List Part)
             → common_size port parts ≡ at_if (is_too_large (shape_of (value c)).num parts) head.name.span
@@ -104,10 +104,10 @@ module _ (port : Option PortHead) (head : PortHead) (c : Numeral) (is : port ≡
         let same : whole r ≡ shape_of (value c) = ap whole shape.value ∙ (good_shape c shape.good).1 in
         rw (is, common) (r, same, refl)
 
-pub bad_told : (settings : Settings) (program : Program) (place : Span) → common_shape program.port ≡ Some place
-    → fault_of_port settings program ≡ Some (record { unit = 0; rule = rules.CommonShape; span = place })
+pub bad_told : (settings : Settings) (program : Program) (span : Span) → common_shape program.port ≡ Some span
+    → fault_of_port settings program ≡ Some (record { unit = 0; rule = rules.CommonShape; span = span })
 unfolding fault_of_port
-bad_told settings program place e =
+bad_told settings program span e =
     ap (λ p. breaks 0 rules.CommonShape p
     else breaks 0 rules.CommonSize (common_size program.port (parts_in settings program))) e
 
@@ -135,14 +135,14 @@ module _ (settings : Settings) (program : Program) (made : List UnitOfPlan)
 abbrev Sized : List Part → Option ℕ → Type 0
 Sized parts shape = IfSome shape (λ r. (0 < r) × (is_too_large r parts ≡ false))
 
-sized_number : (common : Option Numeral) (place : Span) (parts : List Part)
+sized_number : (common : Option Numeral) (span : Span) (parts : List Part)
     → within (λ (c : Numeral). at_if (has_bad_shape c) c.span) common ≡ None
-    → within (λ (c : Numeral). at_if (is_too_large (shape_of (value c)).num parts) place) common ≡ None
+    → within (λ (c : Numeral). at_if (is_too_large (shape_of (value c)).num parts) span) common ≡ None
     → (shape : Option ℕ) × IsWrittenShape common shape × Sized parts shape
-sized_number None place parts bad large = (None, refl, tt)
-sized_number (Some c) place parts bad large =
+sized_number None span parts bad large = (None, refl, tt)
+sized_number (Some c) span parts bad large =
     let (pos, same) = good_shape c (not_at _ c.span bad) in
-    (Some (shape_of (value c)).num, ((shape_of (value c)).num, same, refl), (pos, not_at _ place large))
+    (Some (shape_of (value c)).num, ((shape_of (value c)).num, same, refl), (pos, not_at _ span large))
 
 sized_shape : (port : Option PortHead) (parts : List Part) → common_shape port ≡ None → common_size port parts ≡ None
     → (shape : Option ℕ) × IsSharedShape port shape × Sized parts shape
@@ -159,5 +159,5 @@ module _ (settings : Settings) (program : Program) (made : List UnitOfPlan)
       let parts = both 0 rules.CommonShape (common_shape program.port) _ none in
       let size = only 0 rules.CommonSize (common_size program.port (parts_in settings program)) parts.1 in
       let (shape, is, sized) = sized_shape program.port (map part_of made) parts.0
-      (size_place settings program made answer ∙ size) in
+      (size_span settings program made answer ∙ size) in
       (shape, is, factor_there settings program made answer shape is sized)

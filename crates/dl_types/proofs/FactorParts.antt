@@ -249,8 +249,8 @@ size_alike (Some h) ps qs same = at_common h.common same
     at_common (Some c) same = ap (λ b. at_if b h.name.span) (same refl (shape_of (value c)).num)
 
 -- the place of the rule, by the units of the plan
-pub size_place : (settings : Settings) (program : Program) (made : List UnitOfPlan)
+pub size_span : (settings : Settings) (program : Program) (made : List UnitOfPlan)
     → AnswersUnits settings program.port program.sevs program.units (Ok made)
     → common_size program.port (map part_of made) ≡ common_size program.port (parts_in settings program)
-size_place settings program made answer = size_alike program.port (map part_of made) (parts_in settings program)
+size_span settings program made answer = size_alike program.port (map part_of made) (parts_in settings program)
     (large_parts settings program.port program.sevs program.units made answer)

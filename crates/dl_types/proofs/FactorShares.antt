@@ -1,6 +1,6 @@
 -- The shares of units in all expected claims, and their common denominators.
 use Rattle.std.proofs.lemmas.Grind.{flat_map-append}
-use Rattle.dl_types.proofs.Common.{◌≡◌, ◌∙◌, ℕ, ◌+◌, ◌*◌, ◌<◌, ◌≤◌, ◌&&◌, Bool, false, List, [], ◌∷◌, ◌++◌, length, map, take, get_or, inl, inr, refl, sym, ap, ap₂, subst, arith, Fraction, whole, ◌over◌, ◌*ℚ◌, ◌/ℚ◌, ◌≤ℚ◌, ◌<ℚ◌, div_times, Item, Sev, IsTooFine, drop, flat_map, lt-leb, and-false, get_or_default, flat_map_more, take-append-drop, fold-append, get_or-le-sum_by, le_of_dvd, most_parts, lcm, one_pos, one_times, times_le_cancel, times_le_both, lcm_right, le_over, over_le, over_mul, over_self, UnitOfPlan, unit_share, shared_probabilities, lcm_pos, common_from_pos, common_from_divides, severity_total, is_fine, joined, times_amounts}
+use Rattle.dl_types.proofs.Common.{◌≡◌, ◌∙◌, ℕ, ◌+◌, ◌*◌, ◌<◌, ◌≤◌, ◌&&◌, Bool, false, List, [], ◌∷◌, ◌++◌, length, map, take, get_or, inl, inr, refl, sym, ap, ap₂, subst, arith, Fraction, whole, ◌over◌, ◌*ℚ◌, ◌/ℚ◌, ◌≤ℚ◌, ◌<ℚ◌, div_times, Item, Sev, IsTooFine, drop, flat_map, lt-leb, and-false, get_or_default, flat_map_more, take-append-drop, fold-append, get_or-le-sum_by, le_of_dvd, most_parts, lcm, one_pos, one_times, times_le_cancel, times_le_both, lcm_right, le_over, over_le, over_mul, over_self, UnitOfPlan, unit_share, shared_probabilities, lcm_pos, common_from_pos, common_from_divides, severity_total, is_fine, common_multiple, times_amounts}
 use Rattle.dl_types.proofs.Naming.{one_more, maps_more, maps_split}
 
 -- ---- parts of a whole
@@ -43,13 +43,14 @@ weight_within sev k item inside is =
 
 -- ---- common denominators
 
-pub joined_append : (m : ℕ) (xs ys : List Fraction) → joined m (xs ++ ys) ≡ joined (joined m xs) ys
-joined_append m xs ys = fold-append (λ k (x : Fraction). lcm k x.den) m xs ys
+pub common_multiple_append : (m : ℕ) (xs ys : List Fraction) → common_multiple m (xs ++ ys)
+    ≡ common_multiple (common_multiple m xs) ys
+common_multiple_append m xs ys = fold-append (λ k (x : Fraction). lcm k x.den) m xs ys
 
-pub joined_within : (m : ℕ) (xs ys : List Fraction) → 0 < m → joined m xs ≤ joined m (xs ++ ys)
-joined_within m xs ys pos =
-    rw (joined_append m xs ys) (le_of_dvd (common_from_pos (joined m xs) ys (common_from_pos m xs pos))
-    (common_from_divides (joined m xs) ys))
+pub common_multiple_within : (m : ℕ) (xs ys : List Fraction) → 0 < m → common_multiple m xs ≤ common_multiple m (xs ++ ys)
+common_multiple_within m xs ys pos =
+    rw (common_multiple_append m xs ys) (le_of_dvd (common_from_pos (common_multiple m xs) ys (common_from_pos m xs pos))
+    (common_from_divides (common_multiple m xs) ys))
 
 -- it is at least each denominator
 pub lcm_reaches : (a b : ℕ) → 0 < a → 0 < b → b ≤ lcm a b
@@ -58,17 +59,18 @@ lcm_reaches a b first second = le_of_dvd (lcm_pos a b first second) (lcm_right a
 -- the numbers of the first items, of one more, and of all
 module _ {A : Type 0} (f : A → Fraction) (m : ℕ) (xs : List A) (i : ℕ) (x : A) (lt : i < length xs)
     (is : x ≡ get_or xs i x) where
-  pub numbers_more : joined m (map f (take (i + 1) xs)) ≡ lcm (joined m (map f (take i xs))) (f x).den
-  numbers_more = ap (joined m) (sym (maps_more xs i x lt is f)) ∙ joined_append m (map f (take i xs)) (f x ∷ [])
+  pub numbers_more : common_multiple m (map f (take (i + 1) xs)) ≡ lcm (common_multiple m (map f (take i xs))) (f x).den
+  numbers_more = ap (common_multiple m) (sym (maps_more xs i x lt is f)) ∙ common_multiple_append m (map f (take i xs)) (f x ∷ [])
 
-  numbers_coarse : 0 < m → most_parts < lcm (joined m (map f (take i xs))) (f x).den → most_parts < joined m (map f xs)
+  numbers_coarse : 0 < m → most_parts < lcm (common_multiple m (map f (take i xs))) (f x).den
+      → most_parts < common_multiple m (map f xs)
   numbers_coarse pos far =
       omega (
         arith,
         far,
         numbers_more,
-        joined_within m (map f (take (i + 1) xs)) (map f (drop (i + 1) xs)) pos,
-        ap (joined m) (maps_split f xs (i + 1)),
+        common_multiple_within m (map f (take (i + 1) xs)) (map f (drop (i + 1) xs)) pos,
+        ap (common_multiple m) (maps_split f xs (i + 1)),
       )
 
 -- the lists of the first units, and of one more
@@ -80,34 +82,34 @@ module _ (v : Fraction) (units : List UnitOfPlan) (i : ℕ) (u : UnitOfPlan) (lt
   abbrev amounts : List UnitOfPlan → List Fraction
   amounts us = flat_map (shared_probabilities v) us
 
-  pub amounts_more : joined 1 (amounts (take (i + 1) units))
-      ≡ joined (joined 1 (amounts (take i units))) (shared_probabilities v u)
+  pub amounts_more : common_multiple 1 (amounts (take (i + 1) units))
+      ≡ common_multiple (common_multiple 1 (amounts (take i units))) (shared_probabilities v u)
   amounts_more =
-      ap (λ us. joined 1 (amounts us)) (one_more units i u lt is)
-      ∙ ap (joined 1) (sym (flat_map_more (shared_probabilities v) [] (take i units) u))
-      ∙ joined_append 1 (amounts (take i units)) (shared_probabilities v u)
+      ap (λ us. common_multiple 1 (amounts us)) (one_more units i u lt is)
+      ∙ ap (common_multiple 1) (sym (flat_map_more (shared_probabilities v) [] (take i units) u))
+      ∙ common_multiple_append 1 (amounts (take i units)) (shared_probabilities v u)
 
   abbrev fine : Bool
   fine = is_fine (claims units) && is_fine (amounts units)
 
-  pub claims_coarse : most_parts < lcm (joined 1 (claims (take i units))) (unit_share v u).den → false ≡ fine
+  pub claims_coarse : most_parts < lcm (common_multiple 1 (claims (take i units))) (unit_share v u).den → false ≡ fine
   claims_coarse far =
-      sym (ap (λ b. b && is_fine (amounts units)) (lt-leb (joined 1 (claims units)) most_parts
+      sym (ap (λ b. b && is_fine (amounts units)) (lt-leb (common_multiple 1 (claims units)) most_parts
       (numbers_coarse (unit_share v) 1 units i u lt is (omega arith) far)))
 
-  pub amounts_coarse : most_parts < joined (joined 1 (amounts (take i units))) (shared_probabilities v u) → false ≡ fine
+  pub amounts_coarse : most_parts < common_multiple (common_multiple 1 (amounts (take i units))) (shared_probabilities v u) → false ≡ fine
   amounts_coarse far =
       let split : amounts units ≡ amounts (take (i + 1) units) ++ amounts (drop (i + 1) units) =
       ap amounts (sym (take-append-drop (i + 1) units))
       ∙ flat_map-append (shared_probabilities v) (take (i + 1) units) (drop (i + 1) units) in
-      let more : most_parts < joined 1 (amounts units) = omega (
+      let more : most_parts < common_multiple 1 (amounts units) = omega (
         arith,
         far,
         amounts_more,
-        joined_within 1 (amounts (take (i + 1) units)) (amounts (drop (i + 1) units)) (omega arith),
-        ap (joined 1) split,
+        common_multiple_within 1 (amounts (take (i + 1) units)) (amounts (drop (i + 1) units)) (omega arith),
+        ap (common_multiple 1) split,
       ) in
-      sym (ap (λ b. is_fine (claims units) && b) (lt-leb (joined 1 (amounts units)) most_parts more)
+      sym (ap (λ b. is_fine (claims units) && b) (lt-leb (common_multiple 1 (amounts units)) most_parts more)
       ∙ and-false (is_fine (claims units)))
 
 -- ---- the amounts of one unit, from whole numbers
@@ -115,7 +117,7 @@ module _ (v : Fraction) (units : List UnitOfPlan) (i : ℕ) (u : UnitOfPlan) (lt
 module _ (share : Fraction) (sev : Sev) (within : share ≤ℚ whole 1) (xs : List Item) (same : xs ≡ sev.items)
     (n d k : ℕ) (num : n ≡ share.num) (den : d ≡ share.den) (lt : k < length xs) (none : Item)
     (m multiple : ℕ) (pos : 0 < m) (some : 0 < multiple)
-    (so_far : multiple ≡ joined m (map (λ (i : Item). share *ℚ i.weight over sev.total) (take k xs))) where
+    (so_far : multiple ≡ common_multiple m (map (λ (i : Item). share *ℚ i.weight over sev.total) (take k xs))) where
   abbrev item : Item
   item = get_or xs k none
 
@@ -137,14 +139,14 @@ module _ (share : Fraction) (sev : Sev) (within : share ≤ℚ whole 1) (xs : Li
       (subst (λ (ys : List Item). item ≡ get_or ys k item) same is)) within
 
   pub amount_coarse : (e : ℕ) → e ≡ (f item).den → (lcm multiple e ≤ most_parts → ⊥)
-      → joined m (times_amounts share sev) ≤ most_parts → ⊥
+      → common_multiple m (times_amounts share sev) ≤ most_parts → ⊥
   amount_coarse e is_den far few =
       let more = numbers_coarse f m xs k item lt is pos
       (subst (λ a. most_parts < a) (ap₂ lcm so_far is_den) (omega (arith, far))) in
-      omega (arith, more, few, ap (λ (ys : List Item). joined m (map f ys)) same)
+      omega (arith, more, few, ap (λ (ys : List Item). common_multiple m (map f ys)) same)
 
   pub amount_refused : IsTooFine ((n * item.weight) over (d * sev.total))
-      → joined m (times_amounts share sev) ≤ most_parts → ⊥
+      → common_multiple m (times_amounts share sev) ≤ most_parts → ⊥
   amount_refused fine =
       amount_coarse (f item).den refl (λ few. omega (
         arith,
@@ -153,5 +155,5 @@ module _ (share : Fraction) (sev : Sev) (within : share ≤ℚ whole 1) (xs : Li
         coarse_part (f item) (subst IsTooFine product_is_share fine) part,
       ))
 
-  pub amount_next : (e : ℕ) → e ≡ (f item).den → lcm multiple e ≡ joined m (map f (take (k + 1) xs))
+  pub amount_next : (e : ℕ) → e ≡ (f item).den → lcm multiple e ≡ common_multiple m (map f (take (k + 1) xs))
   amount_next e is_den = ap₂ lcm so_far is_den ∙ sym (numbers_more f m xs k item lt is)

@@ -35,14 +35,14 @@ module _ (u : GridUnit) where
     abbrev exposed : Bool
     exposed = exposed_too_fine u.count n (claims_above_zero (final_severity u) n)
 
-    pub coarse_place : fractions_too_fine u ≡ true → too_fine u n ≡ Some u.name
+    pub coarse_span : fractions_too_fine u ≡ true → too_fine u n ≡ Some u.name
     unfolding too_fine
-    coarse_place h = ap (λ b. at_if (b || exposed) u.name) h
+    coarse_span h = ap (λ b. at_if (b || exposed) u.name) h
 
     pub fine_left : too_fine u n ≡ None → (fractions_too_fine u ≡ false) × (exposed ≡ false)
     unfolding too_fine
     fine_left e = or_parts _ _ (not_at _ u.name e)
 
-    pub fine_place : (r : Bool) → fractions_too_fine u ≡ false → r ≡ exposed → at_if r u.name ≡ too_fine u n
+    pub fine_span : (r : Bool) → fractions_too_fine u ≡ false → r ≡ exposed → at_if r u.name ≡ too_fine u n
     unfolding too_fine
-    fine_place r h e = ap (λ b. at_if b u.name) e ∙ sym (ap (λ b. at_if (b || exposed) u.name) h)
+    fine_span r h e = ap (λ b. at_if b u.name) e ∙ sym (ap (λ b. at_if (b || exposed) u.name) h)

@@ -1,5 +1,5 @@
 -- What the rules on a count leave of it.
-use Rattle.dl_types.proofs.Common.{◌≡◌, ◌&&◌, Bool, true, false, not, if◌then◌else◌, length, Option, Some, None, refl, IfSome, is_some, Fraction, pos_num, HasPartsOf48Bits, GridFreq, Fixed, Poisson, Bernoulli, Binomial, Gamma, GridCount, Exposed, Listed, probs_in_count, not_at, not-false, IsWholeFreq, IsWholeCount, IsCountKept, exposed_too_fine, has_too_many_claims, or_parts, IsGridCount, is_fine, count_lengths, among_probabilities, is_unbounded, IsSmallFreq, exposure_span, count_not_whole, count_above_one, trials_not_whole, shape_not_whole, zero_above}
+use Rattle.dl_types.proofs.Common.{◌≡◌, ◌&&◌, Bool, true, false, not, if◌then◌else◌, length, Option, Some, None, refl, IfSome, is_some, Fraction, pos_num, HasPartsOf48Bits, GridFreq, Fixed, Poisson, Bernoulli, Binomial, Gamma, GridCount, Exposed, Listed, probs_in_count, not_at, not-false, IsWholeFreq, IsWholeCount, IsCountChecked, exposed_too_fine, has_too_many_claims, or_parts, IsGridCount, is_fine, count_lengths, among_probabilities, is_unbounded, IsSmallFreq, exposure_span, count_not_whole, count_above_one, trials_not_whole, shape_not_whole, zero_above}
 use Rattle.dl_buckets.specs.declared.grid.GridExposure.{GridExposure}
 
 -- ---- tests
@@ -51,7 +51,7 @@ whole_count (Listed counts probs) n above are fine = tt
 -- ---- all rules
 
 -- and the rules on fractions and on sizes, with so many claims above 0; the lists are good, and the number is admitted
-pub record AreKept (k : GridCount) (n above : Option Fraction) : Type 0 where
+pub record AreChecked (k : GridCount) (n above : Option Fraction) : Type 0 where
   pub whole : AreWhole k n
   pub fine : exposed_too_fine k n above ≡ false
   pub few : has_too_many_claims k n above ≡ false
@@ -69,7 +69,7 @@ small_freq e (Bernoulli span) n above h = tt
 small_freq e (Binomial p span) n above h = h
 small_freq e (Gamma c span) n above h = (or_parts _ _ h).1
 
-pub count_kept : (k : GridCount) (n above : Option Fraction) → AreKept k n above → IsCountKept k n
+pub count_kept : (k : GridCount) (n above : Option Fraction) → AreChecked k n above → IsCountChecked k n
 unfolding count_not_whole has_too_many_claims
 count_kept (Exposed e f) None above are = absurd (cc ((number_there e f None above are.fine).0))
 count_kept (Exposed e f) (Some n) above are = record {

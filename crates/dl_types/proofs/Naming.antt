@@ -1,5 +1,5 @@
 -- A name among those before it, and the first parts of a list.
-use Rattle.dl_types.proofs.Common.{◌≡◌, ◌∙◌, ℕ, ◌+◌, ◌<◌, List, [], ◌∷◌, ◌++◌, length, take, get_or, if◌then◌else◌, map, Bool, true, false, not, refl, sym, ap, Span, at_if, list_any, bytes_eq, breaks, CheckFault, Ok, Err, ◌||◌, Bor, drop, map-append, map_more, take_more, take-append-drop, Result, OnOk, TellsFault, Rule}
+use Rattle.dl_types.proofs.Common.{◌≡◌, ◌∙◌, ℕ, ◌+◌, ◌<◌, List, [], ◌∷◌, ◌++◌, length, take, get_or, if◌then◌else◌, map, Bool, true, false, not, refl, sym, ap, Span, at_if, list_any, bytes_eq, breaks, CheckFault, Ok, Err, ◌||◌, Bor, drop, map-append, map_more, take_more, take-append-drop, Result, OnOk, HasFault, Rule}
 
 -- a test of what is made of some parts is one of the parts
 pub any_of : {A B : Type 0} (p : B → Bool) (f : A → B) (xs : List A) → list_any p (map f xs) ≡ list_any (λ x. p (f x)) xs
@@ -20,7 +20,7 @@ is_old text keys is_new e = ap not e ∙ twice _ ∙ sym (any_of (bytes_eq text)
 -- a name that is new stands behind those before it
 pub name_taken : (unit : ℕ) (rule : Rule) (span : Span) (keys new : List (Bor (List ℕ))) (key : Bor (List ℕ))
     (is_new old : Bool) (r : Result Unit CheckFault) → is_new ≡ not old → new ≡ (if old then keys else keys ++ key ∷ [])
-    → TellsFault (breaks unit rule (at_if (not is_new) span)) r → OnOk r (texts new ≡ texts keys ++ key.now ∷ [])
+    → HasFault (breaks unit rule (at_if (not is_new) span)) r → OnOk r (texts new ≡ texts keys ++ key.now ∷ [])
 name_taken unit rule span keys new key true true (Ok x) added e told = absurd cc
 name_taken unit rule span keys new key false true (Ok x) added e told = absurd cc
 name_taken unit rule span keys new key is_new false (Ok x) added e told =

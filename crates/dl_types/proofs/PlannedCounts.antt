@@ -1,12 +1,12 @@
 -- The claim count of a plan that is made of a count that breaks no rule.
-use Rattle.dl_types.proofs.Common.{ℕ, ◌≡◌, ◌∙◌, ◌*◌, ◌<◌, ◌<ℚ◌, ◌&&◌, not, nat_lt, Bool, true, false, if◌then◌else◌, List, map, Option, Some, None, refl, sym, ap, ap₂, subst, arith, is_some, IfSome, length-map, admitted_bound, most_claims, most_shape, Fraction, whole, ◌*ℚ◌, ◌/ℚ◌, ◌≤ℚ◌, div_times, Sev, HasPartsOf48Bits, Pairs, HasDistribution, GridFreq, Fixed, Poisson, Bernoulli, Binomial, Gamma, GridCount, Exposed, Listed, probs_of, is_admitted, not-false, GridUnit, claims_of, claims_above_zero, shape_of, IsFreqKept, IsCountKept, IsCountMade, freq_with, pairs_of_counts, has_too_many_claims, passes, and_parts, ltb-true, or_parts, most_expected, rarest_claims, ◌-ℚ◌, ◌over◌, IsNewZero, Freq, IsFineTo30Bits, probability_of, IsClaimCount, IsUnbounded, IsExposed, expected_of_plan, IsSmall, not_above, seconds-zip, has_count, is_there_and, thinned, freq_span, has_no_base, zero_base, is_above, IsCountWith, IsCountOf, not_at}
+use Rattle.dl_types.proofs.Common.{ℕ, ◌≡◌, ◌∙◌, ◌*◌, ◌<◌, ◌<ℚ◌, ◌&&◌, not, nat_lt, Bool, true, false, if◌then◌else◌, List, map, Option, Some, None, refl, sym, ap, ap₂, subst, arith, is_some, IfSome, length-map, admitted_bound, most_claims, most_shape, Fraction, whole, ◌*ℚ◌, ◌/ℚ◌, ◌≤ℚ◌, div_times, Sev, HasPartsOf48Bits, Pairs, HasDistribution, GridFreq, Fixed, Poisson, Bernoulli, Binomial, Gamma, GridCount, Exposed, Listed, probs_of, is_admitted, not-false, GridUnit, claims_of, claims_above_zero, shape_of, IsFreqChecked, IsCountChecked, IsCountMade, freq_with, pairs_of_counts, has_too_many_claims, passes, and_parts, ltb-true, or_parts, most_expected, rarest_claims, ◌-ℚ◌, ◌over◌, IsNewZero, Freq, IsFineTo30Bits, probability_of, IsClaimCount, IsUnbounded, IsExposed, expected_of_plan, IsSmall, not_above, seconds-zip, has_count, is_there_and, thinned, freq_span, has_no_base, zero_base, is_above, IsCountWith, IsCountOf, not_at}
 use Rattle.dl_plan.specs.declared.plan.Freq.TheVariants as of_plan
 use Rattle.dl_sev.specs.Weighing.{sum_of}
 use Rattle.dl_buckets.proofs.SevSteps.{sev_of}
 use Rattle.dl_types.specs.Exposures.{expected_count}
 use Rattle.dl_types.proofs.ListedCounts.{same_length, small_table, table_admitted}
 use Rattle.dl_types.proofs.ExposedCounts.{whole_is, few_is, shape_above}
-use Rattle.dl_types.proofs.KeptCounts.{given, AreKept, number_there}
+use Rattle.dl_types.proofs.KeptCounts.{given, AreChecked, number_there}
 
 -- ---- admitted numbers
 
@@ -19,14 +19,14 @@ admitted_is x h = let parts = go x.num x.den h in record { num = parts.0; den = 
 
 -- ---- with n claims expected
 
-pub freq_is : (f : GridFreq) (n : Fraction) → IsFreqKept f n → IsCountWith f n (freq_with f n)
+pub freq_is : (f : GridFreq) (n : Fraction) → IsFreqChecked f n → IsCountWith f n (freq_with f n)
 freq_is (Fixed span) n kept = (n.num, whole_is n kept.whole, refl)
 freq_is (Poisson span) n kept = refl
 freq_is (Bernoulli span) n kept = refl
 freq_is (Binomial p span) n kept = ((n /ℚ p).num, whole_is (n /ℚ p) kept.whole.whole, refl)
 freq_is (Gamma c span) n kept = ((shape_of c).num, whole_is (shape_of c) kept.whole.whole, refl)
 
-freq_valid : (f : GridFreq) (n : Fraction) → IsFreqKept f n → IsClaimCount (freq_with f n)
+freq_valid : (f : GridFreq) (n : Fraction) → IsFreqChecked f n → IsClaimCount (freq_with f n)
 freq_valid (Fixed span) n kept = few_is most_claims n.num n (whole_is n kept.whole) kept.few
 freq_valid (Poisson span) n kept = tt
 freq_valid (Bernoulli span) n kept = record {
@@ -47,7 +47,7 @@ freq_valid (Gamma c span) n kept =
     )
 
 -- it expects n claims
-freq_expects : (f : GridFreq) (n : Fraction) → IsFreqKept f n → expected_of_plan (freq_with f n) ≡ n
+freq_expects : (f : GridFreq) (n : Fraction) → IsFreqChecked f n → expected_of_plan (freq_with f n) ≡ n
 freq_expects (Fixed span) n kept = whole_is n kept.whole
 freq_expects (Poisson span) n kept = refl
 freq_expects (Bernoulli span) n kept = refl
@@ -68,7 +68,7 @@ is_below : (x y : Fraction) → is_above y x ≡ true → x <ℚ y
 unfolding ◌<ℚ◌
 is_below x y h = ltb-true (x.num * y.den) (y.num * x.den) h
 
-new_zero : (f : GridFreq) (n p : Fraction) → IsFreqKept f n → IsSmall p → has_no_base p (Some n) ≡ false
+new_zero : (f : GridFreq) (n p : Fraction) → IsFreqChecked f n → IsSmall p → has_no_base p (Some n) ≡ false
     → IsNewZero (freq_with f n) p
 new_zero f n p kept small base =
     let low = or_parts (not (is_above (whole 1) p)) _ base in
@@ -85,7 +85,7 @@ new_zero f n p kept small base =
 
 -- ---- of a count
 
-pub made_valid : (k : GridCount) (n : Option Fraction) (freq : Freq) → IsCountKept k n → IsCountMade k n freq
+pub made_valid : (k : GridCount) (n : Option Fraction) (freq : Freq) → IsCountChecked k n → IsCountMade k n freq
     → IsClaimCount freq × HasPartsOf48Bits (expected_of_plan freq)
 made_valid (Exposed e f) None freq kept made = absurd kept
 made_valid (Exposed e f) (Some n) freq kept made = (
@@ -95,7 +95,7 @@ made_valid (Exposed e f) (Some n) freq kept made = (
 made_valid (Listed counts probs) n freq kept made = (made.valid, made.expected)
 
 pub made_is : (bs : Fraction) (u : GridUnit) (k : GridCount) (n : Option Fraction) (freq : Freq) → n ≡ claims_of bs u k
-    → IsCountKept k n → IsCountMade k n freq → IsCountOf bs u k freq
+    → IsCountChecked k n → IsCountMade k n freq → IsCountOf bs u k freq
 made_is bs u (Exposed e f) None freq same kept made = absurd kept
 made_is bs u (Exposed e f) (Some n) freq same kept made =
     subst (λ x. IsCountWith f x freq) (given _ (expected_count bs u e) n (sym same)).0
@@ -112,7 +112,7 @@ claims_admitted bs u (Exposed e f) (Some n) same =
 claims_admitted bs u (Listed counts probs) (Some n) same = absurd (cc)
 
 -- a change of its probability of no claim that breaks no rule
-pub made_zero : (k : GridCount) (n zero : Option Fraction) (freq : Freq) → IsCountKept k n → IsCountMade k n freq
+pub made_zero : (k : GridCount) (n zero : Option Fraction) (freq : Freq) → IsCountChecked k n → IsCountMade k n freq
     → IfSome zero IsSmall → zero_base k zero n ≡ None → IfSome zero (IsNewZero freq)
 unfolding zero_base
 made_zero k n None freq kept made small base = tt
@@ -122,7 +122,7 @@ made_zero (Exposed e f) (Some n) (Some p) freq kept made small base =
 made_zero (Listed counts probs) n (Some p) freq kept made small base = absurd cc
 
 -- there is such a count
-pub count_there : (k : GridCount) (n : Option Fraction) → IsCountKept k n → (freq : Freq) × IsCountMade k n freq
+pub count_there : (k : GridCount) (n : Option Fraction) → IsCountChecked k n → (freq : Freq) × IsCountMade k n freq
 count_there (Exposed e f) None kept = absurd kept
 count_there (Exposed e f) (Some n) kept = (freq_with f n, refl)
 count_there (Listed counts probs) n are =
@@ -159,7 +159,7 @@ module _ (pairs : Pairs) (sev : Sev) (means : HasDistribution sev pairs) (n : Fr
 
 module _ (pairs : Pairs) (sev : Sev) (means : HasDistribution sev pairs) where
   -- the claims above 0 of a count without a greatest number are few
-  pub made_thinned : (k : GridCount) (n : Option Fraction) (freq : Freq) → AreKept k n (claims_above_zero pairs n)
+  pub made_thinned : (k : GridCount) (n : Option Fraction) (freq : Freq) → AreChecked k n (claims_above_zero pairs n)
       → IsCountMade k n freq → IsUnbounded freq
       → HasPartsOf48Bits (expected_of_plan freq *ℚ (whole 1 -ℚ probability_of sev 0))
       × (expected_of_plan freq *ℚ (whole 1 -ℚ probability_of sev 0) ≤ℚ whole most_expected)

@@ -1,5 +1,5 @@
 -- The units of a plan, one after another.
-use Rattle.dl_types.proofs.Common.{Bool, true, false, list_any, map, if◌then◌else◌, IfSome, ◌≡◌, ◌∙◌, ℕ, ◌+◌, ◌<◌, ◌≤◌, List, [], ◌∷◌, ◌++◌, take, length, get_or, Option, Some, None, refl, sym, ap, subst, arith, bytes_eq, All, Ok, Err, CheckFault, Typing, OutOfMemory, AnswersUnit, AnswersUnits, All-nil, All-cons, All-head, All-tail, most_units, Fraction, whole, ◌<ℚ◌, Settings, IsValidUnit, UnitAst, ◌else◌, in_turn, Span, cells_asked, first_fault_of, first_fault, breaks, duplicate_name, too_many_units, IsSet, Program, IsWellFormed, Plan, else_first, not_at, never, both_ways, ◌≢◌, AllZip, AllPairs, take_all, bytes_eq-Decides, IsCheckOf, NoneTurned, turn_passed, turn_ended, All-append, UnitOfPlan, HasCommonFactor, IsUnitOn, IsUnitWith, IsUnitOf, IsSharedShape, common_unit, fault_with, fault_of_port, most_asked, fault_of_text, fault_of_mixture, fault_of_severity, StopsAt, TellsFault, AnswersGrid, AnswersWith, named, mixture_of, body_span, TypeFault, GridUnit, fault_on_grid, names_of, grid_of, flaws_of, repeated, from_map, MixAst, PortHead, SevDef, IsFormedMixture, IsFormedBody, IsFormedDefinition, Result, IfOk, inl, inr, slice_get_cases}
+use Rattle.dl_types.proofs.Common.{Bool, true, false, list_any, map, if◌then◌else◌, IfSome, ◌≡◌, ◌∙◌, ℕ, ◌+◌, ◌<◌, ◌≤◌, List, [], ◌∷◌, ◌++◌, take, length, get_or, Option, Some, None, refl, sym, ap, subst, arith, bytes_eq, All, Ok, Err, CheckFault, Typing, OutOfMemory, AnswersUnit, AnswersUnits, All-nil, All-cons, All-head, All-tail, most_units, Fraction, whole, ◌<ℚ◌, Settings, IsValidUnit, UnitAst, ◌else◌, in_turn, Span, cells_asked, first_fault_of, first_fault, breaks, duplicate_name, too_many_units, IsSet, Program, IsWellFormed, Plan, else_first, not_at, never, both_ways, ◌≢◌, AllZip, AllPairs, take_all, bytes_eq-Decides, IsCheckOf, NoneTurned, turn_passed, turn_ended, All-append, UnitOfPlan, HasCommonFactor, IsUnitOn, IsUnitWith, IsUnitOf, IsSharedShape, common_unit, fault_with, fault_of_port, most_asked, fault_of_text, fault_of_mixture, fault_of_severity, StopsAt, HasFault, AnswersGrid, AnswersWith, named, mixture_of, body_span, TypeFault, GridUnit, fault_on_grid, names_of, grid_of, flaws_of, repeated, from_map, MixAst, PortHead, SevDef, IsFormedMixture, IsFormedBody, IsFormedDefinition, Result, IfOk, inl, inr, slice_get_cases}
 use Rattle.std.proofs.lemmas.List.Quantifiers.{all_pairs_push}
 use Rattle.std.proofs.lemmas.Slice.Zip.{all_zipped_more, AllZip-long}
 use Rattle.dl_types.specs.declared.rule.Rule.TheVariants as rules
@@ -136,7 +136,7 @@ module _ (settings : Settings) (port : Option PortHead) (sevs : List SevDef) (be
   answer_stopped m stop e told = stop_first _ shared stop (rw e told)
 
   pub answer_with : (m : MixAst) (made : UnitOfPlan) (r : Result UnitOfPlan CheckFault)
-      → mixture_of sevs u.sev.body ≡ Some m → AnswersWith settings before u m (Ok made) → TellsFault shared r
+      → mixture_of sevs u.sev.body ≡ Some m → AnswersWith settings before u m (Ok made) → HasFault shared r
       → IfOk r (λ x. x ≡ made) → AnswersUnit settings port sevs before u r
   unfolding first_fault_of
   answer_with m made (Ok x) e (none, unit, valid) told same = (
@@ -165,10 +165,10 @@ module _ (program : Program) (settings : Settings) where
   check_stopped (Typing f) told = told
   check_stopped OutOfMemory told = tt
 
-  pub fault_of_many : (place : Span) → too_many_units program.units ≡ Some place
-      → first_fault program settings ≡ Some (record { unit = most_units; rule = rules.TooManyUnits; span = place })
+  pub fault_of_many : (span : Span) → too_many_units program.units ≡ Some span
+      → first_fault program settings ≡ Some (record { unit = most_units; rule = rules.TooManyUnits; span = span })
   unfolding first_fault
-  fault_of_many place e = rw e refl
+  fault_of_many span e = rw e refl
 
   module _ (few : too_many_units program.units ≡ None) where
     pub fault_of_names : (stop : CheckFault) → StopsAt names stop → IsCheckOf program settings (Err stop)

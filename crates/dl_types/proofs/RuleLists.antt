@@ -2,14 +2,14 @@
 use Rattle.dl_types.proofs.Common.{ℕ, ◌≡◌, List, [], ◌∷◌, ◌++◌, Option, Some, None, refl, Span, ◌else◌, else_first, else_second, breaks, Rule, TypeFault, first_in, first-append, first_broken, AllKept}
 
 module _ (unit : ℕ) where
-  pub only : (rule : Rule) (place : Option Span) → breaks unit rule place ≡ None → place ≡ None
+  pub only : (rule : Rule) (span : Option Span) → breaks unit rule span ≡ None → span ≡ None
   only rule None e = refl
-  only rule (Some place) e = absurd (cc)
+  only rule (Some span) e = absurd (cc)
 
-  pub both : (rule : Rule) (place : Option Span) (rest : Option TypeFault)
-      → (breaks unit rule place else rest) ≡ None → (place ≡ None) × (rest ≡ None)
-  both rule place rest e =
-      (only rule place (else_first (breaks unit rule place) rest e), else_second (breaks unit rule place) rest e)
+  pub both : (rule : Rule) (span : Option Span) (rest : Option TypeFault)
+      → (breaks unit rule span else rest) ≡ None → (span ≡ None) × (rest ≡ None)
+  both rule span rest e =
+      (only rule span (else_first (breaks unit rule span) rest e), else_second (breaks unit rule span) rest e)
 
   pub all_kept : (rules : List (Rule × Option Span)) → first_broken unit rules ≡ None → AllKept rules
   unfolding first_in

@@ -7,20 +7,20 @@ unfolding named
 named_one d ds name t e = ap (λ b. if b then Some d.mix else named ds name) e
 
 -- the severities from a place on begin with that there
-from_place : (ds : List SevDef) (i : ℕ) (d : SevDef) → i < length ds → d ≡ get_or ds i d
+from_span : (ds : List SevDef) (i : ℕ) (d : SevDef) → i < length ds → d ≡ get_or ds i d
     → drop i ds ≡ d ∷ drop (i + 1) ds
-from_place ds i d lt is = rw add-one (drop-cons ds i d lt ∙ ap (λ x. x ∷ drop (suc i) ds) (sym is))
+from_span ds i d lt is = rw add-one (drop-cons ds i d lt ∙ ap (λ x. x ∷ drop (suc i) ds) (sym is))
 
 pub named_here : (ds : List SevDef) (i : ℕ) (d : SevDef) (name : List ℕ) → i < length ds → d ≡ get_or ds i d
     → d.name.text ≡ name → named (drop i ds) name ≡ Some d.mix
 named_here ds i d name lt is e =
-    ap (λ xs. named xs name) (from_place ds i d lt is)
+    ap (λ xs. named xs name) (from_span ds i d lt is)
     ∙ named_one d (drop (i + 1) ds) name true ((bytes_eq-Decides d.name.text name).1 e)
 
 pub named_later : (ds : List SevDef) (i : ℕ) (d : SevDef) (name : List ℕ) → i < length ds → d ≡ get_or ds i d
     → d.name.text ≢ name → named (drop i ds) name ≡ named (drop (i + 1) ds) name
 named_later ds i d name lt is other =
-    ap (λ xs. named xs name) (from_place ds i d lt is)
+    ap (λ xs. named xs name) (from_span ds i d lt is)
     ∙ named_one d (drop (i + 1) ds) name false (not_so (bytes_eq d.name.text name) refl)
   where
     not_so : (t : Bool) → bytes_eq d.name.text name ≡ t → bytes_eq d.name.text name ≡ false

@@ -1,5 +1,5 @@
 -- A unit that is read tells of the rules that its text breaks, and where it breaks none it is the unit of the text.
-use Rattle.dl_types.proofs.Common.{ℕ, ◌≡◌, ◌∙◌, List, [], ◌∷◌, Option, Some, None, refl, sym, ap, subst, arith, Ok, Err, Fraction, Span, ◌else◌, breaks, CheckFault, GridUnit, UnitAst, length, Result, OnOk, Rule, MixAst, first_in, places, AgreeToFirst, IsClean, IsRead, grid_mixture, grid_with, grid_of, flaws_of_mixture, flaws_with, flaws_of, TellsFault, first_broken, fault_of_text, text_rules}
+use Rattle.dl_types.proofs.Common.{ℕ, ◌≡◌, ◌∙◌, List, [], ◌∷◌, Option, Some, None, refl, sym, ap, subst, arith, Ok, Err, Fraction, Span, ◌else◌, breaks, CheckFault, GridUnit, UnitAst, length, Result, OnOk, Rule, MixAst, first_in, spans, AgreeToFirst, IsClean, IsRead, grid_mixture, grid_with, grid_of, flaws_of_mixture, flaws_with, flaws_of, HasFault, first_broken, fault_of_text, text_rules}
 use Rattle.dl_types.specs.declared.rule.Rule.TheVariants as rules
 use Rattle.dl_buckets.specs.declared.flaws.Flaws.{Flaws}
 use Rattle.dl_buckets.specs.declared.flaws.Gridded.{Gridded}
@@ -7,9 +7,9 @@ use Rattle.dl_types.proofs.RuleLists.{all_kept}
 
 -- each of these rules beside its place
 abbrev beside : List Rule → List (Option Span) → List (Rule × Option Span)
-beside [] places = []
+beside [] spans = []
 beside (rule ∷ rules) [] = []
-beside (rule ∷ rules) (place ∷ places) = (rule, place) ∷ beside rules places
+beside (rule ∷ rules) (span ∷ spans) = (rule, span) ∷ beside rules spans
 
 -- places that agree to the first tell one fault
 agree_told : (unit : ℕ) (rs : List Rule) (xs ys : List (Option Span)) → length xs ≡ length ys → AgreeToFirst xs ys
@@ -35,10 +35,10 @@ text_clean unit flaws e = all_kept unit (text_rules flaws) e
 
 module _ {A : Type 0} (unit : ℕ) (flaws : Flaws) (part : A) (made : Gridded A) (read : IsRead flaws part made) where
   pub same_fault : fault_of_text unit made.flaws ≡ fault_of_text unit flaws
-  same_fault = agree_told unit names (places made.flaws) (places flaws) refl read.first
+  same_fault = agree_told unit names (spans made.flaws) (spans flaws) refl read.first
 
   -- what holds of the part of a text without flaws holds of what is read, where no fault is told
-  pub part_keeps : (P : A → Type 0) (r : Result Unit CheckFault) → TellsFault (fault_of_text unit made.flaws) r
+  pub part_keeps : (P : A → Type 0) (r : Result Unit CheckFault) → HasFault (fault_of_text unit made.flaws) r
       → (IsClean flaws → P part) → OnOk r (P made.part)
   part_keeps P (Ok x) e keeps =
       let clean = text_clean unit flaws (sym same_fault ∙ e) in

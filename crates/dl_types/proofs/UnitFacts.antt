@@ -1,11 +1,11 @@
 -- What a unit in whole buckets keeps where the rules on it are not broken, and its unit of the plan.
-use Rattle.dl_types.proofs.Common.{ℕ, ◌≡◌, ◌∙◌, Bool, true, false, List, [], ◌∷◌, Option, None, Sev, Clause, refl, sym, ap, ap₂, subst, Ok, Err, Fraction, Settings, Span, at_if, not_at, ◌else◌, else_first, else_second, GridUnit, GridCount, Exposed, Listed, ◌++◌, has_shares, fractions_too_fine, IsGridUnit, off_grid_cession, severity_in_layer, support, final_severity, CheckFault, OutOfMemory, expected_claims, claims_of, claims_above_zero, breaks, cells_asked, fault_on_grid, IsWholeCount, IsCountKept, IsCountMade, IsCedeOf, too_fine, exposed_too_fine, too_many_claims, has_too_many_claims, horizon_too_large, most_amount_at, IsWithin, made_of, Result, OnOk, IfOk, IfErr, UnitOfPlan, IsNewZero, IfSome, IsLayered, IsFineSev, TypeFault, StopsAt, TellsFault, AnswersGrid, first_broken, clause_rules, whole_rules, number_rules, count_rules, change_rules, zero_base, zero_mean, IsErr, IsErrAnd, else_none, first_in, AllKept}
+use Rattle.dl_types.proofs.Common.{ℕ, ◌≡◌, ◌∙◌, Bool, true, false, List, [], ◌∷◌, Option, None, Sev, Clause, refl, sym, ap, ap₂, subst, Ok, Err, Fraction, Settings, Span, at_if, not_at, ◌else◌, else_first, else_second, GridUnit, GridCount, Exposed, Listed, ◌++◌, has_shares, fractions_too_fine, IsGridUnit, off_grid_cession, severity_in_layer, support, final_severity, CheckFault, OutOfMemory, expected_claims, claims_of, claims_above_zero, breaks, cells_asked, fault_on_grid, IsWholeCount, IsCountChecked, IsCountMade, IsCedeOf, too_fine, exposed_too_fine, too_many_claims, has_too_many_claims, horizon_too_large, most_amount_at, IsWithin, made_of, Result, OnOk, IfOk, IfErr, UnitOfPlan, IsNewZero, IfSome, IsLayered, IsFineSev, TypeFault, StopsAt, HasFault, AnswersGrid, first_broken, clause_rules, whole_rules, number_rules, count_rules, change_rules, zero_base, zero_mean, IsErr, IsErrAnd, else_none, first_in, AllKept}
 use Rattle.dl_types.specs.declared.rule.Rule.TheVariants as rules
 use Rattle.dl_types.specs.declared.claims.Claims.{Claims}
 use Rattle.dl_types.specs.Claimed.{IsFinal, AreClaims, IsNumberOf, IsUnitCount, count_of, number_of}
 use Rattle.dl_types.proofs.Aggregates.{aggregate_valid}
 use Rattle.dl_types.proofs.FineClaims.{count_probs, fine_left, occ_shares, agr_shares}
-use Rattle.dl_types.proofs.KeptCounts.{AreWhole, AreKept, whole_count, count_kept}
+use Rattle.dl_types.proofs.KeptCounts.{AreWhole, AreChecked, whole_count, count_kept}
 use Rattle.dl_types.proofs.Stops.{stopped}
 use Rattle.dl_types.proofs.RuleLists.{only, both, all_kept, lists}
 use Rattle.dl_types.proofs.PlannedCounts.{claims_admitted, made_valid, made_is, made_zero, made_thinned}
@@ -56,12 +56,12 @@ pub whole_here : (u : GridUnit) (n : Option Fraction) → AreWhole u.count n →
     → IsWholeCount u.count n
 whole_here u n are fine = whole_count u.count n (claims_above_zero (final_severity u) n) are (fine_left u n fine).1
 
-pub many_place : (u : GridUnit) (n : Option Fraction) (claims : Claims) (r : Bool) → AreClaims u claims
+pub many_span : (u : GridUnit) (n : Option Fraction) (claims : Claims) (r : Bool) → AreClaims u claims
     → IsUnitCount u.count n claims.count
     → r ≡ has_too_many_claims (count_of claims.count) (number_of claims.count) claims.above
     → at_if r u.name ≡ too_many_claims u n
 unfolding too_many_claims
-many_place u n claims r are is e =
+many_span u n claims r are is e =
     ap (λ b. at_if b u.name) (e ∙ ap₂ (λ k m. has_too_many_claims k m claims.above) is.same is.number
     ∙ ap (has_too_many_claims u.count n) (are.above ∙ ap (claims_above_zero (final_severity u)) is.number))
 
@@ -75,12 +75,12 @@ number_is bs u = of_count u.count
     of_count (Listed values probs) = refl
 
 -- the rules on its count, from what they are asked of
-module _ (bs : Fraction) (unit : ℕ) (u : GridUnit) (xs : List ℕ) (n : Option Fraction) (place : Option Span)
-    (amounts : xs ≡ support (severity_in_layer u)) (number : n ≡ expected_claims bs u) (at : place ≡ zero_mean xs u.count)
+module _ (bs : Fraction) (unit : ℕ) (u : GridUnit) (xs : List ℕ) (n : Option Fraction) (span : Option Span)
+    (amounts : xs ≡ support (severity_in_layer u)) (number : n ≡ expected_claims bs u) (at : span ≡ zero_mean xs u.count)
   where
     abbrev asked : Option TypeFault
     asked =
-        breaks unit rules.ZeroMean place else first_broken unit (whole_rules u.count n)
+        breaks unit rules.ZeroMean span else first_broken unit (whole_rules u.count n)
         else breaks unit rules.TooFine (too_fine u n) else breaks unit rules.TooManyClaims (too_many_claims u n)
 
     pub count_fault : first_broken unit (count_rules bs u) ≡ asked
@@ -88,15 +88,15 @@ module _ (bs : Fraction) (unit : ℕ) (u : GridUnit) (xs : List ℕ) (n : Option
     count_fault =
         ap₂ (λ p m. breaks unit rules.ZeroMean p else first_broken unit (number_rules u m))
         (sym (at ∙ ap (λ ys. zero_mean ys u.count) amounts)) (sym number)
-        ∙ ap (λ o. breaks unit rules.ZeroMean place else o) (lists unit (whole_rules u.count n)
+        ∙ ap (λ o. breaks unit rules.ZeroMean span else o) (lists unit (whole_rules u.count n)
         ((rules.TooFine, too_fine u n) ∷ (rules.TooManyClaims, too_many_claims u n) ∷ [])
         ∙ ap (λ o. first_broken unit (whole_rules u.count n) else breaks unit rules.TooFine (too_fine u n) else o)
         (else_none (breaks unit rules.TooManyClaims (too_many_claims u n))))
 
     pub count_told : {A : Type 0} (r : Result A CheckFault) (stop : CheckFault) → IsErr r × IsErrAnd r (λ e. e ≡ stop)
-        → StopsAt asked stop → TellsFault (first_broken unit (count_rules bs u)) r
+        → StopsAt asked stop → HasFault (first_broken unit (count_rules bs u)) r
     count_told r stop is told =
-        stopped (TellsFault (first_broken unit (count_rules bs u))) r stop is (subst (λ o. StopsAt o stop) (sym count_fault) told)
+        stopped (HasFault (first_broken unit (count_rules bs u))) r stop is (subst (λ o. StopsAt o stop) (sym count_fault) told)
 
 module _ (bs : Fraction) (unit : ℕ) (u : GridUnit) (grid : IsGridUnit u) (none : first_broken unit (count_rules bs u) ≡ None) where
   abbrev n : Option Fraction
@@ -128,7 +128,7 @@ module _ (bs : Fraction) (unit : ℕ) (u : GridUnit) (grid : IsGridUnit u) (none
   unfolding too_many_claims
   few_is = not_at _ u.name counted.few
 
-  are_kept : AreKept u.count n above
+  are_kept : AreChecked u.count n above
   are_kept = record {
     whole = counted.whole;
     fine = parts.1;
@@ -139,7 +139,7 @@ module _ (bs : Fraction) (unit : ℕ) (u : GridUnit) (grid : IsGridUnit u) (none
     admitted = claims_admitted bs u u.count n claims_is;
   }
 
-  pub kept_is : IsCountKept u.count n
+  pub kept_is : IsCountChecked u.count n
   kept_is = count_kept u.count n above are_kept
 
 -- ---- all rules on the unit in whole buckets

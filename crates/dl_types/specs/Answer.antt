@@ -24,9 +24,9 @@ StopsAt fault (Typing f) = fault ≡ Some f
 StopsAt fault OutOfMemory = Unit {0}
 
 -- a check of some rules ends with their first fault, or without one where none is broken
-abbrev pub TellsFault : {A : Type 0} → Option TypeFault → Result A CheckFault → Type 0
-TellsFault fault (Ok _) = fault ≡ None
-TellsFault fault (Err stop) = StopsAt fault stop
+abbrev pub HasFault : {A : Type 0} → Option TypeFault → Result A CheckFault → Type 0
+HasFault fault (Ok _) = fault ≡ None
+HasFault fault (Err stop) = StopsAt fault stop
 
 -- the unit of the plan with this name, which is valid, where the unit in whole buckets breaks no
 -- rule; the first fault, where it breaks one; or want of memory

@@ -114,8 +114,8 @@ abbrev pub times_amounts : Fraction → Sev → List Fraction
 times_amounts share sev = map (λ item. share *ℚ item.weight over sev.total) sev.items
 
 -- the least common multiple of m and the denominators
-abbrev pub joined : ℕ → List Fraction → ℕ
-joined m xs = fold (λ k x. lcm k x.den) m xs
+abbrev pub common_multiple : ℕ → List Fraction → ℕ
+common_multiple m xs = fold (λ k x. lcm k x.den) m xs
 
 -- a unit whose expected claims, and those above 0, are admitted
 pub record IsCounted (u : UnitOfPlan) : Type 0 where

@@ -32,7 +32,7 @@ use Rattle.dl_types.specs.Severities.{mixture_of, body_span}
 -- the rule is broken by a unit at a place
 abbrev pub breaks : ℕ → Rule → Option Span → Option TypeFault
 breaks unit rule None = None
-breaks unit rule (Some place) = Some (record { unit = unit; rule = rule; span = place })
+breaks unit rule (Some span) = Some (record { unit = unit; rule = rule; span = span })
 
 -- how many cells the grid has
 abbrev pub cells_asked : Settings → ℕ

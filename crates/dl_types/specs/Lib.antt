@@ -1,7 +1,7 @@
 pub mod Exposures
 pub mod Factor
 pub mod Rules
-pub mod Kept
+pub mod Checked
 pub mod Listed
 pub mod Faults
 pub mod Names

@@ -90,11 +90,11 @@ aggregate_clause (Some c) = Some (clause_of c)
 abbrev pub cede_of : MadeClause → Option Clause
 cede_of Missing = None
 cede_of TooFine = None
-cede_of (Whole clause place) = Some clause
+cede_of (Whole clause span) = Some clause
 
 -- the aggregate clause, where there is one
-pub record IsCedeOf (cession : Option GridClause) (made : Option Clause) : Type 0 where
-  pub same : made ≡ aggregate_clause cession
+pub record IsCedeOf (clause : Option GridClause) (made : Option Clause) : Type 0 where
+  pub same : made ≡ aggregate_clause clause
   pub accepted : IfSome made IsClause
 
 -- the unit of the plan has the name, the final severity, the claim count and the aggregate clause

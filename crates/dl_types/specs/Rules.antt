@@ -37,7 +37,7 @@ use Rattle.dl_buckets.specs.FineParts.{fractions_too_fine}
 use Rattle.dl_types.specs.UnitNames.{names_of, severity_names}
 use Rattle.dl_types.specs.Exposures.{expected_loss, is_unbounded, claims_above_zero, is_there_and, shape_of}
 
--- the place of a name that is one of these
+-- the span of a name that is one of these
 abbrev pub repeated : List (List ℕ) → NameAst → Option Span
 repeated names name = at_if (list_any (bytes_eq name.text) names) name.span
 
@@ -59,7 +59,7 @@ unfoldable pub zero_mean : List ℕ → GridCount → Option Span
 zero_mean amounts (Exposed exposure freq) = zero_loss amounts exposure
 zero_mean amounts (Listed counts probs) = None
 
--- the place of an exposure
+-- the span of an exposure
 abbrev pub exposure_span : GridExposure → Span
 exposure_span (Claims n span) = span
 exposure_span (Loss n span) = span
@@ -156,8 +156,8 @@ too_many_claims u n =
 unfoldable pub horizon_too_large : ℕ → MadeClause → Option Span
 horizon_too_large cells made.Missing = None
 horizon_too_large cells made.TooFine = None
-horizon_too_large cells (made.Whole clause place) =
-    at_if (nat_lt (most_horizon cells) (horizon (Some clause) cells)) place
+horizon_too_large cells (made.Whole clause span) =
+    at_if (nat_lt (most_horizon cells) (horizon (Some clause) cells)) span
 
 -- 22 TooManyUnits: there are more than 16 units
 abbrev pub seventeenth : Option UnitAst → Option Span
@@ -179,7 +179,7 @@ is_no_base n = is_above (1 over rarest_claims) n || passes n most_expected
 abbrev pub has_no_base : Fraction → Option Fraction → Bool
 has_no_base p n = not (is_above (whole 1) p) || is_there_and is_no_base n
 
--- the place of a distribution
+-- the span of a distribution
 abbrev pub freq_span : GridFreq → Span
 freq_span (Fixed span) = span
 freq_span (Poisson span) = span

@@ -2,7 +2,7 @@
 
 ghost use Rattle.std.specs.Prelude.{◌≡◌, ◌<◌, Option, None, Some, IfOk, OnOk, Ok, Err};
 ghost use Rattle.dl_types.specs.Faults.{breaks};
-ghost use Rattle.dl_types.specs.Answer.{TellsFault};
+ghost use Rattle.dl_types.specs.Answer.{HasFault};
 ghost use Rattle.dl_types.specs.declared.fault.TypeFault.{TypeFault as FaultOfTypes};
 ghost use Rattle.dl_types.specs.declared.fault.CheckFault.TheVariants.{Typing};
 
@@ -18,10 +18,10 @@ pub(crate) fn typing(unit: u32, rule: Rule, span: Span) -> CheckFault
 }
 
 /// A unit breaks a rule where there is a place.
-pub(crate) fn broken(unit: u32, rule: Rule, place: Option<Span>) -> Result<(), CheckFault>
-    ensures { TellsFault (breaks unit rule place) result }
+pub(crate) fn broken(unit: u32, rule: Rule, span: Option<Span>) -> Result<(), CheckFault>
+    ensures { HasFault (breaks unit rule span) result }
 {
-    match place {
+    match span {
         Some(span) => Err(typing(unit, rule, span)),
         None => Ok(()),
     }
@@ -29,9 +29,12 @@ pub(crate) fn broken(unit: u32, rule: Rule, place: Option<Span>) -> Result<(), C
 
 /// The value where the rules on it are kept. Where one is broken the value is dropped here, so that
 /// a check owns nothing on its ways out.
-pub(crate) fn kept<T: Drop>(value: T, rules: Result<(), CheckFault>) -> Result<T, CheckFault>
-    ensures fault { (fault : Option FaultOfTypes) → TellsFault fault rules
-        → TellsFault fault result }
+pub(crate) fn unless_broken<T: Drop>(
+    value: T,
+    rules: Result<(), CheckFault>,
+) -> Result<T, CheckFault>
+    ensures fault { (fault : Option FaultOfTypes) → HasFault fault rules
+        → HasFault fault result }
     ensures same { IfOk result (λ made. made ≡ value) }
     ensures kept { OnOk result (rules ≡ Ok tt) }
 {

@@ -5,7 +5,7 @@ ghost use Rattle.std.specs.Prelude.{◌≡◌, true, Some, Ok, IfOk, IfSome};
 ghost use Rattle.std.specs.Option.{MatchOption};
 ghost use Rattle.dl_plan.specs.Common.{HasCommonFactor};
 ghost use Rattle.dl_types.specs.Plans.{IsSharedShape};
-ghost use Rattle.dl_types.specs.Answer.{TellsFault, AnswersUnits};
+ghost use Rattle.dl_types.specs.Answer.{HasFault, AnswersUnits};
 ghost use Rattle.dl_types.specs.Claimed.{count_of, number_of};
 ghost use Rattle.dl_types.specs.Factor.{IsShapeIn};
 ghost use Rattle.dl_ast.specs.WellFormed.{IsFormedHead};
@@ -21,7 +21,7 @@ use crate::fault::CheckFault;
 use crate::frequencies::{has_no_shape, shape};
 use crate::rule::Rule;
 use dl_ast::{CountAst, FreqAst, Numeral, PortHead, Program, UnitAst, ZeroAst};
-use dl_buckets::{GridFreq, is_above, place_if};
+use dl_buckets::{GridFreq, is_above, span_if};
 use dl_frac::{Frac, numeral};
 use dl_lexer::Span;
 use dl_limits::MOST_EXPECTED;
@@ -40,7 +40,7 @@ pub(crate) fn shared_shape(
     requires head { IfSome program.now.port IsFormedHead }
     requires units { AnswersUnits settings.now program.now.port program.now.sevs program.now.units
         (Ok units.now) }
-    ensures fault { TellsFault (fault_of_port settings.now program.now) result }
+    ensures fault { HasFault (fault_of_port settings.now program.now) result }
     ensures shape { IfOk result (λ common. IsSharedShape program.now.port common) }
     ensures factor { IfOk result (λ common. IfSome common (λ r. HasCommonFactor r units.now)) }
 {
@@ -74,8 +74,8 @@ fn shape_in(variation: &Numeral) -> Option<u128>
     Some(shape(value))
 }
 
-/// The place of the distribution of a count whose probability of no claim is changed to 1 or more,
-/// or where fewer than 1/16 or more than 4,096 claims are expected; the place of a list, which no
+/// The span of the distribution of a count whose probability of no claim is changed to 1 or more,
+/// or where fewer than 1/16 or more than 4,096 claims are expected; the span of a list, which no
 /// text changes.
 #[tactic(auto, unfolding(crate::specs::Rules::zero_base))]
 pub(crate) fn zero_base(count: &UnitCount, zero: &Option<Frac>) -> Option<Span>
@@ -84,10 +84,7 @@ pub(crate) fn zero_base(count: &UnitCount, zero: &Option<Frac>) -> Option<Span>
     let zero = (*zero)?;
     match count {
         UnitCount::Listed(counts, _) => Some(counts.span),
-        UnitCount::Exposed(_, freq, number) => place_if(
-            has_no_base(zero, *number),
-            freq_place(freq),
-        ),
+        UnitCount::Exposed(_, freq, number) => span_if(has_no_base(zero, *number), freq_span(freq)),
     }
 }
 
@@ -103,8 +100,8 @@ fn has_no_base(zero: Frac, number: Frac) -> bool
     is_above(rarest, number) || passes(number, MOST_EXPECTED)
 }
 
-/// The place of a distribution.
-fn freq_place(freq: &GridFreq) -> Span
+/// The span of a distribution.
+fn freq_span(freq: &GridFreq) -> Span
     ensures { result ≡ freq_span freq.now }
 {
     match freq {
@@ -113,14 +110,14 @@ fn freq_place(freq: &GridFreq) -> Span
     }
 }
 
-/// The place of the name of a unit under `common` whose count is not Poisson, or has `zt` or `zm`,
+/// The span of the name of a unit under `common` whose count is not Poisson, or has `zt` or `zm`,
 /// or that has an aggregate clause.
 #[tactic(auto, unfolding(crate::specs::Rules::common_unit))]
 pub(crate) fn common_unit(port: &Option<PortHead>, unit: &UnitAst) -> Option<Span>
     ensures { result ≡ common_unit port.now unit.now }
 {
     let split = has_common(port) && (!is_plain_poisson(&unit.count) || unit.agr.is_some());
-    place_if(split, unit.name.span)
+    span_if(split, unit.name.span)
 }
 
 /// Whether a portfolio has `common`.

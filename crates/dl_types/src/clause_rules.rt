@@ -2,15 +2,15 @@
 
 ghost use Rattle.std.specs.Prelude.{◌≡◌, ◌<◌, None, IfOk, OnOk};
 ghost use Rattle.dl_types.specs.Faults.{breaks, first_broken, clause_rules};
-ghost use Rattle.dl_types.specs.Answer.{TellsFault};
+ghost use Rattle.dl_types.specs.Answer.{HasFault};
 ghost use Rattle.dl_types.specs.declared.rule.Rule.TheVariants.{OffGridCession};
 ghost use Rattle.dl_buckets.specs.Rules.{off_grid_cession};
 ghost use Rattle.dl_buckets.specs.Severity.{severity_in_layer, support};
-ghost use Rattle.dl_buckets.specs.Kept.{IsLayered};
-ghost use Rattle.dl_buckets.specs.ClausesKept.{AreClausesOf};
-ghost use Rattle.dl_buckets.specs.GridKept.{IsGridUnit};
+ghost use Rattle.dl_buckets.specs.CheckedUnit.{IsLayered};
+ghost use Rattle.dl_buckets.specs.CheckedClauses.{AreClausesOf};
+ghost use Rattle.dl_buckets.specs.CheckedGrid.{IsGridUnit};
 
-use crate::broken::{broken, kept};
+use crate::broken::{broken, unless_broken};
 use crate::fault::CheckFault;
 use crate::rule::Rule;
 use dl_buckets::{
@@ -21,7 +21,7 @@ use std::alloc::Global;
 
 /// The amounts and the clauses of a unit that keeps the rules on these.
 #[derive(Drop)]
-pub(crate) struct Reached {
+pub(crate) struct LayeredUnit {
     /// The amounts of positive probability of the severity in the layer.
     pub(crate) amounts: Vec<u32>,
     /// The clauses.
@@ -34,14 +34,14 @@ pub(crate) fn check_clauses(
     alloc: Global,
     number: u32,
     unit: &GridUnit,
-) -> Result<Reached, CheckFault>
+) -> Result<LayeredUnit, CheckFault>
     requires grid { IsGridUnit unit.now }
-    ensures fault { TellsFault (first_broken number (clause_rules unit.now)) result }
+    ensures fault { HasFault (first_broken number (clause_rules unit.now)) result }
     ensures layered { OnOk result (IsLayered unit.now) }
     ensures ceded { OnOk result (off_grid_cession unit.now ≡ None) }
-    ensures amounts { IfOk result (λ reached. reached.amounts.items
+    ensures amounts { IfOk result (λ layered_unit. layered_unit.amounts.items
         ≡ support (severity_in_layer unit.now)) }
-    ensures clauses { IfOk result (λ reached. AreClausesOf unit.now reached.clauses) }
+    ensures clauses { IfOk result (λ layered_unit. AreClausesOf unit.now layered_unit.clauses) }
 {
     broken(number, Rule::WeightsDiffer, weights_differ(unit))?;
     let mixed = positive_amounts(alloc, unit)?;
@@ -49,25 +49,25 @@ pub(crate) fn check_clauses(
     broken(number, Rule::Overlap, overlap(unit))?;
     broken(number, Rule::ShareAboveOne, share_above_one(unit))?;
     let amounts = support_in_layer(alloc, unit, mixed)?;
-    check_cessions(alloc, number, unit, amounts)
+    check_clause_amounts(alloc, number, unit, amounts)
 }
 
 /// The rule on what its clauses make of these amounts.
-fn check_cessions(
+fn check_clause_amounts(
     alloc: Global,
     number: u32,
     unit: &GridUnit,
     amounts: Vec<u32>,
-) -> Result<Reached, CheckFault>
+) -> Result<LayeredUnit, CheckFault>
     requires layered { IsLayered unit.now }
     requires amounts { amounts.items ≡ support (severity_in_layer unit.now) }
-    ensures fault { TellsFault (breaks number OffGridCession
+    ensures fault { HasFault (breaks number OffGridCession
         (off_grid_cession unit.now)) result }
-    ensures amounts { IfOk result (λ reached. reached.amounts ≡ amounts) }
-    ensures clauses { IfOk result (λ reached. AreClausesOf unit.now reached.clauses) }
+    ensures amounts { IfOk result (λ layered_unit. layered_unit.amounts ≡ amounts) }
+    ensures clauses { IfOk result (λ layered_unit. AreClausesOf unit.now layered_unit.clauses) }
 {
     let clauses = make_clauses(alloc, unit)?;
-    let place = off_grid_cession(alloc, &clauses, &amounts)?;
-    let reached = Reached { amounts, clauses };
-    kept(reached, broken(number, Rule::OffGridCession, place))
+    let span = off_grid_cession(alloc, &clauses, &amounts)?;
+    let layered_unit = LayeredUnit { amounts, clauses };
+    unless_broken(layered_unit, broken(number, Rule::OffGridCession, span))
 }

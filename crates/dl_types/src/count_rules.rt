@@ -2,21 +2,21 @@
 
 ghost use Rattle.std.specs.Prelude.{◌≡◌, ◌<◌, Option, None, Some, IfOk, Ok, Err};
 ghost use Rattle.dl_types.specs.Faults.{breaks, first_broken, whole_rules, count_rules};
-ghost use Rattle.dl_types.specs.Answer.{TellsFault};
+ghost use Rattle.dl_types.specs.Answer.{HasFault};
 ghost use Rattle.dl_types.specs.declared.rule.Rule.TheVariants.{TooFine};
 ghost use Rattle.dl_buckets.specs.Rules.{off_grid_cession};
 ghost use Rattle.dl_types.specs.Rules.{too_fine};
 ghost use Rattle.dl_buckets.specs.Severity.{severity_in_layer, support};
 ghost use Rattle.dl_buckets.specs.FineParts.{IsWeighed};
 ghost use Rattle.dl_plan.specs.Ranges.{IsBucket};
-ghost use Rattle.dl_buckets.specs.Kept.{IsLayered};
-ghost use Rattle.dl_buckets.specs.ClausesKept.{AreClausesOf};
+ghost use Rattle.dl_buckets.specs.CheckedUnit.{IsLayered};
+ghost use Rattle.dl_buckets.specs.CheckedClauses.{AreClausesOf};
 ghost use Rattle.dl_types.specs.Exposures.{expected_claims};
 ghost use Rattle.dl_types.specs.Claimed.{AreClaims, IsNumberOf, IsUnitCount};
 
-use crate::broken::{broken, kept, typing};
+use crate::broken::{broken, typing, unless_broken};
 use crate::claims::{Claims, above_zero};
-use crate::clause_rules::Reached;
+use crate::clause_rules::LayeredUnit;
 use crate::counts::too_many_claims;
 use crate::exposures::{
     count_above_one, count_not_whole, expected_claims, shape_not_whole, trials_not_whole, zero_mean,
@@ -24,7 +24,7 @@ use crate::exposures::{
 use crate::fault::CheckFault;
 use crate::fine::{fine_count, fine_severity};
 use crate::rule::Rule;
-use dl_buckets::{Clauses, GridCount, GridUnit, off_grid_cession, place_if, weighed_severity};
+use dl_buckets::{Clauses, GridCount, GridUnit, off_grid_cession, span_if, weighed_severity};
 use dl_frac::Frac;
 use dl_plan::Sev;
 use std::alloc::Global;
@@ -36,40 +36,40 @@ pub(crate) fn check_count<'a>(
     number: u32,
     unit: &'a GridUnit,
     bs: Frac,
-    reached: &Reached,
+    layered_unit: &LayeredUnit,
 ) -> Result<Claims<'a>, CheckFault>
     requires bucket { IsBucket bs }
     requires layered { IsLayered unit.now }
     requires ceded { off_grid_cession unit.now ≡ None }
-    requires amounts { reached.now.amounts.items ≡ support (severity_in_layer unit.now) }
-    requires clauses { AreClausesOf unit.now reached.now.clauses }
-    ensures fault { TellsFault (first_broken number (count_rules bs unit.now)) result }
+    requires amounts { layered_unit.now.amounts.items ≡ support (severity_in_layer unit.now) }
+    requires clauses { AreClausesOf unit.now layered_unit.now.clauses }
+    ensures fault { HasFault (first_broken number (count_rules bs unit.now)) result }
     ensures claims { IfOk result (AreClaims unit.now) }
     ensures count { IfOk result (λ claims. IsUnitCount unit.now.count
         (expected_claims bs unit.now) claims.count) }
 {
-    let place = zero_mean(&unit.count, &reached.amounts);
-    broken(number, Rule::ZeroMean, place)?;
+    let span = zero_mean(&unit.count, &layered_unit.amounts);
+    broken(number, Rule::ZeroMean, span)?;
     let layered = weighed_severity(alloc, unit)?;
     let count = expected_claims(unit, bs, &layered);
     check_whole(number, &unit.count, &count)?;
-    let claims = check_fine(alloc, number, unit, &reached.clauses, layered, count)?;
+    let claims = check_fine(alloc, number, unit, &layered_unit.clauses, layered, count)?;
     let many = too_many_claims(&claims.count, &claims.above);
-    let checked = broken(number, Rule::TooManyClaims, place_if(many, unit.name));
-    kept(claims, checked)
+    let checked = broken(number, Rule::TooManyClaims, span_if(many, unit.name));
+    unless_broken(claims, checked)
 }
 
 /// The rules on whole numbers, with `expected` claims expected.
 #[tactic(auto, unfolding(dl_buckets::specs::First::first_in))]
 fn check_whole(number: u32, count: &GridCount, expected: &Option<Frac>) -> Result<(), CheckFault>
-    ensures { TellsFault (first_broken number (whole_rules count.now expected.now)) result }
+    ensures { HasFault (first_broken number (whole_rules count.now expected.now)) result }
 {
-    let place = count_not_whole(count, expected);
-    broken(number, Rule::CountNotWhole, place)?;
-    let place = count_above_one(count, expected);
-    broken(number, Rule::CountAboveOne, place)?;
-    let place = trials_not_whole(count, expected);
-    broken(number, Rule::TrialsNotWhole, place)?;
+    let span = count_not_whole(count, expected);
+    broken(number, Rule::CountNotWhole, span)?;
+    let span = count_above_one(count, expected);
+    broken(number, Rule::CountAboveOne, span)?;
+    let span = trials_not_whole(count, expected);
+    broken(number, Rule::TrialsNotWhole, span)?;
     broken(number, Rule::ShapeNotWhole, shape_not_whole(count))
 }
 
@@ -87,7 +87,7 @@ fn check_fine<'a>(
     requires made { AreClausesOf unit.now clauses.now }
     requires weighed { IsWeighed unit.now layered }
     requires number { IsNumberOf unit.now.count count }
-    ensures fault { TellsFault (breaks number TooFine (too_fine unit.now count)) result }
+    ensures fault { HasFault (breaks number TooFine (too_fine unit.now count)) result }
     ensures claims { IfOk result (AreClaims unit.now) }
     ensures count { IfOk result (λ claims. IsUnitCount unit.now.count count claims.count) }
 {

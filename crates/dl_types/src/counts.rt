@@ -7,13 +7,13 @@ ghost use Rattle.std.specs.List.{list_any};
 ghost use Rattle.dl_types.specs.Plans.{IsTabled, IsCountMade};
 ghost use Rattle.dl_limits.specs.Limits.{most_count};
 ghost use Rattle.dl_types.specs.Listed.{AreCounts};
-ghost use Rattle.dl_types.specs.Kept.{IsWholeCount, IsCountKept};
+ghost use Rattle.dl_types.specs.Checked.{IsWholeCount, IsCountChecked};
 ghost use Rattle.dl_buckets.specs.First.{at_if};
 ghost use Rattle.dl_buckets.specs.Lists.{is_whole};
 
 use crate::claims::UnitCount;
 use crate::frequencies::{exposed_count, exposed_too_many};
-use dl_buckets::{GridCount, Shares, ValueList, is_above, place_if, weights_among};
+use dl_buckets::{GridCount, Shares, ValueList, is_above, span_if, weights_among};
 use dl_frac::Frac;
 use dl_lexer::Span;
 use dl_limits::MOST_COUNT;
@@ -21,11 +21,11 @@ use dl_plan::Freq;
 use dl_sev::merge;
 use std::alloc::{AllocError, Global};
 
-/// The place of a list with a value that is not whole.
+/// The span of a list with a value that is not whole.
 pub(crate) fn not_whole(list: &ValueList) -> Option<Span>
     ensures { result ≡ at_if (list_any (λ x. not (is_whole x)) list.now.values) list.now.span }
 {
-    place_if(is_any_split(list.values.as_slice()), list.span)
+    span_if(is_any_split(list.values.as_slice()), list.span)
 }
 
 /// Whether a value is not whole.
@@ -64,7 +64,7 @@ pub(crate) fn passes(value: Frac, limit: u32) -> bool
 
 /// The claim count of a count that breaks no rule.
 pub(crate) fn unit_count(alloc: Global, count: &UnitCount) -> Result<Freq, AllocError>
-    requires { IsCountKept (count_of count.now) (number_of count.now) }
+    requires { IsCountChecked (count_of count.now) (number_of count.now) }
     ensures { IfOk result (IsCountMade (count_of count.now) (number_of count.now)) }
 {
     match count {

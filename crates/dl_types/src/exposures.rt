@@ -8,7 +8,7 @@ ghost use Rattle.dl_plan.specs.Severity.{mean_amount, HasDistribution};
 ghost use Rattle.dl_buckets.specs.declared.grid.GridCount.TheVariants.{Exposed};
 ghost use Rattle.dl_buckets.specs.Lists.{is_whole};
 ghost use Rattle.dl_buckets.specs.FineParts.{has_severity, IsWeighed};
-ghost use Rattle.dl_buckets.specs.GridKept.{IsGridUnit};
+ghost use Rattle.dl_buckets.specs.CheckedGrid.{IsGridUnit};
 ghost use Rattle.dl_buckets.specs.Severity.{severity_in_layer, support};
 ghost use Rattle.dl_types.specs.Exposures.{mean_in_money, admitted, exposed_claims, expected_claims};
 ghost use Rattle.dl_types.specs.Rules.{has_no_loss, zero_loss, zero_mean, exposure_span, count_not_whole, count_above_one, has_no_trials, trials_not_whole, shape_not_whole};
@@ -17,13 +17,13 @@ use crate::claims::admitted;
 use crate::counts::not_whole;
 use crate::frequencies::has_no_shape;
 use crate::ratio::Ratio;
-use dl_buckets::{GridCount, GridExposure, GridFreq, GridUnit, is_above, place_if};
+use dl_buckets::{GridCount, GridExposure, GridFreq, GridUnit, is_above, span_if};
 use dl_frac::Frac;
 use dl_lexer::Span;
 use dl_plan::Sev;
 use dl_sev::mean;
 
-/// The place of a loss or a premium where none of these amounts is above 0.
+/// The span of a loss or a premium where none of these amounts is above 0.
 #[tactic(auto, unfolding(crate::specs::Rules::zero_mean))]
 pub(crate) fn zero_mean(count: &GridCount, amounts: &[u32]) -> Option<Span>
     ensures { result ≡ zero_mean amounts.now count.now }
@@ -34,14 +34,14 @@ pub(crate) fn zero_mean(count: &GridCount, amounts: &[u32]) -> Option<Span>
     }
 }
 
-/// The place of an exposure that is a loss or a premium, where no amount is above 0.
+/// The span of an exposure that is a loss or a premium, where no amount is above 0.
 fn zero_loss(exposure: &GridExposure, amounts: &[u32]) -> Option<Span>
     ensures { result ≡ zero_loss amounts.now exposure.now }
 {
     match exposure {
         GridExposure::Claims(_, _) => None,
         GridExposure::Loss(_, span) | GridExposure::Premium { span, .. } => {
-            place_if(!is_any_above_zero(amounts), *span)
+            span_if(!is_any_above_zero(amounts), *span)
         }
     }
 }
@@ -128,8 +128,8 @@ fn mean_in_layer(unit: &GridUnit, layered: &Sev) -> Frac
     mean(layered)
 }
 
-/// The place of an exposure.
-fn exposure_place(exposure: &GridExposure) -> Span
+/// The span of an exposure.
+fn exposure_span(exposure: &GridExposure) -> Span
     ensures { result ≡ exposure_span exposure.now }
 {
     match exposure {
@@ -139,7 +139,7 @@ fn exposure_place(exposure: &GridExposure) -> Span
     }
 }
 
-/// The place of a fixed count that is not whole, or of listed counts that are not whole.
+/// The span of a fixed count that is not whole, or of listed counts that are not whole.
 #[tactic(auto, unfolding(crate::specs::Rules::count_not_whole))]
 pub(crate) fn count_not_whole(count: &GridCount, number: &Option<Frac>) -> Option<Span>
     ensures { result ≡ count_not_whole count.now number.now }
@@ -150,7 +150,7 @@ pub(crate) fn count_not_whole(count: &GridCount, number: &Option<Frac>) -> Optio
     }
 }
 
-/// The place of a fixed count that is not whole.
+/// The span of a fixed count that is not whole.
 #[tactic(auto, unfolding(crate::specs::Rules::count_not_whole))]
 fn fixed_not_whole(exposure: &GridExposure, freq: &GridFreq, number: &Option<Frac>) -> Option<Span>
     ensures { result ≡ count_not_whole (Exposed exposure.now freq.now) number.now }
@@ -159,12 +159,12 @@ fn fixed_not_whole(exposure: &GridExposure, freq: &GridFreq, number: &Option<Fra
         return None;
     }
     match number {
-        Some(number) => place_if(number.den() != 1, exposure_place(exposure)),
+        Some(number) => span_if(number.den() != 1, exposure_span(exposure)),
         None => None,
     }
 }
 
-/// The place of an expected count above 1 for a count of at most one claim.
+/// The span of an expected count above 1 for a count of at most one claim.
 #[tactic(auto, unfolding(crate::specs::Rules::count_above_one))]
 pub(crate) fn count_above_one(count: &GridCount, number: &Option<Frac>) -> Option<Span>
     ensures { result ≡ count_above_one count.now number.now }
@@ -176,10 +176,10 @@ pub(crate) fn count_above_one(count: &GridCount, number: &Option<Frac>) -> Optio
         return None;
     }
     let above = is_above((*number)?, Frac::whole(1));
-    place_if(above, exposure_place(exposure))
+    span_if(above, exposure_span(exposure))
 }
 
-/// The place of trials that are no whole number, or whose probability is 0 or above 1.
+/// The span of trials that are no whole number, or whose probability is 0 or above 1.
 #[tactic(auto, unfolding(crate::specs::Rules::trials_not_whole))]
 pub(crate) fn trials_not_whole(count: &GridCount, number: &Option<Frac>) -> Option<Span>
     ensures { result ≡ trials_not_whole count.now number.now }
@@ -190,7 +190,7 @@ pub(crate) fn trials_not_whole(count: &GridCount, number: &Option<Frac>) -> Opti
     let GridFreq::Binomial(chance, span) = freq else {
         return None;
     };
-    place_if(is_no_trial(*chance, number), *span)
+    span_if(is_no_trial(*chance, number), *span)
 }
 
 /// Whether a chance is 0 or above 1, or `number` expected claims are no whole number of trials.
@@ -215,7 +215,7 @@ fn is_no_multiple(value: Frac, part: Frac) -> bool
     value.num() as u128 * part.den() as u128 % (value.den() as u128 * part.num() as u128) != 0
 }
 
-/// The place of a gamma factor whose shape is no whole number above 0.
+/// The span of a gamma factor whose shape is no whole number above 0.
 #[tactic(auto, unfolding(crate::specs::Rules::shape_not_whole))]
 pub(crate) fn shape_not_whole(count: &GridCount) -> Option<Span>
     ensures { result ≡ shape_not_whole count.now }
@@ -226,5 +226,5 @@ pub(crate) fn shape_not_whole(count: &GridCount) -> Option<Span>
     let GridFreq::Gamma(variation, span) = freq else {
         return None;
     };
-    place_if(has_no_shape(*variation), *span)
+    span_if(has_no_shape(*variation), *span)
 }

@@ -11,7 +11,7 @@ ghost use Rattle.dl_plan.specs.Fine.{HasPartsOf48Bits};
 ghost use Rattle.dl_plan.specs.Means.{thinned_mean};
 ghost use Rattle.dl_buckets.specs.Lists.{is_fine};
 ghost use Rattle.dl_types.specs.Exposures.{admitted};
-ghost use Rattle.dl_types.specs.Factor.{running_sum, joined, times_amounts, is_raised_coarse, passes_bounds, is_too_large, part_of, IsCounted};
+ghost use Rattle.dl_types.specs.Factor.{running_sum, common_multiple, times_amounts, is_raised_coarse, passes_bounds, is_too_large, part_of, IsCounted};
 ghost use Rattle.dl_types.specs.Rules.{passes};
 
 use crate::claims::small;
@@ -133,8 +133,8 @@ fn with_amounts(common: u64, share: Frac, sev: &Sev) -> Option<u64>
     requires positive { 0 < common }
     requires few { common ≤ most_parts }
     requires within { share ≤ℚ whole 1 }
-    ensures { SomeIff result (joined common (times_amounts share sev.now) ≤ most_parts)
-        (joined common (times_amounts share sev.now)) }
+    ensures { SomeIff result (common_multiple common (times_amounts share sev.now) ≤ most_parts)
+        (common_multiple common (times_amounts share sev.now)) }
 {
     let mut multiple = common;
     'items: for item in sev.items.as_slice() {

@@ -12,7 +12,7 @@ pub struct TypeFault {
     pub unit: u32,
     /// The rule that it breaks.
     pub rule: Rule,
-    /// The place in the text.
+    /// The span in the text.
     pub span: Span,
 }
 

@@ -7,7 +7,7 @@ ghost use Rattle.dl_buckets.specs.declared.grid.GridCount.TheVariants.{Exposed};
 ghost use Rattle.dl_buckets.specs.declared.grid.GridExposure.{GridExposure as ExposureRead};
 ghost use Rattle.dl_buckets.specs.Lists.{is_whole, is_zero};
 ghost use Rattle.dl_types.specs.Exposures.{is_there_and, shape_of};
-ghost use Rattle.dl_types.specs.Kept.{AreTrials, IsShaped, IsWholeFreq, IsFreqKept};
+ghost use Rattle.dl_types.specs.Checked.{AreTrials, IsShaped, IsWholeFreq, IsFreqChecked};
 ghost use Rattle.dl_types.specs.Plans.{freq_with};
 ghost use Rattle.dl_types.specs.Rules.{has_too_many_claims, passes};
 
@@ -44,7 +44,7 @@ fn is_above_most(above: &Option<Frac>) -> bool
 
 /// The claim count of a distribution that breaks no rule, with `number` expected claims.
 pub(crate) fn exposed_count(freq: &GridFreq, number: Frac) -> Freq
-    requires { IsFreqKept freq.now number }
+    requires { IsFreqChecked freq.now number }
     ensures { result ≡ freq_with freq.now number }
 {
     match freq {

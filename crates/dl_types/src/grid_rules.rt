@@ -2,19 +2,19 @@
 
 ghost use Rattle.std.specs.Prelude.{◌≡◌, ◌<◌, Option, None, Some, IfOk, IfErr, Ok};
 ghost use Rattle.dl_types.specs.Faults.{breaks, most_asked};
-ghost use Rattle.dl_types.specs.Answer.{TellsFault, AnswersGrid};
+ghost use Rattle.dl_types.specs.Answer.{HasFault, AnswersGrid};
 ghost use Rattle.dl_types.specs.declared.rule.Rule.TheVariants.{HorizonTooLarge};
 ghost use Rattle.dl_types.specs.Rules.{horizon_too_large};
 ghost use Rattle.dl_plan.specs.Horizon.{horizon};
 ghost use Rattle.dl_types.specs.Plans.{IsCountMade, cede_of};
-ghost use Rattle.dl_types.specs.Kept.{IsSet, IsCountKept};
+ghost use Rattle.dl_types.specs.Checked.{IsSet, IsCountChecked};
 ghost use Rattle.dl_buckets.specs.Clauses.{IsMade};
-ghost use Rattle.dl_buckets.specs.GridKept.{IsGridUnit, IsWithin};
+ghost use Rattle.dl_buckets.specs.CheckedGrid.{IsGridUnit, IsWithin};
 ghost use Rattle.dl_limits.specs.Limits.{most_horizon};
 ghost use Rattle.dl_types.specs.declared.fault.CheckFault.TheVariants.{OutOfMemory};
 ghost use Rattle.dl_types.specs.Claimed.{count_of, number_of};
 
-use crate::broken::{broken, kept};
+use crate::broken::{broken, unless_broken};
 use crate::changes::zero_base;
 use crate::claims::Claims;
 use crate::clause_rules::check_clauses;
@@ -24,7 +24,7 @@ use crate::fault::CheckFault;
 use crate::rule::Rule;
 use crate::scale::{cells, most_asked};
 use dl_ast::UnitAst;
-use dl_buckets::{GridUnit, MadeClause, place_if};
+use dl_buckets::{GridUnit, MadeClause, span_if};
 use dl_frac::Frac;
 use dl_lexer::{Span, Text};
 use dl_limits::most_horizon;
@@ -35,15 +35,15 @@ use std::alloc::Global;
 #[tactic(auto, unfolding(crate::specs::Rules::horizon_too_large))]
 fn check_horizon(number: u32, agr: MadeClause, cells: u32) -> Result<Option<Cede>, CheckFault>
     requires { IsMade agr }
-    ensures fault { TellsFault (breaks number HorizonTooLarge
+    ensures fault { HasFault (breaks number HorizonTooLarge
         (horizon_too_large cells agr)) result }
     ensures made { IfOk result (λ made. made ≡ cede_of agr) }
 {
     let MadeClause::Whole(cede, span) = agr else {
         return Ok(None);
     };
-    let place = place_if(cede.horizon(cells) > most_horizon(cells) as u128, span);
-    kept(Some(cede), broken(number, Rule::HorizonTooLarge, place))
+    let span = span_if(cede.horizon(cells) > most_horizon(cells) as u128, span);
+    unless_broken(Some(cede), broken(number, Rule::HorizonTooLarge, span))
 }
 
 /// The unit of the plan with this name, of what its claims come to, its aggregate clause and
@@ -55,7 +55,7 @@ fn planned(
     cede: Option<Cede>,
     zero: Option<Frac>,
 ) -> Result<Unit, CheckFault>
-    requires { IsCountKept (count_of claims.count) (number_of claims.count) }
+    requires { IsCountChecked (count_of claims.count) (number_of claims.count) }
     ensures name { IfOk result (λ made. made.name ≡ name.now) }
     ensures severity { IfOk result (λ made. made.sev ≡ claims.entry.severity) }
     ensures count { IfOk result (λ made. IsCountMade (count_of claims.entry.count)
@@ -88,11 +88,11 @@ pub(crate) fn check_grid(
     requires within { IsWithin (most_asked settings.now) grid.now }
     ensures { AnswersGrid settings.now number unit.now.name.text grid.now result }
 {
-    let reached = check_clauses(alloc, number, grid)?;
-    let claims = check_count(alloc, number, grid, settings.bs, &reached)?;
-    let clauses = reached.clauses;
+    let layered_unit = check_clauses(alloc, number, grid)?;
+    let claims = check_count(alloc, number, grid, settings.bs, &layered_unit)?;
+    let clauses = layered_unit.clauses;
     let cede = check_horizon(number, clauses.agr, cells(settings))?;
-    let place = zero_base(&claims.count, &grid.zero);
-    broken(number, Rule::ZeroBase, place)?;
+    let span = zero_base(&claims.count, &grid.zero);
+    broken(number, Rule::ZeroBase, span)?;
     planned(alloc, unit.name.text.as_slice(), claims, cede, grid.zero)
 }

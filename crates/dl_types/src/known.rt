@@ -5,7 +5,7 @@ ghost use Rattle.std.specs.Option.{MatchOption};
 ghost use Rattle.dl_ast.specs.WellFormed.{IsFormedBody, IsFormedMixture, IsFormedDefinition};
 ghost use Rattle.dl_ast.specs.declared.ast.SevDef.{SevDef as Definition};
 ghost use Rattle.dl_plan.specs.declared.settings.Settings.{Settings as SettingsOfPlan};
-ghost use Rattle.dl_types.specs.Kept.{IsSet};
+ghost use Rattle.dl_types.specs.Checked.{IsSet};
 ghost use Rattle.dl_types.specs.Known.{IsMixtureRead, IsSeverityRead, IsKnown};
 ghost use Rattle.dl_types.specs.Severities.{named, mixture_of};
 

@@ -7,7 +7,7 @@ ghost use Rattle.dl_plan.specs.declared.plan.Plan.{Plan};
 ghost use Rattle.dl_plan.specs.declared.settings.Settings.{Settings};
 ghost use Rattle.dl_plan.specs.Valid.{IsValid};
 ghost use Rattle.dl_types.specs.Faults.{first_fault};
-ghost use Rattle.dl_types.specs.Kept.{IsSet};
+ghost use Rattle.dl_types.specs.Checked.{IsSet};
 ghost use Rattle.dl_types.specs.Plans.{IsPlanOf};
 
 /// A program that breaks no rule has a plan, and that is valid.

@@ -1,7 +1,7 @@
 //! Names, taken up in the order of the text.
 
 ghost use Rattle.std.specs.Prelude.{◌≡◌, ◌∷◌, ◌++◌, [], OnOk, map};
-ghost use Rattle.dl_types.specs.Answer.{TellsFault};
+ghost use Rattle.dl_types.specs.Answer.{HasFault};
 ghost use Rattle.dl_types.specs.Faults.{breaks};
 ghost use Rattle.dl_types.specs.Rules.{repeated};
 
@@ -9,7 +9,7 @@ use crate::broken::broken;
 use crate::fault::CheckFault;
 use crate::rule::Rule;
 use dl_ast::NameAst;
-use dl_buckets::place_if;
+use dl_buckets::span_if;
 use indexmap::IndexSet;
 
 /// Takes a name up among those before it. The rule is broken where it is one of them.
@@ -19,11 +19,11 @@ pub(crate) fn check_name<'a>(
     names: &mut IndexSet<&'a [u8]>,
     name: &'a NameAst,
 ) -> Result<(), CheckFault>
-    ensures fault { TellsFault (breaks number rule
+    ensures fault { HasFault (breaks number rule
         (repeated (map (λ key. key.now) names.old.keys) name.now)) result }
     ensures names { OnOk result (map (λ key. key.now) names.new.keys
         ≡ map (λ key. key.now) names.old.keys ++ name.now.text ∷ []) }
 {
     let is_new = names.insert(name.text.as_slice())?;
-    broken(number, rule, place_if(!is_new, name.span))
+    broken(number, rule, span_if(!is_new, name.span))
 }

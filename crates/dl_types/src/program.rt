@@ -6,7 +6,7 @@ ghost use Rattle.dl_types.specs.Faults.{fault_of_severity};
 ghost use Rattle.dl_limits.specs.Limits.{most_units};
 ghost use Rattle.dl_ast.specs.WellFormed.{IsWellFormed, IsFormedUnit, IsFormedDefinition};
 ghost use Rattle.dl_types.specs.Rules.{too_many_units};
-ghost use Rattle.dl_types.specs.Kept.{IsSet};
+ghost use Rattle.dl_types.specs.Checked.{IsSet};
 ghost use Rattle.dl_types.specs.Answer.{IsCheckOf, AnswersUnits};
 
 use crate::broken::typing;
@@ -68,7 +68,7 @@ fn planned(program: &Program, settings: &Settings, units: Items<Unit>) -> Result
     })
 }
 
-/// The place of the seventeenth unit.
+/// The span of the seventeenth unit.
 #[tactic(auto, unfolding(crate::specs::Rules::too_many_units))]
 fn too_many_units(units: &[UnitAst]) -> Option<Span>
     ensures { result ≡ too_many_units units.now }

@@ -3,7 +3,7 @@
 ghost use Rattle.std.specs.Prelude.{◌≡◌, ◌≤◌};
 ghost use Rattle.dl_limits.specs.Limits.{most_amount};
 ghost use Rattle.dl_types.specs.Faults.{cells_asked, most_asked};
-ghost use Rattle.dl_types.specs.Kept.{IsSet};
+ghost use Rattle.dl_types.specs.Checked.{IsSet};
 
 use dl_limits::most_amount;
 use dl_plan::Settings;

@@ -2,7 +2,7 @@
 
 ghost use Rattle.std.specs.Prelude.{◌≡◌, ◌<◌, ◌^◌, [], None, Some, IfSome, IfNone, length};
 ghost use Rattle.dl_buckets.specs.First.{in_turn};
-ghost use Rattle.dl_types.specs.Answer.{TellsFault};
+ghost use Rattle.dl_types.specs.Answer.{HasFault};
 ghost use Rattle.dl_types.specs.Faults.{fault_of_severity};
 ghost use Rattle.dl_types.specs.Severities.{named, body_span};
 
@@ -40,7 +40,7 @@ pub(crate) fn body_span(body: &SevBody) -> Span
 /// The rule on the names of severities.
 pub(crate) fn check_severities(alloc: Global, sevs: &[SevDef]) -> Result<(), CheckFault>
     requires few { length sevs.now < 2 ^ 32 }
-    ensures { TellsFault (in_turn fault_of_severity [] sevs.now) result }
+    ensures { HasFault (in_turn fault_of_severity [] sevs.now) result }
 {
     let mut names = IndexSet::new(alloc);
     'sevs: for (at, sev) in sevs.iter().enumerate() {

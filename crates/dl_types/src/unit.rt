@@ -2,18 +2,18 @@
 
 ghost use Rattle.std.specs.Prelude.{All, ◌≡◌, ◌<◌, ◌∷◌, ◌++◌, [], Option, None, Some, IfOk, Err, length, map};
 ghost use Rattle.dl_types.specs.Faults.{most_asked, fault_of_text};
-ghost use Rattle.dl_types.specs.Answer.{TellsFault, AnswersWith, AnswersUnit};
+ghost use Rattle.dl_types.specs.Answer.{HasFault, AnswersWith, AnswersUnit};
 ghost use Rattle.dl_ast.specs.WellFormed.{IsFormedUnit, IsFormedDefinition};
 ghost use Rattle.dl_ast.specs.declared.ast.MixAst.{MixAst as Mixture};
 ghost use Rattle.dl_types.specs.Known.{IsMixtureRead, IsKnown};
-ghost use Rattle.dl_types.specs.Kept.{IsSet};
+ghost use Rattle.dl_types.specs.Checked.{IsSet};
 ghost use Rattle.dl_buckets.specs.Grid.{grid_of};
 ghost use Rattle.dl_buckets.specs.Reading.{flaws_of};
-ghost use Rattle.dl_buckets.specs.GridKept.{IsGridUnit, IsWithin};
+ghost use Rattle.dl_buckets.specs.CheckedGrid.{IsGridUnit, IsWithin};
 ghost use Rattle.dl_limits.specs.Limits.{most_units};
 ghost use Rattle.dl_types.specs.UnitNames.{names_of};
 
-use crate::broken::{broken, kept, typing};
+use crate::broken::{broken, typing, unless_broken};
 use crate::changes::common_unit;
 use crate::fault::CheckFault;
 use crate::grid_rules::check_grid;
@@ -31,7 +31,7 @@ use std::alloc::Global;
 /// The rules that reading a unit can break.
 #[tactic(auto, unfolding(dl_buckets::specs::First::first_in))]
 fn check_flaws(number: u32, flaws: Flaws) -> Result<(), CheckFault>
-    ensures { TellsFault (fault_of_text number flaws) result }
+    ensures { HasFault (fault_of_text number flaws) result }
 {
     broken(number, Rule::BadNumeral, flaws.numeral)?;
     broken(number, Rule::BadRange, flaws.range)?;
@@ -54,7 +54,7 @@ fn check_text(
     requires formed { IsFormedUnit unit.now }
     requires sev { (mix : Mixture) × IsMixtureRead settings.now mix sev }
     ensures fault { (mix : Mixture) → IsMixtureRead settings.now mix sev
-        → TellsFault (fault_of_text number
+        → HasFault (fault_of_text number
         (flaws_of (most_asked settings.now) settings.now.bs unit.now mix)) result }
     ensures same { (mix : Mixture) → IsMixtureRead settings.now mix sev
         → IfOk result (λ made. made ≡ grid_of settings.now.bs unit.now mix) }
@@ -63,7 +63,7 @@ fn check_text(
 {
     let made = grid_unit(alloc, unit, sev, settings.bs, most_asked(settings))?;
     let checked = check_flaws(number, made.flaws);
-    kept(made.part, checked)
+    unless_broken(made.part, checked)
 }
 
 /// The unit of the plan, or the first rule that the unit with this severity breaks.
@@ -119,8 +119,8 @@ pub(crate) fn check_unit<'a>(
     match unit_severity(alloc, known, sevs, &unit.sev.body, settings)? {
         Some(sev) => {
             let made = check_with(alloc, names, before, unit, sev, settings)?;
-            let place = common_unit(port, unit);
-            kept(made, broken(number, Rule::CommonUnit, place))
+            let span = common_unit(port, unit);
+            unless_broken(made, broken(number, Rule::CommonUnit, span))
         }
         None => Err(typing(number, Rule::UnknownSeverity, body_span(&unit.sev.body))),
     }

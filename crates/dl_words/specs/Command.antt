@@ -21,8 +21,8 @@ abbrev pub bare_command : App
 bare_command = on_top (λ s. record s { no_binary_name = true }) (new_app (codes "decl"))
 
 -- the command with its positional words and no option
-abbrev pub places : App
-places = with_rule (with_rule bare_command form) asks
+abbrev pub positionals : App
+positionals = with_rule (with_rule bare_command form) asks
 
 -- the command with one more option
 abbrev pub with_option : App → Text → App
@@ -32,5 +32,5 @@ with_option app name = with_rule app (option_of name)
 abbrev pub command : App
 command =
     with_option (with_option (with_option
-    (with_option (with_option (with_option (with_option places (codes "make")) (codes "bs"))
+    (with_option (with_option (with_option (with_option positionals (codes "make")) (codes "bs"))
     (codes "log2")) (codes "digits")) (codes "width")) (codes "mwidth")) (codes "format")

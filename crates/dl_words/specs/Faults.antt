@@ -16,8 +16,8 @@ Explains answer OutOfMemory = ⊤
 
 -- the meaning of a refusal by `clap` of this kind: memory ran out where it says so, and else the
 -- words do not fit the command
-abbrev pub TellsRefusal : ErrorKind → WordsFault → Type 0
-TellsRefusal kind fault =
+abbrev pub IsClapRefusal : ErrorKind → WordsFault → Type 0
+IsClapRefusal kind fault =
     ((kind ≡ refusals.OutOfMemory) × (fault ≡ OutOfMemory))
     ⊎ ((kind ≢ refusals.OutOfMemory) × (fault ≡ Usage Line))
 

@@ -29,14 +29,14 @@ pub(crate) fn read_asks(alloc: Global, texts: &[&str]) -> Result<Vec<Asked>, Wor
     for (index, text) in texts.iter().enumerate() {
         match read_asked(alloc, text)? {
             Some(asked) => asks.push(asked)?,
-            None => return Err(misfit(index)),
+            None => return Err(ask_fault(index)),
         }
     }
     Ok(asks)
 }
 
 /// The fault that the ask with this index is not spelled as one.
-fn misfit(index: usize) -> WordsFault
+fn ask_fault(index: usize) -> WordsFault
     requires { index < 2 ^ 32 }
     ensures { result ≡ Usage (faults.Ask index) }
 {

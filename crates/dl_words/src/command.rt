@@ -2,7 +2,7 @@
 
 ghost use Rattle.std.specs.Prelude.{◌≡◌, IfOk, codes, false};
 ghost use Rattle.clap.specs.Words.{App, app_of, rule_of, with_rule};
-ghost use Rattle.dl_words.specs.Command.{bare_command, command, places, with_option};
+ghost use Rattle.dl_words.specs.Command.{bare_command, command, positionals, with_option};
 
 use clap::{Arg, ArgAction, Command};
 use std::alloc::{AllocError, Global};
@@ -11,7 +11,7 @@ use std::alloc::{AllocError, Global};
 pub(crate) fn simple_command<'a>(alloc: Global) -> Result<Command<'a>, AllocError>
     ensures { IfOk result (λ c. app_of c ≡ command) }
 {
-    let command = with_first_options(alloc, with_places(alloc));
+    let command = with_first_options(alloc, with_positionals(alloc));
     let command = with_option(alloc, command, "digits");
     let command = with_option(alloc, command, "width");
     let command = with_option(alloc, command, "mwidth");
@@ -33,8 +33,8 @@ fn with_first_options<'a>(
 }
 
 /// The command with its positionals.
-fn with_places<'a>(alloc: Global) -> Result<Command<'a>, AllocError>
-    ensures { IfOk result (λ c. app_of c ≡ places) }
+fn with_positionals<'a>(alloc: Global) -> Result<Command<'a>, AllocError>
+    ensures { IfOk result (λ c. app_of c ≡ positionals) }
 {
     let command = with_arg(
         Ok(bare_command(alloc)),

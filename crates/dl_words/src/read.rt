@@ -2,7 +2,7 @@
 
 ghost use Rattle.std.specs.Prelude.{◌≡◌, IfErr, IfOk, Ok, map};
 ghost use Rattle.std.specs.String.{string_bytes};
-ghost use Rattle.dl_words.specs.Faults.{Explains, TellsRefusal};
+ghost use Rattle.dl_words.specs.Faults.{Explains, IsClapRefusal};
 ghost use Rattle.dl_words.specs.Words.{words_of};
 
 use crate::command::simple_command;
@@ -32,7 +32,7 @@ pub fn read_words(alloc: Global, words: &[String]) -> Result<Settings, WordsFaul
 
 /// The fault behind a refusal by `clap`. A misfit of the words is never want of memory.
 fn refusal(kind: ErrorKind) -> WordsFault
-    ensures { TellsRefusal kind result }
+    ensures { IsClapRefusal kind result }
 {
     match kind {
         ErrorKind::OutOfMemory => WordsFault::OutOfMemory,

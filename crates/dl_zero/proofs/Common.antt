@@ -30,7 +30,7 @@ pub use Rattle.dl_model.proofs.Outcomes.{loss_proper, mean_alone, total_alone_al
 pub use Rattle.dl_model.proofs.Picks.{off, on}
 pub use Rattle.dl_model.proofs.UnitLaws.{unit_loss, unit_within}
 pub use Rattle.dl_model.specs.ChangedZero.{changed, changed_end, with_claims, without_none}
-pub use Rattle.dl_model.specs.Measures.{IsDeclaredLoss, mean_to_reach}
+pub use Rattle.dl_model.specs.Measures.{IsDeclaredLoss, level_mean}
 pub use Rattle.dl_model.specs.Program.{IsLoss, Loss, Mean, One, partial_sums, where_true}
 pub use Rattle.dl_model.specs.Series.{AtLeast, AtMost, Holds, IsBound, Rises, SameValue, Series}
 pub use Rattle.dl_model.specs.Units.{Aggregate, IsDeclarable, IsDeclared, loss, outcome}

@@ -1,5 +1,5 @@
 -- A unit with a changed probability of no claim as a loss, and its mean as a total of one unit.
-use Rattle.dl_zero.proofs.Common.{◌↔◌, ℕ, ◌≡◌, ◌*◌, ◌<◌, arith, ap₂, ◌∙◌, [], ◌∷◌, Fraction, whole, ◌+ℚ◌, ◌-ℚ◌, ◌*ℚ◌, ◌≤ℚ◌, sum_to, plus_zero, times_zero, Holds, SameValue, Loss, IsLoss, One, Mean, partial_sums, mean_to_reach, Aggregate, IsDeclarable, outcome, without_none, with_claims, changed, off, level_same, same_value, sum_rises_to, total_alone_all, mean_alone, unit_within, unit_loss, with_none_rises, with_none_all}
+use Rattle.dl_zero.proofs.Common.{◌↔◌, ℕ, ◌≡◌, ◌*◌, ◌<◌, arith, ap₂, ◌∙◌, [], ◌∷◌, Fraction, whole, ◌+ℚ◌, ◌-ℚ◌, ◌*ℚ◌, ◌≤ℚ◌, sum_to, plus_zero, times_zero, Holds, SameValue, Loss, IsLoss, One, Mean, partial_sums, level_mean, Aggregate, IsDeclarable, outcome, without_none, with_claims, changed, off, level_same, same_value, sum_rises_to, total_alone_all, mean_alone, unit_within, unit_loss, with_none_rises, with_none_all}
 
 module _ (p : Fraction) (u : Aggregate) (h : IsDeclarable u) where
   abbrev claims : Aggregate
@@ -18,7 +18,7 @@ module _ (p : Fraction) (u : Aggregate) (h : IsDeclarable u) where
   changed_is_loss within = record {
     cells_rise = λ y. with_none_rises p y (outcome claims y) (λ N. sum_to N (without_none u.count))
         ((unit_loss claims claims_unit).cells_rise y) (sum_rises_to (without_none u.count));
-    reach_rises = λ N. omega arith;
+    last_rises = λ N. omega arith;
     past = changed_past;
     full = λ N. with_none_all p (N * u.most) N (outcome claims) (λ N. sum_to N (without_none u.count)) within
         ((unit_loss claims claims_unit).full N);
@@ -26,13 +26,13 @@ module _ (p : Fraction) (u : Aggregate) (h : IsDeclarable u) where
 
 -- the mean of a total of one unit
 pub mean_same : (l : Loss) → IsLoss l
-    → SameValue (partial_sums (l ∷ []) Mean) (partial_sums (l ∷ []) One) (mean_to_reach l) l.family.all
-mean_same l h = same_value (partial_sums (l ∷ []) Mean) (partial_sums (l ∷ []) One) (mean_to_reach l) l.family.all
+    → SameValue (partial_sums (l ∷ []) Mean) (partial_sums (l ∷ []) One) (level_mean l) l.family.all
+mean_same l h = same_value (partial_sums (l ∷ []) Mean) (partial_sums (l ∷ []) One) (level_mean l) l.family.all
     (level_same _ _ (mean_alone l h)) (level_same _ _ (total_alone_all l h))
 
 pub mean_held : (l : Loss) (low high : Fraction) → IsLoss l
     → Holds (partial_sums (l ∷ []) Mean) (partial_sums (l ∷ []) One) low high
-    ↔ Holds (mean_to_reach l) l.family.all low high
+    ↔ Holds (level_mean l) l.family.all low high
 mean_held l low high h =
     let least = (mean_same l h).0 low in
     let most = (mean_same l h).1 high in

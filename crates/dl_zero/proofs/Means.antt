@@ -1,5 +1,5 @@
 -- The ends of the mean after the change, and what ends of enclosed values are at most.
-use Rattle.dl_zero.proofs.Common.{ends_in_order, ℕ, ◌≡◌, ◌-◌, ◌*◌, ◌/◌, ◌<◌, ◌≤◌, arith, sym, ap, subst, ◌∙◌, [], ◌∷◌, div_ceil, Fraction, whole, ◌over◌, ◌-ℚ◌, ◌*ℚ◌, ◌/ℚ◌, ◌≤ℚ◌, ◌<ℚ◌, sum_to, one_pos, ring, le_refl, le_of_eq, le_of_lt, le_over, over_lt, over_le_over, scale_low, scale_high, div_low, div_high, AtMost, Holds, Loss, One, Mean, partial_sums, IsDeclaredLoss, mean_to_reach, Aggregate, IsDeclared, loss, changed, at_least_wider, at_most_wider, sum_rises_to, loss_proper, unit_loss, changed_mean_values}
+use Rattle.dl_zero.proofs.Common.{ends_in_order, ℕ, ◌≡◌, ◌-◌, ◌*◌, ◌/◌, ◌<◌, ◌≤◌, arith, sym, ap, subst, ◌∙◌, [], ◌∷◌, div_ceil, Fraction, whole, ◌over◌, ◌-ℚ◌, ◌*ℚ◌, ◌/ℚ◌, ◌≤ℚ◌, ◌<ℚ◌, sum_to, one_pos, ring, le_refl, le_of_eq, le_of_lt, le_over, over_lt, over_le_over, scale_low, scale_high, div_low, div_high, AtMost, Holds, Loss, One, Mean, partial_sums, IsDeclaredLoss, level_mean, Aggregate, IsDeclared, loss, changed, at_least_wider, at_most_wider, sum_rises_to, loss_proper, unit_loss, changed_mean_values}
 use Rattle.dl_model.proofs.TailScores.{div_is_times}
 use Rattle.dl_zero.proofs.Values.{rest_of, rest_units, rest_positive}
 use Rattle.dl_zero.proofs.Losses.{changed_is_loss, mean_same, mean_held}
@@ -28,7 +28,7 @@ module _ (S lo hi nl nh : ℕ) (p : Fraction) (pos : 0 < S) (order : nl ≤ nh) 
       ((lo * (p.den - p.num) / p.den * S / (S - nl)) over S)
       (div_ceil (div_ceil (hi * (p.den - p.num)) p.den * S) (S - nh) over S)
   changed_mean_holds u d mean none =
-      let Q = mean_to_reach (changed p u) in
+      let Q = level_mean (changed p u) in
       let R = (changed p u).family.all in
       let exact = changed_mean_values p u d (lo over S) (hi over S) (nl over S) (nh over S)
       ((mean_held (loss u) (lo over S) (hi over S) (unit_loss u d.unit)).0 mean) none (over_le_over nl nh S pos order)
@@ -62,6 +62,6 @@ pub mean_low : (S lo m : ℕ) (l : Loss) → 0 < S → IsDeclaredLoss l → (hi 
     → AtMost (partial_sums (l ∷ []) Mean) (partial_sums (l ∷ []) One) (whole m) → lo ≤ m * S
 mean_low S lo m l pos d hi held most =
     let order = ends_in_order l.family.all (loss_proper l d.loss).all_rises d.bound d.level d.bounded d.positive
-    (mean_to_reach l) (lo over S) (whole m) ((mean_held l _ _ d.loss).0 held).0
+    (level_mean l) (lo over S) (whole m) ((mean_held l _ _ d.loss).0 held).0
     (((mean_same l d.loss).1 (whole m)).0 most) in
     omega (arith, le_over lo S m 1 pos one_pos order)

@@ -386,7 +386,7 @@ const FAILING: [Failing; 5] = [
 ];
 
 /// Whether a call ends as it is due.
-fn is_told(alloc: Global, row: &Failing) -> Result<bool, AllocError> {
+fn fails_as_said(alloc: Global, row: &Failing) -> Result<bool, AllocError> {
     let with = Objects {
         room: row.report.len().max(64),
         read: row.read,
@@ -400,7 +400,7 @@ fn is_told(alloc: Global, row: &Failing) -> Result<bool, AllocError> {
 #[test]
 fn tells_failed_calls(rt: HostRuntime) -> Result<(), Fail> {
     for (i, row) in FAILING.iter().enumerate() {
-        assert!(rt; is_told(rt.alloc(), row)?, "{i}");
+        assert!(rt; fails_as_said(rt.alloc(), row)?, "{i}");
     }
     Ok(())
 }

@@ -63,13 +63,13 @@ fn die<const B: u32>(alloc: Global) -> Result<Option<Grid<B>>, AllocError>
     };
     let mut good = true;
     for face in 1..7 {
-        good = g.put(face, part(6)) && good;
+        good = g.try_set(face, part(6)) && good;
     }
     Ok(if good { Some(g) } else { None })
 }
 
 /// Whether a cell of a grid has the ends that were worked out.
-fn is_told<const B: u32>(both: &Grid<B>, cell: usize, want: &Sums) -> bool {
+fn has_sums_at<const B: u32>(both: &Grid<B>, cell: usize, want: &Sums) -> bool {
     let Some(ways) = WAYS.get(cell) else {
         return false;
     };
@@ -80,10 +80,10 @@ fn is_told<const B: u32>(both: &Grid<B>, cell: usize, want: &Sums) -> bool {
 }
 
 /// Whether the cells of a grid, as many as it has, have the ends that were worked out.
-fn are_told<const B: u32>(both: &Grid<B>, want: &Sums) -> bool {
+fn has_sums<const B: u32>(both: &Grid<B>, want: &Sums) -> bool {
     let mut same = true;
     for cell in 0..both.lows().len() {
-        same = same && is_told(both, cell, want);
+        same = same && has_sums_at(both, cell, want);
     }
     same
 }
@@ -99,7 +99,7 @@ fn twice_agrees<const B: u32>(
         return Ok(false);
     }
     let both = convolve(alloc, g, g, cells)?;
-    let same = both.cells() == cells && are_told(&both, want);
+    let same = both.cells() == cells && has_sums(&both, want);
     Ok(same && (cells < 13 || both.spread() == want.spread))
 }
 
@@ -157,7 +157,7 @@ fn drawn<const B: u32>(
         let low = u128::from(draw(x, 65536)) * part;
         let high = low.saturating_add(u128::from(draw(x, 65536)) * part);
         if low > one
-            || !g.put(
+            || !g.try_set(
                 s,
                 Iv {
                     lo: low,

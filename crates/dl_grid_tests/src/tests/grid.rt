@@ -18,7 +18,7 @@ struct Write {
 /// What is read off a grid: its cells, and in halves of 1 the ends of its first and of its last
 /// cell, those of the probability of all cells, its mass and its spread.
 #[derive(Clone, Copy, PartialEq, Eq)]
-struct Told {
+struct Figures {
     cells: u32,
     first: (u128, u128),
     last: (u128, u128),
@@ -33,7 +33,7 @@ struct Case {
     cells: u32,
     writes: [Write; 2],
     kept: u32,
-    want: Told,
+    want: Figures,
 }
 
 const NO_WRITE: Write = Write {
@@ -65,7 +65,7 @@ fn apply<const B: u32>(g: &mut Grid<B>, write: Write) -> bool
     if hi > one {
         return false;
     }
-    g.put(write.x, Iv { lo, hi })
+    g.try_set(write.x, Iv { lo, hi })
 }
 
 fn halves<const B: u32>(ends: Iv<B>) -> (u128, u128) {
@@ -73,7 +73,7 @@ fn halves<const B: u32>(ends: Iv<B>) -> (u128, u128) {
     (ends.lo / half, ends.hi / half)
 }
 
-fn tell<const B: u32>(g: &Grid<B>) -> Option<Told>
+fn figures_of<const B: u32>(g: &Grid<B>) -> Option<Figures>
     requires scale_above { 1 ≤ B }
     requires scale_below { B ≤ 56 }
 {
@@ -82,7 +82,7 @@ fn tell<const B: u32>(g: &Grid<B>) -> Option<Told>
     }
     let last = g.cells() - 1;
     let half = half_of_one(B);
-    Some(Told {
+    Some(Figures {
         cells: g.cells(),
         first: halves(g.at(0)),
         last: halves(g.at(last)),
@@ -93,7 +93,7 @@ fn tell<const B: u32>(g: &Grid<B>) -> Option<Told>
 }
 
 /// What is read off a grid whose first cells have these ends.
-fn cut<const B: u32>(alloc: Global, g: &Grid<B>, cells: u32) -> Result<Option<Told>, AllocError>
+fn cut<const B: u32>(alloc: Global, g: &Grid<B>, cells: u32) -> Result<Option<Figures>, AllocError>
     requires scale_above { 1 ≤ B }
     requires scale_below { B ≤ 56 }
 {
@@ -104,10 +104,10 @@ fn cut<const B: u32>(alloc: Global, g: &Grid<B>, cells: u32) -> Result<Option<To
     let lows = Vec::from_slice(alloc, kept.lows())?;
     let highs = Vec::from_slice(alloc, kept.highs())?;
     let copy = Grid::<B>::from_ends(lows, highs);
-    Ok(tell(&copy))
+    Ok(figures_of(&copy))
 }
 
-fn answer<const B: u32>(alloc: Global, case: &Case) -> Result<Option<Told>, AllocError>
+fn answer<const B: u32>(alloc: Global, case: &Case) -> Result<Option<Figures>, AllocError>
     requires scale_above { 1 ≤ B }
     requires scale_below { B ≤ 56 }
 {
@@ -127,7 +127,7 @@ fn answer<const B: u32>(alloc: Global, case: &Case) -> Result<Option<Told>, Allo
 }
 
 /// Whether a case gives what is wanted, at three scales.
-fn is_told(alloc: Global, case: &Case) -> Result<bool, AllocError> {
+fn has_figures(alloc: Global, case: &Case) -> Result<bool, AllocError> {
     let want = Some(case.want);
     Ok(
         answer::<1>(alloc, case)? == want
@@ -141,7 +141,7 @@ const CASES: [Case; 4] = [
         cells: 4,
         writes: [NO_WRITE; 2],
         kept: 4,
-        want: Told {
+        want: Figures {
             cells: 4,
             first: (2, 2),
             last: (0, 0),
@@ -155,7 +155,7 @@ const CASES: [Case; 4] = [
         cells: 4,
         writes: [NO_WRITE; 2],
         kept: 2,
-        want: Told {
+        want: Figures {
             cells: 2,
             first: (2, 2),
             last: (0, 0),
@@ -180,7 +180,7 @@ const CASES: [Case; 4] = [
             },
         ],
         kept: 3,
-        want: Told {
+        want: Figures {
             cells: 3,
             first: (1, 2),
             last: (0, 1),
@@ -204,7 +204,7 @@ const CASES: [Case; 4] = [
             },
         ],
         kept: 1,
-        want: Told {
+        want: Figures {
             cells: 1,
             first: (1, 1),
             last: (1, 1),
@@ -218,7 +218,11 @@ const CASES: [Case; 4] = [
 #[test]
 fn grids_tell(rt: HostRuntime) {
     for case in &CASES {
-        assert!(rt; is_so(is_told(rt.alloc(), case)), "{} cells", case.cells);
+        assert!(rt;
+            is_so(has_figures(rt.alloc(), case)),
+            "{} cells",
+            case.cells
+        );
     }
 }
 
@@ -239,7 +243,7 @@ fn longest(cells: u32) -> Case {
             },
         ],
         kept: cells,
-        want: Told {
+        want: Figures {
             cells,
             first: (1, 1),
             last: (1, 2),

@@ -26,7 +26,7 @@ pub(crate) fn empty<const B: u32>(alloc: Global, cells: u32) -> Result<Option<Gr
     requires { IsGridSize B cells }
 {
     let mut g = Grid::<B>::zero(alloc, cells)?;
-    Ok(if g.put(0, Iv { lo: 0, hi: 0 }) {
+    Ok(if g.try_set(0, Iv { lo: 0, hi: 0 }) {
         Some(g)
     } else {
         None

@@ -75,7 +75,7 @@ fn shaped<const B: u32>(
     let mut good = true;
     for x in shape.start..shape.start + shape.count {
         if (x - shape.start) % shape.step == 0 {
-            good = g.put(x, interval(shape.ends)) && good;
+            good = g.try_set(x, interval(shape.ends)) && good;
         }
     }
     Ok(if good { Some(g) } else { None })
@@ -289,7 +289,7 @@ fn both_have_sums(alloc: Global, work: &mut Workspace, a: &Grid<56>) -> Result<b
 }
 
 /// Whether those of the grid of 700 equal parts have them.
-fn is_told(alloc: Global, work: &mut Workspace) -> Result<bool, AllocError> {
+fn has_equal_parts(alloc: Global, work: &mut Workspace) -> Result<bool, AllocError> {
     match shaped::<56>(alloc, 700, alike(Ends::Part(700), 0, 700))? {
         Some(a) => both_have_sums(alloc, work, &a),
         None => Ok(false),
@@ -300,16 +300,16 @@ fn is_told(alloc: Global, work: &mut Workspace) -> Result<bool, AllocError> {
 fn equal_parts(rt: HostRuntime) {
     let alloc = rt.alloc();
     let mut work = Workspace::new(alloc);
-    assert!(rt; is_so(is_told(alloc, &mut work)));
+    assert!(rt; is_so(has_equal_parts(alloc, &mut work)));
 }
 
 /// A cell of a product: its number, and its ends.
-type Told = (usize, u128, u128);
+type CellEnds = (usize, u128, u128);
 
 /// Of the sum of an amount from 100 on, one of 60,000 that are equally likely, and of one from 3
 /// on, one of 50,000, each probability rounded down and up: worked out by whole numbers of any
 /// size.
-const LONG_SUMS: [Told; 6] = [
+const LONG_SUMS: [CellEnds; 6] = [
     (102, 0, 0),
     (103, 93824, 93825),
     (104, 187649, 187650),
@@ -319,7 +319,7 @@ const LONG_SUMS: [Told; 6] = [
 ];
 
 /// Of the sum of two of the first amounts.
-const LONG_SQUARES: [Told; 4] = [
+const LONG_SQUARES: [CellEnds; 4] = [
     (199, 0, 0),
     (200, 78187, 78188),
     (32768, 2546488475, 2546488477),
@@ -327,7 +327,7 @@ const LONG_SQUARES: [Told; 4] = [
 ];
 
 /// Whether a grid has these cells.
-fn has_cells(g: &Grid<48>, cells: &[Told]) -> bool {
+fn has_cells(g: &Grid<48>, cells: &[CellEnds]) -> bool {
     let mut same = true;
     for (i, low, high) in cells {
         same = same && g.lows().get(*i) == Some(low) && g.highs().get(*i) == Some(high);
@@ -351,7 +351,7 @@ fn are_long(
 }
 
 /// Whether there are two such grids, and they are so.
-fn is_told_at_length(alloc: Global, work: &mut Workspace) -> Result<bool, AllocError> {
+fn has_long_sums(alloc: Global, work: &mut Workspace) -> Result<bool, AllocError> {
     let a = shaped::<48>(alloc, 65536, alike(Ends::Part(60000), 100, 60000))?;
     let b = shaped::<48>(alloc, 65536, alike(Ends::Part(50000), 3, 50000))?;
     match (&a, &b) {
@@ -364,5 +364,5 @@ fn is_told_at_length(alloc: Global, work: &mut Workspace) -> Result<bool, AllocE
 fn longest_grids(rt: HostRuntime) {
     let alloc = rt.alloc();
     let mut work = Workspace::new(alloc);
-    assert!(rt; is_so(is_told_at_length(alloc, &mut work)));
+    assert!(rt; is_so(has_long_sums(alloc, &mut work)));
 }

@@ -27,10 +27,10 @@ pub fn grid<const B: u32>(
     ensures { IfOk result (λ g. length g ≡ cells) }
 {
     let mut g = Grid::<B>::zero(alloc, cells)?;
-    g.put(0, Iv::point(0));
+    g.try_set(0, Iv::point(0));
     let mut x: u32 = 0;
     for part in parts {
-        g.put(x, Iv::enclose(u128::from(*part), u128::from(all)));
+        g.try_set(x, Iv::enclose(u128::from(*part), u128::from(all)));
         x = x.saturating_add(step);
     }
     Ok(g)

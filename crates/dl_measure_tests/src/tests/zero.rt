@@ -202,7 +202,7 @@ fn cells_of<const B: u32>(alloc: Global, case: &Case) -> Result<Grid<B>, AllocEr
     let cells = case.cells.min(3).max(1);
     let mut g = grid::<B>(alloc, &[], 1, 1, cells)?;
     for y in 0..cells {
-        g.put(y, interval(case.lows[y as usize], case.highs[y as usize]));
+        g.try_set(y, interval(case.lows[y as usize], case.highs[y as usize]));
     }
     Ok(g)
 }

@@ -3,7 +3,7 @@
 
 ghost use Rattle.std.specs.Prelude.{◌≤◌, IfSome};
 ghost use Rattle.dl_ast.specs.WellFormed.{IsWellFormed};
-ghost use Rattle.dl_types.specs.Kept.{IsSet};
+ghost use Rattle.dl_types.specs.Checked.{IsSet};
 
 use dl_ast::Program;
 use dl_frac::Frac;
@@ -385,7 +385,7 @@ fn fault_in(alloc: Global, log2: u32, program: &Program) -> Option<CheckFault>
 
 /// The unit, the rule and the first byte of the place of a refusal, if it is one; nothing where it
 /// is for want of memory.
-fn told(fault: Option<CheckFault>) -> Option<Option<(u32, Rule, u32)>> {
+fn parts_of_fault(fault: Option<CheckFault>) -> Option<Option<(u32, Rule, u32)>> {
     match fault {
         Some(CheckFault::Typing(fault)) => Some(Some((fault.unit, fault.rule, fault.span.start))),
         Some(CheckFault::OutOfMemory) => None,
@@ -396,7 +396,7 @@ fn told(fault: Option<CheckFault>) -> Option<Option<(u32, Rule, u32)>> {
 #[test]
 fn rules(rt: HostRuntime) {
     for (text, want) in &CASES {
-        let got = first_fault(rt.alloc(), 4, text).and_then(told);
+        let got = first_fault(rt.alloc(), 4, text).and_then(parts_of_fault);
         assert_eq!(rt; got, Some(*want));
     }
 }
@@ -453,7 +453,7 @@ const LENGTHS: [(u32, Case); 8] = [
 #[test]
 fn rules_by_length(rt: HostRuntime) {
     for (log2, (text, want)) in &LENGTHS {
-        let got = first_fault(rt.alloc(), *log2, text).and_then(told);
+        let got = first_fault(rt.alloc(), *log2, text).and_then(parts_of_fault);
         assert_eq!(rt; got, Some(*want));
     }
 }

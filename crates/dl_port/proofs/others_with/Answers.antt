@@ -21,9 +21,9 @@ returns-then-i-gt0-clause-spread g c =
 pub returns-then-units-gt1-clause-encloses : goal.returns-then-units-gt1-clause-encloses
 returns-then-units-gt1-clause-encloses g c =
     let first : c.args.i ≡ 0 = omega arith in
-    IfOk-weaker c.in_order-then-units-gt1.result _ _ (λ sum all us w each.
+    IfOk-weaker c.sum_one_by_one-then-units-gt1.result _ _ (λ sum all us w each.
     after_alone c.args.units.now _ sum c.args.i us first (from_there c.args.i c.args.units.now) all w each)
-    c.in_order-then-units-gt1.ensures.encloses
+    c.sum_one_by_one-then-units-gt1.ensures.encloses
 
 pub returns-clause-encloses : goal.returns-clause-encloses
 returns-clause-encloses g c =

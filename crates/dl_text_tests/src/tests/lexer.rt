@@ -118,23 +118,23 @@ const PLACES: [(&[u8], u32, u32, u32); 9] = [
 ];
 
 /// A token by its kind, its start and its end.
-fn told(alloc: Global, token: &Token) -> Result<String, AllocError> {
+fn token_text(alloc: Global, token: &Token) -> Result<String, AllocError> {
     let Token { kind, span } = token;
     format!(in alloc; "<{kind:?} {} {}>", span.start, span.end)
 }
 
 /// All of the tokens, in this order.
-fn all_told(alloc: Global, tokens: &[Token]) -> Result<String, AllocError> {
+fn tokens_text(alloc: Global, tokens: &[Token]) -> Result<String, AllocError> {
     let mut all = String::new(alloc);
     for token in tokens {
-        all.push_str(told(alloc, token)?.as_str())?;
+        all.push_str(token_text(alloc, token)?.as_str())?;
     }
     Ok(all)
 }
 
 /// Whether these are the tokens, in this order.
 fn are_tokens(alloc: Global, tokens: &[Token], want: &str) -> bool {
-    match all_told(alloc, tokens) {
+    match tokens_text(alloc, tokens) {
         Ok(all) => all.as_str() == want,
         Err(_) => false,
     }
@@ -170,7 +170,7 @@ fn texts_are_cut(rt: HostRuntime) {
 }
 
 #[test]
-fn bad_places_are_told(rt: HostRuntime) {
+fn bad_bytes_are_found(rt: HostRuntime) {
     for (text, at) in &BAD {
         assert!(rt; is_bad_at(rt.alloc(), text, *at));
     }

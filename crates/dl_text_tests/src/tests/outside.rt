@@ -42,7 +42,7 @@ const WRITES: [WriteCase; 9] = [
 ];
 
 /// The bytes that a read gave, or in words why there are none.
-fn told(read: &Result<Vec<u8>, ReadEnd>) -> &[u8] {
+fn bytes_of(read: &Result<Vec<u8>, ReadEnd>) -> &[u8] {
     match read {
         Ok(bytes) => bytes.as_slice(),
         Err(ReadEnd::Fault) => b"fault",
@@ -61,7 +61,7 @@ fn source_of(alloc: Global, case: &ReadCase) -> Result<MemSource, Fail> {
 fn is_read(alloc: Global, mut source: MemSource, case: &ReadCase) -> bool {
     let &(_, _, _, limit, wanted, left) = case;
     let first = read_all(alloc, &mut source, limit as usize);
-    told(&first) == wanted && told(&read_all(alloc, &mut source, 9)) == left
+    bytes_of(&first) == wanted && bytes_of(&read_all(alloc, &mut source, 9)) == left
 }
 
 /// The sink of a case.
@@ -88,7 +88,7 @@ fn reads_whole_inputs(rt: HostRuntime) -> Result<(), Fail> {
 #[test]
 fn reads_a_steady_input(rt: HostRuntime) -> Result<(), Fail> {
     let mut steady = SteadySource::new(b"abcde".to_vec(rt.alloc())?, 2);
-    assert!(rt; told(&read_all(rt.alloc(), &mut steady, 5)) == b"abcde".as_slice());
+    assert!(rt; bytes_of(&read_all(rt.alloc(), &mut steady, 5)) == b"abcde".as_slice());
     Ok(())
 }
 
@@ -129,14 +129,14 @@ impl Write for Broken {
 #[test]
 fn sources_stand_over_std(rt: HostRuntime) {
     let mut source = StdSource::new(b"abc".as_slice());
-    assert!(rt; told(&read_all(rt.alloc(), &mut source, 3)) == b"abc".as_slice());
+    assert!(rt; bytes_of(&read_all(rt.alloc(), &mut source, 3)) == b"abc".as_slice());
     assert!(rt; source.faults() == 0);
 }
 
 #[test]
 fn broken_sources_fail(rt: HostRuntime) {
     let mut broken = StdSource::new(Broken);
-    assert!(rt; told(&read_all(rt.alloc(), &mut broken, 3)) == b"fault".as_slice());
+    assert!(rt; bytes_of(&read_all(rt.alloc(), &mut broken, 3)) == b"fault".as_slice());
     assert!(rt; broken.faults() == 1);
 }
 

@@ -191,14 +191,14 @@ fn programs_are_read(rt: HostRuntime) {
 }
 
 #[test]
-fn bad_syntax_is_told(rt: HostRuntime) {
+fn bad_syntax_is_found(rt: HostRuntime) {
     for (source, at) in &SYNTAX {
         assert!(rt; is_refused(rt.alloc(), source, ParseFault::Syntax(*at)));
     }
 }
 
 #[test]
-fn continuous_severities_are_told(rt: HostRuntime) {
+fn continuous_severities_are_found(rt: HostRuntime) {
     for (source, at) in &CONTINUOUS {
         assert!(rt; is_refused(rt.alloc(), source, ParseFault::Continuous(*at)));
     }

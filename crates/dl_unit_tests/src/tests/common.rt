@@ -16,8 +16,8 @@ fn cells(alloc: Global, first: u8, second: u8) -> Result<Grid<8>, AllocError>
     ensures { IfOk result (λ g. length g ≡ 4) }
 {
     let mut grid = Grid::<8>::zero(alloc, 4)?;
-    grid.put(0, Iv::enclose(u128::from(first), 100));
-    grid.put(1, Iv::enclose(u128::from(second), 100));
+    grid.try_set(0, Iv::enclose(u128::from(first), 100));
+    grid.try_set(1, Iv::enclose(u128::from(second), 100));
     Ok(grid)
 }
 

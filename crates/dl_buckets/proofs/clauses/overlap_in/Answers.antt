@@ -6,9 +6,9 @@ use Rattle.dl_buckets.proofs.clauses.overlap_in.Goals as goal
 pub returns-then-overlaps_any : goal.returns-then-overlaps_any
 unfolding overlap_in
 returns-then-overlaps_any c =
-    let place = c.index-layers-at.result.layer.span in
-    rw (← c.as_slice-layers.ensures) (turn_found overlap_at _ _ _ place c.layers.invariant c.layers-test.true
-    c.index-layers-at.is (ap (λ b. at_if b place) (sym c.if-overlaps_any.true ∙ c.overlaps_any.ensures)))
+    let span = c.index-layers-at.result.layer.span in
+    rw (← c.as_slice-layers.ensures) (turn_found overlap_at _ _ _ span c.layers.invariant c.layers-test.true
+    c.index-layers-at.is (ap (λ b. at_if b span) (sym c.if-overlaps_any.true ∙ c.overlaps_any.ensures)))
 
 pub layers-preserved : goal.layers-preserved
 layers-preserved c =

@@ -3,4 +3,4 @@ use Rattle.dl_buckets.proofs.PastEdges.{all_multiples}
 use Rattle.dl_buckets.proofs.law.law_clauses.Goals as goal
 
 pub returns : goal.returns
-returns c = λ clause step cession. all_multiples clause step cession
+returns c = λ clause step is_clause. all_multiples clause step is_clause

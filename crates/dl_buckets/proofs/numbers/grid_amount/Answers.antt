@@ -6,5 +6,5 @@ pub returns : goal.returns
 returns c = rw c.none.ensures
     (amount_read c.args.most c.args.amount c.args.bs c.num.result c.den.result c.den-2.result c.num-2.result
     c.requires.bucket.above c.num.ensures.part c.den.ensures.part c.den-2.ensures.part c.num-2.ensures.part
-    c.args.place c.min.result c.place_if.result c.place_if-2.result c.min.ensures c.place_if.ensures
-    c.place_if-2.ensures)
+    c.args.span c.min.result c.span_if.result c.span_if-2.result c.min.ensures c.span_if.ensures
+    c.span_if-2.ensures)

@@ -6,11 +6,11 @@ use Rattle.dl_buckets.specs.Severity.{made_pairs}
 use Rattle.dl_buckets.proofs.Meaning.{own_means}
 use Rattle.dl_buckets.proofs.severity.final_severity.Goals as goal
 
-none_made : (made : MadeClause) (ps : Pairs) → ((clause : Clause) (place : Span) → made ≡ Whole clause place → ⊥)
+none_made : (made : MadeClause) (ps : Pairs) → ((clause : Clause) (span : Span) → made ≡ Whole clause span → ⊥)
     → made_pairs made ps ≡ ps
 none_made Missing ps h = refl
 none_made TooFine ps h = refl
-none_made (Whole clause place) ps h = absurd (h clause place refl)
+none_made (Whole clause span) ps h = absurd (h clause span refl)
 
 pub returns-in_default : goal.returns-in_default
 returns-in_default c = λ x.

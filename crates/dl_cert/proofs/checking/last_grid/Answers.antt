@@ -4,22 +4,22 @@ use Rattle.dl_cert.proofs.checking.last_grid.Goals as goal
 
 pub returns-then-count-eq0 : goal.returns-then-count-eq0
 returns-then-count-eq0 c =
-    let none : length c.args.kept.now.places.items ≡ 0 = omega (arith, c.len-count.ensures, c.if-count-eq0.true) in
-    (c.requires.covered, rw none at (ends_badly c.requires.kept (no_step_ends c.requires.kept none)))
+    let none : length c.args.so_far.now.offsets.items ≡ 0 = omega (arith, c.len-count.ensures, c.if-count-eq0.true) in
+    (c.requires.covered, rw none at (ends_badly c.requires.so_far (no_step_ends c.requires.so_far none)))
 
 pub overflow_cast-result : goal.overflow_cast-result
-overflow_cast-result c = omega (arith, few_steps c.args.text.now c.requires.kept)
+overflow_cast-result c = omega (arith, few_steps c.args.text.now c.requires.so_far)
 
 pub overflow_cast-count : goal.overflow_cast-count
-overflow_cast-count c = omega (arith, few_steps c.args.text.now c.requires.kept)
+overflow_cast-count c = omega (arith, few_steps c.args.text.now c.requires.so_far)
 
 pub returns-then-not-is_target : goal.returns-then-not-is_target
 returns-then-not-is_target c =
     let n : ℕ = c.len-count.result - 1 in
-    let is : n + 1 ≡ length c.args.kept.now.places.items = omega (arith, c.len-count.ensures, c.if-count-eq0.false) in
-    let count : length c.args.kept.now.places.items ≡ c.len-count.result = omega (arith, c.len-count.ensures) in (
+    let is : n + 1 ≡ length c.args.so_far.now.offsets.items = omega (arith, c.len-count.ensures, c.if-count-eq0.false) in
+    let count : length c.args.so_far.now.offsets.items ≡ c.len-count.result = omega (arith, c.len-count.ensures) in (
       c.requires.covered,
-      rw count at (ends_badly c.requires.kept (other_end c.requires.kept n is (λ all. clash (c.if-not-is_target.ensures.1
+      rw count at (ends_badly c.requires.so_far (other_end c.requires.so_far n is (λ all. clash (c.if-not-is_target.ensures.1
           ((by_targets c.args.plan.now c.args.targets.now _ c.deref.result.now n c.requires.targets c.deref.ensures.value).1
           all))))),
     )
@@ -30,10 +30,10 @@ returns-then-not-is_target c =
 pub returns : goal.returns
 returns c =
     let n : ℕ = c.len-count.result - 1 in
-    let is : n + 1 ≡ length c.args.kept.now.places.items = omega (arith, c.len-count.ensures, c.if-count-eq0.false) in
-    let kept = c.requires.kept.kept in (
+    let is : n + 1 ≡ length c.args.so_far.now.offsets.items = omega (arith, c.len-count.ensures, c.if-count-eq0.false) in
+    let so_far = c.requires.so_far.so_far in (
       c.requires.covered,
-      verified c.requires.kept n is (c.in_ok-grid.ensures.cells c.args.kept.now.labels.items _ (rw c.deref-2.ensures.value kept))
+      verified c.requires.so_far n is (c.in_ok-grid.ensures.cells c.args.so_far.now.labels.items _ (rw c.deref-2.ensures.value so_far))
           ((by_targets c.args.plan.now c.args.targets.now _ c.deref.result.now n c.requires.targets c.deref.ensures.value).0
           (c.if-not-is_target.ensures.0 refl)),
     )

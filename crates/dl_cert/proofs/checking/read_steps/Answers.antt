@@ -6,4 +6,4 @@ pub lines-init : goal.lines-init
 lines-init c = (rw (c.new.ensures.items, c.new-2.ensures.items) (none_passed c.args.plan.now c.args.text.now), omega arith)
 
 pub overflow_cast-number : goal.overflow_cast-number
-overflow_cast-number c = omega (arith, steps_before c.args.text.now c.lines.place c.lines.invariant.0)
+overflow_cast-number c = omega (arith, steps_before c.args.text.now c.lines.offset c.lines.invariant.0)

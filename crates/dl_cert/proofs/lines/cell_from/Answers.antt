@@ -16,10 +16,10 @@ pub returns-in_default-clause-cell : goal.returns-in_default-clause-cell
 returns-in_default-clause-cell c =
     no_cell_begins c.args.text.now c.args.from
     (omega (arith, c.if-from-text.false, c.requires)) c.if-text-from-ne32.false c.after-rest.ensures
-    c.first_place-end.ensures.place c.in_default.ensures
+    c.index_of-end.ensures.offset c.in_default.ensures
 
 pub returns-clause-cell : goal.returns-clause-cell
 returns-clause-cell c =
     cell_begins c.args.text.now c.args.from
     (omega (arith, c.if-from-text.false, c.requires)) c.if-text-from-ne32.false c.after-rest.ensures
-    c.first_place-end.ensures.place c.in-Some.ensures
+    c.index_of-end.ensures.offset c.in-Some.ensures

@@ -4,7 +4,7 @@ use Rattle.dl_cert.proofs.lines.read_cell.Goals as goal
 
 pub returns : goal.returns
 returns c =
-    cell_spelled c.args.text.now c.cell_of.result c.first_place-comma.ensures.place
-    (omega (arith, c.if-comma-text.false, c.first_place-comma.ensures.within)) c.after.ensures
+    cell_spelled c.args.text.now c.cell_of.result c.index_of-comma.ensures.offset
+    (omega (arith, c.if-comma-text.false, c.index_of-comma.ensures.within)) c.after.ensures
     (ap (λ n. Some n) c.from.ensures ∙ c.in-Some.ensures) (ap (λ n. Some n) c.from-2.ensures ∙ c.in-Some-number.ensures)
     c.cell_of.ensures

@@ -8,7 +8,7 @@ zero-requires c =
     (omega arith, grid_size c.args.plan.now.cells (λ none. omega (arith, none, c.requires.some)) c.requires.few)
 
 pub returns-in-Start : goal.returns-in-Start
-returns-in-Start c = λ labels before kept.
+returns-in-Start c = λ labels before so_far.
     let plan = c.args.plan.now in
     let u = c.in-Start.unit in
     let unit : UnitOfPlan = get_or c.as_slice.result.now u c.index-as_slice-unit.result in
@@ -20,9 +20,9 @@ returns-in-Start c = λ labels before kept.
     ∙ get_or_default plan.units u c.index-as_slice-unit.result unit there) c.index-bases-unit.is
 
 pub returns-in_ok-numbers-in-Times : goal.returns-in_ok-numbers-in-Times
-returns-in_ok-numbers-in-Times c = λ labels before kept.
+returns-in_ok-numbers-in-Times c = λ labels before so_far.
     times_tested (IsTrue c.is_beside-in-Times.result) c.args.plan.now before c.args.step.now.cells.items c.requires.cells
     c.in-Times.first c.in-Times.second c.in_ok-left-in-Times.left c.in_ok-right-in-Times.right
     c.in_ok-numbers-in-Times.numbers (rw c.as_slice-cells.ensures.value at c.is_beside-in-Times.ensures) c.in-Times.is
-    (c.in_ok-left-in-Times.ensures.cells labels before kept) (c.in_ok-right-in-Times.ensures.cells labels before kept)
+    (c.in_ok-left-in-Times.ensures.cells labels before so_far) (c.in_ok-right-in-Times.ensures.cells labels before so_far)
     c.in_ok-numbers-in-Times.ensures.convolution

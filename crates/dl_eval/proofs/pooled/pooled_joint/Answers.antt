@@ -1,5 +1,5 @@
 use Rattle.dl_eval.proofs.Common.{◌^◌, arith, sym, mul-le-mul_right, few_cells, read_unit, ◌also◌}
-use Rattle.dl_eval.proofs.Places.{unit_there}
+use Rattle.dl_eval.proofs.ReadAs.{unit_there}
 use Rattle.dl_eval.proofs.Scales.{share_fits}
 use Rattle.dl_eval.proofs.PooledUnits.{unit_poisson, pooled_is_joint, raised_there}
 use Rattle.dl_eval.proofs.pooled.pooled_joint.Goals as goal

@@ -1,7 +1,7 @@
 use Rattle.dl_eval.proofs.Common.{[], ◌^◌, arith, ap, IfOk-weaker, All-head, facts_of, IsLevel, ◌also◌}
 use Rattle.dl_eval.proofs.Insides.{layer_inside}
 use Rattle.dl_eval.proofs.GoodRows.{point_answer, cdf_answer, mean_answer, layer_answer}
-use Rattle.dl_eval.proofs.Named.{place_named}
+use Rattle.dl_eval.proofs.Named.{index_named}
 use Rattle.dl_eval.proofs.Scales.{plan_scale}
 use Rattle.dl_eval.proofs.PriceRows.{price_asked}
 use Rattle.dl_eval.proofs.ShareLaws.{joint_asked, share_asked, tail_asked}
@@ -85,7 +85,7 @@ returns-in-Price-clause-answer g c =
 
 pub returns-in-Joint-clause-answer : goal.returns-in-Joint-clause-answer
 returns-in-Joint-clause-answer g c =
-    let named = place_named c.args.plan.now.units c.args.asked.now.ask
+    let named = index_named c.args.plan.now.units c.args.asked.now.ask
     (ap (λ ask. (facts_of ask).unit) c.in-Joint.is) c.requires.unit c.unwrap.ensures in
     IfOk-weaker c.ends_row-in-Joint.result _ _ (λ row printed.
     rw c.in-Joint.is (joint_asked c.in-Joint.unit named c.joint_of.ensures.joint printed))
@@ -93,14 +93,14 @@ returns-in-Joint-clause-answer g c =
 
 pub returns-in-Kappa-clause-answer : goal.returns-in-Kappa-clause-answer
 returns-in-Kappa-clause-answer g c =
-    let named = place_named c.args.plan.now.units c.args.asked.now.ask
+    let named = index_named c.args.plan.now.units c.args.asked.now.ask
     (ap (λ ask. (facts_of ask).unit) c.in-Kappa.is) c.requires.unit c.unwrap-in-Kappa.ensures in
     IfOk-weaker c.share_row.result _ _ (λ row told.
     rw c.in-Kappa.is (share_asked (2 ^ g.row.B) c.in-Kappa.unit c.in-Kappa.at named told)) c.share_row.ensures.share
 
 pub returns-in-Independent-clause-answer : goal.returns-in-Independent-clause-answer
 returns-in-Independent-clause-answer g c =
-    let named = place_named c.args.plan.now.units c.args.asked.now.ask
+    let named = index_named c.args.plan.now.units c.args.asked.now.ask
     (ap (λ ask. (facts_of ask).unit) c.in-Cotail.is) c.requires.unit c.unwrap-in-Independent.ensures in
     IfOk-weaker c.tail_share_row.result _ _ (λ row told.
     rw c.in-Cotail.is (tail_share_asked (2 ^ g.row.B) c.in-Cotail.unit named told)) c.tail_share_row.ensures.share

@@ -1,5 +1,5 @@
 use Rattle.dl_eval.proofs.Common.{arith, ap, inl, ◌also◌}
-use Rattle.dl_eval.proofs.Places.{read_as}
+use Rattle.dl_eval.proofs.ReadAs.{read_as}
 use Rattle.dl_eval.proofs.Scales.{plan_scale, scale_least}
 use Rattle.dl_eval.proofs.TailShares.{tail_share, share_reached, share_absent}
 use Rattle.dl_eval.proofs.shares.tail_share_of.Goals as goal

@@ -1,5 +1,5 @@
 use Rattle.dl_eval.proofs.Common.{◌≤◌, ◌^◌, List, [], length, arith, ap, subst, few_cells, Iv, IsUnitGrid, IsUnitMean, AreUnitGrids, AreUnitMeans, ◌also◌}
-use Rattle.dl_eval.proofs.Places.{unit_there}
+use Rattle.dl_eval.proofs.ReadAs.{unit_there}
 use Rattle.dl_eval.proofs.Lists.{each_next, pushed_length, all_pushed}
 use Rattle.dl_eval.proofs.units.unit_outcomes.Goals as goal
 

@@ -11,10 +11,10 @@ returns-clause-value g c =
       ap₂ (λ s t. div_ceil s t) c.in_ok-checked_mul.ensures.1 c.units_of_one.ensures,
     ))
 
-pub returns-in_err-both-clause-room : goal.returns-in_err-both-clause-room
-returns-in_err-both-clause-room g c small fits =
+pub returns-in_err-sum-clause-room : goal.returns-in_err-sum-clause-room
+returns-in_err-sum-clause-room g c small fits =
     let spread = cv_is (2 ^ g.row.B) c.args.cells c.args.x c.args.y (pow_pos g.row.B) in
-    absurd (c.in_err-both.ensures (omega arith))
+    absurd (c.in_err-sum.ensures (omega arith))
 
 pub returns-in_err-checked_add-clause-room : goal.returns-in_err-checked_add-clause-room
 returns-in_err-checked_add-clause-room g c small fits =

@@ -19,13 +19,13 @@ all_next_sum b items r m ends some bound positive before after =
 pub returns-clause-low : goal.returns-clause-low
 returns-clause-low g c =
     c.sums_over.ensures.low
-    ∙ all_next_sum (not (eqb g.row.BY_AMOUNT 0)) c.args.items.now c.reached.result (length c.args.cells.now)
-    (low_at c.args.cells.now) c.requires.size.some c.reached.ensures.bound c.requires.no_zero c.reached.ensures.before
-    c.reached.ensures.after
+    ∙ all_next_sum (not (eqb g.row.BY_AMOUNT 0)) c.args.items.now c.count_at_most.result (length c.args.cells.now)
+    (low_at c.args.cells.now) c.requires.size.some c.count_at_most.ensures.bound c.requires.no_zero c.count_at_most.ensures.before
+    c.count_at_most.ensures.after
 
 pub returns-clause-high : goal.returns-clause-high
 returns-clause-high g c =
     c.sums_over.ensures.high
-    ∙ all_next_sum (not (eqb g.row.BY_AMOUNT 0)) c.args.items.now c.reached.result (length c.args.cells.now)
-    (high_at c.args.cells.now) c.requires.size.some c.reached.ensures.bound c.requires.no_zero c.reached.ensures.before
-    c.reached.ensures.after
+    ∙ all_next_sum (not (eqb g.row.BY_AMOUNT 0)) c.args.items.now c.count_at_most.result (length c.args.cells.now)
+    (high_at c.args.cells.now) c.requires.size.some c.count_at_most.ensures.bound c.requires.no_zero c.count_at_most.ensures.before
+    c.count_at_most.ensures.after

@@ -1,6 +1,6 @@
 -- The three ends of a parse, and that what is left is no longer than all.
 use Rattle.std.proofs.lemmas.Grind.{common_steps}
-use Rattle.dl_parser.proofs.Common.{◌≡◌, ℕ, ◌+◌, ◌-◌, ◌≤◌, List, [], ◌∷◌, length, map, arith, refl, ap, sym, ◌∙◌, true, ◌==◌, length-map, place}
+use Rattle.dl_parser.proofs.Common.{◌≡◌, ℕ, ◌+◌, ◌-◌, ◌≤◌, List, [], ◌∷◌, length, map, arith, refl, ap, sym, ◌∙◌, true, ◌==◌, length-map, state}
 use Rattle.std.proofs.lemmas.Bool.Decides.{nat_tests}
 use Rattle.dl_ast.proofs.Formed.{program_formed}
 use Rattle.dl_parser.proofs.Covered.{covered_real, covered_few}
@@ -28,20 +28,20 @@ returns-then-is_at_end-clause-formed c =
     program_formed c.in-Ok.program _ (covered_real c.args.source.now _ c.args.tokens.now c.requires.covered)
     (simp length-map
     (omega (arith, covered_few c.args.source.now c.args.tokens.now c.requires.covered c.requires.short)))
-    (read_whole _ c.in-Ok.program (place c.program.new.self) c.in-Ok.ensures.reads
+    (read_whole _ c.in-Ok.program (state c.program.new.self) c.in-Ok.ensures.reads
     (ap (map _) (nil_of _ (sym c.is_at_end.ensures ∙ c.if-is_at_end.true))))
 
 pub returns-else-is_at_end-clause-refused : goal.returns-else-is_at_end-clause-refused
 returns-else-is_at_end-clause-refused c = rw c.taken.ensures
-    (read_further _ c.in-Ok.program (place c.program.new.self) _ c.in-Ok.ensures.reads
+    (read_further _ c.in-Ok.program (state c.program.new.self) _ c.in-Ok.ensures.reads
     (simp length-map (grind (arith, nat_tests, c.is_at_end.ensures, c.if-is_at_end.false)))
     (simp length-map (left _ _ _ _ refl refl
-    (simp length-map at (left_got _ c.in-Ok.program (place c.program.new.self) c.in-Ok.ensures.reads)))))
+    (simp length-map at (left_got _ c.in-Ok.program (state c.program.new.self) c.in-Ok.ensures.reads)))))
 
 pub returns-in-Err-Wanted-clause-refused : goal.returns-in-Err-Wanted-clause-refused
 returns-in-Err-Wanted-clause-refused c =
     let r = rw c.in-Err-Wanted.field-0-is at c.in-Err-Wanted.ensures.reads in
     rw (c.fault.ensures, c.taken-in-Err-Wanted.ensures)
-    (read_stuck _ c.in-Err-Wanted.kind (place c.program.new.self) _ r
+    (read_stuck _ c.in-Err-Wanted.kind (state c.program.new.self) _ r
     (simp length-map (left _ _ _ _ refl refl
-    (simp length-map at (left_stuck _ c.in-Err-Wanted.kind (place c.program.new.self) r)))))
+    (simp length-map at (left_stuck _ c.in-Err-Wanted.kind (state c.program.new.self) r)))))

@@ -2,7 +2,7 @@ use Rattle.dl_port.proofs.Common.{◌≡◌, ◌<◌, ◌∷◌, ◌++◌, [], l
 use Rattle.std.specs.List.{All}
 use Rattle.std.proofs.lemmas.List.Elements.{All-append, All-cons, All-nil}
 use Rattle.dl_port.specs.Chosen.{KeepsChosen}
-use Rattle.dl_port.proofs.Apart.{all_removed, joined}
+use Rattle.dl_port.proofs.Apart.{all_removed, sum_of_two}
 use Rattle.dl_port.proofs.shortest.add_two.Goals as goal
 
 pub returns-clause-in_each : goal.returns-clause-in_each
@@ -41,7 +41,7 @@ returns-clause-sums g c grids tests are apart =
     let items = c.in_ok-push.ensures.items
     ∙ ap (λ t. t ++ c.in_ok-sum.sum ∷ []) (c.remove-second.ensures.items ∙ ap (λ t. remove t b) c.remove-first.ensures.items) in
     subst (λ t. KeepsChosen c.args.cells grids t tests) (sym items)
-    (joined c.args.cells grids old tests a b c.remove-first.result c.remove-second.result c.in_ok-sum.sum in_a in_b
+    (sum_of_two c.args.cells grids old tests a b c.remove-first.result c.remove-second.result c.in_ok-sum.sum in_a in_b
     c.remove-first.ensures.value
     (subst (λ t. c.remove-second.result ≡ get_or t b c.remove-second.result) c.remove-first.ensures.items
     c.remove-second.ensures.value)

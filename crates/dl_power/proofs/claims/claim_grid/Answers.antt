@@ -3,8 +3,8 @@ use Rattle.dl_power.proofs.WeightLists.{next_cell, mass_next, mass_room}
 use Rattle.dl_power.proofs.Enclosing.{listed_claim}
 use Rattle.dl_power.proofs.claims.claim_grid.Goals as goal
 
-pub put-requires : goal.put-requires
-put-requires g c =
+pub set_if_inside-requires : goal.set_if_inside-requires
+set_if_inside-requires g c =
     let before : ℕ = weight_sum (take c.loop-item.item-index c.args.amounts.now) in
     let item : Item = get_or c.args.amounts.now c.loop-item.item-index record { amount = 0; weight = 0 } in
     let within : before + item.weight ≤ c.args.total =
@@ -28,22 +28,22 @@ loop-item-preserved g c =
     let items : List Item = c.args.amounts.now in
     let S : ℕ = 2 ^ g.row.B in
     record {
-      cells = c.put.ensures.cells ∙ c.loop-item.invariant.cells;
+      cells = c.set_if_inside.ensures.cells ∙ c.loop-item.invariant.cells;
       low = λ y inside. next_cell (λ w. S * w / c.args.total) items i record { amount = 0; weight = 0 } y _ _
           c.share.result.lo c.requires.rising c.loop-item-test.true
           (c.loop-item.invariant.low y inside) c.share.ensures.low
-          (c.put.ensures.low y (omega (arith, c.loop-item.invariant.cells)));
+          (c.set_if_inside.ensures.low y (omega (arith, c.loop-item.invariant.cells)));
       high = λ y inside. next_cell (λ w. div_ceil (S * w) c.args.total) items i record { amount = 0; weight = 0 } y _ _
           c.share.result.hi c.requires.rising c.loop-item-test.true
           (c.loop-item.invariant.high y inside) c.share.ensures.high
-          (c.put.ensures.high y (omega (arith, c.loop-item.invariant.cells)));
+          (c.set_if_inside.ensures.high y (omega (arith, c.loop-item.invariant.cells)));
       mass = mass_next S c.args.total (mass_low c.loop-item.grid) c.share.result.lo
           (weight_sum (take i items)) _ _ _ c.requires.positive c.loop-item.invariant.mass c.share.ensures.low
-          c.put.ensures.mass (sum_by_more (λ (t : Item). t.weight) items i record { amount = 0; weight = 0 }
+          c.set_if_inside.ensures.mass (sum_by_more (λ (t : Item). t.weight) items i record { amount = 0; weight = 0 }
           c.loop-item-test.true);
       spread = omega (
         arith,
-        c.put.ensures.spread,
+        c.set_if_inside.ensures.spread,
         c.loop-item.invariant.spread,
         c.share.ensures.low,
         c.share.ensures.high,

@@ -127,8 +127,8 @@ index-requires g c =
     two_left c.levels_of-levels.result c.loop.counter _ (omega arith) c.loop.invariant.many in
     omega (arith, two)
 
-pub joined-requires : goal.joined-requires
-joined-requires g c =
+pub block_with_later-requires : goal.block_with_later-requires
+block_with_later-requires g c =
     let l : ℕ = c.levels_of-levels.result in
     let i : ℕ = c.loop.counter in
     let m : ℕ = suc c.max-most.result * 2 ^ i - 1 in

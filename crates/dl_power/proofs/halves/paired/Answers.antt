@@ -12,8 +12,8 @@ loop-i-init g c =
       parts = λ w f m p. none_between c.args.cells _ c.new-pairs.result.items none;
     }
 
-pub joined-requires : goal.joined-requires
-joined-requires g c =
+pub block_with_later-requires : goal.block_with_later-requires
+block_with_later-requires g c =
     let i : ℕ = c.loop-i.i in
     let inside : 2 * i + 1 < length c.args.parts.now = omega (arith, c.loop-i-test.true) in
     let p = c.requires.parts in (

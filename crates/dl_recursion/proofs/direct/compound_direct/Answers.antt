@@ -1,4 +1,4 @@
-use Rattle.dl_recursion.proofs.Common.{◌≡◌, ℕ, zero, suc, List, ◌+◌, ◌-◌, ◌*◌, ◌/◌, ◌^◌, ◌<◌, ◌≤◌, arith, refl, sym, mul-pos, mul-le-mul, div-mul-le_self, lt-div-mul-add, Fraction, whole, ◌over◌, cell, all_parts, part_at, EncloseScaled, IsPlaced, IsScaled, pos_of_dvd_of_pos, most_cells, most_shape, weight_at, common_amount, Item}
+use Rattle.dl_recursion.proofs.Common.{◌≡◌, ℕ, zero, suc, List, ◌+◌, ◌-◌, ◌*◌, ◌/◌, ◌^◌, ◌<◌, ◌≤◌, arith, refl, sym, mul-pos, mul-le-mul, div-mul-le_self, lt-div-mul-add, Fraction, whole, ◌over◌, cell, all_parts, part_at, EncloseScaled, HasGridEnds, IsScaled, pos_of_dvd_of_pos, most_cells, most_shape, weight_at, common_amount, Item}
 use Prim.Native.Nat.{◌∣◌}
 use Rattle.std.proofs.Common.{All, div-le_self, mul-zero}
 use Rattle.dl_grid.specs.Cells.{low_at, high_at}
@@ -10,7 +10,7 @@ use Rattle.dl_model.proofs.WithinOne.{within_one}
 use Rattle.dl_model.proofs.Stretched.{common_divides, multiples_within, multiples_enclose}
 use Rattle.dl_recursion.proofs.Starts.{two_pos}
 use Rattle.dl_recursion.proofs.Units.{chance_scaled}
-use Rattle.dl_recursion.proofs.Top.{follows, placed_encloses}
+use Rattle.dl_recursion.proofs.Top.{follows, ends_enclose}
 use Rattle.dl_recursion.proofs.direct.compound_direct.Goals as goal
 use Rattle.dl_plan.proofs.Means.{severity_total}
 
@@ -29,8 +29,8 @@ rows_few step cells p = omega (arith, p, div-le_self (cells - 1) step)
 rows_within : (step cells : ℕ) → 0 < cells → step * ((cells - 1) / step + 1) < cells + step
 rows_within step cells p = omega (arith, p, div-mul-le_self (cells - 1) step)
 
-rows_reach : (step cells : ℕ) → 0 < step → 0 < cells → cells ≤ step * ((cells - 1) / step + 1)
-rows_reach step cells p q = omega (arith, q, lt-div-mul-add {a = cells - 1} {b = step} p)
+rows_inside : (step cells : ℕ) → 0 < step → 0 < cells → cells ≤ step * ((cells - 1) / step + 1)
+rows_inside step cells p q = omega (arith, q, lt-div-mul-add {a = cells - 1} {b = step} p)
 
 -- the step divides each amount, and an amount is above 0
 module _ (sev : Sev) {items : List Item} {step : ℕ} (is : step ≡ common_amount items) (same : items ≡ sev.items) where
@@ -49,8 +49,8 @@ pub nonzero_div-rows : goal.nonzero_div-rows
 nonzero_div-rows g c =
     omega (arith, step_above c.args.sev.now c.common_amount-step.ensures c.as_slice.ensures c.requires.no_zero)
 
-pub fits-requires-clause-cells_small : goal.fits-requires-clause-cells_small
-fits-requires-clause-cells_small g c =
+pub is_within_words-requires-clause-cells_small : goal.is_within_words-requires-clause-cells_small
+is_within_words-requires-clause-cells_small g c =
     omega (arith, rows_few c.common_amount-step.result c.args.cells c.requires.size.some, size_few c.requires.size)
 
 pub amounts_of-requires-clause-apart : goal.amounts_of-requires-clause-apart
@@ -67,8 +67,8 @@ amounts_of-requires-clause-room g c =
     let s = c.args.steps in
     let rows = (c.args.cells - 1) / c.common_amount-step.result + 1 in
     rw (c.num.ensures.part, c.as_slice-2.ensures, sev.weighted.sum)
-    (one_factor ((s.a + s.b) * rows) (c.in-Ok.ratio.num * sev.total)
-    (mul-pos c.requires.some_step (omega arith)) (c.if-not-fits.ensures.factors refl))
+    (one_factor ((s.constant + s.inverse) * rows) (c.in-Ok.ratio.num * sev.total)
+    (mul-pos c.requires.some_step (omega arith)) (c.if-not-is_within_words.ensures.factors refl))
 
 pub amounts_of-requires-clause-no_zero : goal.amounts_of-requires-clause-no_zero
 amounts_of-requires-clause-no_zero g c = rw c.as_slice-2.ensures (amounts_positive c.args.sev.now c.requires.no_zero)
@@ -79,11 +79,11 @@ recur-requires-clause-few g c =
 
 pub recur-requires-clause-steps : goal.recur-requires-clause-steps
 recur-requires-clause-steps g c =
-    few_steps c.args.steps.a c.args.steps.b _ c.requires.a_small c.requires.b_small
+    few_steps c.args.steps.constant c.args.steps.inverse _ c.requires.a_small c.requires.b_small
     (omega (arith, rows_few c.common_amount-step.result c.args.cells c.requires.size.some, size_few c.requires.size))
 
-pub place-requires : goal.place-requires
-place-requires g c = grind (arith, step_above, rows_within)
+pub to_grid-requires : goal.to_grid-requires
+to_grid-requires g c = grind (arith, step_above, rows_within)
 
 pub returns-clause-encloses : goal.returns-clause-encloses
 returns-clause-encloses g c w P H =
@@ -91,7 +91,7 @@ returns-clause-encloses g c w P H =
     let sev = c.args.sev.now in
     let f : ℕ → Fraction = probability_of sev in
     let s = c.args.steps in
-    let x = s.num over s.base in
+    let x = s.numerator over s.denominator in
     let ratio = c.in-Ok.ratio in
     let step = c.common_amount-step.result in
     let rows = (c.args.cells - 1) / step + 1 in
@@ -100,20 +100,20 @@ returns-clause-encloses g c w P H =
     let grid = c.in_ok-grid.grid in
     let is : step ≡ common_amount sev.items = rw (← c.as_slice.ensures) c.common_amount-step.ensures in
     let apart : 0 < step = step_above sev is refl c.requires.no_zero in
-    let lowest : ratio ≡ s.num over (s.base * sev.total) =
+    let lowest : ratio ≡ s.numerator over (s.denominator * sev.total) =
     rw (c.from.ensures, c.from-2.ensures, c.from-3.ensures) at c.in-Ok.ensures.0 in
     let smaller : ℕ → Fraction = λ j. f (step * j) in
     let no_zero : smaller 0 ≡ whole 0 = rw mul-zero c.requires.no_zero in
     let scaled : IsScaled parts c.den.result x smaller = λ j.
-    rw c.den.ensures.part (chance_scaled s.base sev.total s.num (weight_at sev.items (step * j)) (part_at parts j) ratio
+    rw c.den.ensures.part (chance_scaled s.denominator sev.total s.numerator (weight_at sev.items (step * j)) (part_at parts j) ratio
     c.requires.base_positive (severity_total sev) lowest
     (rw (← c.num.ensures.part, ← c.as_slice-2.ensures) (c.in_ok-amounts.ensures.each j))) in
     let round : EncloseScaled (λ k. cell w smaller k k) in_scale.shift rows in_scale.low.items in_scale.high.items =
     c.in_ok-x.ensures.round (λ k. cell w smaller k k)
-    (follows smaller w x s.a s.b c.den.result parts no_zero P scaled) in
-    let placed : IsPlaced B c.args.start in_scale.shift step rows in_scale.low.items in_scale.high.items (low_at grid)
-    (high_at grid) = rw (← c.in_ok-x.ensures.cells) c.in_ok-grid.ensures.placed in
+    (follows smaller w x s.constant s.inverse c.den.result parts no_zero P scaled) in
+    let ends : HasGridEnds B c.args.start in_scale.shift step rows in_scale.low.items in_scale.high.items (low_at grid)
+    (high_at grid) = rw (← c.in_ok-x.ensures.cells) c.in_ok-grid.ensures.ends in
     rw c.in_ok-grid.ensures.cells (multiples_enclose sev w step (2 ^ B) c.args.cells rows (low_at grid) (high_at grid)
-    (sym is) apart (two_pos B) (rows_reach step c.args.cells apart c.requires.size.some) placed.between
-    (placed_encloses smaller w no_zero (multiples_within f step apart (within_one sev)) c.args.start H B in_scale.shift step
-    rows in_scale.low.items in_scale.high.items (low_at grid) (high_at grid) round placed))
+    (sym is) apart (two_pos B) (rows_inside step c.args.cells apart c.requires.size.some) ends.between
+    (ends_enclose smaller w no_zero (multiples_within f step apart (within_one sev)) c.args.start H B in_scale.shift step
+    rows in_scale.low.items in_scale.high.items (low_at grid) (high_at grid) round ends))

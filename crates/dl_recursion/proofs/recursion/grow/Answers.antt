@@ -7,12 +7,12 @@ use Rattle.dl_recursion.proofs.recursion.grow.Goals as goal
 pub returns : goal.returns
 returns c =
     let x = c.args.x.now in
-    let z = c.reach.new.x in
-    let y = c.fit-ends.new.x in
+    let z = c.contributions.new.x in
+    let y = c.shift_down-ends.new.x in
     let told = c.in_ok-sums.ensures in
-    let fit = c.fit-ends.ensures in
-    let lo = c.fit-ends.result.low in
-    let hi = c.fit-ends.result.high in
+    let shift_down = c.shift_down-ends.ensures in
+    let lo = c.shift_down-ends.result.low in
+    let hi = c.shift_down-ends.result.high in
     let n = length x.low.items in
     let m = n - 1 in
     let e : n ≡ suc m = omega (arith, c.requires.some) in
@@ -20,10 +20,10 @@ returns c =
     let parts = all_parts c.args.amounts.now in
     let amounts = all_positive c.args.amounts.now c.requires.amounts in
     let d_is : d ≡ c.args.q * suc m = ap (λ t. c.args.q * t) (c.len-n.ensures ∙ x.low.ok.0 ∙ e) in
-    let low_n : length y.low.items ≡ suc m = fit.cells ∙ ap (λ v. length v.items) told.same_low ∙ e in
-    let high_n : length y.high.items ≡ suc m = fit.sound.alike ∙ low_n in
+    let low_n : length y.low.items ≡ suc m = shift_down.cells ∙ ap (λ v. length v.items) told.same_low ∙ e in
+    let high_n : length y.high.items ≡ suc m = shift_down.sound.alike ∙ low_n in
     let len : length (y.low.items ++ lo ∷ []) ≡ suc (suc m) = simp length-append (omega (arith, low_n)) in
-    let within : length y.sums.items ≤ length y.low.items = omega (arith, fit.sums_within, fit.cells, told.within) in
+    let within : length y.sums.items ≤ length y.low.items = omega (arith, shift_down.sums_within, shift_down.cells, told.within) in
     let lo_sum : c.in_ok-sums.sums.low ≡ sum_by (contribution c.args.a c.args.b x.low.items (suc m)) parts = told.low
     ∙ ap (λ t. sum_by (contribution c.args.a c.args.b x.low.items t) parts) e in
     let hi_sum : c.in_ok-sums.sums.high ≡ sum_by (contribution c.args.a c.args.b x.high.items (suc m)) parts = told.high
@@ -32,15 +32,15 @@ returns c =
     let high_pushed : c.push-2.new.self.items ≡ y.high.items ++ hi ∷ [] = c.in_ok-push-2.ensures.items in
     record {
       in_scale = record {
-        sound = rw (low_pushed, high_pushed) (cells_pushed y.low.items y.high.items y.first lo hi fit.sound fit.within
-            (omega (arith, fit.order, fit.small)) fit.small);
-        within = rw low_pushed (omega (arith, len, low_n, fit.within));
+        sound = rw (low_pushed, high_pushed) (cells_pushed y.low.items y.high.items y.first lo hi shift_down.sound shift_down.within
+            (omega (arith, shift_down.order, shift_down.small)) shift_down.small);
+        within = rw low_pushed (omega (arith, len, low_n, shift_down.within));
         sums = rw (low_pushed, high_pushed)
-            (sums_grown y.sums.items y.low.items y.high.items lo hi within fit.sound.alike (fit.sums told.sums));
+            (sums_grown y.sums.items y.low.items y.high.items lo hi within shift_down.sound.alike (shift_down.sums told.sums));
         sums_within = rw low_pushed (omega (arith, len, low_n, within));
       };
       cells = rw low_pushed (omega (arith, len, e));
-      shift = omega (arith, fit.shift, told.same_shift);
+      shift = omega (arith, shift_down.shift, told.same_shift);
       round = λ r F R.
           let Q : EncloseScaled r x.shift (suc m) x.low.items x.high.items =
           rw (← e) R in
@@ -55,6 +55,6 @@ returns c =
           (next_high parts c.args.a c.args.b c.args.q r amounts c.requires.divisor F x.shift m x.low.items x.high.items
           Q d _ d_is hi_sum) in
           rw (low_pushed, high_pushed, len)
-          (pushed r y.shift (suc m) y.low.items y.high.items lo hi low_n high_n (fit.round r (suc m) Z)
-          (fit.low _ below) (fit.high _ above));
+          (pushed r y.shift (suc m) y.low.items y.high.items lo hi low_n high_n (shift_down.round r (suc m) Z)
+          (shift_down.low _ below) (shift_down.high _ above));
     }

@@ -1,5 +1,5 @@
 use Rattle.dl_recursion.proofs.Common.{◌-◌, ◌^◌, ◌≤◌, arith, mul-le-mul}
-use Rattle.dl_recursion.proofs.Reach.{factor_le}
+use Rattle.dl_recursion.proofs.Contributions.{factor_le}
 use Rattle.dl_recursion.proofs.sums.contribution.Goals as goal
 
 pub overflow_mul-result : goal.overflow_mul-result

@@ -1,6 +1,6 @@
 -- A value that is near is made; the first that is not ends it.
 use Rattle.dl_sev.proofs.Common.{ℕ, ◌<◌, ◌≤◌, sym, subst, arith, All-push, whole, ◌<ℚ◌, buckets}
-use Rattle.dl_sev.proofs.Whole.{whole_lt, lt_whole, more_amounts, more_before, at_place}
+use Rattle.dl_sev.proofs.Whole.{whole_lt, lt_whole, more_amounts, more_before, at_index}
 use Rattle.dl_sev.proofs.buckets.amounts.Goals as goal
 
 pub returns-then-amount-top : goal.returns-then-amount-top
@@ -11,7 +11,7 @@ returns-then-amount-top c =
       c.in_default.ensures.none,
       record {
         inside = c.values-test.true;
-        here = at_place
+        here = at_index
             (λ x. whole c.args.top <ℚ buckets c.args.bs x) c.args.values.now c.values.at
             c.index-values-at.result c.values-test.true c.index-values-at.is far;
         before = c.values.invariant.before;
@@ -21,9 +21,9 @@ returns-then-amount-top c =
 pub values-preserved : goal.values-preserved
 values-preserved c = record {
   same = more_amounts c.args.bs c.args.values.now c.values.at c.quotient-amount.result c.index-values-at.result
-      c.values.made.items _ c.values-test.true c.index-values-at.is c.values.invariant.same c.in_ok-put.ensures
+      c.values.made.items _ c.values-test.true c.index-values-at.is c.values.invariant.same c.in_ok-push_item.ensures
       c.quotient-amount.ensures;
-  near = rw c.in_ok-put.ensures (All-push
+  near = rw c.in_ok-push_item.ensures (All-push
       (λ amount. amount ≤ c.args.top) c.values.made.items c.quotient-amount.result c.values.invariant.near
       c.if-amount-top.false);
   before =

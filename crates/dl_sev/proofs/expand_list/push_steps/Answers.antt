@@ -43,7 +43,7 @@ steps-preserved c =
     ∙ ap₂ (λ a b. (a + c.steps.k * b) over c.args.den) c.numerator_over-from.ensures c.numerator_over-step.ensures
     ∙ sym (value_is c.args.range.now c.requires.range c.args.den c.requires.den c.steps.k) in
     steps_more c.args.range.now c.args.values.now.items c.steps.values.items _ c.steps.k c.unwrap-value.result
-    c.steps.invariant c.in_ok-put.ensures value
+    c.steps.invariant c.in_ok-push_item.ensures value
 
 all_steps : (k n : ℕ) → n + 1 ≤ k → k ≤ n + 1 → k ≡ n + 1
 all_steps k n p q = omega (arith, p, q)

@@ -32,7 +32,7 @@ whole_more clause items i amount d h so_far value k e below = elim (cases_lt k i
 pub items-preserved : goal.items-preserved
 items-preserved c = record {
   made = made_more c.args.cede.now c.args.items.now c.items.made.items _ c.items.item-index c.in-Some.amount _
-      c.items-test.true c.items.invariant.made c.in_ok-put.ensures c.in-Some.ensures.value;
+      c.items-test.true c.items.invariant.made c.in_ok-push_item.ensures c.in-Some.ensures.value;
   whole = whole_more c.args.cede.now c.args.items.now c.items.item-index c.in-Some.amount _ c.items-test.true
       c.items.invariant.whole c.in-Some.ensures.value;
 }

@@ -3,8 +3,8 @@ use Rattle.dl_top.proofs.Common.{arith, IsBad}
 use Rattle.dl_top.proofs.ReplyLaws.{refused_bad}
 use Rattle.dl_top.proofs.reply.reply_to_parts.Goals as goal
 
-pub refusal-requires-clause-place : goal.refusal-requires-clause-place
-refusal-requires-clause-place c =
+pub refusal-requires-clause-in_source : goal.refusal-requires-clause-in_source
+refusal-requires-clause-in_source c =
     let bad : IsBad c.args.source.now c.in-Err-BadByte.at = c.lex.ensures.bad_byte c.in-Err-BadByte.at cc in
     omega (arith, bad.within)
 

@@ -3,7 +3,7 @@ use Rattle.dl_types.proofs.Common.{◌∙◌, ◌≤◌, refl, true, false, suc,
 use Rattle.dl_lexer.specs.Numerals.{IsNumeralToken}
 use Rattle.dl_types.proofs.FactorBounds.{small_shape}
 use Rattle.dl_types.proofs.FactorParts.{all_counted}
-use Rattle.dl_types.proofs.FactorKept.{no_port, no_common, shape_place, size_told, shape_written, bad_told, factor_there, shape_shared}
+use Rattle.dl_types.proofs.FactorKept.{no_port, no_common, shape_span, size_told, shape_written, bad_told, factor_there, shape_shared}
 use Rattle.dl_types.proofs.changes.shared_shape.Goals as goal
 
 pub returns-in_default-clause-fault : goal.returns-in_default-clause-fault
@@ -24,7 +24,7 @@ returns-in_default-shape_in-clause-fault c =
     let n = c.in-Some-common.variation in
     let bad = rw c.in_default-shape_in.is at c.shape_in.ensures in
     rw c.typing.ensures (bad_told c.args.settings.now c.args.program.now n.span
-    (shape_place c.args.program.now.port c.in-Some.head n c.in-Some.is c.in-Some-common.is
+    (shape_span c.args.program.now.port c.in-Some.head n c.in-Some.is c.in-Some-common.is
     ∙ ap (λ b. at_if b n.span) bad))
 
 pub is_too_large-requires-clause-counted : goal.is_too_large-requires-clause-counted

@@ -1,8 +1,8 @@
 -- What is expected is told of the severity in the layer. The rules before the last are not broken.
-use Rattle.dl_types.proofs.Common.{◌≡◌, ◌∙◌, sym, ap, subst, TooFine, breaks, too_fine, too_many_claims, TellsFault, first_broken, whole_rules, ZeroMean, TooManyClaims}
+use Rattle.dl_types.proofs.Common.{◌≡◌, ◌∙◌, sym, ap, subst, TooFine, breaks, too_fine, too_many_claims, HasFault, first_broken, whole_rules, ZeroMean, TooManyClaims}
 use Rattle.dl_types.proofs.RuleLists.{only}
 use Rattle.dl_types.proofs.Stops.{skip, stop_first, stop_second}
-use Rattle.dl_types.proofs.UnitFacts.{number_is, whole_is, whole_here, many_place, count_fault, count_told}
+use Rattle.dl_types.proofs.UnitFacts.{number_is, whole_is, whole_here, many_span, count_fault, count_told}
 use Rattle.dl_types.proofs.count_rules.check_count.Goals as goal
 
 pub expected_claims-count-requires-clause-layered : goal.expected_claims-count-requires-clause-layered
@@ -26,9 +26,9 @@ pub returns-in_err-check_whole-clause-fault : goal.returns-in_err-check_whole-cl
 returns-in_err-check_whole-clause-fault c =
     let stop = c.in_err-check_whole.field-0.0 in
     count_told c.args.bs c.args.number c.args.unit.now c.deref.result.now c.expected_claims-count.result
-    c.zero_mean-place.result (c.deref.ensures.value ∙ c.requires.amounts) c.expected_claims-count.ensures
-    c.zero_mean-place.ensures c.from_residual-in_err-check_whole.result stop c.from_residual-in_err-check_whole.ensures
-    (stop_second (breaks c.args.number ZeroMean c.zero_mean-place.result) _ stop c.in_ok-broken.ensures
+    c.zero_mean-span.result (c.deref.ensures.value ∙ c.requires.amounts) c.expected_claims-count.ensures
+    c.zero_mean-span.ensures c.from_residual-in_err-check_whole.result stop c.from_residual-in_err-check_whole.ensures
+    (stop_second (breaks c.args.number ZeroMean c.zero_mean-span.result) _ stop c.in_ok-broken.ensures
     (stop_first (first_broken c.args.number (whole_rules c.args.unit.now.count c.expected_claims-count.result)) _ stop
     c.in_err-check_whole.ensures))
 
@@ -37,10 +37,10 @@ returns-in_err-claims-clause-fault c =
     let u = c.args.unit.now in
     let n = c.expected_claims-count.result in
     let stop = c.in_err-claims.field-0.0 in
-    count_told c.args.bs c.args.number u c.deref.result.now n c.zero_mean-place.result
-    (c.deref.ensures.value ∙ c.requires.amounts) c.expected_claims-count.ensures c.zero_mean-place.ensures
+    count_told c.args.bs c.args.number u c.deref.result.now n c.zero_mean-span.result
+    (c.deref.ensures.value ∙ c.requires.amounts) c.expected_claims-count.ensures c.zero_mean-span.ensures
     c.from_residual-in_err-claims.result stop c.from_residual-in_err-claims.ensures
-    (stop_second (breaks c.args.number ZeroMean c.zero_mean-place.result) _ stop c.in_ok-broken.ensures
+    (stop_second (breaks c.args.number ZeroMean c.zero_mean-span.result) _ stop c.in_ok-broken.ensures
     (stop_second (first_broken c.args.number (whole_rules u.count n)) _ stop c.in_ok-check_whole.ensures
     (stop_first (breaks c.args.number TooFine (too_fine u n)) _ stop c.in_err-claims.ensures.fault)))
 
@@ -48,13 +48,13 @@ pub returns-clause-fault : goal.returns-clause-fault
 returns-clause-fault c =
     let u = c.args.unit.now in
     let n = c.expected_claims-count.result in
-    let place : c.place_if.result ≡ too_many_claims u n = c.place_if.ensures ∙ many_place u n c.in_ok-claims.claims
+    let span : c.span_if.result ≡ too_many_claims u n = c.span_if.ensures ∙ many_span u n c.in_ok-claims.claims
     c.too_many_claims-many.result c.in_ok-claims.ensures.claims c.in_ok-claims.ensures.count
     c.too_many_claims-many.ensures in
-    let last = count_fault c.args.bs c.args.number u c.deref.result.now n c.zero_mean-place.result
-    (c.deref.ensures.value ∙ c.requires.amounts) c.expected_claims-count.ensures c.zero_mean-place.ensures
-    ∙ skip (breaks c.args.number ZeroMean c.zero_mean-place.result) _ c.in_ok-broken.ensures
+    let last = count_fault c.args.bs c.args.number u c.deref.result.now n c.zero_mean-span.result
+    (c.deref.ensures.value ∙ c.requires.amounts) c.expected_claims-count.ensures c.zero_mean-span.ensures
+    ∙ skip (breaks c.args.number ZeroMean c.zero_mean-span.result) _ c.in_ok-broken.ensures
     ∙ skip (first_broken c.args.number (whole_rules u.count n)) _ c.in_ok-check_whole.ensures
     ∙ skip (breaks c.args.number TooFine (too_fine u n)) _ c.in_ok-claims.ensures.fault in
-    subst (λ fault. TellsFault fault c.kept.result) (ap (breaks c.args.number TooManyClaims) place ∙ sym last)
-    (c.kept.ensures.fault _ c.broken-checked.ensures)
+    subst (λ fault. HasFault fault c.unless_broken.result) (ap (breaks c.args.number TooManyClaims) span ∙ sym last)
+    (c.unless_broken.ensures.fault _ c.broken-checked.ensures)

@@ -1,5 +1,5 @@
 -- A share that is refused, or whose denominator passes 2^30 with those before, is not fine.
-use Rattle.dl_types.proofs.Common.{◌≡◌, ◌∙◌, ◌<◌, sym, ap, ap₂, subst, arith, Fraction, whole, ◌/ℚ◌, ◌≤ℚ◌, IsTooFine, most_parts, lcm, UnitOfPlan, unit_share, expected_count, lcm_pos, common_from_pos, joined, times_amounts}
+use Rattle.dl_types.proofs.Common.{◌≡◌, ◌∙◌, ◌<◌, sym, ap, ap₂, subst, arith, Fraction, whole, ◌/ℚ◌, ◌≤ℚ◌, IsTooFine, most_parts, lcm, UnitOfPlan, unit_share, expected_count, lcm_pos, common_from_pos, common_multiple, times_amounts}
 use Rattle.dl_types.proofs.FactorShares.{share_within, coarse_part, lcm_reaches, numbers_more, claims_coarse, amounts_more, amounts_coarse}
 use Rattle.dl_types.proofs.factor.are_shares_fine.Goals as goal
 
@@ -41,7 +41,7 @@ returns-in-None-with_amounts c =
     let v = c.args.expected in
     let share = c.in-Ok.ensures.0 ∙ ap (λ n. n /ℚ v) c.expected.ensures in
     amounts_coarse v c.args.units.now c.units.unit-index u c.units-test.true c.unit-item.is
-    (subst (λ n. most_parts < n) (ap₂ (λ m x. joined m (times_amounts x u.sev)) c.units.invariant.amounts share)
+    (subst (λ n. most_parts < n) (ap₂ (λ m x. common_multiple m (times_amounts x u.sev)) c.units.invariant.amounts share)
     (omega (arith, c.in-None-with_amounts.ensures)))
 
 pub units-preserved : goal.units-preserved
@@ -58,7 +58,7 @@ units-preserved c =
       some = subst (λ n. 0 < n) (sym next.1)
           (lcm_pos c.units.claims c.den.result c.units.invariant.some c.den.ensures.positive);
       few = omega (arith, next.0, next.1);
-      amounts = last.1 ∙ ap₂ (λ m x. joined m (times_amounts x u.sev)) c.units.invariant.amounts share
+      amounts = last.1 ∙ ap₂ (λ m x. common_multiple m (times_amounts x u.sev)) c.units.invariant.amounts share
           ∙ sym (amounts_more v c.args.units.now c.units.unit-index u c.units-test.true c.unit-item.is);
       some_amounts = subst (λ n. 0 < n) (sym last.1)
           (common_from_pos c.units.amounts (times_amounts c.in-Ok.share u.sev) c.units.invariant.some_amounts);

@@ -6,7 +6,7 @@ use Rattle.dl_types.proofs.fine.is_too_fine.Goals as goal
 abbrev coarse : MadeClause → Bool
 coarse Missing = false
 coarse TooFine = true
-coarse (Whole clause place) = false
+coarse (Whole clause span) = false
 
 coarse_is : (o : Option GridClause) → coarse (made_of o) ≡ not (has_shares o)
 coarse_is None = refl
@@ -19,7 +19,7 @@ coarse_is (Some c) = by_test (is_fine (shares_of c)) refl
 not_coarse : (made : MadeClause) → (made ≡ TooFine → ⊥) → false ≡ coarse made
 not_coarse Missing other = refl
 not_coarse TooFine other = absurd (other refl)
-not_coarse (Whole clause place) other = refl
+not_coarse (Whole clause span) other = refl
 
 pub returns-in-TooFine : goal.returns-in-TooFine
 returns-in-TooFine c = λ o e. ap coarse (sym c.in-TooFine.is ∙ e) ∙ coarse_is o

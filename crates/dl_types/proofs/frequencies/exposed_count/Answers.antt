@@ -1,5 +1,5 @@
 -- No rule is broken, so the numbers are whole and small.
-use Rattle.dl_types.proofs.Common.{◌∙◌, ◌≤◌, sym, ap, subst, arith, most_claims, most_shape, Fraction, ◌/ℚ◌, whole_num, shape_of, IsFreqKept, freq_with}
+use Rattle.dl_types.proofs.Common.{◌∙◌, ◌≤◌, sym, ap, subst, arith, most_claims, most_shape, Fraction, ◌/ℚ◌, whole_num, shape_of, IsFreqChecked, freq_with}
 use Rattle.dl_plan.specs.declared.plan.Freq.TheVariants as of_plan
 use Rattle.dl_types.proofs.ExposedCounts.{whole_is, few_is}
 use Rattle.dl_types.proofs.frequencies.exposed_count.Goals as goal
@@ -7,13 +7,13 @@ use Rattle.dl_types.proofs.frequencies.exposed_count.Goals as goal
 pub overflow_cast-result : goal.overflow_cast-result
 overflow_cast-result c =
     let n = c.args.number in
-    let kept = subst (λ f. IsFreqKept f n) c.in-Fixed.is c.requires in
+    let kept = subst (λ f. IsFreqChecked f n) c.in-Fixed.is c.requires in
     let few : n.num ≤ most_claims = few_is most_claims n.num n (whole_is n kept.whole) kept.few in
     omega (arith, few, c.num.ensures.part)
 
 pub overflow_cast-result-in-Binomial : goal.overflow_cast-result-in-Binomial
 overflow_cast-result-in-Binomial c =
-    let kept = subst (λ f. IsFreqKept f c.args.number) c.in-Binomial.is c.requires in
+    let kept = subst (λ f. IsFreqChecked f c.args.number) c.in-Binomial.is c.requires in
     let few : c.trials.result ≤ most_claims = few_is most_claims c.trials.result
     (c.args.number /ℚ c.in-Binomial.chance) c.trials.ensures kept.few in
     omega (arith, few)
@@ -26,7 +26,7 @@ returns-in-Binomial c =
 
 pub overflow_cast-result-in-Gamma : goal.overflow_cast-result-in-Gamma
 overflow_cast-result-in-Gamma c =
-    let kept = subst (λ f. IsFreqKept f c.args.number) c.in-Gamma.is c.requires in
+    let kept = subst (λ f. IsFreqChecked f c.args.number) c.in-Gamma.is c.requires in
     let few : c.shape.result ≤ most_shape = few_is most_shape c.shape.result
     (shape_of c.in-Gamma.variation) c.shape.ensures kept.few in
     omega (arith, few)

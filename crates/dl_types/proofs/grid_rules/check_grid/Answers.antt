@@ -5,12 +5,12 @@ use Rattle.dl_types.proofs.Stops.{skip, stop_first, stop_second}
 use Rattle.dl_types.proofs.UnitFacts.{fine_agr, kept_is, grid_fault, grid_told, made_answer}
 use Rattle.dl_types.proofs.grid_rules.check_grid.Goals as goal
 
-pub returns-in_err-reached : goal.returns-in_err-reached
-returns-in_err-reached c =
-    let stop = c.in_err-reached.field-0.0 in
+pub returns-in_err-layered_unit : goal.returns-in_err-layered_unit
+returns-in_err-layered_unit c =
+    let stop = c.in_err-layered_unit.field-0.0 in
     grid_told c.args.settings.now c.args.number c.args.grid.now c.args.unit.now.name.text c.from_residual.result stop
     c.from_residual.ensures
-    (stop_first (first_broken c.args.number (clause_rules c.args.grid.now)) _ stop c.in_err-reached.ensures.fault)
+    (stop_first (first_broken c.args.number (clause_rules c.args.grid.now)) _ stop c.in_err-layered_unit.ensures.fault)
 
 pub returns-in_err-claims : goal.returns-in_err-claims
 returns-in_err-claims c =
@@ -19,11 +19,11 @@ returns-in_err-claims c =
     let stop = c.in_err-claims.field-0.0 in
     grid_told c.args.settings.now n u c.args.unit.now.name.text c.from_residual-in_err-claims.result stop
     c.from_residual-in_err-claims.ensures
-    (stop_second (first_broken n (clause_rules u)) _ stop c.in_ok-reached.ensures.fault
+    (stop_second (first_broken n (clause_rules u)) _ stop c.in_ok-layered_unit.ensures.fault
     (stop_first (first_broken n (count_rules c.args.settings.now.bs u)) _ stop c.in_err-claims.ensures.fault))
 
 pub check_horizon-requires : goal.check_horizon-requires
-check_horizon-requires c = c.in_ok-reached.ensures.clauses.agr_made
+check_horizon-requires c = c.in_ok-layered_unit.ensures.clauses.agr_made
 
 pub returns-in_err-cede : goal.returns-in_err-cede
 returns-in_err-cede c =
@@ -33,9 +33,9 @@ returns-in_err-cede c =
     let at = λ (k : ℕ) (made : MadeClause). breaks n HorizonTooLarge (horizon_too_large k made) in
     grid_told c.args.settings.now n u c.args.unit.now.name.text c.from_residual-in_err-cede.result stop
     c.from_residual-in_err-cede.ensures
-    (stop_second (first_broken n (clause_rules u)) _ stop c.in_ok-reached.ensures.fault
+    (stop_second (first_broken n (clause_rules u)) _ stop c.in_ok-layered_unit.ensures.fault
     (stop_second (first_broken n (count_rules c.args.settings.now.bs u)) _ stop c.in_ok-claims.ensures.fault
-    (stop_first _ _ stop (subst (λ o. StopsAt o stop) (ap₂ at c.cells.ensures c.in_ok-reached.ensures.clauses.agr)
+    (stop_first _ _ stop (subst (λ o. StopsAt o stop) (ap₂ at c.cells.ensures c.in_ok-layered_unit.ensures.clauses.agr)
     c.in_err-cede.ensures.fault))))
 
 pub returns-in_err-broken : goal.returns-in_err-broken
@@ -47,12 +47,12 @@ returns-in_err-broken c =
     let is = c.in_ok-claims.ensures.count in
     grid_told c.args.settings.now n u c.args.unit.now.name.text c.from_residual-in_err-broken.result stop
     c.from_residual-in_err-broken.ensures
-    (stop_second (first_broken n (clause_rules u)) _ stop c.in_ok-reached.ensures.fault
+    (stop_second (first_broken n (clause_rules u)) _ stop c.in_ok-layered_unit.ensures.fault
     (stop_second (first_broken n (count_rules c.args.settings.now.bs u)) _ stop c.in_ok-claims.ensures.fault
     (stop_second _ _ stop
-    (sym (ap₂ at c.cells.ensures c.in_ok-reached.ensures.clauses.agr) ∙ c.in_ok-cede.ensures.fault)
+    (sym (ap₂ at c.cells.ensures c.in_ok-layered_unit.ensures.clauses.agr) ∙ c.in_ok-cede.ensures.fault)
     (subst (λ p. StopsAt (breaks n ZeroBase p) stop)
-    (c.zero_base-place.ensures ∙ ap₂ (λ k m. zero_base k u.zero m) is.same is.number) c.in_err-broken.ensures))))
+    (c.zero_base-span.ensures ∙ ap₂ (λ k m. zero_base k u.zero m) is.same is.number) c.in_err-broken.ensures))))
 
 pub planned-requires : goal.planned-requires
 planned-requires c =
@@ -68,15 +68,15 @@ returns c =
     let made = c.planned.ensures in
     let at = λ (k : ℕ) (made : MadeClause). breaks n HorizonTooLarge (horizon_too_large k made) in
     let is = c.in_ok-claims.ensures.count in
-    let agr = c.in_ok-reached.reached.clauses.agr in
-    let same = c.in_ok-reached.ensures.clauses.agr in
-    let cede = cede_is u.agr agr (agr_layered u c.in_ok-reached.ensures.layered)
+    let agr = c.in_ok-layered_unit.layered_unit.clauses.agr in
+    let same = c.in_ok-layered_unit.ensures.clauses.agr in
+    let cede = cede_is u.agr agr (agr_layered u c.in_ok-layered_unit.ensures.layered)
     (fine_agr settings.bs n u c.requires.grid c.in_ok-claims.ensures.fault) same in
-    let place = c.zero_base-place.ensures ∙ ap₂ (λ k m. zero_base k u.zero m) is.same is.number in
-    let none = grid_fault settings n u ∙ skip (first_broken n (clause_rules u)) _ c.in_ok-reached.ensures.fault
+    let span = c.zero_base-span.ensures ∙ ap₂ (λ k m. zero_base k u.zero m) is.same is.number in
+    let none = grid_fault settings n u ∙ skip (first_broken n (clause_rules u)) _ c.in_ok-layered_unit.ensures.fault
     ∙ skip (first_broken n (count_rules settings.bs u)) _ c.in_ok-claims.ensures.fault
     ∙ skip _ _ (sym (ap₂ at c.cells.ensures same) ∙ c.in_ok-cede.ensures.fault)
-    ∙ sym (ap (breaks n ZeroBase) place) ∙ c.in_ok-broken.ensures in
+    ∙ sym (ap (breaks n ZeroBase) span) ∙ c.in_ok-broken.ensures in
     made_answer settings n u c.requires.grid c.requires.within none c.args.unit.now.name.text
     c.in_ok-claims.claims.severity c.in_ok-cede.cede c.in_ok-claims.ensures.claims.severity
     (subst (IsCedeOf u.agr) (sym c.in_ok-cede.ensures.made) cede) c.planned.result

@@ -1,5 +1,5 @@
 -- The severities in turn.
-use Rattle.dl_types.proofs.Common.{◌∙◌, [], ◌∷◌, ◌++◌, ap, sym, subst, in_turn, StopsAt, TellsFault, fault_of_severity, turn_ended, turn_passed, SevDef}
+use Rattle.dl_types.proofs.Common.{◌∙◌, [], ◌∷◌, ◌++◌, ap, sym, subst, in_turn, StopsAt, HasFault, fault_of_severity, turn_ended, turn_passed, SevDef}
 use Rattle.dl_types.proofs.Naming.{maps_more}
 use Rattle.dl_types.proofs.Stops.{stopped, turn_stopped, severity_rule}
 use Rattle.dl_types.proofs.severities.check_severities.Goals as goal
@@ -7,7 +7,7 @@ use Rattle.dl_types.proofs.severities.check_severities.Goals as goal
 pub returns-in_err-check_name : goal.returns-in_err-check_name
 returns-in_err-check_name c =
     let stop = c.in_err-check_name.field-0.0 in
-    stopped (TellsFault (in_turn fault_of_severity [] c.args.sevs.now)) c.from_residual.result stop c.from_residual.ensures
+    stopped (HasFault (in_turn fault_of_severity [] c.args.sevs.now)) c.from_residual.result stop c.from_residual.ensures
     (turn_stopped fault_of_severity c.args.sevs.now c.sevs.at c.index-sevs-at.result c.sevs.invariant.turned
     c.sevs-test.true c.index-sevs-at.is stop (subst (λ fault. StopsAt fault stop)
     (severity_rule c.args.sevs.now c.sevs.at c.index-sevs-at.result _ c.sevs-test.true c.sevs.invariant.names)

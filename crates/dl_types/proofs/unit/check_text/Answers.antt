@@ -1,10 +1,10 @@
 -- What is read tells the faults of the text, and is the unit where there is none.
-use Rattle.dl_types.proofs.Common.{◌≡◌, refl, sym, subst, GridUnit, IsGridUnit, Settings, cells_asked, IfOk, amount_fits, MixAst, IsClean, IsRead, grid_mixture, grid_of, IsWithin, flaws_of_mixture, flaws_of, grid_is, within_is, TellsFault, fault_of_text, most_asked, IsMixtureRead}
+use Rattle.dl_types.proofs.Common.{◌≡◌, refl, sym, subst, GridUnit, IsGridUnit, Settings, cells_asked, IfOk, amount_fits, MixAst, IsClean, IsRead, grid_mixture, grid_of, IsWithin, flaws_of_mixture, flaws_of, grid_is, within_is, HasFault, fault_of_text, most_asked, IsMixtureRead}
 use Rattle.dl_types.proofs.Texts.{same_fault, part_keeps, unit_read}
 use Rattle.dl_types.proofs.UnitFacts.{kept_as}
 use Rattle.dl_types.proofs.unit.check_text.Goals as goal
 
-module _ (c : goal.After-kept) (m : MixAst) (sev : IsMixtureRead c.args.settings.now m c.args.sev) where
+module _ (c : goal.After-unless_broken) (m : MixAst) (sev : IsMixtureRead c.args.settings.now m c.args.sev) where
   abbrev settings : Settings
   settings = c.args.settings.now
 
@@ -19,16 +19,16 @@ module _ (c : goal.After-kept) (m : MixAst) (sev : IsMixtureRead c.args.settings
       (subst (λ most. IsRead (flaws_of_mixture most settings.bs m) (grid_mixture settings.bs m) c.args.sev)
       (sym c.most_asked.ensures.value) sev.right)))
 
-  told : TellsFault (fault_of_text c.args.number
-      (flaws_of (most_asked settings) settings.bs c.args.unit.now m)) c.kept.result
-  told = subst (λ fault. TellsFault fault c.kept.result) (same_fault c.args.number _ part c.in_ok-made.made read)
-      (c.kept.ensures.fault _ c.check_flaws-checked.ensures)
+  told : HasFault (fault_of_text c.args.number
+      (flaws_of (most_asked settings) settings.bs c.args.unit.now m)) c.unless_broken.result
+  told = subst (λ fault. HasFault fault c.unless_broken.result) (same_fault c.args.number _ part c.in_ok-made.made read)
+      (c.unless_broken.ensures.fault _ c.check_flaws-checked.ensures)
 
   -- what holds of the unit of a text without flaws
   keeps : (P : GridUnit → Type 0)
-      → (IsClean (flaws_of (most_asked settings) settings.bs c.args.unit.now m) → P part) → IfOk c.kept.result P
+      → (IsClean (flaws_of (most_asked settings) settings.bs c.args.unit.now m) → P part) → IfOk c.unless_broken.result P
   keeps P h =
-      kept_as P _ _ c.kept.result c.kept.ensures.same c.kept.ensures.kept
+      kept_as P _ _ c.unless_broken.result c.unless_broken.ensures.same c.unless_broken.ensures.kept
       (part_keeps c.args.number _ part c.in_ok-made.made read P c.check_flaws-checked.result c.check_flaws-checked.ensures h)
 
 pub returns-clause-fault : goal.returns-clause-fault

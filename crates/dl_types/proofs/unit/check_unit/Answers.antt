@@ -22,8 +22,8 @@ pub returns-in_ok-made-in-Some-clause-answer : goal.returns-in_ok-made-in-Some-c
 returns-in_ok-made-in-Some-clause-answer c =
     let sev = rw c.in-Some.is at c.in_ok-sev.ensures.read in
     answer_with c.args.settings.now c.args.port.now c.args.sevs.now c.args.before.now c.args.unit.now sev.mix
-    c.in_ok-made-in-Some.made c.kept.result sev.there (c.in_ok-made-in-Some.ensures.answer sev.mix sev.read)
-    (rw c.common_unit-place.ensures at (c.kept.ensures.fault _ c.broken.ensures)) c.kept.ensures.same
+    c.in_ok-made-in-Some.made c.unless_broken.result sev.there (c.in_ok-made-in-Some.ensures.answer sev.mix sev.read)
+    (rw c.common_unit-span.ensures at (c.unless_broken.ensures.fault _ c.broken.ensures)) c.unless_broken.ensures.same
 
 pub returns-in-None-clause-answer : goal.returns-in-None-clause-answer
 returns-in-None-clause-answer c =

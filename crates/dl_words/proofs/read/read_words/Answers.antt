@@ -7,7 +7,7 @@ use Rattle.clap.specs.Kinds.{HasKind, IsAmong}
 use Rattle.clap.specs.Simple.{app_of}
 use Rattle.clap.specs.declared.error.kind.ErrorKind.{ErrorKind}
 use Rattle.clap.specs.declared.error.kind.ErrorKind.TheVariants as refusals
-use Rattle.dl_words.specs.Faults.{TellsRefusal}
+use Rattle.dl_words.specs.Faults.{IsClapRefusal}
 use Rattle.dl_words.proofs.Judged.{given, refused}
 use Rattle.dl_words.proofs.Simulation.{Fails}
 use Rattle.dl_words.proofs.Whole.{matched, simple_command_is, simple_is, unfit}
@@ -20,7 +20,7 @@ fails_of (x ∷ xs) k h = tt
 
 -- a refusal explains the words: either memory ran out, or they do not fit the command
 refusal_explains : (kind : ErrorKind) (fault : WordsFault) (answer : Result Settings UsageFault)
-    → TellsRefusal kind fault → (kind ≡ refusals.OutOfMemory) ⊎ (answer ≡ Err Line) → Explains answer fault
+    → IsClapRefusal kind fault → (kind ≡ refusals.OutOfMemory) ⊎ (answer ≡ Err Line) → Explains answer fault
 refusal_explains kind fault answer (inl memory) cause = subst (Explains answer) (sym memory.1) tt
 refusal_explains kind fault answer (inr other) (inl memory) = absurd (other.0 memory)
 refusal_explains kind fault answer (inr other) (inr line) = subst (Explains answer) (sym other.1) line

@@ -1,5 +1,5 @@
 use Rattle.dl_eval.proofs.Common.{arith}
-use Rattle.dl_eval.proofs.Places.{others_there}
+use Rattle.dl_eval.proofs.ReadAs.{others_there}
 use Rattle.dl_eval.proofs.grids.Grids.others.Goals as goal
 
 pub returns-clause-are : goal.returns-clause-are

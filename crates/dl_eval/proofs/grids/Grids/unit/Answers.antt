@@ -1,5 +1,5 @@
 use Rattle.dl_eval.proofs.Common.{arith}
-use Rattle.dl_eval.proofs.Places.{horizon_there, spread_within, grid_of_unit}
+use Rattle.dl_eval.proofs.ReadAs.{horizon_there, spread_within, grid_of_unit}
 use Rattle.dl_eval.proofs.grids.Grids.unit.Goals as goal
 
 pub unit_budget-requires-clause-horizon : goal.unit_budget-requires-clause-horizon

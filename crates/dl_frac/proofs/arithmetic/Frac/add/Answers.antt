@@ -3,14 +3,14 @@ use Rattle.dl_exact.proofs.Parts.{sum_is}
 use Rattle.dl_frac.proofs.FractionLaws.{sum_pos, sum_lowest, sum_same}
 use Rattle.dl_frac.proofs.arithmetic.Frac.add.Goals as goal
 
-pub fit-requires-clause-positive : goal.fit-requires-clause-positive
-fit-requires-clause-positive c =
+pub lowest_terms-requires-clause-positive : goal.lowest_terms-requires-clause-positive
+lowest_terms-requires-clause-positive c =
     rw (c.wide_divisor-cut.ensures.value, c.divisor-shared.ensures.value)
     (sum_pos c.self.inside.num c.self.inside.den c.o.inside.num c.o.inside.den c.self.inside.positive
     c.o.inside.positive)
 
-pub fit-requires-clause-lowest : goal.fit-requires-clause-lowest
-fit-requires-clause-lowest c =
+pub lowest_terms-requires-clause-lowest : goal.lowest_terms-requires-clause-lowest
+lowest_terms-requires-clause-lowest c =
     rw (c.wide_divisor-cut.ensures.value, c.divisor-shared.ensures.value)
     (sum_lowest c.self.inside.num c.self.inside.den c.o.inside.num c.o.inside.den c.self.inside.positive
     c.o.inside.positive c.self.inside.lowest c.o.inside.lowest)
@@ -24,4 +24,4 @@ returns c =
       ← sum_same c.self.inside.num c.self.inside.den c.o.inside.num c.o.inside.den c.self.inside.positive
           c.o.inside.positive,
     )
-    (rw (← c.divisor-shared.ensures.value, ← c.wide_divisor-cut.ensures.value) c.fit.ensures)
+    (rw (← c.divisor-shared.ensures.value, ← c.wide_divisor-cut.ensures.value) c.lowest_terms.ensures)

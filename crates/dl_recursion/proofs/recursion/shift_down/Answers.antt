@@ -1,0 +1,50 @@
+use Rattle.dl_recursion.proofs.Common.{◌+◌, ◌-◌, ◌*◌, ◌^◌, ◌≤◌, arith, ◌∙◌, mul-le-mul_right, le_trans, whole_le}
+use Rattle.dl_recursion.proofs.Starts.{two_le}
+use Rattle.dl_recursion.proofs.Steps.{shifted, shift_low, shift_high, shift_down_top}
+use Rattle.dl_recursion.proofs.recursion.shift_down.Goals as goal
+use Rattle.dl_recursion.proofs.recursion.shift_down.Goals.{then-high-gt-MOST_END, else-high-gt-MOST_END}
+
+pub loop-k-preserved : goal.loop-k-preserved
+loop-k-preserved c =
+    let i = c.loop-k.invariant in
+    let k = c.loop-k.k in
+    let x = c.loop-k.x in
+    elim c.if-high-gt-MOST_END.branch [
+      | then-high-gt-MOST_END w ↦
+          let e = w.shrink.ensures in
+          rw (w.low-is, w.high-is, w.x-is, e.shift) (record {
+            sound = e.sound;
+            within = e.within;
+            sums = λ h. e.sums (i.sums h);
+            sums_within = omega (arith, i.sums_within, e.sums_within);
+            cells = e.cells ∙ i.cells;
+            shift = omega (arith, i.shift);
+            top = shift_down_top c.loop-k.high k c.loop-k-test.true i.top;
+            round = λ r n h. shifted r x.shift n x.low.items x.high.items _ _ e.low e.high (i.round r n h);
+            low_end = λ y h. le_trans _ _ _ (whole_le _ _ (shift_low c.loop-k.low x.shift)) (i.low_end y h);
+            high_end = λ y h. le_trans _ _ _ (i.high_end y h) (whole_le _ _ (shift_high c.loop-k.high x.shift));
+          })
+      | else-high-gt-MOST_END w ↦
+          rw (w.low-is, w.high-is, w.x-is) (record {
+            sound = i.sound;
+            within = i.within;
+            sums = i.sums;
+            sums_within = i.sums_within;
+            cells = i.cells;
+            shift = omega (arith, i.shift);
+            top = omega (arith, two_le 62 (126 - 8 * (k + 1)) (omega (arith, c.loop-k-test.true)));
+            round = i.round;
+            low_end = i.low_end;
+            high_end = i.high_end;
+          })
+    ]
+
+pub returns-then-low-high-clause-low : goal.returns-then-low-high-clause-low
+returns-then-low-high-clause-low c y h =
+    let less : c.loop-k.high ≤ c.loop-k.low = omega (arith, c.if-low-high.true) in
+    le_trans _ _ _ (whole_le _ _ (mul-le-mul_right (2 ^ c.loop-k.x.shift) less)) (c.loop-k.invariant.low_end y h)
+
+pub returns-then-next-le-MOST_END-clause-low : goal.returns-then-next-le-MOST_END-clause-low
+returns-then-next-le-MOST_END-clause-low c y h =
+    let least : c.min.result ≤ c.args.next.low = omega (arith, c.min.ensures) in
+    le_trans _ _ _ (whole_le _ _ (mul-le-mul_right (2 ^ c.args.x.now.shift) least)) h

@@ -1,0 +1,18 @@
+use Rattle.dl_recursion.proofs.Common.{◌≡◌, ℕ, ◌+◌, ◌*◌, ◌-◌, ◌^◌, ◌≤◌, length, Fraction, whole, ◌≤ℚ◌, AreSums, AreScaledCells, EncloseScaled}
+use Rattle.dl_recursion.proofs.recursion.shift_down.Given as goal
+
+abbrev pub invariant-loop-k : goal.invariant-loop-k
+invariant-loop-k l = record {
+  sound : AreScaledCells l.x.low.items l.x.high.items l.x.first;
+  within : l.x.first ≤ length l.x.low.items;
+  sums : AreSums l.initial.x.sums.items l.initial.x.low.items l.initial.x.high.items
+      → AreSums l.x.sums.items l.x.low.items l.x.high.items;
+  sums_within : length l.x.sums.items ≤ length l.initial.x.sums.items;
+  cells : length l.x.low.items ≡ length l.initial.x.low.items;
+  shift : l.x.shift ≤ l.initial.x.shift + 8 * l.k;
+  top : l.high ≤ 2 ^ (126 - 8 * l.k);
+  round : (r : ℕ → Fraction) (n : ℕ) → EncloseScaled r l.initial.x.shift n l.initial.x.low.items l.initial.x.high.items
+      → EncloseScaled r l.x.shift n l.x.low.items l.x.high.items;
+  low_end : (y : Fraction) → whole (l.fn.next.low * 2 ^ l.initial.x.shift) ≤ℚ y → whole (l.low * 2 ^ l.x.shift) ≤ℚ y;
+  high_end : (y : Fraction) → y ≤ℚ whole (l.fn.next.high * 2 ^ l.initial.x.shift) → y ≤ℚ whole (l.high * 2 ^ l.x.shift);
+}

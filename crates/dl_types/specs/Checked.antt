@@ -1,0 +1,66 @@
+-- The properties of a unit that keeps the rules so far: later steps rest on them.
+use Rattle.std.specs.Prelude.{◌≡◌, ◌≤◌, ⊤, Option, true, false, IsSomeAnd}
+use Rattle.dl_limits.specs.Limits.{most_claims, most_log2, most_shape}
+use Rattle.dl_exact.specs.Fraction.{Fraction, whole, ◌/ℚ◌, ◌<ℚ◌}
+use Rattle.dl_plan.specs.declared.settings.Settings.{Settings}
+use Rattle.dl_plan.specs.Fine.{HasPartsOf48Bits}
+use Rattle.dl_plan.specs.Ranges.{IsBucket}
+use Rattle.dl_buckets.specs.declared.grid.GridFreq.{GridFreq}
+use Rattle.dl_buckets.specs.declared.grid.GridFreq.TheVariants.{Fixed, Poisson, Bernoulli, Binomial, Gamma}
+use Rattle.dl_buckets.specs.declared.grid.GridCount.{GridCount}
+use Rattle.dl_buckets.specs.declared.grid.GridCount.TheVariants.{Exposed, Listed}
+use Rattle.dl_buckets.specs.Small.{IsGridFreq}
+use Rattle.dl_buckets.specs.Lists.{is_whole, is_zero, is_above}
+use Rattle.dl_types.specs.Exposures.{shape_of}
+use Rattle.dl_types.specs.Listed.{AreCounts}
+use Rattle.dl_types.specs.Rules.{passes}
+
+-- the settings as the command line gives them: a bucket size, and from 2 to 65,536 cells
+pub record IsSet (settings : Settings) : Type 0 where
+  pub bucket : IsBucket settings.bs
+  pub some : 1 ≤ settings.log2
+  pub few : settings.log2 ≤ most_log2
+
+-- n claims are expected of trials with the probability p
+pub record AreTrials (p n : Fraction) : Type 0 where
+  pub above : whole 0 <ℚ p
+  pub within : is_above p (whole 1) ≡ false
+  pub whole : is_whole (n /ℚ p) ≡ true
+
+-- a gamma factor with this coefficient of variation has a whole shape
+pub record IsShaped (c : Fraction) : Type 0 where
+  pub above : is_zero c ≡ false
+  pub whole : is_whole (shape_of c) ≡ true
+
+-- with n claims expected, what has to be whole is, and a probability is at most 1
+abbrev pub IsWholeFreq : GridFreq → Fraction → Type 0
+IsWholeFreq (Fixed _) n = is_whole n ≡ true
+IsWholeFreq (Poisson _) n = ⊤
+IsWholeFreq (Bernoulli _) n = is_above n (whole 1) ≡ false
+IsWholeFreq (Binomial p _) n = AreTrials p n
+IsWholeFreq (Gamma c _) n = IsShaped c
+
+-- and what has to be small is
+abbrev pub IsSmallFreq : GridFreq → Fraction → Type 0
+IsSmallFreq (Fixed _) n = passes n most_claims ≡ false
+IsSmallFreq (Poisson _) n = ⊤
+IsSmallFreq (Bernoulli _) n = ⊤
+IsSmallFreq (Binomial p _) n = passes (n /ℚ p) most_claims ≡ false
+IsSmallFreq (Gamma c _) n = passes (shape_of c) most_shape ≡ false
+
+-- a distribution that breaks no rule, with n claims expected
+pub record IsFreqChecked (freq : GridFreq) (n : Fraction) : Type 0 where
+  pub read : IsGridFreq freq
+  pub whole : IsWholeFreq freq n
+  pub few : IsSmallFreq freq n
+  pub admitted : HasPartsOf48Bits n
+
+-- a count whose number is there, and of which as much is whole as has to be
+abbrev pub IsWholeCount : GridCount → Option Fraction → Type 0
+IsWholeCount (Exposed exposure freq) n = IsSomeAnd n (IsWholeFreq freq)
+IsWholeCount (Listed counts probs) n = ⊤
+
+-- a count that breaks no rule
+abbrev pub IsCountChecked : GridCount → Option Fraction → Type 0
+IsCountChecked (Exposed exposure freq) n = IsSomeAnd n (IsFreqChecked freq)
+IsCountChecked (Listed counts probs) n = AreCounts counts probs
