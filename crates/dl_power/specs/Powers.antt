@@ -38,8 +38,8 @@ ArePowers K f grids = AreBetween K (power f) grids
 abbrev pub mixture_end : {B : ℕ} → List ℕ → List (List (Iv B)) → (List (Iv B) → ℕ) → ℕ
 mixture_end weights grids end = sum_by (λ pair. pair.0 * end pair.1) (zip weights grids)
 
--- grids of equal blocks of counts, m + 1 counts to a block: between the ends of grid i lies what the
--- counts from i * (m + 1) to i * (m + 1) + m come to, each without i * (m + 1) of its claims
+-- a grid for each block of m + 1 counts: between the ends of grid i lies the sum over k from 0 to m
+-- of w (i * (m + 1) + k) * power f k
 abbrev pub AreParts : {B : ℕ} → ℕ → (w f : ℕ → Fraction) → ℕ → List (List (Iv B)) → Type 0
 AreParts K w f m parts = AreBetween K (λ i s. cell_from w f (i * suc m) s m) parts
 
@@ -52,9 +52,9 @@ pub record ArePairable {B : ℕ} (K : ℕ) (w f : ℕ → Fraction) (m : ℕ) (p
   pub of_parts : AreParts K w f m parts
   pub of_step : Between K step (power f (suc m))
 
--- a block of counts and those after it: between the ends of three grids lie what the counts from k
--- to k + m come to, m + 1 claims, and what the n + 1 counts after them come to, each without m + 1
--- of its claims; all of them are probabilities
+-- a block of counts, a step and the counts after: between the ends of three grids lie the sum over
+-- i from 0 to m of w (k + i) * power f i, the power of m + 1 claims, and the sum over i from 0 to n
+-- of w (k + m + 1 + i) * power f i; all weights and amounts are probabilities
 pub record IsStep {B : ℕ} (K : ℕ) (w f : ℕ → Fraction) (k m n : ℕ)
     (block step later : List (Iv B)) : Type 0 where
   pub counts : IsWithinOne w

@@ -69,7 +69,7 @@ pub(crate) fn powers_to<const B: u32>(
     Ok(powers)
 }
 
-/// The first so many blocks of counts, from 0 on, each of as many counts as there are powers.
+/// The first `blocks` blocks of counts, from 0 on, each of as many counts as there are powers.
 pub(crate) fn blocks_of<const B: u32>(
     alloc: Global,
     powers: &[Grid<B>],
