@@ -1,8 +1,7 @@
 -- The joint mean from the grids of a unit and of the others: what its ends hold, and how far apart they lie.
 use Rattle.dl_alloc.proofs.Common.{ℕ, ◌≡◌, ◌+◌, ◌-◌, ◌*◌, ◌/◌, ◌^◌, ◌<◌, ◌≤◌, List, length, arith, ap₂, div_ceil, mul-le-mul, mul-le-mul_left, mul-le-mul_right, mul-pos, le_trans, pow_pos, ◌over◌, le_refl, div_ceil_least, round_down, round_up, floor_le_ceiling, low_at, high_at, spread, IsGrid, count_pairs, count_below, size_of, cells_fit, grid_room, size_within, below_same, below_plus, pairs_le, pairs_same, Holds, Loss, AreDeclarable, One, Joint, partial_sums, total, GridEncloses, unit_of, without, at_least_wider, at_most_wider, low_weighted, high_weighted}
 use Rattle.dl_iv.specs.declared.interval.Iv.{Iv}
-use Rattle.dl_grid.specs.Width.{convolution_spread}
-use Rattle.dl_grid.specs.Room.{HasRoom}
+use Rattle.dl_grid.specs.Prelude.{convolution_spread, HasRoom}
 use Rattle.dl_grid.proofs.PlaceSums.{width_at, high_is, low_within, width_within}
 use Rattle.dl_grid.proofs.WidthLaws.{cv_is}
 use Rattle.dl_alloc.proofs.JointEnds.{joint_ends}

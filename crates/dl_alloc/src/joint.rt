@@ -2,12 +2,8 @@
 
 ghost use Rattle.std.specs.Prelude.{◌≡◌, ℕ, ◌-◌, ◌*◌, ◌^◌, ◌<◌, ◌≤◌, List, length};
 ghost use Rattle.dl_exact.specs.Fraction.{◌over◌};
-ghost use Rattle.dl_grid.specs.Cells.{low_at, high_at, spread, IsGrid};
-ghost use Rattle.dl_grid.specs.Width.{convolution_spread};
-ghost use Rattle.dl_model.specs.Series.{AtMost, Holds};
-ghost use Rattle.dl_model.specs.Program.{Loss, AreDeclarable, One, Point, Joint, partial_sums, total};
-ghost use Rattle.dl_model.specs.Family.{GridEncloses};
-ghost use Rattle.dl_model.specs.Measures.{unit_of, without, AreDeclared};
+ghost use Rattle.dl_grid.specs.Prelude.{low_at, high_at, spread, IsGrid, convolution_spread};
+ghost use Rattle.dl_model.specs.Prelude.{AtMost, Holds, Loss, AreDeclarable, One, Point, Joint, partial_sums, total, GridEncloses, unit_of, without, AreDeclared};
 ghost use Rattle.dl_alloc.specs.Weighted.{low_weighted, high_weighted};
 
 use dl_grid::{Grid, units_of_one};

@@ -2,12 +2,8 @@
 //! cells of the one, `lo'` and `hi'` those of the other, in units of 1 / `scale`.
 
 ghost use Rattle.std.specs.Prelude.{ℕ, ◌*◌, ◌<◌, List, length};
-ghost use Rattle.dl_exact.specs.Fraction.{◌over◌};
-ghost use Rattle.dl_exact.specs.Count.{count_pairs};
-ghost use Rattle.dl_model.specs.Series.{Holds};
-ghost use Rattle.dl_model.specs.Program.{Loss, AreDeclarable, One, Joint, partial_sums, total};
-ghost use Rattle.dl_model.specs.Family.{Encloses};
-ghost use Rattle.dl_model.specs.Measures.{unit_of, without};
+ghost use Rattle.dl_exact.specs.Prelude.{◌over◌, count_pairs};
+ghost use Rattle.dl_model.specs.Prelude.{Holds, Loss, AreDeclarable, One, Joint, partial_sums, total, Encloses, unit_of, without};
 
 /// The joint mean of a unit at `x` lies between the sums over the grids of the unit and of the
 /// others.

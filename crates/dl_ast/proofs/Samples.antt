@@ -4,9 +4,7 @@ use Rattle.std.specs.Prelude.{codes, length, ◌≢◌}
 use Rattle.dl_lexer.specs.declared.token.Keyword.{Keyword}
 use Rattle.dl_lexer.specs.declared.token.Kind.{Kind}
 use Rattle.dl_lexer.specs.declared.token.Kind.TheVariants.{Word, Name, Ref, Numeral, Note, Sign}
-use Rattle.dl_lexer.specs.Keywords.{spelling, first_spelled}
-use Rattle.dl_lexer.specs.Tokens.{IsSpelled, sign_byte, note, ref}
-use Rattle.dl_lexer.specs.Numerals.{a_decimal, digits}
+use Rattle.dl_lexer.specs.Prelude.{spelling, first_spelled, IsSpelled, sign_byte, note, ref, a_decimal, digits}
 use Rattle.dl_lexer.proofs.Spellings.{none_spelled}
 use Rattle.dl_ast.specs.Lexemes.{Lexeme, IsReal}
 

@@ -3,3 +3,4 @@ pub mod Rules
 pub mod Grammar
 pub mod OldGrammar
 pub mod WellFormed
+pub mod Prelude

@@ -3,8 +3,7 @@ use Rattle.dl_buckets.proofs.Common.{ℕ, zero, suc, ◌≡◌, ◌∙◌, ◌+�
 use Rattle.std.specs.List.Sorted.{IsStrictlyIncreasing}
 unfoldable use Rattle.dl_exact.specs.Count.{count_below}
 use Rattle.dl_exact.proofs.Counts.{below_none, below_plus, below_same}
-use Rattle.dl_plan.specs.Weighted.{common_weight, divided_by}
-use Rattle.dl_plan.specs.Severity.{probability_of}
+use Rattle.dl_plan.specs.Prelude.{common_weight, divided_by, probability_of}
 use Rattle.dl_plan.proofs.Weights.{divided_is, divided_means}
 use Rattle.dl_sev.specs.Steps.{with_weighed}
 use Rattle.dl_sev.proofs.Gathering.{rising-with, positive-with, below-with, weight_sum-with, weight_at-with, some_items}

@@ -3,8 +3,7 @@ use Rattle.std.specs.Prelude.{ℕ, ◌+◌, ◌*◌, ◌/◌, max, Bool, true, n
 use Rattle.std.specs.List.{list_any, range_with_len}
 use Rattle.dl_exact.specs.Fraction.{Fraction, whole, ◌/ℚ◌}
 use Rattle.dl_plan.specs.declared.cede.CedeLayer.{CedeLayer}
-use Rattle.dl_plan.specs.Clause.{Clause, IsClause, kept}
-use Rattle.dl_plan.specs.Horizon.{edge}
+use Rattle.dl_plan.specs.Prelude.{Clause, IsClause, kept, edge}
 use Rattle.dl_buckets.specs.Lists.{is_fine, is_whole}
 use Rattle.dl_buckets.specs.declared.grid.GridShare.{GridShare}
 use Rattle.dl_buckets.specs.declared.grid.GridShare.TheVariants as grid_shares

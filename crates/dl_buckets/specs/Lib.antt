@@ -13,3 +13,4 @@ pub mod CheckedGrid
 pub mod CheckedUnit
 pub mod Parts
 pub mod CheckedClauses
+pub mod Prelude

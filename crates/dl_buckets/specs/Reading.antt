@@ -3,8 +3,7 @@
 use Rattle.std.specs.Prelude.{ℕ, Bool, true, false, not, ◌&&◌, ◌||◌, ◌==◌, nat_lt, is_some, length}
 use Rattle.dl_limits.specs.Limits.{most_values, most_atoms, most_layers, most_range_parts}
 use Rattle.dl_exact.specs.Fraction.{Fraction, whole}
-use Rattle.dl_sev.specs.Buckets.{buckets}
-use Rattle.dl_sev.specs.Ranges.{range_denominator}
+use Rattle.dl_sev.specs.Prelude.{buckets, range_denominator}
 use Rattle.dl_sev.specs.declared.range.Range.{Range}
 use Rattle.dl_lexer.specs.declared.token.Span.{Span}
 use Rattle.dl_ast.specs.declared.ast.Numeral.{Numeral}

@@ -4,8 +4,7 @@
 -- buckets; those before them as it is read.
 use Rattle.std.specs.Prelude.{ℕ, Bool, true, false, not, ◌&&◌, ◌||◌, ◌==◌, nat_lt, List, [], length, map, fold, Option, Some, None}
 use Rattle.std.specs.List.{list_any}
-use Rattle.dl_exact.specs.Gcd.{gcd}
-use Rattle.dl_exact.specs.Fraction.{Fraction, whole}
+use Rattle.dl_exact.specs.Prelude.{gcd, Fraction, whole}
 use Rattle.dl_lexer.specs.declared.token.Span.{Span}
 use Rattle.dl_buckets.specs.declared.grid.ValueList.{ValueList}
 use Rattle.dl_buckets.specs.declared.grid.Shares.{Shares}

@@ -2,7 +2,7 @@
 -- attachment, the layer, the occurrence clause. Amounts are in buckets.
 use Rattle.std.specs.Prelude.{ℕ, Bool, not, ◌&&◌, nat_lt, if◌then◌else◌, List, [], ◌∷◌, ◌++◌, map, filter, zip, length, All, ⊤, Option, Some, None}
 use Rattle.dl_exact.specs.Fraction.{Fraction, ◌*ℚ◌}
-use Rattle.dl_plan.specs.Severity.{Pairs, probability, conditioned}
+use Rattle.dl_plan.specs.Prelude.{Pairs, probability, conditioned, IsClause, kept, IsWhole}
 use Rattle.dl_sev.specs.Steps.{scaled, layered, ceded_each}
 use Rattle.dl_buckets.specs.declared.grid.GridAtom.{GridAtom}
 use Rattle.dl_buckets.specs.declared.grid.GridSev.{GridSev}
@@ -13,8 +13,6 @@ use Rattle.dl_buckets.specs.declared.grid.GridClause.{GridClause}
 use Rattle.dl_buckets.specs.declared.made.MadeClause.{MadeClause}
 use Rattle.dl_buckets.specs.declared.made.MadeClause.TheVariants.{Missing, TooFine, Whole}
 use Rattle.dl_plan.specs.declared.severity.Sev.{Sev}
-use Rattle.dl_plan.specs.Clause.{IsClause, kept}
-use Rattle.dl_plan.specs.Fine.{IsWhole}
 use Rattle.dl_buckets.specs.Clauses.{clause_of}
 
 abbrev pub atom_probs : GridAtom → List Fraction

@@ -4,8 +4,7 @@ ghost use Rattle.std.specs.Prelude.{◌≡◌, ◌≤◌, ◌++◌, [], All, IfO
 ghost use Rattle.dl_limits.specs.Limits.{most_amount, most_values};
 ghost use Rattle.dl_ast.specs.WellFormed.{IsFormedItem, IsFormedList};
 ghost use Rattle.dl_plan.specs.Ranges.{IsBucket};
-ghost use Rattle.dl_sev.specs.Buckets.{HasPartsOf18Digits};
-ghost use Rattle.dl_sev.specs.Ranges.{IsRange, PassesRoom};
+ghost use Rattle.dl_sev.specs.Prelude.{HasPartsOf18Digits, IsRange, PassesRoom};
 ghost use Rattle.dl_buckets.specs.Flaws.{AgreeEarly, IsRead, IsReadTo, flaws_in};
 ghost use Rattle.dl_buckets.specs.Grid.{grid_list, number_of};
 ghost use Rattle.dl_buckets.specs.Reading.{flaws_of_item, flaws_of_list, flaws_of_amount};

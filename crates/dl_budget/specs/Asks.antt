@@ -11,8 +11,7 @@ use Rattle.dl_plan.specs.declared.settings.Ask.TheVariants.{Pmf, Cdf, Mean, Quan
 use Rattle.dl_plan.specs.declared.settings.Asked.{Asked}
 use Rattle.dl_plan.specs.declared.settings.Settings.{Settings}
 use Rattle.dl_plan.specs.declared.settings.Term.{Term}
-use Rattle.dl_plan.specs.Facts.{facts_of}
-use Rattle.dl_plan.specs.Ranges.{IsAskInRange}
+use Rattle.dl_plan.specs.Prelude.{facts_of, IsAskInRange}
 use Rattle.dl_budget.specs.Shared.{raised_budget, shared_joint_budget, thinned_at}
 use Rattle.dl_budget.specs.Units.{unit_budgets, unit_mean_budget, total_budget, others_budget, mean_budget}
 

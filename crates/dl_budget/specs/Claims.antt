@@ -6,10 +6,8 @@ use Rattle.dl_grid.specs.Width.{up, power_spread, mixed_spread}
 use Rattle.dl_plan.specs.declared.plan.Freq.{Freq}
 use Rattle.dl_plan.specs.declared.plan.Freq.TheVariants.{Fixed, Table, Bernoulli, Binomial, Poisson, Gamma}
 use Rattle.dl_plan.specs.declared.plan.Unit.{Unit as UnitOfPlan}
-use Rattle.dl_plan.specs.Count.{expected_count}
-use Rattle.dl_plan.specs.Means.{thinned_mean}
+use Rattle.dl_plan.specs.Prelude.{expected_count, thinned_mean, greatest}
 use Rattle.dl_budget.specs.Halvings.{halvings}
-use Rattle.dl_plan.specs.Weighted.{greatest}
 
 -- a Poisson count of a mean above 0: the base, and its power, a factor 2 for each halving
 unfoldable pub poisson_budget : (S cells : ℕ) → Fraction → ℕ

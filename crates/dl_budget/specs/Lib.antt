@@ -5,3 +5,4 @@ pub mod Units
 pub mod Asks
 pub mod Once
 pub mod Sizes
+pub mod Prelude

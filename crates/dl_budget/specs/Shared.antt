@@ -4,8 +4,7 @@ use Rattle.std.specs.Prelude.{ℕ, suc, ◌+◌, ◌*◌, ◌==◌, if◌then◌
 use Rattle.dl_exact.specs.Fraction.{Fraction, whole}
 use Rattle.dl_grid.specs.Width.{up}
 use Rattle.dl_plan.specs.declared.plan.Unit.{Unit as UnitOfPlan}
-use Rattle.dl_plan.specs.Means.{thinned_mean}
-use Rattle.dl_plan.specs.Common.{thinned_of, raised}
+use Rattle.dl_plan.specs.Prelude.{thinned_mean, thinned_of, raised}
 use Rattle.dl_budget.specs.Claims.{gamma_budget}
 
 -- a gamma count of this shape, of which so many claims above 0 are expected; 0 where there are none

@@ -5,12 +5,9 @@ use Rattle.dl_exact.specs.Fraction.{Fraction}
 use Rattle.dl_grid.specs.Width.{up, sum_spread}
 use Rattle.dl_plan.specs.declared.plan.Unit.{Unit as UnitOfPlan}
 use Rattle.dl_plan.specs.declared.plan.Plan.{Plan}
-use Rattle.dl_plan.specs.Clause.{Clause}
-use Rattle.dl_plan.specs.Horizon.{horizon}
-use Rattle.dl_plan.specs.Means.{declared_mean}
+use Rattle.dl_plan.specs.Prelude.{Clause, horizon, declared_mean, mean_width}
 use Rattle.dl_budget.specs.Claims.{claims_budget, none_budget}
 use Rattle.dl_budget.specs.Shared.{pooled_budget}
-use Rattle.dl_plan.specs.MeanWidth.{mean_width}
 
 -- the budget of a unit's claims, and twice that with an aggregate clause
 abbrev pub after_clause : Option Clause → ℕ → ℕ

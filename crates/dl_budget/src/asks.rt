@@ -4,10 +4,8 @@ ghost use Rattle.std.specs.Prelude.{ℕ, ◌≡◌, ◌+◌, ◌*◌, ◌^◌, �
 ghost use Rattle.dl_limits.specs.Limits.{IsPlanScale, most_digits, most_units, most_ask_budget};
 ghost use Rattle.dl_exact.specs.Fraction.{whole, ◌*ℚ◌};
 ghost use Rattle.dl_grid.specs.Width.{up};
-ghost use Rattle.dl_plan.specs.Terms.{ArePriced, most_weight_parts};
+ghost use Rattle.dl_plan.specs.Prelude.{ArePriced, most_weight_parts, IsLevel, IsValid};
 ghost use Rattle.dl_plan.specs.declared.settings.Ask.TheVariants.{LayerMean};
-ghost use Rattle.dl_plan.specs.Ranges.{IsLevel};
-ghost use Rattle.dl_plan.specs.Valid.{IsValid};
 ghost use Rattle.dl_budget.specs.Asks.{IsInside, IsAskOf, index_of, named_unit, ask_budget, layer_mean_budget, tail_budget, most_tail_budget, price_budget, joint_by, joint_budget, kappa_budget, cotail_budget, in_digits, needed, Passes};
 ghost use Rattle.dl_budget.specs.Once.{AreBudgetsOf};
 

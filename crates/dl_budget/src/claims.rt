@@ -3,9 +3,7 @@
 ghost use Rattle.std.specs.Prelude.{ℕ, ◌≡◌, ◌+◌, ◌*◌, ◌^◌, ◌≤◌, ◌<◌, All};
 ghost use Rattle.dl_limits.specs.Limits.{IsPlanScale, most_cells, most_claims_budget, most_expected, most_none_budget, most_shape};
 ghost use Rattle.dl_exact.specs.Fraction.{Fraction, whole, ◌<ℚ◌, ◌≤ℚ◌};
-ghost use Rattle.dl_plan.specs.Fine.{HasPartsOf48Bits};
-ghost use Rattle.dl_plan.specs.Count.{expected_count, IsClaimCount};
-ghost use Rattle.dl_plan.specs.Valid.{claims_alone, IsNewZero, IsValidUnit};
+ghost use Rattle.dl_plan.specs.Prelude.{HasPartsOf48Bits, expected_count, IsClaimCount, claims_alone, IsNewZero, IsValidUnit};
 ghost use Rattle.dl_budget.specs.Claims.{poisson_budget, gamma_budget, claims_budget, none_budget};
 
 use crate::steps::{doubled, halvings, listed, power_spread};

@@ -4,8 +4,7 @@ ghost use Rattle.std.specs.Prelude.{ℕ, ◌≡◌, ◌≤◌, All};
 ghost use Rattle.dl_limits.specs.Limits.{most_horizon};
 ghost use Rattle.dl_exact.specs.Fraction.{Fraction};
 ghost use Rattle.dl_plan.specs.declared.plan.Plan.{Plan};
-ghost use Rattle.dl_plan.specs.Horizon.{IsHorizonOf, horizon};
-ghost use Rattle.dl_plan.specs.Valid.{IsValid};
+ghost use Rattle.dl_plan.specs.Prelude.{IsHorizonOf, horizon, IsValid};
 ghost use Rattle.dl_budget.specs.Halvings.{IsHalvings, halvings};
 
 /// Each unit of a valid plan has one horizon, which is `horizon`: at most 16,384 cells where

@@ -2,10 +2,7 @@
 
 ghost use Rattle.std.specs.Prelude.{ℕ, ◌≡◌, ◌^◌, ◌≤◌, All};
 ghost use Rattle.dl_limits.specs.Limits.{IsPlanScale, most_claims_budget, most_plan_cells, most_shape};
-ghost use Rattle.dl_plan.specs.Fine.{HasPartsOf48Bits};
-ghost use Rattle.dl_plan.specs.Means.{thinned_mean};
-ghost use Rattle.dl_plan.specs.Valid.{IsValidUnit};
-ghost use Rattle.dl_plan.specs.Common.{CanShare, HasCommonFactor, raised, thinned_of};
+ghost use Rattle.dl_plan.specs.Prelude.{HasPartsOf48Bits, thinned_mean, IsValidUnit, CanShare, HasCommonFactor, raised, thinned_of};
 ghost use Rattle.dl_budget.specs.Shared.{pooled_budget, raised_budget, shared_joint_budget};
 
 use crate::claims::gamma_budget;

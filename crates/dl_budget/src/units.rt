@@ -4,12 +4,9 @@ ghost use Rattle.std.specs.Prelude.{ℕ, ◌≡◌, ◌+◌, ◌*◌, ◌^◌, �
 ghost use Rattle.dl_limits.specs.Limits.{IsPlanScale, budget_bound, most_cells, most_claims_budget, most_clause_budget, most_horizon, most_layers, most_plan_cells, most_units, most_unit_budget, most_mean_budget};
 ghost use Rattle.dl_exact.specs.Fraction.{Fraction};
 ghost use Rattle.dl_grid.specs.Width.{convolution_spread, sum_spread, up};
-ghost use Rattle.dl_plan.specs.Horizon.{IsHorizonOf, edge, horizon};
-ghost use Rattle.dl_plan.specs.Means.{declared_mean};
-ghost use Rattle.dl_plan.specs.Valid.{IsNewZero, IsValidUnit, IsValid};
+ghost use Rattle.dl_plan.specs.Prelude.{IsHorizonOf, edge, horizon, declared_mean, IsNewZero, IsValidUnit, IsValid, mean_width, part_width};
 ghost use Rattle.dl_budget.specs.Claims.{claims_budget};
 ghost use Rattle.dl_budget.specs.Sizes.{IsOfUnits};
-ghost use Rattle.dl_plan.specs.MeanWidth.{mean_width, part_width};
 ghost use Rattle.dl_budget.specs.Units.{after_clause, unit_budget, unit_budgets, unit_mean_budget, total_budget, others_budget, mean_budget};
 
 use crate::claims::{claims_budget, none_budget};

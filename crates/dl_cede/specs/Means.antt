@@ -2,16 +2,12 @@
 -- how wide it may be.
 use Rattle.std.specs.Prelude.{ℕ, ◌*◌, ◌^◌, ◌≤◌, IfSome, List, [], ◌∷◌}
 use Rattle.dl_limits.specs.Limits.{most_claims, most_amount, most_amount_at, most_layers}
-use Rattle.dl_exact.specs.Fraction.{whole, ◌over◌, ◌*ℚ◌}
-use Rattle.dl_exact.specs.Rounding.{IsFloor, IsCeiling}
+use Rattle.dl_exact.specs.Prelude.{whole, ◌over◌, ◌*ℚ◌, IsFloor, IsCeiling}
 use Rattle.dl_iv.specs.declared.interval.Iv.{Iv}
 use Rattle.dl_plan.specs.declared.cede.CedeLayer.{CedeLayer}
 use Rattle.dl_plan.specs.declared.plan.Unit.{Unit as UnitOfPlan}
 use Rattle.dl_plan.specs.Means.{declared_mean}
-use Rattle.dl_model.specs.Series.{Holds}
-use Rattle.dl_model.specs.Program.{One, Mean, partial_sums}
-use Rattle.dl_model.specs.Units.{loss}
-use Rattle.dl_model.specs.Plans.{aggregate_of, claims_of, mean_ceded}
+use Rattle.dl_model.specs.Prelude.{Holds, One, Mean, partial_sums, loss, aggregate_of, claims_of, mean_ceded}
 
 -- the interval holds the mean of the sum of the claims, before the clause
 abbrev pub HoldsClaims : {B : ℕ} → UnitOfPlan → Iv B → Type 0

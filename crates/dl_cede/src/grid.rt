@@ -2,16 +2,10 @@
 
 ghost use Rattle.std.specs.Prelude.{◌≡◌, ◌≢◌, ℕ, ◌+◌, ◌-◌, ◌*◌, ◌^◌, ◌<◌, ◌≤◌, ◌==◌, if◌then◌else◌, min, length, IfOk, IsSome, MatchOption};
 ghost use Rattle.dl_cede.specs.TakenIn.{width_at, where_whole, sum_elsewhere, IsTakenIn, IsLeft};
-ghost use Rattle.dl_grid.specs.Cells.{low_at, high_at, mass_low, spread};
-ghost use Rattle.dl_grid.specs.Room.{IsGridSize};
-ghost use Rattle.dl_exact.specs.Fraction.{whole};
-ghost use Rattle.dl_model.specs.Plans.{aggregate_of, compound_of};
-ghost use Rattle.dl_plan.specs.Horizon.{IsHorizonOf};
-ghost use Rattle.dl_model.specs.Family.{GridEncloses};
-ghost use Rattle.dl_model.specs.Units.{mapped};
-ghost use Rattle.dl_plan.specs.Clause.{kept, IsClause};
-ghost use Rattle.dl_exact.specs.Count.{count_below};
-ghost use Rattle.dl_plan.specs.Valid.{IsValidUnit};
+ghost use Rattle.dl_grid.specs.Prelude.{low_at, high_at, mass_low, spread, IsGridSize};
+ghost use Rattle.dl_exact.specs.Prelude.{whole, count_below};
+ghost use Rattle.dl_model.specs.Prelude.{aggregate_of, compound_of, GridEncloses, mapped};
+ghost use Rattle.dl_plan.specs.Prelude.{IsHorizonOf, kept, IsClause, IsValidUnit};
 
 use dl_grid::{Grid, empty_grid, units_of_one};
 use dl_iv::Iv;

@@ -5,14 +5,9 @@ ghost use Rattle.dl_limits.specs.Limits.{most_parts};
 ghost use Rattle.dl_exact.specs.Fraction.{whole, ◌≤ℚ◌};
 ghost use Rattle.dl_grid.specs.Cells.{spread};
 ghost use Rattle.dl_plan.specs.declared.plan.Unit.{Unit as UnitOfPlan};
-ghost use Rattle.dl_plan.specs.Clause.{IsClause};
-ghost use Rattle.dl_plan.specs.Horizon.{edge, IsHorizonOf};
-ghost use Rattle.dl_plan.specs.Means.{declared_mean};
-ghost use Rattle.dl_plan.specs.Valid.{IsValidUnit};
-ghost use Rattle.dl_model.specs.Family.{GridEncloses};
-ghost use Rattle.dl_model.specs.Plans.{compound_of};
+ghost use Rattle.dl_plan.specs.Prelude.{IsClause, edge, IsHorizonOf, declared_mean, IsValidUnit, part_width, mean_width};
+ghost use Rattle.dl_model.specs.Prelude.{GridEncloses, compound_of};
 ghost use Rattle.dl_measures.specs.Layers.{layer_most};
-ghost use Rattle.dl_plan.specs.MeanWidth.{part_width, mean_width};
 ghost use Rattle.dl_cede.specs.Means.{AreNearestEnds, HoldsClaims, HoldsCeded, HoldsMean};
 ghost use Rattle.dl_cede.specs.Means.{IsNear, most_claims_mean, most_limited};
 

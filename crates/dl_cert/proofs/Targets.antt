@@ -1,7 +1,6 @@
 -- The parts of a unit make it up, and those of a covered plan, each as often as the target says, its total.
 use Rattle.dl_cert.proofs.Common.{ℕ, zero, suc, ◌≡◌, ◌≢◌, ◌<◌, ◌^◌, ◌∙◌, inl, inr, refl, sym, ap, subst, arith, List, [], ◌∷◌, map, get_or, None, cases_eq, eq-eqb, ne_eqb, All-head, All-tail, All-nil, All-cons, pow_pos, All, Fraction, whole, ◌*ℚ◌, ◌/ℚ◌, ◌<ℚ◌, ◌over◌, times_zero, zero_or_pos, times_comm, div_times, whole_pos, one_pos, over_self, over_cross, ◌^ℚ◌, over_zero, Freq, Fixed, Table, Bernoulli, Binomial, Poisson, Gamma, Plan, UnitOfPlan, Sev, probability_of, expected_count, IsCountOfPlan, thinned_mean, IsValid, IsValidUnit, num_le_den, halvings, power, IsWithinOne, Family, product, nothing, times_itself, SameCells, after_zero, compound_of, aggregate_of, loss_of, aggregates_of, outcome_after, Loss, total, sum_over_outcomes, fixed_claims, trials, positive, given_part, none_thinned, within_one, HasValues, Label, labelled, IsTable, IsCoveredUnit, IsCovered, above_zero, part_of, parts_of, unit_part, unit_parts, parts_of_plan, target}
-use Rattle.dl_model.specs.Program.{One}
-use Rattle.dl_model.specs.Units.{loss, mapped}
+use Rattle.dl_model.specs.Prelude.{One, loss, mapped}
 use Rattle.dl_model.proofs.Bounded.{quantity_bounded, whole_positive, are_units}
 use Rattle.dl_model.proofs.CountBounds.{fixed_count, binomial_count, poisson_count, gamma_of_count}
 use Rattle.dl_model.proofs.GammaThin.{gamma_shares}

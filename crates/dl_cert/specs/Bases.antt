@@ -8,8 +8,7 @@ use Rattle.dl_panjer.specs.Cells.{low_next, high_next}
 use Rattle.dl_plan.specs.declared.plan.Unit.{Unit as UnitOfPlan}
 use Rattle.dl_plan.specs.declared.plan.Plan.{Plan}
 use Rattle.dl_plan.specs.declared.severity.Sev.{Sev}
-use Rattle.dl_plan.specs.Means.{thinned_mean}
-use Rattle.dl_plan.specs.Weighted.{weight_at}
+use Rattle.dl_plan.specs.Prelude.{thinned_mean, weight_at}
 use Rattle.dl_cert.specs.declared.base.Base.{Base}
 use Rattle.dl_cert.specs.declared.base.Share.{Share}
 use Rattle.dl_cert.specs.declared.base.Base.TheVariants.{Nothing, Trial, Poisson, Geometric}

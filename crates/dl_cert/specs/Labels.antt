@@ -1,8 +1,7 @@
 -- Labels: how often each unit is a factor of a product of families.
 use Rattle.std.specs.Prelude.{ℕ, zero, suc, ◌+◌, nat_eq, List, [], ◌∷◌, if◌then◌else◌}
 use Rattle.dl_exact.specs.Fraction.{Fraction, whole, ◌<ℚ◌}
-use Rattle.dl_model.specs.Series.{IsBound}
-use Rattle.dl_model.specs.Family.{Family, product, nothing, times_itself, IsProper}
+use Rattle.dl_model.specs.Prelude.{IsBound, Family, product, nothing, times_itself, IsProper}
 
 -- a count for each unit, by its number
 abbrev pub Label : Type 0

@@ -12,3 +12,4 @@ pub mod PassedSteps
 pub mod Verified
 pub mod Written
 pub mod Starts
+pub mod Prelude

@@ -2,19 +2,15 @@
 -- lower, and a high end higher.
 use Rattle.std.specs.Prelude.{ℕ, zero, suc, ◌*◌, ◌/◌, ◌^◌, List, min, map, get_or}
 use Rattle.std.specs.Int.{div_ceil}
-use Rattle.dl_exact.specs.Fraction.{Fraction, whole, ◌+ℚ◌, ◌*ℚ◌, ◌/ℚ◌}
-use Rattle.dl_exact.specs.Count.{count_pairs}
-use Rattle.dl_exact.specs.Sum.{sum_pairs}
+use Rattle.dl_exact.specs.Prelude.{Fraction, whole, ◌+ℚ◌, ◌*ℚ◌, ◌/ℚ◌, count_pairs, sum_pairs}
 use Rattle.dl_grid.specs.Cells.{low_at, high_at, all_at_zero}
 use Rattle.dl_plan.specs.declared.plan.Freq.{Freq}
 use Rattle.dl_plan.specs.declared.plan.Freq.TheVariants.{Fixed, Table, Bernoulli, Binomial, Poisson, Gamma}
 use Rattle.dl_plan.specs.declared.plan.Unit.{Unit as UnitOfPlan}
 use Rattle.dl_plan.specs.declared.severity.Sev.{Sev}
-use Rattle.dl_plan.specs.Severity.{probability_of}
-use Rattle.dl_plan.specs.Means.{thinned_mean}
+use Rattle.dl_plan.specs.Prelude.{probability_of, thinned_mean}
 use Rattle.dl_budget.specs.Halvings.{halvings}
-use Rattle.dl_model.specs.Counts.{fixed, binomial}
-use Rattle.dl_model.specs.Compound.{cell}
+use Rattle.dl_model.specs.Prelude.{fixed, binomial, cell}
 use Rattle.dl_exp.specs.Ends.{exp_low, exp_high}
 use Rattle.dl_cert.specs.declared.step.Kind.{Kind}
 use Rattle.dl_cert.specs.declared.step.Kind.TheVariants.{One, Start, Times}

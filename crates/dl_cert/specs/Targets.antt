@@ -6,11 +6,9 @@ use Rattle.dl_plan.specs.declared.plan.Freq.TheVariants.{Fixed, Table, Bernoulli
 use Rattle.dl_plan.specs.declared.plan.Plan.{Plan}
 use Rattle.dl_plan.specs.declared.plan.Unit.{Unit as UnitOfPlan}
 use Rattle.dl_plan.specs.declared.severity.Sev.{Sev}
-use Rattle.dl_plan.specs.Severity.{probability_of, pairs_of, conditioned, probability}
-use Rattle.dl_plan.specs.Means.{thinned_mean}
+use Rattle.dl_plan.specs.Prelude.{probability_of, pairs_of, conditioned, probability, thinned_mean}
 use Rattle.dl_budget.specs.Halvings.{halvings}
-use Rattle.dl_model.specs.Counts.{fixed, binomial, poisson, gamma_of}
-use Rattle.dl_model.specs.Family.{Family, compound, nothing}
+use Rattle.dl_model.specs.Prelude.{fixed, binomial, poisson, gamma_of, Family, compound, nothing}
 use Rattle.dl_cert.specs.Labels.{Label}
 
 -- the severity of the claims above 0

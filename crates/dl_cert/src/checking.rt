@@ -3,9 +3,7 @@
 ghost use Rattle.std.specs.Prelude.{ℕ, ◌≡◌, ◌∷◌, ◌<◌, ◌≤◌, ◌↔◌, IsTrue, List, length, get_or, drop, All, map, ◌*◌, ◌+◌, ◌^◌, IfOk, MatchOption, MatchResult, if◌then◌else◌};
 ghost use Rattle.dl_limits.specs.Limits.{most_cert_cells, most_steps_text, most_units};
 ghost use Rattle.dl_plan.specs.Valid.{IsValid};
-ghost use Rattle.dl_model.specs.Family.{GridEncloses};
-ghost use Rattle.dl_model.specs.Program.{total};
-ghost use Rattle.dl_model.specs.Plans.{aggregates_of};
+ghost use Rattle.dl_model.specs.Prelude.{GridEncloses, total, aggregates_of};
 ghost use Rattle.dl_cert.specs.Bases.{AreStarts};
 ghost use Rattle.dl_cert.specs.Covered.{IsCovered};
 ghost use Rattle.dl_cert.specs.PassedSteps.{HavePassed, IsRow, label_at, HasPassedTo};

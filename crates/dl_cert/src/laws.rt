@@ -1,12 +1,10 @@
 //! The laws of labels and of steps that pass, over the definitions alone. Nothing here runs.
 
 ghost use Rattle.std.specs.Prelude.{ℕ, ◌≡◌, ◌<◌, List, length, get_or};
-ghost use Rattle.dl_model.specs.Family.{Family, product, nothing, SameCells, Encloses, GridEncloses};
+ghost use Rattle.dl_model.specs.Prelude.{Family, product, nothing, SameCells, Encloses, GridEncloses, total, aggregates_of};
 ghost use Rattle.dl_iv.specs.declared.interval.Iv.{Iv};
 ghost use Rattle.dl_plan.specs.declared.plan.Plan.{Plan};
 ghost use Rattle.dl_plan.specs.Valid.{IsValid};
-ghost use Rattle.dl_model.specs.Program.{total};
-ghost use Rattle.dl_model.specs.Plans.{aggregates_of};
 ghost use Rattle.dl_cert.specs.Covered.{IsCovered};
 ghost use Rattle.dl_cert.specs.Targets.{parts_of_plan, target};
 ghost use Rattle.dl_cert.specs.Steps.{Step};

@@ -3,8 +3,7 @@
 ghost use Rattle.std.specs.Prelude.{◌≡◌, ℕ, ◌^◌, ◌<◌, ◌≤◌, length, All, IfOk};
 ghost use Rattle.dl_limits.specs.Limits.{most_cert_cells};
 ghost use Rattle.dl_grid.specs.Cells.{low_at, high_at};
-ghost use Rattle.dl_plan.specs.Means.{thinned_mean};
-ghost use Rattle.dl_plan.specs.Valid.{IsValidUnit};
+ghost use Rattle.dl_plan.specs.Prelude.{thinned_mean, IsValidUnit};
 ghost use Rattle.dl_cert.specs.Bases.{low_base, high_base};
 ghost use Rattle.dl_cert.specs.Starts.{IsExactStart};
 ghost use Rattle.dl_cert.specs.Targets.{unit_parts};

@@ -4,13 +4,9 @@ ghost use Rattle.std.specs.Prelude.{ℕ, ◌≡◌, ◌^◌, ◌<◌, ◌≤◌,
 ghost use Rattle.dl_limits.specs.Limits.{admitted_bound, frac_bound, most_claims, most_expected};
 ghost use Rattle.dl_budget.specs.Halvings.{halvings};
 ghost use Rattle.dl_exact.specs.Fraction.{Fraction, whole, ◌over◌, ◌/ℚ◌, ◌≤ℚ◌};
-ghost use Rattle.dl_plan.specs.Count.{IsProbability, IsUnbounded};
-ghost use Rattle.dl_plan.specs.Fine.{HasPartsOf48Bits};
-ghost use Rattle.dl_plan.specs.Severity.{pairs_of, conditioned, HasDistribution};
+ghost use Rattle.dl_plan.specs.Prelude.{IsProbability, IsUnbounded, HasPartsOf48Bits, pairs_of, conditioned, HasDistribution, thinned_mean, IsValidUnit};
 ghost use Rattle.dl_plan.specs.declared.plan.Unit.{Unit as UnitOfPlan};
 ghost use Rattle.dl_plan.specs.declared.plan.Freq.TheVariants.{Gamma, Poisson};
-ghost use Rattle.dl_plan.specs.Means.{thinned_mean};
-ghost use Rattle.dl_plan.specs.Valid.{IsValidUnit};
 ghost use Rattle.dl_cert.specs.declared.base.Base.{Base as BaseOfUnit};
 ghost use Rattle.dl_cert.specs.declared.base.Base.TheVariants.{Trial};
 ghost use Rattle.dl_cert.specs.declared.base.Chance.{Chance as ChanceOfUnit};

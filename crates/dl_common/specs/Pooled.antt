@@ -5,10 +5,8 @@ use Rattle.dl_exact.specs.Fraction.{Fraction}
 use Rattle.dl_plan.specs.declared.plan.Freq.TheVariants.{Gamma}
 use Rattle.dl_plan.specs.declared.plan.Unit.{Unit as UnitOfPlan}
 use Rattle.dl_plan.specs.declared.plan.Plan.{Plan}
-use Rattle.dl_plan.specs.Severity.{probability_of}
-use Rattle.dl_plan.specs.Common.{expected_of, raised}
-use Rattle.dl_model.specs.CommonFactor.{pooled_severity}
-use Rattle.dl_model.specs.CommonUnits.{poisson_units}
+use Rattle.dl_plan.specs.Prelude.{probability_of, expected_of, raised}
+use Rattle.dl_model.specs.Prelude.{pooled_severity, poisson_units}
 
 -- a gamma unit with this shape and mean, whose severity mixes those of the units by their expected
 -- counts; it has the first unit's name, and neither an aggregate clause nor a changed probability

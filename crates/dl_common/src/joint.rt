@@ -4,19 +4,11 @@ ghost use Rattle.std.specs.Prelude.{ℕ, ◌≡◌, ◌+◌, ◌-◌, ◌*◌, �
 ghost use Rattle.std.specs.Int.{div_ceil};
 ghost use Rattle.dl_exact.specs.Fraction.{whole, ◌over◌, ◌<ℚ◌};
 ghost use Rattle.dl_limits.specs.Limits.{most_parts};
-ghost use Rattle.dl_grid.specs.Cells.{low_at, high_at, spread, IsGrid};
-ghost use Rattle.dl_grid.specs.Width.{up};
+ghost use Rattle.dl_grid.specs.Prelude.{low_at, high_at, spread, IsGrid, up};
 ghost use Rattle.dl_plan.specs.declared.plan.Unit.{Unit as UnitOfPlan};
 ghost use Rattle.dl_plan.specs.declared.plan.Plan.{Plan};
-ghost use Rattle.dl_plan.specs.Weighted.{weight_sum, weight_at};
-ghost use Rattle.dl_plan.specs.Means.{thinned_mean};
-ghost use Rattle.dl_plan.specs.Valid.{IsValidUnit};
-ghost use Rattle.dl_plan.specs.Common.{IsPoisson};
-ghost use Rattle.dl_plan.specs.Shared.{SharesFactor};
-ghost use Rattle.dl_model.specs.Series.{AtMost, Holds};
-ghost use Rattle.dl_model.specs.Program.{One, Point, Joint};
-ghost use Rattle.dl_model.specs.Family.{GridEncloses};
-ghost use Rattle.dl_model.specs.Plans.{compound_of, declared};
+ghost use Rattle.dl_plan.specs.Prelude.{weight_sum, weight_at, thinned_mean, IsValidUnit, IsPoisson, SharesFactor};
+ghost use Rattle.dl_model.specs.Prelude.{AtMost, Holds, One, Point, Joint, GridEncloses, compound_of, declared};
 ghost use Rattle.dl_common.specs.Pooled.{IsRaised};
 ghost use Rattle.dl_common.specs.Amounts.{amounts_to};
 

@@ -2,18 +2,9 @@
 
 ghost use Rattle.std.specs.Prelude.{ℕ, ◌≡◌, length, map, flat_map, All, IfOk};
 ghost use Rattle.dl_exact.specs.Fraction.{whole, ◌<ℚ◌};
-ghost use Rattle.dl_plan.specs.Fine.{IsFineTo30Bits, HasPartsOf48Bits};
-ghost use Rattle.dl_plan.specs.Severity.{pairs_of, probability_of};
-ghost use Rattle.dl_plan.specs.Count.{expected_count};
-ghost use Rattle.dl_plan.specs.Valid.{IsValid};
-ghost use Rattle.dl_plan.specs.Common.{CanShare, expected_of, unit_share, shared_probabilities};
-ghost use Rattle.dl_plan.specs.Shared.{SharesFactor};
-ghost use Rattle.dl_sev.specs.Weighed.{IsWeighing};
-ghost use Rattle.dl_sev.specs.Weighing.{sum_of};
-ghost use Rattle.dl_model.specs.Program.{Quantity};
-ghost use Rattle.dl_model.specs.Plans.{declared};
-ghost use Rattle.dl_model.specs.CommonFactor.{pooled_severity, CountsTotal};
-ghost use Rattle.dl_model.specs.CommonUnits.{poisson_units};
+ghost use Rattle.dl_plan.specs.Prelude.{IsFineTo30Bits, HasPartsOf48Bits, pairs_of, probability_of, expected_count, IsValid, CanShare, expected_of, unit_share, shared_probabilities, SharesFactor};
+ghost use Rattle.dl_sev.specs.Prelude.{IsWeighing, sum_of};
+ghost use Rattle.dl_model.specs.Prelude.{Quantity, declared, pooled_severity, CountsTotal, poisson_units};
 ghost use Rattle.dl_common.specs.Pooled.{IsPooled, alone};
 
 use crate::copies::severities;

@@ -2,8 +2,7 @@
 
 ghost use Rattle.std.specs.Prelude.{ℕ, IfOk};
 ghost use Rattle.dl_plan.specs.declared.plan.Plan.{Plan};
-ghost use Rattle.dl_plan.specs.Valid.{IsValid};
-ghost use Rattle.dl_plan.specs.Shared.{SharesFactor};
+ghost use Rattle.dl_plan.specs.Prelude.{IsValid, SharesFactor};
 ghost use Rattle.dl_common.specs.Pooled.{IsPooled, IsRaised, alone};
 
 use crate::copies::copied;

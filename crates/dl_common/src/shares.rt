@@ -2,9 +2,7 @@
 
 ghost use Rattle.std.specs.Prelude.{ℕ, ◌≡◌, ◌≤◌, map, take, length, All, IfOk};
 ghost use Rattle.dl_exact.specs.Fraction.{whole, ◌<ℚ◌};
-ghost use Rattle.dl_plan.specs.Fine.{IsFineTo30Bits, HasPartsOf48Bits};
-ghost use Rattle.dl_plan.specs.Common.{CanShare, expected_of, unit_share};
-ghost use Rattle.dl_plan.specs.Count.{expected_count};
+ghost use Rattle.dl_plan.specs.Prelude.{IsFineTo30Bits, HasPartsOf48Bits, CanShare, expected_of, unit_share, expected_count};
 
 use dl_frac::Frac;
 use dl_plan::Unit;

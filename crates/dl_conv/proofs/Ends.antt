@@ -2,9 +2,7 @@
 use Rattle.dl_conv.proofs.Common.{ℕ, suc, ◌≡◌, ◌+◌, ◌-◌, ◌*◌, ◌/◌, ◌^◌, ◌<◌, ◌≤◌, List, [], ◌∷◌, length, arith, refl, ap, ap₂, inl, inr, ◌∙◌, get_or, All, min, div_ceil, mul-le-mul, mul-le-mul_right, get_or-eq_default, pow_pos, cases_lt, get_or_default_zero, count_pairs, count_below, size_of, below_bound, below_same, below_pairs, pairs_same, sum, high_le, below_first, pairs_le}
 use Rattle.std.proofs.lemmas.List.Sums.{sum_by-cons}
 use Rattle.dl_iv.specs.declared.interval.Iv.{Iv}
-use Rattle.dl_grid.specs.Cells.{low_at, high_at, spread, IsGrid, AreEnds}
-use Rattle.dl_grid.specs.Convolution.{IsConvolution}
-use Rattle.dl_grid.specs.Width.{convolution_spread}
+use Rattle.dl_grid.specs.Prelude.{low_at, high_at, spread, IsGrid, AreEnds, IsConvolution, convolution_spread}
 use Rattle.dl_grid.proofs.Room.{grid_room, size_within}
 use Rattle.dl_grid.proofs.EndLists.{low_le_high}
 use Rattle.dl_grid.proofs.PlaceSums.{width_at, high_is, low_within, width_within, whole_spread}

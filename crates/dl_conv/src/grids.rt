@@ -2,11 +2,9 @@
 
 ghost use Rattle.std.specs.Prelude.{◌≡◌, ℕ, ◌*◌, ◌/◌, ◌^◌, ◌<◌, ◌≤◌, min, length, replicate, get_or, All, IfOk};
 ghost use Rattle.std.specs.Int.{div_ceil};
-ghost use Rattle.dl_grid.specs.Cells.{low_at, high_at, spread};
+ghost use Rattle.dl_grid.specs.Prelude.{low_at, high_at, spread, IsConvolution, convolution_spread};
 ghost use Rattle.dl_exact.specs.Count.{count_pairs};
 ghost use Rattle.dl_conv.specs.Sums.{pair_sum, halved_from, ItemsFit};
-ghost use Rattle.dl_grid.specs.Convolution.{IsConvolution};
-ghost use Rattle.dl_grid.specs.Width.{convolution_spread};
 
 use crate::plain::plain_sums;
 use crate::short::{halved_sums, work_for};

@@ -1,3 +1,4 @@
 pub mod Settled
 pub mod Sums
 pub mod Widths
+pub mod Prelude

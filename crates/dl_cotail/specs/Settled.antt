@@ -4,11 +4,8 @@ use Rattle.dl_limits.specs.Limits.{rarest_parts}
 use Rattle.dl_exact.specs.Fraction.{Fraction, ◌over◌, ◌+ℚ◌, ◌-ℚ◌}
 use Rattle.dl_iv.specs.declared.interval.Iv.{Iv}
 use Rattle.dl_grid.specs.Cells.{low_at, high_at}
-use Rattle.dl_model.specs.Series.{Series, AtMost, AtLeast, Below}
-use Rattle.dl_model.specs.Program.{Quantity, One, Point, Cdf}
-use Rattle.dl_model.specs.Measures.{IsQuantile}
-use Rattle.dl_measures.specs.Brackets.{IsFirstAtLeast, IsFirstFound}
-use Rattle.dl_measures.specs.Ends.{low_cdf, high_cdf}
+use Rattle.dl_model.specs.Prelude.{Series, AtMost, AtLeast, Below, Quantity, One, Point, Cdf, IsQuantile}
+use Rattle.dl_measures.specs.Prelude.{IsFirstAtLeast, IsFirstFound, low_cdf, high_cdf}
 
 -- the bracket of the quantile at p in a grid: where the high end of the distribution first reaches
 -- p, and where the low end does

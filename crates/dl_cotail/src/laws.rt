@@ -1,13 +1,9 @@
 //! The laws of the shares in a tail mean, over the definitions alone.
 
 ghost use Rattle.std.specs.Prelude.{ℕ, ◌≡◌, ◌<◌, None, List, [], ◌∷◌, length, get_or};
-ghost use Rattle.dl_exact.specs.Fraction.{Fraction, whole, ◌+ℚ◌, ◌-ℚ◌, ◌*ℚ◌, ◌≤ℚ◌, ◌<ℚ◌};
-ghost use Rattle.dl_exact.specs.Sum.{sum_below};
+ghost use Rattle.dl_exact.specs.Prelude.{Fraction, whole, ◌+ℚ◌, ◌-ℚ◌, ◌*ℚ◌, ◌≤ℚ◌, ◌<ℚ◌, sum_below};
 ghost use Rattle.dl_plan.specs.Valid.{IsValid};
-ghost use Rattle.dl_model.specs.Series.{Holds};
-ghost use Rattle.dl_model.specs.Program.{Loss, AreDeclarable, One, Mean, Tail, Part, Share, partial_sums};
-ghost use Rattle.dl_model.specs.Plans.{declared};
-ghost use Rattle.dl_model.specs.Shares.{unit_mean};
+ghost use Rattle.dl_model.specs.Prelude.{Holds, Loss, AreDeclarable, One, Mean, Tail, Part, Share, partial_sums, declared, unit_mean};
 
 use dl_plan::Plan;
 

@@ -6,13 +6,8 @@ ghost use Rattle.dl_limits.specs.Limits.{rarest_parts};
 ghost use Rattle.dl_exact.specs.Fraction.{Fraction, whole, ◌over◌, ◌-ℚ◌, ◌<ℚ◌};
 ghost use Rattle.dl_iv.specs.Enclosure.{LiesIn};
 ghost use Rattle.dl_grid.specs.Cells.{low_at, high_at, spread};
-ghost use Rattle.dl_model.specs.Series.{Holds};
-ghost use Rattle.dl_model.specs.Program.{Loss, AreDeclarable, One, Point, Joint, partial_sums, total as total_of};
-ghost use Rattle.dl_model.specs.Family.{GridEncloses};
-ghost use Rattle.dl_model.specs.Measures.{unit_of, without, IsQuantile, AreDeclared};
-ghost use Rattle.dl_model.specs.Shares.{HoldsShare, unit_mean};
-ghost use Rattle.dl_measures.specs.Brackets.{IsFirstFound};
-ghost use Rattle.dl_measures.specs.Ends.{low_cdf};
+ghost use Rattle.dl_model.specs.Prelude.{Holds, Loss, AreDeclarable, One, Point, Joint, partial_sums, total as total_of, GridEncloses, unit_of, without, IsQuantile, AreDeclared, HoldsShare, unit_mean};
+ghost use Rattle.dl_measures.specs.Prelude.{IsFirstFound, low_cdf};
 ghost use Rattle.dl_cotail.specs.Settled.{IsPast, IsOpen, IsRare, MayBeAbsent};
 ghost use Rattle.dl_cotail.specs.Widths.{conditional_width, cotail_width};
 

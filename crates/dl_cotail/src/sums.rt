@@ -1,13 +1,9 @@
 //! Sums of joint means.
 
 ghost use Rattle.std.specs.Prelude.{◌≡◌, ℕ, ◌-◌, ◌*◌, ◌^◌, ◌<◌, ◌≤◌, List, length};
-ghost use Rattle.dl_exact.specs.Fraction.{◌over◌};
-ghost use Rattle.dl_exact.specs.Sum.{sum_to};
+ghost use Rattle.dl_exact.specs.Prelude.{◌over◌, sum_to};
 ghost use Rattle.dl_grid.specs.Cells.{low_at, high_at, spread, IsGrid};
-ghost use Rattle.dl_model.specs.Series.{Holds};
-ghost use Rattle.dl_model.specs.Program.{Loss, AreDeclarable, One, Joint, partial_sums, total};
-ghost use Rattle.dl_model.specs.Family.{GridEncloses};
-ghost use Rattle.dl_model.specs.Measures.{unit_of, without};
+ghost use Rattle.dl_model.specs.Prelude.{Holds, Loss, AreDeclarable, One, Joint, partial_sums, total, GridEncloses, unit_of, without};
 ghost use Rattle.dl_cotail.specs.Sums.{low_sums, high_sums};
 ghost use Rattle.dl_cotail.specs.Widths.{joint_width};
 

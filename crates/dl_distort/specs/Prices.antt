@@ -3,9 +3,7 @@ use Rattle.std.specs.Prelude.{ℕ, ◌≡◌, ◌+◌, ◌*◌, ◌^◌, List, m
 use Rattle.dl_exact.specs.Fraction.{whole, ◌*ℚ◌}
 use Rattle.dl_grid.specs.Width.{up, tail_width}
 use Rattle.dl_plan.specs.declared.settings.Term.{Term}
-use Rattle.dl_model.specs.Series.{Series}
-use Rattle.dl_model.specs.Program.{Quantity, PricedTerm}
-use Rattle.dl_model.specs.Measures.{IsQuantile}
+use Rattle.dl_model.specs.Prelude.{Series, Quantity, PricedTerm, IsQuantile}
 
 -- a term without the number for its quantile
 abbrev pub term_of : PricedTerm → Term

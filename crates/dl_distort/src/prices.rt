@@ -5,12 +5,8 @@ ghost use Rattle.std.specs.Int.{div_ceil};
 ghost use Rattle.dl_exact.specs.Fraction.{whole, ◌over◌, ◌*ℚ◌, ◌≤ℚ◌, ◌<ℚ◌};
 ghost use Rattle.dl_grid.specs.Cells.{low_at, spread};
 ghost use Rattle.dl_plan.specs.Terms.{ArePriced};
-ghost use Rattle.dl_model.specs.Series.{AtLeast, Holds};
-ghost use Rattle.dl_model.specs.Program.{Loss, PricedTerm, One, Mean, Tail, Price, partial_sums, total};
-ghost use Rattle.dl_model.specs.Family.{GridEncloses};
-ghost use Rattle.dl_model.specs.Measures.{IsQuantile, AreDeclared};
-ghost use Rattle.dl_measures.specs.Ends.{low_cdf};
-ghost use Rattle.dl_measures.specs.Brackets.{IsFirstFound};
+ghost use Rattle.dl_model.specs.Prelude.{AtLeast, Holds, Loss, PricedTerm, One, Mean, Tail, Price, partial_sums, total, GridEncloses, IsQuantile, AreDeclared};
+ghost use Rattle.dl_measures.specs.Prelude.{low_cdf, IsFirstFound};
 ghost use Rattle.dl_distort.specs.Prices.{AreTermsOf, AreQuantiles, most_tail, term_width, price_width};
 
 use dl_grid::Grid;

@@ -2,8 +2,7 @@
 use Rattle.dl_eval.proofs.Common.{ℕ, ◌≡◌, ◌-◌, ◌^◌, ◌<◌, ◌≤◌, List, [], ◌∷◌, length, get_or, map, arith, inl, inr, sym, ap, subst, pow_pos, length-map, Option, None, Some, IfSome, Fraction, ◌over◌, ◌≤ℚ◌, Iv, over_le_over, low_at, spread, low_cdf, Holds, One, Mean, partial_sums, total, GridEncloses, unit_of, AreDeclarable, AreDeclared, Loss, loss_of, aggregates_of, plan_declared, plan_units, at_least_wider, at_most_wider, Plan, IsValid, Row, ask_budget, in_digits, unit_budgets, unit_mean_budget, total_budget, at_the_end, index_of, IsAnswerTo, total_error, AreUnitMeans, IsTotalOf, AreOthersOf, Prints, ◌⊎◌, get_or-map, IsNone, UnitOfPlan, others_budget, cotail_budget, IsQuantile, without, declared, IsFirstFound, DeclaresShare, IsAtLeast, IsBeyond, IsTailShare, IsNoTailShare, IsTailShareOf, independent, le_refl, plus_le_both, sub_le_both, lt_of_lt_of_le, IsGridOfUnit}
 use Rattle.dl_plan.specs.declared.settings.Ask.TheVariants as asks
 use Rattle.dl_model.specs.Shares.{HoldsShare, unit_mean}
-use Rattle.dl_cotail.specs.Settled.{IsPast, MayBeAbsent}
-use Rattle.dl_cotail.specs.Widths.{cotail_width}
+use Rattle.dl_cotail.specs.Prelude.{IsPast, MayBeAbsent, cotail_width}
 use Rattle.dl_eval.proofs.Losses.{is_independent, total_alone}
 use Rattle.dl_eval.proofs.Printed.{Widens, are_ends}
 use Rattle.dl_eval.proofs.Tails.{tail_reached}

@@ -3,14 +3,10 @@
 use Rattle.std.specs.Prelude.{ℕ, ◌≡◌, ◌+◌, ◌-◌, ◌^◌, ◌<◌, ◌≤◌, ◌⊎◌, Option, None, Some, MatchOption, List, All, Any}
 use Rattle.dl_limits.specs.Limits.{rarest_parts, bits_of}
 use Rattle.dl_exact.specs.Fraction.{Fraction, ◌over◌, ◌+ℚ◌}
-use Rattle.dl_model.specs.Series.{Holds, AtLeast, AtMost, Below}
-use Rattle.dl_model.specs.Program.{Quantity, PricedTerm, One, Point, Cdf, Mean, Layer, Tail, Price, Joint}
-use Rattle.dl_model.specs.Measures.{IsQuantile, IsBracketed}
+use Rattle.dl_model.specs.Prelude.{Holds, AtLeast, AtMost, Below, Quantity, PricedTerm, One, Point, Cdf, Mean, Layer, Tail, Price, Joint, IsQuantile, IsBracketed, HoldsShare, declared}
 use Rattle.dl_measures.specs.Ends.{IsTight}
-use Rattle.dl_model.specs.Shares.{HoldsShare}
 use Rattle.dl_distort.specs.Prices.{AreTermsOf, AreQuantiles}
 use Rattle.dl_cotail.specs.Settled.{MayBeAbsent}
-use Rattle.dl_model.specs.Plans.{declared}
 use Rattle.dl_plan.specs.declared.plan.Plan.{Plan}
 use Rattle.dl_plan.specs.declared.settings.Ask.{Ask}
 use Rattle.dl_plan.specs.declared.settings.Ask.TheVariants as asks
@@ -19,8 +15,7 @@ use Rattle.dl_plan.specs.declared.settings.Term.{Term}
 use Rattle.dl_report.specs.declared.report.End.{End}
 use Rattle.dl_report.specs.declared.report.End.TheVariants.{Number, Whole, Beyond, Absent}
 use Rattle.dl_report.specs.declared.report.Row.{Row}
-use Rattle.dl_budget.specs.Units.{total_budget}
-use Rattle.dl_budget.specs.Asks.{index_of, needed}
+use Rattle.dl_budget.specs.Prelude.{total_budget, index_of, needed}
 
 -- the ends of a plan's grids and means are in units of 1 over this
 abbrev pub scale : Plan → ℕ

@@ -2,28 +2,18 @@
 -- one.
 use Rattle.std.specs.Prelude.{ℕ, ◌≡◌, ◌+◌, ◌*◌, ◌/◌, ◌<◌, ◌≤◌, ◌^◌, ◌↔◌, Bool, false, IsTrue, Option, None, Some, IsSome, IfSome, All, Any, List, [], ◌∷◌, length, get_or}
 use Rattle.std.specs.Int.{div_ceil}
-use Rattle.dl_exact.specs.Fraction.{Fraction, ◌over◌}
+use Rattle.dl_exact.specs.Prelude.{Fraction, ◌over◌}
 use Rattle.dl_iv.specs.declared.interval.Iv.{Iv}
 use Rattle.dl_grid.specs.Cells.{low_at, high_at, spread}
-use Rattle.dl_model.specs.Series.{Holds}
-use Rattle.dl_model.specs.Family.{GridEncloses}
-use Rattle.dl_model.specs.Units.{mapped}
-use Rattle.dl_model.specs.Program.{One, Point, Mean, Joint, partial_sums, total}
-use Rattle.dl_model.specs.Measures.{unit_of, without}
-use Rattle.dl_model.specs.Plans.{aggregate_of, loss_of, aggregates_of, compound_of}
+use Rattle.dl_model.specs.Prelude.{Holds, GridEncloses, mapped, One, Point, Mean, Joint, partial_sums, total, unit_of, without, aggregate_of, loss_of, aggregates_of, compound_of}
 use Rattle.dl_common.specs.Pooled.{IsPooled, IsRaised}
 use Rattle.dl_plan.specs.declared.plan.Unit.{Unit as UnitOfPlan}
 use Rattle.dl_plan.specs.declared.plan.Plan.{Plan}
-use Rattle.dl_plan.specs.Horizon.{horizon}
-use Rattle.dl_plan.specs.MeanWidth.{mean_width}
+use Rattle.dl_plan.specs.Prelude.{horizon, mean_width}
 use Rattle.dl_cede.specs.Means.{HoldsMean}
-use Rattle.dl_budget.specs.Claims.{claims_budget}
-use Rattle.dl_budget.specs.Shared.{raised_budget}
-use Rattle.dl_budget.specs.Units.{after_clause, unit_budget, unit_budgets, unit_mean_budget, total_budget, others_budget, mean_budget}
+use Rattle.dl_budget.specs.Prelude.{claims_budget, raised_budget, after_clause, unit_budget, unit_budgets, unit_mean_budget, total_budget, others_budget, mean_budget, joint_budget, cotail_budget}
 use Rattle.dl_report.specs.declared.report.End.TheVariants.{Number}
 use Rattle.dl_report.specs.declared.report.Row.{Row}
-use Rattle.dl_budget.specs.Asks.{joint_budget, cotail_budget}
-use Rattle.dl_exact.specs.Fraction.{Fraction}
 use Rattle.dl_eval.specs.declared.grids.Grids.{Grids}
 use Rattle.dl_eval.specs.declared.pooled.PooledGrids.{PooledGrids}
 use Rattle.dl_eval.specs.Rows.{Declares, DeclaresShare}

@@ -2,8 +2,7 @@
 
 ghost use Rattle.std.specs.Prelude.{◌≡◌, ◌<◌, ◌≤◌, ◌↔◌, IsTrue, ℕ, List, None, All, IfOk, IfSome, MatchOption, MatchResult, length};
 ghost use Rattle.dl_limits.specs.Limits.{bits_of, most_asks, most_units};
-ghost use Rattle.dl_plan.specs.Ranges.{AreInRange};
-ghost use Rattle.dl_plan.specs.Valid.{IsValid};
+ghost use Rattle.dl_plan.specs.Prelude.{AreInRange, IsValid};
 ghost use Rattle.dl_budget.specs.Asks.{IsInside, NamesUnit, named_units};
 ghost use Rattle.dl_eval.specs.Answers.{AreInside, NameUnits, HasShare, AllPass, IsFirstNot, IsFirstWide, AreAdmitted, RefusesAsk};
 

@@ -3,8 +3,7 @@
 ghost use Rattle.std.specs.Prelude.{◌≡◌, ◌≤◌, ◌^◌, ◌↔◌, IsTrue, IsSome, None, All, Any, IfOk, MatchResult, IfSome, length};
 ghost use Rattle.dl_limits.specs.Limits.{bits_of};
 ghost use Rattle.dl_plan.specs.declared.settings.Ask.TheVariants as kinds;
-ghost use Rattle.dl_plan.specs.Ranges.{AreInRange};
-ghost use Rattle.dl_plan.specs.Valid.{IsValid};
+ghost use Rattle.dl_plan.specs.Prelude.{AreInRange, IsValid};
 ghost use Rattle.dl_budget.specs.Asks.{named_units};
 ghost use Rattle.dl_eval.specs.Answers.{AreInside, NameUnits, HaveShares, IsGoodReport, IsAnswered, RefusesAsk};
 ghost use Rattle.dl_eval.specs.Totals.{most_mean, AreUnits, IsMeanOf};

@@ -4,9 +4,7 @@ ghost use Rattle.std.specs.Prelude.{◌≡◌, ◌≤◌, ◌^◌, ◌⊎◌, �
 ghost use Rattle.dl_limits.specs.Limits.{IsPlanScale, bits_of, most_digits};
 ghost use Rattle.dl_plan.specs.declared.plan.Plan.{Plan as PlanValue};
 ghost use Rattle.dl_plan.specs.declared.settings.Ask.TheVariants as asks;
-ghost use Rattle.dl_plan.specs.Ranges.{IsLevel, IsAskInRange};
-ghost use Rattle.dl_plan.specs.Terms.{ArePriced};
-ghost use Rattle.dl_plan.specs.Valid.{IsValid};
+ghost use Rattle.dl_plan.specs.Prelude.{IsLevel, IsAskInRange, ArePriced, IsValid};
 ghost use Rattle.dl_budget.specs.Asks.{IsInside, NamesUnit, named_unit, tail_budget, price_budget, in_digits};
 ghost use Rattle.dl_eval.specs.Rows.{IsBracket, IsTailMean, IsBeyond, IsPastGrid, IsPrice, IsBeyondSome, IsAnswerTo, IsGood, bracket_end, total_error};
 ghost use Rattle.dl_eval.specs.Totals.{most_mean, IsTotalOf, IsMeanOf, Prints};

@@ -3,18 +3,15 @@
 ghost use Rattle.std.specs.Prelude.{◌≡◌, ◌*◌, ◌^◌, ◌<◌, ◌≤◌, ◌⊎◌, IsSome, IsNone, IfSome, Some, None, ℕ, IfOk, length, get_or};
 ghost use Rattle.dl_limits.specs.Limits.{bits_of, budget_bound, most_digits};
 ghost use Rattle.dl_exact.specs.Fraction.{◌over◌};
-ghost use Rattle.dl_model.specs.Program.{Point};
-ghost use Rattle.dl_plan.specs.Valid.{IsValid};
+ghost use Rattle.dl_model.specs.Prelude.{Point, declared};
+ghost use Rattle.dl_plan.specs.Prelude.{IsValid, IsLevel};
 ghost use Rattle.dl_budget.specs.Asks.{kappa_budget, cotail_budget, in_digits};
 ghost use Rattle.dl_eval.specs.Rows.{IsAtLeast, IsAtMost, IsBeyond, IsShareOfUnit, IsTooRare, IsTailShare, IsNoTailShare, at_the_end, total_error};
 ghost use Rattle.dl_eval.specs.Totals.{AreGridsOf, AreOthersOf, IsGridOfUnit, IsJointOf, IsTailShareOf};
 ghost use Rattle.dl_eval.specs.Drawn.{AreDrawnOf, HasShareOf};
 ghost use Rattle.dl_grid.specs.Cells.{low_at, spread};
-ghost use Rattle.dl_model.specs.Plans.{declared};
-ghost use Rattle.dl_measures.specs.Brackets.{IsFirstFound};
-ghost use Rattle.dl_measures.specs.Ends.{low_cdf};
+ghost use Rattle.dl_measures.specs.Prelude.{IsFirstFound, low_cdf};
 ghost use Rattle.dl_cotail.specs.Settled.{MayBeAbsent};
-ghost use Rattle.dl_plan.specs.Ranges.{IsLevel};
 
 use crate::drawn::PlanGrids;
 use crate::grids::Grids;

@@ -4,12 +4,10 @@ ghost use Rattle.std.specs.Prelude.{ℕ, List, Some, ◌≡◌, ◌-◌, ◌<◌
 ghost use Rattle.dl_limits.specs.Limits.{bits_of, most_horizon, most_plan_cells};
 ghost use Rattle.dl_iv.specs.declared.interval.Iv.{Iv as IvValue};
 ghost use Rattle.dl_grid.specs.Cells.{spread};
-ghost use Rattle.dl_model.specs.Family.{GridEncloses};
-ghost use Rattle.dl_model.specs.Plans.{aggregate_of, compound_of};
+ghost use Rattle.dl_model.specs.Prelude.{GridEncloses, aggregate_of, compound_of};
 ghost use Rattle.dl_plan.specs.declared.plan.Unit.{Unit as UnitOfPlan};
-ghost use Rattle.dl_plan.specs.Horizon.{IsHorizonOf};
+ghost use Rattle.dl_plan.specs.Prelude.{IsHorizonOf, IsValidUnit, IsValid};
 ghost use Rattle.dl_zero.specs.Before.{HoldsNone};
-ghost use Rattle.dl_plan.specs.Valid.{IsValidUnit, IsValid};
 ghost use Rattle.dl_budget.specs.Claims.{claims_budget, none_budget};
 ghost use Rattle.dl_eval.specs.Totals.{most_clause_mean, most_unit_mean, IsClauseGrid, IsClauseMean, IsUnitGrid, IsUnitMean, AreUnitGrids, AreUnitMeans};
 

@@ -5,3 +5,4 @@ pub mod Rounding
 pub mod Power
 pub mod Sum
 pub mod Count
+pub mod Prelude

@@ -2,8 +2,7 @@
 -- exponential's series, in whole units of 1 / 2^63, one rounded up and one rounded down.
 use Rattle.std.specs.Prelude.{ℕ, zero, suc, ◌+◌, ◌*◌, ◌/◌, ◌^◌}
 use Rattle.std.specs.Int.{div_ceil}
-use Rattle.dl_exact.specs.Fraction.{Fraction}
-use Rattle.dl_exact.specs.Count.{count_below}
+use Rattle.dl_exact.specs.Prelude.{Fraction, count_below}
 
 -- the term x^n / n! from the term before it, each rounded down
 unfoldable pub low_term : Fraction → ℕ → ℕ

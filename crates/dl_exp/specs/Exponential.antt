@@ -1,8 +1,6 @@
 -- The series of the exponential, and what it is that an interval encloses exp(-x).
 use Rattle.std.specs.Prelude.{ℕ, ◌^◌}
-use Rattle.dl_exact.specs.Fraction.{Fraction, whole, ◌over◌, ◌*ℚ◌, ◌/ℚ◌, ◌≤ℚ◌}
-use Rattle.dl_exact.specs.Power.{◌^ℚ◌, factorial}
-use Rattle.dl_exact.specs.Sum.{sum_to}
+use Rattle.dl_exact.specs.Prelude.{Fraction, whole, ◌over◌, ◌*ℚ◌, ◌/ℚ◌, ◌≤ℚ◌, ◌^ℚ◌, factorial, sum_to}
 use Rattle.dl_iv.specs.declared.interval.Iv.{Iv}
 
 -- x^n / n!

@@ -1,3 +1,4 @@
 pub mod Exact
 pub mod Numerals
 pub mod Reads
+pub mod Prelude

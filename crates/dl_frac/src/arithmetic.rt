@@ -3,9 +3,7 @@
 ghost use Rattle.std.specs.Prelude.{◌≡◌, ℕ, ◌*◌, ◌<◌, ◌≤◌, ◌^◌, ◌↔◌};
 ghost use Rattle.std.specs.Ordering.{MatchOrdering};
 ghost use Rattle.dl_limits.specs.Limits.{frac_bound};
-ghost use Rattle.dl_exact.specs.Gcd.{gcd};
-ghost use Rattle.dl_exact.specs.Fraction.{Fraction, whole, ◌over◌, ◌+ℚ◌, ◌*ℚ◌, ◌/ℚ◌, ◌<ℚ◌};
-ghost use Rattle.dl_exact.specs.Rounding.{IsFloor, IsCeiling};
+ghost use Rattle.dl_exact.specs.Prelude.{gcd, Fraction, whole, ◌over◌, ◌+ℚ◌, ◌*ℚ◌, ◌/ℚ◌, ◌<ℚ◌, IsFloor, IsCeiling};
 ghost use Rattle.dl_frac.specs.Exact.{Gives};
 
 use crate::divisors::{divisor, wide_divisor};

@@ -2,8 +2,7 @@
 
 ghost use Rattle.std.specs.Prelude.{◌≡◌, ◌<◌, ◌≤◌};
 ghost use Rattle.std.specs.Option.{SomeIff};
-ghost use Rattle.dl_exact.specs.Gcd.{gcd};
-ghost use Rattle.dl_exact.specs.Multiples.{lcm};
+ghost use Rattle.dl_exact.specs.Prelude.{gcd, lcm};
 
 /// The greatest common divisor, by Euclid's steps.
 pub(crate) fn divisor(a: u64, b: u64) -> u64

@@ -1,7 +1,6 @@
 -- The width rule's laws, over plain numbers.
 use Rattle.dl_grid.proofs.Common.{ℕ, zero, suc, ◌≡◌, ◌+◌, ◌-◌, ◌*◌, ◌^◌, ◌<◌, ◌≤◌, arith, refl, sym, ap, subst, ◌∙◌, div_ceil, mul-le-mul, le_of_mul-le-mul_right, div_ceil_times, pow_pos, add-one, mul-le-mul_left, mul-pos, pow_more}
-use Rattle.dl_exact.specs.Fraction.{Fraction, ◌over◌}
-use Rattle.dl_exact.specs.Rounding.{IsCeiling}
+use Rattle.dl_exact.specs.Prelude.{Fraction, ◌over◌, IsCeiling}
 use Rattle.dl_exact.proofs.Over.{over_self}
 use Rattle.dl_exact.proofs.RoundingLaws.{div_ceil_least, ceiling_div, ceiling_one}
 use Rattle.dl_grid.specs.Width.{up, convolution_spread, Binary, one, twice, twice_and_one, next, binary, binary_spread, power_spread, mixed_spread, rounded_spread, IsSizeWithin}

@@ -2,8 +2,7 @@
 
 ghost use Rattle.std.specs.Prelude.{◌≡◌, ℕ, ◌+◌, ◌*◌, ◌<◌, ◌≤◌};
 ghost use Rattle.std.specs.Int.{div_ceil};
-ghost use Rattle.dl_exact.specs.Fraction.{Fraction, ◌over◌};
-ghost use Rattle.dl_exact.specs.Rounding.{IsCeiling};
+ghost use Rattle.dl_exact.specs.Prelude.{Fraction, ◌over◌, IsCeiling};
 ghost use Rattle.dl_grid.specs.Width.{up, convolution_spread, power_spread, rounded_spread, IsSizeWithin};
 
 /// `up` is the ceiling, and of a quotient it is the quotient rounded up.

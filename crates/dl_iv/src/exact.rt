@@ -1,8 +1,7 @@
 //! Operations on intervals that round nothing.
 
 ghost use Rattle.std.specs.Prelude.{◌≡◌, ℕ, ◌+◌, ◌-◌, ◌^◌, ◌≤◌, min, List, sum_by};
-ghost use Rattle.dl_exact.specs.Fraction.{Fraction, whole, ◌over◌, ◌+ℚ◌, ◌-ℚ◌, ◌≤ℚ◌, lesser};
-ghost use Rattle.dl_exact.specs.Sum.{sum_over};
+ghost use Rattle.dl_exact.specs.Prelude.{Fraction, whole, ◌over◌, ◌+ℚ◌, ◌-ℚ◌, ◌≤ℚ◌, lesser, sum_over};
 ghost use Rattle.dl_iv.specs.Enclosure.{LiesIn, EachLiesIn};
 
 use crate::interval::Iv;

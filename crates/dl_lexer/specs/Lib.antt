@@ -5,3 +5,4 @@ pub mod Keywords
 pub mod Lines
 pub mod Numerals
 pub mod Tokens
+pub mod Prelude

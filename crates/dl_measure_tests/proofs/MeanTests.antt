@@ -4,8 +4,7 @@ use Rattle.std.proofs.Math.Nat.{le_trans, mul-le-mul, pow-le-pow_right}
 use Rattle.std.specs.Prelude.{All, IfSome}
 use Rattle.std.proofs.lemmas.List.Elements.{All-nil, All-cons}
 use Rattle.dl_plan.specs.declared.cede.CedeLayer.{CedeLayer}
-use Rattle.dl_plan.specs.Clause.{Clause}
-use Rattle.dl_plan.specs.Horizon.{edge_of, edge}
+use Rattle.dl_plan.specs.Prelude.{Clause, edge_of, edge}
 use Rattle.dl_cede.specs.Means.{IsNear}
 
 near_by : (limit : Option ℕ) (attach : ℕ) → edge_of limit attach ≤ 13 → IfSome limit (λ k. k ≤ 2 ^ 22)

@@ -3,9 +3,7 @@ use Rattle.std.proofs.Common.{ℕ, ◌≡◌, ◌+◌, ◌<◌, ◌≤◌, arith
 use Prim.Native.Nat.{◌∣◌}
 use Rattle.std.proofs.Math.Nat.{one-dvd}
 use Rattle.std.proofs.lemmas.Nat.Gcd.{le_of_dvd}
-use Rattle.dl_exact.specs.Fraction.{Fraction, ◌over◌, ◌+ℚ◌}
-use Rattle.dl_exact.specs.Sum.{sum_over}
-use Rattle.dl_exact.specs.Gcd.{gcd}
+use Rattle.dl_exact.specs.Prelude.{Fraction, ◌over◌, ◌+ℚ◌, sum_over, gcd}
 use Rattle.dl_exact.proofs.GcdLaws.{gcd_is}
 use Rattle.dl_exact.proofs.Multiples.{part_divides, lcm_least}
 use Rattle.dl_exact.proofs.Over.{over_den}

@@ -1,10 +1,8 @@
 -- What a grid that encloses a total gives for its distribution, its layers and its brackets: ends
 -- in units of 1 / scale, lo and hi those of the cells.
 use Rattle.std.specs.Prelude.{ℕ, suc, ◌≡◌, ◌<◌, ◌≤◌, ◌+◌, ◌-◌, min, Option, Some}
-use Rattle.dl_exact.specs.Fraction.{Fraction, ◌over◌, ◌+ℚ◌, ◌-ℚ◌}
-use Rattle.dl_exact.specs.Count.{count_below}
-use Rattle.dl_model.specs.Series.{Series, AtMost, AtLeast}
-use Rattle.dl_model.specs.Program.{Quantity, One, Cdf}
+use Rattle.dl_exact.specs.Prelude.{Fraction, ◌over◌, ◌+ℚ◌, ◌-ℚ◌, count_below}
+use Rattle.dl_model.specs.Prelude.{Series, AtMost, AtLeast, Quantity, One, Cdf}
 
 -- the low end of the distribution at x: the sum of the low ends up to x
 abbrev pub low_cdf : (scale : ℕ) → (lo : ℕ → ℕ) → ℕ → Fraction

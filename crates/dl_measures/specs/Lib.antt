@@ -1,3 +1,4 @@
 pub mod Brackets
 pub mod Layers
 pub mod Ends
+pub mod Prelude

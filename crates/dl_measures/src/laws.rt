@@ -2,12 +2,8 @@
 //! units of 1 / `scale`.
 
 ghost use Rattle.std.specs.Prelude.{ℕ, ◌≡◌, ◌+◌, ◌-◌, ◌*◌, ◌<◌, ◌≤◌, min, suc, Option, List, Some};
-ghost use Rattle.dl_exact.specs.Fraction.{Fraction, whole, ◌over◌, ◌<ℚ◌, ◌≤ℚ◌};
-ghost use Rattle.dl_exact.specs.Count.{count_below};
-ghost use Rattle.dl_model.specs.Series.{IsBound, Holds};
-ghost use Rattle.dl_model.specs.Program.{Loss, AreDeclarable, One, Cdf, Layer, partial_sums, total};
-ghost use Rattle.dl_model.specs.Family.{Encloses};
-ghost use Rattle.dl_model.specs.Measures.{IsBracketed};
+ghost use Rattle.dl_exact.specs.Prelude.{Fraction, whole, ◌over◌, ◌<ℚ◌, ◌≤ℚ◌, count_below};
+ghost use Rattle.dl_model.specs.Prelude.{IsBound, Holds, Loss, AreDeclarable, One, Cdf, Layer, partial_sums, total, Encloses, IsBracketed};
 ghost use Rattle.dl_measures.specs.Ends.{low_cdf, high_cdf, low_layer, high_layer, IsTight};
 
 /// The distribution at `x` lies between the sum of the low ends up to `x` and the least of `scale`

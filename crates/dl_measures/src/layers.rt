@@ -1,14 +1,9 @@
 //! Layers.
 
 ghost use Rattle.std.specs.Prelude.{◌≡◌, ℕ, ◌+◌, ◌-◌, ◌^◌, ◌≤◌, min, suc, List, length, None};
-ghost use Rattle.dl_exact.specs.Fraction.{◌over◌};
-ghost use Rattle.dl_grid.specs.Cells.{low_at, high_at, spread};
-ghost use Rattle.dl_model.specs.Series.{Holds};
-ghost use Rattle.dl_exact.specs.Count.{count_below};
-ghost use Rattle.dl_model.specs.Program.{Loss, One, Mean, Layer, partial_sums, total};
-ghost use Rattle.dl_model.specs.Family.{GridEncloses};
-ghost use Rattle.dl_model.specs.Measures.{AreDeclared};
-ghost use Rattle.dl_grid.specs.Width.{layer_width};
+ghost use Rattle.dl_exact.specs.Prelude.{◌over◌, count_below};
+ghost use Rattle.dl_grid.specs.Prelude.{low_at, high_at, spread, layer_width};
+ghost use Rattle.dl_model.specs.Prelude.{Holds, Loss, One, Mean, Layer, partial_sums, total, GridEncloses, AreDeclared};
 ghost use Rattle.dl_plan.specs.Horizon.{edge_of};
 ghost use Rattle.dl_measures.specs.Layers.{layer_most};
 

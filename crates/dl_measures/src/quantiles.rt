@@ -3,9 +3,7 @@
 ghost use Rattle.std.specs.Prelude.{◌≡◌, ℕ, ◌^◌, ◌<◌, ◌≤◌, List, length, Some};
 ghost use Rattle.dl_exact.specs.Fraction.{whole, ◌over◌, ◌<ℚ◌};
 ghost use Rattle.dl_grid.specs.Cells.{low_at, high_at, spread};
-ghost use Rattle.dl_model.specs.Program.{Loss, AreDeclarable, total, partial_sums};
-ghost use Rattle.dl_model.specs.Family.{GridEncloses};
-ghost use Rattle.dl_model.specs.Measures.{IsQuantile, IsBracketed, AreDeclared};
+ghost use Rattle.dl_model.specs.Prelude.{Loss, AreDeclarable, total, partial_sums, GridEncloses, IsQuantile, IsBracketed, AreDeclared};
 ghost use Rattle.dl_measures.specs.Ends.{low_cdf, high_cdf, IsTight};
 ghost use Rattle.dl_measures.specs.Brackets.{IsFirstAtLeast, IsFirstFound};
 

@@ -3,14 +3,10 @@
 ghost use Rattle.std.specs.Prelude.{◌≡◌, ◌↔◌, ℕ, ◌+◌, ◌-◌, ◌*◌, ◌/◌, ◌^◌, ◌≤◌, List, length, None, IsNone, IfSome};
 ghost use Rattle.std.specs.Int.{div_ceil};
 ghost use Rattle.dl_exact.specs.Fraction.{whole, ◌over◌, ◌<ℚ◌};
-ghost use Rattle.dl_grid.specs.Cells.{low_at, spread};
-ghost use Rattle.dl_model.specs.Series.{AtLeast, Holds};
-ghost use Rattle.dl_model.specs.Program.{Loss, One, Mean, Tail, partial_sums, total};
-ghost use Rattle.dl_model.specs.Family.{GridEncloses};
-ghost use Rattle.dl_model.specs.Measures.{IsQuantile, AreDeclared};
+ghost use Rattle.dl_grid.specs.Prelude.{low_at, spread, tail_width};
+ghost use Rattle.dl_model.specs.Prelude.{AtLeast, Holds, Loss, One, Mean, Tail, partial_sums, total, GridEncloses, IsQuantile, AreDeclared};
 ghost use Rattle.dl_measures.specs.Ends.{low_cdf};
 ghost use Rattle.dl_measures.specs.Brackets.{IsFirstFound};
-ghost use Rattle.dl_grid.specs.Width.{tail_width};
 
 use crate::layers::layer_mean;
 use crate::quantiles::quantile;

@@ -1,8 +1,7 @@
 -- Claim counts whose probability of no claim is changed to p (Loss Models, "Truncation and
 -- modification at zero"); zero-truncated counts are those with p = 0.
 use Rattle.std.specs.Prelude.{ℕ, zero, suc, ◌≡◌, ◌*◌, nat_eq}
-use Rattle.dl_exact.specs.Fraction.{Fraction, whole, ◌+ℚ◌, ◌-ℚ◌, ◌*ℚ◌, ◌/ℚ◌}
-use Rattle.dl_exact.specs.Sum.{sum_to}
+use Rattle.dl_exact.specs.Prelude.{Fraction, whole, ◌+ℚ◌, ◌-ℚ◌, ◌*ℚ◌, ◌/ℚ◌, sum_to}
 use Rattle.dl_model.specs.Series.{Series}
 use Rattle.dl_model.specs.Program.{Loss, where_true}
 use Rattle.dl_model.specs.Units.{Aggregate, outcome}

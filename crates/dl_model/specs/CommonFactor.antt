@@ -2,9 +2,7 @@
 -- means of all units, their claim counts are independent Poisson counts (Loss Models, "Mixed
 -- frequency distributions").
 use Rattle.std.specs.Prelude.{ℕ, zero, suc, ◌≡◌, ◌+◌, ◌-◌, ◌*◌, List, [], ◌∷◌, map, sum}
-use Rattle.dl_exact.specs.Fraction.{Fraction, whole, ◌+ℚ◌, ◌*ℚ◌, ◌/ℚ◌}
-use Rattle.dl_exact.specs.Power.{◌^ℚ◌, factorial, choose}
-use Rattle.dl_exact.specs.Sum.{sum_to, sum_pairs, sum_over}
+use Rattle.dl_exact.specs.Prelude.{Fraction, whole, ◌+ℚ◌, ◌*ℚ◌, ◌/ℚ◌, ◌^ℚ◌, factorial, choose, sum_to, sum_pairs, sum_over}
 use Rattle.dl_model.specs.Series.{Series}
 use Rattle.dl_model.specs.Compound.{power}
 use Rattle.dl_model.specs.Severity.{IsSeverity}

@@ -1,9 +1,7 @@
 -- The units of a plan as units under a common factor.
 use Rattle.std.specs.Prelude.{List, map}
 use Rattle.dl_plan.specs.declared.plan.Unit.{Unit as UnitOfPlan}
-use Rattle.dl_plan.specs.Weighted.{greatest}
-use Rattle.dl_plan.specs.Severity.{probability_of}
-use Rattle.dl_plan.specs.Count.{expected_count}
+use Rattle.dl_plan.specs.Prelude.{greatest, probability_of, expected_count}
 use Rattle.dl_model.specs.CommonFactor.{PoissonUnit}
 
 -- a unit of a plan with a Poisson count, as a unit under a common factor

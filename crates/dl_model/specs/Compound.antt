@@ -1,8 +1,7 @@
 -- Compound sums: a random number of claims of random amounts (Klugman, Panjer and Willmot, Loss
 -- Models, "Aggregate loss models").
 use Rattle.std.specs.Prelude.{ℕ, zero, suc, ◌+◌}
-use Rattle.dl_exact.specs.Fraction.{Fraction, whole, ◌*ℚ◌}
-use Rattle.dl_exact.specs.Sum.{sum_to, sum_pairs}
+use Rattle.dl_exact.specs.Prelude.{Fraction, whole, ◌*ℚ◌, sum_to, sum_pairs}
 
 -- the convolution of f and g, the sum of f i * g j over all i + j = s: the probability that two
 -- independent amounts add up to s

@@ -1,8 +1,6 @@
 -- Families of outcomes, and what it is that a grid encloses one.
 use Rattle.std.specs.Prelude.{ℕ, ◌^◌, ◌<◌, List, length}
-use Rattle.dl_exact.specs.Fraction.{Fraction, whole, ◌over◌, ◌*ℚ◌, ◌≤ℚ◌}
-use Rattle.dl_exact.specs.Power.{◌^ℚ◌}
-use Rattle.dl_exact.specs.Sum.{sum_to, sum_pairs}
+use Rattle.dl_exact.specs.Prelude.{Fraction, whole, ◌over◌, ◌*ℚ◌, ◌≤ℚ◌, ◌^ℚ◌, sum_to, sum_pairs}
 use Rattle.dl_iv.specs.declared.interval.Iv.{Iv}
 use Rattle.dl_grid.specs.Cells.{low_at, high_at}
 use Rattle.dl_model.specs.Series.{Series, Rises, Holds, SameValue, times}

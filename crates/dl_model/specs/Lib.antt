@@ -15,3 +15,4 @@ pub mod Measures
 pub mod Units
 pub mod Plans
 pub mod Shares
+pub mod Prelude

@@ -1,8 +1,7 @@
 -- Quantiles and their brackets, what is above a sum, one unit beside the others, and what can be
 -- declared and asked.
 use Rattle.std.specs.Prelude.{ℕ, zero, suc, ◌≡◌, nat_lt, Option, Some, List, [], ◌∷◌, sum}
-use Rattle.dl_exact.specs.Fraction.{Fraction, whole, ◌*ℚ◌, ◌<ℚ◌}
-use Rattle.dl_exact.specs.Sum.{sum_to}
+use Rattle.dl_exact.specs.Prelude.{Fraction, whole, ◌*ℚ◌, ◌<ℚ◌, sum_to}
 use Rattle.dl_model.specs.Series.{Series, IsBound, AtLeast, Below, Settles}
 use Rattle.dl_model.specs.Program.{Loss, IsLoss, Quantity, One, Point, Cdf, Mean, Layer, Tail, Joint, Price, Part, Share, PricedTerm, where_true, sum_over_outcomes}
 use Rattle.dl_model.specs.Family.{Family, nothing}

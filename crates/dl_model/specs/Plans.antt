@@ -7,9 +7,7 @@ use Rattle.dl_plan.specs.declared.plan.Freq.{Freq}
 use Rattle.dl_plan.specs.declared.plan.Freq.TheVariants.{Fixed, Table, Bernoulli, Binomial, Poisson, Gamma}
 use Rattle.dl_plan.specs.declared.plan.Unit.{Unit as UnitOfPlan}
 use Rattle.dl_plan.specs.declared.plan.Plan.{Plan}
-use Rattle.dl_plan.specs.Weighted.{weight_at, greatest}
-use Rattle.dl_plan.specs.Severity.{probability_of}
-use Rattle.dl_plan.specs.Clause.{Clause, ceded, kept}
+use Rattle.dl_plan.specs.Prelude.{weight_at, greatest, probability_of, Clause, ceded, kept}
 use Rattle.dl_model.specs.Counts.{fixed, binomial, poisson, gamma_of}
 use Rattle.dl_model.specs.Series.{Series}
 use Rattle.dl_model.specs.Program.{Loss, Quantity, sum_over_outcomes, partial_sums}

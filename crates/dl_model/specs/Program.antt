@@ -1,7 +1,6 @@
 -- The quantities that independent losses declare of their total.
 use Rattle.std.specs.Prelude.{ℕ, suc, ◌≡◌, ◌-◌, ◌<◌, ◌≤◌, Bool, true, false, nat_eq, nat_le, nat_lt, Option, List, [], ◌∷◌, sum, get_or}
-use Rattle.dl_exact.specs.Fraction.{Fraction, whole, ◌+ℚ◌, ◌-ℚ◌, ◌*ℚ◌, ◌/ℚ◌}
-use Rattle.dl_exact.specs.Sum.{sum_to, sum_over}
+use Rattle.dl_exact.specs.Prelude.{Fraction, whole, ◌+ℚ◌, ◌-ℚ◌, ◌*ℚ◌, ◌/ℚ◌, sum_to, sum_over}
 use Rattle.dl_plan.specs.Clause.{layer}
 use Rattle.dl_model.specs.Series.{Series, Rises}
 use Rattle.dl_model.specs.Family.{Family}

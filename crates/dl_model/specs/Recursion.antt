@@ -1,7 +1,6 @@
 -- Panjer's recursion (Loss Models, "The recursive method").
 use Rattle.std.specs.Prelude.{ℕ, zero, suc, ◌≡◌}
-use Rattle.dl_exact.specs.Fraction.{Fraction, whole, ◌over◌, ◌+ℚ◌, ◌*ℚ◌}
-use Rattle.dl_exact.specs.Sum.{sum_pairs}
+use Rattle.dl_exact.specs.Prelude.{Fraction, whole, ◌over◌, ◌+ℚ◌, ◌*ℚ◌, sum_pairs}
 
 -- The part of cell s + 1 that comes from the cells before it: the sum, over the amounts 1 + i that
 -- leave k = s - i, of (a + b * (1 + i) / (s + 1)) * f (1 + i) * r k.

@@ -1,7 +1,6 @@
 -- What the probabilities of a severity are.
 use Rattle.std.specs.Prelude.{ℕ, zero, suc, ◌≡◌, ◌<◌}
-use Rattle.dl_exact.specs.Fraction.{Fraction, whole, ◌+ℚ◌, ◌*ℚ◌, ◌≤ℚ◌}
-use Rattle.dl_exact.specs.Sum.{sum_to}
+use Rattle.dl_exact.specs.Prelude.{Fraction, whole, ◌+ℚ◌, ◌*ℚ◌, ◌≤ℚ◌, sum_to}
 
 -- the probabilities of the amounts from 0 on add up to at most 1
 abbrev pub IsWithinOne : (ℕ → Fraction) → Type 0

@@ -1,7 +1,6 @@
 -- The loss of a unit, from its claims and its aggregate clause.
 use Rattle.std.specs.Prelude.{ℕ, ◌*◌, ◌≤◌, nat_eq, List}
-use Rattle.dl_exact.specs.Fraction.{Fraction}
-use Rattle.dl_exact.specs.Sum.{sum_to}
+use Rattle.dl_exact.specs.Prelude.{Fraction, sum_to}
 use Rattle.dl_plan.specs.declared.item.Item.{Item}
 use Rattle.dl_plan.specs.Weighted.{greatest}
 use Rattle.dl_model.specs.Series.{Series}

@@ -2,14 +2,10 @@
 //! and from those of the layers of that sum.
 
 ghost use Rattle.std.specs.Prelude.{ℕ, ◌≡◌, ◌++◌, true, false, None, Some, List, [], ◌∷◌, All};
-ghost use Rattle.dl_exact.specs.Fraction.{Fraction, whole, ◌+ℚ◌, ◌-ℚ◌, ◌*ℚ◌};
-ghost use Rattle.dl_exact.specs.Sum.{sum_over};
+ghost use Rattle.dl_exact.specs.Prelude.{Fraction, whole, ◌+ℚ◌, ◌-ℚ◌, ◌*ℚ◌, sum_over};
 ghost use Rattle.dl_plan.specs.declared.cede.CedeLayer.{CedeLayer};
 ghost use Rattle.dl_plan.specs.declared.plan.Unit.{Unit as UnitOfPlan};
-ghost use Rattle.dl_plan.specs.Severity.{pairs_of, mean_amount};
-ghost use Rattle.dl_plan.specs.Clause.{Clause};
-ghost use Rattle.dl_plan.specs.Count.{expected_count};
-ghost use Rattle.dl_plan.specs.Valid.{IsValidUnit};
+ghost use Rattle.dl_plan.specs.Prelude.{pairs_of, mean_amount, Clause, expected_count, IsValidUnit};
 ghost use Rattle.dl_model.specs.Series.{Holds};
 ghost use Rattle.dl_model.specs.Program.{One, Mean, Layer, partial_sums, total};
 ghost use Rattle.dl_model.specs.Family.{Encloses};

@@ -3,8 +3,7 @@
 //! distributions").
 
 ghost use Rattle.std.specs.Prelude.{ℕ, suc, ◌≡◌, ◌*◌, ◌<◌, ◌≤◌, Option, List, [], ◌∷◌};
-ghost use Rattle.dl_exact.specs.Fraction.{Fraction, whole, ◌+ℚ◌, ◌*ℚ◌, ◌/ℚ◌, ◌≤ℚ◌, ◌<ℚ◌};
-ghost use Rattle.dl_exact.specs.Sum.{sum_to, sum_pairs};
+ghost use Rattle.dl_exact.specs.Prelude.{Fraction, whole, ◌+ℚ◌, ◌*ℚ◌, ◌/ℚ◌, ◌≤ℚ◌, ◌<ℚ◌, sum_to, sum_pairs};
 ghost use Rattle.dl_model.specs.Series.{IsBound, AtLeast, Holds};
 ghost use Rattle.dl_model.specs.Compound.{convolve, cell};
 ghost use Rattle.dl_model.specs.Counts.{gamma, gamma_of};

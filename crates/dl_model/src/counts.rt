@@ -2,9 +2,7 @@
 //! of weights, counts added up, and claims of amount 0 left out.
 
 ghost use Rattle.std.specs.Prelude.{ℕ, suc, ◌≡◌, ◌-◌, ◌<◌, ◌≤◌};
-ghost use Rattle.dl_exact.specs.Fraction.{Fraction, whole, ◌over◌, ◌+ℚ◌, ◌*ℚ◌, ◌/ℚ◌, ◌<ℚ◌, ◌≤ℚ◌};
-ghost use Rattle.dl_exact.specs.Power.{◌^ℚ◌};
-ghost use Rattle.dl_exact.specs.Sum.{sum_to};
+ghost use Rattle.dl_exact.specs.Prelude.{Fraction, whole, ◌over◌, ◌+ℚ◌, ◌*ℚ◌, ◌/ℚ◌, ◌<ℚ◌, ◌≤ℚ◌, ◌^ℚ◌, sum_to};
 ghost use Rattle.dl_model.specs.Series.{Series, IsBound, Rises, Holds, times, SameBounds, SameValue, IsLeastBound, Settles};
 ghost use Rattle.dl_model.specs.Compound.{convolve, at_zero, power, cell};
 ghost use Rattle.dl_model.specs.Severity.{IsSeverity, IsPositivePart};

@@ -3,11 +3,9 @@
 
 ghost use Rattle.std.specs.Prelude.{ℕ, ◌≡◌, ◌⊎◌, ◌+◌, ◌*◌, ◌^◌, ◌/◌, ◌<◌, ◌≤◌, min};
 ghost use Rattle.std.specs.Int.{div_ceil};
-ghost use Rattle.dl_exact.specs.Fraction.{Fraction, whole, ◌over◌, ◌≤ℚ◌};
-ghost use Rattle.dl_exact.specs.Sum.{sum_to};
+ghost use Rattle.dl_exact.specs.Prelude.{Fraction, whole, ◌over◌, ◌≤ℚ◌, sum_to, count_pairs};
 ghost use Rattle.dl_model.specs.Compound.{convolve, power, cell};
 ghost use Rattle.dl_model.specs.Severity.{IsWithinOne};
-ghost use Rattle.dl_exact.specs.Count.{count_pairs};
 ghost use Rattle.dl_model.specs.Ways.{ways};
 ghost use Rattle.dl_model.specs.Counts.{fixed};
 ghost use Rattle.dl_model.specs.Family.{Family, compound, product, nothing, times_itself, IsProper, Encloses};

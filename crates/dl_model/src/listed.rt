@@ -1,11 +1,9 @@
 //! The laws of a unit whose claim counts and amounts are listed, each with a whole weight.
 
 ghost use Rattle.std.specs.Prelude.{ℕ, suc, ◌≡◌, ◌+◌, ◌*◌, if◌then◌else◌, ◌<◌, ◌≤◌, ◌==◌, List, [], ◌∷◌, length, count_by};
-ghost use Rattle.dl_exact.specs.Fraction.{Fraction, whole, ◌over◌, ◌+ℚ◌, ◌*ℚ◌, ◌≤ℚ◌};
-ghost use Rattle.dl_exact.specs.Sum.{sum_to};
+ghost use Rattle.dl_exact.specs.Prelude.{Fraction, whole, ◌over◌, ◌+ℚ◌, ◌*ℚ◌, ◌≤ℚ◌, sum_to, count_pairs};
 ghost use Rattle.dl_model.specs.Series.{Holds};
 ghost use Rattle.dl_model.specs.Compound.{convolve, at_zero, cell, cell_from};
-ghost use Rattle.dl_exact.specs.Count.{count_pairs};
 ghost use Rattle.dl_plan.specs.declared.item.Item.{Item};
 ghost use Rattle.dl_plan.specs.Weighted.{weight_at, weight_sum, greatest};
 ghost use Rattle.dl_model.specs.Listed.{probability_at, equally_likely};

@@ -3,20 +3,13 @@
 //! declares what its parts say. All of it holds where the units share a factor, too.
 
 ghost use Rattle.std.specs.Prelude.{ℕ, ◌≡◌, ◌≢◌, ◌*◌, ◌^◌, ◌≤◌, Option, Some, None, List, [], ◌∷◌, All};
-ghost use Rattle.dl_exact.specs.Fraction.{Fraction, whole, ◌over◌, ◌*ℚ◌, ◌/ℚ◌, ◌<ℚ◌};
-ghost use Rattle.dl_exact.specs.Sum.{sum_to, sum_over};
+ghost use Rattle.dl_exact.specs.Prelude.{Fraction, whole, ◌over◌, ◌*ℚ◌, ◌/ℚ◌, ◌<ℚ◌, sum_to, sum_over};
 ghost use Rattle.dl_plan.specs.declared.severity.Sev.{Sev};
 ghost use Rattle.dl_plan.specs.declared.plan.Freq.{Freq};
 ghost use Rattle.dl_plan.specs.declared.plan.Freq.TheVariants.{Poisson, Gamma};
 ghost use Rattle.dl_plan.specs.declared.plan.Unit.{Unit as UnitOfPlan};
 ghost use Rattle.dl_plan.specs.declared.plan.Plan.{Plan};
-ghost use Rattle.dl_plan.specs.Severity.{probability_of, pairs_of, mean_amount, conditioned, HasDistribution};
-ghost use Rattle.dl_plan.specs.Weighted.{common_amount};
-ghost use Rattle.dl_plan.specs.Clause.{Clause, kept};
-ghost use Rattle.dl_plan.specs.Count.{expected_count, IsUnbounded, IsClaimCount as IsCountOfPlan};
-ghost use Rattle.dl_plan.specs.Means.{declared_mean, thinned_mean};
-ghost use Rattle.dl_plan.specs.Valid.{IsNewZero, IsValidUnit, IsValid};
-ghost use Rattle.dl_plan.specs.Shared.{SharesFactor};
+ghost use Rattle.dl_plan.specs.Prelude.{probability_of, pairs_of, mean_amount, conditioned, HasDistribution, common_amount, Clause, kept, expected_count, IsUnbounded, IsClaimCount as IsCountOfPlan, declared_mean, thinned_mean, IsNewZero, IsValidUnit, IsValid, SharesFactor};
 ghost use Rattle.dl_model.specs.Series.{IsBound, AtMost, AtLeast, Holds};
 ghost use Rattle.dl_model.specs.ChangedZero.{without_none};
 ghost use Rattle.dl_model.specs.Compound.{cell};

@@ -2,8 +2,7 @@
 //! Models, "Risk measures").
 
 ghost use Rattle.std.specs.Prelude.{ℕ, ◌≡◌, ◌-◌, ◌<◌, ◌≤◌, None, List, All};
-ghost use Rattle.dl_exact.specs.Fraction.{Fraction, whole, ◌+ℚ◌, ◌-ℚ◌, ◌*ℚ◌, ◌/ℚ◌, ◌≤ℚ◌, ◌<ℚ◌};
-ghost use Rattle.dl_exact.specs.Sum.{sum_over};
+ghost use Rattle.dl_exact.specs.Prelude.{Fraction, whole, ◌+ℚ◌, ◌-ℚ◌, ◌*ℚ◌, ◌/ℚ◌, ◌≤ℚ◌, ◌<ℚ◌, sum_over};
 ghost use Rattle.dl_model.specs.Series.{IsBound, AtMost, AtLeast};
 ghost use Rattle.dl_model.specs.Program.{Loss, AreDeclarable, PricedTerm, One, Cdf, Layer, Tail, Price, partial_sums};
 ghost use Rattle.dl_model.specs.Measures.{IsQuantile};

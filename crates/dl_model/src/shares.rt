@@ -1,8 +1,7 @@
 //! The laws of one unit beside the total: its joint means, and its share of the tail mean.
 
 ghost use Rattle.std.specs.Prelude.{ℕ, ◌≡◌, List, length};
-ghost use Rattle.dl_exact.specs.Fraction.{Fraction, whole, ◌+ℚ◌, ◌-ℚ◌, ◌*ℚ◌, ◌/ℚ◌, ◌≤ℚ◌, ◌<ℚ◌};
-ghost use Rattle.dl_exact.specs.Sum.{sum_to, sum_below};
+ghost use Rattle.dl_exact.specs.Prelude.{Fraction, whole, ◌+ℚ◌, ◌-ℚ◌, ◌*ℚ◌, ◌/ℚ◌, ◌≤ℚ◌, ◌<ℚ◌, sum_to, sum_below};
 ghost use Rattle.dl_model.specs.Series.{IsBound, Holds};
 ghost use Rattle.dl_model.specs.Program.{Loss, AreDeclarable, One, Point, Cdf, Tail, Joint, Part, Share, partial_sums};
 ghost use Rattle.dl_model.specs.Shares.{HoldsShare, unit_mean};

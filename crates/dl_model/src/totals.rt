@@ -1,8 +1,7 @@
 //! The laws of the total of independent losses.
 
 ghost use Rattle.std.specs.Prelude.{ℕ, ◌≡◌, ◌+◌, ◌<◌, ◌++◌, List, [], ◌∷◌, length, take, drop, get_or, Some, None};
-ghost use Rattle.dl_exact.specs.Fraction.{Fraction, whole, ◌+ℚ◌, ◌-ℚ◌, ◌*ℚ◌, ◌/ℚ◌, ◌<ℚ◌};
-ghost use Rattle.dl_exact.specs.Sum.{sum_to, sum_pairs, sum_below};
+ghost use Rattle.dl_exact.specs.Prelude.{Fraction, whole, ◌+ℚ◌, ◌-ℚ◌, ◌*ℚ◌, ◌/ℚ◌, ◌<ℚ◌, sum_to, sum_pairs, sum_below};
 ghost use Rattle.dl_model.specs.Series.{Rises, Holds};
 ghost use Rattle.dl_model.specs.Program.{Loss, IsLoss, AreDeclarable, One, Point, Cdf, Mean, Layer, Tail, Joint, sum_over_outcomes, partial_sums, total};
 ghost use Rattle.dl_model.specs.Family.{product, nothing, IsProper, Encloses};

@@ -2,10 +2,8 @@
 //! its mean.
 
 ghost use Rattle.std.specs.Prelude.{ℕ, suc, ◌≡◌, ◌-◌, ◌*◌, ◌<◌, ◌≤◌, min, nat_eq, if◌then◌else◌, [], ◌∷◌};
-ghost use Rattle.dl_exact.specs.Fraction.{Fraction, whole, ◌over◌, ◌*ℚ◌};
-ghost use Rattle.dl_exact.specs.Sum.{sum_to};
+ghost use Rattle.dl_exact.specs.Prelude.{Fraction, whole, ◌over◌, ◌*ℚ◌, sum_to, count_below};
 ghost use Rattle.dl_model.specs.Series.{IsBound, Holds};
-ghost use Rattle.dl_exact.specs.Count.{count_below};
 ghost use Rattle.dl_model.specs.Program.{IsLoss, One, Mean, partial_sums};
 ghost use Rattle.dl_model.specs.Family.{compound, IsProper, Encloses};
 ghost use Rattle.dl_model.specs.Units.{Aggregate, IsDeclarable, IsDeclared, outcome, mapped, loss};

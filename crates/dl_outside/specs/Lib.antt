@@ -4,3 +4,4 @@ pub mod Bytes
 pub mod Memory
 pub mod System
 pub mod Steps
+pub mod Prelude

@@ -1,8 +1,7 @@
 -- One step of a grid's recursion, in whole numbers.
 use Rattle.std.specs.Prelude.{ℕ, suc, Bool, ◌≡◌, ◌-◌, ◌*◌, ◌/◌, ◌<◌, List, min, if◌then◌else◌}
 use Rattle.std.specs.Int.{div_ceil}
-use Rattle.dl_exact.specs.Fraction.{Fraction}
-use Rattle.dl_exact.specs.Count.{count_pairs}
+use Rattle.dl_exact.specs.Prelude.{Fraction, count_pairs}
 use Rattle.dl_plan.specs.declared.item.Item.{Item}
 use Rattle.dl_plan.specs.Weighted.{weight_at}
 

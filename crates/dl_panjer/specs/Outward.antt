@@ -1,7 +1,6 @@
 -- Grids that follow Panjer's recursion from their own cells, rounded outward.
 use Rattle.std.specs.Prelude.{ℕ, suc, ◌≡◌, ◌⊎◌, ◌<◌, ◌≤◌, min}
-use Rattle.dl_exact.specs.Fraction.{Fraction, whole, ◌≤ℚ◌}
-use Rattle.dl_exact.specs.Rounding.{IsCeiling}
+use Rattle.dl_exact.specs.Prelude.{Fraction, whole, ◌≤ℚ◌, IsCeiling}
 use Rattle.dl_model.specs.Recursion.{from_before}
 
 -- In units of 1 / scale: of so many cells each but the first has ends below and above what the

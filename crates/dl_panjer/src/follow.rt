@@ -4,8 +4,7 @@ ghost use Rattle.std.specs.Prelude.{◌≡◌, ℕ, suc, ◌+◌, ◌-◌, ◌*�
 ghost use Rattle.std.specs.Int.{div_ceil};
 ghost use Rattle.dl_limits.specs.Limits.{most_cells, admitted_bound};
 ghost use Rattle.dl_exact.specs.Fraction.{whole, ◌≤ℚ◌};
-ghost use Rattle.dl_grid.specs.Cells.{low_at, high_at};
-ghost use Rattle.dl_grid.specs.Room.{IsGridSize};
+ghost use Rattle.dl_grid.specs.Prelude.{low_at, high_at, IsGridSize};
 ghost use Rattle.dl_plan.specs.Weighted.{weight_sum, IsWeighted};
 ghost use Rattle.dl_panjer.specs.Cells.{counted, coefficient, low_next, high_next, Follows};
 

@@ -2,13 +2,9 @@
 
 ghost use Rattle.std.specs.Prelude.{◌≡◌, ℕ, ◌+◌, ◌*◌, ◌^◌, ◌<◌, ◌≤◌, length, IfOk};
 ghost use Rattle.dl_limits.specs.Limits.{most_shape, admitted_bound};
-ghost use Rattle.dl_exact.specs.Fraction.{whole, ◌+ℚ◌, ◌*ℚ◌, ◌/ℚ◌, ◌≤ℚ◌};
-ghost use Rattle.dl_exact.specs.Rounding.{IsFloor, IsCeiling};
-ghost use Rattle.dl_grid.specs.Cells.{low_at, high_at, spread};
-ghost use Rattle.dl_grid.specs.Room.{IsGridSize};
-ghost use Rattle.dl_grid.specs.Width.{up};
-ghost use Rattle.dl_model.specs.Counts.{gamma_of};
-ghost use Rattle.dl_model.specs.Family.{compound, GridEncloses};
+ghost use Rattle.dl_exact.specs.Prelude.{whole, ◌+ℚ◌, ◌*ℚ◌, ◌/ℚ◌, ◌≤ℚ◌, IsFloor, IsCeiling};
+ghost use Rattle.dl_grid.specs.Prelude.{low_at, high_at, spread, IsGridSize, up};
+ghost use Rattle.dl_model.specs.Prelude.{gamma_of, compound, GridEncloses};
 ghost use Rattle.dl_plan.specs.Severity.{probability_of};
 ghost use Rattle.dl_panjer.specs.Bases.{IsGeometricBase};
 

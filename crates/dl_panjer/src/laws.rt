@@ -2,16 +2,11 @@
 //! and Willmot, Loss Models, "The recursive method"). Nothing here runs.
 
 ghost use Rattle.std.specs.Prelude.{ℕ, suc, ◌≡◌, ◌<◌, ◌≤◌, ◌^◌, ◌↔◌, List, length};
-ghost use Rattle.dl_exact.specs.Fraction.{Fraction, whole, ◌over◌, ◌+ℚ◌, ◌*ℚ◌, ◌/ℚ◌, ◌≤ℚ◌};
-ghost use Rattle.dl_exact.specs.Sum.{sum_to};
+ghost use Rattle.dl_exact.specs.Prelude.{Fraction, whole, ◌over◌, ◌+ℚ◌, ◌*ℚ◌, ◌/ℚ◌, ◌≤ℚ◌, sum_to};
 ghost use Rattle.dl_iv.specs.declared.interval.Iv.{Iv};
 ghost use Rattle.dl_grid.specs.Cells.{low_at, high_at};
 ghost use Rattle.dl_exp.specs.Exponential.{exponential_sum, EnclosesExp};
-ghost use Rattle.dl_model.specs.Series.{Holds};
-ghost use Rattle.dl_model.specs.Severity.{IsWithinOne};
-ghost use Rattle.dl_model.specs.Counts.{poisson, gamma_of, IsPanjer};
-ghost use Rattle.dl_model.specs.Family.{compound, Encloses, GridEncloses};
-ghost use Rattle.dl_model.specs.Recursion.{Recursion};
+ghost use Rattle.dl_model.specs.Prelude.{Holds, IsWithinOne, poisson, gamma_of, IsPanjer, compound, Encloses, GridEncloses, Recursion};
 ghost use Rattle.dl_plan.specs.declared.severity.Sev.{Sev};
 ghost use Rattle.dl_plan.specs.Severity.{probability_of};
 ghost use Rattle.dl_panjer.specs.Outward.{FollowsOutward};

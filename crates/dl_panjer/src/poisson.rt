@@ -3,10 +3,8 @@
 ghost use Rattle.std.specs.Prelude.{◌≡◌, ℕ, ◌+◌, ◌*◌, ◌^◌, ◌<◌, ◌≤◌, length, IfOk};
 ghost use Rattle.dl_limits.specs.Limits.{admitted_bound};
 ghost use Rattle.dl_exact.specs.Fraction.{whole, ◌over◌, ◌/ℚ◌, ◌≤ℚ◌};
-ghost use Rattle.dl_grid.specs.Cells.{spread};
-ghost use Rattle.dl_grid.specs.Room.{IsGridSize};
-ghost use Rattle.dl_model.specs.Counts.{poisson};
-ghost use Rattle.dl_model.specs.Family.{compound, GridEncloses};
+ghost use Rattle.dl_grid.specs.Prelude.{spread, IsGridSize};
+ghost use Rattle.dl_model.specs.Prelude.{poisson, compound, GridEncloses};
 ghost use Rattle.dl_plan.specs.Severity.{probability_of};
 ghost use Rattle.dl_panjer.specs.Bases.{IsPoissonBase, StartsAtExp};
 

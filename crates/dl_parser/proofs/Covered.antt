@@ -7,9 +7,7 @@ use Rattle.std.proofs.lemmas.List.Sums.{prefix_len-le-length}
 use Rattle.std.proofs.lemmas.List.Elements.{All-push}
 use Rattle.dl_limits.specs.Limits.{most_text}
 use Rattle.dl_lexer.specs.declared.token.Token.{Token}
-use Rattle.dl_lexer.specs.Bytes.{is_white, is_comment_byte}
-use Rattle.dl_lexer.specs.Tokens.{IsSpelled}
-use Rattle.dl_lexer.specs.Cutting.{Covers, nothing, blank, token, blank_length, token_of}
+use Rattle.dl_lexer.specs.Prelude.{is_white, is_comment_byte, IsSpelled, Covers, nothing, blank, token, blank_length, token_of}
 use Rattle.dl_ast.specs.Lexemes.{lexemes}
 use Rattle.dl_parser.specs.Within.{Inside, AllInside}
 use Rattle.dl_lexer.proofs.CoverLaws.{token_takes}

@@ -32,9 +32,7 @@ use Rattle.dl_ast.specs.declared.ast.UnitAst.{UnitAst}
 use Rattle.dl_ast.specs.declared.ast.Program.{Program}
 use Rattle.dl_parser.specs.declared.units.Loss.{Loss}
 use Rattle.dl_parser.specs.declared.units.Body.{Body}
-use Rattle.dl_ast.specs.Lexemes.{Lexeme}
-use Rattle.dl_ast.specs.Rules.{Rule, one, ◌▸◌, ◌or◌, maybe, many, unless, made, node, Spells}
-use Rattle.dl_ast.specs.Grammar.{◌≫◌, ◌≪◌, ◌means◌, some_of, spanned, numeral, name, note, layer, whole, so, po, reference, severity, side, freq, claims, premium, listed_unit, head}
+use Rattle.dl_ast.specs.Prelude.{Lexeme, Rule, one, ◌▸◌, ◌or◌, maybe, many, unless, made, node, Spells, ◌≫◌, ◌≪◌, ◌means◌, some_of, spanned, numeral, name, note, layer, whole, so, po, reference, severity, side, freq, claims, premium, listed_unit, head}
 
 -- item := NUMERAL (':' NUMERAL (':' NUMERAL)?)?
 abbrev pub step : Rule (Option Numeral)

@@ -4,3 +4,4 @@ pub mod Plain
 pub mod Within
 pub mod Parsing
 pub mod Viable
+pub mod Prelude

@@ -4,8 +4,7 @@ use Rattle.dl_lexer.specs.declared.token.Token.{Token}
 use Rattle.dl_parser.specs.declared.cursor.Parser.{Parser}
 use Rattle.dl_parser.specs.declared.stop.Stop.{Stop}
 use Rattle.dl_parser.specs.declared.stop.Stop.TheVariants.{Wanted, OutOfMemory}
-use Rattle.dl_ast.specs.Lexemes.{Lexeme, lexeme, lexemes}
-use Rattle.dl_ast.specs.Rules.{Rule}
+use Rattle.dl_ast.specs.Prelude.{Lexeme, lexeme, lexemes, Rule}
 use Rattle.dl_parser.specs.Reading.{State, got, stuck, read}
 
 -- the place of a parser

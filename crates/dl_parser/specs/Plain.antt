@@ -1,9 +1,7 @@
 -- In the grammar as it is read the looks at the next tokens decide how to go on, and in a row of
 -- parts whether another one follows.
 use Rattle.std.specs.Prelude.{◌≡◌, true, refl}
-use Rattle.dl_ast.specs.Rules.{many}
-use Rattle.dl_ast.specs.Grammar.{numeral, name, note, limit, layer, reference, side, count, zero_change}
-use Rattle.dl_ast.specs.Grammar.{freq, claims, premium, common, head}
+use Rattle.dl_ast.specs.Prelude.{many, numeral, name, note, limit, layer, reference, side, count, zero_change, freq, claims, premium, common, head}
 use Rattle.dl_parser.specs.Reading.{is_plain, is_settled}
 use Rattle.dl_parser.specs.Factored.{item, next_item, items, list, atom, weighted, mixture, cost, sev}
 use Rattle.dl_parser.specs.Factored.{defined, sevdef, cession, next_cession, layers, clause, ratio}

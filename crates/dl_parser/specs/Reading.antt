@@ -7,8 +7,7 @@ use Rattle.dl_lexer.specs.contracts.token.Keyword.{the_type as keywords}
 use Rattle.dl_lexer.specs.contracts.token.Sign.{the_type as signs}
 use Rattle.dl_lexer.specs.declared.token.Kind.{Kind}
 use Rattle.dl_lexer.specs.declared.token.Kind.TheVariants.{Word, Name, Ref, Numeral, Note, Sign}
-use Rattle.dl_ast.specs.Lexemes.{Lexeme}
-use Rattle.dl_ast.specs.Rules.{Rule, one, ◌▸◌, ◌or◌, maybe, many, unless, made, node}
+use Rattle.dl_ast.specs.Prelude.{Lexeme, Rule, one, ◌▸◌, ◌or◌, maybe, many, unless, made, node}
 
 abbrev pub same_kind : Kind → Kind → Bool
 same_kind (Word a) (Word b) = sameb keywords a b

@@ -4,9 +4,7 @@ use Rattle.dl_lexer.specs.declared.token.Keyword.TheVariants as words
 use Rattle.dl_lexer.specs.declared.token.Kind.{Kind}
 use Rattle.dl_lexer.specs.declared.token.Kind.TheVariants.{Word}
 use Rattle.dl_ast.specs.declared.ast.Program.{Program}
-use Rattle.dl_ast.specs.Lexemes.{Lexeme, IsReal}
-use Rattle.dl_ast.specs.Rules.{Spells}
-use Rattle.dl_ast.specs.Grammar.{program}
+use Rattle.dl_ast.specs.Prelude.{Lexeme, IsReal, Spells, program}
 use Rattle.dl_parser.specs.declared.syntax.ParseFault.{ParseFault}
 use Rattle.dl_parser.specs.declared.syntax.ParseFault.TheVariants as faults
 

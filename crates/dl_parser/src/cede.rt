@@ -1,8 +1,7 @@
 //! Clauses that cede layers, of each claim or of a unit's sum.
 
 ghost use Rattle.std.specs.Prelude.{◌≡◌};
-ghost use Rattle.dl_ast.specs.Rules.{maybe};
-ghost use Rattle.dl_ast.specs.Grammar.{side};
+ghost use Rattle.dl_ast.specs.Prelude.{maybe, side};
 ghost use Rattle.dl_parser.specs.Factored.{whole_of, layers, clause};
 ghost use Rattle.dl_parser.specs.Parsing.{ReadsBy};
 

@@ -1,8 +1,7 @@
 //! Layers.
 
 ghost use Rattle.std.specs.Prelude.{◌≡◌};
-ghost use Rattle.dl_ast.specs.Rules.{maybe};
-ghost use Rattle.dl_ast.specs.Grammar.{◌≫◌, limit, layer};
+ghost use Rattle.dl_ast.specs.Prelude.{maybe, ◌≫◌, limit, layer};
 ghost use Rattle.dl_parser.specs.Reading.{begins, first};
 ghost use Rattle.dl_parser.specs.Parsing.{state, ReadsBy};
 

@@ -4,9 +4,7 @@
 
 ghost use Rattle.std.specs.Prelude.{◌≡◌, ℕ, List};
 ghost use Rattle.dl_ast.specs.declared.ast.Program.{Program};
-ghost use Rattle.dl_ast.specs.Lexemes.{Lexeme};
-ghost use Rattle.dl_ast.specs.Rules.{Spells};
-ghost use Rattle.dl_ast.specs.Grammar.{item, mixture, cession, exposure, unit, program, sevdef};
+ghost use Rattle.dl_ast.specs.Prelude.{Lexeme, Spells, item, mixture, cession, exposure, unit, program, sevdef};
 ghost use Rattle.dl_parser.specs.Factored as factored;
 ghost use Rattle.dl_parser.specs.Factored.{SpellAlike};
 ghost use Rattle.dl_parser.specs.Viable.{Stops};

@@ -3,10 +3,7 @@
 ghost use Rattle.std.specs.Prelude.{◌≡◌, ◌≤◌, ◌-◌, ◌==◌, length, IfOk, IfErr, if◌then◌else◌, ◌&&◌};
 ghost use Rattle.dl_limits.specs.Limits.{most_text};
 ghost use Rattle.dl_lexer.specs.Cutting.{Covers};
-ghost use Rattle.dl_ast.specs.Lexemes.{lexemes};
-ghost use Rattle.dl_ast.specs.Rules.{Spells};
-ghost use Rattle.dl_ast.specs.Grammar.{program};
-ghost use Rattle.dl_ast.specs.WellFormed.{IsWellFormed};
+ghost use Rattle.dl_ast.specs.Prelude.{lexemes, Spells, program, IsWellFormed};
 ghost use Rattle.dl_parser.specs.Reading.{begins, same_kind};
 ghost use Rattle.dl_parser.specs.Parsing.{state};
 ghost use Rattle.dl_parser.specs.Viable.{IsRefused, continuous};

@@ -1,9 +1,7 @@
 //! One token at a time.
 
 ghost use Rattle.std.specs.Prelude.{◌≡◌, ◌-◌, ℕ, List, [], ◌∷◌, IfOk, IfErr, take, drop};
-ghost use Rattle.dl_ast.specs.Lexemes.{lexemes};
-ghost use Rattle.dl_ast.specs.Rules.{one, ◌or◌, maybe};
-ghost use Rattle.dl_ast.specs.Grammar.{◌≫◌, ◌means◌, numeral, name, note, reference};
+ghost use Rattle.dl_ast.specs.Prelude.{lexemes, one, ◌or◌, maybe, ◌≫◌, ◌means◌, numeral, name, note, reference};
 ghost use Rattle.dl_parser.specs.Reading.{among, begins, start_of, two_at};
 ghost use Rattle.dl_parser.specs.Within.{Inside};
 ghost use Rattle.dl_parser.specs.Parsing.{state, ReadsBy, TakesBy};

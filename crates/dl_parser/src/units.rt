@@ -1,8 +1,7 @@
 //! Units and programs.
 
 ghost use Rattle.std.specs.Prelude.{◌≡◌};
-ghost use Rattle.dl_ast.specs.Rules.{maybe};
-ghost use Rattle.dl_ast.specs.Grammar.{claims, count, zero_change, plain_or, freq, common, head};
+ghost use Rattle.dl_ast.specs.Prelude.{maybe, claims, count, zero_change, plain_or, freq, common, head};
 ghost use Rattle.dl_parser.specs.Factored.{ratio, exposure, loss, ending, closing, exposed, listed, counted, body, named, units, book, program};
 ghost use Rattle.dl_parser.specs.Reading.{begins, first};
 ghost use Rattle.dl_parser.specs.Parsing.{state, ReadsBy};

@@ -3,8 +3,7 @@ use Rattle.dl_plan.proofs.Common.{ℕ, ◌≡◌, ◌∙◌, ◌*◌, ◌/◌, �
 use Rattle.std.proofs.Common.{◌%◌}
 use Rattle.std.proofs.Math.Nat.{div-mul-le_self, div-add-mod}
 use Rattle.std.proofs.lemmas.Nat.Gcd.{mod-eq-zero_of_dvd}
-use Rattle.dl_exact.specs.Fraction.{◌+ℚ◌}
-use Rattle.dl_exact.specs.Sum.{sum_over}
+use Rattle.dl_exact.specs.Prelude.{◌+ℚ◌, sum_over}
 use Rattle.dl_exact.proofs.GcdLaws.{cut_right}
 use Rattle.dl_exact.proofs.Over.{over_den}
 use Rattle.dl_plan.specs.Fine.{IsWhole}

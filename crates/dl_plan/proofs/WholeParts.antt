@@ -4,8 +4,7 @@ use Rattle.std.proofs.lemmas.Grind.{common_steps}
 use Rattle.dl_plan.proofs.Common.{ℕ, ◌≡◌, ◌∙◌, ◌+◌, ◌*◌, ◌/◌, ◌<◌, ◌≤◌, List, [], ◌∷◌, length, get_or, take, refl, sym, ap, ap₂, arith, All, sum_by, ◌∣◌, div-mul_cancel, All-head, All-tail, sum_by_more, Fraction, whole, ◌over◌, over_self, over_same, le_over, common_denominator}
 use Rattle.std.proofs.lemmas.List.{take_all}
 use Rattle.std.proofs.lemmas.List.Sums.{sum_by-take-le}
-use Rattle.dl_exact.specs.Fraction.{◌+ℚ◌}
-use Rattle.dl_exact.specs.Sum.{sum_over}
+use Rattle.dl_exact.specs.Prelude.{◌+ℚ◌, sum_over}
 use Rattle.dl_exact.proofs.Laws.{le_of_eq}
 use Rattle.dl_exact.proofs.SumsOver.{sum_over_common}
 use Rattle.dl_plan.specs.Fine.{numerator_over}

@@ -1,8 +1,7 @@
 -- Reinsurance clauses: what is ceded of an amount, and what is kept.
 use Rattle.std.specs.Prelude.{ℕ, ◌+◌, ◌-◌, ◌<◌, ◌≤◌, ⊤, min, max, Bool, if◌then◌else◌, Option, Some, None, List, length, map, All, AllPairs}
 use Rattle.dl_limits.specs.Limits.{most_layers}
-use Rattle.dl_exact.specs.Fraction.{Fraction, whole, ◌-ℚ◌, ◌*ℚ◌, ◌≤ℚ◌}
-use Rattle.dl_exact.specs.Sum.{sum_over}
+use Rattle.dl_exact.specs.Prelude.{Fraction, whole, ◌-ℚ◌, ◌*ℚ◌, ◌≤ℚ◌, sum_over}
 use Rattle.dl_plan.specs.declared.cede.CedeLayer.{CedeLayer}
 use Rattle.std.specs.Option.{SomeIff}
 use Rattle.dl_plan.specs.Fine.{IsFineTo30Bits, common_denominator}

@@ -1,8 +1,7 @@
 -- Lists of fractions with a common denominator, and fractions of small parts.
 use Rattle.std.specs.Prelude.{ℕ, ◌≡◌, ◌*◌, ◌/◌, ◌<◌, ◌≤◌, List, fold}
 use Rattle.dl_limits.specs.Limits.{admitted_bound, most_parts}
-use Rattle.dl_exact.specs.Fraction.{Fraction}
-use Rattle.dl_exact.specs.Multiples.{lcm}
+use Rattle.dl_exact.specs.Prelude.{Fraction, lcm}
 
 -- the least common multiple of the denominators
 abbrev pub common_denominator : List Fraction → ℕ

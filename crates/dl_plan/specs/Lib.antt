@@ -15,3 +15,4 @@ pub mod Forms
 pub mod Terms
 pub mod MeanWidth
 pub mod Plain
+pub mod Prelude

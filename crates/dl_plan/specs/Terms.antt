@@ -1,7 +1,6 @@
 -- The terms of a price: a weighted sum of tail means.
 use Rattle.std.specs.Prelude.{ℕ, ◌≡◌, ◌≤◌, List, length, map}
-use Rattle.dl_exact.specs.Fraction.{whole}
-use Rattle.dl_exact.specs.Sum.{sum_over}
+use Rattle.dl_exact.specs.Prelude.{whole, sum_over}
 use Rattle.dl_plan.specs.declared.settings.Term.{Term}
 use Rattle.dl_plan.specs.Fine.{common_denominator}
 

@@ -2,8 +2,7 @@
 
 ghost use Rattle.std.specs.Option.{SomeIff};
 ghost use Rattle.std.specs.Prelude.{◌≡◌, ◌↔◌, IsTrue};
-ghost use Rattle.dl_exact.specs.Fraction.{whole};
-ghost use Rattle.dl_exact.specs.Sum.{sum_over};
+ghost use Rattle.dl_exact.specs.Prelude.{whole, sum_over};
 ghost use Rattle.dl_plan.specs.Fine.{IsFineTo30Bits, common_denominator, numerator_over};
 
 use dl_frac::{Frac, lcm_to};

@@ -9,10 +9,7 @@ use Rattle.std.proofs.lemmas.List.{get_or-take, get_or-drop, length-drop, map-ap
 use Rattle.dl_exact.specs.Fraction.{◌over◌}
 use Rattle.dl_grid.specs.Cells.{low_at, high_at, all_at_zero}
 use Rattle.dl_grid.proofs.CellSets.{low_take, high_take}
-use Rattle.dl_model.specs.Series.{Holds}
-use Rattle.dl_model.specs.Program.{sum_over_outcomes}
-use Rattle.dl_model.specs.Family.{Family, product, nothing}
-use Rattle.dl_model.specs.Measures.{without}
+use Rattle.dl_model.specs.Prelude.{Holds, sum_over_outcomes, Family, product, nothing, without}
 use Rattle.dl_model.proofs.FamilyLaws.{convolution_encloses, encloses_same}
 use Rattle.dl_model.proofs.FiniteCounts.{all_at_zero_encloses}
 use Rattle.dl_model.proofs.Outcomes.{no_units as nowhere, total_alone, total_alone_all, total_append, total_append_all, total_proper}

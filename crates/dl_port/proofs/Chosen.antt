@@ -6,10 +6,7 @@ use mathlib.Core.Path.{fun_ext}
 use Rattle.dl_exact.specs.Fraction.{Fraction, ◌*ℚ◌}
 use Rattle.dl_exact.proofs.Laws.{one_times, times_assoc, times_left_comm}
 use Rattle.dl_grid.specs.Cells.{low_at, high_at}
-use Rattle.dl_model.specs.Compound.{convolve, at_zero}
-use Rattle.dl_model.specs.Family.{product}
-use Rattle.dl_model.specs.Program.{partial_sums, One}
-use Rattle.dl_model.specs.Measures.{without}
+use Rattle.dl_model.specs.Prelude.{convolve, at_zero, product, partial_sums, One, without}
 use Rattle.dl_model.proofs.Powers.{convolve_comm, convolve_assoc, at_zero_convolve}
 use Rattle.dl_model.proofs.FamilyLaws.{encloses_same, convolution_encloses}
 use Rattle.dl_model.proofs.Outcomes.{no_units, total_more, total_more_all, total_proper}

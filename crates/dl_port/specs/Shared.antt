@@ -2,11 +2,8 @@
 use Rattle.std.specs.Prelude.{ℕ, suc, ◌≡◌, ◌+◌, ◌-◌, ◌^◌, ◌<◌, ◌≤◌, ◌↔◌, Bool, false, IsTrue, Option, Some, None, IsSome, IfSome, List, [], length, map, drop, get_or}
 use Rattle.std.specs.List.{remove}
 use Rattle.dl_iv.specs.declared.interval.Iv.{Iv}
-use Rattle.dl_grid.specs.Cells.{spread}
-use Rattle.dl_model.specs.Program.{Loss, AreDeclarable, total}
-use Rattle.dl_model.specs.Family.{GridEncloses}
-use Rattle.dl_model.specs.Measures.{without}
-use Rattle.dl_grid.specs.Width.{sum_spread}
+use Rattle.dl_grid.specs.Prelude.{spread, sum_spread}
+use Rattle.dl_model.specs.Prelude.{Loss, AreDeclarable, total, GridEncloses, without}
 use Rattle.dl_port.specs.Sums.{EncloseEach}
 
 -- k cells that enclose the sum of all units, as narrow as where the units are taken in one by one,

@@ -1,9 +1,7 @@
 -- Sums of units: which units a list of grids encloses, and how wide the grid of their sum may be.
 use Rattle.std.specs.Prelude.{ℕ, ◌≡◌, ◌<◌, List, [], length, get_or}
 use Rattle.dl_iv.specs.declared.interval.Iv.{Iv}
-use Rattle.dl_model.specs.Program.{Loss}
-use Rattle.dl_model.specs.Family.{GridEncloses}
-use Rattle.dl_model.specs.Measures.{unit_of}
+use Rattle.dl_model.specs.Prelude.{Loss, GridEncloses, unit_of}
 
 -- the grids enclose the outcomes of the units, one by one
 pub record EncloseEach {B : ℕ} (grids : List (List (Iv B))) (units : List Loss) : Type 0 where

@@ -17,12 +17,9 @@ mod widths;
 ghost use Rattle.std.specs.Prelude.{◌≡◌, ℕ, ◌^◌, ◌<◌, ◌≤◌, List, [], ◌++◌, length, get_or, map, All, IfOk};
 ghost use Rattle.dl_port.specs.Sums.{EncloseEach};
 ghost use Rattle.dl_port.specs.Shared.{IsSumOfPart};
-ghost use Rattle.dl_grid.specs.Cells.{spread};
+ghost use Rattle.dl_grid.specs.Prelude.{spread, convolution_spread, sum_spread};
 ghost use Rattle.std.specs.List.{fold, remove};
-ghost use Rattle.dl_model.specs.Measures.{without};
-ghost use Rattle.dl_grid.specs.Width.{convolution_spread, sum_spread};
-ghost use Rattle.dl_model.specs.Program.{Loss, AreDeclarable, total};
-ghost use Rattle.dl_model.specs.Family.{GridEncloses};
+ghost use Rattle.dl_model.specs.Prelude.{without, Loss, AreDeclarable, total, GridEncloses};
 
 use dl_grid::Grid;
 use dl_product::{Workspace, product};

@@ -1,8 +1,7 @@
 //! Sums of units that have one grid, by squaring.
 
 ghost use Rattle.std.specs.Prelude.{◌≡◌, ℕ, ◌^◌, ◌<◌, ◌≤◌, List, [], length, get_or, replicate, IsTrue, IfOk};
-ghost use Rattle.dl_model.specs.Program.{Loss, AreDeclarable, total};
-ghost use Rattle.dl_model.specs.Family.{GridEncloses};
+ghost use Rattle.dl_model.specs.Prelude.{Loss, AreDeclarable, total, GridEncloses};
 ghost use Rattle.dl_port.specs.Sums.{EncloseEach};
 
 use dl_grid::Grid;

@@ -5,8 +5,7 @@
 ghost use Rattle.std.specs.Prelude.{◌≡◌, ℕ, ◌+◌, ◌^◌, ◌<◌, ◌≤◌, ◌↔◌, suc, List, [], ◌∷◌, length, ◌++◌, take, drop, get_or, replicate, None, false, IsTrue, IsSome, Any, All, IfOk, OnOk, IfSome};
 ghost use Rattle.std.specs.Option.{option_copied};
 ghost use Rattle.dl_limits.specs.Limits.{most_units};
-ghost use Rattle.dl_model.specs.Program.{Loss, AreDeclarable, total};
-ghost use Rattle.dl_model.specs.Family.{GridEncloses};
+ghost use Rattle.dl_model.specs.Prelude.{Loss, AreDeclarable, total, GridEncloses};
 ghost use Rattle.dl_port.specs.Shared.{EnclosesSum, IsSumOfPart, AreSuffixSums, IsTotal, IsSumWithout, AreSumsWithout, AreFirstWithout};
 
 use crate::only::{only_asked, sums_for_one};

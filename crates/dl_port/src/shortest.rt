@@ -3,9 +3,7 @@
 
 ghost use Rattle.std.specs.Prelude.{◌≡◌, ℕ, ◌+◌, ◌<◌, ◌≤◌, ◌&&◌, Bool, not, nat_lt, nat_eq, if◌then◌else◌, List, length, All, Some, IfOk, OnOk};
 ghost use Rattle.dl_iv.specs.declared.interval.Iv.{Iv};
-ghost use Rattle.dl_model.specs.Program.{Loss, AreDeclarable, total};
-ghost use Rattle.dl_model.specs.Measures.{without};
-ghost use Rattle.dl_model.specs.Family.{GridEncloses};
+ghost use Rattle.dl_model.specs.Prelude.{Loss, AreDeclarable, total, without, GridEncloses};
 ghost use Rattle.dl_port.specs.Sums.{EncloseEach};
 ghost use Rattle.dl_port.specs.Shared.{IsSumOfPart};
 ghost use Rattle.dl_port.specs.Chosen.{chosen, passed, in_some, AreApart, AreSumsOfChosen, KeepsChosen};

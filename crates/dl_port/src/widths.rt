@@ -2,8 +2,7 @@
 
 ghost use Rattle.std.specs.Prelude.{◌≡◌, ◌^◌, ◌<◌, ◌≤◌, length, map, IfSome};
 ghost use Rattle.std.specs.List.{fold, remove};
-ghost use Rattle.dl_grid.specs.Cells.{spread};
-ghost use Rattle.dl_grid.specs.Width.{convolution_spread, sum_spread};
+ghost use Rattle.dl_grid.specs.Prelude.{spread, convolution_spread, sum_spread};
 
 use dl_grid::{Grid, convolution_spread};
 

@@ -3,11 +3,7 @@ use Rattle.std.specs.Prelude.{ℕ, suc, ◌+◌, ◌^◌, ◌*◌, ◌<◌, List
 use Rattle.dl_exact.specs.Fraction.{Fraction, ◌over◌, ◌≤ℚ◌}
 use Rattle.dl_iv.specs.declared.interval.Iv.{Iv}
 use Rattle.dl_grid.specs.Cells.{low_at, high_at}
-use Rattle.dl_model.specs.Compound.{power, cell_from}
-use Rattle.dl_model.specs.Counts.{fixed}
-use Rattle.dl_model.specs.Family.{compound, GridEncloses}
-use Rattle.dl_model.specs.Listed.{probability_at}
-use Rattle.dl_model.specs.Severity.{IsWithinOne}
+use Rattle.dl_model.specs.Prelude.{power, cell_from, fixed, compound, GridEncloses, probability_at, IsWithinOne}
 use Rattle.dl_plan.specs.declared.item.Item.{Item}
 
 -- what `base` holds of one claim, `grid` holds of the sum of such claims whose number the table

@@ -2,11 +2,8 @@
 
 ghost use Rattle.std.specs.Prelude.{◌≡◌, ℕ, suc, ◌+◌, ◌-◌, ◌*◌, ◌^◌, ◌<◌, ◌≤◌, length, get_or, All, IfOk};
 ghost use Rattle.dl_exact.specs.Fraction.{Fraction};
-ghost use Rattle.dl_grid.specs.Cells.{low_at, high_at};
-ghost use Rattle.dl_grid.specs.Room.{IsGridSize};
-ghost use Rattle.dl_model.specs.Compound.{power, cell_from};
-ghost use Rattle.dl_model.specs.Listed.{probability_at};
-ghost use Rattle.dl_model.specs.Severity.{IsWithinOne};
+ghost use Rattle.dl_grid.specs.Prelude.{low_at, high_at, IsGridSize};
+ghost use Rattle.dl_model.specs.Prelude.{power, cell_from, probability_at, IsWithinOne};
 ghost use Rattle.dl_plan.specs.Weighted.{weight_sum};
 ghost use Rattle.dl_power.specs.Powers.{Between, ArePowers, AreParts};
 

@@ -3,11 +3,8 @@
 ghost use Rattle.std.specs.Prelude.{◌≡◌, ℕ, ◌*◌, ◌/◌, ◌^◌, ◌<◌, ◌≤◌, length, IfOk};
 ghost use Rattle.std.specs.Int.{div_ceil};
 ghost use Rattle.std.specs.List.Sorted.{IsStrictlyIncreasing};
-ghost use Rattle.dl_grid.specs.Cells.{low_at, high_at, spread};
-ghost use Rattle.dl_grid.specs.Room.{IsGridSize};
-ghost use Rattle.dl_model.specs.Listed.{probability_at};
-ghost use Rattle.dl_model.specs.Counts.{fixed};
-ghost use Rattle.dl_model.specs.Family.{compound, GridEncloses};
+ghost use Rattle.dl_grid.specs.Prelude.{low_at, high_at, spread, IsGridSize};
+ghost use Rattle.dl_model.specs.Prelude.{probability_at, fixed, compound, GridEncloses};
 ghost use Rattle.dl_plan.specs.Weighted.{amounts_of, weight_at, weight_sum};
 
 use crate::shares::{set_if_inside, share};

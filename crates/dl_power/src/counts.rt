@@ -2,9 +2,8 @@
 
 ghost use Rattle.std.specs.Prelude.{◌≡◌, ℕ, suc, ◌+◌, ◌-◌, ◌*◌, ◌/◌, ◌^◌, ◌<◌, ◌≤◌, min, length, IfOk};
 ghost use Rattle.std.specs.Int.{div_ceil};
-ghost use Rattle.dl_grid.specs.Cells.{low_at, high_at, mass_low, spread, all_at_zero};
+ghost use Rattle.dl_grid.specs.Prelude.{low_at, high_at, mass_low, spread, all_at_zero, convolution_spread, mixed_spread};
 ghost use Rattle.dl_exact.specs.Count.{count_pairs};
-ghost use Rattle.dl_grid.specs.Width.{convolution_spread, mixed_spread};
 ghost use Rattle.dl_plan.specs.Weighted.{weight_at, weight_sum, greatest};
 ghost use Rattle.dl_power.specs.Powers.{EnclosesListed};
 

@@ -4,11 +4,8 @@
 ghost use Rattle.std.specs.Prelude.{◌≡◌, ℕ, ◌+◌, ◌-◌, ◌*◌, ◌/◌, ◌^◌, ◌<◌, ◌≤◌, length, get_or, All, IfOk};
 ghost use Rattle.std.specs.Int.{div_ceil};
 ghost use Rattle.dl_exact.specs.Fraction.{Fraction};
-ghost use Rattle.dl_grid.specs.Cells.{low_at, high_at};
-ghost use Rattle.dl_grid.specs.Room.{IsGridSize};
-ghost use Rattle.dl_model.specs.Compound.{cell_from};
-ghost use Rattle.dl_model.specs.Listed.{probability_at};
-ghost use Rattle.dl_model.specs.Severity.{IsWithinOne};
+ghost use Rattle.dl_grid.specs.Prelude.{low_at, high_at, IsGridSize};
+ghost use Rattle.dl_model.specs.Prelude.{cell_from, probability_at, IsWithinOne};
 ghost use Rattle.dl_plan.specs.Weighted.{weight_at, weight_sum};
 ghost use Rattle.dl_power.specs.Powers.{Between, ArePowers, mixture_end};
 

@@ -1,8 +1,7 @@
 //! A fixed number of claims, by squaring.
 
 ghost use Rattle.std.specs.Prelude.{◌≡◌, ℕ, ◌^◌, ◌≤◌, length, IfOk};
-ghost use Rattle.dl_grid.specs.Cells.{spread};
-ghost use Rattle.dl_grid.specs.Width.{power_spread};
+ghost use Rattle.dl_grid.specs.Prelude.{spread, power_spread};
 ghost use Rattle.dl_model.specs.Family.{Family, IsProper, GridEncloses, times_itself};
 
 use dl_grid::Grid;

@@ -2,8 +2,7 @@
 
 ghost use Rattle.std.specs.Prelude.{◌≡◌, ℕ, ◌+◌, ◌-◌, ◌*◌, ◌/◌, ◌^◌, ◌==◌, ◌<◌, ◌≤◌, if◌then◌else◌, length, List, IfOk};
 ghost use Rattle.std.specs.Int.{div_ceil};
-ghost use Rattle.dl_grid.specs.Cells.{low_at, high_at, mass_low, spread};
-ghost use Rattle.dl_grid.specs.Room.{IsGridSize};
+ghost use Rattle.dl_grid.specs.Prelude.{low_at, high_at, mass_low, spread, IsGridSize};
 ghost use Rattle.dl_plan.specs.declared.item.Item.{Item};
 ghost use Rattle.dl_plan.specs.Weighted.{weight_at, weight_sum, greatest};
 

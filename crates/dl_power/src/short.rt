@@ -3,9 +3,7 @@
 
 ghost use Rattle.std.specs.Prelude.{◌≡◌, ℕ, suc, ◌+◌, ◌*◌, ◌/◌, ◌^◌, ◌<◌, ◌≤◌, length, get_or, All, IfOk};
 ghost use Rattle.dl_exact.specs.Fraction.{Fraction};
-ghost use Rattle.dl_grid.specs.Cells.{low_at, high_at};
-ghost use Rattle.dl_grid.specs.Convolution.{IsConvolution};
-ghost use Rattle.dl_grid.specs.Room.{IsGridSize};
+ghost use Rattle.dl_grid.specs.Prelude.{low_at, high_at, IsConvolution, IsGridSize};
 ghost use Rattle.dl_model.specs.Compound.{power};
 ghost use Rattle.dl_power.specs.Powers.{Between};
 

@@ -7,10 +7,8 @@ use Rattle.std.proofs.lemmas.List.{append-nil, map-append}
 use Rattle.std.proofs.lemmas.List.Elements.{All-head, All-tail}
 use Rattle.dl_lexer.specs.declared.token.Kind.{Kind}
 use Rattle.dl_lexer.specs.declared.token.Token.{Token}
-use Rattle.dl_lexer.specs.Bytes.{is_white}
-use Rattle.dl_lexer.specs.Cutting.{IsLongest, Covers, blank_length, token_of, nothing, blank, token}
-use Rattle.dl_ast.specs.Lexemes.{lexeme}
-use Rattle.dl_ast.specs.WellFormed.{IsWellFormed}
+use Rattle.dl_lexer.specs.Prelude.{is_white, IsLongest, Covers, blank_length, token_of, nothing, blank, token}
+use Rattle.dl_ast.specs.Prelude.{lexeme, IsWellFormed}
 use Rattle.dl_printer.specs.Canonical.{is_tight_before, begins_line, between}
 use Rattle.dl_lexer.specs.declared.token.Sign.TheVariants.{Close, Colon}
 use Rattle.dl_lexer.specs.declared.token.Kind.TheVariants as kinds

@@ -4,16 +4,13 @@ use Rattle.dl_printer.proofs.Common.{ℕ, suc, ◌≡◌, ◌∙◌, ◌+◌, �
 use Rattle.std.proofs.Common.{Option, None, get_or, zero, ◌≢◌, ◌≤◌, ◌==◌, slice_get}
 use Rattle.std.proofs.Math.Seq.{take-append_seam}
 use Rattle.dl_lexer.specs.declared.token.Kind.{Kind}
-use Rattle.dl_lexer.specs.Bytes.{is_white, is_digit, is_word_byte, is_note_byte}
-use Rattle.dl_lexer.specs.Tokens.{begins_with_letter, IsWord, IsNote, note, IsRef, ref}
-use Rattle.dl_lexer.specs.Cutting.{IsLongest}
+use Rattle.dl_lexer.specs.Prelude.{is_white, is_digit, is_word_byte, is_note_byte, begins_with_letter, IsWord, IsNote, note, IsRef, ref, IsLongest, IsDecimalToken, digits, digits_point, point_digits, percent, fraction, IsNumeralToken, a_decimal, a_percent, a_fraction}
 use Rattle.std.specs.List.{list_all, prefix_len}
 use Rattle.std.proofs.lemmas.Bool.Decides.{nat_tests}
 use Rattle.std.proofs.lemmas.List.Folds.{list_all-append}
 use Rattle.std.proofs.lemmas.List.Sums.{AllPass-from_list_all, list_all-from_AllPass}
 use Rattle.dl_lexer.specs.declared.token.Sign.{Sign}
 use Rattle.dl_lexer.specs.declared.token.Kind.TheVariants as kinds
-use Rattle.dl_lexer.specs.Numerals.{IsDecimalToken, digits, digits_point, point_digits, percent, fraction, IsNumeralToken, a_decimal, a_percent, a_fraction}
 use Rattle.dl_lexer.proofs.Prefix.{prefix_most, prefix_ends, get_behind}
 use Rattle.dl_lexer.proofs.Longest.{longest_none}
 use Rattle.dl_lexer.proofs.Spellings.{keyword_is_word}

@@ -5,9 +5,7 @@ use Rattle.std.specs.Prelude.{All, IfSome, IsNone}
 use Rattle.std.proofs.lemmas.List.{append-nil}
 use Rattle.std.proofs.lemmas.List.Elements.{All-head, All-tail}
 use Rattle.dl_lexer.specs.declared.token.Span.{Span}
-use Rattle.dl_ast.specs.Rules.{Rule, one, ◌▸◌, maybe}
-use Rattle.dl_ast.specs.Grammar.{◌≫◌, ◌≪◌, ◌means◌, some_of, program, numeral, name, note, item, next_item, list, limit, layer, atom, mixture, reference, cost, sev, sevdef, cession, side, next_cession, clause, count, zero_change, plain_or, freq, claims, premium, exposure, listed, exposed_unit, listed_unit, unit, common, head, book}
-use Rattle.dl_ast.specs.WellFormed.{IsWellFormed, IsFormedName, IsFormedNumeral, IsFormedNote, IsFormedItem, IsFormedList, IsFormedLimit, IsFormedLayer, IsFormedAtom, IsFormedMixture, IsFormedReference, IsFormedBody, IsFormedSeverity, IsFormedDefinition, IsFormedZero, IsFormedShare, IsFormedCeded, IsFormedCession, IsFormedFrequency, IsFormedExposure, IsFormedUnit, IsFormedHead}
+use Rattle.dl_ast.specs.Prelude.{Rule, one, ◌▸◌, maybe, ◌≫◌, ◌≪◌, ◌means◌, some_of, program, numeral, name, note, item, next_item, list, limit, layer, atom, mixture, reference, cost, sev, sevdef, cession, side, next_cession, clause, count, zero_change, plain_or, freq, claims, premium, exposure, listed, exposed_unit, listed_unit, unit, common, head, book, IsWellFormed, IsFormedName, IsFormedNumeral, IsFormedNote, IsFormedItem, IsFormedList, IsFormedLimit, IsFormedLayer, IsFormedAtom, IsFormedMixture, IsFormedReference, IsFormedBody, IsFormedSeverity, IsFormedDefinition, IsFormedZero, IsFormedShare, IsFormedCeded, IsFormedCession, IsFormedFrequency, IsFormedExposure, IsFormedUnit, IsFormedHead}
 use Rattle.dl_printer.specs.Apart.{bare_numeral, bare_item, bare_list, bare_limit, bare_layer, bare_atom, bare_mix, bare_body, bare_sev, bare_definition, bare_zero, bare_ceded, bare_cession, bare_freq, bare_exposure, bare_count, bare_unit, bare_head, bare, nowhere, bare_name}
 use Rattle.std.proofs.lemmas.Iterator.Adapters.{option_map_id}
 use Rattle.dl_lexer.specs.declared.token.Keyword.TheVariants as words

@@ -6,8 +6,7 @@ use Rattle.std.specs.Option.{option_map}
 use Rattle.std.proofs.lemmas.List.Elements.{All-head, All-tail, All-nil, All-cons, All-append}
 use Rattle.dl_lexer.specs.declared.token.Kind.{Kind}
 use Rattle.dl_lexer.specs.declared.token.Span.{Span}
-use Rattle.dl_ast.specs.Rules.{Rule, one, ◌▸◌, maybe, many, Spells, ◌or◌, made, node, span_of}
-use Rattle.dl_ast.specs.Grammar.{◌≫◌, ◌≪◌, ◌means◌, some_of, spanned}
+use Rattle.dl_ast.specs.Prelude.{Rule, one, ◌▸◌, maybe, many, Spells, ◌or◌, made, node, span_of, ◌≫◌, ◌≪◌, ◌means◌, some_of, spanned}
 
 -- a token without its place
 abbrev pub piece_of : Lexeme → Piece

@@ -6,8 +6,7 @@ use Rattle.dl_lexer.specs.declared.token.Sign.{Sign}
 use Rattle.dl_lexer.specs.declared.token.Sign.TheVariants as signs
 use Rattle.dl_lexer.specs.declared.token.Kind.{Kind}
 use Rattle.dl_lexer.specs.declared.token.Kind.TheVariants as kinds
-use Rattle.dl_lexer.specs.Keywords.{spelling}
-use Rattle.dl_lexer.specs.Tokens.{sign_byte}
+use Rattle.dl_lexer.specs.Prelude.{spelling, sign_byte}
 use Rattle.dl_ast.specs.declared.ast.NameAst.{NameAst}
 use Rattle.dl_ast.specs.declared.ast.Numeral.{Numeral}
 use Rattle.dl_ast.specs.declared.ast.ListItem.{ListItem}

@@ -3,9 +3,7 @@ use Rattle.std.specs.Prelude.{List, length}
 use Rattle.dl_lexer.specs.declared.token.Token.{Token}
 use Rattle.dl_lexer.specs.Cutting.{Covers}
 use Rattle.dl_ast.specs.declared.ast.Program.{Program}
-use Rattle.dl_ast.specs.Lexemes.{lexemes}
-use Rattle.dl_ast.specs.Rules.{Spells}
-use Rattle.dl_ast.specs.Grammar.{program}
+use Rattle.dl_ast.specs.Prelude.{lexemes, Spells, program}
 use Rattle.dl_printer.specs.Canonical.{canonical}
 use Rattle.dl_printer.specs.Apart.{SameProgram}
 

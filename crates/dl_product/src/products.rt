@@ -1,9 +1,7 @@
 //! Products and squares of grids.
 
 ghost use Rattle.std.specs.Prelude.{◌≡◌, ◌^◌, ◌≤◌, length, IfOk};
-ghost use Rattle.dl_grid.specs.Cells.{spread};
-ghost use Rattle.dl_grid.specs.Convolution.{IsConvolution};
-ghost use Rattle.dl_grid.specs.Width.{convolution_spread};
+ghost use Rattle.dl_grid.specs.Prelude.{spread, IsConvolution, convolution_spread};
 
 use crate::lists::{square_sums, sums};
 use crate::room::Workspace;

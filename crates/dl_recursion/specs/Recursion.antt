@@ -2,9 +2,7 @@
 -- an exponent.
 use Rattle.std.specs.Prelude.{ℕ, zero, suc, ◌≡◌, ◌+◌, ◌-◌, ◌*◌, ◌^◌, ◌<◌, ◌≤◌, if◌then◌else◌, nat_le, List, [], ◌∷◌, get_or, slice_index, length, sum_by}
 use Rattle.dl_limits.specs.Limits.{start_bits, most_end, most_given}
-use Rattle.dl_exact.specs.Fraction.{Fraction, whole, ◌*ℚ◌, ◌≤ℚ◌}
-use Rattle.dl_exact.specs.Sum.{sum_pairs}
-use Rattle.dl_exact.specs.Count.{count_below}
+use Rattle.dl_exact.specs.Prelude.{Fraction, whole, ◌*ℚ◌, ◌≤ℚ◌, sum_pairs, count_below}
 use Rattle.dl_recursion.specs.declared.parts.Part.{Part}
 use Rattle.dl_recursion.specs.declared.cells.Total.{Total}
 use Rattle.dl_recursion.specs.declared.cells.Sums.{Sums}

@@ -1,7 +1,6 @@
 -- The probability of no claim, from which the recursion begins.
 use Rattle.std.specs.Prelude.{ℕ, ◌^◌}
-use Rattle.dl_exact.specs.Fraction.{Fraction, whole, ◌over◌}
-use Rattle.dl_exact.specs.Sum.{sum_to}
+use Rattle.dl_exact.specs.Prelude.{Fraction, whole, ◌over◌, sum_to}
 use Rattle.dl_model.specs.Series.{Holds}
 use Rattle.dl_recursion.specs.declared.start.Scaled.{Scaled}
 

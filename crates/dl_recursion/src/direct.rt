@@ -3,10 +3,8 @@
 ghost use Rattle.std.specs.Prelude.{◌≡◌, ℕ, ◌+◌, ◌-◌, ◌*◌, ◌^◌, ◌<◌, ◌≤◌, length, IfOk, IfSome, IsTrue};
 ghost use Rattle.dl_limits.specs.Limits.{most_cells, most_expected, most_shape, most_parts, admitted_bound, frac_bound, most_start};
 ghost use Rattle.dl_exact.specs.Fraction.{Fraction, whole, ◌over◌, ◌*ℚ◌, ◌≤ℚ◌};
-ghost use Rattle.dl_grid.specs.Cells.{IsGrid};
-ghost use Rattle.dl_grid.specs.Room.{IsGridSize};
-ghost use Rattle.dl_model.specs.Counts.{poisson, gamma_of, IsPanjer};
-ghost use Rattle.dl_model.specs.Family.{compound, GridEncloses};
+ghost use Rattle.dl_grid.specs.Prelude.{IsGrid, IsGridSize};
+ghost use Rattle.dl_model.specs.Prelude.{poisson, gamma_of, IsPanjer, compound, GridEncloses};
 ghost use Rattle.dl_plan.specs.Severity.{probability_of};
 ghost use Rattle.dl_recursion.specs.Start.{HoldsNoClaim};
 

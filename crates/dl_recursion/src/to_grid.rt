@@ -2,8 +2,7 @@
 
 ghost use Rattle.std.specs.Prelude.{◌≡◌, ◌+◌, ◌*◌, ◌^◌, ◌<◌, ◌≤◌, ◌⊎◌, length, IfOk};
 ghost use Rattle.dl_limits.specs.Limits.{start_bits, most_end, most_start};
-ghost use Rattle.dl_grid.specs.Cells.{low_at, high_at};
-ghost use Rattle.dl_grid.specs.Room.{IsGridSize};
+ghost use Rattle.dl_grid.specs.Prelude.{low_at, high_at, IsGridSize};
 ghost use Rattle.dl_recursion.specs.Recursion.{AreScaledCells};
 ghost use Rattle.dl_recursion.specs.ToGrid.{HasGridEnds};
 

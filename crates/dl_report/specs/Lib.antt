@@ -5,3 +5,4 @@ pub mod Plain
 pub mod Records
 pub mod Values
 pub mod Writing
+pub mod Prelude

@@ -6,9 +6,7 @@ use Rattle.std.proofs.Math.Nat.{dvd-add, dvd-sub, lt_of_mul-lt-mul_right}
 use Rattle.std.proofs.lemmas.Nat.Gcd.{dvd_of_mod-eq-zero, mod-eq-zero_of_dvd}
 use Rattle.std.proofs.lemmas.Grind.{div_ceil_times}
 use Rattle.dl_plan.specs.declared.cede.CedeLayer.{CedeLayer}
-use Rattle.dl_plan.specs.Clause.{IsClause}
-use Rattle.dl_plan.specs.Horizon.{edge}
-use Rattle.dl_plan.specs.Parts.{kept_parts, parts_in_bucket}
+use Rattle.dl_plan.specs.Prelude.{IsClause, edge, kept_parts, parts_in_bucket}
 use Rattle.dl_plan.proofs.Clauses.{kept_whole, kept_only}
 use Rattle.dl_plan.proofs.Apart.{kept_none}
 use Rattle.dl_plan.proofs.Straight.{IsOutside, IsClear, kept_straight}

@@ -7,8 +7,7 @@ use Rattle.std.proofs.lemmas.List.{take-append-drop}
 use Rattle.std.proofs.lemmas.List.FromFn.{map-range_with_len_more}
 use Rattle.std.proofs.lemmas.Grind.{flat_map-append}
 use Rattle.dl_limits.specs.Limits.{most_range_parts}
-use Rattle.dl_exact.specs.Fraction.{◌-ℚ◌, ◌/ℚ◌, ◌≤ℚ◌}
-use Rattle.dl_exact.specs.Rounding.{IsFloor}
+use Rattle.dl_exact.specs.Prelude.{◌-ℚ◌, ◌/ℚ◌, ◌≤ℚ◌, IsFloor}
 use Rattle.dl_exact.proofs.Over.{same, over_sub, over_div}
 use Rattle.dl_exact.proofs.RoundingLaws.{floor_div, floor_one}
 use Rattle.dl_sev.specs.declared.range.Range.{Range}

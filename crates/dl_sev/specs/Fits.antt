@@ -1,10 +1,8 @@
 -- When a clause fits sums on a lattice.
 use Rattle.std.specs.Prelude.{ℕ, ◌+◌, ◌*◌}
 use Rattle.std.specs.Int.{div_ceil}
-use Rattle.dl_plan.specs.Fine.{IsWhole}
+use Rattle.dl_plan.specs.Prelude.{IsWhole, Clause, kept, edge}
 use Rattle.dl_plan.specs.declared.cede.CedeLayer.{CedeLayer}
-use Rattle.dl_plan.specs.Clause.{Clause, kept}
-use Rattle.dl_plan.specs.Horizon.{edge}
 
 -- the clause maps every multiple of the step to a whole number
 abbrev pub FitsStep : Clause → ℕ → Type 0

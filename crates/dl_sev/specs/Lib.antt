@@ -5,3 +5,4 @@ pub mod Weighed
 pub mod Buckets
 pub mod Ranges
 pub mod Fits
+pub mod Prelude

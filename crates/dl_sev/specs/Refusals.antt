@@ -2,8 +2,7 @@
 use Rattle.std.specs.Prelude.{ℕ, ◌≤◌, ⊤, List, map, All, Any}
 use Rattle.dl_plan.specs.declared.item.Item.{Item}
 use Rattle.dl_plan.specs.declared.severity.Sev.{Sev}
-use Rattle.dl_plan.specs.Fine.{IsFineTo30Bits, IsWhole}
-use Rattle.dl_plan.specs.Clause.{Clause, kept}
+use Rattle.dl_plan.specs.Prelude.{IsFineTo30Bits, IsWhole, Clause, kept}
 use Rattle.dl_sev.specs.declared.weights.Weights.{Weights}
 use Rattle.dl_sev.specs.Steps.{mixture}
 use Rattle.dl_sev.specs.declared.fault.MixFault.{MixFault}

@@ -3,8 +3,7 @@ use Rattle.std.specs.Prelude.{ℕ, nat_lt, if◌then◌else◌, Option, List, []
 use Rattle.dl_exact.specs.Fraction.{Fraction, ◌over◌, ◌*ℚ◌}
 use Rattle.dl_plan.specs.declared.item.Item.{Item}
 use Rattle.dl_plan.specs.declared.severity.Sev.{Sev}
-use Rattle.dl_plan.specs.Severity.{Pairs, pairs_of}
-use Rattle.dl_plan.specs.Clause.{Clause, layer, kept}
+use Rattle.dl_plan.specs.Prelude.{Pairs, pairs_of, Clause, layer, kept}
 use Rattle.dl_sev.specs.declared.weights.Weights.{Weights}
 
 -- each amount with its weight over the total

@@ -1,7 +1,6 @@
 -- Whole weights of a list of probabilities.
 use Rattle.std.specs.Prelude.{◌≢◌, ⊤, List}
-use Rattle.dl_exact.specs.Fraction.{Fraction, whole}
-use Rattle.dl_exact.specs.Sum.{sum_over}
+use Rattle.dl_exact.specs.Prelude.{Fraction, whole, sum_over}
 use Rattle.dl_plan.specs.Fine.{IsFineTo30Bits}
 use Rattle.dl_sev.specs.declared.fault.WeighFault.{WeighFault}
 use Rattle.dl_sev.specs.declared.fault.WeighFault.TheVariants.{TooFine, NotOne, OutOfMemory}

@@ -3,9 +3,7 @@
 ghost use Rattle.std.specs.Prelude.{◌≡◌, ◌++◌, ◌≤◌, ◌<◌, ◌^◌, length, map, sum, zip, IfOk, OnOk, MatchResult};
 ghost use Rattle.dl_limits.specs.Limits.{most_parts};
 ghost use Rattle.dl_exact.specs.Fraction.{◌over◌};
-ghost use Rattle.dl_plan.specs.Fine.{IsFineTo30Bits};
-ghost use Rattle.dl_plan.specs.Weighted.{amounts_of};
-ghost use Rattle.dl_plan.specs.Severity.{HasDistribution};
+ghost use Rattle.dl_plan.specs.Prelude.{IsFineTo30Bits, amounts_of, HasDistribution};
 ghost use Rattle.dl_sev.specs.Steps.{weighed, items_of, mixture, mixed_probability};
 ghost use Rattle.dl_sev.specs.Refusals.{RefusesMixture};
 

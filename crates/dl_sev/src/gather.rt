@@ -4,8 +4,7 @@ ghost use Rattle.std.specs.Prelude.{◌≡◌, ◌<◌, ◌≤◌, ◌^◌, ℕ,
 ghost use Rattle.std.specs.List.Sorted.{IsNonDecreasingBy, IsStrictlyIncreasing};
 ghost use Rattle.dl_limits.specs.Limits.{most_parts};
 ghost use Rattle.dl_exact.specs.Fraction.{◌over◌};
-ghost use Rattle.dl_plan.specs.Weighted.{amounts_of, weight_sum, weight_at};
-ghost use Rattle.dl_plan.specs.Severity.{probability_of};
+ghost use Rattle.dl_plan.specs.Prelude.{amounts_of, weight_sum, weight_at, probability_of};
 ghost use Rattle.dl_sev.specs.Steps.{with_weighed};
 
 use dl_plan::{Item, Sev};

@@ -1,9 +1,7 @@
 //! The outcomes of amounts after an occurrence clause, where they are whole numbers.
 
 ghost use Rattle.std.specs.Prelude.{◌≡◌, map, All, IfOk};
-ghost use Rattle.dl_plan.specs.Fine.{IsWhole};
-ghost use Rattle.dl_plan.specs.Severity.{pairs_of, HasDistribution};
-ghost use Rattle.dl_plan.specs.Clause.{kept, IsClause};
+ghost use Rattle.dl_plan.specs.Prelude.{IsWhole, pairs_of, HasDistribution, kept, IsClause};
 ghost use Rattle.dl_sev.specs.Steps.{ceded_each, with_amount};
 
 use crate::gather::gathered;

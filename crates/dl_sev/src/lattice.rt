@@ -2,8 +2,7 @@
 
 ghost use Rattle.std.specs.Prelude.{◌<◌, ◌^◌, ◌↔◌, IsTrue, All};
 ghost use Rattle.dl_limits.specs.Limits.{sum_bound};
-ghost use Rattle.dl_plan.specs.Fine.{IsWhole};
-ghost use Rattle.dl_plan.specs.Clause.{kept, IsClause};
+ghost use Rattle.dl_plan.specs.Prelude.{IsWhole, kept, IsClause};
 ghost use Rattle.dl_sev.specs.Fits.{FitsStep, FitsAfter, FitsLayer};
 
 use dl_plan::{Cede, CedeLayer};

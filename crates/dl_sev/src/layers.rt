@@ -1,9 +1,7 @@
 //! The part of a severity above an attachment, its layer and its occurrence clause.
 
 ghost use Rattle.std.specs.Prelude.{◌≡◌, Option, map, All, IfOk, OnOk, MatchResult};
-ghost use Rattle.dl_plan.specs.Fine.{IsWhole};
-ghost use Rattle.dl_plan.specs.Severity.{pairs_of, conditioned, HasDistribution};
-ghost use Rattle.dl_plan.specs.Clause.{layer, kept, IsClause};
+ghost use Rattle.dl_plan.specs.Prelude.{IsWhole, pairs_of, conditioned, HasDistribution, layer, kept, IsClause};
 ghost use Rattle.dl_sev.specs.Steps.{layered, ceded_each, with_amount};
 ghost use Rattle.dl_sev.specs.Refusals.{RefusesAbove, RefusesClause};
 

@@ -5,31 +5,24 @@ use Rattle.dl_iv.specs.declared.interval.Iv.{Iv}
 use Rattle.dl_lexer.specs.declared.token.Token.{Token}
 use Rattle.dl_lexer.specs.Cutting.{Covers, IsBad}
 use Rattle.dl_ast.specs.declared.ast.Program.{Program}
-use Rattle.dl_ast.specs.Lexemes.{lexemes}
-use Rattle.dl_ast.specs.Rules.{Spells}
-use Rattle.dl_ast.specs.Grammar.{program}
+use Rattle.dl_ast.specs.Prelude.{lexemes, Spells, program}
 use Rattle.dl_parser.specs.Viable.{Stops, IsContinuous}
 use Rattle.dl_printer.specs.Canonical.{canonical}
 use Rattle.dl_plan.specs.declared.plan.Plan.{Plan}
 use Rattle.dl_plan.specs.declared.settings.Form.{Form}
 use Rattle.dl_plan.specs.declared.settings.Form.TheVariants.{Run, Fmt, Cert, Verify}
 use Rattle.dl_plan.specs.declared.settings.Settings.{Settings}
-use Rattle.dl_plan.specs.Forms.{IsOfCert, IsOfPlan}
-use Rattle.dl_plan.specs.Valid.{IsValid}
-use Rattle.dl_model.specs.Family.{GridEncloses}
-use Rattle.dl_model.specs.Program.{total}
-use Rattle.dl_model.specs.Plans.{aggregates_of}
+use Rattle.dl_plan.specs.Prelude.{IsOfCert, IsOfPlan, IsValid}
+use Rattle.dl_model.specs.Prelude.{GridEncloses, total, aggregates_of}
 use Rattle.dl_words.specs.declared.fault.UsageFault.{UsageFault}
 use Rattle.dl_words.specs.Words.{words_of}
 use Rattle.dl_types.specs.declared.fault.TypeFault.{TypeFault}
-use Rattle.dl_types.specs.Faults.{first_fault}
-use Rattle.dl_types.specs.Plans.{IsPlanOf}
+use Rattle.dl_types.specs.Prelude.{first_fault, IsPlanOf}
 use Rattle.dl_report.specs.declared.report.Report.{Report}
 use Rattle.dl_eval.specs.declared.fault.EvalFault.{EvalFault}
 use Rattle.dl_eval.specs.declared.fault.EvalFault.TheVariants as evals
 use Rattle.dl_eval.specs.Answers.{IsAnswered, AreAdmitted, RefusesAsk as RefusesAsks}
-use Rattle.dl_cert.specs.Covered.{IsCovered, IsNotCovered}
-use Rattle.dl_cert.specs.Verified.{IsBadStep, IsCertificate, IsVerified}
+use Rattle.dl_cert.specs.Prelude.{IsCovered, IsNotCovered, IsBadStep, IsCertificate, IsVerified}
 use Rattle.dl_top.specs.declared.status.Status.{Status}
 use Rattle.dl_top.specs.declared.status.Status.TheVariants as statuses
 use Rattle.dl_top.specs.declared.fault.Fault.{Fault}

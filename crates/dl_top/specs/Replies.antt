@@ -3,8 +3,7 @@ use Rattle.std.specs.Prelude.{◌≡◌, ◌≢◌, ◌≤◌, ℕ, List, [], �
 use Rattle.dl_lexer.specs.declared.token.Token.{Token}
 use Rattle.dl_plan.specs.declared.settings.Form.{Form}
 use Rattle.dl_plan.specs.declared.settings.Settings.{Settings}
-use Rattle.dl_plan.specs.Forms.{IsOfCert}
-use Rattle.dl_plan.specs.Ranges.{AreInRange}
+use Rattle.dl_plan.specs.Prelude.{IsOfCert, AreInRange}
 use Rattle.dl_words.specs.Options.{most_cert_log2}
 use Rattle.dl_top.specs.declared.fault.Fault.{Fault}
 use Rattle.dl_words.specs.declared.fault.UsageFault.{UsageFault}

@@ -4,9 +4,7 @@ use Rattle.dl_plan.specs.declared.settings.Format.{Format}
 use Rattle.dl_plan.specs.declared.settings.Format.TheVariants.{Plain, Csv, Json}
 use Rattle.dl_plan.specs.declared.plan.Plan.{Plan}
 use Rattle.dl_report.specs.declared.report.Report.{Report}
-use Rattle.dl_report.specs.Lines.{lines_of}
-use Rattle.dl_report.specs.Records.{csv_of}
-use Rattle.dl_report.specs.Objects.{json_of}
+use Rattle.dl_report.specs.Prelude.{lines_of, csv_of, json_of}
 
 -- the bytes of a report in this format
 abbrev pub written : Format → Plan → Report → List ℕ

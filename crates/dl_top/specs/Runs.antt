@@ -1,9 +1,7 @@
 -- What a call of the program leaves behind.
 use Rattle.std.specs.Prelude.{◌≡◌, ◌≢◌, ◌+◌, ◌⊎◌, ℕ, List, [], Option, IfSome, Err}
 use Rattle.std.specs.Io.KnownBytes.{Appends}
-use Rattle.dl_outside.specs.Bytes.{AppendsPartOf, TakesAtMost}
-use Rattle.dl_outside.specs.Faults.{Rose}
-use Rattle.dl_outside.specs.Steps.{Step, Reading}
+use Rattle.dl_outside.specs.Prelude.{AppendsPartOf, TakesAtMost, Rose, Step, Reading}
 use Rattle.dl_outside.specs.declared.ReadFailed.{ReadFailed}
 use Rattle.dl_words.specs.declared.fault.UsageFault.{UsageFault}
 use Rattle.dl_words.specs.Words.{words_of}

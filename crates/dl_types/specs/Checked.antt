@@ -3,14 +3,12 @@ use Rattle.std.specs.Prelude.{◌≡◌, ◌≤◌, ⊤, Option, true, false, Is
 use Rattle.dl_limits.specs.Limits.{most_claims, most_log2, most_shape}
 use Rattle.dl_exact.specs.Fraction.{Fraction, whole, ◌/ℚ◌, ◌<ℚ◌}
 use Rattle.dl_plan.specs.declared.settings.Settings.{Settings}
-use Rattle.dl_plan.specs.Fine.{HasPartsOf48Bits}
-use Rattle.dl_plan.specs.Ranges.{IsBucket}
+use Rattle.dl_plan.specs.Prelude.{HasPartsOf48Bits, IsBucket}
 use Rattle.dl_buckets.specs.declared.grid.GridFreq.{GridFreq}
 use Rattle.dl_buckets.specs.declared.grid.GridFreq.TheVariants.{Fixed, Poisson, Bernoulli, Binomial, Gamma}
 use Rattle.dl_buckets.specs.declared.grid.GridCount.{GridCount}
 use Rattle.dl_buckets.specs.declared.grid.GridCount.TheVariants.{Exposed, Listed}
-use Rattle.dl_buckets.specs.Small.{IsGridFreq}
-use Rattle.dl_buckets.specs.Lists.{is_whole, is_zero, is_above}
+use Rattle.dl_buckets.specs.Prelude.{IsGridFreq, is_whole, is_zero, is_above}
 use Rattle.dl_types.specs.Exposures.{shape_of}
 use Rattle.dl_types.specs.Listed.{AreCounts}
 use Rattle.dl_types.specs.Rules.{passes}

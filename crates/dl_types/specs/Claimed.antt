@@ -8,9 +8,7 @@ use Rattle.dl_exact.specs.Fraction.{Fraction}
 use Rattle.dl_buckets.specs.declared.grid.GridCount.{GridCount}
 use Rattle.dl_buckets.specs.declared.grid.GridCount.TheVariants.{Exposed, Listed}
 use Rattle.dl_buckets.specs.declared.grid.GridUnit.{GridUnit}
-use Rattle.dl_buckets.specs.CheckedGrid.{IsSevWithin}
-use Rattle.dl_buckets.specs.Severity.{final_severity}
-use Rattle.dl_buckets.specs.FineParts.{fractions_too_fine}
+use Rattle.dl_buckets.specs.Prelude.{IsSevWithin, final_severity, fractions_too_fine}
 use Rattle.dl_types.specs.declared.claims.Claims.{Claims}
 use Rattle.dl_types.specs.declared.claims.UnitCount.{UnitCount}
 use Rattle.dl_types.specs.declared.claims.UnitCount.TheVariants as counts

@@ -8,10 +8,8 @@ use Rattle.dl_buckets.specs.declared.grid.GridFreq.{GridFreq}
 use Rattle.dl_buckets.specs.declared.grid.GridFreq.TheVariants.{Fixed, Poisson, Bernoulli, Binomial, Gamma}
 use Rattle.dl_buckets.specs.declared.grid.GridCount.{GridCount}
 use Rattle.dl_buckets.specs.declared.grid.GridCount.TheVariants.{Exposed, Listed}
-use Rattle.dl_buckets.specs.Lists.{is_admitted}
+use Rattle.dl_buckets.specs.Prelude.{is_admitted, severity_in_layer, has_severity}
 use Rattle.dl_buckets.specs.declared.grid.GridUnit.{GridUnit}
-use Rattle.dl_buckets.specs.Severity.{severity_in_layer}
-use Rattle.dl_buckets.specs.FineParts.{has_severity}
 
 -- the expected severity in money, after the layer and before the occurrence clause
 abbrev pub mean_in_money : Fraction → GridUnit → Fraction

@@ -1,26 +1,18 @@
 -- The conditions on units that share a factor.
 use Rattle.std.specs.Prelude.{ℕ, suc, ◌≡◌, ◌<◌, Bool, true, false, not, ◌||◌, nat_lt, if◌then◌else◌, List, [], ◌∷◌, map, flat_map, fold, Option, Some, None}
 use Rattle.dl_limits.specs.Limits.{most_expected, most_shape}
-use Rattle.dl_exact.specs.Fraction.{Fraction, whole, ◌over◌, ◌+ℚ◌, ◌*ℚ◌, ◌/ℚ◌}
+use Rattle.dl_exact.specs.Prelude.{Fraction, whole, ◌over◌, ◌+ℚ◌, ◌*ℚ◌, ◌/ℚ◌, lcm}
 use Rattle.dl_ast.specs.declared.ast.MixAst.{MixAst}
 use Rattle.dl_ast.specs.declared.ast.Numeral.{Numeral}
 use Rattle.dl_ast.specs.declared.ast.SevDef.{SevDef}
 use Rattle.dl_ast.specs.declared.ast.UnitAst.{UnitAst}
-use Rattle.dl_exact.specs.Multiples.{lcm}
 use Rattle.dl_plan.specs.declared.severity.Sev.{Sev}
 use Rattle.dl_plan.specs.declared.plan.Unit.{Unit as UnitOfPlan}
-use Rattle.dl_plan.specs.Severity.{Pairs, probability}
-use Rattle.dl_plan.specs.Count.{IsClaimCount, expected_count as expected_of_plan}
-use Rattle.dl_plan.specs.Fine.{HasPartsOf48Bits}
-use Rattle.dl_plan.specs.Means.{thinned_mean}
-use Rattle.dl_plan.specs.Common.{raised}
+use Rattle.dl_plan.specs.Prelude.{Pairs, probability, IsClaimCount, expected_count as expected_of_plan, HasPartsOf48Bits, thinned_mean, raised}
 use Rattle.dl_buckets.specs.declared.grid.GridCount.{GridCount}
 use Rattle.dl_buckets.specs.declared.grid.GridCount.TheVariants.{Exposed, Listed}
-use Rattle.dl_buckets.specs.Values.{value}
-use Rattle.dl_buckets.specs.Lists.{is_admitted, is_fine, is_zero}
+use Rattle.dl_buckets.specs.Prelude.{value, is_admitted, is_fine, is_zero, grid_of, final_severity, support}
 use Rattle.dl_buckets.specs.declared.grid.GridUnit.{GridUnit}
-use Rattle.dl_buckets.specs.Grid.{grid_of}
-use Rattle.dl_buckets.specs.Severity.{final_severity, support}
 use Rattle.dl_types.specs.Exposures.{expected_count, thinned, shape_of}
 use Rattle.dl_types.specs.Rules.{passes, has_bad_shape}
 use Rattle.dl_types.specs.Severities.{mixture_of}

@@ -15,15 +15,9 @@ use Rattle.dl_types.specs.declared.rule.Rule.{Rule}
 use Rattle.dl_types.specs.declared.rule.Rule.TheVariants as rules
 use Rattle.dl_types.specs.declared.fault.TypeFault.{TypeFault}
 use Rattle.dl_buckets.specs.declared.flaws.Flaws.{Flaws}
-use Rattle.dl_buckets.specs.First.{◌else◌, at_if, within, first_in, in_turn}
-use Rattle.dl_buckets.specs.Reading.{flaws_of}
-use Rattle.dl_buckets.specs.Values.{value}
+use Rattle.dl_buckets.specs.Prelude.{◌else◌, at_if, within, first_in, in_turn, flaws_of, value, grid_of, severity_in_layer, support, made_of, weights_differ, none_above, overlap, share_above_one, off_grid_cession}
 use Rattle.dl_buckets.specs.declared.grid.GridCount.{GridCount}
 use Rattle.dl_buckets.specs.declared.grid.GridUnit.{GridUnit}
-use Rattle.dl_buckets.specs.Grid.{grid_of}
-use Rattle.dl_buckets.specs.Severity.{severity_in_layer, support}
-use Rattle.dl_buckets.specs.Clauses.{made_of}
-use Rattle.dl_buckets.specs.Rules.{weights_differ, none_above, overlap, share_above_one, off_grid_cession}
 use Rattle.dl_types.specs.Exposures.{expected_claims, shape_of}
 use Rattle.dl_types.specs.Factor.{Part, part_in, is_too_large}
 use Rattle.dl_types.specs.Rules.{duplicate_name, zero_mean, count_not_whole, count_above_one, trials_not_whole, shape_not_whole, too_fine, too_many_claims, horizon_too_large, too_many_units, zero_base, common_unit, common_shape, duplicate_severity}

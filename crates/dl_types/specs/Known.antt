@@ -6,9 +6,7 @@ use Rattle.dl_ast.specs.WellFormed.{IsFormedMixture}
 use Rattle.dl_plan.specs.declared.settings.Settings.{Settings}
 use Rattle.dl_buckets.specs.declared.flaws.Gridded.{Gridded}
 use Rattle.dl_buckets.specs.declared.grid.GridSev.{GridSev}
-use Rattle.dl_buckets.specs.Flaws.{IsRead}
-use Rattle.dl_buckets.specs.Grid.{grid_mixture}
-use Rattle.dl_buckets.specs.Reading.{flaws_of_mixture}
+use Rattle.dl_buckets.specs.Prelude.{IsRead, grid_mixture, flaws_of_mixture}
 use Rattle.dl_types.specs.declared.known.KnownSeverity.{KnownSeverity}
 use Rattle.dl_types.specs.Faults.{most_asked}
 use Rattle.dl_types.specs.Severities.{named}

@@ -11,3 +11,4 @@ pub mod Answer
 pub mod Claimed
 pub mod Severities
 pub mod Known
+pub mod Prelude

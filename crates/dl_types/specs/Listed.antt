@@ -4,11 +4,7 @@ use Rattle.std.specs.List.{list_any}
 use Rattle.dl_limits.specs.Limits.{most_count}
 use Rattle.dl_buckets.specs.declared.grid.ValueList.{ValueList}
 use Rattle.dl_buckets.specs.declared.grid.Shares.{Shares}
-use Rattle.dl_buckets.specs.First.{within}
-use Rattle.dl_buckets.specs.Lists.{probs_of, is_whole}
-use Rattle.dl_buckets.specs.Small.{IsShares, IsValueList}
-use Rattle.dl_buckets.specs.Rules.{other_length}
-use Rattle.dl_buckets.specs.Parts.{AreProbabilities}
+use Rattle.dl_buckets.specs.Prelude.{within, probs_of, is_whole, IsShares, IsValueList, other_length, AreProbabilities}
 use Rattle.dl_types.specs.Rules.{passes}
 
 -- whole numbers of at most 256 claims, with as many fine probabilities, which sum to 1

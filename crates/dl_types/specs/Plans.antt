@@ -7,11 +7,7 @@ use Rattle.dl_plan.specs.declared.plan.Unit.{Unit as UnitOfPlan}
 use Rattle.dl_plan.specs.declared.plan.Plan.{Plan}
 use Rattle.dl_plan.specs.declared.settings.Settings.{Settings}
 use Rattle.dl_plan.specs.declared.item.Item.{Item}
-use Rattle.dl_plan.specs.Weighted.{weight_at}
-use Rattle.dl_plan.specs.Severity.{Pairs, probability, HasDistribution}
-use Rattle.dl_plan.specs.Clause.{Clause, IsClause}
-use Rattle.dl_plan.specs.Count.{IsClaimCount, expected_count as expected_of_plan}
-use Rattle.dl_plan.specs.Fine.{HasPartsOf48Bits}
+use Rattle.dl_plan.specs.Prelude.{weight_at, Pairs, probability, HasDistribution, Clause, IsClause, IsClaimCount, expected_count as expected_of_plan, HasPartsOf48Bits}
 use Rattle.dl_buckets.specs.declared.grid.GridFreq.{GridFreq}
 use Rattle.dl_buckets.specs.declared.grid.GridFreq.TheVariants.{Fixed, Poisson, Bernoulli, Binomial, Gamma}
 use Rattle.dl_buckets.specs.declared.grid.GridCount.{GridCount}
@@ -20,8 +16,7 @@ use Rattle.dl_buckets.specs.declared.grid.ValueList.{ValueList}
 use Rattle.dl_buckets.specs.declared.grid.Shares.{Shares}
 use Rattle.dl_buckets.specs.declared.grid.GridClause.{GridClause}
 use Rattle.dl_buckets.specs.declared.grid.GridUnit.{GridUnit}
-use Rattle.dl_buckets.specs.Grid.{grid_of}
-use Rattle.dl_buckets.specs.Values.{value}
+use Rattle.dl_buckets.specs.Prelude.{grid_of, value, probs_of, clause_of, final_severity}
 use Rattle.dl_ast.specs.declared.ast.MixAst.{MixAst}
 use Rattle.dl_ast.specs.declared.ast.Numeral.{Numeral}
 use Rattle.dl_ast.specs.declared.ast.PortHead.{PortHead}
@@ -29,11 +24,8 @@ use Rattle.dl_ast.specs.declared.ast.SevDef.{SevDef}
 use Rattle.dl_ast.specs.declared.ast.UnitAst.{UnitAst}
 use Rattle.dl_ast.specs.declared.ast.Program.{Program}
 use Rattle.std.specs.List.{AllZip}
-use Rattle.dl_buckets.specs.Lists.{probs_of}
-use Rattle.dl_buckets.specs.Clauses.{clause_of}
 use Rattle.dl_buckets.specs.declared.made.MadeClause.{MadeClause}
 use Rattle.dl_buckets.specs.declared.made.MadeClause.TheVariants.{Missing, TooFine, Whole}
-use Rattle.dl_buckets.specs.Severity.{final_severity}
 use Rattle.dl_types.specs.Exposures.{expected_count, shape_of}
 use Rattle.dl_types.specs.Faults.{cells_asked}
 use Rattle.dl_types.specs.Severities.{mixture_of}

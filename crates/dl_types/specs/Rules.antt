@@ -26,14 +26,10 @@ use Rattle.dl_buckets.specs.declared.grid.GridFreq.{GridFreq}
 use Rattle.dl_buckets.specs.declared.grid.GridFreq.TheVariants.{Fixed, Poisson, Bernoulli, Binomial, Gamma}
 use Rattle.dl_buckets.specs.declared.grid.GridCount.{GridCount}
 use Rattle.dl_buckets.specs.declared.grid.GridCount.TheVariants.{Exposed, Listed}
-use Rattle.dl_buckets.specs.First.{at_if, within}
-use Rattle.dl_buckets.specs.Values.{value, is_bad_numeral}
-use Rattle.dl_buckets.specs.Lists.{is_admitted, is_whole, is_zero, is_above}
+use Rattle.dl_buckets.specs.Prelude.{at_if, within, value, is_bad_numeral, is_admitted, is_whole, is_zero, is_above, final_severity, fractions_too_fine}
 use Rattle.dl_buckets.specs.declared.made.MadeClause.{MadeClause}
 use Rattle.dl_buckets.specs.declared.made.MadeClause.TheVariants as made
 use Rattle.dl_buckets.specs.declared.grid.GridUnit.{GridUnit}
-use Rattle.dl_buckets.specs.Severity.{final_severity}
-use Rattle.dl_buckets.specs.FineParts.{fractions_too_fine}
 use Rattle.dl_types.specs.UnitNames.{names_of, severity_names}
 use Rattle.dl_types.specs.Exposures.{expected_loss, is_unbounded, claims_above_zero, is_there_and, shape_of}
 

@@ -4,11 +4,7 @@ ghost use Rattle.std.specs.Prelude.{◌≡◌, ◌<◌, None, IfOk, OnOk};
 ghost use Rattle.dl_types.specs.Faults.{breaks, first_broken, clause_rules};
 ghost use Rattle.dl_types.specs.Answer.{HasFault};
 ghost use Rattle.dl_types.specs.declared.rule.Rule.TheVariants.{OffGridCession};
-ghost use Rattle.dl_buckets.specs.Rules.{off_grid_cession};
-ghost use Rattle.dl_buckets.specs.Severity.{severity_in_layer, support};
-ghost use Rattle.dl_buckets.specs.CheckedUnit.{IsLayered};
-ghost use Rattle.dl_buckets.specs.CheckedClauses.{AreClausesOf};
-ghost use Rattle.dl_buckets.specs.CheckedGrid.{IsGridUnit};
+ghost use Rattle.dl_buckets.specs.Prelude.{off_grid_cession, severity_in_layer, support, IsLayered, AreClausesOf, IsGridUnit};
 
 use crate::broken::{broken, unless_broken};
 use crate::fault::CheckFault;

@@ -4,13 +4,9 @@ ghost use Rattle.std.specs.Prelude.{◌≡◌, ◌<◌, Option, None, Some, IfOk
 ghost use Rattle.dl_types.specs.Faults.{breaks, first_broken, whole_rules, count_rules};
 ghost use Rattle.dl_types.specs.Answer.{HasFault};
 ghost use Rattle.dl_types.specs.declared.rule.Rule.TheVariants.{TooFine};
-ghost use Rattle.dl_buckets.specs.Rules.{off_grid_cession};
+ghost use Rattle.dl_buckets.specs.Prelude.{off_grid_cession, severity_in_layer, support, IsWeighed, IsLayered, AreClausesOf};
 ghost use Rattle.dl_types.specs.Rules.{too_fine};
-ghost use Rattle.dl_buckets.specs.Severity.{severity_in_layer, support};
-ghost use Rattle.dl_buckets.specs.FineParts.{IsWeighed};
 ghost use Rattle.dl_plan.specs.Ranges.{IsBucket};
-ghost use Rattle.dl_buckets.specs.CheckedUnit.{IsLayered};
-ghost use Rattle.dl_buckets.specs.CheckedClauses.{AreClausesOf};
 ghost use Rattle.dl_types.specs.Exposures.{expected_claims};
 ghost use Rattle.dl_types.specs.Claimed.{AreClaims, IsNumberOf, IsUnitCount};
 

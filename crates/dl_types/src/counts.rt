@@ -8,8 +8,7 @@ ghost use Rattle.dl_types.specs.Plans.{IsTabled, IsCountMade};
 ghost use Rattle.dl_limits.specs.Limits.{most_count};
 ghost use Rattle.dl_types.specs.Listed.{AreCounts};
 ghost use Rattle.dl_types.specs.Checked.{IsWholeCount, IsCountChecked};
-ghost use Rattle.dl_buckets.specs.First.{at_if};
-ghost use Rattle.dl_buckets.specs.Lists.{is_whole};
+ghost use Rattle.dl_buckets.specs.Prelude.{at_if, is_whole};
 
 use crate::claims::UnitCount;
 use crate::frequencies::{exposed_count, exposed_too_many};

@@ -3,13 +3,9 @@
 ghost use Rattle.std.specs.Prelude.{◌≡◌, nat_lt, not, false, None};
 ghost use Rattle.std.specs.List.{list_any};
 ghost use Rattle.dl_exact.specs.Fraction.{whole, ◌*ℚ◌, ◌/ℚ◌, ◌<ℚ◌};
-ghost use Rattle.dl_plan.specs.Ranges.{IsBucket};
-ghost use Rattle.dl_plan.specs.Severity.{mean_amount, HasDistribution};
+ghost use Rattle.dl_plan.specs.Prelude.{IsBucket, mean_amount, HasDistribution};
 ghost use Rattle.dl_buckets.specs.declared.grid.GridCount.TheVariants.{Exposed};
-ghost use Rattle.dl_buckets.specs.Lists.{is_whole};
-ghost use Rattle.dl_buckets.specs.FineParts.{has_severity, IsWeighed};
-ghost use Rattle.dl_buckets.specs.CheckedGrid.{IsGridUnit};
-ghost use Rattle.dl_buckets.specs.Severity.{severity_in_layer, support};
+ghost use Rattle.dl_buckets.specs.Prelude.{is_whole, has_severity, IsWeighed, IsGridUnit, severity_in_layer, support};
 ghost use Rattle.dl_types.specs.Exposures.{mean_in_money, admitted, exposed_claims, expected_claims};
 ghost use Rattle.dl_types.specs.Rules.{has_no_loss, zero_loss, zero_mean, exposure_span, count_not_whole, count_above_one, has_no_trials, trials_not_whole, shape_not_whole};
 

@@ -5,10 +5,7 @@ ghost use Rattle.std.specs.Prelude.{◌≡◌, ◌<◌, ◌≤◌, ◌&&◌, ◌
 ghost use Rattle.std.specs.Option.{SomeIff};
 ghost use Rattle.dl_limits.specs.Limits.{most_expected, most_parts, most_shape};
 ghost use Rattle.dl_exact.specs.Fraction.{whole, ◌≤ℚ◌, ◌<ℚ◌};
-ghost use Rattle.dl_plan.specs.Common.{raised, unit_share, shared_probabilities};
-ghost use Rattle.dl_plan.specs.Count.{expected_count};
-ghost use Rattle.dl_plan.specs.Fine.{HasPartsOf48Bits};
-ghost use Rattle.dl_plan.specs.Means.{thinned_mean};
+ghost use Rattle.dl_plan.specs.Prelude.{raised, unit_share, shared_probabilities, expected_count, HasPartsOf48Bits, thinned_mean};
 ghost use Rattle.dl_buckets.specs.Lists.{is_fine};
 ghost use Rattle.dl_types.specs.Exposures.{admitted};
 ghost use Rattle.dl_types.specs.Factor.{running_sum, common_multiple, times_amounts, is_raised_coarse, passes_bounds, is_too_large, part_of, IsCounted};

@@ -5,13 +5,7 @@ ghost use Rattle.std.specs.Option.{MatchOption};
 ghost use Rattle.dl_types.specs.Rules.{loss_too_fine, exposed_too_fine};
 ghost use Rattle.dl_types.specs.Exposures.{expected_loss, is_unbounded};
 ghost use Rattle.dl_buckets.specs.declared.grid.GridClause.{GridClause as ClauseInGrid};
-ghost use Rattle.dl_buckets.specs.Clauses.{made_of};
-ghost use Rattle.dl_buckets.specs.CheckedClauses.{AreClausesOf};
-ghost use Rattle.dl_buckets.specs.FineParts.{has_shares, IsWeighed};
-ghost use Rattle.dl_buckets.specs.CheckedUnit.{IsLayered};
-ghost use Rattle.dl_buckets.specs.Lists.{probs_in_count, is_fine};
-ghost use Rattle.dl_buckets.specs.Small.{IsGridCount};
-ghost use Rattle.dl_buckets.specs.Rules.{off_grid_cession};
+ghost use Rattle.dl_buckets.specs.Prelude.{made_of, AreClausesOf, has_shares, IsWeighed, IsLayered, probs_in_count, is_fine, IsGridCount, off_grid_cession};
 ghost use Rattle.dl_types.specs.Claimed.{IsFineSeverity, IsNumberOf, IsUnitCount};
 
 use crate::claims::{UnitCount, is_admitted, small};

@@ -1,8 +1,7 @@
 //! Wide fractions: quotients of two fractions of small parts.
 
 ghost use Rattle.std.specs.Prelude.{◌≡◌, ◌<◌, true};
-ghost use Rattle.dl_exact.specs.Gcd.{gcd};
-ghost use Rattle.dl_exact.specs.Fraction.{whole, ◌*ℚ◌, ◌/ℚ◌, ◌<ℚ◌};
+ghost use Rattle.dl_exact.specs.Prelude.{gcd, whole, ◌*ℚ◌, ◌/ℚ◌, ◌<ℚ◌};
 ghost use Rattle.dl_types.specs.Exposures.{admitted};
 
 use crate::claims::small;

@@ -7,9 +7,7 @@ ghost use Rattle.dl_ast.specs.WellFormed.{IsFormedUnit, IsFormedDefinition};
 ghost use Rattle.dl_ast.specs.declared.ast.MixAst.{MixAst as Mixture};
 ghost use Rattle.dl_types.specs.Known.{IsMixtureRead, IsKnown};
 ghost use Rattle.dl_types.specs.Checked.{IsSet};
-ghost use Rattle.dl_buckets.specs.Grid.{grid_of};
-ghost use Rattle.dl_buckets.specs.Reading.{flaws_of};
-ghost use Rattle.dl_buckets.specs.CheckedGrid.{IsGridUnit, IsWithin};
+ghost use Rattle.dl_buckets.specs.Prelude.{grid_of, flaws_of, IsGridUnit, IsWithin};
 ghost use Rattle.dl_limits.specs.Limits.{most_units};
 ghost use Rattle.dl_types.specs.UnitNames.{names_of};
 

@@ -2,12 +2,9 @@
 
 ghost use Rattle.std.specs.Prelude.{◌≡◌, ℕ, ◌*◌, ◌^◌, ◌<◌, ◌≤◌, length, IfOk};
 ghost use Rattle.std.specs.Int.{div_ceil};
-ghost use Rattle.dl_model.specs.Counts.{fixed};
-ghost use Rattle.dl_grid.specs.Cells.{high_at, spread};
-ghost use Rattle.dl_grid.specs.Room.{IsGridSize};
-ghost use Rattle.dl_model.specs.Family.{compound, GridEncloses};
-ghost use Rattle.dl_plan.specs.Weighted.{weight_at};
-ghost use Rattle.dl_plan.specs.Severity.{probability_of};
+ghost use Rattle.dl_model.specs.Prelude.{fixed, compound, GridEncloses};
+ghost use Rattle.dl_grid.specs.Prelude.{high_at, spread, IsGridSize};
+ghost use Rattle.dl_plan.specs.Prelude.{weight_at, probability_of};
 
 use dl_grid::Grid;
 use dl_plan::Sev;

@@ -4,14 +4,10 @@
 ghost use Rattle.std.specs.Prelude.{◌≡◌, ℕ, ◌^◌, ◌<◌, ◌≤◌, length, IfOk, IsTrue};
 ghost use Rattle.dl_limits.specs.Limits.{most_cells};
 ghost use Rattle.dl_exact.specs.Fraction.{Fraction};
-ghost use Rattle.dl_grid.specs.Cells.{spread};
-ghost use Rattle.dl_grid.specs.Room.{IsGridSize};
-ghost use Rattle.dl_model.specs.Family.{GridEncloses};
-ghost use Rattle.dl_model.specs.Plans.{compound_of};
+ghost use Rattle.dl_grid.specs.Prelude.{spread, IsGridSize};
+ghost use Rattle.dl_model.specs.Prelude.{GridEncloses, compound_of};
 ghost use Rattle.dl_plan.specs.declared.plan.Freq.TheVariants.{Poisson, Gamma};
-ghost use Rattle.dl_plan.specs.Severity.{pairs_of, conditioned, HasDistribution};
-ghost use Rattle.dl_plan.specs.Means.{thinned_mean};
-ghost use Rattle.dl_plan.specs.Valid.{claims_alone, IsValidUnit};
+ghost use Rattle.dl_plan.specs.Prelude.{pairs_of, conditioned, HasDistribution, thinned_mean, claims_alone, IsValidUnit};
 ghost use Rattle.dl_budget.specs.Claims.{claims_budget};
 
 use crate::unbounded::{gamma_claims, poisson_claims};

@@ -2,15 +2,9 @@
 
 ghost use Rattle.std.specs.Prelude.{◌≡◌, ℕ, ◌+◌, ◌*◌, ◌^◌, ◌≤◌, length, All, IfOk};
 ghost use Rattle.dl_exact.specs.Fraction.{◌over◌};
-ghost use Rattle.dl_grid.specs.Cells.{spread};
-ghost use Rattle.dl_grid.specs.Room.{IsGridSize};
-ghost use Rattle.dl_grid.specs.Width.{power_spread, mixed_spread};
-ghost use Rattle.dl_model.specs.Counts.{fixed, binomial};
-ghost use Rattle.dl_model.specs.Family.{compound, GridEncloses};
-ghost use Rattle.dl_plan.specs.Count.{IsProbability};
-ghost use Rattle.dl_plan.specs.Severity.{probability_of};
-ghost use Rattle.dl_plan.specs.Weighted.{weight_at, IsWeighted};
-ghost use Rattle.dl_plan.specs.Weighted.{greatest};
+ghost use Rattle.dl_grid.specs.Prelude.{spread, IsGridSize, power_spread, mixed_spread};
+ghost use Rattle.dl_model.specs.Prelude.{fixed, binomial, compound, GridEncloses};
+ghost use Rattle.dl_plan.specs.Prelude.{IsProbability, probability_of, weight_at, IsWeighted, greatest};
 
 use crate::claim::one_claim;
 use crate::trial::one_trial;

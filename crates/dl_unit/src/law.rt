@@ -1,8 +1,7 @@
 //! Laws of the definitions alone. Nothing here runs.
 
 ghost use Rattle.std.specs.Prelude.{ℕ, ◌≡◌, ◌<◌, ◌≤◌};
-ghost use Rattle.dl_exact.specs.Fraction.{whole};
-ghost use Rattle.dl_exact.specs.Sum.{sum_to};
+ghost use Rattle.dl_exact.specs.Prelude.{whole, sum_to};
 ghost use Rattle.dl_model.specs.Counts.{binomial};
 
 /// The weights of `m` trials with probability `a / b` are whole probabilities: those of up to `m`

@@ -2,13 +2,9 @@
 
 ghost use Rattle.std.specs.Prelude.{ℕ, ◌-◌, ◌^◌, ◌≤◌, zero, IfOk};
 ghost use Rattle.dl_limits.specs.Limits.{IsPlanScale};
-ghost use Rattle.dl_exact.specs.Fraction.{Fraction, ◌over◌};
-ghost use Rattle.dl_exact.specs.Sum.{sum_to};
-ghost use Rattle.dl_model.specs.Series.{Holds};
-ghost use Rattle.dl_model.specs.Plans.{count_weights};
-ghost use Rattle.dl_plan.specs.Count.{expected_count, IsClaimCount};
-ghost use Rattle.dl_plan.specs.Fine.{HasPartsOf48Bits};
-ghost use Rattle.dl_plan.specs.Valid.{IsNewZero};
+ghost use Rattle.dl_exact.specs.Prelude.{Fraction, ◌over◌, sum_to};
+ghost use Rattle.dl_model.specs.Prelude.{Holds, count_weights};
+ghost use Rattle.dl_plan.specs.Prelude.{expected_count, IsClaimCount, HasPartsOf48Bits, IsNewZero};
 ghost use Rattle.dl_budget.specs.Claims.{none_budget};
 
 use crate::unit::sum_grid;

@@ -2,12 +2,9 @@
 
 ghost use Rattle.std.specs.Prelude.{◌≡◌, ℕ, ◌+◌, ◌-◌, ◌*◌, ◌/◌, ◌^◌, ◌<◌, ◌≤◌, min, length, IfOk};
 ghost use Rattle.std.specs.Int.{div_ceil};
-ghost use Rattle.dl_grid.specs.Cells.{low_at, high_at, spread, IsGrid};
-ghost use Rattle.dl_grid.specs.Room.{IsGridSize};
-ghost use Rattle.dl_model.specs.Counts.{binomial};
-ghost use Rattle.dl_model.specs.Family.{compound, GridEncloses};
-ghost use Rattle.dl_plan.specs.Count.{IsProbability};
-ghost use Rattle.dl_plan.specs.Severity.{probability_of};
+ghost use Rattle.dl_grid.specs.Prelude.{low_at, high_at, spread, IsGrid, IsGridSize};
+ghost use Rattle.dl_model.specs.Prelude.{binomial, compound, GridEncloses};
+ghost use Rattle.dl_plan.specs.Prelude.{IsProbability, probability_of};
 ghost use Rattle.dl_unit.specs.Trials.{low_trial, high_trial};
 
 use crate::claim::one_claim;

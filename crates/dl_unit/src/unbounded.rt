@@ -4,18 +4,11 @@
 ghost use Rattle.std.specs.Prelude.{◌≡◌, ℕ, ◌+◌, ◌*◌, ◌^◌, ◌<◌, ◌≤◌, length, IfOk, Some, None};
 ghost use Rattle.dl_limits.specs.Limits.{most_expected, most_shape};
 ghost use Rattle.dl_exact.specs.Fraction.{whole, ◌/ℚ◌, ◌≤ℚ◌};
-ghost use Rattle.dl_grid.specs.Cells.{spread};
-ghost use Rattle.dl_grid.specs.Room.{IsGridSize};
-ghost use Rattle.dl_model.specs.Counts.{poisson, gamma_of};
-ghost use Rattle.dl_model.specs.Family.{compound, times_itself, GridEncloses};
+ghost use Rattle.dl_grid.specs.Prelude.{spread, IsGridSize};
+ghost use Rattle.dl_model.specs.Prelude.{poisson, gamma_of, compound, times_itself, GridEncloses};
 ghost use Rattle.dl_plan.specs.declared.severity.Sev.{Sev};
-ghost use Rattle.dl_plan.specs.Count.{IsUnbounded};
-ghost use Rattle.dl_plan.specs.Fine.{HasPartsOf48Bits};
-ghost use Rattle.dl_plan.specs.Severity.{probability_of, pairs_of, conditioned, HasDistribution};
-ghost use Rattle.dl_plan.specs.Means.{thinned_mean};
-ghost use Rattle.dl_plan.specs.Valid.{claims_alone, IsValidUnit};
-ghost use Rattle.dl_budget.specs.Claims.{poisson_budget, gamma_budget};
-ghost use Rattle.dl_budget.specs.Halvings.{halvings};
+ghost use Rattle.dl_plan.specs.Prelude.{IsUnbounded, HasPartsOf48Bits, probability_of, pairs_of, conditioned, HasDistribution, thinned_mean, claims_alone, IsValidUnit};
+ghost use Rattle.dl_budget.specs.Prelude.{poisson_budget, gamma_budget, halvings};
 
 use dl_budget::halvings;
 use dl_frac::Frac;

@@ -2,14 +2,10 @@
 
 ghost use Rattle.std.specs.Prelude.{◌≡◌, ℕ, ◌^◌, ◌≤◌, length, IfOk};
 ghost use Rattle.dl_exact.specs.Fraction.{Fraction, whole};
-ghost use Rattle.dl_grid.specs.Cells.{spread};
-ghost use Rattle.dl_grid.specs.Room.{IsGridSize};
+ghost use Rattle.dl_grid.specs.Prelude.{spread, IsGridSize};
 ghost use Rattle.dl_budget.specs.Claims.{claims_budget};
-ghost use Rattle.dl_model.specs.Family.{GridEncloses};
-ghost use Rattle.dl_model.specs.Plans.{compound_of};
-ghost use Rattle.dl_plan.specs.Count.{IsUnbounded};
-ghost use Rattle.dl_plan.specs.Means.{thinned_mean};
-ghost use Rattle.dl_plan.specs.Valid.{claims_alone, IsValidUnit};
+ghost use Rattle.dl_model.specs.Prelude.{GridEncloses, compound_of};
+ghost use Rattle.dl_plan.specs.Prelude.{IsUnbounded, thinned_mean, claims_alone, IsValidUnit};
 ghost use Rattle.dl_plan.specs.declared.plan.Freq.TheVariants.{Poisson, Gamma};
 
 use crate::direct::{gamma_grid, poisson_grid};

@@ -8,10 +8,8 @@ use Rattle.std.proofs.lemmas.Nat.Gcd.{le_of_dvd}
 use Rattle.std.proofs.lemmas.List.Quantifiers.{all_pairs_push}
 use lib.ListN.{length-append, length-take}
 use Rattle.dl_limits.specs.Limits.{most_amount_at, most_expected}
-use Rattle.dl_exact.specs.Fraction.{Fraction, whole, ◌over◌, ◌+ℚ◌, ◌-ℚ◌, ◌*ℚ◌, ◌/ℚ◌, ◌≤ℚ◌, ◌<ℚ◌}
+use Rattle.dl_exact.specs.Prelude.{Fraction, whole, ◌over◌, ◌+ℚ◌, ◌-ℚ◌, ◌*ℚ◌, ◌/ℚ◌, ◌≤ℚ◌, ◌<ℚ◌, lcm, gcd}
 unfoldable use Rattle.dl_exact.specs.Sum.{sum_over}
-use Rattle.dl_exact.specs.Multiples.{lcm}
-use Rattle.dl_exact.specs.Gcd.{gcd}
 use Rattle.dl_exact.proofs.GcdLaws.{cut_right}
 use Rattle.dl_exact.proofs.Multiples.{lcm_least}
 use Rattle.dl_exact.proofs.Laws.{one_pos}
@@ -22,14 +20,7 @@ use Rattle.dl_plan.specs.declared.plan.Freq.{Freq}
 use Rattle.dl_plan.specs.declared.plan.Freq.TheVariants.{Fixed, Table, Bernoulli, Binomial, Poisson, Gamma}
 use Rattle.dl_plan.specs.declared.plan.Unit.{Unit as UnitOfPlan}
 use Rattle.dl_plan.specs.declared.plan.Plan.{Plan}
-use Rattle.dl_plan.specs.Fine.{HasPartsOf48Bits, IsFineTo30Bits, common_denominator}
-use Rattle.dl_plan.specs.Weighted.{weight_at}
-use Rattle.dl_plan.specs.Severity.{probability_of}
-use Rattle.dl_plan.specs.Count.{expected_count, IsClaimCount, IsUnbounded}
-use Rattle.dl_plan.specs.Means.{thinned_mean}
-use Rattle.dl_plan.specs.Common.{CanShare, IsPoisson, HasCommonFactor, expected_of, thinned_of, raised, unit_share, shared_probabilities}
-use Rattle.dl_plan.specs.Valid.{IsAggregate, IsNewZero, IsValid, IsValidUnit}
-use Rattle.dl_plan.specs.Shared.{SharesFactor}
+use Rattle.dl_plan.specs.Prelude.{HasPartsOf48Bits, IsFineTo30Bits, common_denominator, weight_at, probability_of, expected_count, IsClaimCount, IsUnbounded, thinned_mean, CanShare, IsPoisson, HasCommonFactor, expected_of, thinned_of, raised, unit_share, shared_probabilities, IsAggregate, IsNewZero, IsValid, IsValidUnit, SharesFactor}
 use Rattle.dl_plan.proofs.CommonDenominators.{common_from}
 use Rattle.dl_plan.proofs.Means.{positive_share, severity_total}
 use Rattle.dl_unit_tests.specs.Small.{IsSmall}

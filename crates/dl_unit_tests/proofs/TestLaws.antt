@@ -3,17 +3,13 @@ use Rattle.std.proofs.Common.{ℕ, zero, suc, ◌≡◌, ◌*◌, ◌^◌, ◌<�
 use Rattle.std.specs.Prelude.{All}
 use Rattle.std.specs.List.Sorted.{IsStrictlyIncreasing}
 use Rattle.std.proofs.Math.Nat.{zero-lt-suc}
-use Rattle.dl_exact.specs.Gcd.{gcd, euclid}
-use Rattle.dl_exact.specs.Fraction.{Fraction, ◌over◌, ◌*ℚ◌, ◌-ℚ◌, ◌/ℚ◌, ◌≤ℚ◌, whole}
+use Rattle.dl_exact.specs.Prelude.{gcd, euclid, Fraction, ◌over◌, ◌*ℚ◌, ◌-ℚ◌, ◌/ℚ◌, ◌≤ℚ◌, whole}
 use Rattle.dl_exact.proofs.Over.{over_div, over_le, over_lt, over_mul, over_sub}
 use Rattle.dl_exact.proofs.Laws.{one_pos, times_one}
 use Rattle.dl_exact.proofs.RoundingLaws.{whole_le}
 use Rattle.dl_plan.specs.declared.item.Item.{Item}
 use Rattle.dl_plan.specs.declared.plan.Freq.{Freq}
-use Rattle.dl_plan.specs.Count.{expected_count, IsExposed, IsProbability}
-use Rattle.dl_plan.specs.Valid.{IsNewZero}
-use Rattle.dl_plan.specs.Fine.{HasPartsOf48Bits}
-use Rattle.dl_plan.specs.Weighted.{IsWeighted}
+use Rattle.dl_plan.specs.Prelude.{expected_count, IsExposed, IsProbability, IsNewZero, HasPartsOf48Bits, IsWeighted}
 use Rattle.dl_exact.proofs.Parts.{over_num_le as num_of_over-le, over_den_le as den_of_over-le}
 
 abbrev pub item : ℕ → ℕ → Item

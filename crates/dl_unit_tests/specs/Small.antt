@@ -1,9 +1,7 @@
 -- Units of the tests of common factors.
 use Rattle.std.specs.Prelude.{ℕ, ◌≡◌, ◌*◌, ◌/◌, ◌≤◌, ◌^◌, None, All}
 use Rattle.dl_plan.specs.declared.plan.Unit.{Unit as UnitOfPlan}
-use Rattle.dl_plan.specs.Fine.{IsWhole}
-use Rattle.dl_plan.specs.Count.{expected_count}
-use Rattle.dl_plan.specs.Common.{IsPoisson}
+use Rattle.dl_plan.specs.Prelude.{IsWhole, expected_count, IsPoisson}
 
 -- a Poisson count of a whole mean of at most 100, and probabilities of amounts in quarters; no
 -- clause and no changed probability of no claim

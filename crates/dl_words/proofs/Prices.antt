@@ -2,12 +2,10 @@
 use Rattle.dl_words.proofs.Common.{◌≡◌, ◌∙◌, ℕ, ◌≤◌, true, false, refl, sym, ap, List, ◌∷◌, ◌++◌, length, map, All, Option, Some, None, arith, ◌==◌, IsTrue, if◌then◌else◌, option_and_then, is_ascii_digit, nat_tests, Fraction, numeral_value, Text, is_numeral, is_probability}
 use Rattle.std.proofs.lemmas.Bool.{and_from, eq-eqb, eqb-true, le-leb, leb-true, false_from_ne_true}
 use Rattle.std.proofs.lemmas.List.Folds.{list_any_none}
-use Rattle.dl_exact.specs.Fraction.{whole}
-use Rattle.dl_exact.specs.Sum.{sum_over}
+use Rattle.dl_exact.specs.Prelude.{whole, sum_over}
 use Rattle.dl_exact.proofs.Over.{over_self, over_same}
 use Rattle.dl_plan.specs.declared.settings.Term.{Term}
-use Rattle.dl_plan.specs.Terms.{ArePriced, most_terms, most_weight_parts}
-use Rattle.dl_plan.specs.Fine.{common_denominator}
+use Rattle.dl_plan.specs.Prelude.{ArePriced, most_terms, most_weight_parts, common_denominator}
 use Rattle.dl_plan.proofs.WholeParts.{one_only}
 use Rattle.dl_words.specs.Spelling.{is_weight}
 use Rattle.dl_words.specs.Table.{are_weighted, plus, probability, term, terms, weight}

@@ -8,13 +8,12 @@ use Rattle.std.proofs.lemmas.List.Elements.{All-head, All-tail}
 use Rattle.dl_exact.specs.Fraction.{Fraction, whole}
 use Rattle.dl_exact.proofs.Parts.{pos_num}
 use Rattle.dl_plan.proofs.Buckets.{one_bucket}
-use Rattle.dl_plan.specs.Ranges.{IsBucket, IsLevel, IsAskInRange, AreInRange}
+use Rattle.dl_plan.specs.Prelude.{IsBucket, IsLevel, IsAskInRange, AreInRange, IsOfCert}
 use Rattle.dl_plan.specs.declared.settings.Term.{Term}
 use Rattle.dl_plan.specs.declared.settings.Ask.TheVariants.{Pmf, Cdf, Quantile, LayerMean, Tail, Price, Joint, Kappa, Cotail}
 use Rattle.dl_words.specs.Table.{amount, by_row, layer, mean, plus, probability, rows, term, terms, unit_amount, unit_level}
 use Rattle.dl_words.specs.Ways.{AreJoined, Way, last, made, more}
 use Rattle.dl_words.proofs.Prices.{priced}
-use Rattle.dl_plan.specs.Forms.{IsOfCert}
 use Rattle.dl_words.specs.Options.{is_report_plain, are_of_cert, are_of_verify, most_cert_log2, or_default, settings_of}
 use Rattle.dl_words.proofs.Numerals.{both}
 use Rattle.dl_words.proofs.WrittenLaws.{parts_written, written_each}

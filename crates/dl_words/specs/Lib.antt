@@ -9,3 +9,4 @@ pub mod Words
 pub mod Command
 pub mod Found
 pub mod Faults
+pub mod Prelude

@@ -4,8 +4,7 @@ use Rattle.std.specs.List.{list_all, list_any, before_first, after_first}
 use Rattle.std.specs.Char.{is_ascii_digit}
 use Rattle.std.specs.Str.Parse.{digits_value}
 use Rattle.dl_frac.specs.Numerals.{is_percent, is_point, is_slash, is_bad, numeral_value}
-use Rattle.dl_lexer.specs.Bytes.{is_word_byte}
-use Rattle.dl_lexer.specs.Tokens.{begins_with_letter}
+use Rattle.dl_lexer.specs.Prelude.{is_word_byte, begins_with_letter}
 
 -- the bytes of a word, or of a part of one
 abbrev pub Text : Type 0

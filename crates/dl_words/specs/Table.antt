@@ -2,14 +2,12 @@
 -- spells which ask, and what a text is read as.
 use Rattle.std.specs.Prelude.{ℕ, ◌≡◌, ◌++◌, ◌==◌, ◌&&◌, ◌⊎◌, Bool, List, [], ◌∷◌, Option, Some, None, codes, map, nat_le, option_and_then, if◌then◌else◌}
 use Rattle.std.specs.Str.{bytes_eq}
-use Rattle.dl_exact.specs.Fraction.{Fraction}
-use Rattle.dl_exact.specs.Sum.{sum_over}
+use Rattle.dl_exact.specs.Prelude.{Fraction, sum_over}
 use Rattle.dl_frac.specs.Numerals.{numeral_value}
 use Rattle.dl_plan.specs.declared.settings.Ask.{Ask}
 use Rattle.dl_plan.specs.declared.settings.Ask.TheVariants.{Pmf, Cdf, Mean, Quantile, LayerMean, Tail, Price, Joint, Kappa, Cotail}
 use Rattle.dl_plan.specs.declared.settings.Term.{Term}
-use Rattle.dl_plan.specs.Fine.{common_denominator}
-use Rattle.dl_plan.specs.Terms.{most_terms, most_weight_parts}
+use Rattle.dl_plan.specs.Prelude.{common_denominator, most_terms, most_weight_parts}
 use Rattle.dl_words.specs.Spelling.{Text, is_amount, is_probability, is_weight, is_word, number}
 use Rattle.dl_words.specs.Ways.{Way, one, pair, behind, word_or, made, that, list, cut_at}
 

@@ -3,9 +3,7 @@
 
 ghost use Rattle.std.specs.Prelude.{◌≡◌, ◌≤◌, List, ℕ, All, IsUtf8, Ok};
 ghost use Rattle.dl_plan.specs.declared.settings.Settings.{Settings};
-ghost use Rattle.dl_plan.specs.Ranges.{AreInRange};
-ghost use Rattle.dl_plan.specs.Forms.{IsOfCert};
-ghost use Rattle.dl_plan.specs.Plain.{IsPlainByte};
+ghost use Rattle.dl_plan.specs.Prelude.{AreInRange, IsOfCert, IsPlainByte};
 ghost use Rattle.dl_words.specs.Words.{words_of};
 ghost use Rattle.dl_words.specs.Options.{most_cert_log2};
 

@@ -4,8 +4,7 @@ ghost use Rattle.std.specs.Prelude.{◌≡◌, ◌<◌, ◌≤◌, ◌^◌, ◌&
 ghost use Rattle.std.specs.Char.{is_ascii_digit};
 ghost use Rattle.std.specs.List.{list_all};
 ghost use Rattle.dl_frac.specs.Numerals.{is_bad, numeral_value};
-ghost use Rattle.dl_lexer.specs.Bytes.{is_word_byte};
-ghost use Rattle.dl_lexer.specs.Tokens.{begins_with_letter};
+ghost use Rattle.dl_lexer.specs.Prelude.{is_word_byte, begins_with_letter};
 ghost use Rattle.dl_words.specs.Table.{amount, probability, weight};
 ghost use Rattle.dl_words.specs.Spelling.{begins_plainly, is_bucket, is_number_of, is_numeral, is_number_within, is_word, number};
 

@@ -1,12 +1,8 @@
 -- A unit before its probability of no claim is changed, and its mean after.
 use Rattle.std.specs.Prelude.{ℕ, ◌^◌, List, [], ◌∷◌}
-use Rattle.dl_exact.specs.Fraction.{◌over◌}
-use Rattle.dl_exact.specs.Sum.{sum_to}
+use Rattle.dl_exact.specs.Prelude.{◌over◌, sum_to}
 use Rattle.dl_iv.specs.declared.interval.Iv.{Iv}
-use Rattle.dl_model.specs.Series.{Holds}
-use Rattle.dl_model.specs.Program.{Loss, One, Mean, partial_sums}
-use Rattle.dl_model.specs.Family.{GridEncloses}
-use Rattle.dl_model.specs.Units.{Aggregate, IsDeclared, mapped}
+use Rattle.dl_model.specs.Prelude.{Holds, Loss, One, Mean, partial_sums, GridEncloses, Aggregate, IsDeclared, mapped}
 
 -- the interval holds the unit's probability of no claim
 abbrev pub HoldsNone : {B : ℕ} → Aggregate → Iv B → Type 0

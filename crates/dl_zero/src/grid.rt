@@ -4,9 +4,7 @@ ghost use Rattle.std.specs.Prelude.{◌≡◌, ℕ, ◌+◌, ◌-◌, ◌*◌, �
 ghost use Rattle.std.specs.Int.{div_ceil};
 ghost use Rattle.dl_exact.specs.Fraction.{whole, ◌<ℚ◌};
 ghost use Rattle.dl_grid.specs.Cells.{all_at_zero, spread};
-ghost use Rattle.dl_model.specs.Family.{GridEncloses};
-ghost use Rattle.dl_model.specs.Units.{Aggregate};
-ghost use Rattle.dl_model.specs.ChangedZero.{changed};
+ghost use Rattle.dl_model.specs.Prelude.{GridEncloses, Aggregate, changed};
 ghost use Rattle.dl_zero.specs.Before.{IsBefore};
 ghost use Rattle.dl_zero.specs.Ends.{HasRoomForNone, AreChangedEnds, changed_spread};
 

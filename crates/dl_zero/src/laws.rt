@@ -1,13 +1,9 @@
 //! The laws by which the ends of a probability of no claim and of a mean are small enough.
 
 ghost use Rattle.std.specs.Prelude.{ℕ, ◌-◌, ◌*◌, ◌^◌, ◌≤◌, [], ◌∷◌};
-ghost use Rattle.dl_exact.specs.Fraction.{whole, ◌over◌};
-ghost use Rattle.dl_exact.specs.Sum.{sum_to};
+ghost use Rattle.dl_exact.specs.Prelude.{whole, ◌over◌, sum_to};
 ghost use Rattle.dl_iv.specs.declared.interval.Iv.{Iv};
-ghost use Rattle.dl_model.specs.Series.{AtMost};
-ghost use Rattle.dl_model.specs.Program.{Loss, One, Mean, partial_sums};
-ghost use Rattle.dl_model.specs.Measures.{IsDeclaredLoss};
-ghost use Rattle.dl_model.specs.Units.{Aggregate, IsDeclared};
+ghost use Rattle.dl_model.specs.Prelude.{AtMost, Loss, One, Mean, partial_sums, IsDeclaredLoss, Aggregate, IsDeclared};
 ghost use Rattle.dl_zero.specs.Before.{HoldsNone, HoldsMean};
 
 /// An interval that holds a probability of no claim of at most 16 / 17 has no low end above it.

@@ -2,8 +2,7 @@
 
 ghost use Rattle.std.specs.Prelude.{ℕ, ◌-◌, ◌*◌, ◌^◌, ◌<◌, ◌≤◌};
 ghost use Rattle.dl_exact.specs.Fraction.{whole, ◌<ℚ◌};
-ghost use Rattle.dl_model.specs.Units.{Aggregate, IsDeclared, loss};
-ghost use Rattle.dl_model.specs.ChangedZero.{changed};
+ghost use Rattle.dl_model.specs.Prelude.{Aggregate, IsDeclared, loss, changed};
 ghost use Rattle.dl_zero.specs.Before.{HoldsNone, HoldsMean};
 ghost use Rattle.dl_zero.specs.Ends.{changed_mean_width};
 

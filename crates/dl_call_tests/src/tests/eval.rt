@@ -2,8 +2,7 @@
 
 ghost use Rattle.std.specs.Prelude.{IfOk, IfSome};
 ghost use Rattle.dl_ast.specs.WellFormed.{IsWellFormed};
-ghost use Rattle.dl_plan.specs.Ranges.{AreInRange};
-ghost use Rattle.dl_plan.specs.Valid.{IsValid};
+ghost use Rattle.dl_plan.specs.Prelude.{AreInRange, IsValid};
 
 use crate::tests::helpers::words_of;
 use dl_ast::Program;

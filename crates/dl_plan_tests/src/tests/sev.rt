@@ -2,8 +2,7 @@
 
 ghost use Rattle.std.specs.Prelude.{◌≡◌, ◌≤◌, ◌^◌, ◌↔◌, sum, IfOk, IfSome, IsTrue};
 ghost use Rattle.dl_exact.specs.Fraction.{whole, ◌≤ℚ◌, ◌<ℚ◌};
-ghost use Rattle.dl_sev.specs.Buckets.{HasPartsOf18Digits};
-ghost use Rattle.dl_sev.specs.Ranges.{IsRange};
+ghost use Rattle.dl_sev.specs.Prelude.{HasPartsOf18Digits, IsRange};
 
 use crate::tests::helpers::{Layer, clause, fraction, shows};
 use dl_frac::Frac;

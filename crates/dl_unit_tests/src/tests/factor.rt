@@ -3,8 +3,7 @@
 //! program.
 
 ghost use Rattle.std.specs.Prelude.{ℕ, ◌≡◌, ◌≢◌, ◌*◌, ◌/◌, ◌<◌, ◌≤◌, ◌^◌, [], ◌∷◌, length, All, AllPairs, IfOk, IfSome};
-ghost use Rattle.dl_plan.specs.Valid.{IsValidUnit};
-ghost use Rattle.dl_plan.specs.Shared.{SharesFactor};
+ghost use Rattle.dl_plan.specs.Prelude.{IsValidUnit, SharesFactor};
 ghost use Rattle.dl_unit_tests.specs.Small.{IsSmall};
 
 use crate::tests::helpers::one_bucket;

@@ -4,9 +4,7 @@
 ghost use Rattle.std.specs.Prelude.{◌^◌};
 ghost use Rattle.dl_limits.specs.Limits.{IsPlanScale};
 ghost use Rattle.dl_exact.specs.Fraction.{whole};
-ghost use Rattle.dl_plan.specs.Count.{expected_count, IsClaimCount};
-ghost use Rattle.dl_plan.specs.Fine.{HasPartsOf48Bits};
-ghost use Rattle.dl_plan.specs.Valid.{IsNewZero};
+ghost use Rattle.dl_plan.specs.Prelude.{expected_count, IsClaimCount, HasPartsOf48Bits, IsNewZero};
 
 use crate::tests::helpers::fraction;
 use dl_budget::none_budget;

@@ -3,12 +3,7 @@
 ghost use Rattle.std.specs.Prelude.{◌≡◌, ℕ, ◌*◌, ◌/◌, ◌^◌, ◌<◌, ◌≤◌, length, All, IfOk};
 ghost use Rattle.dl_limits.specs.Limits.{IsPlanScale};
 ghost use Rattle.dl_exact.specs.Fraction.{whole, ◌≤ℚ◌};
-ghost use Rattle.dl_plan.specs.Fine.{HasPartsOf48Bits};
-ghost use Rattle.dl_plan.specs.Common.{IsPoisson};
-ghost use Rattle.dl_plan.specs.Count.{expected_count, IsUnbounded, IsClaimCount};
-ghost use Rattle.dl_plan.specs.Severity.{probability_of};
-ghost use Rattle.dl_plan.specs.Valid.{IsValidUnit};
-ghost use Rattle.dl_plan.specs.Weighted.{IsWeighted};
+ghost use Rattle.dl_plan.specs.Prelude.{HasPartsOf48Bits, IsPoisson, expected_count, IsUnbounded, IsClaimCount, probability_of, IsValidUnit, IsWeighted};
 
 use crate::tests::helpers::{agrees, fraction, one_bucket};
 use dl_budget::claims_budget;

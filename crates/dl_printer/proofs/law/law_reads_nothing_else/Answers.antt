@@ -2,9 +2,7 @@
 use Rattle.dl_printer.proofs.Common.{◌≡◌, ◌∙◌, sym, ap, subst, List, length, Program, lexemes, canonical}
 use Rattle.dl_lexer.specs.declared.token.Token.{Token}
 use Rattle.dl_lexer.specs.Cutting.{Covers}
-use Rattle.dl_ast.specs.Rules.{Spells}
-use Rattle.dl_ast.specs.Grammar.{program}
-use Rattle.dl_ast.specs.WellFormed.{IsWellFormed}
+use Rattle.dl_ast.specs.Prelude.{Spells, program, IsWellFormed}
 use Rattle.dl_printer.specs.Apart.{bare, SameProgram}
 use Rattle.dl_lexer.proofs.CoverLaws.{cover_one}
 use Rattle.dl_parser.proofs.Whole.{one_program}

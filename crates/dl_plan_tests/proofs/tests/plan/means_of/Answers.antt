@@ -3,9 +3,7 @@ use Rattle.std.proofs.Common.{◌≡◌, ◌∙◌, ◌-◌, ◌*◌, ◌<◌, �
 use Rattle.dl_exact.specs.Fraction.{Fraction, whole, ◌over◌, ◌*ℚ◌, ◌-ℚ◌}
 use Rattle.dl_exact.proofs.Over.{over_self, over_mul}
 use Rattle.dl_plan.specs.declared.severity.Sev.{Sev}
-use Rattle.dl_plan.specs.Fine.{HasPartsOf48Bits}
-use Rattle.dl_plan.specs.Weighted.{weight_at}
-use Rattle.dl_plan.specs.Severity.{probability_of}
+use Rattle.dl_plan.specs.Prelude.{HasPartsOf48Bits, weight_at, probability_of}
 use Rattle.dl_exact.proofs.Parts.{over_num_le, over_den_le}
 use Rattle.dl_plan.proofs.Means.{total_pos, positive_share}
 use Rattle.dl_plan_tests.proofs.tests.plan.means_of.Goals as goal

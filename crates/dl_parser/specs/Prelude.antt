@@ -1,0 +1,3 @@
+-- The definitions that other crates cite, passed on from one place. Declares nothing.
+pub use Rattle.dl_parser.specs.Viable.{IsContinuous, Stops}
+pub use Rattle.dl_parser.specs.Within.{AllInside}
