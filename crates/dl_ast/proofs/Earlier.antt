@@ -30,13 +30,6 @@ or_goes {A} {a} {c} {b} {d} f g = record { goes = either }
     either x ts (inl s) = inl (f.goes x ts s)
     either x ts (inr s) = inr (g.goes x ts s)
 
-maybe_goes : {A : Type 0} {a c : Rule A} → Goes a c → Goes (maybe a) (maybe c)
-maybe_goes {A} {a} {c} f = record { goes = optional }
-  where
-    optional : (o : Option A) (ts : List Lexeme) → Spells (maybe a) o ts → Spells (maybe c) o ts
-    optional None ts s = s
-    optional (Some x) ts s = f.goes x ts s
-
 many_goes : {A : Type 0} {a c : Rule A} → Goes a c → Goes (many a) (many c)
 many_goes {A} {a} {c} f = record { goes = each }
   where

@@ -26,16 +26,8 @@ pub use Rattle.dl_limits.specs.Limits.{IsPlanScale, most_amount, most_cells, mos
 pub use Rattle.dl_plan.proofs.Fits.{given_ok, given_value}
 pub use Rattle.dl_plan.proofs.Means.{admitted_fits}
 pub use Rattle.dl_plan.proofs.ValidUnits.{alone_valid, mean_most, near_in_any, new_zero}
-pub use Rattle.dl_plan.specs.Common.{CanShare, HasCommonFactor, IsPoisson, expected_of, raised, thinned_of}
-pub use Rattle.dl_plan.specs.Count.{IsClaimCount, IsUnbounded, expected_count}
-pub use Rattle.dl_plan.specs.Fine.{HasPartsOf48Bits, common_denominator, numerator_over}
-pub use Rattle.dl_plan.specs.Horizon.{HorizonPasses, IsHorizon, IsHorizonOf, edge}
-unfoldable pub use Rattle.dl_plan.specs.Horizon.{horizon}
-pub use Rattle.dl_plan.specs.MeanWidth.{mean_width, part_width}
-pub use Rattle.dl_plan.specs.Means.{declared_mean, thinned_mean}
-pub use Rattle.dl_plan.specs.Ranges.{IsLevel}
-pub use Rattle.dl_plan.specs.Valid.{IsAggregate, IsNewZero, IsValid, IsValidUnit, claims_alone}
-pub use Rattle.dl_plan.specs.declared.item.Item.{Item}
+pub use Rattle.dl_plan.specs.Prelude.{CanShare, HasCommonFactor, HasPartsOf48Bits, HorizonPasses, IsAggregate, IsClaimCount, IsHorizon, IsHorizonOf, IsLevel, IsNewZero, IsPoisson, IsUnbounded, IsValid, IsValidUnit, claims_alone, common_denominator, declared_mean, edge, expected_count, expected_of, mean_width, numerator_over, part_width, raised, thinned_mean, thinned_of}
+unfoldable pub use Rattle.dl_plan.specs.Prelude.{horizon}
 pub use Rattle.dl_plan.specs.declared.plan.Freq.{Freq}
 pub use Rattle.dl_plan.specs.declared.plan.Freq.TheVariants.{Bernoulli, Binomial, Fixed, Gamma, Poisson, Table}
 pub use Rattle.dl_plan.specs.declared.plan.Plan.{Plan}

@@ -1,5 +1,6 @@
 -- What validity says of a unit by the kind of its count, and its budget.
-use Rattle.dl_budget.proofs.Common.{ℕ, ◌≡◌, ◌+◌, ◌*◌, ◌<◌, ◌≤◌, List, length, arith, inl, inr, refl, sym, ap, ap₂, subst, ◌∙◌, mul-le-mul, most_operands, Fraction, rounded_spread, Item, IsValidUnit, count_budget, poisson_budget, gamma_budget, claims_budget, ◌==◌, if◌then◌else◌, eqb_tells, Freq, Poisson, Gamma, UnitOfPlan, IsUnbounded, IsClaimCount, thinned_mean}
+use Rattle.dl_budget.proofs.Common.{ℕ, ◌≡◌, ◌+◌, ◌*◌, ◌<◌, ◌≤◌, List, length, arith, inl, inr, refl, sym, ap, ap₂, subst, ◌∙◌, mul-le-mul, most_operands, Fraction, rounded_spread, IsValidUnit, count_budget, poisson_budget, gamma_budget, claims_budget, ◌==◌, if◌then◌else◌, eqb_tells, Freq, Poisson, Gamma, UnitOfPlan, IsUnbounded, IsClaimCount, thinned_mean}
+use Rattle.dl_plan.specs.declared.item.Item.{Item}
 
 -- the budget by the count and the items that were read
 pub claims_of : (S K : ℕ) (u : UnitOfPlan) (freq : Freq) (items : List Item) → u.freq ≡ freq → items ≡ u.sev.items

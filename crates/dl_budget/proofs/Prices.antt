@@ -106,13 +106,6 @@ module _ (terms : List Term) (priced : ArePriced terms) where
       quotient_pos q d c e pos = elim (eq-zero-or-pos q)
           [ inl none ↦ absurd (omega (arith, e, pos, ap (λ t. t * d) none)) | inr some ↦ some ]
 
--- one term more
-pub price_next : (part : Term → ℕ) (terms : List Term) (i sum x : ℕ) (t : Term) → i < length terms
-    → t ≡ get_or terms i t → sum ≡ sum_by part (take i terms) → x ≡ part t
-    → sum + x ≡ sum_by part (take (i + 1) terms)
-price_next part terms i sum x t inside is so_far here =
-    ap₂ (λ a b. a + b) so_far (here ∙ ap part is) ∙ sym (sum_by_more part terms i t inside)
-
 pub price_all : (part : Term → ℕ) (terms : List Term) (i sum : ℕ) → length terms ≤ i
     → sum ≡ sum_by part (take i terms) → sum ≡ sum_by part terms
 price_all part terms i sum past so_far = so_far ∙ ap (sum_by part) (take_all i terms past)

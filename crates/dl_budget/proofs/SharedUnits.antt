@@ -1,26 +1,15 @@
 -- The claims above 0 of units that share a factor: their sum, the same for the next shape, and the budget of a joint mean.
-use Rattle.dl_budget.proofs.Common.{ℕ, suc, ◌≡◌, ◌+◌, ◌*◌, ◌^◌, ◌<◌, ◌≤◌, List, [], ◌∷◌, length, get_or, take, arith, refl, sym, ap, ap₂, subst, ◌∙◌, take_all, Fraction, whole, ◌over◌, ◌≤ℚ◌, over_self, one_pos, le_over, div_ceil_least, mul-le-mul, up, IsValidUnit, take_more, get_or-map, Some, All, most_claims_budget, most_expected, most_plan_cells, ◌+ℚ◌, ◌*ℚ◌, ◌<ℚ◌, le_div, le_refl, lt_not_le, plus_zero, times_le_both, whole_pos, whole_le, sum_over_append, Freq, Fixed, Table, Bernoulli, Binomial, Poisson, Gamma, UnitOfPlan, Plan, IsUnbounded, HasPartsOf48Bits, thinned_mean, IsValid, CanShare, HasCommonFactor, IsPoisson, expected_of, raised, thinned_of}
+use Rattle.dl_budget.proofs.Common.{ℕ, suc, ◌≡◌, ◌+◌, ◌*◌, ◌^◌, ◌<◌, ◌≤◌, List, [], ◌∷◌, length, get_or, take, arith, refl, sym, ap, ap₂, subst, ◌∙◌, take_all, Fraction, whole, ◌over◌, ◌≤ℚ◌, over_self, one_pos, le_over, div_ceil_least, mul-le-mul, up, IsValidUnit, take_more, get_or-map, Some, All, most_claims_budget, most_expected, most_plan_cells, ◌+ℚ◌, ◌*ℚ◌, ◌<ℚ◌, le_div, le_refl, lt_not_le, plus_zero, times_le_both, whole_pos, whole_le, sum_over_append, Freq, Fixed, Table, Bernoulli, Binomial, Poisson, Gamma, UnitOfPlan, Plan, IsUnbounded, HasPartsOf48Bits, thinned_mean, IsValid, CanShare, HasCommonFactor, FitsFrac, admitted_fits, expected_of, raised, thinned_of}
 unfoldable use Rattle.dl_exact.specs.Sum.{sum_over}
 use Rattle.dl_exact.proofs.Laws.{le_trans}
-use Rattle.dl_plan.proofs.Shared.{has_factor}
+use Rattle.dl_plan.proofs.Shared.{poisson_unbounded}
 use Rattle.dl_plan.proofs.Raised.{raised_parts}
 use Rattle.dl_budget.specs.Shared.{thinned_at}
 
 -- ---- what a valid plan has
 
-pub factor_of : (plan : Plan) (r : ℕ) → IsValid plan → plan.common ≡ Some r → HasCommonFactor r plan.units
-factor_of plan r valid is = has_factor plan r (record { shape = is; valid = valid })
-
-unbounded : (freq : Freq) → IsPoisson freq → IsUnbounded freq
-unbounded (Fixed m) h = absurd h
-unbounded (Table counts total) h = absurd h
-unbounded (Bernoulli q) h = absurd h
-unbounded (Binomial trials q) h = absurd h
-unbounded (Poisson mean) h = tt
-unbounded (Gamma shape mean) h = absurd h
-
 pub shares_unbounded : (u : UnitOfPlan) → CanShare u → IsUnbounded u.freq
-shares_unbounded u can = unbounded u.freq can.count
+shares_unbounded u can = poisson_unbounded u.freq can.count
 
 -- ---- the sum
 
@@ -38,6 +27,12 @@ pub sum_next : (units : List UnitOfPlan) (i : ℕ) (u : UnitOfPlan) (sum n : Fra
 sum_next units i u sum n h is before own =
     ap₂ (λ x y. x +ℚ y) before (own ∙ ap thinned_mean is ∙ sym (alone (get_or units i u)))
     ∙ sym (ap thinned_of (take_more units i u h) ∙ sum_over_append thinned_mean (take i units) (get_or units i u ∷ []))
+
+pub next_fits : (units : List UnitOfPlan) (i : ℕ) (u : UnitOfPlan) (sum n : Fraction) → i < length units
+    → u ≡ get_or units i u → sum ≡ thinned_of (take i units) → n ≡ thinned_mean u
+    → ((k : ℕ) → 1 ≤ k → k ≤ length units → HasPartsOf48Bits (thinned_of (take k units))) → FitsFrac (sum +ℚ n)
+next_fits units i u sum n h is before own admitted = subst FitsFrac (sym (sum_next units i u sum n h is before own))
+    (admitted_fits _ (admitted (i + 1) (omega arith) (omega arith)))
 
 -- some claims are expected, so there is a unit
 pub some_unit : (units : List UnitOfPlan) → whole 0 <ℚ expected_of units → 1 ≤ length units
@@ -91,7 +86,3 @@ thinned_here units i u inside is = ap thinned_mean is ∙ sym (get_or-map thinne
 pub read_valid : (plan : Plan) (units : List UnitOfPlan) → IsValid plan → units ≡ plan.units
     → (h : ℕ) × All (IsValidUnit h) units
 read_valid plan units valid is = (plan.cells, subst (All (IsValidUnit plan.cells)) (sym is) valid.units)
-
-pub read_factor : (plan : Plan) (r : ℕ) (units : List UnitOfPlan) → IsValid plan → plan.common ≡ Some r
-    → units ≡ plan.units → HasCommonFactor r units
-read_factor plan r units valid is same = subst (HasCommonFactor r) (sym same) (factor_of plan r valid is)

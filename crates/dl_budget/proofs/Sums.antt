@@ -21,12 +21,6 @@ budget_next S cells us i sum t x b u inside is before here step =
     step ∙ ap₂ (convolution_spread S cells) before (budget_here S cells us i b u inside is here)
     ∙ sym (fold_more (convolution_spread S cells) sum (unit_budgets S cells us) i 0 (omega (arith, budgets_length S cells us, inside)))
 
-pub budget_all : (S cells : ℕ) (us : List UnitOfPlan) (i sum t : ℕ) → length us ≤ i
-    → t ≡ fold (convolution_spread S cells) sum (take i (unit_budgets S cells us)) → t ≡ fold (convolution_spread S cells) sum (unit_budgets S cells us)
-budget_all S cells us i sum t past e =
-    e ∙ ap (fold (convolution_spread S cells) sum) (take_all i (unit_budgets S cells us)
-    (omega (arith, budgets_length S cells us, past)))
-
 -- ---- sizes
 
 -- the budgets of n units, n at most 16, add up to less than 15/16 of 2^44
@@ -68,14 +62,6 @@ size_at B cells m n x e size = subst (λ t. IsOfUnits (2 ^ B) cells t x) e size
 
 -- ---- a first unit and the later ones
 
-pub sum_from_first : (S cells : ℕ) (us rest : List UnitOfPlan) (u : UnitOfPlan) (b x : ℕ) → 1 ≤ length us
-    → rest ≡ drop 1 us → u ≡ get_or us 0 u
-    → b ≡ unit_budget S cells u → x ≡ fold (convolution_spread S cells) b (unit_budgets S cells rest)
-    → x ≡ sum_spread S cells (unit_budgets S cells us)
-sum_from_first S cells [] rest u b x some split is here later = absurd (omega (arith, some))
-sum_from_first S cells (v ∷ us) rest u b x some split is here later =
-    later ∙ ap₂ (λ y t. fold (convolution_spread S cells) y (unit_budgets S cells t)) (here ∙ ap (unit_budget S cells) is) split
-
 -- ---- all units but one
 
 sum_joined : (S cells : ℕ) (ds more : List ℕ) → 1 ≤ length ds
@@ -97,14 +83,6 @@ sum_of_others S cells us before after i x y cut rest some first further =
     omega (arith, some, ap length front, budgets_length S cells before) in
     further ∙ ap₂ (fold (convolution_spread S cells)) (first ∙ ap (sum_spread S cells) front) back
     ∙ sym (sum_joined S cells (take i (unit_budgets S cells us)) (drop (suc i) (unit_budgets S cells us)) long)
-
--- no unit before i
-pub sum_of_later : (S cells : ℕ) (us after : List UnitOfPlan) (i y : ℕ) → i ≡ 0 → after ≡ drop (suc i) us
-    → y ≡ sum_spread S cells (unit_budgets S cells after) → y ≡ sum_spread S cells (remove (unit_budgets S cells us) i)
-sum_of_later S cells us after i y none rest later =
-    later ∙ ap (sum_spread S cells) (ap (unit_budgets S cells) rest ∙ sym (drop-map (unit_budget S cells) (suc i) us))
-    ∙ ap (λ n. sum_spread S cells (take n (unit_budgets S cells us) ++ drop (suc i) (unit_budgets S cells us)))
-    (sym none)
 
 -- the later units
 pub later_length : (us : List UnitOfPlan) → length (take (length us - 1) (drop 1 us)) ≡ length us - 1

@@ -40,6 +40,17 @@ pub fn none_budget<const B: u32>(freq: &Freq) -> u128
     ensures value { result ≡ none_budget (2 ^ B) freq.now }
     ensures small { result ≤ most_none_budget }
 {
+    none_by_count::<B>(freq)
+}
+
+/// The same budget, by the kind of the count.
+fn none_by_count<const B: u32>(freq: &Freq) -> u128
+    requires scale { IsPlanScale B }
+    requires count { IsClaimCount freq.now }
+    requires expected { HasPartsOf48Bits (expected_count freq.now) }
+    requires changed { (p : Fraction) × IsNewZero freq.now p }
+    ensures { result ≡ none_budget (2 ^ B) freq.now }
+{
     match freq {
         Freq::Fixed(claims) => power_spread::<B>(1, 1, *claims),
         Freq::Table { .. } => 0,

@@ -3,14 +3,14 @@
 ghost use Rattle.std.specs.Prelude.{ℕ, ◌≡◌, ◌^◌, ◌≤◌, All};
 ghost use Rattle.dl_limits.specs.Limits.{IsPlanScale, most_claims_budget, most_plan_cells, most_shape};
 ghost use Rattle.dl_plan.specs.Prelude.{HasPartsOf48Bits, thinned_mean, IsValidUnit, CanShare, HasCommonFactor, raised, thinned_of};
-ghost use Rattle.dl_budget.specs.Shared.{pooled_budget, raised_budget, shared_joint_budget};
+ghost use Rattle.dl_budget.specs.Shared.{raised_budget, shared_joint_budget};
 
 use crate::claims::gamma_budget;
 use dl_frac::Frac;
 use dl_plan::Unit;
 
 /// The expected number of claims above 0 of all units together.
-fn above_zero(units: &[Unit]) -> Frac
+pub(crate) fn above_zero(units: &[Unit]) -> Frac
     requires valid { (h : ℕ) × All (IsValidUnit h) units.now }
     requires factor { (r : ℕ) × HasCommonFactor r units.now }
     ensures { result ≡ thinned_of units.now }
@@ -34,21 +34,8 @@ fn raised(claims: Frac, shape: u32) -> Frac
     Frac::make(num, den).unwrap()
 }
 
-/// The budget of the total of units that share a factor of this shape, on `cells` cells: that of
-/// the one gamma unit in their place.
-pub(crate) fn pooled_budget<const B: u32>(units: &[Unit], shape: u32, cells: u32) -> u128
-    requires scale { IsPlanScale B }
-    requires valid { (h : ℕ) × All (IsValidUnit h) units.now }
-    requires factor { HasCommonFactor shape units.now }
-    requires few { cells ≤ most_plan_cells }
-    ensures value { result ≡ pooled_budget (2 ^ B) cells shape units.now }
-    ensures small { result ≤ most_claims_budget }
-{
-    gamma_budget::<B>(above_zero(units), shape, cells)
-}
-
-/// The budget of the same gamma unit with one more in its shape, from whose grid the joint means
-/// come.
+/// The budget of the one gamma unit in the place of units that share a factor of this shape, on
+/// `cells` cells, with one more in its shape: from its grid the joint means come.
 pub(crate) fn raised_budget<const B: u32>(units: &[Unit], shape: u32, cells: u32) -> u128
     requires scale { IsPlanScale B }
     requires valid { (h : ℕ) × All (IsValidUnit h) units.now }

@@ -9,8 +9,8 @@ ghost use Rattle.dl_budget.specs.Claims.{claims_budget};
 ghost use Rattle.dl_budget.specs.Sizes.{IsOfUnits};
 ghost use Rattle.dl_budget.specs.Units.{after_clause, unit_budget, unit_budgets, unit_mean_budget, total_budget, others_budget, mean_budget};
 
-use crate::claims::{claims_budget, none_budget};
-use crate::shared::pooled_budget;
+use crate::claims::{claims_budget, gamma_budget, none_budget};
+use crate::shared::above_zero;
 use crate::steps::convolution_spread;
 use dl_plan::{CedeLayer, Plan, Unit};
 
@@ -129,7 +129,7 @@ pub fn total_budget<const B: u32>(plan: &Plan) -> u128
 {
     let units = plan.units.as_slice();
     match plan.common {
-        Some(shape) => pooled_budget::<B>(units, shape, plan.cells),
+        Some(shape) => gamma_budget::<B>(above_zero(units), shape, plan.cells),
         None => sum_of::<B>(units, plan.cells),
     }
 }

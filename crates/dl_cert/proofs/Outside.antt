@@ -1,6 +1,7 @@
 -- The numbers that the cells of a start are compared with, and cells that pass one after the other.
-use Rattle.dl_cert.proofs.Common.{ℕ, zero, suc, ◌≡◌, ◌≢◌, ◌⊎◌, ◌+◌, ◌<◌, ◌≤◌, inl, inr, refl, sym, subst, subst₂, arith, Bool, true, false, List, length, get_or, cases_lt, most_cert_cells, most_cells_at, IsGridSize, Fraction, whole, ◌≤ℚ◌, one_pos, over_self, over_le, Iv, low_at, high_at, Sev, Base, Share, one, low_share, high_share, low_base, high_base, PassesTo}
+use Rattle.dl_cert.proofs.Common.{ℕ, zero, suc, ◌≡◌, ◌≢◌, ◌⊎◌, ◌+◌, ◌<◌, ◌≤◌, inl, inr, refl, sym, subst, subst₂, arith, Bool, true, false, List, length, length-take-le, take, get_or, cases_lt, most_cert_cells, most_cells_at, IsGridSize, Fraction, whole, ◌≤ℚ◌, one_pos, over_self, over_le, Iv, low_at, high_at, Sev, Base, Share, one, low_share, high_share, low_base, high_base, PassesTo}
 use Rattle.dl_grid.proofs.CellLaws.{low_at_read, high_at_read}
+use Rattle.dl_grid.proofs.CellSets.{low_take, high_take}
 use Rattle.dl_panjer.proofs.Steps.{low_next_same, high_next_same}
 use Rattle.dl_cert.specs.declared.base.Base.TheVariants.{Nothing, Trial, Poisson, Geometric}
 
@@ -27,6 +28,15 @@ base_same Nothing sev f g y same = (refl, refl)
 base_same (Trial chance) sev f g y same = (refl, refl)
 base_same (Poisson share) sev f g y same = share_same true share f g y same
 base_same (Geometric share) sev f g y same = share_same false share f g y same
+
+-- so as many cells as come before it tell its numbers
+pub base_taken : (base : Base) (sev : Sev) (cells : List (Iv 56)) (y : ℕ) → y ≤ length cells
+    → (low_base base sev (low_at (take y cells)) (length (take y cells)) ≡ low_base base sev (low_at cells) y)
+    × (high_base base sev (high_at (take y cells)) (length (take y cells)) ≡ high_base base sev (high_at cells) y)
+base_taken base sev cells y inside = rw (length-take-le y cells inside) (
+  (base_same base sev (low_at (take y cells)) (low_at cells) y (λ k near. low_take cells y k near)).0,
+  (base_same base sev (high_at (take y cells)) (high_at cells) y (λ k near. high_take cells y k near)).1,
+)
 
 -- ---- one cell more
 

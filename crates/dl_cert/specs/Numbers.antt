@@ -3,6 +3,7 @@
 use Rattle.std.specs.Prelude.{ℕ, zero, suc, ◌*◌, ◌/◌, ◌^◌, List, min, map, get_or}
 use Rattle.std.specs.Int.{div_ceil}
 use Rattle.dl_exact.specs.Prelude.{Fraction, whole, ◌+ℚ◌, ◌*ℚ◌, ◌/ℚ◌, count_pairs, sum_pairs}
+use Rattle.dl_iv.specs.declared.interval.Iv.{Iv}
 use Rattle.dl_grid.specs.Cells.{low_at, high_at, all_at_zero}
 use Rattle.dl_plan.specs.declared.plan.Freq.{Freq}
 use Rattle.dl_plan.specs.declared.plan.Freq.TheVariants.{Fixed, Table, Bernoulli, Binomial, Poisson, Gamma}
@@ -50,56 +51,45 @@ high_recursion start factor sum (suc s) =
 
 -- ---- a start, by its own cells' ends before each cell
 
--- one claim or one trial: the probability of each amount; a share of v claims above 0: by the
--- recursion of its count
-abbrev pub low_start : Freq → Sev → Fraction → (ℕ → ℕ) → ℕ → ℕ
-low_start (Fixed m) sev v ends y =
-    floor_of (whole one *ℚ cell (fixed 1) (probability_of sev) y 1)
-low_start (Table counts total) sev v ends y = 0
-low_start (Bernoulli q) sev v ends y =
-    floor_of (whole one *ℚ cell (binomial 1 q.num q.den) (probability_of sev) y 1)
-low_start (Binomial trials q) sev v ends y =
-    floor_of (whole one *ℚ cell (binomial 1 q.num q.den) (probability_of sev) y 1)
-low_start (Poisson mean) sev v ends y =
-    low_recursion (exp_low 56 (v /ℚ whole (2 ^ halvings v)))
+-- one end, by how fractions are rounded, the end of a listed count, the recursion, and the end of
+-- e^(-x). One claim or one trial: the probability of each amount; a share of v claims above 0: by
+-- the recursion of its count
+abbrev pub start_by : (Fraction → ℕ) → ℕ → (ℕ → (ℕ → Fraction) → (ℕ → Fraction) → ℕ → ℕ)
+    → (Fraction → ℕ) → Freq → Sev → Fraction → (ℕ → ℕ) → ℕ → ℕ
+start_by rounded listed recursion exp (Fixed m) sev v ends y =
+    rounded (whole one *ℚ cell (fixed 1) (probability_of sev) y 1)
+start_by rounded listed recursion exp (Table counts total) sev v ends y = listed
+start_by rounded listed recursion exp (Bernoulli q) sev v ends y =
+    rounded (whole one *ℚ cell (binomial 1 q.num q.den) (probability_of sev) y 1)
+start_by rounded listed recursion exp (Binomial trials q) sev v ends y =
+    rounded (whole one *ℚ cell (binomial 1 q.num q.den) (probability_of sev) y 1)
+start_by rounded listed recursion exp (Poisson mean) sev v ends y =
+    recursion (exp (v /ℚ whole (2 ^ halvings v)))
     (λ s. v /ℚ whole (2 ^ halvings v) /ℚ whole (suc s)) (sum_by_amount (above_zero sev) ends) y
-low_start (Gamma shape mean) sev v ends y =
-    low_recursion (floor_of (whole one *ℚ (whole 1 /ℚ (whole 1 +ℚ v /ℚ whole shape))))
+start_by rounded listed recursion exp (Gamma shape mean) sev v ends y =
+    recursion (rounded (whole one *ℚ (whole 1 /ℚ (whole 1 +ℚ v /ℚ whole shape))))
     (λ s. v /ℚ whole shape /ℚ (whole 1 +ℚ v /ℚ whole shape)) (sum_plain (above_zero sev) ends) y
 
+abbrev pub low_start : Freq → Sev → Fraction → (ℕ → ℕ) → ℕ → ℕ
+low_start = start_by floor_of 0 low_recursion (exp_low 56)
+
 abbrev pub high_start : Freq → Sev → Fraction → (ℕ → ℕ) → ℕ → ℕ
-high_start (Fixed m) sev v ends y =
-    ceiling_of (whole one *ℚ cell (fixed 1) (probability_of sev) y 1)
-high_start (Table counts total) sev v ends y = one
-high_start (Bernoulli q) sev v ends y =
-    ceiling_of (whole one *ℚ cell (binomial 1 q.num q.den) (probability_of sev) y 1)
-high_start (Binomial trials q) sev v ends y =
-    ceiling_of (whole one *ℚ cell (binomial 1 q.num q.den) (probability_of sev) y 1)
-high_start (Poisson mean) sev v ends y =
-    high_recursion (exp_high 56 (v /ℚ whole (2 ^ halvings v)))
-    (λ s. v /ℚ whole (2 ^ halvings v) /ℚ whole (suc s)) (sum_by_amount (above_zero sev) ends) y
-high_start (Gamma shape mean) sev v ends y =
-    high_recursion (ceiling_of (whole one *ℚ (whole 1 /ℚ (whole 1 +ℚ v /ℚ whole shape))))
-    (λ s. v /ℚ whole shape /ℚ (whole 1 +ℚ v /ℚ whole shape)) (sum_plain (above_zero sev) ends) y
+high_start = start_by ceiling_of one high_recursion (exp_high 56)
 
 -- ---- a step of a plan
 
--- all mass at 0; the start of the unit; the convolution of two earlier steps
+-- one end, by that of a start, that of a cell, and how a sum of products is rounded: all mass at 0;
+-- the start of the unit; the convolution of two earlier steps
+abbrev pub number_by : (Freq → Sev → Fraction → (ℕ → ℕ) → ℕ → ℕ) → (List (Iv 56) → ℕ → ℕ) → (ℕ → ℕ)
+    → List UnitOfPlan → List Made → Kind → (ℕ → ℕ) → ℕ → ℕ
+number_by start at rounded units before One ends y = all_at_zero one y
+number_by start at rounded units before (Start u) ends y =
+    get_or (map (λ (unit : UnitOfPlan). start unit.freq unit.sev (thinned_mean unit) ends y) units) u 0
+number_by start at rounded units before (Times a b) ends y =
+    rounded (count_pairs y (λ i j. at (made_at before a).cells i * at (made_at before b).cells j))
+
 abbrev pub low_number : List UnitOfPlan → List Made → Kind → (ℕ → ℕ) → ℕ → ℕ
-low_number units before One ends y = all_at_zero one y
-low_number units before (Start u) ends y =
-    get_or (map (λ (unit : UnitOfPlan). low_start unit.freq unit.sev (thinned_mean unit) ends y)
-    units) u 0
-low_number units before (Times a b) ends y =
-    count_pairs y (λ i j. low_at (made_at before a).cells i * low_at (made_at before b).cells j)
-    / one
+low_number = number_by low_start low_at (λ sum. sum / one)
 
 abbrev pub high_number : List UnitOfPlan → List Made → Kind → (ℕ → ℕ) → ℕ → ℕ
-high_number units before One ends y = all_at_zero one y
-high_number units before (Start u) ends y =
-    get_or (map (λ (unit : UnitOfPlan). high_start unit.freq unit.sev (thinned_mean unit) ends y)
-    units) u 0
-high_number units before (Times a b) ends y =
-    min one (div_ceil
-    (count_pairs y (λ i j. high_at (made_at before a).cells i * high_at (made_at before b).cells j))
-    one)
+high_number = number_by high_start high_at (λ sum. min one (div_ceil sum one))

@@ -1,5 +1,5 @@
 -- Lines that are read from the left.
-use Rattle.std.specs.Prelude.{ℕ, ◌≡◌, ◌==◌, Bool, List, ◌∷◌, drop}
+use Rattle.std.specs.Prelude.{ℕ, ◌≡◌, ◌≤◌, ◌==◌, Bool, List, ◌∷◌, drop, length}
 use Rattle.std.specs.List.{before_first, position_or_len}
 use Rattle.dl_iv.specs.declared.interval.Iv.{Iv}
 use Rattle.dl_cert.specs.declared.step.Kind.{Kind}
@@ -35,3 +35,11 @@ pub record BeginsStep (line : List ℕ) (kind : Kind) (rest : List ℕ) : Type 0
   pub spells : (cells : List (Iv 56)) → AreCells rest cells
       → IsStep line (record { kind = kind; cells = cells })
   pub only : (step : Step) → IsStep line step → (step.kind ≡ kind) × AreCells rest step.cells
+
+-- the same, with the cells from a place of the line on
+abbrev pub IsHead : List ℕ → Kind → ℕ → Type 0
+IsHead line kind next = BeginsStep line kind (drop next line) × (next ≤ length line)
+
+-- the line spells no step
+abbrev pub IsNoStep : List ℕ → Type 0
+IsNoStep line = (step : Step) → ¬ IsStep line step

@@ -7,7 +7,7 @@ ghost use Rattle.dl_cert.specs.Steps.{Step};
 ghost use Rattle.dl_cert.specs.Spelling.{IsNumber, IsCell};
 ghost use Rattle.dl_cert.specs.Numbers.{one};
 ghost use Rattle.dl_cert.specs.Lines.{lines_of, AreCells, IsStep};
-ghost use Rattle.dl_cert.specs.Reading.{BeginsCell, BeginsStep, line_from, first_word, after_word};
+ghost use Rattle.dl_cert.specs.Reading.{BeginsCell, IsHead, IsNoStep, line_from, first_word, after_word};
 
 use crate::spelling::number;
 use crate::step::Kind;
@@ -188,11 +188,8 @@ fn number_from(line: &[u8], from: usize) -> Option<ReadNumber>
 
 /// The kind of the step that a line of a start spells.
 fn start_of(line: &[u8]) -> Option<Head>
-    requires long { 6 ≤ length line.now }
-    requires begins { line.now ≡ codes "start " ++ drop 6 line.now }
-    ensures head { MatchOption result ((step : Step) → ¬ IsStep line.now step)
-        (λ head. BeginsStep line.now head.kind (drop head.next line.now)) }
-    ensures within { IfSome result (λ head. head.next ≤ length line.now) }
+    requires { line.now ≡ codes "start " ++ drop 6 line.now }
+    ensures { MatchOption result (IsNoStep line.now) (λ head. IsHead line.now head.kind head.next) }
 {
     let Some(unit) = number_from(line, 6) else {
         return None;
@@ -205,11 +202,8 @@ fn start_of(line: &[u8]) -> Option<Head>
 
 /// The kind of the step that a line of a product spells.
 fn times_of(line: &[u8]) -> Option<Head>
-    requires long { 6 ≤ length line.now }
-    requires begins { line.now ≡ codes "times " ++ drop 6 line.now }
-    ensures head { MatchOption result ((step : Step) → ¬ IsStep line.now step)
-        (λ head. BeginsStep line.now head.kind (drop head.next line.now)) }
-    ensures within { IfSome result (λ head. head.next ≤ length line.now) }
+    requires { line.now ≡ codes "times " ++ drop 6 line.now }
+    ensures { MatchOption result (IsNoStep line.now) (λ head. IsHead line.now head.kind head.next) }
 {
     let Some(first) = number_from(line, 6) else {
         return None;
@@ -228,9 +222,7 @@ fn times_of(line: &[u8]) -> Option<Head>
 
 /// The kind of the step that a line spells.
 fn head_of(line: &[u8]) -> Option<Head>
-    ensures head { MatchOption result ((step : Step) → ¬ IsStep line.now step)
-        (λ head. BeginsStep line.now head.kind (drop head.next line.now)) }
-    ensures within { IfSome result (λ head. head.next ≤ length line.now) }
+    ensures { MatchOption result (IsNoStep line.now) (λ head. IsHead line.now head.kind head.next) }
 {
     if let Some(_cells) = line.strip_prefix(b"one") {
         return Some(Head {

@@ -94,13 +94,7 @@ pairs_le (suc n) f g h = omega (
 )
 
 pub pairs_same : (n : ℕ) (f g : ℕ → ℕ → ℕ) → ((i j : ℕ) → f i j ≡ g i j) → count_pairs n f ≡ count_pairs n g
-unfolding count_pairs
-pairs_same zero f g h = h zero zero
-pairs_same (suc n) f g h = omega (
-  arith,
-  h zero (suc n),
-  pairs_same n (λ i j. f (suc i) j) (λ i j. g (suc i) j) (λ i j. h (suc i) j),
-)
+pairs_same n f g h = ap (count_pairs n) (fun_ext (λ i. fun_ext (λ j. h i j)))
 
 pub pairs_plus : (n : ℕ) (f g : ℕ → ℕ → ℕ) → count_pairs n (λ i j. f i j + g i j) ≡ count_pairs n f + count_pairs n g
 unfolding count_pairs

@@ -1,5 +1,5 @@
 -- The lesser of two fractions is one of them.
-use Rattle.dl_exact.proofs.Common.{◌≡◌, ℕ, ◌*◌, ◌<◌, arith, inl, inr, sym, ap, subst, ◌∙◌, mul-pos, cases_lt, Fraction, ◌over◌, ◌≤ℚ◌}
+use Rattle.dl_exact.proofs.Common.{◌≡◌, ℕ, ◌*◌, ◌<◌, arith, inl, inr, sym, ap, ap₂, subst, ◌∙◌, mul-pos, cases_lt, Fraction, ◌over◌, ◌≤ℚ◌}
 use Rattle.std.proofs.Common.{min}
 use Rattle.dl_exact.specs.Fraction.{lesser}
 use Rattle.dl_exact.proofs.Over.{over_same, over_self}
@@ -14,13 +14,12 @@ lesser_left x y p =
     ∙ over_same _ _ _ _ (mul-pos x.positive y.positive) x.positive (omega arith)
     ∙ over_self x
 
+lesser_turned : (x y : Fraction) → lesser x y ≡ lesser y x
+unfolding lesser
+lesser_turned x y = ap₂ (λ s t. s over t) (omega arith) (omega arith)
+
 pub lesser_right : (x y : Fraction) → y ≤ℚ x → lesser x y ≡ y
-unfolding lesser ◌≤ℚ◌
-lesser_right x y p =
-    let e : min (x.num * y.den) (y.num * x.den) ≡ y.num * x.den = omega (arith, p) in
-    ap (λ t. t over (x.den * y.den)) e
-    ∙ over_same _ _ _ _ (mul-pos x.positive y.positive) y.positive (omega arith)
-    ∙ over_self y
+lesser_right x y p = lesser_turned x y ∙ lesser_left y x p
 
 -- what holds of each of the two where it is the lesser holds of the lesser
 by_lesser : (P : Fraction → Type 0) (x y : Fraction) → (x ≤ℚ y → P x) → (y ≤ℚ x → P y) → P (lesser x y)

@@ -27,10 +27,6 @@ pub struct Frac {
 }
 
 impl Model for Frac {
-    ghost use Rattle.dl_limits.specs.Limits.{frac_bound};
-    ghost use Rattle.std.specs.Prelude.{◌<◌, ◌^◌};
-    ghost use Rattle.dl_exact.specs.Fraction.{Fraction};
-
     ghost Value = { Fraction };
 
     ghost view = { λ f.

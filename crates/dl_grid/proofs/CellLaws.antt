@@ -1,21 +1,28 @@
 -- What the ends of a list of cells are at one place, and how large they can be.
-use Rattle.dl_grid.proofs.Common.{ℕ, zero, suc, ◌≡◌, ◌-◌, ◌*◌, ◌^◌, ◌<◌, ◌≤◌, List, [], ◌∷◌, length, get_or, take, arith, refl, ap, ◌∙◌, All, le_trans, mul-le-mul_right, pow-le-pow_right, sum_by-le, sum_by-take-le, Iv, low_at, high_at, IsGrid, IsGridSize, sum_by}
+use Rattle.dl_grid.proofs.Common.{ℕ, zero, suc, ◌≡◌, ◌-◌, ◌*◌, ◌^◌, ◌<◌, ◌≤◌, List, [], ◌∷◌, length, get_or, take, arith, refl, sym, ap, ◌∙◌, get_or-map, low_ends, high_ends, All, le_trans, mul-le-mul_right, pow-le-pow_right, sum_by-le, sum_by-take-le, Iv, low_at, high_at, IsGrid, IsGridSize, sum_by}
 use Rattle.dl_grid.proofs.Room.{mass_fits}
+
+-- an end by its place in the list of ends
+pub low_at_ends : {B : ℕ} (cells : List (Iv B)) (x : ℕ) → get_or (low_ends cells) x 0 ≡ low_at cells x
+unfolding low_at
+low_at_ends [] x = refl
+low_at_ends (c ∷ cs) zero = refl
+low_at_ends (c ∷ cs) (suc x) = low_at_ends cs x
+
+pub high_at_ends : {B : ℕ} (cells : List (Iv B)) (x : ℕ) → get_or (high_ends cells) x 0 ≡ high_at cells x
+unfolding high_at
+high_at_ends [] x = refl
+high_at_ends (c ∷ cs) zero = refl
+high_at_ends (c ∷ cs) (suc x) = high_at_ends cs x
 
 -- the ends of a cell by its place, and of one that was read
 pub low_at_get : {B : ℕ} (cells : List (Iv B)) (x : ℕ) (d : Iv B) → x < length cells
     → (get_or cells x d).lo ≡ low_at cells x
-unfolding low_at
-low_at_get [] x d h = absurd (omega arith)
-low_at_get (c ∷ cs) zero d h = refl
-low_at_get (c ∷ cs) (suc x) d h = low_at_get cs x d (omega arith)
+low_at_get cells x d h = sym (get_or-map (λ cell. cell.lo) cells x d 0 h) ∙ low_at_ends cells x
 
 pub high_at_get : {B : ℕ} (cells : List (Iv B)) (x : ℕ) (d : Iv B) → x < length cells
     → (get_or cells x d).hi ≡ high_at cells x
-unfolding high_at
-high_at_get [] x d h = absurd (omega arith)
-high_at_get (c ∷ cs) zero d h = refl
-high_at_get (c ∷ cs) (suc x) d h = high_at_get cs x d (omega arith)
+high_at_get cells x d h = sym (get_or-map (λ cell. cell.hi) cells x d 0 h) ∙ high_at_ends cells x
 
 pub low_at_read : {B : ℕ} (cells : List (Iv B)) (x : ℕ) (cell : Iv B) → x < length cells → cell ≡ get_or cells x cell
     → cell.lo ≡ low_at cells x

@@ -88,19 +88,23 @@ high_take cells n x inside = rw (← high_at_ends (take n cells) x, ← high_at_
     (get_or-take n (high_ends cells) x 0 inside)
 
 -- cells that are all 0
+emptied : (before after : ℕ → ℕ) (mass : ℕ) → ((x : ℕ) → before x ≡ all_at_zero mass x) → after 0 ≡ 0
+    → ((x : ℕ) → after (suc x) ≡ before (suc x)) → (x : ℕ) → after x ≡ 0
+unfolding all_at_zero
+emptied before after mass e first others zero = first
+emptied before after mass e first others (suc x) = others x ∙ e (suc x)
+
 pub low_emptied : {B : ℕ} (cells : List (Iv B)) (v : Iv B) (mass : ℕ) → 1 ≤ length cells
     → ((x : ℕ) → low_at cells x ≡ all_at_zero mass x) → v.lo ≡ 0
     → (x : ℕ) → low_at (set cells 0 v) x ≡ 0
-unfolding all_at_zero
-low_emptied cells v mass some e none zero = low_set cells 0 0 v some ∙ none
-low_emptied cells v mass some e none (suc x) = low_kept cells v x ∙ e (suc x)
+low_emptied cells v mass some e none =
+    emptied (low_at cells) (low_at (set cells 0 v)) mass e (low_set cells 0 0 v some ∙ none) (low_kept cells v)
 
 pub high_emptied : {B : ℕ} (cells : List (Iv B)) (v : Iv B) (mass : ℕ) → 1 ≤ length cells
     → ((x : ℕ) → high_at cells x ≡ all_at_zero mass x) → v.hi ≡ 0
     → (x : ℕ) → high_at (set cells 0 v) x ≡ 0
-unfolding all_at_zero
-high_emptied cells v mass some e none zero = high_set cells 0 0 v some ∙ none
-high_emptied cells v mass some e none (suc x) = high_kept cells v x ∙ e (suc x)
+high_emptied cells v mass some e none =
+    emptied (high_at cells) (high_at (set cells 0 v)) mass e (high_set cells 0 0 v some ∙ none) (high_kept cells v)
 
 pub mass_none : {B : ℕ} (cells : List (Iv B)) → ((x : ℕ) → low_at cells x ≡ 0) → mass_low cells ≡ 0
 unfolding low_at

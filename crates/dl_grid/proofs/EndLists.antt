@@ -8,19 +8,7 @@ use Rattle.std.proofs.lemmas.List.Elements.{All-replicate, All-take, All-set, Al
 use Rattle.std.proofs.lemmas.List.Folds.{sum_by-replicate}
 use Rattle.dl_grid.proofs.Room.{size_few, size_within, mass_fits}
 use Rattle.dl_grid.proofs.CellLaws.{size_of, one_fits, one_in_range}
-
--- an end by its place
-pub low_at_ends : {B : ℕ} (cells : List (Iv B)) (x : ℕ) → get_or (low_ends cells) x 0 ≡ low_at cells x
-unfolding low_at
-low_at_ends [] x = refl
-low_at_ends (c ∷ cs) zero = refl
-low_at_ends (c ∷ cs) (suc x) = low_at_ends cs x
-
-pub high_at_ends : {B : ℕ} (cells : List (Iv B)) (x : ℕ) → get_or (high_ends cells) x 0 ≡ high_at cells x
-unfolding high_at
-high_at_ends [] x = refl
-high_at_ends (c ∷ cs) zero = refl
-high_at_ends (c ∷ cs) (suc x) = high_at_ends cs x
+pub use Rattle.dl_grid.proofs.CellLaws.{low_at_ends, high_at_ends}
 
 pub low_le_high : {B : ℕ} (cells : List (Iv B)) (x : ℕ) → low_at cells x ≤ high_at cells x
 unfolding low_at high_at
@@ -152,6 +140,11 @@ ends_of_grid {B} cells p = record {
 
 pub cells_long : {B : ℕ} {lows highs : List ℕ} → AreEnds B lows highs → length (cells_of B lows highs) ≡ length lows
 cells_long {B} {lows} {highs} p = sym (low_ends_long (cells_of B lows highs)) ∙ ap length (low_list p)
+
+-- a list of ends is at least as long as the cells that are read
+pub ends_reach : {B : ℕ} {lows highs : List ℕ} {view : List (Iv B)} (ends : List ℕ) (n : ℕ) → AreEnds B lows highs
+    → cells_of B lows highs ≡ view → length ends ≡ length lows → n ≤ length view → n ≡ length (take n ends)
+ends_reach ends n p is same within = sym (length-take-le n ends (omega (arith, same, cells_long p, ap length is, within)))
 
 pub low_of : {B : ℕ} {lows highs : List ℕ} (x : ℕ) → AreEnds B lows highs
     → low_at (cells_of B lows highs) x ≡ get_or lows x 0

@@ -1,5 +1,5 @@
 -- The mass and the spread of a list of cells as sums over its places.
-use Rattle.dl_grid.proofs.Common.{ℕ, zero, suc, ◌≡◌, ◌+◌, ◌-◌, ◌<◌, ◌≤◌, List, [], ◌∷◌, ◌++◌, length, take, arith, refl, ap, take_all, sum_by-cons, sum_by-take-le, Iv, low_at, high_at, mass_low, spread, count_below, map-append, get_or_append_left, low_ends, high_ends}
+use Rattle.dl_grid.proofs.Common.{ℕ, zero, suc, ◌≡◌, ◌+◌, ◌-◌, ◌<◌, ◌≤◌, List, [], ◌∷◌, ◌++◌, length, get_or, map, sum_by, take, arith, refl, sym, ap, take_all, sum_by-cons, sum_by-take-le, Iv, low_at, high_at, mass_low, spread, count_below, map-append, get_or_append_left, low_ends, high_ends}
 use Rattle.dl_exact.proofs.Counts.{below_first, below_none, below_nothing}
 use Rattle.std.proofs.Math.Seq.{get_or-append_seam}
 use Rattle.dl_grid.proofs.EndLists.{low_at_ends, high_at_ends, low_ends_long, high_ends_long, low_le_high}
@@ -11,27 +11,30 @@ width_at cells x = high_at cells x - low_at cells x
 pub high_is : {B : ℕ} (cells : List (Iv B)) (x : ℕ) → high_at cells x ≡ low_at cells x + width_at cells x
 high_is cells x = omega (arith, low_le_high cells x)
 
-pub low_sum : {B : ℕ} (n : ℕ) (cells : List (Iv B)) → count_below n (low_at cells) ≡ mass_low (take n cells)
-unfolding low_at
-low_sum zero cells = below_nothing (low_at cells)
-low_sum {B} (suc n) [] = below_none (suc n) (low_at {B = B} []) (λ x inside. refl)
-low_sum {B} (suc n) (c ∷ cs) = omega (
+width_at_list : {B : ℕ} (cells : List (Iv B)) (x : ℕ) → get_or (map (λ cell. cell.hi - cell.lo) cells) x 0 ≡ width_at cells x
+unfolding low_at high_at
+width_at_list [] x = refl
+width_at_list (c ∷ cs) zero = refl
+width_at_list (c ∷ cs) (suc x) = width_at_list cs x
+
+-- a number of each cell, by its place and of each of the first n cells
+places_sum : {B : ℕ} (f : Iv B → ℕ) (at : ℕ → ℕ) (n : ℕ) (cells : List (Iv B))
+    → ((x : ℕ) → get_or (map f cells) x 0 ≡ at x) → count_below n at ≡ sum_by f (take n cells)
+places_sum f at zero cells e = below_nothing at
+places_sum f at (suc n) [] e = below_none (suc n) at (λ x inside. sym (e x))
+places_sum f at (suc n) (c ∷ cs) e = omega (
   arith,
-  below_first n (low_at (c ∷ cs)),
-  low_sum n cs,
-  sum_by-cons (λ (cell : Iv B). cell.lo) c (take n cs),
+  below_first n at,
+  e 0,
+  places_sum f (λ x. at (suc x)) n cs (λ x. e (suc x)),
+  sum_by-cons f c (take n cs),
 )
 
+pub low_sum : {B : ℕ} (n : ℕ) (cells : List (Iv B)) → count_below n (low_at cells) ≡ mass_low (take n cells)
+low_sum n cells = places_sum (λ cell. cell.lo) (low_at cells) n cells (low_at_ends cells)
+
 pub width_sum : {B : ℕ} (n : ℕ) (cells : List (Iv B)) → count_below n (width_at cells) ≡ spread (take n cells)
-unfolding low_at high_at
-width_sum zero cells = below_nothing (width_at cells)
-width_sum {B} (suc n) [] = below_none (suc n) (width_at {B = B} []) (λ x inside. refl)
-width_sum {B} (suc n) (c ∷ cs) = omega (
-  arith,
-  below_first n (width_at (c ∷ cs)),
-  width_sum n cs,
-  sum_by-cons (λ (cell : Iv B). cell.hi - cell.lo) c (take n cs),
-)
+width_sum n cells = places_sum (λ cell. cell.hi - cell.lo) (width_at cells) n cells (width_at_list cells)
 
 -- the first cells have no more mass and no more spread than all
 pub low_within : {B : ℕ} (n : ℕ) (cells : List (Iv B)) → count_below n (low_at cells) ≤ mass_low cells

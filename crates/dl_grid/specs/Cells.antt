@@ -61,15 +61,8 @@ pub record AreEnds (B : ℕ) (lows highs : List ℕ) : Type 0 where
 -- the one cell with these ends, or none where no interval has them
 unfoldable pub cell_by : {B lo hi : ℕ} → ((hi < lo) ⊎ (lo ≤ hi)) → ((2 ^ 127 < hi) ⊎ (hi ≤ 2 ^ 127))
     → ((B < 1) ⊎ (1 ≤ B)) → ((56 < B) ⊎ (B ≤ 56)) → List (Iv B)
-cell_by {B} {lo} {hi} (inr ordered) (inr in_range) (inr above) (inr below) =
-    record {
-      lo = lo;
-      hi = hi;
-      ordered = ordered;
-      in_range = in_range;
-      scale_above = above;
-      scale_below = below;
-    } ∷ []
+cell_by {B} {lo} {hi} (inr p) (inr q) (inr r) (inr s) =
+    record { lo = lo; hi = hi; ordered = p; in_range = q; scale_above = r; scale_below = s } ∷ []
 cell_by ordered in_range above below = []
 
 -- the cells with these ends

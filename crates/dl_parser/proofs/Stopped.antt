@@ -4,7 +4,7 @@ use Rattle.std.proofs.lemmas.List.Elements.{All-append}
 use Rattle.dl_parser.proofs.Sets.{same_is, among_append}
 use Rattle.dl_parser.proofs.Starts.{bind_stuck, chosen, no_append}
 use Rattle.dl_parser.proofs.ReadsBack.{bind_of, is_no, whole}
-use Rattle.dl_parser.proofs.Took.{Pend, pend_behind, pend_settled, alike_two, test_two, two_behind, Alike, Took, alike_left, alike_right, alike_with, fewer, in_parts, one_more, shorter, test_same, took}
+use Rattle.dl_parser.proofs.Took.{Pend, pend_behind, pend_settled, alike_two, test_two, two_behind, Alike, Took, alike_left, alike_right, alike_with, fewer, in_parts, one_more, shorter, test_same, by_either, took}
 
 -- where reading stops, the tokens before go on with a token of the wanted kind, and with none that the tests take for
 -- another
@@ -290,13 +290,10 @@ stopped (a ▸ b) ok p q k e =
         | inr s ↦ absurd (cc (s.3))
       ]
     ]
-stopped (a or b) ok p q k e =
-    let i = and_parts _ _ ok in
-    let j = and_parts _ _ i.1 in
-    elim (chosen (begins (first a) p.rest) _ _ _ e) [
-      | inl c ↦ stopped_left a b p q k c.0 (stopped a i.0 p q k c.1)
-      | inr c ↦ stopped_right a b p q k c.0 (stopped b j.0 p q k c.1)
-    ]
+stopped (a or b) ok p q k e = elim (by_either a b ok p (stuck k q) e) [
+  | inl c ↦ stopped_left a b p q k c.0 (stopped a c.1 p q k c.2)
+  | inr c ↦ stopped_right a b p q k c.0 (stopped b c.1 p q k c.2)
+]
 stopped (maybe a) ok p q k e = let i = and_parts _ _ ok in elim (chosen (begins (first a) p.rest) _ _ _ e) [
   | inl c ↦ elim (bind_stuck (read a p) _ k q c.1) [
     | inl s ↦ stopped_maybe a p q k c.0 (stopped a i.0 p q k s)

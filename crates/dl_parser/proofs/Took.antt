@@ -1,7 +1,7 @@
 -- What was read is spelled, and is read in the same way where what is left begins alike.
 use Rattle.std.proofs.lemmas.Bool.Decides.{nat_tests}
 use Rattle.std.proofs.lemmas.Grind.{common_steps}
-use Rattle.dl_parser.proofs.Common.{◌≡◌, ℕ, zero, suc, ◌≤◌, ◌<◌, Bool, true, false, cond, ◌&&◌, ◌||◌, List, [], ◌∷◌, ◌++◌, length, Some, None, refl, sym, ap, ◌∙◌, subst, inl, inr, arith, append_assoc, length-append, Kind, Lexeme, Rule, one, ◌▸◌, ◌or◌, maybe, many, unless, made, node, Each, Spells, end_of, span_of, State, Outcome, got, stuck, ◌>>=◌, same_kind, among, begins, start_of, is_empty, first, watched, two_at, enters, is_settled, one_at, repeat, read, is_plain, and_parts}
+use Rattle.dl_parser.proofs.Common.{◌≡◌, ℕ, zero, suc, ◌≤◌, ◌<◌, Bool, true, false, cond, ◌&&◌, ◌||◌, ◌⊎◌, List, [], ◌∷◌, ◌++◌, length, Some, None, refl, sym, ap, ◌∙◌, subst, inl, inr, arith, append_assoc, length-append, Kind, Lexeme, Rule, one, ◌▸◌, ◌or◌, maybe, many, unless, made, node, Each, Spells, end_of, span_of, State, Outcome, got, stuck, ◌>>=◌, same_kind, among, begins, start_of, is_empty, first, watched, two_at, enters, is_settled, one_at, repeat, read, is_plain, and_parts}
 use Rattle.dl_parser.specs.Reading.{settles}
 use Rattle.dl_parser.proofs.Sets.{same_is, same_self}
 use Rattle.dl_parser.proofs.Starts.{true_right, among_left, among_right, bind_got, chosen, end_append, spelled_empty}
@@ -308,6 +308,17 @@ took_unless_none j k a p c = (
       rw (test_two j k (first a) p p [] z false refl (alike_left (j ∷ k ∷ first a) (watched a) p.rest z h) g.0 c) refl,
 )
 
+-- what one of two rules reads, the one reads that begins with the next token
+pub by_either : {A : Type 0} (a b : Rule A) → is_plain (a or b) ≡ true → (p : State) (o : Outcome A)
+    → read (a or b) p ≡ o → ((begins (first a) p.rest ≡ true) × (is_plain a ≡ true) × (read a p ≡ o))
+    ⊎ ((begins (first a) p.rest ≡ false) × (is_plain b ≡ true) × (read b p ≡ o))
+by_either a b ok p o e =
+    let k = and_parts _ _ ok in
+    elim (chosen (begins (first a) p.rest) _ _ _ e) [
+      | inl c ↦ inl (c.0, k.0, c.1)
+      | inr c ↦ inr (c.0, (and_parts _ _ k.1).0, c.1)
+    ]
+
 pub took : {X : Type 0} (r : Rule X) → is_plain r ≡ true → (p q : State) (x : X) → read r p ≡ got x q → Took r p x q
 took (one k) ok p q x e = took_one k p.end p.rest x q e
 took (a ▸ b) ok p q v e =
@@ -317,13 +328,10 @@ took (a ▸ b) ok p q v e =
     let two = bind_got (read b one.1) _ v q one.3 in
     took_as (a ▸ b) p (one.0, two.0) v two.1 q two.3
     (took_seq a b p one.1 two.1 one.0 two.0 (and_parts _ _ l.1).1 (took a k.0 p one.1 one.0 one.2) (took b l.0 one.1 two.1 two.0 two.2))
-took (a or b) ok p q x e =
-    let k = and_parts _ _ ok in
-    let l = and_parts _ _ k.1 in
-    elim (chosen (begins (first a) p.rest) _ _ _ e) [
-      | inl c ↦ took_left a b p q x c.0 (took a k.0 p q x c.1)
-      | inr c ↦ took_right a b p q x c.0 (took b l.0 p q x c.1)
-    ]
+took (a or b) ok p q x e = elim (by_either a b ok p (got x q) e) [
+  | inl c ↦ took_left a b p q x c.0 (took a c.1 p q x c.2)
+  | inr c ↦ took_right a b p q x c.0 (took b c.1 p q x c.2)
+]
 took (maybe a) ok p q v e = let k = and_parts _ _ ok in elim (chosen (begins (first a) p.rest) _ _ _ e) [
   | inl c ↦ let one = bind_got (read a p) _ v q c.1 in
       took_as (maybe a) p (Some one.0) v one.1 q one.3

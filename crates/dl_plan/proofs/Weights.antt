@@ -149,6 +149,16 @@ module _ (xs : List Item) (some : 0 < length xs) (positive : All (λ (i : Item).
       (ap (λ n. weight_at ys y * n) (sym sum_back) ∙ swap_in (weight_at ys y) (weight_sum ys) g
       ∙ ap (λ n. n * weight_sum ys) at_back)
 
+  -- the same of items and a total that were computed
+  pub made_weighted : {items : List Item} {common sum : ℕ} → items ≡ map (divided_by common) xs → common ≡ g
+      → sum ≡ weight_sum xs → IsStrictlyIncreasing (amounts_of xs) → weight_sum xs ≤ 2 ^ 30
+      → IsWeighted items (sum / common)
+  made_weighted made by all rising within = rw (made, by, all) (divided_is rising within)
+
+  pub made_means : {items : List Item} {common sum : ℕ} → items ≡ map (divided_by common) xs → common ≡ g
+      → sum ≡ weight_sum xs → (y : ℕ) → weight_at items y over (sum / common) ≡ weight_at xs y over weight_sum xs
+  made_means made by all y = rw (made, by, all) (divided_means y)
+
 -- one amount alone
 pub one_item : (items : List Item) (item : Item) → items ≡ [] → item.weight ≡ 1 → IsWeighted (items ++ item ∷ []) 1
 unfolding gcd euclid

@@ -3,7 +3,7 @@ use Rattle.std.specs.Prelude.{ℕ, suc, ◌≡◌, ◌≤◌, ⊤, None, List, l
 use Rattle.dl_limits.specs.Limits.{most_expected, most_shape}
 use Rattle.dl_exact.specs.Prelude.{Fraction, whole, ◌over◌, ◌*ℚ◌, ◌/ℚ◌, ◌≤ℚ◌, ◌<ℚ◌, sum_over}
 use Rattle.dl_plan.specs.declared.plan.Freq.{Freq}
-use Rattle.dl_plan.specs.declared.plan.Freq.TheVariants.{Fixed, Table, Bernoulli, Binomial, Poisson, Gamma}
+use Rattle.dl_plan.specs.declared.plan.Freq.TheVariants.{Poisson}
 use Rattle.dl_plan.specs.declared.plan.Unit.{Unit as UnitOfPlan}
 use Rattle.dl_plan.specs.Fine.{IsFineTo30Bits, HasPartsOf48Bits}
 use Rattle.dl_plan.specs.Count.{expected_count}
@@ -11,12 +11,8 @@ use Rattle.dl_plan.specs.Means.{thinned_mean}
 
 -- a Poisson count
 abbrev pub IsPoisson : Freq → Type 0
-IsPoisson (Fixed m) = ⊥
-IsPoisson (Table counts total) = ⊥
-IsPoisson (Bernoulli q) = ⊥
-IsPoisson (Binomial trials q) = ⊥
 IsPoisson (Poisson mean) = ⊤
-IsPoisson (Gamma shape mean) = ⊥
+IsPoisson freq = ⊥
 
 -- a unit that can share a factor: its count is Poisson, without an aggregate clause and without a
 -- changed probability of no claim

@@ -18,21 +18,14 @@ expected_count (Gamma shape mean) = mean
 
 -- a Poisson or a gamma count: there is no greatest number of claims
 abbrev pub IsUnbounded : Freq → Type 0
-IsUnbounded (Fixed m) = ⊥
-IsUnbounded (Table counts total) = ⊥
-IsUnbounded (Bernoulli q) = ⊥
-IsUnbounded (Binomial trials q) = ⊥
 IsUnbounded (Poisson mean) = ⊤
 IsUnbounded (Gamma shape mean) = ⊤
+IsUnbounded freq = ⊥
 
 -- not a listed count: its expected number of claims was exposed
 abbrev pub IsExposed : Freq → Type 0
-IsExposed (Fixed m) = ⊤
 IsExposed (Table counts total) = ⊥
-IsExposed (Bernoulli q) = ⊤
-IsExposed (Binomial trials q) = ⊤
-IsExposed (Poisson mean) = ⊤
-IsExposed (Gamma shape mean) = ⊤
+IsExposed freq = ⊤
 
 -- at most 1, with both parts below 2^48
 pub record IsProbability (q : Fraction) : Type 0 where

@@ -5,7 +5,7 @@ pub use Rattle.dl_plan.specs.Count.{IsClaimCount, IsExposed, IsProbability, IsUn
 pub use Rattle.dl_plan.specs.Facts.{facts_of}
 pub use Rattle.dl_plan.specs.Fine.{HasPartsOf48Bits, IsFineTo30Bits, IsWhole, common_denominator, numerator_over}
 pub use Rattle.dl_plan.specs.Forms.{IsOfCert, IsOfPlan}
-pub use Rattle.dl_plan.specs.Horizon.{IsHorizonOf, edge, edge_of}
+pub use Rattle.dl_plan.specs.Horizon.{HorizonPasses, IsHorizon, IsHorizonOf, edge, edge_of}
 unfoldable pub use Rattle.dl_plan.specs.Horizon.{horizon}
 pub use Rattle.dl_plan.specs.MeanWidth.{mean_width, part_width}
 pub use Rattle.dl_plan.specs.Means.{declared_mean, thinned_mean}

@@ -21,6 +21,7 @@ pub fn law_numerals()
 /// There is one horizon, and `horizon` is that of every clause that is accepted. It is at least 1
 /// and at least each edge, and there what a clause keeps has reached the cells, or is constant from
 /// there on.
+#[tactic(auto, using(crate::proofs::Horizons::same_horizon, crate::proofs::Horizons::horizon_is, crate::proofs::Horizons::horizon_settled))]
 pub fn law_horizon()
     ensures one { (clause : Option Clause) (cells j k : ℕ) → IsHorizonOf clause cells j
         → IsHorizonOf clause cells k → j ≡ k }

@@ -85,15 +85,6 @@ part_plus false v w = refl
 
 module _ (items : List Item) (i : ℕ) (made : List Item) (last : Item) (d : Item) (h : i < length items)
     (so_far : IsGathered items i made last) where
-  -- the last item with the next one weighs no more than all
-  pub last-within : last.weight + (get_or items i d).weight ≤ weight_sum items
-  last-within = omega (
-    arith,
-    so_far.sum,
-    sum_by_more (λ (j : Item). j.weight) items i d h,
-    sum_by-take-le (λ (j : Item). j.weight) items (i + 1),
-  )
-
   pub gathered-same : (get_or items i d).amount ≡ last.amount
       → IsGathered items (i + 1) made (record {
         amount = last.amount;
@@ -131,15 +122,6 @@ module _ (items : List Item) (i : ℕ) (made : List Item) (last : Item) (d : Ite
           (λ (j : Item). cond (j.amount == x) j.weight 0) items i d h,
     );
   }
-
--- after all items
-module _ (items : List Item) (i : ℕ) (made : List Item) (last : Item) (h : length items ≤ i)
-    (so_far : IsGathered items i made last) where
-  pub sum-all : weight_sum (with_weighed made last) ≡ weight_sum items
-  sum-all = weight_sum-with made last ∙ so_far.sum ∙ ap weight_sum (take_all i items h)
-
-  pub weights-all : (x : ℕ) → weight_at (with_weighed made last) x ≡ weight_at items x
-  weights-all x = weight_at-with made last x ∙ so_far.weights x ∙ ap (λ xs. weight_at xs x) (take_all i items h)
 
 -- what weighs something has an item
 pub some_items : (xs : List Item) → 0 < weight_sum xs → 0 < length xs

@@ -1,7 +1,8 @@
 -- Items with their amounts mapped, and lists of amounts with whole weights.
-use Rattle.dl_sev.proofs.Common.{ℕ, ◌≡◌, ◌∙◌, ◌+◌, ◌<◌, List, [], ◌∷◌, ◌++◌, length, map, zip, sum, get_or, take, refl, sym, ap, ap₂, arith, length-take-le, take_more, sum_by-cons, ◌over◌, Item, Sev, weight_sum, weight_at, probability, shares, pairs_of, Weights, weighed, items_of, with_amount, severity_total}
+use Rattle.dl_sev.proofs.Common.{ℕ, ◌≡◌, ◌∙◌, ◌+◌, ◌<◌, List, [], ◌∷◌, ◌++◌, length, map, zip, sum, get_or, take, refl, sym, ap, ap₂, arith, length-take-le, map_more, take_more, sum_by-cons, Fraction, whole, ◌over◌, Clause, kept, Item, Sev, weight_sum, weight_at, probability, shares, pairs_of, Weights, weighed, items_of, with_amount, severity_total}
 use Rattle.std.proofs.Common.{Result, Ok, Err, IfOk}
 use Rattle.std.proofs.lemmas.Simd.{map-map}
+use Rattle.dl_exact.proofs.Parts.{whole_num}
 use Rattle.dl_plan.proofs.Shares.{probability-shares}
 use Rattle.dl_sev.specs.Steps.{with_amounts}
 
@@ -69,6 +70,20 @@ pub mapped_means : (sev : Sev) (f : ℕ → ℕ) (items : List Item) (y : ℕ) �
 mapped_means sev f items y e =
     ap₂ (λ n d. n over d) (ap (λ xs. weight_at xs y) e) (mapped_sum sev f items e)
     ∙ sym (probability-mapped f sev.items sev.total y (severity_total sev))
+
+-- one item more, with what a clause keeps of its amount
+pub ceded_more : (clause : Clause) (items made new : List Item) (i amount : ℕ) (d : Item) → i < length items
+    → made ≡ map (with_amount (λ x. (kept clause x).num)) (take i items)
+    → new ≡ made ++ record { amount = amount; weight = (get_or items i d).weight } ∷ []
+    → kept clause (get_or items i d).amount ≡ whole amount
+    → new ≡ map (with_amount (λ x. (kept clause x).num)) (take (i + 1) items)
+ceded_more clause items made new i amount d h so_far pushed value =
+    let f : ℕ → ℕ = λ x. (kept clause x).num in
+    let same : f (get_or items i d).amount ≡ amount = ap (λ (x : Fraction). x.num) value ∙ whole_num amount in
+    pushed
+    ∙ ap₂ (λ (xs : List Item) (a : ℕ). xs ++ record { amount = a; weight = (get_or items i d).weight } ∷ []) so_far
+    (sym same)
+    ∙ sym (map_more (with_amount f) items i d h)
 
 -- what holds of a result holds of what follows from it
 pub if_ok : {T E : Type 0} (r : Result T E) (P Q : T → Type 0) → ((x : T) → P x → Q x) → IfOk r P → IfOk r Q

@@ -133,10 +133,6 @@ part_le items i =
 
 -- ---- common denominators that are found
 
-pub some_if : {A : Type 0} (o : Option A) (P : Type 0) (v : A) → SomeIff o P v → P → IsSome o
-some_if None P v h p = absurd (h p)
-some_if (Some x) P v h p = refl
-
 -- ---- one more
 
 pub list_more : (items : List Range) (i : ℕ) (r : Range) → i < length items → r ≡ get_or items i r
@@ -170,9 +166,3 @@ steps_more r start old new k x before pushed value =
 
 pub equal_if : (x y : Fraction) → true ≡ (nat_eq x.num y.num && nat_eq x.den y.den) → x ≡ y
 equal_if x y e = same x y (grind arith) (grind arith)
-
-pub not_equal : (x y : Fraction) → false ≡ (nat_eq x.num y.num && nat_eq x.den y.den) → x ≡ y → ⊥
-not_equal x y e h =
-    let n : x.num ≡ y.num = ap (λ (z : Fraction). z.num) h in
-    let d : x.den ≡ y.den = ap (λ (z : Fraction). z.den) h in
-    grind arith

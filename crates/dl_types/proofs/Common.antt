@@ -43,7 +43,7 @@ pub use Rattle.dl_buckets.specs.declared.grid.GridFreq.{GridFreq}
 pub use Rattle.dl_buckets.specs.declared.grid.GridFreq.TheVariants.{Bernoulli, Binomial, Fixed, Gamma, Poisson}
 pub use Rattle.dl_buckets.specs.declared.grid.ValueList.{ValueList}
 pub use Rattle.dl_buckets.specs.declared.grid.Shares.{Shares}
-pub use Rattle.dl_buckets.proofs.ClauseGrids.{agr_layered}
+pub use Rattle.dl_buckets.proofs.ClauseGrids.{clauses_layered}
 pub use Rattle.dl_buckets.proofs.Items.{items_in, Rising, rises, support_positive, none_later, item_share, support_all}
 pub use Rattle.dl_buckets.proofs.Values.{never, zero_above, not_above}
 pub use Rattle.dl_buckets.specs.Clauses.{clause_of, made_of, shares_of, ceded_layer, is_off_multiples}

@@ -3,12 +3,6 @@ use Rattle.dl_budget.proofs.Sums.{read_unit}
 use Rattle.dl_budget.proofs.TailShares.{mean_here, share_value}
 use Rattle.dl_budget.proofs.asks.cotail_budget.Goals as goal
 
-pub overflow_sub-rest : goal.overflow_sub-rest
-overflow_sub-rest g c = let below = num_below c.args.p c.requires.level.below in omega arith
-
-pub div_ceil-requires : goal.div_ceil-requires
-div_ceil-requires g c = let below = num_below c.args.p c.requires.level.below in omega arith
-
 pub returns-clause-value : goal.returns-clause-value
 returns-clause-value g c =
     let plan = c.args.plan.now in

@@ -3,12 +3,6 @@ use Rattle.dl_budget.proofs.Horizons.{few_cells}
 use Rattle.dl_budget.proofs.Tails.{tail_small, tail_sums, tail_value}
 use Rattle.dl_budget.proofs.asks.tail_budget.Goals as goal
 
-pub overflow_sub-rest : goal.overflow_sub-rest
-overflow_sub-rest g c = let below = num_below c.args.p c.requires.level.below in omega arith
-
-pub div_ceil-requires : goal.div_ceil-requires
-div_ceil-requires g c = let below = num_below c.args.p c.requires.level.below in omega arith
-
 pub returns-clause-value : goal.returns-clause-value
 returns-clause-value g c =
     ap (λ t. t + 4) c.div_ceil.ensures

@@ -1,19 +1,19 @@
-use Rattle.dl_cert.proofs.Common.{codes, drop}
+use Rattle.dl_cert.proofs.Common.{codes, length, ap, arith, drop}
 use Rattle.dl_lexer.proofs.WordLengths.{begins_so, begins_otherwise}
 use Rattle.dl_cert.proofs.Words.{begins_with}
 use Rattle.dl_cert.proofs.Readings.{begins_one, no_step}
 use Rattle.dl_cert.proofs.lines.head_of.Goals as goal
 
-pub returns-in-Some-clause-head : goal.returns-in-Some-clause-head
-returns-in-Some-clause-head c =
+pub returns-in-Some : goal.returns-in-Some
+returns-in-Some c =
     let line = c.args.line.now in
     let rest = c.in-Some._cells.now in
     let cases = c.in-Some.ensures.cases in
-    begins_one (drop 3 line) (begins_with (codes "one") line rest
-    (begins_so (codes "one") line rest cases.0 cases.1) cases.1)
+    let begins = begins_with (codes "one") line rest (begins_so (codes "one") line rest cases.0 cases.1) cases.1 in
+    (begins_one (drop 3 line) begins, omega (arith, ap length begins))
 
-pub returns-clause-head : goal.returns-clause-head
-returns-clause-head c =
+pub returns : goal.returns
+returns c =
     let line = c.args.line.now in
     no_step (begins_otherwise (codes "one") line c.in_default.ensures.cases)
     (begins_otherwise (codes "start ") line c.in_default-strip_prefix.ensures.cases)

@@ -1,13 +1,9 @@
 -- From the definition.
-use Rattle.dl_plan.proofs.Horizons.{same_horizon, horizon_is, horizon_one, horizon_edges, horizon_settled}
+use Rattle.dl_plan.proofs.Horizons.{horizon_one, horizon_edges}
 use Rattle.dl_plan.proofs.law.law_horizon.Goals as goal
 
-pub returns : goal.returns
-returns c = record {
-  one = same_horizon;
-  known = horizon_is;
-  from_one = horizon_one;
-  edges = horizon_edges;
-  settled =
-      horizon_settled;
-}
+pub returns-clause-from_one : goal.returns-clause-from_one
+returns-clause-from_one c = horizon_one
+
+pub returns-clause-edges : goal.returns-clause-edges
+returns-clause-edges c = horizon_edges

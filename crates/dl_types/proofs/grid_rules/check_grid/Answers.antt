@@ -1,5 +1,5 @@
 -- Where no rule is broken, the parts of the plan are valid.
-use Rattle.dl_types.proofs.Common.{ℕ, ◌≡◌, ◌∙◌, sym, ap, ap₂, subst, IsCedeOf, agr_layered, HorizonTooLarge, breaks, horizon_too_large, IfOk, MadeClause, StopsAt, zero_base, ZeroBase, first_broken, clause_rules, count_rules}
+use Rattle.dl_types.proofs.Common.{ℕ, ◌≡◌, ◌∙◌, sym, ap, ap₂, subst, IsCedeOf, clauses_layered, HorizonTooLarge, breaks, horizon_too_large, IfOk, MadeClause, StopsAt, zero_base, ZeroBase, first_broken, clause_rules, count_rules}
 use Rattle.dl_types.proofs.Aggregates.{cede_is}
 use Rattle.dl_types.proofs.Stops.{skip, stop_first, stop_second}
 use Rattle.dl_types.proofs.UnitFacts.{fine_agr, kept_is, grid_fault, grid_told, made_answer}
@@ -70,7 +70,7 @@ returns c =
     let is = c.in_ok-claims.ensures.count in
     let agr = c.in_ok-layered_unit.layered_unit.clauses.agr in
     let same = c.in_ok-layered_unit.ensures.clauses.agr in
-    let cede = cede_is u.agr agr (agr_layered u c.in_ok-layered_unit.ensures.layered)
+    let cede = cede_is u.agr agr (clauses_layered u c.in_ok-layered_unit.ensures.layered).1
     (fine_agr settings.bs n u c.requires.grid c.in_ok-claims.ensures.fault) same in
     let span = c.zero_base-span.ensures ∙ ap₂ (λ k m. zero_base k u.zero m) is.same is.number in
     let none = grid_fault settings n u ∙ skip (first_broken n (clause_rules u)) _ c.in_ok-layered_unit.ensures.fault

@@ -1,14 +1,12 @@
-use Rattle.dl_grid.proofs.Common.{length, take, arith, sym, ap, ◌∙◌, length-take-le}
-use Rattle.dl_grid.proofs.EndLists.{cells_long, view_taken}
+use Rattle.dl_grid.proofs.Common.{take, arith, ap, ◌∙◌}
+use Rattle.dl_grid.proofs.EndLists.{cells_long, ends_reach, view_taken}
 use Rattle.dl_grid.proofs.grid.Grid.truncate.Goals as goal
 
 pub slice_bounds-from_slice-end : goal.slice_bounds-from_slice-end
-slice_bounds-from_slice-end g c =
-    sym (length-take-le _ _ (omega (arith, cells_long c.g.invariant, ap length c.g.view_is)))
+slice_bounds-from_slice-end g c = ends_reach _ _ c.g.invariant c.g.view_is (omega arith) c.requires.within
 
 pub slice_bounds-from_slice-end-2 : goal.slice_bounds-from_slice-end-2
-slice_bounds-from_slice-end-2 g c =
-    sym (length-take-le _ _ (omega (arith, cells_long c.g.invariant, ap length c.g.view_is)))
+slice_bounds-from_slice-end-2 g c = ends_reach _ _ c.g.invariant c.g.view_is (omega arith) c.requires.within
 
 pub returns : goal.returns
 returns g c =

@@ -40,25 +40,13 @@ overflow_mul-rest g c = omega (
 )
 
 pub overflow_mul-above-2 : goal.overflow_mul-above-2
-overflow_mul-above-2 g c = omega (
-  arith,
-  above_fits g.row.B c.args.num c.args.den _ _ c.requires.positive c.units_of_one-first.ensures
-      c.units_of_one-second.ensures c.requires.fits,
-)
+overflow_mul-above-2 g c = grind (arith, above_fits)
 
 pub overflow_add-above : goal.overflow_add-above
-overflow_add-above g c = omega (
-  arith,
-  before_fits g.row.B c.args.num c.args.den _ _ c.requires.positive c.units_of_one-first.ensures
-      c.units_of_one-second.ensures c.requires.fits,
-)
+overflow_add-above g c = grind (arith, before_fits)
 
 pub overflow_mul-above : goal.overflow_mul-above
-overflow_mul-above g c = omega (
-  arith,
-  before_fits g.row.B c.args.num c.args.den _ _ c.requires.positive c.units_of_one-first.ensures
-      c.units_of_one-second.ensures c.requires.fits,
-)
+overflow_mul-above g c = grind (arith, before_fits)
 
 pub overflow_mul-left : goal.overflow_mul-left
 overflow_mul-left g c = omega (
