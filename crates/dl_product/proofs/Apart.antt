@@ -1,18 +1,18 @@
 -- Products of lists whose items lie a common step apart.
-use Rattle.std.specs.Prelude.{All}
-use Rattle.dl_product.proofs.Common.{end_fits, fewer_fit, ℕ, zero, suc, ◌≡◌, ◌+◌, ◌-◌, ◌*◌, ◌/◌, ◌<◌, ◌≤◌, inl, inr, List, length, get_or, arith, sym, ap, ap₂, ◌∙◌, cases_lt, get_or_past, count_pairs, ItemsFit, pairs_same, times_nothing, pair_sum}
-use Rattle.std.proofs.Common.{◌%◌}
-use Rattle.std.proofs.Math.Nat.{add-mod_left, add-mul-mod_self_right, eq_of_mul-eq-mul_right, le_trans, le-mul_of_pos_right, mod-eq_of_lt, mod-add-div', mul-le-mul_right, mul-mod_left, lt_of_mul-lt-mul_right, suc-add, zero-mul}
+use Rattle.std.specs.Prelude.{All, ◌≢◌, min}
+use Rattle.dl_product.proofs.Common.{drop, end_fits, fewer_fit, second_part, take, ℕ, zero, suc, ◌≡◌, ◌+◌, ◌-◌, ◌*◌, ◌/◌, ◌<◌, ◌≤◌, inl, inr, List, length, get_or, arith, refl, sym, ap, ap₂, ◌∙◌, cases_lt, get_or_past, count_pairs, ItemsFit, pairs_same, times_nothing, pair_sum}
+use Rattle.std.proofs.Common.{◌%◌, zero-add}
+use Rattle.std.proofs.Math.Nat.{add-mod_left, mod-le, mod-lt, mul_comm, add-mul-mod_self_right, eq_of_mul-eq-mul_right, le_trans, le-mul_of_pos_right, mod-eq_of_lt, mod-add-div', mul-le-mul_right, lt_of_mul-lt-mul_right, suc-add, zero-mul}
 use Prim.Native.Nat.{◌∣◌}
 use Rattle.std.specs.Int.{div_ceil}
-use Rattle.std.proofs.Math.ListN.{set}
+use Rattle.std.proofs.Math.ListN.{set, length-set}
 use Rattle.std.proofs.lemmas.List.{get_or-set_same, get_or-set_other}
 use Rattle.std.proofs.lemmas.Bool.{cases_eq}
 use Rattle.std.proofs.lemmas.Nat.Gcd.{dvd_trans, dvd_of_mod-eq-zero, mod-eq-zero_of_dvd}
 use Rattle.std.proofs.lemmas.Grind.{div_ceil_times, get_or_default_zero}
 use Rattle.dl_exact.proofs.Counts.{nothing_times}
-use Rattle.dl_product.specs.Steps.{LieApart, AreMultiples}
-use Rattle.dl_product.proofs.Zeros.{no_products, shift_first}
+use Rattle.dl_product.specs.Steps.{LieApart, AreMultiples, AreEvery}
+use Rattle.dl_product.proofs.Zeros.{low_first, no_products, shift_first, window_at}
 
 -- what is no multiple of a divisor is none of the number
 pub off_finer : (g h i : ℕ) → g ∣ h → 0 < i % g → 0 < i % h
@@ -35,21 +35,36 @@ rest_off : (g s i : ℕ) → i ≤ s → i % g ≡ 0 → (s - i) % g ≡ s % g
 rest_off g s i b none =
     sym (add-mul-mod_self_right (s - i) (i / g) g) ∙ ap (λ n. n % g) (omega (arith, b, none, mod-add-div' i g))
 
-next : (d k : ℕ) → suc k * suc d ≡ suc (d + k * suc d)
-next d k = omega arith
+next : (d r k : ℕ) → r + suc k * suc d ≡ suc (d + (r + k * suc d))
+next d r k = omega arith
 
--- the sum at a multiple of the step goes over multiples
-multiples_sum : (d k : ℕ) (f h : ℕ → ℕ) → ((i : ℕ) → 0 < i % suc d → f i ≡ 0)
-    → count_pairs (k * suc d) (λ i j. f i * h j) ≡ count_pairs k (λ i j. f (i * suc d) * h (j * suc d))
+next_multiple : (d k : ℕ) → suc k * suc d ≡ suc (d + k * suc d)
+next_multiple d k = omega arith
+
+first_at : (r d : ℕ) → r + zero * d ≡ r
+first_at r d = omega arith
+
+-- the first product alone, where no later item of the first list is above 0
+only_first : (n : ℕ) (f h : ℕ → ℕ) → ((i : ℕ) → 0 < i → i ≤ n → f i ≡ 0) → count_pairs n (λ i j. f i * h j) ≡ f zero * h n
 unfolding count_pairs
-multiples_sum d zero f h apart = ap (λ n. count_pairs n (λ i j. f i * h j)) (zero-mul (suc d)) ∙ ap (λ n. f n * h n) (sym (zero-mul (suc d)))
-multiples_sum d (suc k) f h apart =
-    ap (λ n. count_pairs n (λ i j. f i * h j)) (next d k)
-    ∙ ap₂ (λ x y. x + y) (ap₂ (λ m n. f m * h n) (sym (zero-mul (suc d))) (sym (next d k)))
-    (shift_first d (k * suc d) (λ i. f (suc i)) h
+only_first zero f h none = refl
+only_first (suc n) f h none = omega (arith, low_first n (λ i. f (suc i)) h (λ i b. none (suc i) (omega arith) (omega (arith, b))))
+
+-- the sum at a place that leaves r over the step goes over multiples, and the places that leave r
+class_sum : (d r k : ℕ) (f h : ℕ → ℕ) → r < suc d → ((i : ℕ) → 0 < i % suc d → f i ≡ 0)
+    → count_pairs (r + k * suc d) (λ i j. f i * h j) ≡ count_pairs k (λ i j. f (i * suc d) * h (r + j * suc d))
+unfolding count_pairs
+class_sum d r zero f h below apart =
+    ap (λ n. count_pairs n (λ i j. f i * h j)) (first_at r (suc d))
+    ∙ only_first r f h (λ i some b. apart i (omega (arith, some, mod-eq_of_lt {n = i} {m = suc d} (omega (arith, b, below)))))
+    ∙ ap₂ (λ m n. f m * h n) (sym (zero-mul (suc d))) (sym (first_at r (suc d)))
+class_sum d r (suc k) f h below apart =
+    ap (λ n. count_pairs n (λ i j. f i * h j)) (next d r k)
+    ∙ ap₂ (λ x y. x + y) (ap₂ (λ m n. f m * h n) (sym (zero-mul (suc d))) (sym (next d r k)))
+    (shift_first d (r + k * suc d) (λ i. f (suc i)) h
     (λ i b. apart (suc i) (omega (arith, mod-eq_of_lt {n = suc i} {m = suc d} (omega arith))))
-    ∙ multiples_sum d k (λ i. f (suc (d + i))) h (λ i b. apart (suc (d + i)) (rw (← shifted d i) b))
-    ∙ pairs_same k _ _ (λ i j. ap (λ n. f n * h (j * suc d)) (sym (next d i))))
+    ∙ class_sum d r k (λ i. f (suc (d + i))) h below (λ i b. apart (suc (d + i)) (rw (← shifted d i) b))
+    ∙ pairs_same k _ _ (λ i j. ap (λ n. f n * h (r + j * suc d)) (sym (next_multiple d i))))
 
 -- no product at a place that is no multiple
 between : (g s : ℕ) (f h : ℕ → ℕ) → ((i : ℕ) → 0 < i % g → f i ≡ 0) → ((j : ℕ) → 0 < j % g → h j ≡ 0) → 0 < s % g
@@ -78,17 +93,25 @@ ceil_within g n some = elim (cases_lt n (div_ceil n g)) [
 pub multiple_past : (g n k : ℕ) → 0 < g → div_ceil n g ≤ k → n ≤ k * g
 multiple_past g n k some b = le_trans (div_ceil_times n g some).0 (mul-le-mul_right g b)
 
--- the product of two lists from that of their items at the multiples
-pub apart_sum : (g s : ℕ) (a b first second : List ℕ) → 0 < g → LieApart g a → LieApart g b
-    → AreMultiples g a first → AreMultiples g b second → s % g ≡ 0
+-- the sum at a place that leaves r over the step, from the items of the first list at the multiples
+-- and those of the second at the places that leave r
+pub class_at : (g r s : ℕ) (a b first second : List ℕ) → r < g → LieApart g a → AreMultiples g a first
+    → ((k : ℕ) → get_or second k 0 ≡ get_or b (r + k * g) 0) → s % g ≡ r
     → pair_sum a b s ≡ pair_sum first second (s / g)
-apart_sum zero s a b first second some lie also each all none = absurd (omega arith)
-apart_sum (suc d) s a b first second some lie also each all none =
-    ap (λ n. pair_sum a b n) here ∙ multiples_sum d (s / suc d) (λ i. get_or a i 0) (λ j. get_or b j 0) lie
+class_at zero r s a b first second below lie each all rest = absurd (omega (arith, below))
+class_at (suc d) r s a b first second below lie each all rest =
+    ap (λ n. pair_sum a b n) here ∙ class_sum d r (s / suc d) (λ i. get_or a i 0) (λ j. get_or b j 0) below lie
     ∙ pairs_same (s / suc d) _ _ (λ i j. ap₂ (λ u v. u * v) (sym (each i)) (sym (all j)))
   where
-    here : s ≡ s / suc d * suc d
-    here = omega (arith, none, mod-add-div' s (suc d))
+    here : s ≡ r + s / suc d * suc d
+    here = omega (arith, rest, mod-add-div' s (suc d))
+
+-- the items from the start, as those that leave nothing over
+pub from_start : (g : ℕ) (xs items : List ℕ) → AreEvery g 0 xs items → AreMultiples g xs items
+from_start g xs items each k = each k ∙ ap (λ n. get_or xs n 0) (zero-add (k * g))
+
+to_start : (g : ℕ) (xs items : List ℕ) → AreMultiples g xs items → AreEvery g 0 xs items
+to_start g xs items each k = each k ∙ ap (λ n. get_or xs n 0) (sym (zero-add (k * g)))
 
 -- items of the product of the shorter lists, spread out
 pub sums_spread : (g n : ℕ) (a b first second sums out : List ℕ) → 0 < g → LieApart g a → LieApart g b
@@ -101,35 +124,46 @@ sums_spread g n a b first second sums out some lie also each all done spread apa
       let none : s % g ≡ 0 = omega (arith, c) in
       let here : s / g * g ≡ s = omega (arith, none, mod-add-div' s g) in
       ap (λ k. get_or out k 0) (sym here) ∙ sym (spread (s / g)) ∙ done (s / g) (ceil_above g n s some inside here)
-      ∙ sym (apart_sum g s a b first second some lie also each all none)
+      ∙ sym (class_at g 0 s a b first second some lie each (to_start g b second all) none)
 ]
 
--- k items written g apart in zeros
-pub record AreWritten (g k : ℕ) (items out : List ℕ) : Type 0 where
-  pub done : (j : ℕ) → j < k → get_or items j 0 ≡ get_or out (j * g) 0
-  pub rest : (s : ℕ) → k * g ≤ s → get_or out s 0 ≡ 0
-  pub apart : LieApart g out
+-- k items written g apart, from place r on
+pub record AreWritten (g r k : ℕ) (items old out : List ℕ) : Type 0 where
+  pub long : length out ≡ length old
+  pub done : (j : ℕ) → j < k → get_or items j 0 ≡ get_or out (r + j * g) 0
+  pub others : (s : ℕ) → s % g ≢ r → get_or out s 0 ≡ get_or old s 0
 
-pub one_written : (g k : ℕ) (items out : List ℕ) → 0 < g → k * g < length out → AreWritten g k items out
-    → AreWritten g (k + 1) items (set out (k * g) (get_or items k 0))
-one_written g k items out some inside w = record {
+-- such a place leaves r over the step
+leaves : (g r k : ℕ) → r < g → (r + k * g) % g ≡ r
+leaves g r k below = add-mul-mod_self_right r k g ∙ mod-eq_of_lt {n = r} {m = g} below
+
+-- and there are as many as places from r on over g, rounded up
+pub class_inside : (g r n k : ℕ) → r < g → k < div_ceil (n - r) g → r + k * g < n
+class_inside g r n k below b = omega (arith, multiple_inside g (n - r) k (omega (arith, below)) b)
+
+pub one_written : (g r k : ℕ) (items old out : List ℕ) → r < g → r + k * g < length out
+    → AreWritten g r k items old out → AreWritten g r (k + 1) items old (set out (r + k * g) (get_or items k 0))
+one_written g r k items old out below inside w = record {
+  long = length-set out (r + k * g) (get_or items k 0) ∙ w.long;
   done = λ j b. elim (cases_eq j k) [
-    | inl e ↦ rw e (sym (get_or-set_same out (k * g) (get_or items k 0) 0 inside))
+    | inl e ↦ rw e (sym (get_or-set_same out (r + k * g) (get_or items k 0) 0 inside))
     | inr e ↦ w.done j (omega (arith, b, e))
-        ∙ sym (get_or-set_other out (k * g) (j * g) (get_or items k 0) 0 (λ same. e (eq_of_mul-eq-mul_right g some j k same)))
+        ∙ sym (get_or-set_other out (r + k * g) (r + j * g) (get_or items k 0) 0
+        (λ same. e (eq_of_mul-eq-mul_right g (omega (arith, below)) j k (omega (arith, same)))))
   ];
-  rest = λ s b. get_or-set_other out (k * g) s (get_or items k 0) 0 (λ same. absurd (omega (arith, b, same, some)))
-      ∙ w.rest s (omega (arith, b));
-  apart = λ i off. get_or-set_other out (k * g) i (get_or items k 0) 0
-      (λ same. absurd (omega (arith, off, ap (λ n. n % g) same, mul-mod_left k g)))
-      ∙ w.apart i off;
+  others = λ s off. get_or-set_other out (r + k * g) s (get_or items k 0) 0
+      (λ same. off (ap (λ n. n % g) same ∙ leaves g r k below))
+      ∙ w.others s off;
 }
 
--- with all items written each multiple has its item
-pub all_written : (g k : ℕ) (items out : List ℕ) → length items ≤ k → AreWritten g k items out → AreMultiples g out items
-all_written g k items out all w j = elim (cases_lt j k) [
+-- with all items written each such place has its item
+pub all_written : (g r k : ℕ) (items old out : List ℕ) → r < g → length items ≡ div_ceil (length old - r) g
+    → length items ≤ k → AreWritten g r k items old out → AreEvery g r out items
+all_written g r k items old out below long all w j = elim (cases_lt j k) [
   | inl b ↦ w.done j b
-  | inr b ↦ get_or_past items j 0 (omega (arith, all, b)) ∙ sym (w.rest (j * g) (mul-le-mul_right g b))
+  | inr b ↦ get_or_past items j 0 (omega (arith, all, b))
+      ∙ sym (get_or_past out (r + j * g) 0
+      (omega (arith, w.long, multiple_past g (length old - r) j (omega (arith, below)) (omega (arith, long, all, b)))))
 ]
 
 -- the items at the multiples, so far
@@ -156,3 +190,54 @@ multiples_fit g n a b first second some f each all = fewer_fit (div_ceil n g) (c
   room = f.room;
   few = f.few;
 }
+
+-- what is left over a step is below it, and not above the number
+pub rest_below : (g s : ℕ) → 0 < g → (s % g < g) × (s % g ≤ s)
+rest_below g s some = (mod-lt s some, mod-le s g)
+
+-- the pairs that add up to a number, the last one apart
+pairs_last : (n : ℕ) (f : ℕ → ℕ → ℕ) → count_pairs (suc n) f ≡ count_pairs n (λ i j. f i (suc j)) + f (suc n) zero
+unfolding count_pairs
+pairs_last zero f = refl
+pairs_last (suc n) f = omega (arith, pairs_last n (λ i j. f (suc i) j))
+
+-- and turned round
+pairs_swapped : (n : ℕ) (f : ℕ → ℕ → ℕ) → count_pairs n f ≡ count_pairs n (λ i j. f j i)
+unfolding count_pairs
+pairs_swapped zero f = refl
+pairs_swapped (suc n) f = omega (arith, pairs_last n (λ i j. f j i), pairs_swapped n (λ i j. f (suc i) j))
+
+-- the product of two lists in the other order
+pub pair_swapped : (a b : List ℕ) (s : ℕ) → pair_sum a b s ≡ pair_sum b a s
+pair_swapped a b s =
+    pairs_swapped s (λ i j. get_or a i 0 * get_or b j 0) ∙ pairs_same s _ _ (λ i j. mul_comm (get_or a j 0) (get_or b i 0))
+
+-- the items of a list from place r on, or none where it ends before
+tail_at : (r k : ℕ) (b : List ℕ) → get_or (take (length b - min r (length b)) (drop (min r (length b)) b)) k 0 ≡ get_or b (r + k) 0
+tail_at r k b =
+    window_at b (min r (length b)) (length b) k (omega arith) (omega arith) (λ i past. get_or_past b i 0 past)
+    ∙ elim (cases_lt (length b) r) [
+      | inl past ↦ get_or_past b (min r (length b) + k) 0 (omega (arith, past)) ∙ sym (get_or_past b (r + k) 0 (omega (arith, past)))
+      | inr within ↦ ap (λ n. get_or b n 0) (omega (arith, within))
+    ]
+
+-- and of these those at the multiples
+pub class_items : (g r : ℕ) (b second : List ℕ)
+    → AreMultiples g (take (length b - min r (length b)) (drop (min r (length b)) b)) second
+    → (k : ℕ) → get_or second k 0 ≡ get_or b (r + k * g) 0
+class_items g r b second all k = all k ∙ tail_at r (k * g) b
+
+-- they have room for their products
+pub class_fits : (g r n p e : ℕ) (a b first second : List ℕ) → r < g → ItemsFit a b n → AreMultiples g a first
+    → AreMultiples g (take e (drop p b)) second → ItemsFit first second (div_ceil (n - r) g)
+class_fits g r n p e a b first second below f each all =
+    multiples_fit g (n - r) a (take e (drop p b)) first second (omega (arith, below))
+    (fewer_fit (n - r) (omega arith) (second_part p e f)) each all
+
+-- a place that leaves r over the step is that of one of them
+pub class_place : (g r s : ℕ) → s % g ≡ r → r + s / g * g ≡ s
+class_place g r s rest = omega (arith, rest, mod-add-div' s g)
+
+pub class_within : (g r n s : ℕ) → r < g → s < n → s % g ≡ r → s / g < div_ceil (n - r) g
+class_within g r n s below inside rest =
+    lt_of_mul-lt-mul_right g (omega (arith, class_place g r s rest, inside, (div_ceil_times (n - r) g (omega (arith, below))).0))

@@ -3,6 +3,8 @@
 //! contract of the convolution, and all ways give the same cells.
 #![tactic(auto)]
 
+mod both;
+mod classes;
 mod lists;
 mod products;
 mod room;

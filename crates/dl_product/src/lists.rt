@@ -1,14 +1,15 @@
 //! The product of two lists, by whichever of three ways is the fastest.
 
-ghost use Rattle.std.specs.Prelude.{◌≡◌, ℕ, ◌<◌, ◌≤◌, length, get_or, IfOk, IfSome};
+ghost use Rattle.std.specs.Prelude.{◌≡◌, ℕ, ◌<◌, ◌≤◌, true, length, get_or, IfOk, IfSome, IsTrue};
 ghost use Rattle.dl_limits.specs.Limits.{most_cells};
 ghost use Rattle.dl_conv.specs.Sums.{pair_sum, ItemsFit};
 ghost use Rattle.dl_product.specs.Steps.{LieApart};
 
+use crate::classes::multiply_by_classes;
 use crate::room::Workspace;
 use crate::short::short_square;
 use crate::steps::{at_multiples, spread_out, step_with};
-use crate::windows::window_of;
+use crate::windows::windows_of;
 use dl_conv::{halved_sums, plain_sums, work_for};
 use dl_transform::levels_for;
 use std::alloc::{AllocError, Global};
@@ -24,10 +25,26 @@ const SQUARES_A_STEP: usize = 10;
 /// The most levels: two lists of at most 65,536 items fit a transform of `2^17` items.
 const MOST_LEVELS: u32 = 17;
 
+/// How many products of items take the time of one item of a transform at one level.
+pub(crate) fn rate_of(is_square: bool) -> usize
+    ensures { result ≤ 1000 }
+{
+    if is_square {
+        SQUARES_A_STEP
+    } else {
+        PRODUCTS_A_STEP
+    }
+}
+
 /// The levels of the transform that multiplies two lists, where it takes less time than the
 /// products of their items for the first `count` places do, of which `rate` are as long as one step
 /// of it.
-fn levels_if_shorter(first: usize, second: usize, count: usize, rate: usize) -> Option<u32>
+pub(crate) fn levels_if_shorter(
+    first: usize,
+    second: usize,
+    count: usize,
+    rate: usize,
+) -> Option<u32>
     requires first { first ≤ most_cells }
     requires second { second ≤ most_cells }
     requires rate { rate ≤ 1000 }
@@ -46,7 +63,7 @@ fn levels_if_shorter(first: usize, second: usize, count: usize, rate: usize) -> 
 
 /// The first items of the product of two lists, as many as `out` has room for, without a transform:
 /// one product after another, or by halves where both lists are as long as `out`.
-fn multiply_plainly(
+pub(crate) fn multiply_plainly(
     alloc: Global,
     a: &[u128],
     b: &[u128],
@@ -66,26 +83,44 @@ fn multiply_plainly(
     Ok(())
 }
 
-/// The first items of the product of two lists, as many as `out` has room for, the shorter way.
+/// The first items of the product of two lists, as many as `out` has room for, the shorter way. Two
+/// lists that are one take fewer steps.
 fn multiply(
     alloc: Global,
     work: &mut Workspace,
     a: &[u128],
     b: &[u128],
+    is_square: bool,
     out: &mut [u128],
 ) -> Result<(), AllocError>
     requires fits { ItemsFit a.now b.now (length out.old) }
     requires first_few { length a.now ≤ most_cells }
     requires second_few { length b.now ≤ most_cells }
+    requires square { is_square ≡ true → b.now ≡ a.now }
     ensures { IfOk result (λ _. (s : ℕ) → s < length out.old
         → get_or out.new s 0 ≡ pair_sum a.now b.now s) }
 {
-    if let Some(levels) = levels_if_shorter(a.len(), b.len(), out.len(), PRODUCTS_A_STEP) {
-        if work.product(alloc, a, b, levels, out)? {
+    if let Some(levels) = levels_if_shorter(a.len(), b.len(), out.len(), rate_of(is_square)) {
+        if work.product(alloc, a, b, is_square, levels, out)? {
             return Ok(());
         }
     }
+    if is_square {
+        short_square(a, out);
+        return Ok(());
+    }
     multiply_plainly(alloc, a, b, out)
+}
+
+/// Whether the product of two lists, of which one has items `step` apart, takes less time by the
+/// products of its items with those of the other than by a transform.
+pub(crate) fn are_classes_shorter(first: usize, second: usize, count: usize, step: u32) -> bool
+    requires first { first ≤ most_cells }
+    requires second { second ≤ most_cells }
+    ensures { IsTrue result → 1 < step }
+{
+    let rate = PRODUCTS_A_STEP * (step as usize).min(100);
+    step > 1 && levels_if_shorter(first, second, count, rate).is_none()
 }
 
 /// The first items of the product of two lists whose items lie `step` apart, in the place of as
@@ -95,12 +130,14 @@ fn multiply_apart(
     work: &mut Workspace,
     a: &[u128],
     b: &[u128],
+    is_square: bool,
     step: usize,
     out: &mut [u128],
 ) -> Result<(), AllocError>
     requires fits { ItemsFit a.now b.now (length out.old) }
     requires first_few { length a.now ≤ most_cells }
     requires second_few { length b.now ≤ most_cells }
+    requires square { is_square ≡ true → b.now ≡ a.now }
     requires zeros { (s : ℕ) → get_or out.old s 0 ≡ 0 }
     requires some { 0 < step }
     requires first_apart { LieApart step a.now }
@@ -111,8 +148,8 @@ fn multiply_apart(
     let first = at_multiples(alloc, a, step)?;
     let second = at_multiples(alloc, b, step)?;
     let mut sums = Vec::from_elem(alloc, 0, out.len().div_ceil(step))?;
-    multiply(alloc, work, &first, &second, sums.as_mut_slice())?;
-    spread_out(&sums, step, out);
+    multiply(alloc, work, &first, &second, is_square, sums.as_mut_slice())?;
+    spread_out(&sums, step, 0, out);
     Ok(())
 }
 
@@ -122,20 +159,30 @@ fn multiply_by_steps(
     work: &mut Workspace,
     a: &[u128],
     b: &[u128],
+    is_square: bool,
     out: &mut [u128],
 ) -> Result<(), AllocError>
     requires fits { ItemsFit a.now b.now (length out.old) }
     requires first_few { length a.now ≤ most_cells }
     requires second_few { length b.now ≤ most_cells }
+    requires square { is_square ≡ true → b.now ≡ a.now }
     requires zeros { (s : ℕ) → get_or out.old s 0 ≡ 0 }
     ensures { IfOk result (λ _. (s : ℕ) → s < length out.old
         → get_or out.new s 0 ≡ pair_sum a.now b.now s) }
 {
-    let step = step_with(b, step_with(a, 0));
+    let first = step_with(a, 0);
+    let step = step_with(b, first);
     if step > 1 {
-        return multiply_apart(alloc, work, a, b, step as usize, out);
+        return multiply_apart(alloc, work, a, b, is_square, step as usize, out);
     }
-    multiply(alloc, work, a, b, out)
+    if are_classes_shorter(a.len(), b.len(), out.len(), first) {
+        return multiply_by_classes(alloc, a, b, first as usize, out);
+    }
+    let second = step_with(b, 0);
+    if are_classes_shorter(a.len(), b.len(), out.len(), second) {
+        return multiply_by_classes(alloc, b, a, second as usize, out);
+    }
+    multiply(alloc, work, a, b, is_square, out)
 }
 
 /// The first items of the product of two lists, in the place of as many zeros.
@@ -144,17 +191,18 @@ fn write_sums(
     work: &mut Workspace,
     a: &[u128],
     b: &[u128],
+    is_square: bool,
     out: &mut [u128],
 ) -> Result<(), AllocError>
     requires fits { ItemsFit a.now b.now (length out.old) }
     requires first_few { length a.now ≤ most_cells }
     requires second_few { length b.now ≤ most_cells }
+    requires square { is_square ≡ true → b.now ≡ a.now }
     requires zeros { (s : ℕ) → get_or out.old s 0 ≡ 0 }
     ensures { IfOk result (λ _. (s : ℕ) → s < length out.old
         → get_or out.new s 0 ≡ pair_sum a.now b.now s) }
 {
-    let (p, e) = window_of(a);
-    let (q, f) = window_of(b);
+    let ((p, e), (q, f)) = windows_of(a, b, is_square);
     let start = out.len().min(p + q);
     let count = (out.len() - start).min(e - p + (f - q));
     multiply_by_steps(
@@ -162,6 +210,7 @@ fn write_sums(
         work,
         &a[p..e],
         &b[q..f],
+        is_square,
         &mut out[start..start + count],
     )
 }
@@ -172,120 +221,18 @@ pub(crate) fn sums(
     work: &mut Workspace,
     a: &[u128],
     b: &[u128],
+    is_square: bool,
     cells: u32,
 ) -> Result<Vec<u128>, AllocError>
     requires fits { ItemsFit a.now b.now cells }
     requires first_few { length a.now ≤ most_cells }
     requires second_few { length b.now ≤ most_cells }
+    requires square { is_square ≡ true → b.now ≡ a.now }
     ensures cells { IfOk result (λ v. length v.items ≡ cells) }
     ensures each { IfOk result (λ v. (s : ℕ) → s < cells
         → get_or v.items s 0 ≡ pair_sum a.now b.now s) }
 {
     let mut sums = Vec::from_elem(alloc, 0, cells as usize)?;
-    write_sums(alloc, work, a, b, sums.as_mut_slice())?;
-    Ok(sums)
-}
-
-/// The first items of the product of a list with itself, as many as `out` has room for, the shorter
-/// way.
-fn multiply_by_itself(
-    alloc: Global,
-    work: &mut Workspace,
-    a: &[u128],
-    out: &mut [u128],
-) -> Result<(), AllocError>
-    requires fits { ItemsFit a.now a.now (length out.old) }
-    requires items_few { length a.now ≤ most_cells }
-    ensures { IfOk result (λ _. (s : ℕ) → s < length out.old
-        → get_or out.new s 0 ≡ pair_sum a.now a.now s) }
-{
-    if let Some(levels) = levels_if_shorter(a.len(), a.len(), out.len(), SQUARES_A_STEP) {
-        if work.square(alloc, a, levels, out)? {
-            return Ok(());
-        }
-    }
-    short_square(a, out);
-    Ok(())
-}
-
-/// The first items of the product of a list with itself, in the place of as many zeros, where its
-/// items lie `step` apart.
-fn square_apart(
-    alloc: Global,
-    work: &mut Workspace,
-    a: &[u128],
-    step: usize,
-    out: &mut [u128],
-) -> Result<(), AllocError>
-    requires fits { ItemsFit a.now a.now (length out.old) }
-    requires items_few { length a.now ≤ most_cells }
-    requires zeros { (s : ℕ) → get_or out.old s 0 ≡ 0 }
-    requires some { 0 < step }
-    requires apart { LieApart step a.now }
-    ensures { IfOk result (λ _. (s : ℕ) → s < length out.old
-        → get_or out.new s 0 ≡ pair_sum a.now a.now s) }
-{
-    let items = at_multiples(alloc, a, step)?;
-    let mut sums = Vec::from_elem(alloc, 0, out.len().div_ceil(step))?;
-    multiply_by_itself(alloc, work, &items, sums.as_mut_slice())?;
-    spread_out(&sums, step, out);
-    Ok(())
-}
-
-/// The first items of the product of a list with itself, in the place of as many zeros, the shorter
-/// way.
-fn square_by_steps(
-    alloc: Global,
-    work: &mut Workspace,
-    a: &[u128],
-    out: &mut [u128],
-) -> Result<(), AllocError>
-    requires fits { ItemsFit a.now a.now (length out.old) }
-    requires items_few { length a.now ≤ most_cells }
-    requires zeros { (s : ℕ) → get_or out.old s 0 ≡ 0 }
-    ensures { IfOk result (λ _. (s : ℕ) → s < length out.old
-        → get_or out.new s 0 ≡ pair_sum a.now a.now s) }
-{
-    let step = step_with(a, 0);
-    if step > 1 {
-        return square_apart(alloc, work, a, step as usize, out);
-    }
-    multiply_by_itself(alloc, work, a, out)
-}
-
-/// The first items of the product of a list with itself, in the place of as many zeros.
-fn write_square_sums(
-    alloc: Global,
-    work: &mut Workspace,
-    a: &[u128],
-    out: &mut [u128],
-) -> Result<(), AllocError>
-    requires fits { ItemsFit a.now a.now (length out.old) }
-    requires items_few { length a.now ≤ most_cells }
-    requires zeros { (s : ℕ) → get_or out.old s 0 ≡ 0 }
-    ensures { IfOk result (λ _. (s : ℕ) → s < length out.old
-        → get_or out.new s 0 ≡ pair_sum a.now a.now s) }
-{
-    let (p, e) = window_of(a);
-    let start = out.len().min(p + p);
-    let count = (out.len() - start).min(e - p + (e - p));
-    square_by_steps(alloc, work, &a[p..e], &mut out[start..start + count])
-}
-
-/// The first `cells` items of the product of a list with itself.
-pub(crate) fn square_sums(
-    alloc: Global,
-    work: &mut Workspace,
-    a: &[u128],
-    cells: u32,
-) -> Result<Vec<u128>, AllocError>
-    requires fits { ItemsFit a.now a.now cells }
-    requires items_few { length a.now ≤ most_cells }
-    ensures cells { IfOk result (λ v. length v.items ≡ cells) }
-    ensures each { IfOk result (λ v. (s : ℕ) → s < cells
-        → get_or v.items s 0 ≡ pair_sum a.now a.now s) }
-{
-    let mut sums = Vec::from_elem(alloc, 0, cells as usize)?;
-    write_square_sums(alloc, work, a, sums.as_mut_slice())?;
+    write_sums(alloc, work, a, b, is_square, sums.as_mut_slice())?;
     Ok(sums)
 }

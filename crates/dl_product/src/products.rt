@@ -1,13 +1,30 @@
 //! Products and squares of grids.
 
-ghost use Rattle.std.specs.Prelude.{◌≡◌, ◌^◌, ◌≤◌, length, IfOk};
-ghost use Rattle.dl_grid.specs.Prelude.{spread, IsConvolution, convolution_spread};
+ghost use Rattle.std.specs.Prelude.{◌≡◌, ℕ, ◌^◌, ◌≤◌, length, get_or, All, IfOk};
+ghost use Rattle.dl_grid.specs.Prelude.{low_at, high_at, spread, IsConvolution, IsGrid, convolution_spread};
+ghost use Rattle.dl_product.specs.Ends.{ArePaired};
 
-use crate::lists::{square_sums, sums};
+use crate::both::{Cells, both_sums};
 use crate::room::Workspace;
 use dl_conv::grid_of_sums;
 use dl_grid::Grid;
 use std::alloc::{AllocError, Global};
+
+/// The low ends and the high ends of a grid.
+fn cells_of<const B: u32>(grid: &Grid<B>) -> Cells<'_>
+    ensures low { (x : ℕ) → get_or result.lows.now x 0 ≡ low_at grid.now x }
+    ensures high { (x : ℕ) → get_or result.highs.now x 0 ≡ high_at grid.now x }
+    ensures paired { ArePaired result.lows.now result.highs.now }
+    ensures cells { length result.highs.now ≡ length grid.now }
+    ensures low_small { All (λ low. low ≤ 2 ^ B) result.lows.now }
+    ensures high_small { All (λ high. high ≤ 2 ^ B) result.highs.now }
+    ensures grid { IsGrid grid.now }
+{
+    Cells {
+        lows: grid.lows(),
+        highs: grid.highs(),
+    }
+}
 
 /// The first `cells` cells of the convolution of `a` and `b`: the grid of the sum of two
 /// independent amounts. Each cell is rounded once, its low end down and its high end up, and what
@@ -26,8 +43,9 @@ pub fn product<const B: u32>(
     ensures convolution { IfOk result (λ g. IsConvolution cells a.now b.now g) }
     ensures cells { IfOk result (λ g. length g ≡ cells) }
 {
-    let lows = sums(alloc, work, a.lows(), b.lows(), cells)?;
-    let highs = sums(alloc, work, a.highs(), b.highs(), cells)?;
+    let first = cells_of(a);
+    let second = cells_of(b);
+    let (lows, highs) = both_sums(alloc, work, first, second, false, cells)?;
     Ok(grid_of_sums(a, b, lows, highs))
 }
 
@@ -44,7 +62,7 @@ pub fn square<const B: u32>(
     ensures convolution { IfOk result (λ g. IsConvolution cells a.now a.now g) }
     ensures spread { IfOk result (λ g. spread g ≤ convolution_spread (2 ^ B) cells (spread a.now) (spread a.now)) }
 {
-    let lows = square_sums(alloc, work, a.lows(), cells)?;
-    let highs = square_sums(alloc, work, a.highs(), cells)?;
+    let first = cells_of(a);
+    let (lows, highs) = both_sums(alloc, work, first, first, true, cells)?;
     Ok(grid_of_sums(a, a, lows, highs))
 }

@@ -3,7 +3,7 @@
 ghost use Rattle.std.specs.Option.{ForSome};
 ghost use Rattle.dl_transform.specs.Setup.{IsSetup};
 
-use dl_transform::{Buffers, Setup, checked_product, checked_square, set_up};
+use dl_transform::{Buffers, Ends, Setup, checked_ends, checked_product, checked_square, set_up};
 use std::alloc::{AllocError, Global};
 
 /// Room and tables for products. A new one takes no memory: what a product needs is taken at the
@@ -18,6 +18,7 @@ pub struct Workspace {
 impl Workspace {
     ghost use Rattle.std.specs.Prelude.{◌≡◌, ℕ, ◌<◌, true, length, get_or, IfOk};
     ghost use Rattle.dl_conv.specs.Sums.{pair_sum, ItemsFit};
+    ghost use Rattle.dl_transform.specs.Ends.{low_sum, high_sum, AreWords};
 
     /// A workspace with no room and no tables yet. It takes no memory.
     pub fn new(alloc: Global) -> Self {
@@ -41,43 +42,71 @@ impl Workspace {
     }
 
     /// Whether transforms of `2^levels` items serve the product of two lists; then `out` has its
-    /// first items, as many as it has room for.
+    /// first items, as many as it has room for. Two lists that are one take fewer transforms.
     pub(crate) fn product(
         &mut self,
         alloc: Global,
         a: &[u128],
         b: &[u128],
+        is_square: bool,
         levels: u32,
         out: &mut [u128],
     ) -> Result<bool, AllocError>
         requires levels { levels < 40 }
         requires fits { ItemsFit a.now b.now (length out.old) }
+        requires square { is_square ≡ true → b.now ≡ a.now }
         ensures { IfOk result (λ found. found ≡ true → (s : ℕ) → s < length out.old
             → get_or out.new s 0 ≡ pair_sum a.now b.now s) }
     {
         self.prepare(alloc, levels)?;
-        match &self.setup {
-            Some(setup) => checked_product(alloc, a, b, setup, &mut self.buffers, out),
-            None => Ok(false),
+        let Some(setup) = &self.setup else {
+            return Ok(false);
+        };
+        if is_square {
+            return checked_square(alloc, a, setup, &mut self.buffers, out);
         }
+        checked_product(alloc, a, b, setup, &mut self.buffers, out)
     }
 
-    /// The same for the product of a list with itself.
-    pub(crate) fn square(
+    /// Whether transforms of `2^levels` items serve the products of the low ends and of the high
+    /// ends of two lists at once; then `lows` and `highs` have their first items, as many as they
+    /// have room for.
+    pub(crate) fn ends(
         &mut self,
         alloc: Global,
-        a: &[u128],
+        a: Ends<'_>,
+        b: Ends<'_>,
+        is_square: bool,
         levels: u32,
-        out: &mut [u128],
+        lows: &mut [u128],
+        highs: &mut [u128],
     ) -> Result<bool, AllocError>
         requires levels { levels < 40 }
-        requires fits { ItemsFit a.now a.now (length out.old) }
-        ensures { IfOk result (λ found. found ≡ true → (s : ℕ) → s < length out.old
-            → get_or out.new s 0 ≡ pair_sum a.now a.now s) }
+        requires first { AreWords a.lows.now a.widths.now }
+        requires second { AreWords b.lows.now b.widths.now }
+        requires square { is_square ≡ true → b.lows.now ≡ a.lows.now }
+        requires square_widths { is_square ≡ true → b.widths.now ≡ a.widths.now }
+        requires paired { length highs.old ≡ length lows.old }
+        ensures low { IfOk result (λ found. found ≡ true → (s : ℕ) → s < length lows.old
+            → get_or lows.new s 0 ≡ low_sum a.entry.lows.now b.entry.lows.now s) }
+        ensures high { IfOk result (λ found. found ≡ true → (s : ℕ) → s < length lows.old
+            → get_or highs.new s 0 ≡ high_sum a.entry.lows.now a.entry.widths.now
+            b.entry.lows.now b.entry.widths.now s) }
     {
         self.prepare(alloc, levels)?;
         match &self.setup {
-            Some(setup) => checked_square(alloc, a, setup, &mut self.buffers, out),
+            Some(setup) => {
+                checked_ends(
+                    alloc,
+                    a,
+                    b,
+                    is_square,
+                    setup,
+                    &mut self.buffers,
+                    lows,
+                    highs,
+                )
+            }
             None => Ok(false),
         }
     }

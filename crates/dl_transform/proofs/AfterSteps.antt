@@ -66,18 +66,18 @@ module _ (t : Table) (right : IsTable t) (node m n l : ℕ) (size : m ≡ 2 ^ l)
         front back lowered raised len (λ i h. firsts i (rw long h)) (λ i h. seconds i (rw long h))
 
 -- products of values, brought back to items, are those of the polynomial that has them, once they are scaled
-pub items_back : (t : Table) (l : ℕ) (h : ℕ → ℕ) (x y z v : List ℕ) → IsTable t → l < length t.scales.items
-    → length x ≡ 2 ^ l
-    → ((k : ℕ) → k < length x → Same t.p (get_or z k 0 * 2 ^ 64) (get_or x k 0 * get_or y k 0))
+pub items_back : (t : Table) (l : ℕ) (h g : ℕ → ℕ) (z v : List ℕ) (m : ℕ) → IsTable t → l < length t.scales.items
+    → m ≡ 2 ^ l
+    → ((k : ℕ) → k < m → Same t.p (get_or z k 0 * 2 ^ 64) (g k))
     → ((f : ℕ → ℕ) → ((k : ℕ) → k < 2 ^ l → Same t.p (get_or z k 0)
     (eval (2 ^ l) f (point t.p t.roots.items (0 * 2 ^ l + k)))) → (k : ℕ) → k < 2 ^ l
     → Same t.p (get_or v k 0) (2 ^ l * f k))
-    → ((k : ℕ) → k < 2 ^ l → Same t.p (get_or x k 0 * get_or y k 0) (eval (2 ^ l) h (point t.p t.roots.items k)))
+    → ((k : ℕ) → k < 2 ^ l → Same t.p (g k) (eval (2 ^ l) h (point t.p t.roots.items k)))
     → (k : ℕ) → k < 2 ^ l → Same t.p (get_or v k 0 * slice_index t.scales.items l) (h k)
-items_back t l h x y z v right inside size products back known =
+items_back t l h g z v m right inside size products back known =
     let n = 2 ^ l in
     undone t.p n (2 ^ 64) t.unit (get_or t.scales.items l 0) h (λ k. get_or z k 0) (λ k. get_or v k 0)
-    (λ k. get_or x k 0 * get_or y k 0) (λ k. point t.p t.roots.items k) right.unit ((right.scale l inside).same)
+    g (λ k. point t.p t.roots.items k) right.unit ((right.scale l inside).same)
     (λ k b. products k (rw size b)) known (λ f g. back f (λ k b. rw (place n k) (g k b)))
   where
     place : (n k : ℕ) → 0 * n + k ≡ k

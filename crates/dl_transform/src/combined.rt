@@ -26,9 +26,10 @@ pub struct Setup {
 /// for those after it.
 #[derive(Drop)]
 pub struct Buffers {
-    first: Vec<u64>,
-    second: Vec<u64>,
-    spare: Vec<u64>,
+    pub(crate) first: Vec<u64>,
+    pub(crate) second: Vec<u64>,
+    pub(crate) spare: Vec<u64>,
+    pub(crate) widths: Vec<u64>,
 }
 
 impl Setup {
@@ -47,11 +48,12 @@ impl Buffers {
             first: Vec::new(alloc),
             second: Vec::new(alloc),
             spare: Vec::new(alloc),
+            widths: Vec::new(alloc),
         }
     }
 
-    /// Makes each buffer at least `size` long.
-    fn make_room(&mut self, alloc: Global, size: usize) -> Result<(), AllocError>
+    /// Makes each buffer at least `size` long, but that for widths.
+    pub(crate) fn make_room(&mut self, alloc: Global, size: usize) -> Result<(), AllocError>
         ensures first { IfOk result (λ _. size ≤ length self.new.first.items) }
         ensures second { IfOk result (λ _. size ≤ length self.new.second.items) }
         ensures spare { IfOk result (λ _. size ≤ length self.new.spare.items) }
@@ -64,6 +66,24 @@ impl Buffers {
         }
         if self.spare.len() < size {
             self.spare = Vec::from_elem(alloc, 0u64, size)?;
+        }
+        Ok(())
+    }
+
+    /// Makes all buffers at least `size` long.
+    pub(crate) fn make_room_for_ends(
+        &mut self,
+        alloc: Global,
+        size: usize,
+    ) -> Result<(), AllocError>
+        ensures first { IfOk result (λ _. size ≤ length self.new.first.items) }
+        ensures second { IfOk result (λ _. size ≤ length self.new.second.items) }
+        ensures spare { IfOk result (λ _. size ≤ length self.new.spare.items) }
+        ensures widths { IfOk result (λ _. size ≤ length self.new.widths.items) }
+    {
+        self.make_room(alloc, size)?;
+        if self.widths.len() < size {
+            self.widths = Vec::from_elem(alloc, 0u64, size)?;
         }
         Ok(())
     }
@@ -85,7 +105,7 @@ fn combined(r1: u64, r2: u64, p1: u64, p2: u64, w: u64, q: u64) -> u128
 }
 
 /// The product of `x` and the factor `w` modulo `p`.
-fn scaled(x: u64, w: u64, q: u64, p: u64) -> u64
+pub(crate) fn scaled(x: u64, w: u64, q: u64, p: u64) -> u64
     requires modulus { IsModulus p }
     requires factor { IsFactor p w q }
     ensures small { result < p }
@@ -96,7 +116,7 @@ fn scaled(x: u64, w: u64, q: u64, p: u64) -> u64
 
 /// The numbers below `2^123` with these remainders, each times its scale, as many as `out` has room
 /// for.
-fn combine_all(x: &[u64], y: &[u64], setup: &Setup, levels: u32, out: &mut [u128])
+pub(crate) fn combine_all(x: &[u64], y: &[u64], setup: &Setup, levels: u32, out: &mut [u128])
     requires setup { IsSetup setup.now }
     requires in_first { length out.old ≤ length x.now }
     requires in_second { length out.old ≤ length y.now }
@@ -135,7 +155,7 @@ pub fn levels_for(cells: usize, most: u32) -> u32
 }
 
 /// The number of cells of `levels` levels.
-fn cells_of(levels: u32) -> usize
+pub(crate) fn cells_of(levels: u32) -> usize
     requires { levels < 40 }
     ensures { result ≡ 2 ^ levels }
 {
@@ -178,7 +198,7 @@ fn product(
 }
 
 /// The sum of all items.
-fn total(xs: &[u128]) -> u128
+pub(crate) fn total(xs: &[u128]) -> u128
     requires { All (λ x. x < 2 ^ 64) xs.now }
     ensures { result ≡ sum_by (λ x. x) xs.now }
 {
@@ -190,7 +210,7 @@ fn total(xs: &[u128]) -> u128
 }
 
 /// The greatest item, 0 of none.
-fn most(xs: &[u128]) -> u128
+pub(crate) fn most(xs: &[u128]) -> u128
     ensures above { (k : ℕ) → slice_index xs.now k ≤ result }
     ensures least { (m : ℕ) → ((k : ℕ) → slice_index xs.now k ≤ m) → result ≤ m }
 {
@@ -206,7 +226,7 @@ fn most(xs: &[u128]) -> u128
 /// Whether `levels` levels serve the first `cells` items of the product of two lists: the setup
 /// has room for both, and the sum of `a` times the greatest item of `b` is below `2^123`.
 #[tactic(auto, using(crate::proofs::Wholes::too_large))]
-fn is_large_enough(a: &[u128], b: &[u128], cells: usize, levels: u32) -> bool
+pub(crate) fn is_large_enough(a: &[u128], b: &[u128], cells: usize, levels: u32) -> bool
     requires few { levels < 40 }
     requires first { All (λ x. x < 2 ^ 64) a.now }
     requires second { All (λ x. x < 2 ^ 64) b.now }

@@ -11,6 +11,7 @@
 mod checks;
 mod combined;
 mod constants;
+mod ends;
 mod factors;
 mod modular;
 mod passes;
@@ -18,3 +19,4 @@ mod tables;
 
 pub use combined::{Buffers, Setup, checked_product, checked_square, levels_for};
 pub use constants::set_up;
+pub use ends::{Ends, checked_ends};

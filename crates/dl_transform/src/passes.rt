@@ -252,3 +252,61 @@ pub(crate) fn square_all(x: &mut [u64], k: u64, p: u64)
         x[i] = reduced(y, y, k, p);
     }
 }
+
+/// The sum of two products, `x * v` and `u * (y + v)`, over `2^64` modulo `p`; `p * k + 1` is a
+/// multiple of `2^64`.
+fn mixed(x: u64, y: u64, u: u64, v: u64, k: u64, p: u64) -> u64
+    requires modulus { IsModulus p }
+    requires inverse { (p * k + 1) % 2 ^ 64 ≡ 0 }
+    requires first_low { x < 4 * p }
+    requires second_low { y < 4 * p }
+    requires first_width { u < 4 * p }
+    requires second_width { v < 4 * p }
+    ensures small { result < 2 * p }
+    ensures same { Same p (result * 2 ^ 64) (x * v + u * (y + v)) }
+{
+    let width = lowered(v, 2 * p);
+    let high = lowered(lowered(y, 2 * p) + width, 2 * p);
+    let a = reduced(lowered(x, 2 * p), width, k, p);
+    let b = reduced(lowered(u, 2 * p), high, k, p);
+    lowered(a + b, 2 * p)
+}
+
+/// Each sum of two products, `x * v` and `u * (y + v)`, over `2^64` modulo `p`, in the place of
+/// `u`; `p * k + 1` is a multiple of `2^64`.
+pub(crate) fn mix_all(x: &[u64], y: &[u64], u: &mut [u64], v: &[u64], k: u64, p: u64)
+    requires modulus { IsModulus p }
+    requires inverse { (p * k + 1) % 2 ^ 64 ≡ 0 }
+    requires first_alike { length x.now ≡ length u.old }
+    requires second_alike { length y.now ≡ length u.old }
+    requires widths_alike { length v.now ≡ length u.old }
+    requires first_lows { (i : ℕ) → slice_index x.now i < 4 * p }
+    requires second_lows { (i : ℕ) → slice_index y.now i < 4 * p }
+    requires first_widths { (i : ℕ) → slice_index u.old i < 4 * p }
+    requires second_widths { (i : ℕ) → slice_index v.now i < 4 * p }
+    ensures small { (i : ℕ) → slice_index u.new i < 2 * p }
+    ensures same { (i : ℕ) → i < length u.old → Same p (slice_index u.new i * 2 ^ 64)
+        (slice_index x.now i * slice_index v.now i
+        + slice_index u.old i * (slice_index y.now i + slice_index v.now i)) }
+{
+    for i in 0..u.len() {
+        u[i] = mixed(x[i], y[i], u[i], v[i], k, p);
+    }
+}
+
+/// The same for two lists that are one.
+pub(crate) fn mix_squares(x: &[u64], u: &mut [u64], k: u64, p: u64)
+    requires modulus { IsModulus p }
+    requires inverse { (p * k + 1) % 2 ^ 64 ≡ 0 }
+    requires alike { length x.now ≡ length u.old }
+    requires lows { (i : ℕ) → slice_index x.now i < 4 * p }
+    requires widths { (i : ℕ) → slice_index u.old i < 4 * p }
+    ensures small { (i : ℕ) → slice_index u.new i < 2 * p }
+    ensures same { (i : ℕ) → i < length u.old → Same p (slice_index u.new i * 2 ^ 64)
+        (slice_index x.now i * slice_index u.old i
+        + slice_index u.old i * (slice_index x.now i + slice_index u.old i)) }
+{
+    for i in 0..u.len() {
+        u[i] = mixed(x[i], x[i], u[i], u[i], k, p);
+    }
+}

@@ -27,20 +27,40 @@ struct Figures {
     spread: u128,
 }
 
-/// A grid that begins as zero on `cells` cells, is written to twice, and is cut to `kept` cells.
+/// A grid that begins as zero on `cells` cells, is written to twice, and is cut to as many cells as
+/// are wanted.
 #[derive(Clone, Copy)]
 struct Case {
     cells: u32,
     writes: [Write; 2],
-    kept: u32,
     want: Figures,
 }
 
-const NO_WRITE: Write = Write {
-    x: 0,
-    low: 2,
-    high: 2,
-};
+/// A write, of ends in halves of 1.
+fn ends_at(x: u32, low: u8, high: u8) -> Write {
+    Write { x, low, high }
+}
+
+/// Figures: the ends are those of the first cell, of the last, and of the probability of all cells.
+fn read_off(cells: u32, ends: [(u128, u128); 3], mass: u128, spread: u128) -> Figures {
+    Figures {
+        cells,
+        first: ends[0],
+        last: ends[1],
+        all: ends[2],
+        mass,
+        spread,
+    }
+}
+
+/// Zero on four cells, cut to so many of them, is zero on these.
+fn zero(kept: u32) -> Case {
+    Case {
+        cells: 4,
+        writes: [ends_at(0, 2, 2); 2],
+        want: read_off(kept, [(2, 2), (0, 0), (2, 2)], 2, 0),
+    }
+}
 
 fn half_of_one(bits: u32) -> u128
     requires scale_above { 1 ≤ bits }
@@ -120,7 +140,7 @@ fn answer<const B: u32>(alloc: Global, case: &Case) -> Result<Option<Figures>, A
         good = apply(&mut g, write) && good;
     }
     if good {
-        cut(alloc, &g, case.kept)
+        cut(alloc, &g, case.want.cells)
     } else {
         Ok(None)
     }
@@ -136,88 +156,24 @@ fn has_figures(alloc: Global, case: &Case) -> Result<bool, AllocError> {
     )
 }
 
-const CASES: [Case; 4] = [
-    Case {
-        cells: 4,
-        writes: [NO_WRITE; 2],
-        kept: 4,
-        want: Figures {
-            cells: 4,
-            first: (2, 2),
-            last: (0, 0),
-            all: (2, 2),
-            mass: 2,
-            spread: 0,
-        },
-    },
-    // zero on four cells cut to two is zero on two
-    Case {
-        cells: 4,
-        writes: [NO_WRITE; 2],
-        kept: 2,
-        want: Figures {
-            cells: 2,
-            first: (2, 2),
-            last: (0, 0),
-            all: (2, 2),
-            mass: 2,
-            spread: 0,
-        },
-    },
-    // the high ends pass 1
-    Case {
-        cells: 4,
-        writes: [
-            Write {
-                x: 0,
-                low: 1,
-                high: 2,
-            },
-            Write {
-                x: 2,
-                low: 0,
-                high: 1,
-            },
-        ],
-        kept: 3,
-        want: Figures {
-            cells: 3,
-            first: (1, 2),
-            last: (0, 1),
-            all: (1, 2),
-            mass: 1,
-            spread: 2,
-        },
-    },
-    Case {
-        cells: 1,
-        writes: [
-            Write {
-                x: 0,
-                low: 0,
-                high: 1,
-            },
-            Write {
-                x: 0,
-                low: 1,
-                high: 1,
-            },
-        ],
-        kept: 1,
-        want: Figures {
-            cells: 1,
-            first: (1, 1),
-            last: (1, 1),
-            all: (1, 1),
-            mass: 1,
-            spread: 0,
-        },
-    },
-];
-
 #[test]
 fn grids_tell(rt: HostRuntime) {
-    for case in &CASES {
+    let cases = [
+        zero(4),
+        zero(2),
+        // the high ends pass 1
+        Case {
+            cells: 4,
+            writes: [ends_at(0, 1, 2), ends_at(2, 0, 1)],
+            want: read_off(3, [(1, 2), (0, 1), (1, 2)], 1, 2),
+        },
+        Case {
+            cells: 1,
+            writes: [ends_at(0, 0, 1), ends_at(0, 1, 1)],
+            want: read_off(1, [(1, 1); 3], 1, 0),
+        },
+    ];
+    for case in &cases {
         assert!(rt;
             is_so(has_figures(rt.alloc(), case)),
             "{} cells",
@@ -228,29 +184,11 @@ fn grids_tell(rt: HostRuntime) {
 
 /// A grid of so many cells, half of 1 in the first and from half to all of 1 in the last.
 fn longest(cells: u32) -> Case {
+    let last = cells.saturating_sub(1);
     Case {
         cells,
-        writes: [
-            Write {
-                x: 0,
-                low: 1,
-                high: 1,
-            },
-            Write {
-                x: cells.saturating_sub(1),
-                low: 1,
-                high: 2,
-            },
-        ],
-        kept: cells,
-        want: Figures {
-            cells,
-            first: (1, 1),
-            last: (1, 2),
-            all: (2, 2),
-            mass: 2,
-            spread: 1,
-        },
+        writes: [ends_at(0, 1, 1), ends_at(last, 1, 2)],
+        want: read_off(cells, [(1, 1), (1, 2), (2, 2)], 2, 1),
     }
 }
 

@@ -1,6 +1,6 @@
 //! Products of grids, all ways beside the plain convolution.
 
-ghost use Rattle.std.specs.Prelude.{◌≤◌, length};
+ghost use Rattle.std.specs.Prelude.{◌≤◌};
 
 use crate::tests::helpers::{are_same, empty, is_so, most_cells, part};
 use dl_conv::convolve_plain;
@@ -81,36 +81,21 @@ fn shaped<const B: u32>(
     Ok(if good { Some(g) } else { None })
 }
 
-/// Whether the product of two grids has the cells of their plain convolution.
-fn product_agrees<const B: u32>(
+/// The two grids of a case, where it is one.
+fn grids_of<const B: u32>(
     alloc: Global,
-    work: &mut Workspace,
-    a: &Grid<B>,
-    b: &Grid<B>,
-    cells: u32,
-) -> Result<bool, AllocError>
-    requires some { 1 ≤ cells }
-    requires in_first { cells ≤ length a.now }
-    requires in_second { cells ≤ length b.now }
+    case: &Case,
+) -> Result<Option<(Grid<B>, Grid<B>)>, AllocError>
+    requires scale_above { 1 ≤ B }
+    requires scale_below { B ≤ 56 }
 {
-    let found = product(alloc, work, a, b, cells)?;
-    let wanted = convolve_plain(alloc, a, b, cells)?;
-    Ok(are_same(&found, &wanted))
-}
-
-/// Whether the square of a grid has them.
-fn square_agrees<const B: u32>(
-    alloc: Global,
-    work: &mut Workspace,
-    a: &Grid<B>,
-    cells: u32,
-) -> Result<bool, AllocError>
-    requires some { 1 ≤ cells }
-    requires inside { cells ≤ length a.now }
-{
-    let found = square(alloc, work, a, cells)?;
-    let wanted = convolve_plain(alloc, a, a, cells)?;
-    Ok(are_same(&found, &wanted))
+    let Some(a) = shaped::<B>(alloc, case.cells, case.first)? else {
+        return Ok(None);
+    };
+    let Some(b) = shaped::<B>(alloc, case.cells, case.second)? else {
+        return Ok(None);
+    };
+    Ok(Some((a, b)))
 }
 
 /// Whether the product has the cells of the plain convolution, and so has the square of the first
@@ -125,21 +110,11 @@ fn both_agree<const B: u32>(
     if cells == 0 || cells > a.cells() || cells > b.cells() {
         return Ok(false);
     }
-    Ok(product_agrees(alloc, work, a, b, cells)? && square_agrees(alloc, work, a, cells)?)
-}
-
-/// Whether there are two grids, and they are so.
-fn are_so<const B: u32>(
-    alloc: Global,
-    work: &mut Workspace,
-    a: &Option<Grid<B>>,
-    b: &Option<Grid<B>>,
-    cells: u32,
-) -> Result<bool, AllocError> {
-    match (a, b) {
-        (Some(a), Some(b)) => both_agree(alloc, work, a, b, cells),
-        _ => Ok(false),
-    }
+    let found = product(alloc, work, a, b, cells)?;
+    let wanted = convolve_plain(alloc, a, b, cells)?;
+    let squared = square(alloc, work, a, cells)?;
+    let wanted_square = convolve_plain(alloc, a, a, cells)?;
+    Ok(are_same(&found, &wanted) && are_same(&squared, &wanted_square))
 }
 
 /// Whether the grids of a case are so.
@@ -151,9 +126,10 @@ fn agrees<const B: u32>(
     requires scale_above { 1 ≤ B }
     requires scale_below { B ≤ 56 }
 {
-    let a = shaped::<B>(alloc, case.cells, case.first)?;
-    let b = shaped::<B>(alloc, case.cells, case.second)?;
-    are_so(alloc, work, &a, &b, case.cells)
+    match grids_of::<B>(alloc, case)? {
+        Some((a, b)) => both_agree(alloc, work, &a, &b, case.cells),
+        None => Ok(false),
+    }
 }
 
 fn alike(ends: Ends, start: u32, count: u32) -> Shape {
@@ -226,6 +202,11 @@ fn all_ways_give_the_same_cells(rt: HostRuntime) {
         ),
         pair(40, apart(6, Ends::Part(7), 0, 37), alike(Ends::Sure, 5, 1)),
         pair(
+            700,
+            alike(Ends::Part(700), 0, 700),
+            apart(5, Ends::Part(140), 2, 698),
+        ),
+        pair(
             1401,
             apart(2, Ends::Part(700), 0, 1399),
             apart(2, Ends::Part(650), 1, 1299),
@@ -258,53 +239,17 @@ fn all_ways_give_the_same_cells(rt: HostRuntime) {
     }
 }
 
-/// Cells of the sum of two equally likely ones of 700 amounts, worked out by whole numbers of any
-/// size.
-const SUMS: [(u32, u128, u128); 5] = [
+/// A cell of a product: its number, and its ends.
+type CellEnds = (usize, u128, u128);
+
+/// Of the sum of two equally likely ones of 700 amounts, worked out by whole numbers of any size.
+const SUMS: [CellEnds; 5] = [
     (0, 147056314363, 147056314364),
     (1, 294112628726, 294112628727),
     (349, 51469710027090, 51469710027092),
     (698, 102792363739818, 102792363739821),
     (699, 102939420054181, 102939420054184),
 ];
-
-/// Whether a grid has these cells.
-fn has_sums(g: &Grid<56>) -> bool {
-    let mut same = true;
-    for (x, low, high) in &SUMS {
-        let i = *x as usize;
-        same = same && g.lows().get(i) == Some(low) && g.highs().get(i) == Some(high);
-    }
-    same
-}
-
-/// Whether the product of a grid of 700 cells with itself and its square have them.
-fn both_have_sums(alloc: Global, work: &mut Workspace, a: &Grid<56>) -> Result<bool, AllocError> {
-    if a.cells() != 700 {
-        return Ok(false);
-    }
-    let twice = product(alloc, work, a, a, 700)?;
-    let squared = square(alloc, work, a, 700)?;
-    Ok(has_sums(&twice) && has_sums(&squared))
-}
-
-/// Whether those of the grid of 700 equal parts have them.
-fn has_equal_parts(alloc: Global, work: &mut Workspace) -> Result<bool, AllocError> {
-    match shaped::<56>(alloc, 700, alike(Ends::Part(700), 0, 700))? {
-        Some(a) => both_have_sums(alloc, work, &a),
-        None => Ok(false),
-    }
-}
-
-#[test]
-fn equal_parts(rt: HostRuntime) {
-    let alloc = rt.alloc();
-    let mut work = Workspace::new(alloc);
-    assert!(rt; is_so(has_equal_parts(alloc, &mut work)));
-}
-
-/// A cell of a product: its number, and its ends.
-type CellEnds = (usize, u128, u128);
 
 /// Of the sum of an amount from 100 on, one of 60,000 that are equally likely, and of one from 3
 /// on, one of 50,000, each probability rounded down and up: worked out by whole numbers of any
@@ -327,7 +272,7 @@ const LONG_SQUARES: [CellEnds; 4] = [
 ];
 
 /// Whether a grid has these cells.
-fn has_cells(g: &Grid<48>, cells: &[CellEnds]) -> bool {
+fn has_cells<const B: u32>(g: &Grid<B>, cells: &[CellEnds]) -> bool {
     let mut same = true;
     for (i, low, high) in cells {
         same = same && g.lows().get(*i) == Some(low) && g.highs().get(*i) == Some(high);
@@ -335,28 +280,49 @@ fn has_cells(g: &Grid<48>, cells: &[CellEnds]) -> bool {
     same
 }
 
-/// Whether the product of two grids of 65,536 cells has them, and the square of the first.
-fn are_long(
+/// Whether the product of two grids has these cells, and the square of the first those.
+fn have_cells<const B: u32>(
     alloc: Global,
     work: &mut Workspace,
-    a: &Grid<48>,
-    b: &Grid<48>,
+    grids: (&Grid<B>, &Grid<B>),
+    sums: &[CellEnds],
+    squares: &[CellEnds],
 ) -> Result<bool, AllocError> {
-    if a.cells() != 65536 || b.cells() != 65536 {
+    let (a, b) = grids;
+    let cells = a.cells();
+    if cells == 0 || b.cells() != cells {
         return Ok(false);
     }
-    let sum = product(alloc, work, a, b, 65536)?;
-    let squared = square(alloc, work, a, 65536)?;
-    Ok(has_cells(&sum, &LONG_SUMS) && has_cells(&squared, &LONG_SQUARES))
+    let sum = product(alloc, work, a, b, cells)?;
+    let squared = square(alloc, work, a, cells)?;
+    Ok(has_cells(&sum, sums) && has_cells(&squared, squares))
 }
 
-/// Whether there are two such grids, and they are so.
+/// Whether those of the grid of 700 equal parts have them.
+fn has_equal_parts(alloc: Global, work: &mut Workspace) -> Result<bool, AllocError> {
+    match shaped::<56>(alloc, 700, alike(Ends::Part(700), 0, 700))? {
+        Some(a) => have_cells(alloc, work, (&a, &a), &SUMS, &SUMS),
+        None => Ok(false),
+    }
+}
+
+#[test]
+fn equal_parts(rt: HostRuntime) {
+    let alloc = rt.alloc();
+    let mut work = Workspace::new(alloc);
+    assert!(rt; is_so(has_equal_parts(alloc, &mut work)));
+}
+
+/// Whether the sums and the squares of equally likely amounts have them, on the longest grids.
 fn has_long_sums(alloc: Global, work: &mut Workspace) -> Result<bool, AllocError> {
-    let a = shaped::<48>(alloc, 65536, alike(Ends::Part(60000), 100, 60000))?;
-    let b = shaped::<48>(alloc, 65536, alike(Ends::Part(50000), 3, 50000))?;
-    match (&a, &b) {
-        (Some(a), Some(b)) => are_long(alloc, work, a, b),
-        _ => Ok(false),
+    let case = pair(
+        65536,
+        alike(Ends::Part(60000), 100, 60000),
+        alike(Ends::Part(50000), 3, 50000),
+    );
+    match grids_of::<48>(alloc, &case)? {
+        Some((a, b)) => have_cells(alloc, work, (&a, &b), &LONG_SUMS, &LONG_SQUARES),
+        None => Ok(false),
     }
 }
 

@@ -2,9 +2,10 @@
 
 ghost use Rattle.std.specs.Prelude.{◌^◌, ◌<◌, All, IfOk};
 ghost use Rattle.dl_transform.specs.Setup.{IsSetup};
+ghost use Rattle.dl_transform.specs.Ends.{AreWords};
 
 use crate::tests::helpers::is_so;
-use dl_transform::{Buffers, Setup, checked_product, checked_square, set_up};
+use dl_transform::{Buffers, Ends, Setup, checked_ends, checked_product, checked_square, set_up};
 use std::alloc::{AllocError, Global};
 
 /// Two lists, at how many levels they are multiplied, and the first items of their product, by long
@@ -225,6 +226,157 @@ fn there_are_tables_at_every_level(rt: HostRuntime) {
         assert!(rt;
             is_so(counts(alloc, levels, &mut buffers)),
             "{levels} levels"
+        );
+    }
+}
+
+/// Two lists of low ends and widths, at how many levels they are multiplied, and the first items of
+/// the products of the low ends and of the high ends, by long multiplication.
+struct EndsCase {
+    lows: [&'static [u64]; 2],
+    widths: [&'static [u64]; 2],
+    levels: u32,
+    low: Option<&'static [u128]>,
+    high: Option<&'static [u128]>,
+}
+
+/// Whether the products of ends, in buffers that have been used before, are what is wanted.
+fn ends_agree(
+    alloc: Global,
+    buffers: &mut Buffers,
+    setup: &Setup,
+    a: Ends<'_>,
+    b: Ends<'_>,
+    case: &EndsCase,
+) -> Result<bool, AllocError>
+    requires setup { IsSetup setup.now }
+    requires first { AreWords a.lows.now a.widths.now }
+    requires second { AreWords b.lows.now b.widths.now }
+{
+    let count = case.low.map_or(1, |items| items.len());
+    let mut lows = Vec::from_elem(alloc, 99, count)?;
+    let mut highs = Vec::from_elem(alloc, 99, count)?;
+    let (low, high) = (lows.as_mut_slice(), highs.as_mut_slice());
+    let told = checked_ends(alloc, a, b, false, setup, buffers, low, high)?;
+    Ok(is_wanted(told, lows.as_slice(), case.low) && is_wanted(told, highs.as_slice(), case.high))
+}
+
+/// The same of a list with itself.
+fn end_squares_agree(
+    alloc: Global,
+    buffers: &mut Buffers,
+    setup: &Setup,
+    a: Ends<'_>,
+    case: &EndsCase,
+) -> Result<bool, AllocError>
+    requires setup { IsSetup setup.now }
+    requires items { AreWords a.lows.now a.widths.now }
+{
+    let count = case.low.map_or(1, |items| items.len());
+    let mut lows = Vec::from_elem(alloc, 99, count)?;
+    let mut highs = Vec::from_elem(alloc, 99, count)?;
+    let (low, high) = (lows.as_mut_slice(), highs.as_mut_slice());
+    let told = checked_ends(alloc, a, a, true, setup, buffers, low, high)?;
+    Ok(is_wanted(told, lows.as_slice(), case.low) && is_wanted(told, highs.as_slice(), case.high))
+}
+
+/// Whether the products of a case are what is wanted, and also, where both lists are the same, the
+/// squares.
+fn all_ends_agree(
+    alloc: Global,
+    buffers: &mut Buffers,
+    setup: &Setup,
+    case: &EndsCase,
+) -> Result<bool, AllocError>
+    requires setup { IsSetup setup.now }
+{
+    let low = widened(alloc, case.lows[0])?;
+    let width = widened(alloc, case.widths[0])?;
+    let other_low = widened(alloc, case.lows[1])?;
+    let other_width = widened(alloc, case.widths[1])?;
+    if width.len() != low.len() || other_width.len() != other_low.len() {
+        return Ok(false);
+    }
+    let a = Ends {
+        lows: low.as_slice(),
+        widths: width.as_slice(),
+    };
+    let b = Ends {
+        lows: other_low.as_slice(),
+        widths: other_width.as_slice(),
+    };
+    let products = ends_agree(alloc, buffers, setup, a, b, case)?;
+    let is_square = case.lows[0] == case.lows[1] && case.widths[0] == case.widths[1];
+    Ok(products && (!is_square || end_squares_agree(alloc, buffers, setup, a, case)?))
+}
+
+/// Whether a case of ends has a setup, and they are.
+fn ends_are_so(alloc: Global, buffers: &mut Buffers, case: &EndsCase) -> Result<bool, AllocError> {
+    if case.levels >= 40 {
+        return Ok(false);
+    }
+    match set_up(alloc, case.levels)? {
+        Some(setup) => all_ends_agree(alloc, buffers, &setup, case),
+        None => Ok(false),
+    }
+}
+
+const ENDS: [EndsCase; 6] = [
+    EndsCase {
+        lows: [&[1, 2, 3], &[4, 5]],
+        widths: [&[1, 0, 2], &[3, 1]],
+        levels: 4,
+        low: Some(&[4, 13, 22, 15, 0]),
+        high: Some(&[14, 26, 47, 30, 0]),
+    },
+    EndsCase {
+        lows: [&[3, 1], &[3, 1]],
+        widths: [&[1, 4], &[1, 4]],
+        levels: 2,
+        low: Some(&[9, 6, 1]),
+        high: Some(&[16, 40, 25]),
+    },
+    // just below one prime, and above it
+    EndsCase {
+        lows: [&[36028797018963968], &[36028797018963968]],
+        widths: [&[1], &[63]],
+        levels: 1,
+        low: Some(&[1298074214633706907132624082305024]),
+        high: Some(&[1298074214633709212975633295999039]),
+    },
+    EndsCase {
+        lows: [&[72057594037927936], &[1]],
+        widths: [&[0], &[64]],
+        levels: 1,
+        low: None,
+        high: None,
+    },
+    EndsCase {
+        lows: [&[1099511627776], &[1099511627776]],
+        widths: [&[1073741824], &[1073741824]],
+        levels: 1,
+        low: None,
+        high: None,
+    },
+    // too long
+    EndsCase {
+        lows: [&[1, 1, 1], &[1, 1]],
+        widths: [&[0, 0, 0], &[0, 0]],
+        levels: 2,
+        low: None,
+        high: None,
+    },
+];
+
+#[test]
+fn products_of_ends_are_exact(rt: HostRuntime) {
+    let alloc = rt.alloc();
+    let mut buffers = Buffers::new(alloc);
+    for case in &ENDS {
+        assert!(rt;
+            is_so(ends_are_so(alloc, &mut buffers, case)),
+            "{} levels",
+            case.levels
         );
     }
 }

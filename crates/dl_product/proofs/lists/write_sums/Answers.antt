@@ -18,5 +18,5 @@ multiply_by_steps-requires-clause-zeros c = zeros_within _ _ _ c.requires.zeros
 pub returns : goal.returns
 returns c =
     if_ok_two c.multiply_by_steps.result _ _ _ (λ _ each _ s inside. product_shifted c.args.a.now c.args.b.now c.args.out.now
-    c.multiply_by_steps.new.out _ _ _ _ _ _ c.window_of-p.ensures c.window_of-q.ensures c.min-start.ensures c.min-count.ensures
+    c.multiply_by_steps.new.out _ _ _ _ _ _ c.windows_of-p.ensures.first c.windows_of-p.ensures.second c.min-start.ensures c.min-count.ensures
     c.requires.zeros (omega arith) each s inside) c.multiply_by_steps.ensures c.multiply_by_steps.ensures

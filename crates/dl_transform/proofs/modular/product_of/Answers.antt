@@ -1,8 +1,10 @@
+use Rattle.dl_transform.proofs.Common.{◌*◌, length, get_or}
 use Rattle.dl_transform.proofs.AfterSteps.{items_back}
 use Rattle.dl_transform.proofs.modular.product_of.Goals as goal
 
 pub returns-clause-items : goal.returns-clause-items
 returns-clause-items c h known k b =
-    items_back c.args.table.now c.args.levels h c.args.x.now c.args.y.now c.multiply_all.new.x c.to_items.new.x
-    c.requires.table
+    items_back c.args.table.now c.args.levels h
+    (λ k. get_or c.args.x.now k 0 * get_or c.args.y.now k 0)
+    c.multiply_all.new.x c.to_items.new.x (length c.args.x.now) c.requires.table
     c.requires.inside c.requires.size c.multiply_all.ensures.same c.to_items.ensures.items known k b

@@ -1,0 +1,10 @@
+use Rattle.dl_transform.proofs.Common.{◌+◌, ◌*◌, length, get_or}
+use Rattle.dl_transform.proofs.AfterSteps.{items_back}
+use Rattle.dl_transform.proofs.modular.mixed_square_of.Goals as goal
+
+pub returns-clause-items : goal.returns-clause-items
+returns-clause-items c h known k b =
+    items_back c.args.table.now c.args.levels h
+    (λ k. get_or c.args.x.now k 0 * get_or c.args.u.now k 0 + get_or c.args.u.now k 0 * (get_or c.args.x.now k 0 + get_or c.args.u.now k 0))
+    c.mix_squares.new.u c.to_items.new.x (length c.args.u.now) c.requires.table
+    c.requires.inside c.requires.size c.mix_squares.ensures.same c.to_items.ensures.items known k b

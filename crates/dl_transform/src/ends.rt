@@ -1,0 +1,164 @@
+//! Products of the low ends and of the high ends of two lists at once. What the second has beyond the
+//! first comes from the widths, and is below one prime where these are small.
+
+ghost use Rattle.std.specs.Prelude.{◌≡◌, ℕ, ◌+◌, ◌*◌, ◌^◌, ◌<◌, ◌≤◌};
+ghost use Rattle.std.specs.Prelude.{true, length, slice_index, IfOk};
+ghost use Rattle.dl_transform.specs.Residue.{Same};
+ghost use Rattle.dl_transform.specs.Ends.{low_sum, high_sum, mixed_sum, AreWords};
+ghost use Rattle.dl_transform.specs.Table.{IsTable};
+ghost use Rattle.dl_transform.specs.Setup.{IsSetup};
+
+use crate::combined::{
+    Buffers, Setup, cells_of, combine_all, is_large_enough, levels_for, most, scaled, total,
+};
+use crate::modular::{ends_modulo, product_modulo};
+use crate::tables::Table;
+use std::alloc::{AllocError, Global};
+
+/// The low ends of a list of cells, and how far each high end is above its low end.
+#[derive(Clone, Copy)]
+pub struct Ends<'a> {
+    pub lows: &'a [u128],
+    pub widths: &'a [u128],
+}
+
+/// The numbers below `p` with these remainders, each times its scale, added to `lows`.
+fn add_mixed(mixed: &[u64], lows: &[u128], table: &Table, levels: u32, highs: &mut [u128])
+    requires table { IsTable table.now }
+    requires inside { levels < length table.now.scales.items }
+    requires in_mixed { length highs.old ≤ length mixed.now }
+    requires in_lows { length highs.old ≤ length lows.now }
+    requires small { (s : ℕ) → s < length highs.old → slice_index lows.now s < 2 ^ 123 }
+    ensures { (s : ℕ) → s < length highs.old → (n : ℕ) → n < table.now.p
+        → Same table.now.p (slice_index mixed.now s * slice_index table.now.scales.items levels) n
+        → slice_index highs.new s ≡ slice_index lows.now s + n }
+{
+    let (w, q) = table.scale(levels);
+    for s in 0..highs.len() {
+        highs[s] = lows[s] + scaled(mixed[s], w, q, table.p) as u128;
+    }
+}
+
+/// The first items of the products of the low ends and of the high ends of two lists, as many as
+/// `lows` and `highs` have room for. Those of a list with itself take fewer transforms.
+fn both_products(
+    alloc: Global,
+    a: Ends<'_>,
+    b: Ends<'_>,
+    is_square: bool,
+    setup: &Setup,
+    buffers: &mut Buffers,
+    lows: &mut [u128],
+    highs: &mut [u128],
+) -> Result<(), AllocError>
+    requires setup { IsSetup setup.now }
+    requires first { AreWords a.lows.now a.widths.now }
+    requires second { AreWords b.lows.now b.widths.now }
+    requires square { is_square ≡ true → b.lows.now ≡ a.lows.now }
+    requires square_widths { is_square ≡ true → b.widths.now ≡ a.widths.now }
+    requires room { length a.lows.now + length b.lows.now ≤ 2 ^ setup.now.levels }
+    requires within { length lows.old ≤ length a.lows.now + length b.lows.now }
+    requires paired { length highs.old ≡ length lows.old }
+    requires sums { (s : ℕ) → low_sum a.lows.now b.lows.now s < 2 ^ 123 }
+    requires mixed { (s : ℕ)
+        → mixed_sum a.lows.now a.widths.now b.lows.now b.widths.now s < setup.now.first.p }
+    ensures low { IfOk result (λ _. (s : ℕ) → s < length lows.old
+        → slice_index lows.new s ≡ low_sum a.entry.lows.now b.entry.lows.now s) }
+    ensures high { IfOk result (λ _. (s : ℕ) → s < length lows.old
+        → slice_index highs.new s
+        ≡ high_sum a.entry.lows.now a.entry.widths.now b.entry.lows.now b.entry.widths.now s) }
+{
+    let levels = levels_for(a.lows.len() + b.lows.len(), setup.levels);
+    let size = cells_of(levels);
+    buffers.make_room_for_ends(alloc, size)?;
+    let first = &mut buffers.first.as_mut_slice()[..size];
+    let second = &mut buffers.second.as_mut_slice()[..size];
+    let mixed = &mut buffers.widths.as_mut_slice()[..size];
+    let spare = &mut buffers.spare.as_mut_slice()[..size];
+    ends_modulo(
+        first,
+        second,
+        mixed,
+        spare,
+        a,
+        b,
+        is_square,
+        &setup.first,
+        levels,
+    );
+    product_modulo(
+        second,
+        spare,
+        a.lows,
+        b.lows,
+        is_square,
+        &setup.second,
+        levels,
+    );
+    combine_all(first, second, setup, levels, lows);
+    add_mixed(mixed, lows, &setup.first, levels, highs);
+    Ok(())
+}
+
+/// Whether what the sums of products of high ends are above those of low ends is below `p`: the sum
+/// of the low ends of `a` times the greatest width of `b`, and the greatest width of `a` times the
+/// sum of the high ends of `b`, together.
+fn are_narrow(a: Ends<'_>, b: Ends<'_>, p: u64) -> bool
+    requires first { AreWords a.lows.now a.widths.now }
+    requires second { AreWords b.lows.now b.widths.now }
+    ensures { result ≡ true → (s : ℕ)
+        → mixed_sum a.entry.lows.now a.entry.widths.now b.entry.lows.now b.entry.widths.now s < p }
+{
+    let low = total(a.lows);
+    let other_low = total(b.lows);
+    let other_width = total(b.widths);
+    if low >= 9223372036854775808
+        || other_low >= 9223372036854775808
+        || other_width >= 9223372036854775808
+    {
+        return false;
+    }
+    let first = most(b.widths) * low;
+    let second = most(a.widths) * (other_low + other_width);
+    let most = p as u128;
+    if first >= most || second >= most || first + second >= most {
+        return false;
+    }
+    true
+}
+
+/// Whether the first items of the products of the low ends and of the high ends of two lists are
+/// known, as many as `lows` and `highs` have room for; then these have them. They are where
+/// `checked_product` knows the first, and the widths are so small that the second differ from them
+/// by less than a prime of 62 bits. Where `is_square` both lists are one, and it takes fewer
+/// transforms.
+pub fn checked_ends(
+    alloc: Global,
+    a: Ends<'_>,
+    b: Ends<'_>,
+    is_square: bool,
+    setup: &Setup,
+    buffers: &mut Buffers,
+    lows: &mut [u128],
+    highs: &mut [u128],
+) -> Result<bool, AllocError>
+    requires setup { IsSetup setup.now }
+    requires first { AreWords a.lows.now a.widths.now }
+    requires second { AreWords b.lows.now b.widths.now }
+    requires square { is_square ≡ true → b.lows.now ≡ a.lows.now }
+    requires square_widths { is_square ≡ true → b.widths.now ≡ a.widths.now }
+    requires paired { length highs.old ≡ length lows.old }
+    ensures low { IfOk result (λ found. found ≡ true → (s : ℕ) → s < length lows.old
+        → slice_index lows.new s ≡ low_sum a.entry.lows.now b.entry.lows.now s) }
+    ensures high { IfOk result (λ found. found ≡ true → (s : ℕ) → s < length lows.old
+        → slice_index highs.new s
+        ≡ high_sum a.entry.lows.now a.entry.widths.now b.entry.lows.now b.entry.widths.now s) }
+{
+    if !is_large_enough(a.lows, b.lows, lows.len(), setup.levels)
+        || !are_narrow(a, b, setup.first.p)
+    {
+        return Ok(false);
+    }
+    both_products(alloc, a, b, is_square, setup, buffers, lows, highs)?;
+    Ok(true)
+}
