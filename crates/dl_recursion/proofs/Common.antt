@@ -29,7 +29,7 @@ pub use Rattle.dl_model.specs.Series.{AtLeast, AtMost, Holds, IsBound, Series, t
 pub use Rattle.dl_recursion.specs.ToGrid.{HasGridEnds, IsScaled}
 pub use Rattle.dl_recursion.specs.Runs.{ArePositiveAmounts, all_parts, part_at, part_sum, run_parts}
 unfoldable pub use Rattle.dl_recursion.specs.Runs.{in_a_row}
-pub use Rattle.dl_recursion.specs.Recursion.{AreScaledCells, AreSums, FollowsInWhole, EncloseScaled, AreInScale, IsSum, IsTotal, contribution, sum_to_cell, sums_before}
+pub use Rattle.dl_recursion.specs.Recursion.{AreFalling, AreLast, AreScaledCells, AreSums, FollowsInWhole, EncloseScaled, AreInScale, IsSum, IsTotal, contribution, sum_to_cell, sums_before}
 pub use Rattle.dl_recursion.specs.Start.{HoldsNoClaim}
 pub use Rattle.dl_recursion.specs.declared.parts.Part.{Part}
 pub use Rattle.dl_recursion.specs.declared.parts.Run.{Run}

@@ -8,6 +8,7 @@ pub mod Totals
 pub mod Pairs
 pub mod Steps
 pub mod Grow
+pub mod Falling
 pub mod GridEnds
 pub mod Top
 pub mod Units

@@ -1,6 +1,6 @@
 -- Panjer's recursion in whole numbers (Loss Models, "The recursive method"), and cells that share
 -- an exponent.
-use Rattle.std.specs.Prelude.{ℕ, zero, suc, ◌≡◌, ◌+◌, ◌-◌, ◌*◌, ◌^◌, ◌<◌, ◌≤◌, if◌then◌else◌, nat_le, List, [], ◌∷◌, get_or, slice_index, length, sum_by}
+use Rattle.std.specs.Prelude.{ℕ, zero, suc, ◌≡◌, ◌+◌, ◌-◌, ◌*◌, ◌/◌, ◌^◌, ◌<◌, ◌≤◌, if◌then◌else◌, nat_le, All, List, [], ◌∷◌, get_or, slice_index, length, sum_by}
 use Rattle.dl_limits.specs.Limits.{start_bits, most_end, most_given}
 use Rattle.dl_exact.specs.Prelude.{Fraction, whole, ◌*ℚ◌, ◌≤ℚ◌, sum_pairs, count_below}
 use Rattle.dl_recursion.specs.declared.parts.Part.{Part}
@@ -8,7 +8,7 @@ use Rattle.dl_recursion.specs.declared.cells.Total.{Total}
 use Rattle.dl_recursion.specs.declared.cells.Sums.{Sums}
 use Rattle.dl_recursion.specs.declared.cells.Ends.{Ends}
 use Rattle.dl_recursion.specs.declared.cells.ScaledCells.{ScaledCells}
-use Rattle.dl_recursion.specs.Runs.{part_at}
+use Rattle.dl_recursion.specs.Runs.{part_at, part_sum}
 
 -- what one part gives to cell s: (a * s + b * amount) * weight times the cell that lies its amount
 -- before, where there is one
@@ -68,6 +68,15 @@ pub record AreInScale (x : ScaledCells) : Type 0 where
   pub sums : AreSums x.sums.items x.low.items x.high.items
   pub sums_within : length x.sums.items ≤ length x.low.items
 
+-- y is x with all cells shifted down by 8 bits, low ends by floor and high ends by ceiling
+pub record IsShifted (x y : ScaledCells) : Type 0 where
+  pub sound : AreScaledCells y.low.items y.high.items y.first
+  pub within : y.first ≤ length y.low.items
+  pub cells : length y.low.items ≡ length x.low.items
+  pub shift : y.shift ≡ x.shift + 8
+  pub low : (k : ℕ) → slice_index y.low.items k ≡ slice_index x.low.items k / 256
+  pub high : (k : ℕ) → slice_index y.high.items k ≡ (slice_index x.high.items k + 255) / 256
+
 -- what the parts give to the cell after those of x; y is x with all sums that it takes
 pub record AreContributions (parts : List Part) (a b : ℕ) (x y : ScaledCells) (ends : Ends)
     : Type 0 where
@@ -89,6 +98,15 @@ pub record IsGrown (parts : List Part) (a b q : ℕ) (x y : ScaledCells) : Type 
   pub round : (r : ℕ → Fraction) → FollowsInWhole parts a b q r
       → EncloseScaled r x.shift (length x.low.items) x.low.items x.high.items
       → EncloseScaled r y.shift (length y.low.items) y.low.items y.high.items
+
+-- the parts are at most `top`, and the factors of cell n come to no more than what it is divided by
+pub record AreFalling (parts : List Part) (a b q top n : ℕ) : Type 0 where
+  pub reach : All (λ p. p.amount ≤ top) parts
+  pub falling : (a * n + b * top) * part_sum parts ≤ q * n
+
+-- no end from cell n on is above this one
+pub record AreLast (ends : List ℕ) (n high : ℕ) : Type 0 where
+  pub below : (k : ℕ) → n ≤ k → slice_index ends k ≤ high
 
 -- cell 0 alone
 pub record IsBegun (x : ScaledCells) : Type 0 where

@@ -21,17 +21,17 @@ const WORD: u128 = 1 << 64;
 /// The number of cells from which on the next divisor is near enough to the last.
 const NEAR: usize = 256;
 
-/// The lowest 64 bits of a number that has no more, else as many ones.
+/// The lowest 64 bits.
 fn word(n: u128) -> u64 {
-    n.min(WORD - 1) as u64
+    (n % WORD) as u64
 }
 
 /// A nearer guess at 2^127 over `shifted`, by one round of Newton's method: it doubles the number
-/// of right bits.
+/// of right bits. All factors have 64 bits, so each product is one multiplication.
 fn nearer(about: u64, shifted: u64) -> u64 {
     let about = u128::from(about);
     let product = (about * u128::from(shifted)) >> 64;
-    word((about * (WORD - product)) >> 63)
+    word((about * (WORD - 1 - product)) >> 63)
 }
 
 /// A guess at `2^127` over the divisor `d`, moved up to 64 bits. `d` is `n` times the first
@@ -40,7 +40,7 @@ pub(crate) fn inverse_of(d: u64, n: usize, last: Inverse) -> Inverse {
     let up = d.leading_zeros().min(63);
     let shifted = d << up;
     let about = if n < NEAR || up != last.up {
-        word(WHOLE / u128::from(shifted.max(1)))
+        word((WHOLE - 1) / u128::from(shifted.max(1)))
     } else {
         nearer(nearer(nearer(last.about, shifted), shifted), shifted)
     };
@@ -63,11 +63,14 @@ pub(crate) fn quotient(n: u128, d: u64, inverse: Inverse) -> u128
     let guess = u128::from(guess_of(n, inverse));
     let d = u128::from(d);
     let product = guess * d;
-    if product <= n && n - product < d {
-        return guess;
-    }
-    if product + d <= n && n - product - d < d {
-        return guess + 1;
+    if product <= n {
+        let rest = n - product;
+        if rest < d {
+            return guess;
+        }
+        if rest - d < d {
+            return guess + 1;
+        }
     }
     n / d
 }

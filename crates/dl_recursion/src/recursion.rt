@@ -4,11 +4,12 @@ ghost use Rattle.std.specs.Prelude.{◌≡◌, ℕ, ◌+◌, ◌-◌, ◌*◌, �
 ghost use Rattle.dl_limits.specs.Limits.{most_cells, most_end, most_given, start_bits};
 ghost use Rattle.dl_exact.specs.Fraction.{Fraction, whole, ◌*ℚ◌, ◌≤ℚ◌};
 ghost use Rattle.dl_recursion.specs.Runs.{all_parts, part_sum, ArePositiveAmounts};
-ghost use Rattle.dl_recursion.specs.Recursion.{AreSums, EncloseScaled, AreScaledCells, AreInScale, IsBegun, IsGrown, AreFirst};
+ghost use Rattle.dl_recursion.specs.Recursion.{AreSums, EncloseScaled, AreScaledCells, AreInScale, IsShifted, IsBegun, IsGrown, AreFirst};
 
 use crate::cells::{Ends, ScaledCells};
 use crate::parts::Amounts;
 use crate::quotient::{Inverse, inverse_of, quotient};
+use crate::rest::{fill, greatest_from, is_falling, reach_of};
 use crate::sums::contributions;
 use dl_limits::MOST_END;
 use std::alloc::{AllocError, Global};
@@ -60,13 +61,7 @@ fn shift_cells(x: &mut ScaledCells)
     requires sound { AreScaledCells x.old.low.items x.old.high.items x.old.first }
     requires within { x.old.first ≤ length x.old.low.items }
     requires room { x.old.shift + 8 < 2 ^ 64 }
-    ensures sound { AreScaledCells x.new.low.items x.new.high.items x.new.first }
-    ensures within { x.new.first ≤ length x.new.low.items }
-    ensures cells { length x.new.low.items ≡ length x.old.low.items }
-    ensures shift { x.new.shift ≡ x.old.shift + 8 }
-    ensures low { (k : ℕ) → slice_index x.new.low.items k ≡ slice_index x.old.low.items k / 256 }
-    ensures high { (k : ℕ) → slice_index x.new.high.items k
-        ≡ (slice_index x.old.high.items k + 255) / 256 }
+    ensures shifted { IsShifted x.old x.new }
     ensures sums { x.new.sums ≡ x.old.sums }
 {
     lower(x.low.as_mut_slice(), x.first);
@@ -80,13 +75,7 @@ fn shrink(x: &mut ScaledCells)
     requires sound { AreScaledCells x.old.low.items x.old.high.items x.old.first }
     requires within { x.old.first ≤ length x.old.low.items }
     requires room { x.old.shift + 8 < 2 ^ 64 }
-    ensures sound { AreScaledCells x.new.low.items x.new.high.items x.new.first }
-    ensures within { x.new.first ≤ length x.new.low.items }
-    ensures cells { length x.new.low.items ≡ length x.old.low.items }
-    ensures shift { x.new.shift ≡ x.old.shift + 8 }
-    ensures low { (k : ℕ) → slice_index x.new.low.items k ≡ slice_index x.old.low.items k / 256 }
-    ensures high { (k : ℕ) → slice_index x.new.high.items k
-        ≡ (slice_index x.old.high.items k + 255) / 256 }
+    ensures shifted { IsShifted x.old x.new }
     ensures sums { AreSums x.old.sums.items x.old.low.items x.old.high.items
         → AreSums x.new.sums.items x.new.low.items x.new.high.items }
     ensures sums_within { length x.new.sums.items ≤ length x.old.sums.items }
@@ -214,7 +203,8 @@ fn begin(alloc: Global, amounts: &Amounts, cells: usize) -> Result<ScaledCells, 
     })
 }
 
-/// The first `cells` cells of the recursion.
+/// The first `cells` cells of the recursion: one by one until as many low ends as an amount reaches
+/// are 0, and the rest with one high end where no later cell can be above it.
 #[tactic(auto, using(crate::proofs::Grow::begun, crate::proofs::Grow::begun_small, crate::proofs::Totals::sums_none))]
 pub(crate) fn recur(
     alloc: Global,
@@ -227,6 +217,7 @@ pub(crate) fn recur(
     requires some { 0 < cells }
     requires few { cells ≤ most_cells }
     requires amounts { ArePositiveAmounts amounts.now }
+    requires some_step { 0 < a + b }
     requires steps { (a + b) * cells < 2 ^ 32 }
     requires weights { (a + b) * cells * part_sum (all_parts amounts.now) < 2 ^ 64 }
     requires divisor { 0 < q }
@@ -235,8 +226,18 @@ pub(crate) fn recur(
 {
     let mut x = begin(alloc, amounts, cells)?;
     let mut inverse = Inverse { about: 0, up: 0 };
+    let reach = reach_of(&amounts.parts);
+    let mut last = 0;
     'cells: for n in 1..cells {
+        if n.saturating_sub(last) > reach.amount && is_falling(amounts, reach, a, b, q, n) {
+            let high = greatest_from(x.high.as_slice(), n - reach.amount);
+            fill(&mut x, high, cells)?;
+            return Ok(x);
+        }
         grow(&mut x, &mut inverse, amounts, a, b, q)?;
+        if x.low[n] > 0 {
+            last = n;
+        }
     }
     Ok(x)
 }

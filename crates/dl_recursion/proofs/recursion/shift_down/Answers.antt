@@ -11,12 +11,13 @@ loop-k-preserved c =
     let x = c.loop-k.x in
     elim c.if-high-gt-MOST_END.branch [
       | then-high-gt-MOST_END w ↦
-          let e = w.shrink.ensures in
+          let told = w.shrink.ensures in
+          let e = told.shifted in
           rw (w.low-is, w.high-is, w.x-is, e.shift) (record {
             sound = e.sound;
             within = e.within;
-            sums = λ h. e.sums (i.sums h);
-            sums_within = omega (arith, i.sums_within, e.sums_within);
+            sums = λ h. told.sums (i.sums h);
+            sums_within = omega (arith, i.sums_within, told.sums_within);
             cells = e.cells ∙ i.cells;
             shift = omega (arith, i.shift);
             top = shift_down_top c.loop-k.high k c.loop-k-test.true i.top;

@@ -10,5 +10,10 @@ returns-clause-sums c h =
     let sound = c.requires.sound in
     rw (c.truncate.ensures.items, e.sums)
     (sums_kept x.first x.sums.items x.low.items x.high.items y.low.items y.high.items
-    (λ i l. e.low i ∙ settled_low _ (sound.low_settled i l))
-    (λ i l. e.high i ∙ settled_high _ (sound.high_settled i l)) h)
+    (λ i l. e.shifted.low i ∙ settled_low _ (sound.low_settled i l))
+    (λ i l. e.shifted.high i ∙ settled_high _ (sound.high_settled i l)) h)
+
+pub returns-clause-shifted : goal.returns-clause-shifted
+returns-clause-shifted c =
+    let e = c.shift_cells.ensures.shifted in
+    record { sound = e.sound; within = e.within; cells = e.cells; shift = e.shift; low = e.low; high = e.high }

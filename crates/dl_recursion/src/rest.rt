@@ -1,0 +1,95 @@
+//! The cells past those that count. Where the factors of a cell come to no more than what it is
+//! divided by, no later cell is above the greatest of the last ones, as far back as an amount
+//! reaches: all of them get that one high end, and the low end 0.
+
+ghost use Rattle.std.specs.Prelude.{◌≡◌, ℕ, ◌+◌, ◌-◌, ◌*◌, ◌^◌, ◌<◌, ◌≤◌, List, length, slice_index, All, IfOk, IsTrue};
+ghost use Rattle.dl_limits.specs.Limits.{most_end};
+ghost use Rattle.dl_exact.specs.Fraction.{Fraction};
+ghost use Rattle.dl_recursion.specs.declared.parts.Part.{Part};
+ghost use Rattle.dl_recursion.specs.Runs.{all_parts, part_sum};
+ghost use Rattle.dl_recursion.specs.Recursion.{AreScaledCells, AreFalling, AreLast, FollowsInWhole, EncloseScaled};
+
+use crate::cells::ScaledCells;
+use crate::parts::{Amounts, Part};
+use std::alloc::AllocError;
+
+/// How far the amounts that are taken one by one go.
+#[derive(Clone, Copy)]
+pub struct Reach {
+    /// The greatest of them.
+    pub amount: usize,
+    /// Their weights together.
+    pub weight: u64,
+}
+
+/// How far these amounts go.
+#[tactic(auto, using(std::proofs::lemmas::List::Sums::sum_by_more_le))]
+pub(crate) fn reach_of(parts: &[Part]) -> Reach
+    requires room { part_sum parts.now < 2 ^ 64 }
+    ensures amount { All (λ p. p.amount ≤ result.amount) parts.now }
+    ensures weight { result.weight ≡ part_sum parts.now }
+{
+    let mut amount = 0;
+    let mut weight = 0;
+    for part in parts {
+        amount = amount.max(part.amount);
+        weight += part.weight;
+    }
+    Reach { amount, weight }
+}
+
+/// Whether the amounts reach back no further than to cell 0, and the factors of cell `n` and of
+/// each later one come to no more than what it is divided by. Where there are runs, this is not
+/// asked: with them a cell costs little.
+pub(crate) fn is_falling(amounts: &Amounts, reach: Reach, a: u64, b: u64, q: u64, n: usize) -> bool
+    requires weight { reach.weight ≡ part_sum amounts.now.parts.items }
+    requires steps { (a + b) * n < 2 ^ 32 }
+    requires weights { (a + b) * n * part_sum (all_parts amounts.now) < 2 ^ 64 }
+    requires divisors { q * n < 2 ^ 64 }
+    ensures alone { IsTrue result → length amounts.now.runs.items ≡ 0 }
+    ensures within { IsTrue result → reach.amount ≤ n }
+    ensures falling { IsTrue result → (a * n + b * reach.amount) * reach.weight ≤ q * n }
+{
+    if !amounts.runs.is_empty() || reach.amount > n {
+        return false;
+    }
+    let n = n as u64;
+    (a * n + b * (reach.amount as u64)) * reach.weight <= q * n
+}
+
+/// The greatest of the ends from one cell on.
+pub(crate) fn greatest_from(ends: &[u64], from: usize) -> u64
+    requires small { (k : ℕ) → slice_index ends.now k ≤ most_end }
+    ensures small { result ≤ most_end }
+    ensures last { AreLast ends.now from result }
+{
+    let mut greatest = 0;
+    for i in from..ends.len() {
+        greatest = greatest.max(ends[i]);
+    }
+    greatest
+}
+
+/// Adds cells with the low end 0 and this high end, until there are `cells`.
+pub(crate) fn fill(x: &mut ScaledCells, high: u64, cells: usize) -> Result<(), AllocError>
+    requires sound { AreScaledCells x.old.low.items x.old.high.items x.old.first }
+    requires within { x.old.first ≤ length x.old.low.items }
+    requires some { 0 < length x.old.low.items }
+    requires few { length x.old.low.items ≤ cells }
+    requires small { high ≤ most_end }
+    ensures sound { IfOk result (λ u. AreScaledCells x.new.low.items x.new.high.items x.new.first) }
+    ensures cells { IfOk result (λ u. length x.new.low.items ≡ cells) }
+    ensures shift { IfOk result (λ u. x.new.shift ≡ x.old.shift) }
+    ensures round { IfOk result (λ u. (parts : List Part) (a b q top : ℕ) (r : ℕ → Fraction)
+        → AreFalling parts a b q top (length x.old.low.items)
+        → AreLast x.old.high.items (length x.old.low.items - top) high
+        → All (λ p. 0 < p.amount) parts → 0 < q → FollowsInWhole parts a b q r
+        → EncloseScaled r x.old.shift (length x.old.low.items) x.old.low.items x.old.high.items
+        → EncloseScaled r x.new.shift cells x.new.low.items x.new.high.items) }
+{
+    'cells: for n in x.low.len()..cells {
+        x.low.push(0)?;
+        x.high.push(high)?;
+    }
+    Ok(())
+}
