@@ -1,9 +1,10 @@
 -- The plan of the one unit is valid: its amounts are those of the units, and its thinned mean is the sum of theirs.
-use Rattle.dl_common.proofs.Common.{ℕ, zero, suc, ◌≡◌, ◌∙◌, ◌<◌, ◌≤◌, List, [], ◌∷◌, length, take, get_or, inl, inr, refl, ap, ap₂, sym, subst, arith, All, take_all, cases_lt, sum_by-cons, Fraction, whole, ◌over◌, ◌+ℚ◌, ◌-ℚ◌, ◌*ℚ◌, ◌/ℚ◌, ◌≤ℚ◌, ◌<ℚ◌, sum_over, sum_over_same, sum_over_times, ring, le_refl, le_trans, div_times, times_cancel, times_comm, times_assoc, times_one, times_zero, times_plus, plus_zero, plus_cancel, sub_plus, times_le_both, whole_pos, over_zero, severity_total, Item, Sev, UnitOfPlan, Plan, HasPartsOf48Bits, greatest, weight_at, probability_of, expected_count, IsUnbounded, thinned_mean, SharesFactor, expected_of, thinned_of, raised, PoissonUnit, expected_claims, pooled_severity, poisson_units, IsGammaOf, IsPooled, IsRaised, alone, ◌==◌, cond, fun_ext, eq-eqb, ne_eqb, get_or-le-sum_by, le_div, whole_le, same_num, over_le, IsClaimCount, has_factor, weight_at-le, gamma_of, Quantity, partial_sums, loss, plain, after_zero, aggregate_of, count_weights, outcome_after, declared, common_sums, pooled_unit, CountsTotal, as_one_loss, declared_is, expected_units, are_severities, pooled_over, shares_severity}
+use Rattle.dl_common.proofs.Common.{ℕ, zero, suc, ◌≡◌, ◌∙◌, ◌<◌, ◌≤◌, List, [], ◌∷◌, length, take, get_or, inl, inr, refl, ap, ap₂, sym, subst, arith, All, take_all, cases_lt, sum_by-cons, Fraction, whole, ◌over◌, ◌+ℚ◌, ◌-ℚ◌, ◌*ℚ◌, ◌/ℚ◌, ◌≤ℚ◌, ◌<ℚ◌, sum_over, sum_over_same, sum_over_times, ring, le_refl, le_trans, div_times, times_cancel, times_one, times_zero, times_plus, plus_zero, plus_cancel, sub_plus, times_le_both, whole_pos, over_zero, severity_total, Item, Sev, UnitOfPlan, Plan, HasPartsOf48Bits, greatest, weight_at, probability_of, expected_count, IsUnbounded, Freq, Gamma, thinned_mean, SharesFactor, expected_of, thinned_of, raised, PoissonUnit, expected_claims, pooled_severity, poisson_units, IsMixedOf, IsPooled, IsRaised, alone, ◌==◌, cond, fun_ext, eq-eqb, ne_eqb, get_or-le-sum_by, le_div, whole_le, same_num, over_le, IsClaimCount, has_factor, weight_at-le, gamma_of, Quantity, partial_sums, loss, plain, after_zero, aggregate_of, count_weights, outcome_after, declared, common_sums, pooled_unit, CountsTotal, as_one_loss, declared_is, expected_units, are_severities, pooled_over, shares_severity}
+use Rattle.dl_model.proofs.PoissonTotals.{part_back}
 use Rattle.std.proofs.lemmas.List.Elements.{All-head, All-tail, All-cons, All-nil}
 use Rattle.dl_plan.specs.Valid.{IsValid, IsValidUnit, IsAggregate, IsNewZero}
 use Rattle.std.specs.Prelude.{IfSome}
-use Rattle.dl_limits.specs.Limits.{most_amount_at, most_expected, most_shape}
+use Rattle.dl_limits.specs.Limits.{most_amount_at, most_expected}
 
 -- ---- no amount is past those of the units
 
@@ -65,9 +66,6 @@ zero_le_one sev = over_le (weight_at sev.items 0) sev.total 1 1 (severity_total 
     (omega (arith, weight_at-le sev.items))
 
 -- v * (1 - P), where P are the units' probabilities of 0 by their parts of v
-part_back : (v n p : Fraction) → whole 0 <ℚ v → v *ℚ (n /ℚ v *ℚ p) ≡ n *ℚ p
-part_back v n p some = sym (times_assoc v (n /ℚ v) p) ∙ ap (λ t. t *ℚ p) (times_comm v (n /ℚ v) ∙ div_times n v some)
-
 rest_back : (n p : Fraction) → p ≤ℚ whole 1 → n *ℚ (whole 1 -ℚ p) +ℚ n *ℚ p ≡ n
 rest_back n p within = sym (times_plus n (whole 1 -ℚ p) p) ∙ ap (λ t. n *ℚ t) (sub_plus (whole 1) p within) ∙ times_one n
 
@@ -125,34 +123,34 @@ raised_more r h above =
 
 -- ---- the plan
 
-module _ (plan : Plan) (shape : ℕ) (mean : Fraction) (made : UnitOfPlan) (units : All (IsValidUnit plan.cells) plan.units)
-    (is : IsGammaOf plan.units shape mean made) (above : 1 ≤ shape) (below : shape ≤ most_shape)
-    (expected : HasPartsOf48Bits mean)
-    (admitted : HasPartsOf48Bits (mean *ℚ (whole 1 -ℚ probability_of made.sev 0)))
-    (few : mean *ℚ (whole 1 -ℚ probability_of made.sev 0) ≤ℚ whole most_expected) where
-  valid_unit : IsValidUnit plan.cells made
-  valid_unit = record {
-    amounts = amounts_near plan.units made (most_amount_at plan.cells) is.severity (λ k d h. (units k d h).amounts);
-    items = λ bounded. absurd (bounded (subst IsUnbounded (sym is.count) tt));
-    count = subst IsClaimCount (sym is.count) (above, below);
+module _ (cells : ℕ) (units : List UnitOfPlan) (count : Freq) (made : UnitOfPlan) (each : All (IsValidUnit cells) units)
+    (is : IsMixedOf units count made) (counted : IsClaimCount count) (unbounded : IsUnbounded count)
+    (expected : HasPartsOf48Bits (expected_count count))
+    (admitted : HasPartsOf48Bits (expected_count count *ℚ (whole 1 -ℚ probability_of made.sev 0)))
+    (few : expected_count count *ℚ (whole 1 -ℚ probability_of made.sev 0) ≤ℚ whole most_expected) where
+  pub mixed_valid : IsValidUnit cells made
+  mixed_valid = record {
+    amounts = amounts_near units made (most_amount_at cells) is.severity (λ k d h. (each k d h).amounts);
+    items = λ bounded. absurd (bounded (subst IsUnbounded (sym is.count) unbounded));
+    count = subst IsClaimCount (sym is.count) counted;
     expected = subst (λ f. HasPartsOf48Bits (expected_count f)) (sym is.count) expected;
     thinned = λ unbounded. subst (λ f. HasPartsOf48Bits (expected_count f *ℚ (whole 1 -ℚ probability_of made.sev 0))
         × (expected_count f *ℚ (whole 1 -ℚ probability_of made.sev 0) ≤ℚ whole most_expected)) (sym is.count)
         (admitted, few);
-    clause = subst (λ o. IfSome o (IsAggregate plan.cells made.sev)) (sym is.clause) tt;
+    clause = subst (λ o. IfSome o (IsAggregate cells made.sev)) (sym is.clause) tt;
     zero = subst (λ o. IfSome o (IsNewZero made.freq)) (sym is.zero) tt;
   }
 
-  pub alone_valid : IsValid plan → IsValid (alone plan made)
-  alone_valid valid = record {
-    bucket = valid.bucket;
-    cells = valid.cells;
-    some = omega arith;
-    few = omega arith;
-    names = λ i j d p q. absurd (omega arith);
-    units = All-cons (IsValidUnit plan.cells) made [] valid_unit (All-nil (IsValidUnit plan.cells));
-    common = tt;
-  }
+alone_valid : (plan : Plan) (made : UnitOfPlan) → IsValid plan → IsValidUnit plan.cells made → IsValid (alone plan made)
+alone_valid plan made valid unit = record {
+  bucket = valid.bucket;
+  cells = valid.cells;
+  some = omega arith;
+  few = omega arith;
+  names = λ i j d p q. absurd (omega arith);
+  units = All-cons (IsValidUnit plan.cells) made [] unit (All-nil (IsValidUnit plan.cells));
+  common = tt;
+}
 
 whole_list : (P : Fraction → Type 0) (f : List UnitOfPlan → Fraction) (units : List UnitOfPlan) → 1 ≤ length units
     → ((k : ℕ) → 1 ≤ k → k ≤ length units → P (f (take k units))) → P (f units)
@@ -165,21 +163,24 @@ pooled_valid plan r made shares is =
     let factor = has_factor plan r shares in
     let thinned = pooled_thinned plan.units factor.some made is.severity in
     let all = whole_list HasPartsOf48Bits thinned_of plan.units shares.valid.some factor.thinned in
-    alone_valid plan r (expected_of plan.units) made shares.valid.units is factor.some_shape
-    (omega arith)
+    alone_valid plan made shares.valid
+    (mixed_valid plan.cells plan.units (Gamma r (expected_of plan.units)) made shares.valid.units is
+    (factor.some_shape, omega arith) tt
     (whole_list HasPartsOf48Bits expected_of plan.units shares.valid.some factor.expected)
     (subst HasPartsOf48Bits (sym thinned) all)
     (subst (λ t. t ≤ℚ whole most_expected) (sym thinned)
-    (le_trans _ _ _ (raised_more r (thinned_of plan.units) factor.some_shape) factor.few)) shares.valid
+    (le_trans _ _ _ (raised_more r (thinned_of plan.units) factor.some_shape) factor.few)))
 
 pub raised_valid : (plan : Plan) (r : ℕ) (made : UnitOfPlan) → SharesFactor plan r → IsRaised r plan.units made
     → IsValid (alone plan made)
 raised_valid plan r made shares is =
     let factor = has_factor plan r shares in
     let thinned = raised_thinned plan.units factor.some made is.severity r factor.some_shape in
-    alone_valid plan (suc r) (raised r (expected_of plan.units)) made shares.valid.units is (omega arith)
-    factor.few_shape factor.raised_expected (subst HasPartsOf48Bits (sym thinned) factor.raised_thinned)
-    (subst (λ t. t ≤ℚ whole most_expected) (sym thinned) factor.few) shares.valid
+    alone_valid plan made shares.valid
+    (mixed_valid plan.cells plan.units (Gamma (suc r) (raised r (expected_of plan.units))) made shares.valid.units is
+    (omega arith, factor.few_shape) tt factor.raised_expected
+    (subst HasPartsOf48Bits (sym thinned) factor.raised_thinned)
+    (subst (λ t. t ≤ℚ whole most_expected) (sym thinned) factor.few))
 
 -- ---- what it declares
 

@@ -6,10 +6,11 @@ pub use Rattle.std.proofs.lemmas.List.{get_or-map, get_or_default, length-map, m
 pub use Rattle.std.proofs.lemmas.List.Sums.{get_or-le-sum_by, sum_by-cons, sum_by-take-le, sum_by_more}
 pub use Rattle.std.proofs.lemmas.Nat.{pow_pos}
 pub use Rattle.std.specs.Int.{div_ceil}
+pub use Rattle.std.specs.Borrow.{Bor}
 pub use Rattle.std.specs.List.{All, flat_map}
 pub use mathlib.Core.Path.{fun_ext}
 pub use Rattle.dl_common.specs.Amounts.{amounts_to}
-pub use Rattle.dl_common.specs.Pooled.{IsGammaOf, IsPooled, IsRaised, alone}
+pub use Rattle.dl_common.specs.Pooled.{IsMixedOf, IsPooled, IsRaised, alone, can_share, is_poisson, lent}
 pub use Rattle.dl_exact.proofs.Denominators.{over_le_over, over_times, over_zero, same_num}
 pub use Rattle.dl_exact.proofs.Laws.{div_times, le_div, le_of_eq, le_plus, le_refl, le_trans, one_pos, one_times, plus_cancel, plus_comm, plus_zero, ring, sub_plus, times_assoc, times_cancel, times_comm, times_le_both, times_le_cancel, times_left_comm, times_one, times_plus, times_zero, whole_pos, zero_le}
 pub use Rattle.dl_exact.proofs.Over.{le_over, over_den, over_le, over_mul, over_same, over_self}

@@ -8,14 +8,6 @@ use Rattle.dl_common.proofs.Tilted.{amounts_top, amounts_apart}
 use Rattle.dl_common.proofs.Claims.{weight_parts, claim_width, scaled_width, joint_width}
 use Rattle.dl_common.proofs.JointValues.{joint_exact, joint_most, low_share, end_below, end_above, end_none}
 
-pub poisson_unbounded : (freq : Freq) → IsPoisson freq → IsUnbounded freq
-poisson_unbounded (Fixed m) h = absurd h
-poisson_unbounded (Table counts total) h = absurd h
-poisson_unbounded (Bernoulli q) h = absurd h
-poisson_unbounded (Binomial trials q) h = absurd h
-poisson_unbounded (Poisson mean) h = tt
-poisson_unbounded (Gamma shape mean) h = absurd h
-
 -- the weight of the positive amounts
 abbrev pub positive : UnitOfPlan → ℕ
 positive u = u.sev.total - weight_at u.sev.items 0

@@ -1,5 +1,7 @@
 -- What the one unit has by its parts: the shape and the mean of its count, and the first unit's name.
-use Rattle.dl_common.proofs.Common.{ℕ, ◌≡◌, ◌∙◌, ◌<◌, List, length, get_or, ap, Fraction, FitsFrac, admitted_fits, Freq, Gamma, UnitOfPlan, Plan, SharesFactor, raised, expected_of, get_or_default, has_factor}
+use Rattle.dl_common.proofs.Common.{ℕ, ◌≡◌, ◌∙◌, ◌<◌, List, length, get_or, ap, Bor, lent, can_share, Fraction, FitsFrac, admitted_fits, Freq, Gamma, UnitOfPlan, Plan, SharesFactor, raised, expected_of, get_or_default, has_factor}
+use Rattle.std.specs.List.{filter}
+use Rattle.dl_common.proofs.Units.{all_sharing}
 
 pub gamma_shape : (freq : Freq) (shape r : ℕ) (mean v : Fraction) → freq ≡ Gamma shape mean → freq ≡ Gamma r v → shape ≡ r
 gamma_shape freq shape r mean v is told = cc
@@ -16,3 +18,9 @@ first_name units read u default name same some copied =
 
 pub raised_fits : (plan : Plan) (r : ℕ) → SharesFactor plan r → FitsFrac (raised r (expected_of plan.units))
 raised_fits plan r shares = admitted_fits _ (has_factor plan r shares).raised_expected
+
+-- the units of a plan under a common factor can all be pooled
+pub all_lent : (plan : Plan) (r : ℕ) → SharesFactor plan r → (units : List (Bor UnitOfPlan)) (read : List UnitOfPlan)
+    → lent units ≡ filter can_share read → read ≡ plan.units → lent units ≡ plan.units
+all_lent plan r shares units read are is =
+    are ∙ ap (filter can_share) is ∙ all_sharing plan.units (has_factor plan r shares).can_share

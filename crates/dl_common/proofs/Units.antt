@@ -1,5 +1,9 @@
 -- The expected numbers of claims of units, one unit after another, and the part of all claims that each has.
-use Rattle.dl_common.proofs.Common.{ℕ, ◌≡◌, ◌∙◌, refl, ◌+◌, ◌<◌, ◌≤◌, List, [], ◌∷◌, ◌++◌, length, map, take, get_or, ap, ap₂, sym, subst, arith, take_more, map_more, Fraction, whole, ◌+ℚ◌, ◌*ℚ◌, ◌/ℚ◌, ◌≤ℚ◌, ◌<ℚ◌, sum_over, le_trans, zero, suc, plus_zero, plus_comm, div_times, times_cancel, one_times, times_comm, sum_over_append, sum_over_same, sum_over_times, sum_over_map, FitsFrac, UnitOfPlan, IsFineTo30Bits, common_denominator, expected_count, expected_of, unit_share, le_plus, times_le_cancel, length-map, get_or-map, sum_of}
+use Rattle.dl_common.proofs.Common.{ℕ, ◌≡◌, ◌∙◌, refl, ◌+◌, ◌<◌, ◌≤◌, List, [], ◌∷◌, ◌++◌, length, map, take, get_or, ap, ap₂, sym, subst, arith, take_more, map_more, Fraction, whole, ◌+ℚ◌, ◌*ℚ◌, ◌/ℚ◌, ◌≤ℚ◌, ◌<ℚ◌, sum_over, le_trans, zero, suc, plus_zero, plus_comm, div_times, times_cancel, one_times, times_comm, sum_over_append, sum_over_same, sum_over_times, sum_over_map, FitsFrac, UnitOfPlan, Bor, Freq, Fixed, Table, Bernoulli, Binomial, Poisson, Gamma, Sev, Bool, true, false, cond, Option, None, Some, inl, inr, arith, ◌*◌, lent, can_share, is_poisson, IsPoisson, IsClaimCount, All, pairs_of, shares, map-append, over_self, over_le, one_pos, IsFineTo30Bits, common_denominator, expected_count, expected_of, unit_share, le_plus, times_le_cancel, length-map, get_or-map, sum_of}
+use Rattle.std.proofs.Common.{Result, Ok, Err, ◌&&◌, is_none, filter, IsSome}
+use Rattle.std.proofs.lemmas.List.Elements.{All-head, All-tail, All-cons, All-nil}
+use Rattle.dl_plan.specs.Common.{CanShare}
+use Rattle.dl_frac.specs.Exact.{Gives}
 use Rattle.dl_plan.proofs.Clauses.{num_le_den}
 use Rattle.dl_plan.proofs.CommonDenominators.{common_pos, den_divides}
 use Rattle.std.proofs.lemmas.Nat.Gcd.{le_of_dvd}
@@ -54,6 +58,108 @@ pub shares_step : (units : List UnitOfPlan) (v : Fraction) (i : ℕ) (u : UnitOf
 shares_step units v i u old new x h is before pushed value =
     pushed ∙ ap₂ (λ xs y. xs ++ y ∷ []) before (value ∙ ap (unit_share v) is)
     ∙ sym (map_more (unit_share v) units i u h)
+
+-- ---- units that are lent
+
+pub lent_inside : (units : List (Bor UnitOfPlan)) (i : ℕ) → i < length units → i < length (lent units)
+lent_inside units i h = subst (λ n. i < n) (sym (length-map units (λ (b : Bor UnitOfPlan). b.now))) h
+
+pub lent_item : (units : List (Bor UnitOfPlan)) (i : ℕ) (b : Bor UnitOfPlan) → i < length units → b ≡ get_or units i b
+    → b.now ≡ get_or (lent units) i b.now
+lent_item units i b h is = ap (λ (x : Bor UnitOfPlan). x.now) is
+    ∙ sym (get_or-map (λ (x : Bor UnitOfPlan). x.now) units i b b.now h)
+
+pub of_each : (P : UnitOfPlan → Type 0) (units : List (Bor UnitOfPlan)) (i : ℕ) (b : Bor UnitOfPlan) → i < length units
+    → b ≡ get_or units i b → All P (lent units) → P b.now
+of_each P units i b h is all = subst P (sym (lent_item units i b h is)) (all i b.now (lent_inside units i h))
+
+-- one more severity
+pub severities_step : (units : List UnitOfPlan) (i : ℕ) (u : UnitOfPlan) (old new : List Sev) (made : Sev) → i < length units
+    → u ≡ get_or units i u → map pairs_of old ≡ map (λ (w : UnitOfPlan). pairs_of w.sev) (take i units)
+    → new ≡ old ++ made ∷ [] → made.items ≡ u.sev.items → made.total ≡ u.sev.total
+    → map pairs_of new ≡ map (λ (w : UnitOfPlan). pairs_of w.sev) (take (i + 1) units)
+severities_step units i u old new made h is before pushed items total =
+    ap (map pairs_of) pushed ∙ map-append pairs_of old (made ∷ [])
+    ∙ ap₂ (λ xs y. xs ++ y ∷ []) before (ap₂ shares items total ∙ ap (λ (w : UnitOfPlan). pairs_of w.sev) is)
+    ∙ sym (map_more (λ (w : UnitOfPlan). pairs_of w.sev) units i u h)
+
+-- ---- which can be pooled
+
+pub poisson_counts : (freq : Freq) → IsPoisson freq → IsClaimCount freq
+poisson_counts (Fixed m) h = absurd h
+poisson_counts (Table counts all) h = absurd h
+poisson_counts (Bernoulli q) h = absurd h
+poisson_counts (Binomial trials q) h = absurd h
+poisson_counts (Poisson mean) h = h
+poisson_counts (Gamma shape mean) h = absurd h
+
+poisson_true : (freq : Freq) → IsPoisson freq → is_poisson freq ≡ true
+poisson_true (Fixed m) h = absurd h
+poisson_true (Table counts all) h = absurd h
+poisson_true (Bernoulli q) h = absurd h
+poisson_true (Binomial trials q) h = absurd h
+poisson_true (Poisson mean) h = refl
+poisson_true (Gamma shape mean) h = absurd h
+
+true_poisson : (freq : Freq) → is_poisson freq ≡ true → IsPoisson freq
+true_poisson (Fixed m) e = absurd (cc)
+true_poisson (Table counts all) e = absurd (cc)
+true_poisson (Bernoulli q) e = absurd (cc)
+true_poisson (Binomial trials q) e = absurd (cc)
+true_poisson (Poisson mean) e = tt
+true_poisson (Gamma shape mean) e = absurd (cc)
+
+true_none : {A : Type 0} (o : Option A) → is_none o ≡ true → o ≡ None
+true_none None e = refl
+true_none (Some x) e = absurd (cc)
+
+true_both : (a b : Bool) → (a && b) ≡ true → (a ≡ true) × (b ≡ true)
+true_both true b e = (refl, e)
+true_both false b e = absurd (cc)
+
+true_shares : (u : UnitOfPlan) → can_share u ≡ true → CanShare u
+true_shares u e =
+    let both = true_both (is_poisson u.freq) (is_none u.cede && is_none u.zero) e in
+    let rest = true_both (is_none u.cede) (is_none u.zero) both.1 in record {
+      count = true_poisson u.freq both.0;
+      clause = true_none u.cede rest.0;
+      zero = true_none u.zero rest.1;
+    }
+
+shares_true : (u : UnitOfPlan) → CanShare u → can_share u ≡ true
+shares_true u h =
+    ap (λ b. b && (is_none u.cede && is_none u.zero)) (poisson_true u.freq h.count)
+    ∙ ap (λ o. is_none o && is_none u.zero) h.clause ∙ ap is_none h.zero
+
+pub sharing_share : (units : List UnitOfPlan) → All CanShare (filter can_share units)
+sharing_share [] = All-nil CanShare
+sharing_share (u ∷ us) = step (can_share u) refl (sharing_share us)
+  where
+    step : (b : Bool) → can_share u ≡ b → All CanShare (filter can_share us)
+        → All CanShare (cond b (u ∷ filter can_share us) (filter can_share us))
+    step true e rest = All-cons CanShare u (filter can_share us) (true_shares u e) rest
+    step false e rest = rest
+
+pub all_sharing : (units : List UnitOfPlan) → All CanShare units → filter can_share units ≡ units
+all_sharing [] h = refl
+all_sharing (u ∷ us) h =
+    ap (λ b. cond b (u ∷ filter can_share us) (filter can_share us)) (shares_true u (All-head CanShare u us h))
+    ∙ ap (λ xs. u ∷ xs) (all_sharing us (All-tail CanShare u us h))
+
+pub none_there : {A : Type 0} (o : Option A) → o ≡ None → IsSome o → ⊥
+none_there None e h = absurd (cc)
+none_there (Some x) e h = absurd (cc)
+
+-- ---- sums that fit
+
+pub not_refused : {E : Type 0} (r : Result Fraction E) (x : Fraction) (e : E) → Gives r x → r ≡ Err e → FitsFrac x → ⊥
+not_refused (Ok y) x e given is fits = absurd (cc)
+not_refused (Err f) x e (inl far) is fits = omega (arith, far, fits.num)
+not_refused (Err f) x e (inr far) is fits = omega (arith, far, fits.den)
+
+pub at_most : (x y : Fraction) (n : ℕ) → x ≡ y → x.num ≤ n * x.den → y ≤ℚ whole n
+at_most x y n e h = subst (λ t. t ≤ℚ whole n) (over_self x ∙ e)
+    (over_le x.num x.den n 1 x.positive one_pos (omega (arith, h)))
 
 -- ---- the sum so far
 

@@ -1,31 +1,49 @@
 -- One unit in the place of all units of a plan under a common factor (Loss Models, "Mixed frequency
--- distributions": Poisson counts with one gamma mean are a negative binomial count).
-use Rattle.std.specs.Prelude.{ℕ, suc, ◌≡◌, None, List, [], ◌∷◌, get_or}
-use Rattle.dl_exact.specs.Fraction.{Fraction}
-use Rattle.dl_plan.specs.declared.plan.Freq.TheVariants.{Gamma}
+-- distributions": Poisson counts with one gamma mean are a negative binomial count), and in the
+-- place of independent Poisson units.
+use Rattle.std.specs.Prelude.{ℕ, suc, ◌≡◌, ◌&&◌, Bool, true, false, None, is_none, List, [], ◌∷◌, map, get_or}
+use Rattle.std.specs.Borrow.{Bor}
+use Rattle.dl_plan.specs.declared.plan.Freq.{Freq}
+use Rattle.dl_plan.specs.declared.plan.Freq.TheVariants.{Fixed, Table, Bernoulli, Binomial, Poisson, Gamma}
 use Rattle.dl_plan.specs.declared.plan.Unit.{Unit as UnitOfPlan}
 use Rattle.dl_plan.specs.declared.plan.Plan.{Plan}
 use Rattle.dl_plan.specs.Prelude.{probability_of, expected_of, raised}
 use Rattle.dl_model.specs.Prelude.{pooled_severity, poisson_units}
 
--- a gamma unit with this shape and mean, whose severity mixes those of the units by their expected
--- counts; it has the first unit's name, and neither an aggregate clause nor a changed probability
--- of no claim
-pub record IsGammaOf (units : List UnitOfPlan) (shape : ℕ) (mean : Fraction) (made : UnitOfPlan)
-    : Type 0 where
+-- the units that are lent
+abbrev pub lent : List (Bor UnitOfPlan) → List UnitOfPlan
+lent units = map (λ unit. unit.now) units
+
+-- the count is Poisson
+abbrev pub is_poisson : Freq → Bool
+is_poisson (Fixed m) = false
+is_poisson (Table counts total) = false
+is_poisson (Bernoulli q) = false
+is_poisson (Binomial trials q) = false
+is_poisson (Poisson mean) = true
+is_poisson (Gamma shape mean) = false
+
+-- the unit can be pooled with others: its count is Poisson, without an aggregate clause and without
+-- a changed probability of no claim
+abbrev pub can_share : UnitOfPlan → Bool
+can_share u = is_poisson u.freq && (is_none u.cede && is_none u.zero)
+
+-- a unit with this claim count, whose severity mixes those of the units by their expected counts; it has
+-- the first unit's name, and neither an aggregate clause nor a changed probability of no claim
+pub record IsMixedOf (units : List UnitOfPlan) (freq : Freq) (made : UnitOfPlan) : Type 0 where
   pub name : (default : UnitOfPlan) → made.name ≡ (get_or units 0 default).name
-  pub count : made.freq ≡ Gamma shape mean
+  pub count : made.freq ≡ freq
   pub severity : (x : ℕ) → probability_of made.sev x ≡ pooled_severity (poisson_units units) x
   pub clause : made.cede ≡ None
   pub zero : made.zero ≡ None
 
 -- the one unit for units under a factor of shape r: its mean is the expected number of all claims
 abbrev pub IsPooled : ℕ → List UnitOfPlan → UnitOfPlan → Type 0
-IsPooled r units made = IsGammaOf units r (expected_of units) made
+IsPooled r units made = IsMixedOf units (Gamma r (expected_of units)) made
 
 -- the same with one more in the shape and the mean v * (r + 1) / r
 abbrev pub IsRaised : ℕ → List UnitOfPlan → UnitOfPlan → Type 0
-IsRaised r units made = IsGammaOf units (suc r) (raised r (expected_of units)) made
+IsRaised r units made = IsMixedOf units (Gamma (suc r) (raised r (expected_of units))) made
 
 -- the plan of one unit, on the grid of another plan
 abbrev pub alone : Plan → UnitOfPlan → Plan

@@ -2,6 +2,7 @@
 
 ghost use Rattle.std.specs.Prelude.{◌≡◌, map, IfOk};
 ghost use Rattle.dl_plan.specs.Severity.{pairs_of};
+ghost use Rattle.dl_common.specs.Pooled.{lent};
 
 use dl_plan::{Items, Sev, Unit};
 use std::alloc::{AllocError, Global};
@@ -19,8 +20,9 @@ pub(crate) fn copied(alloc: Global, sev: &Sev) -> Result<Sev, AllocError>
 }
 
 /// The severities of the units, in their order.
-pub(crate) fn severities(alloc: Global, units: &[Unit]) -> Result<Vec<Sev>, AllocError>
-    ensures { IfOk result (λ made. map pairs_of made.items ≡ map (λ u. pairs_of u.sev) units.now) }
+pub(crate) fn severities(alloc: Global, units: &[&Unit]) -> Result<Vec<Sev>, AllocError>
+    ensures { IfOk result (λ made. map pairs_of made.items
+        ≡ map (λ u. pairs_of u.sev) (lent units.now)) }
 {
     let mut made = Vec::new(alloc);
     'units: for unit in units {

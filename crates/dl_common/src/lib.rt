@@ -1,7 +1,8 @@
 //! A portfolio under a common factor: given one gamma factor of mean 1, which scales the means of
 //! all units, their claim counts are independent Poisson counts. Of its total such a portfolio
 //! declares what one gamma unit does, `pool`; what a unit adds to a total comes from the grid of
-//! that unit with one more in its shape, `raised`, by `common_joint`.
+//! that unit with one more in its shape, `raised`, by `common_joint`. Without a factor one Poisson
+//! unit has the total of several, `pool_poisson`.
 #![tactic(auto)]
 
 mod copies;
@@ -11,5 +12,6 @@ mod raising;
 mod shares;
 
 pub use joint::common_joint;
-pub use pooling::pool;
+pub use pooling::{pool, pool_poisson};
 pub use raising::raised;
+pub use shares::sharing;

@@ -62,7 +62,7 @@ pub use Rattle.dl_model.specs.ChangedZero.{IsWithNone, changed, changed_end, wit
 unfoldable pub use Rattle.dl_model.specs.ChangedZero.{without_none}
 pub use Rattle.dl_model.specs.CommonFactor.{AreSeverities, Claims, CountsTotal, IsUnit, PoissonUnit, amounts, amounts_given_counts, chances, common_sums, expected_claims, pooled_severity, pooled_unit, raised_mean, ways_to_share}
 unfoldable pub use Rattle.dl_model.specs.CommonFactor.{product_over, sum_over_claims}
-pub use Rattle.dl_model.specs.CommonUnits.{poisson_unit, poisson_units}
+pub use Rattle.dl_model.specs.CommonUnits.{IsPoissonSum, poisson_unit, poisson_units}
 pub use Rattle.dl_model.specs.Divided.{divided_power}
 pub use Rattle.dl_plan.proofs.Shares.{filter-shares, items_over, mean-shares, probability-conditioned}
 pub use Rattle.dl_plan.specs.Common.{CanShare, HasCommonFactor, expected_of}

@@ -1,8 +1,8 @@
 -- A compound sum taken n times is the compound sum of the n-th power of its count weights.
-use Rattle.dl_model.proofs.Common.{◌≡◌, ℕ, suc, zero, ◌+◌, arith, sym, ap, ap₂, subst₂, ◌∙◌, Fraction, ◌+ℚ◌, ◌*ℚ◌, ◌≤ℚ◌, whole, ◌^ℚ◌, sum_to, sum_pairs, Series, Rises, times, SameValue, SameCells, subst, convolve, at_zero, power, cell, compound, product, times_itself, ring, refl, plus_le_both, times_le_both, le_refl, plus_zero, zero_times, one_times, times_one, sum_to_same, sum_pairs_same, sum_to_product, sum_pairs_sum_to, sum_pairs_times, sum_pairs_times_right}
-use Rattle.dl_model.proofs.ValueLaws.{triangle_le_square, square_le_triangle, power_plus, AreLevel, level_same, level_trans, level_both, cauchy_level, same_value, sum_rises, rises_times, sum_rises_to}
+use Rattle.dl_model.proofs.Common.{◌≡◌, ℕ, suc, zero, ◌+◌, arith, sym, ap, ap₂, ◌∙◌, Fraction, ◌+ℚ◌, ◌*ℚ◌, ◌≤ℚ◌, whole, ◌^ℚ◌, sum_to, sum_pairs, Series, Rises, times, SameValue, SameCells, subst, convolve, at_zero, power, cell, compound, product, times_itself, refl, plus_le_both, times_le_both, le_refl, plus_zero, zero_times, one_times, times_one, times_assoc, sum_to_same, sum_pairs_same, sum_to_product, sum_pairs_sum_to, sum_pairs_times_right}
+use Rattle.dl_model.proofs.ValueLaws.{triangle_le_square, square_le_triangle, power_plus, convolve_scaled, convolve_times, AreLevel, level_same, level_trans, level_both, cauchy_level, same_value, sum_rises, rises_times, sum_rises_to}
 
-level_sum : (n : ℕ) (P P' : ℕ → ℕ → Series) → ((i j : ℕ) → Rises (P i j)) → ((i j : ℕ) → Rises (P' i j))
+pub level_sum : (n : ℕ) (P P' : ℕ → ℕ → Series) → ((i j : ℕ) → Rises (P i j)) → ((i j : ℕ) → Rises (P' i j))
     → ((i j : ℕ) → AreLevel (P i j) (P' i j))
     → AreLevel (λ N. sum_pairs n (λ i j. P i j N)) (λ N. sum_pairs n (λ i j. P' i j N))
 unfolding sum_pairs
@@ -13,27 +13,48 @@ level_sum (suc n) P P' r r' u =
     (sum_rises n (later P) (λ i j e. r (suc i) j)) (sum_rises n (later P') (λ i j e. r' (suc i) j)) (u zero (suc n))
     (level_sum n (later P) (later P') (λ i j. r (suc i) j) (λ i j. r' (suc i) j) (λ i j. u (suc i) j))
 
-module _ (a b f : ℕ → Fraction) (y : ℕ) where
-  abbrev both : ℕ → ℕ → Fraction
-  both n m = a n *ℚ b m *ℚ power f (n + m) y
+-- the product of two sums of rows, against the sum of their convolutions
+module _ (P Q : ℕ → ℕ → Fraction) (y : ℕ) where
+  abbrev crossed : ℕ → ℕ → Fraction
+  crossed n m = convolve (P n) (Q m) y
 
-  square : (N : ℕ) → (product (compound a f) (compound b f)).cells y N ≡ sum_to N (λ n. sum_to N (both n))
+  abbrev squares : Series
+  squares N = sum_pairs y (λ i j. sum_to N (λ n. P n i) *ℚ sum_to N (λ m. Q m j))
+
+  square : (N : ℕ) → squares N ≡ sum_to N (λ n. sum_to N (crossed n))
   square N =
-      sum_pairs_same y _ _ (λ i j e. sym (sum_to_product N N (λ n. a n *ℚ power f n i) (λ m. b m *ℚ power f m j)))
-      ∙ sum_pairs_sum_to y N _ ∙ sum_to_same N _ _ (λ n e. sum_pairs_sum_to y N _
-      ∙ sum_to_same N _ _ (λ m e'. sum_pairs_same y _ _ (λ i j e''. simp ring)
-      ∙ sum_pairs_times y (a n *ℚ b m) (λ i j. power f n i *ℚ power f m j)
-      ∙ ap (λ t. a n *ℚ b m *ℚ t) (ap (λ g. g y) (sym (power_plus f n m)))))
+      sum_pairs_same y _ _ (λ i j e. sym (sum_to_product N N (λ n. P n i) (λ m. Q m j)))
+      ∙ sum_pairs_sum_to y N _ ∙ sum_to_same N _ _ (λ n e. sum_pairs_sum_to y N _)
 
-  triangle : (N : ℕ) → cell (convolve a b) f y N ≡ sum_to N (λ s. sum_pairs s both)
+  pub rows_level : AreLevel squares (λ N. sum_to N (λ s. sum_pairs s crossed))
+  rows_level = (
+    λ N. (
+      N + N,
+      subst (λ t. t ≤ℚ sum_to (N + N) (λ s. sum_pairs s crossed)) (sym (square N))
+          (square_le_triangle N N crossed),
+    ),
+    λ N. (
+      N,
+      subst (λ t. sum_to N (λ s. sum_pairs s crossed) ≤ℚ t) (sym (square N))
+          (triangle_le_square N N crossed (omega arith)),
+    ),
+  )
+
+module _ (a b f : ℕ → Fraction) (y : ℕ) where
+  both : (n m : ℕ) → convolve (λ i. a n *ℚ power f n i) (λ j. b m *ℚ power f m j) y
+      ≡ a n *ℚ b m *ℚ power f (n + m) y
+  both n m = convolve_scaled (a n) (power f n) (λ j. b m *ℚ power f m j) y
+      ∙ ap (λ t. a n *ℚ t) (convolve_times (b m) (power f n) (power f m) y
+      ∙ ap (λ g. b m *ℚ g y) (sym (power_plus f n m))) ∙ sym (times_assoc _ _ _)
+
+  triangle : (N : ℕ) → cell (convolve a b) f y N
+      ≡ sum_to N (λ s. sum_pairs s (crossed (λ n i. a n *ℚ power f n i) (λ m j. b m *ℚ power f m j) y))
   triangle N = sum_to_same N _ _ (λ s e. sym (sum_pairs_times_right s (power f s y) (λ n m. a n *ℚ b m))
-      ∙ sum_pairs_same s _ _ (λ n m e'. ap (λ k. a n *ℚ b m *ℚ power f k y) (sym e')))
+      ∙ sum_pairs_same s _ _ (λ n m e'. ap (λ k. a n *ℚ b m *ℚ power f k y) (sym e') ∙ sym (both n m)))
 
   product_level : AreLevel ((product (compound a f) (compound b f)).cells y) (cell (convolve a b) f y)
-  product_level = (
-    λ N. (N + N, subst₂ (λ s t. s ≤ℚ t) (sym (square N)) (sym (triangle (N + N))) (square_le_triangle N N both)),
-    λ N. (N, subst₂ (λ s t. s ≤ℚ t) (sym (triangle N)) (sym (square N)) (triangle_le_square N N both (omega arith))),
-  )
+  product_level = level_trans _ _ _ (rows_level (λ n i. a n *ℚ power f n i) (λ m j. b m *ℚ power f m j) y)
+      (level_same _ _ (λ N. sym (triangle N)))
 
 pub sum_to_at_zero : (N : ℕ) (X : ℕ → Fraction) → sum_to N (λ n. at_zero n *ℚ X n) ≡ X zero
 unfolding sum_to at_zero

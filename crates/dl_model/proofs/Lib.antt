@@ -72,4 +72,5 @@ pub mod SharedBounds
 pub mod PooledLoss
 pub mod CommonPlans
 pub mod CommonMeans
+pub mod PoissonTotals
 pub mod ChangedLoss

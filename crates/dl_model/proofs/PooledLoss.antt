@@ -63,10 +63,6 @@ module _ (q : ℕ) (us : List PoissonUnit) (some : whole 0 <ℚ expected_claims 
       let a = adds_up one_loss p s all_declared one pos in
       (a.0, subst₂ (λ Q R. AtLeast Q R p) (same (Cdf a.0) (total_cdf a.0)) (same One (λ ys. refl)) a.1)
 
-  pub common_grows : (x y N : ℕ) → x ≤ y → common_sums (suc q) us (Cdf x) N ≤ℚ common_sums (suc q) us (Cdf y) N
-  common_grows x y N le =
-      rw (as_one_loss (Cdf x) (total_cdf x) N, as_one_loss (Cdf y) (total_cdf y) N) (cdf_grows one_loss x y N le)
-
   pub common_rises : Rises (common_sums (suc q) us One)
   common_rises =
       subst Rises (same One (λ ys. refl)) (outcomes_rise one_loss (are_units one_loss all_declared) (score One))
@@ -76,7 +72,8 @@ module _ (q : ℕ) (us : List PoissonUnit) (some : whole 0 <ℚ expected_claims 
     bounded = common_bounded;
     positive = common_positive;
     adds_up = common_whole;
-    grows = common_grows;
+    grows = λ x y N le. rw (as_one_loss (Cdf x) (total_cdf x) N, as_one_loss (Cdf y) (total_cdf y) N)
+        (cdf_grows one_loss x y N le);
     rises = common_rises;
   }
 

@@ -84,9 +84,3 @@ unfoldable pub pairs_is : {f : ℕ → ℕ → Fraction} → ((i j : ℕ) → Kn
 unfolding sum_pairs
 pairs_is p zero = p zero zero
 pairs_is p (suc n) = plus_is (p zero (suc n)) (pairs_is (λ i j. p (suc i) j) n)
-
-unfoldable pub over_items_is : {A : Type 0} {f : A → Fraction} → ((x : A) → Known (f x)) → (xs : List A)
-    → Known (sum_over xs f)
-unfolding sum_over
-over_items_is p [] = whole_is 0
-over_items_is p (x ∷ xs) = plus_is (p x) (over_items_is p xs)

@@ -1,7 +1,7 @@
 -- The definitions that other crates cite, passed on from one place. Declares nothing.
 pub use Rattle.dl_model.specs.ChangedZero.{changed}
 pub use Rattle.dl_model.specs.CommonFactor.{CountsTotal, pooled_severity}
-pub use Rattle.dl_model.specs.CommonUnits.{poisson_units}
+pub use Rattle.dl_model.specs.CommonUnits.{IsPoissonSum, poisson_units}
 pub use Rattle.dl_model.specs.Compound.{cell, cell_from, convolve}
 unfoldable pub use Rattle.dl_model.specs.Compound.{at_zero, power}
 pub use Rattle.dl_model.specs.Counts.{IsPanjer, binomial, fixed, gamma_of}

@@ -10,6 +10,7 @@ pub mod families;
 pub mod listed;
 pub mod measures;
 pub mod plans;
+pub mod poisson;
 pub mod prices;
 pub mod programs;
 pub mod recursion;

@@ -122,19 +122,6 @@ module _ {B : ℕ} (k i : ℕ) (grids old new : List (List (Iv B))) where
       subst₂ (λ m (t : List (Iv B)). IsSumOfPart k grids (drop m) (Some t)) place last
       (each (length new) (omega (arith, longer)))
 
-  pub popped_length : (m n : ℕ) (top : Option (List (Iv B))) → m ≡ length old
-      → MatchOption top ((m ≡ 0) × (n ≡ 0)) (λ _. n + 1 ≡ m) → old ≡ new ++ option_to_list top
-      → length old ≡ length grids - suc i → length new ≡ length grids - suc (i + 1)
-  popped_length m n None many cases e left = omega (arith, ap length e, length-append new [], many, cases.0, left)
-  popped_length m n (Some sum) many cases e left = omega (arith, ap length e, length-append new (sum ∷ []), left)
-
-  pub popped_rest : (more : List (List (Iv B))) → old ≡ new ++ more → AreSumsOfEnds k grids old
-      → AreSumsOfEnds k grids new
-  popped_rest more e each j h =
-      subst (λ (t : List (Iv B)). IsSumOfPart k grids (drop (length grids - suc j)) (Some t))
-      (ap (λ (t : List (List (Iv B))). get_or t j []) e ∙ get_or_append_left new more [] j h)
-      (each j (omega (arith, h, ap length e, length-append new more)))
-
 -- ---- the sum of the first units
 
 pub no_first : {B : ℕ} (k : ℕ) (grids : List (List (Iv B))) → IsSumOfPart k grids (take 0) None
@@ -227,18 +214,3 @@ none_without {B} k grids asked any sums tells none many is =
           );
       each = λ i inside. subst (λ (t : Option (List (Iv B))). IfSome t (IsSumWithout k grids i)) (sym (each i inside)) tt;
     }
-
--- what holds of each of a list's items, and of one more
-pub one_more_holds : {A : Type 0} (P : ℕ → Option A → Type 0) (xs ys : List (Option A)) (x : Option A) (i : ℕ)
-    → ys ≡ xs ++ x ∷ [] → length xs ≡ i
-    → ((j : ℕ) → j < i → P j (get_or xs j None)) → P i x → (j : ℕ) → j < i + 1 → P j (get_or ys j None)
-one_more_holds {A} P xs ys x i e many before here j h = elim (cases_lt j i) [
-  | inl less ↦ subst (λ (t : Option A). P j t)
-      (sym (ap (λ (t : List (Option A)). get_or t j None) e
-      ∙ get_or_append_left xs (x ∷ []) None j (omega (arith, many, less)))) (before j less)
-  | inr last ↦
-      let same : i ≡ j = omega (arith, h, last) in
-      subst₂ (λ n (t : Option A). P n t) same
-      (sym (ap₂ (λ (t : List (Option A)) n. get_or t n None) e (sym (many ∙ same)) ∙ get_or-append_seam xs x [] None))
-      here
-]

@@ -1,6 +1,7 @@
 -- The ends hold the declared joint mean.
 use Rattle.dl_common.proofs.Common.{rules, ◌∙◌, ap, sym, arith, Fraction, scale_of}
-use Rattle.dl_common.proofs.JointEnds.{poisson_unbounded, some_positive, scaled_fits, ends_width, ends_hold, none_hold, low_within}
+use Rattle.dl_plan.proofs.Shared.{poisson_unbounded}
+use Rattle.dl_common.proofs.JointEnds.{some_positive, scaled_fits, ends_width, ends_hold, none_hold, low_within}
 use Rattle.dl_common.proofs.joint.common_joint.Goals as goal
 
 pub point-requires : goal.point-requires

@@ -1,15 +1,32 @@
--- A part of all claims is at most 1 and fine, and so is not refused.
-use Rattle.dl_common.proofs.Common.{◌∙◌, ap, sym, subst, FitsFrac, ◌/ℚ◌, given_ok, given_value}
-use Rattle.dl_common.proofs.Units.{share_fits, shares_step}
+-- A part of all claims is at most 1, and where it is fine it is not refused.
+use Rattle.dl_common.proofs.Common.{◌∙◌, ap, sym, subst, FitsFrac, UnitOfPlan, HasPartsOf48Bits, expected_count, lent, ◌/ℚ◌, given_value}
+use Rattle.dl_plan.specs.Common.{CanShare}
+use Rattle.dl_common.proofs.Units.{share_fits, shares_step, lent_inside, lent_item, of_each, poisson_counts, not_refused}
 use Rattle.dl_common.proofs.shares.shares.Goals as goal
 
-pub unwrap-requires : goal.unwrap-requires
-unwrap-requires c = given_ok _ _ c.div.ensures
+pub expected-requires-clause-count : goal.expected-requires-clause-count
+expected-requires-clause-count c = poisson_counts _ (of_each CanShare c.args.units.now c.units.unit-index
+    c.unit-item.result c.units-test.true c.unit-item.is c.requires.poisson).count
+
+pub expected-requires-clause-admitted : goal.expected-requires-clause-admitted
+expected-requires-clause-admitted c = of_each (λ (u : UnitOfPlan). HasPartsOf48Bits (expected_count u.freq))
+    c.args.units.now c.units.unit-index c.unit-item.result c.units-test.true c.unit-item.is c.requires.each
+
+pub returns-in_default-clause-there : goal.returns-in_default-clause-there
+returns-in_default-clause-there c fine =
+    let units = c.args.units.now in
+    absurd (not_refused _ _ _ c.div.ensures c.in_default.is
     (subst FitsFrac (sym (ap (λ n. n /ℚ c.args.all) c.expected.ensures))
-    (share_fits c.args.units.now c.args.all c.units.unit-index c.unit-item.result c.units-test.true c.unit-item.is
-    c.requires.all c.requires.some c.requires.fine))
+    (share_fits (lent units) c.args.all c.units.unit-index c.unit-item.result.now
+    (lent_inside units c.units.unit-index c.units-test.true)
+    (lent_item units c.units.unit-index c.unit-item.result c.units-test.true c.unit-item.is)
+    c.requires.all c.requires.some fine)))
 
 pub units-preserved : goal.units-preserved
-units-preserved c = shares_step c.args.units.now c.args.all c.units.unit-index c.unit-item.result c.units.made.items
-    _ c.unwrap.result c.units-test.true c.unit-item.is c.units.invariant c.in_ok-push.ensures.items
-    (given_value _ _ c.unwrap.result c.div.ensures c.unwrap.ensures ∙ ap (λ n. n /ℚ c.args.all) c.expected.ensures)
+units-preserved c =
+    let units = c.args.units.now in
+    shares_step (lent units) c.args.all c.units.unit-index c.unit-item.result.now c.units.made.items _ c.in-Ok.share
+    (lent_inside units c.units.unit-index c.units-test.true)
+    (lent_item units c.units.unit-index c.unit-item.result c.units-test.true c.unit-item.is)
+    c.units.invariant c.in_ok-push.ensures.items
+    (given_value _ _ c.in-Ok.share c.div.ensures c.in-Ok.is ∙ ap (λ n. n /ℚ c.args.all) c.expected.ensures)

@@ -1,0 +1,9 @@
+-- All of them can be pooled.
+use Rattle.dl_common.proofs.Common.{sym, subst, take, All}
+use Rattle.dl_plan.specs.Common.{CanShare}
+use Rattle.dl_common.proofs.Units.{sharing_share}
+use Rattle.dl_common.proofs.shares.sharing.Goals as goal
+
+pub returns-clause-can_share : goal.returns-clause-can_share
+returns-clause-can_share c =
+    subst (All CanShare) (sym c.units.invariant) (sharing_share (take c.units.unit-index c.args.units.now))
