@@ -1,5 +1,5 @@
 -- A grid from two lists that hold the ends of all cells is these cells.
-use Rattle.dl_panjer.proofs.Common.{ℕ, ◌≡◌, ◌+◌, ◌<◌, ◌≤◌, ◌∙◌, List, length, take, get_or, sym, ap, ap₂, [], ◌∷◌, ◌++◌, map, map_more, take_all, Iv, low_ends, high_ends, IsGrid, AreEnds, ends_of_grid, same_cells}
+use Rattle.dl_panjer.proofs.Common.{ℕ, ◌≡◌, ◌≤◌, ◌∙◌, List, length, take, ap, map, take_all, Iv, low_ends, high_ends, IsGrid, AreEnds, ends_of_grid, same_cells}
 
 pub both_lists : {B : ℕ} (cells : List (Iv B)) (n : ℕ) (lows highs : List ℕ) → IsGrid cells → length cells ≤ n
     → lows ≡ map (λ t. t.lo) (take n cells) → highs ≡ map (λ t. t.hi) (take n cells) → AreEnds B lows highs

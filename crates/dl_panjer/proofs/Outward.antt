@@ -1,5 +1,5 @@
 -- The two roundings of a Poisson and of a geometric grid are outward.
-use Rattle.dl_panjer.proofs.Common.{◌≡◌, ◌⊎◌, inl, inr, ℕ, suc, ◌*◌, ◌/◌, ◌^◌, ◌<◌, ◌≤◌, Bool, true, false, List, length, arith, refl, sym, ap, ◌∙◌, mul-pos, zero-lt-suc, cases_lt, div_ceil, Fraction, ◌over◌, ◌+ℚ◌, ◌*ℚ◌, ◌/ℚ◌, ◌≤ℚ◌, ◌<ℚ◌, whole, IsFloor, over_same, over_mul, one_pos, ring, zero_times, le_refl, le_trans, whole_pos, times_cancel, div_times, over_times_whole, times_le_both, floor_div, ceiling_div, sum_pairs_same, sum_pairs_times, from_before, Iv, low_at, high_at, Item, weight_at, coefficient, next_sum, FollowsOutward, FollowsRounded, min-eq_right, times_assoc, times_comm, mul_comm, zero_plus, plus_zero, count_pairs, IsCeilingWithin, times_right_comm}
+use Rattle.dl_panjer.proofs.Common.{◌≡◌, ◌⊎◌, inl, inr, ℕ, suc, ◌*◌, ◌/◌, ◌^◌, ◌<◌, ◌≤◌, Bool, true, false, List, length, arith, refl, sym, ap, ◌∙◌, zero-lt-suc, cases_lt, div_ceil, Fraction, ◌over◌, ◌+ℚ◌, ◌*ℚ◌, ◌/ℚ◌, ◌≤ℚ◌, ◌<ℚ◌, whole, IsFloor, ring, zero_times, le_refl, le_trans, whole_pos, times_cancel, div_times, over_times_whole, times_le_both, floor_div, ceiling_div, sum_pairs_same, sum_pairs_times, from_before, Iv, low_at, high_at, Item, weight_at, coefficient, next_sum, FollowsOutward, FollowsRounded, min-eq_right, times_assoc, times_comm, mul_comm, zero_plus, plus_zero, IsCeilingWithin, times_right_comm}
 use Rattle.dl_exact.proofs.Denominators.{over_times}
 use Rattle.dl_exact.proofs.SumsOver.{sum_pairs_over}
 use Rattle.dl_exact.specs.Sum.{sum_pairs}

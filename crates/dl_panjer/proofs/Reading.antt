@@ -1,5 +1,5 @@
 -- What the items of a slice and the cells that they leave are.
-use Rattle.dl_panjer.proofs.Common.{ℕ, ◌≡◌, ◌+◌, ◌-◌, ◌*◌, ◌^◌, ◌<◌, ◌≤◌, Bool, List, length, get_or, take, drop, arith, sym, ap₂, subst, ◌∙◌, All, sum_by, sum_by-take-le, Iv, low_at, high_at, one_fits, low_at_read, high_at_read, Item, weight_sum, counted, given, low_le_high, get_or-map, get_or-take, get_or-drop, length-map, length-take-le, length-drop, sum_by_more, high_le, amounts_of}
+use Rattle.dl_panjer.proofs.Common.{ℕ, ◌≡◌, ◌+◌, ◌-◌, ◌*◌, ◌^◌, ◌<◌, ◌≤◌, Bool, List, length, get_or, take, drop, arith, sym, ap₂, subst, ◌∙◌, All, sum_by, sum_by-take-le, Iv, low_at, high_at, one_fits, low_at_read, high_at_read, Item, weight_sum, counted, given, low_le_high, get_or-map, get_or-take, get_or-drop, length-map, length-take-le, length-drop, sum_by_more, high_le, amounts_of, mass_fits, IsGridSize}
 use Rattle.std.specs.List.Sorted.{IsStrictlyIncreasing, IsNonDecreasingBy}
 use Rattle.std.proofs.lemmas.List.Sorted.{IsNonDecreasingBy-from_all_adjacent}
 use Rattle.std.proofs.Math.Nat.{mul-le-mul}
@@ -40,34 +40,59 @@ low_at_most cells small x = omega (arith, low_le_high cells x, high_at_most cell
 
 -- ---- one item's part of the sums
 
--- an amount leads to the next cell from one that is there
-pub leaves : (next amount : ℕ) → 1 ≤ next → 0 < amount → next - amount < next
-leaves next amount some positive = omega (arith, some, positive)
+-- one item more, whose factor is multiplied by one of the ends
+more : (b : Bool) (ends : ℕ → ℕ) (next : ℕ) (items : List Item) (i : ℕ) (d : Item) (factor end part total : ℕ)
+    → i < length items → factor ≡ counted b (get_or items i d).amount (get_or items i d).weight
+    → end ≡ ends (next - (get_or items i d).amount) → part ≡ factor * end
+    → total ≡ sum_by (given b ends next) (take i items) → total + part ≡ sum_by (given b ends next) (take (i + 1) items)
+more b ends next items i d factor end part total at counts is made before = omega (
+  arith,
+  sum_by_more (given b ends next) items i d at,
+  made ∙ ap₂ (λ s t. s * t) counts is,
+  before,
+)
 
-module _ {B : ℕ} (cells : List (Iv B)) (scale : B ≤ 56) (small : All (λ cell. cell.hi ≤ 2 ^ B) cells) (x : ℕ)
-    (cell : Iv B) (there : x < length cells) (is : cell ≡ get_or cells x cell) where
+-- what the first items add up to
+few_fit : (b : Bool) (ends : ℕ → ℕ) (next S : ℕ) (items : List Item) (i : ℕ) → 1 ≤ next → next * S ≤ 2 ^ 70
+    → ((k : ℕ) → ends k ≤ S) → All (λ item. item.amount ≤ next) items → weight_sum items ≤ most_parts
+    → sum_by (given b ends next) (take i items) < 2 ^ 128
+few_fit b ends next S items i some many bound near within =
+    let top : next * S * weight_sum items ≤ 2 ^ 70 * 2 ^ 30 = mul-le-mul many within in
+    omega (arith, sum_by-take-le (given b ends next) items i, items_fit b next S ends items some bound near, top)
+
+-- item i, and the cell that it leaves
+module _ (b : Bool) {B : ℕ} (cells : List (Iv B)) (items : List Item) (size : IsGridSize B (length cells))
+    (small : All (λ cell. cell.hi ≤ 2 ^ B) cells) (positive : All (λ item. 0 < item.amount) items) (i : ℕ) (d : Item)
+    (at : i < length items) {factor : ℕ} (counts : factor ≡ counted b (get_or items i d).amount (get_or items i d).weight)
+    {cell : Iv B} (is : cell ≡ get_or cells (length cells - (get_or items i d).amount) cell) where
+  there : length cells - (get_or items i d).amount < length cells
+  there = omega (arith, size.some, positive i d at)
+
   pub low_small : cell.lo ≤ 2 ^ 56
-  low_small = omega (arith, low_at_read cells x cell there is, low_at_most cells small x, one_fits B scale)
+  low_small = omega (arith, low_at_read cells _ cell there is, low_at_most cells small (length cells - (get_or items i d).amount), one_fits B size.scale_below)
 
   pub high_small : cell.hi ≤ 2 ^ 56
-  high_small = omega (arith, high_at_read cells x cell there is, high_at_most cells small x, one_fits B scale)
+  high_small = omega (arith, high_at_read cells _ cell there is, high_at_most cells small (length cells - (get_or items i d).amount), one_fits B size.scale_below)
 
--- one item more, whose factor is multiplied by one of the ends
-module _ (b : Bool) (ends : ℕ → ℕ) (next : ℕ) (items : List Item) (i : ℕ) (d : Item) (at : i < length items)
-    (factor end part total : ℕ) (counts : factor ≡ counted b (get_or items i d).amount (get_or items i d).weight)
-    (is : end ≡ ends (next - (get_or items i d).amount)) (made : part ≡ factor * end)
-    (before : total ≡ sum_by (given b ends next) (take i items)) where
-  pub more : total + part ≡ sum_by (given b ends next) (take (i + 1) items)
-  more = omega (
-    arith,
-    sum_by_more (given b ends next) items i d at,
-    made ∙ ap₂ (λ s t. s * t) counts is,
-    before,
-  )
+  pub low_more : {part total : ℕ} → part ≡ factor * cell.lo
+      → total ≡ sum_by (given b (low_at cells) (length cells)) (take i items)
+      → total + part ≡ sum_by (given b (low_at cells) (length cells)) (take (i + 1) items)
+  low_more = more b (low_at cells) (length cells) items i d factor cell.lo _ _ at counts
+      (low_at_read cells _ cell there is)
 
-  pub fits : (S : ℕ) → 1 ≤ next → next * S ≤ 2 ^ 70 → ((k : ℕ) → ends k ≤ S) → All (λ item. item.amount ≤ next) items
-      → weight_sum items ≤ most_parts → total + part < 2 ^ 128
-  fits S some many bound near within =
-      let sum = items_fit b next S ends items some bound near in
-      let top : next * S * weight_sum items ≤ 2 ^ 70 * 2 ^ 30 = mul-le-mul many within in
-      omega (arith, more, sum_by-take-le (given b ends next) items (i + 1), sum, top)
+  pub high_more : {part total : ℕ} → part ≡ factor * cell.hi
+      → total ≡ sum_by (given b (high_at cells) (length cells)) (take i items)
+      → total + part ≡ sum_by (given b (high_at cells) (length cells)) (take (i + 1) items)
+  high_more = more b (high_at cells) (length cells) items i d factor cell.hi _ _ at counts
+      (high_at_read cells _ cell there is)
+
+  module _ (near : All (λ item. item.amount ≤ length cells) items) (within : weight_sum items ≤ most_parts) where
+    pub low_fits : {part total : ℕ} → part ≡ factor * cell.lo
+        → total ≡ sum_by (given b (low_at cells) (length cells)) (take i items) → total + part < 2 ^ 128
+    low_fits made before = rw (low_more made before) (few_fit b (low_at cells) (length cells) (2 ^ B) items (i + 1)
+        size.some (mass_fits size) (low_at_most cells small) near within)
+
+    pub high_fits : {part total : ℕ} → part ≡ factor * cell.hi
+        → total ≡ sum_by (given b (high_at cells) (length cells)) (take i items) → total + part < 2 ^ 128
+    high_fits made before = rw (high_more made before) (few_fit b (high_at cells) (length cells) (2 ^ B) items (i + 1)
+        size.some (mass_fits size) (high_at_most cells small) near within)

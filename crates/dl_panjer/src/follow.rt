@@ -37,35 +37,27 @@ pub fn next_cell<const B: u32, const BY_AMOUNT: bool>(
     ensures high { result.hi ≡ high_next (2 ^ B) BY_AMOUNT items.now total rate (high_at cells.now)
         (length cells.now - 1) }
 {
-    let (low, high) = sums_before::<B, BY_AMOUNT>(items, cells);
-    let total = u128::from(total);
+    let sums = sums_before::<B, BY_AMOUNT>(items, cells);
     let num = u128::from(rate.num());
     let den = divisor::<BY_AMOUNT>(rate.den(), cells.len());
-    Iv {
-        lo: low_end(low, total, num, den),
-        hi: high_end::<B>(high, total, num, den),
-    }
+    let (lo, hi) = ends_of::<B>(sums, u128::from(total), num, den);
+    Iv { lo, hi }
 }
 
-/// The low end that a sum gives: over the total weight and times the rate, by two floors.
-fn low_end(sum: u128, total: u128, num: u128, den: u128) -> u128
-    requires total { 0 < total }
-    requires den { 0 < den }
-    requires fits { div_ceil sum total * num < 2 ^ 128 }
-    ensures { result ≡ sum / total * num / den }
-{
-    sum / total * num / den
-}
-
-/// The high end that a sum gives: by two ceilings, and at most 1.
-fn high_end<const B: u32>(sum: u128, total: u128, num: u128, den: u128) -> u128
+/// The ends that two sums give, over the total weight and times the rate: the low end by two floors,
+/// the high one by two ceilings and at most 1.
+fn ends_of<const B: u32>(sums: (u128, u128), total: u128, num: u128, den: u128) -> (u128, u128)
     requires scale { B ≤ 56 }
     requires total { 0 < total }
     requires den { 0 < den }
-    requires fits { div_ceil sum total * num < 2 ^ 128 }
-    ensures { result ≡ min (2 ^ B) (div_ceil (div_ceil sum total * num) den) }
+    requires ordered { sums.0 ≤ sums.1 }
+    requires fits { div_ceil sums.1 total * num < 2 ^ 128 }
+    ensures low { result.0 ≡ sums.0 / total * num / den }
+    ensures high { result.1 ≡ min (2 ^ B) (div_ceil (div_ceil sums.1 total * num) den) }
 {
-    units_of_one(B).min((sum.div_ceil(total) * num).div_ceil(den))
+    let (low, high) = sums;
+    let high = (high.div_ceil(total) * num).div_ceil(den);
+    (low / total * num / den, units_of_one(B).min(high))
 }
 
 /// By what the rate's first part is divided at cell `number`.

@@ -7,9 +7,7 @@ ghost use Rattle.dl_exact.specs.Count.{count_pairs};
 ghost use Rattle.dl_plan.specs.Weighted.{weight_at, weight_sum, greatest};
 ghost use Rattle.dl_power.specs.Powers.{EnclosesListed};
 
-use crate::halves::by_halves;
 use crate::listed::Listed;
-use crate::powers::power_with;
 use crate::shares::{greatest_of, share, weight_of};
 use crate::widths::spread_of_counts;
 use dl_grid::{Grid, empty_grid, units_of_one};
@@ -81,83 +79,32 @@ fn share_of<const B: u32>(table: &[Item], count: u32, total: u32) -> Iv<B>
     share(weight_of(table, u64::from(count)), total)
 }
 
-/// The sum of a listed number of claims by Horner's rule: it goes from the greatest number down,
-/// with one product for each number below it. Besides the base two grids are held at a time.
-fn by_horner<const B: u32>(
-    alloc: Global,
-    work: &mut Workspace,
-    listed: Listed<B>,
-) -> Result<Grid<B>, AllocError>
-    ensures cells { IfOk result (λ g. length g ≡ listed.entry.cells) }
-    ensures encloses { IfOk result (λ g.
-        EnclosesListed listed.entry.base.now listed.entry.table.now g) }
-    ensures spread { IfOk result (λ g. spread g ≤ mixed_spread (2 ^ B) listed.entry.cells
-        (spread listed.entry.base.now) (greatest listed.entry.table.now)) }
-{
-    let Listed {
-        base,
-        table,
-        total,
-        cells,
-    } = listed;
-    base.cells();
-    let greatest = greatest_of(table);
-    let mut grid = empty_grid(alloc, cells)?;
-    add_at_zero(&mut grid, share_of(table, greatest, total));
-    for step in 0..greatest {
-        let count = greatest - step - 1;
-        let share = share_of(table, count, total);
-        grid = one_claim_more(alloc, work, base, &grid, share, cells)?;
+impl<const B: u32> Listed<'_, B> {
+    /// The sum by Horner's rule: it goes from the greatest number down, with one product for each
+    /// number below it. Besides the base two grids are held at a time.
+    fn by_horner(self, alloc: Global, work: &mut Workspace) -> Result<Grid<B>, AllocError>
+        ensures cells { IfOk result (λ g. length g ≡ self.entry.cells) }
+        ensures encloses { IfOk result (λ g.
+            EnclosesListed self.entry.base.now self.entry.table.now g) }
+        ensures spread { IfOk result (λ g. spread g ≤ mixed_spread (2 ^ B) self.entry.cells
+            (spread self.entry.base.now) (greatest self.entry.table.now)) }
+    {
+        self.base.cells();
+        let greatest = greatest_of(self.table);
+        let mut grid = empty_grid(alloc, self.cells)?;
+        add_at_zero(&mut grid, share_of(self.table, greatest, self.total));
+        for step in 0..greatest {
+            let share = share_of(self.table, greatest - step - 1, self.total);
+            grid = one_claim_more(alloc, work, self.base, &grid, share, self.cells)?;
+        }
+        Ok(grid)
     }
-    Ok(grid)
-}
-
-/// The sum of a listed number of claims by halves; where one number is listed it is a power.
-fn by_fewer<const B: u32>(
-    alloc: Global,
-    work: &mut Workspace,
-    listed: Listed<B>,
-) -> Result<Grid<B>, AllocError>
-    ensures cells { IfOk result (λ g. length g ≡ listed.entry.cells) }
-    ensures encloses { IfOk result (λ g.
-        EnclosesListed listed.entry.base.now listed.entry.table.now g) }
-{
-    if listed.table.len() == 1 {
-        return power_with(
-            alloc,
-            work,
-            listed.base,
-            listed.table[0].amount,
-            listed.cells,
-        );
-    }
-    by_halves(alloc, work, listed)
 }
 
 /// The first `cells` cells of the sum of a listed number of claims: `table` has the numbers of
-/// claims, each with its weight out of `total`, and `base` is the grid of one claim.
+/// claims, each with its weight out of `total`, and `base` is the grid of one claim. It is made by
+/// halves; where that comes out wider than by Horner's rule it may be, by Horner's rule.
 pub fn mix_counts<const B: u32>(
-    alloc: Global,
-    base: &Grid<B>,
-    table: &[Item],
-    total: u32,
-    cells: u32,
-) -> Result<Grid<B>, AllocError>
-    requires sum { weight_sum table.now ≡ total }
-    requires positive { 0 < total }
-    requires some { 1 ≤ cells }
-    requires within { cells ≤ length base.now }
-    ensures cells { IfOk result (λ g. length g ≡ cells) }
-    ensures encloses { IfOk result (λ g. EnclosesListed base.now table.now g) }
-    ensures spread { IfOk result (λ g. spread g ≤ mixed_spread (2 ^ B) cells (spread base.now)
-        (greatest table.now)) }
-{
-    mix_counts_with(alloc, &mut Workspace::new(alloc), base, table, total, cells)
-}
-
-/// The same sum, by products in a workspace that is lent: by halves; where that comes out wider than
-/// by Horner's rule it may be, by Horner's rule.
-pub fn mix_counts_with<const B: u32>(
     alloc: Global,
     work: &mut Workspace,
     base: &Grid<B>,
@@ -180,11 +127,11 @@ pub fn mix_counts_with<const B: u32>(
         total,
         cells,
     };
-    let grid = by_fewer(alloc, work, listed)?;
+    let grid = listed.by_halves(alloc, work)?;
     if let Some(most) = spread_of_counts::<B>(base.spread(), greatest_of(table), cells) {
         if grid.spread() <= most {
             return Ok(grid);
         }
     }
-    by_horner(alloc, work, listed)
+    listed.by_horner(alloc, work)
 }

@@ -10,6 +10,7 @@ ghost use Rattle.dl_power.specs.Powers.{EnclosesListed, Between, AreParts, ArePa
 
 use crate::blocks::{blocks_of, next_power, powers_to};
 use crate::listed::Listed;
+use crate::powers::power;
 use crate::shares::greatest_of;
 use crate::short::{end_at, extended, short_product, short_square};
 use dl_grid::{Grid, units_of_one};
@@ -96,36 +97,43 @@ fn levels_of(greatest: u32) -> u32
     (greatest.saturating_add(1).ilog2() / 2).saturating_sub(1)
 }
 
-/// The sum of a listed number of claims, by about twice as many products as the square root of the
-/// greatest number says, most of them of short lists. It holds as many grids as that.
-pub(crate) fn by_halves<const B: u32>(
-    alloc: Global,
-    work: &mut Workspace,
-    listed: Listed<B>,
-) -> Result<Grid<B>, AllocError>
-    ensures cells { IfOk result (λ g. length g ≡ listed.entry.cells) }
-    ensures encloses { IfOk result (λ g.
-        EnclosesListed listed.entry.base.now listed.entry.table.now g) }
-{
-    let Listed {
-        base,
-        table,
-        total,
-        cells,
-    } = listed;
-    base.cells();
-    let greatest = greatest_of(table);
-    let levels = levels_of(greatest);
-    let blocks = 2 << levels;
-    let most = (greatest / blocks).max(1);
-    let powers = powers_to(alloc, work, base, most as usize, cells)?;
-    let mut step = next_power(alloc, work, powers.as_slice(), cells)?;
-    let mut parts = blocks_of(alloc, powers.as_slice(), table, total, blocks, cells)?;
-    drop(powers);
-    for _ in 0..levels {
-        parts = paired(alloc, work, parts.as_slice(), &step, cells)?;
-        step = short_square(alloc, work, &step, cells)?;
+impl<const B: u32> Listed<'_, B> {
+    /// The sum by halves, with about twice as many products as the square root of the greatest
+    /// number says, most of them of short lists. It holds as many grids as that. Where one number
+    /// is listed it is a power.
+    pub(crate) fn by_halves(
+        self,
+        alloc: Global,
+        work: &mut Workspace,
+    ) -> Result<Grid<B>, AllocError>
+        ensures cells { IfOk result (λ g. length g ≡ self.entry.cells) }
+        ensures encloses { IfOk result (λ g.
+            EnclosesListed self.entry.base.now self.entry.table.now g) }
+    {
+        if self.table.len() == 1 {
+            return power(alloc, work, self.base, self.table[0].amount, self.cells);
+        }
+        self.base.cells();
+        let greatest = greatest_of(self.table);
+        let levels = levels_of(greatest);
+        let blocks = 2 << levels;
+        let most = (greatest / blocks).max(1);
+        let powers = powers_to(alloc, work, self.base, most as usize, self.cells)?;
+        let mut step = next_power(alloc, work, powers.as_slice(), self.cells)?;
+        let mut parts = blocks_of(
+            alloc,
+            powers.as_slice(),
+            self.table,
+            self.total,
+            blocks,
+            self.cells,
+        )?;
+        drop(powers);
+        for _ in 0..levels {
+            parts = paired(alloc, work, parts.as_slice(), &step, self.cells)?;
+            step = short_square(alloc, work, &step, self.cells)?;
+        }
+        let whole = block_with_later(alloc, work, &parts[0], &step, &parts[1], self.cells)?;
+        extended(alloc, &whole, self.cells)
     }
-    let whole = block_with_later(alloc, work, &parts[0], &step, &parts[1], cells)?;
-    extended(alloc, &whole, cells)
 }

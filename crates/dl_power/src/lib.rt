@@ -15,5 +15,5 @@ mod short;
 mod widths;
 
 pub use claims::claim_grid;
-pub use counts::{mix_counts, mix_counts_with};
-pub use powers::{power, power_with};
+pub use counts::mix_counts;
+pub use powers::power;

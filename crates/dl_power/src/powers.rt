@@ -14,23 +14,6 @@ use std::alloc::{AllocError, Global};
 /// digit of `n`. Besides the base at most two grids are held at a time.
 pub fn power<const B: u32>(
     alloc: Global,
-    base: &Grid<B>,
-    n: u32,
-    cells: u32,
-) -> Result<Grid<B>, AllocError>
-    requires some { 1 ≤ cells }
-    requires within { cells ≤ length base.now }
-    ensures cells { IfOk result (λ g. length g ≡ cells) }
-    ensures encloses { IfOk result (λ g. (F : Family) → IsProper F → GridEncloses base.now F
-        → GridEncloses g (times_itself F n)) }
-    ensures spread { IfOk result (λ g. spread g ≤ power_spread (2 ^ B) cells (spread base.now) n) }
-{
-    power_with(alloc, &mut Workspace::new(alloc), base, n, cells)
-}
-
-/// The same power, by products in a workspace that is lent.
-pub fn power_with<const B: u32>(
-    alloc: Global,
     work: &mut Workspace,
     base: &Grid<B>,
     n: u32,
@@ -50,7 +33,7 @@ pub fn power_with<const B: u32>(
     if n == 1 {
         return Grid::truncate(alloc, base, cells);
     }
-    let half = power_with(alloc, work, base, n / 2, cells)?;
+    let half = power(alloc, work, base, n / 2, cells)?;
     let even = square(alloc, work, &half, cells)?;
     drop(half);
     if n % 2 == 0 {

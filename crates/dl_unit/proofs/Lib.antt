@@ -1,7 +1,6 @@
 mod Common
 pub mod Severities
 pub mod Families
-pub mod Sizes
 pub mod Widths
 pub mod Positive
 pub mod Places

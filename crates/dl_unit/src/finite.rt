@@ -11,7 +11,7 @@ use crate::trial::one_trial;
 use dl_frac::Frac;
 use dl_grid::Grid;
 use dl_plan::{Item, Sev};
-use dl_power::{mix_counts_with, power_with};
+use dl_power::{mix_counts, power};
 use dl_product::Workspace;
 use std::alloc::{AllocError, Global};
 
@@ -30,7 +30,7 @@ pub(crate) fn fixed_claims<const B: u32>(
     ensures spread { IfOk result (λ g. spread g ≤ power_spread (2 ^ B) cells (length sev.now.items) claims) }
 {
     let claim = one_claim(alloc, sev, cells)?;
-    power_with(alloc, work, &claim, claims, cells)
+    power(alloc, work, &claim, claims, cells)
 }
 
 /// The grid of a listed number of claims: `counts` has each with its weight out of `total`.
@@ -52,7 +52,7 @@ pub(crate) fn listed_claims<const B: u32>(
         spread g ≤ mixed_spread (2 ^ B) cells (length sev.now.items) (greatest counts.now)) }
 {
     let claim = one_claim(alloc, sev, cells)?;
-    mix_counts_with(alloc, work, &claim, counts, total, cells)
+    mix_counts(alloc, work, &claim, counts, total, cells)
 }
 
 /// The grid of `trials` trials, each a claim with probability `q`.
@@ -73,5 +73,5 @@ pub(crate) fn binomial_claims<const B: u32>(
         spread g ≤ power_spread (2 ^ B) cells (3 * (length sev.now.items + 1)) trials) }
 {
     let trial = one_trial(alloc, sev, q, cells)?;
-    power_with(alloc, work, &trial, trials, cells)
+    power(alloc, work, &trial, trials, cells)
 }

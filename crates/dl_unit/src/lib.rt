@@ -15,4 +15,4 @@ mod unit;
 pub use law::law_trials;
 pub use none::none_of;
 pub use unbounded::{gamma_claims, poisson_claims};
-pub use unit::{unit_grid, unit_grid_with};
+pub use unit::unit_grid_with;

@@ -15,7 +15,7 @@ use dl_frac::Frac;
 use dl_grid::Grid;
 use dl_panjer::{geometric_base, poisson_base};
 use dl_plan::{Freq, Sev};
-use dl_power::power_with;
+use dl_power::power;
 use dl_product::Workspace;
 use std::alloc::{AllocError, Global};
 
@@ -61,7 +61,7 @@ pub fn poisson_claims<const B: u32>(
 {
     let halvings = halvings(mean);
     let base = poisson_base(alloc, sev, mean, halvings, cells)?;
-    power_with(alloc, work, &base, 1 << halvings, cells)
+    power(alloc, work, &base, 1 << halvings, cells)
 }
 
 /// The grid of a gamma number of claims above 0: that of `shape` sums of a geometric number of
@@ -86,5 +86,5 @@ pub fn gamma_claims<const B: u32>(
     ensures spread { IfOk result (λ g. spread g ≤ gamma_budget (2 ^ B) cells shape mean) }
 {
     let base = geometric_base(alloc, sev, mean, shape, cells)?;
-    power_with(alloc, work, &base, shape, cells)
+    power(alloc, work, &base, shape, cells)
 }

@@ -12,7 +12,8 @@ use dl_common::{common_joint, pool, raised};
 use dl_frac::Frac;
 use dl_lexer::Text;
 use dl_plan::{Freq, Item, Items, Plan, Sev, Unit};
-use dl_unit::unit_grid;
+use dl_product::Workspace;
+use dl_unit::unit_grid_with;
 use std::alloc::{AllocError, Global};
 
 /// What a claim comes to.
@@ -127,7 +128,7 @@ fn joint_digits(alloc: Global, plan: &Plan, i: usize, x: u32) -> Result<(u128, u
     requires inside { x < 16 }
 {
     let (_one, more) = one_and_more(alloc, plan)?;
-    let grid = unit_grid::<56>(alloc, &more, 16)?;
+    let grid = unit_grid_with::<56>(alloc, &mut Workspace::new(alloc), &more, 16)?;
     Ok(common_joint(&plan.units.as_slice()[i], &grid, x).print_ends(9))
 }
 

@@ -6,6 +6,7 @@ use crate::tests::helpers::DIE;
 use dl_grid::Grid;
 use dl_plan::Item;
 use dl_power::{claim_grid, mix_counts, power};
+use dl_product::Workspace;
 use std::alloc::{AllocError, Global};
 
 /// The ends of the cells from 0 to 12, and the spread of the whole grid.
@@ -264,7 +265,7 @@ fn sum_of<const B: u32>(alloc: Global, dice: u32, cells: u32) -> Result<Grid<B>,
     requires few { cells ≤ 1537 }
 {
     let die = die::<B>(alloc, cells)?;
-    power(alloc, &die, dice, cells)
+    power(alloc, &mut Workspace::new(alloc), &die, dice, cells)
 }
 
 /// Whether the sum of so many dice has the ends that were worked out.
@@ -282,7 +283,14 @@ fn mixed_sum<const B: u32>(alloc: Global) -> Result<Grid<B>, AllocError>
     requires scale_below { B ≤ 56 }
 {
     let die = die::<B>(alloc, 13)?;
-    mix_counts(alloc, &die, &[item(0, 1), item(1, 1), item(2, 1)], 3, 13)
+    mix_counts(
+        alloc,
+        &mut Workspace::new(alloc),
+        &die,
+        &[item(0, 1), item(1, 1), item(2, 1)],
+        3,
+        13,
+    )
 }
 
 /// Whether the sums of dice are those that were worked out, at one scale.
@@ -320,7 +328,7 @@ const COUNTED: [(u32, u128, u128); 7] = [
 fn in_blocks(alloc: Global) -> Result<Grid<56>, AllocError> {
     let counts = [item(0, 1), item(3, 2), item(4, 1), item(5, 3), item(8, 1)];
     let die = die::<56>(alloc, 49)?;
-    mix_counts(alloc, &die, &counts, 8, 49)
+    mix_counts(alloc, &mut Workspace::new(alloc), &die, &counts, 8, 49)
 }
 
 /// Whether the cells of counts that take two blocks hold what was worked out.
@@ -367,7 +375,7 @@ fn by_halves(alloc: Global) -> Result<Grid<56>, AllocError> {
         item(256, 1),
     ];
     let die = die::<56>(alloc, 1537)?;
-    mix_counts(alloc, &die, &counts, 8, 1537)
+    mix_counts(alloc, &mut Workspace::new(alloc), &die, &counts, 8, 1537)
 }
 
 /// Whether the cells of counts that take 16 blocks hold what was worked out, as closely as whole
@@ -394,7 +402,7 @@ fn counts_by_halves(rt: HostRuntime) -> Result<(), AllocError> {
 fn some_dice(alloc: Global) -> Result<Grid<56>, AllocError> {
     let counts = [item(0, 1), item(16, 2), item(100, 1)];
     let die = die::<56>(alloc, 601)?;
-    mix_counts(alloc, &die, &counts, 4, 601)
+    mix_counts(alloc, &mut Workspace::new(alloc), &die, &counts, 4, 601)
 }
 
 /// Whether the sum of none, 16 or 100 dice meets the mixture of its powers in each cell past 0.

@@ -13,7 +13,7 @@ use dl_lexer::Text;
 use dl_plan::{Freq, Item, Items, Sev, Unit};
 use dl_product::Workspace;
 use dl_recursion::{gamma_direct, poisson_direct};
-use dl_unit::{gamma_claims, poisson_claims, unit_grid};
+use dl_unit::{gamma_claims, poisson_claims, unit_grid_with};
 use std::alloc::{AllocError, Global};
 
 /// Of four claims one comes to 0, two to 1 bucket, and one to 3.
@@ -89,7 +89,7 @@ fn grid_of<const B: u32>(alloc: Global, freq: Freq) -> Result<Grid<B>, AllocErro
     requires bounded { ¬ IsUnbounded freq }
 {
     let unit = unit_with(alloc, freq)?;
-    unit_grid(alloc, &unit, 6)
+    unit_grid_with(alloc, &mut Workspace::new(alloc), &unit, 6)
 }
 
 /// Each cell holds its part of `total`, within 10 units.
@@ -341,7 +341,7 @@ fn is_as_narrow<const B: u32>(alloc: Global) -> Result<bool, AllocError>
     let claim = one_bucket(alloc)?;
     let halved = halved::<B>(alloc, &claim, fraction(8, 1))?;
     let unit = eight_expected(alloc)?;
-    let grid = unit_grid::<B>(alloc, &unit, 16)?;
+    let grid = unit_grid_with::<B>(alloc, &mut Workspace::new(alloc), &unit, 16)?;
     let lows = [
         335462, 2683701, 10734804, 28626144, 57252288, 91603661, 122138215, 139586531, 139586531,
         124076917, 99261533, 72190206, 48126804, 29616494, 16923711, 9025979,
@@ -444,7 +444,7 @@ fn has_digits<const B: u32>(grid: &Grid<B>, cells: &[(u32, u128)]) -> bool {
 #[tactic(auto, unfolding(dl_limits::specs::Limits::most_cells_at))]
 fn is_long(alloc: Global) -> Result<bool, AllocError> {
     let unit = hundred_expected(alloc)?;
-    let grid = unit_grid::<48>(alloc, &unit, 65_536)?;
+    let grid = unit_grid_with::<48>(alloc, &mut Workspace::new(alloc), &unit, 65_536)?;
     let budget = claims_budget::<48>(&unit.freq, &unit.sev, 65_536);
     Ok(has_digits(&grid, &LONG) && budget == 167_674_151 && grid.spread() < budget)
 }

@@ -1,4 +1,4 @@
-use Rattle.dl_panjer.proofs.Common.{ℕ, ◌≡◌, ◌+◌, ◌*◌, ◌/◌, ◌^◌, ◌<◌, ◌≤◌, arith, rules, ap, ap₂, ◌∙◌, div_ceil, ◌over◌, ◌+ℚ◌, ◌/ℚ◌, whole, floor_div, ceiling_div, over_le, one_pos, one_fits}
+use Rattle.dl_panjer.proofs.Common.{ℕ, ◌≡◌, ◌+◌, ◌*◌, ◌/◌, ◌^◌, ◌<◌, ◌≤◌, arith, rules, ap, ap₂, ◌∙◌, div_ceil, ◌+ℚ◌, ◌/ℚ◌, whole, floor_div, ceiling_div, over_le, one_pos, one_fits}
 use Rattle.dl_panjer.proofs.Recursions.{rate_of}
 use Rattle.dl_panjer.proofs.Starts.{ceiling_near, start_small, units_of_reciprocal}
 use Rattle.dl_panjer.proofs.geometric.geometric_start.Goals as goal

@@ -4,12 +4,12 @@ use Rattle.dl_panjer.proofs.Reading.{front, back}
 use Rattle.dl_panjer.proofs.sums.sums_before.Goals as goal
 
 -- what the items that are gone over give is what all of them do
-all_next_sum : (b : Bool) (items : List Item) (r m : ℕ) (ends : ℕ → ℕ) → 1 ≤ m → r ≤ length items
+all_next_sum : (b : Bool) (ends : ℕ → ℕ) (items : List Item) {r m : ℕ} → 1 ≤ m → r ≤ length items
     → All (λ item. 0 < item.amount) items
     → ((k : ℕ) (d : Item) → k < r → (get_or items k d).amount ≤ m)
     → ((k : ℕ) (d : Item) → r ≤ k → k < length items → m < (get_or items k d).amount)
     → sum_by (given b ends m) (take r items) ≡ next_sum (coefficient b items) ends (m - 1)
-all_next_sum b items r m ends some bound positive before after =
+all_next_sum b ends items {r} {m} some bound positive before after =
     let e : m ≡ suc (m - 1) = omega (arith, some) in
     ap (λ k. sum_by (given b ends k) (take r items)) e
     ∙ items_next_sum b (m - 1) r ends items (All-take (λ item. 0 < item.amount) r items positive)
@@ -18,14 +18,12 @@ all_next_sum b items r m ends some bound positive before after =
 
 pub returns-clause-low : goal.returns-clause-low
 returns-clause-low g c =
-    c.sums_over.ensures.low
-    ∙ all_next_sum (not (eqb g.row.BY_AMOUNT 0)) c.args.items.now c.count_at_most.result (length c.args.cells.now)
-    (low_at c.args.cells.now) c.requires.size.some c.count_at_most.ensures.bound c.requires.no_zero c.count_at_most.ensures.before
+    c.sums_over.ensures.low ∙ all_next_sum (not (eqb g.row.BY_AMOUNT 0)) (low_at c.args.cells.now) c.args.items.now
+    c.requires.size.some c.count_at_most.ensures.bound c.requires.no_zero c.count_at_most.ensures.before
     c.count_at_most.ensures.after
 
 pub returns-clause-high : goal.returns-clause-high
 returns-clause-high g c =
-    c.sums_over.ensures.high
-    ∙ all_next_sum (not (eqb g.row.BY_AMOUNT 0)) c.args.items.now c.count_at_most.result (length c.args.cells.now)
-    (high_at c.args.cells.now) c.requires.size.some c.count_at_most.ensures.bound c.requires.no_zero c.count_at_most.ensures.before
+    c.sums_over.ensures.high ∙ all_next_sum (not (eqb g.row.BY_AMOUNT 0)) (high_at c.args.cells.now) c.args.items.now
+    c.requires.size.some c.count_at_most.ensures.bound c.requires.no_zero c.count_at_most.ensures.before
     c.count_at_most.ensures.after

@@ -14,7 +14,6 @@ set_if_inside-requires g c =
         amount = 0;
         weight = 0;
       } c.loop-item-test.true,
-      c.requires.sum,
     ) in
     search (
       rules,
@@ -41,13 +40,7 @@ loop-item-preserved g c =
           (weight_sum (take i items)) _ _ _ c.requires.positive c.loop-item.invariant.mass c.share.ensures.low
           c.set_if_inside.ensures.mass (sum_by_more (λ (t : Item). t.weight) items i record { amount = 0; weight = 0 }
           c.loop-item-test.true);
-      spread = omega (
-        arith,
-        c.set_if_inside.ensures.spread,
-        c.loop-item.invariant.spread,
-        c.share.ensures.low,
-        c.share.ensures.high,
-      );
+      spread = omega arith;
     }
 
 pub returns-clause-encloses : goal.returns-clause-encloses

@@ -16,33 +16,13 @@ pub block_with_later-requires : goal.block_with_later-requires
 block_with_later-requires g c =
     let i : ℕ = c.loop-i.i in
     let inside : 2 * i + 1 < length c.args.parts.now = omega (arith, c.loop-i-test.true) in
-    let p = c.requires.parts in (
-      omega arith,
-      (
-        c.requires.size,
-        (
-          few_at c.args.cells (2 * i) c.args.parts.now c.index-parts-i.result (omega (arith, inside)) c.index-parts-i.is
-              c.requires.few,
-          (
-            c.requires.in_step,
-            (
-              few_at c.args.cells (2 * i + 1) c.args.parts.now c.index-parts-i-in-loop-i.result inside
-                  c.index-parts-i-in-loop-i.is c.requires.few,
-              (
-                p.0,
-                p.1,
-                i * suc (suc p.2 + p.2),
-                p.2,
-                p.2,
-                neighbours c.args.cells p.0 p.1 p.2 c.args.parts.now
-                    c.args.step.now c.index-parts-i.result c.index-parts-i-in-loop-i.result i (2 * i) (2 * i + 1) p.3
-                    refl refl inside c.index-parts-i.is c.index-parts-i-in-loop-i.is,
-              ),
-            ),
-          ),
-        ),
-      ),
-    )
+    let p = c.requires.parts in
+    let few = few_at c.args.cells (2 * i) c.args.parts.now _ (omega (arith, inside)) c.index-parts-i.is c.requires.few in
+    let few-2 = few_at c.args.cells (2 * i + 1) c.args.parts.now _ inside c.index-parts-i-in-loop-i.is c.requires.few in
+    let near = neighbours c.args.cells p.0 p.1 p.2 c.args.parts.now c.args.step.now c.index-parts-i.result
+    c.index-parts-i-in-loop-i.result i (2 * i) (2 * i + 1) p.3 refl refl inside c.index-parts-i.is
+    c.index-parts-i-in-loop-i.is in
+    (omega arith, (c.requires.size, (few, (c.requires.in_step, (few-2, (_, _, _, _, _, near))))))
 
 pub loop-i-preserved : goal.loop-i-preserved
 loop-i-preserved g c =

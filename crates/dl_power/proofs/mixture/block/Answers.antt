@@ -50,7 +50,6 @@ returns-clause-few g c =
       arith,
       low_ends_long c.from_ends.result,
       ap length c.from_ends.ensures.low,
-      c.loop-x.invariant.lows,
       c.longest-long.ensures.least c.args.cells (omega (arith, c.requires.size.some)) c.requires.few,
     )
 

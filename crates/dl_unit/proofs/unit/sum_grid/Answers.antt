@@ -1,30 +1,26 @@
 use Rattle.dl_budget.specs.Claims.{count_budget}
 use Rattle.dl_unit.proofs.unit.sum_grid.Goals as goal
 
-pub returns-in-Fixed-clause-encloses : goal.returns-in-Fixed-clause-encloses
-returns-in-Fixed-clause-encloses g c = rw c.in-Fixed.is c.fixed_claims.ensures.encloses
-
-pub returns-in-Fixed-clause-spread : goal.returns-in-Fixed-clause-spread
+pub returns-in-Fixed : goal.returns-in-Fixed
 unfolding count_budget
-returns-in-Fixed-clause-spread g c = rw c.in-Fixed.is c.fixed_claims.ensures.spread
+returns-in-Fixed g c =
+    let e = c.fixed_claims.ensures in
+    rw c.in-Fixed.is (record { cells = e.cells; encloses = e.encloses; spread = e.spread })
 
-pub returns-in-Table-clause-encloses : goal.returns-in-Table-clause-encloses
-returns-in-Table-clause-encloses g c = rw (c.in-Table.is, ← c.as_slice.ensures) c.listed_claims.ensures.encloses
-
-pub returns-in-Table-clause-spread : goal.returns-in-Table-clause-spread
+pub returns-in-Table : goal.returns-in-Table
 unfolding count_budget
-returns-in-Table-clause-spread g c = rw (c.in-Table.is, ← c.as_slice.ensures) c.listed_claims.ensures.spread
+returns-in-Table g c =
+    let e = c.listed_claims.ensures in
+    rw (c.in-Table.is, ← c.as_slice.ensures) (record { cells = e.cells; encloses = e.encloses; spread = e.spread })
 
-pub returns-in-Bernoulli-clause-encloses : goal.returns-in-Bernoulli-clause-encloses
-returns-in-Bernoulli-clause-encloses g c = rw c.in-Bernoulli.is c.one_trial.ensures.encloses
-
-pub returns-in-Bernoulli-clause-spread : goal.returns-in-Bernoulli-clause-spread
+pub returns-in-Bernoulli : goal.returns-in-Bernoulli
 unfolding count_budget
-returns-in-Bernoulli-clause-spread g c = rw c.in-Bernoulli.is c.one_trial.ensures.spread
+returns-in-Bernoulli g c =
+    let e = c.one_trial.ensures in
+    rw c.in-Bernoulli.is (record { cells = e.cells; encloses = e.encloses; spread = e.spread })
 
-pub returns-in-Binomial-clause-encloses : goal.returns-in-Binomial-clause-encloses
-returns-in-Binomial-clause-encloses g c = rw c.in-Binomial.is c.binomial_claims.ensures.encloses
-
-pub returns-in-Binomial-clause-spread : goal.returns-in-Binomial-clause-spread
+pub returns-in-Binomial : goal.returns-in-Binomial
 unfolding count_budget
-returns-in-Binomial-clause-spread g c = rw c.in-Binomial.is c.binomial_claims.ensures.spread
+returns-in-Binomial g c =
+    let e = c.binomial_claims.ensures in
+    rw c.in-Binomial.is (record { cells = e.cells; encloses = e.encloses; spread = e.spread })

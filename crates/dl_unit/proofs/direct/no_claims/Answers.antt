@@ -1,6 +1,6 @@
 use Rattle.dl_unit.proofs.Common.{arith, sym, ◌∙◌, nothing, compound_of, none_thinned, spread_none, if_ok_three, all_at_zero_encloses}
 use Rattle.dl_unit.proofs.Families.{grid_same}
-use Rattle.dl_unit.proofs.unit.no_claims.Goals as goal
+use Rattle.dl_unit.proofs.direct.no_claims.Goals as goal
 
 pub returns-clause-encloses : goal.returns-clause-encloses
 returns-clause-encloses g c =

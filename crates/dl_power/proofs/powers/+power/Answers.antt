@@ -2,7 +2,7 @@ use Rattle.dl_power.proofs.Common.{◌+◌, ◌-◌, ◌/◌, ◌^◌, arith, sy
 use Rattle.dl_power.proofs.Enclosing.{no_copy, first_cells, squared, one_more}
 use Rattle.dl_power.proofs.Spreads.{squared_width, one_more_width}
 use Rattle.dl_exact.proofs.Results.{if_ok_two, if_ok_three}
-use Rattle.dl_power.proofs.powers.+power_with.Goals as goal
+use Rattle.dl_power.proofs.powers.+power.Goals as goal
 
 pub zero-requires : goal.zero-requires
 zero-requires g t c =

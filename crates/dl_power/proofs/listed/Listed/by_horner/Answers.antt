@@ -2,22 +2,22 @@ use Rattle.dl_power.proofs.Common.{ℕ, ◌≡◌, ◌+◌, ◌-◌, ◌^◌, ar
 use Rattle.dl_power.proofs.WeightLists.{shares_below, shares_next, shares_fit}
 use Rattle.dl_power.proofs.HornerGrids.{starts_at, goes_on_at, one_between, ends}
 use Rattle.dl_power.proofs.Spreads.{mixed_more}
-use Rattle.dl_power.proofs.counts.by_horner.Goals as goal
+use Rattle.dl_power.proofs.listed.Listed.by_horner.Goals as goal
 
 pub empty_grid-requires : goal.empty_grid-requires
 empty_grid-requires g c =
-    let size = size_of c.args.listed.base.now c.cells.ensures.grid in
-    (omega arith, size_within size c.args.listed.some c.args.listed.within)
+    let size = size_of c.args.self.base.now c.cells.ensures.grid in
+    (omega arith, size_within size c.args.self.some c.args.self.within)
 
 pub share_of-requires : goal.share_of-requires
 share_of-requires g c =
-    let scale = scale_of c.args.listed.base.now c.cells.ensures.grid.some in
-    (omega arith, (scale.0, (scale.1, (c.args.listed.sum, c.args.listed.positive))))
+    let scale = scale_of c.args.self.base.now c.cells.ensures.grid.some in
+    (omega arith, (scale.0, (scale.1, (c.args.self.sum, c.args.self.positive))))
 
 pub share_of-share-requires : goal.share_of-share-requires
 share_of-share-requires g c =
-    let scale = scale_of c.args.listed.base.now c.cells.ensures.grid.some in
-    (omega arith, (scale.0, (scale.1, (c.args.listed.sum, c.args.listed.positive))))
+    let scale = scale_of c.args.self.base.now c.cells.ensures.grid.some in
+    (omega arith, (scale.0, (scale.1, (c.args.self.sum, c.args.self.positive))))
 
 pub loop-step-init : goal.loop-step-init
 loop-step-init g c =
@@ -32,9 +32,9 @@ loop-step-init g c =
         c.add_at_zero.ensures.mass,
         c.in_ok-grid.ensures.mass,
         share.low,
-        shares_next S c.args.listed.total c.args.listed.table.now k (k + 1) refl,
-        shares_fit S c.args.listed.total c.args.listed.table.now (k + 1) c.args.listed.positive c.args.listed.sum,
-        ap (shares_below S c.args.listed.total c.args.listed.table.now) (sub-zero k),
+        shares_next S c.args.self.total c.args.self.table.now k (k + 1) refl,
+        shares_fit S c.args.self.total c.args.self.table.now (k + 1) c.args.self.positive c.args.self.sum,
+        ap (shares_below S c.args.self.total c.args.self.table.now) (sub-zero k),
       );
       spread = omega (
         arith,
@@ -42,10 +42,10 @@ loop-step-init g c =
         c.in_ok-grid.ensures.spread,
         share.low,
         share.high,
-        mixed_none S c.args.listed.cells (spread c.args.listed.base.now),
+        mixed_none S c.args.self.cells (spread c.args.self.base.now),
       );
-      between = λ f q of_f. starts_at S c.args.listed.cells c.args.listed.total c.args.listed.table.now
-          (pow_pos g.row.B) c.args.listed.positive c.args.listed.sum
+      between = λ f q of_f. starts_at S c.args.self.cells c.args.self.total c.args.self.table.now
+          (pow_pos g.row.B) c.args.self.positive c.args.self.sum
           f (low_at c.add_at_zero.new.grid) (high_at c.add_at_zero.new.grid) c.share_of.result.lo c.share_of.result.hi k
           (k - 0) (sub-zero k) share.low share.high
           (λ s. omega (arith, c.add_at_zero.ensures.low s, c.in_ok-grid.ensures.low s))
@@ -62,7 +62,7 @@ loop-step-init g c =
 pub one_claim_more-requires : goal.one_claim_more-requires
 one_claim_more-requires g c =
     let left : ℕ = c.greatest_of-greatest.result - c.loop-step.step in
-    let next = shares_next (2 ^ g.row.B) c.args.listed.total c.args.listed.table.now (left - 1) left (omega arith) in
+    let next = shares_next (2 ^ g.row.B) c.args.self.total c.args.self.table.now (left - 1) left (omega arith) in
     search (rules, next, c.share_of-share.ensures, c.loop-step.invariant)
 
 pub loop-step-preserved : goal.loop-step-preserved
@@ -71,7 +71,7 @@ loop-step-preserved g c =
     let k : ℕ = c.greatest_of-greatest.result - c.loop-step.step - 1 in
     let next : c.greatest_of-greatest.result - (c.loop-step.step + 1) ≡ k = omega arith in
     let share = c.share_of-share.ensures in
-    let more = shares_next S c.args.listed.total c.args.listed.table.now k (c.greatest_of-greatest.result - c.loop-step.step)
+    let more = shares_next S c.args.self.total c.args.self.table.now k (c.greatest_of-greatest.result - c.loop-step.step)
     (omega arith) in
     record {
       inside = omega arith;
@@ -82,14 +82,14 @@ loop-step-preserved g c =
         c.in_ok-grid-2.ensures.mass,
         share.low,
         more,
-        ap (shares_below S c.args.listed.total c.args.listed.table.now) next,
+        ap (shares_below S c.args.self.total c.args.self.table.now) next,
       );
-      spread = rw add-one (mixed_more S c.args.listed.cells (spread c.args.listed.base.now) c.loop-step.step _ _ _
+      spread = rw add-one (mixed_more S c.args.self.cells (spread c.args.self.base.now) c.loop-step.step _ _ _
           (pow_pos g.row.B) c.in_ok-grid-2.ensures.spread (omega (arith, share.low, share.high))
           c.loop-step.invariant.spread);
-      between = λ f q of_f. goes_on_at S c.args.listed.cells c.args.listed.total c.args.listed.table.now
-          (pow_pos g.row.B) c.args.listed.positive c.args.listed.sum
-          f (low_at c.args.listed.base.now) (high_at c.args.listed.base.now) (low_at c.loop-step.grid) (high_at c.loop-step.grid)
+      between = λ f q of_f. goes_on_at S c.args.self.cells c.args.self.total c.args.self.table.now
+          (pow_pos g.row.B) c.args.self.positive c.args.self.sum
+          f (low_at c.args.self.base.now) (high_at c.args.self.base.now) (low_at c.loop-step.grid) (high_at c.loop-step.grid)
           (low_at c.in_ok-grid-2.grid) (high_at c.in_ok-grid-2.grid)
           c.share_of-share.result.lo c.share_of-share.result.hi k
           (c.greatest_of-greatest.result - c.loop-step.step) c.loop-step.step _ _ q of_f
@@ -99,7 +99,7 @@ loop-step-preserved g c =
 
 pub returns-clause-encloses : goal.returns-clause-encloses
 returns-clause-encloses g c f q of_base =
-    ends c.loop-step.grid c.args.listed.table.now c.args.listed.total f c.args.listed.cells
-    (c.greatest_of-greatest.result - c.loop-step.step) c.loop-step.step c.args.listed.positive c.args.listed.sum
+    ends c.loop-step.grid c.args.self.table.now c.args.self.total f c.args.self.cells
+    (c.greatest_of-greatest.result - c.loop-step.step) c.loop-step.step c.args.self.positive c.args.self.sum
     (omega arith) (omega (arith, c.greatest_of-greatest.ensures)) c.loop-step.invariant.cells
-    (c.loop-step.invariant.between f q (one_between c.args.listed.base.now c.args.listed.cells f c.args.listed.within of_base))
+    (c.loop-step.invariant.between f q (one_between c.args.self.base.now c.args.self.cells f c.args.self.within of_base))
