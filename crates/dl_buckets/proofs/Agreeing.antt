@@ -70,6 +70,26 @@ unfolding flaws_in
 flaws_more f [] x = flaws_none (f x)
 flaws_more f (y ∷ ys) x = rw (flaws_more f ys x) (sym (flaws_assoc (f y) (flaws_in f ys) (f x)))
 
+-- the flaws of parts that a loop reads in turn
+module _ {A : Type 0} (f : A → Flaws) where
+  pub told_no_part : {flaws : Flaws} → flaws ≡ no_flaws → AgreeToFirst (spans flaws) (spans (flaws_in f []))
+  unfolding flaws_in
+  told_no_part e = rw e (agree_same (spans no_flaws))
+
+  pub told_next : (xs : List A) (i : ℕ) {x : A} {flaws one all : Flaws} → i < length xs → x ≡ get_or xs i x
+      → AgreeToFirst (spans flaws) (spans (flaws_in f (take i xs))) → AgreeToFirst (spans one) (spans (f x))
+      → all ≡ flaws_else flaws one → AgreeToFirst (spans all) (spans (flaws_in f (take (i + 1) xs)))
+  told_next xs i {x = x} {flaws = flaws} {one = one} lt at before here is =
+      let more : take (i + 1) xs ≡ take i xs ++ x ∷ [] =
+      take_more xs i x lt ∙ ap (λ y. take i xs ++ y ∷ []) (sym at) in
+      rw (more, flaws_more f (take i xs) x, is)
+      (agree_else (spans flaws) (spans (flaws_in f (take i xs))) (spans one) (spans (f x)) before here)
+
+  pub told_end : (xs : List A) (i : ℕ) {flaws : Flaws} → length xs ≤ i
+      → AgreeToFirst (spans flaws) (spans (flaws_in f (take i xs)))
+      → AgreeToFirst (spans flaws) (spans (flaws_in f xs))
+  told_end xs i le h = rw (take_all i xs le) at h
+
 -- ---- parts that are read
 
 -- what is made of a part
@@ -141,8 +161,7 @@ read_also k g {a = a} first early is =
 module _ {X A : Type 0} (k : ℕ) (f : X → Flaws) (g : X → A) where
   pub read_no_part : {made : List A} {flaws : Flaws} → made ≡ [] → flaws ≡ no_flaws
       → IsReadTo k (flaws_in f []) (map g []) (record { part = made; flaws = flaws })
-  unfolding flaws_in
-  read_no_part e p = record { first = rw p (agree_same (spans no_flaws)); right = λ clean. e }
+  read_no_part e p = record { first = told_no_part f p; right = λ clean. e }
 
   pub read_next : (zs : List X) (i : ℕ) {x : X} {made new : List A} {one : Gridded A} {flaws all : Flaws} → i < length zs
       → x ≡ get_or zs i x

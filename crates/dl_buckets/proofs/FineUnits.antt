@@ -9,7 +9,7 @@ use Rattle.dl_buckets.proofs.Shared.{among_probabilities}
 use Rattle.dl_buckets.specs.Rules.{off_grid_amounts}
 use Rattle.dl_buckets.specs.Severity.{made_pairs, KeepsWhole}
 use Rattle.dl_buckets.proofs.Meaning.{alike_own, mapped_means, means_alike}
-use Rattle.dl_buckets.proofs.ClauseGrids.{occ_layered}
+use Rattle.dl_buckets.proofs.ClauseGrids.{clauses_layered}
 use Rattle.dl_buckets.proofs.ClauseLaws.{made_is_clause}
 use Rattle.dl_buckets.proofs.Items.{items_in, support_all}
 use Rattle.dl_buckets.proofs.Near.{ceded_near, in_layer_few, in_layer_near, items_few}
@@ -67,7 +67,7 @@ module _ (u : GridUnit) (fine : IsFineSev u) where
         k d h)
 
     pub clause_is_one : IsClause (clause_of c)
-    clause_is_one = made_is_clause c (subst (λ o. IfSome o IsClauseLayered) is (occ_layered u fine.layered)) shares_fine
+    clause_is_one = made_is_clause c (subst (λ o. IfSome o IsClauseLayered) is (clauses_layered u fine.layered).0) shares_fine
 
   -- what a severity that means the one in the layer gives the occurrence clause
   pub keeps_whole : (sev : Sev) → HasDistribution sev (severity_in_layer u) → KeepsWhole (made_of u.occ) sev

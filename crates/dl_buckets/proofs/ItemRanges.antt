@@ -131,11 +131,13 @@ pub item_modest : (i : ListItem) → IsFormedItem i → IsClean (flaws_of_item i
 item_modest i formed clean = All-map (λ pair. HasPartsOf18Digits pair.0) (λ x. (x, i.span)) (range_values (range_of i))
     (range_modest (range_of i) (item_is i formed clean) (first_is i clean))
 
-some_in : (items : List ListItem) → 0 < length items → 0 < length (flat_map spanned_item items)
-some_in [] h = absurd (omega (arith, h))
-some_in (i ∷ items) h =
+-- a list has at least as many values as items
+pub enough : (items : List ListItem) → length items ≤ length (flat_map spanned_item items)
+enough [] = omega arith
+enough (i ∷ items) =
     omega (
       arith,
+      enough items,
       length-append (spanned_item i) (flat_map spanned_item items),
       length-map {B = Fraction × Span} (range_values (range_of i)) (λ x. (x, i.span)),
       values_length (range_of i),
@@ -149,7 +151,7 @@ list_is l formed clean =
     let items = clean_each flaws_of_item l.items (clean_first (flaws_in flaws_of_item l.items) _ clean) in
     let long = clean_second (flaws_in flaws_of_item l.items) _ clean in
     record {
-      some = omega (arith, each, some_in l.items formed.some);
+      some = omega (arith, each, enough l.items, formed.some);
       few = omega (arith, each, ltb-false most_values (length (spanned_values l)) (not_at _ l.span (each_none _ long).long));
       modest = All-map HasPartsOf18Digits (λ pair. pair.0) (spanned_values l)
           (all_joined (λ pair. HasPartsOf18Digits pair.0) spanned_item l.items

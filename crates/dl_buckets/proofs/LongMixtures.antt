@@ -1,7 +1,7 @@
 -- The flaws of numerals and ranges alone, and mixtures of too many atoms.
-use Rattle.dl_buckets.proofs.Common.{ℕ, ◌≡◌, ◌∙◌, ◌+◌, ◌<◌, get_or, take_more, not, ◌==◌, List, [], ◌∷◌, ◌++◌, length, take, Option, Some, None, refl, sym, ap, subst, Fraction, Span, at_if, flaws_else, IsRead, GridSev, grid_mixture, is_not_one, most_atoms, Atom, ListAst, MixAst, Flaws, AgreeEarly, AgreeToFirst, spans, no_flaws, flaws_in, flaws_within, long_at, lengths_at, sum_at, flaws_of_list, flaws_of_amount, flaws_of_amounts, flaws_of_shares, flaws_beside, flaws_of_atom, flaws_of_mixture, spanned_values, values_of}
+use Rattle.dl_buckets.proofs.Common.{ℕ, ◌≡◌, ◌∙◌, ◌+◌, ◌<◌, get_or, take_more, not, ◌==◌, List, [], ◌∷◌, ◌++◌, length, take, Option, Some, None, refl, sym, ap, subst, Fraction, Span, at_if, flaws_else, IsRead, GridSev, grid_mixture, is_not_one, most_atoms, most_values, nat_lt, Atom, ListAst, MixAst, Flaws, AgreeEarly, AgreeToFirst, spans, no_flaws, flaws_in, flaws_within, long_at, lengths_at, sum_at, flaws_of_item, flaws_of_list, flaws_of_amount, flaws_of_amounts, flaws_of_shares, flaws_beside, flaws_of_atom, flaws_of_mixture, spanned_values, values_of}
 use Rattle.dl_buckets.proofs.Firsts.{else_none, passes_limit}
-use Rattle.dl_buckets.proofs.Agreeing.{agree_same, agree_else, flaws_more}
+use Rattle.dl_buckets.proofs.Agreeing.{agree_same, agree_take, agree_else, flaws_more}
 
 abbrev early : Flaws → List (Option Span)
 early f = take 2 (spans f)
@@ -16,6 +16,13 @@ agree_alone m f g later h =
 
 pub early_both : (m n f g : Flaws) → AgreeEarly m f → AgreeEarly n g → AgreeEarly (flaws_else m n) (flaws_else f g)
 early_both m n f g h k = agree_else (early m) (early f) (early n) (early g) h k
+
+pub list_early : (m : Flaws) (l : ListAst) → AgreeToFirst (spans m) (spans (flaws_in flaws_of_item l.items))
+    → AgreeEarly m (flaws_of_list l)
+list_early m l h =
+    agree_alone m (flaws_in flaws_of_item l.items)
+    (long_at (at_if (nat_lt most_values (length (spanned_values l))) l.span)) refl
+    (agree_take 2 (spans m) (spans (flaws_in flaws_of_item l.items)) h)
 
 shares_early : (m : Flaws) (l : ListAst) → AgreeEarly m (flaws_of_list l) → AgreeEarly m (flaws_of_shares l)
 shares_early m l h = agree_alone m (flaws_of_list l) (sum_at (at_if (is_not_one (values_of l)) l.span)) refl h

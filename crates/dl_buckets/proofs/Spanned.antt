@@ -1,11 +1,11 @@
 -- The values of a list whose numerals and ranges are good.
-use Rattle.dl_buckets.proofs.Common.{ℕ, ◌≡◌, ◌∙◌, ◌<◌, ◌≤◌, List, [], ◌∷◌, map, flat_map, length, take, get_or, nat_lt, Option, Some, None, refl, sym, ap, subst, arith, All, All-nil, All-cons, All-map, length-map, Fraction, Span, at_if, else_second, IsClean, flaws_else, most_values, HasPartsOf18Digits, IsRange, PassesRoom, range_values, Range, Numeral, ListItem, ListAst, IsFormedList, Flaws, Gridded, IsReadTo, AgreeToFirst, AreNone, spans, flaws_in, flaws_within, range_at, long_at, flaws_of_numeral, flaws_of_item, flaws_of_list, spanned_range, spanned_in, spanned_item, spanned_values, AreTooMany}
+use Rattle.dl_buckets.proofs.Common.{ℕ, ◌≡◌, ◌∙◌, ◌<◌, ◌≤◌, List, [], ◌∷◌, map, flat_map, length, take, get_or, Option, Some, None, refl, sym, ap, subst, arith, All, All-nil, All-cons, All-map, length-map, Fraction, Span, else_second, IsClean, flaws_else, most_values, HasPartsOf18Digits, IsRange, PassesRoom, range_values, Range, Numeral, ListItem, ListAst, IsFormedList, Flaws, Gridded, IsReadTo, AgreeToFirst, AreNone, spans, flaws_in, flaws_within, range_at, long_at, flaws_of_numeral, flaws_of_item, flaws_of_list, spanned_range, spanned_in, spanned_item, spanned_values, AreTooMany}
 use Rattle.std.proofs.lemmas.List.Folds.{flat_map-map, length-flat_map-take}
 use Rattle.dl_sev.specs.declared.fault.ExpandFault.{ExpandFault}
 use Rattle.dl_sev.specs.declared.fault.ExpandFault.TheVariants.{TooLong, OutOfMemory}
 use Rattle.dl_buckets.proofs.Firsts.{passes_limit, keeps_limit}
-use Rattle.dl_buckets.proofs.Agreeing.{keeps_first, keeps_second, read_also, flaws_none}
-use Rattle.dl_buckets.proofs.ItemRanges.{item_is, item_modest, all_joined}
+use Rattle.dl_buckets.proofs.Agreeing.{agree_else, agree_same, keeps_first, keeps_second, flaws_none}
+use Rattle.dl_buckets.proofs.ItemRanges.{item_is, item_modest, all_joined, enough}
 
 -- with the values of one range more there are more than 1,024
 pub too_many : (ranges : List (Range × Span)) (i : ℕ) (pair : Range × Span) (values : List (Fraction × Span))
@@ -45,6 +45,23 @@ items_clean (i ∷ items) h =
     (no_later i.from i.to i.step _ (keeps_first 2 (flaws_of_item i) (flaws_in flaws_of_item items) h))
     (items_clean items (keeps_second 2 (flaws_of_item i) (flaws_in flaws_of_item items) h))
 
+pub many : (l : ListAst) → most_values < length l.items → most_values < length (spanned_values l)
+many l h = omega (arith, h, enough l.items)
+
+-- no values of a list that has too many, beside the flaws of its items
+pub long_read : (l : ListAst) {values : List (Fraction × Span)} (items : Flaws) {all : Flaws} → most_values < length (spanned_values l)
+    → AgreeToFirst (spans items) (spans (flaws_in flaws_of_item l.items)) → all ≡ flaws_else items (long_at (Some l.span))
+    → IsReadTo 3 (flaws_of_list l) (spanned_values l) (record { part = values; flaws = all })
+long_read l items many told is =
+    let far = passes_limit most_values (length (spanned_values l)) l.span many in
+    let late = spans (long_at (Some l.span)) in
+    record {
+      first = rw (is, ← far) (agree_else (spans items) (spans (flaws_in flaws_of_item l.items)) late late told (agree_same late));
+      right = λ keeps.
+          let none = else_second (flaws_in flaws_of_item l.items).long _ keeps.1.1.0 in
+          absurd (cc (none, far));
+    }
+
 module _ (l : ListAst) (formed : IsFormedList l) (ranges : Gridded (List (Range × Span)))
     (read : IsReadTo 2 (flaws_in flaws_of_item l.items) (map spanned_range l.items) ranges)
     (numeral : ranges.flaws.numeral ≡ None) (range : ranges.flaws.range ≡ None) where
@@ -59,7 +76,7 @@ module _ (l : ListAst) (formed : IsFormedList l) (ranges : Gridded (List (Range 
       (All-map (λ pair. IsRange pair.0) spanned_range l.items
       (λ k d h. item_is _ (formed.items k d h) (clean k d h)))
 
-  values_are : flat_map spanned_in ranges.part ≡ spanned_values l
+  pub values_are : flat_map spanned_in ranges.part ≡ spanned_values l
   values_are = ap (flat_map spanned_in) (read.right kept) ∙ flat_map-map spanned_in spanned_range l.items
 
   pub values_modest : (values : List (Fraction × Span)) → values ≡ flat_map spanned_in ranges.part
@@ -68,35 +85,16 @@ module _ (l : ListAst) (formed : IsFormedList l) (ranges : Gridded (List (Range 
       (all_joined (λ pair. HasPartsOf18Digits pair.0) spanned_item l.items
       (λ k d h. item_modest _ (formed.items k d h) (clean k d h)))
 
-  abbrev late : List (Range × Span) → Flaws
-  late pairs = long_at (at_if (nat_lt most_values (length (flat_map spanned_in pairs))) l.span)
-
-  told : {all : Flaws} → all ≡ flaws_else ranges.flaws (late ranges.part)
-      → AgreeToFirst (spans all) (spans (flaws_of_list l))
-  told is = (rw (flat_map-map spanned_in spanned_range l.items) at (read_also 2 late read refl is)).first
-
   -- not too many values
   pub few_read : (values : List (Fraction × Span)) → values ≡ flat_map spanned_in ranges.part
       → length values ≤ most_values
       → IsReadTo 3 (flaws_of_list l) (spanned_values l) (record { part = values; flaws = ranges.flaws })
   few_read values e few =
-      let none = keeps_limit most_values (length (flat_map spanned_in ranges.part)) l.span
-      (omega (arith, few, ap length e)) in
+      let none = keeps_limit most_values (length (spanned_values l)) l.span
+      (omega (arith, few, ap length (e ∙ values_are))) in
       record {
-        first = told (sym (flaws_none ranges.flaws) ∙ ap (λ o. flaws_else ranges.flaws (long_at o)) none);
+        first = subst (λ o. AgreeToFirst (spans ranges.flaws) (spans (flaws_else (flaws_in flaws_of_item l.items) (long_at o))))
+            none (subst (λ f. AgreeToFirst (spans ranges.flaws) (spans f))
+            (sym (flaws_none (flaws_in flaws_of_item l.items))) read.first);
         right = λ keeps. e ∙ values_are;
-      }
-
-  -- too many
-  pub long_read : (values : List (Fraction × Span)) (all : Flaws)
-      → most_values < length (flat_map spanned_in ranges.part)
-      → all ≡ flaws_else ranges.flaws (long_at (Some l.span))
-      → IsReadTo 3 (flaws_of_list l) (spanned_values l) (record { part = values; flaws = all })
-  long_read values all many is =
-      let far = passes_limit most_values (length (flat_map spanned_in ranges.part)) l.span many in
-      record {
-        first = told (is ∙ ap (λ o. flaws_else ranges.flaws (long_at o)) far);
-        right = λ keeps.
-            let none = else_second (flaws_in flaws_of_item l.items).long _ keeps.1.1.0 in
-            absurd (cc (none, rw values_are at far));
       }

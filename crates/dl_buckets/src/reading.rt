@@ -36,7 +36,7 @@ pub fn grid_mixture(
 {
     let atoms = mix.atoms.as_slice();
     if atoms.len() > MOST_ATOMS {
-        return long_mixture(alloc, mix);
+        return Ok(long_mixture(alloc, mix));
     }
     let atoms = grid_atoms(alloc, atoms, bs, most)?;
     let weights = mixture_weights(alloc, &mix.weights)?;

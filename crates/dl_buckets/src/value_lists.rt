@@ -1,11 +1,11 @@
 //! The values of a list, each with the place of its item.
 
-ghost use Rattle.std.specs.Prelude.{◌≡◌, ◌≤◌, ◌++◌, [], All, IfOk, IfErr, map, flat_map, length};
+ghost use Rattle.std.specs.Prelude.{◌≡◌, ◌<◌, ◌≤◌, ◌++◌, [], All, IfOk, IfErr, map, flat_map, length};
 ghost use Rattle.dl_limits.specs.Limits.{most_amount, most_values};
 ghost use Rattle.dl_ast.specs.WellFormed.{IsFormedItem, IsFormedList};
 ghost use Rattle.dl_plan.specs.Ranges.{IsBucket};
 ghost use Rattle.dl_sev.specs.Prelude.{HasPartsOf18Digits, IsRange, PassesRoom};
-ghost use Rattle.dl_buckets.specs.Flaws.{AgreeEarly, IsRead, IsReadTo, flaws_in};
+ghost use Rattle.dl_buckets.specs.Flaws.{AgreeToFirst, IsRead, IsReadTo, flaws_in, spans};
 ghost use Rattle.dl_buckets.specs.Grid.{grid_list, number_of};
 ghost use Rattle.dl_buckets.specs.Reading.{flaws_of_item, flaws_of_list, flaws_of_amount};
 ghost use Rattle.dl_buckets.specs.Values.{spanned_range, spanned_in, spanned_values, AreTooMany};
@@ -45,18 +45,29 @@ pub(crate) fn spanned_values(
     ensures read { IfOk result (IsReadTo 3 (flaws_of_list list.now) (spanned_values list.now)) }
     ensures modest { IfOk result (λ made. All (λ pair. HasPartsOf18Digits pair.0) made.part) }
 {
-    let ranges = item_ranges(alloc, list.items.as_slice())?;
+    let items = list.items.as_slice();
+    if items.len() > MOST_VALUES {
+        return Ok(long_list(alloc, list, item_flaws(items)));
+    }
+    let ranges = item_ranges(alloc, items)?;
     if ranges.flaws.numeral.is_some() || ranges.flaws.range.is_some() {
         return Ok(no_values(alloc, ranges.flaws));
     }
     match values_of_ranges(alloc, ranges.part.as_slice()) {
         Ok(values) => Ok(ranges.with(Items::from_vec(values))),
-        Err(ExpandFault::TooLong) => {
-            let long = Flaws::long_at(Some(list.span));
-            Ok(no_values(alloc, ranges.flaws.or(long)))
-        }
+        Err(ExpandFault::TooLong) => Ok(long_list(alloc, list, ranges.flaws)),
         Err(ExpandFault::OutOfMemory) => Err(AllocError),
     }
+}
+
+/// No values of a list of more than 1,024, beside the flaws of its items.
+fn long_list(alloc: Global, list: &ListAst, items: Flaws) -> Gridded<Items<(Frac, Span)>>
+    requires long { most_values < length (spanned_values list.now) }
+    requires items { AgreeToFirst (spans items) (spans (flaws_in flaws_of_item list.now.items)) }
+    ensures read { IsReadTo 3 (flaws_of_list list.now) (spanned_values list.now) result }
+    ensures part { result.part ≡ [] }
+{
+    no_values(alloc, items.or(Flaws::long_at(Some(list.span))))
 }
 
 /// No values beside flaws.
@@ -68,13 +79,16 @@ fn no_values(alloc: Global, flaws: Flaws) -> Gridded<Items<(Frac, Span)>>
     Gridded { part, flaws }
 }
 
-/// The flaws of the numerals and ranges of a list, which is not expanded.
-pub(crate) fn item_flaws(alloc: Global, list: &ListAst) -> Result<Flaws, AllocError>
-    requires { IsFormedList list.now }
-    ensures { IfOk result (λ flaws. AgreeEarly flaws (flaws_of_list list.now)) }
+/// The flaws of the numerals and ranges of items, which are not expanded.
+pub(crate) fn item_flaws(items: &[ListItem]) -> Flaws
+    requires { All IsFormedItem items.now }
+    ensures { AgreeToFirst (spans result) (spans (flaws_in flaws_of_item items.now)) }
 {
-    let ranges = item_ranges(alloc, list.items.as_slice())?;
-    Ok(ranges.flaws)
+    let mut flaws = Flaws::none();
+    'items: for item in items {
+        flaws = flaws.or(item_range(item).flaws);
+    }
+    flaws
 }
 
 /// The ranges of items, each with the place of its item.

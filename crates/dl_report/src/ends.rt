@@ -11,7 +11,7 @@ use itoa::Buffer;
 use std::alloc::{AllocError, Global};
 
 /// The digit of a number at this power of ten.
-fn digit(number: u128, power: u128) -> u8
+fn digit(number: u64, power: u64) -> u8
     requires { 0 < power }
     ensures { result ≡ 48 + number / power % 10 }
 {
@@ -20,12 +20,12 @@ fn digit(number: u128, power: u128) -> u8
 
 /// Appends the last decimal digits of a number, the highest first.
 #[tactic(auto, unfolding(crate::specs::Ends::last_digits))]
-fn push_digits(text: &mut Vec<u8>, number: u128, count: u32) -> Result<(), AllocError>
+fn push_digits(text: &mut Vec<u8>, number: u64, count: u32) -> Result<(), AllocError>
     requires { count ≤ most_digits }
     ensures { OnOk result (text.new.items ≡ text.old.items ++ last_digits count number) }
 {
     for done in 0..count {
-        text.push(digit(number, 10u128.pow(count - 1 - done)))?;
+        text.push(digit(number, 10u64.pow(count - 1 - done)))?;
     }
     Ok(())
 }
@@ -45,9 +45,10 @@ fn push_number(text: &mut Vec<u8>, digits: u32, number: u128) -> Result<(), Allo
     ensures appends { OnOk result (text.new.items ≡ text.old.items ++ with_digits digits number) }
     ensures ascii { OnOk result (IsAscii (with_digits digits number)) }
 {
-    push_whole(text, number / 10u128.pow(digits))?;
+    let one = 10u128.pow(digits);
+    push_whole(text, number / one)?;
     text.extend_from_slice(b".")?;
-    push_digits(text, number, digits)
+    push_digits(text, (number % one) as u64, digits)
 }
 
 /// Appends an end.

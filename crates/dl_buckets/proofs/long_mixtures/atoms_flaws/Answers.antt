@@ -7,6 +7,6 @@ atoms-init c = λ most bs. atoms_none most bs c.none-flaws.result c.none-flaws.e
 
 pub atoms-preserved : goal.atoms-preserved
 atoms-preserved c = λ most bs.
-    atoms_next most bs c.atoms.flaws c.in_ok-values.values c.in_ok-probs.probs c.or.result c.or-flaws.result
+    atoms_next most bs c.atoms.flaws c.list_flaws-values.result c.second_flaws-probs.result c.or.result c.or-flaws.result
     c.args.atoms.now c.atoms.atom-index c.atom-item.result c.atoms-test.true c.atom-item.is (c.atoms.invariant most bs)
-    c.in_ok-values.ensures c.in_ok-probs.ensures c.or.ensures c.or-flaws.ensures
+    c.list_flaws-values.ensures c.second_flaws-probs.ensures c.or.ensures c.or-flaws.ensures

@@ -4,6 +4,6 @@ use Rattle.dl_buckets.proofs.long_mixtures.long_mixture.Goals as goal
 
 pub returns : goal.returns
 returns c = λ most bs.
-    long_read most bs c.args.mix.now _ c.in_ok-atoms.atoms c.in_ok-weights.weights c.or.result c.or-2.result
-    c.requires.long (rw c.as_slice.ensures at (c.in_ok-atoms.ensures most bs)) c.in_ok-weights.ensures c.or.ensures
+    long_read most bs c.args.mix.now _ c.atoms_flaws-atoms.result c.second_flaws-weights.result c.or.result c.or-2.result
+    c.requires.long (rw c.as_slice.ensures at (c.atoms_flaws-atoms.ensures most bs)) c.second_flaws-weights.ensures c.or.ensures
     (rw c.long_at-long.ensures at c.or-2.ensures)
