@@ -1,6 +1,6 @@
 -- The joint means of a unit at all totals up to q, added up: what the ends hold, how large they are, and how far apart
 -- they lie.
-use Rattle.dl_cotail.proofs.Common.{more, ◌∙◌, ℕ, suc, ◌≡◌, ◌+◌, ◌-◌, ◌*◌, ◌/◌, ◌^◌, ◌<◌, ◌≤◌, List, length, arith, ap₂, subst₂, div_ceil, pow_pos, mul-le-mul, mul-le-mul_left, mul-pos, ◌over◌, sum_to, count_pairs, count_below, le_refl, div_ceil_least, below_le, below_same, pairs_le, pairs_same, Iv, low_at, high_at, spread, IsGrid, cells_fit, width_at, high_is, low_within, width_within, cv_is, Holds, Loss, AreDeclarable, One, Joint, score, partial_sums, total, GridEncloses, unit_of, without, at_least_wider, at_most_wider, to_holds, outcomes_rise, joint_ends, fits, joint_width, room_of}
+use Rattle.dl_cotail.proofs.Common.{more, ◌∙◌, ℕ, suc, ◌≡◌, ◌+◌, ◌-◌, ◌*◌, ◌/◌, ◌^◌, ◌<◌, ◌≤◌, List, length, arith, ap, ap₂, subst₂, div_ceil, pow_pos, mul-le-mul, mul-le-mul_left, mul-pos, ◌over◌, sum_to, count_pairs, count_below, le_refl, div_ceil_least, below_le, below_same, pairs_le, pairs_same, Iv, low_at, high_at, spread, IsGrid, cells_fit, width_at, high_is, low_within, width_within, cv_is, Holds, Loss, AreDeclarable, One, Joint, score, partial_sums, total, GridEncloses, unit_of, without, at_least_wider, at_most_wider, to_holds, outcomes_rise, joint_ends, fits, joint_width, room_of}
 use Rattle.dl_exact.proofs.SumsOver.{to_over}
 use Rattle.dl_iv.proofs.Rounding.{round_down, round_up, floor_le_ceiling}
 use Rattle.dl_alloc.specs.Weighted.{low_weighted, high_weighted}
@@ -9,6 +9,9 @@ use Rattle.dl_cotail.specs.Sums.{low_sums, high_sums}
 use Rattle.dl_cotail.proofs.PairSums.{one_more, sums_top, sum_fits, sums_width}
 
 -- ---- how large they are
+
+regroup : (y u d : ℕ) → y * (u * d) ≡ y * u * d
+regroup y u d = omega arith
 
 top : (S q : ℕ) → q * (2 * S) * (2 * S) ≡ 4 * q * S * S
 top S q = omega arith
@@ -39,14 +42,16 @@ module _ {B : ℕ} (unit others : List (Iv B)) (q : ℕ) (p : IsGrid unit) (r : 
 
   -- the next sum, from the weights f of the unit and the distribution of the weights g of the others, and that it fits
   abbrev Step : (f g : ℕ → ℕ) → Type 0
-  Step f g = (z sum u d s o : ℕ) → z ≤ q → sum ≡ count_below z (λ z. (q - z) * f (q - z) * count_below (suc z) g)
-      → u ≡ f (q - z) → d ≡ s + o → s ≡ count_below z g → o ≡ g z
-      → (sum + (q - z) * u * d ≡ count_below (z + 1) (λ z. (q - z) * f (q - z) * count_below (suc z) g))
-      × (sum + (q - z) * u * d < 2 ^ 128)
+  Step f g = (z sum u d s o w : ℕ) → z ≤ q → sum ≡ count_below z (λ z. (q - z) * f (q - z) * count_below (suc z) g)
+      → u ≡ f (q - z) → d ≡ s + o → s ≡ count_below z g → o ≡ g z → w ≡ u * d
+      → (sum + (q - z) * w ≡ count_below (z + 1) (λ z. (q - z) * f (q - z) * count_below (suc z) g))
+      × (sum + (q - z) * w < 2 ^ 128)
 
   step : (f g : ℕ → ℕ) → count_below (q + 1) f ≤ 2 * 2 ^ B → count_below (q + 1) g ≤ 2 * 2 ^ B → Step f g
-  step f g mass weight z sum u d s o here e own joined before other =
-      let next = one_more q z sum u d f g e own (joined ∙ more g z s o before other) in (
+  step f g mass weight z sum u d s o w here e own joined before other is =
+      let product : (q - z) * w ≡ (q - z) * u * d = ap (λ t. (q - z) * t) is ∙ regroup (q - z) u d in
+      let next : sum + (q - z) * w ≡ count_below (z + 1) (λ z. (q - z) * f (q - z) * count_below (suc z) g) =
+      ap (λ t. sum + t) product ∙ one_more q z sum u d f g e own (joined ∙ more g z s o before other) in (
         next,
         fits (2 ^ B) q _ (pow_pos B) (room_of unit q p inside)
             (sum_fits q (z + 1) _ (2 * 2 ^ B) (2 * 2 ^ B) f g (omega arith) next mass weight),

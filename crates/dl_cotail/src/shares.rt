@@ -17,6 +17,7 @@ use dl_alloc::{conditional_mean, joint_mean};
 use dl_frac::Frac;
 use dl_grid::{Grid, units_of_one};
 use dl_iv::Iv;
+use dl_measures::Distribution;
 
 /// The conditional mean of the unit at the total `q`, whose probability is `at`, in buckets: at
 /// most `q`, since the unit's outcome is not above the total. None where the low end of that
@@ -71,7 +72,7 @@ fn above<const B: u32>(cdf: Iv<B>, p: Frac) -> Iv<B>
 pub fn cotail<const B: u32>(
     unit: &Grid<B>,
     others: &Grid<B>,
-    total: &Grid<B>,
+    total: &Distribution<B>,
     mean: Iv<B>,
     p: Frac,
 ) -> Option<Iv<B>>

@@ -10,6 +10,15 @@ ghost use Rattle.dl_cotail.specs.Widths.{joint_width};
 use dl_grid::{Grid, units_of_one};
 use dl_iv::Iv;
 
+/// The product of two numbers of 64 bits: one multiplication.
+fn word_product(x: u128, y: u128) -> u128
+    requires first { x < 2 ^ 64 }
+    requires second { y < 2 ^ 64 }
+    ensures { result ≡ x * y }
+{
+    u128::from(x as u64) * u128::from(y as u64)
+}
+
 /// The sums of the unit's outcomes up to `q`, each weighted by the ends of its probability times
 /// those of the others leaving the total at most `q`, in units of `1 / 2^(2B)`. One walk: as the
 /// unit's outcome falls, the distribution of the others grows.
@@ -23,14 +32,20 @@ fn weighted_sums<const B: u32>(unit: &Grid<B>, others: &Grid<B>, q: u32) -> (u12
     ensures low { result.0 ≡ low_sums unit.now others.now q }
     ensures high { result.1 ≡ high_sums unit.now others.now q }
 {
-    let mut distribution = Iv::point(0);
+    let own_lows = unit.lows();
+    let own_highs = unit.highs();
+    let lows = others.lows();
+    let highs = others.highs();
+    let mut low_end = 0;
+    let mut high_end = 0;
     let mut low = 0;
     let mut high = 0;
     for z in 0..q + 1 {
-        let own = unit.at(q - z);
-        distribution = distribution.add(others.at(z));
-        low += (q - z) as u128 * own.lo * distribution.lo;
-        high += (q - z) as u128 * own.hi * distribution.hi;
+        let own = q - z;
+        low_end += lows[z as usize];
+        high_end += highs[z as usize];
+        low += own as u128 * word_product(own_lows[own as usize], low_end);
+        high += own as u128 * word_product(own_highs[own as usize], high_end);
     }
     (low, high)
 }

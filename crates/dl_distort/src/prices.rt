@@ -9,14 +9,13 @@ ghost use Rattle.dl_model.specs.Prelude.{AtLeast, Holds, Loss, PricedTerm, One, 
 ghost use Rattle.dl_measures.specs.Prelude.{low_cdf, IsFirstFound};
 ghost use Rattle.dl_distort.specs.Prices.{AreTermsOf, AreQuantiles, most_tail, term_width, price_width};
 
-use dl_grid::Grid;
 use dl_iv::Iv;
-use dl_measures::tail_mean;
+use dl_measures::{Distribution, tail_mean};
 use dl_plan::Term;
 
 /// The part of a price from a term, in buckets: its weight times the tail mean at its `p`. None
 /// exactly where the bracket of the quantile has no high end.
-fn weighted_tail<const B: u32>(g: &Grid<B>, term: Term, mean: Iv<B>) -> Option<Iv<B>>
+fn weighted_tail<const B: u32>(g: &Distribution<B>, term: Term, mean: Iv<B>) -> Option<Iv<B>>
     requires below_one { term.p <ℚ whole 1 }
     requires small { term.p.den ≤ 1000000000 }
     requires part { term.weight ≤ℚ whole 1 }
@@ -49,7 +48,7 @@ fn weighted_tail<const B: u32>(g: &Grid<B>, term: Term, mean: Iv<B>) -> Option<I
 /// probabilities, each times its weight. Each probability is below 1, with parts of at most `10^9`,
 /// and `mean` is to hold the mean of the total. None exactly where the bracket of the quantile of
 /// some term has no high end, whatever its weight.
-pub fn price<const B: u32>(g: &Grid<B>, terms: &[Term], mean: Iv<B>) -> Option<Iv<B>>
+pub fn price<const B: u32>(g: &Distribution<B>, terms: &[Term], mean: Iv<B>) -> Option<Iv<B>>
     requires priced { ArePriced terms.now }
     requires below_one { All (λ term. term.p <ℚ whole 1) terms.now }
     requires small { All (λ term. term.p.den ≤ 1000000000) terms.now }

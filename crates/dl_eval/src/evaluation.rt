@@ -6,7 +6,7 @@ ghost use Rattle.dl_plan.specs.declared.settings.Ask.TheVariants as kinds;
 ghost use Rattle.dl_plan.specs.Prelude.{AreInRange, IsValid};
 ghost use Rattle.dl_budget.specs.Asks.{named_units};
 ghost use Rattle.dl_eval.specs.Answers.{AreInside, NameUnits, HaveShares, IsGoodReport, IsAnswered, RefusesAsk};
-ghost use Rattle.dl_eval.specs.Totals.{most_mean, AreUnits, IsMeanOf};
+ghost use Rattle.dl_eval.specs.Totals.{most_mean, AreUnits, IsMeanOf, IsTotalOf};
 ghost use Rattle.dl_eval.specs.Drawn.{AreDrawnOf, HasNeeded};
 
 use crate::admission::admit;
@@ -19,6 +19,7 @@ use crate::rows::row;
 use crate::units::{unit_means, unit_outcomes};
 use dl_iv::Iv;
 use dl_limits::MOST_SHORT_CELLS;
+use dl_measures::Distribution;
 use dl_plan::{Ask, Asked, Items, Plan, Settings};
 use dl_product::Workspace;
 use dl_report::Report;
@@ -156,6 +157,22 @@ fn parts_for<const B: u32>(
     }
 }
 
+/// The running sums of the grid of a plan's total, where there are grids.
+fn summed<'a, const B: u32>(
+    alloc: Global,
+    plan: &Plan,
+    grids: &'a Option<PlanGrids<B>>,
+) -> Result<Option<Distribution<'a, B>>, AllocError>
+    requires grids { IfSome grids.now (λ made. AreDrawnOf plan.now made) }
+    ensures total { IfOk result (λ made. IfSome made (λ sums. IsTotalOf plan.now sums)) }
+    ensures none { IfOk result (λ made. made ≡ None → grids.now ≡ None) }
+{
+    match grids {
+        Some(grids) => Ok(Some(Distribution::of(alloc, grids.total())?)),
+        None => Ok(None),
+    }
+}
+
 /// The rows of the asks, in order.
 fn report<const B: u32>(
     alloc: Global,
@@ -163,9 +180,12 @@ fn report<const B: u32>(
     settings: &Settings,
     named: &[Option<u32>],
     parts: &Parts<B>,
+    total: &Option<Distribution<B>>,
 ) -> Result<Report, AllocError>
     requires scale { B ≡ bits_of plan.now.cells }
     requires grids { IfSome parts.now.grids (λ made. AreDrawnOf plan.now made) }
+    requires total { IfSome total.now (λ sums. IsTotalOf plan.now sums) }
+    requires summed { total.now ≡ None → parts.now.grids ≡ None }
     requires valid { IsValid plan.now }
     requires ranges { AreInRange settings.now }
     requires inside { AreInside plan.now settings.now }
@@ -189,6 +209,7 @@ fn report<const B: u32>(
             plan,
             named[i],
             &parts.grids,
+            total,
             parts.mean,
         )?;
         rows.push(row)?;
@@ -218,7 +239,8 @@ fn admitted_report<const B: u32>(
     let mut work = Workspace::new(alloc);
     let parts = parts_for::<B>(alloc, &mut work, plan, settings.asks.as_slice(), named)?;
     drop(work);
-    report(alloc, plan, settings, named, &parts)
+    let total = summed(alloc, plan, &parts.grids)?;
+    report(alloc, plan, settings, named, &parts, &total)
 }
 
 /// The report of a plan whose grids are in units of `1 / 2^B`, or its first refused ask.

@@ -15,10 +15,9 @@ use crate::drawn::PlanGrids;
 use crate::shares::{joint_of, share_row, tail_share_row};
 use dl_distort::price;
 use dl_frac::Frac;
-use dl_grid::Grid;
 use dl_iv::Iv;
 use dl_lexer::Text;
-use dl_measures::{layer_mean, quantile, tail_mean};
+use dl_measures::{Distribution, layer_mean, quantile, tail_mean};
 use dl_plan::{Ask, Asked, Plan, Term};
 use dl_report::{End, Row};
 use std::alloc::{AllocError, Global};
@@ -72,7 +71,7 @@ fn bracket_end(hi: Option<u32>) -> End
 fn quantile_row<const B: u32>(
     alloc: Global,
     asked: &Asked,
-    total: &Grid<B>,
+    total: &Distribution<B>,
     p: Frac,
 ) -> Result<Row, AllocError>
     requires scale { IsPlanScale B }
@@ -94,7 +93,7 @@ fn tail_row<const B: u32>(
     alloc: Global,
     asked: &Asked,
     digits: u32,
-    total: &Grid<B>,
+    total: &Distribution<B>,
     p: Frac,
     mean: Iv<B>,
 ) -> Result<Row, AllocError>
@@ -120,7 +119,7 @@ fn price_row<const B: u32>(
     alloc: Global,
     asked: &Asked,
     digits: u32,
-    total: &Grid<B>,
+    total: &Distribution<B>,
     terms: &[Term],
     mean: Iv<B>,
 ) -> Result<Row, AllocError>
@@ -142,8 +141,8 @@ fn price_row<const B: u32>(
     }
 }
 
-/// The row of an ask about a valid plan, from its grids, the mean of its total and the number of
-/// the unit that the ask names.
+/// The row of an ask about a valid plan, from its grids, the running sums of that of its total, the
+/// mean of its total and the number of the unit that the ask names.
 #[tactic(auto, using(crate::proofs::Scales::plan_scale))]
 fn grid_row<const B: u32>(
     alloc: Global,
@@ -152,6 +151,7 @@ fn grid_row<const B: u32>(
     plan: &Plan,
     unit: Option<u32>,
     grids: &PlanGrids<B>,
+    total: &Distribution<B>,
     mean: Iv<B>,
 ) -> Result<Row, AllocError>
     requires scale { B ≡ bits_of plan.now.cells }
@@ -162,6 +162,7 @@ fn grid_row<const B: u32>(
     requires named { NamesUnit plan.now.units asked.now.ask }
     requires share { HasShare plan.now asked.now.ask }
     requires grids { AreDrawnOf plan.now grids.now }
+    requires total { IsTotalOf plan.now total.now }
     requires unit { unit ≡ named_unit plan.now.units asked.now.ask }
     requires there { HasNeeded grids.now unit }
     requires mean { IsMeanOf plan.now mean }
@@ -169,7 +170,6 @@ fn grid_row<const B: u32>(
     ensures ask { IfOk result (λ row. row.ask ≡ asked.now.text) }
     ensures answer { IfOk result (λ row. IsAnswerTo (2 ^ B) plan.now digits asked.now.ask row) }
 {
-    let total = grids.total();
     match &asked.ask {
         Ask::Pmf(x) => ends_row(alloc, asked, digits, total.at(*x)),
         Ask::Cdf(x) => ends_row(alloc, asked, digits, total.cdf(*x)),
@@ -194,7 +194,7 @@ fn grid_row<const B: u32>(
         }
         Ask::Cotail { p, .. } => match grids {
             PlanGrids::Independent(grids) => {
-                tail_share_row(alloc, asked, digits, plan, grids, unit.unwrap(), *p)
+                tail_share_row(alloc, asked, digits, plan, grids, total, unit.unwrap(), *p)
             }
             PlanGrids::Shared(_) => unreachable!(),
         },
@@ -202,7 +202,8 @@ fn grid_row<const B: u32>(
 }
 
 /// The row of an ask about a valid plan, from the mean of its total, the number of the unit that
-/// the ask names, and its grids; without them, the ask is for the mean.
+/// the ask names, its grids, and the running sums of that of its total; without them, the ask is
+/// for the mean.
 #[tactic(auto, using(crate::proofs::Scales::plan_scale))]
 pub(crate) fn row<const B: u32>(
     alloc: Global,
@@ -211,6 +212,7 @@ pub(crate) fn row<const B: u32>(
     plan: &Plan,
     unit: Option<u32>,
     grids: &Option<PlanGrids<B>>,
+    total: &Option<Distribution<B>>,
     mean: Iv<B>,
 ) -> Result<Row, AllocError>
     requires scale { B ≡ bits_of plan.now.cells }
@@ -221,6 +223,8 @@ pub(crate) fn row<const B: u32>(
     requires named { NamesUnit plan.now.units asked.now.ask }
     requires share { HasShare plan.now asked.now.ask }
     requires grids { IfSome grids.now (λ made. AreDrawnOf plan.now made) }
+    requires total { IfSome total.now (λ sums. IsTotalOf plan.now sums) }
+    requires summed { total.now ≡ None → grids.now ≡ None }
     requires unit { unit ≡ named_unit plan.now.units asked.now.ask }
     requires there { IfSome grids.now (λ made. HasNeeded made unit) }
     requires none { grids.now ≡ None → asked.now.ask ≡ asks.Mean }
@@ -229,7 +233,10 @@ pub(crate) fn row<const B: u32>(
     ensures { IfOk result (λ row. IsGood plan.now digits asked.now row) }
 {
     match grids {
-        Some(grids) => grid_row(alloc, asked, digits, plan, unit, grids, mean),
+        Some(grids) => match total {
+            Some(total) => grid_row(alloc, asked, digits, plan, unit, grids, total, mean),
+            None => unreachable!(),
+        },
         None => ends_row(alloc, asked, digits, mean),
     }
 }

@@ -7,7 +7,7 @@ ghost use Rattle.dl_model.specs.Prelude.{Point, declared};
 ghost use Rattle.dl_plan.specs.Prelude.{IsValid, IsLevel};
 ghost use Rattle.dl_budget.specs.Asks.{kappa_budget, cotail_budget, in_digits};
 ghost use Rattle.dl_eval.specs.Rows.{IsAtLeast, IsAtMost, IsBeyond, IsShareOfUnit, IsTooRare, IsTailShare, IsNoTailShare, at_the_end, total_error};
-ghost use Rattle.dl_eval.specs.Totals.{AreGridsOf, AreOthersOf, IsGridOfUnit, IsJointOf, IsTailShareOf};
+ghost use Rattle.dl_eval.specs.Totals.{AreGridsOf, AreOthersOf, IsGridOfUnit, IsJointOf, IsTailShareOf, IsTotalOf};
 ghost use Rattle.dl_eval.specs.Drawn.{AreDrawnOf, HasShareOf};
 ghost use Rattle.dl_grid.specs.Cells.{low_at, spread};
 ghost use Rattle.dl_measures.specs.Prelude.{IsFirstFound, low_cdf};
@@ -25,7 +25,7 @@ use dl_frac::Frac;
 use dl_grid::Grid;
 use dl_iv::Iv;
 use dl_limits::BUDGET_BOUND;
-use dl_measures::quantile;
+use dl_measures::{Distribution, quantile};
 use dl_plan::{Asked, Plan};
 use dl_report::{End, Row};
 use std::alloc::{AllocError, Global};
@@ -136,11 +136,18 @@ pub(crate) fn share_row<const B: u32>(
 /// The share of unit `i` in the tail mean at `p`, in buckets; none where the grid ends before the
 /// quantile, does not settle it, or it may be too rare.
 #[tactic(auto, using(crate::proofs::Scales::plan_scale))]
-fn tail_share_of<const B: u32>(plan: &Plan, grids: &Grids<B>, i: u32, p: Frac) -> Option<Iv<B>>
+fn tail_share_of<const B: u32>(
+    plan: &Plan,
+    grids: &Grids<B>,
+    total: &Distribution<B>,
+    i: u32,
+    p: Frac,
+) -> Option<Iv<B>>
     requires scale { B ≡ bits_of plan.now.cells }
     requires valid { IsValid plan.now }
     requires independent { plan.now.common ≡ None }
     requires grids { AreGridsOf plan.now grids.now }
+    requires total { IsTotalOf plan.now total.now }
     requires unit { i < length plan.now.units }
     requires there { IsSome (get_or grids.now.sums.others.items i None) }
     requires level { IsLevel p }
@@ -148,19 +155,13 @@ fn tail_share_of<const B: u32>(plan: &Plan, grids: &Grids<B>, i: u32, p: Frac) -
     ensures share { IfSome result (IsTailShareOf plan.now i p) }
     ensures reached { IfSome result (λ _. IsAtLeast plan.now (at_the_end plan.now) p) }
     ensures absent { (x : ℕ) → IsNone result
-        → IsFirstFound (low_cdf (2 ^ B) (low_at grids.now.sums.total)) p plan.now.cells (Some x)
+        → IsFirstFound (low_cdf (2 ^ B) (low_at total.now)) p plan.now.cells (Some x)
         → MayBeAbsent (declared plan.now) plan.now.cells p (total_error (2 ^ B) plan.now) }
 {
     prove!(total_budget::<B>(plan) < BUDGET_BOUND);
     law_unit_mean();
     let mean = grids.means.as_slice()[i as usize];
-    cotail(
-        grids.unit(plan, i),
-        grids.others(plan, i),
-        &grids.sums.total,
-        mean,
-        p,
-    )
+    cotail(grids.unit(plan, i), grids.others(plan, i), total, mean, p)
 }
 
 /// The row of an ask for the share of unit `i` in the tail mean at `p`; without numbers where there
@@ -172,6 +173,7 @@ pub(crate) fn tail_share_row<const B: u32>(
     digits: u32,
     plan: &Plan,
     grids: &Grids<B>,
+    total: &Distribution<B>,
     i: u32,
     p: Frac,
 ) -> Result<Row, AllocError>
@@ -180,6 +182,7 @@ pub(crate) fn tail_share_row<const B: u32>(
     requires valid { IsValid plan.now }
     requires independent { plan.now.common ≡ None }
     requires grids { AreGridsOf plan.now grids.now }
+    requires total { IsTotalOf plan.now total.now }
     requires unit { i < length plan.now.units }
     requires there { IsSome (get_or grids.now.sums.others.items i None) }
     requires level { IsLevel p }
@@ -190,10 +193,10 @@ pub(crate) fn tail_share_row<const B: u32>(
         ⊎ IsBeyond plan.now p (total_error (2 ^ B) plan.now) row
         ⊎ IsNoTailShare plan.now p (total_error (2 ^ B) plan.now) row) }
 {
-    if let Some(share) = tail_share_of(plan, grids, i, p) {
+    if let Some(share) = tail_share_of(plan, grids, total, i, p) {
         return ends_row(alloc, asked, digits, share);
     }
-    match quantile(&grids.sums.total, p).hi {
+    match quantile(total, p).hi {
         Some(_) => row_with(alloc, asked, End::Absent, End::Absent),
         None => beyond_row(alloc, asked),
     }

@@ -5,7 +5,8 @@ use Rattle.dl_measures.proofs.CellEnds.{layer_ends}
 use Rattle.dl_measures.proofs.Widths.{rests}
 use Rattle.dl_plan.specs.Horizon.{edge_of}
 use Rattle.dl_measures.specs.Layers.{layer_most}
-use Rattle.dl_measures.proofs.Sums.{apart, low_most}
+use Rattle.dl_exact.proofs.Counts.{below_le}
+use Rattle.dl_measures.proofs.Sums.{apart, low_high, low_most}
 use Rattle.dl_measures.proofs.Reached.{more}
 
 -- the ends of the layer of a limit, in units of 1/S
@@ -155,3 +156,17 @@ module _ {B : ℕ} (cells : List (Iv B)) (limit : Option ℕ) (attachment lo hi 
   pub none_width : m ≤ n → hi - lo ≤ layer_width limit attachment (n - m) (spread cells)
   none_width ordered =
       rw is (omega (arith, no_limit_width cells attachment m n ordered))
+
+-- ---- the interval of a layer with a limit
+
+pub units_order : {B : ℕ} (cells : List (Iv B)) (limit attachment : ℕ)
+    → low_units cells limit attachment ≤ high_units cells limit attachment
+units_order {B} cells limit attachment = below_le limit
+    (λ i. 2 ^ B - min (2 ^ B) (count_below (suc (attachment + i)) (high_at cells)))
+    (λ i. 2 ^ B - count_below (suc (attachment + i)) (low_at cells))
+    (λ i h. omega (arith, low_high cells (suc (attachment + i))))
+
+pub units_fit : {B : ℕ} (cells : List (Iv B)) (limit attachment : ℕ) → IsGrid cells → limit ≤ length cells
+    → high_units cells limit attachment ≤ 2 ^ 127
+units_fit cells limit attachment grid inside =
+    omega (arith, high_units_most cells limit attachment, cells_fit cells limit grid inside)

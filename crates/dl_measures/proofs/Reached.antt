@@ -1,8 +1,9 @@
--- From the sums of a walk over the grid to the bracket of a quantile.
-use Rattle.dl_measures.proofs.Common.{ℕ, suc, ◌≡◌, inl, inr, ◌+◌, ◌*◌, ◌^◌, ◌<◌, ◌≤◌, min, List, length, arith, refl, sym, ap, subst, Option, Some, None, mul-le-mul, mul-le-mul_right, pow_pos, cases_lt, Fraction, whole, ◌over◌, ◌≤ℚ◌, ◌<ℚ◌, over_self, over_le, over_lt, le_trans, Iv, low_at, high_at, spread, IsGrid, scale_of, one_fits, count_below, Loss, AreDeclarable, One, total, GridEncloses, IsQuantile, IsBracketed, AreDeclared, low_cdf, high_cdf, IsTight, below_nothing, below_more, below_grows, are_units, quantity_bounded, IsFirstAtLeast, IsFirstFound, partial_sums, num_below, min-eq_left, min-eq_right, min-le_right, whole_positive}
+-- From the running sums of a grid to the bracket of a quantile.
+use Rattle.dl_measures.proofs.Common.{ℕ, suc, ◌≡◌, inl, inr, ◌+◌, ◌*◌, ◌^◌, ◌<◌, ◌≤◌, min, List, length, get_or, arith, refl, subst, Option, Some, None, mul-le-mul, mul-le-mul_right, pow_pos, cases_lt, Fraction, whole, ◌over◌, ◌≤ℚ◌, ◌<ℚ◌, over_self, over_le, over_lt, le_trans, Iv, low_at, high_at, spread, IsGrid, one_fits, count_below, Loss, AreDeclarable, One, total, GridEncloses, IsQuantile, IsBracketed, AreDeclared, low_cdf, high_cdf, IsTight, below_more, are_units, quantity_bounded, IsFirstAtLeast, IsFirstFound, partial_sums, num_below, min-eq_left, min-eq_right, min-le_right, whole_positive}
 use Rattle.dl_model.proofs.Bracket.{quantile_inside}
 use Rattle.dl_measures.proofs.FoundBrackets.{bracket, tight, high_rises}
-use Rattle.dl_measures.proofs.Sums.{apart, low_high, low_most, high_most}
+use Rattle.dl_measures.proofs.Sums.{apart, high_most}
+use Rattle.dl_measures.specs.Running.{AreSums}
 
 -- ---- a sum of units against the probability
 
@@ -22,29 +23,8 @@ lesser_reaches S c p below h = elim (cases_lt S c) [
   | inr l ↦ rw (min-eq_right l) h
 ]
 
--- ---- a walk over the grid
+-- ---- sums of one cell more
 
--- What the sums of the ends of the first x cells have shown, against `goal` in units of 1/S and 1/den: a is the first
--- cell at which the high ends reach it, and x where they have not yet; the low ends have not.
-pub record Walked (lo hi : ℕ → ℕ) (den goal x a low high : ℕ) : Type 0 where
-  pub low_sum : low ≡ count_below x lo
-  pub high_sum : high ≡ count_below x hi
-  pub within : a ≤ x
-  pub before : (y : ℕ) → y < a → count_below (suc y) hi * den < goal
-  pub reached : a < x → goal ≤ count_below (suc a) hi * den
-  pub not_yet : (y : ℕ) → y < x → count_below (suc y) lo * den < goal
-
-pub start : (lo hi : ℕ → ℕ) (den goal : ℕ) → Walked lo hi den goal 0 0 0 0
-start lo hi den goal = record {
-  low_sum = sym (below_nothing lo);
-  high_sum = sym (below_nothing hi);
-  within = omega arith;
-  before = λ y h. absurd (omega arith);
-  reached = λ h. absurd (omega arith);
-  not_yet = λ y h. absurd (omega arith);
-}
-
--- the sums of one cell more
 pub more : (f : ℕ → ℕ) (x s t : ℕ) → s ≡ count_below x f → t ≡ f x → s + t ≡ count_below (suc x) f
 unfolding count_below
 more f x s t e h = omega arith
@@ -52,95 +32,63 @@ more f x s t e h = omega arith
 pub next_sum : (f : ℕ → ℕ) (x s t : ℕ) → s ≡ count_below x f → t ≡ f x → s + t ≡ count_below (x + 1) f
 next_sum f x s t e h = omega (arith, below_more x f)
 
--- up to the next cell the ends have not reached the goal
-still_short : (f : ℕ → ℕ) (den goal x s y : ℕ) → s ≡ count_below (suc x) f → s * den < goal → y < x + 1
-    → count_below (suc y) f * den < goal
-still_short f den goal x s y e h inside =
-    omega (arith, ap (λ t. t * den) e, mul-le-mul_right den (below_grows (suc y) (suc x) f (omega arith)))
+-- ---- what a search in the running sums has found
 
--- the goal is reached at a, where it is there before x, or at x
-reached_by : (f : ℕ → ℕ) (goal a x : ℕ) → a ≤ x → (a < x → goal ≤ f a) → goal ≤ f x → goal ≤ f a
-reached_by f goal a x within before here = elim (cases_lt a x) [
-  | inl less ↦ before less
-  | inr last ↦ subst (λ k. goal ≤ f k) (omega arith) here
-]
+-- against `goal` in units of 1/S and 1/den, which is p
+module _ {B : ℕ} (cells : List (Iv B)) (p : Fraction) {den goal : ℕ} (e : den ≡ p.den) (g : goal ≡ p.num * 2 ^ B)
+    (below : p <ℚ whole 1) where
+  in_parts : (s c : ℕ) → s ≡ c → s * den ≡ c * p.den
+  in_parts s c is = rw (is, e)
 
-module _ {lo hi : ℕ → ℕ} {den goal x a low high l h : ℕ} (w : Walked lo hi den goal x a low high) (is_low : l ≡ lo x)
-    (is_high : h ≡ hi x) (short : (low + l) * den < goal) where
-  step : (b : ℕ) → b ≤ x + 1 → ((y : ℕ) → y < b → count_below (suc y) hi * den < goal)
-      → (b < x + 1 → goal ≤ count_below (suc b) hi * den) → Walked lo hi den goal (x + 1) b (low + l) (high + h)
-  step b within before reached = record {
-    low_sum = next_sum lo x low l w.low_sum is_low;
-    high_sum = next_sum hi x high h w.high_sum is_high;
-    within = within;
-    before = before;
-    reached = reached;
-    not_yet = λ y i. still_short lo den goal x (low + l) y (more lo x low l w.low_sum is_low) short i;
+  pub found_high : {sums : List ℕ} (a : ℕ) → AreSums (high_at cells) (length cells) sums → a + 1 ≤ length sums
+      → ((x : ℕ) → x < a → get_or sums (suc x) 0 * den < goal)
+      → (a + 1 < length sums → goal ≤ get_or sums (suc a) 0 * den)
+      → IsFirstAtLeast (high_cdf (2 ^ B) (high_at cells)) p (length cells) a
+  found_high {sums} a are within before reached = record {
+    within = omega (arith, are.long);
+    before = λ y i.
+        let sum = count_below (suc y) (high_at cells) in
+        short (2 ^ B) (min (2 ^ B) sum) p (pow_pos B)
+        (omega (
+          arith,
+          before y i,
+          in_parts (get_or sums (suc y) 0) sum (are.each (suc y) (omega (arith, are.long))),
+          mul-le-mul_right p.den (min-le_right (2 ^ B) sum),
+        ));
+    reached = λ i.
+        let sum = count_below (suc a) (high_at cells) in
+        reaches (2 ^ B) (min (2 ^ B) sum) p (pow_pos B)
+        (lesser_reaches (2 ^ B) sum p below
+        (omega (
+          arith,
+          reached (omega (arith, are.long)),
+          in_parts (get_or sums (suc a) 0) sum (are.each (suc a) (omega arith)),
+        )));
   }
 
-  pub passed : (high + h) * den < goal → Walked lo hi den goal (x + 1) (x + 1) (low + l) (high + h)
-  passed high_too = step (x + 1) (omega arith)
-      (λ y i. still_short hi den goal x (high + h) y (more hi x high h w.high_sum is_high) high_too i)
-      (λ i. absurd (omega arith))
-
-  pub stayed : goal ≤ (high + h) * den → Walked lo hi den goal (x + 1) a (low + l) (high + h)
-  stayed enough = step a (omega (arith, w.within)) w.before
-      (λ i. reached_by (λ k. count_below (suc k) hi * den) goal a x w.within w.reached
-      (subst (λ t. goal ≤ t * den) (more hi x high h w.high_sum is_high) enough))
-
--- ---- what the walk has found
-
-module _ {B : ℕ} (cells : List (Iv B)) (p : Fraction) {den goal x a low high : ℕ}
-    (w : Walked (low_at cells) (high_at cells) den goal x a low high)
-    (e : den ≡ p.den) (g : goal ≡ p.num * 2 ^ B) (below : p <ℚ whole 1) where
-  before_high : (y : ℕ) → y < a → high_cdf (2 ^ B) (high_at cells) y <ℚ p
-  before_high y i =
-      let c = count_below (suc y) (high_at cells) in
-      short (2 ^ B) (min (2 ^ B) c) p (pow_pos B)
-      (omega (arith, w.before y i, ap (λ t. c * t) e, mul-le-mul_right p.den (min-le_right (2 ^ B) c)))
-
-  before_low : (y : ℕ) → y < x → low_cdf (2 ^ B) (low_at cells) y <ℚ p
-  before_low y i = short (2 ^ B) (count_below (suc y) (low_at cells)) p (pow_pos B)
-      (omega (arith, w.not_yet y i, ap (λ t. count_below (suc y) (low_at cells) * t) e))
-
-  at_high : (y : ℕ) → goal ≤ count_below (suc y) (high_at cells) * den → p ≤ℚ high_cdf (2 ^ B) (high_at cells) y
-  at_high y i = reaches (2 ^ B) (min (2 ^ B) (count_below (suc y) (high_at cells))) p (pow_pos B)
-      (lesser_reaches (2 ^ B) (count_below (suc y) (high_at cells)) p below
-      (omega (arith, ap (λ t. count_below (suc y) (high_at cells) * t) e)))
-
-  -- the low ends reach the goal at x
-  pub found : {l : ℕ} → x < length cells → l ≡ low_at cells x → goal ≤ (low + l) * den
-      → IsFirstAtLeast (high_cdf (2 ^ B) (high_at cells)) p (length cells) a
-      × IsFirstAtLeast (low_cdf (2 ^ B) (low_at cells)) p (length cells) x
-  found {l} inside is enough =
-      let sum : goal ≤ count_below (suc x) (low_at cells) * den =
-      subst (λ t. goal ≤ t * den) (more (low_at cells) x low l w.low_sum is) enough in
-      let first = reached_by (λ k. count_below (suc k) (high_at cells) * den) goal a x w.within w.reached
-      (omega (arith, mul-le-mul_right den (low_high cells (suc x)))) in (
-        record { within = omega (arith, w.within); before = before_high; reached = λ i. at_high a first },
-        record {
-          within = omega arith;
-          before = before_low;
-          reached = λ i. reaches (2 ^ B) (count_below (suc x) (low_at cells)) p (pow_pos B)
-              (omega (arith, ap (λ t. count_below (suc x) (low_at cells) * t) e));
-        },
-      )
-
-  -- the low ends have nowhere reached it
-  pub ended : x ≡ length cells → IsFirstAtLeast (high_cdf (2 ^ B) (high_at cells)) p (length cells) a
-      × IsFirstAtLeast (low_cdf (2 ^ B) (low_at cells)) p (length cells) (length cells)
-  ended all = (
-    record {
-      within = omega (arith, w.within);
-      before = before_high;
-      reached = λ i. at_high a (w.reached (omega arith));
-    },
-    record {
-      within = omega arith;
-      before = λ y i. before_low y (omega arith);
-      reached = λ i. absurd (omega arith);
-    },
-  )
+  pub found_low : {sums : List ℕ} (a : ℕ) → AreSums (low_at cells) (length cells) sums → a + 1 ≤ length sums
+      → ((x : ℕ) → x < a → get_or sums (suc x) 0 * den < goal)
+      → (a + 1 < length sums → goal ≤ get_or sums (suc a) 0 * den)
+      → IsFirstAtLeast (low_cdf (2 ^ B) (low_at cells)) p (length cells) a
+  found_low {sums} a are within before reached = record {
+    within = omega (arith, are.long);
+    before = λ y i.
+        let sum = count_below (suc y) (low_at cells) in
+        short (2 ^ B) sum p (pow_pos B)
+        (omega (
+          arith,
+          before y i,
+          in_parts (get_or sums (suc y) 0) sum (are.each (suc y) (omega (arith, are.long))),
+        ));
+    reached = λ i.
+        let sum = count_below (suc a) (low_at cells) in
+        reaches (2 ^ B) sum p (pow_pos B)
+        (omega (
+          arith,
+          reached (omega (arith, are.long)),
+          in_parts (get_or sums (suc a) 0) sum (are.each (suc a) (omega arith)),
+        ));
+  }
 
 -- ---- what the bracket holds
 
@@ -176,19 +124,6 @@ module _ {B : ℕ} (cells : List (Iv B)) (p : Fraction) (a : ℕ) (b : Option �
       quantile_inside us bound.0 p some.0 q a b (are_units us d) bound.1 some.1 is (is_bracket us (are_units us d) e)
 
 -- ---- sizes
-
-pub product_fits : (s den : ℕ) → s ≤ 2 ^ 70 → den ≤ 1000000000 → s * den < 2 ^ 128
-product_fits s den h k = let most : s * den ≤ 2 ^ 70 * 1000000000 = mul-le-mul h k in omega arith
-
-pub low_fits : {B : ℕ} (cells : List (Iv B)) (x low l : ℕ) → IsGrid cells → low ≡ count_below x (low_at cells)
-    → l ≡ low_at cells x → low + l ≤ 2 ^ 70
-low_fits {B} cells x low l grid e is =
-    omega (
-      arith,
-      more (low_at cells) x low l e is,
-      low_most cells (suc x) grid,
-      one_fits B (scale_of cells grid.some).1,
-    )
 
 pub high_fits : {B : ℕ} (cells : List (Iv B)) (x high h : ℕ) → IsGrid cells → x < length cells
     → high ≡ count_below x (high_at cells) → h ≡ high_at cells x → high + h ≤ 2 ^ 70

@@ -1,4 +1,5 @@
 pub mod Brackets
 pub mod Layers
 pub mod Ends
+pub mod Running
 pub mod Prelude

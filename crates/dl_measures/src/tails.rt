@@ -8,10 +8,11 @@ ghost use Rattle.dl_model.specs.Prelude.{AtLeast, Holds, Loss, One, Mean, Tail, 
 ghost use Rattle.dl_measures.specs.Ends.{low_cdf};
 ghost use Rattle.dl_measures.specs.Brackets.{IsFirstFound};
 
+use crate::distribution::Distribution;
 use crate::layers::layer_mean;
 use crate::quantiles::quantile;
 use dl_frac::Frac;
-use dl_grid::{Grid, units_of_one};
+use dl_grid::units_of_one;
 use dl_iv::Iv;
 
 /// The mean above the quantile over `1 - p`: the quotients, of which the low end is
@@ -35,7 +36,7 @@ fn over_the_rest<const B: u32>(excess: Iv<B>, slack: u128, p: Frac) -> Iv<B>
 /// probability is `1 - p`. It is the quantile at `p`, and the mean of what lies above the quantile
 /// over `1 - p`. `p` is below 1, with parts of at most `10^9`, and `mean` is to hold the mean of
 /// the total. None exactly where the bracket of the quantile has no high end.
-pub fn tail_mean<const B: u32>(g: &Grid<B>, p: Frac, mean: Iv<B>) -> Option<Iv<B>>
+pub fn tail_mean<const B: u32>(g: &Distribution<B>, p: Frac, mean: Iv<B>) -> Option<Iv<B>>
     requires below_one { p <ℚ whole 1 }
     requires small { p.den ≤ 1000000000 }
     requires mean { mean.hi ≤ 2 ^ 97 }

@@ -7,7 +7,7 @@ use crate::tests::helpers::{DICE, grid, is_near};
 use dl_frac::Frac;
 use dl_grid::Grid;
 use dl_iv::Iv;
-use dl_measures::{layer_mean, quantile, tail_mean};
+use dl_measures::{Distribution, grid_layer_mean, layer_mean, quantile, tail_mean};
 use std::alloc::{AllocError, Global};
 
 /// How many parts of 216 each total from 0 to 6 has. The mean is 19/6.
@@ -221,7 +221,8 @@ fn is_reached<const B: u32>(
         return Ok(false);
     };
     let g = grid::<B>(alloc, &PARTS, 216, 1, case.cells.clamp(1, 7))?;
-    let bracket = quantile(&g, p);
+    let total = Distribution::of(alloc, &g)?;
+    let bracket = quantile(&total, p);
     Ok(bracket.lo == want.0 && bracket.hi.unwrap_or(PAST) == want.1)
 }
 
@@ -236,8 +237,10 @@ fn holds<const B: u32>(alloc: Global, case: &Covered) -> Result<bool, AllocError
         return Ok(false);
     }
     let g = grid::<B>(alloc, &PARTS, 216, 1, 7)?;
-    let mean = layer_mean(&g, limit, attach, Iv::enclose(19, 6));
-    Ok(is_near(mean, case.want, 64))
+    let total = Distribution::of(alloc, &g)?;
+    let mean = layer_mean(&total, limit, attach, Iv::enclose(19, 6));
+    let walked = grid_layer_mean(&g, limit, attach, Iv::enclose(19, 6));
+    Ok(is_near(mean, case.want, 64) && walked.lo == mean.lo && walked.hi == mean.hi)
 }
 
 /// The sum of two dice on 16 cells, or the total on so many.
@@ -269,7 +272,8 @@ fn holds_tail<const B: u32>(alloc: Global, case: &Beyond) -> Result<bool, AllocE
         return Ok(false);
     }
     let g = total_of::<B>(alloc, case.dice, case.cells)?;
-    Ok(match (tail_mean(&g, p, mean), case.want) {
+    let total = Distribution::of(alloc, &g)?;
+    Ok(match (tail_mean(&total, p, mean), case.want) {
         (Some(mean), Some(want)) => is_near(mean, want, 2048),
         (None, None) => true,
         _ => false,

@@ -7,8 +7,8 @@ use crate::tests::helpers::is_near;
 use crate::tests::measures::{level, total_of};
 use dl_distort::price;
 use dl_frac::Frac;
-use dl_grid::Grid;
 use dl_iv::Iv;
+use dl_measures::Distribution;
 use dl_plan::Term;
 use std::alloc::{AllocError, Global};
 
@@ -79,7 +79,7 @@ const CASES: [Case; 6] = [
 
 /// The price by two terms, whose weights are over their sum.
 fn price_of<const B: u32>(
-    g: &Grid<B>,
+    total: &Distribution<B>,
     mean: Iv<B>,
     weights: (u32, u32),
     first: Frac,
@@ -107,7 +107,7 @@ fn price_of<const B: u32>(
             p: second,
         },
     ];
-    price(g, &terms, mean)
+    price(total, &terms, mean)
 }
 
 /// Whether the price holds its value, and is narrow, or there is none, as is wanted.
@@ -128,8 +128,12 @@ fn is_priced<const B: u32>(alloc: Global, case: &Case) -> Result<bool, AllocErro
         return Ok(false);
     }
     let g = total_of::<B>(alloc, case.dice, case.cells)?;
+    let total = Distribution::of(alloc, &g)?;
     Ok(
-        match (price_of(&g, mean, case.weights, first, second), case.want) {
+        match (
+            price_of(&total, mean, case.weights, first, second),
+            case.want,
+        ) {
             (Some(price), Some(want)) => is_near(price, want, 4096),
             (None, None) => true,
             _ => false,

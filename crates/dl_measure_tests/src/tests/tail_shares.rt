@@ -7,6 +7,7 @@ use crate::tests::measures::level;
 use dl_cotail::cotail;
 use dl_grid::units_of_one;
 use dl_iv::Iv;
+use dl_measures::Distribution;
 use std::alloc::{AllocError, Global};
 
 /// How many parts of 6 each outcome of the unit has, of the other, and of 36 their total, up to 6;
@@ -147,7 +148,8 @@ fn is_shared<const B: u32>(alloc: Global, case: &Case) -> Result<bool, AllocErro
     if p.den() > 10_000 || mean.hi > 1 << 97 {
         return Ok(false);
     }
-    Ok(match (cotail(&unit, &other, &total, mean, p), case.want) {
+    let sums = Distribution::of(alloc, &total)?;
+    Ok(match (cotail(&unit, &other, &sums, mean, p), case.want) {
         (Some(share), Some(want)) => is_near(share, want, 1 << 26),
         (None, None) => true,
         _ => false,

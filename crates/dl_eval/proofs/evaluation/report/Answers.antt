@@ -16,12 +16,12 @@ row-requires g c =
     let test = c.loop-i-test.true in
     let unit = named_here plan.units i same c.requires.numbers c.index-asks-i.is test in
     let many = numbers_many plan.units same c.requires.numbers in
-    (omega arith) also (omega arith) also c.requires.scale also c.requires.ranges.few_digits
+    (omega arith) also (omega arith) also (omega arith) also c.requires.scale also c.requires.ranges.few_digits
     also ask_has (λ (a : Asked). IsAskInRange a.ask) i same c.index-asks-i.is test c.requires.ranges.asks
     also c.requires.valid also ask_has (λ (a : Asked). IsInside plan.cells a.ask) i same c.index-asks-i.is test
     c.requires.inside also ask_has (λ (a : Asked). NamesUnit plan.units a.ask) i same c.index-asks-i.is test
     c.requires.named also ask_has (λ (a : Asked). HasShare plan a.ask) i same c.index-asks-i.is test c.requires.shares
-    also c.requires.grids also unit
+    also c.requires.grids also c.requires.total also c.requires.summed also unit
     also IfSome_then c.args.parts.now.grids c.requires.there (λ made each. each i None (omega (arith, many, test)))
     also (λ none. ask_has (λ (a : Asked). a.ask ≡ Mean) i same c.index-asks-i.is test (c.requires.none none))
     also c.requires.mean also c.requires.small

@@ -10,20 +10,18 @@ use Rattle.dl_eval.proofs.rows.grid_row.Goals as goal
 
 pub at-requires : goal.at-requires
 at-requires g c =
-    let total = c.total-total.ensures c.args.plan.now c.requires.grids in
-    omega (arith, rw c.in-Pmf.is at c.requires.inside)
+    omega (arith, c.requires.total.cells, rw c.in-Pmf.is at c.requires.inside)
 
 pub cdf-requires : goal.cdf-requires
 cdf-requires g c =
-    let total = c.total-total.ensures c.args.plan.now c.requires.grids in
-    omega (arith, rw c.in-Cdf.is at c.requires.inside)
+    omega (arith, c.requires.total.cells, rw c.in-Cdf.is at c.requires.inside)
 
 pub layer_mean-layer-requires : goal.layer_mean-layer-requires
 layer_mean-layer-requires g c =
     let scale = plan_scale g.row.B c.args.plan.now.cells c.requires.scale in
     (omega (arith, scale.least, scale.most)) also (omega (arith, scale.least, scale.most))
-    also layer_inside c.args.plan.now.cells c.total-total.result.now c.in-LayerMean.limit c.in-LayerMean.attach (rw
-    c.in-LayerMean.is at c.requires.inside) (c.total-total.ensures c.args.plan.now c.requires.grids).cells
+    also layer_inside c.args.plan.now.cells c.args.total.now c.in-LayerMean.limit c.in-LayerMean.attach (rw
+    c.in-LayerMean.is at c.requires.inside) c.requires.total.cells
 
 pub quantile_row-requires : goal.quantile_row-requires
 quantile_row-requires g c =
@@ -46,16 +44,16 @@ pub returns-in-Pmf-clause-answer : goal.returns-in-Pmf-clause-answer
 returns-in-Pmf-clause-answer g c =
     IfOk-weaker c.ends_row.result _ _ (λ row printed.
     rw c.in-Pmf.is (point_answer c.in-Pmf.x c.at.ensures.low c.at.ensures.high
-    (omega (arith, rw c.in-Pmf.is at c.requires.inside, (c.total-total.ensures c.args.plan.now c.requires.grids).cells))
-    (c.total-total.ensures c.args.plan.now c.requires.grids) printed))
+    (omega (arith, rw c.in-Pmf.is at c.requires.inside, c.requires.total.cells))
+    c.requires.total printed))
     c.ends_row.ensures.ends
 
 pub returns-in-Cdf-clause-answer : goal.returns-in-Cdf-clause-answer
 returns-in-Cdf-clause-answer g c =
     IfOk-weaker c.ends_row-in-Cdf.result _ _ (λ row printed.
     rw c.in-Cdf.is (cdf_answer c.in-Cdf.x c.cdf.ensures.low c.cdf.ensures.high
-    (omega (arith, rw c.in-Cdf.is at c.requires.inside, (c.total-total.ensures c.args.plan.now c.requires.grids).cells))
-    c.requires.valid (c.total-total.ensures c.args.plan.now c.requires.grids) printed))
+    (omega (arith, rw c.in-Cdf.is at c.requires.inside, c.requires.total.cells))
+    c.requires.valid c.requires.total printed))
     c.ends_row-in-Cdf.ensures.ends
 
 pub returns-in-LayerMean-clause-answer : goal.returns-in-LayerMean-clause-answer
@@ -63,7 +61,7 @@ returns-in-LayerMean-clause-answer g c =
     IfOk-weaker c.ends_row-in-LayerMean.result _ _ (λ row printed. rw c.in-LayerMean.is (layer_answer
     c.in-LayerMean.attach
     c.in-LayerMean.limit c.layer_mean-layer.ensures.holds c.layer_mean-layer.ensures.width c.requires.valid
-    (c.total-total.ensures c.args.plan.now c.requires.grids) c.requires.mean printed))
+    c.requires.total c.requires.mean printed))
     c.ends_row-in-LayerMean.ensures.ends
 
 pub returns-in-Mean-clause-answer : goal.returns-in-Mean-clause-answer
@@ -74,13 +72,13 @@ returns-in-Mean-clause-answer g c =
 pub returns-in-Tail-clause-answer : goal.returns-in-Tail-clause-answer
 returns-in-Tail-clause-answer g c =
     IfOk-weaker c.tail_row.result _ _ (λ row told. rw c.in-Tail.is (tail_asked (2 ^ g.row.B)
-    (told c.args.plan.now c.requires.valid (c.total-total.ensures c.args.plan.now c.requires.grids) c.requires.mean)))
+    (told c.args.plan.now c.requires.valid c.requires.total c.requires.mean)))
     c.tail_row.ensures.tail
 
 pub returns-in-Price-clause-answer : goal.returns-in-Price-clause-answer
 returns-in-Price-clause-answer g c =
     IfOk-weaker c.price_row.result _ _ (λ row told. rw c.in-Price.is (price_asked (2 ^ g.row.B) c.as_slice.ensures
-    (told c.args.plan.now c.requires.valid (c.total-total.ensures c.args.plan.now c.requires.grids) c.requires.mean)))
+    (told c.args.plan.now c.requires.valid c.requires.total c.requires.mean)))
     c.price_row.ensures.price
 
 pub returns-in-Joint-clause-answer : goal.returns-in-Joint-clause-answer

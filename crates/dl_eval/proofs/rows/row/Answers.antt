@@ -2,8 +2,8 @@ use Rattle.dl_eval.proofs.Common.{if_ok_two}
 use Rattle.dl_eval.proofs.GoodRows.{mean_answer}
 use Rattle.dl_eval.proofs.rows.row.Goals as goal
 
-pub returns-in-Some : goal.returns-in-Some
-returns-in-Some g c =
+pub returns-in-Some-total : goal.returns-in-Some-total
+returns-in-Some-total g c =
     if_ok_two c.grid_row.result _ _ _ (λ row word told. record {
       ask = word;
       answer = rw (← c.requires.scale) told;

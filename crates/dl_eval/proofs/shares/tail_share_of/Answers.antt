@@ -7,12 +7,12 @@ use Rattle.dl_eval.proofs.shares.tail_share_of.Goals as goal
 pub returns-clause-reached : goal.returns-clause-reached
 returns-clause-reached g c =
     share_reached c.args.p c.cotail.result
-    (λ past. c.cotail.ensures.none.1 (inl past)) c.requires.valid c.requires.grids.total
+    (λ past. c.cotail.ensures.none.1 (inl past)) c.requires.valid c.requires.total
 
 pub returns-clause-absent : goal.returns-clause-absent
 returns-clause-absent g c x none found =
     share_absent c.args.p c.cotail.result x c.cotail.ensures.absent none
-    found c.requires.valid c.requires.grids.total c.requires.independent
+    found c.requires.valid c.requires.total c.requires.independent
 
 pub returns-clause-share : goal.returns-clause-share
 returns-clause-share g c =
@@ -22,7 +22,7 @@ returns-clause-share g c =
     c.as_slice.ensures.value mean.is (omega (arith, c.requires.unit, made.means.as_many)) in
     tail_share c.args.p c.cotail.result c.cotail.ensures.holds
     c.cotail.ensures.width c.law_unit_mean.ensures c.unit.ensures.is read c.requires.unit c.requires.valid made.means
-    c.others.ensures.are made.total c.requires.independent
+    c.others.ensures.are c.requires.total c.requires.independent
 
 pub cotail-requires : goal.cotail-requires
 cotail-requires g c =
@@ -33,10 +33,10 @@ cotail-requires g c =
     let read = read_as c.args.i mean.result
     c.as_slice.ensures.value mean.is (omega (arith, c.requires.unit, made.means.as_many)) in
     let small = made.small c.args.i mean.result (omega (arith, c.requires.unit, made.means.as_many)) in
-    (omega (arith, scale.least, scale.most)) also (omega (arith, scale.least, scale.most))
+    (omega (arith, scale.least, scale.most)) also (omega (arith, scale.least, scale.most)) also (omega arith)
     also c.requires.level.below also c.requires.few
     also (omega (arith, c.unit.ensures.is.cells, c.others.ensures.are.cells))
-    also (omega (arith, c.unit.ensures.is.cells, made.total.cells)) also (omega (arith, c.unit.ensures.narrow, least))
+    also (omega (arith, c.unit.ensures.is.cells, c.requires.total.cells)) also (omega (arith, c.unit.ensures.narrow, least))
     also (omega (arith, c.others.ensures.narrow, least))
-    also (omega (arith, made.total.narrow, c.total_budget.ensures.value, c.if-prove.false, least))
+    also (omega (arith, c.requires.total.narrow, c.total_budget.ensures.value, c.if-prove.false, least))
     also (omega (arith, small, ap (λ m. m.hi) read))

@@ -10,12 +10,12 @@ returns-in-Some-clause-share g c =
 
 pub returns-in-None-clause-share : goal.returns-in-None-clause-share
 returns-in-None-clause-share g c =
-    let total = c.args.grids.now.sums.total in
+    let total = c.args.total.now in
     IfOk-weaker c.beyond_row.result _ _ (λ row past. inr (inl (record {
       past = past;
       below = ends_below
           (subst (λ (hi : Option ℕ). IsFirstFound (low_cdf (2 ^ g.row.B) (low_at total)) c.args.p (length total) hi)
           c.in-None.is c.quantile.ensures.hi)
-          c.requires.valid c.requires.grids.total;
+          c.requires.valid c.requires.total;
     })))
     c.beyond_row.ensures.ends
