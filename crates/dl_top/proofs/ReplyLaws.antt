@@ -200,22 +200,30 @@ has_form words input a = settled words input a.settings a.formats.say a.program 
     (λ plan planned valid of. absurd (subst IsOfPlan a.formats.form (of_cert_is_of_plan a.settings.form of)))
     (λ plan planned valid e. absurd (cc (a.formats.form))) (λ plan planned valid e. absurd (cc (a.formats.form)))
 
--- so is a text of which a certificate is wanted, and whose program is covered and breaks no rule
+-- so is a text whose program is covered and breaks no rule, where nothing is asked and no step is bad
+settled_covered : (words : List (List ℕ)) (input : List ℕ) (a : Settings) → Say words a → (p : Program)
+    → SpellsProgram a.form input p → first_fault p a ≡ None
+    → ((plan : Plan) → IsPlanOf p a plan → IsValid plan → IsCovered plan) → (a.form ≡ Run → ⊥)
+    → ((plan : Plan) → IsPlanOf p a plan → IsValid plan → a.form ≡ Verify → (k : ℕ) → IsCovered plan
+    → IsBadStep plan (steps_of a.form input) k → ⊥) → (fault : Fault) (tokens : List Token)
+    → Refuses words input fault tokens → fault ≡ Read
+settled_covered words input a say p spells faultless covered no_ask steps = settled words input a say p spells
+    (λ of. faultless)
+    (λ plan planned valid of u. covered_not_refused plan u (covered plan planned valid)) steps
+    (λ plan planned valid e. absurd (no_ask e))
+
+-- as where a certificate of it is wanted
 pub certifiable : (words : List (List ℕ)) (input : List ℕ) → IsCertifiable words input
     → (fault : Fault) (tokens : List Token) → Refuses words input fault tokens → fault ≡ Read
-certifiable words input a = settled words input a.settings a.certify.say a.program a.spells
-    (λ of. a.faultless)
-    (λ plan planned valid of u. covered_not_refused plan u (a.covered plan planned valid))
-    (λ plan planned valid e. absurd (cc (a.certify.form))) (λ plan planned valid e. absurd (cc (a.certify.form)))
+certifiable words input a = settled_covered words input a.settings a.certify.say a.program a.spells a.faultless a.covered
+    (λ e. cc (a.certify.form)) (λ plan planned valid e. absurd (cc (a.certify.form)))
 
--- and so is one with steps that certify it, where these are wanted checked
+-- or where the steps behind it certify it, and are wanted checked
 pub verifiable : (words : List (List ℕ)) (input : List ℕ) → IsVerifiable words input
     → (fault : Fault) (tokens : List Token) → Refuses words input fault tokens → fault ≡ Read
-verifiable words input a = settled words input a.settings a.verify.say a.program a.spells
-    (λ of. a.faultless)
-    (λ plan planned valid of u. covered_not_refused plan u (a.covered plan planned valid))
+verifiable words input a = settled_covered words input a.settings a.verify.say a.program a.spells a.faultless a.covered
+    (λ e. cc (a.verify.form))
     (λ plan planned valid e k covered. not_bad plan (steps_of a.settings.form input) k (a.steps plan planned valid))
-    (λ plan planned valid e. absurd (cc (a.verify.form)))
 
 -- ---- which text the words are about
 
