@@ -11,7 +11,7 @@ ghost use Rattle.dl_model.specs.Program.{Loss, AreDeclarable, total};
 
 /// The sum of the claims of one Poisson unit in the place of some has in every cell the declared
 /// value of their total, so that a grid which encloses it encloses their total. Beside other losses,
-/// too, one unit stands for the others.
+/// the total with that one unit has the cells of the total with all of them.
 pub fn law_poisson_total()
     ensures same { (units : List UnitOfPlan) (made : UnitOfPlan) → IsPoissonSum units made
         → SameCells (compound_of made.freq made.sev) (total (map loss_of units)) }

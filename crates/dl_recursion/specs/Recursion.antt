@@ -99,7 +99,7 @@ pub record IsGrown (parts : List Part) (a b q : ℕ) (x y : ScaledCells) : Type 
       → EncloseScaled r x.shift (length x.low.items) x.low.items x.high.items
       → EncloseScaled r y.shift (length y.low.items) y.low.items y.high.items
 
--- the parts are at most `top`, and the factors of cell n come to no more than what it is divided by
+-- no amount is above `top`, and (a * n + b * top) times the sum of the weights is at most q * n
 pub record AreFalling (parts : List Part) (a b q top n : ℕ) : Type 0 where
   pub reach : All (λ p. p.amount ≤ top) parts
   pub falling : (a * n + b * top) * part_sum parts ≤ q * n
