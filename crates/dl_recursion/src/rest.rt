@@ -1,7 +1,7 @@
 //! The last cells of the recursion, once the low ends have become 0. Where
-//! `(a * n + b * top) * weight <= q * n`, with `top` the greatest amount and `weight` the sum of the
-//! weights, no cell from `n` on is above the greatest of the `top` cells before it: all of them get
-//! that one high end, and the low end 0.
+//! `(a * n + b * top) * weight <= q * n`, with `top` the greatest amount and `weight` the sum of
+//! the weights, no cell from `n` on is above the greatest of the `top` cells before it: all of them
+//! get that one high end, and the low end 0.
 
 ghost use Rattle.std.specs.Prelude.{◌≡◌, ℕ, ◌+◌, ◌-◌, ◌*◌, ◌^◌, ◌<◌, ◌≤◌, List, length, slice_index, All, IfOk, IsTrue};
 ghost use Rattle.dl_limits.specs.Limits.{most_end};
@@ -39,9 +39,9 @@ pub(crate) fn reach_of(parts: &[Part]) -> Reach
     Reach { amount, weight }
 }
 
-/// Whether no amount is above `n`, and `(a * n + b * top) * weight <= q * n` with the greatest amount
-/// `top` and the sum `weight` of the weights; then that holds for each later cell, too. False where
-/// there are runs: with them a cell costs little.
+/// Whether no amount is above `n`, and `(a * n + b * top) * weight <= q * n` with the greatest
+/// amount `top` and the sum `weight` of the weights; then that holds for each later cell, too. False
+/// where there are runs: with them a cell costs little.
 pub(crate) fn is_falling(amounts: &Amounts, reach: Reach, a: u64, b: u64, q: u64, n: usize) -> bool
     requires weight { reach.weight ≡ part_sum amounts.now.parts.items }
     requires steps { (a + b) * n < 2 ^ 32 }
