@@ -1,5 +1,7 @@
 -- The product of two lists from its remainders.
-use Rattle.dl_transform.proofs.Common.{ℕ, zero, suc, ◌≡◌, ◌+◌, ◌-◌, ◌*◌, ◌/◌, ◌%◌, ◌^◌, ◌<◌, ◌≤◌, List, length, get_or, sum_by, mul-le-mul_left, mul-le-mul_right, arith, sym, ap, ap₂, ◌∙◌, div_below, get_or_past, Same, count_pairs, pairs_none, eval, [], ◌∷◌, All, div-add-mod, pow-le-pow_right, mul-le-mul, mod_below}
+use Rattle.dl_transform.proofs.Common.{ℕ, zero, suc, ◌≡◌, ◌+◌, ◌-◌, ◌*◌, ◌/◌, ◌%◌, ◌^◌, ◌<◌, ◌≤◌, List, length, get_or, sum_by, mul-le-mul_left, mul-le-mul_right, arith, sym, ap, ap₂, ◌∙◌, div_below, get_or_past, Same, count_pairs, pairs_none, eval, [], ◌∷◌, All, div-add-mod, pow-le-pow_right, mul-le-mul, mod_below, IsTable}
+use Rattle.dl_transform.specs.Lists.{IsTableFor}
+use Rattle.dl_transform.specs.declared.tables.Table.{Table}
 use Rattle.std.proofs.lemmas.List.Sums.{sum_by-cons}
 use Rattle.dl_transform.proofs.Residues.{same_refl, same_of, same_by, same_sym, same_trans, same_times, same_cancel, same_below, same_mod}
 use Rattle.dl_transform.proofs.Values.{eval_scale, eval_padded, eval_product}
@@ -72,8 +74,14 @@ from_two p1 p2 w n r1 r2 d v pos big first small second inverse e here below =
 pub two_room : (p1 p2 : ℕ) → 3 * 2 ^ 60 ≤ p1 → 3 * 2 ^ 60 ≤ p2 → 2 ^ 123 ≤ p1 * p2
 two_room p1 p2 h k = omega (arith, mul-le-mul h k)
 
-pub levels_room : (l most R : ℕ) → l ≤ most → 2 ^ most ≤ 2 * R → 2 ^ l ≤ 2 * R
-levels_room l most R h k = omega (arith, pow-le-pow_right {n = 2} (omega arith) {i = l} {j = most} h, k)
+-- a table with room for some levels has room for fewer
+pub table_for : {t : Table} {l most : ℕ} → l ≤ most → IsTable t → most < length t.scales.items
+    → 2 ^ most ≤ 2 * length t.roots.items → IsTableFor t l
+table_for {l = l} {most = most} fewer right inside room = record {
+  table = right;
+  inside = omega (arith, fewer, inside);
+  within = omega (arith, pow-le-pow_right {n = 2} (omega arith) {i = l} {j = most} fewer, room);
+}
 
 -- the sum of one list times what no item of the other is above
 pub pairs_bound : (a : List ℕ) (b : ℕ → ℕ) (m s : ℕ) → ((k : ℕ) → b k ≤ m)

@@ -1,5 +1,5 @@
 -- Remainders by p.
-use Rattle.std.specs.Prelude.{ℕ, ◌≡◌, ◌+◌, ◌*◌, ◌%◌, ◌^◌, ◌<◌, ◌≤◌}
+use Rattle.std.specs.Prelude.{ℕ, ◌≡◌, ◌+◌, ◌*◌, ◌%◌, ◌^◌, ◌<◌, ◌≤◌, List, slice_index}
 
 -- a and b leave the same remainder by p
 pub record Same (p a b : ℕ) : Type 0 where
@@ -22,3 +22,8 @@ pub record IsPair (p w q v r s : ℕ) : Type 0 where
   pub inverse_factor : IsFactor p v r
   pub inverse : Same p (w * v) 1
   pub square : Same p (w * w) s
+
+-- w is item k of a list, and q its quotient
+pub record IsFactorAt (p : ℕ) (xs : List ℕ) (k w q : ℕ) : Type 0 where
+  pub value : w ≡ slice_index xs k
+  pub factor : IsFactor p w q

@@ -91,6 +91,19 @@ fn is_scale(t: &Table, l: usize) -> bool
     is_undoing(t.p, t.unit, l as u32, t.scales[l], t.scale_quotients[l])
 }
 
+/// Whether a test holds at each number below `n`.
+fn holds_below<F: Fn(usize) -> bool>(n: usize, test: F) -> bool
+    requires { (k : ℕ) → k < n → F.pre test k }
+    ensures { result ≡ true → (k : ℕ) → k < n → F.post test k true }
+{
+    for k in 0..n {
+        if !test(k) {
+            return false;
+        }
+    }
+    true
+}
+
 /// Whether the constants at all nodes are right.
 fn are_roots(t: &Table) -> bool
     requires modulus { IsModulus t.now.p }
@@ -99,12 +112,7 @@ fn are_roots(t: &Table) -> bool
     requires inverse_quotients { length t.now.inverse_quotients.items ≡ length t.now.roots.items }
     ensures { result ≡ true → (k : ℕ) → k < length t.now.roots.items → IsRoot t.now k }
 {
-    for k in 0..t.roots.len() {
-        if !is_root(t, k) {
-            return false;
-        }
-    }
-    true
+    holds_below(t.roots.len(), |k| is_root(t, k))
 }
 
 /// Whether the numbers that undo levels are all right.
@@ -114,12 +122,7 @@ fn are_scales(t: &Table) -> bool
     requires quotients { length t.now.scale_quotients.items ≡ length t.now.scales.items }
     ensures { result ≡ true → (l : ℕ) → l < length t.now.scales.items → IsScale t.now l }
 {
-    for l in 0..t.scales.len() {
-        if !is_scale(t, l) {
-            return false;
-        }
-    }
-    true
+    holds_below(t.scales.len(), |l| is_scale(t, l))
 }
 
 /// Whether all constants are right.

@@ -22,6 +22,14 @@ pub struct Ends<'a> {
     pub widths: &'a [u128],
 }
 
+/// Two lists of cells to be multiplied, which are one where `is_square`.
+#[derive(Clone, Copy)]
+pub(crate) struct Pair<'a> {
+    pub(crate) a: Ends<'a>,
+    pub(crate) b: Ends<'a>,
+    pub(crate) is_square: bool,
+}
+
 /// The numbers below `p` with these remainders, each times its scale, added to `lows`.
 fn add_mixed(mixed: &[u64], lows: &[u128], table: &Table, levels: u32, highs: &mut [u128])
     requires table { IsTable table.now }
@@ -43,55 +51,45 @@ fn add_mixed(mixed: &[u64], lows: &[u128], table: &Table, levels: u32, highs: &m
 /// `lows` and `highs` have room for. Those of a list with itself take fewer transforms.
 fn both_products(
     alloc: Global,
-    a: Ends<'_>,
-    b: Ends<'_>,
-    is_square: bool,
+    pair: Pair<'_>,
     setup: &Setup,
     buffers: &mut Buffers,
     lows: &mut [u128],
     highs: &mut [u128],
 ) -> Result<(), AllocError>
     requires setup { IsSetup setup.now }
-    requires first { AreWords a.lows.now a.widths.now }
-    requires second { AreWords b.lows.now b.widths.now }
-    requires square { is_square ≡ true → b.lows.now ≡ a.lows.now }
-    requires square_widths { is_square ≡ true → b.widths.now ≡ a.widths.now }
-    requires room { length a.lows.now + length b.lows.now ≤ 2 ^ setup.now.levels }
-    requires within { length lows.old ≤ length a.lows.now + length b.lows.now }
+    requires first { AreWords pair.a.lows.now pair.a.widths.now }
+    requires second { AreWords pair.b.lows.now pair.b.widths.now }
+    requires square { pair.is_square ≡ true → pair.b.lows.now ≡ pair.a.lows.now }
+    requires square_widths { pair.is_square ≡ true → pair.b.widths.now ≡ pair.a.widths.now }
+    requires room { length pair.a.lows.now + length pair.b.lows.now ≤ 2 ^ setup.now.levels }
+    requires within { length lows.old ≤ length pair.a.lows.now + length pair.b.lows.now }
     requires paired { length highs.old ≡ length lows.old }
-    requires sums { (s : ℕ) → low_sum a.lows.now b.lows.now s < 2 ^ 123 }
+    requires sums { (s : ℕ) → low_sum pair.a.lows.now pair.b.lows.now s < 2 ^ 123 }
     requires mixed { (s : ℕ)
-        → mixed_sum a.lows.now a.widths.now b.lows.now b.widths.now s < setup.now.first.p }
+        → mixed_sum pair.a.lows.now pair.a.widths.now pair.b.lows.now pair.b.widths.now s
+        < setup.now.first.p }
     ensures low { IfOk result (λ _. (s : ℕ) → s < length lows.old
-        → slice_index lows.new s ≡ low_sum a.entry.lows.now b.entry.lows.now s) }
+        → slice_index lows.new s ≡ low_sum pair.entry.a.lows.now pair.entry.b.lows.now s) }
     ensures high { IfOk result (λ _. (s : ℕ) → s < length lows.old
         → slice_index highs.new s
-        ≡ high_sum a.entry.lows.now a.entry.widths.now b.entry.lows.now b.entry.widths.now s) }
+        ≡ high_sum pair.entry.a.lows.now pair.entry.a.widths.now
+        pair.entry.b.lows.now pair.entry.b.widths.now s) }
 {
-    let levels = levels_for(a.lows.len() + b.lows.len(), setup.levels);
+    let levels = levels_for(pair.a.lows.len() + pair.b.lows.len(), setup.levels);
     let size = cells_of(levels);
     buffers.make_room_for_ends(alloc, size)?;
     let first = &mut buffers.first.as_mut_slice()[..size];
     let second = &mut buffers.second.as_mut_slice()[..size];
     let mixed = &mut buffers.widths.as_mut_slice()[..size];
     let spare = &mut buffers.spare.as_mut_slice()[..size];
-    ends_modulo(
-        first,
-        second,
-        mixed,
-        spare,
-        a,
-        b,
-        is_square,
-        &setup.first,
-        levels,
-    );
+    ends_modulo(first, second, mixed, spare, pair, &setup.first, levels);
     product_modulo(
         second,
         spare,
-        a.lows,
-        b.lows,
-        is_square,
+        pair.a.lows,
+        pair.b.lows,
+        pair.is_square,
         &setup.second,
         levels,
     );
@@ -159,6 +157,7 @@ pub fn checked_ends(
     {
         return Ok(false);
     }
-    both_products(alloc, a, b, is_square, setup, buffers, lows, highs)?;
+    let pair = Pair { a, b, is_square };
+    both_products(alloc, pair, setup, buffers, lows, highs)?;
     Ok(true)
 }

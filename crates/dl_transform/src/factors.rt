@@ -27,6 +27,19 @@ pub(crate) fn lowered(x: u64, most: u64) -> u64
     if x >= most { x - most } else { x }
 }
 
+/// `x` less `most` where it is no less, and then below `most`. The sign of the difference tells,
+/// which is quicker than to compare the two.
+#[tactic(auto, using(crate::proofs::Quotients::less_same))]
+fn lowered_once(x: u64, most: u64) -> u64
+    requires few { most ≤ 2 ^ 63 }
+    requires within { x < most + most }
+    ensures small { result < most }
+    ensures same { (p k : ℕ) → most ≡ k * p → Same p result x }
+{
+    let rest = x.wrapping_sub(most);
+    if rest < 9223372036854775808 { rest } else { x }
+}
+
 /// One step towards values: `u` with `w * v` added, and `u` with `w * v` taken off.
 pub(crate) fn part(u: u64, v: u64, w: u64, q: u64, p: u64) -> (u64, u64)
     requires modulus { IsModulus p }
@@ -37,7 +50,7 @@ pub(crate) fn part(u: u64, v: u64, w: u64, q: u64, p: u64) -> (u64, u64)
     ensures first { Same p result.0 (u + w * v) }
     ensures second { Same p result.1 (u + (p - w) * v) }
 {
-    let a = lowered(u, 2 * p);
+    let a = lowered_once(u, 2 * p);
     let b = times(v, w, q, p);
     (a + b, a + 2 * p - b)
 }
@@ -55,7 +68,7 @@ pub(crate) fn join(u: u64, v: u64, w: u64, q: u64, p: u64) -> (u64, u64)
     ensures first { Same p result.0 (u + v) }
     ensures second { Same p (result.1 + w * v) (w * u) }
 {
-    let a = lowered(u + v, 2 * p);
+    let a = lowered_once(u + v, 2 * p);
     let b = times(u + 2 * p - v, w, q, p);
     (a, b)
 }

@@ -2,27 +2,24 @@
 
 ghost use Rattle.std.specs.Prelude.{◌≡◌, ℕ, ◌+◌, ◌*◌, ◌/◌, ◌^◌, ◌<◌, ◌≤◌};
 ghost use Rattle.std.specs.Prelude.{true, length, slice_index};
-ghost use Rattle.dl_transform.specs.Residue.{Same};
-ghost use Rattle.dl_exact.specs.Count.{count_pairs};
-ghost use Rattle.dl_transform.specs.Table.{value_at, IsTable};
+ghost use Rattle.dl_transform.specs.Table.{value_at};
+ghost use Rattle.dl_transform.specs.Lists.{AreBelow, AreItems, AreOver, AreValues, IsTableFor};
 ghost use Rattle.dl_transform.specs.Ends.{low_sum, mixed_sum, AreWords};
 
-use crate::ends::Ends;
-use crate::passes::{load, mix_all, mix_squares, multiply_all, square_all, to_items, to_values};
+use crate::ends::Pair;
+use crate::passes::{add_ends, load, mix_all, multiply_all, square_all, to_items, to_values};
 use crate::tables::Table;
 
 /// The values of the polynomial `a` at all lowest nodes, where the upper half of its items is
 /// zeros: then both halves begin alike.
 fn padded_values(x: &mut [u64], a: &[u128], table: &Table, levels: u32)
-    requires table { IsTable table.now }
+    requires table { IsTableFor table.now levels }
     requires some { 0 < levels }
     requires size { length x.old ≡ 2 ^ levels }
-    requires within { 2 ^ levels ≤ 2 * length table.now.roots.items }
     requires room { length a.now ≤ length x.old / 2 }
-    requires items { (i : ℕ) → slice_index a.now i < 2 ^ 64 }
-    ensures small { (i : ℕ) → slice_index x.new i < 4 * table.now.p }
-    ensures values { (k : ℕ) → k < 2 ^ levels → Same table.now.p (slice_index x.new k)
-        (value_at table.now (2 ^ levels) (λ i. slice_index a.now i) k) }
+    requires items { AreBelow (2 ^ 64) a.now }
+    ensures small { AreBelow (4 * table.now.p) x.new }
+    ensures values { AreValues table.now levels (λ i. slice_index a.now i) x.new }
 {
     let half = x.len() / 2;
     let (low, high) = x.split_at_mut(half);
@@ -34,14 +31,12 @@ fn padded_values(x: &mut [u64], a: &[u128], table: &Table, levels: u32)
 
 /// The values of the polynomial `a` at all lowest nodes.
 fn values_of(x: &mut [u64], a: &[u128], table: &Table, levels: u32)
-    requires table { IsTable table.now }
+    requires table { IsTableFor table.now levels }
     requires size { length x.old ≡ 2 ^ levels }
-    requires within { 2 ^ levels ≤ 2 * length table.now.roots.items }
     requires room { length a.now ≤ length x.old }
-    requires items { (i : ℕ) → slice_index a.now i < 2 ^ 64 }
-    ensures small { (i : ℕ) → slice_index x.new i < 4 * table.now.p }
-    ensures values { (k : ℕ) → k < 2 ^ levels → Same table.now.p (slice_index x.new k)
-        (value_at table.now (2 ^ levels) (λ i. slice_index a.now i) k) }
+    requires items { AreBelow (2 ^ 64) a.now }
+    ensures small { AreBelow (4 * table.now.p) x.new }
+    ensures values { AreValues table.now levels (λ i. slice_index a.now i) x.new }
 {
     if levels > 0 && a.len() <= x.len() / 2 {
         padded_values(x, a, table, levels);
@@ -51,43 +46,17 @@ fn values_of(x: &mut [u64], a: &[u128], table: &Table, levels: u32)
     to_values(x, 0, table, levels);
 }
 
-/// The polynomial whose values at the lowest nodes are the products of those in `x` and `y`, where
-/// its scale is still to come.
-fn product_of(x: &mut [u64], y: &[u64], table: &Table, levels: u32)
-    requires table { IsTable table.now }
-    requires inside { levels < length table.now.scales.items }
+/// The polynomial whose values at the lowest nodes are those in `x` times `2^64`, where its scale is
+/// still to come.
+fn items_of(x: &mut [u64], table: &Table, levels: u32)
+    requires table { IsTableFor table.now levels }
     requires size { length x.old ≡ 2 ^ levels }
-    requires alike { length y.now ≡ length x.old }
-    requires within { 2 ^ levels ≤ 2 * length table.now.roots.items }
-    requires first_small { (i : ℕ) → slice_index x.old i < 4 * table.now.p }
-    requires second_small { (i : ℕ) → slice_index y.now i < 4 * table.now.p }
-    ensures small { (i : ℕ) → slice_index x.new i < 2 * table.now.p }
-    ensures items { (h : ℕ → ℕ)
-        → ((k : ℕ) → k < 2 ^ levels → Same table.now.p (slice_index x.old k * slice_index y.now k)
-        (value_at table.now (2 ^ levels) h k))
-        → (k : ℕ) → k < 2 ^ levels
-        → Same table.now.p (slice_index x.new k * slice_index table.now.scales.items levels) (h k) }
+    requires small { AreBelow (2 * table.now.p) x.old }
+    ensures small { AreBelow (2 * table.now.p) x.new }
+    ensures items { (f : ℕ → ℕ)
+        → AreOver table.now.p (2 ^ levels) (value_at table.now (2 ^ levels) f) x.old
+        → AreItems table.now levels f x.new }
 {
-    multiply_all(x, y, table.minus_inverse, table.p);
-    to_items(x, 0, table, levels);
-}
-
-/// The polynomial whose values at the lowest nodes are the squares of those in `x`, where its scale
-/// is still to come.
-fn square_of(x: &mut [u64], table: &Table, levels: u32)
-    requires table { IsTable table.now }
-    requires inside { levels < length table.now.scales.items }
-    requires size { length x.old ≡ 2 ^ levels }
-    requires within { 2 ^ levels ≤ 2 * length table.now.roots.items }
-    requires small { (i : ℕ) → slice_index x.old i < 4 * table.now.p }
-    ensures small { (i : ℕ) → slice_index x.new i < 2 * table.now.p }
-    ensures items { (h : ℕ → ℕ)
-        → ((k : ℕ) → k < 2 ^ levels → Same table.now.p (slice_index x.old k * slice_index x.old k)
-        (value_at table.now (2 ^ levels) h k))
-        → (k : ℕ) → k < 2 ^ levels
-        → Same table.now.p (slice_index x.new k * slice_index table.now.scales.items levels) (h k) }
-{
-    square_all(x, table.minus_inverse, table.p);
     to_items(x, 0, table, levels);
 }
 
@@ -102,123 +71,71 @@ pub(crate) fn product_modulo(
     table: &Table,
     levels: u32,
 )
-    requires table { IsTable table.now }
-    requires inside { levels < length table.now.scales.items }
+    requires table { IsTableFor table.now levels }
     requires size { length x.old ≡ 2 ^ levels }
     requires alike { length y.old ≡ length x.old }
-    requires within { 2 ^ levels ≤ 2 * length table.now.roots.items }
     requires square { is_square ≡ true → b.now ≡ a.now }
     requires room { length a.now + length b.now ≤ 2 ^ levels }
-    requires first { (i : ℕ) → slice_index a.now i < 2 ^ 64 }
-    requires second { (i : ℕ) → slice_index b.now i < 2 ^ 64 }
-    ensures small { (s : ℕ) → slice_index x.new s < 2 * table.now.p }
-    ensures same { (s : ℕ) → s < 2 ^ levels
-        → Same table.now.p (slice_index x.new s * slice_index table.now.scales.items levels)
-        (count_pairs s (λ i j. slice_index a.now i * slice_index b.now j)) }
+    requires first { AreBelow (2 ^ 64) a.now }
+    requires second { AreBelow (2 ^ 64) b.now }
+    ensures small { AreBelow (2 * table.now.p) x.new }
+    ensures same { AreItems table.now levels (low_sum a.now b.now) x.new }
 {
     values_of(x, a, table, levels);
     if is_square {
-        square_of(x, table, levels);
+        square_all(x, table.minus_inverse, table.p);
+        items_of(x, table, levels);
         return;
     }
     values_of(y, b, table, levels);
-    product_of(x, y, table, levels);
-}
-
-/// The polynomial whose values at the lowest nodes are those of `x` times those of `v`, with those
-/// of `u` times the sums of `y` and `v` added, in the place of `u`, where its scale is still to
-/// come.
-fn mixed_of(x: &[u64], y: &[u64], u: &mut [u64], v: &[u64], table: &Table, levels: u32)
-    requires table { IsTable table.now }
-    requires inside { levels < length table.now.scales.items }
-    requires size { length u.old ≡ 2 ^ levels }
-    requires first_alike { length x.now ≡ length u.old }
-    requires second_alike { length y.now ≡ length u.old }
-    requires widths_alike { length v.now ≡ length u.old }
-    requires within { 2 ^ levels ≤ 2 * length table.now.roots.items }
-    requires first_lows { (i : ℕ) → slice_index x.now i < 4 * table.now.p }
-    requires second_lows { (i : ℕ) → slice_index y.now i < 4 * table.now.p }
-    requires first_widths { (i : ℕ) → slice_index u.old i < 4 * table.now.p }
-    requires second_widths { (i : ℕ) → slice_index v.now i < 4 * table.now.p }
-    ensures small { (i : ℕ) → slice_index u.new i < 2 * table.now.p }
-    ensures items { (h : ℕ → ℕ)
-        → ((k : ℕ) → k < 2 ^ levels → Same table.now.p
-        (slice_index x.now k * slice_index v.now k
-        + slice_index u.old k * (slice_index y.now k + slice_index v.now k))
-        (value_at table.now (2 ^ levels) h k))
-        → (k : ℕ) → k < 2 ^ levels
-        → Same table.now.p (slice_index u.new k * slice_index table.now.scales.items levels) (h k) }
-{
-    mix_all(x, y, u, v, table.minus_inverse, table.p);
-    to_items(u, 0, table, levels);
-}
-
-/// The same for two lists that are one.
-fn mixed_square_of(x: &[u64], u: &mut [u64], table: &Table, levels: u32)
-    requires table { IsTable table.now }
-    requires inside { levels < length table.now.scales.items }
-    requires size { length u.old ≡ 2 ^ levels }
-    requires alike { length x.now ≡ length u.old }
-    requires within { 2 ^ levels ≤ 2 * length table.now.roots.items }
-    requires lows { (i : ℕ) → slice_index x.now i < 4 * table.now.p }
-    requires widths { (i : ℕ) → slice_index u.old i < 4 * table.now.p }
-    ensures small { (i : ℕ) → slice_index u.new i < 2 * table.now.p }
-    ensures items { (h : ℕ → ℕ)
-        → ((k : ℕ) → k < 2 ^ levels → Same table.now.p
-        (slice_index x.now k * slice_index u.old k
-        + slice_index u.old k * (slice_index x.now k + slice_index u.old k))
-        (value_at table.now (2 ^ levels) h k))
-        → (k : ℕ) → k < 2 ^ levels
-        → Same table.now.p (slice_index u.new k * slice_index table.now.scales.items levels) (h k) }
-{
-    mix_squares(x, u, table.minus_inverse, table.p);
-    to_items(u, 0, table, levels);
+    multiply_all(x, y, table.minus_inverse, table.p);
+    items_of(x, table, levels);
 }
 
 /// The product of the low ends of two lists modulo `p`, in `x`, and in `u` what that of their high
 /// ends has beyond it, both before their scale; `y` and `v` are for what is needed on the way. Two
-/// lists that are one need their values once.
+/// lists that are one need their values once: the difference of the squares of high and low ends is
+/// the width times their sum.
 pub(crate) fn ends_modulo(
     x: &mut [u64],
     y: &mut [u64],
     u: &mut [u64],
     v: &mut [u64],
-    a: Ends<'_>,
-    b: Ends<'_>,
-    is_square: bool,
+    pair: Pair<'_>,
     table: &Table,
     levels: u32,
 )
-    requires table { IsTable table.now }
-    requires inside { levels < length table.now.scales.items }
+    requires table { IsTableFor table.now levels }
     requires size { length x.old ≡ 2 ^ levels }
     requires second_alike { length y.old ≡ length x.old }
     requires widths_alike { length u.old ≡ length x.old }
     requires spare_alike { length v.old ≡ length x.old }
-    requires within { 2 ^ levels ≤ 2 * length table.now.roots.items }
-    requires square { is_square ≡ true → b.lows.now ≡ a.lows.now }
-    requires square_widths { is_square ≡ true → b.widths.now ≡ a.widths.now }
-    requires room { length a.lows.now + length b.lows.now ≤ 2 ^ levels }
-    requires first { AreWords a.lows.now a.widths.now }
-    requires second { AreWords b.lows.now b.widths.now }
-    ensures small { (s : ℕ) → slice_index x.new s < 2 * table.now.p }
-    ensures same { (s : ℕ) → s < 2 ^ levels
-        → Same table.now.p (slice_index x.new s * slice_index table.now.scales.items levels)
-        (low_sum a.entry.lows.now b.entry.lows.now s) }
-    ensures mixed_small { (s : ℕ) → slice_index u.new s < 2 * table.now.p }
-    ensures mixed { (s : ℕ) → s < 2 ^ levels
-        → Same table.now.p (slice_index u.new s * slice_index table.now.scales.items levels)
-        (mixed_sum a.entry.lows.now a.entry.widths.now b.entry.lows.now b.entry.widths.now s) }
+    requires square { pair.is_square ≡ true → pair.b.lows.now ≡ pair.a.lows.now }
+    requires square_widths { pair.is_square ≡ true → pair.b.widths.now ≡ pair.a.widths.now }
+    requires room { length pair.a.lows.now + length pair.b.lows.now ≤ 2 ^ levels }
+    requires first { AreWords pair.a.lows.now pair.a.widths.now }
+    requires second { AreWords pair.b.lows.now pair.b.widths.now }
+    ensures small { AreBelow (2 * table.now.p) x.new }
+    ensures same { AreItems table.now levels (low_sum pair.entry.a.lows.now pair.entry.b.lows.now) x.new }
+    ensures mixed_small { AreBelow (2 * table.now.p) u.new }
+    ensures mixed { AreItems table.now levels
+        (mixed_sum pair.entry.a.lows.now pair.entry.a.widths.now
+        pair.entry.b.lows.now pair.entry.b.widths.now) u.new }
 {
-    values_of(x, a.lows, table, levels);
-    values_of(u, a.widths, table, levels);
-    if is_square {
-        mixed_square_of(x, u, table, levels);
-        square_of(x, table, levels);
+    values_of(x, pair.a.lows, table, levels);
+    values_of(u, pair.a.widths, table, levels);
+    if pair.is_square {
+        add_ends(y, x, u, table.p);
+        multiply_all(u, y, table.minus_inverse, table.p);
+        square_all(x, table.minus_inverse, table.p);
+        items_of(u, table, levels);
+        items_of(x, table, levels);
         return;
     }
-    values_of(y, b.lows, table, levels);
-    values_of(v, b.widths, table, levels);
-    mixed_of(x, y, u, v, table, levels);
-    product_of(x, y, table, levels);
+    values_of(y, pair.b.lows, table, levels);
+    values_of(v, pair.b.widths, table, levels);
+    mix_all(x, y, u, v, table.minus_inverse, table.p);
+    multiply_all(x, y, table.minus_inverse, table.p);
+    items_of(u, table, levels);
+    items_of(x, table, levels);
 }

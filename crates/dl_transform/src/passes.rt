@@ -3,7 +3,8 @@
 ghost use Rattle.std.specs.Prelude.{◌≡◌, ℕ, ◌+◌, ◌-◌, ◌*◌, ◌/◌, ◌%◌, ◌^◌, ◌<◌, ◌≤◌};
 ghost use Rattle.std.specs.Prelude.{length, slice_index};
 ghost use Rattle.dl_transform.specs.Residue.{Same, IsFactor, IsModulus};
-ghost use Rattle.dl_transform.specs.Table.{value_at, IsTable};
+ghost use Rattle.dl_transform.specs.Lists.{product_at, mixed_at, AreBelow, AreHalves, AreItemsBelow};
+ghost use Rattle.dl_transform.specs.Lists.{AreOver, AreValuesBelow, IsPart};
 
 use crate::factors::{join, lowered, part, reduced};
 use crate::tables::Table;
@@ -12,16 +13,14 @@ use crate::tables::Table;
 fn part_all(low: &mut [u64], high: &mut [u64], w: u64, q: u64, p: u64)
     requires modulus { IsModulus p }
     requires factor { IsFactor p w q }
-    requires alike { length high.old ≡ length low.old }
-    requires low_small { (i : ℕ) → slice_index low.old i < 4 * p }
-    requires high_small { (i : ℕ) → slice_index high.old i < 4 * p }
-    ensures low_small { (i : ℕ) → slice_index low.new i < 4 * p }
-    ensures high_small { (i : ℕ) → slice_index high.new i < 4 * p }
+    requires halves { AreHalves (4 * p) low.old high.old }
     ensures low { (i : ℕ) → i < length low.old
         → Same p (slice_index low.new i) (slice_index low.old i + w * slice_index high.old i) }
+    ensures low_small { AreBelow (4 * p) low.new }
     ensures high { (i : ℕ) → i < length low.old
         → Same p (slice_index high.new i)
         (slice_index low.old i + (p - w) * slice_index high.old i) }
+    ensures high_small { AreBelow (4 * p) high.new }
 {
     for i in 0..low.len() {
         let (a, b) = part(low[i], high[i], w, q, p);
@@ -34,15 +33,13 @@ fn part_all(low: &mut [u64], high: &mut [u64], w: u64, q: u64, p: u64)
 fn join_all(low: &mut [u64], high: &mut [u64], w: u64, q: u64, p: u64)
     requires modulus { IsModulus p }
     requires factor { IsFactor p w q }
-    requires alike { length high.old ≡ length low.old }
-    requires low_small { (i : ℕ) → slice_index low.old i < 2 * p }
-    requires high_small { (i : ℕ) → slice_index high.old i < 2 * p }
-    ensures low_small { (i : ℕ) → slice_index low.new i < 2 * p }
-    ensures high_small { (i : ℕ) → slice_index high.new i < 2 * p }
+    requires halves { AreHalves (2 * p) low.old high.old }
     ensures low { (i : ℕ) → i < length low.old
         → Same p (slice_index low.new i) (slice_index low.old i + slice_index high.old i) }
+    ensures low_small { AreBelow (2 * p) low.new }
     ensures high { (i : ℕ) → i < length low.old
         → Same p (slice_index high.new i + w * slice_index high.old i) (w * slice_index low.old i) }
+    ensures high_small { AreBelow (2 * p) high.new }
 {
     for i in 0..low.len() {
         let (a, b) = join(low[i], high[i], w, q, p);
@@ -53,31 +50,24 @@ fn join_all(low: &mut [u64], high: &mut [u64], w: u64, q: u64, p: u64)
 
 /// The values of 2 items at the lowest nodes below a node.
 #[inline(always)]
-#[tactic(auto, using(crate::proofs::Parts::join_small))]
 fn to_values_2(x: &mut [u64], node: usize, table: &Table)
-    requires table { IsTable table.now }
-    requires size { length x.old ≡ 2 }
-    requires within { (node + 1) * 2 ≤ 2 * length table.now.roots.items }
-    requires small { (i : ℕ) → slice_index x.old i < 4 * table.now.p }
-    ensures small { (i : ℕ) → slice_index x.new i < 4 * table.now.p }
-    ensures values { (k : ℕ) → k < 2 → Same table.now.p (slice_index x.new k)
-        (value_at table.now 2 (λ i. slice_index x.old i) (node * 2 + k)) }
+    requires { IsPart table.now 2 node (4 * table.now.p) x.old }
+    ensures small { AreBelow (4 * table.now.p) x.new }
+    ensures values { AreValuesBelow table.now 2 node (λ i. slice_index x.old i) x.new }
 {
     let (w, q) = table.root(node);
-    let (low, high) = x.split_at_mut(1);
-    part_all(low, high, w, q, table.p);
+    let (a, b) = part(x[0], x[1], w, q, table.p);
+    x[0] = a;
+    x[1] = b;
 }
 
 /// The values of 4 items at the lowest nodes below a node.
 #[inline(always)]
+#[tactic(auto, using(crate::proofs::Parts::join_small))]
 fn to_values_4(x: &mut [u64], node: usize, table: &Table)
-    requires table { IsTable table.now }
-    requires size { length x.old ≡ 4 }
-    requires within { (node + 1) * 4 ≤ 2 * length table.now.roots.items }
-    requires small { (i : ℕ) → slice_index x.old i < 4 * table.now.p }
-    ensures small { (i : ℕ) → slice_index x.new i < 4 * table.now.p }
-    ensures values { (k : ℕ) → k < 4 → Same table.now.p (slice_index x.new k)
-        (value_at table.now 4 (λ i. slice_index x.old i) (node * 4 + k)) }
+    requires { IsPart table.now 4 node (4 * table.now.p) x.old }
+    ensures small { AreBelow (4 * table.now.p) x.new }
+    ensures values { AreValuesBelow table.now 4 node (λ i. slice_index x.old i) x.new }
 {
     let (w, q) = table.root(node);
     let (low, high) = x.split_at_mut(2);
@@ -90,13 +80,9 @@ fn to_values_4(x: &mut [u64], node: usize, table: &Table)
 /// The values of the polynomial `x` at the lowest nodes below `node`, `levels` levels down.
 #[tactic(auto, using(crate::proofs::Parts::join_small))]
 pub(crate) fn to_values(x: &mut [u64], node: usize, table: &Table, levels: u32)
-    requires table { IsTable table.now }
-    requires size { length x.old ≡ 2 ^ levels }
-    requires within { (node + 1) * 2 ^ levels ≤ 2 * length table.now.roots.items }
-    requires small { (i : ℕ) → slice_index x.old i < 4 * table.now.p }
-    ensures small { (i : ℕ) → slice_index x.new i < 4 * table.now.p }
-    ensures values { (k : ℕ) → k < 2 ^ levels → Same table.now.p (slice_index x.new k)
-        (value_at table.now (2 ^ levels) (λ i. slice_index x.old i) (node * 2 ^ levels + k)) }
+    requires { IsPart table.now (2 ^ levels) node (4 * table.now.p) x.old }
+    ensures small { AreBelow (4 * table.now.p) x.new }
+    ensures values { AreValuesBelow table.now (2 ^ levels) node (λ i. slice_index x.old i) x.new }
 {
     if levels == 2 {
         to_values_4(x, node, table);
@@ -116,57 +102,38 @@ pub(crate) fn to_values(x: &mut [u64], node: usize, table: &Table, levels: u32)
 
 /// The 2 items with these values at the lowest nodes below a node, times 2.
 #[inline(always)]
-#[tactic(auto, using(crate::proofs::Parts::join_small))]
 fn to_items_2(x: &mut [u64], node: usize, table: &Table)
-    requires table { IsTable table.now }
-    requires size { length x.old ≡ 2 }
-    requires within { (node + 1) * 2 ≤ 2 * length table.now.roots.items }
-    requires small { (i : ℕ) → slice_index x.old i < 2 * table.now.p }
-    ensures small { (i : ℕ) → slice_index x.new i < 2 * table.now.p }
-    ensures items { (y : ℕ → ℕ)
-        → ((k : ℕ) → k < 2 → Same table.now.p (slice_index x.old k)
-        (value_at table.now 2 y (node * 2 + k)))
-        → (k : ℕ) → k < 2 → Same table.now.p (slice_index x.new k) (2 * y k) }
+    requires { IsPart table.now 2 node (2 * table.now.p) x.old }
+    ensures small { AreBelow (2 * table.now.p) x.new }
+    ensures items { AreItemsBelow table.now 2 node x.old x.new }
 {
     let (w, q) = table.inverse(node);
-    let (low, high) = x.split_at_mut(1);
-    join_all(low, high, w, q, table.p);
+    let (a, b) = join(x[0], x[1], w, q, table.p);
+    x[0] = a;
+    x[1] = b;
 }
 
 /// The 4 items with these values at the lowest nodes below a node, times 4.
 #[inline(always)]
-#[tactic(auto, using(crate::proofs::Parts::join_small))]
 fn to_items_4(x: &mut [u64], node: usize, table: &Table)
-    requires table { IsTable table.now }
-    requires size { length x.old ≡ 4 }
-    requires within { (node + 1) * 4 ≤ 2 * length table.now.roots.items }
-    requires small { (i : ℕ) → slice_index x.old i < 2 * table.now.p }
-    ensures small { (i : ℕ) → slice_index x.new i < 2 * table.now.p }
-    ensures items { (y : ℕ → ℕ)
-        → ((k : ℕ) → k < 4 → Same table.now.p (slice_index x.old k)
-        (value_at table.now 4 y (node * 4 + k)))
-        → (k : ℕ) → k < 4 → Same table.now.p (slice_index x.new k) (4 * y k) }
+    requires { IsPart table.now 4 node (2 * table.now.p) x.old }
+    ensures small { AreBelow (2 * table.now.p) x.new }
+    ensures items { AreItemsBelow table.now 4 node x.old x.new }
 {
-    let (w, q) = table.inverse(node);
     let (low, high) = x.split_at_mut(2);
     let child = 2 * node;
     to_items_2(low, child, table);
     to_items_2(high, child + 1, table);
+    let (w, q) = table.inverse(node);
     join_all(low, high, w, q, table.p);
 }
 
 /// The polynomial with these values at the lowest nodes below a node, `2^levels` times.
 #[tactic(auto, using(crate::proofs::Parts::join_small))]
 pub(crate) fn to_items(x: &mut [u64], node: usize, table: &Table, levels: u32)
-    requires table { IsTable table.now }
-    requires size { length x.old ≡ 2 ^ levels }
-    requires within { (node + 1) * 2 ^ levels ≤ 2 * length table.now.roots.items }
-    requires small { (i : ℕ) → slice_index x.old i < 2 * table.now.p }
-    ensures small { (i : ℕ) → slice_index x.new i < 2 * table.now.p }
-    ensures items { (y : ℕ → ℕ)
-        → ((k : ℕ) → k < 2 ^ levels → Same table.now.p (slice_index x.old k)
-        (value_at table.now (2 ^ levels) y (node * 2 ^ levels + k)))
-        → (k : ℕ) → k < 2 ^ levels → Same table.now.p (slice_index x.new k) (2 ^ levels * y k) }
+    requires { IsPart table.now (2 ^ levels) node (2 * table.now.p) x.old }
+    ensures small { AreBelow (2 * table.now.p) x.new }
+    ensures items { AreItemsBelow table.now (2 ^ levels) node x.old x.new }
 {
     if levels == 2 {
         to_items_4(x, node, table);
@@ -175,12 +142,12 @@ pub(crate) fn to_items(x: &mut [u64], node: usize, table: &Table, levels: u32)
     if levels == 0 {
         return;
     }
-    let (w, q) = table.inverse(node);
     let half = x.len() / 2;
     let (low, high) = x.split_at_mut(half);
     let child = 2 * node;
     to_items(low, child, table, levels - 1);
     to_items(high, child + 1, table, levels - 1);
+    let (w, q) = table.inverse(node);
     join_all(low, high, w, q, table.p);
 }
 
@@ -227,11 +194,10 @@ pub(crate) fn multiply_all(x: &mut [u64], y: &[u64], k: u64, p: u64)
     requires modulus { IsModulus p }
     requires inverse { (p * k + 1) % 2 ^ 64 ≡ 0 }
     requires alike { length y.now ≡ length x.old }
-    requires first_small { (i : ℕ) → slice_index x.old i < 4 * p }
-    requires second_small { (i : ℕ) → slice_index y.now i < 4 * p }
-    ensures small { (i : ℕ) → slice_index x.new i < 2 * p }
-    ensures same { (i : ℕ) → i < length x.old
-        → Same p (slice_index x.new i * 2 ^ 64) (slice_index x.old i * slice_index y.now i) }
+    requires first_small { AreBelow (4 * p) x.old }
+    requires second_small { AreBelow (4 * p) y.now }
+    ensures small { AreBelow (2 * p) x.new }
+    ensures same { AreOver p (length x.old) (product_at x.old y.now) x.new }
 {
     for i in 0..x.len() {
         x[i] = reduced(lowered(x[i], 2 * p), lowered(y[i], 2 * p), k, p);
@@ -242,14 +208,30 @@ pub(crate) fn multiply_all(x: &mut [u64], y: &[u64], k: u64, p: u64)
 pub(crate) fn square_all(x: &mut [u64], k: u64, p: u64)
     requires modulus { IsModulus p }
     requires inverse { (p * k + 1) % 2 ^ 64 ≡ 0 }
-    requires small { (i : ℕ) → slice_index x.old i < 4 * p }
-    ensures small { (i : ℕ) → slice_index x.new i < 2 * p }
-    ensures same { (i : ℕ) → i < length x.old
-        → Same p (slice_index x.new i * 2 ^ 64) (slice_index x.old i * slice_index x.old i) }
+    requires small { AreBelow (4 * p) x.old }
+    ensures small { AreBelow (2 * p) x.new }
+    ensures same { AreOver p (length x.old) (product_at x.old x.old) x.new }
 {
     for i in 0..x.len() {
         let y = lowered(x[i], 2 * p);
         x[i] = reduced(y, y, k, p);
+    }
+}
+
+/// Each sum `2 * x + u` modulo `p`: a low end and the high end above it by the width `u`.
+pub(crate) fn add_ends(sums: &mut [u64], x: &[u64], u: &[u64], p: u64)
+    requires modulus { IsModulus p }
+    requires lows_alike { length x.now ≡ length sums.old }
+    requires widths_alike { length u.now ≡ length sums.old }
+    requires lows { AreBelow (4 * p) x.now }
+    requires widths { AreBelow (4 * p) u.now }
+    ensures small { AreBelow (4 * p) sums.new }
+    ensures same { (i : ℕ) → i < length sums.old
+        → Same p (slice_index sums.new i) (2 * slice_index x.now i + slice_index u.now i) }
+{
+    for i in 0..sums.len() {
+        let low = lowered(x[i], 2 * p);
+        sums[i] = lowered(2 * low, 2 * p) + lowered(u[i], 2 * p);
     }
 }
 
@@ -280,33 +262,14 @@ pub(crate) fn mix_all(x: &[u64], y: &[u64], u: &mut [u64], v: &[u64], k: u64, p:
     requires first_alike { length x.now ≡ length u.old }
     requires second_alike { length y.now ≡ length u.old }
     requires widths_alike { length v.now ≡ length u.old }
-    requires first_lows { (i : ℕ) → slice_index x.now i < 4 * p }
-    requires second_lows { (i : ℕ) → slice_index y.now i < 4 * p }
-    requires first_widths { (i : ℕ) → slice_index u.old i < 4 * p }
-    requires second_widths { (i : ℕ) → slice_index v.now i < 4 * p }
-    ensures small { (i : ℕ) → slice_index u.new i < 2 * p }
-    ensures same { (i : ℕ) → i < length u.old → Same p (slice_index u.new i * 2 ^ 64)
-        (slice_index x.now i * slice_index v.now i
-        + slice_index u.old i * (slice_index y.now i + slice_index v.now i)) }
+    requires first_lows { AreBelow (4 * p) x.now }
+    requires second_lows { AreBelow (4 * p) y.now }
+    requires first_widths { AreBelow (4 * p) u.old }
+    requires second_widths { AreBelow (4 * p) v.now }
+    ensures small { AreBelow (2 * p) u.new }
+    ensures same { AreOver p (length u.old) (mixed_at x.now y.now u.old v.now) u.new }
 {
     for i in 0..u.len() {
         u[i] = mixed(x[i], y[i], u[i], v[i], k, p);
-    }
-}
-
-/// The same for two lists that are one.
-pub(crate) fn mix_squares(x: &[u64], u: &mut [u64], k: u64, p: u64)
-    requires modulus { IsModulus p }
-    requires inverse { (p * k + 1) % 2 ^ 64 ≡ 0 }
-    requires alike { length x.now ≡ length u.old }
-    requires lows { (i : ℕ) → slice_index x.now i < 4 * p }
-    requires widths { (i : ℕ) → slice_index u.old i < 4 * p }
-    ensures small { (i : ℕ) → slice_index u.new i < 2 * p }
-    ensures same { (i : ℕ) → i < length u.old → Same p (slice_index u.new i * 2 ^ 64)
-        (slice_index x.now i * slice_index u.old i
-        + slice_index u.old i * (slice_index x.now i + slice_index u.old i)) }
-{
-    for i in 0..u.len() {
-        u[i] = mixed(x[i], x[i], u[i], u[i], k, p);
     }
 }

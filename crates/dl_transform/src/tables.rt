@@ -1,7 +1,7 @@
 //! Tables of a transform.
 
-ghost use Rattle.std.specs.Prelude.{◌≡◌, ◌<◌, length, slice_index};
-ghost use Rattle.dl_transform.specs.Residue.{IsFactor};
+ghost use Rattle.std.specs.Prelude.{◌<◌, length};
+ghost use Rattle.dl_transform.specs.Residue.{IsFactorAt};
 ghost use Rattle.dl_transform.specs.Table.{IsTable};
 
 /// The constants of a transform modulo `p`. Each factor is beside its quotient, which a product
@@ -26,12 +26,21 @@ pub(crate) struct Table {
 }
 
 impl Table {
+    /// The inverse of the product of `2^levels` and the unit, modulo `p`, and its quotient.
+    pub(crate) fn scale(&self, levels: u32) -> (u64, u64)
+        requires table { IsTable self.now }
+        requires inside { levels < length self.now.scales.items }
+        ensures { IsFactorAt self.now.p self.now.scales.items levels result.0 result.1 }
+    {
+        let k = levels as usize;
+        (self.scales[k], self.scale_quotients[k])
+    }
+
     /// The root at a node, and its quotient.
     pub(crate) fn root(&self, node: usize) -> (u64, u64)
         requires table { IsTable self.now }
         requires inside { node < length self.now.roots.items }
-        ensures value { result.0 ≡ slice_index self.now.roots.items node }
-        ensures factor { IsFactor self.now.p result.0 result.1 }
+        ensures { IsFactorAt self.now.p self.now.roots.items node result.0 result.1 }
     {
         (self.roots[node], self.quotients[node])
     }
@@ -40,20 +49,8 @@ impl Table {
     pub(crate) fn inverse(&self, node: usize) -> (u64, u64)
         requires table { IsTable self.now }
         requires inside { node < length self.now.roots.items }
-        ensures value { result.0 ≡ slice_index self.now.inverses.items node }
-        ensures factor { IsFactor self.now.p result.0 result.1 }
+        ensures { IsFactorAt self.now.p self.now.inverses.items node result.0 result.1 }
     {
         (self.inverses[node], self.inverse_quotients[node])
-    }
-
-    /// The inverse of the product of `2^levels` and the unit, modulo `p`, and its quotient.
-    pub(crate) fn scale(&self, levels: u32) -> (u64, u64)
-        requires table { IsTable self.now }
-        requires inside { levels < length self.now.scales.items }
-        ensures value { result.0 ≡ slice_index self.now.scales.items levels }
-        ensures factor { IsFactor self.now.p result.0 result.1 }
-    {
-        let k = levels as usize;
-        (self.scales[k], self.scale_quotients[k])
     }
 }

@@ -1,13 +1,10 @@
-use Rattle.dl_transform.proofs.Common.{length}
-use Rattle.dl_transform.proofs.Wholes.{levels_room}
+use Rattle.dl_transform.proofs.Wholes.{table_for}
 use Rattle.dl_transform.proofs.combined.product.Goals as goal
 
-pub product_modulo-requires-clause-within : goal.product_modulo-requires-clause-within
-product_modulo-requires-clause-within c =
-    levels_room c.levels_for-levels.result c.args.setup.now.levels (length c.args.setup.now.first.roots.items)
-    c.levels_for-levels.ensures.within c.requires.setup.first_room
+pub product_modulo-requires-clause-table : goal.product_modulo-requires-clause-table
+product_modulo-requires-clause-table c =
+    table_for c.levels_for-levels.ensures.within c.requires.setup.first c.requires.setup.in_first c.requires.setup.first_room
 
-pub product_modulo-requires-2-clause-within : goal.product_modulo-requires-2-clause-within
-product_modulo-requires-2-clause-within c =
-    levels_room c.levels_for-levels.result c.args.setup.now.levels (length c.args.setup.now.second.roots.items)
-    c.levels_for-levels.ensures.within c.requires.setup.second_room
+pub product_modulo-requires-2-clause-table : goal.product_modulo-requires-2-clause-table
+product_modulo-requires-2-clause-table c =
+    table_for c.levels_for-levels.ensures.within c.requires.setup.second c.requires.setup.in_second c.requires.setup.second_room

@@ -10,7 +10,7 @@ returns-clause-values c k inside =
     let a = c.args.a.now in
     let m = 2 ^ (c.args.levels - 1) in
     let n = 2 ^ c.args.levels in
-    let whole : (0 + 1) * n ≤ 2 * length roots = omega (arith, c.requires.within) in
+    let whole : (0 + 1) * n ≤ 2 * length roots = omega (arith, c.requires.table.within) in
     let b : IsBelow c.args.levels 0 (length roots) (length c.args.x.now) =
     below c.args.levels 0 (length roots) (length c.args.x.now) (λ e. absurd (omega (arith, e, c.requires.some))) whole
     c.requires.size in
@@ -21,8 +21,8 @@ returns-clause-values c k inside =
     let e : 0 * n + k ≡ k = omega arith in
     rw e at (values_step p 0 m n roots a (take m a) (drop m a) c.load.new.x c.load-2.new.x c.to_values.new.x
     c.to_values-2.new.x (c.args.levels - 1) refl b.twice
-    (λ k h. (c.requires.table.root k h).square)
-    (roots_small p roots (λ k h. (c.requires.table.root k h).factor.below))
+    (λ k h. (c.requires.table.table.root k h).square)
+    (roots_small p roots (λ k h. (c.requires.table.table.root k h).factor.below))
     (rw b.twice at whole)
     refl refl (λ i h. same_trans (c.load.ensures.same i) (same_of p (start (slice_index roots 0) i h)))
     (λ i h. same_trans (c.load-2.ensures.same i) (same_of p (start (p - slice_index roots 0) i h)))

@@ -1,8 +1,9 @@
-use Rattle.dl_transform.proofs.Common.{ℕ, ◌*◌, ◌<◌, get_or, Same}
+use Rattle.dl_transform.proofs.Common.{◌*◌, get_or, Same}
+use Rattle.dl_transform.proofs.Steps.{IsChanged}
 use Rattle.dl_transform.proofs.passes.load_front.Given as goal
 
 abbrev pub invariant-loop-i : goal.invariant-loop-i
-invariant-loop-i l = record {
-  small : (k : ℕ) → k < l.i → get_or l.x k 0 < 4 * l.p;
-  done : (k : ℕ) → k < l.i → Same l.p (get_or l.x k 0) (get_or l.a k 0);
-}
+invariant-loop-i l =
+    IsChanged (4 * l.p)
+    (λ k t z. Same l.p z (get_or l.a k 0))
+    l.fn.x l.x l.i

@@ -1,10 +1,9 @@
-use Rattle.dl_transform.proofs.Common.{ℕ, ◌≡◌, ◌+◌, ◌*◌, ◌^◌, ◌<◌, ◌≤◌, get_or, Same}
+use Rattle.dl_transform.proofs.Common.{◌+◌, ◌*◌, ◌^◌, get_or, Same}
+use Rattle.dl_transform.proofs.Steps.{IsChanged}
 use Rattle.dl_transform.proofs.passes.mix_all.Given as goal
 
 abbrev pub invariant-loop-i : goal.invariant-loop-i
-invariant-loop-i l = record {
-  small : (k : ℕ) → k < l.i → get_or l.u k 0 < 2 * l.p;
-  done : (k : ℕ) → k < l.i → Same l.p (get_or l.u k 0 * 2 ^ 64)
-      (get_or l.x k 0 * get_or l.v k 0 + get_or l.fn.u k 0 * (get_or l.y k 0 + get_or l.v k 0));
-  rest : (k : ℕ) → l.i ≤ k → get_or l.u k 0 ≡ get_or l.fn.u k 0;
-}
+invariant-loop-i l =
+    IsChanged (2 * l.p)
+    (λ k t z. Same l.p (z * 2 ^ 64) (get_or l.x k 0 * get_or l.v k 0 + t * (get_or l.y k 0 + get_or l.v k 0)))
+    l.fn.u l.u l.i
