@@ -1,6 +1,6 @@
 -- Lists of numbers that a loop fills place by place.
 use Rattle.dl_exact.proofs.Writing.{set_done, set_rest}
-use Rattle.dl_conv.proofs.Common.{ℕ, ◌≡◌, ◌+◌, ◌<◌, ◌≤◌, List, ◌++◌, length, get_or, take, drop, arith, ◌∙◌, take_all, get_or-set_other, set, drop_all, append-nil}
+use Rattle.dl_conv.proofs.Common.{ℕ, ◌≡◌, ◌+◌, ◌<◌, ◌≤◌, List, ◌++◌, length, get_or, take, drop, arith, take_all, set, drop_all, append-nil}
 
 -- the first n items of ys are those of f
 pub record IsFilled (f : ℕ → ℕ) (ys : List ℕ) (n : ℕ) : Type 0 where

@@ -1,5 +1,5 @@
 -- Items that have room for the sums of their products.
-use Rattle.dl_conv.proofs.Common.{ℕ, suc, ◌-◌, ◌*◌, ◌^◌, ◌<◌, ◌≤◌, List, length, get_or, take, drop, arith, inl, inr, All, le_trans, mul-le-mul, mul-le-mul_right, cases_lt, count_below, below_bound, below_pairs, pair_sum, size_of, ItemsFit, get_or_past}
+use Rattle.dl_conv.proofs.Common.{ℕ, suc, ◌≡◌, ◌-◌, ◌*◌, ◌^◌, ◌<◌, ◌≤◌, List, length, get_or, take, drop, arith, inl, inr, All, le_trans, mul-le-mul, mul-le-mul_right, cases_lt, count_below, below_bound, below_pairs, pair_sum, size_of, ItemsFit, get_or_past, length-take, length-drop}
 use Rattle.std.proofs.lemmas.List.Elements.{All-drop, All-take}
 use Rattle.dl_iv.specs.declared.interval.Iv.{Iv}
 use Rattle.dl_grid.specs.Cells.{IsGrid}
@@ -49,6 +49,10 @@ second_part {b = b} p e f = record {
   room = f.room;
   few = f.few;
 }
+
+-- as many items as a list has from place h on
+pub rest_long : (h : ℕ) (xs : List ℕ) → length (take (length xs - h) (drop h xs)) ≡ length xs - h
+rest_long h xs = omega (arith, length-take (length xs - h) (drop h xs), length-drop h xs)
 
 -- the ends of a grid with those of another one
 pub ends_fit : {B : ℕ} (cells : List (Iv B)) (a b : List ℕ) (n : ℕ) → IsGrid cells → 1 ≤ n → n ≤ length cells

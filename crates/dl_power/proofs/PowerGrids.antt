@@ -73,6 +73,21 @@ pub all_more : {B : ℕ} (xs ys : List (List (Iv B))) (g : List (Iv B)) (K : ℕ
 all_more xs ys g K e before here = subst (All (λ t. length t ≤ K)) (sym e)
     (All-push (λ t. length t ≤ K) xs g before here)
 
+-- so many grids, each of at most K cells
+pub record AreShort {B : ℕ} (K n : ℕ) (grids : List (List (Iv B))) : Type 0 where
+  pub many : length grids ≡ n
+  pub few : All (λ t. length t ≤ K) grids
+
+pub none_short : {B : ℕ} (grids : List (List (Iv B))) (K : ℕ) → grids ≡ [] → AreShort K 0 grids
+none_short grids K e = record { many = ap length e; few = no_grids grids K e }
+
+pub one_more_short : {B : ℕ} (xs ys : List (List (Iv B))) (g : List (Iv B)) (K n : ℕ) → ys ≡ xs ++ g ∷ []
+    → AreShort K n xs → length g ≤ K → AreShort K (n + 1) ys
+one_more_short xs ys g K n e before here = record {
+  many = omega (arith, ap length e, length-append xs (g ∷ []), before.many);
+  few = all_more xs ys g K e before.few here;
+}
+
 pub few_in : {B : ℕ} {xs ys : List (List (Iv B))} {K : ℕ} → xs ≡ ys → All (λ t. length t ≤ K) ys
     → All (λ t. length t ≤ K) xs
 few_in {K = K} e = subst (All (λ t. length t ≤ K)) (sym e)

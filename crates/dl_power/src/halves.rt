@@ -12,7 +12,7 @@ use crate::blocks::{blocks_of, next_power, powers_to};
 use crate::listed::Listed;
 use crate::powers::power;
 use crate::shares::greatest_of;
-use crate::short::{end_at, extended, short_product, short_square};
+use crate::short::{Factors, end_at, extended, short_product, short_square};
 use dl_grid::{Grid, units_of_one};
 use dl_product::Workspace;
 use std::alloc::{AllocError, Global};
@@ -55,7 +55,12 @@ fn block_with_later<const B: u32>(
         → IsStep cells w f k m n block.now step.now later.now
         → Between cells g (λ s. cell_from w f k s (suc m + n))) }
 {
-    let moved = short_product(alloc, work, step, later, cells)?;
+    let factors = Factors {
+        a: step,
+        b: later,
+        is_square: false,
+    };
+    let moved = short_product(alloc, work, factors, cells)?;
     let one = units_of_one(B);
     let lows = added(alloc, moved.lows(), block.lows(), one)?;
     let highs = added(alloc, moved.highs(), block.highs(), one)?;

@@ -1,7 +1,7 @@
 -- Products of lists whose items lie a common step apart.
-use Rattle.std.specs.Prelude.{All, ◌≢◌, min}
-use Rattle.dl_product.proofs.Common.{drop, end_fits, fewer_fit, second_part, take, ℕ, zero, suc, ◌≡◌, ◌+◌, ◌-◌, ◌*◌, ◌/◌, ◌<◌, ◌≤◌, inl, inr, List, length, get_or, arith, refl, sym, ap, ap₂, ◌∙◌, cases_lt, get_or_past, count_pairs, ItemsFit, pairs_same, times_nothing, pair_sum}
-use Rattle.std.proofs.Common.{◌%◌, zero-add}
+use Rattle.std.specs.Prelude.{All, Bool, true, ◌≢◌, min}
+use Rattle.dl_product.proofs.Common.{drop, end_fits, fewer_fit, second_part, take, length-take, length-drop, ℕ, zero, suc, ◌≡◌, ◌+◌, ◌-◌, ◌*◌, ◌/◌, ◌<◌, ◌≤◌, inl, inr, List, length, get_or, arith, refl, sym, ap, ap₂, ◌∙◌, cases_lt, get_or_past, count_pairs, ItemsFit, pairs_same, times_nothing, pair_sum}
+use Rattle.std.proofs.Common.{◌%◌}
 use Rattle.std.proofs.Math.Nat.{add-mod_left, mod-le, mod-lt, mul_comm, add-mul-mod_self_right, eq_of_mul-eq-mul_right, le_trans, le-mul_of_pos_right, mod-eq_of_lt, mod-add-div', mul-le-mul_right, lt_of_mul-lt-mul_right, suc-add, zero-mul}
 use Prim.Native.Nat.{◌∣◌}
 use Rattle.std.specs.Int.{div_ceil}
@@ -9,8 +9,9 @@ use Rattle.std.proofs.Math.ListN.{set, length-set}
 use Rattle.std.proofs.lemmas.List.{get_or-set_same, get_or-set_other}
 use Rattle.std.proofs.lemmas.Bool.{cases_eq}
 use Rattle.std.proofs.lemmas.Nat.Gcd.{dvd_trans, dvd_of_mod-eq-zero, mod-eq-zero_of_dvd}
-use Rattle.std.proofs.lemmas.Grind.{div_ceil_times, get_or_default_zero}
+use Rattle.std.proofs.lemmas.Grind.{div_ceil_times, get_or_default_zero, same_number_lists}
 use Rattle.dl_exact.proofs.Counts.{nothing_times}
+use Rattle.dl_product.specs.Factors.{AreFactors, AreZeros, IsProduct}
 use Rattle.dl_product.specs.Steps.{LieApart, AreMultiples, AreEvery}
 use Rattle.dl_product.proofs.Zeros.{low_first, no_products, shift_first, window_at}
 
@@ -74,16 +75,12 @@ between g s f h first second off = no_products s f h (λ i b. elim (cases_lt 0 (
   | inr c ↦ times_nothing (f i) (h (s - i)) (second (s - i) (rw (rest_off g s i b (omega (arith, c))) off))
 ])
 
--- a multiple before n is one of the first n / g, rounded up
-ceil_above : (g n s : ℕ) → 0 < g → s < n → s / g * g ≡ s → s / g < div_ceil n g
-ceil_above g n s some inside here = lt_of_mul-lt-mul_right g (omega (arith, here, inside, (div_ceil_times n g some).0))
-
--- and one of these is before n
+-- a multiple that is one of the first n / g, rounded up, is before n
 pub multiple_inside : (g n k : ℕ) → 0 < g → k < div_ceil n g → k * g < n
 multiple_inside g n k some b =
     omega (arith, mul-le-mul_right {m = k + 1} {n = div_ceil n g} g (omega (arith, b)), (div_ceil_times n g some).1)
 
-ceil_within : (g n : ℕ) → 0 < g → div_ceil n g ≤ n
+pub ceil_within : (g n : ℕ) → 0 < g → div_ceil n g ≤ n
 ceil_within g n some = elim (cases_lt n (div_ceil n g)) [
   | inl b ↦ absurd (omega (arith, mul-le-mul_right {m = n + 1} {n = div_ceil n g} g (omega (arith, b)), (div_ceil_times n g some).1, le-mul_of_pos_right n some))
   | inr b ↦ b
@@ -106,25 +103,14 @@ class_at (suc d) r s a b first second below lie each all rest =
     here : s ≡ r + s / suc d * suc d
     here = omega (arith, rest, mod-add-div' s (suc d))
 
--- the items from the start, as those that leave nothing over
-pub from_start : (g : ℕ) (xs items : List ℕ) → AreEvery g 0 xs items → AreMultiples g xs items
-from_start g xs items each k = each k ∙ ap (λ n. get_or xs n 0) (zero-add (k * g))
-
-to_start : (g : ℕ) (xs items : List ℕ) → AreMultiples g xs items → AreEvery g 0 xs items
-to_start g xs items each k = each k ∙ ap (λ n. get_or xs n 0) (sym (zero-add (k * g)))
-
--- items of the product of the shorter lists, spread out
-pub sums_spread : (g n : ℕ) (a b first second sums out : List ℕ) → 0 < g → LieApart g a → LieApart g b
-    → AreMultiples g a first → AreMultiples g b second
-    → ((k : ℕ) → k < div_ceil n g → get_or sums k 0 ≡ pair_sum first second k)
-    → AreMultiples g out sums → LieApart g out → (s : ℕ) → s < n → get_or out s 0 ≡ pair_sum a b s
-sums_spread g n a b first second sums out some lie also each all done spread apart s inside = elim (cases_lt 0 (s % g)) [
-  | inl off ↦ apart s off ∙ sym (between g s _ _ lie also off)
-  | inr c ↦
-      let none : s % g ≡ 0 = omega (arith, c) in
-      let here : s / g * g ≡ s = omega (arith, none, mod-add-div' s g) in
-      ap (λ k. get_or out k 0) (sym here) ∙ sym (spread (s / g)) ∙ done (s / g) (ceil_above g n s some inside here)
-      ∙ sym (class_at g 0 s a b first second some lie each (to_start g b second all) none)
+-- the class that leaves nothing over is the whole product of two lists whose items lie a step apart, in
+-- the place of zeros
+pub class_is_all : (g n : ℕ) (a b old new : List ℕ) → LieApart g a → LieApart g b → AreZeros old
+    → ((s : ℕ) → s < n → s % g ≡ 0 → get_or new s 0 ≡ pair_sum a b s)
+    → ((s : ℕ) → s % g ≢ 0 → get_or new s 0 ≡ get_or old s 0) → IsProduct a b n new
+class_is_all g n a b old new lie also zeros each others s inside = elim (cases_lt 0 (s % g)) [
+  | inl off ↦ others s (λ none. absurd (omega (arith, off, none))) ∙ zeros s ∙ sym (between g s _ _ lie also off)
+  | inr c ↦ each s inside (omega (arith, c))
 ]
 
 -- k items written g apart, from place r on
@@ -227,12 +213,37 @@ pub class_items : (g r : ℕ) (b second : List ℕ)
     → (k : ℕ) → get_or second k 0 ≡ get_or b (r + k * g) 0
 class_items g r b second all k = all k ∙ tail_at r (k * g) b
 
--- they have room for their products
-pub class_fits : (g r n p e : ℕ) (a b first second : List ℕ) → r < g → ItemsFit a b n → AreMultiples g a first
-    → AreMultiples g (take e (drop p b)) second → ItemsFit first second (div_ceil (n - r) g)
-class_fits g r n p e a b first second below f each all =
-    multiples_fit g (n - r) a (take e (drop p b)) first second (omega (arith, below))
-    (fewer_fit (n - r) (omega arith) (second_part p e f)) each all
+-- the items of a class, as two lists to multiply
+pub class_factors : (g r n : ℕ) (a b first second : List ℕ) (is_square : Bool) → r < g → AreFactors a b is_square n
+    → (is_square ≡ true → r ≡ 0)
+    → AreMultiples g a first
+    → AreMultiples g (take (length b - min r (length b)) (drop (min r (length b)) b)) second
+    → length first ≡ div_ceil (length a) g
+    → length second ≡ div_ceil (length (take (length b - min r (length b)) (drop (min r (length b)) b))) g
+    → AreFactors first second is_square (div_ceil (n - r) g)
+class_factors g r n a b first second is_square below f whole each all long also =
+    let m = min r (length b) in
+    let rest : length (take (length b - m) (drop m b)) ≡ length b - m =
+    omega (arith, length-take (length b - m) (drop m b), length-drop m b) in
+    let some : 0 < g = omega (arith, below) in
+    record {
+      fits = multiples_fit g (n - r) a (take (length b - m) (drop m b)) first second some
+          (fewer_fit (n - r) (omega arith) (second_part m (length b - m) f.fits)) each all;
+      first_few = omega (arith, long, ceil_within g (length a) some, f.first_few);
+      second_few = omega (
+        arith,
+        also,
+        ceil_within g (length (take (length b - m) (drop m b))) some,
+        rest,
+        f.second_few,
+      );
+      square = λ yes.
+          let none = whole yes in
+          let same = f.square yes in
+          same_number_lists second first
+          (also ∙ ap (λ n. div_ceil n g) (omega (arith, rest, none, ap length same)) ∙ sym long)
+          (λ k _. class_items g r b second all k ∙ ap₂ (λ xs n. get_or xs n 0) same (omega (arith, none)) ∙ sym (each k));
+    }
 
 -- a place that leaves r over the step is that of one of them
 pub class_place : (g r s : ℕ) → s % g ≡ r → r + s / g * g ≡ s

@@ -4,7 +4,8 @@ use Rattle.std.proofs.Common.{◌++◌, length-drop}
 use Rattle.std.specs.Prelude.{min}
 use Rattle.std.proofs.Math.ListN.{get_or-append}
 use Rattle.std.proofs.lemmas.List.{get_or-append_right}
-use Rattle.dl_product.specs.Windows.{IsWindow}
+use Rattle.dl_product.specs.declared.windows.Windows.{Windows}
+use Rattle.dl_product.specs.Windows.{AreWindows, IsWindow}
 use Rattle.dl_product.proofs.Zeros.{before_both, shift_both, past_both, window_at}
 use borrow.Rule.Slice.PartMut.{post_of}
 
@@ -58,21 +59,23 @@ zeros_within p e xs none s = elim (cases_lt s e) [
 ]
 
 -- a list of zeros with the product of the windows at its place is the product of the lists
-pub product_shifted : (a b zeros new : List ℕ) (p q e f start count : ℕ) → IsWindow a p e → IsWindow b q f
-    → start ≡ min (length zeros) (p + q) → count ≡ min (length zeros - start) (e - p + (f - q))
-    → ((i : ℕ) → get_or zeros i 0 ≡ 0) → length new ≡ length (take (start + count - start) (drop start zeros))
-    → ((t : ℕ) → t < length (take (start + count - start) (drop start zeros))
-    → get_or new t 0 ≡ pair_sum (take (e - p) (drop p a)) (take (f - q) (drop q b)) t)
+pub product_shifted : (a b zeros new : List ℕ) (w : Windows) → AreWindows a b (length zeros) w
+    → ((i : ℕ) → get_or zeros i 0 ≡ 0) → length new ≡ length (take (w.start + w.count - w.start) (drop w.start zeros))
+    → ((t : ℕ) → t < length (take (w.start + w.count - w.start) (drop w.start zeros))
+    → get_or new t 0
+    ≡ pair_sum (take (w.first.end - w.first.start) (drop w.first.start a))
+    (take (w.second.end - w.second.start) (drop w.second.start b)) t)
     → (s : ℕ) → s < length zeros
-    → get_or (take start zeros ++ (new ++ post_of start (start + count - start) zeros)) s 0 ≡ pair_sum a b s
-product_shifted a b zeros new p q e f start count x y is_start is_count none new_len each s inside =
-    let part : length (take (start + count - start) (drop start zeros)) ≡ count =
+    → get_or (take w.start zeros ++ (new ++ post_of w.start (w.start + w.count - w.start) zeros)) s 0 ≡ pair_sum a b s
+product_shifted a b zeros new w is none new_len each s inside =
+    let part : length (take (w.start + w.count - w.start) (drop w.start zeros)) ≡ w.count =
     omega (
       arith,
-      length-take (start + count - start) (drop start zeros),
-      length-drop start zeros,
-      is_start,
-      is_count,
+      length-take (w.start + w.count - w.start) (drop w.start zeros),
+      length-drop w.start zeros,
+      is.start_is,
+      is.count_is,
     ) in
-    shifted_at a b zeros new p q e f start count (length zeros) x y is_start is_count refl none
+    shifted_at a b zeros new w.first.start w.second.start w.first.end w.second.end w.start w.count (length zeros)
+    is.first is.second is.start_is is.count_is refl none
     (omega (arith, new_len, part)) (λ t d. each t (omega (arith, d, part))) s inside

@@ -1,3 +1,4 @@
 pub mod Ends
+pub mod Factors
 pub mod Steps
 pub mod Windows

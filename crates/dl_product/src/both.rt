@@ -1,17 +1,18 @@
 //! The products of the low ends and of the high ends of two grids at once, by transforms: both
 //! together take fewer than one after another.
 
-ghost use Rattle.std.specs.Prelude.{◌≡◌, ℕ, ◌+◌, ◌<◌, ◌≤◌, true, length, get_or, IfOk, IfSome};
+ghost use Rattle.std.specs.Prelude.{◌≡◌, ℕ, ◌+◌, ◌<◌, ◌≤◌, true, length, get_or, IfOk};
 ghost use Rattle.dl_limits.specs.Limits.{most_cells};
-ghost use Rattle.dl_conv.specs.Sums.{pair_sum, ItemsFit};
 ghost use Rattle.dl_product.specs.Ends.{ArePaired};
+ghost use Rattle.dl_product.specs.Factors.{AreCells, AreZeros, IsProduct};
+ghost use Rattle.dl_product.specs.Windows.{AreWindows};
 
-use crate::lists::{are_classes_shorter, levels_if_shorter, rate_of, sums};
+use crate::lists::{Factors, MOST_LEVELS, are_classes_shorter, levels_if_shorter, rate_of, sums};
 use crate::room::Workspace;
 use crate::steps::step_with;
-use crate::windows::windows_of;
+use crate::windows::{Windows, windows_of};
 use dl_conv::room_for_sums;
-use dl_transform::Ends;
+use dl_transform::{Ends, levels_for};
 use std::alloc::{AllocError, Global};
 
 /// The low ends and the high ends of the same cells.
@@ -19,6 +20,14 @@ use std::alloc::{AllocError, Global};
 pub(crate) struct Cells<'a> {
     pub(crate) lows: &'a [u128],
     pub(crate) highs: &'a [u128],
+}
+
+/// Two lists of cells to multiply. Where `is_square` they are one.
+#[derive(Clone, Copy)]
+pub(crate) struct Pair<'a> {
+    pub(crate) a: Cells<'a>,
+    pub(crate) b: Cells<'a>,
+    pub(crate) is_square: bool,
 }
 
 /// How far each high end is above its low end.
@@ -35,63 +44,95 @@ fn widths_of(alloc: Global, lows: &[u128], highs: &[u128]) -> Result<Vec<u128>, 
     Ok(widths)
 }
 
-/// Whether transforms of `2^levels` items give both products; then `lows` and `highs` have their
-/// first items, as many as they have room for.
+/// Whether transforms give both products; then `lows` and `highs` have their first items, as many
+/// as they have room for.
 fn transform_ends(
     alloc: Global,
     work: &mut Workspace,
-    a: Cells<'_>,
-    b: Cells<'_>,
-    is_square: bool,
-    levels: u32,
+    pair: Pair<'_>,
     lows: &mut [u128],
     highs: &mut [u128],
 ) -> Result<bool, AllocError>
-    requires first { ArePaired a.lows.now a.highs.now }
-    requires second { ArePaired b.lows.now b.highs.now }
-    requires square { is_square ≡ true → b.lows.now ≡ a.lows.now }
-    requires square_highs { is_square ≡ true → b.highs.now ≡ a.highs.now }
-    requires fits { ItemsFit a.highs.now b.highs.now (length lows.old) }
-    requires levels { levels < 40 }
+    requires cells { AreCells pair.a.lows.now pair.a.highs.now pair.b.lows.now pair.b.highs.now
+        pair.is_square (length lows.old) }
     requires paired { length highs.old ≡ length lows.old }
-    ensures low { IfOk result (λ found. found ≡ true → (s : ℕ) → s < length lows.old
-        → get_or lows.new s 0 ≡ pair_sum a.entry.lows.now b.entry.lows.now s) }
-    ensures high { IfOk result (λ found. found ≡ true → (s : ℕ) → s < length lows.old
-        → get_or highs.new s 0 ≡ pair_sum a.entry.highs.now b.entry.highs.now s) }
+    ensures low { IfOk result (λ found. found ≡ true
+        → IsProduct pair.entry.a.lows.now pair.entry.b.lows.now (length lows.old) lows.new) }
+    ensures high { IfOk result (λ found. found ≡ true
+        → IsProduct pair.entry.a.highs.now pair.entry.b.highs.now (length lows.old) highs.new) }
 {
-    let widths = widths_of(alloc, a.lows, a.highs)?;
+    let levels = levels_for(pair.a.lows.len() + pair.b.lows.len(), MOST_LEVELS);
+    let widths = widths_of(alloc, pair.a.lows, pair.a.highs)?;
     let first = Ends {
-        lows: a.lows,
+        lows: pair.a.lows,
         widths: widths.as_slice(),
     };
-    if is_square {
+    if pair.is_square {
         return work.ends(alloc, first, first, true, levels, lows, highs);
     }
-    let others = widths_of(alloc, b.lows, b.highs)?;
+    let others = widths_of(alloc, pair.b.lows, pair.b.highs)?;
     let second = Ends {
-        lows: b.lows,
+        lows: pair.b.lows,
         widths: others.as_slice(),
     };
     work.ends(alloc, first, second, false, levels, lows, highs)
 }
 
-/// The levels of the transforms that multiply two lists, where these are shorter than other ways.
-/// Lists whose items lie a common step apart are multiplied as shorter ones, and so are those of
-/// which one alone does, where that takes less time.
-fn levels_for_product(a: &[u128], b: &[u128], count: usize, is_square: bool) -> Option<u32>
+/// Whether transforms multiply two lists in less time than other ways. Lists whose items lie a
+/// common step apart are multiplied as shorter ones, and so are those of which one alone does,
+/// where that takes less time.
+fn are_transforms_shorter(a: &[u128], b: &[u128], count: usize, is_square: bool) -> bool
     requires first_few { length a.now ≤ most_cells }
     requires second_few { length b.now ≤ most_cells }
-    ensures { IfSome result (λ levels. levels ≤ 17) }
 {
     let first = step_with(a, 0);
     if step_with(b, first) > 1 {
-        return None;
+        return false;
     }
     let second = step_with(b, 0);
     if are_classes_shorter(a.len(), b.len(), count, first.max(second)) {
-        return None;
+        return false;
     }
-    levels_if_shorter(a.len(), b.len(), count, rate_of(is_square))
+    levels_if_shorter(a.len(), b.len(), count, rate_of(is_square)).is_some()
+}
+
+/// The greatest width of the cells, or the first width above `limit`.
+fn greatest_width(cells: Cells<'_>, limit: u128) -> u128
+    requires { ArePaired cells.lows.now cells.highs.now }
+{
+    let mut greatest = 0;
+    for i in 0..cells.lows.len() {
+        greatest = (cells.highs[i] - cells.lows[i]).max(greatest);
+        if greatest > limit {
+            return greatest;
+        }
+    }
+    greatest
+}
+
+/// Whether the greatest widths of two lists of cells are together at most `limit`. Wide cells are
+/// found after a few of them.
+fn are_narrow(pair: Pair<'_>, limit: u128) -> bool
+    requires first { ArePaired pair.a.lows.now pair.a.highs.now }
+    requires second { ArePaired pair.b.lows.now pair.b.highs.now }
+{
+    if pair.is_square {
+        return greatest_width(pair.a, limit / 2) <= limit / 2;
+    }
+    let first = greatest_width(pair.a, limit);
+    first <= limit && greatest_width(pair.b, limit - first) <= limit - first
+}
+
+/// Whether both kinds of ends are multiplied at once: transforms take less time than other ways,
+/// and the greatest widths of the cells are together at most `limit`.
+fn are_multiplied_at_once(pair: Pair<'_>, windows: Windows, cells: usize, limit: u128) -> bool
+    requires cells { AreCells pair.a.lows.now pair.a.highs.now pair.b.lows.now pair.b.highs.now
+        pair.is_square cells }
+    requires windows { AreWindows pair.a.highs.now pair.b.highs.now cells windows }
+{
+    let a = &pair.a.highs[windows.first.start..windows.first.end];
+    let b = &pair.b.highs[windows.second.start..windows.second.end];
+    are_transforms_shorter(a, b, windows.count, pair.is_square) && are_narrow(pair, limit)
 }
 
 /// Whether transforms give both products, in the place of as many zeros each; then `lows` and
@@ -99,91 +140,89 @@ fn levels_for_product(a: &[u128], b: &[u128], count: usize, is_square: bool) -> 
 fn write_ends(
     alloc: Global,
     work: &mut Workspace,
-    a: Cells<'_>,
-    b: Cells<'_>,
-    is_square: bool,
+    pair: Pair<'_>,
+    windows: Windows,
     lows: &mut [u128],
     highs: &mut [u128],
 ) -> Result<bool, AllocError>
-    requires first { ArePaired a.lows.now a.highs.now }
-    requires second { ArePaired b.lows.now b.highs.now }
-    requires first_few { length a.highs.now ≤ most_cells }
-    requires second_few { length b.highs.now ≤ most_cells }
-    requires square { is_square ≡ true → b.lows.now ≡ a.lows.now }
-    requires square_highs { is_square ≡ true → b.highs.now ≡ a.highs.now }
-    requires fits { ItemsFit a.highs.now b.highs.now (length lows.old) }
+    requires windows { AreWindows pair.a.highs.now pair.b.highs.now (length lows.old) windows }
+    requires alike { pair.is_square ≡ true → windows.second ≡ windows.first }
+    requires cells { AreCells pair.a.lows.now pair.a.highs.now pair.b.lows.now pair.b.highs.now
+        pair.is_square (length lows.old) }
     requires paired { length highs.old ≡ length lows.old }
-    requires zeros { (s : ℕ) → get_or lows.old s 0 ≡ 0 }
-    requires high_zeros { (s : ℕ) → get_or highs.old s 0 ≡ 0 }
-    ensures low { IfOk result (λ found. found ≡ true → (s : ℕ) → s < length lows.old
-        → get_or lows.new s 0 ≡ pair_sum a.entry.lows.now b.entry.lows.now s) }
-    ensures high { IfOk result (λ found. found ≡ true → (s : ℕ) → s < length lows.old
-        → get_or highs.new s 0 ≡ pair_sum a.entry.highs.now b.entry.highs.now s) }
+    requires zeros { AreZeros lows.old }
+    requires high_zeros { AreZeros highs.old }
+    ensures low { IfOk result (λ found. found ≡ true
+        → IsProduct pair.entry.a.lows.now pair.entry.b.lows.now (length lows.old) lows.new) }
+    ensures high { IfOk result (λ found. found ≡ true
+        → IsProduct pair.entry.a.highs.now pair.entry.b.highs.now (length lows.old) highs.new) }
 {
-    let ((p, e), (q, f)) = windows_of(a.highs, b.highs, is_square);
-    let start = lows.len().min(p + q);
-    let count = (lows.len() - start).min(e - p + (f - q));
-    let first = Cells {
-        lows: &a.lows[p..e],
-        highs: &a.highs[p..e],
-    };
-    let second = Cells {
-        lows: &b.lows[q..f],
-        highs: &b.highs[q..f],
-    };
-    let Some(levels) = levels_for_product(first.highs, second.highs, count, is_square) else {
-        return Ok(false);
+    let first = windows.first;
+    let second = windows.second;
+    let part = Pair {
+        a: Cells {
+            lows: &pair.a.lows[first.start..first.end],
+            highs: &pair.a.highs[first.start..first.end],
+        },
+        b: Cells {
+            lows: &pair.b.lows[second.start..second.end],
+            highs: &pair.b.highs[second.start..second.end],
+        },
+        is_square: pair.is_square,
     };
     transform_ends(
         alloc,
         work,
-        first,
-        second,
-        is_square,
-        levels,
-        &mut lows[start..start + count],
-        &mut highs[start..start + count],
+        part,
+        &mut lows[windows.start..windows.start + windows.count],
+        &mut highs[windows.start..windows.start + windows.count],
     )
 }
 
-/// The first `cells` items of the products of the low ends and of the high ends of two grids.
+/// The first `cells` items of the products of the low ends and of the high ends of two grids, both
+/// at once where the greatest widths of the cells are together at most `limit`.
 pub(crate) fn both_sums(
     alloc: Global,
     work: &mut Workspace,
-    a: Cells<'_>,
-    b: Cells<'_>,
-    is_square: bool,
+    pair: Pair<'_>,
+    limit: u128,
     cells: u32,
 ) -> Result<(Vec<u128>, Vec<u128>), AllocError>
-    requires first { ArePaired a.lows.now a.highs.now }
-    requires second { ArePaired b.lows.now b.highs.now }
-    requires first_few { length a.highs.now ≤ most_cells }
-    requires second_few { length b.highs.now ≤ most_cells }
-    requires square { is_square ≡ true → b.lows.now ≡ a.lows.now }
-    requires square_highs { is_square ≡ true → b.highs.now ≡ a.highs.now }
-    requires fits { ItemsFit a.highs.now b.highs.now cells }
-    requires low_fits { ItemsFit a.lows.now b.lows.now cells }
+    requires { AreCells pair.a.lows.now pair.a.highs.now pair.b.lows.now pair.b.highs.now
+        pair.is_square cells }
     ensures low_cells { IfOk result (λ v. length v.0.items ≡ cells) }
     ensures high_cells { IfOk result (λ v. length v.1.items ≡ cells) }
-    ensures low { IfOk result (λ v. (s : ℕ) → s < cells
-        → get_or v.0.items s 0 ≡ pair_sum a.entry.lows.now b.entry.lows.now s) }
-    ensures high { IfOk result (λ v. (s : ℕ) → s < cells
-        → get_or v.1.items s 0 ≡ pair_sum a.entry.highs.now b.entry.highs.now s) }
+    ensures low { IfOk result (λ v.
+        IsProduct pair.entry.a.lows.now pair.entry.b.lows.now cells v.0.items) }
+    ensures high { IfOk result (λ v.
+        IsProduct pair.entry.a.highs.now pair.entry.b.highs.now cells v.1.items) }
 {
-    let (mut lows, mut highs) = room_for_sums(alloc, cells)?;
-    let found = write_ends(
-        alloc,
-        work,
-        a,
-        b,
-        is_square,
-        lows.as_mut_slice(),
-        highs.as_mut_slice(),
-    )?;
-    if found {
-        return Ok((lows, highs));
+    let windows = windows_of(pair.a.highs, pair.b.highs, pair.is_square, cells as usize);
+    if are_multiplied_at_once(pair, windows, cells as usize, limit) {
+        let (mut lows, mut highs) = room_for_sums(alloc, cells)?;
+        let found = write_ends(
+            alloc,
+            work,
+            pair,
+            windows,
+            lows.as_mut_slice(),
+            highs.as_mut_slice(),
+        )?;
+        if found {
+            return Ok((lows, highs));
+        }
     }
-    let lows = sums(alloc, work, a.lows, b.lows, is_square, cells)?;
-    let highs = sums(alloc, work, a.highs, b.highs, is_square, cells)?;
+    let low = Factors {
+        a: pair.a.lows,
+        b: pair.b.lows,
+        is_square: pair.is_square,
+    };
+    let high = Factors {
+        a: pair.a.highs,
+        b: pair.b.highs,
+        is_square: pair.is_square,
+    };
+    let lows = sums(alloc, work, low, cells)?;
+    let highs = sums(alloc, work, high, cells)?;
     Ok((lows, highs))
 }

@@ -1,39 +1,47 @@
 //! The product of two lists, of which one has its items a step apart, as that of the cells of losses
 //! in multiples of 5 buckets with other ones: by the places that leave the same rest over the step.
 
-ghost use Rattle.std.specs.Prelude.{◌≡◌, ◌≢◌, ℕ, ◌<◌, ◌≤◌, ◌%◌, length, get_or, IfOk};
+ghost use Rattle.std.specs.Prelude.{◌≡◌, ◌≢◌, ℕ, ◌<◌, ◌≤◌, ◌%◌, true, length, get_or, IfOk};
 ghost use Rattle.dl_limits.specs.Limits.{most_cells};
 ghost use Rattle.dl_conv.specs.Sums.{pair_sum, ItemsFit};
+ghost use Rattle.dl_product.specs.Factors.{AreFactors, IsProduct};
 ghost use Rattle.dl_product.specs.Steps.{LieApart};
 
-use crate::lists::multiply_plainly;
+use crate::lists::{Factors, multiply};
+use crate::room::Workspace;
 use crate::steps::{at_multiples, spread_out};
 use std::alloc::{AllocError, Global};
 
-/// The items of the product at the places that leave `rest` over `step`: the items of `a` times
-/// those of `b` at such places.
-fn multiply_class(
+/// The items of the product at the places that leave `rest` over `step`: the items of the first
+/// list times those of the second at such places.
+pub(crate) fn multiply_class(
     alloc: Global,
-    a: &[u128],
-    b: &[u128],
+    work: &mut Workspace,
+    factors: Factors<'_>,
     step: usize,
     rest: usize,
     out: &mut [u128],
 ) -> Result<(), AllocError>
-    requires fits { ItemsFit a.now b.now (length out.old) }
-    requires few { length a.now ≤ most_cells }
+    requires factors { AreFactors factors.a.now factors.b.now factors.is_square (length out.old) }
     requires below { rest < step }
     requires inside { rest ≤ length out.old }
-    requires apart { LieApart step a.now }
+    requires apart { LieApart step factors.a.now }
+    requires first { factors.is_square ≡ true → rest ≡ 0 }
     ensures each { IfOk result (λ _. (s : ℕ) → s < length out.old → s % step ≡ rest
-        → get_or out.new s 0 ≡ pair_sum a.now b.now s) }
+        → get_or out.new s 0 ≡ pair_sum factors.entry.a.now factors.entry.b.now s) }
     ensures others { IfOk result (λ _. (s : ℕ) → s % step ≢ rest
         → get_or out.new s 0 ≡ get_or out.old s 0) }
 {
-    let first = at_multiples(alloc, a, step)?;
+    let b = factors.b;
+    let first = at_multiples(alloc, factors.a, step)?;
     let second = at_multiples(alloc, &b[rest.min(b.len())..], step)?;
     let mut sums = Vec::from_elem(alloc, 0, (out.len() - rest).div_ceil(step))?;
-    multiply_plainly(alloc, &first, &second, sums.as_mut_slice())?;
+    let items = Factors {
+        a: &first,
+        b: &second,
+        is_square: factors.is_square,
+    };
+    multiply(alloc, work, items, sums.as_mut_slice())?;
     spread_out(&sums, step, rest, out);
     Ok(())
 }
@@ -42,20 +50,26 @@ fn multiply_class(
 /// first lie `step` apart.
 pub(crate) fn multiply_by_classes(
     alloc: Global,
+    work: &mut Workspace,
     a: &[u128],
     b: &[u128],
     step: usize,
     out: &mut [u128],
 ) -> Result<(), AllocError>
     requires fits { ItemsFit a.now b.now (length out.old) }
-    requires few { length a.now ≤ most_cells }
+    requires first_few { length a.now ≤ most_cells }
+    requires second_few { length b.now ≤ most_cells }
     requires some { 0 < step }
     requires apart { LieApart step a.now }
-    ensures { IfOk result (λ _. (s : ℕ) → s < length out.old
-        → get_or out.new s 0 ≡ pair_sum a.now b.now s) }
+    ensures { IfOk result (λ _. IsProduct a.now b.now (length out.old) out.new) }
 {
+    let factors = Factors {
+        a,
+        b,
+        is_square: false,
+    };
     for rest in 0..step.min(out.len()) {
-        multiply_class(alloc, a, b, step, rest, out)?;
+        multiply_class(alloc, work, factors, step, rest, out)?;
     }
     Ok(())
 }

@@ -3,16 +3,26 @@
 ghost use Rattle.std.specs.Prelude.{◌≡◌, ℕ, ◌<◌, ◌≤◌, true, length, get_or, IfOk, IfSome, IsTrue};
 ghost use Rattle.dl_limits.specs.Limits.{most_cells};
 ghost use Rattle.dl_conv.specs.Sums.{pair_sum, ItemsFit};
+ghost use Rattle.dl_product.specs.Factors.{AreFactors, AreZeros, IsProduct};
 ghost use Rattle.dl_product.specs.Steps.{LieApart};
+ghost use Rattle.dl_product.specs.Windows.{AreWindows};
 
-use crate::classes::multiply_by_classes;
+use crate::classes::{multiply_by_classes, multiply_class};
 use crate::room::Workspace;
 use crate::short::short_square;
-use crate::steps::{at_multiples, spread_out, step_with};
+use crate::steps::step_with;
 use crate::windows::windows_of;
 use dl_conv::{halved_sums, plain_sums, work_for};
 use dl_transform::levels_for;
 use std::alloc::{AllocError, Global};
+
+/// Two lists to multiply. Where `is_square` they are one.
+#[derive(Clone, Copy)]
+pub(crate) struct Factors<'a> {
+    pub(crate) a: &'a [u128],
+    pub(crate) b: &'a [u128],
+    pub(crate) is_square: bool,
+}
 
 /// How many products of items of two lists take the time of one item of a transform at one level:
 /// measured.
@@ -23,7 +33,7 @@ const PRODUCTS_A_STEP: usize = 8;
 const SQUARES_A_STEP: usize = 10;
 
 /// The most levels: two lists of at most 65,536 items fit a transform of `2^17` items.
-const MOST_LEVELS: u32 = 17;
+pub(crate) const MOST_LEVELS: u32 = 17;
 
 /// How many products of items take the time of one item of a transform at one level.
 pub(crate) fn rate_of(is_square: bool) -> usize
@@ -63,7 +73,7 @@ pub(crate) fn levels_if_shorter(
 
 /// The first items of the product of two lists, as many as `out` has room for, without a transform:
 /// one product after another, or by halves where both lists are as long as `out`.
-pub(crate) fn multiply_plainly(
+fn multiply_plainly(
     alloc: Global,
     a: &[u128],
     b: &[u128],
@@ -85,31 +95,27 @@ pub(crate) fn multiply_plainly(
 
 /// The first items of the product of two lists, as many as `out` has room for, the shorter way. Two
 /// lists that are one take fewer steps.
-fn multiply(
+pub(crate) fn multiply(
     alloc: Global,
     work: &mut Workspace,
-    a: &[u128],
-    b: &[u128],
-    is_square: bool,
+    factors: Factors<'_>,
     out: &mut [u128],
 ) -> Result<(), AllocError>
-    requires fits { ItemsFit a.now b.now (length out.old) }
-    requires first_few { length a.now ≤ most_cells }
-    requires second_few { length b.now ≤ most_cells }
-    requires square { is_square ≡ true → b.now ≡ a.now }
-    ensures { IfOk result (λ _. (s : ℕ) → s < length out.old
-        → get_or out.new s 0 ≡ pair_sum a.now b.now s) }
+    requires { AreFactors factors.a.now factors.b.now factors.is_square (length out.old) }
+    ensures { IfOk result (λ _.
+        IsProduct factors.entry.a.now factors.entry.b.now (length out.old) out.new) }
 {
-    if let Some(levels) = levels_if_shorter(a.len(), b.len(), out.len(), rate_of(is_square)) {
-        if work.product(alloc, a, b, is_square, levels, out)? {
+    let rate = rate_of(factors.is_square);
+    if let Some(levels) = levels_if_shorter(factors.a.len(), factors.b.len(), out.len(), rate) {
+        if work.product(alloc, factors, levels, out)? {
             return Ok(());
         }
     }
-    if is_square {
-        short_square(a, out);
+    if factors.is_square {
+        short_square(factors.a, out);
         return Ok(());
     }
-    multiply_plainly(alloc, a, b, out)
+    multiply_plainly(alloc, factors.a, factors.b, out)
 }
 
 /// Whether the product of two lists, of which one has items `step` apart, takes less time by the
@@ -123,116 +129,75 @@ pub(crate) fn are_classes_shorter(first: usize, second: usize, count: usize, ste
     step > 1 && levels_if_shorter(first, second, count, rate).is_none()
 }
 
-/// The first items of the product of two lists whose items lie `step` apart, in the place of as
-/// many zeros: the product of their items at the multiples of the step.
-fn multiply_apart(
-    alloc: Global,
-    work: &mut Workspace,
-    a: &[u128],
-    b: &[u128],
-    is_square: bool,
-    step: usize,
-    out: &mut [u128],
-) -> Result<(), AllocError>
-    requires fits { ItemsFit a.now b.now (length out.old) }
-    requires first_few { length a.now ≤ most_cells }
-    requires second_few { length b.now ≤ most_cells }
-    requires square { is_square ≡ true → b.now ≡ a.now }
-    requires zeros { (s : ℕ) → get_or out.old s 0 ≡ 0 }
-    requires some { 0 < step }
-    requires first_apart { LieApart step a.now }
-    requires second_apart { LieApart step b.now }
-    ensures { IfOk result (λ _. (s : ℕ) → s < length out.old
-        → get_or out.new s 0 ≡ pair_sum a.now b.now s) }
-{
-    let first = at_multiples(alloc, a, step)?;
-    let second = at_multiples(alloc, b, step)?;
-    let mut sums = Vec::from_elem(alloc, 0, out.len().div_ceil(step))?;
-    multiply(alloc, work, &first, &second, is_square, sums.as_mut_slice())?;
-    spread_out(&sums, step, 0, out);
-    Ok(())
-}
-
-/// The first items of the product of two lists, in the place of as many zeros, the shorter way.
+/// The first items of the product of two lists, in the place of as many zeros, the shorter way. The
+/// items of both lie `step` apart.
 fn multiply_by_steps(
     alloc: Global,
     work: &mut Workspace,
-    a: &[u128],
-    b: &[u128],
-    is_square: bool,
+    factors: Factors<'_>,
+    step: u32,
     out: &mut [u128],
 ) -> Result<(), AllocError>
-    requires fits { ItemsFit a.now b.now (length out.old) }
-    requires first_few { length a.now ≤ most_cells }
-    requires second_few { length b.now ≤ most_cells }
-    requires square { is_square ≡ true → b.now ≡ a.now }
-    requires zeros { (s : ℕ) → get_or out.old s 0 ≡ 0 }
-    ensures { IfOk result (λ _. (s : ℕ) → s < length out.old
-        → get_or out.new s 0 ≡ pair_sum a.now b.now s) }
+    requires factors { AreFactors factors.a.now factors.b.now factors.is_square (length out.old) }
+    requires zeros { AreZeros out.old }
+    requires first_apart { LieApart step factors.a.now }
+    requires second_apart { LieApart step factors.b.now }
+    ensures { IfOk result (λ _.
+        IsProduct factors.entry.a.now factors.entry.b.now (length out.old) out.new) }
 {
-    let first = step_with(a, 0);
-    let step = step_with(b, first);
+    let a = factors.a;
+    let b = factors.b;
     if step > 1 {
-        return multiply_apart(alloc, work, a, b, is_square, step as usize, out);
+        return multiply_class(alloc, work, factors, step as usize, 0, out);
     }
+    let first = step_with(a, 0);
     if are_classes_shorter(a.len(), b.len(), out.len(), first) {
-        return multiply_by_classes(alloc, a, b, first as usize, out);
+        return multiply_by_classes(alloc, work, a, b, first as usize, out);
     }
     let second = step_with(b, 0);
     if are_classes_shorter(a.len(), b.len(), out.len(), second) {
-        return multiply_by_classes(alloc, b, a, second as usize, out);
+        return multiply_by_classes(alloc, work, b, a, second as usize, out);
     }
-    multiply(alloc, work, a, b, is_square, out)
+    multiply(alloc, work, factors, out)
 }
 
 /// The first items of the product of two lists, in the place of as many zeros.
 fn write_sums(
     alloc: Global,
     work: &mut Workspace,
-    a: &[u128],
-    b: &[u128],
-    is_square: bool,
+    factors: Factors<'_>,
     out: &mut [u128],
 ) -> Result<(), AllocError>
-    requires fits { ItemsFit a.now b.now (length out.old) }
-    requires first_few { length a.now ≤ most_cells }
-    requires second_few { length b.now ≤ most_cells }
-    requires square { is_square ≡ true → b.now ≡ a.now }
-    requires zeros { (s : ℕ) → get_or out.old s 0 ≡ 0 }
-    ensures { IfOk result (λ _. (s : ℕ) → s < length out.old
-        → get_or out.new s 0 ≡ pair_sum a.now b.now s) }
+    requires factors { AreFactors factors.a.now factors.b.now factors.is_square (length out.old) }
+    requires zeros { AreZeros out.old }
+    ensures { IfOk result (λ _.
+        IsProduct factors.entry.a.now factors.entry.b.now (length out.old) out.new) }
 {
-    let ((p, e), (q, f)) = windows_of(a, b, is_square);
-    let start = out.len().min(p + q);
-    let count = (out.len() - start).min(e - p + (f - q));
-    multiply_by_steps(
-        alloc,
-        work,
-        &a[p..e],
-        &b[q..f],
-        is_square,
-        &mut out[start..start + count],
-    )
+    let windows = windows_of(factors.a, factors.b, factors.is_square, out.len());
+    let part = Factors {
+        a: &factors.a[windows.first.start..windows.first.end],
+        b: &factors.b[windows.second.start..windows.second.end],
+        is_square: factors.is_square,
+    };
+    let first = step_with(part.a, 0);
+    let step = step_with(part.b, first);
+    let places = &mut out[windows.start..windows.start + windows.count];
+    multiply_by_steps(alloc, work, part, step, places)
 }
 
 /// The first `cells` items of the product of two lists.
 pub(crate) fn sums(
     alloc: Global,
     work: &mut Workspace,
-    a: &[u128],
-    b: &[u128],
-    is_square: bool,
+    factors: Factors<'_>,
     cells: u32,
 ) -> Result<Vec<u128>, AllocError>
-    requires fits { ItemsFit a.now b.now cells }
-    requires first_few { length a.now ≤ most_cells }
-    requires second_few { length b.now ≤ most_cells }
-    requires square { is_square ≡ true → b.now ≡ a.now }
+    requires { AreFactors factors.a.now factors.b.now factors.is_square cells }
     ensures cells { IfOk result (λ v. length v.items ≡ cells) }
-    ensures each { IfOk result (λ v. (s : ℕ) → s < cells
-        → get_or v.items s 0 ≡ pair_sum a.now b.now s) }
+    ensures each { IfOk result (λ v.
+        IsProduct factors.entry.a.now factors.entry.b.now cells v.items) }
 {
     let mut sums = Vec::from_elem(alloc, 0, cells as usize)?;
-    write_sums(alloc, work, a, b, is_square, sums.as_mut_slice())?;
+    write_sums(alloc, work, factors, sums.as_mut_slice())?;
     Ok(sums)
 }

@@ -3,6 +3,7 @@
 ghost use Rattle.std.specs.Option.{ForSome};
 ghost use Rattle.dl_transform.specs.Setup.{IsSetup};
 
+use crate::lists::Factors;
 use dl_transform::{Buffers, Ends, Setup, checked_ends, checked_product, checked_square, set_up};
 use std::alloc::{AllocError, Global};
 
@@ -17,8 +18,8 @@ pub struct Workspace {
 
 impl Workspace {
     ghost use Rattle.std.specs.Prelude.{◌≡◌, ℕ, ◌<◌, true, length, get_or, IfOk};
-    ghost use Rattle.dl_conv.specs.Sums.{pair_sum, ItemsFit};
-    ghost use Rattle.dl_transform.specs.Ends.{low_sum, high_sum, AreWords};
+    ghost use Rattle.dl_transform.specs.Ends.{low_sum, high_sum};
+    ghost use Rattle.dl_product.specs.Factors.{AreFactors, AreWordCells, IsProduct};
 
     /// A workspace with no room and no tables yet. It takes no memory.
     pub fn new(alloc: Global) -> Self {
@@ -46,26 +47,24 @@ impl Workspace {
     pub(crate) fn product(
         &mut self,
         alloc: Global,
-        a: &[u128],
-        b: &[u128],
-        is_square: bool,
+        factors: Factors<'_>,
         levels: u32,
         out: &mut [u128],
     ) -> Result<bool, AllocError>
         requires levels { levels < 40 }
-        requires fits { ItemsFit a.now b.now (length out.old) }
-        requires square { is_square ≡ true → b.now ≡ a.now }
-        ensures { IfOk result (λ found. found ≡ true → (s : ℕ) → s < length out.old
-            → get_or out.new s 0 ≡ pair_sum a.now b.now s) }
+        requires factors { AreFactors factors.a.now factors.b.now factors.is_square
+            (length out.old) }
+        ensures { IfOk result (λ found. found ≡ true
+            → IsProduct factors.entry.a.now factors.entry.b.now (length out.old) out.new) }
     {
         self.prepare(alloc, levels)?;
         let Some(setup) = &self.setup else {
             return Ok(false);
         };
-        if is_square {
-            return checked_square(alloc, a, setup, &mut self.buffers, out);
+        if factors.is_square {
+            return checked_square(alloc, factors.a, setup, &mut self.buffers, out);
         }
-        checked_product(alloc, a, b, setup, &mut self.buffers, out)
+        checked_product(alloc, factors.a, factors.b, setup, &mut self.buffers, out)
     }
 
     /// Whether transforms of `2^levels` items serve the products of the low ends and of the high
@@ -82,10 +81,7 @@ impl Workspace {
         highs: &mut [u128],
     ) -> Result<bool, AllocError>
         requires levels { levels < 40 }
-        requires first { AreWords a.lows.now a.widths.now }
-        requires second { AreWords b.lows.now b.widths.now }
-        requires square { is_square ≡ true → b.lows.now ≡ a.lows.now }
-        requires square_widths { is_square ≡ true → b.widths.now ≡ a.widths.now }
+        requires words { AreWordCells a.lows.now a.widths.now b.lows.now b.widths.now is_square }
         requires paired { length highs.old ≡ length lows.old }
         ensures low { IfOk result (λ found. found ≡ true → (s : ℕ) → s < length lows.old
             → get_or lows.new s 0 ≡ low_sum a.entry.lows.now b.entry.lows.now s) }

@@ -1,5 +1,5 @@
-use Rattle.dl_conv.proofs.Common.{ℕ, ◌-◌, ◌≡◌, arith, length, take, drop, length-take-le, length-drop}
-use Rattle.dl_conv.proofs.Fits.{fewer_fit, first_part, second_part}
+use Rattle.dl_conv.proofs.Common.{ℕ, arith, length}
+use Rattle.dl_conv.proofs.Fits.{fewer_fit, first_part, rest_long, second_part}
 use Rattle.dl_conv.proofs.FirstPlaces.{one_fits, two_fits, all_sums}
 use Rattle.dl_conv.proofs.short.+halved_sums.Goals as goal
 
@@ -7,30 +7,22 @@ pub first_sums-requires-clause-fits : goal.first_sums-requires-clause-fits
 first_sums-requires-clause-fits t c = fewer_fit _ (omega arith) c.requires.fits
 
 pub halved_sums-requires : goal.halved_sums-requires
-halved_sums-requires t c =
-    let h : ℕ = c.half_length-half.result in
-    let long = length-drop h c.args.a.now in
-    let back : length (take (length c.args.a.now - h) (drop h c.args.a.now)) ≡ length c.args.a.now - h =
-    length-take-le (length c.args.a.now - h) (drop h c.args.a.now) (omega arith) in (
-      omega (arith, c.decreases),
-      (
-        fewer_fit _ (omega arith) (first_part h (length c.args.a.now - h) c.requires.fits),
-        (omega (arith, back), (omega arith, λ many. omega arith)),
-      ),
-    )
+halved_sums-requires t c = (
+  omega (arith, c.decreases),
+  (
+    fewer_fit _ (omega arith) (first_part _ _ c.requires.fits),
+    (omega (arith, rest_long c.half_length-half.result c.args.a.now), (omega arith, λ many. omega arith)),
+  ),
+)
 
 pub halved_sums-requires-2 : goal.halved_sums-requires-2
-halved_sums-requires-2 t c =
-    let h : ℕ = c.half_length-half.result in
-    let long = length-drop h c.args.b.now in
-    let back : length (take (length c.args.b.now - h) (drop h c.args.b.now)) ≡ length c.args.b.now - h =
-    length-take-le (length c.args.b.now - h) (drop h c.args.b.now) (omega arith) in (
-      omega (arith, c.decreases),
-      (
-        fewer_fit _ (omega arith) (second_part h (length c.args.b.now - h) c.requires.fits),
-        (omega arith, (omega (arith, back), λ many. omega arith)),
-      ),
-    )
+halved_sums-requires-2 t c = (
+  omega (arith, c.decreases),
+  (
+    fewer_fit _ (omega arith) (second_part _ _ c.requires.fits),
+    (omega arith, (omega (arith, rest_long c.half_length-half.result c.args.b.now), λ many. omega arith)),
+  ),
+)
 
 pub add_from-requires-clause-fits : goal.add_from-requires-clause-fits
 add_from-requires-clause-fits t c k inside =

@@ -1,5 +1,5 @@
-use Rattle.dl_power.proofs.Common.{ℕ, suc, ◌≡◌, ◌-◌, ◌*◌, length, arith, refl, ap, ap₂, probability_at, cell_from}
-use Rattle.dl_power.proofs.PowerGrids.{none_between, no_grids, all_more, more_between}
+use Rattle.dl_power.proofs.Common.{ℕ, suc, ◌≡◌, ◌-◌, ◌*◌, length, arith, refl, ap₂, probability_at, cell_from}
+use Rattle.dl_power.proofs.PowerGrids.{none_between, none_short, one_more_short, more_between}
 use Rattle.dl_power.proofs.StepGrids.{from_same}
 use Rattle.dl_power.proofs.Neighbours.{place_near}
 use Rattle.dl_power.proofs.blocks.blocks_of.Goals as goal
@@ -16,8 +16,7 @@ pub loop-i-init : goal.loop-i-init
 loop-i-init g c =
     let none = c.new-list.ensures.items in
     record {
-      many = ap length none;
-      few = no_grids c.new-list.result.items c.args.cells none;
+      short = none_short c.new-list.result.items c.args.cells none;
       parts = λ f q of_f. none_between c.args.cells _ c.new-list.result.items none;
     }
 
@@ -33,13 +32,12 @@ loop-i-preserved g c =
     let n : ℕ = length c.args.powers.now in
     let all : n ≡ suc (n - 1) = omega (arith, c.requires.one) in
     record {
-      many = omega (arith, c.in_ok-push.ensures.len, c.loop-i.invariant.many);
-      few = all_more c.loop-i.list.items c.push.new.self.items c.in_ok-block.field-0 c.args.cells
-          c.in_ok-push.ensures.items c.loop-i.invariant.few c.in_ok-block.ensures.few;
+      short = one_more_short c.loop-i.list.items c.push.new.self.items c.in_ok-block.field-0 c.args.cells c.loop-i.i
+          c.in_ok-push.ensures.items c.loop-i.invariant.short c.in_ok-block.ensures.few;
       parts = λ f q of_f.
           more_between c.args.cells c.loop-i.i
           (λ i s. cell_from (probability_at c.args.table.now) f (i * suc (n - 1)) s (n - 1)) c.loop-i.list.items
-          c.push.new.self.items c.in_ok-block.field-0 c.in_ok-push.ensures.items c.loop-i.invariant.many
+          c.push.new.self.items c.in_ok-block.field-0 c.in_ok-push.ensures.items c.loop-i.invariant.short.many
           (c.loop-i.invariant.parts f q of_f)
           (from_same c.args.cells c.in_ok-block.field-0 (probability_at c.args.table.now) f _ _ _ _
           (ap₂ (λ s t. s * t) c.from.ensures all) refl (c.in_ok-block.ensures.between f q of_f));

@@ -1,10 +1,10 @@
-use Rattle.dl_power.proofs.Common.{ℕ, ◌≡◌, ◌-◌, ◌≤◌, length, All, Fraction, IsWithinOne, probability_at, ArePowers, AreParts}
+use Rattle.dl_power.proofs.Common.{ℕ, ◌-◌, length, Fraction, IsWithinOne, probability_at, ArePowers, AreParts}
+use Rattle.dl_power.proofs.PowerGrids.{AreShort}
 use Rattle.dl_power.proofs.blocks.blocks_of.Given as goal
 
 abbrev pub invariant-loop-i : goal.invariant-loop-i
 invariant-loop-i g l = record {
-  many : length l.list.items ≡ l.i;
-  few : All (λ t. length t ≤ l.cells) l.list.items;
+  short : AreShort l.cells l.i l.list.items;
   parts : (f : ℕ → Fraction) → IsWithinOne f → ArePowers l.cells f l.powers
       → AreParts l.cells (probability_at l.table) f (length l.powers - 1) l.list.items;
 }

@@ -1,5 +1,5 @@
-use Rattle.dl_power.proofs.Common.{ℕ, suc, ◌+◌, ◌*◌, ◌<◌, length, arith, refl, ap, cell_from}
-use Rattle.dl_power.proofs.PowerGrids.{none_between, no_grids, all_more, more_between}
+use Rattle.dl_power.proofs.Common.{ℕ, suc, ◌+◌, ◌*◌, ◌<◌, length, arith, refl, cell_from}
+use Rattle.dl_power.proofs.PowerGrids.{none_between, none_short, one_more_short, more_between}
 use Rattle.dl_power.proofs.Neighbours.{few_at, neighbours}
 use Rattle.dl_power.proofs.halves.paired.Goals as goal
 
@@ -7,8 +7,7 @@ pub loop-i-init : goal.loop-i-init
 loop-i-init g c =
     let none = c.new-pairs.ensures.items in
     record {
-      many = ap length none;
-      few = no_grids c.new-pairs.result.items c.args.cells none;
+      short = none_short c.new-pairs.result.items c.args.cells none;
       parts = λ w f m p. none_between c.args.cells _ c.new-pairs.result.items none;
     }
 
@@ -29,12 +28,11 @@ loop-i-preserved g c =
     let i : ℕ = c.loop-i.i in
     let inside : 2 * i + 1 < length c.args.parts.now = omega (arith, c.loop-i-test.true) in
     record {
-      many = omega (arith, c.in_ok-push.ensures.len, c.loop-i.invariant.many);
-      few = all_more c.loop-i.pairs.items c.push.new.self.items c.in_ok-pair.pair c.args.cells
-          c.in_ok-push.ensures.items c.loop-i.invariant.few c.in_ok-pair.ensures.few;
+      short = one_more_short c.loop-i.pairs.items c.push.new.self.items c.in_ok-pair.pair c.args.cells i
+          c.in_ok-push.ensures.items c.loop-i.invariant.short c.in_ok-pair.ensures.few;
       parts = λ w f m p.
           more_between c.args.cells i (λ i s. cell_from w f (i * suc (suc m + m)) s (suc m + m)) c.loop-i.pairs.items
-          c.push.new.self.items c.in_ok-pair.pair c.in_ok-push.ensures.items c.loop-i.invariant.many
+          c.push.new.self.items c.in_ok-pair.pair c.in_ok-push.ensures.items c.loop-i.invariant.short.many
           (c.loop-i.invariant.parts w f m p)
           (c.in_ok-pair.ensures.between w f (i * suc (suc m + m)) m m
           (neighbours c.args.cells w f m c.args.parts.now c.args.step.now c.index-parts-i.result

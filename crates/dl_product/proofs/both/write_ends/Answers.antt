@@ -1,35 +1,36 @@
-use Rattle.dl_product.proofs.Common.{◌+◌, ◌-◌, arith, drop, length-drop, length-take, if_ok_two, fewer_fit, first_part, second_part}
+use Rattle.dl_product.proofs.Common.{◌≡◌, ◌+◌, ◌-◌, arith, drop, length, take, length-drop, length-take, if_ok_two}
 use Rattle.dl_product.proofs.Shifted.{product_shifted}
-use Rattle.dl_product.proofs.EndLists.{low_window, paired_part}
+use Rattle.dl_product.proofs.Parts.{low_windows, part_cells}
 use Rattle.dl_product.proofs.both.write_ends.Goals as goal
 
-pub transform_ends-requires-clause-first : goal.transform_ends-requires-clause-first
-transform_ends-requires-clause-first c = paired_part c.args.a.lows.now c.args.a.highs.now _ _ c.requires.first
-
-pub transform_ends-requires-clause-second : goal.transform_ends-requires-clause-second
-transform_ends-requires-clause-second c = paired_part c.args.b.lows.now c.args.b.highs.now _ _ c.requires.second
-
-pub transform_ends-requires-clause-fits : goal.transform_ends-requires-clause-fits
-transform_ends-requires-clause-fits c =
-    let start = c.min-start.result in
-    let count = c.min-count.result in
-    fewer_fit _ (omega (
-      arith,
-      length-take (start + count - start) (drop start c.args.lows.now),
-      length-drop start c.args.lows.now,
-    )) (second_part _ _ (first_part _ _ c.requires.fits))
+pub transform_ends-requires-clause-cells : goal.transform_ends-requires-clause-cells
+transform_ends-requires-clause-cells c =
+    part_cells c.args.pair.a.lows.now c.args.pair.a.highs.now c.args.pair.b.lows.now c.args.pair.b.highs.now
+    c.args.lows.now c.args.pair.is_square c.args.windows c.requires.cells c.requires.alike
 
 pub returns-clause-low : goal.returns-clause-low
 returns-clause-low c =
-    if_ok_two c.transform_ends.result _ _ _ (λ _ each _ yes s inside.
-    product_shifted c.args.a.lows.now c.args.b.lows.now c.args.lows.now c.transform_ends.new.lows _ _ _ _ _ _
-    (low_window _ _ _ _ c.requires.first c.windows_of-p.ensures.first)
-    (low_window _ _ _ _ c.requires.second c.windows_of-p.ensures.second) c.min-start.ensures c.min-count.ensures
-    c.requires.zeros (omega arith) (each yes) s inside) c.transform_ends.ensures.low c.transform_ends.ensures.low
+    if_ok_two c.transform_ends.result _ _ _ (λ _ each _ yes. product_shifted c.args.pair.a.lows.now c.args.pair.b.lows.now
+    c.args.lows.now c.transform_ends.new.lows c.args.windows
+    (low_windows _ _ _ _ _ c.args.windows c.requires.cells.first c.requires.cells.second c.requires.windows)
+    c.requires.zeros (omega arith) (each yes)) c.transform_ends.ensures.low c.transform_ends.ensures.low
 
 pub returns-clause-high : goal.returns-clause-high
 returns-clause-high c =
-    if_ok_two c.transform_ends.result _ _ _ (λ _ each _ yes s inside.
-    product_shifted c.args.a.highs.now c.args.b.highs.now c.args.highs.now c.transform_ends.new.highs _ _ _ _ _ _
-    c.windows_of-p.ensures.first c.windows_of-p.ensures.second (omega (arith, c.min-start.ensures, c.requires.paired)) (omega (arith, c.min-count.ensures, c.requires.paired))
-    c.requires.high_zeros (omega arith) (λ t b. each yes t (omega (arith, b, length-take (c.min-start.result + c.min-count.result - c.min-start.result) (drop c.min-start.result c.args.lows.now), length-take (c.min-start.result + c.min-count.result - c.min-start.result) (drop c.min-start.result c.args.highs.now), length-drop c.min-start.result c.args.lows.now, length-drop c.min-start.result c.args.highs.now, c.requires.paired))) s (omega (arith, inside, c.requires.paired))) c.transform_ends.ensures.high c.transform_ends.ensures.high
+    let w = c.args.windows in
+    let lows = c.args.lows.now in
+    let highs = c.args.highs.now in
+    let same : length (take (w.start + w.count - w.start) (drop w.start highs))
+    ≡ length (take (w.start + w.count - w.start) (drop w.start lows)) =
+    omega (
+      arith,
+      length-take (w.start + w.count - w.start) (drop w.start lows),
+      length-take (w.start + w.count - w.start) (drop w.start highs),
+      length-drop w.start lows,
+      length-drop w.start highs,
+      c.requires.paired,
+    ) in
+    if_ok_two c.transform_ends.result _ _ _ (λ _ each _ yes s inside. product_shifted c.args.pair.a.highs.now
+    c.args.pair.b.highs.now highs c.transform_ends.new.highs w (rw c.requires.paired c.requires.windows)
+    c.requires.high_zeros (omega arith) (λ t b. each yes t (omega (arith, b, same))) s (omega (arith, inside, c.requires.paired)))
+    c.transform_ends.ensures.high c.transform_ends.ensures.high

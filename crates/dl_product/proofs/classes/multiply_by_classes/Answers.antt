@@ -1,4 +1,4 @@
-use Rattle.dl_product.proofs.Common.{arith, inl, inr, ◌∙◌}
+use Rattle.dl_product.proofs.Common.{arith, fewer_fit, inl, inr, ◌∙◌}
 use Rattle.std.proofs.Common.{◌%◌}
 use Rattle.std.proofs.lemmas.Bool.{cases_eq}
 use Rattle.dl_product.proofs.Apart.{rest_below}
@@ -6,6 +6,14 @@ use Rattle.dl_product.proofs.classes.multiply_by_classes.Goals as goal
 
 pub loop-rest-init : goal.loop-rest-init
 loop-rest-init c = λ s inside none. absurd (omega (arith, none))
+
+pub multiply_class-requires-clause-factors : goal.multiply_class-requires-clause-factors
+multiply_class-requires-clause-factors c = record {
+  fits = fewer_fit _ (omega (arith, c.loop-rest.auto.out)) c.requires.fits;
+  first_few = c.requires.first_few;
+  second_few = c.requires.second_few;
+  square = λ no. cc;
+}
 
 pub loop-rest-preserved : goal.loop-rest-preserved
 loop-rest-preserved c = λ s inside b. elim (cases_eq (s % c.args.step) c.loop-rest.rest) [

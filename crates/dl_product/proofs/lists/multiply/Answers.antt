@@ -7,9 +7,9 @@ returns-then-branch c = c.in_ok-product.ensures (search rules)
 pub short_square-requires : goal.short_square-requires
 short_square-requires c =
     fewer_fit _ (omega (arith, c.match-levels_if_shorter.auto.out))
-    (rw (c.requires.square c.if-is_square.true) at c.requires.fits)
+    (rw (c.requires.square c.if-factors.true) at c.requires.fits)
 
-pub returns-then-is_square : goal.returns-then-is_square
-returns-then-is_square c s inside =
-    rw (c.requires.square c.if-is_square.true)
+pub returns-then-factors : goal.returns-then-factors
+returns-then-factors c s inside =
+    rw (c.requires.square c.if-factors.true)
     (c.short_square.ensures s (omega (arith, inside, c.match-levels_if_shorter.auto.out)))
