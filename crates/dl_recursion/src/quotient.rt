@@ -8,6 +8,8 @@ ghost use Rattle.std.specs.Prelude.{◌≡◌, ◌/◌, ◌<◌, ◌≤◌};
 pub struct Inverse {
     /// The guess.
     pub about: u64,
+    /// The guess for the divisor before, or the same one.
+    pub before: u64,
     /// By how many bits the divisor is shifted up.
     pub up: u32,
 }
@@ -19,7 +21,7 @@ const WHOLE: u128 = 1 << 127;
 const WORD: u128 = 1 << 64;
 
 /// The number of cells from which on the next divisor is near enough to the last.
-const NEAR: usize = 256;
+const NEAR: usize = 512;
 
 /// The lowest 64 bits.
 fn word(n: u128) -> u64 {
@@ -35,16 +37,27 @@ fn nearer(about: u64, shifted: u64) -> u64 {
 }
 
 /// A guess at `2^127` over the divisor `d`, moved up to 64 bits. `d` is `n` times the first
-/// divisor, and `last` the guess for `n - 1` times it.
+/// divisor, and `last` the guess for `n - 1` times it: as much again as that is below the one
+/// before is right to about `2 * log2 n` bits, and each round doubles them.
 pub(crate) fn inverse_of(d: u64, n: usize, last: Inverse) -> Inverse {
     let up = d.leading_zeros().min(63);
     let shifted = d << up;
-    let about = if n < NEAR || up != last.up {
-        word((WHOLE - 1) / u128::from(shifted.max(1)))
-    } else {
-        nearer(nearer(nearer(last.about, shifted), shifted), shifted)
-    };
-    Inverse { about, up }
+    if n < NEAR || up != last.up {
+        let about = word((WHOLE - 1) / u128::from(shifted.max(1)));
+        return Inverse {
+            about,
+            before: about,
+            up,
+        };
+    }
+    let first = last
+        .about
+        .wrapping_sub(last.before.wrapping_sub(last.about));
+    Inverse {
+        about: nearer(nearer(first, shifted), shifted),
+        before: last.about,
+        up,
+    }
 }
 
 /// A guess at `n` over the divisor that the inverse is of.

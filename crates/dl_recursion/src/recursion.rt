@@ -1,6 +1,6 @@
 //! The recursion: cells that share one exponent and are scaled down together.
 
-ghost use Rattle.std.specs.Prelude.{◌≡◌, ℕ, ◌+◌, ◌-◌, ◌*◌, ◌/◌, ◌^◌, ◌<◌, ◌≤◌, suc, [], ◌∷◌, length, slice_index, IfOk};
+ghost use Rattle.std.specs.Prelude.{◌≡◌, ℕ, ◌+◌, ◌-◌, ◌*◌, ◌/◌, ◌^◌, ◌<◌, ◌≤◌, suc, [], ◌∷◌, length, slice_index, All, IfOk};
 ghost use Rattle.dl_limits.specs.Limits.{most_cells, most_end, most_given, start_bits};
 ghost use Rattle.dl_exact.specs.Fraction.{Fraction, whole, ◌*ℚ◌, ◌≤ℚ◌};
 ghost use Rattle.dl_recursion.specs.Runs.{all_parts, part_sum, ArePositiveAmounts};
@@ -145,11 +145,12 @@ fn divided(sums: Ends, d: u64, inverse: Inverse) -> Ends
 }
 
 /// Adds the next cell. The inverse is a guess for the divisor of the last one, and then of this
-/// one.
+/// one; no amount taken alone is above `reach`.
 fn grow(
     x: &mut ScaledCells,
     inverse: &mut Inverse,
     amounts: &Amounts,
+    reach: usize,
     a: u64,
     b: u64,
     q: u64,
@@ -159,6 +160,7 @@ fn grow(
     requires few { length x.old.low.items ≤ most_cells }
     requires room { x.old.shift + 64 < 2 ^ 64 }
     requires amounts { ArePositiveAmounts amounts.now }
+    requires reach { All (λ p. p.amount ≤ reach) amounts.now.parts.items }
     requires steps { (a + b) * length x.old.low.items < 2 ^ 32 }
     requires weights { (a + b) * length x.old.low.items * part_sum
         (all_parts amounts.now) < 2 ^ 64 }
@@ -169,7 +171,7 @@ fn grow(
     let n = x.low.len();
     let d = q * (n as u64);
     *inverse = inverse_of(d, n, *inverse);
-    let sums = contributions(x, amounts, a, b)?;
+    let sums = contributions(x, amounts, reach, a, b)?;
     let ends = shift_down(x, divided(sums, d, *inverse));
     x.low.push(ends.low as u64)?;
     x.high.push(ends.high as u64)?;
@@ -225,7 +227,11 @@ pub(crate) fn recur(
     ensures { IfOk result (AreFirst (all_parts amounts.now) a b q cells) }
 {
     let mut x = begin(alloc, amounts, cells)?;
-    let mut inverse = Inverse { about: 0, up: 0 };
+    let mut inverse = Inverse {
+        about: 0,
+        before: 0,
+        up: 0,
+    };
     let reach = reach_of(&amounts.parts);
     let mut last = 0;
     'cells: for n in 1..cells {
@@ -234,7 +240,7 @@ pub(crate) fn recur(
             fill(&mut x, high, cells)?;
             return Ok(x);
         }
-        grow(&mut x, &mut inverse, amounts, a, b, q)?;
+        grow(&mut x, &mut inverse, amounts, reach.amount, a, b, q)?;
         if x.low[n] > 0 {
             last = n;
         }

@@ -2,7 +2,7 @@
 //! gives one product. A run gives what all amounts from its first on would give, less what those
 //! past its last would: each of the two comes from the sums of the cells.
 
-ghost use Rattle.std.specs.Prelude.{◌≡◌, ℕ, ◌+◌, ◌-◌, ◌*◌, ◌/◌, ◌^◌, ◌<◌, ◌≤◌, suc, length, slice_index, sum_by, flat_map, All, IfOk};
+ghost use Rattle.std.specs.Prelude.{◌≡◌, ℕ, ◌+◌, ◌-◌, ◌*◌, ◌/◌, ◌^◌, ◌<◌, ◌≤◌, suc, length, slice_index, sum_by, flat_map, not, nat_le, All, IfOk, IsTrue};
 ghost use Rattle.dl_limits.specs.Limits.{most_cells, most_end};
 ghost use Rattle.dl_recursion.specs.Runs.{in_a_row, run_parts, all_parts, part_sum, ArePositiveAmounts};
 ghost use Rattle.dl_recursion.specs.Recursion.{contribution, IsSum, AreSums, AreScaledCells, AreInScale, AreContributions};
@@ -27,15 +27,31 @@ fn contribution(part: Part, a: u64, b: u64, s: usize, cells: &[u64]) -> u128
     u128::from(factor) * u128::from(cells[s - part.amount])
 }
 
-/// What amounts taken one by one give. One that is above the cell gives nothing. As a function of
-/// its own, which adds one product before it makes the other, it keeps both sums in registers.
+/// Whether the amount is above cell `s`; where `NEAR` says that none is, none is compared.
+fn is_above<const NEAR: bool>(part: Part, s: usize) -> bool
+    requires near { IsTrue NEAR → part.amount ≤ s }
+    ensures { result ≡ not (nat_le part.amount s) }
+{
+    !NEAR && part.amount > s
+}
+
+/// What amounts taken one by one give. One that is above the cell gives nothing; with `NEAR` none
+/// is. As a function of its own, which adds one product before it makes the other, it keeps both
+/// sums in registers.
 #[inline(never)]
 #[tactic(auto, using(std::proofs::lemmas::List::Sums::sum_by_more_le, crate::proofs::Runs::contributions_top))]
-fn parts_contribution(parts: &[Part], a: u64, b: u64, low: &[u64], high: &[u64]) -> Ends
+fn parts_contribution<const NEAR: bool>(
+    parts: &[Part],
+    a: u64,
+    b: u64,
+    low: &[u64],
+    high: &[u64],
+) -> Ends
     requires alike { length high.now ≡ length low.now }
     requires steps { (a + b) * length low.now < 2 ^ 64 }
     requires room { (a + b) * length low.now * part_sum parts.now < 2 ^ 64 }
     requires amounts { All (λ p. 0 < p.amount) parts.now }
+    requires near { IsTrue NEAR → All (λ p. p.amount ≤ length low.now) parts.now }
     requires low_small { (k : ℕ) → slice_index low.now k ≤ most_end }
     requires high_small { (k : ℕ) → slice_index high.now k ≤ most_end }
     ensures low { result.low ≡ sum_by (contribution a b low.now (length low.now)) parts.now }
@@ -45,7 +61,7 @@ fn parts_contribution(parts: &[Part], a: u64, b: u64, low: &[u64], high: &[u64])
     let mut low_sum: u128 = 0;
     let mut high_sum: u128 = 0;
     for part in parts {
-        if part.amount > s {
+        if is_above::<NEAR>(*part, s) {
             continue;
         }
         low_sum += contribution(*part, a, b, s, low);
@@ -215,10 +231,12 @@ fn runs_contribution(x: &ScaledCells, runs: &[Run], a: u64, b: u64) -> Ends
     }
 }
 
-/// The sum of what each amount adds to the next cell, by its low and its high ends.
+/// The sum of what each amount adds to the next cell, by its low and its high ends. No amount taken
+/// alone is above `reach`.
 pub(crate) fn contributions(
     x: &mut ScaledCells,
     amounts: &Amounts,
+    reach: usize,
     a: u64,
     b: u64,
 ) -> Result<Ends, AllocError>
@@ -227,9 +245,15 @@ pub(crate) fn contributions(
     requires steps { (a + b) * length x.old.low.items < 2 ^ 32 }
     requires room { (a + b) * length x.old.low.items * part_sum (all_parts amounts.now) < 2 ^ 64 }
     requires amounts { ArePositiveAmounts amounts.now }
+    requires reach { All (λ p. p.amount ≤ reach) amounts.now.parts.items }
     ensures { IfOk result (AreContributions (all_parts amounts.now) a b x.old x.new) }
 {
-    let alone = parts_contribution(&amounts.parts, a, b, x.low.as_slice(), x.high.as_slice());
+    let (low, high) = (x.low.as_slice(), x.high.as_slice());
+    let alone = if reach <= low.len() {
+        parts_contribution::<true>(&amounts.parts, a, b, low, high)
+    } else {
+        parts_contribution::<false>(&amounts.parts, a, b, low, high)
+    };
     if amounts.runs.is_empty() {
         return Ok(alone);
     }

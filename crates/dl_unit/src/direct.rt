@@ -4,10 +4,10 @@
 ghost use Rattle.std.specs.Prelude.{◌≡◌, ℕ, ◌^◌, ◌≤◌, length, IfOk, IfSome, Some};
 ghost use Rattle.dl_exact.specs.Fraction.{Fraction, whole};
 ghost use Rattle.dl_grid.specs.Prelude.{spread, IsGridSize};
-ghost use Rattle.dl_model.specs.Prelude.{GridEncloses, compound_of};
 ghost use Rattle.dl_plan.specs.declared.plan.Freq.TheVariants.{Poisson, Gamma};
 ghost use Rattle.dl_plan.specs.Prelude.{IsUnbounded, thinned_mean, claims_alone, IsValidUnit};
 ghost use Rattle.dl_budget.specs.Claims.{claims_budget};
+ghost use Rattle.dl_unit.specs.Narrow.{IsNarrowSum};
 
 use crate::unbounded::{gamma_claims, poisson_claims, positive_claims};
 use dl_budget::claims_budget;
@@ -29,10 +29,7 @@ fn no_claims<const B: u32>(
     requires valid { (h : ℕ) × IsValidUnit h (claims_alone freq.now sev.now) }
     requires unbounded { IsUnbounded freq.now }
     requires none { thinned_mean (claims_alone freq.now sev.now) ≡ whole 0 }
-    ensures cells { IfOk result (λ g. length g ≡ cells) }
-    ensures encloses { IfOk result (λ g. GridEncloses g (compound_of freq.now sev.now)) }
-    ensures spread { IfOk result (λ g.
-        spread g ≤ claims_budget (2 ^ B) cells (claims_alone freq.now sev.now)) }
+    ensures { IfOk result (IsNarrowSum cells freq.now sev.now) }
 {
     Grid::zero(alloc, cells)
 }
@@ -70,10 +67,7 @@ pub(crate) fn poisson_grid<const B: u32>(
     requires size { IsGridSize B cells }
     requires valid { (h : ℕ) × IsValidUnit h (claims_alone freq.now sev.now) }
     requires count { (mean : Fraction) × (freq.now ≡ Poisson mean) }
-    ensures cells { IfOk result (λ g. length g ≡ cells) }
-    ensures encloses { IfOk result (λ g. GridEncloses g (compound_of freq.now sev.now)) }
-    ensures spread { IfOk result (λ g.
-        spread g ≤ claims_budget (2 ^ B) cells (claims_alone freq.now sev.now)) }
+    ensures { IfOk result (IsNarrowSum cells freq.now sev.now) }
 {
     let Some(positive) = positive_claims(alloc, freq, sev)? else {
         return no_claims(alloc, freq, sev, cells);
@@ -98,10 +92,7 @@ pub(crate) fn gamma_grid<const B: u32>(
     requires size { IsGridSize B cells }
     requires valid { (h : ℕ) × IsValidUnit h (claims_alone freq.now sev.now) }
     requires count { (mean : Fraction) × (freq.now ≡ Gamma shape mean) }
-    ensures cells { IfOk result (λ g. length g ≡ cells) }
-    ensures encloses { IfOk result (λ g. GridEncloses g (compound_of freq.now sev.now)) }
-    ensures spread { IfOk result (λ g.
-        spread g ≤ claims_budget (2 ^ B) cells (claims_alone freq.now sev.now)) }
+    ensures { IfOk result (IsNarrowSum cells freq.now sev.now) }
 {
     let Some(positive) = positive_claims(alloc, freq, sev)? else {
         return no_claims(alloc, freq, sev, cells);

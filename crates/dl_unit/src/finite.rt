@@ -2,9 +2,10 @@
 
 ghost use Rattle.std.specs.Prelude.{◌≡◌, ℕ, ◌+◌, ◌*◌, ◌^◌, ◌≤◌, length, All, IfOk};
 ghost use Rattle.dl_exact.specs.Fraction.{◌over◌};
-ghost use Rattle.dl_grid.specs.Prelude.{spread, IsGridSize, power_spread, mixed_spread};
-ghost use Rattle.dl_model.specs.Prelude.{fixed, binomial, compound, GridEncloses};
+ghost use Rattle.dl_grid.specs.Prelude.{IsGridSize, power_spread, mixed_spread};
+ghost use Rattle.dl_model.specs.Prelude.{fixed, binomial, compound};
 ghost use Rattle.dl_plan.specs.Prelude.{IsProbability, probability_of, weight_at, IsWeighted, greatest};
+ghost use Rattle.dl_unit.specs.Narrow.{IsNarrow};
 
 use crate::claim::one_claim;
 use crate::trial::one_trial;
@@ -24,10 +25,8 @@ pub(crate) fn fixed_claims<const B: u32>(
     cells: u32,
 ) -> Result<Grid<B>, AllocError>
     requires size { IsGridSize B cells }
-    ensures cells { IfOk result (λ g. length g ≡ cells) }
-    ensures encloses { IfOk result (λ g.
-        GridEncloses g (compound (fixed claims) (probability_of sev.now))) }
-    ensures spread { IfOk result (λ g. spread g ≤ power_spread (2 ^ B) cells (length sev.now.items) claims) }
+    ensures { IfOk result (IsNarrow cells (power_spread (2 ^ B) cells (length sev.now.items) claims)
+        (compound (fixed claims) (probability_of sev.now))) }
 {
     let claim = one_claim(alloc, sev, cells)?;
     power(alloc, work, &claim, claims, cells)
@@ -44,12 +43,9 @@ pub(crate) fn listed_claims<const B: u32>(
 ) -> Result<Grid<B>, AllocError>
     requires size { IsGridSize B cells }
     requires weighted { IsWeighted counts.now total }
-    ensures cells { IfOk result (λ g. length g ≡ cells) }
-    ensures encloses { IfOk result (λ g.
-        GridEncloses g (compound (λ n. weight_at counts.now n over total)
-        (probability_of sev.now))) }
-    ensures spread { IfOk result (λ g.
-        spread g ≤ mixed_spread (2 ^ B) cells (length sev.now.items) (greatest counts.now)) }
+    ensures { IfOk result (IsNarrow cells
+        (mixed_spread (2 ^ B) cells (length sev.now.items) (greatest counts.now))
+        (compound (λ n. weight_at counts.now n over total) (probability_of sev.now))) }
 {
     let claim = one_claim(alloc, sev, cells)?;
     mix_counts(alloc, work, &claim, counts, total, cells)
@@ -66,11 +62,9 @@ pub(crate) fn binomial_claims<const B: u32>(
 ) -> Result<Grid<B>, AllocError>
     requires size { IsGridSize B cells }
     requires probability { IsProbability q }
-    ensures cells { IfOk result (λ g. length g ≡ cells) }
-    ensures encloses { IfOk result (λ g.
-        GridEncloses g (compound (binomial trials q.num q.den) (probability_of sev.now))) }
-    ensures spread { IfOk result (λ g.
-        spread g ≤ power_spread (2 ^ B) cells (3 * (length sev.now.items + 1)) trials) }
+    ensures { IfOk result (IsNarrow cells
+        (power_spread (2 ^ B) cells (3 * (length sev.now.items + 1)) trials)
+        (compound (binomial trials q.num q.den) (probability_of sev.now))) }
 {
     let trial = one_trial(alloc, sev, q, cells)?;
     power(alloc, work, &trial, trials, cells)

@@ -2,10 +2,11 @@
 
 ghost use Rattle.std.specs.Prelude.{◌≡◌, ℕ, ◌+◌, ◌-◌, ◌*◌, ◌/◌, ◌^◌, ◌<◌, ◌≤◌, min, length, IfOk};
 ghost use Rattle.std.specs.Int.{div_ceil};
-ghost use Rattle.dl_grid.specs.Prelude.{low_at, high_at, spread, IsGrid, IsGridSize};
-ghost use Rattle.dl_model.specs.Prelude.{binomial, compound, GridEncloses};
+ghost use Rattle.dl_grid.specs.Prelude.{low_at, high_at, IsGrid, IsGridSize};
+ghost use Rattle.dl_model.specs.Prelude.{binomial, compound};
 ghost use Rattle.dl_plan.specs.Prelude.{IsProbability, probability_of};
 ghost use Rattle.dl_unit.specs.Trials.{low_trial, high_trial};
+ghost use Rattle.dl_unit.specs.Narrow.{IsNarrow};
 
 use crate::claim::one_claim;
 use dl_frac::Frac;
@@ -68,10 +69,8 @@ pub(crate) fn one_trial<const B: u32>(
 ) -> Result<Grid<B>, AllocError>
     requires size { IsGridSize B cells }
     requires probability { IsProbability q }
-    ensures cells { IfOk result (λ g. length g ≡ cells) }
-    ensures encloses { IfOk result (λ g.
-        GridEncloses g (compound (binomial 1 q.num q.den) (probability_of sev.now))) }
-    ensures spread { IfOk result (λ g. spread g ≤ 3 * (length sev.now.items + 1)) }
+    ensures { IfOk result (IsNarrow cells (3 * (length sev.now.items + 1))
+        (compound (binomial 1 q.num q.den) (probability_of sev.now))) }
 {
     let claim = one_claim(alloc, sev, cells)?;
     claim.cells();

@@ -5,6 +5,7 @@ ghost use Rattle.dl_grid.specs.Prelude.{spread, IsGridSize};
 ghost use Rattle.dl_budget.specs.Claims.{claims_budget};
 ghost use Rattle.dl_model.specs.Prelude.{GridEncloses, compound_of};
 ghost use Rattle.dl_plan.specs.Prelude.{claims_alone, IsValidUnit};
+ghost use Rattle.dl_unit.specs.Narrow.{IsNarrowSum};
 
 use crate::direct::{gamma_grid, poisson_grid};
 use crate::finite::{binomial_claims, fixed_claims, listed_claims};
@@ -43,10 +44,7 @@ pub(crate) fn sum_grid<const B: u32>(
 ) -> Result<Grid<B>, AllocError>
     requires size { IsGridSize B cells }
     requires valid { (h : ℕ) × IsValidUnit h (claims_alone freq.now sev.now) }
-    ensures cells { IfOk result (λ g. length g ≡ cells) }
-    ensures encloses { IfOk result (λ g. GridEncloses g (compound_of freq.now sev.now)) }
-    ensures spread { IfOk result (λ g.
-        spread g ≤ claims_budget (2 ^ B) cells (claims_alone freq.now sev.now)) }
+    ensures { IfOk result (IsNarrowSum cells freq.now sev.now) }
 {
     match freq {
         Freq::Fixed(claims) => fixed_claims(alloc, work, sev, *claims, cells),

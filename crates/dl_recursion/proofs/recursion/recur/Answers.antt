@@ -3,6 +3,9 @@ use Rattle.dl_recursion.proofs.Runs.{all_positive}
 use Rattle.dl_recursion.proofs.Falling.{falling_alone}
 use Rattle.dl_recursion.proofs.recursion.recur.Goals as goal
 
+pub grow-requires-clause-reach : goal.grow-requires-clause-reach
+grow-requires-clause-reach c = rw c.deref.ensures.value at c.reach_of-reach.ensures.amount
+
 pub returns : goal.returns
 returns c =
     let x = c.cells.x in

@@ -1,6 +1,5 @@
-use Rattle.dl_unit.proofs.Common.{◌^◌, ◌≤◌, rules, ap, subst, ◌∙◌, IfOk-weaker, spread, gamma_budget, claims_alone, gamma_thinned}
-use Rattle.std.specs.Prelude.{IfOk}
-use Rattle.dl_unit.proofs.Families.{grid_same}
+use Rattle.dl_unit.proofs.Common.{◌^◌, arith, rules, ap, ◌∙◌, gamma_budget, claims_alone, gamma_thinned}
+use Rattle.dl_unit.proofs.Families.{grid_same, narrow_by}
 use Rattle.dl_unit.proofs.CountKinds.{gamma_some}
 use Rattle.dl_unit.proofs.Positive.{no_zero}
 use Rattle.dl_unit.proofs.Thinned.{gamma_whole}
@@ -12,13 +11,18 @@ gamma_direct-requires g c =
     let shape = rw c.requires.count.1 at c.requires.valid.1.count in
     search (rules, shape, small, no_zero c.args.sev.now c.in-Some.positive (c.in_ok-positive.ensures.means c.in-Some.positive c.in-Some.is))
 
-pub returns-in-Some-kept_if_narrow-clause-encloses : goal.returns-in-Some-kept_if_narrow-clause-encloses
-returns-in-Some-kept_if_narrow-clause-encloses g c =
+pub returns-in-Some-kept_if_narrow : goal.returns-in-Some-kept_if_narrow
+returns-in-Some-kept_if_narrow g c =
     let u = claims_alone c.args.freq.now c.args.sev.now in
     let shape = rw c.requires.count.1 at c.requires.valid.1.count in
-    let told = rw c.in-Some-kept_if_narrow.ensures.kept at c.in_ok-direct.ensures.encloses in
-    grid_same c.in-Some-kept_if_narrow.grid _ _ (gamma_whole u c.in-Some.positive c.args.shape c.requires.count.1 shape.0
-    (c.in_ok-positive.ensures.means c.in-Some.positive c.in-Some.is)) (rw c.thinned-mean.ensures at told)
+    let kept = c.in-Some-kept_if_narrow.ensures in
+    let told = rw kept.kept at c.in_ok-direct.ensures.encloses in
+    record {
+      cells = rw kept.kept at c.in_ok-direct.ensures.cells;
+      encloses = grid_same c.in-Some-kept_if_narrow.grid _ _ (gamma_whole u c.in-Some.positive c.args.shape c.requires.count.1 shape.0
+          (c.in_ok-positive.ensures.means c.in-Some.positive c.in-Some.is)) (rw c.thinned-mean.ensures at told);
+      spread = kept.narrow;
+    }
 
 pub gamma_claims-requires : goal.gamma_claims-requires
 gamma_claims-requires g c =
@@ -26,16 +30,19 @@ gamma_claims-requires g c =
     let shape = rw c.requires.count.1 at c.requires.valid.1.count in
     search (rules, shape, small, no_zero c.args.sev.now c.in-Some.positive (c.in_ok-positive.ensures.means c.in-Some.positive c.in-Some.is))
 
-pub returns-clause-encloses : goal.returns-clause-encloses
-returns-clause-encloses g c =
+pub returns : goal.returns
+returns g c =
+    let u = claims_alone c.args.freq.now c.args.sev.now in
     let shape = rw c.requires.count.1 at c.requires.valid.1.count in
-    IfOk-weaker c.gamma_claims.result _ _ (λ grid copies.
-    grid_same grid _ _ (gamma_thinned (claims_alone c.args.freq.now c.args.sev.now) c.in-Some.positive c.args.shape
+    let e = c.gamma_claims.ensures in
+    narrow_by c.gamma_claims.result _ _ _ (λ grid copies.
+    grid_same grid _ _ (gamma_thinned u c.in-Some.positive c.args.shape
     c.requires.count.0 c.requires.count.1 shape.0 (c.in_ok-positive.ensures.means c.in-Some.positive c.in-Some.is))
-    (rw c.thinned-mean.ensures at copies)) c.gamma_claims.ensures.encloses
-
-pub returns-clause-spread : goal.returns-clause-spread
-returns-clause-spread g c = subst (λ n. IfOk c.gamma_claims.result (λ grid. spread grid ≤ n))
-    (ap (gamma_budget (2 ^ g.row.B) c.args.cells c.args.shape) c.thinned-mean.ensures
-    ∙ gamma_some (2 ^ g.row.B) c.args.cells (claims_alone c.args.freq.now c.args.sev.now) c.requires.count.1
-    (c.in_ok-positive.ensures.some c.in-Some.positive c.in-Some.is)) c.gamma_claims.ensures.spread
+    (rw c.thinned-mean.ensures at copies))
+    (omega (
+      arith,
+      ap (gamma_budget (2 ^ g.row.B) c.args.cells c.args.shape) c.thinned-mean.ensures
+          ∙ gamma_some (2 ^ g.row.B) c.args.cells u c.requires.count.1
+          (c.in_ok-positive.ensures.some c.in-Some.positive c.in-Some.is),
+    ))
+    e.cells e.encloses e.spread
