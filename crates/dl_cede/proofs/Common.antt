@@ -6,36 +6,29 @@ pub use Rattle.std.proofs.lemmas.Bool.Decides.{eqb_tells, leb_tells}
 pub use Rattle.std.proofs.lemmas.List.{get_or-map, length-map, length-set, take_all}
 pub use Rattle.std.specs.List.{sum_by}
 pub use Rattle.std.specs.Prelude.{All, AllPairs, IfSome, if◌then◌else◌, nat_lt, ◌==◌}
-pub use Rattle.dl_cede.specs.TakenIn.{IsLeft, IsTakenIn, sum_elsewhere, sum_kept, width_at}
 unfoldable pub use Rattle.dl_cede.specs.TakenIn.{where_whole}
-pub use Rattle.dl_cede.specs.Means.{AreNearestEnds, HoldsCeded, HoldsClaims, HoldsMean, IsNear, most_claims_mean, most_limited}
 pub use Rattle.dl_exact.proofs.Counts.{below_le, below_more as count_below_more, below_nothing as count_below_none, below_plus, below_rest, below_same}
 pub use Rattle.dl_exact.proofs.Laws.{le_refl, one_times, plus_zero, sub_le_both, times_assoc, times_comm, times_le_both, times_le_times, whole_times}
 pub use Rattle.dl_exact.proofs.Over.{le_over}
 pub use Rattle.dl_exact.proofs.Parts.{whole_den, whole_num}
 pub use Rattle.dl_exact.proofs.RoundingLaws.{ceiling_div, div_ceil_least, floor_div, part_within, whole_le}
-pub use Rattle.dl_exact.specs.Sum.{sum_to}
 pub use Rattle.dl_grid.proofs.CellSets.{high_set, low_in_mass, low_set, mass_set, spread_set}
-pub use Rattle.dl_grid.specs.Cells.{mass_low}
 pub use Rattle.dl_measures.proofs.Sums.{high_end, high_most, low_most}
-pub use Rattle.dl_measures.specs.Layers.{layer_most}
 pub use Rattle.dl_model.proofs.Multiples.{clause_whole, no_cell_between}
-pub use Rattle.dl_model.specs.Family.{compound}
-pub use Rattle.dl_model.specs.Plans.{aggregate_of, claims_of, compound_of, count_weights, outcome_after}
-pub use Rattle.dl_model.specs.Program.{where_true}
-pub use Rattle.dl_model.specs.Series.{Series}
-pub use Rattle.dl_model.specs.Units.{Aggregate, IsDeclarable, loss, mapped, outcome}
 pub use Rattle.dl_plan.proofs.Apart.{first_apart, kept_rises, rest_apart}
 pub use Rattle.dl_plan.proofs.Clauses.{bucket_pos, kept_is, num_le_den}
 pub use Rattle.dl_plan.proofs.Horizons.{horizon_edges, horizon_one, horizon_settled}
-pub use Rattle.dl_plan.specs.Clause.{Clause, IsBelowTop, IsClause, Overlap, kept, layer_shares}
-pub use Rattle.dl_plan.specs.Fine.{IsFineTo30Bits, IsWhole, common_denominator}
-pub use Rattle.dl_plan.specs.Horizon.{IsHorizonOf, IsSettled, edge}
-pub use Rattle.dl_plan.specs.MeanWidth.{mean_width, part_width}
-pub use Rattle.dl_plan.specs.Means.{declared_mean}
-pub use Rattle.dl_plan.specs.Severity.{mean_amount, pairs_of, probability_of}
-pub use Rattle.dl_plan.specs.Valid.{IsAggregate, IsValidUnit, IsWithinMostAmount}
-pub use Rattle.dl_plan.specs.Weighted.{IsWeighted, common_amount, greatest, weight_at, weight_sum, weighted_sum}
 pub use Rattle.dl_plan.specs.declared.cede.CedeLayer.{CedeLayer}
 pub use Rattle.dl_plan.specs.declared.plan.Unit.{Unit as UnitOfPlan}
 pub use Rattle.dl_plan.specs.declared.severity.Sev.{Sev}
+pub use Rattle.dl_cede.specs.TakenIn.{IsLeft, IsTakenIn, sum_elsewhere, sum_kept, width_at}
+pub use Rattle.dl_cede.specs.Means.{AreNearestEnds, HoldsCeded, HoldsClaims, HoldsMean, IsNear, most_claims_mean, most_limited}
+pub use Rattle.dl_exact.specs.Sum.{sum_to}
+pub use Rattle.dl_grid.specs.Cells.{mass_low}
+pub use Rattle.dl_measures.specs.Layers.{layer_most}
+pub use Rattle.dl_model.specs.Units.{Aggregate, loss, mapped, IsDeclarable, outcome}
+pub use Rattle.dl_model.specs.Prelude.{compound, aggregate_of, claims_of, compound_of, count_weights, outcome_after, where_true, Series}
+pub use Rattle.dl_plan.specs.Clause.{Clause, IsBelowTop, IsClause, kept, layer_shares, Overlap}
+pub use Rattle.dl_plan.specs.Horizon.{IsHorizonOf, edge, IsSettled}
+pub use Rattle.dl_plan.specs.Valid.{IsAggregate, IsValidUnit, IsWithinMostAmount}
+pub use Rattle.dl_plan.specs.Prelude.{IsFineTo30Bits, IsWhole, common_denominator, mean_width, part_width, declared_mean, mean_amount, pairs_of, probability_of, IsWeighted, common_amount, greatest, weight_at, weight_sum, weighted_sum}

@@ -85,8 +85,7 @@ module _ (sev : Sev) (clause : Clause) (all most : ℕ) (w : ℕ → Fraction) (
   reached n k s after h =
       let c : ℕ = parts_in_bucket clause in
       let here : n * c ≤ kept_parts clause c k * 1 = le_over n 1 (kept_parts clause c k) c (omega arith)
-      (bucket_pos clause)
-      (subst (λ x. whole n ≤ℚ x) (kept_is clause k) h) in
+      (bucket_pos clause) (subst (λ x. whole n ≤ℚ x) (kept_is clause k) h) in
       let rises : kept_parts clause c k ≤ kept_parts clause c s =
       subst (λ t. kept_parts clause c k ≤ kept_parts clause c t)
       (omega arith) (kept_rises clause c k (s - k) agg.accepted) in
@@ -145,14 +144,10 @@ module _ (sev : Sev) (clause : Clause) (all most : ℕ) (w : ℕ → Fraction) (
     cut_encloses : common_amount sev.items ≡ 0 → (n : ℕ)
         → Encloses S n (cut lo) (cut hi) (compound w (probability_of sev))
     cut_encloses none n s inside = elim (cases_lt s (suc k)) [
-      | inl h ↦
-          let low = before (suc k) (where_whole clause lo) (λ s. 0) s h in
-          let high = before (suc k) (where_whole clause hi) (λ s. 0) s h in
-          rw (low, high) (whole_encloses S (suc k) lo hi pos e s h)
-      | inr h ↦
-          let low = past (suc k) (where_whole clause lo) (λ s. 0) s h in
-          let high = past (suc k) (where_whole clause hi) (λ s. 0) s h in
-          rw (low, high) (none_holds (sums s) weights S pos (λ N. no_amount none s N (omega arith)))
+      | inl h ↦ rw (before (suc k) (where_whole clause lo) (λ s. 0) s h, before (suc k) (where_whole clause hi) (λ s. 0) s h)
+          (whole_encloses S (suc k) lo hi pos e s h)
+      | inr h ↦ rw (past (suc k) (where_whole clause lo) (λ s. 0) s h, past (suc k) (where_whole clause hi) (λ s. 0) s h)
+          (none_holds (sums s) weights S pos (λ N. no_amount none s N (omega arith)))
     ]
 
     cut_sum : (f : ℕ → ℕ) (y : ℕ) → count_below (suc (k + y)) (λ s. if nat_eq (map s) y then cut f s else 0)
@@ -169,12 +164,10 @@ module _ (sev : Sev) (clause : Clause) (all most : ℕ) (w : ℕ → Fraction) (
         (min S (sum_kept clause (suc k) hi y) over S)
     kept_few n y settled inside other = elim (clear n (suc k) y settled inside other) [
       | inl away ↦ clause_few unit_of unit S k (where_whole clause lo) (where_whole clause hi) pos
-          (whole_encloses S (suc k) lo hi pos e)
-          y (λ s same. not_past s same away)
+          (whole_encloses S (suc k) lo hi pos e) y (λ s same. not_past s same away)
       | inr none ↦
           subst (λ Q. Holds Q weights (sum_kept clause (suc k) lo y over S)
-          (min S (sum_kept clause (suc k) hi y) over S))
-          (fun_ext (changed_same none y))
+          (min S (sum_kept clause (suc k) hi y) over S)) (fun_ext (changed_same none y))
           (subst₂ (λ l m. Holds (outcome changed y) weights (l over S) (min S m over S)) (cut_sum lo y) (cut_sum hi y)
           (clause_few changed changed_unit S (k + y) (cut lo) (cut hi) pos (cut_encloses none (suc (k + y))) y near))
     ]
@@ -196,8 +189,7 @@ module _ (sev : Sev) (clause : Clause) (all most : ℕ) (w : ℕ → Fraction) (
         ((S - sum_elsewhere clause (suc k) lo y) over S)
     kept_rest v n y bound settled inside here fits =
         clause_rest unit_of unit S k (where_whole clause lo) (where_whole clause hi) pos
-        (whole_encloses S (suc k) lo hi pos e) y v bound
-        (λ s after. far settled s after) fits
+        (whole_encloses S (suc k) lo hi pos e) y v bound (λ s after. far settled s after) fits
       where
         at : outcome_after (Some clause) (suc k) ≡ y
         at = clause_whole clause (suc k) y here

@@ -1,11 +1,11 @@
 -- The mean of a unit after its clause, from the ends of its parts.
-use Rattle.dl_cede.proofs.Common.{layer_most, arith, ◌-◌, sum_by, spread, part_width, ℕ, ◌≡◌, ◌+◌, ◌*◌, ◌/◌, ◌^◌, ◌<◌, ◌≤◌, List, [], ◌∷◌, length, get_or, take, Option, Some, None, true, false, sym, ap, ap₂, subst, ◌∙◌, IfSome, All, div_ceil, pow_pos, Fraction, whole, ◌over◌, ◌*ℚ◌, over_self, times_comm, Iv, low_at, high_at, CedeLayer, Clause, edge, IsHorizonOf, IsAggregate, IsValidUnit, declared_mean, Holds, GridEncloses, compound_of, HoldsClaims, HoldsCeded, ◌++◌, ◌≤ℚ◌, le_refl, times_le_both, whole_times, floor_div, ceiling_div, horizon_edges, Loss, One, Mean, Layer, partial_sums, total, AreDeclared, loss, claims_of, at_least_wider, at_most_wider, AreNearestEnds, HoldsMean, le_refl_n, UnitOfPlan}
+use Rattle.dl_cede.proofs.Common.{layer_most, arith, ◌-◌, sum_by, spread, part_width, ℕ, ◌≡◌, ◌+◌, ◌*◌, ◌/◌, ◌^◌, ◌<◌, ◌≤◌, List, [], ◌∷◌, length, get_or, take, Some, None, true, false, sym, ap, ap₂, subst, ◌∙◌, div_ceil, pow_pos, Fraction, whole, ◌over◌, ◌*ℚ◌, over_self, times_comm, Iv, low_at, high_at, CedeLayer, Clause, IsValidUnit, declared_mean, Holds, GridEncloses, compound_of, HoldsClaims, HoldsCeded, ◌++◌, ◌≤ℚ◌, le_refl, times_le_both, whole_times, floor_div, ceiling_div, Loss, One, Mean, Layer, partial_sums, total, AreDeclared, loss, claims_of, at_least_wider, at_most_wider, AreNearestEnds, HoldsMean, le_refl_n, UnitOfPlan}
 use Rattle.dl_cede.proofs.MeanSizes.{mosts, sum_more}
 use Rattle.std.proofs.lemmas.List.{take_more}
 use Rattle.dl_iv.specs.Enclosure.{LiesIn}
 use Rattle.dl_exact.proofs.Denominators.{over_split as over_plus, over_minus, over_times, over_zero}
 use Rattle.dl_iv.proofs.Enclosures.{lies_between}
-use Rattle.dl_model.proofs.ClauseMeans.{are_claims, claims_enclosed, claims_mean, none_ceded, alone_ceded, both_ceded, no_clause, ceded_mean, net_mean}
+use Rattle.dl_model.proofs.ClauseMeans.{are_claims, claims_enclosed, claims_mean, none_ceded, alone_ceded, both_ceded, ceded_mean, net_mean}
 
 -- ---- the sum of the claims
 
@@ -103,17 +103,6 @@ ceded_next {B} {grid} {claims} {before} {after} {layers} {i} {l} part so_far ins
     }
 
 -- ---- after the clause
-
-pub aggregate : (cells : ℕ) (u : UnitOfPlan) (clause : Clause) → u.cede ≡ Some clause → IsValidUnit cells u
-    → IsAggregate cells u.sev clause
-aggregate cells u clause is valid = subst (λ t. IfSome t (IsAggregate cells u.sev)) is valid.clause
-
-pub edges_inside : (cells k : ℕ) (cede : Option Clause) (clause : Clause) → cede ≡ Some clause
-    → IsHorizonOf cede cells k → All (λ l. edge l ≤ k) clause.1
-edges_inside cells k cede clause is horizon = horizon_edges clause cells k (rw is at horizon)
-
-pub plain_holds : {B : ℕ} (u : UnitOfPlan) (mean : Iv B) → u.cede ≡ None → HoldsClaims u mean → HoldsMean u mean
-plain_holds u mean none holds = rw (no_clause u none) holds
 
 -- what holds of an interval for every unit with this clause, where the grid encloses the sum of its claims, and
 -- `claims` its mean

@@ -1,9 +1,10 @@
 -- How large the mean of a unit's claims is, and what layers take of it.
-use Rattle.dl_cede.proofs.Common.{times_le_both, ◌⊎◌, ℕ, suc, ◌≡◌, ◌+◌, ◌-◌, ◌*◌, ◌/◌, ◌^◌, ◌<◌, ◌≤◌, List, [], ◌∷◌, length, get_or, take, Option, Some, None, arith, inl, inr, refl, sym, ap, subst, subst₂, ◌∙◌, All, IfSome, div_ceil, sum_by, mul-le-mul_left, eqb_tells, Fraction, whole, ◌over◌, ◌*ℚ◌, ◌≤ℚ◌, over_le, le_over, one_pos, times_comm, zero_le, one_fits, CedeLayer, Sev, probability_of, Clause, IsWithinMostAmount, IsValidUnit, declared_mean, part_width, cond, AllPairs, mul-le-mul, mul-le-mul_right, length-map, get_or-map, ◌-ℚ◌, over_mul, le_refl, le_trans, times_assoc, one_times, times_le_times, whole_times, sub_le_both, div_ceil_least, whole_le, weight_sum, weight_at, weighted_sum, IsWeighted, pairs_of, mean_amount, IsFineTo30Bits, IsBelowTop, Overlap, layer_shares, IsClause, first_apart, rest_apart, num_le_den, layer_width, IsNear, most_claims_mean, most_limited, le_trans_n, UnitOfPlan, layer_most, part_within}
+use Rattle.dl_cede.proofs.Common.{times_le_both, ◌⊎◌, ℕ, suc, ◌≡◌, ◌+◌, ◌-◌, ◌*◌, ◌/◌, ◌^◌, ◌<◌, ◌≤◌, List, [], ◌∷◌, length, get_or, take, Option, Some, None, arith, inl, inr, refl, sym, ap, subst, subst₂, ◌∙◌, All, IfSome, div_ceil, sum_by, mul-le-mul_left, eqb_tells, Fraction, whole, ◌over◌, ◌*ℚ◌, ◌≤ℚ◌, over_le, le_over, one_pos, times_comm, zero_le, one_fits, CedeLayer, Sev, probability_of, Clause, IsWithinMostAmount, IsValidUnit, declared_mean, part_width, cond, AllPairs, mul-le-mul, mul-le-mul_right, length-map, get_or-map, ◌-ℚ◌, over_mul, le_refl, le_trans, times_assoc, one_times, times_le_times, whole_times, sub_le_both, div_ceil_least, whole_le, weight_sum, weight_at, weighted_sum, IsWeighted, pairs_of, mean_amount, IsFineTo30Bits, Overlap, layer_shares, IsClause, first_apart, rest_apart, num_le_den, layer_width, IsNear, most_claims_mean, most_limited, le_trans_n, UnitOfPlan, layer_most, part_within}
 use Rattle.std.proofs.lemmas.List.Sums.{sum_by-cons, sum_by-le, sum_by_more, sum_by-take-le}
 use Rattle.dl_model.proofs.ChangedZero.{sub_zero}
 use Rattle.std.proofs.Common.{◌==◌}
 use Rattle.std.proofs.lemmas.List.Elements.{All-head, All-tail}
+use Rattle.std.proofs.lemmas.Option.{IfSome_then}
 use Rattle.std.proofs.lemmas.Nat.Gcd.{le_of_dvd}
 use Rattle.dl_plan.specs.declared.item.Item.{Item}
 use Rattle.dl_plan.specs.declared.plan.Freq.{Freq}
@@ -61,8 +62,7 @@ at_most_one u = subst (λ t. whole 1 -ℚ probability_of u.sev 0 ≤ℚ t) (sub_
 
 times_at_most_one : (x y z : Fraction) → y ≤ℚ whole 1 → x ≤ℚ z → x *ℚ y ≤ℚ z
 times_at_most_one x y z h p = le_trans (x *ℚ y) x z
-    (subst₂ (λ s t. s ≤ℚ t) (times_comm y x) (one_times x) (times_le_times y (whole 1) x h))
-    p
+    (subst₂ (λ s t. s ≤ℚ t) (times_comm y x) (one_times x) (times_le_times y (whole 1) x h)) p
 
 listed_within : (counts : List Item) (total : ℕ) → IsWeighted counts total → All (λ item. item.amount ≤ 256) counts
     → weighted_sum counts over total ≤ℚ whole 65536
@@ -76,14 +76,12 @@ few_claims : (freq : Freq) (y : Fraction) → IsClaimCount freq → y ≤ℚ who
     → expected_count freq *ℚ y ≤ℚ whole 65536
 few_claims (Fixed m) y count one slow = times_at_most_one (whole m) y (whole 65536) one (whole_le m 65536 count)
 few_claims (Table counts total) y count one slow = times_at_most_one (weighted_sum counts over total) y
-    (whole 65536) one
-    (listed_within counts total count.0 count.1)
+    (whole 65536) one (listed_within counts total count.0 count.1)
 few_claims (Bernoulli q) y count one slow = times_at_most_one q y (whole 65536) one
     (le_trans q (whole 1) (whole 65536) count.within (whole_le 1 65536 (omega arith)))
 few_claims (Binomial trials q) y count one slow =
     times_at_most_one (whole trials *ℚ q) y (whole 65536) one
-    (times_at_most_one (whole trials) q (whole 65536) count.1.within
-    (whole_le trials 65536 count.0))
+    (times_at_most_one (whole trials) q (whole 65536) count.1.within (whole_le trials 65536 count.0))
 few_claims (Poisson mean) y count one slow = le_trans _ _ _ (slow tt) (whole_le 4096 65536 (omega arith))
 few_claims (Gamma shape mean) y count one slow = le_trans _ _ _ (slow tt) (whole_le 4096 65536 (omega arith))
 
@@ -150,17 +148,11 @@ part_narrow (Some limit) attach claims spread wide narrow h = omega arith
 
 -- ---- all layers: at most one has no limit
 
-no_top : (limit : Option ℕ) (a x : ℕ) → limit ≡ None → IsBelowTop limit a x
-no_top limit a x e = rw e tt
-
-tells_none : (limit : Option ℕ) → (limit ≡ None) ⊎ (limit ≡ None → ⊥)
-tells_none None = inl refl
-tells_none (Some k) = inr (λ e. cc)
-
-with_limit : (limit : Option ℕ) (one mean : ℕ) → (limit ≡ None → ⊥) → IfSome limit (λ k. k ≤ 2 ^ 22)
-    → layer_most limit one mean ≤ 2 ^ 22 * one
-with_limit None one mean some near = absurd (some refl)
-with_limit (Some k) one mean some near = mul-le-mul_right one near
+-- a layer has no limit, or takes at most as much as one of 2^22 buckets
+limited : (limit : Option ℕ) (one mean : ℕ) → IfSome limit (λ k. k ≤ 2 ^ 22)
+    → (limit ≡ None) ⊎ (layer_most limit one mean ≤ 2 ^ 22 * one)
+limited None one mean near = inl refl
+limited (Some k) one mean near = inr (mul-le-mul_right one near)
 
 -- the most that each layer takes, added up
 abbrev pub mosts : ℕ → ℕ → List CedeLayer → ℕ
@@ -170,8 +162,10 @@ module _ (one mean : ℕ) where
   others_small : (l : CedeLayer) (ls : List CedeLayer) → l.limit ≡ None → All (λ m. ¬ Overlap l m) ls
       → All IsNear ls → mosts one mean ls ≤ length ls * (2 ^ 22 * one)
   others_small l ls none apart near = sum_by-le (λ (k : CedeLayer). layer_most k.limit one mean) (2 ^ 22 * one) ls
-      (λ k d inside. with_limit (get_or ls k d).limit one mean (λ e. apart k d inside
-      (no_top l.limit _ _ none, no_top (get_or ls k d).limit _ _ e)) (near k d inside))
+      (λ k d inside. elim (limited (get_or ls k d).limit one mean (near k d inside)) [
+        | inl e ↦ absurd (apart k d inside (rw none tt, rw e tt))
+        | inr few ↦ few
+      ])
 
   pub mosts_small : (ls : List CedeLayer) → AllPairs (λ l m. ¬ Overlap l m) ls → All IsNear ls
       → mosts one mean ls ≤ length ls * (2 ^ 22 * one) + mean
@@ -179,21 +173,17 @@ module _ (one mean : ℕ) where
   mosts_small (l ∷ ls) apart near =
       let rest = mosts_small ls (rest_apart l ls apart) (All-tail IsNear l ls near) in
       let one_more = sum_by-cons (λ (k : CedeLayer). layer_most k.limit one mean) l ls in
-      elim (tells_none l.limit) [
+      elim (limited l.limit one mean (All-head IsNear l ls near)) [
         | inl e ↦
             let others = others_small l ls e (first_apart l ls apart) (All-tail IsNear l ls near) in
             omega (arith, ap (λ t. layer_most t one mean) e)
-        | inr some ↦ omega (arith, with_limit l.limit one mean some (All-head IsNear l ls near))
+        | inr few ↦ omega (arith, few)
       ]
 
 -- a limit of a plan's layer is one of any plan's
-near_limit : (limit : Option ℕ) (cells : ℕ) → IfSome limit (λ k. k ≤ most_amount_at cells)
-    → IfSome limit (λ k. k ≤ 2 ^ 22)
-near_limit None cells near = near
-near_limit (Some k) cells near = le_trans_n near (amount_fits cells)
-
 pub all_near : (cells : ℕ) (ls : List CedeLayer) → All (IsWithinMostAmount cells) ls → All IsNear ls
-all_near cells ls near = λ i d inside. near_limit (get_or ls i d).limit cells (near i d inside).limit
+all_near cells ls near = λ i d inside.
+    IfSome_then (get_or ls i d).limit (near i d inside).limit (λ k h. le_trans_n h (amount_fits cells))
 
 -- the layers one after another: at the layer l, the i-th
 module _ (layers : List CedeLayer) (i : ℕ) (l : CedeLayer) (inside : i < length layers) (is : l ≡ get_or layers i l) where

@@ -13,7 +13,7 @@ ghost use Rattle.dl_cede.specs.Means.{IsNear, most_claims_mean, most_limited};
 
 use dl_grid::Grid;
 use dl_iv::Iv;
-use dl_measures::grid_layer_mean;
+use dl_measures::{Distribution, layer_mean};
 use dl_plan::{Cede, CedeLayer, Unit};
 
 /// The mean of the sum of the claims of a unit of a valid plan, before its clause, in buckets: the
@@ -49,7 +49,8 @@ fn part_of<const B: u32>(layer: &CedeLayer, grid: &Grid<B>, claims: Iv<B>) -> Iv
         (spread grid.now) layer.now.limit layer.now.attach }
     ensures small { result.hi ≤ layer_most layer.now.limit (2 ^ B) claims.entry.hi }
 {
-    let mean = grid_layer_mean(grid, layer.limit, layer.attach, claims);
+    let walked = Distribution::walked(grid);
+    let mean = layer_mean(&walked, layer.limit, layer.attach, claims);
     mean.scale(layer.share.num(), layer.share.den())
 }
 

@@ -5,13 +5,12 @@ pub use Rattle.std.proofs.lemmas.List.{get_or-map, length-map, take-append-drop,
 pub use Rattle.std.proofs.lemmas.List.Elements.{All-head, All-more, All-tail}
 pub use Rattle.std.proofs.lemmas.List.Sums.{sum_by-append, sum_by-cons}
 pub use Rattle.std.specs.Prelude.{All, false, true}
-pub use Rattle.dl_distort.specs.Prices.{AreQuantiles, AreTermsOf, most_tail, price_width, term_of, term_width}
 pub use Rattle.dl_exact.proofs.Laws.{le_plus, le_refl, plus_comm, plus_le_both, plus_zero, ring, times_comm, times_le_both, times_one, whole_plus}
 pub use Rattle.dl_exact.proofs.Over.{le_over}
 pub use Rattle.dl_exact.proofs.RoundingLaws.{div_ceil_least, le_whole}
 pub use Rattle.dl_grid.proofs.WidthLaws.{up_quotient}
-pub use Rattle.dl_grid.specs.Width.{up}
 pub use Rattle.dl_model.proofs.Declared.{at_least_plus, at_most_plus}
-pub use Rattle.dl_model.specs.Program.{Price, PricedTerm}
-pub use Rattle.dl_model.specs.Series.{Series}
 pub use Rattle.dl_plan.specs.declared.settings.Term.{Term}
+pub use Rattle.dl_distort.specs.Prices.{AreQuantiles, AreTermsOf, most_tail, price_width, term_of, term_width}
+pub use Rattle.dl_grid.specs.Width.{up}
+pub use Rattle.dl_model.specs.Prelude.{Price, PricedTerm, Series}

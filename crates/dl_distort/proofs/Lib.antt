@@ -1,4 +1,3 @@
 mod Common
 mod Parts
 mod Sums
-mod Widths

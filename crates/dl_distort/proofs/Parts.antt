@@ -1,5 +1,5 @@
 -- A part of a tail mean: what its ends hold, how far apart they lie, and how large they are. S units make 1.
-use Rattle.dl_distort.proofs.Common.{ap₂, ℕ, ◌≡◌, ◌+◌, ◌-◌, ◌*◌, ◌/◌, ◌^◌, ◌<◌, ◌≤◌, arith, sym, ap, subst, ◌∙◌, div_ceil, mul-le-mul, mul-le-mul_right, Fraction, whole, ◌+ℚ◌, ◌*ℚ◌, ◌≤ℚ◌, over_self, over_mul, over_add, over_le, le_over, one_pos, times_comm, div_ceil_least, up, up_quotient, Series, AtMost, AtLeast, at_least_wider, at_most_wider}
+use Rattle.dl_distort.proofs.Common.{ap₂, ℕ, ◌≡◌, ◌+◌, ◌-◌, ◌*◌, ◌/◌, ◌^◌, ◌<◌, ◌≤◌, arith, sym, ap, subst, ◌∙◌, div_ceil, mul-le-mul, mul-le-mul_right, Fraction, whole, ◌+ℚ◌, ◌*ℚ◌, ◌≤ℚ◌, over_self, over_mul, over_add, over_le, le_over, one_pos, times_comm, div_ceil_least, up, up_quotient, Series, AtMost, AtLeast, at_least_wider, at_most_wider, List, [], ◌∷◌, All, All-head, All-tail, sum_by-cons, ◌<ℚ◌, mul-le-mul_left, num_below, tail_width, Term, term_width, price_width}
 use Rattle.std.proofs.lemmas.Grind.{div_ceil_times}
 use Rattle.dl_iv.proofs.Rounding.{ceiling_reaches}
 use Rattle.dl_model.proofs.Declared.{scaled_least, scaled_most}
@@ -56,3 +56,35 @@ part_units w t n h =
     ∙ over_add (t * w.num) (1 * w.den) 1 1 (omega arith) one_pos))
     (over_le n 1 _ _ one_pos (omega arith)
     (omega (arith, mul-le-mul_right w.den h, (div_ceil_times (t * w.num) w.den w.positive).1)))
+
+-- ---- a wider mean and a wider grid never give a narrower price
+
+tail_rises : (p : Fraction) (m n K s t : ℕ) → p <ℚ whole 1 → m ≤ n → s ≤ t → tail_width p m K s ≤ tail_width p n K t
+tail_rises p m n K s t below of_mean of_spread =
+    let rest : 0 < p.den - p.num = omega (arith, num_below p below) in
+    let wider = rises (2 * m + 3 * K * s) (2 * n + 3 * K * t) p.den (p.den - p.num) rest
+    (omega (arith, mul-le-mul_left (3 * K) of_spread)) in
+    rw (
+      up_quotient ((2 * m + 3 * K * s) * p.den) (p.den - p.num) rest,
+      up_quotient ((2 * n + 3 * K * t) * p.den) (p.den - p.num) rest,
+    )
+    (omega (arith, wider))
+
+term_rises : (term : Term) (m n K s t : ℕ) → term.p <ℚ whole 1 → m ≤ n → s ≤ t
+    → term_width m K s term ≤ term_width n K t term
+term_rises term m n K s t below of_mean of_spread =
+    let tails = tail_rises term.p m n K s t below of_mean of_spread in
+    rw (up_part term.weight (tail_width term.p m K s), up_part term.weight (tail_width term.p n K t))
+    (omega (arith, rises _ _ term.weight.num term.weight.den term.weight.positive tails))
+
+pub price_rises : (terms : List Term) (m n K s t : ℕ) → All (λ term. term.p <ℚ whole 1) terms → m ≤ n → s ≤ t
+    → price_width terms m K s ≤ price_width terms n K t
+price_rises [] m n K s t below of_mean of_spread = omega arith
+price_rises (term ∷ terms) m n K s t below of_mean of_spread =
+    omega (
+      arith,
+      sum_by-cons (term_width m K s) term terms,
+      sum_by-cons (term_width n K t) term terms,
+      term_rises term m n K s t (All-head (λ term. term.p <ℚ whole 1) term terms below) of_mean of_spread,
+      price_rises terms m n K s t (All-tail (λ term. term.p <ℚ whole 1) term terms below) of_mean of_spread,
+    )

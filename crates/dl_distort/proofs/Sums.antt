@@ -112,8 +112,7 @@ module _ {B : ℕ} {grid : List (Iv B)} {mean : Iv B} {terms : List Term} {i lo 
     most = λ us priced d e m is at.
         let here' = in_place priced is in
         let k = get_or priced i last in
-        let quantile = subst (λ (t : Term). IsQuantile (partial_sums us) k.quantile t.p) here'.1
-        (at i last here'.0) in
+        let quantile = subst (λ (t : Term). IsQuantile (partial_sums us) k.quantile t.p) here'.1 (at i last here'.0) in
         one_more us priced (λ Q. AtMost Q (partial_sums us One) ((hi + h) over 2 ^ B)) is
         (more_most us (are_units us d) (2 ^ B) (pow_pos B) (take i priced) k hi h (sum.most us priced d e m is at)
         (subst (λ (t : Term). AtMost (λ N. t.weight *ℚ partial_sums us (Tail t.p k.quantile) N) (partial_sums us One)

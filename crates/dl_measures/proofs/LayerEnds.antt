@@ -88,45 +88,10 @@ pub no_limit_width : {B : ℕ} (cells : List (Iv B)) (attachment m n : ℕ) → 
     → (n - low_units cells attachment 0) - (m - high_units cells attachment 0) ≤ (n - m) + attachment * spread cells
 no_limit_width cells attachment m n h = omega (arith, limit_width cells attachment 0)
 
--- ---- a walk over the layer
-
-next : (attachment i : ℕ) → suc (attachment + i) ≡ attachment + (i + 1)
-next attachment i = omega arith
-
-pub low_more : {B : ℕ} (cells : List (Iv B)) (attachment i s t d : ℕ) → s ≡ low_units cells i attachment
-    → d ≡ count_below (attachment + (i + 1)) (high_at cells)
-    → t ≡ 2 ^ B - d → s + t ≡ low_units cells (i + 1) attachment
-low_more {B} cells attachment i s t d e h k =
-    omega (
-      arith,
-      ap (λ n. count_below n (high_at cells)) (next attachment i),
-      below_more i (λ i. 2 ^ B - min (2 ^ B) (count_below (suc (attachment + i)) (high_at cells))),
-    )
-
-pub high_more : {B : ℕ} (cells : List (Iv B)) (attachment i s t d : ℕ) → s ≡ high_units cells i attachment
-    → d ≡ count_below (attachment + (i + 1)) (low_at cells)
-    → t ≡ 2 ^ B - d → s + t ≡ high_units cells (i + 1) attachment
-high_more {B} cells attachment i s t d e h k =
-    omega (
-      arith,
-      ap (λ n. count_below n (low_at cells)) (next attachment i),
-      below_more i (λ i. 2 ^ B - count_below (suc (attachment + i)) (low_at cells)),
-    )
-
-pub one_cell_more : (f : ℕ → ℕ) (attachment i s t : ℕ) → s ≡ count_below (attachment + i) f → t ≡ f (attachment + i)
-    → s + t ≡ count_below (attachment + (i + 1)) f
-one_cell_more f attachment i s t e h = more f (attachment + i) s t e h ∙ ap (λ n. count_below n f) (next attachment i)
-
 high_units_most : {B : ℕ} (cells : List (Iv B)) (limit attachment : ℕ)
     → high_units cells limit attachment ≤ limit * 2 ^ B
 high_units_most {B} cells limit attachment = below_bound limit (2 ^ B)
     (λ i. 2 ^ B - count_below (suc (attachment + i)) (low_at cells)) (λ i h. omega arith)
-
-pub mean_fits : {B : ℕ} (cells : List (Iv B)) (attachment i s t d : ℕ) → IsGrid cells → i ≤ length cells
-    → s ≡ high_units cells i attachment → t ≡ 2 ^ B - d → s + t ≤ 2 ^ 71
-mean_fits {B} cells attachment i s t d grid inside e h =
-    let scale : B ≤ 56 = (scale_of cells grid.some).1 in
-    omega (arith, high_units_most cells i attachment, cells_fit cells i grid inside, one_fits B scale)
 
 -- ---- what a call answers, from the cells that it has seen
 

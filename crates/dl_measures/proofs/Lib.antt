@@ -2,8 +2,7 @@ pub mod Common
 pub mod CellEnds
 mod FoundBrackets
 mod Widths
-mod Halving
-pub mod RunningLaws
+pub mod MarkLaws
 pub mod Sums
 pub mod Reached
 pub mod LayerEnds

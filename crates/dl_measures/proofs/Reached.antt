@@ -1,9 +1,11 @@
 -- From the running sums of a grid to the bracket of a quantile.
-use Rattle.dl_measures.proofs.Common.{ℕ, suc, ◌≡◌, inl, inr, ◌+◌, ◌*◌, ◌^◌, ◌<◌, ◌≤◌, min, List, length, get_or, arith, refl, subst, Option, Some, None, mul-le-mul, mul-le-mul_right, pow_pos, cases_lt, Fraction, whole, ◌over◌, ◌≤ℚ◌, ◌<ℚ◌, over_self, over_le, over_lt, le_trans, Iv, low_at, high_at, spread, IsGrid, one_fits, count_below, Loss, AreDeclarable, One, total, GridEncloses, IsQuantile, IsBracketed, AreDeclared, low_cdf, high_cdf, IsTight, below_more, are_units, quantity_bounded, IsFirstAtLeast, IsFirstFound, partial_sums, num_below, min-eq_left, min-eq_right, min-le_right, whole_positive}
+use Rattle.dl_measures.proofs.Common.{ℕ, suc, ◌≡◌, inl, inr, ◌+◌, ◌*◌, ◌^◌, ◌<◌, ◌≤◌, min, List, length, arith, refl, subst, subst₂, Option, Some, None, mul-le-mul, mul-le-mul_right, pow_pos, cases_lt, Fraction, whole, ◌over◌, ◌≤ℚ◌, ◌<ℚ◌, over_self, over_le, over_lt, le_trans, Iv, low_at, high_at, spread, IsGrid, one_fits, count_below, Loss, AreDeclarable, One, total, GridEncloses, IsQuantile, IsBracketed, AreDeclared, low_cdf, high_cdf, IsTight, below_more, are_units, quantity_bounded, IsFirstAtLeast, IsFirstFound, partial_sums, num_below, min-eq_left, min-eq_right, min-le_right, whole_positive}
 use Rattle.dl_model.proofs.Bracket.{quantile_inside}
 use Rattle.dl_measures.proofs.FoundBrackets.{bracket, tight, high_rises}
 use Rattle.dl_measures.proofs.Sums.{apart, high_most}
-use Rattle.dl_measures.specs.Running.{AreSums}
+use Rattle.std.proofs.Math.Nat.{le_refl}
+use Rattle.dl_measures.specs.declared.marks.Mark.{Mark}
+use Rattle.dl_measures.specs.Running.{IsRunningOf, end_at}
 
 -- ---- a sum of units against the probability
 
@@ -34,61 +36,35 @@ next_sum f x s t e h = omega (arith, below_more x f)
 
 -- ---- what a search in the running sums has found
 
--- against `goal` in units of 1/S and 1/den, which is p
-module _ {B : ℕ} (cells : List (Iv B)) (p : Fraction) {den goal : ℕ} (e : den ≡ p.den) (g : goal ≡ p.num * 2 ^ B)
-    (below : p <ℚ whole 1) where
-  in_parts : (s c : ℕ) → s ≡ c → s * den ≡ c * p.den
-  in_parts s c is = rw (is, e)
+-- The ends of the distribution at the cells: the running sums, or the lesser of the scale and these.
+module _ (B n : ℕ) (f : ℕ → ℕ) (p : Fraction) {den goal : ℕ} (e : den ≡ p.den) (g : goal ≡ p.num * 2 ^ B)
+    (end : ℕ → ℕ) (least : (c : ℕ) → end c ≤ c)
+    (enough : (c : ℕ) → p.num * 2 ^ B ≤ c * p.den → p.num * 2 ^ B ≤ end c * p.den) where
+  found_end : (a : ℕ) → a ≤ n → ((x : ℕ) → x < a → count_below (suc x) f * den < goal)
+      → (a < n → goal ≤ count_below (suc a) f * den)
+      → IsFirstAtLeast (λ x. end (count_below (suc x) f) over 2 ^ B) p n a
+  found_end a within before reached = record {
+    within = within;
+    before = λ y i. short (2 ^ B) (end (count_below (suc y) f)) p (pow_pos B)
+        (omega (arith, rw (e, g) at before y i, mul-le-mul_right p.den (least (count_below (suc y) f))));
+    reached = λ i. reaches (2 ^ B) (end (count_below (suc a) f)) p (pow_pos B)
+        (enough (count_below (suc a) f) (rw (e, g) at reached i));
+  }
 
-  pub found_high : {sums : List ℕ} (a : ℕ) → AreSums (high_at cells) (length cells) sums → a + 1 ≤ length sums
-      → ((x : ℕ) → x < a → get_or sums (suc x) 0 * den < goal)
-      → (a + 1 < length sums → goal ≤ get_or sums (suc a) 0 * den)
+module _ {B unit : ℕ} (cells : List (Iv B)) {ends : List ℕ} {marks : List Mark} (p : Fraction) {den goal : ℕ}
+    (e : den ≡ p.den) (g : goal ≡ p.num * 2 ^ B) (a : ℕ) (within : a ≤ length ends)
+    (before : (x : ℕ) → x < a → count_below (suc x) (end_at ends) * den < goal)
+    (reached : a < length ends → goal ≤ count_below (suc a) (end_at ends) * den) where
+  pub found_high : IsRunningOf (2 ^ B) (high_at cells) (length cells) unit ends marks → p <ℚ whole 1
       → IsFirstAtLeast (high_cdf (2 ^ B) (high_at cells)) p (length cells) a
-  found_high {sums} a are within before reached = record {
-    within = omega (arith, are.long);
-    before = λ y i.
-        let sum = count_below (suc y) (high_at cells) in
-        short (2 ^ B) (min (2 ^ B) sum) p (pow_pos B)
-        (omega (
-          arith,
-          before y i,
-          in_parts (get_or sums (suc y) 0) sum (are.each (suc y) (omega (arith, are.long))),
-          mul-le-mul_right p.den (min-le_right (2 ^ B) sum),
-        ));
-    reached = λ i.
-        let sum = count_below (suc a) (high_at cells) in
-        reaches (2 ^ B) (min (2 ^ B) sum) p (pow_pos B)
-        (lesser_reaches (2 ^ B) sum p below
-        (omega (
-          arith,
-          reached (omega (arith, are.long)),
-          in_parts (get_or sums (suc a) 0) sum (are.each (suc a) (omega arith)),
-        )));
-  }
+  found_high of below = subst₂ (λ f n. IsFirstAtLeast (high_cdf (2 ^ B) f) p n a) of.each of.long
+      (found_end B (length ends) (end_at ends) p e g (min (2 ^ B)) (min-le_right (2 ^ B)) (λ c. lesser_reaches (2 ^ B) c p below) a
+      within before reached)
 
-  pub found_low : {sums : List ℕ} (a : ℕ) → AreSums (low_at cells) (length cells) sums → a + 1 ≤ length sums
-      → ((x : ℕ) → x < a → get_or sums (suc x) 0 * den < goal)
-      → (a + 1 < length sums → goal ≤ get_or sums (suc a) 0 * den)
+  pub found_low : IsRunningOf (2 ^ B) (low_at cells) (length cells) unit ends marks
       → IsFirstAtLeast (low_cdf (2 ^ B) (low_at cells)) p (length cells) a
-  found_low {sums} a are within before reached = record {
-    within = omega (arith, are.long);
-    before = λ y i.
-        let sum = count_below (suc y) (low_at cells) in
-        short (2 ^ B) sum p (pow_pos B)
-        (omega (
-          arith,
-          before y i,
-          in_parts (get_or sums (suc y) 0) sum (are.each (suc y) (omega (arith, are.long))),
-        ));
-    reached = λ i.
-        let sum = count_below (suc a) (low_at cells) in
-        reaches (2 ^ B) sum p (pow_pos B)
-        (omega (
-          arith,
-          reached (omega (arith, are.long)),
-          in_parts (get_or sums (suc a) 0) sum (are.each (suc a) (omega arith)),
-        ));
-  }
+  found_low of = subst₂ (λ f n. IsFirstAtLeast (low_cdf (2 ^ B) f) p n a) of.each of.long
+      (found_end B (length ends) (end_at ends) p e g (λ c. c) le_refl (λ c h. h) a within before reached)
 
 -- ---- what the bracket holds
 
@@ -124,14 +100,6 @@ module _ {B : ℕ} (cells : List (Iv B)) (p : Fraction) (a : ℕ) (b : Option �
       quantile_inside us bound.0 p some.0 q a b (are_units us d) bound.1 some.1 is (is_bracket us (are_units us d) e)
 
 -- ---- sizes
-
-pub high_fits : {B : ℕ} (cells : List (Iv B)) (x high h : ℕ) → IsGrid cells → x < length cells
-    → high ≡ count_below x (high_at cells) → h ≡ high_at cells x → high + h ≤ 2 ^ 70
-high_fits cells x high h grid inside e is = omega (
-  arith,
-  more (high_at cells) x high h e is,
-  high_most cells (suc x) grid (omega arith),
-)
 
 pub goal_fits : (p : Fraction) (B num one : ℕ) → B ≤ 56 → p <ℚ whole 1 → p.den ≤ 1000000000 → num ≡ p.num → one ≡ 2 ^ B
     → num * one < 2 ^ 128

@@ -1,93 +1,83 @@
 //! The running sums of a grid.
 
-ghost use Rattle.std.specs.Prelude.{◌≡◌, ℕ, ◌+◌, ◌-◌, ◌^◌, ◌<◌, ◌≤◌, min, suc, take, length, get_or, All, IfOk};
+ghost use Rattle.std.specs.Prelude.{◌≡◌, ◌+◌, ◌-◌, ◌^◌, ◌<◌, ◌≤◌, min, suc, take, length, IfOk, IfSome};
 ghost use Rattle.dl_exact.specs.Count.{count_below};
 ghost use Rattle.dl_grid.specs.Cells.{low_at, high_at, mass_low, mass_high, spread, IsGrid};
-ghost use Rattle.dl_measures.specs.Running.{AreSums};
+ghost use Rattle.dl_measures.specs.Running.{AreFew, AreMarks, IsRunning, IsRunningOf};
 
+use crate::marks::{Mark, Running, marks_of};
 use dl_grid::{Grid, units_of_one};
 use dl_iv::Iv;
 use std::alloc::{AllocError, Global};
 use std::marker::Model;
 
-/// A grid with its running sums, from which the distribution at an amount is read, and the mean of
-/// a layer is a difference. A clause sees it as the grid.
+/// A grid with marks of its running sums, from which the distribution at an amount is read, and the
+/// mean of a layer is a difference. A clause sees it as the grid.
 #[derive(Drop)]
 pub struct Distribution<'a, const B: u32> {
     grid: &'a Grid<B>,
-    /// The sums of the low ends of the first cells, from none up to all.
-    lows: Vec<u128>,
+    /// The marks of the low ends; none where each sum is read by a walk over the grid.
+    lows: Option<Vec<Mark>>,
     /// Those of the high ends.
-    highs: Vec<u128>,
-    /// The sums, over the first amounts, of what the high end of the distribution leaves of 1.
-    low_rests: Vec<u128>,
-    /// Those of what the low end leaves.
-    high_rests: Vec<u128>,
+    highs: Option<Vec<Mark>>,
 }
 
 impl<'a, const B: u32> Model for Distribution<'a, B> {
-    ghost use Rattle.std.specs.Prelude.{List};
+    ghost use Rattle.std.specs.Prelude.{◌^◌, List, IfSome};
     ghost use Rattle.dl_iv.specs.declared.interval.Iv.{Iv};
-    ghost use Rattle.dl_measures.specs.Running.{IsSummed};
+    ghost use Rattle.dl_grid.specs.Cells.{IsGrid, low_ends, high_ends};
+    ghost use Rattle.dl_measures.specs.Running.{AreMarks};
 
     ghost Value = { List (Iv B) };
 
     ghost view = { λ d. d.grid.now };
 
-    ghost invariant = { λ d. IsSummed d.grid.now d.lows.items d.highs.items d.low_rests.items d.high_rests.items };
+    ghost invariant = { λ d. IsGrid d.grid.now
+        × (IfSome d.lows (λ marks. AreMarks (2 ^ B) (low_ends d.grid.now) marks.items)
+        × IfSome d.highs (λ marks. AreMarks (2 ^ B) (high_ends d.grid.now) marks.items)) };
 }
 
-/// The sums of the first ends, from none up to all.
-fn running_sums(alloc: Global, ends: &[u128]) -> Result<Vec<u128>, AllocError>
-    requires few { length ends.now ≤ 2 ^ 20 }
-    requires small { All (λ end. end ≤ 2 ^ 56) ends.now }
-    ensures { IfOk result (λ sums. AreSums (λ x. get_or ends.now x 0) (length ends.now) sums.items) }
+/// The running sums of these ends, from the marks that there are.
+fn running<'a>(ends: &'a [u128], marks: &'a Option<Vec<Mark>>, one: u128) -> Running<'a>
+    requires few { AreFew one ends.now }
+    requires marks { IfSome marks.now (λ marks. AreMarks one ends.now marks.items) }
+    ensures one { result.one ≡ one }
+    ensures ends { result.ends.now ≡ ends.now }
+    ensures running { IsRunning result.one result.ends.now result.marks.now }
 {
-    let mut sums = Vec::with_capacity(alloc, ends.len() + 1)?;
-    let mut sum = 0;
-    sums.push(sum)?;
-    for i in 0..ends.len() {
-        sum += ends[i];
-        sums.push(sum)?;
-    }
-    Ok(sums)
-}
-
-/// The sums of what these sums leave of `one`, after the first of them, from none up to all.
-fn running_rests(alloc: Global, one: u128, sums: &[u128]) -> Result<Vec<u128>, AllocError>
-    requires some { 1 ≤ length sums.now }
-    requires few { length sums.now ≤ 2 ^ 20 + 1 }
-    requires small { one ≤ 2 ^ 56 }
-    ensures { IfOk result (λ rests. AreSums (λ x. one - get_or sums.now (suc x) 0)
-        (length sums.now - 1) rests.items) }
-{
-    let mut rests = Vec::with_capacity(alloc, sums.len())?;
-    let mut rest = 0;
-    rests.push(rest)?;
-    for i in 0..sums.len() - 1 {
-        rest += one.saturating_sub(sums[i + 1]);
-        rests.push(rest)?;
-    }
-    Ok(rests)
+    let marks = match marks {
+        Some(marks) => marks.as_slice(),
+        None => &[],
+    };
+    Running { one, ends, marks }
 }
 
 impl<'a, const B: u32> Distribution<'a, B> {
-    /// The running sums of a grid.
+    /// A grid with its running sums marked: two passes over its cells, and memory for one mark of
+    /// each block of cells.
     pub fn of(alloc: Global, grid: &'a Grid<B>) -> Result<Self, AllocError>
         ensures { IfOk result (λ distribution. distribution ≡ grid.now) }
     {
-        let lows = running_sums(alloc, grid.lows())?;
-        let highs = running_sums(alloc, grid.highs())?;
+        let (lows, highs) = (grid.lows(), grid.highs());
         let one = units_of_one(B);
-        let low_rests = running_rests(alloc, one, highs.as_slice())?;
-        let high_rests = running_rests(alloc, one, lows.as_slice())?;
         Ok(Distribution {
             grid,
-            lows,
-            highs,
-            low_rests,
-            high_rests,
+            lows: Some(marks_of(alloc, one, lows)?),
+            highs: Some(marks_of(alloc, one, highs)?),
         })
+    }
+
+    /// A grid of which few sums are asked: each is a walk over its cells from the first on. It
+    /// takes no memory.
+    pub fn walked(grid: &'a Grid<B>) -> Self
+        ensures { result ≡ grid.now }
+    {
+        grid.cells();
+        Distribution {
+            grid,
+            lows: None,
+            highs: None,
+        }
     }
 
     /// How many cells there are, and what is true of those of every grid.
@@ -108,6 +98,22 @@ impl<'a, const B: u32> Distribution<'a, B> {
         self.grid.at(x)
     }
 
+    /// The running sums of the low ends.
+    pub(crate) fn lows(&self) -> Running<'_>
+        ensures grid { IsGrid self.now }
+        ensures sums { IsRunningOf (2 ^ B) (low_at self.now) (length self.now) result.one result.ends.now result.marks.now }
+    {
+        running(self.grid.lows(), &self.lows, units_of_one(B))
+    }
+
+    /// The running sums of the high ends.
+    pub(crate) fn highs(&self) -> Running<'_>
+        ensures grid { IsGrid self.now }
+        ensures sums { IsRunningOf (2 ^ B) (high_at self.now) (length self.now) result.one result.ends.now result.marks.now }
+    {
+        running(self.grid.highs(), &self.highs, units_of_one(B))
+    }
+
     /// The probability of at most `x` buckets: the sums of the ends up to `x`, lowered to 1 where
     /// they are above it.
     pub fn cdf(&self, x: u32) -> Iv<B>
@@ -116,8 +122,8 @@ impl<'a, const B: u32> Distribution<'a, B> {
         ensures high { result.hi ≡ min (mass_high (take (x + 1) self.now)) (2 ^ B) }
     {
         let next = x as usize + 1;
-        let low = self.lows[next];
-        let high = self.highs[next];
+        let low = self.lows().at(next).sum;
+        let high = self.highs().at(next).sum;
         let one = units_of_one(B);
         Iv {
             lo: low.min(one),
@@ -130,21 +136,7 @@ impl<'a, const B: u32> Distribution<'a, B> {
         ensures { result ≡ spread self.now }
     {
         let cells = self.cells() as usize;
-        self.highs[cells] - self.lows[cells]
-    }
-
-    /// The sums of the low ends of the first cells, from none up to all.
-    pub(crate) fn lows(&self) -> &[u128]
-        ensures { AreSums (low_at self.now) (length self.now) result.now }
-    {
-        self.lows.as_slice()
-    }
-
-    /// The sums of the high ends of the first cells, from none up to all.
-    pub(crate) fn highs(&self) -> &[u128]
-        ensures { AreSums (high_at self.now) (length self.now) result.now }
-    {
-        self.highs.as_slice()
+        self.highs().at(cells).sum - self.lows().at(cells).sum
     }
 
     /// The mean of the layer of `limit` above `attach`, in buckets: what the distribution leaves of
@@ -159,8 +151,8 @@ impl<'a, const B: u32> Distribution<'a, B> {
         let first = attach as usize;
         let last = first + limit as usize;
         Iv {
-            lo: self.low_rests[last] - self.low_rests[first],
-            hi: self.high_rests[last] - self.high_rests[first],
+            lo: self.highs().layer(first, last),
+            hi: self.lows().layer(first, last),
         }
     }
 }

@@ -1,6 +1,6 @@
 //! Quantiles.
 
-ghost use Rattle.std.specs.Prelude.{◌≡◌, ℕ, suc, ◌+◌, ◌*◌, ◌^◌, ◌<◌, ◌≤◌, All, List, length, get_or, Some};
+ghost use Rattle.std.specs.Prelude.{◌≡◌, ℕ, ◌^◌, ◌≤◌, List, length, Some};
 ghost use Rattle.dl_exact.specs.Fraction.{whole, ◌over◌, ◌<ℚ◌};
 ghost use Rattle.dl_grid.specs.Cells.{low_at, high_at, spread};
 ghost use Rattle.dl_model.specs.Prelude.{Loss, AreDeclarable, total, partial_sums, GridEncloses, IsQuantile, IsBracketed, AreDeclared};
@@ -19,33 +19,6 @@ pub struct Bracket {
     pub lo: u32,
     /// The first amount at which it has surely reached it; none where the grid ends before.
     pub hi: Option<u32>,
-}
-
-/// The first cell up to which the sums, which begin with that of no cell and never fall, reach
-/// `goal` when each is taken `den` times; the number of cells where none does. It is found by
-/// halving.
-fn first_reaching(sums: &[u128], den: u128, goal: u128) -> u32
-    requires some { 1 ≤ length sums.now }
-    requires few { length sums.now ≤ 2 ^ 20 + 1 }
-    requires den { den ≤ 1000000000 }
-    requires small { All (λ sum. sum ≤ 2 ^ 70) sums.now }
-    requires rising { (x y : ℕ) → x ≤ y → y < length sums.now
-        → get_or sums.now x 0 ≤ get_or sums.now y 0 }
-    ensures within { result + 1 ≤ length sums.now }
-    ensures before { (x : ℕ) → x < result → get_or sums.now (suc x) 0 * den < goal }
-    ensures reached { result + 1 < length sums.now → goal ≤ get_or sums.now (suc result) 0 * den }
-{
-    let mut first = 0;
-    let mut last = sums.len() as u32 - 1;
-    while first < last {
-        let middle = first + (last - first) / 2;
-        if sums[middle as usize + 1] * den < goal {
-            first = middle + 1;
-        } else {
-            last = middle;
-        }
-    }
-    first
 }
 
 /// The bracket of the quantile at `p`, which is below 1, with parts of at most `10^9`: the first
@@ -67,8 +40,8 @@ pub fn quantile<const B: u32>(g: &Distribution<B>, p: Frac) -> Bracket
     let cells = g.cells();
     let den = u128::from(p.den());
     let goal = u128::from(p.num()) * units_of_one(B);
-    let lo = first_reaching(g.highs(), den, goal);
-    let hi = first_reaching(g.lows(), den, goal);
+    let lo = g.highs().first_reaching(den, goal);
+    let hi = g.lows().first_reaching(den, goal);
     if hi < cells {
         return Bracket { lo, hi: Some(hi) };
     }

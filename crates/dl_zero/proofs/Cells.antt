@@ -14,12 +14,22 @@ use Rattle.dl_zero.proofs.Losses.{changed_is_loss}
 
 -- ---- lists as a loop makes them
 
-one_more : (xs ys : List ℕ) (v i : ℕ) (h : ℕ → ℕ) → ys ≡ xs ++ v ∷ [] → length xs ≡ i
-    → ((k : ℕ) → k < i → get_or xs k 0 ≡ h k) → v ≡ h i
-    → (k : ℕ) → k < i + 1 → get_or ys k 0 ≡ h k
-one_more xs ys v i h e many before here = below_more (λ k. get_or ys k 0 ≡ h k) i
-    (λ k b. ap (λ t. get_or t k 0) e ∙ get_or_append_left xs (v ∷ []) 0 k (omega arith) ∙ before k b)
-    (ap₂ (λ t n. get_or t n 0) e (sym many) ∙ get_or-append_seam xs v [] 0 ∙ here)
+-- the list of f 0, .., f (n - 1)
+pub record AreMade (f : ℕ → ℕ) (n : ℕ) (made : List ℕ) : Type 0 where
+  pub long : length made ≡ n
+  pub each : (k : ℕ) → k < n → get_or made k 0 ≡ f k
+
+pub none_made : (f : ℕ → ℕ) {made : List ℕ} → made ≡ [] → AreMade f 0 made
+none_made f none = record { long = ap length none; each = λ k h. absurd (omega arith) }
+
+pub one_more : {f : ℕ → ℕ} {n v : ℕ} {made more : List ℕ} → AreMade f n made → more ≡ made ++ v ∷ [] → v ≡ f n
+    → AreMade f (n + 1) more
+one_more {f} {n} {v} {made} {more} are next here = record {
+  long = rw next (simp length-append (omega (arith, are.long)));
+  each = below_more (λ k. get_or more k 0 ≡ f k) n
+      (λ k b. ap (λ t. get_or t k 0) next ∙ get_or_append_left made (v ∷ []) 0 k (omega (arith, are.long)) ∙ are.each k b)
+      (ap₂ (λ t n. get_or t n 0) next (sym are.long) ∙ get_or-append_seam made v [] 0 ∙ here);
+}
 
 sum_total : (xs : List ℕ) → sum xs ≡ count_below (length xs) (λ k. get_or xs k 0)
 unfolding count_below
@@ -48,32 +58,12 @@ taken_width : (y l h a b : ℕ) → a ≤ b
     → (h - all_at_zero a y) - (l - all_at_zero b y) ≤ (h - l) + all_at_zero (b - a) y
 taken_width y l h a b o = omega (arith, at_zero_plus a (b - a) y, ap (λ n. all_at_zero n y) (add-sub_of_le o))
 
--- the two lists that the loop makes, cell by cell
-pub record AreChanged (S nl nh K : ℕ) (p : Fraction) (lo hi : ℕ → ℕ) (lows highs : List ℕ) : Type 0 where
-  pub many_lows : length lows ≡ K
-  pub many_highs : length highs ≡ K
-  pub low : (k : ℕ) → k < K → get_or lows k 0 ≡ min (low_changed S nl nh p k (lo k)) S
-  pub high : (k : ℕ) → k < K → get_or highs k 0 ≡ min (high_changed S nl nh p k (hi k)) S
+-- the two lists that a loop makes, cell by cell
+abbrev pub AreLows : {B : ℕ} → List (Iv B) → Iv B → Fraction → ℕ → List ℕ → Type 0
+AreLows {B} cells none p = AreMade (λ k. min (low_changed (2 ^ B) none.lo none.hi p k (low_at cells k)) (2 ^ B))
 
-pub none_changed : {lows highs : List ℕ} (S nl nh : ℕ) (p : Fraction) (lo hi : ℕ → ℕ) → lows ≡ [] → highs ≡ []
-    → AreChanged S nl nh 0 p lo hi lows highs
-none_changed S nl nh p lo hi e f = record {
-  many_lows = ap length e;
-  many_highs = ap length f;
-  low = λ k b. absurd (omega arith);
-  high = λ k b. absurd (omega arith);
-}
-
-pub one_changed : {S nl nh y : ℕ} {p : Fraction} {lo hi : ℕ → ℕ} {lows highs lows' highs' : List ℕ} {l h : ℕ}
-    → AreChanged S nl nh y p lo hi lows highs → lows' ≡ lows ++ l ∷ [] → highs' ≡ highs ++ h ∷ []
-    → l ≡ min (low_changed S nl nh p y (lo y)) S → h ≡ min (high_changed S nl nh p y (hi y)) S
-    → AreChanged S nl nh (y + 1) p lo hi lows' highs'
-one_changed made e f low high = record {
-  many_lows = rw e (simp length-append (omega (arith, made.many_lows)));
-  many_highs = rw f (simp length-append (omega (arith, made.many_highs)));
-  low = one_more _ _ _ _ _ e made.many_lows made.low low;
-  high = one_more _ _ _ _ _ f made.many_highs made.high high;
-}
+abbrev pub AreHighs : {B : ℕ} → List (Iv B) → Iv B → Fraction → ℕ → List ℕ → Type 0
+AreHighs {B} cells none p = AreMade (λ k. min (high_changed (2 ^ B) none.lo none.hi p k (high_at cells k)) (2 ^ B))
 
 -- ---- one cell in numbers
 
@@ -108,6 +98,10 @@ module _ (S nl nh : ℕ) (p : Fraction) (pos : 0 < S) (order : nl ≤ nh) (below
       (all_at_zero (S * p.num / p.den) k) (all_at_zero (div_ceil (S * p.num) p.den) k) (all_at_zero 1 k) (omega arith)
       p.positive (omega arith) apart)
 
+-- a probability of no claim of at most 17 / 18 is below 1
+below_one : (B n : ℕ) → 18 * n ≤ 17 * 2 ^ B → n < 2 ^ B
+below_one B n share = omega (arith, pow_pos B)
+
 -- ---- the two lists
 
 -- what stands at 0 taken off what adds up
@@ -127,12 +121,9 @@ left_sum (c ∷ cs) e some = omega (
 module _ {B : ℕ} (cells : List (Iv B)) (none : Iv B) (p : Fraction) (lows highs : List ℕ) (K : ℕ) (grid : IsGrid cells)
     (one : p <ℚ whole 1) (share : 18 * none.hi ≤ 17 * 2 ^ B) (room : HasRoomForNone cells none)
     (all : K ≡ length cells)
-    (made : AreChanged (2 ^ B) none.lo none.hi K p (low_at cells) (high_at cells) lows highs) where
-  some : 0 < 2 ^ B
-  some = pow_pos B
-
+    (made_low : AreLows cells none p K lows) (made_high : AreHighs cells none p K highs) where
   under : none.hi < 2 ^ B
-  under = omega (arith, some)
+  under = below_one B none.hi share
 
   -- what the low ends leave, and what they are after
   lows_left : count_below (length cells) (λ y. low_at cells y - all_at_zero none.hi y) ≤ 2 ^ B - none.lo
@@ -146,26 +137,26 @@ module _ {B : ℕ} (cells : List (Iv B)) (none : Iv B) (p : Fraction) (lows high
 
   pub changed_ends : AreEnds B lows highs
   changed_ends = record {
-    size = rw (made.many_lows, all) (size_of cells grid);
-    paired = omega arith;
+    size = rw (made_low.long, all) (size_of cells grid);
+    paired = omega (arith, made_low.long, made_high.long);
     ordered = λ x. elim (cases_lt x (length cells)) [
       | inl inside ↦
-          let order = ends_order (2 ^ B) none.lo none.hi p some none.ordered under one x _ _ (low_le_high cells x) in
-          omega (arith, made.low x (omega arith), made.high x (omega arith))
-      | inr past ↦ omega (arith, get_or-eq_default lows 0 {n = x} (omega arith))
+          let order = ends_order (2 ^ B) none.lo none.hi p (pow_pos B) none.ordered under one x _ _ (low_le_high cells x) in
+          omega (arith, made_low.each x (omega arith), made_high.each x (omega arith))
+      | inr past ↦ omega (arith, get_or-eq_default lows 0 {n = x} (omega (arith, made_low.long)))
     ];
-    small = λ x d inside. omega (arith, get_or_default_zero highs x d inside, made.high x (omega arith));
+    small = λ x d inside. omega (arith, get_or_default_zero highs x d inside, made_high.each x (omega (arith, made_high.long)));
     mass =
-        let same = ap (λ n. count_below n (λ i. get_or lows i 0)) (made.many_lows ∙ all) in
+        let same = ap (λ n. count_below n (λ i. get_or lows i 0)) (made_low.long ∙ all) in
         let less = below_le (length cells) (λ i. get_or lows i 0)
-        (λ y. low_changed (2 ^ B) none.lo none.hi p y (low_at cells y)) (λ i b. omega (arith, made.low i (omega arith))) in
+        (λ y. low_changed (2 ^ B) none.lo none.hi p y (low_at cells y)) (λ i b. omega (arith, made_low.each i (omega arith))) in
         omega (arith, sum_total lows, lows_after);
   }
 
   pub made_ends : (g : List (Iv B)) → low_ends g ≡ lows → high_ends g ≡ highs → AreChangedEnds p cells none g
   made_ends g low high = record {
-    low = λ y inside. sym (low_at_ends g y) ∙ ap (λ t. get_or t y 0) low ∙ made.low y (omega arith);
-    high = λ y inside. sym (high_at_ends g y) ∙ ap (λ t. get_or t y 0) high ∙ made.high y (omega arith);
+    low = λ y inside. sym (low_at_ends g y) ∙ ap (λ t. get_or t y 0) low ∙ made_low.each y (omega arith);
+    high = λ y inside. sym (high_at_ends g y) ∙ ap (λ t. get_or t y 0) high ∙ made_high.each y (omega arith);
   }
 
   pub changed_spread_within : (g : List (Iv B)) → low_ends g ≡ lows → high_ends g ≡ highs
@@ -181,7 +172,7 @@ module _ {B : ℕ} (cells : List (Iv B)) (none : Iv B) (p : Fraction) (lows high
       let d : ℕ → ℕ = λ y. (high_at cells y - all_at_zero none.lo y) - x y in
       let ends = made_ends g low high in
       let sum = widths_sum n S ((S - none.hi) * (S - none.lo)) (S - none.lo) Z (width_at g) d x (all_at_zero 1)
-      (λ y b. rw (ends.high y b, ends.low y b) (cell_width S none.lo none.hi p some none.ordered under one y
+      (λ y b. rw (ends.high y b, ends.low y b) (cell_width S none.lo none.hi p (pow_pos B) none.ordered under one y
       (low_at cells y) (high_at cells y) (low_le_high cells y))) in
       let wide = below_le n d (λ y. width_at cells y + all_at_zero Z y)
       (λ y b. taken_width y (low_at cells y) (high_at cells y) none.lo none.hi none.ordered) in
@@ -203,17 +194,14 @@ module _ {B : ℕ} (cells : List (Iv B)) (none : Iv B) (p : Fraction) (lows high
 
 module _ {B : ℕ} (cells : List (Iv B)) (none : Iv B) (p : Fraction) (u : Aggregate) (grid : IsGrid cells)
     (share : 18 * none.hi ≤ 17 * 2 ^ B) (before : IsBefore u cells none) where
-  positive : 0 < 2 ^ B
-  positive = pow_pos B
-
   below_all : none.hi < 2 ^ B
-  below_all = omega (arith, positive)
+  below_all = below_one B none.hi share
 
   none_order : none.lo over 2 ^ B ≤ℚ none.hi over 2 ^ B
-  none_order = over_le_over _ _ _ positive none.ordered
+  none_order = over_le_over _ _ _ (pow_pos B) none.ordered
 
   none_below : (n : ℕ) → n < 2 ^ B → n over 2 ^ B <ℚ whole 1
-  none_below n h = over_lt n (2 ^ B) 1 1 positive one_pos (omega arith)
+  none_below n h = over_lt n (2 ^ B) 1 1 (pow_pos B) one_pos (omega arith)
 
   pub room_for_none : HasRoomForNone cells none
   room_for_none =
@@ -221,11 +209,11 @@ module _ {B : ℕ} (cells : List (Iv B)) (none : Iv B) (p : Fraction) (u : Aggre
       let k : ℕ = length cells - 1 in
       let all : length cells ≡ suc k = omega arith in
       let add_up : sum_to k (λ y. low_at cells y over S) ≤ℚ whole 1 =
-      subst₂ (λ s t. s ≤ℚ t) (sym (to_over k S (low_at cells) positive)) (over_one S positive)
-      (over_le_over _ _ _ positive (omega (arith, low_within (suc k) cells))) in
+      subst₂ (λ s t. s ≤ℚ t) (sym (to_over k S (low_at cells) (pow_pos B))) (over_one S (pow_pos B))
+      (over_le_over _ _ _ (pow_pos B) (omega (arith, low_within (suc k) cells))) in
       let left : count_below (length cells) (λ y. low_at cells y - all_at_zero none.hi y) ≤ S - none.lo =
       rw all (units_fit k (S - none.lo) (λ y. low_at cells y - all_at_zero none.hi y) _ (omega (arith, below_all))
-      (λ y b. quotient_is_below S none.lo none.hi p positive none.ordered below_all y (low_at cells y))
+      (λ y b. quotient_is_below S none.lo none.hi p (pow_pos B) none.ordered below_all y (low_at cells y))
       (unit_changed_lows (whole 0) u before.declared (none.lo over S) (none.hi over S) k
       (λ y. low_at cells y over S) (zero_le (whole 1)) (λ y b. (before.grid y (omega arith)).0)
       before.none.0 none_order (none_below none.lo (omega (arith, below_all))) add_up)) in
@@ -242,15 +230,15 @@ module _ {B : ℕ} (cells : List (Iv B)) (none : Iv B) (p : Fraction) (u : Aggre
       let h = high_changed S none.lo none.hi p y (high_at cells y) in
       let low = ends.low y here in
       let high = ends.high y here in (
-        at_least_wider (F.cells y) F.all _ _ held.0 (le_trans _ _ _ (over_le_over _ _ S positive (omega (arith, low)))
-            (low_is_below S none.lo none.hi p positive none.ordered below_all y (low_at cells y))),
+        at_least_wider (F.cells y) F.all _ _ held.0 (le_trans _ _ _ (over_le_over _ _ S (pow_pos B) (omega (arith, low)))
+            (low_is_below S none.lo none.hi p (pow_pos B) none.ordered below_all y (low_at cells y))),
         elim (cases_lt S h) [
           | inl far ↦ at_most_wider (F.cells y) F.all (whole 1) _
               (cell_at_most_one F (loss_proper (changed p u) (changed_is_loss p u before.declared.unit
               (le_of_lt _ _ one))) y)
-              (le_of_eq _ _ (sym (over_one S positive) ∙ ap (λ t. t over S) (omega (arith, high))))
+              (le_of_eq _ _ (sym (over_one S (pow_pos B)) ∙ ap (λ t. t over S) (omega (arith, high))))
           | inr near ↦ at_most_wider (F.cells y) F.all _ _ held.1
-              (le_trans _ _ _ (high_is_above S none.lo none.hi p positive none.ordered below_all y (high_at cells y))
-              (over_le_over _ _ S positive (omega (arith, high))))
+              (le_trans _ _ _ (high_is_above S none.lo none.hi p (pow_pos B) none.ordered below_all y (high_at cells y))
+              (over_le_over _ _ S (pow_pos B) (omega (arith, high))))
         ],
       )

@@ -13,10 +13,7 @@ pub use Rattle.dl_exact.proofs.Over.{le_over, over_div, over_lt, over_same, over
 pub use Rattle.dl_exact.proofs.RoundingLaws.{div_ceil_least, part_within}
 pub use Rattle.dl_exact.proofs.SumsOver.{to_over}
 unfoldable pub use Rattle.dl_exact.specs.Count.{count_below}
-pub use Rattle.dl_exact.specs.Fraction.{Fraction, whole, ◌*ℚ◌, ◌+ℚ◌, ◌-ℚ◌, ◌/ℚ◌, ◌<ℚ◌, ◌over◌, ◌≤ℚ◌}
-pub use Rattle.dl_exact.specs.Sum.{sum_to}
 pub use Rattle.dl_grid.proofs.CellLaws.{one_fits, size_of}
-pub use Rattle.dl_grid.specs.Cells.{AreEnds, IsGrid, high_at, high_ends, low_at, low_ends, mass_low, spread}
 unfoldable pub use Rattle.dl_grid.specs.Cells.{all_at_zero}
 pub use Rattle.dl_iv.proofs.Operations.{add_high, add_low, div_high, div_low, enclose_high, enclose_low, scale_high, scale_low}
 pub use Rattle.dl_iv.proofs.Rounding.{floor_le_ceiling}
@@ -29,11 +26,13 @@ pub use Rattle.dl_model.proofs.FamilyLaws.{cell_at_most_one, sum_rises_to}
 pub use Rattle.dl_model.proofs.Outcomes.{loss_proper, mean_alone, total_alone_all}
 pub use Rattle.dl_model.proofs.Picks.{off, on}
 pub use Rattle.dl_model.proofs.UnitLaws.{unit_loss, unit_within}
+unfoldable pub use Rattle.dl_zero.specs.Ends.{high_changed, low_changed}
+pub use Rattle.dl_exact.specs.Prelude.{Fraction, whole, ◌*ℚ◌, ◌+ℚ◌, ◌-ℚ◌, ◌/ℚ◌, ◌<ℚ◌, ◌over◌, ◌≤ℚ◌, sum_to}
+pub use Rattle.dl_grid.specs.Cells.{AreEnds, IsGrid, high_at, low_at, mass_low, spread, high_ends, low_ends}
 pub use Rattle.dl_model.specs.ChangedZero.{changed, changed_end, with_claims, without_none}
 pub use Rattle.dl_model.specs.Measures.{IsDeclaredLoss, level_mean}
-pub use Rattle.dl_model.specs.Program.{IsLoss, Loss, Mean, One, partial_sums, where_true}
-pub use Rattle.dl_model.specs.Series.{AtLeast, AtMost, Holds, IsBound, Rises, SameValue, Series}
-pub use Rattle.dl_model.specs.Units.{Aggregate, IsDeclarable, IsDeclared, loss, outcome}
+pub use Rattle.dl_model.specs.Program.{Loss, Mean, One, partial_sums, where_true, IsLoss}
+pub use Rattle.dl_model.specs.Series.{AtLeast, AtMost, Holds, IsBound, Series, Rises, SameValue}
+pub use Rattle.dl_model.specs.Units.{Aggregate, IsDeclared, loss, IsDeclarable, outcome}
 pub use Rattle.dl_zero.specs.Before.{HoldsMean, HoldsNone, IsBefore}
 pub use Rattle.dl_zero.specs.Ends.{AreChangedEnds, HasRoomForNone}
-unfoldable pub use Rattle.dl_zero.specs.Ends.{high_changed, low_changed}

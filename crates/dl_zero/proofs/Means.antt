@@ -1,10 +1,8 @@
 -- The ends of the mean after the change, and what ends of enclosed values are at most.
-use Rattle.dl_zero.proofs.Common.{ends_in_order, ℕ, ◌≡◌, ◌-◌, ◌*◌, ◌/◌, ◌<◌, ◌≤◌, arith, sym, ap, subst, ◌∙◌, [], ◌∷◌, div_ceil, Fraction, whole, ◌over◌, ◌-ℚ◌, ◌*ℚ◌, ◌/ℚ◌, ◌≤ℚ◌, ◌<ℚ◌, sum_to, one_pos, ring, le_refl, le_of_eq, le_of_lt, le_over, over_lt, over_le_over, scale_low, scale_high, div_low, div_high, AtMost, Holds, Loss, One, Mean, partial_sums, IsDeclaredLoss, level_mean, Aggregate, IsDeclared, loss, changed, at_least_wider, at_most_wider, sum_rises_to, loss_proper, unit_loss, changed_mean_values}
+use Rattle.dl_zero.proofs.Common.{HoldsMean, HoldsNone, ends_in_order, Iv, pow_pos, ◌^◌, ℕ, ◌≡◌, ◌-◌, ◌*◌, ◌/◌, ◌<◌, ◌≤◌, arith, sym, ap, subst, ◌∙◌, [], ◌∷◌, div_ceil, Fraction, whole, ◌over◌, ◌-ℚ◌, ◌*ℚ◌, ◌/ℚ◌, ◌≤ℚ◌, ◌<ℚ◌, sum_to, one_pos, ring, le_refl, le_of_eq, le_of_lt, le_over, over_lt, over_le_over, scale_low, scale_high, div_low, div_high, AtMost, Holds, Loss, One, Mean, partial_sums, IsDeclaredLoss, level_mean, Aggregate, IsDeclared, loss, changed, at_least_wider, at_most_wider, sum_rises_to, loss_proper, unit_loss, changed_mean_values}
 use Rattle.dl_model.proofs.TailScores.{div_is_times}
 use Rattle.dl_zero.proofs.Values.{rest_of, rest_units, rest_positive}
 use Rattle.dl_zero.proofs.Losses.{changed_is_loss, mean_same, mean_held}
-
--- ---- the mean
 
 module _ (S lo hi nl nh : ℕ) (p : Fraction) (pos : 0 < S) (order : nl ≤ nh) (below : nh < S) (one : p <ℚ whole 1) where
   -- the part first and the quotient after
@@ -47,21 +45,16 @@ module _ (S lo hi nl nh : ℕ) (p : Fraction) (pos : 0 < S) (order : nl ≤ nh) 
             high (le_of_eq _ _ (rest_units S nh pos)))),
       )
 
--- ---- low ends
+pub none_low : (B : ℕ) (u : Aggregate) (none : Iv B) → IsDeclared u → HoldsNone u none
+    → AtMost (λ N. u.count 0) (λ N. sum_to N u.count) (16 over 17) → 17 * none.lo ≤ 16 * 2 ^ B
+none_low B u none d held most =
+    let order = ends_in_order (λ N. sum_to N u.count) (sum_rises_to u.count) d.count.bound d.count.level d.count.bounded
+    d.count.positive (λ N. u.count 0) (none.lo over 2 ^ B) (16 over 17) held.0 most in
+    omega (arith, le_over none.lo (2 ^ B) 16 17 (pow_pos B) (omega arith) order)
 
-pub none_low : (S nl : ℕ) (u : Aggregate) → 0 < S → IsDeclared u
-    → (nh : Fraction) → Holds (λ N. u.count 0) (λ N. sum_to N u.count) (nl over S) nh
-    → AtMost (λ N. u.count 0) (λ N. sum_to N u.count) (16 over 17) → 17 * nl ≤ 16 * S
-none_low S nl u pos d nh held most =
-    let order = ends_in_order (λ N. sum_to N u.count) (sum_rises_to u.count) d.count.bound d.count.level
-    d.count.bounded d.count.positive (λ N. u.count 0) (nl over S) (16 over 17) held.0 most in
-    omega (arith, le_over nl S 16 17 pos (omega arith) order)
-
-pub mean_low : (S lo m : ℕ) (l : Loss) → 0 < S → IsDeclaredLoss l → (hi : Fraction)
-    → Holds (partial_sums (l ∷ []) Mean) (partial_sums (l ∷ []) One) (lo over S) hi
-    → AtMost (partial_sums (l ∷ []) Mean) (partial_sums (l ∷ []) One) (whole m) → lo ≤ m * S
-mean_low S lo m l pos d hi held most =
-    let order = ends_in_order l.family.all (loss_proper l d.loss).all_rises d.bound d.level d.bounded d.positive
-    (level_mean l) (lo over S) (whole m) ((mean_held l _ _ d.loss).0 held).0
-    (((mean_same l d.loss).1 (whole m)).0 most) in
-    omega (arith, le_over lo S m 1 pos one_pos order)
+pub mean_low : (B : ℕ) (l : Loss) (m : ℕ) (mean : Iv B) → IsDeclaredLoss l → HoldsMean l mean
+    → AtMost (partial_sums (l ∷ []) Mean) (partial_sums (l ∷ []) One) (whole m) → mean.lo ≤ m * 2 ^ B
+mean_low B l m mean d held most =
+    let order = ends_in_order l.family.all (loss_proper l d.loss).all_rises d.bound d.level d.bounded d.positive (level_mean l)
+    (mean.lo over 2 ^ B) (whole m) ((mean_held l _ _ d.loss).0 held).0 (((mean_same l d.loss).1 (whole m)).0 most) in
+    omega (arith, le_over mean.lo (2 ^ B) m 1 (pow_pos B) one_pos order)

@@ -10,8 +10,7 @@ returns-then-y-from-clause-low g c x inside =
 pub returns-then-y-from-clause-high : goal.returns-then-y-from-clause-high
 returns-then-y-from-clause-high g c x inside =
     rw c.set.ensures (high_more c.args.grid.now c.args.y x c.clamp_to.result c.args.more.hi (2 ^ g.row.B) (omega arith)
-    (omega arith)
-    (high_end c.args.grid.now x c.cells.ensures.grid))
+    (omega arith) (high_end c.args.grid.now x c.cells.ensures.grid))
 
 pub returns-then-y-from-clause-mass : goal.returns-then-y-from-clause-mass
 returns-then-y-from-clause-mass g c = rw c.set.ensures

@@ -10,7 +10,5 @@ returns-clause-encloses g c =
     ∙ ap option_copied c.unwrap-cede.ensures in
     if_ok_three c.kept_cells.result _ _ _ _
     (λ grid cells inside past. encloses c.args.unit.now c.unwrap-cede.result.now c.requires.valid.0 c.requires.valid.1
-    is c.args.grid.now
-    grid c.args.cells
-    c.requires.horizon c.requires.encloses cells inside past)
+    is c.args.grid.now grid c.args.cells c.requires.horizon c.requires.encloses cells inside past)
     c.kept_cells.ensures.cells c.kept_cells.ensures.inside c.kept_cells.ensures.past

@@ -26,8 +26,7 @@ loop-s-preserved g c =
       | in-Some+else-x-from w ↦
           let here : kept c.args.cede.now c.loop-s.s ≡ whole w.in-Some.x =
           ap (kept c.args.cede.now) (sym c.from.ensures) ∙ w.in-Some.ensures.value in
-          rw w.total-is (same_skipped c.loop-s.invariant w.in-Some.x here
-          (w.if-x-from.false ∙ w.from-in-Some.ensures))
+          rw w.total-is (same_skipped c.loop-s.invariant w.in-Some.x here (w.if-x-from.false ∙ w.from-in-Some.ensures))
       | in_default w ↦ rw w.total-is (none_skipped c.loop-s.invariant
           (subst (λ t. ¬ IsWhole (kept c.args.cede.now t)) c.from.ensures w.in_default.ensures.value))
     ]

@@ -9,8 +9,7 @@ set-requires g c =
     let at = c.in-Some.ensures.0 in
     let inside : c.in-Some.y < length c.in_ok-grid.grid = omega (arith, at, c.in_ok-grid.ensures.cells) in
     let fits = rest_mass inside (c.in_ok-grid.ensures.ends c.in-Some.y at) c.complement.result.lo
-    c.in_ok-grid.ensures.mass (omega arith)
-    (omega arith) in
+    c.in_ok-grid.ensures.mass (omega arith) (omega arith) in
     (omega arith, (omega arith, (inside, (omega arith, fits))))
 
 pub returns : goal.returns

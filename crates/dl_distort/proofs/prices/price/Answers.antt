@@ -1,10 +1,7 @@
 use Rattle.dl_distort.proofs.Common.{◌≡◌, ◌+◌, ◌-◌, ◌^◌, ◌≤◌, arith, length, refl, subst, sym, All, None, true, false, All-more, take_all, whole, ◌<ℚ◌, low_at, spread, low_cdf, IsFirstFound}
 use Rattle.dl_distort.proofs.Sums.{start, step, weight_within, sum_small, all_hold, all_least, all_narrow}
-use Rattle.dl_distort.proofs.Widths.{price_rises}
+use Rattle.dl_distort.proofs.Parts.{price_rises}
 use Rattle.dl_distort.proofs.prices.price.Goals as goal
-
-some_none : true ≡ false → ⊥
-some_none e = cc
 
 pub loop-term-init : goal.loop-term-init
 loop-term-init g c = record {
@@ -14,12 +11,10 @@ loop-term-init g c = record {
 
 pub weighted_tail-requires : goal.weighted_tail-requires
 weighted_tail-requires g c =
-    let i = c.loop-term.term-index in
-    let inside = c.loop-term-test.true in
-    let below = subst (λ t. t.p <ℚ whole 1) (sym c.term-item.is) (c.requires.below_one i _ inside) in
-    let small = subst (λ t. t.p.den ≤ 1000000000) (sym c.term-item.is) (c.requires.small i _ inside) in
-    let part = weight_within c.args.terms.now i c.term-item.result inside (sym c.term-item.is)
-    c.requires.priced.total in
+    let below = subst (λ t. t.p <ℚ whole 1) (sym c.term-item.is) (c.requires.below_one _ _ c.loop-term-test.true) in
+    let small = subst (λ t. t.p.den ≤ 1000000000) (sym c.term-item.is) (c.requires.small _ _ c.loop-term-test.true) in
+    let part = weight_within c.args.terms.now c.loop-term.term-index c.term-item.result c.loop-term-test.true
+    (sym c.term-item.is) c.requires.priced.total in
     (omega arith, (omega arith, (below, (small, (part, c.requires.mean)))))
 
 pub returns-in_err-weighted_tail-clause-none : goal.returns-in_err-weighted_tail-clause-none
@@ -52,12 +47,12 @@ loop-term-preserved g c = record {
   found = All-more (λ t. IsFirstFound (low_cdf (2 ^ g.row.B) (low_at c.args.g.now)) t.p (length c.args.g.now) None → ⊥)
       c.args.terms.now c.loop-term.term-index c.term-item.result c.loop-term-test.true c.loop-term.invariant.found
       (subst (λ t. IsFirstFound (low_cdf (2 ^ g.row.B) (low_at c.args.g.now)) t.p (length c.args.g.now) None → ⊥)
-      c.term-item.is (λ none. absurd (some_none (c.in_ok-weighted_tail.ensures.none.1 none))));
+      c.term-item.is (λ none. let some = c.in_ok-weighted_tail.ensures.none.1 none in absurd (cc)));
 }
 
 pub returns-clause-none : goal.returns-clause-none
 returns-clause-none g c = (
-  λ e. absurd (some_none e),
+  λ e. absurd (cc),
   λ any. absurd (subst (All (λ t. IsFirstFound (low_cdf (2 ^ g.row.B) (low_at c.args.g.now)) t.p
       (length c.args.g.now) None → ⊥)) (take_all c.loop-term.term-index c.args.terms.now c.loop-term-test.false)
       c.loop-term.invariant.found any.0 any.1 any.2 (subst (λ t. IsFirstFound (low_cdf (2 ^ g.row.B)

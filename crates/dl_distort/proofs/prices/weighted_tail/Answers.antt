@@ -31,13 +31,11 @@ returns-clause-holds g c us q d e mean is =
 pub returns-clause-width : goal.returns-clause-width
 returns-clause-width g c =
     part_narrow c.args.term.weight c.in_ok-tail.tail.lo c.in_ok-tail.tail.hi _ c.part.result.lo c.part.result.hi
-    c.in_ok-tail.ensures.width
-    (cc) (cc)
+    c.in_ok-tail.ensures.width (cc) (cc)
 
 pub returns-clause-most : goal.returns-clause-most
 returns-clause-most g c =
     part_small c.args.term.weight c.in_ok-tail.tail.hi _ c.part.result.hi
     (tail_small (length c.args.g.now * 2 ^ g.row.B) c.args.mean.hi c.args.term.p.den c.in_ok-tail.tail.hi
     (omega (arith, cells_fit c.args.g.now (length c.args.g.now) c.cells.ensures.grid (omega arith)))
-    c.requires.mean c.requires.small c.in_ok-tail.ensures.most)
-    (cc)
+    c.requires.mean c.requires.small c.in_ok-tail.ensures.most) (cc)

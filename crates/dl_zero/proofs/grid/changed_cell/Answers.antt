@@ -1,11 +1,7 @@
-use Rattle.dl_zero.proofs.Common.{ℕ, ◌≡◌, ◌-◌, ◌*◌, ◌<◌, ◌^◌, ◌≤◌, arith, div_ceil, pow_pos, one_fits}
-use Rattle.dl_zero.proofs.Rounded.{quotient_small, quotient_fits, rest_fits, scale_fits}
+use Rattle.dl_zero.proofs.Common.{◌-◌, ◌<◌, ◌^◌, arith, pow_pos, one_fits}
+use Rattle.dl_zero.proofs.Rounded.{part_fits, quotient_fits, rest_fits}
 use Rattle.dl_grid.proofs.CellSets.{at_zero_small}
 use Rattle.dl_zero.proofs.grid.changed_cell.Goals as goal
-
--- the quotient before the part
-small : (x S R q : ℕ) → q ≡ div_ceil (x * S) R → 0 < S → S ≤ 18 * R → x ≤ 2 ^ 56 → q ≤ 18 * 2 ^ 56
-small x S R q e pos share fits = omega (arith, quotient_small x S R (omega arith) share)
 
 pub div-claims-requires : goal.div-claims-requires
 div-claims-requires g c =
@@ -18,16 +14,13 @@ div-claims-requires g c =
 
 pub scale-part-requires : goal.scale-part-requires
 scale-part-requires g c =
-    let one = one_fits g.row.B c.args.none.scale_below in
-    let quotient = small _ _ _ _ c.div-claims.ensures.high (pow_pos g.row.B) (omega arith) (omega arith) in
-    let fits = scale_fits c.div-claims.result.hi (c.den.result - c.num.result) c.den-2.result (omega arith)
-    c.den-2.ensures.positive (omega arith) (omega arith) in
+    let fits = part_fits g.row.B _ _ _ (c.den.result - c.num.result) _ c.args.none.scale_below c.div-claims.ensures.high
+    (omega arith) (omega arith) c.den-2.ensures.positive (omega arith) (omega arith) in
     (omega arith, (c.den-2.ensures.positive, (fits.0, omega arith)))
 
 pub add-requires : goal.add-requires
 add-requires g c =
+    let fits = part_fits g.row.B _ _ _ (c.den.result - c.num.result) _ c.args.none.scale_below c.div-claims.ensures.high
+    (omega arith) (omega arith) c.den-2.ensures.positive (omega arith) (omega arith) in
     let one = one_fits g.row.B c.args.none.scale_below in
-    let quotient = small _ _ _ _ c.div-claims.ensures.high (pow_pos g.row.B) (omega arith) (omega arith) in
-    let fits = scale_fits c.div-claims.result.hi (c.den.result - c.num.result) c.den-2.result (omega arith)
-    c.den-2.ensures.positive (omega arith) (omega arith) in
     (omega arith, omega (arith, at_zero_small c.args.at_0.hi c.args.y))

@@ -1,5 +1,5 @@
 use Rattle.dl_zero.proofs.Common.{rules, ◌^◌, ℕ, ◌≡◌, ◌*◌, ◌<◌, ◌≤◌, arith, ap₂, ◌∙◌, div_ceil, num_below, part_within, low_changed, high_changed}
-use Rattle.dl_zero.proofs.Cells.{none_changed, one_changed, changed_ends, made_ends, changed_spread_within}
+use Rattle.dl_zero.proofs.Cells.{none_made, one_more, changed_ends, made_ends, changed_spread_within}
 use Rattle.dl_zero.proofs.grid.changed_cells.Goals as goal
 
 -- p in units is at most 1
@@ -18,28 +18,31 @@ changed_cell-cell-requires g c =
     search rules
 
 pub loop-y-init : goal.loop-y-init
-loop-y-init g c = none_changed _ _ _ _ _ _ c.in_ok-lows.ensures.items c.in_ok-highs.ensures.items
+loop-y-init g c = record { low = none_made _ c.in_ok-lows.ensures.items; high = none_made _ c.in_ok-highs.ensures.items }
 
 pub loop-y-preserved : goal.loop-y-preserved
 unfolding low_changed high_changed
 loop-y-preserved g c =
     let num : c.from.result ≡ c.args.p.num = omega arith in
     let den : c.from-2.result ≡ c.args.p.den = omega arith in
-    one_changed c.loop-y.invariant c.in_ok-push.ensures.items c.in_ok-push-2.ensures.items (cc) (cc)
+    record {
+      low = one_more c.loop-y.invariant.low c.in_ok-push.ensures.items (cc);
+      high = one_more c.loop-y.invariant.high c.in_ok-push-2.ensures.items (cc);
+    }
 
 pub from_ends-requires : goal.from_ends-requires
 from_ends-requires g c = (
   omega arith,
   changed_ends c.args.grid.now c.args.none c.args.p _ _ _ c.cells-cells.ensures.grid c.requires.below_one
-      c.requires.some_claim c.requires.room (omega arith) c.loop-y.invariant,
+      c.requires.some_claim c.requires.room (omega arith) c.loop-y.invariant.low c.loop-y.invariant.high,
 )
 
 pub returns-clause-ends : goal.returns-clause-ends
 returns-clause-ends g c = made_ends c.args.grid.now c.args.none c.args.p _ _ _ c.cells-cells.ensures.grid
-    c.requires.below_one c.requires.some_claim c.requires.room (omega arith) c.loop-y.invariant _
+    c.requires.below_one c.requires.some_claim c.requires.room (omega arith) c.loop-y.invariant.low c.loop-y.invariant.high _
     c.from_ends.ensures.low c.from_ends.ensures.high
 
 pub returns-clause-spread : goal.returns-clause-spread
 returns-clause-spread g c = changed_spread_within c.args.grid.now c.args.none c.args.p _ _ _
     c.cells-cells.ensures.grid c.requires.below_one c.requires.some_claim c.requires.room (omega arith)
-    c.loop-y.invariant _ c.from_ends.ensures.low c.from_ends.ensures.high
+    c.loop-y.invariant.low c.loop-y.invariant.high _ c.from_ends.ensures.low c.from_ends.ensures.high
