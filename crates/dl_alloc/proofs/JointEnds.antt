@@ -1,5 +1,5 @@
 -- The joint mean from the grids of a unit and of the others.
-use Rattle.dl_alloc.proofs.Common.{◌≡◌, ℕ, suc, zero, ◌*◌, ◌<◌, arith, sym, ap, subst, subst₂, ◌∙◌, List, [], ◌∷◌, length, whole, ◌over◌, ◌*ℚ◌, over_same, over_mul, one_pos, le_refl, times_left_comm, times_le_both, Series, Rises, AtMost, AtLeast, Holds, times, count_pairs, Loss, AreDeclarable, One, Joint, partial_sums, total, IsProper, Encloses, unit_of, without, scaled, at_most_times, at_least_times, loss_proper, total_proper, total_more_all}
+use Rattle.dl_alloc.proofs.Common.{◌≡◌, ℕ, suc, zero, ◌*◌, ◌<◌, arith, sym, ap, subst, subst₂, ◌∙◌, List, [], ◌∷◌, length, whole, ◌over◌, ◌*ℚ◌, over_same, over_mul, one_pos, le_refl, times_left_comm, times_le_both, Series, Rises, AtMost, AtLeast, Holds, times, count_pairs, Loss, AreDeclarable, One, Point, Joint, partial_sums, total, IsProper, Encloses, unit_of, without, scaled, at_most_times, at_least_times, loss_proper, total_proper, total_more_all}
 use Rattle.std.proofs.Common.{mul-pos}
 use mathlib.Core.Path.{fun_ext}
 use Rattle.dl_exact.specs.Sum.{sum_pairs}
@@ -8,6 +8,8 @@ use Rattle.dl_model.proofs.FamilyLaws.{sum_at_most, sum_at_least, rises_times, n
 use Rattle.dl_exact.proofs.SumsOver.{sum_pairs_over}
 use Rattle.dl_model.proofs.Without.{without_units}
 use Rattle.dl_model.proofs.Joint.{joint_cells}
+use Rattle.dl_model.proofs.Outcomes.{total_more}
+use Rattle.dl_model.proofs.Powers.{convolve_first}
 
 unit_of_proper : (us : List Loss) (i : ℕ) → AreDeclarable us → IsProper (unit_of us i)
 unit_of_proper [] i h = nothing_proper
@@ -22,6 +24,17 @@ all_split (u ∷ us) h (suc i) N b =
     total_more_all u us h.0 N ∙ ap (λ t. u.family.all N *ℚ t) (all_split us h.1 i N (omega arith))
     ∙ times_left_comm _ _ _
     ∙ ap (λ t. (unit_of us i).all N *ℚ t) (sym (total_more_all u (without us i) h.0 N))
+
+pub cells_split : (us : List Loss) → AreDeclarable us → (i k N : ℕ) → i < length us → partial_sums us (Point k) N
+    ≡ sum_pairs k (λ y z. (unit_of us i).cells y N *ℚ partial_sums (without us i) (Point z) N)
+cells_split [] h i k N b = absurd (omega arith)
+cells_split (u ∷ us) h zero k N b = total_more u us h.0 k N
+cells_split (u ∷ us) h (suc i) k N b =
+    total_more u us h.0 k N
+    ∙ sum_pairs_same k _ _ (λ y z e. ap (λ t. u.family.cells y N *ℚ t) (cells_split us h.1 i z N (omega arith)))
+    ∙ convolve_first (λ y. (unit_of us i).cells y N) (λ y. u.family.cells y N)
+    (λ z. partial_sums (without us i) (Point z) N) k
+    ∙ sum_pairs_same k _ _ (λ y z e. ap (λ t. (unit_of us i).cells y N *ℚ t) (sym (total_more u (without us i) h.0 z N)))
 
 term : (y a b S : ℕ) → 0 < S → whole y *ℚ a over S *ℚ b over S ≡ (y * a * b) over (S * S)
 term y a b S s =

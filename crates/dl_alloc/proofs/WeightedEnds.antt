@@ -1,11 +1,11 @@
 -- The joint mean from the grids of a unit and of the others: what its ends hold, and how far apart they lie.
-use Rattle.dl_alloc.proofs.Common.{ℕ, ◌≡◌, ◌+◌, ◌-◌, ◌*◌, ◌/◌, ◌^◌, ◌<◌, ◌≤◌, List, length, arith, ap₂, div_ceil, mul-le-mul, mul-le-mul_left, mul-le-mul_right, mul-pos, le_trans, pow_pos, ◌over◌, le_refl, div_ceil_least, round_down, round_up, floor_le_ceiling, low_at, high_at, spread, IsGrid, count_pairs, count_below, size_of, cells_fit, grid_room, size_within, below_same, below_plus, pairs_le, pairs_same, Holds, Loss, AreDeclarable, One, Joint, partial_sums, total, GridEncloses, unit_of, without, at_least_wider, at_most_wider, low_weighted, high_weighted}
+use Rattle.dl_alloc.proofs.Common.{ℕ, ◌≡◌, ◌+◌, ◌-◌, ◌*◌, ◌/◌, ◌^◌, ◌<◌, ◌≤◌, List, length, arith, ap₂, div_ceil, mul-le-mul, mul-le-mul_left, mul-le-mul_right, mul-pos, le_trans, pow_pos, ◌over◌, le_refl, div_ceil_least, round_down, round_up, low_at, high_at, spread, IsGrid, count_pairs, count_below, size_of, cells_fit, grid_room, size_within, below_same, below_plus, pairs_le, pairs_same, Holds, Loss, AreDeclarable, One, Joint, partial_sums, total, GridEncloses, unit_of, without, at_least_wider, at_most_wider, low_weighted, high_weighted}
 use Rattle.dl_iv.specs.declared.interval.Iv.{Iv}
 use Rattle.dl_grid.specs.Prelude.{convolution_spread, HasRoom}
 use Rattle.dl_grid.proofs.PlaceSums.{width_at, high_is, low_within, width_within}
 use Rattle.dl_grid.proofs.WidthLaws.{cv_is}
 use Rattle.dl_alloc.proofs.JointEnds.{joint_ends}
-use Rattle.dl_alloc.proofs.WeightedSums.{weighted_top, weighted_width, one_more, one_more_fits}
+use Rattle.dl_alloc.proofs.WeightedSums.{weighted_top, weighted_width}
 
 -- ---- how large they are
 
@@ -19,13 +19,24 @@ high_mass cells n grid narrow =
 top : (S x : ℕ) → x * (2 * S) * (2 * S) ≡ 4 * x * S * S
 top S x = omega arith
 
+-- where the sums of the weights are at most 2, all sums fit
+pub fits : (S x sum : ℕ) → 0 < S → HasRoom (x + 1) S → sum ≤ x * (2 * S) * (2 * S) → sum < 2 ^ 128
+fits S x sum some room h = omega (arith, top S x, room.sums, mul-pos some some)
+
+pub room_of : {B : ℕ} (cells : List (Iv B)) (x : ℕ) → IsGrid cells → x < length cells → HasRoom (x + 1) (2 ^ B)
+room_of cells x grid inside = grid_room (size_within (size_of cells grid) (omega arith) (omega arith))
+
 module _ {B : ℕ} (unit others : List (Iv B)) (x : ℕ) (p : IsGrid unit) (q : IsGrid others) (v : spread unit < 2 ^ B)
     (w : spread others < 2 ^ B) where
+  high_most : high_weighted unit others x ≤ x * (2 * 2 ^ B) * (2 * 2 ^ B)
+  high_most = weighted_top x (2 * 2 ^ B) (2 * 2 ^ B) (high_at unit) (high_at others)
+      (high_mass unit (x + 1) p v) (high_mass others (x + 1) q w)
+
+  pub high_room : x < length unit → high_weighted unit others x < 2 ^ 128
+  high_room inside = fits (2 ^ B) x _ (pow_pos B) (room_of unit x p inside) high_most
+
   pub end_top : div_ceil (high_weighted unit others x) (2 ^ B) ≤ 4 * x * 2 ^ B
-  end_top =
-      let most = weighted_top x (2 * 2 ^ B) (2 * 2 ^ B) (high_at unit) (high_at others)
-      (high_mass unit (x + 1) p v) (high_mass others (x + 1) q w) in
-      div_ceil_least _ (2 ^ B) (4 * x * 2 ^ B) (pow_pos B) (omega (arith, top (2 ^ B) x))
+  end_top = div_ceil_least _ (2 ^ B) (4 * x * 2 ^ B) (pow_pos B) (omega (arith, top (2 ^ B) x, high_most))
 
   pub end_fits : x < length unit → div_ceil (high_weighted unit others x) (2 ^ B) ≤ 2 ^ 127
   end_fits inside = omega (arith, end_top, cells_fit unit x p (omega arith))
@@ -34,47 +45,10 @@ module _ {B : ℕ} (unit others : List (Iv B)) (x : ℕ) (p : IsGrid unit) (q : 
 pub end_divisible : (one x hi : ℕ) → hi ≤ 4 * x * one → 4 * x * one * one ≤ 2 ^ 127 → hi * one ≤ 2 ^ 127
 end_divisible one x hi h room = le_trans (mul-le-mul_right one h) room
 
-pub ends_order : {B : ℕ} (unit others : List (Iv B)) (x : ℕ)
-    → low_weighted unit others x / 2 ^ B ≤ div_ceil (high_weighted unit others x) (2 ^ B)
-ends_order {B} unit others x =
-    floor_le_ceiling _ _ (2 ^ B) (2 ^ B) (pow_pos B) (omega arith)
-    (pairs_le x (λ y z. y * low_at unit y * low_at others z) (λ y z. y * high_at unit y * high_at others z)
-    (λ y z. mul-le-mul (mul-le-mul_left y (omega (arith, high_is unit y))) (omega (arith, high_is others z))))
-
--- ---- a walk over the outcomes of the unit
-
--- where the sums of the weights are at most 2, all sums fit
-pub fits : (S x sum : ℕ) → 0 < S → HasRoom (x + 1) S → sum ≤ x * (2 * S) * (2 * S) → sum < 2 ^ 128
-fits S x sum some room h = omega (arith, top S x, room.sums, mul-pos some some)
-
-pub room_of : {B : ℕ} (cells : List (Iv B)) (x : ℕ) → IsGrid cells → x < length cells → HasRoom (x + 1) (2 ^ B)
-room_of cells x grid inside = grid_room (size_within (size_of cells grid) (omega arith) (omega arith))
-
--- the sum with one outcome more
-step : (S x y sum u v : ℕ) (f g : ℕ → ℕ) → 0 < S → HasRoom (x + 1) S → count_below (x + 1) f ≤ 2 * S
-    → count_below (x + 1) g ≤ 2 * S → y ≤ x → u ≡ f y → v ≡ g (x - y)
-    → sum ≡ count_below y (λ y. y * f y * g (x - y))
-    → (sum + y * u * v ≡ count_below (y + 1) (λ y. y * f y * g (x - y))) × (sum + y * u * v < 2 ^ 128)
-step S x y sum u v f g some room p q here own other e = (
-  one_more y x sum u v f g e own other,
-  fits S x _ some room (one_more_fits y x (2 * S) (2 * S) sum u v f g here e own other p q),
-)
-
-module _ {B : ℕ} (unit others : List (Iv B)) (x y : ℕ) {sum u v : ℕ} (p : IsGrid unit) (q : IsGrid others)
-    (inside : x < length unit) (here : y ≤ x) where
-  pub low_step : u ≡ low_at unit y → v ≡ low_at others (x - y)
-      → sum ≡ count_below y (λ y. y * low_at unit y * low_at others (x - y))
-      → (sum + y * u * v ≡ count_below (y + 1) (λ y. y * low_at unit y * low_at others (x - y)))
-      × (sum + y * u * v < 2 ^ 128)
-  low_step = step (2 ^ B) x y sum u v (low_at unit) (low_at others) (pow_pos B) (room_of unit x p inside)
-      (omega (arith, low_within (x + 1) unit)) (omega (arith, low_within (x + 1) others)) here
-
-  pub high_step : spread unit < 2 ^ B → spread others < 2 ^ B → u ≡ high_at unit y → v ≡ high_at others (x - y)
-      → sum ≡ count_below y (λ y. y * high_at unit y * high_at others (x - y))
-      → (sum + y * u * v ≡ count_below (y + 1) (λ y. y * high_at unit y * high_at others (x - y)))
-      × (sum + y * u * v < 2 ^ 128)
-  high_step narrow thin = step (2 ^ B) x y sum u v (high_at unit) (high_at others) (pow_pos B) (room_of unit x p inside)
-      (high_mass unit (x + 1) p narrow) (high_mass others (x + 1) q thin) here
+pub sums_order : {B : ℕ} (unit others : List (Iv B)) (x : ℕ) → low_weighted unit others x ≤ high_weighted unit others x
+sums_order unit others x =
+    pairs_le x (λ y z. y * low_at unit y * low_at others z) (λ y z. y * high_at unit y * high_at others z)
+    (λ y z. mul-le-mul (mul-le-mul_left y (omega (arith, high_is unit y))) (omega (arith, high_is others z)))
 
 -- ---- what they hold
 

@@ -1,6 +1,6 @@
 -- Sums of y * f y * g z over all y + z = x, in plain numbers: how large they are, and how far apart two of them lie
 -- once rounded.
-use Rattle.dl_alloc.proofs.Common.{ℕ, suc, ◌≡◌, ◌+◌, ◌-◌, ◌*◌, ◌/◌, ◌<◌, ◌≤◌, arith, ap, ap₂, ◌∙◌, div_ceil, mul-le-mul, mul-le-mul_left, mul-le-mul_right, le_of_mul-le-mul_right, lt-div-mul-add, le_trans, div_ceil_times, ceiling_reaches, count_pairs, count_below, below_grows, below_more, below_le, below_times, below_pairs, pairs_same, pairs_within}
+use Rattle.dl_alloc.proofs.Common.{ℕ, ◌≡◌, ◌+◌, ◌-◌, ◌*◌, ◌/◌, ◌<◌, ◌≤◌, arith, ◌∙◌, div_ceil, mul-le-mul, mul-le-mul_left, mul-le-mul_right, le_of_mul-le-mul_right, lt-div-mul-add, le_trans, div_ceil_times, ceiling_reaches, count_pairs, count_below, below_more, below_le, below_times, pairs_same, pairs_within}
 use Rattle.std.proofs.Math.Nat.{le_refl}
 use Rattle.dl_grid.proofs.Products.{products_apart, pairs_apart}
 
@@ -28,31 +28,6 @@ weighted_under x p f h = le_trans (weighted_le (x + 1) x f (le_refl _)) (mul-le-
 pub weighted_top : (x p q : ℕ) (f g : ℕ → ℕ) → count_below (x + 1) f ≤ p → count_below (x + 1) g ≤ q
     → count_pairs x (λ y z. y * f y * g z) ≤ x * p * q
 weighted_top x p q f g h k = pairs_under x (x * p) q (λ y. y * f y) g (weighted_under x p f h) k
-
--- ---- a walk over the outcomes
-
-pub one_more : (i x total u v : ℕ) (f g : ℕ → ℕ) → total ≡ count_below i (λ y. y * f y * g (x - y)) → u ≡ f i
-    → v ≡ g (x - i)
-    → total + i * u * v ≡ count_below (i + 1) (λ y. y * f y * g (x - y))
-one_more i x total u v f g e h k = omega (arith, below_more i (λ y. y * f y * g (x - y)), ap₂ (λ s t. i * s * t) h k)
-
-pub one_more_fits : (i x p q total u v : ℕ) (f g : ℕ → ℕ) → i ≤ x
-    → total ≡ count_below i (λ y. y * f y * g (x - y)) → u ≡ f i
-    → v ≡ g (x - i)
-    → count_below (x + 1) f ≤ p → count_below (x + 1) g ≤ q → total + i * u * v ≤ x * p * q
-one_more_fits i x p q total u v f g inside e h k above beside =
-    let grown = below_grows (i + 1) (suc x) (λ y. y * f y * g (x - y)) (omega arith) in
-    omega (
-      arith,
-      one_more i x total u v f g e h k,
-      below_pairs x (λ y z. y * f y * g z),
-      weighted_top x p q f g above beside,
-    )
-
-pub all_places : (i x total : ℕ) (f g : ℕ → ℕ) → i ≡ suc x → total ≡ count_below i (λ y. y * f y * g (x - y))
-    → total ≡ count_pairs x (λ y z. y * f y * g z)
-all_places i x total f g e h = h ∙ ap (λ n. count_below n (λ y. y * f y * g (x - y))) e
-    ∙ below_pairs x (λ y z. y * f y * g z)
 
 -- ---- the width
 

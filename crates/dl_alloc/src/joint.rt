@@ -1,35 +1,31 @@
 //! Joint means.
 
-ghost use Rattle.std.specs.Prelude.{◌≡◌, ℕ, ◌-◌, ◌*◌, ◌^◌, ◌<◌, ◌≤◌, List, length};
-ghost use Rattle.dl_exact.specs.Fraction.{◌over◌};
-ghost use Rattle.dl_grid.specs.Prelude.{low_at, high_at, spread, IsGrid, convolution_spread};
+ghost use Rattle.std.specs.Prelude.{◌≡◌, ℕ, ◌-◌, ◌*◌, ◌^◌, ◌<◌, ◌≤◌, List, length, get_or, All};
+ghost use Rattle.dl_exact.specs.Prelude.{◌over◌, count_pairs};
+ghost use Rattle.dl_grid.specs.Prelude.{spread, convolution_spread};
 ghost use Rattle.dl_model.specs.Prelude.{AtMost, Holds, Loss, AreDeclarable, One, Point, Joint, partial_sums, total, GridEncloses, unit_of, without, AreDeclared};
-ghost use Rattle.dl_alloc.specs.Weighted.{low_weighted, high_weighted};
 
-use dl_grid::{Grid, units_of_one};
+use crate::sums::{outward, word_product};
+use dl_grid::Grid;
 use dl_iv::Iv;
 
-/// The sums of the unit's outcomes up to `x`, each weighted by the ends of its probability times
-/// those of what the others then have, in units of `1 / 2^(2B)`.
-fn weighted_sums<const B: u32>(unit: &Grid<B>, others: &Grid<B>, x: u32) -> (u128, u128)
-    requires unit { IsGrid unit.now }
-    requires others { IsGrid others.now }
-    requires in_unit { x < length unit.now }
-    requires in_others { x < length others.now }
-    requires unit_narrow { spread unit.now < 2 ^ B }
-    requires others_narrow { spread others.now < 2 ^ B }
-    ensures low { result.0 ≡ low_weighted unit.now others.now x }
-    ensures high { result.1 ≡ high_weighted unit.now others.now x }
+/// The sum of `y * own[y] * other[z]` over all `y + z = x`. As `y` falls from `x` to 1, the sums of
+/// the products so far are added up, so that the product at `y` is in `y` of them.
+fn weighted_sum(own: &[u128], other: &[u128], x: u32) -> u128
+    requires in_own { x < length own.now }
+    requires in_other { x < length other.now }
+    requires own_words { All (λ end. end ≤ 2 ^ 56) own.now }
+    requires other_words { All (λ end. end ≤ 2 ^ 56) other.now }
+    requires fits { count_pairs x (λ y z. y * get_or own.now y 0 * get_or other.now z 0) < 2 ^ 128 }
+    ensures { result ≡ count_pairs x (λ y z. y * get_or own.now y 0 * get_or other.now z 0) }
 {
-    let mut low = 0;
-    let mut high = 0;
-    for y in 0..x + 1 {
-        let own = unit.at(y);
-        let other = others.at(x - y);
-        low += y as u128 * own.lo * other.lo;
-        high += y as u128 * own.hi * other.hi;
+    let mut so_far = 0;
+    let mut sum = 0;
+    for z in 0..x {
+        so_far += word_product(own[(x - z) as usize], other[z as usize]);
+        sum += so_far;
     }
-    (low, high)
+    sum
 }
 
 /// The joint mean of one unit at `x`, in buckets: the mean of the unit's outcome where the total is
@@ -58,12 +54,7 @@ pub fn joint_mean<const B: u32>(unit: &Grid<B>, others: &Grid<B>, x: u32) -> Iv<
     // so it can be divided by a probability, where 4 * x in units of 1 / 2^(2B) fits a word
     ensures divisible { 4 * x * 2 ^ B * 2 ^ B ≤ 2 ^ 127 → result.hi * 2 ^ B ≤ 2 ^ 127 }
 {
-    prove!(x < unit.cells());
-    prove!(x < others.cells());
-    let (low, high) = weighted_sums(unit, others, x);
-    let one = units_of_one(B);
-    Iv {
-        lo: low / one,
-        hi: high.div_ceil(one),
-    }
+    let low = weighted_sum(unit.lows(), others.lows(), x);
+    let high = weighted_sum(unit.highs(), others.highs(), x);
+    outward(low, high)
 }

@@ -9,6 +9,7 @@
 mod conditional;
 mod joint;
 pub mod laws;
+pub mod sums;
 
 pub use conditional::conditional_mean;
 pub use joint::joint_mean;

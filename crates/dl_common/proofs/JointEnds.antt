@@ -1,5 +1,5 @@
 -- The ends of the joint mean as they are computed: what they hold, how large they are, and how far apart they lie.
-use Rattle.dl_common.proofs.Common.{ℕ, zero, suc, ◌≡◌, ◌∙◌, ◌+◌, ◌-◌, ◌*◌, ◌/◌, ◌<◌, ◌≤◌, ◌^◌, List, length, get_or, inl, inr, ap, sym, subst, arith, cases_lt, Fraction, whole, ◌over◌, ◌*ℚ◌, zero_le, over_zero, times_zero, severity_total, Freq, Fixed, Table, Bernoulli, Binomial, Poisson, Gamma, UnitOfPlan, Plan, weight_at, expected_count, IsUnbounded, IsPoisson, thinned_mean, SharesFactor, common_sums, poisson_units, IsRaised, min, div_ceil, pow_pos, mul-le-mul, mul-le-mul_left, over_le_over, div_ceil_least, Iv, low_at, high_at, spread, IsGrid, cells_fit, high_le, positive_share, has_factor, Series, AtMost, AtLeast, Holds, GridEncloses, compound_of, declared, Quantity, One, Point, Joint, declared_is, amounts_to}
+use Rattle.dl_common.proofs.Common.{ℕ, zero, suc, ◌≡◌, ◌∙◌, ◌+◌, ◌-◌, ◌*◌, ◌/◌, ◌<◌, ◌≤◌, ◌^◌, List, length, get_or, inl, inr, ap, sym, subst, arith, cases_lt, Fraction, whole, ◌over◌, ◌*ℚ◌, zero_le, over_zero, times_zero, severity_total, UnitOfPlan, Plan, weight_at, expected_count, thinned_mean, SharesFactor, IsRaised, min, div_ceil, pow_pos, mul-le-mul, mul-le-mul_left, over_le_over, div_ceil_least, Iv, low_at, high_at, spread, IsGrid, cells_fit, high_le, positive_share, has_factor, Series, AtMost, AtLeast, Holds, GridEncloses, compound_of, declared, One, Point, Joint, declared_is, amounts_to, claims_mean, one_pos, over_same}
 use Rattle.dl_exact.proofs.Parts.{whole_num}
 use Rattle.dl_grid.specs.Width.{up}
 use Rattle.dl_grid.proofs.PlaceSums.{width_at, high_is, width_within}
@@ -78,72 +78,53 @@ lesser_holds P a b p q = elim (cases_lt b a) [
   | inr within ↦ subst P (omega arith) p
 ]
 
-module _ {B : ℕ} (grid : List (Iv B)) (plan : Plan) (q i x : ℕ) (made u : UnitOfPlan) (shares : SharesFactor plan (suc q))
-    (there : i < length plan.units) (here : get_or plan.units i u ≡ u) (raised : IsRaised (suc q) plan.units made)
-    (encloses : GridEncloses grid (compound_of made.freq made.sev)) (inside : x < length grid) (h : Fraction)
-    (is : h ≡ thinned_mean u) where
-  abbrev Q : Series
-  Q = common_sums (suc q) (poisson_units plan.units) (Joint i x)
-
-  abbrev R : Series
-  R = common_sums (suc q) (poisson_units plan.units) One
-
-  exact : Holds Q R (expected_count u.freq *ℚ amounts_to x (low_at grid) u.sev.items over (u.sev.total * 2 ^ B))
-      (expected_count u.freq *ℚ amounts_to x (high_at grid) u.sev.items over (u.sev.total * 2 ^ B))
-  exact = joint_exact plan.units q (has_factor plan (suc q) shares) made raised grid encloses i x u there here inside
-
-  held : (h.num ≡ 0 → ⊥) → Holds Q R (min (low_end grid x u h) (x * 2 ^ B) over 2 ^ B)
-      (min (high_end grid x u h) (x * 2 ^ B) over 2 ^ B)
-  held some =
+module _ {B : ℕ} (grid : List (Iv B)) (x lo hi : ℕ) (u : UnitOfPlan) (h : Fraction) (is : h ≡ thinned_mean u)
+    (Q R : Series) (exact : Holds Q R (claims_mean u (2 ^ B) x (low_at grid)) (claims_mean u (2 ^ B) x (high_at grid)))
+    (most : AtMost Q R (whole x)) where
+  pub ends_hold : (h.num ≡ 0 → ⊥) → lo ≡ min (low_end grid x u h) (x * 2 ^ B)
+      → hi ≡ min (high_end grid x u h) (x * 2 ^ B) → Holds Q R (lo over 2 ^ B) (hi over 2 ^ B)
+  ends_hold some low high =
       let s = pow_pos B in
       let pos : 0 < positive u = omega (arith, some_positive u h is some) in
       let t = severity_total u.sev in
-      let told = thinned_over u h is in (
+      let told = thinned_over u h is in rw (low, high) (
         at_least_wider Q R _ _ (at_least_wider Q R _ _ exact.0 (end_below (amounts_to x (low_at grid) u.sev.items)
             (positive u) u.sev.total (2 ^ B) (expected_count u.freq) h pos t s told))
             (over_le_over _ _ (2 ^ B) s (omega arith)),
         lesser_holds (λ e. AtMost Q R (e over 2 ^ B)) (high_end grid x u h) (x * 2 ^ B)
             (at_most_wider Q R _ _ exact.1 (end_above (amounts_to x (high_at grid) u.sev.items) (positive u)
             u.sev.total (2 ^ B) (expected_count u.freq) h pos t s told))
-            (joint_most plan.units q (has_factor plan (suc q) shares) made raised i x (2 ^ B) s),
+            (subst (AtMost Q R) (over_same x 1 (x * 2 ^ B) (2 ^ B) one_pos s (omega arith)) most),
       )
 
   -- where no claim above 0 is expected
-  held_none : IsGrid grid → h.num ≡ 0 → Holds Q R (0 over 2 ^ B) (0 over 2 ^ B)
-  held_none of_grid none =
+  pub none_hold : IsGrid grid → h.num ≡ 0 → lo ≡ 0 → hi ≡ 0 → Holds Q R (lo over 2 ^ B) (hi over 2 ^ B)
+  none_hold of_grid none low high =
       let s = pow_pos B in
       let top = amounts_top x (2 ^ B) (positive u) (high_at grid) u.sev.items
-      (λ k. high_le grid k (2 ^ B) of_grid.small) (weight_parts u.sev) in (
+      (λ k. high_le grid k (2 ^ B) of_grid.small) (weight_parts u.sev) in rw (low, high) (
         at_least_wider Q R _ _ exact.0 (rw (over_zero (2 ^ B) s) (zero_le _)),
         at_most_wider Q R _ _ exact.1 (end_none (amounts_to x (high_at grid) u.sev.items) (positive u) u.sev.total
             (2 ^ B) x (expected_count u.freq) h (severity_total u.sev) s top (thinned_over u h is) none),
       )
 
--- ---- for every shape
+-- ---- under a common factor, of every shape
 
-module _ {B : ℕ} (grid : List (Iv B)) (plan : Plan) (i x lo hi : ℕ) (made u : UnitOfPlan) (h : Fraction)
-    (inside : x < length grid) (is : h ≡ thinned_mean u) where
-  abbrev Held : (Quantity → Series) → Type 0
-  Held D = Holds (D (Joint i x)) (D One) (lo over 2 ^ B) (hi over 2 ^ B)
-
-  pub ends_hold : (r : ℕ) → SharesFactor plan r → i < length plan.units → get_or plan.units i u ≡ u
-      → IsRaised r plan.units made → GridEncloses grid (compound_of made.freq made.sev) → (h.num ≡ 0 → ⊥)
-      → lo ≡ min (low_end grid x u h) (x * 2 ^ B) → hi ≡ min (high_end grid x u h) (x * 2 ^ B)
-      → Held (declared plan)
-  ends_hold zero shares there here raised encloses some low high =
+module _ {B : ℕ} (grid : List (Iv B)) (plan : Plan) (i x : ℕ) (made u : UnitOfPlan) (inside : x < length grid) where
+  pub common_exact : (r : ℕ) → SharesFactor plan r → i < length plan.units → get_or plan.units i u ≡ u
+      → IsRaised r plan.units made → GridEncloses grid (compound_of made.freq made.sev)
+      → Holds (declared plan (Joint i x)) (declared plan One) (claims_mean u (2 ^ B) x (low_at grid))
+      (claims_mean u (2 ^ B) x (high_at grid)) × AtMost (declared plan (Joint i x)) (declared plan One) (whole x)
+  common_exact zero shares there here raised encloses =
       absurd (omega (arith, (has_factor plan zero shares).some_shape))
-  ends_hold (suc q) shares there here raised encloses some low high =
-      subst Held (sym (declared_is plan (suc q) shares.shape))
-      (rw (low, high) (held grid plan q i x made u shares there here raised encloses inside h is some))
-
-  pub none_hold : (r : ℕ) → SharesFactor plan r → i < length plan.units → get_or plan.units i u ≡ u
-      → IsRaised r plan.units made → GridEncloses grid (compound_of made.freq made.sev) → IsGrid grid → h.num ≡ 0
-      → lo ≡ 0 → hi ≡ 0 → Held (declared plan)
-  none_hold zero shares there here raised encloses of_grid none low high =
-      absurd (omega (arith, (has_factor plan zero shares).some_shape))
-  none_hold (suc q) shares there here raised encloses of_grid none low high =
-      subst Held (sym (declared_is plan (suc q) shares.shape))
-      (rw (low, high) (held_none grid plan q i x made u shares there here raised encloses inside h is of_grid none))
+  common_exact (suc q) shares there here raised encloses =
+      let factor = has_factor plan (suc q) shares in
+      subst (λ D. Holds (D (Joint i x)) (D One) (claims_mean u (2 ^ B) x (low_at grid))
+      (claims_mean u (2 ^ B) x (high_at grid)) × AtMost (D (Joint i x)) (D One) (whole x))
+      (sym (declared_is plan (suc q) shares.shape)) (
+        joint_exact plan.units q factor made raised grid encloses i x u there here inside,
+        joint_most plan.units q factor made raised i x,
+      )
 
 pub low_within : (B : ℕ) (plan : Plan) (r i x l h : ℕ) (made : UnitOfPlan) → SharesFactor plan r
     → IsRaised r plan.units made

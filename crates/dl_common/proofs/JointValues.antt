@@ -1,5 +1,5 @@
 -- What the sum over the amounts of one claim holds, where a grid encloses the raised unit.
-use Rattle.dl_common.proofs.Common.{subst₂, ℕ, zero, suc, ◌≡◌, ◌∙◌, ◌*◌, ◌/◌, ◌<◌, ◌≤◌, ◌^◌, List, [], ◌∷◌, length, get_or, true, false, refl, ap, ap₂, sym, subst, arith, mul-pos, Fraction, whole, ◌over◌, ◌*ℚ◌, ◌≤ℚ◌, ◌<ℚ◌, sum_pairs, le_refl, le_trans, le_of_eq, zero_le, times_le_both, times_comm, times_assoc, times_zero, times_one, one_pos, over_mul, over_same, over_self, over_le, over_times, over_zero, severity_total, Sev, UnitOfPlan, greatest, weight_at, probability_of, expected_count, HasCommonFactor, raised, PoissonUnit, expected_claims, pooled_severity, common_sums, IsUnit, poisson_unit, poisson_units, IsRaised, Bool, div_ceil, pow_pos, mul-le-mul_right, le_of_mul-le-mul_right, fun_ext, times_left_comm, le_over, sum_pairs_same, Iv, round_down, round_up, low_at, high_at, Series, AtMost, AtLeast, Holds, gamma_of, compound, GridEncloses, count_weights, compound_of, Loss, One, Point, Joint, score, where_true, loss, pooled_unit, shares_severity, as_one_loss, common_bounded, common_positive, common_rises, amounts_to, expected_units, are_severities}
+use Rattle.dl_common.proofs.Common.{subst₂, ℕ, zero, suc, ◌≡◌, ◌∙◌, ◌*◌, ◌/◌, ◌<◌, ◌≤◌, ◌^◌, List, [], ◌∷◌, length, get_or, true, false, refl, ap, ap₂, sym, subst, arith, mul-pos, Fraction, whole, ◌over◌, ◌*ℚ◌, ◌≤ℚ◌, ◌<ℚ◌, sum_pairs, le_refl, le_trans, le_of_eq, zero_le, times_le_both, times_assoc, times_zero, over_mul, over_same, over_self, over_le, over_times, over_zero, severity_total, Sev, UnitOfPlan, greatest, weight_at, probability_of, expected_count, HasCommonFactor, raised, PoissonUnit, expected_claims, pooled_severity, common_sums, IsUnit, poisson_unit, poisson_units, IsRaised, Bool, div_ceil, pow_pos, mul-le-mul_right, le_of_mul-le-mul_right, fun_ext, times_left_comm, le_over, sum_pairs_same, Iv, round_down, round_up, low_at, high_at, Series, AtMost, AtLeast, Holds, gamma_of, compound, GridEncloses, count_weights, compound_of, Loss, One, Point, Joint, score, where_true, loss, pooled_unit, shares_severity, as_one_loss, common_bounded, common_positive, common_rises, amounts_to, claims_mean, expected_units, are_severities}
 use Rattle.dl_exact.proofs.SumsOver.{sum_pairs_over}
 use Rattle.dl_iv.proofs.Operations.{scale_low, scale_high}
 use Rattle.dl_model.proofs.Alike.{ends_in_order}
@@ -71,9 +71,15 @@ end_none A W T S x n h t s top is none =
 
 -- ---- what is declared
 
-where_le : (b : Bool) → where_true b (whole 1) ≤ℚ whole 1
+pub where_le : (b : Bool) → where_true b (whole 1) ≤ℚ whole 1
 where_le true = le_refl (whole 1)
 where_le false = zero_le (whole 1)
+
+-- at most x times what is at most the whole
+pub at_most_whole : (Q P R : Series) (x : ℕ) → ((N : ℕ) → Q N ≤ℚ whole x *ℚ P N) → ((N : ℕ) → P N ≤ℚ R N)
+    → AtMost Q R (whole x)
+at_most_whole Q P R x q p N u b =
+    le_trans _ _ _ (q N) (times_le_both _ _ _ _ (le_refl (whole x)) (le_trans _ _ _ (p N) (b N)))
 
 module _ (units : List UnitOfPlan) (q : ℕ) (factor : HasCommonFactor (suc q) units) (made : UnitOfPlan)
     (is : IsRaised (suc q) units made) where
@@ -116,25 +122,19 @@ module _ (units : List UnitOfPlan) (q : ℕ) (factor : HasCommonFactor (suc q) u
       (sym (times_assoc (whole x) (h over S) u) ∙ ap (λ t. t *ℚ u) (over_times x h S s))
       (times_le_both _ _ _ _ (le_refl (whole x)) (at N u b)))
 
-  pub joint_most : (i x S : ℕ) → 0 < S → AtMost (common_sums (suc q) us (Joint i x)) all ((x * S) over S)
-  joint_most i x S s = joint_below i x S S s (λ N u b. subst (λ t. common_sums (suc q) us (Point x) N ≤ℚ t)
-      (sym (ap (λ t. t *ℚ u) (over_same S S 1 1 s one_pos (omega arith)) ∙ times_comm (whole 1) u ∙ times_one u))
-      (le_trans _ _ _ (point_le x N) (b N)))
+  pub joint_most : (i x : ℕ) → AtMost (common_sums (suc q) us (Joint i x)) all (whole x)
+  joint_most i x = at_most_whole _ (common_sums (suc q) us (Point x)) all x (joint_within (suc q) us i x) (point_le x)
 
   module _ {B : ℕ} (grid : List (Iv B)) (encloses : GridEncloses grid (compound_of made.freq made.sev)) (i x : ℕ)
       (u : UnitOfPlan) (there : i < length units) (here : get_or units i u ≡ u) (inside : x < length grid) where
     abbrev S : ℕ
     S = 2 ^ B
 
-    abbrev T : ℕ
-    T = u.sev.total
-
     abbrev n : Fraction
     n = expected_count u.freq
 
     pub joint_exact : Holds (common_sums (suc q) us (Joint i x)) all
-        (n *ℚ amounts_to x (low_at grid) u.sev.items over (T * S))
-        (n *ℚ amounts_to x (high_at grid) u.sev.items over (T * S))
+        (claims_mean u S x (low_at grid)) (claims_mean u S x (high_at grid))
     joint_exact =
         let family = subst (λ F. GridEncloses grid F) raised_family encloses in
         let s = pow_pos B in

@@ -5,5 +5,6 @@ pub mod Claims
 pub mod Alone
 pub mod Named
 pub mod JointValues
+pub mod PoissonJoint
 pub mod JointEnds
 pub mod Mixtures

@@ -1,6 +1,7 @@
 -- What the one unit has by its parts: the shape and the mean of its count, and the first unit's name.
-use Rattle.dl_common.proofs.Common.{ℕ, ◌≡◌, ◌∙◌, ◌<◌, List, length, get_or, ap, Bor, lent, can_share, Fraction, FitsFrac, admitted_fits, Freq, Gamma, UnitOfPlan, Plan, SharesFactor, raised, expected_of, get_or_default, has_factor}
+use Rattle.dl_common.proofs.Common.{ℕ, ◌≡◌, ◌∙◌, ◌<◌, List, length, get_or, ap, Bor, lent, can_share, Fraction, FitsFrac, admitted_fits, Freq, Gamma, UnitOfPlan, Plan, SharesFactor, raised, expected_of, get_or_default, has_factor, Option, Some, subst, All, HasPartsOf48Bits, expected_count, sym}
 use Rattle.std.specs.List.{filter}
+use Rattle.std.specs.Prelude.{IfSome}
 use Rattle.dl_common.proofs.Units.{all_sharing}
 
 pub gamma_shape : (freq : Freq) (shape r : ℕ) (mean v : Fraction) → freq ≡ Gamma shape mean → freq ≡ Gamma r v → shape ≡ r
@@ -24,3 +25,17 @@ pub all_lent : (plan : Plan) (r : ℕ) → SharesFactor plan r → (units : List
     → lent units ≡ filter can_share read → read ≡ plan.units → lent units ≡ plan.units
 all_lent plan r shares units read are is =
     are ∙ ap (filter can_share) is ∙ all_sharing plan.units (has_factor plan r shares).can_share
+
+pub each_expected : (plan : Plan) (r : ℕ) → SharesFactor plan r → (units : List (Bor UnitOfPlan)) (read : List UnitOfPlan)
+    → lent units ≡ filter can_share read → read ≡ plan.units
+    → All (λ u. HasPartsOf48Bits (expected_count u.freq)) (lent units)
+each_expected plan r shares units read are is =
+    subst (All (λ (u : UnitOfPlan). HasPartsOf48Bits (expected_count u.freq)))
+    (sym (all_lent plan r shares units read are is)) (λ k d h. (shares.valid.units k d h).expected)
+
+-- the number of claims that they expect is that of the plan's units
+pub all_expected : (units : List UnitOfPlan) (all : List (Bor UnitOfPlan)) (sum : Option Fraction) (mean : Fraction)
+    → lent all ≡ units → sum ≡ Some mean → IfSome sum (λ claims. claims ≡ expected_of (lent all))
+    → mean ≡ expected_of units
+all_expected units all sum mean are is told =
+    subst (λ o. IfSome o (λ claims. claims ≡ expected_of (lent all))) is told ∙ ap expected_of are

@@ -1,9 +1,10 @@
 -- The expected numbers of claims of units, one unit after another, and the part of all claims that each has.
-use Rattle.dl_common.proofs.Common.{ℕ, ◌≡◌, ◌∙◌, refl, ◌+◌, ◌<◌, ◌≤◌, List, [], ◌∷◌, ◌++◌, length, map, take, get_or, ap, ap₂, sym, subst, arith, take_more, map_more, Fraction, whole, ◌+ℚ◌, ◌*ℚ◌, ◌/ℚ◌, ◌≤ℚ◌, ◌<ℚ◌, sum_over, le_trans, zero, suc, plus_zero, plus_comm, div_times, times_cancel, one_times, times_comm, sum_over_append, sum_over_same, sum_over_times, sum_over_map, FitsFrac, UnitOfPlan, Bor, Freq, Fixed, Table, Bernoulli, Binomial, Poisson, Gamma, Sev, Bool, true, false, cond, Option, None, Some, inl, inr, arith, ◌*◌, lent, can_share, is_poisson, IsPoisson, IsClaimCount, All, pairs_of, shares, map-append, over_self, over_le, one_pos, IsFineTo30Bits, common_denominator, expected_count, expected_of, unit_share, le_plus, times_le_cancel, length-map, get_or-map, sum_of}
+use Rattle.dl_common.proofs.Common.{ℕ, ◌≡◌, ◌∙◌, refl, ◌+◌, ◌<◌, ◌≤◌, List, [], ◌∷◌, ◌++◌, length, map, take, get_or, ap, ap₂, sym, subst, arith, take_more, map_more, Fraction, whole, ◌+ℚ◌, ◌*ℚ◌, ◌/ℚ◌, ◌≤ℚ◌, ◌<ℚ◌, sum_over, le_trans, zero, suc, plus_zero, plus_comm, div_times, times_cancel, one_times, times_comm, sum_over_append, sum_over_same, sum_over_times, sum_over_map, FitsFrac, UnitOfPlan, Bor, Freq, Fixed, Table, Bernoulli, Binomial, Poisson, Gamma, Sev, Bool, true, false, cond, Option, None, Some, inl, inr, arith, ◌*◌, lent, can_share, is_poisson, IsPoisson, IsClaimCount, All, pairs_of, shares, map-append, over_self, over_le, one_pos, IsFineTo30Bits, common_denominator, expected_count, expected_of, unit_share, le_plus, times_le_cancel, length-map, get_or-map, sum_of, count_weights, HasPartsOf48Bits}
 use Rattle.std.proofs.Common.{Result, Ok, Err, ◌&&◌, is_none, filter, IsSome}
 use Rattle.std.proofs.lemmas.List.Elements.{All-head, All-tail, All-cons, All-nil}
 use Rattle.dl_plan.specs.Common.{CanShare}
 use Rattle.dl_frac.specs.Exact.{Gives}
+use Rattle.dl_model.specs.Counts.{poisson}
 use Rattle.dl_plan.proofs.Clauses.{num_le_den}
 use Rattle.dl_plan.proofs.CommonDenominators.{common_pos, den_divides}
 use Rattle.std.proofs.lemmas.Nat.Gcd.{le_of_dvd}
@@ -85,21 +86,18 @@ severities_step units i u old new made h is before pushed items total =
 
 -- ---- which can be pooled
 
+poisson_is : (freq : Freq) → IsPoisson freq → freq ≡ Poisson (expected_count freq)
+poisson_is (Poisson mean) h = refl
+poisson_is freq h = absurd h
+
 pub poisson_counts : (freq : Freq) → IsPoisson freq → IsClaimCount freq
-poisson_counts (Fixed m) h = absurd h
-poisson_counts (Table counts all) h = absurd h
-poisson_counts (Bernoulli q) h = absurd h
-poisson_counts (Binomial trials q) h = absurd h
-poisson_counts (Poisson mean) h = h
-poisson_counts (Gamma shape mean) h = absurd h
+poisson_counts freq h = subst IsClaimCount (sym (poisson_is freq h)) tt
+
+pub poisson_weights : (freq : Freq) → IsPoisson freq → count_weights freq ≡ poisson (expected_count freq)
+poisson_weights freq h = ap count_weights (poisson_is freq h)
 
 poisson_true : (freq : Freq) → IsPoisson freq → is_poisson freq ≡ true
-poisson_true (Fixed m) h = absurd h
-poisson_true (Table counts all) h = absurd h
-poisson_true (Bernoulli q) h = absurd h
-poisson_true (Binomial trials q) h = absurd h
-poisson_true (Poisson mean) h = refl
-poisson_true (Gamma shape mean) h = absurd h
+poisson_true freq h = ap is_poisson (poisson_is freq h)
 
 true_poisson : (freq : Freq) → is_poisson freq ≡ true → IsPoisson freq
 true_poisson (Fixed m) e = absurd (cc)
@@ -149,6 +147,16 @@ all_sharing (u ∷ us) h =
 pub none_there : {A : Type 0} (o : Option A) → o ≡ None → IsSome o → ⊥
 none_there None e h = absurd (cc)
 none_there (Some x) e h = absurd (cc)
+
+-- each of them has a count that can be asked for what it expects, in admitted parts
+pub each_counts : (units : List (Bor UnitOfPlan)) (i : ℕ) (b : Bor UnitOfPlan) → i < length units → b ≡ get_or units i b
+    → All CanShare (lent units) → IsClaimCount b.now.freq
+each_counts units i b h is all = poisson_counts b.now.freq (of_each CanShare units i b h is all).count
+
+pub each_admitted : (units : List (Bor UnitOfPlan)) (i : ℕ) (b : Bor UnitOfPlan) → i < length units
+    → b ≡ get_or units i b → All (λ u. HasPartsOf48Bits (expected_count u.freq)) (lent units)
+    → HasPartsOf48Bits (expected_count b.now.freq)
+each_admitted units i b h is all = of_each (λ (u : UnitOfPlan). HasPartsOf48Bits (expected_count u.freq)) units i b h is all
 
 -- ---- sums that fit
 

@@ -1,6 +1,9 @@
 -- Sums over the amounts of one claim, in whole numbers.
 use Rattle.std.specs.Prelude.{ℕ, ◌-◌, ◌*◌, nat_le, if◌then◌else◌, List, sum_by}
+use Rattle.dl_exact.specs.Fraction.{Fraction, ◌over◌, ◌*ℚ◌}
 use Rattle.dl_plan.specs.declared.item.Item.{Item}
+use Rattle.dl_plan.specs.declared.plan.Unit.{Unit as UnitOfPlan}
+use Rattle.dl_plan.specs.Prelude.{expected_count}
 
 -- the sum of a * weight * at (x - a) over the amounts a of one claim up to x, each with its
 -- weight
@@ -8,3 +11,9 @@ abbrev pub amounts_to : ℕ → (ℕ → ℕ) → List Item → ℕ
 amounts_to x at items = sum_by
     (λ item. if nat_le item.amount x then item.amount * item.weight * at (x - item.amount) else 0)
     items
+
+-- the expected claims of a unit times the mean of one of them where it and a sum come to x, and of
+-- 0 elsewhere, where the sum is k with probability at k / scale
+abbrev pub claims_mean : UnitOfPlan → (scale x : ℕ) → (ℕ → ℕ) → Fraction
+claims_mean u scale x at =
+    expected_count u.freq *ℚ amounts_to x at u.sev.items over (u.sev.total * scale)

@@ -2,7 +2,8 @@
 //! all units, their claim counts are independent Poisson counts. Of its total such a portfolio
 //! declares what one gamma unit does, `pool`; what a unit adds to a total comes from the grid of
 //! that unit with one more in its shape, `raised`, by `common_joint`. Without a factor one Poisson
-//! unit has the total of several, `pool_poisson`.
+//! unit has the total of several, `pool_poisson`, and what a Poisson unit adds to a total comes from
+//! the grid of the total, by `poisson_joint`.
 #![tactic(auto)]
 
 mod copies;
@@ -11,7 +12,7 @@ mod pooling;
 mod raising;
 mod shares;
 
-pub use joint::common_joint;
+pub use joint::{common_joint, poisson_joint};
 pub use pooling::{pool, pool_poisson};
 pub use raising::raised;
 pub use shares::sharing;

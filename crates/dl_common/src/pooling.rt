@@ -35,8 +35,9 @@ pub fn pool(alloc: Global, plan: &Plan) -> Result<Unit, AllocError>
     };
     let units = plan.units.as_slice();
     let shared = sharing(alloc, units)?;
-    let mean = expected(&shared).unwrap();
-    let Some(sev) = mixed_severity(alloc, &shared, mean)? else {
+    let all = shared.as_slice();
+    let mean = expected(all).unwrap();
+    let Some(sev) = mixed_severity(alloc, all, mean)? else {
         unreachable!()
     };
     let name = Text::copy(alloc, units[0].name.as_slice())?;

@@ -36,6 +36,7 @@ pub fn sharing<'a>(alloc: Global, units: &'a [Unit]) -> Result<Vec<&'a Unit>, Al
 
 /// The expected number of claims of all units together; none where a part of a running sum passes
 /// 62 bits.
+#[tactic(auto, using(crate::proofs::Units::each_counts, crate::proofs::Units::each_admitted))]
 pub(crate) fn expected(units: &[&Unit]) -> Option<Frac>
     requires poisson { All CanShare (lent units.now) }
     requires each { All (λ u. HasPartsOf48Bits (expected_count u.freq)) (lent units.now) }
@@ -55,6 +56,7 @@ pub(crate) fn expected(units: &[&Unit]) -> Option<Frac>
 
 /// Which part of all claims each unit has: its expected number of claims over that of all units;
 /// none where a part of one passes 62 bits.
+#[tactic(auto, using(crate::proofs::Units::each_counts, crate::proofs::Units::each_admitted))]
 pub(crate) fn shares(
     alloc: Global,
     units: &[&Unit],

@@ -1,68 +1,38 @@
 -- The joint means of a unit at all totals up to q, added up: what the ends hold, how large they are, and how far apart
 -- they lie.
-use Rattle.dl_cotail.proofs.Common.{more, ◌∙◌, ℕ, suc, ◌≡◌, ◌+◌, ◌-◌, ◌*◌, ◌/◌, ◌^◌, ◌<◌, ◌≤◌, List, length, arith, ap, ap₂, subst₂, div_ceil, pow_pos, mul-le-mul, mul-le-mul_left, mul-pos, ◌over◌, sum_to, count_pairs, count_below, le_refl, div_ceil_least, below_le, below_same, pairs_le, pairs_same, Iv, low_at, high_at, spread, IsGrid, cells_fit, width_at, high_is, low_within, width_within, cv_is, Holds, Loss, AreDeclarable, One, Joint, score, partial_sums, total, GridEncloses, unit_of, without, at_least_wider, at_most_wider, to_holds, outcomes_rise, joint_ends, fits, joint_width, room_of}
+use Rattle.dl_cotail.proofs.Common.{ℕ, suc, ◌≡◌, ◌+◌, ◌-◌, ◌*◌, ◌/◌, ◌^◌, ◌<◌, ◌≤◌, List, length, arith, ap₂, subst₂, div_ceil, pow_pos, mul-pos, ◌over◌, sum_to, count_pairs, count_below, le_refl, div_ceil_least, below_le, below_same, pairs_same, Iv, low_at, high_at, spread, IsGrid, cells_fit, width_at, high_is, low_within, width_within, cv_is, Holds, Loss, AreDeclarable, One, Joint, score, partial_sums, total, GridEncloses, unit_of, without, at_least_wider, at_most_wider, to_holds, outcomes_rise, joint_ends, fits, joint_width, room_of}
 use Rattle.dl_exact.proofs.SumsOver.{to_over}
-use Rattle.dl_iv.proofs.Rounding.{round_down, round_up, floor_le_ceiling}
+use Rattle.dl_iv.proofs.Rounding.{round_down, round_up}
 use Rattle.dl_alloc.specs.Weighted.{low_weighted, high_weighted}
-use Rattle.dl_alloc.proofs.WeightedEnds.{high_mass}
+use Rattle.dl_alloc.proofs.WeightedEnds.{high_mass, sums_order as weighted_order}
 use Rattle.dl_cotail.specs.Sums.{low_sums, high_sums}
-use Rattle.dl_cotail.proofs.PairSums.{one_more, sums_top, sum_fits, sums_width}
+use Rattle.dl_cotail.proofs.PairSums.{sums_top, sums_width}
 
 -- ---- how large they are
-
-regroup : (y u d : ℕ) → y * (u * d) ≡ y * u * d
-regroup y u d = omega arith
 
 top : (S q : ℕ) → q * (2 * S) * (2 * S) ≡ 4 * q * S * S
 top S q = omega arith
 
-pub sums_order : {B : ℕ} (unit others : List (Iv B)) (q : ℕ)
-    → low_sums unit others q / 2 ^ B ≤ div_ceil (high_sums unit others q) (2 ^ B)
-sums_order {B} unit others q =
-    floor_le_ceiling _ _ (2 ^ B) (2 ^ B) (pow_pos B) (omega arith)
-    (below_le (suc q) (low_weighted unit others) (high_weighted unit others) (λ x h.
-    pairs_le x (λ y z. y * low_at unit y * low_at others z) (λ y z. y * high_at unit y * high_at others z)
-    (λ y z. mul-le-mul (mul-le-mul_left y (omega (arith, high_is unit y))) (omega (arith, high_is others z)))))
+pub sums_order : {B : ℕ} (unit others : List (Iv B)) (q : ℕ) → low_sums unit others q ≤ high_sums unit others q
+sums_order unit others q =
+    below_le (suc q) (low_weighted unit others) (high_weighted unit others) (λ x h. weighted_order unit others x)
 
 module _ {B : ℕ} (unit others : List (Iv B)) (q : ℕ) (p : IsGrid unit) (r : IsGrid others)
     (inside : q < length unit) where
-  pub high_fits : spread unit < 2 ^ B → spread others < 2 ^ B
-      → div_ceil (high_sums unit others q) (2 ^ B) ≤ 2 ^ 127
-  high_fits narrow thin =
-      let most = sums_top q (2 * 2 ^ B) (2 * 2 ^ B) (high_at unit) (high_at others)
-      (high_mass unit (q + 1) p narrow) (high_mass others (q + 1) r thin) in
-      omega (
-        arith,
-        div_ceil_least (high_sums unit others q) (2 ^ B) (4 * q * 2 ^ B) (pow_pos B)
-            (omega (arith, top (2 ^ B) q)),
-        cells_fit unit q p (omega arith),
-      )
+  module _ (narrow : spread unit < 2 ^ B) (thin : spread others < 2 ^ B) where
+    most : high_sums unit others q ≤ q * (2 * 2 ^ B) * (2 * 2 ^ B)
+    most = sums_top q (2 * 2 ^ B) (2 * 2 ^ B) (high_at unit) (high_at others) (high_mass unit (q + 1) p narrow)
+        (high_mass others (q + 1) r thin)
 
-  -- ---- a step of the walk
+    pub high_room : high_sums unit others q < 2 ^ 128
+    high_room = fits (2 ^ B) q _ (pow_pos B) (room_of unit q p inside) most
 
-  -- the next sum, from the weights f of the unit and the distribution of the weights g of the others, and that it fits
-  abbrev Step : (f g : ℕ → ℕ) → Type 0
-  Step f g = (z sum u d s o w : ℕ) → z ≤ q → sum ≡ count_below z (λ z. (q - z) * f (q - z) * count_below (suc z) g)
-      → u ≡ f (q - z) → d ≡ s + o → s ≡ count_below z g → o ≡ g z → w ≡ u * d
-      → (sum + (q - z) * w ≡ count_below (z + 1) (λ z. (q - z) * f (q - z) * count_below (suc z) g))
-      × (sum + (q - z) * w < 2 ^ 128)
-
-  step : (f g : ℕ → ℕ) → count_below (q + 1) f ≤ 2 * 2 ^ B → count_below (q + 1) g ≤ 2 * 2 ^ B → Step f g
-  step f g mass weight z sum u d s o w here e own joined before other is =
-      let product : (q - z) * w ≡ (q - z) * u * d = ap (λ t. (q - z) * t) is ∙ regroup (q - z) u d in
-      let next : sum + (q - z) * w ≡ count_below (z + 1) (λ z. (q - z) * f (q - z) * count_below (suc z) g) =
-      ap (λ t. sum + t) product ∙ one_more q z sum u d f g e own (joined ∙ more g z s o before other) in (
-        next,
-        fits (2 ^ B) q _ (pow_pos B) (room_of unit q p inside)
-            (sum_fits q (z + 1) _ (2 * 2 ^ B) (2 * 2 ^ B) f g (omega arith) next mass weight),
-      )
-
-  pub low_step : Step (low_at unit) (low_at others)
-  low_step = step (low_at unit) (low_at others) (omega (arith, low_within (q + 1) unit))
-      (omega (arith, low_within (q + 1) others))
-
-  pub high_step : spread unit < 2 ^ B → spread others < 2 ^ B → Step (high_at unit) (high_at others)
-  high_step narrow thin = step (high_at unit) (high_at others) (high_mass unit (q + 1) p narrow) (high_mass others (q + 1) r thin)
+    pub high_fits : div_ceil (high_sums unit others q) (2 ^ B) ≤ 2 ^ 127
+    high_fits = omega (
+      arith,
+      div_ceil_least (high_sums unit others q) (2 ^ B) (4 * q * 2 ^ B) (pow_pos B) (omega (arith, top (2 ^ B) q, most)),
+      cells_fit unit q p (omega arith),
+    )
 
   -- ---- how wide they are
 

@@ -1,24 +1,11 @@
 -- Sums of y * f y * g z over all y + z up to q, in plain numbers: one walk over them, how large they are, and how far
 -- apart two of them lie once rounded.
-use Rattle.dl_cotail.proofs.Common.{ℕ, zero, suc, ◌≡◌, ◌+◌, ◌-◌, ◌*◌, ◌/◌, ◌<◌, ◌≤◌, arith, refl, sym, ap, ap₂, ◌∙◌, add-one, div_ceil, mul-le-mul, le_trans, count_pairs, count_below, below_first, below_grows, below_more, below_same, below_plus, below_times, below_pairs, pairs_same, pairs_plus, pairs_within}
+use Rattle.dl_cotail.proofs.Common.{List, get_or, more, ℕ, zero, suc, ◌≡◌, ◌+◌, ◌-◌, ◌*◌, ◌/◌, ◌<◌, ◌≤◌, arith, refl, sym, ap, ◌∙◌, add-one, div_ceil, mul-le-mul, le_trans, count_pairs, count_below, below_first, below_grows, below_same, below_plus, below_times, pairs_same, pairs_plus, pairs_within}
+use Rattle.dl_alloc.proofs.Nested.{running, nested, next_nested, all_nested, listed}
 use Rattle.dl_alloc.proofs.WeightedSums.{weighted_under, rounded, divided, enough}
+use Rattle.dl_cotail.specs.Sums.{weighted_to}
 
 -- ---- pairs
-
-pairs_last : (n : ℕ) (f : ℕ → ℕ → ℕ) → count_pairs (suc n) f ≡ count_pairs n (λ i j. f i (suc j)) + f (suc n) zero
-unfolding count_pairs
-pairs_last zero f = omega arith
-pairs_last (suc n) f = omega (arith, pairs_last n (λ i j. f (suc i) j))
-
-pairs_turn : (n : ℕ) (f : ℕ → ℕ → ℕ) → count_pairs n (λ i j. f j i) ≡ count_pairs n f
-unfolding count_pairs
-pairs_turn zero f = refl
-pairs_turn (suc n) f =
-    ap (λ t. f (suc n) zero + t) (pairs_turn n (λ i j. f i (suc j)))
-    ∙ swap (f (suc n) zero) (count_pairs n (λ i j. f i (suc j))) ∙ sym (pairs_last n f)
-  where
-    swap : (a b : ℕ) → a + b ≡ b + a
-    swap a b = omega arith
 
 one_pair : (a : ℕ) (f g : ℕ → ℕ) → f zero ≡ a * g zero → count_below 1 f ≡ a * count_below 1 g
 unfolding count_below
@@ -41,25 +28,33 @@ all_pairs (suc q) a g =
 
 -- ---- a walk, as the others' part of the total grows
 
-pub one_more : (q z sum u d : ℕ) (f g : ℕ → ℕ)
-    → sum ≡ count_below z (λ z. (q - z) * f (q - z) * count_below (suc z) g)
-    → u ≡ f (q - z) → d ≡ count_below (suc z) g
-    → sum + (q - z) * u * d ≡ count_below (z + 1) (λ z. (q - z) * f (q - z) * count_below (suc z) g)
-one_more q z sum u d f g e own other =
-    omega (
-      arith,
-      below_more z (λ z. (q - z) * f (q - z) * count_below (suc z) g),
-      ap₂ (λ s t. (q - z) * s * t) own other,
-    )
+-- the running sums of g
+abbrev pub sums_of : (ℕ → ℕ) → ℕ → ℕ
+sums_of g z = count_below (suc z) g
 
-pub all_places : (q n sum : ℕ) (f g : ℕ → ℕ) → n ≡ suc q
-    → sum ≡ count_below n (λ z. (q - z) * f (q - z) * count_below (suc z) g)
-    → sum ≡ count_below (suc q) (λ x. count_pairs x (λ y z. y * f y * g z))
-all_places q n sum f g e h =
-    h ∙ ap (λ n. count_below n (λ z. (q - z) * f (q - z) * count_below (suc z) g)) e
-    ∙ below_pairs q (λ z y. y * f y * count_below (suc z) g)
-    ∙ pairs_turn q (λ y z. y * f y * count_below (suc z) g)
-    ∙ sym (all_pairs q (λ y. y * f y) g)
+pub next_to : (q z end other tail sum w : ℕ) (f g : ℕ → ℕ) → z < q → end ≡ count_below z g → other ≡ g z
+    → tail ≡ running q f (sums_of g) z → sum ≡ nested q f (sums_of g) z → w ≡ f (q - z) * (end + other)
+    → (tail + w ≡ running q f (sums_of g) (z + 1)) × (sum + (tail + w) ≡ nested q f (sums_of g) (z + 1))
+    × (sum + (tail + w) ≤ weighted_to f g q)
+next_to q z end other tail sum w f g inside before here ran nests is =
+    let step = next_nested q z tail sum w f (sums_of g) inside ran nests
+    (is ∙ ap (λ t. f (q - z) * t) (more g z end other before here)) in
+    (step.0, step.1, omega (arith, step.2, all_pairs q (λ y. y * f y) g))
+
+pub all_places : (q n sum : ℕ) (f g : ℕ → ℕ) → n ≡ q → sum ≡ nested q f (sums_of g) n → sum ≡ weighted_to f g q
+all_places q n sum f g all is = all_nested q n sum f (sums_of g) all is ∙ sym (all_pairs q (λ y. y * f y) g)
+
+-- a running sum is at most the last
+pub end_within : (q z end other : ℕ) (g : ℕ → ℕ) → z < q → end ≡ count_below z g → other ≡ g z
+    → end + other ≤ count_below q g
+end_within q z end other g inside before here =
+    omega (arith, more g z end other before here, below_grows (suc z) q g (omega arith))
+
+-- over lists with these items
+pub listed_to : (own other : List ℕ) (f g : ℕ → ℕ) (q : ℕ) → ((y : ℕ) → get_or own y 0 ≡ f y)
+    → ((z : ℕ) → get_or other z 0 ≡ g z)
+    → weighted_to (λ y. get_or own y 0) (λ z. get_or other z 0) q ≡ weighted_to f g q
+listed_to own other f g q e h = below_same (suc q) _ _ (λ x b. listed own other f g x e h)
 
 -- ---- how large it is
 
@@ -70,17 +65,6 @@ sums_top q p r f g h k =
     (mul-le-mul
     (omega (arith, ap (λ k. count_below k (λ y. y * f y)) (add-one q), weighted_under q p f h))
     (omega (arith, ap (λ k. count_below k g) (add-one q))))
-
-pub sum_fits : (q n sum p r : ℕ) (f g : ℕ → ℕ) → n ≤ suc q
-    → sum ≡ count_below n (λ z. (q - z) * f (q - z) * count_below (suc z) g)
-    → count_below (q + 1) f ≤ p → count_below (q + 1) g ≤ r → sum ≤ q * p * r
-sum_fits q n sum p r f g inside e h k =
-    omega (
-      arith,
-      below_grows n (suc q) (λ z. (q - z) * f (q - z) * count_below (suc z) g) inside,
-      all_places q (suc q) _ f g refl refl,
-      sums_top q p r f g h k,
-    )
 
 -- ---- the width
 

@@ -1,8 +1,12 @@
 -- The joint means of a unit at all totals up to q, added up, in units of 1/S^2.
-use Rattle.std.specs.Prelude.{ℕ, suc, List}
-use Rattle.dl_exact.specs.Count.{count_below}
+use Rattle.std.specs.Prelude.{ℕ, suc, ◌*◌, List}
+use Rattle.dl_exact.specs.Count.{count_below, count_pairs}
 use Rattle.dl_iv.specs.declared.interval.Iv.{Iv}
 use Rattle.dl_alloc.specs.Weighted.{low_weighted, high_weighted}
+
+-- the sum of y * f y * g z over all y + z up to q
+abbrev pub weighted_to : (f g : ℕ → ℕ) → ℕ → ℕ
+weighted_to f g q = count_below (suc q) (λ x. count_pairs x (λ y z. y * f y * g z))
 
 -- the sum of the low ends of the joint means at the totals up to q
 abbrev pub low_sums : {B : ℕ} → List (Iv B) → List (Iv B) → ℕ → ℕ

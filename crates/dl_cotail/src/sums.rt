@@ -1,53 +1,37 @@
 //! Sums of joint means.
 
-ghost use Rattle.std.specs.Prelude.{◌≡◌, ℕ, ◌-◌, ◌*◌, ◌^◌, ◌<◌, ◌≤◌, List, length};
-ghost use Rattle.dl_exact.specs.Prelude.{◌over◌, sum_to};
-ghost use Rattle.dl_grid.specs.Cells.{low_at, high_at, spread, IsGrid};
+ghost use Rattle.std.specs.Prelude.{◌≡◌, ℕ, ◌-◌, ◌^◌, ◌<◌, ◌≤◌, List, length, get_or, All};
+ghost use Rattle.dl_exact.specs.Prelude.{◌over◌, count_below, sum_to};
+ghost use Rattle.dl_grid.specs.Cells.{spread};
+ghost use Rattle.dl_alloc.specs.Weighted.{AreBeside};
 ghost use Rattle.dl_model.specs.Prelude.{Holds, Loss, AreDeclarable, One, Joint, partial_sums, total, GridEncloses, unit_of, without};
-ghost use Rattle.dl_cotail.specs.Sums.{low_sums, high_sums};
+ghost use Rattle.dl_cotail.specs.Sums.{weighted_to};
 ghost use Rattle.dl_cotail.specs.Widths.{joint_width};
 
-use dl_grid::{Grid, units_of_one};
+use dl_alloc::sums::{outward, word_product};
+use dl_grid::Grid;
 use dl_iv::Iv;
 
-/// The product of two numbers of 64 bits: one multiplication.
-fn word_product(x: u128, y: u128) -> u128
-    requires first { x < 2 ^ 64 }
-    requires second { y < 2 ^ 64 }
-    ensures { result ≡ x * y }
-{
-    u128::from(x as u64) * u128::from(y as u64)
-}
-
-/// The sums of the unit's outcomes up to `q`, each weighted by the ends of its probability times
-/// those of the others leaving the total at most `q`, in units of `1 / 2^(2B)`. One walk: as the
-/// unit's outcome falls, the distribution of the others grows.
-fn weighted_sums<const B: u32>(unit: &Grid<B>, others: &Grid<B>, q: u32) -> (u128, u128)
-    requires unit { IsGrid unit.now }
-    requires others { IsGrid others.now }
-    requires in_unit { q < length unit.now }
+/// The sum of `y * own[y] * (others[0] + .. + others[z])` over all `y + z = q`: that of
+/// `y * own[y] * others[z]` over all `y + z <= q`. As `y` falls from `q` to 1, the sums of the
+/// products so far are added up, so that the product at `y` is in `y` of them.
+fn weighted_sum(own: &[u128], others: &[u128], q: u32) -> u128
+    requires in_own { q < length own.now }
     requires in_others { q < length others.now }
-    requires unit_narrow { spread unit.now < 2 ^ B }
-    requires others_narrow { spread others.now < 2 ^ B }
-    ensures low { result.0 ≡ low_sums unit.now others.now q }
-    ensures high { result.1 ≡ high_sums unit.now others.now q }
+    requires own_words { All (λ end. end ≤ 2 ^ 56) own.now }
+    requires mass { count_below q (λ z. get_or others.now z 0) < 2 ^ 64 }
+    requires fits { weighted_to (λ y. get_or own.now y 0) (λ z. get_or others.now z 0) q < 2 ^ 128 }
+    ensures { result ≡ weighted_to (λ y. get_or own.now y 0) (λ z. get_or others.now z 0) q }
 {
-    let own_lows = unit.lows();
-    let own_highs = unit.highs();
-    let lows = others.lows();
-    let highs = others.highs();
-    let mut low_end = 0;
-    let mut high_end = 0;
-    let mut low = 0;
-    let mut high = 0;
-    for z in 0..q + 1 {
-        let own = q - z;
-        low_end += lows[z as usize];
-        high_end += highs[z as usize];
-        low += own as u128 * word_product(own_lows[own as usize], low_end);
-        high += own as u128 * word_product(own_highs[own as usize], high_end);
+    let mut end = 0;
+    let mut so_far = 0;
+    let mut sum = 0;
+    for z in 0..q {
+        end += others[z as usize];
+        so_far += word_product(own[(q - z) as usize], end);
+        sum += so_far;
     }
-    (low, high)
+    sum
 }
 
 /// The sum of the joint means of one unit at the totals up to `q`, in buckets: the mean of the
@@ -55,10 +39,7 @@ fn weighted_sums<const B: u32>(unit: &Grid<B>, others: &Grid<B>, q: u32) -> (u12
 /// unit, and `others` that of all other units together. The low end is rounded down once, and the
 /// high end up.
 pub(crate) fn joint_sums<const B: u32>(unit: &Grid<B>, others: &Grid<B>, q: u32) -> Iv<B>
-    requires in_unit { q < length unit.now }
-    requires in_others { q < length others.now }
-    requires unit_narrow { spread unit.now < 2 ^ B }
-    requires others_narrow { spread others.now < 2 ^ B }
+    requires { AreBeside unit.now others.now q }
     ensures holds { (us : List Loss) (i : ℕ) → AreDeclarable us → i < length us
         → GridEncloses unit.now (unit_of us i) → GridEncloses others.now (total (without us i))
         → Holds (λ N. sum_to q (λ x. partial_sums us (Joint i x) N)) (partial_sums us One)
@@ -66,12 +47,7 @@ pub(crate) fn joint_sums<const B: u32>(unit: &Grid<B>, others: &Grid<B>, q: u32)
     ensures width { result.hi - result.lo
         ≤ joint_width (2 ^ B) (length unit.now) (spread unit.now) (spread others.now) }
 {
-    prove!(q < unit.cells());
-    prove!(q < others.cells());
-    let (low, high) = weighted_sums(unit, others, q);
-    let one = units_of_one(B);
-    Iv {
-        lo: low / one,
-        hi: high.div_ceil(one),
-    }
+    let low = weighted_sum(unit.lows(), others.lows(), q);
+    let high = weighted_sum(unit.highs(), others.highs(), q);
+    outward(low, high)
 }

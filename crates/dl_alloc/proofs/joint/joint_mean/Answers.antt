@@ -1,37 +1,57 @@
-use Rattle.dl_alloc.proofs.Common.{◌/◌, ◌^◌, pow_pos, scale_of, are_units, low_weighted}
-use Rattle.dl_alloc.proofs.WeightedEnds.{ends_order, end_divisible, end_fits, end_top, joint_holds, joint_width}
+use Rattle.dl_alloc.proofs.Common.{◌/◌, ◌^◌, ◌<◌, ◌∙◌, arith, sym, subst, pow_pos, scale_of, are_units, low_at, high_at, low_weighted}
+use Rattle.dl_alloc.proofs.Nested.{listed}
+use Rattle.dl_alloc.proofs.WeightedEnds.{sums_order, high_room, end_divisible, end_fits, end_top, joint_holds, joint_width}
 use Rattle.dl_alloc.proofs.Shares.{low_share}
 use Rattle.dl_alloc.proofs.joint.joint_mean.Goals as goal
 
-pub units_of_one-one-requires : goal.units_of_one-one-requires
-units_of_one-one-requires g c = (scale_of c.args.unit.now c.cells.ensures.grid.some).1
+pub weighted_sum-low-requires-clause-fits : goal.weighted_sum-low-requires-clause-fits
+weighted_sum-low-requires-clause-fits g c =
+    let unit = c.args.unit.now in
+    let others = c.args.others.now in
+    let room = high_room unit others c.args.x c.lows.ensures.grid c.lows-2.ensures.grid c.requires.unit_narrow
+    c.requires.others_narrow c.requires.in_unit in
+    subst (λ t. t < 2 ^ 128)
+    (sym (listed _ _ (low_at unit) (low_at others) c.args.x c.lows.ensures.each c.lows-2.ensures.each))
+    (omega (arith, sums_order unit others c.args.x, room))
 
-pub invariant_of-result : goal.invariant_of-result
-invariant_of-result g c =
-    let sums = c.weighted_sums-low.ensures in
-    let scale = scale_of c.args.unit.now c.cells.ensures.grid.some in
-    record {
-      ordered = rw (c.div_ceil.ensures, sums.low, sums.high, c.units_of_one-one.ensures)
-          (ends_order c.args.unit.now c.args.others.now c.args.x);
-      in_range = rw (c.div_ceil.ensures, sums.high, c.units_of_one-one.ensures)
-          (end_fits c.args.unit.now c.args.others.now c.args.x c.cells.ensures.grid c.cells-2.ensures.grid
-          c.requires.unit_narrow c.requires.others_narrow c.requires.in_unit);
-      scale_above = scale.0;
-      scale_below = scale.1;
-    }
+pub weighted_sum-high-requires-clause-fits : goal.weighted_sum-high-requires-clause-fits
+weighted_sum-high-requires-clause-fits g c =
+    let unit = c.args.unit.now in
+    let others = c.args.others.now in
+    subst (λ t. t < 2 ^ 128)
+    (sym (listed _ _ (high_at unit) (high_at others) c.args.x c.highs.ensures.each c.highs-2.ensures.each))
+    (high_room unit others c.args.x c.lows.ensures.grid c.lows-2.ensures.grid c.requires.unit_narrow
+    c.requires.others_narrow c.requires.in_unit)
+
+pub outward-requires : goal.outward-requires
+outward-requires g c =
+    let unit = c.args.unit.now in
+    let others = c.args.others.now in
+    let scale = scale_of unit c.lows.ensures.grid.some in
+    let low = c.weighted_sum-low.ensures
+    ∙ listed _ _ (low_at unit) (low_at others) c.args.x c.lows.ensures.each c.lows-2.ensures.each in
+    let high = c.weighted_sum-high.ensures
+    ∙ listed _ _ (high_at unit) (high_at others) c.args.x c.highs.ensures.each c.highs-2.ensures.each in
+    let fits = end_fits unit others c.args.x c.lows.ensures.grid c.lows-2.ensures.grid c.requires.unit_narrow
+    c.requires.others_narrow c.requires.in_unit in
+    rw (low, high) (omega arith, (scale.0, (scale.1, (sums_order unit others c.args.x, fits))))
 
 pub returns : goal.returns
 returns g c =
-    let sums = c.weighted_sums-low.ensures in
-    let top = end_top c.args.unit.now c.args.others.now c.args.x c.cells.ensures.grid c.cells-2.ensures.grid
-    c.requires.unit_narrow c.requires.others_narrow in
-    let held = joint_holds c.args.unit.now c.args.others.now in
-    rw (c.div_ceil.ensures, sums.low, sums.high, c.units_of_one-one.ensures) (record {
+    let unit = c.args.unit.now in
+    let others = c.args.others.now in
+    let low = c.weighted_sum-low.ensures
+    ∙ listed _ _ (low_at unit) (low_at others) c.args.x c.lows.ensures.each c.lows-2.ensures.each in
+    let high = c.weighted_sum-high.ensures
+    ∙ listed _ _ (high_at unit) (high_at others) c.args.x c.highs.ensures.each c.highs-2.ensures.each in
+    let top = end_top unit others c.args.x c.lows.ensures.grid c.lows-2.ensures.grid c.requires.unit_narrow
+    c.requires.others_narrow in
+    let held = joint_holds unit others in
+    rw (c.outward.ensures.low, c.outward.ensures.high, low, high) (record {
       holds = λ us i units here e f. held us i c.args.x c.requires.in_unit c.requires.in_others units here e f;
-      width = joint_width c.args.unit.now c.args.others.now c.args.x c.cells.ensures.grid c.cells-2.ensures.grid
-          c.requires.in_unit;
+      width = joint_width unit others c.args.x c.lows.ensures.grid c.lows-2.ensures.grid c.requires.in_unit;
       below = λ us i h declared here e f at.
-          low_share us i c.args.x (low_weighted c.args.unit.now c.args.others.now c.args.x / 2 ^ g.row.B) h
+          low_share us i c.args.x (low_weighted unit others c.args.x / 2 ^ g.row.B) h
           (2 ^ g.row.B) declared (pow_pos g.row.B) (held us i c.args.x c.requires.in_unit c.requires.in_others
           (are_units us declared) here e f).0 at;
       small = top;

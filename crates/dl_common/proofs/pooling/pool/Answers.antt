@@ -1,73 +1,59 @@
 -- All units are pooled, and nothing is refused. The one unit is that of the definition, so its plan is valid and declares
 -- the same.
-use Rattle.dl_common.proofs.Common.{◌≡◌, ◌≤◌, ◌∙◌, ap, ap₂, sym, subst, subst₂, refl, length, length-map, map, take, All, flat_map, Bor, Gamma, UnitOfPlan, whole, ◌<ℚ◌, HasPartsOf48Bits, IsFineTo30Bits, expected_count, expected_of, unit_share, shared_probabilities, lent, pooled_severity, poisson_units, has_factor}
-use Rattle.std.specs.Prelude.{IfSome}
+use Rattle.dl_common.proofs.Common.{◌≡◌, ◌≤◌, ◌∙◌, ap, ap₂, sym, subst, subst₂, refl, length, length-map, map, take, flat_map, Bor, Gamma, UnitOfPlan, whole, ◌<ℚ◌, HasPartsOf48Bits, IsFineTo30Bits, expected_of, unit_share, shared_probabilities, lent, pooled_severity, poisson_units, has_factor}
 use Rattle.dl_common.proofs.Alone.{pooled_valid, same_declared}
-use Rattle.dl_common.proofs.Named.{first_name, all_lent}
+use Rattle.dl_common.proofs.Named.{first_name, all_lent, each_expected, all_expected}
 use Rattle.dl_common.proofs.Units.{none_there}
 use Rattle.dl_common.proofs.pooling.pool.Goals as goal
 
 pub expected-requires-clause-each : goal.expected-requires-clause-each
 expected-requires-clause-each c =
-    let plan = c.args.plan.now in
-    let are = all_lent plan c.requires.0 c.requires.1 c.deref.result.now c.as_slice-units.result.now
-    (ap lent c.deref.ensures.value ∙ c.in_ok-shared.ensures.units) c.as_slice-units.ensures in
-    subst (All (λ (u : UnitOfPlan). HasPartsOf48Bits (expected_count u.freq))) (sym are)
-    (λ k d h. (c.requires.1.valid.units k d h).expected)
+    each_expected c.args.plan.now c.requires.0 c.requires.1 c.as_slice-all.result.now c.as_slice-units.result.now
+    (ap lent c.as_slice-all.ensures.value ∙ c.in_ok-shared.ensures.units) c.as_slice-units.ensures
 
 pub unwrap-mean-requires : goal.unwrap-mean-requires
 unwrap-mean-requires c =
     let plan = c.args.plan.now in
-    let are = all_lent plan c.requires.0 c.requires.1 c.deref.result.now c.as_slice-units.result.now
-    (ap lent c.deref.ensures.value ∙ c.in_ok-shared.ensures.units) c.as_slice-units.ensures in
-    let many : length c.deref.result.now ≡ length plan.units =
-    sym (length-map c.deref.result.now (λ (b : Bor UnitOfPlan). b.now)) ∙ ap length are in
+    let are = all_lent plan c.requires.0 c.requires.1 c.as_slice-all.result.now c.as_slice-units.result.now
+    (ap lent c.as_slice-all.ensures.value ∙ c.in_ok-shared.ensures.units) c.as_slice-units.ensures in
+    let many : length c.as_slice-all.result.now ≡ length plan.units =
+    sym (length-map c.as_slice-all.result.now (λ (b : Bor UnitOfPlan). b.now)) ∙ ap length are in
     c.expected.ensures.there (λ k some few. subst (λ us. HasPartsOf48Bits (expected_of (take k us))) (sym are)
     ((has_factor plan c.requires.0 c.requires.1).expected k some (subst (λ n. k ≤ n) many few)))
 
 pub mixed_severity-requires-clause-each : goal.mixed_severity-requires-clause-each
 mixed_severity-requires-clause-each c =
-    let plan = c.args.plan.now in
-    let are = all_lent plan c.requires.0 c.requires.1 c.deref-2.result.now c.as_slice-units.result.now
-    (ap lent c.deref-2.ensures.value ∙ c.in_ok-shared.ensures.units) c.as_slice-units.ensures in
-    subst (All (λ (u : UnitOfPlan). HasPartsOf48Bits (expected_count u.freq))) (sym are)
-    (λ k d h. (c.requires.1.valid.units k d h).expected)
+    each_expected c.args.plan.now c.requires.0 c.requires.1 c.as_slice-all.result.now c.as_slice-units.result.now
+    (ap lent c.as_slice-all.ensures.value ∙ c.in_ok-shared.ensures.units) c.as_slice-units.ensures
 
 pub mixed_severity-requires-clause-some : goal.mixed_severity-requires-clause-some
 mixed_severity-requires-clause-some c =
     let plan = c.args.plan.now in
-    let are = all_lent plan c.requires.0 c.requires.1 c.deref.result.now c.as_slice-units.result.now
-    (ap lent c.deref.ensures.value ∙ c.in_ok-shared.ensures.units) c.as_slice-units.ensures in
-    let mean : c.unwrap-mean.result ≡ expected_of plan.units =
-    subst (λ o. IfSome o (λ all. all ≡ expected_of (lent c.deref.result.now))) c.unwrap-mean.ensures
-    c.expected.ensures.value ∙ ap expected_of are in
+    let are = all_lent plan c.requires.0 c.requires.1 c.as_slice-all.result.now c.as_slice-units.result.now
+    (ap lent c.as_slice-all.ensures.value ∙ c.in_ok-shared.ensures.units) c.as_slice-units.ensures in
+    let mean = all_expected plan.units c.as_slice-all.result.now _ c.unwrap-mean.result are c.unwrap-mean.ensures
+    c.expected.ensures.value in
     subst (λ t. whole 0 <ℚ t) (sym mean) (has_factor plan c.requires.0 c.requires.1).some
 
 pub unreachable-requires-in_default-2 : goal.unreachable-requires-in_default-2
 unreachable-requires-in_default-2 c =
     let plan = c.args.plan.now in
-    let are = all_lent plan c.requires.0 c.requires.1 c.deref.result.now c.as_slice-units.result.now
-    (ap lent c.deref.ensures.value ∙ c.in_ok-shared.ensures.units) c.as_slice-units.ensures in
-    let again = all_lent plan c.requires.0 c.requires.1 c.deref-2.result.now c.as_slice-units.result.now
-    (ap lent c.deref-2.ensures.value ∙ c.in_ok-shared.ensures.units) c.as_slice-units.ensures in
-    let mean : c.unwrap-mean.result ≡ expected_of plan.units =
-    subst (λ o. IfSome o (λ all. all ≡ expected_of (lent c.deref.result.now))) c.unwrap-mean.ensures
-    c.expected.ensures.value ∙ ap expected_of are in
+    let are = all_lent plan c.requires.0 c.requires.1 c.as_slice-all.result.now c.as_slice-units.result.now
+    (ap lent c.as_slice-all.ensures.value ∙ c.in_ok-shared.ensures.units) c.as_slice-units.ensures in
+    let mean = all_expected plan.units c.as_slice-all.result.now _ c.unwrap-mean.result are c.unwrap-mean.ensures
+    c.expected.ensures.value in
     let factor = has_factor plan c.requires.0 c.requires.1 in
     none_there _ c.in_default-2.is (c.in_ok-sev.ensures.there
-    (subst₂ (λ v us. IsFineTo30Bits (map (unit_share v) us)) (sym mean) (sym again) factor.shares)
-    (subst₂ (λ v us. IsFineTo30Bits (flat_map (shared_probabilities v) us)) (sym mean) (sym again) factor.products))
+    (subst₂ (λ v us. IsFineTo30Bits (map (unit_share v) us)) (sym mean) (sym are) factor.shares)
+    (subst₂ (λ v us. IsFineTo30Bits (flat_map (shared_probabilities v) us)) (sym mean) (sym are) factor.products))
 
 pub returns-clause-pooled : goal.returns-clause-pooled
 returns-clause-pooled c r shares =
     let plan = c.args.plan.now in
-    let are = all_lent plan c.requires.0 c.requires.1 c.deref.result.now c.as_slice-units.result.now
-    (ap lent c.deref.ensures.value ∙ c.in_ok-shared.ensures.units) c.as_slice-units.ensures in
-    let again = all_lent plan c.requires.0 c.requires.1 c.deref-2.result.now c.as_slice-units.result.now
-    (ap lent c.deref-2.ensures.value ∙ c.in_ok-shared.ensures.units) c.as_slice-units.ensures in
-    let mean : c.unwrap-mean.result ≡ expected_of plan.units =
-    subst (λ o. IfSome o (λ all. all ≡ expected_of (lent c.deref.result.now))) c.unwrap-mean.ensures
-    c.expected.ensures.value ∙ ap expected_of are in
+    let are = all_lent plan c.requires.0 c.requires.1 c.as_slice-all.result.now c.as_slice-units.result.now
+    (ap lent c.as_slice-all.ensures.value ∙ c.in_ok-shared.ensures.units) c.as_slice-units.ensures in
+    let mean = all_expected plan.units c.as_slice-all.result.now _ c.unwrap-mean.result are c.unwrap-mean.ensures
+    c.expected.ensures.value in
     let units = c.as_slice-units.ensures in
     let severity = rw c.in-Some-2.is at c.in_ok-sev.ensures.value in
     let shape : c.in-Some.shape ≡ r = cc in
@@ -75,7 +61,7 @@ returns-clause-pooled c r shares =
       name = λ default. first_name plan.units c.as_slice-units.result.now c.index-units-0.result default _
           units shares.valid.some (c.in_ok-name.ensures ∙ c.as_slice.ensures);
       count = ap₂ Gamma shape mean;
-      severity = λ x. severity x ∙ ap (λ us. pooled_severity (poisson_units us) x) again;
+      severity = λ x. severity x ∙ ap (λ us. pooled_severity (poisson_units us) x) are;
       clause = refl;
       zero = refl;
     }

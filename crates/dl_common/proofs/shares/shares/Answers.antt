@@ -1,16 +1,7 @@
 -- A part of all claims is at most 1, and where it is fine it is not refused.
-use Rattle.dl_common.proofs.Common.{◌∙◌, ap, sym, subst, FitsFrac, UnitOfPlan, HasPartsOf48Bits, expected_count, lent, ◌/ℚ◌, given_value}
-use Rattle.dl_plan.specs.Common.{CanShare}
-use Rattle.dl_common.proofs.Units.{share_fits, shares_step, lent_inside, lent_item, of_each, poisson_counts, not_refused}
+use Rattle.dl_common.proofs.Common.{◌∙◌, ap, sym, subst, FitsFrac, lent, ◌/ℚ◌, given_value}
+use Rattle.dl_common.proofs.Units.{share_fits, shares_step, lent_inside, lent_item, not_refused}
 use Rattle.dl_common.proofs.shares.shares.Goals as goal
-
-pub expected-requires-clause-count : goal.expected-requires-clause-count
-expected-requires-clause-count c = poisson_counts _ (of_each CanShare c.args.units.now c.units.unit-index
-    c.unit-item.result c.units-test.true c.unit-item.is c.requires.poisson).count
-
-pub expected-requires-clause-admitted : goal.expected-requires-clause-admitted
-expected-requires-clause-admitted c = of_each (λ (u : UnitOfPlan). HasPartsOf48Bits (expected_count u.freq))
-    c.args.units.now c.units.unit-index c.unit-item.result c.units-test.true c.unit-item.is c.requires.each
 
 pub returns-in_default-clause-there : goal.returns-in_default-clause-there
 returns-in_default-clause-there c fine =

@@ -1,0 +1,16 @@
+-- The ends hold the joint mean beside independent units.
+use Rattle.dl_common.proofs.Common.{◌^◌, pow_pos}
+use Rattle.dl_model.proofs.Bounded.{are_units}
+use Rattle.dl_alloc.proofs.Shares.{low_share}
+use Rattle.dl_common.proofs.PoissonJoint.{poisson_exact, outcome_most}
+use Rattle.dl_common.proofs.joint.poisson_joint.Goals as goal
+
+pub returns-clause-holds : goal.returns-clause-holds
+returns-clause-holds g c us i units there here encloses =
+    c.claims_joint.ensures.holds _ _ (poisson_exact us i c.args.x units c.args.grid.now c.args.unit.now
+    c.requires.poisson there here encloses c.requires.inside) (outcome_most us i c.args.x units)
+
+pub returns-clause-below : goal.returns-clause-below
+returns-clause-below g c us i h declared there here encloses at =
+    low_share us i c.args.x c.claims_joint.result.lo h (2 ^ g.row.B) declared (pow_pos g.row.B)
+    (returns-clause-holds g c us i (are_units us declared) there here encloses).0 at
