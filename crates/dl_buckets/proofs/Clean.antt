@@ -14,15 +14,8 @@ pub record EachNone (f : Flaws) : Type 0 where
   pub too_far : f.too_far ≡ None
 
 pub each_none : (f : Flaws) → IsClean f → EachNone f
-each_none f clean = record {
-  numeral = clean.0;
-  range = clean.1.0;
-  long = clean.1.1.0;
-  lengths = clean.1.1.1.0;
-  sum = clean.1.1.1.1.0;
-  off_grid = clean.1.1.1.1.1.0;
-  too_far = clean.1.1.1.1.1.1.0;
-}
+each_none f (n, (r, (l, (m, (s, (o, (t, rest))))))) =
+    record { numeral = n; range = r; long = l; lengths = m; sum = s; off_grid = o; too_far = t }
 
 pub clean_first : (f g : Flaws) → IsClean (flaws_else f g) → IsClean f
 clean_first f g clean = keeps_first 7 f g clean

@@ -7,7 +7,7 @@ ghost use Rattle.dl_grid.specs.Width.{up};
 ghost use Rattle.dl_plan.specs.Prelude.{ArePriced, most_weight_parts, IsLevel, IsValid};
 ghost use Rattle.dl_plan.specs.declared.settings.Ask.TheVariants.{LayerMean};
 ghost use Rattle.dl_budget.specs.Asks.{IsInside, IsAskOf, index_of, named_unit, ask_budget, layer_mean_budget, tail_budget, most_tail_budget, price_budget, joint_by, joint_budget, kappa_budget, cotail_budget, in_digits, needed, Passes};
-ghost use Rattle.dl_budget.specs.Once.{AreBudgetsOf};
+ghost use Rattle.dl_budget.specs.Once.{AreBudgetsOf, HasBudgets};
 
 use crate::once::{Budgets, budgets_of};
 use crate::shared::{raised_budget, shared_joint_budget};
@@ -42,8 +42,7 @@ fn ask_budget_with<const B: u32>(
     unit: Option<u32>,
 ) -> u128
     requires scale { IsPlanScale B }
-    requires valid { IsValid plan.now }
-    requires budgets { AreBudgetsOf (2 ^ B) plan.now budgets }
+    requires plan { HasBudgets (2 ^ B) plan.now budgets }
     requires ask { IsAskOf plan.now ask.now }
     requires unit { unit ≡ named_unit plan.now.units ask.now }
     ensures value { result ≡ ask_budget (2 ^ B) plan.now ask.now }

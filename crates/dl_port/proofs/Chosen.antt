@@ -4,7 +4,7 @@ use Rattle.std.proofs.Common.{Bool, true, false, not, cond, ◌||◌, ◌&&◌, 
 use Rattle.std.proofs.lemmas.Bool.{cases_eq, eq-eqb, ne_eqb}
 use mathlib.Core.Path.{fun_ext}
 use Rattle.dl_exact.specs.Fraction.{Fraction, ◌*ℚ◌}
-use Rattle.dl_exact.proofs.Laws.{one_times, times_assoc, times_left_comm}
+use Rattle.dl_exact.proofs.Laws.{one_times, times_assoc, times_comm}
 use Rattle.dl_grid.specs.Cells.{low_at, high_at}
 use Rattle.dl_model.specs.Prelude.{convolve, at_zero, product, partial_sums, One, without}
 use Rattle.dl_model.proofs.Powers.{convolve_comm, convolve_assoc, at_zero_convolve}
@@ -35,70 +35,46 @@ cells_more u us h N = fun_ext (λ y. total_more u us h y N)
 abbrev pub Apart : (ℕ → Bool) → (ℕ → Bool) → Type 0
 Apart p q = (i : ℕ) → (p i && q i) ≡ false
 
-pub cells_both : (us : List Loss) (p q : ℕ → Bool) → AreDeclarable us → Apart p q → (N : ℕ)
+-- what a list of units comes to, where one unit more is one factor more: two lists that have no unit in common make the
+-- product of what each comes to
+module _ {X : Type 0} (op : X → X → X) (assoc : (x y z : X) → op (op x y) z ≡ op x (op y z))
+    (comm : (x y : X) → op x y ≡ op y x) (f : List Loss → X) (own : Loss → X) (none : op (f []) (f []) ≡ f [])
+    (more : (u : Loss) (us : List Loss) → IsLoss u → f (u ∷ us) ≡ op (own u) (f us)) where
+  first_of_both : (u : Loss) (xs ys zs : List Loss) (b d : Bool) → IsLoss u → (b && d) ≡ false
+      → op (f xs) (f ys) ≡ f zs
+      → op (f (cond b (u ∷ xs) xs)) (f (cond d (u ∷ ys) ys)) ≡ f (cond (b || d) (u ∷ zs) zs)
+  first_of_both u xs ys zs true true h e rest = absurd (cc)
+  first_of_both u xs ys zs true false h e rest =
+      ap (λ x. op x (f ys)) (more u xs h) ∙ assoc (own u) (f xs) (f ys) ∙ ap (op (own u)) rest ∙ sym (more u zs h)
+  first_of_both u xs ys zs false true h e rest =
+      ap (op (f xs)) (more u ys h) ∙ sym (assoc (f xs) (own u) (f ys))
+      ∙ ap (λ x. op x (f ys)) (comm (f xs) (own u))
+      ∙ assoc (own u) (f xs) (f ys) ∙ ap (op (own u)) rest ∙ sym (more u zs h)
+  first_of_both u xs ys zs false false h e rest = rest
+
+  parts_both : (us : List Loss) (p q : ℕ → Bool) → AreDeclarable us → Apart p q
+      → op (f (chosen us p)) (f (chosen us q)) ≡ f (chosen us (λ i. p i || q i))
+  parts_both [] p q w apart = none
+  parts_both (u ∷ us) p q w apart =
+      first_of_both u (chosen us (λ i. p (suc i))) (chosen us (λ i. q (suc i)))
+      (chosen us (λ i. p (suc i) || q (suc i))) (p zero) (q zero) w.0 (apart zero)
+      (parts_both us (λ i. p (suc i)) (λ i. q (suc i)) w.1 (λ i. apart (suc i)))
+
+cells_both : (us : List Loss) (p q : ℕ → Bool) → AreDeclarable us → Apart p q → (N : ℕ)
     → convolve (sum_cells (chosen us p) N) (sum_cells (chosen us q) N) ≡ sum_cells (chosen us (λ i. p i || q i)) N
-cells_both [] p q w apart N =
+cells_both us p q w apart N =
     let none : sum_cells [] N ≡ at_zero = fun_ext (λ y. no_units y N) in
-    ap (λ f. convolve f (sum_cells [] N)) none ∙ at_zero_convolve (sum_cells [] N)
-cells_both (u ∷ us) p q w apart N =
-    step (p zero) (q zero) (apart zero) (cells_both us (λ i. p (suc i)) (λ i. q (suc i)) w.1 (λ i. apart (suc i)) N)
-  where
-    A : List Loss
-    A = chosen us (λ i. p (suc i))
-
-    D : List Loss
-    D = chosen us (λ i. q (suc i))
-
-    C : List Loss
-    C = chosen us (λ i. p (suc i) || q (suc i))
-
-    own : ℕ → Fraction
-    own y = u.family.cells y N
-
-    step : (b d : Bool) → (b && d) ≡ false → convolve (sum_cells A N) (sum_cells D N) ≡ sum_cells C N
-        → convolve (sum_cells (cond b (u ∷ A) A) N) (sum_cells (cond d (u ∷ D) D) N)
-        ≡ sum_cells (cond (b || d) (u ∷ C) C) N
-    step true true e rest = absurd (cc)
-    step true false e rest =
-        ap (λ f. convolve f (sum_cells D N)) (cells_more u A w.0 N) ∙ convolve_assoc own (sum_cells A N) (sum_cells D N)
-        ∙ ap (convolve own) rest ∙ sym (cells_more u C w.0 N)
-    step false true e rest =
-        ap (convolve (sum_cells A N)) (cells_more u D w.0 N)
-        ∙ sym (convolve_assoc (sum_cells A N) own (sum_cells D N))
-        ∙ ap (λ f. convolve f (sum_cells D N)) (convolve_comm (sum_cells A N) own)
-        ∙ convolve_assoc own (sum_cells A N) (sum_cells D N) ∙ ap (convolve own) rest ∙ sym (cells_more u C w.0 N)
-    step false false e rest = rest
+    parts_both {X = ℕ → Fraction} (λ f g. convolve f g) convolve_assoc convolve_comm (λ vs. sum_cells vs N)
+    (λ u y. u.family.cells y N)
+    (ap (λ f. convolve f (sum_cells [] N)) none ∙ at_zero_convolve (sum_cells [] N))
+    (λ u vs h. cells_more u vs h N) us p q w apart
 
 all_both : (us : List Loss) (p q : ℕ → Bool) → AreDeclarable us → Apart p q → (N : ℕ)
     → partial_sums (chosen us p) One N *ℚ partial_sums (chosen us q) One N
     ≡ partial_sums (chosen us (λ i. p i || q i)) One N
 unfolding sum_over_outcomes
-all_both [] p q w apart N = one_times _
-all_both (u ∷ us) p q w apart N =
-    step (p zero) (q zero) (apart zero) (all_both us (λ i. p (suc i)) (λ i. q (suc i)) w.1 (λ i. apart (suc i)) N)
-  where
-    A : List Loss
-    A = chosen us (λ i. p (suc i))
-
-    D : List Loss
-    D = chosen us (λ i. q (suc i))
-
-    C : List Loss
-    C = chosen us (λ i. p (suc i) || q (suc i))
-
-    all_of : List Loss → Fraction
-    all_of vs = partial_sums vs One N
-
-    step : (b d : Bool) → (b && d) ≡ false → all_of A *ℚ all_of D ≡ all_of C
-        → all_of (cond b (u ∷ A) A) *ℚ all_of (cond d (u ∷ D) D) ≡ all_of (cond (b || d) (u ∷ C) C)
-    step true true e rest = absurd (cc)
-    step true false e rest =
-        ap (λ t. t *ℚ all_of D) (total_more_all u A w.0 N) ∙ times_assoc _ _ _
-        ∙ ap (λ t. u.family.all N *ℚ t) rest ∙ sym (total_more_all u C w.0 N)
-    step false true e rest =
-        ap (λ t. all_of A *ℚ t) (total_more_all u D w.0 N) ∙ times_left_comm _ _ _
-        ∙ ap (λ t. u.family.all N *ℚ t) rest ∙ sym (total_more_all u C w.0 N)
-    step false false e rest = rest
+all_both us p q w apart N = parts_both {X = Fraction} (λ x y. x *ℚ y) times_assoc times_comm
+    (λ vs. partial_sums vs One N) (λ u. u.family.all N) (one_times _) (λ u vs h. total_more_all u vs h N) us p q w apart
 
 pub both_chosen : {B : ℕ} (k : ℕ) (grids : List (List (Iv B))) (a b g : List (Iv B)) (p q : ℕ → Bool) → Apart p q
     → ((us : List Loss) → AreDeclarable us → EncloseEach grids us → GridEncloses a (total (chosen us p)))

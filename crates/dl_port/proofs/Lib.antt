@@ -5,3 +5,4 @@ mod OneGrid
 pub mod Chosen
 pub mod Apart
 pub mod Singles
+mod Alone

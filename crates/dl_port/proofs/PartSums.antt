@@ -1,11 +1,10 @@
 -- Sums of the first units and of the last, and what they add up to.
-use Rattle.dl_port.proofs.Common.{ℕ, zero, suc, ◌≡◌, ◌+◌, ◌-◌, ◌^◌, ◌<◌, ◌≤◌, List, [], ◌∷◌, ◌++◌, length, get_or, take, drop, map, arith, refl, sym, ap, ap₂, subst, subst₂, ◌∙◌, add-one, false, IsTrue, ◌↔◌, Option, Some, None, IsSome, IfSome, option_to_list, fold, remove, slice_get, fold_more, sum_by-take-le, pow_pos, get_or-map, get_or_default, length-map, length-append, length-take, take_all, drop_all, Iv, Loss, AreDeclarable, total, GridEncloses, IsConvolution, spread, convolution_spread, sum_spread, cv_rises, without_suc, EnclosesSum, IsSumOfPart, IsTotal, IsSumWithout, AreSumsOfEnds}
-use Rattle.std.proofs.Common.{inl, inr, replicate}
-use Rattle.dl_port.specs.Shared.{AreSumsWithout}
-use Rattle.std.specs.Prelude.{Bool, true, Any, MatchOption}
-use Rattle.std.proofs.lemmas.List.{append-nil, get_or_append_left, get_or-replicate, length-replicate}
+use Rattle.dl_port.proofs.Common.{ℕ, zero, suc, ◌≡◌, ◌+◌, ◌-◌, ◌^◌, ◌<◌, ◌≤◌, List, [], ◌∷◌, ◌++◌, length, get_or, take, drop, map, arith, refl, sym, ap, ap₂, subst, subst₂, ◌∙◌, add-one, Option, Some, None, IfSome, option_to_list, fold, remove, slice_get, fold_more, sum_by-take-le, pow_pos, get_or-map, length-map, length-append, length-take, take_all, drop_all, Iv, Loss, AreDeclarable, total, GridEncloses, IsConvolution, spread, convolution_spread, sum_spread, cv_rises, without_suc, EnclosesSum, IsSumOfPart, IsTotal, IsSumWithout, AreSumsOfEnds}
+use Rattle.std.proofs.Common.{inl, inr}
+use Rattle.std.specs.Prelude.{MatchOption}
+use Rattle.std.proofs.lemmas.List.{append-nil, get_or_append_left}
 use Rattle.std.proofs.lemmas.Option.{slice_get-get_or}
-use Rattle.std.proofs.lemmas.Bool.{cases_lt, false≢true, iff_false}
+use Rattle.std.proofs.lemmas.Bool.{cases_lt}
 use Rattle.std.proofs.Math.Seq.{get_or-append_seam}
 use Rattle.dl_port.proofs.Added.{first_cells, units_first, units_after, unit_at, alone, joins, encloses_at}
 
@@ -187,30 +186,3 @@ all_of_them {B} k i grids sum all part narrow = record {
   narrow = subst (λ t. spread sum ≤ sum_spread (2 ^ B) k t)
       (take_all i (map spread grids) (rw length-map (omega (arith, all)))) narrow;
 }
-
--- ---- which units are asked for
-
--- where none is, no sum of other units is wanted
-pub none_without : {B : ℕ} (k : ℕ) (grids : List (List (Iv B))) (asked : List Bool) (any : Bool)
-    (sums : List (Option (List (Iv B)))) → IsTrue any ↔ Any (λ a. IsTrue a) asked → any ≡ false
-    → length asked ≡ length grids → sums ≡ replicate (length grids) None → AreSumsWithout k grids asked sums
-none_without {B} k grids asked any sums tells none many is =
-    let each : (i : ℕ) → i < length grids → get_or sums i None ≡ None = λ i inside.
-    ap (λ (t : List (Option (List (Iv B)))). get_or t i None) is
-    ∙ get_or-replicate {A = Option (List (Iv B))} (length grids) i None None inside in
-    record {
-      as_many = ap (λ (t : List (Option (List (Iv B)))). length t) is
-          ∙ length-replicate {A = Option (List (Iv B))} (length grids) None;
-      there = λ i inside.
-          let within : i < length asked = omega (arith, many, inside) in (
-            λ some. absurd (false≢true (subst IsSome (each i inside) some)),
-            λ here. absurd (iff_false tells none (
-              i,
-              true,
-              within,
-              get_or_default asked i true false within ∙ here,
-              refl,
-            )),
-          );
-      each = λ i inside. subst (λ (t : Option (List (Iv B))). IfSome t (IsSumWithout k grids i)) (sym (each i inside)) tt;
-    }

@@ -1,10 +1,21 @@
 -- The sum of all units, and those of all units but one.
-use Rattle.std.specs.Prelude.{ℕ, suc, ◌≡◌, ◌+◌, ◌-◌, ◌^◌, ◌<◌, ◌≤◌, ◌↔◌, Bool, false, IsTrue, Option, Some, None, IsSome, IfSome, List, [], length, map, drop, get_or}
+use Rattle.std.specs.Prelude.{All, ℕ, suc, ◌≡◌, ◌+◌, ◌-◌, ◌^◌, ◌<◌, ◌≤◌, ◌↔◌, Bool, false, IsTrue, Option, Some, None, IsSome, IfSome, List, [], length, map, drop, get_or}
 use Rattle.std.specs.List.{remove}
 use Rattle.dl_iv.specs.declared.interval.Iv.{Iv}
 use Rattle.dl_grid.specs.Prelude.{spread, sum_spread}
 use Rattle.dl_model.specs.Prelude.{Loss, AreDeclarable, total, GridEncloses, without}
 use Rattle.dl_port.specs.Sums.{EncloseEach}
+
+-- each grid has the first k cells, of which there is one at least
+pub record HaveCells {B : ℕ} (k : ℕ) (grids : List (List (Iv B))) : Type 0 where
+  pub some : 1 ≤ k
+  pub in_each : All (λ g. k ≤ length g) grids
+
+-- there is a grid, and each has the first k cells, of which there is one at least
+pub record AreUnits {B : ℕ} (k : ℕ) (grids : List (List (Iv B))) : Type 0 where
+  pub units : 1 ≤ length grids
+  pub some : 1 ≤ k
+  pub in_each : All (λ g. k ≤ length g) grids
 
 -- k cells that enclose the sum of all units, as narrow as where the units are taken in one by one,
 -- in order

@@ -16,7 +16,7 @@ mod widths;
 
 ghost use Rattle.std.specs.Prelude.{◌≡◌, ℕ, ◌^◌, ◌<◌, ◌≤◌, List, [], ◌++◌, length, get_or, map, All, IfOk};
 ghost use Rattle.dl_port.specs.Sums.{EncloseEach};
-ghost use Rattle.dl_port.specs.Shared.{IsSumOfPart};
+ghost use Rattle.dl_port.specs.Shared.{AreUnits, HaveCells, IsSumOfPart};
 ghost use Rattle.dl_grid.specs.Prelude.{spread, convolution_spread, sum_spread};
 ghost use Rattle.std.specs.List.{fold, remove};
 ghost use Rattle.dl_model.specs.Prelude.{without, Loss, AreDeclarable, total, GridEncloses};
@@ -74,9 +74,7 @@ fn sum_one_by_one<const B: u32>(
     units: &[Grid<B>],
     cells: u32,
 ) -> Result<Grid<B>, AllocError>
-    requires units { 1 ≤ length units.now }
-    requires some { 1 ≤ cells }
-    requires in_each { All (λ g. cells ≤ length g) units.now }
+    requires { AreUnits cells units.now }
     ensures cells { IfOk result (λ g. length g ≡ cells) }
     ensures encloses { IfOk result (λ g. (us : List Loss) → AreDeclarable us
         → EncloseEach units.now us → GridEncloses g (total us)) }
@@ -98,8 +96,7 @@ fn first_together<const B: u32>(
     requires first { 1 ≤ many }
     requires within { many ≤ length units.now }
     requires same { (i : ℕ) → i < many → get_or units.now i [] ≡ get_or units.now 0 [] }
-    requires some { 1 ≤ cells }
-    requires in_each { All (λ g. cells ≤ length g) units.now }
+    requires cells { HaveCells cells units.now }
     ensures cells { IfOk result (λ g. length g ≡ cells) }
     ensures encloses { IfOk result (λ g. (us : List Loss) → AreDeclarable us
         → EncloseEach units.now us → GridEncloses g (total us)) }
@@ -115,9 +112,7 @@ fn all_units<const B: u32>(
     units: &[Grid<B>],
     cells: u32,
 ) -> Result<Option<Grid<B>>, AllocError>
-    requires units { 1 ≤ length units.now }
-    requires some { 1 ≤ cells }
-    requires in_each { All (λ g. cells ≤ length g) units.now }
+    requires { AreUnits cells units.now }
     ensures { IfOk result (λ sum. IsSumOfPart cells units.now (λ us. us) sum) }
 {
     let many = alike(units);

@@ -1,11 +1,10 @@
 //! The sums where one unit alone is asked for: the sum of all others comes first, and the total from
 //! it.
 
-ghost use Rattle.std.specs.Prelude.{◌≡◌, ◌<◌, ◌≤◌, Bool, List, length, All, IfOk, IfSome};
+ghost use Rattle.std.specs.Prelude.{◌<◌, ◌≤◌, length, IfOk, IfSome};
 ghost use Rattle.dl_limits.specs.Limits.{most_units};
-ghost use Rattle.dl_port.specs.Shared.{IsTotal, IsSumWithout, AreSumsWithout, IsOnly};
+ghost use Rattle.dl_port.specs.Shared.{HaveCells, IsTotal, IsSumWithout, IsOnly};
 
-use crate::shared::{Sums, no_others};
 use crate::shortest::shortest_first;
 use crate::widths::{spread_of_sum, spread_without};
 use crate::{others_with, total_with};
@@ -31,7 +30,7 @@ pub(crate) fn only_asked(asked: &[bool]) -> Option<usize>
 
 /// The sum of all units but the one at `i`, the shortest first. Where that comes out wider than it
 /// may be when the others are taken in one by one, they are taken in one by one.
-fn others_shortest<const B: u32>(
+pub(crate) fn others_shortest<const B: u32>(
     alloc: Global,
     work: &mut Workspace,
     units: &[Grid<B>],
@@ -40,8 +39,7 @@ fn others_shortest<const B: u32>(
 ) -> Result<Grid<B>, AllocError>
     requires unit { i < length units.now }
     requires few { length units.now ≤ most_units }
-    requires some { 1 ≤ cells }
-    requires in_each { All (λ g. cells ≤ length g) units.now }
+    requires cells { HaveCells cells units.now }
     ensures { IfOk result (IsSumWithout cells units.now i) }
 {
     if let Some(sum) = shortest_first(alloc, work, units, i, cells)? {
@@ -56,7 +54,7 @@ fn others_shortest<const B: u32>(
 
 /// The sum of all units, from that of all but the one at `i`. Where it comes out wider than it may
 /// be when the units are taken in one by one, they are taken in one by one.
-fn total_of<const B: u32>(
+pub(crate) fn total_of<const B: u32>(
     alloc: Global,
     work: &mut Workspace,
     units: &[Grid<B>],
@@ -65,8 +63,7 @@ fn total_of<const B: u32>(
     cells: u32,
 ) -> Result<Grid<B>, AllocError>
     requires unit { i < length units.now }
-    requires some { 1 ≤ cells }
-    requires in_each { All (λ g. cells ≤ length g) units.now }
+    requires cells { HaveCells cells units.now }
     requires others { IsSumWithout cells units.now i others.now }
     ensures { IfOk result (IsTotal cells units.now) }
 {
@@ -77,29 +74,4 @@ fn total_of<const B: u32>(
         }
     }
     total_with(alloc, work, units, cells)
-}
-
-/// The sum of all units, and that of all units but the one at `i`, which alone is asked for: by one
-/// product more than the latter, in which the shortest are added up first.
-pub(crate) fn sums_for_one<const B: u32>(
-    alloc: Global,
-    work: &mut Workspace,
-    units: &[Grid<B>],
-    i: usize,
-    cells: u32,
-) -> Result<Sums<B>, AllocError>
-    requires unit { i < length units.now }
-    requires few { length units.now ≤ most_units }
-    requires some { 1 ≤ cells }
-    requires in_each { All (λ g. cells ≤ length g) units.now }
-    ensures total { IfOk result (λ sums. IsTotal cells units.now sums.total) }
-    ensures others { IfOk result (λ sums. (asked : List Bool) → IsOnly asked i
-        → length asked ≡ length units.now
-        → AreSumsWithout cells units.now asked sums.others.items) }
-{
-    let sum = others_shortest(alloc, work, units, i, cells)?;
-    let total = total_of(alloc, work, units, i, &sum, cells)?;
-    let mut others = no_others(alloc, units.len())?;
-    others[i] = Some(sum);
-    Ok(Sums { total, others })
 }

@@ -6,9 +6,9 @@ ghost use Rattle.std.specs.Prelude.{◌≡◌, ℕ, ◌+◌, ◌^◌, ◌<◌, �
 ghost use Rattle.std.specs.Option.{option_copied};
 ghost use Rattle.dl_limits.specs.Limits.{most_units};
 ghost use Rattle.dl_model.specs.Prelude.{Loss, AreDeclarable, total, GridEncloses};
-ghost use Rattle.dl_port.specs.Shared.{EnclosesSum, IsSumOfPart, AreSuffixSums, IsTotal, IsSumWithout, AreSumsWithout, AreFirstWithout};
+ghost use Rattle.dl_port.specs.Shared.{AreUnits, HaveCells, EnclosesSum, IsSumOfPart, AreSuffixSums, IsTotal, IsSumWithout, AreSumsWithout, AreFirstWithout};
 
-use crate::only::{only_asked, sums_for_one};
+use crate::only::{only_asked, others_shortest, total_of};
 use crate::widths::spread_without;
 use crate::{no_units, others_with, total_with};
 use dl_grid::Grid;
@@ -60,9 +60,7 @@ fn sums_of_ends<const B: u32>(
     units: &[Grid<B>],
     cells: u32,
 ) -> Result<Vec<Grid<B>>, AllocError>
-    requires units { 1 ≤ length units.now }
-    requires some { 1 ≤ cells }
-    requires in_each { All (λ g. cells ≤ length g) units.now }
+    requires { AreUnits cells units.now }
     ensures { IfOk result (λ ends. AreSuffixSums cells units.now ends.items) }
 {
     let mut ends = Vec::new(alloc);
@@ -81,22 +79,20 @@ fn others_where_asked<const B: u32>(
     alloc: Global,
     work: &mut Workspace,
     units: &[Grid<B>],
-    asked: &[bool],
     i: u32,
+    asked: bool,
     before: Option<&Grid<B>>,
     after: Option<&Grid<B>>,
     cells: u32,
 ) -> Result<Option<Grid<B>>, AllocError>
     requires unit { i < length units.now }
-    requires asked { length asked.now ≡ length units.now }
-    requires some { 1 ≤ cells }
-    requires in_each { All (λ g. cells ≤ length g) units.now }
+    requires cells { HaveCells cells units.now }
     requires before { IsSumOfPart cells units.now (take i) (option_copied before) }
     requires after { IsSumOfPart cells units.now (drop (suc i)) (option_copied after) }
-    ensures there { IfOk result (λ sum. IsSome sum ↔ IsTrue (get_or asked.now i false)) }
+    ensures there { IfOk result (λ sum. IsSome sum ↔ IsTrue asked) }
     ensures sum { IfOk result (λ sum. IfSome sum (IsSumWithout cells units.now i)) }
 {
-    if !asked[i as usize] {
+    if !asked {
         return Ok(None);
     }
     let sum = sum_of_two(alloc, work, before, after, &units[i as usize], cells)?;
@@ -125,8 +121,7 @@ fn push_without<const B: u32>(
     requires unit { i < length units.now }
     requires many { length others.old.items ≡ i }
     requires asked { length asked.now ≡ length units.now }
-    requires some { 1 ≤ cells }
-    requires in_each { All (λ g. cells ≤ length g) units.now }
+    requires cells { HaveCells cells units.now }
     requires before { IsSumOfPart cells units.now (take i) (option_copied before) }
     requires parts { AreFirstWithout cells units.now asked.now others.old.items ends.old.items }
     ensures many { OnOk result (length others.new.items ≡ i + 1) }
@@ -134,30 +129,31 @@ fn push_without<const B: u32>(
         others.new.items ends.new.items) }
 {
     let after = ends.pop();
-    let sum = others_where_asked(alloc, work, units, asked, i, before, after.as_ref(), cells)?;
+    let asked = asked[i as usize];
+    let sum = others_where_asked(alloc, work, units, i, asked, before, after.as_ref(), cells)?;
     others.push(sum)?;
     Ok(())
 }
 
 /// The first `cells` cells of the sum of all units, and for each unit that is asked for, of the sum
-/// of all other units, where some unit is asked for.
+/// of all other units, from the sums of the last units.
 fn asked_sums<const B: u32>(
     alloc: Global,
     work: &mut Workspace,
     units: &[Grid<B>],
     asked: &[bool],
+    ends: Vec<Grid<B>>,
     cells: u32,
 ) -> Result<Sums<B>, AllocError>
-    requires units { 1 ≤ length units.now }
+    requires cells { AreUnits cells units.now }
     requires few { length units.now ≤ most_units }
     requires asked { length asked.now ≡ length units.now }
-    requires some { 1 ≤ cells }
-    requires in_each { All (λ g. cells ≤ length g) units.now }
+    requires ends { AreSuffixSums cells units.now ends.items }
     ensures total { IfOk result (λ sums. IsTotal cells units.now sums.total) }
     ensures others { IfOk result (λ sums.
         AreSumsWithout cells units.now asked.now sums.others.items) }
 {
-    let mut ends = sums_of_ends(alloc, work, units, cells)?;
+    let mut ends = ends;
     let mut others = Vec::new(alloc);
     push_without(
         alloc,
@@ -197,10 +193,7 @@ fn some_asked(asked: &[bool]) -> bool
 }
 
 /// For each of `many` units, no sum of the other units.
-pub(crate) fn no_others<const B: u32>(
-    alloc: Global,
-    many: usize,
-) -> Result<Vec<Option<Grid<B>>>, AllocError>
+fn no_others<const B: u32>(alloc: Global, many: usize) -> Result<Vec<Option<Grid<B>>>, AllocError>
     ensures { IfOk result (λ others. others.items ≡ replicate many None) }
 {
     let mut others = Vec::new(alloc);
@@ -233,10 +226,15 @@ pub fn total_and_others<const B: u32>(
         AreSumsWithout cells units.now asked.now sums.others.items) }
 {
     if let Some(i) = only_asked(asked) {
-        return sums_for_one(alloc, work, units, i, cells);
+        let sum = others_shortest(alloc, work, units, i, cells)?;
+        let total = total_of(alloc, work, units, i, &sum, cells)?;
+        let mut others = no_others(alloc, units.len())?;
+        others[i] = Some(sum);
+        return Ok(Sums { total, others });
     }
     if some_asked(asked) {
-        return asked_sums(alloc, work, units, asked, cells);
+        let ends = sums_of_ends(alloc, work, units, cells)?;
+        return asked_sums(alloc, work, units, asked, ends, cells);
     }
     let others = no_others(alloc, units.len())?;
     let total = total_with(alloc, work, units, cells)?;

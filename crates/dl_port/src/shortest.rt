@@ -5,7 +5,7 @@ ghost use Rattle.std.specs.Prelude.{◌≡◌, ℕ, ◌+◌, ◌<◌, ◌≤◌,
 ghost use Rattle.dl_iv.specs.declared.interval.Iv.{Iv};
 ghost use Rattle.dl_model.specs.Prelude.{Loss, AreDeclarable, total, without, GridEncloses};
 ghost use Rattle.dl_port.specs.Sums.{EncloseEach};
-ghost use Rattle.dl_port.specs.Shared.{IsSumOfPart};
+ghost use Rattle.dl_port.specs.Shared.{HaveCells, IsSumOfPart};
 ghost use Rattle.dl_port.specs.Chosen.{chosen, passed, in_some, AreApart, AreSumsOfChosen, KeepsChosen};
 
 use dl_grid::Grid;
@@ -89,8 +89,7 @@ fn singles<const B: u32>(
     skip: usize,
     cells: u32,
 ) -> Result<Vec<Grid<B>>, AllocError>
-    requires some { 1 ≤ cells }
-    requires in_each { All (λ g. cells ≤ length g) units.now }
+    requires { HaveCells cells units.now }
     ensures in_each { IfOk result (λ sums. All (λ g. length g ≡ cells) sums.items) }
     ensures sums { IfOk result (λ sums. (tests : List (ℕ → Bool))
         × AreSumsOfChosen cells units.now sums.items tests
@@ -115,8 +114,7 @@ pub(crate) fn shortest_first<const B: u32>(
     skip: usize,
     cells: u32,
 ) -> Result<Option<Grid<B>>, AllocError>
-    requires some { 1 ≤ cells }
-    requires in_each { All (λ g. cells ≤ length g) units.now }
+    requires { HaveCells cells units.now }
     ensures { IfOk result (λ sum. IsSumOfPart cells units.now (λ us. without us skip) sum) }
 {
     let sums = singles(alloc, units, skip, cells)?;

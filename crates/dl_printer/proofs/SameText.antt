@@ -1,5 +1,6 @@
 -- The canonical tokens of a node do not depend on its spans.
-use Rattle.dl_printer.proofs.Common.{◌≡◌, ◌∙◌, List, [], ◌∷◌, ◌++◌, map, Option, Some, None, codes, refl, sym, ap, flat_map, Program, Piece, optional, behind_colon, item_pieces, list_pieces, limit_pieces, layer_pieces, atom_pieces, weights_pieces, mixture_pieces, cost_pieces, sev_pieces, definition_pieces, zero_pieces, common_pieces, share_pieces, ceded_pieces, and_ceded_pieces, ceded_layers_pieces, clause_pieces, freq_pieces, exposure_pieces, listed_pieces, count_pieces, late_count_pieces, unit_pieces, head_pieces, program_pieces, spaced, canonical, option_map, Keyword, ListItem, ListAst, LimitAst, Finite, Infinite, Layer, Atom, MixAst, SevBody, Mixture, Ref, SevAst, SevDef, ZeroAst, Plain, PortHead, CountAst, Exposed, Listed, Share, CededLayer, Cession, FreqAst, Exposure, Claims, UnitAst}
+use Rattle.dl_printer.proofs.Common.{◌≡◌, ◌∙◌, List, [], ◌∷◌, ◌++◌, map, Option, Some, None, codes, refl, sym, ap, flat_map, Program, Piece, numeral_piece, optional, behind_colon, word_piece, item_pieces, list_pieces, limit_pieces, layer_pieces, atom_pieces, weights_pieces, mixture_pieces, cost_pieces, sev_pieces, definition_pieces, zero_pieces, common_pieces, share_pieces, ceded_pieces, and_ceded_pieces, ceded_layers_pieces, clause_pieces, freq_pieces, exposure_pieces, listed_pieces, count_pieces, late_count_pieces, unit_pieces, head_pieces, program_pieces, spaced, canonical, option_map, Keyword, ListItem, ListAst, LimitAst, Finite, Infinite, Layer, Atom, MixAst, SevBody, Mixture, Ref, SevAst, SevDef, ZeroAst, Plain, PortHead, CountAst, Exposed, Listed, Share, CededLayer, Cession, FreqAst, Exposure, Claims, UnitAst}
+use Rattle.std.proofs.Common.{ap₂}
 use Rattle.dl_printer.specs.Apart.{bare_numeral, bare_item, bare_list, bare_limit, bare_layer, bare_atom, bare_mix, bare_body, bare_sev, bare_definition, bare_zero, bare_ceded, bare_cession, bare_freq, bare_exposure, bare_count, bare_unit, bare_head, bare, SameProgram, bare_share}
 use Rattle.dl_lexer.specs.declared.token.Keyword.TheVariants as words
 use Rattle.dl_ast.specs.declared.ast.Numeral.{Numeral}
@@ -32,14 +33,13 @@ list_same : (l : ListAst) → list_pieces (bare_list l) ≡ list_pieces l
 unfolding list_pieces
 list_same l = simp (all_same item_pieces bare_item item_same l.items)
 
-limit_same : (l : LimitAst) → limit_pieces (bare_limit l) ≡ limit_pieces l
-unfolding limit_pieces
-limit_same (Finite n) = refl
-limit_same Infinite = refl
-
 layer_same : (l : Layer) → layer_pieces (bare_layer l) ≡ layer_pieces l
-unfolding layer_pieces
-layer_same l = rw (limit_same l.limit) refl
+unfolding layer_pieces limit_pieces
+layer_same l = ap (λ ps. ps ++ word_piece words.Xs ++ numeral_piece l.attach) (limits l.limit)
+  where
+    limits : (limit : LimitAst) → limit_pieces (bare_limit limit) ≡ limit_pieces limit
+    limits (Finite n) = refl
+    limits Infinite = refl
 
 atom_same : (a : Atom) → atom_pieces (bare_atom a) ≡ atom_pieces a
 unfolding atom_pieces
@@ -68,14 +68,13 @@ definition_same : (d : SevDef) → definition_pieces (bare_definition d) ≡ def
 unfolding definition_pieces
 definition_same d = rw (mixture_same d.mix) refl
 
-share_same : (s : Share) → share_pieces (bare_share s) ≡ share_pieces s
-unfolding share_pieces
-share_same Whole = refl
-share_same _ = refl
-
 ceded_same : (c : CededLayer) → ceded_pieces (bare_ceded c) ≡ ceded_pieces c
-unfolding ceded_pieces
-ceded_same c = rw (share_same c.share, layer_same c.layer) refl
+unfolding ceded_pieces share_pieces
+ceded_same c = ap₂ (λ share layer. share ++ layer) (shares c.share) (layer_same c.layer)
+  where
+    shares : (share : Share) → share_pieces (bare_share share) ≡ share_pieces share
+    shares Whole = refl
+    shares _ = refl
 
 and_ceded_same : (c : CededLayer) → and_ceded_pieces (bare_ceded c) ≡ and_ceded_pieces c
 unfolding and_ceded_pieces

@@ -6,7 +6,7 @@ use Rattle.dl_types.specs.Claimed.{IsFinal, AreClaims, IsNumberOf, IsUnitCount, 
 use Rattle.dl_types.proofs.Aggregates.{aggregate_valid}
 use Rattle.dl_types.proofs.FineClaims.{count_probs, fine_left, occ_shares, agr_shares}
 use Rattle.dl_types.proofs.KeptCounts.{AreWhole, AreChecked, whole_count, count_kept}
-use Rattle.dl_types.proofs.Stops.{stopped}
+use Rattle.dl_types.proofs.Stops.{stop_second, stopped}
 use Rattle.dl_types.proofs.RuleLists.{only, both, all_kept, lists}
 use Rattle.dl_types.proofs.PlannedCounts.{claims_admitted, made_valid, made_is, made_zero, made_thinned}
 
@@ -172,6 +172,14 @@ module _ (settings : Settings) (unit : ℕ) (u : GridUnit) where
       → IsErr r × IsErrAnd r (λ e. e ≡ stop) → StopsAt all_asked stop → AnswersGrid settings unit text u r
   grid_told text r stop is told =
       stopped (AnswersGrid settings unit text u) r stop is (subst (λ o. StopsAt o stop) (sym grid_fault) told)
+
+  -- a check that stops after the rules on clauses and counts
+  pub late_told : (text : List ℕ) (r : Result UnitOfPlan CheckFault) (stop : CheckFault)
+      → IsErr r × IsErrAnd r (λ e. e ≡ stop) → clauses ≡ None → counted_fault ≡ None
+      → StopsAt (breaks unit rules.HorizonTooLarge far else breaks unit rules.ZeroBase base) stop
+      → AnswersGrid settings unit text u r
+  late_told text r stop is no_clause no_count told =
+      grid_told text r stop is (stop_second clauses _ stop no_clause (stop_second counted_fault _ stop no_count told))
 
   pub grid_parts : fault_on_grid settings unit u ≡ None → (clauses ≡ None) × (counted_fault ≡ None) × (far ≡ None) × (base ≡ None)
   grid_parts none =

@@ -2,14 +2,20 @@
 use Rattle.std.specs.Prelude.{◌&&◌, Bool, true, false, if◌then◌else◌, Option, Some, None}
 use Rattle.dl_exact.specs.Fraction.{Fraction, whole, ◌-ℚ◌, ◌*ℚ◌, ◌/ℚ◌}
 use Rattle.dl_plan.specs.Severity.{Pairs, probability, mean_amount}
+use Rattle.dl_plan.specs.Ranges.{IsBucket}
 use Rattle.dl_buckets.specs.declared.grid.GridExposure.{GridExposure}
 use Rattle.dl_buckets.specs.declared.grid.GridExposure.TheVariants.{Claims, Loss, Premium}
 use Rattle.dl_buckets.specs.declared.grid.GridFreq.{GridFreq}
-use Rattle.dl_buckets.specs.declared.grid.GridFreq.TheVariants.{Fixed, Poisson, Bernoulli, Binomial, Gamma}
+use Rattle.dl_buckets.specs.declared.grid.GridFreq.TheVariants.{Poisson, Gamma}
 use Rattle.dl_buckets.specs.declared.grid.GridCount.{GridCount}
 use Rattle.dl_buckets.specs.declared.grid.GridCount.TheVariants.{Exposed, Listed}
-use Rattle.dl_buckets.specs.Prelude.{is_admitted, severity_in_layer, has_severity}
+use Rattle.dl_buckets.specs.Prelude.{IsGridUnit, is_admitted, severity_in_layer, has_severity}
 use Rattle.dl_buckets.specs.declared.grid.GridUnit.{GridUnit}
+
+-- a unit on a grid with this bucket
+pub record IsUnitOn (bs : Fraction) (u : GridUnit) : Type 0 where
+  pub bucket : IsBucket bs
+  pub grid : IsGridUnit u
 
 -- the expected severity in money, after the layer and before the occurrence clause
 abbrev pub mean_in_money : Fraction → GridUnit → Fraction
@@ -51,11 +57,9 @@ expected_claims bs u = claims_of bs u u.count
 
 -- a Poisson or a gamma count: there is no greatest number of claims
 abbrev pub is_unbounded : GridFreq → Bool
-is_unbounded (Fixed _) = false
 is_unbounded (Poisson _) = true
-is_unbounded (Bernoulli _) = false
-is_unbounded (Binomial p _) = false
 is_unbounded (Gamma c _) = true
+is_unbounded _ = false
 
 -- the expected number of claims above 0: the expected claims times the probability that one is
 -- above 0

@@ -6,7 +6,7 @@ ghost use Rattle.dl_exact.specs.Fraction.{whole, ◌*ℚ◌, ◌/ℚ◌, ◌<ℚ
 ghost use Rattle.dl_plan.specs.Prelude.{IsBucket, mean_amount, HasDistribution};
 ghost use Rattle.dl_buckets.specs.declared.grid.GridCount.TheVariants.{Exposed};
 ghost use Rattle.dl_buckets.specs.Prelude.{is_whole, has_severity, IsWeighed, IsGridUnit, severity_in_layer, support};
-ghost use Rattle.dl_types.specs.Exposures.{mean_in_money, admitted, exposed_claims, expected_claims};
+ghost use Rattle.dl_types.specs.Exposures.{IsUnitOn, mean_in_money, admitted, exposed_claims, expected_claims};
 ghost use Rattle.dl_types.specs.Rules.{has_no_loss, zero_loss, zero_mean, exposure_span, count_not_whole, count_above_one, has_no_trials, trials_not_whole, shape_not_whole};
 
 use crate::claims::admitted;
@@ -73,8 +73,7 @@ fn exposed_claims(
     bs: Frac,
     layered: &Option<Sev>,
 ) -> Option<Frac>
-    requires bucket { IsBucket bs }
-    requires grid { IsGridUnit unit.now }
+    requires unit { IsUnitOn bs unit.now }
     requires layered { IsWeighed unit.now layered.now }
     requires above { zero_loss (support (severity_in_layer unit.now)) exposure.now ≡ None }
     ensures { result ≡ exposed_claims bs unit.now exposure.now }
@@ -97,8 +96,7 @@ fn over_mean(
     bs: Frac,
     layered: &Option<Sev>,
 ) -> Option<Frac>
-    requires bucket { IsBucket bs }
-    requires grid { IsGridUnit unit.now }
+    requires unit { IsUnitOn bs unit.now }
     requires layered { IsWeighed unit.now layered.now }
     requires loss { has_no_loss (support (severity_in_layer unit.now)) ≡ false }
     ensures { result ≡ admitted (has_severity unit.now.sev)

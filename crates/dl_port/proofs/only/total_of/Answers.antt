@@ -10,6 +10,6 @@ returns-then-spread-most g c =
       encloses = back c.args.cells c.args.units.now c.args.i c.args.others.now c.index-units-i.result c.in_ok-sum.sum
           c.requires.unit c.index-units-i.is c.requires.others
           (long_enough c.args.units.now c.args.cells c.args.i c.index-units-i.result c.requires.unit c.index-units-i.is
-          c.requires.in_each) c.in_ok-sum.ensures.cells c.in_ok-sum.ensures.convolution;
+          c.requires.cells.in_each) c.in_ok-sum.ensures.cells c.in_ok-sum.ensures.convolution;
       narrow = omega (arith, c.spread.ensures, c.in-Some.ensures, c.if-spread-most.true);
     }

@@ -8,10 +8,10 @@ loop-i-init g c = record {
   some = omega arith;
   many = c.in_ok-push_without.ensures.many;
   parts = c.in_ok-push_without.ensures.parts;
-  total = first_taken c.args.cells c.args.units.now c.index-units-0.result c.in_ok-total.total c.requires.units
+  total = first_taken c.args.cells c.args.units.now c.index-units-0.result c.in_ok-total.total c.requires.cells.units
       c.index-units-0.is (long_enough c.args.units.now c.args.cells 0 c.index-units-0.result
-      (omega (arith, c.requires.units)) c.index-units-0.is c.requires.in_each) c.in_ok-total.ensures;
-  narrow = first_narrow c.args.cells c.args.units.now c.index-units-0.result c.in_ok-total.total c.requires.units
+      (omega (arith, c.requires.cells.units)) c.index-units-0.is c.requires.cells.in_each) c.in_ok-total.ensures;
+  narrow = first_narrow c.args.cells c.args.units.now c.index-units-0.result c.in_ok-total.total c.requires.cells.units
       c.index-units-0.is c.in_ok-total.ensures;
 }
 
@@ -19,7 +19,7 @@ pub loop-i-preserved : goal.loop-i-preserved
 loop-i-preserved g c =
     let inside : c.loop-i.i < length c.args.units.now = omega arith in
     let long = long_enough c.args.units.now c.args.cells c.loop-i.i c.index-units-i.result inside c.index-units-i.is
-    c.requires.in_each in
+    c.requires.cells.in_each in
     record {
       some = omega arith;
       many = c.in_ok-push_without-2.ensures.many;

@@ -9,23 +9,16 @@ others_where_asked-requires g c = (
   (
     c.requires.unit,
     (
-      c.requires.asked,
+      c.requires.cells,
       (
-        c.requires.some,
-        (
-          c.requires.in_each,
-          (
-            c.requires.before,
-            subst (λ (t : Option (List (Iv g.row.B))). IsSumOfPart c.args.cells c.args.units.now
-                (drop (suc c.args.i)) t)
-                (sym c.as_ref.ensures.value)
-                (popped c.args.cells c.args.i c.args.units.now c.args.ends.now.items c.pop-after.new.self.items _ _
-                c.pop-after.result (omega (arith, c.args.ends.now.ok)) c.pop-after.ensures.cases
-                c.pop-after.ensures.items
-                (omega (arith, c.requires.many, c.requires.parts.left)) c.requires.unit
-                c.requires.parts.ends),
-          ),
-        ),
+        c.requires.before,
+        subst (λ (t : Option (List (Iv g.row.B))). IsSumOfPart c.args.cells c.args.units.now (drop (suc c.args.i)) t)
+            (sym c.as_ref.ensures.value)
+            (popped c.args.cells c.args.i c.args.units.now c.args.ends.now.items c.pop-after.new.self.items _ _
+            c.pop-after.result (omega (arith, c.args.ends.now.ok)) c.pop-after.ensures.cases
+            c.pop-after.ensures.items
+            (omega (arith, c.requires.many, c.requires.parts.left)) c.requires.unit
+            c.requires.parts.ends),
       ),
     ),
   ),

@@ -7,6 +7,6 @@ pub returns-in-Some : goal.returns-in-Some
 returns-in-Some c =
     let told = rw c.in-Some.is at c.requires.layered in
     c.times.ensures ∙ ap₂ admitted (sym told.0) (ap₂ (λ x y. x *ℚ y) c.of.ensures c.of-in-Some.ensures
-    ∙ quotients c.args.amount c.args.bs c.args.share c.mean_in_layer-mean.result c.requires.bucket.above
+    ∙ quotients c.args.amount c.args.bs c.args.share c.mean_in_layer-mean.result c.requires.unit.bucket.above
     c.mean_in_layer-mean.ensures.above
     ∙ ap (λ m. c.args.amount *ℚ c.args.share /ℚ (m *ℚ c.args.bs)) c.mean_in_layer-mean.ensures.mean)

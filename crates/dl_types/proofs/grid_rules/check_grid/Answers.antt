@@ -2,7 +2,7 @@
 use Rattle.dl_types.proofs.Common.{ℕ, ◌≡◌, ◌∙◌, sym, ap, ap₂, subst, IsCedeOf, clauses_layered, HorizonTooLarge, breaks, horizon_too_large, IfOk, MadeClause, StopsAt, zero_base, ZeroBase, first_broken, clause_rules, count_rules}
 use Rattle.dl_types.proofs.Aggregates.{cede_is}
 use Rattle.dl_types.proofs.Stops.{skip, stop_first, stop_second}
-use Rattle.dl_types.proofs.UnitFacts.{fine_agr, kept_is, grid_fault, grid_told, made_answer}
+use Rattle.dl_types.proofs.UnitFacts.{fine_agr, kept_is, grid_fault, grid_told, late_told, made_answer}
 use Rattle.dl_types.proofs.grid_rules.check_grid.Goals as goal
 
 pub returns-in_err-layered_unit : goal.returns-in_err-layered_unit
@@ -27,16 +27,13 @@ check_horizon-requires c = c.in_ok-layered_unit.ensures.clauses.agr_made
 
 pub returns-in_err-cede : goal.returns-in_err-cede
 returns-in_err-cede c =
-    let u = c.args.grid.now in
-    let n = c.args.number in
     let stop = c.in_err-cede.field-0.0 in
-    let at = λ (k : ℕ) (made : MadeClause). breaks n HorizonTooLarge (horizon_too_large k made) in
-    grid_told c.args.settings.now n u c.args.unit.now.name.text c.from_residual-in_err-cede.result stop
-    c.from_residual-in_err-cede.ensures
-    (stop_second (first_broken n (clause_rules u)) _ stop c.in_ok-layered_unit.ensures.fault
-    (stop_second (first_broken n (count_rules c.args.settings.now.bs u)) _ stop c.in_ok-claims.ensures.fault
+    let at = λ (k : ℕ) (made : MadeClause). breaks c.args.number HorizonTooLarge (horizon_too_large k made) in
+    late_told c.args.settings.now c.args.number c.args.grid.now c.args.unit.now.name.text
+    c.from_residual-in_err-cede.result stop c.from_residual-in_err-cede.ensures c.in_ok-layered_unit.ensures.fault
+    c.in_ok-claims.ensures.fault
     (stop_first _ _ stop (subst (λ o. StopsAt o stop) (ap₂ at c.cells.ensures c.in_ok-layered_unit.ensures.clauses.agr)
-    c.in_err-cede.ensures.fault))))
+    c.in_err-cede.ensures.fault))
 
 pub returns-in_err-broken : goal.returns-in_err-broken
 returns-in_err-broken c =
@@ -45,14 +42,12 @@ returns-in_err-broken c =
     let stop = c.in_err-broken.field-0.0 in
     let at = λ (k : ℕ) (made : MadeClause). breaks n HorizonTooLarge (horizon_too_large k made) in
     let is = c.in_ok-claims.ensures.count in
-    grid_told c.args.settings.now n u c.args.unit.now.name.text c.from_residual-in_err-broken.result stop
-    c.from_residual-in_err-broken.ensures
-    (stop_second (first_broken n (clause_rules u)) _ stop c.in_ok-layered_unit.ensures.fault
-    (stop_second (first_broken n (count_rules c.args.settings.now.bs u)) _ stop c.in_ok-claims.ensures.fault
+    late_told c.args.settings.now n u c.args.unit.now.name.text c.from_residual-in_err-broken.result stop
+    c.from_residual-in_err-broken.ensures c.in_ok-layered_unit.ensures.fault c.in_ok-claims.ensures.fault
     (stop_second _ _ stop
     (sym (ap₂ at c.cells.ensures c.in_ok-layered_unit.ensures.clauses.agr) ∙ c.in_ok-cede.ensures.fault)
     (subst (λ p. StopsAt (breaks n ZeroBase p) stop)
-    (c.zero_base-span.ensures ∙ ap₂ (λ k m. zero_base k u.zero m) is.same is.number) c.in_err-broken.ensures))))
+    (c.zero_base-span.ensures ∙ ap₂ (λ k m. zero_base k u.zero m) is.same is.number) c.in_err-broken.ensures))
 
 pub planned-requires : goal.planned-requires
 planned-requires c =
