@@ -26,44 +26,55 @@ use dl_plan::Plan;
 use dl_product::Workspace;
 use std::alloc::{AllocError, Global};
 
+/// What a step is checked against: a plan, the starts and the parts of its units, and the text of
+/// all steps.
+#[derive(Clone, Copy)]
+struct Checked<'a> {
+    plan: &'a Plan,
+    bases: &'a [Base],
+    targets: &'a [u32],
+    text: &'a [u8],
+}
+
 /// The label of a step that passes; `None` where it does not pass.
 fn tested(
     alloc: Global,
     work: &mut Workspace,
-    plan: &Plan,
-    bases: &[Base],
-    targets: &[u32],
-    text: &[u8],
+    of: &Checked,
     so_far: &PassedSteps,
     step: &ReadStep,
 ) -> Result<Option<Vec<u32>>, AllocError>
-    requires valid { IsValid plan.now }
-    requires few { plan.now.cells ≤ most_cert_cells }
-    requires starts { AreStarts plan.now bases.now targets.now }
-    requires cells { length step.now.cells.items ≡ plan.now.cells }
+    requires valid { IsValid of.now.plan.now }
+    requires few { of.now.plan.now.cells ≤ most_cert_cells }
+    requires starts { AreStarts of.now.plan.now of.now.bases.now of.now.targets.now }
+    requires cells { length step.now.cells.items ≡ of.now.plan.now.cells }
     requires small { All (λ cell. cell.hi ≤ 2 ^ 56) step.now.cells.items }
     requires so_far { (before : List Made)
-        × HavePassed plan.now text.now so_far.now.offsets.items so_far.now.labels.items before }
+        × HavePassed of.now.plan.now of.now.text.now so_far.now.offsets.items
+        so_far.now.labels.items before }
     ensures { IfOk result (λ label. (before : List Made)
-        → HavePassed plan.now text.now so_far.now.offsets.items so_far.now.labels.items before
+        → HavePassed of.now.plan.now of.now.text.now so_far.now.offsets.items
+        so_far.now.labels.items before
         → MatchOption label
-        (¬ Passes plan.now before (record { kind = step.now.kind; cells = step.now.cells.items }))
-        (λ row. Passes plan.now before
+        (¬ Passes of.now.plan.now before
+        (record { kind = step.now.kind; cells = step.now.cells.items }))
+        (λ row. Passes of.now.plan.now before
         (record { kind = step.now.kind; cells = step.now.cells.items })
-        × IsRow so_far.now.labels.items (length plan.now.units) step.now.kind targets.now
-        row.items)) }
+        × IsRow so_far.now.labels.items (length of.now.plan.now.units) step.now.kind
+        of.now.targets.now row.items)) }
 {
     let count = so_far.offsets.len();
-    if !is_there(step.kind, targets.len(), count) {
+    if !is_there(step.kind, of.targets.len(), count) {
         return Ok(None);
     }
     if mass_of(&step.cells) > units_of_one(56) {
         return Ok(None);
     }
-    let Some(label) = label_of(alloc, &so_far.labels, step.kind, count, targets)? else {
+    let Some(label) = label_of(alloc, &so_far.labels, step.kind, count, of.targets)? else {
         return Ok(None);
     };
-    if !is_passing(alloc, work, plan, bases, text, &so_far.offsets, step)? {
+    let before = &so_far.offsets;
+    if !is_passing(alloc, work, of.plan, of.bases, of.text, before, step)? {
         return Ok(None);
     }
     Ok(Some(label))
@@ -73,31 +84,30 @@ fn tested(
 fn take_step(
     alloc: Global,
     work: &mut Workspace,
-    plan: &Plan,
-    bases: &[Base],
-    targets: &[u32],
-    text: &[u8],
+    of: &Checked,
     offset: usize,
     so_far: &mut PassedSteps,
 ) -> Result<bool, AllocError>
-    requires valid { IsValid plan.now }
-    requires few { plan.now.cells ≤ most_cert_cells }
-    requires short { length text.now ≤ most_steps_text }
-    requires starts { AreStarts plan.now bases.now targets.now }
-    requires inside { offset < length text.now }
-    requires so_far { HasPassedTo plan.now text.now offset so_far.old.offsets.items
-        so_far.old.labels.items }
-    ensures passes { IfOk result (λ ok. IsTrue ok → (next : ℕ) → lines_of (drop offset text.now)
-        ≡ line_from text.now offset ∷ lines_of (drop next text.now)
-        → HasPassedTo plan.now text.now next so_far.new.offsets.items so_far.new.labels.items) }
+    requires valid { IsValid of.now.plan.now }
+    requires few { of.now.plan.now.cells ≤ most_cert_cells }
+    requires short { length of.now.text.now ≤ most_steps_text }
+    requires starts { AreStarts of.now.plan.now of.now.bases.now of.now.targets.now }
+    requires inside { offset < length of.now.text.now }
+    requires so_far { HasPassedTo of.now.plan.now of.now.text.now offset
+        so_far.old.offsets.items so_far.old.labels.items }
+    ensures passes { IfOk result (λ ok. IsTrue ok → (next : ℕ)
+        → lines_of (drop offset of.now.text.now)
+        ≡ line_from of.now.text.now offset ∷ lines_of (drop next of.now.text.now)
+        → HasPassedTo of.now.plan.now of.now.text.now next so_far.new.offsets.items
+        so_far.new.labels.items) }
     ensures bad { IfOk result (λ ok. ¬ IsTrue ok
-        → IsBadStep plan.now text.now (length so_far.old.offsets.items)) }
+        → IsBadStep of.now.plan.now of.now.text.now (length so_far.old.offsets.items)) }
 {
-    let line = line_from(text, offset);
-    let Some(step) = read_step(alloc, line, plan.cells)? else {
+    let line = line_from(of.text, offset);
+    let Some(step) = read_step(alloc, line, of.plan.cells)? else {
         return Ok(false);
     };
-    let Some(label) = tested(alloc, work, plan, bases, targets, text, so_far, &step)? else {
+    let Some(label) = tested(alloc, work, of, so_far, &step)? else {
         return Ok(false);
     };
     so_far.labels.extend_from_slice(&label)?;
@@ -123,6 +133,12 @@ fn read_steps(
         so_far.labels.items)
         (RefusesSteps plan.now text.now) }
 {
+    let of = Checked {
+        plan,
+        bases,
+        targets,
+        text,
+    };
     let mut work = Workspace::new(alloc);
     let mut so_far = PassedSteps {
         offsets: Vec::new(alloc),
@@ -131,16 +147,7 @@ fn read_steps(
     let mut offset = 0;
     'lines: while offset < text.len() {
         let number = so_far.offsets.len() as u32;
-        if !take_step(
-            alloc,
-            &mut work,
-            plan,
-            bases,
-            targets,
-            text,
-            offset,
-            &mut so_far,
-        )? {
+        if !take_step(alloc, &mut work, &of, offset, &mut so_far)? {
             return Err(VerifyFault::BadStep(number));
         }
         offset = next_line(text, offset);

@@ -1,5 +1,5 @@
 -- Counts of calls and of faults: they never fall, and cling to the greatest `u64`.
-use Rattle.std.specs.Prelude.{ℕ, ◌+◌, ◌-◌, ◌^◌, ◌≤◌, min, List, Contains}
+use Rattle.std.specs.Prelude.{ℕ, ◌≡◌, ◌+◌, ◌-◌, ◌^◌, ◌≤◌, min, List, Contains, Result, MatchResult}
 
 -- one more, or the greatest `u64`
 abbrev pub next_count : ℕ → ℕ
@@ -35,3 +35,8 @@ after_failure calls = record calls {
   faults =
       next_count calls.faults;
 }
+
+-- the calls before and after one that gave this result
+abbrev pub IsCounted : {A E : Type 0} → Result A E → Calls → Calls → Type 0
+IsCounted result before after = MatchResult result (λ _. after ≡ after_success before)
+    (λ _. after ≡ after_failure before)

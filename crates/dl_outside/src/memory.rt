@@ -4,7 +4,7 @@ ghost use Rattle.std.specs.Prelude.{◌≡◌, ℕ, ◌+◌, ◌<◌, ◌≤◌,
 ghost use Rattle.std.specs.Prelude.{length, min, IsOk, IsErr, IfOk, OnErr, MatchResult};
 ghost use Rattle.std.specs.Io.{ReadsAtMost, WritesAtMost};
 ghost use Rattle.std.specs.Io.KnownBytes.{ReadConsumes, WriteAppends};
-ghost use Rattle.dl_outside.specs.Faults.{Rose, no_calls, FailsNext, after_success, after_failure};
+ghost use Rattle.dl_outside.specs.Faults.{Rose, no_calls, FailsNext, after_success, after_failure, IsCounted};
 
 use crate::schedule::Schedule;
 use crate::{ReadFailed, Sink, Source, WriteFailed};
@@ -106,10 +106,8 @@ impl Source for MemSource {
 
     ghost faults = { λ s. s.calls.faults };
 
-    ghost read_step = { λ old result buf new.
-        ReadConsumes (Some old.left) (Some new.left) result buf
-        × MatchResult result (λ _. new.calls ≡ after_success old.calls)
-        (λ _. new.calls ≡ after_failure old.calls) };
+    ghost read_step = { λ old result buf new. ReadConsumes (Some old.left) (Some new.left)
+        result buf × IsCounted result old.calls new.calls };
 
     fn read(&mut self, buf: &mut [u8]) -> Result<usize, ReadFailed>
         ensures bound { ReadsAtMost result buf.new }
@@ -208,10 +206,8 @@ impl Sink for MemSink {
 
     ghost faults = { λ s. s.calls.faults };
 
-    ghost write_step = { λ old result piece new.
-        WriteAppends (Some old.held) (Some new.held) result piece
-        × MatchResult result (λ _. new.calls ≡ after_success old.calls)
-        (λ _. new.calls ≡ after_failure old.calls) };
+    ghost write_step = { λ old result piece new. WriteAppends (Some old.held) (Some new.held)
+        result piece × IsCounted result old.calls new.calls };
 
     fn write(&mut self, piece: &[u8]) -> Result<usize, WriteFailed>
         ensures bound { WritesAtMost result piece.now }

@@ -3,10 +3,7 @@
 ghost use Rattle.std.specs.Prelude.{◌≡◌, ◌<◌, ◌^◌, ℕ, All};
 ghost use Rattle.dl_exact.specs.Fraction.{Fraction};
 ghost use Rattle.dl_frac.specs.Exact.{FitsFrac};
-ghost use Rattle.dl_report.specs.Lines.{lines_of};
-ghost use Rattle.dl_report.specs.Objects.{json_of};
-ghost use Rattle.dl_report.specs.Plain.{IsPlain};
-ghost use Rattle.dl_report.specs.Records.{csv_of};
+ghost use Rattle.dl_report.specs.Prelude.{lines_of, csv_of, json_of, IsPlain};
 ghost use Rattle.dl_report.specs.declared.report.Report.{Report};
 
 /// The lines of a report determine its rows, whatever its digits.

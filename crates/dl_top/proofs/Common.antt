@@ -25,7 +25,7 @@ unfoldable pub use Rattle.dl_types.specs.Faults.{fault_of_port, fault_on_grid, f
 pub use Rattle.dl_types.specs.Plans.{IsPlanOf, IsUnitOf}
 pub use Rattle.dl_words.proofs.RangeLaws.{words_are_text, words_have_few_cells, words_in_range}
 pub use Rattle.dl_words.specs.declared.fault.UsageFault.{UsageFault}
-pub use Rattle.dl_top.specs.Answers.{Answers, AreVerified, AsksOfCert, Certifies, HasForm, HasTokens, IsAccepted, IsCertifiable, IsVerifiable, HasPlan, Refuses, SpellsProgram, Verifies, asking, bad_byte, bad_step, certified, continuous, formatted, not_covered, not_read, of_asks, refused, reported, syntax, too_long, typing, usage, verified}
+pub use Rattle.dl_top.specs.Answers.{Answers, AreVerified, AsksOfCert, Certifies, HasCovered, HasForm, HasTokens, IsAccepted, IsCertifiable, IsVerifiable, HasPlan, Refuses, SpellsProgram, Verifies, asking, bad_byte, bad_step, certified, continuous, formatted, not_covered, not_read, of_asks, refused, reported, syntax, too_long, typing, usage, verified}
 pub use Rattle.dl_top.specs.Faults.{fault_line, status_of}
 pub use Rattle.dl_top.specs.Inputs.{IsTooLong, Say, is_divided, limit_of, program_of, steps_of}
 unfoldable pub use Rattle.dl_top.specs.Inputs.{input_of, length_to_steps, limit_for, program_in}

@@ -36,10 +36,12 @@ pub handed_on : (words : List (List ℕ)) (input text : List ℕ) (words' : List
 handed_on words input text words' input' h = record {
   settings = h.reader;
   verify = h.verifies;
-  program = h.means.program;
-  spells = h.program;
-  faultless = sym (same_fault h.means.program h.writer h.reader h.bucket h.cells) ∙ h.means.faultless;
-  covered = λ plan planned valid. subst IsCovered (same plan planned) h.written.covered;
+  has = record {
+    program = h.means.program;
+    spells = h.program;
+    faultless = sym (same_fault h.means.program h.writer h.reader h.bucket h.cells) ∙ h.means.faultless;
+    covered = λ plan planned valid. subst IsCovered (same plan planned) h.written.covered;
+  };
   steps = λ plan planned valid. (
     h.written.grid,
     subst (λ steps. IsVerified plan steps h.written.grid) (sym h.steps)

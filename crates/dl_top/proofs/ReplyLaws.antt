@@ -1,5 +1,5 @@
 -- What follows of a reply, and why an accepted text is not refused.
-use Rattle.dl_top.proofs.Common.{ℕ, ◌≡◌, map, String, string_bytes, Global, ◌≤◌, List, [], ◌∷◌, length, get_or, All, Option, None, Some, Ok, Err, IfSome, IsUtf8, arith, refl, sym, ap, subst, inl, inr, ◌∙◌, Takes, TakesAtMost, Step, Reading, all_gave, unread, Token, Covers, IsBad, Program, Plan, IsValid, IsCoveredUnit, IsCovered, IsFirstUncovered, IsNotCovered, IsBadStep, IsVerified, Iv, Asked, Settings, UsageFault, words_in_range, words_are_text, words_have_few_cells, first_fault, AskBeyond, UnknownUnit, NoShare, TooWide, NoRoom, zip, All-nil, All-cons, All-head, All-tail, All-map, Rows, Row, IsGood, Fault, Read, BadByte, Syntax, Continuous, Typing, Done, fault_line, made_of, Say, IsTooLong, input_of, program_of, program_in, steps_of, limit_of, limit_for, IsReadFault, IsOfText, IfAnswer, HasParts, AreReady, IsPlanOf, HasTokens, SpellsProgram, HasPlan, AsksOfCert, Certifies, Verifies, IsAccepted, HasForm, IsCertifiable, IsVerifiable, Answers, Refuses, of_asks, usage, not_read, too_long, bad_byte, continuous, syntax, typing, not_covered, bad_step, asking, IsReply, IsRefusalOf, ◌<◌}
+use Rattle.dl_top.proofs.Common.{ℕ, ◌≡◌, map, String, string_bytes, Global, ◌≤◌, List, [], ◌∷◌, length, get_or, All, Option, None, Some, Ok, Err, IfSome, IsUtf8, arith, refl, sym, ap, subst, inl, inr, ◌∙◌, Takes, TakesAtMost, Step, Reading, all_gave, unread, Token, Covers, IsBad, Program, Plan, IsValid, IsCoveredUnit, IsCovered, IsFirstUncovered, IsNotCovered, IsBadStep, IsVerified, Iv, Asked, Settings, UsageFault, words_in_range, words_are_text, words_have_few_cells, first_fault, AskBeyond, UnknownUnit, NoShare, TooWide, NoRoom, zip, All-nil, All-cons, All-head, All-tail, All-map, Rows, Row, IsGood, Fault, Read, BadByte, Syntax, Continuous, Typing, Done, fault_line, made_of, Say, IsTooLong, input_of, program_of, program_in, steps_of, limit_of, limit_for, IsReadFault, IsOfText, IfAnswer, HasParts, AreReady, IsPlanOf, HasTokens, SpellsProgram, HasPlan, HasCovered, AsksOfCert, Certifies, Verifies, IsAccepted, HasForm, IsCertifiable, IsVerifiable, Answers, Refuses, of_asks, usage, not_read, too_long, bad_byte, continuous, syntax, typing, not_covered, bad_step, asking, IsReply, IsRefusalOf, ◌<◌}
 use Rattle.dl_lexer.proofs.CoverLaws.{cover_one, covered_not_bad}
 use Rattle.dl_ast.specs.Prelude.{lexemes, Spells, program}
 use Rattle.dl_parser.proofs.Whole.{one_program}
@@ -201,27 +201,26 @@ has_form words input a = settled words input a.settings a.formats.say a.program 
     (λ plan planned valid e. absurd (cc (a.formats.form))) (λ plan planned valid e. absurd (cc (a.formats.form)))
 
 -- so is a text whose program is covered and breaks no rule, where nothing is asked and no step is bad
-settled_covered : (words : List (List ℕ)) (input : List ℕ) (a : Settings) → Say words a → (p : Program)
-    → SpellsProgram a.form input p → first_fault p a ≡ None
-    → ((plan : Plan) → IsPlanOf p a plan → IsValid plan → IsCovered plan) → (a.form ≡ Run → ⊥)
-    → ((plan : Plan) → IsPlanOf p a plan → IsValid plan → a.form ≡ Verify → (k : ℕ) → IsCovered plan
+settled_covered : (words : List (List ℕ)) (input : List ℕ) (a : Settings) → Say words a → (has : HasCovered input a)
+    → (a.form ≡ Run → ⊥)
+    → ((plan : Plan) → IsPlanOf has.program a plan → IsValid plan → a.form ≡ Verify → (k : ℕ) → IsCovered plan
     → IsBadStep plan (steps_of a.form input) k → ⊥) → (fault : Fault) (tokens : List Token)
     → Refuses words input fault tokens → fault ≡ Read
-settled_covered words input a say p spells faultless covered no_ask steps = settled words input a say p spells
-    (λ of. faultless)
-    (λ plan planned valid of u. covered_not_refused plan u (covered plan planned valid)) steps
+settled_covered words input a say has no_ask steps = settled words input a say has.program has.spells
+    (λ of. has.faultless)
+    (λ plan planned valid of u. covered_not_refused plan u (has.covered plan planned valid)) steps
     (λ plan planned valid e. absurd (no_ask e))
 
 -- as where a certificate of it is wanted
 pub certifiable : (words : List (List ℕ)) (input : List ℕ) → IsCertifiable words input
     → (fault : Fault) (tokens : List Token) → Refuses words input fault tokens → fault ≡ Read
-certifiable words input a = settled_covered words input a.settings a.certify.say a.program a.spells a.faultless a.covered
+certifiable words input a = settled_covered words input a.settings a.certify.say a.has
     (λ e. cc (a.certify.form)) (λ plan planned valid e. absurd (cc (a.certify.form)))
 
 -- or where the steps behind it certify it, and are wanted checked
 pub verifiable : (words : List (List ℕ)) (input : List ℕ) → IsVerifiable words input
     → (fault : Fault) (tokens : List Token) → Refuses words input fault tokens → fault ≡ Read
-verifiable words input a = settled_covered words input a.settings a.verify.say a.program a.spells a.faultless a.covered
+verifiable words input a = settled_covered words input a.settings a.verify.say a.has
     (λ e. cc (a.verify.form))
     (λ plan planned valid e k covered. not_bad plan (steps_of a.settings.form input) k (a.steps plan planned valid))
 

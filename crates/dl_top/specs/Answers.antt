@@ -31,36 +31,36 @@ use Rattle.dl_top.specs.Faults.{status_of, fault_line}
 use Rattle.dl_top.specs.Inputs.{Say, IsShort, IsTooLong, program_of, steps_of, program_in}
 use Rattle.dl_top.specs.Reports.{written}
 
--- the words ask what these settings say about a program
-pub record Asks (words : List (List ℕ)) (settings : Settings) : Type 0 where
+-- the words say these settings, whose form is such a one
+pub record Wants (IsSuch : Form → Type 0) (words : List (List ℕ))
+    (settings : Settings) : Type 0 where
   pub say : Say words settings
-  pub form : settings.form ≡ Run
+  pub form : IsSuch settings.form
+
+-- the words ask what these settings say about a program
+abbrev pub Asks : List (List ℕ) → Settings → Type 0
+Asks words settings = Wants (λ form. form ≡ Run) words settings
 
 -- the words want a program in its canonical form
-pub record Formats (words : List (List ℕ)) (settings : Settings) : Type 0 where
-  pub say : Say words settings
-  pub form : settings.form ≡ Fmt
+abbrev pub Formats : List (List ℕ) → Settings → Type 0
+Formats words settings = Wants (λ form. form ≡ Fmt) words settings
 
 -- the words want what needs the program's plan: a report, or a certificate that is written or
 -- checked
-pub record AsksOfPlan (words : List (List ℕ)) (settings : Settings) : Type 0 where
-  pub say : Say words settings
-  pub form : IsOfPlan settings.form
+abbrev pub AsksOfPlan : List (List ℕ) → Settings → Type 0
+AsksOfPlan words settings = Wants IsOfPlan words settings
 
 -- the words want a certificate to be written or checked
-pub record AsksOfCert (words : List (List ℕ)) (settings : Settings) : Type 0 where
-  pub say : Say words settings
-  pub form : IsOfCert settings.form
+abbrev pub AsksOfCert : List (List ℕ) → Settings → Type 0
+AsksOfCert words settings = Wants IsOfCert words settings
 
 -- the words want a certificate
-pub record Certifies (words : List (List ℕ)) (settings : Settings) : Type 0 where
-  pub say : Say words settings
-  pub form : settings.form ≡ Cert
+abbrev pub Certifies : List (List ℕ) → Settings → Type 0
+Certifies words settings = Wants (λ form. form ≡ Cert) words settings
 
 -- the words want the steps behind the program checked
-pub record Verifies (words : List (List ℕ)) (settings : Settings) : Type 0 where
-  pub say : Say words settings
-  pub form : settings.form ≡ Verify
+abbrev pub Verifies : List (List ℕ) → Settings → Type 0
+Verifies words settings = Wants (λ form. form ≡ Verify) words settings
 
 -- the input of this form is not too long, and these are the tokens of its program
 pub record HasTokens (form : Form) (input : List ℕ) (tokens : List Token) : Type 0 where
@@ -171,23 +171,24 @@ pub record HasForm (words : List (List ℕ)) (input : List ℕ) : Type 0 where
   pub program : Program
   pub spells : SpellsProgram settings.form input program
 
--- the words want a certificate, and the text spells a program that breaks no rule and is covered
-pub record IsCertifiable (words : List (List ℕ)) (input : List ℕ) : Type 0 where
-  pub settings : Settings
-  pub certify : Certifies words settings
+-- the input spells a program that breaks no rule and is covered, whichever way its plan is written
+pub record HasCovered (input : List ℕ) (settings : Settings) : Type 0 where
   pub program : Program
   pub spells : SpellsProgram settings.form input program
   pub faultless : first_fault program settings ≡ None
   pub covered : (plan : Plan) → IsPlanOf program settings plan → IsValid plan → IsCovered plan
+
+-- the words want a certificate, and the text spells a program that breaks no rule and is covered
+pub record IsCertifiable (words : List (List ℕ)) (input : List ℕ) : Type 0 where
+  pub settings : Settings
+  pub certify : Certifies words settings
+  pub has : HasCovered input settings
 
 -- The words want steps checked, and the input has a program that breaks no rule and is covered, and
 -- steps that certify the plan's total.
 pub record IsVerifiable (words : List (List ℕ)) (input : List ℕ) : Type 0 where
   pub settings : Settings
   pub verify : Verifies words settings
-  pub program : Program
-  pub spells : SpellsProgram settings.form input program
-  pub faultless : first_fault program settings ≡ None
-  pub covered : (plan : Plan) → IsPlanOf program settings plan → IsValid plan → IsCovered plan
-  pub steps : (plan : Plan) → IsPlanOf program settings plan → IsValid plan
+  pub has : HasCovered input settings
+  pub steps : (plan : Plan) → IsPlanOf has.program settings plan → IsValid plan
       → (grid : List (Iv 56)) × IsVerified plan (steps_of settings.form input) grid

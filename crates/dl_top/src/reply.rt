@@ -178,31 +178,6 @@ fn reply_to_plan(alloc: Global, settings: &Settings, plan: &Plan, steps: &[u8]) 
     }
 }
 
-/// The reply by the plan of a program, where it breaks no rule.
-fn reply_by_plan(
-    alloc: Global,
-    settings: &Settings,
-    program: &Program,
-    source: &[u8],
-    steps: &[u8],
-) -> Reply
-    requires settings { AreReady settings.now }
-    requires form { IsOfPlan settings.now.form }
-    requires formed { IsWellFormed program.now }
-    requires short { length source.now ≤ most_text }
-    requires short_steps { length steps.now ≤ most_steps_text }
-    ensures reply { (words : List (List ℕ)) (input : List ℕ) → Say words settings.now
-        → HasParts settings.now.form input source.now steps.now
-        → SpellsProgram settings.now.form input program.now → IsReply words input result }
-    ensures of_text { IsOfText result }
-{
-    match check(alloc, program, settings) {
-        Ok(plan) => reply_to_plan(alloc, settings, &plan, steps),
-        Err(CheckFault::Typing(fault)) => refusal(alloc, Fault::Typing(fault), source, &[]),
-        Err(CheckFault::OutOfMemory) => Reply::OutOfMemory,
-    }
-}
-
 /// The canonical text of a program. The rules are not asked.
 fn formatted(alloc: Global, settings: &Settings, program: &Program) -> Reply
     requires formed { IsWellFormed program.now }
@@ -216,7 +191,7 @@ fn formatted(alloc: Global, settings: &Settings, program: &Program) -> Reply
     }
 }
 
-/// The reply to a program: its canonical text, or the reply by its plan.
+/// The reply to a program: its canonical text, or the reply by its plan, where it breaks no rule.
 fn reply_to_program(
     alloc: Global,
     settings: &Settings,
@@ -235,9 +210,11 @@ fn reply_to_program(
 {
     match settings.form {
         Form::Fmt => formatted(alloc, settings, program),
-        Form::Run | Form::Cert | Form::Verify => {
-            reply_by_plan(alloc, settings, program, source, steps)
-        }
+        Form::Run | Form::Cert | Form::Verify => match check(alloc, program, settings) {
+            Ok(plan) => reply_to_plan(alloc, settings, &plan, steps),
+            Err(CheckFault::Typing(fault)) => refusal(alloc, Fault::Typing(fault), source, &[]),
+            Err(CheckFault::OutOfMemory) => Reply::OutOfMemory,
+        },
     }
 }
 

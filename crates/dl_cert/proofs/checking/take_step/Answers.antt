@@ -6,7 +6,7 @@ use Rattle.dl_cert.proofs.checking.take_step.Goals as goal
 pub returns-in_default-clause-bad : goal.returns-in_default-clause-bad
 returns-in_default-clause-bad c = λ no.
     bad_line c.requires.so_far c.requires.inside (rw (← c.line_from-line.ensures)
-    (misread c.args.plan.now _ c.line_from-line.result.now (rw c.in_default.is at c.in_ok-step.ensures)))
+    (misread c.args.of.now.plan.now _ c.line_from-line.result.now (rw c.in_default.is at c.in_ok-step.ensures)))
 
 pub tested-requires-clause-small : goal.tested-requires-clause-small
 tested-requires-clause-small c =
@@ -19,18 +19,18 @@ returns-in_default-2-clause-bad c = λ no.
     let made = made_after [] passed.steps in
     let read = rw c.in-Some.is at c.in_ok-step.ensures in
     bad_line passed c.requires.inside (rw (← c.line_from-line.ensures)
-    (not_passing c.args.plan.now made c.line_from-line.result.now
+    (not_passing c.args.of.now.plan.now made c.line_from-line.result.now
     (record { kind = c.in-Some.step.kind; cells = c.in-Some.step.cells.items }) read.0
     (rw c.in_default-2.is at (c.in_ok-label.ensures made passed.so_far))))
 
 pub returns-clause-passes : goal.returns-clause-passes
 returns-clause-passes c = λ yes next split.
-    let plan = c.args.plan.now in
+    let plan = c.args.of.now.plan.now in
     let labels = c.args.so_far.now.labels.items in
     let passed = c.requires.so_far in
     let step : Step = record { kind = c.in-Some.step.kind; cells = c.in-Some.step.cells.items } in
     let read = rw c.in-Some.is at c.in_ok-step.ensures in
-    let spelled : IsStep (line_from c.args.text.now c.args.offset) step = rw c.line_from-line.ensures at read.0 in
+    let spelled : IsStep (line_from c.args.of.now.text.now c.args.offset) step = rw c.line_from-line.ensures at read.0 in
     let t = rw c.in-Some-2.is at (c.in_ok-label.ensures (made_after [] passed.steps) passed.so_far) in
     let some : 1 ≤ plan.cells = rw c.requires.valid.cells.3 (pow_pos c.requires.valid.cells.0) in
     let grid = grid_now plan.cells step.cells some c.requires.few read.1

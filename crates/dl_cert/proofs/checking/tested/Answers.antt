@@ -4,8 +4,8 @@ use Rattle.dl_cert.proofs.checking.tested.Goals as goal
 
 pub returns : goal.returns
 returns c = λ before so_far.
-    let plan = c.args.plan.now in
-    let targets = c.args.targets.now in
+    let plan = c.args.of.now.plan.now in
+    let targets = c.args.of.now.targets.now in
     let labels = c.args.so_far.now.labels.items in
     let step : Step = record { kind = c.args.step.now.kind; cells = c.args.step.now.cells.items } in
     let long : length targets ≡ length plan.units =
