@@ -18,3 +18,4 @@ pub mod Tails
 pub mod PriceRows
 pub mod TailShares
 pub mod ShareLaws
+pub mod Parted

@@ -45,8 +45,7 @@ module _ {B : ℕ} {cells : ℕ} {u : UnitOfPlan} {p : Fraction} (none : Iv B) (
 
   -- the probability of no claim is at most 16 / 17 before the change
   pub none_low : 17 * none.lo ≤ 16 * 2 ^ B
-  none_low = low_of_none (2 ^ B) none.lo (aggregate_of u) (pow_pos B) declared _ holds
-      (count_new_zero u.freq p valid.count zero_of)
+  none_low = low_of_none B (aggregate_of u) none declared holds (count_new_zero u.freq p valid.count zero_of)
 
   pub none_high : 18 * none.hi ≤ 17 * 2 ^ B
   none_high = omega (arith, none_low, none_small B u.freq p scale valid.count zero_of, scale_least B scale)
@@ -79,8 +78,7 @@ module _ {B : ℕ} {cells : ℕ} {u : UnitOfPlan} {p : Fraction} (none : Iv B) (
 
   mean_low : (mean : Iv B) → IsClauseMean cells u mean → mean.lo ≤ most * 2 ^ B
   mean_low mean h =
-      low_of_mean (2 ^ B) mean.lo most (loss (aggregate_of u)) (pow_pos B)
-      (unit_declared_loss (aggregate_of u) declared) _ h.holds
+      low_of_mean B (loss (aggregate_of u)) most mean (unit_declared_loss (aggregate_of u) declared) h.holds
       (at_most_wider _ _ _ _ (mean_at_most cells u valid) mean_within)
 
   pub changed_mean : {mean made : Iv B} → IsClauseMean cells u mean

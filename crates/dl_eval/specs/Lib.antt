@@ -3,3 +3,4 @@ pub mod Totals
 pub mod Drawn
 pub mod Answers
 pub mod Same
+pub mod Together

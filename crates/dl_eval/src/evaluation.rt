@@ -6,16 +6,17 @@ ghost use Rattle.dl_plan.specs.declared.settings.Ask.TheVariants as kinds;
 ghost use Rattle.dl_plan.specs.Prelude.{AreInRange, IsValid};
 ghost use Rattle.dl_budget.specs.Asks.{named_units};
 ghost use Rattle.dl_eval.specs.Answers.{AreInside, NameUnits, HaveShares, IsGoodReport, IsAnswered, RefusesAsk};
-ghost use Rattle.dl_eval.specs.Totals.{most_mean, AreUnits, IsMeanOf, IsTotalOf};
+ghost use Rattle.dl_eval.specs.Totals.{most_mean, AreGridsOf, AreUnits, HasOthers, IsMeanOf, IsTotalOf};
 ghost use Rattle.dl_eval.specs.Drawn.{AreDrawnOf, HasNeeded};
 
 use crate::admission::admit;
 use crate::drawn::PlanGrids;
 use crate::fault::EvalFault;
-use crate::grids::grids_of;
+use crate::grids::{Grids, grids_of};
 use crate::mean::total_mean;
 use crate::pooled::{pooled_grids, pooled_mean, pooled_unit};
 use crate::rows::row;
+use crate::together::grids_together;
 use crate::units::{unit_means, unit_outcomes};
 use dl_iv::Iv;
 use dl_limits::MOST_SHORT_CELLS;
@@ -51,6 +52,31 @@ struct Parts<const B: u32> {
     mean: Iv<B>,
 }
 
+/// The grids behind the rows of a valid plan whose units are independent. Where no ask is for a
+/// share, one Poisson unit stands for all that can be pooled.
+#[tactic(auto, using(crate::proofs::Scales::plan_scale))]
+fn independent_grids<const B: u32>(
+    alloc: Global,
+    work: &mut Workspace,
+    plan: &Plan,
+    named: &[Option<u32>],
+) -> Result<Grids<B>, AllocError>
+    requires scale { B ≡ bits_of plan.now.cells }
+    requires valid { IsValid plan.now }
+    requires independent { plan.now.common ≡ None }
+    requires named { AreUnits (length plan.now.units) named.now }
+    ensures grids { IfOk result (λ grids. AreGridsOf plan.now grids) }
+    ensures there { IfOk result (λ grids. All (HasOthers grids) named.now) }
+{
+    if !is_some_named(named) {
+        if let Some(grids) = grids_together::<B>(alloc, work, plan)? {
+            return Ok(grids);
+        }
+    }
+    let made = unit_outcomes(alloc, work, plan)?;
+    grids_of(alloc, work, plan, named, made.grids, made.means)
+}
+
 /// The grids and means behind the rows of a valid plan whose units are independent. Where all asks
 /// are for the mean, only units with an aggregate clause have a grid.
 #[tactic(auto, using(crate::proofs::Scales::plan_scale))]
@@ -81,9 +107,8 @@ fn independent_parts<const B: u32>(
             mean: total_mean(means.as_slice()),
         });
     }
-    let made = unit_outcomes(alloc, work, plan)?;
-    let mean = total_mean(made.means.as_slice());
-    let grids = grids_of(alloc, work, plan, named, made.grids, made.means)?;
+    let grids = independent_grids(alloc, work, plan, named)?;
+    let mean = total_mean(grids.means.as_slice());
     Ok(Parts {
         grids: Some(PlanGrids::Independent(grids)),
         mean,

@@ -69,28 +69,6 @@ pub(crate) fn grids_of<const B: u32>(
         let sums = sums_of_one(alloc, unit)?;
         return Ok(Grids { units, means, sums });
     }
-    shared_grids(alloc, work, plan, named, units, means)
-}
-
-/// The grids behind the rows, from sums of units that they share.
-fn shared_grids<const B: u32>(
-    alloc: Global,
-    work: &mut Workspace,
-    plan: &Plan,
-    named: &[Option<u32>],
-    units: Vec<Grid<B>>,
-    means: Vec<Iv<B>>,
-) -> Result<Grids<B>, AllocError>
-    requires scale { IsPlanScale B }
-    requires valid { IsValid plan.now }
-    requires independent { plan.now.common ≡ None }
-    requires named { AreUnits (length plan.now.units) named.now }
-    requires units { AreUnitGrids plan.now.cells plan.now.units units.items }
-    requires means { AreUnitMeans plan.now.cells plan.now.units means.items }
-    requires small { All (λ mean. mean.hi ≤ most_unit_mean) means.items }
-    ensures grids { IfOk result (λ grids. AreGridsOf plan.now grids) }
-    ensures there { IfOk result (λ grids. All (HasOthers grids) named.now) }
-{
     let asked = shared_units(alloc, plan.units.as_slice().len(), named)?;
     let sums = total_and_others(alloc, work, units.as_slice(), asked.as_slice(), plan.cells)?;
     Ok(Grids { units, means, sums })

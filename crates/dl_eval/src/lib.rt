@@ -12,6 +12,7 @@ mod pooled;
 mod rows;
 mod same;
 mod shares;
+mod together;
 mod units;
 
 pub use evaluation::evaluate;

@@ -7,7 +7,7 @@ ghost use Rattle.dl_exact.specs.Fraction.{◌over◌};
 ghost use Rattle.dl_plan.specs.Valid.{IsValid};
 ghost use Rattle.dl_model.specs.Program.{Point};
 ghost use Rattle.dl_eval.specs.Rows.{IsAtMost};
-ghost use Rattle.dl_eval.specs.Totals.{most_mean, ArePooledGridsOf, IsJointOf, IsMeanOf, IsPooledOf, IsRaisedGridOf, IsTotalOf};
+ghost use Rattle.dl_eval.specs.Totals.{most_mean, ArePooledGridsOf, IsJointOf, IsMeanOf, IsPooledOf};
 
 use dl_cede::claims_mean;
 use dl_common::{common_joint, pool, raised};
@@ -28,41 +28,6 @@ pub(crate) struct PooledGrids<const B: u32> {
     pub(crate) raised: Option<Grid<B>>,
 }
 
-/// The grid of the total, from the one unit in the place of all.
-#[tactic(auto, using(crate::proofs::Scales::grid_size))]
-fn total_grid<const B: u32>(
-    alloc: Global,
-    work: &mut Workspace,
-    plan: &Plan,
-    pooled: &Unit,
-) -> Result<Grid<B>, AllocError>
-    requires scale { B ≡ bits_of plan.now.cells }
-    requires valid { IsValid plan.now }
-    requires shares { IsSome plan.now.common }
-    requires pooled { IsPooledOf plan.now pooled.now }
-    ensures { IfOk result (λ g. IsTotalOf plan.now g) }
-{
-    unit_grid_with(alloc, work, pooled, plan.cells)
-}
-
-/// The grid of that unit with one more in its shape.
-#[tactic(auto, using(crate::proofs::Scales::grid_size))]
-fn raised_grid<const B: u32>(
-    alloc: Global,
-    work: &mut Workspace,
-    plan: &Plan,
-    pooled: &Unit,
-) -> Result<Grid<B>, AllocError>
-    requires scale { B ≡ bits_of plan.now.cells }
-    requires valid { IsValid plan.now }
-    requires shares { IsSome plan.now.common }
-    requires pooled { IsPooledOf plan.now pooled.now }
-    ensures { IfOk result (λ g. (r : ℕ) → plan.now.common ≡ Some r → IsRaisedGridOf r plan.now g) }
-{
-    let unit = raised(alloc, pooled)?;
-    unit_grid_with(alloc, work, &unit, plan.cells)
-}
-
 /// The mean of the total of a plan whose units share a factor, in buckets: that of the one unit in
 /// their place.
 pub(crate) fn pooled_mean<const B: u32>(plan: &Plan, pooled: &Unit) -> Iv<B>
@@ -78,6 +43,7 @@ pub(crate) fn pooled_mean<const B: u32>(plan: &Plan, pooled: &Unit) -> Iv<B>
 
 /// The grids of a plan whose units share a factor, from the one unit in their place; that of the
 /// raised unit where `wanted`.
+#[tactic(auto, using(crate::proofs::Scales::grid_size))]
 pub(crate) fn pooled_grids<const B: u32>(
     alloc: Global,
     work: &mut Workspace,
@@ -92,17 +58,18 @@ pub(crate) fn pooled_grids<const B: u32>(
     ensures grids { IfOk result (λ grids. ArePooledGridsOf plan.now grids) }
     ensures there { IfOk result (λ grids. IsTrue wanted → IsSome grids.raised) }
 {
-    let total = total_grid(alloc, work, plan, pooled)?;
+    let total = unit_grid_with(alloc, work, pooled, plan.cells)?;
     if !wanted {
         return Ok(PooledGrids {
             total,
             raised: None,
         });
     }
-    let raised = raised_grid(alloc, work, plan, pooled)?;
+    let unit = raised(alloc, pooled)?;
+    let grid = unit_grid_with(alloc, work, &unit, plan.cells)?;
     Ok(PooledGrids {
         total,
-        raised: Some(raised),
+        raised: Some(grid),
     })
 }
 

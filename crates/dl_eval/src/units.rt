@@ -134,7 +134,7 @@ fn after_zero<const B: u32>(
 }
 
 /// The grid of a unit's outcomes, and their mean.
-fn outcomes_of<const B: u32>(
+pub(crate) fn outcomes_of<const B: u32>(
     alloc: Global,
     work: &mut Workspace,
     unit: &Unit,
@@ -247,7 +247,7 @@ fn clause_mean<const B: u32>(
 
 /// The mean of a unit's outcomes. Where its probability of no claim is changed, it needs that
 /// before the change, on a grid of one cell.
-fn mean_of<const B: u32>(
+pub(crate) fn mean_of<const B: u32>(
     alloc: Global,
     work: &mut Workspace,
     unit: &Unit,
