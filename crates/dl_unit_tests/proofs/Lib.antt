@@ -1,2 +1,3 @@
-mod TestLaws
+mod GridSizes
 mod SmallUnits
+mod TestLaws

@@ -1,8 +1,10 @@
 -- What the tests ask of their numbers.
-use Rattle.std.proofs.Common.{ℕ, zero, suc, ◌≡◌, ◌*◌, ◌^◌, ◌<◌, ◌≤◌, [], ◌∷◌, arith, refl, sym, ap, ap₂, subst, ◌∙◌, mul-le-mul_left, mul-le-mul_right}
+use Rattle.std.proofs.Common.{List, length, get_or, ◌+◌, ℕ, zero, suc, ◌≡◌, ◌*◌, ◌^◌, ◌<◌, ◌≤◌, [], ◌∷◌, arith, refl, sym, ap, ap₂, subst, ◌∙◌, mul-le-mul_left, mul-le-mul_right}
 use Rattle.std.specs.Prelude.{All}
 use Rattle.std.specs.List.Sorted.{IsStrictlyIncreasing}
 use Rattle.std.proofs.Math.Nat.{zero-lt-suc}
+use Rattle.std.specs.List.{AllByRecursion}
+use Rattle.std.proofs.lemmas.List.Elements.{All-from_recursion}
 use Rattle.dl_exact.specs.Prelude.{gcd, euclid, Fraction, ◌over◌, ◌*ℚ◌, ◌-ℚ◌, ◌/ℚ◌, ◌≤ℚ◌, whole}
 use Rattle.dl_exact.proofs.Over.{over_div, over_le, over_lt, over_mul, over_sub}
 use Rattle.dl_exact.proofs.Laws.{one_pos, times_one}
@@ -10,57 +12,47 @@ use Rattle.dl_exact.proofs.RoundingLaws.{whole_le}
 use Rattle.dl_plan.specs.declared.item.Item.{Item}
 use Rattle.dl_plan.specs.declared.plan.Freq.{Freq}
 use Rattle.dl_plan.specs.Prelude.{expected_count, IsExposed, IsProbability, IsNewZero, HasPartsOf48Bits, IsWeighted}
+use Rattle.dl_plan.specs.Weighted.{amounts_of, weight_sum, common_weight}
 use Rattle.dl_exact.proofs.Parts.{over_num_le as num_of_over-le, over_den_le as den_of_over-le}
 
 abbrev pub item : ℕ → ℕ → Item
 item a w = record { amount = a; weight = w }
 
-rising_three : IsStrictlyIncreasing (0 ∷ 1 ∷ 3 ∷ [])
-rising_three zero h = omega arith
-rising_three (suc zero) h = omega arith
-rising_three (suc (suc k)) h = absurd (omega (arith, h))
+rising_one : (a : ℕ) → IsStrictlyIncreasing (a ∷ [])
+rising_one a k h = absurd (omega (arith, h))
 
-rising_two : IsStrictlyIncreasing (0 ∷ 2 ∷ [])
-rising_two zero h = omega arith
-rising_two (suc k) h = absurd (omega (arith, h))
+rising_next : (a b : ℕ) (rest : List ℕ) → a < b → IsStrictlyIncreasing (b ∷ rest) → IsStrictlyIncreasing (a ∷ b ∷ rest)
+rising_next a b rest less rising zero h = less
+rising_next a b rest less rising (suc k) h =
+    let e : suc (k + 1) ≡ suc k + 1 = omega arith in
+    subst (λ i. get_or (b ∷ rest) k 0 < get_or (a ∷ b ∷ rest) i 0) e (rising k (omega (arith, h)))
 
-three_positive : All (λ (i : Item). 0 < i.weight) (item 0 1 ∷ item 1 2 ∷ item 3 1 ∷ [])
-three_positive zero d h = omega arith
-three_positive (suc zero) d h = omega arith
-three_positive (suc (suc zero)) d h = omega arith
-three_positive (suc (suc (suc k))) d h = absurd (omega (arith, h))
-
-two_positive : All (λ (i : Item). 0 < i.weight) (item 0 1 ∷ item 2 3 ∷ [])
-two_positive zero d h = omega arith
-two_positive (suc zero) d h = omega arith
-two_positive (suc (suc k)) d h = absurd (omega (arith, h))
+weighted : (items : List Item) (total : ℕ) → 0 < length items → IsStrictlyIncreasing (amounts_of items)
+    → AllByRecursion (λ i. 0 < i.weight) items → weight_sum items ≡ total → total ≤ 2 ^ 30 → common_weight items ≡ 1
+    → IsWeighted items total
+weighted items total some rising positive sum within lowest = record {
+  some = some;
+  rising = rising;
+  positive = All-from_recursion (λ (i : Item). 0 < i.weight) items positive;
+  sum = sum;
+  within = within;
+  lowest = lowest;
+}
 
 pub three_weighted : IsWeighted (item 0 1 ∷ item 1 2 ∷ item 3 1 ∷ []) 4
 unfolding gcd euclid
-three_weighted = record {
-  some = omega arith;
-  rising = rising_three;
-  positive = three_positive;
-  sum = refl;
-  within = omega arith;
-  lowest = refl;
-}
+three_weighted = weighted (item 0 1 ∷ item 1 2 ∷ item 3 1 ∷ []) 4 (omega arith)
+    (rising_next 0 1 (3 ∷ []) (omega arith) (rising_next 1 3 [] (omega arith) (rising_one 3)))
+    (omega arith, (omega arith, (omega arith, tt))) refl (omega arith) refl
 
 pub two_weighted : IsWeighted (item 0 1 ∷ item 2 3 ∷ []) 4
 unfolding gcd euclid
-two_weighted = record {
-  some = omega arith;
-  rising = rising_two;
-  positive = two_positive;
-  sum = refl;
-  within = omega arith;
-  lowest = refl;
-}
+two_weighted = weighted (item 0 1 ∷ item 2 3 ∷ []) 4 (omega arith)
+    (rising_next 0 2 [] (omega arith) (rising_one 2))
+    (omega arith, (omega arith, tt)) refl (omega arith) refl
 
 pub two_small : All (λ (i : Item). i.amount ≤ 256) (item 0 1 ∷ item 2 3 ∷ [])
-two_small zero d h = omega arith
-two_small (suc zero) d h = omega arith
-two_small (suc (suc k)) d h = absurd (omega (arith, h))
+two_small = All-from_recursion (λ (i : Item). i.amount ≤ 256) (item 0 1 ∷ item 2 3 ∷ []) (omega arith, (omega arith, tt))
 
 pub small_over : (n d : ℕ) → 0 < d → n < 2 ^ 48 → d < 2 ^ 48 → HasPartsOf48Bits (n over d)
 small_over n d pos small few = record {
@@ -82,31 +74,14 @@ two_thirds q e = subst HasPartsOf48Bits
     (sym (ap (λ t. whole 2 *ℚ t) e ∙ over_mul 2 1 1 3 (zero-lt-suc 0) (zero-lt-suc 2)))
     (small_over 2 3 (zero-lt-suc 2) (omega arith) (omega arith))
 
-pub small_parts : (x : Fraction) → x.num ≤ 3 → x.den ≤ 3 → HasPartsOf48Bits x
-small_parts x num den = record { num = omega (arith, num); den = omega (arith, den) }
-
 pub few_claims : (m : Fraction) → m ≡ 3 over 2 → m ≤ℚ whole 4096
 few_claims m e = subst (λ t. t ≤ℚ whole 4096) (sym e) (over_le 3 2 4096 1 (zero-lt-suc 1) (zero-lt-suc 0) (omega arith))
 
 pub four_weighted : IsWeighted (item 1 1 ∷ item 4 1 ∷ []) 2
 unfolding gcd euclid
-four_weighted = record {
-  some = omega arith;
-  rising = rising_four;
-  positive = four_positive;
-  sum = refl;
-  within = omega arith;
-  lowest = refl;
-}
-  where
-    rising_four : IsStrictlyIncreasing (1 ∷ 4 ∷ [])
-    rising_four zero h = omega arith
-    rising_four (suc k) h = absurd (omega (arith, h))
-
-    four_positive : All (λ (i : Item). 0 < i.weight) (item 1 1 ∷ item 4 1 ∷ [])
-    four_positive zero d h = omega arith
-    four_positive (suc zero) d h = omega arith
-    four_positive (suc (suc k)) d h = absurd (omega (arith, h))
+four_weighted = weighted (item 1 1 ∷ item 4 1 ∷ []) 2 (omega arith)
+    (rising_next 1 4 [] (omega arith) (rising_one 4))
+    (omega arith, (omega arith, tt)) refl (omega arith) refl
 
 pub at_most_4096 : (m : Fraction) (n d : ℕ) → m ≡ n over d → 0 < d → n ≤ 4096 → m ≤ℚ whole 4096
 at_most_4096 m n d e pos small = subst (λ t. t ≤ℚ whole 4096) (sym e)
@@ -136,39 +111,15 @@ claims_thinned m p n of_mean few none =
 
 pub five_weighted : IsWeighted (item 400 1 ∷ item 500 1 ∷ item 600 1 ∷ item 700 1 ∷ item 800 1 ∷ []) 5
 unfolding gcd euclid
-five_weighted = record {
-  some = omega arith;
-  rising = rising_five;
-  positive = five_positive;
-  sum = refl;
-  within = omega arith;
-  lowest = refl;
-}
-  where
-    rising_five : IsStrictlyIncreasing (400 ∷ 500 ∷ 600 ∷ 700 ∷ 800 ∷ [])
-    rising_five zero h = omega arith
-    rising_five (suc zero) h = omega arith
-    rising_five (suc (suc zero)) h = omega arith
-    rising_five (suc (suc (suc zero))) h = omega arith
-    rising_five (suc (suc (suc (suc k)))) h = absurd (omega (arith, h))
-
-    five_positive : All (λ (i : Item). 0 < i.weight)
-        (item 400 1 ∷ item 500 1 ∷ item 600 1 ∷ item 700 1 ∷ item 800 1 ∷ [])
-    five_positive zero d h = omega arith
-    five_positive (suc zero) d h = omega arith
-    five_positive (suc (suc zero)) d h = omega arith
-    five_positive (suc (suc (suc zero))) d h = omega arith
-    five_positive (suc (suc (suc (suc zero)))) d h = omega arith
-    five_positive (suc (suc (suc (suc (suc k))))) d h = absurd (omega (arith, h))
+five_weighted = weighted (item 400 1 ∷ item 500 1 ∷ item 600 1 ∷ item 700 1 ∷ item 800 1 ∷ []) 5 (omega arith)
+    (rising_next 400 500 (600 ∷ 700 ∷ 800 ∷ []) (omega arith) (rising_next 500 600 (700 ∷ 800 ∷ []) (omega arith) (rising_next 600 700 (800 ∷ []) (omega arith) (rising_next 700 800 [] (omega arith) (rising_one 800)))))
+    (omega arith, (omega arith, (omega arith, (omega arith, (omega arith, tt))))) refl (omega arith) refl
 
 pub five_near : All (λ (i : Item). i.amount ≤ 2 ^ 22)
     (item 400 1 ∷ item 500 1 ∷ item 600 1 ∷ item 700 1 ∷ item 800 1 ∷ [])
-five_near zero d h = omega arith
-five_near (suc zero) d h = omega arith
-five_near (suc (suc zero)) d h = omega arith
-five_near (suc (suc (suc zero))) d h = omega arith
-five_near (suc (suc (suc (suc zero)))) d h = omega arith
-five_near (suc (suc (suc (suc (suc k))))) d h = absurd (omega (arith, h))
+five_near = All-from_recursion (λ (i : Item). i.amount ≤ 2 ^ 22)
+    (item 400 1 ∷ item 500 1 ∷ item 600 1 ∷ item 700 1 ∷ item 800 1 ∷ [])
+    (omega arith, (omega arith, (omega arith, (omega arith, (omega arith, tt)))))
 
 -- 0 can be the probability of no claim where n over d claims are expected
 pub none_changed : (freq : Freq) (n d : ℕ) → expected_count freq ≡ n over d → 0 < d → d ≤ 16 * n → n ≤ 4096 * d

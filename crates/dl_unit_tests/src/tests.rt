@@ -2,9 +2,9 @@
 
 mod budget;
 mod common;
+mod digits;
 mod factor;
 mod helpers;
 mod none;
-mod panjer;
 mod power;
 mod unit;

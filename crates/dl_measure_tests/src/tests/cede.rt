@@ -106,18 +106,23 @@ fn keeps<const B: u32>(alloc: Global, cede: &Cede, case: &Case) -> Result<bool, 
     Ok(kept.cells() == case.cells && are_near(&kept, want, 36, 20))
 }
 
+/// The layer of this limit, attachment and share in halves, where the share is a fraction.
+pub(crate) fn layer_of(halves: u32, limit: Option<u32>, attach: u32) -> Option<CedeLayer> {
+    let share = Frac::make(u128::from(halves), 2).ok()?;
+    Some(CedeLayer {
+        share,
+        limit,
+        attach,
+    })
+}
+
 /// Whether the clause of a case is one, and keeps what it should.
 fn answer<const B: u32>(alloc: Global, case: &Case) -> Result<bool, AllocError>
     requires scale_above { 1 ≤ B }
     requires scale_below { B ≤ 56 }
 {
-    let Ok(share) = Frac::make(u128::from(case.halves), 2) else {
+    let Some(layer) = layer_of(case.halves, case.limit, case.attach) else {
         return Ok(false);
-    };
-    let layer = CedeLayer {
-        share,
-        limit: case.limit,
-        attach: case.attach,
     };
     let cede = Cede::from_slice(alloc, case.net, &[layer])?;
     if cede.is_clause() {

@@ -2,12 +2,12 @@
 
 ghost use Rattle.std.specs.Prelude.{◌≤◌};
 
+use crate::tests::cede::layer_of;
 use crate::tests::helpers::{DICE, grid, is_near};
 use dl_cede::kept_mean;
-use dl_frac::Frac;
 use dl_grid::units_of_one;
 use dl_iv::Iv;
-use dl_plan::{Cede, CedeLayer};
+use dl_plan::Cede;
 use std::alloc::{AllocError, Global};
 
 /// One layer with a share in halves: what it takes is kept, or left out. The mean is so many 72nds
@@ -76,13 +76,8 @@ fn is_held<const B: u32>(alloc: Global, case: &Case) -> Result<bool, AllocError>
     requires scale_above { 1 ≤ B }
     requires scale_below { B ≤ 56 }
 {
-    let Ok(share) = Frac::make(u128::from(case.halves), 2) else {
+    let Some(layer) = layer_of(case.halves, case.limit, case.attach) else {
         return Ok(false);
-    };
-    let layer = CedeLayer {
-        share,
-        limit: case.limit,
-        attach: case.attach,
     };
     if case.cells == 0 || case.cells > 13 || layer.edge() > u64::from(case.cells) {
         return Ok(false);

@@ -47,6 +47,17 @@ pub fn is_near<const B: u32>(v: Iv<B>, want: (u32, u32), width: u128) -> bool
     low <= exact && exact <= high && v.width() < width
 }
 
+/// Whether an interval is near what is wanted, or there is none where none is wanted.
+pub fn is_wanted<const B: u32>(v: Option<Iv<B>>, want: Option<(u32, u32)>, width: u128) -> bool
+    requires scale_below { B ≤ 56 }
+{
+    match (v, want) {
+        (Some(v), Some(want)) => is_near(v, want, width),
+        (None, None) => true,
+        _ => false,
+    }
+}
+
 /// Whether each cell holds its part of `all`, and is narrower than so many units.
 pub fn are_near<const B: u32>(g: &Grid<B>, parts: &[u8], all: u32, width: u128) -> bool
     requires scale_below { B ≤ 56 }

@@ -3,7 +3,7 @@
 ghost use Rattle.std.specs.Prelude.{◌≤◌, IsTrue, IfSome};
 ghost use Rattle.dl_exact.specs.Fraction.{whole, ◌<ℚ◌};
 
-use crate::tests::helpers::{DICE, grid, is_near};
+use crate::tests::helpers::{DICE, grid, is_near, is_wanted};
 use dl_frac::Frac;
 use dl_grid::Grid;
 use dl_iv::Iv;
@@ -255,16 +255,24 @@ pub fn total_of<const B: u32>(alloc: Global, dice: bool, cells: u32) -> Result<G
     }
 }
 
+/// The mean of the sum of two dice, or of the total.
+pub fn mean_of<const B: u32>(dice: bool) -> Iv<B>
+    requires scale_above { 1 ≤ B }
+    requires scale_below { B ≤ 56 }
+{
+    if dice {
+        Iv::enclose(7, 1)
+    } else {
+        Iv::enclose(19, 6)
+    }
+}
+
 /// Whether the tail mean holds its value, and is narrow, or there is none, as is wanted.
 fn holds_tail<const B: u32>(alloc: Global, case: &Beyond) -> Result<bool, AllocError>
     requires scale_above { 1 ≤ B }
     requires scale_below { B ≤ 56 }
 {
-    let mean = if case.dice {
-        Iv::enclose(7, 1)
-    } else {
-        Iv::enclose(19, 6)
-    };
+    let mean = mean_of::<B>(case.dice);
     let Some(p) = level(case.p) else {
         return Ok(false);
     };
@@ -273,11 +281,7 @@ fn holds_tail<const B: u32>(alloc: Global, case: &Beyond) -> Result<bool, AllocE
     }
     let g = total_of::<B>(alloc, case.dice, case.cells)?;
     let total = Distribution::of(alloc, &g)?;
-    Ok(match (tail_mean(&total, p, mean), case.want) {
-        (Some(mean), Some(want)) => is_near(mean, want, 2048),
-        (None, None) => true,
-        _ => false,
-    })
+    Ok(is_wanted(tail_mean(&total, p, mean), case.want, 2048))
 }
 
 #[test]

@@ -25,55 +25,16 @@ struct Case {
     want: [u8; 7],
 }
 
-const CASES: [Case; 8] = [
-    Case {
-        alike: false,
-        taken: 3,
-        without: None,
-        want: [6, 24, 42, 54, 48, 30, 12],
-    },
-    Case {
-        alike: false,
-        taken: 3,
-        without: Some(0),
-        want: [18, 36, 54, 54, 36, 18, 0],
-    },
-    Case {
-        alike: false,
-        taken: 3,
-        without: Some(1),
-        want: [12, 48, 72, 60, 24, 0, 0],
-    },
-    Case {
-        alike: false,
-        taken: 3,
-        without: Some(2),
-        want: [36, 72, 36, 72, 0, 0, 0],
-    },
-    Case {
-        alike: false,
-        taken: 1,
-        without: None,
-        want: [72, 144, 0, 0, 0, 0, 0],
-    },
-    Case {
-        alike: false,
-        taken: 1,
-        without: Some(0),
-        want: [216, 0, 0, 0, 0, 0, 0],
-    },
-    Case {
-        alike: true,
-        taken: 3,
-        without: None,
-        want: [8, 48, 96, 64, 0, 0, 0],
-    },
-    Case {
-        alike: true,
-        taken: 3,
-        without: Some(1),
-        want: [24, 96, 96, 0, 0, 0, 0],
-    },
+/// The parts of each case.
+const CASES: [(bool, usize, Option<u32>, [u8; 7]); 8] = [
+    (false, 3, None, [6, 24, 42, 54, 48, 30, 12]),
+    (false, 3, Some(0), [18, 36, 54, 54, 36, 18, 0]),
+    (false, 3, Some(1), [12, 48, 72, 60, 24, 0, 0]),
+    (false, 3, Some(2), [36, 72, 36, 72, 0, 0, 0]),
+    (false, 1, None, [72, 144, 0, 0, 0, 0, 0]),
+    (false, 1, Some(0), [216, 0, 0, 0, 0, 0, 0]),
+    (true, 3, None, [8, 48, 96, 64, 0, 0, 0]),
+    (true, 3, Some(1), [24, 96, 96, 0, 0, 0, 0]),
 ];
 
 /// A unit, each outcome enclosed on its own.
@@ -122,21 +83,6 @@ fn are_held<const B: u32>(sums: &Sums<B>, case: &Case) -> bool
     }
 }
 
-/// Whether the same sum holds where it comes with all others, or none.
-fn holds_shared<const B: u32>(
-    alloc: Global,
-    units: &[Grid<B>],
-    case: &Case,
-) -> Result<bool, AllocError>
-    requires scale_below { B ≤ 56 }
-    requires some { 1 ≤ length units.now }
-    requires few { length units.now ≤ 3 }
-    requires in_each { All (λ g. 7 ≤ length g) units.now }
-{
-    let sums = shared_sums(alloc, units, case.without.is_some())?;
-    Ok(are_held(&sums, case))
-}
-
 /// Whether the sum of the first unit alone is that unit's grid, and no other is there.
 fn holds_alone<const B: u32>(alloc: Global) -> Result<bool, AllocError>
     requires scale_above { 1 ≤ B }
@@ -175,9 +121,9 @@ fn both_hold<const B: u32>(
     requires few { length taken.now ≤ 3 }
     requires in_each { All (λ g. 7 ≤ length g) taken.now }
 {
-    let shared = holds_shared(alloc, taken, case)?;
+    let sums = shared_sums(alloc, taken, case.without.is_some())?;
     let sum = sum_of(alloc, taken, case)?;
-    Ok(holds(&sum, &case.want) && shared)
+    Ok(holds(&sum, &case.want) && are_held(&sums, case))
 }
 
 /// Whether the sums of the units of a case are as they should be.
@@ -196,10 +142,16 @@ fn answer<const B: u32>(alloc: Global, case: &Case) -> Result<bool, AllocError>
 
 #[test]
 fn sums_of_units(rt: HostRuntime) -> Result<(), AllocError> {
-    for (i, case) in CASES.iter().enumerate() {
-        let alloc = rt.alloc();
-        assert!(rt; answer::<48>(alloc, case)?, "{i}");
-        assert!(rt; answer::<56>(alloc, case)?, "{i}");
+    let alloc = rt.alloc();
+    for (i, &(alike, taken, without, want)) in CASES.iter().enumerate() {
+        let case = Case {
+            alike,
+            taken,
+            without,
+            want,
+        };
+        assert!(rt; answer::<48>(alloc, &case)?, "{i}");
+        assert!(rt; answer::<56>(alloc, &case)?, "{i}");
     }
     Ok(())
 }

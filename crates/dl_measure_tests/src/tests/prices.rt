@@ -3,8 +3,8 @@
 ghost use Rattle.std.specs.Prelude.{◌+◌, ◌<◌, ◌≤◌, ◌^◌};
 ghost use Rattle.dl_exact.specs.Fraction.{whole, ◌<ℚ◌};
 
-use crate::tests::helpers::is_near;
-use crate::tests::measures::{level, total_of};
+use crate::tests::helpers::is_wanted;
+use crate::tests::measures::{level, mean_of, total_of};
 use dl_distort::price;
 use dl_frac::Frac;
 use dl_iv::Iv;
@@ -115,11 +115,7 @@ fn is_priced<const B: u32>(alloc: Global, case: &Case) -> Result<bool, AllocErro
     requires scale_above { 1 ≤ B }
     requires scale_below { B ≤ 56 }
 {
-    let mean = if case.dice {
-        Iv::enclose(7, 1)
-    } else {
-        Iv::enclose(19, 6)
-    };
+    let mean = mean_of::<B>(case.dice);
     let (Some(first), Some(second)) = (level(case.first), level(case.second)) else {
         return Ok(false);
     };
@@ -129,16 +125,8 @@ fn is_priced<const B: u32>(alloc: Global, case: &Case) -> Result<bool, AllocErro
     }
     let g = total_of::<B>(alloc, case.dice, case.cells)?;
     let total = Distribution::of(alloc, &g)?;
-    Ok(
-        match (
-            price_of(&total, mean, case.weights, first, second),
-            case.want,
-        ) {
-            (Some(price), Some(want)) => is_near(price, want, 4096),
-            (None, None) => true,
-            _ => false,
-        },
-    )
+    let price = price_of(&total, mean, case.weights, first, second);
+    Ok(is_wanted(price, case.want, 4096))
 }
 
 #[test]

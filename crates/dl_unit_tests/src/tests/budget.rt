@@ -6,37 +6,37 @@ ghost use Rattle.dl_limits.specs.Limits.{IsPlanScale};
 use dl_budget::{convolution_spread, doubled, halvings, listed, power_spread};
 use dl_plan::CedeLayer;
 
-/// The spread of a power; 0 past the limits.
-#[tactic(auto, using(dl_budget::proofs::Counts::power_room))]
-fn power_of<const B: u32>(cells: u32, base: u32, steps: u32) -> u128
-    requires { IsPlanScale B }
-{
-    if cells > 65_536 || base > 196_611 || steps > 65_536 {
-        return 0;
-    }
-    power_spread::<B>(cells, base as u128, steps)
+/// What is added up.
+#[derive(Clone, Copy)]
+enum Sum {
+    /// Claims of this spread, and how many.
+    Power(u32, u32),
+    /// Claims of this spread, and the greatest listed number of them.
+    Listed(u32, u32),
+    /// A Poisson number of claims, whose mean is halved so often.
+    Poisson(u32),
 }
 
-/// The spread of a listed count; 0 past the limits.
-#[tactic(auto, using(dl_budget::proofs::Counts::listed_begins))]
-fn listed_of<const B: u32>(cells: u32, base: u32, greatest: u32) -> u128
+/// The spread of a sum on so many cells; 0 past the limits.
+#[tactic(auto, using(dl_budget::proofs::Counts::power_room, dl_budget::proofs::Counts::listed_begins, dl_budget::proofs::Bases::poisson_room))]
+fn spread_of<const B: u32>(cells: u32, sum: Sum) -> u128
     requires { IsPlanScale B }
 {
-    if cells > 65_536 || base > 65_536 || greatest > 256 {
+    if cells > 65_536 {
         return 0;
     }
-    listed::<B>(cells, base as u128, greatest)
-}
-
-/// The spread of a Poisson count with so many halvings; 0 past the limits.
-#[tactic(auto, using(dl_budget::proofs::Bases::poisson_room))]
-fn poisson_of<const B: u32>(cells: u32, halvings: u32) -> u128
-    requires { IsPlanScale B }
-{
-    if cells > 65_536 || halvings > 13 {
-        return 0;
+    match sum {
+        Sum::Power(base, steps) if base <= 196_611 && steps <= 65_536 => {
+            power_spread::<B>(cells, base as u128, steps)
+        }
+        Sum::Listed(base, greatest) if base <= 65_536 && greatest <= 256 => {
+            listed::<B>(cells, base as u128, greatest)
+        }
+        Sum::Poisson(halvings) if halvings <= 13 => {
+            doubled::<B>(cells, 8 * cells as u128 + 128, halvings)
+        }
+        _ => 0,
     }
-    doubled::<B>(cells, 8 * cells as u128 + 128, halvings)
 }
 
 /// How often a mean of 1 is halved.
@@ -59,53 +59,42 @@ fn equal_units<const B: u32>(cells: u32, unit: u128, many: u32) -> u128
     sum
 }
 
-/// Cells, the spread of what is added up, how many of it, and the spread of the sum.
-const POWERS: [(u32, u32, u32, u128); 5] = [
-    (16, 6, 0, 0),
-    (16, 6, 1, 6),
-    (16, 6, 2, 45),
-    (16, 6, 5, 162),
-    (16_384, 196_611, 65_536, 15_032_616_427),
+/// Cells, what is added up on them, and the spread of the sum at the longer scale.
+const SPREADS: [(u32, Sum, u128); 12] = [
+    (16, Sum::Power(6, 0), 0),
+    (16, Sum::Power(6, 1), 6),
+    (16, Sum::Power(6, 2), 45),
+    (16, Sum::Power(6, 5), 162),
+    (16_384, Sum::Power(196_611, 65_536), 15_032_616_427),
+    (16, Sum::Listed(6, 0), 1),
+    (16, Sum::Listed(6, 1), 42),
+    (16, Sum::Listed(6, 3), 124),
+    (16_384, Sum::Listed(65_536, 256), 25_166_593),
+    (16, Sum::Poisson(0), 256),
+    (16, Sum::Poisson(3), 2279),
+    (16_384, Sum::Poisson(13), 1_343_201_287),
 ];
 
-/// Cells, the spread of one claim, the greatest number of claims, and the spread of the sum.
-const LISTS: [(u32, u32, u32, u128); 4] = [
-    (16, 6, 0, 1),
-    (16, 6, 1, 42),
-    (16, 6, 3, 124),
-    (16_384, 65_536, 256, 25_166_593),
+/// The same on 65,536 cells at the other scale.
+const LONGEST: [(Sum, u128); 3] = [
+    (Sum::Power(196_611, 65_536), 21_475_785_348),
+    (Sum::Listed(65_536, 256), 50_332_417),
+    (Sum::Poisson(13), 5_369_685_680),
 ];
 
-/// Cells, halvings, and the spread of the sum.
-const HALVED: [(u32, u32, u128); 3] = [(16, 0, 256), (16, 3, 2279), (16_384, 13, 1_343_201_287)];
-
 #[test]
-fn powers(rt: HostRuntime) {
-    for (cells, base, steps, want) in POWERS {
-        assert_eq!(rt; power_of::<56>(cells, base, steps), want);
+fn spreads(rt: HostRuntime) {
+    for (cells, sum, want) in SPREADS {
+        assert_eq!(rt; spread_of::<56>(cells, sum), want);
     }
-}
-
-#[test]
-fn lists(rt: HostRuntime) {
-    for (cells, base, greatest, want) in LISTS {
-        assert_eq!(rt; listed_of::<56>(cells, base, greatest), want);
-    }
-}
-
-#[test]
-fn halved_counts(rt: HostRuntime) {
-    for (cells, halvings, want) in HALVED {
-        assert_eq!(rt; poisson_of::<56>(cells, halvings), want);
+    for (sum, want) in LONGEST {
+        assert_eq!(rt; spread_of::<48>(65_536, sum), want);
     }
 }
 
 #[test]
 fn single_numbers(rt: HostRuntime) {
     assert_eq!(rt; halvings_of_one(), 1);
-    assert_eq!(rt; power_of::<48>(65_536, 196_611, 65_536), 21_475_785_348);
-    assert_eq!(rt; listed_of::<48>(65_536, 65_536, 256), 50_332_417);
-    assert_eq!(rt; poisson_of::<48>(65_536, 13), 5_369_685_680);
     assert_eq!(rt;
         equal_units::<48>(65_536, 42_951_570_696, 16),
         688_014_161_179

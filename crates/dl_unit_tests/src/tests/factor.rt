@@ -1,6 +1,6 @@
 //! Portfolios under a common factor by whole calls: the one unit for all, the same with one more in
 //! its shape, and the joint mean of a unit, by values that were worked in fractions outside the
-//! program.
+//! program. Without the factor one Poisson unit stands for all of them.
 
 ghost use Rattle.std.specs.Prelude.{ℕ, ◌≡◌, ◌≢◌, ◌*◌, ◌/◌, ◌<◌, ◌≤◌, ◌^◌, [], ◌∷◌, length, All, AllPairs, IfOk, IfSome};
 ghost use Rattle.dl_plan.specs.Prelude.{IsValidUnit, SharesFactor};
@@ -8,10 +8,10 @@ ghost use Rattle.dl_unit_tests.specs.Small.{IsSmall};
 
 use crate::tests::helpers::one_bucket;
 use crate::tests::unit::claims;
-use dl_common::{common_joint, pool, raised};
+use dl_common::{common_joint, pool, pool_poisson, raised, sharing};
 use dl_frac::Frac;
 use dl_lexer::Text;
-use dl_plan::{Freq, Item, Items, Plan, Sev, Unit};
+use dl_plan::{Freq, Items, Plan, Sev, Unit};
 use dl_product::Workspace;
 use dl_unit::unit_grid_with;
 use std::alloc::{AllocError, Global};
@@ -32,15 +32,7 @@ fn nothing(alloc: Global) -> Result<Sev, AllocError>
     ensures near { IfOk result (λ sev. All (λ item. item.amount ≤ 2 ^ 20) sev.items) }
     ensures quarters { IfOk result (λ sev. sev.total * (4 / sev.total) ≡ 4) }
 {
-    let mut items = Vec::new(alloc);
-    items.push(Item {
-        amount: 0,
-        weight: 1,
-    })?;
-    Ok(Sev {
-        items: Items::from_vec(items),
-        total: 1,
-    })
+    Sev::alone(alloc, 0)
 }
 
 /// The severity of a claim.
@@ -119,6 +111,15 @@ fn one_and_more(alloc: Global, plan: &Plan) -> Result<(Unit, Unit), AllocError>
     Ok((one, more))
 }
 
+/// The one Poisson unit for all of a plan, where it is there.
+fn one_poisson(alloc: Global, plan: &Plan) -> Result<Option<Unit>, AllocError>
+    requires { (r : ℕ) × SharesFactor plan.now r }
+    ensures { IfOk result (λ made. IfSome made (IsValidUnit plan.now.cells)) }
+{
+    let units = sharing(alloc, plan.units.as_slice())?;
+    pool_poisson(alloc, &units)
+}
+
 /// The joint mean of unit `i` at `x` by the grid of the raised unit, and the first nine digits of
 /// both ends.
 #[tactic(auto, using(dl_grid::proofs::Sizes::few_at_each_scale, crate::proofs::TestLaws::print_fits))]
@@ -138,6 +139,15 @@ fn facts(unit: &Unit) -> (u64, u64, u32, u32) {
     match &unit.freq {
         Freq::Gamma { shape, mean } => (mean.num(), mean.den(), *shape, unit.sev.total),
         _ => (0, 0, 0, 0),
+    }
+}
+
+/// Of a Poisson unit the numerator and the denominator of its expected number of claims; else 0
+/// twice.
+fn mean_parts(unit: &Unit) -> (u64, u64) {
+    match &unit.freq {
+        Freq::Poisson(mean) => (mean.num(), mean.den()),
+        _ => (0, 0),
     }
 }
 
@@ -241,6 +251,25 @@ fn one_unit_for_all(rt: HostRuntime) -> Result<(), AllocError> {
             assert_eq!(rt; facts(&more), case.more);
             assert_eq!(rt; weights(&one), case.weights);
             assert_eq!(rt; weights(&more), case.weights);
+        }
+    }
+    Ok(())
+}
+
+#[test]
+fn one_poisson_unit_for_all(rt: HostRuntime) -> Result<(), AllocError> {
+    let alloc = rt.alloc();
+    for case in &CASES {
+        let plan = plan_of(alloc, case.shape, case.parts)?;
+        assert!(rt; plan.is_some());
+        if let Some(plan) = plan {
+            let one = one_poisson(alloc, &plan)?;
+            assert!(rt; one.is_some());
+            if let Some(one) = one {
+                assert_eq!(rt; mean_parts(&one), (case.one.0, case.one.1));
+                assert_eq!(rt; one.sev.total, case.one.3);
+                assert_eq!(rt; weights(&one), case.weights);
+            }
         }
     }
     Ok(())

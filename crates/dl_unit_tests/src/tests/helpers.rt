@@ -2,7 +2,7 @@
 
 ghost use Rattle.std.specs.Prelude.{◌≡◌, ◌*◌, ◌/◌, ◌<◌, ◌≤◌, ◌^◌, All, IfOk};
 ghost use Rattle.dl_exact.specs.Fraction.{whole, ◌over◌};
-ghost use Rattle.dl_plan.specs.Severity.{probability_of};
+ghost use Rattle.dl_plan.specs.Prelude.{probability_of, IsWeighted};
 
 use dl_frac::Frac;
 use dl_grid::Grid;
@@ -53,14 +53,27 @@ pub(crate) fn one_bucket(alloc: Global) -> Result<Sev, AllocError>
     ensures near { IfOk result (λ sev. All (λ item. item.amount ≤ 2 ^ 20) sev.items) }
     ensures quarters { IfOk result (λ sev. sev.total * (4 / sev.total) ≡ 4) }
 {
-    let mut items = Vec::new(alloc);
-    items.push(Item {
-        amount: 1,
-        weight: 1,
-    })?;
+    Sev::alone(alloc, 1)
+}
+
+/// An amount of a list.
+pub(crate) fn item(amount: u32, weight: u32) -> Item
+    ensures is { result ≡ record { amount = amount; weight = weight } }
+    ensures amount { result.amount ≡ amount }
+    ensures weight { result.weight ≡ weight }
+{
+    Item { amount, weight }
+}
+
+/// Claims of these amounts, each with its weight out of `total`.
+pub(crate) fn listed(alloc: Global, items: &[Item], total: u32) -> Result<Sev, AllocError>
+    requires { IsWeighted items.now total }
+    ensures items { IfOk result (λ sev. sev.items ≡ items.now) }
+    ensures total { IfOk result (λ sev. sev.total ≡ total) }
+{
     Ok(Sev {
-        items: Items::from_vec(items),
-        total: 1,
+        items: Items::from_vec(items.to_vec(alloc)?),
+        total,
     })
 }
 

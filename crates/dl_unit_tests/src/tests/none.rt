@@ -1,7 +1,7 @@
 //! The probability of no claim of each kind of count, and its budget: worked outside by fractions,
 //! and that of Poisson counts with fifty digits.
 
-ghost use Rattle.std.specs.Prelude.{◌^◌};
+ghost use Rattle.std.specs.Prelude.{◌*◌, ◌<◌, ◌≤◌, ◌^◌};
 ghost use Rattle.dl_limits.specs.Limits.{IsPlanScale};
 ghost use Rattle.dl_exact.specs.Fraction.{whole};
 ghost use Rattle.dl_plan.specs.Prelude.{expected_count, IsClaimCount, HasPartsOf48Bits, IsNewZero};
@@ -46,18 +46,31 @@ fn finite<const B: u32>(alloc: Global) -> Result<bool, AllocError>
     Ok(fixed & one & two)
 }
 
+/// The same of a Poisson count of this mean.
+fn is_poisson_none<const B: u32>(
+    alloc: Global,
+    num: u32,
+    den: u32,
+    low: u32,
+    budget: u128,
+) -> Result<bool, AllocError>
+    requires scale { IsPlanScale B }
+    requires positive { 0 < den }
+    requires least { den ≤ 16 * num }
+    requires most { num ≤ 4096 * den }
+{
+    is_none::<B>(alloc, &Freq::Poisson(fraction(num, den)), low, budget)
+}
+
 /// The counts without a greatest number of claims.
 fn unbounded<const B: u32>(alloc: Global) -> Result<bool, AllocError>
     requires { IsPlanScale B }
 {
-    let eight = fraction(8, 1);
-    let part = fraction(1, 16);
-    let whole = fraction(1, 1);
-    let many = is_none::<B>(alloc, &Freq::Poisson(eight), 335_462, 2221)?;
-    let few = is_none::<B>(alloc, &Freq::Poisson(part), 939_413_062, 136)?;
+    let many = is_poisson_none::<B>(alloc, 8, 1, 335_462, 2221)?;
+    let few = is_poisson_none::<B>(alloc, 1, 16, 939_413_062, 136)?;
     let count = Freq::Gamma {
         shape: 2,
-        mean: whole,
+        mean: fraction(1, 1),
     };
     let gamma = is_none::<B>(alloc, &count, 444_444_444, 19)?;
     Ok(many & few & gamma)

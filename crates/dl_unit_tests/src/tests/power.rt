@@ -2,7 +2,7 @@
 
 ghost use Rattle.std.specs.Prelude.{◌≡◌, ◌≤◌, length, IfOk};
 
-use crate::tests::helpers::DIE;
+use crate::tests::helpers::{DIE, item};
 use dl_grid::Grid;
 use dl_plan::Item;
 use dl_power::{claim_grid, mix_counts, power};
@@ -247,14 +247,6 @@ fn die<const B: u32>(alloc: Global, cells: u32) -> Result<Grid<B>, AllocError>
     ensures { IfOk result (λ g. length g ≡ cells) }
 {
     claim_grid::<B>(alloc, &DIE, 6, cells)
-}
-
-/// An amount of a list.
-fn item(amount: u32, weight: u32) -> Item
-    ensures amount { result.amount ≡ amount }
-    ensures weight { result.weight ≡ weight }
-{
-    Item { amount, weight }
 }
 
 /// The sum of so many dice.

@@ -5,7 +5,7 @@ ghost use Rattle.dl_limits.specs.Limits.{IsPlanScale};
 ghost use Rattle.dl_exact.specs.Fraction.{whole, ◌≤ℚ◌};
 ghost use Rattle.dl_plan.specs.Prelude.{HasPartsOf48Bits, IsPoisson, expected_count, IsUnbounded, IsClaimCount, probability_of, IsValidUnit, IsWeighted};
 
-use crate::tests::helpers::{agrees, fraction, one_bucket};
+use crate::tests::helpers::{agrees, fraction, item, listed, one_bucket};
 use dl_budget::claims_budget;
 use dl_frac::Frac;
 use dl_grid::{Grid, units_of_one};
@@ -22,23 +22,7 @@ pub(crate) fn claims(alloc: Global) -> Result<Sev, AllocError>
     ensures few { IfOk result (λ sev. length sev.items ≤ 65536) }
     ensures quarters { IfOk result (λ sev. sev.total * (4 / sev.total) ≡ 4) }
 {
-    let mut items = Vec::new(alloc);
-    items.push(Item {
-        amount: 0,
-        weight: 1,
-    })?;
-    items.push(Item {
-        amount: 1,
-        weight: 2,
-    })?;
-    items.push(Item {
-        amount: 3,
-        weight: 1,
-    })?;
-    Ok(Sev {
-        items: Items::from_vec(items),
-        total: 4,
-    })
+    listed(alloc, &[item(0, 1), item(1, 2), item(3, 1)], 4)
 }
 
 /// No claim once in four times, else two.
@@ -109,32 +93,6 @@ fn holds<const B: u32>(grid: &Grid<B>, parts: &[u32], total: u32) -> bool {
     held
 }
 
-/// Four cells of the Poisson count of mean 3/2.
-fn poisson_count<const B: u32>(alloc: Global) -> Result<Grid<B>, AllocError>
-    requires above { 1 ≤ B }
-    requires below { B ≤ 56 }
-{
-    let claim = one_bucket(alloc)?;
-    poisson_claims(alloc, &mut Workspace::new(alloc), &claim, fraction(3, 2), 4)
-}
-
-/// Four cells of the gamma count of shape 2 and mean 1.
-#[tactic(auto, using(dl_grid::proofs::Sizes::few_at_each_scale))]
-fn gamma_count<const B: u32>(alloc: Global) -> Result<Grid<B>, AllocError>
-    requires above { 1 ≤ B }
-    requires below { B ≤ 56 }
-{
-    let claim = one_bucket(alloc)?;
-    gamma_claims(
-        alloc,
-        &mut Workspace::new(alloc),
-        &claim,
-        fraction(1, 1),
-        2,
-        4,
-    )
-}
-
 /// A claim comes to 1 bucket as often as to 4.
 fn one_or_four(alloc: Global) -> Result<Sev, AllocError>
     ensures { IfOk result (λ sev. probability_of sev 0 ≡ whole 0) }
@@ -182,39 +140,8 @@ struct CountOf {
     shape: u32,
 }
 
-/// Sixteen cells of a Poisson count by halvings.
-#[tactic(auto, using(dl_grid::proofs::Sizes::few_at_each_scale))]
-fn halved<const B: u32>(alloc: Global, sev: &Sev, mean: Frac) -> Result<Grid<B>, AllocError>
-    requires no_zero { probability_of sev.now 0 ≡ whole 0 }
-    requires above { 1 ≤ B }
-    requires below { B ≤ 56 }
-    requires num { mean.num ≤ 4096 }
-    requires den { mean.den ≤ 4096 }
-    requires within { mean ≤ℚ whole 4096 }
-{
-    poisson_claims(alloc, &mut Workspace::new(alloc), sev, mean, 16)
-}
-
-/// Sixteen cells of a gamma count by shares.
-#[tactic(auto, using(dl_grid::proofs::Sizes::few_at_each_scale))]
-fn shared<const B: u32>(
-    alloc: Global,
-    sev: &Sev,
-    mean: Frac,
-    shape: u32,
-) -> Result<Grid<B>, AllocError>
-    requires no_zero { probability_of sev.now 0 ≡ whole 0 }
-    requires above { 1 ≤ B }
-    requires below { B ≤ 56 }
-    requires num { mean.num ≤ 4096 }
-    requires den { mean.den ≤ 4096 }
-    requires shape_above { 1 ≤ shape }
-    requires shape_below { shape ≤ 10000 }
-{
-    gamma_claims(alloc, &mut Workspace::new(alloc), sev, mean, shape, 16)
-}
-
-/// Whether a Poisson count by the recursion at the full mean meets the one by halvings.
+/// Whether sixteen cells of a Poisson count by the recursion at the full mean meet those by
+/// halvings.
 #[tactic(auto, using(dl_grid::proofs::Sizes::few_at_each_scale))]
 fn poisson_meets<const B: u32>(alloc: Global, sev: &Sev, mean: Frac) -> Result<bool, AllocError>
     requires no_zero { probability_of sev.now 0 ≡ whole 0 }
@@ -224,12 +151,12 @@ fn poisson_meets<const B: u32>(alloc: Global, sev: &Sev, mean: Frac) -> Result<b
     requires den { mean.den ≤ 4096 }
     requires within { mean ≤ℚ whole 4096 }
 {
-    let halved = halved(alloc, sev, mean)?;
+    let halved = poisson_claims::<B>(alloc, &mut Workspace::new(alloc), sev, mean, 16)?;
     let direct = poisson_direct::<B>(alloc, sev, mean, 16)?;
     Ok(is_met(&direct, &halved))
 }
 
-/// Whether a gamma count by the recursion at the full mean meets the one by shares.
+/// Whether sixteen cells of a gamma count by the recursion at the full mean meet those by shares.
 #[tactic(auto, using(dl_grid::proofs::Sizes::few_at_each_scale))]
 fn gamma_meets<const B: u32>(
     alloc: Global,
@@ -245,7 +172,7 @@ fn gamma_meets<const B: u32>(
     requires shape_above { 1 ≤ shape }
     requires shape_below { shape ≤ 10000 }
 {
-    let shared = shared(alloc, sev, mean, shape)?;
+    let shared = gamma_claims::<B>(alloc, &mut Workspace::new(alloc), sev, mean, shape, 16)?;
     let direct = gamma_direct::<B>(alloc, sev, shape, mean, 16)?;
     Ok(is_met(&direct, &shared))
 }
@@ -339,9 +266,10 @@ fn is_as_narrow<const B: u32>(alloc: Global) -> Result<bool, AllocError>
     requires below { B ≤ 56 }
 {
     let claim = one_bucket(alloc)?;
-    let halved = halved::<B>(alloc, &claim, fraction(8, 1))?;
+    let work = &mut Workspace::new(alloc);
+    let halved = poisson_claims::<B>(alloc, work, &claim, fraction(8, 1), 16)?;
     let unit = eight_expected(alloc)?;
-    let grid = unit_grid_with::<B>(alloc, &mut Workspace::new(alloc), &unit, 16)?;
+    let grid = unit_grid_with::<B>(alloc, work, &unit, 16)?;
     let lows = [
         335462, 2683701, 10734804, 28626144, 57252288, 91603661, 122138215, 139586531, 139586531,
         124076917, 99261533, 72190206, 48126804, 29616494, 16923711, 9025979,
@@ -491,25 +419,5 @@ fn finite_counts(rt: HostRuntime) -> Result<(), AllocError> {
     let alloc = rt.alloc();
     assert!(rt; finite::<48>(alloc)?);
     assert!(rt; finite::<56>(alloc)?);
-    Ok(())
-}
-
-/// Whether the cells of both counts have their first nine digits.
-fn digits_agree<const B: u32>(alloc: Global) -> Result<bool, AllocError>
-    requires above { 1 ≤ B }
-    requires below { B ≤ 56 }
-{
-    let poisson = poisson_count::<B>(alloc)?;
-    let gamma = gamma_count::<B>(alloc)?;
-    let of_poisson = agrees(&poisson, &[223130160, 334695240, 251021430, 125510715]);
-    let of_gamma = agrees(&gamma, &[444444444, 296296296, 148148148, 65843621]);
-    Ok(of_poisson & of_gamma)
-}
-
-#[test]
-fn nine_digits(rt: HostRuntime) -> Result<(), AllocError> {
-    let alloc = rt.alloc();
-    assert!(rt; digits_agree::<48>(alloc)?);
-    assert!(rt; digits_agree::<56>(alloc)?);
     Ok(())
 }

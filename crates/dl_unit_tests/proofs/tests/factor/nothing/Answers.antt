@@ -1,10 +1,12 @@
-use Rattle.std.proofs.Common.{refl}
-use Rattle.dl_plan.proofs.Weights.{one_item}
-use Rattle.dl_unit_tests.proofs.TestLaws.{item}
+use Rattle.std.proofs.Common.{[], ◌∷◌, ◌≤◌, ◌^◌, arith, refl}
+use Rattle.std.proofs.lemmas.List.Elements.{All-from_recursion}
+use Rattle.std.proofs.lemmas.Result.{IfOk-weaker}
+use Rattle.dl_plan.specs.declared.item.Item.{Item}
 use Rattle.dl_unit_tests.proofs.tests.factor.nothing.Goals as goal
 
-pub invariant_of-result : goal.invariant_of-result
-invariant_of-result c = record {
-  weighted = rw (c.from_vec.ensures, c.in_ok-push.ensures.items)
-      (one_item c.new-items.result.items (item 0 1) c.new-items.ensures.items refl);
+pub returns : goal.returns
+returns c = record {
+  near = IfOk-weaker c.alone.result _ _ (λ sev items. rw items
+      (All-from_recursion (λ (i : Item). i.amount ≤ 2 ^ 20) (record { amount = 0; weight = 1 } ∷ []) (omega arith, tt))) c.alone.ensures.items;
+  quarters = IfOk-weaker c.alone.result _ _ (λ sev total. rw total refl) c.alone.ensures.total;
 }

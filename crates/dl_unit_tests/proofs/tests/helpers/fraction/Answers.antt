@@ -1,7 +1,7 @@
-use Rattle.std.proofs.Common.{◌≡◌, ◌≤◌, arith, sym, subst}
+use Rattle.std.proofs.Common.{◌≡◌, arith}
 use Rattle.dl_exact.specs.Fraction.{◌over◌}
-use Rattle.dl_frac.specs.Exact.{Gives, FitsFrac}
-use Rattle.dl_exact.proofs.Parts.{over_num_le as num_of_over-le, over_den_le as den_of_over-le}
+use Rattle.dl_frac.specs.Exact.{FitsFrac}
+use Rattle.dl_exact.proofs.Parts.{over_num_le, over_den_le}
 use Rattle.dl_plan.proofs.Fits.{over_fits, given_ok}
 use Rattle.dl_unit_tests.proofs.tests.helpers.fraction.Goals as goal
 
@@ -10,16 +10,12 @@ unwrap-requires c = given_ok c.make.result (c.args.num over c.args.den)
     (rw (← c.from.ensures, ← c.from-2.ensures) c.make.ensures)
     (over_fits c.args.num c.args.den c.requires (omega arith) (omega arith))
 
-pub returns-clause-num : goal.returns-clause-num
-returns-clause-num c =
+pub returns : goal.returns
+returns c =
     let made : (c.unwrap.result ≡ c.args.num over c.args.den) × FitsFrac (c.args.num over c.args.den) =
-    subst (λ r. Gives r (c.args.num over c.args.den)) c.unwrap.ensures
-    (rw (← c.from.ensures, ← c.from-2.ensures) c.make.ensures) in
-    subst (λ x. x.num ≤ c.args.num) (sym made.0) (num_of_over-le c.args.num c.args.den c.requires)
-
-pub returns-clause-den : goal.returns-clause-den
-returns-clause-den c =
-    let made : (c.unwrap.result ≡ c.args.num over c.args.den) × FitsFrac (c.args.num over c.args.den) =
-    subst (λ r. Gives r (c.args.num over c.args.den)) c.unwrap.ensures
-    (rw (← c.from.ensures, ← c.from-2.ensures) c.make.ensures) in
-    subst (λ x. x.den ≤ c.args.den) (sym made.0) (den_of_over-le c.args.num c.args.den c.requires)
+    rw (c.from.ensures, c.from-2.ensures, c.unwrap.ensures) at c.make.ensures in
+    record {
+      value = made.0;
+      num = rw made.0 (over_num_le c.args.num c.args.den c.requires);
+      den = rw made.0 (over_den_le c.args.num c.args.den c.requires);
+    }

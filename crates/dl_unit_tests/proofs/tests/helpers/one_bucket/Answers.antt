@@ -1,10 +1,17 @@
-use Rattle.std.proofs.Common.{refl}
-use Rattle.dl_unit_tests.proofs.TestLaws.{item}
-use Rattle.dl_plan.proofs.Weights.{one_item}
+use Rattle.std.proofs.Common.{[], ◌∷◌, ◌≤◌, ◌^◌, arith, refl, ap₂}
+use Rattle.std.proofs.lemmas.List.Elements.{All-from_recursion}
+use Rattle.std.proofs.lemmas.Result.{IfOk-weaker}
+use Rattle.dl_exact.proofs.Results.{if_ok_two}
+use Rattle.dl_exact.specs.Fraction.{◌over◌}
+use Rattle.dl_plan.specs.declared.item.Item.{Item}
+use Rattle.dl_plan.specs.Prelude.{weight_at}
 use Rattle.dl_unit_tests.proofs.tests.helpers.one_bucket.Goals as goal
 
-pub invariant_of-result : goal.invariant_of-result
-invariant_of-result c = record {
-  weighted = rw (c.from_vec.ensures, c.in_ok-push.ensures.items)
-      (one_item c.new-items.result.items (item 1 1) c.new-items.ensures.items refl);
+pub returns : goal.returns
+returns c = record {
+  no_zero = if_ok_two c.alone.result _ _ _ (λ sev items total. ap₂ (λ xs t. weight_at xs 0 over t) items total)
+      c.alone.ensures.items c.alone.ensures.total;
+  near = IfOk-weaker c.alone.result _ _ (λ sev items. rw items
+      (All-from_recursion (λ (i : Item). i.amount ≤ 2 ^ 20) (record { amount = 1; weight = 1 } ∷ []) (omega arith, tt))) c.alone.ensures.items;
+  quarters = IfOk-weaker c.alone.result _ _ (λ sev total. rw total refl) c.alone.ensures.total;
 }
