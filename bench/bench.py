@@ -166,12 +166,24 @@ def mixed():
     return units
 
 
+def sixteen_poisson():
+    """16 Poisson units of 15 to 30 claims of `[1:5]` to `[1:10]`."""
+    sizes = [(15 + number, 5 + number % 6) for number in range(16)]
+    return [
+        Unit(f"U{number}", f"{claims} claims dsev [1:{most}] poisson", f"poisson {claims}", even(1, most))
+        for number, (claims, most) in enumerate(sizes)
+    ]
+
+
 def mixed_cases():
-    """A portfolio of 16 units of all kinds: its total, with the share of one unit, and with those of all."""
+    """Portfolios of 16 units, of all kinds and of Poisson counts: the total, with the share of one unit, and with those of all."""
     asks = ["--digits", "4", "mean", "cdf:2000", "q:0.99"]
     yield Case("16 mixed units, 4,096 cells", mixed(), asks)
     yield Case("16 mixed units, `kappa` of one, 4,096 cells", mixed(), [*asks, "kappa:M0:2000"])
-    yield Case("16 mixed units, `kappa` of each, 4,096 cells", mixed(), [*asks, *(f"kappa:M{i}:2000" for i in range(16))])
+    yield Case("16 mixed units, `kappa` of each, 4,096 cells", mixed(), [*asks, *kappas(mixed(), 2000)])
+    port, units, asks = "16 Poisson units `[1:5]` to `[1:10]`", sixteen_poisson(), ["mean", "cdf:1600", "q:0.99"]
+    yield Case(f"{port}, 4,096 cells", units, asks)
+    yield Case(f"{port}, `kappa` of each, 4,096 cells", units, [*asks, *kappas(units, 1600)])
 
 
 def asked_of_each_kind():
@@ -215,7 +227,7 @@ def common_cases():
     """The programs with a common factor."""
     four = [Unit(f"F{n}", "100 claims dsev [1:10] poisson", "poisson 100", even(1, 10)) for n in range(4)]
     large = [Unit(f"L{n}", "800 claims dsev [1:10] poisson", "poisson 800", even(1, 10)) for n in range(4)]
-    sixteen = [Unit(f"U{n}", f"{15 + n} claims dsev [1:{5 + n % 6}] poisson", f"poisson {15 + n}", even(1, 5 + n % 6)) for n in range(16)]
+    sixteen = sixteen_poisson()
     wide = ["--digits", "3", "--mwidth", "100000000000"]
     port = "16 units `[1:5]` to `[1:10]` under a common factor"
     yield Case(f"{port}, 4,096 cells", sixteen, ["mean", "cdf:1600", "q:0.9"], common="0.5")
@@ -316,7 +328,7 @@ def parts(decl):
     equal = [Unit(f"E{number}", often, "binomial 1490 0.5", even(1, 10)) for number in range(16)]
     power = [Unit("D", "dfreq [256] dsev [1:1024]", listed([256]), even(1, 1024))]
     yield "Short grids", short_cases(decl, equal, power)
-    yield "A portfolio of mixed units", mixed_cases()
+    yield "Portfolios of 16 units", mixed_cases()
     yield "Grids of 65,536 cells", long_cases(equal, power)
     yield "Counts with a changed probability of no claim", changed_cases()
     yield "A common factor", common_cases()
