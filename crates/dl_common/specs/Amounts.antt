@@ -12,8 +12,8 @@ amounts_to x at items = sum_by
     (λ item. if nat_le item.amount x then item.amount * item.weight * at (x - item.amount) else 0)
     items
 
--- the expected claims of a unit times the mean of one of them where it and a sum come to x, and of
--- 0 elsewhere, where the sum is k with probability at k / scale
+-- the expected claims of a unit times the sum of a * P(claim = a) * at (x - a) / scale over the
+-- amounts a of one claim up to x, where at k / scale is the probability that a sum is k
 abbrev pub claims_mean : UnitOfPlan → (scale x : ℕ) → (ℕ → ℕ) → Fraction
 claims_mean u scale x at =
     expected_count u.freq *ℚ amounts_to x at u.sev.items over (u.sev.total * scale)

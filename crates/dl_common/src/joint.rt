@@ -73,8 +73,8 @@ pub fn poisson_joint<const B: u32>(unit: &Unit, grid: &Grid<B>, x: u32) -> Iv<B>
     claims_joint(unit, grid, x)
 }
 
-/// The mean of the claims of a Poisson unit where one of them and what the grid is of come to `x`,
-/// and of 0 elsewhere, in buckets; no more than `x`.
+/// The unit's expected claims times the sum of `a * P(claim = a) * P(grid = x - a)` over the
+/// amounts `a` of one claim up to `x`, in buckets; no more than `x`.
 fn claims_joint<const B: u32>(unit: &Unit, grid: &Grid<B>, x: u32) -> Iv<B>
     requires valid { (cells : ℕ) × IsValidUnit cells unit.now }
     requires poisson { IsPoisson unit.now.freq }

@@ -9,7 +9,7 @@ use std::alloc::{AllocError, Global};
 /// How many ends lie from one mark to the next.
 const BLOCK: usize = 64;
 
-/// What the first ends of a list come to.
+/// The running sums at one cell: over the ends before it.
 #[derive(Clone, Copy)]
 pub(crate) struct Mark {
     /// Their sum.
@@ -28,7 +28,7 @@ pub(crate) struct Running<'a> {
     pub(crate) marks: &'a [Mark],
 }
 
-/// What the first `last` ends come to, by a walk from `mark`, which is that of the first `first`.
+/// The running sums of the first `last` ends, by a walk from `mark`, those of the first `first`.
 fn walk(one: u128, ends: &[u128], mark: Mark, first: usize, last: usize) -> Mark
     requires few { AreFew one ends.now }
     requires mark { IsMark one (end_at ends.now) first mark }
@@ -61,7 +61,7 @@ pub(crate) fn marks_of(alloc: Global, one: u128, ends: &[u128]) -> Result<Vec<Ma
 }
 
 impl<'a> Running<'a> {
-    /// What the ends of the first `blocks` blocks come to.
+    /// The running sums of the ends of the first `blocks` blocks.
     fn mark(self, blocks: usize) -> Mark
         requires running { IsRunning self.one self.ends.now self.marks.now }
         requires inside { blocks ≤ length self.marks.now }
@@ -73,7 +73,7 @@ impl<'a> Running<'a> {
         self.marks[blocks - 1]
     }
 
-    /// What the first `x` ends come to.
+    /// The running sums of the first `x` ends.
     pub(crate) fn at(self, x: usize) -> Mark
         requires running { IsRunning self.one self.ends.now self.marks.now }
         requires inside { x ≤ length self.ends.now }
