@@ -3,7 +3,7 @@
 ghost use Rattle.std.specs.Prelude.{◌≡◌, ◌≤◌, ◌&&◌, IfSome, is_some};
 ghost use Rattle.std.specs.Option.{SomeIff};
 ghost use Rattle.dl_limits.specs.Limits.{most_amount, most_range_parts};
-ghost use Rattle.dl_lexer.specs.Numerals.{IsNumeralToken};
+ghost use Rattle.dl_lexer.specs.Prelude.{IsNumeral};
 ghost use Rattle.dl_ast.specs.WellFormed.{IsFormedItem};
 ghost use Rattle.dl_sev.specs.Prelude.{HasPartsOf18Digits, range_denominator};
 ghost use Rattle.dl_plan.specs.Ranges.{IsBucket};
@@ -25,7 +25,7 @@ use dl_sev::Range;
 
 /// The value of a numeral; a bad one has the value 1.
 pub(crate) fn number(written: &Numeral) -> Gridded<Frac>
-    requires { IsNumeralToken written.now.text }
+    requires { IsNumeral written.now.text }
     ensures read { IsReadTo 1 (flaws_of_numeral written.now) (value written.now) result }
     ensures small { IsSmall result.part }
 {
@@ -43,7 +43,7 @@ pub(crate) fn number(written: &Numeral) -> Gridded<Frac>
 
 /// The value of a numeral, or a default where it is missing.
 fn number_or(other: Frac, part: &Rare<Numeral>) -> Gridded<Frac>
-    requires { IfSome part.now (λ n. IsNumeralToken n.text) }
+    requires { IfSome part.now (λ n. IsNumeral n.text) }
     ensures { IsReadTo 1 (flaws_within flaws_of_numeral part.now) (value_or other part.now) result }
 {
     match part.as_ref() {
@@ -107,7 +107,7 @@ fn shared_denominator(range: &Range) -> Option<u64>
 pub(crate) fn money(written: &Numeral, bs: Frac, most: u32, span: Span) -> Gridded<u32>
     requires bucket { IsBucket bs }
     requires most { most ≤ most_amount }
-    requires numeral { IsNumeralToken written.now.text }
+    requires numeral { IsNumeral written.now.text }
     ensures { IsRead (flaws_of_money most bs span written.now) (number_of bs (value written.now))
         result }
 {

@@ -87,7 +87,8 @@ unfoldable pub use Rattle.dl_cert.specs.Lines.{AreCells, AreSteps, lines_of}
 pub use Rattle.dl_cert.specs.Numbers.{ceiling_of, floor_of, high_number, high_recursion, high_start, low_number, low_recursion, low_start, one, sum_by_amount, sum_plain}
 pub use Rattle.dl_cert.specs.Passes.{AllPass, Certifies, Passes, made_after}
 pub use Rattle.dl_cert.specs.Reading.{BeginsCell, BeginsStep, after_word, first_word, is_blank, is_newline, line_from}
-pub use Rattle.dl_cert.specs.Spelling.{IsCell, IsNumber, is_comma, is_number_of}
+pub use Rattle.dl_cert.specs.Spelling.{IsCell, IsNumber, is_comma}
+pub use Rattle.dl_bytes.specs.Digits.{is_number, is_number_of}
 pub use Rattle.dl_cert.specs.Starts.{IsExactStart}
 pub use Rattle.dl_cert.specs.Steps.{IsThere, Made, Step, label_of, made_at, made_by}
 pub use Rattle.dl_cert.specs.Targets.{above_zero, part_of, parts_of, parts_of_plan, target, unit_part, unit_parts, where_none}

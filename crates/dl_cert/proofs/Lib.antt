@@ -6,7 +6,6 @@ pub mod Targets
 pub mod Starts
 pub mod Parts
 pub mod Passing
-pub mod Digits
 pub mod CellsText
 pub mod Printed
 pub mod WrittenSteps

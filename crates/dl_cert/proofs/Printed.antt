@@ -3,37 +3,36 @@ use Rattle.dl_cert.proofs.Common.{append-nil, ℕ, ◌≡◌, ◌+◌, ◌*◌, 
 use Rattle.std.specs.Fmt.{decimal}
 use Rattle.std.proofs.Math.Bool.{or-true}
 use Rattle.std.proofs.lemmas.Fmt.{decimal_is_IsNumeral, length-decimal-le}
-use Rattle.dl_frac.proofs.NumeralLaws.{before_none, after_none}
-use Rattle.dl_cert.proofs.Digits.{own, lacked}
+use Rattle.dl_bytes.proofs.FirstSign.{after_none, before_none}
+use Rattle.dl_bytes.proofs.DigitLaws.{own, no_sign}
 
 -- ---- numbers
 
 digits_of : (n : ℕ) → n < 2 ^ 64 → list_all is_ascii_digit (decimal n) ≡ true
 digits_of n h = own.from (decimal n) (decimal_is_IsNumeral n h).0.1
 
-both_tests : (n most : ℕ) → 0 < n → n ≤ most → (nat_lt 0 n && nat_le n most) ≡ true
-both_tests n most some few = grind (arith, nat_tests)
-
 pub number_spelled : (most n : ℕ) → 0 < most → n < 10 ^ most → n < 2 ^ 64 → IsNumber most (decimal n) n
 number_spelled most n pos small fits =
     let some : 0 < length (decimal n) = (decimal_is_IsNumeral n fits).0.0 in
     let few : length (decimal n) ≤ most = length-decimal-le most n pos small fits in
     record {
-      digits = and_from (nat_lt 0 (length (decimal n)) && nat_le (length (decimal n)) most)
-          (list_all is_ascii_digit (decimal n)) (both_tests (length (decimal n)) most some few) (digits_of n fits);
+      digits = and_from (nat_lt 0 (length (decimal n)) && list_all is_ascii_digit (decimal n))
+          (nat_le (length (decimal n)) most)
+          (and_from (nat_lt 0 (length (decimal n))) (list_all is_ascii_digit (decimal n)) (grind (arith, nat_tests, some))
+          (digits_of n fits)) (grind (arith, nat_tests, few));
       value = (decimal_is_IsNumeral n fits).1;
     }
 
 -- ---- bytes that a text lacks
 
 no_comma : (n : ℕ) → n < 2 ^ 64 → list_any is_comma (decimal n) ≡ false
-no_comma n h = lacked is_comma (λ byte digit. grind (arith, nat_tests)) (decimal n) (digits_of n h)
+no_comma n h = no_sign is_comma (λ byte digit. grind (arith, nat_tests)) (decimal n) (digits_of n h)
 
 abbrev pub is_newline : ℕ → Bool
 is_newline byte = byte == 10
 
 no_newline : (n : ℕ) → n < 2 ^ 64 → list_any is_newline (decimal n) ≡ false
-no_newline n h = lacked is_newline (λ byte digit. grind (arith, nat_tests)) (decimal n) (digits_of n h)
+no_newline n h = no_sign is_newline (λ byte digit. grind (arith, nat_tests)) (decimal n) (digits_of n h)
 
 lack_both : (p : ℕ → Bool) (xs ys : List ℕ) → list_any p xs ≡ false → list_any p ys ≡ false
     → list_any p (xs ++ ys) ≡ false

@@ -1,15 +1,10 @@
 -- How the numbers and the cells of a step are spelled.
-use Rattle.std.specs.Prelude.{ℕ, ◌≡◌, ◌==◌, ◌&&◌, ◌≤◌, Bool, IsTrue, List, length, nat_le, nat_lt}
-use Rattle.std.specs.List.{list_all, list_any, before_first, after_first}
-use Rattle.std.specs.Char.{is_ascii_digit}
+use Rattle.std.specs.Prelude.{ℕ, ◌≡◌, ◌==◌, ◌≤◌, Bool, IsTrue, List}
+use Rattle.std.specs.List.{list_any, before_first, after_first}
 use Rattle.std.specs.Str.Parse.{digits_value}
+use Rattle.dl_bytes.specs.Digits.{is_number_of}
 use Rattle.dl_iv.specs.declared.interval.Iv.{Iv}
 use Rattle.dl_cert.specs.Numbers.{one}
-
--- 1 to `most` digits
-abbrev pub is_number_of : ℕ → List ℕ → Bool
-is_number_of most text =
-    nat_lt 0 (length text) && nat_le (length text) most && list_all is_ascii_digit text
 
 -- 1 to `most` digits that write n
 pub record IsNumber (most : ℕ) (text : List ℕ) (n : ℕ) : Type 0 where

@@ -13,7 +13,6 @@ mod lines;
 mod making;
 mod passed_steps;
 mod printing;
-mod spelling;
 mod starting;
 mod step;
 mod steps;

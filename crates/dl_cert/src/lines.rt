@@ -9,8 +9,8 @@ ghost use Rattle.dl_cert.specs.Numbers.{one};
 ghost use Rattle.dl_cert.specs.Lines.{lines_of, AreCells, IsStep};
 ghost use Rattle.dl_cert.specs.Reading.{BeginsCell, IsHead, IsNoStep, line_from, first_word, after_word};
 
-use crate::spelling::number;
 use crate::step::Kind;
+use dl_bytes::number;
 use dl_iv::{Iv, units_of_one};
 use std::alloc::{AllocError, Global};
 

@@ -14,6 +14,7 @@ pub use Rattle.dl_exact.proofs.Parts.{cut_same, lowest_self, num_pos}
 pub use Rattle.dl_exact.specs.Fraction.{Fraction, whole}
 unfoldable pub use Rattle.dl_exact.specs.Fraction.{◌/ℚ◌, ◌over◌}
 unfoldable pub use Rattle.dl_exact.specs.Gcd.{gcd}
-pub use Rattle.dl_frac.specs.Numerals.{IsDecimal, decimal, digit_count, digits_in, is_percent, is_point, is_slash, number_in, percent, decimals_in, plain, pointed}
+pub use Rattle.dl_bytes.specs.Numerals.{IsDecimal, digits, is_percent, is_point, is_slash}
+pub use Rattle.dl_frac.specs.Numerals.{digit_count, digits_in, number_in, decimals_in}
 unfoldable pub use Rattle.dl_frac.specs.Numerals.{is_bad, numeral_value}
 pub use Rattle.dl_frac.specs.Reads.{IsReadingOf}

@@ -1,5 +1,4 @@
 mod Common
 pub mod FractionLaws
 pub mod NumeralLaws
-pub mod SpellingLaws
 pub mod SmallNumerals

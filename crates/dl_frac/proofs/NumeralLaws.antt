@@ -1,5 +1,5 @@
 -- How the digits, the places and the parts of a text change with one more byte.
-use Rattle.dl_frac.proofs.Common.{◌≡◌, inl, inr, ℕ, suc, ◌+◌, ◌*◌, ◌-◌, ◌^◌, ◌<◌, ◌≤◌, Bool, true, false, cond, ◌||◌, List, [], ◌∷◌, ◌++◌, length, take, drop, get_or, arith, refl, sym, ap, ap₂, ◌∙◌, ◌==◌, nat_lt, IsTrue, ◌↔◌, list_any, before_first, after_first, position_or_len, is_ascii_digit, digit_value, AllDigits, length-append, append-nil, take-append-drop, take_more, nat_tests, pow-le-pow_right, whole, ◌over◌, ◌/ℚ◌, rest_whole, is_point, is_percent, is_slash, digits_in, digit_count, number_in, decimals_in, numeral_value, is_bad, IsDecimal, plain, pointed}
+use Rattle.dl_frac.proofs.Common.{◌≡◌, inl, inr, ℕ, ◌+◌, ◌*◌, ◌-◌, ◌^◌, ◌<◌, ◌≤◌, Bool, true, false, cond, ◌||◌, List, [], ◌∷◌, ◌++◌, length, take, drop, get_or, arith, refl, sym, ap, ap₂, ◌∙◌, ◌==◌, nat_lt, IsTrue, ◌↔◌, list_any, before_first, after_first, is_ascii_digit, digit_value, AllDigits, length-append, append-nil, take-append-drop, take_more, nat_tests, pow-le-pow_right, whole, ◌over◌, ◌/ℚ◌, rest_whole, is_point, is_percent, is_slash, digits_in, digit_count, number_in, decimals_in, numeral_value, is_bad, IsDecimal, digits}
 use Rattle.std.proofs.Common.{◌≢◌, ◌⊎◌, append_assoc, mul_comm}
 use Rattle.std.proofs.lemmas.Nat.{pow-add}
 use Rattle.std.specs.Str.Parse.{IsNumeral as IsNumber, digits_value}
@@ -8,46 +8,14 @@ use Rattle.std.proofs.lemmas.List.Folds.{list_any-append}
 use Rattle.std.proofs.lemmas.Int.Digits.{digits_value_push}
 use Rattle.dl_exact.proofs.Over.{over_div}
 use Rattle.dl_exact.proofs.Laws.{one_pos}
+use Rattle.dl_bytes.proofs.DigitLaws.{digit_or_not, digits_pass, no_sign, point_no_digit, slash_no_digit}
+use Rattle.dl_bytes.proofs.FirstSign.{after_no, after_none, after_yes, any_push, any_push_no, before_none}
+use Rattle.dl_bytes.proofs.Numerals.{decimal_marks, pointed}
 use Rattle.dl_frac.specs.Numerals.{decimal_value}
-use Rattle.std.proofs.Math.Bool.{or-false, or-true}
-use Rattle.std.proofs.lemmas.Bool.{cases_Bool, or_parts, lt-ltb, ltb-true}
+use Rattle.std.proofs.Math.Bool.{or-true}
+use Rattle.std.proofs.lemmas.Bool.{cases_Bool, lt-ltb, ltb-true}
 
--- ---- the parts round the first byte that passes
-
-drop_more : (x : ℕ) (xs : List ℕ) (k : ℕ) → drop (1 + k + 1) (x ∷ xs) ≡ drop (k + 1) xs
-drop_more x xs k = let e : 1 + k + 1 ≡ suc (k + 1) = omega arith in ap (λ n. drop n (x ∷ xs)) e
-
-take_one : (x : ℕ) (xs : List ℕ) (k : ℕ) → take (1 + k) (x ∷ xs) ≡ x ∷ take k xs
-take_one x xs k = let e : 1 + k ≡ suc k = omega arith in ap (λ n. take n (x ∷ xs)) e
-
-pub after_yes : (p : ℕ → Bool) (x : ℕ) (xs : List ℕ) → p x ≡ true → after_first p (x ∷ xs) ≡ xs
-after_yes p x xs h = rw h
-
-pub after_no : (p : ℕ → Bool) (x : ℕ) (xs : List ℕ) → p x ≡ false → after_first p (x ∷ xs) ≡ after_first p xs
-after_no p x xs h = rw h (drop_more x xs (position_or_len p xs))
-
-pub before_yes : (p : ℕ → Bool) (x : ℕ) (xs : List ℕ) → p x ≡ true → before_first p (x ∷ xs) ≡ []
-before_yes p x xs h = rw h
-
-pub before_no : (p : ℕ → Bool) (x : ℕ) (xs : List ℕ) → p x ≡ false → before_first p (x ∷ xs) ≡ x ∷ before_first p xs
-before_no p x xs h = rw h (take_one x xs (position_or_len p xs))
-
-any_none : (p : ℕ → Bool) (x : ℕ) (xs : List ℕ) → list_any p (x ∷ xs) ≡ false → (p x ≡ false) × (list_any p xs ≡ false)
-any_none p x xs h = or_parts (p x) (list_any p xs) h
-
-pub after_none : (p : ℕ → Bool) (front back : List ℕ) → list_any p front ≡ false
-    → after_first p (front ++ back) ≡ after_first p back
-after_none p [] back h = refl
-after_none p (x ∷ xs) back h =
-    after_no p x (xs ++ back) (any_none p x xs h).0 ∙ after_none p xs back (any_none p x xs h).1
-
-pub before_none : (p : ℕ → Bool) (front back : List ℕ) → list_any p front ≡ false
-    → before_first p (front ++ back) ≡ front ++ before_first p back
-before_none p [] back h = refl
-before_none p (x ∷ xs) back h =
-    before_no p x (xs ++ back) (any_none p x xs h).0 ∙ ap (λ t. x ∷ t) (before_none p xs back (any_none p x xs h).1)
-
--- one more byte, after such a byte and before it
+-- ---- one more byte, after the first that passes and before it
 pub after_push_yes : (p : ℕ → Bool) (text : List ℕ) (b : ℕ) → list_any p text ≡ true
     → after_first p (text ++ b ∷ []) ≡ after_first p text ++ b ∷ []
 after_push_yes p [] b h = absurd (cc)
@@ -65,9 +33,6 @@ after_push_no p text b h = after_none p text (b ∷ []) h
 
 pub after_nothing : (p : ℕ → Bool) (text : List ℕ) → list_any p text ≡ false → after_first p text ≡ []
 after_nothing p text h = sym (ap (λ t. after_first p t) (append-nil text)) ∙ after_none p text [] h
-
-pub any_push : (p : ℕ → Bool) (text : List ℕ) (b : ℕ) → list_any p (text ++ b ∷ []) ≡ (list_any p text || p b)
-any_push p text b = list_any-append p text (b ∷ []) ∙ ap (λ t. list_any p text || t) (or-false (p b))
 
 -- ---- one more byte that is a digit, and one that is not
 
@@ -113,9 +78,6 @@ decimals_push_other text b h = elim (cases_Bool (list_any is_point text)) [
 pub no_mark : (d : ℕ) → d < 10 → (is_point (48 + d) ≡ false) × (is_percent (48 + d) ≡ false) ×
     (is_slash (48 + d) ≡ false)
 no_mark d h = (grind (arith, nat_tests), grind (arith, nat_tests), grind (arith, nat_tests))
-
-pub any_push_no : (p : ℕ → Bool) (text : List ℕ) (b : ℕ) → p b ≡ false → list_any p (text ++ b ∷ []) ≡ list_any p text
-any_push_no p text b h = any_push p text b ∙ ap (λ t. list_any p text || t) h ∙ or-false (list_any p text)
 
 -- the scale is 10 for each place
 pub scale_push : (text : List ℕ) (d s t : ℕ) → d < 10 → s ≡ 10 ^ decimals_in text
@@ -221,47 +183,19 @@ within_limit d n h = grind (arith, nat_tests, h)
 
 -- ---- each kind by its parts
 
-pub digit_or_not : (b : ℕ) → digit_value b < 10 → is_ascii_digit b ≡ true
-digit_or_not b h = grind (arith, nat_tests, h)
-
 pub all_digits : (text : List ℕ) → AllDigits 10 text → digits_in text ≡ text
 all_digits [] h = refl
 all_digits (x ∷ xs) h = rw (digit_or_not x h.0, all_digits xs h.1)
 
-pub no_sign : (p : ℕ → Bool) → ((b : ℕ) → is_ascii_digit b ≡ true → p b ≡ false) → (text : List ℕ) → AllDigits 10 text
+-- digits have none of what no digit is
+none_in : (p : ℕ → Bool) → ((b : ℕ) → is_ascii_digit b ≡ true → p b ≡ false) → (text : List ℕ) → AllDigits 10 text
     → list_any p text ≡ false
-no_sign p f [] h = refl
-no_sign p f (x ∷ xs) h = rw (f x (digit_or_not x h.0)) (no_sign p f xs h.1)
-
-pub point_no_digit : (b : ℕ) → is_ascii_digit b ≡ true → is_point b ≡ false
-point_no_digit b h = grind (arith, nat_tests, h)
-
-pub percent_no_digit : (b : ℕ) → is_ascii_digit b ≡ true → is_percent b ≡ false
-percent_no_digit b h = grind (arith, nat_tests, h)
-
-pub slash_no_digit : (b : ℕ) → is_ascii_digit b ≡ true → is_slash b ≡ false
-slash_no_digit b h = grind (arith, nat_tests, h)
-
--- bytes other than a sign, that sign, and more bytes
-pub any_none_cons : (p : ℕ → Bool) (b : ℕ) (front back : List ℕ) → p b ≡ false → list_any p front ≡ false
-    → list_any p back ≡ false → list_any p (front ++ b ∷ back) ≡ false
-any_none_cons p b front back e f g = list_any-append p front (b ∷ back) ∙ rw (f, e, g)
+none_in p f text h = no_sign p f text ((digits_pass text).1 h)
 
 digits_round : (b : ℕ) (front back : List ℕ) → is_ascii_digit b ≡ false → AllDigits 10 front → AllDigits 10 back
     → digits_in (front ++ b ∷ back) ≡ front ++ back
 digits_round b front back e f g =
     filter-append is_ascii_digit front (b ∷ back) ∙ rw (e, all_digits front f, all_digits back g)
-
--- a decimal has no slash and no percent sign
-pub decimal_marks : (text : List ℕ) → IsDecimal text
-    → (list_any is_slash text ≡ false) × (list_any is_percent text ≡ false)
-decimal_marks text (plain n) = (no_sign is_slash slash_no_digit text n.1, no_sign is_percent percent_no_digit text n.1)
-decimal_marks text (pointed front back f g some e) = (
-  rw e (any_none_cons is_slash 46 front back refl (no_sign is_slash slash_no_digit front f)
-      (no_sign is_slash slash_no_digit back g)),
-  rw e (any_none_cons is_percent 46 front back refl (no_sign is_percent percent_no_digit front f)
-      (no_sign is_percent percent_no_digit back g)),
-)
 
 decimal_is : (text : List ℕ) → IsDecimal text → numeral_value text ≡ decimal_value text
 decimal_is text h = plain_value text (decimal_marks text h).0
@@ -280,16 +214,16 @@ percent_decimal front =
 
 pub plain_law : (text : List ℕ) → IsNumber 10 text → numeral_value text ≡ whole (digits_value 10 text)
 plain_law text h =
-    decimal_is text (plain h)
+    decimal_is text (digits (h.0, (digits_pass text).1 h.1))
     ∙ ap₂ (λ n k. digits_value 10 n over 10 ^ k) (all_digits text h.1)
-    (ap digit_count (after_nothing is_point text (no_sign is_point point_no_digit text h.1)))
+    (ap digit_count (after_nothing is_point text (none_in is_point point_no_digit text h.1)))
 
 pub pointed_law : (front back : List ℕ) → AllDigits 10 front → AllDigits 10 back → 0 < length front + length back
     → numeral_value (front ++ 46 ∷ back) ≡ digits_value 10 (front ++ back) over 10 ^ length back
 pointed_law front back f g some =
-    decimal_is (front ++ 46 ∷ back) (pointed front back f g some refl)
+    decimal_is (front ++ 46 ∷ back) (pointed front back ((digits_pass front).1 f) ((digits_pass back).1 g) some refl)
     ∙ ap₂ (λ n k. digits_value 10 n over 10 ^ k) (digits_round 46 front back refl f g)
-    (ap digit_count (after_none is_point front (46 ∷ back) (no_sign is_point point_no_digit front f))
+    (ap digit_count (after_none is_point front (46 ∷ back) (none_in is_point point_no_digit front f))
     ∙ ap length (all_digits back g))
 
 pub percent_law : (front : List ℕ) → IsDecimal front
@@ -303,7 +237,7 @@ percent_law front h =
 pub fraction_law : (first second : List ℕ) → AllDigits 10 first → AllDigits 10 second
     → numeral_value (first ++ 47 ∷ second) ≡ digits_value 10 first over digits_value 10 second
 fraction_law first second f g =
-    slash_value first second (no_sign is_slash slash_no_digit first f)
+    slash_value first second (none_in is_slash slash_no_digit first f)
     ∙ ap₂ (λ a b. digits_value 10 a over digits_value 10 b) (all_digits first f) (all_digits second g)
 
 -- ---- when each kind is bad
@@ -334,7 +268,7 @@ pub fraction_bad_law : (d : ℕ) (first second : List ℕ) → AllDigits 10 firs
 fraction_bad_law d first second f g =
     let e : is_bad d (first ++ 47 ∷ second) ≡
     (nat_lt d (length first) || nat_lt d (length second) || digits_value 10 second == 0) =
-    slash_bad first second (no_sign is_slash slash_no_digit first f) d
+    slash_bad first second (none_in is_slash slash_no_digit first f) d
     ∙ ap₂ (λ a b. nat_lt d (length a) || nat_lt d (length b) || digits_value 10 b == 0) (all_digits first f)
     (all_digits second g) in
     let t = fraction_tests d (length first) (length second) (digits_value 10 second) in

@@ -4,8 +4,9 @@ use Rattle.std.specs.Prelude.{◌||◌}
 use Rattle.std.proofs.Math.Nat.{one-le-pow}
 use Rattle.std.proofs.lemmas.Int.Digits.{digits_value-lt}
 use Rattle.std.proofs.lemmas.Bool.{cases_Bool, ltb-false}
-use Rattle.dl_frac.proofs.NumeralLaws.{after_yes, after_none, count-append, plain_value, plain_bad, hundredth}
-use Rattle.dl_frac.proofs.SpellingLaws.{digits_pass}
+use Rattle.dl_bytes.proofs.FirstSign.{after_none, after_yes}
+use Rattle.dl_frac.proofs.NumeralLaws.{count-append, plain_value, plain_bad, hundredth}
+use Rattle.dl_bytes.proofs.DigitLaws.{digits_pass}
 use Rattle.dl_exact.proofs.Parts.{over_num_le as num_of_over-le, over_den_le as den_of_over-le}
 
 -- both parts have at most as much as d digits write

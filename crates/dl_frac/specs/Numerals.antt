@@ -1,35 +1,10 @@
--- Numerals: how they are spelled, what they are worth, and when they are bad. 37 is `%`, 46 is `.`
--- and 47 is `/`.
-use Rattle.std.specs.Prelude.{ℕ, ◌≡◌, ◌+◌, ◌-◌, ◌^◌, ◌<◌, Bool, ◌==◌, ◌||◌, nat_lt, if◌then◌else◌, List, [], ◌∷◌, ◌++◌, length}
+-- What numerals are worth, and when they are bad.
+use Rattle.std.specs.Prelude.{ℕ, ◌-◌, ◌^◌, Bool, ◌==◌, ◌||◌, nat_lt, if◌then◌else◌, List, length}
 use Rattle.std.specs.List.{filter, list_any, before_first, after_first}
 use Rattle.std.specs.Char.{is_ascii_digit}
-use Rattle.std.specs.Str.Parse.{AllDigits, IsNumeral as IsNumber, digits_value}
+use Rattle.std.specs.Str.Parse.{digits_value}
+use Rattle.dl_bytes.specs.Numerals.{is_percent, is_point, is_slash}
 use Rattle.dl_exact.specs.Fraction.{Fraction, whole, ◌over◌, ◌/ℚ◌}
-
--- digits; or a point with digits in front of it, behind it, or both
-pub data IsDecimal (text : List ℕ) : Type 0 where
-  plain : IsNumber 10 text → IsDecimal text
-  pointed : (front back : List ℕ) → AllDigits 10 front → AllDigits 10 back
-      → 0 < length front + length back → text ≡ front ++ 46 ∷ back → IsDecimal text
-
--- a decimal; a decimal and a percent sign; or digits, a slash and digits
-pub data IsNumeral (text : List ℕ) : Type 0 where
-  decimal : IsDecimal text → IsNumeral text
-  percent : (front : List ℕ) → IsDecimal front → text ≡ front ++ 37 ∷ [] → IsNumeral text
-  fraction : (first second : List ℕ) → IsNumber 10 first → IsNumber 10 second
-      → text ≡ first ++ 47 ∷ second → IsNumeral text
-
--- the three signs
-abbrev pub is_percent : ℕ → Bool
-is_percent byte = byte == 37
-
--- the byte `.`
-abbrev pub is_point : ℕ → Bool
-is_point byte = byte == 46
-
--- the byte `/`
-abbrev pub is_slash : ℕ → Bool
-is_slash byte = byte == 47
 
 -- the digits of a text, how many they are, and the number that they write
 abbrev pub digits_in : List ℕ → List ℕ

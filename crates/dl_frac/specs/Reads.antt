@@ -2,7 +2,8 @@
 use Rattle.std.specs.Prelude.{ℕ, ◌≡◌, ◌^◌, ◌≤◌, List}
 use Rattle.std.specs.List.{list_any}
 use Rattle.dl_frac.specs.declared.reading.Reading.{Reading}
-use Rattle.dl_frac.specs.Numerals.{is_point, is_percent, digit_count, number_in, decimals_in}
+use Rattle.dl_bytes.specs.Numerals.{is_point, is_percent}
+use Rattle.dl_frac.specs.Numerals.{digit_count, number_in, decimals_in}
 
 -- r is what a text of at most so many digits shows
 pub record IsReadingOf (limit : ℕ) (text : List ℕ) (r : Reading) : Type 0 where

@@ -5,7 +5,8 @@ ghost use Rattle.std.specs.Prelude.{◌≡◌, ◌⊎◌, ℕ, List, [], ◌∷�
 ghost use Rattle.std.specs.Str.Parse.{AllDigits, IsNumeral as IsNumber, digits_value};
 ghost use Rattle.dl_exact.specs.Prelude.{Fraction, whole, ◌over◌, ◌/ℚ◌, IsLcm, lcm};
 ghost use Rattle.dl_frac.specs.Exact.{FitsFrac, IsTooFine};
-ghost use Rattle.dl_frac.specs.Numerals.{IsDecimal, numeral_value, is_bad, digit_count};
+ghost use Rattle.dl_bytes.specs.Numerals.{IsDecimal};
+ghost use Rattle.dl_frac.specs.Numerals.{numeral_value, is_bad, digit_count};
 
 /// Each fraction either fits in a `Frac` or is too fine, and never both.
 pub fn law_fits()

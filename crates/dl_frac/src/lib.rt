@@ -8,10 +8,9 @@ mod divisors;
 mod laws;
 mod numerals;
 mod reading;
-mod spelling;
 
 pub use arithmetic::{Frac, TooFine};
 pub use divisors::{lcm_to, small_divisor};
+pub use dl_bytes::is_numeral;
 pub use laws::{law_bad_numerals, law_fits, law_lcm, law_numeral_values};
 pub use numerals::{BadNumeral, numeral};
-pub use spelling::is_numeral;

@@ -4,7 +4,8 @@ ghost use Rattle.std.specs.Prelude.{◌≡◌, ◌<◌, ◌≤◌, ◌+◌, ◌-
 ghost use Rattle.dl_limits.specs.Limits.{frac_bound};
 ghost use Rattle.dl_exact.specs.Fraction.{whole, ◌over◌, ◌/ℚ◌};
 ghost use Rattle.std.specs.List.{list_any};
-ghost use Rattle.dl_frac.specs.Numerals.{is_percent, digit_count, number_in, decimal_value, numeral_value, is_bad, IsNumeral};
+ghost use Rattle.dl_bytes.specs.Numerals.{IsNumeral, is_percent};
+ghost use Rattle.dl_frac.specs.Numerals.{digit_count, number_in, decimal_value, numeral_value, is_bad};
 ghost use Rattle.dl_frac.specs.Reads.{IsReadingOf};
 
 use crate::arithmetic::{Frac, reduced};

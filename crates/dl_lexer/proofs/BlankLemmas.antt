@@ -1,5 +1,5 @@
 -- Where a blank stands no token begins, and how long a comment is.
-use Rattle.dl_lexer.proofs.Common.{ℕ, zero, suc, ◌≡◌, ◌≢◌, ◌+◌, ◌<◌, ◌≤◌, List, [], ◌∷◌, length, take, drop, ◌-◌, true, false, ◌||◌, ◌==◌, refl, arith, Some, slice_get, prefix_len, nat_tests, Sign, Open, is_letter, is_digit, IsNumeralToken, sign_byte, NoToken, blank_length}
+use Rattle.dl_lexer.proofs.Common.{ℕ, zero, suc, ◌≡◌, ◌≢◌, ◌+◌, ◌<◌, ◌≤◌, List, [], ◌∷◌, length, take, drop, ◌-◌, true, false, ◌||◌, ◌==◌, refl, arith, Some, slice_get, prefix_len, nat_tests, Sign, Open, is_letter, is_ascii_digit, IsNumeral, sign_byte, NoToken, blank_length}
 use Rattle.std.proofs.lemmas.List.{take_all}
 use Rattle.dl_lexer.specs.Bytes.{is_white, is_comment_byte}
 use Rattle.dl_lexer.proofs.Longest.{longest_none}
@@ -12,7 +12,7 @@ blank_first b bytes some = grind arith
 no_letter : (b : ℕ) → (is_white b || b == 35) ≡ true → is_letter b ≡ false
 no_letter b h = grind (arith, nat_tests)
 
-no_numeral : (b : ℕ) → (is_white b || b == 35) ≡ true → (is_digit b || b == 46) ≡ false
+no_numeral : (b : ℕ) → (is_white b || b == 35) ≡ true → (is_ascii_digit b || b == 46) ≡ false
 no_numeral b h = grind (arith, nat_tests)
 
 no_sign : (s : Sign) → (is_white (sign_byte s) || sign_byte s == 35) ≡ false
@@ -24,10 +24,10 @@ blank_no_token [] some = absurd (omega arith)
 blank_no_token (b ∷ bytes) some =
     let first : (is_white b || b == 35) ≡ true = blank_first b bytes some in
     longest_nothing (b ∷ bytes) (no_letter b first)
-    (longest_none IsNumeralToken (b ∷ bytes) (numeral first)) (sign first)
+    (longest_none IsNumeral (b ∷ bytes) (numeral first)) (sign first)
   where
     numeral : (is_white b || b == 35) ≡ true → (m : ℕ) → m ≤ length (b ∷ bytes)
-        → IsNumeralToken (take m (b ∷ bytes)) → ⊥
+        → IsNumeral (take m (b ∷ bytes)) → ⊥
     numeral first zero h t = let begins : begins_numeral [] ≡ true = numeral_begins [] t in cc
     numeral first (suc m) h t = grind (arith, numeral_begins (b ∷ take m bytes) t, no_numeral b first)
 

@@ -7,13 +7,14 @@ pub use Rattle.std.proofs.lemmas.List.{append-nil, length-take-le, take-append-d
 pub use Rattle.std.proofs.lemmas.List.Sums.{prefix_len-le-length}
 pub use Rattle.std.proofs.lemmas.Option.{get_or_from_slice_get, slice_get_within}
 pub use Rattle.std.proofs.lemmas.Slice.Eq.{bytes_eq-Decides}
+pub use Rattle.std.specs.Char.{is_ascii_digit}
 pub use Rattle.std.specs.List.{list_all, prefix_len}
 pub use Rattle.std.specs.Str.{bytes_eq}
-pub use Rattle.dl_lexer.specs.Bytes.{is_digit, is_letter, is_word_byte}
+pub use Rattle.dl_lexer.specs.Bytes.{is_letter, is_word_byte}
 pub use Rattle.dl_lexer.specs.Cutting.{Covers, IsBad, IsLongest, NoToken, blank, blank_length, nothing, token, token_of}
 pub use Rattle.dl_lexer.specs.Keywords.{spelling}
 unfoldable pub use Rattle.dl_lexer.specs.Keywords.{first_spelled}
-pub use Rattle.dl_lexer.specs.Numerals.{IsDecimalToken, IsNumeralToken, a_decimal, a_fraction, a_percent, digits, digits_point, fraction, percent, point_digits}
+pub use Rattle.dl_bytes.specs.Numerals.{IsDecimal, IsNumeral, a_decimal, a_fraction, a_percent, digits, digits_point, fraction, percent, point_digits}
 pub use Rattle.dl_lexer.specs.Tokens.{IsNote, IsRef, IsSpelled, IsToken, IsWord, begins_with_letter, note, ref, sign_byte}
 pub use Rattle.dl_lexer.specs.declared.token.Keyword.{Keyword}
 pub use Rattle.dl_lexer.specs.declared.token.Kind.{Kind}

@@ -1,16 +1,16 @@
 -- The longest decimal, percent and fraction at the front of some bytes.
-use Rattle.dl_lexer.proofs.Common.{ℕ, zero, suc, ◌≡◌, ◌≢◌, ◌∙◌, ◌+◌, ◌<◌, ◌≤◌, ◌⊎◌, List, [], ◌∷◌, ◌++◌, length, get_or, take, drop, Bool, ◌||◌, ◌==◌, false, true, max, inl, inr, refl, sym, ap, arith, append_assoc, length-append, length-drop, Some, slice_get, subst, list_all, prefix_len, take-append-drop, length-take-le, cases_lt, prefix_len-le-length, slice_get_within, get_or_from_slice_get, is_digit, IsDecimalToken, digits, digits_point, point_digits, percent, fraction, IsNumeralToken, a_decimal, a_percent, a_fraction, IsLongest}
+use Rattle.dl_lexer.proofs.Common.{ℕ, zero, suc, ◌≡◌, ◌≢◌, ◌∙◌, ◌+◌, ◌<◌, ◌≤◌, ◌⊎◌, List, [], ◌∷◌, ◌++◌, length, get_or, take, drop, Bool, ◌||◌, ◌==◌, false, true, max, inl, inr, refl, sym, ap, arith, append_assoc, length-append, length-drop, Some, slice_get, subst, list_all, prefix_len, take-append-drop, length-take-le, cases_lt, prefix_len-le-length, slice_get_within, get_or_from_slice_get, is_ascii_digit, IsDecimal, digits, digits_point, point_digits, percent, fraction, IsNumeral, a_decimal, a_percent, a_fraction, IsLongest}
 use Rattle.std.proofs.Math.Seq.{take-append_seam}
 use Rattle.std.proofs.lemmas.List.{get_or-take}
 use Rattle.std.proofs.lemmas.List.Folds.{length-prefix_len, list_all-append, list_all_at}
 use Rattle.std.proofs.lemmas.List.Sums.{AllPass-from_list_all, list_all-from_AllPass}
-use Rattle.dl_lexer.specs.Numerals.{AreDigits, IsDigits, IsPercent, IsFraction}
+use Rattle.dl_bytes.specs.Prelude.{AreDigits, IsDigits, IsPercent, IsFraction}
 use Rattle.dl_lexer.proofs.Prefix.{prefix_passes, prefix_most, prefix_ends, passes_prefix, take_around, get_behind, drop_behind}
 use Rattle.dl_lexer.proofs.Longest.{either, longest_either, longest_none}
 
 -- how many digits some bytes begin with
 abbrev pub run : List ℕ → ℕ
-run bytes = prefix_len is_digit bytes
+run bytes = prefix_len is_ascii_digit bytes
 
 -- digits, a mark and digits stand at the front: then they lie within the two runs of digits there
 record IsMarked (c : ℕ) (bytes : List ℕ) (w m : ℕ) (a b : List ℕ) : Type 0 where
@@ -19,19 +19,19 @@ record IsMarked (c : ℕ) (bytes : List ℕ) (w m : ℕ) (a b : List ℕ) : Type
   pub second : length b ≤ run (drop (w + 1) bytes)
   pub whole : m ≡ length a + 1 + length b
 
-marked : (c : ℕ) (bytes : List ℕ) (w m : ℕ) (a b : List ℕ) → is_digit c ≡ false → w ≡ run bytes → m ≤ length bytes
+marked : (c : ℕ) (bytes : List ℕ) (w m : ℕ) (a b : List ℕ) → is_ascii_digit c ≡ false → w ≡ run bytes → m ≤ length bytes
     → take m bytes ≡ a ++ c ∷ b → AreDigits a → AreDigits b → IsMarked c bytes w m a b
 marked c bytes w m a b mark before h e all_a all_b =
     let after : List ℕ = drop m bytes in
     let split : bytes ≡ a ++ c ∷ (b ++ after) = sym (take-append-drop m bytes) ∙ ap (λ ys. ys ++ after) e
     ∙ append_assoc a (c ∷ b) after in
-    let ends : prefix_len is_digit (a ++ c ∷ (b ++ after)) ≡ length a =
-    prefix_ends is_digit c a (b ++ after) mark all_a in
+    let ends : prefix_len is_ascii_digit (a ++ c ∷ (b ++ after)) ≡ length a =
+    prefix_ends is_ascii_digit c a (b ++ after) mark all_a in
     let size : length a ≡ w = sym (before ∙ ap run split ∙ ends) in
     let at : slice_get bytes (length a) ≡ Some c = rw split (get_behind a (b ++ after) c) in
     let rest : drop (length a + 1) bytes ≡ b ++ after = ap (λ ys. drop (length a + 1) ys) split
     ∙ drop_behind a (b ++ after) c in
-    let most : length b ≤ run (drop (length a + 1) bytes) = rw rest (passes_prefix is_digit b after all_b) in
+    let most : length b ≤ run (drop (length a + 1) bytes) = rw rest (passes_prefix is_ascii_digit b after all_b) in
     let count : length (take m bytes) ≡ length (a ++ c ∷ b) = ap length e in
     record {
       mark = subst (λ n. slice_get bytes n ≡ Some c) size at;
@@ -42,10 +42,10 @@ marked c bytes w m a b mark before h e all_a all_b =
 
 -- the digits that begin some bytes
 are_digits : (bytes : List ℕ) (n : ℕ) → n ≡ run bytes → AreDigits (take n bytes)
-are_digits bytes n e = rw e (prefix_passes is_digit bytes)
+are_digits bytes n e = rw e (prefix_passes is_ascii_digit bytes)
 
 some_digits : (bytes : List ℕ) (n : ℕ) → n ≡ run bytes → 0 < n → IsDigits (take n bytes)
-some_digits bytes n e some = grind (arith, length-prefix_len is_digit bytes, are_digits bytes n e)
+some_digits bytes n e some = grind (arith, length-prefix_len is_ascii_digit bytes, are_digits bytes n e)
 
 -- digits, a mark and digits lie within the bytes
 round_within : (c : ℕ) (bytes : List ℕ) (w p : ℕ) → slice_get bytes w ≡ Some c → p ≡ run (drop (w + 1) bytes)
@@ -54,20 +54,20 @@ round_within c bytes w p mark second = omega (
   arith,
   slice_get_within bytes w c mark,
   length-drop (w + 1) bytes,
-  prefix_len-le-length is_digit (drop (w + 1) bytes),
+  prefix_len-le-length is_ascii_digit (drop (w + 1) bytes),
 )
 
 -- a decimal at the front, with no point behind the first digits
 pub decimal_no_point : (bytes : List ℕ) → slice_get bytes (run bytes) ≢ Some 46
-    → IsLongest IsDecimalToken bytes (run bytes)
+    → IsLongest IsDecimal bytes (run bytes)
 decimal_no_point bytes other = record {
-  within = prefix_len-le-length is_digit bytes;
+  within = prefix_len-le-length is_ascii_digit bytes;
   spelled = λ some. digits (some_digits bytes (run bytes) refl some);
   longest = most;
 }
   where
-    most : (m : ℕ) → m ≤ length bytes → IsDecimalToken (take m bytes) → m ≤ run bytes
-    most m h (digits d) = prefix_most is_digit bytes m h d.1
+    most : (m : ℕ) → m ≤ length bytes → IsDecimal (take m bytes) → m ≤ run bytes
+    most m h (digits d) = prefix_most is_ascii_digit bytes m h d.1
     most m h (digits_point a b e all_a all_b) =
         absurd (other (marked 46 bytes (run bytes) m a b refl refl h e all_a.1 all_b).mark)
     most m h (point_digits b e all_b) =
@@ -75,7 +75,7 @@ decimal_no_point bytes other = record {
 
 -- a decimal at the front, with a point
 pub decimal_with_point : (bytes : List ℕ) (w p : ℕ) → w ≡ run bytes → slice_get bytes w ≡ Some 46
-    → p ≡ run (drop (w + 1) bytes) → 0 < w + p → IsLongest IsDecimalToken bytes (w + 1 + p)
+    → p ≡ run (drop (w + 1) bytes) → 0 < w + p → IsLongest IsDecimal bytes (w + 1 + p)
 decimal_with_point bytes w p first mark second some = record {
   within = round_within 46 bytes w p mark second;
   spelled = λ _. rw (take_around bytes w 46 p mark) (spelled w refl);
@@ -85,24 +85,24 @@ decimal_with_point bytes w p first mark second some = record {
     behind : List ℕ
     behind = drop (w + 1) bytes
 
-    spelled : (n : ℕ) → n ≡ w → IsDecimalToken (take n bytes ++ 46 ∷ take p behind)
+    spelled : (n : ℕ) → n ≡ w → IsDecimal (take n bytes ++ 46 ∷ take p behind)
     spelled zero e = point_digits (take p behind) refl (some_digits behind p second (omega arith))
     spelled (suc n) e = digits_point (take (suc n) bytes) (take p behind) refl
         (some_digits bytes (suc n) (e ∙ first) (omega arith)) (are_digits behind p second)
 
-    most : (m : ℕ) → m ≤ length bytes → IsDecimalToken (take m bytes) → m ≤ w + 1 + p
-    most m h (digits d) = let short : m ≤ run bytes = prefix_most is_digit bytes m h d.1 in omega arith
+    most : (m : ℕ) → m ≤ length bytes → IsDecimal (take m bytes) → m ≤ w + 1 + p
+    most m h (digits d) = let short : m ≤ run bytes = prefix_most is_ascii_digit bytes m h d.1 in omega arith
     most m h (digits_point a b e all_a all_b) = grind (arith, marked 46 bytes w m a b refl first h e all_a.1 all_b)
     most m h (point_digits b e all_b) =
         let at = marked 46 bytes w m [] b refl first h e refl all_b.1 in omega arith
 
 -- a lone point begins no decimal
 pub decimal_with_bare_point : (bytes : List ℕ) (w p : ℕ) → w ≡ run bytes → p ≡ run (drop (w + 1) bytes) → w + p ≡ 0
-    → IsLongest IsDecimalToken bytes 0
-decimal_with_bare_point bytes w p first second none = longest_none IsDecimalToken bytes no_decimal
+    → IsLongest IsDecimal bytes 0
+decimal_with_bare_point bytes w p first second none = longest_none IsDecimal bytes no_decimal
   where
-    no_decimal : (m : ℕ) → m ≤ length bytes → IsDecimalToken (take m bytes) → ⊥
-    no_decimal m h (digits d) = grind (arith, prefix_most is_digit bytes m h d.1, length-take-le m bytes h)
+    no_decimal : (m : ℕ) → m ≤ length bytes → IsDecimal (take m bytes) → ⊥
+    no_decimal m h (digits d) = grind (arith, prefix_most is_ascii_digit bytes m h d.1, length-take-le m bytes h)
     no_decimal m h (digits_point a b e all_a all_b) =
         let at = marked 46 bytes w m a b refl first h e all_a.1 all_b in omega (arith, all_a.0)
     no_decimal m h (point_digits b e all_b) =
@@ -134,31 +134,31 @@ fraction_none bytes w p first second never = longest_none IsFraction bytes no_fr
 
 -- what a decimal is made of
 is_decimal_byte : ℕ → Bool
-is_decimal_byte b = is_digit b || b == 46
+is_decimal_byte b = is_ascii_digit b || b == 46
 
 all_weaken : (p q : ℕ → Bool) → ((b : ℕ) → p b ≡ true → q b ≡ true) → (bs : List ℕ) → list_all p bs ≡ true
     → list_all q bs ≡ true
 all_weaken p q weaker bs h =
     list_all-from_AllPass q bs (λ k d lt. weaker (get_or bs k d) (AllPass-from_list_all p bs h k d lt))
 
-digit_in_decimal : (b : ℕ) → is_digit b ≡ true → is_decimal_byte b ≡ true
+digit_in_decimal : (b : ℕ) → is_ascii_digit b ≡ true → is_decimal_byte b ≡ true
 unfolding is_decimal_byte
 digit_in_decimal b h = rw h refl
 
 all_round : (a b : List ℕ) → AreDigits a → AreDigits b → list_all is_decimal_byte (a ++ 46 ∷ b) ≡ true
 unfolding is_decimal_byte
 all_round a b all_a all_b =
-    let left : list_all is_decimal_byte a ≡ true = all_weaken is_digit is_decimal_byte digit_in_decimal a all_a in
-    let right : list_all is_decimal_byte b ≡ true = all_weaken is_digit is_decimal_byte digit_in_decimal b all_b in
+    let left : list_all is_decimal_byte a ≡ true = all_weaken is_ascii_digit is_decimal_byte digit_in_decimal a all_a in
+    let right : list_all is_decimal_byte b ≡ true = all_weaken is_ascii_digit is_decimal_byte digit_in_decimal b all_b in
     list_all-append is_decimal_byte a (46 ∷ b) ∙ rw left right
 
-decimal_bytes : (bs : List ℕ) → IsDecimalToken bs → list_all is_decimal_byte bs ≡ true
-decimal_bytes bs (digits d) = all_weaken is_digit is_decimal_byte digit_in_decimal bs d.1
+decimal_bytes : (bs : List ℕ) → IsDecimal bs → list_all is_decimal_byte bs ≡ true
+decimal_bytes bs (digits d) = all_weaken is_ascii_digit is_decimal_byte digit_in_decimal bs d.1
 decimal_bytes bs (digits_point a b e all_a all_b) = ap (list_all is_decimal_byte) e ∙ all_round a b all_a.1 all_b
 decimal_bytes bs (point_digits b e all_b) = ap (list_all is_decimal_byte) e ∙ all_round [] b refl all_b.1
 
 -- no decimal is empty
-decimal_some : (bs : List ℕ) → IsDecimalToken bs → 0 < length bs
+decimal_some : (bs : List ℕ) → IsDecimal bs → 0 < length bs
 decimal_some bs (digits d) = d.0
 decimal_some bs (digits_point a b e all_a all_b) = omega (arith, ap length e, length-append a (46 ∷ b))
 decimal_some bs (point_digits b e all_b) = omega (arith, ap length e)
@@ -167,7 +167,7 @@ decimal_some bs (point_digits b e all_b) = omega (arith, ap length e)
 record IsPercentAt (bytes : List ℕ) (m k : ℕ) : Type 0 where
   pub count : m ≡ k + 1
   pub some : 0 < k
-  pub decimal : IsDecimalToken (take k bytes)
+  pub decimal : IsDecimal (take k bytes)
   pub within : k ≤ length bytes
   pub mark : slice_get bytes k ≡ Some 37
 
@@ -181,13 +181,13 @@ percent_at bytes m h (percent d e dec) =
       record {
         count = omega (arith, size, length-take-le m bytes h);
         some = decimal_some d dec;
-        decimal = subst IsDecimalToken (sym front) dec;
+        decimal = subst IsDecimal (sym front) dec;
         within = omega (arith, size, length-take-le m bytes h);
         mark = rw split (get_behind d (drop m bytes) 37);
       },
     )
 
-pub percent_with_mark : (bytes : List ℕ) (d : ℕ) → IsLongest IsDecimalToken bytes d → 0 < d
+pub percent_with_mark : (bytes : List ℕ) (d : ℕ) → IsLongest IsDecimal bytes d → 0 < d
     → slice_get bytes d ≡ Some 37
     → IsLongest IsPercent bytes (d + 1)
 percent_with_mark bytes d decimal some mark = record {
@@ -203,7 +203,7 @@ percent_with_mark bytes d decimal some mark = record {
     most m h p =
         let at = percent_at bytes m h p in omega (arith, decimal.longest at.0 at.1.within at.1.decimal, at.1.count)
 
-pub percent_without_mark : (bytes : List ℕ) (d : ℕ) → IsLongest IsDecimalToken bytes d
+pub percent_without_mark : (bytes : List ℕ) (d : ℕ) → IsLongest IsDecimal bytes d
     → (0 < d → slice_get bytes d ≢ Some 37) → IsLongest IsPercent bytes 0
 unfolding is_decimal_byte
 percent_without_mark bytes d decimal other = longest_none IsPercent bytes no_percent
@@ -227,16 +227,16 @@ percent_without_mark bytes d decimal other = longest_none IsPercent bytes no_per
             other (omega arith) (subst (λ n. slice_get bytes n ≡ Some 37) same mark))
 
 -- the longest numeral is the longest of the three
-pub numeral_longest : (bytes : List ℕ) (d p f : ℕ) → IsLongest IsDecimalToken bytes d → IsLongest IsPercent bytes p
-    → IsLongest IsFraction bytes f → IsLongest IsNumeralToken bytes (max (max d p) f)
+pub numeral_longest : (bytes : List ℕ) (d p f : ℕ) → IsLongest IsDecimal bytes d → IsLongest IsPercent bytes p
+    → IsLongest IsFraction bytes f → IsLongest IsNumeral bytes (max (max d p) f)
 numeral_longest bytes d p f decimal a_percent' a_fraction' =
-    longest_either (λ bs. IsDecimalToken bs ⊎ IsPercent bs) IsFraction IsNumeralToken bytes (max d p) f
+    longest_either (λ bs. IsDecimal bs ⊎ IsPercent bs) IsFraction IsNumeral bytes (max d p) f
     (λ bs t. either t (λ x. a_decimal x) (λ x. a_percent x)) (λ bs t. a_fraction t) parts
-    (longest_either IsDecimalToken IsPercent (λ bs. IsDecimalToken bs ⊎ IsPercent bs) bytes d p (λ bs t. inl t)
+    (longest_either IsDecimal IsPercent (λ bs. IsDecimal bs ⊎ IsPercent bs) bytes d p (λ bs t. inl t)
     (λ bs t. inr t)
     (λ bs t. t) decimal a_percent') a_fraction'
   where
-    parts : (bs : List ℕ) → IsNumeralToken bs → (IsDecimalToken bs ⊎ IsPercent bs) ⊎ IsFraction bs
+    parts : (bs : List ℕ) → IsNumeral bs → (IsDecimal bs ⊎ IsPercent bs) ⊎ IsFraction bs
     parts bs (a_decimal t) = inl (inl t)
     parts bs (a_percent t) = inl (inr t)
     parts bs (a_fraction t) = inr t

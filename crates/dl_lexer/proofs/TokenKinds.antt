@@ -1,9 +1,9 @@
 -- What bytes that spell a token begin with, so that they spell a token of one kind, and where the longest one ends.
-use Rattle.dl_lexer.proofs.Common.{ℕ, zero, suc, ◌≡◌, ◌≢◌, ◌∙◌, ◌<◌, ◌≤◌, ◌⊎◌, List, [], ◌∷◌, ◌++◌, length, take, Bool, true, false, ◌||◌, ◌==◌, inl, inr, refl, sym, ap, arith, append_assoc, Some, slice_get, subst, list_all, nat_tests, length-take-le, append-nil, slice_get_within, Keyword, Sign, Open, Close, Colon, Comma, Bang, Kind, is_letter, is_digit, is_word_byte, spelling, IsDecimalToken, digits, digits_point, point_digits, percent, fraction, IsNumeralToken, a_decimal, a_percent, a_fraction, begins_with_letter, IsWord, IsNote, note, IsRef, ref, sign_byte, IsSpelled, IsToken, IsLongest, NoToken, and_parts}
+use Rattle.dl_lexer.proofs.Common.{ℕ, zero, suc, ◌≡◌, ◌≢◌, ◌∙◌, ◌<◌, ◌≤◌, ◌⊎◌, List, [], ◌∷◌, ◌++◌, length, take, Bool, true, false, ◌||◌, ◌==◌, inl, inr, refl, sym, ap, arith, append_assoc, Some, slice_get, subst, list_all, nat_tests, length-take-le, append-nil, slice_get_within, Keyword, Sign, Open, Close, Colon, Comma, Bang, Kind, is_letter, is_ascii_digit, is_word_byte, spelling, IsDecimal, digits, digits_point, point_digits, percent, fraction, IsNumeral, a_decimal, a_percent, a_fraction, begins_with_letter, IsWord, IsNote, note, IsRef, ref, sign_byte, IsSpelled, IsToken, IsLongest, NoToken, and_parts}
 use Rattle.std.proofs.Common.{if◌then◌else◌, ◌&&◌}
 use Rattle.std.proofs.lemmas.Bool.{and_left, and_right, both_ways}
 use Rattle.dl_lexer.specs.declared.token.Kind.TheVariants as kind
-use Rattle.dl_lexer.specs.Numerals.{IsDigits}
+use Rattle.dl_bytes.specs.Prelude.{IsDigits}
 use Rattle.dl_lexer.proofs.Longest.{either}
 use Rattle.dl_lexer.proofs.Spellings.{spelling_one, keyword_is_word}
 use Rattle.dl_lexer.proofs.WordLengths.{begins_take, word_parts}
@@ -11,13 +11,13 @@ use Rattle.dl_lexer.proofs.WordLengths.{begins_take, word_parts}
 -- a digit or a point
 abbrev pub begins_numeral : List ℕ → Bool
 begins_numeral [] = false
-begins_numeral (b ∷ bs) = is_digit b || b == 46
+begins_numeral (b ∷ bs) = is_ascii_digit b || b == 46
 
 digits_begin : (a rest : List ℕ) → IsDigits a → begins_numeral (a ++ rest) ≡ true
 digits_begin [] rest d = absurd (omega (arith, d.0))
-digits_begin (b ∷ a) rest d = rw (and_parts (is_digit b) (list_all is_digit a) d.1).0 refl
+digits_begin (b ∷ a) rest d = rw (and_parts (is_ascii_digit b) (list_all is_ascii_digit a) d.1).0 refl
 
-decimal_begins : (bs rest : List ℕ) → IsDecimalToken bs → begins_numeral (bs ++ rest) ≡ true
+decimal_begins : (bs rest : List ℕ) → IsDecimal bs → begins_numeral (bs ++ rest) ≡ true
 decimal_begins bs rest (digits d) = digits_begin bs rest d
 decimal_begins bs rest (digits_point a b e all_a all_b) =
     let h : begins_numeral ((a ++ 46 ∷ b) ++ rest) ≡ true =
@@ -25,12 +25,12 @@ decimal_begins bs rest (digits_point a b e all_a all_b) =
     ap (λ ys. begins_numeral (ys ++ rest)) e ∙ h
 decimal_begins bs rest (point_digits b e all_b) = ap (λ ys. begins_numeral (ys ++ rest)) e
 
-pub numeral_begins : (bs : List ℕ) → IsNumeralToken bs → begins_numeral bs ≡ true
+pub numeral_begins : (bs : List ℕ) → IsNumeral bs → begins_numeral bs ≡ true
 numeral_begins bs (a_decimal t) = subst (λ ys. begins_numeral ys ≡ true) (append-nil bs) (decimal_begins bs [] t)
 numeral_begins bs (a_percent (percent d e t)) = ap begins_numeral e ∙ decimal_begins d (37 ∷ []) t
 numeral_begins bs (a_fraction (fraction a b e all_a all_b)) = ap begins_numeral e ∙ digits_begin a (47 ∷ b) all_a
 
-pub no_letter_byte : (b : ℕ) → (is_digit b || b == 46) ≡ true → is_letter b ≡ false
+pub no_letter_byte : (b : ℕ) → (is_ascii_digit b || b == 46) ≡ true → is_letter b ≡ false
 no_letter_byte b h = grind (arith, nat_tests)
 
 no_letter : (bs : List ℕ) → begins_numeral bs ≡ true → begins_with_letter bs ≡ false
@@ -150,7 +150,7 @@ lettered (kind.Sign s) bs h t = let other = sign_no_letter s bs t in absurd cc
 
 -- any other token is a numeral or a sign
 unlettered : (k : Kind) (bs : List ℕ) → begins_with_letter bs ≡ false → IsSpelled k bs
-    → IsNumeralToken bs ⊎ ((s : Sign) × (bs ≡ sign_byte s ∷ []))
+    → IsNumeral bs ⊎ ((s : Sign) × (bs ≡ sign_byte s ∷ []))
 unlettered (kind.Word k) bs h t = let other = (word_parts bs (word_spelled k bs t)).0 in absurd cc
 unlettered kind.Name bs h t = let other = (word_parts bs t.word).0 in absurd cc
 unlettered kind.Note bs h t = let other = note_begins_letter bs t in absurd cc
@@ -168,7 +168,7 @@ front_lettered : (bytes : List ℕ) (m : ℕ) → begins_with_letter bytes ≡ t
 front_lettered bytes m h t = lettered t.kind (take m bytes) (begins_take m bytes (front_some bytes m t) ∙ h) t.spelled
 
 front_unlettered : (bytes : List ℕ) (m : ℕ) → begins_with_letter bytes ≡ false → IsToken (take m bytes)
-    → IsNumeralToken (take m bytes) ⊎ ((s : Sign) × (take m bytes ≡ sign_byte s ∷ []))
+    → IsNumeral (take m bytes) ⊎ ((s : Sign) × (take m bytes ≡ sign_byte s ∷ []))
 front_unlettered bytes m h t =
     unlettered t.kind (take m bytes) (begins_take m bytes (front_some bytes m t) ∙ h) t.spelled
 
@@ -190,7 +190,7 @@ sign_length : (bytes : List ℕ) (m : ℕ) (s : Sign) → m ≤ length bytes →
 sign_length bytes m s h e = sym (length-take-le m bytes h) ∙ ap length e
 
 pub longest_numeral : (bytes : List ℕ) (n : ℕ) → begins_with_letter bytes ≡ false
-    → IsLongest IsNumeralToken bytes n → 0 < n
+    → IsLongest IsNumeral bytes n → 0 < n
     → IsLongest IsToken bytes n
 longest_numeral bytes n letter numeral some = record {
   within = numeral.within;
@@ -209,7 +209,7 @@ sign_behind bytes zero s e = absurd cc
 sign_behind [] (suc m) s e = absurd cc
 sign_behind (b ∷ bytes) (suc m) s e = let same : b ≡ sign_byte s = cc in ap Some same
 
-pub longest_sign : (bytes : List ℕ) (s : Sign) → begins_with_letter bytes ≡ false → IsLongest IsNumeralToken bytes 0
+pub longest_sign : (bytes : List ℕ) (s : Sign) → begins_with_letter bytes ≡ false → IsLongest IsNumeral bytes 0
     → slice_get bytes 0 ≡ Some (sign_byte s) → IsLongest IsToken bytes 1
 longest_sign bytes s letter numeral e = record {
   within = slice_get_within bytes 0 (sign_byte s) e;
@@ -219,7 +219,7 @@ longest_sign bytes s letter numeral e = record {
       (λ x. let one : m ≡ 1 = sign_length bytes m x.0 h x.1 in omega arith);
 }
 
-pub longest_nothing : (bytes : List ℕ) → begins_with_letter bytes ≡ false → IsLongest IsNumeralToken bytes 0
+pub longest_nothing : (bytes : List ℕ) → begins_with_letter bytes ≡ false → IsLongest IsNumeral bytes 0
     → ((s : Sign) → slice_get bytes 0 ≢ Some (sign_byte s)) → NoToken bytes
 longest_nothing bytes letter numeral other = record {
   within = omega arith;

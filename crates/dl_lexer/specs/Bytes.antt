@@ -1,5 +1,6 @@
 -- The classes of bytes.
 use Rattle.std.specs.Prelude.{ℕ, Bool, ◌==◌, nat_le, ◌&&◌, ◌||◌, not}
+use Rattle.std.specs.Char.{is_ascii_digit}
 
 -- a tab, a newline, a carriage return or a space
 abbrev pub is_white : ℕ → Bool
@@ -9,13 +10,9 @@ is_white b = b == 9 || b == 10 || b == 13 || b == 32
 abbrev pub is_letter : ℕ → Bool
 is_letter b = (nat_le 65 b && nat_le b 90) || (nat_le 97 b && nat_le b 122)
 
--- `0` to `9`
-abbrev pub is_digit : ℕ → Bool
-is_digit b = nat_le 48 b && nat_le b 57
-
 -- a byte of a word behind its first: a letter, a digit, `_` or `-`
 abbrev pub is_word_byte : ℕ → Bool
-is_word_byte b = is_letter b || is_digit b || b == 95 || b == 45
+is_word_byte b = is_letter b || is_ascii_digit b || b == 95 || b == 45
 
 -- a byte of a note: any but `{` and `}`
 abbrev pub is_note_byte : ℕ → Bool

@@ -3,6 +3,5 @@ pub mod Classes
 pub mod Cutting
 pub mod Keywords
 pub mod Lines
-pub mod Numerals
 pub mod Tokens
 pub mod Prelude

@@ -7,7 +7,7 @@ use Rattle.dl_lexer.specs.declared.token.Sign.TheVariants.{Open, Close, Colon, C
 use Rattle.dl_lexer.specs.declared.token.Kind.{Kind}
 use Rattle.dl_lexer.specs.declared.token.Kind.TheVariants as kind
 use Rattle.dl_lexer.specs.Bytes.{is_letter, is_word_byte, is_note_byte}
-use Rattle.dl_lexer.specs.Numerals.{IsNumeralToken}
+use Rattle.dl_bytes.specs.Numerals.{IsNumeral}
 use Rattle.dl_lexer.specs.Keywords.{spelling}
 
 -- whether a letter begins the bytes
@@ -42,7 +42,7 @@ abbrev pub IsSpelled : Kind → List ℕ → Type 0
 IsSpelled (kind.Word k) bytes = bytes ≡ spelling k
 IsSpelled kind.Name bytes = IsName bytes
 IsSpelled kind.Ref bytes = IsRef bytes
-IsSpelled kind.Numeral bytes = IsNumeralToken bytes
+IsSpelled kind.Numeral bytes = IsNumeral bytes
 IsSpelled kind.Note bytes = IsNote bytes
 IsSpelled (kind.Sign s) bytes = bytes ≡ sign_byte s ∷ []
 

@@ -2,11 +2,11 @@
 
 ghost use Rattle.std.specs.Prelude.{◌≡◌, ◌≢◌, ◌+◌, ◌<◌, ◌≤◌, ◌↔◌, IsTrue, IfSome, IfNone, Some};
 ghost use Rattle.std.specs.Prelude.{length, drop, slice_get};
-ghost use Rattle.dl_lexer.specs.Bytes.{is_digit};
+ghost use Rattle.std.specs.Char.{is_ascii_digit};
 ghost use Rattle.std.specs.List.{prefix_len};
 ghost use Rattle.dl_lexer.specs.Classes.{is_in};
 ghost use Rattle.dl_lexer.specs.Cutting.{IsLongest, blank_length};
-ghost use Rattle.dl_lexer.specs.Numerals.{IsDecimalToken, IsPercent, IsFraction, IsNumeralToken};
+ghost use Rattle.dl_bytes.specs.Numerals.{IsDecimal, IsPercent, IsFraction, IsNumeral};
 ghost use Rattle.dl_lexer.specs.Tokens.{begins_with_letter, IsWord, IsNote, IsRef};
 
 /// The classes of bytes of which a run has one.
@@ -119,11 +119,11 @@ pub(crate) fn ref_length(bytes: &[u8]) -> usize
 /// The numbers of digits before and behind a mark, where the mark directly follows the digits that
 /// begin the bytes.
 fn digits_round(bytes: &[u8], mark: u8) -> Option<(usize, usize)>
-    ensures before { IfSome result (λ r. r.0 ≡ prefix_len is_digit bytes.now) }
+    ensures before { IfSome result (λ r. r.0 ≡ prefix_len is_ascii_digit bytes.now) }
     ensures mark { IfSome result (λ r. slice_get bytes.now r.0 ≡ Some mark) }
-    ensures behind { IfSome result (λ r. r.1 ≡ prefix_len is_digit (drop (r.0 + 1) bytes.now)) }
+    ensures behind { IfSome result (λ r. r.1 ≡ prefix_len is_ascii_digit (drop (r.0 + 1) bytes.now)) }
     ensures inside { IfSome result (λ r. r.0 + 1 + r.1 ≤ length bytes.now) }
-    ensures none { IfNone result (slice_get bytes.now (prefix_len is_digit bytes.now) ≢ Some mark) }
+    ensures none { IfNone result (slice_get bytes.now (prefix_len is_ascii_digit bytes.now) ≢ Some mark) }
 {
     let before = run_length(bytes, Class::Digit);
     if is_at(bytes, before, mark) {
@@ -136,7 +136,7 @@ fn digits_round(bytes: &[u8], mark: u8) -> Option<(usize, usize)>
 /// The length of the longest decimal that begins the bytes, 0 where none does.
 #[tactic(auto, using(crate::proofs::NumeralLengths::decimal_no_point, crate::proofs::NumeralLengths::decimal_with_bare_point))]
 fn decimal_length(bytes: &[u8]) -> usize
-    ensures { IsLongest IsDecimalToken bytes.now result }
+    ensures { IsLongest IsDecimal bytes.now result }
 {
     let Some((whole, part)) = digits_round(bytes, b'.') else {
         return run_length(bytes, Class::Digit);
@@ -178,7 +178,7 @@ fn fraction_length(bytes: &[u8]) -> usize
 
 /// The length of the longest numeral that begins the bytes, 0 where none does.
 pub(crate) fn numeral_length(bytes: &[u8]) -> usize
-    ensures { IsLongest IsNumeralToken bytes.now result }
+    ensures { IsLongest IsNumeral bytes.now result }
 {
     decimal_length(bytes)
         .max(percent_length(bytes))

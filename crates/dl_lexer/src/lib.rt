@@ -4,18 +4,13 @@
 
 pub mod cut;
 mod front;
-pub mod items;
 pub mod law;
 pub mod location;
 pub mod pair;
-pub mod rare;
-pub mod text;
 pub mod token;
 
 pub use cut::{LexFault, lex};
-pub use items::Items;
+pub use dl_bytes::{Items, Rare, Text};
 pub use location::line_col;
 pub use pair::pair_of;
-pub use rare::Rare;
-pub use text::Text;
 pub use token::{Keyword, Kind, Sign, Span, Token};

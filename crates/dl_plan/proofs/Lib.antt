@@ -12,7 +12,6 @@ pub mod Weights
 pub mod Shares
 pub mod Means
 pub mod Positive
-pub mod NumeralLaws
 pub mod PlainBytes
 pub mod Buckets
 pub mod ValidUnits

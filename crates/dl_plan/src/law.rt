@@ -1,6 +1,6 @@
 //! What follows from the definitions alone. Nothing here runs.
 
-ghost use Rattle.std.specs.Prelude.{ℕ, ◌≡◌, ◌≤◌, ◌^◌, ◌↔◌, Option, List, All, IfSome};
+ghost use Rattle.std.specs.Prelude.{ℕ, ◌≡◌, ◌≤◌, ◌^◌, Option, All, IfSome};
 ghost use Rattle.dl_limits.specs.Limits.{most_amount};
 ghost use Rattle.dl_plan.specs.declared.plan.Plan.{Plan};
 ghost use Rattle.dl_plan.specs.Fine.{HasPartsOf48Bits};
@@ -9,14 +9,6 @@ ghost use Rattle.dl_plan.specs.Horizon.{edge, IsSettled, IsHorizon, IsHorizonOf,
 ghost use Rattle.dl_plan.specs.Count.{expected_count, IsClaimCount, IsUnbounded};
 ghost use Rattle.dl_plan.specs.Means.{thinned_mean};
 ghost use Rattle.dl_plan.specs.Valid.{IsValid};
-ghost use Rattle.dl_frac.specs.Numerals as read;
-ghost use Rattle.dl_lexer.specs.Numerals as token;
-
-/// A text is spelled as a numeral that is read as a fraction exactly where it is spelled as the
-/// token.
-pub fn law_numerals()
-    ensures { (text : List ℕ) → read.IsNumeral text ↔ token.IsNumeralToken text }
-{}
 
 /// There is one horizon, and `horizon` is that of every clause that is accepted. It is at least 1
 /// and at least each edge, and there what a clause keeps has reached the cells, or is constant from

@@ -20,7 +20,7 @@ pub use cede::{Cede, CedeLayer, in_layer};
 pub use dl_lexer::Items;
 pub use fine::{common_denominator_of, numerator_over, sum_to_one};
 pub use item::Item;
-pub use law::{law_horizon, law_numerals, law_valid_units};
+pub use law::{law_horizon, law_valid_units};
 pub use plan::{Freq, Plan, Unit};
 pub use settings::{Ask, Asked, Form, Format, Settings, Term};
 pub use severity::Sev;

@@ -4,7 +4,8 @@ use Rattle.dl_printer.proofs.Common.{ℕ, suc, ◌≡◌, ◌∙◌, ◌+◌, �
 use Rattle.std.proofs.Common.{Option, None, get_or, zero, ◌≢◌, ◌≤◌, ◌==◌, slice_get}
 use Rattle.std.proofs.Math.Seq.{take-append_seam}
 use Rattle.dl_lexer.specs.declared.token.Kind.{Kind}
-use Rattle.dl_lexer.specs.Prelude.{is_white, is_digit, is_word_byte, is_note_byte, begins_with_letter, IsWord, IsNote, note, IsRef, ref, IsLongest, IsDecimalToken, digits, digits_point, point_digits, percent, fraction, IsNumeralToken, a_decimal, a_percent, a_fraction}
+use Rattle.dl_lexer.specs.Prelude.{is_white, is_word_byte, is_note_byte, begins_with_letter, IsWord, IsNote, note, IsRef, ref, IsLongest, IsDecimal, digits, digits_point, point_digits, percent, fraction, IsNumeral, a_decimal, a_percent, a_fraction}
+use Rattle.std.specs.Char.{is_ascii_digit}
 use Rattle.std.specs.List.{list_all, prefix_len}
 use Rattle.std.proofs.lemmas.Bool.Decides.{nat_tests}
 use Rattle.std.proofs.lemmas.List.Folds.{list_all-append}
@@ -31,7 +32,7 @@ pub record Stops (rest : List ℕ) : Type 0 where
 
 -- what numerals are made of
 abbrev is_numeral_byte : ℕ → Bool
-is_numeral_byte b = is_digit b || b == 46 || b == 37 || b == 47
+is_numeral_byte b = is_ascii_digit b || b == 46 || b == 37 || b == 47
 
 no_word_byte : (b : ℕ) → is_stop b ≡ true → is_word_byte b ≡ false
 no_word_byte b h = grind (arith, nat_tests)
@@ -39,26 +40,26 @@ no_word_byte b h = grind (arith, nat_tests)
 no_numeral_byte : (b : ℕ) → is_stop b ≡ true → is_numeral_byte b ≡ false
 no_numeral_byte b h = grind (arith, nat_tests)
 
-digit_passes : (b : ℕ) → is_digit b ≡ true → is_numeral_byte b ≡ true
+digit_passes : (b : ℕ) → is_ascii_digit b ≡ true → is_numeral_byte b ≡ true
 digit_passes b h = rw h refl
 
 -- digits, and parts that pass
-digits_pass : (bs : List ℕ) → list_all is_digit bs ≡ true → list_all is_numeral_byte bs ≡ true
+digits_pass : (bs : List ℕ) → list_all is_ascii_digit bs ≡ true → list_all is_numeral_byte bs ≡ true
 digits_pass bs h = list_all-from_AllPass is_numeral_byte bs
-    (λ k d lt. digit_passes (get_or bs k d) (AllPass-from_list_all is_digit bs h k d lt))
+    (λ k d lt. digit_passes (get_or bs k d) (AllPass-from_list_all is_ascii_digit bs h k d lt))
 
 parts_pass : (a b : List ℕ) → list_all is_numeral_byte a ≡ true → list_all is_numeral_byte b ≡ true
     → list_all is_numeral_byte (a ++ b) ≡ true
 parts_pass a b g h =
     list_all-append is_numeral_byte a b ∙ and_from (list_all is_numeral_byte a) (list_all is_numeral_byte b) g h
 
-decimal_passes : (bs : List ℕ) → IsDecimalToken bs → list_all is_numeral_byte bs ≡ true
+decimal_passes : (bs : List ℕ) → IsDecimal bs → list_all is_numeral_byte bs ≡ true
 decimal_passes bs (digits d) = digits_pass bs d.1
 decimal_passes bs (digits_point a b e all_a all_b) = ap (list_all is_numeral_byte) e
     ∙ parts_pass a (46 ∷ b) (digits_pass a all_a.1) (digits_pass b all_b)
 decimal_passes bs (point_digits b e all_b) = ap (list_all is_numeral_byte) e ∙ digits_pass b all_b.1
 
-numeral_passes : (bs : List ℕ) → IsNumeralToken bs → list_all is_numeral_byte bs ≡ true
+numeral_passes : (bs : List ℕ) → IsNumeral bs → list_all is_numeral_byte bs ≡ true
 numeral_passes bs (a_decimal t) = decimal_passes bs t
 numeral_passes bs (a_percent (percent d e t)) = grind (arith, parts_pass d (37 ∷ []) (decimal_passes d t) refl)
 numeral_passes bs (a_fraction (fraction a b e all_a all_b)) = ap (list_all is_numeral_byte) e
@@ -127,7 +128,7 @@ numeral_some : (text : List ℕ) → begins_numeral text ≡ true → 0 < length
 numeral_some [] h = absurd cc
 numeral_some (b ∷ text) h = omega arith
 
-numeral_ends : (text more : List ℕ) (byte : ℕ) → IsNumeralToken text → is_stop byte ≡ true
+numeral_ends : (text more : List ℕ) (byte : ℕ) → IsNumeral text → is_stop byte ≡ true
     → IsLongest IsToken (text ++ byte ∷ more) (length text)
 numeral_ends text more byte spelled stop =
     let run : prefix_len is_numeral_byte (text ++ byte ∷ more)
@@ -137,7 +138,7 @@ numeral_ends text more byte spelled stop =
     longest_numeral (text ++ byte ∷ more) (length text)
     (numeral_no_letter text (byte ∷ more) (numeral_begins text spelled)) (record {
       within = omega arith;
-      spelled = λ some. subst IsNumeralToken (sym (take-append_seam text (byte ∷ more))) spelled;
+      spelled = λ some. subst IsNumeral (sym (take-append_seam text (byte ∷ more))) spelled;
       longest = λ m h t.
           let most : m ≤ prefix_len is_numeral_byte (text ++ byte ∷ more) =
           prefix_most is_numeral_byte (text ++ byte ∷ more) m h
@@ -175,9 +176,9 @@ note_ends text rest (note inside e all) =
 sign_ends : (s : Sign) (rest : List ℕ) → IsLongest IsToken (sign_byte s ∷ rest) 1
 sign_ends s rest =
     longest_sign (sign_byte s ∷ rest) s (sign_no_letter s _ refl)
-    (longest_none IsNumeralToken (sign_byte s ∷ rest) none) refl
+    (longest_none IsNumeral (sign_byte s ∷ rest) none) refl
   where
-    none : (m : ℕ) → m ≤ length (sign_byte s ∷ rest) → IsNumeralToken (take m (sign_byte s ∷ rest)) → ⊥
+    none : (m : ℕ) → m ≤ length (sign_byte s ∷ rest) → IsNumeral (take m (sign_byte s ∷ rest)) → ⊥
     none zero h t = let begins : begins_numeral [] ≡ true = numeral_begins [] t in cc
     none (suc m) h t = grind (arith, numeral_begins (sign_byte s ∷ take m rest) t, sign_no_numeral)
 

@@ -1,4 +1,4 @@
-//! The tests of the crates between bytes and syntax, of the words of the command line and of
+//! The tests of the crates from bytes to syntax, of the words of the command line and of
 //! reports, on values worked by hand.
 #![tactic(auto)]
 

@@ -1,6 +1,6 @@
-//! Tests of sources and sinks, tokens, syntax, canonical texts, words and reports.
+//! Tests of bytes, sources and sinks, tokens, syntax, canonical texts, words and reports.
 
-mod ast;
+mod bytes;
 mod endless;
 mod helpers;
 mod lexer;

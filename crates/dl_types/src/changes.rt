@@ -9,7 +9,7 @@ ghost use Rattle.dl_types.specs.Answer.{HasFault, AnswersUnits};
 ghost use Rattle.dl_types.specs.Claimed.{count_of, number_of};
 ghost use Rattle.dl_types.specs.Factor.{IsShapeIn};
 ghost use Rattle.dl_ast.specs.WellFormed.{IsFormedHead};
-ghost use Rattle.dl_lexer.specs.Numerals.{IsNumeralToken};
+ghost use Rattle.dl_lexer.specs.Prelude.{IsNumeral};
 ghost use Rattle.dl_types.specs.Faults.{fault_of_port};
 ghost use Rattle.dl_types.specs.Rules.{has_no_base, freq_span, zero_base, is_plain_poisson, has_common, common_unit, has_bad_shape};
 
@@ -62,7 +62,7 @@ pub(crate) fn shared_shape(
 /// The shape of a factor with this coefficient of variation; none where that is a bad numeral, or
 /// has no whole shape above 0.
 fn shape_in(variation: &Numeral) -> Option<u128>
-    requires { IsNumeralToken variation.now.text }
+    requires { IsNumeral variation.now.text }
     ensures { MatchOption result (has_bad_shape variation.now ≡ true) (IsShapeIn variation.now) }
 {
     let Ok(value) = numeral(variation.text.as_slice(), 11) else {

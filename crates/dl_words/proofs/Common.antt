@@ -21,9 +21,8 @@ pub use Rattle.dl_exact.specs.Fraction.{Fraction}
 pub use Rattle.dl_lexer.specs.Bytes.{is_word_byte}
 pub use Rattle.dl_lexer.specs.Tokens.{begins_with_letter}
 pub use Rattle.std.proofs.lemmas.Bool.{cases_Bool}
-pub use Rattle.dl_frac.proofs.NumeralLaws.{before_none}
-pub use Rattle.dl_frac.proofs.SpellingLaws.{digits_pass}
-pub use Rattle.dl_frac.specs.Numerals.{IsDecimal, IsNumeral, decimal, fraction, percent, pointed}
+pub use Rattle.dl_bytes.proofs.FirstSign.{before_none}
+pub use Rattle.dl_bytes.specs.Prelude.{IsNumeral, is_number, is_numeral, number}
 unfoldable pub use Rattle.dl_frac.specs.Numerals.{is_bad, numeral_value}
 pub use Rattle.dl_plan.specs.declared.settings.Ask.{Ask}
 pub use Rattle.dl_plan.specs.declared.settings.Asked.{Asked}
@@ -41,7 +40,7 @@ unfoldable pub use Rattle.dl_words.specs.Parts.{parts_from}
 pub use Rattle.dl_words.specs.Parts.Kind.{begins, ends, misfit, plain, whole}
 pub use Rattle.dl_words.specs.Parts.Mode.{between, ended, value}
 pub use Rattle.dl_words.specs.Parts.Part.{option, positional}
-pub use Rattle.dl_words.specs.Spelling.{Text, begins_plainly, is_amount, is_bucket, is_number, is_number_within, is_numeral, is_probability, is_word, number}
+pub use Rattle.dl_words.specs.Spelling.{Text, begins_plainly, is_amount, is_bucket, is_number_within, is_probability, is_word}
 pub use Rattle.dl_words.specs.Table.{SpellsAsk}
 unfoldable pub use Rattle.dl_words.specs.Table.{ask_of}
 pub use Rattle.dl_words.specs.Ways.{behind_sign, cut_at}

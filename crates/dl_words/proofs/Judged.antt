@@ -13,7 +13,7 @@ use Rattle.dl_words.specs.declared.fault.UsageFault.TheVariants.{Ask}
 use Rattle.dl_words.specs.declared.fault.WordsFault.TheVariants.{Usage, OutOfMemory}
 use Rattle.dl_words.specs.Found.{form_in, list_of}
 use Rattle.dl_words.specs.Options.{format_named, is_format}
-use Rattle.dl_words.proofs.Numerals.{both}
+use Rattle.std.proofs.lemmas.Bool.{and_parts}
 use Rattle.dl_words.proofs.NumeralBytes.{passed, written_each}
 use Rattle.dl_words.proofs.Reading.{clap_from}
 use Rattle.dl_words.proofs.AskLists.{lent}
@@ -33,11 +33,11 @@ no_hyphens [] h = refl
 no_hyphens (c ∷ cs) h = rw (h 0 c (omega arith)) refl
 
 whole_plain : (low high : ℕ) (text : Text) → is_number_within low high text ≡ true → begins_plainly text ≡ true
-whole_plain low high text h = grind (arith, nat_tests, common_steps, no_hyphens, passed, digit_no_hyphen, both)
+whole_plain low high text h = grind (arith, nat_tests, common_steps, no_hyphens, passed, digit_no_hyphen, and_parts)
 
 bucket_plain : (text : Text) → is_bucket text ≡ true → begins_plainly text ≡ true
 bucket_plain text h = no_hyphens text
-    (written_each (λ b. (b == 45) ≡ false) digit_no_hyphen refl refl refl text (both _ _ (both _ _ h).0).0)
+    (written_each (λ b. (b == 45) ≡ false) digit_no_hyphen refl refl refl text (and_parts _ _ (and_parts _ _ h).0).0)
 
 -- a text that is one of some names
 named_plain : (text name : Text) → begins_plainly name ≡ true
@@ -54,7 +54,7 @@ taken_plain : (takes : Text → Bool) → ((text : Text) → takes text ≡ true
     → (texts : List Text) → list_all takes texts ≡ true → list_all begins_plainly texts ≡ true
 taken_plain takes f [] h = refl
 taken_plain takes f (text ∷ texts) h =
-    let t = both (takes text) _ h in
+    let t = and_parts (takes text) _ h in
     rw (f text t.0) (taken_plain takes f texts t.1)
 
 -- ---- a table of options
@@ -64,28 +64,28 @@ module _ (values : Values) where
   taken_at : are_taken values ≡ true → (name : Text) → is_name name ≡ true → (takes : Text → Bool)
       × ((text : Text) → takes text ≡ true → begins_plainly text ≡ true) × (is_taken takes (values name) ≡ true)
   taken_at make =
-      let bs = (both _ _ make).1 in
-      let log2 = (both _ _ bs).1 in
-      let digits = (both _ _ log2).1 in
-      let width = (both _ _ digits).1 in
-      let mwidth = (both _ _ width).1 in
+      let bs = (and_parts _ _ make).1 in
+      let log2 = (and_parts _ _ bs).1 in
+      let digits = (and_parts _ _ log2).1 in
+      let width = (and_parts _ _ digits).1 in
+      let mwidth = (and_parts _ _ width).1 in
       by_name (λ name. (takes : Text → Bool) × ((text : Text) → takes text ≡ true → begins_plainly text ≡ true)
       × (is_taken takes (values name) ≡ true))
-      (is_number_within 0 4294967295, whole_plain 0 4294967295, (both _ _ make).0)
-      (is_bucket, bucket_plain, (both _ _ bs).0)
-      (is_number_within 1 16, whole_plain 1 16, (both _ _ log2).0)
-      (is_number_within 1 9, whole_plain 1 9, (both _ _ digits).0)
-      (is_number_within 1 1000000000, whole_plain 1 1000000000, (both _ _ width).0)
-      (is_number_within 1 1000000000000, whole_plain 1 1000000000000, (both _ _ mwidth).0)
-      (is_format, format_plain, (both _ _ (both _ _ mwidth).1).0)
+      (is_number_within 0 4294967295, whole_plain 0 4294967295, (and_parts _ _ make).0)
+      (is_bucket, bucket_plain, (and_parts _ _ bs).0)
+      (is_number_within 1 16, whole_plain 1 16, (and_parts _ _ log2).0)
+      (is_number_within 1 9, whole_plain 1 9, (and_parts _ _ digits).0)
+      (is_number_within 1 1000000000, whole_plain 1 1000000000, (and_parts _ _ width).0)
+      (is_number_within 1 1000000000000, whole_plain 1 1000000000000, (and_parts _ _ mwidth).0)
+      (is_format, format_plain, (and_parts _ _ (and_parts _ _ mwidth).1).0)
 
   pub values_plain : are_taken values ≡ true → (name : Text) → is_name name ≡ true
       → list_all begins_plainly (values name) ≡ true
-  values_plain t name is = grind (arith, taken_at t name is, taken_plain, both)
+  values_plain t name is = grind (arith, taken_at t name is, taken_plain, and_parts)
 
   -- an option that stands twice is not taken
   pub twice_untaken : (name : Text) → is_name name ≡ true → 2 ≤ length (values name) → are_taken values ≡ false
-  twice_untaken name is two = grind (arith, false_from_ne_true, taken_at, leb-true, both)
+  twice_untaken name is two = grind (arith, false_from_ne_true, taken_at, leb-true, and_parts)
 
 -- ---- parts that are not clean are refused
 
@@ -94,15 +94,15 @@ clean_of : (ps : List Part) → AllNamed ps → ((name : Text) → is_name name 
     → is_clean ps ≡ true
 clean_of [] named options words = refl
 clean_of (option n v ∷ ps) named options words =
-    let here = both (begins_plainly v) _ (rw (bytes_same n) at (options n named.0)) in
+    let here = and_parts (begins_plainly v) _ (rw (bytes_same n) at (options n named.0)) in
     rw here.0 (clean_of ps named.1 (λ name is. rest (bytes_eq n name) (option_values name ps) (options name is)) words)
   where
     rest : (b : Bool) (vs : List Text) → list_all begins_plainly (if b then v ∷ vs else vs) ≡ true
         → list_all begins_plainly vs ≡ true
-    rest true vs h = (both (begins_plainly v) _ h).1
+    rest true vs h = (and_parts (begins_plainly v) _ h).1
     rest false vs h = h
 clean_of (positional w ∷ ps) named options words =
-    let here = both (begins_plainly w) _ words in
+    let here = and_parts (begins_plainly w) _ words in
     rw here.0 (clean_of ps named.1 options here.1)
 
 -- the test of an answer that is not `Line` at once
@@ -141,7 +141,7 @@ fits_plain values (form ∷ asks) h = go (form_named form) refl h
     go : (o : Option Form) → form_named form ≡ o → fits o values asks ≡ true
         → (are_taken values ≡ true) × (list_all begins_plainly (form ∷ asks) ≡ true)
     go None e f = absurd (true≢false (sym f))
-    go (Some f) e g = grind (arith, form_plain form (ap is_some e), both)
+    go (Some f) e g = grind (arith, form_plain form (ap is_some e), and_parts)
 
 -- the values of some parts
 abbrev pub values_with : List Part → Values

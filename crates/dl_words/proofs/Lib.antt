@@ -1,5 +1,4 @@
 mod Common
-pub mod Numerals
 pub mod Cuts
 pub mod AskLists
 pub mod Reading

@@ -7,7 +7,7 @@ use Rattle.dl_words.specs.Spelling.{is_weight}
 use Rattle.dl_plan.specs.declared.settings.Ask.TheVariants.{Pmf, Cdf, Quantile, LayerMean, Tail, Price, Joint, Kappa, Cotail}
 use Rattle.dl_words.specs.Table.{amount, by_row, colon, layer, letter_s, letter_x, limit, mean, name, plus, probability, rows, term, terms, unit_amount, unit_level, weight}
 use Rattle.dl_words.specs.Ways.{AreJoined, Way, behind, last, made, more, pair}
-use Rattle.dl_words.proofs.Numerals.{both}
+use Rattle.std.proofs.lemmas.Bool.{and_parts as both}
 use Rattle.dl_words.proofs.NumeralBytes.{joined, passed, written_each}
 use Rattle.dl_words.proofs.RangeLaws.{asks_each, from_words}
 use Rattle.dl_words.proofs.TableLaws.{EachRow, Spelling, by_each, no_more, spelled_row, table_back, ◌also◌}

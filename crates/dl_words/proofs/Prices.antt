@@ -10,7 +10,7 @@ use Rattle.dl_plan.proofs.WholeParts.{one_only}
 use Rattle.dl_words.specs.Spelling.{is_weight}
 use Rattle.dl_words.specs.Table.{are_weighted, plus, probability, term, terms, weight}
 use Rattle.dl_words.specs.Ways.{AreJoined, last, more, joined, list}
-use Rattle.dl_words.proofs.Numerals.{both}
+use Rattle.std.proofs.lemmas.Bool.{and_parts}
 use Rattle.dl_words.proofs.NumeralBytes.{joined as bytes_joined, written_each}
 use Rattle.dl_words.proofs.WayLaws.{IsRead, IsWithout, list_read, made_read, one_read, pair_read, that_read}
 
@@ -28,13 +28,13 @@ no_sign : (s : ℕ) → ((b : ℕ) → is_ascii_digit b ≡ true → (b == s) �
 no_sign s = written_each (λ b. (b == s) ≡ false)
 
 weight_without : IsWithout 64 weight
-weight_without w x h = list_any_none _ w (no_sign 64 digit_no_at refl refl refl w (both _ _ h.0).0)
+weight_without w x h = list_any_none _ w (no_sign 64 digit_no_at refl refl refl w (and_parts _ _ h.0).0)
 
 term_without : IsWithout plus term
 term_without text x (parts, is, (w, p, e, hw, hp)) =
     rw e (list_any_none _ (w ++ 64 ∷ p) (bytes_joined (λ b. (b == 43) ≡ false) w p 64 refl
-    (no_sign 43 digit_no_plus refl refl refl w (both _ _ hw.0).0)
-    (no_sign 43 digit_no_plus refl refl refl p (both _ _ (both _ _ hp.0).0).0)))
+    (no_sign 43 digit_no_plus refl refl refl w (and_parts _ _ hw.0).0)
+    (no_sign 43 digit_no_plus refl refl refl p (and_parts _ _ (and_parts _ _ hp.0).0).0)))
 
 term_read : IsRead term
 term_read = made_read (λ both. record { weight = both.0; p = both.1 }) _ (pair_read 64 weight (probability 9)
@@ -67,7 +67,7 @@ priced_weighted terms priced =
 
 pub weighted_priced : (terms : List Term) → 1 ≤ length terms → length terms ≤ most_terms → are_weighted terms ≡ true
     → ArePriced terms
-weighted_priced terms some few h = grind (arith, both, leb-true, parts_one)
+weighted_priced terms some few h = grind (arith, and_parts, leb-true, parts_one)
 
 -- ---- what is read
 

@@ -15,7 +15,7 @@ use Rattle.dl_words.specs.Table.{amount, by_row, layer, mean, plus, probability,
 use Rattle.dl_words.specs.Ways.{AreJoined, Way, last, made, more}
 use Rattle.dl_words.proofs.Prices.{priced}
 use Rattle.dl_words.specs.Options.{is_report_plain, are_of_cert, are_of_verify, most_cert_log2, or_default, settings_of}
-use Rattle.dl_words.proofs.Numerals.{both}
+use Rattle.std.proofs.lemmas.Bool.{and_parts as both}
 use Rattle.dl_words.proofs.WrittenLaws.{parts_written, written_each}
 use Rattle.dl_frac.proofs.SmallNumerals.{IsSmall, numeral_small}
 use Rattle.dl_words.proofs.TableLaws.{EachRow, Spelling, by_each, no_more, table_back, ◌also◌}

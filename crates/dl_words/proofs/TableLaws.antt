@@ -7,8 +7,8 @@ use Rattle.dl_words.proofs.NumeralBytes.{passed}
 use Rattle.dl_plan.specs.declared.settings.Ask.TheVariants.{Pmf, Cdf, Mean, Quantile, LayerMean, Tail, Price, Joint, Kappa, Cotail}
 use Rattle.dl_words.specs.Table.{Row, SpelledBy, amount, by_row, colon, layer, letter_s, letter_x, limit, mean, name, probability, read_by, rows, terms, unit_amount, unit_level}
 use Rattle.dl_words.specs.Ways.{Way, behind, made}
-use Rattle.dl_words.proofs.Numerals.{both}
-use Rattle.dl_frac.proofs.SpellingLaws.{any_at}
+use Rattle.std.proofs.lemmas.Bool.{and_parts as both}
+use Rattle.dl_bytes.proofs.FirstSign.{any_at}
 use Rattle.dl_words.proofs.Signs.{chained, cut_back, cut_there, not_some, some_is}
 use Rattle.dl_words.proofs.Prices.{terms_read}
 use Rattle.dl_words.proofs.WayLaws.{IsRead, IsWithout, behind_read, made_read, one_read, pair_read, word_or_read}

@@ -12,7 +12,8 @@ use Rattle.dl_plan.specs.declared.settings.Form.TheVariants.{Run, Fmt, Cert, Ver
 use Rattle.dl_plan.specs.declared.settings.Format.{Format}
 use Rattle.dl_plan.specs.declared.settings.Format.TheVariants.{Plain, Csv, Json}
 use Rattle.dl_plan.specs.declared.settings.Settings.{Settings}
-use Rattle.dl_words.specs.Spelling.{Text, is_bucket, is_number_within, number}
+use Rattle.dl_words.specs.Spelling.{Text, is_bucket, is_number_within}
+use Rattle.dl_bytes.specs.Prelude.{number}
 
 -- the format of this name
 abbrev pub format_named : Text → Option Format

@@ -8,7 +8,8 @@ use Rattle.dl_plan.specs.declared.settings.Ask.{Ask}
 use Rattle.dl_plan.specs.declared.settings.Ask.TheVariants.{Pmf, Cdf, Mean, Quantile, LayerMean, Tail, Price, Joint, Kappa, Cotail}
 use Rattle.dl_plan.specs.declared.settings.Term.{Term}
 use Rattle.dl_plan.specs.Prelude.{common_denominator, most_terms, most_weight_parts}
-use Rattle.dl_words.specs.Spelling.{Text, is_amount, is_probability, is_weight, is_word, number}
+use Rattle.dl_words.specs.Spelling.{Text, is_amount, is_probability, is_weight, is_word}
+use Rattle.dl_bytes.specs.Prelude.{number}
 use Rattle.dl_words.specs.Ways.{Way, one, pair, behind, word_or, made, that, list, cut_at}
 
 -- ---- values

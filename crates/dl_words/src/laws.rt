@@ -2,12 +2,12 @@
 //! contract of a function with an empty body.
 
 ghost use Rattle.std.specs.Prelude.{◌≡◌, ◌↔◌, ℕ, List, Some, IsTrue};
-ghost use Rattle.dl_lexer.specs.Numerals as token;
+ghost use Rattle.dl_bytes.specs.Prelude.{IsNumeral, is_numeral};
 ghost use Rattle.dl_lexer.specs.Tokens.{IsWord};
 ghost use Rattle.dl_plan.specs.declared.settings.Ask.{Ask};
 ghost use Rattle.dl_words.specs.AsWritten.{AreParts};
 ghost use Rattle.dl_words.specs.Parts.{Part, command_parts};
-ghost use Rattle.dl_words.specs.Spelling.{is_numeral, is_word};
+ghost use Rattle.dl_words.specs.Spelling.{is_word};
 ghost use Rattle.dl_words.specs.Table.{SpellsAsk, ask_of};
 
 /// A text is read as an ask exactly where the table of the asks has it; so no text is two asks.
@@ -18,7 +18,7 @@ pub fn law_asks()
 
 /// The tests of a numeral and of a name pass exactly the numerals and the words of a program.
 pub fn law_spellings()
-    ensures numeral { (text : List ℕ) → IsTrue (is_numeral text) ↔ token.IsNumeralToken text }
+    ensures numeral { (text : List ℕ) → IsTrue (is_numeral text) ↔ IsNumeral text }
     ensures word { (text : List ℕ) → IsTrue (is_word text) ↔ IsWord text }
 {}
 

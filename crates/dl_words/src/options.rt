@@ -7,7 +7,8 @@ ghost use Rattle.dl_frac.specs.Numerals.{numeral_value};
 ghost use Rattle.dl_plan.specs.declared.settings.Format.TheVariants.{Plain};
 ghost use Rattle.dl_words.specs.Found.{TakesOption, values_in};
 ghost use Rattle.dl_words.specs.Options.{are_of_cert, are_of_verify, are_taken, form_named, format_named, format_of, is_format, is_make_alone, is_report_plain, no_seed, seed_of, settings_of};
-ghost use Rattle.dl_words.specs.Spelling.{is_bucket, is_number_within, number};
+ghost use Rattle.dl_bytes.specs.Prelude.{number};
+ghost use Rattle.dl_words.specs.Spelling.{is_bucket, is_number_within};
 
 use crate::spelling::{bucket, whole};
 use clap::ArgMatches;

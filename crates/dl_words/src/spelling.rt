@@ -1,36 +1,15 @@
 //! The values in the words, as numbers and fractions.
 
-ghost use Rattle.std.specs.Prelude.{◌≡◌, ◌<◌, ◌≤◌, ◌^◌, ◌&&◌, IfSome, None, Some, if◌then◌else◌, not};
-ghost use Rattle.std.specs.Char.{is_ascii_digit};
+ghost use Rattle.std.specs.Prelude.{◌≡◌, ◌≤◌, ◌&&◌, IfSome, None, Some, if◌then◌else◌, not};
 ghost use Rattle.std.specs.List.{list_all};
+ghost use Rattle.dl_bytes.specs.Prelude.{is_numeral, number};
 ghost use Rattle.dl_frac.specs.Numerals.{is_bad, numeral_value};
 ghost use Rattle.dl_lexer.specs.Prelude.{is_word_byte, begins_with_letter};
 ghost use Rattle.dl_words.specs.Table.{amount, probability, weight};
-ghost use Rattle.dl_words.specs.Spelling.{begins_plainly, is_bucket, is_number_of, is_numeral, is_number_within, is_word, number};
+ghost use Rattle.dl_words.specs.Spelling.{begins_plainly, is_bucket, is_number_within, is_word};
 
-use dl_frac::{Frac, is_numeral, numeral};
-
-/// The number that digits write, at most `most` of them.
-fn number(text: &str, most: usize) -> Option<u64>
-    requires { most ≤ 15 }
-    ensures value { result ≡ (if is_number_of most text.now then Some (number text.now) else None) }
-    ensures below { IfSome result (λ value. value < 10 ^ most) }
-{
-    if text.is_empty() || text.len() > most || !are_digits(text.as_bytes()) {
-        return None;
-    }
-    match text.parse::<u64>() {
-        Ok(value) => Some(value),
-        Err(_) => None,
-    }
-}
-
-/// Whether each byte is a digit.
-fn are_digits(text: &[u8]) -> bool
-    ensures { result ≡ list_all is_ascii_digit text.now }
-{
-    text.iter().all(|byte| byte.is_ascii_digit())
-}
+use dl_bytes::{is_numeral, number};
+use dl_frac::{Frac, numeral};
 
 /// The number that 1 to 15 digits write, where it lies from `low` to `high`.
 pub(crate) fn whole(text: &str, low: u64, high: u64) -> Option<u64>
@@ -38,7 +17,7 @@ pub(crate) fn whole(text: &str, low: u64, high: u64) -> Option<u64>
         then Some (number text.now) else None) }
     ensures within { IfSome result (λ value. value ≤ high) }
 {
-    match number(text, 15) {
+    match number(text.as_bytes(), 15) {
         Some(value) if low <= value && value <= high => Some(value),
         _ => None,
     }
@@ -48,7 +27,7 @@ pub(crate) fn whole(text: &str, low: u64, high: u64) -> Option<u64>
 pub(crate) fn amount(text: &str) -> Option<u32>
     ensures { result ≡ amount.read text.now }
 {
-    match number(text, 9) {
+    match number(text.as_bytes(), 9) {
         Some(value) => Some(value as u32),
         None => None,
     }

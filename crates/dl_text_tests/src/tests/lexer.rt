@@ -1,6 +1,6 @@
 //! Texts worked by hand from the table of tokens.
 
-use dl_lexer::{Keyword, LexFault, Text, Token, lex, line_col};
+use dl_lexer::{Keyword, LexFault, Token, lex, line_col};
 use std::alloc::{AllocError, Global};
 
 /// A text, and its tokens by kind, start and end.
@@ -183,26 +183,8 @@ fn places_have_lines(rt: HostRuntime) {
     }
 }
 
-/// Whether the copy of a text is that text.
-fn is_copied(alloc: Global, text: &[u8]) -> bool {
-    match Text::copy(alloc, text) {
-        Ok(copy) => copy.as_slice() == text,
-        Err(_) => false,
-    }
-}
-
-/// Whether the text of a vector of these bytes is those bytes.
-fn is_owned(alloc: Global, bytes: &[u8]) -> bool {
-    match bytes.to_vec(alloc) {
-        Ok(vec) => Text::from_vec(vec).as_slice() == bytes,
-        Err(_) => false,
-    }
-}
-
 #[test]
-fn texts_are_kept(rt: HostRuntime) {
-    assert!(rt; is_copied(rt.alloc(), b"agg"));
-    assert!(rt; is_owned(rt.alloc(), b"ab"));
+fn words_are_read(rt: HostRuntime) {
     assert!(rt; Keyword::read(b"agg") == Some(Keyword::Agg));
     assert!(rt; Keyword::Agg.spelling() == b"agg".as_slice());
 }

@@ -1,11 +1,10 @@
 -- A numeral of the text is one that is read.
 use Rattle.dl_buckets.proofs.Common.{arith, whole_num, whole_den, false_from_ne_true}
-use Rattle.dl_plan.proofs.NumeralLaws.{numeral_to}
 use Rattle.dl_frac.proofs.SmallNumerals.{numeral_small}
 use Rattle.dl_buckets.proofs.numbers.number.Goals as goal
 
 pub numeral-requires-clause-spelled : goal.numeral-requires-clause-spelled
-numeral-requires-clause-spelled c = rw c.as_slice.ensures (numeral_to c.args.written.now.text c.requires)
+numeral-requires-clause-spelled c = rw c.as_slice.ensures c.requires
 
 pub returns-in-Ok-clause-small : goal.returns-in-Ok-clause-small
 returns-in-Ok-clause-small c =

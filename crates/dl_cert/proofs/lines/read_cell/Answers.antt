@@ -6,5 +6,5 @@ pub returns : goal.returns
 returns c =
     cell_spelled c.args.text.now c.cell_of.result c.index_of-comma.ensures.offset
     (omega (arith, c.if-comma-text.false, c.index_of-comma.ensures.within)) c.after.ensures
-    (ap (λ n. Some n) c.from.ensures ∙ c.in-Some.ensures) (ap (λ n. Some n) c.from-2.ensures ∙ c.in-Some-number.ensures)
+    (ap (λ n. Some n) c.from.ensures ∙ c.in-Some.ensures.value) (ap (λ n. Some n) c.from-2.ensures ∙ c.in-Some-number.ensures.value)
     c.cell_of.ensures

@@ -1,6 +1,5 @@
 -- A numeral that is read has a whole shape or none.
 use Rattle.dl_types.proofs.Common.{◌≡◌, ◌∙◌, ◌||◌, Bool, true, false, not, refl, sym, ap, whole_num, is_whole, shape_of, Fraction, or_parts, or-true, value, is_bad_numeral, is_zero}
-use Rattle.dl_plan.proofs.NumeralLaws.{numeral_to}
 use Rattle.dl_types.proofs.ExposedCounts.{shape_above}
 use Rattle.dl_types.proofs.changes.shape_in.Goals as goal
 
@@ -8,7 +7,7 @@ abbrev no_shape : Fraction → Bool
 no_shape v = is_zero v || not (is_whole (shape_of v))
 
 pub numeral-requires-clause-spelled : goal.numeral-requires-clause-spelled
-numeral-requires-clause-spelled c = rw c.as_slice.ensures (numeral_to c.args.variation.now.text c.requires)
+numeral-requires-clause-spelled c = rw c.as_slice.ensures c.requires
 
 good_or : (bad rest : Bool) → (bad ≡ true → false ≡ true) → rest ≡ (bad || rest)
 good_or true rest good = absurd (let e = good refl in cc)

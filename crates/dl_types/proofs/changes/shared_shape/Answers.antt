@@ -1,6 +1,6 @@
 -- The units of the plan are as large as those of the program.
 use Rattle.dl_types.proofs.Common.{◌∙◌, ◌≤◌, refl, true, false, suc, arith, Some, sym, ap, map, IfSome, at_if, most_shape, IsFormedHead, IsShapeIn, part_of}
-use Rattle.dl_lexer.specs.Numerals.{IsNumeralToken}
+use Rattle.dl_lexer.specs.Prelude.{IsNumeral}
 use Rattle.dl_types.proofs.FactorBounds.{small_shape}
 use Rattle.dl_types.proofs.FactorParts.{all_counted}
 use Rattle.dl_types.proofs.FactorKept.{no_port, no_common, shape_span, size_told, shape_written, bad_told, factor_there, shape_shared}
@@ -16,7 +16,7 @@ returns-in_default-common-clause-fault c =
 pub shape_in-requires : goal.shape_in-requires
 shape_in-requires c =
     let head : IsFormedHead c.in-Some.head = rw c.in-Some.is at c.requires.head in
-    let common : IfSome c.in-Some.head.common (λ n. IsNumeralToken n.text) = head.common in
+    let common : IfSome c.in-Some.head.common (λ n. IsNumeral n.text) = head.common in
     rw c.in-Some-common.is at common
 
 pub returns-in_default-shape_in-clause-fault : goal.returns-in_default-shape_in-clause-fault

@@ -1,6 +1,7 @@
 -- What one more digit changes.
 use Rattle.dl_frac.proofs.Common.{◌+◌, ◌*◌, ◌∙◌, ap, sym, arith, inl, inr, is_point, is_percent}
-use Rattle.dl_frac.proofs.NumeralLaws.{digit_is, count_push, number_push, scale_push, any_push_no, no_mark}
+use Rattle.dl_bytes.proofs.FirstSign.{any_push_no}
+use Rattle.dl_frac.proofs.NumeralLaws.{digit_is, count_push, number_push, scale_push, no_mark}
 use Rattle.dl_frac.proofs.reading.Reading.push_digit.Goals as goal
 use Rattle.dl_frac.proofs.reading.Reading.push_digit.Goals.{then-self, else-self}
 

@@ -1,6 +1,6 @@
-use Rattle.dl_cert.proofs.Common.{◌+◌, ◌<◌, arith, length}
-use Rattle.dl_cert.proofs.Digits.{one_more_digit, value_fits}
-use Rattle.dl_cert.proofs.spelling.value_of.Goals as goal
+use Rattle.dl_bytes.proofs.Common.{◌+◌, ◌<◌, arith, length}
+use Rattle.dl_bytes.proofs.DigitLaws.{one_more_digit, value_fits}
+use Rattle.dl_bytes.proofs.digits.value_of.Goals as goal
 
 pub overflow_mul-value : goal.overflow_mul-value
 overflow_mul-value c =

@@ -1,13 +1,13 @@
-//! The numbers and the cells of a step, read without memory.
+//! Digits and the numbers that they write.
 
-ghost use Rattle.std.specs.Prelude.{◌≡◌, ◌≤◌, IsTrue, length, Some, None, if◌then◌else◌};
+ghost use Rattle.std.specs.Prelude.{◌≡◌, ◌<◌, ◌≤◌, ◌^◌, IfSome, length, Some, None, if◌then◌else◌};
 ghost use Rattle.std.specs.Char.{is_ascii_digit};
 ghost use Rattle.std.specs.List.{list_all};
 ghost use Rattle.std.specs.Str.Parse.{digits_value};
-ghost use Rattle.dl_cert.specs.Spelling.{is_number_of};
+ghost use Rattle.dl_bytes.specs.Digits.{AreDigits, is_number_of};
 
 /// Whether each byte is a digit.
-fn are_digits(text: &[u8]) -> bool
+pub fn are_digits(text: &[u8]) -> bool
     ensures { result ≡ list_all is_ascii_digit text.now }
 {
     text.iter().all(|byte| byte.is_ascii_digit())
@@ -15,7 +15,7 @@ fn are_digits(text: &[u8]) -> bool
 
 /// The number that at most 17 digits write.
 fn value_of(digits: &[u8]) -> u64
-    requires digits { IsTrue (list_all is_ascii_digit digits.now) }
+    requires digits { AreDigits digits.now }
     requires few { length digits.now ≤ 17 }
     ensures { result ≡ digits_value 10 digits.now }
 {
@@ -28,10 +28,12 @@ fn value_of(digits: &[u8]) -> u64
 
 /// The number that 1 to `most` digits write, at most 17 of them. None where they are no digits, or
 /// another number of them.
-pub(crate) fn number(text: &[u8], most: usize) -> Option<u64>
+#[tactic(auto, using(crate::proofs::DigitLaws::number_below))]
+pub fn number(text: &[u8], most: usize) -> Option<u64>
     requires most { most ≤ 17 }
-    ensures { result ≡ (if is_number_of most text.now
+    ensures value { result ≡ (if is_number_of most text.now
         then Some (digits_value 10 text.now) else None) }
+    ensures below { IfSome result (λ value. value < 10 ^ most) }
 {
     if text.is_empty() || text.len() > most || !are_digits(text) {
         return None;

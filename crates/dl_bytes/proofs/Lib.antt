@@ -1,0 +1,5 @@
+mod Common
+pub mod FirstSign
+pub mod DigitLaws
+pub mod Numerals
+pub mod NumeralTests
