@@ -1,5 +1,5 @@
 -- The cells of a grid after the change: that they are a grid, what they enclose, and how wide they are.
-use Rattle.dl_zero.proofs.Common.{add-sub_of_le, below_more, ℕ, zero, suc, ◌≡◌, ◌+◌, ◌-◌, ◌*◌, ◌/◌, ◌^◌, ◌<◌, ◌≤◌, inl, inr, min, List, [], ◌∷◌, ◌++◌, length, get_or, arith, refl, sym, ap, ap₂, subst, subst₂, ◌∙◌, sum, div_ceil, mul-le-mul_right, cases_lt, pow_pos, get_or_default_zero, Fraction, whole, ◌over◌, ◌≤ℚ◌, ◌<ℚ◌, count_below, sum_to, le_of_eq, le_trans, zero_le, one_pos, over_lt, num_below, to_over, over_one, over_le_over, le_of_lt, all_at_zero, low_at, high_at, low_ends, high_ends, mass_low, spread, IsGrid, AreEnds, HasRoomForNone, AreChangedEnds, size_of, Aggregate, changed, at_least_wider, at_most_wider, cell_at_most_one, loss_proper, changed_values, unit_changed_lows, low_changed, high_changed, Iv, floor_le_ceiling, IsBefore}
+use Rattle.dl_zero.proofs.Common.{add-sub_of_le, below_more, ℕ, zero, suc, ◌≡◌, ◌+◌, ◌-◌, ◌*◌, ◌/◌, ◌^◌, ◌<◌, ◌≤◌, inl, inr, min, List, [], ◌∷◌, ◌++◌, length, get_or, arith, refl, sym, ap, ap₂, subst, subst₂, ◌∙◌, sum, div_ceil, cases_lt, pow_pos, get_or_default_zero, Fraction, whole, ◌over◌, ◌≤ℚ◌, ◌<ℚ◌, count_below, sum_to, le_of_eq, le_trans, zero_le, one_pos, over_lt, num_below, to_over, over_one, over_le_over, le_of_lt, all_at_zero, low_at, high_at, low_ends, high_ends, mass_low, spread, IsGrid, AreEnds, HasRoomForNone, AreChangedEnds, size_of, Aggregate, changed, at_least_wider, at_most_wider, cell_at_most_one, loss_proper, changed_values, unit_changed_lows, low_changed, high_changed, Iv, floor_le_ceiling, IsBefore}
 use Rattle.std.proofs.lemmas.List.{length-append, get_or_append_left}
 use Rattle.std.proofs.Math.ListN.{get_or-eq_default}
 use Rattle.std.proofs.Math.Seq.{get_or-append_seam}
@@ -8,7 +8,7 @@ use Rattle.dl_exact.proofs.Counts.{below_first, below_le, below_plus, below_same
 use Rattle.dl_grid.proofs.EndLists.{low_at_ends, high_at_ends, low_ends_long, low_le_high}
 use Rattle.dl_grid.proofs.PlaceSums.{low_within, whole_mass, width_within, whole_spread, width_at}
 use Rattle.dl_model.specs.Family.{GridEncloses}
-use Rattle.dl_zero.proofs.Rounded.{cell_apart, lows_fit, widths_sum, spread_within}
+use Rattle.dl_zero.proofs.Rounded.{cell_apart, parts_order, lows_fit, widths_sum, spread_within}
 use Rattle.dl_zero.proofs.Values.{low_is_below, high_is_above, quotient_is_below, units_fit}
 use Rattle.dl_zero.proofs.Losses.{changed_is_loss}
 
@@ -71,13 +71,8 @@ module _ (S nl nh : ℕ) (p : Fraction) (pos : 0 < S) (order : nl ≤ nh) (below
   pub ends_order : (k l h : ℕ) → l ≤ h → low_changed S nl nh p k l ≤ high_changed S nl nh p k h
   unfolding low_changed high_changed
   ends_order k l h le =
-      let x = l - all_at_zero nh k in
-      let z = h - all_at_zero nl k in
-      let quotient : x * S / (S - nl) ≤ div_ceil (z * S) (S - nh) =
-      floor_le_ceiling (x * S) (z * S) (S - nl) (S - nh) (omega arith) (omega arith)
-      (mul-le-mul_right S (omega (arith, at_zero_rises nl nh k order))) in
-      let part = floor_le_ceiling (x * S / (S - nl) * (p.den - p.num)) (div_ceil (z * S) (S - nh) * (p.den - p.num))
-      p.den p.den p.positive (omega arith) (mul-le-mul_right (p.den - p.num) quotient) in
+      let part = parts_order (l - all_at_zero nh k) (h - all_at_zero nl k) S (S - nh) (S - nl) (p.den - p.num) p.den
+      (omega arith) (omega arith) p.positive (omega (arith, at_zero_rises nl nh k order)) in
       let rounded = floor_le_ceiling (S * p.num) (S * p.num) p.den p.den p.positive (omega arith) (omega arith) in
       omega (arith, at_zero_rises (S * p.num / p.den) (div_ceil (S * p.num) p.den) k rounded)
 

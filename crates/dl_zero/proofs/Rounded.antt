@@ -1,6 +1,6 @@
 -- Quotients by the probability of a claim, and parts of them, rounded outward: how large they are, and how far apart.
 -- S units make 1; R units are the low end of the probability of a claim, and Z units its width.
-use Rattle.dl_zero.proofs.Common.{one_fits, pow_pos, add-sub_of_le, sub-add_cancel, part_within, floor_le_ceiling, ℕ, zero, suc, ◌≡◌, ◌+◌, ◌-◌, ◌*◌, ◌/◌, ◌<◌, ◌^◌, ◌≤◌, min, inl, inr, arith, refl, ap, cases_lt, div_ceil, mul-le-mul, mul-le-mul_left, mul-le-mul_right, le_of_mul-le-mul_right, lt-div-mul-add, mul-pos, div-mul-le_self, div-le_of_le-mul, div_ceil_times, div_ceil_least, count_below, all_at_zero}
+use Rattle.dl_zero.proofs.Common.{add-sub_of_le, sub-add_cancel, part_within, floor_le_ceiling, ℕ, zero, suc, ◌≡◌, ◌+◌, ◌-◌, ◌*◌, ◌/◌, ◌<◌, ◌^◌, ◌≤◌, min, inl, inr, arith, refl, ap, cases_lt, div_ceil, mul-le-mul, mul-le-mul_left, mul-le-mul_right, le_of_mul-le-mul_right, lt-div-mul-add, mul-pos, div-mul-le_self, div-le_of_le-mul, div_ceil_times, div_ceil_least, count_below, all_at_zero}
 
 -- ---- sizes
 
@@ -21,13 +21,9 @@ scale_fits x a d small pos le few =
     let less : a ≤ 2 ^ 37 - 1 = omega arith in
     (omega (arith, mul-le-mul small less), part_within x a d pos le)
 
--- a part of a quotient of at most 1
-pub part_fits : (B x R q a d : ℕ) → B ≤ 56 → q ≡ div_ceil (x * 2 ^ B) R → 2 ^ B ≤ 18 * R → x ≤ 2 ^ B → 0 < d → a ≤ d
-    → d < 2 ^ 37 → (q * a < 2 ^ 128) × (div_ceil (q * a) d ≤ 18 * 2 ^ 56)
-part_fits B x R q a d scale is share small pos le few =
-    let quotient = quotient_small x (2 ^ B) R (omega (arith, pow_pos B)) share in
-    let fits = scale_fits q a d (omega (arith, one_fits B scale)) pos le few in
-    (fits.0, omega (arith, fits.1, one_fits B scale))
+-- a quotient of at most 1 fits 64 bits
+pub cell_fits : (x S R : ℕ) → 0 < R → S ≤ 18 * R → S ≤ 2 ^ 56 → x ≤ S → div_ceil (x * S) R < 2 ^ 64
+cell_fits x S R pos share scale small = omega (arith, quotient_small x S R pos share)
 
 -- ---- what stands at 0 alone
 
@@ -42,6 +38,13 @@ all_at e zero h = refl
 all_at e (suc y) h = absurd (omega arith)
 
 -- ---- distances
+
+-- a part a / d of a quotient by T, rounded down, and one of a quotient by a lesser R, rounded up
+pub parts_order : (x z S R T a d : ℕ) → 0 < R → R ≤ T → 0 < d → x ≤ z
+    → x * S / T * a / d ≤ div_ceil (div_ceil (z * S) R * a) d
+parts_order x z S R T a d pos less some order =
+    floor_le_ceiling (x * S / T * a) (div_ceil (z * S) R * a) d d some (omega arith)
+    (mul-le-mul_right a (floor_le_ceiling (x * S) (z * S) T R pos less (mul-le-mul_right S order)))
 
 -- a part a / d of q and one of r, which is no greater
 pub part_apart : (q r a d : ℕ) → 0 < d → a ≤ d → r ≤ q → div_ceil (q * a) d ≤ r * a / d + (q - r) + 2

@@ -8,6 +8,8 @@
 //! memory.
 #![tactic(auto)]
 
+mod change;
+mod factor;
 mod grid;
 mod laws;
 mod mean;

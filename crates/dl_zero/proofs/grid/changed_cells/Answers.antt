@@ -1,34 +1,16 @@
-use Rattle.dl_zero.proofs.Common.{rules, ◌^◌, ℕ, ◌≡◌, ◌*◌, ◌<◌, ◌≤◌, arith, ap₂, ◌∙◌, div_ceil, num_below, part_within, low_changed, high_changed}
+use Rattle.dl_zero.proofs.Common.{arith, low_changed, high_changed}
 use Rattle.dl_zero.proofs.Cells.{none_made, one_more, changed_ends, made_ends, changed_spread_within}
 use Rattle.dl_zero.proofs.grid.changed_cells.Goals as goal
-
--- p in units is at most 1
-p_small : (S n d num den hi : ℕ) → 0 < d → n < d → num ≡ n → den ≡ d → hi ≡ div_ceil (S * num) den → hi ≤ S
-p_small S n d num den hi pos less e f h = omega (
-  arith,
-  h ∙ ap₂ (λ s t. div_ceil (S * s) t) e f,
-  part_within S n d pos (omega arith),
-)
-
-pub changed_cell-cell-requires : goal.changed_cell-cell-requires
-changed_cell-cell-requires g c =
-    let fits = p_small (2 ^ g.row.B) c.args.p.num c.args.p.den c.from.result c.from-2.result c.enclose-at_0.result.hi
-    c.args.p.positive (num_below c.args.p c.requires.below_one) (omega arith) (omega arith)
-    c.enclose-at_0.ensures.high in
-    search rules
 
 pub loop-y-init : goal.loop-y-init
 loop-y-init g c = record { low = none_made _ c.in_ok-lows.ensures.items; high = none_made _ c.in_ok-highs.ensures.items }
 
 pub loop-y-preserved : goal.loop-y-preserved
 unfolding low_changed high_changed
-loop-y-preserved g c =
-    let num : c.from.result ≡ c.args.p.num = omega arith in
-    let den : c.from-2.result ≡ c.args.p.den = omega arith in
-    record {
-      low = one_more c.loop-y.invariant.low c.in_ok-push.ensures.items (cc);
-      high = one_more c.loop-y.invariant.high c.in_ok-push-2.ensures.items (cc);
-    }
+loop-y-preserved g c = record {
+  low = one_more c.loop-y.invariant.low c.in_ok-push.ensures.items (cc);
+  high = one_more c.loop-y.invariant.high c.in_ok-push-2.ensures.items (cc);
+}
 
 pub from_ends-requires : goal.from_ends-requires
 from_ends-requires g c = (
