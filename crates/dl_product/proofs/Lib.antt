@@ -1,6 +1,7 @@
 pub mod Apart
 mod Common
 pub mod EndLists
+pub mod Entries
 pub mod Mirror
 pub mod Parts
 pub mod Shifted

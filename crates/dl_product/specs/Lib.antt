@@ -1,4 +1,5 @@
 pub mod Ends
 pub mod Factors
+pub mod Kept
 pub mod Steps
 pub mod Windows

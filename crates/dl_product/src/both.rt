@@ -7,6 +7,7 @@ ghost use Rattle.dl_product.specs.Ends.{ArePaired};
 ghost use Rattle.dl_product.specs.Factors.{AreCells, AreZeros, IsProduct};
 ghost use Rattle.dl_product.specs.Windows.{AreWindows};
 
+use crate::kept::Listed;
 use crate::lists::{Factors, MOST_LEVELS, are_classes_shorter, levels_if_shorter, rate_of, sums};
 use crate::room::Workspace;
 use crate::steps::step_with;
@@ -15,11 +16,12 @@ use dl_conv::room_for_sums;
 use dl_transform::{Ends, levels_for};
 use std::alloc::{AllocError, Global};
 
-/// The low ends and the high ends of the same cells.
+/// The low ends and the high ends of the same cells, which may come again in a later product.
 #[derive(Clone, Copy)]
 pub(crate) struct Cells<'a> {
     pub(crate) lows: &'a [u128],
     pub(crate) highs: &'a [u128],
+    pub(crate) comes_again: bool,
 }
 
 /// Two lists of cells to multiply. Where `is_square` they are one.
@@ -75,7 +77,15 @@ fn transform_ends(
         lows: pair.b.lows,
         widths: others.as_slice(),
     };
-    work.ends(alloc, first, second, false, levels, lows, highs)
+    let a = Listed {
+        ends: first,
+        comes_again: pair.a.comes_again,
+    };
+    let b = Listed {
+        ends: second,
+        comes_again: pair.b.comes_again,
+    };
+    work.kept_ends(alloc, a, b, levels, lows, highs)
 }
 
 /// Whether transforms multiply two lists in less time than other ways. Lists whose items lie a
@@ -163,10 +173,12 @@ fn write_ends(
         a: Cells {
             lows: &pair.a.lows[first.start..first.end],
             highs: &pair.a.highs[first.start..first.end],
+            comes_again: pair.a.comes_again,
         },
         b: Cells {
             lows: &pair.b.lows[second.start..second.end],
             highs: &pair.b.highs[second.start..second.end],
+            comes_again: pair.b.comes_again,
         },
         is_square: pair.is_square,
     };

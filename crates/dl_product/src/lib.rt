@@ -5,12 +5,14 @@
 
 mod both;
 mod classes;
+mod kept;
 mod lists;
 mod products;
 mod room;
 mod short;
 mod steps;
+mod tables;
 mod windows;
 
-pub use products::{product, square};
+pub use products::{Factor, product, product_of, square};
 pub use room::Workspace;

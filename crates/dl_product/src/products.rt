@@ -12,8 +12,26 @@ use dl_conv::grid_of_sums;
 use dl_grid::Grid;
 use std::alloc::{AllocError, Global};
 
-/// The low ends and the high ends of a grid.
-fn cells_of<const B: u32>(grid: &Grid<B>) -> Cells<'_>
+/// A grid as a factor of products. Where it comes again, in a later product, the workspace may keep
+/// its transforms until then.
+#[derive(Clone, Copy)]
+pub struct Factor<'a, const B: u32> {
+    pub grid: &'a Grid<B>,
+    pub comes_again: bool,
+}
+
+/// A factor that does not come again.
+fn once<const B: u32>(grid: &Grid<B>) -> Factor<'_, B>
+    ensures { result.grid.now ≡ grid.now }
+{
+    Factor {
+        grid,
+        comes_again: false,
+    }
+}
+
+/// The low ends and the high ends of a grid, which may come again in a later product.
+fn cells_of<const B: u32>(grid: &Grid<B>, comes_again: bool) -> Cells<'_>
     ensures lows { result.lows.now ≡ low_ends grid.now }
     ensures highs { result.highs.now ≡ high_ends grid.now }
     ensures low { (x : ℕ) → get_or result.lows.now x 0 ≡ low_at grid.now x }
@@ -26,6 +44,7 @@ fn cells_of<const B: u32>(grid: &Grid<B>) -> Cells<'_>
     Cells {
         lows: grid.lows(),
         highs: grid.highs(),
+        comes_again,
     }
 }
 
@@ -42,23 +61,25 @@ fn width_limit(bits: u32) -> u128
 fn sums_of_ends<const B: u32>(
     alloc: Global,
     work: &mut Workspace,
-    a: &Grid<B>,
-    b: &Grid<B>,
+    a: Factor<'_, B>,
+    b: Factor<'_, B>,
     is_square: bool,
     cells: u32,
 ) -> Result<(Vec<u128>, Vec<u128>), AllocError>
-    requires square { is_square ≡ true → b.now ≡ a.now }
+    requires square { is_square ≡ true → b.grid.now ≡ a.grid.now }
     requires some { 1 ≤ cells }
-    requires in_first { cells ≤ length a.now }
+    requires in_first { cells ≤ length a.grid.now }
     ensures low_cells { IfOk result (λ v. length v.0.items ≡ cells) }
     ensures high_cells { IfOk result (λ v. length v.1.items ≡ cells) }
     ensures low { IfOk result (λ v. (s : ℕ) → s < length v.0.items
-        → get_or v.0.items s 0 ≡ count_pairs s (λ i j. low_at a.now i * low_at b.now j)) }
+        → get_or v.0.items s 0
+        ≡ count_pairs s (λ i j. low_at a.entry.grid.now i * low_at b.entry.grid.now j)) }
     ensures high { IfOk result (λ v. (s : ℕ) → s < length v.0.items
-        → get_or v.1.items s 0 ≡ count_pairs s (λ i j. high_at a.now i * high_at b.now j)) }
+        → get_or v.1.items s 0
+        ≡ count_pairs s (λ i j. high_at a.entry.grid.now i * high_at b.entry.grid.now j)) }
 {
-    let first = cells_of(a);
-    let second = cells_of(b);
+    let first = cells_of(a.grid, a.comes_again);
+    let second = cells_of(b.grid, b.comes_again);
     let pair = Pair {
         a: first,
         b: second,
@@ -84,8 +105,27 @@ pub fn product<const B: u32>(
     ensures convolution { IfOk result (λ g. IsConvolution cells a.now b.now g) }
     ensures cells { IfOk result (λ g. length g ≡ cells) }
 {
+    product_of(alloc, work, once(a), once(b), cells)
+}
+
+/// The same cells as `product` gives, by transforms that the workspace kept where it has them.
+pub fn product_of<const B: u32>(
+    alloc: Global,
+    work: &mut Workspace,
+    a: Factor<'_, B>,
+    b: Factor<'_, B>,
+    cells: u32,
+) -> Result<Grid<B>, AllocError>
+    requires in_first { cells ≤ length a.grid.now }
+    requires some { 1 ≤ cells }
+    requires in_second { cells ≤ length b.grid.now }
+    ensures spread { IfOk result (λ g. spread g
+        ≤ convolution_spread (2 ^ B) cells (spread a.entry.grid.now) (spread b.entry.grid.now)) }
+    ensures convolution { IfOk result (λ g. IsConvolution cells a.entry.grid.now b.entry.grid.now g) }
+    ensures cells { IfOk result (λ g. length g ≡ cells) }
+{
     let (lows, highs) = sums_of_ends(alloc, work, a, b, false, cells)?;
-    Ok(grid_of_sums(a, b, lows, highs))
+    Ok(grid_of_sums(a.grid, b.grid, lows, highs))
 }
 
 /// The first `cells` cells of the convolution of `a` with itself.
@@ -101,6 +141,6 @@ pub fn square<const B: u32>(
     ensures convolution { IfOk result (λ g. IsConvolution cells a.now a.now g) }
     ensures spread { IfOk result (λ g. spread g ≤ convolution_spread (2 ^ B) cells (spread a.now) (spread a.now)) }
 {
-    let (lows, highs) = sums_of_ends(alloc, work, a, a, true, cells)?;
+    let (lows, highs) = sums_of_ends(alloc, work, once(a), once(a), true, cells)?;
     Ok(grid_of_sums(a, a, lows, highs))
 }

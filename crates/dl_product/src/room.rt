@@ -1,44 +1,47 @@
 //! Working memory and tables of products.
 
-ghost use Rattle.std.specs.Option.{ForSome};
-ghost use Rattle.dl_transform.specs.Setup.{IsSetup};
+ghost use Rattle.std.specs.Prelude.{◌≡◌, ℕ, ◌+◌, ◌^◌, ◌<◌, ◌≤◌, true, length, get_or, IfOk};
+ghost use Rattle.dl_transform.specs.Ends.{low_sum, high_sum, AreWords};
+ghost use Rattle.dl_product.specs.Factors.{AreFactors, AreWordCells, IsProduct};
 
+use crate::kept::Listed;
 use crate::lists::Factors;
-use dl_transform::{Buffers, Ends, Setup, checked_ends, checked_product, checked_square, set_up};
+use crate::tables::Tables;
+use dl_transform::{Buffers, Ends, checked_ends, checked_product, checked_square, set_up};
 use std::alloc::{AllocError, Global};
 
-/// Room and tables for products. A new one takes no memory: what a product needs is taken at the
-/// first product that needs it, and kept for those after it.
+/// Room and tables for products, and the transforms of factors that come again. A new one takes no
+/// memory: what a product needs is taken at the first product that needs it, and kept for those
+/// after it.
 #[derive(Drop)]
 pub struct Workspace {
-    setup: Option<Setup>,
+    tables: Option<Tables>,
     buffers: Buffers,
-    ghost right: { ForSome setup (λ s. IsSetup s) },
 }
 
 impl Workspace {
-    ghost use Rattle.std.specs.Prelude.{◌≡◌, ℕ, ◌<◌, true, length, get_or, IfOk};
-    ghost use Rattle.dl_transform.specs.Ends.{low_sum, high_sum};
-    ghost use Rattle.dl_product.specs.Factors.{AreFactors, AreWordCells, IsProduct};
-
     /// A workspace with no room and no tables yet. It takes no memory.
     pub fn new(alloc: Global) -> Self {
         Workspace {
-            setup: None,
+            tables: None,
             buffers: Buffers::new(alloc),
         }
     }
 
-    /// Makes the tables for transforms of `2^levels` items, unless there are some for as many.
+    /// Makes the tables for transforms of `2^levels` items, unless there are some for as many. Values
+    /// by tables that were there before are not kept.
     fn prepare(&mut self, alloc: Global, levels: u32) -> Result<(), AllocError>
         requires { levels < 40 }
     {
-        if let Some(setup) = &self.setup {
-            if setup.levels() >= levels {
+        if let Some(tables) = &self.tables {
+            if tables.setup.levels() >= levels {
                 return Ok(());
             }
         }
-        self.setup = set_up(alloc, levels)?;
+        self.tables = match set_up(alloc, levels)? {
+            Some(setup) => Some(Tables::new(alloc, setup)),
+            None => None,
+        };
         Ok(())
     }
 
@@ -58,9 +61,10 @@ impl Workspace {
             → IsProduct factors.entry.a.now factors.entry.b.now (length out.old) out.new) }
     {
         self.prepare(alloc, levels)?;
-        let Some(setup) = &self.setup else {
+        let Some(tables) = &self.tables else {
             return Ok(false);
         };
+        let setup = &tables.setup;
         if factors.is_square {
             return checked_square(alloc, factors.a, setup, &mut self.buffers, out);
         }
@@ -90,19 +94,50 @@ impl Workspace {
             b.entry.lows.now b.entry.widths.now s) }
     {
         self.prepare(alloc, levels)?;
-        match &self.setup {
-            Some(setup) => {
+        match &self.tables {
+            Some(tables) => {
                 checked_ends(
                     alloc,
                     a,
                     b,
                     is_square,
-                    setup,
+                    &tables.setup,
                     &mut self.buffers,
                     lows,
                     highs,
                 )
             }
+            None => Ok(false),
+        }
+    }
+
+    /// The same of two lists that are not one, from the values that are kept of those that come again.
+    pub(crate) fn kept_ends(
+        &mut self,
+        alloc: Global,
+        a: Listed<'_>,
+        b: Listed<'_>,
+        levels: u32,
+        lows: &mut [u128],
+        highs: &mut [u128],
+    ) -> Result<bool, AllocError>
+        requires levels { levels < 40 }
+        requires room { length a.ends.lows.now + length b.ends.lows.now ≤ 2 ^ levels }
+        requires first { AreWords a.ends.lows.now a.ends.widths.now }
+        requires second { AreWords b.ends.lows.now b.ends.widths.now }
+        requires paired { length highs.old ≡ length lows.old }
+        ensures low { IfOk result (λ found. found ≡ true → (s : ℕ) → s < length lows.old
+            → get_or lows.new s 0 ≡ low_sum a.entry.ends.lows.now b.entry.ends.lows.now s) }
+        ensures high { IfOk result (λ found. found ≡ true → (s : ℕ) → s < length lows.old
+            → get_or highs.new s 0 ≡ high_sum a.entry.ends.lows.now a.entry.ends.widths.now
+            b.entry.ends.lows.now b.entry.ends.widths.now s) }
+    {
+        if !a.comes_again && !b.comes_again {
+            return self.ends(alloc, a.ends, b.ends, false, levels, lows, highs);
+        }
+        self.prepare(alloc, levels)?;
+        match &mut self.tables {
+            Some(tables) => tables.ends(alloc, a, b, levels, &mut self.buffers, lows, highs),
             None => Ok(false),
         }
     }

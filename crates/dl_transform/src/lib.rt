@@ -8,6 +8,7 @@
 //! remainders after Garner.
 #![tactic(auto)]
 
+mod cell_values;
 mod checks;
 mod combined;
 mod constants;
@@ -17,6 +18,7 @@ mod modular;
 mod passes;
 mod tables;
 
+pub use cell_values::{CellValues, values_of_ends};
 pub use combined::{Buffers, Setup, checked_product, checked_square, levels_for};
 pub use constants::set_up;
-pub use ends::{Ends, checked_ends};
+pub use ends::{Ends, Transformed, checked_ends, checked_values};

@@ -1,14 +1,16 @@
 //! Products of polynomials modulo `p`, by their values.
 
 ghost use Rattle.std.specs.Prelude.{◌≡◌, ℕ, ◌+◌, ◌*◌, ◌/◌, ◌^◌, ◌<◌, ◌≤◌};
-ghost use Rattle.std.specs.Prelude.{true, length, slice_index};
+ghost use Rattle.std.specs.Prelude.{true, List, length, slice_index, IfOk};
 ghost use Rattle.dl_transform.specs.Table.{value_at};
-ghost use Rattle.dl_transform.specs.Lists.{AreBelow, AreItems, AreOver, AreValues, IsTableFor};
+ghost use Rattle.dl_transform.specs.Lists.{AreBelow, AreItems, AreOver, AreValues, AreValuesFor, IsTableFor};
 ghost use Rattle.dl_transform.specs.Ends.{low_sum, mixed_sum, AreWords};
 
+use crate::combined::cells_of;
 use crate::ends::Pair;
 use crate::passes::{add_ends, load, mix_all, multiply_all, square_all, to_items, to_values};
 use crate::tables::Table;
+use std::alloc::{AllocError, Global};
 
 /// The values of the polynomial `a` at all lowest nodes, where the upper half of its items is
 /// zeros: then both halves begin alike.
@@ -46,6 +48,23 @@ fn values_of(x: &mut [u64], a: &[u128], table: &Table, levels: u32)
     to_values(x, 0, table, levels);
 }
 
+/// The same values, in a list of their own.
+pub(crate) fn new_values(
+    alloc: Global,
+    a: &[u128],
+    table: &Table,
+    levels: u32,
+) -> Result<Vec<u64>, AllocError>
+    requires table { IsTableFor table.now levels }
+    requires room { length a.now ≤ 2 ^ levels }
+    requires items { AreBelow (2 ^ 64) a.now }
+    ensures { IfOk result (λ v. AreValuesFor table.now levels a.now v.items) }
+{
+    let mut values = Vec::from_elem(alloc, 0u64, cells_of(levels))?;
+    values_of(values.as_mut_slice(), a, table, levels);
+    Ok(values)
+}
+
 /// The polynomial whose values at the lowest nodes are those in `x` times `2^64`, where its scale is
 /// still to come.
 fn items_of(x: &mut [u64], table: &Table, levels: u32)
@@ -58,6 +77,63 @@ fn items_of(x: &mut [u64], table: &Table, levels: u32)
         → AreItems table.now levels f x.new }
 {
     to_items(x, 0, table, levels);
+}
+
+/// The product of two lists modulo `p` before its scale, in the place of the values `x` of the first;
+/// `y` are those of the second.
+pub(crate) fn product_of_values(x: &mut [u64], y: &[u64], table: &Table, levels: u32)
+    requires table { IsTableFor table.now levels }
+    requires size { length x.old ≡ 2 ^ levels }
+    requires alike { length y.now ≡ length x.old }
+    requires first_small { AreBelow (4 * table.now.p) x.old }
+    requires second_small { AreBelow (4 * table.now.p) y.now }
+    ensures small { AreBelow (2 * table.now.p) x.new }
+    ensures same { (a b : List ℕ) → length a + length b ≤ 2 ^ levels
+        → AreValues table.now levels (λ i. slice_index a i) x.old
+        → AreValues table.now levels (λ j. slice_index b j) y.now
+        → AreItems table.now levels (low_sum a b) x.new }
+{
+    multiply_all(x, y, table.minus_inverse, table.p);
+    items_of(x, table, levels);
+}
+
+/// The product of the low ends of two lists modulo `p`, in the place of the values `x` of the first,
+/// and what that of their high ends has beyond it, in the place of the values `u` of its widths, both
+/// before their scale; `y` and `v` are the values of the low ends and widths of the second list.
+pub(crate) fn ends_of_values(
+    x: &mut [u64],
+    y: &[u64],
+    u: &mut [u64],
+    v: &[u64],
+    table: &Table,
+    levels: u32,
+)
+    requires table { IsTableFor table.now levels }
+    requires size { length x.old ≡ 2 ^ levels }
+    requires second_alike { length y.now ≡ length x.old }
+    requires widths_alike { length u.old ≡ length x.old }
+    requires second_widths_alike { length v.now ≡ length x.old }
+    requires first_small { AreBelow (4 * table.now.p) x.old }
+    requires second_small { AreBelow (4 * table.now.p) y.now }
+    requires widths_small { AreBelow (4 * table.now.p) u.old }
+    requires second_widths_small { AreBelow (4 * table.now.p) v.now }
+    ensures small { AreBelow (2 * table.now.p) x.new }
+    ensures same { (a b : List ℕ) → length a + length b ≤ 2 ^ levels
+        → AreValues table.now levels (λ i. slice_index a i) x.old
+        → AreValues table.now levels (λ j. slice_index b j) y.now
+        → AreItems table.now levels (low_sum a b) x.new }
+    ensures mixed_small { AreBelow (2 * table.now.p) u.new }
+    ensures mixed { (a w b z : List ℕ) → length a + length b ≤ 2 ^ levels
+        → length w ≡ length a → length z ≡ length b
+        → AreValues table.now levels (λ i. slice_index a i) x.old
+        → AreValues table.now levels (λ i. slice_index w i) u.old
+        → AreValues table.now levels (λ j. slice_index b j) y.now
+        → AreValues table.now levels (λ j. slice_index z j) v.now
+        → AreItems table.now levels (mixed_sum a w b z) u.new }
+{
+    mix_all(x, y, u, v, table.minus_inverse, table.p);
+    items_of(u, table, levels);
+    product_of_values(x, y, table, levels);
 }
 
 /// The product of two lists modulo `p` before its scale, with `y` for what is needed on the way.
@@ -88,8 +164,7 @@ pub(crate) fn product_modulo(
         return;
     }
     values_of(y, b, table, levels);
-    multiply_all(x, y, table.minus_inverse, table.p);
-    items_of(x, table, levels);
+    product_of_values(x, y, table, levels);
 }
 
 /// The product of the low ends of two lists modulo `p`, in `x`, and in `u` what that of their high
@@ -134,8 +209,5 @@ pub(crate) fn ends_modulo(
     }
     values_of(y, pair.b.lows, table, levels);
     values_of(v, pair.b.widths, table, levels);
-    mix_all(x, y, u, v, table.minus_inverse, table.p);
-    multiply_all(x, y, table.minus_inverse, table.p);
-    items_of(u, table, levels);
-    items_of(x, table, levels);
+    ends_of_values(x, y, u, v, table, levels);
 }

@@ -6,7 +6,7 @@ use crate::tests::helpers::{are_same, empty, is_so, most_cells, part};
 use dl_conv::convolve_plain;
 use dl_grid::{Grid, units_of_one};
 use dl_iv::Iv;
-use dl_product::{Workspace, product, square};
+use dl_product::{Factor, Workspace, product, product_of, square};
 use std::alloc::{AllocError, Global};
 
 /// The ends of a cell, as parts of 1.
@@ -331,4 +331,104 @@ fn longest_grids(rt: HostRuntime) {
     let alloc = rt.alloc();
     let mut work = Workspace::new(alloc);
     assert!(rt; is_so(has_long_sums(alloc, &mut work)));
+}
+
+/// Whether the product of a grid with one of a shape has the cells of the plain convolution, where
+/// both come again.
+fn kept_agrees(
+    alloc: Global,
+    work: &mut Workspace,
+    a: &Grid<56>,
+    shape: Shape,
+) -> Result<bool, AllocError> {
+    let cells = a.cells();
+    let Some(b) = shaped::<56>(alloc, cells, shape)? else {
+        return Ok(false);
+    };
+    if cells == 0 || b.cells() != cells {
+        return Ok(false);
+    }
+    let first = Factor {
+        grid: a,
+        comes_again: true,
+    };
+    let second = Factor {
+        grid: &b,
+        comes_again: true,
+    };
+    let found = product_of(alloc, work, first, second, cells)?;
+    let wanted = convolve_plain(alloc, a, &b, cells)?;
+    Ok(are_same(&found, &wanted))
+}
+
+/// Whether the products of a grid of a shape with those of others have them.
+fn all_kept_agree(
+    alloc: Global,
+    work: &mut Workspace,
+    shape: Shape,
+    partners: &[Shape],
+) -> Result<bool, AllocError> {
+    let Some(a) = shaped::<56>(alloc, 700, shape)? else {
+        return Ok(false);
+    };
+    let mut good = true;
+    for partner in partners {
+        good = kept_agrees(alloc, work, &a, *partner)? && good;
+    }
+    Ok(good)
+}
+
+#[test]
+fn factors_that_come_again(rt: HostRuntime) {
+    // as long as the grid, shorter, so that the transforms are, the first once more, and wide cells
+    let partners = [
+        alike(Ends::Part(700), 0, 700),
+        alike(Ends::Part(650), 50, 650),
+        alike(Ends::Part(300), 0, 300),
+        alike(Ends::Part(700), 0, 700),
+        alike(Ends::Unknown, 0, 300),
+    ];
+    let factors = [
+        alike(Ends::Part(700), 0, 700),
+        alike(Ends::Part(700), 0, 600),
+        alike(Ends::Part(701), 0, 600),
+        alike(Ends::Part(700), 60, 600),
+    ];
+    let alloc = rt.alloc();
+    let mut work = Workspace::new(alloc);
+    for factor in &factors {
+        assert!(rt; is_so(all_kept_agree(alloc, &mut work, *factor, &partners)));
+    }
+}
+
+/// Whether there was a product of a grid of a shape with itself, as two factors that come again.
+fn is_kept_twice(alloc: Global, work: &mut Workspace, shape: Shape) -> Result<bool, AllocError> {
+    let Some(a) = shaped::<56>(alloc, 700, shape)? else {
+        return Ok(false);
+    };
+    if a.cells() != 700 {
+        return Ok(false);
+    }
+    let factor = Factor {
+        grid: &a,
+        comes_again: true,
+    };
+    let found = product_of(alloc, work, factor, factor, 700)?;
+    Ok(found.cells() == 700)
+}
+
+#[test]
+fn more_factors_than_are_kept(rt: HostRuntime) {
+    let partners = [alike(Ends::Part(300), 0, 300)];
+    let alloc = rt.alloc();
+    let mut work = Workspace::new(alloc);
+    for k in 0..260u32 {
+        let factor = alike(Ends::Part(700 + k), 0, 400);
+        assert!(rt; is_so(is_kept_twice(alloc, &mut work, factor)));
+    }
+    // the first has left, the last one is there
+    let first = alike(Ends::Part(700), 0, 400);
+    let last = alike(Ends::Part(959), 0, 400);
+    assert!(rt; is_so(all_kept_agree(alloc, &mut work, first, &partners)));
+    assert!(rt; is_so(all_kept_agree(alloc, &mut work, last, &partners)));
 }

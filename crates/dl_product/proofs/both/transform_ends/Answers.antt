@@ -22,16 +22,15 @@ returns-then-pair-clause-high c =
     ∙ ends_sum c.args.pair.a.lows.now c.as_slice.result.now c.args.pair.a.highs.now c.args.pair.a.lows.now
     c.as_slice.result.now c.args.pair.a.highs.now s is is)) c.ends.ensures.high c.ends.ensures.high
 
-pub ends-requires-2-clause-words : goal.ends-requires-2-clause-words
-ends-requires-2-clause-words c =
-    rw (c.as_slice.ensures.value, c.as_slice-2.ensures.value) (record {
-      first = words_of c.args.pair.a.lows.now _ c.args.pair.a.highs.now c.requires.cells.first
-          c.in_ok-widths.ensures.alike c.in_ok-widths.ensures.each (first_word c.requires.cells.highs.fits);
-      second = words_of c.args.pair.b.lows.now _ c.args.pair.b.highs.now c.requires.cells.second
-          c.in_ok-others.ensures.alike c.in_ok-others.ensures.each (second_word c.requires.cells.highs.fits);
-      square = λ no. cc;
-      square_widths = λ no. cc;
-    })
+pub kept_ends-requires-clause-first : goal.kept_ends-requires-clause-first
+kept_ends-requires-clause-first c =
+    rw c.as_slice.ensures.value (words_of c.args.pair.a.lows.now _ c.args.pair.a.highs.now c.requires.cells.first
+    c.in_ok-widths.ensures.alike c.in_ok-widths.ensures.each (first_word c.requires.cells.highs.fits))
+
+pub kept_ends-requires-clause-second : goal.kept_ends-requires-clause-second
+kept_ends-requires-clause-second c =
+    rw c.as_slice-2.ensures.value (words_of c.args.pair.b.lows.now _ c.args.pair.b.highs.now c.requires.cells.second
+    c.in_ok-others.ensures.alike c.in_ok-others.ensures.each (second_word c.requires.cells.highs.fits))
 
 pub returns-clause-high : goal.returns-clause-high
 returns-clause-high c =
@@ -39,7 +38,7 @@ returns-clause-high c =
     rw c.as_slice.ensures.value c.in_ok-widths.ensures.each in
     let others : AreWidths c.args.pair.b.lows.now c.as_slice-2.result.now c.args.pair.b.highs.now =
     rw c.as_slice-2.ensures.value c.in_ok-others.ensures.each in
-    if_ok_two c.ends-2.result _ _ _
+    if_ok_two c.kept_ends.result _ _ _
     (λ _ each _ yes s b. each yes s b
     ∙ ends_sum c.args.pair.a.lows.now c.as_slice.result.now c.args.pair.a.highs.now c.args.pair.b.lows.now
-    c.as_slice-2.result.now c.args.pair.b.highs.now s is others) c.ends-2.ensures.high c.ends-2.ensures.high
+    c.as_slice-2.result.now c.args.pair.b.highs.now s is others) c.kept_ends.ensures.high c.kept_ends.ensures.high

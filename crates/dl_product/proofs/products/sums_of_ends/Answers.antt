@@ -5,7 +5,7 @@ use Rattle.dl_grid.proofs.Room.{size_few}
 use Rattle.dl_product.proofs.products.sums_of_ends.Goals as goal
 
 pub width_limit-requires : goal.width_limit-requires
-width_limit-requires g c = (scale_of c.args.a.now c.cells_of-first.ensures.grid.some).1
+width_limit-requires g c = (scale_of c.args.a.grid.now c.cells_of-first.ensures.grid.some).1
 
 pub both_sums-requires : goal.both_sums-requires
 both_sums-requires g c = record {
@@ -14,10 +14,10 @@ both_sums-requires g c = record {
   square = λ same. c.cells_of-second.ensures.lows ∙ ap low_ends (c.requires.square same)
       ∙ sym c.cells_of-first.ensures.lows;
   highs = record {
-    fits = ends_fit c.args.a.now _ _ _ c.cells_of-first.ensures.grid c.requires.some c.requires.in_first
+    fits = ends_fit c.args.a.grid.now _ _ _ c.cells_of-first.ensures.grid c.requires.some c.requires.in_first
         c.cells_of-first.ensures.high_small c.cells_of-second.ensures.high_small;
-    first_few = omega (arith, size_few (size_of c.args.a.now c.cells_of-first.ensures.grid), c.cells_of-first.ensures.cells);
-    second_few = omega (arith, size_few (size_of c.args.b.now c.cells_of-second.ensures.grid), c.cells_of-second.ensures.cells);
+    first_few = omega (arith, size_few (size_of c.args.a.grid.now c.cells_of-first.ensures.grid), c.cells_of-first.ensures.cells);
+    second_few = omega (arith, size_few (size_of c.args.b.grid.now c.cells_of-second.ensures.grid), c.cells_of-second.ensures.cells);
     square = λ same. c.cells_of-second.ensures.highs ∙ ap high_ends (c.requires.square same)
         ∙ sym c.cells_of-first.ensures.highs;
   };

@@ -1,50 +1,35 @@
 use Rattle.dl_transform.proofs.Common.{◌≡◌, ◌+◌, ◌^◌, ◌<◌, ◌∙◌, ap, arith, get_or, sym}
 use Rattle.dl_transform.specs.Ends.{low_sum, mixed_sum}
-use Rattle.dl_transform.proofs.Wholes.{table_for, word_at}
 use Rattle.dl_transform.proofs.Widths.{high_is}
 use Rattle.dl_transform.proofs.ends.both_products.Goals as goal
 
-pub ends_modulo-requires-clause-table : goal.ends_modulo-requires-clause-table
-ends_modulo-requires-clause-table c =
-    table_for c.levels_for-levels.ensures.within c.requires.setup.first c.requires.setup.in_first c.requires.setup.first_room
-
-pub product_modulo-requires-clause-table : goal.product_modulo-requires-clause-table
-product_modulo-requires-clause-table c =
-    table_for c.levels_for-levels.ensures.within c.requires.setup.second c.requires.setup.in_second c.requires.setup.second_room
-
-pub product_modulo-requires-clause-first : goal.product_modulo-requires-clause-first
-product_modulo-requires-clause-first c = word_at c.args.pair.a.lows.now c.requires.first.low
-
-pub product_modulo-requires-clause-second : goal.product_modulo-requires-clause-second
-product_modulo-requires-clause-second c = word_at c.args.pair.b.lows.now c.requires.second.low
-
 pub add_mixed-requires-clause-small : goal.add_mixed-requires-clause-small
 add_mixed-requires-clause-small c s b =
-    let inside : s < 2 ^ c.levels_for-levels.result =
-    omega (arith, b, c.requires.within, c.requires.paired, c.levels_for-levels.ensures.room) in
+    let inside : s < 2 ^ c.args.levels =
+    omega (arith, b, c.requires.within, c.requires.paired, c.requires.room) in
     let low = low_sum c.args.pair.a.lows.now c.args.pair.b.lows.now s in
     let is : get_or c.combine_all.new.out s 0 ≡ low =
     c.combine_all.ensures s (omega (arith, b, c.requires.paired)) low (c.requires.sums s)
-    (c.ends_modulo.ensures.same s inside) (c.product_modulo.ensures.same s inside) in
+    (c.products_modulo.ensures.first s inside) (c.products_modulo.ensures.second s inside) in
     rw is (c.requires.sums s)
 
 pub returns-clause-low : goal.returns-clause-low
 returns-clause-low c s b =
-    let inside : s < 2 ^ c.levels_for-levels.result =
-    omega (arith, b, c.requires.within, c.levels_for-levels.ensures.room) in
+    let inside : s < 2 ^ c.args.levels =
+    omega (arith, b, c.requires.within, c.requires.room) in
     c.combine_all.ensures s b _ (c.requires.sums s)
-    (c.ends_modulo.ensures.same s inside) (c.product_modulo.ensures.same s inside)
+    (c.products_modulo.ensures.first s inside) (c.products_modulo.ensures.second s inside)
 
 pub returns-clause-high : goal.returns-clause-high
 returns-clause-high c s b =
-    let inside : s < 2 ^ c.levels_for-levels.result =
-    omega (arith, b, c.requires.within, c.levels_for-levels.ensures.room) in
+    let inside : s < 2 ^ c.args.levels =
+    omega (arith, b, c.requires.within, c.requires.room) in
     let low = low_sum c.args.pair.a.lows.now c.args.pair.b.lows.now s in
     let mixed = mixed_sum c.args.pair.a.lows.now c.args.pair.a.widths.now c.args.pair.b.lows.now c.args.pair.b.widths.now s in
     let is : get_or c.combine_all.new.out s 0 ≡ low =
     c.combine_all.ensures s b low (c.requires.sums s)
-    (c.ends_modulo.ensures.same s inside) (c.product_modulo.ensures.same s inside) in
+    (c.products_modulo.ensures.first s inside) (c.products_modulo.ensures.second s inside) in
     c.add_mixed.ensures s (omega (arith, b, c.requires.paired)) mixed (c.requires.mixed s)
-    (c.ends_modulo.ensures.mixed s inside)
+    (c.products_modulo.ensures.mixed s inside)
     ∙ ap (λ t. t + mixed) is
     ∙ sym (high_is c.args.pair.a.lows.now c.args.pair.a.widths.now c.args.pair.b.lows.now c.args.pair.b.widths.now s)

@@ -23,15 +23,11 @@ returns-then-pair-clause-mixed c =
 
 pub returns-clause-same : goal.returns-clause-same
 returns-clause-same c =
-    c.items_of-3.ensures.items (low_sum c.args.pair.a.lows.now c.args.pair.b.lows.now)
-    (product_over c.args.table.now c.args.levels _ c.args.pair.a.lows.now c.args.pair.b.lows.now _ _ _ (omega arith)
-    c.requires.room c.values_of.ensures.values c.values_of-3.ensures.values c.multiply_all-2.ensures.same)
+    c.ends_of_values.ensures.same c.args.pair.a.lows.now c.args.pair.b.lows.now c.requires.room
+    c.values_of.ensures.values c.values_of-3.ensures.values
 
 pub returns-clause-mixed : goal.returns-clause-mixed
 returns-clause-mixed c =
-    c.items_of-2.ensures.items
-    (mixed_sum c.args.pair.a.lows.now c.args.pair.a.widths.now c.args.pair.b.lows.now c.args.pair.b.widths.now)
-    (mixed_over c.args.table.now c.args.levels _ c.args.pair.a.lows.now c.args.pair.a.widths.now c.args.pair.b.lows.now
-    c.args.pair.b.widths.now _ _ _ _ _ (omega arith) c.requires.room c.requires.first.alike c.requires.second.alike
+    c.ends_of_values.ensures.mixed c.args.pair.a.lows.now c.args.pair.a.widths.now c.args.pair.b.lows.now
+    c.args.pair.b.widths.now c.requires.room c.requires.first.alike c.requires.second.alike
     c.values_of.ensures.values c.values_of-2.ensures.values c.values_of-3.ensures.values c.values_of-4.ensures.values
-    c.mix_all.ensures.same)

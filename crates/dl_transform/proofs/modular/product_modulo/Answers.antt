@@ -12,6 +12,5 @@ returns-then-is_square-clause-same c =
 
 pub returns-clause-same : goal.returns-clause-same
 returns-clause-same c =
-    c.items_of-2.ensures.items (low_sum c.args.a.now c.args.b.now)
-    (product_over c.args.table.now c.args.levels _ c.args.a.now c.args.b.now _ _ _ (omega arith) c.requires.room
-    c.values_of.ensures.values c.values_of-2.ensures.values c.multiply_all.ensures.same)
+    c.product_of_values.ensures.same c.args.a.now c.args.b.now c.requires.room c.values_of.ensures.values
+    c.values_of-2.ensures.values
