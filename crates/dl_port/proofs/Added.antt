@@ -90,6 +90,16 @@ widens {B} grids k i x y z b inside is h before =
           (spread b) (spread b) (pow_pos B) (omega arith) before (omega arith),
     ))
 
+-- the grid at place i is taken in
+pub one_wider : {B : ℕ} (grids : List (List (Iv B))) (k i x y z : ℕ) (b : List (Iv B)) → i < length grids
+    → b ≡ get_or grids i b
+    → y ≡ convolution_spread (2 ^ B) k x (spread b) → x ≡ fold (convolution_spread (2 ^ B) k) z (take i (map spread grids))
+    → y ≡ fold (convolution_spread (2 ^ B) k) z (take (i + 1) (map spread grids))
+one_wider {B} grids k i x y z b inside is h before =
+    let more = fold_more (convolution_spread (2 ^ B) k) z (map spread grids) i 0 (rw length-map inside) in
+    let here : get_or (map spread grids) i 0 ≡ spread b = get_or-map spread grids i b 0 inside ∙ sym (ap spread is) in
+    rw (more, here) (h ∙ ap (λ t. convolution_spread (2 ^ B) k t (spread b)) before)
+
 -- the grid at a place encloses the unit there
 pub encloses_at : {B : ℕ} (grids : List (List (Iv B))) (us : List Loss) (i : ℕ) (g : List (Iv B))
     → EncloseEach grids us → i < length grids

@@ -71,12 +71,12 @@ pub passed_less : (tests : List (ℕ → Bool)) (j i : ℕ) → j < length tests
     → passed (remove tests j) i + counts i (get_or tests j no_choice) ≡ passed tests i
 passed_less tests j i inside = sum_by-remove (counts i) tests j no_choice inside
 
-not_both : (b d : Bool) → cond b 1 0 + cond d 1 0 ≤ 1 → (b && d) ≡ false
+pub not_both : (b d : Bool) → cond b 1 0 + cond d 1 0 ≤ 1 → (b && d) ≡ false
 not_both true true h = absurd (omega (arith, h))
 not_both true false h = refl
 not_both false d h = refl
 
-either : (b d : Bool) → (b && d) ≡ false → cond (b || d) 1 0 ≡ cond b 1 0 + cond d 1 0
+pub either : (b d : Bool) → (b && d) ≡ false → cond (b || d) 1 0 ≡ cond b 1 0 + cond d 1 0
 either true true e = absurd (cc)
 either true false e = refl
 either false true e = refl

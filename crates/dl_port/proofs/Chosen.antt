@@ -108,9 +108,10 @@ taken u us p e = ap (λ b. cond b (u ∷ chosen us (λ i. p (suc i))) (chosen us
 left : (u : Loss) (us : List Loss) (p : ℕ → Bool) → p zero ≡ false → chosen (u ∷ us) p ≡ chosen us (λ i. p (suc i))
 left u us p e = ap (λ b. cond b (u ∷ chosen us (λ i. p (suc i))) (chosen us (λ i. p (suc i)))) e
 
-pub none_chosen : (us : List Loss) (p : ℕ → Bool) → ((i : ℕ) → p i ≡ false) → chosen us p ≡ []
+pub none_chosen : (us : List Loss) (p : ℕ → Bool) → ((i : ℕ) → i < length us → p i ≡ false) → chosen us p ≡ []
 none_chosen [] p h = refl
-none_chosen (u ∷ us) p h = left u us p (h zero) ∙ none_chosen us (λ i. p (suc i)) (λ i. h (suc i))
+none_chosen (u ∷ us) p h = left u us p (h zero (omega arith))
+    ∙ none_chosen us (λ i. p (suc i)) (λ i inside. h (suc i) (omega (arith, inside)))
 
 -- the unit at a place
 pub one_chosen : (us : List Loss) (i : ℕ) → i < length us → AreDeclarable us
@@ -119,7 +120,7 @@ one_chosen [] i h w = absurd (omega (arith, h))
 one_chosen (u ∷ us) zero h w = (
   u,
   taken u us (nat_eq zero) (eq-eqb 0 0 refl)
-      ∙ ap (λ vs. u ∷ vs) (none_chosen us (λ i. nat_eq zero (suc i)) (λ i. ne_eqb zero (suc i) (λ e. omega (arith, e)))),
+      ∙ ap (λ vs. u ∷ vs) (none_chosen us (λ i. nat_eq zero (suc i)) (λ i inside. ne_eqb zero (suc i) (λ e. omega (arith, e)))),
   refl,
   w.0,
 )

@@ -1,5 +1,5 @@
 -- The names that the proofs of this crate cite most, passed on from one place. Declares nothing.
-pub use Rattle.dl_port.specs.Shared.{AreSumsOfEnds, EnclosesSum, IsSumOfPart, IsSumWithout, IsTotal}
+pub use Rattle.dl_port.specs.Shared.{EnclosesSum, IsSumOfPart, IsSumWithout, IsTotal}
 pub use Rattle.dl_port.specs.Sums.{EncloseEach}
 pub use Rattle.dl_model.proofs.Without.{without_suc}
 pub use Rattle.dl_model.specs.Family.{GridEncloses}

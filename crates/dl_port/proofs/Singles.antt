@@ -65,7 +65,7 @@ module _ {B : ℕ} (k : ℕ) (grids : List (List (Iv B))) (tests : List (ℕ →
   pub none_but : length tests ≡ 0 → IsSumOfPart k grids (λ us. without us skip) None
   none_but e = record {
     cells = tt;
-    encloses = λ us w h. sym (picked us h) ∙ none_chosen us (in_some tests) (none_in tests e);
+    encloses = λ us w h. sym (picked us h) ∙ none_chosen us (in_some tests) (λ i inside. none_in tests e i);
   }
     where
       none_in : (tests : List (ℕ → Bool)) → length tests ≡ 0 → (i : ℕ) → in_some tests i ≡ false

@@ -1,3 +1,4 @@
 pub mod Sums
 pub mod Shared
 pub mod Chosen
+pub mod Tree

@@ -1,5 +1,5 @@
 -- The sum of all units, and those of all units but one.
-use Rattle.std.specs.Prelude.{All, ℕ, suc, ◌≡◌, ◌+◌, ◌-◌, ◌^◌, ◌<◌, ◌≤◌, ◌↔◌, Bool, false, IsTrue, Option, Some, None, IsSome, IfSome, List, [], length, map, drop, get_or}
+use Rattle.std.specs.Prelude.{All, ℕ, ◌≡◌, ◌^◌, ◌<◌, ◌≤◌, ◌↔◌, Bool, false, IsTrue, Option, Some, None, IsSome, IfSome, List, [], length, map, get_or}
 use Rattle.std.specs.List.{remove}
 use Rattle.dl_iv.specs.declared.interval.Iv.{Iv}
 use Rattle.dl_grid.specs.Prelude.{spread, sum_spread}
@@ -59,23 +59,3 @@ pub record IsSumOfPart {B : ℕ} (k : ℕ) (grids : List (List (Iv B)))
   pub cells : IfSome sum (λ g. length g ≡ k)
   pub encloses : (us : List Loss) → AreDeclarable us → EncloseEach grids us
       → EnclosesSum sum (part us)
-
--- at each place j the sum of the last j + 1 units
-abbrev pub AreSumsOfEnds : {B : ℕ} → ℕ → List (List (Iv B)) → List (List (Iv B)) → Type 0
-AreSumsOfEnds k grids ends = (j : ℕ) → j < length ends
-    → IsSumOfPart k grids (drop (length grids - suc j)) (Some (get_or ends j []))
-
--- the sums of the last unit, of the last two, and so on up to all but the first
-pub record AreSuffixSums {B : ℕ} (k : ℕ) (grids ends : List (List (Iv B))) : Type 0 where
-  pub as_many : length ends + 1 ≡ length grids
-  pub each : AreSumsOfEnds k grids ends
-
--- the sums without each of the first units, where they are asked for, and the sums of the units
--- after them that are left
-pub record AreFirstWithout {B : ℕ} (k : ℕ) (grids : List (List (Iv B))) (asked : List Bool)
-    (sums : List (Option (List (Iv B)))) (rests : List (List (Iv B))) : Type 0 where
-  pub there : (i : ℕ) → i < length sums → IsSome (get_or sums i None)
-      ↔ IsTrue (get_or asked i false)
-  pub each : (i : ℕ) → i < length sums → IfSome (get_or sums i None) (IsSumWithout k grids i)
-  pub left : length rests ≡ length grids - suc (length sums)
-  pub ends : AreSumsOfEnds k grids rests

@@ -12,6 +12,7 @@ mod only;
 mod runs;
 mod shared;
 mod shortest;
+mod tree;
 mod widths;
 
 ghost use Rattle.std.specs.Prelude.{◌≡◌, ℕ, ◌^◌, ◌<◌, ◌≤◌, List, [], ◌++◌, length, get_or, map, All, IfOk};

@@ -1,18 +1,18 @@
-//! The sum of all units, and those of all units but one, from sums that they share. The sum of all
-//! units but one is one product: of the sum of the units before it, and of the sum of those after
-//! it.
+//! The sum of all units, and those of all units but one, from sums that they share: those of a tree,
+//! or where one unit alone is asked for, that of all other units.
 
-ghost use Rattle.std.specs.Prelude.{◌≡◌, ℕ, ◌+◌, ◌^◌, ◌<◌, ◌≤◌, ◌↔◌, suc, List, [], ◌∷◌, length, ◌++◌, take, drop, get_or, replicate, None, false, IsTrue, IsSome, Any, All, IfOk, OnOk, IfSome};
-ghost use Rattle.std.specs.Option.{option_copied};
+ghost use Rattle.std.specs.Prelude.{◌≡◌, ◌<◌, ◌≤◌, ◌↔◌, [], ◌∷◌, length, replicate, Some, None, false, IsTrue, IsSome, Any, All, IfOk, IfSome};
 ghost use Rattle.dl_limits.specs.Limits.{most_units};
-ghost use Rattle.dl_model.specs.Prelude.{Loss, AreDeclarable, total, GridEncloses};
-ghost use Rattle.dl_port.specs.Shared.{AreUnits, HaveCells, EnclosesSum, IsSumOfPart, AreSuffixSums, IsTotal, IsSumWithout, AreSumsWithout, AreFirstWithout};
+ghost use Rattle.dl_model.specs.Prelude.{without};
+ghost use Rattle.dl_port.specs.Shared.{AreUnits, HaveCells, IsSumOfPart, IsTotal, IsSumWithout, AreSumsWithout};
+ghost use Rattle.dl_port.specs.Tree.{AreOthers};
 
-use crate::only::{only_asked, others_shortest, total_of};
-use crate::widths::spread_without;
-use crate::{no_units, others_with, total_with};
+use crate::only::{only_asked, others_shortest, others_unless_wide, total_of};
+use crate::tree::{nodes_over, outside_units, sum_of_all};
+use crate::widths::spread_of_sum;
+use crate::{sum_one_by_one, total_with};
 use dl_grid::Grid;
-use dl_product::{Workspace, product};
+use dl_product::Workspace;
 use std::alloc::{AllocError, Global};
 
 /// Sums of a program's units.
@@ -24,164 +24,99 @@ pub struct Sums<const B: u32> {
     pub others: Vec<Option<Grid<B>>>,
 }
 
-/// The sum of two sums of units, of which either may have no units. Where both have none, it is
-/// surely 0, on the first cells of the grid `like`.
-fn sum_of_two<const B: u32>(
+/// The sum of all units. Where this one is wider than it may be when the units are taken in one by
+/// one, they are taken in one by one.
+fn total_unless_wide<const B: u32>(
     alloc: Global,
     work: &mut Workspace,
-    before: Option<&Grid<B>>,
-    after: Option<&Grid<B>>,
-    like: &Grid<B>,
+    units: &[Grid<B>],
+    sum: Grid<B>,
     cells: u32,
 ) -> Result<Grid<B>, AllocError>
-    requires some { 1 ≤ cells }
-    requires in_like { cells ≤ length like.now }
-    requires in_before { IfSome (option_copied before) (λ g. cells ≤ length g) }
-    requires in_after { IfSome (option_copied after) (λ g. cells ≤ length g) }
-    ensures cells { IfOk result (λ g. length g ≡ cells) }
-    ensures encloses { IfOk result (λ g. (us vs : List Loss) → AreDeclarable us
-        → AreDeclarable vs
-        → EnclosesSum (option_copied before.entry) us → EnclosesSum (option_copied after.entry) vs
-        → GridEncloses g (total (us ++ vs))) }
+    requires cells { AreUnits cells units.now }
+    requires sum { IsSumOfPart cells units.now (λ us. us) (Some sum) }
+    ensures { IfOk result (IsTotal cells units.now) }
 {
-    match (before, after) {
-        (Some(first), Some(second)) => product(alloc, work, first, second, cells),
-        (Some(sum), None) => Grid::truncate(alloc, sum, cells),
-        (None, Some(sum)) => Grid::truncate(alloc, sum, cells),
-        (None, None) => no_units(alloc, like, cells),
+    if let Some(most) = spread_of_sum(units, cells) {
+        if sum.spread() <= most {
+            return Ok(sum);
+        }
     }
+    sum_one_by_one(alloc, work, units, cells)
 }
 
-/// The sums of the last units: of the last one, of the last two, and so on up to all but the first.
-/// Each comes from the one before by one product.
-fn sums_of_ends<const B: u32>(
+/// The sum of all units but unit `i`, where it is asked for. Where it is not there yet, or wider than
+/// it may be when the others are taken in one by one, they are taken in one by one.
+fn one_where_asked<const B: u32>(
     alloc: Global,
     work: &mut Workspace,
     units: &[Grid<B>],
-    cells: u32,
-) -> Result<Vec<Grid<B>>, AllocError>
-    requires { AreUnits cells units.now }
-    ensures { IfOk result (λ ends. AreSuffixSums cells units.now ends.items) }
-{
-    let mut ends = Vec::new(alloc);
-    for i in (1..units.len()).rev() {
-        let unit = &units[i];
-        let sum = sum_of_two(alloc, work, Some(unit), ends.last(), unit, cells)?;
-        ends.push(sum)?;
-    }
-    Ok(ends)
-}
-
-/// The sum of all units but unit `i`, where it is asked for, from the sum of the units before it
-/// and that of the units after it. Where it comes out wider than it may be when the others are
-/// taken in one by one, they are taken in one by one.
-fn others_where_asked<const B: u32>(
-    alloc: Global,
-    work: &mut Workspace,
-    units: &[Grid<B>],
-    i: u32,
+    i: usize,
     asked: bool,
-    before: Option<&Grid<B>>,
-    after: Option<&Grid<B>>,
+    sum: Option<Grid<B>>,
     cells: u32,
 ) -> Result<Option<Grid<B>>, AllocError>
     requires unit { i < length units.now }
+    requires few { length units.now ≤ most_units }
     requires cells { HaveCells cells units.now }
-    requires before { IsSumOfPart cells units.now (take i) (option_copied before) }
-    requires after { IsSumOfPart cells units.now (drop (suc i)) (option_copied after) }
+    requires sum { IfSome sum (λ g. IsSumOfPart cells units.now (λ us. without us i) (Some g)) }
     ensures there { IfOk result (λ sum. IsSome sum ↔ IsTrue asked) }
     ensures sum { IfOk result (λ sum. IfSome sum (IsSumWithout cells units.now i)) }
 {
     if !asked {
         return Ok(None);
     }
-    let sum = sum_of_two(alloc, work, before, after, &units[i as usize], cells)?;
-    if let Some(most) = spread_without(units, i, cells) {
-        if sum.spread() <= most {
-            return Ok(Some(sum));
-        }
-    }
-    let sum = others_with(alloc, work, units, i, cells)?;
+    let sum = others_unless_wide(alloc, work, units, i, sum, cells)?;
     Ok(Some(sum))
 }
 
-/// The sum of all units but unit `i`, where it is asked for, joins those without each unit before
-/// it, and the sum of the units after it leaves `ends`.
-fn push_without<const B: u32>(
+/// For each unit that is asked for, the sum of all other units, from such sums, of which some may
+/// be wide or not there.
+fn others_where_asked<const B: u32>(
     alloc: Global,
     work: &mut Workspace,
     units: &[Grid<B>],
     asked: &[bool],
-    i: u32,
-    before: Option<&Grid<B>>,
-    ends: &mut Vec<Grid<B>>,
-    others: &mut Vec<Option<Grid<B>>>,
+    sums: Vec<Option<Grid<B>>>,
     cells: u32,
-) -> Result<(), AllocError>
-    requires unit { i < length units.now }
-    requires many { length others.old.items ≡ i }
+) -> Result<Vec<Option<Grid<B>>>, AllocError>
+    requires few { length units.now ≤ most_units }
     requires asked { length asked.now ≡ length units.now }
     requires cells { HaveCells cells units.now }
-    requires before { IsSumOfPart cells units.now (take i) (option_copied before) }
-    requires parts { AreFirstWithout cells units.now asked.now others.old.items ends.old.items }
-    ensures many { OnOk result (length others.new.items ≡ i + 1) }
-    ensures parts { OnOk result (AreFirstWithout cells units.now asked.now
-        others.new.items ends.new.items) }
+    requires many { length sums.items ≡ length units.now }
+    requires each { AreOthers cells units.now sums.items }
+    ensures { IfOk result (λ others. AreSumsWithout cells units.now asked.now others.items) }
 {
-    let after = ends.pop();
-    let asked = asked[i as usize];
-    let sum = others_where_asked(alloc, work, units, i, asked, before, after.as_ref(), cells)?;
-    others.push(sum)?;
-    Ok(())
+    let mut sums = sums;
+    for i in 0..units.len() {
+        let sum = sums[i].take();
+        let other = one_where_asked(alloc, work, units, i, asked[i], sum, cells)?;
+        sums[i] = other;
+    }
+    Ok(sums)
 }
 
 /// The first `cells` cells of the sum of all units, and for each unit that is asked for, of the sum
-/// of all other units, from the sums of the last units.
-fn asked_sums<const B: u32>(
+/// of all other units, from one tree.
+fn sums_by_tree<const B: u32>(
     alloc: Global,
     work: &mut Workspace,
     units: &[Grid<B>],
     asked: &[bool],
-    ends: Vec<Grid<B>>,
     cells: u32,
 ) -> Result<Sums<B>, AllocError>
     requires cells { AreUnits cells units.now }
     requires few { length units.now ≤ most_units }
     requires asked { length asked.now ≡ length units.now }
-    requires ends { AreSuffixSums cells units.now ends.items }
     ensures total { IfOk result (λ sums. IsTotal cells units.now sums.total) }
     ensures others { IfOk result (λ sums.
         AreSumsWithout cells units.now asked.now sums.others.items) }
 {
-    let mut ends = ends;
-    let mut others = Vec::new(alloc);
-    push_without(
-        alloc,
-        work,
-        units,
-        asked,
-        0,
-        None,
-        &mut ends,
-        &mut others,
-        cells,
-    )?;
-    let mut total = Grid::truncate(alloc, &units[0], cells)?;
-    for i in 1..units.len() {
-        let before = Some(&total);
-        push_without(
-            alloc,
-            work,
-            units,
-            asked,
-            i as u32,
-            before,
-            &mut ends,
-            &mut others,
-            cells,
-        )?;
-        total = product(alloc, work, &total, &units[i], cells)?;
-    }
+    let nodes = nodes_over(alloc, work, units, asked, cells)?;
+    let all = sum_of_all(alloc, units, nodes.as_slice(), cells)?;
+    let outer = outside_units(alloc, work, units, asked, nodes, cells)?;
+    let others = others_where_asked(alloc, work, units, asked, outer, cells)?;
+    let total = total_unless_wide(alloc, work, units, all, cells)?;
     Ok(Sums { total, others })
 }
 
@@ -193,7 +128,10 @@ fn some_asked(asked: &[bool]) -> bool
 }
 
 /// For each of `many` units, no sum of the other units.
-fn no_others<const B: u32>(alloc: Global, many: usize) -> Result<Vec<Option<Grid<B>>>, AllocError>
+pub(crate) fn no_others<const B: u32>(
+    alloc: Global,
+    many: usize,
+) -> Result<Vec<Option<Grid<B>>>, AllocError>
     ensures { IfOk result (λ others. others.items ≡ replicate many None) }
 {
     let mut others = Vec::new(alloc);
@@ -233,8 +171,7 @@ pub fn total_and_others<const B: u32>(
         return Ok(Sums { total, others });
     }
     if some_asked(asked) {
-        let ends = sums_of_ends(alloc, work, units, cells)?;
-        return asked_sums(alloc, work, units, asked, ends, cells);
+        return sums_by_tree(alloc, work, units, asked, cells);
     }
     let others = no_others(alloc, units.len())?;
     let total = total_with(alloc, work, units, cells)?;

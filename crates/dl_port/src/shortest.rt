@@ -13,7 +13,7 @@ use dl_product::{Workspace, product};
 use std::alloc::{AllocError, Global};
 
 /// The last cell of a grid that is in use: whose high end is above 0. 0 where none is.
-fn last_used<const B: u32>(grid: &Grid<B>) -> usize {
+pub(crate) fn last_used<const B: u32>(grid: &Grid<B>) -> usize {
     grid.highs().iter().rposition(|high| *high > 0).unwrap_or(0)
 }
 

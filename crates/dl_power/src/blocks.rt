@@ -38,6 +38,7 @@ pub(crate) fn next_power<const B: u32>(
         a: half,
         b: &powers[claims / 2 + 1],
         is_square: false,
+        a_comes_again: false,
     };
     short_product(alloc, work, factors, cells)
 }

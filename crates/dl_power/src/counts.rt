@@ -13,7 +13,7 @@ use crate::widths::spread_of_counts;
 use dl_grid::{Grid, empty_grid, units_of_one};
 use dl_iv::Iv;
 use dl_plan::Item;
-use dl_product::{Workspace, product};
+use dl_product::{Factor, Workspace, product_of};
 use std::alloc::{AllocError, Global};
 
 /// Adds an interval to cell 0, and lowers its high end to 1 where it is above.
@@ -34,7 +34,7 @@ fn add_at_zero<const B: u32>(grid: &mut Grid<B>, more: Iv<B>)
 }
 
 /// One step of Horner's rule: one claim more before each of the counts so far, and the next lower
-/// count's share, which leaves no claim, at 0.
+/// count's share, which leaves no claim, at 0. The base is a factor of each step.
 fn one_claim_more<const B: u32>(
     alloc: Global,
     work: &mut Workspace,
@@ -61,7 +61,15 @@ fn one_claim_more<const B: u32>(
         (spread later.now) + (share.entry.hi - share.entry.lo)) }
 {
     base.cells();
-    let mut grid = product(alloc, work, base, later, cells)?;
+    let again = Factor {
+        grid: base,
+        comes_again: true,
+    };
+    let once = Factor {
+        grid: later,
+        comes_again: false,
+    };
+    let mut grid = product_of(alloc, work, again, once, cells)?;
     add_at_zero(&mut grid, share);
     Ok(grid)
 }

@@ -35,12 +35,13 @@ fn added(alloc: Global, first: &[u128], second: &[u128], one: u128) -> Result<Ve
 }
 
 /// A block of counts and the counts after it: `block + step * later`, where `step` is the sum of as
-/// many claims as the block has counts.
+/// many claims as the block has counts, and a factor of later products too where it `comes_again`.
 fn block_with_later<const B: u32>(
     alloc: Global,
     work: &mut Workspace,
     block: &Grid<B>,
     step: &Grid<B>,
+    comes_again: bool,
     later: &Grid<B>,
     cells: u32,
 ) -> Result<Grid<B>, AllocError>
@@ -59,6 +60,7 @@ fn block_with_later<const B: u32>(
         a: step,
         b: later,
         is_square: false,
+        a_comes_again: comes_again,
     };
     let moved = short_product(alloc, work, factors, cells)?;
     let one = units_of_one(B);
@@ -88,7 +90,9 @@ fn paired<const B: u32>(
 {
     let mut pairs = Vec::new(alloc);
     for i in 0..parts.len() / 2 {
-        let pair = block_with_later(alloc, work, &parts[2 * i], step, &parts[2 * i + 1], cells)?;
+        let block = &parts[2 * i];
+        let later = &parts[2 * i + 1];
+        let pair = block_with_later(alloc, work, block, step, true, later, cells)?;
         pairs.push(pair)?;
     }
     Ok(pairs)
@@ -138,7 +142,7 @@ impl<const B: u32> Listed<'_, B> {
             parts = paired(alloc, work, parts.as_slice(), &step, self.cells)?;
             step = short_square(alloc, work, &step, self.cells)?;
         }
-        let whole = block_with_later(alloc, work, &parts[0], &step, &parts[1], self.cells)?;
+        let whole = block_with_later(alloc, work, &parts[0], &step, false, &parts[1], self.cells)?;
         extended(alloc, &whole, self.cells)
     }
 }

@@ -8,7 +8,7 @@ ghost use Rattle.dl_model.specs.Compound.{power};
 ghost use Rattle.dl_power.specs.Powers.{Between};
 
 use dl_grid::Grid;
-use dl_product::{Workspace, product, square};
+use dl_product::{Factor, Workspace, product_of, square};
 use std::alloc::{AllocError, Global};
 
 /// The end of cell `x`, 0 past the last cell.
@@ -98,12 +98,14 @@ fn cells_of_product<const B: u32>(a: &Grid<B>, b: &Grid<B>, cells: u32) -> u32
     (a.cells() + b.cells() - 1).min(cells)
 }
 
-/// Two short grids to multiply. Where `is_square` they are one.
+/// Two short grids to multiply. Where `is_square` they are one. Where `a_comes_again`, `a` is a factor
+/// of later products too.
 #[derive(Clone, Copy)]
 pub(crate) struct Factors<'a, const B: u32> {
     pub(crate) a: &'a Grid<B>,
     pub(crate) b: &'a Grid<B>,
     pub(crate) is_square: bool,
+    pub(crate) a_comes_again: bool,
 }
 
 /// The first `cells` cells of the convolution of two short grids, as a short grid.
@@ -126,7 +128,15 @@ pub(crate) fn short_product<const B: u32>(
         return square(alloc, work, &first, long);
     }
     let second = extended(alloc, factors.b, long)?;
-    product(alloc, work, &first, &second, long)
+    let again = Factor {
+        grid: &first,
+        comes_again: factors.a_comes_again,
+    };
+    let once = Factor {
+        grid: &second,
+        comes_again: false,
+    };
+    product_of(alloc, work, again, once, long)
 }
 
 /// The first `cells` cells of the convolution of a short grid with itself, as a short grid.
@@ -145,6 +155,7 @@ pub(crate) fn short_square<const B: u32>(
         a,
         b: a,
         is_square: true,
+        a_comes_again: false,
     };
     short_product(alloc, work, factors, cells)
 }

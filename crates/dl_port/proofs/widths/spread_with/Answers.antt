@@ -1,5 +1,5 @@
 use Rattle.dl_port.proofs.Common.{◌^◌, arith, ap, ◌∙◌, convolution_spread, scale_of}
-use Rattle.dl_port.proofs.PartSums.{one_wider}
+use Rattle.dl_port.proofs.Added.{one_wider}
 use Rattle.dl_port.proofs.widths.spread_with.Goals as goal
 
 pub convolution_spread-requires : goal.convolution_spread-requires

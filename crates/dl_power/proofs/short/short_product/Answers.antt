@@ -12,6 +12,6 @@ returns-then-factors-clause-convolution g c =
 
 pub returns-clause-convolution : goal.returns-clause-convolution
 returns-clause-convolution g c =
-    if_ok_two c.product.result _ _ _ (λ grid. short_convolution c.args.factors.a.now c.args.factors.b.now _ _ grid c.args.cells _
+    if_ok_two c.product_of.result _ _ _ (λ grid. short_convolution c.args.factors.a.now c.args.factors.b.now _ _ grid c.args.cells _
     c.cells_of_product-long.ensures.last c.in_ok-first.ensures.low c.in_ok-first.ensures.high
-    c.in_ok-second.ensures.low c.in_ok-second.ensures.high) c.product.ensures.cells c.product.ensures.convolution
+    c.in_ok-second.ensures.low c.in_ok-second.ensures.high) c.product_of.ensures.cells c.product_of.ensures.convolution

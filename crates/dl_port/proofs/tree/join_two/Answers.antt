@@ -1,0 +1,42 @@
+use Rattle.dl_port.proofs.Common.{◌≡◌, ◌<◌, ◌∷◌, ◌++◌, [], length, get_or, arith, refl, sym, ap, ap₂, subst, subst₂, ◌∙◌, remove, IsConvolution}
+use Rattle.std.proofs.Common.{ℕ}
+use Rattle.dl_port.specs.Tree.{IsForest, sum_at}
+use Rattle.dl_port.specs.declared.tree.Node.{Node}
+use Rattle.dl_port.proofs.TreeLaws.{joined}
+use Rattle.dl_port.proofs.tree.join_two.Goals as goal
+
+pub returns-clause-forest : goal.returns-clause-forest
+returns-clause-forest g c =
+    let old = c.args.roots.now.items in
+    let nodes = c.args.nodes.now.items in
+    let units = c.args.units.now in
+    let a : ℕ = c.shortest_root.result in
+    let b : ℕ = c.shortest_root-2.result in
+    let x : ℕ = c.remove-first.result in
+    let y : ℕ = c.remove-second.result in
+    let in_a : a < length old = omega (arith, c.shortest_root.ensures, ap length c.as_slice-2.ensures.value) in
+    let in_b : b < length (remove old a) = omega (
+      arith,
+      c.shortest_root-2.ensures,
+      ap length c.as_slice-4.ensures.value,
+      ap length c.remove-first.ensures.items,
+    ) in
+    let is_y : y ≡ get_or (remove old a) b y = subst (λ t. y ≡ get_or t b y) c.remove-first.ensures.items
+    c.remove-second.ensures.value in
+    let node : Node g.row.B = record {
+      grid = c.in_ok-grid.grid;
+      first = x;
+      second = y;
+      asked = c.is_either_asked-some_below.result;
+    } in
+    let conv : IsConvolution c.args.cells (sum_at units nodes x) (sum_at units nodes y) c.in_ok-grid.grid =
+    subst₂ (λ p q. IsConvolution c.args.cells p q c.in_ok-grid.grid)
+    (c.sum_at-one.ensures ∙ ap (λ t. sum_at units t x) c.as_slice-5.ensures.value)
+    (c.sum_at-other.ensures ∙ ap (λ t. sum_at units t y) c.as_slice-6.ensures.value)
+    c.in_ok-grid.ensures.convolution in
+    let roots = c.in_ok-push.ensures.items
+    ∙ ap₂ (λ t (v : ℕ). t ++ v ∷ [])
+    (c.remove-second.ensures.items ∙ ap (λ t. remove t b) c.remove-first.ensures.items) (omega (arith, c.len.ensures)) in
+    subst₂ (λ n r. IsForest c.args.cells units n r) (sym c.in_ok-push-2.ensures.items) (sym roots)
+    (joined old a b x y in_a in_b c.remove-first.ensures.value is_y c.args.cells units nodes node refl refl
+    c.in_ok-grid.ensures.cells conv c.requires.forest)

@@ -1,0 +1,9 @@
+use Rattle.dl_port.proofs.Common.{◌≡◌, ◌+◌, length}
+use Rattle.dl_port.specs.Tree.{ReachDown}
+use Rattle.dl_port.proofs.tree.outside_units.Given as goal
+
+abbrev pub invariant-loop : goal.invariant-loop
+invariant-loop g l = record {
+  many : length l.nodes.items + l.counter ≡ length l.fn.nodes.items;
+  down : ReachDown l.cells l.units l.nodes.items l.outer.items;
+}
