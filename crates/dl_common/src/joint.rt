@@ -1,15 +1,17 @@
-//! The joint mean of a Poisson unit, under a common factor or beside independent units.
+//! The joint mean of a Poisson unit, under a common factor or beside independent units, and of a
+//! gamma unit beside independent units.
 
-ghost use Rattle.std.specs.Prelude.{ℕ, ◌≡◌, ◌+◌, ◌-◌, ◌*◌, ◌/◌, ◌^◌, ◌<◌, ◌≤◌, length, List, get_or};
+ghost use Rattle.std.specs.Prelude.{ℕ, ◌≡◌, ◌+◌, ◌-◌, ◌*◌, ◌/◌, ◌^◌, ◌<◌, ◌≤◌, length, List, ◌∷◌, get_or};
 ghost use Rattle.std.specs.Int.{div_ceil};
 ghost use Rattle.dl_exact.specs.Fraction.{whole, ◌over◌, ◌<ℚ◌};
 ghost use Rattle.dl_limits.specs.Limits.{most_parts};
 ghost use Rattle.dl_grid.specs.Prelude.{low_at, high_at, spread, IsGrid, up};
 ghost use Rattle.dl_plan.specs.declared.plan.Unit.{Unit as UnitOfPlan};
 ghost use Rattle.dl_plan.specs.declared.plan.Plan.{Plan};
-ghost use Rattle.dl_plan.specs.Prelude.{weight_sum, weight_at, thinned_mean, IsValidUnit, IsPoisson, CanShare, SharesFactor};
+ghost use Rattle.dl_plan.specs.Prelude.{weight_sum, weight_at, thinned_mean, IsValidUnit, IsPoisson, IsUnbounded, CanShare, SharesFactor};
 ghost use Rattle.dl_model.specs.Prelude.{Series, AtMost, Holds, Loss, AreDeclarable, AreDeclared, One, Point, Joint, partial_sums, total, GridEncloses, compound_of, declared, loss_of};
 ghost use Rattle.dl_common.specs.Pooled.{IsRaised};
+ghost use Rattle.dl_common.specs.Extra.{CanRaise, IsExtra};
 ghost use Rattle.dl_common.specs.Amounts.{amounts_to, claims_mean};
 
 use dl_grid::{Grid, units_of_one};
@@ -73,11 +75,40 @@ pub fn poisson_joint<const B: u32>(unit: &Unit, grid: &Grid<B>, x: u32) -> Iv<B>
     claims_joint(unit, grid, x)
 }
 
+/// The joint mean of one gamma unit at `x`, in buckets, beside independent units: the mean of the
+/// unit's outcome where the total is `x`, and of 0 elsewhere. `grid` is that of the total with the
+/// unit's extra claims, `extra`, which are independent of all units; the sum of the other units is
+/// not needed. It is the unit's expected number of claims above 0 times the sum, over the amounts of
+/// one claim from 1 to `x`, of the amount times its probability given that it is positive times what
+/// the grid has at the rest of `x`; no more than `x`. Takes no memory.
+pub fn gamma_joint<const B: u32>(unit: &Unit, grid: &Grid<B>, x: u32) -> Iv<B>
+    requires valid { (cells : ℕ) × IsValidUnit cells unit.now }
+    requires gamma { CanRaise unit.now }
+    requires inside { x < length grid.now }
+    ensures holds { (us : List Loss) (i : ℕ) (extra : UnitOfPlan) → AreDeclarable us → i < length us
+        → get_or us i (loss_of unit.now) ≡ loss_of unit.now → IsExtra unit.now extra
+        → GridEncloses grid.now (total (loss_of extra ∷ us))
+        → Holds (partial_sums us (Joint i x)) (partial_sums us One) (result.lo over 2 ^ B)
+        (result.hi over 2 ^ B) }
+    ensures width { (D : ℕ) → spread grid.now ≤ D
+        → result.hi - result.lo ≤ (length grid.now * D + 2) * up (thinned_mean unit.now) + 2 }
+    // the unit has at most x, so the mean is at most x times each high end h of the probability of
+    // x
+    ensures below { (us : List Loss) (i h : ℕ) (extra : UnitOfPlan) → AreDeclared us → i < length us
+        → get_or us i (loss_of unit.now) ≡ loss_of unit.now → IsExtra unit.now extra
+        → GridEncloses grid.now (total (loss_of extra ∷ us))
+        → AtMost (partial_sums us (Point x)) (partial_sums us One) (h over 2 ^ B)
+        → result.lo ≤ x * h }
+    ensures small { result.hi ≤ x * 2 ^ B }
+{
+    claims_joint(unit, grid, x)
+}
+
 /// The unit's expected claims times the sum of `a * P(claim = a) * P(grid = x - a)` over the
 /// amounts `a` of one claim up to `x`, in buckets; no more than `x`.
 fn claims_joint<const B: u32>(unit: &Unit, grid: &Grid<B>, x: u32) -> Iv<B>
     requires valid { (cells : ℕ) × IsValidUnit cells unit.now }
-    requires poisson { IsPoisson unit.now.freq }
+    requires unbounded { IsUnbounded unit.now.freq }
     requires inside { x < length grid.now }
     ensures holds { (Q R : Series)
         → Holds Q R (claims_mean unit.now (2 ^ B) x (low_at grid.now))

@@ -87,12 +87,16 @@ pub fn pool_poisson(alloc: Global, units: &[&Unit]) -> Result<Option<Unit>, Allo
 /// Whether this expected number of claims with this severity is that of a valid unit: whether its
 /// parts, and those of the number of claims above 0, are below 2^48, and that number is at most
 /// 4,096.
-fn are_admitted(claims: Frac, sev: &Sev) -> bool
+pub(crate) fn are_admitted(claims: Frac, sev: &Sev) -> bool
     ensures claims { IsTrue result → HasPartsOf48Bits claims }
     ensures above { IsTrue result
         → HasPartsOf48Bits (claims *ℚ (whole 1 -ℚ probability_of sev.now 0)) }
     ensures few { IsTrue result
         → claims *ℚ (whole 1 -ℚ probability_of sev.now 0) ≤ℚ whole most_expected }
+    ensures there { HasPartsOf48Bits claims
+        → HasPartsOf48Bits (claims *ℚ (whole 1 -ℚ probability_of sev.now 0))
+        → claims *ℚ (whole 1 -ℚ probability_of sev.now 0) ≤ℚ whole most_expected
+        → IsTrue result }
 {
     let Ok(above) = claims.mul(sev.share_above_zero()) else {
         return false;
@@ -104,7 +108,8 @@ fn are_admitted(claims: Frac, sev: &Sev) -> bool
 
 /// Whether both parts are below 2^48.
 fn has_small_parts(x: Frac) -> bool
-    ensures { IsTrue result → HasPartsOf48Bits x }
+    ensures small { IsTrue result → HasPartsOf48Bits x }
+    ensures there { HasPartsOf48Bits x → IsTrue result }
 {
     x.num() < ADMITTED_BOUND && x.den() < ADMITTED_BOUND
 }

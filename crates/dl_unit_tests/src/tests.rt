@@ -4,6 +4,7 @@ mod budget;
 mod common;
 mod digits;
 mod factor;
+mod gamma;
 mod helpers;
 mod none;
 mod power;

@@ -1,6 +1,5 @@
 -- The ends hold what the grid's exact ends hold.
 use Rattle.dl_common.proofs.Common.{rules, ◌∙◌, ap, sym, arith, Fraction, scale_of}
-use Rattle.dl_plan.proofs.Shared.{poisson_unbounded}
 use Rattle.dl_common.proofs.JointEnds.{some_positive, scaled_fits, ends_width, ends_hold, none_hold}
 use Rattle.dl_common.proofs.joint.claims_joint.Goals as goal
 
@@ -22,7 +21,7 @@ one_claim-requires g c =
 
 pub scale-requires : goal.scale-requires
 scale-requires g c =
-    let admitted = (c.requires.valid.1.thinned (poisson_unbounded c.args.unit.now.freq c.requires.poisson)).0 in
+    let admitted = (c.requires.valid.1.thinned c.requires.unbounded).0 in
     let num = admitted.num in
     let fits = scaled_fits c.args.grid.now c.args.x c.one_claim.result.hi c.num-2.result c.den.result
     c.cells.ensures.grid c.requires.inside c.one_claim.ensures.small

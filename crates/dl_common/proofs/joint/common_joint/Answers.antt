@@ -1,6 +1,12 @@
 -- The ends hold the declared joint mean.
+use Rattle.dl_common.proofs.Common.{rules}
+use Rattle.dl_plan.proofs.Shared.{poisson_unbounded}
 use Rattle.dl_common.proofs.JointEnds.{common_exact, low_within}
 use Rattle.dl_common.proofs.joint.common_joint.Goals as goal
+
+pub claims_joint-requires : goal.claims_joint-requires
+claims_joint-requires g c =
+    let unbounded = poisson_unbounded c.args.unit.now.freq c.requires.poisson in search rules
 
 pub returns-clause-holds : goal.returns-clause-holds
 returns-clause-holds g c plan r i raised shares there here is encloses =

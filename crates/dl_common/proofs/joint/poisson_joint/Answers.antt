@@ -1,14 +1,20 @@
 -- The ends hold the joint mean beside independent units.
-use Rattle.dl_common.proofs.Common.{◌^◌, pow_pos}
+use Rattle.dl_common.proofs.Common.{rules, ◌^◌, pow_pos}
+use Rattle.dl_plan.proofs.Shared.{poisson_unbounded}
 use Rattle.dl_model.proofs.Bounded.{are_units}
 use Rattle.dl_alloc.proofs.Shares.{low_share}
-use Rattle.dl_common.proofs.PoissonJoint.{poisson_exact, outcome_most}
+use Rattle.dl_common.proofs.OneClaim.{outcome_most}
+use Rattle.dl_common.proofs.PoissonJoint.{poisson_exact}
 use Rattle.dl_common.proofs.joint.poisson_joint.Goals as goal
+
+pub claims_joint-requires : goal.claims_joint-requires
+claims_joint-requires g c =
+    let unbounded = poisson_unbounded c.args.unit.now.freq c.requires.poisson.count in search rules
 
 pub returns-clause-holds : goal.returns-clause-holds
 returns-clause-holds g c us i units there here encloses =
     c.claims_joint.ensures.holds _ _ (poisson_exact us i c.args.x units c.args.grid.now c.args.unit.now
-    c.requires.poisson there here encloses c.requires.inside) (outcome_most us i c.args.x units)
+    c.requires.poisson there here encloses c.requires.inside) (outcome_most us i c.args.x)
 
 pub returns-clause-below : goal.returns-clause-below
 returns-clause-below g c us i h declared there here encloses at =
