@@ -6,7 +6,7 @@ pub use Rattle.std.proofs.Math.Nat.{le_trans, lt-div-mul-add, min-le_left}
 pub use Rattle.std.specs.Prelude.{false, true, ◌⊎◌}
 pub use Rattle.dl_alloc.proofs.JointEnds.{all_split, joint_ends}
 pub use Rattle.dl_alloc.proofs.WeightedEnds.{fits, room_of}
-pub use Rattle.dl_cotail.specs.Widths.{conditional_width, cotail_width, joint_width}
+pub use Rattle.dl_cotail.specs.Widths.{conditional_width, cotail_width, joint_width, share_width}
 pub use Rattle.dl_exact.proofs.Counts.{below_first, below_le, below_pairs, below_plus, below_same, below_times, pairs_le, pairs_plus, pairs_same, pairs_within}
 pub use Rattle.dl_exact.proofs.Laws.{le_refl, ring, times_comm, times_le_both, times_left_comm, times_one}
 pub use Rattle.dl_exact.proofs.RoundingLaws.{div_ceil_least}
@@ -28,3 +28,15 @@ pub use Rattle.dl_model.specs.Program.{IsLoss, Joint, Part, Quantity, Share}
 unfoldable pub use Rattle.dl_model.specs.Program.{sum_over_outcomes}
 pub use Rattle.dl_model.specs.Series.{Rises, Series, times}
 pub use Rattle.dl_model.specs.Shares.{HoldsShare, unit_mean}
+pub use Rattle.std.specs.Prelude.{nat_le}
+pub use Rattle.std.proofs.Common.{mul-pos, rules}
+pub use Rattle.dl_common.proofs.Tilted.{amounts_fit}
+pub use Rattle.dl_common.specs.Amounts.{amounts_to}
+pub use Rattle.dl_grid.proofs.CellLaws.{high_le, size_of}
+pub use Rattle.dl_grid.proofs.EndLists.{low_le_high}
+pub use Rattle.dl_model.proofs.Ends.{to_holds}
+pub use Rattle.dl_model.specs.Plans.{loss_of}
+pub use Rattle.dl_plan.proofs.Means.{severity_total}
+pub use Rattle.dl_plan.specs.Prelude.{CanShare, expected_count, thinned_mean, weight_at, weight_sum}
+pub use Rattle.dl_plan.specs.declared.item.Item.{Item}
+pub use Rattle.dl_plan.specs.declared.plan.Unit.{Unit as UnitOfPlan}

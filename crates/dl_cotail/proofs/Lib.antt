@@ -5,3 +5,5 @@ mod UnitMeans
 mod ShareEnds
 mod Widths
 mod Absent
+mod ClaimEnds
+mod ClaimSums

@@ -3,7 +3,7 @@
 use Rattle.dl_cotail.proofs.Common.{List, get_or, more, ℕ, zero, suc, ◌≡◌, ◌+◌, ◌-◌, ◌*◌, ◌/◌, ◌<◌, ◌≤◌, arith, refl, sym, ap, ◌∙◌, add-one, div_ceil, mul-le-mul, le_trans, count_pairs, count_below, below_first, below_grows, below_same, below_plus, below_times, pairs_same, pairs_plus, pairs_within}
 use Rattle.dl_alloc.proofs.Nested.{running, nested, next_nested, all_nested, listed}
 use Rattle.dl_alloc.proofs.WeightedSums.{weighted_under, rounded, divided, enough}
-use Rattle.dl_cotail.specs.Sums.{weighted_to}
+use Rattle.dl_cotail.specs.Sums.{sums_of, weighted_to}
 
 -- ---- pairs
 
@@ -12,7 +12,7 @@ unfolding count_below
 one_pair a f g e = omega arith
 
 -- over all totals up to q: the sum of g up to what the first place leaves
-all_pairs : (q : ℕ) (a g : ℕ → ℕ) → count_below (suc q) (λ x. count_pairs x (λ y z. a y * g z))
+pub all_pairs : (q : ℕ) (a g : ℕ → ℕ) → count_below (suc q) (λ x. count_pairs x (λ y z. a y * g z))
     ≡ count_pairs q (λ y z. a y * count_below (suc z) g)
 unfolding count_pairs
 all_pairs zero a g = one_pair (a zero) (λ x. count_pairs x (λ y z. a y * g z)) g refl
@@ -27,10 +27,6 @@ all_pairs (suc q) a g =
     omega (arith, all_pairs q (λ y. a (suc y)) g)
 
 -- ---- a walk, as the others' part of the total grows
-
--- the running sums of g
-abbrev pub sums_of : (ℕ → ℕ) → ℕ → ℕ
-sums_of g z = count_below (suc z) g
 
 pub next_to : (q z end other tail sum w : ℕ) (f g : ℕ → ℕ) → z < q → end ≡ count_below z g → other ≡ g z
     → tail ≡ running q f (sums_of g) z → sum ≡ nested q f (sums_of g) z → w ≡ f (q - z) * (end + other)

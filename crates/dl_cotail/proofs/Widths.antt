@@ -1,15 +1,14 @@
 -- How wide the share of a unit in the tail mean is, in plain numbers. S units make 1.
-use Rattle.dl_cotail.proofs.Common.{ℕ, ◌≡◌, ◌+◌, ◌-◌, ◌*◌, ◌/◌, ◌<◌, ◌≤◌, min, arith, ap, div_ceil, mul-le-mul, mul-le-mul_left, mul-le-mul_right, lt-div-mul-add, Fraction, whole, ◌<ℚ◌, div_ceil_least, num_below, up_quotient, cv_rises, quotients_apart, joint_width, conditional_width, cotail_width}
-use Rattle.dl_grid.specs.Width.{convolution_spread}
+use Rattle.dl_cotail.proofs.Common.{ℕ, ◌≡◌, ◌+◌, ◌-◌, ◌*◌, ◌/◌, ◌<◌, ◌≤◌, min, arith, ap, div_ceil, mul-le-mul, mul-le-mul_left, mul-le-mul_right, lt-div-mul-add, Fraction, whole, ◌<ℚ◌, div_ceil_least, num_below, up_quotient, cv_rises, quotients_apart, joint_width, conditional_width, share_width}
 
 -- ---- the conditional mean
 
 pub lowered_narrow : (h l t : ℕ) → min h t - min l t ≤ h - l
 lowered_narrow h l t = omega arith
 
-pub conditional_narrow : (S K u o t q w j k h l : ℕ) → q < K → w ≤ t → j ≤ joint_width S K u o
-    → h - l ≤ 65536 * (q * w + j) + 2 → k ≤ h - l → k ≤ conditional_width S K u o t
-conditional_narrow S K u o t q w j k h l inside at of_joint narrow le =
+pub conditional_narrow : (K t q w j v k h l : ℕ) → q < K → w ≤ t → j ≤ v → h - l ≤ 65536 * (q * w + j) + 2
+    → k ≤ h - l → k ≤ conditional_width K v t
+conditional_narrow K t q w j v k h l inside at of_joint narrow le =
     let few : q ≤ K = omega arith in
     omega (arith, mul-le-mul few at)
 
@@ -39,31 +38,26 @@ above_narrow S n d fl fh al ah pos low high =
 
 -- ---- the whole
 
-wide : (S K u o t d e f : ℕ) → 0 < S → u ≤ d → o ≤ e → t ≤ f
-    → (joint_width S K u o ≤ joint_width S K d e) × (conditional_width S K u o t ≤ conditional_width S K d e f)
-wide S K u o t d e f s of_unit of_others of_total =
-    let joint : K * convolution_spread S K u o ≤ K * convolution_spread S K d e =
-    mul-le-mul_left K (cv_rises S K K u d o e s (omega arith) of_unit of_others) in
-    (joint, omega (arith, mul-le-mul_left K of_total))
+pub joint_rises : (S K u o d e : ℕ) → 0 < S → u ≤ d → o ≤ e → joint_width S K u o ≤ joint_width S K d e
+joint_rises S K u o d e s of_unit of_others =
+    mul-le-mul_left K (cv_rises S K K u d o e s (omega arith) of_unit of_others)
 
-pub cotail_narrow : (p : Fraction) (S K u o t m d e f q bl bh ml mh al ah pl ph kw l h : ℕ) → p <ℚ whole 1 → 0 < S
-    → q < K → bh - bl ≤ joint_width S K u o → ml ≤ mh → bl ≤ bh → ah - al ≤ t + 1
-    → kw ≤ conditional_width S K u o t → ph ≤ pl + 1 + (kw + q * (ah - al))
+pub share_narrow : (p : Fraction) (K t m j f q bl bh ml mh al ah pl ph kw l h : ℕ) → p <ℚ whole 1
+    → q < K → bh - bl ≤ j → ml ≤ mh → bl ≤ bh → ah - al ≤ t + 1
+    → kw ≤ conditional_width K j f → ph ≤ pl + 1 + (kw + q * (ah - al))
     → l ≡ ((ml - bh) + pl) * p.den / (p.den - p.num) → h ≡ div_ceil (((mh - bl) + ph) * p.den) (p.den - p.num)
-    → mh - ml ≤ m → u ≤ d → o ≤ e → t ≤ f → h - l ≤ cotail_width p S m K d e f
-cotail_narrow p S K u o t m d e f q bl bh ml mh al ah pl ph kw l h below s inside of_below mean order of_above of_share
-    of_product low high of_mean of_unit of_others of_total =
+    → mh - ml ≤ m → t ≤ f → h - l ≤ share_width p m K j f
+share_narrow p K t m j f q bl bh ml mh al ah pl ph kw l h below inside of_below mean order of_above of_share of_product
+    low high of_mean of_total =
     let left : 0 < p.den - p.num = omega (arith, num_below p below) in
-    let more = wide S K u o t d e f s of_unit of_others of_total in
     let few : q ≤ K = omega arith in
     let grown : q * (ah - al) ≤ K * (f + 2) = mul-le-mul few (omega arith) in
-    let E = m + joint_width S K d e + 2 * K + K * (f + 2) + conditional_width S K d e f + 4 in
+    let E = m + j + 2 * K + K * (f + 2) + conditional_width K j f + 4 in
     let sums : (mh - bl) + ph ≤ ((ml - bh) + pl) + E =
     omega (
       arith,
-      within ml mh bl bh pl ph m (joint_width S K d e) (kw + q * (ah - al))
-          (conditional_width S K d e f + K * (f + 2)) (2 * K) of_mean (omega arith) of_product
-          (omega arith),
+      within ml mh bl bh pl ph m j (kw + q * (ah - al)) (conditional_width K j f + K * (f + 2)) (2 * K) of_mean of_below
+          of_product (omega arith),
     ) in
     omega (
       arith,

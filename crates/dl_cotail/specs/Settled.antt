@@ -1,5 +1,5 @@
 -- Where a grid gives a quantile, and why it gives no share there.
-use Rattle.std.specs.Prelude.{ℕ, ◌*◌, ◌^◌, ◌<◌, ◌⊎◌, Option, Some, None, List, length}
+use Rattle.std.specs.Prelude.{ℕ, ◌*◌, ◌^◌, ◌<◌, ◌≤◌, ◌⊎◌, Option, Some, None, List, length}
 use Rattle.dl_limits.specs.Limits.{rarest_parts}
 use Rattle.dl_exact.specs.Fraction.{Fraction, ◌over◌, ◌+ℚ◌, ◌-ℚ◌}
 use Rattle.dl_iv.specs.declared.interval.Iv.{Iv}
@@ -30,6 +30,12 @@ pub record IsRare {B : ℕ} (grid : List (Iv B)) (p : Fraction) : Type 0 where
   pub q : ℕ
   pub bracket : IsBracketIn grid p q (Some q)
   pub rare : low_at grid q * rarest_parts < 2 ^ B
+
+-- it has one, inside the grid, and the probability of that total is at least one in `rarest_parts`
+pub record IsSettled {B : ℕ} (grid : List (Iv B)) (p : Fraction) (q : ℕ) : Type 0 where
+  pub inside : q < length grid
+  pub bracket : IsBracketIn grid p q (Some q)
+  pub common : 2 ^ B ≤ low_at grid q * rarest_parts
 
 -- at some total inside the grid the distribution is within d of p
 pub record IsNearAt (declares : Quantity → Series) (cells : ℕ) (p d : Fraction) : Type 0 where

@@ -4,6 +4,10 @@ use Rattle.dl_exact.specs.Count.{count_below, count_pairs}
 use Rattle.dl_iv.specs.declared.interval.Iv.{Iv}
 use Rattle.dl_alloc.specs.Weighted.{low_weighted, high_weighted}
 
+-- the running sums of g
+abbrev pub sums_of : (ℕ → ℕ) → ℕ → ℕ
+sums_of g z = count_below (suc z) g
+
 -- the sum of y * f y * g z over all y + z up to q
 abbrev pub weighted_to : (f g : ℕ → ℕ) → ℕ → ℕ
 weighted_to f g q = count_below (suc q) (λ x. count_pairs x (λ y z. y * f y * g z))

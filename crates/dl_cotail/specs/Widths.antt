@@ -8,13 +8,27 @@ use Rattle.dl_grid.specs.Width.{up, convolution_spread}
 abbrev pub joint_width : (S cells unit others : ℕ) → ℕ
 joint_width S cells unit others = cells * convolution_spread S cells unit others
 
--- its mean outcome at a total that is not too rare
-abbrev pub conditional_width : (S cells unit others total : ℕ) → ℕ
-conditional_width S cells unit others total =
-    rarest_parts * (cells * total + joint_width S cells unit others) + 2
+-- a joint mean of a Poisson unit, and the sum of those up to a total, from its expected claims above
+-- 0 rounded up and the spread of the total's grid
+abbrev pub poisson_joint_width : (cells claims total : ℕ) → ℕ
+poisson_joint_width cells claims total = (cells * total + 1) * claims + 1
 
--- its share in the tail mean at p, from the width of its mean
+-- its mean outcome at a total that is not too rare, from the width of its joint mean there
+abbrev pub conditional_width : (cells joint total : ℕ) → ℕ
+conditional_width cells joint total = rarest_parts * (cells * total + joint) + 2
+
+-- its share in the tail mean at p, from the widths of its mean and of its joint means
+abbrev pub share_width : (p : Fraction) (mean cells joint total : ℕ) → ℕ
+share_width p mean cells joint total = up
+    (((mean + joint + 2 * cells + cells * (total + 2) + conditional_width cells joint total + 4) * p.den)
+    over (p.den - p.num)) + 4
+
+-- the same from the spreads of its grid and of the others'
 abbrev pub cotail_width : (p : Fraction) (S mean cells unit others total : ℕ) → ℕ
-cotail_width p S mean cells unit others total = up
-    (((mean + joint_width S cells unit others + 2 * cells + cells * (total + 2)
-    + conditional_width S cells unit others total + 4) * p.den) over (p.den - p.num)) + 4
+cotail_width p S mean cells unit others total =
+    share_width p mean cells (joint_width S cells unit others) total
+
+-- the same of a Poisson unit
+abbrev pub poisson_cotail_width : (p : Fraction) (mean cells claims total : ℕ) → ℕ
+poisson_cotail_width p mean cells claims total =
+    share_width p mean cells (poisson_joint_width cells claims total) total

@@ -1,14 +1,17 @@
 //! The share of one unit in the tail mean of a total: the mean of its outcome over the greatest
 //! totals, so that the shares of all units add up to the tail mean. It comes from the grids of the
-//! unit, of all other units and of the total, holds the declared share, and takes no memory.
+//! unit, of all other units and of the total, or, for a Poisson unit, from that of the total alone;
+//! it holds the declared share, and takes no memory.
 //!
 //! The clauses speak of every list of losses that can be declared (`AreDeclared`), as those of the
 //! units of every valid plan can, by `dl_model::plans::law_declared`.
 #![tactic(auto)]
 
+mod claims;
 pub mod laws;
+mod running;
 mod settled;
 mod shares;
 mod sums;
 
-pub use shares::cotail;
+pub use shares::{cotail, poisson_cotail};

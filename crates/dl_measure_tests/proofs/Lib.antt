@@ -1,2 +1,3 @@
 mod MeanTests
 mod PriceTests
+mod ShareTests

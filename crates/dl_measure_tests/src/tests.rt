@@ -5,6 +5,8 @@ mod cede;
 mod cede_means;
 mod helpers;
 mod measures;
+mod others;
+mod poisson_shares;
 mod port;
 mod prices;
 mod tail_shares;

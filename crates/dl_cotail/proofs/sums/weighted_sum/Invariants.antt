@@ -1,6 +1,6 @@
 use Rattle.dl_cotail.proofs.Common.{◌≡◌, get_or, count_below}
 use Rattle.dl_alloc.proofs.Nested.{running, nested}
-use Rattle.dl_cotail.proofs.PairSums.{sums_of}
+use Rattle.dl_cotail.specs.Sums.{sums_of}
 use Rattle.dl_cotail.proofs.sums.weighted_sum.Given as goal
 
 abbrev pub invariant-loop-z : goal.invariant-loop-z

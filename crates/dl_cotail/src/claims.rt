@@ -1,0 +1,107 @@
+//! Joint means of a Poisson unit beside independent units, from the grid of the total alone.
+
+ghost use Rattle.std.specs.Prelude.{ℕ, ◌≡◌, ◌+◌, ◌-◌, ◌*◌, ◌^◌, ◌<◌, ◌≤◌, List, length, get_or};
+ghost use Rattle.dl_limits.specs.Limits.{most_parts};
+ghost use Rattle.dl_exact.specs.Prelude.{◌over◌, ◌*ℚ◌, sum_to};
+ghost use Rattle.dl_grid.specs.Prelude.{low_at, high_at, spread, up};
+ghost use Rattle.dl_plan.specs.Prelude.{weight_sum, weight_at, expected_count, thinned_mean, IsValidUnit, CanShare};
+ghost use Rattle.dl_model.specs.Prelude.{Series, Holds, Loss, AreDeclarable, One, Joint, partial_sums, total as total_of, GridEncloses, loss_of};
+ghost use Rattle.dl_common.specs.Amounts.{amounts_to};
+ghost use Rattle.dl_cotail.specs.Widths.{poisson_joint_width};
+
+use crate::running::running_sums;
+use dl_iv::Iv;
+use dl_measures::Distribution;
+use dl_plan::{Item, Unit, numerator_over};
+
+/// The sums over the amounts up to `q`, each times its weight times the low end, and the high end,
+/// of the cell at the rest of `q`.
+fn cell_sums<const B: u32>(items: &[Item], total: &Distribution<B>, q: u32) -> (u128, u128)
+    requires inside { q < length total.now }
+    requires within { weight_sum items.now ≤ most_parts }
+    ensures low { result.0 ≡ amounts_to q (low_at total.now) items.now }
+    ensures high { result.1 ≡ amounts_to q (high_at total.now) items.now }
+{
+    total.cells();
+    let mut low = 0;
+    let mut high = 0;
+    'items: for item in items {
+        if item.amount <= q {
+            let cell = total.at(q - item.amount);
+            let parts = item.amount as u128 * item.weight as u128;
+            low += parts * cell.lo;
+            high += parts * cell.hi;
+        }
+    }
+    (low, high)
+}
+
+/// The expected claims of a unit times the mean of one positive claim, in buckets, where the ends
+/// of that mean times the weight of the positive amounts are `low` and `high`.
+fn of_claims<const B: u32>(unit: &Unit, low: u128, high: u128) -> Iv<B>
+    requires scale_above { 1 ≤ B }
+    requires scale_below { B ≤ 56 }
+    requires valid { (cells : ℕ) × IsValidUnit cells unit.now }
+    requires poisson { CanShare unit.now }
+    requires order { low ≤ high }
+    requires fits { high ≤ 2 ^ 71 * (unit.now.sev.total - weight_at unit.now.sev.items 0) }
+    ensures holds { (Q R : Series) → Holds Q R
+        (expected_count unit.now.freq *ℚ low over (unit.now.sev.total * 2 ^ B))
+        (expected_count unit.now.freq *ℚ high over (unit.now.sev.total * 2 ^ B))
+        → Holds Q R (result.lo over 2 ^ B) (result.hi over 2 ^ B) }
+    ensures width { (k : ℕ)
+        → high ≤ low + k * (unit.now.sev.total - weight_at unit.now.sev.items 0)
+        → result.hi - result.lo ≤ (k + 1) * up (thinned_mean unit.now) + 1 }
+{
+    let mean = unit.freq.thinned(&unit.sev);
+    if mean.num() == 0 {
+        return Iv::point(0);
+    }
+    let positive = numerator_over(unit.sev.share_above_zero(), unit.sev.total as u64);
+    let one = Iv {
+        lo: low / positive,
+        hi: high.div_ceil(positive),
+    };
+    one.scale(mean.num(), mean.den())
+}
+
+/// The joint mean of a Poisson unit at the total `q`, in buckets: by Panjer's recursion its
+/// expected number of claims above 0 times the sum, over the amounts of one claim up to `q`, of the
+/// amount times its probability given that it is positive times what the total has at the rest of
+/// `q`.
+pub(crate) fn claims_joint<const B: u32>(unit: &Unit, total: &Distribution<B>, q: u32) -> Iv<B>
+    requires valid { (cells : ℕ) × IsValidUnit cells unit.now }
+    requires poisson { CanShare unit.now }
+    requires inside { q < length total.now }
+    ensures holds { (us : List Loss) (i : ℕ) → AreDeclarable us → i < length us
+        → get_or us i (loss_of unit.now) ≡ loss_of unit.now → GridEncloses total.now (total_of us)
+        → Holds (partial_sums us (Joint i q)) (partial_sums us One) (result.lo over 2 ^ B)
+        (result.hi over 2 ^ B) }
+    ensures width { (t : ℕ) → spread total.now ≤ t → result.hi - result.lo
+        ≤ poisson_joint_width (length total.now) (up (thinned_mean unit.now)) t }
+{
+    total.cells();
+    let (low, high) = cell_sums(unit.sev.items.as_slice(), total, q);
+    of_claims(unit, low, high)
+}
+
+/// The sum of the joint means of a Poisson unit at the totals up to `q`, in buckets: the same with
+/// what the total has up to the rest of `q`. The high ends of the cells are above the low ends by
+/// no more than the spread of the grid, so a running sum of them is no further above that of the
+/// low ends.
+pub(crate) fn claims_sums<const B: u32>(unit: &Unit, total: &Distribution<B>, q: u32) -> Iv<B>
+    requires valid { (cells : ℕ) × IsValidUnit cells unit.now }
+    requires poisson { CanShare unit.now }
+    requires inside { q < length total.now }
+    requires narrow { spread total.now < 2 ^ B }
+    ensures holds { (us : List Loss) (i : ℕ) → AreDeclarable us → i < length us
+        → get_or us i (loss_of unit.now) ≡ loss_of unit.now → GridEncloses total.now (total_of us)
+        → Holds (λ N. sum_to q (λ x. partial_sums us (Joint i x) N)) (partial_sums us One)
+        (result.lo over 2 ^ B) (result.hi over 2 ^ B) }
+    ensures width { (t : ℕ) → spread total.now ≤ t → result.hi - result.lo
+        ≤ poisson_joint_width (length total.now) (up (thinned_mean unit.now)) t }
+{
+    total.cells();
+    let (low, parts) = running_sums(unit.sev.items.as_slice(), total, q);
+    of_claims(unit, low, low + parts * total.spread())
+}
