@@ -124,7 +124,7 @@ fn price_budget<const B: u32>(plan: &Plan, budgets: Budgets, terms: &[Term]) -> 
 }
 
 /// The budget of the share of unit `i` in a total.
-fn joint_budget<const B: u32>(plan: &Plan, i: u32) -> u128
+pub fn joint_budget<const B: u32>(plan: &Plan, i: u32) -> u128
     requires scale { IsPlanScale B }
     requires valid { IsValid plan.now }
     requires unit { i < length plan.now.units }

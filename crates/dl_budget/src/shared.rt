@@ -1,7 +1,7 @@
 //! The budgets of units that share a factor.
 
-ghost use Rattle.std.specs.Prelude.{ℕ, ◌≡◌, ◌^◌, ◌≤◌, All};
-ghost use Rattle.dl_limits.specs.Limits.{IsPlanScale, most_claims_budget, most_plan_cells, most_shape};
+ghost use Rattle.std.specs.Prelude.{ℕ, ◌≡◌, ◌^◌, ◌<◌, ◌≤◌, All};
+ghost use Rattle.dl_limits.specs.Limits.{IsPlanScale, budget_bound, most_claims_budget, most_plan_cells, most_shape};
 ghost use Rattle.dl_plan.specs.Prelude.{HasPartsOf48Bits, thinned_mean, IsValidUnit, CanShare, HasCommonFactor, raised, thinned_of};
 ghost use Rattle.dl_budget.specs.Shared.{raised_budget, shared_joint_budget};
 
@@ -47,15 +47,16 @@ pub(crate) fn raised_budget<const B: u32>(units: &[Unit], shape: u32, cells: u32
     gamma_budget::<B>(raised(above_zero(units), shape), shape + 1, cells)
 }
 
-/// The budget of the joint mean of a unit that shares a factor, from that of the raised unit,
-/// `before`, on `cells` cells.
-pub(crate) fn shared_joint_budget(unit: &Unit, before: u128, cells: u32) -> u128
+/// How far apart the ends of the joint mean of a Poisson unit lie at most, where it comes from a
+/// grid of `cells` cells whose ends lie `before` apart in all: that of the raised unit under a
+/// common factor, or that of the total of independent units.
+pub fn shared_joint_budget(unit: &Unit, before: u128, cells: u32) -> u128
     requires valid { (h : ℕ) × IsValidUnit h unit.now }
     requires shares { CanShare unit.now }
     requires few { cells ≤ most_plan_cells }
-    requires small { before ≤ most_claims_budget }
+    requires bounded { before < budget_bound }
     ensures value { result ≡ shared_joint_budget cells before (thinned_mean unit.now) }
-    ensures small { result ≤ 2 ^ 63 }
+    ensures small { before ≤ most_claims_budget → result ≤ 2 ^ 63 }
 {
     let claims = unit.freq.thinned(&unit.sev);
     let most = claims.num().div_ceil(claims.den()) as u128;

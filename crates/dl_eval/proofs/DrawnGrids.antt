@@ -1,29 +1,30 @@
 -- The grids that rows are drawn from.
-use Rattle.dl_eval.proofs.Common.{ℕ, ◌≡◌, ◌<◌, List, length, get_or, refl, sym, subst, Option, None, Some, All, Any, IsSome, HasOthers}
+use Rattle.dl_eval.proofs.Common.{ℕ, ◌≡◌, ◌<◌, List, length, get_or, refl, sym, inl, inr, subst, Option, None, Some, All, Any, IfSome, IfSome_then, IsSome, HasOthers}
+use Rattle.dl_plan.specs.declared.plan.Plan.{Plan}
 use Rattle.dl_eval.proofs.Lists.{any_here}
 use Rattle.dl_eval.specs.declared.grids.Grids.{Grids}
 use Rattle.dl_eval.specs.declared.pooled.PooledGrids.{PooledGrids}
-use Rattle.dl_eval.specs.declared.drawn.PlanGrids.TheVariants.{Shared}
+use Rattle.dl_eval.specs.declared.drawn.PlanGrids.TheVariants.{Independent, Shared}
 use Rattle.dl_eval.specs.Drawn.{HasNeeded}
+use Rattle.dl_eval.specs.Totals.{IsFromTotal}
 
 -- where an ask names a unit, the grid of the raised unit is there
-pub shared_needed : {B : ℕ} (grids : PooledGrids B) (named : List (Option ℕ))
-    → (Any (λ unit. IsSome unit) named → IsSome grids.raised) → All (HasNeeded (Shared grids)) named
-shared_needed grids named raised = λ k d inside. there k d inside (get_or named k d) refl
+pub shared_needed : {B : ℕ} (plan : Plan) (grids : PooledGrids B) (named : List (Option ℕ))
+    → (Any (λ unit. IsSome unit) named → IsSome grids.raised) → All (HasNeeded plan (Shared grids)) named
+shared_needed plan grids named raised = λ k d inside. there k d inside (get_or named k d) refl
   where
     there : (k : ℕ) (d : Option ℕ) → k < length named → (unit : Option ℕ) → get_or named k d ≡ unit
-        → HasNeeded (Shared grids) unit
+        → HasNeeded plan (Shared grids) unit
     there k d inside None is = tt
     there k d inside (Some i) is =
         raised (any_here (λ (unit : Option ℕ). IsSome unit) named k d inside (subst (λ u. IsSome u) (sym is) refl))
 
--- where no ask names a unit, no other grids are needed
-pub none_named : {B : ℕ} (grids : Grids B) (named : List (Option ℕ)) → ¬ Any (λ unit. IsSome unit) named
-    → All (HasOthers grids) named
-none_named grids named unnamed = λ k d inside. there k d inside (get_or named k d) refl
-  where
-    there : (k : ℕ) (d : Option ℕ) → k < length named → (unit : Option ℕ) → get_or named k d ≡ unit
-        → HasOthers grids unit
-    there k d inside None is = tt
-    there k d inside (Some i) is = absurd (unnamed
-        (any_here (λ (unit : Option ℕ). IsSome unit) named k d inside (subst (λ u. IsSome u) (sym is) refl)))
+module _ {B : ℕ} (plan : Plan) (grids : Grids B) (named : List (Option ℕ)) where
+  -- the joint means of named units come from the sums of the other units
+  pub needed_others : All (HasOthers grids) named → All (HasNeeded plan (Independent grids)) named
+  needed_others others = λ k d inside. IfSome_then (get_or named k d) (others k d inside) (λ i there. inl there)
+
+  -- or from the total
+  pub needed_total : All (λ unit. IfSome unit (IsFromTotal plan grids.sums.total)) named
+      → All (HasNeeded plan (Independent grids)) named
+  needed_total from = λ k d inside. IfSome_then (get_or named k d) (from k d inside) (λ i there. inr there)

@@ -18,4 +18,5 @@ pub mod Tails
 pub mod PriceRows
 pub mod TailShares
 pub mod ShareLaws
+pub mod FromTotal
 pub mod Parted

@@ -9,9 +9,10 @@ use Rattle.dl_model.specs.Prelude.{Holds, GridEncloses, mapped, One, Point, Mean
 use Rattle.dl_common.specs.Pooled.{IsPooled, IsRaised}
 use Rattle.dl_plan.specs.declared.plan.Unit.{Unit as UnitOfPlan}
 use Rattle.dl_plan.specs.declared.plan.Plan.{Plan}
-use Rattle.dl_plan.specs.Prelude.{horizon, mean_width}
+use Rattle.dl_plan.specs.Prelude.{CanShare, horizon, mean_width, thinned_mean}
 use Rattle.dl_cede.specs.Means.{HoldsMean}
 use Rattle.dl_budget.specs.Prelude.{claims_budget, raised_budget, after_clause, unit_budget, unit_budgets, unit_mean_budget, total_budget, others_budget, mean_budget, joint_budget, cotail_budget}
+use Rattle.dl_budget.specs.Shared.{shared_joint_budget}
 use Rattle.dl_report.specs.declared.report.End.TheVariants.{Number}
 use Rattle.dl_report.specs.declared.report.Row.{Row}
 use Rattle.dl_eval.specs.declared.grids.Grids.{Grids}
@@ -153,6 +154,14 @@ pub record AreGridsOf {B : ℕ} (plan : Plan) (grids : Grids B) : Type 0 where
   pub small : All (λ mean. mean.hi ≤ most_unit_mean) grids.means.items
   pub others : AreOthers plan grids.sums.others.items
   pub total : IsTotalOf plan grids.sums.total
+
+-- the joint mean of unit i comes from the grid g of the total, within its budget
+pub record IsFromTotal {B : ℕ} (plan : Plan) (g : List (Iv B)) (i : ℕ) : Type 0 where
+  pub unit : UnitOfPlan
+  pub is : unit ≡ get_or plan.units i unit
+  pub can_share : CanShare unit
+  pub narrow : shared_joint_budget plan.cells (spread g) (thinned_mean unit)
+      ≤ joint_budget (2 ^ B) plan i
 
 -- the joint mean of unit i at a total, within its budget
 pub record IsJointOf {B : ℕ} (plan : Plan) (i at : ℕ) (mean : Iv B) : Type 0 where

@@ -6,8 +6,9 @@ ghost use Rattle.dl_plan.specs.declared.settings.Ask.TheVariants as kinds;
 ghost use Rattle.dl_plan.specs.Prelude.{AreInRange, IsValid};
 ghost use Rattle.dl_budget.specs.Asks.{named_units};
 ghost use Rattle.dl_eval.specs.Answers.{AreInside, NameUnits, HaveShares, IsGoodReport, IsAnswered, RefusesAsk};
+ghost use Rattle.dl_eval.specs.declared.drawn.PlanGrids.TheVariants.{Independent};
 ghost use Rattle.dl_eval.specs.Totals.{most_mean, AreGridsOf, AreUnits, HasOthers, IsMeanOf, IsTotalOf};
-ghost use Rattle.dl_eval.specs.Drawn.{AreDrawnOf, HasNeeded};
+ghost use Rattle.dl_eval.specs.Drawn.{AreDrawnOf, HasNeeded, HasTailShare, IsForTailShare};
 
 use crate::admission::admit;
 use crate::drawn::PlanGrids;
@@ -52,13 +53,32 @@ struct Parts<const B: u32> {
     mean: Iv<B>,
 }
 
+/// Whether an ask is for a share of the tail mean.
+fn is_for_tail_share(ask: &Ask) -> bool
+    ensures { IsTrue result ↔ IsForTailShare ask.now }
+{
+    match ask {
+        Ask::Cotail { .. } => true,
+        _ => false,
+    }
+}
+
+/// Whether some ask is.
+fn is_some_tail_share(asks: &[Asked]) -> bool
+    ensures { IsTrue result ↔ Any (λ asked. IsForTailShare asked.ask) asks.now }
+{
+    asks.iter().any(|asked| is_for_tail_share(&asked.ask))
+}
+
 /// The grids behind the rows of a valid plan whose units are independent. Where no ask is for a
-/// share, one Poisson unit stands for all that can be pooled.
+/// share of the tail mean, one Poisson unit stands for all that can be pooled, if the joint means
+/// of the named units come from the grid of the total.
 #[tactic(auto, using(crate::proofs::Scales::plan_scale))]
 fn independent_grids<const B: u32>(
     alloc: Global,
     work: &mut Workspace,
     plan: &Plan,
+    asks: &[Asked],
     named: &[Option<u32>],
 ) -> Result<Grids<B>, AllocError>
     requires scale { B ≡ bits_of plan.now.cells }
@@ -66,10 +86,12 @@ fn independent_grids<const B: u32>(
     requires independent { plan.now.common ≡ None }
     requires named { AreUnits (length plan.now.units) named.now }
     ensures grids { IfOk result (λ grids. AreGridsOf plan.now grids) }
-    ensures there { IfOk result (λ grids. All (HasOthers grids) named.now) }
+    ensures there { IfOk result (λ grids. All (HasNeeded plan.now (Independent grids)) named.now) }
+    ensures tails { IfOk result (λ grids. Any (λ asked. IsForTailShare asked.ask) asks.now
+        → All (HasOthers grids) named.now) }
 {
-    if !is_some_named(named) {
-        if let Some(grids) = grids_together::<B>(alloc, work, plan)? {
+    if !is_some_tail_share(asks) {
+        if let Some(grids) = grids_together::<B>(alloc, work, plan, named)? {
             return Ok(grids);
         }
     }
@@ -94,7 +116,9 @@ fn independent_parts<const B: u32>(
     ensures grids { IfOk result (λ parts. IfSome parts.grids (λ made.
         AreDrawnOf plan.now made)) }
     ensures there { IfOk result (λ parts. IfSome parts.grids (λ made.
-        All (HasNeeded made) named.now)) }
+        All (HasNeeded plan.now made) named.now)) }
+    ensures tails { IfOk result (λ parts. Any (λ asked. IsForTailShare asked.ask) asks.now
+        → IfSome parts.grids (λ made. All (HasTailShare made) named.now)) }
     ensures none { IfOk result (λ parts. parts.grids ≡ None
         → All (λ asked. asked.ask ≡ kinds.Mean) asks.now) }
     ensures mean { IfOk result (λ parts. IsMeanOf plan.now parts.mean) }
@@ -107,7 +131,7 @@ fn independent_parts<const B: u32>(
             mean: total_mean(means.as_slice()),
         });
     }
-    let grids = independent_grids(alloc, work, plan, named)?;
+    let grids = independent_grids(alloc, work, plan, asks, named)?;
     let mean = total_mean(grids.means.as_slice());
     Ok(Parts {
         grids: Some(PlanGrids::Independent(grids)),
@@ -138,7 +162,9 @@ fn shared_parts<const B: u32>(
     ensures grids { IfOk result (λ parts. IfSome parts.grids (λ made.
         AreDrawnOf plan.now made)) }
     ensures there { IfOk result (λ parts. IfSome parts.grids (λ made.
-        All (HasNeeded made) named.now)) }
+        All (HasNeeded plan.now made) named.now)) }
+    ensures tails { IfOk result (λ parts. Any (λ asked. IsForTailShare asked.ask) asks.now
+        → IfSome parts.grids (λ made. All (HasTailShare made) named.now)) }
     ensures none { IfOk result (λ parts. parts.grids ≡ None
         → All (λ asked. asked.ask ≡ kinds.Mean) asks.now) }
     ensures mean { IfOk result (λ parts. IsMeanOf plan.now parts.mean) }
@@ -170,7 +196,9 @@ fn parts_for<const B: u32>(
     ensures grids { IfOk result (λ parts. IfSome parts.grids (λ made.
         AreDrawnOf plan.now made)) }
     ensures there { IfOk result (λ parts. IfSome parts.grids (λ made.
-        All (HasNeeded made) named.now)) }
+        All (HasNeeded plan.now made) named.now)) }
+    ensures tails { IfOk result (λ parts. Any (λ asked. IsForTailShare asked.ask) asks.now
+        → IfSome parts.grids (λ made. All (HasTailShare made) named.now)) }
     ensures none { IfOk result (λ parts. parts.grids ≡ None
         → All (λ asked. asked.ask ≡ kinds.Mean) asks.now) }
     ensures mean { IfOk result (λ parts. IsMeanOf plan.now parts.mean) }
@@ -217,7 +245,10 @@ fn report<const B: u32>(
     requires named { NameUnits plan.now settings.now }
     requires shares { HaveShares plan.now settings.now }
     requires numbers { named.now ≡ named_units plan.now.units settings.now.asks }
-    requires there { IfSome parts.now.grids (λ made. All (HasNeeded made) named.now) }
+    requires there { IfSome parts.now.grids (λ made.
+        All (HasNeeded plan.now made) named.now) }
+    requires tails { Any (λ asked. IsForTailShare asked.ask) settings.now.asks
+        → IfSome parts.now.grids (λ made. All (HasTailShare made) named.now) }
     requires none { parts.now.grids ≡ None
         → All (λ asked. asked.ask ≡ kinds.Mean) settings.now.asks }
     requires mean { IsMeanOf plan.now parts.now.mean }

@@ -7,7 +7,7 @@ ghost use Rattle.dl_model.specs.Prelude.{Point, declared};
 ghost use Rattle.dl_plan.specs.Prelude.{IsValid, IsLevel};
 ghost use Rattle.dl_budget.specs.Asks.{kappa_budget, cotail_budget, in_digits};
 ghost use Rattle.dl_eval.specs.Rows.{IsAtLeast, IsAtMost, IsBeyond, IsShareOfUnit, IsTooRare, IsTailShare, IsNoTailShare, at_the_end, total_error};
-ghost use Rattle.dl_eval.specs.Totals.{AreGridsOf, AreOthersOf, IsGridOfUnit, IsJointOf, IsTailShareOf, IsTotalOf};
+ghost use Rattle.dl_eval.specs.Totals.{AreGridsOf, AreOthersOf, IsGridOfUnit, IsFromTotal, IsJointOf, IsTailShareOf, IsTotalOf};
 ghost use Rattle.dl_eval.specs.Drawn.{AreDrawnOf, HasShareOf};
 ghost use Rattle.dl_grid.specs.Cells.{low_at, spread};
 ghost use Rattle.dl_measures.specs.Prelude.{IsFirstFound, low_cdf};
@@ -19,6 +19,7 @@ use crate::pooled::pooled_joint;
 use crate::rows::{beyond_row, ends_row, row_with};
 use dl_alloc::{conditional_mean, joint_mean};
 use dl_budget::{others_budget, total_budget, unit_budget};
+use dl_common::poisson_joint;
 use dl_cotail::cotail;
 use dl_cotail::laws::law_unit_mean;
 use dl_frac::Frac;
@@ -66,10 +67,10 @@ impl<const B: u32> Grids<B> {
     }
 }
 
-/// The mean outcome of unit `i` where the total is `at`, and 0 elsewhere, in buckets, of
-/// independent units.
+/// The mean outcome of unit `i` where the total is `at`, and 0 elsewhere, in buckets, from the grid
+/// of the unit and that of the sum of all others.
 #[tactic(auto, using(crate::proofs::Scales::plan_scale))]
-fn independent_joint<const B: u32>(plan: &Plan, grids: &Grids<B>, i: u32, at: u32) -> Iv<B>
+fn joint_beside<const B: u32>(plan: &Plan, grids: &Grids<B>, i: u32, at: u32) -> Iv<B>
     requires scale { B ≡ bits_of plan.now.cells }
     requires valid { IsValid plan.now }
     requires independent { plan.now.common ≡ None }
@@ -84,13 +85,50 @@ fn independent_joint<const B: u32>(plan: &Plan, grids: &Grids<B>, i: u32, at: u3
     joint_mean(grids.unit(plan, i), grids.others(plan, i), at)
 }
 
+/// The same from the grid of the total, of a Poisson unit.
+fn joint_from<const B: u32>(plan: &Plan, total: &Grid<B>, i: u32, at: u32) -> Iv<B>
+    requires scale { B ≡ bits_of plan.now.cells }
+    requires valid { IsValid plan.now }
+    requires independent { plan.now.common ≡ None }
+    requires total { IsTotalOf plan.now total.now }
+    requires unit { i < length plan.now.units }
+    requires from { IsFromTotal plan.now total.now i }
+    requires inside { at < plan.now.cells }
+    ensures joint { IsJointOf plan.now i at result }
+    ensures below { (h : ℕ) → IsAtMost plan.now (Point at) (h over 2 ^ B) → result.lo ≤ at * h }
+    ensures divisible { result.hi * 2 ^ B ≤ 2 ^ 127 }
+{
+    poisson_joint(&plan.units.as_slice()[i as usize], total, at)
+}
+
+/// The mean outcome of unit `i` where the total is `at`, and 0 elsewhere, in buckets, of
+/// independent units.
+fn independent_joint<const B: u32>(plan: &Plan, grids: &Grids<B>, i: u32, at: u32) -> Iv<B>
+    requires scale { B ≡ bits_of plan.now.cells }
+    requires valid { IsValid plan.now }
+    requires independent { plan.now.common ≡ None }
+    requires grids { AreGridsOf plan.now grids.now }
+    requires unit { i < length plan.now.units }
+    requires there { IsSome (get_or grids.now.sums.others.items i None)
+        ⊎ IsFromTotal plan.now grids.now.sums.total i }
+    requires inside { at < plan.now.cells }
+    ensures joint { IsJointOf plan.now i at result }
+    ensures below { (h : ℕ) → IsAtMost plan.now (Point at) (h over 2 ^ B) → result.lo ≤ at * h }
+    ensures divisible { result.hi * 2 ^ B ≤ 2 ^ 127 }
+{
+    match &grids.sums.others.as_slice()[i as usize] {
+        Some(_) => joint_beside(plan, grids, i, at),
+        None => joint_from(plan, &grids.sums.total, i, at),
+    }
+}
+
 /// The mean outcome of unit `i` where the total is `at`, and 0 elsewhere, in buckets.
 pub(crate) fn joint_of<const B: u32>(plan: &Plan, grids: &PlanGrids<B>, i: u32, at: u32) -> Iv<B>
     requires scale { B ≡ bits_of plan.now.cells }
     requires valid { IsValid plan.now }
     requires grids { AreDrawnOf plan.now grids.now }
     requires unit { i < length plan.now.units }
-    requires there { HasShareOf grids.now i }
+    requires there { HasShareOf plan.now grids.now i }
     requires inside { at < plan.now.cells }
     ensures joint { IsJointOf plan.now i at result }
     ensures below { (h : ℕ) → IsAtMost plan.now (Point at) (h over 2 ^ B) → result.lo ≤ at * h }
@@ -119,7 +157,7 @@ pub(crate) fn share_row<const B: u32>(
     requires valid { IsValid plan.now }
     requires grids { AreDrawnOf plan.now grids.now }
     requires unit { i < length plan.now.units }
-    requires there { HasShareOf grids.now i }
+    requires there { HasShareOf plan.now grids.now i }
     requires inside { at < plan.now.cells }
     ensures ask { IfOk result (λ row. row.ask ≡ asked.now.text) }
     ensures share { IfOk result (λ row. IsShareOfUnit plan.now i at digits

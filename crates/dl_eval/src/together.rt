@@ -1,18 +1,19 @@
 //! The grid of a total where one Poisson unit stands for several.
 
-ghost use Rattle.std.specs.Prelude.{◌≡◌, ◌<◌, ◌≤◌, List, [], ◌∷◌, ◌++◌, None, All, IfOk, IfSome, length, replicate};
+ghost use Rattle.std.specs.Prelude.{◌≡◌, ◌<◌, ◌≤◌, IsTrue, List, [], ◌∷◌, ◌++◌, None, All, IfOk, IfSome, length, replicate};
 ghost use Rattle.dl_limits.specs.Limits.{bits_of};
 ghost use Rattle.dl_common.specs.Pooled.{can_share};
 ghost use Rattle.dl_plan.specs.Prelude.{IsValid};
 ghost use Rattle.dl_eval.specs.Together.{rest_of, IsPooledFor};
-ghost use Rattle.dl_eval.specs.Totals.{most_unit_mean, AreGridsOf, AreUnitGrids, AreUnitMeans, IsTotalOf};
+ghost use Rattle.dl_eval.specs.Totals.{most_unit_mean, AreGridsOf, AreUnitGrids, AreUnitMeans, AreUnits, IsFromTotal, IsTotalOf};
 
 use crate::grids::Grids;
 use crate::same::first_alike;
 use crate::units::{Outcomes, mean_of, outcomes_of};
-use dl_budget::total_budget;
+use dl_budget::{joint_budget, shared_joint_budget, total_budget};
 use dl_common::{pool_poisson, sharing};
 use dl_grid::Grid;
+use dl_limits::BUDGET_BOUND;
 use dl_plan::{Freq, Plan, Unit};
 use dl_port::{Sums, total_with};
 use dl_product::Workspace;
@@ -118,19 +119,72 @@ fn no_others<const B: u32>(alloc: Global, many: usize) -> Result<Vec<Option<Grid
     Ok(others)
 }
 
+/// Whether all named units can be pooled.
+fn are_named_shared(units: &[Unit], named: &[Option<u32>]) -> bool {
+    named.iter().all(|unit| match unit {
+        Some(i) => (*i as usize) < units.len() && is_shared(&units[*i as usize]),
+        None => true,
+    })
+}
+
+/// Whether the joint mean of the unit, if there is one, comes from the grid of the total, within
+/// its budget.
+#[tactic(auto, using(crate::proofs::Scales::plan_scale))]
+fn is_from_total<const B: u32>(plan: &Plan, total: &Grid<B>, unit: Option<u32>) -> bool
+    requires scale { B ≡ bits_of plan.now.cells }
+    requires valid { IsValid plan.now }
+    requires total { IsTotalOf plan.now total.now }
+    requires unit { IfSome unit (λ i. i < length plan.now.units) }
+    ensures { IsTrue result → IfSome unit (IsFromTotal plan.now total.now) }
+{
+    let Some(i) = unit else {
+        return true;
+    };
+    let unit = &plan.units.as_slice()[i as usize];
+    if !is_shared(unit) {
+        return false;
+    }
+    prove!(total_budget::<B>(plan) < BUDGET_BOUND);
+    shared_joint_budget(unit, total.spread(), plan.cells) <= joint_budget::<B>(plan, i)
+}
+
+/// Whether the joint means of all named units do.
+fn are_from_total<const B: u32>(plan: &Plan, total: &Grid<B>, named: &[Option<u32>]) -> bool
+    requires scale { B ≡ bits_of plan.now.cells }
+    requires valid { IsValid plan.now }
+    requires total { IsTotalOf plan.now total.now }
+    requires named { AreUnits (length plan.now.units) named.now }
+    ensures { IsTrue result → All (λ unit. IfSome unit (IsFromTotal plan.now total.now)) named.now }
+{
+    for unit in named {
+        if !is_from_total(plan, total, *unit) {
+            return false;
+        }
+    }
+    true
+}
+
 /// The grids behind the rows of a valid plan whose units are independent and where no ask is for a
-/// share, with one Poisson unit in the place of all that can be pooled. None where there are fewer
-/// than two of these, and where the total would be wider than it may be.
+/// share of the tail mean, with one Poisson unit in the place of all that can be pooled. None where
+/// there are fewer than two of these, where the total would be wider than it may be, and where the
+/// joint mean of a named unit does not come from the grid of the total within its budget.
 pub(crate) fn grids_together<const B: u32>(
     alloc: Global,
     work: &mut Workspace,
     plan: &Plan,
+    named: &[Option<u32>],
 ) -> Result<Option<Grids<B>>, AllocError>
     requires scale { B ≡ bits_of plan.now.cells }
     requires valid { IsValid plan.now }
     requires independent { plan.now.common ≡ None }
-    ensures { IfOk result (λ made. IfSome made (AreGridsOf plan.now)) }
+    requires named { AreUnits (length plan.now.units) named.now }
+    ensures grids { IfOk result (λ made. IfSome made (AreGridsOf plan.now)) }
+    ensures from { IfOk result (λ made. IfSome made (λ grids.
+        All (λ unit. IfSome unit (IsFromTotal plan.now grids.sums.total)) named.now)) }
 {
+    if !are_named_shared(plan.units.as_slice(), named) {
+        return Ok(None);
+    }
     let Some(pooled) = pooled_for(alloc, plan)? else {
         return Ok(None);
     };
@@ -138,6 +192,9 @@ pub(crate) fn grids_together<const B: u32>(
     let Some(total) = total_of(alloc, work, plan, made.grids, &pooled)? else {
         return Ok(None);
     };
+    if !are_from_total(plan, &total, named) {
+        return Ok(None);
+    }
     let others = no_others(alloc, plan.units.as_slice().len())?;
     Ok(Some(Grids {
         units: Vec::new(alloc),

@@ -59,6 +59,22 @@ pmf:1 0.182780 0.182781
 kappa:A:2 0.666666 0.666667
 mean 3.000000 3.000000
 ==
+run --log2 4 pmf:0 pmf:1 pmf:2 joint:A:2 joint:B:2 kappa:A:2 kappa:B:2 cotail:A:0.25 cotail:B:0.25
+%%
+port T agg A 1 claims dsev [1 2] poisson agg B 2 claims dsev [1] poisson
+%%
+Done
+%%
+pmf:0 0.049787 0.049788
+pmf:1 0.124467 0.124468
+pmf:2 0.180478 0.180479
+joint:A:2 0.112020 0.112021
+joint:B:2 0.248935 0.248936
+kappa:A:2 0.620689 0.620690
+kappa:B:2 1.379310 1.379311
+cotail:A:0.25 1.904122 1.904123
+cotail:B:0.25 2.394599 2.394600
+==
 run --log2 4 cotail:A:0.8
 %%
 port C common 0.5 agg A 1 claims dsev [1] poisson agg B 2 claims dsev [1] poisson

@@ -10,7 +10,7 @@ returns-clause-value c =
     ∙ ap (λ (x : Fraction). div_ceil x.num x.den) c.thinned-claims.ensures)
 
 pub returns-clause-small : goal.returns-clause-small
-returns-clause-small c =
+returns-clause-small c narrow =
     let within = (c.requires.valid.1.thinned (shares_unbounded c.args.unit.now c.requires.shares)).1 in
     subst (λ t. t ≤ 2 ^ 63) (sym (returns-clause-value c))
-    (joint_small c.args.cells c.args.before (thinned_mean c.args.unit.now) c.requires.few c.requires.small within)
+    (joint_small c.args.cells c.args.before (thinned_mean c.args.unit.now) c.requires.few narrow within)

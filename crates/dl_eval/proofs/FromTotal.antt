@@ -1,0 +1,93 @@
+-- The joint mean of a Poisson unit from the grid of the total.
+use Rattle.dl_eval.proofs.Common.{IsTrue, leb_tells, All, All-head, [], ◌∷◌, ℕ, ◌≡◌, ◌+◌, ◌-◌, ◌*◌, ◌^◌, ◌<◌, ◌≤◌, List, length, get_or, arith, sym, ap, subst, ◌∙◌, get_or_default, get_or-map, length-map, refl, inl, inr, ◌⊎◌, IsSome, Option, None, Some, ◌over◌, Iv, spread, up, Holds, AreDeclarable, AreDeclared, AtMost, One, Point, Joint, partial_sums, total, GridEncloses, Loss, loss_of, aggregates_of, plan_declared, plan_units, Plan, IsValid, UnitOfPlan, thinned_mean, joint_budget, Declares, IsAtMost, IsTotalOf, IsJointOf}
+use Rattle.std.proofs.Common.{true, cond}
+use Rattle.std.proofs.Math.Dec.{leb}
+use Rattle.dl_plan.specs.Common.{CanShare}
+use Rattle.dl_common.specs.Pooled.{can_share}
+use Rattle.dl_common.proofs.Units.{sharing_share}
+use Rattle.dl_budget.specs.Shared.{shared_joint_budget}
+use Rattle.dl_eval.proofs.Losses.{is_independent}
+use Rattle.dl_eval.proofs.ReadAs.{read_as}
+use Rattle.dl_eval.specs.Totals.{IsFromTotal}
+
+module _ (plan : Plan) (i : ℕ) {u : UnitOfPlan} (is : u ≡ get_or plan.units i u) (inside : i < length plan.units) where
+  loss_here : get_or (aggregates_of plan) i (loss_of u) ≡ loss_of u
+  loss_here = get_or-map loss_of plan.units i u (loss_of u) inside ∙ ap loss_of (sym is)
+
+  here : i < length (aggregates_of plan)
+  here = omega (arith, inside, length-map plan.units loss_of)
+
+  module _ {B : ℕ} {g : List (Iv B)} where
+    -- the unit that was read there
+    same_unit : (from : IsFromTotal plan g i) → from.unit ≡ u
+    same_unit from = from.is ∙ get_or_default plan.units i from.unit u inside ∙ sym is
+
+    pub from_shares : IsFromTotal plan g i → CanShare u
+    from_shares from = subst CanShare (same_unit from) from.can_share
+
+    from_narrow : IsFromTotal plan g i
+        → shared_joint_budget plan.cells (spread g) (thinned_mean u) ≤ joint_budget (2 ^ B) plan i
+    from_narrow from =
+        subst (λ v. shared_joint_budget plan.cells (spread g) (thinned_mean v) ≤ joint_budget (2 ^ B) plan i)
+        (same_unit from) from.narrow
+
+    module _ (valid : IsValid plan) (none : plan.common ≡ None) (t : IsTotalOf plan g) where
+      encloses : GridEncloses g (total (aggregates_of plan))
+      encloses = (subst (λ whole. IsTotalOf whole g) (sym (is_independent plan none)) t).encloses
+
+      pub is_joint_from : {at : ℕ} {mean : Iv B}
+          → ((us : List Loss) (j : ℕ) → AreDeclarable us → j < length us
+          → get_or us j (loss_of u) ≡ loss_of u → GridEncloses g (total us)
+          → Holds (partial_sums us (Joint j at)) (partial_sums us One) (mean.lo over 2 ^ B) (mean.hi over 2 ^ B))
+          → ((D : ℕ) → spread g ≤ D → mean.hi - mean.lo ≤ (length g * D + 2) * up (thinned_mean u) + 2)
+          → IsFromTotal plan g i → IsJointOf plan i at mean
+      is_joint_from {at = at} {mean = mean} holds width from = record {
+        holds = subst (λ whole. Declares whole (Joint i at) (mean.lo over 2 ^ B) (mean.hi over 2 ^ B))
+            (is_independent plan none) (holds (aggregates_of plan) i (plan_units plan valid) here loss_here encloses);
+        narrow =
+            let wide : mean.hi - mean.lo ≤ (plan.cells * spread g + 2) * up (thinned_mean u) + 2 =
+            subst (λ n. mean.hi - mean.lo ≤ (n * spread g + 2) * up (thinned_mean u) + 2) t.cells
+            (width (spread g) (omega arith)) in
+            omega (arith, mean.ordered, wide, from_narrow from);
+      }
+
+      pub is_below_from : (at low : ℕ)
+          → ((us : List Loss) (j h : ℕ) → AreDeclared us → j < length us
+          → get_or us j (loss_of u) ≡ loss_of u → GridEncloses g (total us)
+          → AtMost (partial_sums us (Point at)) (partial_sums us One) (h over 2 ^ B) → low ≤ at * h)
+          → (h : ℕ) → IsAtMost plan (Point at) (h over 2 ^ B) → low ≤ at * h
+      is_below_from at low below h most =
+          below (aggregates_of plan) i h (plan_declared plan valid) here loss_here encloses
+          (subst (λ whole. IsAtMost whole (Point at) (h over 2 ^ B)) (sym (is_independent plan none)) most)
+
+-- ---- which units can share
+
+-- the test tells it
+pub true_shares : (u : UnitOfPlan) → can_share u ≡ true → CanShare u
+true_shares u e =
+    subst (λ us. All CanShare us → CanShare u) (sym (ap (λ b. cond b (u ∷ []) []) e)) (All-head CanShare u [])
+    (sharing_share (u ∷ []))
+
+-- a test that holds
+pub told_le : (a b : ℕ) → IsTrue (leb a b) → a ≤ b
+told_le a b holds = elim (leb_tells a b) [
+  | inl within ↦ within.1
+  | inr past ↦ let fails = past.0 in absurd cc
+]
+
+-- ---- which of the two it comes from
+
+module _ {A : Type 0} {slice others : List (Option A)} (i : ℕ) {read : Option A} (same : slice ≡ others)
+    (is : read ≡ get_or slice i read) (inside : i < length others) where
+  pub some_read : {x : A} → read ≡ Some x → IsSome (get_or others i None)
+  some_read there = subst (λ (o : Option A). IsSome o) (sym there ∙ read_as i None same is inside) refl
+
+  pub none_read : {P : Type 0} → read ≡ None → IsSome (get_or others i None) ⊎ P → P
+  none_read there either = elim either [
+    | inl some ↦ absurd (none (get_or others i None) (sym there ∙ read_as i None same is inside) some)
+    | inr from ↦ from
+  ]
+    where
+      none : (o : Option A) → None ≡ o → ¬ IsSome o
+      none None e some = absurd cc
+      none (Some x) e some = absurd cc
