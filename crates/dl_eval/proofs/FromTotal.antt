@@ -1,14 +1,36 @@
--- The joint mean of a Poisson unit from the grid of the total.
-use Rattle.dl_eval.proofs.Common.{IsTrue, leb_tells, All, All-head, [], ◌∷◌, ℕ, ◌≡◌, ◌+◌, ◌-◌, ◌*◌, ◌^◌, ◌<◌, ◌≤◌, List, length, get_or, arith, sym, ap, subst, ◌∙◌, get_or_default, get_or-map, length-map, refl, inl, inr, ◌⊎◌, IsSome, Option, None, Some, ◌over◌, Iv, spread, up, Holds, AreDeclarable, AreDeclared, AtMost, One, Point, Joint, partial_sums, total, GridEncloses, Loss, loss_of, aggregates_of, plan_declared, plan_units, Plan, IsValid, UnitOfPlan, thinned_mean, joint_budget, Declares, IsAtMost, IsTotalOf, IsJointOf}
+-- The joint mean of a Poisson unit, and its share in a tail mean, from the grid of the total.
+use Rattle.dl_eval.proofs.Common.{IsTrue, leb_tells, All, All-head, [], ◌∷◌, ℕ, ◌≡◌, ◌+◌, ◌-◌, ◌*◌, ◌^◌, ◌<◌, ◌≤◌, List, length, get_or, arith, sym, ap, subst, ◌∙◌, get_or_default, get_or-map, length-map, map, refl, inl, inr, ◌⊎◌, IsSome, Option, None, Some, IfSome, Fraction, whole, ◌over◌, ◌<ℚ◌, Iv, spread, up, Holds, AreDeclarable, AreDeclared, AtMost, One, Mean, Point, Joint, partial_sums, total, GridEncloses, Loss, loss_of, aggregates_of, plan_declared, plan_units, Plan, IsValid, UnitOfPlan, thinned_mean, joint_budget, Declares, DeclaresShare, IsAtMost, IsTotalOf, IsJointOf, AreUnitMeans, IsTailShareOf, IsQuantile, cotail_budget, total_budget, unit_mean_budget, mul-le-mul_left, mul-le-mul_right, div_ceil, div_ceil_least, div_ceil_times, up_quotient}
 use Rattle.std.proofs.Common.{true, cond}
 use Rattle.std.proofs.Math.Dec.{leb}
 use Rattle.dl_plan.specs.Common.{CanShare}
 use Rattle.dl_common.specs.Pooled.{can_share}
 use Rattle.dl_common.proofs.Units.{sharing_share}
 use Rattle.dl_budget.specs.Shared.{shared_joint_budget}
+use Rattle.dl_cotail.specs.Widths.{conditional_width, poisson_joint_width, share_width, poisson_cotail_width}
+use Rattle.dl_exact.proofs.BelowOne.{num_below}
+use Rattle.dl_model.specs.Shares.{HoldsShare, unit_mean}
 use Rattle.dl_eval.proofs.Losses.{is_independent}
 use Rattle.dl_eval.proofs.ReadAs.{read_as}
+use Rattle.dl_eval.proofs.TailShares.{if_some_two, mean_beside, mean_within}
 use Rattle.dl_eval.specs.Totals.{IsFromTotal}
+
+ceiling_rises : (m n d : ℕ) → 0 < d → m ≤ n → div_ceil m d ≤ div_ceil n d
+ceiling_rises m n d pos h = div_ceil_least m d (div_ceil n d) pos (omega (arith, (div_ceil_times n d pos).0))
+
+-- the width of a share rises with those of the joint means and of the total
+share_rises : (p : Fraction) (m K j w x t : ℕ) → p <ℚ whole 1 → j ≤ x → w ≤ t
+    → share_width p m K j w ≤ share_width p m K x t
+share_rises p m K j w x t below of_joint of_total =
+    let left : 0 < p.den - p.num = omega (arith, num_below p below) in
+    let low = m + j + 2 * K + K * (w + 2) + conditional_width K j w + 4 in
+    let high = m + x + 2 * K + K * (t + 2) + conditional_width K x t + 4 in
+    let sums : low ≤ high = omega (arith, mul-le-mul_left K of_total) in
+    omega (
+      arith,
+      up_quotient (low * p.den) (p.den - p.num) left,
+      up_quotient (high * p.den) (p.den - p.num) left,
+      ceiling_rises (low * p.den) (high * p.den) (p.den - p.num) left (mul-le-mul_right p.den sums),
+    )
 
 module _ (plan : Plan) (i : ℕ) {u : UnitOfPlan} (is : u ≡ get_or plan.units i u) (inside : i < length plan.units) where
   loss_here : get_or (aggregates_of plan) i (loss_of u) ≡ loss_of u
@@ -59,6 +81,41 @@ module _ (plan : Plan) (i : ℕ) {u : UnitOfPlan} (is : u ≡ get_or plan.units 
       is_below_from at low below h most =
           below (aggregates_of plan) i h (plan_declared plan valid) here loss_here encloses
           (subst (λ whole. IsAtMost whole (Point at) (h over 2 ^ B)) (sym (is_independent plan none)) most)
+
+      pub is_tail_share_from : (p : Fraction) (result : Option (Iv B)) {means : List (Iv B)} {mean : Iv B}
+          → ((us : List Loss) (j : ℕ) → AreDeclared us → j < length us
+          → get_or us j (loss_of u) ≡ loss_of u → GridEncloses g (total us)
+          → Holds (unit_mean us j) (partial_sums us One) (mean.lo over 2 ^ B) (mean.hi over 2 ^ B)
+          → IfSome result (λ r. (q : ℕ) → IsQuantile (partial_sums us) q p
+          → HoldsShare (partial_sums us) j p q (r.lo over 2 ^ B) (r.hi over 2 ^ B)))
+          → IfSome result (λ r. (m w : ℕ) → mean.hi - mean.lo ≤ m → spread g ≤ w
+          → r.hi - r.lo ≤ poisson_cotail_width p m (length g) (up (thinned_mean u)) w)
+          → ((us : List Loss) (j : ℕ) (v : Loss) (l h : Fraction) → AreDeclarable us → j < length us
+          → Holds (partial_sums (get_or us j v ∷ []) Mean) (partial_sums (get_or us j v ∷ []) One) l h
+          → Holds (unit_mean us j) (partial_sums us One) l h)
+          → p <ℚ whole 1 → mean ≡ get_or means i mean → AreUnitMeans plan.cells plan.units means
+          → IsFromTotal plan g i → IfSome result (IsTailShareOf plan i p)
+      is_tail_share_from p result {mean = mean} holds width beside below read each from =
+          if_some_two result _ _ _ (λ r held narrow. record {
+            holds = subst (λ whole. DeclaresShare whole i p (r.lo over 2 ^ B) (r.hi over 2 ^ B))
+                (is_independent plan none) held;
+            narrow =
+                let wide : r.hi - r.lo ≤ poisson_cotail_width p of_mean plan.cells (up (thinned_mean u)) (spread g) =
+                subst (λ n. r.hi - r.lo ≤ poisson_cotail_width p of_mean n (up (thinned_mean u)) (spread g)) t.cells
+                (narrow of_mean (spread g) (mean_within plan i u read inside each) (omega arith)) in
+                omega (arith, r.ordered, wide, within);
+          })
+          (holds (aggregates_of plan) i (plan_declared plan valid) here loss_here encloses
+          (mean_beside i beside u read inside valid each)) width
+        where
+          of_mean : ℕ
+          of_mean = get_or (map (unit_mean_budget (2 ^ B) plan.cells) plan.units) i 0
+
+          within : poisson_cotail_width p of_mean plan.cells (up (thinned_mean u)) (spread g)
+              ≤ cotail_budget (2 ^ B) plan i p
+          within = share_rises p of_mean plan.cells (poisson_joint_width plan.cells (up (thinned_mean u)) (spread g))
+              (spread g) (joint_budget (2 ^ B) plan i) (total_budget (2 ^ B) plan) below
+              (omega (arith, from_narrow from)) t.narrow
 
 -- ---- which units can share
 

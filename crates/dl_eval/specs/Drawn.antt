@@ -1,16 +1,20 @@
 -- The grids that the rows of a plan are drawn from.
-use Rattle.std.specs.Prelude.{ℕ, ◌≡◌, ◌⊎◌, ⊤, Option, None, IsSome, IfSome, get_or}
+use Rattle.std.specs.Prelude.{ℕ, ◌≡◌, ◌⊎◌, List, Option, None, IsSome, IfSome, get_or}
+use Rattle.dl_iv.specs.declared.interval.Iv.{Iv}
 use Rattle.dl_plan.specs.declared.plan.Plan.{Plan}
-use Rattle.dl_plan.specs.declared.settings.Ask.{Ask}
-use Rattle.dl_plan.specs.declared.settings.Ask.TheVariants.{Cotail}
 use Rattle.dl_eval.specs.declared.drawn.PlanGrids.{PlanGrids}
 use Rattle.dl_eval.specs.declared.drawn.PlanGrids.TheVariants.{Independent, Shared}
-use Rattle.dl_eval.specs.Totals.{AreGridsOf, ArePooledGridsOf, HasOthers, IsFromTotal}
+use Rattle.dl_eval.specs.Totals.{AreGridsOf, ArePooledGridsOf, IsFromTotal}
 
 -- the grids of a plan: of its units, which then are independent, or of the one unit in their place
 abbrev pub AreDrawnOf : {B : ℕ} → Plan → PlanGrids B → Type 0
 AreDrawnOf plan (Independent grids) = (plan.common ≡ None) × AreGridsOf plan grids
 AreDrawnOf plan (Shared grids) = ArePooledGridsOf plan grids
+
+-- that of the total
+abbrev pub total_drawn : {B : ℕ} → PlanGrids B → List (Iv B)
+total_drawn (Independent grids) = grids.sums.total
+total_drawn (Shared grids) = grids.total
 
 -- the joint mean of unit i has the grid it comes from: that of all other units or of the total, or
 -- that of the raised unit
@@ -22,13 +26,3 @@ HasShareOf plan (Shared grids) i = IsSome grids.raised
 -- that of the unit which an ask names, if it names one
 abbrev pub HasNeeded : {B : ℕ} → Plan → PlanGrids B → Option ℕ → Type 0
 HasNeeded plan grids unit = IfSome unit (HasShareOf plan grids)
-
--- an ask for a share of the tail mean
-abbrev pub IsForTailShare : Ask → Type 0
-IsForTailShare (Cotail unit p) = ⊤
-IsForTailShare ask = ⊥
-
--- the sum of all other units is there for this one, if there is one, where units are independent
-abbrev pub HasTailShare : {B : ℕ} → PlanGrids B → Option ℕ → Type 0
-HasTailShare (Independent grids) unit = HasOthers grids unit
-HasTailShare (Shared grids) unit = ⊤

@@ -1,7 +1,8 @@
 //! The grids that rows are drawn from, where the units of a plan are independent or share a factor.
 
+ghost use Rattle.std.specs.Prelude.{◌≡◌};
 ghost use Rattle.dl_plan.specs.declared.plan.Plan.{Plan};
-ghost use Rattle.dl_eval.specs.Drawn.{AreDrawnOf};
+ghost use Rattle.dl_eval.specs.Drawn.{AreDrawnOf, total_drawn};
 ghost use Rattle.dl_eval.specs.Totals.{IsTotalOf};
 
 use crate::grids::Grids;
@@ -20,7 +21,8 @@ pub(crate) enum PlanGrids<const B: u32> {
 impl<const B: u32> PlanGrids<B> {
     /// That of the total.
     pub(crate) fn total(&self) -> &Grid<B>
-        ensures { (plan : Plan) → AreDrawnOf plan self.now → IsTotalOf plan result.now }
+        ensures is { (plan : Plan) → AreDrawnOf plan self.now → IsTotalOf plan result.now }
+        ensures same { result.now ≡ total_drawn self.now }
     {
         match self {
             PlanGrids::Independent(grids) => &grids.sums.total,

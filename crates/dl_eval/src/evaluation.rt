@@ -7,8 +7,8 @@ ghost use Rattle.dl_plan.specs.Prelude.{AreInRange, IsValid};
 ghost use Rattle.dl_budget.specs.Asks.{named_units};
 ghost use Rattle.dl_eval.specs.Answers.{AreInside, NameUnits, HaveShares, IsGoodReport, IsAnswered, RefusesAsk};
 ghost use Rattle.dl_eval.specs.declared.drawn.PlanGrids.TheVariants.{Independent};
-ghost use Rattle.dl_eval.specs.Totals.{most_mean, AreGridsOf, AreUnits, HasOthers, IsMeanOf, IsTotalOf};
-ghost use Rattle.dl_eval.specs.Drawn.{AreDrawnOf, HasNeeded, HasTailShare, IsForTailShare};
+ghost use Rattle.dl_eval.specs.Totals.{most_mean, AreGridsOf, AreUnits, IsMeanOf, IsTotalOf};
+ghost use Rattle.dl_eval.specs.Drawn.{AreDrawnOf, HasNeeded, total_drawn};
 
 use crate::admission::admit;
 use crate::drawn::PlanGrids;
@@ -53,32 +53,13 @@ struct Parts<const B: u32> {
     mean: Iv<B>,
 }
 
-/// Whether an ask is for a share of the tail mean.
-fn is_for_tail_share(ask: &Ask) -> bool
-    ensures { IsTrue result ↔ IsForTailShare ask.now }
-{
-    match ask {
-        Ask::Cotail { .. } => true,
-        _ => false,
-    }
-}
-
-/// Whether some ask is.
-fn is_some_tail_share(asks: &[Asked]) -> bool
-    ensures { IsTrue result ↔ Any (λ asked. IsForTailShare asked.ask) asks.now }
-{
-    asks.iter().any(|asked| is_for_tail_share(&asked.ask))
-}
-
-/// The grids behind the rows of a valid plan whose units are independent. Where no ask is for a
-/// share of the tail mean, one Poisson unit stands for all that can be pooled, if the joint means
-/// of the named units come from the grid of the total.
+/// The grids behind the rows of a valid plan whose units are independent. One Poisson unit stands
+/// for all that can be pooled, if the shares of the named units come from the grid of the total.
 #[tactic(auto, using(crate::proofs::Scales::plan_scale))]
 fn independent_grids<const B: u32>(
     alloc: Global,
     work: &mut Workspace,
     plan: &Plan,
-    asks: &[Asked],
     named: &[Option<u32>],
 ) -> Result<Grids<B>, AllocError>
     requires scale { B ≡ bits_of plan.now.cells }
@@ -87,13 +68,9 @@ fn independent_grids<const B: u32>(
     requires named { AreUnits (length plan.now.units) named.now }
     ensures grids { IfOk result (λ grids. AreGridsOf plan.now grids) }
     ensures there { IfOk result (λ grids. All (HasNeeded plan.now (Independent grids)) named.now) }
-    ensures tails { IfOk result (λ grids. Any (λ asked. IsForTailShare asked.ask) asks.now
-        → All (HasOthers grids) named.now) }
 {
-    if !is_some_tail_share(asks) {
-        if let Some(grids) = grids_together::<B>(alloc, work, plan, named)? {
-            return Ok(grids);
-        }
+    if let Some(grids) = grids_together::<B>(alloc, work, plan, named)? {
+        return Ok(grids);
     }
     let made = unit_outcomes(alloc, work, plan)?;
     grids_of(alloc, work, plan, named, made.grids, made.means)
@@ -117,8 +94,6 @@ fn independent_parts<const B: u32>(
         AreDrawnOf plan.now made)) }
     ensures there { IfOk result (λ parts. IfSome parts.grids (λ made.
         All (HasNeeded plan.now made) named.now)) }
-    ensures tails { IfOk result (λ parts. Any (λ asked. IsForTailShare asked.ask) asks.now
-        → IfSome parts.grids (λ made. All (HasTailShare made) named.now)) }
     ensures none { IfOk result (λ parts. parts.grids ≡ None
         → All (λ asked. asked.ask ≡ kinds.Mean) asks.now) }
     ensures mean { IfOk result (λ parts. IsMeanOf plan.now parts.mean) }
@@ -131,7 +106,7 @@ fn independent_parts<const B: u32>(
             mean: total_mean(means.as_slice()),
         });
     }
-    let grids = independent_grids(alloc, work, plan, asks, named)?;
+    let grids = independent_grids(alloc, work, plan, named)?;
     let mean = total_mean(grids.means.as_slice());
     Ok(Parts {
         grids: Some(PlanGrids::Independent(grids)),
@@ -163,8 +138,6 @@ fn shared_parts<const B: u32>(
         AreDrawnOf plan.now made)) }
     ensures there { IfOk result (λ parts. IfSome parts.grids (λ made.
         All (HasNeeded plan.now made) named.now)) }
-    ensures tails { IfOk result (λ parts. Any (λ asked. IsForTailShare asked.ask) asks.now
-        → IfSome parts.grids (λ made. All (HasTailShare made) named.now)) }
     ensures none { IfOk result (λ parts. parts.grids ≡ None
         → All (λ asked. asked.ask ≡ kinds.Mean) asks.now) }
     ensures mean { IfOk result (λ parts. IsMeanOf plan.now parts.mean) }
@@ -197,8 +170,6 @@ fn parts_for<const B: u32>(
         AreDrawnOf plan.now made)) }
     ensures there { IfOk result (λ parts. IfSome parts.grids (λ made.
         All (HasNeeded plan.now made) named.now)) }
-    ensures tails { IfOk result (λ parts. Any (λ asked. IsForTailShare asked.ask) asks.now
-        → IfSome parts.grids (λ made. All (HasTailShare made) named.now)) }
     ensures none { IfOk result (λ parts. parts.grids ≡ None
         → All (λ asked. asked.ask ≡ kinds.Mean) asks.now) }
     ensures mean { IfOk result (λ parts. IsMeanOf plan.now parts.mean) }
@@ -218,6 +189,8 @@ fn summed<'a, const B: u32>(
 ) -> Result<Option<Distribution<'a, B>>, AllocError>
     requires grids { IfSome grids.now (λ made. AreDrawnOf plan.now made) }
     ensures total { IfOk result (λ made. IfSome made (λ sums. IsTotalOf plan.now sums)) }
+    ensures same { IfOk result (λ made. IfSome grids.now (λ drawn.
+        IfSome made (λ sums. sums ≡ total_drawn drawn))) }
     ensures none { IfOk result (λ made. made ≡ None → grids.now ≡ None) }
 {
     match grids {
@@ -239,6 +212,8 @@ fn report<const B: u32>(
     requires grids { IfSome parts.now.grids (λ made. AreDrawnOf plan.now made) }
     requires total { IfSome total.now (λ sums. IsTotalOf plan.now sums) }
     requires summed { total.now ≡ None → parts.now.grids ≡ None }
+    requires same { IfSome parts.now.grids (λ made.
+        IfSome total.now (λ sums. sums ≡ total_drawn made)) }
     requires valid { IsValid plan.now }
     requires ranges { AreInRange settings.now }
     requires inside { AreInside plan.now settings.now }
@@ -247,8 +222,6 @@ fn report<const B: u32>(
     requires numbers { named.now ≡ named_units plan.now.units settings.now.asks }
     requires there { IfSome parts.now.grids (λ made.
         All (HasNeeded plan.now made) named.now) }
-    requires tails { Any (λ asked. IsForTailShare asked.ask) settings.now.asks
-        → IfSome parts.now.grids (λ made. All (HasTailShare made) named.now) }
     requires none { parts.now.grids ≡ None
         → All (λ asked. asked.ask ≡ kinds.Mean) settings.now.asks }
     requires mean { IsMeanOf plan.now parts.now.mean }

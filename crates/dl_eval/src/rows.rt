@@ -9,7 +9,7 @@ ghost use Rattle.dl_budget.specs.Asks.{IsInside, NamesUnit, named_unit, tail_bud
 ghost use Rattle.dl_eval.specs.Rows.{IsBracket, IsTailMean, IsBeyond, IsPastGrid, IsPrice, IsBeyondSome, IsAnswerTo, IsGood, bracket_end, total_error};
 ghost use Rattle.dl_eval.specs.Totals.{most_mean, IsTotalOf, IsMeanOf, Prints};
 ghost use Rattle.dl_eval.specs.Answers.{HasShare};
-ghost use Rattle.dl_eval.specs.Drawn.{AreDrawnOf, HasNeeded, HasTailShare, IsForTailShare};
+ghost use Rattle.dl_eval.specs.Drawn.{AreDrawnOf, HasNeeded, total_drawn};
 
 use crate::drawn::PlanGrids;
 use crate::shares::{joint_of, share_row, tail_share_row};
@@ -165,7 +165,7 @@ fn grid_row<const B: u32>(
     requires total { IsTotalOf plan.now total.now }
     requires unit { unit ≡ named_unit plan.now.units asked.now.ask }
     requires there { HasNeeded plan.now grids.now unit }
-    requires tails { IsForTailShare asked.now.ask → HasTailShare grids.now unit }
+    requires same { total.now ≡ total_drawn grids.now }
     requires mean { IsMeanOf plan.now mean }
     requires small { mean.hi ≤ most_mean }
     ensures ask { IfOk result (λ row. row.ask ≡ asked.now.text) }
@@ -228,8 +228,7 @@ pub(crate) fn row<const B: u32>(
     requires summed { total.now ≡ None → grids.now ≡ None }
     requires unit { unit ≡ named_unit plan.now.units asked.now.ask }
     requires there { IfSome grids.now (λ made. HasNeeded plan.now made unit) }
-    requires tails { IsForTailShare asked.now.ask
-        → IfSome grids.now (λ made. HasTailShare made unit) }
+    requires same { IfSome grids.now (λ made. IfSome total.now (λ sums. sums ≡ total_drawn made)) }
     requires none { grids.now ≡ None → asked.now.ask ≡ asks.Mean }
     requires mean { IsMeanOf plan.now mean }
     requires small { mean.hi ≤ most_mean }

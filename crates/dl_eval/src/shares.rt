@@ -20,8 +20,8 @@ use crate::rows::{beyond_row, ends_row, row_with};
 use dl_alloc::{conditional_mean, joint_mean};
 use dl_budget::{others_budget, total_budget, unit_budget};
 use dl_common::poisson_joint;
-use dl_cotail::cotail;
 use dl_cotail::laws::law_unit_mean;
+use dl_cotail::{cotail, poisson_cotail};
 use dl_frac::Frac;
 use dl_grid::Grid;
 use dl_iv::Iv;
@@ -171,10 +171,11 @@ pub(crate) fn share_row<const B: u32>(
     }
 }
 
-/// The share of unit `i` in the tail mean at `p`, in buckets; none where the grid ends before the
-/// quantile, does not settle it, or it may be too rare.
+/// The share of unit `i` in the tail mean at `p`, in buckets, from the grid of the unit and that of
+/// the sum of all others; none where the grid of the total ends before the quantile, does not
+/// settle it, or it may be too rare.
 #[tactic(auto, using(crate::proofs::Scales::plan_scale))]
-fn tail_share_of<const B: u32>(
+fn tail_share_beside<const B: u32>(
     plan: &Plan,
     grids: &Grids<B>,
     total: &Distribution<B>,
@@ -202,6 +203,69 @@ fn tail_share_of<const B: u32>(
     cotail(grids.unit(plan, i), grids.others(plan, i), total, mean, p)
 }
 
+/// The share of Poisson unit `i` in the tail mean at `p`, in buckets, from the grid of the total of
+/// independent units; none where that grid ends before the quantile, does not settle it, or it may
+/// be too rare.
+#[tactic(auto, using(crate::proofs::Scales::plan_scale))]
+fn tail_share_from<const B: u32>(
+    plan: &Plan,
+    grids: &Grids<B>,
+    total: &Distribution<B>,
+    i: u32,
+    p: Frac,
+) -> Option<Iv<B>>
+    requires scale { B ≡ bits_of plan.now.cells }
+    requires valid { IsValid plan.now }
+    requires independent { plan.now.common ≡ None }
+    requires grids { AreGridsOf plan.now grids.now }
+    requires total { IsTotalOf plan.now total.now }
+    requires unit { i < length plan.now.units }
+    requires from { IsFromTotal plan.now total.now i }
+    requires level { IsLevel p }
+    requires few { p.den ≤ 10 ^ 4 }
+    ensures share { IfSome result (IsTailShareOf plan.now i p) }
+    ensures reached { IfSome result (λ _. IsAtLeast plan.now (at_the_end plan.now) p) }
+    ensures absent { (x : ℕ) → IsNone result
+        → IsFirstFound (low_cdf (2 ^ B) (low_at total.now)) p plan.now.cells (Some x)
+        → MayBeAbsent (declared plan.now) plan.now.cells p (total_error (2 ^ B) plan.now) }
+{
+    prove!(total_budget::<B>(plan) < BUDGET_BOUND);
+    law_unit_mean();
+    let unit = &plan.units.as_slice()[i as usize];
+    poisson_cotail(unit, total, grids.means.as_slice()[i as usize], p)
+}
+
+/// The share of unit `i` in the tail mean at `p`, in buckets; none where the grid of the total ends
+/// before the quantile, does not settle it, or it may be too rare.
+fn tail_share_of<const B: u32>(
+    plan: &Plan,
+    grids: &Grids<B>,
+    total: &Distribution<B>,
+    i: u32,
+    p: Frac,
+) -> Option<Iv<B>>
+    requires scale { B ≡ bits_of plan.now.cells }
+    requires valid { IsValid plan.now }
+    requires independent { plan.now.common ≡ None }
+    requires grids { AreGridsOf plan.now grids.now }
+    requires total { IsTotalOf plan.now total.now }
+    requires unit { i < length plan.now.units }
+    requires there { IsSome (get_or grids.now.sums.others.items i None)
+        ⊎ IsFromTotal plan.now total.now i }
+    requires level { IsLevel p }
+    requires few { p.den ≤ 10 ^ 4 }
+    ensures share { IfSome result (IsTailShareOf plan.now i p) }
+    ensures reached { IfSome result (λ _. IsAtLeast plan.now (at_the_end plan.now) p) }
+    ensures absent { (x : ℕ) → IsNone result
+        → IsFirstFound (low_cdf (2 ^ B) (low_at total.now)) p plan.now.cells (Some x)
+        → MayBeAbsent (declared plan.now) plan.now.cells p (total_error (2 ^ B) plan.now) }
+{
+    match &grids.sums.others.as_slice()[i as usize] {
+        Some(_) => tail_share_beside(plan, grids, total, i, p),
+        None => tail_share_from(plan, grids, total, i, p),
+    }
+}
+
 /// The row of an ask for the share of unit `i` in the tail mean at `p`; without numbers where there
 /// is none.
 #[tactic(auto, using(crate::proofs::Scales::plan_scale))]
@@ -222,7 +286,8 @@ pub(crate) fn tail_share_row<const B: u32>(
     requires grids { AreGridsOf plan.now grids.now }
     requires total { IsTotalOf plan.now total.now }
     requires unit { i < length plan.now.units }
-    requires there { IsSome (get_or grids.now.sums.others.items i None) }
+    requires there { IsSome (get_or grids.now.sums.others.items i None)
+        ⊎ IsFromTotal plan.now total.now i }
     requires level { IsLevel p }
     requires few { p.den ≤ 10 ^ 4 }
     ensures ask { IfOk result (λ row. row.ask ≡ asked.now.text) }

@@ -127,8 +127,8 @@ fn are_named_shared(units: &[Unit], named: &[Option<u32>]) -> bool {
     })
 }
 
-/// Whether the joint mean of the unit, if there is one, comes from the grid of the total, within
-/// its budget.
+/// Whether the joint mean of the unit, if there is one, and its share in a tail mean come from the
+/// grid of the total, within their budgets.
 #[tactic(auto, using(crate::proofs::Scales::plan_scale))]
 fn is_from_total<const B: u32>(plan: &Plan, total: &Grid<B>, unit: Option<u32>) -> bool
     requires scale { B ≡ bits_of plan.now.cells }
@@ -164,10 +164,10 @@ fn are_from_total<const B: u32>(plan: &Plan, total: &Grid<B>, named: &[Option<u3
     true
 }
 
-/// The grids behind the rows of a valid plan whose units are independent and where no ask is for a
-/// share of the tail mean, with one Poisson unit in the place of all that can be pooled. None where
-/// there are fewer than two of these, where the total would be wider than it may be, and where the
-/// joint mean of a named unit does not come from the grid of the total within its budget.
+/// The grids behind the rows of a valid plan whose units are independent, with one Poisson unit in
+/// the place of all that can be pooled. None where there are fewer than two of these, where the
+/// total would be wider than it may be, and where the share of a named unit does not come from the
+/// grid of the total within its budget.
 pub(crate) fn grids_together<const B: u32>(
     alloc: Global,
     work: &mut Workspace,

@@ -1,7 +1,6 @@
 use Rattle.dl_eval.proofs.Common.{◌≡◌, arith, refl, sym, ap, subst₂, length, All, zip, Asked, IsInside, None, NamesUnit, IsGood, IsAskInRange, HasShare, IfSome_then, ◌also◌}
 use Rattle.dl_plan.specs.declared.settings.Ask.TheVariants.{Mean}
-use Rattle.dl_eval.proofs.Insides.{ask_has, ask_is}
-use Rattle.dl_eval.specs.Drawn.{IsForTailShare}
+use Rattle.dl_eval.proofs.Insides.{ask_has}
 use Rattle.dl_eval.proofs.Lists.{each_next, pushed_length, all_pairs}
 use Rattle.dl_eval.proofs.Named.{named_here, numbers_many}
 use Rattle.dl_eval.proofs.evaluation.report.Goals as goal
@@ -24,9 +23,7 @@ row-requires g c =
     c.requires.named also ask_has (λ (a : Asked). HasShare plan a.ask) i same c.index-asks-i.is test c.requires.shares
     also c.requires.grids also c.requires.total also c.requires.summed also unit
     also IfSome_then c.args.parts.now.grids c.requires.there (λ made each. each i None (omega (arith, many, test)))
-    also (λ tail. IfSome_then c.args.parts.now.grids
-    (c.requires.tails (ask_is (λ (a : Asked). IsForTailShare a.ask) i same c.index-asks-i.is test tail))
-    (λ made each. each i None (omega (arith, many, test))))
+    also c.requires.same
     also (λ none. ask_has (λ (a : Asked). a.ask ≡ Mean) i same c.index-asks-i.is test (c.requires.none none))
     also c.requires.mean also c.requires.small
 

@@ -3,14 +3,14 @@ use Rattle.dl_eval.proofs.ShareLaws.{share_answer, rare_answer}
 use Rattle.dl_eval.proofs.shares.share_row.Goals as goal
 
 pub at-requires : goal.at-requires
-at-requires g c = let total = c.total.ensures c.args.plan.now c.requires.grids in omega arith
+at-requires g c = let total = c.total.ensures.is c.args.plan.now c.requires.grids in omega arith
 
 pub returns-in-Some-clause-share : goal.returns-in-Some-clause-share
 returns-in-Some-clause-share g c =
     IfOk-weaker c.ends_row.result _ _ (λ row printed. inl (
     share_answer
     c.at.ensures.low c.at.ensures.high c.in-Some.ensures.holds c.in-Some.ensures.width c.joint_of-joint.ensures.below
-    c.requires.inside (c.total.ensures c.args.plan.now c.requires.grids)
+    c.requires.inside (c.total.ensures.is c.args.plan.now c.requires.grids)
     c.joint_of-joint.ensures.joint printed))
     c.ends_row.ensures.ends
 
@@ -21,6 +21,6 @@ returns-in-None-clause-share g c =
       is_high = high;
       rare = rare_answer c.args.at
           c.at.ensures.low c.at.ensures.high (c.in-None.ensures.none.0 refl)
-          c.requires.inside (c.total.ensures c.args.plan.now c.requires.grids);
+          c.requires.inside (c.total.ensures.is c.args.plan.now c.requires.grids);
     }))
     c.row_with.ensures.low c.row_with.ensures.high
