@@ -68,7 +68,7 @@ pub any_none_cons : (p : ℕ → Bool) (b : ℕ) (front back : List ℕ) → p b
     → list_any p back ≡ false → list_any p (front ++ b ∷ back) ≡ false
 any_none_cons p b front back e f g = list_any-append p front (b ∷ back) ∙ rw (f, e, g)
 
--- a text with a sign is what stands in front of the first, that sign, and what stands behind it
+-- a text in which the sign s occurs is before_first ++ s ∷ after_first
 pub cut_first : (s : ℕ) (text : List ℕ) → list_any (λ b. b == s) text ≡ true
     → text ≡ before_first (λ b. b == s) text ++ s ∷ after_first (λ b. b == s) text
 cut_first s [] h = absurd (cc)

@@ -77,7 +77,7 @@ module _ (w left : ℕ → Fraction) (v : Fraction) (next : (n : ℕ) → w (suc
     abbrev both : ℕ → ℕ → ℕ → Fraction
     both N M = convolve (λ y. cell left f y N) (λ z. others z M)
 
-    -- v times the mean of one claim where it and a sum of these probabilities come to x
+    -- v * sum of a * f a * g k over all a + k = x
     abbrev beside : (ℕ → Fraction) → Fraction
     beside g = v *ℚ sum_pairs x (λ a k. tilt f a *ℚ g k)
 

@@ -119,7 +119,7 @@ module _ (plan : Plan) (i : ℕ) {u : UnitOfPlan} (is : u ≡ get_or plan.units 
 
 -- ---- which units can share
 
--- the test tells it
+-- a unit that passes the test `can_share` is a Poisson unit without clauses
 pub true_shares : (u : UnitOfPlan) → can_share u ≡ true → CanShare u
 true_shares u e =
     subst (λ us. All CanShare us → CanShare u) (sym (ap (λ b. cond b (u ∷ []) []) e)) (All-head CanShare u [])

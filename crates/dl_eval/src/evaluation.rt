@@ -53,8 +53,9 @@ struct Parts<const B: u32> {
     mean: Iv<B>,
 }
 
-/// The grids behind the rows of a valid plan whose units are independent. One Poisson unit stands
-/// for all that can be pooled, if the shares of the named units come from the grid of the total.
+/// The grids behind the rows of a valid plan whose units are independent: of the total by one unit
+/// in the place of all Poisson units that can be pooled, where the share of each named unit comes
+/// from it (`grids_together`); else of all units, of the total and of the sums of the others.
 #[tactic(auto, using(crate::proofs::Scales::plan_scale))]
 fn independent_grids<const B: u32>(
     alloc: Global,

@@ -127,8 +127,9 @@ fn are_named_shared(units: &[Unit], named: &[Option<u32>]) -> bool {
     })
 }
 
-/// Whether the joint mean of the unit, if there is one, and its share in a tail mean come from the
-/// grid of the total, within their budgets.
+/// Whether the unit is a Poisson unit that can be pooled, and its joint mean from the grid of the
+/// total is no wider than its budget; then its share in a tail mean is not either. True where there
+/// is no unit.
 #[tactic(auto, using(crate::proofs::Scales::plan_scale))]
 fn is_from_total<const B: u32>(plan: &Plan, total: &Grid<B>, unit: Option<u32>) -> bool
     requires scale { B ≡ bits_of plan.now.cells }

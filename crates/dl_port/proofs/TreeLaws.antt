@@ -1,4 +1,5 @@
--- Sums of units in a tree: two roots make a node, and what stands outside a node is handed down to its parts.
+-- The tree of sums of units: a new node is the sum of two roots. The outer sum of a part of a node is the
+-- outer sum of the node plus the other part.
 use Rattle.dl_port.proofs.Common.{◌≡◌, ℕ, suc, ◌+◌, ◌-◌, ◌<◌, ◌≤◌, List, [], ◌∷◌, ◌++◌, length, get_or, map, take, Option, Some, None, IfSome, arith, refl, sym, ap, ap₂, subst, subst₂, ◌∙◌, remove, length-append, length-map, length-take, get_or-map, Loss, total, EncloseEach, GridEncloses, IsSumOfPart, IsConvolution, Iv}
 use Rattle.std.proofs.Common.{Bool, true, false, not, cond, ◌||◌, ◌&&◌, nat_lt, nat_eq, inl, inr, replicate, set}
 use Rattle.std.proofs.lemmas.Bool.{cases_lt, cases_eq, eq-eqb, ne_eqb, lt-ltb}
@@ -51,7 +52,7 @@ module _ {B : ℕ} (grids : List (List (Iv B))) (nodes : List (Node B)) where
         length-map nodes (λ (n : Node B). n.grid),
       ))
 
-  -- the sum of a new node stands behind all others
+  -- the place of a new node comes after those of all units and earlier nodes
   pub sum_new : (node : Node B) (at : ℕ) → at ≡ length grids + length nodes
       → sum_at grids (nodes ++ node ∷ []) at ≡ node.grid
   sum_new node at e =
@@ -316,7 +317,7 @@ all_in_last k at grids nodes g e some is tree =
 
 -- ---- down
 
--- the last node leaves
+-- the nodes without the last one are still nodes
 pub less_nodes : {B : ℕ} (k : ℕ) (grids : List (List (Iv B))) (nodes left : List (Node B)) (node : Node B)
     (tests : ℕ → ℕ → Bool) → nodes ≡ left ++ node ∷ [] → AreNodes k grids nodes tests
     → AreNodes k grids left tests × IsJoint tests (length grids + length left) node
@@ -334,7 +335,7 @@ less_nodes k grids nodes left node tests e are =
           (old.parts (length left) node (omega (arith, longer))),
     )
 
--- what stands outside a node and one of its parts is what stands outside the other part
+-- the outer sum of a node plus one part is the outer sum of the other part
 module _ {B : ℕ} (k : ℕ) (grids : List (List (Iv B))) (whole own other : ℕ → Bool)
     (apart : (i : ℕ) → (own i && other i) ≡ false) (both : (i : ℕ) → whole i ≡ (own i || other i))
     (outside of_other g : List (Iv B)) (sum : IsSumOutside k grids whole outside)
@@ -399,7 +400,7 @@ pub one_fewer : {X : Type 0} (n : ℕ) (old new : List X) → new ≡ take (n - 
     → length new + 1 ≡ length old
 one_fewer n old new e many some = omega (arith, ap length e, length-take (n - 1) old, many, some)
 
--- the last node leaves, and what stands outside it
+-- the outer sums without that of the last node, of the nodes without the last one
 pub less : {B : ℕ} (k : ℕ) (grids : List (List (Iv B))) (nodes left : List (Node B)) (node : Node B)
     (outer rest : List (Option (List (Iv B)))) (top : Option (Option (List (Iv B)))) → nodes ≡ left ++ node ∷ []
     → outer ≡ rest ++ option_to_list top → length rest + 1 ≡ length outer → ReachDown k grids nodes outer
@@ -413,7 +414,7 @@ less {B} k grids nodes left node outer rest top cut split fewer down = record {
       ∙ get_or_append_left rest (option_to_list top) None at h) (down.each at (omega (arith, h, fewer)));
 }
 
--- what stands outside a node is handed down to its parts
+-- the outer sums of the two parts, from the outer sum of their node
 module _ {B : ℕ} (k : ℕ) (grids : List (List (Iv B))) (nodes left : List (Node B)) (node : Node B)
     (outer rest : List (Option (List (Iv B)))) (sum : List (Iv B)) (cut : nodes ≡ left ++ node ∷ [])
     (split : outer ≡ rest ++ Some sum ∷ []) (fewer : length rest + 1 ≡ length outer)

@@ -1,4 +1,5 @@
--- Sums of units in a tree, from the units up to the sum of all, and of the units that stand outside each of them.
+-- The tree of sums of units: each unit, each node, and for each of them its outer sum, that of all
+-- units which are not in it.
 use Rattle.std.specs.Prelude.{ℕ, ◌≡◌, ◌+◌, ◌-◌, ◌<◌, ◌≤◌, Bool, true, false, not, ◌&&◌, ◌||◌, nat_lt, nat_eq, if◌then◌else◌, Option, Some, None, IfSome, All, List, [], ◌++◌, length, map, get_or}
 use Rattle.std.specs.List.{sum_by}
 use Rattle.dl_iv.specs.declared.interval.Iv.{Iv}
@@ -26,7 +27,8 @@ pub record IsJoint {B : ℕ} (tests : ℕ → ℕ → Bool) (at : ℕ) (node : N
   pub apart : (i : ℕ) → (tests node.first i && tests node.second i) ≡ false
   pub both : (i : ℕ) → tests at i ≡ (tests node.first i || tests node.second i)
 
--- at each place stands the sum of the units that its test picks, of which a unit is one
+-- the sum at each place is that of the units whose numbers pass the test of the place; a unit has
+-- the place of its own number and that number alone
 pub record AreNodes {B : ℕ} (k : ℕ) (grids : List (List (Iv B))) (nodes : List (Node B))
     (tests : ℕ → ℕ → Bool) : Type 0 where
   pub units : (at : ℕ) → at < length grids → (i : ℕ) → tests at i ≡ nat_eq i at
@@ -50,7 +52,8 @@ pub record IsForest {B : ℕ} (k : ℕ) (grids : List (List (Iv B))) (nodes : Li
   pub last : (d : ℕ) → get_or roots (length roots - 1) d ≡ last_place grids nodes
 
 -- the sum at the last place has all units
-pub record IsTree {B : ℕ} (k : ℕ) (grids : List (List (Iv B))) (nodes : List (Node B)) : Type 0 where
+pub record IsTree {B : ℕ} (k : ℕ) (grids : List (List (Iv B)))
+    (nodes : List (Node B)) : Type 0 where
   pub tests : ℕ → ℕ → Bool
   pub are : AreNodes k grids nodes tests
   pub all : (i : ℕ) → i < length grids → tests (last_place grids nodes) i ≡ true
