@@ -1,5 +1,5 @@
 -- The budget of a mean, as a loop over the units makes it.
-use Rattle.dl_budget.proofs.Common.{ℕ, ◌≡◌, ◌+◌, ◌*◌, ◌^◌, ◌<◌, ◌≤◌, arith, subst, whole, ◌≤ℚ◌, le_over, over_self, one_pos, div_ceil_least, up, IsValidUnit, List, length, get_or, take, sym, ap, ap₂, ◌∙◌, sum_by, take_all, unit_mean_budget, sum_by_more, most_amount, most_expected, expected_count, declared_mean, mean_most, near_in_any, UnitOfPlan}
+use Rattle.dl_budget.proofs.Common.{ℕ, ◌≡◌, ◌*◌, ◌^◌, ◌≤◌, arith, subst, whole, ◌≤ℚ◌, le_over, over_self, one_pos, div_ceil_least, up, IsValidUnit, sym, most_amount, most_expected, expected_count, declared_mean, mean_most, near_in_any, UnitOfPlan}
 
 -- the mean of the claims of a unit whose probability of no claim can be changed is at most 2^34 buckets
 pub whole_small : (cells : ℕ) (u : UnitOfPlan) (m : ℕ) → IsValidUnit cells u

@@ -1,5 +1,5 @@
 -- The claims above 0 of units that share a factor: their sum, the same for the next shape, and the budget of a joint mean.
-use Rattle.dl_budget.proofs.Common.{ℕ, suc, ◌≡◌, ◌+◌, ◌*◌, ◌^◌, ◌<◌, ◌≤◌, List, [], ◌∷◌, length, get_or, take, arith, refl, sym, ap, ap₂, subst, ◌∙◌, take_all, Fraction, whole, ◌over◌, ◌≤ℚ◌, over_self, one_pos, le_over, div_ceil_least, mul-le-mul, up, IsValidUnit, take_more, get_or-map, Some, All, most_claims_budget, most_expected, most_plan_cells, ◌+ℚ◌, ◌*ℚ◌, ◌<ℚ◌, le_div, le_refl, lt_not_le, plus_zero, times_le_both, whole_pos, whole_le, sum_over_append, Freq, Fixed, Table, Bernoulli, Binomial, Poisson, Gamma, UnitOfPlan, Plan, IsUnbounded, HasPartsOf48Bits, thinned_mean, IsValid, CanShare, HasCommonFactor, FitsFrac, admitted_fits, expected_of, raised, thinned_of}
+use Rattle.dl_budget.proofs.Common.{ℕ, suc, ◌≡◌, ◌+◌, ◌*◌, ◌^◌, ◌<◌, ◌≤◌, List, [], ◌∷◌, length, get_or, take, arith, refl, sym, ap, ap₂, subst, ◌∙◌, take_all, Fraction, whole, ◌over◌, ◌≤ℚ◌, over_self, one_pos, le_over, div_ceil_least, mul-le-mul, up, IsValidUnit, take_more, get_or-map, All, most_claims_budget, most_expected, most_plan_cells, ◌+ℚ◌, ◌*ℚ◌, ◌<ℚ◌, le_div, le_refl, lt_not_le, plus_zero, times_le_both, whole_pos, whole_le, sum_over_append, UnitOfPlan, Plan, IsUnbounded, HasPartsOf48Bits, thinned_mean, IsValid, CanShare, HasCommonFactor, FitsFrac, admitted_fits, expected_of, raised, thinned_of}
 unfoldable use Rattle.dl_exact.specs.Sum.{sum_over}
 use Rattle.dl_exact.proofs.Laws.{le_trans}
 use Rattle.dl_plan.proofs.Shared.{poisson_unbounded}

@@ -1,5 +1,5 @@
 -- Budgets of sums of units, as a loop over the units makes them.
-use Rattle.dl_budget.proofs.Common.{IsPlanScale, ℕ, suc, ◌≡◌, ◌+◌, ◌-◌, ◌*◌, ◌^◌, ◌<◌, ◌≤◌, List, [], ◌∷◌, length, get_or, take, drop, arith, sym, ap, ap₂, subst, ◌∙◌, fold, remove, mul-le-mul, pow_pos, take_all, convolution_spread, rounded_spread, IsSizeWithin, sum_spread, IsOfUnits, unit_budgets, from_there, ◌++◌, length-map, length-take, length-drop, get_or-map, take-map, drop-map, fold_more, fold-append, most_unit_budget, UnitOfPlan, unit_budget}
+use Rattle.dl_budget.proofs.Common.{IsPlanScale, ℕ, suc, ◌≡◌, ◌+◌, ◌-◌, ◌*◌, ◌^◌, ◌<◌, ◌≤◌, List, [], ◌∷◌, length, get_or, take, drop, arith, sym, ap, ap₂, subst, ◌∙◌, fold, remove, mul-le-mul, pow_pos, convolution_spread, rounded_spread, IsSizeWithin, sum_spread, IsOfUnits, unit_budgets, from_there, ◌++◌, length-map, length-take, length-drop, get_or-map, take-map, drop-map, fold_more, fold-append, most_unit_budget, UnitOfPlan, unit_budget}
 use Rattle.dl_budget.proofs.SizeLaws.{size_least, within_step, spread_near, below}
 
 pub budgets_length : (S cells : ℕ) (us : List UnitOfPlan) → length (unit_budgets S cells us) ≡ length us

@@ -2,7 +2,7 @@
 
 ghost use Rattle.std.specs.Prelude.{ℕ, ◌≡◌, ◌^◌, ◌<◌, ◌≤◌, All};
 ghost use Rattle.dl_limits.specs.Limits.{IsPlanScale, budget_bound, most_claims_budget, most_plan_cells, most_shape};
-ghost use Rattle.dl_plan.specs.Prelude.{HasPartsOf48Bits, thinned_mean, IsValidUnit, CanShare, HasCommonFactor, raised, thinned_of};
+ghost use Rattle.dl_plan.specs.Prelude.{HasPartsOf48Bits, thinned_mean, IsUnbounded, IsValidUnit, HasCommonFactor, raised, thinned_of};
 ghost use Rattle.dl_budget.specs.Shared.{raised_budget, shared_joint_budget};
 
 use crate::claims::gamma_budget;
@@ -47,12 +47,13 @@ pub(crate) fn raised_budget<const B: u32>(units: &[Unit], shape: u32, cells: u32
     gamma_budget::<B>(raised(above_zero(units), shape), shape + 1, cells)
 }
 
-/// How far apart the ends of the joint mean of a Poisson unit lie at most, where it comes from a
-/// grid of `cells` cells whose ends lie `before` apart in all: that of the raised unit under a
-/// common factor, or that of the total of independent units.
+/// How far apart the ends of the joint mean of a Poisson or gamma unit lie at most, where it comes
+/// from a grid of `cells` cells whose ends lie `before` apart in all: that of the raised unit under
+/// a common factor, or of independent units that of the total, with the extra claims of a gamma
+/// unit.
 pub fn shared_joint_budget(unit: &Unit, before: u128, cells: u32) -> u128
     requires valid { (h : ℕ) × IsValidUnit h unit.now }
-    requires shares { CanShare unit.now }
+    requires unbounded { IsUnbounded unit.now.freq }
     requires few { cells ≤ most_plan_cells }
     requires bounded { before < budget_bound }
     ensures value { result ≡ shared_joint_budget cells before (thinned_mean unit.now) }

@@ -1,4 +1,4 @@
-use Rattle.dl_budget.proofs.Common.{◌+◌, ◌^◌, arith, ap, ◌∙◌, num_below}
+use Rattle.dl_budget.proofs.Common.{◌+◌, ◌^◌, ap, ◌∙◌}
 use Rattle.dl_budget.proofs.Sums.{read_unit}
 use Rattle.dl_budget.proofs.TailShares.{mean_here, share_value}
 use Rattle.dl_budget.proofs.asks.cotail_budget.Goals as goal

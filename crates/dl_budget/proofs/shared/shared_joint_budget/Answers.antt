@@ -1,5 +1,5 @@
 use Rattle.dl_budget.proofs.Common.{◌+◌, ◌*◌, ◌^◌, ◌≤◌, ◌∙◌, ap, ap₂, subst, sym, div_ceil, Fraction, up, thinned_mean}
-use Rattle.dl_budget.proofs.SharedUnits.{joint_small, shares_unbounded}
+use Rattle.dl_budget.proofs.SharedUnits.{joint_small}
 use Rattle.dl_budget.proofs.shared.shared_joint_budget.Goals as goal
 
 pub returns-clause-value : goal.returns-clause-value
@@ -11,6 +11,6 @@ returns-clause-value c =
 
 pub returns-clause-small : goal.returns-clause-small
 returns-clause-small c narrow =
-    let within = (c.requires.valid.1.thinned (shares_unbounded c.args.unit.now c.requires.shares)).1 in
+    let within = (c.requires.valid.1.thinned c.requires.unbounded).1 in
     subst (λ t. t ≤ 2 ^ 63) (sym (returns-clause-value c))
     (joint_small c.args.cells c.args.before (thinned_mean c.args.unit.now) c.requires.few narrow within)
