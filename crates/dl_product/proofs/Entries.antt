@@ -4,14 +4,13 @@ use Rattle.std.proofs.Common.{All, ◌∷◌}
 use Rattle.std.specs.Prelude.{Bool, true}
 use Rattle.std.specs.List.{insert}
 use Rattle.std.proofs.lemmas.List.Elements.{All-append, All-cons, All-drop, All-take}
-use Rattle.dl_transform.specs.Values.{AreValuesOf}
 use Rattle.dl_transform.specs.declared.combined.Setup.{Setup}
 use Rattle.dl_product.specs.declared.kept.Entry.{Entry}
-use Rattle.dl_product.specs.Kept.{IsEntry}
+use Rattle.dl_product.specs.Kept.{AreOf, IsEntry}
 
 -- the values of an entry of a list that comes again are those of the lists that it has copies of
 pub own_values : {s : Setup} {a u : List ℕ} {again : Bool} {e : Entry} → IsEntry s a u again e → again ≡ true
-    → AreValuesOf s e.lows.items e.widths.items e.values
+    → AreOf s e.lows.items e.widths.items e.values
 own_values entry is = let lists = entry.lists is in rw (lists.lows_are, lists.widths_are) entry.values_are
 
 -- where one item is put first, and the last ones leave

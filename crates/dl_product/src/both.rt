@@ -79,10 +79,12 @@ fn transform_ends(
     };
     let a = Listed {
         ends: first,
+        are_cells: true,
         comes_again: pair.a.comes_again,
     };
     let b = Listed {
         ends: second,
+        are_cells: true,
         comes_again: pair.b.comes_again,
     };
     work.kept_ends(alloc, a, b, levels, lows, highs)
@@ -228,11 +230,15 @@ pub(crate) fn both_sums(
         a: pair.a.lows,
         b: pair.b.lows,
         is_square: pair.is_square,
+        a_comes_again: pair.a.comes_again,
+        b_comes_again: pair.b.comes_again,
     };
     let high = Factors {
         a: pair.a.highs,
         b: pair.b.highs,
         is_square: pair.is_square,
+        a_comes_again: pair.a.comes_again,
+        b_comes_again: pair.b.comes_again,
     };
     let lows = sums(alloc, work, low, cells)?;
     let highs = sums(alloc, work, high, cells)?;

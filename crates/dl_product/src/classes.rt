@@ -40,6 +40,8 @@ pub(crate) fn multiply_class(
         a: &first,
         b: &second,
         is_square: factors.is_square,
+        a_comes_again: false,
+        b_comes_again: false,
     };
     multiply(alloc, work, items, sums.as_mut_slice())?;
     spread_out(&sums, step, rest, out);
@@ -67,6 +69,8 @@ pub(crate) fn multiply_by_classes(
         a,
         b,
         is_square: false,
+        a_comes_again: false,
+        b_comes_again: false,
     };
     for rest in 0..step.min(out.len()) {
         multiply_class(alloc, work, factors, step, rest, out)?;

@@ -1,50 +1,88 @@
-//! Lists of cells whose values are kept for later products.
+//! Lists of cells, and lists of numbers, whose values are kept for later products.
 
-ghost use Rattle.std.specs.Prelude.{◌≡◌, ℕ, ◌^◌, ◌<◌, ◌≤◌, true, length, get_or, IfOk, IfSome};
-ghost use Rattle.dl_transform.specs.Ends.{AreWords};
+ghost use Rattle.std.specs.Prelude.{◌≡◌, ℕ, ◌^◌, ◌<◌, ◌≤◌, true, List, length, get_or, All, IfOk, IfSome};
 ghost use Rattle.dl_transform.specs.Setup.{IsSetup};
-ghost use Rattle.dl_transform.specs.Values.{AreValuesOf};
 ghost use Rattle.dl_transform.specs.declared.combined.Setup.{Setup};
-ghost use Rattle.dl_product.specs.Kept.{AreEntries, HasLists, IsEntry};
+ghost use Rattle.dl_product.specs.Kept.{AreEntries, AreListed, AreOf, HasLists, IsEntry};
 
-use dl_transform::{CellValues, Ends, Setup, values_of_ends};
+use dl_transform::{CellValues, Ends, ListValues, Setup, values_of_ends, values_of_list};
 use std::alloc::{AllocError, Global};
 
-/// A list of cells to multiply. Where it comes again, in a later product, its values are kept until
-/// then.
+/// What transforms multiply: a list of cells where `are_cells`, and else one list of numbers, which
+/// stand as low ends without widths. Where it comes again, in a later product, its values are kept
+/// until then.
 #[derive(Clone, Copy)]
 pub(crate) struct Listed<'a> {
     pub(crate) ends: Ends<'a>,
+    pub(crate) are_cells: bool,
     pub(crate) comes_again: bool,
 }
 
-/// The values of a list of cells, beside copies of its low ends and widths where it comes again.
+/// The values of a list of cells, or of one list of numbers.
+#[derive(Drop)]
+pub(crate) enum Values {
+    OfCells(CellValues),
+    OfList(ListValues),
+}
+
+/// The values of a list of cells, beside copies of its low ends and widths where it comes again. Those
+/// of one list of numbers stand beside a copy of it in the place of the low ends, and no widths.
 #[derive(Drop)]
 pub(crate) struct Entry {
     pub(crate) lows: Vec<u128>,
     pub(crate) widths: Vec<u128>,
-    pub(crate) values: CellValues,
+    pub(crate) values: Values,
 }
 
-/// How many words the entries take together at most: 16 MB, which is 4 lists of 65,536 cells.
-const MOST_WORDS: usize = 2097152;
+/// How many values and items the entries have together at most: those of 4 lists of 65,536 cells, or
+/// of 6 lists of as many numbers. A value takes 8 bytes and an item 16: all take some 16 MB, and 20 MB
+/// at most.
+const MOST_KEPT: usize = 2097152;
 
-/// About how many words an entry with the values for products of `2^levels` cells takes: three times
-/// as many values as cells, and two lists, each of half as many cells.
-fn words_of(levels: u32) -> usize {
-    4usize << levels.min(40)
+/// One list of numbers.
+pub(crate) fn one_list(items: &[u128], comes_again: bool) -> Listed<'_>
+    ensures items { result.ends.lows.now ≡ items.now }
+    ensures listed { All (λ x. x < 2 ^ 64) items.now
+        → AreListed result.ends.lows.now result.ends.widths.now result.are_cells }
+{
+    Listed {
+        ends: Ends {
+            lows: items,
+            widths: &[],
+        },
+        are_cells: false,
+        comes_again,
+    }
 }
 
-/// Whether an entry has the values of a list of cells, for products of `2^levels` cells.
+/// They serve products of up to `2^levels` items.
+fn levels_of(values: &Values) -> u32 {
+    match values {
+        Values::OfCells(known) => known.levels(),
+        Values::OfList(known) => known.levels(),
+    }
+}
+
+/// How many values and items an entry with these values has at most. Those for products of `2^levels`
+/// cells are three times as many, beside two lists of half as many items each. Those of one list of
+/// numbers are twice as many, beside one list of half as many items.
+fn count_of(values: &Values) -> usize {
+    match values {
+        Values::OfCells(known) => 4usize << known.levels().min(40),
+        Values::OfList(known) => (5usize << known.levels().min(40)) / 2,
+    }
+}
+
+/// Whether an entry has the values of a list, for products of `2^levels` items.
 fn is_entry_of(entry: &Entry, cells: Ends<'_>, levels: u32) -> bool
     ensures { result ≡ true → HasLists cells.entry.lows.now cells.entry.widths.now entry.now }
 {
     let lows = entry.lows.as_slice();
     let widths = entry.widths.as_slice();
-    entry.values.levels() == levels && lows == cells.lows && widths == cells.widths
+    levels_of(&entry.values) == levels && lows == cells.lows && widths == cells.widths
 }
 
-/// The place of the entry with the values of a list of cells, for products of `2^levels` cells.
+/// The place of the entry with the values of a list, for products of `2^levels` items.
 fn place_of(entries: &[Entry], cells: Ends<'_>, levels: u32) -> Option<usize>
     ensures inside { IfSome result (λ k. k < length entries.now) }
     ensures lists { IfSome result (λ k. (d : Entry)
@@ -58,8 +96,7 @@ fn place_of(entries: &[Entry], cells: Ends<'_>, levels: u32) -> Option<usize>
     None
 }
 
-/// The entry with the values of a list of cells, for products of `2^levels` cells, which leaves the
-/// others.
+/// The entry with the values of a list, for products of `2^levels` items, which leaves the others.
 fn taken(entries: &mut Vec<Entry>, cells: Ends<'_>, levels: u32) -> Option<Entry>
     ensures rest { (s : Setup) → AreEntries s entries.old.items → AreEntries s entries.new.items }
     ensures entry { (s : Setup) → AreEntries s entries.old.items
@@ -79,7 +116,29 @@ fn copy_of(alloc: Global, items: &[u128], comes_again: bool) -> Result<Vec<u128>
     Ok(Vec::new(alloc))
 }
 
-/// A new entry with the values of a list of cells, for products of `2^levels` cells.
+/// The values of a list of cells or of numbers, for products of `2^levels` items.
+fn new_values(
+    alloc: Global,
+    setup: &Setup,
+    list: Listed<'_>,
+    levels: u32,
+) -> Result<Values, AllocError>
+    requires setup { IsSetup setup.now }
+    requires listed { AreListed list.ends.lows.now list.ends.widths.now list.are_cells }
+    requires levels { levels ≤ setup.now.levels }
+    requires room { length list.ends.lows.now ≤ 2 ^ levels }
+    ensures { IfOk result (λ v.
+        AreOf setup.now list.entry.ends.lows.now list.entry.ends.widths.now v) }
+{
+    if list.are_cells {
+        let values = values_of_ends(alloc, list.ends, setup, levels)?;
+        return Ok(Values::OfCells(values));
+    }
+    let values = values_of_list(alloc, list.ends.lows, setup, levels)?;
+    Ok(Values::OfList(values))
+}
+
+/// A new entry with the values of a list, for products of `2^levels` items.
 fn new_entry(
     alloc: Global,
     setup: &Setup,
@@ -87,13 +146,13 @@ fn new_entry(
     levels: u32,
 ) -> Result<Entry, AllocError>
     requires setup { IsSetup setup.now }
-    requires cells { AreWords list.ends.lows.now list.ends.widths.now }
+    requires listed { AreListed list.ends.lows.now list.ends.widths.now list.are_cells }
     requires levels { levels ≤ setup.now.levels }
     requires room { length list.ends.lows.now ≤ 2 ^ levels }
     ensures { IfOk result (λ e. IsEntry setup.now list.entry.ends.lows.now list.entry.ends.widths.now
         list.entry.comes_again e) }
 {
-    let values = values_of_ends(alloc, list.ends, setup, levels)?;
+    let values = new_values(alloc, setup, list, levels)?;
     let lows = copy_of(alloc, list.ends.lows, list.comes_again)?;
     let widths = copy_of(alloc, list.ends.widths, list.comes_again)?;
     Ok(Entry {
@@ -103,8 +162,8 @@ fn new_entry(
     })
 }
 
-/// The entry of a list of cells, for products of `2^levels` cells: one of those kept, where the list
-/// comes again and has been there before, and else a new one.
+/// The entry of a list, for products of `2^levels` items: one of those kept, where the list comes
+/// again and has been there before, and else a new one.
 pub(crate) fn entry_of(
     alloc: Global,
     setup: &Setup,
@@ -114,7 +173,7 @@ pub(crate) fn entry_of(
 ) -> Result<Entry, AllocError>
     requires setup { IsSetup setup.now }
     requires entries { AreEntries setup.now entries.old.items }
-    requires cells { AreWords list.ends.lows.now list.ends.widths.now }
+    requires listed { AreListed list.ends.lows.now list.ends.widths.now list.are_cells }
     requires levels { levels ≤ setup.now.levels }
     requires room { length list.ends.lows.now ≤ 2 ^ levels }
     ensures entries { AreEntries setup.now entries.new.items }
@@ -129,12 +188,12 @@ pub(crate) fn entry_of(
     new_entry(alloc, setup, list, levels)
 }
 
-/// How many entries, from the first on, take at most so many words together.
+/// How many entries, from the first on, have at most so many values and items together.
 fn count_within(entries: &[Entry], most: usize) -> usize {
-    let mut words = 0usize;
+    let mut count = 0usize;
     for k in 0..entries.len() {
-        words = words.saturating_add(words_of(entries[k].values.levels()));
-        if words > most {
+        count = count.saturating_add(count_of(&entries[k].values));
+        if count > most {
             return k;
         }
     }
@@ -149,14 +208,14 @@ pub(crate) fn keep(
     comes_again: bool,
 ) -> Result<(), AllocError>
     ensures { (s : Setup) → AreEntries s entries.old.items
-        → (comes_again ≡ true → AreValuesOf s entry.lows.items entry.widths.items entry.values)
+        → (comes_again ≡ true → AreOf s entry.lows.items entry.widths.items entry.values)
         → AreEntries s entries.new.items }
 {
     if !comes_again {
         return Ok(());
     }
     entries.insert(0, entry)?;
-    let count = count_within(entries.as_slice(), MOST_WORDS);
+    let count = count_within(entries.as_slice(), MOST_KEPT);
     entries.truncate(count);
     Ok(())
 }

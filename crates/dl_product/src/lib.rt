@@ -12,6 +12,7 @@ mod room;
 mod short;
 mod steps;
 mod tables;
+mod valued;
 mod windows;
 
 pub use products::{Factor, product, product_of, square};

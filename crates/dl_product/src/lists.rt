@@ -1,6 +1,6 @@
 //! The product of two lists, by whichever of three ways is the fastest.
 
-ghost use Rattle.std.specs.Prelude.{◌≡◌, ℕ, ◌<◌, ◌≤◌, true, length, get_or, IfOk, IfSome, IsTrue};
+ghost use Rattle.std.specs.Prelude.{◌≡◌, ℕ, ◌+◌, ◌^◌, ◌<◌, ◌≤◌, true, length, get_or, IfOk, IfSome, IsTrue};
 ghost use Rattle.dl_limits.specs.Limits.{most_cells};
 ghost use Rattle.dl_conv.specs.Sums.{pair_sum, ItemsFit};
 ghost use Rattle.dl_product.specs.Factors.{AreFactors, AreZeros, IsProduct};
@@ -16,12 +16,15 @@ use dl_conv::{halved_sums, plain_sums, work_for};
 use dl_transform::levels_for;
 use std::alloc::{AllocError, Global};
 
-/// Two lists to multiply. Where `is_square` they are one.
+/// Two lists to multiply. Where `is_square` they are one. The values by transforms of a list that
+/// comes again, in a later product, are kept until then, where they are taken of the whole list.
 #[derive(Clone, Copy)]
 pub(crate) struct Factors<'a> {
     pub(crate) a: &'a [u128],
     pub(crate) b: &'a [u128],
     pub(crate) is_square: bool,
+    pub(crate) a_comes_again: bool,
+    pub(crate) b_comes_again: bool,
 }
 
 /// How many products of items of two lists take the time of one item of a transform at one level:
@@ -58,7 +61,8 @@ pub(crate) fn levels_if_shorter(
     requires first { first ≤ most_cells }
     requires second { second ≤ most_cells }
     requires rate { rate ≤ 1000 }
-    ensures { IfSome result (λ levels. levels ≤ 17) }
+    ensures few { IfSome result (λ levels. levels ≤ 17) }
+    ensures room { IfSome result (λ levels. first + second ≤ 2 ^ levels) }
 {
     let left_out = (first + second).saturating_sub(count);
     let products = (first * second).saturating_sub(left_out * left_out / 2);
@@ -178,6 +182,8 @@ fn write_sums(
         a: &factors.a[windows.first.start..windows.first.end],
         b: &factors.b[windows.second.start..windows.second.end],
         is_square: factors.is_square,
+        a_comes_again: factors.a_comes_again,
+        b_comes_again: factors.b_comes_again,
     };
     let first = step_with(part.a, 0);
     let step = step_with(part.b, first);

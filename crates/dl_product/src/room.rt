@@ -1,10 +1,10 @@
 //! Working memory and tables of products.
 
-ghost use Rattle.std.specs.Prelude.{◌≡◌, ℕ, ◌+◌, ◌^◌, ◌<◌, ◌≤◌, true, length, get_or, IfOk};
+ghost use Rattle.std.specs.Prelude.{◌≡◌, ℕ, ◌+◌, ◌^◌, ◌<◌, ◌≤◌, true, length, get_or, All, IfOk};
 ghost use Rattle.dl_transform.specs.Ends.{low_sum, high_sum, AreWords};
 ghost use Rattle.dl_product.specs.Factors.{AreFactors, AreWordCells, IsProduct};
 
-use crate::kept::Listed;
+use crate::kept::{Listed, one_list};
 use crate::lists::Factors;
 use crate::tables::Tables;
 use dl_transform::{Buffers, Ends, checked_ends, checked_product, checked_square, set_up};
@@ -46,7 +46,8 @@ impl Workspace {
     }
 
     /// Whether transforms of `2^levels` items serve the product of two lists; then `out` has its
-    /// first items, as many as it has room for. Two lists that are one take fewer transforms.
+    /// first items, as many as it has room for. Two lists that are one take fewer transforms, and so
+    /// do lists that come again, from their values that are kept.
     pub(crate) fn product(
         &mut self,
         alloc: Global,
@@ -55,11 +56,15 @@ impl Workspace {
         out: &mut [u128],
     ) -> Result<bool, AllocError>
         requires levels { levels < 40 }
+        requires room { length factors.a.now + length factors.b.now ≤ 2 ^ levels }
         requires factors { AreFactors factors.a.now factors.b.now factors.is_square
             (length out.old) }
         ensures { IfOk result (λ found. found ≡ true
             → IsProduct factors.entry.a.now factors.entry.b.now (length out.old) out.new) }
     {
+        if !factors.is_square && (factors.a_comes_again || factors.b_comes_again) {
+            return self.kept_product(alloc, factors, levels, out);
+        }
         self.prepare(alloc, levels)?;
         let Some(tables) = &self.tables else {
             return Ok(false);
@@ -69,6 +74,30 @@ impl Workspace {
             return checked_square(alloc, factors.a, setup, &mut self.buffers, out);
         }
         checked_product(alloc, factors.a, factors.b, setup, &mut self.buffers, out)
+    }
+
+    /// The same of two lists that are not one, from the values that are kept of those that come again.
+    fn kept_product(
+        &mut self,
+        alloc: Global,
+        factors: Factors<'_>,
+        levels: u32,
+        out: &mut [u128],
+    ) -> Result<bool, AllocError>
+        requires levels { levels < 40 }
+        requires room { length factors.a.now + length factors.b.now ≤ 2 ^ levels }
+        requires first { All (λ x. x < 2 ^ 64) factors.a.now }
+        requires second { All (λ x. x < 2 ^ 64) factors.b.now }
+        ensures { IfOk result (λ found. found ≡ true
+            → IsProduct factors.entry.a.now factors.entry.b.now (length out.old) out.new) }
+    {
+        self.prepare(alloc, levels)?;
+        let a = one_list(factors.a, factors.a_comes_again);
+        let b = one_list(factors.b, factors.b_comes_again);
+        match &mut self.tables {
+            Some(tables) => tables.product(alloc, a, b, levels, &mut self.buffers, out),
+            None => Ok(false),
+        }
     }
 
     /// Whether transforms of `2^levels` items serve the products of the low ends and of the high

@@ -4,7 +4,8 @@ ghost use Rattle.dl_transform.specs.Setup.{IsSetup};
 ghost use Rattle.dl_product.specs.Kept.{AreEntries};
 
 use crate::kept::{Entry, Listed, entry_of, keep};
-use dl_transform::{Buffers, Setup, Transformed, checked_values};
+use crate::valued::{Valued, ends_from_values, product_from_values};
+use dl_transform::{Buffers, Setup, is_large_enough};
 use std::alloc::{AllocError, Global};
 
 /// The tables of transforms, and the values by them of lists that come again, the latest first.
@@ -19,6 +20,8 @@ pub(crate) struct Tables {
 impl Tables {
     ghost use Rattle.std.specs.Prelude.{◌≡◌, ℕ, ◌+◌, ◌^◌, ◌<◌, ◌≤◌, true, length, get_or, IfOk};
     ghost use Rattle.dl_transform.specs.Ends.{low_sum, high_sum, AreWords};
+    ghost use Rattle.dl_product.specs.Factors.{IsProduct};
+    ghost use Rattle.dl_product.specs.Kept.{AreListed};
 
     /// Tables by which nothing is kept yet.
     pub(crate) fn new(alloc: Global, setup: Setup) -> Self
@@ -58,13 +61,13 @@ impl Tables {
         }
         let first = entry_of(alloc, &self.setup, &mut self.entries, a, levels)?;
         let second = entry_of(alloc, &self.setup, &mut self.entries, b, levels)?;
-        let found = checked_values(
+        let found = ends_from_values(
             alloc,
-            Transformed {
+            Valued {
                 ends: a.ends,
                 values: &first.values,
             },
-            Transformed {
+            Valued {
                 ends: b.ends,
                 values: &second.values,
             },
@@ -72,6 +75,49 @@ impl Tables {
             buffers,
             lows,
             highs,
+        )?;
+        keep(&mut self.entries, first, a.comes_again)?;
+        keep(&mut self.entries, second, b.comes_again)?;
+        Ok(found)
+    }
+
+    /// Whether the values of two lists of numbers, for products of `2^levels` items, give their
+    /// product; then `out` has its first items, as many as it has room for.
+    pub(crate) fn product(
+        &mut self,
+        alloc: Global,
+        a: Listed<'_>,
+        b: Listed<'_>,
+        levels: u32,
+        buffers: &mut Buffers,
+        out: &mut [u128],
+    ) -> Result<bool, AllocError>
+        requires room { length a.ends.lows.now + length b.ends.lows.now ≤ 2 ^ levels }
+        requires first { AreListed a.ends.lows.now a.ends.widths.now a.are_cells }
+        requires second { AreListed b.ends.lows.now b.ends.widths.now b.are_cells }
+        ensures { IfOk result (λ found. found ≡ true
+            → IsProduct a.entry.ends.lows.now b.entry.ends.lows.now (length out.old) out.new) }
+    {
+        if self.setup.levels() < levels
+            || !is_large_enough(a.ends.lows, b.ends.lows, out.len(), levels)
+        {
+            return Ok(false);
+        }
+        let first = entry_of(alloc, &self.setup, &mut self.entries, a, levels)?;
+        let second = entry_of(alloc, &self.setup, &mut self.entries, b, levels)?;
+        let found = product_from_values(
+            alloc,
+            Valued {
+                ends: a.ends,
+                values: &first.values,
+            },
+            Valued {
+                ends: b.ends,
+                values: &second.values,
+            },
+            &self.setup,
+            buffers,
+            out,
         )?;
         keep(&mut self.entries, first, a.comes_again)?;
         keep(&mut self.entries, second, b.comes_again)?;

@@ -1,8 +1,15 @@
--- The values of the cells of lists by both transforms.
+-- The values of lists, and of the cells of lists, by both transforms.
 use Rattle.std.specs.Prelude.{ℕ, ◌≡◌, ◌≤◌, List}
 use Rattle.dl_transform.specs.Lists.{AreValuesFor}
 use Rattle.dl_transform.specs.declared.combined.Setup.{Setup}
 use Rattle.dl_transform.specs.declared.cell_values.CellValues.{CellValues}
+use Rattle.dl_transform.specs.declared.list_values.ListValues.{ListValues}
+
+-- v has the values, by this setup, of the list a
+pub record AreListValues (s : Setup) (a : List ℕ) (v : ListValues) : Type 0 where
+  pub levels : v.levels ≤ s.levels
+  pub first : AreValuesFor s.first v.levels a v.first.items
+  pub second : AreValuesFor s.second v.levels a v.second.items
 
 -- v has the values, by this setup, of the cells with the low ends a and the widths u
 pub record AreValuesOf (s : Setup) (a u : List ℕ) (v : CellValues) : Type 0 where

@@ -7,6 +7,7 @@ ghost use Rattle.dl_transform.specs.Values.{AreValuesOf};
 
 use crate::combined::Setup;
 use crate::ends::Ends;
+use crate::list_values::values_of_list;
 use crate::modular::new_values;
 use std::alloc::{AllocError, Global};
 
@@ -43,13 +44,12 @@ pub fn values_of_ends(
     ensures levels { IfOk result (λ v. v.levels ≡ levels) }
     ensures values { IfOk result (λ v. AreValuesOf setup.now a.entry.lows.now a.entry.widths.now v) }
 {
-    let lows = new_values(alloc, a.lows, &setup.first, levels)?;
+    let lows = values_of_list(alloc, a.lows, setup, levels)?;
     let widths = new_values(alloc, a.widths, &setup.first, levels)?;
-    let second_lows = new_values(alloc, a.lows, &setup.second, levels)?;
     Ok(CellValues {
-        lows,
+        lows: lows.first,
         widths,
-        second_lows,
+        second_lows: lows.second,
         levels,
     })
 }

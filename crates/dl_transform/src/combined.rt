@@ -223,10 +223,11 @@ pub(crate) fn most(xs: &[u128]) -> u128
     most
 }
 
-/// Whether `levels` levels serve the first `cells` items of the product of two lists: the setup
-/// has room for both, and the sum of `a` times the greatest item of `b` is below `2^123`.
+/// Whether `levels` levels serve the first `cells` items of the product of two lists: they have room
+/// for both, `cells` is no more than both have together, the sum of `a` is below `2^64`, and that sum
+/// times the greatest item of `b` is below `2^123`.
 #[tactic(auto, using(crate::proofs::Wholes::too_large))]
-pub(crate) fn is_large_enough(a: &[u128], b: &[u128], cells: usize, levels: u32) -> bool
+pub fn is_large_enough(a: &[u128], b: &[u128], cells: usize, levels: u32) -> bool
     requires few { levels < 40 }
     requires first { All (λ x. x < 2 ^ 64) a.now }
     requires second { All (λ x. x < 2 ^ 64) b.now }

@@ -14,7 +14,7 @@ use crate::cell_values::CellValues;
 use crate::combined::{
     Buffers, Setup, cells_of, combine_all, is_large_enough, levels_for, most, scaled, total,
 };
-use crate::modular::{ends_modulo, ends_of_values, product_modulo, product_of_values};
+use crate::modular::{ends_modulo, ends_of_values, product_from_values, product_modulo};
 use crate::tables::Table;
 use std::alloc::{AllocError, Global};
 
@@ -97,7 +97,6 @@ fn products_of_values(
     let other = values.second;
     first.copy_from_slice(&values.first.lows);
     mixed.copy_from_slice(&values.first.widths);
-    second.copy_from_slice(&values.first.second_lows);
     ends_of_values(
         first,
         &other.lows,
@@ -106,7 +105,13 @@ fn products_of_values(
         &setup.first,
         levels,
     );
-    product_of_values(second, &other.second_lows, &setup.second, levels);
+    product_from_values(
+        second,
+        &values.first.second_lows,
+        &other.second_lows,
+        &setup.second,
+        levels,
+    );
 }
 
 /// The same from the values of both lists where they are there, and else from the lists, with `spare`

@@ -14,11 +14,13 @@ mod combined;
 mod constants;
 mod ends;
 mod factors;
+mod list_values;
 mod modular;
 mod passes;
 mod tables;
 
 pub use cell_values::{CellValues, values_of_ends};
-pub use combined::{Buffers, Setup, checked_product, checked_square, levels_for};
+pub use combined::{Buffers, Setup, checked_product, checked_square, is_large_enough, levels_for};
 pub use constants::set_up;
 pub use ends::{Ends, Transformed, checked_ends, checked_values};
+pub use list_values::{ListValues, TransformedList, checked_list_values, values_of_list};

@@ -97,6 +97,25 @@ pub(crate) fn product_of_values(x: &mut [u64], y: &[u64], table: &Table, levels:
     items_of(x, table, levels);
 }
 
+/// The product of two lists modulo `p` before its scale, from the values `x` of the first and `y` of
+/// the second, which stay as they are.
+pub(crate) fn product_from_values(out: &mut [u64], x: &[u64], y: &[u64], table: &Table, levels: u32)
+    requires table { IsTableFor table.now levels }
+    requires size { length out.old ≡ 2 ^ levels }
+    requires first_alike { length x.now ≡ length out.old }
+    requires second_alike { length y.now ≡ length out.old }
+    requires first_small { AreBelow (4 * table.now.p) x.now }
+    requires second_small { AreBelow (4 * table.now.p) y.now }
+    ensures small { AreBelow (2 * table.now.p) out.new }
+    ensures same { (a b : List ℕ) → length a + length b ≤ 2 ^ levels
+        → AreValues table.now levels (λ i. slice_index a i) x.now
+        → AreValues table.now levels (λ j. slice_index b j) y.now
+        → AreItems table.now levels (low_sum a b) out.new }
+{
+    out.copy_from_slice(x);
+    product_of_values(out, y, table, levels);
+}
+
 /// The product of the low ends of two lists modulo `p`, in the place of the values `x` of the first,
 /// and what that of their high ends has beyond it, in the place of the values `u` of its widths, both
 /// before their scale; `y` and `v` are the values of the low ends and widths of the second list.

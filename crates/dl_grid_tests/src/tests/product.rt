@@ -16,6 +16,8 @@ enum Ends {
     Zero,
     /// One of so many equal parts, rounded down and up.
     Part(u32),
+    /// From one of twice so many equal parts to one of so many.
+    Between(u32),
     /// From 0 to 1.
     Unknown,
     /// Both 1.
@@ -39,6 +41,21 @@ struct Case {
     second: Shape,
 }
 
+/// From one of twice so many equal parts to one of so many.
+fn between<const B: u32>(parts: u32) -> Iv<B>
+    requires scale_above { 1 ≤ B }
+    requires scale_below { B ≤ 56 }
+{
+    let one = units_of_one(B);
+    if parts == 0 {
+        return Iv { lo: 0, hi: one };
+    }
+    Iv {
+        lo: one / (2 * u128::from(parts)),
+        hi: one.div_ceil(u128::from(parts)),
+    }
+}
+
 fn interval<const B: u32>(ends: Ends) -> Iv<B>
     requires scale_above { 1 ≤ B }
     requires scale_below { B ≤ 56 }
@@ -48,6 +65,7 @@ fn interval<const B: u32>(ends: Ends) -> Iv<B>
         Ends::Zero => Iv { lo: 0, hi: 0 },
         Ends::Part(0) => Iv { lo: 0, hi: one },
         Ends::Part(parts) => part(parts),
+        Ends::Between(parts) => between(parts),
         Ends::Unknown => Iv { lo: 0, hi: one },
         Ends::Sure => Iv { lo: one, hi: one },
     }
@@ -380,25 +398,77 @@ fn all_kept_agree(
 
 #[test]
 fn factors_that_come_again(rt: HostRuntime) {
-    // as long as the grid, shorter, so that the transforms are, the first once more, and wide cells
+    // as long as the grid, shorter, so that the transforms are, the first once more, and wide cells,
+    // which make too much for transforms, or are multiplied by the values of each kind of ends, the
+    // first ones twice, among them some a step apart
     let partners = [
         alike(Ends::Part(700), 0, 700),
         alike(Ends::Part(650), 50, 650),
+        alike(Ends::Between(700), 0, 700),
         alike(Ends::Part(300), 0, 300),
         alike(Ends::Part(700), 0, 700),
         alike(Ends::Unknown, 0, 300),
+        alike(Ends::Between(650), 50, 650),
+        apart(5, Ends::Between(140), 2, 698),
+        alike(Ends::Between(700), 0, 700),
     ];
     let factors = [
         alike(Ends::Part(700), 0, 700),
         alike(Ends::Part(700), 0, 600),
         alike(Ends::Part(701), 0, 600),
         alike(Ends::Part(700), 60, 600),
+        alike(Ends::Between(700), 0, 700),
+        alike(Ends::Between(701), 0, 700),
     ];
     let alloc = rt.alloc();
     let mut work = Workspace::new(alloc);
     for factor in &factors {
         assert!(rt; is_so(all_kept_agree(alloc, &mut work, *factor, &partners)));
     }
+}
+
+/// Of the sum of two amounts: one of 700 with a probability of 1/1600 to 1/800 each, and one of 650
+/// from 50 on with one of 1/1400 to 1/700 each. Worked out by whole numbers of any size.
+const WIDE_SUMS: [CellEnds; 6] = [
+    (49, 0, 0),
+    (50, 32168568766, 128674275068),
+    (51, 64337137533, 257348550136),
+    (349, 9650570630079, 38602282520319),
+    (698, 20877401129738, 83509604518957),
+    (699, 20909569698505, 83638278794024),
+];
+
+/// Whether two products of the same two grids of wide cells, which come again, have them.
+fn have_wide_sums(alloc: Global, work: &mut Workspace) -> Result<bool, AllocError> {
+    let case = pair(
+        700,
+        alike(Ends::Between(800), 0, 700),
+        alike(Ends::Between(700), 50, 650),
+    );
+    let Some((a, b)) = grids_of::<56>(alloc, &case)? else {
+        return Ok(false);
+    };
+    if a.cells() != 700 || b.cells() != 700 {
+        return Ok(false);
+    }
+    let first = Factor {
+        grid: &a,
+        comes_again: true,
+    };
+    let second = Factor {
+        grid: &b,
+        comes_again: true,
+    };
+    let sum = product_of(alloc, work, first, second, 700)?;
+    let swapped = product_of(alloc, work, second, first, 700)?;
+    Ok(has_cells(&sum, &WIDE_SUMS) && has_cells(&swapped, &WIDE_SUMS))
+}
+
+#[test]
+fn wide_cells_that_come_again(rt: HostRuntime) {
+    let alloc = rt.alloc();
+    let mut work = Workspace::new(alloc);
+    assert!(rt; is_so(have_wide_sums(alloc, &mut work)));
 }
 
 /// Whether there was a product of a grid of a shape with itself, as two factors that come again.

@@ -5,16 +5,5 @@ pub new_values-requires-clause-table : goal.new_values-requires-clause-table
 new_values-requires-clause-table c =
     table_for c.requires.levels c.requires.setup.first c.requires.setup.in_first c.requires.setup.first_room
 
-pub new_values-requires-2-clause-table : goal.new_values-requires-2-clause-table
-new_values-requires-2-clause-table c =
-    table_for c.requires.levels c.requires.setup.first c.requires.setup.in_first c.requires.setup.first_room
-
-pub new_values-requires-2-clause-items : goal.new_values-requires-2-clause-items
-new_values-requires-2-clause-items c = word_at c.args.a.widths.now c.requires.cells.width
-
-pub new_values-requires-3-clause-table : goal.new_values-requires-3-clause-table
-new_values-requires-3-clause-table c =
-    table_for c.requires.levels c.requires.setup.second c.requires.setup.in_second c.requires.setup.second_room
-
-pub new_values-requires-3-clause-items : goal.new_values-requires-3-clause-items
-new_values-requires-3-clause-items c = word_at c.args.a.lows.now c.requires.cells.low
+pub new_values-requires-clause-items : goal.new_values-requires-clause-items
+new_values-requires-clause-items c = word_at c.args.a.widths.now c.requires.cells.width

@@ -7,8 +7,8 @@ pub ends_of_values-requires-clause-table : goal.ends_of_values-requires-clause-t
 ends_of_values-requires-clause-table c =
     table_for c.requires.levels c.requires.setup.first c.requires.setup.in_first c.requires.setup.first_room
 
-pub product_of_values-requires-clause-table : goal.product_of_values-requires-clause-table
-product_of_values-requires-clause-table c =
+pub product_from_values-requires-clause-table : goal.product_from_values-requires-clause-table
+product_from_values-requires-clause-table c =
     table_for c.requires.levels c.requires.setup.second c.requires.setup.in_second c.requires.setup.second_room
 
 pub returns-clause-first : goal.returns-clause-first
@@ -16,13 +16,13 @@ returns-clause-first c =
     let known = c.requires.values in
     c.ends_of_values.ensures.same c.args.pair.a.lows.now c.args.pair.b.lows.now c.requires.room
     (values_at known.first.lows known.first_levels (c.copy_from_slice.ensures.after ∙ c.deref.ensures.value))
-    (values_at known.second.lows known.second_levels c.deref-4.ensures.value)
+    (values_at known.second.lows known.second_levels c.deref-3.ensures.value)
 
 pub returns-clause-second : goal.returns-clause-second
 returns-clause-second c =
     let known = c.requires.values in
-    c.product_of_values.ensures.same c.args.pair.a.lows.now c.args.pair.b.lows.now c.requires.room
-    (values_at known.first.second_lows known.first_levels (c.copy_from_slice-3.ensures.after ∙ c.deref-3.ensures.value))
+    c.product_from_values.ensures.same c.args.pair.a.lows.now c.args.pair.b.lows.now c.requires.room
+    (values_at known.first.second_lows known.first_levels c.deref-5.ensures.value)
     (values_at known.second.second_lows known.second_levels c.deref-6.ensures.value)
 
 pub returns-clause-mixed : goal.returns-clause-mixed
@@ -32,5 +32,5 @@ returns-clause-mixed c =
     c.args.pair.b.widths.now c.requires.room c.requires.first.alike c.requires.second.alike
     (values_at known.first.lows known.first_levels (c.copy_from_slice.ensures.after ∙ c.deref.ensures.value))
     (values_at known.first.widths known.first_levels (c.copy_from_slice-2.ensures.after ∙ c.deref-2.ensures.value))
-    (values_at known.second.lows known.second_levels c.deref-4.ensures.value)
-    (values_at known.second.widths known.second_levels c.deref-5.ensures.value)
+    (values_at known.second.lows known.second_levels c.deref-3.ensures.value)
+    (values_at known.second.widths known.second_levels c.deref-4.ensures.value)
