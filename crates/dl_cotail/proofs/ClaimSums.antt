@@ -1,5 +1,5 @@
--- Sums over the amounts of one claim of what the total has at the rest of q, and up to it.
-use Rattle.dl_cotail.proofs.Common.{ℕ, suc, inl, inr, ◌≡◌, ◌∙◌, ◌+◌, ◌-◌, ◌*◌, ◌^◌, ◌<◌, ◌≤◌, min, List, [], ◌∷◌, length, get_or, take, arith, ap, sym, subst₂, add-one, mul-pos, mul-le-mul_left, mul-le-mul_right, pow_pos, Fraction, ◌over◌, ◌*ℚ◌, ◌≤ℚ◌, le_refl, times_le_both, sum_to, count_below, below_same, Iv, low_at, high_at, mass_low, spread, IsGrid, cells_fit, high_le, low_le_high, low_sum, high_is, width_at, width_within, Item, UnitOfPlan, CanShare, expected_count, weight_at, weight_sum, severity_total, amounts_to, Holds, Loss, AreDeclarable, One, Joint, score, partial_sums, total, GridEncloses, at_most_wider, to_holds, outcomes_rise, loss_of, amounts_fit, one_fits, scale_of, size_few, size_of}
+-- Sums over the amounts of one claim of what a grid has at the rest of q, and up to it.
+use Rattle.dl_cotail.proofs.Common.{ℕ, suc, inl, inr, ◌≡◌, ◌∙◌, ◌+◌, ◌-◌, ◌*◌, ◌^◌, ◌<◌, ◌≤◌, min, List, [], ◌∷◌, length, get_or, take, arith, ap, sym, subst₂, add-one, mul-pos, mul-le-mul_left, mul-le-mul_right, pow_pos, Fraction, ◌over◌, ◌*ℚ◌, ◌≤ℚ◌, le_refl, times_le_both, sum_to, count_below, below_same, Iv, low_at, high_at, mass_low, spread, IsGrid, cells_fit, high_le, low_le_high, low_sum, high_is, width_at, width_within, Item, UnitOfPlan, expected_count, weight_at, weight_sum, severity_total, amounts_to, claims_mean, Series, Rises, Holds, at_most_wider, to_holds, amounts_fit, one_fits, scale_of, size_few, size_of}
 use Rattle.std.proofs.lemmas.Bool.Decides.{leb_tells}
 use Rattle.std.proofs.lemmas.List.Sums.{sum_by-cons}
 use Rattle.dl_exact.proofs.Counts.{below_more}
@@ -9,7 +9,6 @@ use Rattle.dl_exact.proofs.SumsOver.{to_over}
 use Rattle.dl_measures.proofs.Sums.{apart, low_most}
 use Rattle.dl_common.proofs.Claims.{weight_parts}
 use Rattle.dl_common.proofs.JointEnds.{positive}
-use Rattle.dl_common.proofs.PoissonJoint.{poisson_exact}
 use Rattle.dl_common.proofs.Tilted.{amounts_pairs, amounts_top, amounts_grow, amounts_apart, part}
 use Rattle.dl_cotail.specs.Sums.{sums_of}
 use Rattle.dl_cotail.proofs.PairSums.{all_pairs}
@@ -126,38 +125,33 @@ module _ {B : ℕ} (grid : List (Iv B)) (u : UnitOfPlan) (q : ℕ) (is : IsGrid 
   pub sums_fit : spread grid < 2 ^ B → low + parts * spread grid < 2 ^ 128
   sums_fit narrow = omega (arith, sums_top narrow, u.sev.weighted.within)
 
-  module _ (shares : CanShare u) (us : List Loss) (i : ℕ) (w : AreDeclarable us) (there : i < length us)
-      (here : get_or us i (loss_of u) ≡ loss_of u) (encloses : GridEncloses grid (total us)) where
-    abbrev n : Fraction
-    n = expected_count u.freq
+  -- ---- of series whose ends are the cells'
 
-    ends_added : (at : ℕ → ℕ) → sum_to q (λ x. exact_end u (2 ^ B) (amounts_to x at u.sev.items))
-        ≡ exact_end u (2 ^ B) (amounts_to q (sums_of at) u.sev.items)
-    ends_added at =
-        let T = u.sev.total * 2 ^ B in
-        sum_to_times q n (λ x. amounts_to x at u.sev.items over T)
-        ∙ ap (λ z. n *ℚ z) (to_over q T (λ x. amounts_to x at u.sev.items) (mul-pos (severity_total u.sev) (pow_pos B))
-        ∙ ap (λ m. m over T) (amounts_added q at u.sev.items))
+  abbrev n : Fraction
+  n = expected_count u.freq
 
-    -- a running sum of high ends is at most the spread above that of the low ends
-    high_end : exact_end u (2 ^ B) (amounts_to q (sums_of (high_at grid)) u.sev.items)
-        ≤ℚ exact_end u (2 ^ B) (low + parts * spread grid)
-    high_end = times_le_both n n _ _ (le_refl n)
-        (over_le_over _ _ _ (mul-pos (severity_total u.sev) (pow_pos B)) (omega (
-          arith,
-          amounts_more q (spread grid) (sums_of (low_at grid)) u.sev.items,
-          amounts_grow q (sums_of (high_at grid)) (λ k. sums_of (low_at grid) k + spread grid) u.sev.items
-              (λ k. apart grid (suc k)),
-        )))
+  ends_added : (at : ℕ → ℕ) → sum_to q (λ x. claims_mean u (2 ^ B) x at) ≡ claims_mean u (2 ^ B) q (sums_of at)
+  ends_added at =
+      let T = u.sev.total * 2 ^ B in
+      sum_to_times q n (λ x. amounts_to x at u.sev.items over T)
+      ∙ ap (λ z. n *ℚ z) (to_over q T (λ x. amounts_to x at u.sev.items) (mul-pos (severity_total u.sev) (pow_pos B))
+      ∙ ap (λ m. m over T) (amounts_added q at u.sev.items))
 
-    abbrev Q : ℕ → Fraction
-    Q N = sum_to q (λ x. partial_sums us (Joint i x) N)
+  -- a running sum of high ends is at most the spread above that of the low ends
+  high_end : claims_mean u (2 ^ B) q (sums_of (high_at grid)) ≤ℚ exact_end u (2 ^ B) (low + parts * spread grid)
+  high_end = times_le_both n n _ _ (le_refl n)
+      (over_le_over _ _ _ (mul-pos (severity_total u.sev) (pow_pos B)) (omega (
+        arith,
+        amounts_more q (spread grid) (sums_of (low_at grid)) u.sev.items,
+        amounts_grow q (sums_of (high_at grid)) (λ k. sums_of (low_at grid) k + spread grid) u.sev.items
+            (λ k. apart grid (suc k)),
+      )))
 
-    pub sums_hold : Holds Q (partial_sums us One) (exact_end u (2 ^ B) low)
-        (exact_end u (2 ^ B) (low + parts * spread grid))
-    sums_hold =
-        let R = partial_sums us One in
-        let exact = subst₂ (λ l h. Holds Q R l h) (ends_added (low_at grid)) (ends_added (high_at grid))
-        (to_holds q (λ x. partial_sums us (Joint i x)) R _ _ (λ x. outcomes_rise us w (score (Joint i x)))
-        (λ x le. poisson_exact us i x w grid u shares there here encloses (omega arith))) in
-        (exact.0, at_most_wider Q R _ _ exact.1 high_end)
+  pub sums_hold : (P : ℕ → Series) (R : Series) → ((x : ℕ) → Rises (P x))
+      → ((x : ℕ) → x ≤ q → Holds (P x) R (claims_mean u (2 ^ B) x (low_at grid)) (claims_mean u (2 ^ B) x (high_at grid)))
+      → Holds (λ N. sum_to q (λ x. P x N)) R (exact_end u (2 ^ B) low) (exact_end u (2 ^ B) (low + parts * spread grid))
+  sums_hold P R rise each =
+      let Q = λ (N : ℕ). sum_to q (λ x. P x N) in
+      let exact = subst₂ (λ l h. Holds Q R l h) (ends_added (low_at grid)) (ends_added (high_at grid))
+      (to_holds q P R _ _ rise each) in
+      (exact.0, at_most_wider Q R _ _ exact.1 high_end)

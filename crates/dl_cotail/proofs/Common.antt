@@ -31,7 +31,7 @@ pub use Rattle.dl_model.specs.Shares.{HoldsShare, unit_mean}
 pub use Rattle.std.specs.Prelude.{nat_le}
 pub use Rattle.std.proofs.Common.{mul-pos, rules}
 pub use Rattle.dl_common.proofs.Tilted.{amounts_fit}
-pub use Rattle.dl_common.specs.Amounts.{amounts_to}
+pub use Rattle.dl_common.specs.Amounts.{amounts_to, claims_mean}
 pub use Rattle.dl_grid.proofs.CellLaws.{high_le, size_of}
 pub use Rattle.dl_grid.proofs.EndLists.{low_le_high}
 pub use Rattle.dl_model.proofs.Ends.{to_holds}

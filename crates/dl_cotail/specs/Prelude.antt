@@ -1,3 +1,3 @@
 -- The definitions that other crates cite, passed on from one place. Declares nothing.
 pub use Rattle.dl_cotail.specs.Settled.{IsPast, MayBeAbsent}
-pub use Rattle.dl_cotail.specs.Widths.{cotail_width, poisson_cotail_width}
+pub use Rattle.dl_cotail.specs.Widths.{cotail_width, poisson_cotail_width, gamma_cotail_width}

@@ -9,7 +9,8 @@ abbrev pub joint_width : (S cells unit others : ℕ) → ℕ
 joint_width S cells unit others = cells * convolution_spread S cells unit others
 
 -- a joint mean of a Poisson unit, and the sum of those up to a total, from its expected claims above
--- 0 rounded up and the spread of the total's grid
+-- 0 rounded up and the spread of the total's grid; and those of a gamma unit, from the spread of the
+-- grid of the total with its extra claims
 abbrev pub poisson_joint_width : (cells claims total : ℕ) → ℕ
 poisson_joint_width cells claims total = (cells * total + 1) * claims + 1
 
@@ -32,3 +33,9 @@ cotail_width p S mean cells unit others total =
 abbrev pub poisson_cotail_width : (p : Fraction) (mean cells claims total : ℕ) → ℕ
 poisson_cotail_width p mean cells claims total =
     share_width p mean cells (poisson_joint_width cells claims total) total
+
+-- the same of a gamma unit, from the spreads of the grid of the total with its extra claims and of
+-- the total's
+abbrev pub gamma_cotail_width : (p : Fraction) (mean cells claims raised total : ℕ) → ℕ
+gamma_cotail_width p mean cells claims raised total =
+    share_width p mean cells (poisson_joint_width cells claims raised) total

@@ -1,12 +1,14 @@
-//! Joint means of a Poisson unit beside independent units, from the grid of the total alone.
+//! Joint means of one unit beside independent units, from one grid: of a Poisson unit from the grid
+//! of the total, and of a gamma unit from the grid of the total with the unit's extra claims.
 
-ghost use Rattle.std.specs.Prelude.{ℕ, ◌≡◌, ◌+◌, ◌-◌, ◌*◌, ◌^◌, ◌<◌, ◌≤◌, List, length, get_or};
+ghost use Rattle.std.specs.Prelude.{ℕ, ◌≡◌, ◌+◌, ◌-◌, ◌*◌, ◌^◌, ◌<◌, ◌≤◌, length};
 ghost use Rattle.dl_limits.specs.Limits.{most_parts};
 ghost use Rattle.dl_exact.specs.Prelude.{◌over◌, ◌*ℚ◌, sum_to};
 ghost use Rattle.dl_grid.specs.Prelude.{low_at, high_at, spread, up};
-ghost use Rattle.dl_plan.specs.Prelude.{weight_sum, weight_at, expected_count, thinned_mean, IsValidUnit, CanShare};
-ghost use Rattle.dl_model.specs.Prelude.{Series, Holds, Loss, AreDeclarable, One, Joint, partial_sums, total as total_of, GridEncloses, loss_of};
-ghost use Rattle.dl_common.specs.Amounts.{amounts_to};
+ghost use Rattle.dl_plan.specs.Prelude.{weight_sum, weight_at, expected_count, thinned_mean, IsValidUnit, IsUnbounded};
+ghost use Rattle.dl_model.specs.Prelude.{Series, Holds};
+ghost use Rattle.dl_model.specs.Series.{Rises};
+ghost use Rattle.dl_common.specs.Amounts.{amounts_to, claims_mean};
 ghost use Rattle.dl_cotail.specs.Widths.{poisson_joint_width};
 
 use crate::running::running_sums;
@@ -42,7 +44,7 @@ fn of_claims<const B: u32>(unit: &Unit, low: u128, high: u128) -> Iv<B>
     requires scale_above { 1 ≤ B }
     requires scale_below { B ≤ 56 }
     requires valid { (cells : ℕ) × IsValidUnit cells unit.now }
-    requires poisson { CanShare unit.now }
+    requires unbounded { IsUnbounded unit.now.freq }
     requires order { low ≤ high }
     requires fits { high ≤ 2 ^ 71 * (unit.now.sev.total - weight_at unit.now.sev.items 0) }
     ensures holds { (Q R : Series) → Holds Q R
@@ -65,43 +67,43 @@ fn of_claims<const B: u32>(unit: &Unit, low: u128, high: u128) -> Iv<B>
     one.scale(mean.num(), mean.den())
 }
 
-/// The joint mean of a Poisson unit at the total `q`, in buckets: by Panjer's recursion its
-/// expected number of claims above 0 times the sum, over the amounts of one claim up to `q`, of the
-/// amount times its probability given that it is positive times what the total has at the rest of
-/// `q`.
-pub(crate) fn claims_joint<const B: u32>(unit: &Unit, total: &Distribution<B>, q: u32) -> Iv<B>
+/// A unit's expected number of claims above 0 times the sum, over the amounts of one claim up to
+/// `q`, of the amount times its probability given that it is positive times what the grid has at
+/// the rest of `q`, in buckets. Of a Poisson unit this is the joint mean at the total `q`, where the
+/// grid is that of the total, by Panjer's recursion; of a gamma unit, where it is that of the total
+/// with the unit's extra claims.
+pub(crate) fn claims_joint<const B: u32>(unit: &Unit, grid: &Distribution<B>, q: u32) -> Iv<B>
     requires valid { (cells : ℕ) × IsValidUnit cells unit.now }
-    requires poisson { CanShare unit.now }
-    requires inside { q < length total.now }
-    ensures holds { (us : List Loss) (i : ℕ) → AreDeclarable us → i < length us
-        → get_or us i (loss_of unit.now) ≡ loss_of unit.now → GridEncloses total.now (total_of us)
-        → Holds (partial_sums us (Joint i q)) (partial_sums us One) (result.lo over 2 ^ B)
-        (result.hi over 2 ^ B) }
-    ensures width { (t : ℕ) → spread total.now ≤ t → result.hi - result.lo
-        ≤ poisson_joint_width (length total.now) (up (thinned_mean unit.now)) t }
+    requires unbounded { IsUnbounded unit.now.freq }
+    requires inside { q < length grid.now }
+    ensures holds { (Q R : Series)
+        → Holds Q R (claims_mean unit.now (2 ^ B) q (low_at grid.now))
+        (claims_mean unit.now (2 ^ B) q (high_at grid.now))
+        → Holds Q R (result.lo over 2 ^ B) (result.hi over 2 ^ B) }
+    ensures width { (t : ℕ) → spread grid.now ≤ t → result.hi - result.lo
+        ≤ poisson_joint_width (length grid.now) (up (thinned_mean unit.now)) t }
 {
-    total.cells();
-    let (low, high) = cell_sums(unit.sev.items.as_slice(), total, q);
+    grid.cells();
+    let (low, high) = cell_sums(unit.sev.items.as_slice(), grid, q);
     of_claims(unit, low, high)
 }
 
-/// The sum of the joint means of a Poisson unit at the totals up to `q`, in buckets: the same with
-/// what the total has up to the rest of `q`. The high ends of the cells are above the low ends by
-/// no more than the spread of the grid, so a running sum of them is no further above that of the
-/// low ends.
-pub(crate) fn claims_sums<const B: u32>(unit: &Unit, total: &Distribution<B>, q: u32) -> Iv<B>
+/// The sum of what `claims_joint` holds at the totals up to `q`, in buckets: the same with what the
+/// grid has up to the rest of `q`. The high ends of the cells are above the low ends by no more than
+/// the spread of the grid, so a running sum of them is no further above that of the low ends.
+pub(crate) fn claims_sums<const B: u32>(unit: &Unit, grid: &Distribution<B>, q: u32) -> Iv<B>
     requires valid { (cells : ℕ) × IsValidUnit cells unit.now }
-    requires poisson { CanShare unit.now }
-    requires inside { q < length total.now }
-    requires narrow { spread total.now < 2 ^ B }
-    ensures holds { (us : List Loss) (i : ℕ) → AreDeclarable us → i < length us
-        → get_or us i (loss_of unit.now) ≡ loss_of unit.now → GridEncloses total.now (total_of us)
-        → Holds (λ N. sum_to q (λ x. partial_sums us (Joint i x) N)) (partial_sums us One)
-        (result.lo over 2 ^ B) (result.hi over 2 ^ B) }
-    ensures width { (t : ℕ) → spread total.now ≤ t → result.hi - result.lo
-        ≤ poisson_joint_width (length total.now) (up (thinned_mean unit.now)) t }
+    requires unbounded { IsUnbounded unit.now.freq }
+    requires inside { q < length grid.now }
+    requires narrow { spread grid.now < 2 ^ B }
+    ensures holds { (joint : ℕ → Series) (R : Series) → ((x : ℕ) → Rises (joint x))
+        → ((x : ℕ) → x ≤ q → Holds (joint x) R (claims_mean unit.now (2 ^ B) x (low_at grid.now))
+        (claims_mean unit.now (2 ^ B) x (high_at grid.now)))
+        → Holds (λ N. sum_to q (λ x. joint x N)) R (result.lo over 2 ^ B) (result.hi over 2 ^ B) }
+    ensures width { (t : ℕ) → spread grid.now ≤ t → result.hi - result.lo
+        ≤ poisson_joint_width (length grid.now) (up (thinned_mean unit.now)) t }
 {
-    total.cells();
-    let (low, parts) = running_sums(unit.sev.items.as_slice(), total, q);
-    of_claims(unit, low, low + parts * total.spread())
+    grid.cells();
+    let (low, parts) = running_sums(unit.sev.items.as_slice(), grid, q);
+    of_claims(unit, low, low + parts * grid.spread())
 }

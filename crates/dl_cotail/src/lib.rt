@@ -1,7 +1,8 @@
 //! The share of one unit in the tail mean of a total: the mean of its outcome over the greatest
 //! totals, so that the shares of all units add up to the tail mean. It comes from the grids of the
-//! unit, of all other units and of the total, or, for a Poisson unit, from that of the total alone;
-//! it holds the declared share, and takes no memory.
+//! unit, of all other units and of the total; or, for a Poisson unit, from that of the total alone;
+//! or, for a gamma unit, from that of the total and that of the total with the unit's extra claims.
+//! It holds the declared share, and takes no memory.
 //!
 //! The clauses speak of every list of losses that can be declared (`AreDeclared`), as those of the
 //! units of every valid plan can, by `dl_model::plans::law_declared`.
@@ -14,4 +15,4 @@ mod settled;
 mod shares;
 mod sums;
 
-pub use shares::{cotail, poisson_cotail};
+pub use shares::{cotail, gamma_cotail, poisson_cotail};

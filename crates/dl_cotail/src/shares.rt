@@ -1,16 +1,18 @@
 //! Shares in a tail mean.
 
-ghost use Rattle.std.specs.Prelude.{◌≡◌, ◌↔◌, ◌⊎◌, ℕ, ◌-◌, ◌*◌, ◌/◌, ◌^◌, ◌<◌, ◌≤◌, List, length, get_or, Some, IsNone, IfSome};
+ghost use Rattle.std.specs.Prelude.{◌≡◌, ◌↔◌, ◌⊎◌, ℕ, ◌-◌, ◌*◌, ◌/◌, ◌^◌, ◌<◌, ◌≤◌, List, ◌∷◌, length, get_or, Some, IsNone, IfSome};
 ghost use Rattle.std.specs.Int.{div_ceil};
 ghost use Rattle.dl_limits.specs.Limits.{rarest_parts};
 ghost use Rattle.dl_exact.specs.Prelude.{Fraction, whole, ◌over◌, ◌-ℚ◌, ◌<ℚ◌, sum_to};
 ghost use Rattle.dl_iv.specs.Enclosure.{LiesIn};
 ghost use Rattle.dl_grid.specs.Prelude.{low_at, spread, up};
+ghost use Rattle.dl_plan.specs.declared.plan.Unit.{Unit as UnitOfPlan};
 ghost use Rattle.dl_plan.specs.Prelude.{thinned_mean, IsValidUnit, CanShare};
 ghost use Rattle.dl_model.specs.Prelude.{Holds, Loss, AreDeclarable, One, Point, Joint, partial_sums, total as total_of, GridEncloses, unit_of, without, IsQuantile, AreDeclared, HoldsShare, unit_mean, loss_of};
 ghost use Rattle.dl_measures.specs.Prelude.{IsFirstFound, low_cdf};
+ghost use Rattle.dl_common.specs.Extra.{CanRaise, IsExtra};
 ghost use Rattle.dl_cotail.specs.Settled.{IsPast, IsOpen, IsRare, IsSettled, MayBeAbsent};
-ghost use Rattle.dl_cotail.specs.Widths.{conditional_width, share_width, cotail_width, poisson_cotail_width};
+ghost use Rattle.dl_cotail.specs.Widths.{conditional_width, share_width, cotail_width, poisson_cotail_width, gamma_cotail_width};
 
 use crate::claims::{claims_joint, claims_sums};
 use crate::settled::common_quantile;
@@ -190,5 +192,57 @@ pub fn poisson_cotail<const B: u32>(
     let q = common_quantile(total, p)?;
     let joint = claims_joint(unit, total, q);
     let below = claims_sums(unit, total, q);
+    Some(tail_share(total, mean, joint, below, q, p))
+}
+
+/// The share of one gamma unit in the tail mean at `p`, in buckets, beside independent units: as
+/// `cotail`, from the grid of the total and that of the total with the unit's extra claims,
+/// `dl_common::extra`, which are independent of all units. The sum of the other units is not
+/// needed.
+///
+/// `raised` is the grid of the total with the extra claims, on as many cells as `total`, the grid
+/// of the total, and `mean` is to hold the unit's mean. `p` is below 1, with parts of at most
+/// 10,000. None exactly where `total` ends before the quantile, the bracket of the quantile has two
+/// ends, or its probability may be below one in `rarest_parts`. Takes no memory.
+pub fn gamma_cotail<const B: u32>(
+    unit: &Unit,
+    raised: &Distribution<B>,
+    total: &Distribution<B>,
+    mean: Iv<B>,
+    p: Frac,
+) -> Option<Iv<B>>
+    requires below_one { p <ℚ whole 1 }
+    requires small { p.den ≤ 10000 }
+    requires valid { (cells : ℕ) × IsValidUnit cells unit.now }
+    requires gamma { CanRaise unit.now }
+    requires cells { length raised.now ≡ length total.now }
+    requires raised_narrow { spread raised.now < 2 ^ B }
+    requires total_narrow { spread total.now < 2 ^ B }
+    requires mean { mean.hi ≤ 2 ^ 97 }
+    ensures none { IsNone result
+        ↔ (IsPast total.now p ⊎ IsOpen total.now p ⊎ IsRare total.now p) }
+    ensures holds { (us : List Loss) (i : ℕ) (extra : UnitOfPlan) → AreDeclared us → i < length us
+        → get_or us i (loss_of unit.now) ≡ loss_of unit.now → IsExtra unit.now extra
+        → GridEncloses raised.now (total_of (loss_of extra ∷ us))
+        → GridEncloses total.now (total_of us)
+        → Holds (unit_mean us i) (partial_sums us One) (mean.entry.lo over 2 ^ B)
+        (mean.entry.hi over 2 ^ B)
+        → IfSome result (λ r. (q : ℕ) → IsQuantile (partial_sums us) q p
+        → HoldsShare (partial_sums us) i p q (r.lo over 2 ^ B) (r.hi over 2 ^ B)) }
+    ensures small { IfSome result (λ r. r.hi ≤ 2 ^ 112) }
+    // at a quantile inside the grid there is none only where the distribution is near p, or the
+    // quantile is rare
+    ensures absent { (us : List Loss) (x : ℕ) → AreDeclared us
+        → GridEncloses total.now (total_of us) → IsNone result
+        → IsFirstFound (low_cdf (2 ^ B) (low_at total.now)) p (length total.now) (Some x)
+        → MayBeAbsent (partial_sums us) (length total.now) p (spread total.now over 2 ^ B) }
+    // within the budget for spreads and means within theirs
+    ensures width { IfSome result (λ r. (m s t : ℕ) → mean.entry.hi - mean.entry.lo ≤ m
+        → spread raised.now ≤ s → spread total.now ≤ t → r.hi - r.lo
+        ≤ gamma_cotail_width p m (length total.now) (up (thinned_mean unit.now)) s t) }
+{
+    let q = common_quantile(total, p)?;
+    let joint = claims_joint(unit, raised, q);
+    let below = claims_sums(unit, raised, q);
     Some(tail_share(total, mean, joint, below, q, p))
 }

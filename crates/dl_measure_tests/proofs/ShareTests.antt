@@ -1,8 +1,9 @@
 -- What the tests of shares know of claims that come as often to 1 bucket as to 2, and of one or two expected claims.
-use Rattle.std.proofs.Common.{List, [], ◌∷◌, ℕ, zero, suc, ◌≡◌, ◌+◌, ◌<◌, ◌≤◌, ◌^◌, get_or, arith, refl, sym, ap, ap₂, subst, ◌∙◌}
-use Rattle.std.specs.Prelude.{All}
+use Rattle.std.proofs.Common.{List, [], ◌∷◌, ℕ, zero, suc, ◌≡◌, ◌<◌, ◌≤◌, ◌^◌, arith, refl, sym, ap, ap₂, subst, ◌∙◌}
+use Rattle.std.specs.Prelude.{All, true, nat_le}
 use Rattle.std.specs.List.Sorted.{IsStrictlyIncreasing}
 use Rattle.std.proofs.lemmas.List.Elements.{All-from_recursion}
+use Rattle.dl_limits.specs.Limits.{most_short_cells}
 unfoldable use Rattle.dl_limits.specs.Limits.{most_amount_at}
 use Rattle.dl_exact.specs.Prelude.{gcd, euclid, Fraction, ◌over◌, ◌*ℚ◌, ◌-ℚ◌, ◌≤ℚ◌, whole}
 use Rattle.dl_exact.proofs.Laws.{one_pos, times_one}
@@ -32,10 +33,10 @@ halves_weighted = record {
 pub halves_near : All (λ (i : Item). i.amount ≤ 2 ^ 20) halves
 halves_near = All-from_recursion (λ (i : Item). i.amount ≤ 2 ^ 20) halves (omega arith, (omega arith, tt))
 
-pub few_amounts : (items : List Item) → All (λ (i : Item). i.amount ≤ 2 ^ 20) items
-    → All (λ (i : Item). i.amount ≤ most_amount_at 7) items
+pub few_amounts : (cells : ℕ) (items : List Item) → nat_le cells most_short_cells ≡ true
+    → All (λ (i : Item). i.amount ≤ 2 ^ 20) items → All (λ (i : Item). i.amount ≤ most_amount_at cells) items
 unfolding most_amount_at
-few_amounts items near = near
+few_amounts cells items short near = rw short near
 
 small : (n : ℕ) → n ≤ 2 → HasPartsOf48Bits (n over 1)
 small n few = record {

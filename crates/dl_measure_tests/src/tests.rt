@@ -3,6 +3,7 @@
 mod alloc;
 mod cede;
 mod cede_means;
+mod gamma_shares;
 mod helpers;
 mod measures;
 mod others;

@@ -72,7 +72,7 @@ fn cells(alloc: Global, lows: &[u64; 7]) -> Result<Grid<48>, AllocError>
 }
 
 /// As often 1 bucket as 2.
-fn one_or_two(alloc: Global) -> Result<Sev, AllocError>
+pub fn one_or_two(alloc: Global) -> Result<Sev, AllocError>
     ensures never { IfOk result (λ sev. probability_of sev 0 ≡ whole 0) }
     ensures near { IfOk result (λ sev. All (λ item. item.amount ≤ 2 ^ 20) sev.items) }
 {

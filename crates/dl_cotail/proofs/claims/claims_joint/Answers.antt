@@ -1,12 +1,11 @@
-use Rattle.dl_cotail.proofs.Common.{◌+◌, ◌*◌, ◌≤◌, arith, length, mul-le-mul, mul-le-mul_right, scale_of, spread, thinned_mean, One, Joint, partial_sums}
+use Rattle.dl_cotail.proofs.Common.{◌+◌, ◌*◌, ◌≤◌, arith, length, mul-le-mul, mul-le-mul_right, scale_of, spread, thinned_mean}
 use Rattle.dl_grid.specs.Width.{up}
-use Rattle.dl_common.proofs.PoissonJoint.{poisson_exact}
 use Rattle.dl_cotail.proofs.ClaimSums.{cells_order, cells_top, cells_near}
 use Rattle.dl_cotail.proofs.claims.claims_joint.Goals as goal
 
 pub of_claims-requires : goal.of_claims-requires
 of_claims-requires g c =
-    let grid = c.args.total.now in
+    let grid = c.args.grid.now in
     let is = c.cells.ensures.grid in
     let scale = scale_of grid is.some in
     let low = rw c.as_slice.ensures at c.cell_sums-low.ensures.low in
@@ -20,7 +19,7 @@ of_claims-requires g c =
           (
             c.requires.valid,
             (
-              c.requires.poisson,
+              c.requires.unbounded,
               (
                 cells_order grid c.args.unit.now c.args.q is c.requires.inside,
                 cells_top grid c.args.unit.now c.args.q is c.requires.inside,
@@ -32,15 +31,14 @@ of_claims-requires g c =
     )
 
 pub returns-clause-holds : goal.returns-clause-holds
-returns-clause-holds g c us i w there here e =
+returns-clause-holds g c Q R exact =
     let low = rw c.as_slice.ensures at c.cell_sums-low.ensures.low in
     let high = rw c.as_slice.ensures at c.cell_sums-low.ensures.high in
-    c.of_claims.ensures.holds (partial_sums us (Joint i c.args.q)) (partial_sums us One) (rw (low, high)
-    (poisson_exact us i c.args.q w c.args.total.now c.args.unit.now c.requires.poisson there here e c.requires.inside))
+    c.of_claims.ensures.holds Q R (rw (low, high) exact)
 
 pub returns-clause-width : goal.returns-clause-width
 returns-clause-width g c t narrow =
-    let grid = c.args.total.now in
+    let grid = c.args.grid.now in
     let q = c.args.q in
     let low = rw c.as_slice.ensures at c.cell_sums-low.ensures.low in
     let high = rw c.as_slice.ensures at c.cell_sums-low.ensures.high in

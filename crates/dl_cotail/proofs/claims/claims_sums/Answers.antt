@@ -1,4 +1,4 @@
-use Rattle.dl_cotail.proofs.Common.{◌+◌, ◌*◌, ◌≤◌, arith, length, mul-le-mul, mul-le-mul_right, scale_of, spread, thinned_mean, sum_to, One, Joint, partial_sums}
+use Rattle.dl_cotail.proofs.Common.{◌+◌, ◌*◌, ◌≤◌, arith, length, mul-le-mul, mul-le-mul_right, scale_of, spread, thinned_mean, sum_to}
 use Rattle.dl_grid.specs.Width.{up}
 use Rattle.dl_cotail.proofs.ClaimSums.{sums_near, sums_top, sums_fit, sums_hold}
 use Rattle.dl_cotail.proofs.claims.claims_sums.Goals as goal
@@ -6,19 +6,19 @@ use Rattle.dl_cotail.proofs.claims.claims_sums.Goals as goal
 pub overflow_mul-parts : goal.overflow_mul-parts
 overflow_mul-parts g c =
     let parts = rw c.as_slice.ensures at c.running_sums-low.ensures.parts in
-    let fits = sums_fit c.args.total.now c.args.unit.now c.args.q c.cells.ensures.grid c.requires.inside c.requires.narrow in
+    let fits = sums_fit c.args.grid.now c.args.unit.now c.args.q c.cells.ensures.grid c.requires.inside c.requires.narrow in
     rw (parts, c.spread.ensures) (omega (arith, fits))
 
 pub overflow_add-low : goal.overflow_add-low
 overflow_add-low g c =
     let low = rw c.as_slice.ensures at c.running_sums-low.ensures.low in
     let parts = rw c.as_slice.ensures at c.running_sums-low.ensures.parts in
-    let fits = sums_fit c.args.total.now c.args.unit.now c.args.q c.cells.ensures.grid c.requires.inside c.requires.narrow in
+    let fits = sums_fit c.args.grid.now c.args.unit.now c.args.q c.cells.ensures.grid c.requires.inside c.requires.narrow in
     rw (low, parts, c.spread.ensures) (omega (arith, fits))
 
 pub of_claims-requires : goal.of_claims-requires
 of_claims-requires g c =
-    let grid = c.args.total.now in
+    let grid = c.args.grid.now in
     let is = c.cells.ensures.grid in
     let scale = scale_of grid is.some in
     let low = rw c.as_slice.ensures at c.running_sums-low.ensures.low in
@@ -32,7 +32,7 @@ of_claims-requires g c =
           (
             c.requires.valid,
             (
-              c.requires.poisson,
+              c.requires.unbounded,
               (omega arith, sums_top grid c.args.unit.now c.args.q is c.requires.inside c.requires.narrow),
             ),
           ),
@@ -41,16 +41,15 @@ of_claims-requires g c =
     )
 
 pub returns-clause-holds : goal.returns-clause-holds
-returns-clause-holds g c us i w there here e =
+returns-clause-holds g c joint R rise each =
     let low = rw c.as_slice.ensures at c.running_sums-low.ensures.low in
     let parts = rw c.as_slice.ensures at c.running_sums-low.ensures.parts in
-    c.of_claims.ensures.holds (λ N. sum_to c.args.q (λ x. partial_sums us (Joint i x) N)) (partial_sums us One)
-    (rw (low, parts, c.spread.ensures) (sums_hold c.args.total.now c.args.unit.now c.args.q c.cells.ensures.grid
-    c.requires.inside c.requires.poisson us i w there here e))
+    c.of_claims.ensures.holds (λ N. sum_to c.args.q (λ x. joint x N)) R (rw (low, parts, c.spread.ensures)
+    (sums_hold c.args.grid.now c.args.unit.now c.args.q c.cells.ensures.grid c.requires.inside joint R rise each))
 
 pub returns-clause-width : goal.returns-clause-width
 returns-clause-width g c t narrow =
-    let grid = c.args.total.now in
+    let grid = c.args.grid.now in
     let q = c.args.q in
     let low = rw c.as_slice.ensures at c.running_sums-low.ensures.low in
     let parts = rw c.as_slice.ensures at c.running_sums-low.ensures.parts in

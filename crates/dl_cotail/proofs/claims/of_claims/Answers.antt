@@ -1,5 +1,4 @@
 use Rattle.dl_cotail.proofs.Common.{◌∙◌, ap, sym, arith, Fraction}
-use Rattle.dl_plan.proofs.Shared.{poisson_unbounded}
 use Rattle.dl_common.proofs.JointEnds.{positive}
 use Rattle.dl_cotail.proofs.ClaimEnds.{claim_weight, scaled_fit, ends_apart, ends_hold, none_hold}
 use Rattle.dl_cotail.proofs.claims.of_claims.Goals as goal
@@ -25,7 +24,7 @@ pub scale-requires : goal.scale-requires
 scale-requires g c =
     let weight = claim_weight c.args.unit.now _ _ _ c.thinned-mean.ensures
     (λ e. c.if-num-eq0.false (c.num.ensures.part ∙ e)) c.share_above_zero.ensures c.numerator_over-positive.ensures in
-    let admitted = (c.requires.valid.1.thinned (poisson_unbounded c.args.unit.now.freq c.requires.poisson.count)).0 in
+    let admitted = (c.requires.valid.1.thinned c.requires.unbounded).0 in
     let num = admitted.num in
     let fits = scaled_fit c.args.high (positive c.args.unit.now) c.num-2.result c.den.result (omega arith) c.requires.fits
     (omega (arith, ap (λ (x : Fraction). x.num) c.thinned-mean.ensures)) c.den.ensures.positive in

@@ -1,0 +1,29 @@
+use Rattle.dl_cotail.proofs.Common.{ℕ, ◌<◌, arith, length, rules, are_units, outcomes_rise, score, Joint, One, partial_sums}
+use Rattle.dl_common.proofs.GammaJoint.{gamma_exact}
+use Rattle.dl_common.proofs.GammaUnits.{gamma_unbounded}
+use Rattle.dl_cotail.proofs.shares.gamma_cotail.Goals as goal
+
+pub claims_joint-joint-requires : goal.claims_joint-joint-requires
+claims_joint-joint-requires g c =
+    let unbounded = gamma_unbounded c.args.unit.now.freq c.requires.gamma.count in search rules
+
+pub claims_sums-below-requires : goal.claims_sums-below-requires
+claims_sums-below-requires g c =
+    let unbounded = gamma_unbounded c.args.unit.now.freq c.requires.gamma.count in search rules
+
+pub returns-clause-holds : goal.returns-clause-holds
+returns-clause-holds g c us i extra d there here is raised e mean =
+    let w = are_units us d in
+    let settled = c.in_ok-q.ensures.some in
+    let exact = λ (x : ℕ) (inside : x < length c.args.raised.now). gamma_exact c.args.unit.now extra c.requires.gamma
+    c.requires.valid.1.count is c.args.raised.now us i x w there here raised inside in
+    c.tail_share.ensures.holds us i d e mean
+    (c.claims_joint-joint.ensures.holds _ _ (exact _ (omega (arith, settled.inside, c.requires.cells))))
+    (c.claims_sums-below.ensures.holds (λ x. partial_sums us (Joint i x)) (partial_sums us One)
+    (λ x. outcomes_rise us w (score (Joint i x))) (λ x le. exact x (omega (arith, settled.inside, c.requires.cells))))
+
+pub returns-clause-width : goal.returns-clause-width
+returns-clause-width g c m s t of_mean of_raised of_total =
+    c.tail_share.ensures.width m _ t of_mean
+    (rw c.requires.cells at c.claims_joint-joint.ensures.width s of_raised)
+    (rw c.requires.cells at c.claims_sums-below.ensures.width s of_raised) of_total
