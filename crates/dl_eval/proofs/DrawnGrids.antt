@@ -1,12 +1,11 @@
 -- The grids that rows are drawn from.
-use Rattle.dl_eval.proofs.Common.{ℕ, ◌≡◌, ◌<◌, List, length, get_or, refl, sym, inl, inr, subst, Option, None, Some, All, Any, IfSome, IfSome_then, IsSome, HasOthers}
+use Rattle.dl_eval.proofs.Common.{ℕ, ◌≡◌, ◌<◌, List, length, get_or, refl, sym, inl, subst, Option, None, Some, All, Any, IfSome_then, IsSome, HasOthers}
 use Rattle.dl_plan.specs.declared.plan.Plan.{Plan}
 use Rattle.dl_eval.proofs.Lists.{any_here}
 use Rattle.dl_eval.specs.declared.grids.Grids.{Grids}
 use Rattle.dl_eval.specs.declared.pooled.PooledGrids.{PooledGrids}
 use Rattle.dl_eval.specs.declared.drawn.PlanGrids.TheVariants.{Independent, Shared}
 use Rattle.dl_eval.specs.Drawn.{HasNeeded}
-use Rattle.dl_eval.specs.Totals.{IsFromTotal}
 
 -- where an ask names a unit, the grid of the raised unit is there
 pub shared_needed : {B : ℕ} (plan : Plan) (grids : PooledGrids B) (named : List (Option ℕ))
@@ -19,12 +18,8 @@ shared_needed plan grids named raised = λ k d inside. there k d inside (get_or 
     there k d inside (Some i) is =
         raised (any_here (λ (unit : Option ℕ). IsSome unit) named k d inside (subst (λ u. IsSome u) (sym is) refl))
 
-module _ {B : ℕ} (plan : Plan) (grids : Grids B) (named : List (Option ℕ)) where
-  -- the joint means of named units come from the sums of the other units
-  pub needed_others : All (HasOthers grids) named → All (HasNeeded plan (Independent grids)) named
-  needed_others others = λ k d inside. IfSome_then (get_or named k d) (others k d inside) (λ i there. inl there)
-
-  -- or from the total
-  pub needed_total : All (λ unit. IfSome unit (IsFromTotal plan grids.sums.total)) named
-      → All (HasNeeded plan (Independent grids)) named
-  needed_total from = λ k d inside. IfSome_then (get_or named k d) (from k d inside) (λ i there. inr there)
+-- the joint means of named units come from the sums of the other units
+pub needed_others : {B : ℕ} (plan : Plan) (grids : Grids B) (named : List (Option ℕ)) → All (HasOthers grids) named
+    → All (HasNeeded plan (Independent grids)) named
+needed_others plan grids named others = λ k d inside.
+    IfSome_then (get_or named k d) (others k d inside) (λ i there. inl there)

@@ -19,4 +19,5 @@ pub mod PriceRows
 pub mod TailShares
 pub mod ShareLaws
 pub mod FromTotal
+pub mod FromRaised
 pub mod Parted

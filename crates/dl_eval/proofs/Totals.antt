@@ -4,6 +4,7 @@ use Rattle.dl_model.proofs.UnitLaws.{unit_plain}
 use Rattle.dl_port.specs.Sums.{EncloseEach}
 use Rattle.dl_eval.proofs.Lists.{any_here}
 use Rattle.dl_eval.specs.declared.grids.Grids.{Grids}
+use Rattle.dl_eval.specs.Totals.{AreRaisedTotals}
 use Rattle.dl_eval.proofs.Losses.{is_independent}
 
 -- ---- what the grids enclose
@@ -202,8 +203,9 @@ module _ {B : ℕ} {plan : Plan} {grids : List (List (Iv B))} {g : List (Iv B)} 
       → AreUnitMeans plan.cells plan.units made.means.items → All (λ mean. mean.hi ≤ most_unit_mean) made.means.items
       → grids ≡ g ∷ []
       → IsTotal (length g) (g ∷ []) made.sums.total
-      → AreSumsWithout (length g) (g ∷ []) (false ∷ []) made.sums.others.items → AreGridsOf plan made
-  grids_of_one valid none each means small only total rest =
+      → AreSumsWithout (length g) (g ∷ []) (false ∷ []) made.sums.others.items
+      → AreRaisedTotals plan made.raised.items → AreGridsOf plan made
+  grids_of_one valid none each means small only total rest raised =
       let long : length g ≡ plan.cells = each_cells plan.cells plan.units grids g 0 (sym (ap (λ t. get_or t 0 []) only))
       (omega (arith, valid.some)) each in
       let of_total = rw (long, ← only) at total in
@@ -213,6 +215,7 @@ module _ {B : ℕ} {plan : Plan} {grids : List (List (Iv B))} {g : List (Iv B)} 
         small = small;
         others = are_others valid each of_rest;
         total = is_total valid none each of_total;
+        raised = raised;
       }
     where
       unasked : (i : ℕ) → ¬ IsTrue (get_or (false ∷ []) i false)

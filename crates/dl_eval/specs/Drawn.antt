@@ -1,10 +1,10 @@
 -- The grids that the rows of a plan are drawn from.
-use Rattle.std.specs.Prelude.{ℕ, ◌≡◌, ◌⊎◌, List, Option, None, IsSome, IfSome, get_or}
+use Rattle.std.specs.Prelude.{ℕ, ◌≡◌, List, Option, None, IsSome, IfSome}
 use Rattle.dl_iv.specs.declared.interval.Iv.{Iv}
 use Rattle.dl_plan.specs.declared.plan.Plan.{Plan}
 use Rattle.dl_eval.specs.declared.drawn.PlanGrids.{PlanGrids}
 use Rattle.dl_eval.specs.declared.drawn.PlanGrids.TheVariants.{Independent, Shared}
-use Rattle.dl_eval.specs.Totals.{AreGridsOf, ArePooledGridsOf, IsFromTotal}
+use Rattle.dl_eval.specs.Totals.{AreGridsOf, ArePooledGridsOf, HasShareFrom}
 
 -- the grids of a plan: of its units, which then are independent, or of the one unit in their place
 abbrev pub AreDrawnOf : {B : ℕ} → Plan → PlanGrids B → Type 0
@@ -16,11 +16,10 @@ abbrev pub total_drawn : {B : ℕ} → PlanGrids B → List (Iv B)
 total_drawn (Independent grids) = grids.sums.total
 total_drawn (Shared grids) = grids.total
 
--- the joint mean of unit i has the grid it comes from: that of all other units or of the total, or
--- that of the raised unit
+-- the joint mean of unit i has the grid it comes from: that of all other units, of the total, or of
+-- the total with its extra claims; or that of the raised unit
 abbrev pub HasShareOf : {B : ℕ} → Plan → PlanGrids B → ℕ → Type 0
-HasShareOf plan (Independent grids) i =
-    IsSome (get_or grids.sums.others.items i None) ⊎ IsFromTotal plan grids.sums.total i
+HasShareOf plan (Independent grids) i = HasShareFrom plan grids grids.sums.total i
 HasShareOf plan (Shared grids) i = IsSome grids.raised
 
 -- that of the unit which an ask names, if it names one

@@ -1,11 +1,13 @@
 -- The grounds of the rows: the grids and the means of the units, of their total, and of all but
 -- one.
-use Rattle.std.specs.Prelude.{ℕ, ◌≡◌, ◌+◌, ◌*◌, ◌/◌, ◌<◌, ◌≤◌, ◌^◌, ◌↔◌, Bool, false, IsTrue, Option, None, Some, IsSome, IfSome, All, Any, List, [], ◌∷◌, length, get_or}
+use Rattle.std.specs.Prelude.{ℕ, ◌≡◌, ◌+◌, ◌*◌, ◌/◌, ◌<◌, ◌≤◌, ◌^◌, ◌↔◌, ◌⊎◌, Bool, false, IsTrue, Option, None, Some, IsSome, IfSome, All, Any, List, [], ◌∷◌, length, get_or}
 use Rattle.std.specs.Int.{div_ceil}
 use Rattle.dl_exact.specs.Prelude.{Fraction, ◌over◌}
+use Rattle.dl_limits.specs.Limits.{budget_bound}
 use Rattle.dl_iv.specs.declared.interval.Iv.{Iv}
 use Rattle.dl_grid.specs.Cells.{low_at, high_at, spread}
 use Rattle.dl_model.specs.Prelude.{Holds, GridEncloses, mapped, One, Point, Mean, Joint, partial_sums, total, unit_of, without, aggregate_of, loss_of, aggregates_of, compound_of}
+use Rattle.dl_common.specs.Extra.{CanRaise, IsExtra}
 use Rattle.dl_common.specs.Pooled.{IsPooled, IsRaised}
 use Rattle.dl_plan.specs.declared.plan.Unit.{Unit as UnitOfPlan}
 use Rattle.dl_plan.specs.declared.plan.Plan.{Plan}
@@ -145,8 +147,28 @@ pub record AreOthers {B : ℕ} (plan : Plan) (others : List (Option (List (Iv B)
   pub as_many : length others ≡ length plan.units
   pub each : (i : ℕ) → i < length plan.units → IfSome (get_or others i None) (AreOthersOf plan i)
 
+-- the grid of the total with the extra claims of unit i, a gamma unit, from which its joint mean
+-- comes within its budget
+pub record IsRaisedTotalOf {B : ℕ} (plan : Plan) (i : ℕ) (g : List (Iv B)) : Type 0 where
+  pub unit : UnitOfPlan
+  pub is : unit ≡ get_or plan.units i unit
+  pub can_raise : CanRaise unit
+  pub extra : UnitOfPlan
+  pub is_extra : IsExtra unit extra
+  pub cells : length g ≡ plan.cells
+  pub encloses : GridEncloses g (total (loss_of extra ∷ aggregates_of plan))
+  pub bounded : spread g < budget_bound
+  pub narrow : shared_joint_budget plan.cells (spread g) (thinned_mean unit)
+      ≤ joint_budget (2 ^ B) plan i
+
+-- for each unit, where it is there, the grid of the total with its extra claims
+pub record AreRaisedTotals {B : ℕ} (plan : Plan) (raised : List (Option (List (Iv B)))) : Type 0 where
+  pub as_many : length raised ≡ length plan.units
+  pub each : (i : ℕ) → i < length plan.units
+      → IfSome (get_or raised i None) (IsRaisedTotalOf plan i)
+
 -- the grids of the units, where that of all others is there for one of them; their means; the grids
--- of all but one, and that of the total
+-- of all but one, that of the total, and those of the total with the extra claims of one unit
 pub record AreGridsOf {B : ℕ} (plan : Plan) (grids : Grids B) : Type 0 where
   pub units : (i : ℕ) → i < length plan.units → IsSome (get_or grids.sums.others.items i None)
       → AreUnitGrids plan.cells plan.units grids.units.items
@@ -154,6 +176,7 @@ pub record AreGridsOf {B : ℕ} (plan : Plan) (grids : Grids B) : Type 0 where
   pub small : All (λ mean. mean.hi ≤ most_unit_mean) grids.means.items
   pub others : AreOthers plan grids.sums.others.items
   pub total : IsTotalOf plan grids.sums.total
+  pub raised : AreRaisedTotals plan grids.raised.items
 
 -- the joint mean of unit i comes from the grid g of the total, within its budget
 pub record IsFromTotal {B : ℕ} (plan : Plan) (g : List (Iv B)) (i : ℕ) : Type 0 where
@@ -162,6 +185,12 @@ pub record IsFromTotal {B : ℕ} (plan : Plan) (g : List (Iv B)) (i : ℕ) : Typ
   pub can_share : CanShare unit
   pub narrow : shared_joint_budget plan.cells (spread g) (thinned_mean unit)
       ≤ joint_budget (2 ^ B) plan i
+
+-- the share of unit i comes from the sum of all other units, from the total with its extra claims,
+-- or from the grid g of the total
+abbrev pub HasShareFrom : {B : ℕ} → Plan → Grids B → List (Iv B) → ℕ → Type 0
+HasShareFrom plan grids g i = IsSome (get_or grids.sums.others.items i None)
+    ⊎ (IsSome (get_or grids.raised.items i None) ⊎ IsFromTotal plan g i)
 
 -- the joint mean of unit i at a total, within its budget
 pub record IsJointOf {B : ℕ} (plan : Plan) (i at : ℕ) (mean : Iv B) : Type 0 where

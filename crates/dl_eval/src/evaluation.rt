@@ -13,8 +13,9 @@ ghost use Rattle.dl_eval.specs.Drawn.{AreDrawnOf, HasNeeded, total_drawn};
 use crate::admission::admit;
 use crate::drawn::PlanGrids;
 use crate::fault::EvalFault;
-use crate::grids::{Grids, grids_of};
+use crate::grids::Grids;
 use crate::mean::total_mean;
+use crate::mixed::mixed_grids;
 use crate::pooled::{pooled_grids, pooled_mean, pooled_unit};
 use crate::rows::row;
 use crate::together::grids_together;
@@ -55,7 +56,8 @@ struct Parts<const B: u32> {
 
 /// The grids behind the rows of a valid plan whose units are independent: of the total by one unit
 /// in the place of all Poisson units that can be pooled, where the share of each named unit comes
-/// from it (`grids_together`); else of all units, of the total and of the sums of the others.
+/// from it, or from the total with the unit's extra claims (`grids_together`); else of all units, of
+/// the total and of the sums of the others.
 #[tactic(auto, using(crate::proofs::Scales::plan_scale))]
 fn independent_grids<const B: u32>(
     alloc: Global,
@@ -74,7 +76,7 @@ fn independent_grids<const B: u32>(
         return Ok(grids);
     }
     let made = unit_outcomes(alloc, work, plan)?;
-    grids_of(alloc, work, plan, named, made.grids, made.means)
+    mixed_grids(alloc, work, plan, named, made.grids, made.means)
 }
 
 /// The grids and means behind the rows of a valid plan whose units are independent. Where all asks

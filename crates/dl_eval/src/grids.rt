@@ -1,6 +1,6 @@
 //! The grids behind the rows.
 
-ghost use Rattle.std.specs.Prelude.{◌≡◌, ◌≤◌, ◌↔◌, IsTrue, None, Some, All, Any, IfOk, length};
+ghost use Rattle.std.specs.Prelude.{◌≡◌, ◌<◌, ◌≤◌, ◌↔◌, IsTrue, None, Some, All, Any, IfOk, length, replicate};
 ghost use Rattle.dl_limits.specs.Limits.{IsPlanScale, most_units};
 ghost use Rattle.dl_plan.specs.Valid.{IsValid};
 ghost use Rattle.dl_eval.specs.Totals.{AreUnitGrids, AreUnitMeans, AreGridsOf, AreShared, AreUnits, HasOthers, most_unit_mean};
@@ -19,12 +19,15 @@ pub(crate) struct Grids<const B: u32> {
     pub(crate) units: Vec<Grid<B>>,
     /// For each unit, the mean of its outcomes, in buckets.
     pub(crate) means: Vec<Iv<B>>,
-    /// That of the total; and for each unit whose share an ask is for, that of all other units.
+    /// That of the total; and for each unit whose share comes from it, that of all other units.
     pub(crate) sums: Sums<B>,
+    /// For each gamma unit whose share comes from it, that of the total with the unit's extra
+    /// claims.
+    pub(crate) raised: Vec<Option<Grid<B>>>,
 }
 
 /// Whether unit `i`, counted from 0, is one of those that asks name.
-fn is_named(named: &[Option<u32>], i: u32) -> bool
+pub(crate) fn is_named(named: &[Option<u32>], i: u32) -> bool
     ensures { IsTrue result ↔ Any (λ unit. unit ≡ Some i) named.now }
 {
     named.iter().any(|unit| *unit == Some(i))
@@ -40,6 +43,20 @@ fn shared_units(alloc: Global, units: usize, named: &[Option<u32>]) -> Result<Ve
         asked.push(is_named(named, i as u32))?;
     }
     Ok(asked)
+}
+
+/// For each of `many` units, no grid.
+pub(crate) fn no_grids<const B: u32>(
+    alloc: Global,
+    many: usize,
+) -> Result<Vec<Option<Grid<B>>>, AllocError>
+    ensures { IfOk result (λ grids. grids.items ≡ replicate many None) }
+{
+    let mut grids = Vec::new(alloc);
+    'units: for _ in 0..many {
+        grids.push(None)?;
+    }
+    Ok(grids)
 }
 
 /// The grids behind the rows of a valid plan, where the grids and the means of its
@@ -62,14 +79,28 @@ pub(crate) fn grids_of<const B: u32>(
     requires small { All (λ mean. mean.hi ≤ most_unit_mean) means.items }
     ensures grids { IfOk result (λ grids. AreGridsOf plan.now grids) }
     ensures there { IfOk result (λ grids. All (HasOthers grids) named.now) }
+    ensures kept { IfOk result (λ grids. 1 < length units.entry.items
+        → AreUnitGrids plan.now.cells plan.now.units grids.units.items) }
 {
+    let many = plan.units.as_slice().len();
+    let raised = no_grids(alloc, many)?;
     if units.len() == 1 && !is_named(named, 0) {
         let mut units = units;
         let unit = units.pop().unwrap();
         let sums = sums_of_one(alloc, unit)?;
-        return Ok(Grids { units, means, sums });
+        return Ok(Grids {
+            units,
+            means,
+            sums,
+            raised,
+        });
     }
-    let asked = shared_units(alloc, plan.units.as_slice().len(), named)?;
+    let asked = shared_units(alloc, many, named)?;
     let sums = total_and_others(alloc, work, units.as_slice(), asked.as_slice(), plan.cells)?;
-    Ok(Grids { units, means, sums })
+    Ok(Grids {
+        units,
+        means,
+        sums,
+        raised,
+    })
 }

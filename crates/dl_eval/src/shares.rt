@@ -7,7 +7,7 @@ ghost use Rattle.dl_model.specs.Prelude.{Point, declared};
 ghost use Rattle.dl_plan.specs.Prelude.{IsValid, IsLevel};
 ghost use Rattle.dl_budget.specs.Asks.{kappa_budget, cotail_budget, in_digits};
 ghost use Rattle.dl_eval.specs.Rows.{IsAtLeast, IsAtMost, IsBeyond, IsShareOfUnit, IsTooRare, IsTailShare, IsNoTailShare, at_the_end, total_error};
-ghost use Rattle.dl_eval.specs.Totals.{AreGridsOf, AreOthersOf, IsGridOfUnit, IsFromTotal, IsJointOf, IsTailShareOf, IsTotalOf};
+ghost use Rattle.dl_eval.specs.Totals.{AreGridsOf, AreOthersOf, HasShareFrom, IsGridOfUnit, IsFromTotal, IsJointOf, IsRaisedTotalOf, IsTailShareOf, IsTotalOf};
 ghost use Rattle.dl_eval.specs.Drawn.{AreDrawnOf, HasShareOf};
 ghost use Rattle.dl_grid.specs.Cells.{low_at, spread};
 ghost use Rattle.dl_measures.specs.Prelude.{IsFirstFound, low_cdf};
@@ -19,9 +19,9 @@ use crate::pooled::pooled_joint;
 use crate::rows::{beyond_row, ends_row, row_with};
 use dl_alloc::{conditional_mean, joint_mean};
 use dl_budget::{others_budget, total_budget, unit_budget};
-use dl_common::poisson_joint;
+use dl_common::{gamma_joint, poisson_joint};
 use dl_cotail::laws::law_unit_mean;
-use dl_cotail::{cotail, poisson_cotail};
+use dl_cotail::{cotail, gamma_cotail, poisson_cotail};
 use dl_frac::Frac;
 use dl_grid::Grid;
 use dl_iv::Iv;
@@ -101,6 +101,21 @@ fn joint_from<const B: u32>(plan: &Plan, total: &Grid<B>, i: u32, at: u32) -> Iv
     poisson_joint(&plan.units.as_slice()[i as usize], total, at)
 }
 
+/// The same from the grid of the total with the extra claims of the unit, of a gamma unit.
+fn joint_raised<const B: u32>(plan: &Plan, raised: &Grid<B>, i: u32, at: u32) -> Iv<B>
+    requires scale { B ≡ bits_of plan.now.cells }
+    requires valid { IsValid plan.now }
+    requires independent { plan.now.common ≡ None }
+    requires raised { IsRaisedTotalOf plan.now i raised.now }
+    requires unit { i < length plan.now.units }
+    requires inside { at < plan.now.cells }
+    ensures joint { IsJointOf plan.now i at result }
+    ensures below { (h : ℕ) → IsAtMost plan.now (Point at) (h over 2 ^ B) → result.lo ≤ at * h }
+    ensures divisible { result.hi * 2 ^ B ≤ 2 ^ 127 }
+{
+    gamma_joint(&plan.units.as_slice()[i as usize], raised, at)
+}
+
 /// The mean outcome of unit `i` where the total is `at`, and 0 elsewhere, in buckets, of
 /// independent units.
 fn independent_joint<const B: u32>(plan: &Plan, grids: &Grids<B>, i: u32, at: u32) -> Iv<B>
@@ -109,8 +124,7 @@ fn independent_joint<const B: u32>(plan: &Plan, grids: &Grids<B>, i: u32, at: u3
     requires independent { plan.now.common ≡ None }
     requires grids { AreGridsOf plan.now grids.now }
     requires unit { i < length plan.now.units }
-    requires there { IsSome (get_or grids.now.sums.others.items i None)
-        ⊎ IsFromTotal plan.now grids.now.sums.total i }
+    requires there { HasShareFrom plan.now grids.now grids.now.sums.total i }
     requires inside { at < plan.now.cells }
     ensures joint { IsJointOf plan.now i at result }
     ensures below { (h : ℕ) → IsAtMost plan.now (Point at) (h over 2 ^ B) → result.lo ≤ at * h }
@@ -118,7 +132,10 @@ fn independent_joint<const B: u32>(plan: &Plan, grids: &Grids<B>, i: u32, at: u3
 {
     match &grids.sums.others.as_slice()[i as usize] {
         Some(_) => joint_beside(plan, grids, i, at),
-        None => joint_from(plan, &grids.sums.total, i, at),
+        None => match &grids.raised.as_slice()[i as usize] {
+            Some(raised) => joint_raised(plan, raised, i, at),
+            None => joint_from(plan, &grids.sums.total, i, at),
+        },
     }
 }
 
@@ -235,11 +252,14 @@ fn tail_share_from<const B: u32>(
     poisson_cotail(unit, total, grids.means.as_slice()[i as usize], p)
 }
 
-/// The share of unit `i` in the tail mean at `p`, in buckets; none where the grid of the total ends
-/// before the quantile, does not settle it, or it may be too rare.
-fn tail_share_of<const B: u32>(
+/// The share of gamma unit `i` in the tail mean at `p`, in buckets, from the grid of the total with
+/// the unit's extra claims and that of the total; none where the grid of the total ends before the
+/// quantile, does not settle it, or it may be too rare.
+#[tactic(auto, using(crate::proofs::Scales::plan_scale))]
+fn tail_share_raised<const B: u32>(
     plan: &Plan,
     grids: &Grids<B>,
+    raised: &Distribution<B>,
     total: &Distribution<B>,
     i: u32,
     p: Frac,
@@ -250,8 +270,7 @@ fn tail_share_of<const B: u32>(
     requires grids { AreGridsOf plan.now grids.now }
     requires total { IsTotalOf plan.now total.now }
     requires unit { i < length plan.now.units }
-    requires there { IsSome (get_or grids.now.sums.others.items i None)
-        ⊎ IsFromTotal plan.now total.now i }
+    requires raised { IsRaisedTotalOf plan.now i raised.now }
     requires level { IsLevel p }
     requires few { p.den ≤ 10 ^ 4 }
     ensures share { IfSome result (IsTailShareOf plan.now i p) }
@@ -260,9 +279,78 @@ fn tail_share_of<const B: u32>(
         → IsFirstFound (low_cdf (2 ^ B) (low_at total.now)) p plan.now.cells (Some x)
         → MayBeAbsent (declared plan.now) plan.now.cells p (total_error (2 ^ B) plan.now) }
 {
+    prove!(total_budget::<B>(plan) < BUDGET_BOUND);
+    law_unit_mean();
+    let unit = &plan.units.as_slice()[i as usize];
+    gamma_cotail(unit, raised, total, grids.means.as_slice()[i as usize], p)
+}
+
+/// The share of unit `i` in the tail mean at `p`, in buckets, where the sum of the other units is not
+/// there; none where the grid of the total ends before the quantile, does not settle it, or it may
+/// be too rare.
+fn tail_share_without<const B: u32>(
+    alloc: Global,
+    plan: &Plan,
+    grids: &Grids<B>,
+    total: &Distribution<B>,
+    i: u32,
+    p: Frac,
+) -> Result<Option<Iv<B>>, AllocError>
+    requires scale { B ≡ bits_of plan.now.cells }
+    requires valid { IsValid plan.now }
+    requires independent { plan.now.common ≡ None }
+    requires grids { AreGridsOf plan.now grids.now }
+    requires total { IsTotalOf plan.now total.now }
+    requires unit { i < length plan.now.units }
+    requires there { IsSome (get_or grids.now.raised.items i None)
+        ⊎ IsFromTotal plan.now total.now i }
+    requires level { IsLevel p }
+    requires few { p.den ≤ 10 ^ 4 }
+    ensures share { IfOk result (λ share. IfSome share (IsTailShareOf plan.now i p)) }
+    ensures reached { IfOk result (λ share.
+        IfSome share (λ _. IsAtLeast plan.now (at_the_end plan.now) p)) }
+    ensures absent { IfOk result (λ share. (x : ℕ) → IsNone share
+        → IsFirstFound (low_cdf (2 ^ B) (low_at total.now)) p plan.now.cells (Some x)
+        → MayBeAbsent (declared plan.now) plan.now.cells p (total_error (2 ^ B) plan.now)) }
+{
+    match &grids.raised.as_slice()[i as usize] {
+        Some(raised) => {
+            let sums = Distribution::of(alloc, raised)?;
+            Ok(tail_share_raised(plan, grids, &sums, total, i, p))
+        }
+        None => Ok(tail_share_from(plan, grids, total, i, p)),
+    }
+}
+
+/// The share of unit `i` in the tail mean at `p`, in buckets; none where the grid of the total ends
+/// before the quantile, does not settle it, or it may be too rare.
+fn tail_share_of<const B: u32>(
+    alloc: Global,
+    plan: &Plan,
+    grids: &Grids<B>,
+    total: &Distribution<B>,
+    i: u32,
+    p: Frac,
+) -> Result<Option<Iv<B>>, AllocError>
+    requires scale { B ≡ bits_of plan.now.cells }
+    requires valid { IsValid plan.now }
+    requires independent { plan.now.common ≡ None }
+    requires grids { AreGridsOf plan.now grids.now }
+    requires total { IsTotalOf plan.now total.now }
+    requires unit { i < length plan.now.units }
+    requires there { HasShareFrom plan.now grids.now total.now i }
+    requires level { IsLevel p }
+    requires few { p.den ≤ 10 ^ 4 }
+    ensures share { IfOk result (λ share. IfSome share (IsTailShareOf plan.now i p)) }
+    ensures reached { IfOk result (λ share.
+        IfSome share (λ _. IsAtLeast plan.now (at_the_end plan.now) p)) }
+    ensures absent { IfOk result (λ share. (x : ℕ) → IsNone share
+        → IsFirstFound (low_cdf (2 ^ B) (low_at total.now)) p plan.now.cells (Some x)
+        → MayBeAbsent (declared plan.now) plan.now.cells p (total_error (2 ^ B) plan.now)) }
+{
     match &grids.sums.others.as_slice()[i as usize] {
-        Some(_) => tail_share_beside(plan, grids, total, i, p),
-        None => tail_share_from(plan, grids, total, i, p),
+        Some(_) => Ok(tail_share_beside(plan, grids, total, i, p)),
+        None => tail_share_without(alloc, plan, grids, total, i, p),
     }
 }
 
@@ -286,8 +374,7 @@ pub(crate) fn tail_share_row<const B: u32>(
     requires grids { AreGridsOf plan.now grids.now }
     requires total { IsTotalOf plan.now total.now }
     requires unit { i < length plan.now.units }
-    requires there { IsSome (get_or grids.now.sums.others.items i None)
-        ⊎ IsFromTotal plan.now total.now i }
+    requires there { HasShareFrom plan.now grids.now total.now i }
     requires level { IsLevel p }
     requires few { p.den ≤ 10 ^ 4 }
     ensures ask { IfOk result (λ row. row.ask ≡ asked.now.text) }
@@ -296,7 +383,7 @@ pub(crate) fn tail_share_row<const B: u32>(
         ⊎ IsBeyond plan.now p (total_error (2 ^ B) plan.now) row
         ⊎ IsNoTailShare plan.now p (total_error (2 ^ B) plan.now) row) }
 {
-    if let Some(share) = tail_share_of(plan, grids, total, i, p) {
+    if let Some(share) = tail_share_of(alloc, plan, grids, total, i, p)? {
         return ends_row(alloc, asked, digits, share);
     }
     match quantile(total, p).hi {

@@ -1,30 +1,26 @@
 //! The grid of a total where one Poisson unit stands for several.
 
-ghost use Rattle.std.specs.Prelude.{◌≡◌, ◌<◌, ◌≤◌, IsTrue, List, [], ◌∷◌, ◌++◌, None, All, IfOk, IfSome, length, replicate};
+ghost use Rattle.std.specs.Prelude.{◌≡◌, ◌≤◌, None, All, IfOk, IfSome, length};
 ghost use Rattle.dl_limits.specs.Limits.{bits_of};
-ghost use Rattle.dl_common.specs.Pooled.{can_share};
 ghost use Rattle.dl_plan.specs.Prelude.{IsValid};
+ghost use Rattle.dl_eval.specs.declared.drawn.PlanGrids.TheVariants.{Independent};
+ghost use Rattle.dl_eval.specs.Drawn.{HasNeeded};
 ghost use Rattle.dl_eval.specs.Together.{rest_of, IsPooledFor};
-ghost use Rattle.dl_eval.specs.Totals.{most_unit_mean, AreGridsOf, AreUnitGrids, AreUnitMeans, AreUnits, IsFromTotal, IsTotalOf};
+ghost use Rattle.dl_eval.specs.Totals.{most_unit_mean, AreGridsOf, AreUnitGrids, AreUnitMeans, AreUnits, IsTotalOf};
 
-use crate::grids::Grids;
+use crate::grids::{Grids, no_grids};
+use crate::raised::raised_totals;
 use crate::same::first_alike;
+use crate::served::{are_served, is_shared, is_without_others};
 use crate::units::{Outcomes, mean_of, outcomes_of};
-use dl_budget::{joint_budget, shared_joint_budget, total_budget};
+use dl_budget::total_budget;
 use dl_common::{pool_poisson, sharing};
 use dl_grid::Grid;
-use dl_limits::BUDGET_BOUND;
-use dl_plan::{Freq, Plan, Unit};
+use dl_iv::Iv;
+use dl_plan::{Plan, Unit};
 use dl_port::{Sums, total_with};
 use dl_product::Workspace;
 use std::alloc::{AllocError, Global};
-
-/// Whether a unit can be pooled with others.
-fn is_shared(unit: &Unit) -> bool
-    ensures { result ≡ can_share unit.now }
-{
-    matches!(unit.freq, Freq::Poisson(_)) && unit.cede.is_none() && unit.zero.is_none()
-}
 
 /// Whether some unit that cannot be pooled is like one before it, so that its grid is copied where
 /// no units are pooled.
@@ -108,67 +104,46 @@ fn total_of<const B: u32>(
     Ok(Some(total))
 }
 
-/// For each of `many` units, no sum of the other units.
-fn no_others<const B: u32>(alloc: Global, many: usize) -> Result<Vec<Option<Grid<B>>>, AllocError>
-    ensures { IfOk result (λ others. others.items ≡ replicate many None) }
+/// The grids behind the rows where the total is there: for no unit the sum of the others, and for
+/// named gamma units the total with their extra claims.
+fn grids_of_total<const B: u32>(
+    alloc: Global,
+    work: &mut Workspace,
+    plan: &Plan,
+    named: &[Option<u32>],
+    total: Grid<B>,
+    means: Vec<Iv<B>>,
+) -> Result<Grids<B>, AllocError>
+    requires scale { B ≡ bits_of plan.now.cells }
+    requires valid { IsValid plan.now }
+    requires independent { plan.now.common ≡ None }
+    requires total { IsTotalOf plan.now total }
+    requires means { AreUnitMeans plan.now.cells plan.now.units means.items }
+    requires small { All (λ mean. mean.hi ≤ most_unit_mean) means.items }
+    ensures { IfOk result (AreGridsOf plan.now) }
 {
-    let mut others = Vec::new(alloc);
-    'units: for _ in 0..many {
-        others.push(None)?;
-    }
-    Ok(others)
+    let raised = raised_totals(alloc, work, plan, named, &total)?;
+    let others = no_grids(alloc, plan.units.as_slice().len())?;
+    Ok(Grids {
+        units: Vec::new(alloc),
+        means,
+        sums: Sums { total, others },
+        raised,
+    })
 }
 
-/// Whether all named units can be pooled.
-fn are_named_shared(units: &[Unit], named: &[Option<u32>]) -> bool {
+/// Whether the sum of the other units is needed for no named unit.
+fn are_without_others(units: &[Unit], named: &[Option<u32>]) -> bool {
     named.iter().all(|unit| match unit {
-        Some(i) => (*i as usize) < units.len() && is_shared(&units[*i as usize]),
+        Some(i) => { (*i as usize) < units.len() && is_without_others(units, &units[*i as usize]) }
         None => true,
     })
 }
 
-/// Whether the unit is a Poisson unit that can be pooled, and its joint mean from the grid of the
-/// total is no wider than its budget; then its share in a tail mean is not either. True where there
-/// is no unit.
-#[tactic(auto, using(crate::proofs::Scales::plan_scale))]
-fn is_from_total<const B: u32>(plan: &Plan, total: &Grid<B>, unit: Option<u32>) -> bool
-    requires scale { B ≡ bits_of plan.now.cells }
-    requires valid { IsValid plan.now }
-    requires total { IsTotalOf plan.now total.now }
-    requires unit { IfSome unit (λ i. i < length plan.now.units) }
-    ensures { IsTrue result → IfSome unit (IsFromTotal plan.now total.now) }
-{
-    let Some(i) = unit else {
-        return true;
-    };
-    let unit = &plan.units.as_slice()[i as usize];
-    if !is_shared(unit) {
-        return false;
-    }
-    prove!(total_budget::<B>(plan) < BUDGET_BOUND);
-    shared_joint_budget(unit, total.spread(), plan.cells) <= joint_budget::<B>(plan, i)
-}
-
-/// Whether the joint means of all named units do.
-fn are_from_total<const B: u32>(plan: &Plan, total: &Grid<B>, named: &[Option<u32>]) -> bool
-    requires scale { B ≡ bits_of plan.now.cells }
-    requires valid { IsValid plan.now }
-    requires total { IsTotalOf plan.now total.now }
-    requires named { AreUnits (length plan.now.units) named.now }
-    ensures { IsTrue result → All (λ unit. IfSome unit (IsFromTotal plan.now total.now)) named.now }
-{
-    for unit in named {
-        if !is_from_total(plan, total, *unit) {
-            return false;
-        }
-    }
-    true
-}
-
 /// The grids behind the rows of a valid plan whose units are independent, with one Poisson unit in
 /// the place of all that can be pooled. None where there are fewer than two of these, where the
-/// total would be wider than it may be, and where the share of a named unit does not come from the
-/// grid of the total within its budget.
+/// total would be wider than it may be, and where the share of a named unit comes neither from the
+/// grid of the total nor from that of the total with its extra claims within its budget.
 pub(crate) fn grids_together<const B: u32>(
     alloc: Global,
     work: &mut Workspace,
@@ -180,10 +155,10 @@ pub(crate) fn grids_together<const B: u32>(
     requires independent { plan.now.common ≡ None }
     requires named { AreUnits (length plan.now.units) named.now }
     ensures grids { IfOk result (λ made. IfSome made (AreGridsOf plan.now)) }
-    ensures from { IfOk result (λ made. IfSome made (λ grids.
-        All (λ unit. IfSome unit (IsFromTotal plan.now grids.sums.total)) named.now)) }
+    ensures there { IfOk result (λ made. IfSome made (λ grids.
+        All (HasNeeded plan.now (Independent grids)) named.now)) }
 {
-    if !are_named_shared(plan.units.as_slice(), named) {
+    if !are_without_others(plan.units.as_slice(), named) {
         return Ok(None);
     }
     let Some(pooled) = pooled_for(alloc, plan)? else {
@@ -193,13 +168,9 @@ pub(crate) fn grids_together<const B: u32>(
     let Some(total) = total_of(alloc, work, plan, made.grids, &pooled)? else {
         return Ok(None);
     };
-    if !are_from_total(plan, &total, named) {
+    let grids = grids_of_total(alloc, work, plan, named, total, made.means)?;
+    if !are_served(plan, &grids, named) {
         return Ok(None);
     }
-    let others = no_others(alloc, plan.units.as_slice().len())?;
-    Ok(Some(Grids {
-        units: Vec::new(alloc),
-        means: made.means,
-        sums: Sums { total, others },
-    }))
+    Ok(Some(grids))
 }

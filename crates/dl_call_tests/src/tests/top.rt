@@ -75,6 +75,22 @@ kappa:B:2 1.379310 1.379311
 cotail:A:0.25 1.904122 1.904123
 cotail:B:0.25 2.394599 2.394600
 ==
+run --log2 4 pmf:3 joint:A:3 joint:B:3 kappa:A:5 kappa:B:5 cotail:A:0.75 cotail:B:0.75
+%%
+port T agg A 1 claims dsev [1 2] mixed gamma 1 agg B 2 claims dsev [1] mixed gamma 0.5
+agg C 1 claims dsev [1] poisson agg D 1 claims dsev [2] poisson agg E dfreq [0 1] dsev [1]
+agg F dfreq [0 1] dsev [1] agg G dfreq [0 1] dsev [1] agg H dfreq [0 1] dsev [2]
+%%
+Done
+%%
+pmf:3 0.029847 0.029848
+joint:A:3 0.006258 0.006259
+joint:B:3 0.020676 0.020677
+kappa:A:5 0.446802 0.446803
+kappa:B:5 1.125207 1.125208
+cotail:A:0.75 3.235124 3.235125
+cotail:B:0.75 3.060951 3.060952
+==
 run --log2 4 cotail:A:0.8
 %%
 port C common 0.5 agg A 1 claims dsev [1] poisson agg B 2 claims dsev [1] poisson

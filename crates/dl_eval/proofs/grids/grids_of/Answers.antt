@@ -1,6 +1,7 @@
 use Rattle.dl_eval.proofs.Common.{◌≡◌, List, [], ◌∷◌, ◌++◌, length, arith, ap, ◌∙◌, few_cells, ◌also◌, Option, Iv}
 use Rattle.std.specs.Option.{option_to_list}
 use Rattle.dl_eval.proofs.Totals.{only_one, grids_of_one, is_total, are_others, has_others, long_enough}
+use Rattle.dl_eval.proofs.FromRaised.{no_raised}
 use Rattle.dl_eval.proofs.grids.grids_of.Goals as goal
 
 pub returns-then-not-is_named-clause-grids : goal.returns-then-not-is_named-clause-grids
@@ -11,16 +12,20 @@ returns-then-not-is_named-clause-grids g c =
     c.unwrap-unit.ensures) (omega arith) in
     grids_of_one c.requires.valid c.requires.independent c.requires.units c.requires.means c.requires.small only
     c.in_ok-sums.ensures.total c.in_ok-sums.ensures.others
+    (no_raised c.args.plan.now (rw c.as_slice-many.ensures at c.in_ok-raised.ensures))
+
+pub returns-then-not-is_named-clause-kept : goal.returns-then-not-is_named-clause-kept
+returns-then-not-is_named-clause-kept g c many = absurd (omega (arith, many))
 
 pub total_and_others-requires : goal.total_and_others-requires
 total_and_others-requires g c =
     let plan = c.args.plan.now in
-    let grids = c.as_slice-2 in
+    let grids = c.as_slice in
     let many : length grids.result.now ≡ length plan.units = ap (λ t. length t) grids.ensures.value
     ∙ c.requires.units.as_many in
-    let asked : length c.as_slice-3.result.now ≡ length plan.units =
-    ap (λ t. length t) c.as_slice-3.ensures.value ∙ c.in_ok-asked.ensures.as_many
-    ∙ ap (λ t. length t) c.as_slice.ensures in
+    let asked : length c.as_slice-2.result.now ≡ length plan.units =
+    ap (λ t. length t) c.as_slice-2.ensures.value ∙ c.in_ok-asked.ensures.as_many
+    ∙ ap (λ t. length t) c.as_slice-many.ensures in
     (omega (arith, c.requires.scale.least, c.requires.scale.most))
     also (omega (arith, c.requires.scale.least, c.requires.scale.most))
     also (omega (arith, many, c.requires.valid.some)) also (omega (arith, many, c.requires.valid.few))
@@ -33,13 +38,22 @@ returns-clause-grids g c =
       units = λ i inside some. c.requires.units;
       means = c.requires.means;
       small = c.requires.small;
-      others = are_others c.requires.valid c.requires.units (rw c.as_slice-2.ensures.value at sums.others);
-      total = is_total c.requires.valid c.requires.independent c.requires.units (rw c.as_slice-2.ensures.value at sums.total);
+      others = are_others c.requires.valid c.requires.units (rw c.as_slice.ensures.value at sums.others);
+      total = is_total c.requires.valid c.requires.independent c.requires.units (rw c.as_slice.ensures.value at sums.total);
+      raised = no_raised c.args.plan.now (rw c.as_slice-many.ensures at c.in_ok-raised.ensures);
     }
 
 pub returns-clause-there : goal.returns-clause-there
 returns-clause-there g c =
-    let rest = rw (c.as_slice-2.ensures.value, c.as_slice-3.ensures.value) at c.in_ok-sums-2.ensures.others in
+    let rest = rw (c.as_slice.ensures.value, c.as_slice-2.ensures.value) at c.in_ok-sums-2.ensures.others in
     has_others c.args.plan.now c.args.named.now
-    (record { units = c.args.units; means = c.args.means; sums = c.in_ok-sums-2.sums }) c.requires.units
-    (rw c.as_slice.ensures at c.in_ok-asked.ensures) rest c.requires.named
+    (record {
+      units = c.args.units;
+      means = c.args.means;
+      sums = c.in_ok-sums-2.sums;
+      raised = c.in_ok-raised.raised;
+    }) c.requires.units
+    (rw c.as_slice-many.ensures at c.in_ok-asked.ensures) rest c.requires.named
+
+pub returns-clause-kept : goal.returns-clause-kept
+returns-clause-kept g c many = c.requires.units

@@ -30,7 +30,7 @@ returns-clause-below g c =
     let is = read_unit c.as_slice.result.now plan.units c.args.i c.index-as_slice-i.result c.as_slice.ensures
     c.index-as_slice-i.is in
     is_below_from plan c.args.i is c.requires.unit c.requires.valid c.requires.independent c.requires.total c.args.at
-    c.poisson_joint.result.lo c.poisson_joint.ensures.below
+    c.poisson_joint.result.lo c.poisson_joint.ensures.below c.requires.from
 
 pub returns-clause-divisible : goal.returns-clause-divisible
 returns-clause-divisible g c =

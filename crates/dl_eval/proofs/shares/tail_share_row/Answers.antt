@@ -6,7 +6,8 @@ use Rattle.dl_eval.proofs.shares.tail_share_row.Goals as goal
 pub returns-in-Some-clause-share : goal.returns-in-Some-clause-share
 returns-in-Some-clause-share g c =
     IfOk-weaker c.ends_row.result _ _ (λ row printed. inl (
-    share_told c.in-Some.ensures.share c.in-Some.ensures.reached printed)) c.ends_row.ensures.ends
+    share_told (rw c.in-Some.is at c.in_ok-share.ensures.share)
+    (rw c.in-Some.is at c.in_ok-share.ensures.reached) printed)) c.ends_row.ensures.ends
 
 pub returns-in-None-clause-share : goal.returns-in-None-clause-share
 returns-in-None-clause-share g c =

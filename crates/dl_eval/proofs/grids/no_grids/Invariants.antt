@@ -1,6 +1,6 @@
 use Rattle.dl_eval.proofs.Common.{◌≡◌, None}
 use Rattle.std.specs.Prelude.{replicate}
-use Rattle.dl_eval.proofs.together.no_others.Given as goal
+use Rattle.dl_eval.proofs.grids.no_grids.Given as goal
 
 abbrev pub invariant-units : goal.invariant-units
-invariant-units g l = l.others.items ≡ replicate l.counter None
+invariant-units g l = l.grids.items ≡ replicate l.counter None

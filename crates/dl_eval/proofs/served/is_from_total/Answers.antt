@@ -1,19 +1,18 @@
-use Rattle.dl_eval.proofs.Common.{◌≤◌, sym, ap, subst, subst₂, ◌∙◌, Option, ℕ, IfSome, read_unit, thinned_mean}
+use Rattle.dl_eval.proofs.Common.{◌≤◌, sym, ap, subst₂, ◌∙◌, read_unit, thinned_mean}
 use Rattle.dl_budget.specs.Shared.{shared_joint_budget}
 use Rattle.dl_eval.proofs.FromTotal.{told_le, true_shares}
-use Rattle.dl_eval.specs.Totals.{IsFromTotal}
-use Rattle.dl_eval.proofs.together.is_from_total.Goals as goal
+use Rattle.dl_eval.proofs.served.is_from_total.Goals as goal
 
 pub returns : goal.returns
 returns g c narrow =
     let plan = c.args.plan.now in
     let u = c.index-as_slice-i.result in
     let within : c.shared_joint_budget.result ≤ c.joint_budget.result = told_le c.shared_joint_budget.result c.joint_budget.result narrow in
-    subst (λ (o : Option ℕ). IfSome o (IsFromTotal {B = g.row.B} plan c.args.total.now)) (sym c.in-Some.is) (record {
+    record {
       unit = u;
-      is = read_unit c.as_slice.result.now plan.units c.in-Some.i u c.as_slice.ensures c.index-as_slice-i.is;
+      is = read_unit c.as_slice.result.now plan.units c.args.i u c.as_slice.ensures c.index-as_slice-i.is;
       can_share = true_shares u (sym c.is_shared.ensures ∙ c.if-not-is_shared.false);
       narrow = subst₂ (λ x y. x ≤ y) (c.shared_joint_budget.ensures.value
           ∙ ap (λ s. shared_joint_budget plan.cells s (thinned_mean u)) c.spread.ensures)
           c.joint_budget.ensures.value within;
-    })
+    }

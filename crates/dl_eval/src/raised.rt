@@ -1,0 +1,166 @@
+//! The grids of a total with the extra claims of one gamma unit.
+
+ghost use Rattle.std.specs.Prelude.{◌≡◌, ◌^◌, ◌<◌, ◌≤◌, ◌∷◌, IsTrue, None, IfOk, IfSome, length, get_or};
+ghost use Rattle.dl_limits.specs.Limits.{bits_of, budget_bound};
+ghost use Rattle.dl_plan.specs.Prelude.{IsValid, IsValidUnit, thinned_mean};
+ghost use Rattle.dl_model.specs.Prelude.{GridEncloses, total as total_of, loss_of, aggregates_of};
+ghost use Rattle.dl_common.specs.Extra.{CanRaise};
+ghost use Rattle.dl_budget.specs.Asks.{joint_budget};
+ghost use Rattle.dl_budget.specs.Shared.{shared_joint_budget};
+ghost use Rattle.dl_eval.specs.Totals.{AreRaisedTotals, IsRaisedTotalOf, IsTotalOf};
+
+use crate::grids::is_named;
+use crate::units::outcomes_of;
+use dl_budget::{joint_budget, shared_joint_budget};
+use dl_common::extra;
+use dl_grid::Grid;
+use dl_limits::BUDGET_BOUND;
+use dl_plan::{Freq, Plan, Unit};
+use dl_product::{Factor, Workspace, product_of};
+use std::alloc::{AllocError, Global};
+
+/// The fewest units of a plan in which the share of a gamma unit comes from the total with its extra
+/// claims. That takes one grid more and one product for each such unit; with fewer units the sum of
+/// the others takes no longer.
+const FEWEST_UNITS: usize = 8;
+
+/// Whether a unit has a gamma count, no aggregate clause and no changed probability of no claim.
+fn can_raise(unit: &Unit) -> bool
+    ensures { IsTrue result → CanRaise unit.now }
+{
+    matches!(unit.freq, Freq::Gamma { .. }) && unit.cede.is_none() && unit.zero.is_none()
+}
+
+/// Whether the share of a unit is taken from the total with the unit's extra claims, where that is
+/// within its budget.
+pub(crate) fn is_raised(units: &[Unit], unit: &Unit) -> bool
+    ensures { IsTrue result → CanRaise unit.now }
+{
+    units.len() >= FEWEST_UNITS && can_raise(unit)
+}
+
+/// The grid of the total with the claims of one unit more, which is independent of all units.
+#[tactic(auto, using(crate::proofs::Scales::plan_scale))]
+fn total_beside<const B: u32>(
+    alloc: Global,
+    work: &mut Workspace,
+    plan: &Plan,
+    total: &Grid<B>,
+    unit: &Unit,
+) -> Result<Grid<B>, AllocError>
+    requires scale { B ≡ bits_of plan.now.cells }
+    requires valid { IsValid plan.now }
+    requires independent { plan.now.common ≡ None }
+    requires total { IsTotalOf plan.now total.now }
+    requires unit { IsValidUnit plan.now.cells unit.now }
+    ensures cells { IfOk result (λ made. length made ≡ plan.now.cells) }
+    ensures encloses { IfOk result (λ made.
+        GridEncloses made (total_of (loss_of unit.now ∷ aggregates_of plan.now))) }
+{
+    let (grid, _) = outcomes_of::<B>(alloc, work, unit, plan.cells)?;
+    let one = Factor {
+        grid: &grid,
+        comes_again: false,
+    };
+    let all = Factor {
+        grid: total,
+        comes_again: true,
+    };
+    product_of(alloc, work, one, all, plan.cells)
+}
+
+/// Whether the joint mean of a gamma unit, unit `i` of the plan, from a grid of this spread is no
+/// wider than its budget. Spreads and budgets are in units of 1 / 2^B.
+#[tactic(auto, using(crate::proofs::Scales::plan_scale))]
+fn is_within_joint<const B: u32>(plan: &Plan, unit: &Unit, i: u32, spread: u128) -> bool
+    requires scale { B ≡ bits_of plan.now.cells }
+    requires valid { IsValid plan.now }
+    requires gamma { CanRaise unit.now }
+    requires here { unit.now ≡ get_or plan.now.units i unit.now }
+    requires inside { i < length plan.now.units }
+    ensures bounded { IsTrue result → spread < budget_bound }
+    ensures narrow { IsTrue result → shared_joint_budget plan.now.cells spread
+        (thinned_mean unit.now) ≤ joint_budget (2 ^ B) plan.now i }
+{
+    if spread >= BUDGET_BOUND {
+        return false;
+    }
+    shared_joint_budget(unit, spread, plan.cells) <= joint_budget::<B>(plan, i)
+}
+
+/// The grid of the total with the extra claims of unit `i`; none where the unit is not one whose
+/// share is taken from it, where its extra claims are not a valid unit, and where the joint mean of
+/// the unit would be wider than its budget.
+fn raised_total<const B: u32>(
+    alloc: Global,
+    work: &mut Workspace,
+    plan: &Plan,
+    total: &Grid<B>,
+    i: u32,
+) -> Result<Option<Grid<B>>, AllocError>
+    requires scale { B ≡ bits_of plan.now.cells }
+    requires valid { IsValid plan.now }
+    requires independent { plan.now.common ≡ None }
+    requires total { IsTotalOf plan.now total.now }
+    requires unit { i < length plan.now.units }
+    ensures { IfOk result (λ made. IfSome made (IsRaisedTotalOf plan.now i)) }
+{
+    let units = plan.units.as_slice();
+    let unit = &units[i as usize];
+    if !is_raised(units, unit) {
+        return Ok(None);
+    }
+    let Some(claims) = extra(alloc, unit)? else {
+        return Ok(None);
+    };
+    let made = total_beside(alloc, work, plan, total, &claims)?;
+    if !is_within_joint::<B>(plan, unit, i, made.spread()) {
+        return Ok(None);
+    }
+    Ok(Some(made))
+}
+
+/// The grid of the total with the extra claims of unit `i`, where an ask names the unit.
+fn named_total<const B: u32>(
+    alloc: Global,
+    work: &mut Workspace,
+    plan: &Plan,
+    named: &[Option<u32>],
+    total: &Grid<B>,
+    i: u32,
+) -> Result<Option<Grid<B>>, AllocError>
+    requires scale { B ≡ bits_of plan.now.cells }
+    requires valid { IsValid plan.now }
+    requires independent { plan.now.common ≡ None }
+    requires total { IsTotalOf plan.now total.now }
+    requires unit { i < length plan.now.units }
+    ensures { IfOk result (λ made. IfSome made (IsRaisedTotalOf plan.now i)) }
+{
+    if is_named(named, i) {
+        return raised_total(alloc, work, plan, total, i);
+    }
+    Ok(None)
+}
+
+/// For each unit of a valid plan, the grid of the total with its extra claims, where an ask names
+/// the unit and its share comes from that grid within its budget.
+pub(crate) fn raised_totals<const B: u32>(
+    alloc: Global,
+    work: &mut Workspace,
+    plan: &Plan,
+    named: &[Option<u32>],
+    total: &Grid<B>,
+) -> Result<Vec<Option<Grid<B>>>, AllocError>
+    requires scale { B ≡ bits_of plan.now.cells }
+    requires valid { IsValid plan.now }
+    requires independent { plan.now.common ≡ None }
+    requires total { IsTotalOf plan.now total.now }
+    ensures { IfOk result (λ made. AreRaisedTotals plan.now made.items) }
+{
+    let mut made = Vec::new(alloc);
+    for i in 0..plan.units.as_slice().len() {
+        let one = named_total(alloc, work, plan, named, total, i as u32)?;
+        made.push(one)?;
+    }
+    Ok(made)
+}

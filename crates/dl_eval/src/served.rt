@@ -1,0 +1,84 @@
+//! Which units have a grid that their share of the total comes from.
+
+ghost use Rattle.std.specs.Prelude.{◌≡◌, ◌<◌, IsTrue, All, IfSome, length};
+ghost use Rattle.dl_limits.specs.Limits.{bits_of};
+ghost use Rattle.dl_plan.specs.Prelude.{IsValid};
+ghost use Rattle.dl_common.specs.Pooled.{can_share};
+ghost use Rattle.dl_eval.specs.declared.drawn.PlanGrids.TheVariants.{Independent};
+ghost use Rattle.dl_eval.specs.Drawn.{HasNeeded};
+ghost use Rattle.dl_eval.specs.Totals.{AreGridsOf, AreUnits, IsFromTotal, IsTotalOf};
+
+use crate::grids::Grids;
+use crate::raised::is_raised;
+use dl_budget::{joint_budget, shared_joint_budget, total_budget};
+use dl_grid::Grid;
+use dl_limits::BUDGET_BOUND;
+use dl_plan::{Freq, Plan, Unit};
+
+/// Whether a unit can be pooled with others.
+pub(crate) fn is_shared(unit: &Unit) -> bool
+    ensures { result ≡ can_share unit.now }
+{
+    matches!(unit.freq, Freq::Poisson(_)) && unit.cede.is_none() && unit.zero.is_none()
+}
+
+/// Whether the share of a unit is taken from the grid of the total, or from that of the total with
+/// its extra claims, where that is within its budget.
+pub(crate) fn is_without_others(units: &[Unit], unit: &Unit) -> bool {
+    is_shared(unit) || is_raised(units, unit)
+}
+
+/// Whether the unit is a Poisson unit that can be pooled, and its joint mean from the grid of the
+/// total is no wider than its budget; then its share in a tail mean is not either.
+#[tactic(auto, using(crate::proofs::Scales::plan_scale))]
+fn is_from_total<const B: u32>(plan: &Plan, total: &Grid<B>, i: u32) -> bool
+    requires scale { B ≡ bits_of plan.now.cells }
+    requires valid { IsValid plan.now }
+    requires total { IsTotalOf plan.now total.now }
+    requires unit { i < length plan.now.units }
+    ensures { IsTrue result → IsFromTotal plan.now total.now i }
+{
+    let unit = &plan.units.as_slice()[i as usize];
+    if !is_shared(unit) {
+        return false;
+    }
+    prove!(total_budget::<B>(plan) < BUDGET_BOUND);
+    shared_joint_budget(unit, total.spread(), plan.cells) <= joint_budget::<B>(plan, i)
+}
+
+/// Whether the share of the unit, if there is one, comes from these grids: from the sum of the other
+/// units, from the total with the unit's extra claims, or from the total within its budget.
+fn is_served<const B: u32>(plan: &Plan, grids: &Grids<B>, unit: Option<u32>) -> bool
+    requires scale { B ≡ bits_of plan.now.cells }
+    requires valid { IsValid plan.now }
+    requires grids { AreGridsOf plan.now grids.now }
+    requires unit { IfSome unit (λ i. i < length plan.now.units) }
+    ensures { IsTrue result → HasNeeded plan.now (Independent grids.now) unit }
+{
+    match unit {
+        Some(i) => match &grids.sums.others.as_slice()[i as usize] {
+            Some(_) => true,
+            None => match &grids.raised.as_slice()[i as usize] {
+                Some(_) => true,
+                None => is_from_total(plan, &grids.sums.total, i),
+            },
+        },
+        None => true,
+    }
+}
+
+/// Whether the shares of all named units do.
+pub(crate) fn are_served<const B: u32>(plan: &Plan, grids: &Grids<B>, named: &[Option<u32>]) -> bool
+    requires scale { B ≡ bits_of plan.now.cells }
+    requires valid { IsValid plan.now }
+    requires grids { AreGridsOf plan.now grids.now }
+    requires named { AreUnits (length plan.now.units) named.now }
+    ensures { IsTrue result → All (HasNeeded plan.now (Independent grids.now)) named.now }
+{
+    for unit in named {
+        if !is_served(plan, grids, *unit) {
+            return false;
+        }
+    }
+    true
+}
