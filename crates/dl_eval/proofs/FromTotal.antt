@@ -1,5 +1,5 @@
 -- The joint mean of a Poisson unit, and its share in a tail mean, from the grid of the total.
-use Rattle.dl_eval.proofs.Common.{IsTrue, leb_tells, All, All-head, [], ◌∷◌, ℕ, ◌≡◌, ◌+◌, ◌-◌, ◌*◌, ◌^◌, ◌<◌, ◌≤◌, List, length, get_or, arith, sym, ap, subst, ◌∙◌, get_or_default, get_or-map, length-map, map, refl, inl, inr, ◌⊎◌, IsSome, Option, None, Some, IfSome, IfSome_then, Fraction, whole, ◌over◌, ◌<ℚ◌, Iv, spread, up, Holds, AreDeclarable, AreDeclared, AtMost, One, Mean, Point, Joint, partial_sums, total, GridEncloses, Loss, loss_of, aggregates_of, plan_declared, plan_units, Plan, IsValid, UnitOfPlan, thinned_mean, joint_budget, Declares, DeclaresShare, IsAtMost, IsTotalOf, IsJointOf, AreUnitMeans, IsTailShareOf, IsQuantile, cotail_budget, total_budget, unit_mean_budget, mul-le-mul_left, mul-le-mul_right, div_ceil, div_ceil_least, div_ceil_times, up_quotient}
+use Rattle.dl_eval.proofs.Common.{IsTrue, leb_tells, All, All-head, [], ◌∷◌, ℕ, ◌≡◌, ◌+◌, ◌-◌, ◌*◌, ◌^◌, ◌<◌, ◌≤◌, List, length, get_or, arith, sym, ap, subst, ◌∙◌, get_or_default, get_or-map, length-map, map, refl, inl, inr, ◌⊎◌, IsSome, Option, None, Some, IfSome, IfSome_then, Fraction, whole, ◌over◌, ◌<ℚ◌, Iv, spread, up, Holds, AreDeclarable, AreDeclared, AtMost, One, Mean, Point, Joint, partial_sums, total, GridEncloses, Loss, loss_of, aggregates_of, plan_declared, plan_units, Plan, IsValid, IsValidUnit, UnitOfPlan, read_unit, thinned_mean, joint_budget, Declares, DeclaresShare, IsAtMost, IsTotalOf, IsJointOf, AreUnitMeans, IsTailShareOf, IsQuantile, cotail_budget, total_budget, unit_mean_budget, mul-le-mul_left, mul-le-mul_right, div_ceil, div_ceil_least, div_ceil_times, up_quotient}
 use Rattle.std.proofs.Common.{true, cond}
 use Rattle.std.proofs.Math.Dec.{leb}
 use Rattle.dl_plan.specs.Common.{CanShare}
@@ -10,7 +10,7 @@ use Rattle.dl_cotail.specs.Widths.{conditional_width, poisson_joint_width, share
 use Rattle.dl_exact.proofs.BelowOne.{num_below}
 use Rattle.dl_model.specs.Shares.{HoldsShare, unit_mean}
 use Rattle.dl_eval.proofs.Losses.{is_independent, total_alone}
-use Rattle.dl_eval.proofs.ReadAs.{read_as}
+use Rattle.dl_eval.proofs.ReadAs.{read_as, valid_there}
 use Rattle.dl_eval.proofs.TailShares.{if_some_two, mean_beside, mean_within}
 use Rattle.dl_eval.specs.Totals.{IsFromTotal}
 
@@ -32,7 +32,12 @@ share_rises p m K j w x t below of_joint of_total =
       ceiling_rises (low * p.den) (high * p.den) (p.den - p.num) left (mul-le-mul_right p.den sums),
     )
 
-module _ (plan : Plan) (i : ℕ) {u : UnitOfPlan} (is : u ≡ get_or plan.units i u) (inside : i < length plan.units) where
+-- a unit that was read in the units of a plan
+module _ (plan : Plan) (i : ℕ) {units : List UnitOfPlan} {u : UnitOfPlan} (same : units ≡ plan.units)
+    (read : u ≡ get_or units i u) (inside : i < length plan.units) where
+  is : u ≡ get_or plan.units i u
+  is = read_unit units plan.units i u same read
+
   loss_here : get_or (aggregates_of plan) i (loss_of u) ≡ loss_of u
   loss_here = get_or-map loss_of plan.units i u (loss_of u) inside ∙ ap loss_of (sym is)
 
@@ -41,7 +46,7 @@ module _ (plan : Plan) (i : ℕ) {u : UnitOfPlan} (is : u ≡ get_or plan.units 
 
   -- the unit that was read there
   pub same_unit : (v : UnitOfPlan) → v ≡ get_or plan.units i v → v ≡ u
-  same_unit v read = read ∙ get_or_default plan.units i v u inside ∙ sym is
+  same_unit v found = found ∙ get_or_default plan.units i v u inside ∙ sym is
 
   -- what comes from a grid that encloses a total of the losses of the plan, and perhaps of further ones
   module _ {B : ℕ} (g : List (Iv B)) (Encloses : List Loss → Type 0) (cells : length g ≡ plan.cells)
@@ -115,6 +120,12 @@ module _ (plan : Plan) (i : ℕ) {u : UnitOfPlan} (is : u ≡ get_or plan.units 
   module _ {B : ℕ} {g : List (Iv B)} where
     pub from_shares : IsFromTotal plan g i → CanShare u
     from_shares from = subst CanShare (same_unit from.unit from.is) from.can_share
+
+    -- what the joint mean asks of it and of the grid
+    pub asks_from : {at : ℕ} → IsValid plan → IsTotalOf plan g → IsFromTotal plan g i → at < plan.cells
+        → ((k : ℕ) × IsValidUnit k u) × (CanShare u × (at < length g))
+    asks_from {at = at} valid t from below =
+        (valid_there i same read inside valid, (from_shares from, omega (arith, below, t.cells)))
 
     from_narrow : IsFromTotal plan g i
         → shared_joint_budget plan.cells (spread g) (thinned_mean u) ≤ joint_budget (2 ^ B) plan i

@@ -1,9 +1,22 @@
 -- The mean of a total, from those of its units.
-use Rattle.dl_eval.proofs.Common.{ℕ, suc, ◌≡◌, ◌+◌, ◌-◌, ◌*◌, ◌^◌, ◌≤◌, List, [], ◌∷◌, length, map, arith, sym, ap, subst, subst₂, ◌∙◌, Option, None, Some, All, mul-le-mul_left, pow_pos, Fraction, whole, ◌over◌, ◌+ℚ◌, Iv, spread, CedeLayer, Plan, Clause, IsHorizonOf, horizon, IsValidUnit, IsValid, claims_budget, mean_width, unit_mean_budget, one_horizon, AreUnitMeans, IsMeanOf, loss_of, sum_by, All-tail, over_same, one_pos, over_plus, are_units, no_clause, units_declared, MeanHolds, units_mean, UnitOfPlan, layer_budget, clause_mean, part_width, HoldsClaims, HoldsMean, independent, IsClauseMean}
+use Rattle.dl_eval.proofs.Common.{ℕ, suc, ◌≡◌, ◌+◌, ◌-◌, ◌*◌, ◌^◌, ◌<◌, ◌≤◌, List, [], ◌∷◌, length, get_or, map, arith, sym, ap, subst, subst₂, ◌∙◌, Option, None, Some, All, mul-le-mul_left, pow_pos, Fraction, whole, ◌over◌, ◌+ℚ◌, Iv, spread, CedeLayer, Plan, Clause, IsHorizonOf, horizon, IsValidUnit, IsValid, claims_budget, mean_width, unit_mean_budget, one_horizon, AreUnitMeans, IsUnitMean, IsMeanOf, loss_of, sum_by, All-tail, over_same, one_pos, over_plus, are_units, no_clause, units_declared, MeanHolds, units_mean, UnitOfPlan, layer_budget, clause_mean, part_width, HoldsClaims, HoldsMean, independent, IsClauseMean}
 use Rattle.std.proofs.lemmas.List.Sums.{sum_by-cons}
 use Rattle.dl_exact.specs.Sum.{sum_over}
 use Rattle.dl_model.proofs.TotalMeans.{mean_of_total}
 use Rattle.dl_eval.proofs.Losses.{is_independent}
+
+-- ---- of the units of a plan
+
+-- so many means of units are those of all
+pub are_means : {B cells n : ℕ} {us units : List UnitOfPlan} {means : List (Iv B)} → us ≡ units → length us ≤ n
+    → length means ≡ n → n ≤ length us
+    → ((i : ℕ) (u : UnitOfPlan) (m : Iv B) → i < n → IsUnitMean cells (get_or us i u) (get_or means i m))
+    → AreUnitMeans cells units means
+are_means {cells = cells} {means = means} same all many few each =
+    subst (λ vs. AreUnitMeans cells vs means) same (record {
+      as_many = omega (arith, many, all, few);
+      each = λ i u m inside. each i u m (omega (arith, inside, all));
+    })
 
 -- ---- of a unit without a clause
 

@@ -1,10 +1,16 @@
 -- What was read in a list that is another.
-use Rattle.dl_eval.proofs.Common.{refl, ℕ, ◌≡◌, ◌^◌, ◌<◌, ◌≤◌, List, [], length, get_or, arith, sym, ap, subst, ◌∙◌, Option, None, Some, IfSome, get_or_default, Iv, spread, Plan, IsHorizonOf, IsValidUnit, IsValid, unit_budget, few_cells, unit_horizon, AreUnitGrids, AreOthersOf, AreOthers, most_horizon, UnitOfPlan, IsGridOfUnit}
+use Rattle.dl_eval.proofs.Common.{All, refl, ℕ, ◌≡◌, ◌^◌, ◌<◌, ◌≤◌, List, [], length, get_or, arith, sym, ap, subst, ◌∙◌, Option, None, Some, IfSome, get_or_default, Iv, spread, Plan, IsHorizonOf, IsValidUnit, IsValid, unit_budget, few_cells, unit_horizon, AreUnitGrids, AreUnitMeans, most_horizon, UnitOfPlan, IsGridOfUnit}
 use Rattle.dl_eval.proofs.Totals.{each_cells, each_encloses, unit_narrow}
 
 pub read_as : {A : Type 0} {slice xs : List A} (i : ℕ) {x : A} (d : A) → slice ≡ xs → x ≡ get_or slice i x → i < length xs
     → x ≡ get_or xs i d
 read_as {xs = xs} i {x = x} d same is inside = is ∙ ap (λ t. get_or t i x) same ∙ get_or_default xs i x d inside
+
+-- what holds of each that is there holds of the one that was read there
+pub some_there : {A : Type 0} (P : A → Type 0) {slice xs : List (Option A)} (i : ℕ) {o : Option A} {x : A} → slice ≡ xs
+    → o ≡ get_or slice i o → o ≡ Some x → i < length xs → IfSome (get_or xs i None) P → P x
+some_there P i same is there inside holds =
+    subst (λ t. IfSome t P) (sym (read_as i None same is inside) ∙ there) holds
 
 -- ---- units
 
@@ -14,6 +20,11 @@ pub unit_there : {plan : Plan} {units : List UnitOfPlan} (i : ℕ) {u : UnitOfPl
     → IsValidUnit plan.cells u
 unit_there {plan} {units} i {u} same is inside valid =
     subst (IsValidUnit plan.cells) (sym (is ∙ ap (λ t. get_or t i u) same)) (valid.units i u inside)
+
+-- the same, with the cells of that plan
+pub valid_there : {plan : Plan} {units : List UnitOfPlan} (i : ℕ) {u : UnitOfPlan} → units ≡ plan.units
+    → u ≡ get_or units i u → i < length plan.units → IsValid plan → (k : ℕ) × IsValidUnit k u
+valid_there {plan = plan} i same is inside valid = (plan.cells, unit_there i same is inside valid)
 
 pub horizon_there : {plan : Plan} {units : List UnitOfPlan} (i : ℕ) {u : UnitOfPlan} → units ≡ plan.units
     → u ≡ get_or units i u → i < length plan.units → IsValid plan
@@ -39,15 +50,6 @@ spread_within {B} plan {units = units} {grids = grids} {u = u} i same is sliced 
       ap (unit_budget (2 ^ B) plan.cells) e,
     )
 
--- the grid of all other units that was read there
-pub others_there : {B : ℕ} {plan : Plan} {slice others : List (Option (List (Iv B)))} (i : ℕ)
-    {read : Option (List (Iv B))} {g : List (Iv B)}
-    → slice ≡ others → read ≡ get_or slice i read → read ≡ Some g → i < length plan.units → AreOthers plan others
-    → AreOthersOf plan i g
-others_there {B} {plan = plan} i same is there inside all =
-    subst (λ (o : Option (List (Iv B))). IfSome o (AreOthersOf plan i))
-    (sym (read_as i None same is (omega (arith, inside, all.as_many))) ∙ there) (all.each i inside)
-
 -- the grid of a unit that was read there
 pub grid_of_unit : {B : ℕ} {plan : Plan} {grids slice : List (List (Iv B))} {g : List (Iv B)} (i : ℕ) → slice ≡ grids
     → g ≡ get_or slice i g → i < length plan.units → AreUnitGrids plan.cells plan.units grids → IsGridOfUnit plan i g
@@ -57,3 +59,18 @@ grid_of_unit {B} {plan = plan} {grids = grids} i same is inside each =
       encloses = each_encloses plan.cells plan.units grids i inside each;
       narrow = unit_narrow plan.cells plan.units grids i inside each;
     })
+
+-- ---- means
+
+module _ {B cells : ℕ} {units : List UnitOfPlan} {means slice : List (Iv B)} (i : ℕ) {mean : Iv B} (same : slice ≡ means)
+    (is : mean ≡ get_or slice i mean) (inside : i < length units) (each : AreUnitMeans cells units means) where
+  here : i < length means
+  here = omega (arith, inside, each.as_many)
+
+  -- the mean of a unit that was read there
+  pub mean_there : mean ≡ get_or means i mean
+  mean_there = read_as i mean same is here
+
+  -- it is small where all are
+  pub mean_small : All (λ m. m.hi ≤ 2 ^ 93) means → mean.hi ≤ 2 ^ 93
+  mean_small all = omega (arith, all i mean here, ap (λ m. m.hi) mean_there)

@@ -1,5 +1,5 @@
 -- The answer to an ask for a share of the tail mean.
-use Rattle.dl_eval.proofs.Common.{ℕ, ◌≡◌, ◌-◌, ◌^◌, ◌<◌, ◌≤◌, List, [], ◌∷◌, length, get_or, map, arith, inl, inr, sym, ap, subst, pow_pos, length-map, Option, None, Some, IfSome, Fraction, ◌over◌, ◌≤ℚ◌, Iv, over_le_over, low_at, spread, low_cdf, Holds, One, Mean, partial_sums, total, GridEncloses, unit_of, AreDeclarable, AreDeclared, Loss, loss_of, aggregates_of, plan_declared, plan_units, at_least_wider, at_most_wider, Plan, IsValid, Row, ask_budget, in_digits, unit_budgets, unit_mean_budget, total_budget, at_the_end, index_of, IsAnswerTo, total_error, AreUnitMeans, IsTotalOf, AreOthersOf, Prints, ◌⊎◌, get_or-map, IsNone, UnitOfPlan, others_budget, cotail_budget, IsQuantile, without, declared, IsFirstFound, DeclaresShare, IsAtLeast, IsBeyond, IsTailShare, IsNoTailShare, IsTailShareOf, independent, le_refl, plus_le_both, sub_le_both, lt_of_lt_of_le, IsGridOfUnit}
+use Rattle.dl_eval.proofs.Common.{ℕ, ◌≡◌, ◌-◌, ◌^◌, ◌<◌, ◌≤◌, List, [], ◌∷◌, length, get_or, map, arith, inl, inr, sym, ap, subst, pow_pos, length-map, Option, None, Some, IfSome, Fraction, ◌over◌, ◌≤ℚ◌, Iv, over_le_over, low_at, spread, low_cdf, Holds, One, Mean, partial_sums, total, GridEncloses, unit_of, AreDeclarable, AreDeclared, Loss, loss_of, aggregates_of, plan_declared, plan_units, at_least_wider, at_most_wider, Plan, IsValid, Row, ask_budget, in_digits, unit_budgets, unit_mean_budget, total_budget, at_the_end, index_of, IsAnswerTo, total_error, AreUnitMeans, IsTotalOf, AreOthersOf, Prints, ◌⊎◌, ◌↔◌, get_or-map, IsNone, UnitOfPlan, others_budget, cotail_budget, IsQuantile, without, declared, IsFirstFound, DeclaresShare, IsAtLeast, IsBeyond, IsTailShare, IsNoTailShare, IsTailShareOf, independent, le_refl, plus_le_both, sub_le_both, lt_of_lt_of_le, IsGridOfUnit}
 use Rattle.dl_plan.specs.declared.settings.Ask.TheVariants as asks
 use Rattle.dl_model.specs.Shares.{HoldsShare, unit_mean}
 use Rattle.dl_cotail.specs.Prelude.{IsPast, MayBeAbsent, cotail_width}
@@ -97,11 +97,11 @@ tail_share {B} {plan = plan} {g = g} {i = i} p result holds width beside own rea
     most = total_budget (2 ^ B) (independent plan)
 
 -- where there is a share, the distribution reaches p inside the grid
-pub share_reached : {B : ℕ} {plan : Plan} {g : List (Iv B)} (p : Fraction) (result : Option (Iv B))
-    → (IsPast g p → IsNone result) → IsValid plan → IsTotalOf plan g
+pub share_reached : {B : ℕ} {plan : Plan} {g : List (Iv B)} {p : Fraction} {Else : Type 0} (result : Option (Iv B))
+    → (IsNone result ↔ (IsPast g p ⊎ Else)) → IsValid plan → IsTotalOf plan g
     → IfSome result (λ r. IsAtLeast plan (at_the_end plan) p)
-share_reached p None past valid t = tt
-share_reached p (Some r) past valid t = tail_reached p (λ none. let some = past none in cc) valid t
+share_reached None none valid t = tt
+share_reached {p = p} (Some r) none valid t = tail_reached p (λ past. let some = none.1 (inl past) in cc) valid t
 
 -- ---- no share
 
@@ -122,13 +122,14 @@ absent_wider plan K L p d e same wider why = elim why [
   })
 ]
 
-pub share_absent : {B : ℕ} {plan : Plan} {g : List (Iv B)} (p : Fraction) (result : Option (Iv B)) (x : ℕ)
+pub share_absent : {B : ℕ} {plan : Plan} {g : List (Iv B)} {p : Fraction} (result : Option (Iv B))
     → ((us : List Loss) (y : ℕ) → AreDeclared us → GridEncloses g (total us) → IsNone result
     → IsFirstFound (low_cdf (2 ^ B) (low_at g)) p (length g) (Some y)
     → MayBeAbsent (partial_sums us) (length g) p (spread g over 2 ^ B))
-    → IsNone result → IsFirstFound (low_cdf (2 ^ B) (low_at g)) p plan.cells (Some x) → IsValid plan → IsTotalOf plan g
-    → plan.common ≡ None → MayBeAbsent (declared plan) plan.cells p (total_error (2 ^ B) plan)
-share_absent {B} {plan = plan} {g = g} p result x absent none found valid t alone =
+    → IsValid plan → IsTotalOf plan g → plan.common ≡ None → (x : ℕ) → IsNone result
+    → IsFirstFound (low_cdf (2 ^ B) (low_at g)) p plan.cells (Some x)
+    → MayBeAbsent (declared plan) plan.cells p (total_error (2 ^ B) plan)
+share_absent {B} {plan = plan} {g = g} {p = p} result absent valid t alone x none found =
     absent_wider plan (length g) plan.cells p _ _ t.cells
     (over_le_over (spread g) (total_budget (2 ^ B) plan) (2 ^ B) (pow_pos B) t.narrow)
     (subst (λ whole. MayBeAbsent (declared whole) (length g) p (spread g over 2 ^ B)) (is_independent plan alone)

@@ -1,6 +1,6 @@
-use Rattle.dl_eval.proofs.Common.{◌^◌, arith, sym, mul-le-mul_right, few_cells, read_unit, ◌also◌}
-use Rattle.dl_eval.proofs.ReadAs.{unit_there}
-use Rattle.dl_eval.proofs.Scales.{share_fits}
+use Rattle.dl_eval.proofs.Common.{arith, sym, read_unit, ◌also◌}
+use Rattle.dl_eval.proofs.ReadAs.{valid_there}
+use Rattle.dl_eval.proofs.Scales.{share_divides}
 use Rattle.dl_eval.proofs.PooledUnits.{unit_poisson, pooled_is_joint, raised_there}
 use Rattle.dl_eval.proofs.pooled.pooled_joint.Goals as goal
 
@@ -12,11 +12,8 @@ common_joint-requires g c =
     let made = c.requires.grids in
     let there = raised_there plan made.shape c.in-Some.is made.raised in
     (omega arith) also (omega arith)
-    also (
-      plan.cells,
-      unit_there c.args.i c.as_slice.ensures c.index-as_slice-i.is
-          c.requires.unit c.requires.valid,
-    ) also unit_poisson c.requires.valid made.shares c.args.i c.requires.unit is
+    also valid_there c.args.i c.as_slice.ensures c.index-as_slice-i.is c.requires.unit c.requires.valid
+    also unit_poisson c.requires.valid made.shares c.args.i c.requires.unit is
     also (omega (arith, c.requires.inside, there.cells))
 
 pub returns-clause-joint : goal.returns-clause-joint
@@ -43,9 +40,4 @@ returns-clause-below g c h most =
 
 pub returns-clause-divisible : goal.returns-clause-divisible
 returns-clause-divisible g c =
-    omega (
-      arith,
-      mul-le-mul_right (2 ^ g.row.B) c.common_joint.ensures.small,
-      share_fits g.row.B c.args.plan.now.cells c.args.at c.requires.scale (few_cells c.args.plan.now c.requires.valid).1
-          c.requires.inside,
-    )
+    share_divides c.args.plan.now c.requires.scale c.requires.valid c.requires.inside c.common_joint.ensures.small

@@ -1,42 +1,23 @@
-use Rattle.dl_eval.proofs.Common.{◌^◌, arith, mul-le-mul_right, few_cells, read_unit, ◌also◌}
-use Rattle.dl_eval.proofs.ReadAs.{unit_there}
-use Rattle.dl_eval.proofs.Scales.{share_fits}
-use Rattle.dl_eval.proofs.FromRaised.{can_raise, is_joint_raised, is_below_raised}
+use Rattle.dl_eval.proofs.Common.{arith, ◌also◌}
+use Rattle.dl_eval.proofs.Scales.{share_divides}
+use Rattle.dl_eval.proofs.FromRaised.{asks_raised, is_joint_raised, is_below_raised}
 use Rattle.dl_eval.proofs.shares.joint_raised.Goals as goal
 
 pub gamma_joint-requires : goal.gamma_joint-requires
 gamma_joint-requires g c =
-    let plan = c.args.plan.now in
-    let is = read_unit c.as_slice.result.now plan.units c.args.i c.index-as_slice-i.result c.as_slice.ensures
-    c.index-as_slice-i.is in
-    (omega arith) also (omega arith)
-    also (
-      plan.cells,
-      unit_there c.args.i c.as_slice.ensures c.index-as_slice-i.is c.requires.unit c.requires.valid,
-    ) also can_raise plan c.args.i is c.requires.unit c.requires.raised
-    also (omega (arith, c.requires.inside, c.requires.raised.cells))
+    (omega arith) also (omega arith) also asks_raised c.args.plan.now c.args.i c.as_slice.ensures c.index-as_slice-i.is
+    c.requires.unit c.requires.raised c.requires.valid c.requires.inside
 
 pub returns-clause-joint : goal.returns-clause-joint
 returns-clause-joint g c =
-    let plan = c.args.plan.now in
-    let is = read_unit c.as_slice.result.now plan.units c.args.i c.index-as_slice-i.result c.as_slice.ensures
-    c.index-as_slice-i.is in
-    is_joint_raised plan c.args.i is c.requires.unit c.requires.raised c.requires.valid c.requires.independent
-    c.gamma_joint.ensures.holds c.gamma_joint.ensures.width
+    is_joint_raised c.args.plan.now c.args.i c.as_slice.ensures c.index-as_slice-i.is c.requires.unit c.requires.raised
+    c.requires.valid c.requires.independent c.gamma_joint.ensures.holds c.gamma_joint.ensures.width
 
 pub returns-clause-below : goal.returns-clause-below
 returns-clause-below g c =
-    let plan = c.args.plan.now in
-    let is = read_unit c.as_slice.result.now plan.units c.args.i c.index-as_slice-i.result c.as_slice.ensures
-    c.index-as_slice-i.is in
-    is_below_raised plan c.args.i is c.requires.unit c.requires.raised c.requires.valid c.requires.independent c.args.at
-    c.gamma_joint.result.lo c.gamma_joint.ensures.below
+    is_below_raised c.args.plan.now c.args.i c.as_slice.ensures c.index-as_slice-i.is c.requires.unit c.requires.raised
+    c.requires.valid c.requires.independent c.args.at c.gamma_joint.result.lo c.gamma_joint.ensures.below
 
 pub returns-clause-divisible : goal.returns-clause-divisible
 returns-clause-divisible g c =
-    omega (
-      arith,
-      mul-le-mul_right (2 ^ g.row.B) c.gamma_joint.ensures.small,
-      share_fits g.row.B c.args.plan.now.cells c.args.at c.requires.scale (few_cells c.args.plan.now c.requires.valid).1
-          c.requires.inside,
-    )
+    share_divides c.args.plan.now c.requires.scale c.requires.valid c.requires.inside c.gamma_joint.ensures.small

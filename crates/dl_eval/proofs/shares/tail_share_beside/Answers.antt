@@ -1,42 +1,31 @@
-use Rattle.dl_eval.proofs.Common.{arith, ap, inl, ◌also◌}
-use Rattle.dl_eval.proofs.ReadAs.{read_as}
+use Rattle.dl_eval.proofs.Common.{arith, ◌also◌}
+use Rattle.dl_eval.proofs.ReadAs.{mean_there, mean_small}
 use Rattle.dl_eval.proofs.Scales.{plan_scale, scale_least}
 use Rattle.dl_eval.proofs.TailShares.{tail_share, share_reached, share_absent}
 use Rattle.dl_eval.proofs.shares.tail_share_beside.Goals as goal
 
 pub returns-clause-reached : goal.returns-clause-reached
-returns-clause-reached g c =
-    share_reached c.args.p c.cotail.result
-    (λ past. c.cotail.ensures.none.1 (inl past)) c.requires.valid c.requires.total
-
-pub returns-clause-absent : goal.returns-clause-absent
-returns-clause-absent g c x none found =
-    share_absent c.args.p c.cotail.result x c.cotail.ensures.absent none
-    found c.requires.valid c.requires.total c.requires.independent
+returns-clause-reached g c = share_reached c.cotail.result c.cotail.ensures.none c.requires.valid c.requires.total
 
 pub returns-clause-share : goal.returns-clause-share
 returns-clause-share g c =
-    let made = c.requires.grids in
-    let mean = c.index-as_slice-i in
-    let read = read_as c.args.i mean.result
-    c.as_slice.ensures.value mean.is (omega (arith, c.requires.unit, made.means.as_many)) in
-    tail_share c.args.p c.cotail.result c.cotail.ensures.holds
-    c.cotail.ensures.width c.law_unit_mean.ensures c.unit.ensures.is read c.requires.unit c.requires.valid made.means
-    c.others.ensures.are c.requires.total c.requires.independent
+    tail_share c.args.p c.cotail.result c.cotail.ensures.holds c.cotail.ensures.width c.law_unit_mean.ensures
+    c.unit.ensures.is (mean_there c.args.i c.as_slice.ensures.value c.index-as_slice-i.is c.requires.unit c.requires.grids.means)
+    c.requires.unit c.requires.valid c.requires.grids.means c.others.ensures.are c.requires.total c.requires.independent
 
 pub cotail-requires : goal.cotail-requires
 cotail-requires g c =
     let scale = plan_scale g.row.B c.args.plan.now.cells c.requires.scale in
     let least = scale_least g.row.B scale in
     let made = c.requires.grids in
-    let mean = c.index-as_slice-i in
-    let read = read_as c.args.i mean.result
-    c.as_slice.ensures.value mean.is (omega (arith, c.requires.unit, made.means.as_many)) in
-    let small = made.small c.args.i mean.result (omega (arith, c.requires.unit, made.means.as_many)) in
     (omega (arith, scale.least, scale.most)) also (omega (arith, scale.least, scale.most)) also (omega arith)
     also c.requires.level.below also c.requires.few
     also (omega (arith, c.unit.ensures.is.cells, c.others.ensures.are.cells))
     also (omega (arith, c.unit.ensures.is.cells, c.requires.total.cells)) also (omega (arith, c.unit.ensures.narrow, least))
     also (omega (arith, c.others.ensures.narrow, least))
     also (omega (arith, c.requires.total.narrow, c.total_budget.ensures.value, c.if-prove.false, least))
-    also (omega (arith, small, ap (λ m. m.hi) read))
+    also (omega (arith, mean_small c.args.i c.as_slice.ensures.value c.index-as_slice-i.is c.requires.unit made.means made.small))
+
+pub returns-clause-absent : goal.returns-clause-absent
+returns-clause-absent g c =
+    share_absent c.cotail.result c.cotail.ensures.absent c.requires.valid c.requires.total c.requires.independent

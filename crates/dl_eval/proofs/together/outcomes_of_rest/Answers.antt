@@ -1,7 +1,8 @@
-use Rattle.dl_eval.proofs.Common.{◌≤◌, ◌^◌, length, arith, ap, sym, subst, ◌∙◌, few_cells, Iv, IsUnitMean, AreUnitMeans, UnitOfPlan, ◌also◌}
+use Rattle.dl_eval.proofs.Common.{◌≤◌, ◌^◌, length, arith, ap, sym, ◌∙◌, few_cells, Iv, IsUnitMean, UnitOfPlan, ◌also◌}
 use Rattle.std.specs.Prelude.{not}
 use Rattle.dl_common.specs.Pooled.{can_share}
 use Rattle.dl_eval.proofs.ReadAs.{unit_there}
+use Rattle.dl_eval.proofs.Means.{are_means}
 use Rattle.dl_eval.proofs.Lists.{each_next, pushed_length, all_pushed}
 use Rattle.dl_eval.proofs.Parted.{kept_grid, left_out, all_kept}
 use Rattle.dl_eval.proofs.together.outcomes_of_rest.Goals as goal
@@ -54,7 +55,4 @@ returns-clause-grids g c =
 
 pub returns-clause-means : goal.returns-clause-means
 returns-clause-means g c =
-    subst (λ us. AreUnitMeans c.args.plan.now.cells us c.loop-unit.means.items) c.as_slice-units.ensures (record {
-      as_many = omega (arith, c.loop-unit.invariant.many_means);
-      each = λ i u m inside. c.loop-unit.invariant.means i u m (omega (arith, inside));
-    })
+    are_means c.as_slice-units.ensures (omega arith) c.loop-unit.invariant.many_means (omega arith) c.loop-unit.invariant.means

@@ -1,5 +1,6 @@
-use Rattle.dl_eval.proofs.Common.{◌≤◌, ◌^◌, length, arith, ap, subst, few_cells, Iv, IsUnitMean, AreUnitMeans, ◌also◌}
+use Rattle.dl_eval.proofs.Common.{◌≤◌, ◌^◌, length, arith, ap, few_cells, Iv, IsUnitMean, ◌also◌}
 use Rattle.dl_eval.proofs.ReadAs.{unit_there}
+use Rattle.dl_eval.proofs.Means.{are_means}
 use Rattle.dl_eval.proofs.Lists.{each_next, pushed_length, all_pushed}
 use Rattle.dl_eval.proofs.units.unit_means.Goals as goal
 
@@ -12,6 +13,10 @@ mean_of-requires g c =
     (omega (arith, c.loop-unit-test.true, ap length units.ensures)) c.requires.valid
     also some.0 also some.1
 
+pub returns-clause-means : goal.returns-clause-means
+returns-clause-means g c =
+    are_means c.as_slice-units.ensures (omega arith) c.loop-unit.invariant.many_means (omega arith) c.loop-unit.invariant.means
+
 pub loop-unit-preserved : goal.loop-unit-preserved
 loop-unit-preserved g c =
     let i = c.loop-unit.invariant in
@@ -21,10 +26,3 @@ loop-unit-preserved g c =
           c.unit-item.is c.in_ok-mean.ensures.mean;
       small = all_pushed (λ (mean : Iv g.row.B). mean.hi ≤ 2 ^ 93) _ _ _ i.small pushed c.in_ok-mean.ensures.small;
     }
-
-pub returns-clause-means : goal.returns-clause-means
-returns-clause-means g c =
-    subst (λ us. AreUnitMeans c.args.plan.now.cells us c.loop-unit.means.items) c.as_slice-units.ensures (record {
-      as_many = omega (arith, c.loop-unit.invariant.many_means);
-      each = λ i u m inside. c.loop-unit.invariant.means i u m (omega (arith, inside));
-    })

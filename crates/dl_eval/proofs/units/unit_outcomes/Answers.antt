@@ -1,5 +1,6 @@
-use Rattle.dl_eval.proofs.Common.{◌≤◌, ◌^◌, List, [], length, arith, ap, subst, few_cells, Iv, IsUnitGrid, IsUnitMean, AreUnitGrids, AreUnitMeans, ◌also◌}
+use Rattle.dl_eval.proofs.Common.{◌≤◌, ◌^◌, List, [], length, arith, ap, subst, few_cells, Iv, IsUnitGrid, IsUnitMean, AreUnitGrids, ◌also◌}
 use Rattle.dl_eval.proofs.ReadAs.{unit_there}
+use Rattle.dl_eval.proofs.Means.{are_means}
 use Rattle.dl_eval.proofs.Lists.{each_next, pushed_length, all_pushed}
 use Rattle.dl_eval.proofs.units.unit_outcomes.Goals as goal
 
@@ -46,7 +47,4 @@ returns-clause-grids g c =
 
 pub returns-clause-means : goal.returns-clause-means
 returns-clause-means g c =
-    subst (λ us. AreUnitMeans c.args.plan.now.cells us c.loop-unit.means.items) c.as_slice-units.ensures (record {
-      as_many = omega (arith, c.loop-unit.invariant.many_means);
-      each = λ i u m inside. c.loop-unit.invariant.means i u m (omega (arith, inside));
-    })
+    are_means c.as_slice-units.ensures (omega arith) c.loop-unit.invariant.many_means (omega arith) c.loop-unit.invariant.means
