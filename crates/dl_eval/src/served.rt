@@ -3,6 +3,7 @@
 ghost use Rattle.std.specs.Prelude.{◌≡◌, ◌<◌, IsTrue, All, IfSome, length};
 ghost use Rattle.dl_limits.specs.Limits.{bits_of};
 ghost use Rattle.dl_plan.specs.Prelude.{IsValid};
+ghost use Rattle.dl_grid.specs.Cells.{spread};
 ghost use Rattle.dl_common.specs.Pooled.{can_share};
 ghost use Rattle.dl_eval.specs.declared.drawn.PlanGrids.TheVariants.{Independent};
 ghost use Rattle.dl_eval.specs.Drawn.{HasNeeded};
@@ -29,12 +30,14 @@ pub(crate) fn is_without_others(units: &[Unit], unit: &Unit) -> bool {
 }
 
 /// Whether the unit is a Poisson unit that can be pooled, and its joint mean from the grid of the
-/// total is no wider than its budget; then its share in a tail mean is not either.
+/// total, whose spread is `apart`, is no wider than its budget; then its share in a tail mean is not
+/// either.
 #[tactic(auto, using(crate::proofs::Scales::plan_scale))]
-fn is_from_total<const B: u32>(plan: &Plan, total: &Grid<B>, i: u32) -> bool
+fn is_from_total<const B: u32>(plan: &Plan, total: &Grid<B>, apart: u128, i: u32) -> bool
     requires scale { B ≡ bits_of plan.now.cells }
     requires valid { IsValid plan.now }
     requires total { IsTotalOf plan.now total.now }
+    requires apart { apart ≡ spread total.now }
     requires unit { i < length plan.now.units }
     ensures { IsTrue result → IsFromTotal plan.now total.now i }
 {
@@ -43,15 +46,17 @@ fn is_from_total<const B: u32>(plan: &Plan, total: &Grid<B>, i: u32) -> bool
         return false;
     }
     prove!(total_budget::<B>(plan) < BUDGET_BOUND);
-    shared_joint_budget(unit, total.spread(), plan.cells) <= joint_budget::<B>(plan, i)
+    shared_joint_budget(unit, apart, plan.cells) <= joint_budget::<B>(plan, i)
 }
 
 /// Whether the share of the unit, if there is one, comes from these grids: from the sum of the other
-/// units, from the total with the unit's extra claims, or from the total within its budget.
-fn is_served<const B: u32>(plan: &Plan, grids: &Grids<B>, unit: Option<u32>) -> bool
+/// units, from the total with the unit's extra claims, or from the total, whose spread is `apart`,
+/// within its budget.
+fn is_served<const B: u32>(plan: &Plan, grids: &Grids<B>, apart: u128, unit: Option<u32>) -> bool
     requires scale { B ≡ bits_of plan.now.cells }
     requires valid { IsValid plan.now }
     requires grids { AreGridsOf plan.now grids.now }
+    requires apart { apart ≡ spread grids.now.sums.total }
     requires unit { IfSome unit (λ i. i < length plan.now.units) }
     ensures { IsTrue result → HasNeeded plan.now (Independent grids.now) unit }
 {
@@ -60,7 +65,7 @@ fn is_served<const B: u32>(plan: &Plan, grids: &Grids<B>, unit: Option<u32>) -> 
             Some(_) => true,
             None => match &grids.raised.as_slice()[i as usize] {
                 Some(_) => true,
-                None => is_from_total(plan, &grids.sums.total, i),
+                None => is_from_total(plan, &grids.sums.total, apart, i),
             },
         },
         None => true,
@@ -75,8 +80,9 @@ pub(crate) fn are_served<const B: u32>(plan: &Plan, grids: &Grids<B>, named: &[O
     requires named { AreUnits (length plan.now.units) named.now }
     ensures { IsTrue result → All (HasNeeded plan.now (Independent grids.now)) named.now }
 {
+    let apart = grids.sums.total.spread();
     for unit in named {
-        if !is_served(plan, grids, *unit) {
+        if !is_served(plan, grids, apart, *unit) {
             return false;
         }
     }

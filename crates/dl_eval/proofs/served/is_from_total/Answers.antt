@@ -13,6 +13,6 @@ returns g c narrow =
       is = read_unit c.as_slice.result.now plan.units c.args.i u c.as_slice.ensures c.index-as_slice-i.is;
       can_share = true_shares u (sym c.is_shared.ensures ∙ c.if-not-is_shared.false);
       narrow = subst₂ (λ x y. x ≤ y) (c.shared_joint_budget.ensures.value
-          ∙ ap (λ s. shared_joint_budget plan.cells s (thinned_mean u)) c.spread.ensures)
+          ∙ ap (λ s. shared_joint_budget plan.cells s (thinned_mean u)) c.requires.apart)
           c.joint_budget.ensures.value within;
     }
