@@ -16,7 +16,8 @@ use dl_plan::{Plan, Unit};
 use dl_product::Workspace;
 use std::alloc::{AllocError, Global};
 
-/// The unit, if there is one and its share is to come from the sum of the others.
+/// `unit`, if it is the number of a unit whose share needs the grid of the sum of all other units;
+/// else none.
 fn beside(units: &[Unit], unit: Option<u32>) -> Option<u32>
     requires unit { IfSome unit (λ i. i < length units.now) }
     ensures { IfSome result (λ i. i < length units.now) }

@@ -49,9 +49,9 @@ fn is_from_total<const B: u32>(plan: &Plan, total: &Grid<B>, apart: u128, i: u32
     shared_joint_budget(unit, apart, plan.cells) <= joint_budget::<B>(plan, i)
 }
 
-/// Whether the share of the unit, if there is one, comes from these grids: from the sum of the other
-/// units, from the total with the unit's extra claims, or from the total, whose spread is `apart`,
-/// within its budget.
+/// Whether these grids give the joint mean of the unit within its budget: the grid of the sum of all
+/// other units is there, or that of the total with the unit's extra claims, or that of the total,
+/// whose spread is `apart`, is narrow enough. True where there is no unit.
 fn is_served<const B: u32>(plan: &Plan, grids: &Grids<B>, apart: u128, unit: Option<u32>) -> bool
     requires scale { B ≡ bits_of plan.now.cells }
     requires valid { IsValid plan.now }

@@ -8,9 +8,9 @@ ghost use Rattle.dl_product.specs.Kept.{AreEntries, AreListed, AreOf, HasLists, 
 use dl_transform::{CellValues, Ends, ListValues, Setup, values_of_ends, values_of_list};
 use std::alloc::{AllocError, Global};
 
-/// What transforms multiply: a list of cells where `are_cells`, and else one list of numbers, which
-/// stand as low ends without widths. Where it comes again, in a later product, its values are kept
-/// until then.
+/// What transforms multiply: where `are_cells`, a list of cells; else one list of numbers, which are
+/// in `ends.lows`, while `ends.widths` is empty. Where `comes_again`, a later product has the same
+/// list, and the values of this one are kept for it.
 #[derive(Clone, Copy)]
 pub(crate) struct Listed<'a> {
     pub(crate) ends: Ends<'a>,
@@ -25,8 +25,8 @@ pub(crate) enum Values {
     OfList(ListValues),
 }
 
-/// The values of a list of cells, beside copies of its low ends and widths where it comes again. Those
-/// of one list of numbers stand beside a copy of it in the place of the low ends, and no widths.
+/// The values of a list of cells, with copies of its low ends and widths where it comes again. For one
+/// list of numbers `lows` is the copy of its items, and `widths` is empty.
 #[derive(Drop)]
 pub(crate) struct Entry {
     pub(crate) lows: Vec<u128>,

@@ -15,7 +15,7 @@ use dl_transform::{
 };
 use std::alloc::{AllocError, Global};
 
-/// A list beside its values. One list of numbers stands as low ends without widths.
+/// A list and its values. Of one list of numbers `ends.lows` has the items, and `ends.widths` is empty.
 #[derive(Clone, Copy)]
 pub(crate) struct Valued<'a> {
     pub(crate) ends: Ends<'a>,
