@@ -8,7 +8,7 @@ pub use Rattle.std.proofs.lemmas.List.Elements.{All-append, All-head, All-push, 
 pub use Rattle.std.proofs.lemmas.Bool.Decides.{eqb_tells, leb_tells}
 pub use Rattle.std.specs.Prelude.{if◌then◌else◌, min, nat_eq, ◌==◌}
 pub use Rattle.std.proofs.Math.ListN.{get_or-append, replicate, set}
-pub use Rattle.std.proofs.lemmas.List.{get_or-replicate, get_or-set_other, get_or-set_same, get_or-take, get_or_past, get_or_push, length-replicate, length-set, length-take, take_all}
+pub use Rattle.std.proofs.lemmas.List.{get_or-replicate, get_or_default, get_or-set_other, get_or-set_same, get_or-take, get_or_past, get_or_push, length-replicate, length-set, length-take, take_all, take_more}
 pub use Rattle.dl_limits.specs.Limits.{most_cells, most_shape}
 pub use Rattle.dl_exact.proofs.Laws.{le_of_eq, le_refl, le_trans, one_pos, one_times, over_times_whole, plus_le_both, plus_times, ring, times_assoc, times_comm, times_le_both, times_le_cancel, times_le_times, times_left_comm, times_one, times_plus, times_pos, whole_plus, whole_pos, whole_times, zero_times}
 pub use Rattle.dl_exact.proofs.Over.{le_over, over_add, over_div, over_le, over_lt, over_mul, over_same, over_self}
@@ -29,9 +29,9 @@ pub use Rattle.dl_model.specs.Series.{AtLeast, AtMost, Holds, IsBound, Series, t
 pub use Rattle.dl_recursion.specs.ToGrid.{HasGridEnds, IsScaled}
 pub use Rattle.dl_recursion.specs.Runs.{ArePositiveAmounts, all_parts, part_at, part_sum, run_parts}
 unfoldable pub use Rattle.dl_recursion.specs.Runs.{in_a_row}
-pub use Rattle.dl_recursion.specs.Recursion.{AreFalling, AreLast, AreScaledCells, AreSums, FollowsInWhole, EncloseScaled, AreInScale, IsSum, IsTotal, contribution, sum_to_cell, sums_before}
+pub use Rattle.dl_recursion.specs.Recursion.{AreFalling, AreLast, AreScaledCells, AreWindow, AreWindows, FollowsInWhole, EncloseScaled, AreInScale, IsWindow, cell_before, contribution}
 pub use Rattle.dl_recursion.specs.Start.{HoldsNoClaim}
 pub use Rattle.dl_recursion.specs.declared.parts.Part.{Part}
 pub use Rattle.dl_recursion.specs.declared.parts.Run.{Run}
-pub use Rattle.dl_recursion.specs.declared.cells.Total.{Total}
-pub use Rattle.dl_recursion.specs.declared.cells.Sums.{Sums}
+pub use Rattle.dl_recursion.specs.declared.cells.Window.{Window}
+pub use Rattle.dl_recursion.specs.declared.cells.Windows.{Windows}

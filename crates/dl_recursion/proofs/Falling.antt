@@ -1,6 +1,5 @@
 -- The cells past those that count: at most the greatest of the last ones.
-use Rattle.dl_recursion.proofs.Common.{◌≡◌, inl, inr, ℕ, suc, zero, ◌+◌, ◌-◌, ◌*◌, ◌^◌, ◌<◌, ◌≤◌, List, [], ◌∷◌, ◌++◌, length, get_or, arith, mul-pos, mul-le-mul, mul-le-mul_left, mul-le-mul_right, le_of_mul-le-mul_right, zero-lt-suc, sum_by, sum_by-cons, All, cases_lt, Fraction, whole, Part, part_sum, contribution, FollowsInWhole, EncloseScaled, AreFalling, AreLast, get_or-append, get_or_push, get_or_past, length-append, Run, run_parts, all_parts, flat_map, append-nil}
-use Rattle.dl_recursion.specs.declared.parts.Amounts.{Amounts}
+use Rattle.dl_recursion.proofs.Common.{◌≡◌, inl, inr, ℕ, suc, zero, ◌+◌, ◌-◌, ◌*◌, ◌^◌, ◌<◌, ◌≤◌, List, [], ◌∷◌, ◌++◌, length, get_or, arith, mul-pos, mul-le-mul, mul-le-mul_left, mul-le-mul_right, le_of_mul-le-mul_right, zero-lt-suc, sum_by, sum_by-cons, All, cases_lt, Fraction, whole, Part, part_sum, contribution, FollowsInWhole, EncloseScaled, AreFalling, AreLast, get_or-append, get_or_push, get_or_past, length-append}
 use Rattle.dl_recursion.proofs.Contributions.{contribution_yes, contribution_no}
 use Rattle.dl_recursion.proofs.Pairs.{contribution_pairs}
 use Rattle.dl_recursion.proofs.Steps.{low_step, high_step}
@@ -61,15 +60,3 @@ last_pushed ends n top h e last = record {
     | inr past ↦ grind (arith, get_or_push ends h 0 n e, get_or_past (ends ++ h ∷ []) k 0, length-append)
   ];
 }
-
--- where all amounts are taken one by one
-pub falling_alone : (amounts : Amounts) (a b q top w n : ℕ) → length amounts.runs.items ≡ 0
-    → All (λ p. p.amount ≤ top) amounts.parts.items → w ≡ part_sum amounts.parts.items
-    → (a * n + b * top) * w ≤ q * n → AreFalling (all_parts amounts) a b q top n
-falling_alone amounts a b q top w n none reach weight h =
-    let same : all_parts amounts ≡ amounts.parts.items = no_runs amounts.parts.items amounts.runs.items none in
-    rw same (record { reach = reach; falling = rw (← weight) h })
-  where
-    no_runs : (parts : List Part) (runs : List Run) → length runs ≡ 0 → parts ++ flat_map run_parts runs ≡ parts
-    no_runs parts [] e = rw append-nil
-    no_runs parts (r ∷ rs) e = absurd (omega (arith, e))

@@ -1,5 +1,5 @@
 -- Placed cells, one by one.
-use Rattle.dl_recursion.proofs.Common.{◌≡◌, ◌⊎◌, inl, inr, ℕ, ◌+◌, ◌-◌, ◌*◌, ◌/◌, ◌^◌, ◌<◌, ◌≤◌, List, length, get_or, arith, ◌∙◌, pow-add, mul-le-mul_left, mul-le-mul_right, div-mul-le_self, lt-div-mul-add, cases_lt, sum, HasGridEnds, min, set, dvd-mul_right, eq_of_mul-eq-mul_left, get_or-set_same, get_or-set_other, sum_by-set}
+use Rattle.dl_recursion.proofs.Common.{◌≡◌, ◌⊎◌, inl, inr, ℕ, ◌+◌, ◌-◌, ◌*◌, ◌/◌, ◌^◌, ◌<◌, ◌≤◌, List, length, get_or, arith, ◌∙◌, pow-add, mul-le-mul_left, mul-le-mul_right, div-mul-le_self, lt-div-mul-add, cases_lt, sum, HasGridEnds, min, set, dvd-mul_right, eq_of_mul-eq-mul_left, get_or-set_same, get_or-set_other, sum_by-set, replicate, get_or-replicate, get_or_past, length-replicate}
 use Prim.Native.Nat.{◌∣◌}
 use Rattle.dl_recursion.specs.declared.start.Scaled.{Scaled}
 use Rattle.dl_recursion.proofs.Starts.{two_pos, two_le}
@@ -73,3 +73,22 @@ module _ (B : ℕ) (start : Scaled) (e step : ℕ) (low high lows highs : List �
     ];
     between = λ x b. beside_it step apart n lows lo x b ∙ h.between x b;
   }
+
+-- ---- no cell written yet
+
+pub zero_least : (n : ℕ) → 0 ≤ n
+zero_least n = omega arith
+
+pub unset : (n x : ℕ) → get_or (replicate {A = ℕ} n 0) x 0 ≡ 0
+unset n x = elim (cases_lt x n) [
+  | inl l ↦ get_or-replicate n x 0 0 l
+  | inr l ↦ get_or_past (replicate {A = ℕ} n 0) x 0 (rw length-replicate l)
+]
+
+pub no_ends : (B : ℕ) (start : Scaled) (e step : ℕ) (low high lows highs : List ℕ) → ((x : ℕ) → get_or lows x 0 ≡ 0)
+    → HasGridEnds B start e step 0 low high (λ x. get_or lows x 0) (λ x. get_or highs x 0)
+no_ends B start e step low high lows highs zeros = record {
+  low_end = λ k b. absurd (omega (arith, b));
+  high_end = λ k b. absurd (omega (arith, b));
+  between = λ x p. zeros x;
+}

@@ -1,5 +1,7 @@
 -- One more cell.
-use Rattle.dl_recursion.proofs.Common.{◌≡◌, ℕ, suc, zero, ◌+◌, ◌-◌, ◌*◌, ◌/◌, ◌^◌, ◌<◌, ◌≤◌, List, [], ◌∷◌, ◌++◌, length, get_or, arith, ◌∙◌, mul-pos, div-mul-le_self, sum_by, All, zero-lt-suc, length-append, Fraction, ◌*ℚ◌, ◌≤ℚ◌, whole, times_one, le_of_eq, Part, contribution, FollowsInWhole, EncloseScaled, AreScaledCells, get_or-append, get_or_push}
+use Rattle.dl_recursion.proofs.Common.{◌≡◌, ℕ, suc, zero, ◌+◌, ◌-◌, ◌*◌, ◌/◌, ◌^◌, ◌<◌, ◌≤◌, List, [], ◌∷◌, ◌++◌, length, get_or, arith, ◌∙◌, mul-pos, div-mul-le_self, sum_by, All, zero-lt-suc, length-append, Fraction, ◌*ℚ◌, ◌≤ℚ◌, whole, times_one, le_of_eq, Part, contribution, FollowsInWhole, EncloseScaled, AreScaledCells, AreInScale, most_cells, refl, ap, inr, Run, get_or-append, get_or_push}
+use Rattle.dl_recursion.specs.declared.cells.ScaledCells.{ScaledCells}
+use Rattle.dl_recursion.specs.Recursion.{IsBegun}
 use Rattle.dl_recursion.proofs.Rounding.{ceil_reaches}
 use Rattle.dl_recursion.proofs.Pairs.{contribution_pairs}
 use Rattle.dl_recursion.proofs.Steps.{low_step, high_step}
@@ -62,3 +64,21 @@ begun r h = grind (arith, times_one, le_of_eq)
 pub begun_small : (k : ℕ) → get_or (2305843009213693952 ∷ []) k 0 ≤ 2 ^ 62
 begun_small zero = omega arith
 begun_small (suc k) = omega arith
+
+pub begun_in_scale : (runs : List Run) (x : ScaledCells) → IsBegun x → AreInScale runs x
+begun_in_scale runs x h = record {
+  sound = rw (h.low, h.high, h.first) (record {
+    alike = refl;
+    low_small = begun_small;
+    high_small = begun_small;
+    low_settled = λ k l. absurd (omega (arith, l));
+    high_settled = λ k l. absurd (omega (arith, l));
+  });
+  within = rw h.first (omega arith);
+  windows = λ k run d l. absurd (omega (arith, rw h.windows at l));
+  all_or_none = inr (ap length h.windows);
+}
+
+-- the shift of the cells before the last leaves room for one more
+pub shift_room : (shift n cells : ℕ) → shift ≤ 64 * n → n < cells → cells ≤ most_cells → shift + 64 < 2 ^ 64
+shift_room shift n cells h l few = omega (arith, h, l, few)

@@ -4,7 +4,7 @@ pub mod Beginnings
 pub mod Rounding
 pub mod Contributions
 pub mod Runs
-pub mod Totals
+pub mod Windows
 pub mod Pairs
 pub mod Steps
 pub mod Grow

@@ -1,9 +1,12 @@
--- Runs: their amounts one by one, and what they give to the next cell by the sums of the cells.
+-- Runs: their amounts one by one, and what they give to the next cell by their windows.
 use Rattle.std.proofs.lemmas.Bool.Decides.{nat_tests}
 use Rattle.std.proofs.lemmas.Grind.{common_steps}
-use Rattle.dl_recursion.proofs.Common.{◌≡◌, inl, inr, ℕ, suc, zero, ◌+◌, ◌-◌, ◌*◌, ◌^◌, ◌<◌, ◌≤◌, List, [], ◌∷◌, ◌++◌, length, take, get_or, arith, refl, ap, mul-le-mul, mul-le-mul_left, mul-le-mul_right, zero-lt-suc, sum_by, All, flat_map, sum_by-cons, sum_by-append, sum_by_push, sum_by_more_le, cases_lt, count_below, Part, Run, in_a_row, run_parts, all_parts, part_sum, ArePositiveAmounts, contribution, sum_to_cell, sums_before, add-zero, add-suc, suc-add, IsTotal, Total, All-append}
+use Rattle.dl_recursion.proofs.Common.{◌≡◌, inl, inr, ℕ, suc, zero, ◌+◌, ◌-◌, ◌*◌, ◌^◌, ◌<◌, ◌≤◌, List, [], ◌∷◌, ◌++◌, length, take, get_or, arith, refl, mul-le-mul, mul-le-mul_left, mul-le-mul_right, zero-lt-suc, sum_by, All, flat_map, sum_by-cons, sum_by-append, sum_by_push, sum_by_more, sum_by_more_le, cases_lt, count_below, Part, Run, in_a_row, run_parts, all_parts, part_sum, ArePositiveAmounts, contribution, cell_before, add-zero, add-suc, suc-add, IsWindow, Window, All-append, append-nil, take_more, get_or-append, length-append}
+use Rattle.std.proofs.lemmas.Grind.{flat_map-append}
+use Rattle.dl_exact.proofs.Counts.{below_none, times_nothing}
+use Rattle.dl_recursion.proofs.Windows.{before_none}
 use Rattle.dl_recursion.specs.declared.parts.Amounts.{Amounts}
-use Rattle.dl_recursion.proofs.Contributions.{contribution_yes, contribution_at, contribution_no}
+use Rattle.dl_recursion.proofs.Contributions.{contribution_yes, contribution_no, factor_le}
 
 -- ---- the amounts of a run
 
@@ -24,6 +27,12 @@ unfolding in_a_row
 row_positive m zero w h k d q = absurd (omega (arith, q))
 row_positive m (suc n) w h zero d q = h
 row_positive m (suc n) w h (suc k) d q = row_positive (suc m) n w (omega (arith, h)) k d (omega (arith, q))
+
+pub row_within : (top m n w : ℕ) → m + n ≤ suc top → All (λ p. p.amount ≤ top) (in_a_row m n w)
+unfolding in_a_row
+row_within top m zero w h k d q = absurd (omega (arith, q))
+row_within top m (suc n) w h zero d q = omega (arith, h)
+row_within top m (suc n) w h (suc k) d q = row_within top (suc m) n w (omega (arith, h)) k d (omega (arith, q))
 
 -- a sum over the amounts of runs
 pub runs_sum : (f : Part → ℕ) (runs : List Run)
@@ -46,6 +55,31 @@ pub runs_more_le : (f : Part → ℕ) (runs : List Run) (i : ℕ) (d : Run) → 
     (flat_map run_parts runs)
 runs_more_le f runs i d h = grind (arith, sum_by_more_le (λ (run : Run). sum_by f (run_parts run)) runs i d h, runs_sum)
 
+-- with one run more
+pub runs_more : (f : Part → ℕ) (runs : List Run) (i : ℕ) (d : Run) → i < length runs
+    → sum_by f (flat_map run_parts (take (i + 1) runs)) ≡ sum_by f (flat_map run_parts (take i runs)) + sum_by f
+    (run_parts (get_or runs i d))
+runs_more f runs i d h = omega (
+  arith,
+  runs_sum f (take (i + 1) runs),
+  runs_sum f (take i runs),
+  sum_by_more (λ (run : Run). sum_by f (run_parts run)) runs i d h,
+)
+
+pub runs_within : (top : ℕ) (runs : List Run) (i : ℕ) (d : Run) → i < length runs
+    → All (λ p. p.amount ≤ top) (flat_map run_parts (take i runs)) → (get_or runs i d).amount + (get_or runs i d).count ≤ suc top
+    → All (λ p. p.amount ≤ top) (flat_map run_parts (take (i + 1) runs))
+runs_within top runs i d h before last =
+    let run = get_or runs i d in
+    rw (take_more runs i d h, flat_map-append run_parts (take i runs) (run ∷ []), append-nil)
+    (All-append (λ (p : Part). p.amount ≤ top) (flat_map run_parts (take i runs)) (run_parts run) before
+    (row_within top run.amount run.count run.weight last))
+
+-- what holds of two lists one after the other holds of the first
+pub all_left : (P : Part → Type 0) (xs ys : List Part) → All P (xs ++ ys) → All P xs
+all_left P xs ys h k d l =
+    rw (← get_or-append xs ys d k l) (h k d (simp length-append (omega (arith, l))))
+
 pub run_fits : (K : ℕ) (runs : List Run) (i : ℕ) (d : Run) → i < length runs
     → K * part_sum (flat_map run_parts runs) < 2 ^ 64 → K * part_sum (run_parts (get_or runs i d)) < 2 ^ 64
 run_fits K runs i d h room = omega (arith, room, mul-le-mul_left K (runs_more_le (λ (p : Part). p.weight) runs i d h))
@@ -54,7 +88,14 @@ run_fits K runs i d h room = omega (arith, room, mul-le-mul_left K (runs_more_le
 
 module _ (a b s : ℕ) (cells : List ℕ) (small : (k : ℕ) → get_or cells k 0 ≤ 2 ^ 62) where
   contribution_le : (p : Part) → contribution a b cells s p ≤ (a + b) * s * p.weight * 2 ^ 62
-  contribution_le p = grind (arith, contribution_no, mul-le-mul_left, contribution_yes, mul-le-mul, mul-le-mul_right)
+  contribution_le p = elim (cases_lt s p.amount) [
+    | inl l ↦ omega (arith, contribution_no a b cells s p l)
+    | inr l ↦ omega (
+      arith,
+      contribution_yes a b cells s p l,
+      mul-le-mul (factor_le a b s p.amount p.weight l) (small (s - p.amount)),
+    )
+  ]
 
   contributions_le : (parts : List Part) → sum_by (contribution a b cells s) parts ≤
       (a + b) * s * part_sum parts * 2 ^ 62
@@ -66,6 +107,12 @@ module _ (a b s : ℕ) (cells : List ℕ) (small : (k : ℕ) → get_or cells k 
   pub contributions_top : (parts : List Part) → (a + b) * s * part_sum parts < 2 ^ 64
       → sum_by (contribution a b cells s) parts ≤ 2 ^ 126
   contributions_top parts h = omega (arith, contributions_le parts, h)
+
+  pub next_fits : (parts : List Part) (i : ℕ) (d : Part) → i < length parts → (a + b) * s * part_sum parts < 2 ^ 64
+      → (sum x : ℕ) → sum ≡ sum_by (contribution a b cells s) (take i parts)
+      → x ≡ contribution a b cells s (get_or parts i d) → sum + x < 2 ^ 128
+  next_fits parts i d h room sum x p q =
+      omega (arith, p, q, sum_by_more_le (contribution a b cells s) parts i d h, contributions_top parts room)
 
 -- the amounts of one more run of those stay within the whole
 pub run_room : (a b s : ℕ) (cells : List ℕ) → ((k : ℕ) → get_or cells k 0 ≤ 2 ^ 62)
@@ -82,64 +129,50 @@ run_room a b s cells small runs i d h room sum x p q =
           (flat_map run_parts runs) room,
     )
 
--- ---- a run by the sums of the cells
+-- ---- a run by its window
 
 module _ (a b s : ℕ) (cells : List ℕ) where
-  -- what all amounts from m on give, each of weight 1
-  abbrev pub onward : ℕ → ℕ
-  onward m = sum_by (contribution a b cells s) (in_a_row m (suc s - m) 1)
-
-  pub onward_none : (m : ℕ) → s < m → 0 ≡ onward m
-  unfolding in_a_row
-  onward_none m l = grind arith
-
-  -- by the sums up to the cell that lies m before
-  by_cells : (k m : ℕ) → k + m ≡ s
-      → (a * s + b * m) * sum_to_cell cells k + b * sums_before cells k ≡ sum_by (contribution a b cells s)
-      (in_a_row m (suc k) 1)
-  unfolding in_a_row count_below
-  by_cells zero m e = omega (arith, contribution_at a b cells s (record { amount = m; weight = 1 }) 0 e)
-  by_cells (suc k) m e =
-      grind (arith, nat_tests, common_steps, by_cells k (suc m) (omega (arith, e)), sum_by-cons, contribution_at)
-
-  pub onward_is : (m : ℕ) (total : Total) → m ≤ s → IsTotal cells (s - m) total
-      → (a * s + b * m) * total.cells + b * total.before ≡ onward m
-  onward_is m total within is = grind (arith, by_cells (s - m) m (omega (arith, within)))
-
-  -- w times what m gives, and w times those past m
-  one_more : (m w : ℕ) → contribution a b cells s (record { amount = m; weight = w }) + w * onward (suc m) ≡ w * onward m
-  unfolding in_a_row
-  one_more m w = elim (cases_lt s m) [
-    | inl l ↦
-        let none : suc s - m ≡ 0 = omega (arith, l) in
-        let past : suc s - suc m ≡ 0 = omega (arith, l) in
-        rw (none, past) (omega (arith, contribution_no a b cells s (record { amount = m; weight = w }) l))
-    | inr l ↦
-        let one : Part = record { amount = m; weight = 1 } in
-        let more : suc s - m ≡ suc (suc s - suc m) = omega (arith, l) in
-        let first : onward m ≡ contribution a b cells s one + onward (suc m) =
-        rw more (sum_by-cons (contribution a b cells s) one (in_a_row (suc m) (suc s - suc m) 1)) in
-        omega (
-          arith,
-          ap (λ t. w * t) first,
-          ap (λ t. w * t) (contribution_yes a b cells s one l),
-          contribution_yes a b cells s (record { amount = m; weight = w }) l,
-        )
-  ]
-
-  -- what a run gives, and its weight times what the amounts past its last would
-  run_is : (m n w : ℕ) → sum_by (contribution a b cells s) (in_a_row m n w) + w * onward (m + n) ≡ w * onward m
-  unfolding in_a_row
-  run_is m zero w = rw add-zero (omega arith)
+  run_is : (m n w : ℕ) → sum_by (contribution a b cells s) (in_a_row m n w)
+      ≡ (a * s + b * m) * w * count_below n (λ k. cell_before cells s (m + k)) + b * w * count_below n
+      (λ k. k * cell_before cells s (m + k))
+  unfolding count_below
+  run_is m zero w = omega (arith, row_none (contribution a b cells s) m w)
   run_is m (suc n) w =
-      grind (arith, nat_tests, common_steps, add-suc m n, suc-add m n, run_is (suc m) n w, one_more m w, sum_by-cons)
+      rw (row_more (contribution a b cells s) m n w, run_is m n w)
+      (one_more (count_below n (λ k. cell_before cells s (m + k))) (count_below n (λ k. k * cell_before cells s (m + k)))
+      (cell_before cells s (m + n)))
+    where
+      one_more : (C S B : ℕ) → (a * s + b * m) * w * C + b * w * S + (a * s + b * (m + n)) * w * B
+          ≡ (a * s + b * m) * w * (C + B) + b * w * (S + n * B)
+      one_more C S B = omega arith
 
-  -- the amounts past the last of a run give at most what all from its first on do; the difference is the run's
-  pub past_le : (m n : ℕ) → onward (m + n) ≤ onward m
-  past_le m n = omega (arith, run_is m n 1)
+  pub run_by_window : (run : Run) (window : Window) → IsWindow cells s run window
+      → (a * s + b * run.amount) * run.weight * window.cells + b * run.weight * window.steps ≡ sum_by
+      (contribution a b cells s) (run_parts run)
+  run_by_window run window is = rw (is.cells, is.steps, run_is run.amount run.count run.weight) refl
 
-  pub run_less : (m n w : ℕ) → (onward m - onward (m + n)) * w ≡ sum_by (contribution a b cells s) (in_a_row m n w)
-  run_less m n w = grind (arith, past_le m n, run_is m n w)
+  pub run_above : (run : Run) → s < run.amount → 0 ≡ sum_by (contribution a b cells s) (run_parts run)
+  run_above run l =
+      let none : (k : ℕ) → cell_before cells s (run.amount + k) ≡ 0 = λ k. before_none cells s (run.amount + k) (omega (arith, l)) in
+      rw (
+        run_is run.amount run.count run.weight,
+        below_none run.count (λ k. cell_before cells s (run.amount + k)) (λ k q. none k),
+        below_none run.count (λ k. k * cell_before cells s (run.amount + k))
+            (λ k q. times_nothing k _ (none k)),
+      ) (omega arith)
+
+-- ---- weights
+
+pub row_weight : (m n w : ℕ) → part_sum (in_a_row m n w) ≡ n * w
+row_weight m zero w = omega (arith, row_none (λ (p : Part). p.weight) m w)
+row_weight m (suc n) w = omega (arith, row_more (λ (p : Part). p.weight) m n w, row_weight m n w)
+
+-- an amount of a run has its share of the room
+pub weight_room : (a b s : ℕ) (run : Run) → 0 < run.count → (a + b) * s * part_sum (run_parts run) < 2 ^ 64
+    → (a + b) * s * run.weight < 2 ^ 64
+weight_room a b s run some room =
+    let each : run.weight ≤ run.count * run.weight = omega (arith, mul-le-mul_right run.weight some) in
+    omega (arith, rw (row_weight run.amount run.count run.weight) at room, mul-le-mul_left ((a + b) * s) each)
 
 -- ---- amounts that are added
 

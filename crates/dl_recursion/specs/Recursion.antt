@@ -1,21 +1,26 @@
 -- Panjer's recursion in whole numbers (Loss Models, "The recursive method"), and cells that share
 -- an exponent.
-use Rattle.std.specs.Prelude.{ℕ, zero, suc, ◌≡◌, ◌+◌, ◌-◌, ◌*◌, ◌/◌, ◌^◌, ◌<◌, ◌≤◌, if◌then◌else◌, nat_le, All, List, [], ◌∷◌, get_or, slice_index, length, sum_by}
+use Rattle.std.specs.Prelude.{ℕ, zero, suc, ◌≡◌, ◌+◌, ◌-◌, ◌*◌, ◌/◌, ◌^◌, ◌<◌, ◌≤◌, ◌⊎◌, if◌then◌else◌, nat_le, All, List, [], ◌∷◌, get_or, slice_index, length, sum_by}
 use Rattle.dl_limits.specs.Limits.{start_bits, most_end, most_given}
 use Rattle.dl_exact.specs.Prelude.{Fraction, whole, ◌*ℚ◌, ◌≤ℚ◌, sum_pairs, count_below}
 use Rattle.dl_recursion.specs.declared.parts.Part.{Part}
-use Rattle.dl_recursion.specs.declared.cells.Total.{Total}
-use Rattle.dl_recursion.specs.declared.cells.Sums.{Sums}
+use Rattle.dl_recursion.specs.declared.parts.Run.{Run}
+use Rattle.dl_recursion.specs.declared.parts.Amounts.{Amounts}
+use Rattle.dl_recursion.specs.declared.cells.Window.{Window}
+use Rattle.dl_recursion.specs.declared.cells.Windows.{Windows}
 use Rattle.dl_recursion.specs.declared.cells.Ends.{Ends}
 use Rattle.dl_recursion.specs.declared.cells.ScaledCells.{ScaledCells}
-use Rattle.dl_recursion.specs.Runs.{part_at, part_sum}
+use Rattle.dl_recursion.specs.Runs.{part_at, part_sum, all_parts}
+
+-- the cell that lies this amount before cell s, or 0 where there is none
+abbrev pub cell_before : List ℕ → ℕ → ℕ → ℕ
+cell_before cells s amount = if nat_le amount s then slice_index cells (s - amount) else 0
 
 -- what one part gives to cell s: (a * s + b * amount) * weight times the cell that lies its amount
--- before, where there is one
+-- before
 abbrev pub contribution : ℕ → ℕ → List ℕ → ℕ → Part → ℕ
 contribution a b cells s p =
-    if nat_le p.amount s
-    then (a * s + b * p.amount) * p.weight * slice_index cells (s - p.amount) else 0
+    (a * s + b * p.amount) * p.weight * cell_before cells s p.amount
 
 -- the recursion in whole numbers: q * (n + 1) * r (n + 1) is the sum over the amounts 1 + i and the
 -- cells k with i + k = n
@@ -39,34 +44,28 @@ pub record AreScaledCells (low high : List ℕ) (first : ℕ) : Type 0 where
   pub low_settled : (k : ℕ) → k < first → slice_index low k ≡ 0
   pub high_settled : (k : ℕ) → k < first → slice_index high k ≤ 1
 
--- the sum of the ends up to cell k
-abbrev pub sum_to_cell : List ℕ → ℕ → ℕ
-sum_to_cell ends k = count_below (suc k) (λ i. slice_index ends i)
-
--- the sum of such sums of the cells before k
-abbrev pub sums_before : List ℕ → ℕ → ℕ
-sums_before ends k = count_below k (λ i. sum_to_cell ends i)
-
--- the sums of ends up to cell k
-pub record IsTotal (ends : List ℕ) (k : ℕ) (total : Total) : Type 0 where
-  pub cells : total.cells ≡ sum_to_cell ends k
-  pub before : total.before ≡ sums_before ends k
+-- the cells that lie an amount of the run before cell s: their sum, and their sum with each times
+-- how far its amount lies above the run's first
+pub record IsWindow (ends : List ℕ) (s : ℕ) (run : Run) (window : Window) : Type 0 where
+  pub cells : window.cells ≡ count_below run.count (λ k. cell_before ends s (run.amount + k))
+  pub steps : window.steps ≡ count_below run.count (λ k. k * cell_before ends s (run.amount + k))
 
 -- those of the low ends and of the high ends
-pub record IsSum (low high : List ℕ) (k : ℕ) (sums : Sums) : Type 0 where
-  pub low_total : IsTotal low k sums.low
-  pub high_total : IsTotal high k sums.high
+pub record AreWindow (low high : List ℕ) (s : ℕ) (run : Run) (windows : Windows) : Type 0 where
+  pub low_window : IsWindow low s run windows.low
+  pub high_window : IsWindow high s run windows.high
 
--- the sums up to each of the first cells
-abbrev pub AreSums : List Sums → List ℕ → List ℕ → Type 0
-AreSums sums low high = (k : ℕ) (d : Sums) → k < length sums → IsSum low high k (get_or sums k d)
+-- those of the runs, in order
+abbrev pub AreWindows : List Run → List ℕ → List ℕ → ℕ → List Windows → Type 0
+AreWindows runs low high s windows = (k : ℕ) (run : Run) (d : Windows) → k < length windows
+    → AreWindow low high s (get_or runs k run) (get_or windows k d)
 
--- cells with their sums
-pub record AreInScale (x : ScaledCells) : Type 0 where
+-- cells with the windows of all runs at the last of them, or of none
+pub record AreInScale (runs : List Run) (x : ScaledCells) : Type 0 where
   pub sound : AreScaledCells x.low.items x.high.items x.first
   pub within : x.first ≤ length x.low.items
-  pub sums : AreSums x.sums.items x.low.items x.high.items
-  pub sums_within : length x.sums.items ≤ length x.low.items
+  pub windows : AreWindows runs x.low.items x.high.items (length x.low.items - 1) x.windows.items
+  pub all_or_none : (length x.windows.items ≡ length runs) ⊎ (length x.windows.items ≡ 0)
 
 -- y is x with all cells shifted down by 8 bits, low ends by floor and high ends by ceiling
 pub record IsShifted (x y : ScaledCells) : Type 0 where
@@ -77,25 +76,28 @@ pub record IsShifted (x y : ScaledCells) : Type 0 where
   pub low : (k : ℕ) → slice_index y.low.items k ≡ slice_index x.low.items k / 256
   pub high : (k : ℕ) → slice_index y.high.items k ≡ (slice_index x.high.items k + 255) / 256
 
--- what the parts give to the cell after those of x; y is x with all sums that it takes
-pub record AreContributions (parts : List Part) (a b : ℕ) (x y : ScaledCells) (ends : Ends)
+-- what the amounts give to the cell after those of x; y is x with the windows of all runs there
+pub record AreContributions (amounts : Amounts) (a b : ℕ) (x y : ScaledCells) (ends : Ends)
     : Type 0 where
-  pub low : ends.low ≡ sum_by (contribution a b x.low.items (length x.low.items)) parts
-  pub high : ends.high ≡ sum_by (contribution a b x.high.items (length x.low.items)) parts
+  pub low : ends.low
+      ≡ sum_by (contribution a b x.low.items (length x.low.items)) (all_parts amounts)
+  pub high : ends.high
+      ≡ sum_by (contribution a b x.high.items (length x.low.items)) (all_parts amounts)
   pub high_room : ends.high ≤ most_given
-  pub sums : AreSums y.sums.items y.low.items y.high.items
-  pub within : length y.sums.items ≤ length y.low.items
+  pub windows : AreWindows amounts.runs.items y.low.items y.high.items (length y.low.items)
+      y.windows.items
+  pub each_run : length y.windows.items ≡ length amounts.runs.items
   pub same_low : y.low ≡ x.low
   pub same_high : y.high ≡ x.high
   pub same_first : y.first ≡ x.first
   pub same_shift : y.shift ≡ x.shift
 
 -- y has one cell more than x, the next one of the recursion
-pub record IsGrown (parts : List Part) (a b q : ℕ) (x y : ScaledCells) : Type 0 where
-  pub in_scale : AreInScale y
+pub record IsGrown (amounts : Amounts) (a b q : ℕ) (x y : ScaledCells) : Type 0 where
+  pub in_scale : AreInScale amounts.runs.items y
   pub cells : length y.low.items ≡ length x.low.items + 1
   pub shift : y.shift ≤ x.shift + 64
-  pub round : (r : ℕ → Fraction) → FollowsInWhole parts a b q r
+  pub round : (r : ℕ → Fraction) → FollowsInWhole (all_parts amounts) a b q r
       → EncloseScaled r x.shift (length x.low.items) x.low.items x.high.items
       → EncloseScaled r y.shift (length y.low.items) y.low.items y.high.items
 
@@ -114,7 +116,7 @@ pub record IsBegun (x : ScaledCells) : Type 0 where
   pub high : x.high.items ≡ 2 ^ start_bits ∷ []
   pub first : x.first ≡ 0
   pub shift : x.shift ≡ 0
-  pub sums : x.sums.items ≡ []
+  pub windows : x.windows.items ≡ []
 
 -- the first n cells of the recursion
 pub record AreFirst (parts : List Part) (a b q n : ℕ) (x : ScaledCells) : Type 0 where

@@ -26,8 +26,9 @@ run_parts run = in_a_row run.amount run.count run.weight
 abbrev pub all_parts : Amounts → List Part
 all_parts amounts = amounts.parts.items ++ flat_map run_parts amounts.runs.items
 
--- no amount is 0, and the last of a run is below 2^32
+-- no amount is 0; no run is empty, and its last amount is below 2^32
 pub record ArePositiveAmounts (amounts : Amounts) : Type 0 where
   pub parts : All (λ p. 0 < p.amount) amounts.parts.items
   pub runs : All (λ run. 0 < run.amount) amounts.runs.items
+  pub counts : All (λ run. 0 < run.count) amounts.runs.items
   pub ends : All (λ run. run.amount + run.count ≤ 2 ^ 32) amounts.runs.items

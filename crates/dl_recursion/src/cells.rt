@@ -3,7 +3,7 @@
 /// Cell 0 begins as 2 to this power: the greatest end of a cell is twice as much.
 pub(crate) const START_BITS: u64 = 61;
 
-/// Both ends of one cell, or what the cells before it add up to for each.
+/// Both ends of one cell, or a sum over cells for each.
 #[derive(Clone, Copy)]
 pub struct Ends {
     /// The low end.
@@ -12,22 +12,22 @@ pub struct Ends {
     pub high: u128,
 }
 
-/// The running sum of the ends of the cells up to one, and the sum of the running sums before it.
+/// Two sums over the cells that lie an amount of a run before one cell, for one end.
 #[derive(Clone, Copy)]
-pub struct Total {
-    /// The ends up to this cell.
+pub struct Window {
+    /// The sum of the ends.
     pub cells: u128,
-    /// For each cell before this one, the ends up to that cell.
-    pub before: u128,
+    /// The sum of the ends, each times how far its amount lies above the run's first.
+    pub steps: u128,
 }
 
-/// Such sums of the low ends and of the high ends.
+/// The windows of one run.
 #[derive(Clone, Copy)]
-pub struct Sums {
+pub struct Windows {
     /// Of the low ends.
-    pub low: Total,
+    pub low: Window,
     /// Of the high ends.
-    pub high: Total,
+    pub high: Window,
 }
 
 /// Both ends of the cells so far, in units of `2^shift / 2^61` of cell 0 (`START_BITS`).
@@ -42,6 +42,7 @@ pub struct ScaledCells {
     pub first: usize,
     /// How many bits all cells were shifted down by.
     pub shift: u64,
-    /// The sums up to each cell, as far as they are known. Only runs need them.
-    pub sums: Vec<Sums>,
+    /// The windows of each run at the last cell; none where they are not known, at the beginning
+    /// and after a shift.
+    pub windows: Vec<Windows>,
 }

@@ -36,7 +36,6 @@ const TERMS: u64 = 18;
 /// Of the Poisson count of mean `num / den`, at most 1/2: exp of minus the mean, by its inverse.
 /// Each term of the series is rounded; as they at least halve, the last one, counted once more, is
 /// at least the rest.
-#[tactic(auto, using(dl_exact::proofs::Laws::le_of_eq, dl_exact::proofs::Laws::times_one, dl_model::proofs::PoissonWeights::poisson_zero, crate::proofs::Beginnings::low_term, crate::proofs::Beginnings::high_term), unfolding(dl_exact::specs::Sum::sum_to))]
 fn exponential_start(num: u64, den: u64) -> Scaled
     requires positive { 0 < den }
     requires half { num + num ≤ den }

@@ -41,8 +41,8 @@ pub struct Amounts {
     pub runs: Vec<Run>,
 }
 
-/// The least number of amounts with which a run costs less than its amounts one by one.
-const LONG: usize = 16;
+/// The least number of amounts that make a run: fewer are as fast one by one.
+const LONG: usize = 8;
 
 /// Adds the amounts of a run: as a run where it is long, else one by one.
 #[tactic(auto, using(crate::proofs::Runs::row_none))]

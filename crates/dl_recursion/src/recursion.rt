@@ -1,10 +1,11 @@
 //! The recursion: cells that share one exponent and are scaled down together.
 
-ghost use Rattle.std.specs.Prelude.{◌≡◌, ℕ, ◌+◌, ◌-◌, ◌*◌, ◌/◌, ◌^◌, ◌<◌, ◌≤◌, suc, [], ◌∷◌, length, slice_index, All, IfOk};
+ghost use Rattle.std.specs.Prelude.{◌≡◌, ℕ, ◌+◌, ◌-◌, ◌*◌, ◌/◌, ◌^◌, ◌<◌, ◌≤◌, ◌⊎◌, List, [], ◌∷◌, length, slice_index, All, IfOk};
 ghost use Rattle.dl_limits.specs.Limits.{most_cells, most_end, most_given, start_bits};
 ghost use Rattle.dl_exact.specs.Fraction.{Fraction, whole, ◌*ℚ◌, ◌≤ℚ◌};
+ghost use Rattle.dl_recursion.specs.declared.parts.Run.{Run};
 ghost use Rattle.dl_recursion.specs.Runs.{all_parts, part_sum, ArePositiveAmounts};
-ghost use Rattle.dl_recursion.specs.Recursion.{AreSums, EncloseScaled, AreScaledCells, AreInScale, IsShifted, IsBegun, IsGrown, AreFirst};
+ghost use Rattle.dl_recursion.specs.Recursion.{AreWindows, EncloseScaled, AreScaledCells, AreInScale, IsShifted, IsBegun, IsGrown, AreFirst};
 
 use crate::cells::{Ends, ScaledCells};
 use crate::parts::Amounts;
@@ -62,7 +63,6 @@ fn shift_cells(x: &mut ScaledCells)
     requires within { x.old.first ≤ length x.old.low.items }
     requires room { x.old.shift + 8 < 2 ^ 64 }
     ensures shifted { IsShifted x.old x.new }
-    ensures sums { x.new.sums ≡ x.old.sums }
 {
     lower(x.low.as_mut_slice(), x.first);
     raise(x.high.as_mut_slice(), x.first);
@@ -70,23 +70,19 @@ fn shift_cells(x: &mut ScaledCells)
     x.shift += 8;
 }
 
-/// Shifts all cells down by 8 bits. The sums over cells that this changes are then outdated.
+/// Shifts all cells down by 8 bits. The windows are then outdated, and none is kept.
 fn shrink(x: &mut ScaledCells)
     requires sound { AreScaledCells x.old.low.items x.old.high.items x.old.first }
     requires within { x.old.first ≤ length x.old.low.items }
     requires room { x.old.shift + 8 < 2 ^ 64 }
     ensures shifted { IsShifted x.old x.new }
-    ensures sums { AreSums x.old.sums.items x.old.low.items x.old.high.items
-        → AreSums x.new.sums.items x.new.low.items x.new.high.items }
-    ensures sums_within { length x.new.sums.items ≤ length x.old.sums.items }
+    ensures windows { x.new.windows.items ≡ [] }
 {
-    let kept = x.first;
     shift_cells(x);
-    x.sums.truncate(kept);
+    x.windows.clear();
 }
 
 /// Shifts all cells down, and the next one with them, until that one is at most 2^62.
-#[tactic(auto, using(crate::proofs::Starts::two_le))]
 fn shift_down(x: &mut ScaledCells, next: Ends) -> Ends
     requires sound { AreScaledCells x.old.low.items x.old.high.items x.old.first }
     requires within { x.old.first ≤ length x.old.low.items }
@@ -105,9 +101,11 @@ fn shift_down(x: &mut ScaledCells, next: Ends) -> Ends
         → whole (result.low * 2 ^ x.new.shift) ≤ℚ y }
     ensures high { (y : Fraction) → y ≤ℚ whole (next.high * 2 ^ x.old.shift)
         → y ≤ℚ whole (result.high * 2 ^ x.new.shift) }
-    ensures sums { AreSums x.old.sums.items x.old.low.items x.old.high.items
-        → AreSums x.new.sums.items x.new.low.items x.new.high.items }
-    ensures sums_within { length x.new.sums.items ≤ length x.old.sums.items }
+    ensures windows { (runs : List Run) (s : ℕ)
+        → AreWindows runs x.old.low.items x.old.high.items s x.old.windows.items
+        → AreWindows runs x.new.low.items x.new.high.items s x.new.windows.items }
+    ensures all_or_none { (length x.new.windows.items ≡ length x.old.windows.items)
+        ⊎ (length x.new.windows.items ≡ 0) }
 {
     if next.high <= MOST_END {
         return Ends {
@@ -155,9 +153,8 @@ fn grow(
     b: u64,
     q: u64,
 ) -> Result<(), AllocError>
-    requires in_scale { AreInScale x.old }
+    requires in_scale { AreInScale amounts.now.runs.items x.old }
     requires some { 0 < length x.old.low.items }
-    requires few { length x.old.low.items ≤ most_cells }
     requires room { x.old.shift + 64 < 2 ^ 64 }
     requires amounts { ArePositiveAmounts amounts.now }
     requires reach { All (λ p. p.amount ≤ reach) amounts.now.parts.items }
@@ -166,7 +163,7 @@ fn grow(
         (all_parts amounts.now) < 2 ^ 64 }
     requires divisor { 0 < q }
     requires divisors { q * length x.old.low.items < 2 ^ 64 }
-    ensures { IfOk result (λ u. IsGrown (all_parts amounts.now) a b q x.old x.new) }
+    ensures { IfOk result (λ u. IsGrown amounts.now a b q x.old x.new) }
 {
     let n = x.low.len();
     let d = q * (n as u64);
@@ -187,27 +184,24 @@ fn first_end(alloc: Global, cells: usize) -> Result<Vec<u64>, AllocError>
     Ok(list)
 }
 
-/// Cell 0. It takes memory once for each end, for exactly `cells` cells, and for sums up to them
-/// where the amounts have runs.
+/// Cell 0. It takes memory once: for each end of `cells` cells, and for the windows of the runs.
 fn begin(alloc: Global, amounts: &Amounts, cells: usize) -> Result<ScaledCells, AllocError>
     ensures { IfOk result IsBegun }
 {
     let low = first_end(alloc, cells)?;
     let high = first_end(alloc, cells)?;
-    let summed = if amounts.runs.is_empty() { 0 } else { cells };
-    let sums = Vec::with_capacity(alloc, summed)?;
+    let windows = Vec::with_capacity(alloc, amounts.runs.len())?;
     Ok(ScaledCells {
         low,
         high,
         first: 0,
         shift: 0,
-        sums,
+        windows,
     })
 }
 
 /// The first `cells` cells of the recursion: one by one until as many low ends as an amount reaches
 /// are 0, and the rest with one high end where no later cell can be above it.
-#[tactic(auto, using(crate::proofs::Grow::begun, crate::proofs::Grow::begun_small, crate::proofs::Totals::sums_none))]
 pub(crate) fn recur(
     alloc: Global,
     amounts: &Amounts,
@@ -232,10 +226,10 @@ pub(crate) fn recur(
         before: 0,
         up: 0,
     };
-    let reach = reach_of(&amounts.parts);
+    let reach = reach_of(amounts);
     let mut last = 0;
     'cells: for n in 1..cells {
-        if n.saturating_sub(last) > reach.amount && is_falling(amounts, reach, a, b, q, n) {
+        if n.saturating_sub(last) > reach.amount && is_falling(reach, a, b, q, n) {
             let high = greatest_from(x.high.as_slice(), n - reach.amount);
             fill(&mut x, high, cells)?;
             return Ok(x);

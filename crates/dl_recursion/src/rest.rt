@@ -3,29 +3,29 @@
 //! the weights, no cell from `n` on is above the greatest of the `top` cells before it: all of them
 //! get that one high end, and the low end 0.
 
-ghost use Rattle.std.specs.Prelude.{◌≡◌, ℕ, ◌+◌, ◌-◌, ◌*◌, ◌^◌, ◌<◌, ◌≤◌, List, length, slice_index, All, IfOk, IsTrue};
+ghost use Rattle.std.specs.Prelude.{◌≡◌, ℕ, ◌+◌, ◌-◌, ◌*◌, ◌^◌, ◌<◌, ◌≤◌, List, length, slice_index, flat_map, All, IfOk, IsTrue};
 ghost use Rattle.dl_limits.specs.Limits.{most_end};
 ghost use Rattle.dl_exact.specs.Fraction.{Fraction};
 ghost use Rattle.dl_recursion.specs.declared.parts.Part.{Part};
-ghost use Rattle.dl_recursion.specs.Runs.{all_parts, part_sum};
+ghost use Rattle.dl_recursion.specs.Runs.{run_parts, all_parts, part_sum, ArePositiveAmounts};
 ghost use Rattle.dl_recursion.specs.Recursion.{AreScaledCells, AreFalling, AreLast, FollowsInWhole, EncloseScaled};
 
 use crate::cells::ScaledCells;
-use crate::parts::{Amounts, Part};
+use crate::parts::{Amounts, Part, Run};
 use std::alloc::AllocError;
 
-/// How far the amounts that are taken one by one go.
+/// How far amounts go.
 #[derive(Clone, Copy)]
 pub struct Reach {
-    /// The greatest of them.
+    /// None of them is above this one.
     pub amount: usize,
     /// Their weights together.
     pub weight: u64,
 }
 
-/// How far these amounts go.
+/// How far amounts taken one by one go.
 #[tactic(auto, using(std::proofs::lemmas::List::Sums::sum_by_more_le))]
-pub(crate) fn reach_of(parts: &[Part]) -> Reach
+fn reach_alone(parts: &[Part]) -> Reach
     requires room { part_sum parts.now < 2 ^ 64 }
     ensures amount { All (λ p. p.amount ≤ result.amount) parts.now }
     ensures weight { result.weight ≡ part_sum parts.now }
@@ -39,19 +39,49 @@ pub(crate) fn reach_of(parts: &[Part]) -> Reach
     Reach { amount, weight }
 }
 
+/// How far the amounts of runs go.
+fn reach_together(runs: &[Run]) -> Reach
+    requires amounts { All (λ run. 0 < run.amount) runs.now }
+    requires ends { All (λ run. run.amount + run.count ≤ 2 ^ 32) runs.now }
+    requires room { part_sum (flat_map run_parts runs.now) < 2 ^ 64 }
+    ensures amount { All (λ p. p.amount ≤ result.amount) (flat_map run_parts runs.now) }
+    ensures weight { result.weight ≡ part_sum (flat_map run_parts runs.now) }
+{
+    let mut amount = 0;
+    let mut weight = 0;
+    for run in runs {
+        amount = amount.max(run.amount + run.count - 1);
+        weight += run.count as u64 * run.weight;
+    }
+    Reach { amount, weight }
+}
+
+/// How far all amounts go.
+pub(crate) fn reach_of(amounts: &Amounts) -> Reach
+    requires amounts { ArePositiveAmounts amounts.now }
+    requires room { part_sum (all_parts amounts.now) < 2 ^ 64 }
+    ensures amount { All (λ p. p.amount ≤ result.amount) (all_parts amounts.now) }
+    ensures weight { result.weight ≡ part_sum (all_parts amounts.now) }
+{
+    let alone = reach_alone(&amounts.parts);
+    let together = reach_together(&amounts.runs);
+    Reach {
+        amount: alone.amount.max(together.amount),
+        weight: alone.weight + together.weight,
+    }
+}
+
 /// Whether no amount is above `n`, and `(a * n + b * top) * weight <= q * n` with the greatest
-/// amount `top` and the sum `weight` of the weights; then that holds for each later cell, too. False
-/// where there are runs: with them a cell costs little.
-pub(crate) fn is_falling(amounts: &Amounts, reach: Reach, a: u64, b: u64, q: u64, n: usize) -> bool
-    requires weight { reach.weight ≡ part_sum amounts.now.parts.items }
+/// amount `top` and the sum `weight` of the weights; then that holds for each later cell, too.
+#[tactic(auto, using(crate::proofs::Contributions::factor_le))]
+pub(crate) fn is_falling(reach: Reach, a: u64, b: u64, q: u64, n: usize) -> bool
     requires steps { (a + b) * n < 2 ^ 32 }
-    requires weights { (a + b) * n * part_sum (all_parts amounts.now) < 2 ^ 64 }
+    requires weights { (a + b) * n * reach.weight < 2 ^ 64 }
     requires divisors { q * n < 2 ^ 64 }
-    ensures alone { IsTrue result → length amounts.now.runs.items ≡ 0 }
     ensures within { IsTrue result → reach.amount ≤ n }
     ensures falling { IsTrue result → (a * n + b * reach.amount) * reach.weight ≤ q * n }
 {
-    if !amounts.runs.is_empty() || reach.amount > n {
+    if reach.amount > n {
         return false;
     }
     let n = n as u64;

@@ -21,7 +21,6 @@ pub struct Scaled {
 
 /// The product, rounded outward: the probability of no claim in two counts together. At least 62
 /// bits of a high end are kept.
-#[tactic(auto, using(crate::proofs::Starts::two_le))]
 pub(crate) fn times(a: Scaled, b: Scaled) -> Scaled
     requires a_top { a.high ≤ most_start }
     requires a_least { 63 ≤ a.exponent }

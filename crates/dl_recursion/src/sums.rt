@@ -1,13 +1,13 @@
 //! What the amounts give to the next cell, before the division: a sum for each end. An amount alone
-//! gives one product. A run gives what all amounts from its first on would give, less what those
-//! past its last would: each of the two comes from the sums of the cells.
+//! gives one product. A run gives two products, from sums over the cells that lie its amounts
+//! before: they are its window, which moves on with each cell.
 
-ghost use Rattle.std.specs.Prelude.{◌≡◌, ℕ, ◌+◌, ◌-◌, ◌*◌, ◌/◌, ◌^◌, ◌<◌, ◌≤◌, suc, length, slice_index, sum_by, flat_map, not, nat_le, All, IfOk, IsTrue};
-ghost use Rattle.dl_limits.specs.Limits.{most_cells, most_end};
-ghost use Rattle.dl_recursion.specs.Runs.{in_a_row, run_parts, all_parts, part_sum, ArePositiveAmounts};
-ghost use Rattle.dl_recursion.specs.Recursion.{contribution, IsSum, AreSums, AreScaledCells, AreInScale, AreContributions};
+ghost use Rattle.std.specs.Prelude.{◌≡◌, ℕ, ◌+◌, ◌-◌, ◌*◌, ◌/◌, ◌^◌, ◌<◌, ◌≤◌, ◌⊎◌, length, slice_index, sum_by, flat_map, not, nat_le, All, IfOk, IsTrue};
+ghost use Rattle.dl_limits.specs.Limits.{most_end};
+ghost use Rattle.dl_recursion.specs.Runs.{run_parts, all_parts, part_sum, ArePositiveAmounts};
+ghost use Rattle.dl_recursion.specs.Recursion.{cell_before, contribution, IsWindow, AreWindows, AreInScale, AreContributions};
 
-use crate::cells::{Ends, ScaledCells, Sums, Total};
+use crate::cells::{Ends, ScaledCells, Window, Windows};
 use crate::parts::{Amounts, Part, Run};
 use std::alloc::AllocError;
 
@@ -39,7 +39,6 @@ fn is_above<const NEAR: bool>(part: Part, s: usize) -> bool
 /// is. As a function of its own, which adds one product before it makes the other, it keeps both
 /// sums in registers.
 #[inline(never)]
-#[tactic(auto, using(std::proofs::lemmas::List::Sums::sum_by_more_le, crate::proofs::Runs::contributions_top))]
 fn parts_contribution<const NEAR: bool>(
     parts: &[Part],
     a: u64,
@@ -73,162 +72,201 @@ fn parts_contribution<const NEAR: bool>(
     }
 }
 
-/// The sums up to the first cell, whose end this is.
-fn first_total(end: u64) -> Total
-    ensures cells { result.cells ≡ end }
-    ensures before { result.before ≡ 0 }
-{
-    Total {
-        cells: u128::from(end),
-        before: 0,
-    }
-}
-
-/// The sums up to the next cell, whose end this is.
-fn next_total(last: Total, end: u64) -> Total
-    requires cells_small { last.cells ≤ 2 ^ 78 }
-    requires before_small { last.before ≤ 2 ^ 94 }
-    ensures cells { result.cells ≡ last.cells + end }
-    ensures before { result.before ≡ last.before + last.cells }
-{
-    Total {
-        cells: last.cells + u128::from(end),
-        before: last.before + last.cells,
-    }
-}
-
-/// The sums up to the first cell that has none yet.
-fn next_sums(sums: &[Sums], low: &[u64], high: &[u64]) -> Sums
+/// What amounts taken one by one give. None is above `reach`.
+fn alone(parts: &[Part], reach: usize, a: u64, b: u64, low: &[u64], high: &[u64]) -> Ends
     requires alike { length high.now ≡ length low.now }
-    requires few { length low.now ≤ most_cells }
+    requires steps { (a + b) * length low.now < 2 ^ 64 }
+    requires room { (a + b) * length low.now * part_sum parts.now < 2 ^ 64 }
+    requires amounts { All (λ p. 0 < p.amount) parts.now }
+    requires reach { All (λ p. p.amount ≤ reach) parts.now }
     requires low_small { (k : ℕ) → slice_index low.now k ≤ most_end }
     requires high_small { (k : ℕ) → slice_index high.now k ≤ most_end }
-    requires sums { AreSums sums.now low.now high.now }
-    requires within { length sums.now < length low.now }
-    ensures { IsSum low.now high.now (length sums.now) result }
+    ensures low { result.low ≡ sum_by (contribution a b low.now (length low.now)) parts.now }
+    ensures high { result.high ≡ sum_by (contribution a b high.now (length low.now)) parts.now }
 {
-    let k = sums.len();
-    if k == 0 {
-        return Sums {
-            low: first_total(low[0]),
-            high: first_total(high[0]),
-        };
+    if reach <= low.len() {
+        return parts_contribution::<true>(parts, a, b, low, high);
     }
-    let last = sums[k - 1];
-    Sums {
-        low: next_total(last.low, low[k]),
-        high: next_total(last.high, high[k]),
+    parts_contribution::<false>(parts, a, b, low, high)
+}
+
+/// The end that lies this amount before cell `s`, or 0 where there is none.
+fn cell_before(cells: &[u64], s: usize, amount: usize) -> u64
+    requires within { s ≤ length cells.now }
+    requires amount { 0 < amount }
+    ensures { result ≡ cell_before cells.now s amount }
+{
+    if amount > s {
+        return 0;
+    }
+    cells[s - amount]
+}
+
+/// The window of the last cell for one end, added up.
+fn window_of(run: Run, cells: &[u64]) -> Window
+    requires some { 0 < length cells.now }
+    requires small { (k : ℕ) → slice_index cells.now k ≤ most_end }
+    requires amount { 0 < run.amount }
+    requires end { run.amount + run.count ≤ 2 ^ 32 }
+    ensures { IsWindow cells.now (length cells.now - 1) run result }
+{
+    let s = cells.len() - 1;
+    let reached = run.count.min((s + 1).saturating_sub(run.amount));
+    let mut sum: u128 = 0;
+    let mut steps: u128 = 0;
+    for k in 0..reached {
+        let end = u128::from(cell_before(cells, s, run.amount + k));
+        sum += end;
+        steps += u128::from(k as u64) * end;
+    }
+    Window { cells: sum, steps }
+}
+
+/// The window of the next cell for one end, from that of the last: the cell that lies the run's
+/// first amount before comes in, each other one moves on by an amount, and the one past the run's
+/// last amount goes out.
+fn next_window(last: Window, run: Run, cells: &[u64]) -> Window
+    requires some { 0 < length cells.now }
+    requires small { (k : ℕ) → slice_index cells.now k ≤ most_end }
+    requires amount { 0 < run.amount }
+    requires end { run.amount + run.count ≤ 2 ^ 32 }
+    requires last { IsWindow cells.now (length cells.now - 1) run last }
+    ensures { IsWindow cells.now (length cells.now) run result }
+{
+    let s = cells.len();
+    let first = u128::from(cell_before(cells, s, run.amount));
+    let past = u128::from(cell_before(cells, s, run.amount + run.count));
+    Window {
+        cells: last.cells + first - past,
+        steps: last.steps + last.cells - u128::from(run.count as u64) * past,
     }
 }
 
-/// Makes the sums that are missing, up to the last cell.
-fn sum_up(sums: &mut Vec<Sums>, low: &[u64], high: &[u64]) -> Result<(), AllocError>
+/// What a run gives, for one end.
+fn run_contribution(run: Run, window: Window, a: u64, b: u64, cells: &[u64]) -> u128
+    requires small { (k : ℕ) → slice_index cells.now k ≤ most_end }
+    requires steps { (a + b) * length cells.now < 2 ^ 32 }
+    requires room { (a + b) * length cells.now * part_sum (run_parts run) < 2 ^ 64 }
+    requires amount { 0 < run.amount }
+    requires count { 0 < run.count }
+    requires window { IsWindow cells.now (length cells.now) run window }
+    ensures { result ≡ sum_by (contribution a b cells.now (length cells.now)) (run_parts run) }
+{
+    let s = cells.len();
+    if run.amount > s {
+        return 0;
+    }
+    let factor = (a * (s as u64) + b * (run.amount as u64)) * run.weight;
+    let step = b * run.weight;
+    u128::from(factor) * window.cells + u128::from(step) * window.steps
+}
+
+/// Adds up the windows of the last cell, where they are not known.
+fn add_up(
+    windows: &mut Vec<Windows>,
+    runs: &[Run],
+    low: &[u64],
+    high: &[u64],
+) -> Result<(), AllocError>
+    requires some { 0 < length low.now }
     requires alike { length high.now ≡ length low.now }
-    requires few { length low.now ≤ most_cells }
     requires low_small { (k : ℕ) → slice_index low.now k ≤ most_end }
     requires high_small { (k : ℕ) → slice_index high.now k ≤ most_end }
-    requires sums { AreSums sums.old.items low.now high.now }
-    requires within { length sums.old.items ≤ length low.now }
-    ensures sums { IfOk result (λ u. AreSums sums.new.items low.now high.now) }
-    ensures cells { IfOk result (λ u. length sums.new.items ≡ length low.now) }
+    requires amounts { All (λ run. 0 < run.amount) runs.now }
+    requires ends { All (λ run. run.amount + run.count ≤ 2 ^ 32) runs.now }
+    requires windows { AreWindows runs.now low.now high.now (length low.now - 1) windows.old.items }
+    requires all_or_none { (length windows.old.items ≡ length runs.now)
+        ⊎ (length windows.old.items ≡ 0) }
+    ensures windows { IfOk result (λ u.
+        AreWindows runs.now low.now high.now (length low.now - 1) windows.new.items) }
+    ensures each_run { IfOk result (λ u. length windows.new.items ≡ length runs.now) }
 {
-    'cells: for k in sums.len()..low.len() {
-        let next = next_sums(sums.as_slice(), low, high);
-        sums.push(next)?;
+    if !windows.is_empty() {
+        return Ok(());
+    }
+    'runs: for i in 0..runs.len() {
+        windows.push(Windows {
+            low: window_of(runs[i], low),
+            high: window_of(runs[i], high),
+        })?;
     }
     Ok(())
 }
 
-/// What all amounts from one on give for one end: by the sums up to the cell that lies the first of
-/// them before, with its factor and what the factor grows by with each amount.
-fn by_sums(total: Total, factor: u64, step: u64) -> u128
-    requires factor_small { factor ≤ 2 ^ 32 }
-    requires step_small { step ≤ 2 ^ 32 }
-    requires cells_small { total.cells ≤ 2 ^ 78 }
-    requires before_small { total.before ≤ 2 ^ 94 }
-    ensures { result ≡ factor * total.cells + step * total.before }
-{
-    u128::from(factor) * total.cells + u128::from(step) * total.before
-}
-
-/// What all amounts from this one on give together, each of weight 1.
-fn onward(x: &ScaledCells, a: u64, b: u64, amount: usize) -> Ends
-    requires amount { 0 < amount }
-    requires few { length x.now.low.items ≤ most_cells }
-    requires settled { AreScaledCells x.now.low.items x.now.high.items x.now.first }
-    requires sums { AreSums x.now.sums.items x.now.low.items x.now.high.items }
-    requires cells { length x.now.sums.items ≡ length x.now.low.items }
-    requires steps { (a + b) * length x.now.low.items < 2 ^ 32 }
-    ensures low { result.low ≡ sum_by (contribution a b x.now.low.items (length x.now.low.items))
-        (in_a_row amount (suc (length x.now.low.items) - amount) 1) }
-    ensures high { result.high ≡ sum_by (contribution a b x.now.high.items (length x.now.low.items))
-        (in_a_row amount (suc (length x.now.low.items) - amount) 1) }
-{
-    let s = x.low.len();
-    if amount > s {
-        return Ends { low: 0, high: 0 };
-    }
-    let sums = x.sums[s - amount];
-    let factor = a * (s as u64) + b * (amount as u64);
-    Ends {
-        low: by_sums(sums.low, factor, b),
-        high: by_sums(sums.high, factor, b),
-    }
-}
-
-/// What a run gives.
-#[tactic(auto, using(crate::proofs::Runs::past_le, crate::proofs::Runs::run_less, crate::proofs::Runs::contributions_top))]
-fn run_contribution(x: &ScaledCells, run: Run, a: u64, b: u64) -> Ends
-    requires few { length x.now.low.items ≤ most_cells }
-    requires settled { AreScaledCells x.now.low.items x.now.high.items x.now.first }
-    requires sums { AreSums x.now.sums.items x.now.low.items x.now.high.items }
-    requires cells { length x.now.sums.items ≡ length x.now.low.items }
-    requires steps { (a + b) * length x.now.low.items < 2 ^ 32 }
-    requires room { (a + b) * length x.now.low.items * part_sum (run_parts run) < 2 ^ 64 }
-    requires amount { 0 < run.amount }
-    requires end { run.amount + run.count ≤ 2 ^ 32 }
-    ensures low { result.low ≡ sum_by (contribution a b x.now.low.items (length x.now.low.items))
-        (run_parts run) }
-    ensures high { result.high ≡ sum_by (contribution a b x.now.high.items (length x.now.low.items))
-        (run_parts run) }
-{
-    let all = onward(x, a, b, run.amount);
-    let past = onward(x, a, b, run.amount + run.count);
-    let weight = u128::from(run.weight);
-    Ends {
-        low: (all.low - past.low) * weight,
-        high: (all.high - past.high) * weight,
-    }
-}
-
-/// What runs give.
-#[tactic(auto, using(crate::proofs::Runs::run_fits, crate::proofs::Runs::run_room))]
-fn runs_contribution(x: &ScaledCells, runs: &[Run], a: u64, b: u64) -> Ends
-    requires few { length x.now.low.items ≤ most_cells }
-    requires settled { AreScaledCells x.now.low.items x.now.high.items x.now.first }
-    requires sums { AreSums x.now.sums.items x.now.low.items x.now.high.items }
-    requires cells { length x.now.sums.items ≡ length x.now.low.items }
-    requires steps { (a + b) * length x.now.low.items < 2 ^ 32 }
-    requires room { (a + b) * length x.now.low.items
-        * part_sum (flat_map run_parts runs.now) < 2 ^ 64 }
+/// What runs give. Their windows move on from the last cell to the next.
+#[inline(never)]
+fn runs_contribution(
+    windows: &mut [Windows],
+    runs: &[Run],
+    a: u64,
+    b: u64,
+    low: &[u64],
+    high: &[u64],
+) -> Ends
+    requires some { 0 < length low.now }
+    requires alike { length high.now ≡ length low.now }
+    requires low_small { (k : ℕ) → slice_index low.now k ≤ most_end }
+    requires high_small { (k : ℕ) → slice_index high.now k ≤ most_end }
+    requires steps { (a + b) * length low.now < 2 ^ 32 }
+    requires room { (a + b) * length low.now * part_sum (flat_map run_parts runs.now) < 2 ^ 64 }
     requires amounts { All (λ run. 0 < run.amount) runs.now }
+    requires counts { All (λ run. 0 < run.count) runs.now }
     requires ends { All (λ run. run.amount + run.count ≤ 2 ^ 32) runs.now }
-    ensures low { result.low ≡ sum_by (contribution a b x.now.low.items (length x.now.low.items))
+    requires windows { AreWindows runs.now low.now high.now (length low.now - 1) windows.old }
+    requires each_run { length windows.old ≡ length runs.now }
+    ensures low { result.low ≡ sum_by (contribution a b low.now (length low.now))
         (flat_map run_parts runs.now) }
-    ensures high { result.high ≡ sum_by (contribution a b x.now.high.items (length x.now.low.items))
+    ensures high { result.high ≡ sum_by (contribution a b high.now (length low.now))
         (flat_map run_parts runs.now) }
+    ensures windows { AreWindows runs.now low.now high.now (length low.now) windows.new }
+    ensures each_run { length windows.new ≡ length runs.now }
 {
     let mut low_sum: u128 = 0;
     let mut high_sum: u128 = 0;
-    for run in runs {
-        let given = run_contribution(x, *run, a, b);
-        low_sum += given.low;
-        high_sum += given.high;
+    for i in 0..runs.len() {
+        let run = runs[i];
+        let last = windows[i];
+        let next = Windows {
+            low: next_window(last.low, run, low),
+            high: next_window(last.high, run, high),
+        };
+        windows[i] = next;
+        low_sum += run_contribution(run, next.low, a, b, low);
+        high_sum += run_contribution(run, next.high, a, b, high);
     }
     Ends {
         low: low_sum,
         high: high_sum,
     }
+}
+
+/// What runs give.
+fn together(x: &mut ScaledCells, runs: &[Run], a: u64, b: u64) -> Result<Ends, AllocError>
+    requires in_scale { AreInScale runs.now x.old }
+    requires some { 0 < length x.old.low.items }
+    requires steps { (a + b) * length x.old.low.items < 2 ^ 32 }
+    requires room { (a + b) * length x.old.low.items
+        * part_sum (flat_map run_parts runs.now) < 2 ^ 64 }
+    requires amounts { All (λ run. 0 < run.amount) runs.now }
+    requires counts { All (λ run. 0 < run.count) runs.now }
+    requires ends { All (λ run. run.amount + run.count ≤ 2 ^ 32) runs.now }
+    ensures low { IfOk result (λ ends. ends.low
+        ≡ sum_by (contribution a b x.old.low.items (length x.old.low.items))
+        (flat_map run_parts runs.now)) }
+    ensures high { IfOk result (λ ends. ends.high
+        ≡ sum_by (contribution a b x.old.high.items (length x.old.low.items))
+        (flat_map run_parts runs.now)) }
+    ensures windows { IfOk result (λ ends. AreWindows runs.now x.new.low.items x.new.high.items
+        (length x.new.low.items) x.new.windows.items) }
+    ensures each_run { IfOk result (λ ends. length x.new.windows.items ≡ length runs.now) }
+    ensures same_low { x.new.low ≡ x.old.low }
+    ensures same_high { x.new.high ≡ x.old.high }
+    ensures same_first { x.new.first ≡ x.old.first }
+    ensures same_shift { x.new.shift ≡ x.old.shift }
+{
+    add_up(&mut x.windows, runs, x.low.as_slice(), x.high.as_slice())?;
+    let (low, high) = (x.low.as_slice(), x.high.as_slice());
+    Ok(runs_contribution(x.windows.as_mut_slice(), runs, a, b, low, high))
 }
 
 /// The sum of what each amount adds to the next cell, by its low and its high ends. No amount taken
@@ -240,25 +278,26 @@ pub(crate) fn contributions(
     a: u64,
     b: u64,
 ) -> Result<Ends, AllocError>
-    requires few { length x.old.low.items ≤ most_cells }
-    requires in_scale { AreInScale x.old }
+    requires in_scale { AreInScale amounts.now.runs.items x.old }
+    requires some { 0 < length x.old.low.items }
     requires steps { (a + b) * length x.old.low.items < 2 ^ 32 }
     requires room { (a + b) * length x.old.low.items * part_sum (all_parts amounts.now) < 2 ^ 64 }
     requires amounts { ArePositiveAmounts amounts.now }
     requires reach { All (λ p. p.amount ≤ reach) amounts.now.parts.items }
-    ensures { IfOk result (AreContributions (all_parts amounts.now) a b x.old x.new) }
+    ensures { IfOk result (AreContributions amounts.now a b x.old x.new) }
 {
-    let (low, high) = (x.low.as_slice(), x.high.as_slice());
-    let alone = if reach <= low.len() {
-        parts_contribution::<true>(&amounts.parts, a, b, low, high)
-    } else {
-        parts_contribution::<false>(&amounts.parts, a, b, low, high)
-    };
+    let alone = alone(
+        &amounts.parts,
+        reach,
+        a,
+        b,
+        x.low.as_slice(),
+        x.high.as_slice(),
+    );
     if amounts.runs.is_empty() {
         return Ok(alone);
     }
-    sum_up(&mut x.sums, x.low.as_slice(), x.high.as_slice())?;
-    let together = runs_contribution(x, &amounts.runs, a, b);
+    let together = together(x, &amounts.runs, a, b)?;
     Ok(Ends {
         low: alone.low + together.low,
         high: alone.high + together.high,

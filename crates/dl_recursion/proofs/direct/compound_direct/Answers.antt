@@ -1,4 +1,4 @@
-use Rattle.dl_recursion.proofs.Common.{◌≡◌, ℕ, zero, suc, List, ◌+◌, ◌-◌, ◌*◌, ◌/◌, ◌^◌, ◌<◌, ◌≤◌, arith, refl, sym, mul-pos, mul-le-mul, div-mul-le_self, lt-div-mul-add, Fraction, whole, ◌over◌, cell, all_parts, part_at, EncloseScaled, HasGridEnds, IsScaled, pos_of_dvd_of_pos, most_cells, most_shape, weight_at, common_amount, Item}
+use Rattle.dl_recursion.proofs.Common.{◌≡◌, ℕ, zero, suc, List, length, ◌+◌, ◌-◌, ◌*◌, ◌/◌, ◌^◌, ◌<◌, ◌≤◌, arith, refl, sym, mul-pos, mul-le-mul, div-mul-le_self, lt-div-mul-add, Fraction, whole, ◌over◌, cell, all_parts, part_at, EncloseScaled, HasGridEnds, IsScaled, pos_of_dvd_of_pos, most_cells, most_shape, weight_at, common_amount, Item}
 use Prim.Native.Nat.{◌∣◌}
 use Rattle.std.proofs.Common.{All, div-le_self, mul-zero}
 use Rattle.dl_grid.specs.Cells.{low_at, high_at}
@@ -82,8 +82,23 @@ recur-requires-clause-steps g c =
     few_steps c.args.steps.constant c.args.steps.inverse _ c.requires.a_small c.requires.b_small
     (omega (arith, rows_few c.common_amount-step.result c.args.cells c.requires.size.some, size_few c.requires.size))
 
+pub recur-requires-clause-weights : goal.recur-requires-clause-weights
+recur-requires-clause-weights g c =
+    rw (c.in_ok-amounts.ensures.sum, c.num.ensures.part, c.as_slice-2.ensures, c.args.sev.now.weighted.sum)
+    (c.if-not-is_within_words.ensures.factors refl)
+
+pub recur-requires-clause-divisor : goal.recur-requires-clause-divisor
+recur-requires-clause-divisor g c = rw c.den.ensures.part c.in-Ok.ratio.positive
+
+pub recur-requires-clause-divisors : goal.recur-requires-clause-divisors
+recur-requires-clause-divisors g c = rw c.den.ensures.part (c.if-not-is_within_words.ensures.divisors refl)
+
 pub to_grid-requires : goal.to_grid-requires
-to_grid-requires g c = grind (arith, step_above, rows_within)
+to_grid-requires g c =
+    let above = step_above c.args.sev.now c.common_amount-step.ensures c.as_slice.ensures c.requires.no_zero in
+    let within : c.common_amount-step.result * length c.in_ok-x.x.low.items < c.args.cells + c.common_amount-step.result =
+    rw c.in_ok-x.ensures.cells (rows_within c.common_amount-step.result c.args.cells c.requires.size.some) in
+    (omega arith, (c.requires.size, (above, (within, (c.in_ok-x.ensures.sound, (c.requires.low_small, (c.requires.high_small, omega arith)))))))
 
 pub returns-clause-encloses : goal.returns-clause-encloses
 returns-clause-encloses g c w P H =

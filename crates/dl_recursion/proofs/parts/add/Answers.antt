@@ -17,6 +17,7 @@ each-preserved c =
         parts = subst (All (λ (p : Part). 0 < p.amount)) (sym e)
             (All-push (λ (p : Part). 0 < p.amount) parts p i.sound.parts (omega (arith, c.requires.amount)));
         runs = i.sound.runs;
+        counts = i.sound.counts;
         ends = i.sound.ends;
       };
       parts = λ f.

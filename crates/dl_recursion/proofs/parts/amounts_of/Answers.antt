@@ -1,9 +1,14 @@
-use Rattle.std.proofs.lemmas.Bool.Decides.{nat_tests}
-use Rattle.std.proofs.lemmas.Grind.{common_steps}
-use Rattle.dl_recursion.proofs.Common.{◌*◌, get_or, arith, refl, sym, ◌∙◌, sum_by, all_parts, Item, take_all}
+use Rattle.std.proofs.Math.Nat.{lt_of_le_of_lt}
+use Rattle.std.proofs.lemmas.List.Sums.{get_or-le-sum_by}
+use Rattle.dl_recursion.proofs.Common.{◌*◌, get_or, arith, mul-le-mul_left, refl, sym, ◌∙◌, sum_by, all_parts, Item, take_all}
 use Rattle.dl_recursion.proofs.Units.{some_steps, times_sum, times_each, item_joined, item_begun}
 use Rattle.dl_recursion.proofs.parts.amounts_of.Goals as goal
 use Rattle.dl_recursion.proofs.parts.amounts_of.Goals.{then-next-run+then-next-run-2, else-next-run+in_ok-add}
+
+pub alone-next-requires-clause-room : goal.alone-next-requires-clause-room
+alone-next-requires-clause-room c =
+    lt_of_le_of_lt (mul-le-mul_left c.args.factor
+    (get_or-le-sum_by (λ (item : Item). item.weight) c.args.items.now c.items.item-index _ c.items-test.true)) c.requires.room
 
 pub items-preserved : goal.items-preserved
 items-preserved c =
@@ -40,7 +45,9 @@ items-preserved c =
 
 -- the loop came to the end of the items
 pub returns-clause-sum : goal.returns-clause-sum
-returns-clause-sum c = grind (arith, nat_tests, common_steps, times_sum c.args.factor c.args.items.now, take_all)
+returns-clause-sum c =
+    rw (c.in_ok-add-2.ensures.parts, c.items.invariant.parts, take_all _ _ c.items-test.false)
+    (times_sum c.args.factor c.args.items.now)
 
 pub returns-clause-each : goal.returns-clause-each
 returns-clause-each c j =

@@ -1,8 +1,34 @@
-use Rattle.dl_recursion.proofs.Common.{◌≡◌, suc, ◌-◌, ◌*◌, ◌^◌, length, ◌∷◌, [], ◌++◌, arith, ap, ◌≤◌, ◌∙◌, length-append, sum_by, whole, ◌*ℚ◌, ◌≤ℚ◌, all_parts, contribution, EncloseScaled}
+use Rattle.dl_recursion.proofs.Common.{◌≡◌, suc, ◌<◌, mul-pos, ◌-◌, ◌*◌, ◌^◌, length, ◌∷◌, [], ◌++◌, arith, ap, ◌≤◌, ◌∙◌, length-append, sum_by, whole, ◌*ℚ◌, ◌≤ℚ◌, all_parts, contribution, AreWindows, EncloseScaled, inl, inr}
 use Rattle.dl_recursion.proofs.Grow.{cells_pushed, pushed, next_low, next_high}
+use Rattle.dl_recursion.proofs.Rounding.{ceil_small}
 use Rattle.dl_recursion.proofs.Runs.{all_positive}
-use Rattle.dl_recursion.proofs.Totals.{sums_grown}
+use Rattle.dl_recursion.proofs.Windows.{windows_grown}
 use Rattle.dl_recursion.proofs.recursion.grow.Goals as goal
+
+pub overflow_mul-d : goal.overflow_mul-d
+overflow_mul-d c = record { fits = rw (c.len-n.ensures, c.args.x.now.low.ok.0) c.requires.divisors }
+
+pub divided-requires-clause-positive : goal.divided-requires-clause-positive
+divided-requires-clause-positive c =
+    rw (c.len-n.ensures, c.args.x.now.low.ok.0) (mul-pos c.requires.divisor c.requires.some)
+
+pub shift_down-ends-requires-clause-sound : goal.shift_down-ends-requires-clause-sound
+shift_down-ends-requires-clause-sound c =
+    let told = c.in_ok-sums.ensures in
+    rw (told.same_low, told.same_high, told.same_first) c.requires.in_scale.sound
+
+pub shift_down-ends-requires-clause-within : goal.shift_down-ends-requires-clause-within
+shift_down-ends-requires-clause-within c =
+    rw (c.in_ok-sums.ensures.same_low, c.in_ok-sums.ensures.same_first) c.requires.in_scale.within
+
+pub shift_down-ends-requires-clause-room : goal.shift_down-ends-requires-clause-room
+shift_down-ends-requires-clause-room c = rw c.in_ok-sums.ensures.same_shift c.requires.room
+
+pub shift_down-ends-requires-clause-small : goal.shift_down-ends-requires-clause-small
+shift_down-ends-requires-clause-small c =
+    let some : 0 < c.args.q * c.len-n.result = rw (c.len-n.ensures, c.args.x.now.low.ok.0)
+    (mul-pos c.requires.divisor c.requires.some) in
+    rw c.divided.ensures.high (ceil_small _ _ _ some c.in_ok-sums.ensures.high_room)
 
 pub returns : goal.returns
 returns c =
@@ -23,21 +49,33 @@ returns c =
     let low_n : length y.low.items ≡ suc m = shift_down.cells ∙ ap (λ v. length v.items) told.same_low ∙ e in
     let high_n : length y.high.items ≡ suc m = shift_down.sound.alike ∙ low_n in
     let len : length (y.low.items ++ lo ∷ []) ≡ suc (suc m) = simp length-append (omega (arith, low_n)) in
-    let within : length y.sums.items ≤ length y.low.items = omega (arith, shift_down.sums_within, shift_down.cells, told.within) in
+    let runs = c.args.amounts.now.runs.items in
+    let fit : length y.windows.items ≤ length runs = elim shift_down.all_or_none [
+      | inl same ↦ omega (arith, same, told.each_run)
+      | inr none ↦ omega (arith, none)
+    ] in
+    let cells : length y.low.items ≡ length z.low.items = shift_down.cells in
+    let windows : AreWindows runs y.low.items y.high.items (length y.low.items) y.windows.items =
+    rw cells (shift_down.windows runs (length z.low.items) told.windows) in
     let lo_sum : c.in_ok-sums.sums.low ≡ sum_by (contribution c.args.a c.args.b x.low.items (suc m)) parts = told.low
     ∙ ap (λ t. sum_by (contribution c.args.a c.args.b x.low.items t) parts) e in
     let hi_sum : c.in_ok-sums.sums.high ≡ sum_by (contribution c.args.a c.args.b x.high.items (suc m)) parts = told.high
     ∙ ap (λ t. sum_by (contribution c.args.a c.args.b x.high.items t) parts) e in
     let low_pushed : c.push.new.self.items ≡ y.low.items ++ lo ∷ [] = c.in_ok-push.ensures.items in
     let high_pushed : c.push-2.new.self.items ≡ y.high.items ++ hi ∷ [] = c.in_ok-push-2.ensures.items in
+    let one_less : length (y.low.items ++ lo ∷ []) - 1 ≡ length y.low.items = omega (arith, len, low_n) in
     record {
       in_scale = record {
         sound = rw (low_pushed, high_pushed) (cells_pushed y.low.items y.high.items y.first lo hi shift_down.sound shift_down.within
             (omega (arith, shift_down.order, shift_down.small)) shift_down.small);
         within = rw low_pushed (omega (arith, len, low_n, shift_down.within));
-        sums = rw (low_pushed, high_pushed)
-            (sums_grown y.sums.items y.low.items y.high.items lo hi within shift_down.sound.alike (shift_down.sums told.sums));
-        sums_within = rw low_pushed (omega (arith, len, low_n, within));
+        windows = rw (low_pushed, high_pushed, one_less)
+            (windows_grown runs y.low.items y.high.items lo hi y.windows.items shift_down.sound.alike
+            c.requires.amounts.runs fit windows);
+        all_or_none = elim shift_down.all_or_none [
+          | inl same ↦ inl (omega (arith, same, told.each_run))
+          | inr none ↦ inr none
+        ];
       };
       cells = rw low_pushed (omega (arith, len, e));
       shift = omega (arith, shift_down.shift, told.same_shift);

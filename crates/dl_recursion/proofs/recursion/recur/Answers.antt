@@ -1,10 +1,92 @@
-use Rattle.dl_recursion.proofs.Common.{◌≡◌, ◌-◌, ◌≤◌, length, arith, refl, All, all_parts, Part, part_sum, AreFalling, AreLast}
-use Rattle.dl_recursion.proofs.Runs.{all_positive}
-use Rattle.dl_recursion.proofs.Falling.{falling_alone}
+use Rattle.std.proofs.Math.Nat.{le_of_lt, lt_of_le_of_lt}
+use Rattle.std.proofs.Math.Numerals.{lt-add-one}
+use Rattle.dl_recursion.proofs.Common.{◌≡◌, ◌+◌, ◌-◌, ◌*◌, ◌^◌, ◌≤◌, length, arith, refl, ap, ◌∙◌, mul-pos, mul-le-mul_left, mul-le-mul_right, flat_map, all_parts, run_parts, Part, part_sum, AreFalling, AreLast}
+use Rattle.dl_recursion.proofs.Contributions.{share_room}
+use Rattle.dl_recursion.proofs.Grow.{begun, begun_in_scale, shift_room}
+use Rattle.dl_recursion.proofs.Runs.{all_positive, all_left}
 use Rattle.dl_recursion.proofs.recursion.recur.Goals as goal
 
+pub reach_of-reach-requires-clause-room : goal.reach_of-reach-requires-clause-room
+reach_of-reach-requires-clause-room c =
+    share_room ((c.args.a + c.args.b) * c.args.cells) (part_sum (all_parts c.args.amounts.now)) (2 ^ 64)
+    (mul-pos c.requires.some_step c.requires.some) c.requires.weights
+
+pub cells-init : goal.cells-init
+cells-init c =
+    let e = c.in_ok-x.ensures in
+    record {
+      in_scale = begun_in_scale c.args.amounts.now.runs.items c.in_ok-x.x e;
+      count = ap length e.low;
+      shift = rw e.shift (omega arith);
+      round = λ r F. rw (e.low, e.high, e.shift) (begun r F.start);
+    }
+
+pub is_falling-requires-clause-steps : goal.is_falling-requires-clause-steps
+is_falling-requires-clause-steps c =
+    lt_of_le_of_lt (mul-le-mul_left (c.args.a + c.args.b) (le_of_lt c.cells-test.true)) c.requires.steps
+
+pub is_falling-requires-clause-weights : goal.is_falling-requires-clause-weights
+is_falling-requires-clause-weights c =
+    rw c.reach_of-reach.ensures.weight (lt_of_le_of_lt (mul-le-mul_right (part_sum (all_parts c.args.amounts.now))
+    (mul-le-mul_left (c.args.a + c.args.b) (le_of_lt c.cells-test.true))) c.requires.weights)
+
+pub is_falling-requires-clause-divisors : goal.is_falling-requires-clause-divisors
+is_falling-requires-clause-divisors c =
+    lt_of_le_of_lt (mul-le-mul_left c.args.q (le_of_lt c.cells-test.true)) c.requires.divisors
+
+pub overflow_sub-n : goal.overflow_sub-n
+overflow_sub-n c = c.if-is_falling.ensures.within refl
+
+pub greatest_from-high-requires : goal.greatest_from-high-requires
+greatest_from-high-requires c = record { small = rw c.as_slice.ensures.value c.cells.invariant.in_scale.sound.high_small }
+
+pub fill-requires-clause-some : goal.fill-requires-clause-some
+fill-requires-clause-some c = rw c.cells.invariant.count c.cells.auto.n
+
+pub fill-requires-clause-few : goal.fill-requires-clause-few
+fill-requires-clause-few c = rw c.cells.invariant.count (le_of_lt c.cells-test.true)
+
+pub grow-requires-clause-some : goal.grow-requires-clause-some
+grow-requires-clause-some c = rw c.cells.invariant.count c.cells.auto.n
+
+pub grow-requires-clause-room : goal.grow-requires-clause-room
+grow-requires-clause-room c = shift_room c.cells.x.shift c.cells.n c.args.cells c.cells.invariant.shift c.cells-test.true c.requires.few
+
+pub grow-requires-clause-steps : goal.grow-requires-clause-steps
+grow-requires-clause-steps c =
+    rw c.cells.invariant.count
+    (lt_of_le_of_lt (mul-le-mul_left (c.args.a + c.args.b) (le_of_lt c.cells-test.true)) c.requires.steps)
+
+pub grow-requires-clause-weights : goal.grow-requires-clause-weights
+grow-requires-clause-weights c =
+    rw c.cells.invariant.count (lt_of_le_of_lt (mul-le-mul_right (part_sum (all_parts c.args.amounts.now))
+    (mul-le-mul_left (c.args.a + c.args.b) (le_of_lt c.cells-test.true))) c.requires.weights)
+
+pub grow-requires-clause-divisors : goal.grow-requires-clause-divisors
+grow-requires-clause-divisors c =
+    rw c.cells.invariant.count
+    (lt_of_le_of_lt (mul-le-mul_left c.args.q (le_of_lt c.cells-test.true)) c.requires.divisors)
+
+pub index-requires : goal.index-requires
+index-requires c =
+    rw (c.grow.new.x.low.ok.0, c.in_ok-grow.ensures.cells, c.cells.invariant.count) (lt-add-one c.cells.n)
+
+pub cells-preserved : goal.cells-preserved
+cells-preserved c =
+    let i = c.cells.invariant in
+    let e = c.in_ok-grow.ensures in
+    record {
+      in_scale = e.in_scale;
+      count = e.cells ∙ ap (λ t. t + 1) i.count;
+      shift = omega (arith, e.shift, i.shift);
+      round = λ r F. e.round r F (i.round r F);
+    }
+
 pub grow-requires-clause-reach : goal.grow-requires-clause-reach
-grow-requires-clause-reach c = rw c.deref.ensures.value at c.reach_of-reach.ensures.amount
+grow-requires-clause-reach c =
+    let amounts = c.args.amounts.now in
+    all_left (λ (p : Part). p.amount ≤ c.reach_of-reach.result.amount) amounts.parts.items
+    (flat_map run_parts amounts.runs.items) c.reach_of-reach.ensures.amount
 
 pub returns : goal.returns
 returns c =
@@ -28,12 +110,11 @@ returns-then-is_falling c =
     let amounts = c.args.amounts.now in
     let reach = c.reach_of-reach.result in
     let told = c.if-is_falling.ensures in
-    let all : All (λ (p : Part). p.amount ≤ reach.amount) amounts.parts.items =
-    rw c.deref.ensures.value at c.reach_of-reach.ensures.amount in
-    let weight : reach.weight ≡ part_sum amounts.parts.items = rw c.deref.ensures.value at c.reach_of-reach.ensures.weight in
     let falling : AreFalling (all_parts amounts) c.args.a c.args.b c.args.q reach.amount (length x.low.items) =
-    rw i.count (falling_alone amounts c.args.a c.args.b c.args.q reach.amount reach.weight c.cells.n (told.alone refl) all weight
-    (told.falling refl)) in
+    record {
+      reach = c.reach_of-reach.ensures.amount;
+      falling = rw (← c.reach_of-reach.ensures.weight, i.count) (told.falling refl);
+    } in
     let last : AreLast x.high.items (length x.low.items - reach.amount) c.greatest_from-high.result =
     rw i.count (rw c.as_slice.ensures.value at c.greatest_from-high.ensures.last) in
     record {

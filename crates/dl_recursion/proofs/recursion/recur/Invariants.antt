@@ -3,7 +3,7 @@ use Rattle.dl_recursion.proofs.recursion.recur.Given as goal
 
 abbrev pub invariant-cells : goal.invariant-cells
 invariant-cells l = record {
-  in_scale : AreInScale l.x;
+  in_scale : AreInScale l.amounts.runs.items l.x;
   count : length l.x.low.items ≡ l.n;
   shift : l.x.shift ≤ 64 * l.n;
   round : (r : ℕ → Fraction) → FollowsInWhole (all_parts l.amounts) l.a l.b l.q r

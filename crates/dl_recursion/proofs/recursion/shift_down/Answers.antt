@@ -1,8 +1,12 @@
-use Rattle.dl_recursion.proofs.Common.{◌+◌, ◌-◌, ◌*◌, ◌^◌, ◌≤◌, arith, ◌∙◌, mul-le-mul_right, le_trans, whole_le}
+use Rattle.dl_recursion.proofs.Common.{◌+◌, ◌-◌, ◌*◌, ◌^◌, ◌≤◌, arith, ◌∙◌, mul-le-mul_right, le_trans, whole_le, inr, refl}
+use Rattle.dl_recursion.proofs.Windows.{no_windows}
 use Rattle.dl_recursion.proofs.Starts.{two_le}
 use Rattle.dl_recursion.proofs.Steps.{shifted, shift_low, shift_high, shift_down_top}
 use Rattle.dl_recursion.proofs.recursion.shift_down.Goals as goal
 use Rattle.dl_recursion.proofs.recursion.shift_down.Goals.{then-high-gt-MOST_END, else-high-gt-MOST_END}
+
+pub overflow_add-high : goal.overflow_add-high
+overflow_add-high c = omega (arith, c.loop-k.invariant.top, two_le (126 - 8 * c.loop-k.k) 126 (omega arith))
 
 pub loop-k-preserved : goal.loop-k-preserved
 loop-k-preserved c =
@@ -16,8 +20,8 @@ loop-k-preserved c =
           rw (w.low-is, w.high-is, w.x-is, e.shift) (record {
             sound = e.sound;
             within = e.within;
-            sums = λ h. told.sums (i.sums h);
-            sums_within = omega (arith, i.sums_within, told.sums_within);
+            windows = λ runs s h. rw told.windows (no_windows runs _ _ s);
+            all_or_none = rw told.windows (inr refl);
             cells = e.cells ∙ i.cells;
             shift = omega (arith, i.shift);
             top = shift_down_top c.loop-k.high k c.loop-k-test.true i.top;
@@ -29,8 +33,8 @@ loop-k-preserved c =
           rw (w.low-is, w.high-is, w.x-is) (record {
             sound = i.sound;
             within = i.within;
-            sums = i.sums;
-            sums_within = i.sums_within;
+            windows = i.windows;
+            all_or_none = i.all_or_none;
             cells = i.cells;
             shift = omega (arith, i.shift);
             top = omega (arith, two_le 62 (126 - 8 * (k + 1)) (omega (arith, c.loop-k-test.true)));

@@ -1,13 +1,14 @@
-use Rattle.dl_recursion.proofs.Common.{◌≡◌, ℕ, ◌+◌, ◌*◌, ◌-◌, ◌^◌, ◌≤◌, length, Fraction, whole, ◌≤ℚ◌, AreSums, AreScaledCells, EncloseScaled}
+use Rattle.dl_recursion.proofs.Common.{◌≡◌, ℕ, ◌+◌, ◌*◌, ◌-◌, ◌^◌, ◌≤◌, ◌⊎◌, List, length, Fraction, whole, ◌≤ℚ◌, Run, AreWindows, AreScaledCells, EncloseScaled}
 use Rattle.dl_recursion.proofs.recursion.shift_down.Given as goal
 
 abbrev pub invariant-loop-k : goal.invariant-loop-k
 invariant-loop-k l = record {
   sound : AreScaledCells l.x.low.items l.x.high.items l.x.first;
   within : l.x.first ≤ length l.x.low.items;
-  sums : AreSums l.initial.x.sums.items l.initial.x.low.items l.initial.x.high.items
-      → AreSums l.x.sums.items l.x.low.items l.x.high.items;
-  sums_within : length l.x.sums.items ≤ length l.initial.x.sums.items;
+  windows : (runs : List Run) (s : ℕ)
+      → AreWindows runs l.initial.x.low.items l.initial.x.high.items s l.initial.x.windows.items
+      → AreWindows runs l.x.low.items l.x.high.items s l.x.windows.items;
+  all_or_none : (length l.x.windows.items ≡ length l.initial.x.windows.items) ⊎ (length l.x.windows.items ≡ 0);
   cells : length l.x.low.items ≡ length l.initial.x.low.items;
   shift : l.x.shift ≤ l.initial.x.shift + 8 * l.k;
   top : l.high ≤ 2 ^ (126 - 8 * l.k);

@@ -1,17 +1,33 @@
-use Rattle.dl_recursion.proofs.Common.{◌≤◌, arith, sum_by_more, Part}
-use Rattle.std.proofs.lemmas.Grind.{common_steps}
-use Rattle.std.proofs.lemmas.List.Elements.{All-more}
+use Rattle.dl_recursion.proofs.Common.{◌≡◌, ◌+◌, arith, sum_by-append, flat_map, Part, part_sum, run_parts, all_parts}
+use Rattle.dl_recursion.specs.declared.parts.Amounts.{Amounts}
 use Rattle.dl_recursion.proofs.rest.reach_of.Goals as goal
 
-pub loop-part-preserved : goal.loop-part-preserved
-loop-part-preserved c =
-    let i = c.loop-part.invariant in
-    let n = c.loop-part.part-index in
-    let parts = c.args.parts.now in
-    let p : Part = record { amount = 0; weight = 0 } in
-    record {
-      amount = All-more (λ (p : Part). p.amount ≤ c.max-amount.result) parts n p c.loop-part-test.true
-          (λ k d q. grind (arith, common_steps, i.amount k d q, c.max-amount.ensures))
-          (grind (arith, common_steps, c.max-amount.ensures));
-      weight = omega (arith, i.weight, sum_by_more (λ (p : Part). p.weight) parts n p c.loop-part-test.true);
-    }
+both : (amounts : Amounts)
+    → part_sum (all_parts amounts) ≡ part_sum amounts.parts.items + part_sum (flat_map run_parts amounts.runs.items)
+both amounts = sum_by-append (λ (p : Part). p.weight) amounts.parts.items (flat_map run_parts amounts.runs.items)
+
+pub reach_alone-alone-requires : goal.reach_alone-alone-requires
+reach_alone-alone-requires c = record {
+  room = rw c.deref.ensures.value (omega (arith, c.requires.room, both c.args.amounts.now));
+}
+
+pub reach_together-together-requires-clause-room : goal.reach_together-together-requires-clause-room
+reach_together-together-requires-clause-room c =
+    rw c.deref-2.ensures.value (omega (arith, c.requires.room, both c.args.amounts.now))
+
+pub overflow_add-result : goal.overflow_add-result
+overflow_add-result c = omega (
+  arith,
+  c.requires.room,
+  both c.args.amounts.now,
+  rw c.deref.ensures.value at c.reach_alone-alone.ensures.weight,
+  rw c.deref-2.ensures.value at c.reach_together-together.ensures.weight,
+)
+
+pub returns-clause-weight : goal.returns-clause-weight
+returns-clause-weight c = omega (
+  arith,
+  both c.args.amounts.now,
+  rw c.deref.ensures.value at c.reach_alone-alone.ensures.weight,
+  rw c.deref-2.ensures.value at c.reach_together-together.ensures.weight,
+)

@@ -3,6 +3,9 @@ use Rattle.dl_recursion.proofs.Starts.{two_le, half_low, half_high, half_top, st
 use Rattle.dl_recursion.proofs.start.times.Goals as goal
 use Rattle.dl_recursion.proofs.start.times.Goals.{then-high-gt-MOST_START, else-high-gt-MOST_START}
 
+pub overflow_add-high : goal.overflow_add-high
+overflow_add-high c = omega (arith, c.loop-k.invariant.top, two_le (126 - c.loop-k.k) 126 (omega arith))
+
 pub loop-k-preserved : goal.loop-k-preserved
 loop-k-preserved c =
     let i = c.loop-k.invariant in

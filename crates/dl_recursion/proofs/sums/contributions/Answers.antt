@@ -1,4 +1,5 @@
-use Rattle.dl_recursion.proofs.Common.{◌≡◌, ℕ, ◌+◌, ◌*◌, ◌^◌, ◌<◌, ◌≤◌, List, [], ◌∷◌, ◌++◌, length, get_or, arith, sum_by, flat_map, sum_by-append, Part, Run, run_parts, all_parts, part_sum, contribution, append-nil}
+use Rattle.std.proofs.lemmas.Bool.Decides.{nat_tests}
+use Rattle.dl_recursion.proofs.Common.{◌≡◌, ℕ, ◌+◌, ◌*◌, ◌^◌, ◌<◌, ◌≤◌, List, [], ◌∷◌, ◌++◌, length, get_or, arith, refl, ap, sum_by, flat_map, sum_by-append, inl, inr, ◌∙◌, Part, Run, run_parts, all_parts, part_sum, contribution, append-nil}
 use Rattle.dl_recursion.specs.declared.parts.Amounts.{Amounts}
 use Rattle.dl_recursion.proofs.Runs.{contributions_top}
 use Rattle.dl_recursion.proofs.sums.contributions.Goals as goal
@@ -16,14 +17,98 @@ top : (a b s : ℕ) (cells : List ℕ) (amounts : Amounts) → ((k : ℕ) → ge
     (flat_map run_parts amounts.runs.items) ≤ 2 ^ 126
 top a b s cells amounts small room = rw (← sum_by-append) (contributions_top a b s cells small (all_parts amounts) room)
 
+-- each of the two alone has room
+first_room : (k : ℕ) (xs ys : List Part) → k * part_sum (xs ++ ys) < 2 ^ 64 → k * part_sum xs < 2 ^ 64
+first_room k xs ys h = omega (arith, h, ap (λ t. k * t) (sum_by-append (λ (p : Part). p.weight) xs ys))
+
+second_room : (k : ℕ) (xs ys : List Part) → k * part_sum (xs ++ ys) < 2 ^ 64 → k * part_sum ys < 2 ^ 64
+second_room k xs ys h = omega (arith, h, ap (λ t. k * t) (sum_by-append (λ (p : Part). p.weight) xs ys))
+
+pub alone-alone-requires-clause-room : goal.alone-alone-requires-clause-room
+alone-alone-requires-clause-room c =
+    rw (c.as_slice.ensures.value, c.deref.ensures.value)
+    (first_room _ c.args.amounts.now.parts.items (flat_map run_parts c.args.amounts.now.runs.items) c.requires.room)
+
+pub together-requires-clause-room : goal.together-requires-clause-room
+together-requires-clause-room c =
+    rw c.deref-2.ensures.value
+    (second_room _ c.args.amounts.now.parts.items (flat_map run_parts c.args.amounts.now.runs.items) c.requires.room)
+
 pub overflow_add-result : goal.overflow_add-result
-overflow_add-result c = grind (arith, top)
+overflow_add-result c =
+    let x = c.args.x.now in
+    omega (
+      arith,
+      rw (c.as_slice.ensures.value, c.deref.ensures.value) at c.alone-alone.ensures.low,
+      rw c.deref-2.ensures.value at c.in_ok-together.ensures.low,
+      top c.args.a c.args.b (length x.low.items) x.low.items c.args.amounts.now c.requires.in_scale.sound.low_small c.requires.room,
+    )
 
 pub overflow_add-result-2 : goal.overflow_add-result-2
-overflow_add-result-2 c = grind (arith, top)
+overflow_add-result-2 c =
+    let x = c.args.x.now in
+    omega (
+      arith,
+      rw (c.as_slice.ensures.value, c.as_slice-2.ensures.value, c.deref.ensures.value) at c.alone-alone.ensures.high,
+      rw c.deref-2.ensures.value at c.in_ok-together.ensures.high,
+      top c.args.a c.args.b (length x.low.items) x.high.items c.args.amounts.now c.requires.in_scale.sound.high_small c.requires.room,
+    )
+
+pub together-requires-clause-in_scale : goal.together-requires-clause-in_scale
+together-requires-clause-in_scale c = rw c.deref-2.ensures.value c.requires.in_scale
 
 pub returns-then-is_empty : goal.returns-then-is_empty
-returns-then-is_empty c = grind (arith, no_runs, top)
+returns-then-is_empty c =
+    let x = c.args.x.now in
+    let amounts = c.args.amounts.now in
+    let none : length amounts.runs.items ≡ 0 = grind (arith, nat_tests) in
+    let low = rw (c.as_slice.ensures.value, c.deref.ensures.value) at c.alone-alone.ensures.low in
+    let high = rw (c.as_slice.ensures.value, c.as_slice-2.ensures.value, c.deref.ensures.value) at c.alone-alone.ensures.high in
+    let each : length x.windows.items ≡ length amounts.runs.items = elim c.requires.in_scale.all_or_none [
+      | inl e ↦ e
+      | inr e ↦ omega (arith, e, none)
+    ] in
+    record {
+      low = low ∙ no_runs _ amounts.parts.items amounts.runs.items none;
+      high = high ∙ no_runs _ amounts.parts.items amounts.runs.items none;
+      high_room = omega (
+        arith,
+        high,
+        top c.args.a c.args.b (length x.low.items) x.high.items amounts c.requires.in_scale.sound.high_small c.requires.room,
+      );
+      windows = λ k run d l. absurd (omega (arith, l, each, none));
+      each_run = each;
+      same_low = refl;
+      same_high = refl;
+      same_first = refl;
+      same_shift = refl;
+    }
 
 pub returns : goal.returns
-returns c = grind (arith, sum_by-append, top)
+returns c =
+    let x = c.args.x.now in
+    let amounts = c.args.amounts.now in
+    let a = c.args.a in
+    let b = c.args.b in
+    let s = length x.low.items in
+    let e = c.in_ok-together.ensures in
+    let low = rw (c.as_slice.ensures.value, c.deref.ensures.value) at c.alone-alone.ensures.low in
+    let high = rw (c.as_slice.ensures.value, c.as_slice-2.ensures.value, c.deref.ensures.value) at c.alone-alone.ensures.high in
+    let more_low = rw c.deref-2.ensures.value at e.low in
+    let more_high = rw c.deref-2.ensures.value at e.high in
+    record {
+      low = rw sum_by-append (omega (arith, low, more_low));
+      high = rw sum_by-append (omega (arith, high, more_high));
+      high_room = omega (
+        arith,
+        high,
+        more_high,
+        top a b s x.high.items amounts c.requires.in_scale.sound.high_small c.requires.room,
+      );
+      windows = rw c.deref-2.ensures.value at e.windows;
+      each_run = rw c.deref-2.ensures.value at e.each_run;
+      same_low = e.same_low;
+      same_high = e.same_high;
+      same_first = e.same_first;
+      same_shift = e.same_shift;
+    }

@@ -1,5 +1,5 @@
 use Rattle.dl_recursion.proofs.Common.{◌≡◌, ◌≤◌, take, All, part_sum}
-use Rattle.dl_recursion.proofs.rest.reach_of.Given as goal
+use Rattle.dl_recursion.proofs.rest.reach_alone.Given as goal
 
 abbrev pub invariant-loop-part : goal.invariant-loop-part
 invariant-loop-part l = record {
