@@ -1,7 +1,7 @@
 use Rattle.dl_product.proofs.Common.{◌≡◌, ◌*◌, get_or, arith, refl, ◌∙◌}
 use Rattle.std.proofs.Math.ListN.{length-set}
 use Rattle.dl_exact.proofs.Writing.{set_done}
-use Rattle.dl_product.proofs.Apart.{all_taken}
+use Rattle.dl_product.proofs.Apart.{all_taken, multiple_inside}
 use Rattle.dl_product.proofs.steps.at_multiples.Goals as goal
 
 pub loop-k-init : goal.loop-k-init
@@ -9,6 +9,11 @@ loop-k-init c = record {
   long = omega (arith, c.in_ok-items.ensures.len, c.in_ok-items.items.ok.0, c.div_ceil.ensures);
   done = λ k b. absurd (omega (arith, b));
 }
+
+pub bounds-xs-k : goal.bounds-xs-k
+bounds-xs-k c =
+    multiple_inside c.args.step _ c.loop-k.k c.requires
+    (omega (arith, c.loop-k-test.true, c.len-k-end.ensures, c.in_ok-items.ensures.len, c.div_ceil.ensures, c.loop-k.invariant.long))
 
 pub loop-k-preserved : goal.loop-k-preserved
 loop-k-preserved c =

@@ -19,3 +19,12 @@ loop-s-preserved c =
     let here : Q s c.combined.result =
     λ n b h k. c.combined.ensures n (omega (arith, b, room)) (same_trans first h) (same_trans second k) in
     set_done Q c.loop-s.out s c.combined.result (omega arith) c.loop-s.invariant here
+
+pub returns : goal.returns
+returns c s b = c.loop-s.invariant s (omega arith)
+
+pub bounds-x-s : goal.bounds-x-s
+bounds-x-s c = omega (arith, c.requires.in_first)
+
+pub bounds-y-s : goal.bounds-y-s
+bounds-y-s c = omega (arith, c.requires.in_second)

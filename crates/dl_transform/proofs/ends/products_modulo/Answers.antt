@@ -14,3 +14,6 @@ product_modulo-requires-clause-first c = word_at c.args.pair.a.lows.now c.requir
 
 pub product_modulo-requires-clause-second : goal.product_modulo-requires-clause-second
 product_modulo-requires-clause-second c = word_at c.args.pair.b.lows.now c.requires.second.low
+
+pub products_of_values-requires-clause-values : goal.products_of_values-requires-clause-values
+products_of_values-requires-clause-values c = rw c.in-Some.is at c.requires.values

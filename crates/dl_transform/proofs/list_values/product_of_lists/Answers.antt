@@ -1,4 +1,4 @@
-use Rattle.dl_transform.proofs.Common.{◌^◌, ◌<◌, arith, refl}
+use Rattle.dl_transform.proofs.Common.{◌^◌, ◌<◌, ◌∙◌, arith, length-take-le, refl}
 use Rattle.dl_transform.proofs.Products.{values_at}
 use Rattle.dl_transform.proofs.Wholes.{table_for}
 use Rattle.dl_transform.proofs.list_values.product_of_lists.Goals as goal
@@ -10,6 +10,26 @@ product_from_values-requires-clause-table c =
 pub product_from_values-requires-2-clause-table : goal.product_from_values-requires-2-clause-table
 product_from_values-requires-2-clause-table c =
     table_for c.requires.first.levels c.requires.setup.second c.requires.setup.in_second c.requires.setup.second_room
+
+pub product_from_values-requires-clause-size : goal.product_from_values-requires-clause-size
+product_from_values-requires-clause-size c =
+    length-take-le _ _ (rw c.as_mut_slice.ensures.value c.in_ok-make_room.ensures.first) ∙ c.cells_of-size.ensures
+
+pub product_from_values-requires-2-clause-size : goal.product_from_values-requires-2-clause-size
+product_from_values-requires-2-clause-size c =
+    length-take-le _ _ (rw c.as_mut_slice-2.ensures.value c.in_ok-make_room.ensures.second) ∙ c.cells_of-size.ensures
+
+pub product_from_values-requires-clause-first_small : goal.product_from_values-requires-clause-first_small
+product_from_values-requires-clause-first_small c = rw c.deref.ensures.value c.requires.first.first.small
+
+pub product_from_values-requires-clause-second_small : goal.product_from_values-requires-clause-second_small
+product_from_values-requires-clause-second_small c = rw c.deref-2.ensures.value c.requires.second.first.small
+
+pub product_from_values-requires-2-clause-first_small : goal.product_from_values-requires-2-clause-first_small
+product_from_values-requires-2-clause-first_small c = rw c.deref-3.ensures.value c.requires.first.second.small
+
+pub product_from_values-requires-2-clause-second_small : goal.product_from_values-requires-2-clause-second_small
+product_from_values-requires-2-clause-second_small c = rw c.deref-4.ensures.value c.requires.second.second.small
 
 pub returns : goal.returns
 returns c s b =
