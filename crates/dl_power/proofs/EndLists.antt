@@ -15,6 +15,14 @@ one_more_item xs ys v i h e many before here k inside = elim (cases_lt k i) [
       ap₂ (λ t n. get_or t n 0) e (sym same) ∙ get_or-append_seam xs v [] 0 ∙ here ∙ ap h at
 ]
 
+-- the items of a list of all that are not 0
+pub every_item : (xs : List ℕ) (i : ℕ) (h : ℕ → ℕ) → length xs ≡ i
+    → ((k : ℕ) → k < i → get_or xs k 0 ≡ h k) → ((k : ℕ) → i ≤ k → h k ≡ 0) → (k : ℕ) → get_or xs k 0 ≡ h k
+every_item xs i h many each none k = elim (cases_lt k i) [
+  | inl inside ↦ each k inside
+  | inr past ↦ get_or-eq_default xs 0 {n = k} (omega (arith, many)) ∙ sym (none k past)
+]
+
 -- a sum of ends by the places of the grids
 pub mixture_end_is : {B : ℕ} (weights : List ℕ) (grids : List (List (Iv B))) (end : List (Iv B) → ℕ)
     → length weights ≡ length grids

@@ -1,5 +1,6 @@
 -- Atoms one after another, with their amounts and their probabilities apart.
 use Rattle.dl_sev.proofs.Common.{ℕ, ◌≡◌, ◌∙◌, ◌+◌, ◌*◌, ◌<◌, ◌≤◌, ◌^◌, List, [], ◌∷◌, ◌++◌, length, map, zip, get_or, take, sum, refl, sym, ap, ap₂, subst, arith, append_assoc, mul-pos, mul-le-mul, length-take-le, take_more, map-append, map_more, append-nil, take_all, sum_by-cons, Fraction, whole, ◌over◌, ◌+ℚ◌, ◌*ℚ◌, over_mul, over_same, sum_over, FitsFrac, Item, Sev, amounts_of, weight_sum, shares, pairs_of, over_fits, over_plus, Weights, sum_of, mixture_of, mixed_probability, weighed, severity_total}
+use Rattle.std.proofs.lemmas.List.{length-map}
 use Rattle.std.proofs.lemmas.List.Sums.{sum_by_more_le}
 use Rattle.dl_exact.proofs.Laws.{zero_plus, plus_assoc, times_plus, times_zero, times_one}
 use Rattle.dl_plan.specs.Severity.{Pairs}
@@ -81,6 +82,11 @@ pub weighed-back : (ps : Pairs) (xs : List ℕ) (whole : Weights) → xs ≡ fir
     → map (λ w. w over whole.total) whole.weights ≡ seconds ps → weighed xs whole ≡ ps
 weighed-back ps xs whole amounts probs =
     zip-over whole.total xs whole.weights ∙ ap₂ (λ ys zs. zip ys zs) amounts probs ∙ zip-apart ps
+
+pub as_many : (ps : Pairs) (xs : List ℕ) (whole : Weights) → xs ≡ firsts ps
+    → map (λ w. w over whole.total) whole.weights ≡ seconds ps → length xs ≡ length whole.weights
+as_many ps xs whole amounts probs =
+    (simp length-map at (ap length amounts)) ∙ sym (simp length-map at (ap length probs))
 
 -- ---- one product
 

@@ -1,8 +1,7 @@
 -- The numbers of a range over one denominator.
-use Rattle.dl_sev.proofs.Common.{ℕ, zero, suc, ◌≡◌, ◌∙◌, ◌+◌, ◌-◌, ◌*◌, ◌/◌, ◌<◌, ◌≤◌, ◌^◌, List, [], ◌∷◌, ◌++◌, length, map, take, Option, Some, None, refl, sym, ap, ap₂, subst, arith, mul-pos, mul-le-mul, length-append, append_assoc, get_or, true, false, nat_eq, All, range_with_len, take_more, append-nil, length-map-range_with_len, ◌∣◌, Fraction, whole, ◌over◌, ◌+ℚ◌, ◌*ℚ◌, ◌<ℚ◌, over_self, over_same, over_mul, le_over, lt_over, FitsFrac, common_pos, den_divides, over_plus, over_fits, numerator_over, steps_in, value_at, list_values}
+use Rattle.dl_sev.proofs.Common.{ℕ, zero, suc, ◌≡◌, ◌∙◌, ◌+◌, ◌-◌, ◌*◌, ◌/◌, ◌<◌, ◌≤◌, ◌^◌, List, [], ◌∷◌, ◌++◌, length, map, take, refl, sym, ap, ap₂, subst, arith, mul-pos, mul-le-mul, length-append, append_assoc, get_or, true, nat_eq, All, range_with_len, take_more, append-nil, length-map-range_with_len, ◌∣◌, Fraction, whole, ◌over◌, ◌+ℚ◌, ◌*ℚ◌, ◌<ℚ◌, over_self, over_same, over_mul, le_over, lt_over, FitsFrac, common_pos, den_divides, over_plus, over_fits, numerator_over, steps_in, value_at, list_values}
 use Rattle.std.proofs.Common.{drop, mul-le-mul_right, le_of_mul-le-mul_right, mul_comm, ◌&&◌}
 use Rattle.std.proofs.Math.Nat.{mul-sub, div-mul-le_self, div-le_self}
-use Rattle.std.specs.Option.{SomeIff, IsSome}
 use Rattle.std.proofs.lemmas.List.{take-append-drop}
 use Rattle.std.proofs.lemmas.List.FromFn.{map-range_with_len_more}
 use Rattle.std.proofs.lemmas.Grind.{flat_map-append}

@@ -1,6 +1,7 @@
 -- The amounts with the weights of the products are the mixture.
-use Rattle.dl_sev.proofs.Common.{◌∙◌, ◌++◌, map, get_or, ap, ◌over◌, amounts_of, probability, mixture_of, mixed_probability, sum_of}
-use Rattle.dl_sev.proofs.Mixed.{amounts-more, probs-more, weighed-back, mixture_whole, mixture_one, firsts, seconds}
+use Rattle.dl_plan.specs.Prelude.{IsFineTo30Bits, common_denominator}
+use Rattle.dl_sev.proofs.Common.{◌∙◌, ◌++◌, map, get_or, ap, subst, sym, ◌over◌, amounts_of, probability, mixture_of, mixed_probability, sum_of}
+use Rattle.dl_sev.proofs.Mixed.{amounts-more, probs-more, weighed-back, as_many, mixture_whole, mixture_one, firsts, seconds}
 use Rattle.dl_sev.proofs.atoms.mix.Goals as goal
 
 pub atoms-preserved : goal.atoms-preserved
@@ -35,3 +36,25 @@ returns-clause-step c = λ x.
     c.in_ok-merge.ensures x
     ∙ ap (λ ps. probability ps x) (weighed-back (mixture_of t c.args.atoms.now c.args.weights.now.weights)
     c.deref-3.result.now c.in_ok-whole.whole amounts probs)
+
+pub returns-in_default-clause-step : goal.returns-in_default-clause-step
+returns-in_default-clause-step c = λ fine.
+    let all = mixture_whole c.args.weights.now.total c.args.atoms.now c.args.weights.now.weights c.atoms.at
+    c.atoms-test.false c.requires.lengths in
+    c.in_default.ensures
+    (subst IsFineTo30Bits (sym (c.deref.ensures.value ∙ c.atoms.invariant.probs ∙ ap seconds all)) fine)
+
+pub returns-clause-fine : goal.returns-clause-fine
+returns-clause-fine c =
+    let all = mixture_whole c.args.weights.now.total c.args.atoms.now c.args.weights.now.weights c.atoms.at
+    c.atoms-test.false c.requires.lengths in
+    subst IsFineTo30Bits (c.deref.ensures.value ∙ c.atoms.invariant.probs ∙ ap seconds all) c.in-Some.ensures.0
+
+pub over_common-requires-clause-common : goal.over_common-requires-clause-common
+over_common-requires-clause-common c =
+    c.in-Some.ensures.1 ∙ ap common_denominator (c.deref.ensures.value ∙ sym c.deref-2.ensures.value)
+
+pub merge-requires-clause-lengths : goal.merge-requires-clause-lengths
+merge-requires-clause-lengths c =
+    as_many _ c.deref-3.result.now c.in_ok-whole.whole (c.deref-3.ensures.value ∙ c.atoms.invariant.amounts)
+    (c.in_ok-whole.ensures.shares ∙ c.deref-2.ensures.value ∙ c.atoms.invariant.probs)

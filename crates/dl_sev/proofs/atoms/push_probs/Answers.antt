@@ -1,5 +1,5 @@
 -- A product of small parts is not refused.
-use Rattle.dl_sev.proofs.Common.{◌∙◌, ◌<◌, List, length, get_or, ap, subst, ◌over◌, Item, given_ok, given_value, mixed_probability, severity_total}
+use Rattle.dl_sev.proofs.Common.{◌∙◌, ◌++◌, ◌<◌, ◌≤◌, arith, List, length, map, get_or, ap, mul-le-mul, subst, take_all, ◌over◌, Item, given_ok, given_value, mixed_probability, mul-pos, severity_total}
 use Rattle.dl_sev.proofs.Mixed.{fits_at, product_is, shares-more}
 use Rattle.dl_sev.proofs.atoms.push_probs.Goals as goal
 
@@ -22,3 +22,15 @@ items-preserved c =
     shares-more (c.args.weight over c.args.total) c.args.atom.now.total c.items.item-index c.args.atom.now.items d
     c.args.probs.now.items c.items.probs.items _ c.unwrap.result below c.items.invariant
     c.in_ok-push.ensures.items value
+
+pub make-requires : goal.make-requires
+make-requires c = mul-pos c.requires.some (severity_total c.args.atom.now)
+
+pub overflow_mul-den : goal.overflow_mul-den
+overflow_mul-den c = omega (arith, mul-le-mul c.requires.within c.args.atom.now.weighted.within)
+
+pub returns : goal.returns
+returns c = c.items.invariant ∙ ap (λ (xs : List Item). c.args.probs.now.items ++ map
+    (mixed_probability (c.args.weight over c.args.total) c.args.atom.now.total) xs)
+    (take_all c.items.item-index c.args.atom.now.items
+    (subst (λ (xs : List Item). length xs ≤ c.items.item-index) c.as_slice-item-items.ensures c.items-test.false))
