@@ -4,8 +4,8 @@ ghost use Rattle.std.specs.Prelude.{◌≤◌, ◌<◌};
 ghost use Rattle.dl_limits.specs.Limits.{most_fine_cells};
 ghost use Rattle.dl_grid.specs.Room.{IsGridSize};
 
-use crate::tests::helpers::{are_same, empty, is_so, part};
-use dl_conv::{Counted, convolve, convolve_plain, halved};
+use crate::tests::helpers::{empty, is_plain, part};
+use dl_conv::{Counted, convolve, halved};
 use dl_grid::{Grid, units_of_one};
 use dl_iv::Iv;
 use std::alloc::{AllocError, Global};
@@ -54,18 +54,16 @@ const AT_56: Sums = Sums {
 
 /// One die on 13 cells, each face enclosed on its own.
 #[tactic(auto, using(dl_grid::proofs::Sizes::few_at_each_scale))]
-fn die<const B: u32>(alloc: Global) -> Result<Option<Grid<B>>, AllocError>
+fn die<const B: u32>(alloc: Global) -> Option<Grid<B>>
     requires scale_above { 1 ≤ B }
     requires scale_below { B ≤ 56 }
 {
-    let Some(mut g) = empty::<B>(alloc, 13)? else {
-        return Ok(None);
-    };
+    let mut g = empty::<B>(alloc, 13)?;
     let mut good = true;
     for face in 1..7 {
         good = g.try_set(face, part(6)) && good;
     }
-    Ok(if good { Some(g) } else { None })
+    if good { Some(g) } else { None }
 }
 
 /// Whether a cell of a grid has the ends that were worked out.
@@ -89,45 +87,40 @@ fn has_sums<const B: u32>(both: &Grid<B>, want: &Sums) -> bool {
 }
 
 /// Whether two throws of this die, on the first `cells` cells, have the ends that were worked out.
-fn twice_agrees<const B: u32>(
-    alloc: Global,
-    g: &Grid<B>,
-    cells: u32,
-    want: &Sums,
-) -> Result<bool, AllocError> {
+fn twice_agrees<const B: u32>(alloc: Global, g: &Grid<B>, cells: u32, want: &Sums) -> bool {
     if cells == 0 || cells > g.cells() {
-        return Ok(false);
+        return false;
     }
-    let both = convolve(alloc, g, g, cells)?;
+    let Ok(both) = convolve(alloc, g, g, cells) else {
+        return false;
+    };
     let same = both.cells() == cells && has_sums(&both, want);
-    Ok(same && (cells < 13 || both.spread() == want.spread))
+    same && (cells < 13 || both.spread() == want.spread)
 }
 
 /// Whether two dice, on the first `cells` cells, have them.
-fn agrees<const B: u32>(alloc: Global, cells: u32, want: &Sums) -> Result<bool, AllocError>
+fn agrees<const B: u32>(alloc: Global, cells: u32, want: &Sums) -> bool
     requires scale_above { 1 ≤ B }
     requires scale_below { B ≤ 56 }
 {
-    match die::<B>(alloc)? {
+    match die::<B>(alloc) {
         Some(g) => twice_agrees(alloc, &g, cells, want),
-        None => Ok(false),
+        None => false,
     }
 }
 
 /// Whether they do at three scales.
-fn agree(alloc: Global, cells: u32) -> Result<bool, AllocError> {
-    Ok(
-        agrees::<1>(alloc, cells, &AT_1)?
-            && agrees::<48>(alloc, cells, &AT_48)?
-            && agrees::<56>(alloc, cells, &AT_56)?,
-    )
+fn agree(alloc: Global, cells: u32) -> bool {
+    agrees::<1>(alloc, cells, &AT_1)
+        && agrees::<48>(alloc, cells, &AT_48)
+        && agrees::<56>(alloc, cells, &AT_56)
 }
 
 #[test]
 fn two_dice(rt: HostRuntime) {
     // on fewer cells what lies past them is left out, and the others are the same
-    for cells in [1, 7, 12, 13] {
-        assert!(rt; is_so(agree(rt.alloc(), cells)), "{cells} cells");
+    for cells in &[1, 7, 12, 13] {
+        assert!(rt; agree(rt.alloc(), *cells), "{cells} cells");
     }
 }
 
@@ -140,92 +133,67 @@ fn draw(x: &mut u32, most: u32) -> u32
     (*x / 65536) % most
 }
 
-/// A grid whose low ends are drawn, with high ends above them by less than as much.
-fn drawn<const B: u32>(
-    alloc: Global,
-    x: &mut u32,
-    cells: u32,
-) -> Result<Option<Grid<B>>, AllocError>
+/// Ends for a cell of so many: a low one is drawn, and a high one above it by less than as much.
+fn drawn_ends<const B: u32>(x: &mut u32, cells: u32) -> Iv<B>
     requires { IsGridSize B cells }
 {
-    let Some(mut g) = empty::<B>(alloc, cells)? else {
-        return Ok(None);
-    };
     let one = units_of_one(B);
     let part = one / (65536 * u128::from(cells));
-    for s in 0..cells {
-        let low = u128::from(draw(x, 65536)) * part;
-        let high = low.saturating_add(u128::from(draw(x, 65536)) * part);
-        if low > one
-            || !g.try_set(
-                s,
-                Iv {
-                    lo: low,
-                    hi: one.min(high),
-                },
-            )
-        {
-            return Ok(None);
-        }
+    let low = u128::from(draw(x, 65536)) * part;
+    let high = one.min(low.saturating_add(u128::from(draw(x, 65536)) * part));
+    Iv {
+        lo: low.min(high),
+        hi: high,
     }
-    Ok(Some(g))
+}
+
+/// A grid with drawn ends in each cell.
+fn drawn<const B: u32>(alloc: Global, x: &mut u32, cells: u32) -> Option<Grid<B>>
+    requires { IsGridSize B cells }
+{
+    let mut g = empty::<B>(alloc, cells)?;
+    let mut good = true;
+    for s in 0..cells {
+        good = g.try_set(s, drawn_ends(x, cells)) && good;
+    }
+    if good { Some(g) } else { None }
 }
 
 /// Whether the product by halves and the plain product of two grids are the same, cell for cell.
-fn products_agree<const B: u32>(
-    alloc: Global,
-    a: &Grid<B>,
-    b: &Grid<B>,
-    cells: u32,
-) -> Result<bool, AllocError>
+fn products_agree<const B: u32>(alloc: Global, a: &Grid<B>, b: &Grid<B>, cells: u32) -> bool
     requires some { 1 ≤ cells }
 {
-    if cells > a.cells() || cells > b.cells() {
-        return Ok(false);
-    }
-    let halves = convolve(alloc, a, b, cells)?;
-    let plain = convolve_plain(alloc, a, b, cells)?;
-    Ok(are_same(&halves, &plain))
+    cells <= a.cells()
+        && cells <= b.cells()
+        && is_plain(alloc, convolve(alloc, a, b, cells), a, b, cells)
 }
 
-/// Whether there are two grids, and these products of them are the same.
-fn are_alike<const B: u32>(
-    alloc: Global,
-    a: &Option<Grid<B>>,
-    b: &Option<Grid<B>>,
-    cells: u32,
-) -> Result<bool, AllocError>
-    requires some { 1 ≤ cells }
-{
-    match (a, b) {
-        (Some(a), Some(b)) => products_agree(alloc, a, b, cells),
-        _ => Ok(false),
-    }
-}
-
-/// Whether they are for two drawn grids.
-fn both_forms<const B: u32>(alloc: Global, start: u32, cells: u32) -> Result<bool, AllocError>
+/// Whether there are two drawn grids, and these products of them are the same.
+fn both_forms<const B: u32>(alloc: Global, start: u32, cells: u32) -> bool
     requires { IsGridSize B cells }
 {
     let mut x = start;
-    let a = drawn::<B>(alloc, &mut x, cells)?;
-    let b = drawn::<B>(alloc, &mut x, cells)?;
-    are_alike(alloc, &a, &b, cells)
+    let a = drawn::<B>(alloc, &mut x, cells);
+    let b = drawn::<B>(alloc, &mut x, cells);
+    match (&a, &b) {
+        (Some(a), Some(b)) => products_agree(alloc, a, b, cells),
+        _ => false,
+    }
 }
 
 /// Whether they are at two scales.
 #[tactic(auto, unfolding(dl_limits::specs::Limits::most_cells_at))]
-fn both_forms_at(alloc: Global, cells: u32) -> Result<bool, AllocError>
+fn both_forms_at(alloc: Global, cells: u32) -> bool
     requires some { 1 ≤ cells }
     requires few { cells ≤ most_fine_cells }
 {
-    Ok(both_forms::<48>(alloc, cells, cells)? && both_forms::<56>(alloc, cells, cells)?)
+    both_forms::<48>(alloc, cells, cells) && both_forms::<56>(alloc, cells, cells)
 }
 
 #[test]
 fn both_forms_agree(rt: HostRuntime) {
     for cells in [1, 63, 64, 65, 100, 1000, 4096] {
-        assert!(rt; is_so(both_forms_at(rt.alloc(), cells)), "{cells} cells");
+        assert!(rt; both_forms_at(rt.alloc(), cells), "{cells} cells");
     }
 }
 
@@ -248,12 +216,22 @@ fn counted_square(alloc: Global) -> Result<(u64, Vec<u128>), AllocError> {
     Ok((ring.count(), out))
 }
 
+/// Items of the square: the products of i and s - i add up to (s - 1) * s * (s + 1) / 6.
+const SQUARE: [(usize, u128); 5] = [(0, 0), (1, 0), (2, 1), (100, 166_650), (1023, 178_433_024)];
+
+/// The number of the first item of the square that is not as listed, if there is one.
+fn first_wrong(square: &[u128]) -> Option<usize> {
+    for (s, sum) in &SQUARE {
+        if square.get(*s) != Some(sum) {
+            return Some(*s);
+        }
+    }
+    None
+}
+
 #[test]
 fn products_are_few(rt: HostRuntime) {
     let (count, square) = counted_square(rt.alloc()).expect(&rt, "memory");
     assert!(rt; count <= 248_832, "{count} products");
-    // the products of i and s - i add up to (s - 1) * s * (s + 1) / 6
-    for (s, sum) in [(0, 0), (1, 0), (2, 1), (100, 166_650), (1023, 178_433_024)] {
-        assert_eq!(rt; square.get(s), Some(&sum), "item {s}");
-    }
+    assert_eq!(rt; first_wrong(&square), None);
 }

@@ -34,26 +34,33 @@ fn holds(ends: Option<(u128, u128)>, units: u128) -> bool {
     }
 }
 
+/// A fraction, and how many whole units are in the exponential of minus it, at the scales 1, 48 and
+/// 56.
+type Value = (u64, u64, [u128; 3]);
+
+const VALUES: [Value; 6] = [
+    (0, 1, [2, 1 << 48, 1 << 56]),
+    (1, 2, [1, 170723203316912, 43705140049129551]),
+    (1, 3, [1, 201685633956213, 51631522292790566]),
+    (1, 10, [1, 254689091168601, 65200407339162068]),
+    (1, 1 << 40, [1, 281474976710400, 72057594037862400]),
+    (
+        (1 << 61) - 1,
+        (1 << 62) - 1,
+        [1, 170723203316912, 43705140049129551],
+    ),
+];
+
+fn is_value(row: &Value) -> bool {
+    holds(enclosed::<1>(row.0, row.1), row.2[0])
+        && holds(enclosed::<48>(row.0, row.1), row.2[1])
+        && holds(enclosed::<56>(row.0, row.1), row.2[2])
+}
+
 #[test]
 fn values(rt: HostRuntime) {
-    // fractions, and how many whole units are in the exponential of minus each, at the scales 1, 48
-    // and 56
-    let table: [(u64, u64, [u128; 3]); 6] = [
-        (0, 1, [2, 1 << 48, 1 << 56]),
-        (1, 2, [1, 170723203316912, 43705140049129551]),
-        (1, 3, [1, 201685633956213, 51631522292790566]),
-        (1, 10, [1, 254689091168601, 65200407339162068]),
-        (1, 1 << 40, [1, 281474976710400, 72057594037862400]),
-        (
-            (1 << 61) - 1,
-            (1 << 62) - 1,
-            [1, 170723203316912, 43705140049129551],
-        ),
-    ];
-    for (num, den, units) in table {
-        assert!(rt; holds(enclosed::<1>(num, den), units[0]));
-        assert!(rt; holds(enclosed::<48>(num, den), units[1]));
-        assert!(rt; holds(enclosed::<56>(num, den), units[2]));
+    for row in &VALUES {
+        assert!(rt; is_value(row), "{} / {}", row.0, row.1);
     }
 }
 
@@ -73,9 +80,13 @@ const ENDS: [(u64, u64, u128, u128); 6] = [
     ),
 ];
 
+fn has_ends(row: &(u64, u64, u128, u128)) -> bool {
+    enclosed::<56>(row.0, row.1) == Some((row.2, row.3))
+}
+
 #[test]
 fn ends_by_18_terms(rt: HostRuntime) {
-    for (num, den, low, high) in &ENDS {
-        assert_eq!(rt; enclosed::<56>(*num, *den), Some((*low, *high)));
+    for row in &ENDS {
+        assert!(rt; has_ends(row), "{} / {}", row.0, row.1);
     }
 }

@@ -1,6 +1,6 @@
 //! Values worked outside the program, by exact fractions.
 
-use dl_frac::{BadNumeral, Frac, TooFine, is_numeral, lcm_to, numeral, small_divisor};
+use dl_frac::{Frac, is_numeral, lcm_to, numeral, small_divisor};
 use std::cmp::Ordering;
 
 const TOP: u64 = (1 << 62) - 1;
@@ -16,15 +16,8 @@ fn of(parts: Parts) -> Option<Frac> {
     Frac::make(parts.0 as u128, parts.1 as u128).ok()
 }
 
-fn made_of(num: u128, den: u128) -> Option<Parts> {
-    if den == 0 {
-        return None;
-    }
-    shown(Frac::make(num, den))
-}
-
-fn shown(answer: Result<Frac, TooFine>) -> Option<Parts> {
-    let value = answer.ok()?;
+fn shown(value: Option<Frac>) -> Option<Parts> {
+    let value = value?;
     Some((value.num(), value.den()))
 }
 
@@ -32,24 +25,17 @@ fn quotient(x: Frac, y: Frac) -> Option<Parts> {
     if y.num() == 0 {
         return None;
     }
-    shown(x.div(y))
+    shown(x.div(y).ok())
 }
 
 fn answers(first: Parts, second: Parts) -> Option<(Option<Parts>, Option<Parts>, Option<Parts>)> {
     let (x, y) = (of(first)?, of(second)?);
-    Some((shown(x.add(y)), shown(x.mul(y)), quotient(x, y)))
+    Some((shown(x.add(y).ok()), shown(x.mul(y).ok()), quotient(x, y)))
 }
 
 fn ordered(first: Parts, second: Parts) -> Option<(Ordering, bool)> {
     let (x, y) = (of(first)?, of(second)?);
     Some((x.compare(y), x == y))
-}
-
-fn multiple_of(x: u64, y: u64, limit: u64) -> Option<u64> {
-    if x == 0 || y == 0 {
-        return None;
-    }
-    lcm_to(x, y, limit)
 }
 
 /// Where the text is a numeral, its value, if that is not bad.
@@ -58,14 +44,9 @@ fn read(text: &[u8], limit: u32) -> Option<Option<Parts>> {
         return None;
     }
     if is_numeral(text) {
-        return Some(value_of(numeral(text, limit)));
+        return Some(shown(numeral(text, limit).ok()));
     }
     None
-}
-
-fn value_of(answer: Result<Frac, BadNumeral>) -> Option<Parts> {
-    let value = answer.ok()?;
-    Some((value.num(), value.den()))
 }
 
 /// Two fractions; their sum, product and quotient where they fit; their order.
@@ -174,18 +155,25 @@ fn near_the_top(rt: HostRuntime) {
     }
 }
 
+/// Two parts, and the fraction of them in lowest terms where it fits.
+type Made = (u128, u128, Option<Parts>);
+
+const MADE: [Made; 5] = [
+    (1 << 100, 1 << 99, Some((2, 1))),
+    (1 << 62, 2, Some((HALF, 1))),
+    (1 << 127, 3 << 126, Some((2, 3))),
+    (1 << 62, 1, None),
+    (1, 1 << 62, None),
+];
+
+fn is_made(row: &Made) -> bool {
+    row.1 != 0 && shown(Frac::make(row.0, row.1).ok()) == row.2
+}
+
 #[test]
 fn made(rt: HostRuntime) {
-    // two parts, and the fraction of them in lowest terms where it fits
-    let table = [
-        (1 << 100, 1 << 99, Some((2, 1))),
-        (1 << 62, 2, Some((HALF, 1))),
-        (1 << 127, 3 << 126, Some((2, 3))),
-        (1 << 62, 1, None),
-        (1, 1 << 62, None),
-    ];
-    for (num, den, value) in table {
-        assert_eq!(rt; made_of(num, den), value);
+    for row in &MADE {
+        assert!(rt; is_made(row), "{} / {}", row.0, row.1);
     }
 }
 
@@ -219,32 +207,45 @@ fn scaled(rt: HostRuntime) {
     }
 }
 
+/// Two numbers, and their greatest common divisor.
+const DIVISORS: [(u32, u32, u32); 5] = [
+    (12, 18, 6),
+    (7, 0, 7),
+    (0, 7, 7),
+    (0, 0, 0),
+    (u32::MAX, 65_537, 65_537),
+];
+
 #[test]
 fn divisors(rt: HostRuntime) {
-    // two numbers, and their greatest common divisor
-    let table = [
-        (12, 18, 6),
-        (7, 0, 7),
-        (0, 7, 7),
-        (0, 0, 0),
-        (u32::MAX, 65_537, 65_537),
-    ];
-    for (x, y, divisor) in table {
-        assert_eq!(rt; small_divisor(x, y), divisor);
+    for row in &DIVISORS {
+        assert!(rt;
+            small_divisor(row.0, row.1) == row.2,
+            "{}, {}",
+            row.0,
+            row.1
+        );
     }
+}
+
+/// Two numbers, a limit, and their least common multiple where it is within the limit.
+type Multiple = (u64, u64, u64, Option<u64>);
+
+const MULTIPLES: [Multiple; 4] = [
+    (4, 6, 12, Some(12)),
+    (4, 6, 11, None),
+    (1 << 63, 1 << 62, 1 << 63, Some(1 << 63)),
+    (u64::MAX, u64::MAX - 1, u64::MAX, None),
+];
+
+fn is_multiple(row: &Multiple) -> bool {
+    row.0 != 0 && row.1 != 0 && lcm_to(row.0, row.1, row.2) == row.3
 }
 
 #[test]
 fn multiples(rt: HostRuntime) {
-    // two numbers, a limit, and their least common multiple where it is within the limit
-    let table = [
-        (4, 6, 12, Some(12)),
-        (4, 6, 11, None),
-        (1 << 63, 1 << 62, 1 << 63, Some(1 << 63)),
-        (u64::MAX, u64::MAX - 1, u64::MAX, None),
-    ];
-    for (x, y, limit, multiple) in table {
-        assert_eq!(rt; multiple_of(x, y, limit), multiple);
+    for row in &MULTIPLES {
+        assert!(rt; is_multiple(row), "limit {}", row.2);
     }
 }
 
@@ -284,11 +285,13 @@ fn numerals(rt: HostRuntime) {
     }
 }
 
+const NO_NUMERALS: [&str; 12] = [
+    "", ".", "%", "1.2.3", "1/", "/2", "1/2%", "1.5/2", "-1", "1e3", "5%%", "1 ",
+];
+
 #[test]
 fn no_numerals(rt: HostRuntime) {
-    for text in [
-        "", ".", "%", "1.2.3", "1/", "/2", "1/2%", "1.5/2", "-1", "1e3", "5%%", "1 ",
-    ] {
+    for text in &NO_NUMERALS {
         assert!(rt; !is_numeral(text.as_bytes()), "{text}");
     }
 }

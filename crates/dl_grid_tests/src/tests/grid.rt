@@ -2,7 +2,7 @@
 
 ghost use Rattle.std.specs.Prelude.{◌≤◌, ◌<◌, ◌^◌};
 
-use crate::tests::helpers::{is_so, most_cells};
+use crate::tests::helpers::most_cells;
 use dl_grid::{Grid, units_of_one};
 use dl_iv::Iv;
 use std::alloc::{AllocError, Global};
@@ -29,7 +29,7 @@ struct Figures {
 
 /// A grid that begins as zero on `cells` cells, is written to twice, and is cut to as many cells as
 /// are wanted.
-#[derive(Clone, Copy)]
+#[derive(Drop)]
 struct Case {
     cells: u32,
     writes: [Write; 2],
@@ -127,33 +127,29 @@ fn cut<const B: u32>(alloc: Global, g: &Grid<B>, cells: u32) -> Result<Option<Fi
     Ok(figures_of(&copy))
 }
 
-fn answer<const B: u32>(alloc: Global, case: &Case) -> Result<Option<Figures>, AllocError>
+/// Whether a case gives what is wanted.
+fn has_figures<const B: u32>(alloc: Global, case: &Case) -> bool
     requires scale_above { 1 ≤ B }
     requires scale_below { B ≤ 56 }
 {
     if case.cells == 0 || case.cells > most_cells(B) {
-        return Ok(None);
+        return false;
     }
-    let mut g = Grid::<B>::zero(alloc, case.cells)?;
+    let Ok(mut g) = Grid::<B>::zero(alloc, case.cells) else {
+        return false;
+    };
     let mut good = true;
-    for write in case.writes {
-        good = apply(&mut g, write) && good;
+    for write in &case.writes {
+        good = apply(&mut g, *write) && good;
     }
-    if good {
-        cut(alloc, &g, case.want.cells)
-    } else {
-        Ok(None)
-    }
+    good && cut(alloc, &g, case.want.cells) == Ok(Some(case.want))
 }
 
-/// Whether a case gives what is wanted, at three scales.
-fn has_figures(alloc: Global, case: &Case) -> Result<bool, AllocError> {
-    let want = Some(case.want);
-    Ok(
-        answer::<1>(alloc, case)? == want
-            && answer::<48>(alloc, case)? == want
-            && answer::<56>(alloc, case)? == want,
-    )
+/// Whether it does at three scales.
+fn have_figures(alloc: Global, case: &Case) -> bool {
+    has_figures::<1>(alloc, case)
+        && has_figures::<48>(alloc, case)
+        && has_figures::<56>(alloc, case)
 }
 
 #[test]
@@ -174,11 +170,7 @@ fn grids_tell(rt: HostRuntime) {
         },
     ];
     for case in &cases {
-        assert!(rt;
-            is_so(has_figures(rt.alloc(), case)),
-            "{} cells",
-            case.cells
-        );
+        assert!(rt; have_figures(rt.alloc(), case), "{} cells", case.cells);
     }
 }
 
@@ -193,19 +185,18 @@ fn longest(cells: u32) -> Case {
 }
 
 /// Whether a grid at this scale has at most so many cells, with what is read off it.
-fn is_longest<const B: u32>(alloc: Global, cells: u32) -> Result<bool, AllocError>
+fn is_longest<const B: u32>(alloc: Global, cells: u32) -> bool
     requires scale_above { 1 ≤ B }
     requires scale_below { B ≤ 56 }
 {
-    let case = longest(cells);
-    Ok(most_cells(B) == cells && answer::<B>(alloc, &case)? == Some(case.want))
+    most_cells(B) == cells && has_figures::<B>(alloc, &longest(cells))
 }
 
 #[test]
 fn longest_grids_tell(rt: HostRuntime) {
     let alloc = rt.alloc();
-    assert!(rt; is_so(is_longest::<1>(alloc, 65536)));
-    assert!(rt; is_so(is_longest::<48>(alloc, 65536)));
-    assert!(rt; is_so(is_longest::<49>(alloc, 16384)));
-    assert!(rt; is_so(is_longest::<56>(alloc, 16384)));
+    assert!(rt; is_longest::<1>(alloc, 65536));
+    assert!(rt; is_longest::<48>(alloc, 65536));
+    assert!(rt; is_longest::<49>(alloc, 16384));
+    assert!(rt; is_longest::<56>(alloc, 16384));
 }

@@ -1,9 +1,10 @@
 //! What several of the tests use.
 
-ghost use Rattle.std.specs.Prelude.{◌≡◌, ◌≤◌, ◌<◌};
+ghost use Rattle.std.specs.Prelude.{◌≡◌, ◌≤◌, ◌<◌, length};
 ghost use Rattle.dl_limits.specs.Limits.{most_cells_at};
 ghost use Rattle.dl_grid.specs.Room.{IsGridSize};
 
+use dl_conv::convolve_plain;
 use dl_grid::{Grid, units_of_one};
 use dl_iv::Iv;
 use dl_limits::{LONG_BITS, MOST_CELLS, MOST_FINE_CELLS};
@@ -21,16 +22,16 @@ pub(crate) fn most_cells(bits: u32) -> u32
     }
 }
 
-/// A grid with nothing in any of its cells.
-pub(crate) fn empty<const B: u32>(alloc: Global, cells: u32) -> Result<Option<Grid<B>>, AllocError>
+/// A grid with nothing in any of its cells, where there is memory.
+pub(crate) fn empty<const B: u32>(alloc: Global, cells: u32) -> Option<Grid<B>>
     requires { IsGridSize B cells }
 {
-    let mut g = Grid::<B>::zero(alloc, cells)?;
-    Ok(if g.try_set(0, Iv { lo: 0, hi: 0 }) {
+    let mut g = Grid::<B>::zero(alloc, cells).ok()?;
+    if g.try_set(0, Iv { lo: 0, hi: 0 }) {
         Some(g)
     } else {
         None
-    })
+    }
 }
 
 /// One of so many equal parts of 1, rounded down and up.
@@ -52,6 +53,24 @@ pub(crate) fn is_so(answer: Result<bool, AllocError>) -> bool {
 }
 
 /// Whether two grids have the same ends in all cells.
-pub(crate) fn are_same<const B: u32>(a: &Grid<B>, b: &Grid<B>) -> bool {
+fn are_same<const B: u32>(a: &Grid<B>, b: &Grid<B>) -> bool {
     a.lows() == b.lows() && a.highs() == b.highs()
+}
+
+/// Whether a product of two grids was found, and has the cells of the plain convolution.
+pub(crate) fn is_plain<const B: u32>(
+    alloc: Global,
+    found: Result<Grid<B>, AllocError>,
+    a: &Grid<B>,
+    b: &Grid<B>,
+    cells: u32,
+) -> bool
+    requires some { 1 ≤ cells }
+    requires in_first { cells ≤ length a.now }
+    requires in_second { cells ≤ length b.now }
+{
+    match (&found, &convolve_plain(alloc, a, b, cells)) {
+        (Ok(found), Ok(wanted)) => are_same(found, wanted),
+        _ => false,
+    }
 }

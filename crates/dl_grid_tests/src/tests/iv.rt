@@ -22,7 +22,6 @@ enum Call {
 }
 
 /// A call, the ends of its two intervals, and its results at the scales 1, 48 and 56.
-#[derive(Clone, Copy)]
 struct Case {
     call: Call,
     first: (u64, u64),

@@ -1,16 +1,16 @@
 //! Products of grids, all ways beside the plain convolution.
 
-ghost use Rattle.std.specs.Prelude.{◌≤◌};
+ghost use Rattle.std.specs.Prelude.{◌≡◌, ◌≤◌};
 
-use crate::tests::helpers::{are_same, empty, is_so, most_cells, part};
-use dl_conv::convolve_plain;
+use crate::tests::helpers::{empty, is_plain, most_cells, part};
+use Ends::{Between, Part, Sure, Unknown, Zero};
 use dl_grid::{Grid, units_of_one};
 use dl_iv::Iv;
 use dl_product::{Factor, Workspace, product, product_of, square};
 use std::alloc::{AllocError, Global};
 
 /// The ends of a cell, as parts of 1.
-#[derive(Clone, Copy, PartialEq, Eq)]
+#[derive(Clone, Copy)]
 enum Ends {
     /// Both 0.
     Zero,
@@ -24,22 +24,12 @@ enum Ends {
     Sure,
 }
 
-/// A grid with the same ends at every `step`-th of `count` cells from `start` on, and 0 elsewhere.
-#[derive(Clone, Copy, PartialEq, Eq)]
-struct Shape {
-    ends: Ends,
-    start: u32,
-    count: u32,
-    step: u32,
-}
+/// A grid with the same ends at every step-th of so many cells from a start on, and 0 elsewhere: the
+/// step, the ends, the start, and how many cells.
+type Shape = (u32, Ends, u32, u32);
 
 /// Two grids on so many cells.
-#[derive(Clone, Copy)]
-struct Case {
-    cells: u32,
-    first: Shape,
-    second: Shape,
-}
+type Case = (u32, Shape, Shape);
 
 /// From one of twice so many equal parts to one of so many.
 fn between<const B: u32>(parts: u32) -> Iv<B>
@@ -62,58 +52,41 @@ fn interval<const B: u32>(ends: Ends) -> Iv<B>
 {
     let one = units_of_one(B);
     match ends {
-        Ends::Zero => Iv { lo: 0, hi: 0 },
-        Ends::Part(0) => Iv { lo: 0, hi: one },
-        Ends::Part(parts) => part(parts),
-        Ends::Between(parts) => between(parts),
-        Ends::Unknown => Iv { lo: 0, hi: one },
-        Ends::Sure => Iv { lo: one, hi: one },
+        Zero => Iv { lo: 0, hi: 0 },
+        Part(0) => Iv { lo: 0, hi: one },
+        Part(parts) => part(parts),
+        Between(parts) => between(parts),
+        Unknown => Iv { lo: 0, hi: one },
+        Sure => Iv { lo: one, hi: one },
     }
 }
 
-fn shaped<const B: u32>(
-    alloc: Global,
-    cells: u32,
-    shape: Shape,
-) -> Result<Option<Grid<B>>, AllocError>
+fn shaped<const B: u32>(alloc: Global, cells: u32, shape: Shape) -> Option<Grid<B>>
     requires scale_above { 1 ≤ B }
     requires scale_below { B ≤ 56 }
 {
-    if cells == 0
-        || cells > most_cells(B)
-        || shape.start > cells
-        || shape.count > cells - shape.start
-        || shape.step == 0
-    {
-        return Ok(None);
+    let (step, ends, start, count) = shape;
+    if cells == 0 || cells > most_cells(B) || start > cells || count > cells - start || step == 0 {
+        return None;
     }
-    let Some(mut g) = empty::<B>(alloc, cells)? else {
-        return Ok(None);
-    };
+    let mut g = empty::<B>(alloc, cells)?;
     let mut good = true;
-    for x in shape.start..shape.start + shape.count {
-        if (x - shape.start) % shape.step == 0 {
-            good = g.try_set(x, interval(shape.ends)) && good;
+    for x in start..start + count {
+        if (x - start) % step == 0 {
+            good = g.try_set(x, interval(ends)) && good;
         }
     }
-    Ok(if good { Some(g) } else { None })
+    if good { Some(g) } else { None }
 }
 
 /// The two grids of a case, where it is one.
-fn grids_of<const B: u32>(
-    alloc: Global,
-    case: &Case,
-) -> Result<Option<(Grid<B>, Grid<B>)>, AllocError>
+fn grids_of<const B: u32>(alloc: Global, case: &Case) -> Option<(Grid<B>, Grid<B>)>
     requires scale_above { 1 ≤ B }
     requires scale_below { B ≤ 56 }
 {
-    let Some(a) = shaped::<B>(alloc, case.cells, case.first)? else {
-        return Ok(None);
-    };
-    let Some(b) = shaped::<B>(alloc, case.cells, case.second)? else {
-        return Ok(None);
-    };
-    Ok(Some((a, b)))
+    let a = shaped::<B>(alloc, case.0, case.1)?;
+    let b = shaped::<B>(alloc, case.0, case.2)?;
+    Some((a, b))
 }
 
 /// Whether the product has the cells of the plain convolution, and so has the square of the first
@@ -124,136 +97,60 @@ fn both_agree<const B: u32>(
     a: &Grid<B>,
     b: &Grid<B>,
     cells: u32,
-) -> Result<bool, AllocError> {
+) -> bool {
     if cells == 0 || cells > a.cells() || cells > b.cells() {
-        return Ok(false);
+        return false;
     }
-    let found = product(alloc, work, a, b, cells)?;
-    let wanted = convolve_plain(alloc, a, b, cells)?;
-    let squared = square(alloc, work, a, cells)?;
-    let wanted_square = convolve_plain(alloc, a, a, cells)?;
-    Ok(are_same(&found, &wanted) && are_same(&squared, &wanted_square))
+    is_plain(alloc, product(alloc, work, a, b, cells), a, b, cells)
+        && is_plain(alloc, square(alloc, work, a, cells), a, a, cells)
 }
 
 /// Whether the grids of a case are so.
-fn agrees<const B: u32>(
-    alloc: Global,
-    work: &mut Workspace,
-    case: &Case,
-) -> Result<bool, AllocError>
+fn agrees<const B: u32>(alloc: Global, work: &mut Workspace, case: &Case) -> bool
     requires scale_above { 1 ≤ B }
     requires scale_below { B ≤ 56 }
 {
-    match grids_of::<B>(alloc, case)? {
-        Some((a, b)) => both_agree(alloc, work, &a, &b, case.cells),
-        None => Ok(false),
+    match grids_of::<B>(alloc, case) {
+        Some((a, b)) => both_agree(alloc, work, &a, &b, case.0),
+        None => false,
     }
 }
 
-fn alike(ends: Ends, start: u32, count: u32) -> Shape {
-    apart(1, ends, start, count)
-}
-
-fn apart(step: u32, ends: Ends, start: u32, count: u32) -> Shape {
-    Shape {
-        ends,
-        start,
-        count,
-        step,
-    }
-}
-
-fn pair(cells: u32, first: Shape, second: Shape) -> Case {
-    Case {
-        cells,
-        first,
-        second,
-    }
-}
+const CASES: [Case; 19] = [
+    (1, (1, Sure, 0, 1), (1, Part(3), 0, 1)),
+    (1, (1, Zero, 0, 1), (1, Unknown, 0, 1)),
+    // both lists short of the grid, the product within it, at its end, and past it
+    (40, (1, Part(7), 3, 7), (1, Part(9), 5, 9)),
+    (20, (1, Part(7), 3, 7), (1, Part(9), 5, 9)),
+    (16, (1, Part(2), 8, 2), (1, Part(8), 8, 8)),
+    // a shift, and nothing at all
+    (50, (1, Sure, 13, 1), (1, Part(20), 9, 20)),
+    (50, (1, Sure, 0, 1), (1, Sure, 49, 1)),
+    (50, (1, Zero, 0, 50), (1, Part(50), 0, 50)),
+    // by transforms: whole lists, one after another in the same room, and a long and a short one
+    (700, (1, Part(700), 0, 700), (1, Part(650), 50, 650)),
+    (650, (1, Unknown, 0, 650), (1, Part(640), 0, 640)),
+    (1500, (1, Part(700), 1, 700), (1, Part(400), 5, 400)),
+    // items a common step apart: both, one of them, no multiple of the other's step, by transforms,
+    // and past the grid
+    (40, (3, Part(7), 2, 19), (3, Part(4), 5, 10)),
+    (40, (3, Part(7), 2, 19), (1, Part(4), 5, 4)),
+    (40, (6, Part(7), 0, 37), (4, Part(9), 1, 33)),
+    (40, (6, Part(7), 0, 37), (1, Sure, 5, 1)),
+    (700, (1, Part(700), 0, 700), (5, Part(140), 2, 698)),
+    (1401, (2, Part(700), 0, 1399), (2, Part(650), 1, 1299)),
+    (50, (7, Part(8), 0, 50), (7, Part(7), 1, 43)),
+    // too large for transforms
+    (2100, (1, Unknown, 0, 2100), (1, Unknown, 0, 2100)),
+];
 
 #[test]
 fn all_ways_give_the_same_cells(rt: HostRuntime) {
-    let cases = [
-        pair(1, alike(Ends::Sure, 0, 1), alike(Ends::Part(3), 0, 1)),
-        pair(1, alike(Ends::Zero, 0, 1), alike(Ends::Unknown, 0, 1)),
-        // both lists short of the grid, the product within it, at its end, and past it
-        pair(40, alike(Ends::Part(7), 3, 7), alike(Ends::Part(9), 5, 9)),
-        pair(20, alike(Ends::Part(7), 3, 7), alike(Ends::Part(9), 5, 9)),
-        pair(16, alike(Ends::Part(2), 8, 2), alike(Ends::Part(8), 8, 8)),
-        // a shift, and nothing at all
-        pair(50, alike(Ends::Sure, 13, 1), alike(Ends::Part(20), 9, 20)),
-        pair(50, alike(Ends::Sure, 0, 1), alike(Ends::Sure, 49, 1)),
-        pair(50, alike(Ends::Zero, 0, 50), alike(Ends::Part(50), 0, 50)),
-        // by transforms: whole lists, one after another in the same room, and a long and a short
-        // one
-        pair(
-            700,
-            alike(Ends::Part(700), 0, 700),
-            alike(Ends::Part(650), 50, 650),
-        ),
-        pair(
-            650,
-            alike(Ends::Unknown, 0, 650),
-            alike(Ends::Part(640), 0, 640),
-        ),
-        pair(
-            1500,
-            alike(Ends::Part(700), 1, 700),
-            alike(Ends::Part(400), 5, 400),
-        ),
-        // items a common step apart: both, one of them, no multiple of the other's step, by
-        // transforms, and past the grid
-        pair(
-            40,
-            apart(3, Ends::Part(7), 2, 19),
-            apart(3, Ends::Part(4), 5, 10),
-        ),
-        pair(
-            40,
-            apart(3, Ends::Part(7), 2, 19),
-            alike(Ends::Part(4), 5, 4),
-        ),
-        pair(
-            40,
-            apart(6, Ends::Part(7), 0, 37),
-            apart(4, Ends::Part(9), 1, 33),
-        ),
-        pair(40, apart(6, Ends::Part(7), 0, 37), alike(Ends::Sure, 5, 1)),
-        pair(
-            700,
-            alike(Ends::Part(700), 0, 700),
-            apart(5, Ends::Part(140), 2, 698),
-        ),
-        pair(
-            1401,
-            apart(2, Ends::Part(700), 0, 1399),
-            apart(2, Ends::Part(650), 1, 1299),
-        ),
-        pair(
-            50,
-            apart(7, Ends::Part(8), 0, 50),
-            apart(7, Ends::Part(7), 1, 43),
-        ),
-        // too large for transforms
-        pair(
-            2100,
-            alike(Ends::Unknown, 0, 2100),
-            alike(Ends::Unknown, 0, 2100),
-        ),
-    ];
     let alloc = rt.alloc();
     let mut work = Workspace::new(alloc);
-    for case in &cases {
-        assert!(rt;
-            is_so(agrees::<56>(alloc, &mut work, case)),
-            "{} cells",
-            case.cells
-        );
-        assert!(rt;
-            is_so(agrees::<1>(alloc, &mut work, case)),
-            "{} cells",
-            case.cells
-        );
+    for case in &CASES {
+        let same = agrees::<56>(alloc, &mut work, case) && agrees::<1>(alloc, &mut work, case);
+        assert!(rt; same, "{} cells", case.0);
     }
 }
 
@@ -289,8 +186,11 @@ const LONG_SQUARES: [CellEnds; 4] = [
     (65535, 4274041144, 4274041147),
 ];
 
-/// Whether a grid has these cells.
-fn has_cells<const B: u32>(g: &Grid<B>, cells: &[CellEnds]) -> bool {
+/// Whether a product was found, and has these cells.
+fn has_cells<const B: u32>(found: Result<Grid<B>, AllocError>, cells: &[CellEnds]) -> bool {
+    let Ok(g) = found else {
+        return false;
+    };
     let mut same = true;
     for (i, low, high) in cells {
         same = same && g.lows().get(*i) == Some(low) && g.highs().get(*i) == Some(high);
@@ -301,129 +201,124 @@ fn has_cells<const B: u32>(g: &Grid<B>, cells: &[CellEnds]) -> bool {
 /// Whether the product of two grids has these cells, and the square of the first those.
 fn have_cells<const B: u32>(
     alloc: Global,
-    work: &mut Workspace,
     grids: (&Grid<B>, &Grid<B>),
     sums: &[CellEnds],
     squares: &[CellEnds],
-) -> Result<bool, AllocError> {
+) -> bool {
     let (a, b) = grids;
     let cells = a.cells();
     if cells == 0 || b.cells() != cells {
-        return Ok(false);
+        return false;
     }
-    let sum = product(alloc, work, a, b, cells)?;
-    let squared = square(alloc, work, a, cells)?;
-    Ok(has_cells(&sum, sums) && has_cells(&squared, squares))
+    let mut work = Workspace::new(alloc);
+    has_cells(product(alloc, &mut work, a, b, cells), sums)
+        && has_cells(square(alloc, &mut work, a, cells), squares)
 }
 
 /// Whether those of the grid of 700 equal parts have them.
-fn has_equal_parts(alloc: Global, work: &mut Workspace) -> Result<bool, AllocError> {
-    match shaped::<56>(alloc, 700, alike(Ends::Part(700), 0, 700))? {
-        Some(a) => have_cells(alloc, work, (&a, &a), &SUMS, &SUMS),
-        None => Ok(false),
+fn has_equal_parts(alloc: Global) -> bool {
+    match shaped::<56>(alloc, 700, (1, Part(700), 0, 700)) {
+        Some(a) => have_cells(alloc, (&a, &a), &SUMS, &SUMS),
+        None => false,
     }
 }
 
 #[test]
 fn equal_parts(rt: HostRuntime) {
-    let alloc = rt.alloc();
-    let mut work = Workspace::new(alloc);
-    assert!(rt; is_so(has_equal_parts(alloc, &mut work)));
+    assert!(rt; has_equal_parts(rt.alloc()));
 }
 
+const LONG: Case = (
+    65536,
+    (1, Part(60000), 100, 60000),
+    (1, Part(50000), 3, 50000),
+);
+
 /// Whether the sums and the squares of equally likely amounts have them, on the longest grids.
-fn has_long_sums(alloc: Global, work: &mut Workspace) -> Result<bool, AllocError> {
-    let case = pair(
-        65536,
-        alike(Ends::Part(60000), 100, 60000),
-        alike(Ends::Part(50000), 3, 50000),
-    );
-    match grids_of::<48>(alloc, &case)? {
-        Some((a, b)) => have_cells(alloc, work, (&a, &b), &LONG_SUMS, &LONG_SQUARES),
-        None => Ok(false),
+fn has_long_sums(alloc: Global) -> bool {
+    match grids_of::<48>(alloc, &LONG) {
+        Some((a, b)) => have_cells(alloc, (&a, &b), &LONG_SUMS, &LONG_SQUARES),
+        None => false,
     }
 }
 
 #[test]
 fn longest_grids(rt: HostRuntime) {
-    let alloc = rt.alloc();
-    let mut work = Workspace::new(alloc);
-    assert!(rt; is_so(has_long_sums(alloc, &mut work)));
+    assert!(rt; has_long_sums(rt.alloc()));
 }
 
-/// Whether the product of a grid with one of a shape has the cells of the plain convolution, where
-/// both come again.
-fn kept_agrees(
-    alloc: Global,
-    work: &mut Workspace,
-    a: &Grid<56>,
-    shape: Shape,
-) -> Result<bool, AllocError> {
-    let cells = a.cells();
-    let Some(b) = shaped::<56>(alloc, cells, shape)? else {
-        return Ok(false);
-    };
-    if cells == 0 || b.cells() != cells {
-        return Ok(false);
+/// A factor that comes again.
+fn again<const B: u32>(grid: &Grid<B>) -> Factor<'_, B>
+    ensures { result.grid.now ≡ grid.now }
+{
+    Factor {
+        grid,
+        comes_again: true,
     }
-    let first = Factor {
-        grid: a,
-        comes_again: true,
-    };
-    let second = Factor {
-        grid: &b,
-        comes_again: true,
-    };
-    let found = product_of(alloc, work, first, second, cells)?;
-    let wanted = convolve_plain(alloc, a, &b, cells)?;
-    Ok(are_same(&found, &wanted))
+}
+
+/// Whether the product of two grids that both come again has the cells of the plain convolution.
+fn is_kept(alloc: Global, work: &mut Workspace, a: &Grid<56>, b: &Grid<56>) -> bool {
+    let cells = a.cells();
+    if cells == 0 || b.cells() != cells {
+        return false;
+    }
+    let first = again(a);
+    let second = again(b);
+    let found = product_of(alloc, work, first, second, cells);
+    is_plain(alloc, found, a, b, cells)
+}
+
+/// Whether the product of a grid with one of a shape has them.
+fn kept_agrees(alloc: Global, work: &mut Workspace, a: &Grid<56>, shape: Shape) -> bool {
+    match shaped::<56>(alloc, a.cells(), shape) {
+        Some(b) => is_kept(alloc, work, a, &b),
+        None => false,
+    }
 }
 
 /// Whether the products of a grid of a shape with those of others have them.
-fn all_kept_agree(
-    alloc: Global,
-    work: &mut Workspace,
-    shape: Shape,
-    partners: &[Shape],
-) -> Result<bool, AllocError> {
-    let Some(a) = shaped::<56>(alloc, 700, shape)? else {
-        return Ok(false);
+fn all_kept_agree(alloc: Global, work: &mut Workspace, shape: Shape, partners: &[Shape]) -> bool {
+    let Some(a) = shaped::<56>(alloc, 700, shape) else {
+        return false;
     };
     let mut good = true;
     for partner in partners {
-        good = kept_agrees(alloc, work, &a, *partner)? && good;
+        good = kept_agrees(alloc, work, &a, *partner) && good;
     }
-    Ok(good)
+    good
 }
+
+/// As long as the grid, shorter, so that the transforms are, the first once more, and wide cells,
+/// which make too much for transforms, or are multiplied by the values of each kind of ends, the
+/// first ones twice, among them some a step apart.
+const PARTNERS: [Shape; 9] = [
+    (1, Part(700), 0, 700),
+    (1, Part(650), 50, 650),
+    (1, Between(700), 0, 700),
+    (1, Part(300), 0, 300),
+    (1, Part(700), 0, 700),
+    (1, Unknown, 0, 300),
+    (1, Between(650), 50, 650),
+    (5, Between(140), 2, 698),
+    (1, Between(700), 0, 700),
+];
+
+const FACTORS: [Shape; 6] = [
+    (1, Part(700), 0, 700),
+    (1, Part(700), 0, 600),
+    (1, Part(701), 0, 600),
+    (1, Part(700), 60, 600),
+    (1, Between(700), 0, 700),
+    (1, Between(701), 0, 700),
+];
 
 #[test]
 fn factors_that_come_again(rt: HostRuntime) {
-    // as long as the grid, shorter, so that the transforms are, the first once more, and wide cells,
-    // which make too much for transforms, or are multiplied by the values of each kind of ends, the
-    // first ones twice, among them some a step apart
-    let partners = [
-        alike(Ends::Part(700), 0, 700),
-        alike(Ends::Part(650), 50, 650),
-        alike(Ends::Between(700), 0, 700),
-        alike(Ends::Part(300), 0, 300),
-        alike(Ends::Part(700), 0, 700),
-        alike(Ends::Unknown, 0, 300),
-        alike(Ends::Between(650), 50, 650),
-        apart(5, Ends::Between(140), 2, 698),
-        alike(Ends::Between(700), 0, 700),
-    ];
-    let factors = [
-        alike(Ends::Part(700), 0, 700),
-        alike(Ends::Part(700), 0, 600),
-        alike(Ends::Part(701), 0, 600),
-        alike(Ends::Part(700), 60, 600),
-        alike(Ends::Between(700), 0, 700),
-        alike(Ends::Between(701), 0, 700),
-    ];
     let alloc = rt.alloc();
     let mut work = Workspace::new(alloc);
-    for factor in &factors {
-        assert!(rt; is_so(all_kept_agree(alloc, &mut work, *factor, &partners)));
+    for factor in &FACTORS {
+        assert!(rt; all_kept_agree(alloc, &mut work, *factor, &PARTNERS));
     }
 }
 
@@ -438,67 +333,64 @@ const WIDE_SUMS: [CellEnds; 6] = [
     (699, 20909569698505, 83638278794024),
 ];
 
-/// Whether two products of the same two grids of wide cells, which come again, have them.
-fn have_wide_sums(alloc: Global, work: &mut Workspace) -> Result<bool, AllocError> {
-    let case = pair(
-        700,
-        alike(Ends::Between(800), 0, 700),
-        alike(Ends::Between(700), 50, 650),
-    );
-    let Some((a, b)) = grids_of::<56>(alloc, &case)? else {
-        return Ok(false);
-    };
+const WIDE: Case = (700, (1, Between(800), 0, 700), (1, Between(700), 50, 650));
+
+/// Whether two products of the same two grids, which come again, have them.
+fn both_have_wide_sums(alloc: Global, a: &Grid<56>, b: &Grid<56>) -> bool {
     if a.cells() != 700 || b.cells() != 700 {
-        return Ok(false);
+        return false;
     }
-    let first = Factor {
-        grid: &a,
-        comes_again: true,
-    };
-    let second = Factor {
-        grid: &b,
-        comes_again: true,
-    };
-    let sum = product_of(alloc, work, first, second, 700)?;
-    let swapped = product_of(alloc, work, second, first, 700)?;
-    Ok(has_cells(&sum, &WIDE_SUMS) && has_cells(&swapped, &WIDE_SUMS))
+    let first = again(a);
+    let second = again(b);
+    let mut work = Workspace::new(alloc);
+    let sum = product_of(alloc, &mut work, first, second, 700);
+    let swapped = product_of(alloc, &mut work, second, first, 700);
+    has_cells(sum, &WIDE_SUMS) && has_cells(swapped, &WIDE_SUMS)
+}
+
+/// Whether those of two grids of wide cells have them.
+fn have_wide_sums(alloc: Global) -> bool {
+    match grids_of::<56>(alloc, &WIDE) {
+        Some((a, b)) => both_have_wide_sums(alloc, &a, &b),
+        None => false,
+    }
 }
 
 #[test]
 fn wide_cells_that_come_again(rt: HostRuntime) {
-    let alloc = rt.alloc();
-    let mut work = Workspace::new(alloc);
-    assert!(rt; is_so(have_wide_sums(alloc, &mut work)));
+    assert!(rt; have_wide_sums(rt.alloc()));
 }
 
 /// Whether there was a product of a grid of a shape with itself, as two factors that come again.
-fn is_kept_twice(alloc: Global, work: &mut Workspace, shape: Shape) -> Result<bool, AllocError> {
-    let Some(a) = shaped::<56>(alloc, 700, shape)? else {
-        return Ok(false);
-    };
+fn is_kept_twice(alloc: Global, work: &mut Workspace, shape: Shape) -> Option<bool> {
+    let a = shaped::<56>(alloc, 700, shape)?;
     if a.cells() != 700 {
-        return Ok(false);
+        return None;
     }
-    let factor = Factor {
-        grid: &a,
-        comes_again: true,
-    };
-    let found = product_of(alloc, work, factor, factor, 700)?;
-    Ok(found.cells() == 700)
+    let factor = again(&a);
+    let found = product_of(alloc, work, factor, factor, 700).ok()?;
+    Some(found.cells() == 700)
+}
+
+/// Whether there was one for each of 260 grids, one after another.
+fn are_kept_twice(alloc: Global, work: &mut Workspace) -> bool {
+    let mut good = true;
+    for k in 0..260u32 {
+        let shape = (1, Part(700 + k), 0, 400);
+        good = is_kept_twice(alloc, work, shape).unwrap_or(false) && good;
+    }
+    good
 }
 
 #[test]
 fn more_factors_than_are_kept(rt: HostRuntime) {
-    let partners = [alike(Ends::Part(300), 0, 300)];
     let alloc = rt.alloc();
     let mut work = Workspace::new(alloc);
-    for k in 0..260u32 {
-        let factor = alike(Ends::Part(700 + k), 0, 400);
-        assert!(rt; is_so(is_kept_twice(alloc, &mut work, factor)));
-    }
+    assert!(rt; are_kept_twice(alloc, &mut work));
     // the first has left, the last one is there
-    let first = alike(Ends::Part(700), 0, 400);
-    let last = alike(Ends::Part(959), 0, 400);
-    assert!(rt; is_so(all_kept_agree(alloc, &mut work, first, &partners)));
-    assert!(rt; is_so(all_kept_agree(alloc, &mut work, last, &partners)));
+    for parts in &[700, 959] {
+        let factor = (1, Part(*parts), 0, 400);
+        let agree = all_kept_agree(alloc, &mut work, factor, &[(1, Part(300), 0, 300)]);
+        assert!(rt; agree, "{parts} parts");
+    }
 }

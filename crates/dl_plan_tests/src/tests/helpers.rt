@@ -48,10 +48,18 @@ pub(crate) fn fraction(parts: (u64, u64)) -> Option<Frac> {
 }
 
 /// Whether a severity has these amounts with these weights, which come to this total.
-pub(crate) fn shows(sev: &Sev, items: &[(u32, u32)], total: u32) -> bool {
+fn shows(sev: &Sev, items: &[(u32, u32)], total: u32) -> bool {
     let mut same = sev.total == total && sev.items.as_slice().len() == items.len();
     for (item, &(amount, weight)) in sev.items.as_slice().iter().zip(items) {
         same = same && *item == Item { amount, weight };
     }
     same
+}
+
+/// Whether there is a severity and it has these items, which come to this total.
+pub(crate) fn is_shown(made: Option<Sev>, items: &[(u32, u32)], total: u32) -> bool {
+    match made {
+        Some(sev) => shows(&sev, items, total),
+        None => false,
+    }
 }

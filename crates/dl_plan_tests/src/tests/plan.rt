@@ -2,7 +2,7 @@
 
 ghost use Rattle.std.specs.Prelude.{◌<◌, ◌^◌, IfSome};
 
-use crate::tests::helpers::{Layer, clause, fraction, shows};
+use crate::tests::helpers::{Layer, clause, fraction, is_shown};
 use dl_frac::Frac;
 use dl_lexer::Text;
 use dl_plan::{Cede, Freq, Item, Sev, Unit, greatest_amount, in_layer};
@@ -59,8 +59,13 @@ const IN_LAYER: [(u64, Option<u32>, u32, u64); 7] = [
 
 #[test]
 fn one_layer(rt: HostRuntime) {
-    for &(x, limit, attach, wanted) in &IN_LAYER {
-        assert_eq!(rt; in_layer(x, limit, attach), wanted);
+    for row in &IN_LAYER {
+        assert!(rt;
+            in_layer(row.0, row.1, row.2) == row.3,
+            "{} of {}",
+            row.3,
+            row.0
+        );
     }
 }
 
@@ -156,61 +161,46 @@ const HORIZONS: [Row<u32, u32>; 20] = [
     (false, Layer(1, 1, Some(1), 65_536), None, 4_097, None),
 ];
 
-/// What a clause keeps of an amount.
-fn kept_by(
-    alloc: Global,
-    net: bool,
-    first: Layer,
-    second: Option<Layer>,
-    x: u64,
-) -> Result<Option<u64>, AllocError> {
-    let cede = clause(alloc, net, first, second)?;
-    Ok(kept(&cede, x))
+/// Whether a clause keeps of an amount what is wanted.
+fn keeps(alloc: Global, row: &Row<u64, u64>) -> bool {
+    match &clause(alloc, row.0, row.1, row.2) {
+        Ok(cede) => kept(cede, row.3) == row.4,
+        Err(_) => false,
+    }
 }
 
 #[test]
-fn what_clauses_keep(rt: HostRuntime) -> Result<(), AllocError> {
-    for &(net, first, second, x, wanted) in &KEPT {
-        assert_eq!(rt; kept_by(rt.alloc(), net, first, second, x)?, wanted);
+fn what_clauses_keep(rt: HostRuntime) {
+    for row in &KEPT {
+        assert!(rt; keeps(rt.alloc(), row), "{:?} of {}", row.4, row.3);
     }
-    Ok(())
 }
 
-/// The horizon of a unit with a clause.
-fn horizon_under(
-    alloc: Global,
-    net: bool,
-    first: Layer,
-    second: Option<Layer>,
-    cells: u32,
-) -> Result<Option<u32>, AllocError> {
-    let cede = clause(alloc, net, first, second)?;
-    let unit = unit_under(alloc, Some(cede))?;
+/// The horizon of a unit under a clause, if there is one.
+fn horizon_under(alloc: Global, cede: Option<Cede>, cells: u32) -> Result<Option<u32>, AllocError> {
+    let unit = unit_under(alloc, cede)?;
     Ok(horizon_of(&unit, cells))
 }
 
-#[test]
-fn horizons(rt: HostRuntime) -> Result<(), AllocError> {
-    for &(net, first, second, cells, wanted) in &HORIZONS {
-        assert_eq!(rt;
-            horizon_under(rt.alloc(), net, first, second, cells)?,
-            wanted
-        );
+/// Whether a unit with a clause has the horizon that is wanted.
+fn reaches(alloc: Global, row: &Row<u32, u32>) -> bool {
+    match clause(alloc, row.0, row.1, row.2) {
+        Ok(cede) => horizon_under(alloc, Some(cede), row.3) == Ok(row.4),
+        Err(_) => false,
     }
-    Ok(())
-}
-
-/// The horizon of a unit without a clause.
-fn plain_horizon(alloc: Global, cells: u32) -> Result<Option<u32>, AllocError> {
-    let unit = unit_under(alloc, None)?;
-    Ok(horizon_of(&unit, cells))
 }
 
 #[test]
-fn horizon_of_no_clause(rt: HostRuntime) -> Result<(), AllocError> {
-    assert_eq!(rt; plain_horizon(rt.alloc(), 65_536)?, Some(65_536));
-    assert_eq!(rt; plain_horizon(rt.alloc(), 65_537)?, None);
-    Ok(())
+fn horizons(rt: HostRuntime) {
+    for row in &HORIZONS {
+        assert!(rt; reaches(rt.alloc(), row), "{:?} for {} cells", row.4, row.3);
+    }
+}
+
+#[test]
+fn horizon_of_no_clause(rt: HostRuntime) {
+    assert!(rt; horizon_under(rt.alloc(), None, 65_536) == Ok(Some(65_536)));
+    assert!(rt; horizon_under(rt.alloc(), None, 65_537) == Ok(None));
 }
 
 /// Amounts 0, 1 and 4 with probabilities 1/4, 1/4 and 1/2.
@@ -242,38 +232,37 @@ fn no_loss(alloc: Global) -> Result<Sev, AllocError> {
 }
 
 #[test]
-fn lowest_weights(rt: HostRuntime) -> Result<(), AllocError> {
-    let claims = some_claims(rt.alloc())?;
-    assert!(rt; shows(&claims, &[(0, 1), (1, 1), (4, 2)], 4));
-    Ok(())
+fn lowest_weights(rt: HostRuntime) {
+    assert!(rt; is_shown(some_claims(rt.alloc()).ok(), &[(0, 1), (1, 1), (4, 2)], 4));
 }
 
 /// Whether the claims above 0 are these items, which come to this total; there are none where there
 /// are no items.
 fn shows_above_zero(
     alloc: Global,
-    claims: &Sev,
+    claims: Result<Sev, AllocError>,
     items: &[(u32, u32)],
     total: u32,
-) -> Result<bool, AllocError> {
-    match claims.positive(alloc)? {
-        Some(positive) => Ok(shows(&positive, items, total)),
-        None => Ok(items.is_empty()),
+) -> bool {
+    let Ok(claims) = &claims else {
+        return false;
+    };
+    match claims.positive(alloc) {
+        Ok(Some(positive)) => is_shown(Some(positive), items, total),
+        Ok(None) => items.is_empty(),
+        Err(_) => false,
     }
 }
 
 #[test]
-fn above_zero(rt: HostRuntime) -> Result<(), AllocError> {
-    let claims = some_claims(rt.alloc())?;
-    assert!(rt; shows_above_zero(rt.alloc(), &claims, &[(1, 1), (4, 2)], 3)?);
-    Ok(())
+fn above_zero(rt: HostRuntime) {
+    let alloc = rt.alloc();
+    assert!(rt; shows_above_zero(alloc, some_claims(alloc), &[(1, 1), (4, 2)], 3));
 }
 
 #[test]
-fn none_above_zero(rt: HostRuntime) -> Result<(), AllocError> {
-    let claims = no_loss(rt.alloc())?;
-    assert!(rt; shows_above_zero(rt.alloc(), &claims, &[], 0)?);
-    Ok(())
+fn none_above_zero(rt: HostRuntime) {
+    assert!(rt; shows_above_zero(rt.alloc(), no_loss(rt.alloc()), &[], 0));
 }
 
 /// A fraction whose parts are below 2^17.
@@ -318,9 +307,8 @@ fn means_of(alloc: Global, num: u32, den: u32) -> Result<Option<HasDistribution>
 }
 
 #[test]
-fn means(rt: HostRuntime) -> Result<(), AllocError> {
+fn means(rt: HostRuntime) {
     // 4/3 claims: 1 of them above 0; the mean is 4/3 of 9/4
-    assert_eq!(rt; means_of(rt.alloc(), 4, 3)?, Some(((1, 1), (36, 12))));
-    assert_eq!(rt; means_of(rt.alloc(), 0, 1)?, Some(((0, 1), (0, 4))));
-    Ok(())
+    assert!(rt; means_of(rt.alloc(), 4, 3) == Ok(Some(((1, 1), (36, 12)))));
+    assert!(rt; means_of(rt.alloc(), 0, 1) == Ok(Some(((0, 1), (0, 4)))));
 }

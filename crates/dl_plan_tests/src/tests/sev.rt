@@ -4,7 +4,7 @@ ghost use Rattle.std.specs.Prelude.{◌≡◌, ◌≤◌, ◌^◌, ◌↔◌, su
 ghost use Rattle.dl_exact.specs.Fraction.{whole, ◌≤ℚ◌, ◌<ℚ◌};
 ghost use Rattle.dl_sev.specs.Prelude.{HasPartsOf18Digits, IsRange};
 
-use crate::tests::helpers::{Layer, clause, fraction, shows};
+use crate::tests::helpers::{Layer, clause, fraction, is_shown};
 use dl_frac::Frac;
 use dl_plan::{Cede, Sev, common_denominator_of};
 use dl_sev::{
@@ -85,18 +85,14 @@ const NO_WEIGHTS: [([(u64, u64); 3], WeighFault); 4] = [
     ([(1, (1 << 30) + 1), (1, 3), (0, 1)], WeighFault::TooFine),
 ];
 
-#[test]
-fn no_weights(rt: HostRuntime) {
-    for (parts, wanted) in &NO_WEIGHTS {
-        assert_eq!(rt; weighed(rt.alloc(), parts).err(), Some(*wanted));
-    }
+fn is_refused(alloc: Global, row: &([(u64, u64); 3], WeighFault)) -> bool {
+    weighed(alloc, &row.0).err() == Some(row.1)
 }
 
-/// Whether there is a severity and it has these items, which come to this total.
-fn is_shown(made: Option<Sev>, items: &[(u32, u32)], total: u32) -> bool {
-    match made {
-        Some(sev) => shows(&sev, items, total),
-        None => false,
+#[test]
+fn no_weights(rt: HostRuntime) {
+    for row in &NO_WEIGHTS {
+        assert!(rt; is_refused(rt.alloc(), row), "{:?}", row.1);
     }
 }
 
@@ -305,12 +301,6 @@ fn ceded(alloc: Global, cede: &Cede, amounts: &[u32]) -> Option<Sev> {
     cede_each(alloc, &sev, cede).ok()
 }
 
-/// What a half of 4 above 2 leaves of three equally likely amounts.
-fn ceded_half(alloc: Global, net: bool, amounts: &[u32]) -> Result<Option<Sev>, AllocError> {
-    let cede = clause(alloc, net, Layer(1, 2, Some(4), 2), None)?;
-    Ok(ceded(alloc, &cede, amounts))
-}
-
 /// Whether a severity has these amounts, or is none where there are none.
 fn is_wanted(made: Option<Sev>, wanted: &Option<[(u32, u32); 3]>) -> bool {
     match wanted {
@@ -319,12 +309,19 @@ fn is_wanted(made: Option<Sev>, wanted: &Option<[(u32, u32); 3]>) -> bool {
     }
 }
 
-#[test]
-fn occurrence_clauses(rt: HostRuntime) -> Result<(), AllocError> {
-    for (net, amounts, wanted) in &CEDED {
-        assert!(rt; is_wanted(ceded_half(rt.alloc(), *net, amounts)?, wanted));
+/// Whether a half of 4 above 2 leaves of three equally likely amounts what a row says.
+fn leaves(alloc: Global, row: &(bool, [u32; 3], Option<[(u32, u32); 3]>)) -> bool {
+    match &clause(alloc, row.0, Layer(1, 2, Some(4), 2), None) {
+        Ok(cede) => is_wanted(ceded(alloc, cede, &row.1), &row.2),
+        Err(_) => false,
     }
-    Ok(())
+}
+
+#[test]
+fn occurrence_clauses(rt: HostRuntime) {
+    for row in &CEDED {
+        assert!(rt; leaves(rt.alloc(), row));
+    }
 }
 
 /// Whether the clause fits the step; none where it is no clause.
@@ -362,18 +359,19 @@ const LATTICES: [(Layer, u32, bool); 16] = [
     (Layer(1, 1, None, 5), 1, true),
 ];
 
-/// Whether the clause of a layer fits the step.
-fn fits_layer(alloc: Global, layer: Layer, step: u32) -> Result<Option<bool>, AllocError> {
-    let cede = clause(alloc, false, layer, None)?;
-    Ok(fits_step(&cede, step))
+/// Whether the clause of a layer fits the step, or does not, as a row says.
+fn is_fit(alloc: Global, row: &(Layer, u32, bool)) -> bool {
+    match &clause(alloc, false, row.0, None) {
+        Ok(cede) => fits_step(cede, row.1) == Some(row.2),
+        Err(_) => false,
+    }
 }
 
 #[test]
-fn lattices(rt: HostRuntime) -> Result<(), AllocError> {
-    for &(layer, step, wanted) in &LATTICES {
-        assert_eq!(rt; fits_layer(rt.alloc(), layer, step)?, Some(wanted));
+fn lattices(rt: HostRuntime) {
+    for row in &LATTICES {
+        assert!(rt; is_fit(rt.alloc(), row), "step {}", row.1);
     }
-    Ok(())
 }
 
 /// The mean, of amounts of at most 2^20.
@@ -391,9 +389,11 @@ fn mean_of(sev: &Sev) -> Option<(u64, u64)> {
     }
 }
 
-/// Two amounts, their probabilities and their mean; the last are 2^20 and 1, over a common
-/// denominator of 2^30.
-const MEANS: [([u32; 2], [(u64, u64); 2], (u64, u64)); 4] = [
+/// Two amounts, their probabilities and their mean.
+type Mean = ([u32; 2], [(u64, u64); 2], (u64, u64));
+
+/// The last are 2^20 and 1, over a common denominator of 2^30.
+const MEANS: [Mean; 4] = [
     ([1, 5], [(1, 4), (3, 4)], (4, 1)),
     ([0, 1], [(2, 3), (1, 3)], (1, 3)),
     ([0, 0], [(1, 2), (1, 2)], (0, 1)),
@@ -404,16 +404,18 @@ const MEANS: [([u32; 2], [(u64, u64); 2], (u64, u64)); 4] = [
     ),
 ];
 
-/// The mean of amounts with these probabilities.
-fn mean_among(alloc: Global, amounts: &[u32], parts: &[(u64, u64)]) -> Option<(u64, u64)> {
-    let sev = severity(alloc, amounts, parts)?;
-    mean_of(&sev)
+/// Whether amounts with these probabilities have the mean that a row says.
+fn is_mean(alloc: Global, row: &Mean) -> bool {
+    match &severity(alloc, &row.0, &row.1) {
+        Some(sev) => mean_of(sev) == Some(row.2),
+        None => false,
+    }
 }
 
 #[test]
 fn means(rt: HostRuntime) {
-    for (amounts, parts, wanted) in &MEANS {
-        assert_eq!(rt; mean_among(rt.alloc(), amounts, parts), Some(*wanted));
+    for row in &MEANS {
+        assert!(rt; is_mean(rt.alloc(), row), "{} / {}", row.2.0, row.2.1);
     }
 }
 
@@ -480,10 +482,14 @@ fn ends_among(values: &[Frac]) -> Option<(usize, (u64, u64))> {
     Some((values.len(), (last.num(), last.den())))
 }
 
+fn has_ends(alloc: Global, row: &(Parts, usize, (u64, u64))) -> bool {
+    ends_of(alloc, row.0) == Some((row.1, row.2))
+}
+
 #[test]
 fn ranges(rt: HostRuntime) {
-    for (parts, count, last) in &RANGES {
-        assert_eq!(rt; ends_of(rt.alloc(), *parts), Some((*count, *last)));
+    for row in &RANGES {
+        assert!(rt; has_ends(rt.alloc(), row), "{} values", row.1);
     }
 }
 
@@ -574,12 +580,13 @@ const NO_BUCKETS: [([(u64, u64); 3], u32, AmountFault); 5] = [
     ([(3, 1), (4, 1), (5, 1)], 3, AmountFault::TooFar(1)),
 ];
 
+fn are_no_amounts(alloc: Global, row: &([(u64, u64); 3], u32, AmountFault)) -> bool {
+    amounts_of(alloc, &row.0, (1, 1), row.1).err() == Some(row.2)
+}
+
 #[test]
 fn no_buckets(rt: HostRuntime) {
-    for (parts, top, wanted) in &NO_BUCKETS {
-        assert_eq!(rt;
-            amounts_of(rt.alloc(), parts, (1, 1), *top).err(),
-            Some(*wanted)
-        );
+    for row in &NO_BUCKETS {
+        assert!(rt; are_no_amounts(rt.alloc(), row), "{:?}", row.2);
     }
 }

@@ -59,8 +59,11 @@ fn equal_units<const B: u32>(cells: u32, unit: u128, many: u32) -> u128
     sum
 }
 
-/// Cells, what is added up on them, and the spread of the sum at the longer scale.
-const SPREADS: [(u32, Sum, u128); 12] = [
+/// Cells, what is added up on them, and the spread of the sum: at the longer scale up to 16,384
+/// cells, and at the other past them.
+type Spread = (u32, Sum, u128);
+
+const SPREADS: [Spread; 15] = [
     (16, Sum::Power(6, 0), 0),
     (16, Sum::Power(6, 1), 6),
     (16, Sum::Power(6, 2), 45),
@@ -73,33 +76,31 @@ const SPREADS: [(u32, Sum, u128); 12] = [
     (16, Sum::Poisson(0), 256),
     (16, Sum::Poisson(3), 2279),
     (16_384, Sum::Poisson(13), 1_343_201_287),
+    (65_536, Sum::Power(196_611, 65_536), 21_475_785_348),
+    (65_536, Sum::Listed(65_536, 256), 50_332_417),
+    (65_536, Sum::Poisson(13), 5_369_685_680),
 ];
 
-/// The same on 65,536 cells at the other scale.
-const LONGEST: [(Sum, u128); 3] = [
-    (Sum::Power(196_611, 65_536), 21_475_785_348),
-    (Sum::Listed(65_536, 256), 50_332_417),
-    (Sum::Poisson(13), 5_369_685_680),
-];
+/// Whether the sum of a row has its spread.
+fn has_spread(row: &Spread) -> bool {
+    if row.0 > 16_384 {
+        spread_of::<48>(row.0, row.1) == row.2
+    } else {
+        spread_of::<56>(row.0, row.1) == row.2
+    }
+}
 
 #[test]
 fn spreads(rt: HostRuntime) {
-    for (cells, sum, want) in SPREADS {
-        assert_eq!(rt; spread_of::<56>(cells, sum), want);
-    }
-    for (sum, want) in LONGEST {
-        assert_eq!(rt; spread_of::<48>(65_536, sum), want);
+    for row in &SPREADS {
+        assert!(rt; has_spread(row), "{}", row.2);
     }
 }
 
 #[test]
 fn single_numbers(rt: HostRuntime) {
-    assert_eq!(rt; halvings_of_one(), 1);
-    assert_eq!(rt;
-        equal_units::<48>(65_536, 42_951_570_696, 16),
-        688_014_161_179
-    );
-    for (many, want) in [(16, 481_045_353_881), (15, 450_979_924_668)] {
-        assert_eq!(rt; equal_units::<56>(4_096, 30_065_232_854, many), want);
-    }
+    assert!(rt; halvings_of_one() == 1);
+    assert!(rt; equal_units::<48>(65_536, 42_951_570_696, 16) == 688_014_161_179);
+    assert!(rt; equal_units::<56>(4_096, 30_065_232_854, 16) == 481_045_353_881);
+    assert!(rt; equal_units::<56>(4_096, 30_065_232_854, 15) == 450_979_924_668);
 }

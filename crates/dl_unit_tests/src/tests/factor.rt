@@ -238,46 +238,54 @@ const SIXTEEN: [(u32, Claim); 16] = [
     (3, Claim::Nothing),
 ];
 
+/// Whether the one unit for all of a case, and the raised one, are as it lists.
+fn is_pooled(alloc: Global, case: &Case) -> Result<bool, AllocError> {
+    let Some(plan) = plan_of(alloc, case.shape, case.parts)? else {
+        return Ok(false);
+    };
+    let (one, more) = one_and_more(alloc, &plan)?;
+    Ok(
+        one.name.as_slice().len() == 1
+            && facts(&one) == case.one
+            && facts(&more) == case.more
+            && weights(&one) == case.weights
+            && weights(&more) == case.weights,
+    )
+}
+
 #[test]
 fn one_unit_for_all(rt: HostRuntime) -> Result<(), AllocError> {
-    let alloc = rt.alloc();
     for case in &CASES {
-        let plan = plan_of(alloc, case.shape, case.parts)?;
-        assert!(rt; plan.is_some());
-        if let Some(plan) = plan {
-            let (one, more) = one_and_more(alloc, &plan)?;
-            assert_eq!(rt; one.name.as_slice().len(), 1);
-            assert_eq!(rt; facts(&one), case.one);
-            assert_eq!(rt; facts(&more), case.more);
-            assert_eq!(rt; weights(&one), case.weights);
-            assert_eq!(rt; weights(&more), case.weights);
-        }
+        assert!(rt; is_pooled(rt.alloc(), case)?, "{}", case.one.3);
     }
     Ok(())
 }
 
+/// Whether the one Poisson unit for all of a case is as it lists.
+fn is_poisson(alloc: Global, case: &Case) -> Result<bool, AllocError> {
+    let Some(plan) = plan_of(alloc, case.shape, case.parts)? else {
+        return Ok(false);
+    };
+    let Some(one) = one_poisson(alloc, &plan)? else {
+        return Ok(false);
+    };
+    let (num, den, _, total) = case.one;
+    Ok(mean_parts(&one) == (num, den) && one.sev.total == total && weights(&one) == case.weights)
+}
+
 #[test]
 fn one_poisson_unit_for_all(rt: HostRuntime) -> Result<(), AllocError> {
-    let alloc = rt.alloc();
     for case in &CASES {
-        let plan = plan_of(alloc, case.shape, case.parts)?;
-        assert!(rt; plan.is_some());
-        if let Some(plan) = plan {
-            let one = one_poisson(alloc, &plan)?;
-            assert!(rt; one.is_some());
-            if let Some(one) = one {
-                assert_eq!(rt; mean_parts(&one), (case.one.0, case.one.1));
-                assert_eq!(rt; one.sev.total, case.one.3);
-                assert_eq!(rt; weights(&one), case.weights);
-            }
-        }
+        assert!(rt; is_poisson(rt.alloc(), case)?, "{}", case.one.3);
     }
     Ok(())
 }
 
 /// A shape and units, the place of one of them, a total, and the first nine digits of the unit's
 /// joint mean there.
-const JOINT: [(u32, &[(u32, Claim)], usize, u32, u32); 12] = [
+type Joint = (u32, &'static [(u32, Claim)], usize, u32, u32);
+
+const JOINT: [Joint; 12] = [
     (4, &[(3, Claim::Quarters)], 0, 0, 0),
     (4, &[(3, Claim::Quarters)], 0, 1, 161_061_273),
     (4, &[(3, Claim::Quarters)], 0, 15, 51_160_710),
@@ -334,19 +342,22 @@ const JOINT: [(u32, &[(u32, Claim)], usize, u32, u32); 12] = [
     ),
 ];
 
+/// Whether the joint mean of a case has the first nine digits that it lists.
+fn is_joint(alloc: Global, case: &Joint) -> Result<bool, AllocError> {
+    let Some(plan) = plan_of(alloc, case.0, case.1)? else {
+        return Ok(false);
+    };
+    if case.2 >= plan.units.as_slice().len() {
+        return Ok(false);
+    }
+    let (down, up) = joint_digits(alloc, &plan, case.2, case.3.min(15))?;
+    Ok(down == u128::from(case.4) && up == down + u128::from(case.3 > 0))
+}
+
 #[test]
 fn joint_means_of_portfolios(rt: HostRuntime) -> Result<(), AllocError> {
-    let alloc = rt.alloc();
-    for &(shape, parts, i, x, low) in &JOINT {
-        let plan = plan_of(alloc, shape, parts)?;
-        assert!(rt; plan.is_some());
-        if let Some(plan) = plan {
-            if i < plan.units.as_slice().len() && x < 16 {
-                let (down, up) = joint_digits(alloc, &plan, i, x)?;
-                assert_eq!(rt; down, u128::from(low));
-                assert_eq!(rt; up, u128::from(low) + u128::from(x > 0));
-            }
-        }
+    for case in &JOINT {
+        assert!(rt; is_joint(rt.alloc(), case)?, "{}", case.4);
     }
     Ok(())
 }

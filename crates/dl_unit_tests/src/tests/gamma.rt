@@ -6,12 +6,11 @@ ghost use Rattle.std.specs.Prelude.{◌<◌, ◌≤◌, IfOk};
 ghost use Rattle.dl_plan.specs.Prelude.{IsValidUnit};
 ghost use Rattle.dl_common.specs.Extra.{CanRaise};
 
-use crate::tests::helpers::{fraction, one_bucket};
+use crate::tests::helpers::{expecting, fraction, one_bucket, summed};
 use dl_common::{extra, gamma_joint};
 use dl_lexer::Text;
 use dl_plan::{Freq, Unit};
 use dl_product::{Workspace, product};
-use dl_unit::unit_grid_with;
 use std::alloc::{AllocError, Global};
 
 /// A unit with a gamma count.
@@ -36,21 +35,6 @@ fn gamma_unit(alloc: Global, shape: u32, mean: u32) -> Result<Unit, AllocError>
     })
 }
 
-/// The Poisson unit beside it.
-#[tactic(auto, using(crate::proofs::TestLaws::claims_thinned), unfolding(dl_limits::specs::Limits::most_amount_at))]
-fn one_expected(alloc: Global) -> Result<Unit, AllocError>
-    ensures valid { IfOk result (λ unit. IsValidUnit 16 unit) }
-{
-    let sev = one_bucket(alloc)?;
-    Ok(Unit {
-        name: Text::from_vec(Vec::new(alloc)),
-        sev,
-        freq: Freq::Poisson(fraction(1, 1)),
-        cede: None,
-        zero: None,
-    })
-}
-
 /// The first nine digits of both ends of the joint mean of the gamma unit at `x`; none where its
 /// extra claims are no unit.
 #[tactic(auto, using(dl_grid::proofs::Sizes::few_at_each_scale, crate::proofs::TestLaws::print_fits))]
@@ -62,10 +46,10 @@ fn joint_digits(alloc: Global, unit: &Unit, x: u32) -> Result<Option<(u128, u128
     let Some(more) = extra(alloc, unit)? else {
         return Ok(None);
     };
+    let own = summed::<56>(alloc, unit, 16)?;
+    let other = summed::<56>(alloc, &expecting(alloc, 1)?, 16)?;
+    let added = summed::<56>(alloc, &more, 16)?;
     let work = &mut Workspace::new(alloc);
-    let own = unit_grid_with::<56>(alloc, work, unit, 16)?;
-    let other = unit_grid_with::<56>(alloc, work, &one_expected(alloc)?, 16)?;
-    let added = unit_grid_with::<56>(alloc, work, &more, 16)?;
     let total = product(alloc, work, &own, &other, 16)?;
     let grid = product(alloc, work, &added, &total, 16)?;
     Ok(Some(gamma_joint(unit, &grid, x).print_ends(9)))
@@ -88,7 +72,9 @@ fn extra_facts(alloc: Global, unit: &Unit) -> Result<(u64, u64, u32), AllocError
 
 /// A shape, an expected number of claims, the numerator and the denominator of that of the extra
 /// claims, a total, and the first nine digits of both ends of the joint mean.
-const CASES: [(u32, u32, u64, u64, u32, u128, u128); 6] = [
+type Case = (u32, u32, u64, u64, u32, u128, u128);
+
+const CASES: [Case; 6] = [
     // no outcome is above 0 where the total is not
     (1, 2, 2, 1, 0, 0, 0),
     // 2/9, 14/27 and 181/243, each over e
@@ -100,15 +86,18 @@ const CASES: [(u32, u32, u64, u64, u32, u128, u128); 6] = [
     (2, 3, 3, 2, 4, 380_475_633, 380_475_634),
 ];
 
+/// Whether a case's unit has the extra claims and the joint mean that it lists.
+fn holds(alloc: Global, case: &Case) -> Result<bool, AllocError> {
+    let unit = gamma_unit(alloc, case.0.clamp(1, 100), case.1.min(100))?;
+    let more = extra_facts(alloc, &unit)?;
+    let digits = joint_digits(alloc, &unit, case.4.min(15))?;
+    Ok(more == (case.2, case.3, 1) && digits == Some((case.5, case.6)))
+}
+
 #[test]
 fn beside_a_poisson_unit(rt: HostRuntime) -> Result<(), AllocError> {
-    let alloc = rt.alloc();
-    for (shape, mean, num, den, x, low, high) in CASES {
-        if shape > 0 && shape <= 100 && mean <= 100 && x < 16 {
-            let unit = gamma_unit(alloc, shape, mean)?;
-            assert_eq!(rt; extra_facts(alloc, &unit)?, (num, den, 1));
-            assert_eq!(rt; joint_digits(alloc, &unit, x)?, Some((low, high)));
-        }
+    for case in &CASES {
+        assert!(rt; holds(rt.alloc(), case)?, "{}", case.5);
     }
     Ok(())
 }

@@ -1,12 +1,15 @@
 //! What several files of tests share: a die, the claim of one bucket, fractions, nine digits.
 
-ghost use Rattle.std.specs.Prelude.{◌≡◌, ◌*◌, ◌/◌, ◌<◌, ◌≤◌, ◌^◌, All, IfOk};
+ghost use Rattle.std.specs.Prelude.{ℕ, ◌≡◌, ◌*◌, ◌/◌, ◌<◌, ◌≤◌, ◌^◌, length, All, IfOk};
 ghost use Rattle.dl_exact.specs.Fraction.{whole, ◌over◌};
-ghost use Rattle.dl_plan.specs.Prelude.{probability_of, IsWeighted};
+ghost use Rattle.dl_plan.specs.Prelude.{probability_of, IsPoisson, IsValidUnit, IsWeighted};
 
 use dl_frac::Frac;
 use dl_grid::Grid;
-use dl_plan::{Item, Items, Sev};
+use dl_lexer::Text;
+use dl_plan::{Freq, Item, Items, Sev, Unit};
+use dl_product::Workspace;
+use dl_unit::unit_grid_with;
 use std::alloc::{AllocError, Global};
 
 /// The faces of a die, each as likely as the others.
@@ -54,6 +57,40 @@ pub(crate) fn one_bucket(alloc: Global) -> Result<Sev, AllocError>
     ensures quarters { IfOk result (λ sev. sev.total * (4 / sev.total) ≡ 4) }
 {
     Sev::alone(alloc, 1)
+}
+
+/// A unit with so many expected claims of one bucket each, by a Poisson count.
+#[tactic(auto, using(crate::proofs::TestLaws::claims_thinned), unfolding(dl_limits::specs::Limits::most_amount_at))]
+pub(crate) fn expecting(alloc: Global, claims: u32) -> Result<Unit, AllocError>
+    requires { claims ≤ 100 }
+    ensures valid { IfOk result (λ unit. IsValidUnit 16 unit) }
+    ensures poisson { IfOk result (λ unit. IsPoisson unit.freq) }
+{
+    let sev = one_bucket(alloc)?;
+    Ok(Unit {
+        name: Text::from_vec(Vec::new(alloc)),
+        sev,
+        freq: Freq::Poisson(fraction(claims, 1)),
+        cede: None,
+        zero: None,
+    })
+}
+
+/// The first cells of a unit of a valid plan.
+#[tactic(auto, using(dl_grid::proofs::Sizes::few_at_each_scale))]
+pub(crate) fn summed<const B: u32>(
+    alloc: Global,
+    unit: &Unit,
+    cells: u32,
+) -> Result<Grid<B>, AllocError>
+    requires above { 1 ≤ B }
+    requires below { B ≤ 56 }
+    requires some { 1 ≤ cells }
+    requires few { cells ≤ 16 }
+    requires valid { (h : ℕ) × IsValidUnit h unit.now }
+    ensures { IfOk result (λ g. length g ≡ cells) }
+{
+    unit_grid_with(alloc, &mut Workspace::new(alloc), unit, cells)
 }
 
 /// An amount of a list.

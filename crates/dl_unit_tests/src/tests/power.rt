@@ -1,6 +1,7 @@
 //! Sums of a fixed and of a listed number of claims, worked by whole numbers of any size.
 
-ghost use Rattle.std.specs.Prelude.{◌≡◌, ◌≤◌, length, IfOk};
+ghost use Rattle.std.specs.Prelude.{◌≡◌, ◌<◌, ◌≤◌, length, IfOk};
+ghost use Rattle.dl_plan.specs.Weighted.{weight_sum};
 
 use crate::tests::helpers::{DIE, item};
 use dl_grid::Grid;
@@ -10,7 +11,6 @@ use dl_product::Workspace;
 use std::alloc::{AllocError, Global};
 
 /// The ends of the cells from 0 to 12, and the spread of the whole grid.
-#[derive(Clone, Copy)]
 struct Ends {
     lows: [u128; 13],
     highs: [u128; 13],
@@ -18,7 +18,6 @@ struct Ends {
 }
 
 /// Two dice, three dice, and none, one or two dice, each number as likely as the others.
-#[derive(Clone, Copy)]
 struct Sums {
     two: Ends,
     three: Ends,
@@ -269,19 +268,28 @@ fn is_sum<const B: u32>(alloc: Global, dice: u32, want: &Ends) -> Result<bool, A
     Ok(has(&sum, want))
 }
 
-/// The sum of none, one or two dice, each number as likely as the others.
-fn mixed_sum<const B: u32>(alloc: Global) -> Result<Grid<B>, AllocError>
+/// The sum of as many dice as a list says, each number with its weight out of `total`.
+fn mixed<const B: u32>(
+    alloc: Global,
+    counts: &[Item],
+    total: u32,
+    cells: u32,
+) -> Result<Grid<B>, AllocError>
     requires scale_above { 1 ≤ B }
     requires scale_below { B ≤ 56 }
+    requires some { 1 ≤ cells }
+    requires few { cells ≤ 1537 }
+    requires sum { weight_sum counts.now ≡ total }
+    requires positive { 0 < total }
 {
-    let die = die::<B>(alloc, 13)?;
+    let die = die::<B>(alloc, cells)?;
     mix_counts(
         alloc,
         &mut Workspace::new(alloc),
         &die,
-        &[item(0, 1), item(1, 1), item(2, 1)],
-        3,
-        13,
+        counts,
+        total,
+        cells,
     )
 }
 
@@ -292,7 +300,7 @@ fn agrees<const B: u32>(alloc: Global, want: &Sums) -> Result<bool, AllocError>
 {
     let two = is_sum::<B>(alloc, 2, &want.two)?;
     let three = is_sum::<B>(alloc, 3, &want.three)?;
-    let mixed = mixed_sum::<B>(alloc)?;
+    let mixed = mixed::<B>(alloc, &[item(0, 1), item(1, 1), item(2, 1)], 3, 13)?;
     Ok(two & three & has(&mixed, &want.mixed))
 }
 
@@ -304,9 +312,22 @@ fn dice(rt: HostRuntime) -> Result<(), AllocError> {
     Ok(())
 }
 
+/// A cell, and its probability in units rounded down and up.
+type Held = (u32, u128, u128);
+
+/// Whether the cells hold what was worked out.
+fn hold(sum: &Grid<56>, cells: &[Held]) -> bool {
+    for (x, floor, ceiling) in cells {
+        if *x >= sum.cells() || sum.at(*x).lo > *floor || *ceiling > sum.at(*x).hi {
+            return false;
+        }
+    }
+    true
+}
+
 /// Cells of none, three, four, five or eight dice, with the weights 1, 2, 1, 3 and 1, each with its
 /// probability in units of `1 / 2^56`, rounded down and up: worked out in fractions.
-const COUNTED: [(u32, u128, u128); 7] = [
+const COUNTED: [Held; 7] = [
     (0, 9007199254740992, 9007199254740992),
     (3, 83399993099453, 83399993099454),
     (9, 2717492676388215, 2717492676388216),
@@ -316,24 +337,11 @@ const COUNTED: [(u32, u128, u128); 7] = [
     (48, 5362653877, 5362653878),
 ];
 
-/// The sum of counts that take two blocks.
-fn in_blocks(alloc: Global) -> Result<Grid<56>, AllocError> {
-    let counts = [item(0, 1), item(3, 2), item(4, 1), item(5, 3), item(8, 1)];
-    let die = die::<56>(alloc, 49)?;
-    mix_counts(alloc, &mut Workspace::new(alloc), &die, &counts, 8, 49)
-}
-
 /// Whether the cells of counts that take two blocks hold what was worked out.
 fn are_held(alloc: Global) -> Result<bool, AllocError> {
-    let sum = in_blocks(alloc)?;
-    let mut held = sum.cells() == 49 && sum.spread() <= 857;
-    for (x, floor, ceiling) in COUNTED {
-        if x < sum.cells() {
-            let cell = sum.at(x);
-            held = held && cell.lo <= floor && ceiling <= cell.hi;
-        }
-    }
-    Ok(held)
+    let counts = [item(0, 1), item(3, 2), item(4, 1), item(5, 3), item(8, 1)];
+    let sum = mixed::<56>(alloc, &counts, 8, 49)?;
+    Ok(sum.cells() == 49 && sum.spread() <= 857 && hold(&sum, &COUNTED))
 }
 
 #[test]
@@ -343,7 +351,7 @@ fn counts_in_blocks(rt: HostRuntime) -> Result<(), AllocError> {
 }
 
 /// Cells of none, 16, 17, 100, 255 or 256 dice, with the weights 1, 2, 1, 2, 1 and 1, as above.
-const PAIRED: [(u32, u128, u128); 9] = [
+const PAIRED: [Held; 9] = [
     (0, 9007199254740992, 9007199254740992),
     (16, 6385, 6386),
     (56, 1490312180026016, 1490312180026017),
@@ -355,9 +363,10 @@ const PAIRED: [(u32, u128, u128); 9] = [
     (1100, 75, 76),
 ];
 
-/// The sum of counts that take 16 blocks of 17 counts: the first and the last of a block, and one
-/// alone in the last block.
-fn by_halves(alloc: Global) -> Result<Grid<56>, AllocError> {
+/// Whether the cells of counts that take 16 blocks of 17 counts, the first and the last of a block,
+/// and one alone in the last block, hold what was worked out, as closely as whole numbers of any
+/// size say of the same way.
+fn are_close(alloc: Global) -> Result<bool, AllocError> {
     let counts = [
         item(0, 1),
         item(16, 2),
@@ -366,22 +375,8 @@ fn by_halves(alloc: Global) -> Result<Grid<56>, AllocError> {
         item(255, 1),
         item(256, 1),
     ];
-    let die = die::<56>(alloc, 1537)?;
-    mix_counts(alloc, &mut Workspace::new(alloc), &die, &counts, 8, 1537)
-}
-
-/// Whether the cells of counts that take 16 blocks hold what was worked out, as closely as whole
-/// numbers of any size say of the same way.
-fn are_close(alloc: Global) -> Result<bool, AllocError> {
-    let sum = by_halves(alloc)?;
-    let mut held = sum.cells() == 1537 && sum.spread() == 6489;
-    for (x, floor, ceiling) in PAIRED {
-        if x < sum.cells() {
-            let cell = sum.at(x);
-            held = held && cell.lo <= floor && ceiling <= cell.hi;
-        }
-    }
-    Ok(held)
+    let sum = mixed::<56>(alloc, &counts, 8, 1537)?;
+    Ok(sum.cells() == 1537 && sum.spread() == 6489 && hold(&sum, &PAIRED))
 }
 
 #[test]
@@ -390,18 +385,9 @@ fn counts_by_halves(rt: HostRuntime) -> Result<(), AllocError> {
     Ok(())
 }
 
-/// The sum of none, 16 or 100 dice, with the weights 1, 2 and 1.
-fn some_dice(alloc: Global) -> Result<Grid<56>, AllocError> {
-    let counts = [item(0, 1), item(16, 2), item(100, 1)];
-    let die = die::<56>(alloc, 601)?;
-    mix_counts(alloc, &mut Workspace::new(alloc), &die, &counts, 4, 601)
-}
-
-/// Whether the sum of none, 16 or 100 dice meets the mixture of its powers in each cell past 0.
-fn meets_powers(alloc: Global) -> Result<bool, AllocError> {
-    let sum = some_dice(alloc)?;
-    let few = sum_of::<56>(alloc, 16, 601)?;
-    let many = sum_of::<56>(alloc, 100, 601)?;
+/// Whether a sum of none, one of the two numbers of dice or the other, with the weights 1, 2 and 1,
+/// meets the mixture of the two powers in each cell past 0.
+fn meets(sum: &Grid<56>, few: &Grid<56>, many: &Grid<56>) -> bool {
     let mut meets = sum.cells() == few.cells() && sum.cells() == many.cells();
     for x in 1..601 {
         if x < sum.cells() && x < few.cells() && x < many.cells() {
@@ -411,7 +397,15 @@ fn meets_powers(alloc: Global) -> Result<bool, AllocError> {
             meets = meets && 2 * one.lo + other.lo <= 4 * cell.hi;
         }
     }
-    Ok(meets)
+    meets
+}
+
+/// Whether that of 16 and 100 dice does.
+fn meets_powers(alloc: Global) -> Result<bool, AllocError> {
+    let sum = mixed::<56>(alloc, &[item(0, 1), item(16, 2), item(100, 1)], 4, 601)?;
+    let few = sum_of::<56>(alloc, 16, 601)?;
+    let many = sum_of::<56>(alloc, 100, 601)?;
+    Ok(meets(&sum, &few, &many))
 }
 
 #[test]

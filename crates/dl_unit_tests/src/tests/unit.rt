@@ -3,14 +3,14 @@
 ghost use Rattle.std.specs.Prelude.{◌≡◌, ℕ, ◌*◌, ◌/◌, ◌^◌, ◌<◌, ◌≤◌, length, All, IfOk};
 ghost use Rattle.dl_limits.specs.Limits.{IsPlanScale};
 ghost use Rattle.dl_exact.specs.Fraction.{whole, ◌≤ℚ◌};
-ghost use Rattle.dl_plan.specs.Prelude.{HasPartsOf48Bits, IsPoisson, expected_count, IsUnbounded, IsClaimCount, probability_of, IsValidUnit, IsWeighted};
+ghost use Rattle.dl_plan.specs.Prelude.{HasPartsOf48Bits, expected_count, IsUnbounded, IsClaimCount, probability_of, IsValidUnit, IsWeighted};
 
-use crate::tests::helpers::{agrees, fraction, item, listed, one_bucket};
+use crate::tests::helpers::{agrees, expecting, fraction, item, listed, one_bucket, summed};
 use dl_budget::claims_budget;
 use dl_frac::Frac;
 use dl_grid::{Grid, units_of_one};
 use dl_lexer::Text;
-use dl_plan::{Freq, Item, Items, Sev, Unit};
+use dl_plan::{Freq, Sev, Unit};
 use dl_product::Workspace;
 use dl_recursion::{gamma_direct, poisson_direct};
 use dl_unit::{gamma_claims, poisson_claims, unit_grid_with};
@@ -30,19 +30,8 @@ fn none_or_two(alloc: Global) -> Result<Freq, AllocError>
     ensures { IfOk result (λ freq. IsClaimCount freq × HasPartsOf48Bits (expected_count freq)
         × (¬ IsUnbounded freq)) }
 {
-    let mut counts = Vec::new(alloc);
-    counts.push(Item {
-        amount: 0,
-        weight: 1,
-    })?;
-    counts.push(Item {
-        amount: 2,
-        weight: 3,
-    })?;
-    Ok(Freq::Table {
-        counts: Items::from_vec(counts),
-        total: 4,
-    })
+    let counts = listed(alloc, &[item(0, 1), item(2, 3)], 4)?.items;
+    Ok(Freq::Table { counts, total: 4 })
 }
 
 /// The unit of these claims with this count.
@@ -64,7 +53,6 @@ fn unit_with(alloc: Global, freq: Freq) -> Result<Unit, AllocError>
 }
 
 /// Six cells of that unit.
-#[tactic(auto, using(dl_grid::proofs::Sizes::few_at_each_scale))]
 fn grid_of<const B: u32>(alloc: Global, freq: Freq) -> Result<Grid<B>, AllocError>
     requires above { 1 ≤ B }
     requires below { B ≤ 56 }
@@ -73,7 +61,7 @@ fn grid_of<const B: u32>(alloc: Global, freq: Freq) -> Result<Grid<B>, AllocErro
     requires bounded { ¬ IsUnbounded freq }
 {
     let unit = unit_with(alloc, freq)?;
-    unit_grid_with(alloc, &mut Workspace::new(alloc), &unit, 6)
+    summed(alloc, &unit, 6)
 }
 
 /// Each cell holds its part of `total`, within 10 units.
@@ -97,19 +85,7 @@ fn holds<const B: u32>(grid: &Grid<B>, parts: &[u32], total: u32) -> bool {
 fn one_or_four(alloc: Global) -> Result<Sev, AllocError>
     ensures { IfOk result (λ sev. probability_of sev 0 ≡ whole 0) }
 {
-    let mut items = Vec::new(alloc);
-    items.push(Item {
-        amount: 1,
-        weight: 1,
-    })?;
-    items.push(Item {
-        amount: 4,
-        weight: 1,
-    })?;
-    Ok(Sev {
-        items: Items::from_vec(items),
-        total: 2,
-    })
+    listed(alloc, &[item(1, 1), item(4, 1)], 2)
 }
 
 /// Whether in each cell some number lies in both grids.
@@ -132,13 +108,18 @@ fn is_met<const B: u32>(one: &Option<Grid<B>>, other: &Grid<B>) -> bool {
     }
 }
 
-/// A mean, as a fraction of whole numbers, and a shape.
-#[derive(Clone, Copy)]
-struct CountOf {
-    num: u32,
-    den: u32,
-    shape: u32,
-}
+/// A mean, as the numerator and the denominator of a fraction of parts up to 4,096, and a shape up
+/// to 10,000.
+type CountOf = (u32, u32, u32);
+
+/// The counts of which both ways meet.
+const COUNTS: [CountOf; 5] = [
+    (1, 3, 1),
+    (3, 2, 2),
+    (8, 1, 3),
+    (100, 7, 16),
+    (1000, 1, 100),
+];
 
 /// Whether sixteen cells of a Poisson count by the recursion at the full mean meet those by
 /// halvings.
@@ -178,17 +159,14 @@ fn gamma_meets<const B: u32>(
 }
 
 /// Whether both counts meet.
-fn both_meet<const B: u32>(alloc: Global, sev: &Sev, of: CountOf) -> Result<bool, AllocError>
+fn both_meet<const B: u32>(alloc: Global, sev: &Sev, of: &CountOf) -> Result<bool, AllocError>
     requires no_zero { probability_of sev.now 0 ≡ whole 0 }
     requires above { 1 ≤ B }
     requires below { B ≤ 56 }
 {
-    if of.num > 4096 || of.den == 0 || of.den > 4096 || of.shape == 0 || of.shape > 10000 {
-        return Ok(false);
-    }
-    let mean = fraction(of.num, of.den);
+    let mean = fraction(of.0.min(4096), of.1.clamp(1, 4096));
     let poisson = poisson_meets::<B>(alloc, sev, mean)?;
-    let gamma = gamma_meets::<B>(alloc, sev, mean, of.shape)?;
+    let gamma = gamma_meets::<B>(alloc, sev, mean, of.2.clamp(1, 10000))?;
     Ok(poisson && gamma)
 }
 
@@ -198,15 +176,8 @@ fn all_meet<const B: u32>(alloc: Global, sev: &Sev) -> Result<bool, AllocError>
     requires above { 1 ≤ B }
     requires below { B ≤ 56 }
 {
-    let table = [
-        (1, 3, 1),
-        (3, 2, 2),
-        (8, 1, 3),
-        (100, 7, 16),
-        (1000, 1, 100),
-    ];
-    for (num, den, shape) in table {
-        if !both_meet::<B>(alloc, sev, CountOf { num, den, shape })? {
+    for of in &COUNTS {
+        if !both_meet::<B>(alloc, sev, of)? {
             return Ok(false);
         }
     }
@@ -241,23 +212,7 @@ fn both_ways_meet(rt: HostRuntime) -> Result<(), AllocError> {
     Ok(())
 }
 
-/// A unit with eight expected claims of one bucket each, by a Poisson count.
-#[tactic(auto, using(crate::proofs::TestLaws::claims_thinned), unfolding(dl_limits::specs::Limits::most_amount_at))]
-pub(crate) fn eight_expected(alloc: Global) -> Result<Unit, AllocError>
-    ensures valid { IfOk result (λ unit. IsValidUnit 16 unit) }
-    ensures poisson { IfOk result (λ unit. IsPoisson unit.freq) }
-{
-    let sev = one_bucket(alloc)?;
-    Ok(Unit {
-        name: Text::from_vec(Vec::new(alloc)),
-        sev,
-        freq: Freq::Poisson(fraction(8, 1)),
-        cede: None,
-        zero: None,
-    })
-}
-
-/// Whether the sixteen cells of that unit have their first nine digits, and ends that lie at most
+/// Whether the sixteen cells of eight expected claims of one bucket each have their first nine digits, and ends that lie at most
 /// two units apart, as the recursion at the full mean leaves them; halvings leave them farther
 /// apart.
 #[tactic(auto, using(crate::proofs::TestLaws::at_most_4096, dl_grid::proofs::Sizes::few_at_each_scale))]
@@ -268,8 +223,7 @@ fn is_as_narrow<const B: u32>(alloc: Global) -> Result<bool, AllocError>
     let claim = one_bucket(alloc)?;
     let work = &mut Workspace::new(alloc);
     let halved = poisson_claims::<B>(alloc, work, &claim, fraction(8, 1), 16)?;
-    let unit = eight_expected(alloc)?;
-    let grid = unit_grid_with::<B>(alloc, work, &unit, 16)?;
+    let grid = summed::<B>(alloc, &expecting(alloc, 8)?, 16)?;
     let lows = [
         335462, 2683701, 10734804, 28626144, 57252288, 91603661, 122138215, 139586531, 139586531,
         124076917, 99261533, 72190206, 48126804, 29616494, 16923711, 9025979,
@@ -277,11 +231,11 @@ fn is_as_narrow<const B: u32>(alloc: Global) -> Result<bool, AllocError>
     Ok(agrees(&grid, &lows) && grid.spread() <= 32 && halved.spread() > 32)
 }
 
-/// The budget of that unit on sixteen cells.
+/// The budget of those claims on sixteen cells.
 fn budget_of_eight<const B: u32>(alloc: Global) -> Result<u128, AllocError>
     requires { IsPlanScale B }
 {
-    let unit = eight_expected(alloc)?;
+    let unit = expecting(alloc, 8)?;
     Ok(claims_budget::<B>(&unit.freq, &unit.sev, 16))
 }
 
@@ -299,31 +253,14 @@ fn hundreds(alloc: Global) -> Result<Sev, AllocError>
     ensures no_zero { IfOk result (λ sev. probability_of sev 0 ≡ whole 0) }
     ensures near { IfOk result (λ sev. All (λ item. item.amount ≤ 2 ^ 22) sev.items) }
 {
-    let mut items = Vec::new(alloc);
-    items.push(Item {
-        amount: 400,
-        weight: 1,
-    })?;
-    items.push(Item {
-        amount: 500,
-        weight: 1,
-    })?;
-    items.push(Item {
-        amount: 600,
-        weight: 1,
-    })?;
-    items.push(Item {
-        amount: 700,
-        weight: 1,
-    })?;
-    items.push(Item {
-        amount: 800,
-        weight: 1,
-    })?;
-    Ok(Sev {
-        items: Items::from_vec(items),
-        total: 5,
-    })
+    let items = [
+        item(400, 1),
+        item(500, 1),
+        item(600, 1),
+        item(700, 1),
+        item(800, 1),
+    ];
+    listed(alloc, &items, 5)
 }
 
 /// A unit with a hundred expected claims of these amounts, by a Poisson count.
