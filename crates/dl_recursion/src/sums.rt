@@ -84,6 +84,9 @@ fn alone(parts: &[Part], reach: usize, a: u64, b: u64, low: &[u64], high: &[u64]
     ensures low { result.low ≡ sum_by (contribution a b low.now (length low.now)) parts.now }
     ensures high { result.high ≡ sum_by (contribution a b high.now (length low.now)) parts.now }
 {
+    if parts.is_empty() {
+        return Ends { low: 0, high: 0 };
+    }
     if reach <= low.len() {
         return parts_contribution::<true>(parts, a, b, low, high);
     }
