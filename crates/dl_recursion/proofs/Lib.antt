@@ -12,3 +12,5 @@ pub mod Falling
 pub mod GridEnds
 pub mod Top
 pub mod Units
+pub mod Geometric
+pub mod Raising

@@ -132,7 +132,7 @@ run_room a b s cells small runs i d h room sum x p q =
 -- ---- a run by its window
 
 module _ (a b s : ℕ) (cells : List ℕ) where
-  run_is : (m n w : ℕ) → sum_by (contribution a b cells s) (in_a_row m n w)
+  pub run_is : (m n w : ℕ) → sum_by (contribution a b cells s) (in_a_row m n w)
       ≡ (a * s + b * m) * w * count_below n (λ k. cell_before cells s (m + k)) + b * w * count_below n
       (λ k. k * cell_before cells s (m + k))
   unfolding count_below

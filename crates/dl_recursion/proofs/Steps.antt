@@ -8,7 +8,7 @@ unfolding count_pairs sum_pairs
 as_sum zero f = refl
 as_sum (suc n) f = whole_plus _ _ ∙ ap (λ t. whole (f zero (suc n)) +ℚ t) (as_sum n (λ i k. f (suc i) k))
 
-scaled_sum : (n P : ℕ) (f : ℕ → ℕ → ℕ) (g : ℕ → ℕ)
+pub scaled_sum : (n P : ℕ) (f : ℕ → ℕ → ℕ) (g : ℕ → ℕ)
     → whole (count_pairs n (λ i k. f i k * g k)) *ℚ whole P ≡ sum_pairs n (λ i k. whole (f i k) *ℚ whole (g k * P))
 scaled_sum n P f g =
     ap (λ t. t *ℚ whole P) (as_sum n (λ i k. f i k * g k))

@@ -11,7 +11,7 @@ pub before_at : (cells : List ℕ) (s m k : ℕ) → k + m ≡ s → cell_before
 before_at cells s m k e = grind (arith, leb_tells m s)
 
 -- it is the same at the same distance
-before_equal : (cells : List ℕ) (s m s' m' : ℕ) → s + m' ≡ s' + m → cell_before cells s m ≡ cell_before cells s' m'
+pub before_equal : (cells : List ℕ) (s m s' m' : ℕ) → s + m' ≡ s' + m → cell_before cells s m ≡ cell_before cells s' m'
 before_equal cells s m s' m' e = elim (cases_lt s m) [
   | inl l ↦ grind (arith, before_none cells s m l, before_none cells s' m' (omega (arith, e, l)))
   | inr l ↦ grind (
@@ -55,7 +55,7 @@ module _ (cells : List ℕ) (s : ℕ) (run : Run) (window : Window) (small : (k 
 
 -- sums over terms, and over the terms one place on
 module _ (g h : ℕ → ℕ) (on : (k : ℕ) → g (suc k) ≡ h k) where
-  sum_slides : (n : ℕ) → count_below n g + g n ≡ g 0 + count_below n h
+  pub sum_slides : (n : ℕ) → count_below n g + g n ≡ g 0 + count_below n h
   unfolding count_below
   sum_slides zero = omega arith
   sum_slides (suc n) = omega (arith, sum_slides n, on n)
@@ -100,7 +100,7 @@ placed P xs i x b before here k d l = elim (cases_lt k i) [
 
 -- ---- more cells
 
-before_grown : (cells more : List ℕ) (s m : ℕ) → s ≤ length cells → 0 < m
+pub before_grown : (cells more : List ℕ) (s m : ℕ) → s ≤ length cells → 0 < m
     → cell_before (cells ++ more) s m ≡ cell_before cells s m
 before_grown cells more s m w p = elim (cases_lt s m) [
   | inl l ↦ grind (arith, before_none (cells ++ more) s m l, before_none cells s m l)

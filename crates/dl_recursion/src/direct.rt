@@ -6,11 +6,14 @@ ghost use Rattle.dl_exact.specs.Fraction.{Fraction, whole, ◌over◌, ◌*ℚ�
 ghost use Rattle.dl_grid.specs.Prelude.{IsGrid, IsGridSize};
 ghost use Rattle.dl_model.specs.Prelude.{poisson, gamma_of, IsPanjer, compound, GridEncloses};
 ghost use Rattle.dl_plan.specs.Severity.{probability_of};
+ghost use Rattle.dl_recursion.specs.Runs.{run_parts, all_parts, part_sum, ArePositiveAmounts};
+ghost use Rattle.dl_recursion.specs.Recursion.{AreFirst};
 ghost use Rattle.dl_recursion.specs.Start.{HoldsNoClaim};
 
-use crate::cells::START_BITS;
+use crate::cells::{START_BITS, ScaledCells};
 use crate::first::{gamma_start, poisson_start};
-use crate::parts::{amounts_of, common_amount};
+use crate::parts::{Amounts, Run, amounts_of, common_amount};
+use crate::passes::{MOST_PASSES, by_passes};
 use crate::recursion::recur;
 use crate::start::Scaled;
 use crate::to_grid::to_grid;
@@ -45,6 +48,49 @@ fn is_within_words(steps: Steps, ratio: Frac, total: u32, cells: u32) -> bool
     let factors = u128::from((steps.constant + steps.inverse) * u64::from(cells));
     let weights = u128::from(ratio.num()) * u128::from(total);
     factors * weights < limit && u128::from(ratio.den()) * u128::from(cells) < limit
+}
+
+/// The run that has all amounts, where one has.
+fn only_run(amounts: &Amounts) -> Option<Run>
+    requires amounts { ArePositiveAmounts amounts.now }
+    ensures parts { IfSome result (λ run. all_parts amounts.now ≡ run_parts run) }
+    ensures amount { IfSome result (λ run. 0 < run.amount) }
+    ensures end { IfSome result (λ run. run.amount + run.count ≤ 2 ^ 32) }
+{
+    if !amounts.parts.is_empty() || amounts.runs.len() != 1 {
+        return None;
+    }
+    Some(amounts.runs[0])
+}
+
+/// The first `cells` cells: by passes where the count has a whole shape and the amounts are one
+/// run, and one by one else.
+fn first_cells(
+    alloc: Global,
+    amounts: &Amounts,
+    a: u64,
+    b: u64,
+    q: u64,
+    cells: usize,
+) -> Result<ScaledCells, AllocError>
+    requires some { 0 < cells }
+    requires few { cells ≤ most_cells }
+    requires amounts { ArePositiveAmounts amounts.now }
+    requires some_step { 0 < a + b }
+    requires steps { (a + b) * cells < 2 ^ 32 }
+    requires weights { (a + b) * cells * part_sum (all_parts amounts.now) < 2 ^ 64 }
+    requires divisor { 0 < q }
+    requires divisors { q * cells < 2 ^ 64 }
+    ensures { IfOk result (AreFirst (all_parts amounts.now) a b q cells) }
+{
+    if a == 1 && b < MOST_PASSES {
+        if let Some(run) = only_run(amounts) {
+            if let Some(x) = by_passes(alloc, run, b + 1, q, cells)? {
+                return Ok(x);
+            }
+        }
+    }
+    recur(alloc, amounts, a, b, q, cells)
 }
 
 /// The grid of the compound sum of a count whose weights step so, and whose probability of no claim
@@ -84,7 +130,7 @@ fn compound_direct<const B: u32>(
         return Ok(None);
     }
     let amounts = amounts_of(alloc, sev.items.as_slice(), step, ratio.num())?;
-    let x = recur(
+    let x = first_cells(
         alloc,
         &amounts,
         steps.constant,

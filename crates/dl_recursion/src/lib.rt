@@ -7,15 +7,17 @@
 //!
 //! `parts` makes the amounts and their weights of a severity, in steps of their common divisor,
 //! rows of one weight as runs; `sums` adds up what they give to the next cell; `quotient` divides;
-//! `recursion` adds the cell and shifts; `rest` has the cells past those that count; `start` and
-//! `first` hold the probability of no claim; `to_grid` makes the grid, and `direct` has the two
-//! counts.
+//! `recursion` adds the cell and shifts; `rest` has the cells past those that count; `passes` makes
+//! the cells of a gamma count of a small shape without a division, where the amounts are one run;
+//! `start` and `first` hold the probability of no claim; `to_grid` makes the grid, and `direct` has
+//! the two counts.
 #![tactic(auto)]
 
 mod cells;
 mod direct;
 mod first;
 mod parts;
+mod passes;
 mod quotient;
 mod recursion;
 mod rest;

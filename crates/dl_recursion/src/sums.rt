@@ -94,7 +94,7 @@ fn alone(parts: &[Part], reach: usize, a: u64, b: u64, low: &[u64], high: &[u64]
 }
 
 /// The end that lies this amount before cell `s`, or 0 where there is none.
-fn cell_before(cells: &[u64], s: usize, amount: usize) -> u64
+pub(crate) fn cell_before(cells: &[u64], s: usize, amount: usize) -> u64
     requires within { s ≤ length cells.now }
     requires amount { 0 < amount }
     ensures { result ≡ cell_before cells.now s amount }

@@ -73,25 +73,25 @@ amounts_of-requires-clause-room g c =
 pub amounts_of-requires-clause-no_zero : goal.amounts_of-requires-clause-no_zero
 amounts_of-requires-clause-no_zero g c = rw c.as_slice-2.ensures (amounts_positive c.args.sev.now c.requires.no_zero)
 
-pub recur-requires-clause-few : goal.recur-requires-clause-few
-recur-requires-clause-few g c =
+pub first_cells-requires-clause-few : goal.first_cells-requires-clause-few
+first_cells-requires-clause-few g c =
     omega (arith, rows_few c.common_amount-step.result c.args.cells c.requires.size.some, size_few c.requires.size)
 
-pub recur-requires-clause-steps : goal.recur-requires-clause-steps
-recur-requires-clause-steps g c =
+pub first_cells-requires-clause-steps : goal.first_cells-requires-clause-steps
+first_cells-requires-clause-steps g c =
     few_steps c.args.steps.constant c.args.steps.inverse _ c.requires.a_small c.requires.b_small
     (omega (arith, rows_few c.common_amount-step.result c.args.cells c.requires.size.some, size_few c.requires.size))
 
-pub recur-requires-clause-weights : goal.recur-requires-clause-weights
-recur-requires-clause-weights g c =
+pub first_cells-requires-clause-weights : goal.first_cells-requires-clause-weights
+first_cells-requires-clause-weights g c =
     rw (c.in_ok-amounts.ensures.sum, c.num.ensures.part, c.as_slice-2.ensures, c.args.sev.now.weighted.sum)
     (c.if-not-is_within_words.ensures.factors refl)
 
-pub recur-requires-clause-divisor : goal.recur-requires-clause-divisor
-recur-requires-clause-divisor g c = rw c.den.ensures.part c.in-Ok.ratio.positive
+pub first_cells-requires-clause-divisor : goal.first_cells-requires-clause-divisor
+first_cells-requires-clause-divisor g c = rw c.den.ensures.part c.in-Ok.ratio.positive
 
-pub recur-requires-clause-divisors : goal.recur-requires-clause-divisors
-recur-requires-clause-divisors g c = rw c.den.ensures.part (c.if-not-is_within_words.ensures.divisors refl)
+pub first_cells-requires-clause-divisors : goal.first_cells-requires-clause-divisors
+first_cells-requires-clause-divisors g c = rw c.den.ensures.part (c.if-not-is_within_words.ensures.divisors refl)
 
 pub to_grid-requires : goal.to_grid-requires
 to_grid-requires g c =

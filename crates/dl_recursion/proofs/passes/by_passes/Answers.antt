@@ -1,0 +1,39 @@
+use Rattle.dl_recursion.proofs.Common.{◌≡◌, ℕ, suc, ◌+◌, ◌-◌, arith, refl, length, run_parts, Fraction}
+use Rattle.dl_recursion.specs.Geometric.{only_first}
+use Rattle.dl_recursion.proofs.Geometric.{follows_some, raised_first, raised_next}
+use Rattle.dl_recursion.proofs.passes.by_passes.Goals as goal
+
+pub shapes-init : goal.shapes-init
+shapes-init c =
+    let n = c.args.cells in
+    let q = c.args.q in
+    let begun = c.in_ok-x.ensures in
+    let told = c.if-not-raise_all.ensures in
+    let e : length c.in_ok-x.x.low.items ≡ n = begun.cells.cells in
+    record {
+      cells = rw e at (told.cells refl);
+      shift = omega (arith, c.raise_all.ensures.shift, begun.shift, c.first_shift.ensures.few);
+      round = λ r F.
+          rw e at (told.round refl q only_first r c.requires.divisor c.in-Some.ensures.factor
+          (raised_first (run_parts c.args.run) q r c.requires.divisor F) (rw e begun.round));
+    }
+
+pub shapes-preserved : goal.shapes-preserved
+shapes-preserved c =
+    let n = c.args.cells in
+    let q = c.args.q in
+    let k = c.shapes.k in
+    let parts = run_parts c.args.run in
+    let i = c.shapes.invariant in
+    let told = c.if-not-raise_all-2.ensures in
+    let e : length c.shapes.x.low.items ≡ n = i.cells.cells in
+    let shape : suc (k - 1) ≡ k + 1 - 1 = omega (arith, c.shapes.auto.k) in
+    record {
+      cells = rw e at (told.cells refl);
+      shift = omega (arith, c.raise_all-in-shapes.ensures.shift, c.bits_down-down.ensures, i.shift);
+      round = λ r F.
+          let before = follows_some parts 1 (k - 1) q c.requires.divisor in
+          let u : ℕ → Fraction = before.0 in
+          let raised = raised_next parts (k - 1) q u r c.requires.divisor before.1 (rw shape F) in
+          rw e at (told.round refl q u r c.requires.divisor c.in-Some.ensures.factor raised (rw e (i.round u before.1)));
+    }

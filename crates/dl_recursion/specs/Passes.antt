@@ -1,0 +1,23 @@
+-- A pass over cells in 64 bits: the sums that it needs, and the factor that stands for a weight.
+use Rattle.std.specs.Prelude.{ℕ, ◌+◌, ◌*◌, ◌^◌, ◌≤◌, ◌≡◌, List, length, slice_index}
+use Rattle.dl_exact.specs.Prelude.{count_below}
+use Rattle.dl_recursion.specs.declared.parts.Run.{Run}
+use Rattle.dl_recursion.specs.declared.cells.ScaledCells.{ScaledCells}
+use Rattle.dl_recursion.specs.Recursion.{cell_before}
+
+-- the sum of the cells that lie an amount of the run before cell s
+abbrev pub window_sum : List ℕ → ℕ → Run → ℕ
+window_sum cells s run = count_below run.count (λ k. cell_before cells s (run.amount + k))
+
+-- weight over q lies from the factor to the next number, in units of 1 / 2^64
+pub record IsFactor (weight q factor : ℕ) : Type 0 where
+  pub low : factor * q ≤ weight * 2 ^ 64
+  pub high : weight * 2 ^ 64 ≤ (factor + 1) * q
+
+-- n cells, with no end above this one
+pub record AreUpTo (n most : ℕ) (x : ScaledCells) : Type 0 where
+  pub cells : length x.low.items ≡ n
+  pub alike : length x.high.items ≡ n
+  pub low_small : (k : ℕ) → slice_index x.low.items k ≤ most
+  pub high_small : (k : ℕ) → slice_index x.high.items k ≤ most
+  pub first : x.first ≡ 0
