@@ -1,5 +1,5 @@
 -- The budget of a price by whole numbers: it passes that of its tail means by little, since the weights sum to 1.
-use Rattle.dl_budget.proofs.Common.{ℕ, ◌≡◌, ◌+◌, ◌-◌, ◌*◌, ◌^◌, ◌<◌, ◌≤◌, List, [], ◌∷◌, length, arith, inl, inr, refl, ap, sym, subst, ◌∙◌, div_ceil, mul-le-mul, mul-le-mul_left, mul-le-mul_right, le_of_mul-le-mul_right, div_ceil_least, sum_by, take_all, one_pos, up, up_quotient, Fraction, whole, ◌/◌, map, get_or, take, div-mul_cancel, eq-zero-or-pos, get_or-map, length-map, div_ceil_times, All-cons, All-head, All-tail, sum_by-cons, All, ◌*ℚ◌, over_self, over_mul, sum_over_map, Term, common_denominator, numerator_over}
+use Rattle.dl_budget.proofs.Common.{ℕ, ◌≡◌, ◌+◌, ◌-◌, ◌*◌, ◌^◌, ◌<◌, ◌≤◌, List, [], ◌∷◌, length, arith, inl, inr, refl, ap, sym, subst, ◌∙◌, div_ceil, mul-le-mul, mul-le-mul_left, mul-le-mul_right, le_of_mul-le-mul_right, div_ceil_least, sum_by, take_all, one_pos, up, up_quotient, Fraction, whole, ◌/◌, map, get_or, take, div-mul_cancel, eq-zero-or-pos, get_or-map, length-map, div_ceil_times, All-cons, All-head, All-tail, sum_by-cons, sum_by_more, All, ◌*ℚ◌, over_self, over_mul, sum_over_map, Term, common_denominator, numerator_over}
 use Prim.Native.Nat.{◌∣◌}
 use Rattle.dl_plan.specs.Terms.{ArePriced, most_weight_parts}
 use Rattle.dl_plan.proofs.CommonDenominators.{common_pos, den_divides}
@@ -105,6 +105,12 @@ module _ (terms : List Term) (priced : ArePriced terms) where
       quotient_pos : (q d c : ℕ) → q * d ≡ c → 0 < c → 0 < q
       quotient_pos q d c e pos = elim (eq-zero-or-pos q)
           [ inl none ↦ absurd (omega (arith, e, pos, ap (λ t. t * d) none)) | inr some ↦ some ]
+
+-- one more term
+pub price_next : (part : Term → ℕ) (terms : List Term) (i sum x : ℕ) (t : Term) → i < length terms → t ≡ get_or terms i t
+    → sum ≡ sum_by part (take i terms) → x ≡ part t → sum + x ≡ sum_by part (take (i + 1) terms)
+price_next part terms i sum x t inside is before here =
+    omega (arith, before, here, ap part is, sum_by_more part terms i t inside)
 
 pub price_all : (part : Term → ℕ) (terms : List Term) (i sum : ℕ) → length terms ≤ i
     → sum ≡ sum_by part (take i terms) → sum ≡ sum_by part terms

@@ -1,10 +1,12 @@
 -- The claims above 0 of units that share a factor: their sum, the same for the next shape, and the budget of a joint mean.
-use Rattle.dl_budget.proofs.Common.{ℕ, suc, ◌≡◌, ◌+◌, ◌*◌, ◌^◌, ◌<◌, ◌≤◌, List, [], ◌∷◌, length, get_or, take, arith, refl, sym, ap, ap₂, subst, ◌∙◌, take_all, Fraction, whole, ◌over◌, ◌≤ℚ◌, over_self, one_pos, le_over, div_ceil_least, mul-le-mul, up, IsValidUnit, take_more, get_or-map, All, most_claims_budget, most_expected, most_plan_cells, ◌+ℚ◌, ◌*ℚ◌, ◌<ℚ◌, le_div, le_refl, lt_not_le, plus_zero, times_le_both, whole_pos, whole_le, sum_over_append, UnitOfPlan, Plan, IsUnbounded, HasPartsOf48Bits, thinned_mean, IsValid, CanShare, HasCommonFactor, FitsFrac, admitted_fits, expected_of, raised, thinned_of}
+use Rattle.dl_budget.proofs.Common.{ℕ, suc, ◌≡◌, ◌+◌, ◌-◌, ◌*◌, ◌^◌, ◌<◌, ◌≤◌, List, [], ◌∷◌, length, get_or, take, arith, refl, sym, ap, ap₂, subst, ◌∙◌, take_all, Fraction, whole, ◌over◌, ◌≤ℚ◌, over_self, one_pos, le_over, div_ceil_least, mul-le-mul, up, IsValidUnit, take_more, get_or-map, All, most_claims_budget, most_expected, most_plan_cells, ◌+ℚ◌, ◌*ℚ◌, ◌<ℚ◌, le_div, le_refl, lt_not_le, plus_zero, times_le_both, whole_pos, whole_le, sum_over_append, UnitOfPlan, Plan, IsUnbounded, HasPartsOf48Bits, thinned_mean, IsValid, CanShare, Some, HasCommonFactor, FitsFrac, admitted_fits, expected_of, raised, thinned_of}
 unfoldable use Rattle.dl_exact.specs.Sum.{sum_over}
 use Rattle.dl_exact.proofs.Laws.{le_trans}
 use Rattle.dl_plan.proofs.Shared.{poisson_unbounded}
 use Rattle.dl_plan.proofs.Raised.{raised_parts}
-use Rattle.dl_budget.specs.Shared.{thinned_at}
+use Rattle.dl_budget.proofs.Sums.{read_unit}
+use Rattle.dl_budget.specs.Asks.{joint_by}
+use Rattle.dl_budget.specs.Shared.{raised_budget, shared_joint_budget, thinned_at}
 
 -- ---- what a valid plan has
 
@@ -76,6 +78,14 @@ joint_small cells before thinned few small within =
     let beside : cells * before + 2 ≤ most_plan_cells * most_claims_budget + 2 = omega (arith, mul-le-mul few small) in
     omega (arith, mul-le-mul beside (up_few thinned within))
 
+pub joint_fits : (cells before most : ℕ) → cells ≤ most_plan_cells → before < 2 ^ 44 → most < 2 ^ 64
+    → (cells * before + 2) * most + 2 < 2 ^ 128
+joint_fits cells before most few small word =
+    let below : before ≤ 2 ^ 44 = omega (arith, small) in
+    let beside : cells * before + 2 ≤ 2 ^ 60 + 2 = omega (arith, mul-le-mul few below) in
+    let least : most ≤ 2 ^ 64 - 1 = omega (arith, word) in
+    omega (arith, mul-le-mul beside least)
+
 -- that of a unit which was read there
 pub thinned_here : (units : List UnitOfPlan) (i : ℕ) (u : UnitOfPlan) → i < length units → u ≡ get_or units i u
     → thinned_mean u ≡ thinned_at units i
@@ -86,3 +96,19 @@ thinned_here units i u inside is = ap thinned_mean is ∙ sym (get_or-map thinne
 pub read_valid : (plan : Plan) (units : List UnitOfPlan) → IsValid plan → units ≡ plan.units
     → (h : ℕ) × All (IsValidUnit h) units
 read_valid plan units valid is = (plan.cells, subst (All (IsValidUnit plan.cells)) (sym is) valid.units)
+
+-- those of a plan whose units share a factor
+module _ (plan : Plan) (r : ℕ) (valid : IsValid plan) (common : plan.common ≡ Some r) (units : List UnitOfPlan)
+    (same : units ≡ plan.units) where
+  pub factor_of : HasCommonFactor r units
+  factor_of = subst (HasCommonFactor r) (sym same) (rw common at valid.common)
+
+  module _ (i : ℕ) (u : UnitOfPlan) (inside : i < length plan.units) (is : u ≡ get_or units i u) where
+    pub unbounded_there : IsUnbounded u.freq
+    unbounded_there = shares_unbounded u (subst CanShare (sym is) (factor_of.can_share i u (rw same inside)))
+
+    pub joint_value : (S before x : ℕ) → before ≡ raised_budget S plan.cells r units
+        → x ≡ shared_joint_budget plan.cells before (thinned_mean u) → x ≡ joint_by plan.common S plan i
+    joint_value S before x raised here =
+        rw common (here ∙ ap₂ (shared_joint_budget plan.cells) (raised ∙ ap (raised_budget S plan.cells r) same)
+        (thinned_here plan.units i u inside (read_unit units plan.units i u same is)))

@@ -1,9 +1,14 @@
 -- Budgets of sums of units, as a loop over the units makes them.
-use Rattle.dl_budget.proofs.Common.{IsPlanScale, ℕ, suc, ◌≡◌, ◌+◌, ◌-◌, ◌*◌, ◌^◌, ◌<◌, ◌≤◌, List, [], ◌∷◌, length, get_or, take, drop, arith, sym, ap, ap₂, subst, ◌∙◌, fold, remove, mul-le-mul, pow_pos, convolution_spread, rounded_spread, IsSizeWithin, sum_spread, IsOfUnits, unit_budgets, from_there, ◌++◌, length-map, length-take, length-drop, get_or-map, take-map, drop-map, fold_more, fold-append, most_unit_budget, UnitOfPlan, unit_budget}
+use Rattle.dl_budget.proofs.Common.{IsPlanScale, ℕ, suc, zero, ◌≡◌, ◌+◌, ◌-◌, ◌*◌, ◌^◌, ◌<◌, ◌≤◌, List, [], ◌∷◌, length, get_or, take, drop, arith, sym, ap, ap₂, subst, ◌∙◌, fold, remove, mul-le-mul, pow_pos, convolution_spread, rounded_spread, IsSizeWithin, sum_spread, IsOfUnits, unit_budgets, from_there, ◌++◌, length-map, length-take, length-drop, get_or-map, take-map, drop-map, fold_more, fold-append, most_unit_budget, UnitOfPlan, unit_budget, Plan, IsValid, IsValidUnit, All, take_all, eqb_tells, ◌==◌}
+use Rattle.std.specs.Prelude.{Bool, true, false}
 use Rattle.dl_budget.proofs.SizeLaws.{size_least, within_step, spread_near, below}
 
 pub budgets_length : (S cells : ℕ) (us : List UnitOfPlan) → length (unit_budgets S cells us) ≡ length us
 budgets_length S cells us = length-map us (unit_budget S cells)
+
+pub all_budgets : (S cells : ℕ) (us : List UnitOfPlan) (i : ℕ) → length us ≤ i
+    → take i (unit_budgets S cells us) ≡ unit_budgets S cells us
+all_budgets S cells us i past = take_all i (unit_budgets S cells us) (omega (arith, budgets_length S cells us, past))
 
 -- that of a unit which was read there
 pub budget_here : (S cells : ℕ) (us : List UnitOfPlan) (i b : ℕ) (u : UnitOfPlan) → i < length us → u ≡ get_or us i u
@@ -84,9 +89,25 @@ sum_of_others S cells us before after i x y cut rest some first further =
     further ∙ ap₂ (fold (convolution_spread S cells)) (first ∙ ap (sum_spread S cells) front) back
     ∙ sym (sum_joined S cells (take i (unit_budgets S cells us)) (drop (suc i) (unit_budgets S cells us)) long)
 
+-- those after the first
+pub sum_of_later : (S cells : ℕ) (us : List UnitOfPlan) (i x : ℕ) → i < length us → length (take i us) ≡ 0
+    → x ≡ sum_spread S cells (unit_budgets S cells (take (length us - (i + 1)) (drop (i + 1) us)))
+    → x ≡ sum_spread S cells (remove (unit_budgets S cells us) i)
+sum_of_later S cells us zero x inside none e =
+    e ∙ ap (λ t. sum_spread S cells (unit_budgets S cells t)) (from_there 0 us)
+    ∙ ap (sum_spread S cells) (sym (drop-map (unit_budget S cells) 1 us))
+sum_of_later S cells us (suc i) x inside none e = absurd (omega (arith, none, inside, length-take (suc i) us))
+
 -- the later units
 pub later_length : (us : List UnitOfPlan) → length (take (length us - 1) (drop 1 us)) ≡ length us - 1
 later_length us = ap length (from_there 0 us) ∙ length-drop 1 us
+
+-- what a test tells of the units before i
+pub none_there : (n : ℕ) (empty : Bool) → empty ≡ (n == 0) → empty ≡ true → n ≡ 0
+none_there n empty told is = grind (arith, eqb_tells n 0)
+
+pub some_there : (n : ℕ) (empty : Bool) → empty ≡ (n == 0) → empty ≡ false → 1 ≤ n
+some_there n empty told is = grind (arith, eqb_tells n 0)
 
 -- the units before i and those after it are not more than all
 pub parts_length : (i : ℕ) (us : List UnitOfPlan)
@@ -102,3 +123,12 @@ parts_length i us = omega (
 pub read_unit : (slice us : List UnitOfPlan) (i : ℕ) (u : UnitOfPlan) → slice ≡ us → u ≡ get_or slice i u
     → u ≡ get_or us i u
 read_unit slice us i u e is = is ∙ ap (λ t. get_or t i u) e
+
+pub valid_there : (cells : ℕ) (us : List UnitOfPlan) (i : ℕ) (u : UnitOfPlan) → All (IsValidUnit cells) us → i < length us
+    → u ≡ get_or us i u → IsValidUnit cells u
+valid_there cells us i u valid inside is = subst (IsValidUnit cells) (sym is) (valid i u inside)
+
+pub unit_there : (plan : Plan) (slice : List UnitOfPlan) (i : ℕ) (u : UnitOfPlan) → IsValid plan → i < length plan.units
+    → slice ≡ plan.units → u ≡ get_or slice i u → IsValidUnit plan.cells u
+unit_there plan slice i u valid inside e is =
+    valid_there plan.cells plan.units i u valid.units inside (read_unit slice plan.units i u e is)

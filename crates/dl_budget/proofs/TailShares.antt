@@ -1,5 +1,5 @@
 -- The budget of a share of a tail mean by whole numbers.
-use Rattle.dl_budget.proofs.Common.{ℕ, ◌≡◌, ◌+◌, ◌-◌, ◌*◌, ◌^◌, ◌<◌, ◌≤◌, arith, ap, ap₂, sym, ◌∙◌, List, length, get_or, div_ceil, mul-le-mul, Fraction, whole, ◌over◌, up, up_quotient, unit_mean_budget, map, get_or-map, num_below, ◌<ℚ◌, UnitOfPlan}
+use Rattle.dl_budget.proofs.Common.{ℕ, ◌≡◌, ◌+◌, ◌-◌, ◌*◌, ◌^◌, ◌<◌, ◌≤◌, arith, ap, ap₂, sym, ◌∙◌, List, length, get_or, div_ceil, mul-le-mul, Fraction, whole, ◌over◌, div_ceil_least, mul-le-mul_left, up, up_quotient, unit_mean_budget, map, get_or-map, num_below, ◌<ℚ◌, UnitOfPlan}
 
 -- the mean's budget of a unit which was read there
 pub mean_here : (S cells : ℕ) (us : List UnitOfPlan) (i b : ℕ) (u : UnitOfPlan) → i < length us → u ≡ get_or us i u
@@ -13,6 +13,18 @@ pub cells_total : (cells total : ℕ) → cells ≤ 65536 → total < 2 ^ 44 →
 cells_total cells total few small =
     let below : total ≤ 2 ^ 44 = omega (arith, small) in
     omega (arith, mul-le-mul few below)
+
+-- those parts times one of p
+pub share_parts : (mean joint cells total kappa b d : ℕ) → mean ≤ 2 ^ 63 → joint ≤ 2 ^ 63 → cells ≤ 65536 → total < 2 ^ 44
+    → kappa ≤ 2 ^ 80 → b ≡ d → d ≤ 10 ^ 4 → (mean + (joint + 2 * cells + cells * (total + 2)) + kappa + 4) * b ≤ 2 ^ 97
+share_parts mean joint cells total kappa b d of_mean of_joint few small of_kappa e parts =
+    let sum : mean + (joint + 2 * cells + cells * (total + 2)) + kappa + 4 ≤ 2 ^ 82 =
+    omega (arith, cells_total cells total few small) in
+    let most : b ≤ 10 ^ 4 = omega arith in
+    omega (arith, mul-le-mul sum most)
+
+pub share_small : (n rest : ℕ) → 0 < rest → n ≤ 2 ^ 97 → div_ceil n rest + 4 ≤ 2 ^ 98
+share_small n rest some small = omega (arith, div_ceil_least n rest n some (omega (arith, mul-le-mul_left n some)))
 
 -- from the parts of the budget and those of p
 pub share_value : (M J T K cells x j y k b d n : ℕ) (p : Fraction) → x ≡ M → j ≡ J → y ≡ T → k ≡ K → b ≡ p.den → d ≡ p.den

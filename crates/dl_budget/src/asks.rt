@@ -82,7 +82,6 @@ fn layer_mean_budget<const B: u32>(
 }
 
 /// The budget of a tail mean at the probability `p`.
-#[tactic(auto, using(dl_exact::proofs::BelowOne::num_below))]
 fn tail_budget<const B: u32>(plan: &Plan, budgets: Budgets, p: Frac) -> u128
     requires valid { IsValid plan.now }
     requires budgets { AreBudgetsOf (2 ^ B) plan.now budgets }
@@ -167,7 +166,6 @@ fn kappa_budget<const B: u32>(plan: &Plan, budgets: Budgets, i: u32) -> u128
 }
 
 /// The budget of the share of unit `i` in the tail mean at the probability `p`.
-#[tactic(auto, using(dl_exact::proofs::BelowOne::num_below))]
 fn cotail_budget<const B: u32>(plan: &Plan, budgets: Budgets, i: u32, p: Frac) -> u128
     requires scale { IsPlanScale B }
     requires valid { IsValid plan.now }

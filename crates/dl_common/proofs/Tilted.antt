@@ -1,6 +1,6 @@
 -- Sums over the amounts of one claim: as sums over the pairs that add up to the total, how large they are, and how far
 -- apart two of them lie.
-use Rattle.dl_common.proofs.Common.{ℕ, zero, suc, ◌≡◌, ◌∙◌, ◌+◌, ◌-◌, ◌*◌, ◌<◌, ◌≤◌, ◌^◌, ◌==◌, List, [], ◌∷◌, length, take, get_or, true, cond, inl, inr, refl, ap, ap₂, sym, arith, sum_by-cons, sum_by_more, Item, weight_at, weight_sum, ◌≢◌, nat_le, mul-le-mul_left, mul-le-mul_right, sum_by-take-le, amounts_to}
+use Rattle.dl_common.proofs.Common.{ℕ, zero, suc, ◌≡◌, ◌∙◌, ◌+◌, ◌-◌, ◌*◌, ◌<◌, ◌≤◌, ◌^◌, ◌==◌, List, [], ◌∷◌, length, take, get_or, true, false, cond, inl, inr, refl, ap, ap₂, sym, arith, sum_by-cons, sum_by_more, Item, weight_at, weight_sum, ◌≢◌, nat_le, mul-le-mul_left, mul-le-mul_right, sum_by-take-le, amounts_to}
 use Rattle.dl_exact.proofs.Counts.{nothing_times, times_nothing, pairs_none, pairs_only, pairs_past, pairs_same, pairs_plus, pairs_le, below_pairs, below_le, below_times}
 use Rattle.std.proofs.Common.{mul-le-mul, eq-eqb, ne_eqb}
 use Rattle.std.proofs.lemmas.Bool.Decides.{leb_tells}
@@ -51,6 +51,16 @@ module _ (x : ℕ) (at : ℕ → ℕ) (items : List Item) (i : ℕ) (d : Item) (
       ap (λ (t : ℕ). (get_or items i d).amount * (get_or items i d).weight * t) value,
     )
     | inr beyond ↦ absurd (omega arith)
+  ]
+
+  part_none : nat_le (get_or items i d).amount x ≡ false → part x at (get_or items i d) ≡ 0
+  part_none e = rw e refl
+
+  pub amounts_same : (sum : ℕ) → sum ≡ amounts_to x at (take i items) → x < (get_or items i d).amount
+      → sum ≡ amounts_to x at (take (i + 1) items)
+  amounts_same sum so_far past = elim (leb_tells (get_or items i d).amount x) [
+    | inl within ↦ absurd (omega arith)
+    | inr beyond ↦ omega (arith, one_more, part_none beyond.0)
   ]
 
   pub amounts_fit : (sum v top : ℕ) → sum ≡ amounts_to x at (take i items) → (get_or items i d).amount ≤ x

@@ -21,3 +21,4 @@ pub mod ShareLaws
 pub mod FromTotal
 pub mod FromRaised
 pub mod Parted
+pub mod Parts

@@ -1,5 +1,13 @@
 -- A grid from two lists that hold the ends of all cells is these cells.
-use Rattle.dl_panjer.proofs.Common.{ℕ, ◌≡◌, ◌≤◌, ◌∙◌, List, length, take, ap, map, take_all, Iv, low_ends, high_ends, IsGrid, AreEnds, ends_of_grid, same_cells}
+use Rattle.dl_panjer.proofs.Common.{ℕ, ◌≡◌, ◌+◌, ◌<◌, ◌≤◌, ◌∙◌, List, [], ◌∷◌, ◌++◌, length, get_or, take, ap, map, take_all, Iv, low_ends, high_ends, map_more, IsGrid, AreEnds, ends_of_grid, same_cells}
+
+-- the ends of one cell more
+pub one_more : {B : ℕ} (end : Iv B → ℕ) (cells : List (Iv B)) (i : ℕ) (cell : Iv B) (made now : List ℕ) → i < length cells
+    → cell ≡ get_or cells i cell → made ≡ map end (take i cells) → now ≡ made ++ (end cell ∷ [])
+    → now ≡ map end (take (i + 1) cells)
+one_more end cells i cell made now inside is before pushed =
+    rw (pushed, before, map_more end cells i cell inside)
+    (ap (λ t. map end (take i cells) ++ (end t ∷ [])) is)
 
 pub both_lists : {B : ℕ} (cells : List (Iv B)) (n : ℕ) (lows highs : List ℕ) → IsGrid cells → length cells ≤ n
     → lows ≡ map (λ t. t.lo) (take n cells) → highs ≡ map (λ t. t.hi) (take n cells) → AreEnds B lows highs

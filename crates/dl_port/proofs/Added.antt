@@ -6,6 +6,7 @@ use Rattle.std.proofs.lemmas.List.Elements.{All-take, All-drop}
 use Rattle.std.proofs.Math.Nat.{suc-add}
 use Rattle.std.proofs.lemmas.List.Sums.{fold-append}
 use Rattle.std.proofs.lemmas.List.{get_or-take, get_or-drop, length-drop, map-append}
+use Rattle.dl_port.specs.Shared.{AreUnits}
 use Rattle.dl_exact.specs.Fraction.{◌over◌}
 use Rattle.dl_grid.specs.Cells.{low_at, high_at, all_at_zero}
 use Rattle.dl_grid.proofs.CellSets.{low_take, high_take}
@@ -254,8 +255,31 @@ both_spreads {B} grids before after k i x y cut rest some h g =
     (subst (λ t. y ≤ sum_spread (2 ^ B) k t) (sym (map-append spread before after))
     (further_spread (2 ^ B) k x y (map spread before) (map spread after) (pow_pos B) (rw length-map some) h g))
 
+pub after_narrow : {B : ℕ} (grids after : List (List (Iv B))) (k i y : ℕ) → i ≡ 0 → after ≡ drop (suc i) grids
+    → y ≤ sum_spread (2 ^ B) k (map spread after) → y ≤ sum_spread (2 ^ B) k (map spread (remove grids i))
+after_narrow {B} grids after k i y none rest narrow =
+    subst (λ t. y ≤ sum_spread (2 ^ B) k (map spread t)) (rest ∙ ap (λ n. take n grids ++ drop (suc i) grids) (sym none))
+    narrow
+
 -- the rest of a list of grids after i, as a slice reads it
 pub all_within : {B : ℕ} (k : ℕ) (grids : List (List (Iv B))) (i : ℕ) → All (λ t. k ≤ length t) grids
     → All (λ t. k ≤ length t) (take (length grids - i) (drop i grids))
 all_within k grids i each = All-take (λ t. k ≤ length t) (length grids - i) (drop i grids)
     (All-drop (λ t. k ≤ length t) i grids each)
+
+-- the units before i, and those after it
+pub are_before : {B : ℕ} (k i : ℕ) (grids : List (List (Iv B))) → 1 ≤ k → 0 < i → i < length grids
+    → All (λ t. k ≤ length t) grids → AreUnits k (take i grids)
+are_before k i grids some before inside each = record {
+  units = omega (arith, length-take i grids);
+  some = some;
+  in_each = All-take (λ t. k ≤ length t) i grids each;
+}
+
+pub are_after : {B : ℕ} (k i : ℕ) (grids : List (List (Iv B))) → 1 ≤ k → i < length grids
+    → All (λ t. k ≤ length t) grids → AreUnits k (take (length grids - i) (drop i grids))
+are_after k i grids some inside each = record {
+  units = omega (arith, length-take (length grids - i) (drop i grids), length-drop i grids);
+  some = some;
+  in_each = all_within k grids i each;
+}

@@ -400,6 +400,17 @@ pub one_fewer : {X : Type 0} (n : ℕ) (old new : List X) → new ≡ take (n - 
     → length new + 1 ≡ length old
 one_fewer n old new e many some = omega (arith, ap length e, length-take (n - 1) old, many, some)
 
+-- the places of two roots that left their list, as slices read it
+pub two_places : (old one rest two : List ℕ) (a b x y n : ℕ) → one ≡ old → a < length one → x ≡ get_or old a x
+    → rest ≡ remove old a → two ≡ rest → b < length two → y ≡ get_or rest b y → All (λ at. at < n) old
+    → (x < n) × (y < n)
+two_places old one rest two a b x y n same in_a is_x left again in_b is_y inside =
+    let fewer : All (λ at. at < n) rest = subst (λ t. All (λ at. at < n) t) (sym left)
+    (all_removed (λ at. at < n) old a (omega (arith, in_a, ap length same)) inside) in (
+      subst (λ at. at < n) (sym is_x) (inside a x (omega (arith, in_a, ap length same))),
+      subst (λ at. at < n) (sym is_y) (fewer b y (omega (arith, in_b, ap length again))),
+    )
+
 -- the outer sums without that of the last node, of the nodes without the last one
 pub less : {B : ℕ} (k : ℕ) (grids : List (List (Iv B))) (nodes left : List (Node B)) (node : Node B)
     (outer rest : List (Option (List (Iv B)))) (top : Option (Option (List (Iv B)))) → nodes ≡ left ++ node ∷ []

@@ -1,5 +1,5 @@
 use Rattle.dl_port.proofs.Common.{arith, IfOk-weaker}
-use Rattle.dl_port.proofs.Added.{to_the_end}
+use Rattle.dl_port.proofs.Added.{to_the_end, long_enough, all_within}
 use Rattle.dl_port.proofs.OneGrid.{first_run, with_rest}
 use Rattle.dl_port.proofs.first_together.Goals as goal
 
@@ -12,3 +12,28 @@ returns-clause-encloses g c =
     c.requires.within c.requires.same (omega (arith, c.requires.first, c.requires.within)) c.index-units-0.is
     c.in_ok-first.ensures.encloses w e) w e)
     c.with_units.ensures.encloses
+
+pub with_units-requires : goal.with_units-requires
+with_units-requires g c = (
+  omega arith,
+  (
+    c.requires.cells.some,
+    (
+      c.in_ok-first.ensures.cells,
+      all_within c.args.cells c.args.units.now c.args.many c.requires.cells.in_each,
+    ),
+  ),
+)
+
+pub repeated-requires : goal.repeated-requires
+repeated-requires g c = (
+  omega arith,
+  (
+    c.requires.first,
+    (
+      c.requires.cells.some,
+      long_enough c.args.units.now c.args.cells 0 c.index-units-0.result (omega (arith, c.requires.first, c.requires.within))
+          c.index-units-0.is c.requires.cells.in_each,
+    ),
+  ),
+)

@@ -1,8 +1,8 @@
-use Rattle.dl_budget.proofs.Common.{◌+◌, ◌^◌, arith, up, whole, ◌*ℚ◌, Term, most_tail_budget, tail_budget, mean_budget, total_budget}
+use Rattle.dl_budget.proofs.Common.{◌+◌, ◌^◌, arith, ap, ◌∙◌, up, whole, ◌*ℚ◌, Term, most_tail_budget, tail_budget, mean_budget, total_budget}
 use Rattle.dl_budget.proofs.Horizons.{few_cells}
 use Rattle.dl_budget.proofs.Tails.{tail_most}
 use Rattle.dl_plan.proofs.TermLevels.{level_there, levels_each}
-use Rattle.dl_budget.proofs.Prices.{price_all, price_small, weight_small}
+use Rattle.dl_budget.proofs.Prices.{price_all, price_next, price_small, weight_small}
 use Rattle.dl_budget.proofs.asks.price_budget.Goals as goal
 
 pub tail_budget-requires-clause-level : goal.tail_budget-requires-clause-level
@@ -13,6 +13,23 @@ pub part_budget-sum-requires-clause-weight : goal.part_budget-sum-requires-claus
 part_budget-sum-requires-clause-weight g c =
     weight_small c.args.terms.now c.requires.priced c.terms.term-index c.term-item.result c.terms-test.true
     c.term-item.is
+
+pub part_budget-sum-requires-clause-small : goal.part_budget-sum-requires-clause-small
+part_budget-sum-requires-clause-small g c = c.tail_budget.ensures.small
+
+pub terms-preserved : goal.terms-preserved
+terms-preserved g c = record {
+  so_far = price_next (λ (t : Term). up (t.weight *ℚ whole (tail_budget (2 ^ g.row.B) c.args.plan.now t.p)) + 2)
+      c.args.terms.now c.terms.term-index c.terms.sum _ c.term-item.result c.terms-test.true c.term-item.is
+      c.terms.invariant.so_far (c.part_budget-sum.ensures.value
+      ∙ ap (λ n. up (c.term-item.result.weight *ℚ whole n) + 2) c.tail_budget.ensures.value);
+  small = omega arith;
+}
+
+pub returns-clause-value : goal.returns-clause-value
+returns-clause-value g c =
+    price_all (λ (t : Term). up (t.weight *ℚ whole (tail_budget (2 ^ g.row.B) c.args.plan.now t.p)) + 2) c.args.terms.now
+    c.terms.term-index c.terms.sum (omega arith) c.terms.invariant.so_far
 
 pub returns-clause-small : goal.returns-clause-small
 returns-clause-small g c =

@@ -1,13 +1,18 @@
-use Rattle.dl_budget.proofs.Common.{◌+◌, ◌^◌, arith, sym, subst, IsValidUnit}
+use Rattle.dl_budget.proofs.Common.{◌+◌, ◌^◌, arith, ap, ◌∙◌, length, fold, convolution_spread}
 use Rattle.dl_budget.proofs.Horizons.{unit_horizon}
-use Rattle.dl_budget.proofs.Sums.{budget_next, sum_size_next, sum_small, size_at}
+use Rattle.dl_budget.proofs.Sums.{all_budgets, budget_next, sum_size_next, sum_small, size_at, valid_there}
 use Rattle.dl_budget.proofs.units.with_units.Goals as goal
+
+pub unit_budget-requires-clause-valid : goal.unit_budget-requires-clause-valid
+unit_budget-requires-clause-valid g c = (
+  c.args.cells,
+  valid_there c.args.cells c.args.units.now _ _ c.requires.valid (omega arith) c.unit-item.is,
+)
 
 pub unit_budget-requires-clause-horizon : goal.unit_budget-requires-clause-horizon
 unit_budget-requires-clause-horizon g c =
     unit_horizon c.args.cells c.unit-item.result (omega arith)
-    (subst (IsValidUnit c.args.cells) (sym c.unit-item.is)
-    (c.requires.valid c.loop-unit.unit-index c.unit-item.result (omega arith)))
+    (valid_there c.args.cells c.args.units.now _ _ c.requires.valid (omega arith) c.unit-item.is)
 
 pub convolution_spread-total-requires-clause-left : goal.convolution_spread-total-requires-clause-left
 convolution_spread-total-requires-clause-left g c =
@@ -27,3 +32,13 @@ loop-unit-preserved g c = record {
       (omega (arith, room)) (c.loop-unit.invariant.size n room start)
       c.unit_budget.ensures.small c.convolution_spread-total.ensures.value);
 }
+
+pub returns-clause-value : goal.returns-clause-value
+returns-clause-value g c =
+    c.loop-unit.invariant.value ∙ ap (fold (convolution_spread (2 ^ g.row.B) c.args.cells) c.args.sum)
+    (all_budgets (2 ^ g.row.B) c.args.cells c.args.units.now c.loop-unit.unit-index (omega arith))
+
+pub returns-clause-size : goal.returns-clause-size
+returns-clause-size g c n room start =
+    size_at g.row.B c.args.cells (n + c.loop-unit.unit-index) (n + length c.args.units.now) _ (omega arith)
+    (c.loop-unit.invariant.size n room start)

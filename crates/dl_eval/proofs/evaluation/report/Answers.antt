@@ -3,6 +3,7 @@ use Rattle.dl_plan.specs.declared.settings.Ask.TheVariants.{Mean}
 use Rattle.dl_eval.proofs.Insides.{ask_has}
 use Rattle.dl_eval.proofs.Lists.{each_next, pushed_length, all_pairs}
 use Rattle.dl_eval.proofs.Named.{named_here, numbers_many}
+use Rattle.dl_eval.proofs.Parts.{all_six}
 use Rattle.dl_eval.proofs.evaluation.report.Goals as goal
 
 pub row-requires : goal.row-requires
@@ -16,16 +17,16 @@ row-requires g c =
     let test = c.loop-i-test.true in
     let unit = named_here plan.units i same c.requires.numbers c.index-asks-i.is test in
     let many = numbers_many plan.units same c.requires.numbers in
-    (omega arith) also (omega arith) also (omega arith) also c.requires.scale also c.requires.ranges.few_digits
-    also ask_has (λ (a : Asked). IsAskInRange a.ask) i same c.index-asks-i.is test c.requires.ranges.asks
-    also c.requires.valid also ask_has (λ (a : Asked). IsInside plan.cells a.ask) i same c.index-asks-i.is test
-    c.requires.inside also ask_has (λ (a : Asked). NamesUnit plan.units a.ask) i same c.index-asks-i.is test
-    c.requires.named also ask_has (λ (a : Asked). HasShare plan a.ask) i same c.index-asks-i.is test c.requires.shares
-    also c.requires.grids also c.requires.total also c.requires.summed also unit
-    also IfSome_then c.args.parts.now.grids c.requires.there (λ made each. each i None (omega (arith, many, test)))
-    also c.requires.same
+    all_six (omega arith) (omega arith) (omega arith) c.requires.scale c.requires.ranges.few_digits (all_six
+    (ask_has (λ (a : Asked). IsAskInRange a.ask) i same c.index-asks-i.is test c.requires.ranges.asks) c.requires.valid
+    (ask_has (λ (a : Asked). IsInside plan.cells a.ask) i same c.index-asks-i.is test c.requires.inside)
+    (ask_has (λ (a : Asked). NamesUnit plan.units a.ask) i same c.index-asks-i.is test c.requires.named)
+    (ask_has (λ (a : Asked). HasShare plan a.ask) i same c.index-asks-i.is test c.requires.shares) (all_six
+    c.requires.grids c.requires.total c.requires.summed unit
+    (IfSome_then c.args.parts.now.grids c.requires.there (λ made each. each i None (omega (arith, many, test))))
+    (c.requires.same
     also (λ none. ask_has (λ (a : Asked). a.ask ≡ Mean) i same c.index-asks-i.is test (c.requires.none none))
-    also c.requires.mean also c.requires.small
+    also c.requires.mean also c.requires.small)))
 
 pub loop-i-preserved : goal.loop-i-preserved
 loop-i-preserved g c =

@@ -1,7 +1,8 @@
-use Rattle.dl_eval.proofs.Common.{arith, ◌also◌}
+use Rattle.dl_eval.proofs.Common.{arith}
 use Rattle.dl_eval.proofs.ReadAs.{mean_there, mean_small}
 use Rattle.dl_eval.proofs.Scales.{plan_scale, scale_least}
 use Rattle.dl_eval.proofs.TailShares.{tail_share, share_reached, share_absent}
+use Rattle.dl_eval.proofs.Parts.{all_six}
 use Rattle.dl_eval.proofs.shares.tail_share_beside.Goals as goal
 
 pub returns-clause-reached : goal.returns-clause-reached
@@ -18,13 +19,13 @@ cotail-requires g c =
     let scale = plan_scale g.row.B c.args.plan.now.cells c.requires.scale in
     let least = scale_least g.row.B scale in
     let made = c.requires.grids in
-    (omega (arith, scale.least, scale.most)) also (omega (arith, scale.least, scale.most)) also (omega arith)
-    also c.requires.level.below also c.requires.few
-    also (omega (arith, c.unit.ensures.is.cells, c.others.ensures.are.cells))
-    also (omega (arith, c.unit.ensures.is.cells, c.requires.total.cells)) also (omega (arith, c.unit.ensures.narrow, least))
-    also (omega (arith, c.others.ensures.narrow, least))
-    also (omega (arith, c.requires.total.narrow, c.total_budget.ensures.value, c.if-prove.false, least))
-    also (omega (arith, mean_small c.args.i c.as_slice.ensures.value c.index-as_slice-i.is c.requires.unit made.means made.small))
+    let small = mean_small c.args.i c.as_slice.ensures.value c.index-as_slice-i.is c.requires.unit made.means made.small in
+    all_six (omega (arith, scale.least, scale.most)) (omega (arith, scale.least, scale.most)) (omega arith)
+    c.requires.level.below c.requires.few (all_six (omega (arith, c.unit.ensures.is.cells, c.others.ensures.are.cells))
+    (omega (arith, c.unit.ensures.is.cells, c.requires.total.cells)) (omega (arith, c.unit.ensures.narrow, least))
+    (omega (arith, c.others.ensures.narrow, least))
+    (omega (arith, c.requires.total.narrow, c.total_budget.ensures.value, c.if-prove.false, least))
+    (omega (arith, small)))
 
 pub returns-clause-absent : goal.returns-clause-absent
 returns-clause-absent g c =

@@ -1,7 +1,8 @@
-use Rattle.dl_eval.proofs.Common.{◌≤◌, ◌^◌, List, [], length, arith, ap, subst, few_cells, Iv, IsUnitGrid, IsUnitMean, AreUnitGrids, ◌also◌}
+use Rattle.dl_eval.proofs.Common.{◌≤◌, ◌^◌, List, [], length, arith, ap, subst, few_cells, Iv, IsUnitGrid, IsUnitMean, AreUnitGrids}
 use Rattle.dl_eval.proofs.ReadAs.{unit_there}
 use Rattle.dl_eval.proofs.Means.{are_means}
 use Rattle.dl_eval.proofs.Lists.{each_next, pushed_length, all_pushed}
+use Rattle.dl_eval.proofs.Parts.{all_six}
 use Rattle.dl_eval.proofs.units.unit_outcomes.Goals as goal
 
 pub outcomes_after-requires : goal.outcomes_after-requires
@@ -13,14 +14,13 @@ outcomes_after-requires g c =
     let means = c.as_slice-in-loop-unit.ensures.value in
     let many = ap (λ (t : List (List (Iv g.row.B))). length t) grids in
     let as_many = ap (λ (t : List (Iv g.row.B)). length t) means in
-    (omega arith) also (omega arith) also c.requires.scale
-    also unit_there c.loop-unit.unit-index units.ensures c.unit-item.is
-    (omega (arith, c.loop-unit-test.true, ap (λ t. length t) units.ensures)) c.requires.valid
-    also some.0 also some.1 also (omega (arith, many, c.loop-unit.invariant.many_grids, c.loop-unit-test.true))
-    also (omega (arith, many, as_many, c.loop-unit.invariant.many_grids, c.loop-unit.invariant.many_means))
-    also (λ i u grid inside. rw grids (c.loop-unit.invariant.grids i u grid (omega arith)))
-    also (λ i u m inside. rw means (c.loop-unit.invariant.means i u m (omega arith)))
-    also rw means c.loop-unit.invariant.small
+    all_six (omega arith) (omega arith) c.requires.scale
+    (unit_there c.loop-unit.unit-index units.ensures c.unit-item.is
+    (omega (arith, c.loop-unit-test.true, ap (λ t. length t) units.ensures)) c.requires.valid) some.0 (all_six some.1
+    (omega (arith, many, c.loop-unit.invariant.many_grids, c.loop-unit-test.true))
+    (omega (arith, many, as_many, c.loop-unit.invariant.many_grids, c.loop-unit.invariant.many_means))
+    (λ i u grid inside. rw grids (c.loop-unit.invariant.grids i u grid (omega arith)))
+    (λ i u m inside. rw means (c.loop-unit.invariant.means i u m (omega arith))) (rw means c.loop-unit.invariant.small))
 
 pub loop-unit-preserved : goal.loop-unit-preserved
 loop-unit-preserved g c =

@@ -32,3 +32,18 @@ loop-s-preserved g c =
           follows_pushed b c.args.items.now c.args.total c.args.rate list cell c.loop-s.s i.cells some
           i.follows low high;
     })
+
+pub returns-clause-start_low : goal.returns-clause-start_low
+returns-clause-start_low g c = c.loop-s.invariant.start_low
+
+pub returns-clause-start_high : goal.returns-clause-start_high
+returns-clause-start_high g c = c.loop-s.invariant.start_high
+
+pub returns-clause-small : goal.returns-clause-small
+returns-clause-small g c = c.loop-s.invariant.small
+
+pub returns-clause-follows : goal.returns-clause-follows
+returns-clause-follows g c = record {
+  low = λ s inside. c.loop-s.invariant.follows.low s (omega arith);
+  high = λ s inside. c.loop-s.invariant.follows.high s (omega arith);
+}

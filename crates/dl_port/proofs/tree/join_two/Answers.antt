@@ -1,8 +1,8 @@
-use Rattle.dl_port.proofs.Common.{◌≡◌, ◌<◌, ◌∷◌, ◌++◌, [], length, get_or, arith, refl, sym, ap, ap₂, subst, subst₂, ◌∙◌, remove, IsConvolution}
+use Rattle.dl_port.proofs.Common.{◌≡◌, ◌+◌, ◌<◌, ◌∷◌, ◌++◌, [], length, get_or, arith, refl, sym, ap, ap₂, subst, subst₂, ◌∙◌, remove, IsConvolution}
 use Rattle.std.proofs.Common.{ℕ}
 use Rattle.dl_port.specs.Tree.{IsForest, sum_at}
 use Rattle.dl_port.specs.declared.tree.Node.{Node}
-use Rattle.dl_port.proofs.TreeLaws.{joined}
+use Rattle.dl_port.proofs.TreeLaws.{joined, two_places}
 use Rattle.dl_port.proofs.tree.join_two.Goals as goal
 
 pub returns-clause-forest : goal.returns-clause-forest
@@ -40,3 +40,33 @@ returns-clause-forest g c =
     subst₂ (λ n r. IsForest c.args.cells units n r) (sym c.in_ok-push-2.ensures.items) (sym roots)
     (joined old a b x y in_a in_b c.remove-first.ensures.value is_y c.args.cells units nodes node refl refl
     c.in_ok-grid.ensures.cells conv c.requires.forest)
+
+pub sum_at-other-requires : goal.sum_at-other-requires
+sum_at-other-requires g c =
+    let inside = two_places _ _ _ _ _ _ _ _ (length c.args.units.now + length c.args.nodes.now.items) c.as_slice-2.ensures.value
+    c.shortest_root.ensures c.remove-first.ensures.value c.remove-first.ensures.items c.as_slice-4.ensures.value
+    c.shortest_root-2.ensures c.remove-second.ensures.value c.requires.forest.inside in
+    (omega arith, (omega arith, rw c.as_slice-6.ensures.value inside.1))
+
+pub product_in_tree-requires : goal.product_in_tree-requires
+product_in_tree-requires g c =
+    let inside = two_places _ _ _ _ _ _ _ _ (length c.args.units.now + length c.args.nodes.now.items) c.as_slice-2.ensures.value
+    c.shortest_root.ensures c.remove-first.ensures.value c.remove-first.ensures.items c.as_slice-4.ensures.value
+    c.shortest_root-2.ensures c.remove-second.ensures.value c.requires.forest.inside in
+    let sums = c.requires.forest.are.sums in (
+      omega arith,
+      (
+        c.requires.cells.some,
+        (
+          rw (c.sum_at-one.ensures, c.as_slice-5.ensures.value) (sums _ inside.0).long,
+          rw (c.sum_at-other.ensures, c.as_slice-6.ensures.value) (sums _ inside.1).long,
+        ),
+      ),
+    )
+
+pub is_either_asked-some_below-requires : goal.is_either_asked-some_below-requires
+is_either_asked-some_below-requires g c =
+    let inside = two_places _ _ _ _ _ _ _ _ (length c.args.units.now + length c.args.nodes.now.items) c.as_slice-2.ensures.value
+    c.shortest_root.ensures c.remove-first.ensures.value c.remove-first.ensures.items c.as_slice-4.ensures.value
+    c.shortest_root-2.ensures c.remove-second.ensures.value c.requires.forest.inside in
+    (omega arith, rw (c.as_slice-7.ensures.value, c.requires.asked) inside)

@@ -15,11 +15,23 @@ returns-in_default-pop-clause-down g c =
     less c.args.cells c.args.units.now old left node outer rest c.pop-2.result cut c.pop-2.ensures.items
     (one_fewer _ outer rest c.pop-2.ensures.rest (omega (arith, c.args.outer.now.ok)) some) c.requires.down
 
+pub sum_at-one-requires : goal.sum_at-one-requires
+sum_at-one-requires g c =
+    let joint = (less_nodes c.args.cells c.args.units.now c.args.nodes.now.items c.pop.new.self.items c.in-Some.node
+    c.requires.down.tests c.in-Some.ensures.items c.requires.down.are).1 in
+    (omega arith, (omega arith, omega (arith, joint.first, ap length c.as_slice-left.ensures.value)))
+
 pub sum_at-other-requires : goal.sum_at-other-requires
 sum_at-other-requires g c =
     let joint = (less_nodes c.args.cells c.args.units.now c.args.nodes.now.items c.pop.new.self.items c.in-Some.node
     c.requires.down.tests c.in-Some.ensures.items c.requires.down.are).1 in
     (omega arith, (omega arith, omega (arith, joint.second, ap length c.as_slice-left.ensures.value)))
+
+pub is_asked-asked_first-requires : goal.is_asked-asked_first-requires
+is_asked-asked_first-requires g c =
+    let joint = (less_nodes c.args.cells c.args.units.now c.args.nodes.now.items c.pop.new.self.items c.in-Some.node
+    c.requires.down.tests c.in-Some.ensures.items c.requires.down.are).1 in
+    (omega arith, omega (arith, joint.first, ap length c.as_slice-left.ensures.value, c.requires.asked))
 
 pub is_asked-asked_second-requires : goal.is_asked-asked_second-requires
 is_asked-asked_second-requires g c =
