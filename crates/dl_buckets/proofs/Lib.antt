@@ -1,5 +1,6 @@
 mod Common
 pub mod Firsts
+pub mod InTurn
 pub mod Nothing
 pub mod Parts
 pub mod Agreeing

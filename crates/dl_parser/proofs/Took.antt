@@ -146,7 +146,8 @@ took_seq a b p s q x y still ta tb = (
 -- the test of the next token comes out the same
 pub test_same : (ks : List Kind) (p q : State) (ts z : List Lexeme) (b : Bool) → p.rest ≡ ts ++ q.rest
     → Alike ks q.rest z → begins ks p.rest ≡ b → begins ks (ts ++ z) ≡ b
-test_same ks p q ts z b e h t = grind (arith, alike_begins ks (ts ++ q.rest) (ts ++ z) (alike_behind ks ts q.rest z h))
+test_same ks p q ts z b e h t =
+    sym (alike_begins ks (ts ++ q.rest) (ts ++ z) (alike_behind ks ts q.rest z h)) ∙ ap (begins ks) (sym e) ∙ t
 
 abbrev TookEach : {A : Type 0} → Rule A → ℕ → State → List A → State → Type 0
 TookEach a n p xs q = (ts : List Lexeme) × (p.rest ≡ ts ++ q.rest) × (q.end ≡ end_of p.end ts) × Each (Spells a) xs ts
@@ -160,7 +161,10 @@ TookEachBy a n p (got xs q) = TookEach a n p xs q
 TookEachBy a n p (stuck k q) = Unit {0}
 
 took_none : {A : Type 0} (a : Rule A) (n : ℕ) (p : State) → begins (first a) p.rest ≡ false → TookEach a n p [] p
-took_none a n p h = grind (arith, nat_tests, common_steps, whole_none, alike_begins, alike_left)
+took_none a n p h =
+    let same : (z : List Lexeme) → Alike (first a ++ watched a) p.rest z → begins (first a) z ≡ false =
+    λ z g. sym (alike_begins (first a) p.rest z (alike_left (first a) (watched a) p.rest z g)) ∙ h in
+    ([], refl, refl, refl, λ z m le g. whole_none a z p.end m (same z g), h)
 
 -- one of them, and the others behind it: what is made of them is what the others give, with the one in front
 goes_through : {A : Type 0} (a : Rule A) → is_empty a ≡ false
@@ -172,7 +176,8 @@ goes_through : {A : Type 0} (a : Rule A) → is_empty a ≡ false
     ≡ (o >>= λ xs r. got (x ∷ xs) r)
 goes_through a full p s x o [] vs m sp t ra rest le = absurd (not_both _ (spelled_empty a x [] refl sp) full)
 goes_through a full p s x o (u ∷ us) vs zero sp t ra rest le = absurd (omega arith)
-goes_through a full p s x o (u ∷ us) vs (suc m) sp t ra rest le = grind (arith, length-append us vs, bind_of)
+goes_through a full p s x o (u ∷ us) vs (suc m) sp t ra rest le =
+    rw (t, ra, rest m (omega (arith, length-append us vs))) refl
 
 pub one_more : {A : Type 0} (a : Rule A) → is_empty a ≡ false
     → (p s q : State) (x : A) (o : Outcome (List A)) (t : Took a p x s) (ts z : List Lexeme) (m : ℕ)
@@ -222,7 +227,8 @@ took_each : {A : Type 0} (a : Rule A) → is_empty a ≡ false → settles (firs
     → ((p q : State) (x : A) → read a p ≡ got x q → Took a p x q) → (n : ℕ) (p q : State) (xs : List A)
     → length p.rest ≤ n
     → repeat (first a) (read a) n p ≡ got xs q → TookEach a n p xs q
-took_each a full still ta zero p q xs le e = grind (arith, took_none a zero p (none_left (first a) p.rest le))
+took_each a full still ta zero p q xs le e =
+    subst (TookEachBy a zero p) e (took_none a zero p (none_left (first a) p.rest le))
 took_each a full still ta (suc n) p q xs le e = elim (chosen (begins (first a) p.rest) _ _ _ e) [
   | inl c ↦
       let one = bind_got (read a p) _ xs q c.1 in

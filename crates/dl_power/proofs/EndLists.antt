@@ -1,5 +1,5 @@
 -- Lists of numbers as loops make them, and the ends of a grid made from two of them.
-use Rattle.dl_power.proofs.Common.{ℕ, ◌≡◌, ◌+◌, ◌*◌, ◌^◌, ◌<◌, ◌≤◌, List, [], ◌∷◌, ◌++◌, length, get_or, arith, refl, sym, ap, ap₂, inl, inr, ◌∙◌, get_or-append_seam, get_or_append_left, get_or_default, cases_lt, Iv, AreEnds, IsGridSize, count_below, below_more, below_same, mixture_end, sum, zip, mul-le-mul, sum_by-cons, get_or_default_zero, below_first}
+use Rattle.dl_power.proofs.Common.{ℕ, ◌≡◌, ◌+◌, ◌*◌, ◌^◌, ◌<◌, ◌≤◌, List, [], ◌∷◌, ◌++◌, length, get_or, arith, refl, sym, ap, ap₂, inl, inr, ◌∙◌, length-append, get_or-append_seam, get_or_append_left, get_or_default, cases_lt, Iv, AreEnds, IsGridSize, count_below, below_more, below_same, mixture_end, sum, zip, mul-le-mul, sum_by-cons, get_or_default_zero, below_first}
 use Rattle.std.proofs.Math.ListN.{get_or-eq_default}
 use Rattle.dl_conv.proofs.Ends.{sum_total}
 
@@ -14,6 +14,9 @@ one_more_item xs ys v i h e many before here k inside = elim (cases_lt k i) [
       let at : i ≡ k = omega (arith, many) in
       ap₂ (λ t n. get_or t n 0) e (sym same) ∙ get_or-append_seam xs v [] 0 ∙ here ∙ ap h at
 ]
+
+pub one_longer : {A : Type 0} (xs ys : List A) (v : A) {n : ℕ} → ys ≡ xs ++ v ∷ [] → length xs ≡ n → length ys ≡ n + 1
+one_longer xs ys v e many = ap length e ∙ length-append xs (v ∷ []) ∙ ap (λ k. k + 1) many
 
 -- the items of a list of all that are not 0
 pub every_item : (xs : List ℕ) (i : ℕ) (h : ℕ → ℕ) → length xs ≡ i

@@ -111,8 +111,8 @@ half_left l i n k inside e h =
     let next : l - i ≡ suc (l - (i + 1)) = omega arith in
     omega (arith, h, e, ap (λ t. 2 ^ t) next, pow-suc 2 (l - (i + 1)))
 
-pub two_left : (l i n : ℕ) → i ≡ l → n ≡ 2 * 2 ^ (l - i) → n ≡ 2
-two_left l i n all e =
+pub two_left : (l i n : ℕ) → l ≤ i → n ≡ 2 * 2 ^ (l - i) → n ≡ 2
+two_left l i n past e =
     let none : l - i ≡ 0 = omega arith in
     e ∙ ap (λ t. 2 * 2 ^ t) none
 
@@ -121,9 +121,10 @@ twice_as_many c i some =
     let next : i + 1 ≡ suc i = omega arith in
     omega (arith, ap (λ t. c * 2 ^ t) next, ap (λ t. c * t) (pow-suc 2 i), mul-le-mul_right (2 ^ i) some, pow_pos i)
 
-pub all_joined : (a l i b m : ℕ) → i ≡ l → b ≡ 2 * 2 ^ l → m ≡ max (a / b) 1
+pub all_joined : (a l i b m : ℕ) → l ≤ i → i ≤ l → b ≡ 2 * 2 ^ l → m ≡ max (a / b) 1
     → a ≤ suc (suc m * 2 ^ i - 1) + (suc m * 2 ^ i - 1)
-all_joined a l i b m all e h =
+all_joined a l i b m past inside e h =
+    let all : i ≡ l = omega arith in
     let some : 0 < b = omega (arith, blocks_some l b e) in
     let least : a / b ≤ m = omega arith in
     omega (
@@ -136,3 +137,16 @@ all_joined a l i b m all e h =
       mul-le-mul_right (2 ^ l) least,
       pow_pos l,
     )
+
+-- the powers up to m claims
+pub some_suc : (m : ℕ) → 1 ≤ suc m
+some_suc m = omega arith
+
+pub two_powers : {n m : ℕ} (q : ℕ) → n ≡ suc m → m ≡ max q 1 → 2 ≤ n
+two_powers q all e = omega (arith, all, e)
+
+pub last_power : {n m : ℕ} → n ≡ suc m → n - 1 ≡ suc m * 1 - 1
+last_power all = omega (arith, all)
+
+pub powers_many : {n m : ℕ} → n ≡ suc m → n ≡ suc (suc m * 1 - 1)
+powers_many all = omega (arith, all)

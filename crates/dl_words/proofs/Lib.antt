@@ -1,5 +1,6 @@
 mod Common
 pub mod Cuts
+pub mod TestedValues
 pub mod AskLists
 pub mod Reading
 pub mod Simulation

@@ -88,7 +88,6 @@ fn ask_between(alloc: Global, head: &str, rest: &str) -> Result<Option<Ask>, All
 }
 
 /// Terms of a price, joined by `+`: 1 to 8 of them, whose weights sum to 1.
-#[tactic(auto, using(crate::proofs::Prices::price_refused, crate::proofs::Prices::price_told))]
 fn price(alloc: Global, text: &str) -> Result<Option<Vec<Term>>, AllocError>
     ensures { IfOk result (λ all. option_map (λ t. t.items) all ≡ terms.read text.now) }
 {

@@ -24,7 +24,6 @@ const LINE: WordsFault = WordsFault::Usage(UsageFault::Line);
 
 /// The settings of the values that `clap` found, or the first fault. Where these do not fit the
 /// command, the fault is `Line`, and never want of memory.
-#[tactic(auto, using(std::proofs::lemmas::Bool::and_left, std::proofs::lemmas::Bool::and_right, crate::proofs::Judged::asks_no_line, crate::proofs::Judged::explained, crate::proofs::Judged::fitting_tests, crate::proofs::Judged::misfit_found, crate::proofs::Judged::plain_found, crate::proofs::Judged::texts_found))]
 pub(crate) fn judge(alloc: Global, matches: &ArgMatches<'_>) -> Result<Settings, WordsFault>
     ensures settings { IfOk result (λ settings. answer_in (found_of matches.now) ≡ Ok settings) }
     ensures fault { IfErr result (Explains (answer_in (found_of matches.now))) }

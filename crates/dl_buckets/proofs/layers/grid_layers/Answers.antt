@@ -1,6 +1,6 @@
 -- One layer more.
 use Rattle.dl_buckets.proofs.Common.{refl, grid_ceded, IsFormedCeded, flaws_of_ceded}
-use Rattle.dl_buckets.proofs.Agreeing.{read_no_part, read_next}
+use Rattle.dl_buckets.proofs.Agreeing.{read_no_part, read_next, read_end}
 use Rattle.dl_buckets.proofs.Firsts.{at_item}
 use Rattle.dl_buckets.proofs.LayersRead.{ceded_read}
 use Rattle.dl_buckets.proofs.layers.grid_layers.Goals as goal
@@ -19,3 +19,6 @@ layers-preserved c =
     c.layers-test.true c.ceded-item.is c.layers.invariant
     (ceded_read c.args.most c.args.bs c.ceded-item.result c.limit_number-limit.ensures.read c.share_number-share.ensures
     c.grid_layer-layer.ensures c.or.ensures) c.in_ok-push.ensures.items c.or-flaws.ensures
+
+pub returns : goal.returns
+returns c = read_end 7 _ _ _ _ c.layers-test.false c.from_vec-part.ensures c.layers.invariant

@@ -1,6 +1,6 @@
 -- One atom more.
-use Rattle.dl_buckets.proofs.Common.{Bool, ◌∙◌, ◌&&◌, ap, ap₂, sym, GridAtom, atom_pairs, atom_probs, is_fine}
-use Rattle.std.proofs.lemmas.List.Folds.{list_all_more}
+use Rattle.dl_buckets.proofs.Common.{Bool, ◌∙◌, ◌&&◌, ap, ap₂, sym, GridAtom, atom_pairs, atom_probs, is_fine, at_item, take_all, IsGridAtom}
+use Rattle.std.proofs.lemmas.List.Folds.{list_all_at, list_all_more}
 use Rattle.dl_buckets.proofs.Mixing.{pair-more}
 use Rattle.dl_buckets.proofs.severity.atom_severities.Goals as goal
 
@@ -20,3 +20,17 @@ atoms-preserved c =
       pair-more atom_pairs atoms i atom c.atoms.made.items _ c.in-Some.severity below is c.atoms.invariant.1
           c.in_ok-push.ensures.items told.1,
     )
+
+pub atom_severity-requires : goal.atom_severity-requires
+atom_severity-requires c =
+    at_item IsGridAtom _ _ _ _ c.as_slice-atom-items.ensures c.requires.atoms c.atoms-test.true c.atom-item.is
+
+pub returns-in_default : goal.returns-in_default
+returns-in_default c =
+    let is = rw c.as_slice-atom-items.ensures at c.atom-item.is in
+    list_all_at fine_atom c.args.sev.now.atoms c.atoms.atom-index c.atom-item.result
+    (rw c.as_slice-atom-items.ensures at c.atoms-test.true)
+    (ap fine_atom (sym is) ∙ rw c.in_default.is at c.in_ok-severity.ensures)
+
+pub returns : goal.returns
+returns c = rw (take_all c.atoms.atom-index c.args.sev.now.atoms (rw c.as_slice-atom-items.ensures at c.atoms-test.false)) at c.atoms.invariant

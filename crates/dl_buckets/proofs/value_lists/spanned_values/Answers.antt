@@ -1,5 +1,5 @@
 -- The ranges are good where none has a flaw.
-use Rattle.dl_buckets.proofs.Common.{◌≡◌, ◌∙◌, false, Option, Some, None, refl, sym}
+use Rattle.dl_buckets.proofs.Common.{◌≡◌, ◌∙◌, false, Option, Some, None, refl, sym, All-nil, Fraction, Span, HasPartsOf18Digits}
 use Rattle.std.specs.Prelude.{is_some}
 use Rattle.dl_buckets.proofs.Spanned.{all_ranges, few_read, many, values_are, values_modest}
 use Rattle.dl_buckets.proofs.value_lists.spanned_values.Goals as goal
@@ -35,3 +35,12 @@ long_list-requires-in-Err-TooLong-clause-long c =
     (rw c.as_slice-items.ensures at c.in_ok-ranges.ensures) (none_is _ (sym c.is_some.ensures ∙ c.if-is_some.false))
     (none_is _ (sym c.is_some-else-is_some.ensures ∙ c.if-is_some-2.false)))
     at (rw c.as_slice.ensures at (rw c.in-Err-TooLong.field-0-is at c.in-Err-TooLong.ensures.long))
+
+pub long_list-requires-clause-items : goal.long_list-requires-clause-items
+long_list-requires-clause-items c = rw c.as_slice-items.ensures at c.item_flaws.ensures
+
+pub long_list-requires-in-Err-TooLong-clause-items : goal.long_list-requires-in-Err-TooLong-clause-items
+long_list-requires-in-Err-TooLong-clause-items c = (rw c.as_slice-items.ensures at c.in_ok-ranges.ensures).first
+
+pub returns-then-items-gt-MOST_VALUES-clause-modest : goal.returns-then-items-gt-MOST_VALUES-clause-modest
+returns-then-items-gt-MOST_VALUES-clause-modest c = rw c.long_list.ensures.part (All-nil (λ (pair : Fraction × Span). HasPartsOf18Digits pair.0))

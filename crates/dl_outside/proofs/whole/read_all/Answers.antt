@@ -11,7 +11,7 @@ pub returns-in_err-read_more-clause-before : goal.returns-in_err-read_more-claus
 returns-in_err-read_more-clause-before g c = λ fault.
     let same : c.in_err-read_more.field-0.0 ≡ Fault = search rules in
     TakesAtMost-more _ _ _ c.reading.bytes.items 0 _ c.reading.invariant.taken
-    (Keeps-TakesAtMost _ _ (c.in_err-read_more.ensures.kept (cc))) (omega arith)
+    (Keeps-TakesAtMost _ _ 0 (c.in_err-read_more.ensures.kept (cc))) (omega arith)
 
 pub returns-in_err-read_more-clause-failed : goal.returns-in_err-read_more-clause-failed
 returns-in_err-read_more-clause-failed g c = λ fault.

@@ -1,5 +1,4 @@
 -- The three ends of a parse, and that what is left is no longer than all.
-use Rattle.std.proofs.lemmas.Grind.{common_steps}
 use Rattle.dl_parser.proofs.Common.{◌≡◌, ℕ, ◌+◌, ◌-◌, ◌≤◌, List, [], ◌∷◌, length, map, arith, refl, ap, sym, ◌∙◌, true, ◌==◌, length-map, state}
 use Rattle.std.proofs.lemmas.Bool.Decides.{nat_tests}
 use Rattle.dl_ast.proofs.Formed.{program_formed}
@@ -15,21 +14,25 @@ left : (n m a b : ℕ) → n ≡ a → m ≡ b → b ≤ a → (n - m) + b ≡ a
 left n m a b h g le = omega arith
 
 pub taken-requires-clause-left : goal.taken-requires-clause-left
-taken-requires-clause-left c = grind (arith, nat_tests, common_steps, length-map, left_got)
+taken-requires-clause-left c =
+    simp length-map at (left_got _ c.in-Ok.program (state c.program.new.self) c.in-Ok.ensures.reads)
 
 pub taken-requires-in-Err-Wanted-clause-left : goal.taken-requires-in-Err-Wanted-clause-left
-taken-requires-in-Err-Wanted-clause-left c = grind (arith, nat_tests, common_steps, length-map, left_stuck)
+taken-requires-in-Err-Wanted-clause-left c =
+    simp length-map at (left_stuck _ c.in-Err-Wanted.kind (state c.program.new.self)
+    (rw c.in-Err-Wanted.field-0-is at c.in-Err-Wanted.ensures.reads))
 
 pub returns-then-is_at_end-clause-spelled : goal.returns-then-is_at_end-clause-spelled
-returns-then-is_at_end-clause-spelled c = grind (arith, nat_tests, common_steps, read_whole, nil_of)
+returns-then-is_at_end-clause-spelled c =
+    read_whole _ c.in-Ok.program (state c.program.new.self) c.in-Ok.ensures.reads
+    (ap (map _) (nil_of _ (sym c.is_at_end.ensures ∙ c.if-is_at_end.true)))
 
 pub returns-then-is_at_end-clause-formed : goal.returns-then-is_at_end-clause-formed
 returns-then-is_at_end-clause-formed c =
     program_formed c.in-Ok.program _ (covered_real c.args.source.now _ c.args.tokens.now c.requires.covered)
     (simp length-map
     (omega (arith, covered_few c.args.source.now c.args.tokens.now c.requires.covered c.requires.short)))
-    (read_whole _ c.in-Ok.program (state c.program.new.self) c.in-Ok.ensures.reads
-    (ap (map _) (nil_of _ (sym c.is_at_end.ensures ∙ c.if-is_at_end.true))))
+    (returns-then-is_at_end-clause-spelled c)
 
 pub returns-else-is_at_end-clause-refused : goal.returns-else-is_at_end-clause-refused
 returns-else-is_at_end-clause-refused c = rw c.taken.ensures

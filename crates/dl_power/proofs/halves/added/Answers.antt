@@ -1,11 +1,11 @@
 use Rattle.std.proofs.Math.ListN.{get_or-eq_default}
-use Rattle.dl_power.proofs.Common.{ℕ, ◌+◌, ◌∙◌, ap, ap₂, arith, length, length-append, get_or, min}
-use Rattle.dl_power.proofs.EndLists.{one_more_item, every_item}
+use Rattle.dl_power.proofs.Common.{◌+◌, ◌∙◌, ap₂, arith, get_or, min}
+use Rattle.dl_power.proofs.EndLists.{one_more_item, one_longer, every_item}
 use Rattle.dl_power.proofs.halves.added.Goals as goal
 
 pub loop-x-preserved : goal.loop-x-preserved
 loop-x-preserved c = record {
-  many = omega (arith, ap length c.in_ok-push.ensures.items, length-append {A = ℕ}, c.loop-x.invariant.many);
+  many = one_longer c.loop-x.sums.items _ _ c.in_ok-push.ensures.items c.loop-x.invariant.many;
   each = one_more_item c.loop-x.sums.items _ _ c.loop-x.x
       (λ k. min c.args.one (get_or c.args.first.now k 0 + get_or c.args.second.now k 0)) c.in_ok-push.ensures.items
       c.loop-x.invariant.many c.loop-x.invariant.each

@@ -1,44 +1,39 @@
-use Rattle.dl_power.proofs.Common.{ℕ, ◌≡◌, ◌+◌, ◌^◌, ◌<◌, ◌≤◌, length, get_or, arith, refl, ap₂, ◌∙◌, min, low_at, high_at, size_within}
+use Rattle.std.proofs.lemmas.Bool.{ltb-true}
+use Rattle.dl_power.proofs.Common.{true, false, ℕ, ◌≡◌, ◌+◌, ◌^◌, ◌<◌, ◌≤◌, length, get_or, arith, refl, subst, ap₂, ◌∙◌, max, min, low_at, high_at, size_within}
+use Rattle.dl_grid.proofs.EndLists.{low_ends_long}
 use Rattle.dl_power.proofs.BlockGrids.{as_made}
 use Rattle.dl_power.proofs.StepGrids.{step_between, step_ends}
 use Rattle.dl_power.proofs.halves.block_with_later.Goals as goal
+
+sum_at : {v one p q S a b : ℕ} → v ≡ min one (p + q) → one ≡ S → p ≡ a → q ≡ b → v ≡ min S (a + b)
+sum_at e is of_p of_q = e ∙ ap₂ (λ s t. min s t) is (ap₂ (λ s t. s + t) of_p of_q)
+
+-- a list as long as the longer of two
+within_both : (n p q : ℕ) {a b k : ℕ} → n ≡ max p q → p ≡ a → q ≡ b → a ≤ k → b ≤ k → n ≤ k
+within_both n p q e of_a of_b first second = omega (arith, e, of_a, of_b, first, second)
+
+same_long : (n m p q r s : ℕ) {a b : ℕ} → n ≡ max p q → m ≡ max r s → p ≡ a → q ≡ b → r ≡ a → s ≡ b → m ≡ n
+same_long n m p q r s e h of_p of_q of_r of_s = omega (arith, e, h, of_p, of_q, of_r, of_s)
+
+some_of : (n p q : ℕ) {a : ℕ} → n ≡ max p q → p ≡ a → 1 ≤ a → 1 ≤ n
+some_of n p q e of_a some = omega (arith, e, of_a, some)
 
 pub from_ends-requires : goal.from_ends-requires
 from_ends-requires g c =
     let one = c.units_of_one-one.ensures in
     let low : (x : ℕ) → x < c.args.cells → get_or c.in_ok-lows.lows.items x 0
     ≡ min (2 ^ g.row.B) (low_at c.in_ok-moved.moved x + low_at c.args.block.now x) =
-    λ x b. c.in_ok-lows.ensures.each x
-    ∙ ap₂ (λ s t. min s t) one (ap₂ (λ s t. s + t) (c.lows.ensures.each x) (c.lows-2.ensures.each x)) in
+    λ x b. sum_at (c.in_ok-lows.ensures.each x) one (c.lows.ensures.each x) (c.lows-2.ensures.each x) in
     let high : (x : ℕ) → x < c.args.cells → get_or c.in_ok-highs.highs.items x 0
     ≡ min (2 ^ g.row.B) (high_at c.in_ok-moved.moved x + high_at c.args.block.now x) =
-    λ x b. c.in_ok-highs.ensures.each x
-    ∙ ap₂ (λ s t. min s t) one (ap₂ (λ s t. s + t) (c.highs.ensures.each x) (c.highs-2.ensures.each x)) in
-    let long : length c.in_ok-highs.highs.items ≡ length c.in_ok-lows.lows.items = omega (
-      arith,
-      c.in_ok-lows.ensures.many,
-      c.in_ok-highs.ensures.many,
-      c.lows.ensures.cells,
-      c.lows-2.ensures.cells,
-      c.highs.ensures.cells,
-      c.highs-2.ensures.cells,
-    ) in
-    let within : length c.in_ok-lows.lows.items ≤ c.args.cells = omega (
-      arith,
-      c.in_ok-lows.ensures.many,
-      c.lows.ensures.cells,
-      c.lows-2.ensures.cells,
-      c.in_ok-moved.ensures.few,
-      c.requires.in_block,
-    ) in
-    let some : 1 ≤ length c.in_ok-lows.lows.items = omega (
-      arith,
-      c.in_ok-lows.ensures.many,
-      c.lows.ensures.cells,
-      c.lows.ensures.grid.some,
-    ) in
+    λ x b. sum_at (c.in_ok-highs.ensures.each x) one (c.highs.ensures.each x) (c.highs-2.ensures.each x) in
+    let within = within_both _ _ _ c.in_ok-lows.ensures.many c.lows.ensures.cells c.lows-2.ensures.cells
+    c.in_ok-moved.ensures.few c.requires.in_block in
+    let some = some_of _ _ _ c.in_ok-lows.ensures.many c.lows.ensures.cells c.lows.ensures.grid.some in
+    let long = same_long _ _ _ _ _ _ c.in_ok-lows.ensures.many c.in_ok-highs.ensures.many c.lows.ensures.cells
+    c.lows-2.ensures.cells c.highs.ensures.cells c.highs-2.ensures.cells in
     let s = c.requires.step in (
-      omega arith,
+      ltb-true _ _ refl,
       step_ends c.args.block.now c.args.step.now c.args.later.now c.in_ok-moved.moved c.in_ok-lows.lows.items
           c.in_ok-highs.highs.items c.args.cells
           c.in_ok-moved.ensures.convolution.low c.in_ok-moved.ensures.convolution.high low high
@@ -54,8 +49,16 @@ returns-clause-between g c w f k m n p =
     (step_between c.args.block.now c.args.step.now c.args.later.now c.in_ok-moved.moved c.in_ok-lows.lows.items
     c.in_ok-highs.highs.items c.args.cells
     c.in_ok-moved.ensures.convolution.low c.in_ok-moved.ensures.convolution.high
-    (λ x b. c.in_ok-lows.ensures.each x
-    ∙ ap₂ (λ s t. min s t) one (ap₂ (λ s t. s + t) (c.lows.ensures.each x) (c.lows-2.ensures.each x)))
-    (λ x b. c.in_ok-highs.ensures.each x
-    ∙ ap₂ (λ s t. min s t) one (ap₂ (λ s t. s + t) (c.highs.ensures.each x) (c.highs-2.ensures.each x)))
+    (λ x b. sum_at (c.in_ok-lows.ensures.each x) one (c.lows.ensures.each x) (c.lows-2.ensures.each x))
+    (λ x b. sum_at (c.in_ok-highs.ensures.each x) one (c.highs.ensures.each x) (c.highs-2.ensures.each x))
     w f k m n p)
+
+pub short_product-requires : goal.short_product-requires
+short_product-requires g c =
+    let other : false ≡ true → c.args.later.now ≡ c.args.step.now = λ square. absurd (cc) in
+    (ltb-true _ _ refl, (ltb-true _ _ refl, (c.requires.size, (c.requires.in_step, (c.requires.in_later, other)))))
+
+pub returns-clause-few : goal.returns-clause-few
+returns-clause-few g c =
+    subst (λ n. n ≤ c.args.cells) (low_ends_long c.from_ends.result) (rw c.from_ends.ensures.low (within_both _ _ _
+    c.in_ok-lows.ensures.many c.lows.ensures.cells c.lows-2.ensures.cells c.in_ok-moved.ensures.few c.requires.in_block))

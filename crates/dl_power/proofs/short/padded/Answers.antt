@@ -1,11 +1,11 @@
 use Rattle.std.proofs.Math.ListN.{get_or-eq_default}
-use Rattle.dl_power.proofs.Common.{ℕ, ap, arith, length, length-append, get_or}
-use Rattle.dl_power.proofs.EndLists.{one_more_item, every_item}
+use Rattle.dl_power.proofs.Common.{arith, get_or}
+use Rattle.dl_power.proofs.EndLists.{one_more_item, one_longer, every_item}
 use Rattle.dl_power.proofs.short.padded.Goals as goal
 
 pub loop-x-preserved : goal.loop-x-preserved
 loop-x-preserved c = record {
-  many = omega (arith, ap length c.in_ok-push.ensures.items, length-append {A = ℕ}, c.loop-x.invariant.many);
+  many = one_longer c.loop-x.list.items _ _ c.in_ok-push.ensures.items c.loop-x.invariant.many;
   each = one_more_item c.loop-x.list.items _ _ c.loop-x.x (λ k. get_or c.args.ends.now k 0) c.in_ok-push.ensures.items
       c.loop-x.invariant.many c.loop-x.invariant.each c.end_at.ensures.end;
 }

@@ -1,4 +1,5 @@
-use Rattle.dl_power.proofs.Common.{ℕ, ◌≡◌, ◌+◌, ◌-◌, ◌^◌, arith, refl, rules, ap, ◌∙◌, add-one, sub-zero, pow_pos, low_at, high_at, spread, scale_of, size_of, size_within, high_joined, mixed_none, at_zero_small}
+use Rattle.std.proofs.lemmas.Bool.{ltb-true}
+use Rattle.dl_power.proofs.Common.{ℕ, ◌≡◌, ◌+◌, ◌-◌, ◌^◌, ◌≤◌, mass_low, arith, refl, ap, ◌∙◌, add-one, sub-zero, pow_pos, low_at, high_at, spread, scale_of, size_of, size_within, high_joined, mixed_none, at_zero_small}
 use Rattle.dl_power.proofs.WeightLists.{shares_below, shares_next, shares_fit}
 use Rattle.dl_power.proofs.HornerGrids.{starts_at, goes_on_at, one_between, ends}
 use Rattle.dl_power.proofs.Spreads.{mixed_more}
@@ -7,17 +8,17 @@ use Rattle.dl_power.proofs.listed.Listed.by_horner.Goals as goal
 pub empty_grid-requires : goal.empty_grid-requires
 empty_grid-requires g c =
     let size = size_of c.args.self.base.now c.cells.ensures.grid in
-    (omega arith, size_within size c.args.self.some c.args.self.within)
+    (ltb-true _ _ refl, size_within size c.args.self.some c.args.self.within)
 
 pub share_of-requires : goal.share_of-requires
 share_of-requires g c =
     let scale = scale_of c.args.self.base.now c.cells.ensures.grid.some in
-    (omega arith, (scale.0, (scale.1, (c.args.self.sum, c.args.self.positive))))
+    (ltb-true _ _ refl, (scale.0, (scale.1, (c.args.self.sum, c.args.self.positive))))
 
 pub share_of-share-requires : goal.share_of-share-requires
 share_of-share-requires g c =
     let scale = scale_of c.args.self.base.now c.cells.ensures.grid.some in
-    (omega arith, (scale.0, (scale.1, (c.args.self.sum, c.args.self.positive))))
+    (ltb-true _ _ refl, (scale.0, (scale.1, (c.args.self.sum, c.args.self.positive))))
 
 pub loop-step-init : goal.loop-step-init
 loop-step-init g c =
@@ -59,11 +60,21 @@ loop-step-init g c =
           ));
     }
 
+at_least : {n k : ℕ} → n ≡ k → k ≤ n
+at_least e = omega (arith, e)
+
+room_left : (m before : ℕ) {S now w lo : ℕ} → m + now ≤ S → now ≡ before + w → lo ≡ w → m + lo ≤ S
+room_left m before fits next is = omega (arith, fits, next, is)
+
 pub one_claim_more-requires : goal.one_claim_more-requires
 one_claim_more-requires g c =
     let left : ℕ = c.greatest_of-greatest.result - c.loop-step.step in
     let next = shares_next (2 ^ g.row.B) c.args.self.total c.args.self.table.now (left - 1) left (omega arith) in
-    search (rules, next, c.share_of-share.ensures, c.loop-step.invariant)
+    let s = c.args.self in
+    let share = c.share_of-share.ensures in
+    let room = room_left (mass_low c.loop-step.grid) _ c.loop-step.invariant.mass next share.low in
+    let long = at_least c.loop-step.invariant.cells in
+    (ltb-true _ _ refl, (ltb-true _ _ refl, (s.some, (s.within, (long, (share.small, room))))))
 
 pub loop-step-preserved : goal.loop-step-preserved
 loop-step-preserved g c =

@@ -1,0 +1,11 @@
+-- The weight of one count more.
+use Rattle.dl_power.proofs.Common.{◌+◌, weight_at}
+use Rattle.dl_power.proofs.EndLists.{one_more_item, one_longer}
+use Rattle.dl_power.proofs.mixture.weights_from.Goals as goal
+
+pub loop-i-preserved : goal.loop-i-preserved
+loop-i-preserved c = record {
+  many = one_longer c.loop-i.weights.items _ _ c.in_ok-push.ensures.items c.loop-i.invariant.many;
+  each = one_more_item c.loop-i.weights.items _ _ c.loop-i.i (λ k. weight_at c.args.table.now (c.args.first + k))
+      c.in_ok-push.ensures.items c.loop-i.invariant.many c.loop-i.invariant.each c.weight_of.ensures;
+}
