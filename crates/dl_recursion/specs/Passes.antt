@@ -1,4 +1,5 @@
--- A pass over cells in 64 bits: the sums that it needs, and the factor that stands for a weight.
+-- What a pass over the cells uses: the sum of the cells of a run's window, the factor for a weight
+-- over q, and cells up to a bound.
 use Rattle.std.specs.Prelude.{ℕ, ◌+◌, ◌*◌, ◌^◌, ◌≤◌, ◌≡◌, List, length, slice_index}
 use Rattle.dl_exact.specs.Prelude.{count_below}
 use Rattle.dl_recursion.specs.declared.parts.Run.{Run}
