@@ -219,7 +219,7 @@ fn counted_square(alloc: Global) -> Result<(u64, Vec<u128>), AllocError> {
 /// Items of the square: the products of i and s - i add up to (s - 1) * s * (s + 1) / 6.
 const SQUARE: [(usize, u128); 5] = [(0, 0), (1, 0), (2, 1), (100, 166_650), (1023, 178_433_024)];
 
-/// The number of the first item of the square that is not as listed, if there is one.
+/// The index of the first item of the square that differs from the table; none where all agree.
 fn first_wrong(square: &[u128]) -> Option<usize> {
     for (s, sum) in &SQUARE {
         if square.get(*s) != Some(sum) {

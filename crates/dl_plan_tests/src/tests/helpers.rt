@@ -56,7 +56,7 @@ fn shows(sev: &Sev, items: &[(u32, u32)], total: u32) -> bool {
     same
 }
 
-/// Whether there is a severity and it has these items, which come to this total.
+/// Whether a severity was made, with these amounts and weights and this sum of weights.
 pub(crate) fn is_shown(made: Option<Sev>, items: &[(u32, u32)], total: u32) -> bool {
     match made {
         Some(sev) => shows(&sev, items, total),

@@ -176,7 +176,7 @@ fn what_clauses_keep(rt: HostRuntime) {
     }
 }
 
-/// The horizon of a unit under a clause, if there is one.
+/// The horizon, in cells, of a unit with this aggregate clause; none where there is no clause.
 fn horizon_under(alloc: Global, cede: Option<Cede>, cells: u32) -> Result<Option<u32>, AllocError> {
     let unit = unit_under(alloc, cede)?;
     Ok(horizon_of(&unit, cells))
