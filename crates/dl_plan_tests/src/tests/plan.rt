@@ -176,7 +176,8 @@ fn what_clauses_keep(rt: HostRuntime) {
     }
 }
 
-/// The horizon, in cells, of a unit with this aggregate clause; none where there is no clause.
+/// The horizon, in cells, of a unit with this clause, or without one; none past 65,536 cells, and
+/// where the clause breaks a rule.
 fn horizon_under(alloc: Global, cede: Option<Cede>, cells: u32) -> Result<Option<u32>, AllocError> {
     let unit = unit_under(alloc, cede)?;
     Ok(horizon_of(&unit, cells))
