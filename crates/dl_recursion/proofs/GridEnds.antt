@@ -1,11 +1,17 @@
 -- Placed cells, one by one.
-use Rattle.dl_recursion.proofs.Common.{◌≡◌, ◌⊎◌, inl, inr, ℕ, ◌+◌, ◌-◌, ◌*◌, ◌/◌, ◌^◌, ◌<◌, ◌≤◌, List, length, get_or, arith, ◌∙◌, pow-add, mul-le-mul_left, mul-le-mul_right, div-mul-le_self, lt-div-mul-add, cases_lt, sum, HasGridEnds, min, set, dvd-mul_right, eq_of_mul-eq-mul_left, get_or-set_same, get_or-set_other, sum_by-set, replicate, get_or-replicate, get_or_past, length-replicate}
+use Rattle.std.proofs.Math.Nat.{div-div-eq-div-mul}
+use Rattle.dl_recursion.proofs.Common.{◌≡◌, ◌⊎◌, inl, inr, ℕ, ◌+◌, ◌-◌, ◌*◌, ◌/◌, ◌^◌, ◌<◌, ◌≤◌, List, length, get_or, arith, ◌∙◌, pow-add, mul-le-mul_left, mul-le-mul_right, div-mul-le_self, lt-div-mul-add, cases_lt, sum, HasGridEnds, min, set, dvd-mul_right, eq_of_mul-eq-mul_left, get_or-set_same, get_or-set_other, sum_by-set, replicate, get_or-replicate, get_or_past, length-replicate, ap, sym}
 use Prim.Native.Nat.{◌∣◌}
 use Rattle.dl_recursion.specs.declared.start.Scaled.{Scaled}
 use Rattle.dl_recursion.proofs.Starts.{two_pos, two_le}
 
 pub up_reaches : (p d e : ℕ) → 0 < p → d ≤ e → p ≤ ((p - 1) / 2 ^ d + 1) * 2 ^ e
 up_reaches p d e h l = grind (arith, two_pos d, mul-le-mul_left ((p - 1) / 2 ^ d + 1) (two_le d e l), lt-div-mul-add)
+
+-- the high word of a number, shifted down by the rest
+pub high_word : (x d : ℕ) → 64 ≤ d → x / 2 ^ 64 / 2 ^ (d - 64) ≡ x / 2 ^ d
+high_word x d l = div-div-eq-div-mul x (2 ^ 64) (2 ^ (d - 64))
+    ∙ ap (λ n. x / n) (sym (pow-add 2 64 (d - 64)) ∙ ap (λ k. 2 ^ k) (omega (arith, l)))
 
 -- down by as many bits as the product can have, where more are asked for
 pub down_reaches : (p e x : ℕ) → p ≤ 2 ^ 62 * 2 ^ 63 → x ≤ p / 2 ^ min e 126 → x * 2 ^ e ≤ p

@@ -282,3 +282,8 @@ only_first_begins n s some few = record {
 pub room_for : (cells : List ℕ) (s most y : ℕ) (run : Run) → ((k : ℕ) → get_or cells k 0 ≤ most) → y ≤ most
     → window_sum cells s run + y ≤ (run.count + 1) * most
 room_for cells s most y run small p = omega (arith, window_le cells s most run small, p)
+
+-- and so the sum before a cell and the cell that comes in
+pub room_before : (cells : List ℕ) (s most : ℕ) (run : Run) → ((k : ℕ) → get_or cells k 0 ≤ most)
+    → window_sum cells (s - 1) run + cell_before cells s run.amount ≤ (run.count + 1) * most
+room_before cells s most run small = room_for cells (s - 1) most _ run small (before_small cells s run.amount most small)

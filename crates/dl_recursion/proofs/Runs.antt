@@ -50,7 +50,7 @@ runs_positive (run ∷ runs) h =
 pub all_positive : (amounts : Amounts) → ArePositiveAmounts amounts → All (λ p. 0 < p.amount) (all_parts amounts)
 all_positive amounts h = grind (arith, nat_tests, common_steps, runs_positive amounts.runs.items h.runs)
 
-pub runs_more_le : (f : Part → ℕ) (runs : List Run) (i : ℕ) (d : Run) → i < length runs
+runs_more_le : (f : Part → ℕ) (runs : List Run) (i : ℕ) (d : Run) → i < length runs
     → sum_by f (flat_map run_parts (take i runs)) + sum_by f (run_parts (get_or runs i d)) ≤ sum_by f
     (flat_map run_parts runs)
 runs_more_le f runs i d h = grind (arith, sum_by_more_le (λ (run : Run). sum_by f (run_parts run)) runs i d h, runs_sum)
@@ -163,9 +163,25 @@ module _ (a b s : ℕ) (cells : List ℕ) where
 
 -- ---- weights
 
-pub row_weight : (m n w : ℕ) → part_sum (in_a_row m n w) ≡ n * w
+row_weight : (m n w : ℕ) → part_sum (in_a_row m n w) ≡ n * w
 row_weight m zero w = omega (arith, row_none (λ (p : Part). p.weight) m w)
 row_weight m (suc n) w = omega (arith, row_more (λ (p : Part). p.weight) m n w, row_weight m n w)
+
+-- those before a run and its own, together
+pub weights_more : (runs : List Run) (i : ℕ) (d : Run) → i < length runs
+    → part_sum (flat_map run_parts (take (i + 1) runs))
+    ≡ part_sum (flat_map run_parts (take i runs)) + (get_or runs i d).count * (get_or runs i d).weight
+weights_more runs i d h =
+    let run = get_or runs i d in
+    omega (arith, row_weight run.amount run.count run.weight, runs_more (λ p. p.weight) runs i d h)
+
+-- they are at most all
+pub weights_more_le : (runs : List Run) (i : ℕ) (d : Run) → i < length runs
+    → part_sum (flat_map run_parts (take i runs)) + (get_or runs i d).count * (get_or runs i d).weight
+    ≤ part_sum (flat_map run_parts runs)
+weights_more_le runs i d h =
+    let run = get_or runs i d in
+    omega (arith, row_weight run.amount run.count run.weight, runs_more_le (λ p. p.weight) runs i d h)
 
 -- an amount of a run has its share of the room
 pub weight_room : (a b s : ℕ) (run : Run) → 0 < run.count → (a + b) * s * part_sum (run_parts run) < 2 ^ 64

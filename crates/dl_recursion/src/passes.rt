@@ -30,18 +30,34 @@ const EQUAL_WORK: u64 = 500;
 /// 2^61: cell 0, before any shift.
 const START: u64 = 1 << 61;
 
-/// The sum of the cells that lie an amount of the run before cell `s`, from that of cell `s - 1`:
-/// one cell comes in, and one goes out.
-fn slid(sum: u64, run: Run, cells: &[u64], s: usize) -> u64
+/// The cell that lies this amount before cell `s`, where `last` is the cell right before it. That
+/// one was written just now, and is read sooner from its variable than from the list.
+fn coming_in(last: u64, cells: &[u64], s: usize, amount: usize) -> u64
+    requires some { 0 < s }
+    requires within { s ≤ length cells.now }
+    requires amount { 0 < amount }
+    requires last { last ≡ slice_index cells.now (s - 1) }
+    ensures { result ≡ cell_before cells.now s amount }
+{
+    if amount == 1 {
+        return last;
+    }
+    cell_before(cells, s, amount)
+}
+
+/// The sum of the cells that lie an amount of the run before cell `s`, from that of cell `s - 1`,
+/// which is `last`: one cell comes in, and one goes out.
+fn slid(sum: u64, last: u64, run: Run, cells: &[u64], s: usize) -> u64
     requires some { 0 < s }
     requires within { s ≤ length cells.now }
     requires amount { 0 < run.amount }
     requires end { run.amount + run.count ≤ 2 ^ 32 }
-    requires last { sum ≡ window_sum cells.now (s - 1) run }
+    requires last { last ≡ slice_index cells.now (s - 1) }
+    requires sum { sum ≡ window_sum cells.now (s - 1) run }
     requires room { sum + cell_before cells.now s run.amount < 2 ^ 64 }
     ensures { result ≡ window_sum cells.now s run }
 {
-    sum + cell_before(cells, s, run.amount) - cell_before(cells, s, run.amount + run.count)
+    sum + coming_in(last, cells, s, run.amount) - cell_before(cells, s, run.amount + run.count)
 }
 
 /// The sum times the factor, which is in units of 1 / 2^64, rounded down.
@@ -82,13 +98,15 @@ fn pass(run: Run, factor: u64, down: u32, most: u64, low: &mut [u64], high: &mut
 {
     low[0] = low[0] >> down;
     high[0] = raised(high[0], down);
+    let mut low_end = low[0];
+    let mut high_end = high[0];
     let mut low_sum = 0;
     let mut high_sum = 0;
     'cells: for s in 1..low.len() {
-        low_sum = slid(low_sum, run, low, s);
-        high_sum = slid(high_sum, run, high, s);
-        let low_end = share(low_sum, factor) + (low[s] >> down);
-        let high_end = share(high_sum, factor + 1) + 1 + raised(high[s], down);
+        low_sum = slid(low_sum, low_end, run, low, s);
+        high_sum = slid(high_sum, high_end, run, high, s);
+        low_end = share(low_sum, factor) + (low[s] >> down);
+        high_end = share(high_sum, factor + 1) + 1 + raised(high[s], down);
         if low_end.max(high_end) > most {
             return false;
         }

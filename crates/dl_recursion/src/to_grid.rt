@@ -1,6 +1,6 @@
 //! From the cells of the recursion to a grid.
 
-ghost use Rattle.std.specs.Prelude.{◌≡◌, ◌+◌, ◌*◌, ◌^◌, ◌<◌, ◌≤◌, ◌⊎◌, length, IfOk};
+ghost use Rattle.std.specs.Prelude.{◌≡◌, ◌+◌, ◌*◌, ◌/◌, ◌^◌, ◌<◌, ◌≤◌, ◌⊎◌, length, IfOk};
 ghost use Rattle.dl_limits.specs.Limits.{start_bits, most_end, most_start};
 ghost use Rattle.dl_grid.specs.Prelude.{low_at, high_at, IsGridSize};
 ghost use Rattle.dl_recursion.specs.Recursion.{AreScaledCells};
@@ -14,6 +14,27 @@ use std::alloc::{AllocError, Global};
 /// The product of two ends has fewer bits.
 const PRODUCT_BITS: u64 = 126;
 
+/// The number over `2^down`, rounded down, by a shift of both its words.
+#[inline(never)]
+fn shifted_words(x: u128, down: u64) -> u128
+    requires down { down < 64 }
+    ensures { result ≡ x / 2 ^ down }
+{
+    x >> down
+}
+
+/// The number over `2^down`, rounded down. From 64 bits on a shift of the high word is enough.
+#[tactic(auto, using(crate::proofs::GridEnds::high_word))]
+fn shifted(x: u128, down: u64) -> u128
+    requires down { down ≤ 126 }
+    ensures { result ≡ x / 2 ^ down }
+{
+    if down < 64 {
+        return shifted_words(x, down);
+    }
+    u128::from(((x >> 64) as u64) >> (down - 64))
+}
+
 /// The product by `down` bits down, rounded down, and at most `one`.
 #[tactic(auto, using(crate::proofs::GridEnds::down_reaches))]
 fn narrow_low(a: u64, b: u64, down: u64, one: u128) -> u128
@@ -23,7 +44,7 @@ fn narrow_low(a: u64, b: u64, down: u64, one: u128) -> u128
     ensures below { result * 2 ^ down ≤ a * b }
 {
     let d = down.min(PRODUCT_BITS);
-    let x = (u128::from(a) * u128::from(b)) >> d;
+    let x = shifted(u128::from(a) * u128::from(b), d);
     x.min(one)
 }
 
@@ -40,7 +61,7 @@ fn narrow_high(a: u64, b: u64, down: u64, one: u128) -> u128
     if product == 0 {
         return 0;
     }
-    let x = ((product - 1) >> d) + 1;
+    let x = shifted(product - 1, d) + 1;
     if x > one { one } else { x }
 }
 

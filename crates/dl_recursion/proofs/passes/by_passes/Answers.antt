@@ -1,4 +1,4 @@
-use Rattle.dl_recursion.proofs.Common.{◌≡◌, ℕ, suc, ◌+◌, ◌-◌, arith, refl, length, run_parts, Fraction}
+use Rattle.dl_recursion.proofs.Common.{◌≡◌, ℕ, suc, ◌+◌, ◌-◌, arith, refl, sym, ◌∙◌, length, run_parts, Fraction}
 use Rattle.dl_recursion.specs.Geometric.{only_first}
 use Rattle.dl_recursion.proofs.Geometric.{follows_some, raised_first, raised_next}
 use Rattle.dl_recursion.proofs.passes.by_passes.Goals as goal
@@ -36,4 +36,23 @@ shapes-preserved c =
           let u : ℕ → Fraction = before.0 in
           let raised = raised_next parts (k - 1) q u r c.requires.divisor before.1 (rw shape F) in
           rw e at (told.round refl q u r c.requires.divisor c.in-Some.ensures.factor raised (rw e (i.round u before.1)));
+    }
+
+pub returns : goal.returns
+returns c =
+    let i = c.shapes.invariant in
+    let cells = i.cells in
+    let most = c.min-most.ensures in
+    let k_is : c.shapes.k ≡ c.args.shape = omega (arith, c.shapes-test.false, c.shapes.auto.k-end) in
+    record {
+      cells = cells.cells;
+      shift = omega (arith, i.shift, k_is, c.if-cells-lt2.false, c.if-shape-gt-MOST_PASSES.false);
+      sound = record {
+        alike = cells.alike ∙ sym cells.cells;
+        low_small = λ k. omega (arith, cells.low_small k, most);
+        high_small = λ k. omega (arith, cells.high_small k, most);
+        low_settled = λ k before. absurd (omega (arith, before, cells.first));
+        high_settled = λ k before. absurd (omega (arith, before, cells.first));
+      };
+      round = rw k_is at i.round;
     }

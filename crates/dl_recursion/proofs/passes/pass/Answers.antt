@@ -1,9 +1,8 @@
 use Rattle.std.proofs.Common.{div-le_self}
-use Rattle.dl_recursion.proofs.Common.{◌≡◌, ℕ, ◌+◌, ◌-◌, ◌/◌, ◌^◌, ◌<◌, ◌≤◌, length, arith, refl, sym, ◌∙◌, get_or, set, length-set}
+use Rattle.dl_recursion.proofs.Common.{◌≡◌, ℕ, ◌+◌, ◌-◌, ◌/◌, ◌^◌, ◌<◌, ◌≤◌, length, arith, refl, sym, ◌∙◌, get_or, get_or-set_same, set, length-set}
 use Rattle.dl_recursion.proofs.Rounding.{ceil_small}
 use Rattle.dl_recursion.proofs.Starts.{two_pos}
-use Rattle.dl_recursion.proofs.Windows.{before_small}
-use Rattle.dl_recursion.proofs.Raising.{window_begins, window_set, room_for, small_set, left_set, share_le, pass_begins, pass_goes_on}
+use Rattle.dl_recursion.proofs.Raising.{window_begins, window_set, room_before, room_for, small_set, left_set, share_le, pass_begins, pass_goes_on}
 use Rattle.dl_recursion.proofs.passes.pass.Goals as goal
 
 pub cells-init : goal.cells-init
@@ -21,6 +20,8 @@ cells-init c =
       low_small = small_set low 0 low_end c.args.most some c.requires.low_small
           (omega (arith, div-le_self (get_or low 0 0) (2 ^ c.args.down), c.requires.low_small 0));
       high_small = small_set high 0 c.raised.result c.args.most high_some c.requires.high_small high_small;
+      low_last = refl;
+      high_last = refl;
       low_window = sym (window_begins (set low 0 low_end) run c.requires.amount);
       high_window = sym (window_begins (set high 0 c.raised.result) run c.requires.amount);
       low_left = left_set low low 0 low_end (λ k l. refl);
@@ -32,17 +33,13 @@ cells-init c =
 
 pub slid-low_sum-requires-clause-room : goal.slid-low_sum-requires-clause-room
 slid-low_sum-requires-clause-room c =
-    let i = c.cells.invariant in
-    let fits = room_for c.cells.low (c.cells.s - 1) c.args.most _ c.args.run i.low_small
-    (before_small c.cells.low c.cells.s c.args.run.amount c.args.most i.low_small) in
-    omega (arith, i.low_window, c.requires.room, fits)
+    let fits = room_before c.cells.low c.cells.s c.args.most c.args.run c.cells.invariant.low_small in
+    omega (arith, c.cells.invariant.low_window, c.requires.room, fits)
 
 pub slid-high_sum-requires-clause-room : goal.slid-high_sum-requires-clause-room
 slid-high_sum-requires-clause-room c =
-    let i = c.cells.invariant in
-    let fits = room_for c.cells.high (c.cells.s - 1) c.args.most _ c.args.run i.high_small
-    (before_small c.cells.high c.cells.s c.args.run.amount c.args.most i.high_small) in
-    omega (arith, i.high_window, c.requires.room, fits)
+    let fits = room_before c.cells.high c.cells.s c.args.most c.args.run c.cells.invariant.high_small in
+    omega (arith, c.cells.invariant.high_window, c.requires.room, fits)
 
 pub overflow_add-low_end : goal.overflow_add-low_end
 overflow_add-low_end c =
@@ -86,11 +83,14 @@ cells-preserved c =
     let high_end = c.share-in-cells.result + 1 + c.raised-in-cells.result in
     let low_within : s < length low = omega (arith, c.cells-test.true, c.cells.auto.low) in
     let high_within : s < length high = omega (arith, low_within, i.alike) in
+    let here : s + 1 - 1 ≡ s = omega arith in
     record {
       alike = rw (length-set, length-set) i.alike;
       low_small = small_set low s low_end c.args.most low_within i.low_small (omega (arith, c.max.ensures, c.if-max-most.false));
       high_small = small_set high s high_end c.args.most high_within i.high_small
           (omega (arith, c.max.ensures, c.if-max-most.false));
+      low_last = rw here (sym (get_or-set_same low s low_end 0 low_within));
+      high_last = rw here (sym (get_or-set_same high s high_end 0 high_within));
       low_window = c.slid-low_sum.ensures ∙ sym (window_set low s low_end run c.requires.amount);
       high_window = c.slid-high_sum.ensures ∙ sym (window_set high s high_end run c.requires.amount);
       low_left = left_set low c.args.low.now s low_end i.low_left;

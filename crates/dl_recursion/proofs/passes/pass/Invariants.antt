@@ -8,6 +8,8 @@ invariant-cells l = record {
   alike : length l.high ≡ length l.low;
   low_small : (k : ℕ) → get_or l.low k 0 ≤ l.most;
   high_small : (k : ℕ) → get_or l.high k 0 ≤ l.most;
+  low_last : l.low_end ≡ get_or l.low (l.s - 1) 0;
+  high_last : l.high_end ≡ get_or l.high (l.s - 1) 0;
   low_window : l.low_sum ≡ window_sum l.low (l.s - 1) l.run;
   high_window : l.high_sum ≡ window_sum l.high (l.s - 1) l.run;
   low_left : (k : ℕ) → l.s ≤ k → get_or l.low k 0 ≡ get_or l.fn.low k 0;

@@ -1,4 +1,4 @@
-use Rattle.dl_recursion.proofs.Common.{◌≡◌, ℕ, ◌+◌, ◌-◌, ◌*◌, ◌^◌, ◌≤◌, ◌<◌, length, arith, refl, sym, ap₂, ◌∙◌, count_below, cell_before, Run, Window, IsWindow}
+use Rattle.dl_recursion.proofs.Common.{◌≡◌, ℕ, ◌+◌, ◌-◌, ◌*◌, ◌^◌, ◌≤◌, ◌<◌, length, arith, refl, sym, ap₂, ◌∙◌, count_below, cell_before, Run}
 use Rattle.dl_exact.proofs.Counts.{below_more, below_rest, times_nothing}
 use Rattle.dl_recursion.proofs.Windows.{before_none, before_small, step_le, window_cells_le, window_steps_le}
 use Rattle.dl_recursion.proofs.sums.window_of.Goals as goal
