@@ -1,12 +1,16 @@
 -- The claims above 0 of units that share a factor: their sum, the same for the next shape, and the budget of a joint mean.
-use Rattle.dl_budget.proofs.Common.{ℕ, suc, ◌≡◌, ◌+◌, ◌-◌, ◌*◌, ◌^◌, ◌<◌, ◌≤◌, List, [], ◌∷◌, length, get_or, take, arith, refl, sym, ap, ap₂, subst, ◌∙◌, take_all, Fraction, whole, ◌over◌, ◌≤ℚ◌, over_self, one_pos, le_over, div_ceil_least, mul-le-mul, up, IsValidUnit, take_more, get_or-map, All, most_claims_budget, most_expected, most_plan_cells, ◌+ℚ◌, ◌*ℚ◌, ◌<ℚ◌, le_div, le_refl, lt_not_le, plus_zero, times_le_both, whole_pos, whole_le, sum_over_append, UnitOfPlan, Plan, IsUnbounded, HasPartsOf48Bits, thinned_mean, IsValid, CanShare, Some, HasCommonFactor, FitsFrac, admitted_fits, expected_of, raised, thinned_of}
+use Rattle.std.specs.Prelude.{Bool, true, false}
+use Rattle.dl_budget.proofs.Common.{ℕ, suc, if◌then◌else◌, ◌==◌, ◌≡◌, ◌+◌, ◌-◌, ◌*◌, ◌^◌, ◌<◌, ◌≤◌, List, [], ◌∷◌, length, get_or, take, arith, refl, sym, ap, ap₂, subst, ◌∙◌, take_all, Fraction, whole, ◌over◌, ◌≤ℚ◌, over_self, one_pos, le_over, div_ceil, div_ceil_times, div_ceil_least, mul-pos, mul-le-mul, mul-le-mul_right, up, IsValidUnit, take_more, get_or-map, All, most_claims_budget, most_expected, most_plan_cells, ◌+ℚ◌, ◌*ℚ◌, ◌<ℚ◌, le_div, le_refl, lt_not_le, plus_zero, times_le_both, whole_pos, whole_le, sum_over_append, UnitOfPlan, Plan, IsUnbounded, HasPartsOf48Bits, thinned_mean, IsValid, CanShare, Some, HasCommonFactor, FitsFrac, admitted_fits, expected_of, raised, thinned_of}
 unfoldable use Rattle.dl_exact.specs.Sum.{sum_over}
 use Rattle.dl_exact.proofs.Laws.{le_trans}
 use Rattle.dl_plan.proofs.Shared.{poisson_unbounded}
 use Rattle.dl_plan.proofs.Raised.{raised_parts}
+use Rattle.dl_budget.proofs.Bases.{gamma_base}
 use Rattle.dl_budget.proofs.Sums.{read_unit}
 use Rattle.dl_budget.specs.Asks.{joint_by}
-use Rattle.dl_budget.specs.Shared.{raised_budget, shared_joint_budget, thinned_at}
+use Rattle.dl_grid.proofs.WidthLaws.{pw_rises}
+use Rattle.dl_budget.specs.Claims.{gamma_budget}
+use Rattle.dl_budget.specs.Shared.{raised_budget, shape_budget, shared_joint_budget, thinned_at}
 
 -- ---- what a valid plan has
 
@@ -55,6 +59,27 @@ raised_more r h above =
 
 pub sum_few : (r : ℕ) (units : List UnitOfPlan) → HasCommonFactor r units → thinned_of units ≤ℚ whole most_expected
 sum_few r units factor = le_trans _ _ _ (raised_more r (thinned_of units) factor.some_shape) factor.few
+
+-- ---- fewer cells
+
+ceil_rises : (m n d : ℕ) → 0 < d → m ≤ n → div_ceil m d ≤ div_ceil n d
+ceil_rises m n d pos h = div_ceil_least m d (div_ceil n d) pos (omega (arith, h, (div_ceil_times n d pos).0))
+
+gamma_rises : (S k l shape : ℕ) (m : Fraction) → 0 < S → 0 < shape → k ≤ l
+    → gamma_budget S k shape m ≤ gamma_budget S l shape m
+unfolding gamma_budget
+gamma_rises S k l shape m pos some h =
+    pw_rises S k l _ _ shape pos h (rw (gamma_base (4 * k + 1) shape m some, gamma_base (4 * l + 1) shape m some)
+    (ceil_rises _ _ _ (mul-pos m.positive some) (mul-le-mul_right (m.den * shape + m.num) (omega (arith, h)))))
+
+-- on fewer cells the budget of a shape is no more
+pub shape_rises : (S k l shape : ℕ) (thinned : Fraction) → 0 < S → 0 < shape → k ≤ l
+    → shape_budget S k shape thinned ≤ shape_budget S l shape thinned
+shape_rises S k l shape thinned pos some h = by (thinned.num == 0)
+  where
+    by : (none : Bool) → (if none then 0 else gamma_budget S k shape thinned) ≤ (if none then 0 else gamma_budget S l shape thinned)
+    by true = omega arith
+    by false = gamma_rises S k l shape thinned pos some h
 
 -- ---- the next shape
 

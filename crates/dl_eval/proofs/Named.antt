@@ -12,6 +12,12 @@ names_inside units ask = inside (facts_of ask).unit
     inside None = (λ h. h, λ h. h)
     inside (Some name) = (λ h. h, λ h. h)
 
+-- the number is that of a unit, where the ask names one
+pub named_inside : (units : List UnitOfPlan) (ask : Ask) {unit : Option ℕ} {i : ℕ} → unit ≡ named_unit units ask
+    → NamesUnit units ask → unit ≡ Some i → i < length units
+named_inside units ask same names is =
+    subst (λ u. IfSome u (λ n. n < length units)) (sym same ∙ is) ((names_inside units ask).1 names)
+
 -- the number that was read is that of the ask that was read
 pub named_here : (units : List UnitOfPlan) {slice asks : List Asked} {named : List (Option ℕ)} (i : ℕ) {asked : Asked}
     → slice ≡ asks → named ≡ named_units units asks → asked ≡ get_or slice i asked → i < length slice

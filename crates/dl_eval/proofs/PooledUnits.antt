@@ -1,12 +1,12 @@
 -- The one unit in the place of units that share a factor: what its grid and its mean hold, and how wide they are.
-use Rattle.dl_eval.proofs.Common.{ℕ, suc, ◌≡◌, ◌+◌, ◌-◌, ◌*◌, ◌^◌, ◌<◌, ◌≤◌, List, [], ◌∷◌, length, get_or, arith, refl, sym, ap, subst, subst₂, ◌∙◌, Option, None, Some, IfSome, Fraction, whole, ◌over◌, Iv, spread, low_at, high_at, Holds, One, Point, Mean, partial_sums, total, GridEncloses, mapped, aggregate_of, compound_of, loss, unit_declared, Plan, IsValid, IsValidUnit, claims_budget, total_budget, Declares, IsTotalOf, IsMeanOf, Loss, fun_ext, IsSome, UnitOfPlan, thinned_mean, expected_count, IsPoisson, raised, thinned_of, probability_of, SharesFactor, ◌*ℚ◌, ◌-ℚ◌, up, Quantity, Joint, CountsTotal, after_zero, declared, no_clause, encloses_same, total_mean, total_point, unit_declared_loss, HoldsClaims, count_budget, joint_by, mean_by, total_by, IsJointOf, IsRaisedGridOf}
+use Rattle.dl_eval.proofs.Common.{ℕ, suc, ◌≡◌, ◌+◌, ◌-◌, ◌*◌, ◌^◌, ◌<◌, ◌≤◌, List, [], ◌∷◌, length, get_or, arith, refl, sym, ap, subst, subst₂, ◌∙◌, mul-le-mul, mul-le-mul_right, pow_pos, Option, None, Some, IfSome, Fraction, whole, ◌over◌, Iv, spread, low_at, high_at, Holds, One, Point, Mean, partial_sums, total, GridEncloses, mapped, aggregate_of, compound_of, loss, unit_declared, Plan, IsValid, IsValidUnit, claims_budget, total_budget, Declares, IsTotalOf, IsMeanOf, Loss, fun_ext, IsSome, UnitOfPlan, thinned_mean, expected_count, IsPoisson, raised, thinned_of, probability_of, SharesFactor, ◌*ℚ◌, ◌-ℚ◌, up, Quantity, Joint, CountsTotal, after_zero, declared, no_clause, encloses_same, total_mean, total_point, unit_declared_loss, HoldsClaims, count_budget, joint_by, mean_by, total_by, IsJointOf, IsRaisedGridOf}
 use Rattle.dl_plan.specs.declared.plan.Freq.TheVariants.{Gamma}
 use Rattle.dl_plan.proofs.Shared.{has_factor}
 use Rattle.dl_model.proofs.Outcomes.{total_alone, total_alone_all}
 use Rattle.dl_common.specs.Pooled.{IsPooled, IsRaised, alone}
 use Rattle.dl_common.proofs.Alone.{pooled_thinned, pooled_valid, raised_thinned, raised_valid, same_declared}
 use Rattle.dl_budget.specs.Shared.{raised_budget, shape_budget, thinned_at}
-use Rattle.dl_budget.proofs.SharedUnits.{thinned_here}
+use Rattle.dl_budget.proofs.SharedUnits.{shape_rises, thinned_here}
 use Rattle.dl_eval.proofs.Totals.{plain_encloses}
 
 -- a plan with some factor shares one
@@ -27,22 +27,28 @@ module _ {plan : Plan} (valid : IsValid plan) {r : ℕ} (shape : plan.common ≡
   pub raised_unit_valid : IsRaised r plan.units u → IsValidUnit plan.cells u
   raised_unit_valid is = (raised_valid plan r u shares is).units 0 u (omega arith)
 
-  raised_narrow : (S : ℕ) → IsRaised r plan.units u
-      → claims_budget S plan.cells u ≡ raised_budget S plan.cells r plan.units
-  raised_narrow S is =
-      gamma_claims S plan.cells (suc r) u _ (raised r (thinned_of plan.units)) is.count
+  raised_narrow : (S cells : ℕ) → IsRaised r plan.units u
+      → claims_budget S cells u ≡ raised_budget S cells r plan.units
+  raised_narrow S cells is =
+      gamma_claims S cells (suc r) u _ (raised r (thinned_of plan.units)) is.count
       (ap (λ f. expected_count f *ℚ (whole 1 -ℚ probability_of u.sev 0)) is.count
       ∙ raised_thinned plan.units (has_factor plan r shares).some u is.severity r (has_factor plan r shares).some_shape)
 
-  pub raised_is_grid : {B : ℕ} → IsRaised r plan.units u → {g : List (Iv B)} → length g ≡ plan.cells
-      → GridEncloses g (compound_of u.freq u.sev) → spread g ≤ claims_budget (2 ^ B) plan.cells u
+  pub raised_is_grid : {B : ℕ} → IsRaised r plan.units u → {reach : ℕ} → reach ≤ plan.cells → {g : List (Iv B)}
+      → length g ≡ reach → GridEncloses g (compound_of u.freq u.sev) → spread g ≤ claims_budget (2 ^ B) reach u
       → IsRaisedGridOf r plan g
-  raised_is_grid {B} is {g = g} cells encloses narrow = record {
-    cells = cells;
+  raised_is_grid {B} is {reach = reach} within {g = g} cells encloses narrow = record {
+    few = omega (arith, cells, within);
     unit = u;
     raised = is;
     encloses = encloses;
-    narrow = subst (λ b. spread g ≤ b) (raised_narrow (2 ^ B) is) narrow;
+    narrow = omega (
+      arith,
+      narrow,
+      raised_narrow (2 ^ B) reach is,
+      shape_rises (2 ^ B) reach plan.cells (suc r) (raised r (thinned_of plan.units)) (pow_pos B)
+          (omega arith) within,
+    );
   }
 
   module _ (is : IsPooled r plan.units u) where
@@ -100,16 +106,21 @@ pub raised_there : {B : ℕ} (plan : Plan) (r : ℕ) {raised : Option (List (Iv 
     → IfSome raised (IsRaisedGridOf r plan) → IsRaisedGridOf r plan g
 raised_there plan r is all = subst (λ o. IfSome o (IsRaisedGridOf r plan)) is all
 
+pub reached_there : {B : ℕ} {n : ℕ} {raised : Option (List (Iv B))} {g : List (Iv B)} → raised ≡ Some g
+    → IfSome raised (λ cells. n ≤ length cells) → n ≤ length g
+reached_there {n = n} is all = rw is at all
+
 pub unit_poisson : {plan : Plan} → IsValid plan → {r : ℕ} → plan.common ≡ Some r → (i : ℕ) {u : UnitOfPlan}
     → i < length plan.units → u ≡ get_or plan.units i u → IsPoisson u.freq
 unit_poisson {plan = plan} valid {r = r} shape i {u = u} inside is =
     subst (λ (w : UnitOfPlan). IsPoisson w.freq) (sym is)
     ((has_factor plan r (record { shape = shape; valid = valid })).can_share i u inside).count
 
-joint_narrow : (K n E lo hi claims most : ℕ) → n ≡ K → claims ≡ most → lo ≤ hi
+joint_narrow : (K n E lo hi claims most : ℕ) → n ≤ K → claims ≡ most → lo ≤ hi
     → hi - lo ≤ (n * E + 2) * claims + 2 → hi ≤ lo + ((K * E + 2) * most + 2)
-joint_narrow K n E lo hi claims most cells same order width =
-    omega (arith, order, subst₂ (λ k c. hi - lo ≤ (k * E + 2) * c + 2) cells same width)
+joint_narrow K n E lo hi claims most few same order width =
+    let more : (n * E + 2) * claims ≤ (K * E + 2) * most = mul-le-mul (omega (arith, mul-le-mul_right E few)) (omega (arith, same)) in
+    omega (arith, order, width, more)
 
 pub pooled_is_joint : {B : ℕ} {plan : Plan} → IsValid plan → {r : ℕ} → plan.common ≡ Some r → {g : List (Iv B)}
     → IsRaisedGridOf r plan g → {i at : ℕ} {u : UnitOfPlan} {mean : Iv B} → i < length plan.units
@@ -120,7 +131,7 @@ pooled_is_joint {B} {plan = plan} valid {r = r} shape {g = g} raised {i = i} {u 
   holds = holds;
   narrow = subst (λ b. mean.hi ≤ mean.lo + b) (ap (λ o. joint_by o (2 ^ B) plan i) (sym shape))
       (joint_narrow plan.cells (length g) (raised_budget (2 ^ B) plan.cells r plan.units) mean.lo mean.hi
-      (up (thinned_mean u)) (up (thinned_at plan.units i)) raised.cells
+      (up (thinned_mean u)) (up (thinned_at plan.units i)) raised.few
       (ap up (thinned_here plan.units i u inside is)) mean.ordered
       (width (raised_budget (2 ^ B) plan.cells r plan.units) raised.narrow));
 }

@@ -1,7 +1,9 @@
 -- The grids that the rows of a plan are drawn from.
-use Rattle.std.specs.Prelude.{ℕ, ◌≡◌, List, Option, None, IsSome, IfSome}
+use Rattle.std.specs.Prelude.{ℕ, ◌≡◌, ◌≤◌, List, Option, None, IsSome, IfSome, All, length, ⊤}
 use Rattle.dl_iv.specs.declared.interval.Iv.{Iv}
 use Rattle.dl_plan.specs.declared.plan.Plan.{Plan}
+use Rattle.dl_plan.specs.declared.settings.Asked.{Asked}
+use Rattle.dl_plan.specs.Prelude.{facts_of}
 use Rattle.dl_eval.specs.declared.drawn.PlanGrids.{PlanGrids}
 use Rattle.dl_eval.specs.declared.drawn.PlanGrids.TheVariants.{Independent, Shared}
 use Rattle.dl_eval.specs.Totals.{AreGridsOf, ArePooledGridsOf, HasShareFrom}
@@ -21,6 +23,15 @@ total_drawn (Shared grids) = grids.total
 abbrev pub HasShareOf : {B : ℕ} → Plan → PlanGrids B → ℕ → Type 0
 HasShareOf plan (Independent grids) i = HasShareFrom plan grids grids.sums.total i
 HasShareOf plan (Shared grids) i = IsSome grids.raised
+
+-- the grid of the raised unit, where it is there, has the first n cells
+abbrev pub HasCells : {B : ℕ} → PlanGrids B → ℕ → Type 0
+HasCells (Independent grids) n = ⊤
+HasCells (Shared grids) n = IfSome grids.raised (λ g. n ≤ length g)
+
+-- it has all cells that the asks look at
+abbrev pub CoverAsks : {B : ℕ} → PlanGrids B → List Asked → Type 0
+CoverAsks grids asks = All (λ asked. HasCells grids (facts_of asked.ask).least_cells) asks
 
 -- that of the unit which an ask names, if it names one
 abbrev pub HasNeeded : {B : ℕ} → Plan → PlanGrids B → Option ℕ → Type 0

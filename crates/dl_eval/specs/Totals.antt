@@ -110,9 +110,10 @@ pub record IsMeanOf {B : ℕ} (plan : Plan) (mean : Iv B) : Type 0 where
 abbrev pub IsPooledOf : Plan → UnitOfPlan → Type 0
 IsPooledOf plan unit = (r : ℕ) → plan.common ≡ Some r → IsPooled r plan.units unit
 
--- the grid of that unit with one more in its shape, within its budget
+-- the first cells of the grid of that unit with one more in its shape, within its budget on all
+-- cells of the plan
 pub record IsRaisedGridOf {B : ℕ} (r : ℕ) (plan : Plan) (g : List (Iv B)) : Type 0 where
-  pub cells : length g ≡ plan.cells
+  pub few : length g ≤ plan.cells
   pub unit : UnitOfPlan
   pub raised : IsRaised r plan.units unit
   pub encloses : GridEncloses g (compound_of unit.freq unit.sev)

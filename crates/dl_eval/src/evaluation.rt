@@ -1,14 +1,14 @@
 //! The report of a plan.
 
-ghost use Rattle.std.specs.Prelude.{◌≡◌, ◌≤◌, ◌^◌, ◌↔◌, IsTrue, IsSome, None, All, Any, IfOk, MatchResult, IfSome, length};
+ghost use Rattle.std.specs.Prelude.{◌≡◌, ◌≤◌, ◌^◌, ◌↔◌, ℕ, IsTrue, IsSome, None, All, Any, IfOk, MatchResult, IfSome, length};
 ghost use Rattle.dl_limits.specs.Limits.{bits_of};
 ghost use Rattle.dl_plan.specs.declared.settings.Ask.TheVariants as kinds;
 ghost use Rattle.dl_plan.specs.Prelude.{AreInRange, IsValid};
-ghost use Rattle.dl_budget.specs.Asks.{named_units};
+ghost use Rattle.dl_budget.specs.Asks.{IsInside, named_units};
 ghost use Rattle.dl_eval.specs.Answers.{AreInside, NameUnits, HaveShares, IsGoodReport, IsAnswered, RefusesAsk};
 ghost use Rattle.dl_eval.specs.declared.drawn.PlanGrids.TheVariants.{Independent};
-ghost use Rattle.dl_eval.specs.Totals.{most_mean, AreGridsOf, AreUnits, IsMeanOf, IsTotalOf};
-ghost use Rattle.dl_eval.specs.Drawn.{AreDrawnOf, HasNeeded, total_drawn};
+ghost use Rattle.dl_eval.specs.Totals.{most_mean, AreGridsOf, AreUnits, IsMeanOf, IsPooledOf, IsTotalOf};
+ghost use Rattle.dl_eval.specs.Drawn.{AreDrawnOf, CoverAsks, HasNeeded, total_drawn};
 
 use crate::admission::admit;
 use crate::drawn::PlanGrids;
@@ -23,7 +23,7 @@ use crate::units::{unit_means, unit_outcomes};
 use dl_iv::Iv;
 use dl_limits::MOST_SHORT_CELLS;
 use dl_measures::Distribution;
-use dl_plan::{Ask, Asked, Items, Plan, Settings};
+use dl_plan::{Ask, Asked, Items, Plan, Settings, Unit};
 use dl_product::Workspace;
 use dl_report::Report;
 use std::alloc::{AllocError, Global};
@@ -97,6 +97,7 @@ fn independent_parts<const B: u32>(
         AreDrawnOf plan.now made)) }
     ensures there { IfOk result (λ parts. IfSome parts.grids (λ made.
         All (HasNeeded plan.now made) named.now)) }
+    ensures reached { IfOk result (λ parts. IfSome parts.grids (λ made. CoverAsks made asks.now)) }
     ensures none { IfOk result (λ parts. parts.grids ≡ None
         → All (λ asked. asked.ask ≡ kinds.Mean) asks.now) }
     ensures mean { IfOk result (λ parts. IsMeanOf plan.now parts.mean) }
@@ -117,11 +118,63 @@ fn independent_parts<const B: u32>(
     })
 }
 
+/// The fewest cells that hold all that the asks look at; at least one.
+fn cells_asked(asks: &[Asked]) -> u64
+    ensures some { 1 ≤ result }
+    ensures inside { All (λ asked. IsInside result asked.ask) asks.now }
+    ensures fewest { (cells : ℕ) → 1 ≤ cells
+        → All (λ asked. IsInside cells asked.ask) asks.now → result ≤ cells }
+{
+    let mut cells = 1;
+    'asks: for i in 0..asks.len() {
+        cells = cells.max(asks[i].ask.least_cells());
+    }
+    cells
+}
+
 /// Whether an ask names a unit.
 fn is_some_named(named: &[Option<u32>]) -> bool
     ensures { IsTrue result ↔ Any (λ unit. IsSome unit) named.now }
 {
     named.iter().any(|unit| unit.is_some())
+}
+
+/// The grids and means behind the rows of a valid plan whose units share a factor, from the one unit
+/// in their place. Where all asks are for the mean there is no grid.
+fn parts_from_pooled<const B: u32>(
+    alloc: Global,
+    work: &mut Workspace,
+    plan: &Plan,
+    asks: &[Asked],
+    named: &[Option<u32>],
+    pooled: &Unit,
+) -> Result<Parts<B>, AllocError>
+    requires scale { B ≡ bits_of plan.now.cells }
+    requires valid { IsValid plan.now }
+    requires shares { IsSome plan.now.common }
+    requires inside { All (λ asked. IsInside plan.now.cells asked.ask) asks.now }
+    requires named { AreUnits (length plan.now.units) named.now }
+    requires pooled { IsPooledOf plan.now pooled.now }
+    ensures grids { IfOk result (λ parts. IfSome parts.grids (λ made.
+        AreDrawnOf plan.now made)) }
+    ensures there { IfOk result (λ parts. IfSome parts.grids (λ made.
+        All (HasNeeded plan.now made) named.now)) }
+    ensures reached { IfOk result (λ parts. IfSome parts.grids (λ made. CoverAsks made asks.now)) }
+    ensures none { IfOk result (λ parts. parts.grids ≡ None
+        → All (λ asked. asked.ask ≡ kinds.Mean) asks.now) }
+    ensures mean { IfOk result (λ parts. IsMeanOf plan.now parts.mean) }
+    ensures small { IfOk result (λ parts. parts.mean.hi ≤ most_mean) }
+{
+    let mean = pooled_mean(plan, pooled);
+    if are_means(asks) {
+        return Ok(Parts { grids: None, mean });
+    }
+    let reach = cells_asked(asks) as u32;
+    let grids = pooled_grids(alloc, work, plan, pooled, is_some_named(named), reach)?;
+    Ok(Parts {
+        grids: Some(PlanGrids::Shared(grids)),
+        mean,
+    })
 }
 
 /// The grids and means behind the rows of a valid plan whose units share a factor. Where all asks
@@ -136,48 +189,45 @@ fn shared_parts<const B: u32>(
     requires scale { B ≡ bits_of plan.now.cells }
     requires valid { IsValid plan.now }
     requires shares { IsSome plan.now.common }
+    requires inside { All (λ asked. IsInside plan.now.cells asked.ask) asks.now }
     requires named { AreUnits (length plan.now.units) named.now }
     ensures grids { IfOk result (λ parts. IfSome parts.grids (λ made.
         AreDrawnOf plan.now made)) }
     ensures there { IfOk result (λ parts. IfSome parts.grids (λ made.
         All (HasNeeded plan.now made) named.now)) }
+    ensures reached { IfOk result (λ parts. IfSome parts.grids (λ made. CoverAsks made asks.now)) }
     ensures none { IfOk result (λ parts. parts.grids ≡ None
         → All (λ asked. asked.ask ≡ kinds.Mean) asks.now) }
     ensures mean { IfOk result (λ parts. IsMeanOf plan.now parts.mean) }
     ensures small { IfOk result (λ parts. parts.mean.hi ≤ most_mean) }
 {
     let pooled = pooled_unit(alloc, plan)?;
-    let mean = pooled_mean(plan, &pooled);
-    if are_means(asks) {
-        return Ok(Parts { grids: None, mean });
-    }
-    let grids = pooled_grids(alloc, work, plan, &pooled, is_some_named(named))?;
-    Ok(Parts {
-        grids: Some(PlanGrids::Shared(grids)),
-        mean,
-    })
+    parts_from_pooled(alloc, work, plan, asks, named, &pooled)
 }
 
 /// The grids and means behind the rows of a valid plan.
 fn parts_for<const B: u32>(
     alloc: Global,
-    work: &mut Workspace,
     plan: &Plan,
     asks: &[Asked],
     named: &[Option<u32>],
 ) -> Result<Parts<B>, AllocError>
     requires scale { B ≡ bits_of plan.now.cells }
     requires valid { IsValid plan.now }
+    requires inside { All (λ asked. IsInside plan.now.cells asked.ask) asks.now }
     requires named { AreUnits (length plan.now.units) named.now }
     ensures grids { IfOk result (λ parts. IfSome parts.grids (λ made.
         AreDrawnOf plan.now made)) }
     ensures there { IfOk result (λ parts. IfSome parts.grids (λ made.
         All (HasNeeded plan.now made) named.now)) }
+    ensures reached { IfOk result (λ parts. IfSome parts.grids (λ made. CoverAsks made asks.now)) }
     ensures none { IfOk result (λ parts. parts.grids ≡ None
         → All (λ asked. asked.ask ≡ kinds.Mean) asks.now) }
     ensures mean { IfOk result (λ parts. IsMeanOf plan.now parts.mean) }
     ensures small { IfOk result (λ parts. parts.mean.hi ≤ most_mean) }
 {
+    let mut space = Workspace::new(alloc);
+    let work = &mut space;
     match plan.common {
         Some(_) => shared_parts(alloc, work, plan, asks, named),
         None => independent_parts(alloc, work, plan, asks, named),
@@ -225,6 +275,7 @@ fn report<const B: u32>(
     requires numbers { named.now ≡ named_units plan.now.units settings.now.asks }
     requires there { IfSome parts.now.grids (λ made.
         All (HasNeeded plan.now made) named.now) }
+    requires reached { IfSome parts.now.grids (λ made. CoverAsks made settings.now.asks) }
     requires none { parts.now.grids ≡ None
         → All (λ asked. asked.ask ≡ kinds.Mean) settings.now.asks }
     requires mean { IsMeanOf plan.now parts.now.mean }
@@ -252,6 +303,35 @@ fn report<const B: u32>(
     })
 }
 
+/// The rows of the asks, in order, from the grids and means behind them.
+fn drawn_report<const B: u32>(
+    alloc: Global,
+    plan: &Plan,
+    settings: &Settings,
+    named: &[Option<u32>],
+    parts: &Parts<B>,
+) -> Result<Report, AllocError>
+    requires scale { B ≡ bits_of plan.now.cells }
+    requires grids { IfSome parts.now.grids (λ made. AreDrawnOf plan.now made) }
+    requires valid { IsValid plan.now }
+    requires ranges { AreInRange settings.now }
+    requires inside { AreInside plan.now settings.now }
+    requires named { NameUnits plan.now settings.now }
+    requires shares { HaveShares plan.now settings.now }
+    requires numbers { named.now ≡ named_units plan.now.units settings.now.asks }
+    requires there { IfSome parts.now.grids (λ made.
+        All (HasNeeded plan.now made) named.now) }
+    requires reached { IfSome parts.now.grids (λ made. CoverAsks made settings.now.asks) }
+    requires none { parts.now.grids ≡ None
+        → All (λ asked. asked.ask ≡ kinds.Mean) settings.now.asks }
+    requires mean { IsMeanOf plan.now parts.now.mean }
+    requires small { parts.now.mean.hi ≤ most_mean }
+    ensures { IfOk result (λ report. IsGoodReport plan.now settings.now report) }
+{
+    let total = summed(alloc, plan, &parts.grids)?;
+    report(alloc, plan, settings, named, parts, &total)
+}
+
 /// The report of a plan whose asks are admitted, from the number of the unit that each ask names.
 fn admitted_report<const B: u32>(
     alloc: Global,
@@ -268,11 +348,8 @@ fn admitted_report<const B: u32>(
     requires numbers { named.now ≡ named_units plan.now.units settings.now.asks }
     ensures { IfOk result (λ report. IsGoodReport plan.now settings.now report) }
 {
-    let mut work = Workspace::new(alloc);
-    let parts = parts_for::<B>(alloc, &mut work, plan, settings.asks.as_slice(), named)?;
-    drop(work);
-    let total = summed(alloc, plan, &parts.grids)?;
-    report(alloc, plan, settings, named, &parts, &total)
+    let parts = parts_for::<B>(alloc, plan, settings.asks.as_slice(), named)?;
+    drawn_report(alloc, plan, settings, named, &parts)
 }
 
 /// The report of a plan whose grids are in units of `1 / 2^B`, or its first refused ask.

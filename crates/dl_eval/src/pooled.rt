@@ -1,13 +1,13 @@
 //! The grids that rows come from where the units of a plan share a factor: that of the one unit in
 //! their place, and that of the same with one more in its shape.
 
-ghost use Rattle.std.specs.Prelude.{ℕ, ◌≡◌, ◌*◌, ◌^◌, ◌<◌, ◌≤◌, Some, IsSome, IsTrue, IfOk, length};
+ghost use Rattle.std.specs.Prelude.{ℕ, ◌≡◌, ◌+◌, ◌*◌, ◌^◌, ◌<◌, ◌≤◌, Some, IfSome, IsSome, IsTrue, IfOk, length};
 ghost use Rattle.dl_limits.specs.Limits.{bits_of};
 ghost use Rattle.dl_exact.specs.Fraction.{◌over◌};
 ghost use Rattle.dl_plan.specs.Valid.{IsValid};
 ghost use Rattle.dl_model.specs.Program.{Point};
 ghost use Rattle.dl_eval.specs.Rows.{IsAtMost};
-ghost use Rattle.dl_eval.specs.Totals.{most_mean, ArePooledGridsOf, IsJointOf, IsMeanOf, IsPooledOf};
+ghost use Rattle.dl_eval.specs.Totals.{most_mean, ArePooledGridsOf, IsJointOf, IsMeanOf, IsPooledOf, IsRaisedGridOf};
 
 use dl_cede::claims_mean;
 use dl_common::{common_joint, pool, raised};
@@ -23,8 +23,8 @@ use std::alloc::{AllocError, Global};
 pub(crate) struct PooledGrids<const B: u32> {
     /// That of the total.
     pub(crate) total: Grid<B>,
-    /// That of the one unit in the place of all, with one more in its shape; it may be gone where
-    /// no ask is for the share of a unit.
+    /// That of the one unit in the place of all, with one more in its shape, up to the last cell
+    /// that an ask looks at; it may be gone where no ask is for the share of a unit.
     pub(crate) raised: Option<Grid<B>>,
 }
 
@@ -41,8 +41,32 @@ pub(crate) fn pooled_mean<const B: u32>(plan: &Plan, pooled: &Unit) -> Iv<B>
     claims_mean(pooled)
 }
 
-/// The grids of a plan whose units share a factor, from the one unit in their place; that of the
-/// raised unit where `wanted`.
+/// The first `reach` cells of the grid of the one unit in the place of all units of a plan that
+/// share a factor, with one more in its shape.
+#[tactic(auto, using(crate::proofs::Scales::grid_size))]
+fn raised_grid<const B: u32>(
+    alloc: Global,
+    work: &mut Workspace,
+    plan: &Plan,
+    pooled: &Unit,
+    reach: u32,
+) -> Result<Grid<B>, AllocError>
+    requires scale { B ≡ bits_of plan.now.cells }
+    requires valid { IsValid plan.now }
+    requires shares { IsSome plan.now.common }
+    requires pooled { IsPooledOf plan.now pooled.now }
+    requires some { 1 ≤ reach }
+    requires within { reach ≤ plan.now.cells }
+    ensures grid { IfOk result (λ g. (r : ℕ) → plan.now.common ≡ Some r
+        → IsRaisedGridOf r plan.now g) }
+    ensures reach { IfOk result (λ g. length g ≡ reach) }
+{
+    let unit = raised(alloc, pooled)?;
+    unit_grid_with(alloc, work, &unit, reach)
+}
+
+/// The grids of a plan whose units share a factor, from the one unit in their place; where `wanted`,
+/// the first `reach` cells of that of the raised unit.
 #[tactic(auto, using(crate::proofs::Scales::grid_size))]
 pub(crate) fn pooled_grids<const B: u32>(
     alloc: Global,
@@ -50,13 +74,17 @@ pub(crate) fn pooled_grids<const B: u32>(
     plan: &Plan,
     pooled: &Unit,
     wanted: bool,
+    reach: u32,
 ) -> Result<PooledGrids<B>, AllocError>
     requires scale { B ≡ bits_of plan.now.cells }
     requires valid { IsValid plan.now }
     requires shares { IsSome plan.now.common }
     requires pooled { IsPooledOf plan.now pooled.now }
+    requires some { 1 ≤ reach }
+    requires within { reach ≤ plan.now.cells }
     ensures grids { IfOk result (λ grids. ArePooledGridsOf plan.now grids) }
     ensures there { IfOk result (λ grids. IsTrue wanted → IsSome grids.raised) }
+    ensures reach { IfOk result (λ grids. IfSome grids.raised (λ g. length g ≡ reach)) }
 {
     let total = unit_grid_with(alloc, work, pooled, plan.cells)?;
     if !wanted {
@@ -65,8 +93,7 @@ pub(crate) fn pooled_grids<const B: u32>(
             raised: None,
         });
     }
-    let unit = raised(alloc, pooled)?;
-    let grid = unit_grid_with(alloc, work, &unit, plan.cells)?;
+    let grid = raised_grid(alloc, work, plan, pooled, reach)?;
     Ok(PooledGrids {
         total,
         raised: Some(grid),
@@ -96,6 +123,7 @@ pub(crate) fn pooled_joint<const B: u32>(
     requires unit { i < length plan.now.units }
     requires there { IsSome grids.now.raised }
     requires inside { at < plan.now.cells }
+    requires reached { IfSome grids.now.raised (λ g. at + 1 ≤ length g) }
     ensures joint { IsJointOf plan.now i at result }
     ensures below { (h : ℕ) → IsAtMost plan.now (Point at) (h over 2 ^ B) → result.lo ≤ at * h }
     ensures divisible { result.hi * 2 ^ B ≤ 2 ^ 127 }

@@ -4,12 +4,12 @@ ghost use Rattle.std.specs.Prelude.{◌≡◌, ◌≤◌, ◌^◌, ◌⊎◌, �
 ghost use Rattle.dl_limits.specs.Limits.{IsPlanScale, bits_of, most_digits};
 ghost use Rattle.dl_plan.specs.declared.plan.Plan.{Plan as PlanValue};
 ghost use Rattle.dl_plan.specs.declared.settings.Ask.TheVariants as asks;
-ghost use Rattle.dl_plan.specs.Prelude.{IsLevel, IsAskInRange, ArePriced, IsValid};
+ghost use Rattle.dl_plan.specs.Prelude.{facts_of, IsLevel, IsAskInRange, ArePriced, IsValid};
 ghost use Rattle.dl_budget.specs.Asks.{IsInside, NamesUnit, named_unit, tail_budget, price_budget, in_digits};
 ghost use Rattle.dl_eval.specs.Rows.{IsBracket, IsTailMean, IsBeyond, IsPastGrid, IsPrice, IsBeyondSome, IsAnswerTo, IsGood, bracket_end, total_error};
 ghost use Rattle.dl_eval.specs.Totals.{most_mean, IsTotalOf, IsMeanOf, Prints};
 ghost use Rattle.dl_eval.specs.Answers.{HasShare};
-ghost use Rattle.dl_eval.specs.Drawn.{AreDrawnOf, HasNeeded, total_drawn};
+ghost use Rattle.dl_eval.specs.Drawn.{AreDrawnOf, HasCells, HasNeeded, total_drawn};
 
 use crate::drawn::PlanGrids;
 use crate::shares::{joint_of, share_row, tail_share_row};
@@ -165,6 +165,7 @@ fn grid_row<const B: u32>(
     requires total { IsTotalOf plan.now total.now }
     requires unit { unit ≡ named_unit plan.now.units asked.now.ask }
     requires there { HasNeeded plan.now grids.now unit }
+    requires reached { HasCells grids.now (facts_of asked.now.ask).least_cells }
     requires same { total.now ≡ total_drawn grids.now }
     requires mean { IsMeanOf plan.now mean }
     requires small { mean.hi ≤ most_mean }
@@ -228,6 +229,8 @@ pub(crate) fn row<const B: u32>(
     requires summed { total.now ≡ None → grids.now ≡ None }
     requires unit { unit ≡ named_unit plan.now.units asked.now.ask }
     requires there { IfSome grids.now (λ made. HasNeeded plan.now made unit) }
+    requires reached { IfSome grids.now (λ made.
+        HasCells made (facts_of asked.now.ask).least_cells) }
     requires same { IfSome grids.now (λ made. IfSome total.now (λ sums. sums ≡ total_drawn made)) }
     requires none { grids.now ≡ None → asked.now.ask ≡ asks.Mean }
     requires mean { IsMeanOf plan.now mean }

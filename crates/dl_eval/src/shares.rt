@@ -1,6 +1,6 @@
 //! The share of a unit in a total.
 
-ghost use Rattle.std.specs.Prelude.{◌≡◌, ◌*◌, ◌^◌, ◌<◌, ◌≤◌, ◌⊎◌, IsSome, IsNone, IfSome, Some, None, ℕ, IfOk, length, get_or};
+ghost use Rattle.std.specs.Prelude.{◌+◌, ◌≡◌, ◌*◌, ◌^◌, ◌<◌, ◌≤◌, ◌⊎◌, IsSome, IsNone, IfSome, Some, None, ℕ, IfOk, length, get_or};
 ghost use Rattle.dl_limits.specs.Limits.{bits_of, budget_bound, most_digits};
 ghost use Rattle.dl_exact.specs.Fraction.{◌over◌};
 ghost use Rattle.dl_model.specs.Prelude.{Point, declared};
@@ -8,7 +8,7 @@ ghost use Rattle.dl_plan.specs.Prelude.{IsValid, IsLevel};
 ghost use Rattle.dl_budget.specs.Asks.{kappa_budget, cotail_budget, in_digits};
 ghost use Rattle.dl_eval.specs.Rows.{IsAtLeast, IsAtMost, IsBeyond, IsShareOfUnit, IsTooRare, IsTailShare, IsNoTailShare, at_the_end, total_error};
 ghost use Rattle.dl_eval.specs.Totals.{AreGridsOf, AreOthersOf, HasShareFrom, IsGridOfUnit, IsFromTotal, IsJointOf, IsRaisedTotalOf, IsTailShareOf, IsTotalOf};
-ghost use Rattle.dl_eval.specs.Drawn.{AreDrawnOf, HasShareOf};
+ghost use Rattle.dl_eval.specs.Drawn.{AreDrawnOf, HasCells, HasShareOf};
 ghost use Rattle.dl_grid.specs.Cells.{low_at, spread};
 ghost use Rattle.dl_measures.specs.Prelude.{IsFirstFound, low_cdf};
 ghost use Rattle.dl_cotail.specs.Settled.{MayBeAbsent};
@@ -147,6 +147,7 @@ pub(crate) fn joint_of<const B: u32>(plan: &Plan, grids: &PlanGrids<B>, i: u32, 
     requires unit { i < length plan.now.units }
     requires there { HasShareOf plan.now grids.now i }
     requires inside { at < plan.now.cells }
+    requires reached { HasCells grids.now (at + 1) }
     ensures joint { IsJointOf plan.now i at result }
     ensures below { (h : ℕ) → IsAtMost plan.now (Point at) (h over 2 ^ B) → result.lo ≤ at * h }
     ensures divisible { result.hi * 2 ^ B ≤ 2 ^ 127 }
@@ -176,6 +177,7 @@ pub(crate) fn share_row<const B: u32>(
     requires unit { i < length plan.now.units }
     requires there { HasShareOf plan.now grids.now i }
     requires inside { at < plan.now.cells }
+    requires reached { HasCells grids.now (at + 1) }
     ensures ask { IfOk result (λ row. row.ask ≡ asked.now.text) }
     ensures share { IfOk result (λ row. IsShareOfUnit plan.now i at digits
         (in_digits (2 ^ B) (kappa_budget (2 ^ B) plan.now i) digits) row

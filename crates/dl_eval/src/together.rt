@@ -104,6 +104,31 @@ fn total_of<const B: u32>(
     Ok(Some(total))
 }
 
+/// The grid of the total, by the one unit in the place of those that can be pooled, and the means of
+/// all units; none where the grid is wider than the total may be.
+fn total_and_means<const B: u32>(
+    alloc: Global,
+    work: &mut Workspace,
+    plan: &Plan,
+    pooled: &Unit,
+) -> Result<Option<(Grid<B>, Vec<Iv<B>>)>, AllocError>
+    requires scale { B ≡ bits_of plan.now.cells }
+    requires valid { IsValid plan.now }
+    requires independent { plan.now.common ≡ None }
+    requires pooled { IsPooledFor plan.now pooled.now }
+    ensures total { IfOk result (λ made. IfSome made (λ both. IsTotalOf plan.now both.0)) }
+    ensures means { IfOk result (λ made. IfSome made (λ both.
+        AreUnitMeans plan.now.cells plan.now.units both.1.items)) }
+    ensures small { IfOk result (λ made. IfSome made (λ both.
+        All (λ mean. mean.hi ≤ most_unit_mean) both.1.items)) }
+{
+    let made = outcomes_of_rest::<B>(alloc, work, plan)?;
+    match total_of(alloc, work, plan, made.grids, pooled)? {
+        Some(total) => Ok(Some((total, made.means))),
+        None => Ok(None),
+    }
+}
+
 /// The grids behind the rows where the total is there: for no unit the sum of the others, and for
 /// named gamma units the total with their extra claims.
 fn grids_of_total<const B: u32>(
@@ -140,6 +165,36 @@ fn are_without_others(units: &[Unit], named: &[Option<u32>]) -> bool {
     })
 }
 
+/// The grids behind the rows of a valid plan whose units are independent, with this one unit in the
+/// place of all that can be pooled. None where the total would be wider than it may be, and where the
+/// share of a named unit comes neither from the grid of the total nor from that of the total with its
+/// extra claims within its budget.
+fn grids_by<const B: u32>(
+    alloc: Global,
+    work: &mut Workspace,
+    plan: &Plan,
+    named: &[Option<u32>],
+    pooled: &Unit,
+) -> Result<Option<Grids<B>>, AllocError>
+    requires scale { B ≡ bits_of plan.now.cells }
+    requires valid { IsValid plan.now }
+    requires independent { plan.now.common ≡ None }
+    requires named { AreUnits (length plan.now.units) named.now }
+    requires pooled { IsPooledFor plan.now pooled.now }
+    ensures grids { IfOk result (λ made. IfSome made (AreGridsOf plan.now)) }
+    ensures there { IfOk result (λ made. IfSome made (λ grids.
+        All (HasNeeded plan.now (Independent grids)) named.now)) }
+{
+    let Some((total, means)) = total_and_means(alloc, work, plan, pooled)? else {
+        return Ok(None);
+    };
+    let grids = grids_of_total(alloc, work, plan, named, total, means)?;
+    if !are_served(plan, &grids, named) {
+        return Ok(None);
+    }
+    Ok(Some(grids))
+}
+
 /// The grids behind the rows of a valid plan whose units are independent, with one Poisson unit in
 /// the place of all that can be pooled. None where there are fewer than two of these, where the
 /// total would be wider than it may be, and where the share of a named unit comes neither from the
@@ -164,13 +219,5 @@ pub(crate) fn grids_together<const B: u32>(
     let Some(pooled) = pooled_for(alloc, plan)? else {
         return Ok(None);
     };
-    let made = outcomes_of_rest::<B>(alloc, work, plan)?;
-    let Some(total) = total_of(alloc, work, plan, made.grids, &pooled)? else {
-        return Ok(None);
-    };
-    let grids = grids_of_total(alloc, work, plan, named, total, made.means)?;
-    if !are_served(plan, &grids, named) {
-        return Ok(None);
-    }
-    Ok(Some(grids))
+    grids_by(alloc, work, plan, named, &pooled)
 }

@@ -1,7 +1,7 @@
 use Rattle.dl_budget.proofs.Common.{◌+◌, ◌-◌, ◌^◌, arith, ap, ◌∙◌, num_below}
 use Rattle.dl_budget.proofs.Horizons.{few_cells}
 use Rattle.dl_budget.proofs.Sums.{read_unit, unit_there}
-use Rattle.dl_budget.proofs.TailShares.{mean_here, share_parts, share_small, share_value}
+use Rattle.dl_budget.proofs.TailShares.{cells_total, mean_here, share_parts, share_small, share_value}
 use Rattle.dl_budget.proofs.asks.cotail_budget.Goals as goal
 
 pub returns-clause-value : goal.returns-clause-value
@@ -40,3 +40,26 @@ returns-clause-small g c =
 
 pub overflow_sub-rest : goal.overflow_sub-rest
 overflow_sub-rest g c = let below = num_below c.args.p c.requires.level.below in omega arith
+
+pub overflow_mul-sums-2 : goal.overflow_mul-sums-2
+overflow_mul-sums-2 g c = omega (
+  arith,
+  cells_total c.args.plan.now.cells c.args.budgets.total
+      (few_cells c.args.plan.now c.requires.valid).1 c.requires.budgets.total_small,
+)
+
+pub overflow_add-sums-3 : goal.overflow_add-sums-3
+overflow_add-sums-3 g c = omega (
+  arith,
+  cells_total c.args.plan.now.cells c.args.budgets.total
+      (few_cells c.args.plan.now c.requires.valid).1 c.requires.budgets.total_small,
+  c.joint_budget.ensures.small,
+)
+
+pub overflow_add-result : goal.overflow_add-result
+overflow_add-result g c =
+    let below = num_below c.args.p c.requires.level.below in
+    let fits = share_parts _ c.joint_budget.result c.args.plan.now.cells c.args.budgets.total _ _ _
+    c.unit_mean_budget-mean.ensures.small c.joint_budget.ensures.small (few_cells c.args.plan.now c.requires.valid).1
+    c.requires.budgets.total_small c.kappa_budget.ensures.small c.den-2.ensures.part c.requires.few in
+    omega (arith, share_small _ (c.den.result - c.num.result) (omega arith) fits)

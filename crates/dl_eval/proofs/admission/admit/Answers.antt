@@ -1,3 +1,4 @@
+use Rattle.dl_eval.proofs.Common.{arith, ap, length, ◌∙◌}
 use Rattle.dl_eval.proofs.admission.admit.Goals as goal
 
 pub returns-in-Some-first_wide-clause-admitted : goal.returns-in-Some-first_wide-clause-admitted
@@ -21,4 +22,30 @@ returns-clause-admitted g c = record {
   named = rw (c.as_slice-units.ensures, c.as_slice-asks.ensures) at c.in_default-first_unknown.ensures;
   shares = rw c.as_slice-asks.ensures at c.in_default-first_share.ensures;
   pass = c.in_default-first_wide.ensures;
+}
+
+pub returns-in-Some-clause-admitted : goal.returns-in-Some-clause-admitted
+returns-in-Some-clause-admitted g c = rw c.as_slice-asks.ensures at c.in-Some.ensures
+
+pub first_unknown-requires : goal.first_unknown-requires
+first_unknown-requires g c = record {
+  units = omega (arith, ap (λ t. length t) c.as_slice-units.ensures, c.requires.valid.few);
+  few = omega (arith, ap (λ t. length t) c.as_slice-asks.ensures, c.requires.ranges.few_asks);
+  named = c.as_slice.ensures.value ∙ c.in_ok-named.ensures;
+}
+
+pub returns-in-Some-first_unknown-clause-admitted : goal.returns-in-Some-first_unknown-clause-admitted
+returns-in-Some-first_unknown-clause-admitted g c = (
+  rw c.as_slice-asks.ensures at c.in_default.ensures,
+  rw (c.as_slice-units.ensures, c.as_slice-asks.ensures) at c.in-Some-first_unknown.ensures,
+)
+
+pub first_wide-requires : goal.first_wide-requires
+first_wide-requires g c = record {
+  scale = c.requires.scale;
+  valid = c.requires.valid;
+  ranges = c.requires.ranges;
+  inside = rw c.as_slice-asks.ensures at c.in_default.ensures;
+  named = rw (c.as_slice-units.ensures, c.as_slice-asks.ensures) at c.in_default-first_unknown.ensures;
+  numbers = c.as_slice-2.ensures.value ∙ (rw (c.as_slice-units.ensures, c.as_slice-asks.ensures) at c.in_ok-named.ensures);
 }

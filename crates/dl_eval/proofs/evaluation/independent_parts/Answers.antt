@@ -1,4 +1,5 @@
-use Rattle.dl_eval.proofs.Common.{sym, subst, AreUnitMeans}
+use Rattle.dl_eval.proofs.Common.{sym, subst, AreUnitMeans, arith, ap, length, ◌also◌}
+use Rattle.dl_eval.proofs.Scales.{plan_scale}
 use Rattle.dl_eval.proofs.evaluation.independent_parts.Goals as goal
 
 pub returns-then-are_means-clause-mean : goal.returns-then-are_means-clause-mean
@@ -6,3 +7,24 @@ returns-then-are_means-clause-mean g c =
     let plan = c.args.plan.now in
     c.total_mean.ensures.mean plan c.requires.valid c.requires.independent
     (subst (AreUnitMeans plan.cells plan.units) (sym c.as_slice.ensures.value) c.in_ok-means.ensures.means)
+
+pub unit_means-requires : goal.unit_means-requires
+unit_means-requires g c = (omega arith) also c.requires.scale also c.requires.valid
+
+pub total_mean-requires : goal.total_mean-requires
+total_mean-requires g c =
+    let means = c.in_ok-means.ensures in
+    (omega arith) also plan_scale g.row.B c.args.plan.now.cells c.requires.scale
+    also (omega (arith, ap (λ t. length t) c.as_slice.ensures.value, means.means.as_many, c.requires.valid.few))
+    also rw c.as_slice.ensures.value means.small
+
+pub independent_grids-requires : goal.independent_grids-requires
+independent_grids-requires g c =
+    (omega arith) also c.requires.scale also c.requires.valid also c.requires.independent also c.requires.named
+
+pub total_mean-mean-requires : goal.total_mean-mean-requires
+total_mean-mean-requires g c =
+    let grids = c.in_ok-grids.ensures.grids in
+    (omega arith) also plan_scale g.row.B c.args.plan.now.cells c.requires.scale
+    also (omega (arith, ap (λ t. length t) c.as_slice-2.ensures.value, grids.means.as_many, c.requires.valid.few))
+    also rw c.as_slice-2.ensures.value grids.small

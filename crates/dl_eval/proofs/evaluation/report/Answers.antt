@@ -1,5 +1,7 @@
 use Rattle.dl_eval.proofs.Common.{◌≡◌, arith, refl, sym, ap, subst₂, length, All, zip, Asked, IsInside, None, NamesUnit, IsGood, IsAskInRange, HasShare, IfSome_then, ◌also◌}
 use Rattle.dl_plan.specs.declared.settings.Ask.TheVariants.{Mean}
+use Rattle.dl_plan.specs.Prelude.{facts_of}
+use Rattle.dl_eval.specs.Drawn.{HasCells}
 use Rattle.dl_eval.proofs.Insides.{ask_has}
 use Rattle.dl_eval.proofs.Lists.{each_next, pushed_length, all_pairs}
 use Rattle.dl_eval.proofs.Named.{named_here, numbers_many}
@@ -24,7 +26,9 @@ row-requires g c =
     (ask_has (λ (a : Asked). HasShare plan a.ask) i same c.index-asks-i.is test c.requires.shares) (all_six
     c.requires.grids c.requires.total c.requires.summed unit
     (IfSome_then c.args.parts.now.grids c.requires.there (λ made each. each i None (omega (arith, many, test))))
-    (c.requires.same
+    (IfSome_then c.args.parts.now.grids c.requires.reached
+    (λ made. ask_has (λ (a : Asked). HasCells made (facts_of a.ask).least_cells) i same c.index-asks-i.is test)
+    also c.requires.same
     also (λ none. ask_has (λ (a : Asked). a.ask ≡ Mean) i same c.index-asks-i.is test (c.requires.none none))
     also c.requires.mean also c.requires.small)))
 

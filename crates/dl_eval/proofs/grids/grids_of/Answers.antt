@@ -57,3 +57,9 @@ returns-clause-there g c =
 
 pub returns-clause-kept : goal.returns-clause-kept
 returns-clause-kept g c many = c.requires.units
+
+pub shared_units-requires : goal.shared_units-requires
+shared_units-requires g c = record { few = omega (arith, ap (λ t. length t) c.as_slice-many.ensures, c.requires.valid.few) }
+
+pub sums_of_one-requires : goal.sums_of_one-requires
+sums_of_one-requires g c = (omega arith, omega arith)

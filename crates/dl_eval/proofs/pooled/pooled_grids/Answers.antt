@@ -1,6 +1,6 @@
-use Rattle.dl_eval.proofs.Common.{arith, few_cells, SharesFactor, ◌also◌}
+use Rattle.dl_eval.proofs.Common.{arith, few_cells, ◌also◌}
 use Rattle.dl_eval.proofs.Scales.{grid_size}
-use Rattle.dl_eval.proofs.PooledUnits.{some_shape, pooled_unit_valid, pooled_total, raised_unit_valid, raised_is_grid}
+use Rattle.dl_eval.proofs.PooledUnits.{some_shape, pooled_unit_valid, pooled_total}
 use Rattle.dl_eval.proofs.pooled.pooled_grids.Goals as goal
 
 pub unit_grid_with-requires : goal.unit_grid_with-requires
@@ -21,31 +21,12 @@ returns-then-not-wanted-clause-grids g c =
       raised = tt;
     }
 
-pub raised-requires : goal.raised-requires
-raised-requires g c =
-    let plan = c.args.plan.now in
-    let s = some_shape plan.common c.requires.shares in
-    (plan, s.0, record { shape = s.1; valid = c.requires.valid }, c.requires.pooled s.0 s.1)
-
-pub unit_grid_with-requires-2 : goal.unit_grid_with-requires-2
-unit_grid_with-requires-2 g c =
-    let plan = c.args.plan.now in
-    let s = some_shape plan.common c.requires.shares in
-    let raised = c.in_ok-unit.ensures.raised plan s.0 (record { shape = s.1; valid = c.requires.valid })
-    (c.requires.pooled s.0 s.1) in
-    (omega arith) also grid_size g.row.B plan.cells c.requires.scale (few_cells plan c.requires.valid).0
-    (few_cells plan c.requires.valid).1 also (plan.cells, raised_unit_valid c.requires.valid s.1 _ raised)
-
 pub returns-clause-grids : goal.returns-clause-grids
 returns-clause-grids g c =
-    let plan = c.args.plan.now in
-    let s = some_shape plan.common c.requires.shares in
-    let shares : SharesFactor plan s.0 = record { shape = s.1; valid = c.requires.valid } in
-    let total = c.in_ok-total.ensures in
-    let grid = c.in_ok-grid.ensures in record {
+    let s = some_shape c.args.plan.now.common c.requires.shares in
+    let total = c.in_ok-total.ensures in record {
       shape = s.0;
       shares = s.1;
       total = pooled_total c.requires.valid s.1 _ (c.requires.pooled s.0 s.1) total.cells total.encloses total.spread;
-      raised = raised_is_grid c.requires.valid s.1 _ (c.in_ok-unit.ensures.raised plan s.0 shares
-          (c.requires.pooled s.0 s.1)) grid.cells grid.encloses grid.spread;
+      raised = c.in_ok-grid.ensures.grid s.0 s.1;
     }

@@ -1,7 +1,7 @@
 use Rattle.dl_eval.proofs.Common.{arith, sym, read_unit, ◌also◌}
 use Rattle.dl_eval.proofs.ReadAs.{valid_there}
 use Rattle.dl_eval.proofs.Scales.{share_divides}
-use Rattle.dl_eval.proofs.PooledUnits.{unit_poisson, pooled_is_joint, raised_there}
+use Rattle.dl_eval.proofs.PooledUnits.{unit_poisson, pooled_is_joint, raised_there, reached_there}
 use Rattle.dl_eval.proofs.pooled.pooled_joint.Goals as goal
 
 pub common_joint-requires : goal.common_joint-requires
@@ -10,11 +10,10 @@ common_joint-requires g c =
     let u = c.index-as_slice-i.result in
     let is = read_unit c.as_slice.result.now plan.units c.args.i u c.as_slice.ensures c.index-as_slice-i.is in
     let made = c.requires.grids in
-    let there = raised_there plan made.shape c.in-Some.is made.raised in
     (omega arith) also (omega arith)
     also valid_there c.args.i c.as_slice.ensures c.index-as_slice-i.is c.requires.unit c.requires.valid
     also unit_poisson c.requires.valid made.shares c.args.i c.requires.unit is
-    also (omega (arith, c.requires.inside, there.cells))
+    also (omega (arith, reached_there c.in-Some.is c.requires.reached))
 
 pub returns-clause-joint : goal.returns-clause-joint
 returns-clause-joint g c =

@@ -1,4 +1,5 @@
 use Rattle.dl_eval.proofs.Common.{ℕ, arith, ap, length, List, Option, None, IfSome, Iv}
+use Rattle.dl_eval.proofs.Parts.{all_six}
 use Rattle.dl_eval.proofs.Lists.{pushed_length, each_pushed}
 use Rattle.dl_eval.specs.Totals.{IsRaisedTotalOf}
 use Rattle.dl_eval.proofs.raised.raised_totals.Goals as goal
@@ -16,3 +17,8 @@ returns g c = record {
   as_many = omega (arith, c.loop-i.invariant.as_many, ap length c.as_slice-i-end.ensures);
   each = λ i inside. c.loop-i.invariant.each i (omega (arith, inside, ap length c.as_slice-i-end.ensures));
 }
+
+pub named_total-requires : goal.named_total-requires
+named_total-requires g c =
+    all_six (omega arith) c.requires.scale c.requires.valid c.requires.independent c.requires.total
+    (omega (arith, c.loop-i-test.true, ap length c.as_slice-i-end.ensures))

@@ -1,11 +1,13 @@
-use Rattle.dl_eval.proofs.Common.{[], ◌^◌, arith, ap, IfOk-weaker, All-head, facts_of, IsLevel, ◌also◌}
+use Rattle.dl_eval.proofs.Common.{[], ◌^◌, arith, ap, IfOk-weaker, All-head, facts_of, IsLevel, ◌also◌, subst, sym}
 use Rattle.dl_eval.proofs.Insides.{layer_inside}
 use Rattle.dl_eval.proofs.GoodRows.{point_answer, cdf_answer, mean_answer, layer_answer}
-use Rattle.dl_eval.proofs.Named.{index_named}
+use Rattle.dl_eval.proofs.Named.{index_named, named_inside}
 use Rattle.dl_eval.proofs.Scales.{plan_scale}
 use Rattle.dl_eval.proofs.PriceRows.{price_asked}
 use Rattle.dl_eval.proofs.ShareLaws.{joint_asked, share_asked, tail_asked}
 use Rattle.dl_eval.proofs.TailShares.{tail_share_asked}
+use Rattle.dl_eval.proofs.Parts.{all_six}
+use Rattle.dl_eval.specs.Totals.{HasShareFrom}
 use Rattle.dl_eval.proofs.rows.grid_row.Goals as goal
 
 pub at-requires : goal.at-requires
@@ -102,3 +104,29 @@ returns-in-Independent-clause-answer g c =
     (ap (λ ask. (facts_of ask).unit) c.in-Cotail.is) c.requires.unit c.unwrap-in-Independent.ensures in
     IfOk-weaker c.tail_share_row.result _ _ (λ row told.
     rw c.in-Cotail.is (tail_share_asked (2 ^ g.row.B) c.in-Cotail.unit named told)) c.tail_share_row.ensures.share
+
+pub joint_of-requires : goal.joint_of-requires
+joint_of-requires g c =
+    all_six (omega arith) (omega arith) c.requires.scale c.requires.valid c.requires.grids
+    (named_inside c.args.plan.now.units c.args.asked.now.ask c.requires.unit c.requires.named c.unwrap.ensures
+    also rw c.unwrap.ensures at c.requires.there also (omega (arith, rw c.in-Joint.is at c.requires.inside))
+    also rw c.in-Joint.is at c.requires.reached)
+
+pub share_row-requires : goal.share_row-requires
+share_row-requires g c =
+    all_six (omega arith) c.requires.scale c.requires.digits c.requires.valid c.requires.grids
+    (named_inside c.args.plan.now.units c.args.asked.now.ask c.requires.unit c.requires.named c.unwrap-in-Kappa.ensures
+    also rw c.unwrap-in-Kappa.ensures at c.requires.there also (omega (arith, rw c.in-Kappa.is at c.requires.inside))
+    also rw c.in-Kappa.is at c.requires.reached)
+
+pub tail_share_row-requires : goal.tail_share_row-requires
+tail_share_row-requires g c =
+    let grids = rw c.in-Independent.is at c.requires.grids in
+    let there = rw (c.unwrap-in-Independent.ensures, c.in-Independent.is) at c.requires.there in
+    all_six (omega arith) (omega arith) c.requires.scale c.requires.digits c.requires.valid (all_six grids.0 grids.1
+    c.requires.total (named_inside c.args.plan.now.units c.args.asked.now.ask c.requires.unit c.requires.named
+    c.unwrap-in-Independent.ensures)
+    (subst (λ t. HasShareFrom c.args.plan.now c.in-Independent.grids t c.unwrap-in-Independent.result)
+    (sym (rw c.in-Independent.is at c.requires.same)) there)
+    (All-head IsLevel c.in-Cotail.p [] (rw c.in-Cotail.is at c.requires.values.levels)
+    also rw c.in-Cotail.is at c.requires.values.share))

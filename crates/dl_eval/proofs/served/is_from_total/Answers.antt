@@ -1,6 +1,7 @@
 use Rattle.dl_eval.proofs.Common.{◌≤◌, sym, ap, subst₂, ◌∙◌, read_unit, thinned_mean}
 use Rattle.dl_budget.specs.Shared.{shared_joint_budget}
 use Rattle.dl_eval.proofs.FromTotal.{told_le, true_shares}
+use Rattle.dl_eval.proofs.Scales.{plan_scale}
 use Rattle.dl_eval.proofs.served.is_from_total.Goals as goal
 
 pub returns : goal.returns
@@ -16,3 +17,16 @@ returns g c narrow =
           ∙ ap (λ s. shared_joint_budget plan.cells s (thinned_mean u)) c.requires.apart)
           c.joint_budget.ensures.value within;
     }
+
+pub total_budget-requires : goal.total_budget-requires
+total_budget-requires g c = record {
+  scale = plan_scale g.row.B c.args.plan.now.cells c.requires.scale;
+  valid = c.requires.valid;
+}
+
+pub joint_budget-requires : goal.joint_budget-requires
+joint_budget-requires g c = record {
+  scale = plan_scale g.row.B c.args.plan.now.cells c.requires.scale;
+  valid = c.requires.valid;
+  unit = c.requires.unit;
+}

@@ -1,6 +1,7 @@
-use Rattle.dl_eval.proofs.Common.{ℕ, ◌^◌, length, inl, inr, subst, Option, IfOk-weaker, low_at, low_cdf, IsFirstFound}
+use Rattle.dl_eval.proofs.Common.{ℕ, ◌^◌, length, inl, inr, subst, Option, IfOk-weaker, low_at, low_cdf, IsFirstFound, arith, ◌also◌}
 use Rattle.dl_eval.proofs.GoodRows.{ends_below}
 use Rattle.dl_eval.proofs.TailShares.{share_told}
+use Rattle.dl_eval.proofs.Parts.{all_six}
 use Rattle.dl_eval.proofs.shares.tail_share_row.Goals as goal
 
 pub returns-in-Some-clause-share : goal.returns-in-Some-clause-share
@@ -20,3 +21,11 @@ returns-in-None-clause-share g c =
           c.requires.valid c.requires.total;
     })))
     c.beyond_row.ensures.ends
+
+pub tail_share_of-requires : goal.tail_share_of-requires
+tail_share_of-requires g c =
+    all_six (omega arith) (omega arith) (omega arith) c.requires.scale c.requires.valid (all_six c.requires.independent
+    c.requires.grids c.requires.total c.requires.unit c.requires.there (c.requires.level also c.requires.few))
+
+pub quantile-requires : goal.quantile-requires
+quantile-requires g c = (omega arith) also c.requires.level.below also c.requires.level.den

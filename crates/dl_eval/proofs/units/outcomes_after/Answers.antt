@@ -1,4 +1,4 @@
-use Rattle.dl_eval.proofs.Common.{take, arith, sym, ap, subst, ◌∙◌, IsUnitMean}
+use Rattle.dl_eval.proofs.Common.{take, arith, sym, ap, subst, ◌∙◌, IsUnitMean, ◌also◌}
 use Rattle.dl_eval.proofs.AlikeLaws.{alike_grid, alike_mean}
 use Rattle.dl_eval.proofs.units.outcomes_after.Goals as goal
 
@@ -18,3 +18,7 @@ returns-clause-mean g c =
     let j = c.in-Some.j in
     subst (IsUnitMean c.args.cells unit) (sym mean.is) (alike_mean (c.in-Some.ensures.alike unit)
     (c.requires.means j unit mean.result (omega (arith, c.in-Some.ensures.inside))))
+
+pub outcomes_of-requires : goal.outcomes_of-requires
+outcomes_of-requires g c =
+    (omega arith) also (omega arith) also c.requires.scale also c.requires.valid also c.requires.some also c.requires.few

@@ -1,0 +1,26 @@
+use Rattle.dl_eval.proofs.Common.{ap, subst, ◌∙◌, Asked, IsInside, NamesUnit, IsAskInRange, named_unit}
+use Rattle.dl_budget.specs.Asks.{IsAskOf}
+use Rattle.dl_eval.proofs.Insides.{ask_has}
+use Rattle.dl_eval.proofs.Named.{named_here}
+use Rattle.dl_eval.proofs.Scales.{plan_scale}
+use Rattle.dl_eval.proofs.admission.first_wide.Goals as goal
+
+-- The budgets of an ask are those of the plan, and its number is that of the unit which it names.
+pub needed_with-width-requires : goal.needed_with-width-requires
+needed_with-width-requires g c =
+    let plan = c.args.plan.now in
+    let i = c.loop-i.i in
+    let same = c.as_slice-asks.ensures in
+    let asked = c.index-asks-i in
+    let test = c.loop-i-test.true in record {
+      scale = plan_scale g.row.B plan.cells c.requires.scale;
+      valid = c.requires.valid;
+      budgets = c.budgets_of-budgets.ensures;
+      ask = subst (λ (a : Asked). IsAskOf plan a.ask) asked.is (record {
+        inside = ask_has (λ (a : Asked). IsInside plan.cells a.ask) i same asked.is test c.requires.inside;
+        unit = ask_has (λ (a : Asked). NamesUnit plan.units a.ask) i same asked.is test c.requires.named;
+        values = ask_has (λ (a : Asked). IsAskInRange a.ask) i same asked.is test c.requires.ranges.asks;
+      });
+      unit = named_here plan.units i same c.requires.numbers asked.is test ∙ ap (λ (a : Asked). named_unit plan.units a.ask) asked.is;
+      digits = c.requires.ranges.few_digits;
+    }

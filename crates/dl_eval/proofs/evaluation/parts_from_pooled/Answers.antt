@@ -1,0 +1,24 @@
+use Rattle.dl_eval.proofs.Common.{arith, few_cells}
+use Rattle.dl_eval.proofs.DrawnGrids.{shared_cells, shared_needed}
+use Rattle.dl_eval.proofs.Parts.{all_six}
+use Rattle.dl_eval.proofs.evaluation.parts_from_pooled.Goals as goal
+
+pub overflow_cast-reach : goal.overflow_cast-reach
+overflow_cast-reach g c =
+    let few = few_cells c.args.plan.now c.requires.valid in
+    omega (arith, c.cells_asked-reach.ensures.fewest c.args.plan.now.cells few.0 c.requires.inside, few.1)
+
+pub pooled_grids-requires : goal.pooled_grids-requires
+pooled_grids-requires g c =
+    let few = few_cells c.args.plan.now c.requires.valid in
+    all_six (omega arith) c.requires.scale c.requires.valid c.requires.shares c.requires.pooled
+    (c.cells_asked-reach.ensures.some, c.cells_asked-reach.ensures.fewest c.args.plan.now.cells few.0 c.requires.inside)
+
+pub returns-clause-there : goal.returns-clause-there
+returns-clause-there g c =
+    shared_needed c.args.plan.now c.in_ok-grids.grids c.args.named.now
+    (λ some. c.in_ok-grids.ensures.there (c.is_some_named.ensures.1 some))
+
+pub returns-clause-reached : goal.returns-clause-reached
+returns-clause-reached g c =
+    shared_cells c.in_ok-grids.grids c.args.asks.now _ c.in_ok-grids.ensures.reach c.cells_asked-reach.ensures.inside
