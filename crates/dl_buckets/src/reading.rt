@@ -4,15 +4,16 @@ ghost use Rattle.std.specs.Prelude.{◌≡◌, ◌≤◌, IfOk};
 ghost use Rattle.dl_limits.specs.Limits.{most_amount};
 ghost use Rattle.dl_ast.specs.WellFormed.{IsFormedMixture, IsFormedUnit};
 ghost use Rattle.dl_plan.specs.Ranges.{IsBucket};
-ghost use Rattle.dl_buckets.specs.Flaws.{IsRead};
-ghost use Rattle.dl_buckets.specs.Grid.{grid_mixture, grid_with};
-ghost use Rattle.dl_buckets.specs.Reading.{flaws_of_mixture, flaws_with, is_named};
+ghost use Rattle.dl_buckets.specs.Flaws.{IsRead, flaws_within};
+ghost use Rattle.dl_buckets.specs.Grid.{grid_clause, grid_mixture, grid_with};
+ghost use Rattle.dl_buckets.specs.Reading.{flaws_of_clause, flaws_of_mixture, flaws_with, is_named};
+ghost use Rattle.dl_buckets.specs.Values.{if_there};
 ghost use Rattle.dl_buckets.specs.declared.flaws.Flaws.{Flaws as FlawsOfText};
 ghost use Rattle.dl_buckets.specs.declared.grid.GridSev.{GridSev as Severity};
 
 use crate::count::{distribution, grid_count};
 use crate::flaws::{Flaws, Gridded};
-use crate::grid::{GridSev, GridUnit};
+use crate::grid::{GridClause, GridSev, GridUnit};
 use crate::layers::{unit_clause, unit_layer};
 use crate::long_mixtures::long_mixture;
 use crate::losses::{grid_atoms, mixture_weights};
@@ -68,8 +69,7 @@ pub fn grid_unit(
     let (freq, zero) = given.part;
     let count = grid_count(alloc, &unit.count, freq)?;
     let layer = unit_layer(&unit.layer, bs, most);
-    let occ = unit_clause(alloc, &unit.occ, bs, most)?;
-    let agr = unit_clause(alloc, &unit.agr, bs, most)?;
+    let (occ, agr) = unit_clauses(alloc, unit, bs, most)?;
     let own = count.flaws.or(layer.flaws);
     let front = Flaws::earlier(is_named(&unit.sev.body), own, sev.flaws);
     let terms = occ.flaws.or(given.flaws.or(agr.flaws));
@@ -86,6 +86,26 @@ pub fn grid_unit(
         },
         flaws: front.or(terms),
     })
+}
+
+/// The clause of each claim and that of the unit's sum.
+fn unit_clauses(
+    alloc: Global,
+    unit: &UnitAst,
+    bs: Frac,
+    most: u32,
+) -> Result<(Gridded<Option<GridClause>>, Gridded<Option<GridClause>>), AllocError>
+    requires bucket { IsBucket bs }
+    requires most { most ≤ most_amount }
+    requires formed { IsFormedUnit unit.now }
+    ensures occ { IfOk result (λ clauses. IsRead (flaws_within (flaws_of_clause most bs) unit.now.occ)
+        (if_there (grid_clause bs) unit.now.occ) clauses.0) }
+    ensures agr { IfOk result (λ clauses. IsRead (flaws_within (flaws_of_clause most bs) unit.now.agr)
+        (if_there (grid_clause bs) unit.now.agr) clauses.1) }
+{
+    let occ = unit_clause(alloc, &unit.occ, bs, most)?;
+    let agr = unit_clause(alloc, &unit.agr, bs, most)?;
+    Ok((occ, agr))
 }
 
 /// Whether a severity is the name of one that is written before all units.

@@ -110,9 +110,38 @@ fn take_step(
     let Some(label) = tested(alloc, work, of, so_far, &step)? else {
         return Ok(false);
     };
-    so_far.labels.extend_from_slice(&label)?;
-    so_far.offsets.push(offset as u32)?;
+    so_far.keep(offset as u32, &label)?;
     Ok(true)
+}
+
+/// Takes in all steps of the text, where all pass; else tells the first bad one.
+fn take_steps(
+    alloc: Global,
+    work: &mut Workspace,
+    of: &Checked,
+    so_far: &mut PassedSteps,
+) -> Result<(), VerifyFault>
+    requires valid { IsValid of.now.plan.now }
+    requires covered { IsCovered of.now.plan.now }
+    requires few { of.now.plan.now.cells ≤ most_cert_cells }
+    requires short { length of.now.text.now ≤ most_steps_text }
+    requires starts { AreStarts of.now.plan.now of.now.bases.now of.now.targets.now }
+    requires none { HasPassedTo of.now.plan.now of.now.text.now 0 so_far.old.offsets.items
+        so_far.old.labels.items }
+    ensures { MatchResult result
+        (λ _. HasPassedTo of.now.plan.now of.now.text.now (length of.now.text.now)
+        so_far.new.offsets.items so_far.new.labels.items)
+        (RefusesSteps of.now.plan.now of.now.text.now) }
+{
+    let mut offset = 0;
+    'lines: while offset < of.text.len() {
+        let number = so_far.offsets.len() as u32;
+        if !take_step(alloc, work, of, offset, so_far)? {
+            return Err(VerifyFault::BadStep(number));
+        }
+        offset = next_line(of.text, offset);
+    }
+    Ok(())
 }
 
 /// The steps of a text, where all pass; else the first bad one.
@@ -144,14 +173,7 @@ fn read_steps(
         offsets: Vec::new(alloc),
         labels: Vec::new(alloc),
     };
-    let mut offset = 0;
-    'lines: while offset < text.len() {
-        let number = so_far.offsets.len() as u32;
-        if !take_step(alloc, &mut work, &of, offset, &mut so_far)? {
-            return Err(VerifyFault::BadStep(number));
-        }
-        offset = next_line(text, offset);
-    }
+    take_steps(alloc, &mut work, &of, &mut so_far)?;
     Ok(so_far)
 }
 

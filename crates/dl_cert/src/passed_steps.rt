@@ -1,6 +1,6 @@
 //! The record of the steps that have passed.
 
-ghost use Rattle.std.specs.Prelude.{ℕ, ◌≡◌, ◌+◌, ◌*◌, ◌<◌, ◌≤◌, ◌↔◌, ◌^◌, IsTrue, length, get_or, IfOk, MatchOption};
+ghost use Rattle.std.specs.Prelude.{ℕ, ◌≡◌, ◌+◌, ◌*◌, ◌<◌, ◌≤◌, ◌↔◌, ◌^◌, ◌++◌, ◌∷◌, [], IsTrue, length, get_or, IfOk, MatchOption};
 ghost use Rattle.dl_limits.specs.Limits.{most_steps_text, most_units};
 ghost use Rattle.dl_cert.specs.PassedSteps.{count_by, IsRow, IsOver};
 ghost use Rattle.dl_cert.specs.Steps.{IsThere};
@@ -15,6 +15,20 @@ pub(crate) struct PassedSteps {
     pub offsets: Vec<u32>,
     /// How often each step counts each unit, one step after the other.
     pub labels: Vec<u32>,
+}
+
+impl PassedSteps {
+    /// One more step, at this place and with this label.
+    pub(crate) fn keep(&mut self, offset: u32, label: &[u32]) -> Result<(), AllocError>
+        ensures offsets { IfOk result (λ _. self.new.offsets.items
+            ≡ self.old.offsets.items ++ offset ∷ []) }
+        ensures labels { IfOk result (λ _. self.new.labels.items
+            ≡ self.old.labels.items ++ label.now) }
+    {
+        self.labels.extend_from_slice(label)?;
+        self.offsets.push(offset)?;
+        Ok(())
+    }
 }
 
 /// Whether the unit or the steps that a kind names are there.

@@ -7,7 +7,7 @@ ghost use Rattle.dl_grid.specs.Cells.{low_at, high_at, mass_low};
 ghost use Rattle.dl_plan.specs.declared.plan.Plan.{Plan};
 ghost use Rattle.dl_cert.specs.Bases.{AreStarts, PassesTo};
 ghost use Rattle.dl_cert.specs.PassedSteps.{HavePassed};
-ghost use Rattle.dl_cert.specs.declared.step.Kind.TheVariants.{Start};
+ghost use Rattle.dl_cert.specs.declared.step.Kind.TheVariants.{Start, Times};
 ghost use Rattle.dl_cert.specs.Numbers.{low_number, high_number};
 ghost use Rattle.dl_cert.specs.Steps.{Made, IsThere, made_at};
 ghost use Rattle.dl_cert.specs.Targets.{target};
@@ -74,6 +74,36 @@ pub(crate) fn cells_at(
     }
 }
 
+/// Whether the cells pass beside those of the product of two steps.
+fn are_times(
+    alloc: Global,
+    work: &mut Workspace,
+    plan: &Plan,
+    text: &[u8],
+    offsets: &[u32],
+    first: u32,
+    second: u32,
+    cells: &[Iv<56>],
+) -> Result<bool, AllocError>
+    requires few { plan.now.cells ≤ most_cert_cells }
+    requires some { 1 ≤ plan.now.cells }
+    requires cells { length cells.now ≡ plan.now.cells }
+    requires first { first < length offsets.now }
+    requires second { second < length offsets.now }
+    requires so_far { (labels : List ℕ) × (before : List Made)
+        × HavePassed plan.now text.now offsets.now labels before }
+    ensures { IfOk result (λ passing. (labels : List ℕ) (before : List Made)
+        → HavePassed plan.now text.now offsets.now labels before
+        → IsTrue passing ↔ PassesTo plan.now.cells cells.now
+        (low_number plan.now.units before (Times first second) (low_at cells.now))
+        (high_number plan.now.units before (Times first second) (high_at cells.now))) }
+{
+    let left = cells_at(alloc, plan, text, offsets, first)?;
+    let right = cells_at(alloc, plan, text, offsets, second)?;
+    let numbers = product(alloc, work, &left, &right, plan.cells)?;
+    Ok(is_beside(cells, &numbers))
+}
+
 /// Whether the cells of a step pass.
 pub(crate) fn is_passing(
     alloc: Global,
@@ -110,10 +140,7 @@ pub(crate) fn is_passing(
             Ok(is_start(&bases[unit as usize], sev, cells))
         }
         Kind::Times(first, second) => {
-            let left = cells_at(alloc, plan, text, offsets, first)?;
-            let right = cells_at(alloc, plan, text, offsets, second)?;
-            let numbers = product(alloc, work, &left, &right, plan.cells)?;
-            Ok(is_beside(cells, &numbers))
+            are_times(alloc, work, plan, text, offsets, first, second, cells)
         }
     }
 }

@@ -128,10 +128,7 @@ fn mixed_severity(alloc: Global, units: &[&Unit], all: Frac) -> Result<Option<Se
         IsFineTo30Bits (map (unit_share all) (lent units.now))
         → IsFineTo30Bits (flat_map (shared_probabilities all) (lent units.now)) → IsSome made) }
 {
-    let Some(parts) = shares(alloc, units, all)? else {
-        return Ok(None);
-    };
-    let Some(weights) = weights_of(alloc, &parts)? else {
+    let Some(weights) = unit_weights(alloc, units, all)? else {
         return Ok(None);
     };
     let sevs = severities(alloc, units)?;
@@ -140,6 +137,24 @@ fn mixed_severity(alloc: Global, units: &[&Unit], all: Frac) -> Result<Option<Se
         Err(MixFault::OutOfMemory) => Err(AllocError),
         Err(MixFault::TooFine) => Ok(None),
     }
+}
+
+/// The whole weights of the units' parts of the expected number `all` of claims; none where these
+/// are too fine.
+fn unit_weights(alloc: Global, units: &[&Unit], all: Frac) -> Result<Option<Weights>, AllocError>
+    requires poisson { All CanShare (lent units.now) }
+    requires each { All (λ u. HasPartsOf48Bits (expected_count u.freq)) (lent units.now) }
+    requires all { all ≡ expected_of (lent units.now) }
+    requires some { whole 0 <ℚ all }
+    ensures value { IfOk result (λ made.
+        IfSome made (IsWeighing (map (unit_share all) (lent units.now)))) }
+    ensures there { IfOk result (λ made.
+        IsFineTo30Bits (map (unit_share all) (lent units.now)) → IsSome made) }
+{
+    let Some(parts) = shares(alloc, units, all)? else {
+        return Ok(None);
+    };
+    weights_of(alloc, &parts)
 }
 
 /// The whole weights of probabilities that sum to 1; none where they are too fine.

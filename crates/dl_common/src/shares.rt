@@ -56,7 +56,6 @@ pub(crate) fn expected(units: &[&Unit]) -> Option<Frac>
 
 /// Which part of all claims each unit has: its expected number of claims over that of all units;
 /// none where a part of one passes 62 bits.
-#[tactic(auto, using(crate::proofs::Units::each_counts, crate::proofs::Units::each_admitted))]
 pub(crate) fn shares(
     alloc: Global,
     units: &[&Unit],

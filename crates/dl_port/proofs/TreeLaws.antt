@@ -360,12 +360,10 @@ module _ {B : ℕ} (k : ℕ) (grids : List (List (Iv B))) (whole own other : ℕ
 
 -- outside all units there is none
 pub outside_last : {B : ℕ} (k m : ℕ) (grids : List (List (Iv B))) (nodes : List (Node B)) (none : List (Iv B))
-    (outer start : List (Option (List (Iv B)))) → 1 ≤ length grids → m ≡ last_place grids nodes → length none ≡ k
-    → GridEncloses none (total []) → start ≡ replicate m None → outer ≡ start ++ Some none ∷ [] → IsTree k grids nodes
+    (outer : List (Option (List (Iv B)))) → 1 ≤ length grids → m ≡ last_place grids nodes → length none ≡ k
+    → GridEncloses none (total []) → outer ≡ replicate m None ++ Some none ∷ [] → IsTree k grids nodes
     → ReachDown k grids nodes outer
-outside_last {B} k m grids nodes none outer start some e cells of_none is_start is tree =
-    let made : outer ≡ replicate m None ++ Some none ∷ [] = is
-    ∙ ap (λ (t : List (Option (List (Iv B)))). t ++ Some none ∷ []) is_start in
+outside_last {B} k m grids nodes none outer some e cells of_none made tree =
     let many : length (replicate {A = Option (List (Iv B))} m None) ≡ m = length-replicate m None in
     let longer : length outer ≡ m + 1 = ap (λ (t : List (Option (List (Iv B)))). length t) made
     ∙ length-append (replicate m None) (Some none ∷ []) ∙ ap (λ t. t + 1) many in
@@ -426,21 +424,20 @@ less {B} k grids nodes left node outer rest top cut split fewer down = record {
 }
 
 -- the outer sums of the two parts, from the outer sum of their node
-module _ {B : ℕ} (k : ℕ) (grids : List (List (Iv B))) (nodes left : List (Node B)) (node : Node B)
-    (outer rest : List (Option (List (Iv B)))) (sum : List (Iv B)) (cut : nodes ≡ left ++ node ∷ [])
-    (split : outer ≡ rest ++ Some sum ∷ []) (fewer : length rest + 1 ≡ length outer)
-    (down : ReachDown k grids nodes outer) where
+module _ {B : ℕ} (k : ℕ) (grids : List (List (Iv B))) (left : List (Node B)) (node : Node B)
+    (rest : List (Option (List (Iv B)))) (sum : List (Iv B))
+    (down : ReachDown k grids (left ++ node ∷ []) (rest ++ Some sum ∷ [])) where
   abbrev pub under : AreNodes k grids left down.tests × IsJoint down.tests (length grids + length left) node
-  under = less_nodes k grids nodes left node down.tests cut down.are
+  under = less_nodes k grids (left ++ node ∷ []) left node down.tests refl down.are
 
   pub last_one : length rest ≡ length grids + length left
-  last_one = omega (arith, fewer, down.as_many, ap length cut, length-append left (node ∷ []))
+  last_one = omega (arith, down.as_many, length-append left (node ∷ []), length-append rest (Some sum ∷ []))
 
   pub whole_outside : IsSumOutside k grids (down.tests (length grids + length left)) sum
   whole_outside = subst (λ at. IsSumOutside k grids (down.tests at) sum) last_one
       (subst (λ (t : Option (List (Iv B))). IfSome t (IsSumOutside k grids (down.tests (length rest))))
-      (ap (λ (t : List (Option (List (Iv B)))). get_or t (length rest) None) split
-      ∙ get_or-append_seam rest (Some sum) [] None) (down.each (length rest) (omega (arith, fewer))))
+      (get_or-append_seam rest (Some sum) [] None)
+      (down.each (length rest) (omega (arith, length-append rest (Some sum ∷ [])))))
 
   part_outside : (own other : ℕ) → other < length grids + length left
       → ((i : ℕ) → (down.tests own i && down.tests other i) ≡ false)
@@ -468,7 +465,8 @@ module _ {B : ℕ} (k : ℕ) (grids : List (List (Iv B))) (nodes left : List (No
     pub one_down : ReachDown k grids left (set (set rest node.first first) node.second second)
     unfolding less
     one_down =
-        let base = less k grids nodes left node outer rest (Some (Some sum)) cut split fewer down in
+        let base = less k grids (left ++ node ∷ []) left node (rest ++ Some sum ∷ []) rest (Some (Some sum)) refl refl
+        (omega (arith, length-append rest (Some sum ∷ []))) down in
         let once = set rest node.first first in
         let size : length once ≡ length rest = length-set rest node.first first in
         record {

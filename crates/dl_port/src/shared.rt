@@ -1,14 +1,14 @@
 //! The sum of all units, and those of all units but one, from sums that they share: those of a tree,
 //! or where one unit alone is asked for, that of all other units.
 
-ghost use Rattle.std.specs.Prelude.{◌≡◌, ◌<◌, ◌≤◌, ◌↔◌, [], ◌∷◌, length, replicate, Some, None, false, IsTrue, IsSome, Any, All, IfOk, IfSome};
+ghost use Rattle.std.specs.Prelude.{◌≡◌, ◌<◌, ◌≤◌, ◌↔◌, Bool, List, [], ◌∷◌, length, replicate, slice_set, Some, None, false, IsTrue, IsSome, Any, All, IfOk, IfSome};
 ghost use Rattle.dl_limits.specs.Limits.{most_units};
 ghost use Rattle.dl_model.specs.Prelude.{without};
-ghost use Rattle.dl_port.specs.Shared.{AreUnits, HaveCells, IsSumOfPart, IsTotal, IsSumWithout, AreSumsWithout};
-ghost use Rattle.dl_port.specs.Tree.{AreOthers};
+ghost use Rattle.dl_port.specs.Shared.{AreUnits, HaveCells, IsSumOfPart, IsOnly, IsTotal, IsSumWithout, AreSumsWithout};
+ghost use Rattle.dl_port.specs.Tree.{AreOthers, IsTree};
 
 use crate::only::{only_asked, others_shortest, others_unless_wide, total_of};
-use crate::tree::{nodes_over, outside_units, sum_of_all};
+use crate::tree::{Node, nodes_over, outside_units, sum_of_all};
 use crate::widths::spread_of_sum;
 use crate::{sum_one_by_one, total_with};
 use dl_grid::Grid;
@@ -96,6 +96,25 @@ fn others_where_asked<const B: u32>(
     Ok(sums)
 }
 
+/// For each unit that is asked for, the sum of all other units, from a tree over all units.
+fn others_by_tree<const B: u32>(
+    alloc: Global,
+    work: &mut Workspace,
+    units: &[Grid<B>],
+    asked: &[bool],
+    nodes: Vec<Node<B>>,
+    cells: u32,
+) -> Result<Vec<Option<Grid<B>>>, AllocError>
+    requires cells { AreUnits cells units.now }
+    requires few { length units.now ≤ most_units }
+    requires asked { length asked.now ≡ length units.now }
+    requires tree { IsTree cells units.now nodes.items }
+    ensures { IfOk result (λ others. AreSumsWithout cells units.now asked.now others.items) }
+{
+    let outer = outside_units(alloc, work, units, asked, nodes, cells)?;
+    others_where_asked(alloc, work, units, asked, outer, cells)
+}
+
 /// The first `cells` cells of the sum of all units, and for each unit that is asked for, of the sum
 /// of all other units, from one tree.
 fn sums_by_tree<const B: u32>(
@@ -114,8 +133,7 @@ fn sums_by_tree<const B: u32>(
 {
     let nodes = nodes_over(alloc, work, units, asked, cells)?;
     let all = sum_of_all(alloc, units, nodes.as_slice(), cells)?;
-    let outer = outside_units(alloc, work, units, asked, nodes, cells)?;
-    let others = others_where_asked(alloc, work, units, asked, outer, cells)?;
+    let others = others_by_tree(alloc, work, units, asked, nodes, cells)?;
     let total = total_unless_wide(alloc, work, units, all, cells)?;
     Ok(Sums { total, others })
 }
@@ -141,6 +159,60 @@ pub(crate) fn no_others<const B: u32>(
     Ok(others)
 }
 
+/// For each of `many` units, no sum of the other units, but for unit `i` this one.
+fn one_other<const B: u32>(
+    alloc: Global,
+    many: usize,
+    i: usize,
+    sum: Grid<B>,
+) -> Result<Vec<Option<Grid<B>>>, AllocError>
+    requires { i < many }
+    ensures { IfOk result (λ others.
+        others.items ≡ slice_set (replicate many None) i (Some sum.entry)) }
+{
+    let mut others = no_others(alloc, many)?;
+    others[i] = Some(sum);
+    Ok(others)
+}
+
+/// The sum of all units, and that of all but unit `i`, where it alone is asked for.
+fn sums_of_only<const B: u32>(
+    alloc: Global,
+    work: &mut Workspace,
+    units: &[Grid<B>],
+    i: usize,
+    cells: u32,
+) -> Result<Sums<B>, AllocError>
+    requires unit { i < length units.now }
+    requires few { length units.now ≤ most_units }
+    requires cells { HaveCells cells units.now }
+    ensures total { IfOk result (λ sums. IsTotal cells units.now sums.total) }
+    ensures others { IfOk result (λ sums. (asked : List Bool) → length asked ≡ length units.now
+        → IsOnly asked i → AreSumsWithout cells units.now asked sums.others.items) }
+{
+    let sum = others_shortest(alloc, work, units, i, cells)?;
+    let total = total_of(alloc, work, units, i, &sum, cells)?;
+    let others = one_other(alloc, units.len(), i, sum)?;
+    Ok(Sums { total, others })
+}
+
+/// The sum of all units, where no other sum is asked for.
+fn sums_of_none<const B: u32>(
+    alloc: Global,
+    work: &mut Workspace,
+    units: &[Grid<B>],
+    cells: u32,
+) -> Result<Sums<B>, AllocError>
+    requires { AreUnits cells units.now }
+    ensures total { IfOk result (λ sums. IsTotal cells units.now sums.total) }
+    ensures others { IfOk result (λ sums.
+        sums.others.items ≡ replicate (length units.now) None) }
+{
+    let others = no_others(alloc, units.len())?;
+    let total = total_with(alloc, work, units, cells)?;
+    Ok(Sums { total, others })
+}
+
 /// The first `cells` cells of the sum of all units, and for each unit that is asked for, of the sum
 /// of all other units. These are as wide as those of `total` and `others` may be, and come from
 /// sums that they share: where none comes out wider, at most three products for each unit, however
@@ -164,18 +236,12 @@ pub fn total_and_others<const B: u32>(
         AreSumsWithout cells units.now asked.now sums.others.items) }
 {
     if let Some(i) = only_asked(asked) {
-        let sum = others_shortest(alloc, work, units, i, cells)?;
-        let total = total_of(alloc, work, units, i, &sum, cells)?;
-        let mut others = no_others(alloc, units.len())?;
-        others[i] = Some(sum);
-        return Ok(Sums { total, others });
+        return sums_of_only(alloc, work, units, i, cells);
     }
     if some_asked(asked) {
         return sums_by_tree(alloc, work, units, asked, cells);
     }
-    let others = no_others(alloc, units.len())?;
-    let total = total_with(alloc, work, units, cells)?;
-    Ok(Sums { total, others })
+    sums_of_none(alloc, work, units, cells)
 }
 
 /// The same sums of one unit alone, where no other sum is asked for. The total is the unit's grid,

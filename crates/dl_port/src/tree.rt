@@ -3,7 +3,7 @@
 //! stands outside a part of a node is what stands outside the node, and the other part. A place
 //! counts the units first, and then the nodes; a root is the place of a sum that is no part yet.
 
-ghost use Rattle.std.specs.Prelude.{◌≡◌, ℕ, ◌+◌, ◌-◌, ◌<◌, ◌≤◌, if◌then◌else◌, nat_lt, nat_eq, length, get_or, All, IfOk, OnOk, IfSome, Some};
+ghost use Rattle.std.specs.Prelude.{◌≡◌, ℕ, ◌+◌, ◌-◌, ◌<◌, ◌≤◌, [], ◌∷◌, ◌++◌, replicate, None, if◌then◌else◌, nat_lt, nat_eq, length, get_or, All, IfOk, OnOk, IfSome, Some};
 ghost use Rattle.std.specs.List.{sum_by};
 ghost use Rattle.dl_grid.specs.Prelude.{IsConvolution};
 ghost use Rattle.dl_port.specs.Shared.{AreUnits, HaveCells, IsSumOfPart};
@@ -111,6 +111,41 @@ fn product_in_tree<const B: u32>(
     product_of(alloc, work, first, second, cells)
 }
 
+/// The node of the sums at two places.
+fn node_of<const B: u32>(
+    alloc: Global,
+    work: &mut Workspace,
+    units: &[Grid<B>],
+    asked: &[bool],
+    nodes: &[Node<B>],
+    first: usize,
+    second: usize,
+    cells: u32,
+) -> Result<Node<B>, AllocError>
+    requires cells { HaveCells cells units.now }
+    requires asked { length asked.now ≡ length units.now }
+    requires first { first < length units.now + length nodes.now }
+    requires second { second < length units.now + length nodes.now }
+    requires long { (at : ℕ) → at < length units.now + length nodes.now
+        → cells ≤ length (sum_at units.now nodes.now at) }
+    ensures first { IfOk result (λ node. node.first ≡ first) }
+    ensures second { IfOk result (λ node. node.second ≡ second) }
+    ensures cells { IfOk result (λ node. length node.grid ≡ cells) }
+    ensures convolution { IfOk result (λ node. IsConvolution cells (sum_at units.now nodes.now first)
+        (sum_at units.now nodes.now second) node.grid) }
+{
+    let one = sum_at(units, nodes, first);
+    let other = sum_at(units, nodes, second);
+    let asked = is_either_asked(asked, nodes, first, second);
+    let grid = product_in_tree(alloc, work, one, other, cells)?;
+    Ok(Node {
+        grid,
+        first,
+        second,
+        asked,
+    })
+}
+
 /// The two roots whose sums have the fewest cells in use become the parts of a node, which is a root
 /// in their place.
 fn join_two<const B: u32>(
@@ -132,16 +167,16 @@ fn join_two<const B: u32>(
 {
     let first = roots.remove(shortest_root(units, nodes.as_slice(), roots.as_slice()));
     let second = roots.remove(shortest_root(units, nodes.as_slice(), roots.as_slice()));
-    let one = sum_at(units, nodes.as_slice(), first);
-    let other = sum_at(units, nodes.as_slice(), second);
-    let grid = product_in_tree(alloc, work, one, other, cells)?;
-    let some_below = is_either_asked(asked, nodes.as_slice(), first, second);
-    let node = Node {
-        grid,
+    let node = node_of(
+        alloc,
+        work,
+        units,
+        asked,
+        nodes.as_slice(),
         first,
         second,
-        asked: some_below,
-    };
+        cells,
+    )?;
     roots.push(units.len() + nodes.len())?;
     nodes.push(node)?;
     Ok(())
@@ -161,6 +196,28 @@ fn first_places(alloc: Global, many: usize) -> Result<Vec<usize>, AllocError>
     Ok(roots)
 }
 
+/// Joins the two shortest roots until one is left; the roots are the units at first.
+fn join_all<const B: u32>(
+    alloc: Global,
+    work: &mut Workspace,
+    units: &[Grid<B>],
+    asked: &[bool],
+    nodes: &mut Vec<Node<B>>,
+    roots: &mut Vec<usize>,
+    cells: u32,
+) -> Result<(), AllocError>
+    requires cells { AreUnits cells units.now }
+    requires asked { length asked.now ≡ length units.now }
+    requires many { length roots.old.items ≡ length units.now }
+    requires forest { IsForest cells units.now nodes.old.items roots.old.items }
+    ensures { OnOk result (IsTree cells units.now nodes.new.items) }
+{
+    for _ in 1..units.len() {
+        join_two(alloc, work, units, asked, nodes, roots, cells)?;
+    }
+    Ok(())
+}
+
 /// The nodes of a tree over all units, the shortest sums first, as in Huffman's tree: one fewer than
 /// there are units. The last one is the sum of all units.
 pub(crate) fn nodes_over<const B: u32>(
@@ -176,9 +233,7 @@ pub(crate) fn nodes_over<const B: u32>(
 {
     let mut nodes = Vec::new(alloc);
     let mut roots = first_places(alloc, units.len())?;
-    for _ in 1..units.len() {
-        join_two(alloc, work, units, asked, &mut nodes, &mut roots, cells)?;
-    }
+    join_all(alloc, work, units, asked, &mut nodes, &mut roots, cells)?;
     Ok(nodes)
 }
 
@@ -206,6 +261,36 @@ fn outside_part<const B: u32>(
     Ok(Some(sum))
 }
 
+/// Makes the sums of all units outside each of a node's two parts from `sum`, that of all units
+/// outside the node, and puts each at the place of its part.
+fn parts_down<const B: u32>(
+    alloc: Global,
+    work: &mut Workspace,
+    units: &[Grid<B>],
+    asked: &[bool],
+    left: &[Node<B>],
+    node: &Node<B>,
+    sum: &Grid<B>,
+    outer: &mut Vec<Option<Grid<B>>>,
+    cells: u32,
+) -> Result<(), AllocError>
+    requires cells { HaveCells cells units.now }
+    requires asked { length asked.now ≡ length units.now }
+    requires down { ReachDown cells units.now (left.now ++ node.now ∷ [])
+        (outer.old.items ++ Some sum.now ∷ []) }
+    ensures { OnOk result (ReachDown cells units.now left.now outer.new.items) }
+{
+    let one = sum_at(units, left, node.first);
+    let other = sum_at(units, left, node.second);
+    let asked_first = is_asked(asked, left, node.first);
+    let asked_second = is_asked(asked, left, node.second);
+    let of_first = outside_part(alloc, work, sum, other, asked_first, cells)?;
+    outer[node.first] = of_first;
+    let of_second = outside_part(alloc, work, sum, one, asked_second, cells)?;
+    outer[node.second] = of_second;
+    Ok(())
+}
+
 /// The last node and what stands outside it leave the lists, and what stands outside its parts is
 /// there instead.
 fn one_node_down<const B: u32>(
@@ -229,16 +314,30 @@ fn one_node_down<const B: u32>(
     let Some(Some(sum)) = outer.pop() else {
         return Ok(());
     };
-    let left = nodes.as_slice();
-    let one = sum_at(units, left, node.first);
-    let other = sum_at(units, left, node.second);
-    let asked_first = is_asked(asked, left, node.first);
-    let asked_second = is_asked(asked, left, node.second);
-    let of_first = outside_part(alloc, work, &sum, other, asked_first, cells)?;
-    let of_second = outside_part(alloc, work, &sum, one, asked_second, cells)?;
-    outer[node.first] = of_first;
-    outer[node.second] = of_second;
-    Ok(())
+    parts_down(
+        alloc,
+        work,
+        units,
+        asked,
+        nodes.as_slice(),
+        &node,
+        &sum,
+        outer,
+        cells,
+    )
+}
+
+/// `many` times none, and then this sum.
+fn none_but_last<const B: u32>(
+    alloc: Global,
+    many: usize,
+    last: Grid<B>,
+) -> Result<Vec<Option<Grid<B>>>, AllocError>
+    ensures { IfOk result (λ outer. outer.items ≡ replicate many None ++ Some last.entry ∷ []) }
+{
+    let mut outer = no_others(alloc, many)?;
+    outer.push(Some(last))?;
+    Ok(outer)
 }
 
 /// For each place none, but for the last one, outside of which there is no unit.
@@ -253,13 +352,32 @@ fn outside_all<const B: u32>(
     ensures { IfOk result (λ outer. ReachDown cells units.now nodes.now outer.items) }
 {
     let none = no_units(alloc, &units[0], cells)?;
-    let mut outer = no_others(alloc, units.len() + nodes.len() - 1)?;
-    outer.push(Some(none))?;
-    Ok(outer)
+    none_but_last(alloc, units.len() + nodes.len() - 1, none)
+}
+
+/// The nodes and what stands outside them are let go from the last one down.
+fn all_down<const B: u32>(
+    alloc: Global,
+    work: &mut Workspace,
+    units: &[Grid<B>],
+    asked: &[bool],
+    nodes: &mut Vec<Node<B>>,
+    outer: &mut Vec<Option<Grid<B>>>,
+    cells: u32,
+) -> Result<(), AllocError>
+    requires cells { HaveCells cells units.now }
+    requires asked { length asked.now ≡ length units.now }
+    requires down { ReachDown cells units.now nodes.old.items outer.old.items }
+    ensures many { OnOk result (length outer.new.items ≡ length units.now) }
+    ensures each { OnOk result (AreOthers cells units.now outer.new.items) }
+{
+    for _ in 0..nodes.len() {
+        one_node_down(alloc, work, units, asked, nodes, outer, cells)?;
+    }
+    Ok(())
 }
 
 /// For each unit none or the sum of all other units, which is there where the unit is asked for.
-/// The nodes and what stands outside them are let go from the last one down.
 pub(crate) fn outside_units<const B: u32>(
     alloc: Global,
     work: &mut Workspace,
@@ -276,9 +394,7 @@ pub(crate) fn outside_units<const B: u32>(
 {
     let mut nodes = nodes;
     let mut outer = outside_all(alloc, units, nodes.as_slice(), cells)?;
-    for _ in 0..nodes.len() {
-        one_node_down(alloc, work, units, asked, &mut nodes, &mut outer, cells)?;
-    }
+    all_down(alloc, work, units, asked, &mut nodes, &mut outer, cells)?;
     Ok(outer)
 }
 

@@ -1,6 +1,6 @@
 //! A report as JSON.
 
-ghost use Rattle.std.specs.Prelude.{◌≡◌, ◌≤◌, ◌++◌, IfOk, OnOk, codes};
+ghost use Rattle.std.specs.Prelude.{◌≡◌, ◌≤◌, ◌++◌, IfOk, OnOk, codes, map};
 ghost use Rattle.std.specs.Str.{IsAscii, IsUtf8};
 ghost use Rattle.serde_json.specs.Data.{member, no_members, object, string};
 ghost use Rattle.serde_json.specs.View.{items_view, view};
@@ -67,7 +67,29 @@ fn report_value(alloc: Global, bs: Frac, cells: u32, rows: Vec<Value>) -> Result
 {
     let mut size = Vec::new(alloc);
     push_fraction(&mut size, bs)?;
-    serde_json::json!(in alloc; {"bs": as_text(&size), "cells": cells, "rows": Value::Array(rows)})
+    report_of(alloc, as_text(&size), cells, rows)
+}
+
+/// A report of these rows as a JSON object, with this text of the bucket size.
+fn report_of(alloc: Global, bs: &str, cells: u32, rows: Vec<Value>) -> Result<Value, AllocError>
+    ensures { IfOk result (λ value. view value ≡ report_data bs.now cells (items_view rows.items)) }
+{
+    serde_json::json!(in alloc; {"bs": bs, "cells": cells, "rows": Value::Array(rows)})
+}
+
+/// The rows of a report as JSON objects.
+fn row_values(alloc: Global, report: &Report) -> Result<Vec<Value>, AllocError>
+    requires digits { report.now.digits ≤ most_digits }
+    requires asks { AsksAreText report.now }
+    ensures { IfOk result (λ rows. map view rows.items
+        ≡ map (row_data report.now.digits) report.now.rows) }
+{
+    let mut rows = Vec::new(alloc);
+    for row in report.rows.as_slice() {
+        let value = row_value(alloc, report.digits, row)?;
+        rows.push(value)?;
+    }
+    Ok(rows)
 }
 
 /// The report as a JSON object, with the bucket size in money and the number of the grid's cells.
@@ -76,11 +98,7 @@ pub fn json(alloc: Global, report: &Report, bs: Frac, cells: u32) -> Result<Vec<
     requires asks { AsksAreText report.now }
     ensures { IfOk result (λ text. text.items ≡ json_of report.now bs cells) }
 {
-    let mut rows = Vec::new(alloc);
-    for row in report.rows.as_slice() {
-        let value = row_value(alloc, report.digits, row)?;
-        rows.push(value)?;
-    }
+    let rows = row_values(alloc, report)?;
     let whole = report_value(alloc, bs, cells, rows)?;
     let mut text = whole.to_vec(alloc)?;
     text.push(b'\n')?;

@@ -1,5 +1,6 @@
 -- What a call leaves behind once the text of a fault was written, whole or in part.
 use Rattle.dl_top.proofs.Common.{ℕ, ◌≡◌, List, [], Option, Some, None, IfSome, arith, refl, AppendsPartOf, Step, Token, UsageFault, Fault, Usage, Read, TooLong, BadByte, Syntax, Continuous, Typing, NotCovered, BadStep, status_of, fault_line, program_in, Answers, Refuses, IsAccepted, HasForm, IsCertifiable, IsVerifiable, refused}
+use Rattle.std.specs.Bool.{⊤}
 use Rattle.std.specs.Io.KnownBytes.{Appends}
 use Rattle.dl_outside.specs.declared.ReadFailed.{ReadFailed}
 use Rattle.dl_outside.proofs.Appended.{appends_nothing}
@@ -69,6 +70,11 @@ ends_well words None fault text status told e settled = tt
 ends_well words (Some input) fault text status (tokens, refuses, is) e settled = λ asks.
     let read : fault ≡ Read = settled input asks fault tokens refuses in
     rw (e, read) tt
+
+-- an end that answers is right for all that ask
+pub ends_so : (left : Option (List ℕ)) (Asks : List ℕ → Type 0) → IfSome left (λ input. Asks input → ⊤)
+ends_so None asks = tt
+ends_so (Some input) asks = λ wants. tt
 
 -- a call that found no memory and moved nothing keeps all that `run` promises
 pub moved_nothing : {R O E : Type 0} (left : R → Option (List ℕ)) (failed_reads : R → ℕ) (read_step : Step R ReadFailed)

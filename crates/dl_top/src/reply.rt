@@ -310,7 +310,6 @@ fn reply_to_source<R: Source>(alloc: Global, settings: &Settings, src: &mut R) -
 }
 
 /// The reply to the words, over the program of their seed or what is left of the input.
-#[tactic(auto, using(crate::proofs::ReplyLaws::none_read))]
 pub fn reply_to<R: Source>(alloc: Global, words: &[String], src: &mut R) -> Reply
     ensures reply { IfSome (input_of (map string_bytes words.now) (R.left src.old))
         (λ input. IsReply (map string_bytes words.now) input result) }

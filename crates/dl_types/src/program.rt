@@ -12,6 +12,7 @@ ghost use Rattle.dl_types.specs.Answer.{IsCheckOf, AnswersUnits};
 use crate::broken::typing;
 use crate::changes::shared_shape;
 use crate::fault::CheckFault;
+use crate::known::KnownSeverity;
 use crate::rule::Rule;
 use crate::scale::cells;
 use crate::severities::check_severities;
@@ -92,12 +93,32 @@ fn check_units(
 {
     let mut names = IndexSet::new(alloc);
     let mut known = Vec::new(alloc);
+    units_among(alloc, &mut names, &mut known, port, sevs, units, settings)
+}
+
+/// The units of the plan, or the first fault of the first unit that has one, where no name is
+/// taken up yet and no severity is known.
+fn units_among<'a>(
+    alloc: Global,
+    names: &mut IndexSet<&'a [u8]>,
+    known: &mut Vec<KnownSeverity<'a>>,
+    port: &Option<PortHead>,
+    sevs: &[SevDef],
+    units: &'a [UnitAst],
+    settings: &Settings,
+) -> Result<Items<Unit>, CheckFault>
+    requires set { IsSet settings.now }
+    requires names { names.old.keys ≡ [] }
+    requires known { known.old.items ≡ [] }
+    requires few { length units.now ≤ most_units }
+    requires formed { All IsFormedUnit units.now }
+    requires defined { All IsFormedDefinition sevs.now }
+    ensures { AnswersUnits settings.now port.now sevs.now units.now result }
+{
     let mut made = Vec::new(alloc);
     'units: for (at, unit) in units.iter().enumerate() {
         let before = &units[..at];
-        let unit = check_unit(
-            alloc, &mut names, &mut known, port, sevs, before, unit, settings,
-        )?;
+        let unit = check_unit(alloc, names, known, port, sevs, before, unit, settings)?;
         made.push(unit)?;
     }
     Ok(Items::from_vec(made))

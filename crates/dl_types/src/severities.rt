@@ -43,8 +43,17 @@ pub(crate) fn check_severities(alloc: Global, sevs: &[SevDef]) -> Result<(), Che
     ensures { HasFault (in_turn fault_of_severity [] sevs.now) result }
 {
     let mut names = IndexSet::new(alloc);
+    check_names(&mut names, sevs)
+}
+
+/// The rule on the names of severities, where no name is taken up yet.
+fn check_names<'a>(names: &mut IndexSet<&'a [u8]>, sevs: &'a [SevDef]) -> Result<(), CheckFault>
+    requires names { names.old.keys ≡ [] }
+    requires few { length sevs.now < 2 ^ 32 }
+    ensures { HasFault (in_turn fault_of_severity [] sevs.now) result }
+{
     'sevs: for (at, sev) in sevs.iter().enumerate() {
-        check_name(at as u32, Rule::DuplicateSeverity, &mut names, &sev.name)?;
+        check_name(at as u32, Rule::DuplicateSeverity, names, &sev.name)?;
     }
     Ok(())
 }

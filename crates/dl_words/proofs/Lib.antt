@@ -17,3 +17,4 @@ pub mod TableLaws
 pub mod WrittenLaws
 pub mod RangeLaws
 pub mod PlainAsks
+mod Heads

@@ -1,6 +1,4 @@
 -- What the uses of options and positionals leave in the rows.
-use Rattle.std.proofs.lemmas.Bool.Decides.{nat_tests}
-use Rattle.std.proofs.lemmas.Grind.{common_steps}
 use Rattle.dl_words.proofs.Common.{◌≡◌, ◌∙◌, inl, inr, ℕ, true, false, refl, sym, ap, subst, List, [], ◌∷◌, ◌++◌, Option, Some, None, true≢false, length, append_assoc, arith, ◌+◌, ◌≤◌, if◌then◌else◌, is_some, unwrap_or, option_map, ⊤, fold, bytes_eq, bytes_eq-Decides, cases_Bool, explicit_source, is_given, Kinds, or_else, Row, Rule, action_of, all_of, arg_by_id, has_row, Shape, repeat_fault, use_fault, Text}
 use Rattle.clap.specs.declared.parser.matches.ValueSource.TheVariants.{DefaultValue, CommandLine}
 use Rattle.clap.specs.Walk.{is_append, reading_by, stronger, with_values, without}
@@ -38,7 +36,12 @@ look_same id how vs (r ∷ rs) = elim (cases_Bool (bytes_eq r.id id)) [
 look_other : (id other : Text) (how : Reading) (vs : List Text) (rows : List Row) → bytes_eq id other ≡ false
     → look other (with_values id how CommandLine vs rows) ≡ look other rows
 look_other id other how vs [] d = rw d refl
-look_other id other how vs (r ∷ rs) d = grind (arith, bytes_eq-Decides r.id id, look_other id other how vs rs d)
+look_other id other how vs (r ∷ rs) d = elim (cases_Bool (bytes_eq r.id id)) [
+  | inl e ↦
+      let differ = subst (λ t. bytes_eq t other ≡ false) (sym ((bytes_eq-Decides r.id id).0 e)) d in
+      rw (e, differ) refl
+  | inr e ↦ rw (e, look_other id other how vs rs d) refl
+]
 
 without-none : (id : Text) (rows : List Row) → has_row id rows ≡ false → without id rows ≡ rows
 without-none id [] h = refl
@@ -100,7 +103,7 @@ module _ (s : Shape) where
   step_is : (r : List Row) (u : Use) → Kept s u.0 → fault s r u ≡ []
       → (how : Reading) × (step s r u ≡ with_values u.0 how CommandLine (u.1 ∷ []) r)
   step_is r u (kept_once a found same action uf) h =
-      grind (arith, nat_tests, common_steps, without-none u.0 r (use_once r u a found same uf h))
+      (reading_by a, rw (found, action, same, without-none u.0 r (use_once r u a found same uf h)) refl)
   step_is r u (kept_all a found same action uf) h = (reading_by a, rw (found, action, same) refl)
 
   step_same : (r : List Row) (u : Use) → Kept s u.0 → fault s r u ≡ [] → HasMore u.0 (u.1 ∷ []) r (step s r u)

@@ -38,7 +38,10 @@ rule_at k = slice_index_or shape.rules k (new_rule [])
 
 -- a name is this one, or another
 split : (P : Text → Type 0) (name k : Text) → P k → (bytes_eq k name ≡ false → P name) → P name
-split P name k here other = grind (arith, bytes_eq-Decides k name)
+split P name k here other = elim (cases_Bool (bytes_eq k name)) [
+  | inl e ↦ subst P ((bytes_eq-Decides k name).0 e) here
+  | inr e ↦ other e
+]
 
 -- what holds of each name, and of what is none and has no argument before the eighth, holds of all
 each_name : (P : Text → Type 0) → P (codes "make") → P (codes "bs") → P (codes "log2") → P (codes "digits")
@@ -185,7 +188,8 @@ no_place false = by_name (λ n. bytes_eq (codes "asks") n ≡ false) refl refl r
 named_values : (ps : List Part) (first : Bool) (name : Text) → is_name name ≡ true
     → values_in name (uses_of place first ps) ≡ option_values name ps
 named_values [] first name h = refl
-named_values (option n v ∷ ps) first name h = grind (arith, named_values ps first name h)
+named_values (option n v ∷ ps) first name h =
+    ap (λ (vs : List Text). if bytes_eq n name then v ∷ vs else vs) (named_values ps first name h)
 named_values (positional w ∷ ps) first name h = rw (no_place first name h) (named_values ps false name h)
 
 -- and what is no name has positionals alone: those behind the first if it is the id of the asks
@@ -200,7 +204,12 @@ module _ (id : Text) (unnamed : is_name id ≡ false) where
       → values_in id (uses_of place false ps) ≡ (if bytes_eq (codes "asks") id then positionals_of ps else [])
   further [] h = elim (cases_Bool (bytes_eq (codes "asks") id)) [ inl e ↦ rw e refl | inr e ↦ rw e refl ]
   further (option m v ∷ ps) h = rw (other_name m h.0) (further ps h.1)
-  further (positional w ∷ ps) h = grind (arith, further ps h.1)
+  further (positional w ∷ ps) h =
+      let rest = further ps h.1 in
+      elim (cases_Bool (bytes_eq (codes "asks") id)) [
+        | inl e ↦ rw e (ap (λ (ws : List Text). w ∷ ws) (rw e at rest))
+        | inr e ↦ rw e (rw e at rest)
+      ]
 
   -- the first positional is the form, and the others are the asks
   abbrev placed : List Text → List Text
@@ -216,7 +225,10 @@ module _ (id : Text) (unnamed : is_name id ≡ false) where
 
   one_placed : bytes_eq (codes "asks") id ≡ false → (ws : List Text) → length (placed ws) ≤ 1
   one_placed a [] = omega arith
-  one_placed a (w ∷ ws) = grind arith
+  one_placed a (w ∷ ws) = elim (cases_Bool (bytes_eq (codes "form") id)) [
+    | inl e ↦ rw (a, e) (omega arith)
+    | inr e ↦ rw (a, e) (omega arith)
+  ]
 
 form_placed : (ws : List Text) → placed (codes "form") refl ws ≡ take 1 ws
 form_placed [] = refl

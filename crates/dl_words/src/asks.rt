@@ -1,6 +1,6 @@
 //! Asks, by their spelling.
 
-ghost use Rattle.std.specs.Prelude.{◌≡◌, ◌<◌, ◌≤◌, ◌^◌, ◌++◌, ◌∷◌, [], IfErr, IfOk, Ok, length, map, option_map};
+ghost use Rattle.std.specs.Prelude.{◌≡◌, ◌<◌, ◌≤◌, ◌^◌, ◌++◌, ◌∷◌, [], IfErr, IfOk, Ok, drop, length, map, option_map};
 ghost use Rattle.dl_limits.specs.Limits.{most_asks};
 ghost use Rattle.dl_words.specs.Asks.{asks_of};
 ghost use Rattle.dl_words.specs.Table.{ask_of, layer, letter_s, limit, plus, read_by, rows, term, terms, unit_amount, unit_level};
@@ -80,6 +80,16 @@ fn ask_between(alloc: Global, head: &str, rest: &str) -> Result<Option<Ask>, All
         "tail" => Ok(probability(rest, 9).map(Ask::Tail)),
         "price" => Ok(price(alloc, rest)?.map(|terms| Ask::Price(Items::from_vec(terms)))),
         "layer" => Ok(layer(rest).map(|(limit, attach)| Ask::LayerMean { limit, attach })),
+        _ => ask_of_unit(alloc, head, rest),
+    }
+}
+
+/// The ask of the text before the first colon, where it asks of one unit, and the text behind it;
+/// none where it is no such ask.
+fn ask_of_unit(alloc: Global, head: &str, rest: &str) -> Result<Option<Ask>, AllocError>
+    ensures { IfOk result (λ ask. ask ≡ read_by (drop 6 rows) head.now rest.now) }
+{
+    match head {
         "joint" => Ok(unit_at(alloc, rest)?.map(|(unit, at)| Ask::Joint { unit, at })),
         "kappa" => Ok(unit_at(alloc, rest)?.map(|(unit, at)| Ask::Kappa { unit, at })),
         "cotail" => Ok(unit_level(alloc, rest)?.map(|(unit, p)| Ask::Cotail { unit, p })),

@@ -71,5 +71,8 @@ fn with_arg<'a>(
     ensures { (app : App) → IfOk command.entry (λ c. app_of c ≡ app)
         → IfOk result (λ c. app_of c ≡ with_rule app (rule_of arg.entry)) }
 {
-    command?.arg(arg)
+    match command {
+        Ok(command) => command.arg(arg),
+        Err(error) => Err(error),
+    }
 }

@@ -1,12 +1,13 @@
 //! The values of the options, and the settings that they make.
 
-ghost use Rattle.std.specs.Prelude.{◌≡◌, ◌≤◌, ◌==◌, IfNone, IfSome, None, Some, true, false, codes, if◌then◌else◌, length, []};
+ghost use Rattle.std.specs.Prelude.{◌≡◌, ◌≤◌, ◌==◌, IfNone, IfSome, None, Some, true, false, codes, if◌then◌else◌, length, drop, []};
+ghost use Rattle.std.specs.List.{list_all};
 ghost use Rattle.clap.specs.Matches.{found_of, first_value};
 ghost use Rattle.dl_exact.specs.Fraction.{whole};
 ghost use Rattle.dl_frac.specs.Numerals.{numeral_value};
 ghost use Rattle.dl_plan.specs.declared.settings.Format.TheVariants.{Plain};
 ghost use Rattle.dl_words.specs.Found.{TakesOption, values_in};
-ghost use Rattle.dl_words.specs.Options.{are_of_cert, are_of_verify, are_taken, form_named, format_named, format_of, is_format, is_make_alone, is_report_plain, no_seed, seed_of, settings_of};
+ghost use Rattle.dl_words.specs.Options.{are_of_cert, are_of_verify, are_taken, form_named, format_named, format_of, is_format, is_make_alone, is_report_plain, is_taken, no_seed, options, seed_of, settings_of};
 ghost use Rattle.dl_bytes.specs.Prelude.{number};
 ghost use Rattle.dl_words.specs.Spelling.{is_bucket, is_number_within};
 
@@ -28,6 +29,27 @@ pub(crate) fn settings_of(alloc: Global, form: Form, matches: &ArgMatches<'_>) -
 {
     let make = seed(matches)?;
     let bs = bucket_size(matches)?;
+    settings_with(alloc, form, make, bs, matches)
+}
+
+/// The settings of a form with no asks yet, with this seed and bucket size, where each of the other
+/// options takes its value.
+fn settings_with(
+    alloc: Global,
+    form: Form,
+    make: Option<u32>,
+    bs: Frac,
+    matches: &ArgMatches<'_>,
+) -> Option<Settings>
+    ensures some { IfSome result (λ settings.
+        (list_all (λ row. is_taken row.1 (values_in (found_of matches.now) row.0)) (drop 2 options) ≡ true)
+        × (settings ≡ record (settings_of form (values_in (found_of matches.now)) []) {
+          make = make;
+          bs = bs;
+        })) }
+    ensures none { IfNone result
+        (list_all (λ row. is_taken row.1 (values_in (found_of matches.now) row.0)) (drop 2 options) ≡ false) }
+{
     let log2 = number_of(matches, "log2", MOST_LOG2 as u64, 10)? as u32;
     let digits = number_of(matches, "digits", MOST_DIGITS as u64, 6)? as u32;
     let width = number_of(matches, "width", 1_000_000_000, 10)?;

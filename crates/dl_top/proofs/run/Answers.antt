@@ -1,7 +1,7 @@
 -- A refusal, written whole or in part.
 use Rattle.dl_top.proofs.Common.{refl, inl, inr, sym, ◌∙◌, [], Done, Answers}
 use Rattle.dl_top.proofs.ReplyLaws.{told, accepted, has_form, certifiable, verifiable}
-use Rattle.dl_top.proofs.RunLaws.{IsTold, message, status_tells, part, ends_well}
+use Rattle.dl_top.proofs.RunLaws.{IsTold, message, status_tells, part, ends_well, ends_so}
 use Rattle.dl_top.proofs.run.Goals as goal
 
 pub returns-in-Ok-write_all-clause-answer : goal.returns-in-Ok-write_all-clause-answer
@@ -64,3 +64,39 @@ returns-in-Ok-write_all-clause-unread g c (fault, e) =
 
 pub returns-in-Refusal-clause-unread : goal.returns-in-Refusal-clause-unread
 returns-in-Refusal-clause-unread g c (fault, e) = (tt, (c.in-Refusal.ensures.unread fault e).1)
+
+pub returns-in-Ok-clause-complete : goal.returns-in-Ok-clause-complete
+returns-in-Ok-clause-complete g c = ends_so _ _
+
+pub returns-in-Ok-clause-formatted : goal.returns-in-Ok-clause-formatted
+returns-in-Ok-clause-formatted g c = ends_so _ _
+
+pub returns-in-Ok-clause-certified : goal.returns-in-Ok-clause-certified
+returns-in-Ok-clause-certified g c = ends_so _ _
+
+pub returns-in-Ok-clause-verified : goal.returns-in-Ok-clause-verified
+returns-in-Ok-clause-verified g c = ends_so _ _
+
+pub returns-in-Answer-clause-complete : goal.returns-in-Answer-clause-complete
+returns-in-Answer-clause-complete g c = ends_so _ _
+
+pub returns-in-Answer-clause-formatted : goal.returns-in-Answer-clause-formatted
+returns-in-Answer-clause-formatted g c = ends_so _ _
+
+pub returns-in-Answer-clause-certified : goal.returns-in-Answer-clause-certified
+returns-in-Answer-clause-certified g c = ends_so _ _
+
+pub returns-in-Answer-clause-verified : goal.returns-in-Answer-clause-verified
+returns-in-Answer-clause-verified g c = ends_so _ _
+
+pub returns-in-Refusal-clause-complete : goal.returns-in-Refusal-clause-complete
+returns-in-Refusal-clause-complete g c = ends_so _ _
+
+pub returns-in-Refusal-clause-formatted : goal.returns-in-Refusal-clause-formatted
+returns-in-Refusal-clause-formatted g c = ends_so _ _
+
+pub returns-in-Refusal-clause-certified : goal.returns-in-Refusal-clause-certified
+returns-in-Refusal-clause-certified g c = ends_so _ _
+
+pub returns-in-Refusal-clause-verified : goal.returns-in-Refusal-clause-verified
+returns-in-Refusal-clause-verified g c = ends_so _ _

@@ -5,5 +5,5 @@ use Rattle.dl_buckets.proofs.reading.grid_unit.Goals as goal
 pub returns : goal.returns
 returns c = λ flaws right severity.
     unit_read c.args.most c.args.bs c.args.unit.now c.distribution-given.ensures c.in_ok-count.ensures c.unit_layer-layer.ensures
-    severity c.in_ok-occ.ensures c.in_ok-agr.ensures c.or-own.ensures (rw c.is_named.ensures at c.earlier-front.ensures)
+    severity c.in_ok-occ.ensures.occ c.in_ok-occ.ensures.agr c.or-own.ensures (rw c.is_named.ensures at c.earlier-front.ensures)
     c.or.ensures c.or-terms.ensures c.or-2.ensures

@@ -36,6 +36,6 @@ returns-clause-passes c = λ yes next split.
     let grid = grid_now plan.cells step.cells some c.requires.few read.1
     (step_small c.line_from-line.result.now step read.0) t.0.mass in
     line_passes passed step split spelled t.0
-    (rw (c.in_ok-push.ensures.items, c.in_ok-extend_from_slice.ensures.items, c.deref.ensures.value)
+    (rw (c.in_ok-keep.ensures.offsets, c.in_ok-keep.ensures.labels, c.deref.ensures.value)
     (keeps_more passed.so_far step c.requires.starts.counts t.0.there t.1 c.args.offset (omega (arith, c.requires.inside)) spelled
     read.1 grid))

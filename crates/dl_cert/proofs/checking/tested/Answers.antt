@@ -1,4 +1,5 @@
-use Rattle.dl_cert.proofs.Common.{ℕ, get_or, Plan, Base, AreStarts, ◌≡◌, ◌≤◌, ◌∙◌, arith, ap, refl, length, List, length-map, Iv, mass_low, one, IsRow, Step, IsThere, unit_parts}
+use Rattle.dl_cert.proofs.Common.{ℕ, get_or, Plan, Base, AreStarts, ◌≡◌, ◌≤◌, ◌∙◌, arith, ap, sym, refl, length, List, length-map, Iv, mass_low, one, pow_pos, IsRow, Step, IsThere, unit_parts}
+use Rattle.std.proofs.Common.{true≢false}
 use Rattle.dl_cert.proofs.Passings.{count_is, passes_now}
 use Rattle.dl_cert.proofs.checking.tested.Goals as goal
 
@@ -65,3 +66,24 @@ is_passing-requires-clause-there c =
 pub is_passing-requires-clause-so_far : goal.is_passing-requires-clause-so_far
 is_passing-requires-clause-so_far c =
     (c.args.so_far.now.labels.items, c.requires.so_far.0, rw c.deref-3.ensures.value c.requires.so_far.1)
+
+pub is_passing-requires-clause-starts : goal.is_passing-requires-clause-starts
+is_passing-requires-clause-starts c = (c.args.of.now.targets.now, c.requires.starts)
+
+pub is_passing-requires-clause-some : goal.is_passing-requires-clause-some
+is_passing-requires-clause-some c = rw c.requires.valid.cells.3 (pow_pos c.requires.valid.cells.0)
+
+pub returns-then-not-is_there : goal.returns-then-not-is_there
+returns-then-not-is_there c = λ before so_far p.
+    let count : c.len-count.result ≡ length before = omega (arith, c.len-count.ensures, so_far.many) in
+    true≢false (sym (c.if-not-is_there.ensures.1 (rw (starts_long c.requires.starts, count) p.there)))
+
+pub returns-then-mass_of-units_of_one : goal.returns-then-mass_of-units_of_one
+returns-then-mass_of-units_of_one c = λ before so_far p.
+    omega (arith, ap (λ (l : List (Iv 56)). mass_low l) c.deref.ensures.value, p.mass)
+
+pub returns-then-not-branch : goal.returns-then-not-branch
+returns-then-not-branch c = λ before so_far p.
+    let passing = (c.in_ok-is_passing.ensures c.args.so_far.now.labels.items before
+    (rw c.deref-3.ensures.value so_far)).1 (record { low_ends = p.low; high_ends = p.high }) in
+    true≢false (sym (rw c.if-not-branch.true at passing))

@@ -1,6 +1,6 @@
 use Rattle.dl_cert.proofs.Common.{◌∙◌, ◌<◌, arith, ap, get_or, length, List, IsTrue, get_or_default, UnitOfPlan}
 use Rattle.dl_cert.proofs.Outside.{grid_size}
-use Rattle.dl_cert.proofs.Tests.{times_tested, start_tested}
+use Rattle.dl_cert.proofs.Tests.{start_tested}
 use Rattle.dl_cert.proofs.test.is_passing.Goals as goal
 
 pub zero-requires : goal.zero-requires
@@ -19,10 +19,11 @@ returns-in-Start c = λ labels before so_far.
     (ap (λ (l : List UnitOfPlan). get_or l u c.index-as_slice-unit.result) c.as_slice.ensures
     ∙ get_or_default plan.units u c.index-as_slice-unit.result unit there) c.index-bases-unit.is
 
-pub returns-in_ok-numbers-in-Times : goal.returns-in_ok-numbers-in-Times
-returns-in_ok-numbers-in-Times c = λ labels before so_far.
-    times_tested (IsTrue c.is_beside-in-Times.result) c.args.plan.now before c.args.step.now.cells.items c.requires.cells
-    c.in-Times.first c.in-Times.second c.in_ok-left-in-Times.left c.in_ok-right-in-Times.right
-    c.in_ok-numbers-in-Times.numbers (rw c.as_slice-cells.ensures.value at c.is_beside-in-Times.ensures) c.in-Times.is
-    (c.in_ok-left-in-Times.ensures.cells labels before so_far) (c.in_ok-right-in-Times.ensures.cells labels before so_far)
-    c.in_ok-numbers-in-Times.ensures.convolution
+pub are_times-requires-clause-first : goal.are_times-requires-clause-first
+are_times-requires-clause-first c = (rw c.in-Times.is at c.requires.there).0
+
+pub are_times-requires-clause-second : goal.are_times-requires-clause-second
+are_times-requires-clause-second c = (rw c.in-Times.is at c.requires.there).1
+
+pub returns-in-Times : goal.returns-in-Times
+returns-in-Times c = rw (c.in-Times.is, ← c.as_slice-cells.ensures.value) c.are_times.ensures

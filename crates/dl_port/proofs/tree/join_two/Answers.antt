@@ -1,7 +1,6 @@
-use Rattle.dl_port.proofs.Common.{◌≡◌, ◌+◌, ◌<◌, ◌∷◌, ◌++◌, [], length, get_or, arith, refl, sym, ap, ap₂, subst, subst₂, ◌∙◌, remove, IsConvolution}
+use Rattle.dl_port.proofs.Common.{◌≡◌, ◌+◌, ◌<◌, ◌∷◌, ◌++◌, [], length, get_or, arith, sym, ap, ap₂, subst, subst₂, ◌∙◌, remove, IsConvolution}
 use Rattle.std.proofs.Common.{ℕ}
 use Rattle.dl_port.specs.Tree.{IsForest, sum_at}
-use Rattle.dl_port.specs.declared.tree.Node.{Node}
 use Rattle.dl_port.proofs.TreeLaws.{joined, two_places}
 use Rattle.dl_port.proofs.tree.join_two.Goals as goal
 
@@ -23,50 +22,35 @@ returns-clause-forest g c =
     ) in
     let is_y : y ≡ get_or (remove old a) b y = subst (λ t. y ≡ get_or t b y) c.remove-first.ensures.items
     c.remove-second.ensures.value in
-    let node : Node g.row.B = record {
-      grid = c.in_ok-grid.grid;
-      first = x;
-      second = y;
-      asked = c.is_either_asked-some_below.result;
-    } in
-    let conv : IsConvolution c.args.cells (sum_at units nodes x) (sum_at units nodes y) c.in_ok-grid.grid =
-    subst₂ (λ p q. IsConvolution c.args.cells p q c.in_ok-grid.grid)
-    (c.sum_at-one.ensures ∙ ap (λ t. sum_at units t x) c.as_slice-5.ensures.value)
-    (c.sum_at-other.ensures ∙ ap (λ t. sum_at units t y) c.as_slice-6.ensures.value)
-    c.in_ok-grid.ensures.convolution in
+    let node = c.in_ok-node.node in
+    let conv : IsConvolution c.args.cells (sum_at units nodes x) (sum_at units nodes y) node.grid =
+    subst (λ t. IsConvolution c.args.cells (sum_at units t x) (sum_at units t y) node.grid) c.as_slice-5.ensures.value
+    c.in_ok-node.ensures.convolution in
     let roots = c.in_ok-push.ensures.items
     ∙ ap₂ (λ t (v : ℕ). t ++ v ∷ [])
     (c.remove-second.ensures.items ∙ ap (λ t. remove t b) c.remove-first.ensures.items) (omega (arith, c.len.ensures)) in
     subst₂ (λ n r. IsForest c.args.cells units n r) (sym c.in_ok-push-2.ensures.items) (sym roots)
-    (joined old a b x y in_a in_b c.remove-first.ensures.value is_y c.args.cells units nodes node refl refl
-    c.in_ok-grid.ensures.cells conv c.requires.forest)
+    (joined old a b x y in_a in_b c.remove-first.ensures.value is_y c.args.cells units nodes node
+    c.in_ok-node.ensures.first c.in_ok-node.ensures.second c.in_ok-node.ensures.cells conv c.requires.forest)
 
-pub sum_at-other-requires : goal.sum_at-other-requires
-sum_at-other-requires g c =
+pub node_of-requires : goal.node_of-requires
+node_of-requires g c =
     let inside = two_places _ _ _ _ _ _ _ _ (length c.args.units.now + length c.args.nodes.now.items) c.as_slice-2.ensures.value
     c.shortest_root.ensures c.remove-first.ensures.value c.remove-first.ensures.items c.as_slice-4.ensures.value
     c.shortest_root-2.ensures c.remove-second.ensures.value c.requires.forest.inside in
-    (omega arith, (omega arith, rw c.as_slice-6.ensures.value inside.1))
-
-pub product_in_tree-requires : goal.product_in_tree-requires
-product_in_tree-requires g c =
-    let inside = two_places _ _ _ _ _ _ _ _ (length c.args.units.now + length c.args.nodes.now.items) c.as_slice-2.ensures.value
-    c.shortest_root.ensures c.remove-first.ensures.value c.remove-first.ensures.items c.as_slice-4.ensures.value
-    c.shortest_root-2.ensures c.remove-second.ensures.value c.requires.forest.inside in
-    let sums = c.requires.forest.are.sums in (
+    rw c.as_slice-5.ensures.value (
       omega arith,
       (
-        c.requires.cells.some,
+        omega arith,
         (
-          rw (c.sum_at-one.ensures, c.as_slice-5.ensures.value) (sums _ inside.0).long,
-          rw (c.sum_at-other.ensures, c.as_slice-6.ensures.value) (sums _ inside.1).long,
+          c.requires.cells,
+          (
+            c.requires.asked,
+            (
+              inside.0,
+              (inside.1, λ at h. (c.requires.forest.are.sums at h).long),
+            ),
+          ),
         ),
       ),
     )
-
-pub is_either_asked-some_below-requires : goal.is_either_asked-some_below-requires
-is_either_asked-some_below-requires g c =
-    let inside = two_places _ _ _ _ _ _ _ _ (length c.args.units.now + length c.args.nodes.now.items) c.as_slice-2.ensures.value
-    c.shortest_root.ensures c.remove-first.ensures.value c.remove-first.ensures.items c.as_slice-4.ensures.value
-    c.shortest_root-2.ensures c.remove-second.ensures.value c.requires.forest.inside in
-    (omega arith, rw (c.as_slice-7.ensures.value, c.requires.asked) inside)

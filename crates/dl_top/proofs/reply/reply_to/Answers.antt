@@ -1,6 +1,6 @@
 -- The reply to good words is that to the text they are about, and other words are refused.
 use Rattle.dl_top.proofs.Common.{refl, map, string_bytes, ℕ, List, Say, usage, IsReply}
-use Rattle.dl_top.proofs.ReplyLaws.{refused, always, none_taken, text_was_read, told, are_ready, limit_said, made_input, read_input}
+use Rattle.dl_top.proofs.ReplyLaws.{refused, always, none_taken, none_read, text_was_read, told, are_ready, limit_said, made_input, read_input}
 use Rattle.dl_top.proofs.reply.reply_to.Goals as goal
 
 pub reply_to_made-requires : goal.reply_to_made-requires
@@ -39,3 +39,12 @@ returns-in-Ok-clause-taken g c = rw (limit_said _ _ c.in-Ok.ensures.settings) c.
 
 pub returns-in-Ok-clause-reading : goal.returns-in-Ok-clause-reading
 returns-in-Ok-clause-reading g c = rw (limit_said _ _ c.in-Ok.ensures.settings) c.reply_to_source.ensures.reading
+
+pub returns-in-Some-clause-reading : goal.returns-in-Some-clause-reading
+returns-in-Some-clause-reading g c = none_read _ _
+
+pub returns-in-Err-Usage-clause-reading : goal.returns-in-Err-Usage-clause-reading
+returns-in-Err-Usage-clause-reading g c = none_read _ _
+
+pub returns-clause-reading : goal.returns-clause-reading
+returns-clause-reading g c = none_read _ _

@@ -35,18 +35,14 @@ returns-in-Ok-clause-line c =
     c.begin_plainly.ensures c.if-not-begin_plainly.false c.admits.ensures c.if-not-admits.false in
     λ line. absurd (asks_no_line _ (values_in found) _ (sym fit ∙ line))
 
-pub returns-clause-fault : goal.returns-clause-fault
-returns-clause-fault c =
+pub returns : goal.returns
+returns c =
     let found = found_of c.args.matches.now in
     let fit = fitting_tests found _ _ _ _ (sym c.in-Some.is ∙ c.form_of.ensures)
     (texts_found _ _ _ _ c.unwrap_or-texts.ensures refl c.get_strs.ensures) c.in-Some-settings_of.ensures.some.0
     c.begin_plainly.ensures c.if-not-begin_plainly.false c.admits.ensures c.if-not-admits.false in
-    explained _ (values_in found) _ _ c.in-Err.fault fit c.in-Err.ensures.fault
-
-pub returns-clause-line : goal.returns-clause-line
-returns-clause-line c =
-    let found = found_of c.args.matches.now in
-    let fit = fitting_tests found _ _ _ _ (sym c.in-Some.is ∙ c.form_of.ensures)
-    (texts_found _ _ _ _ c.unwrap_or-texts.ensures refl c.get_strs.ensures) c.in-Some-settings_of.ensures.some.0
-    c.begin_plainly.ensures c.if-not-begin_plainly.false c.admits.ensures c.if-not-admits.false in
-    λ line. absurd (asks_no_line _ (values_in found) _ (sym fit ∙ line))
+    record {
+      settings = tt;
+      fault = explained _ (values_in found) _ _ c.in-Err.fault fit c.in-Err.ensures.fault;
+      line = λ line. absurd (asks_no_line _ (values_in found) _ (sym fit ∙ line));
+    }

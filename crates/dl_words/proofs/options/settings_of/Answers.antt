@@ -1,15 +1,10 @@
-use Rattle.dl_words.proofs.Common.{refl}
 use Rattle.dl_words.proofs.options.settings_of.Goals as goal
 
 pub returns-clause-some : goal.returns-clause-some
 returns-clause-some c =
     let make = c.in_ok-make.ensures in
     let bs = c.in_ok-bs.ensures in
-    let log2 = c.in_ok-log2.ensures.value in
-    let digits = c.in_ok-digits.ensures.value in
-    let width = c.in_ok-width.ensures.value in
-    let mwidth = c.in_ok-mwidth.ensures.value in
-    let format = c.in_ok-format.ensures in (
-      rw (make.0, bs.0, log2.0, digits.0, width.0, mwidth.0, format.0) refl,
-      rw (make.1, bs.1, log2.1, digits.1, width.1, mwidth.1, format.1, c.from_vec.ensures, c.new.ensures.items) refl,
-    )
+    rw (make.0, bs.0, ← make.1, ← bs.1) c.settings_with.ensures.some
+
+pub returns-clause-none : goal.returns-clause-none
+returns-clause-none c = rw (c.in_ok-make.ensures.0, c.in_ok-bs.ensures.0) c.settings_with.ensures.none

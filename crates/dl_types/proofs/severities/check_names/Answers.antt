@@ -2,7 +2,7 @@
 use Rattle.dl_types.proofs.Common.{◌∙◌, [], ◌∷◌, ◌++◌, ap, sym, subst, in_turn, StopsAt, HasFault, fault_of_severity, turn_ended, turn_passed, SevDef}
 use Rattle.dl_types.proofs.Naming.{maps_more}
 use Rattle.dl_types.proofs.Stops.{stopped, turn_stopped, severity_rule}
-use Rattle.dl_types.proofs.severities.check_severities.Goals as goal
+use Rattle.dl_types.proofs.severities.check_names.Goals as goal
 
 pub returns-in_err-check_name : goal.returns-in_err-check_name
 returns-in_err-check_name c =

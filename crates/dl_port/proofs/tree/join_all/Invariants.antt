@@ -1,6 +1,6 @@
 use Rattle.dl_port.proofs.Common.{◌≡◌, ◌+◌, length}
 use Rattle.dl_port.specs.Tree.{IsForest}
-use Rattle.dl_port.proofs.tree.nodes_over.Given as goal
+use Rattle.dl_port.proofs.tree.join_all.Given as goal
 
 abbrev pub invariant-loop : goal.invariant-loop
 invariant-loop g l = record {

@@ -1,6 +1,6 @@
 use Rattle.dl_port.proofs.Common.{arith}
 use Rattle.dl_port.specs.Shared.{HaveCells}
-use Rattle.dl_port.proofs.shared.sums_by_tree.Goals as goal
+use Rattle.dl_port.proofs.shared.others_by_tree.Goals as goal
 
 pub others_where_asked-requires : goal.others_where_asked-requires
 others_where_asked-requires g c =

@@ -3,7 +3,7 @@ use Rattle.dl_types.proofs.Common.{◌∙◌, ◌+◌, sym, subst, List, Answers
 use Rattle.dl_types.proofs.ProgramUnits.{Planned, planned_more, planned_all}
 use Rattle.dl_types.proofs.Naming.{maps_more}
 use Rattle.dl_types.proofs.Stops.{stopped, turn_stopped}
-use Rattle.dl_types.proofs.program.check_units.Goals as goal
+use Rattle.dl_types.proofs.program.units_among.Goals as goal
 
 pub returns-in_err-unit : goal.returns-in_err-unit
 returns-in_err-unit c =

@@ -1,6 +1,6 @@
 -- The severities so far, which have different names, and these.
 use Rattle.dl_types.proofs.Common.{◌≡◌, map, take, NoneTurned, fault_of_severity, severity_names}
-use Rattle.dl_types.proofs.severities.check_severities.Given as goal
+use Rattle.dl_types.proofs.severities.check_names.Given as goal
 
 abbrev pub invariant-sevs : goal.invariant-sevs
 invariant-sevs l = record {

@@ -1,6 +1,6 @@
 use Rattle.dl_port.proofs.Common.{◌≡◌, ◌+◌, length}
 use Rattle.dl_port.specs.Tree.{ReachDown}
-use Rattle.dl_port.proofs.tree.outside_units.Given as goal
+use Rattle.dl_port.proofs.tree.all_down.Given as goal
 
 abbrev pub invariant-loop : goal.invariant-loop
 invariant-loop g l = record {

@@ -1,7 +1,7 @@
 -- The units so far, and their names.
 use Rattle.dl_types.proofs.Common.{◌≡◌, All, map, take, names_of, IsKnown}
 use Rattle.dl_types.proofs.ProgramUnits.{Planned}
-use Rattle.dl_types.proofs.program.check_units.Given as goal
+use Rattle.dl_types.proofs.program.units_among.Given as goal
 
 abbrev pub invariant-units : goal.invariant-units
 invariant-units l = record {
