@@ -18,7 +18,7 @@ exact_sum a b new s n f fits few e =
     ∙ ap₂ (λ xs ys. pair_sum xs ys s % 2 ^ 128) (words_fixed a wide_a) (words_fixed b wide_b)
     ∙ mod-eq_of_lt (omega (arith, twice_fits s f few))
 
-module _ (a b : List ℕ) (h n : ℕ) (fit : ItemsFit a b n) (half : n ≤ 2 * h) (less : h < n)
+module _ {a b : List ℕ} (h : ℕ) {n : ℕ} (fit : ItemsFit a b n) (half : n ≤ 2 * h) (less : h < n)
     (in_a : n ≤ length a) (in_b : n ≤ length b) (start one : List ℕ)
     (start_is : (s : ℕ) → s < n → item start s ≡ pair_sum (take h a) (take h b) s)
     (one_is : (t : ℕ) → t < n - h → item one t ≡ pair_sum (take (length a - h) (drop h a)) b t) where

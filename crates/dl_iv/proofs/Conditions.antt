@@ -1,7 +1,7 @@
 -- Plainer bounds from which the conditions of the rounded operations follow.
-use Rattle.dl_iv.proofs.Common.{ℕ, ◌+◌, ◌*◌, ◌/◌, ◌^◌, ◌<◌, ◌≤◌, arith, refl, le-mul_of_pos_right, mul-le-mul_right, le_trans, div_ceil, pow_pos, div_ceil_least}
-use Rattle.std.proofs.Common.{mul_comm}
-use Rattle.std.proofs.Math.Nat.{lt-div-mul-add}
+use Rattle.dl_iv.proofs.Common.{ℕ, ◌+◌, ◌*◌, ◌/◌, ◌%◌, ◌^◌, ◌<◌, ◌≤◌, arith, refl, le-mul_of_pos_right, mul-le-mul_right, le_trans, div_ceil, div-le_of_le-mul, pow_pos, div_ceil_least}
+use Rattle.std.proofs.Common.{min, mul_comm}
+use Rattle.std.proofs.Math.Nat.{lt-div-mul-add, mod-le, mod-lt, mul-le-mul}
 use Rattle.dl_iv.proofs.Rounding.{power_le}
 
 -- a fraction below 2^71 can be enclosed
@@ -20,3 +20,15 @@ quotient_fits b n d small pos below = rw (mul_comm n (2 ^ b)) (enclose_fits b n 
 -- an end whose digits fit can be printed
 pub print_fits : (n b : ℕ) → n ≤ 2 ^ 127 → n ≤ 2 ^ 127 * 2 ^ b
 print_fits n b h = le_trans h (le-mul_of_pos_right (2 ^ 127) (pow_pos b))
+
+-- a part of a number fits where the number does
+pub part_fits : (n m d t : ℕ) → 0 < d → m ≤ d → n ≤ t → (n * m / d ≤ t) × (div_ceil (n * m) d ≤ t)
+part_fits n m d t pos part fits =
+    let most : n * m ≤ t * d = mul-le-mul fits part in
+    (div-le_of_le-mul d (omega arith), div_ceil_least (n * m) d t pos most)
+
+-- a rest is below the number and below its divisor
+pub rest_fits : (n d k e s t : ℕ) → 0 < d → d ≤ e → n ≤ k → min k e * s < t → n % d * s < t
+rest_fits n d k e s t pos wide most fits =
+    let rest : n % d ≤ min k e = omega (arith, mod-lt n pos, mod-le n d) in
+    omega (arith, mul-le-mul_right s rest)

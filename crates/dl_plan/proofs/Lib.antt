@@ -17,3 +17,4 @@ pub mod Buckets
 pub mod ValidUnits
 pub mod Shared
 pub mod Raised
+pub mod Passed

@@ -1,5 +1,5 @@
 -- Items with their amounts mapped, and lists of amounts with whole weights.
-use Rattle.dl_sev.proofs.Common.{ℕ, ◌≡◌, ◌∙◌, ◌+◌, ◌<◌, List, [], ◌∷◌, ◌++◌, length, map, zip, sum, get_or, take, refl, sym, ap, ap₂, arith, length-take-le, map_more, take_more, sum_by-cons, Fraction, whole, ◌over◌, Clause, kept, Item, Sev, weight_sum, weight_at, probability, shares, pairs_of, Weights, weighed, items_of, with_amount, severity_total}
+use Rattle.dl_sev.proofs.Common.{ℕ, ◌≡◌, ◌∙◌, ◌+◌, ◌<◌, List, [], ◌∷◌, ◌++◌, length, map, zip, sum, get_or, take, refl, sym, ap, ap₂, arith, length-take-le, map_more, take_more, sum_by-cons, Fraction, whole, ◌over◌, Clause, kept, Item, Sev, weight_sum, weight_at, probability, shares, pairs_of, Weights, weighed, items_of, with_amount, severity_total, amounts_of, append_assoc}
 use Rattle.std.proofs.Common.{Result, Ok, Err, IfOk}
 use Rattle.std.proofs.lemmas.Simd.{map-map}
 use Rattle.dl_exact.proofs.Parts.{whole_num}
@@ -84,6 +84,13 @@ ceded_more clause items made new i amount d h so_far pushed value =
     ∙ ap₂ (λ (xs : List Item) (a : ℕ). xs ++ record { amount = a; weight = (get_or items i d).weight } ∷ []) so_far
     (sym same)
     ∙ sym (map_more (with_amount f) items i d h)
+
+-- one amount more behind others
+pub amounts_more : (old amounts new : List ℕ) (items : List Item) (i : ℕ) (d : Item) → i < length items
+    → amounts ≡ old ++ amounts_of (take i items) → new ≡ amounts ++ (get_or items i d).amount ∷ []
+    → new ≡ old ++ amounts_of (take (i + 1) items)
+amounts_more old amounts new items i d h so_far pushed =
+    pushed ∙ rw (so_far, append_assoc, map_more (λ (item : Item). item.amount) items i d h) refl
 
 -- what holds of a result holds of what follows from it
 pub if_ok : {T E : Type 0} (r : Result T E) (P Q : T → Type 0) → ((x : T) → P x → Q x) → IfOk r P → IfOk r Q

@@ -85,14 +85,23 @@ module _ (r : Range) (range : IsRange r) (c : ℕ) (common : c ≡ range_denomin
   within : (k : ℕ) → k ≤ (T - F) / S → F + k * S ≤ T
   within k h = omega (arith, mul-le-mul_right S h, div-mul-le_self (T - F) S, rising)
 
+  top : c ≤ most_range_parts → T ≤ 10 ^ 11 * most_range_parts
+  top small =
+      let num : r.to.num ≤ 10 ^ 11 = omega (arith, range.digits) in
+      let part : c / r.to.den ≤ most_range_parts = omega (arith, div-le_self c r.to.den, small) in
+      mul-le-mul num part
+
+  pub term_fits : (f s t k : ℕ) → f ≡ numerator_over c r.from → s ≡ numerator_over c r.step
+      → t ≡ numerator_over c r.to → c ≤ most_range_parts → k < (t - f) / s + 1 → f + k * s < 2 ^ 128
+  term_fits f s t k is_f is_s is_t small h =
+      let here : k < (T - F) / S + 1 = rw (← is_f, ← is_s, ← is_t) h in
+      rw (is_f, is_s) (omega (arith, within k (omega (arith, here)), top small))
+
   pub value_fits : (k : ℕ) → c ≤ most_range_parts → k ≤ (numerator_over c r.to - numerator_over c r.from) /
       numerator_over c r.step
       → FitsFrac ((numerator_over c r.from + k * numerator_over c r.step) over c)
   value_fits k small h =
-      let num : r.to.num ≤ 10 ^ 11 = omega (arith, range.digits) in
-      let part : c / r.to.den ≤ most_range_parts = omega (arith, div-le_self c r.to.den, small) in
-      let top : T ≤ 10 ^ 11 * most_range_parts = mul-le-mul num part in
-      over_fits _ c pos (omega (arith, within k h, top)) (omega (arith, small))
+      over_fits _ c pos (omega (arith, within k h, top small)) (omega (arith, small))
 
 pub values_length : (r : Range) → length (range_values r) ≡ steps_in r + 1
 values_length r = length-map-range_with_len (value_at r) 0 (steps_in r + 1)

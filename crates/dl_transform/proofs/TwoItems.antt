@@ -1,8 +1,8 @@
 -- One step of a pass at two items.
-use Rattle.dl_transform.proofs.Common.{ℕ, ◌≡◌, ◌+◌, ◌-◌, ◌*◌, ◌<◌, inl, inr, List, ◌∙◌, length, slice_index, get_or, arith, cases_lt, Same, eval, point}
+use Rattle.dl_transform.proofs.Common.{ℕ, ◌≡◌, ◌+◌, ◌-◌, ◌*◌, ◌<◌, inl, inr, List, ◌∙◌, length, slice_index, get_or, arith, cases_lt, set_each, Same, eval, point}
 use Rattle.std.proofs.Math.ListN.{set}
 use Rattle.std.proofs.lemmas.List.{get_or-set_same, get_or-set_other, length-set}
-use Rattle.dl_transform.specs.Lists.{AreItemsBelow, AreValuesBelow, IsPart}
+use Rattle.dl_transform.specs.Lists.{AreBelow, AreItemsBelow, AreValuesBelow, IsPart}
 use Rattle.dl_transform.specs.declared.tables.Table.{Table}
 use Rattle.dl_transform.proofs.AfterSteps.{small_roots}
 use Rattle.dl_transform.proofs.Halves.{high_back, low_back}
@@ -23,6 +23,11 @@ module _ (t : Table) (node bound : ℕ) (x : List ℕ) (part : IsPart t 2 node b
 
   second_set : (a b : ℕ) → get_or (set (set x 0 a) 1 b) 1 0 ≡ b
   second_set a b = get_or-set_same (set x 0 a) 1 b 0 (rw length-set (omega (arith, part.size)))
+
+  pub two_small : (a b : ℕ) → a < bound → b < bound → AreBelow bound (set (set x 0 a) 1 b)
+  two_small a b small other =
+      set_each (λ _ v. v < bound) (set x 0 a) 1 b (rw length-set (omega (arith, part.size)))
+      (set_each (λ _ v. v < bound) x 0 a (omega (arith, part.size)) part.small small) other
 
   inside : node < length roots
   inside = omega (arith, part.within)

@@ -1,5 +1,5 @@
 -- The product of two lists from its remainders.
-use Rattle.dl_transform.proofs.Common.{ℕ, zero, suc, ◌≡◌, ◌+◌, ◌-◌, ◌*◌, ◌/◌, ◌%◌, ◌^◌, ◌<◌, ◌≤◌, List, length, get_or, sum_by, mul-le-mul_left, mul-le-mul_right, arith, sym, ap, ap₂, ◌∙◌, div_below, get_or_past, Same, count_pairs, pairs_none, eval, [], ◌∷◌, All, div-add-mod, pow-le-pow_right, mul-le-mul, mod_below, IsTable}
+use Rattle.dl_transform.proofs.Common.{ℕ, zero, suc, ◌≡◌, ◌+◌, ◌-◌, ◌*◌, ◌/◌, ◌%◌, ◌^◌, ◌<◌, ◌≤◌, List, length, get_or, sum_by, mul-le-mul_left, mul-le-mul_right, arith, sym, ap, ap₂, ◌∙◌, div_below, get_or_past, length-take-le, take, Same, count_pairs, pairs_none, eval, [], ◌∷◌, All, div-add-mod, pow-le-pow_right, mul-le-mul, mod_below, IsTable}
 use Rattle.dl_transform.specs.Lists.{IsTableFor}
 use Rattle.dl_transform.specs.declared.tables.Table.{Table}
 use Rattle.std.proofs.lemmas.List.Sums.{sum_by-cons}
@@ -114,3 +114,15 @@ words_fit b all most words least small =
     let first : most ≤ 2 ^ 64 - 1 = least (2 ^ 64 - 1) (λ k. omega (arith, word_at b words k)) in
     let second : all ≤ 2 ^ 64 - 1 = omega (arith, small) in
     omega (arith, mul-le-mul first second)
+
+-- the first n items of a buffer with room for them
+pub front : (n : ℕ) (xs x : List ℕ) → x ≡ xs → n ≤ length xs → length (take n x) ≡ n
+front n xs x same room = rw same (length-take-le n xs room)
+
+pub fronts_alike : (n : ℕ) (xs x ys y : List ℕ) → x ≡ xs → n ≤ length xs → y ≡ ys → n ≤ length ys
+    → length (take n x) ≡ length (take n y)
+fronts_alike n xs x ys y same room other there = front n xs x same room ∙ sym (front n ys y other there)
+
+pub front_room : (k n m : ℕ) (xs x new : List ℕ) → length new ≡ length (take n x) → x ≡ xs → n ≤ length xs → n ≡ m
+    → k ≤ m → k ≤ length new
+front_room k n m xs x new alike same room size few = omega (arith, alike, front n xs x same room, size, few)

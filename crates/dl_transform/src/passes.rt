@@ -63,7 +63,6 @@ fn to_values_2(x: &mut [u64], node: usize, table: &Table)
 
 /// The values of 4 items at the lowest nodes below a node.
 #[inline(always)]
-#[tactic(auto, using(crate::proofs::Parts::join_small))]
 fn to_values_4(x: &mut [u64], node: usize, table: &Table)
     requires { IsPart table.now 4 node (4 * table.now.p) x.old }
     ensures small { AreBelow (4 * table.now.p) x.new }
@@ -78,7 +77,6 @@ fn to_values_4(x: &mut [u64], node: usize, table: &Table)
 }
 
 /// The values of the polynomial `x` at the lowest nodes below `node`, `levels` levels down.
-#[tactic(auto, using(crate::proofs::Parts::join_small))]
 pub(crate) fn to_values(x: &mut [u64], node: usize, table: &Table, levels: u32)
     requires { IsPart table.now (2 ^ levels) node (4 * table.now.p) x.old }
     ensures small { AreBelow (4 * table.now.p) x.new }
@@ -129,7 +127,6 @@ fn to_items_4(x: &mut [u64], node: usize, table: &Table)
 }
 
 /// The polynomial with these values at the lowest nodes below a node, `2^levels` times.
-#[tactic(auto, using(crate::proofs::Parts::join_small))]
 pub(crate) fn to_items(x: &mut [u64], node: usize, table: &Table, levels: u32)
     requires { IsPart table.now (2 ^ levels) node (2 * table.now.p) x.old }
     ensures small { AreBelow (2 * table.now.p) x.new }

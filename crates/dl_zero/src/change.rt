@@ -43,7 +43,6 @@ fn only_at_0<const B: u32>(value: Iv<B>, y: u32) -> Iv<B>
 
 impl<const B: u32> Change<B> {
     /// The change from `none`, at most 17 / 18, to `p`, below 1.
-    #[tactic(auto, using(dl_exact::proofs::BelowOne::num_below))]
     pub(crate) fn new(none: Iv<B>, p: Frac) -> Self
         requires below_one { p <ℚ whole 1 }
         requires parts { p.den < 2 ^ 37 }
@@ -67,7 +66,6 @@ impl<const B: u32> Change<B> {
     /// The outcome `y` after the change, from the probability `cell` of it before. What is left of
     /// it after `none` is taken off at `y = 0` is divided by the probability of a claim first and
     /// multiplied by `1 - p` after: in the other order each rounding would be multiplied by 18.
-    #[tactic(auto, using(crate::proofs::Rounded::cell_fits, dl_exact::proofs::RoundingLaws::part_within, dl_grid::proofs::CellLaws::one_fits))]
     pub(crate) fn cell(self, cell: Iv<B>, y: u32) -> Iv<B>
         requires small { cell.hi ≤ 2 ^ B }
         ensures low { result.lo ≡ min ((cell.entry.lo - all_at_zero self.entry.none.hi y) * 2 ^ B

@@ -1,6 +1,10 @@
-use Rattle.dl_conv.proofs.Common.{ℕ, ◌*◌, ◌/◌, ◌≡◌, ◌≤◌, arith, length, subst, sym, refl, ◌∙◌, IsHalvable, one-le-pow}
+use Rattle.dl_conv.proofs.Common.{ℕ, ◌+◌, ◌*◌, ◌/◌, ◌≡◌, ◌≤◌, arith, length, subst, sym, refl, ◌∙◌, IsHalvable, one-le-pow}
 use Rattle.dl_conv.proofs.Halving.{twice, front_half, back_half, three_of, small_remainder, values_small, halved_value}
 use Rattle.dl_conv.proofs.halves.+halved.Goals as goal
+
+-- what is left of twice n
+rest_of : (n m k : ℕ) → k + n ≡ m → m ≡ 2 * n → k ≡ n
+rest_of n m k rest room = omega arith
 
 pub halved-requires : goal.halved-requires
 halved-requires g t c κs within =
@@ -102,14 +106,14 @@ returns-clause-value g t c s inside =
     c.take_off.new.middle _ c.add_middle.new.out even (c.requires.paired ∙ even) (c.halved.auto.out ∙ low ∙ even)
     (c.halved-2.auto.out ∙ high) (c.add_halves.auto.out ∙ left) (c.add_halves-2.auto.out ∙ right)
     (length c.split_at_mut-left.result.0.now) (length c.split_at_mut-right.result.0.now) left right
-    (λ s h. c.halved.ensures.value s (omega (arith, h, low, even)))
-    (λ s h. c.halved-2.ensures.value s (omega (arith, h, high)))
-    (λ i h. c.add_halves.ensures.value i (omega (arith, h, left)))
-    (λ i h. c.add_halves-2.ensures.value i (omega (arith, h, right)))
-    (λ s h. c.halved-3.ensures.value s (omega (arith, h, middle, even)))
-    (λ t h. c.take_off.ensures.value t (omega (arith, h, whole, even)))
-    refl (λ t h. c.add_middle.ensures.value t (omega (arith, h, rest, even)))
-    (λ s h. c.add_middle.ensures.first s h) (λ s h. c.add_middle.ensures.last s (omega (arith, h, rest, even)))
+    (λ s h. c.halved.ensures.value s (rw (low ∙ even) h))
+    (λ s h. c.halved-2.ensures.value s (rw high h))
+    (λ i h. c.add_halves.ensures.value i (rw left h))
+    (λ i h. c.add_halves-2.ensures.value i (rw right h))
+    (λ s h. c.halved-3.ensures.value s (rw (middle ∙ even) h))
+    (λ t h. c.take_off.ensures.value t (rw (whole ∙ even) h))
+    refl (λ t h. c.add_middle.ensures.value t (rw (rest ∙ even) h))
+    (λ s h. c.add_middle.ensures.first s h) (λ s h. c.add_middle.ensures.last s (rw (rest ∙ even) h))
     s (omega (arith, inside, even, c.requires.room)))
 
 pub add_halves-requires : goal.add_halves-requires
@@ -119,3 +123,14 @@ add_halves-requires g t c =
 pub add_halves-requires-2 : goal.add_halves-requires-2
 add_halves-requires-2 g t c =
     let n = twice (length c.args.a.now) c.requires.halvable c.if-a-eq-BLOCK.false in omega arith
+
+pub take_off-requires-clause-low : goal.take_off-requires-clause-low
+take_off-requires-clause-low g t c =
+    c.halved.auto.out ∙ c.split_at_mut-low.ensures.front_len
+    ∙ sym (c.halved-3.auto.out ∙ c.split_at_mut-middle.ensures.front_len)
+
+pub take_off-requires-clause-high : goal.take_off-requires-clause-high
+take_off-requires-clause-high g t c =
+    c.halved-2.auto.out
+    ∙ rest_of (length c.args.a.now) _ _ c.split_at_mut-low.ensures.back_len c.requires.room
+    ∙ sym (c.halved-3.auto.out ∙ c.split_at_mut-middle.ensures.front_len)

@@ -10,11 +10,9 @@ loop-i-init c = record {
 
 pub overflow_add-sum : goal.overflow_add-sum
 overflow_add-sum c =
-    omega (
-      arith,
-      column_fits c.args.a.now c.args.b.now c.args.s c.loop-i.i (c.args.s + 1) _ _ c.requires.fits
-          (omega (arith, c.requires.within)) c.loop-i.invariant.sum c.product_of_ends-sum.ensures,
-    )
+    let fits = column_fits c.args.a.now c.args.b.now c.args.s c.loop-i.i (c.args.s + 1) _ _ c.requires.fits
+    (omega (arith, c.requires.within)) c.loop-i.invariant.sum c.product_of_ends-sum.ensures in
+    omega (arith, fits)
 
 pub loop-i-preserved : goal.loop-i-preserved
 loop-i-preserved c = record {

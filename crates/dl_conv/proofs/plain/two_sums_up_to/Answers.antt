@@ -12,20 +12,16 @@ loop-i-init c = record {
 
 pub overflow_add-first : goal.overflow_add-first
 overflow_add-first c =
-    omega (
-      arith,
-      column_fits c.args.a.now c.args.b.now c.args.s c.loop-i.i (c.args.s + 2) _ _ c.requires.fits
-          (omega (arith, c.requires.within)) c.loop-i.invariant.first c.product_of_ends-first.ensures,
-    )
+    let fits = column_fits c.args.a.now c.args.b.now c.args.s c.loop-i.i (c.args.s + 2) _ _ c.requires.fits
+    (omega (arith, c.requires.within)) c.loop-i.invariant.first c.product_of_ends-first.ensures in
+    omega (arith, fits)
 
 pub overflow_add-second : goal.overflow_add-second
 overflow_add-second c =
-    omega (
-      arith,
-      column_fits c.args.a.now c.args.b.now (c.args.s + 1) c.loop-i.i (c.args.s + 2) _ _ c.requires.fits
-          (omega (arith, c.requires.within)) c.loop-i.invariant.second
-          (c.product_of_ends-second.ensures ∙ ap (λ y. get_or c.args.a.now c.loop-i.i 0 * y) c.loop-i.invariant.item),
-    )
+    let fits = column_fits c.args.a.now c.args.b.now (c.args.s + 1) c.loop-i.i (c.args.s + 2) _ _ c.requires.fits
+    (omega (arith, c.requires.within)) c.loop-i.invariant.second
+    (c.product_of_ends-second.ensures ∙ ap (λ y. get_or c.args.a.now c.loop-i.i 0 * y) c.loop-i.invariant.item) in
+    omega (arith, fits)
 
 pub loop-i-preserved : goal.loop-i-preserved
 loop-i-preserved c = record {

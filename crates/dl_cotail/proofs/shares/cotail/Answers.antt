@@ -2,6 +2,9 @@ use Rattle.dl_cotail.proofs.Common.{◌^◌, arith, length, spread, are_units, p
 use Rattle.dl_cotail.proofs.Widths.{joint_rises}
 use Rattle.dl_cotail.proofs.shares.cotail.Goals as goal
 
+pub tail_share-requires : goal.tail_share-requires
+tail_share-requires g c = (omega arith, (omega arith, (c.requires.below_one, (c.requires.small, (c.in_ok-q.ensures.some, c.requires.mean)))))
+
 pub returns-clause-holds : goal.returns-clause-holds
 returns-clause-holds g c us i d here e f h mean =
     let w = are_units us d in

@@ -1,15 +1,23 @@
-use Rattle.dl_cotail.proofs.Common.{ℕ, ◌<◌, arith, length, rules, are_units, outcomes_rise, score, Joint, One, partial_sums}
+use Rattle.dl_cotail.proofs.Common.{ℕ, ◌<◌, arith, length, are_units, outcomes_rise, score, Joint, One, partial_sums}
 use Rattle.dl_common.proofs.GammaJoint.{gamma_exact}
 use Rattle.dl_common.proofs.GammaUnits.{gamma_unbounded}
 use Rattle.dl_cotail.proofs.shares.gamma_cotail.Goals as goal
 
 pub claims_joint-joint-requires : goal.claims_joint-joint-requires
 claims_joint-joint-requires g c =
-    let unbounded = gamma_unbounded c.args.unit.now.freq c.requires.gamma.count in search rules
+    let unbounded = gamma_unbounded c.args.unit.now.freq c.requires.gamma.count in
+    (omega arith, (omega arith, (c.requires.valid, (unbounded, rw c.requires.cells c.in_ok-q.ensures.some.inside))))
 
 pub claims_sums-below-requires : goal.claims_sums-below-requires
 claims_sums-below-requires g c =
-    let unbounded = gamma_unbounded c.args.unit.now.freq c.requires.gamma.count in search rules
+    let unbounded = gamma_unbounded c.args.unit.now.freq c.requires.gamma.count in
+    let r = c.requires in
+    (omega arith, (omega arith, (r.valid, (unbounded, (rw r.cells c.in_ok-q.ensures.some.inside, r.raised_narrow)))))
+
+pub tail_share-requires : goal.tail_share-requires
+tail_share-requires g c =
+    let r = c.requires in
+    (omega arith, (omega arith, (r.below_one, (r.small, (c.in_ok-q.ensures.some, r.mean)))))
 
 pub returns-clause-holds : goal.returns-clause-holds
 returns-clause-holds g c us i extra d there here is raised e mean =

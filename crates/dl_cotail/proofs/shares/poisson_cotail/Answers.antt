@@ -1,15 +1,23 @@
-use Rattle.dl_cotail.proofs.Common.{ℕ, ◌<◌, arith, length, rules, are_units, outcomes_rise, score, Joint, One, partial_sums}
+use Rattle.dl_cotail.proofs.Common.{ℕ, ◌<◌, arith, length, are_units, outcomes_rise, score, Joint, One, partial_sums}
 use Rattle.dl_plan.proofs.Shared.{poisson_unbounded}
 use Rattle.dl_common.proofs.PoissonJoint.{poisson_exact}
 use Rattle.dl_cotail.proofs.shares.poisson_cotail.Goals as goal
 
 pub claims_joint-joint-requires : goal.claims_joint-joint-requires
 claims_joint-joint-requires g c =
-    let unbounded = poisson_unbounded c.args.unit.now.freq c.requires.poisson.count in search rules
+    let unbounded = poisson_unbounded c.args.unit.now.freq c.requires.poisson.count in
+    (omega arith, (omega arith, (c.requires.valid, (unbounded, c.in_ok-q.ensures.some.inside))))
 
 pub claims_sums-below-requires : goal.claims_sums-below-requires
 claims_sums-below-requires g c =
-    let unbounded = poisson_unbounded c.args.unit.now.freq c.requires.poisson.count in search rules
+    let unbounded = poisson_unbounded c.args.unit.now.freq c.requires.poisson.count in
+    let inside = c.in_ok-q.ensures.some.inside in
+    (omega arith, (omega arith, (c.requires.valid, (unbounded, (inside, c.requires.total_narrow)))))
+
+pub tail_share-requires : goal.tail_share-requires
+tail_share-requires g c =
+    let r = c.requires in
+    (omega arith, (omega arith, (r.below_one, (r.small, (c.in_ok-q.ensures.some, r.mean)))))
 
 pub returns-clause-holds : goal.returns-clause-holds
 returns-clause-holds g c us i d there here e mean =

@@ -1,5 +1,5 @@
 -- Up to a slash the text so far is the first part; without one it is a decimal or a percent.
-use Rattle.dl_frac.proofs.Common.{◌≡◌, ◌<◌, ◌+◌, true, false, take, drop, sym, subst, refl, list_any, take-append-drop, take_more, is_slash, digit_count, is_bad}
+use Rattle.dl_frac.proofs.Common.{◌≡◌, ◌<◌, ◌+◌, true, false, take, drop, sym, subst, refl, list_any, take-append-drop, take_more, is_slash, digit_count, is_bad, IsReadingOf}
 use Rattle.std.proofs.lemmas.List.{take_all}
 use Rattle.dl_frac.proofs.NumeralLaws.{early_bad, slash_value_at, slash_bad_at, plain_value, plain_bad, front_push, within_limit}
 use Rattle.dl_frac.proofs.numerals.numeral.Goals as goal
@@ -49,3 +49,13 @@ returns-clause-bad c =
     let all : take c.bytes.at text ≡ text = take_all c.bytes.at text c.bytes-test.false in
     let none = rw all at c.bytes.invariant.whole in
     rw (plain_bad c.args.digits text none) (c.decimal.ensures.bad text (rw all at c.bytes.invariant.reads))
+
+pub bytes-preserved : goal.bytes-preserved
+bytes-preserved c =
+    let text = c.args.text.now in
+    let i = c.bytes.at in
+    record {
+      reads = subst (λ t. IsReadingOf c.args.digits t c.in_ok-read.read)
+          (sym (take_more text i 0 c.bytes-test.true)) (c.in_ok-read.ensures.ok (take i text) c.bytes.invariant.reads);
+      whole = front_push text i c.bytes-test.true c.bytes.invariant.whole c.if-byte-eq47.false;
+    }

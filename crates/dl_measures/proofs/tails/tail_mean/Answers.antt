@@ -1,4 +1,4 @@
-use Rattle.dl_measures.proofs.Common.{◌≡◌, ℕ, ◌+◌, ◌-◌, ◌*◌, ◌/◌, ◌^◌, ◌<◌, ◌≤◌, List, None, length, arith, ap, ap₂, subst, div_ceil, pow_pos, ◌over◌, ◌-ℚ◌, lt_not_le, cells_fit, low_at, high_at, spread, low_cdf, IsTight, are_units, IsFirstFound, AtLeast, Loss, One, Cdf, Layer, partial_sums, total, GridEncloses, AreDeclared, Tail}
+use Rattle.dl_measures.proofs.Common.{◌≡◌, ℕ, ◌+◌, ◌-◌, ◌*◌, ◌/◌, ◌^◌, ◌<◌, ◌≤◌, List, None, length, arith, ap, ap₂, refl, subst, div_ceil, pow_pos, ◌over◌, ◌-ℚ◌, lt_not_le, cells_fit, low_at, high_at, spread, low_cdf, IsTight, are_units, IsFirstFound, AtLeast, Loss, One, Cdf, Layer, partial_sums, total, GridEncloses, AreDeclared, Tail}
 use Rattle.dl_measures.proofs.TailLaws.{in_order, near_level, short_of, tail_low, tail_high, tail_narrow, tail_most_units, slack_fits, quotient_fits, rest_above}
 use Rattle.dl_measures.proofs.tails.tail_mean.Goals as goal
 
@@ -28,6 +28,33 @@ add-requires g c =
     let rest = quotient_fits c.layer_mean-excess.result.hi c.args.p.den (c.args.p.den - c.args.p.num)
     (rest_above c.args.p c.requires.below_one) (omega arith) c.requires.small in
     (omega arith, omega arith)
+
+pub overflow_mul-from : goal.overflow_mul-from
+overflow_mul-from g c =
+    let start = ap₂ (λ s t. s * t) c.from-2.ensures c.units_of_one.ensures in
+    omega (
+      arith,
+      start,
+      cells_fit c.args.g.now c.quantile-bracket.result.lo c.cells.ensures.grid
+          c.quantile-bracket.ensures.lo.within,
+    )
+
+pub point-start-requires : goal.point-start-requires
+point-start-requires g c =
+    let start = ap₂ (λ s t. s * t) c.from-2.ensures c.units_of_one.ensures in
+    let cells = cells_fit c.args.g.now c.quantile-bracket.result.lo c.cells.ensures.grid
+    c.quantile-bracket.ensures.lo.within in
+    (omega arith, (omega arith, (omega arith, omega (arith, start, cells))))
+
+pub over_the_rest-requires : goal.over_the_rest-requires
+over_the_rest-requires g c = (omega arith, (c.requires.below_one, (c.requires.small, omega arith)))
+
+pub returns-in_err-hi-clause-none : goal.returns-in_err-hi-clause-none
+returns-in_err-hi-clause-none g c = rw c.from_residual.ensures (
+  λ _. subst (IsFirstFound (low_cdf (2 ^ g.row.B) (low_at c.args.g.now)) c.args.p (length c.args.g.now)) c.in_err-hi.was
+      c.quantile-bracket.ensures.hi,
+  λ _. refl,
+)
 
 pub returns : goal.returns
 returns g c =

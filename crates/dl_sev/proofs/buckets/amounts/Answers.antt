@@ -1,5 +1,5 @@
 -- A value that is near is made; the first that is not ends it.
-use Rattle.dl_sev.proofs.Common.{ℕ, ◌<◌, ◌≤◌, sym, subst, arith, All-push, whole, ◌<ℚ◌, buckets}
+use Rattle.dl_sev.proofs.Common.{ℕ, ◌<◌, ◌≤◌, sym, subst, arith, All-push, whole, ◌<ℚ◌, buckets, ap, map, take_all, ◌∙◌}
 use Rattle.dl_sev.proofs.Whole.{whole_lt, lt_whole, more_amounts, more_before, at_index}
 use Rattle.dl_sev.proofs.buckets.amounts.Goals as goal
 
@@ -36,3 +36,9 @@ values-preserved c = record {
   where
     not_lt : {m n : ℕ} → m < n → n ≤ m → ⊥
     not_lt p q = omega (arith, p, q)
+
+pub returns : goal.returns
+returns c = record {
+  same = c.values.invariant.same ∙ ap (map (buckets c.args.bs)) (take_all c.values.at c.args.values.now c.values-test.false);
+  near = c.values.invariant.near;
+}

@@ -1,6 +1,6 @@
 -- Each step is one value more.
-use Rattle.dl_sev.proofs.Common.{ℕ, ◌≡◌, ◌∙◌, ◌+◌, ◌-◌, ◌*◌, ◌/◌, ◌<◌, ◌≤◌, ◌++◌, length, map, ap, ap₂, sym, arith, List, length-append, range_with_len, length-map-range_with_len, most_values, Fraction, ◌over◌, given_ok, given_value, numerator_over, steps_in, value_at}
-use Rattle.dl_sev.proofs.Ranged.{pos, rising, step_pos, steps_are, value_is, value_fits, values_length, steps_more}
+use Rattle.dl_sev.proofs.Common.{ℕ, ◌≡◌, ◌∙◌, ◌+◌, ◌-◌, ◌*◌, ◌/◌, ◌<◌, ◌≤◌, ◌++◌, length, map, ap, ap₂, sym, arith, List, length-append, range_with_len, length-map-range_with_len, most_values, Fraction, ◌over◌, given_ok, given_value, numerator_over, steps_in, value_at, ◌^◌}
+use Rattle.dl_sev.proofs.Ranged.{pos, rising, step_pos, steps_are, term_fits, value_is, value_fits, values_length, steps_more}
 use Rattle.dl_sev.proofs.expand_list.push_steps.Goals as goal
 
 pub overflow_sub-steps : goal.overflow_sub-steps
@@ -18,6 +18,23 @@ returns-then-steps-len-clause-long c =
     rw steps (rw (c.numerator_over.ensures, c.numerator_over-from.ensures, c.numerator_over-step.ensures) at
     c.if-steps-len.true) in
     omega (arith, count, values_length c.args.range.now, c.len.ensures, c.args.values.now.ok.0, c.requires.room)
+
+pub overflow_add-from : goal.overflow_add-from
+overflow_add-from c = record {
+  fits = term_fits c.args.range.now c.requires.range c.args.den c.requires.den _ _ _ c.steps.k
+      c.numerator_over-from.ensures c.numerator_over-step.ensures c.numerator_over.ensures c.requires.shared
+      c.steps-test.true;
+}
+
+part_fits : (m n : ℕ) → m + n < 2 ^ 128 → n < 2 ^ 128
+part_fits m n h = omega (arith, h)
+
+pub overflow_mul-k : goal.overflow_mul-k
+overflow_mul-k c = record {
+  fits = part_fits c.numerator_over-from.result _ (term_fits c.args.range.now c.requires.range c.args.den c.requires.den
+      _ _ _ c.steps.k c.numerator_over-from.ensures c.numerator_over-step.ensures c.numerator_over.ensures
+      c.requires.shared c.steps-test.true);
+}
 
 pub make-requires : goal.make-requires
 make-requires c = pos c.args.range.now c.requires.range c.args.den c.requires.den

@@ -1,5 +1,5 @@
 -- One item more is mapped.
-use Rattle.dl_sev.proofs.Common.{ℕ, ◌≡◌, ◌∙◌, ◌+◌, ◌<◌, List, length, get_or, ap, sym, subst, arith, inl, inr, get_or_default, cases_lt, Fraction, whole, Item, IsWhole, Clause, kept, whole_den}
+use Rattle.dl_sev.proofs.Common.{ℕ, ◌≡◌, ◌∙◌, ◌+◌, ◌<◌, List, length, get_or, ap, sym, subst, arith, inl, inr, get_or_default, cases_lt, Fraction, whole, Item, IsWhole, Clause, kept, whole_den, map, take_all, with_amount}
 use Rattle.dl_sev.proofs.Mapped.{ceded_more}
 use Rattle.dl_sev.proofs.layers.items_ceded.Goals as goal
 
@@ -23,3 +23,16 @@ items-preserved c = record {
   whole = whole_more c.args.cede.now c.args.items.now c.items.item-index c.in-Some.amount _ c.items-test.true
       c.items.invariant.whole c.in-Some.ensures.value;
 }
+
+pub returns-in_default-clause-step : goal.returns-in_default-clause-step
+returns-in_default-clause-step c =
+    let none : Item = record { amount = 0; weight = 0 } in
+    let items = c.args.items.now in
+    let i = c.items.item-index in
+    let here = get_or items i none in
+    (i, here, c.items-test.true, sym (get_or_default items i none here c.items-test.true), c.in_default.ensures.value)
+
+pub returns-clause-step : goal.returns-clause-step
+returns-clause-step c =
+    c.items.invariant.made ∙ ap (map (with_amount (λ x. (kept c.args.cede.now x).num)))
+    (take_all c.items.item-index c.args.items.now c.items-test.false)

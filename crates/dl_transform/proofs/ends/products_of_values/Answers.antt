@@ -1,13 +1,7 @@
-use Rattle.dl_transform.proofs.Common.{ℕ, ◌≡◌, ◌*◌, ◌∙◌, List}
-use Rattle.dl_transform.specs.Lists.{AreBelow, AreValuesFor}
-use Rattle.dl_transform.specs.declared.tables.Table.{Table}
-use Rattle.dl_transform.proofs.Products.{values_at}
+use Rattle.dl_transform.proofs.Common.{◌∙◌}
+use Rattle.dl_transform.proofs.Products.{small_at, values_at}
 use Rattle.dl_transform.proofs.Wholes.{table_for}
 use Rattle.dl_transform.proofs.ends.products_of_values.Goals as goal
-
--- values that were copied stay small
-small_at : {t : Table} {l : ℕ} {a x : List ℕ} (y : List ℕ) → AreValuesFor t l a x → y ≡ x → AreBelow (4 * t.p) y
-small_at _ known same = rw same known.small
 
 pub ends_of_values-requires-clause-table : goal.ends_of_values-requires-clause-table
 ends_of_values-requires-clause-table c =
@@ -19,23 +13,23 @@ product_from_values-requires-clause-table c =
 
 pub ends_of_values-requires-clause-first_small : goal.ends_of_values-requires-clause-first_small
 ends_of_values-requires-clause-first_small c =
-    small_at _ c.requires.values.first.lows (c.copy_from_slice.ensures.after ∙ c.deref.ensures.value)
+    small_at c.requires.values.first.lows (c.copy_from_slice.ensures.after ∙ c.deref.ensures.value)
 
 pub ends_of_values-requires-clause-second_small : goal.ends_of_values-requires-clause-second_small
-ends_of_values-requires-clause-second_small c = small_at _ c.requires.values.second.lows c.deref-3.ensures.value
+ends_of_values-requires-clause-second_small c = small_at c.requires.values.second.lows c.deref-3.ensures.value
 
 pub ends_of_values-requires-clause-widths_small : goal.ends_of_values-requires-clause-widths_small
 ends_of_values-requires-clause-widths_small c =
-    small_at _ c.requires.values.first.widths (c.copy_from_slice-2.ensures.after ∙ c.deref-2.ensures.value)
+    small_at c.requires.values.first.widths (c.copy_from_slice-2.ensures.after ∙ c.deref-2.ensures.value)
 
 pub ends_of_values-requires-clause-second_widths_small : goal.ends_of_values-requires-clause-second_widths_small
-ends_of_values-requires-clause-second_widths_small c = small_at _ c.requires.values.second.widths c.deref-4.ensures.value
+ends_of_values-requires-clause-second_widths_small c = small_at c.requires.values.second.widths c.deref-4.ensures.value
 
 pub product_from_values-requires-clause-first_small : goal.product_from_values-requires-clause-first_small
-product_from_values-requires-clause-first_small c = small_at _ c.requires.values.first.second_lows c.deref-5.ensures.value
+product_from_values-requires-clause-first_small c = small_at c.requires.values.first.second_lows c.deref-5.ensures.value
 
 pub product_from_values-requires-clause-second_small : goal.product_from_values-requires-clause-second_small
-product_from_values-requires-clause-second_small c = small_at _ c.requires.values.second.second_lows c.deref-6.ensures.value
+product_from_values-requires-clause-second_small c = small_at c.requires.values.second.second_lows c.deref-6.ensures.value
 
 pub returns-clause-first : goal.returns-clause-first
 returns-clause-first c =

@@ -1,35 +1,14 @@
-use Rattle.dl_transform.proofs.Common.{◌^◌, ◌<◌, ◌∙◌, arith, length-take-le, refl}
-use Rattle.dl_transform.proofs.Products.{values_at}
-use Rattle.dl_transform.proofs.Wholes.{table_for}
+use Rattle.dl_transform.proofs.Common.{◌≡◌, ◌^◌, ◌<◌, ◌∙◌, List, ℕ, ap, arith, length, refl, sym}
+use Rattle.dl_transform.specs.Lists.{AreValuesFor}
+use Rattle.dl_transform.specs.declared.tables.Table.{Table}
+use Rattle.dl_transform.proofs.Products.{small_at, values_at}
+use Rattle.dl_transform.proofs.Wholes.{front, front_room, table_for}
 use Rattle.dl_transform.proofs.list_values.product_of_lists.Goals as goal
 
-pub product_from_values-requires-clause-table : goal.product_from_values-requires-clause-table
-product_from_values-requires-clause-table c =
-    table_for c.requires.first.levels c.requires.setup.first c.requires.setup.in_first c.requires.setup.first_room
-
-pub product_from_values-requires-2-clause-table : goal.product_from_values-requires-2-clause-table
-product_from_values-requires-2-clause-table c =
-    table_for c.requires.first.levels c.requires.setup.second c.requires.setup.in_second c.requires.setup.second_room
-
-pub product_from_values-requires-clause-size : goal.product_from_values-requires-clause-size
-product_from_values-requires-clause-size c =
-    length-take-le _ _ (rw c.as_mut_slice.ensures.value c.in_ok-make_room.ensures.first) ∙ c.cells_of-size.ensures
-
-pub product_from_values-requires-2-clause-size : goal.product_from_values-requires-2-clause-size
-product_from_values-requires-2-clause-size c =
-    length-take-le _ _ (rw c.as_mut_slice-2.ensures.value c.in_ok-make_room.ensures.second) ∙ c.cells_of-size.ensures
-
-pub product_from_values-requires-clause-first_small : goal.product_from_values-requires-clause-first_small
-product_from_values-requires-clause-first_small c = rw c.deref.ensures.value c.requires.first.first.small
-
-pub product_from_values-requires-clause-second_small : goal.product_from_values-requires-clause-second_small
-product_from_values-requires-clause-second_small c = rw c.deref-2.ensures.value c.requires.second.first.small
-
-pub product_from_values-requires-2-clause-first_small : goal.product_from_values-requires-2-clause-first_small
-product_from_values-requires-2-clause-first_small c = rw c.deref-3.ensures.value c.requires.first.second.small
-
-pub product_from_values-requires-2-clause-second_small : goal.product_from_values-requires-2-clause-second_small
-product_from_values-requires-2-clause-second_small c = rw c.deref-4.ensures.value c.requires.second.second.small
+-- a list of values that was lent is as long as a buffer of 2^l items
+lent_alike : {t : Table} {l m : ℕ} {a x v : List ℕ} (out : List ℕ) → AreValuesFor t l a v → x ≡ v → l ≡ m → length out ≡ 2 ^ m
+    → length x ≡ length out
+lent_alike out known same levels room = ap length same ∙ known.size ∙ rw levels (sym room)
 
 pub returns : goal.returns
 returns c s b =
@@ -41,3 +20,45 @@ returns c s b =
     (c.product_from_values-2.ensures.same c.args.a.items.now c.args.b.items.now c.requires.room
     (values_at c.requires.first.second refl c.deref-3.ensures.value)
     (values_at c.requires.second.second c.requires.alike c.deref-4.ensures.value) s inside)
+
+pub slice_bounds-first-end : goal.slice_bounds-first-end
+slice_bounds-first-end c = sym (front _ _ _ c.as_mut_slice.ensures.value c.in_ok-make_room.ensures.first)
+
+pub slice_bounds-second-end : goal.slice_bounds-second-end
+slice_bounds-second-end c = sym (front _ _ _ c.as_mut_slice-2.ensures.value c.in_ok-make_room.ensures.second)
+
+pub product_from_values-requires : goal.product_from_values-requires
+product_from_values-requires c =
+    let size = front _ _ _ c.as_mut_slice.ensures.value c.in_ok-make_room.ensures.first ∙ c.cells_of-size.ensures in
+    let setup = c.requires.setup in
+    record {
+      table = table_for c.requires.first.levels setup.first setup.in_first setup.first_room;
+      size = size;
+      first_alike = lent_alike _ c.requires.first.first c.deref.ensures.value refl size;
+      second_alike = lent_alike _ c.requires.second.first c.deref-2.ensures.value c.requires.alike size;
+      first_small = small_at c.requires.first.first c.deref.ensures.value;
+      second_small = small_at c.requires.second.first c.deref-2.ensures.value;
+    }
+
+pub product_from_values-requires-2 : goal.product_from_values-requires-2
+product_from_values-requires-2 c =
+    let size = front _ _ _ c.as_mut_slice-2.ensures.value c.in_ok-make_room.ensures.second ∙ c.cells_of-size.ensures in
+    let setup = c.requires.setup in
+    record {
+      table = table_for c.requires.first.levels setup.second setup.in_second setup.second_room;
+      size = size;
+      first_alike = lent_alike _ c.requires.first.second c.deref-3.ensures.value refl size;
+      second_alike = lent_alike _ c.requires.second.second c.deref-4.ensures.value c.requires.alike size;
+      first_small = small_at c.requires.first.second c.deref-3.ensures.value;
+      second_small = small_at c.requires.second.second c.deref-4.ensures.value;
+    }
+
+pub combine_all-requires : goal.combine_all-requires
+combine_all-requires c = record {
+  setup = c.requires.setup;
+  in_first = front_room _ _ _ _ _ _ c.product_from_values.auto.out c.as_mut_slice.ensures.value
+      c.in_ok-make_room.ensures.first c.cells_of-size.ensures (omega (arith, c.requires.within, c.requires.room));
+  in_second = front_room _ _ _ _ _ _ c.product_from_values-2.auto.out c.as_mut_slice-2.ensures.value
+      c.in_ok-make_room.ensures.second c.cells_of-size.ensures (omega (arith, c.requires.within, c.requires.room));
+  levels = c.requires.first.levels;
+}

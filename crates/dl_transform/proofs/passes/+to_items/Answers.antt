@@ -1,5 +1,5 @@
 use Rattle.dl_transform.proofs.Common.{◌+◌, ◌*◌, ◌^◌, arith, get_or, point, refl}
-use Rattle.dl_transform.proofs.Parts.{items_leaf}
+use Rattle.dl_transform.proofs.Parts.{items_leaf, join_small}
 use Rattle.dl_transform.proofs.AfterSteps.{items_after, part_inside, split_part}
 use Rattle.dl_transform.proofs.passes.+to_items.Goals as goal
 
@@ -42,3 +42,9 @@ returns-clause-items t c =
     c.inverse-w.result.0 c.to_items.new.x c.to_items-2.new.x c.join_all.new.low c.join_all.new.high
     c.inverse-w.ensures.value c.to_items.ensures.items c.to_items-2.ensures.items (omega (arith, parts.first.size))
     (omega (arith, parts.first.size)) c.join_all.ensures.low c.join_all.ensures.high
+
+pub returns-then-levels-eq2-clause-items : goal.returns-then-levels-eq2-clause-items
+returns-then-levels-eq2-clause-items t c = rw c.if-levels-eq2.true c.to_items_4.ensures.items
+
+pub returns-clause-small : goal.returns-clause-small
+returns-clause-small t c = join_small _ _ _ c.join_all.ensures.low_small c.join_all.ensures.high_small

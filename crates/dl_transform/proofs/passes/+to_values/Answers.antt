@@ -1,5 +1,5 @@
 use Rattle.dl_transform.proofs.Common.{◌+◌, ◌*◌, ◌^◌, arith, get_or, point, refl}
-use Rattle.dl_transform.proofs.Parts.{values_leaf}
+use Rattle.dl_transform.proofs.Parts.{join_small, values_leaf}
 use Rattle.dl_transform.proofs.AfterSteps.{changed_part, halves_of, part_inside, split_part, values_after}
 use Rattle.dl_transform.proofs.passes.+to_values.Goals as goal
 
@@ -37,3 +37,9 @@ returns-clause-values t c =
     c.root-w.result.0 c.part_all.new.low c.part_all.new.high c.to_values.new.x c.to_values-2.new.x
     c.root-w.ensures.value c.part_all.ensures.low c.part_all.ensures.high (omega (arith, parts.first.size))
     c.to_values.ensures.values c.to_values-2.ensures.values
+
+pub returns-then-levels-eq2-clause-values : goal.returns-then-levels-eq2-clause-values
+returns-then-levels-eq2-clause-values t c = rw c.if-levels-eq2.true c.to_values_4.ensures.values
+
+pub returns-clause-small : goal.returns-clause-small
+returns-clause-small t c = join_small _ _ _ c.to_values.ensures.small c.to_values-2.ensures.small

@@ -1,4 +1,5 @@
-use Rattle.dl_zero.proofs.Common.{arith, low_changed, high_changed}
+use Rattle.dl_zero.proofs.Common.{length, ap, arith, low_changed, high_changed}
+use Rattle.dl_grid.proofs.EndLists.{low_ends_long}
 use Rattle.dl_zero.proofs.Cells.{none_made, one_more, changed_ends, made_ends, changed_spread_within}
 use Rattle.dl_zero.proofs.grid.changed_cells.Goals as goal
 
@@ -11,6 +12,15 @@ loop-y-preserved g c = record {
   low = one_more c.loop-y.invariant.low c.in_ok-push.ensures.items (cc);
   high = one_more c.loop-y.invariant.high c.in_ok-push-2.ensures.items (cc);
 }
+
+pub returns-clause-cells : goal.returns-clause-cells
+returns-clause-cells g c = omega (
+  arith,
+  low_ends_long c.from_ends.result,
+  ap length c.from_ends.ensures.low,
+  c.loop-y.invariant.low.long,
+  c.cells-cells.ensures.count,
+)
 
 pub from_ends-requires : goal.from_ends-requires
 from_ends-requires g c = (

@@ -1,7 +1,21 @@
-use Rattle.dl_iv.proofs.Common.{arith, mul-le-mul_right, pow_pos}
+use Rattle.dl_iv.proofs.Common.{arith, le_trans, mul-le-mul_right, pow_pos}
+use Rattle.dl_iv.proofs.Conditions.{rest_fits}
 use Rattle.dl_iv.proofs.Rounding.{floor_le_ceiling}
 use Rattle.dl_iv.proofs.Operations.{div_low, div_high, above_zero}
 use Rattle.dl_iv.proofs.interval.Iv.div.Goals as goal
+
+pub rounded_by_parts-lo-requires : goal.rounded_by_parts-lo-requires
+rounded_by_parts-lo-requires g c = rw c.units_of_one.ensures record {
+  low_positive = omega (arith, c.requires.positive, c.args.o.ordered);
+  high_positive = c.requires.positive;
+  low_rest = rest_fits _ _ _ _ _ _ (omega (arith, c.requires.positive, c.args.o.ordered)) (omega arith)
+      c.args.self.ordered c.requires.rest;
+  high_rest = rest_fits _ _ _ _ _ _ c.requires.positive c.args.o.ordered (omega arith) c.requires.rest;
+  low_fits = le_trans
+      (floor_le_ceiling _ _ _ _ c.requires.positive c.args.o.ordered (mul-le-mul_right _ c.args.self.ordered))
+      c.requires.fits;
+  high_fits = c.requires.fits;
+}
 
 pub invariant_of-result-clause-ordered : goal.invariant_of-result-clause-ordered
 invariant_of-result-clause-ordered g c =

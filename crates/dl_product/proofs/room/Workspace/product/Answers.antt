@@ -25,3 +25,9 @@ checked_product-requires-clause-second c = words _ (second_word c.requires.facto
 
 pub returns : goal.returns
 returns c = c.checked_product.ensures.each
+
+pub checked_square-requires-clause-setup : goal.checked_square-requires-clause-setup
+checked_square-requires-clause-setup c = c.in-Some.tables.right
+
+pub checked_product-requires-clause-setup : goal.checked_product-requires-clause-setup
+checked_product-requires-clause-setup c = c.in-Some.tables.right

@@ -1,5 +1,6 @@
-use Rattle.dl_zero.proofs.Common.{◌≡◌, ◌*◌, ◌/◌, ◌^◌, arith, div_ceil}
-use Rattle.dl_zero.proofs.Rounded.{parts_order}
+use Rattle.dl_zero.proofs.Common.{◌≡◌, ◌*◌, ◌/◌, ◌^◌, arith, div_ceil, part_within}
+use Rattle.dl_grid.proofs.CellLaws.{one_fits}
+use Rattle.dl_zero.proofs.Rounded.{parts_order, cell_fits}
 use Rattle.dl_grid.proofs.CellSets.{at_zero_small}
 use Rattle.dl_zero.proofs.change.Change.cell.Goals as goal
 
@@ -17,3 +18,31 @@ invariant_of-part-clause-ordered g c =
 
 pub add-requires : goal.add-requires
 add-requires g c = (omega arith, omega (arith, at_zero_small c.args.self.at_0.hi c.args.y))
+
+pub floor-requires : goal.floor-requires
+floor-requires g c =
+    let low = c.args.self.low in
+    cell_fits c.sub_floor0-left.result.lo low.times low.by low.positive (omega arith)
+    (omega (arith, one_fits g.row.B c.args.cell.scale_below)) (omega arith)
+
+pub ceil-requires : goal.ceil-requires
+ceil-requires g c =
+    let high = c.args.self.high in
+    cell_fits c.sub_floor0-left.result.hi high.times high.by high.positive (omega arith)
+    (omega (arith, one_fits g.row.B c.args.cell.scale_below)) (omega arith)
+
+pub floor-lo-requires : goal.floor-lo-requires
+floor-lo-requires g c =
+    let claims = c.args.self.claims in
+    omega (arith, part_within c.floor.result claims.times claims.by claims.positive c.args.self.part)
+
+pub ceil-hi-requires : goal.ceil-hi-requires
+ceil-hi-requires g c =
+    let claims = c.args.self.claims in
+    omega (arith, part_within c.ceil.result claims.times claims.by claims.positive c.args.self.part)
+
+pub returns-clause-low : goal.returns-clause-low
+returns-clause-low g c = cc
+
+pub returns-clause-high : goal.returns-clause-high
+returns-clause-high g c = cc
