@@ -1,6 +1,4 @@
 -- What was read is spelled, and is read in the same way where what is left begins alike.
-use Rattle.std.proofs.lemmas.Bool.Decides.{nat_tests}
-use Rattle.std.proofs.lemmas.Grind.{common_steps}
 use Rattle.dl_parser.proofs.Common.{◌≡◌, ℕ, zero, suc, ◌≤◌, ◌<◌, Bool, true, false, cond, ◌&&◌, ◌||◌, ◌⊎◌, List, [], ◌∷◌, ◌++◌, length, Some, None, refl, sym, ap, ◌∙◌, subst, inl, inr, arith, append_assoc, length-append, Kind, Lexeme, Rule, one, ◌▸◌, ◌or◌, maybe, many, unless, made, node, Each, Spells, end_of, span_of, State, Outcome, got, stuck, ◌>>=◌, same_kind, among, begins, start_of, is_empty, first, watched, two_at, enters, is_settled, one_at, repeat, read, is_plain, and_parts}
 use Rattle.dl_parser.specs.Reading.{settles}
 use Rattle.dl_parser.proofs.Sets.{same_is, same_self}
@@ -18,9 +16,13 @@ alike_left js ks us vs h k m = h k (among_left k js ks m)
 pub alike_right : (js ks : List Kind) (us vs : List Lexeme) → Alike (js ++ ks) us vs → Alike ks us vs
 alike_right js ks us vs h k m = h k (among_right k js ks m)
 
+or_none : (b c : Bool) → (b || c) ≡ ((b || false) || c)
+or_none true c = refl
+or_none false c = refl
+
 begins_cons : (k : Kind) (ks : List Kind) (us : List Lexeme) → begins (k ∷ ks) us ≡ (begins (k ∷ []) us || begins ks us)
 begins_cons k ks [] = refl
-begins_cons k ks (u ∷ us) = grind (arith, nat_tests, common_steps)
+begins_cons k ks (u ∷ us) = or_none (same_kind u.kind k) (among u.kind ks)
 
 alike_begins : (ks : List Kind) (us vs : List Lexeme) → Alike ks us vs → begins ks us ≡ begins ks vs
 alike_begins [] [] [] h = refl

@@ -41,7 +41,7 @@ pub(crate) trait Part: Sized + Drop {
 
 impl<'a> Parser<'a> {
     /// The first one, and all that follow it.
-    #[tactic(auto, using(crate::proofs::Loops::loop_starts, crate::proofs::Loops::loop_ends, crate::proofs::Steps::fewer_tokens))]
+    #[tactic(auto, using(crate::proofs::Loops::loop_starts, crate::proofs::Loops::loop_ends))]
     pub(crate) fn parts<T: Part>(&mut self) -> Result<Items<T>, Stop>
         ensures source { self.new.source ≡ self.old.source }
         ensures reads { ReadsBy (some_of T.first_rule T.next_rule) self.old self.new result }
