@@ -114,7 +114,8 @@ fn take_step(
     Ok(true)
 }
 
-/// Takes in all steps of the text, where all pass; else tells the first bad one.
+/// Reads the steps of a text in order and keeps each that passes, or gives `BadStep` with the number
+/// of the first that does not.
 fn take_steps(
     alloc: Global,
     work: &mut Workspace,

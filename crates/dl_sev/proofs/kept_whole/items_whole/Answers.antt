@@ -5,7 +5,7 @@ use Rattle.std.specs.Option.{IsSome, MatchOption}
 use Rattle.dl_sev.proofs.Common.{ℕ, ap, map, take_all, ◌∙◌, with_amount, kept}
 use Rattle.dl_sev.proofs.kept_whole.items_whole.Goals as goal
 
--- what is there where a property holds, where its absence tells that the property fails
+-- none means that P fails, so where P holds the result is some
 there : (P : Type 0) (Q : ℕ → Type 0) (o : Option ℕ) → MatchOption o (¬ P) Q → P → IsSome o
 there _ _ None absent holds = absurd (absent holds)
 there _ _ (Some _) _ _ = search rules
