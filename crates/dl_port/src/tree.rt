@@ -355,7 +355,8 @@ fn outside_all<const B: u32>(
     none_but_last(alloc, units.len() + nodes.len() - 1, none)
 }
 
-/// The nodes and what stands outside them are let go from the last one down.
+/// Takes off all nodes, the last one first: `outer` becomes for each unit none or the sum of all
+/// other units, which is there where the unit is asked for.
 fn all_down<const B: u32>(
     alloc: Global,
     work: &mut Workspace,

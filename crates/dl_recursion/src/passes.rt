@@ -45,8 +45,8 @@ fn coming_in(last: u64, cells: &[u64], s: usize, amount: usize) -> u64
     cell_before(cells, s, amount)
 }
 
-/// The sum of the cells that lie an amount of the run before cell `s`, from that of cell `s - 1`,
-/// which is `last`: one cell comes in, and one goes out.
+/// The sum of the cells that lie an amount of the run before cell `s`, from `sum`, that of cell
+/// `s - 1`: one cell comes in, and one goes out. `last` is cell `s - 1` itself.
 fn slid(sum: u64, last: u64, run: Run, cells: &[u64], s: usize) -> u64
     requires some { 0 < s }
     requires within { s ≤ length cells.now }
