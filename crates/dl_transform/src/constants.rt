@@ -95,24 +95,14 @@ fn quotients(alloc: Global, p: u64, factors: &[u64]) -> Result<Vec<u64>, AllocEr
     Ok(all)
 }
 
-/// The product of `x` and a factor modulo `p`, and 0 where the quotient is not right.
-fn stepped(x: u64, w: Factor, p: u64) -> u64
-    requires modulus { IsModulus p }
-{
-    if is_factor(p, w.value, w.quotient) {
-        return lowered(times(x, w.value, w.quotient, p), p);
-    }
-    0
-}
-
-/// A number and its repeated squares, one for each level.
-fn squares(alloc: Global, p: u64, first: u64, levels: u32) -> Result<Vec<Factor>, AllocError>
+/// A number and its repeated squares, `count` in all.
+fn squares(alloc: Global, p: u64, first: u64, count: u32) -> Result<Vec<Factor>, AllocError>
     requires modulus { IsModulus p }
 {
     let more = excess(p);
     let mut value = first;
-    let mut all = Vec::with_capacity(alloc, levels as usize)?;
-    for _ in 0..levels {
+    let mut all = Vec::with_capacity(alloc, count as usize)?;
+    for _ in 0..count {
         all.push(Factor {
             value,
             quotient: quotient(value, more, p),
@@ -122,24 +112,55 @@ fn squares(alloc: Global, p: u64, first: u64, levels: u32) -> Result<Vec<Factor>
     Ok(all)
 }
 
-/// The number at each of `count` places, where a step goes with each bit of the place, the lowest
-/// bit's last.
-fn at_indices(alloc: Global, p: u64, steps: &[Factor], count: usize) -> Result<Vec<u64>, AllocError>
+/// Appends to these numbers each of them times a step modulo `p`, in the same order; nothing where the
+/// quotient of the step is not right.
+fn append_times(all: &mut Vec<u64>, step: Factor, p: u64) -> Result<(), AllocError>
     requires modulus { IsModulus p }
 {
-    let mut all = Vec::with_capacity(alloc, count)?;
-    for k in 0..count {
-        let mut next = 1;
-        if k > 0 {
-            let bit = k.trailing_zeros() as usize;
-            if bit < steps.len() {
-                let step = steps[steps.len() - 1 - bit];
-                next = stepped(read(all.as_slice(), k & (k - 1)), step, p);
-            }
-        }
-        all.push(next)?;
+    if !is_factor(p, step.value, step.quotient) {
+        return Ok(());
+    }
+    for k in 0..all.len() {
+        let x = read(all.as_slice(), k);
+        all.push(lowered(times(x, step.value, step.quotient, p), p))?;
+    }
+    Ok(())
+}
+
+/// The root at each node for up to `levels` levels: a step goes with each bit of the number of the
+/// node. That of the lowest bit is a square root of -1, and each is the square of the next.
+fn roots(alloc: Global, p: u64, levels: u32) -> Result<Vec<u64>, AllocError>
+    requires modulus { IsModulus p }
+    requires few { levels < 40 }
+{
+    let last = power(NO_SQUARE, (p - 1) >> levels, p);
+    let steps = squares(alloc, p, last, levels.saturating_sub(1))?;
+    let mut all = Vec::with_capacity(alloc, (1usize << levels) / 2)?;
+    all.push(1)?;
+    for k in 1..=steps.len() {
+        append_times(&mut all, steps[steps.len() - k], p)?;
     }
     Ok(all)
+}
+
+/// The inverses of the roots, and their quotients. Of a root after the first that is what the root at
+/// a node lacks of `p`: the number of this node has the same highest bit, and no other bit alike.
+fn inverses(
+    alloc: Global,
+    p: u64,
+    roots: &[u64],
+    quotients: &[u64],
+) -> Result<(Vec<u64>, Vec<u64>), AllocError> {
+    let mut all = Vec::with_capacity(alloc, roots.len())?;
+    let mut all_quotients = Vec::with_capacity(alloc, roots.len())?;
+    all.push(1)?;
+    all_quotients.push(read(quotients, 0))?;
+    for k in 1..roots.len() {
+        let node = k ^ ((1 << k.ilog2()) - 1);
+        all.push(p.saturating_sub(read(roots, node)))?;
+        all_quotients.push(u64::MAX - read(quotients, node))?;
+    }
+    Ok((all, all_quotients))
 }
 
 /// For each number of levels, the inverse of the product of `2^levels` and the unit: the first is
@@ -158,34 +179,14 @@ fn scales(alloc: Global, p: u64, lift: u64, levels: u32) -> Result<(Vec<u64>, Ve
     Ok((all, quotients))
 }
 
-/// The numbers at `count` places, where the steps are a number and its repeated squares, and the
-/// quotients of these numbers.
-fn nodes(
-    alloc: Global,
-    p: u64,
-    first: u64,
-    levels: u32,
-    count: usize,
-) -> Result<(Vec<u64>, Vec<u64>), AllocError>
-    requires modulus { IsModulus p }
-{
-    let steps = squares(alloc, p, first, levels)?;
-    let numbers = at_indices(alloc, p, steps.as_slice(), count)?;
-    let quotients = quotients(alloc, p, numbers.as_slice())?;
-    Ok((numbers, quotients))
-}
-
 /// The constants for up to `levels` levels, which `is_setup` checks.
 fn table(alloc: Global, p: u64, levels: u32) -> Result<Table, AllocError>
     requires modulus { IsModulus p }
     requires few { levels < 40 }
 {
-    let part = (p - 1) >> (levels + 1);
-    let most = 1usize << levels;
-    let count = most - most / 2;
-    let (roots, quotients) = nodes(alloc, p, power(NO_SQUARE, part, p), levels, count)?;
-    let back = power(NO_SQUARE, (p - 1).saturating_sub(part), p);
-    let (inverses, inverse_quotients) = nodes(alloc, p, back, levels, count)?;
+    let roots = roots(alloc, p, levels)?;
+    let quotients = quotients(alloc, p, roots.as_slice())?;
+    let (inverses, inverse_quotients) = inverses(alloc, p, roots.as_slice(), quotients.as_slice())?;
     let lift = multiplied(4294967296, 4294967296, p);
     let (scales, scale_quotients) = scales(alloc, p, lift, levels)?;
     Ok(Table {

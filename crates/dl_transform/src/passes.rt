@@ -76,14 +76,29 @@ fn to_values_4(x: &mut [u64], node: usize, table: &Table)
     to_values_2(high, child + 1, table);
 }
 
+/// The values of 8 items at the lowest nodes below a node.
+#[inline(always)]
+fn to_values_8(x: &mut [u64], node: usize, table: &Table)
+    requires { IsPart table.now 8 node (4 * table.now.p) x.old }
+    ensures small { AreBelow (4 * table.now.p) x.new }
+    ensures values { AreValuesBelow table.now 8 node (λ i. slice_index x.old i) x.new }
+{
+    let (w, q) = table.root(node);
+    let (low, high) = x.split_at_mut(4);
+    part_all(low, high, w, q, table.p);
+    let child = 2 * node;
+    to_values_4(low, child, table);
+    to_values_4(high, child + 1, table);
+}
+
 /// The values of the polynomial `x` at the lowest nodes below `node`, `levels` levels down.
 pub(crate) fn to_values(x: &mut [u64], node: usize, table: &Table, levels: u32)
     requires { IsPart table.now (2 ^ levels) node (4 * table.now.p) x.old }
     ensures small { AreBelow (4 * table.now.p) x.new }
     ensures values { AreValuesBelow table.now (2 ^ levels) node (λ i. slice_index x.old i) x.new }
 {
-    if levels == 2 {
-        to_values_4(x, node, table);
+    if levels == 3 {
+        to_values_8(x, node, table);
         return;
     }
     if levels == 0 {
@@ -126,14 +141,29 @@ fn to_items_4(x: &mut [u64], node: usize, table: &Table)
     join_all(low, high, w, q, table.p);
 }
 
+/// The 8 items with these values at the lowest nodes below a node, times 8.
+#[inline(always)]
+fn to_items_8(x: &mut [u64], node: usize, table: &Table)
+    requires { IsPart table.now 8 node (2 * table.now.p) x.old }
+    ensures small { AreBelow (2 * table.now.p) x.new }
+    ensures items { AreItemsBelow table.now 8 node x.old x.new }
+{
+    let (low, high) = x.split_at_mut(4);
+    let child = 2 * node;
+    to_items_4(low, child, table);
+    to_items_4(high, child + 1, table);
+    let (w, q) = table.inverse(node);
+    join_all(low, high, w, q, table.p);
+}
+
 /// The polynomial with these values at the lowest nodes below a node, `2^levels` times.
 pub(crate) fn to_items(x: &mut [u64], node: usize, table: &Table, levels: u32)
     requires { IsPart table.now (2 ^ levels) node (2 * table.now.p) x.old }
     ensures small { AreBelow (2 * table.now.p) x.new }
     ensures items { AreItemsBelow table.now (2 ^ levels) node x.old x.new }
 {
-    if levels == 2 {
-        to_items_4(x, node, table);
+    if levels == 3 {
+        to_items_8(x, node, table);
         return;
     }
     if levels == 0 {

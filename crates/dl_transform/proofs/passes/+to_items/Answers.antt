@@ -43,8 +43,8 @@ returns-clause-items t c =
     c.inverse-w.ensures.value c.to_items.ensures.items c.to_items-2.ensures.items (omega (arith, parts.first.size))
     (omega (arith, parts.first.size)) c.join_all.ensures.low c.join_all.ensures.high
 
-pub returns-then-levels-eq2-clause-items : goal.returns-then-levels-eq2-clause-items
-returns-then-levels-eq2-clause-items t c = rw c.if-levels-eq2.true c.to_items_4.ensures.items
+pub returns-then-levels-eq3-clause-items : goal.returns-then-levels-eq3-clause-items
+returns-then-levels-eq3-clause-items t c = rw c.if-levels-eq3.true c.to_items_8.ensures.items
 
 pub returns-clause-small : goal.returns-clause-small
 returns-clause-small t c = join_small _ _ _ c.join_all.ensures.low_small c.join_all.ensures.high_small

@@ -38,8 +38,8 @@ returns-clause-values t c =
     c.root-w.ensures.value c.part_all.ensures.low c.part_all.ensures.high (omega (arith, parts.first.size))
     c.to_values.ensures.values c.to_values-2.ensures.values
 
-pub returns-then-levels-eq2-clause-values : goal.returns-then-levels-eq2-clause-values
-returns-then-levels-eq2-clause-values t c = rw c.if-levels-eq2.true c.to_values_4.ensures.values
+pub returns-then-levels-eq3-clause-values : goal.returns-then-levels-eq3-clause-values
+returns-then-levels-eq3-clause-values t c = rw c.if-levels-eq3.true c.to_values_8.ensures.values
 
 pub returns-clause-small : goal.returns-clause-small
 returns-clause-small t c = join_small _ _ _ c.to_values.ensures.small c.to_values-2.ensures.small
