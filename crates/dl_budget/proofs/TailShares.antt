@@ -1,5 +1,9 @@
 -- The budget of a share of a tail mean by whole numbers.
-use Rattle.dl_budget.proofs.Common.{ℕ, ◌≡◌, ◌+◌, ◌-◌, ◌*◌, ◌^◌, ◌<◌, ◌≤◌, arith, ap, ap₂, sym, ◌∙◌, List, length, get_or, div_ceil, mul-le-mul, Fraction, whole, ◌over◌, div_ceil_least, mul-le-mul_left, up, up_quotient, unit_mean_budget, map, get_or-map, num_below, ◌<ℚ◌, UnitOfPlan}
+use Rattle.dl_budget.proofs.Common.{ℕ, ◌≡◌, ◌+◌, ◌-◌, ◌*◌, ◌^◌, ◌<◌, ◌≤◌, arith, ap, ap₂, sym, ◌∙◌, List, length, get_or, div_ceil, mul-le-mul, Fraction, whole, ◌over◌, div_ceil_least, mul-le-mul_left, up, up_quotient, unit_mean_budget, map, get_or-map, num_below, ◌<ℚ◌, UnitOfPlan, Plan, IsValid}
+use Rattle.dl_budget.proofs.Horizons.{few_cells}
+use Rattle.dl_budget.specs.Once.{AreBudgetsOf, AreUnitBudgets}
+use Rattle.dl_budget.specs.declared.once.Budgets.{Budgets}
+use Rattle.dl_budget.specs.declared.once.UnitBudgets.{UnitBudgets}
 
 -- the mean's budget of a unit which was read there
 pub mean_here : (S cells : ℕ) (us : List UnitOfPlan) (i b : ℕ) (u : UnitOfPlan) → i < length us → u ≡ get_or us i u
@@ -40,3 +44,11 @@ share_value M J T K cells x j y k b d n p of_mean of_joint of_total of_kappa of_
     let rest : 0 < p.den - p.num = omega (arith, num_below p below) in
     ap (λ t. t + 4) (ap₂ div_ceil top (ap₂ (λ s t. s - t) of_d of_n)
     ∙ sym (up_quotient ((M + J + 2 * cells + cells * (T + 2) + K + 4) * p.den) (p.den - p.num) rest))
+
+-- those of a unit of a valid plan
+pub share_room : (S : ℕ) (plan : Plan) (budgets : Budgets) (of : UnitBudgets) (kappa b d : ℕ) → IsValid plan
+    → AreBudgetsOf S plan budgets → AreUnitBudgets S plan of → kappa ≤ 2 ^ 80 → b ≡ d → d ≤ 10 ^ 4
+    → (of.mean + (of.joint + 2 * plan.cells + plan.cells * (budgets.total + 2)) + kappa + 4) * b ≤ 2 ^ 97
+share_room S plan budgets of kappa b d valid are unit of_kappa e parts =
+    share_parts of.mean of.joint plan.cells budgets.total kappa b d unit.mean_small unit.joint_small
+    (few_cells plan valid).1 are.total_small of_kappa e parts

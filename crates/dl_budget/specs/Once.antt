@@ -1,10 +1,12 @@
 -- The budgets of a plan that most asks need.
-use Rattle.std.specs.Prelude.{ℕ, ◌≡◌, ◌<◌, ◌≤◌}
+use Rattle.std.specs.Prelude.{ℕ, ◌≡◌, ◌^◌, ◌<◌, ◌≤◌, Option, IfSome, length, get_or, map, option_map}
 use Rattle.dl_limits.specs.Limits.{budget_bound, most_mean_budget}
 use Rattle.dl_plan.specs.declared.plan.Plan.{Plan}
 use Rattle.dl_plan.specs.Valid.{IsValid}
 use Rattle.dl_budget.specs.declared.once.Budgets.{Budgets}
-use Rattle.dl_budget.specs.Units.{total_budget, mean_budget}
+use Rattle.dl_budget.specs.declared.once.UnitBudgets.{UnitBudgets}
+use Rattle.dl_budget.specs.Asks.{joint_budget}
+use Rattle.dl_budget.specs.Units.{total_budget, unit_mean_budget, mean_budget}
 
 -- the budgets of the plan's total and of its mean, neither too large to count with
 pub record AreBudgetsOf (S : ℕ) (plan : Plan) (budgets : Budgets) : Type 0 where
@@ -17,3 +19,16 @@ pub record AreBudgetsOf (S : ℕ) (plan : Plan) (budgets : Budgets) : Type 0 whe
 pub record HasBudgets (S : ℕ) (plan : Plan) (budgets : Budgets) : Type 0 where
   pub valid : IsValid plan
   pub are : AreBudgetsOf S plan budgets
+
+-- the budgets of one of the plan's units: of its share in a total, and of its mean
+pub record AreUnitBudgets (S : ℕ) (plan : Plan) (of : UnitBudgets) : Type 0 where
+  pub unit : of.unit < length plan.units
+  pub joint : of.joint ≡ joint_budget S plan of.unit
+  pub mean : of.mean ≡ get_or (map (unit_mean_budget S plan.cells) plan.units) of.unit 0
+  pub joint_small : of.joint ≤ 2 ^ 63
+  pub mean_small : of.mean ≤ 2 ^ 63
+
+-- the budgets of the unit with this number; none if there is no number
+pub record AreBudgetsOfUnit (S : ℕ) (plan : Plan) (number : Option ℕ) (of : Option UnitBudgets) : Type 0 where
+  pub unit : option_map (λ u. u.unit) of ≡ number
+  pub are : IfSome of (AreUnitBudgets S plan)

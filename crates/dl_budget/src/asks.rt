@@ -1,15 +1,15 @@
 //! The budget of an ask, what it needs, and whether it passes.
 
-ghost use Rattle.std.specs.Prelude.{ℕ, ◌≡◌, ◌+◌, ◌*◌, ◌^◌, ◌<◌, ◌≤◌, ◌↔◌, List, None, All, IsTrue, length, map};
+ghost use Rattle.std.specs.Prelude.{ℕ, ◌≡◌, ◌+◌, ◌*◌, ◌^◌, ◌<◌, ◌≤◌, ◌↔◌, List, None, Some, All, IfSome, IsTrue, length, map};
 ghost use Rattle.dl_limits.specs.Limits.{IsPlanScale, most_digits, most_units, most_ask_budget};
 ghost use Rattle.dl_exact.specs.Fraction.{whole, ◌*ℚ◌};
 ghost use Rattle.dl_grid.specs.Width.{up};
 ghost use Rattle.dl_plan.specs.Prelude.{ArePriced, most_weight_parts, IsLevel, IsValid};
 ghost use Rattle.dl_plan.specs.declared.settings.Ask.TheVariants.{LayerMean};
 ghost use Rattle.dl_budget.specs.Asks.{IsInside, IsAskOf, index_of, named_unit, ask_budget, layer_mean_budget, tail_budget, most_tail_budget, price_budget, joint_by, joint_budget, kappa_budget, cotail_budget, in_digits, needed, Passes};
-ghost use Rattle.dl_budget.specs.Once.{AreBudgetsOf, HasBudgets};
+ghost use Rattle.dl_budget.specs.Once.{AreBudgetsOf, AreBudgetsOfUnit, AreUnitBudgets, HasBudgets};
 
-use crate::once::{Budgets, budgets_of};
+use crate::once::{Budgets, UnitBudgets, budgets_of};
 use crate::shared::{raised_budget, shared_joint_budget};
 use crate::steps::convolution_spread;
 use crate::units::{others_budget, unit_budget, unit_mean_budget};
@@ -29,22 +29,23 @@ pub fn ask_budget<const B: u32>(plan: &Plan, ask: &Ask) -> u128
     ensures small { result ≤ most_ask_budget }
 {
     let unit = named_unit(plan.units.as_slice(), ask);
-    ask_budget_with::<B>(plan, budgets_of::<B>(plan), ask, unit)
+    let of_unit = budgets_of_named::<B>(plan, unit, None);
+    ask_budget_with::<B>(plan, budgets_of::<B>(plan), of_unit, ask)
 }
 
-/// The same budget, from those of the total and of its mean and the number of the unit that the ask
-/// names, where these are there.
+/// The same budget, from those of the total and of its mean, and those of the unit that the ask
+/// names, if it names one.
 #[tactic(auto, unfolding(crate::specs::Asks::ask_budget))]
 fn ask_budget_with<const B: u32>(
     plan: &Plan,
     budgets: Budgets,
+    of_unit: Option<UnitBudgets>,
     ask: &Ask,
-    unit: Option<u32>,
 ) -> u128
     requires scale { IsPlanScale B }
     requires plan { HasBudgets (2 ^ B) plan.now budgets }
+    requires unit { AreBudgetsOfUnit (2 ^ B) plan.now (named_unit plan.now.units ask.now) of_unit }
     requires ask { IsAskOf plan.now ask.now }
-    requires unit { unit ≡ named_unit plan.now.units ask.now }
     ensures value { result ≡ ask_budget (2 ^ B) plan.now ask.now }
     ensures small { result ≤ most_ask_budget }
 {
@@ -56,9 +57,9 @@ fn ask_budget_with<const B: u32>(
         }
         Ask::Tail(p) => tail_budget::<B>(plan, budgets, *p),
         Ask::Price(terms) => price_budget::<B>(plan, budgets, terms.as_slice()),
-        Ask::Joint { .. } => joint_budget::<B>(plan, unit.unwrap()),
-        Ask::Kappa { .. } => kappa_budget::<B>(plan, budgets, unit.unwrap()),
-        Ask::Cotail { p, .. } => cotail_budget::<B>(plan, budgets, unit.unwrap(), *p),
+        Ask::Joint { .. } => of_unit.unwrap().joint,
+        Ask::Kappa { .. } => kappa_budget::<B>(plan, budgets, of_unit.unwrap()),
+        Ask::Cotail { p, .. } => cotail_budget::<B>(plan, budgets, of_unit.unwrap(), *p),
     }
 }
 
@@ -152,34 +153,68 @@ fn joint_alone<const B: u32>(plan: &Plan, i: u32) -> u128
     plan.cells as u128 * convolution_spread::<B>(plan.cells, unit, others_budget::<B>(plan, i))
 }
 
-/// The budget of that share over the probability of the total.
-fn kappa_budget<const B: u32>(plan: &Plan, budgets: Budgets, i: u32) -> u128
+/// The budgets of unit `i`.
+fn budgets_of_unit<const B: u32>(plan: &Plan, i: u32) -> UnitBudgets
     requires scale { IsPlanScale B }
     requires valid { IsValid plan.now }
-    requires budgets { AreBudgetsOf (2 ^ B) plan.now budgets }
     requires unit { i < length plan.now.units }
-    ensures value { result ≡ kappa_budget (2 ^ B) plan.now i }
+    ensures are { AreUnitBudgets (2 ^ B) plan.now result }
+    ensures unit { result.unit ≡ i }
+{
+    UnitBudgets {
+        unit: i,
+        joint: joint_budget::<B>(plan, i),
+        mean: unit_mean_budget::<B>(&plan.units.as_slice()[i as usize], plan.cells),
+    }
+}
+
+/// The budgets of the unit with this number, counted from 0, of a valid plan: `known`, if they are
+/// its own. None where there is no number.
+pub fn budgets_of_named<const B: u32>(
+    plan: &Plan,
+    unit: Option<u32>,
+    known: Option<UnitBudgets>,
+) -> Option<UnitBudgets>
+    requires scale { IsPlanScale B }
+    requires valid { IsValid plan.now }
+    requires unit { IfSome unit (λ i. i < length plan.now.units) }
+    requires known { IfSome known (AreUnitBudgets (2 ^ B) plan.now) }
+    ensures { AreBudgetsOfUnit (2 ^ B) plan.now unit result }
+{
+    let i = unit?;
+    if let Some(last) = known {
+        if last.unit == i {
+            return known;
+        }
+    }
+    Some(budgets_of_unit::<B>(plan, i))
+}
+
+/// The budget of the share of a unit over the probability of the total.
+fn kappa_budget<const B: u32>(plan: &Plan, budgets: Budgets, of_unit: UnitBudgets) -> u128
+    requires valid { IsValid plan.now }
+    requires budgets { AreBudgetsOf (2 ^ B) plan.now budgets }
+    requires unit { AreUnitBudgets (2 ^ B) plan.now of_unit }
+    ensures value { result ≡ kappa_budget (2 ^ B) plan.now of_unit.unit }
     ensures small { result ≤ 2 ^ 80 }
 {
     let total = plan.cells as u128 * budgets.total;
-    RAREST_PARTS * (total + joint_budget::<B>(plan, i)) + 2
+    RAREST_PARTS * (total + of_unit.joint) + 2
 }
 
-/// The budget of the share of unit `i` in the tail mean at the probability `p`.
-fn cotail_budget<const B: u32>(plan: &Plan, budgets: Budgets, i: u32, p: Frac) -> u128
-    requires scale { IsPlanScale B }
+/// The budget of the share of a unit in the tail mean at the probability `p`.
+fn cotail_budget<const B: u32>(plan: &Plan, budgets: Budgets, of_unit: UnitBudgets, p: Frac) -> u128
     requires valid { IsValid plan.now }
     requires budgets { AreBudgetsOf (2 ^ B) plan.now budgets }
-    requires unit { i < length plan.now.units }
+    requires unit { AreUnitBudgets (2 ^ B) plan.now of_unit }
     requires level { IsLevel p }
     requires few { p.den ≤ 10 ^ 4 }
-    ensures value { result ≡ cotail_budget (2 ^ B) plan.now i p }
+    ensures value { result ≡ cotail_budget (2 ^ B) plan.now of_unit.unit p }
     ensures small { result ≤ most_ask_budget }
 {
-    let mean = unit_mean_budget::<B>(&plan.units.as_slice()[i as usize], plan.cells);
     let cells = plan.cells as u128;
-    let sums = joint_budget::<B>(plan, i) + 2 * cells + cells * (budgets.total + 2);
-    let parts = mean + sums + kappa_budget::<B>(plan, budgets, i) + 4;
+    let sums = of_unit.joint + 2 * cells + cells * (budgets.total + 2);
+    let parts = of_unit.mean + sums + kappa_budget::<B>(plan, budgets, of_unit) + 4;
     let rest = p.den() - p.num();
     (parts * p.den() as u128).div_ceil(rest as u128) + 4
 }
@@ -224,28 +259,27 @@ pub fn needed<const B: u32>(plan: &Plan, ask: &Ask, digits: u32) -> u128
     requires digits { digits ≤ most_digits }
     ensures { result ≡ needed (2 ^ B) plan.now ask.now digits }
 {
-    let unit = named_unit(plan.units.as_slice(), ask);
-    needed_with::<B>(plan, budgets_of::<B>(plan), ask, unit, digits)
+    in_digits::<B>(ask_budget::<B>(plan, ask), digits)
 }
 
-/// The same number, from the budgets of the total and of its mean and the number of the unit that
-/// the ask names, where these are there.
+/// The same number, from the budgets of the total and of its mean, and those of the unit that the
+/// ask names, if it names one.
 pub fn needed_with<const B: u32>(
     plan: &Plan,
     budgets: Budgets,
+    of_unit: Option<UnitBudgets>,
     ask: &Ask,
-    unit: Option<u32>,
     digits: u32,
 ) -> u128
     requires scale { IsPlanScale B }
     requires valid { IsValid plan.now }
     requires budgets { AreBudgetsOf (2 ^ B) plan.now budgets }
+    requires unit { AreBudgetsOfUnit (2 ^ B) plan.now (named_unit plan.now.units ask.now) of_unit }
     requires ask { IsAskOf plan.now ask.now }
-    requires unit { unit ≡ named_unit plan.now.units ask.now }
     requires digits { digits ≤ most_digits }
     ensures { result ≡ needed (2 ^ B) plan.now ask.now digits }
 {
-    in_digits::<B>(ask_budget_with::<B>(plan, budgets, ask, unit), digits)
+    in_digits::<B>(ask_budget_with::<B>(plan, budgets, of_unit, ask), digits)
 }
 
 /// Whether the settings let the ask pass: it needs at most the width that they name for a

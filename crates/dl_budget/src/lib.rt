@@ -11,10 +11,12 @@ mod shared;
 mod steps;
 mod units;
 
-pub use asks::{ask_budget, joint_budget, named_unit, needed, needed_with, passes};
+pub use asks::{
+    ask_budget, budgets_of_named, joint_budget, named_unit, needed, needed_with, passes,
+};
 pub use claims::{claims_budget, none_budget};
 pub use laws::{law_halvings, law_horizons};
-pub use once::{Budgets, budgets_of};
+pub use once::{Budgets, UnitBudgets, budgets_of};
 pub use shared::shared_joint_budget;
 pub use steps::{convolution_spread, doubled, halvings, listed, power_spread};
 pub use units::{others_budget, total_budget, unit_budget};

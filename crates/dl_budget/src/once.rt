@@ -17,6 +17,17 @@ pub struct Budgets {
     pub mean: u128,
 }
 
+/// The budgets of one unit of a plan, in units of `1 / 2^B`.
+#[derive(Clone, Copy)]
+pub struct UnitBudgets {
+    /// The number of the unit, counted from 0.
+    pub unit: u32,
+    /// How far apart the ends of its share in a total may lie.
+    pub joint: u128,
+    /// How far apart the ends of its mean may lie.
+    pub mean: u128,
+}
+
 /// The budgets of the total of a valid plan and of its mean.
 pub fn budgets_of<const B: u32>(plan: &Plan) -> Budgets
     requires scale { IsPlanScale B }

@@ -184,6 +184,7 @@ pub record IsFromTotal {B : ℕ} (plan : Plan) (g : List (Iv B)) (i : ℕ) : Typ
   pub unit : UnitOfPlan
   pub is : unit ≡ get_or plan.units i unit
   pub can_share : CanShare unit
+  pub bounded : spread g < budget_bound
   pub narrow : shared_joint_budget plan.cells (spread g) (thinned_mean unit)
       ≤ joint_budget (2 ^ B) plan i
 

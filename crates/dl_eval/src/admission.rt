@@ -7,7 +7,7 @@ ghost use Rattle.dl_budget.specs.Asks.{IsInside, NamesUnit, named_units};
 ghost use Rattle.dl_eval.specs.Answers.{AreInside, NameUnits, HasShare, AllPass, IsFirstNot, IsFirstWide, AreAdmitted, RefusesAsk};
 
 use crate::fault::EvalFault;
-use dl_budget::{budgets_of, named_unit, needed_with};
+use dl_budget::{budgets_of, budgets_of_named, named_unit, needed_with};
 use dl_plan::{Ask, Asked, Plan, Settings, Unit};
 use std::alloc::{AllocError, Global};
 
@@ -101,7 +101,8 @@ fn first_share(plan: &Plan, asks: &[Asked]) -> Option<u32>
 }
 
 /// The first ask that needs more width than the settings give, and the width it needs. The budgets
-/// of the total and of its mean are computed once for all asks.
+/// of the total and of its mean are computed once for all asks, and those of a unit once for asks that
+/// name it one after the other.
 #[tactic(auto, using(crate::proofs::Scales::plan_scale))]
 fn first_wide<const B: u32>(
     plan: &Plan,
@@ -119,12 +120,15 @@ fn first_wide<const B: u32>(
 {
     let asks = settings.asks.as_slice();
     let budgets = budgets_of::<B>(plan);
+    let mut last = None;
     for i in 0..asks.len() {
         let ask = &asks[i].ask;
-        let width = needed_with::<B>(plan, budgets, ask, named[i], settings.digits);
+        let of_unit = budgets_of_named::<B>(plan, named[i], last);
+        let width = needed_with::<B>(plan, budgets, of_unit, ask, settings.digits);
         if width > ask.most_width(settings) as u128 {
             return Some((i as u32, width));
         }
+        last = of_unit.or(last);
     }
     None
 }

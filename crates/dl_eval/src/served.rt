@@ -7,11 +7,11 @@ ghost use Rattle.dl_grid.specs.Cells.{spread};
 ghost use Rattle.dl_common.specs.Pooled.{can_share};
 ghost use Rattle.dl_eval.specs.declared.drawn.PlanGrids.TheVariants.{Independent};
 ghost use Rattle.dl_eval.specs.Drawn.{HasNeeded};
-ghost use Rattle.dl_eval.specs.Totals.{AreGridsOf, AreUnits, IsFromTotal, IsTotalOf};
+ghost use Rattle.dl_eval.specs.Totals.{AreGridsOf, AreUnits, IsFromTotal};
 
 use crate::grids::Grids;
 use crate::raised::is_raised;
-use dl_budget::{joint_budget, shared_joint_budget, total_budget};
+use dl_budget::{joint_budget, shared_joint_budget};
 use dl_grid::Grid;
 use dl_limits::BUDGET_BOUND;
 use dl_plan::{Freq, Plan, Unit};
@@ -36,16 +36,14 @@ pub(crate) fn is_without_others(units: &[Unit], unit: &Unit) -> bool {
 fn is_from_total<const B: u32>(plan: &Plan, total: &Grid<B>, apart: u128, i: u32) -> bool
     requires scale { B ≡ bits_of plan.now.cells }
     requires valid { IsValid plan.now }
-    requires total { IsTotalOf plan.now total.now }
     requires apart { apart ≡ spread total.now }
     requires unit { i < length plan.now.units }
     ensures { IsTrue result → IsFromTotal plan.now total.now i }
 {
     let unit = &plan.units.as_slice()[i as usize];
-    if !is_shared(unit) {
+    if !is_shared(unit) || apart >= BUDGET_BOUND {
         return false;
     }
-    prove!(total_budget::<B>(plan) < BUDGET_BOUND);
     shared_joint_budget(unit, apart, plan.cells) <= joint_budget::<B>(plan, i)
 }
 
@@ -72,7 +70,8 @@ fn is_served<const B: u32>(plan: &Plan, grids: &Grids<B>, apart: u128, unit: Opt
     }
 }
 
-/// Whether the shares of all named units do.
+/// Whether these grids give the joint means of all named units within their budgets. A unit that is
+/// named twice in a row is looked at once.
 pub(crate) fn are_served<const B: u32>(plan: &Plan, grids: &Grids<B>, named: &[Option<u32>]) -> bool
     requires scale { B ≡ bits_of plan.now.cells }
     requires valid { IsValid plan.now }
@@ -81,10 +80,15 @@ pub(crate) fn are_served<const B: u32>(plan: &Plan, grids: &Grids<B>, named: &[O
     ensures { IsTrue result → All (HasNeeded plan.now (Independent grids.now)) named.now }
 {
     let apart = grids.sums.total.spread();
+    let mut last = None;
     for unit in named {
+        if *unit == last {
+            continue;
+        }
         if !is_served(plan, grids, apart, *unit) {
             return false;
         }
+        last = *unit;
     }
     true
 }

@@ -248,7 +248,6 @@ fn tail_share_from<const B: u32>(
         → IsFirstFound (low_cdf (2 ^ B) (low_at total.now)) p plan.now.cells (Some x)
         → MayBeAbsent (declared plan.now) plan.now.cells p (total_error (2 ^ B) plan.now) }
 {
-    prove!(total_budget::<B>(plan) < BUDGET_BOUND);
     law_unit_mean();
     let unit = &plan.units.as_slice()[i as usize];
     poisson_cotail(unit, total, grids.means.as_slice()[i as usize], p)

@@ -7,4 +7,4 @@ pub returns-clause-small : goal.returns-clause-small
 returns-clause-small g c =
     let bound = cells_total c.args.plan.now.cells c.args.budgets.total (few_cells c.args.plan.now c.requires.valid).1
     c.requires.budgets.total_small in
-    omega arith
+    omega (arith, c.requires.unit.joint_small)

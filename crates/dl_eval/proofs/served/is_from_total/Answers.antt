@@ -1,4 +1,4 @@
-use Rattle.dl_eval.proofs.Common.{◌≤◌, sym, ap, subst₂, ◌∙◌, read_unit, thinned_mean}
+use Rattle.dl_eval.proofs.Common.{◌≤◌, arith, sym, ap, subst₂, ◌∙◌, read_unit, thinned_mean}
 use Rattle.dl_budget.specs.Shared.{shared_joint_budget}
 use Rattle.dl_eval.proofs.FromTotal.{told_le, true_shares}
 use Rattle.dl_eval.proofs.Scales.{plan_scale}
@@ -13,16 +13,11 @@ returns g c narrow =
       unit = u;
       is = read_unit c.as_slice.result.now plan.units c.args.i u c.as_slice.ensures c.index-as_slice-i.is;
       can_share = true_shares u (sym c.is_shared.ensures ∙ c.if-not-is_shared.false);
+      bounded = omega (arith, c.requires.apart, c.if-apart-ge-BUDGET_BOUND.false);
       narrow = subst₂ (λ x y. x ≤ y) (c.shared_joint_budget.ensures.value
           ∙ ap (λ s. shared_joint_budget plan.cells s (thinned_mean u)) c.requires.apart)
           c.joint_budget.ensures.value within;
     }
-
-pub total_budget-requires : goal.total_budget-requires
-total_budget-requires g c = record {
-  scale = plan_scale g.row.B c.args.plan.now.cells c.requires.scale;
-  valid = c.requires.valid;
-}
 
 pub joint_budget-requires : goal.joint_budget-requires
 joint_budget-requires g c = record {

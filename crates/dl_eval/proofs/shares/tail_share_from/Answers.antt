@@ -25,7 +25,7 @@ poisson_cotail-requires g c =
     all_six (omega arith) (omega arith) c.requires.level.below c.requires.few
     (valid_there c.args.i c.as_slice.ensures c.index-as_slice-i.is c.requires.unit c.requires.valid)
     (from_shares c.args.plan.now c.args.i c.as_slice.ensures c.index-as_slice-i.is c.requires.unit c.requires.from
-    also (omega (arith, c.requires.total.narrow, c.total_budget.ensures.value, c.if-prove.false, least))
+    also (omega (arith, c.requires.from.bounded, least))
     also (omega (arith, small)))
 
 pub returns-clause-absent : goal.returns-clause-absent
