@@ -1,7 +1,7 @@
 -- Products of lists whose items lie a common step apart.
-use Rattle.std.specs.Prelude.{All, Bool, true, ◌≢◌, min}
+use Rattle.std.specs.Prelude.{All, Bool, true, false, ◌≢◌, min}
 use Rattle.dl_product.proofs.Common.{drop, end_fits, fewer_fit, second_part, take, length-take, length-drop, ℕ, zero, suc, ◌≡◌, ◌+◌, ◌-◌, ◌*◌, ◌/◌, ◌<◌, ◌≤◌, inl, inr, List, length, get_or, arith, refl, sym, ap, ap₂, ◌∙◌, cases_lt, get_or_past, count_pairs, ItemsFit, pairs_same, times_nothing, pair_sum}
-use Rattle.std.proofs.Common.{◌%◌}
+use Rattle.std.proofs.Common.{subst, ◌%◌}
 use Rattle.std.proofs.Math.Nat.{add-mod_left, mod-le, mod-lt, mul_comm, add-mul-mod_self_right, eq_of_mul-eq-mul_right, le_trans, le-mul_of_pos_right, mod-eq_of_lt, mod-add-div', mul-le-mul_right, lt_of_mul-lt-mul_right, suc-add, zero-mul}
 use Prim.Native.Nat.{◌∣◌}
 use Rattle.std.specs.Int.{div_ceil}
@@ -11,7 +11,8 @@ use Rattle.std.proofs.lemmas.Bool.{cases_eq}
 use Rattle.std.proofs.lemmas.Nat.Gcd.{dvd_trans, dvd_of_mod-eq-zero, mod-eq-zero_of_dvd}
 use Rattle.std.proofs.lemmas.Grind.{div_ceil_times, get_or_default_zero, same_number_lists}
 use Rattle.dl_exact.proofs.Counts.{nothing_times}
-use Rattle.dl_product.specs.Factors.{AreFactors, AreZeros, IsProduct}
+use Rattle.dl_product.specs.Ends.{ArePaired}
+use Rattle.dl_product.specs.Factors.{AreCells, AreFactors, AreZeros, IsProduct}
 use Rattle.dl_product.specs.Steps.{LieApart, AreMultiples, AreEvery}
 use Rattle.dl_product.proofs.Zeros.{low_first, no_products, shift_first, window_at}
 
@@ -252,3 +253,60 @@ class_place g r s rest = omega (arith, rest, mod-add-div' s g)
 pub class_within : (g r n s : ℕ) → r < g → s < n → s % g ≡ r → s / g < div_ceil (n - r) g
 class_within g r n s below inside rest =
     lt_of_mul-lt-mul_right g (omega (arith, class_place g r s rest, inside, (div_ceil_times (n - r) g (omega (arith, below))).0))
+
+-- the high ends from place r on, where there are as many as low ends
+pub highs_from : (g r : ℕ) (b k seconds : List ℕ) → length k ≡ length b
+    → AreMultiples g (take (length k - min r (length b)) (drop (min r (length b)) k)) seconds
+    → AreMultiples g (take (length k - min r (length k)) (drop (min r (length k)) k)) seconds
+highs_from g r b k seconds same all =
+    subst (λ m. AreMultiples g (take (length k - min r m) (drop (min r m) k)) seconds) (sym same) all
+
+-- the cells of a class, as two lists to multiply
+pub class_cells : (g r n : ℕ) (a h b k first firsts second seconds : List ℕ) → r < g → AreCells a h b k false n
+    → AreMultiples g a first → AreMultiples g h firsts
+    → AreMultiples g (take (length b - min r (length b)) (drop (min r (length b)) b)) second
+    → AreMultiples g (take (length k - min r (length b)) (drop (min r (length b)) k)) seconds
+    → length first ≡ div_ceil (length a) g → length firsts ≡ div_ceil (length h) g
+    → length second ≡ div_ceil (length (take (length b - min r (length b)) (drop (min r (length b)) b))) g
+    → length seconds ≡ div_ceil (length (take (length k - min r (length b)) (drop (min r (length b)) k))) g
+    → AreCells first firsts second seconds false (div_ceil (n - r) g)
+class_cells g r n a h b k first firsts second seconds below f each each_high all all_high long long_high also also_high =
+    let same : length k ≡ length b = f.second.alike in
+    let m = min r (length b) in
+    let from = highs_from g r b k seconds same all_high in
+    let rest : length (take (length k - m) (drop m k)) ≡ length (take (length b - m) (drop m b)) = omega (
+      arith,
+      length-take (length b - m) (drop m b),
+      length-drop m b,
+      length-take (length k - m) (drop m k),
+      length-drop m k,
+      same,
+    ) in
+    let many : length seconds ≡ div_ceil (length (take (length k - min r (length k)) (drop (min r (length k)) k))) g =
+    also_high ∙ ap (λ t. div_ceil (length (take (length k - min r t) (drop (min r t) k))) g) (sym same) in
+    record {
+      first = record {
+        alike = long_high ∙ ap (λ t. div_ceil t g) f.first.alike ∙ sym long;
+        order = λ i. rw (each i, each_high i) (f.first.order (i * g));
+      };
+      second = record {
+        alike = also_high ∙ ap (λ t. div_ceil t g) rest ∙ sym also;
+        order = λ i. rw (class_items g r b second all i, class_items g r k seconds from i) (f.second.order (r + i * g));
+      };
+      square = λ no. cc;
+      highs = class_factors g r n h k firsts seconds false below f.highs (λ no. cc) each_high from long_high many;
+    }
+
+-- the sums of a class, r and then g places apart, are those of the product there
+pub class_product : (g r n : ℕ) (a b first second sums out : List ℕ) → r < g → LieApart g a → AreMultiples g a first
+    → AreMultiples g (take (length b - min r (length b)) (drop (min r (length b)) b)) second
+    → IsProduct first second (div_ceil (n - r) g) sums → AreEvery g r out sums
+    → (s : ℕ) → s < n → s % g ≡ r → get_or out s 0 ≡ pair_sum a b s
+class_product g r n a b first second sums out below apart each all product every s inside rest =
+    ap (λ i. get_or out i 0) (sym (class_place g r s rest)) ∙ sym (every (s / g))
+    ∙ product (s / g) (class_within g r n s below inside rest)
+    ∙ sym (class_at g r s a b first second below apart each (class_items g r b second all) rest)
+
+-- where no high end lies off the multiples, no low end does
+pub lows_apart : (g : ℕ) (a h : List ℕ) → ArePaired a h → LieApart g h → LieApart g a
+lows_apart g a h paired apart i off = omega (arith, paired.order i, apart i off)

@@ -4,6 +4,7 @@
 #![tactic(auto)]
 
 mod both;
+mod class_ends;
 mod classes;
 mod kept;
 mod lists;

@@ -1,6 +1,6 @@
 //! The product of two lists, by whichever of three ways is the fastest.
 
-ghost use Rattle.std.specs.Prelude.{◌≡◌, ℕ, ◌+◌, ◌^◌, ◌<◌, ◌≤◌, true, length, get_or, IfOk, IfSome, IsTrue};
+ghost use Rattle.std.specs.Prelude.{◌≡◌, ℕ, ◌+◌, ◌*◌, ◌^◌, ◌<◌, ◌≤◌, true, length, get_or, IfOk, IfSome, IsTrue};
 ghost use Rattle.dl_limits.specs.Limits.{most_cells};
 ghost use Rattle.dl_conv.specs.Sums.{pair_sum, ItemsFit};
 ghost use Rattle.dl_product.specs.Factors.{AreFactors, AreZeros, IsProduct};
@@ -49,6 +49,14 @@ pub(crate) fn rate_of(is_square: bool) -> usize
     }
 }
 
+/// The steps of a transform of `2^levels` items: one for each item at each level.
+pub(crate) fn steps_of(levels: u32) -> usize
+    requires { levels ≤ 17 }
+    ensures { result ≤ 17 * 2 ^ 17 }
+{
+    (levels as usize) << levels
+}
+
 /// The levels of the transform that multiplies two lists, where it takes less time than the
 /// products of their items for the first `count` places do, of which `rate` are as long as one step
 /// of it.
@@ -67,8 +75,7 @@ pub(crate) fn levels_if_shorter(
     let left_out = (first + second).saturating_sub(count);
     let products = (first * second).saturating_sub(left_out * left_out / 2);
     let levels = levels_for(first + second, MOST_LEVELS);
-    let steps = (levels as usize) << levels;
-    if products > rate * steps {
+    if products > rate * steps_of(levels) {
         Some(levels)
     } else {
         None
