@@ -116,7 +116,7 @@ fn agrees<const B: u32>(alloc: Global, work: &mut Workspace, case: &Case) -> boo
     }
 }
 
-const CASES: [Case; 19] = [
+const CASES: [Case; 21] = [
     (1, (1, Sure, 0, 1), (1, Part(3), 0, 1)),
     (1, (1, Zero, 0, 1), (1, Unknown, 0, 1)),
     // both lists short of the grid, the product within it, at its end, and past it
@@ -140,6 +140,9 @@ const CASES: [Case; 19] = [
     (700, (1, Part(700), 0, 700), (5, Part(140), 2, 698)),
     (1401, (2, Part(700), 0, 1399), (2, Part(650), 1, 1299)),
     (50, (7, Part(8), 0, 50), (7, Part(7), 1, 43)),
+    // one of them, by transforms of its own items and those of each class
+    (1024, (2, Part(700), 0, 1024), (1, Part(1100), 0, 1024)),
+    (1024, (1, Part(1100), 3, 1021), (2, Part(700), 1, 1023)),
     // too large for transforms
     (2100, (1, Unknown, 0, 2100), (1, Unknown, 0, 2100)),
 ];
