@@ -101,8 +101,8 @@ fn first_share(plan: &Plan, asks: &[Asked]) -> Option<u32>
 }
 
 /// The first ask that needs more width than the settings give, and the width it needs. The budgets
-/// of the total and of its mean are computed once for all asks, and those of a unit once for asks that
-/// name it one after the other.
+/// of the total and of its mean are computed once for all asks, and those of a unit once for asks
+/// that name it one after the other.
 #[tactic(auto, using(crate::proofs::Scales::plan_scale))]
 fn first_wide<const B: u32>(
     plan: &Plan,

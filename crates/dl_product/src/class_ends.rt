@@ -20,7 +20,8 @@ fn cells_at_multiples(
     step: usize,
 ) -> Result<(Vec<u128>, Vec<u128>), AllocError>
     requires some { 0 < step }
-    ensures many { IfOk result (λ v. length v.0.items ≡ div_ceil (length cells.entry.lows.now) step) }
+    ensures many { IfOk result (λ v.
+        length v.0.items ≡ div_ceil (length cells.entry.lows.now) step) }
     ensures high_many { IfOk result (λ v.
         length v.1.items ≡ div_ceil (length cells.entry.highs.now) step) }
     ensures low { IfOk result (λ v. AreMultiples step cells.entry.lows.now v.0.items) }
@@ -32,8 +33,8 @@ fn cells_at_multiples(
 }
 
 /// Whether transforms give the products of both kinds of ends at the places that leave `rest` over
-/// `step`; then `lows` and `highs` have them there. `first` are the cells of the first list at the
-/// multiples of `step`, past which it has none that is not 0.
+/// `step`; then `lows` and `highs` have them there. The cells of the first list are 0 but at the
+/// multiples of `step`, and `first` are those.
 fn write_class(
     alloc: Global,
     work: &mut Workspace,

@@ -112,8 +112,8 @@ fn squares(alloc: Global, p: u64, first: u64, count: u32) -> Result<Vec<Factor>,
     Ok(all)
 }
 
-/// Appends to these numbers each of them times a step modulo `p`, in the same order; nothing where the
-/// quotient of the step is not right.
+/// Appends to these numbers each of them times a step modulo `p`, in the same order; nothing where
+/// the quotient of the step is not right.
 fn append_times(all: &mut Vec<u64>, step: Factor, p: u64) -> Result<(), AllocError>
     requires modulus { IsModulus p }
 {
@@ -143,8 +143,9 @@ fn roots(alloc: Global, p: u64, levels: u32) -> Result<Vec<u64>, AllocError>
     Ok(all)
 }
 
-/// The inverses of the roots, and their quotients. Of a root after the first that is what the root at
-/// a node lacks of `p`: the number of this node has the same highest bit, and no other bit alike.
+/// The inverses of the roots, and their quotients. The inverse of a root after the first is `p` less
+/// the root at the node whose number has the same highest bit and each lower bit the other way, and
+/// its quotient is `2^64 - 1` less the quotient of that root.
 fn inverses(
     alloc: Global,
     p: u64,
