@@ -1,4 +1,5 @@
 mod Common
+pub mod Beginnings
 pub mod FirstSign
 pub mod DigitLaws
 pub mod Numerals

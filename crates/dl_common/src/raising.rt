@@ -7,7 +7,7 @@ ghost use Rattle.dl_common.specs.Pooled.{IsPooled, IsRaised, alone};
 
 use crate::copies::copied;
 use dl_frac::Frac;
-use dl_lexer::Text;
+use dl_bytes::Text;
 use dl_plan::{Freq, Unit};
 use std::alloc::{AllocError, Global};
 

@@ -16,7 +16,7 @@ use crate::shares::{joint_of, share_row, tail_share_row};
 use dl_distort::price;
 use dl_frac::Frac;
 use dl_iv::Iv;
-use dl_lexer::Text;
+use dl_bytes::Text;
 use dl_measures::{Distribution, layer_mean, quantile, tail_mean};
 use dl_plan::{Ask, Asked, Plan, Term};
 use dl_report::{End, Row};

@@ -1,5 +1,5 @@
 -- The longest word, the longest note and the longest reference at the front of some bytes.
-use Rattle.dl_lexer.proofs.Common.{ℕ, zero, suc, ◌≡◌, ◌≢◌, ◌∙◌, ◌+◌, ◌<◌, ◌≤◌, List, [], ◌∷◌, ◌++◌, length, take, drop, true, false, refl, sym, ap, arith, append_assoc, length-append, Some, slice_get, subst, list_all, prefix_len, take-append-add, take-append-drop, length-take-le, prefix_len-le-length, slice_get_within, bytes_eq, bytes_eq-Decides, is_word_byte, begins_with_letter, IsWord, IsNote, note, IsRef, ref, IsLongest, and_parts}
+use Rattle.dl_lexer.proofs.Common.{ℕ, zero, suc, ◌≡◌, ◌≢◌, ◌∙◌, ◌+◌, ◌<◌, ◌≤◌, List, [], ◌∷◌, ◌++◌, length, take, drop, true, false, refl, sym, ap, arith, append_assoc, length-append, Some, slice_get, subst, list_all, prefix_len, take-append-add, take-append-drop, length-take-le, prefix_len-le-length, slice_get_within, is_word_byte, begins_with_letter, IsWord, IsNote, note, IsRef, ref, IsLongest, and_parts}
 use Rattle.std.proofs.Common.{codes}
 use Rattle.std.proofs.Math.Seq.{take-append_seam}
 use Rattle.dl_lexer.specs.Bytes.{is_note_byte}
@@ -158,14 +158,3 @@ ref_none bytes other = longest_none IsRef bytes no_ref
     no_ref : (m : ℕ) → m ≤ length bytes → IsRef (take m bytes) → ⊥
     no_ref m h (ref inside e w) =
         grind (arith, take-append-drop m bytes, append_assoc (codes "sev.") inside (drop m bytes), inside)
-
--- bytes begin with some others, as the first of them show
-pub begins_so : (front bytes text : List ℕ) → bytes_eq (take (length front) bytes) front ≡ true
-    → text ≡ drop (length front) bytes → bytes ≡ front ++ text
-begins_so front bytes text same rest =
-    grind (arith, bytes_eq-Decides (take (length front) bytes) front, take-append-drop (length front) bytes)
-
-pub begins_otherwise : (front bytes : List ℕ) → bytes_eq (take (length front) bytes) front ≡ false → (text : List ℕ)
-    → bytes ≢ front ++ text
-begins_otherwise front bytes differ text e =
-    grind (arith, take-append_seam front text, bytes_eq-Decides (take (length front) bytes) front)

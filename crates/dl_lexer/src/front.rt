@@ -89,7 +89,7 @@ pub(crate) fn word_length(bytes: &[u8]) -> usize
 }
 
 /// The length of the note that begins the bytes, 0 where none does.
-#[tactic(auto, using(crate::proofs::WordLengths::note_none, crate::proofs::WordLengths::begins_otherwise))]
+#[tactic(auto, using(crate::proofs::WordLengths::note_none, dl_bytes::proofs::Beginnings::begins_otherwise))]
 pub(crate) fn note_length(bytes: &[u8]) -> usize
     ensures { IsLongest IsNote bytes.now result }
 {
@@ -105,7 +105,7 @@ pub(crate) fn note_length(bytes: &[u8]) -> usize
 }
 
 /// The length of the severity's reference that begins the bytes, 0 where none does.
-#[tactic(auto, using(crate::proofs::WordLengths::ref_unnamed, crate::proofs::WordLengths::begins_so))]
+#[tactic(auto, using(crate::proofs::WordLengths::ref_unnamed, dl_bytes::proofs::Beginnings::begins_so))]
 pub(crate) fn ref_length(bytes: &[u8]) -> usize
     ensures { IsLongest IsRef bytes.now result }
 {

@@ -5,7 +5,7 @@ ghost use Rattle.dl_plan.specs.Facts.{facts_of};
 
 use crate::cede::end_of;
 use crate::settings::{Ask, Settings};
-use dl_lexer::Text;
+use dl_bytes::Text;
 
 impl Ask {
     /// The fewest cells of a grid that the ask lies inside; 0 where any will do.

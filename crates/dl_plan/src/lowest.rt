@@ -11,7 +11,7 @@ use crate::item::Item;
 use crate::severity::Sev;
 use crate::totals::total_weight;
 use dl_frac::small_divisor;
-use dl_lexer::Items;
+use dl_bytes::Items;
 use std::alloc::{AllocError, Global};
 
 impl Sev {

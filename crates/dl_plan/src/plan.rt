@@ -4,7 +4,7 @@ use crate::cede::Cede;
 use crate::item::Item;
 use crate::severity::Sev;
 use dl_frac::Frac;
-use dl_lexer::{Items, Text};
+use dl_bytes::{Items, Text};
 
 /// The claim count of a unit.
 #[derive(Drop)]

@@ -3,7 +3,7 @@
 ghost use Rattle.dl_plan.specs.Weighted.{IsWeighted};
 
 use crate::item::Item;
-use dl_lexer::Items;
+use dl_bytes::Items;
 
 /// A severity in buckets: distinct amounts, each of which has its weight over the total as its
 /// probability.

@@ -1,6 +1,6 @@
 //! A report: its rows, and the number of its digits.
 
-use dl_lexer::Text;
+use dl_bytes::Text;
 use dl_plan::Items;
 
 /// An end of a row.
