@@ -5,6 +5,8 @@ what is told and counted, and what is left where it fails or is stopped.
 The last line is 'N passed, M failed'.
 """
 
+import importlib.machinery
+import importlib.util
 import json
 import os
 import pathlib
@@ -16,6 +18,7 @@ import sys
 import tempfile
 import time
 import unittest
+import zlib
 
 import installs
 
@@ -38,6 +41,10 @@ pathlib.Path(os.environ["SAID"]).write_text(json.dumps(said))
 way = os.environ["WAY"]
 if way == "waits":
     time.sleep(60)
+if sys.argv[1] == "try":
+    is_wrong = way == "fails"
+    print(f"test one ... {'FAILED' if is_wrong else 'ok'}", f"test result: {'FAILED' if is_wrong else 'ok'}. 3 passed; {int(is_wrong)} failed; 0 ignored", sep="\\n")
+    sys.exit(is_wrong)
 for name in ("low", "side", "mid", "decl"):
     if sys.argv[1] == "run":
         print(f"crate {name}: modules loaded=1 checked=2")
@@ -86,14 +93,14 @@ class Case(unittest.TestCase):
         path.write_text(text, encoding="utf-8")
         return path
 
-    def begin(self, way, command=".ci/build"):
+    def begin(self, way, command=".ci/build", *words):
         """The command with the program in place of `rt`; that fails or waits where `way` says so."""
         self.tools.mkdir()
         (self.tools / "rt").write_text(ANY, encoding="utf-8")
         (self.tools / "rt").chmod(0o755)
         world = {**os.environ, "PATH": f"{self.tools}:{os.environ['PATH']}", "TMPDIR": str(self.copies)}
         world.update(WAY=way, SAID=f"{self.room}/said")
-        words = [sys.executable, "-B", str(self.top / command)]
+        words = [sys.executable, "-B", str(self.top / command), *words]
         return subprocess.Popen(words, env=world, stdout=subprocess.PIPE, stderr=subprocess.STDOUT, text=True)
 
     def ended(self, *words):
@@ -136,7 +143,7 @@ class Builds(Case):
         self.assertEqual(told[0], "decl:  1 of 4, low was proved before")
         self.assertIn(told[1], ("decl:  2 of 4, side proved", "decl:  2 of 4, side proved, TIME"))
         self.assertEqual(told[2:], ["decl:  3 of 4, mid proved, TIME", "decl:  4 of 4, decl proved"])
-        self.assertRegex(lines[5], r"\Adecl: done in \d+ min \d+ s: crates/decl/out/decl\Z")
+        self.assertRegex(lines[5], r"\Adecl: done in \d+ min \d+ s, \d+ min \d+ s of processor time: crates/decl/out/decl\Z")
         self.assertEqual(len(lines), 6)
 
     def test_what_fails_is_told_and_nothing_replaced(self):
@@ -144,7 +151,7 @@ class Builds(Case):
         status, lines = self.ended("fails")
         self.assertEqual(status, 1)
         self.assertEqual(lines[2:5], ["== side", "error: side::wrong is not proved", "rt: side NOT PROVED"])
-        self.assertRegex(lines[5], r"\Adecl: FAILED after \d+ min \d+ s\Z")
+        self.assertRegex(lines[5], r"\Adecl: FAILED after \d+ min \d+ s, \d+ min \d+ s of processor time\Z")
         self.assertEqual(self.program.read_text(), "an older program")
 
     def test_kept_work_is_gone_on_from(self):
@@ -171,6 +178,21 @@ class Builds(Case):
         self.assertEqual(ran.returncode, 143)
         self.assertEqual([*self.copies.iterdir()], [])
 
+    def test_the_time_that_is_left_does_not_jump(self):
+        loader = importlib.machinery.SourceFileLoader("build", str(ROOT / ".ci" / "build"))
+        build = importlib.util.module_from_spec(importlib.util.spec_from_loader("build", loader))
+        loader.exec_module(build)
+        progress, real = build.Progress(build.needed()), build.Progress(build.needed())
+        real.weights = {name: 2 * (0.8 + zlib.crc32(name.encode()) % 40 / 100) * each for name, each in progress.weights.items()}
+        ends, before = real.planned(), None
+        for number, end in enumerate(ends[:-1]):
+            progress.done.add(number)
+            progress.begun = time.monotonic() - end
+            left = progress.left()
+            if before is not None and end > ends[-1] / 10:
+                self.assertLess(abs(left - before + end - ends[number - 1]), before / 3)
+            before = left
+
     def test_no_kit(self):
         status, lines = self.without_kit(".ci/build")
         self.assertEqual((status, len(lines)), (1, 1))
@@ -178,7 +200,7 @@ class Builds(Case):
 
 
 class Tests(Case):
-    """The one test command."""
+    """The one test command, and its short form."""
 
     def clients(self, line, status=0):
         """Puts tests of the clients in place that write this line and end so."""
@@ -209,6 +231,20 @@ class Tests(Case):
             status, lines = self.ended("gate", ".ci/test")
             self.assertEqual((status, lines[-1]), (1, wanted))
             shutil.rmtree(self.tools)
+
+    def test_without_proofs(self):
+        self.clients("7 passed, 0 failed, 1 skipped")
+        status, lines = self.ended("well", ".ci/test", "--quick")
+        self.assertEqual((status, lines), (1, ["decl: there is no crates/decl/out/decl to test: `make` builds it", "0 passed, 1 failed, 0 skipped"]))
+        self.put("crates/decl/out/decl", "").chmod(0o755)
+        for way, failed in (("well", 0), ("fails", 1)):
+            shutil.rmtree(self.tools)
+            status, lines = self.ended(way, ".ci/test", "--quick")
+            self.assertEqual((status, lines[-1]), (failed, f"10 passed, {failed} failed, 1 skipped"))
+            self.assertEqual((self.said()["words"][:2], self.said()["place"]), (["try", "--test"], "low_tests"))
+            self.assertEqual("test one ... FAILED" in lines, failed == 1)
+            time = r"\d+ min \d+ s"
+            self.assertRegex(lines[-2], rf"\Art try: {time}; clients: {time}; both: {time}, {time} of processor time, on \d+ processors\Z")
 
     def test_a_proof_that_fails_is_counted(self):
         self.clients("7 passed, 0 failed, 0 skipped")

@@ -1,8 +1,8 @@
 #!/usr/bin/env sh
 # Checks that what the pages name is there: files of a crate ('dl_x/src/y.rt' stands for crates/dl_x/src/y.rt), other files of the
 # repository, laws ('law_x' is a function), definitions ('IsX' stands in the specs/ of a crate), and that each crate has its line in
-# docs/ARCHITECTURE.md and docs/PROOFS.md, and in the drawing a line above those of the crates that it stands on. A kind of name of
-# which none is found fails too. The last line is 'N passed, M failed'.
+# docs/ARCHITECTURE.md and docs/PROOFS.md, there only crates below it that crates.txt names too, and in the drawing a line above those of
+# the crates that it stands on. A kind of name of which none is found fails too. The last line is 'N passed, M failed'.
 set -u
 cd "$(dirname "$0")/.." || exit 1
 passed=0
@@ -54,7 +54,10 @@ done
 some crate "$(sed -n 's/^\([a-z_]*\)[^:#]*:.*/\1/p' crates.txt)"
 for crate in $names; do
     is_there "the map's row of $crate" grep -q "^| \`$crate\` |" docs/ARCHITECTURE.md
-    is_there "what is proved of $crate" grep -qE "^- \`$crate\`|\`$crate\`: " docs/PROOFS.md
+    is_there "what is proved of $crate" grep -qE "^(### |- )?\`$crate\`" docs/PROOFS.md
+    for other in $(sed -n "s/^| \`$crate\` | .* | \(.*\) |\$/\1/p" docs/ARCHITECTURE.md | tr -d '`,'); do
+        is_there "$other below $crate in crates.txt" test -n "$(sed -n "s/^$crate:\(.* $other\b\)/\1/p" crates.txt)"
+    done
 done
 # layer CRATE: the line of the crate in the drawing of the layers
 layer() {

@@ -4,6 +4,10 @@
 //!
 //! The units of every valid plan meet the premises on units here, by
 //! `dl_model::plans::law_declared`.
+//!
+//! `joint_mean` and `conditional_mean` hold a unit's declared joint mean at a total, and its
+//! quotient by the probability of that total, or none exactly where that may be below 1/65,536
+//! (`holds`, `none`, `width`). The law behind it is `law_joint_ends`.
 #![tactic(auto)]
 
 mod conditional;

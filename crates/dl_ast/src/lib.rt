@@ -1,6 +1,10 @@
 //! The syntax of a program: its types, with the bytes of the text of each node; the
 //! grammar that says which tokens spell which program; and what a well-formed program is. Nothing
 //! here reads a text: each law is the contract of a function with an empty body.
+//!
+//! The grammar is that of docs/LANGUAGE.md. What real tokens spell is well formed
+//! (`law_well_formed`), and what they spell by the grammar without named severities, `geometric`,
+//! `zt`, `zm` and `common` they spell by the whole grammar (`law_old_texts`).
 #![tactic(auto)]
 
 ghost use Rattle.std.specs.Prelude.{◌≡◌, ◌<◌, ◌^◌, ℕ, List, [], All, length};

@@ -1,6 +1,13 @@
 //! The width rule: how far apart the ends of each row may lie, from the plan, the ask and
 //! the settings alone, before any grid is computed. Budgets are in units of `1 / 2^B`. Nothing here
 //! takes memory.
+//!
+//! The numbers are exact at every scale from 2^48 to 2^56 (`IsPlanScale`): `unit_budget`,
+//! `total_budget` and `others_budget`, which are below 2^44 units of the scale for a valid plan,
+//! `ask_budget`, `needed` and `passes`, and `needed_with` from budgets that are made once: of the
+//! total and of its mean (`AreBudgetsOf`), and of the unit that an ask names (`AreBudgetsOfUnit`),
+//! which `budgets_of_named` gives. Each unit of a valid plan has the one horizon that `horizon`
+//! gives (`law_horizons`).
 #![tactic(auto)]
 
 mod asks;

@@ -6,6 +6,10 @@
 //! of the whole. The mean follows from the means of the clause's layers, and from that of the sum,
 //! which needs no grid: so no part of it is cut off where the grid ends. The clauses speak of a
 //! unit of a valid plan, whatever its count.
+//!
+//! `cede_grid` encloses the outcome of a unit after its clause (`encloses`), and spreads at most
+//! twice as much as the grid before it (`spread`); `cede_mean` holds its mean, as narrow as the
+//! width rule says (`holds`, `width`).
 #![tactic(auto)]
 
 mod grid;

@@ -5,6 +5,15 @@
 //! unit has the total of several, `pool_poisson`, and what a Poisson unit adds to a total comes from
 //! the grid of the total, by `poisson_joint`; what a gamma unit adds to it comes from the grid of
 //! the total with its extra claims, `extra`, by `gamma_joint`.
+//!
+//! The unit of `pool` is a valid plan and declares of the total, at every level, what the units do
+//! (`pooled`, `valid`, `same`), and `raised` is valid too; `common_joint` holds the declared joint
+//! mean of a unit, at most the total, within the width that is stated (`holds`, `width`, `below`,
+//! `small`). They ask for a valid plan with a factor (`SharesFactor`). `pool_poisson` gives one
+//! Poisson unit with the total of several, or none (`sum`, `valid`); no clause says when there is
+//! none. `poisson_joint` holds the joint mean of a Poisson unit beside any other losses. `extra` is
+//! valid wherever the gamma unit is (`extra`, `valid`, `there`), and `gamma_joint` holds the joint
+//! mean of a gamma unit.
 #![tactic(auto)]
 
 mod copies;

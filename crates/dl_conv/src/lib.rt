@@ -1,6 +1,12 @@
 //! Convolution of two grids: the grid of the sum of two independent amounts. Each cell is rounded
 //! once, its low end down and its high end up, and what lies past the grid is left out. The exact
 //! sums of products are plain or by halves, in a ring whose products can be counted.
+//!
+//! `convolve` and `convolve_plain` give each cell by one floor and one ceiling (`IsConvolution`),
+//! and spread no more than `convolution_spread` says. `plain_sums` has the exact sums of two lists
+//! of any lengths. `halved` multiplies two lists of `32 * 2^k` items in any ring (`Ring`): each
+//! item of the product modulo `2^128`, in at most `1024 * 3^k` products. That `convolve` calls it
+//! is seen in the code alone.
 #![tactic(auto)]
 
 mod grids;

@@ -6,6 +6,14 @@
 //!
 //! The clauses speak of every list of losses that can be declared (`AreDeclared`), as those of the
 //! units of every valid plan can, by `dl_model::plans::law_declared`.
+//!
+//! `cotail` holds the share at the declared quantile, whatever part of the probability there
+//! belongs to the tail, within the width that its budget states. There is none exactly where the
+//! grid ends before the quantile, its bracket has two ends, or that total may be rarer than
+//! 1/65,536 (`holds`, `width`, `none`, `absent`). `poisson_cotail` and `gamma_cotail` have the same
+//! clauses, with widths of their own. The shares of all units add up to the tail mean at every
+//! level (`law_shares`), and a unit's mean beside others is that of the unit alone
+//! (`law_unit_mean`).
 #![tactic(auto)]
 
 mod claims;

@@ -4,6 +4,10 @@
 //!
 //! The clauses speak of every list of losses that can be declared (`AreDeclared`), as those of the
 //! units of every valid plan can, by `dl_model::plans::law_declared`.
+//!
+//! `price` holds the weighted sum of the tail means at the declared quantiles, and its low end is
+//! at most what any whole numbers in the place of the quantiles give, within the sum of the widths
+//! of its terms. There is no price exactly where some term has no tail mean, whatever its weight.
 #![tactic(auto)]
 
 mod prices;

@@ -1,5 +1,10 @@
 //! The exponential of a small number, enclosed: the sums of its series in whole units, rounded down
 //! and up, what is left of the series bounded by its last term, and the reciprocals of both.
+//!
+//! `exp_neg` encloses the exponential of `-x` for `x` up to 1/2, within 3 units of the scale, and
+//! is at most 1 (`encloses`, `narrow`, `small`). What it encloses is said by the partial sums of
+//! its series, without real numbers. Its two ends are exact (`low`, `high`), and enclose it by a
+//! law of their own (`law_ends`).
 #![tactic(auto)]
 
 ghost use Rattle.std.specs.Prelude.{◌≡◌, ◌+◌, ◌^◌, ◌≤◌};

@@ -2,6 +2,9 @@
 //! `x` holds the probability of `x` buckets, in units of `1 / 2^B`. The width rule, which says
 //! before anything is computed how far apart the ends may lie, has its definitions and laws here
 //! too.
+//!
+//! The low ends of a grid sum to at most 1; a grid is kept as two lists of ends. `cdf`, `spread`,
+//! `set` and the others are exact.
 #![tactic(auto)]
 
 mod empty;

@@ -1,5 +1,8 @@
 //! The bounds of a plan, of its settings and of the numbers that follow from them: each is defined
 //! once, in `specs/Limits.antt`, and here are those that code compares with.
+//!
+//! `most_amount` and `most_horizon` give the bounds that depend on a plan's number of cells.
+//! Nothing else runs, and nothing is proved of a bound alone.
 #![tactic(auto)]
 
 ghost use Rattle.std.specs.Prelude.{◌≡◌};

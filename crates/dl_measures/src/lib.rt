@@ -6,6 +6,13 @@
 //! The clauses speak of every list of losses that can be declared (`AreDeclared`). Those of the
 //! units of every valid plan can, `aggregates_of plan`, whatever their counts and aggregate
 //! clauses, by `dl_model::plans::law_declared`.
+//!
+//! `quantile` gives the least sums at which the high and the low end of the distribution reach `p`,
+//! a bracket that holds the declared quantile and is tight (`holds`, `tight`). `layer_mean` holds
+//! the declared mean of a layer, and `tail_mean` the tail mean at every quantile that there can be,
+//! or none exactly where the bracket has no high end (`none`, `holds`, `width`). What an enclosing
+//! grid gives are laws over any ends (`law_cdf_ends`, `law_layer_ends`, `law_bracket`,
+//! `law_tight`).
 #![tactic(auto)]
 
 mod distribution;

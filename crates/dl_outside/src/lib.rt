@@ -5,6 +5,16 @@
 //! [`read_all`] and [`write_all`] are all that the rest of the program uses. [`MemSource`],
 //! [`SteadySource`] and [`MemSink`] are over memory, for callers without an operating system and
 //! for tests; [`StdSource`] and [`StdSink`] are over std's readers and writers.
+//!
+//! `read_all` gives exactly the bytes that were left, or says that there were too many, or that a
+//! read failed, which has its cause. It asks for no more than it may take, and each of its reads
+//! but the last gave some bytes, so that none follows the end of the input or a read that failed
+//! (`reading`). `write_all` appends all bytes, or a proper prefix of them where a write failed, and
+//! each write offers all that is left. Where nothing failed the counts of faults are as they were
+//! (`steady`). The sources and sinks over memory fail exactly at the calls at which they are told
+//! to. `StdSource` and `StdSink` move the bytes that std's reader and writer move, and count a
+//! fault for each call that fails; that they make one call of these for each of their own is
+//! tested.
 #![tactic(auto)]
 
 mod drop_sink;

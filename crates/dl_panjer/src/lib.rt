@@ -1,6 +1,12 @@
 //! Grids of compound Poisson and compound geometric sums by Panjer's recursion: cell 0 encloses the
 //! probability of no claim, and each later cell follows from those before it, with two outward
 //! roundings for each end.
+//!
+//! `poisson_base` and `geometric_base` give grids by Panjer's recursion with two outward roundings
+//! for each end of a cell (`follows`), from a first cell that encloses the probability of no claim
+//! (`start`), which enclose the compound sums of these counts (`encloses`) and spread no more than
+//! is stated (`spread`). To enclose the exponential is to hold 1 over the sums of its series, and
+//! these are the sums of the Poisson weights (`law_exponential`).
 #![tactic(auto)]
 
 mod follow;

@@ -1,5 +1,10 @@
 //! Reads a program from the tokens of a text. Tokens spell one program and no other, or they are
 //! refused at the first one with which no program goes on.
+//!
+//! `parse` gives the program that the tokens spell, or the greatest number of tokens that begin a
+//! program (`spelled`, `refused`). The same tokens spell no other program (`law_one_program`), and
+//! stop at one place only (`law_one_stop`). The lines that the parser reads in another form spell
+//! the same as they are written (`law_as_written`).
 #![tactic(auto)]
 
 ghost use Rattle.std.specs.Prelude.{◌≡◌, ℕ, List};

@@ -1,5 +1,11 @@
 //! The canonical text of a program: one spelling of its syntax, with names, numerals and notes as
 //! they were written.
+//!
+//! `print` gives the canonical text, which is defined over the program's tokens and the gap between
+//! two neighbours. That text has one token list, which spells the same program apart from places
+//! (`law_reads_back`), and no other (`law_reads_nothing_else`), and programs that differ in their
+//! places alone have one canonical text (`law_same_text`): so formatting what was formatted changes
+//! nothing.
 #![tactic(auto)]
 
 ghost use Rattle.std.specs.Prelude.{◌≡◌, IfOk};

@@ -11,6 +11,17 @@
 //! the cells of a gamma count of a small shape without a division, where the amounts are one run;
 //! `start` and `first` hold the probability of no claim; `to_grid` makes the grid, and `direct` has
 //! the two counts.
+//!
+//! `poisson_direct` and `gamma_direct` give a grid that encloses the compound sum, or none
+//! (`encloses`). No clause says when there is none: `unit_grid_with` of `dl_unit` then makes the
+//! unit from equal parts of its mean, with the same contract, which costs time alone. What a run of
+//! amounts gives to a cell by its window, two sums over cells that move on with each cell, is what
+//! its amounts give one by one (`runs_contribution`), and a quotient that was guessed is the
+//! quotient (`quotient`), so neither changes an answer. A gamma count of a shape up to 8 whose
+//! amounts are one run goes by as many passes, each of which raises the shape by one (`round` of
+//! `pass`; `raised_next` of its proofs), with the same contract. Where all amounts are multiples of
+//! a number, the sums of claims are those of the amounts over it, at its multiples, and 0 between
+//! (`multiples_enclose` of `dl_model`).
 #![tactic(auto)]
 
 mod cells;

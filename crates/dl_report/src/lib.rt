@@ -1,4 +1,7 @@
 //! The rows of a report, and its three forms: lines, comma-separated values and JSON.
+//!
+//! `text`, `csv` and `json` give a report's bytes, and the bytes of each form determine its rows
+//! (`law_text_determines_rows` and its two likes).
 #![tactic(auto)]
 
 mod ends;

@@ -1,6 +1,9 @@
 //! The steps of a severity, from the lists of a program to the amounts and whole weights of a plan:
 //! the values of a list, whole buckets, whole weights, the mixture, the conditioning on exceeding
 //! an attachment, the layer and the occurrence clause. Each is exact, or refused.
+//!
+//! `expand`, `amounts`, `weigh`, `merge`, `mix`, `above`, `cut`, `cede_each`, `fits` and `mean` are
+//! exact, and each refusal comes exactly where its definition says.
 #![tactic(auto)]
 
 mod atoms;

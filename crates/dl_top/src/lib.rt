@@ -6,6 +6,9 @@
 //! memory first, and goes to one of two sinks: what was asked for to the one, the text of a fault
 //! to the other. [`run_with_arguments`] calls it with the words among the program's arguments, and
 //! gives the number of its status.
+//!
+//! Beside `run` and `run_with_arguments`, `fault_text` and `made` are exact, and `Status::code` is
+//! the number of a status.
 #![tactic(auto)]
 
 mod arguments;

@@ -6,6 +6,19 @@
 //! The transform is the decimation of Cooley and Tukey in remainders (Pollard, 1971), with products
 //! by constants after Shoup and products of values after Montgomery, and a sum from its two
 //! remainders after Garner.
+//!
+//! `checked_product` and `checked_square` give the exact sums of products of two lists, wherever
+//! the tables have room for both, no more sums are wanted than the lists have items together, the
+//! items of the one list add up to less than 2^64, and that sum times the greatest item of the
+//! other is below 2^123 (`each`, `found`). `checked_ends` has those of the low ends and those of
+//! the high ends at once, from low ends and widths (`low`, `high`), and `checked_values` the same
+//! from the values of both lists, which `values_of_ends` makes for several products (`low`,
+//! `high`); no clause says where they find them. `checked_list_values` has the sums of
+//! `checked_product` from the values of both lists that `values_of_list` makes (`each`, `found`).
+//! No number theory is in it: that the numbers are primes, or have roots of unity, is claimed
+//! nowhere. `set_up` computes its constants without proof, and gives them out only after each one
+//! has been checked (`right`). No clause says that it gives any: where it does not, `dl_product`
+//! multiplies the other way, which costs time and changes no clause.
 #![tactic(auto)]
 
 mod cell_values;

@@ -1,4 +1,9 @@
 //! The typing rules: what a program means, its plan, or the first rule that it breaks.
+//!
+//! `check` gives the plan of a program, which is valid, or the first broken rule with its unit and
+//! place (`IsCheckOf`). Each of the 28 rules is a definition of its own. A program that breaks none
+//! has a valid plan (`law_accepted`), and a program and settings have at most one plan
+//! (`law_plan_unique`): the definition of a plan leaves nothing open.
 #![tactic(auto)]
 
 mod broken;
