@@ -13,7 +13,7 @@ EXAMPLES := $(wildcard examples/*.* examples/gallery/* examples/many/*)
 CLIENTS := clients/r/decl.R clients/python/README.md clients/python/pyproject.toml $(wildcard clients/python/backend/*.py) \
 	$(wildcard clients/python/src/decl/*.*) clients/check_steps.py clients/check_steps.c
 
-.PHONY: all demo test hostile bench help install dist deb wheel uninstall clean
+.PHONY: all demo check test hostile bench help install dist deb wheel uninstall clean
 
 all: $(PROGRAM) ## proves and builds the program (the first time takes many minutes); it needs rt
 
@@ -28,6 +28,9 @@ demo: $(PROGRAM) ## the same, and runs it on two examples, with a certificate
 	$(PROGRAM) run --digits 4 mean q:0.99 tail:0.99 layer:100xs400 kappa:Motor:425 < examples/portfolio.decl
 	@echo "decl: a certificate of the two dice (docs/STEPS.md)"
 	@scripts/demo_certificate.sh $(PROGRAM)
+
+check: $(PROGRAM) ## the tests without their proofs, and the clients, in minutes: it ends with 'N passed, M failed, K skipped'
+	@.ci/test --quick
 
 test: ## every proof, must-fail edit, test and program, and the clients: it ends with 'N passed, M failed, K skipped'
 	@.ci/test
