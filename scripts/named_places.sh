@@ -77,5 +77,13 @@ for line in $names; do
         is_there "$crate above $other in the drawing" above "$crate" "$other"
     done
 done
+# what stands on the lexer, one on another, as crates.txt says; and as docs/ARCHITECTURE.md does
+above_lexer=$(awk -F: '/^[a-z]/ && $1 !~ /_tests$/ {
+    count = split($2, below, " ")
+    for (i = 1; i <= count; i++) if (below[i] == "dl_lexer" || below[i] in above) above[$1]
+    if ($1 in above) print $1
+}' crates.txt | sort)
+told=$(sed -n '/^On the lexer stand/,/:/p' docs/ARCHITECTURE.md | sed 's/:.*//' | grep -oE '`[a-z_]+`' | tr -d '`' | sort)
+is_there "each crate above the lexer, and no other" test "$above_lexer" = "$told"
 echo "$passed passed, $failed failed"
 [ "$failed" -eq 0 ]
