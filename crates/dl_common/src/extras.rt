@@ -7,8 +7,8 @@ ghost use Rattle.dl_common.specs.Extra.{CanRaise, IsExtra, extra_count};
 
 use crate::copies::copied;
 use crate::pooling::are_admitted;
-use dl_frac::Frac;
 use dl_bytes::Text;
+use dl_frac::Frac;
 use dl_plan::{Freq, Unit};
 use std::alloc::{AllocError, Global};
 

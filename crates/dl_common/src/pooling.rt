@@ -10,8 +10,8 @@ ghost use Rattle.dl_common.specs.Pooled.{IsPooled, alone, lent};
 
 use crate::copies::severities;
 use crate::shares::{expected, shares, sharing};
-use dl_frac::Frac;
 use dl_bytes::Text;
+use dl_frac::Frac;
 use dl_limits::{ADMITTED_BOUND, MOST_EXPECTED};
 use dl_plan::{Freq, Plan, Sev, Unit};
 use dl_sev::{MixFault, WeighFault, Weights, mix, weigh};

@@ -6,8 +6,8 @@ ghost use Rattle.dl_plan.specs.Prelude.{IsValid, SharesFactor};
 ghost use Rattle.dl_common.specs.Pooled.{IsPooled, IsRaised, alone};
 
 use crate::copies::copied;
-use dl_frac::Frac;
 use dl_bytes::Text;
+use dl_frac::Frac;
 use dl_plan::{Freq, Unit};
 use std::alloc::{AllocError, Global};
 

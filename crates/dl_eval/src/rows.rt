@@ -13,10 +13,10 @@ ghost use Rattle.dl_eval.specs.Drawn.{AreDrawnOf, HasCells, HasNeeded, total_dra
 
 use crate::drawn::PlanGrids;
 use crate::shares::{joint_of, share_row, tail_share_row};
+use dl_bytes::Text;
 use dl_distort::price;
 use dl_frac::Frac;
 use dl_iv::Iv;
-use dl_bytes::Text;
 use dl_measures::{Distribution, layer_mean, quantile, tail_mean};
 use dl_plan::{Ask, Asked, Plan, Term};
 use dl_report::{End, Row};

@@ -10,8 +10,8 @@ ghost use Rattle.dl_plan.specs.Severity.{probability_of, pairs_of, conditioned, 
 use crate::item::Item;
 use crate::severity::Sev;
 use crate::totals::total_weight;
-use dl_frac::small_divisor;
 use dl_bytes::Items;
+use dl_frac::small_divisor;
 use std::alloc::{AllocError, Global};
 
 impl Sev {

@@ -3,8 +3,8 @@
 use crate::cede::Cede;
 use crate::item::Item;
 use crate::severity::Sev;
-use dl_frac::Frac;
 use dl_bytes::{Items, Text};
+use dl_frac::Frac;
 
 /// The claim count of a unit.
 #[derive(Drop)]

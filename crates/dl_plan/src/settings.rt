@@ -1,7 +1,7 @@
 //! The settings of a run, and what it asks.
 
-use dl_frac::Frac;
 use dl_bytes::{Items, Text};
+use dl_frac::Frac;
 
 /// What is done with the text.
 #[derive(Clone, Copy, Debug, PartialEq, Eq)]
