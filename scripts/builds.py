@@ -182,15 +182,19 @@ class Builds(Case):
         loader = importlib.machinery.SourceFileLoader("build", str(ROOT / ".ci" / "build"))
         build = importlib.util.module_from_spec(importlib.util.spec_from_loader("build", loader))
         loader.exec_module(build)
-        progress, real = build.Progress(build.needed()), build.Progress(build.needed())
-        real.weights = {name: 2 * (0.8 + zlib.crc32(name.encode()) % 40 / 100) * each for name, each in progress.weights.items()}
-        ends, before = real.planned(), None
-        for number, end in enumerate(ends[:-1]):
-            progress.done.add(number)
-            progress.begun = time.monotonic() - end
-            left = progress.left()
-            if before is not None and end > ends[-1] / 10:
-                self.assertLess(abs(left - before + end - ends[number - 1]), before / 3)
+        progress = build.Progress(build.needed())
+        took = {name: 2 * (0.8 + zlib.crc32(name.encode()) % 40 / 100) * each for name, each in progress.weights.items()}
+        waits, runs, before, now = [*progress.crates], {}, None, 0
+        while waits or runs:
+            ready = [name for name in waits if all(below in progress.ends for below in progress.crates[name])]
+            for name in sorted(ready, key=progress.chains.get, reverse=True)[: progress.lanes - len(runs)]:
+                waits.remove(name)
+                runs[name] = now + took[name]
+            name, last, now = min(runs, key=runs.get), now, min(runs.values())
+            progress.ends[name] = runs.pop(name)
+            left = progress.left(name, now)
+            if before is not None and left is not None and len(progress.ends) > len(took) / 10:
+                self.assertLess(abs(left - before + now - last), before / 3)
             before = left
 
     def test_no_kit(self):
