@@ -1,10 +1,12 @@
 /* Checks a certificate of a total: the lines of a plan, a line ---, and the steps (docs/STEPS.md).
 
-       cc -std=c11 -O2 -o check_steps check_steps.c && ./check_steps < FILE
+       cc -std=c11 -O2 -o check_steps check_steps.c && ./check_steps [FILE]
 
-   It works in 128-bit words and shares no code with decl. It writes `verified`, or the number of the first bad
-   step. Status 0: verified; 1: a bad step; 2: the plan is not one that it reads, or memory is short. */
+   It reads FILE or standard input, works in 128-bit words and shares no code with decl. It writes `verified`, or
+   the number of the first bad step. Status 0: verified; 1: a bad step; 2: the plan or the list is not one that it
+   reads; 3: the words are not understood; 4: the input could not be read; 5: a write failed; 6: memory is short. */
 
+#include <errno.h>
 #include <stdint.h>
 #include <stdio.h>
 #include <stdlib.h>
@@ -15,9 +17,13 @@ typedef unsigned __int128 wide;
 #define ONE ((uint64_t)1 << 56)
 #define MOST_UNITS 16
 #define MOST_CELLS 1024
+#define MOST_INPUT 67108864             /* bytes, with the plan and the steps */
+#define MOST_STEPS 65536
+#define MOST_STEP_CELLS 524288          /* in all steps together */
 #define MOST_PARTS ((uint64_t)1 << 30)  /* the weights of a severity together */
 #define ADMITTED ((uint64_t)1 << 48)    /* above both parts of a mean or a probability */
 
+enum status { VERIFIED, BAD_STEP, NOT_READ, BAD_WORDS, NO_INPUT, NOT_WRITTEN, NO_MEMORY };
 enum kind { FIXED, BERNOULLI, BINOMIAL, POISSON, GAMMA };
 
 /* A unit: its count, and the weight of each amount of one claim that lies in the grid. */
@@ -39,22 +45,36 @@ struct step {
 
 static struct unit units[MOST_UNITS];
 static size_t unit_count, cells;
+
+/* What is taken from the heap: the input, the steps that have passed and the one that is tested, and all their ends. */
+static char *bytes;
 static struct step *steps;
-static size_t step_count, step_room;
+static uint64_t *ends;
+static size_t step_count;
 
 /* The text that is left of a line. */
 struct text {
     const char *at, *end;
 };
 
-static void refuse(const char *why) {
-    fprintf(stderr, "not read: %s\n", why);
-    exit(2);
+static void give_back(void) {
+    free(bytes);
+    free(steps);
+    free(ends);
 }
 
-static void *room(void *old, size_t bytes) {
-    void *made = realloc(old, bytes);
-    if (!made) refuse("memory is short");
+/* Ends the program with a fault: what it is, and what more is known of it, or "". */
+static void stop(enum status status, const char *fault, const char *more) {
+    fprintf(stderr, "%s%s\n", fault, more);
+    exit(status);
+}
+
+static void refuse(const char *why) { stop(NOT_READ, "not read: ", why); }
+
+/* Room for `count` things of `size` bytes, at least one, all 0. */
+static void *room(size_t count, size_t size) {
+    void *made = calloc(count ? count : 1, size);
+    if (!made) stop(NO_MEMORY, "memory is short", "");
     return made;
 }
 
@@ -128,7 +148,7 @@ static void reads_amounts(struct text *line, struct unit *unit) {
     }
     if (line->at != line->end) refuse("a unit goes on");
     if (!unit->total && unit->kind < POISSON) refuse("a unit without amounts");
-    if (!unit->total && unit->num) refuse("a mean without amounts");
+    if (unit->kind >= POISSON && (unit->total > 0) != (unit->num > 0)) refuse("a mean without amounts, or amounts without a mean");
 }
 
 /* `unit fixed N`, `unit bernoulli Q`, `unit binomial N Q`, `unit poisson M` or `unit gamma R M`, and ` of A:W ..` */
@@ -173,11 +193,12 @@ static void reads_plan(struct text *text) {
     if (log2 < 1 || log2 > 10) refuse("log2 is not from 1 to 10");
     cells = (size_t)1 << log2;
     while (takes_line(text, &line)) {
-        if (line.end - line.at == 3 && takes(&line, "---")) return;
+        if (line.end - line.at == 3 && takes(&line, "---")) break;
         if (unit_count == MOST_UNITS) refuse("more than 16 units");
         if (!takes(&line, "unit ")) refuse("a line that is no unit");
         reads_unit(&line, &units[unit_count++]);
     }
+    if (!unit_count) refuse("a plan without units");
 }
 
 /* ---- the numbers of the table */
@@ -313,44 +334,46 @@ static int is_good(struct text line, struct step *step) {
 
 /* The number of the first bad step, or of all steps where the last is not the total; -1 where the total is enclosed. */
 static long first_bad(struct text *text) {
-    struct text line;
-    while (takes_line(text, &line)) {
-        if (step_count == step_room) {
-            step_room = step_room ? 2 * step_room : 64;
-            steps = room(steps, step_room * sizeof *steps);
-        }
+    struct text line, rest = *text;
+    size_t lines = 0;
+    while (takes_line(&rest, &line)) lines++;
+    if (lines > MOST_STEPS) refuse("more than 65,536 steps");
+    if (lines * cells > MOST_STEP_CELLS) refuse("more than 524,288 cells in all steps");
+    steps = room(lines, sizeof *steps);
+    ends = room(lines, 2 * cells * sizeof *ends);
+    for (; takes_line(text, &line); step_count++) {
         struct step *step = &steps[step_count];
-        step->low = room(NULL, 2 * cells * sizeof *step->low);
+        step->low = ends + 2 * cells * step_count;
         step->high = step->low + cells;
         if (!is_good(line, step)) return (long)step_count;
-        step_count++;
     }
     for (size_t u = 0; u < unit_count; u++)
         if (!step_count || steps[step_count - 1].label[u] != units[u].target) return (long)step_count;
-    return step_count ? -1 : 0;
+    return -1;
 }
 
-/* All of standard input. */
-static struct text input(void) {
-    size_t length = 0, size = 1 << 20;
-    char *all = room(NULL, size);
-    for (size_t read; (read = fread(all + length, 1, size - length, stdin)) > 0;) {
-        length += read;
-        if (length == size) all = room(all, size *= 2);
-    }
-    if (ferror(stdin)) refuse("the input could not be read");
-    return (struct text){all, all + length};
+/* All of a file, or of standard input without one, up to the first byte that is too many. */
+static struct text input(const char *name) {
+    FILE *file = name ? fopen(name, "rb") : stdin;
+    if (!file) stop(NO_INPUT, "the input could not be read: ", strerror(errno));
+    bytes = room(MOST_INPUT + 1, 1);
+    size_t length = fread(bytes, 1, MOST_INPUT + 1, file);
+    if (ferror(file)) stop(NO_INPUT, "the input could not be read: ", strerror(errno));
+    if (name) fclose(file);
+    if (length > MOST_INPUT) refuse("more than 67,108,864 bytes");
+    return (struct text){bytes, bytes + length};
 }
 
-int main(void) {
-    struct text text = input();
+int main(int count, char **words) {
+    if (atexit(give_back)) stop(NO_MEMORY, "memory is short", "");
+    if (count > 2 || (count == 2 && words[1][0] == '-')) stop(BAD_WORDS, "usage: check_steps [FILE]", "");
+    struct text text = input(count == 2 ? words[1] : NULL);
     reads_plan(&text);
-    if (!unit_count) refuse("a plan without units");
     long bad = first_bad(&text);
     if (bad >= 0) {
         fprintf(stderr, "step %ld: not verified\n", bad);
-        return 1;
+        return BAD_STEP;
     }
-    puts("verified");
-    return 0;
+    if (puts("verified") == EOF || fflush(stdout) == EOF) stop(NOT_WRITTEN, "the output could not be written", "");
+    return VERIFIED;
 }

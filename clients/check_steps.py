@@ -5,26 +5,56 @@
 
 It reads FILE or standard input by docs/LANGUAGE.md and docs/STEPS.md, in whole numbers alone, and shares no
 code with decl. It writes `verified`, or the number of the first bad step. With --plan it writes the plan of the
-program, in the lines that check_steps.c reads, and reads no step. Status 0: verified; 1: a bad step; 2: the
-program is not one that it reads, or has a unit that steps do not cover."""
+program, in the lines that check_steps.c reads, and reads no step. Status 0: verified, or the plan is written;
+1: a bad step; 2: the program or the list is not one that it reads, or a unit is not covered; 3: the words are
+not understood; 4: the input could not be read; 5: a write failed; 6: memory is short."""
 
 import re
 import sys
+from bisect import bisect_right
+from decimal import MAX_EMAX, MAX_PREC, MIN_EMIN, Context, Decimal, Inexact
 from fractions import Fraction
-from math import lcm
+from functools import cache
+from itertools import accumulate
+from math import gcd, lcm
+from operator import add, gt
 
 ONE = 1 << 56
 SERIES_ONE = 1 << 63
 TERMS = 18
+
+# The limits of docs/STEPS.md on what is read, and of docs/LANGUAGE.md on a program.
+MOST_INPUT = 67_108_864  # bytes, with the program and the steps
+MOST_PROGRAM = 1_048_576  # bytes
+MOST_STEPS = 65_536
+MOST_STEP_CELLS = 524_288  # in all steps together
+MOST_UNITS = 16
+MOST_ATOMS = 64
+MOST_LAYERS = 16
+MOST_VALUES = 1_024
+MOST_RANGE_PARTS = 1_000_000
+MOST_AMOUNT = 1 << 20  # buckets
+NO_LIMIT = 1 << 21  # buckets, above each limit and each attachment
+MOST_PARTS = 1 << 30  # the common denominator of numbers that are fine
+ADMITTED = 1 << 48  # above both parts of an expected loss or count
+MOST_CLAIMS = 65_536
+MOST_EXPECTED = 4_096
 MOST_SHAPE = 10_000
+ABOVE_ZERO = ("poisson", "gamma")  # counts whose base has claims above 0 alone
 
 
 class Unread(Exception):
-    """The program is not one that this checker reads."""
+    """The program or the list is not one that this checker reads."""
 
 
 class NotCovered(Exception):
     """Steps do not cover this unit, by its number."""
+
+
+def asks(kept, rule):
+    """Refuses the program where it does not keep a rule."""
+    if not kept:
+        raise Unread(rule)
 
 
 # ---- tokens
@@ -45,54 +75,106 @@ KEYWORDS = set(
 def tokens_of(text):
     """The tokens of a text, each as its kind and its text; the kind of a keyword or a sign is itself."""
     found, at = [], 0
-    while at < len(text):
-        match = TOKEN.match(text, at)
-        if not match:
-            raise Unread(f"no token begins at byte {at}")
-        kind, word = match.lastgroup, match.group()
+    for match in TOKEN.finditer(text):
+        if match.start() != at:
+            break
+        kind, word, at = match.lastgroup, match.group(), match.end()
         if kind == "word":
             kind = "reserved" if word == "note" else word if word in KEYWORDS else "name"
         elif kind == "sign":
             kind = word
         if kind != "blank":
             found.append((kind, word))
-        at = match.end()
+    asks(at == len(text), f"no token begins at byte {at}")
     return found
 
 
-def value_of(numeral, digits=11):
-    """The value of a numeral of at most so many digits, 2 fewer before a percent sign."""
+@cache
+def value_of(numeral):
+    """The value of a numeral of at most 11 digits, 9 before a percent sign, 11 in each part of a fraction."""
     if "/" in numeral:
         above, below = numeral.split("/")
-        if max(len(above), len(below)) > digits or int(below) == 0:
-            raise Unread(f"bad numeral {numeral}")
+        asks(max(len(above), len(below)) <= 11 and int(below) > 0, "a bad numeral")
         return Fraction(int(above), int(below))
     percent = numeral.endswith("%")
     front, _, back = numeral.rstrip("%").partition(".")
-    if len(front + back) > digits - 2 * percent:
-        raise Unread(f"bad numeral {numeral}")
+    asks(len(front + back) <= 11 - 2 * percent, "a bad numeral")
     return Fraction(int(front + back), 10 ** (len(back) + 2 * percent))
+
+
+def in_units(number, unit):
+    """How often a number has a unit in it, which has to be a whole number."""
+    whole, rest = divmod(number.numerator * unit.denominator, number.denominator * unit.numerator)
+    asks(rest == 0, "an amount, a limit or an attachment is no whole number of buckets")
+    return whole
+
+
+def values_of(items, unit):
+    """The values of the items of a list, in whole numbers of a unit."""
+    values = []
+    for first, step, count in items:
+        start = in_units(first, unit)
+        if count == 1:
+            values.append(start)
+        else:
+            by = in_units(step, unit)
+            values += range(start, start + count * by, by)
+    return values
+
+
+def common_parts(numbers):
+    """The least common multiple of the denominators, where it is fine."""
+    common = 1
+    for number in numbers:
+        common = lcm(common, number.denominator)
+        asks(common <= MOST_PARTS, "a list is not fine")
+    return common
+
+
+def weights_of(items):
+    """The values of a list of probabilities as whole weights, and the whole of which they are parts."""
+    whole = common_parts(number for first, step, _ in items for number in (first, step))
+    weights = values_of(items, Fraction(1, whole))
+    asks(sum(weights) == whole, "a list of probabilities does not add up to 1")
+    return weights, whole
+
+
+def added(pairs):
+    """The weight of each amount of some pairs of amount and weight; equal amounts are added up, those of weight 0 dropped."""
+    together = {}
+    for amount, weight in pairs:
+        if weight:
+            together[amount] = together.get(amount, 0) + weight
+    return together
 
 
 # ---- the grammar, one method for each line of it
 
+END = "end", ""  # behind the last token
+
 
 class Reader:
-    """The tokens of a program, and how many of them are read."""
+    """The tokens of a program, and how many of them are read; amounts are read in whole buckets."""
 
-    def __init__(self, tokens):
-        self.tokens, self.at, self.severities = tokens, 0, {}
+    def __init__(self, tokens, bucket):
+        self.tokens, self.bucket, self.at = [*tokens, END, END], bucket, 0
+        self.definitions, self.severities = {}, {}
 
     def sees(self, *kinds):
         """Whether the next token has one of these kinds."""
-        return self.at < len(self.tokens) and self.tokens[self.at][0] in kinds
+        return self.tokens[self.at][0] in kinds
+
+    def sees_behind(self, *kinds):
+        """Whether the token behind the next one has one of these kinds."""
+        return self.tokens[self.at + 1][0] in kinds
 
     def takes(self, *kinds):
         """Reads the next token where it has one of these kinds: its text, or None."""
-        if not self.sees(*kinds):
+        kind, word = self.tokens[self.at]
+        if kind not in kinds:
             return None
         self.at += 1
-        return self.tokens[self.at - 1][1]
+        return word
 
     def wants(self, *kinds):
         """Reads the next token, which has one of these kinds."""
@@ -102,44 +184,43 @@ class Reader:
         return word
 
     def number(self):
+        """The value of a numeral."""
         return value_of(self.wants("numeral"))
+
+    def buckets(self):
+        """An amount, a limit or an attachment, in whole buckets."""
+        number = in_units(self.number(), self.bucket)
+        asks(number <= MOST_AMOUNT, "an amount, a limit or an attachment is too far")
+        return number
 
     def program(self):
         """program := sevdef* unit | sevdef* 'port' NAME common? NOTE? unit unit*"""
         while self.takes("sev"):
             name = self.wants("name")
-            if name in self.severities:
-                raise Unread(f"severity {name} twice")
+            asks(name not in self.definitions, "two severities of one name")
             start = self.at
             self.mixture(skip=True)
-            self.severities[name] = self.tokens[start : self.at]
-        common, units = False, []
-        if self.takes("port"):
+            self.definitions[name] = self.tokens[start : self.at]
+        is_portfolio, common = self.takes("port") is not None, False
+        if is_portfolio:
             self.wants("name")
             common = self.takes("common") is not None
             if common:
                 self.wants("numeral")
             self.takes("note")
+        units = [self.unit()]
+        while is_portfolio and self.sees("agg"):
+            asks(len(units) < MOST_UNITS, "more than 16 units")
             units.append(self.unit())
-            while self.sees("agg"):
-                units.append(self.unit())
-        else:
-            units.append(self.unit())
-        if self.at < len(self.tokens):
-            raise Unread(f"token {self.at}: the program goes on")
-        names = [unit["name"] for unit in units]
-        if len(set(names)) < len(names):
-            raise Unread("two units of one name")
-        if len(units) > 16:
-            raise Unread("more than 16 units")
+        asks(self.sees("end"), f"token {self.at}: the program goes on")
+        asks(len({unit["name"] for unit in units}) == len(units), "two units of one name")
         return common, units
 
     def unit(self):
         """unit := 'agg' NAME exposure layer? sev occ? freq agr? NOTE?, or with 'dfreq' for exposure and freq"""
         self.wants("agg")
-        unit = {"name": self.wants("name"), "listed": False}
-        if self.takes("dfreq"):
-            unit["listed"] = True
+        unit = {"name": self.wants("name"), "listed": self.takes("dfreq") is not None}
+        if unit["listed"]:
             self.list()
             if self.sees("["):
                 self.list()
@@ -148,11 +229,12 @@ class Reader:
         unit["layer"] = self.layer() if self.sees("numeral", "inf") else None
         unit["severity"], unit["kept"] = self.severity()
         unit["occurrence"] = self.clause() if self.takes("occurrence") else None
+        unit["changed"] = None
         if not unit["listed"]:
             unit["count"] = self.count()
-        unit["changed"] = self.takes("zt", "zm")
-        if unit["changed"] == "zm":
-            self.wants("numeral")
+            unit["changed"] = self.takes("zt", "zm")
+            if unit["changed"] == "zm":
+                self.wants("numeral")
         unit["aggregate"] = self.clause() if self.takes("aggregate") else None
         self.takes("note")
         return unit
@@ -171,88 +253,89 @@ class Reader:
         return "loss", first * ratio
 
     def layer(self):
-        """layer := limit 'xs' NUMERAL; no limit is None"""
-        limit = None if self.takes("inf") else self.number()
+        """layer := limit 'xs' NUMERAL"""
+        limit = NO_LIMIT if self.takes("inf") else self.buckets()
         self.wants("xs")
-        return limit, self.number()
+        return limit, self.buckets()
 
     def severity(self):
         """sev := mixture '!'? | REF '!'?"""
         name = self.takes("ref")
         if name is None:
             amounts = self.mixture()
-        elif name[4:] in self.severities:
-            amounts = Reader(self.severities[name[4:]]).mixture()
         else:
-            raise Unread(f"no severity {name[4:]}")
+            name = name.removeprefix("sev.")
+            asks(name in self.definitions, "a severity that is not there")
+            if name not in self.severities:
+                self.severities[name] = Reader(self.definitions[name], self.bucket).mixture()
+            amounts = self.severities[name]
         return amounts, self.takes("!") is not None
 
     def mixture(self, skip=False):
-        """mixture := atom | atom atom* 'wts' list: the amounts with their probabilities; with `skip` it is only read"""
+        """mixture := atom | atom atom* 'wts' list: the weights of the amounts; with `skip` it is only read"""
         atoms = [self.atom(skip)]
-        while self.sees("dsev") or (self.sees("sev") and self.tokens[self.at + 1 : self.at + 2] == [("dhistogram",) * 2]):
+        while self.sees("dsev") or self.sees("sev") and self.sees_behind("dhistogram"):
+            asks(skip or len(atoms) < MOST_ATOMS, "a severity of more than 64 atoms")
             atoms.append(self.atom(skip))
+        weights, whole = [1], 1
         if len(atoms) > 1 or self.sees("wts"):
             self.wants("wts")
-            weights = self.list(skip)
-        else:
-            weights = [Fraction(1)]
+            items = self.list(skip)
+            weights, whole = ([], 1) if skip else weights_of(items)
         if skip:
             return {}
-        if len(weights) != len(atoms) or sum(weights) != 1:
-            raise Unread("weights of a mixture")
-        together = {}
-        for weight, atom in zip(weights, atoms):
-            for amount, part in atom.items():
-                together[amount] = together.get(amount, 0) + weight * part
-        return positive(together)
+        asks(len(weights) == len(atoms), "not one weight for each atom")
+        common = 1
+        for weight, (amounts, total) in zip(weights, atoms):
+            below = whole * total
+            common = lcm(common, below // gcd(below, *(weight * part for part in amounts.values())))
+            asks(common <= MOST_PARTS, "a mixture is not fine")
+        return added(
+            (amount, weight * part * common // (whole * total))
+            for weight, (amounts, total) in zip(weights, atoms)
+            for amount, part in amounts.items()
+        )
 
     def atom(self, skip):
-        """atom := 'dsev' list list? | 'sev' 'dhistogram' 'xps' list list?"""
+        """atom := 'dsev' list list? | 'sev' 'dhistogram' 'xps' list list?: the weights of the amounts, and their whole"""
         if not self.takes("dsev"):
             self.wants("sev")
             self.wants("dhistogram")
             self.wants("xps")
-        amounts = self.list(skip)
-        if self.sees("["):
-            parts = self.list(skip)
-        else:
-            parts = [Fraction(1, len(amounts))] * len(amounts) if amounts else []
+        items = self.list(skip)
+        parts = self.list(skip) if self.sees("[") else None
         if skip:
-            return {}
-        if len(parts) != len(amounts) or sum(parts) != 1:
-            raise Unread("probabilities of a severity")
-        together = {}
-        for amount, part in zip(amounts, parts):
-            together[amount] = together.get(amount, 0) + part
-        return positive(together)
+            return None
+        amounts = values_of(items, self.bucket)
+        asks(max(amounts) <= MOST_AMOUNT, "an amount is too far")
+        weights, whole = weights_of(parts) if parts else ([1] * len(amounts), len(amounts))
+        asks(len(weights) == len(amounts), "not one probability for each amount")
+        return added(zip(amounts, weights)), whole
 
     def clause(self):
-        """side cession ('and' cession)*: whether it is what the layers take, and each share with its layer"""
+        """side cession ('and' cession)*: whether it is what the layers take, the layers that are not empty, and their whole"""
         taken = self.wants("net", "ceded") == "ceded"
         self.wants("to" if taken else "of")
         cessions = [self.cession()]
         while self.takes("and"):
+            asks(len(cessions) < MOST_LAYERS, "a clause of more than 16 layers")
             cessions.append(self.cession())
-        ends = sorted((a, None if limit is None else a + limit) for _, limit, a in cessions)
-        for (_, end), (start, _) in zip(ends, ends[1:]):
-            if end is None or start < end:
-                raise Unread("two layers of a clause overlap")
-        return taken, cessions
+        whole = common_parts(share for share, _, _ in cessions)
+        layers = sorted((start, start + limit, int(share * whole)) for share, limit, start in cessions if limit)
+        for (_, end, _), (start, _, _) in zip(layers, layers[1:]):
+            asks(end <= start, "two layers of a clause overlap")
+        return taken, layers, whole
 
     def cession(self):
-        """cession := layer | NUMERAL 'so' layer | NUMERAL 'po' layer"""
-        share, parts = Fraction(1), None
-        if self.tokens[self.at + 1 : self.at + 2] in ([("so", "so")], [("po", "po")]):
-            share = self.number()
-            parts = self.wants("so", "po") == "po"
+        """cession := layer | NUMERAL 'so' layer | NUMERAL 'po' layer: the share, the limit and the attachment"""
+        share, word = Fraction(1), None
+        if self.sees_behind("so", "po"):
+            share, word = self.number(), self.wants("so", "po")
         limit, attachment = self.layer()
-        if parts:
-            if not limit:
-                raise Unread("a part of no limit")
-            share /= limit
-        if share > 1:
-            raise Unread("a share above 1")
+        if word == "po":
+            asks(0 < limit < NO_LIMIT, "a part of no limit")
+            share /= limit * self.bucket
+        asks(share <= 1, "a share above 1")
         return share, limit, attachment
 
     def count(self):
@@ -266,155 +349,138 @@ class Reader:
         return word, self.number() if word == "binomial" else None
 
     def list(self, skip=False):
-        """list := '[' item (','? item)* ']', with at most 1,024 values"""
+        """list := '[' item (','? item)* ']': its items"""
         self.wants("[")
-        values = self.item(skip)
-        while not self.takes("]"):
+        items, values = [], 0
+        while True:
+            items.append(self.item(skip))
+            values += items[-1][2]
+            asks(values <= MOST_VALUES, "a list of more than 1,024 values")
+            if self.takes("]"):
+                return items
             self.takes(",")
-            values += self.item(skip)
-            if len(values) > 1024:
-                raise Unread("a list of more than 1,024 values")
-        return values
 
     def item(self, skip):
-        """item := NUMERAL | NUMERAL ':' NUMERAL | NUMERAL ':' NUMERAL ':' NUMERAL"""
+        """item := NUMERAL | NUMERAL ':' NUMERAL | NUMERAL ':' NUMERAL ':' NUMERAL: the first value, the step, how many"""
         words = [self.wants("numeral")]
         while len(words) < 3 and self.takes(":"):
             words.append(self.wants("numeral"))
         if skip:
-            return []
-        first, *rest = [value_of(word) for word in words]
+            return 0, 0, 0
+        first, *rest = map(value_of, words)
         if not rest:
-            return [first]
-        step = rest[1] if len(rest) > 1 else Fraction(1)
-        if step == 0 or first > rest[0] or (rest[0] - first) / step >= 1024:
-            raise Unread(f"range {':'.join(words)}")
-        return [first + k * step for k in range(int((rest[0] - first) / step) + 1)]
-
-
-def positive(amounts):
-    """The amounts of positive probability."""
-    return {amount: part for amount, part in amounts.items() if part}
+            return first, 0, 1
+        last, step = rest[0], rest[1] if len(rest) > 1 else Fraction(1)
+        parts = lcm(first.denominator, last.denominator, step.denominator)
+        asks(step > 0 and first <= last and parts <= MOST_RANGE_PARTS, "a bad range")
+        count = (last - first) // step + 1
+        return first, step if count > 1 else 0, count
 
 
 # ---- what a program means: units in whole buckets
 
 
-def in_layer(amount, limit, attachment):
-    """What of an amount lies in a layer."""
-    above = max(amount - attachment, Fraction(0))
-    return above if limit is None else min(above, limit)
-
-
-def mapped(amounts, image):
-    """The amounts that `image` makes of these, with their probabilities."""
+def in_clause(amounts, clause):
+    """The weights of what an occurrence clause makes of amounts."""
+    taken, layers, whole = clause
+    layers = [(0, 0, 0), *layers]
+    starts = [start for start, _, _ in layers]
+    below = [0, *accumulate((end - start) * share for start, end, share in layers)]
     together = {}
-    for amount, part in amounts.items():
-        value = image(amount)
-        together[value] = together.get(value, 0) + part
+    for amount, weight in amounts.items():
+        number = bisect_right(starts, amount) - 1
+        start, end, share = layers[number]
+        parts = below[number] + share * ((amount if amount < end else end) - start)
+        kept, rest = divmod(parts if taken else amount * whole - parts, whole)
+        asks(rest == 0, "what a clause takes or leaves is no whole number of buckets")
+        together[kept] = together.get(kept, 0) + weight
     return together
 
 
 def claim_of(unit):
-    """The severity of one claim before and after the occurrence clause, in money."""
-    amounts = unit["severity"]
-    limit, attachment = unit["layer"] or (None, Fraction(0))
-    if attachment > 0 and not unit["kept"]:
-        amounts = {amount: part for amount, part in amounts.items() if amount > attachment}
-        whole = sum(amounts.values())
-        if not amounts:
-            raise Unread("no amount above the attachment")
-        amounts = {amount: part / whole for amount, part in amounts.items()}
-    before = mapped(amounts, lambda x: in_layer(x, limit, attachment))
-    if unit["occurrence"] is None:
-        return before, before
-    taken, cessions = unit["occurrence"]
-
-    def clause(x):
-        ceded = sum(share * in_layer(x, limit, attachment) for share, limit, attachment in cessions)
-        return ceded if taken else x - ceded
-
-    return before, mapped(before, clause)
+    """The weights of the amounts of one claim before and after the occurrence clause."""
+    before = unit["severity"]
+    if unit["layer"]:
+        limit, attachment = unit["layer"]
+        least = 0 if unit["kept"] or attachment == 0 else attachment + 1
+        before = added((min(max(x - attachment, 0), limit), weight) for x, weight in before.items() if x >= least)
+        asks(before, "no amount above the attachment")
+    return before, in_clause(before, unit["occurrence"]) if unit["occurrence"] else before
 
 
-def in_buckets(unit, amounts, bucket):
-    """The amounts as whole numbers of buckets; each number of the unit has to be one."""
-    layers = [unit["layer"]] if unit["layer"] else []
-    layers += [layer[1:] for layer in unit["occurrence"][1]] if unit["occurrence"] else []
-    edges = [edge for layer in layers for edge in layer if edge is not None]
-    for number in [*unit["severity"], *edges, *amounts]:
-        if (number / bucket).denominator > 1:
-            raise Unread(f"{number} is no whole number of buckets")
-    return {int(amount / bucket): part for amount, part in amounts.items()}
+def is_admitted(number):
+    """Whether both parts of a fraction are below 2^48."""
+    return max(number.numerator, number.denominator) < ADMITTED
 
 
-class Unit:
-    """A unit of the plan: the kind of its count with its numbers, and the probabilities of one claim's amounts."""
-
-    def __init__(self, unit, bucket):
-        before, after = claim_of(unit)
-        amounts = in_buckets(unit, after, bucket)
-        kind, number = unit["count"]
-        count = unit["exposure"][1]
-        if unit["exposure"][0] == "loss":
-            mean = sum(amount * part for amount, part in before.items())
-            if mean == 0:
-                raise Unread("the expected claim is 0")
-            count /= mean
-        self.kind, self.amounts, self.shape, self.mean = kind, amounts, 1, count
-        if kind in ("poisson", "gamma"):
-            none = amounts.pop(0, Fraction(0))
-            self.mean = count * (1 - none)
-            self.amounts = {amount: part / (1 - none) for amount, part in amounts.items()}
-            if self.mean > 4096:
-                raise Unread("more than 4,096 expected claims above 0")
-        if kind == "gamma":
-            if number == 0 or (1 / number**2).denominator > 1 or 1 / number**2 > MOST_SHAPE:
-                raise Unread("the shape is not whole, or above 10,000")
-            self.shape = int(1 / number**2)
-        if kind == "fixed":
-            self.trials = whole_count(count)
-        if kind == "bernoulli" and count > 1:
-            raise Unread("more than 1 claim expected of bernoulli")
-        if kind == "binomial":
-            if not 0 < number <= 1:
-                raise Unread("the probability of binomial")
-            self.trials, self.mean = whole_count(count / number), number
-        self.halvings = 0
-        while kind == "poisson" and self.mean / 2**self.halvings > Fraction(1, 2):
-            self.halvings += 1
-
-    def target(self):
-        """How often the unit's base stands in the total."""
-        if self.kind in ("fixed", "binomial"):
-            return self.trials
-        if self.kind == "bernoulli":
-            return 1
-        if self.mean == 0:
-            return 0
-        return 2**self.halvings if self.kind == "poisson" else self.shape
-
-    def line(self):
-        """The unit as a line of a plan."""
-        numbers = {"fixed": [], "bernoulli": [self.mean], "poisson": [self.mean]}.get(self.kind)
-        if numbers is None:
-            numbers = [self.trials if self.kind == "binomial" else self.shape, self.mean]
-        if self.kind == "fixed":
-            numbers = [self.trials]
-        whole = lcm(1, *(part.denominator for part in self.amounts.values()))
-        items = [f"{amount}:{int(part * whole)}" for amount, part in sorted(self.amounts.items())]
-        return " ".join(["unit", self.kind, *map(str, numbers), "of", *items])
+def expected_count(unit, before, bucket):
+    """The expected number of claims of a unit, with the weights of the amounts of a claim before the occurrence clause."""
+    kind, number = unit["exposure"]
+    if kind == "loss":
+        asks(is_admitted(number), "an expected loss is too fine")
+        mean = Fraction(sum(amount * weight for amount, weight in before.items()), sum(before.values()))
+        asks(mean > 0, "the expected claim is 0")
+        number /= mean * bucket
+    asks(is_admitted(number), "an expected count is too fine")
+    return number
 
 
 def whole_count(count):
-    if count.denominator > 1 or count > 65_536:
-        raise Unread("the number of claims is not whole, or above 65,536")
+    """A number of claims or of trials."""
+    asks(count.denominator == 1, "a number of claims is not whole")
+    asks(count <= MOST_CLAIMS, "more than 65,536 claims")
     return int(count)
 
 
-def plan_of(text, bucket):
+class Unit:
+    """A unit of the plan: the kind of its count, its number and its mean (the probability of one trial where there are trials),
+    the weights of the amounts of one claim, and how often the total counts its base."""
+
+    def __init__(self, unit, bucket):
+        before, self.weights = claim_of(unit)
+        self.total = sum(self.weights.values())
+        self.kind, number = unit["count"]
+        self.mean, self.number, self.halvings = expected_count(unit, before, bucket), 1, 0
+        if self.kind == "fixed":
+            self.number, self.mean = whole_count(self.mean), Fraction(1)
+        elif self.kind == "bernoulli":
+            asks(self.mean <= 1, "more than 1 claim expected of bernoulli")
+        elif self.kind == "binomial":
+            asks(0 < number <= 1, "the probability of binomial")
+            self.number, self.mean = whole_count(self.mean / number), number
+        else:
+            self.above_zero(number)
+        self.target = 2**self.halvings if self.kind == "poisson" else self.number
+        if self.mean == 0 and self.kind in ABOVE_ZERO:
+            self.target, self.weights = 0, {}
+
+    def above_zero(self, deviation):
+        """Takes the claims of 0 from a Poisson or a gamma unit; the deviation is that of gamma."""
+        none = self.weights.get(0, 0)
+        self.weights = {amount: weight for amount, weight in self.weights.items() if amount}
+        self.mean = self.mean * (self.total - none) / self.total
+        self.total -= none
+        asks(is_admitted(self.mean), "an expected count of claims above 0 is too fine")
+        asks(self.mean <= MOST_EXPECTED, "more than 4,096 expected claims above 0")
+        while self.kind == "poisson" and self.mean / 2**self.halvings > Fraction(1, 2):
+            self.halvings += 1
+        if self.kind == "gamma":
+            asks(deviation > 0 and (1 / deviation**2).denominator == 1, "a shape is not whole")
+            self.number = int(1 / deviation**2)
+            asks(self.number <= MOST_SHAPE, "a shape above 10,000")
+
+    def line(self):
+        """The unit as a line of a plan."""
+        numbers = {"fixed": [self.number], "bernoulli": [self.mean], "poisson": [self.mean]}
+        least = gcd(*self.weights.values())
+        items = (f"{amount}:{weight // least}" for amount, weight in sorted(self.weights.items()))
+        return " ".join(["unit", self.kind, *map(str, numbers.get(self.kind, [self.number, self.mean])), "of", *items])
+
+
+def plan_of(program, bucket):
     """The units of a program; NotCovered where steps do not cover one."""
-    common, units = Reader(tokens_of(text)).program()
+    asks(len(program) <= MOST_PROGRAM, "a program of more than 1,048,576 bytes")
+    common, units = Reader(tokens_of(program.decode("latin-1")), bucket).program()
     if common:
         raise NotCovered(0)
     for number, unit in enumerate(units):
@@ -423,111 +489,139 @@ def plan_of(text, bucket):
     return [Unit(unit, bucket) for unit in units]
 
 
-# ---- the numbers of the table
+# ---- the numbers of the table: those of a step are low and high numbers, from its own packed ends or from those of two steps
+
+PLACES = 37  # of one number in a packed list: 2^56 times 2^56 times 1,024 cells is below 10^37
+EXACT = Context(prec=MAX_PREC, Emax=MAX_EMAX, Emin=MIN_EMIN, traps=[Inexact])
 
 
-def floor(number):
-    return number.numerator // number.denominator
-
-
-def ceiling(number):
-    return -(-number.numerator // number.denominator)
+def packed(numbers):
+    """A list of numbers as one number: the first in its last 37 decimal places, the next in the 37 before."""
+    return Decimal(f"%0{PLACES}d" * len(numbers) % tuple(reversed(numbers)))
 
 
 def sums(first, second, cells):
-    """For each cell s the sum of first[i] * second[j] over i + j = s: one product of two long whole numbers."""
-    size = (max(first).bit_length() + max(second).bit_length() + cells.bit_length() + 7) // 8
-    packed = [int.from_bytes(b"".join(x.to_bytes(size, "little") for x in a), "little") for a in (first, second)]
-    product = (packed[0] * packed[1]).to_bytes(2 * size * cells, "little")
-    return [int.from_bytes(product[size * s : size * (s + 1)], "little") for s in range(cells)]
+    """For each cell s the sum of first[i] * second[j] over i + j = s, of two packed lists: one product."""
+    digits = str(EXACT.multiply(first, second)).zfill(PLACES * cells)
+    return [int(digits[end - PLACES : end]) for end in range(len(digits), len(digits) - PLACES * cells, -PLACES)]
 
 
-def exponential(x):
-    """The two ends of exp(-x), from the sum of 18 terms of the series of exp(x) after the first, in units of 2^-63."""
+def floors(above, below):
+    """The floors of fractions over one number."""
+    return [number // below for number in above]
+
+
+def ceilings(above, below):
+    """Their ceilings."""
+    return [-(-number // below) for number in above]
+
+
+def exponential(num, den):
+    """The two ends of exp(-num / den), from 18 terms of the series of exp after the first, in units of 2^-63."""
     low_term = high_term = low = high = SERIES_ONE
     for n in range(1, TERMS + 1):
-        divisor = x.denominator * n
-        low_term = low_term * x.numerator // divisor
-        high_term = -(-high_term * x.numerator // divisor)
+        low_term = low_term * num // (den * n)
+        high_term = -(-high_term * num // (den * n))
         low += low_term
         high += high_term
     return ONE * SERIES_ONE // (high + high_term), -(-ONE * SERIES_ONE // low)
 
 
-def start_numbers(unit, lows, highs):
-    """The lows and highs that the table names for a step of this unit with these ends."""
-    cells = len(lows)
-    if unit.kind in ("fixed", "bernoulli", "binomial"):
-        chance = Fraction(1) if unit.kind == "fixed" else unit.mean
-        parts = [chance * unit.amounts.get(s, 0) for s in range(cells)]
-        parts[0] += 1 - chance
-        return [floor(part * ONE) for part in parts], [ceiling(part * ONE) for part in parts]
-    whole = lcm(1, *(part.denominator for part in unit.amounts.values()))
-    weights = [int(unit.amounts.get(s, 0) * whole) for s in range(cells)]
+def one_claim(unit, cells):
+    """The numbers of a start of one claim or of one trial."""
+    num, den = unit.mean.numerator, unit.mean.denominator
+    parts = [num * unit.weights.get(cell, 0) * ONE for cell in range(cells)]
+    parts[0] += (den - num) * unit.total * ONE
+    lows, highs = floors(parts, den * unit.total), ceilings(parts, den * unit.total)
+    return lambda low, high: (lows, highs)
+
+
+def recursion(unit, cells):
+    """The numbers of a Poisson or a gamma start, by Panjer's recursion from its own ends."""
+    weights = [unit.weights.get(cell, 0) for cell in range(cells)]
+    num, den = unit.mean.numerator, unit.mean.denominator
     if unit.kind == "poisson":
-        rate = unit.mean / 2**unit.halvings
-        weights = [s * weight for s, weight in enumerate(weights)]
-        rates = [rate / max(s, 1) for s in range(cells)]
-        first = exponential(rate)
+        weights = [cell * weight for cell, weight in enumerate(weights)]
+        den <<= unit.halvings
+        first = exponential(num, den)
+        by = [den * cell for cell in range(1, cells)]
     else:
-        rate = unit.mean / unit.shape
-        rates = [rate / (1 + rate)] * cells
-        first = floor(ONE / (1 + rate)), ceiling(ONE / (1 + rate))
-    low = [floor(a // whole * rate) for a, rate in zip(sums(weights, lows, cells), rates)]
-    high = [ceiling(-(-a // whole) * rate) for a, rate in zip(sums(weights, highs, cells), rates)]
-    return [first[0]] + low[1:], [first[1]] + high[1:]
+        none = den * unit.number
+        first = ONE * none // (none + num), -(-ONE * none // (none + num))
+        by = [none + num] * (cells - 1)
+    severity = packed(weights)
+
+    def numbers(low, high):
+        lows = floors(sums(severity, low, cells), unit.total)
+        highs = ceilings(sums(severity, high, cells), unit.total)
+        return (
+            [first[0], *(number * num // below for number, below in zip(lows[1:], by))],
+            [first[1], *(-(-number * num // below) for number, below in zip(highs[1:], by))],
+        )
+
+    return numbers
 
 
 # ---- steps
 
-STEP = re.compile(rb"(one|start ([0-9]{1,9})|times ([0-9]{1,9}) ([0-9]{1,9}))((?: [0-9]{1,17},[0-9]{1,17})*)")
+STEP = re.compile(rb"(?:one|start ([0-9]{1,9})|times ([0-9]{1,9}) ([0-9]{1,9}))((?: [0-9]{1,17},[0-9]{1,17})*)")
 
 
-class Step:
-    """A step whose line is spelled: its ends, and how often it counts each unit."""
+class Checker:
+    """The plan, the cells of its grid, and of each step that has passed the label and its packed low and high ends."""
 
-    def __init__(self, lows, highs, label):
-        self.lows, self.highs, self.label = lows, highs, label
+    def __init__(self, plan, cells):
+        self.cells, self.steps = cells, []
+        self.targets = [unit.target for unit in plan]
+        self.labels = [[int(unit is other) for other in plan] for unit in plan]
+        self.starts = [(recursion if unit.kind in ABOVE_ZERO else one_claim)(unit, cells) for unit in plan]
 
+    def label_of(self, names):
+        """How often a step with these numbers, of a unit or of two steps, counts each unit."""
+        if len(names) == 1:
+            return self.labels[names[0]]
+        first, second = [self.steps[name][0] for name in names] or [[0] * len(self.targets)] * 2
+        return list(map(add, first, second))
 
-def step_of(line, plan, cells, earlier):
-    """The step of a line where it passes its test, else None."""
-    match = STEP.fullmatch(line)
-    if not match:
-        return None
-    ends = [end.split(b",") for end in match.group(5).split()]
-    if len(ends) != cells:
-        return None
-    lows, highs = [int(low) for low, _ in ends], [int(high) for _, high in ends]
-    if any(low > high or high > ONE for low, high in zip(lows, highs)) or sum(lows) > ONE:
-        return None
-    if match.group(2) is not None:
-        unit = int(match.group(2))
-        if unit >= len(plan):
-            return None
-        label = [int(number == unit) for number in range(len(plan))]
-    elif match.group(3) is not None:
-        a, b = int(match.group(3)), int(match.group(4))
-        if max(a, b) >= len(earlier):
-            return None
-        a, b = earlier[a], earlier[b]
-        label = [x + y for x, y in zip(a.label, b.label)]
-    else:
-        label = [0] * len(plan)
-    if any(count > unit.target() for count, unit in zip(label, plan)):
-        return None
-    if match.group(2) is not None:
-        low, high = start_numbers(plan[unit], lows, highs)
-    elif match.group(3) is not None:
-        low = [a // ONE for a in sums(a.lows, b.lows, cells)]
-        high = [-(-a // ONE) for a in sums(a.highs, b.highs, cells)]
-    else:
-        low = high = [ONE] + [0] * (cells - 1)
-    if any(own > most for own, most in zip(lows, low)):
-        return None
-    if any(own < least and own < ONE for own, least in zip(highs, high)):
-        return None
-    return Step(lows, highs, label)
+    def numbers_of(self, names, low, high):
+        """The low and the high numbers of such a step with these packed ends."""
+        if not names:
+            return [[ONE] + [0] * (self.cells - 1)] * 2
+        if len(names) == 1:
+            return self.starts[names[0]](low, high)
+        lows, highs = zip(*(self.steps[name][1:] for name in names))
+        return floors(sums(*lows, self.cells), ONE), ceilings(sums(*highs, self.cells), ONE)
+
+    def passes(self, line):
+        """Whether a line is a step that passes its test; then the step is kept."""
+        match = STEP.fullmatch(line) if line.count(b",") == self.cells else None
+        if not match:
+            return False
+        *names, ends = match.groups()
+        names = [int(name) for name in names if name]
+        ends = list(map(int, ends.replace(b",", b" ").split()))
+        lows, highs = ends[::2], ends[1::2]
+        if any(map(gt, lows, highs)) or max(highs) > ONE or sum(lows) > ONE:
+            return False
+        try:
+            label = self.label_of(names)
+        except IndexError:
+            return False
+        if any(map(gt, label, self.targets)):
+            return False
+        low, high = packed(lows), packed(highs)
+        low_numbers, high_numbers = self.numbers_of(names, low, high)
+        if any(map(gt, lows, low_numbers)) or any(end < least and end < ONE for end, least in zip(highs, high_numbers)):
+            return False
+        self.steps.append((label, low, high))
+        return True
+
+    def first_bad(self, lines):
+        """The number of the first bad step; None where the last one is for the total."""
+        for number, line in enumerate(lines):
+            if not self.passes(line):
+                return number
+        return None if lines and self.steps[-1][0] == self.targets else len(lines)
 
 
 def first_bad(plan, cells, text):
@@ -535,15 +629,14 @@ def first_bad(plan, cells, text):
     lines = text.split(b"\n")
     if not lines[-1]:
         lines.pop()
-    steps = []
-    for number, line in enumerate(lines):
-        step = step_of(line, plan, cells, steps)
-        if step is None:
-            return number
-        steps.append(step)
-    if not steps or steps[-1].label != [unit.target() for unit in plan]:
-        return len(steps)
-    return None
+    return Checker(plan, cells).first_bad(lines)
+
+
+def ask_size(steps, cells):
+    """Refuses a text of more steps than are read."""
+    lines = steps.count(b"\n") + (steps[-1:] not in (b"", b"\n"))
+    asks(lines <= MOST_STEPS, "more than 65,536 steps")
+    asks(lines * cells <= MOST_STEP_CELLS, "more than 524,288 cells in all steps")
 
 
 def halves(data):
@@ -562,7 +655,10 @@ def answer(data, bucket, log2, plan_alone=False):
     """The status and what is written for a program, the line --- and steps."""
     program, steps = halves(data)
     try:
-        plan = plan_of(program.decode("latin-1"), bucket)
+        asks(len(data) <= MOST_INPUT, "more than 67,108,864 bytes")
+        if not plan_alone:
+            ask_size(steps, 2**log2)
+        plan = plan_of(program, bucket)
     except Unread as fault:
         return 2, f"not read: {fault}"
     except NotCovered as fault:
@@ -573,26 +669,55 @@ def answer(data, bucket, log2, plan_alone=False):
     return (0, "verified") if bad is None else (1, f"step {bad}: not verified")
 
 
-def main(words):
-    bucket, log2, plan_alone, file = Fraction(1), 10, False, None
-    words = [part for word in words for part in (word.split("=", 1) if word.startswith("--") else [word])]
+# ---- the call
+
+
+def words_of(words):
+    """The bucket, log2, whether the plan alone is written, and the file or None."""
+    found, words = {}, [part for word in words for part in (word.split("=", 1) if word.startswith("--") else [word])]
     while words:
         word = words.pop(0)
-        if word == "--plan":
-            plan_alone = True
-        elif word == "--bs" and words and NUMERAL.fullmatch(words[0]):
-            bucket = value_of(words.pop(0))
-        elif word == "--log2" and words and re.fullmatch("[0-9]{1,15}", words[0]):
-            log2 = int(words.pop(0))
-        elif file is None and not word.startswith("-"):
-            file = word
-        else:
-            sys.exit(__doc__)
-    if bucket <= 0 or not 1 <= log2 <= 10:
-        sys.exit(__doc__)
-    data = open(file, "rb").read() if file else sys.stdin.buffer.read()
-    status, said = answer(data, bucket, log2, plan_alone)
-    print(said, file=sys.stderr if status else sys.stdout)
+        name = word if word in ("--bs", "--log2", "--plan") else "file"
+        asks(name not in found and (name != "file" or not word.startswith("-")), "words")
+        asks(words or name not in ("--bs", "--log2"), "words")
+        found[name] = words.pop(0) if name in ("--bs", "--log2") else word
+    bucket, log2 = found.get("--bs", "1"), found.get("--log2", "10")
+    asks(NUMERAL.fullmatch(bucket) and re.fullmatch("0*([1-9]|10)", log2) and len(log2) <= 15, "words")
+    asks(value_of(bucket) > 0, "words")
+    return value_of(bucket), int(log2), "--plan" in found, found.get("file")
+
+
+def told(words):
+    """The status of a call, and what it writes."""
+    try:
+        bucket, log2, plan_alone, file = words_of(words)
+    except Unread:
+        return 3, "usage: check_steps.py [--bs V] [--log2 N] [--plan] [FILE]"
+    try:
+        with open(0 if file is None else file, "rb") as source:
+            return answer(source.read(MOST_INPUT + 1) or b"", bucket, log2, plan_alone)
+    except OSError as fault:
+        return 4, f"the input could not be read: {fault.strerror}"
+    except MemoryError:
+        return 6, "memory is short"
+
+
+def is_written(said, number):
+    """Whether a text and a newline went to standard output, 1, or to standard error, 2."""
+    try:
+        with open(number, "w", encoding="latin-1", closefd=False) as output:
+            print(said, file=output)
+    except OSError:
+        return False
+    return True
+
+
+def main(words):
+    status, said = told(words)
+    if status == 0 and not is_written(said, 1):
+        status, said = 5, "the output could not be written"
+    if status:
+        is_written(said, 2)
     return status
 
 

@@ -1,21 +1,25 @@
 #!/usr/bin/env python3
-"""Tests of the three checkers of certificates: clients/check_steps.py, clients/check_steps.c and `decl verify`.
+"""Tests of the checkers of certificates: clients/check_steps.py, clients/check_steps.c, whose plan `check_steps.py --plan` writes,
+and `decl verify`.
 
 A maker of its own writes certificates: it takes each number from the table of docs/STEPS.md, in fractions and
-plain sums, and shares nothing with the checkers. Tables name good and bad steps with the result, worked by
-hand; then all checkers have to name the same first bad step of 2,000 single changes of good certificates, and
-none before the change. What `decl cert` writes has, cell for cell, the numbers of that maker. Last comes the
-largest certificate; with --times also the seconds that the checkers take. The last line is
-'N passed, M failed, K skipped'."""
+plain sums, and shares nothing with the checkers. Tables name good and bad steps with the result, plans with their programs,
+limits just kept and passed, and how calls end, all worked by hand. Then all checkers have to name the same first bad step of
+2,000 single changes of good certificates, and none before the change; and of what `decl cert` writes for random programs, as it
+is and changed. What it writes has, cell for cell, the numbers of that maker. Last come the largest inputs, within the seconds
+and the memory of docs/STEPS.md. Where the C compiler has sanitizers, the tables go through a build with them.
+
+    clients/steps_test.py                  all, with 500 random programs; --times writes the seconds of the largest inputs
+    clients/steps_test.py --programs N     N random programs alone
+
+The last line is 'N passed, M failed, K skipped'."""
 
 import os
 import random
-import resource
 import shutil
 import subprocess
 import sys
 import tempfile
-import time
 from fractions import Fraction
 from pathlib import Path
 
@@ -23,9 +27,14 @@ HERE = Path(__file__).resolve().parent
 sys.path.insert(0, str(HERE))
 import check_steps  # the checker in Python, which is tested here
 from calls import DECL
+from steps_programs import program_of
 
 S = 1 << 56
 CHANGES = 2000
+MOST_PROGRAM, MOST_INPUT = 1_048_576, 67_108_864
+PROGRAMS = 500
+MOST_SECONDS, MOST_MEMORY = 10, 1_000_000  # of one processor, and KB of addresses: what a checker takes at most
+SANITIZERS = ["-g", "-fsanitize=address,undefined", "-fno-sanitize-recover=all"]
 REFUSED_STATUS = 3  # of `decl`, for a refused text
 counts = {"passed": 0, "failed": 0, "skipped": 0}
 
@@ -148,25 +157,36 @@ def plan_lines(units, log2):
 
 def in_python(program, steps, log2, bucket="1"):
     """What check_steps.py says of a program and its steps, and its status."""
-    status, said = check_steps.answer(f"{program}\n---\n{steps}".encode("latin-1"), Fraction(bucket), log2)
+    words = ["--bs", bucket, "--log2", str(log2)]
+    status, said = check_steps.answer(f"{program}\n---\n{steps}".encode("latin-1"), *check_steps.words_of(words)[:2])
+    return said, status
+
+
+def planned(program, log2, bucket="1"):
+    """The plan that check_steps.py writes for a program, or what it says, and its status."""
+    words = ["--bs", bucket, "--log2", str(log2)]
+    status, said = check_steps.answer(program.encode("latin-1"), *check_steps.words_of(words)[:2], plan_alone=True)
     return said, status
 
 
 def ran(words, text):
+    """What a call writes, and its status."""
     run = subprocess.run(words, input=text.encode("latin-1"), capture_output=True)
     return (run.stdout + run.stderr).decode().strip(), run.returncode
 
 
-def built(folder):
-    """The checker in C, built; None without a compiler."""
+def built(folder, name, flags):
+    """The checker in C, built with these flags; None where no compiler takes them."""
     compiler = next((name for name in (os.environ.get("CC"), "cc", "gcc", "clang") if name and shutil.which(name)), None)
-    if compiler is None:
-        counts["skipped"] += 1
-        print("steps: check_steps.c: SKIPPED, there is no C compiler")
-        return None
-    program = str(Path(folder) / "check_steps")
-    subprocess.run([compiler, "-std=c11", "-O2", "-o", program, str(HERE / "check_steps.c")], check=True)
-    return program
+    program, nothing = Path(folder) / name, Path(folder) / "nothing.c"
+    nothing.write_text("int main(void) { return 0; }\n")
+    words = [compiler, "-std=c11", "-O2", *flags, "-o", str(program)]
+    if compiler and subprocess.run([*words, str(nothing)], capture_output=True).returncode == 0 and ran([program], "")[1] == 0:
+        subprocess.run([*words, "-Wall", "-Wextra", "-Werror", str(HERE / "check_steps.c")], check=True)
+        return str(program)
+    counts["skipped"] += 1
+    print(f"steps: check_steps.c, built with {' '.join(flags) or 'no flags'}: SKIPPED, there is no compiler for it")
+    return None
 
 
 def answer(bad):
@@ -262,6 +282,7 @@ LABELS = [
 ]
 # No claim above 0 is expected: the unit is counted by 0, and a start of it passes its target.
 NEVER = "agg Z 2 claims dsev [0] poisson"
+NONE = "agg Z 0 claims dsev [1] mixed gamma 1/2"
 EMPTY = [(f"one {S},{S} 0,0", None), (f"start 0 {S},{S} 0,0", 0), ("", 0)]
 # Low ends that are each below the number of the table, and together above 1.
 MASS = [
@@ -281,6 +302,18 @@ PORTFOLIOS = [
       ("gamma", [1, Fraction(5, 2)], {2: 1})]),
     ("agg M 1/4 claims dsev [1] dsev [2 3] wts [1/4 3/4] occurrence ceded to 2 xs 1 poisson",
      [("poisson", [Fraction(3, 16)], {1: 1, 2: 1})]),
+    # Layers that are empty: they take nothing, and lie beside, inside and above other layers.
+    ("agg E 1 claims dsev [1] occurrence net of 0 xs 0 and inf xs 0 fixed", [("fixed", [1], {0: 1})]),
+    ("agg E 2 claims dsev [1 3] occurrence net of 2 xs 0 and 0 xs 1 poisson", [("poisson", [Fraction(1)], {1: 1})]),
+    ("agg E 3 claims dsev [1 5] occurrence ceded to 0 xs 7 and 0 xs 7 and 3 xs 1 and 1/3 so 0 xs 2 fixed",
+     [("fixed", [3], {0: 1, 3: 1})]),
+    ("agg E 2 claims 0 xs 1 dsev [1 2] fixed", [("fixed", [2], {0: 1})]),
+    ("sev A dsev [0 1] port P agg E 4 claims 2 xs 0 sev.A occurrence net of 0 xs 3 poisson agg F 2 claims sev.A poisson "
+     "agg G 2 claims sev.A fixed",
+     [("poisson", [Fraction(2)], {1: 1}), ("poisson", [Fraction(1)], {1: 1}), ("fixed", [2], {0: 1, 1: 1})]),
+    # No claim, and none above 0: no amounts follow in the plan.
+    ("port P agg Y 0 claims dsev [1] poisson agg Z 3 claims dsev [2] occurrence net of inf xs 0 geometric agg F 1 claims dsev [1] fixed",
+     [("poisson", [0], {}), ("gamma", [1, 0], {}), ("fixed", [1], {1: 1})]),
 ]
 REFUSED = [
     ("agg D dfreq [1] dsev [1]", "unit 0: not covered"),
@@ -296,6 +329,10 @@ REFUSED = [
     ("agg A 1 claims sev.B poisson", "not read: "),
     ("agg A 1 claims dsev [1] mixed gamma 0.3", "not read: "),
     ("agg A 1 loss dsev [0] poisson", "not read: "),
+    ("agg A 1 claims dsev [1] occurrence net of 2 xs 0 and 0 xs 1 and 1 xs 1 fixed", "not read: "),
+    ("agg A 1 claims dsev [1] occurrence net of inf xs 0 and 0 xs 0 and 1 xs 1048576 fixed", "not read: "),
+    ("agg A 1 claims dsev [1] occurrence net of 0 po 0 xs 0 fixed", "not read: "),
+    ("agg A 1 claims 0 xs 1 dsev [1] fixed", "not read: "),
 ]
 
 
@@ -307,6 +344,7 @@ def tables(checker):
         (TRIAL, [("bernoulli", [Fraction(1, 2)], {1: 1})], 1, STEPS),
         (TWICE, [("fixed", [2], {1: 1})], 2, LABELS),
         (NEVER, [("poisson", [Fraction(0)], {})], 1, EMPTY),
+        (NONE, [("gamma", [4, Fraction(0)], {})], 1, EMPTY),
         ("agg M 1 claims dsev [0 1 2] [1/4 1/2 1/4] fixed", [("fixed", [1], {0: 1, 1: 2, 2: 1})], 2, MASS),
     ]
     for program, units, log2, cases in rows:
@@ -315,16 +353,11 @@ def tables(checker):
     for program, want in REFUSED:
         said, status = in_python(program, "", 2)
         test(program, said.startswith(want) and status == 2)
-        if not want.startswith("not read"):
+        said, status = ran([DECL, "cert", "--log2", "2"], program)
+        refused = f"decl: {want}" if "covered" in want else "decl: 1:"
+        test(f"{program}, decl cert", said.startswith(refused) and status == REFUSED_STATUS)
+        if "covered" in want:
             test(f"{program}, decl verify", in_decl(program, "", 2) == (want, 1))
-            said, status = ran([DECL, "cert", "--log2", "2"], program)
-            test(f"{program}, decl cert", (said, status) == (f"decl: {want}", REFUSED_STATUS))
-    words = [sys.executable, str(HERE / "check_steps.py"), "--log2=1", "--bs", "1/2"]
-    half = "agg F 1 claims dsev [0.5] fixed"
-    test("words and statuses: verified", ran(words, f"{half}\n---\nstart 0 0,0 {S},{S}") == answer(None))
-    test("words and statuses: a bad step", ran(words, half) == answer(0))
-    test("words and statuses: no program", ran(words, "agg") == ("not read: token 1: wanted name", 2))
-    test("words and statuses: no such word", ran([*words, "--size"], half)[1] == 1)
 
 
 def plans(checker):
@@ -334,7 +367,7 @@ def plans(checker):
             said, status = in_python(program, "", 4)
             test(program, said.startswith("not read: ") and status == 2)
             continue
-        status, said = check_steps.answer(program.encode(), Fraction(1), 4, plan_alone=True)
+        said, status = planned(program, 4)
         test(f"the plan of {program}", (said.splitlines(), status) == (plan_lines(units, 4), 0))
         steps = certificate(units, 16)
         all_say(program, checker, program, units, "\n".join(written(steps)), 4, None)
@@ -381,7 +414,7 @@ def changes(checker):
     plans = []
     for program, units in PORTFOLIOS:
         if units:
-            plan = check_steps.plan_of(program, Fraction(1))
+            plan = check_steps.plan_of(program.encode(), Fraction(1))
             plans.append((program, plan, units, written(certificate(units, 16))))
     agreed = early = bad = ours = 0
     for _ in range(CHANGES):
@@ -402,57 +435,272 @@ def changes(checker):
         test(f"C and Python agree on {agreed} of {CHANGES} changes", agreed == CHANGES)
 
 
+# ---- limits and the ends of calls
+
+
+def repeated(text, count, between=" "):
+    """A text so often; {} in it is the number."""
+    return between.join(text.replace("{}", str(number)) for number in range(count))
+
+
+def one_unit(severity, count="fixed", exposure="1 claims"):
+    return f"agg A {exposure} {severity} {count}"
+
+
+# A rule and the size of the bucket, a program that just keeps the rule, and one that breaks it.
+LIMITS = [
+    ("digits", "1", one_unit("dsev [00000000003]"), one_unit("dsev [000000000003]")),
+    ("digits of a percent", "1", one_unit("dsev [1 2] [25.0000000% 75%]"), one_unit("dsev [1 2] [25.00000000% 75%]")),
+    ("parts of a range", "1", one_unit("dsev [1 2] [1/1000000:1:999998/1000000]"),
+     one_unit("dsev [1 2] [1/1000001:1:999999/1000001]")),
+    ("values", "1", one_unit("dsev [1:1024]"), one_unit("dsev [1:1025]")),
+    ("values in items", "1", one_unit(f"dsev [{repeated('{}', 1024)}]"), one_unit(f"dsev [{repeated('{}', 1023)} 0:1]")),
+    ("atoms", "1", one_unit(f"{repeated('dsev [{}]', 64)} wts [{repeated('1/64', 64)}]"),
+     one_unit(f"{repeated('dsev [{}]', 65)} wts [{repeated('1/65', 65)}]")),
+    ("layers", "1", one_unit(f"dsev [1] occurrence net of {repeated('0 xs {}', 16, ' and ')}"),
+     one_unit(f"dsev [1] occurrence net of {repeated('0 xs {}', 17, ' and ')}")),
+    ("units", "1", "port P " + repeated("agg U{} 1 claims dsev [1] fixed", 16),
+     "port P " + repeated("agg U{} 1 claims dsev [1] fixed", 17)),
+    ("an amount", "1/2", one_unit("dsev [524288]"), one_unit("dsev [524288.5]")),
+    ("an amount of a range", "1", one_unit("dsev [1048566:1048577:10]"), one_unit("dsev [1048567:1048577:10]")),
+    ("an amount of probability 0", "1", one_unit("dsev [1 1048576] [1 0]"), one_unit("dsev [1 1.5] [1 0]")),
+    ("an attachment", "1", one_unit("dsev [1] occurrence net of 0 xs 1048576"), one_unit("dsev [1] occurrence net of 0 xs 1048577")),
+    ("layers that touch", "1", one_unit("dsev [1] occurrence net of 2 xs 1 and inf xs 3 and 1 xs 0"),
+     one_unit("dsev [1] occurrence net of 3 xs 1 and inf xs 3 and 1 xs 0")),
+    ("a share", "1", one_unit("dsev [1] occurrence net of 5 po 5 xs 1"), one_unit("dsev [1] occurrence net of 6 po 5 xs 1")),
+    ("a fine list", "1", one_unit("dsev [1 2] [1/1073741824 1073741823/1073741824]"),
+     one_unit("dsev [1 2] [1/1073741825 1073741824/1073741825]")),
+    ("fine shares", "1", one_unit("dsev [1] occurrence net of 1/1073741824 so 0 xs 0"),
+     one_unit("dsev [1] occurrence net of 1/1073741825 so 0 xs 0")),
+    ("a fine mixture", "1", one_unit("dsev [1 2] [1/32768 32767/32768] dsev [3] wts [1/32768 32767/32768]"),
+     one_unit("dsev [1 2] [1/32768 32767/32768] dsev [3] wts [1/65536 65535/65536]")),
+    ("an expected count", "1", one_unit("dsev [4095]", "poisson", "1/68719476736 loss"),
+     one_unit("dsev [4096]", "poisson", "1/68719476736 loss")),
+    ("an expected loss", "1/4096", one_unit("dsev [1/4096]", "poisson", "1/68719476736 prem at 1/4095 lr"),
+     one_unit("dsev [1/4096]", "poisson", "1/68719476736 prem at 1/4096 lr")),
+    ("claims above 0", "1", one_unit("dsev [0 1] [4094/4095 1/4095]", "poisson", "1/68719476736 claims"),
+     one_unit("dsev [0 1] [4095/4096 1/4096]", "poisson", "1/68719476736 claims")),
+    ("claims above 0, of one claim at most", "1", one_unit("dsev [0 1] [4095/4096 1/4096]", "bernoulli", "1/68719476736 claims"),
+     one_unit("dsev [0 1] [4095/4096 1/4096]", "geometric", "1/68719476736 claims")),
+    ("claims", "1", one_unit("dsev [1]", "fixed", "65536 claims"), one_unit("dsev [1]", "fixed", "65537 claims")),
+    ("trials", "1", one_unit("dsev [1]", "binomial 0.5", "32768 claims"), one_unit("dsev [1]", "binomial 0.5", "32768.5 claims")),
+    ("expected claims", "1", one_unit("dsev [0 1]", "poisson", "8192 claims"), one_unit("dsev [0 1]", "poisson", "8192.01 claims")),
+    ("shape", "1", one_unit("dsev [1]", "mixed gamma 0.01"), one_unit("dsev [1]", "mixed gamma 1/101")),
+    ("a chance of bernoulli", "1", one_unit("dsev [1]", "bernoulli"), one_unit("dsev [1]", "bernoulli", "1.01 claims")),
+    ("bytes", "1", one_unit("dsev [1]").ljust(MOST_PROGRAM - 1), one_unit("dsev [1]").ljust(MOST_PROGRAM)),
+]
+PLANS = [  # a plan of one unit that the checker in C reads, and one that it does not
+    ("fixed 65536 of 1:1", "fixed 65537 of 1:1"),
+    ("fixed 000000001 of 000000001:0000000001", "fixed 0000000001 of 1:1"),
+    ("bernoulli 1 of 1:1", "bernoulli 3/2 of 1:1"),
+    ("bernoulli 281474976710655/281474976710655 of 1:1", "bernoulli 1/281474976710656 of 1:1"),
+    ("binomial 65536 1/2 of 1:1", "binomial 65537 1/2 of 1:1"),
+    ("poisson 4096 of 1:1", "poisson 4097 of 1:1"),
+    ("gamma 10000 1 of 1:1", "gamma 10001 1 of 1:1"),
+    ("fixed 1 of 0:1073741823 1:1", "fixed 1 of 0:1073741823 1:2"),
+    ("poisson 0 of", "poisson 0 of 1:1"),
+    ("gamma 1 0 of", "gamma 1 0 of 1:1"),
+    ("poisson 1 of 1:1", "poisson 1 of"),
+    ("poisson 1 of 1:1", "poisson 1 of 0:1 1:1"),
+    ("fixed 1 of 1:1 2:1", "fixed 1 of 2:1 1:1"),
+    ("fixed 1 of 1:1", "fixed 1 of 1:0"),
+    ("fixed 1 of 1:1", "fixed 1 of 1:1 "),
+    ("fixed 1 of 1:1", "fixed 1 of 1:1\n--- "),
+]
+UNREAD, UNWRITTEN = "the input could not be read: ", "the output could not be written"
+ENDS = [  # words behind the program's name, where the shell takes its input and its output, and what both checkers write, with the status
+    ("nowhere", "", f"{UNREAD}No such file or directory", 4),
+    (".", "", f"{UNREAD}Is a directory", 4),
+    ("", "<&-", f"{UNREAD}Bad file descriptor", 4),
+    ("GOOD", "", "verified", 0),
+    ("", "< GOOD", "verified", 0),
+    ("GOOD", "> /dev/full", UNWRITTEN, 5),
+    ("GOOD", ">&-", UNWRITTEN, 5),
+    ("GOOD GOOD", "", "usage: ", 3),
+    ("-", "", "usage: ", 3),
+    ("--size", "", "usage: ", 3),
+]
+WORDS = "--bs | --bs 0 | --bs 1/0 | --bs x | --bs 000000000001 | --log2 0 | --log2 11 | --log2 x | --log2 2 --log2 2 | --plan --plan"
+
+
+def limits(checker):
+    """Limits that are just kept and just passed: of programs for Python and `decl`, of plans for C."""
+    for rule, bucket, kept, broken in LIMITS:
+        said, status = in_python(kept, "", 1, bucket)
+        test(f"{rule}, kept", (said, status) == answer(0) == in_decl(kept, "", 1, bucket))
+        said, status = in_python(broken, "", 1, bucket)
+        test(f"{rule}, broken", said.startswith("not read: ") and status == 2)
+        refused = ran([DECL, "cert", "--log2", "1", "--bs", bucket], broken)
+        test(f"{rule}, broken, decl cert", refused[1] == REFUSED_STATUS and "covered" not in refused[0])
+        if checker:
+            test(f"{rule}, kept, in C", ran([checker], planned(kept, 1, bucket)[0]) == answer(0))
+    for kept, broken in PLANS if checker else []:
+        said, status = ran([checker], f"log2 01\nunit {broken}")
+        test(f"unit {kept}", ran([checker], f"log2 01\nunit {kept}") == answer(0))
+        test(f"unit {broken}", said.startswith("not read: ") and status == 2)
+    for text in ("", "log2 1", "log2 0\nunit fixed 1 of 1:1", "log2 11\nunit fixed 1 of 1:1", "unit fixed 1 of 1:1",
+                 "log2 1" + 17 * "\nunit fixed 1 of 1:1"):
+        test(f"plan {text[:20]}", not checker or ran([checker], text)[1] == 2)
+
+
+def calls(checker, folder):
+    """How calls of both checkers end: files and outputs that fail, words that are not understood, little memory."""
+    steps = f"---\nstart 0 0,0 {S},{S}\n"
+    texts = {"py": f"agg F 1 claims dsev [1] fixed\n{steps}", "c": f"log2 1\nunit fixed 1 of 1:1\n{steps}"}
+    programs = {"py": [sys.executable, str(HERE / "check_steps.py"), "--log2=1"], "c": [checker]}
+    for kind, program in programs.items() if checker else [("py", programs["py"])]:
+        good = Path(folder) / f"good.{kind}"
+        good.write_text(texts[kind])
+
+        def ends(words, where):
+            return ran(["bash", "-c", f'exec "$@" {where}'.replace("GOOD", str(good)), "bash", *program,
+                        *words.replace("GOOD", str(good)).split()], "")
+
+        for words, where, want, status in ENDS:
+            if "full" in where and not os.path.exists("/dev/full"):
+                counts["skipped"] += 1
+                print("steps: a full device: SKIPPED, there is no /dev/full")
+                continue
+            said = ends(words, where)
+            test(f"{kind} {words} {where}", said[0].startswith(want) and said[1] == status and "\n" not in said[0])
+    half = "agg F 1 claims dsev [0.5] fixed"
+    python = [*programs["py"][:2], "--log2=1", "--bs", "1/2"]
+    test("--bs 1/2: verified", ran(python, f"{half}\n---\nstart 0 0,0 {S},{S}") == answer(None))
+    test("--bs 1/2: a bad step", ran(python, half) == answer(0))
+    test("no program", ran(python, "agg") == ("not read: token 1: wanted name", 2))
+    for words in WORDS.split(" | "):
+        said, status = ran([*python[:2], *words.split()], half)
+        test(words, said.startswith("usage: ") and status == 3)
+
+
+# ---- random programs
+
+
+def random_program(checker, number):
+    """What the checkers make of the program of a number: whether it has a certificate, and whether they agree on it and on a
+    change of one byte or line of it."""
+    program, bucket, log2 = program_of(number)
+    words = ["--bs", bucket, "--log2", str(log2)]
+    steps, status = ran([DECL, "cert", *words], program)
+    if status != 0:
+        refused = steps.removeprefix("decl: ") if "covered" in steps else "not read: "
+        said, bad = in_python(program, "", log2, bucket)
+        covered = "covered" not in steps or planned(program, log2, bucket) == (said, bad) == (refused, 2)
+        return False, covered and bad == 2 and in_decl(program, "", log2, bucket) == (steps.removeprefix("decl: "), 1)
+    plan, _ = planned(program, log2, bucket)
+    lines, number = changed(steps.splitlines(), random.Random(number))
+    agreed = True
+    for text, is_good in ((steps, True), ("\n".join(lines), False)):
+        first = in_python(program, text, log2, bucket)
+        agreed &= first == answer(None) if is_good else first[1] < 2
+        agreed &= in_decl(program, text, log2, bucket) == first
+        agreed &= not checker or ran([checker], f"{plan}\n---\n{text}") == first
+    return True, agreed
+
+
+def programs(checker, count):
+    """Random programs: what `decl` refuses no checker reads, and of the others all checkers take the certificate."""
+    certified = 0
+    for number in range(count):
+        has_certificate, agreed = random_program(checker, number)
+        certified += has_certificate
+        test(f"clients/steps_programs.py {number}", agreed)
+    test(f"{certified} of {count} random programs have a certificate", 2 * certified > count)
+
+
 # ---- the largest
 
 
+def measured(words, given):
+    """What a call within the memory of docs/STEPS.md writes for a file's bytes, its status, and its seconds of one processor."""
+    given.seek(0)
+    with tempfile.TemporaryFile() as output:
+        words = ["bash", "-c", f'ulimit -v {MOST_MEMORY}; exec "$@"', "bash", *words]
+        process = subprocess.Popen(words, stdin=given, stdout=output, stderr=output)
+        _, status, used = os.wait4(process.pid, 0)
+        process.returncode = os.waitstatus_to_exitcode(status)
+        output.seek(0)
+        return output.read().decode().strip(), process.returncode, used.ru_utime + used.ru_stime
+
+
+def bounded(what, words, text, want):
+    """Tests what a checker says of large input, within the memory and the seconds of docs/STEPS.md. Another process that shares a
+    processor can make seconds longer, so the least of up to three runs counts."""
+    with tempfile.TemporaryFile() as given:
+        given.write(text.encode())
+        seconds, runs = MOST_SECONDS + 1, 0
+        while seconds > MOST_SECONDS and runs < 3:
+            said, status, taken = measured(words, given)
+            seconds, runs = min(seconds, taken), runs + 1
+    test(f"{what}: {said[:80]}", (said, status) == want)
+    test(f"{what}: {seconds:.1f} s", seconds <= MOST_SECONDS)
+    if "--times" in sys.argv:
+        print(f"{what}: {seconds:.1f} s of one processor")
+
+
+def heavy_program():
+    """16 units, each of 65,536 different amounts in 64 atoms, and of 16 layers; one claim of unit 0 and one of unit 1."""
+    atoms = " ".join(f"dsev [{1024 * n}:{1024 * n + 1023}] [0:1023/523776:1/523776]" for n in range(64))
+    severity = f"{atoms} wts [{repeated('1/64', 64)}] occurrence net of " + " and ".join(f"1 xs {100_000 + n}" for n in range(16))
+    counts = [(1, "fixed")] * 2 + [(0, "poisson")] * 14
+    return "port P\n" + "\n".join(f"agg U{u} {n} claims {severity} {count}" for u, (n, count) in enumerate(counts))
+
+
+def two_claims(weights, count, cells):
+    """So many steps for one claim of unit 0 and one of unit 1, of these weights: the two claims, and their sum over and over."""
+    first = base(("fixed", [1], weights), cells)
+    total = ("times 0 1", times(first, first))
+    return "\n".join(written([("start 0", first), ("start 1", first)]) + written([total]) * (count - 2)) + "\n"
+
+
 def largest(checker):
-    """511 steps of 1,024 cells, and the seconds of one processor that each checker takes."""
-    units = [("fixed", [65535], {0: 65535, 1: 1}) for _ in range(16)]
-    ends = base(units[0], 1024)
-    line = " ".join(f"0,{S}" for _ in ends)
-    lines, whole = [], None
-    for number in range(16):
-        lines.append(f"start {number} " + " ".join(f"{low},{high}" for low, high in ends))
-        first = power = len(lines) - 1
-        for _ in range(15):
-            lines += [f"times {power} {power} {line}", f"times {len(lines)} {first} {line}"]
-            power = len(lines) - 1
-        if whole is not None:
-            lines.append(f"times {whole} {power} {line}")
-        whole = len(lines) - 1
-    text = "\n".join(lines)
-    program = "port P " + " ".join(
-        f"agg U{number} 65535 claims dsev [0 1] [65535/65536 1/65536] fixed" for number in range(16)
-    )
-    seconds = {}
-
-    def timed(name, run):
-        begun = resource.getrusage(resource.RUSAGE_CHILDREN).ru_utime + time.process_time()
-        result = run()
-        seconds[name] = resource.getrusage(resource.RUSAGE_CHILDREN).ru_utime + time.process_time() - begun
-        return result
-
-    test("the largest, in Python", timed("Python", lambda: in_python(program, text, 10)) == answer(None))
-    test("the largest, decl verify", timed("decl verify", lambda: in_decl(program, text, 10)) == answer(None))
-    made = timed("decl cert", lambda: certified(program, 10))
-    test("the largest of decl cert", in_decl(program, made, 10) == answer(None))
+    """The largest inputs that are read, and larger ones."""
+    heavy, weights = heavy_program(), {amount: amount % 1024 for amount in range(65_536)}
+    small = "port P agg A 1 claims dsev [0:7] fixed agg B 1 claims dsev [0:7] fixed " + repeated("agg U{} 0 claims dsev [1] poisson", 14)
+    one = "agg A 1 claims dsev [1] fixed"
+    values = f"dsev [{repeated('1', 1024)}] [1 {repeated('0', 1023)}]"
+    many = repeated("agg U{} 2 claims " + repeated(values, 15) + f" wts [{repeated('1/15', 15)}] poisson", 16)
+    wide = repeated("agg U{} 2 claims " + repeated("dsev [1:1024]", 100) + f" wts [{repeated('1/100', 100)}] poisson", 200)
+    cases = [
+        ("512 steps of 1,024 cells for 16 units of 65,536 amounts", heavy, two_claims(weights, 512, 1024), 10, answer(None)),
+        ("513 steps of 1,024 cells", small, two_claims({1: 1}, 513, 1024), 10, ("not read: more than 524,288 cells in all steps", 2)),
+        ("65,536 steps of 8 cells", small, two_claims(dict.fromkeys(range(8), 1), 65_536, 8), 3, answer(None)),
+        ("65,537 steps of 2 cells", small, two_claims({1: 1}, 65_537, 2), 1, ("not read: more than 65,536 steps", 2)),
+        ("67,000,000 empty lines", one, "\n" * 67_000_000, 1, ("not read: more than 65,536 steps", 2)),
+        ("a line of 16,500,000 cells", one, "one" + " 0,0" * 16_500_000, 10, answer(0)),
+        ("67,108,865 bytes", one, "0" * (MOST_INPUT + 1), 10, ("not read: more than 67,108,864 bytes", 2)),
+        ("491,760 values", f"port P {many}", "", 10, answer(0)),
+        ("200 units of 100 atoms", f"port P {wide}", "", 10, ("not read: more than 16 units", 2)),
+    ]
+    for what, program, steps, log2, want in cases:
+        words = [sys.executable, str(HERE / "check_steps.py"), "--log2", str(log2)]
+        bounded(f"{what}, in Python", words, f"{program}\n---\n{steps}", want)
+        plan, status = planned(program, log2)
+        if checker and status == 0:
+            bounded(f"{what}, in C", [checker], f"{plan}\n---\n{steps}", want)
+        if want[1] < 2:
+            test(f"{what}, decl verify", in_decl(program, steps, log2) == want)
+    program = "port P " + repeated("agg U{} 65535 claims dsev [0 1] [65535/65536 1/65536] fixed", 16)
+    made = certified(program, 10)
+    test("the largest list of decl cert", made.count("\n") == 511 and in_decl(program, made, 10) == answer(None))
     if checker:
-        plan = "\n".join(plan_lines(units, 10))
-        test("the largest, in C", timed("C", lambda: ran([checker], f"{plan}\n---\n{text}")) == answer(None))
-        test("the largest of decl cert, in C", ran([checker], f"{plan}\n---\n{made}") == answer(None))
-    return len(lines), seconds
+        bounded("511 steps of decl cert, in C", [checker], f"{planned(program, 10)[0]}\n---\n{made}", answer(None))
 
 
 def main():
     with tempfile.TemporaryDirectory() as folder:
-        checker = built(folder)
-        tables(checker)
-        plans(checker)
-        changes(checker)
-        steps, seconds = largest(checker)
-        if "--times" in sys.argv:
-            told = ", ".join(f"{name} {took:.2f} s" for name, took in seconds.items())
-            print(f"{steps} steps of 1,024 cells, seconds of one processor: {told}")
+        checker = built(folder, "check_steps", [])
+        if "--programs" in sys.argv:
+            programs(checker, int(sys.argv[sys.argv.index("--programs") + 1]))
+        else:
+            sanitized = built(folder, "sanitized", SANITIZERS) or checker
+            tables(sanitized)
+            plans(sanitized)
+            limits(sanitized)
+            calls(sanitized, folder)
+            changes(checker)
+            programs(checker, PROGRAMS)
+            largest(checker)
     print(f"{counts['passed']} passed, {counts['failed']} failed, {counts['skipped']} skipped")
     return counts["failed"] > 0
 
