@@ -18,7 +18,7 @@ typedef unsigned __int128 wide;
 #define MOST_UNITS 16
 #define MOST_CELLS 1024
 #define MOST_INPUT 67108864             /* bytes, with the plan and the steps */
-#define MOST_STEPS 65536
+#define MOST_STEPS 32768
 #define MOST_STEP_CELLS 524288          /* in all steps together */
 #define MOST_PARTS ((uint64_t)1 << 30)  /* the weights of a severity together */
 #define ADMITTED ((uint64_t)1 << 48)    /* above both parts of a mean or a probability */
@@ -337,7 +337,7 @@ static long first_bad(struct text *text) {
     struct text line, rest = *text;
     size_t lines = 0;
     while (takes_line(&rest, &line)) lines++;
-    if (lines > MOST_STEPS) refuse("more than 65,536 steps");
+    if (lines > MOST_STEPS) refuse("more than 32,768 steps");
     if (lines * cells > MOST_STEP_CELLS) refuse("more than 524,288 cells in all steps");
     steps = room(lines, sizeof *steps);
     ends = room(lines, 2 * cells * sizeof *ends);

@@ -26,7 +26,7 @@ TERMS = 18
 # The limits of docs/STEPS.md on what is read, and of docs/LANGUAGE.md on a program.
 MOST_INPUT = 67_108_864  # bytes, with the program and the steps
 MOST_PROGRAM = 1_048_576  # bytes
-MOST_STEPS = 65_536
+MOST_STEPS = 32_768
 MOST_STEP_CELLS = 524_288  # in all steps together
 MOST_UNITS = 16
 MOST_ATOMS = 64
@@ -635,7 +635,7 @@ def first_bad(plan, cells, text):
 def ask_size(steps, cells):
     """Refuses a text of more steps than are read."""
     lines = steps.count(b"\n") + (steps[-1:] not in (b"", b"\n"))
-    asks(lines <= MOST_STEPS, "more than 65,536 steps")
+    asks(lines <= MOST_STEPS, "more than 32,768 steps")
     asks(lines * cells <= MOST_STEP_CELLS, "more than 524,288 cells in all steps")
 
 

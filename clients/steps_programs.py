@@ -1,6 +1,7 @@
 #!/usr/bin/env python3
-"""Random programs for the checkers of certificates, the same for the same number: severities with and without names, layers and
-clauses of which some are empty, each claim count, several buckets; about three in ten break a rule or the grammar, or are not covered.
+"""Random programs for the checkers of certificates, the same for the same number: severities with and without names, layers
+and clauses of which some are empty, each claim count, several buckets; about a third break a rule or the grammar, or are not
+covered.
 
     clients/steps_programs.py N    writes the program of this number, below a comment with its bucket and its grid"""
 
@@ -9,7 +10,9 @@ import sys
 from fractions import Fraction
 
 BUCKETS = ["1", "1", "1", "1/2", "0.25", "2", "150%"]
-OTHER_WORDS = "0 1 2 inf xs and so po net of ceded to dsev wts [ ] : , ! 1/0 0.3 sev sev.A agg port fixed poisson loss at lr".split()
+OTHER_WORDS = (
+    "0 1 2 inf xs and so po net of ceded to dsev wts [ ] : , ! 1/0 0.3 sev sev.A agg port fixed poisson loss at lr".split()
+)
 
 
 class Maker:

@@ -312,7 +312,8 @@ PORTFOLIOS = [
      "agg G 2 claims sev.A fixed",
      [("poisson", [Fraction(2)], {1: 1}), ("poisson", [Fraction(1)], {1: 1}), ("fixed", [2], {0: 1, 1: 1})]),
     # No claim, and none above 0: no amounts follow in the plan.
-    ("port P agg Y 0 claims dsev [1] poisson agg Z 3 claims dsev [2] occurrence net of inf xs 0 geometric agg F 1 claims dsev [1] fixed",
+    ("port P agg Y 0 claims dsev [1] poisson agg Z 3 claims dsev [2] occurrence net of inf xs 0 geometric "
+     "agg F 1 claims dsev [1] fixed",
      [("poisson", [0], {}), ("gamma", [1, 0], {}), ("fixed", [1], {1: 1})]),
 ]
 REFUSED = [
@@ -350,6 +351,8 @@ def tables(checker):
     for program, units, log2, cases in rows:
         for number, (steps, bad) in enumerate(cases):
             all_say(f"{program}, steps {number}", checker, program, units, steps, log2, bad)
+    other = "agg O 6 loss dsev [3] fixed"
+    all_say("the same list for another program and bucket", checker, other, [("fixed", [2], {1: 1})], LABELS[0][0], 2, None, "3")
     for program, want in REFUSED:
         said, status = in_python(program, "", 2)
         test(program, said.startswith(want) and status == 2)
@@ -444,6 +447,7 @@ def repeated(text, count, between=" "):
 
 
 def one_unit(severity, count="fixed", exposure="1 claims"):
+    """A program of one unit."""
     return f"agg A {exposure} {severity} {count}"
 
 
@@ -464,7 +468,8 @@ LIMITS = [
     ("an amount", "1/2", one_unit("dsev [524288]"), one_unit("dsev [524288.5]")),
     ("an amount of a range", "1", one_unit("dsev [1048566:1048577:10]"), one_unit("dsev [1048567:1048577:10]")),
     ("an amount of probability 0", "1", one_unit("dsev [1 1048576] [1 0]"), one_unit("dsev [1 1.5] [1 0]")),
-    ("an attachment", "1", one_unit("dsev [1] occurrence net of 0 xs 1048576"), one_unit("dsev [1] occurrence net of 0 xs 1048577")),
+    ("an attachment", "1", one_unit("dsev [1] occurrence net of 0 xs 1048576"),
+     one_unit("dsev [1] occurrence net of 0 xs 1048577")),
     ("layers that touch", "1", one_unit("dsev [1] occurrence net of 2 xs 1 and inf xs 3 and 1 xs 0"),
      one_unit("dsev [1] occurrence net of 3 xs 1 and inf xs 3 and 1 xs 0")),
     ("a share", "1", one_unit("dsev [1] occurrence net of 5 po 5 xs 1"), one_unit("dsev [1] occurrence net of 6 po 5 xs 1")),
@@ -483,11 +488,13 @@ LIMITS = [
     ("claims above 0, of one claim at most", "1", one_unit("dsev [0 1] [4095/4096 1/4096]", "bernoulli", "1/68719476736 claims"),
      one_unit("dsev [0 1] [4095/4096 1/4096]", "geometric", "1/68719476736 claims")),
     ("claims", "1", one_unit("dsev [1]", "fixed", "65536 claims"), one_unit("dsev [1]", "fixed", "65537 claims")),
-    ("trials", "1", one_unit("dsev [1]", "binomial 0.5", "32768 claims"), one_unit("dsev [1]", "binomial 0.5", "32768.5 claims")),
-    ("expected claims", "1", one_unit("dsev [0 1]", "poisson", "8192 claims"), one_unit("dsev [0 1]", "poisson", "8192.01 claims")),
+    ("trials", "1", one_unit("dsev [1]", "binomial 0.5", "32768 claims"),
+     one_unit("dsev [1]", "binomial 0.5", "32768.5 claims")),
+    ("expected claims", "1", one_unit("dsev [0 1]", "poisson", "8192 claims"),
+     one_unit("dsev [0 1]", "poisson", "8192.01 claims")),
     ("shape", "1", one_unit("dsev [1]", "mixed gamma 0.01"), one_unit("dsev [1]", "mixed gamma 1/101")),
     ("a chance of bernoulli", "1", one_unit("dsev [1]", "bernoulli"), one_unit("dsev [1]", "bernoulli", "1.01 claims")),
-    ("bytes", "1", one_unit("dsev [1]").ljust(MOST_PROGRAM - 1), one_unit("dsev [1]").ljust(MOST_PROGRAM)),
+    ("bytes", "1", one_unit("dsev [1]").ljust(MOST_PROGRAM - 1), one_unit("dsev [1]").ljust(MOST_PROGRAM + 1)),
 ]
 PLANS = [  # a plan of one unit that the checker in C reads, and one that it does not
     ("fixed 65536 of 1:1", "fixed 65537 of 1:1"),
@@ -508,7 +515,7 @@ PLANS = [  # a plan of one unit that the checker in C reads, and one that it doe
     ("fixed 1 of 1:1", "fixed 1 of 1:1\n--- "),
 ]
 UNREAD, UNWRITTEN = "the input could not be read: ", "the output could not be written"
-ENDS = [  # words behind the program's name, where the shell takes its input and its output, and what both checkers write, with the status
+ENDS = [  # words behind the program's name, redirections of the shell, what both checkers write, and the status
     ("nowhere", "", f"{UNREAD}No such file or directory", 4),
     (".", "", f"{UNREAD}Is a directory", 4),
     ("", "<&-", f"{UNREAD}Bad file descriptor", 4),
@@ -520,7 +527,10 @@ ENDS = [  # words behind the program's name, where the shell takes its input and
     ("-", "", "usage: ", 3),
     ("--size", "", "usage: ", 3),
 ]
-WORDS = "--bs | --bs 0 | --bs 1/0 | --bs x | --bs 000000000001 | --log2 0 | --log2 11 | --log2 x | --log2 2 --log2 2 | --plan --plan"
+WORDS = [  # words that check_steps.py does not understand
+    "--bs", "--bs 0", "--bs 1/0", "--bs x", "--bs 000000000001", "--log2 0", "--log2 11", "--log2 x", "--log2 2 --log2 2",
+    "--plan --plan",
+]
 
 
 def limits(checker):
@@ -543,8 +553,9 @@ def limits(checker):
         test(f"plan {text[:20]}", not checker or ran([checker], text)[1] == 2)
 
 
-def calls(checker, folder):
-    """How calls of both checkers end: files and outputs that fail, words that are not understood, little memory."""
+def calls(checker, plain, folder):
+    """How calls of both checkers end: files and outputs that fail, words that are not understood, and, in a build without sanitizers,
+    little memory."""
     steps = f"---\nstart 0 0,0 {S},{S}\n"
     texts = {"py": f"agg F 1 claims dsev [1] fixed\n{steps}", "c": f"log2 1\nunit fixed 1 of 1:1\n{steps}"}
     programs = {"py": [sys.executable, str(HERE / "check_steps.py"), "--log2=1"], "c": [checker]}
@@ -553,6 +564,7 @@ def calls(checker, folder):
         good.write_text(texts[kind])
 
         def ends(words, where):
+            """What the checker writes for these words and redirections, and its status."""
             return ran(["bash", "-c", f'exec "$@" {where}'.replace("GOOD", str(good)), "bash", *program,
                         *words.replace("GOOD", str(good)).split()], "")
 
@@ -563,12 +575,14 @@ def calls(checker, folder):
                 continue
             said = ends(words, where)
             test(f"{kind} {words} {where}", said[0].startswith(want) and said[1] == status and "\n" not in said[0])
+    if plain:
+        test("little memory", ran(["bash", "-c", 'ulimit -v 20000; exec "$0"', plain], texts["c"]) == ("memory is short", 6))
     half = "agg F 1 claims dsev [0.5] fixed"
     python = [*programs["py"][:2], "--log2=1", "--bs", "1/2"]
     test("--bs 1/2: verified", ran(python, f"{half}\n---\nstart 0 0,0 {S},{S}") == answer(None))
     test("--bs 1/2: a bad step", ran(python, half) == answer(0))
     test("no program", ran(python, "agg") == ("not read: token 1: wanted name", 2))
-    for words in WORDS.split(" | "):
+    for words in WORDS:
         said, status = ran([*python[:2], *words.split()], half)
         test(words, said.startswith("usage: ") and status == 3)
 
@@ -576,24 +590,28 @@ def calls(checker, folder):
 # ---- random programs
 
 
+def is_refused(program, log2, bucket, fault):
+    """Whether the checkers refuse a program that `decl cert` refuses with this fault."""
+    in_steps, in_plan = in_python(program, "", log2, bucket), planned(program, log2, bucket)
+    verified = in_decl(program, "", log2, bucket)
+    if "covered" in fault:
+        return in_steps == in_plan == (fault, 2) and verified == (fault, 1)
+    return in_steps[1] == in_plan[1] == 2 and verified[1] == 1 and not verified[0].startswith("step ")
+
+
 def random_program(checker, number):
     """What the checkers make of the program of a number: whether it has a certificate, and whether they agree on it and on a
     change of one byte or line of it."""
     program, bucket, log2 = program_of(number)
-    words = ["--bs", bucket, "--log2", str(log2)]
-    steps, status = ran([DECL, "cert", *words], program)
+    steps, status = ran([DECL, "cert", "--bs", bucket, "--log2", str(log2)], program)
     if status != 0:
-        refused = steps.removeprefix("decl: ") if "covered" in steps else "not read: "
-        said, bad = in_python(program, "", log2, bucket)
-        covered = "covered" not in steps or planned(program, log2, bucket) == (said, bad) == (refused, 2)
-        return False, covered and bad == 2 and in_decl(program, "", log2, bucket) == (steps.removeprefix("decl: "), 1)
+        return False, is_refused(program, log2, bucket, steps.removeprefix("decl: "))
     plan, _ = planned(program, log2, bucket)
-    lines, number = changed(steps.splitlines(), random.Random(number))
-    agreed = True
-    for text, is_good in ((steps, True), ("\n".join(lines), False)):
+    lines, _ = changed(steps.splitlines(), random.Random(number))
+    agreed = in_python(program, steps, log2, bucket) == answer(None)
+    for text in (steps, "\n".join(lines)):
         first = in_python(program, text, log2, bucket)
-        agreed &= first == answer(None) if is_good else first[1] < 2
-        agreed &= in_decl(program, text, log2, bucket) == first
+        agreed &= in_decl(program, text, log2, bucket) == first and first[1] < 2
         agreed &= not checker or ran([checker], f"{plan}\n---\n{text}") == first
     return True, agreed
 
@@ -656,21 +674,23 @@ def two_claims(weights, count, cells):
 def largest(checker):
     """The largest inputs that are read, and larger ones."""
     heavy, weights = heavy_program(), {amount: amount % 1024 for amount in range(65_536)}
-    small = "port P agg A 1 claims dsev [0:7] fixed agg B 1 claims dsev [0:7] fixed " + repeated("agg U{} 0 claims dsev [1] poisson", 14)
+    small = "port P agg A 1 claims dsev [0:15] fixed agg B 1 claims dsev [0:15] fixed "
+    small += repeated("agg U{} 0 claims dsev [1] poisson", 14)
     one = "agg A 1 claims dsev [1] fixed"
     values = f"dsev [{repeated('1', 1024)}] [1 {repeated('0', 1023)}]"
     many = repeated("agg U{} 2 claims " + repeated(values, 15) + f" wts [{repeated('1/15', 15)}] poisson", 16)
     wide = repeated("agg U{} 2 claims " + repeated("dsev [1:1024]", 100) + f" wts [{repeated('1/100', 100)}] poisson", 200)
     cases = [
         ("512 steps of 1,024 cells for 16 units of 65,536 amounts", heavy, two_claims(weights, 512, 1024), 10, answer(None)),
-        ("513 steps of 1,024 cells", small, two_claims({1: 1}, 513, 1024), 10, ("not read: more than 524,288 cells in all steps", 2)),
-        ("65,536 steps of 8 cells", small, two_claims(dict.fromkeys(range(8), 1), 65_536, 8), 3, answer(None)),
-        ("65,537 steps of 2 cells", small, two_claims({1: 1}, 65_537, 2), 1, ("not read: more than 65,536 steps", 2)),
-        ("67,000,000 empty lines", one, "\n" * 67_000_000, 1, ("not read: more than 65,536 steps", 2)),
+        ("513 steps of 1,024 cells", small, two_claims({1: 1}, 513, 1024), 10,
+         ("not read: more than 524,288 cells in all steps", 2)),
+        ("32,768 steps of 16 cells", small, two_claims(dict.fromkeys(range(16), 1), 32_768, 16), 4, answer(None)),
+        ("32,769 steps of 2 cells", small, two_claims({1: 1}, 32_769, 2), 1, ("not read: more than 32,768 steps", 2)),
+        ("67,000,000 empty lines", one, "\n" * 67_000_000, 1, ("not read: more than 32,768 steps", 2)),
         ("a line of 16,500,000 cells", one, "one" + " 0,0" * 16_500_000, 10, answer(0)),
         ("67,108,865 bytes", one, "0" * (MOST_INPUT + 1), 10, ("not read: more than 67,108,864 bytes", 2)),
         ("491,760 values", f"port P {many}", "", 10, answer(0)),
-        ("200 units of 100 atoms", f"port P {wide}", "", 10, ("not read: more than 16 units", 2)),
+        ("200 units of 100 atoms", f"port P {wide}", "", 10, ("not read: a severity of more than 64 atoms", 2)),
     ]
     for what, program, steps, log2, want in cases:
         words = [sys.executable, str(HERE / "check_steps.py"), "--log2", str(log2)]
@@ -697,7 +717,7 @@ def main():
             tables(sanitized)
             plans(sanitized)
             limits(sanitized)
-            calls(sanitized, folder)
+            calls(sanitized, checker, folder)
             changes(checker)
             programs(checker, PROGRAMS)
             largest(checker)
