@@ -1,8 +1,9 @@
 #!/usr/bin/env python3
 """Works how much width the asks need for which clients/calls.txt has a refusal, apart from the program.
 
-The rule of widths of docs/DEFINITIONS.md, with budgets in units of 2^-56 up to 4,096 cells and of 2^-48 above. The last line is 'N
-passed, M failed'.
+The rule of widths of docs/DEFINITIONS.md, with budgets in units of 2^-56 up to 4,096 cells and of 2^-48 above. Where a width is met
+by the unit, clients/calls.txt has two calls: one with a width that is 1 too small, and one with just this width, which has its row. The
+last line is 'N passed, M failed'.
 """
 
 import sys
@@ -69,22 +70,45 @@ class Widths:
         """The mean of a unit where the total is given."""
         return self.cells * self.joined(own, others)
 
-    def share(self, total, own, others):
+    def shared_joint(self, expected, shape, claims):
+        """The same under a common factor: of so many claims above 0 of the unit, where so many are expected of all units."""
+        raised = self.gamma(Fraction(expected * (shape + 1), shape), shape + 1)
+        return (self.cells * raised + 2) * ceil(claims) + 2
+
+    def share(self, total, joint):
         """That mean over the probability of the total, which is at least 2^-16."""
-        return (1 << 16) * (self.cells * total + self.joint(own, others)) + 2
+        return (1 << 16) * (self.cells * total + joint) + 2
 
     def tail(self, total, mean, p):
         """The mean above a quantile."""
         return ceil((2 * mean + 3 * self.cells * total) / (1 - Fraction(p))) + 4
 
+    def price(self, total, mean, terms):
+        """A sum of such means, each with its weight."""
+        return sum(ceil(Fraction(weight) * self.tail(total, mean, p)) + 2 for weight, p in terms)
+
+    def tail_share(self, total, mean, joint, p):
+        """What a unit has of such a mean: its own mean, less those up to the quantile, and the part of the quantile itself."""
+        below = joint + 2 * self.cells + self.cells * (total + 2)
+        return ceil((mean + below + self.share(total, joint) + 4) / (1 - Fraction(p))) + 4
+
+    def changed(self, own, none):
+        """A unit whose probability of no claim, of this budget, is changed: at least 1/18 is left to divide by."""
+        return 18 * (own + 2 * none) + 4 * self.cells + 2
+
+    def changed_mean(self, own, most, none):
+        """The mean of such a unit, which was at most so many buckets."""
+        return 18 * (own + 2) + 306 * most * none + 2
+
 
 def short_calls():
     """Calls on 4,096 cells, each with its budget."""
-    plan = Widths(4096)
+    plan, none = Widths(4096), Widths(4096).before_clause(1)
     hedged = plan.before_clause(16000).binomial(2, 65536)  # up to the last attachment of its clause, which lies past the grid
     hedged_mean = 1 + (8000 * hedged + 3) + (16000 * hedged + 4)
     listed, trials = plan.listed(6, 256), plan.binomial(2, 65536)
     gamma, poisson = plan.gamma(20, 4), plan.poisson(20)
+    changed = plan.changed(2 * plan.before_clause(4099).gamma(20, 4), none.gamma(20, 4))  # after a clause that takes 3 of each sum
     return plan, {
         "--width 1 cdf:4000": plan.joined(listed, trials),
         "--mwidth 1 mean": hedged_mean,
@@ -92,8 +116,14 @@ def short_calls():
         "--mwidth 1 layer:infxs4000": hedged_mean + 4000 * 2 * hedged,
         "--mwidth 1 tail:.999999999": plan.tail(poisson, 1, ".999999999"),
         "--mwidth 1 joint:B:4000": plan.joint(trials, listed),
-        "--mwidth 1 kappa:G:0": plan.share(gamma, gamma, 0),
-        "--mwidth 1 kappa:P:0": plan.share(plan.joined(gamma, poisson), poisson, gamma),
+        "--mwidth 1 kappa:G:0": plan.share(gamma, plan.joint(gamma, 0)),
+        "--mwidth 1 kappa:P:0": plan.share(plan.joined(gamma, poisson), plan.joint(poisson, gamma)),
+        "--mwidth 1 price:1/3@.5+2/3@.999999999": plan.price(poisson, 1, [("1/3", ".5"), ("2/3", ".999999999")]),
+        "--mwidth 1 cotail:B:.9999": plan.tail_share(plan.joined(listed, trials), 1, plan.joint(trials, listed), ".9999"),
+        "--mwidth 1 joint:A:4000": plan.shared_joint(20, 4, 10),
+        "--mwidth 1 kappa:B:0": plan.share(gamma, plan.shared_joint(20, 4, 10)),
+        "--mwidth 1 mean pmf:0": plan.changed_mean(1, 4000, none.poisson(4000)),
+        "--mwidth 1 kappa:Z:0": plan.share(changed, plan.joint(changed, 0)),
     }
 
 
@@ -105,28 +135,55 @@ def long_calls():
     return plan, {
         "--width 1 cdf:65535": plan.joined(plan.listed(6, 256), plan.binomial(2, 65536)),
         "--width 1 q:0.99": poisson,
+        "--width 1 q:0.9": plan.changed(poisson, plan.before_clause(1).poisson(4096)),
         "--mwidth 1 layer:60000xs10": 60000 * poisson,
         "--mwidth 1 mean": 1 + (8000 * hedged + 3) + (65000 * hedged + 4),
     }
 
 
-def main():
-    """Compares each refusal with the width that its ask needs."""
-    left = {}
+def just_met():
+    """Asks, each with the option of its width and its budget, that are refused by 1 and admitted by the width that they need."""
+    short, long, none = Widths(4096), Widths(65536), Widths(4096).before_clause(1)
+    dice, die = short.listed(6, 2), short.listed(3, 1)
+    shared, pair = short.gamma(3, 4), short.joined(die, die)
+    yield short, "--mwidth", "price:1/2@0+1/2@0.9", short.price(dice, 1, [("1/2", "0"), ("1/2", "0.9")])
+    yield short, "--mwidth", "cotail:A:0.8", short.tail_share(pair, 1, short.joint(die, die), "0.8")
+    yield short, "--mwidth", "joint:A:2", short.shared_joint(3, 4, 1)
+    yield short, "--mwidth", "kappa:A:2", short.share(shared, short.shared_joint(3, 4, 1))
+    yield short, "--mwidth", "mean", short.changed_mean(1, 32768, none.binomial(1, 65536))
+    yield long, "--width", "pmf:0", long.gamma(3, 4)
+    yield long, "--width", "pmf:1", long.changed(long.binomial(1, 4), long.before_clause(1).binomial(1, 4))
+    yield long, "--width", "cdf:0", long.changed(long.gamma(1, 1), long.before_clause(1).gamma(1, 1))
+
+
+def expected():
+    """The words of each call of calls.txt that these widths decide, with the width that its ask needs; and whether it is refused."""
     for plan, budgets in (short_calls(), long_calls()):
-        log2 = plan.cells.bit_length() - 1
-        left.update((f"run --log2 {log2} --digits {DIGITS} {words}", plan.needs(budget)) for words, budget in budgets.items())
+        for words, budget in budgets.items():
+            yield words_of(plan, words), plan.needs(budget), True
+    for plan, option, ask, budget in just_met():
+        needed = plan.needs(budget)
+        yield words_of(plan, f"{option} {needed - 1} {ask}"), needed, True
+        yield words_of(plan, f"{option} {needed} {ask}"), needed, False
+
+
+def words_of(plan, words):
+    """The words of a call on the cells of a plan."""
+    return f"run --log2 {plan.cells.bit_length() - 1} --digits {DIGITS} {words}"
+
+
+def main():
+    """Compares each call with the width that its ask needs."""
+    calls = {" ".join(call.words): call for call in table()}
     passed = failed = 0
-    for call in table():
-        needed = left.pop(" ".join(call.words), None) if call.status == TOO_WIDE else None
-        if needed is not None:
-            due = f"decl: ask 0: needs width {needed}\n"
-            passed, failed = passed + (call.err == due), failed + (call.err != due)
-            if call.err != due:
-                print(f"FAILED: {' '.join(call.words)}: {due}", end="")
-    failed += len(left)
-    for words, needed in left.items():
-        print(f"FAILED: clients/calls.txt has no call {words}, which needs {needed}")
+    for words, needed, refused in expected():
+        call, due = calls.get(words), f"decl: ask 0: needs width {needed}\n"
+        fault = not call and "clients/calls.txt has no such call"
+        fault = fault or (refused and (call.status != TOO_WIDE or call.err != due) and f"it writes {call.err}")
+        fault = fault or (not refused and call.status != 0 and "it is refused")
+        passed, failed = passed + (not fault), failed + bool(fault)
+        if fault:
+            print(f"FAILED: {words}, which needs {needed}: {fault.strip()}")
     print(f"{passed} passed, {failed} failed")
     return 1 if failed else 0
 

@@ -1,9 +1,9 @@
 #!/usr/bin/env python3
 """Checks docs/decl.1 against the other pages, and runs its examples.
 
-It renders without a warning (which is skipped where groff is not installed); each option, ask and message of docs/USAGE.md and each
-rule of docs/LANGUAGE.md is in it; and each example writes what stands below it, where `$ cat FILE` makes the file. The program is
-DECL, else crates/decl/out/decl. The last line is 'N passed, M failed, K skipped'.
+It renders without a warning (which is skipped where groff is not installed); each line of the synopsis, option, ask and message of
+docs/USAGE.md and each rule of docs/LANGUAGE.md is in it; and each example writes what stands below it, where `$ cat FILE` makes the
+file. The program is DECL, else crates/decl/out/decl. The last line is 'N passed, M failed, K skipped'.
 """
 
 import os
@@ -41,7 +41,9 @@ def named():
     usage = read("docs/USAGE.md")
     for option in re.findall(r"^\| `(--[a-z0-9]+) ", usage, re.M):
         yield "docs/USAGE.md", option
-    for ask in re.findall(r"^\| `((?:pmf|cdf|q|layer|tail|joint|kappa):[^`]*|mean)` \|", usage, re.M):
+    for synopsis in re.findall(r"^    (decl .*)$", usage[: usage.index("    $ ")], re.M):
+        yield "docs/USAGE.md", synopsis.replace("TEXT_AND_STEPS", "FILE_AND_STEPS").replace("< TEXT", "< FILE")
+    for ask in re.findall(r"^\| `([^`]+)` \|", usage[usage.index("## Asks") : usage.index("## Options")], re.M):
         yield "docs/USAGE.md", ask
     for message in re.findall(r"`(decl: [^`]*)`", usage[usage.index("## How it ends") :]):
         yield "docs/USAGE.md", message
