@@ -150,7 +150,7 @@ def just_met():
     yield short, "--mwidth", "cotail:A:0.8", short.tail_share(pair, 1, short.joint(die, die), "0.8")
     yield short, "--mwidth", "joint:A:2", short.shared_joint(3, 4, 1)
     yield short, "--mwidth", "kappa:A:2", short.share(shared, short.shared_joint(3, 4, 1))
-    yield short, "--mwidth", "mean", short.changed_mean(1, 32768, none.binomial(1, 65536))
+    yield short, "--mwidth", "mean", short.changed_mean(1, 4096, none.binomial(1, 8192))
     yield long, "--width", "pmf:0", long.gamma(3, 4)
     yield long, "--width", "pmf:1", long.changed(long.binomial(1, 4), long.before_clause(1).binomial(1, 4))
     yield long, "--width", "cdf:0", long.changed(long.gamma(1, 1), long.before_clause(1).gamma(1, 1))
