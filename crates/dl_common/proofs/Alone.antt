@@ -152,7 +152,7 @@ alone_valid plan made valid unit = record {
   common = tt;
 }
 
-whole_list : (P : Fraction → Type 0) (f : List UnitOfPlan → Fraction) (units : List UnitOfPlan) → 1 ≤ length units
+pub whole_list : (P : Fraction → Type 0) (f : List UnitOfPlan → Fraction) (units : List UnitOfPlan) → 1 ≤ length units
     → ((k : ℕ) → 1 ≤ k → k ≤ length units → P (f (take k units))) → P (f units)
 whole_list P f units some h =
     subst (λ us. P (f us)) (take_all (length units) units (omega arith)) (h (length units) some (omega arith))

@@ -1,13 +1,15 @@
 -- One unit in the place of all units of a plan under a common factor (Loss Models, "Mixed frequency
 -- distributions": Poisson counts with one gamma mean are a negative binomial count), and in the
 -- place of independent Poisson units.
-use Rattle.std.specs.Prelude.{ℕ, suc, ◌≡◌, ◌&&◌, Bool, true, false, None, is_none, List, [], ◌∷◌, map, get_or}
+use Rattle.std.specs.Prelude.{ℕ, suc, ◌≡◌, ◌≤◌, ◌&&◌, Bool, true, false, None, is_none, List, [], ◌∷◌, length, map, take, flat_map, get_or}
 use Rattle.std.specs.Borrow.{Bor}
+use Rattle.dl_limits.specs.Limits.{most_expected}
+use Rattle.dl_exact.specs.Prelude.{whole, ◌≤ℚ◌, ◌<ℚ◌}
 use Rattle.dl_plan.specs.declared.plan.Freq.{Freq}
 use Rattle.dl_plan.specs.declared.plan.Freq.TheVariants.{Fixed, Table, Bernoulli, Binomial, Poisson, Gamma}
 use Rattle.dl_plan.specs.declared.plan.Unit.{Unit as UnitOfPlan}
 use Rattle.dl_plan.specs.declared.plan.Plan.{Plan}
-use Rattle.dl_plan.specs.Prelude.{probability_of, expected_of, raised}
+use Rattle.dl_plan.specs.Prelude.{IsFineTo30Bits, HasPartsOf48Bits, probability_of, expected_of, raised, shared_probabilities, thinned_of, unit_share}
 use Rattle.dl_model.specs.Prelude.{pooled_severity, poisson_units}
 
 -- the units that are lent
@@ -36,6 +38,19 @@ pub record IsMixedOf (units : List UnitOfPlan) (freq : Freq) (made : UnitOfPlan)
   pub severity : (x : ℕ) → probability_of made.sev x ≡ pooled_severity (poisson_units units) x
   pub clause : made.cede ≡ None
   pub zero : made.zero ≡ None
+
+-- what units keep whose sum is that of one valid Poisson unit: the claims of all have a mean above
+-- 0; the expected counts of the first k units add up to admitted sums, and so do the thinned means of
+-- all, to at most 4,096; and the shares of the units, and these times the probabilities of amounts,
+-- are fine to 30 bits
+pub record HavePoissonSum (units : List UnitOfPlan) : Type 0 where
+  pub some : whole 0 <ℚ expected_of units
+  pub expected : (k : ℕ) → 1 ≤ k → k ≤ length units
+      → HasPartsOf48Bits (expected_of (take k units))
+  pub thinned : HasPartsOf48Bits (thinned_of units)
+  pub few : thinned_of units ≤ℚ whole most_expected
+  pub shares : IsFineTo30Bits (map (unit_share (expected_of units)) units)
+  pub products : IsFineTo30Bits (flat_map (shared_probabilities (expected_of units)) units)
 
 -- the one unit for units under a factor of shape r: its mean is the expected number of all claims
 abbrev pub IsPooled : ℕ → List UnitOfPlan → UnitOfPlan → Type 0

@@ -10,10 +10,10 @@
 //! (`pooled`, `valid`, `same`), and `raised` is valid too; `common_joint` holds the declared joint
 //! mean of a unit, at most the total, within the width that is stated (`holds`, `width`, `below`,
 //! `small`). They ask for a valid plan with a factor (`SharesFactor`). `pool_poisson` gives one
-//! Poisson unit with the total of several, or none (`sum`, `valid`); no clause says when there is
-//! none. `poisson_joint` holds the joint mean of a Poisson unit beside any other losses. `extra` is
-//! valid wherever the gamma unit is (`extra`, `valid`, `there`), and `gamma_joint` holds the joint
-//! mean of a gamma unit.
+//! Poisson unit with the total of several, which is there where their sums keep the bounds of a
+//! valid unit (`sum`, `valid`, `there`). `poisson_joint` holds the joint mean of a Poisson unit
+//! beside any other losses. `extra` is valid wherever the gamma unit is (`extra`, `valid`,
+//! `there`), and `gamma_joint` holds the joint mean of a gamma unit.
 #![tactic(auto)]
 
 mod copies;

@@ -6,7 +6,7 @@ ghost use Rattle.dl_exact.specs.Fraction.{whole, ◌-ℚ◌, ◌*ℚ◌, ◌≤�
 ghost use Rattle.dl_plan.specs.Prelude.{IsFineTo30Bits, HasPartsOf48Bits, pairs_of, probability_of, expected_count, IsValid, IsValidUnit, CanShare, expected_of, unit_share, shared_probabilities, SharesFactor};
 ghost use Rattle.dl_sev.specs.Prelude.{IsWeighing, sum_of};
 ghost use Rattle.dl_model.specs.Prelude.{Quantity, declared, pooled_severity, CountsTotal, IsPoissonSum, poisson_units};
-ghost use Rattle.dl_common.specs.Pooled.{IsPooled, alone, lent};
+ghost use Rattle.dl_common.specs.Pooled.{HavePoissonSum, IsPooled, alone, lent};
 
 use crate::copies::severities;
 use crate::shares::{expected, shares, sharing};
@@ -61,6 +61,7 @@ pub fn pool_poisson(alloc: Global, units: &[&Unit]) -> Result<Option<Unit>, Allo
     ensures sum { IfOk result (λ made. IfSome made (IsPoissonSum (lent units.now))) }
     ensures valid { IfOk result (λ made. IfSome made (λ unit. (cells : ℕ)
         → All (IsValidUnit cells) (lent units.now) → IsValidUnit cells unit)) }
+    ensures there { IfOk result (λ made. HavePoissonSum (lent units.now) → IsSome made) }
 {
     let Some(mean) = expected(units) else {
         return Ok(None);
