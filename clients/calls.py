@@ -80,20 +80,26 @@ def is_one_of(written, due):
 
 def table():
     """The calls of the two tables."""
-    calls = []
+    calls, group, last = [], [], ""
     lines = [line for name in ("calls.txt", "rules.txt") for line in (HERE / name).read_text().splitlines()]
     for line in lines:
         mark, text = line[:1], line[2:]
-        if mark == "$":
-            calls.append(Call(shlex.split(text)))
-        elif mark == "<":
-            calls[-1].source += text + "\n"
-        elif mark == ">":
-            calls[-1].out += text + "\n"
-        elif mark == "!":
-            calls[-1].err += text + "\n"
-        elif mark == "=":
-            calls[-1].status = int(text)
+        if mark == "$":  # beside the calls right before it: what comes next is due of each
+            group = [*(group if last == "$" else ()), Call(shlex.split(text))]
+            calls.append(group[-1])
+        elif mark == "<" and last in ("!", ">", "="):  # a further input of the same words
+            group = [Call(call.words) for call in group]
+            calls.extend(group)
+        for call in group:
+            if mark == "<":
+                call.source += text + "\n"
+            elif mark == ">":
+                call.out += text + "\n"
+            elif mark == "!":
+                call.err += text + "\n"
+            elif mark == "=":
+                call.status = int(text)
+        last = mark or last
     return calls
 
 
@@ -128,6 +134,7 @@ def long_texts():
     yield Call(["run", "pmf:1"], atoms + " dsev [1]" * 65 + " wts [1]", REFUSED, err=long.format(17))
     yield Call(["run", "pmf:1"], layers + " and 0 xs 0" * 15, out="pmf:1 0.166666 0.166667\n")
     yield Call(["run", "pmf:1"], layers + " and 0 xs 0" * 16, REFUSED, err=long.format(28))
+    yield Call(["cert"], "agg F 1 claims dsev [1] fixed\n", out=f"start 0 0,0 {1 << 56},{1 << 56}{' 0,0' * 1022}\n")
     yield Call(["run", *["mean"] * 256], DIE, out="mean 3.500000 3.500000\n" * 256)
     yield Call(["run", *["mean"] * 257], DIE, USAGE, err="decl: usage\n")
 

@@ -39,6 +39,13 @@ class Widths:
         even = self.joined(half, half)
         return self.joined(even, base) if times % 2 else even
 
+    def equal(self, unit, many):
+        """So many units of one budget."""
+        spread = unit
+        for _ in range(1, many):
+            spread = self.joined(spread, unit)
+        return spread
+
     def listed(self, items, greatest):
         """A listed number of claims."""
         spread = 1
@@ -111,6 +118,7 @@ def short_calls():
     changed = plan.changed(2 * plan.before_clause(4099).gamma(20, 4), none.gamma(20, 4))  # after a clause that takes 3 of each sum
     return plan, {
         "--width 1 cdf:4000": plan.joined(listed, trials),
+        "--width 1 cdf:4001": plan.equal(2 * plan.before_clause(16384).binomial(2, 65536), 16),
         "--mwidth 1 mean": hedged_mean,
         "--mwidth 1 layer:4000xs10": 4000 * 2 * hedged,
         "--mwidth 1 layer:infxs4000": hedged_mean + 4000 * 2 * hedged,
@@ -123,6 +131,8 @@ def short_calls():
         "--mwidth 1 joint:A:4000": plan.shared_joint(20, 4, 10),
         "--mwidth 1 kappa:B:0": plan.share(gamma, plan.shared_joint(20, 4, 10)),
         "--mwidth 1 mean pmf:0": plan.changed_mean(1, 4000, none.poisson(4000)),
+        "--mwidth 1 mean pmf:1": plan.changed_mean(1, 4096000, none.power(1, 4096)),
+        "--mwidth 1 mean pmf:2": plan.changed_mean(1, 65536, none.binomial(1, 1)),
         "--mwidth 1 kappa:Z:0": plan.share(changed, plan.joint(changed, 0)),
     }
 
@@ -156,6 +166,16 @@ def just_met():
     yield long, "--width", "cdf:0", long.changed(long.gamma(1, 1), long.before_clause(1).gamma(1, 1))
 
 
+def without_options():
+    """Asks without a width among the words, each with its budget and whether it is refused: a width of 10, and of 1,000,000, is met."""
+    plan, short = Widths(4096), Widths(1024)
+    claims, half = plan.power(1, 65536), short.poisson(Fraction(1, 2))
+    yield plan, "cdf:4000", plan.joined(claims, plan.poisson(1024)), False
+    yield plan, "cdf:4002", plan.joined(claims, plan.poisson(2048)), True
+    yield short, "tail:2819256/2819257", short.tail(half, 1, "2819256/2819257"), False
+    yield short, "tail:2819257/2819258", short.tail(half, 1, "2819257/2819258"), True
+
+
 def expected():
     """The words of each call of calls.txt that these widths decide, with the width that its ask needs; and whether it is refused."""
     for plan, budgets in (short_calls(), long_calls()):
@@ -165,6 +185,8 @@ def expected():
         needed = plan.needs(budget)
         yield words_of(plan, f"{option} {needed - 1} {ask}"), needed, True
         yield words_of(plan, f"{option} {needed} {ask}"), needed, False
+    for plan, words, budget, refused in without_options():
+        yield words_of(plan, words), plan.needs(budget), refused
 
 
 def words_of(plan, words):
