@@ -1,4 +1,5 @@
 mod Common
+mod Examples
 pub mod Ascii
 pub mod CsvRecords
 pub mod Digits
