@@ -1,4 +1,4 @@
-//! Plans, the steps of severities and the typing rules on values worked by hand: tests alone.
+//! Plans and the steps of severities on values worked by hand: tests alone.
 #![tactic(auto)]
 
 #[cfg(test)]

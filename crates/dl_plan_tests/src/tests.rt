@@ -1,6 +1,5 @@
-//! Tests of plans, severities and typing rules.
+//! Tests of plans and severities.
 
 mod helpers;
 mod plan;
 mod sev;
-mod types;

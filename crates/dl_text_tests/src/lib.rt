@@ -1,5 +1,4 @@
-//! The tests of the crates from bytes to syntax, of the words of the command line and of
-//! reports, on values worked by hand.
+//! The tests of bytes, of sources and sinks, and of tokens, on values worked by hand.
 #![tactic(auto)]
 
 #[cfg(test)]

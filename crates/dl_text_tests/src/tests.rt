@@ -1,11 +1,6 @@
-//! Tests of bytes, sources and sinks, tokens, syntax, canonical texts, words and reports.
+//! Tests of bytes, sources and sinks, and tokens.
 
 mod bytes;
 mod endless;
-mod helpers;
 mod lexer;
 mod outside;
-mod parser;
-mod printer;
-mod report;
-mod words;

@@ -1,3 +1,1 @@
-mod GridSizes
-mod SmallUnits
 mod TestLaws

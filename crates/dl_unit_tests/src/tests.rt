@@ -1,11 +1,4 @@
-//! Tests of claim counts, powers, budgets and unit grids.
+//! Tests of powers and of the two ways to a Poisson or gamma count.
 
-mod budget;
-mod common;
-mod digits;
-mod factor;
-mod gamma;
-mod helpers;
-mod none;
 mod power;
 mod unit;

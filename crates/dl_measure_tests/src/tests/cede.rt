@@ -107,7 +107,7 @@ fn keeps<const B: u32>(alloc: Global, cede: &Cede, case: &Case) -> Result<bool, 
 }
 
 /// The layer of this limit, attachment and share in halves, where the share is a fraction.
-pub(crate) fn layer_of(halves: u32, limit: Option<u32>, attach: u32) -> Option<CedeLayer> {
+fn layer_of(halves: u32, limit: Option<u32>, attach: u32) -> Option<CedeLayer> {
     let share = Frac::make(u128::from(halves), 2).ok()?;
     Some(CedeLayer {
         share,

@@ -184,14 +184,14 @@ const TAILS: [Beyond; 6] = [
     },
 ];
 
-pub(crate) fn is_below_one(p: Frac) -> bool
+fn is_below_one(p: Frac) -> bool
     ensures { IsTrue result → p <ℚ whole 1 }
 {
     p.num() < p.den()
 }
 
 /// The fraction, where it is a probability that may be asked for.
-pub fn level(p: (u32, u32)) -> Option<Frac>
+fn level(p: (u32, u32)) -> Option<Frac>
     ensures below_one { IfSome result (λ p. p <ℚ whole 1) }
     ensures small { IfSome result (λ p. p.den ≤ 1000000000) }
 {
@@ -244,7 +244,7 @@ fn holds<const B: u32>(alloc: Global, case: &Covered) -> Result<bool, AllocError
 }
 
 /// The sum of two dice on 16 cells, or the total on so many.
-pub fn total_of<const B: u32>(alloc: Global, dice: bool, cells: u32) -> Result<Grid<B>, AllocError>
+fn total_of<const B: u32>(alloc: Global, dice: bool, cells: u32) -> Result<Grid<B>, AllocError>
     requires scale_above { 1 ≤ B }
     requires scale_below { B ≤ 56 }
 {
@@ -256,7 +256,7 @@ pub fn total_of<const B: u32>(alloc: Global, dice: bool, cells: u32) -> Result<G
 }
 
 /// The mean of the sum of two dice, or of the total.
-pub fn mean_of<const B: u32>(dice: bool) -> Iv<B>
+fn mean_of<const B: u32>(dice: bool) -> Iv<B>
     requires scale_above { 1 ≤ B }
     requires scale_below { B ≤ 56 }
 {

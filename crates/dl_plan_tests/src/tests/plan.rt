@@ -3,8 +3,8 @@
 ghost use Rattle.std.specs.Prelude.{◌<◌, ◌^◌, IfSome};
 
 use crate::tests::helpers::{Layer, clause, fraction, is_shown};
+use dl_bytes::Text;
 use dl_frac::Frac;
-use dl_lexer::Text;
 use dl_plan::{Cede, Freq, Item, Sev, Unit, greatest_amount, in_layer};
 use std::alloc::{AllocError, Global};
 

@@ -3,12 +3,48 @@
 ghost use Rattle.std.specs.Prelude.{◌≡◌, ◌<◌, ◌≤◌, length, IfOk};
 ghost use Rattle.dl_plan.specs.Weighted.{weight_sum};
 
-use crate::tests::helpers::{DIE, item};
 use dl_grid::Grid;
 use dl_plan::Item;
 use dl_power::{claim_grid, mix_counts, power};
 use dl_product::Workspace;
 use std::alloc::{AllocError, Global};
+
+/// The faces of a die, each as likely as the others.
+const DIE: [Item; 6] = [
+    Item {
+        amount: 1,
+        weight: 1,
+    },
+    Item {
+        amount: 2,
+        weight: 1,
+    },
+    Item {
+        amount: 3,
+        weight: 1,
+    },
+    Item {
+        amount: 4,
+        weight: 1,
+    },
+    Item {
+        amount: 5,
+        weight: 1,
+    },
+    Item {
+        amount: 6,
+        weight: 1,
+    },
+];
+
+/// An amount of a list.
+fn item(amount: u32, weight: u32) -> Item
+    ensures is { result ≡ record { amount = amount; weight = weight } }
+    ensures amount { result.amount ≡ amount }
+    ensures weight { result.weight ≡ weight }
+{
+    Item { amount, weight }
+}
 
 /// The ends of the cells from 0 to 12, and the spread of the whole grid.
 struct Ends {

@@ -3,7 +3,7 @@ use Rattle.dl_exact.specs.Fraction.{◌over◌}
 use Rattle.dl_frac.specs.Exact.{FitsFrac}
 use Rattle.dl_exact.proofs.Parts.{over_num_le, over_den_le}
 use Rattle.dl_plan.proofs.Fits.{over_fits, given_ok}
-use Rattle.dl_unit_tests.proofs.tests.helpers.fraction.Goals as goal
+use Rattle.dl_unit_tests.proofs.tests.unit.fraction.Goals as goal
 
 pub unwrap-requires : goal.unwrap-requires
 unwrap-requires c = given_ok c.make.result (c.args.num over c.args.den)

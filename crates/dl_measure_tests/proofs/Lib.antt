@@ -1,3 +1,0 @@
-mod MeanTests
-mod PriceTests
-mod ShareTests
