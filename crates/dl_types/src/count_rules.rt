@@ -48,8 +48,9 @@ pub(crate) fn check_count<'a>(
     broken(number, Rule::ZeroMean, span)?;
     let layered = weighed_severity(alloc, unit)?;
     let count = expected_claims(unit, bs, &layered);
-    check_whole(number, &unit.count, &count)?;
-    let claims = check_fine(alloc, number, unit, &layered_unit.clauses, layered, count)?;
+    let whole = check_whole(number, &unit.count, &count);
+    let kept = unless_broken(layered, whole)?;
+    let claims = check_fine(alloc, number, unit, &layered_unit.clauses, kept, count)?;
     let many = too_many_claims(&claims.count, &claims.above);
     let checked = broken(number, Rule::TooManyClaims, span_if(many, unit.name));
     unless_broken(claims, checked)

@@ -1,6 +1,6 @@
 //! Severities in whole buckets. One with a name is read where a unit first refers to it.
 
-ghost use Rattle.std.specs.Prelude.{◌≡◌, List, None, All, IfOk, IfSome};
+ghost use Rattle.std.specs.Prelude.{◌≡◌, List, None, Some, All, IfOk, IfSome};
 ghost use Rattle.std.specs.Option.{MatchOption};
 ghost use Rattle.dl_ast.specs.WellFormed.{IsFormedBody, IsFormedMixture, IsFormedDefinition};
 ghost use Rattle.dl_ast.specs.declared.ast.SevDef.{SevDef as Definition};
@@ -64,15 +64,24 @@ fn named_severity<'a>(
         (IsSeverityRead settings.now (named sevs.now name.now))) }
 {
     if let Some(made) = known_severity(known, name) {
-        return Ok(Some(made.copy(alloc)?));
+        return copied(alloc, made);
     }
     let Some(mix) = named(sevs, name) else {
         return Ok(None);
     };
     let made = read_mixture(alloc, mix, settings)?;
-    let copied = made.copy(alloc)?;
     known.push(KnownSeverity { name, made })?;
-    Ok(Some(copied))
+    copied(alloc, &known[known.len() - 1].made)
+}
+
+/// A copy of a severity that is there.
+fn copied(
+    alloc: Global,
+    made: &Gridded<GridSev>,
+) -> Result<Option<Gridded<GridSev>>, AllocError>
+    ensures { IfOk result (λ copied. copied ≡ Some made.now) }
+{
+    Ok(Some(made.copy(alloc)?))
 }
 
 /// The severity with this name, where a unit before has referred to it.

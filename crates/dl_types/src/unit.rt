@@ -85,8 +85,9 @@ fn check_with<'a>(
         ≡ names_of before.now ++ unit.now.name.text ∷ []) }
 {
     let number = before.len() as u32;
-    check_name(number, Rule::DuplicateName, names, &unit.name)?;
-    let grid = check_text(alloc, number, unit, sev, settings)?;
+    let named = check_name(number, Rule::DuplicateName, names, &unit.name);
+    let kept = unless_broken(sev, named)?;
+    let grid = check_text(alloc, number, unit, kept, settings)?;
     check_grid(alloc, number, unit, &grid, settings)
 }
 

@@ -9,7 +9,7 @@ pub expected_claims-count-requires-clause-layered : goal.expected_claims-count-r
 expected_claims-count-requires-clause-layered c = c.in_ok-layered.ensures
 
 pub check_fine-requires-clause-weighed : goal.check_fine-requires-clause-weighed
-check_fine-requires-clause-weighed c = c.in_ok-layered.ensures
+check_fine-requires-clause-weighed c = rw c.in_ok-kept.ensures.same c.in_ok-layered.ensures
 
 pub check_fine-requires-clause-number : goal.check_fine-requires-clause-number
 check_fine-requires-clause-number c = rw c.expected_claims-count.ensures (number_is c.args.bs c.args.unit.now)
@@ -19,18 +19,18 @@ too_many_claims-many-requires c =
     let u = c.args.unit.now in
     let is = c.in_ok-claims.ensures.count in
     rw (is.same, is.number) (whole_here u c.expected_claims-count.result
-    (whole_is c.args.number u.count c.expected_claims-count.result c.in_ok-check_whole.ensures)
+    (whole_is c.args.number u.count c.expected_claims-count.result (c.in_ok-kept.ensures.fault _ c.check_whole-whole.ensures))
     (only _ TooFine _ c.in_ok-claims.ensures.fault))
 
-pub returns-in_err-check_whole-clause-fault : goal.returns-in_err-check_whole-clause-fault
-returns-in_err-check_whole-clause-fault c =
-    let stop = c.in_err-check_whole.field-0.0 in
+pub returns-in_err-kept-clause-fault : goal.returns-in_err-kept-clause-fault
+returns-in_err-kept-clause-fault c =
+    let stop = c.in_err-kept.field-0.0 in
     count_told c.args.bs c.args.number c.args.unit.now c.deref.result.now c.expected_claims-count.result
     c.zero_mean-span.result (c.deref.ensures.value ∙ c.requires.amounts) c.expected_claims-count.ensures
-    c.zero_mean-span.ensures c.from_residual-in_err-check_whole.result stop c.from_residual-in_err-check_whole.ensures
+    c.zero_mean-span.ensures c.from_residual-in_err-kept.result stop c.from_residual-in_err-kept.ensures
     (stop_second (breaks c.args.number ZeroMean c.zero_mean-span.result) _ stop c.in_ok-broken.ensures
     (stop_first (first_broken c.args.number (whole_rules c.args.unit.now.count c.expected_claims-count.result)) _ stop
-    c.in_err-check_whole.ensures))
+    (c.in_err-kept.ensures.fault _ c.check_whole-whole.ensures)))
 
 pub returns-in_err-claims-clause-fault : goal.returns-in_err-claims-clause-fault
 returns-in_err-claims-clause-fault c =
@@ -41,7 +41,7 @@ returns-in_err-claims-clause-fault c =
     (c.deref.ensures.value ∙ c.requires.amounts) c.expected_claims-count.ensures c.zero_mean-span.ensures
     c.from_residual-in_err-claims.result stop c.from_residual-in_err-claims.ensures
     (stop_second (breaks c.args.number ZeroMean c.zero_mean-span.result) _ stop c.in_ok-broken.ensures
-    (stop_second (first_broken c.args.number (whole_rules u.count n)) _ stop c.in_ok-check_whole.ensures
+    (stop_second (first_broken c.args.number (whole_rules u.count n)) _ stop (c.in_ok-kept.ensures.fault _ c.check_whole-whole.ensures)
     (stop_first (breaks c.args.number TooFine (too_fine u n)) _ stop c.in_err-claims.ensures.fault)))
 
 pub returns-clause-fault : goal.returns-clause-fault
@@ -54,7 +54,7 @@ returns-clause-fault c =
     let last = count_fault c.args.bs c.args.number u c.deref.result.now n c.zero_mean-span.result
     (c.deref.ensures.value ∙ c.requires.amounts) c.expected_claims-count.ensures c.zero_mean-span.ensures
     ∙ skip (breaks c.args.number ZeroMean c.zero_mean-span.result) _ c.in_ok-broken.ensures
-    ∙ skip (first_broken c.args.number (whole_rules u.count n)) _ c.in_ok-check_whole.ensures
+    ∙ skip (first_broken c.args.number (whole_rules u.count n)) _ (c.in_ok-kept.ensures.fault _ c.check_whole-whole.ensures)
     ∙ skip (breaks c.args.number TooFine (too_fine u n)) _ c.in_ok-claims.ensures.fault in
-    subst (λ fault. HasFault fault c.unless_broken.result) (ap (breaks c.args.number TooManyClaims) span ∙ sym last)
-    (c.unless_broken.ensures.fault _ c.broken-checked.ensures)
+    subst (λ fault. HasFault fault c.unless_broken-2.result) (ap (breaks c.args.number TooManyClaims) span ∙ sym last)
+    (c.unless_broken-2.ensures.fault _ c.broken-checked.ensures)
