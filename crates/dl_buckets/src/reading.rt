@@ -4,16 +4,16 @@ ghost use Rattle.std.specs.Prelude.{◌≡◌, ◌≤◌, IfOk};
 ghost use Rattle.dl_limits.specs.Limits.{most_amount};
 ghost use Rattle.dl_ast.specs.WellFormed.{IsFormedMixture, IsFormedUnit};
 ghost use Rattle.dl_plan.specs.Ranges.{IsBucket};
-ghost use Rattle.dl_buckets.specs.Flaws.{IsRead, flaws_within};
-ghost use Rattle.dl_buckets.specs.Grid.{grid_clause, grid_mixture, grid_with};
-ghost use Rattle.dl_buckets.specs.Reading.{flaws_of_clause, flaws_of_mixture, flaws_with, is_named};
+ghost use Rattle.dl_buckets.specs.Flaws.{IsRead, earlier_flaws, flaws_else, flaws_within};
+ghost use Rattle.dl_buckets.specs.Grid.{count_with, grid_clause, grid_mixture, grid_with};
+ghost use Rattle.dl_buckets.specs.Reading.{flaws_of_clause, flaws_of_count, flaws_of_mixture, flaws_with, is_named};
 ghost use Rattle.dl_buckets.specs.Values.{if_there};
 ghost use Rattle.dl_buckets.specs.declared.flaws.Flaws.{Flaws as FlawsOfText};
 ghost use Rattle.dl_buckets.specs.declared.grid.GridSev.{GridSev as Severity};
 
 use crate::count::{distribution, grid_count};
 use crate::flaws::{Flaws, Gridded};
-use crate::grid::{GridClause, GridSev, GridUnit};
+use crate::grid::{GridClause, GridCount, GridFreq, GridLayer, GridSev, GridUnit};
 use crate::layers::{unit_clause, unit_layer};
 use crate::long_mixtures::long_mixture;
 use crate::losses::{grid_atoms, mixture_weights};
@@ -21,6 +21,13 @@ use dl_ast::{MixAst, SevBody, UnitAst};
 use dl_frac::Frac;
 use dl_limits::MOST_ATOMS;
 use std::alloc::{AllocError, Global};
+
+/// The claim count of a unit, the clause of each claim and that of the unit's sum.
+type UnitParts = (
+    Gridded<GridCount>,
+    Gridded<Option<GridClause>>,
+    Gridded<Option<GridClause>>,
+);
 
 /// A mixture in whole buckets of size `bs`, with the first place where it breaks each rule; an
 /// amount passes where it is above `most`.
@@ -67,13 +74,40 @@ pub fn grid_unit(
 {
     let given = distribution(&unit.count);
     let (freq, zero) = given.part;
-    let count = grid_count(alloc, &unit.count, freq)?;
+    let parts = unit_parts(alloc, unit, freq, bs, most)?;
     let layer = unit_layer(&unit.layer, bs, most);
-    let (occ, agr) = unit_clauses(alloc, unit, bs, most)?;
+    Ok(with_parts(unit, zero, given.flaws, parts, layer, sev))
+}
+
+/// The unit with these parts, with the first place where it breaks each rule; `given` are those of
+/// its distribution.
+fn with_parts(
+    unit: &UnitAst,
+    zero: Option<Frac>,
+    given: Flaws,
+    parts: UnitParts,
+    layer: Gridded<Option<GridLayer>>,
+    sev: Gridded<GridSev>,
+) -> Gridded<GridUnit>
+    ensures part { result.part ≡ record {
+      name = unit.now.name.span;
+      count = parts.0.part;
+      layer = layer.part;
+      sev = sev.part;
+      bang = unit.now.sev.bang;
+      zero = zero;
+      occ = parts.1.part;
+      agr = parts.2.part;
+    } }
+    ensures flaws { result.flaws ≡ flaws_else
+        (earlier_flaws (is_named unit.now.sev.body) (flaws_else parts.0.flaws layer.flaws)
+        sev.flaws) (flaws_else parts.1.flaws (flaws_else given parts.2.flaws)) }
+{
+    let (count, occ, agr) = parts;
     let own = count.flaws.or(layer.flaws);
     let front = Flaws::earlier(is_named(&unit.sev.body), own, sev.flaws);
-    let terms = occ.flaws.or(given.flaws.or(agr.flaws));
-    Ok(Gridded {
+    let terms = occ.flaws.or(given.or(agr.flaws));
+    Gridded {
         part: GridUnit {
             name: unit.name.span,
             count: count.part,
@@ -85,7 +119,30 @@ pub fn grid_unit(
             agr: agr.part,
         },
         flaws: front.or(terms),
-    })
+    }
+}
+
+/// The claim count with this distribution, the clause of each claim and that of the unit's sum.
+fn unit_parts(
+    alloc: Global,
+    unit: &UnitAst,
+    freq: GridFreq,
+    bs: Frac,
+    most: u32,
+) -> Result<UnitParts, AllocError>
+    requires bucket { IsBucket bs }
+    requires most { most ≤ most_amount }
+    requires formed { IsFormedUnit unit.now }
+    ensures count { IfOk result (λ parts. IsRead (flaws_of_count unit.now.count)
+        (count_with unit.now.count freq) parts.0) }
+    ensures occ { IfOk result (λ parts. IsRead (flaws_within (flaws_of_clause most bs) unit.now.occ)
+        (if_there (grid_clause bs) unit.now.occ) parts.1) }
+    ensures agr { IfOk result (λ parts. IsRead (flaws_within (flaws_of_clause most bs) unit.now.agr)
+        (if_there (grid_clause bs) unit.now.agr) parts.2) }
+{
+    let count = grid_count(alloc, &unit.count, freq)?;
+    let (occ, agr) = unit_clauses(alloc, unit, bs, most)?;
+    Ok((count, occ, agr))
 }
 
 /// The clause of each claim and that of the unit's sum.

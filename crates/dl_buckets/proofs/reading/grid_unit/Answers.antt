@@ -1,9 +1,12 @@
 -- The parts of the unit, in the order of the text.
+use Rattle.dl_buckets.proofs.Common.{IsRead, ap₂, sym, subst, refl, Flaws, Gridded, GridUnit}
 use Rattle.dl_buckets.proofs.ReadUnits.{unit_read}
 use Rattle.dl_buckets.proofs.reading.grid_unit.Goals as goal
 
 pub returns : goal.returns
 returns c = λ flaws right severity.
-    unit_read c.args.most c.args.bs c.args.unit.now c.distribution-given.ensures c.in_ok-count.ensures c.unit_layer-layer.ensures
-    severity c.in_ok-occ.ensures.occ c.in_ok-occ.ensures.agr c.or-own.ensures (rw c.is_named.ensures at c.earlier-front.ensures)
-    c.or.ensures c.or-terms.ensures c.or-2.ensures
+    let parts = c.in_ok-parts.ensures in
+    subst (IsRead _ _) (sym (ap₂ (λ (part : GridUnit) (flaws : Flaws). record { part = part; flaws = flaws })
+    c.with_parts.ensures.part c.with_parts.ensures.flaws))
+    (unit_read c.args.most c.args.bs c.args.unit.now c.distribution-given.ensures parts.count c.unit_layer-layer.ensures
+    severity parts.occ parts.agr refl refl refl refl refl)
