@@ -3,19 +3,19 @@
 ghost use Rattle.std.specs.Prelude.{◌≡◌, ◌<◌, Option, None, Some, IfOk, IfErr, Ok};
 ghost use Rattle.dl_types.specs.Faults.{breaks, most_asked};
 ghost use Rattle.dl_types.specs.Answer.{HasFault, AnswersGrid};
-ghost use Rattle.dl_types.specs.declared.rule.Rule.TheVariants.{HorizonTooLarge};
-ghost use Rattle.dl_types.specs.Rules.{horizon_too_large};
+ghost use Rattle.dl_types.specs.declared.rule.Rule.TheVariants.{HorizonTooLarge, ZeroBase};
+ghost use Rattle.dl_types.specs.Rules.{horizon_too_large, zero_base};
 ghost use Rattle.dl_plan.specs.Horizon.{horizon};
 ghost use Rattle.dl_types.specs.Plans.{IsCountMade, cede_of};
 ghost use Rattle.dl_types.specs.Checked.{IsSet, IsCountChecked};
-ghost use Rattle.dl_buckets.specs.Prelude.{IsMade, IsGridUnit, IsWithin};
+ghost use Rattle.dl_buckets.specs.Prelude.{◌else◌, IsMade, IsGridUnit, IsWithin};
 ghost use Rattle.dl_limits.specs.Limits.{most_horizon};
 ghost use Rattle.dl_types.specs.declared.fault.CheckFault.TheVariants.{OutOfMemory};
 ghost use Rattle.dl_types.specs.Claimed.{count_of, number_of};
 
 use crate::broken::{broken, unless_broken};
 use crate::changes::zero_base;
-use crate::claims::Claims;
+use crate::claims::{Claims, UnitCount};
 use crate::clause_rules::check_clauses;
 use crate::count_rules::check_count;
 use crate::counts::unit_count;
@@ -43,6 +43,26 @@ fn check_horizon(number: u32, agr: MadeClause, cells: u32) -> Result<Option<Cede
     };
     let span = span_if(cede.horizon(cells) > most_horizon(cells) as u128, span);
     unless_broken(Some(cede), broken(number, Rule::HorizonTooLarge, span))
+}
+
+/// The rules on the horizon of an aggregate clause and on a changed probability of no claim, and
+/// that clause, where there is one.
+fn check_changes(
+    number: u32,
+    agr: MadeClause,
+    count: &UnitCount,
+    zero: &Option<Frac>,
+    cells: u32,
+) -> Result<Option<Cede>, CheckFault>
+    requires { IsMade agr }
+    ensures fault { HasFault (breaks number HorizonTooLarge (horizon_too_large cells agr)
+        else breaks number ZeroBase (zero_base (count_of count.now) zero.now (number_of count.now)))
+        result }
+    ensures made { IfOk result (λ made. made ≡ cede_of agr) }
+{
+    let cede = check_horizon(number, agr, cells)?;
+    let span = zero_base(count, zero);
+    unless_broken(cede, broken(number, Rule::ZeroBase, span))
 }
 
 /// The unit of the plan with this name, of what its claims come to, its aggregate clause and
@@ -90,8 +110,12 @@ pub(crate) fn check_grid(
     let layered_unit = check_clauses(alloc, number, grid)?;
     let claims = check_count(alloc, number, grid, settings.bs, &layered_unit)?;
     let clauses = layered_unit.clauses;
-    let cede = check_horizon(number, clauses.agr, cells(settings))?;
-    let span = zero_base(&claims.count, &grid.zero);
-    broken(number, Rule::ZeroBase, span)?;
+    let cede = check_changes(
+        number,
+        clauses.agr,
+        &claims.count,
+        &grid.zero,
+        cells(settings),
+    )?;
     planned(alloc, unit.name.text.as_slice(), claims, cede, grid.zero)
 }

@@ -75,10 +75,7 @@ fn named_severity<'a>(
 }
 
 /// A copy of a severity that is there.
-fn copied(
-    alloc: Global,
-    made: &Gridded<GridSev>,
-) -> Result<Option<Gridded<GridSev>>, AllocError>
+fn copied(alloc: Global, made: &Gridded<GridSev>) -> Result<Option<Gridded<GridSev>>, AllocError>
     ensures { IfOk result (λ copied. copied ≡ Some made.now) }
 {
     Ok(Some(made.copy(alloc)?))

@@ -22,32 +22,16 @@ returns-in_err-claims c =
     (stop_second (first_broken n (clause_rules u)) _ stop c.in_ok-layered_unit.ensures.fault
     (stop_first (first_broken n (count_rules c.args.settings.now.bs u)) _ stop c.in_err-claims.ensures.fault))
 
-pub check_horizon-requires : goal.check_horizon-requires
-check_horizon-requires c = c.in_ok-layered_unit.ensures.clauses.agr_made
+pub check_changes-requires : goal.check_changes-requires
+check_changes-requires c = c.in_ok-layered_unit.ensures.clauses.agr_made
 
 pub returns-in_err-cede : goal.returns-in_err-cede
 returns-in_err-cede c =
-    let stop = c.in_err-cede.field-0.0 in
-    let at = λ (k : ℕ) (made : MadeClause). breaks c.args.number HorizonTooLarge (horizon_too_large k made) in
-    late_told c.args.settings.now c.args.number c.args.grid.now c.args.unit.now.name.text
-    c.from_residual-in_err-cede.result stop c.from_residual-in_err-cede.ensures c.in_ok-layered_unit.ensures.fault
-    c.in_ok-claims.ensures.fault
-    (stop_first _ _ stop (subst (λ o. StopsAt o stop) (ap₂ at c.cells.ensures c.in_ok-layered_unit.ensures.clauses.agr)
-    c.in_err-cede.ensures.fault))
-
-pub returns-in_err-broken : goal.returns-in_err-broken
-returns-in_err-broken c =
-    let u = c.args.grid.now in
-    let n = c.args.number in
-    let stop = c.in_err-broken.field-0.0 in
-    let at = λ (k : ℕ) (made : MadeClause). breaks n HorizonTooLarge (horizon_too_large k made) in
     let is = c.in_ok-claims.ensures.count in
-    late_told c.args.settings.now n u c.args.unit.now.name.text c.from_residual-in_err-broken.result stop
-    c.from_residual-in_err-broken.ensures c.in_ok-layered_unit.ensures.fault c.in_ok-claims.ensures.fault
-    (stop_second _ _ stop
-    (sym (ap₂ at c.cells.ensures c.in_ok-layered_unit.ensures.clauses.agr) ∙ c.in_ok-cede.ensures.fault)
-    (subst (λ p. StopsAt (breaks n ZeroBase p) stop)
-    (c.zero_base-span.ensures ∙ ap₂ (λ k m. zero_base k u.zero m) is.same is.number) c.in_err-broken.ensures))
+    late_told c.args.settings.now c.args.number c.args.grid.now c.args.unit.now.name.text
+    c.from_residual-in_err-cede.result c.in_err-cede.field-0.0 c.from_residual-in_err-cede.ensures
+    c.in_ok-layered_unit.ensures.fault c.in_ok-claims.ensures.fault
+    (rw (is.same, is.number, c.cells.ensures, c.in_ok-layered_unit.ensures.clauses.agr) at c.in_err-cede.ensures.fault)
 
 pub planned-requires : goal.planned-requires
 planned-requires c =
@@ -61,17 +45,14 @@ returns c =
     let n = c.args.number in
     let settings = c.args.settings.now in
     let made = c.planned.ensures in
-    let at = λ (k : ℕ) (made : MadeClause). breaks n HorizonTooLarge (horizon_too_large k made) in
     let is = c.in_ok-claims.ensures.count in
     let agr = c.in_ok-layered_unit.layered_unit.clauses.agr in
     let same = c.in_ok-layered_unit.ensures.clauses.agr in
     let cede = cede_is u.agr agr (clauses_layered u c.in_ok-layered_unit.ensures.layered).1
     (fine_agr settings.bs n u c.requires.grid c.in_ok-claims.ensures.fault) same in
-    let span = c.zero_base-span.ensures ∙ ap₂ (λ k m. zero_base k u.zero m) is.same is.number in
     let none = grid_fault settings n u ∙ skip (first_broken n (clause_rules u)) _ c.in_ok-layered_unit.ensures.fault
     ∙ skip (first_broken n (count_rules settings.bs u)) _ c.in_ok-claims.ensures.fault
-    ∙ skip _ _ (sym (ap₂ at c.cells.ensures same) ∙ c.in_ok-cede.ensures.fault)
-    ∙ sym (ap (breaks n ZeroBase) span) ∙ c.in_ok-broken.ensures in
+    ∙ (rw (is.same, is.number, c.cells.ensures, same) at c.in_ok-cede.ensures.fault) in
     made_answer settings n u c.requires.grid c.requires.within none c.args.unit.now.name.text
     c.in_ok-claims.claims.severity c.in_ok-cede.cede c.in_ok-claims.ensures.claims.severity
     (subst (IsCedeOf u.agr) (sym c.in_ok-cede.ensures.made) cede) c.planned.result
