@@ -32,13 +32,13 @@ pub(crate) fn judge(alloc: Global, matches: &ArgMatches<'_>) -> Result<Settings,
     let Some(form) = form_of(matches) else {
         return Err(LINE);
     };
-    let Some(settings) = settings_of(alloc, form, matches) else {
-        return Err(LINE);
-    };
     let texts = matches.get_strs("asks").unwrap_or(&[]);
     if !begin_plainly(texts) || !admits(form, matches, texts) {
         return Err(LINE);
     }
+    let Some(settings) = settings_of(alloc, form, matches) else {
+        return Err(LINE);
+    };
     match read_asks(alloc, texts) {
         Ok(asks) => Ok(Settings {
             asks: Items::from_vec(asks),
