@@ -31,6 +31,17 @@ each_pushed P ys zs i y d many before pushed here k below = elim (cases_lt k i) 
       rw (pushed, get_or_push ys y d k (omega (arith, last, many)), last) here
 ]
 
+-- the items so far have it, and one more
+pub each_more : {A : Type 0} (P : A → Type 0) (xs : List A) (i : ℕ) (e : A)
+    → ((k : ℕ) (d : A) → k < i → P (get_or xs k d)) → i < length xs → P (get_or xs i e)
+    → (k : ℕ) (d : A) → k < i + 1 → P (get_or xs k d)
+each_more P xs i e before inside here k d below = elim (cases_lt k i) [
+  | inl earlier ↦ before k d earlier
+  | inr later ↦
+      let last : k ≡ i = omega (arith, later, below) in
+      rw (last, get_or_default xs i d e inside) here
+]
+
 -- one of them has it
 pub any_here : {A : Type 0} (P : A → Type 0) (xs : List A) (k : ℕ) (d : A) → k < length xs
     → P (get_or xs k d) → Any P xs
