@@ -62,19 +62,17 @@ fn outcomes_of_rest<const B: u32>(
     ensures small { IfOk result (λ made. All (λ mean. mean.hi ≤ most_unit_mean) made.means.items) }
 {
     let units = plan.units.as_slice();
-    let mut grids = Vec::new(alloc);
-    let mut means = Vec::new(alloc);
+    let mut made = Outcomes::new(alloc);
     for unit in units {
         if is_shared(unit) {
             let mean = mean_of::<B>(alloc, work, unit, plan.cells)?;
-            means.push(mean)?;
+            made.means.push(mean)?;
             continue;
         }
         let (grid, mean) = outcomes_of::<B>(alloc, work, unit, plan.cells)?;
-        grids.push(grid)?;
-        means.push(mean)?;
+        made.push(grid, mean)?;
     }
-    Ok(Outcomes { grids, means })
+    Ok(made)
 }
 
 /// The grid of the total, from those of the units that cannot be pooled and from the one unit in

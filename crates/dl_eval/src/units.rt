@@ -1,6 +1,6 @@
 //! The grid of each unit's outcomes, and their mean.
 
-ghost use Rattle.std.specs.Prelude.{ℕ, List, Some, ◌≡◌, ◌-◌, ◌<◌, ◌≤◌, ◌^◌, All, IfOk, length, get_or};
+ghost use Rattle.std.specs.Prelude.{ℕ, List, [], ◌∷◌, ◌++◌, Some, ◌≡◌, ◌-◌, ◌<◌, ◌≤◌, ◌^◌, All, IfOk, OnOk, length, get_or};
 ghost use Rattle.dl_limits.specs.Limits.{bits_of, most_horizon, most_plan_cells};
 ghost use Rattle.dl_iv.specs.declared.interval.Iv.{Iv as IvValue};
 ghost use Rattle.dl_grid.specs.Cells.{spread};
@@ -29,6 +29,31 @@ pub(crate) struct Outcomes<const B: u32> {
     pub(crate) grids: Vec<Grid<B>>,
     /// The means of the outcomes, in buckets.
     pub(crate) means: Vec<Iv<B>>,
+}
+
+impl<const B: u32> Outcomes<B> {
+    /// Those of no unit.
+    pub(crate) fn new(alloc: Global) -> Self
+        ensures grids { result.grids.items ≡ [] }
+        ensures means { result.means.items ≡ [] }
+    {
+        Outcomes {
+            grids: Vec::new(alloc),
+            means: Vec::new(alloc),
+        }
+    }
+
+    /// Adds the grid and the mean of one unit more.
+    pub(crate) fn push(&mut self, grid: Grid<B>, mean: Iv<B>) -> Result<(), AllocError>
+        ensures grids { OnOk result
+            (self.new.grids.items ≡ self.old.grids.items ++ grid.entry ∷ []) }
+        ensures means { OnOk result
+            (self.new.means.items ≡ self.old.means.items ++ mean.entry ∷ []) }
+    {
+        self.grids.push(grid)?;
+        self.means.push(mean)?;
+        Ok(())
+    }
 }
 
 /// The number of cells on which a unit's claims are added up, for a grid of `cells` cells.
@@ -203,8 +228,7 @@ pub(crate) fn unit_outcomes<const B: u32>(
     ensures small { IfOk result (λ made. All (λ mean. mean.hi ≤ most_unit_mean) made.means.items) }
 {
     let units = plan.units.as_slice();
-    let mut grids = Vec::new(alloc);
-    let mut means = Vec::new(alloc);
+    let mut made = Outcomes::new(alloc);
     for unit in units {
         let (grid, mean) = outcomes_after::<B>(
             alloc,
@@ -212,13 +236,12 @@ pub(crate) fn unit_outcomes<const B: u32>(
             unit,
             plan.cells,
             units,
-            grids.as_slice(),
-            means.as_slice(),
+            made.grids.as_slice(),
+            made.means.as_slice(),
         )?;
-        grids.push(grid)?;
-        means.push(mean)?;
+        made.push(grid, mean)?;
     }
-    Ok(Outcomes { grids, means })
+    Ok(made)
 }
 
 /// The mean of a unit's outcomes before its probability of no claim is changed. It needs a grid

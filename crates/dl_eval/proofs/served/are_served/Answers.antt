@@ -16,7 +16,7 @@ pub loop-unit-preserved-then-eq : goal.loop-unit-preserved-then-eq
 loop-unit-preserved-then-eq g c =
     let same : get_or c.args.named.now c.loop-unit.unit-index None ≡ c.loop-unit.last = search rules in (
       each_more (HasNeeded {B = g.row.B} c.args.plan.now (Independent c.args.grids.now)) _ _ None c.loop-unit.invariant.0
-      c.loop-unit-test.true (rw same c.loop-unit.invariant.1),
+          c.loop-unit-test.true (rw same c.loop-unit.invariant.1),
       c.loop-unit.invariant.1,
     )
 
@@ -24,7 +24,7 @@ pub loop-unit-preserved : goal.loop-unit-preserved
 loop-unit-preserved g c =
     let here = c.is_served.ensures c.if-not-is_served.false in (
       each_more (HasNeeded {B = g.row.B} c.args.plan.now (Independent c.args.grids.now)) _ _ None c.loop-unit.invariant.0
-      c.loop-unit-test.true here,
+          c.loop-unit-test.true here,
       here,
     )
 

@@ -39,8 +39,8 @@ pub loop-unit-preserved : goal.loop-unit-preserved
 loop-unit-preserved g c =
     let i = c.loop-unit.invariant in
     let made = c.in_ok-grid.ensures in
-    let pushed = c.in_ok-push-3.ensures.items in record {
-      grids = rw c.in_ok-push-2.ensures.items (kept_grid c.args.plan.now.cells (λ (u : UnitOfPlan). not (can_share u)) _ _ _ _ _
+    let pushed = c.in_ok-push-2.ensures.means in record {
+      grids = rw c.in_ok-push-2.ensures.grids (kept_grid c.args.plan.now.cells (λ (u : UnitOfPlan). not (can_share u)) _ _ _ _ _
           c.loop-unit-test.true c.unit-item.is (ap not (sym c.is_shared.ensures ∙ c.if-is_shared.false)) i.grids made.grid);
       many_means = pushed_length _ _ _ _ i.many_means pushed;
       means = each_next (IsUnitMean c.args.plan.now.cells) _ _ _ _ _ _ i.many_means i.means pushed c.loop-unit-test.true

@@ -5,9 +5,9 @@ use Rattle.dl_eval.proofs.together.outcomes_of_rest.Given as goal
 
 abbrev pub invariant-loop-unit : goal.invariant-loop-unit
 invariant-loop-unit g l = record {
-  grids : AreUnitGrids l.plan.cells (rest_of (take l.unit-index l.units)) l.grids.items;
-  many_means : length l.means.items ≡ l.unit-index;
+  grids : AreUnitGrids l.plan.cells (rest_of (take l.unit-index l.units)) l.made.grids.items;
+  many_means : length l.made.means.items ≡ l.unit-index;
   means : (i : ℕ) (u : UnitOfPlan) (m : Iv g.row.B) → i < l.unit-index
-      → IsUnitMean l.plan.cells (get_or l.units i u) (get_or l.means.items i m);
-  small : All (λ mean. mean.hi ≤ 2 ^ 93) l.means.items;
+      → IsUnitMean l.plan.cells (get_or l.units i u) (get_or l.made.means.items i m);
+  small : All (λ mean. mean.hi ≤ 2 ^ 93) l.made.means.items;
 }

@@ -26,8 +26,8 @@ pub loop-unit-preserved : goal.loop-unit-preserved
 loop-unit-preserved g c =
     let i = c.loop-unit.invariant in
     let plan = c.args.plan.now in
-    let grids = c.in_ok-push.ensures.items in
-    let means = c.in_ok-push-2.ensures.items in
+    let grids = c.in_ok-push.ensures.grids in
+    let means = c.in_ok-push.ensures.means in
     let made = c.in_ok-grid.ensures in record {
       many_grids = pushed_length _ _ _ _ i.many_grids grids;
       grids = each_next (IsUnitGrid plan.cells) _ _ _ _ _ _ i.many_grids i.grids grids c.loop-unit-test.true c.unit-item.is
@@ -40,7 +40,7 @@ loop-unit-preserved g c =
 
 pub returns-clause-grids : goal.returns-clause-grids
 returns-clause-grids g c =
-    subst (λ us. AreUnitGrids c.args.plan.now.cells us c.loop-unit.grids.items) c.as_slice-units.ensures (record {
+    subst (λ us. AreUnitGrids c.args.plan.now.cells us c.loop-unit.made.grids.items) c.as_slice-units.ensures (record {
       as_many = omega (arith, c.loop-unit.invariant.many_grids);
       each = λ i u inside. c.loop-unit.invariant.grids i u [] (omega (arith, inside));
     })
