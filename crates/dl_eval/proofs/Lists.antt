@@ -1,5 +1,7 @@
 -- Lists made one by one from another list.
-use Rattle.dl_eval.proofs.Common.{ℕ, zero, suc, ◌≡◌, ◌+◌, ◌<◌, List, [], ◌∷◌, ◌++◌, length, get_or, arith, inl, inr, sym, ap, ◌∙◌, All, Any, zip, cases_lt, get_or_default, length-append, All-nil, All-cons, All-append, get_or_append_left, get_or_push}
+use Rattle.std.specs.Bool.{then_some}
+use Rattle.std.proofs.Common.{refl, true}
+use Rattle.dl_eval.proofs.Common.{Bool, false, IsTrue, IfSome, ℕ, zero, suc, ◌≡◌, ◌+◌, ◌<◌, List, [], ◌∷◌, ◌++◌, length, get_or, arith, inl, inr, sym, ap, ◌∙◌, All, Any, zip, cases_lt, get_or_default, length-append, All-nil, All-cons, All-append, get_or_append_left, get_or_push}
 
 -- one item more
 pub pushed_length : {R : Type 0} (ys zs : List R) (i : ℕ) (y : R) → length ys ≡ i → zs ≡ ys ++ y ∷ []
@@ -41,6 +43,11 @@ each_more P xs i e before inside here k d below = elim (cases_lt k i) [
       let last : k ≡ i = omega (arith, later, below) in
       rw (last, get_or_default xs i d e inside) here
 ]
+
+-- a value that is there in one case alone
+pub some_where : {A : Type 0} (P : A → Type 0) (b : Bool) (x : A) → (IsTrue b → P x) → IfSome (then_some b x) P
+some_where P true x h = h refl
+some_where P false x h = tt
 
 -- one of them has it
 pub any_here : {A : Type 0} (P : A → Type 0) (xs : List A) (k : ℕ) (d : A) → k < length xs

@@ -4,7 +4,7 @@ ghost use Rattle.std.specs.Prelude.{◌≡◌, ◌^◌, ◌<◌, ◌≤◌, ◌�
 ghost use Rattle.dl_limits.specs.Limits.{bits_of, budget_bound};
 ghost use Rattle.dl_plan.specs.Prelude.{IsValid, IsValidUnit, thinned_mean};
 ghost use Rattle.dl_model.specs.Prelude.{GridEncloses, total as total_of, loss_of, aggregates_of};
-ghost use Rattle.dl_common.specs.Extra.{CanRaise};
+ghost use Rattle.dl_common.specs.Extra.{CanRaise, IsExtra};
 ghost use Rattle.dl_budget.specs.Asks.{joint_budget};
 ghost use Rattle.dl_budget.specs.Shared.{shared_joint_budget};
 ghost use Rattle.dl_eval.specs.Totals.{AreRaisedTotals, IsRaisedTotalOf, IsTotalOf};
@@ -88,6 +88,33 @@ fn is_within_joint<const B: u32>(plan: &Plan, unit: &Unit, i: u32, spread: u128)
     shared_joint_budget(unit, spread, plan.cells) <= joint_budget::<B>(plan, i)
 }
 
+/// The grid of the total with these extra claims of a gamma unit, unit `i` of the plan; none where
+/// the joint mean of the unit would be wider than its budget.
+fn raised_by<const B: u32>(
+    alloc: Global,
+    work: &mut Workspace,
+    plan: &Plan,
+    total: &Grid<B>,
+    i: u32,
+    unit: &Unit,
+    claims: &Unit,
+) -> Result<Option<Grid<B>>, AllocError>
+    requires scale { B ≡ bits_of plan.now.cells }
+    requires valid { IsValid plan.now }
+    requires independent { plan.now.common ≡ None }
+    requires total { IsTotalOf plan.now total.now }
+    requires gamma { CanRaise unit.now }
+    requires here { unit.now ≡ get_or plan.now.units i unit.now }
+    requires inside { i < length plan.now.units }
+    requires claims { IsValidUnit plan.now.cells claims.now }
+    requires extra { IsExtra unit.now claims.now }
+    ensures { IfOk result (λ made. IfSome made (IsRaisedTotalOf plan.now i)) }
+{
+    let made = total_beside(alloc, work, plan, total, claims)?;
+    let is_narrow = is_within_joint::<B>(plan, unit, i, made.spread());
+    Ok(is_narrow.then_some(made))
+}
+
 /// The grid of the total with the extra claims of unit `i`; none where the unit is not one whose
 /// share is taken from it, where its extra claims are not a valid unit, and where the joint mean of
 /// the unit would be wider than its budget.
@@ -110,14 +137,10 @@ fn raised_total<const B: u32>(
     if !is_raised(units, unit) {
         return Ok(None);
     }
-    let Some(claims) = extra(alloc, unit)? else {
-        return Ok(None);
-    };
-    let made = total_beside(alloc, work, plan, total, &claims)?;
-    if !is_within_joint::<B>(plan, unit, i, made.spread()) {
-        return Ok(None);
+    match extra(alloc, unit)? {
+        Some(claims) => raised_by(alloc, work, plan, total, i, unit, &claims),
+        None => Ok(None),
     }
-    Ok(Some(made))
 }
 
 /// The grid of the total with the extra claims of unit `i`, where an ask names the unit.
