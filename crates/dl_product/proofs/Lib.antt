@@ -2,7 +2,6 @@ pub mod Apart
 mod Common
 pub mod EndLists
 pub mod Entries
-pub mod Mirror
 pub mod Parts
 pub mod Shifted
 pub mod Zeros

@@ -1,17 +1,14 @@
 //! The products of the low ends and of the high ends of two grids at once, by transforms: both
 //! together take fewer than one after another.
 
-ghost use Rattle.std.specs.Prelude.{◌≡◌, ℕ, ◌+◌, ◌<◌, ◌≤◌, true, length, get_or, IfOk, IsTrue};
+ghost use Rattle.std.specs.Prelude.{◌≡◌, ℕ, ◌+◌, ◌≤◌, true, length, get_or, IfOk};
 ghost use Rattle.dl_limits.specs.Limits.{most_cells};
 ghost use Rattle.dl_product.specs.Ends.{ArePaired};
 ghost use Rattle.dl_product.specs.Factors.{AreCells, AreZeros, IsProduct};
 ghost use Rattle.dl_product.specs.Windows.{AreWindows};
 
-use crate::class_ends::ends_by_classes;
 use crate::kept::Listed;
-use crate::lists::{
-    Factors, MOST_LEVELS, are_classes_shorter, levels_if_shorter, rate_of, steps_of, sums,
-};
+use crate::lists::{Factors, MOST_LEVELS, levels_if_shorter, sums};
 use crate::room::Workspace;
 use crate::steps::step_with;
 use crate::windows::{Windows, windows_of};
@@ -51,7 +48,7 @@ fn widths_of(alloc: Global, lows: &[u128], highs: &[u128]) -> Result<Vec<u128>, 
 
 /// Whether transforms give both products; then `lows` and `highs` have their first items, as many
 /// as they have room for.
-pub(crate) fn transform_ends(
+fn transform_ends(
     alloc: Global,
     work: &mut Workspace,
     pair: Pair<'_>,
@@ -93,78 +90,14 @@ pub(crate) fn transform_ends(
     work.kept_ends(alloc, a, b, levels, lows, highs)
 }
 
-/// Whether transforms take fewer steps class by class than those of both lists, which have so many
-/// items, where those of one of them lie `step` apart: 3 of its own items, and 6 for each class, in
-/// place of 9.
-fn are_classes_quicker(first: usize, second: usize, step: u32) -> bool
-    requires first_few { first ≤ most_cells }
-    requires second_few { second ≤ most_cells }
-    ensures { IsTrue result → 1 < step }
-{
-    if step < 2 || step > 100 {
-        return false;
-    }
-    let classes = step as usize;
-    let short = levels_for(
-        first.div_ceil(classes) + second.div_ceil(classes),
-        MOST_LEVELS,
-    );
-    let long = levels_for(first + second, MOST_LEVELS);
-    (6 * classes + 3) * steps_of(short) < 9 * steps_of(long)
-}
-
-/// The same as `transform_ends` gives, class by class where that takes fewer steps.
-fn shortest_ends(
-    alloc: Global,
-    work: &mut Workspace,
-    pair: Pair<'_>,
-    lows: &mut [u128],
-    highs: &mut [u128],
-) -> Result<bool, AllocError>
-    requires cells { AreCells pair.a.lows.now pair.a.highs.now pair.b.lows.now pair.b.highs.now
-        pair.is_square (length lows.old) }
-    requires paired { length highs.old ≡ length lows.old }
-    ensures low { IfOk result (λ found. found ≡ true
-        → IsProduct pair.entry.a.lows.now pair.entry.b.lows.now (length lows.old) lows.new) }
-    ensures high { IfOk result (λ found. found ≡ true
-        → IsProduct pair.entry.a.highs.now pair.entry.b.highs.now (length lows.old) highs.new) }
-{
-    if pair.is_square || pair.a.comes_again || pair.b.comes_again {
-        return transform_ends(alloc, work, pair, lows, highs);
-    }
-    let (first, second) = (pair.a.highs.len(), pair.b.highs.len());
-    let step = step_with(pair.a.highs, 0);
-    if are_classes_quicker(first, second, step) {
-        return ends_by_classes(alloc, work, pair, step as usize, lows, highs);
-    }
-    let step = step_with(pair.b.highs, 0);
-    if are_classes_quicker(first, second, step) {
-        let turned = Pair {
-            a: pair.b,
-            b: pair.a,
-            is_square: false,
-        };
-        return ends_by_classes(alloc, work, turned, step as usize, lows, highs);
-    }
-    transform_ends(alloc, work, pair, lows, highs)
-}
-
 /// Whether transforms multiply two lists in less time than other ways. Lists whose items lie a
-/// common step apart are multiplied as shorter ones, and so are those of which one alone does,
-/// where that takes less time.
-fn are_transforms_shorter(a: &[u128], b: &[u128], count: usize, is_square: bool) -> bool
+/// common step apart are multiplied as shorter ones.
+fn are_transforms_shorter(a: &[u128], b: &[u128], count: usize) -> bool
     requires first_few { length a.now ≤ most_cells }
     requires second_few { length b.now ≤ most_cells }
 {
     let first = step_with(a, 0);
-    if step_with(b, first) > 1 {
-        return false;
-    }
-    let second = step_with(b, 0);
-    if are_classes_shorter(a.len(), b.len(), count, first.max(second)) {
-        return false;
-    }
-    levels_if_shorter(a.len(), b.len(), count, rate_of(is_square)).is_some()
+    step_with(b, first) <= 1 && levels_if_shorter(a.len(), b.len(), count).is_some()
 }
 
 /// The greatest width of the cells, or the first width above `limit`.
@@ -203,7 +136,7 @@ fn are_multiplied_at_once(pair: Pair<'_>, windows: Windows, cells: usize, limit:
 {
     let a = &pair.a.highs[windows.first.start..windows.first.end];
     let b = &pair.b.highs[windows.second.start..windows.second.end];
-    are_transforms_shorter(a, b, windows.count, pair.is_square) && are_narrow(pair, limit)
+    are_transforms_shorter(a, b, windows.count) && are_narrow(pair, limit)
 }
 
 /// Whether transforms give both products, in the place of as many zeros each; then `lows` and
@@ -243,7 +176,7 @@ fn write_ends(
         },
         is_square: pair.is_square,
     };
-    shortest_ends(
+    transform_ends(
         alloc,
         work,
         part,

@@ -7,13 +7,10 @@
 #![tactic(auto)]
 
 mod both;
-mod class_ends;
-mod classes;
 mod kept;
 mod lists;
 mod products;
 mod room;
-mod short;
 mod steps;
 mod tables;
 mod valued;

@@ -1,16 +1,14 @@
 //! The product of two lists, by whichever of three ways is the fastest.
 
-ghost use Rattle.std.specs.Prelude.{◌≡◌, ℕ, ◌+◌, ◌*◌, ◌^◌, ◌<◌, ◌≤◌, true, length, get_or, IfOk, IfSome, IsTrue};
+ghost use Rattle.std.specs.Prelude.{◌≡◌, ℕ, ◌+◌, ◌*◌, ◌^◌, ◌<◌, ◌≤◌, true, length, get_or, IfOk, IfSome};
 ghost use Rattle.dl_limits.specs.Limits.{most_cells};
 ghost use Rattle.dl_conv.specs.Sums.{pair_sum, ItemsFit};
 ghost use Rattle.dl_product.specs.Factors.{AreFactors, AreZeros, IsProduct};
 ghost use Rattle.dl_product.specs.Steps.{LieApart};
 ghost use Rattle.dl_product.specs.Windows.{AreWindows};
 
-use crate::classes::{multiply_by_classes, multiply_class};
 use crate::room::Workspace;
-use crate::short::short_square;
-use crate::steps::step_with;
+use crate::steps::{at_multiples, spread_out, step_with};
 use crate::windows::windows_of;
 use dl_conv::{halved_sums, plain_sums, work_for};
 use dl_transform::levels_for;
@@ -31,26 +29,11 @@ pub(crate) struct Factors<'a> {
 /// measured.
 const PRODUCTS_A_STEP: usize = 8;
 
-/// How many products of items of one list, of which the plain way makes half, take the time of one
-/// item at one level of the transform of a square: measured.
-const SQUARES_A_STEP: usize = 10;
-
 /// The most levels: two lists of at most 65,536 items fit a transform of `2^17` items.
 pub(crate) const MOST_LEVELS: u32 = 17;
 
-/// How many products of items take the time of one item of a transform at one level.
-pub(crate) fn rate_of(is_square: bool) -> usize
-    ensures { result ≤ 1000 }
-{
-    if is_square {
-        SQUARES_A_STEP
-    } else {
-        PRODUCTS_A_STEP
-    }
-}
-
 /// The steps of a transform of `2^levels` items: one for each item at each level.
-pub(crate) fn steps_of(levels: u32) -> usize
+fn steps_of(levels: u32) -> usize
     requires { levels ≤ 17 }
     ensures { result ≤ 17 * 2 ^ 17 }
 {
@@ -58,24 +41,17 @@ pub(crate) fn steps_of(levels: u32) -> usize
 }
 
 /// The levels of the transform that multiplies two lists, where it takes less time than the
-/// products of their items for the first `count` places do, of which `rate` are as long as one step
-/// of it.
-pub(crate) fn levels_if_shorter(
-    first: usize,
-    second: usize,
-    count: usize,
-    rate: usize,
-) -> Option<u32>
+/// products of their items for the first `count` places do.
+pub(crate) fn levels_if_shorter(first: usize, second: usize, count: usize) -> Option<u32>
     requires first { first ≤ most_cells }
     requires second { second ≤ most_cells }
-    requires rate { rate ≤ 1000 }
     ensures few { IfSome result (λ levels. levels ≤ 17) }
     ensures room { IfSome result (λ levels. first + second ≤ 2 ^ levels) }
 {
     let left_out = (first + second).saturating_sub(count);
     let products = (first * second).saturating_sub(left_out * left_out / 2);
     let levels = levels_for(first + second, MOST_LEVELS);
-    if products > rate * steps_of(levels) {
+    if products > PRODUCTS_A_STEP * steps_of(levels) {
         Some(levels)
     } else {
         None
@@ -104,9 +80,8 @@ fn multiply_plainly(
     Ok(())
 }
 
-/// The first items of the product of two lists, as many as `out` has room for, the shorter way. Two
-/// lists that are one take fewer steps.
-pub(crate) fn multiply(
+/// The first items of the product of two lists, as many as `out` has room for, the shorter way.
+fn multiply(
     alloc: Global,
     work: &mut Workspace,
     factors: Factors<'_>,
@@ -116,32 +91,16 @@ pub(crate) fn multiply(
     ensures { IfOk result (λ _.
         IsProduct factors.entry.a.now factors.entry.b.now (length out.old) out.new) }
 {
-    let rate = rate_of(factors.is_square);
-    if let Some(levels) = levels_if_shorter(factors.a.len(), factors.b.len(), out.len(), rate) {
+    if let Some(levels) = levels_if_shorter(factors.a.len(), factors.b.len(), out.len()) {
         if work.product(alloc, factors, levels, out)? {
             return Ok(());
         }
     }
-    if factors.is_square {
-        short_square(factors.a, out);
-        return Ok(());
-    }
     multiply_plainly(alloc, factors.a, factors.b, out)
 }
 
-/// Whether the product of two lists, of which one has items `step` apart, takes less time by the
-/// products of its items with those of the other than by a transform.
-pub(crate) fn are_classes_shorter(first: usize, second: usize, count: usize, step: u32) -> bool
-    requires first { first ≤ most_cells }
-    requires second { second ≤ most_cells }
-    ensures { IsTrue result → 1 < step }
-{
-    let rate = PRODUCTS_A_STEP * (step as usize).min(100);
-    step > 1 && levels_if_shorter(first, second, count, rate).is_none()
-}
-
-/// The first items of the product of two lists, in the place of as many zeros, the shorter way. The
-/// items of both lie `step` apart.
+/// The first items of the product of two lists, in the place of as many zeros. The items of both lie
+/// `step` apart, and those at the multiples of it are multiplied the shorter way.
 fn multiply_by_steps(
     alloc: Global,
     work: &mut Workspace,
@@ -156,20 +115,23 @@ fn multiply_by_steps(
     ensures { IfOk result (λ _.
         IsProduct factors.entry.a.now factors.entry.b.now (length out.old) out.new) }
 {
-    let a = factors.a;
-    let b = factors.b;
-    if step > 1 {
-        return multiply_class(alloc, work, factors, step as usize, 0, out);
+    if step < 2 {
+        return multiply(alloc, work, factors, out);
     }
-    let first = step_with(a, 0);
-    if are_classes_shorter(a.len(), b.len(), out.len(), first) {
-        return multiply_by_classes(alloc, work, a, b, first as usize, out);
-    }
-    let second = step_with(b, 0);
-    if are_classes_shorter(a.len(), b.len(), out.len(), second) {
-        return multiply_by_classes(alloc, work, b, a, second as usize, out);
-    }
-    multiply(alloc, work, factors, out)
+    let step = step as usize;
+    let first = at_multiples(alloc, factors.a, step)?;
+    let second = at_multiples(alloc, factors.b, step)?;
+    let mut sums = Vec::from_elem(alloc, 0, out.len().div_ceil(step))?;
+    let items = Factors {
+        a: &first,
+        b: &second,
+        is_square: factors.is_square,
+        a_comes_again: false,
+        b_comes_again: false,
+    };
+    multiply(alloc, work, items, sums.as_mut_slice())?;
+    spread_out(&sums, step, out);
+    Ok(())
 }
 
 /// The first items of the product of two lists, in the place of as many zeros.

@@ -1,11 +1,11 @@
 //! Lists whose items lie a common step apart, as the cells of losses that are multiples of 100
 //! buckets: their items at the multiples of the step make shorter lists.
 
-ghost use Rattle.std.specs.Prelude.{◌≡◌, ◌≢◌, ℕ, ◌-◌, ◌<◌, ◌≤◌, ◌%◌, length, get_or, IfOk};
+ghost use Rattle.std.specs.Prelude.{◌≡◌, ℕ, ◌<◌, ◌≤◌, ◌%◌, length, get_or, IfOk};
 ghost use Rattle.std.specs.Int.{div_ceil};
 ghost use Prim.Native.Nat.{◌∣◌};
 ghost use Rattle.dl_limits.specs.Limits.{most_cells};
-ghost use Rattle.dl_product.specs.Steps.{LieApart, AreMultiples, AreEvery};
+ghost use Rattle.dl_product.specs.Steps.{LieApart, AreMultiples};
 
 use dl_frac::small_divisor;
 use std::alloc::{AllocError, Global};
@@ -42,15 +42,14 @@ pub(crate) fn at_multiples(alloc: Global, xs: &[u128], step: usize) -> Result<Ve
     Ok(items)
 }
 
-/// Writes items into a list from place `from` on, `step` places apart. The other places stay as they
-/// are.
-pub(crate) fn spread_out(items: &[u128], step: usize, from: usize, out: &mut [u128])
-    requires first { from < step }
-    requires many { length items.now ≡ div_ceil (length out.old - from) step }
-    ensures each { AreEvery step from out.new items.now }
-    ensures others { (s : ℕ) → s % step ≢ from → get_or out.new s 0 ≡ get_or out.old s 0 }
+/// Writes items into a list at the multiples of `step`. The other places stay as they are.
+pub(crate) fn spread_out(items: &[u128], step: usize, out: &mut [u128])
+    requires some { 0 < step }
+    requires many { length items.now ≡ div_ceil (length out.old) step }
+    ensures each { AreMultiples step out.new items.now }
+    ensures others { (s : ℕ) → 0 < s % step → get_or out.new s 0 ≡ get_or out.old s 0 }
 {
     for k in 0..items.len() {
-        out[from + k * step] = items[k];
+        out[k * step] = items[k];
     }
 }

@@ -140,7 +140,7 @@ const CASES: [Case; 21] = [
     (700, (1, Part(700), 0, 700), (5, Part(140), 2, 698)),
     (1401, (2, Part(700), 0, 1399), (2, Part(650), 1, 1299)),
     (50, (7, Part(8), 0, 50), (7, Part(7), 1, 43)),
-    // one of them, by transforms of its own items and those of each class
+    // one of them, on as many cells as transforms have
     (1024, (2, Part(700), 0, 1024), (1, Part(1100), 0, 1024)),
     (1024, (1, Part(1100), 3, 1021), (2, Part(700), 1, 1023)),
     // too large for transforms

@@ -7,20 +7,20 @@ alike : (p n : ℕ) (xs ys : List ℕ) → length ys ≡ length xs → length (t
 alike p n xs ys same =
     omega (arith, length-take n (drop p xs), length-take n (drop p ys), length-drop p xs, length-drop p ys, same)
 
-pub shortest_ends-requires-clause-paired : goal.shortest_ends-requires-clause-paired
-shortest_ends-requires-clause-paired c = alike c.args.windows.start _ c.args.lows.now c.args.highs.now c.requires.paired
+pub transform_ends-requires-clause-paired : goal.transform_ends-requires-clause-paired
+transform_ends-requires-clause-paired c = alike c.args.windows.start _ c.args.lows.now c.args.highs.now c.requires.paired
 
-pub shortest_ends-requires-clause-cells : goal.shortest_ends-requires-clause-cells
-shortest_ends-requires-clause-cells c =
+pub transform_ends-requires-clause-cells : goal.transform_ends-requires-clause-cells
+transform_ends-requires-clause-cells c =
     part_cells c.args.pair.a.lows.now c.args.pair.a.highs.now c.args.pair.b.lows.now c.args.pair.b.highs.now
     c.args.lows.now c.args.pair.is_square c.args.windows c.requires.cells c.requires.alike
 
 pub returns-clause-low : goal.returns-clause-low
 returns-clause-low c =
-    if_ok_two c.shortest_ends.result _ _ _ (λ _ each _ yes. product_shifted c.args.pair.a.lows.now c.args.pair.b.lows.now
-    c.args.lows.now c.shortest_ends.new.lows c.args.windows
+    if_ok_two c.transform_ends.result _ _ _ (λ _ each _ yes. product_shifted c.args.pair.a.lows.now c.args.pair.b.lows.now
+    c.args.lows.now c.transform_ends.new.lows c.args.windows
     (low_windows _ _ _ _ _ c.args.windows c.requires.cells.first c.requires.cells.second c.requires.windows)
-    c.requires.zeros (omega arith) (each yes)) c.shortest_ends.ensures.low c.shortest_ends.ensures.low
+    c.requires.zeros (omega arith) (each yes)) c.transform_ends.ensures.low c.transform_ends.ensures.low
 
 pub returns-clause-high : goal.returns-clause-high
 returns-clause-high c =
@@ -30,7 +30,7 @@ returns-clause-high c =
     let same : length (take (w.start + w.count - w.start) (drop w.start highs))
     ≡ length (take (w.start + w.count - w.start) (drop w.start lows)) =
     alike w.start _ lows highs c.requires.paired in
-    if_ok_two c.shortest_ends.result _ _ _ (λ _ each _ yes s inside. product_shifted c.args.pair.a.highs.now
-    c.args.pair.b.highs.now highs c.shortest_ends.new.highs w (rw c.requires.paired c.requires.windows)
+    if_ok_two c.transform_ends.result _ _ _ (λ _ each _ yes s inside. product_shifted c.args.pair.a.highs.now
+    c.args.pair.b.highs.now highs c.transform_ends.new.highs w (rw c.requires.paired c.requires.windows)
     c.requires.high_zeros (omega arith) (λ t b. each yes t (omega (arith, b, same))) s (omega (arith, inside, c.requires.paired)))
-    c.shortest_ends.ensures.high c.shortest_ends.ensures.high
+    c.transform_ends.ensures.high c.transform_ends.ensures.high

@@ -1,5 +1,5 @@
 use Rattle.dl_product.proofs.Common.{arith, length, refl}
-use Rattle.dl_product.proofs.Apart.{all_written, class_inside, one_written}
+use Rattle.dl_product.proofs.Apart.{all_taken, multiple_inside, one_written}
 use Rattle.dl_product.proofs.steps.spread_out.Goals as goal
 
 pub loop-k-init : goal.loop-k-init
@@ -11,15 +11,16 @@ loop-k-init c = record {
 
 pub loop-k-preserved : goal.loop-k-preserved
 loop-k-preserved c =
-    let inside = class_inside c.args.step c.args.from (length c.args.out.now) c.loop-k.k c.requires.first
+    let inside = multiple_inside c.args.step (length c.args.out.now) c.loop-k.k c.requires.some
     (omega (arith, c.loop-k-test.true, c.requires.many)) in
-    one_written c.args.step c.args.from c.loop-k.k c.args.items.now c.args.out.now c.loop-k.out c.requires.first
+    one_written c.args.step c.loop-k.k c.args.items.now c.args.out.now c.loop-k.out c.requires.some
     (omega (arith, inside, c.loop-k.invariant.long)) c.loop-k.invariant
 
 pub returns-clause-each : goal.returns-clause-each
 returns-clause-each c =
-    all_written c.args.step c.args.from c.loop-k.k c.args.items.now c.args.out.now c.loop-k.out c.requires.first
-    c.requires.many c.loop-k-test.false c.loop-k.invariant
+    let i = c.loop-k.invariant in
+    all_taken c.args.step c.loop-k.k c.loop-k.out c.args.items.now c.requires.some (rw i.long c.requires.many)
+    c.loop-k-test.false i.done
 
 pub returns-clause-others : goal.returns-clause-others
 returns-clause-others c = c.loop-k.invariant.others
