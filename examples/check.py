@@ -146,6 +146,27 @@ def check_pictures():
     return some("the pictures of examples/gallery", passed, failed)
 
 
+def check_plot():
+    """The names that examples/plot_cdf.sh is given are in none of the words of gnuplot, which runs what stands in them: a program in its
+    place keeps its words, and the picture comes under each name."""
+    passed = failed = 0
+    with tempfile.TemporaryDirectory() as folder:
+        room = pathlib.Path(folder)
+        (room / "gnuplot").write_text('#!/bin/sh\nprintf "%s\\n" "$@" >> "$WORDS"\nwc -l < rows > picture\n')
+        (room / "gnuplot").chmod(0o755)
+        (room / "report.csv").write_text("ask,low,high\ncdf:0,0.1,0.2\nmean,1,1\ncdf:1,0.3,0.4\n")
+        world = {**os.environ, "PATH": folder + os.pathsep + os.environ["PATH"], "WORDS": str(room / "words")}
+        for name in ("plain.png", "a'; system('touch ran'); b='.png", "|touch ran", "-o", "two\nlines"):
+            done = subprocess.run([ROOT / "examples" / "plot_cdf.sh", "report.csv", name], cwd=room, env=world, capture_output=True)
+            drawn = (room / name).read_text() if (room / name).exists() else ""
+            if done.returncode == 0 and drawn.split() == ["2"] and name not in (room / "words").read_text():
+                passed += 1
+            else:
+                failed += 1
+                print(f"FAILED: examples/plot_cdf.sh: {name!r}\n{done.stderr.decode()}")
+    return some("examples/plot_cdf.sh", passed, failed)
+
+
 def check_all(what, paths, world):
     """How many commands of these files passed, and how many failed; one more where they have none."""
     counts = [check(path, world) for path in paths]
@@ -175,7 +196,7 @@ def main():
             store(path, world)
         counts = [check_all(what, paths, world) for what, paths in groups.items()]
         if not named:
-            counts += [check_rules(world), check_pictures()]
+            counts += [check_rules(world), check_pictures(), check_plot()]
     passed, failed = (sum(count[side] for count in counts) for side in (0, 1))
     print(f"{passed} passed, {failed} failed")
     return 1 if failed else 0

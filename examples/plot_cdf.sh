@@ -10,15 +10,17 @@ if ! command -v gnuplot >/dev/null; then
     echo "plot_cdf.sh: gnuplot is not installed" >&2
     exit 1
 fi
-rows=$(mktemp)
-trap 'rm -f "$rows"' EXIT
-sed -n 's/^cdf://p' "$1" > "$rows"
-gnuplot -e "
+room=$(mktemp -d)
+trap 'rm -rf "$room"' EXIT
+sed -n 's/^cdf://p' < "$1" > "$room/rows"
+# gnuplot runs commands that stand in its words and names, so none of its words holds the name of a file that was given.
+(cd "$room" && gnuplot -e "
     set datafile separator ',';
     set terminal pngcairo size 800,500;
-    set output '$2';
+    set output 'picture';
     set xlabel 'total, in buckets';
     set ylabel 'probability of at most so much';
     set yrange [0:1];
     set key bottom right;
-    plot '$rows' using 1:2 with steps title 'low end', '$rows' using 1:3 with steps title 'high end'"
+    plot 'rows' using 1:2 with steps title 'low end', 'rows' using 1:3 with steps title 'high end'")
+cat "$room/picture" > "$2"
