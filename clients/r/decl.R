@@ -33,11 +33,11 @@
 # asks     words such as "mean", "q:0.995", "layer:10xs5", with amounts in buckets
 # numeric  FALSE gives the ends as the program wrote them, exact decimals as text; TRUE gives doubles, low ends
 #          rounded down and high ends up: an end beyond the grid is then infinite, and one that is not there is NA
-# timeout  seconds after which the program is ended; 0 for none
+# timeout  seconds after which the program and what it started are ended, by timeout of coreutils; 0 for none
 decl_run <- function(text, asks, bs = NULL, log2 = NULL, digits = NULL, width = NULL, mwidth = NULL, make = NULL,
                      numeric = FALSE, timeout = 0) {
     given <- decl_options(bs = bs, log2 = log2, digits = digits, width = width, mwidth = mwidth, make = make)
-    words <- c("run", "--format", "json", given, as.character(asks))
+    words <- c("run", "--format", "json", given, "--", as.character(asks))
     rows <- decl_rows(decl_call(words, text, asks, timeout), asks)
     if (numeric) decl_numeric(rows) else rows
 }
@@ -289,11 +289,18 @@ decl_divisors <- function(number) {
     unique(c(small, number / small))
 }
 
-# The tokens of a canonical text, without its notes.
+# The tokens of a canonical text, without its notes and named severities: each reference to a severity stands as its mixture.
 decl_tokens <- function(text) {
-    token <- "note\\{[^{}]*\\}|[0-9]+/[0-9]+|([0-9]+[.]?[0-9]*|[.][0-9]+)%?|[A-Za-z][A-Za-z0-9_-]*|[][:,!]"
+    token <- "note\\{[^{}]*\\}|[0-9]+/[0-9]+|([0-9]+[.]?[0-9]*|[.][0-9]+)%?|(sev[.])?[A-Za-z][A-Za-z0-9_-]*|[][:,!]"
     found <- regmatches(text, gregexpr(token, text, perl = TRUE))[[1]]
-    found[!startsWith(found, "note{")]
+    found <- found[!startsWith(found, "note{")]
+    named <- list()
+    while (found[1] == "sev") {
+        behind <- seq_len(which(found[-1] %in% c("sev", "port", "agg"))[1])
+        named[[paste0("sev.", found[2])]] <- found[behind[-(1:2)]]
+        found <- found[-behind]
+    }
+    unlist(lapply(found, function(token) if (is.null(named[[token]])) token else named[[token]]))
 }
 
 # The amounts, limits and attachments of a canonical text: of a range its first amount, and its step where it has a
@@ -346,11 +353,16 @@ decl_call <- function(words, text, asks, timeout) {
     on.exit(unlink(files))
     bytes <- decl_bytes(text)
     writeBin(bytes, files[1])
-    status <- suppressWarnings(system2(
-        found, shQuote(words), stdin = files[1], stdout = files[2], stderr = files[3], timeout = timeout
-    ))
+    command <- c(found, words)
+    # timeout of coreutils ends the program and all that it started, which have a process group of their own
+    if (timeout > 0) command <- c("timeout", "--signal=KILL", format(timeout, scientific = FALSE), command)
+    begun <- proc.time()[["elapsed"]]
+    status <- suppressWarnings(system2(command[1], shQuote(command[-1]), stdin = files[1], stdout = files[2], stderr = files[3]))
+    if (status != 0 && timeout > 0 && proc.time()[["elapsed"]] - begun >= timeout) {
+        stop(decl_fault(sprintf("decl took more than %s seconds", timeout)))
+    }
     said <- paste(readLines(files[3], warn = FALSE), collapse = "\n")
-    if (status != 0) stop(decl_fault_of(as.integer(status), said, bytes, asks, timeout))
+    if (status != 0) stop(decl_fault_of(as.integer(status), said, bytes, asks))
     readLines(files[2], warn = FALSE, encoding = "UTF-8")
 }
 
@@ -379,21 +391,43 @@ decl_rows <- function(lines, asks) {
     rows
 }
 
-# Ends as doubles, rounded outward by one part in 2^52.
+# Ends as doubles: the greatest double that is not above a low end, and the least one that is not below a high end. Which one that is
+# is decided from the digits of the end, since the nearest double can lie on either side of it, also where it is whole.
 decl_numeric <- function(rows) {
-    number <- function(end, infinite) {
-        value <- rep(NA_real_, length(end))
-        value[end == "beyond"] <- infinite
-        plain <- !end %in% c("beyond", "-")
-        value[plain] <- as.numeric(end[plain])
-        value
+    number <- function(ends, infinite, up) {
+        vapply(ends, function(end) {
+            if (end == "-") NA_real_ else if (end == "beyond") infinite else decl_double(end, up)
+        }, 0, USE.NAMES = FALSE)
     }
-    low <- number(rows$low, -Inf)
-    high <- number(rows$high, Inf)
-    outward <- function(end, by) ifelse(is.finite(end) & end != round(end), end + by * abs(end), end)
-    rows$low <- outward(low, -.Machine$double.eps)
-    rows$high <- outward(high, .Machine$double.eps)
+    rows$low <- number(rows$low, -Inf, FALSE)
+    rows$high <- number(rows$high, Inf, TRUE)
     rows
+}
+
+# The least double that is not below a decimal of at least 0, or with up = FALSE the greatest one that is not above it.
+decl_double <- function(decimal, up) {
+    value <- as.numeric(decimal)
+    while (decl_order(value, decimal) > 0) value <- decl_next(value, FALSE)
+    while (decl_order(decl_next(value, TRUE), decimal) <= 0) value <- decl_next(value, TRUE)
+    if (up && decl_order(value, decimal) < 0) decl_next(value, TRUE) else value
+}
+
+# The next double above one of at least 0, or below one above 0, where its exponent is not at the end of its range.
+decl_next <- function(value, up) {
+    if (value == 0) return(.Machine$double.xmin)
+    power <- floor(log2(value))
+    power <- power - (2^power > value) + (2^(power + 1) <= value)
+    if (up) value + 2^(power - 52) else value - 2^(power - 52 - (value == 2^power))
+}
+
+# -1, 0 or 1: whether a double of at least 0 is below a decimal, equal to it or above it. sprintf writes all digits of the double.
+decl_order <- function(value, decimal) {
+    digits <- strsplit(c(sprintf("%.1100f", value), decimal), ".", fixed = TRUE)
+    whole <- sub("^0+", "", vapply(digits, `[`, "", 1L))
+    after <- vapply(digits, function(parts) if (length(parts) > 1L) parts[2] else "", "")
+    both <- paste0(strrep("0", max(nchar(whole)) - nchar(whole)), whole, after, strrep("0", max(nchar(after)) - nchar(after)))
+    apart <- which(utf8ToInt(both[1]) != utf8ToInt(both[2]))
+    if (length(apart)) sign(utf8ToInt(both[1])[apart[1]] - utf8ToInt(both[2])[apart[1]]) else 0
 }
 
 # An error of class decl_fault.
@@ -402,8 +436,7 @@ decl_fault <- function(message, ...) {
 }
 
 # The error for a status other than 0, with a caret under the place.
-decl_fault_of <- function(status, said, bytes, asks, timeout) {
-    if (status == 124L && timeout > 0) return(decl_fault(sprintf("decl took more than %s seconds", timeout)))
+decl_fault_of <- function(status, said, bytes, asks) {
     if (status > 128L) {
         return(decl_fault(sprintf("decl was ended by signal %d before its report was whole", status - 128L)))
     }

@@ -34,6 +34,20 @@ test("doubles rounded outward", {
     rows <- decl_run(dice, c("pmf:2", "q:0.9"), numeric = TRUE)
     stopifnot(rows$low[1] < 1 / 36, rows$high[1] > 1 / 36, rows$low[2] == 10, rows$high[1] - rows$low[1] < 1.1e-6)
 })
+test("the digits of an end decide to which double it is rounded", {
+    # times 2^56, 2^54 and 2^27 these are 7205759403792793.6, 5404319552844595.2 and a little above 40 million times 2^27
+    stopifnot(decl_double("0.1", FALSE) == 7205759403792793 / 2^56, decl_double("0.1", TRUE) == 7205759403792794 / 2^56)
+    stopifnot(decl_double("0.300", FALSE) == 5404319552844595 / 2^54, decl_double("0.300", TRUE) == 5404319552844596 / 2^54)
+    stopifnot(decl_double("40000000.000000001", FALSE) == 4e7, decl_double("40000000.000000001", TRUE) == 4e7 + 2^-27)
+    stopifnot(decl_double("9007199254740993", FALSE) == 2^53, decl_double("9007199254740993", TRUE) == 2^53 + 2)
+    stopifnot(decl_double("4503599627370495.9", TRUE) == 2^52, decl_double("4503599627370495.9", FALSE) == 2^52 - 0.5)
+    for (exact in c("0", "7.000000", "0.5", "40000000.000000000", "4503599627370496")) {
+        stopifnot(decl_double(exact, FALSE) == as.numeric(exact), decl_double(exact, TRUE) == as.numeric(exact))
+    }
+    # the mean is 40 million over 1 - exp(-40), which is above 40 million by 1.7e-10
+    rows <- decl_run("agg A 40 claims dsev [1000000] poisson zt", "mean", digits = 9, mwidth = 1e12, numeric = TRUE)
+    stopifnot(rows$low <= 4e7, rows$high > 4e7)
+})
 test("certificates", {
     claim <- "agg F 1 claims dsev [1] fixed"
     whole <- "72057594037927936"
@@ -100,6 +114,10 @@ test("the size of a bucket that divides all amounts", {
     text <- "agg A dfreq [1] dsev [40 80] occurrence net of 30 xs 20 aggregate ceded to inf xs 25"
     stopifnot(decl_bucket(text) == "5")
     stopifnot(fault(decl_bucket("agg D dfreq [1] dsev [1 2] [1/3 1/3]"))$rule == 6)
+    # of named severities, the one that a unit uses
+    stopifnot(decl_bucket("sev Small dsev [7] sev Large dsev [400 800] agg A dfreq [1] sev.Large") == "400")
+    text <- "sev S dsev [4] dsev [10] wts [1/2 1/2] sev T dsev [3] port P agg A dfreq [1] 8 xs 6 sev.S agg B dfreq [1] dsev [2]"
+    stopifnot(decl_bucket(text) == "2", decl_bucket(paste(text, "agg C dfreq [1] sev.T")) == "1")
 })
 test("shares ask for finer buckets", {
     text <- "agg N dfreq [1] dsev [1 3] occurrence net of 0.5 so 4 xs 0"
@@ -170,6 +188,10 @@ test("faults of a text, with their place", {
 test("faults of words and asks", {
     stopifnot(fault(decl_run(die, "mean", log2 = 17))$status == 2)
     stopifnot(fault(decl_run(die, c("pmf:1", "pmf")))$ask == 1)
+    # an ask that begins like an option is none
+    for (asks in list(c("mean", "--log2=4"), c("--bs", "7", "mean"))) {
+        stopifnot(identical(fault(decl_run(die, asks))$status, 2L))
+    }
     found <- fault(decl_run(die, "pmf:3", width = 1, log2 = 4))
     stopifnot(found$status == 4, found$needed == "2")
     stopifnot(fault(decl_run(die, "pmf:16", log2 = 4))$status == 8)
@@ -185,6 +207,16 @@ test("no program, a killed one, half a report", {
     }
     instead('exec "$BUILT" run --format json mean')
     stopifnot(grepl("no whole report", conditionMessage(fault(decl_run(die, c("mean", "pmf:1"))))))
+})
+test("a timeout ends the program and what it started", {
+    stopifnot(identical(decl_run(die, "q:0.4", timeout = 60)$low, "3"))
+    left <- tempfile("left")
+    instead(sprintf("(sleep 2; touch '%s') &\nsleep 20", left))
+    begun <- proc.time()[["elapsed"]]
+    stopifnot(grepl("more than 0.5 seconds", conditionMessage(fault(decl_run(die, "mean", timeout = 0.5)))))
+    stopifnot(proc.time()[["elapsed"]] - begun < 10)
+    Sys.sleep(2.5)
+    stopifnot(!file.exists(left))
 })
 test("a NUL byte, and no UTF-8", {
     stopifnot(grepl("NUL", conditionMessage(fault(decl_run(as.raw(c(97, 0, 98)), "mean")))))
