@@ -7,6 +7,8 @@ from fractions import Fraction
 
 from support import BOOK, ROOT, Case, decl, main
 
+from decl.reports import float_above, float_below
+
 DICE = "agg Dice dfreq [2] dsev [1:6]"
 PAIR = "port T agg A dfreq [1] dsev [1:3] agg B dfreq [1] dsev [1:3] [1/2 1/6 1/3]"
 
@@ -124,6 +126,27 @@ class Forms(Case):
         made = decl.made(0)
         self.assertTrue(made.startswith("port Made\nagg U1 34 claims dsev [1:9] poisson\nagg U2 31 claims"), made)
         self.assertEqual(str(decl.run("", "mean", make=0)), str(decl.run(made, "mean")))
+
+    def test_a_float_lies_on_the_side_of_its_end(self):
+        """The nearest float to 1/3 is below it, those to 1/10 and to 1 - 2**-60 / 3 are above, and 1/4 is a float."""
+        third, tenth = Fraction(6004799503160661, 2**54), Fraction(7205759403792793, 2**56)
+        rows = [(Fraction(1, 3), third, third + Fraction(1, 2**54)), (Fraction(1, 10), tenth, tenth + Fraction(1, 2**56))]
+        rows += [(1 - Fraction(1, 3 * 2**60), 1 - Fraction(1, 2**53), Fraction(1)), (Fraction(1, 4), Fraction(1, 4), Fraction(1, 4))]
+        rows += [(4 * 10**7 + Fraction(1, 10**9), Fraction(4 * 10**7), 4 * 10**7 + Fraction(1, 2**27)), (0, Fraction(0), Fraction(0))]
+        for end, below, above in rows:
+            self.assertEqual((Fraction(float_below(end)), Fraction(float_above(end))), (below, above), end)
+
+    def test_levels_that_print_their_type(self):
+        """As the numbers of numpy 2 do: each is the decimal of the float."""
+        class Scalar(float):
+            def __repr__(self):
+                return f"np.float64({float(self)!r})"
+
+        book = decl.Book(DICE)
+        self.assertEqual((str(book.q(Scalar(0.9))), str(book.tail(Scalar(0.9)))), (str(book.q("0.9")), str(book.tail("0.9"))))
+        self.assertEqual(str(book.price([(Scalar(1), Scalar(0.9))])), str(book.price([(1, "0.9")])))
+        self.assertEqual(book.return_periods([Scalar(10)])[0][0], "10")
+        self.assertEqual(decl.run("agg H dfreq [1] dsev [0.5 1]", "mean", bs=Scalar(0.5), log2=4).bs, Fraction(1, 2))
 
     def test_bytes_are_taken_as_utf_8(self):
         self.assertIsNone(decl.check("agg D dfreq [1] dsev [1] # é".encode()))

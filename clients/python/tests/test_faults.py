@@ -1,10 +1,14 @@
 """Each status, each fault of a text, and what does not come from the program at all."""
 
 import os
+import pathlib
 import pickle
+import tempfile
+import time
 import unittest
 
 from support import Case, decl, main
+from decl import magic
 
 DIE = "agg D dfreq [1] dsev [1:6]"
 
@@ -21,6 +25,16 @@ class Statuses(Case):
         self.assertEqual(fault.ask, 1)
         self.assertIn("\n  pmf:1 pmf\n        ^^^\n", str(fault))
         self.raises(decl.UsageFault, decl.run, DIE, [])
+
+    def test_an_ask_is_no_option(self):
+        """Words that begin as options do are asks, which are not understood."""
+        for call in (decl.run, decl.report):
+            for asks, at in ((["mean", "--log2=4"], 1), (["--bs", "7", "mean"], 0), (["--", "mean"], 0)):
+                told = str(self.raises(decl.UsageFault, call, DIE, asks))
+                self.assertIn(f"\n{asks[at]} is no ask, and no option where asks stand", told)
+        self.raises(decl.UsageFault, decl.Book("agg D dfreq [1] dsev [2]").ask, "--bs=1")
+
+    def test_too_many_asks(self):
         self.raises(decl.UsageFault, decl.run, DIE, ["mean"] * 257)
 
     def test_too_little_width(self):
@@ -198,9 +212,9 @@ class Sentences(Case):
             self.assertIn(told, str(self.raises(decl.UsageFault, decl.report, DIE, ["mean"], form)))
         for asks, told in (([], "There are 1 to 256 asks, not 0."), (["mean"] * 257, "There are 1 to 256 asks, not 257.")):
             self.assertIn(told, str(self.raises(decl.UsageFault, decl.run, DIE, asks)))
-        self.assertIn("There is no option size;", str(self.raises(decl.UsageFault, decl.run, DIE, ["mean", "--size", "4"])))
-        self.assertIn("The option log2 stands twice.", str(self.raises(decl.UsageFault, decl.run, DIE, ["--log2=4"], log2=4)))
-        self.assertIn("The option bs has no value.", str(self.raises(decl.UsageFault, decl.run, DIE, ["mean", "--bs"])))
+        for words, told in (("mean --size 4", "There is no option size;"), ("mean --bs", "The option bs has no value.")):
+            self.assertIn(told, str(self.raises(decl.UsageFault, magic.answer, words, DIE)))
+        self.assertIn("The option log2 stands twice.", str(self.raises(decl.UsageFault, magic.answer, "--log2=4 --log2 5 mean", DIE)))
 
     def test_sizes_that_are_taken_are_not_called_wrong(self):
         """The program and the sentence have one range of sizes."""
@@ -246,6 +260,18 @@ class Programs(Case):
     def test_a_program_that_takes_too_long(self):
         self.instead("exec sleep 20")
         self.raises(decl.TookTooLong, decl.run, DIE, ["mean"], timeout=0.2)
+
+    def test_what_a_program_has_started_ends_with_it(self):
+        """A shell that waits for a child which holds its outputs, and one whose child would go on alone."""
+        with tempfile.TemporaryDirectory() as folder:
+            left = pathlib.Path(folder) / "left"
+            begun = time.monotonic()
+            for body in (f"sleep 1.5; touch '{left}'; sleep 20", f"(sleep 1.5; touch '{left}') & sleep 20"):
+                self.instead(body)
+                self.raises(decl.TookTooLong, decl.run, DIE, ["mean"], timeout=0.2)
+            self.assertLess(time.monotonic() - begun, 1.4)
+            time.sleep(2)
+            self.assertFalse(left.exists())
 
     def test_half_a_report_is_no_report(self):
         self.instead("""cat > /dev/null; printf '{"bs":"1","cells":16,"rows":[{"ask":"mean","high":"3.5'""")

@@ -19,7 +19,7 @@ Number = Union[int, Fraction, Decimal, float, str]
 def spelled(value: Number) -> str:
     """A number as a word of the command line. A float is taken as the decimal that Python prints for it."""
     if isinstance(value, float):
-        value = Fraction(repr(value))
+        value = Fraction(repr(float(value)))  # of a float alone: numpy's own scalars are floats, and print their type
     if isinstance(value, Decimal):
         value = Fraction(value)
     return str(value)
@@ -61,7 +61,7 @@ def run(
     """
     asks = listed(asks)
     given = options(bs=bs, log2=log2, digits=digits, width=width, mwidth=mwidth, make=make)
-    return read_report(program.call(["run", "--format", "json", *given, *asks], text, asks, timeout), asks, ends)
+    return read_report(program.call(["run", "--format", "json", *given, "--", *asks], text, asks, timeout), asks, ends)
 
 
 def report(
@@ -80,7 +80,7 @@ def report(
     """The report as the program writes it, as `text`, `csv` or `json`; the options are those of `run`."""
     asks = listed(asks)
     given = options(bs=bs, log2=log2, digits=digits, width=width, mwidth=mwidth, make=make)
-    return program.call(["run", "--format", form, *given, *asks], text, asks, timeout)
+    return program.call(["run", "--format", form, *given, "--", *asks], text, asks, timeout)
 
 
 def check(

@@ -1,8 +1,10 @@
 """Finds the program, and runs it once."""
 
+import contextlib
 import os
 import pathlib
 import shutil
+import signal
 import subprocess
 from typing import Iterable, Optional, Sequence, Tuple, Union
 
@@ -70,10 +72,24 @@ def as_word(word: object) -> str:
     return word
 
 
+def ended(words: Sequence[str], given: bytes, timeout: Optional[float]) -> "subprocess.CompletedProcess[bytes]":
+    """The command after its end, with what it wrote. It has a process group of its own: a timeout, or another exception that ends the
+    waiting, ends all that it started too."""
+    pipe = subprocess.PIPE
+    with subprocess.Popen(words, stdin=pipe, stdout=pipe, stderr=pipe, start_new_session=True) as running:
+        try:
+            written, told = running.communicate(given, timeout)
+        except BaseException:
+            with contextlib.suppress(ProcessLookupError):
+                os.killpg(running.pid, signal.SIGKILL)
+            raise
+    return subprocess.CompletedProcess(words, running.returncode, written, told)
+
+
 def refusal(program: str, text: str, timeout: Optional[float]) -> Optional[str]:
     """What `fmt` says against a text: empty where it reads the text, None where it does not end by a fault of the text."""
     try:
-        done = subprocess.run([program, "fmt"], input=text.encode("utf-8"), capture_output=True, timeout=timeout)
+        done = ended([program, "fmt"], text.encode("utf-8"), timeout)
     except (subprocess.TimeoutExpired, OSError):
         return None
     return done.stderr.decode("utf-8", "replace") if done.returncode in (0, 3) else None
@@ -87,7 +103,7 @@ def call(
     words = [as_word(word) for word in words]
     program = find()
     try:
-        done = subprocess.run([program, *words], input=text.encode("utf-8"), capture_output=True, timeout=timeout)
+        done = ended([program, *words], text.encode("utf-8"), timeout)
     except subprocess.TimeoutExpired:
         raise faults.TookTooLong(f"decl took more than {timeout} seconds, and was ended", seconds=timeout) from None
     except OSError as cause:

@@ -107,6 +107,9 @@ def words_sentence(words: Sequence[str]) -> str:
             return wrong
         if name in [other for other, _ in options[:at]]:
             return f"The option {name} stands twice."
+    for word in others:
+        if word.startswith("-"):
+            return f"{word} is no ask, and no option where asks stand: options are given by name."
     asks = len(others) - 1
     if others[:1] == ["run"] and not 1 <= asks <= MOST_ASKS:
         return f"There are 1 to {MOST_ASKS} asks, not {asks}."
