@@ -231,11 +231,56 @@ class Pages(Case):
                     self.assertAlmostEqual(upper[at][1], on_line(amounts, below), delta=0.05)
                 self.assertAlmostEqual(below, float(book.tail(p).low), delta=1e-3)
 
-    def test_periods_without_shares_are_left_out(self):
-        """One loss of 1 to 10: at 1/2, 4/5 and 9/10 the distribution is exactly at the level, so no share is there."""
-        drawn = decl.Book("port P agg A dfreq [1] dsev [1:10] agg B dfreq [1] dsev [0]").page()
+    def test_periods_without_shares_are_white(self):
+        """One loss of 1 to 10: at 1/2, 4/5 and 9/10 the distribution is exactly at the level, so no share is there, and no area goes over
+        them. The curve of the TVaR does."""
+        drawn = decl.Book("port P agg A dfreq [1] dsev [1:10] agg B dfreq [1] dsev [0]").page([2, "7/2", 5, 250, 20000])
+        runs = [found.split() for found in re.findall(r'data-unit="A" data-years="([^"]*)"', drawn)]
+        self.assertEqual([(run[0], run[-1]) for run in runs], [("1", "1"), ("3", "4"), ("6", "9"), ("12", "250")])
+        self.assertEqual(runs[1], ["3", "3.5", "4"])
         there = re.search(r'class="curve" data-years="([^"]*)"', drawn)[1].split()
-        self.assertEqual([each for each in ("1", "2", "3", "5", "10", "12", "250") if each in there], ["1", "3", "12", "250"])
+        self.assertLessEqual({"1", "2", "3", "3.5", "5", "10", "250"}, set(there))
+        self.assertIn("Where it is white, the program has no shares: the quantile is not sure", drawn)
+        self.assertIn(" So it is at 2 and 5 years. No shares are asked for at 20000 years, whose level has more than 4 digits.", drawn)
+
+    def test_totals_without_shares_are_white(self):
+        """Totals of 2 to 5 and of 22 to 25 are there, and 1 in 4 of both is 1 of the second unit; up to the VaR of 5 years, which is 24."""
+        text = "port P agg A dfreq [1] dsev [1 2 3 21 22 23] agg B dfreq [1] dsev [1 2]"
+        drawn = pictures.shares(decl.Book(text), [Fraction(2), Fraction(5)])
+        picture = ElementTree.fromstring(drawn.svg)
+        areas = list(picture.iter(f"{SVG}polygon"))
+        self.assertEqual([it.get("data-totals") for it in areas], ["2 5", "2 5", "22 24", "22 24"])
+        labels = list(picture.iter(f"{SVG}text"))
+        totals = [(float(it.get("data-total")), float(it.get("x"))) for it in labels if it.get("class") == "tick"]
+        percents = [(float(it.text.rstrip("%")), float(it.get("y")) - 4) for it in labels if (it.text or "").endswith("%")]
+        worked = {2: Fraction(1, 2), 3: Fraction(1, 2), 4: Fraction(5, 8), 5: Fraction(3, 5)}
+        worked.update({22: Fraction(21, 22), 23: Fraction(43, 46), 24: Fraction(45, 48)})
+        for area, places in ((areas[0], (2, 3, 4, 5)), (areas[2], (22, 23, 24))):
+            self.assertEqual(area.get("data-unit"), "A")
+            for (x, y), total in zip(halves(area)[0], places):
+                self.assertAlmostEqual(x, on_line(totals, total), delta=0.05)
+                self.assertAlmostEqual(y, on_line(percents, float(100 * worked[total])), delta=0.05)
+        told = "in percent of that total, up to the VaR of 5 years. Where it is white, a total is rarer than 1 in 65,536 and has no shares."
+        self.assertTrue(drawn.told.endswith(told), drawn.told)
+
+    def test_one_total_is_a_bar(self):
+        """So is a total between two that are not there; and a picture with no total says so."""
+        twins = pictures.shares(decl.Book("port P agg A dfreq [1] dsev [2] agg B dfreq [1] dsev [1]"), [Fraction(10)])
+        (first, last), _ = halves(ElementTree.fromstring(twins.svg).find(f"{SVG}polygon"))
+        self.assertTrue(last[0] - first[0] == 2 and first[1] == last[1])
+        spread = decl.Book("port P agg A dfreq [1] dsev [0:89700:300] agg B dfreq [1] dsev [0:299]")  # each total is 1 in 90,000
+        drawn = pictures.shares(spread, [Fraction(2)])
+        self.assertEqual(drawn.svg, "")
+        self.assertIn("There is no picture, since a total is rarer than 1 in 65,536", drawn.told)
+
+    def test_marks_of_long_periods(self):
+        """Ten million years are past the digits of the curve: their marks stand at their probability all the same."""
+        picture = ElementTree.fromstring(pictures.exceedance(decl.Book("agg D dfreq [2] dsev [1:6]"), [Fraction(10), Fraction(10**7)]))
+        powers = [(math.log10(float(it.text)), float(it.get("y")) - 4) for it in picture.iter(f"{SVG}text") if it.get("text-anchor") == "end"]
+        marks = [it for it in picture.iter(f"{SVG}circle") if it.get("data-years")]
+        self.assertEqual(len(marks), 2)
+        for mark in marks:
+            self.assertAlmostEqual(float(mark.get("cy")), on_line(powers, -math.log10(float(mark.get("data-years")))), delta=0.05)
 
     def test_a_program_without_shares_of_the_tail_mean(self):
         """As under a common factor: the other pictures are there."""

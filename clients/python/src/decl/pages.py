@@ -4,7 +4,7 @@ import html
 from fractions import Fraction
 from typing import TYPE_CHECKING, Iterable, List, Optional
 
-from .pictures import LOOK as PICTURES, colour, exceedance, shares, tail_shares
+from .pictures import LOOK as PICTURES, Shares, colour, exceedance, shares, tail_shares
 from .reports import Row, plain
 from .tables import Cell, Table, joined
 
@@ -73,9 +73,12 @@ def key(names: Iterable[str]) -> str:
     return f'<ul class="key">{"".join(items)}</ul>'
 
 
-def pictured(heading: str, told: str, drawn: Optional[str], book: "Book") -> List[str]:
-    """A part of the page with a picture of all units and their colours, where there is such a picture."""
-    return [] if drawn is None else [section(heading, told, "<figure>", drawn, "</figure>", key(book.units))]
+def pictured(heading: str, drawn: Optional[Shares], book: "Book") -> List[str]:
+    """A part of the page with a picture of all units and their colours, where the book has such shares."""
+    if drawn is None:
+        return []
+    picture = ["<figure>", drawn.svg, "</figure>", key(book.units)] if drawn.svg else []
+    return [section(heading, f"<p>{html.escape(drawn.told)}</p>", *picture)]
 
 
 def page_of(book: "Book", periods: List[Fraction], title: str) -> str:
@@ -85,10 +88,8 @@ def page_of(book: "Book", periods: List[Fraction], title: str) -> str:
         section("Return periods", table(book.return_periods(periods)), "<figure>", exceedance(book, periods), "</figure>"),
         section("Layers of the year", table(bands(book, periods))),
     ]
-    told = "<p>What each unit brings to the mean of the worst years, by their return period: together the TVaR.</p>"
-    parts += pictured("Each unit's share of the TVaR", told, tail_shares(book, periods), book)
-    told = "<p>The mean of each unit's outcome in a year of the total below, in percent of that total.</p>"
-    parts += pictured("Each unit's share of a year", told, shares(book), book)
+    parts += pictured("Each unit's share of the TVaR", tail_shares(book, periods), book)
+    parts += pictured("Each unit's share of a year", shares(book, periods), book)
     parts += [section("What the book is worth", table(book.describe()))]
     parts += [section("The program", f"<pre>{html.escape(book.spelling)}</pre>")]
     return (

@@ -5,7 +5,8 @@ import math
 import os
 from dataclasses import dataclass
 from fractions import Fraction
-from typing import TYPE_CHECKING, Iterable, List, Optional, Tuple, Union
+from itertools import groupby
+from typing import TYPE_CHECKING, Container, Iterable, List, Optional, Tuple, TypeVar, Union
 
 from .faults import AskFault
 from .reports import Row, plain
@@ -14,15 +15,17 @@ from .tables import joined
 if TYPE_CHECKING:
     from .books import Book
 
+#: A total in buckets, or a return period.
+Place = TypeVar("Place")
 WIDTH, HEIGHT = 960, 420
 LEFT, RIGHT, TOP, BOTTOM = 70, 100, 30, 60
 #: Two labels of one axis stand so far apart at least.
 APART = 18
 SAMPLES = 120
+#: Shares that are there at one place alone are a bar of twice this width.
+BAR = 1.0
 #: Of so many totals at most it is asked whether shares are there.
 MOST_TOTALS = 4096
-#: A share is there where the probability of the total is sure to be at least this.
-RAREST = Fraction(1, 65536)
 #: Shares of the tail mean are drawn at so many return periods, up to this one: a longer one is a level of too many digits.
 PERIODS, LONGEST = 40, 9999
 #: Units of money of an axis, with their names.
@@ -166,7 +169,7 @@ def probability_axis(down: Scale, years: Iterable[Fraction]) -> List[str]:
 def exceedance(book: "Book", years: Iterable[Fraction]) -> str:
     """The exceedance curve on a log scale, as a band between its ends, with VaR and TVaR of each return period marked."""
     periods = list(years)
-    power = -min(max(math.ceil(math.log10(10 * max(periods, default=Fraction(10)))), 2), book.digits)
+    power = -max(math.ceil(math.log10(10 * max(periods, default=Fraction(10)))), 2)
     curve = book.curve()
     size = float(curve[1][0] - curve[0][0])
     above = [(float(low), float(high)) for _, low, high in curve]
@@ -203,52 +206,87 @@ def colour(at: int, many: int) -> str:
     return f"hsl({(210 + 360 * at // many) % 360} 55% {58 if at % 2 else 46}%)"
 
 
-def sampled(book: "Book", level: Fraction) -> List[int]:
-    """Up to SAMPLES totals, in buckets, up to the quantile at the level, at each of which shares are there. At most MOST_TOTALS are
-    looked at, evenly."""
-    top = book.q(level).low or Fraction(0)
-    last = min(int(Fraction(top) / book.bs), book.cells - 1)
-    cells = range(1, last + 1, -(-last // MOST_TOTALS) or 1)
-    rows = book.each(f"pmf:{plain(at * book.bs)}" for at in cells)
-    there = [at for at, row in zip(cells, rows) if Fraction(row.low or 0) >= RAREST]
-    step = -(-len(there) // SAMPLES) or 1
-    return there[::step]
+@dataclass(frozen=True)
+class Shares:
+    """A picture of shares, empty where none is there, and what has to be read beside it."""
+
+    svg: str
+    told: str
 
 
-def stacked(book: "Book", rows: List[List[float]], places: List[float], up: Scale) -> List[str]:
-    """The units' areas one on the other: `rows` has the values of each unit at the places."""
+def runs(places: Iterable[Place], there: Container[Place]) -> List[List[Place]]:
+    """The places that are there, those side by side together."""
+    return [[*group] for is_there, group in groupby(places, lambda place: place in there) if is_there]
+
+
+def thinned(found: List[List[int]]) -> List[List[int]]:
+    """About SAMPLES of the places, evenly: the first and the last of each run and some between, of up to SAMPLES runs."""
+    found = found[:: -(-len(found) // SAMPLES) or 1]
+    step = -(-sum(map(len, found)) // SAMPLES) or 1
+    return [[*run[:-1:step], run[-1]] for run in found]
+
+
+def stacked(book: "Book", rows: List[List[float]], places: List[float], up: Scale, more: str) -> List[str]:
+    """The units' areas one on the other: `rows` has the values of each unit at the places; one place alone is a bar. `more` are their
+    data."""
+    if len(places) == 1:
+        places, rows = [places[0] - BAR, places[0] + BAR], [values * 2 for values in rows]
     below = [0.0] * len(places)
     parts: List[str] = []
     for number, (name, values) in enumerate(zip(book.units, rows)):
         above = [first + second for first, second in zip(below, values)]
         edge, base = ([(x, up.at(value)) for x, value in zip(places, side)] for side in (above, below))
-        look = f'class="share" data-unit="{html.escape(name)}" fill="{colour(number, len(book.units))}"'
+        look = f'class="share" data-unit="{html.escape(name)}" {more} fill="{colour(number, len(book.units))}"'
         parts.append(area([*edge, *reversed(base)], look))
         below = above
     return parts
 
 
-def shares(book: "Book", level: Fraction = Fraction(995, 1000)) -> Optional[str]:
-    """Each unit's share of the total, as areas one on the other that fill the total; None where there is one unit."""
-    at = sampled(book, level) if len(book.units) > 1 else []
-    if len(at) < 2:
+def of_totals(book: "Book", longest: Fraction) -> Tuple[int, List[List[int]], str]:
+    """The VaR of this return period, the totals up to it at which shares are drawn, in runs, both in buckets; and the sentences on them.
+    Of at most MOST_TOTALS totals, evenly, it is asked whether shares are there."""
+    end = book.q(1 - 1 / longest)
+    last = min(int(Fraction(end.low or 0) / book.bs), book.cells - 1)
+    step = -(-last // MOST_TOTALS) or 1
+    cells = range(1, last + 1, step)
+    rows = zip(cells, book.each(f"kappa:{book.units[0]}:{plain(at * book.bs)}" for at in cells))
+    found = runs(cells, {at for at, row in rows if row.low is not None})
+    drawn = thinned(found)
+    told = f"up to the VaR of {plain(longest)} years{', which is 0' if not last else ''}"
+    told += "." if end.high is not None else ", which may lie past the grid: the picture ends where the grid does."
+    if sum(map(len, found)) < len(cells):
+        told += f" {'Where it is white,' if found else 'There is no picture, since'} a total is rarer than 1 in 65,536 and has no shares."
+    if len(drawn) < len(found):
+        told += f" Of {len(found):,} totals or stretches of totals with shares {len(drawn)} are drawn."
+    return last, drawn, told + (f" One total in {step} is looked at." if step > 1 else "")
+
+
+def shares(book: "Book", years: Iterable[Fraction]) -> Optional[Shares]:
+    """Each unit's share of the total, as areas one on the other that fill the total, up to the VaR of the longest return period; None
+    where there is one unit."""
+    if len(book.units) == 1:
         return None
-    totals = [each * book.bs for each in at]
-    across = Scale(0, float(totals[-1]), LEFT, WIDTH - RIGHT)
-    up = Scale(0, 1, HEIGHT - BOTTOM, TOP)
-    book.each(f"kappa:{name}:{plain(x)}" for name in book.units for x in totals)
-    rows = [[(middle(book.kappa(name, x)) or 0.0) / float(x) for x in totals] for name in book.units]
-    parts = stacked(book, rows, [across.at(float(x)) for x in totals], up)
+    last, drawn, ending = of_totals(book, max(years, default=Fraction(200)))
+    told = f"The mean of each unit's outcome in a year of the total below, in percent of that total, {ending}"
+    if not drawn:
+        return Shares("", told)
+    across, up = Scale(0, float(last * book.bs), LEFT, WIDTH - RIGHT), Scale(0, 1, HEIGHT - BOTTOM, TOP)
+    book.each(f"kappa:{name}:{plain(at * book.bs)}" for name in book.units for run in drawn for at in run)
+    parts: List[str] = []
+    for run in drawn:
+        totals = [at * book.bs for at in run]
+        values = [[(middle(book.kappa(name, x)) or 0.0) / float(x) for x in totals] for name in book.units]
+        more = f'data-totals="{plain(totals[0])} {plain(totals[-1])}"'
+        parts += stacked(book, values, [across.at(float(x)) for x in totals], up, more)
     parts += [text(LEFT - 8, up.at(part / 4) + 4, f"{25 * part}%", "end") for part in range(5)]
     parts += money_axis(across, "total of a year")
-    return svg(parts, "each unit's share of the total")
+    return Shares(svg(parts, "each unit's share of the total"), told)
 
 
-def periods_of(years: Iterable[Fraction]) -> List[int]:
-    """Return periods from 1 year on, evenly on a log scale, up to the longest of these; and these, where they are whole."""
-    whole = [int(each) for each in years if each.denominator == 1 and each <= LONGEST]
-    last = max(whole, default=1)
-    return sorted({round(last ** (at / PERIODS)) for at in range(PERIODS + 1)} | set(whole))
+def periods_of(years: Iterable[Fraction]) -> List[Fraction]:
+    """Return periods from 1 year on, evenly on a log scale, up to the longest of these; and these."""
+    asked = [*years, Fraction(1)]
+    return sorted({*(Fraction(round(max(asked) ** (at / PERIODS))) for at in range(PERIODS + 1)), *asked})
 
 
 def period_axis(across: Scale) -> List[str]:
@@ -275,26 +313,50 @@ def amount_axis(up: Scale, name: str) -> List[str]:
     return parts
 
 
-def tail_shares(book: "Book", years: Iterable[Fraction]) -> Optional[str]:
-    """Each unit's share of the TVaR by return period, as areas one on the other that fill it; None where there is one unit, and where
-    the program has no such shares, as under a common factor. Periods at which a share is not there are left out."""
-    periods = periods_of(years) if len(book.units) > 1 else []
-    levels = {each: 1 - Fraction(1, each) for each in periods}
+def named(years: Iterable[Fraction]) -> str:
+    """Return periods in a sentence."""
+    *first, last = map(plain, years)
+    return f"{', '.join(first)} and {last}" if first else last
+
+
+def on_periods(given: List[Fraction], periods: List[Fraction], there: Container[Fraction]) -> str:
+    """The sentences on the return periods that are given, and on those of a picture at which shares are there."""
+    told = "What each unit brings to the mean of the worst years, by their return period: together the TVaR."
+    if any(each not in there for each in periods):
+        told += " Where it is white, the program has no shares: the quantile is not sure, its total is rarer than 1 in 65,536, or the TVaR"
+        told += " may lie past the grid."
+    absent = [each for each in given if each in periods and each not in there]
+    late = [each for each in given if each not in periods]
+    told += f" So it is at {named(absent)} years." if absent else ""
+    return told + (f" No shares are asked for at {named(late)} years, whose level has more than 4 digits." if late else "")
+
+
+def tail_shares(book: "Book", years: Iterable[Fraction]) -> Optional[Shares]:
+    """Each unit's share of the TVaR by return period, as areas one on the other that fill it, under the curve of the TVaR; None where
+    there is one unit, and where the program has no such shares, as under a common factor."""
+    given = sorted(set(years))
+    periods = periods_of(each for each in given if each.numerator <= LONGEST)
+    levels = {each: 1 - 1 / each for each in periods[1:]}
+    if len(book.units) == 1:
+        return None
     try:
-        book.each(f"{kind}:{plain(levels[each])}" for each in periods[1:] for kind in ("tail", *(f"cotail:{name}" for name in book.units)))
+        book.each(f"{kind}:{level}" for level in levels.values() for kind in ("tail", *(f"cotail:{name}" for name in book.units)))
     except AskFault:
         return None
-    found = {each: [middle(book.share_of_tail(name, levels[each])) for name in book.units] for each in periods[1:]}
-    there = [each for each in periods if all(value is not None for value in found.get(each, []))]
-    if len(there) < 3:
-        return None
     # over all years, which is the period of 1 year, the shares are the means of the units
-    rows = [[middle(book.mean_of(name)) or 0.0, *(found[each][at] or 0.0 for each in there[1:])] for at, name in enumerate(book.units)]
-    tails = [middle(book.mean()) or 0.0, *(middle(book.tail(levels[each])) or 0.0 for each in there[1:])]
-    across = Scale(0, math.log10(there[-1]), LEFT, WIDTH - RIGHT)
-    up = Scale(0, 1.02 * tails[-1], HEIGHT - BOTTOM, TOP)
-    places = [across.at(math.log10(each)) for each in there]
-    parts = [*stacked(book, rows, places, up), *period_axis(across), *amount_axis(up, "TVaR")]
-    top = " ".join(f"{x:.2f},{up.at(value):.2f}" for x, value in zip(places, tails))
-    parts.append(f'<polyline class="curve" data-years="{" ".join(map(str, there))}" points="{top}"/>')
-    return svg(parts, "each unit's share of the TVaR")
+    rows = {each: (book.tail(level), [book.share_of_tail(name, level) for name in book.units]) for each, level in levels.items()}
+    rows = {periods[0]: (book.mean(), [book.mean_of(name) for name in book.units]), **rows}
+    curve = [(each, tail) for each, tail in ((each, middle(row)) for each, (row, _) in rows.items()) if tail is not None]
+    found = {each: [middle(row) for row in units] for each, (_, units) in rows.items()}
+    there = {each: [value for value in values if value is not None] for each, values in found.items() if None not in values}
+    across = Scale(0, math.log10(periods[-1]), LEFT, WIDTH - RIGHT)
+    up = Scale(0, 1.02 * max(tail for _, tail in curve), HEIGHT - BOTTOM, TOP)
+    parts: List[str] = []
+    for run in runs(periods, there):
+        values = [[there[each][at] for each in run] for at in range(len(book.units))]
+        more = f'data-years="{" ".join(map(plain, run))}"'
+        parts += stacked(book, values, [across.at(math.log10(each)) for each in run], up, more)
+    parts += [*period_axis(across), *amount_axis(up, "TVaR")]
+    top = " ".join(f"{across.at(math.log10(each)):.2f},{up.at(tail):.2f}" for each, tail in curve)
+    parts.append(f'<polyline class="curve" data-years="{" ".join(plain(each) for each, _ in curve)}" points="{top}"/>')
+    return Shares(svg(parts, "each unit's share of the TVaR"), on_periods(given, periods, there))
