@@ -297,6 +297,18 @@ class Written(Case):
         self.raises(decl.SyntaxFault, decl.coarser, "agg", 10)
         self.raises(ValueError, decl.coarser, BOOK, 0)
 
+    def test_below_the_reach_of_the_high_program(self):
+        """A claim of 5 to 6, or of 10 or more, of which the high program knows 10 alone: what depends on that has no high end."""
+        two = decl.Between("agg A dfreq [1] dsev [5 10]", "agg A dfreq [1] dsev [6 10]", Fraction(1), reach=Fraction(10), log2=4)
+        self.assertEqual([two.q(p).high for p in (0.4, 0.9)], [6, None])
+        self.assertEqual((two.layer(5, 5).low, two.layer(5, 5).high, two.layer(6, 5).high), (Fraction(5, 2), 3, None))
+        for row in (two.mean(), two.tail(0.4), two.price([(1, 0)]), two.layer(None, 5)):
+            self.assertEqual((row.high, row.state), (None, "beyond"), row)
+        for x, below, most in ((9, Fraction(1, 2), Fraction(1, 2)), (10, Fraction(1, 2), 1), (9.5, Fraction(1, 2), Fraction(1, 2))):
+            self.assertEqual((two.cdf(x).low, two.cdf(x).high, two.sf(x).low, two.sf(x).high), (below, most, 1 - most, 1 - below), x)
+        half = decl.Between(two.low, two.high, Fraction(1), reach=Fraction("9.5"), log2=4)
+        self.assertEqual((half.layer(5, 5).high, half.layer(4, 5).high, half.q(0.4).high), (None, Fraction(5, 2), 6))
+
     def test_other_asks_are_not_held(self):
         between = decl.coarser(BOOK, 5)
         for word in ("pmf:10", "kappa:Motor:100", "joint:Motor:100", "cotail:Motor:0.9"):

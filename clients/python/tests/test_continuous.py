@@ -10,7 +10,9 @@ from fractions import Fraction
 
 from support import Case, decl, main
 
+from decl.continuous import Grid, source_of
 from decl.plan import plan_of
+from decl.pooled import Pool
 from decl.severities import CONTINUOUS, severity_of
 
 BOOKS = int(os.environ.get("BOOKS", "20"))
@@ -282,6 +284,22 @@ class Random(Case):
             self.assertLessEqual({"cv", "lognorm", "gamma", "shape", "expon", "weibull", "pareto", "above", "listed"}, seen)
             self.assertLessEqual({"fixed", "binomial", "bernoulli", "loss", "premium", "!", "xs", "occurrence", "aggregate"}, seen)
 
+    def test_units_under_a_factor(self):
+        """Exponential claims of several units, with claims, losses or premiums: together they are as many as one unit with `mixed gamma` has."""
+        rng = random.Random(29)
+        for number in range(BOOKS):
+            scale, whole, units = rng.choice([3, 5, 8]), 0.0, []
+            for name in "ABCD"[: rng.randint(2, 4)]:
+                claims = Fraction(rng.randint(1, 3000), rng.choice([1000, 700]))
+                low = rng.choice([0, 0, 2.5])
+                front = rng.choice([f"{claims} claims", f"{claims * scale} loss", f"{claims * scale * 2} premium at 50% lr"])
+                units.append(f"agg {name} {front} {f'inf xs {low}' if low else ''} sev {scale} * expon poisson")
+                whole += float(claims)
+            program = f"port P common 1/2 {' '.join(' '.join(units).split())}"
+            between = decl.between(program, rng.choice(["1", "1/2"]), log2=8)
+            total = Erlang(counts_of(whole, True), 1, scale, [(1.0, 0.0)])
+            self.holds(between, total, f"{number}: {program}", (0, 1, 2.5, 8, 20, 45))
+
     def test_many_claims(self):
         """Poisson and mixed gamma counts of exponential claims above an attachment and of gamma ones, with claims, a loss or a
         premium, alone and beside a listed unit."""
@@ -343,6 +361,30 @@ class Severities(Case):
                 self.assertTrue(sum(over[1:]) * x / 2000 - 1e-9 <= found.lower, told)
                 self.assertTrue(found.upper <= sum(over[:-1]) * x / 2000 + 1e-9, told)
                 self.assertLess(found.upper - found.lower, Fraction(1, 10**20))
+
+    def test_limited_means_of_a_wide_lognormal(self):
+        """Its mean is above e**72, and the limited ones are at most their limits, and between sums from above and below."""
+        for sigma in (12, 15, 20):
+            severity = self.severity(f"sev lognorm {sigma}")
+            for x in (1, 100, 10**6):
+                cuts = [x * math.exp(-n / 50) for n in range(2001)]
+                over = [normal(-math.log(cut) / sigma) for cut in cuts]
+                steps = [above - below for above, below in zip(cuts, cuts[1:])]
+                found = severity.limited(Fraction(x))
+                told = (sigma, x, float(found.lower), float(found.upper))
+                self.assertLessEqual(found.upper, x, told)
+                self.assertLessEqual(sum(step * part for step, part in zip(steps, over)), found.upper, told)
+                self.assertLessEqual(found.lower, sum(step * part for step, part in zip(steps, over[1:])) + cuts[-1], told)
+                self.assertLess(found.upper - found.lower, found.upper / 100, told)
+        # hardly ever below 10**15, and its probability below 20 is known to 2**-90
+        self.assertTrue(Fraction(19) < self.severity("sev 1e15 * gamma 100").limited(Fraction(20)).upper <= 20)
+
+    def test_the_mean_in_a_layer_is_at_most_its_limit(self):
+        """So a loss is at least as many claims as it has limits."""
+        for smooth in ("lognorm 14", "lognorm 20", "5 * pareto 0.01 - 5", "1e9 * expon"):
+            two = decl.between(f"agg L 5 loss 20 xs 3 sev {smooth} poisson", 1, log2=6)
+            low, high = (Fraction(text.split()[2]) for text in (two.low, two.high))
+            self.assertTrue(Fraction(1, 4) <= low <= high, (smooth, low, high))
 
     def test_means(self):
         worked = [("sev lognorm 50 cv 1.75", 50), ("sev gamma 50 cv 0.3", 50), ("sev 50 * expon", 50), ("sev 3 * gamma 2.5 + 1", 8.5)]
@@ -428,6 +470,72 @@ class Written(Case):
         mean = 500 * (1 - math.exp(-4))
         self.assertTrue(two.mean().low < mean < two.mean().high and two.mean().high - two.mean().low < 101, two.mean())
         self.assertTrue(two.cdf(0).low <= Fraction(4, 9) ** 4 <= two.cdf(0).high, two.cdf(0))
+
+    def test_numbers_of_claims_under_a_factor(self):
+        """Shares of 4.401 claims are too fine to be pooled: each unit has 5 claims, of which some are 0. Losses are worth what they say."""
+        claims = "agg A 1.73 claims 400 xs 0 sev 100 * expon poisson agg B 2.3 claims sev 100 * expon poisson agg D 0.371 claims dsev [17] poisson"
+        two = decl.between(f"port C common 0.5 {claims}", 20)
+        for side in (two.low, two.high):
+            self.assertEqual([unit.claims for unit in plan_of(side).units], [5, 5, 5])
+        none = float((1 + Fraction("4.401") / 4) ** -4)
+        self.assertTrue(none - 1e-5 < two.cdf(0).low <= none <= two.cdf(0).high, two.cdf(0))
+        losses = "agg A 500 loss 400 xs 0 sev lognorm 50 cv 1.75 poisson agg B 1000 premium at 70% lr 900 xs 10 sev 80 * expon poisson"
+        two = decl.between(f"port C common 0.1 {losses} agg D 80 loss dsev [17 230] [2/3 1/3] poisson", 20)
+        self.assertTrue(1280 - 500 < two.mean().low < 1280 < two.mean().high < 1280 + 500, two.mean())
+
+    def test_a_number_of_claims_between_two_ends(self):
+        """That of a loss of wide claims is known to a part in a thousand: in the high program it is the greater one, and no amount is 0."""
+        text = "port C common 0.5 agg A 5 loss 100 xs 0 sev lognorm 12 poisson agg B 3 claims dsev [7] poisson"
+        low, high = source_of(text, None).units[0].expected_claims()
+        unit = plan_of(decl.between(text, 1, log2=6).high).units[0]
+        self.assertTrue(low + Fraction(1, 10**5) < high <= unit.claims * (1 - unit.amounts[Fraction(0)]) < high + Fraction(1, 10**6))
+
+    def test_probabilities_in_parts(self):
+        """Thirds in tenths, for a unit that keeps its claims and for one of 1 claim that is written with 2: half of them are 0."""
+        claim, tenth = {Fraction(5): Fraction(1, 3), Fraction(7): Fraction(2, 3)}, Fraction(1, 10)
+        self.assertEqual(Pool(None, 10, 10).written(claim, Fraction(1), False), {5: 4 * tenth, 7: 6 * tenth})
+        self.assertEqual(Pool(None, 10, 10).written(claim, Fraction(1), True), {5: 3 * tenth, 7: 7 * tenth})
+        self.assertEqual(Pool(Fraction(2), 10, 10).written(claim, Fraction(1), False), {0: 5 * tenth, 5: 2 * tenth, 7: 3 * tenth})
+        self.assertEqual(Pool(Fraction(2), 10, 10).written(claim, Fraction(1), True), {0: 5 * tenth, 5: tenth, 7: 4 * tenth})
+        self.assertEqual(Pool(Fraction(2), 100, 10).written(claim, Fraction(3, 4), True), {0: 6 * tenth, 5: Fraction(15, 100), 7: Fraction(25, 100)})
+
+    def test_a_factor_that_the_units_do_not_take(self):
+        """The fault names a unit of the text, and shows no other text."""
+        one, two = "agg A 2000 claims sev expon poisson", "agg B 3000 claims sev expon poisson"
+        fault = self.raises(decl.NotBetween, decl.between, f"port C common 0.5 {one} {two}", 1)
+        self.assertIn("unit B: Under common claims have to be expected, at most 4,096", str(fault))
+        self.assertEqual(str(self.raises(decl.NotBetween, decl.between, f"port C common 0.01 {one}")), str(fault).replace("unit B", "unit A"))
+        fault = self.raises(decl.NotBetween, decl.between, "port C common 1 agg A 0 claims sev expon poisson agg B 0 loss sev expon poisson", 1)
+        self.assertIn("unit A: ", str(fault))
+        for rest in ("3 claims sev expon fixed", "3 claims sev expon poisson zt", "3 claims sev expon poisson aggregate net of 1 xs 1", "dfreq [1] sev expon"):
+            fault = self.raises(decl.RuleFault, decl.between, f"port C common 0.5 agg A 1 claims sev expon poisson agg B {rest}", 1)
+            self.assertEqual((fault.rule, fault.unit, fault.name), (26, 1, "CommonUnit"), rest)
+            self.assertNotIn("dsev", str(fault))
+        fault = self.raises(decl.RuleFault, decl.between, "agg E 5000 claims sev 9 * expon poisson", 1)
+        self.assertEqual((fault.rule, fault.unit, fault.line), (20, 0, None))
+        self.assertTrue(str(fault).startswith("unit E breaks rule 20 TooManyClaims\nToo many claims"), fault)
+
+    def test_words_directly_behind_numerals(self):
+        """As the language reads them: a severity begins there, and inside of a word none does."""
+        two = decl.between("agg D dfreq [1] 5 xs 0dsev [1 2]", 1)
+        self.assertEqual((two.low, two.high), ("agg D dfreq [1] [1] dsev [1 2] [0.5 0.5]",) * 2)
+        spaced = decl.between("agg dsev-sev 3 claims 30 xs 0 sev lognorm 5 cv 1.75 dsev [4] wts [0.5 0.5] poisson", 1)
+        close = decl.between("agg dsev-sev 3claims 30 xs 0sev lognorm 5 cv 1.75dsev [4]wts [0.5 0.5]poisson", 1)
+        self.assertEqual((close.low, close.high), (spaced.low, spaced.high))
+
+    def test_how_far_the_high_program_reaches(self):
+        """Amounts of a claim end at 2**20 buckets: a limit past it is not reached, what a clause leaves of it is, and of two units the lower."""
+        reached = [("3000000 xs 0 sev 100 * expon poisson", 2**20), ("30 xs 0 sev 100 * expon poisson", None)]
+        reached += [("sev 100 * expon poisson aggregate net of 10 xs 0", 2**20 - 10), ("sev 9 * expon poisson aggregate ceded to 30 xs 5", None)]
+        reached += [("sev 100 * expon poisson aggregate ceded to inf xs 12", 2**20 - 12)]
+        for rest, reach in reached:
+            self.assertEqual(decl.between(f"agg E 1 claims {rest}", 1, log2=6).reach, reach, rest)
+        far = "agg E 1 claims sev 100 * expon poisson aggregate ceded to 2000000 xs 0"
+        listed = "port P agg E 1 claims 30 xs 0 sev expon poisson agg L 1 claims dsev [7] poisson"
+        self.assertIsNone(decl.between(listed, 1, log2=6).reach)
+        self.assertEqual([source_of(far, None).units[0].reach(Grid(size, 6)) for size in (Fraction(1), Fraction(2))], [2**20, None])
+        both = " ".join(f"agg {name} 1 claims {rest}" for name, (rest, _) in zip("ABC", reached))
+        self.assertEqual(decl.between(f"port P {both} agg L 1 claims dsev [7 2000000] poisson", 2, log2=6).reach, 2**21 - 10)
 
     def test_named_severities(self):
         """A listed severity with a name that two units refer to, and one that none does: each unit has its own amounts."""

@@ -11,24 +11,27 @@ from typing import Dict, List, Optional, Tuple
 from .calls import Number, Text, check, fmt, run
 from .choose import LARGEST_SHORT, all_tokens, tokens_of
 from .books import exact
-from .coarse import MOST_CELLS, Between, Ends, numeral, side, with_amounts
-from .faults import NotBetween, RuleFault, TextFault, pointed
+from .coarse import MOST_CELLS, SPELLING, Between, Ends, numeral, rounded, side, with_amounts
+from .faults import DeclError, NotBetween, RuleFault, TextFault, pointed, rule_sentence
 from .intervals import NOTHING, ONE, UNITY, Interval, interval
-from .plan import Chances, Layer, Plan, Reader, Unit, plan_in
+from .plan import Chances, Layer, Reader, Unit, plan_in
+from .pooled import PARTS_OF_0, Pool, pool_of
 from .program import as_text, place_in
 from .severities import CONTINUOUS, NotRead, Severity, severity_of
 
 #: Notes and comments, in which no severity is looked for, and the words that begin a listed one.
 ASIDE = re.compile(r"note\{[^{}]*\}|#[^\n]*")
-LISTED = re.compile(r"(?<![\w-])(?:dsev|sev\s+dhistogram)(?![\w-])")
+LISTED = re.compile(r"(?:dsev|sev\s+dhistogram)(?![\w-])")
+#: What lies between severities: a word whole, so that no severity is found inside of one, or what begins none.
+OTHER = re.compile(r"(?:sev\.)?[A-Za-z][A-Za-z0-9_-]*|[^A-Za-z]+")
 #: A continuous severity is read as one amount, above all that a numeral can be; this one and those after it stand in for them.
 STAND_IN = Fraction(10**12)
 PLACE = "dsev [1]"
 #: A probability is a whole number of billionths, and that of a claim of 0 of millionths: the expected number of claims above 0 is then
 #: a fraction that the program takes.
-PARTS, PARTS_OF_0 = 10**9, 10**6
-#: Under a common factor the probabilities times the units' shares of all expected claims have at most this common denominator.
-FINEST = 2**30
+PARTS = 10**9
+#: The rule on how many claims units under a common factor expect, and on how fine their shares of them are.
+COMMON_SIZE = 28
 #: Up to the end of the grid amounts are a bucket apart, and behind it a 32nd of themselves.
 FURTHER = 32
 #: The bucket is chosen on a grid that is smaller by this power of 2, with larger buckets.
@@ -48,19 +51,31 @@ def placed(found: "re.Match[str]") -> str:
     return PLACE.ljust(len(found[0]) - lines) + "\n" * lines
 
 
+def severities_in(seen: str) -> List["re.Match[str]"]:
+    """The severities of a text without its notes and comments, in order."""
+    found, at = [], 0
+    while at < len(seen):
+        next_one = CONTINUOUS.match(seen, at) or LISTED.match(seen, at) or OTHER.match(seen, at)
+        assert next_one is not None
+        if next_one.re is not OTHER:
+            found.append(next_one)
+        at = next_one.end()
+    return found
+
+
 def read(text: str) -> Tuple[str, List[Optional[Severity]]]:
     """The text with a listed severity in the place of each continuous one, and its severities in order; None for a listed one."""
     seen = ASIDE.sub(blanked, text)
-    places = [*CONTINUOUS.finditer(seen), *LISTED.finditer(seen)]
+    places = severities_in(seen)
     severities: List[Optional[Severity]] = []
-    for found in sorted(places, key=lambda each: each.start()):
+    for found in places:
         try:
             severities.append(severity_of(found) if found.re is CONTINUOUS else None)
         except NotRead as fault:
             line, column = place_in(text[: found.start()].encode("utf-8"), None)
             raise NotBetween(f"{line}:{column}: no severity\n{pointed(text, line, column)}\n{fault}") from None
     written = text
-    for found in CONTINUOUS.finditer(seen):
+    for found in (place for place in places if place.re is CONTINUOUS):
         written = written[: found.start()] + placed(found) + written[found.end() :]
     return written, severities
 
@@ -109,7 +124,7 @@ class Grid:
     @property
     def cells(self) -> int:
         """The number of buckets."""
-        return 2**self.log2
+        return 1 << self.log2
 
 
 @dataclass(frozen=True)
@@ -168,9 +183,8 @@ def curve_of(unit: Unit) -> Curve:
 class Claims:
     """A unit whose amounts before the layer are a blend of listed and of continuous ones."""
 
-    def __init__(self, unit: Unit, severities: List[Optional[Severity]], whole: int = PARTS) -> None:
-        """Its probabilities are written as parts of `whole`."""
-        self.unit, self.whole = unit, whole
+    def __init__(self, unit: Unit, severities: List[Optional[Severity]]) -> None:
+        self.unit = unit
         self.continuous: List[Tuple[Fraction, Severity]] = []
         listed: Dict[Fraction, Fraction] = {}
         for amount, chance in unit.amounts.items():
@@ -220,12 +234,14 @@ class Claims:
 
     def expected_claims(self) -> Ends:
         """Two ends of the expected number of claims."""
-        if self.unit.loss is None:
+        if self.unit.loss is None or not self.continuous:
             claims = self.unit.expected_claims()
             return claims, claims
         layer = self.unit.layer or Layer(None, Fraction(0))
         top = None if layer.limit is None else layer.attachment + layer.limit
         mean = (self.limited(top) - self.limited(layer.attachment)) / self.exceeding
+        if layer.limit is not None:
+            mean = Interval(mean.low, min(mean.high, interval(layer.limit).high))
         if mean.low <= 0:
             raise NotBetween(f"unit {self.unit.name}: the mean claim in the layer is too small to tell their number")
         return self.unit.loss / mean.upper, self.unit.loss / mean.lower
@@ -262,48 +278,77 @@ class Claims:
         chances: Chances = {}
         reached = 0
         for at, point in enumerate(points):
-            if at == len(points) - 1 or reached == self.whole:
-                value = self.whole
-            elif up and reached == self.whole - 1:
+            if at == len(points) - 1 or reached == PARTS:
+                value = PARTS
+            elif up and reached == PARTS - 1:
                 continue
             else:
-                parts = self.whole if at else PARTS_OF_0
+                parts = PARTS if at else PARTS_OF_0
                 found = self.final((point if up else points[at + 1]) * bs, less=not up)
-                value = (found.low * parts // ONE if up else -(-found.high * parts // ONE)) * (self.whole // parts)
+                value = (found.low * parts // ONE if up else -(-found.high * parts // ONE)) * (PARTS // parts)
             if value > reached:
-                chances[point * bs] = Fraction(value - reached, self.whole)
+                chances[point * bs] = Fraction(value - reached, PARTS)
                 reached = value
         return chances
 
-    def side(self, grid: Grid, up: bool, timeout: Optional[float]) -> str:
+    def side(self, grid: Grid, up: bool, pool: Optional[Pool], timeout: Optional[float]) -> str:
         """The unit as one of the low program, or of the high one."""
-        if not self.continuous:
+        if pool is None and not self.continuous:
             return side(self.unit, grid.bs, up, timeout)
-        return with_amounts(self.unit, self.rounded(grid, up), self.expected_claims(), grid.bs, up, timeout)
+        chances = self.rounded(grid, up) if self.continuous else rounded(self.unit.of_a_claim(), grid.bs, up)
+        expected = self.expected_claims()
+        if pool is not None:
+            chances = pool.written(chances, expected[up], up)
+            expected = expected if pool.claims is None else (pool.claims, pool.claims)
+        return with_amounts(self.unit, chances, expected, grid.bs, up, timeout)
 
 
 @dataclass(frozen=True)
 class Source:
-    """The units of a text, with the first line of a portfolio, which is empty for a unit alone."""
+    """The units of a text, with the first line of a portfolio, which is empty for a unit alone, and how they are pooled."""
 
     head: str
     units: List[Claims]
+    pool: Optional[Pool]
     timeout: Optional[float]
 
     def program(self, grid: Grid, up: bool) -> str:
         """The low program, or the high one."""
-        return self.head + "\n".join(each.side(grid, up, self.timeout) for each in self.units)
+        return self.head + "\n".join(self.side(number, grid, up) for number in range(len(self.units)))
+
+    def side(self, number: int, grid: Grid, up: bool) -> str:
+        """A unit of the low program, or of the high one."""
+        try:
+            return self.units[number].side(grid, up, self.pool, self.timeout)
+        except RuleFault as fault:
+            raise self.refused(fault, number) from None
+
+    def checked(self, grid: Grid, up: bool) -> str:
+        """The low program, or the high one, which keeps every rule on this grid."""
+        text = self.program(grid, up)
+        try:
+            check(text, bs=grid.bs, log2=grid.log2, timeout=self.timeout)
+        except RuleFault as fault:
+            most = max(range(len(self.units)), key=lambda number: self.units[number].expected_claims()[1])
+            raise self.refused(fault, most if fault.rule == COMMON_SIZE else fault.unit) from None
+        return text
+
+    def refused(self, fault: RuleFault, number: int) -> DeclError:
+        """The fault of a program of this client, told of the unit alone, since nobody else has seen that text."""
+        name, sentence = self.units[number].unit.name, rule_sentence(fault.rule)
+        if fault.rule in (*SPELLING, COMMON_SIZE):
+            return NotBetween(f"unit {name}: {sentence}")
+        return RuleFault(f"unit {name} breaks rule {fault.rule} {fault.name}\n{sentence}", unit=number, rule=fault.rule, name=fault.name)
 
     def is_inside(self, bs: Fraction, inside: Fraction) -> bool:
         """Whether about so much probability lies in a grid of 4,096 of these buckets, by the low program on larger ones; not,
         where the buckets are too small for that program."""
         grid = Grid(bs * 2**COARSER, LARGEST_SHORT - COARSER)
         try:
-            text = self.program(grid, False)
+            text, last = self.program(grid, False), f"cdf:{grid.cells - 1}"
+            row = run(text, last, bs=grid.bs, log2=grid.log2, digits=6, width=10**9, timeout=self.timeout)[0]
         except (NotBetween, RuleFault):
             return False
-        last = f"cdf:{grid.cells - 1}"
-        row = run(text, last, bs=grid.bs, log2=grid.log2, digits=6, width=10**9, timeout=self.timeout)[0]
         return Fraction(row.low or 0) >= inside
 
     def bucket(self, inside: Fraction) -> Fraction:
@@ -319,16 +364,6 @@ class Source:
         return steps[low]
 
 
-def parts_under(plan: Plan) -> int:
-    """Of which whole number the probabilities of the amounts are parts: of PARTS, and under a common factor of so few that the units can
-    be pooled, where the expected numbers of claims are written."""
-    claims = [unit.claims or Fraction(0) for unit in plan.units]
-    if plan.common is None or not sum(claims):
-        return PARTS
-    over = math.lcm(*((each / sum(claims)).denominator for each in claims))
-    return max(PARTS_OF_0, min(PARTS, 10 ** (len(str(FINEST // over)) - 1)))
-
-
 def source_of(text: str, timeout: Optional[float]) -> Source:
     """What the text declares."""
     written, severities = read(text)
@@ -337,11 +372,13 @@ def source_of(text: str, timeout: Optional[float]) -> Source:
     except TextFault as fault:
         if fault.line is None or fault.column is None:
             raise
-        lines = (pointed(each, fault.line, fault.column) for each in (written, text))
-        raise type(fault)(fault.told.replace(*lines), **fault.facts) from None
+        instead, line = (pointed(each, fault.line, fault.column) for each in (written, text))
+        raise type(fault)(fault.told.replace(instead, line), **fault.facts) from None
     severities = as_read(spelling, severities)
     plan = plan_in(spelling, Blend(tokens_of(spelling), severities))
-    return Source(plan.head, [Claims(unit, severities, parts_under(plan)) for unit in plan.units], timeout)
+    units = [Claims(unit, severities) for unit in plan.units]
+    pool = None if plan.common is None else pool_of(plan.units, plan.common, [each.expected_claims() for each in units])
+    return Source(plan.head, units, pool, timeout)
 
 
 def between(
@@ -363,8 +400,6 @@ def between(
     if size <= 0:
         raise ValueError(f"the size of a bucket is above 0, not {size}")
     grid = Grid(size, LARGEST_SHORT if log2 is None else log2)
-    low, high = (source.program(grid, up) for up in (False, True))
-    for each in (low, high):
-        check(each, bs=size, log2=grid.log2, timeout=timeout)
+    low, high = (source.checked(grid, up) for up in (False, True))
     reaches = [reach for reach in (each.reach(grid) for each in source.units) if reach is not None]
     return Between(low, high, size, timeout, reach=min(reaches, default=None), log2=grid.log2)

@@ -26,6 +26,7 @@ NAMES = {
     14: "ZeroMean",
     23: "DuplicateSeverity",
     24: "UnknownSeverity",
+    26: "CommonUnit",
     27: "CommonShape",
 }
 #: Amounts (or counts) with their probabilities.

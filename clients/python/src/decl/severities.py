@@ -8,16 +8,18 @@ import re
 from dataclasses import dataclass
 from fractions import Fraction
 from functools import lru_cache
-from typing import Dict, NoReturn, Optional, Tuple, Union
+from typing import Callable, Dict, NoReturn, Optional, Tuple, Union
 
 from .choose import value_of
-from .intervals import HALF, NOTHING, UNITY, Interval, exp, gamma_below, interval, log, log_gamma, normal, root
+from .intervals import (
+    FAR_NORMAL, HALF, NOTHING, ONE, ROOT_2_PI, UNITY, Interval, exp, gamma_below, interval, log, log_gamma, normal, root,
+)  # fmt: skip
 from .numerals import number_of
 
-NUMBER = r"(?:\d+/\d+|(?:\d+\.?\d*|\.\d+)(?:[eE][+-]?\d+)?%?)(?![\w.])"
+NUMBER = r"(?:\d+/\d+|(?:\d+\.?\d*|\.\d+)(?:[eE][+-]?\d+)?%?)(?![\d.])"
 #: A continuous severity: factor, name, shape or mean, cv, sign and size of the shift.
 CONTINUOUS = re.compile(
-    rf"(?<![\w-])sev\s+(?:({NUMBER})\s*\*\s*)?(lognorm|gamma|expon|weibull|pareto)(?![\w.:~-])"
+    rf"sev\s+(?:({NUMBER})\s*\*\s*)?(lognorm|gamma|expon|weibull|pareto)(?![\w.:~-])"
     rf"(?:\s+({NUMBER})(?:\s+cv\s+({NUMBER}))?)?(?:\s*([+-])\s*({NUMBER}))?"
 )
 #: A factor, a mean and a shift lie below the second of these, and factor and mean from the first on.
@@ -51,11 +53,21 @@ class Lognormal:
 
     def limited(self, z: Interval) -> Interval:
         """The mean of the lesser one of the variable and z."""
-        square = self.sigma * self.sigma
-        below = self.mean() * normal((log(z) - self.mu - square) / self.sigma)
-        return below + z * (UNITY - self.at_most(z))
+        place = (log(z) - self.mu) / self.sigma
+        return self.below(z, place, self.sigma - place) + z * (UNITY - normal(place))
 
-    def mean(self) -> Optional[Interval]:
+    def below(self, z: Interval, place: Interval, short: Interval) -> Interval:
+        """The mean of the variable where it is at most z, and 0 else: the mean times the normal distribution function at `-short`.
+
+        The mean is so large where `short` is above FAR_NORMAL, that this is worked out by the density d at `place`: the mean times the
+        density at `short` is z d, and the distribution function at -s lies from 1 / s - 1 / s**3 to 1 / s times the density there.
+        """
+        if short.low <= FAR_NORMAL * ONE:
+            return self.mean() * normal(-short)
+        most = z * exp(-(place * place * HALF)) / ROOT_2_PI / short
+        return Interval((most * (UNITY - UNITY / (short * short))).low, most.high)
+
+    def mean(self) -> Interval:
         """The mean."""
         return exp(self.mu + self.sigma * self.sigma * HALF)
 
@@ -162,10 +174,11 @@ class Severity:
         return self.base.at_most(interval((x - self.shift) / self.factor)).within(0, 1)
 
     def limited(self, x: Fraction) -> Interval:
-        """The mean of the lesser one of the amount and x."""
+        """The mean of the lesser one of the amount and x, so at most x."""
         if x <= self.least:
             return interval(x)
-        return interval(self.factor) * self.base.limited(interval((x - self.shift) / self.factor)) + interval(self.shift)
+        found = interval(self.factor) * self.base.limited(interval((x - self.shift) / self.factor)) + interval(self.shift)
+        return Interval(found.low, min(found.high, interval(x).high))
 
     def mean(self) -> Optional[Interval]:
         """The mean; None where it is infinite."""
@@ -223,7 +236,8 @@ def with_shape(name: str, shape: Optional[str]) -> Base:
     value = shaped(number(shape), name)
     if name == "lognorm":
         return Lognormal(NOTHING, interval(value))
-    return {"gamma": Gamma, "weibull": Weibull, "pareto": Pareto}[name](value)
+    bases: Dict[str, Callable[[Fraction], Base]] = {"gamma": Gamma, "weibull": Weibull, "pareto": Pareto}
+    return bases[name](value)
 
 
 def severity_of(found: "re.Match[str]") -> Severity:
