@@ -328,6 +328,9 @@ class Tables(Case):
         self.assertEqual(list(frame.columns), ["years", "VaR low", "VaR high", "TVaR low", "TVaR high"])
         self.assertEqual((frame["VaR low"][0], frame["years"][0]), (10000, "10"))
         floats = decl.Book(DICE).return_periods([10]).to_frame(floats=True)
+        self.assertEqual([str(floats[name].dtype) for name in floats.columns], ["object"] + ["float64"] * 4)
+        mixed = decl.Table(["a"], [[""], [decl.Book(DICE).q(0.9)]]).to_frame(floats=True)
+        self.assertTrue(str(mixed["a low"].dtype) == "float64" and math.isnan(mixed["a low"][0]) and mixed["a low"][1] == 10000)
         self.assertLessEqual(floats["TVaR low"][0], 100000 / 9)
 
     def test_a_plot(self):

@@ -16,7 +16,7 @@ from .reports import Report, Row, plain
 from .tables import Cell, Table
 
 if TYPE_CHECKING:
-    import matplotlib.axes
+    import matplotlib.axes  # type: ignore[import]
 
 Ends = Tuple[Fraction, Fraction]
 Limit = Optional[Number]

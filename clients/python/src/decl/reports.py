@@ -12,7 +12,7 @@ from typing import TYPE_CHECKING, Iterable, Iterator, List, Optional, Tuple, Typ
 from .faults import BadAnswer
 
 if TYPE_CHECKING:
-    import pandas
+    import pandas  # type: ignore[import]
 
 End = Union[Fraction, Decimal, int, None]
 PROBABILITIES = ("pmf", "cdf", "sf")

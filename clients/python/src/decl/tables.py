@@ -4,12 +4,12 @@ import html
 import math
 from collections.abc import Sequence
 from fractions import Fraction
-from typing import TYPE_CHECKING, Iterable, Iterator, List, Tuple, Union, overload
+from typing import TYPE_CHECKING, Any, Iterable, Iterator, List, Tuple, Union, overload
 
 from .reports import Row, rounded
 
 if TYPE_CHECKING:
-    import pandas
+    import pandas  # type: ignore[import]
 
 Cell = Union[str, Row]
 #: A number is shown with so many digits, those before the point counted.
@@ -91,7 +91,8 @@ class Table(Sequence[Tuple[Cell, ...]]):
     def to_frame(self, floats: bool = False) -> "pandas.DataFrame":
         """A pandas DataFrame; a column of answers becomes two, its low and its high ends.
 
-        The ends stay exact. With `floats` each low end is rounded down and each high end up to a float.
+        The ends stay exact. With `floats` each low end is rounded down and each high end up to a float, and a text beside answers is
+        NaN.
         """
         import pandas
 
@@ -101,10 +102,11 @@ class Table(Sequence[Tuple[Cell, ...]]):
             if all(isinstance(cell, str) for cell in cells):
                 frame[name] = cells
                 continue
-            ends = [
-                (cell, cell) if isinstance(cell, str) else rounded(cell) if floats else (cell.low, cell.high)
+            ends: List[Tuple[Any, Any]] = [
+                ((math.nan, math.nan) if floats else (cell, cell)) if isinstance(cell, str)
+                else rounded(cell) if floats else (cell.low, cell.high)
                 for cell in cells
-            ]
+            ]  # fmt: skip
             for end, side in ((0, "low"), (1, "high")):
-                frame[f"{name} {side}"] = pandas.Series([pair[end] for pair in ends], dtype=object)
+                frame[f"{name} {side}"] = pandas.Series([pair[end] for pair in ends], dtype=float if floats else object)
         return frame
