@@ -11,9 +11,10 @@ INSTALLED := $(BIN)/decl $(SHARE)/man/man1/decl.1 $(SHARE)/bash-completion/compl
 PAGES := README.md CHANGELOG.md CONTRIBUTING.md $(wildcard docs/*.md docs/*.svg docs/*.png)
 EXAMPLES := $(wildcard examples/*.* examples/gallery/* examples/many/*)
 CLIENTS := clients/r/decl.R clients/python/README.md clients/python/pyproject.toml $(wildcard clients/python/backend/*.py) \
-	$(wildcard clients/python/src/decl/*.*) clients/check_steps.py clients/check_steps.c
+	$(wildcard clients/python/src/decl/*.*) clients/check_steps.py clients/check_steps.c \
+	clients/second_opinion.py $(wildcard clients/opinion/*.py)
 
-.PHONY: all demo check test hostile bench help install dist deb wheel uninstall clean
+.PHONY: all demo check test hostile opinion bench help install dist deb wheel uninstall clean
 
 all: $(PROGRAM) ## proves and builds the program (the first time takes many minutes); it needs rt
 
