@@ -5,7 +5,7 @@ A recipe is worked from its treaty: what is paid of a claim or of a year is a fu
 the DecL text. Each command of docs/RECIPES.md that writes rows must have its recipe here; so have the towers of
 docs/FROM-AGGREGATE.md, and the coarser buckets of docs/USAGE.md. The figures in the sentences of docs/RECIPES.md are worked, and
 the rows that its examples in Python print.
-Probabilities are whole numbers of which 2^400 make 1. That the pages show what the program writes is checked by
+Probabilities are whole numbers of which ONE make 1, the low ends of clients/opinion/cells.py. That the pages show what the program writes is checked by
 examples/check.py. The last line is 'N passed, M failed'.
 """
 
@@ -15,14 +15,15 @@ import re
 import sys
 from fractions import Fraction
 
-from worked import ONE, convolution, poisson
+from opinion.cells import ONE, Cells, convolve, poisson
+from opinion.words import asked
 
 ROOT = pathlib.Path(__file__).resolve().parent.parent
 sys.path.insert(0, str(ROOT / "examples"))
 from check import commands  # noqa: E402
 
 MOST = 10_000  # amounts of a year are worked up to here; a year above it has a probability below 2^-240
-SLACK = Fraction(1, 1 << 200)
+SLACK = Fraction(1, 1 << 100)
 INF = 1 << 60
 
 FIRE = {10: 50, 20: 25, 50: 15, 100: 8, 300: 2}
@@ -75,8 +76,8 @@ class Year:
         above = total - paid.pop(0, 0)
         step = math.gcd(*map(int, paid))
         assert all(amount == int(amount) for amount in paid)
-        weights = {int(amount) // step: weight for amount, weight in paid.items()}
-        cells = poisson(Fraction(mean) * above / total, weights, MOST // step)
+        chances = {int(amount) // step: Fraction(weight, above) for amount, weight in paid.items()}
+        cells = poisson(Fraction(mean) * above / total, chances, MOST // step).low
         return cls({step * place: cell for place, cell in enumerate(cells)})
 
     @classmethod
@@ -94,7 +95,8 @@ class Year:
         for side, year in zip(sides, (self, other), strict=True):
             for amount, part in year.parts.items():
                 side[int(amount) // step] = part
-        return Year({step * place: cell for place, cell in enumerate(convolution(*sides, MOST // step))})
+        cells = convolve(*(Cells(side, 1) for side in sides), MOST // step).low
+        return Year({step * place: cell for place, cell in enumerate(cells)})
 
     def after(self, treaty):
         """The year after a treaty on its sum."""
@@ -122,21 +124,18 @@ class Year:
 
     def value(self, ask):
         """What an ask declares."""
-        kind, _, rest = ask.partition(":")
-        if kind == "mean":
-            return self.expected(whole)
-        if kind == "pmf":
-            return Fraction(self.parts.get(int(rest), 0), ONE)
-        if kind in ("cdf", "sf"):
-            within = self.within(int(rest))
-            return within if kind == "cdf" else 1 - within
-        if kind == "layer":
-            limit, attachment = rest.split("xs")
-            return self.expected(layer(INF if limit == "inf" else int(limit), int(attachment)))
-        if kind == "price":
-            return sum(Fraction(weight) * self.tail(Fraction(p)) for weight, p in (term.split("@") for term in rest.split("+")))
-        p = Fraction(rest[:-1]) / 100 if rest.endswith("%") else Fraction(rest)
-        return self.quantile(p) if kind == "q" else self.tail(p)
+        if ask.startswith("sf:"):
+            return 1 - self.value(ask.replace("sf", "cdf"))
+        kind, *rest = asked(ask)
+        return {
+            "mean": lambda: self.expected(whole),
+            "pmf": lambda x: Fraction(self.parts.get(x, 0), ONE),
+            "cdf": self.within,
+            "layer": lambda limit, attachment: self.expected(layer(INF if limit is None else limit, attachment)),
+            "price": lambda terms: sum(weight * self.tail(p) for weight, p in terms),
+            "q": self.quantile,
+            "tail": self.tail,
+        }[kind](*rest)
 
 
 class Port(Year):
@@ -257,7 +256,8 @@ COARSE = {
 
 def coarse():
     """Whether the quantile of the amounts as they are lies between the two, in money, and so does their mean."""
-    cells = poisson(4, {17: 50, 2_300: 30, 11_500: 15, 48_000: 5}, 105_000)
+    chances = {17: "0.5", 2_300: "0.3", 11_500: "0.15", 48_000: "0.05"}
+    cells = poisson(Fraction(4), {amount: Fraction(chance) for amount, chance in chances.items()}, 105_000).low
     reached = [sum(cells[:most]) >= ONE * Fraction(99, 100) for most in (100_000, 102_501)]
     yield reached == [False, True], "the quantile lies outside those of the two programs of docs/USAGE.md"
     yield LOW.value("mean") * 500 <= 19_294 <= HIGH.value("mean") * 500, "the mean lies outside those of docs/USAGE.md"

@@ -120,8 +120,8 @@ class Opinion:
 
     @property
     def spread(self):
-        """How far the distribution may lie from what the grid shows, for the asks with `--mwidth`: their budgets have as many times the
-        total's, at least, as there are cells, or as 2^16 times these for shares, since a share divides by 2^-16."""
+        """A bound on the total's budget, as a probability, where an ask with `--mwidth` is admitted: the budget of a tail mean is at least
+        so many times the total's as there are cells, that of a share 2^16 times as much, and that of a price an eighth."""
         return (self.settings.mwidth - 1) * self.unit / self.book.cells
 
     def of_bracket(self, p, low, high):

@@ -1,205 +1,89 @@
-"""A book between two programs on a coarser bucket: random books, each worked from its treaties to 50 digits, apart from the client."""
+"""A book between two programs on a coarser bucket: random books, each worked by the second opinion, apart from the client."""
 
 import os
 import random
-import unittest
-from decimal import Decimal, getcontext
+import sys
 from fractions import Fraction
 
 from support import BOOK, ROOT, Case, decl, main
 
-getcontext().prec = 50
+sys.path.insert(0, str(ROOT / "clients"))
+import opinion  # noqa: E402
+
 BOOKS = int(os.environ.get("BOOKS", "40"))
-#: The oracle counts in halves of 1.
-PART = 2
-#: What the oracle leaves out at the far end of a count without a greatest one.
-LEFT_OUT = Decimal(10) ** -30
+#: The second opinion counts in quarters of 1, up to 2,048.
+PART, CELLS = 4, 8192
 
 
-def decimal(value):
-    """A fraction to 50 digits."""
-    return Decimal(value.numerator) / Decimal(value.denominator)
-
-
-def part_of(share, limit, attachment):
-    """What a layer takes of an amount."""
-    return lambda x: share * (max(x - attachment, 0) if limit is None else min(max(x - attachment, 0), limit))
-
-
-class Treaty:
-    """Random layers of a clause that do not overlap: as text, and as what they make of an amount."""
-
-    def __init__(self, rng, word, top, unlimited_shares):
-        self.net = rng.random() < 0.5
-        cuts = sorted(rng.sample(range(1, top), rng.choice([2, 4])))
-        texts, self.parts = [], []
-        for low, high in zip(cuts[::2], cuts[1::2]):
-            limit = None if high == cuts[-1] and rng.random() < 0.3 else high - low
-            share = Fraction(1) if rng.random() < 0.6 or (limit is None and not unlimited_shares) else Fraction(1, 2)
-            spelled = {0: f"{share} so ", 1: f"{limit and share * limit} po ", 2: ""}[rng.choice([0, 1]) if share < 1 and limit else 0 if share < 1 else 2]
-            texts.append(f"{spelled}{'inf' if limit is None else limit} xs {low}")
-            self.parts.append(part_of(share, limit, low))
-        self.text = f"{word} {'net of' if self.net else 'ceded to'} {' and '.join(texts)}"
-
-    def of(self, x):
-        ceded = sum(part(x) for part in self.parts)
-        return x - ceded if self.net else ceded
+def treaty(rng, word, top, unlimited_shares):
+    """Random layers of a clause that do not overlap."""
+    cuts = sorted(rng.sample(range(1, top), rng.choice([2, 4])))
+    layers = []
+    for low, high in zip(cuts[::2], cuts[1::2]):
+        limit = None if high == cuts[-1] and rng.random() < 0.3 else high - low
+        share = Fraction(1) if rng.random() < 0.6 or (limit is None and not unlimited_shares) else Fraction(1, 2)
+        spelled = {0: f"{share} so ", 1: f"{limit and share * limit} po ", 2: ""}[rng.choice([0, 1]) if share < 1 and limit else 0 if share < 1 else 2]
+        layers.append(f"{spelled}{'inf' if limit is None else limit} xs {low}")
+    return f"{word} {rng.choice(['net of', 'ceded to'])} {' and '.join(layers)}"
 
 
 def severity(rng):
-    """A random severity: its text, and its amounts with their probabilities."""
+    """A random severity, and its greatest amount."""
     def atom():
         amounts = rng.sample(range(0, 25), rng.randint(1, 5))
         weights = [rng.randint(1, 6) for _ in amounts]
-        chances = {amount: Fraction(weight, sum(weights)) for amount, weight in zip(amounts, weights)}
-        return f"dsev {amounts} {[str(part) for part in chances.values()]}".replace("'", ""), chances
+        return f"dsev {amounts} [{' '.join(f'{weight}/{sum(weights)}' for weight in weights)}]", max(amounts)
 
-    (one, first), (other, second) = atom(), atom()
-    if rng.random() < 0.7:
-        return one, first
-    mixed = {}
-    for weight, chances in ((Fraction(1, 3), first), (Fraction(2, 3), second)):
-        for amount, part in chances.items():
-            mixed[amount] = mixed.get(amount, 0) + weight * part
-    return f"{one} {other} wts [1/3 2/3]", mixed
+    (one, top), (other, more) = atom(), atom()
+    return (one, top) if rng.random() < 0.7 else (f"{one} {other} wts [1/3 2/3]", max(top, more))
 
 
-def moved(chances, function):
-    """The chances of what a function makes of each amount."""
-    found = {}
-    for amount, part in chances.items():
-        found[function(amount)] = found.get(function(amount), 0) + part
-    return found
-
-
-def exposure(rng, mean):
-    """A random number of claims: its text before and behind the severity, its name, its expected number, and its shape."""
-    kind = rng.choice(["listed", "fixed", "poisson", "mixed", "binomial", "bernoulli", "loss", "premium"])
+def exposure(rng):
+    """A random number of claims: its text before and behind the severity."""
+    kind = rng.choice(["listed", "fixed", "poisson", "mixed gamma 1/2", "binomial 1/2", "bernoulli", "loss", "premium"])
     if kind == "listed":
-        return "dfreq [0 1 3] [1/4 1/4 1/2]", "", kind, None, None
-    if kind in ("loss", "premium") and mean:
+        return "dfreq [0 1 3] [1/4 1/4 1/2]", ""
+    if kind in ("loss", "premium"):
         loss = Fraction(rng.randint(1, 40), 2)
-        text = f"{loss} loss" if kind == "loss" else f"{2 * loss} premium at 50% lr"
-        return text, "poisson", "poisson", loss / mean, None
-    claims = {"fixed": Fraction(rng.randint(0, 4)), "binomial": Fraction(3, 2), "bernoulli": Fraction(2, 7)}.get(kind, Fraction(rng.randint(1, 8), 3))
-    name = {"mixed": "mixed gamma 1/2", "binomial": "binomial 1/2", "loss": "poisson", "premium": "poisson"}.get(kind, kind)
-    return f"{claims} claims", name, name.split()[0], claims, Fraction(1, 2)
-
-
-def convolved(one, other):
-    """The chances of a sum of two."""
-    found = {}
-    for x, first in one.items():
-        for y, second in other.items():
-            found[x + y] = found.get(x + y, 0) + first * second
-    return found
-
-
-def compound(kind, claims, shape, claim):
-    """The chances of the sum of the claims, by convolutions or by Panjer's recursion."""
-    if kind in ("poisson", "mixed"):
-        return panjer(kind, decimal(claims), claim)
-    weights = {"fixed": {claims: 1}, "listed": {0: Fraction(1, 4), 1: Fraction(1, 4), 3: Fraction(1, 2)}}.get(kind)
-    if kind == "bernoulli":
-        weights = {0: 1 - claims, 1: claims}
-    if kind == "binomial":
-        weights = {0: Fraction(1, 8), 1: Fraction(3, 8), 2: Fraction(3, 8), 3: Fraction(1, 8)}
-    found, power = {}, {Fraction(0): Fraction(1)}
-    for count in range(int(max(weights)) + 1):
-        for amount, part in power.items():
-            if weights.get(count):
-                found[amount] = found.get(amount, 0) + weights[count] * part
-        power = convolved(power, claim)
-    return {amount: decimal(Fraction(part)) for amount, part in found.items()}
-
-
-def panjer(kind, mean, claim):
-    """Panjer's recursion in halves of 1, until all but LEFT_OUT is there."""
-    steps = {int(amount * PART): decimal(Fraction(part)) for amount, part in claim.items()}
-    none = steps.pop(0, Decimal(0))
-    if kind == "poisson":
-        a, b, first = Decimal(0), mean, (-mean * (1 - none)).exp()
-    else:
-        a = mean / (mean + 4)  # the shape is 4
-        b, first = 3 * a, ((1 - a) / (1 - a * none)) ** 4
-    found, whole = [first], first
-    while steps and 1 - whole > LEFT_OUT:
-        at = len(found)
-        total = sum((a + b * step / at) * part * found[at - step] for step, part in steps.items() if step <= at)
-        found.append(total / (1 - a * none))
-        whole += found[-1]
-    return {Fraction(at, PART): part for at, part in enumerate(found)}
+        return f"{loss} loss" if kind == "loss" else f"{2 * loss} premium at 50% lr", "poisson"
+    claims = {"fixed": rng.randint(0, 4), "binomial 1/2": "3/2", "bernoulli": "2/7"}.get(kind, Fraction(rng.randint(1, 8), 3))
+    return f"{claims} claims", kind
 
 
 def unit(rng, name):
-    """A random unit: its text, and the chances of its outcome."""
-    text, amounts = severity(rng)
+    """A random unit."""
+    (text, top), (front, behind) = severity(rng), exposure(rng)
     layer = kept = ""
     if rng.random() < 0.5:
-        attachment = rng.choice([0, *range(0, max(amounts))])
-        limit = None if rng.random() < 0.3 else rng.randint(1, 20)
         kept = "!" if rng.random() < 0.4 else ""
-        layer = f"{'inf' if limit is None else limit} xs {attachment}"
-        if attachment and not kept:
-            whole = sum(part for amount, part in amounts.items() if amount > attachment)
-            amounts = {amount: part / whole for amount, part in amounts.items() if amount > attachment}
-        amounts = moved(amounts, part_of(1, limit, attachment))
-    mean = sum(amount * part for amount, part in amounts.items())
-    occurrence = Treaty(rng, "occurrence", 25, True) if rng.random() < 0.5 else None
-    aggregate = Treaty(rng, "aggregate", 40, False) if rng.random() < 0.4 else None
-    front, behind, kind, claims, shape = exposure(rng, mean)
-    claim = moved(amounts, occurrence.of) if occurrence else amounts
-    sums = compound(kind, claims, shape, claim)
-    words = [f"agg {name}", front, layer, text, kept, occurrence and occurrence.text, behind, aggregate and aggregate.text]
-    return " ".join(word for word in words if word), moved(sums, aggregate.of) if aggregate else sums
+        layer = f"{'inf' if rng.random() < 0.3 else rng.randint(1, 20)} xs {rng.choice([0, *range(0, top)])}"
+    occurrence = treaty(rng, "occurrence", 25, True) if rng.random() < 0.5 else ""
+    aggregate = treaty(rng, "aggregate", 40, False) if rng.random() < 0.4 else ""
+    return " ".join(word for word in (f"agg {name}", front, layer, text, kept, occurrence, behind, aggregate) if word)
 
 
 def book(rng):
-    """A random book: its text, and the chances of its total."""
-    if rng.random() < 0.75:
-        return unit(rng, "One")
-    (one, first), (other, second) = unit(rng, "One"), unit(rng, "Two")
-    return f"port Two {one} {other}", convolved(first, second)
-
-
-class Values:
-    """The answers of a total with its chances."""
-
-    def __init__(self, chances):
-        self.chances = sorted(chances.items())
-
-    def mean_of(self, function):
-        return sum((decimal(Fraction(function(x))) * part for x, part in self.chances), Decimal(0))
-
-    def cdf(self, x):
-        return sum((part for total, part in self.chances if total <= x), Decimal(0))
-
-    def q(self, p):
-        reached = Decimal(0)
-        for total, part in self.chances:
-            reached += part
-            if reached >= p:
-                return total
-        raise AssertionError("the oracle does not reach so far")
-
-    def tail(self, p):
-        top = self.q(p)
-        return decimal(Fraction(top)) + self.mean_of(lambda x: max(x - top, 0)) / (1 - p)
+    """A random book, and what it declares; one that breaks a rule, as a loss of claims of 0, is drawn again."""
+    text = unit(rng, "One") if rng.random() < 0.75 else f"port Two {unit(rng, 'One')} {unit(rng, 'Two')}"
+    try:
+        return text, opinion.Book(text, Fraction(1, PART), CELLS)
+    except opinion.Fault:
+        return book(rng)
 
 
 class Random(Case):
-    def holds(self, row, value, told):
-        slack = Fraction(1, 10**25)
-        self.assertLessEqual(Fraction(row.low), Fraction(value) + slack, (told, row))
+    def holds(self, row, ends, told, part=PART):
+        """The row meets the two ends of the second opinion, which counts in parts."""
+        self.assertLessEqual(Fraction(row.low), Fraction(ends[1]) / part, (told, row))
         if row.high is not None:
-            self.assertLessEqual(Fraction(value) - slack, Fraction(row.high), (told, row))
+            self.assertLessEqual(Fraction(ends[0]) / part, Fraction(row.high), (told, row))
 
     def test_random_books(self):
         """Each monotone answer lies between the two programs; at most a few books cannot be written so."""
         rng = random.Random(20261128)
         left, seen = 0, set()
         for number in range(BOOKS):
-            text, chances = book(rng)
+            text, own = book(rng)
             bs = rng.choice(["3", "4", "7", "5/2"])
             told = f"{number}: {text} on {bs}"
             try:
@@ -207,16 +91,16 @@ class Random(Case):
             except decl.NotBetween:
                 left += 1
                 continue
-            values = Values(chances)
-            self.holds(between.mean(), values.mean_of(lambda x: x), told)
+            self.holds(between.mean(), own.mean, told)
             for x in (0, 5, Fraction(17, 2), 30):
-                self.holds(between.cdf(x), values.cdf(x), told)
-                self.holds(between.sf(x), 1 - values.cdf(x), told)
-                self.holds(between.layer(8, x), values.mean_of(lambda total: min(max(total - x, 0), 8)), told)
-            self.holds(between.layer(None, 11), values.mean_of(lambda total: max(total - 11, 0)), told)
-            for p in (Decimal("0.513"), Decimal("0.9137")):
-                self.holds(between.q(p), values.q(p), told)
-                self.holds(between.tail(p), values.tail(p), told)
+                ends = own.total.cdf(int(PART * x))
+                self.holds(between.cdf(x), ends, told, 1)
+                self.holds(between.sf(x), (1 - ends.high, 1 - ends.low), told, 1)
+                self.holds(between.layer(8, x), own.total.layer_mean(8 * PART, int(PART * x)), told)
+            self.holds(between.layer(None, 11), own.total.layer_mean(None, 11 * PART), told)
+            for p in (Fraction("0.513"), Fraction("0.9137")):
+                self.holds(between.q(p), own.total.bracket(p, CELLS), told)
+                self.holds(between.tail(p), own.total.tail(p, CELLS), told)
             seen |= {word for word in ("loss", "premium", "!", "xs", "aggregate", "occurrence", "port") if f" {word} " in f" {text} "}
         self.assertLess(left, BOOKS / 8)
         self.assertEqual(len(seen), 7)
