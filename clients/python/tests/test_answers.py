@@ -108,7 +108,7 @@ class Forms(Case):
         self.assertTrue(money["pmf:4/3"].holds(Fraction(1, 3)))
         self.assertTrue(money["kappa:A:4/3"].holds(Fraction(13, 18)))
         self.assertEqual((money["kappa:A:1/3"].state, money["kappa:A:1/3"].written), ("absent", ("-", "-")))
-        self.assertEqual(money["kappa:A:4/3"].written, ("0.722222", "2166667/3000000"))
+        self.assertEqual(money["kappa:A:4/3"].written, ("0.722222", "0.722222334"))
         self.assertTrue(money["cotail:A:0.8"].holds(Fraction(73, 81)) and money["price:1@0.8"].holds(Fraction(50, 27)))
 
     def test_beyond_the_grid_in_money(self):

@@ -12,6 +12,7 @@ import unittest.mock
 from fractions import Fraction
 from xml.etree import ElementTree
 
+from apart import Year
 from support import BOOK, ROOT, Case, decl, main
 
 DICE = "agg Dice dfreq [2] dsev [1000:6000:1000]"
@@ -176,7 +177,7 @@ class Answers(Case):
             self.assertTrue(low <= tail.high and tail.low <= high and high - low < Fraction(1, 100), level)
         self.assertEqual(book.share_of_tail("A", "0.9995").ask, "cotail:A:1999/2000")
         self.assertEqual(self.raises(decl.AskFault, book.share_of_tail, "C", 0.8).reason, "no such unit")
-        self.raises(decl.UsageFault, book.share_of_tail, "A", 1)
+        self.raises(decl.NumberFault, book.share_of_tail, "A", 1)
 
     def test_a_common_factor(self):
         """One claim of 1,000 or 3,000 expected of A, two of 2,000 or 5,000 of B, under a factor of shape 4: no claim has (4/7)^4. A total
@@ -195,11 +196,25 @@ class Answers(Case):
         self.assertTrue(book.mean().holds(9000))
         self.assertGreater(book.tail(0.99).low, decl.Book(FACTOR.replace(" common 0.5", "")).tail(0.99).high)
 
-    def test_no_share_of_the_tail_mean_under_a_factor(self):
-        book = decl.Book(FACTOR)
-        fault = self.raises(decl.AskFault, book.share_of_tail, "A", 0.9)
+    def test_shares_of_the_tail_mean_under_a_factor(self):
+        """Beside a claim of A the rest of the year is that of a factor whose shape is larger by 1: 5 in place of 4."""
+        book, p, units = decl.Book(FACTOR), Fraction(9, 10), {"A": {1: 1, 3: 1}, "B": {2: 2, 5: 2}}
+        year = Year.gamma(3, 4, {1: 1, 3: 1, 2: 2, 5: 2}, 96)
+        larger = Year.gamma(3 * Fraction(5, 4), 5, {1: 1, 3: 1, 2: 2, 5: 2}, 96)
+        at, shares = year.q(p), {}
+        for name, parts in units.items():
+            joints = [sum(x * part * larger.at(total - x) for x, part in parts.items()) / 2 for total in range(at + 1)]
+            left = (year.cdf(at) - p) / year.at(at)
+            shares[name] = 1000 * (Fraction(sum(x * part for x, part in parts.items()), 2) - sum(joints) + left * joints[at]) / (1 - p)
+            row = book.share_of_tail(name, 0.9)
+            self.assertTrue(row.holds(shares[name]), row)
+            self.assertLess(row.high - row.low, Fraction(1, 100))
+            self.assertEqual(row.ask, f"cotail:{name}:0.9")
+        self.assertTrue(book.tail(0.9).holds(sum(shares.values())))
+        fault = self.raises(decl.AskFault, decl.run, FACTOR, ["cotail:A:0.9"], bs=1000)
         self.assertEqual(fault.reason, "no share under a common factor")
         self.assertIn("ask for kappa instead", str(fault))
+        self.assertEqual(decl.Book(FACTOR, log2=2).share_of_tail("A", 0.9).state, "beyond")
         page = book.page()
         self.assertIn("each unit&#x27;s share of the total", page)
         self.assertNotIn("share of the TVaR", page)
@@ -236,8 +251,9 @@ class Answers(Case):
         # the mean of the worst half: 9 to 12 have 10/36, and 8/36 of 7 and 8 are left for it
         half = 2 * (sum(total * TWO[total] for total in range(8, 13)) + 7 * Fraction(3, 36))
         self.assertTrue(three.holds(1000 * (Fraction(7) + 2 * half + 1021 * 12) / 1024), three)
-        for terms in ([("1/2", 0)], [], [(1, 1)], "1", [("1/9", 0)] * 9):
+        for terms in ([("1/2", 0)], [], "1", [("1/9", 0)] * 9):
             self.assertIn("there are 1 to 8 terms", str(self.raises(decl.UsageFault, self.book.price, terms)))
+        self.raises(decl.NumberFault, self.book.price, [(1, 1)])
 
     def test_levels_of_many_digits(self):
         """A return period of 512 years is a level of ten digits, and so asked for as a fraction."""

@@ -10,7 +10,15 @@ import unittest.mock
 
 from support import ROOT, BUILT, Case, decl, main
 
-TRY = "import decl; print(decl.__file__); print(decl.run('agg D dfreq [2] dsev [1:6]', ['pmf:2']), end='')"
+TRY = """
+import decl
+print(decl.__file__)
+book = decl.from_frame([{"name": "D", "claims": 2, "count": "fixed", "amounts": [1, 2, 3, 4, 5, 6]}])
+tower = book.tower(["3 xs 3"], 1)
+table = decl.compare({"gross": book, "text": book.text}, ["mean", "q:0.9"])
+print(f"{book.mean():.1f}", int(book.q([0.5])[0]), float(tower[0][1].mid), f"{table[1][3]:.0f}", decl.run_many([book.text], "mean")[0][1])
+print(decl.run("agg D dfreq [2] dsev [1:6]", ["pmf:2"]), end="")
+"""
 
 FACTS = """
 import importlib.metadata, pathlib, decl
@@ -64,7 +72,7 @@ class Install(Case):
             tried = subprocess.run([sys.executable, "-c", TRY], capture_output=True, text=True, env=world, cwd=folder)
             self.assertEqual(tried.returncode, 0, tried.stderr)
             self.assertTrue(tried.stdout.startswith(folder), tried.stdout)
-            self.assertTrue(tried.stdout.endswith("pmf:2 0.027777 0.027778\n"), tried.stdout)
+            self.assertTrue(tried.stdout.endswith("\n7.0 7 2.0 0 mean 7 7\npmf:2 0.027777 0.027778\n"), tried.stdout)
 
 
 if __name__ == "__main__":

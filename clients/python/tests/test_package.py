@@ -39,7 +39,7 @@ class Package(Case):
 
     def test_hints_name_types(self):
         for name, function in public():
-            if name not in ("Report.to_frame", "Table.to_frame", "Book.plot"):  # pandas and matplotlib need not be installed
+            if name not in ("Report.to_frame", "Table.to_frame", "Book.plot", "Between.plot", "Tower.net"):  # named where hints are checked
                 typing.get_type_hints(function)
 
     def test_options_are_named(self):
@@ -67,6 +67,11 @@ class Package(Case):
     def test_the_page_on_translations(self):
         """So does the block under "Programs of `aggregate`"."""
         self.prints_what_stands("Programs of `aggregate`")
+
+    def test_the_page_on_rows_tables_and_towers(self):
+        """So do the blocks under these headings."""
+        for heading in ("Rows as numbers", "Books from tables", "Towers"):
+            self.prints_what_stands(heading)
 
     def prints_what_stands(self, heading):
         page = (PYTHON / "README.md").read_text(encoding="utf-8")

@@ -15,6 +15,7 @@ from .continuous import between
 from .books import Book
 from .calls import certify, check, fmt, made, report, run, verify
 from .choose import bucket, grid
+from .compare import compare, run_many
 from .faults import (
     AskFault,
     BadAnswer,
@@ -22,19 +23,23 @@ from .faults import (
     BadStep,
     ContinuousSeverity,
     DeclError,
+    DeclWarning,
     GridTooSmall,
     Killed,
     NeedsWidth,
     NoMoments,
     NotBetween,
     NotCovered,
+    NotDeclared,
     NotText,
     NoWords,
+    NumberFault,
     OutOfMemory,
     ProgramNotFound,
     ReadFault,
     RuleFault,
     SyntaxFault,
+    TableFault,
     TextFault,
     TooLong,
     TookTooLong,
@@ -42,11 +47,14 @@ from .faults import (
     UsageFault,
     WriteFault,
 )
+from .frames import from_frame
 from .magic import load_ipython_extension
 from .moments import Moments
 from .pictures import Picture
+from .lines import TableBook
 from .reports import Report, Row
 from .tables import Table
+from .tower import Tower
 from .translate import translate
 
 __version__ = "1.0"
@@ -60,6 +68,7 @@ __all__ = [
     "Book",
     "ContinuousSeverity",
     "DeclError",
+    "DeclWarning",
     "GridTooSmall",
     "Killed",
     "Moments",
@@ -67,8 +76,10 @@ __all__ = [
     "NoMoments",
     "NotBetween",
     "NotCovered",
+    "NotDeclared",
     "NotText",
     "NoWords",
+    "NumberFault",
     "OutOfMemory",
     "Picture",
     "ProgramNotFound",
@@ -78,8 +89,11 @@ __all__ = [
     "RuleFault",
     "SyntaxFault",
     "Table",
+    "TableBook",
+    "TableFault",
     "TextFault",
     "TooLong",
+    "Tower",
     "TookTooLong",
     "Untranslated",
     "UsageFault",
@@ -90,12 +104,15 @@ __all__ = [
     "certify",
     "check",
     "coarser",
+    "compare",
     "fmt",
+    "from_frame",
     "grid",
     "load_ipython_extension",
     "made",
     "report",
     "run",
+    "run_many",
     "translate",
     "verify",
 ]

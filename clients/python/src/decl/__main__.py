@@ -3,13 +3,17 @@
 import argparse
 import pathlib
 import sys
+import warnings
 from typing import List, Optional, Union
 
-from . import DeclError, __version__
+from . import DeclError, NumberFault, __version__
 from .coarse import Between, coarser
 from .continuous import between
 from .books import RETURN_PERIODS, Book
 from .calls import report
+from .cautions import cautions
+from .figures import plain
+from .words import ASKS
 
 ABOUT = """
 python -m decl FILE ASK..                 the report that `decl run ASK.. < FILE` writes
@@ -18,6 +22,7 @@ python -m decl FILE --table 10,50,100     VaR and TVaR of these return periods, 
 python -m decl FILE --coarser BS ASK..    the same by two programs on a coarser bucket, between which the book lies
 python -m decl FILE --between ASK..       the same of a text whose severities may be continuous; --bs is the bucket
 python -m decl report FILE -o book.html   a page on the book, in money
+python -m decl check FILE                 its faults, and what it says that may not be meant
 """
 
 
@@ -27,7 +32,7 @@ def parser() -> argparse.ArgumentParser:
         prog="python -m decl",
         usage=ABOUT.strip(),
         description="Asks decl about the program in FILE; - is the standard input.",
-        epilog="Asks are mean, pmf:x, cdf:x, q:p, layer:LxsA, tail:p, price:W@P+W@P.., joint:NAME:x, kappa:NAME:x and cotail:NAME:p; with --money sf:x too.",
+        epilog=f"{ASKS.rstrip('.')}; with --money sf:x too.",
     )
     made.add_argument("--version", action="version", version=f"decl-client {__version__}")
     made.add_argument("file", metavar="FILE")
@@ -80,16 +85,32 @@ def answer(given: argparse.Namespace) -> str:
     return report(text_of(given.file), given.asks, given.format or "text", **options)
 
 
+def checked(given: argparse.Namespace) -> str:
+    """The warnings of the text, and the bucket and the grid with which it is answered; its fault is raised."""
+    text = text_of(given.file)
+    for each in cautions(text.decode("utf-8", "replace")):
+        print(f"decl: {each.told}", file=sys.stderr)
+    with warnings.catch_warnings(record=True) as told:
+        warnings.simplefilter("always")
+        book = Book(text, bs=given.bs)
+    for found in told:
+        print(f"decl: {found.message}", file=sys.stderr)
+    return f"{book.name}: {len(book.units)} {'units' if len(book.units) > 1 else 'unit'}, {book.cells:,} buckets of {plain(book.bs)}\n"
+
+
 def main(words: List[str]) -> int:
     """Runs the command; the status is that of the program where it refuses, 2 for words that are not understood."""
     made = parser()
     paged = words[:1] == ["report"]
-    given = made.parse_intermixed_args(words[1:] if paged else words)
+    checks = words[:1] == ["check"]
+    given = made.parse_intermixed_args(words[1:] if paged or checks else words)
     try:
-        if not paged:
+        if (paged or checks) and given.asks:
+            made.error(f"a {'page' if paged else 'check'} has no asks")
+        if checks:
+            written = checked(given)
+        elif not paged:
             written = answer(given)
-        elif given.asks:
-            made.error("a page has no asks")
         else:
             written = book_of(given).page(periods(given.table), title=given.title)
         if paged and given.output:
@@ -97,6 +118,9 @@ def main(words: List[str]) -> int:
         else:
             sys.stdout.write(written)
             sys.stdout.flush()
+    except NumberFault as fault:
+        print(f"decl: {fault}", file=sys.stderr)
+        return 2
     except DeclError as fault:
         print(fault, file=sys.stderr)
         return fault.status or 1

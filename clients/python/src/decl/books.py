@@ -1,19 +1,28 @@
 """A book in money: bucket and grid are chosen, amounts are given and answered in money, each answer by two ends."""
 
+import html
 import math
+import warnings
 from fractions import Fraction
-from typing import TYPE_CHECKING, Any, Dict, Iterable, List, Optional, Tuple, Union
+from typing import TYPE_CHECKING, Any, Dict, Iterable, List, Optional, Sequence, Tuple, Union
 
 from . import program
+from .cautions import DEVIATIONS, MOST_LOST, grid_caution, level_outside, warn_of
 from .calls import Number, Text, fmt, run, spelled
-from .choose import NOTE, bucket, grid, least_grid, value_of
-from .faults import GridTooSmall, NeedsWidth, NoMoments
+from .choose import LARGEST, NOTE, bucket, grid, least_grid, value_of
+from .faults import AskFault, GridTooSmall, NeedsWidth, NoMoments, NumberFault
+from .figures import decimals, plain
+from .levels import DIGITS, SHARE_DIGITS, numeral, one, two
 from .moments import Moments, of_plan
 from .pages import page_of
 from .pictures import Picture, alone, exceedance
 from .plan import Plan, plan_in
-from .reports import Report, Row, plain
+from .reports import Report, Row, ask_in_money
+from .several import of_amount, of_level
+from .shares import share_under_factor
 from .tables import Cell, Table
+from .tower import Tower, Written, tower_of
+from .words import MOST_ASKS
 
 if TYPE_CHECKING:
     import matplotlib.axes  # type: ignore[import]
@@ -22,7 +31,7 @@ Ends = Tuple[Fraction, Fraction]
 Limit = Optional[Number]
 #: The terms of a price: each a weight and the level of its tail mean; or the ask's text, as `"1/2@0+1/2@0.9"`.
 Terms = Union[str, Iterable[Tuple[Number, Number]]]
-MOST_ASKS = 256
+BEYOND = "beyond the grid"
 #: A call takes its width from the rule, so that an answer is as narrow as the rule has it and no call is refused.
 WIDEST = {"width": 10**9, "mwidth": 10**12}
 RETURN_PERIODS = (10, 50, 100, 200, 250)
@@ -31,25 +40,23 @@ LEVELS = ("0.5", "0.9", "0.95", "0.99", "0.995")
 
 def exact(value: Number) -> Fraction:
     """The number that is given: a text such as `"1/3"` or `"99.5%"`, or a number; a float is the decimal that Python prints."""
-    return value_of(value) if isinstance(value, str) else Fraction(spelled(value))
-
-
-def part(value: Number, digits: int = 9) -> str:
-    """The numeral of a probability or a weight in an ask: a decimal of at most so many digits, else a fraction."""
-    decimal = plain(exact(value))
-    return decimal if len(decimal.replace(".", "")) <= digits else str(exact(value))
+    try:
+        return value_of(value) if isinstance(value, str) else Fraction(spelled(value))
+    except (ValueError, ZeroDivisionError):
+        comma = f"; a decimal has a point: {value.replace(',', '.')}" if isinstance(value, str) and "," in value else ""
+        raise NumberFault(f"{value!r} is no number{comma}") from None
 
 
 def price_of(terms: Terms) -> str:
     """The ask for the price with these terms."""
     if isinstance(terms, str):
         return terms if terms.startswith("price:") else f"price:{terms}"
-    return "price:" + "+".join(f"{part(weight)}@{part(p)}" for weight, p in terms)
+    return "price:" + "+".join(f"{numeral(exact(weight), DIGITS)}@{one(exact(p), DIGITS, 'price')}" for weight, p in terms)
 
 
 def answered(ask: str, ends: Ends) -> Row:
     """A row in money with these ends."""
-    return Row(ask, *ends, (plain(ends[0]), plain(ends[1])), True)
+    return Row(ask, *ends, decimals(*ends), True)
 
 
 class Book:
@@ -76,26 +83,43 @@ class Book:
         sure to lie, else the largest that takes the text. `digits` are those of an answer in buckets, of which there are fewer
         where it needs a larger width than there is; `timeout` is in seconds, for one call.
         """
+        warn_of(text)
         self.text = program.as_text(text)
         self.digits = digits
         self.timeout = timeout
         self.bs = bucket(text, timeout=timeout) if bs is None else exact(bs)
+        self._lost = Fraction(0)
         self.log2 = self._grid(inside) if log2 is None else log2
-        self.cells = 2**self.log2
+        self.cells = 1 << self.log2
         self.spelling = fmt(text, timeout=timeout)
         self.plan: Plan = plan_in(self.spelling)
         self.units = tuple(unit.name for unit in self.plan.units)
         self.name = self.plan.name
         self._known: Dict[str, Row] = {}
+        self._finer: Dict[int, Book] = {}
+        if self._lost > MOST_LOST:
+            warnings.warn(grid_caution(self._lost, self.cells, self.bs, self._reach()), stacklevel=level_outside())
+
+    def _reach(self) -> Fraction:
+        """About how far the total goes: its mean and some deviations; nothing where they do not follow from the text."""
+        try:
+            moments = self.moments()
+        except NoMoments:
+            return Fraction(0)
+        return moments.mean + DEVIATIONS * moments.deviation[1]
 
     def _grid(self, inside: Number) -> int:
         try:
             return grid(self.text, inside, bs=self.bs, timeout=self.timeout)
         except GridTooSmall as fault:
+            self._lost = 1 - Fraction(fault.row.low or 0)
             return fault.log2
 
     def __repr__(self) -> str:
         return f"<decl book of {', '.join(self.units)}: {self.cells} buckets of {plain(self.bs)}>"
+
+    def _repr_html_(self) -> str:
+        return f"<p>{html.escape(self.name)}: {html.escape(repr(self)[1:-1])}</p>{self.return_periods()._repr_html_()}"
 
     def _rows(self, asks: Iterable[str]) -> List[Row]:
         """The rows of the asks, in buckets; each is asked once."""
@@ -106,6 +130,17 @@ class Book:
         return [self._known[ask] for ask in asks]
 
     def _asked(self, asks: List[str]) -> Report:
+        """The report on at most 256 asks; the fault of one shows it in money."""
+        try:
+            return self._narrowed(asks)
+        except AskFault as fault:
+            first, *_, sentence = fault.told.splitlines()
+            if fault.reason == BEYOND:
+                last = plain((self.cells - 1) * self.bs)
+                sentence = f"The grid ends at {last}, with {self.cells:,} buckets of {plain(self.bs)}: take a larger log2, or larger buckets."
+            raise AskFault(f"{first}\n  {ask_in_money(asks[fault.ask], self.bs)}\n{sentence}", **fault.facts) from None
+
+    def _narrowed(self, asks: List[str]) -> Report:
         """The report on at most 256 asks, with fewer digits where one of them needs more width than the widest."""
         settings: Dict[str, Any] = {"log2": self.log2, "timeout": self.timeout, **WIDEST}
         for digits in range(self.digits, 1, -1):
@@ -134,14 +169,26 @@ class Book:
         """The mean of the total."""
         return self._row("mean").in_money(self.bs)
 
+    def _rising(self, kind: str, p: Number) -> Row:
+        """The answer to an ask that rises with its level: where the level has more digits than an ask takes, from the low end at the
+        nearest level below it to the high end at the nearest one above."""
+        low, high = two(exact(p))
+        below, above = self._rows(f"{kind}:{numeral(level, DIGITS)}" for level in (low, high))
+        if low == high:
+            return below.in_money(self.bs)
+        ends = below.in_money(self.bs), above.in_money(self.bs)
+        return Row(f"{kind}:{plain(exact(p))}", ends[0].low, ends[1].high, (ends[0].written[0], ends[1].written[1]), True)
+
+    @of_level
     def q(self, p: Number) -> Row:
         """The least total that is not exceeded with a probability of `p` or more: the VaR. `high` is None where it may lie
-        past the grid."""
-        return self._row(f"q:{part(p)}").in_money(self.bs)
+        past the grid. For a list of levels it is a report."""
+        return self._rising("q", p)
 
+    @of_level
     def tail(self, p: Number) -> Row:
-        """The mean of the total in its worst `1 - p`: the TVaR."""
-        return self._row(f"tail:{part(p)}").in_money(self.bs)
+        """The mean of the total in its worst `1 - p`: the TVaR. For a list of levels it is a report."""
+        return self._rising("tail", p)
 
     def price(self, terms: Terms) -> Row:
         """A price: the tail mean at each `p` times its weight, added up. `terms` are 1 to 8 pairs of a weight and a `p`, as
@@ -152,19 +199,25 @@ class Book:
         """The share of a unit in the tail mean of the total: the mean of its outcome in the worst `1 - p` of the total. The shares of
         all units add up to the tail mean. Both ends are None where the tail mean is beyond the grid (`state` is `beyond`), and
         where the probability of the total at the quantile is too small, or the distribution is so near to `p` there that the
-        quantile is not sure (`absent`). Under a common factor the program has no such shares, and `AskFault` is raised."""
-        return self._row(f"cotail:{unit}:{part(p, 4)}").in_money(self.bs)
+        quantile is not sure (`absent`). Under a common factor the program has no such shares: the client adds them up from the joint means
+        of the unit with each total up to the quantile, and this step is tested and not proved."""
+        if self.plan.common is not None:
+            return share_under_factor(self, unit, exact(p))
+        return self._row(f"cotail:{unit}:{one(exact(p), SHARE_DIGITS, 'cotail')}").in_money(self.bs)
 
+    @of_amount
     def cdf(self, x: Number) -> Row:
         """The probability that the total is at most `x`, which may lie between two buckets or past the grid."""
         amount = exact(x)
         return answered(f"cdf:{plain(amount)}", self._within(math.floor(amount / self.bs)))
 
+    @of_amount
     def sf(self, x: Number) -> Row:
         """The probability that the total is above `x`."""
         amount = exact(x)
         return answered(f"sf:{plain(amount)}", self._above(math.floor(amount / self.bs)))
 
+    @of_amount
     def pmf(self, x: Number) -> Row:
         """The probability that the total is `x`. It is 0 where `x` is below 0 or no whole number of buckets. Past the grid `high`
         is that of all totals there: for a closer one take a larger `log2`."""
@@ -258,6 +311,48 @@ class Book:
         """The mean of a unit, which is the same on every grid: on the least one that takes the unit."""
         return self.unit(name, log2=least_grid(self._line(name), bs=self.bs, timeout=self.timeout)).mean()
 
+    def _members(self) -> Dict[str, str]:
+        """Each name by which a unit is asked for, with its unit."""
+        return dict(zip(self.units, self.units))
+
+    def _with_digits(self, digits: int) -> "Book":
+        """The same book with answers of so many digits."""
+        if digits not in self._finer:
+            self._finer[digits] = Book(self.text, bs=self.bs, log2=self.log2, digits=digits, timeout=self.timeout)
+        return self._finer[digits]
+
+    def _at_least(self, text: str, reach: Optional[Fraction]) -> "Book":
+        """The book of another program, with the same digits; on a grid that goes past `reach`, in money, where one does, else on one that
+        is chosen."""
+        size = bucket(text, timeout=self.timeout)
+        log2 = None if reach is None else max(least_grid(text, bs=size, timeout=self.timeout), math.ceil(reach / size).bit_length())
+        log2 = log2 if log2 is None or log2 <= LARGEST else None
+        return Book(text, bs=size, log2=log2, digits=self.digits, timeout=self.timeout)
+
+    def tower(
+        self, layers: Iterable[Written], reinstatements: Union[None, int, Sequence[Optional[int]]] = None, at: Union[Number, Sequence[Number]] = 1
+    ) -> Tower:
+        """A tower of layers over each claim, such as `["10 xs 10", (20, 20)]`: the expected loss of each, the probabilities that it pays and
+        that it is used up, the expected reinstatement premium and the pure premium. `reinstatements` is their number, one for all layers
+        or one for each, and None is no limit of the year; `at` is the part of the premium that each costs, or a list of them."""
+        return tower_of(self, layers, reinstatements, at)
+
+    def by_unit(self, p: Number = "0.99", year: Optional[Number] = None) -> Table:
+        """A table of the units: the mean of each, its share of the TVaR, and of a `year` of this total, where one is given. The last line
+        is the total, to which each column adds up."""
+        level, names = exact(p), self._members()
+        if self.plan.common is None:
+            self._rows(f"cotail:{unit}:{one(level, SHARE_DIGITS, 'cotail')}" for unit in names.values())
+        lines: List[List[Cell]] = [[name, self.mean_of(name), self.share_of_tail(name, p)] for name in names]
+        lines.append(["total", self.mean(), self.tail(p)])
+        if year is not None:
+            total = exact(year)
+            for line in lines[:-1]:
+                line.append(self.kappa(str(line[0]), total))
+            lines[-1].append(answered(f"year:{plain(total)}", (total, total)))
+        heads = ["unit", "mean", f"TVaR {percent(level)}"]
+        return Table(heads if year is None else [*heads, f"year of {plain(exact(year))}"], lines)
+
     def moments(self, unit: Optional[str] = None) -> Moments:
         """The exact mean, variance and third central moment of the total, or of a unit, in money and without the program.
 
@@ -306,7 +401,7 @@ class Book:
             if each < 1:
                 raise ValueError(f"a return period is at least 1 year, not {each}")
         levels = [1 - 1 / each for each in periods]
-        self._rows(f"{kind}:{part(p)}" for kind in ("q", "tail") for p in levels)
+        self._rows(f"{kind}:{numeral(level, DIGITS)}" for kind in ("q", "tail") for p in levels for level in two(p))
         return Table(["years", "VaR", "TVaR"], ([plain(n), self.q(p), self.tail(p)] for n, p in zip(periods, levels)))
 
     def distribution(self, points: int = MOST_ASKS, *, cells: bool = False) -> Report:
@@ -386,7 +481,8 @@ def in_buckets(word: str, bs: Fraction, cells: int) -> Optional[str]:
         if kind in ("price", "mean"):
             return word
         if kind in ("q", "tail", "cotail"):
-            return ":".join([kind, *parts[:-1], part(parts[-1], 4 if kind == "cotail" else 9)])
+            digits = SHARE_DIGITS if kind == "cotail" else DIGITS
+            return ":".join([kind, *parts[:-1], one(exact(parts[-1]), digits, kind)])
         if kind not in ("pmf", "cdf", "joint", "kappa"):
             return None
         at = exact(parts[-1]) / bs

@@ -5,7 +5,9 @@ from fractions import Fraction
 from typing import Iterable, List, Optional, Type, Union
 
 from . import program
-from .faults import AskFault, BadAnswer
+from .cautions import warn_of
+from .faults import AskFault, BadAnswer, BadStep
+from .hints import steps_hint
 from .reports import Report, read_report
 
 #: Larger than any grid, so the program decides on the text and computes nothing.
@@ -59,6 +61,7 @@ def run(
     options in docs/USAGE.md), and None leaves one out. `ends` is the type of the ends, `Fraction` or `Decimal`.
     `timeout` is in seconds. Raises a `DeclError` where there is no whole report.
     """
+    warn_of(text)
     asks = listed(asks)
     given = options(bs=bs, log2=log2, digits=digits, width=width, mwidth=mwidth, make=make)
     return read_report(program.call(["run", "--format", "json", *given, "--", *asks], text, asks, timeout), asks, ends)
@@ -78,6 +81,7 @@ def report(
     timeout: Optional[float] = None,
 ) -> str:
     """The report as the program writes it, as `text`, `csv` or `json`; the options are those of `run`."""
+    warn_of(text)
     asks = listed(asks)
     given = options(bs=bs, log2=log2, digits=digits, width=width, mwidth=mwidth, make=make)
     return program.call(["run", "--format", form, *given, "--", *asks], text, asks, timeout)
@@ -90,6 +94,7 @@ def check(
 
     The rules on whole buckets are asked at `bs`, and the one on the sum before an aggregate clause at `log2`.
     """
+    warn_of(text)
     try:
         program.call(["run", *options(bs=bs, log2=log2), PAST_EVERY_GRID], text, [PAST_EVERY_GRID], timeout)
     except AskFault:
@@ -140,6 +145,9 @@ def verify(
     """
     source, tail = program.as_text(text), program.as_text(steps)
     joined = source + ("" if source.endswith("\n") or not source else "\n") + "---\n" + tail
-    written = program.call(["verify", *options(bs=bs, log2=log2)], joined, (), timeout)
+    try:
+        written = program.call(["verify", *options(bs=bs, log2=log2)], joined, (), timeout)
+    except BadStep as fault:
+        raise BadStep(fault.told + steps_hint(tail, log2), **fault.facts) from None
     if written != "verified\n":
         raise BadAnswer("decl verified steps, and wrote something else")

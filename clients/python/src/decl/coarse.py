@@ -2,18 +2,25 @@
 
 import math
 from fractions import Fraction
-from typing import Callable, Dict, Iterable, Iterator, List, Optional, Tuple
+from typing import TYPE_CHECKING, Callable, Dict, Iterable, Iterator, List, Optional, Tuple, Union, cast
 
-from .books import Book, Terms, exact, part, price_of
+from .books import LEVELS, RETURN_PERIODS, Book, Terms, exact, price_of
 from .calls import Number, Text
 from .choose import least_grid
-from .faults import NotBetween, RuleFault
-from .plan import Chances, Clause, Unit, moved, plan_of
-from .reports import Row, plain
-from .tables import Table
+from .faults import NoMoments, NotBetween, RuleFault
+from .figures import plain
+from .moments import Moments, of_plan
+from .pages import page_of
+from .pictures import Picture
+from .plan import Chances, Clause, Plan, Unit, moved, plan_of
+from .reports import Row
+from .rules import DIGITS, LAYERS, VALUES
+from .several import of_amount, of_level
+from .tables import Cell, Table
 
-#: The most digits of a numeral, values of a list and layers of a clause.
-DIGITS, VALUES, LAYERS = 11, 1024, 16
+if TYPE_CHECKING:
+    import matplotlib.axes  # type: ignore[import]
+
 #: Rules that another spelling of the same unit may keep: numerals, whole buckets, and how fine numbers are.
 SPELLING = (2, 7, 13, 19)
 #: Counts that rise with their expected number of claims, with `zt` and `zm` too.
@@ -182,9 +189,10 @@ class Between:
         *,
         reach: Optional[Fraction] = None,
         log2: Optional[int] = None,
+        plan: Optional[Plan] = None,
     ) -> None:
         self.low, self.high, self.bs, self.reach, self.log2 = low, high, bs, reach, log2
-        self.timeout = timeout
+        self.timeout, self.plan = timeout, plan
         self._books: Dict[bool, Book] = {}
 
     def __repr__(self) -> str:
@@ -232,22 +240,26 @@ class Between:
         """The mean of the total."""
         return self.ask("mean")
 
+    @of_level
     def q(self, p: Number) -> Row:
         """The least total that is not exceeded with a probability of `p` or more."""
-        return self.ask(f"q:{part(p)}")
+        return self.ask(f"q:{plain(exact(p))}")
 
+    @of_level
     def tail(self, p: Number) -> Row:
         """The mean of the total in its worst `1 - p`."""
-        return self.ask(f"tail:{part(p)}")
+        return self.ask(f"tail:{plain(exact(p))}")
 
     def price(self, terms: Terms) -> Row:
         """A price: the tail means at levels, each times its weight; the terms are those of `Book.price`."""
         return self.ask(price_of(terms))
 
+    @of_amount
     def cdf(self, x: Number) -> Row:
         """The probability that the total is at most `x`."""
         return self.ask(f"cdf:{plain(exact(x))}")
 
+    @of_amount
     def sf(self, x: Number) -> Row:
         """The probability that the total is above `x`."""
         return self.ask(f"sf:{plain(exact(x))}")
@@ -257,11 +269,91 @@ class Between:
         spelling = "inf" if limit is None or limit in ("inf", math.inf) else plain(exact(limit))
         return self.ask(f"layer:{spelling}xs{plain(exact(attachment))}")
 
-    def return_periods(self, years: Iterable[Number] = (10, 50, 100, 200, 250)) -> Table:
+    # What a book makes of these answers holds for two programs too: each of its ends is then that of one of them.
+
+    def return_periods(self, years: Iterable[Number] = RETURN_PERIODS) -> Table:
         """VaR and TVaR of each return period."""
         periods = [exact(each) for each in years]
-        self.each(f"{kind}:{part(1 - 1 / n)}" for kind in ("q", "tail") for n in periods)
+        self.each(f"{kind}:{plain(1 - 1 / n)}" for kind in ("q", "tail") for n in periods)
         return Table(["years", "VaR", "TVaR"], ([plain(n), self.q(1 - 1 / n), self.tail(1 - 1 / n)] for n in periods))
+
+    def describe(self, levels: Iterable[Number] = LEVELS) -> Table:
+        """What the book is worth, as `Book.describe`."""
+        return Book.describe(cast(Book, self), levels)
+
+    def plot(
+        self, axes: "Optional[matplotlib.axes.Axes]" = None, *, years: Iterable[Number] = RETURN_PERIODS
+    ) -> "Union[matplotlib.axes.Axes, Picture]":
+        """The exceedance curve, as `Book.plot`."""
+        return Book.plot(cast(Book, self), axes, years=years)
+
+    def page(self, years: Iterable[Number] = RETURN_PERIODS, *, title: Optional[str] = None) -> str:
+        """A page of HTML on the book, as `Book.page`, without shares of the units, which two programs do not hold."""
+        return page_of(cast(Book, self), [exact(each) for each in years], title or self.name)
+
+    @property
+    def name(self) -> str:
+        """The name of the book."""
+        return self.book(False).name
+
+    @property
+    def units(self) -> Tuple[str, ...]:
+        """The names of its units."""
+        return self.book(False).units
+
+    @property
+    def cells(self) -> int:
+        """The number of buckets of the smaller grid of the two."""
+        return min(self.book(False).cells, self.book(True).cells)
+
+    @property
+    def digits(self) -> int:
+        """The digits of an answer in buckets."""
+        return self.book(False).digits
+
+    @property
+    def spelling(self) -> str:
+        """Both programs."""
+        return f"# from below\n{self.book(False).spelling}\n\n# from above\n{self.book(True).spelling}"
+
+    def inside(self) -> Row:
+        """The probability that the total lies inside the smaller grid."""
+        return self.cdf((self.cells - 1) * self.bs)
+
+    def curve(self, most: int = 4096) -> List[Tuple[Fraction, Fraction, Fraction]]:
+        """At most so many totals in money from 0 on, evenly over the smaller grid, each with two ends of the probability of more, which
+        hold up to the next total."""
+        step = -(-self.cells // most)
+        rows = self.each(f"sf:{plain(at * self.bs)}" for at in range(0, self.cells, step))
+        ends = [(Fraction(row.low or 0), Fraction(1) if row.high is None else Fraction(row.high)) for row in rows]
+        last = self.sf((self.cells - 1) * self.bs).low
+        lows = [low for low, _ in ends[1:]] + [Fraction(last or 0)]
+        return [(at * step * self.bs, low, high) for at, ((_, high), low) in enumerate(zip(ends, lows))]
+
+    def unit(self, name: str) -> "Between":
+        """One unit between two programs, with the factor that the units share."""
+        low, high = (self.book(up)._line(name) for up in (False, True))
+        plan = None if self.plan is None else Plan(None, [each for each in self.plan.units if each.name == name], self.plan.common)
+        return Between(low, high, self.bs, self.timeout, reach=self.reach, log2=self.log2, plan=plan)
+
+    def mean_of(self, name: str) -> Row:
+        """The mean of a unit."""
+        return self.unit(name).mean()
+
+    def moments(self, unit: Optional[str] = None) -> Moments:
+        """The exact moments of the book that the two programs hold, as `Book.moments`. Those of a continuous severity are no
+        fractions, so `NoMoments` is raised for it."""
+        if self.plan is None:
+            raise NoMoments("the moments of a continuous severity are no fractions; mean() has two ends of the mean")
+        if unit is None or unit in self.units:
+            return of_plan(self.plan, unit)
+        raise KeyError(f"the book has no unit {unit}; its units are {', '.join(self.units)}")
+
+    def _repr_html_(self) -> str:
+        return Book._repr_html_(cast(Book, self))
+
+    def _spread(self) -> List[List[Cell]]:
+        return Book._spread(cast(Book, self))
 
 
 def coarser(text: Text, bs: Number, *, timeout: Optional[float] = None) -> Between:
@@ -277,4 +369,4 @@ def coarser(text: Text, bs: Number, *, timeout: Optional[float] = None) -> Betwe
     low, high = (plan.head + "\n".join(side(unit, size, up, timeout) for unit in plan.units) for up in (False, True))
     for each in (low, high):
         least_grid(each, bs=size, timeout=timeout)
-    return Between(low, high, size, timeout)
+    return Between(low, high, size, timeout, plan=plan)

@@ -76,6 +76,31 @@ class GridTooSmall(DeclError):
     log2: int
 
 
+class NumberFault(DeclError, ValueError):
+    """What is given is no number, or no level that an ask takes; the text has the levels beside it."""
+
+
+class DeclWarning(UserWarning):
+    """Something that is read as it stands and may not be meant. `line` and `column` (in bytes) count from 1 and are None where there is no
+    place in a text; `instead` is what it would be, and empty where that is not seen."""
+
+    def __init__(self, told: str, *, line: Optional[int] = None, column: Optional[int] = None, instead: str = "") -> None:
+        super().__init__(told)
+        self.told, self.line, self.column, self.instead = told, line, column, instead
+
+
+class TableFault(DeclError):
+    """A table of which no book is made. `row` counts from 1, in a file as its lines do, and is None where no row is at fault; `column` is
+    the name of the column, and None where there is none."""
+
+    row: Optional[int]
+    column: Optional[str]
+
+
+class NotDeclared(DeclError):
+    """A book that no program declares, such as the net of a layer with a limit of the year; the text says what holds of it."""
+
+
 class NotBetween(DeclError):
     """A book that two programs on the coarser bucket cannot hold between them; the text says why."""
 

@@ -13,6 +13,7 @@ from typing import Any, List, Optional, Set, Tuple, Type, Union
 
 from . import program
 from .reports import Report, read_report
+from .words import options_of
 
 
 def parted(line: str) -> Tuple[List[str], Optional[str], Set[str]]:
@@ -32,24 +33,10 @@ def parted(line: str) -> Tuple[List[str], Optional[str], Set[str]]:
     return kept, into, flags
 
 
-def asks_of(words: List[str]) -> List[str]:
-    """The words that are no options and no values of options."""
-    found = []
-    value = False
-    for word in words:
-        if value:
-            value = False
-        elif word.startswith("--"):
-            value = "=" not in word and word != "--"
-        else:
-            found.append(word)
-    return found
-
-
 def answer(line: str, text: str) -> Tuple[Report, Optional[str], Set[str]]:
     """The report of a cell, with the name it goes to and the flags of its line."""
     words, into, flags = parted(line)
-    asks = asks_of(words)
+    asks = options_of(words)[1]
     ends: Union[Type[Fraction], Type[Decimal]] = Fraction if "--fractions" in flags else Decimal
     written = program.call(["run", "--format", "json", *words], text, asks)
     return read_report(written, asks, ends), into, flags

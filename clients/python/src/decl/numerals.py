@@ -11,6 +11,7 @@ from typing import Callable, List, NoReturn, Optional, Tuple
 
 from . import faults
 from .program import place_in
+from .rules import DIGITS as MOST_DIGITS, PERCENT_DIGITS as MOST_DIGITS_OF_PERCENT
 
 BLANKS = re.compile(r"(?:[ \t\r\n\\|;]|(?:#|//)[^\n]*)+")
 TOKEN = re.compile(
@@ -20,8 +21,6 @@ NUMBER = re.compile(r"(\d*)\.?(\d*)(?:[eE]([+-]?\d+))?")
 #: The spellings of a number that both languages have, with the groups of digits that are counted.
 SHARED = re.compile(r"(\d+)/(\d+)|(?:(\d+)\.?(\d*)|\.(\d+))(%?)")
 INFINITE = ("inf", "unlimited", "unlim")
-MOST_DIGITS = 11
-MOST_DIGITS_OF_PERCENT = 9
 #: A number has no more digits than this, and no higher power, while it is worked out; and no part of one is above `MOST`.
 MOST_EXPONENT = 64
 MOST = 10**200

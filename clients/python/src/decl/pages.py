@@ -4,8 +4,9 @@ import html
 from fractions import Fraction
 from typing import TYPE_CHECKING, Iterable, List, Optional
 
+from .figures import plain
 from .pictures import LOOK as PICTURES, Shares, colour, exceedance, shares, tail_shares
-from .reports import Row, plain
+from .reports import Row
 from .tables import Cell, Table, joined
 
 if TYPE_CHECKING:

@@ -8,8 +8,9 @@ from fractions import Fraction
 from itertools import groupby
 from typing import TYPE_CHECKING, Container, Iterable, List, Optional, Tuple, TypeVar, Union
 
-from .faults import AskFault
-from .reports import Row, plain
+from .faults import AskFault, NotBetween
+from .figures import plain
+from .reports import Row
 from .tables import joined
 
 if TYPE_CHECKING:
@@ -263,10 +264,13 @@ def of_totals(book: "Book", longest: Fraction) -> Tuple[int, List[List[int]], st
 
 def shares(book: "Book", years: Iterable[Fraction]) -> Optional[Shares]:
     """Each unit's share of the total, as areas one on the other that fill the total, up to the VaR of the longest return period; None
-    where there is one unit."""
+    where there is one unit, and for a book between two programs, which do not hold shares."""
     if len(book.units) == 1:
         return None
-    last, drawn, ending = of_totals(book, max(years, default=Fraction(200)))
+    try:
+        last, drawn, ending = of_totals(book, max(years, default=Fraction(200)))
+    except NotBetween:
+        return None
     told = f"The mean of each unit's outcome in a year of the total below, in percent of that total, {ending}"
     if not drawn:
         return Shares("", told)
@@ -341,7 +345,7 @@ def tail_shares(book: "Book", years: Iterable[Fraction]) -> Optional[Shares]:
         return None
     try:
         book.each(f"{kind}:{level}" for level in levels.values() for kind in ("tail", *(f"cotail:{name}" for name in book.units)))
-    except AskFault:
+    except (AskFault, NotBetween):
         return None
     # over all years, which is the period of 1 year, the shares are the means of the units
     rows = {each: (book.tail(level), [book.share_of_tail(name, level) for name in book.units]) for each, level in levels.items()}

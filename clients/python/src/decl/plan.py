@@ -12,23 +12,8 @@ from typing import Callable, Dict, List, Optional, Tuple
 from .calls import Text, fmt
 from .choose import all_tokens, tokens_of, value_of
 from .faults import RuleFault, rule_sentence
+from .rules import ATOMS, DIGITS, LAYERS, NAMES, PERCENT_DIGITS, RANGE_FINEST, VALUES
 
-NAMES = {
-    2: "BadNumeral",
-    3: "BadRange",
-    4: "ListTooLong",
-    5: "LengthsDiffer",
-    6: "NotOne",
-    9: "WeightsDiffer",
-    10: "NoneAbove",
-    11: "Overlap",
-    12: "ShareAboveOne",
-    14: "ZeroMean",
-    23: "DuplicateSeverity",
-    24: "UnknownSeverity",
-    26: "CommonUnit",
-    27: "CommonShape",
-}
 #: Amounts (or counts) with their probabilities.
 Chances = Dict[Fraction, Fraction]
 
@@ -124,7 +109,7 @@ def is_range(item: List[Fraction]) -> bool:
     """Whether the item of a list is one number, or a range upward with a common denominator of at most 1,000,000."""
     over = reduce(lambda one, other: one * other // gcd(one, other), (number.denominator for number in item))
     upward = len(item) == 1 or (item[0] <= item[1] and (len(item) == 2 or item[2] > 0))
-    return upward and (len(item) == 1 or over <= 10**6)
+    return upward and (len(item) == 1 or over <= RANGE_FINEST)
 
 
 def size(item: List[Fraction]) -> int:
@@ -151,7 +136,7 @@ def apart(layers: Tuple[Layer, ...]) -> bool:
 def is_good(numeral: str) -> bool:
     """Whether a numeral has no more digits than it may, and is no fraction over 0."""
     parts = numeral.rstrip("%").replace(".", "").split("/")
-    return max(map(len, parts)) <= (9 if "%" in numeral else 11) and (len(parts) == 1 or int(parts[1]) > 0)
+    return max(map(len, parts)) <= (PERCENT_DIGITS if "%" in numeral else DIGITS) and (len(parts) == 1 or int(parts[1]) > 0)
 
 
 def broken(rule: int, what: str, number: int) -> RuleFault:
@@ -203,9 +188,9 @@ class Reader:
             while self.passed(":"):
                 item.append(self.numeral())
             self.holds(3, is_range(item))
-            self.holds(4, len(item) == 1 or size(item) <= 1024)
+            self.holds(4, len(item) == 1 or size(item) <= VALUES)
             found += spread(item)
-        self.holds(4, len(found) <= 1024)
+        self.holds(4, len(found) <= VALUES)
         return found
 
     def chances(self) -> Chances:
@@ -249,7 +234,7 @@ class Reader:
         layers = [self.cession()]
         while self.passed("and"):
             layers.append(self.cession())
-        self.holds(4, len(layers) <= 16)
+        self.holds(4, len(layers) <= LAYERS)
         return Clause(net, tuple(layers))
 
     def exposure(self) -> Tuple[Optional[Fraction], Optional[Fraction]]:
@@ -275,7 +260,7 @@ class Reader:
         atoms = []
         while self.passed("dsev"):
             atoms.append(self.atom())
-        self.holds(4, len(atoms) <= 64)
+        self.holds(4, len(atoms) <= ATOMS)
         if not self.passed("wts"):
             return atoms[0]
         found: Chances = {}

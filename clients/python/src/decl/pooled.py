@@ -8,9 +8,8 @@ from typing import Callable, List, Optional
 from .coarse import Ends, numeral
 from .faults import NotBetween
 from .plan import Chances, Unit, broken
+from .rules import FINEST
 
-#: The units' shares of all expected claims times the probabilities of their amounts have at most this common denominator.
-FINEST = 2**30
 #: Numerator and denominator of the expected claims above 0, times 1 and the factor's variance, are below this.
 MOST_PARTS = 2**48
 #: Up to this common denominator of the units' shares each unit keeps its expected number of claims.

@@ -10,6 +10,7 @@ from fractions import Fraction
 from typing import TYPE_CHECKING, Iterable, Iterator, List, Optional, Tuple, Type, Union, overload
 
 from .faults import BadAnswer
+from .figures import decimals, formatted, plain
 
 if TYPE_CHECKING:
     import pandas  # type: ignore[import]
@@ -31,22 +32,6 @@ def float_above(end: Union[Fraction, Decimal, int]) -> float:
     return near if Fraction(near) >= Fraction(end) else math.nextafter(near, math.inf)
 
 
-def plain(value: Fraction) -> str:
-    """The number as its shortest decimal, or as a fraction such as `7/3` where no decimal is equal to it."""
-    rest, places = value.denominator, 0
-    for prime in (2, 5):
-        power = 0
-        while rest % prime == 0:
-            rest //= prime
-            power += 1
-        places = max(places, power)
-    if rest > 1:
-        return str(value)
-    digits = str(abs(value.numerator) * 10**places // value.denominator).rjust(places + 1, "0")
-    sign = "-" if value < 0 else ""
-    return sign + (f"{digits[:-places]}.{digits[-places:]}" if places else digits)
-
-
 def ask_in_money(ask: str, bs: Fraction) -> str:
     """The ask with its amounts times the size of a bucket: `layer:10xs5` is `layer:10000xs5000` where that is 1000."""
     kind, *parts = ask.split(":")
@@ -62,7 +47,7 @@ class Row:
 
     The ends of a bracket (`q`) in buckets are `int`. `high` is None where it is beyond the grid; both ends are None for
     a tail mean, a price or a share of one beyond the grid, and for a share in a total that is too rare. `written` has the ends as they are printed:
-    in buckets as the program wrote them, in money as the decimals (or fractions) that are equal to them. Where `money`
+    in buckets as the program wrote them, in money as the decimals that are equal to them, rounded outward where there are none. Where `money`
     is true, the amounts of the ask and the ends are in money, else in buckets.
     """
 
@@ -80,7 +65,7 @@ class Row:
     @property
     def state(self) -> str:
         """`closed` with two ends, `beyond` with an end past the grid, `absent` with no share."""
-        return {"beyond": "beyond", "-": "absent"}.get(self.written[1], "closed")
+        return "beyond" if "beyond" in self.written else "absent" if "-" in self.written else "closed"
 
     @property
     def unit(self) -> str:
@@ -89,8 +74,38 @@ class Row:
             return "probability"
         return "money" if self.money else "buckets"
 
+    @property
+    def why(self) -> str:
+        """Why an end is not there, in a sentence; empty where both are."""
+        return why_of(self.kind, self.state)
+
+    @property
+    def mid(self) -> Fraction:
+        """The middle of the two ends, which nothing proves: the value lies from `low` to `high`."""
+        if self.low is None or self.high is None:
+            raise ValueError(f"{self} has no middle: {self.why}")
+        return (Fraction(self.low) + Fraction(self.high)) / 2
+
     def __str__(self) -> str:
         return f"{self.ask} {self.written[0]} {self.written[1]}"
+
+    def __format__(self, spec: str) -> str:
+        """Both ends by a format such as `,.2f`, rounded outward; without one, the row as it is printed."""
+        low, high = (None if end is None else Fraction(end) for end in (self.low, self.high))
+        return formatted((low, high), self.written, spec) if spec else str(self)
+
+    def __int__(self) -> int:
+        """The value where both ends are the same whole number, as those of most quantiles."""
+        if self.low is None or self.low != self.high or Fraction(self.low).denominator > 1:
+            raise TypeError(f"{self} is no whole number: take low or high, or mid, which nothing proves")
+        return int(self.low)
+
+    def __float__(self) -> float:
+        raise TypeError(f"{self} has two ends: take low or high, or float(row.mid), which nothing proves")
+
+    def _repr_html_(self) -> str:
+        cells = "".join(f"<td>{html.escape(cell)}</td>" for cell in (self.ask, *self.written))
+        return f"<table><tr>{cells}</tr></table>"
 
     def holds(self, value: Union[Fraction, Decimal, float, int, str]) -> Optional[bool]:
         """Whether the value, in the unit of the row, lies from `low` to `high`; None where that is open."""
@@ -112,7 +127,8 @@ class Row:
         if self.unit == "probability":
             return Row(ask, self.low, self.high, self.written, True)
         low, high = (end if end is None else Fraction(end) * bs for end in (self.low, self.high))
-        first, last = (word if end is None else plain(end) for end, word in zip((low, high), self.written))
+        shown = decimals(low or Fraction(0), high or Fraction(0))
+        first, last = (word if end is None else decimal for end, word, decimal in zip((low, high), self.written, shown))
         return Row(ask, low, high, (first, last), True)
 
 
@@ -181,6 +197,17 @@ class Report(Sequence[Row]):
         frame["low"] = pandas.Series([low for low, _ in ends], dtype=kind)
         frame["high"] = pandas.Series([high for _, high in ends], dtype=kind)
         return frame
+
+
+def why_of(kind: str, state: str) -> str:
+    """Why a row of this kind has no end, or none above."""
+    if state == "closed":
+        return ""
+    if state == "beyond":
+        return "The grid ends before the distribution is sure to reach so far: take a larger log2, or larger buckets."
+    if kind == "cotail":
+        return "The quantile is not sure to be one total, or its total is not sure to have a probability of at least 1/65,536."
+    return "The total cannot occur, or is not sure to have a probability of at least 1/65,536: larger buckets make each total likelier."
 
 
 def rounded(row: Row) -> Tuple[float, float]:

@@ -1,7 +1,31 @@
-"""Each typing rule in a sentence, by its number. docs/LANGUAGE.md has them as a table, with examples."""
+"""The typing rules for messages: each in a sentence, by its number, with the bounds that the client keeps to. The program decides;
+docs/LANGUAGE.md has the rules as a table, with examples."""
 
 from typing import Dict
 
+#: The most digits of a numeral, of one before a percent sign, values of a list, atoms of a severity, layers of a clause and units.
+DIGITS, PERCENT_DIGITS, VALUES, ATOMS, LAYERS, UNITS = 11, 9, 1024, 64, 16, 16
+#: The greatest common denominator of a fine list and of a range, and the most expected claims of a Poisson unit.
+FINEST, RANGE_FINEST, CLAIMS = 2**30, 10**6, 4096
+#: The counts of claims.
+COUNTS = ("fixed", "poisson", "geometric", "bernoulli", "binomial", "mixed")
+#: The rules that are asked where a text is read here, by their names.
+NAMES: Dict[int, str] = {
+    2: "BadNumeral",
+    3: "BadRange",
+    4: "ListTooLong",
+    5: "LengthsDiffer",
+    6: "NotOne",
+    9: "WeightsDiffer",
+    10: "NoneAbove",
+    11: "Overlap",
+    12: "ShareAboveOne",
+    14: "ZeroMean",
+    23: "DuplicateSeverity",
+    24: "UnknownSeverity",
+    26: "CommonUnit",
+    27: "CommonShape",
+}
 SENTENCES: Dict[int, str] = {
     1: "Two units have the same name; each unit of a portfolio needs its own.",
     2: "A numeral has at most 11 digits (9 before a percent sign, 11 in each part of a fraction) and no fraction is over 0.",

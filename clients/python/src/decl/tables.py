@@ -1,11 +1,14 @@
 """Tables of answers: each cell is a text or a row of a report, which has two ends."""
 
 import html
+import importlib
 import math
+import os
 from collections.abc import Sequence
 from fractions import Fraction
-from typing import TYPE_CHECKING, Any, Iterable, Iterator, List, Tuple, Union, overload
+from typing import TYPE_CHECKING, Any, Dict, Iterable, Iterator, List, Tuple, Union, overload
 
+from .figures import short
 from .reports import Row, rounded
 
 if TYPE_CHECKING:
@@ -21,15 +24,6 @@ def places_of(value: Fraction) -> int:
     return max(0, min(9, DIGITS - len(str(int(abs(value))))))
 
 
-def short(value: Fraction, places: int, up: bool, marks: bool = False) -> str:
-    """The value as a decimal of so many places, rounded up or down; with `marks`, thousands are parted by commas."""
-    scaled = value * 10**places
-    whole = math.ceil(scaled) if up else math.floor(scaled)
-    before, behind = divmod(abs(whole), 10**places)
-    sign = "-" if whole < 0 else ""
-    return sign + (f"{before:,}" if marks else str(before)) + (f".{behind:0{places}}" if places else "")
-
-
 def shown(row: Row, marks: bool = False) -> Tuple[str, str]:
     """The two ends of a row, rounded outward to a few digits; the words of the program where an end is not there."""
     ends = [None if end is None else Fraction(end) for end in (row.low, row.high)]
@@ -37,7 +31,7 @@ def shown(row: Row, marks: bool = False) -> Tuple[str, str]:
     if all(end is None or end.denominator == 1 for end in ends) and row.unit != "probability":
         places = 0
     low, high = (
-        word if end is None else short(end, places, up, marks) for end, word, up in zip(ends, row.written, (False, True))
+        word if end is None else short(end, places, up, "," if marks else "") for end, word, up in zip(ends, row.written, (False, True))
     )
     return low, high
 
@@ -110,3 +104,35 @@ class Table(Sequence[Tuple[Cell, ...]]):
             for end, side in ((0, "low"), (1, "high")):
                 frame[f"{name} {side}"] = pandas.Series([pair[end] for pair in ends], dtype=float if floats else object)
         return frame
+
+    def to_html(self) -> str:
+        """The table as HTML, its ends rounded outward."""
+        return self._repr_html_()
+
+    def to_excel(self, path: "Union[str, os.PathLike[str]]", sheet: str = "Table") -> None:
+        """Writes the table to a file of Excel, by openpyxl or pandas: a column of answers becomes two, whose ends are rounded outward."""
+        frame = self._columns()
+        try:
+            openpyxl = importlib.import_module("openpyxl")
+        except ImportError:
+            importlib.import_module("pandas").DataFrame(frame).to_excel(path, sheet_name=sheet, index=False)
+            return
+        book = openpyxl.Workbook()
+        page = book.active
+        page.title = sheet
+        page.append(list(frame))
+        for line in zip(*frame.values()):
+            page.append([cell if isinstance(cell, str) or math.isfinite(cell) else None for cell in line])
+        book.save(path)
+
+    def _columns(self) -> "Dict[str, List[Union[str, float]]]":
+        """The columns of a sheet, by their heads."""
+        found: Dict[str, List[Union[str, float]]] = {}
+        for at, name in enumerate(self.columns):
+            cells = [line[at] for line in self.lines]
+            if all(isinstance(cell, str) for cell in cells):
+                found[name] = [str(cell) for cell in cells]
+                continue
+            for end, side in ((0, "low"), (1, "high")):
+                found[f"{name} {side}"] = [cell if isinstance(cell, str) else rounded(cell)[end] for cell in cells]
+        return found

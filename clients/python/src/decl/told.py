@@ -3,7 +3,7 @@
 import re
 from typing import Any, Dict, List, Sequence, Tuple, Type
 
-from . import faults, words as sentences
+from . import faults, hints, words as sentences
 from .expected import Refusal, expected, listed
 
 Reason = Tuple[Type[faults.DeclError], Dict[str, Any], str]
@@ -30,7 +30,7 @@ def fault_of(
     if status == 3:
         return text_fault(told, text, refusal)
     if status in (2, 4, 8):
-        return ask_fault(status, told, words, asks)
+        return ask_fault(status, told, text, words, asks)
     plain: Dict[int, Tuple[Type[faults.DeclError], str]] = {
         1: (faults.NoWords, "decl: the system did not give the words"),
         5: (faults.ReadFault, told or "decl: the input could not be read"),
@@ -54,6 +54,7 @@ def text_fault(told: str, text: str, refusal: Refusal) -> faults.DeclError:
         facts["expected"] = expected(text, line, column, refusal)
         if facts["expected"]:
             sentence = f"A program goes on here with {listed(facts['expected'])}."
+    sentence += hints.text_hint(reason, facts, text, line, column)
     if text.startswith("\ufeff"):
         sentence = 'A byte-order mark stands before the text, and is no part of it: read the file with encoding="utf-8-sig".'
     elif sentences.like_a_file(text):
@@ -91,11 +92,13 @@ def text_reason(reason: str) -> Reason:
         sentence = f"{word} is continuous; give its amounts with their probabilities instead, as dsev [..] [..]."
         if word in BETWEEN:
             sentence = f"{word} is continuous; decl.between(text) holds the book between two programs that list its amounts."
+        else:
+            sentence += f" decl.between takes {', '.join(BETWEEN)}, and not {word}."
         return faults.ContinuousSeverity, {"word": word}, sentence
     return faults.TextFault, {}, "docs/USAGE.md tells the faults of a text."
 
 
-def ask_fault(status: int, told: str, words: Sequence[str], asks: List[str]) -> faults.DeclError:
+def ask_fault(status: int, told: str, text: str, words: Sequence[str], asks: List[str]) -> faults.DeclError:
     """The exception for words that are not understood, or for an ask that cannot be answered."""
     found = ASK.fullmatch(told)
     if found is None:
@@ -104,7 +107,10 @@ def ask_fault(status: int, told: str, words: Sequence[str], asks: List[str]) -> 
         return faults.UsageFault(f"{told}\n  {shown}\n{sentences.words_sentence(words)}", ask=None)
     ask, reason = int(found[1]), found[2]
     shown = faults.pointed_word(asks, ask) if ask < len(asks) else ""
-    kind, facts, sentence = ask_reason(status, reason, asks[ask] if ask < len(asks) else "", words)
+    word = asks[ask] if ask < len(asks) else ""
+    kind, facts, sentence = ask_reason(status, reason, word, words)
+    if status == 8 and reason == "no such unit":
+        sentence += hints.units_sentence(text, word.split(":")[1] if ":" in word else "")
     return kind(f"{told}\n{shown}\n{sentence}", ask=ask, **facts)
 
 
@@ -121,4 +127,4 @@ def ask_reason(status: int, reason: str, ask: str, words: Sequence[str]) -> Reas
         return faults.AskFault, {"reason": reason}, "Units that share a factor have no share of the tail mean here; ask for kappa instead."
     if status == 8:
         return faults.AskFault, {"reason": reason}, sentences.grid_sentence(words)
-    return faults.UsageFault, {}, sentences.ask_sentence(ask)
+    return faults.UsageFault, {}, sentences.ask_sentence(ask) + hints.ask_hint(ask, sentences.FORM)

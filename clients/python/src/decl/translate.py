@@ -11,6 +11,7 @@ from .faults import RuleFault, rule_sentence
 from .numerals import TOO_LONG, Numbers, Numeral, Token, spelled
 from .plan import Chances, Reader
 from .program import as_text
+from .rules import UNITS as MOST_UNITS, VALUES as MOST_VALUES
 
 Item = Tuple[Numeral, ...]
 Entry = TypeVar("Entry")
@@ -22,8 +23,6 @@ KEYWORDS = frozenset(
 #: Words that are no keywords, and no names either.
 NO_NAMES = frozenset("lognorm expon pareto weibull norm uniform beta chistogram note geometric zt zm common".split())
 COUNTS = ("fixed", "poisson", "geometric", "bernoulli")
-MOST_UNITS = 16
-MOST_VALUES = 1024
 MOST_ATOMS = 64
 #: What has no counterpart, by its word.
 NONE = {
