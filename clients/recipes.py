@@ -4,7 +4,7 @@
 A recipe is worked from its treaty: what is paid of a claim or of a year is a function of an amount of money, and not read from
 the DecL text. Each command of docs/RECIPES.md that writes rows must have its recipe here; so have the towers of
 docs/FROM-AGGREGATE.md, and the coarser buckets of docs/USAGE.md. The figures in the sentences of docs/RECIPES.md are worked, and
-the rows that its examples in Python print.
+the rows that its examples and its ten tasks in Python print.
 Probabilities are whole numbers of which ONE make 1, the low ends of clients/opinion/cells.py. That the pages show what the program writes is checked by
 examples/check.py. The last line is 'N passed, M failed'.
 """
@@ -19,7 +19,8 @@ from opinion.cells import ONE, Cells, convolve, poisson
 from opinion.words import asked
 
 ROOT = pathlib.Path(__file__).resolve().parent.parent
-sys.path.insert(0, str(ROOT / "examples"))
+sys.path[:0] = [str(ROOT / "examples"), str(ROOT / "clients" / "python" / "tests")]
+from apart import Year as Worked  # noqa: E402
 from check import commands  # noqa: E402
 
 MOST = 10_000  # amounts of a year are worked up to here; a year above it has a probability below 2^-240
@@ -395,7 +396,7 @@ PERIOD = re.compile(r" *(\d+) +(\d+) +([\d.]+) to ([\d.]+)")
 
 def python_books():
     """Each row and figure of the ten books in Python, of at most five lines each."""
-    page = (ROOT / "docs/RECIPES.md").read_text(encoding="utf-8").split("## The same books in Python\n")[1]
+    page = (ROOT / "docs/RECIPES.md").read_text(encoding="utf-8").split("## The same books in Python\n")[1].split("\n## ")[0]
     parts = page.split("\n\n")
     books = {head: body.splitlines() for head, body in zip(parts, parts[1:]) if head.endswith(":") and body.startswith("    >>>")}
     books = {head: [line[4:] for line in body] for head, body in books.items() if "import decl" not in body[0]}
@@ -417,6 +418,180 @@ def python_books():
     yield low <= 1000 * reinstated(2, 80) <= high <= low + 2, "the pure premium in Python is another one"
     ratio = books[next(head for head in books if head.startswith("A loss ratio"))][-1]
     yield int(ratio) == Fraction(100 * GROSS.quantile(Fraction(9, 10)), 150), "the loss ratio in Python is another one"
+
+
+def tower():
+    """Each layer of the tower: what it costs a year, that it pays, that both limits are used up, and the premium for reinstatements."""
+    events = [1, 2, 3, 4, 5, 6, 7, 8, 10, 12, 14, 16, 18, 20, 24, 28, 32, 36, 40, 48, 56, 64, 72, 80, 100, 120, 140, 160, 180, 200]
+    for limit, attachment in ((20, 20), (40, 40), (100, 100)):
+        paid = {}
+        for amount in events:  # in units of 500
+            part = layer(limit, attachment)(amount)
+            paid[part] = paid.get(part, 0) + 1
+        year = Worked.poisson(Fraction(5, 2), paid, 2 * limit + 1)
+        loss, again = 500 * year.layer(2 * limit), year.layer(limit) / limit
+        yield [loss, 1 - year.cdf(0), 1 - year.cdf(2 * limit - 1), again, loss / (1 + again) * again, loss / (1 + again)]
+
+
+def share_then_stop_loss():
+    """The year that is gross, ceded and net of the quota share and of the stop loss on what it leaves."""
+    stop = layer(20, 60)
+    for treaty in (whole, lambda x: Fraction(2, 5) * x + stop(Fraction(3, 5) * x), lambda x: net(stop)(Fraction(3, 5) * x)):
+        year = GROSS.after(treaty)
+        yield [year.value(ask) for ask in ("mean", "q:0.99", "tail:0.99")]
+
+
+def changed_zeros():
+    """No claim, the mean and the VaR of a Poisson count, and of those whose probability of no claim is another one."""
+    base = Worked.poisson(2, {amount: 1 for amount in range(1, 7)}, 128)
+    none = base.cells[0]
+    for chance in (None, 0, Fraction(3, 10)):
+        part = 1 if chance is None else (1 - chance) / (1 - Fraction(none, ONE))
+        first = none if chance is None else int(chance * ONE)
+        year = Worked([first, *(int(part * cell) for cell in base.cells[1:])], part * base.mean)
+        yield [year.cdf(0), year.mean, year.q(Fraction(99, 100))]
+
+
+def common_factor():
+    """VaR and TVaR; and of each line its mean, its share of the TVaR and of a year of 60. Under the factor with one claim of the line, the
+    rest of the year is that of a factor of a shape larger by 1."""
+    amounts = [[1, 2, 5], [1, 2, 4], [1, 2, 3], [1, 2, 2], [1, 2]]
+    claims = [{x: Fraction((at + 1) * line.count(x), len(line)) for x in line} for at, line in enumerate(amounts)]
+    mixed, p, shape, cells = {}, Fraction(199, 200), 4, 192
+    for line in claims:
+        for x, part in line.items():
+            mixed[x] = mixed.get(x, 0) + int(6 * part)
+    year = Worked.gamma(15, shape, mixed, cells)
+    larger = Worked.gamma(15 * Fraction(shape + 1, shape), shape + 1, mixed, cells)
+    at = year.q(p)
+    yield [at]
+    yield [year.tail(p)]
+
+    def joint(line, total):
+        return sum(x * part * Fraction(larger.cells[total - x], ONE) for x, part in line.items() if x <= total)
+
+    for line in claims:
+        mean = sum(x * part for x, part in line.items())
+        left = (year.cdf(at) - p) * ONE / year.cells[at]
+        above = mean - sum(joint(line, total) for total in range(at + 1)) + left * joint(line, at)
+        yield [mean, above / (1 - p), joint(line, 60) * ONE / year.cells[60]]
+    yield [year.mean, year.tail(p), 60]
+
+
+def six_lines():
+    """The mean of each line and its share of the TVaR, and those of the total; twice, since they are the same on both grids."""
+    years = [Worked.poisson(at, {5 * at: 1, 10 + at: 1, 40: 1}, 1024) for at in range(1, 7)]
+    p, lines = Fraction(99, 100), []
+    for year in years:
+        others = [other for other in years if other is not year]
+        rest = sum(others[1:], others[0])
+        lines.append([year.mean, year.share_of_tail(rest, p)])
+    total = sum(years[1:], years[0])
+    return 2 * [*lines, [total.mean, total.tail(p)]]
+
+
+def lognormal_layer():
+    """What 20 claims cost in 5,000,000 xs 1,000,000, by the limited means of a lognormal amount; in floating point."""
+    variance = math.log(1 + 2**2)
+    mu, sigma = math.log(400_000) - variance / 2, math.sqrt(variance)
+
+    def normal(x):
+        return (1 + math.erf(x / math.sqrt(2))) / 2
+
+    def limited(x):
+        z = (math.log(x) - mu) / sigma
+        return 400_000 * normal(z - sigma) + x * (1 - normal(z))
+
+    yield [Fraction(20 * (limited(6_000_000) - limited(1_000_000)))]
+
+
+def apportioned(values, parts):
+    """Whole numbers in proportion that add up to so many parts: rounded down, and one more for the largest remainders."""
+    shares = [value * parts / sum(values) for value in values]
+    found = [math.floor(each) for each in shares]
+    for at in sorted(range(len(shares)), key=lambda at: found[at] - shares[at])[: parts - sum(found)]:
+        found[at] += 1
+    return found
+
+
+def spreadsheet():
+    """VaR and TVaR of the 40 lines, the mean of line 7 and its share of the TVaR, and those of the total. As the page of the client says,
+    weights are billionths, and expected claims of an amount the tenths of millionths of a claim."""
+    years, p, parts = [], Fraction(99, 100), 10**7
+    weights = apportioned([Fraction("0.333333")] * 3, 10**9)
+    for at in range(40):
+        treaty, claims = layer(12 + at % 5, at % 3), 1 + Fraction(at, 20)
+        chances = {}
+        for step, weight in zip((1, 2, 3), weights, strict=True):
+            amount = treaty(5 * step + at % 4)
+            chances[amount] = chances.get(amount, 0) + claims * Fraction(weight, 10**9)
+        counted = dict(zip(chances, apportioned(list(chances.values()), round(claims * parts)), strict=True))
+        years.append(Worked.poisson(Fraction(sum(counted.values()), parts), counted, 1500))
+    rest = sum([year for at, year in enumerate(years) if at != 7][1:], years[0])
+    total = rest + years[7]
+    yield [total.q(p)]
+    yield [total.tail(p)]
+    yield [years[7].mean]
+    yield [years[7].share_of_tail(rest, p)]
+    yield [total.mean]
+    yield [total.tail(p)]
+
+
+def structures():
+    """Mean, VaR and TVaR of the five books, and these less those of the gross one."""
+    asks = ("mean", "q:0.99", "tail:0.99")
+    gross = [GROSS.value(ask) for ask in asks]
+    for year in (GROSS, NET, fire(net(QUOTA)), GROSS.after(net(layer(150, 150))), NET.after(net(layer(100, 100)))):
+        values = [year.value(ask) for ask in asks]
+        yield values if year is GROSS else [*values, *(value - first for value, first in zip(values, gross))]
+
+
+#: The ten tasks, each by the first words of its paragraph, with the values of each line that it prints.
+TASKS = {
+    "A catastrophe tower": tower,
+    "A quota share, then a stop loss": share_then_stop_loss,
+    "Changed zeros": changed_zeros,
+    "A common factor": common_factor,
+    "Capital of six lines": six_lines,
+    "A price": lambda: [[GROSS.value("price:1/2@0+3/10@9/10+1/5@99/100")]],
+    "A layer of a lognormal severity": lognormal_layer,
+    "A spreadsheet of 40 lines": spreadsheet,
+    "Five structures of one book": structures,
+    "A page for the chief actuary": lambda: [[1000], [GROSS.value("mean")], [GROSS.value("q:0.99")]],
+}
+CELL = re.compile(r"(-?[\d.]+)(?: to (-?[\d.]+))?")
+
+
+def ends_in(line):
+    """The two ends of each figure of a line that is printed: those of a row, or of the cells of a table."""
+    line = line.replace(",", "")
+    row = re.fullmatch(r"\S+ (-?[\d.]+) (-?[\d.]+)", line)
+    if row and ":" in line.split(" ")[0] or line.startswith("mean "):
+        return [row.groups()]
+    cells = (CELL.fullmatch(cell) for cell in re.split(r"  +", line.strip()))
+    return [(cell[1], cell[2] or cell[1]) for cell in cells if cell]
+
+
+def ten_tasks():
+    """Each figure that the ten tasks print, and that each takes at most three lines beyond its data."""
+    page = (ROOT / "docs/RECIPES.md").read_text(encoding="utf-8").split("## Ten tasks of a desk\n")[1]
+    parts = page.split("\n\n")
+    blocks = {head.split("**")[1].rstrip("."): body for head, body in zip(parts, parts[1:]) if body.startswith("    >>>")}
+    yield list(blocks) == list(TASKS), f"docs/RECIPES.md has other tasks: {', '.join(blocks)}"
+    for (name, body), values in zip(blocks.items(), TASKS.values()):
+        lines = [line[4:] for line in body.strip("\n").splitlines()]
+        code = [line for line in lines if line.startswith((">>>", "..."))]
+        begun = [at for at, line in enumerate(code) if line.startswith(">>>")]
+        data = [at for at in begun if re.match(r">>> [A-Z]+ = ", code[at])]
+        after = [next((end for end in begun if end > at), len(code)) for at in data]
+        yield len(code) - sum(end - at for at, end in zip(data, after)) <= 3, f"{name} takes more than three lines beyond its data"
+        printed = [ends for ends in map(ends_in, lines[len(code) :]) if ends]
+        worked = [list(each) for each in values()]
+        yield [len(ends) for ends in printed] == [len(each) for each in worked], f"{name} prints another number of figures"
+        for ends, each in zip(printed, worked):
+            for (low, high), value in zip(ends, each):
+                right = Fraction(low) - SLACK <= value <= Fraction(high) + SLACK
+                yield right, f"{name} has another value: {low} to {high} do not hold {float(value)}"
 
 
 def text_of(command):
@@ -455,7 +630,7 @@ def looked_at(page, recipes, all_of_it):
 def main():
     """Looks at each row and each figure."""
     found = [*looked_at("docs/RECIPES.md", RECIPES, True), *looked_at("docs/FROM-AGGREGATE.md", TOWERS, False)]
-    found += [*looked_at("docs/USAGE.md", COARSE, False), *coarse(), *python_books()]
+    found += [*looked_at("docs/USAGE.md", COARSE, False), *coarse(), *python_books(), *ten_tasks()]
     page = " ".join((ROOT / "docs/RECIPES.md").read_text(encoding="utf-8").split())
     found += [(sentence in page, f"docs/RECIPES.md does not say: {sentence}") for sentence in sentences()]
     for passes, wrong in found:

@@ -1,4 +1,5 @@
-"""Years worked apart from the client and the program, in whole numbers of which 2^400 make 1; see clients/worked.py."""
+"""Years worked apart from the client and the program, by the cells of the second opinion (clients/opinion/cells.py): whole numbers of which
+ONE make 1."""
 
 import pathlib
 import sys
@@ -6,10 +7,24 @@ from fractions import Fraction
 
 sys.path.insert(0, str(pathlib.Path(__file__).resolve().parents[2]))
 
-from worked import ONE, convolution, gamma, poisson  # noqa: E402
+from opinion.cells import ONE, Cells, convolve, gamma, poisson  # noqa: E402
 
 #: What the cells of a year leave out, rounded down at each step, is less than this.
-SLACK = Fraction(1, 1 << 200)
+SLACK = Fraction(1, 1 << 100)
+
+
+def above_0(mean, severity):
+    """The expected number of claims above 0, the chances of their amounts, and the mean of the year; `severity` has whole weights by
+    amounts."""
+    total, above = sum(severity.values()), {amount: weight for amount, weight in severity.items() if amount}
+    parts = sum(above.values())
+    expected = Fraction(mean) * parts / total
+    return expected, {x: Fraction(weight, parts) for x, weight in above.items()}, Fraction(mean) * sum(x * w for x, w in above.items()) / total
+
+
+def padded(found, cells):
+    """The low ends of so many cells."""
+    return found.low + [0] * (cells - len(found.low))
 
 
 class Year:
@@ -20,21 +35,20 @@ class Year:
 
     @classmethod
     def poisson(cls, mean, severity, cells):
-        """A Poisson number of claims; `severity` has whole weights by amounts, of which that of 0 makes no claim."""
-        total = sum(severity.values())
-        above = {amount: weight for amount, weight in severity.items() if amount}
-        expected = Fraction(mean) * sum(above.values()) / total
-        return cls(poisson(expected, above, cells), Fraction(mean) * sum(a * w for a, w in severity.items()) / total)
+        """A Poisson number of claims, whose amounts have whole weights; that of 0 is no claim."""
+        expected, chances, whole = above_0(mean, severity)
+        return cls(padded(poisson(expected, chances, cells), cells), whole)
 
     @classmethod
     def gamma(cls, mean, shape, severity, cells):
-        """A negative binomial number of claims of a whole shape."""
-        total = sum(severity.values())
-        return cls(gamma(Fraction(mean), shape, severity, cells), Fraction(mean) * sum(a * w for a, w in severity.items()) / total)
+        """A negative binomial number of claims of a whole shape, of amounts above 0."""
+        expected, chances, whole = above_0(mean, severity)
+        return cls(padded(gamma(expected, shape, chances, cells), cells), whole)
 
     def __add__(self, other):
         """The sum of two independent years."""
-        return Year(convolution(self.cells, other.cells, len(self.cells)), self.mean + other.mean)
+        cells = len(self.cells)
+        return Year(padded(convolve(Cells(self.cells, 1), Cells(other.cells, 1), cells), cells), self.mean + other.mean)
 
     def after(self, treaty, mean):
         """The year after a treaty on its sum, whose mean is given."""

@@ -8,7 +8,7 @@ import unittest
 import warnings
 from fractions import Fraction
 
-from apart import Year
+from apart import ONE, Year
 from support import Case, decl, main
 
 try:
@@ -304,7 +304,7 @@ class Pooled(Case):
         cls.years = [Year.poisson(Fraction(str(row["claims"])), cls.severity(at), cls.CELLS) for at, row in enumerate(cls.rows[:20])]
         fixed = [0] * cls.CELLS
         for (a, p), (b, q) in itertools.product([(0, 2), (3, 1), (5, 1)], repeat=2):
-            fixed[a + b] += p * q * (1 << 400) // 16
+            fixed[a + b] += p * q * ONE // 16
         cls.years.append(Year(fixed, 4))
         cls.book = decl.from_frame(cls.rows, digits=9)
 
