@@ -73,6 +73,10 @@ class Compared(Case):
         self.assertTrue(table[1][1].low <= Fraction(189, 2) <= table[1][1].high)
         self.assertTrue(table[1][4].holds(0))
 
+    def test_a_book_that_is_refused(self):
+        fault = self.raises(decl.SyntaxFault, decl.compare, {"good": TEXTS["gross"], "bad": "agg"}, "mean")
+        self.assertTrue(str(fault).startswith("book bad: decl: 1:4: syntax"))
+
     def test_few_calls(self):
         with tempfile.TemporaryDirectory() as folder:
             log = pathlib.Path(folder) / "log"

@@ -227,6 +227,7 @@ class Refused(Case):
             ("claims", -1, "is below 0"),
             ("claims", "two", "`two` is no number"),
             ("claims", "1,000", "a number has no comma in it: `1000`"),
+            ("claims", "1,5", "a decimal has a point: `1.5`"),
             ("claims", float("inf"), "is no number"),
             ("claims", True, "is no number"),
             ("name", " ", "the cell is empty"),
@@ -235,6 +236,8 @@ class Refused(Case):
             ("amounts", [1, None], "is no number"),
             ("amounts", "10,000 20,000", "is no number"),
             ("amounts", "10,000", "is no number"),
+            ("amounts", "10,500", "and a list has blanks between its numbers"),
+            ("weights", "0,5 0,5", "a decimal has a point: `0.5`"),
             ("weights", [0.5], "there are 2 amounts and 1 weights"),
             ("weights", None, "the cell is empty"),
             ("count", "poison", "did you mean `poisson`?"),
@@ -356,6 +359,14 @@ class Pooled(Case):
         self.assertTrue(book.unit("Line 3").q(0.99).holds(self.years[3].q(0.99)))
         self.assertEqual(book.moments("Line 3").mean, self.years[3].mean)
         self.assertEqual(book.moments().mean, total.mean)
+
+    def test_its_page(self):
+        """The page has the units of the program, and the mean of each line."""
+        page = self.book.page([10, 50])
+        self.assertIn('data-unit="Pool"', page)
+        self.assertIn("mean of Line 19", page)
+        self.assertTrue(dict(self.book.describe())["mean of Line 7"].holds(self.years[7].mean))
+        self.assertTrue(self.book.share_of_tail("Pool", 0.9).low > 0)
 
     def test_the_program_is_read_again(self):
         again = decl.Book(self.book.text)

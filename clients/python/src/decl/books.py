@@ -431,8 +431,8 @@ class Book:
         for p in levels:
             lines += [[f"VaR {percent(exact(p))}", self.q(p)], [f"TVaR {percent(exact(p))}", self.tail(p)]]
         lines.append(["inside the grid", self.inside()])
-        if len(self.units) > 1:
-            lines += [[f"mean of {name}", self.mean_of(name)] for name in self.units]
+        if len(self._members()) > 1:
+            lines += [[f"mean of {name}", self.mean_of(name)] for name in self._members()]
         return Table(["total", "from .. to"], lines)
 
     def _spread(self) -> List[List[Cell]]:

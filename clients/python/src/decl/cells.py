@@ -26,6 +26,7 @@ class Frame(Protocol):
 #: What a table is read from: a DataFrame, the path of a CSV or an Excel file, or rows of dicts.
 Source = Union[str, "os.PathLike[str]", Iterable[Mapping[str, object]], Frame]
 NUMBER = re.compile(r"([+-]?)(?:(\d+)/(\d+)|((?:\d+\.?\d*|\.\d+)(?:[eE][+-]?\d{1,2})?)(%?))")
+THOUSANDS = re.compile(r"\d{1,3}(?:,\d{3})+(?:\.\d+)?%?")
 EXCEL = (".xlsx", ".xlsm")
 #: A number has no more digits than this before it is read.
 LONGEST = 400
@@ -94,9 +95,11 @@ def shown(cell: object) -> str:
 
 def hint(cell: object) -> str:
     """What a text that is no number would be, where that is seen."""
-    if not isinstance(cell, str) or number_in(cell.replace(",", "")) is None:
+    if not isinstance(cell, str) or "," not in cell or number_in(cell.replace(",", "")) is None:
         return ""
-    return f"; a number has no comma in it: `{cell.replace(',', '')}`, or `{cell.replace(',', '.')}` where it is a decimal"
+    if THOUSANDS.fullmatch(cell.strip()):
+        return f"; a number has no comma in it: `{cell.strip().replace(',', '')}`; and a list has blanks between its numbers"
+    return f"; a decimal has a point: `{cell.strip().replace(',', '.')}`"
 
 
 def is_empty(cell: object) -> bool:
@@ -135,7 +138,8 @@ def number_of(written: str) -> Optional[Fraction]:
 
 
 def items_of(cell: object) -> Sequence[object]:
-    """The items of a list in a cell. A text is parted at blanks and semicolons, where it has some, else at commas."""
+    """The items of a list in a cell. A text is parted at blanks and semicolons, where it has some, else at commas; but one that is as well a
+    number with its thousands parted, as `10,500`, is one item."""
     if not isinstance(cell, str):
         several = getattr(cell, "tolist", None)
         found: object = several() if several else cell
@@ -144,8 +148,8 @@ def items_of(cell: object) -> Sequence[object]:
     inside = cell.strip().lstrip("[(").rstrip(")]").strip()
     if re.search(r"[\s;]", inside):
         return [word.strip(",") for word in re.split(r"[\s;]+", inside) if word.strip(",")]
-    words: List[object] = [*inside.split(",")]
-    return [inside] if any(re.fullmatch(r"0\d+", str(word)) for word in words[1:]) else words
+    words: List[object] = [inside] if THOUSANDS.fullmatch(inside) else [*inside.split(",")]
+    return words
 
 
 def folded(name: object) -> str:

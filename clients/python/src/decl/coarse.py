@@ -352,6 +352,9 @@ class Between:
     def _repr_html_(self) -> str:
         return Book._repr_html_(cast(Book, self))
 
+    def _members(self) -> Dict[str, str]:
+        return dict(zip(self.units, self.units))
+
     def _spread(self) -> List[List[Cell]]:
         return Book._spread(cast(Book, self))
 

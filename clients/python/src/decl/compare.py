@@ -41,6 +41,19 @@ def less(row: Row, first: Row, name: str) -> Row:
     return Row(f"{row.ask} less {name}", low, high, written, True)
 
 
+def named(name: str, fault: DeclError) -> DeclError:
+    """The fault of a book, with its name."""
+    return type(fault)(f"book {name}: {fault.told}", **fault.facts)
+
+
+def rows_of(name: str, book: Union[Text, Book, Between], asks: Iterable[str]) -> List[Row]:
+    """The answers of one of several books."""
+    try:
+        return (Book(book) if isinstance(book, (str, bytes)) else book).each(asks)
+    except DeclError as fault:
+        raise named(name, fault) from None
+
+
 def compare(books: Books, asks: Asks, *, differences: bool = True) -> Table:
     """A table of books by asks in money; with `differences` also of each answer less that of the first book, as two ends.
 
@@ -51,10 +64,9 @@ def compare(books: Books, asks: Asks, *, differences: bool = True) -> Table:
     for book in books.values():
         if isinstance(book, (str, bytes)):
             warn_of(book)
-    made = {name: Book(book) if isinstance(book, (str, bytes)) else book for name, book in books.items()}
-    if not made:
+    rows = {name: rows_of(name, book, names.values()) for name, book in books.items()}
+    if not rows:
         raise ValueError("there is no book to compare")
-    rows = {name: book.each(names.values()) for name, book in made.items()}
     first = next(iter(rows))
     lines: List[List[Cell]] = []
     for name, found in rows.items():
@@ -113,7 +125,7 @@ def run_many(
     lines: List[List[Cell]] = []
     for name, each in zip(texts, found):
         if isinstance(each, DeclError) and not keep_faults:
-            raise type(each)(f"book {name}: {each.told}", **each.facts)
+            raise named(name, each)
         told: List[Cell] = [each.told.splitlines()[0]] * len(names) if isinstance(each, DeclError) else [*each]
         lines.append([name, *told])
     return Table(["book", *names], lines)

@@ -151,7 +151,7 @@ class TableBook(Book):
 
     def _token(self, name: str) -> str:
         """The unit of a line, by the name of either."""
-        if name in self._tokens or name in self.names:
+        if name in self._tokens or name in self.names or name in self.units:
             return self._tokens.get(name, name)
         raise KeyError(f"the table has no line {name}{nearest(name, self._tokens)}")
 
