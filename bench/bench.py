@@ -5,6 +5,7 @@
     bench/bench.py --page PAGE           puts them into the page, between its two marks
     bench/bench.py NAME=PROGRAM..        measures other builds of decl beside this one, in the same run
     bench/bench.py --only WORD           only the programs whose name has the word
+    bench/bench.py --count NAME=PROGRAM..    instructions of decl, by valgrind, and what the other builds take of them
 
 A figure is the median of some calls from start to end, in brackets that of their processor time, and the peak memory of one
 (/usr/bin/time). The tools take turns, so that a busy machine weighs on all of them. Beside decl stand bench/plain.c (the recursion
@@ -175,12 +176,35 @@ def sixteen_poisson():
     ]
 
 
+def gammas(count):
+    """Negative binomial units of 15 claims on, of `[1:5]` to `[1:10]` in turn."""
+    sizes = [(15 + number, 5 + number % 6) for number in range(count)]
+    return [
+        Unit(f"G{number}", f"{claims} claims dsev [1:{most}] mixed gamma 0.5", f"gamma {claims} 4", even(1, most))
+        for number, (claims, most) in enumerate(sizes)
+    ]
+
+
+def beside_coarse():
+    """A binomial unit with amounts 100 apart beside the first 15 of the mixed units."""
+    text = "2 claims dsev [100:300:100] binomial 0.5"
+    return [Unit("C", text, "binomial 4 0.5", apart(100, 300, 100)), *mixed()[:15]]
+
+
 def mixed_cases():
-    """Portfolios of 16 units, of all kinds and of Poisson counts: the total, with the share of one unit, and with those of all."""
+    """Portfolios of 16 units, of all kinds, of negative binomial and of Poisson counts: the total, with the share of one unit, and
+    with those of all."""
     asks = ["--digits", "4", "mean", "cdf:2000", "q:0.99"]
     yield Case("16 mixed units, 4,096 cells", mixed(), asks)
     yield Case("16 mixed units, `kappa` of one, 4,096 cells", mixed(), [*asks, "kappa:M0:2000"])
     yield Case("16 mixed units, `kappa` of each, 4,096 cells", mixed(), [*asks, *kappas(mixed(), 2000)])
+    coarse = "16 units, one of them with amounts 100 apart"
+    yield Case(f"{coarse}, 4,096 cells", beside_coarse(), asks)
+    yield Case(f"{coarse}, `kappa` of each, 4,096 cells", beside_coarse(), [*asks, *kappas(beside_coarse(), 2000)])
+    for count, total in ((8, 700), (16, 1600)):
+        units = gammas(count)
+        words = ["--digits", "4", "mean", f"cdf:{total}", "q:0.99", *kappas(units, total)]
+        yield Case(f"{count} negative binomial units, `kappa` of each, 4,096 cells", units, words)
     port, units, asks = "16 Poisson units `[1:5]` to `[1:10]`", sixteen_poisson(), ["mean", "cdf:1600", "q:0.99"]
     yield Case(f"{port}, 4,096 cells", units, asks)
     yield Case(f"{port}, `kappa` of each, 4,096 cells", units, [*asks, *kappas(units, 1600)])
@@ -360,7 +384,7 @@ def compiled(room, name, library=()):
         return Tool(name, [], "cc is not installed")
     output = room / pathlib.Path(name).stem
     made = subprocess.run(
-        ["cc", "-O3", "-o", output, TOP / "bench" / name, *library, "-lm"], capture_output=True, text=True
+        ["cc", "-O3", "-fcx-limited-range", "-o", output, TOP / "bench" / name, *library, "-lm"], capture_output=True, text=True
     )
     if made.returncode == 0:
         return Tool(f"C, {name}", [str(output)])
@@ -542,13 +566,31 @@ def tables(tools, only, room):
         yield from ["", "Where another tool answers a number outside the ends of decl:", "", *notes]
 
 
+def counted(tool, case, room):
+    """How many instructions one call of a build takes."""
+    (room / "text").write_text(case.source())
+    words = ["valgrind", "--tool=callgrind", f"--callgrind-out-file={os.devnull}", *tool.words(case)]
+    with open(room / "text", "rb") as given:
+        done = subprocess.run(words, stdin=given, stdout=subprocess.DEVNULL, stderr=subprocess.PIPE, text=True)
+    return int(done.stderr.split("Collected :")[1].split()[0])
+
+
+def counts(builds, only, room):
+    """The lines of a table of millions of instructions, and how many times as many the other builds take."""
+    yield "| Program | " + " | ".join(build.name for build in builds) + " |"
+    yield "|---|" + "---|" * len(builds)
+    for case in (case for _, programs in parts(builds[0].command[0]) for case in programs if only in case.name):
+        first, *rest = [counted(build, case, room) for build in builds]
+        yield f"| {case.name} | " + " | ".join([f"{first / 1e6:.1f}", *(f"{many / first:.3f}" for many in rest)]) + " |"
+
+
 def tool_of(tools, name):
     """The tool of this name."""
     return next(tool for tool in tools if tool.name == name)
 
 
-def tools_of(builds, room):
-    """All that is measured, decl first."""
+def builds_of(builds):
+    """The builds of decl, that of this folder first."""
     decl = os.environ.get("DECL") or str(TOP / "crates" / "decl" / "out" / "decl")
     if not os.access(decl, os.X_OK):
         sys.exit(f"bench: there is no program {decl}: make builds it")
@@ -556,8 +598,13 @@ def tools_of(builds, room):
     for build in builds:
         name, program = build.split("=", 1)
         found.append(Tool(f"decl, {name}", [program], is_decl=True))
+    return found
+
+
+def tools_of(builds, room):
+    """All that is measured, decl first."""
     transform = compiled(room, "transform.c", ["-lfftw3"])
-    return [*found, compiled(room, "plain.c"), transform, with_numpy(), with_actuar()]
+    return [*builds_of(builds), compiled(room, "plain.c"), transform, with_numpy(), with_actuar()]
 
 
 def main():
@@ -565,10 +612,15 @@ def main():
     words = argparse.ArgumentParser(description=__doc__, formatter_class=argparse.RawDescriptionHelpFormatter)
     words.add_argument("--page", type=pathlib.Path)
     words.add_argument("--only", default="")
+    words.add_argument("--count", action="store_true")
     words.add_argument("builds", nargs="*", metavar="NAME=PROGRAM")
     asked = words.parse_args()
     with tempfile.TemporaryDirectory() as folder:
         room = pathlib.Path(folder)
+        if asked.count:
+            for line in counts(builds_of(asked.builds), asked.only, room):
+                print(line, flush=True)
+            return
         lines = []
         for line in tables(tools_of(asked.builds, room), asked.only, room):
             lines.append(line)

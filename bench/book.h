@@ -36,7 +36,8 @@ struct unit {
     double probability[MOST_ITEMS];
     double limit, attachment; /* of the aggregate clause; no limit and no attachment: no clause */
     double mean;
-    double *cell;
+    double *cell;   /* after the clause; NULL until something reads them */
+    void *spectrum; /* what bench/transform.c keeps of it */
 };
 
 struct ask {
@@ -54,13 +55,15 @@ struct sums {
 struct book {
     int cells, units, asks;
     double common; /* the coefficient of variation of the factor, 0 without one */
+    double mean;
     struct unit unit[MOST_UNITS];
     struct ask ask[MOST_ASKS];
 };
 
-/* What the two programs do each in its way: the cells of the sum of a unit's claims, and of the sum of so many parts. */
-static double *claims_cells(const struct unit *unit, int cells);
-static double *sum_cells(double *const *part, int parts, int cells);
+/* What the two programs do each in its way: the cells of the sum of a unit's claims, of the sum of all units, and of all but one. */
+static double *claims_cells(struct unit *unit, int cells);
+static double *total_cells(struct book *book);
+static double *others_cells(struct book *book, int left_out);
 
 static double *numbers(char *rest, double *first, int most, int *found) {
     for (*found = 0; *found < most; ++*found) {
@@ -167,18 +170,24 @@ static double unit_mean(const struct unit *unit) {
     return count_mean(unit) * claim;
 }
 
-/* The unit's cells and mean, after its aggregate clause. */
-static void make_unit(struct unit *unit, int cells) {
-    unit->mean = unit_mean(unit);
-    unit->cell = claims_cells(unit, cells);
-    if (unit->limit == 0)
-        return;
+/* The aggregate clause of a unit, on its cells and its mean. */
+static void cede(struct unit *unit, int cells) {
     struct sums sums = sums_of(unit->cell, cells);
     unit->mean -= layer_mean(&sums, unit->mean, unit->limit, unit->attachment);
     double *kept = calloc((size_t)cells, sizeof *kept);
     for (int s = 0; s < cells; s++)
         kept[s - (int)fmin(fmax(s - unit->attachment, 0), unit->limit)] += unit->cell[s];
     unit->cell = kept;
+}
+
+/* The unit's cells, after its clause. */
+static const double *unit_cells(struct unit *unit, int cells) {
+    if (unit->cell == NULL) {
+        unit->cell = claims_cells(unit, cells);
+        if (unit->limit != 0)
+            cede(unit, cells);
+    }
+    return unit->cell;
 }
 
 /* The cells of one gamma unit with the claims of all units under their factor, with so much more in the shape, and the mean in
@@ -193,7 +202,7 @@ static double *pooled(const struct book *book, double more) {
         for (int k = 0; k < book->unit[i].items; k++)
             if (book->unit[i].amount[k] < book->cells)
                 chance[book->unit[i].amount[k]] += book->unit[i].parameter[0] / claims * book->unit[i].probability[k];
-    all.items = 0;
+    all.items = 0, all.spectrum = NULL;
     for (int s = 0; s < book->cells; s++) {
         if (chance[s] == 0)
             continue;
@@ -229,12 +238,7 @@ static const struct others *without(struct book *book, int left_out) {
     static struct others made[MOST_UNITS];
     struct others *others = &made[left_out];
     if (others->cell == NULL) {
-        double *part[MOST_UNITS];
-        int parts = 0;
-        for (int i = 0; i < book->units; i++)
-            if (i != left_out)
-                part[parts++] = book->unit[i].cell;
-        others->cell = sum_cells(part, parts, book->cells);
+        others->cell = others_cells(book, left_out);
         others->sums = sums_of(others->cell, book->cells);
     }
     return others;
@@ -270,7 +274,7 @@ static double weighed(const double *own, const double *other, int x) {
    needed to reach p. */
 static double share(struct book *book, const struct sums *sums, const double *total, int unit, double p) {
     const struct others *others = without(book, unit);
-    const double *own = book->unit[unit].cell;
+    const double *own = unit_cells(&book->unit[unit], book->cells);
     int q = quantile(sums, p);
     double reached = q > 0 ? sums->below[q - 1] : 0;
     double below = q > 0 ? weighed(own, others->sums.below, q - 1) : 0;
@@ -278,8 +282,8 @@ static double share(struct book *book, const struct sums *sums, const double *to
     return (book->unit[unit].mean - below - here) / (1 - p);
 }
 
-static double answer(struct book *book, const struct sums *sums, const double *total, double mean, const struct ask *ask) {
-    double first = ask->parameter[0], second = ask->parameter[1], sum = 0;
+static double answer(struct book *book, const struct sums *sums, const double *total, const struct ask *ask) {
+    double mean = book->mean, first = ask->parameter[0], second = ask->parameter[1], sum = 0;
     if (strcmp(ask->kind, "pmf") == 0)
         return total[(int)first];
     if (strcmp(ask->kind, "cdf") == 0)
@@ -300,25 +304,23 @@ static double answer(struct book *book, const struct sums *sums, const double *t
     int unit = (int)first, x = (int)second;
     if (strcmp(ask->kind, "cotail") == 0)
         return share(book, sums, total, unit, second);
-    sum = book->common > 0 ? joint_under_factor(book, &book->unit[unit], x) : weighed(book->unit[unit].cell, without(book, unit)->cell, x);
+    sum = book->common > 0 ? joint_under_factor(book, &book->unit[unit], x)
+                           : weighed(unit_cells(&book->unit[unit], book->cells), without(book, unit)->cell, x);
     return strcmp(ask->kind, "joint") == 0 ? sum : sum / total[x];
 }
 
 int main(void) {
     static struct book book;
-    double *part[MOST_UNITS], mean = 0;
     read_book(&book);
     for (int i = 0; i < book.units; i++) {
-        if (book.common > 0)
-            book.unit[i].mean = unit_mean(&book.unit[i]);
-        else
-            make_unit(&book.unit[i], book.cells);
-        part[i] = book.unit[i].cell;
-        mean += book.unit[i].mean;
+        book.unit[i].mean = unit_mean(&book.unit[i]);
+        if (book.unit[i].limit != 0)
+            unit_cells(&book.unit[i], book.cells);
+        book.mean += book.unit[i].mean;
     }
-    double *total = book.common > 0 ? pooled(&book, 0) : sum_cells(part, book.units, book.cells);
+    double *total = book.common > 0 ? pooled(&book, 0) : total_cells(&book);
     struct sums sums = sums_of(total, book.cells);
     for (int i = 0; i < book.asks; i++)
-        printf("%.12g\n", answer(&book, &sums, total, mean, &book.ask[i]));
+        printf("%.12g\n", answer(&book, &sums, total, &book.ask[i]));
     return 0;
 }

@@ -120,7 +120,7 @@ static double *stepped(const struct unit *unit, int cells) {
     return recursion(a, b, start_of(unit, a, b, -second * log1p(beta), -second * log1p(beta * some)), unit, cells);
 }
 
-static double *claims_cells(const struct unit *unit, int cells) {
+static double *claims_cells(struct unit *unit, int cells) {
     int steps = strcmp(unit->count, "poisson") == 0 || strcmp(unit->count, "gamma") == 0;
     double *cell, none = none_of(unit);
     if (steps)
@@ -138,10 +138,14 @@ static double *claims_cells(const struct unit *unit, int cells) {
     return cell;
 }
 
-static double *sum_cells(double *const *part, int parts, int cells) {
-    double *sum = calloc((size_t)cells, sizeof *sum);
+/* The cells of the sum of all units but one, or of all where none is left out. */
+static double *others_cells(struct book *book, int left_out) {
+    double *sum = calloc((size_t)book->cells, sizeof *sum);
     sum[0] = 1;
-    for (int i = 0; i < parts; i++)
-        sum = convolution(part[i], sum, cells);
+    for (int i = 0; i < book->units; i++)
+        if (i != left_out)
+            sum = convolution(unit_cells(&book->unit[i], book->cells), sum, book->cells);
     return sum;
 }
+
+static double *total_cells(struct book *book) { return others_cells(book, -1); }
