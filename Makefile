@@ -7,7 +7,8 @@ SHARE := $(DESTDIR)$(PREFIX)/share
 DOC := $(SHARE)/doc/decl
 PACKAGES := build
 INSTALLED := $(BIN)/decl $(SHARE)/man/man1/decl.1 $(SHARE)/bash-completion/completions/decl \
-	$(SHARE)/zsh/site-functions/_decl $(SHARE)/fish/vendor_completions.d/decl.fish
+	$(SHARE)/zsh/site-functions/_decl $(SHARE)/fish/vendor_completions.d/decl.fish \
+	$(SHARE)/vim/vimfiles/ftdetect/decl.vim $(SHARE)/vim/vimfiles/syntax/decl.vim
 PAGES := README.md CHANGELOG.md CONTRIBUTING.md $(wildcard docs/*.md docs/*.svg docs/*.png)
 EXAMPLES := $(wildcard examples/*.* examples/gallery/* examples/many/*)
 CLIENTS := clients/r/decl.R clients/python/README.md clients/python/pyproject.toml $(wildcard clients/python/backend/*.py) \
@@ -50,13 +51,15 @@ help: ## this list
 	@sed -n 's/^\([a-z]*\):.* ## /make \1\t/p' Makefile | expand -t 18
 
 # A program that is older than the sources is installed as it is.
-install: ## installs what was built under PREFIX (/usr/local), with pages and completions; it builds nothing
+install: ## installs what was built under PREFIX (/usr/local), with pages, completions and colours for Vim; it builds nothing
 	@test -x $(PROGRAM) || { echo "decl: there is no $(PROGRAM) to install: 'make' builds it" >&2; exit 1; }
 	install -D -m 755 $(PROGRAM) "$(BIN)/decl"
 	install -D -m 644 docs/decl.1 "$(SHARE)/man/man1/decl.1"
 	install -D -m 644 share/decl.bash "$(SHARE)/bash-completion/completions/decl"
 	install -D -m 644 share/decl.zsh "$(SHARE)/zsh/site-functions/_decl"
 	install -D -m 644 share/decl.fish "$(SHARE)/fish/vendor_completions.d/decl.fish"
+	install -D -m 644 share/vim/ftdetect/decl.vim "$(SHARE)/vim/vimfiles/ftdetect/decl.vim"
+	install -D -m 644 share/vim/syntax/decl.vim "$(SHARE)/vim/vimfiles/syntax/decl.vim"
 	@echo "pages, examples and clients to $(DOC)"
 	@for file in $(PAGES) $(EXAMPLES) $(CLIENTS); do \
 		mode=644; test ! -x "$$file" || mode=755; \

@@ -21,6 +21,7 @@ BUILT = pathlib.Path(os.environ.get("DECL") or ROOT / "crates" / "decl" / "out" 
 PAST = 86400  # seconds after 1970: older than any source
 INSIDE = ["share/man/man1/decl.1", "share/bash-completion/completions/decl", "share/zsh/site-functions/_decl"]
 INSIDE += ["share/fish/vendor_completions.d/decl.fish", "share/doc/decl/CHANGELOG.md", "share/doc/decl/docs/USAGE.md"]
+INSIDE += ["share/vim/vimfiles/ftdetect/decl.vim", "share/vim/vimfiles/syntax/decl.vim"]
 INSIDE += ["share/doc/decl/clients/r/decl.R", "share/doc/decl/clients/python/pyproject.toml", "share/doc/decl/examples/many/one"]
 
 

@@ -26,13 +26,15 @@ PROGRAM = "decl/bin/decl"
 DATE = (2026, 1, 1, 0, 0, 0)
 
 
-def project():
-    """The entries of [project] in pyproject.toml, which are texts and lists of texts."""
-    lines = (HERE / "pyproject.toml").read_text(encoding="utf-8").partition("[project]\n")[2]
+def table(name):
+    """The entries of a table of pyproject.toml, which are texts and lists of texts."""
+    lines = (HERE / "pyproject.toml").read_text(encoding="utf-8").partition(f"[{name}]\n")[2].partition("\n[")[0]
     return {name: ast.literal_eval(value) for name, value in re.findall(r'(?m)^([\w-]+) = (".*"|\[[^]]*\])$', lines)}
 
 
-PROJECT = project()
+PROJECT = table("project")
+#: what Pygments finds of the package
+LEXERS = table('project.entry-points."pygments.lexers"')
 NAME = PROJECT["name"].replace("-", "_")
 VERSION = PROJECT["version"]
 FACTS = f"{NAME}-{VERSION}.dist-info"
@@ -56,6 +58,11 @@ def metadata():
         (HERE / PROJECT["readme"]).read_text(encoding="utf-8"),
     ]
     return "\n".join(lines).encode()
+
+
+def entry_points():
+    """What other packages find of this one (entry_points.txt)."""
+    return "".join(["[pygments.lexers]\n", *(f"{name} = {place}\n" for name, place in LEXERS.items())]).encode()
 
 
 def get_requires_for_build_wheel(config_settings=None):
@@ -83,7 +90,7 @@ def record_line(name, data):
 def write_wheel(folder, files, tag=ANY):
     """Writes a wheel of these files with this tag to the folder; its name."""
     facts = WHEEL.format("true" if tag == ANY else "false", tag)
-    files = files + [(f"{FACTS}/METADATA", metadata()), (f"{FACTS}/WHEEL", facts.encode())]
+    files = files + [(f"{FACTS}/METADATA", metadata()), (f"{FACTS}/WHEEL", facts.encode()), (f"{FACTS}/entry_points.txt", entry_points())]
     record = "".join(record_line(name, data) for name, data in files) + f"{FACTS}/RECORD,,\n"
     files = files + [(f"{FACTS}/RECORD", record.encode())]
     wheel = f"{NAME}-{VERSION}-{tag}.whl"

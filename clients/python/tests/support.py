@@ -35,11 +35,15 @@ class Case(unittest.TestCase):
         self.assertIs(type(raised.exception), kind)
         return raised.exception
 
+    def new_folder(self):
+        """A folder that goes with the test."""
+        room = tempfile.TemporaryDirectory()
+        self.addCleanup(room.cleanup)
+        return pathlib.Path(room.name)
+
     def instead(self, body):
         """Puts a shell script in the place of the program; `$BUILT` names the built one."""
-        folder = tempfile.TemporaryDirectory()
-        self.addCleanup(folder.cleanup)
-        script = pathlib.Path(folder.name) / "decl"
+        script = self.new_folder() / "decl"
         script.write_text(f"#!/bin/sh\nBUILT='{BUILT}'\n{body}\n")
         script.chmod(script.stat().st_mode | stat.S_IXUSR)
         os.environ["DECL"] = str(script)

@@ -26,6 +26,9 @@ facts = importlib.metadata.metadata("decl-client")
 print(facts["Version"] == decl.__version__)
 print((pathlib.Path(decl.__file__).parent / "py.typed").exists())
 print(facts["Description-Content-Type"])
+found = importlib.metadata.entry_points()
+lexers = found.select(group="pygments.lexers") if hasattr(found, "select") else found["pygments.lexers"]
+print(*(f"{each.name} {each.value}" for each in lexers if each.name == "decl"))
 """
 
 
@@ -58,7 +61,7 @@ class Install(Case):
             world = {name: value for name, value in os.environ.items() if name != "PYTHONPATH"}
             tried = subprocess.run([python, "-c", FACTS], capture_output=True, text=True, env=world, cwd=folder)
             self.assertEqual(tried.returncode, 0, tried.stderr)
-            self.assertEqual(tried.stdout.split("\n")[:3], ["True", "True", "text/markdown"])
+            self.assertEqual(tried.stdout.split("\n")[:4], ["True", "True", "text/markdown", "decl decl.highlight:DeclLexer"])
 
     def test_pip_installs_the_folder(self):
         pip = [sys.executable, "-m", "pip"]

@@ -1,6 +1,7 @@
 """The cell magic, in a shell of IPython where it is installed, else in one that keeps what it is given."""
 
 import contextlib
+import html
 import io
 import os
 import tempfile
@@ -66,6 +67,13 @@ class Magic(Case):
             done = shell.run_cell("%%decl --log2 10 --digits 4 mean\n" + BOOK)
         self.assertTrue(done.success)
         self.assertIsNotNone(done.result)
+        written = io.StringIO()
+        with contextlib.redirect_stdout(written):
+            done = shell.run_cell("%%decl mean\nport P\nagg A 2 claims dsev [1;6] poisson")
+        self.assertIsInstance(done.error_in_exec, decl.BadByte)
+        lines = written.getvalue().splitlines()
+        at = lines.index("  agg A 2 claims dsev [1;6] poisson")
+        self.assertEqual(lines[at + 1].index("^"), lines[at].index(";"))
 
     def test_options_with_their_values_and_flags(self):
         shell = Shell()
@@ -82,6 +90,21 @@ class Magic(Case):
         fault = self.raises(decl.UsageFault, shell.run_cell_magic, "decl", "mean pmf", "agg D dfreq [1] dsev [1]")
         self.assertEqual(fault.ask, 1)
         self.assertEqual(fault._render_traceback_(), [f"UsageFault: {fault}"])
+
+    def test_a_caret_stands_under_the_place(self):
+        """In text, and in HTML, where signs of HTML are written out; the text has bytes of two to a sign before the place."""
+        shell = Shell()
+        decl.load_ipython_extension(shell)
+        cell = "port P note{é}\nagg A 2 claims dsev [1:6] note{a < b, ö} poisson <"
+        fault = self.raises(decl.BadByte, shell.run_cell_magic, "decl", "mean", cell)
+        self.assertEqual((fault.line, fault.column), (2, 51))
+        (shown,) = fault._render_traceback_()
+        page = fault._repr_html_()
+        self.assertRegex(page, r"(?s)\A<pre style=[^>]*>BadByte: [^<>]*</pre>\Z")
+        for text in (shown, html.unescape(page)):
+            lines = text.splitlines()
+            at = lines.index("  " + cell.splitlines()[1])
+            self.assertEqual(lines[at + 1].partition("^")[0], " " * lines[at].rindex("<"))
 
 
 if __name__ == "__main__":

@@ -3,6 +3,7 @@
 An exception keeps its facts as attributes, and can be pickled, so that it can come from another process.
 """
 
+import html
 import signal
 from typing import TYPE_CHECKING, Any, Dict, List, Optional, Tuple, Type
 
@@ -38,6 +39,10 @@ class DeclError(Exception):
     def _render_traceback_(self) -> List[str]:
         """In a notebook the message stands alone, with no traceback."""
         return [f"{type(self).__name__}: {self.told}"]
+
+    def _repr_html_(self) -> str:
+        """The message in letters of one width, so that a caret stands under its place there too."""
+        return f'<pre style="white-space: pre; overflow-x: auto">{html.escape(self._render_traceback_()[0])}</pre>'
 
 
 class ProgramNotFound(DeclError):
