@@ -1,6 +1,17 @@
-# Tests of the R client over the built program; the last line is 'N passed, M failed'.
-here <- dirname(sub("^--file=", "", grep("^--file=", commandArgs(), value = TRUE)[1]))
-source(file.path(here, "decl.R"))
+# Tests of the R client over the built program; the last line is 'N passed, M failed'. R CMD check runs them too, on the installed
+# package, where there is a program to run.
+script <- sub("^--file=", "", grep("^--file=", commandArgs(), value = TRUE))
+here <- if (length(script)) dirname(script[1]) else "."
+if (file.exists(file.path(here, "..", "decl.R"))) {
+    source(file.path(here, "..", "decl.R"))
+} else {
+    library(decl)
+    attach(asNamespace("decl"), name = "inside of decl")
+}
+if (!nzchar(Sys.which(Sys.getenv("DECL", "decl")))) {
+    cat("nothing is tested: there is no program decl\n")
+    quit(status = 0)
+}
 passed <- 0
 failed <- 0
 built <- Sys.getenv("DECL")
@@ -159,8 +170,10 @@ test("units under a common factor", {
     found <- fault(decl_run(text, c("mean", "cotail:A:0.8"), log2 = 4))
     stopifnot(found$status == 8L, found$ask == 1L, found$told == "decl: ask 1: no share under a common factor")
 })
-test("the sentences of the rules are those of the Python client", {
-    lines <- readLines(file.path(here, "..", "python", "src", "decl", "rules.py"))
+rules <- file.path(here, "..", "..", "python", "src", "decl", "rules.py")
+if (file.exists(rules)) test("the sentences of the rules are those of the Python client", {
+    lines <- readLines(rules)
+    lines <- lines[-seq_len(grep("^SENTENCES", lines))]
     told <- regmatches(lines, regexec('^ +([0-9]+): "(.*)",$', lines))
     told <- told[lengths(told) == 3L]
     stopifnot(identical(as.integer(vapply(told, `[`, "", 2L)), which(!is.na(decl_sentences))))
@@ -221,6 +234,72 @@ test("a timeout ends the program and what it started", {
 test("a NUL byte, and no UTF-8", {
     stopifnot(grepl("NUL", conditionMessage(fault(decl_run(as.raw(c(97, 0, 98)), "mean")))))
     stopifnot(grepl("UTF-8", conditionMessage(fault(decl_run(as.raw(c(97, 255)), "mean")))))
+})
+
+ends <- function(rows) paste(rows$low, rows$high)
+test("decimals of any length times a fraction, outward", {
+    stopifnot(decl_times("2.000000", c(1, 3), FALSE) == "0.666666666666666", decl_times("2.000000", c(1, 3), TRUE) == "0.666666666666667")
+    # 12345678901234567890.5 times 99999999999, and a fortieth of 7
+    stopifnot(decl_times("12345678901234567890.5", c(99999999999, 1), TRUE) == "1234567890111111110148765432109.5")
+    stopifnot(decl_times("7", c(1, 40), FALSE) == "0.175", decl_times("0", c(250, 1), TRUE) == "0", decl_times("0.04", c(25, 1), TRUE) == "1")
+    stopifnot(decl_complement("0.972222") == "0.027778", decl_complement("0.000000") == "1", decl_complement("1.000000") == "0")
+    stopifnot(decl_complement("0.1234567890123456") == "0.8765432109876544", decl_complement("0.9") == "0.1")
+})
+test("a book in money", {
+    book <- decl_book("agg Dice dfreq [2] dsev [100:600:100]")
+    stopifnot(inherits(book, "decl_book"), book$bs == "100", book$log2 == 4, book$cells == 16)
+    rows <- decl_ask(book, c("mean", "q:0.9", "tail:0.9", "layer:500xs500", "layer:infxs1100"))
+    # 7, 10, 100/9, 78/36 and 1/36 buckets
+    stopifnot(identical(ends(rows), c("700 700", "1000 1000", "1111.1111 1111.1112", "216.6666 216.6667", "2.7777 2.7778")))
+    stopifnot(identical(attr(rows, "bs"), "100"), identical(attr(rows, "cells"), 16L))
+    # 3/36 of at most 350, 1/36 above 1150 and of 200; nothing between two buckets; all below the end of the grid
+    rows <- decl_ask(book, c("cdf:350", "sf:1150", "pmf:200", "pmf:250", "cdf:99999", "sf:1600", "pmf:1600"))
+    stopifnot(identical(ends(rows)[1:4], c("0.083333 0.083334", "0.027777 0.027778", "0.027777 0.027778", "0 0")))
+    numbers <- decl_ask(book, c("cdf:99999", "sf:1600", "pmf:1600"), numeric = TRUE)
+    stopifnot(numbers$low <= c(1, 0, 0), numbers$high >= c(1, 0, 0), numbers$high - numbers$low < 1.1e-6)
+    stopifnot(identical(ends(mean(book)), "700 700"), identical(quantile(book, 0.9)$high, "1000"))
+    table <- decl_return_periods(book, c(10, 36))
+    # the worst of 36 years is 1200, and so is the mean of the worst 1/36 of them
+    stopifnot(identical(table$VaR_low[1], "1000"), identical(table$TVaR_high[1], "1111.1112"))
+    numbers <- decl_return_periods(book, 36, numeric = TRUE)
+    stopifnot(numbers$VaR_low <= 1100, numbers$VaR_high >= 1100, numbers$TVaR_low <= 1200, numbers$TVaR_high >= 1200)
+    stopifnot(identical(capture.output(print(book)), "decl book: 16 buckets of 100"))
+})
+test("shares of the units of a book, and a bucket of a third", {
+    book <- decl_book("port Two agg A dfreq [1] dsev [100 200 300] agg B dfreq [1] dsev [100 200 300] [1/2 1/6 1/3]")
+    # 13/6, 73/27 and 50/9 of the bucket, as the asks in buckets above
+    rows <- decl_ask(book, c("kappa:A:400", "cotail:A:0.8", "tail:0.8", "kappa:A:100"))
+    stopifnot(identical(ends(rows), c("216.6666 216.6667", "270.3703 270.3704", "555.5555 555.5556", "- -")))
+    third <- decl_book("agg T dfreq [1] dsev [1/3 2/3 1]")
+    stopifnot(third$bs == "1/3", identical(ends(mean(third)), "0.666666666666666 0.666666666666667"))
+    stopifnot(identical(ends(decl_ask(third, "q:0.9")), "1 1"), identical(ends(decl_ask(third, "pmf:1/2")), "0 0"))
+    given <- decl_book("agg D dfreq [1] dsev [1:6]", bs = 0.5, log2 = 4)
+    stopifnot(given$bs == "1/2", identical(ends(mean(given)), "3.5 3.5"))
+})
+test("what a book refuses", {
+    book <- decl_book("agg Dice dfreq [2] dsev [100:600:100]")
+    stopifnot(grepl("give decl_book a bs that divides it", conditionMessage(fault(decl_ask(book, "layer:250xs100")))))
+    stopifnot(grepl("'1e+05' is no amount", conditionMessage(fault(decl_ask(book, paste0("cdf:", 1e5)))), fixed = TRUE))
+    stopifnot(grepl("'-5' is no amount", conditionMessage(fault(decl_ask(book, "cdf:-5")))), fault(decl_ask(book, "kappa:B:100"))$status == 8)
+    stopifnot(fault(decl_book("agg D dfreq [1] dsev [1 2] [1/2 1/3]"))$rule == 6, fault(decl_book(die, bs = 2, log2 = 4))$rule == 7)
+})
+test("asks by the hundred, fewer digits where an ask needs more width than there is, and a grid that loses much", {
+    book <- decl_book(dice)
+    rows <- decl_ask(book, sprintf("cdf:%d/25", 0:299))
+    stopifnot(nrow(rows) == 300L, rows$low[1] == "0.000000", rows$low[300] == "0.916666", rows$high[300] == "0.916667")
+    instead(c('for last; do :; done', 'case "$*" in *"--digits 1 "*) exec "$BUILT" "$@";; *"--width 1000000000 "*mean*) echo "decl: ask 0: needs width 9" >&2; exit 4;; esac', 'exec "$BUILT" "$@"'))
+    stopifnot(identical(ends(decl_ask(book, "mean")), "7 7"))
+    instead(c(
+        'for last; do :; done',
+        'case $last in cdf:*) echo "{\\"bs\\":\\"1\\",\\"cells\\":65536,\\"rows\\":[{\\"ask\\":\\"$last\\",\\"high\\":\\"0.9\\",\\"low\\":\\"0.8\\"}]}"; exit;; esac',
+        'exec "$BUILT" "$@"'
+    ))
+    told <- NULL
+    book <- withCallingHandlers(decl_book(die), warning = function(found) {
+        told <<- conditionMessage(found)
+        invokeRestart("muffleWarning")
+    })
+    stopifnot(book$log2 == 16, grepl("may lose a probability of 0.200000", told))
 })
 
 cat(passed, "passed,", failed, "failed\n")
