@@ -11,7 +11,8 @@ INSTALLED := $(BIN)/decl $(SHARE)/man/man1/decl.1 $(SHARE)/bash-completion/compl
 	$(SHARE)/vim/vimfiles/ftdetect/decl.vim $(SHARE)/vim/vimfiles/syntax/decl.vim
 PAGES := README.md CHANGELOG.md CONTRIBUTING.md $(wildcard docs/*.md docs/*.svg docs/*.png)
 EXAMPLES := $(wildcard examples/*.* examples/gallery/* examples/many/*)
-CLIENTS := clients/r/decl.R clients/python/README.md clients/python/pyproject.toml $(wildcard clients/python/backend/*.py) \
+CLIENTS := $(wildcard clients/r/*.* clients/r/R/* clients/r/man/* clients/r/tests/*) clients/r/DESCRIPTION clients/r/LICENSE \
+	clients/r/NAMESPACE clients/r/.Rbuildignore clients/python/README.md clients/python/pyproject.toml $(wildcard clients/python/backend/*.py) \
 	$(wildcard clients/python/src/decl/*.*) clients/check_steps.py clients/check_steps.c \
 	clients/second_opinion.py $(wildcard clients/opinion/*.py)
 

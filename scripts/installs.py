@@ -22,6 +22,7 @@ PAST = 86400  # seconds after 1970: older than any source
 INSIDE = ["share/man/man1/decl.1", "share/bash-completion/completions/decl", "share/zsh/site-functions/_decl"]
 INSIDE += ["share/fish/vendor_completions.d/decl.fish", "share/doc/decl/CHANGELOG.md", "share/doc/decl/docs/USAGE.md"]
 INSIDE += ["share/vim/vimfiles/ftdetect/decl.vim", "share/vim/vimfiles/syntax/decl.vim"]
+INSIDE += ["share/doc/decl/clients/r/R/book.R", "share/doc/decl/clients/r/NAMESPACE", "share/doc/decl/clients/r/man/decl_book.Rd"]
 INSIDE += ["share/doc/decl/clients/r/decl.R", "share/doc/decl/clients/python/pyproject.toml", "share/doc/decl/examples/many/one"]
 
 
@@ -250,6 +251,7 @@ class Version(unittest.TestCase):
         self.assertEqual(self.found("docs/decl.1", r'^\.TH DECL 1 "([0-9-]+)" "decl ([0-9.]+)"'), (date, version))
         self.assertEqual(released, version)
         self.assertEqual(self.found("clients/python/pyproject.toml", r'^version = "(.*)"$'), (version,))
+        self.assertEqual(self.found("clients/r/DESCRIPTION", r"^Version: (.*)$"), (version,))
         self.assertEqual(self.found("clients/python/src/decl/__init__.py", r'^__version__ = "(.*)"$'), (version,))
 
     def test_the_pages_name_packages_of_the_number(self):

@@ -284,9 +284,12 @@ test("what a book refuses", {
     stopifnot(fault(decl_book("agg D dfreq [1] dsev [1 2] [1/2 1/3]"))$rule == 6, fault(decl_book(die, bs = 2, log2 = 4))$rule == 7)
 })
 test("asks by the hundred, fewer digits where an ask needs more width than there is, and a grid that loses much", {
-    book <- decl_book(dice)
-    rows <- decl_ask(book, sprintf("cdf:%d/25", 0:299))
-    stopifnot(nrow(rows) == 300L, rows$low[1] == "0.000000", rows$low[300] == "0.916666", rows$high[300] == "0.916667")
+    # 3/36 of at most 3, and 35/36 of at most 11
+    book <- decl_book(dice, log2 = 9)
+    rows <- decl_ask(book, sprintf("cdf:%d", 0:299))
+    stopifnot(nrow(rows) == 300L, identical(ends(rows)[c(4, 12)], c("0.083333 0.083334", "0.972222 0.972223")))
+    rows <- decl_ask(book, c("cdf:299", "cdf:2.5"), numeric = TRUE)
+    stopifnot(rows$low <= c(1, 1 / 36), rows$high >= c(1, 1 / 36), rows$high - rows$low < 1.1e-6)
     instead(c('for last; do :; done', 'case "$*" in *"--digits 1 "*) exec "$BUILT" "$@";; *"--width 1000000000 "*mean*) echo "decl: ask 0: needs width 9" >&2; exit 4;; esac', 'exec "$BUILT" "$@"'))
     stopifnot(identical(ends(decl_ask(book, "mean")), "7 7"))
     instead(c(
