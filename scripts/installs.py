@@ -204,7 +204,14 @@ class Packages(Case):
             raise unittest.SkipTest("python3 -m venv does not run here")
         done = subprocess.run([fresh / "bin" / "pip", "install", "--no-index", packed], capture_output=True, text=True)
         self.assertEqual(done.returncode, 0, done.stderr)
-        self.runs_examples(ROOT, fresh / "bin" / "decl")
+        self.assertEqual([each for each in INSIDE if not (fresh / each).is_file()], [])
+        pages = fresh / "share" / "doc" / "decl"
+        self.runs_examples(pages, fresh / "bin" / "decl")
+        for page in ("README.md", "clients/python/README.md"):
+            text = (pages / page).read_text(encoding="utf-8")
+            named = set(re.findall(r"(?<![\w/])(?:docs|examples|clients/python|clients/r)/[\w./-]*\w\.\w+", text))
+            self.assertGreater(len(named), 3)
+            self.assertEqual([each for each in sorted(named) if not (pages / each).is_file()], [], page)
         ask = "import decl; print(decl.program.find()); print(decl.run('agg D dfreq [2] dsev [1:6]', ['pmf:2']), end='')"
         done = subprocess.run([fresh / "bin" / "python", "-c", ask], env={}, cwd=self.room, capture_output=True, text=True)
         self.assertRegex(done.stdout, rf"\A{self.room}/venv/lib/\S*/decl/bin/decl\npmf:2 0.027777 0.027778\n\Z", done.stderr)

@@ -3,7 +3,8 @@
 This is what PEP 517 asks of a build backend, and PEP 660 of an editable install. A wheel is a zip file of
 the modules, with a folder of facts beside them (PEP 427). The facts are those of pyproject.toml.
 
-    decl_wheel.py PROGRAM FOLDER    a wheel for one platform, with the program inside and a command `decl` that is it
+    decl_wheel.py PROGRAM SHARE FOLDER    a wheel for one platform, with the program inside and a command `decl` that is it, and with the
+                                          files below SHARE, the pages and examples, for the folder `share` of the environment
 """
 
 import ast
@@ -24,6 +25,7 @@ PLATFORM = "py3-none-manylinux_2_34_x86_64"
 #: where the program stands in a wheel that has it; `decl.program` looks there
 PROGRAM = "decl/bin/decl"
 DATE = (2026, 1, 1, 0, 0, 0)
+EXECUTABLE, PLAIN = 0o100755, 0o100644
 
 
 def table(name):
@@ -40,6 +42,8 @@ VERSION = PROJECT["version"]
 FACTS = f"{NAME}-{VERSION}.dist-info"
 #: the command of that wheel, which pip puts on the path of the environment
 COMMAND = f"{NAME}-{VERSION}.data/scripts/decl"
+#: the folder whose files pip puts into `share` of the environment
+SHARED = f"{NAME}-{VERSION}.data/data/share"
 
 
 def metadata():
@@ -81,6 +85,17 @@ def modules():
     return [(path.relative_to(source).as_posix(), path.read_bytes()) for path in paths]
 
 
+def shared(folder):
+    """The files below a folder, each with its name in the wheel."""
+    paths = sorted(path for path in pathlib.Path(folder).rglob("*") if path.is_file())
+    return [(f"{SHARED}/{path.relative_to(folder).as_posix()}", path.read_bytes()) for path in paths]
+
+
+def is_executable(name, data):
+    """Whether a file of the wheel is a program: the one inside, its command, and scripts among the pages and examples."""
+    return name in (PROGRAM, COMMAND) or (name.startswith(SHARED) and data.startswith(b"#!"))
+
+
 def record_line(name, data):
     """The line of RECORD for one file: its name, checksum and length."""
     digest = base64.urlsafe_b64encode(hashlib.sha256(data).digest()).rstrip(b"=").decode()
@@ -97,7 +112,7 @@ def write_wheel(folder, files, tag=ANY):
     with zipfile.ZipFile(pathlib.Path(folder) / wheel, "w", zipfile.ZIP_DEFLATED) as archive:
         for name, data in files:
             entry = zipfile.ZipInfo(name, DATE)
-            entry.external_attr = (0o100755 if name in (PROGRAM, COMMAND) else 0o100644) << 16
+            entry.external_attr = (EXECUTABLE if is_executable(name, data) else PLAIN) << 16
             entry.compress_type = zipfile.ZIP_DEFLATED
             archive.writestr(entry, data)
     return wheel
@@ -108,11 +123,11 @@ def build_wheel(wheel_directory, config_settings=None, metadata_directory=None):
     return write_wheel(wheel_directory, modules())
 
 
-def build_wheel_with(program, folder):
-    """The wheel with the modules, the program and a command that is it."""
+def build_wheel_with(program, share, folder):
+    """The wheel with the modules, the program, a command that is it, and the files below a folder."""
     command = (HERE / "backend" / "command.py").read_bytes()
     inside = [(PROGRAM, pathlib.Path(program).read_bytes()), (COMMAND, command)]
-    return write_wheel(folder, modules() + inside, PLATFORM)
+    return write_wheel(folder, modules() + inside + shared(share), PLATFORM)
 
 
 def build_editable(wheel_directory, config_settings=None, metadata_directory=None):
@@ -133,4 +148,4 @@ def build_sdist(sdist_directory, config_settings=None):
 
 
 if __name__ == "__main__":
-    print(f"{sys.argv[2]}/{build_wheel_with(*sys.argv[1:])}")
+    print(f"{sys.argv[3]}/{build_wheel_with(*sys.argv[1:])}")
