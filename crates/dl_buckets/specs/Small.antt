@@ -1,6 +1,6 @@
 -- The bounds of a unit's numbers: small parts, and lists of some values, but not too many.
-use Rattle.std.specs.Prelude.{◌≡◌, ◌<◌, ◌≤◌, ◌^◌, ⊤, false, length, All, IfSome}
-use Rattle.dl_limits.specs.Limits.{most_values}
+use Rattle.std.specs.Prelude.{◌≡◌, ◌<◌, ◌≤◌, ⊤, false, length, All, IfSome}
+use Rattle.dl_limits.specs.Limits.{most_values, numeral_bound}
 use Rattle.dl_exact.specs.Fraction.{Fraction}
 use Rattle.dl_sev.specs.Buckets.{HasPartsOf18Digits}
 use Rattle.dl_buckets.specs.declared.grid.ValueList.{ValueList}
@@ -15,8 +15,8 @@ use Rattle.dl_buckets.specs.declared.grid.GridCount.TheVariants.{Exposed, Listed
 
 -- both parts have at most as much as 11 digits write
 pub record IsSmall (x : Fraction) : Type 0 where
-  pub num : x.num < 10 ^ 11
-  pub den : x.den ≤ 10 ^ 11
+  pub num : x.num < numeral_bound
+  pub den : x.den ≤ numeral_bound
 
 -- 1 to 1,024 values
 pub record IsValueList (l : ValueList) : Type 0 where

@@ -22,7 +22,7 @@ pub use Rattle.dl_frac.specs.Exact.{FitsFrac}
 pub use Rattle.dl_grid.proofs.WidthLaws.{cv_is, mixed_next, mixed_none, pw_doubled, pw_even, pw_none, pw_odd, pw_one, size_joined, size_step, up_quotient}
 pub use Rattle.dl_grid.specs.Width.{IsSizeWithin, sum_spread}
 unfoldable pub use Rattle.dl_grid.specs.Width.{convolution_spread, mixed_spread, power_spread, rounded_spread, up}
-pub use Rattle.dl_limits.specs.Limits.{IsPlanScale, most_amount, most_cells, most_claims_budget, most_expected, most_horizon, most_none_budget, most_operands, most_plan_cells, most_unit_budget, rarest_parts}
+pub use Rattle.dl_limits.specs.Limits.{IsPlanScale, most_amount, most_cells, most_claims_budget, most_expected, most_horizon, most_none_budget, most_operands, most_plan_cells, most_tail_budget, most_unit_budget, rarest_parts}
 pub use Rattle.dl_plan.proofs.Fits.{given_ok, given_value}
 pub use Rattle.dl_plan.proofs.Means.{admitted_fits}
 pub use Rattle.dl_plan.proofs.ValidUnits.{alone_valid, mean_most, near_in_any, new_zero}
@@ -33,7 +33,7 @@ pub use Rattle.dl_plan.specs.declared.plan.Freq.TheVariants.{Bernoulli, Binomial
 pub use Rattle.dl_plan.specs.declared.plan.Plan.{Plan}
 pub use Rattle.dl_plan.specs.declared.plan.Unit.{Unit as UnitOfPlan}
 pub use Rattle.dl_plan.specs.declared.settings.Term.{Term}
-pub use Rattle.dl_budget.specs.Asks.{most_tail_budget, index_of, tail_budget}
+pub use Rattle.dl_budget.specs.Asks.{index_of, tail_budget}
 unfoldable pub use Rattle.dl_budget.specs.Asks.{in_digits}
 pub use Rattle.dl_budget.specs.Claims.{claims_budget, none_budget}
 unfoldable pub use Rattle.dl_budget.specs.Claims.{count_budget, gamma_budget, poisson_budget}

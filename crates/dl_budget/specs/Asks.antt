@@ -50,10 +50,6 @@ abbrev pub tail_budget : (S : ℕ) → Plan → Fraction → ℕ
 tail_budget S plan p =
     tail_width p (mean_budget S plan) plan.cells (total_budget S plan)
 
--- a tail mean's budget is at most this
-abbrev pub most_tail_budget : ℕ
-most_tail_budget = 2 ^ 98 - 2 ^ 90
-
 -- that of a price: of each term its part of the tail mean, rounded once at each end
 abbrev pub price_budget : (S : ℕ) → Plan → List Term → ℕ
 price_budget S plan terms =

@@ -1,6 +1,6 @@
 -- The budgets of a plan that most asks need.
-use Rattle.std.specs.Prelude.{ℕ, ◌≡◌, ◌^◌, ◌<◌, ◌≤◌, Option, IfSome, length, get_or, map, option_map}
-use Rattle.dl_limits.specs.Limits.{budget_bound, most_mean_budget}
+use Rattle.std.specs.Prelude.{ℕ, ◌≡◌, ◌<◌, ◌≤◌, Option, IfSome, length, get_or, map, option_map}
+use Rattle.dl_limits.specs.Limits.{budget_bound, most_mean_budget, most_joint_budget, most_unit_mean_budget}
 use Rattle.dl_plan.specs.declared.plan.Plan.{Plan}
 use Rattle.dl_plan.specs.Valid.{IsValid}
 use Rattle.dl_budget.specs.declared.once.Budgets.{Budgets}
@@ -25,8 +25,8 @@ pub record AreUnitBudgets (S : ℕ) (plan : Plan) (of : UnitBudgets) : Type 0 wh
   pub unit : of.unit < length plan.units
   pub joint : of.joint ≡ joint_budget S plan of.unit
   pub mean : of.mean ≡ get_or (map (unit_mean_budget S plan.cells) plan.units) of.unit 0
-  pub joint_small : of.joint ≤ 2 ^ 63
-  pub mean_small : of.mean ≤ 2 ^ 63
+  pub joint_small : of.joint ≤ most_joint_budget
+  pub mean_small : of.mean ≤ most_unit_mean_budget
 
 -- the budgets of the unit with this number; none if there is no number
 pub record AreBudgetsOfUnit (S : ℕ) (plan : Plan) (number : Option ℕ) (of : Option UnitBudgets) : Type 0 where

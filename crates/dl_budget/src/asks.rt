@@ -1,12 +1,12 @@
 //! The budget of an ask, what it needs, and whether it passes.
 
 ghost use Rattle.std.specs.Prelude.{ℕ, ◌≡◌, ◌+◌, ◌*◌, ◌^◌, ◌<◌, ◌≤◌, ◌↔◌, List, None, Some, All, IfSome, IsTrue, length, map};
-ghost use Rattle.dl_limits.specs.Limits.{IsPlanScale, most_digits, most_units, most_ask_budget};
+ghost use Rattle.dl_limits.specs.Limits.{IsPlanScale, most_digits, most_units, most_ask_budget, most_term_budget, most_joint_budget, most_alone_joint_budget, most_kappa_budget, most_share_den, most_tail_budget};
 ghost use Rattle.dl_exact.specs.Fraction.{whole, ◌*ℚ◌};
 ghost use Rattle.dl_grid.specs.Width.{up};
 ghost use Rattle.dl_plan.specs.Prelude.{ArePriced, most_weight_parts, IsLevel, IsValid};
 ghost use Rattle.dl_plan.specs.declared.settings.Ask.TheVariants.{LayerMean};
-ghost use Rattle.dl_budget.specs.Asks.{IsInside, IsAskOf, index_of, named_unit, ask_budget, layer_mean_budget, tail_budget, most_tail_budget, price_budget, joint_by, joint_budget, kappa_budget, cotail_budget, in_digits, needed, Passes};
+ghost use Rattle.dl_budget.specs.Asks.{IsInside, IsAskOf, index_of, named_unit, ask_budget, layer_mean_budget, tail_budget, price_budget, joint_by, joint_budget, kappa_budget, cotail_budget, in_digits, needed, Passes};
 ghost use Rattle.dl_budget.specs.Once.{AreBudgetsOf, AreBudgetsOfUnit, AreUnitBudgets, HasBudgets};
 
 use crate::once::{Budgets, UnitBudgets, budgets_of};
@@ -102,7 +102,7 @@ fn part_budget(weight: Frac, tail: u128) -> u128
     requires weight { weight.num ≤ most_weight_parts }
     requires small { tail ≤ most_tail_budget }
     ensures value { result ≡ up (weight *ℚ whole tail) + 2 }
-    ensures small { result ≤ 2 ^ 118 }
+    ensures small { result ≤ most_term_budget }
 {
     (weight.num() as u128 * tail).div_ceil(weight.den() as u128) + 2
 }
@@ -129,7 +129,7 @@ pub fn joint_budget<const B: u32>(plan: &Plan, i: u32) -> u128
     requires valid { IsValid plan.now }
     requires unit { i < length plan.now.units }
     ensures value { result ≡ joint_budget (2 ^ B) plan.now i }
-    ensures small { result ≤ 2 ^ 63 }
+    ensures small { result ≤ most_joint_budget }
 {
     match plan.common {
         Some(shape) => {
@@ -147,7 +147,7 @@ fn joint_alone<const B: u32>(plan: &Plan, i: u32) -> u128
     requires valid { IsValid plan.now }
     requires unit { i < length plan.now.units }
     ensures value { result ≡ joint_by None (2 ^ B) plan.now i }
-    ensures small { result ≤ 2 ^ 62 }
+    ensures small { result ≤ most_alone_joint_budget }
 {
     let unit = unit_budget::<B>(&plan.units.as_slice()[i as usize], plan.cells);
     plan.cells as u128 * convolution_spread::<B>(plan.cells, unit, others_budget::<B>(plan, i))
@@ -196,7 +196,7 @@ fn kappa_budget<const B: u32>(plan: &Plan, budgets: Budgets, of_unit: UnitBudget
     requires budgets { AreBudgetsOf (2 ^ B) plan.now budgets }
     requires unit { AreUnitBudgets (2 ^ B) plan.now of_unit }
     ensures value { result ≡ kappa_budget (2 ^ B) plan.now of_unit.unit }
-    ensures small { result ≤ 2 ^ 80 }
+    ensures small { result ≤ most_kappa_budget }
 {
     let total = plan.cells as u128 * budgets.total;
     RAREST_PARTS * (total + of_unit.joint) + 2
@@ -208,7 +208,7 @@ fn cotail_budget<const B: u32>(plan: &Plan, budgets: Budgets, of_unit: UnitBudge
     requires budgets { AreBudgetsOf (2 ^ B) plan.now budgets }
     requires unit { AreUnitBudgets (2 ^ B) plan.now of_unit }
     requires level { IsLevel p }
-    requires few { p.den ≤ 10 ^ 4 }
+    requires few { p.den ≤ most_share_den }
     ensures value { result ≡ cotail_budget (2 ^ B) plan.now of_unit.unit p }
     ensures small { result ≤ most_ask_budget }
 {

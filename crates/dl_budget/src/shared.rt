@@ -1,7 +1,7 @@
 //! The budgets of units that share a factor.
 
 ghost use Rattle.std.specs.Prelude.{ℕ, ◌≡◌, ◌^◌, ◌<◌, ◌≤◌, All};
-ghost use Rattle.dl_limits.specs.Limits.{IsPlanScale, budget_bound, most_claims_budget, most_plan_cells, most_shape};
+ghost use Rattle.dl_limits.specs.Limits.{IsPlanScale, budget_bound, most_claims_budget, most_plan_cells, most_shape, most_joint_budget};
 ghost use Rattle.dl_plan.specs.Prelude.{HasPartsOf48Bits, thinned_mean, IsUnbounded, IsValidUnit, HasCommonFactor, raised, thinned_of};
 ghost use Rattle.dl_budget.specs.Shared.{raised_budget, shared_joint_budget};
 
@@ -57,7 +57,7 @@ pub fn shared_joint_budget(unit: &Unit, before: u128, cells: u32) -> u128
     requires few { cells ≤ most_plan_cells }
     requires bounded { before < budget_bound }
     ensures value { result ≡ shared_joint_budget cells before (thinned_mean unit.now) }
-    ensures small { before ≤ most_claims_budget → result ≤ 2 ^ 63 }
+    ensures small { before ≤ most_claims_budget → result ≤ most_joint_budget }
 {
     let claims = unit.freq.thinned(&unit.sev);
     let most = claims.num().div_ceil(claims.den()) as u128;

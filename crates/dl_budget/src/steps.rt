@@ -1,7 +1,7 @@
 //! The spreads of convolutions: of one, of powers, of listed counts and of halvings.
 
 ghost use Rattle.std.specs.Prelude.{ℕ, ◌≡◌, ◌+◌, ◌*◌, ◌^◌, ◌≤◌};
-ghost use Rattle.dl_limits.specs.Limits.{IsPlanScale, budget_bound, most_claims_budget, most_expected, most_operands};
+ghost use Rattle.dl_limits.specs.Limits.{IsPlanScale, budget_bound, most_claims_budget, most_expected, most_operands, most_convolution_budget};
 ghost use Rattle.dl_exact.specs.Fraction.{whole, ◌≤ℚ◌};
 ghost use Rattle.dl_grid.specs.Width.{convolution_spread, power_spread, mixed_spread, rounded_spread, IsSizeWithin};
 ghost use Rattle.dl_budget.specs.Halvings.{IsHalvings, halvings};
@@ -15,7 +15,7 @@ pub fn convolution_spread<const B: u32>(cells: u32, x: u128, y: u128) -> u128
     requires left { x ≤ budget_bound }
     requires right { y ≤ budget_bound }
     ensures value { result ≡ convolution_spread (2 ^ B) cells x y }
-    ensures small { result ≤ 2 ^ 46 }
+    ensures small { result ≤ most_convolution_budget }
 {
     let product = (x * y).div_ceil(units_of_one(B));
     x + y + product + 2 * cells as u128

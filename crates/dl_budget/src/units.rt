@@ -1,7 +1,7 @@
 //! The budgets of units, of their sums and of their means.
 
 ghost use Rattle.std.specs.Prelude.{ℕ, ◌≡◌, ◌+◌, ◌*◌, ◌^◌, ◌<◌, ◌≤◌, List, All, length, sum_by, fold, remove};
-ghost use Rattle.dl_limits.specs.Limits.{IsPlanScale, budget_bound, most_cells, most_claims_budget, most_clause_budget, most_horizon, most_layers, most_plan_cells, most_units, most_unit_budget, most_mean_budget};
+ghost use Rattle.dl_limits.specs.Limits.{IsPlanScale, budget_bound, most_cells, most_claims_budget, most_clause_budget, most_horizon, most_layers, most_plan_cells, most_units, most_unit_budget, most_mean_budget, most_layer_mean_budget, most_layers_mean_budget, most_clause_mean_budget, most_whole_mean, most_unit_mean_budget};
 ghost use Rattle.dl_exact.specs.Fraction.{Fraction};
 ghost use Rattle.dl_grid.specs.Width.{convolution_spread, sum_spread, up};
 ghost use Rattle.dl_plan.specs.Prelude.{IsHorizonOf, edge, horizon, declared_mean, IsNewZero, IsValidUnit, IsValid, mean_width, part_width};
@@ -152,7 +152,7 @@ fn part_width(layer: &CedeLayer, before: u128) -> u128
     requires inside { edge layer.now ≤ most_cells }
     requires small { before ≤ most_claims_budget }
     ensures value { result ≡ part_width before layer.now.limit layer.now.attach }
-    ensures small { result ≤ 2 ^ 51 }
+    ensures small { result ≤ most_layer_mean_budget }
 {
     match layer.limit {
         Some(limit) => limit as u128 * before + 3,
@@ -166,7 +166,7 @@ fn layers_budget(layers: &[CedeLayer], before: u128) -> u128
     requires inside { All (λ l. edge l ≤ most_cells) layers.now }
     requires small { before ≤ most_claims_budget }
     ensures value { result ≡ sum_by (λ l. part_width before l.limit l.attach) layers.now }
-    ensures small { result ≤ 2 ^ 55 }
+    ensures small { result ≤ most_layers_mean_budget }
 {
     let mut sum = 0;
     for layer in layers {
@@ -183,7 +183,7 @@ fn clause_mean_budget<const B: u32>(unit: &Unit, cells: u32) -> u128
     requires few { cells ≤ most_plan_cells }
     ensures value { result ≡ mean_width unit.now.cede
         (claims_budget (2 ^ B) (horizon unit.now.cede cells) unit.now) }
-    ensures small { result ≤ 2 ^ 56 }
+    ensures small { result ≤ most_clause_mean_budget }
 {
     match &unit.cede {
         Some(clause) => {
@@ -200,7 +200,7 @@ fn whole_mean(unit: &Unit) -> u128
     requires valid { (h : ℕ) × IsValidUnit h unit.now }
     requires changed { (p : Fraction) × IsNewZero unit.now.freq p }
     ensures value { result ≡ up (declared_mean unit.now) }
-    ensures small { result ≤ 2 ^ 34 }
+    ensures small { result ≤ most_whole_mean }
 {
     let (num, den) = unit.mean_parts();
     num.div_ceil(den)
@@ -212,7 +212,7 @@ pub(crate) fn unit_mean_budget<const B: u32>(unit: &Unit, cells: u32) -> u128
     requires valid { IsValidUnit cells unit.now }
     requires few { cells ≤ most_plan_cells }
     ensures value { result ≡ unit_mean_budget (2 ^ B) cells unit.now }
-    ensures small { result ≤ 2 ^ 63 }
+    ensures small { result ≤ most_unit_mean_budget }
 {
     let before = clause_mean_budget::<B>(unit, cells);
     match unit.zero {

@@ -1,7 +1,7 @@
 //! The mean of what a clause keeps.
 
 ghost use Rattle.std.specs.Prelude.{ℕ, ◌≡◌, ◌+◌, ◌-◌, ◌*◌, ◌^◌, ◌≤◌, None, Some, [], ◌∷◌, length, All, sum_by};
-ghost use Rattle.dl_limits.specs.Limits.{most_parts};
+ghost use Rattle.dl_limits.specs.Limits.{most_gross_mean, most_parts};
 ghost use Rattle.dl_exact.specs.Fraction.{whole, ◌≤ℚ◌};
 ghost use Rattle.dl_grid.specs.Cells.{spread};
 ghost use Rattle.dl_plan.specs.declared.plan.Unit.{Unit as UnitOfPlan};
@@ -41,7 +41,7 @@ fn part_of<const B: u32>(layer: &CedeLayer, grid: &Grid<B>, claims: Iv<B>) -> Iv
     requires fine { layer.now.share.den ≤ most_parts }
     requires inside { edge layer.now ≤ length grid.now }
     requires narrow { claims.hi ≤ claims.lo + 1 }
-    requires small { claims.hi ≤ 2 ^ 94 }
+    requires small { claims.hi ≤ most_gross_mean }
     ensures holds { (cells : ℕ) (u : UnitOfPlan) → IsValidUnit cells u
         → GridEncloses grid.now (compound_of u.freq u.sev) → HoldsClaims u claims.entry
         → HoldsCeded u (layer.now ∷ []) result }
@@ -61,7 +61,7 @@ fn ceded_mean<const B: u32>(cede: &Cede, grid: &Grid<B>, claims: Iv<B>) -> Iv<B>
     requires near { All IsNear cede.now.1 }
     requires inside { All (λ l. edge l ≤ length grid.now) cede.now.1 }
     requires narrow { claims.hi ≤ claims.lo + 1 }
-    requires small { claims.hi ≤ 2 ^ 94 }
+    requires small { claims.hi ≤ most_gross_mean }
     ensures holds { (cells : ℕ) (u : UnitOfPlan) → IsValidUnit cells u
         → GridEncloses grid.now (compound_of u.freq u.sev) → HoldsClaims u claims.entry
         → HoldsCeded u cede.now.1 result }
@@ -84,7 +84,7 @@ pub fn kept_mean<const B: u32>(cede: &Cede, grid: &Grid<B>, claims: Iv<B>) -> Iv
     requires near { All IsNear cede.now.1 }
     requires inside { All (λ l. edge l ≤ length grid.now) cede.now.1 }
     requires narrow { claims.hi ≤ claims.lo + 1 }
-    requires small { claims.hi ≤ 2 ^ 94 }
+    requires small { claims.hi ≤ most_gross_mean }
     ensures holds { (cells : ℕ) (u : UnitOfPlan) → IsValidUnit cells u → u.cede ≡ Some cede.now
         → GridEncloses grid.now (compound_of u.freq u.sev) → HoldsClaims u claims.entry
         → HoldsMean u result }

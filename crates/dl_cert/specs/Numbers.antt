@@ -2,6 +2,7 @@
 -- lower, and a high end higher.
 use Rattle.std.specs.Prelude.{ℕ, zero, suc, ◌*◌, ◌/◌, ◌^◌, List, min, map, get_or}
 use Rattle.std.specs.Int.{div_ceil}
+use Rattle.dl_limits.specs.Limits.{short_bits}
 use Rattle.dl_exact.specs.Prelude.{Fraction, whole, ◌+ℚ◌, ◌*ℚ◌, ◌/ℚ◌, count_pairs, sum_pairs}
 use Rattle.dl_iv.specs.declared.interval.Iv.{Iv}
 use Rattle.dl_grid.specs.Cells.{low_at, high_at, all_at_zero}
@@ -20,7 +21,7 @@ use Rattle.dl_cert.specs.Steps.{Made, made_at}
 
 -- how many units make 1
 abbrev pub one : ℕ
-one = 2 ^ 56
+one = 2 ^ short_bits
 
 -- a fraction rounded down, and up, to a whole number
 abbrev pub floor_of : Fraction → ℕ

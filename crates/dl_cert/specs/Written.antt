@@ -1,6 +1,7 @@
 -- The text of a certificate, step by step.
-use Rattle.std.specs.Prelude.{ℕ, zero, suc, ◌≡◌, ◌≤◌, ◌<◌, ◌^◌, ◌++◌, ⊤, nat_eq, nat_lt, Option, Some, None, if◌then◌else◌, List, [], ◌∷◌, length, All, codes}
+use Rattle.std.specs.Prelude.{ℕ, zero, suc, ◌≡◌, ◌≤◌, ◌<◌, ◌++◌, ⊤, nat_eq, nat_lt, Option, Some, None, if◌then◌else◌, List, [], ◌∷◌, length, All, codes}
 use Rattle.std.specs.Fmt.{decimal}
+use Rattle.dl_limits.specs.Limits.{step_bound}
 use Rattle.dl_iv.specs.declared.interval.Iv.{Iv}
 use Rattle.dl_grid.specs.Cells.{low_at, high_at}
 use Rattle.dl_plan.specs.declared.plan.Plan.{Plan}
@@ -42,8 +43,8 @@ text_of (step ∷ steps) = line_of step ++ (10 ∷ text_of steps)
 -- the numbers that a kind names have at most 9 digits
 abbrev pub Named : Kind → Type 0
 Named One = ⊤
-Named (Start u) = u < 10 ^ 9
-Named (Times a b) = (a < 10 ^ 9) × (b < 10 ^ 9)
+Named (Start u) = u < step_bound
+Named (Times a b) = (a < step_bound) × (b < step_bound)
 
 -- a step of the plan's cells whose numbers can be spelled
 pub record CanBeWritten (plan : Plan) (step : Step) : Type 0 where

@@ -1,7 +1,7 @@
 //! The base of a unit, to test its starts by.
 
-ghost use Rattle.std.specs.Prelude.{◌^◌, ◌<◌, ◌≤◌, All};
-ghost use Rattle.dl_limits.specs.Limits.{admitted_bound};
+ghost use Rattle.std.specs.Prelude.{◌<◌, ◌≤◌, All};
+ghost use Rattle.dl_limits.specs.Limits.{admitted_bound, most_cell_end};
 
 use dl_frac::Frac;
 use dl_iv::Iv;
@@ -19,7 +19,7 @@ pub(crate) struct Share {
     ghost no_zero: { All (λ item. 0 < item.amount) positive.items },
     ghost within: { rate.num ≤ rate.den },
     ghost small: { rate.num < admitted_bound },
-    ghost first_small: { first.hi ≤ 2 ^ 56 },
+    ghost first_small: { first.hi ≤ most_cell_end },
 }
 
 /// A probability with parts below 2^48.

@@ -1,9 +1,9 @@
 //! The starts of a plan's units: what the cells of such a step are compared with.
 
-ghost use Rattle.std.specs.Prelude.{ℕ, ◌≡◌, ◌*◌, ◌/◌, ◌^◌, ◌<◌, ◌≤◌, ◌↔◌, ◌⊎◌, IsTrue, List, length, get_or, slice_index_or, All, IfOk, true, false};
+ghost use Rattle.std.specs.Prelude.{ℕ, ◌≡◌, ◌*◌, ◌/◌, ◌<◌, ◌≤◌, ◌↔◌, ◌⊎◌, IsTrue, List, length, get_or, slice_index_or, All, IfOk, true, false};
 ghost use Rattle.std.specs.Int.{div_ceil};
 ghost use Rattle.std.specs.List.Sorted.{IsStrictlyIncreasing};
-ghost use Rattle.dl_limits.specs.Limits.{admitted_bound, most_cert_cells, most_shape};
+ghost use Rattle.dl_limits.specs.Limits.{admitted_bound, most_cert_cells, most_shape, most_cell_end};
 ghost use Rattle.dl_exact.specs.Fraction.{Fraction, whole, ◌over◌, ◌/ℚ◌, ◌≤ℚ◌};
 ghost use Rattle.dl_grid.specs.Prelude.{low_at, high_at, IsGridSize};
 ghost use Rattle.dl_plan.specs.declared.plan.Freq.TheVariants.{Gamma, Poisson as PoissonCount};
@@ -65,7 +65,7 @@ fn trial_number(chance: Chance, sev: &Sev, y: usize) -> Iv<56>
 /// The number with which the cell after `before` of a share is compared.
 fn share_number<const BY_AMOUNT: bool>(share: &Share, before: &[Iv<56>]) -> Iv<56>
     requires few { length before.now ≤ most_cert_cells }
-    requires small { All (λ cell. cell.hi ≤ 2 ^ 56) before.now }
+    requires small { All (λ cell. cell.hi ≤ most_cell_end) before.now }
     ensures low { result.lo ≡ low_share BY_AMOUNT share.now (low_at before.now)
         (length before.now) }
     ensures high { result.hi ≡ high_share BY_AMOUNT share.now (high_at before.now)
@@ -82,7 +82,7 @@ fn share_number<const BY_AMOUNT: bool>(share: &Share, before: &[Iv<56>]) -> Iv<5
 /// The number with which the cell after `before` of a start is compared.
 pub(crate) fn number_after(base: &Base, sev: &Sev, before: &[Iv<56>]) -> Iv<56>
     requires few { length before.now ≤ most_cert_cells }
-    requires small { All (λ cell. cell.hi ≤ 2 ^ 56) before.now }
+    requires small { All (λ cell. cell.hi ≤ most_cell_end) before.now }
     ensures low { result.lo ≡ low_base base.now sev.now (low_at before.now) (length before.now) }
     ensures high { result.hi ≡ high_base base.now sev.now (high_at before.now)
         (length before.now) }
@@ -99,7 +99,7 @@ pub(crate) fn number_after(base: &Base, sev: &Sev, before: &[Iv<56>]) -> Iv<56>
 /// The number with which a cell of a start is compared.
 fn number_at(base: &Base, sev: &Sev, cells: &[Iv<56>], y: usize) -> Iv<56>
     requires few { length cells.now ≤ most_cert_cells }
-    requires small { All (λ cell. cell.hi ≤ 2 ^ 56) cells.now }
+    requires small { All (λ cell. cell.hi ≤ most_cell_end) cells.now }
     requires inside { y < length cells.now }
     ensures low { result.lo ≡ low_base base.now sev.now (low_at cells.now) y }
     ensures high { result.hi ≡ high_base base.now sev.now (high_at cells.now) y }
@@ -118,7 +118,7 @@ pub(crate) fn is_outside(cell: Iv<56>, number: Iv<56>) -> bool
 /// Whether the cells of a start pass.
 pub(crate) fn is_start(base: &Base, sev: &Sev, cells: &[Iv<56>]) -> bool
     requires few { length cells.now ≤ most_cert_cells }
-    requires small { All (λ cell. cell.hi ≤ 2 ^ 56) cells.now }
+    requires small { All (λ cell. cell.hi ≤ most_cell_end) cells.now }
     ensures { IsTrue result ↔ PassesTo (length cells.now) cells.now
         (low_base base.now sev.now (low_at cells.now))
         (high_base base.now sev.now (high_at cells.now)) }

@@ -1,7 +1,7 @@
 //! Steps that are checked.
 
-ghost use Rattle.std.specs.Prelude.{ℕ, ◌≡◌, ◌∷◌, ◌<◌, ◌≤◌, ◌↔◌, IsTrue, List, length, get_or, drop, All, map, ◌*◌, ◌+◌, ◌^◌, IfOk, MatchOption, MatchResult, if◌then◌else◌};
-ghost use Rattle.dl_limits.specs.Limits.{most_cert_cells, most_steps_text, most_units};
+ghost use Rattle.std.specs.Prelude.{ℕ, ◌≡◌, ◌∷◌, ◌<◌, ◌≤◌, ◌↔◌, IsTrue, List, length, get_or, drop, All, map, ◌*◌, ◌+◌, IfOk, MatchOption, MatchResult, if◌then◌else◌};
+ghost use Rattle.dl_limits.specs.Limits.{most_cert_cells, most_steps_text, most_units, most_cell_end};
 ghost use Rattle.dl_plan.specs.Valid.{IsValid};
 ghost use Rattle.dl_model.specs.Prelude.{GridEncloses, total, aggregates_of};
 ghost use Rattle.dl_cert.specs.Bases.{AreStarts};
@@ -48,7 +48,7 @@ fn tested(
     requires few { of.now.plan.now.cells ≤ most_cert_cells }
     requires starts { AreStarts of.now.plan.now of.now.bases.now of.now.targets.now }
     requires cells { length step.now.cells.items ≡ of.now.plan.now.cells }
-    requires small { All (λ cell. cell.hi ≤ 2 ^ 56) step.now.cells.items }
+    requires small { All (λ cell. cell.hi ≤ most_cell_end) step.now.cells.items }
     requires so_far { (before : List Made)
         × HavePassed of.now.plan.now of.now.text.now so_far.now.offsets.items
         so_far.now.labels.items before }

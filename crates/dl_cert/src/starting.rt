@@ -1,7 +1,7 @@
 //! The grids of starts, each end its number.
 
-ghost use Rattle.std.specs.Prelude.{◌≡◌, ℕ, ◌^◌, ◌<◌, ◌≤◌, length, All, IfOk};
-ghost use Rattle.dl_limits.specs.Limits.{most_cert_cells};
+ghost use Rattle.std.specs.Prelude.{◌≡◌, ℕ, ◌<◌, ◌≤◌, length, All, IfOk};
+ghost use Rattle.dl_limits.specs.Limits.{most_cert_cells, most_cell_end};
 ghost use Rattle.dl_grid.specs.Cells.{low_at, high_at};
 ghost use Rattle.dl_plan.specs.Prelude.{thinned_mean, IsValidUnit};
 ghost use Rattle.dl_cert.specs.Bases.{low_base, high_base};
@@ -21,7 +21,7 @@ use std::alloc::{AllocError, Global};
 fn start_cells(alloc: Global, base: &Base, sev: &Sev, cells: u32) -> Result<Vec<Iv<56>>, AllocError>
     requires few { cells ≤ most_cert_cells }
     ensures cells { IfOk result (λ list. length list.items ≡ cells) }
-    ensures small { IfOk result (λ list. All (λ cell. cell.hi ≤ 2 ^ 56) list.items) }
+    ensures small { IfOk result (λ list. All (λ cell. cell.hi ≤ most_cell_end) list.items) }
     ensures low { IfOk result (λ list. (y : ℕ) → y < cells
         → low_at list.items y ≡ low_base base.now sev.now (low_at list.items) y) }
     ensures high { IfOk result (λ list. (y : ℕ) → y < cells

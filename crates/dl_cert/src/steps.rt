@@ -1,7 +1,7 @@
 //! Steps that are written one after the other.
 
 ghost use Rattle.std.specs.Prelude.{◌≡◌, ℕ, suc, ◌+◌, ◌*◌, ◌^◌, ◌<◌, ◌≤◌, ◌++◌, ◌∷◌, [], length, List, get_or, IfOk, IfSome};
-ghost use Rattle.dl_limits.specs.Limits.{most_cert_cells, most_units};
+ghost use Rattle.dl_limits.specs.Limits.{most_cert_cells, most_units, step_bound, steps_bound};
 ghost use Rattle.dl_grid.specs.Cells.{IsGrid};
 ghost use Rattle.dl_plan.specs.Valid.{IsValid};
 ghost use Rattle.dl_cert.specs.Labels.{Label, together};
@@ -38,7 +38,7 @@ pub struct Factor {
 
 /// Writes one more step.
 pub(crate) fn add(steps: &mut Steps, kind: Kind, grid: Grid<56>) -> Result<Factor, AllocError>
-    requires few { steps.old.count < 10 ^ 9 }
+    requires few { steps.old.count < step_bound }
     ensures step { IfOk result (λ f. f.step ≡ steps.old.count) }
     ensures grid { IfOk result (λ f. f.grid ≡ grid) }
     ensures is_grid { IfOk result (λ f. IsGrid f.grid) }
@@ -65,7 +65,7 @@ fn times(
     requires some { 1 ≤ plan.now.cells }
     requires first { length a.now.grid ≡ plan.now.cells }
     requires second { length b.now.grid ≡ plan.now.cells }
-    requires few { steps.old.count < 10 ^ 9 }
+    requires few { steps.old.count < step_bound }
     ensures cells { IfOk result (λ f. length f.grid ≡ plan.now.cells) }
     ensures count { IfOk result (λ f. steps.new.count ≡ steps.old.count + 1) }
     ensures ends { IfOk result (λ f. (made : List Made) (x y : Label)
@@ -105,7 +105,7 @@ fn power(
     requires some { 1 ≤ plan.now.cells }
     requires cells { length base.now.grid ≡ plan.now.cells }
     requires above { 1 ≤ n }
-    requires few { (k : ℕ) × (n < 2 ^ k) × (steps.old.count + 2 * k < 10 ^ 9) }
+    requires few { (k : ℕ) × (n < 2 ^ k) × (steps.old.count + 2 * k < step_bound) }
     ensures cells { IfOk result (λ f. length f.grid ≡ plan.now.cells) }
     ensures count { IfOk result (λ f. (k : ℕ) → n < 2 ^ k
         → steps.new.count ≤ steps.old.count + 2 * k) }
@@ -143,7 +143,7 @@ fn unit_power(
     requires counted { parts ≡ target plan.now unit }
     requires above { 1 ≤ parts }
     requires few { parts < 2 ^ 17 }
-    requires room { steps.old.count < 10 ^ 8 }
+    requires room { steps.old.count < steps_bound }
     ensures cells { IfOk result (λ f. length f.grid ≡ plan.now.cells) }
     ensures count { IfOk result (λ f. steps.new.count ≤ steps.old.count + 35) }
     ensures ends { IfOk result (λ f. (made : List Made)
@@ -169,7 +169,7 @@ fn with_power(
     requires some { 1 ≤ plan.now.cells }
     requires first { IfSome sum (λ f. length f.grid ≡ plan.now.cells) }
     requires second { length power.grid ≡ plan.now.cells }
-    requires few { steps.old.count < 10 ^ 9 }
+    requires few { steps.old.count < step_bound }
     ensures cells { IfOk result (λ f. length f.grid ≡ plan.now.cells) }
     ensures count { IfOk result (λ f. steps.new.count ≤ steps.old.count + 1) }
     ensures ends { IfOk result (λ f. (made : List Made) (u : ℕ)

@@ -1,7 +1,7 @@
 //! The test of a step.
 
-ghost use Rattle.std.specs.Prelude.{ℕ, ◌≡◌, ◌*◌, ◌^◌, ◌<◌, ◌≤◌, ◌↔◌, IsTrue, List, length, get_or, All, IfOk};
-ghost use Rattle.dl_limits.specs.Limits.{most_cert_cells};
+ghost use Rattle.std.specs.Prelude.{ℕ, ◌≡◌, ◌*◌, ◌<◌, ◌≤◌, ◌↔◌, IsTrue, List, length, get_or, All, IfOk};
+ghost use Rattle.dl_limits.specs.Limits.{most_cert_cells, most_cell_end};
 ghost use Rattle.dl_iv.specs.declared.interval.Iv.{Iv};
 ghost use Rattle.dl_grid.specs.Cells.{low_at, high_at, mass_low};
 ghost use Rattle.dl_plan.specs.declared.plan.Plan.{Plan};
@@ -26,7 +26,7 @@ use std::alloc::{AllocError, Global};
 /// The sum of the low ends.
 pub(crate) fn mass_of(cells: &[Iv<56>]) -> u128
     requires few { length cells.now ≤ most_cert_cells }
-    requires small { All (λ cell. cell.hi ≤ 2 ^ 56) cells.now }
+    requires small { All (λ cell. cell.hi ≤ most_cell_end) cells.now }
     ensures { result ≡ mass_low cells.now }
 {
     let mut mass = 0;
@@ -117,7 +117,7 @@ pub(crate) fn is_passing(
     requires few { plan.now.cells ≤ most_cert_cells }
     requires some { 1 ≤ plan.now.cells }
     requires cells { length step.now.cells.items ≡ plan.now.cells }
-    requires small { All (λ cell. cell.hi ≤ 2 ^ 56) step.now.cells.items }
+    requires small { All (λ cell. cell.hi ≤ most_cell_end) step.now.cells.items }
     requires there { IsThere (length plan.now.units) (length offsets.now) step.now.kind }
     requires counted { (u : ℕ) → step.now.kind ≡ Start u → 1 ≤ target plan.now u }
     requires starts { (targets : List ℕ) × AreStarts plan.now bases.now targets }

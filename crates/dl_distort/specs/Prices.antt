@@ -1,5 +1,6 @@
 -- The terms of a price with whole numbers for their quantiles, and how wide its ends are.
-use Rattle.std.specs.Prelude.{ℕ, ◌≡◌, ◌+◌, ◌*◌, ◌^◌, List, map, sum_by, All}
+use Rattle.std.specs.Prelude.{ℕ, ◌≡◌, ◌+◌, ◌*◌, List, map, sum_by, All}
+use Rattle.dl_limits.specs.Limits.{most_level_den, most_mean}
 use Rattle.dl_exact.specs.Fraction.{whole, ◌*ℚ◌}
 use Rattle.dl_grid.specs.Width.{up, tail_width}
 use Rattle.dl_plan.specs.declared.settings.Term.{Term}
@@ -17,10 +18,10 @@ AreTermsOf terms priced = map term_of priced ≡ terms
 abbrev pub AreQuantiles : (Quantity → Series) → List PricedTerm → Type 0
 AreQuantiles declares priced = All (λ t. IsQuantile declares t.quantile t.p) priced
 
--- the most units that a tail mean comes to, where the mean is at most 2^97 units and p has parts
--- of at most 10^9
+-- the most units that a tail mean comes to, where the mean of the total and the parts of p are
+-- at most what they can be
 abbrev pub most_tail : ℕ
-most_tail = 2 ^ 97 * 1000000001
+most_tail = most_mean * (most_level_den + 1)
 
 -- how wide a term of a price may be: its part of the tail mean, rounded once at each end
 abbrev pub term_width : (mean cells spread : ℕ) → Term → ℕ

@@ -2,6 +2,7 @@
 
 ghost use Rattle.std.specs.Prelude.{◌↔◌, ℕ, ◌+◌, ◌-◌, ◌*◌, ◌^◌, ◌≤◌, List, length, None, IsNone, IfSome, All, Any};
 ghost use Rattle.std.specs.Int.{div_ceil};
+ghost use Rattle.dl_limits.specs.Limits.{most_level_den, most_mean};
 ghost use Rattle.dl_exact.specs.Fraction.{whole, ◌over◌, ◌*ℚ◌, ◌≤ℚ◌, ◌<ℚ◌};
 ghost use Rattle.dl_grid.specs.Cells.{low_at, spread};
 ghost use Rattle.dl_plan.specs.Terms.{ArePriced};
@@ -17,9 +18,9 @@ use dl_plan::Term;
 /// exactly where the bracket of the quantile has no high end.
 fn weighted_tail<const B: u32>(g: &Distribution<B>, term: Term, mean: Iv<B>) -> Option<Iv<B>>
     requires below_one { term.p <ℚ whole 1 }
-    requires small { term.p.den ≤ 1000000000 }
+    requires small { term.p.den ≤ most_level_den }
     requires part { term.weight ≤ℚ whole 1 }
-    requires mean { mean.hi ≤ 2 ^ 97 }
+    requires mean { mean.hi ≤ most_mean }
     ensures none { IsNone result ↔ IsFirstFound (low_cdf (2 ^ B) (low_at g.now)) term.p
         (length g.now) None }
     ensures holds { (us : List Loss) (q : ℕ) → AreDeclared us → GridEncloses g.now (total us)
@@ -51,8 +52,8 @@ fn weighted_tail<const B: u32>(g: &Distribution<B>, term: Term, mean: Iv<B>) -> 
 pub fn price<const B: u32>(g: &Distribution<B>, terms: &[Term], mean: Iv<B>) -> Option<Iv<B>>
     requires priced { ArePriced terms.now }
     requires below_one { All (λ term. term.p <ℚ whole 1) terms.now }
-    requires small { All (λ term. term.p.den ≤ 1000000000) terms.now }
-    requires mean { mean.hi ≤ 2 ^ 97 }
+    requires small { All (λ term. term.p.den ≤ most_level_den) terms.now }
+    requires mean { mean.hi ≤ most_mean }
     ensures none { IsNone result ↔ Any (λ term. IsFirstFound (low_cdf (2 ^ B) (low_at g.now)) term.p
         (length g.now) None) terms.now }
     ensures holds { (us : List Loss) (priced : List PricedTerm) → AreDeclared us

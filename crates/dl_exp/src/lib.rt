@@ -8,6 +8,7 @@
 #![tactic(auto)]
 
 ghost use Rattle.std.specs.Prelude.{◌≡◌, ◌+◌, ◌^◌, ◌≤◌};
+ghost use Rattle.dl_limits.specs.Limits.{series_one};
 ghost use Rattle.dl_exact.specs.Fraction.{◌over◌, ◌≤ℚ◌};
 ghost use Rattle.dl_exp.specs.Exponential.{EnclosesExp};
 ghost use Rattle.dl_exp.specs.Ends.{low_exponential, high_exponential, exp_low, exp_high};
@@ -16,11 +17,8 @@ mod laws;
 
 use dl_frac::Frac;
 use dl_iv::Iv;
+use dl_limits::SERIES_ONE;
 pub use laws::law_ends;
-
-/// How many units make 1 in the sums of the series: 2^63, so that a unit times a part of a fraction
-/// fits.
-const ONE: u128 = 1 << 63;
 
 /// How many terms are added up after the first. With `x` at most 1/2 the last is below a unit.
 const TERMS: u64 = 18;
@@ -48,7 +46,7 @@ pub fn exp_neg<const B: u32>(x: Frac) -> Iv<B>
     ensures small { result.hi ≤ 2 ^ B }
 {
     let sums = exponential(x);
-    let top = (1u128 << B) * ONE;
+    let top = (1u128 << B) * SERIES_ONE;
     Iv {
         lo: top / sums.high,
         hi: top.div_ceil(sums.low),
@@ -61,14 +59,14 @@ fn exponential(x: Frac) -> Sums
     requires { x ≤ℚ 1 over 2 }
     ensures low { result.low ≡ low_exponential x }
     ensures high { result.high ≡ high_exponential x }
-    ensures one { 2 ^ 63 ≤ result.low }
+    ensures one { series_one ≤ result.low }
     ensures order { result.low ≤ result.high }
     ensures near { result.high ≤ result.low + 128 }
 {
     let num = x.num() as u128;
     let den = x.den() as u128;
-    let (mut low_term, mut high_term) = (ONE, ONE);
-    let (mut low, mut high) = (ONE, ONE);
+    let (mut low_term, mut high_term) = (SERIES_ONE, SERIES_ONE);
+    let (mut low, mut high) = (SERIES_ONE, SERIES_ONE);
     for n in 0..TERMS {
         let divisor = den * (n + 1) as u128;
         low_term = low_term * num / divisor;

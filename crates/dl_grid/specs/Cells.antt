@@ -3,7 +3,7 @@
 use Rattle.std.specs.Prelude.{ℕ, zero, suc, ◌-◌, ◌^◌, ◌<◌, ◌≤◌, ◌≡◌, ◌⊎◌, List, [], ◌∷◌, ◌++◌, length, get_or, map, All, sum, sum_by}
 use Rattle.std.proofs.Common.{inr}
 use Rattle.std.proofs.lemmas.Bool.{cases_lt}
-use Rattle.dl_limits.specs.Limits.{most_cells_at}
+use Rattle.dl_limits.specs.Limits.{most_cells_at, most_high}
 use Rattle.dl_iv.specs.declared.interval.Iv.{Iv}
 use Rattle.dl_grid.specs.Room.{IsGridSize}
 
@@ -59,7 +59,7 @@ pub record AreEnds (B : ℕ) (lows highs : List ℕ) : Type 0 where
   pub mass : sum lows ≤ 2 ^ B
 
 -- the one cell with these ends, or none where no interval has them
-unfoldable pub cell_by : {B lo hi : ℕ} → ((hi < lo) ⊎ (lo ≤ hi)) → ((2 ^ 127 < hi) ⊎ (hi ≤ 2 ^ 127))
+unfoldable pub cell_by : {B lo hi : ℕ} → ((hi < lo) ⊎ (lo ≤ hi)) → ((most_high < hi) ⊎ (hi ≤ most_high))
     → ((B < 1) ⊎ (1 ≤ B)) → ((56 < B) ⊎ (B ≤ 56)) → List (Iv B)
 cell_by {B} {lo} {hi} (inr p) (inr q) (inr r) (inr s) =
     record { lo = lo; hi = hi; ordered = p; in_range = q; scale_above = r; scale_below = s } ∷ []
@@ -68,6 +68,6 @@ cell_by ordered in_range above below = []
 -- the cells with these ends
 unfoldable pub cells_of : (B : ℕ) → List ℕ → List ℕ → List (Iv B)
 cells_of B (lo ∷ lows) (hi ∷ highs) =
-    cell_by (cases_lt hi lo) (cases_lt (2 ^ 127) hi) (cases_lt B 1) (cases_lt 56 B)
+    cell_by (cases_lt hi lo) (cases_lt (most_high) hi) (cases_lt B 1) (cases_lt 56 B)
     ++ cells_of B lows highs
 cells_of B lows highs = []

@@ -1,6 +1,6 @@
 -- How large a grid is, and the room that sums of products of its ends have in a word.
-use Rattle.std.specs.Prelude.{ℕ, ◌*◌, ◌^◌, ◌≤◌}
-use Rattle.dl_limits.specs.Limits.{most_cells_at}
+use Rattle.std.specs.Prelude.{ℕ, ◌*◌, ◌≤◌}
+use Rattle.dl_limits.specs.Limits.{most_cells_at, most_cell_end, most_products}
 
 -- a grid whose ends are in units of 1 / 2^B may have so many cells: more at a coarser scale
 pub record IsGridSize (B cells : ℕ) : Type 0 where
@@ -12,5 +12,5 @@ pub record IsGridSize (B cells : ℕ) : Type 0 where
 -- n numbers of at most `top` have room: a number in 56 bits, and n products of two of them, added
 -- up, in 126 bits
 pub record HasRoom (n top : ℕ) : Type 0 where
-  pub word : top ≤ 2 ^ 56
-  pub sums : n * (top * top) ≤ 2 ^ 126
+  pub word : top ≤ most_cell_end
+  pub sums : n * (top * top) ≤ most_products

@@ -1,6 +1,7 @@
 //! Grids: an interval for each number of buckets.
 
 ghost use Rattle.std.specs.Prelude.{◌≡◌, ℕ, ◌+◌, ◌-◌, ◌^◌, ◌<◌, ◌≤◌, min, length, take, get_or, slice_set, sum, All, IfOk, true, false};
+ghost use Rattle.dl_limits.specs.Limits.{most_cell_end, most_ends};
 ghost use Rattle.dl_grid.specs.Cells.{low_at, high_at, low_ends, high_ends, mass_low, mass_high, spread, all_at_zero};
 ghost use Rattle.dl_grid.specs.Cells.{IsGrid, AreEnds};
 ghost use Rattle.dl_grid.specs.Room.{IsGridSize};
@@ -31,7 +32,7 @@ impl<const B: u32> Model for Grid<B> {
 }
 
 fn sum_of(ends: &[u128]) -> u128
-    requires { sum ends.now ≤ 2 ^ 70 }
+    requires { sum ends.now ≤ most_ends }
     ensures { result ≡ sum ends.now }
 {
     let mut total = 0;
@@ -97,7 +98,7 @@ impl<const B: u32> Grid<B> {
         ensures each { (x : ℕ) → get_or result.now x 0 ≡ low_at self.now x }
         ensures order { (x : ℕ) → low_at self.now x ≤ high_at self.now x }
         ensures small { All (λ low. low ≤ 2 ^ B) result.now }
-        ensures fits { All (λ low. low ≤ 2 ^ 56) result.now }
+        ensures fits { All (λ low. low ≤ most_cell_end) result.now }
         ensures grid { IsGrid self.now }
     {
         self.lows.as_slice()
@@ -111,7 +112,7 @@ impl<const B: u32> Grid<B> {
         ensures each { (x : ℕ) → get_or result.now x 0 ≡ high_at self.now x }
         ensures order { (x : ℕ) → low_at self.now x ≤ high_at self.now x }
         ensures small { All (λ high. high ≤ 2 ^ B) result.now }
-        ensures fits { All (λ high. high ≤ 2 ^ 56) result.now }
+        ensures fits { All (λ high. high ≤ most_cell_end) result.now }
         ensures grid { IsGrid self.now }
     {
         self.highs.as_slice()

@@ -1,6 +1,7 @@
 //! Operations on intervals that round nothing.
 
 ghost use Rattle.std.specs.Prelude.{◌≡◌, ℕ, ◌+◌, ◌-◌, ◌^◌, ◌≤◌, min, List, sum_by};
+ghost use Rattle.dl_limits.specs.Limits.{most_high};
 ghost use Rattle.dl_exact.specs.Prelude.{Fraction, whole, ◌over◌, ◌+ℚ◌, ◌-ℚ◌, ◌≤ℚ◌, lesser, sum_over};
 ghost use Rattle.dl_iv.specs.Enclosure.{LiesIn, EachLiesIn};
 
@@ -20,7 +21,7 @@ impl<const B: u32> Iv<B> {
     pub fn point(units: u128) -> Self
         requires scale_above { 1 ≤ B }
         requires scale_below { B ≤ 56 }
-        requires fits { units ≤ 2 ^ 127 }
+        requires fits { units ≤ most_high }
         ensures low { result.lo ≡ units }
         ensures high { result.hi ≡ units }
         ensures holds { LiesIn (units over 2 ^ B) result }
@@ -33,7 +34,7 @@ impl<const B: u32> Iv<B> {
 
     /// The sums of a value of each.
     pub fn add(self, o: Self) -> Self
-        requires fits { self.hi + o.hi ≤ 2 ^ 127 }
+        requires fits { self.hi + o.hi ≤ most_high }
         ensures low { result.lo ≡ self.entry.lo + o.entry.lo }
         ensures high { result.hi ≡ self.entry.hi + o.entry.hi }
         ensures holds { (x y : Fraction) → LiesIn x self.entry → LiesIn y o.entry
@@ -88,7 +89,7 @@ impl<const B: u32> Iv<B> {
     pub fn sum(items: &[Iv<B>]) -> Self
         requires scale_above { 1 ≤ B }
         requires scale_below { B ≤ 56 }
-        requires fits { sum_by (λ i. i.hi) items.now ≤ 2 ^ 127 }
+        requires fits { sum_by (λ i. i.hi) items.now ≤ most_high }
         ensures low { result.lo ≡ sum_by (λ i. i.lo) items.now }
         ensures high { result.hi ≡ sum_by (λ i. i.hi) items.now }
         ensures holds { (xs : List Fraction) → EachLiesIn xs items.now

@@ -2,6 +2,7 @@
 
 ghost use Rattle.std.specs.Prelude.{◌≡◌, ℕ, ◌*◌, ◌/◌, ◌%◌, ◌^◌, ◌<◌, ◌≤◌, min};
 ghost use Rattle.std.specs.Int.{div_ceil};
+ghost use Rattle.dl_limits.specs.Limits.{enclosed_den_bound, enclosed_num_bound, most_high};
 ghost use Rattle.dl_exact.specs.Fraction.{Fraction, ◌over◌, ◌*ℚ◌, ◌/ℚ◌, ◌≤ℚ◌};
 ghost use Rattle.dl_iv.specs.Enclosure.{LiesIn};
 
@@ -28,8 +29,8 @@ fn rounded_by_parts(
     requires high_positive { 0 < high_by }
     requires low_rest { low % low_by * factor < 2 ^ 128 }
     requires high_rest { high % high_by * factor < 2 ^ 128 }
-    requires low_fits { low * factor / low_by ≤ 2 ^ 127 }
-    requires high_fits { div_ceil (high * factor) high_by ≤ 2 ^ 127 }
+    requires low_fits { low * factor / low_by ≤ most_high }
+    requires high_fits { div_ceil (high * factor) high_by ≤ most_high }
     ensures low { result.0 ≡ low * factor / low_by }
     ensures high { result.1 ≡ div_ceil (high * factor) high_by }
 {
@@ -48,9 +49,9 @@ impl<const B: u32> Iv<B> {
         requires scale_above { 1 ≤ B }
         requires scale_below { B ≤ 56 }
         requires positive { 0 < den }
-        requires den { den < 2 ^ 80 }
-        requires num { num < 2 ^ 100 }
-        requires fits { div_ceil (2 ^ B * num) den ≤ 2 ^ 127 }
+        requires den { den < enclosed_den_bound }
+        requires num { num < enclosed_num_bound }
+        requires fits { div_ceil (2 ^ B * num) den ≤ most_high }
         ensures low { result.lo ≡ 2 ^ B * num / den }
         ensures high { result.hi ≡ div_ceil (2 ^ B * num) den }
         ensures holds { LiesIn (num over den) result }
@@ -85,7 +86,7 @@ impl<const B: u32> Iv<B> {
     pub fn scale(self, num: u64, den: u64) -> Self
         requires positive { 0 < den }
         requires product { self.hi * num < 2 ^ 128 }
-        requires fits { div_ceil (self.hi * num) den ≤ 2 ^ 127 }
+        requires fits { div_ceil (self.hi * num) den ≤ most_high }
         ensures low { result.lo ≡ self.entry.lo * num / den }
         ensures high { result.hi ≡ div_ceil (self.entry.hi * num) den }
         ensures holds { (x : Fraction) → LiesIn x self.entry → LiesIn (x *ℚ num over den) result }
@@ -112,7 +113,7 @@ impl<const B: u32> Iv<B> {
     pub fn div(self, o: Self) -> Self
         requires positive { 0 < o.lo }
         requires rest { min self.hi o.hi * 2 ^ B < 2 ^ 128 }
-        requires fits { div_ceil (self.hi * 2 ^ B) o.lo ≤ 2 ^ 127 }
+        requires fits { div_ceil (self.hi * 2 ^ B) o.lo ≤ most_high }
         ensures low { result.lo ≡ self.entry.lo * 2 ^ B / o.entry.hi }
         ensures high { result.hi ≡ div_ceil (self.entry.hi * 2 ^ B) o.entry.lo }
         ensures holds { (x y : Fraction) → LiesIn x self.entry → LiesIn y o.entry
@@ -126,7 +127,7 @@ impl<const B: u32> Iv<B> {
     /// high end up.
     pub fn print_ends(self, digits: u32) -> (u128, u128)
         requires digits { digits ≤ 9 }
-        requires fits { self.hi * 10 ^ digits ≤ 2 ^ 127 * 2 ^ B }
+        requires fits { self.hi * 10 ^ digits ≤ most_high * 2 ^ B }
         ensures low { result.0 ≡ self.entry.lo * 10 ^ digits / 2 ^ B }
         ensures high { result.1 ≡ div_ceil (self.entry.hi * 10 ^ digits) (2 ^ B) }
         ensures below { (x : Fraction) → LiesIn x self.entry → result.0 over 10 ^ digits ≤ℚ x }

@@ -1,8 +1,8 @@
 -- The scale of a plan's grid, and what is allowed at it.
 use Rattle.std.proofs.Common.{ℕ, ◌≡◌, ◌≤◌, arith, inl, inr, refl}
 use Rattle.std.proofs.lemmas.Bool.Decides.{leb_tells}
-use Rattle.dl_limits.specs.Limits.{most_short_cells, short_bits, long_bits, bits_of, IsPlanScale}
-use Rattle.dl_limits.specs.Limits.{most_cells, most_fine_cells, most_cells_at, most_amount, most_amount_at, most_horizon}
+use Rattle.dl_limits.specs.Limits.{most_short_cells, short_bits, bits_of, IsPlanScale}
+use Rattle.dl_limits.specs.Limits.{most_cells, most_cells_at, most_amount, most_amount_at, most_horizon}
 
 pub is_plan_scale : (cells : ℕ) → IsPlanScale (bits_of cells)
 unfolding bits_of

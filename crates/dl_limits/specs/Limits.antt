@@ -1,5 +1,5 @@
 -- The bounds of a plan, of its settings and of the numbers that follow from them, each once.
-use Rattle.std.specs.Prelude.{ℕ, ◌*◌, ◌^◌, ◌≤◌, nat_le, if◌then◌else◌}
+use Rattle.std.specs.Prelude.{ℕ, ◌+◌, ◌-◌, ◌*◌, ◌^◌, ◌≤◌, nat_le, if◌then◌else◌}
 
 -- ---- a plan
 
@@ -117,6 +117,19 @@ zero_bound = 2 ^ 37
 abbrev pub rarest_claims : ℕ
 rarest_claims = 16
 
+-- the numerator of a numeral of at most 11 digits is below this, and its denominator at most this
+abbrev pub numeral_bound : ℕ
+numeral_bound = 10 ^ 11
+
+-- the parts of an amount in buckets, before it is put on the grid, are below this
+abbrev pub amount_bound : ℕ
+amount_bound = 10 ^ 18
+
+-- what two words of 32 bits add up to is below this: a limit and an attachment, in buckets, or the
+-- first counts of two blocks of a listed count
+abbrev pub edge_bound : ℕ
+edge_bound = 2 ^ 33
+
 -- ---- a call
 
 -- the bytes of an input
@@ -138,6 +151,30 @@ most_steps_text = 67108864
 -- the asks of a call
 abbrev pub most_asks : ℕ
 most_asks = 256
+
+-- the denominator of the probability of a quantile, a tail mean or a price
+abbrev pub most_level_den : ℕ
+most_level_den = 10 ^ 9
+
+-- the denominator of the probability of a share of the tail mean
+abbrev pub most_share_den : ℕ
+most_share_den = 10 ^ 4
+
+-- the width that is asked of a probability, in units of the last printed digit
+abbrev pub most_width : ℕ
+most_width = 1000000000
+
+-- the width that is asked of a mean, in units of the last printed digit
+abbrev pub most_mean_width : ℕ
+most_mean_width = 1000000000000
+
+-- the number of a step of a certificate, counted from 0, is below this: it has at most 9 digits
+abbrev pub step_bound : ℕ
+step_bound = 10 ^ 9
+
+-- the steps before those of a unit are fewer than this
+abbrev pub steps_bound : ℕ
+steps_bound = 10 ^ 8
 
 -- kappa is reported only where P(total) is at least 1 over this
 abbrev pub rarest_parts : ℕ
@@ -165,6 +202,69 @@ most_claims_budget = 22 * 2 ^ 30
 abbrev pub budget_bound : ℕ
 budget_bound = 2 ^ 44
 
+-- an end of a cell of any grid, in units of its scale: so many make 1 at the finest scale
+abbrev pub most_cell_end : ℕ
+most_cell_end = 2 ^ 56
+
+-- the ends of a grid, added up over all cells, in units of its scale
+abbrev pub most_ends : ℕ
+most_ends = 2 ^ 70
+
+-- the products of two ends, added up over all cells of a grid, in units of the square of its scale
+abbrev pub most_products : ℕ
+most_products = 2 ^ 126
+
+-- the ends of 2^32 grids at one cell, each times a weight of 32 bits, added up
+abbrev pub most_weighted_ends : ℕ
+most_weighted_ends = 2 ^ 120
+
+-- the high end of an interval, in units of its scale
+abbrev pub most_high : ℕ
+most_high = 2 ^ 127
+
+-- the numerator of a number that is enclosed is below this
+abbrev pub enclosed_num_bound : ℕ
+enclosed_num_bound = 2 ^ 100
+
+-- the denominator of a number that is enclosed is below this
+abbrev pub enclosed_den_bound : ℕ
+enclosed_den_bound = 2 ^ 80
+
+-- so many units make 1 in the sums of the series of an exponential
+abbrev pub series_one : ℕ
+series_one = 2 ^ 63
+
+-- ---- how large means are, their high ends in units of the scale
+
+-- the mean of a unit before its aggregate clause
+abbrev pub most_gross_mean : ℕ
+most_gross_mean = 2 ^ 94
+
+-- the same in whole buckets, where the unit's probability of no claim is changed
+abbrev pub most_whole_mean : ℕ
+most_whole_mean = 2 ^ 34
+
+-- the mean of a unit before its probability of no claim is changed, where it is: at most
+-- `most_expected` claims are expected then
+abbrev pub most_mean_to_change : ℕ
+most_mean_to_change = 2 ^ 88 + 2 ^ 82
+
+-- the mean that a change of the probability of no claim has room for
+abbrev pub most_mean_before : ℕ
+most_mean_before = 2 ^ 90
+
+-- the mean of a unit
+abbrev pub most_unit_mean : ℕ
+most_unit_mean = 2 ^ 93
+
+-- the mean of the total
+abbrev pub most_mean : ℕ
+most_mean = 2 ^ 97
+
+-- a unit's share of a tail mean
+abbrev pub most_share_mean : ℕ
+most_share_mean = 2 ^ 112
+
 -- ---- how far two ends can lie apart, in units of the scale
 
 -- the operands of a power, of a listed count or of halvings, each with its roundings, all together:
@@ -184,6 +284,34 @@ most_none_budget = 142 * 2 ^ 13
 abbrev pub most_unit_budget : ℕ
 most_unit_budget = 793 * 2 ^ 30
 
+-- one convolution of two grids within `budget_bound`
+abbrev pub most_convolution_budget : ℕ
+most_convolution_budget = 2 ^ 46
+
+-- what a layer of an aggregate clause adds to a mean's
+abbrev pub most_layer_mean_budget : ℕ
+most_layer_mean_budget = 2 ^ 51
+
+-- what all layers of a clause add
+abbrev pub most_layers_mean_budget : ℕ
+most_layers_mean_budget = 2 ^ 55
+
+-- the mean of a unit after its aggregate clause
+abbrev pub most_clause_mean_budget : ℕ
+most_clause_mean_budget = 2 ^ 56
+
+-- the mean of a unit
+abbrev pub most_unit_mean_budget : ℕ
+most_unit_mean_budget = 2 ^ 63
+
+-- a unit's joint mean with a total of independent units, from the sum of the others
+abbrev pub most_alone_joint_budget : ℕ
+most_alone_joint_budget = 2 ^ 62
+
+-- a unit's joint mean with any total
+abbrev pub most_joint_budget : ℕ
+most_joint_budget = 2 ^ 63
+
 -- the mean of the total
 abbrev pub most_mean_budget : ℕ
 most_mean_budget = 2 ^ 67
@@ -191,6 +319,18 @@ most_mean_budget = 2 ^ 67
 -- an ask
 abbrev pub most_ask_budget : ℕ
 most_ask_budget = 2 ^ 98
+
+-- a tail mean
+abbrev pub most_tail_budget : ℕ
+most_tail_budget = 2 ^ 98 - 2 ^ 90
+
+-- a term of a price
+abbrev pub most_term_budget : ℕ
+most_term_budget = 2 ^ 118
+
+-- a share of a total of at least 1 / `rarest_parts`
+abbrev pub most_kappa_budget : ℕ
+most_kappa_budget = 2 ^ 80
 
 -- ---- the one recursion of a unit's mean, in whole numbers
 
@@ -201,6 +341,10 @@ start_bits = 61
 -- the greatest end of a cell
 abbrev pub most_end : ℕ
 most_end = 2 ^ 62
+
+-- the greatest end of a cell in a pass is at least this
+abbrev pub least_pass_end : ℕ
+least_pass_end = 2 ^ 57
 
 -- the greatest high end of the probability of no claim, in its own units
 abbrev pub most_start : ℕ

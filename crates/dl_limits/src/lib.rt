@@ -77,6 +77,12 @@ pub const MOST_ASKS: usize = 256;
 /// `kappa` is reported only where P(total) is at least `1 / RAREST_PARTS`.
 pub const RAREST_PARTS: u128 = 1 << 16;
 
+/// The greatest width that is asked of a probability, in units of the last printed digit.
+pub const MOST_WIDTH: u64 = 1_000_000_000;
+
+/// The greatest width that is asked of a mean, in units of the last printed digit.
+pub const MOST_MEAN_WIDTH: u64 = 1_000_000_000_000;
+
 /// The most decimals of a printed end.
 pub const MOST_DIGITS: u32 = 9;
 
@@ -116,6 +122,12 @@ pub fn most_horizon(cells: u32) -> u32
         MOST_CELLS
     }
 }
+
+/// So many units make 1 in the sums of the series of an exponential.
+pub const SERIES_ONE: u128 = 1 << 63;
+
+/// The end of cell 0 of the one recursion of a unit's mean, before any shift.
+pub const FIRST_END: u64 = 1 << 61;
 
 /// The greatest end of a cell of the one recursion of a unit's mean.
 pub const MOST_END: u128 = 1 << 62;

@@ -6,7 +6,7 @@ use Rattle.std.specs.Prelude.{[], ◌∷◌, ◌++◌, All}
 use Rattle.std.proofs.lemmas.List.{get_or_append_left, length-append}
 use Rattle.std.proofs.Math.Seq.{get_or-append_seam}
 use Rattle.dl_measures.specs.declared.marks.Mark.{Mark}
-use Rattle.dl_measures.specs.Running.{AreFew, AreMarks, IsMark, IsRunning, IsRunningOf, end_at}
+use Rattle.dl_measures.specs.Running.{AreFew, AreMarks, IsMark, IsRunningOf, end_at}
 
 -- ---- one mark
 

@@ -1,5 +1,6 @@
 -- The running sums of the ends of a grid's cells, with marks at every 64th cell.
 use Rattle.std.specs.Prelude.{ℕ, suc, ◌≡◌, ◌<◌, ◌≤◌, ◌+◌, ◌-◌, ◌*◌, ◌^◌, List, length, get_or, All}
+use Rattle.dl_limits.specs.Limits.{most_cell_end}
 use Rattle.dl_exact.specs.Count.{count_below}
 use Rattle.dl_measures.specs.declared.marks.Mark.{Mark}
 
@@ -15,8 +16,8 @@ pub record IsMark (one : ℕ) (f : ℕ → ℕ) (n : ℕ) (mark : Mark) : Type 0
 -- so few ends, and so small, that their sums fit
 pub record AreFew (one : ℕ) (ends : List ℕ) : Type 0 where
   pub few : length ends ≤ 2 ^ 20
-  pub small : All (λ end. end ≤ 2 ^ 56) ends
-  pub unit : one ≤ 2 ^ 56
+  pub small : All (λ end. end ≤ most_cell_end) ends
+  pub unit : one ≤ most_cell_end
 
 -- mark m is that of the first (m + 1) * 64 ends
 pub record AreMarks (one : ℕ) (ends : List ℕ) (marks : List Mark) : Type 0 where

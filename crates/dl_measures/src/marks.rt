@@ -1,6 +1,7 @@
 //! Running sums of a list of ends, read from marks.
 
 ghost use Rattle.std.specs.Prelude.{◌≡◌, ℕ, suc, ◌+◌, ◌-◌, ◌*◌, ◌<◌, ◌≤◌, length, IfOk};
+ghost use Rattle.dl_limits.specs.Limits.{most_level_den};
 ghost use Rattle.dl_exact.specs.Count.{count_below};
 ghost use Rattle.dl_measures.specs.Running.{end_at, IsMark, AreFew, AreMarks, IsRunning};
 
@@ -98,7 +99,7 @@ impl<'a> Running<'a> {
     /// `goal` when it is taken `den` times: none of theirs does. It is found by halving.
     fn blocks_below(self, den: u128, goal: u128) -> usize
         requires running { IsRunning self.one self.ends.now self.marks.now }
-        requires den { den ≤ 1000000000 }
+        requires den { den ≤ most_level_den }
         ensures within { result ≤ length self.entry.marks.now }
         ensures before { (x : ℕ) → x < result * 64
             → count_below (suc x) (end_at self.entry.ends.now) * den < goal }
@@ -120,7 +121,7 @@ impl<'a> Running<'a> {
     /// number of ends where none does.
     pub(crate) fn first_reaching(self, den: u128, goal: u128) -> u32
         requires running { IsRunning self.one self.ends.now self.marks.now }
-        requires den { den ≤ 1000000000 }
+        requires den { den ≤ most_level_den }
         ensures within { result ≤ length self.entry.ends.now }
         ensures before { (x : ℕ) → x < result
             → count_below (suc x) (end_at self.entry.ends.now) * den < goal }

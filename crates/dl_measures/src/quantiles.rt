@@ -1,6 +1,7 @@
 //! Quantiles.
 
 ghost use Rattle.std.specs.Prelude.{◌≡◌, ℕ, ◌^◌, ◌≤◌, List, length, Some};
+ghost use Rattle.dl_limits.specs.Limits.{most_level_den};
 ghost use Rattle.dl_exact.specs.Fraction.{whole, ◌over◌, ◌<ℚ◌};
 ghost use Rattle.dl_grid.specs.Cells.{low_at, high_at, spread};
 ghost use Rattle.dl_model.specs.Prelude.{Loss, AreDeclarable, total, partial_sums, GridEncloses, IsQuantile, IsBracketed, AreDeclared};
@@ -26,7 +27,7 @@ pub struct Bracket {
 /// end is. Between them the distribution is within the spread of the grid of `p`.
 pub fn quantile<const B: u32>(g: &Distribution<B>, p: Frac) -> Bracket
     requires below_one { p <ℚ whole 1 }
-    requires small { p.den ≤ 1000000000 }
+    requires small { p.den ≤ most_level_den }
     ensures lo { IsFirstAtLeast (high_cdf (2 ^ B) (high_at g.now)) p (length g.now) result.lo }
     ensures hi { IsFirstFound (low_cdf (2 ^ B) (low_at g.now)) p (length g.now) result.hi }
     ensures holds { (us : List Loss) → AreDeclarable us → GridEncloses g.now (total us)

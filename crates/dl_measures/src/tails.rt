@@ -2,6 +2,7 @@
 
 ghost use Rattle.std.specs.Prelude.{◌≡◌, ◌↔◌, ℕ, ◌+◌, ◌-◌, ◌*◌, ◌/◌, ◌^◌, ◌≤◌, List, length, None, IsNone, IfSome};
 ghost use Rattle.std.specs.Int.{div_ceil};
+ghost use Rattle.dl_limits.specs.Limits.{most_level_den, most_mean};
 ghost use Rattle.dl_exact.specs.Fraction.{whole, ◌over◌, ◌<ℚ◌};
 ghost use Rattle.dl_grid.specs.Prelude.{low_at, spread, tail_width};
 ghost use Rattle.dl_model.specs.Prelude.{AtLeast, Holds, Loss, One, Mean, Tail, partial_sums, total, GridEncloses, IsQuantile, AreDeclared};
@@ -20,8 +21,8 @@ use dl_iv::Iv;
 #[tactic(auto, using(dl_exact::proofs::BelowOne::num_below))]
 fn over_the_rest<const B: u32>(excess: Iv<B>, slack: u128, p: Frac) -> Iv<B>
     requires below_one { p <ℚ whole 1 }
-    requires small { p.den ≤ 1000000000 }
-    requires excess { excess.hi ≤ 2 ^ 97 }
+    requires small { p.den ≤ most_level_den }
+    requires excess { excess.hi ≤ most_mean }
     ensures low { result.lo ≡ (excess.entry.lo - slack) * p.den / (p.den - p.num) }
     ensures high { result.hi ≡ div_ceil (excess.entry.hi * p.den) (p.den - p.num) }
 {
@@ -38,8 +39,8 @@ fn over_the_rest<const B: u32>(excess: Iv<B>, slack: u128, p: Frac) -> Iv<B>
 /// the total. None exactly where the bracket of the quantile has no high end.
 pub fn tail_mean<const B: u32>(g: &Distribution<B>, p: Frac, mean: Iv<B>) -> Option<Iv<B>>
     requires below_one { p <ℚ whole 1 }
-    requires small { p.den ≤ 1000000000 }
-    requires mean { mean.hi ≤ 2 ^ 97 }
+    requires small { p.den ≤ most_level_den }
+    requires mean { mean.hi ≤ most_mean }
     ensures none { IsNone result ↔ IsFirstFound (low_cdf (2 ^ B) (low_at g.now)) p
         (length g.now) None }
     ensures holds { (us : List Loss) (q : ℕ) → AreDeclared us → GridEncloses g.now (total us)

@@ -2,7 +2,7 @@
 
 ghost use Rattle.std.specs.Prelude.{◌≡◌, ℕ, suc, ◌+◌, ◌-◌, ◌*◌, ◌^◌, ◌<◌, ◌≤◌, length, sum_by, All, slice_index_or};
 ghost use Rattle.std.specs.List.Sorted.{IsStrictlyIncreasing};
-ghost use Rattle.dl_limits.specs.Limits.{most_parts};
+ghost use Rattle.dl_limits.specs.Limits.{most_parts, most_cell_end};
 ghost use Rattle.dl_grid.specs.Prelude.{low_at, high_at, IsGridSize};
 ghost use Rattle.dl_plan.specs.Weighted.{amounts_of, weight_sum, weight_at};
 ghost use Rattle.dl_panjer.specs.Cells.{counted, coefficient, given, next_sum};
@@ -35,7 +35,7 @@ fn factor<const BY_AMOUNT: bool>(item: &Item) -> u64
 
 /// The product of a factor and an end of at most 1: one multiplication of 64 bits by 64 bits.
 fn product(factor: u64, end: u128) -> u128
-    requires { end ≤ 2 ^ 56 }
+    requires { end ≤ most_cell_end }
     ensures { result ≡ factor * end }
 {
     u128::from(factor) * u128::from(end as u64)

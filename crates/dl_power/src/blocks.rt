@@ -1,6 +1,7 @@
 //! Blocks of counts: each is a mixture of low powers, which all blocks share.
 
 ghost use Rattle.std.specs.Prelude.{◌≡◌, ℕ, suc, ◌+◌, ◌-◌, ◌*◌, ◌^◌, ◌<◌, ◌≤◌, length, get_or, All, IfOk};
+ghost use Rattle.dl_limits.specs.Limits.{edge_bound};
 ghost use Rattle.dl_exact.specs.Fraction.{Fraction};
 ghost use Rattle.dl_grid.specs.Prelude.{low_at, high_at, IsGridSize};
 ghost use Rattle.dl_model.specs.Prelude.{power, cell_from, probability_at, IsWithinOne};
@@ -86,7 +87,7 @@ pub(crate) fn blocks_of<const B: u32>(
     requires positive { 0 < total }
     requires one { 1 ≤ length powers.now }
     requires most { length powers.now < 2 ^ 32 }
-    requires near { blocks * length powers.now < 2 ^ 33 }
+    requires near { blocks * length powers.now < edge_bound }
     requires few { All (λ g. length g ≤ cells) powers.now }
     requires powers { (f : ℕ → Fraction) × IsWithinOne f × ArePowers cells f powers.now }
     ensures many { IfOk result (λ list. length list.items ≡ blocks) }

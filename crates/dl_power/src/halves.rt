@@ -2,7 +2,8 @@
 //! two are left. A pair is its first block and, before each count of its second, as many claims as
 //! the first has counts; these claims are the same for all pairs of a level.
 
-ghost use Rattle.std.specs.Prelude.{◌≡◌, ℕ, suc, ◌+◌, ◌*◌, ◌/◌, ◌^◌, ◌<◌, ◌≤◌, min, max, length, get_or, All, IfOk};
+ghost use Rattle.std.specs.Prelude.{◌≡◌, ℕ, suc, ◌+◌, ◌*◌, ◌/◌, ◌<◌, ◌≤◌, min, max, length, get_or, All, IfOk};
+ghost use Rattle.dl_limits.specs.Limits.{most_cell_end};
 ghost use Rattle.dl_exact.specs.Fraction.{Fraction};
 ghost use Rattle.dl_grid.specs.Prelude.{low_at, high_at, IsGridSize};
 ghost use Rattle.dl_model.specs.Compound.{cell_from};
@@ -19,8 +20,8 @@ use std::alloc::{AllocError, Global};
 
 /// The sums of two lists of ends, place by place, each at most `one`; past its end a list has 0.
 fn added(alloc: Global, first: &[u128], second: &[u128], one: u128) -> Result<Vec<u128>, AllocError>
-    requires in_first { All (λ end. end ≤ 2 ^ 56) first.now }
-    requires in_second { All (λ end. end ≤ 2 ^ 56) second.now }
+    requires in_first { All (λ end. end ≤ most_cell_end) first.now }
+    requires in_second { All (λ end. end ≤ most_cell_end) second.now }
     ensures many { IfOk result (λ list. length list.items
         ≡ max (length first.now) (length second.now)) }
     ensures each { IfOk result (λ list. (x : ℕ)

@@ -3,6 +3,7 @@
 
 ghost use Rattle.std.specs.Prelude.{◌≡◌, ℕ, ◌+◌, ◌-◌, ◌*◌, ◌/◌, ◌^◌, ◌<◌, ◌≤◌, length, get_or, All, IfOk};
 ghost use Rattle.std.specs.Int.{div_ceil};
+ghost use Rattle.dl_limits.specs.Limits.{edge_bound, most_weighted_ends};
 ghost use Rattle.dl_exact.specs.Fraction.{Fraction};
 ghost use Rattle.dl_grid.specs.Prelude.{low_at, high_at, IsGridSize};
 ghost use Rattle.dl_model.specs.Prelude.{cell_from, probability_at, IsWithinOne};
@@ -24,7 +25,7 @@ fn weights_from(
 ) -> Result<Vec<u32>, AllocError>
     requires fits { weight_sum table.now < 2 ^ 32 }
     requires few { many < 2 ^ 32 }
-    requires near { first < 2 ^ 33 }
+    requires near { first < edge_bound }
     ensures many { IfOk result (λ list. length list.items ≡ many) }
     ensures each { IfOk result (λ list. (i : ℕ) → i < many
         → get_or list.items i 0 ≡ weight_at table.now (first + i)) }
@@ -43,7 +44,7 @@ fn sums_at<const B: u32>(weights: &[u32], grids: &[Grid<B>], x: usize) -> (u128,
     requires few { length grids.now < 2 ^ 32 }
     ensures low { result.0 ≡ mixture_end weights.now grids.now (λ g. low_at g x) }
     ensures high { result.1 ≡ mixture_end weights.now grids.now (λ g. high_at g x) }
-    ensures small { result.1 ≤ 2 ^ 120 }
+    ensures small { result.1 ≤ most_weighted_ends }
 {
     let mut low = 0;
     let mut high = 0;
@@ -100,7 +101,7 @@ pub(crate) fn block<const B: u32>(
     requires positive { 0 < total }
     requires one { 1 ≤ length powers.now }
     requires most { length powers.now < 2 ^ 32 }
-    requires near { first < 2 ^ 33 }
+    requires near { first < edge_bound }
     requires few { All (λ g. length g ≤ cells) powers.now }
     requires powers { (f : ℕ → Fraction) × IsWithinOne f × ArePowers cells f powers.now }
     ensures few { IfOk result (λ g. length g ≤ cells) }

@@ -1,7 +1,8 @@
 //! Grids that end before the cells they speak of: past its last cell a grid has the ends 0, so a
 //! sum of a few short claims takes a short list.
 
-ghost use Rattle.std.specs.Prelude.{◌≡◌, ℕ, suc, ◌+◌, ◌*◌, ◌/◌, ◌^◌, ◌<◌, ◌≤◌, true, length, get_or, All, IfOk};
+ghost use Rattle.std.specs.Prelude.{◌≡◌, ℕ, suc, ◌+◌, ◌*◌, ◌/◌, ◌<◌, ◌≤◌, true, length, get_or, All, IfOk};
+ghost use Rattle.dl_limits.specs.Limits.{most_cell_end};
 ghost use Rattle.dl_exact.specs.Fraction.{Fraction};
 ghost use Rattle.dl_grid.specs.Prelude.{low_at, high_at, IsConvolution, IsGridSize};
 ghost use Rattle.dl_model.specs.Compound.{power};
@@ -14,7 +15,7 @@ use std::alloc::{AllocError, Global};
 /// The end of cell `x`, 0 past the last cell.
 pub(crate) fn end_at(ends: &[u128], x: usize) -> u128
     ensures end { result ≡ get_or ends.now x 0 }
-    ensures small { All (λ end. end ≤ 2 ^ 56) ends.now → result ≤ 2 ^ 56 }
+    ensures small { All (λ end. end ≤ most_cell_end) ends.now → result ≤ most_cell_end }
 {
     if x < ends.len() {
         return ends[x];

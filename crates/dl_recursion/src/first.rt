@@ -7,9 +7,7 @@ ghost use Rattle.dl_model.specs.Counts.{poisson, gamma};
 ghost use Rattle.dl_recursion.specs.Start.{HoldsNoClaim};
 
 use crate::start::{Scaled, power_of};
-
-/// The number 1, in units of 1 / 2^63.
-const ONE: u128 = 1 << 63;
+use dl_limits::SERIES_ONE;
 
 /// Of the geometric count with the ratio `num / (num + rest)`: the rest of 1, `rest / (num +
 /// rest)`.
@@ -22,7 +20,7 @@ fn geometric_start(num: u64, rest: u64) -> Scaled
     ensures holds { HoldsNoClaim (gamma 1 (num over (num + rest))) result }
 {
     let all = u128::from(num + rest);
-    let part = u128::from(rest) * ONE;
+    let part = u128::from(rest) * SERIES_ONE;
     Scaled {
         low: (part / all) as u64,
         high: ((part + (all - 1)) / all) as u64,
@@ -44,10 +42,10 @@ fn exponential_start(num: u64, den: u64) -> Scaled
     ensures order { result.low ≤ result.high }
     ensures holds { HoldsNoClaim (poisson (num over den)) result }
 {
-    let mut low_term = ONE;
-    let mut high_term = ONE;
-    let mut low = ONE;
-    let mut high = ONE;
+    let mut low_term = SERIES_ONE;
+    let mut high_term = SERIES_ONE;
+    let mut low = SERIES_ONE;
+    let mut high = SERIES_ONE;
     for n in 0..TERMS {
         let d = u128::from(den) * u128::from(n + 1);
         low_term = low_term * u128::from(num) / d;
@@ -57,8 +55,8 @@ fn exponential_start(num: u64, den: u64) -> Scaled
     }
     high = high + high_term;
     Scaled {
-        low: (ONE * ONE / high) as u64,
-        high: ((ONE * ONE + (low - 1)) / low) as u64,
+        low: (SERIES_ONE * SERIES_ONE / high) as u64,
+        high: ((SERIES_ONE * SERIES_ONE + (low - 1)) / low) as u64,
         exponent: 63,
     }
 }

@@ -2,7 +2,7 @@
 //! makes them those of one shape more, from the sum of the cells that lie an amount before.
 
 ghost use Rattle.std.specs.Prelude.{◌≡◌, ℕ, ◌+◌, ◌-◌, ◌*◌, ◌/◌, ◌^◌, ◌<◌, ◌≤◌, length, set, replicate, slice_index, IfOk, IfSome, IsTrue};
-ghost use Rattle.dl_limits.specs.Limits.{most_cells, most_end, start_bits};
+ghost use Rattle.dl_limits.specs.Limits.{most_cells, most_end, start_bits, least_pass_end};
 ghost use Rattle.dl_exact.specs.Fraction.{Fraction};
 ghost use Rattle.dl_recursion.specs.Runs.{run_parts};
 ghost use Rattle.dl_recursion.specs.Recursion.{cell_before, EncloseScaled, AreFirst};
@@ -13,7 +13,7 @@ use crate::cells::ScaledCells;
 use crate::parts::Run;
 use crate::rest::greatest_from;
 use crate::sums::cell_before;
-use dl_limits::MOST_END;
+use dl_limits::{FIRST_END, MOST_END};
 use std::alloc::{AllocError, Global};
 
 /// The greatest shape that is reached by passes.
@@ -26,9 +26,6 @@ const MOST_COUNT: usize = 64;
 /// 45 times the middle amount over 1 less all probabilities: 11 * 45 cells of passes in these units
 /// are as much work.
 const EQUAL_WORK: u64 = 500;
-
-/// 2^61: cell 0, before any shift.
-const START: u64 = 1 << 61;
 
 /// The cell that lies this amount before cell `s`, where `last` is the cell right before it. That
 /// one was written just now, and is read sooner from its variable than from the list.
@@ -133,12 +130,12 @@ fn factor_of(weight: u64, q: u64) -> Option<u64>
 
 /// The least shift by which cell 0 is at most `most`.
 fn first_shift(most: u64) -> u32
-    requires most { 2 ^ 57 ≤ most }
+    requires most { least_pass_end ≤ most }
     ensures few { result ≤ 4 }
     ensures small { 2 ^ start_bits / 2 ^ result ≤ most }
 {
     for shift in 0..4u32 {
-        if START >> shift <= most {
+        if FIRST_END >> shift <= most {
             return shift;
         }
     }
@@ -166,8 +163,8 @@ fn begin(alloc: Global, shift: u32, most: u64, cells: usize) -> Result<ScaledCel
     ensures round { IfOk result (λ x. EncloseScaled only_first x.shift cells x.low.items
         x.high.items) }
 {
-    let low = first_end(alloc, START >> shift, cells)?;
-    let high = first_end(alloc, START >> shift, cells)?;
+    let low = first_end(alloc, FIRST_END >> shift, cells)?;
+    let high = first_end(alloc, FIRST_END >> shift, cells)?;
     let windows = vec![in alloc]?;
     Ok(ScaledCells {
         low,

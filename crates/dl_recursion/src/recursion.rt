@@ -12,11 +12,8 @@ use crate::parts::Amounts;
 use crate::quotient::{Inverse, inverse_of, quotient};
 use crate::rest::{fill, greatest_from, is_falling, reach_of};
 use crate::sums::contributions;
-use dl_limits::MOST_END;
+use dl_limits::{FIRST_END, MOST_END};
 use std::alloc::{AllocError, Global};
-
-/// 2^61: cell 0, before any shift.
-const START: u64 = 1 << 61;
 
 /// Each number over 256, rounded down. Those before `first` are 0.
 fn lower(cells: &mut [u64], first: usize)
@@ -180,7 +177,7 @@ fn first_end(alloc: Global, cells: usize) -> Result<Vec<u64>, AllocError>
     ensures { IfOk result (λ list. list.items ≡ 2 ^ start_bits ∷ []) }
 {
     let mut list = Vec::with_capacity(alloc, cells)?;
-    list.push(START)?;
+    list.push(FIRST_END)?;
     Ok(list)
 }
 

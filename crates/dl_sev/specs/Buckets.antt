@@ -1,5 +1,6 @@
 -- Values in money as whole numbers of buckets.
 use Rattle.std.specs.Prelude.{ℕ, ◌≡◌, ◌<◌, ◌≤◌, ◌^◌, ⊤, List, length, map, All, slice_index_or}
+use Rattle.dl_limits.specs.Limits.{amount_bound}
 use Rattle.dl_exact.specs.Fraction.{Fraction, whole, ◌/ℚ◌, ◌<ℚ◌}
 use Rattle.dl_plan.specs.Fine.{IsWhole}
 use Rattle.dl_sev.specs.declared.fault.AmountFault.{AmountFault}
@@ -7,8 +8,8 @@ use Rattle.dl_sev.specs.declared.fault.AmountFault.TheVariants.{OffGrid, TooFar,
 
 -- both parts are below 10^18
 pub record HasPartsOf18Digits (x : Fraction) : Type 0 where
-  pub num : x.num < 10 ^ 18
-  pub den : x.den < 10 ^ 18
+  pub num : x.num < amount_bound
+  pub den : x.den < amount_bound
 
 -- the value in buckets of size bs
 abbrev pub buckets : Fraction → Fraction → Fraction

@@ -1,7 +1,7 @@
 -- The values of a list: a, a + s, a + 2s, and so on, as long as the value does not pass b.
-use Rattle.std.specs.Prelude.{ℕ, ◌≡◌, ◌⊎◌, ◌+◌, ◌<◌, ◌≤◌, ◌/◌, ◌^◌, ⊤, List, [], ◌∷◌, length, map, flat_map}
+use Rattle.std.specs.Prelude.{ℕ, ◌≡◌, ◌⊎◌, ◌+◌, ◌<◌, ◌≤◌, ◌/◌, ⊤, List, [], ◌∷◌, length, map, flat_map}
 use Rattle.std.specs.List.{range_with_len}
-use Rattle.dl_limits.specs.Limits.{most_range_parts, most_values}
+use Rattle.dl_limits.specs.Limits.{most_range_parts, most_values, numeral_bound}
 use Rattle.dl_exact.specs.Fraction.{Fraction, whole, ◌+ℚ◌, ◌-ℚ◌, ◌*ℚ◌, ◌/ℚ◌, ◌≤ℚ◌, ◌<ℚ◌}
 use Rattle.dl_plan.specs.Fine.{common_denominator}
 use Rattle.dl_sev.specs.declared.range.Range.{Range}
@@ -41,7 +41,7 @@ IsShared r = range_denominator r ≤ most_range_parts
 pub record IsRange (r : Range) : Type 0 where
   pub rising : r.from ≤ℚ r.to
   pub step : whole 0 <ℚ r.step
-  pub digits : r.to.num < 10 ^ 11
+  pub digits : r.to.num < numeral_bound
   pub shared : (r.from ≡ r.to) ⊎ IsShared r
 
 -- there are more than 1,024 values

@@ -1,7 +1,7 @@
 //! Whether a clause maps each multiple of a step to a whole number.
 
-ghost use Rattle.std.specs.Prelude.{◌<◌, ◌^◌, ◌↔◌, IsTrue, All};
-ghost use Rattle.dl_limits.specs.Limits.{sum_bound};
+ghost use Rattle.std.specs.Prelude.{◌<◌, ◌↔◌, IsTrue, All};
+ghost use Rattle.dl_limits.specs.Limits.{sum_bound, edge_bound};
 ghost use Rattle.dl_plan.specs.Prelude.{IsWhole, kept, IsClause};
 ghost use Rattle.dl_sev.specs.Fits.{FitsStep, FitsAfter, FitsLayer};
 
@@ -40,7 +40,7 @@ fn fits_layer(cede: &Cede, step: u32, layer: &CedeLayer) -> bool
 /// numbers.
 fn fits_after(cede: &Cede, step: u32, bound: u64) -> bool
     requires step { 0 < step }
-    requires bound { bound < 2 ^ 33 }
+    requires bound { bound < edge_bound }
     requires clause { IsClause cede.now }
     ensures { IsTrue result ↔ FitsAfter cede.now step bound }
 {

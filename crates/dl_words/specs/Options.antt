@@ -3,7 +3,7 @@
 use Rattle.std.specs.Prelude.{ℕ, Bool, List, [], ◌∷◌, ◌&&◌, Option, Some, None, codes, if◌then◌else◌, is_some, length, drop, nat_le, unwrap_or, ◌==◌}
 use Rattle.std.specs.List.{list_all}
 use Rattle.std.specs.Str.{bytes_eq}
-use Rattle.dl_limits.specs.Limits.{most_digits, most_log2}
+use Rattle.dl_limits.specs.Limits.{most_digits, most_log2, most_width, most_mean_width}
 use Rattle.dl_exact.specs.Fraction.{whole}
 use Rattle.dl_frac.specs.Numerals.{numeral_value}
 use Rattle.dl_plan.specs.declared.settings.Asked.{Asked}
@@ -47,8 +47,8 @@ options =
     ∷ (codes "bs", is_bucket)
     ∷ (codes "log2", is_number_within 1 most_log2)
     ∷ (codes "digits", is_number_within 1 most_digits)
-    ∷ (codes "width", is_number_within 1 1000000000)
-    ∷ (codes "mwidth", is_number_within 1 1000000000000)
+    ∷ (codes "width", is_number_within 1 most_width)
+    ∷ (codes "mwidth", is_number_within 1 most_mean_width)
     ∷ (codes "format", is_format)
     ∷ []
 

@@ -14,7 +14,7 @@ ghost use Rattle.dl_words.specs.Spelling.{is_bucket, is_number_within};
 use crate::spelling::{bucket, whole};
 use clap::ArgMatches;
 use dl_frac::Frac;
-use dl_limits::{MOST_DIGITS, MOST_LOG2};
+use dl_limits::{MOST_DIGITS, MOST_LOG2, MOST_MEAN_WIDTH, MOST_WIDTH};
 use dl_plan::{Form, Format, Items, Settings};
 use std::alloc::Global;
 
@@ -52,8 +52,8 @@ fn settings_with(
 {
     let log2 = number_of(matches, "log2", MOST_LOG2 as u64, 10)? as u32;
     let digits = number_of(matches, "digits", MOST_DIGITS as u64, 6)? as u32;
-    let width = number_of(matches, "width", 1_000_000_000, 10)?;
-    let mwidth = number_of(matches, "mwidth", 1_000_000_000_000, 1_000_000)?;
+    let width = number_of(matches, "width", MOST_WIDTH, 10)?;
+    let mwidth = number_of(matches, "mwidth", MOST_MEAN_WIDTH, 1_000_000)?;
     let format = format_of(matches)?;
     Some(Settings {
         form,

@@ -2,6 +2,7 @@
 
 ghost use Rattle.std.specs.Prelude.{◌≡◌, ◌+◌, ◌-◌, ◌*◌, ◌/◌, ◌^◌, ◌<◌, ◌≤◌, min};
 ghost use Rattle.std.specs.Int.{div_ceil};
+ghost use Rattle.dl_limits.specs.Limits.{zero_bound};
 ghost use Rattle.dl_exact.specs.Fraction.{whole, ◌<ℚ◌};
 ghost use Rattle.dl_grid.specs.Cells.{all_at_zero};
 
@@ -45,7 +46,7 @@ impl<const B: u32> Change<B> {
     /// The change from `none`, at most 17 / 18, to `p`, below 1.
     pub(crate) fn new(none: Iv<B>, p: Frac) -> Self
         requires below_one { p <ℚ whole 1 }
-        requires parts { p.den < 2 ^ 37 }
+        requires parts { p.den < zero_bound }
         requires some_claim { 18 * none.hi ≤ 17 * 2 ^ B }
         ensures none { result.none ≡ none.entry }
         ensures claims_times { result.claims.times ≡ p.den - p.num }

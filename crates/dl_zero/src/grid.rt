@@ -1,6 +1,7 @@
 //! The grid of a unit with a changed probability of no claim.
 
 ghost use Rattle.std.specs.Prelude.{◌≡◌, ℕ, ◌+◌, ◌-◌, ◌*◌, ◌^◌, ◌<◌, ◌≤◌, length, IfOk};
+ghost use Rattle.dl_limits.specs.Limits.{zero_bound};
 ghost use Rattle.dl_exact.specs.Fraction.{whole, ◌<ℚ◌};
 ghost use Rattle.dl_grid.specs.Cells.{spread};
 ghost use Rattle.dl_model.specs.Prelude.{GridEncloses, Aggregate, changed};
@@ -23,7 +24,7 @@ pub fn changed_cells<const B: u32>(
     p: Frac,
 ) -> Result<Grid<B>, AllocError>
     requires below_one { p <ℚ whole 1 }
-    requires parts { p.den < 2 ^ 37 }
+    requires parts { p.den < zero_bound }
     requires some_claim { 18 * none.hi ≤ 17 * 2 ^ B }
     requires room { HasRoomForNone grid.now none }
     ensures cells { IfOk result (λ g. length g ≡ length grid.now) }
@@ -55,7 +56,7 @@ pub fn zero_grid<const B: u32>(
     p: Frac,
 ) -> Result<Grid<B>, AllocError>
     requires below_one { p <ℚ whole 1 }
-    requires parts { p.den < 2 ^ 37 }
+    requires parts { p.den < zero_bound }
     requires some_claim { 18 * none.hi ≤ 17 * 2 ^ B }
     requires before { (u : Aggregate) × IsBefore u grid.now none }
     ensures cells { IfOk result (λ g. length g ≡ length grid.now) }

@@ -1,4 +1,4 @@
-use Rattle.dl_distort.proofs.Common.{◌≡◌, ◌+◌, ◌-◌, ◌^◌, ◌≤◌, arith, length, refl, subst, sym, All, None, true, false, All-more, take_all, whole, ◌<ℚ◌, low_at, spread, low_cdf, IsFirstFound}
+use Rattle.dl_distort.proofs.Common.{◌+◌, ◌-◌, ◌^◌, ◌≤◌, arith, length, refl, subst, sym, All, None, All-more, take_all, whole, ◌<ℚ◌, low_at, spread, low_cdf, IsFirstFound}
 use Rattle.dl_distort.proofs.Sums.{start, step, weight_within, sum_small, all_hold, all_least, all_narrow}
 use Rattle.dl_distort.proofs.Parts.{price_rises}
 use Rattle.dl_distort.proofs.prices.price.Goals as goal

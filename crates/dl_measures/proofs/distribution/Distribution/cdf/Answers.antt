@@ -1,4 +1,4 @@
-use Rattle.dl_measures.proofs.Common.{ℕ, ◌≡◌, ◌+◌, ◌≤◌, min, arith, ap₂, ◌∙◌, scale_of}
+use Rattle.dl_measures.proofs.Common.{ℕ, ◌+◌, ◌≤◌, min, arith, ap₂, ◌∙◌, scale_of}
 use Rattle.dl_grid.proofs.CellLaws.{one_in_range}
 use Rattle.dl_grid.proofs.PlaceSums.{low_sum}
 use Rattle.dl_measures.proofs.Sums.{high_mass, low_high}

@@ -1,4 +1,4 @@
-use Rattle.dl_measures.proofs.Common.{◌≡◌, ◌+◌, ◌-◌, ◌^◌, suc, arith, count_below, high_at, scale_of, ◌∙◌}
+use Rattle.dl_measures.proofs.Common.{◌+◌, ◌^◌, suc, arith, count_below, high_at, scale_of, ◌∙◌}
 use Rattle.dl_measures.proofs.LayerEnds.{units_order, units_fit}
 use Rattle.dl_measures.proofs.MarkLaws.{layer_of, lesser_rests}
 use Rattle.dl_measures.proofs.distribution.Distribution.finite_layer.Goals as goal
