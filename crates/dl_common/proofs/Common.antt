@@ -10,7 +10,7 @@ pub use Rattle.std.specs.Borrow.{Bor}
 pub use Rattle.std.specs.List.{All, flat_map}
 pub use mathlib.Core.Path.{fun_ext}
 pub use Rattle.dl_common.specs.Amounts.{amounts_to, claims_mean}
-pub use Rattle.dl_common.specs.Pooled.{IsMixedOf, IsPooled, IsRaised, alone, can_share, is_poisson, lent}
+pub use Rattle.dl_common.specs.Pooled.{IsMixedOf, IsPooled, IsRaised, alone, lent}
 pub use Rattle.dl_exact.proofs.Denominators.{over_le_over, over_times, over_zero, same_num}
 pub use Rattle.dl_exact.proofs.Laws.{div_times, le_div, le_of_eq, le_plus, le_refl, le_trans, one_pos, one_times, plus_cancel, plus_comm, plus_zero, ring, sub_plus, times_assoc, times_cancel, times_comm, times_le_both, times_le_cancel, times_left_comm, times_one, times_plus, times_zero, whole_pos, zero_le}
 pub use Rattle.dl_exact.proofs.Over.{le_over, over_den, over_le, over_mul, over_same, over_self}
@@ -38,8 +38,8 @@ pub use Rattle.dl_model.specs.Series.{AtLeast, AtMost, Holds, Series}
 pub use Rattle.dl_model.specs.Units.{loss, plain}
 pub use Rattle.dl_plan.proofs.Fits.{given_ok, given_value}
 pub use Rattle.dl_plan.proofs.Means.{admitted_fits, positive_share, severity_total, weight_at-le}
-pub use Rattle.dl_plan.proofs.Shared.{has_factor}
-pub use Rattle.dl_plan.specs.Common.{CanShare, HasCommonFactor, IsPoisson, expected_of, raised, shared_probabilities, thinned_of, unit_share}
+pub use Rattle.dl_plan.proofs.Shared.{has_factor, shares_true, true_shares}
+pub use Rattle.dl_plan.specs.Common.{CanShare, HasCommonFactor, IsPoisson, can_share, expected_of, raised, shared_probabilities, thinned_of, unit_share}
 pub use Rattle.dl_plan.specs.Count.{IsClaimCount, IsUnbounded, expected_count}
 pub use Rattle.dl_plan.specs.Fine.{HasPartsOf48Bits, IsFineTo30Bits, common_denominator, numerator_over}
 pub use Rattle.dl_plan.specs.Means.{thinned_mean}

@@ -1,16 +1,10 @@
 -- A gamma unit and the unit of its extra claims: its shape is above 0, and its extra claims are no more than its claims.
 use Rattle.dl_common.proofs.Common.{ℕ, zero, suc, refl, ◌≡◌, ◌∙◌, ◌<◌, ◌≤◌, ap, sym, subst, arith, Fraction, whole, ◌*ℚ◌, ◌/ℚ◌, ◌-ℚ◌, ◌≤ℚ◌, le_refl, le_trans, times_le_both, times_le_cancel, div_times, times_one, whole_pos, whole_le, Freq, Fixed, Table, Bernoulli, Binomial, Poisson, Gamma, UnitOfPlan, IsClaimCount, IsUnbounded, expected_count, probability_of}
-use Rattle.dl_common.specs.Extra.{IsGamma, extra_count}
+use Rattle.dl_common.specs.Extra.{extra_count}
+pub use Rattle.dl_plan.proofs.Shared.{gamma_unbounded}
+use Rattle.dl_plan.specs.Common.{IsGamma}
 use Rattle.dl_limits.specs.Limits.{most_expected}
 use Rattle.dl_plan.specs.Valid.{IsValidUnit}
-
-pub gamma_unbounded : (freq : Freq) → IsGamma freq → IsUnbounded freq
-gamma_unbounded (Fixed m) h = absurd h
-gamma_unbounded (Table counts total) h = absurd h
-gamma_unbounded (Bernoulli q) h = absurd h
-gamma_unbounded (Binomial trials q) h = absurd h
-gamma_unbounded (Poisson mean) h = absurd h
-gamma_unbounded (Gamma shape mean) h = tt
 
 pub some_shape : (freq : Freq) (r : ℕ) (m : Fraction) → freq ≡ Gamma r m → IsClaimCount freq → 0 < r
 some_shape freq r m is counts =

@@ -1,6 +1,6 @@
 -- The expected numbers of claims of units, one unit after another, and the part of all claims that each has.
-use Rattle.dl_common.proofs.Common.{ℕ, ◌≡◌, ◌∙◌, refl, ◌+◌, ◌<◌, ◌≤◌, List, [], ◌∷◌, ◌++◌, length, map, take, get_or, ap, ap₂, sym, subst, arith, take_more, map_more, Fraction, whole, ◌+ℚ◌, ◌*ℚ◌, ◌/ℚ◌, ◌≤ℚ◌, ◌<ℚ◌, sum_over, le_trans, zero, suc, plus_zero, plus_comm, div_times, times_cancel, one_times, times_comm, sum_over_append, sum_over_same, sum_over_times, sum_over_map, FitsFrac, UnitOfPlan, Bor, Freq, Fixed, Table, Bernoulli, Binomial, Poisson, Gamma, Sev, Bool, true, false, cond, Option, None, Some, inl, inr, arith, ◌*◌, lent, can_share, is_poisson, IsPoisson, IsClaimCount, All, pairs_of, shares, map-append, over_self, over_le, le_over, one_pos, IsFineTo30Bits, common_denominator, expected_count, expected_of, unit_share, le_plus, times_le_cancel, length-map, get_or-map, sum_of, count_weights, HasPartsOf48Bits}
-use Rattle.std.proofs.Common.{Result, Ok, Err, ◌&&◌, is_none, filter, IsSome}
+use Rattle.dl_common.proofs.Common.{ℕ, ◌≡◌, ◌∙◌, refl, ◌+◌, ◌<◌, ◌≤◌, List, [], ◌∷◌, ◌++◌, length, map, take, get_or, ap, ap₂, sym, subst, arith, take_more, map_more, Fraction, whole, ◌+ℚ◌, ◌*ℚ◌, ◌/ℚ◌, ◌≤ℚ◌, ◌<ℚ◌, sum_over, le_trans, zero, suc, plus_zero, plus_comm, div_times, times_cancel, one_times, times_comm, sum_over_append, sum_over_same, sum_over_times, sum_over_map, FitsFrac, UnitOfPlan, Bor, Freq, Fixed, Table, Bernoulli, Binomial, Poisson, Gamma, Sev, Bool, true, false, cond, Option, None, Some, inl, inr, arith, ◌*◌, lent, can_share, true_shares, shares_true, IsPoisson, IsClaimCount, All, pairs_of, shares, map-append, over_self, over_le, le_over, one_pos, IsFineTo30Bits, common_denominator, expected_count, expected_of, unit_share, le_plus, times_le_cancel, length-map, get_or-map, sum_of, count_weights, HasPartsOf48Bits}
+use Rattle.std.proofs.Common.{Result, Ok, Err, filter, IsSome}
 use Rattle.std.proofs.lemmas.List.Elements.{All-head, All-tail, All-cons, All-nil}
 use Rattle.dl_plan.specs.Common.{CanShare}
 use Rattle.dl_frac.specs.Exact.{Gives}
@@ -95,39 +95,6 @@ poisson_counts freq h = subst IsClaimCount (sym (poisson_is freq h)) tt
 
 pub poisson_weights : (freq : Freq) → IsPoisson freq → count_weights freq ≡ poisson (expected_count freq)
 poisson_weights freq h = ap count_weights (poisson_is freq h)
-
-poisson_true : (freq : Freq) → IsPoisson freq → is_poisson freq ≡ true
-poisson_true freq h = ap is_poisson (poisson_is freq h)
-
-true_poisson : (freq : Freq) → is_poisson freq ≡ true → IsPoisson freq
-true_poisson (Fixed m) e = absurd (cc)
-true_poisson (Table counts all) e = absurd (cc)
-true_poisson (Bernoulli q) e = absurd (cc)
-true_poisson (Binomial trials q) e = absurd (cc)
-true_poisson (Poisson mean) e = tt
-true_poisson (Gamma shape mean) e = absurd (cc)
-
-true_none : {A : Type 0} (o : Option A) → is_none o ≡ true → o ≡ None
-true_none None e = refl
-true_none (Some x) e = absurd (cc)
-
-true_both : (a b : Bool) → (a && b) ≡ true → (a ≡ true) × (b ≡ true)
-true_both true b e = (refl, e)
-true_both false b e = absurd (cc)
-
-true_shares : (u : UnitOfPlan) → can_share u ≡ true → CanShare u
-true_shares u e =
-    let both = true_both (is_poisson u.freq) (is_none u.cede && is_none u.zero) e in
-    let rest = true_both (is_none u.cede) (is_none u.zero) both.1 in record {
-      count = true_poisson u.freq both.0;
-      clause = true_none u.cede rest.0;
-      zero = true_none u.zero rest.1;
-    }
-
-shares_true : (u : UnitOfPlan) → CanShare u → can_share u ≡ true
-shares_true u h =
-    ap (λ b. b && (is_none u.cede && is_none u.zero)) (poisson_true u.freq h.count)
-    ∙ ap (λ o. is_none o && is_none u.zero) h.clause ∙ ap is_none h.zero
 
 pub sharing_share : (units : List UnitOfPlan) → All CanShare (filter can_share units)
 sharing_share [] = All-nil CanShare

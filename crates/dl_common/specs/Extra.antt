@@ -1,22 +1,12 @@
 -- What a gamma unit adds to a total, by a unit of extra claims (Loss Models, "The (a, b, 0) class": the
 -- negative binomial counts of shape r and of shape 1 and of one ratio add up to that of shape r + 1).
-use Rattle.std.specs.Prelude.{ℕ, ◌≡◌, ⊤, None}
+use Rattle.std.specs.Prelude.{ℕ, ◌≡◌, None}
 use Rattle.dl_exact.specs.Prelude.{whole, ◌/ℚ◌}
 use Rattle.dl_plan.specs.declared.plan.Freq.{Freq}
 use Rattle.dl_plan.specs.declared.plan.Freq.TheVariants.{Gamma}
 use Rattle.dl_plan.specs.declared.plan.Unit.{Unit as UnitOfPlan}
 use Rattle.dl_plan.specs.Prelude.{probability_of}
-
--- a gamma count
-abbrev pub IsGamma : Freq → Type 0
-IsGamma (Gamma shape mean) = ⊤
-IsGamma freq = ⊥
-
--- a gamma unit without an aggregate clause and without a changed probability of no claim
-pub record CanRaise (u : UnitOfPlan) : Type 0 where
-  pub count : IsGamma u.freq
-  pub clause : u.cede ≡ None
-  pub zero : u.zero ≡ None
+pub use Rattle.dl_plan.specs.Prelude.{CanRaise}
 
 -- of a gamma count of shape r and mean m the count of shape 1 and mean m / r
 abbrev pub extra_count : Freq → Freq

@@ -1,12 +1,12 @@
 -- One unit in the place of all units of a plan under a common factor (Loss Models, "Mixed frequency
 -- distributions": Poisson counts with one gamma mean are a negative binomial count), and in the
 -- place of independent Poisson units.
-use Rattle.std.specs.Prelude.{ℕ, suc, ◌≡◌, ◌≤◌, ◌&&◌, Bool, true, false, None, is_none, List, [], ◌∷◌, length, map, take, flat_map, get_or}
+use Rattle.std.specs.Prelude.{ℕ, suc, ◌≡◌, ◌≤◌, None, List, [], ◌∷◌, length, map, take, flat_map, get_or}
 use Rattle.std.specs.Borrow.{Bor}
 use Rattle.dl_limits.specs.Limits.{most_expected}
 use Rattle.dl_exact.specs.Prelude.{whole, ◌≤ℚ◌, ◌<ℚ◌}
 use Rattle.dl_plan.specs.declared.plan.Freq.{Freq}
-use Rattle.dl_plan.specs.declared.plan.Freq.TheVariants.{Fixed, Table, Bernoulli, Binomial, Poisson, Gamma}
+use Rattle.dl_plan.specs.declared.plan.Freq.TheVariants.{Gamma}
 use Rattle.dl_plan.specs.declared.plan.Unit.{Unit as UnitOfPlan}
 use Rattle.dl_plan.specs.declared.plan.Plan.{Plan}
 use Rattle.dl_plan.specs.Prelude.{IsFineTo30Bits, HasPartsOf48Bits, probability_of, expected_of, raised, shared_probabilities, thinned_of, unit_share}
@@ -15,20 +15,6 @@ use Rattle.dl_model.specs.Prelude.{pooled_severity, poisson_units}
 -- the units that are lent
 abbrev pub lent : List (Bor UnitOfPlan) → List UnitOfPlan
 lent units = map (λ unit. unit.now) units
-
--- the count is Poisson
-abbrev pub is_poisson : Freq → Bool
-is_poisson (Fixed m) = false
-is_poisson (Table counts total) = false
-is_poisson (Bernoulli q) = false
-is_poisson (Binomial trials q) = false
-is_poisson (Poisson mean) = true
-is_poisson (Gamma shape mean) = false
-
--- the unit can be pooled with others: its count is Poisson, without an aggregate clause and without
--- a changed probability of no claim
-abbrev pub can_share : UnitOfPlan → Bool
-can_share u = is_poisson u.freq && (is_none u.cede && is_none u.zero)
 
 -- a unit with this claim count, whose severity mixes those of the units by their expected counts; it has
 -- the first unit's name, and neither an aggregate clause nor a changed probability of no claim

@@ -2,8 +2,8 @@
 
 ghost use Rattle.std.specs.Prelude.{ℕ, IsSome, IfOk, IfSome};
 ghost use Rattle.dl_exact.specs.Fraction.{whole, ◌-ℚ◌, ◌*ℚ◌};
-ghost use Rattle.dl_plan.specs.Prelude.{HasPartsOf48Bits, probability_of, expected_count, IsValidUnit};
-ghost use Rattle.dl_common.specs.Extra.{CanRaise, IsExtra, extra_count};
+ghost use Rattle.dl_plan.specs.Prelude.{HasPartsOf48Bits, probability_of, expected_count, CanRaise, IsValidUnit};
+ghost use Rattle.dl_common.specs.Extra.{IsExtra, extra_count};
 
 use crate::copies::copied;
 use crate::pooling::are_admitted;

@@ -8,10 +8,10 @@ ghost use Rattle.dl_limits.specs.Limits.{most_parts};
 ghost use Rattle.dl_grid.specs.Prelude.{low_at, high_at, spread, IsGrid, up};
 ghost use Rattle.dl_plan.specs.declared.plan.Unit.{Unit as UnitOfPlan};
 ghost use Rattle.dl_plan.specs.declared.plan.Plan.{Plan};
-ghost use Rattle.dl_plan.specs.Prelude.{weight_sum, weight_at, thinned_mean, IsValidUnit, IsPoisson, IsUnbounded, CanShare, SharesFactor};
+ghost use Rattle.dl_plan.specs.Prelude.{weight_sum, weight_at, thinned_mean, IsValidUnit, IsPoisson, IsUnbounded, CanRaise, CanShare, SharesFactor};
 ghost use Rattle.dl_model.specs.Prelude.{Series, AtMost, Holds, Loss, AreDeclarable, AreDeclared, One, Point, Joint, partial_sums, total, GridEncloses, compound_of, declared, loss_of};
 ghost use Rattle.dl_common.specs.Pooled.{IsRaised};
-ghost use Rattle.dl_common.specs.Extra.{CanRaise, IsExtra};
+ghost use Rattle.dl_common.specs.Extra.{IsExtra};
 ghost use Rattle.dl_common.specs.Amounts.{amounts_to, claims_mean};
 
 use dl_grid::{Grid, units_of_one};

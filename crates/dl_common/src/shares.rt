@@ -2,22 +2,12 @@
 
 ghost use Rattle.std.specs.Prelude.{ℕ, ◌≡◌, ◌≤◌, map, take, filter, length, All, IsSome, IfOk, IfSome};
 ghost use Rattle.dl_exact.specs.Fraction.{whole, ◌<ℚ◌};
-ghost use Rattle.dl_plan.specs.Prelude.{IsFineTo30Bits, HasPartsOf48Bits, CanShare, expected_of, unit_share, expected_count};
-ghost use Rattle.dl_common.specs.Pooled.{can_share, lent};
+ghost use Rattle.dl_plan.specs.Prelude.{IsFineTo30Bits, HasPartsOf48Bits, CanShare, can_share, expected_of, unit_share, expected_count};
+ghost use Rattle.dl_common.specs.Pooled.{lent};
 
 use dl_frac::Frac;
-use dl_plan::{Freq, Unit};
+use dl_plan::Unit;
 use std::alloc::{AllocError, Global};
-
-/// Whether a unit can be pooled with others.
-fn can_share(unit: &Unit) -> bool
-    ensures { result ≡ can_share unit.now }
-{
-    match unit.freq {
-        Freq::Poisson(_) => unit.cede.is_none() && unit.zero.is_none(),
-        _ => false,
-    }
-}
 
 /// The units that can be pooled, in their order: those with a Poisson count, without an aggregate
 /// clause and without a changed probability of no claim.
@@ -27,7 +17,7 @@ pub fn sharing<'a>(alloc: Global, units: &'a [Unit]) -> Result<Vec<&'a Unit>, Al
 {
     let mut made = Vec::new(alloc);
     'units: for unit in units {
-        if can_share(unit) {
+        if unit.can_share() {
             made.push(unit)?;
         }
     }

@@ -2,24 +2,13 @@
 use Rattle.dl_eval.proofs.Common.{[], ◌∷◌, ℕ, ◌≡◌, ◌+◌, ◌-◌, ◌*◌, ◌^◌, ◌<◌, ◌≤◌, List, length, get_or, arith, subst, sym, Option, None, IfSome, IfSome_then, Fraction, whole, ◌over◌, ◌<ℚ◌, Iv, spread, up, Holds, AreDeclarable, AreDeclared, AtMost, One, Mean, Point, Joint, partial_sums, total, GridEncloses, Loss, loss_of, Plan, IsValid, IsValidUnit, UnitOfPlan, thinned_mean, joint_budget, IsAtMost, IsTotalOf, IsJointOf, AreUnitMeans, IsTailShareOf, IsQuantile}
 use Rattle.std.specs.Prelude.{replicate}
 use Rattle.std.proofs.lemmas.List.{get_or-replicate, length-replicate}
-use Rattle.dl_common.specs.Extra.{CanRaise, IsExtra, IsGamma}
-use Rattle.dl_plan.specs.declared.plan.Freq.{Freq}
-use Rattle.dl_plan.specs.declared.plan.Freq.TheVariants.{Fixed, Table, Bernoulli, Binomial, Poisson, Gamma}
-use Rattle.dl_plan.specs.Count.{IsUnbounded}
+use Rattle.dl_common.specs.Extra.{CanRaise, IsExtra}
 use Rattle.dl_budget.specs.Shared.{shared_joint_budget}
 use Rattle.dl_cotail.specs.Widths.{gamma_cotail_width}
 use Rattle.dl_model.specs.Shares.{HoldsShare, unit_mean}
 use Rattle.dl_eval.proofs.FromTotal.{below_by, joint_by, same_unit, tail_share_by}
 use Rattle.dl_eval.proofs.ReadAs.{valid_there}
 use Rattle.dl_eval.specs.Totals.{AreRaisedTotals, IsRaisedTotalOf}
-
-pub gamma_unbounded : (freq : Freq) → IsGamma freq → IsUnbounded freq
-gamma_unbounded (Fixed m) is = absurd is
-gamma_unbounded (Table counts total) is = absurd is
-gamma_unbounded (Bernoulli q) is = absurd is
-gamma_unbounded (Binomial trials q) is = absurd is
-gamma_unbounded (Poisson mean) is = absurd is
-gamma_unbounded (Gamma shape mean) is = tt
 
 module _ (plan : Plan) (i : ℕ) {units : List UnitOfPlan} {u : UnitOfPlan} (same : units ≡ plan.units)
     (read : u ≡ get_or units i u) (inside : i < length plan.units) {B : ℕ} {g : List (Iv B)}

@@ -1,10 +1,7 @@
 -- The joint mean of a Poisson unit, and its share in a tail mean, from the grid of the total.
-use Rattle.dl_eval.proofs.Common.{IsTrue, leb_tells, All, All-head, [], ◌∷◌, ℕ, ◌≡◌, ◌+◌, ◌-◌, ◌*◌, ◌^◌, ◌<◌, ◌≤◌, List, length, get_or, arith, sym, ap, subst, ◌∙◌, get_or_default, get_or-map, length-map, map, refl, inl, inr, ◌⊎◌, IsSome, Option, None, Some, IfSome, IfSome_then, Fraction, whole, ◌over◌, ◌<ℚ◌, Iv, spread, up, Holds, AreDeclarable, AreDeclared, AtMost, One, Mean, Point, Joint, partial_sums, total, GridEncloses, Loss, loss_of, aggregates_of, plan_declared, plan_units, Plan, IsValid, IsValidUnit, UnitOfPlan, read_unit, thinned_mean, joint_budget, Declares, DeclaresShare, IsAtMost, IsTotalOf, IsJointOf, AreUnitMeans, IsTailShareOf, IsQuantile, cotail_budget, total_budget, unit_mean_budget, mul-le-mul_left, mul-le-mul_right, div_ceil, div_ceil_least, div_ceil_times, up_quotient}
-use Rattle.std.proofs.Common.{true, cond}
+use Rattle.dl_eval.proofs.Common.{IsTrue, leb_tells, [], ◌∷◌, ℕ, ◌≡◌, ◌+◌, ◌-◌, ◌*◌, ◌^◌, ◌<◌, ◌≤◌, List, length, get_or, arith, sym, ap, subst, ◌∙◌, get_or_default, get_or-map, length-map, map, refl, inl, inr, ◌⊎◌, IsSome, Option, None, Some, IfSome, IfSome_then, Fraction, whole, ◌over◌, ◌<ℚ◌, Iv, spread, up, Holds, AreDeclarable, AreDeclared, AtMost, One, Mean, Point, Joint, partial_sums, total, GridEncloses, Loss, loss_of, aggregates_of, plan_declared, plan_units, Plan, IsValid, IsValidUnit, UnitOfPlan, read_unit, thinned_mean, joint_budget, Declares, DeclaresShare, IsAtMost, IsTotalOf, IsJointOf, AreUnitMeans, IsTailShareOf, IsQuantile, cotail_budget, total_budget, unit_mean_budget, mul-le-mul_left, mul-le-mul_right, div_ceil, div_ceil_least, div_ceil_times, up_quotient}
 use Rattle.std.proofs.Math.Dec.{leb}
 use Rattle.dl_plan.specs.Common.{CanShare}
-use Rattle.dl_common.specs.Pooled.{can_share}
-use Rattle.dl_common.proofs.Units.{sharing_share}
 use Rattle.dl_budget.specs.Shared.{shared_joint_budget}
 use Rattle.dl_cotail.specs.Widths.{conditional_width, poisson_joint_width, share_width, poisson_cotail_width}
 use Rattle.dl_exact.proofs.BelowOne.{num_below}
@@ -168,14 +165,6 @@ module _ (plan : Plan) (i : ℕ) {units : List UnitOfPlan} {u : UnitOfPlan} (sam
           tail_share_by g (λ us. GridEncloses g (total us)) t.cells (total_alone none t).encloses (from_narrow from) valid none p result t
           (λ us j declared there same encloses _. holds us j declared there same encloses)
           (IfSome_then result width (λ r narrow m near. narrow m (spread g) near (omega arith))) beside below read each
-
--- ---- which units can share
-
--- a unit that passes the test `can_share` is a Poisson unit without clauses
-pub true_shares : (u : UnitOfPlan) → can_share u ≡ true → CanShare u
-true_shares u e =
-    subst (λ us. All CanShare us → CanShare u) (sym (ap (λ b. cond b (u ∷ []) []) e)) (All-head CanShare u [])
-    (sharing_share (u ∷ []))
 
 -- a test that holds
 pub told_le : (a b : ℕ) → IsTrue (leb a b) → a ≤ b

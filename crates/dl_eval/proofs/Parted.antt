@@ -10,7 +10,7 @@ use Rattle.dl_model.proofs.Powers.{convolve_comm, convolve_assoc}
 use Rattle.dl_model.proofs.Outcomes.{total_more, total_more_all}
 use Rattle.std.proofs.lemmas.List.{append-nil, get_or-replicate, length-replicate, map-append}
 use Rattle.std.proofs.lemmas.List.Elements.{All-filter, filter_more}
-use Rattle.dl_common.specs.Pooled.{can_share}
+use Rattle.dl_plan.specs.Common.{can_share}
 use Rattle.dl_model.proofs.Alike.{same_cells_enclosed}
 use Rattle.dl_model.proofs.PoissonTotals.{poisson_among}
 use Rattle.dl_port.specs.Sums.{EncloseEach}

@@ -1,10 +1,9 @@
 -- One Poisson unit in the place of several, beside the other units of a plan.
 use Rattle.std.specs.Prelude.{not, List, filter}
-use Rattle.dl_common.specs.Pooled.{can_share}
 use Rattle.dl_model.specs.CommonUnits.{IsPoissonSum}
 use Rattle.dl_plan.specs.declared.plan.Unit.{Unit as UnitOfPlan}
 use Rattle.dl_plan.specs.declared.plan.Plan.{Plan}
-use Rattle.dl_plan.specs.Prelude.{IsValidUnit}
+use Rattle.dl_plan.specs.Prelude.{IsValidUnit, can_share}
 
 -- the units that cannot be pooled, in order
 abbrev pub rest_of : List UnitOfPlan → List UnitOfPlan

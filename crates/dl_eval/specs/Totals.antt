@@ -7,11 +7,11 @@ use Rattle.dl_limits.specs.Limits.{budget_bound}
 use Rattle.dl_iv.specs.declared.interval.Iv.{Iv}
 use Rattle.dl_grid.specs.Cells.{low_at, high_at, spread}
 use Rattle.dl_model.specs.Prelude.{Holds, GridEncloses, mapped, One, Point, Mean, Joint, partial_sums, total, unit_of, without, aggregate_of, loss_of, aggregates_of, compound_of}
-use Rattle.dl_common.specs.Extra.{CanRaise, IsExtra}
+use Rattle.dl_common.specs.Extra.{IsExtra}
 use Rattle.dl_common.specs.Pooled.{IsPooled, IsRaised}
 use Rattle.dl_plan.specs.declared.plan.Unit.{Unit as UnitOfPlan}
 use Rattle.dl_plan.specs.declared.plan.Plan.{Plan}
-use Rattle.dl_plan.specs.Prelude.{CanShare, horizon, mean_width, thinned_mean}
+use Rattle.dl_plan.specs.Prelude.{CanRaise, CanShare, horizon, mean_width, thinned_mean}
 use Rattle.dl_cede.specs.Means.{HoldsMean}
 use Rattle.dl_budget.specs.Prelude.{claims_budget, raised_budget, after_clause, unit_budget, unit_budgets, unit_mean_budget, total_budget, others_budget, mean_budget, joint_budget, cotail_budget}
 use Rattle.dl_budget.specs.Shared.{shared_joint_budget}

@@ -2,9 +2,9 @@
 
 ghost use Rattle.std.specs.Prelude.{◌≡◌, ◌^◌, ◌<◌, ◌≤◌, ◌∷◌, IsTrue, None, IfOk, IfSome, length, get_or};
 ghost use Rattle.dl_limits.specs.Limits.{bits_of, budget_bound};
-ghost use Rattle.dl_plan.specs.Prelude.{IsValid, IsValidUnit, thinned_mean};
+ghost use Rattle.dl_plan.specs.Prelude.{CanRaise, IsValid, IsValidUnit, thinned_mean};
 ghost use Rattle.dl_model.specs.Prelude.{GridEncloses, total as total_of, loss_of, aggregates_of};
-ghost use Rattle.dl_common.specs.Extra.{CanRaise, IsExtra};
+ghost use Rattle.dl_common.specs.Extra.{IsExtra};
 ghost use Rattle.dl_budget.specs.Asks.{joint_budget};
 ghost use Rattle.dl_budget.specs.Shared.{shared_joint_budget};
 ghost use Rattle.dl_eval.specs.Totals.{AreRaisedTotals, IsRaisedTotalOf, IsTotalOf};
@@ -15,7 +15,7 @@ use dl_budget::{joint_budget, shared_joint_budget};
 use dl_common::extra;
 use dl_grid::Grid;
 use dl_limits::BUDGET_BOUND;
-use dl_plan::{Freq, Plan, Unit};
+use dl_plan::{Plan, Unit};
 use dl_product::{Factor, Workspace, product_of};
 use std::alloc::{AllocError, Global};
 
@@ -24,19 +24,12 @@ use std::alloc::{AllocError, Global};
 /// the others takes no longer.
 const FEWEST_UNITS: usize = 8;
 
-/// Whether a unit has a gamma count, no aggregate clause and no changed probability of no claim.
-fn can_raise(unit: &Unit) -> bool
-    ensures { IsTrue result → CanRaise unit.now }
-{
-    matches!(unit.freq, Freq::Gamma { .. }) && unit.cede.is_none() && unit.zero.is_none()
-}
-
 /// Whether the share of a unit is taken from the total with the unit's extra claims, where that is
 /// within its budget.
 pub(crate) fn is_raised(units: &[Unit], unit: &Unit) -> bool
     ensures { IsTrue result → CanRaise unit.now }
 {
-    units.len() >= FEWEST_UNITS && can_raise(unit)
+    units.len() >= FEWEST_UNITS && unit.can_raise()
 }
 
 /// The grid of the total with the claims of one unit more, which is independent of all units.

@@ -4,7 +4,6 @@ ghost use Rattle.std.specs.Prelude.{◌≡◌, ◌<◌, IsTrue, All, IfSome, len
 ghost use Rattle.dl_limits.specs.Limits.{bits_of};
 ghost use Rattle.dl_plan.specs.Prelude.{IsValid};
 ghost use Rattle.dl_grid.specs.Cells.{spread};
-ghost use Rattle.dl_common.specs.Pooled.{can_share};
 ghost use Rattle.dl_eval.specs.declared.drawn.PlanGrids.TheVariants.{Independent};
 ghost use Rattle.dl_eval.specs.Drawn.{HasNeeded};
 ghost use Rattle.dl_eval.specs.Totals.{AreGridsOf, AreUnits, IsFromTotal};
@@ -14,19 +13,12 @@ use crate::raised::is_raised;
 use dl_budget::{joint_budget, shared_joint_budget};
 use dl_grid::Grid;
 use dl_limits::BUDGET_BOUND;
-use dl_plan::{Freq, Plan, Unit};
-
-/// Whether a unit can be pooled with others.
-pub(crate) fn is_shared(unit: &Unit) -> bool
-    ensures { result ≡ can_share unit.now }
-{
-    matches!(unit.freq, Freq::Poisson(_)) && unit.cede.is_none() && unit.zero.is_none()
-}
+use dl_plan::{Plan, Unit};
 
 /// Whether the share of a unit is taken from the grid of the total, or from that of the total with
 /// its extra claims, where that is within its budget.
 pub(crate) fn is_without_others(units: &[Unit], unit: &Unit) -> bool {
-    is_shared(unit) || is_raised(units, unit)
+    unit.can_share() || is_raised(units, unit)
 }
 
 /// Whether the unit is a Poisson unit that can be pooled, and its joint mean from the grid of the
@@ -41,7 +33,7 @@ fn is_from_total<const B: u32>(plan: &Plan, total: &Grid<B>, apart: u128, i: u32
     ensures { IsTrue result → IsFromTotal plan.now total.now i }
 {
     let unit = &plan.units.as_slice()[i as usize];
-    if !is_shared(unit) || apart >= BUDGET_BOUND {
+    if !unit.can_share() || apart >= BUDGET_BOUND {
         return false;
     }
     shared_joint_budget(unit, apart, plan.cells) <= joint_budget::<B>(plan, i)

@@ -11,7 +11,7 @@ ghost use Rattle.dl_eval.specs.Totals.{most_unit_mean, AreGridsOf, AreUnitGrids,
 use crate::grids::{Grids, no_grids};
 use crate::raised::raised_totals;
 use crate::same::first_alike;
-use crate::served::{are_served, is_shared, is_without_others};
+use crate::served::{are_served, is_without_others};
 use crate::units::{Outcomes, mean_of, outcomes_of};
 use dl_budget::total_budget;
 use dl_common::{pool_poisson, sharing};
@@ -26,7 +26,7 @@ use std::alloc::{AllocError, Global};
 /// no units are pooled.
 fn are_copied(units: &[Unit]) -> bool {
     for i in 0..units.len() {
-        if !is_shared(&units[i]) && first_alike(units, i, &units[i]).is_some() {
+        if !units[i].can_share() && first_alike(units, i, &units[i]).is_some() {
             return true;
         }
     }
@@ -64,7 +64,7 @@ fn outcomes_of_rest<const B: u32>(
     let units = plan.units.as_slice();
     let mut made = Outcomes::new(alloc);
     for unit in units {
-        if is_shared(unit) {
+        if unit.can_share() {
             let mean = mean_of::<B>(alloc, work, unit, plan.cells)?;
             made.means.push(mean)?;
             continue;

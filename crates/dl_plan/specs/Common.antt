@@ -1,9 +1,9 @@
 -- Units that share one gamma factor of mean 1, which scales all of their expected counts.
-use Rattle.std.specs.Prelude.{ℕ, suc, ◌≡◌, ◌≤◌, ⊤, None, List, length, map, take, flat_map, All}
+use Rattle.std.specs.Prelude.{ℕ, suc, ◌≡◌, ◌≤◌, ◌&&◌, Bool, true, false, ⊤, None, is_none, List, length, map, take, flat_map, All}
 use Rattle.dl_limits.specs.Limits.{most_expected, most_shape}
 use Rattle.dl_exact.specs.Prelude.{Fraction, whole, ◌over◌, ◌*ℚ◌, ◌/ℚ◌, ◌≤ℚ◌, ◌<ℚ◌, sum_over}
 use Rattle.dl_plan.specs.declared.plan.Freq.{Freq}
-use Rattle.dl_plan.specs.declared.plan.Freq.TheVariants.{Poisson}
+use Rattle.dl_plan.specs.declared.plan.Freq.TheVariants.{Poisson, Gamma}
 use Rattle.dl_plan.specs.declared.plan.Unit.{Unit as UnitOfPlan}
 use Rattle.dl_plan.specs.Fine.{IsFineTo30Bits, HasPartsOf48Bits}
 use Rattle.dl_plan.specs.Count.{expected_count}
@@ -14,10 +14,29 @@ abbrev pub IsPoisson : Freq → Type 0
 IsPoisson (Poisson mean) = ⊤
 IsPoisson freq = ⊥
 
+abbrev pub is_poisson : Freq → Bool
+is_poisson (Poisson mean) = true
+is_poisson freq = false
+
+-- a gamma count
+abbrev pub IsGamma : Freq → Type 0
+IsGamma (Gamma shape mean) = ⊤
+IsGamma freq = ⊥
+
 -- a unit that can share a factor: its count is Poisson, without an aggregate clause and without a
 -- changed probability of no claim
 pub record CanShare (u : UnitOfPlan) : Type 0 where
   pub count : IsPoisson u.freq
+  pub clause : u.cede ≡ None
+  pub zero : u.zero ≡ None
+
+abbrev pub can_share : UnitOfPlan → Bool
+can_share u = is_poisson u.freq && (is_none u.cede && is_none u.zero)
+
+-- a unit that can have extra claims: its count is gamma, without an aggregate clause and without a
+-- changed probability of no claim
+pub record CanRaise (u : UnitOfPlan) : Type 0 where
+  pub count : IsGamma u.freq
   pub clause : u.cede ≡ None
   pub zero : u.zero ≡ None
 

@@ -1,6 +1,7 @@
-//! The expected number of a unit's claims, their mean and the horizon of their sum.
+//! The expected number of a unit's claims, their mean and the horizon of their sum; whether it can be
+//! pooled, and can have extra claims.
 
-ghost use Rattle.std.specs.Prelude.{◌≡◌, ◌<◌, ◌≤◌, ◌^◌, All, length, IfSome, MatchOption};
+ghost use Rattle.std.specs.Prelude.{◌≡◌, ◌<◌, ◌≤◌, ◌^◌, ◌↔◌, IsTrue, All, length, IfSome, MatchOption};
 ghost use Rattle.std.specs.List.Sorted.{IsStrictlyIncreasing};
 ghost use Rattle.dl_limits.specs.Limits.{most_amount, most_horizon};
 ghost use Rattle.dl_exact.specs.Fraction.{whole, ◌over◌, ◌-ℚ◌, ◌*ℚ◌};
@@ -9,6 +10,7 @@ ghost use Rattle.dl_plan.specs.Weighted.{amounts_of, weight_at};
 ghost use Rattle.dl_plan.specs.Severity.{pairs_of, mean_amount, probability_of};
 ghost use Rattle.dl_plan.specs.Count.{expected_count, IsClaimCount};
 ghost use Rattle.dl_plan.specs.Clause.{IsClause};
+ghost use Rattle.dl_plan.specs.Common.{CanRaise, can_share};
 ghost use Rattle.dl_plan.specs.Horizon.{IsHorizonOf, HorizonPasses};
 ghost use Rattle.dl_plan.specs.Means.{declared_mean, thinned_mean};
 ghost use Rattle.dl_plan.specs.Valid.{claims_alone};
@@ -67,6 +69,22 @@ impl Sev {
 }
 
 impl Unit {
+    /// Whether the unit can be pooled with others, and can share a factor: its count is Poisson,
+    /// without an aggregate clause and without a changed probability of no claim.
+    pub fn can_share(&self) -> bool
+        ensures { result ≡ can_share self.now }
+    {
+        matches!(self.freq, Freq::Poisson(_)) && self.cede.is_none() && self.zero.is_none()
+    }
+
+    /// Whether the unit can have extra claims: its count is gamma, without an aggregate clause and
+    /// without a changed probability of no claim.
+    pub fn can_raise(&self) -> bool
+        ensures { IsTrue result ↔ CanRaise self.now }
+    {
+        matches!(self.freq, Freq::Gamma { .. }) && self.cede.is_none() && self.zero.is_none()
+    }
+
     /// A numerator below 2^100 and a denominator below 2^80 of the mean in buckets, before the
     /// aggregate clause and before the probability of no claim is changed, of a unit of a valid
     /// plan.

@@ -1,7 +1,7 @@
 use Rattle.dl_eval.proofs.Common.{◌≤◌, refl, subst₂, few_cells}
 use Rattle.dl_eval.proofs.ReadAs.{unit_there}
 use Rattle.dl_eval.proofs.FromTotal.{told_le}
-use Rattle.dl_eval.proofs.FromRaised.{gamma_unbounded}
+use Rattle.dl_plan.proofs.Shared.{gamma_unbounded}
 use Rattle.dl_eval.proofs.raised.is_within_joint.Goals as goal
 
 pub shared_joint_budget-requires-clause-valid : goal.shared_joint_budget-requires-clause-valid

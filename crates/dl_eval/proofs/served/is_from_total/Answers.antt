@@ -1,6 +1,7 @@
 use Rattle.dl_eval.proofs.Common.{◌≤◌, arith, sym, ap, subst₂, ◌∙◌, read_unit, thinned_mean}
 use Rattle.dl_budget.specs.Shared.{shared_joint_budget}
-use Rattle.dl_eval.proofs.FromTotal.{told_le, true_shares}
+use Rattle.dl_eval.proofs.FromTotal.{told_le}
+use Rattle.dl_plan.proofs.Shared.{true_shares}
 use Rattle.dl_eval.proofs.Scales.{plan_scale}
 use Rattle.dl_eval.proofs.served.is_from_total.Goals as goal
 
@@ -12,7 +13,7 @@ returns g c narrow =
     record {
       unit = u;
       is = read_unit c.as_slice.result.now plan.units c.args.i u c.as_slice.ensures c.index-as_slice-i.is;
-      can_share = true_shares u (sym c.is_shared.ensures ∙ c.if-not-is_shared.false);
+      can_share = true_shares u (sym c.can_share.ensures ∙ c.if-not-can_share.false);
       bounded = omega (arith, c.requires.apart, c.if-apart-ge-BUDGET_BOUND.false);
       narrow = subst₂ (λ x y. x ≤ y) (c.shared_joint_budget.ensures.value
           ∙ ap (λ s. shared_joint_budget plan.cells s (thinned_mean u)) c.requires.apart)

@@ -1,6 +1,6 @@
 use Rattle.dl_eval.proofs.Common.{◌≤◌, ◌^◌, length, arith, ap, sym, ◌∙◌, few_cells, Iv, IsUnitMean, UnitOfPlan, ◌also◌}
 use Rattle.std.specs.Prelude.{not}
-use Rattle.dl_common.specs.Pooled.{can_share}
+use Rattle.dl_plan.specs.Common.{can_share}
 use Rattle.dl_eval.proofs.ReadAs.{unit_there}
 use Rattle.dl_eval.proofs.Means.{are_means}
 use Rattle.dl_eval.proofs.Lists.{each_next, pushed_length, all_pushed}
@@ -23,12 +23,12 @@ outcomes_of-requires g c =
     (omega arith) also (omega arith) also c.requires.scale also unit_there c.loop-unit.unit-index units.ensures c.unit-item.is
     (omega (arith, c.loop-unit-test.true, ap length units.ensures)) c.requires.valid also some.0 also some.1
 
-pub loop-unit-preserved-then-is_shared : goal.loop-unit-preserved-then-is_shared
-loop-unit-preserved-then-is_shared g c =
+pub loop-unit-preserved-then-can_share : goal.loop-unit-preserved-then-can_share
+loop-unit-preserved-then-can_share g c =
     let i = c.loop-unit.invariant in
     let pushed = c.in_ok-push.ensures.items in record {
       grids = left_out c.args.plan.now.cells (λ (u : UnitOfPlan). not (can_share u)) _ _ _ _ c.loop-unit-test.true
-          c.unit-item.is (ap not (sym c.is_shared.ensures ∙ c.if-is_shared.true)) i.grids;
+          c.unit-item.is (ap not (sym c.can_share.ensures ∙ c.if-can_share.true)) i.grids;
       many_means = pushed_length _ _ _ _ i.many_means pushed;
       means = each_next (IsUnitMean c.args.plan.now.cells) _ _ _ _ _ _ i.many_means i.means pushed c.loop-unit-test.true
           c.unit-item.is c.in_ok-mean.ensures.mean;
@@ -41,7 +41,7 @@ loop-unit-preserved g c =
     let made = c.in_ok-grid.ensures in
     let pushed = c.in_ok-push-2.ensures.means in record {
       grids = rw c.in_ok-push-2.ensures.grids (kept_grid c.args.plan.now.cells (λ (u : UnitOfPlan). not (can_share u)) _ _ _ _ _
-          c.loop-unit-test.true c.unit-item.is (ap not (sym c.is_shared.ensures ∙ c.if-is_shared.false)) i.grids made.grid);
+          c.loop-unit-test.true c.unit-item.is (ap not (sym c.can_share.ensures ∙ c.if-can_share.false)) i.grids made.grid);
       many_means = pushed_length _ _ _ _ i.many_means pushed;
       means = each_next (IsUnitMean c.args.plan.now.cells) _ _ _ _ _ _ i.many_means i.means pushed c.loop-unit-test.true
           c.unit-item.is made.mean;
