@@ -1,8 +1,10 @@
 //! Joint means.
 
-ghost use Rattle.std.specs.Prelude.{◌≡◌, ℕ, ◌-◌, ◌*◌, ◌^◌, ◌<◌, ◌≤◌, List, length, get_or, All};
+ghost use Rattle.std.specs.Prelude.{◌≡◌, ℕ, ◌-◌, ◌*◌, ◌/◌, ◌^◌, ◌<◌, ◌≤◌, List, length, get_or, All};
+ghost use Rattle.std.specs.Int.{div_ceil};
 ghost use Rattle.dl_exact.specs.Prelude.{◌over◌, count_pairs};
 ghost use Rattle.dl_grid.specs.Prelude.{spread, convolution_spread};
+ghost use Rattle.dl_alloc.specs.Weighted.{low_weighted, high_weighted};
 ghost use Rattle.dl_model.specs.Prelude.{AtMost, Holds, Loss, AreDeclarable, One, Point, Joint, partial_sums, total, GridEncloses, unit_of, without, AreDeclared};
 
 use crate::sums::{outward, word_product};
@@ -37,6 +39,8 @@ pub fn joint_mean<const B: u32>(unit: &Grid<B>, others: &Grid<B>, x: u32) -> Iv<
     requires in_others { x < length others.now }
     requires unit_narrow { spread unit.now < 2 ^ B }
     requires others_narrow { spread others.now < 2 ^ B }
+    ensures low { result.lo ≡ low_weighted unit.now others.now x / 2 ^ B }
+    ensures high { result.hi ≡ div_ceil (high_weighted unit.now others.now x) (2 ^ B) }
     ensures holds { (us : List Loss) (i : ℕ) → AreDeclarable us → i < length us
         → GridEncloses unit.now (unit_of us i) → GridEncloses others.now (total (without us i))
         → Holds (partial_sums us (Joint i x)) (partial_sums us One) (result.lo over 2 ^ B)

@@ -1,10 +1,11 @@
 -- The expected claims of a unit times the mean of one positive claim, from its ends times the weight of the positive
 -- amounts: what they hold, how large they are, and how far apart they lie.
-use Rattle.dl_cotail.proofs.Common.{ℕ, ◌≡◌, ◌+◌, ◌-◌, ◌*◌, ◌/◌, ◌^◌, ◌<◌, ◌≤◌, arith, subst, div_ceil, mul-le-mul, mul-le-mul_left, mul-le-mul_right, pow_pos, Fraction, whole, ◌over◌, ◌-ℚ◌, ◌*ℚ◌, div_ceil_least, Series, Holds, at_least_wider, at_most_wider, UnitOfPlan, expected_count, thinned_mean, severity_total}
+use Rattle.dl_cotail.proofs.Common.{ℕ, ◌≡◌, ◌+◌, ◌-◌, ◌*◌, ◌/◌, ◌^◌, ◌<◌, ◌≤◌, arith, sym, subst, div_ceil, mul-le-mul, mul-le-mul_left, mul-le-mul_right, pow_pos, Fraction, whole, ◌over◌, ◌-ℚ◌, ◌*ℚ◌, div_ceil_least, Series, Holds, at_least_wider, at_most_wider, UnitOfPlan, expected_count, thinned_mean, severity_total}
 use Rattle.dl_plan.specs.Prelude.{numerator_over, probability_of}
 unfoldable use Rattle.dl_grid.specs.Width.{up}
 use Rattle.dl_exact.proofs.Denominators.{over_zero}
 use Rattle.dl_exact.proofs.Laws.{zero_le}
+use Rattle.std.proofs.Math.Nat.{zero-div}
 use Rattle.dl_common.proofs.Claims.{claim_width, positive_weight, scaled_width}
 use Rattle.dl_common.proofs.JointEnds.{positive, thinned_over, some_positive}
 use Rattle.dl_common.proofs.JointValues.{end_below, end_above, end_none}
@@ -19,6 +20,16 @@ pub claim_weight : (u : UnitOfPlan) (h share : Fraction) (n : ℕ) → h ≡ thi
 claim_weight u h share n is some above made =
     let same : n ≡ positive u = positive_weight u.sev share n above made in
     (same, omega (arith, some_positive u h is some))
+
+-- ---- where no claim above 0 is expected
+
+pub none_down : (sum W n d : ℕ) → n ≡ 0 → 0 ≡ sum / W * n / d
+none_down sum W n d e = let nothing : sum / W * n ≡ 0 = rw e (omega arith) in rw nothing (sym (zero-div d))
+
+pub none_up : (sum W n d : ℕ) → n ≡ 0 → 0 < d → 0 ≡ div_ceil (div_ceil sum W * n) d
+none_up sum W n d e pos =
+    let least = div_ceil_least (div_ceil sum W * n) d 0 pos (rw e (omega arith)) in
+    omega (arith, least)
 
 -- ---- how large
 

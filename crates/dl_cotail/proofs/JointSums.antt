@@ -1,6 +1,6 @@
 -- The joint means of a unit at all totals up to q, added up: what the ends hold, how large they are, and how far apart
 -- they lie.
-use Rattle.dl_cotail.proofs.Common.{ℕ, suc, ◌≡◌, ◌+◌, ◌-◌, ◌*◌, ◌/◌, ◌^◌, ◌<◌, ◌≤◌, List, length, arith, ap₂, subst₂, div_ceil, pow_pos, mul-pos, ◌over◌, sum_to, count_pairs, count_below, le_refl, div_ceil_least, below_le, below_same, pairs_same, Iv, low_at, high_at, spread, IsGrid, cells_fit, width_at, high_is, low_within, width_within, cv_is, Holds, Loss, AreDeclarable, One, Joint, score, partial_sums, total, GridEncloses, unit_of, without, at_least_wider, at_most_wider, to_holds, outcomes_rise, joint_ends, fits, joint_width, room_of}
+use Rattle.dl_cotail.proofs.Common.{ℕ, suc, ◌≡◌, ◌+◌, ◌-◌, ◌*◌, ◌/◌, ◌^◌, ◌<◌, ◌≤◌, List, length, arith, ap₂, subst₂, div_ceil, pow_pos, mul-pos, ◌over◌, sum_to, count_pairs, count_below, le_refl, div_ceil_least, below_le, below_same, pairs_same, Iv, low_at, high_at, spread, IsGrid, cells_fit, width_at, high_is, low_within, width_within, cv_is, Series, Rises, Holds, at_least_wider, at_most_wider, to_holds, fits, beside_width, room_of}
 use Rattle.dl_exact.proofs.SumsOver.{to_over}
 use Rattle.dl_iv.proofs.Rounding.{round_down, round_up}
 use Rattle.dl_alloc.specs.Weighted.{low_weighted, high_weighted}
@@ -37,7 +37,7 @@ module _ {B : ℕ} (unit others : List (Iv B)) (q : ℕ) (p : IsGrid unit) (r : 
   -- ---- how wide they are
 
   pub sums_narrow : div_ceil (high_sums unit others q) (2 ^ B) - low_sums unit others q / 2 ^ B
-      ≤ joint_width (2 ^ B) (length unit) (spread unit) (spread others)
+      ≤ beside_width (2 ^ B) (length unit) (spread unit) (spread others)
   sums_narrow =
       let n = length unit in
       let parts : high_sums unit others q ≡ count_below (suc q) (λ x. count_pairs x
@@ -52,23 +52,26 @@ module _ {B : ℕ} (unit others : List (Iv B)) (q : ℕ) (p : IsGrid unit) (r : 
 
 -- ---- what they hold
 
-pub sums_hold : {B : ℕ} (unit others : List (Iv B)) (us : List Loss) (i q : ℕ) → q < length unit → q < length others
-    → AreDeclarable us → i < length us
-    → GridEncloses unit (unit_of us i) → GridEncloses others (total (without us i))
-    → Holds (λ N. sum_to q (λ x. partial_sums us (Joint i x) N)) (partial_sums us One)
+-- ends in units of 1/S^2, rounded outward
+pub outward_holds : (Q R : Series) (S low high : ℕ) → 0 < S → Holds Q R (low over (S * S)) (high over (S * S))
+    → Holds Q R ((low / S) over S) (div_ceil high S over S)
+outward_holds Q R S low high s exact = (
+  at_least_wider Q R _ _ exact.0 (round_down low S S _ s s (le_refl _)),
+  at_most_wider Q R _ _ exact.1 (round_up high S S _ s s (le_refl _)),
+)
+
+pub sums_hold : {B : ℕ} (unit others : List (Iv B)) (q : ℕ) (P : ℕ → Series) (R : Series) → ((x : ℕ) → Rises (P x))
+    → ((x : ℕ) → x ≤ q → Holds (P x) R (low_weighted unit others x over (2 ^ B * 2 ^ B))
+    (high_weighted unit others x over (2 ^ B * 2 ^ B)))
+    → Holds (λ N. sum_to q (λ x. P x N)) R
     ((low_sums unit others q / 2 ^ B) over 2 ^ B) (div_ceil (high_sums unit others q) (2 ^ B) over 2 ^ B)
-sums_hold {B} unit others us i q inside beside units here e f =
+sums_hold {B} unit others q P R rise each =
     let S = 2 ^ B in
     let s = pow_pos B in
-    let Q = λ (N : ℕ). sum_to q (λ x. partial_sums us (Joint i x) N) in
-    let exact : Holds Q (partial_sums us One) (low_sums unit others q over (S * S))
-    (high_sums unit others q over (S * S)) =
-    subst₂ (λ l h. Holds Q (partial_sums us One) l h) (to_over q (S * S) (low_weighted unit others) (mul-pos s s))
+    let Q = λ (N : ℕ). sum_to q (λ x. P x N) in
+    let exact : Holds Q R (low_sums unit others q over (S * S)) (high_sums unit others q over (S * S)) =
+    subst₂ (λ l h. Holds Q R l h) (to_over q (S * S) (low_weighted unit others) (mul-pos s s))
     (to_over q (S * S) (high_weighted unit others) (mul-pos s s))
-    (to_holds q (λ x. partial_sums us (Joint i x)) (partial_sums us One) (λ x. low_weighted unit others x over (S * S))
-    (λ x. high_weighted unit others x over (S * S)) (λ x. outcomes_rise us units (score (Joint i x)))
-    (λ x le. joint_ends us S (length unit) (length others) (low_at unit) (high_at unit) (low_at others)
-    (high_at others) i x units s here (omega arith) (omega arith) e f)) in (
-      at_least_wider Q (partial_sums us One) _ _ exact.0 (round_down (low_sums unit others q) S S _ s s (le_refl _)),
-      at_most_wider Q (partial_sums us One) _ _ exact.1 (round_up (high_sums unit others q) S S _ s s (le_refl _)),
-    )
+    (to_holds q P R (λ x. low_weighted unit others x over (S * S)) (λ x. high_weighted unit others x over (S * S)) rise
+    each) in
+    outward_holds Q R S (low_sums unit others q) (high_sums unit others q) s exact

@@ -1,4 +1,5 @@
 mod Common
+mod ClaimCounts
 mod PairSums
 mod JointSums
 mod UnitMeans
@@ -7,3 +8,4 @@ mod Widths
 mod Absent
 mod ClaimEnds
 mod ClaimSums
+mod JointMost

@@ -19,6 +19,14 @@ least_lesser : (Q R : Series) (S a b : ℕ) → 0 < S → AtLeast Q R (a over S)
 least_lesser Q R S a b s p = at_least_wider Q R (a over S) (min a b over S) p
     (over_le_over (min a b) a S s (min-le_left a b))
 
+-- where it is at most q, so may the ends be
+pub whole_lowered : (Q R : Series) (S lo hi q : ℕ) → 0 < S → Holds Q R (lo over S) (hi over S) → AtMost Q R (whole q)
+    → Holds Q R (min lo (q * S) over S) (min hi (q * S) over S)
+whole_lowered Q R S lo hi q s held most = (
+  least_lesser Q R S lo (q * S) s held.0,
+  most_lesser Q R S hi (q * S) held.1 (subst (AtMost Q R) (over_same q 1 (q * S) S one_pos s (omega arith)) most),
+)
+
 -- ---- no outcome of a unit is above the total
 
 pub joint_lowered : (us : List Loss) (i q S j J A : ℕ) → 0 < S

@@ -5,8 +5,8 @@ use Rattle.dl_exact.specs.Fraction.{Fraction, ◌over◌}
 use Rattle.dl_grid.specs.Width.{up, convolution_spread}
 
 -- a joint mean of the unit, on so many cells, from the spreads of its grid and of the others'
-abbrev pub joint_width : (S cells unit others : ℕ) → ℕ
-joint_width S cells unit others = cells * convolution_spread S cells unit others
+abbrev pub beside_width : (S cells unit others : ℕ) → ℕ
+beside_width S cells unit others = cells * convolution_spread S cells unit others
 
 -- a joint mean of a Poisson unit, and the sum of those up to a total, from its expected claims above
 -- 0 rounded up and the spread of the total's grid; and those of a gamma unit, from the spread of the
@@ -27,7 +27,7 @@ share_width p mean cells joint total = up
 -- the same from the spreads of its grid and of the others'
 abbrev pub cotail_width : (p : Fraction) (S mean cells unit others total : ℕ) → ℕ
 cotail_width p S mean cells unit others total =
-    share_width p mean cells (joint_width S cells unit others) total
+    share_width p mean cells (beside_width S cells unit others) total
 
 -- the same of a Poisson unit
 abbrev pub poisson_cotail_width : (p : Fraction) (mean cells claims total : ℕ) → ℕ

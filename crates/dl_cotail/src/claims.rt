@@ -1,17 +1,18 @@
-//! Joint means of one unit beside independent units, from one grid: of a Poisson unit from the grid
-//! of the total, and of a gamma unit from the grid of the total with the unit's extra claims.
+//! Joint means of one unit from its claims and one grid.
 
-ghost use Rattle.std.specs.Prelude.{ℕ, ◌≡◌, ◌+◌, ◌-◌, ◌*◌, ◌^◌, ◌<◌, ◌≤◌, length};
+ghost use Rattle.std.specs.Prelude.{ℕ, ◌≡◌, ◌+◌, ◌-◌, ◌*◌, ◌^◌, ◌<◌, ◌≤◌, min, length};
 ghost use Rattle.dl_limits.specs.Limits.{most_parts};
-ghost use Rattle.dl_exact.specs.Prelude.{◌over◌, ◌*ℚ◌, sum_to};
+ghost use Rattle.dl_exact.specs.Prelude.{whole, ◌over◌, ◌*ℚ◌, sum_to};
 ghost use Rattle.dl_grid.specs.Prelude.{low_at, high_at, spread, up};
-ghost use Rattle.dl_plan.specs.Prelude.{weight_sum, weight_at, expected_count, thinned_mean, IsValidUnit, IsUnbounded};
-ghost use Rattle.dl_model.specs.Prelude.{Series, Holds};
+ghost use Rattle.dl_plan.specs.Prelude.{weight_sum, expected_count, thinned_mean};
+ghost use Rattle.dl_model.specs.Prelude.{Series, AtMost, Holds};
 ghost use Rattle.dl_model.specs.Series.{Rises};
 ghost use Rattle.dl_common.specs.Amounts.{amounts_to, claims_mean};
+ghost use Rattle.dl_cotail.specs.Claims.{HasClaims, claims_down, claims_up, positive_weight};
 ghost use Rattle.dl_cotail.specs.Widths.{poisson_joint_width};
 
 use crate::running::running_sums;
+use dl_grid::units_of_one;
 use dl_iv::Iv;
 use dl_measures::Distribution;
 use dl_plan::{Item, Unit, numerator_over};
@@ -43,16 +44,17 @@ fn cell_sums<const B: u32>(items: &[Item], total: &Distribution<B>, q: u32) -> (
 fn of_claims<const B: u32>(unit: &Unit, low: u128, high: u128) -> Iv<B>
     requires scale_above { 1 ≤ B }
     requires scale_below { B ≤ 56 }
-    requires valid { (cells : ℕ) × IsValidUnit cells unit.now }
-    requires unbounded { IsUnbounded unit.now.freq }
+    requires claims { HasClaims unit.now }
     requires order { low ≤ high }
-    requires fits { high ≤ 2 ^ 71 * (unit.now.sev.total - weight_at unit.now.sev.items 0) }
+    requires fits { high ≤ 2 ^ 71 * positive_weight unit.now }
+    ensures low { result.lo ≡ claims_down unit.now low }
+    ensures high { result.hi ≡ claims_up unit.now high }
     ensures holds { (Q R : Series) → Holds Q R
         (expected_count unit.now.freq *ℚ low over (unit.now.sev.total * 2 ^ B))
         (expected_count unit.now.freq *ℚ high over (unit.now.sev.total * 2 ^ B))
         → Holds Q R (result.lo over 2 ^ B) (result.hi over 2 ^ B) }
     ensures width { (k : ℕ)
-        → high ≤ low + k * (unit.now.sev.total - weight_at unit.now.sev.items 0)
+        → high ≤ low + k * positive_weight unit.now
         → result.hi - result.lo ≤ (k + 1) * up (thinned_mean unit.now) + 1 }
 {
     let mean = unit.freq.thinned(&unit.sev);
@@ -69,31 +71,34 @@ fn of_claims<const B: u32>(unit: &Unit, low: u128, high: u128) -> Iv<B>
 
 /// A unit's expected number of claims above 0 times the sum, over the amounts of one claim up to
 /// `q`, of the amount times its probability given that it is positive times what the grid has at
-/// the rest of `q`, in buckets. Of a Poisson unit this is the joint mean at the total `q`, where the
-/// grid is that of the total, by Panjer's recursion; of a gamma unit, where it is that of the total
-/// with the unit's extra claims.
+/// the rest of `q`, in buckets; no more than `q`. Of a Poisson unit this is the joint mean at the
+/// total `q`, where the grid is that of the total, by Panjer's recursion; of a gamma unit, where it
+/// is that of the total with the unit's extra claims; and under a common factor, where it is that of
+/// the one unit in the place of all with one more in its shape.
 pub(crate) fn claims_joint<const B: u32>(unit: &Unit, grid: &Distribution<B>, q: u32) -> Iv<B>
-    requires valid { (cells : ℕ) × IsValidUnit cells unit.now }
-    requires unbounded { IsUnbounded unit.now.freq }
+    requires claims { HasClaims unit.now }
     requires inside { q < length grid.now }
+    ensures low { result.lo ≡ min
+        (claims_down unit.now (amounts_to q (low_at grid.now) unit.now.sev.items)) (q * 2 ^ B) }
+    ensures high { result.hi ≡ min
+        (claims_up unit.now (amounts_to q (high_at grid.now) unit.now.sev.items)) (q * 2 ^ B) }
     ensures holds { (Q R : Series)
         → Holds Q R (claims_mean unit.now (2 ^ B) q (low_at grid.now))
         (claims_mean unit.now (2 ^ B) q (high_at grid.now))
-        → Holds Q R (result.lo over 2 ^ B) (result.hi over 2 ^ B) }
+        → AtMost Q R (whole q) → Holds Q R (result.lo over 2 ^ B) (result.hi over 2 ^ B) }
     ensures width { (t : ℕ) → spread grid.now ≤ t → result.hi - result.lo
         ≤ poisson_joint_width (length grid.now) (up (thinned_mean unit.now)) t }
 {
     grid.cells();
     let (low, high) = cell_sums(unit.sev.items.as_slice(), grid, q);
-    of_claims(unit, low, high)
+    of_claims(unit, low, high).clamp_to(q as u128 * units_of_one(B))
 }
 
 /// The sum of what `claims_joint` holds at the totals up to `q`, in buckets: the same with what the
 /// grid has up to the rest of `q`. The high ends of the cells are above the low ends by no more than
 /// the spread of the grid, so a running sum of them is no further above that of the low ends.
 pub(crate) fn claims_sums<const B: u32>(unit: &Unit, grid: &Distribution<B>, q: u32) -> Iv<B>
-    requires valid { (cells : ℕ) × IsValidUnit cells unit.now }
-    requires unbounded { IsUnbounded unit.now.freq }
+    requires claims { HasClaims unit.now }
     requires inside { q < length grid.now }
     requires narrow { spread grid.now < 2 ^ B }
     ensures holds { (joint : ℕ → Series) (R : Series) → ((x : ℕ) → Rises (joint x))

@@ -16,6 +16,7 @@ ghost use Rattle.dl_cotail.specs.Widths.{conditional_width, share_width, cotail_
 
 use crate::claims::{claims_joint, claims_sums};
 use crate::settled::common_quantile;
+use crate::source::ShareSource;
 use crate::sums::joint_sums;
 use dl_alloc::{conditional_mean, joint_mean};
 use dl_frac::Frac;
@@ -65,7 +66,7 @@ fn above<const B: u32>(cdf: Iv<B>, p: Frac) -> Iv<B>
 /// distribution has there above `p`, over `1 - p`. `mean` is to hold the unit's mean, `joint` its
 /// joint mean at `q`, and `below` the sum of those up to `q`.
 #[tactic(auto, using(dl_exact::proofs::BelowOne::num_below))]
-fn tail_share<const B: u32>(
+fn tail_share_at<const B: u32>(
     total: &Distribution<B>,
     mean: Iv<B>,
     joint: Iv<B>,
@@ -97,6 +98,50 @@ fn tail_share<const B: u32>(
     let beyond = mean.sub_floor0(below);
     let at = above(total.cdf(q), p).mul(share);
     beyond.add(at).scale(p.den(), p.den() - p.num())
+}
+
+impl<'a, const B: u32> ShareSource<'a, B> {
+    ghost use Rattle.dl_cotail.specs.Source.{GivesJoints, joint_width, reach};
+
+    /// The share of the unit in the tail mean at `p`, in buckets. Of the greatest totals, whose
+    /// probability is `1 - p`, it is the mean of the unit's outcome: what of its mean lies above the
+    /// quantile, and its conditional mean at the quantile times what the distribution has there
+    /// above `p`, over `1 - p`.
+    ///
+    /// `total` is the grid of the total, and `mean` is to hold the unit's mean. `p` is below 1, with
+    /// parts of at most 10,000. None exactly where the grid ends before the quantile, the bracket of
+    /// the quantile has two ends, or its probability may be below one in `rarest_parts`. Takes no
+    /// memory.
+    pub fn tail_share(&self, total: &Distribution<B>, mean: Iv<B>, p: Frac) -> Option<Iv<B>>
+        requires below_one { p <ℚ whole 1 }
+        requires small { p.den ≤ 10000 }
+        requires cells { length total.now ≡ reach self.now }
+        requires mean { mean.hi ≤ 2 ^ 97 }
+        ensures none { IsNone result
+            ↔ (IsPast total.now p ⊎ IsOpen total.now p ⊎ IsRare total.now p) }
+        ensures holds { (us : List Loss) (i : ℕ) → AreDeclared us
+            → GivesJoints self.now (partial_sums us) i → GridEncloses total.now (total_of us)
+            → Holds (unit_mean us i) (partial_sums us One) (mean.entry.lo over 2 ^ B)
+            (mean.entry.hi over 2 ^ B)
+            → IfSome result (λ r. (q : ℕ) → IsQuantile (partial_sums us) q p
+            → HoldsShare (partial_sums us) i p q (r.lo over 2 ^ B) (r.hi over 2 ^ B)) }
+        ensures small { IfSome result (λ r. r.hi ≤ 2 ^ 112) }
+        // at a quantile inside the grid there is none only where the distribution is near p, or the
+        // quantile is rare
+        ensures absent { (us : List Loss) (x : ℕ) → AreDeclared us
+            → GridEncloses total.now (total_of us) → IsNone result
+            → IsFirstFound (low_cdf (2 ^ B) (low_at total.now)) p (length total.now) (Some x)
+            → MayBeAbsent (partial_sums us) (length total.now) p (spread total.now over 2 ^ B) }
+        // within the budget for spreads and means within theirs
+        ensures width { IfSome result (λ r. (m t : ℕ) → mean.entry.hi - mean.entry.lo ≤ m
+            → spread total.now ≤ t
+            → r.hi - r.lo ≤ share_width p m (length total.now) (joint_width self.now) t) }
+    {
+        let q = common_quantile(total, p)?;
+        let joint = self.joint(q);
+        let below = self.joints_to(q);
+        Some(tail_share_at(total, mean, joint, below, q, p))
+    }
 }
 
 /// The share of one unit in the tail mean at `p`, in buckets. Of the greatest totals, whose
@@ -147,7 +192,7 @@ pub fn cotail<const B: u32>(
     let q = common_quantile(total, p)?;
     let joint = joint_mean(unit, others, q);
     let below = joint_sums(unit, others, q);
-    Some(tail_share(total, mean, joint, below, q, p))
+    Some(tail_share_at(total, mean, joint, below, q, p))
 }
 
 /// The share of one Poisson unit in the tail mean at `p`, in buckets, beside independent units: as
@@ -192,7 +237,7 @@ pub fn poisson_cotail<const B: u32>(
     let q = common_quantile(total, p)?;
     let joint = claims_joint(unit, total, q);
     let below = claims_sums(unit, total, q);
-    Some(tail_share(total, mean, joint, below, q, p))
+    Some(tail_share_at(total, mean, joint, below, q, p))
 }
 
 /// The share of one gamma unit in the tail mean at `p`, in buckets, beside independent units: as
@@ -244,5 +289,5 @@ pub fn gamma_cotail<const B: u32>(
     let q = common_quantile(total, p)?;
     let joint = claims_joint(unit, raised, q);
     let below = claims_sums(unit, raised, q);
-    Some(tail_share(total, mean, joint, below, q, p))
+    Some(tail_share_at(total, mean, joint, below, q, p))
 }

@@ -1,12 +1,13 @@
 //! Sums of joint means.
 
-ghost use Rattle.std.specs.Prelude.{◌≡◌, ℕ, ◌-◌, ◌^◌, ◌<◌, ◌≤◌, List, length, get_or, All};
+ghost use Rattle.std.specs.Prelude.{◌≡◌, ℕ, ◌-◌, ◌*◌, ◌^◌, ◌<◌, ◌≤◌, length, get_or, All};
 ghost use Rattle.dl_exact.specs.Prelude.{◌over◌, count_below, sum_to};
 ghost use Rattle.dl_grid.specs.Cells.{spread};
-ghost use Rattle.dl_alloc.specs.Weighted.{AreBeside};
-ghost use Rattle.dl_model.specs.Prelude.{Holds, Loss, AreDeclarable, One, Joint, partial_sums, total, GridEncloses, unit_of, without};
+ghost use Rattle.dl_alloc.specs.Weighted.{AreBeside, low_weighted, high_weighted};
+ghost use Rattle.dl_model.specs.Prelude.{Series, Holds};
+ghost use Rattle.dl_model.specs.Series.{Rises};
 ghost use Rattle.dl_cotail.specs.Sums.{weighted_to};
-ghost use Rattle.dl_cotail.specs.Widths.{joint_width};
+ghost use Rattle.dl_cotail.specs.Widths.{beside_width};
 
 use dl_alloc::sums::{outward, word_product};
 use dl_grid::Grid;
@@ -40,12 +41,13 @@ fn weighted_sum(own: &[u128], others: &[u128], q: u32) -> u128
 /// high end up.
 pub(crate) fn joint_sums<const B: u32>(unit: &Grid<B>, others: &Grid<B>, q: u32) -> Iv<B>
     requires { AreBeside unit.now others.now q }
-    ensures holds { (us : List Loss) (i : ℕ) → AreDeclarable us → i < length us
-        → GridEncloses unit.now (unit_of us i) → GridEncloses others.now (total (without us i))
-        → Holds (λ N. sum_to q (λ x. partial_sums us (Joint i x) N)) (partial_sums us One)
-        (result.lo over 2 ^ B) (result.hi over 2 ^ B) }
+    ensures holds { (joint : ℕ → Series) (R : Series) → ((x : ℕ) → Rises (joint x))
+        → ((x : ℕ) → x ≤ q → Holds (joint x) R
+        (low_weighted unit.now others.now x over (2 ^ B * 2 ^ B))
+        (high_weighted unit.now others.now x over (2 ^ B * 2 ^ B)))
+        → Holds (λ N. sum_to q (λ x. joint x N)) R (result.lo over 2 ^ B) (result.hi over 2 ^ B) }
     ensures width { result.hi - result.lo
-        ≤ joint_width (2 ^ B) (length unit.now) (spread unit.now) (spread others.now) }
+        ≤ beside_width (2 ^ B) (length unit.now) (spread unit.now) (spread others.now) }
 {
     let low = weighted_sum(unit.lows(), others.lows(), q);
     let high = weighted_sum(unit.highs(), others.highs(), q);

@@ -1,4 +1,4 @@
-use Rattle.dl_alloc.proofs.Common.{◌/◌, ◌^◌, ◌<◌, ◌∙◌, arith, sym, subst, pow_pos, scale_of, are_units, low_at, high_at, low_weighted}
+use Rattle.dl_alloc.proofs.Common.{◌/◌, ◌^◌, ◌<◌, ◌∙◌, arith, refl, sym, subst, pow_pos, scale_of, are_units, low_at, high_at, low_weighted}
 use Rattle.dl_alloc.proofs.Nested.{listed}
 use Rattle.dl_alloc.proofs.WeightedEnds.{sums_order, high_room, end_divisible, end_fits, end_top, joint_holds, joint_width}
 use Rattle.dl_alloc.proofs.Shares.{low_share}
@@ -48,6 +48,8 @@ returns g c =
     c.requires.others_narrow in
     let held = joint_holds unit others in
     rw (c.outward.ensures.low, c.outward.ensures.high, low, high) (record {
+      low = refl;
+      high = refl;
       holds = λ us i units here e f. held us i c.args.x c.requires.in_unit c.requires.in_others units here e f;
       width = joint_width unit others c.args.x c.lows.ensures.grid c.lows-2.ensures.grid c.requires.in_unit;
       below = λ us i h declared here e f at.

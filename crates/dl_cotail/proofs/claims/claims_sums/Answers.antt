@@ -30,11 +30,8 @@ of_claims-requires g c =
         (
           scale.1,
           (
-            c.requires.valid,
-            (
-              c.requires.unbounded,
-              (omega arith, sums_top grid c.args.unit.now c.args.q is c.requires.inside c.requires.narrow),
-            ),
+            c.requires.claims,
+            (omega arith, sums_top grid c.args.unit.now c.args.q is c.requires.inside c.requires.narrow),
           ),
         ),
       ),

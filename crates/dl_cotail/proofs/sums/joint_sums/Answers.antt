@@ -60,7 +60,6 @@ returns g c =
     let high = c.weighted_sum-high.ensures
     ∙ listed_to _ _ (high_at unit) (high_at others) c.args.q c.highs.ensures.each c.highs-2.ensures.each in
     rw (c.outward.ensures.low, c.outward.ensures.high, low, high) (record {
-      holds = λ us i units here e f. sums_hold unit others us i c.args.q c.requires.in_unit c.requires.in_others units
-          here e f;
+      holds = sums_hold unit others c.args.q;
       width = sums_narrow unit others c.args.q c.lows.ensures.grid c.lows-2.ensures.grid c.requires.in_unit;
     })

@@ -4,7 +4,7 @@ use Rattle.dl_model.proofs.ShareEnds.{share_ends}
 use Rattle.dl_cotail.proofs.ShareEnds.{cdf_holds, over_what_is_left, product_fits, scaled_fits, sum_small, share_wider}
 use Rattle.dl_cotail.proofs.Widths.{product_narrow, above_narrow, share_narrow}
 use Rattle.dl_cotail.proofs.Absent.{settles}
-use Rattle.dl_cotail.proofs.shares.tail_share.Goals as goal
+use Rattle.dl_cotail.proofs.shares.tail_share_at.Goals as goal
 
 pub mul-at-requires : goal.mul-at-requires
 mul-at-requires g c =
