@@ -9,3 +9,4 @@ mod Absent
 mod ClaimEnds
 mod ClaimSums
 mod JointMost
+mod JointTotals

@@ -94,3 +94,10 @@ pub fn law_plan_joint_most(plan: &Plan)
         → AtLeast (declared plan.now (Joint i x)) (declared plan.now One) (l over S)
         → AtMost (declared plan.now (Point x)) (declared plan.now One) (h over S) → l ≤ x * h }
 {}
+
+/// The joint means of all units at a total `x` add up to `x` times its probability, at every level,
+/// under a common factor too.
+pub fn law_joint_total(plan: &Plan)
+    ensures { (x N : ℕ) → sum_below (length plan.now.units)
+        (λ i. declared plan.now (Joint i x) N) ≡ whole x *ℚ declared plan.now (Point x) N }
+{}

@@ -7,8 +7,9 @@
 //! A source gives the joint means of a unit where its exact ends hold them (`GivesJoints`): by
 //! `law_beside`, `law_of_total`, `law_with_extra` and, under a common factor, `law_raised`. Then
 //! `joint` holds the joint mean at a total, and `joints_to` the sum of those up to it, within one
-//! width; and no joint mean is above its total times the probability of that (`law_joint_most`,
-//! `law_plan_joint_most`).
+//! width; no joint mean is above its total times the probability of that (`law_joint_most`,
+//! `law_plan_joint_most`), and those of all units add up to it, under a common factor too
+//! (`law_joint_total`).
 //!
 //! The clauses on shares speak of every list of losses that can be declared (`AreDeclared`), as
 //! those of the units of every valid plan can, by `dl_model::plans::law_declared`. `tail_share`
