@@ -42,6 +42,11 @@ pub joint_rises : (S K u o d e : ℕ) → 0 < S → u ≤ d → o ≤ e → besi
 joint_rises S K u o d e s of_unit of_others =
     mul-le-mul_left K (cv_rises S K K u d o e s (omega arith) of_unit of_others)
 
+pub claims_rise : (K u s t : ℕ) → s ≤ t → (K * s + 2) * u + 2 ≤ (K * t + 2) * u + 2
+claims_rise K u s t near =
+    let wide : K * s + 2 ≤ K * t + 2 = omega (arith, mul-le-mul_left K near) in
+    omega (arith, mul-le-mul_right u wide)
+
 pub share_narrow : (p : Fraction) (K t m j f q bl bh ml mh al ah pl ph kw l h : ℕ) → p <ℚ whole 1
     → q < K → bh - bl ≤ j → ml ≤ mh → bl ≤ bh → ah - al ≤ t + 1
     → kw ≤ conditional_width K j f → ph ≤ pl + 1 + (kw + q * (ah - al))

@@ -12,7 +12,7 @@ beside_width S cells unit others = cells * convolution_spread S cells unit other
 -- 0 rounded up and the spread of the total's grid; and those of a gamma unit, from the spread of the
 -- grid of the total with its extra claims
 abbrev pub poisson_joint_width : (cells claims total : ℕ) → ℕ
-poisson_joint_width cells claims total = (cells * total + 1) * claims + 1
+poisson_joint_width cells claims total = (cells * total + 2) * claims + 2
 
 -- its mean outcome at a total that is not too rare, from the width of its joint mean there
 abbrev pub conditional_width : (cells joint total : ℕ) → ℕ

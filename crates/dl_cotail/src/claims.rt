@@ -5,11 +5,11 @@ ghost use Rattle.dl_limits.specs.Limits.{most_parts};
 ghost use Rattle.dl_exact.specs.Prelude.{whole, ◌over◌, ◌*ℚ◌, sum_to};
 ghost use Rattle.dl_grid.specs.Prelude.{low_at, high_at, spread, up};
 ghost use Rattle.dl_plan.specs.Prelude.{weight_sum, expected_count, thinned_mean};
+ghost use Rattle.dl_budget.specs.Shared.{shared_joint_budget};
 ghost use Rattle.dl_model.specs.Prelude.{Series, AtMost, Holds};
 ghost use Rattle.dl_model.specs.Series.{Rises};
 ghost use Rattle.dl_common.specs.Amounts.{amounts_to, claims_mean};
 ghost use Rattle.dl_cotail.specs.Claims.{HasClaims, claims_down, claims_up, positive_weight};
-ghost use Rattle.dl_cotail.specs.Widths.{poisson_joint_width};
 
 use crate::running::running_sums;
 use dl_grid::units_of_one;
@@ -86,8 +86,8 @@ pub(crate) fn claims_joint<const B: u32>(unit: &Unit, grid: &Distribution<B>, q:
         → Holds Q R (claims_mean unit.now (2 ^ B) q (low_at grid.now))
         (claims_mean unit.now (2 ^ B) q (high_at grid.now))
         → AtMost Q R (whole q) → Holds Q R (result.lo over 2 ^ B) (result.hi over 2 ^ B) }
-    ensures width { (t : ℕ) → spread grid.now ≤ t → result.hi - result.lo
-        ≤ poisson_joint_width (length grid.now) (up (thinned_mean unit.now)) t }
+    ensures width { result.hi - result.lo
+        ≤ shared_joint_budget (length grid.now) (spread grid.now) (thinned_mean unit.now) }
 {
     grid.cells();
     let (low, high) = cell_sums(unit.sev.items.as_slice(), grid, q);
@@ -105,8 +105,8 @@ pub(crate) fn claims_sums<const B: u32>(unit: &Unit, grid: &Distribution<B>, q: 
         → ((x : ℕ) → x ≤ q → Holds (joint x) R (claims_mean unit.now (2 ^ B) x (low_at grid.now))
         (claims_mean unit.now (2 ^ B) x (high_at grid.now)))
         → Holds (λ N. sum_to q (λ x. joint x N)) R (result.lo over 2 ^ B) (result.hi over 2 ^ B) }
-    ensures width { (t : ℕ) → spread grid.now ≤ t → result.hi - result.lo
-        ≤ poisson_joint_width (length grid.now) (up (thinned_mean unit.now)) t }
+    ensures width { result.hi - result.lo
+        ≤ shared_joint_budget (length grid.now) (spread grid.now) (thinned_mean unit.now) }
 {
     grid.cells();
     let (low, parts) = running_sums(unit.sev.items.as_slice(), grid, q);

@@ -1,4 +1,4 @@
-use Rattle.dl_cotail.proofs.Common.{◌+◌, ◌*◌, ◌^◌, ◌≤◌, ◌∙◌, min, ap, ap₂, arith, length, mul-le-mul, mul-le-mul_right, pow_pos, scale_of, spread, thinned_mean}
+use Rattle.dl_cotail.proofs.Common.{◌+◌, ◌*◌, ◌^◌, ◌≤◌, ◌∙◌, min, ap, ap₂, arith, length, mul-le-mul_right, pow_pos, scale_of, spread, thinned_mean}
 use Rattle.dl_grid.specs.Width.{up}
 use Rattle.dl_cotail.proofs.ClaimSums.{cells_order, cells_top, cells_near}
 use Rattle.dl_cotail.specs.Claims.{claims_down, claims_up}
@@ -53,13 +53,13 @@ returns-clause-holds g c Q R exact most =
     (c.of_claims.ensures.holds Q R (rw (low, high) exact)) most)
 
 pub returns-clause-width : goal.returns-clause-width
-returns-clause-width g c t narrow =
+returns-clause-width g c =
     let grid = c.args.grid.now in
     let q = c.args.q in
     let low = rw c.as_slice.ensures at c.cell_sums-low.ensures.low in
     let high = rw c.as_slice.ensures at c.cell_sums-low.ensures.high in
     let few : q ≤ length grid = omega (arith, c.requires.inside) in
-    let wide : q * spread grid + 1 ≤ length grid * t + 1 = omega (arith, mul-le-mul few narrow) in
+    let wide : q * spread grid + 1 ≤ length grid * spread grid + 2 = omega (arith, mul-le-mul_right (spread grid) few) in
     omega (
       arith,
       lowered_narrow c.of_claims.result.hi c.of_claims.result.lo (q * c.units_of_one.result),

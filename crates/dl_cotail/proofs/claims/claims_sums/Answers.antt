@@ -1,4 +1,4 @@
-use Rattle.dl_cotail.proofs.Common.{◌+◌, ◌*◌, ◌≤◌, arith, length, mul-le-mul, mul-le-mul_right, scale_of, spread, thinned_mean, sum_to}
+use Rattle.dl_cotail.proofs.Common.{◌+◌, ◌*◌, ◌≤◌, arith, length, mul-le-mul_right, scale_of, spread, thinned_mean, sum_to}
 use Rattle.dl_grid.specs.Width.{up}
 use Rattle.dl_cotail.proofs.ClaimSums.{sums_near, sums_top, sums_fit, sums_hold}
 use Rattle.dl_cotail.proofs.claims.claims_sums.Goals as goal
@@ -45,13 +45,13 @@ returns-clause-holds g c joint R rise each =
     (sums_hold c.args.grid.now c.args.unit.now c.args.q c.cells.ensures.grid c.requires.inside joint R rise each))
 
 pub returns-clause-width : goal.returns-clause-width
-returns-clause-width g c t narrow =
+returns-clause-width g c =
     let grid = c.args.grid.now in
     let q = c.args.q in
     let low = rw c.as_slice.ensures at c.running_sums-low.ensures.low in
     let parts = rw c.as_slice.ensures at c.running_sums-low.ensures.parts in
     let few : q ≤ length grid = omega (arith, c.requires.inside) in
-    let wide : q * spread grid + 1 ≤ length grid * t + 1 = omega (arith, mul-le-mul few narrow) in
+    let wide : q * spread grid + 1 ≤ length grid * spread grid + 2 = omega (arith, mul-le-mul_right (spread grid) few) in
     omega (
       arith,
       c.of_claims.ensures.width (q * spread grid) (rw (low, parts, c.spread.ensures) (sums_near grid c.args.unit.now q

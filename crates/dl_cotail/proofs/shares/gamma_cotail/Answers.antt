@@ -1,8 +1,10 @@
-use Rattle.dl_cotail.proofs.Common.{ℕ, ◌<◌, arith, length, are_units, outcomes_rise, score, Joint, One, partial_sums}
+use Rattle.dl_cotail.proofs.Common.{ℕ, ◌<◌, arith, le_trans, length, thinned_mean, are_units, outcomes_rise, score, Joint, One, partial_sums}
 use Rattle.dl_common.proofs.GammaJoint.{gamma_exact}
 use Rattle.dl_common.proofs.GammaUnits.{gamma_unbounded}
 use Rattle.dl_common.proofs.OneClaim.{outcome_most}
 use Rattle.dl_cotail.proofs.ClaimCounts.{has_claims}
+use Rattle.dl_grid.specs.Width.{up}
+use Rattle.dl_cotail.proofs.Widths.{claims_rise}
 use Rattle.dl_cotail.proofs.shares.gamma_cotail.Goals as goal
 
 pub claims_joint-joint-requires : goal.claims_joint-joint-requires
@@ -35,6 +37,7 @@ returns-clause-holds g c us i extra d there here is raised e mean =
 
 pub returns-clause-width : goal.returns-clause-width
 returns-clause-width g c m s t of_mean of_raised of_total =
+    let rise = claims_rise (length c.args.raised.now) (up (thinned_mean c.args.unit.now)) _ s of_raised in
     c.tail_share_at.ensures.width m _ t of_mean
-    (rw c.requires.cells at c.claims_joint-joint.ensures.width s of_raised)
-    (rw c.requires.cells at c.claims_sums-below.ensures.width s of_raised) of_total
+    (rw c.requires.cells at (le_trans c.claims_joint-joint.ensures.width rise))
+    (rw c.requires.cells at (le_trans c.claims_sums-below.ensures.width rise)) of_total

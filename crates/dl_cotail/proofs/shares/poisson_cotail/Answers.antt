@@ -1,8 +1,10 @@
-use Rattle.dl_cotail.proofs.Common.{ℕ, ◌<◌, arith, length, are_units, outcomes_rise, score, Joint, One, partial_sums}
+use Rattle.dl_cotail.proofs.Common.{ℕ, ◌<◌, arith, le_trans, length, thinned_mean, are_units, outcomes_rise, score, Joint, One, partial_sums}
 use Rattle.dl_plan.proofs.Shared.{poisson_unbounded}
 use Rattle.dl_common.proofs.PoissonJoint.{poisson_exact}
 use Rattle.dl_common.proofs.OneClaim.{outcome_most}
 use Rattle.dl_cotail.proofs.ClaimCounts.{has_claims}
+use Rattle.dl_grid.specs.Width.{up}
+use Rattle.dl_cotail.proofs.Widths.{claims_rise}
 use Rattle.dl_cotail.proofs.shares.poisson_cotail.Goals as goal
 
 pub claims_joint-joint-requires : goal.claims_joint-joint-requires
@@ -34,5 +36,6 @@ returns-clause-holds g c us i d there here e mean =
 
 pub returns-clause-width : goal.returns-clause-width
 returns-clause-width g c m t of_mean of_total =
-    c.tail_share_at.ensures.width m _ t of_mean (c.claims_joint-joint.ensures.width t of_total)
-    (c.claims_sums-below.ensures.width t of_total) of_total
+    let rise = claims_rise (length c.args.total.now) (up (thinned_mean c.args.unit.now)) _ t of_total in
+    c.tail_share_at.ensures.width m _ t of_mean (le_trans c.claims_joint-joint.ensures.width rise)
+    (le_trans c.claims_sums-below.ensures.width rise) of_total
