@@ -1,6 +1,8 @@
 -- The product of two lists from its remainders.
 use Rattle.dl_transform.proofs.Common.{ℕ, zero, suc, ◌≡◌, ◌+◌, ◌-◌, ◌*◌, ◌/◌, ◌%◌, ◌^◌, ◌<◌, ◌≤◌, List, length, get_or, sum_by, mul-le-mul_left, mul-le-mul_right, arith, sym, ap, ap₂, ◌∙◌, div_below, get_or_past, length-take-le, take, Same, count_pairs, pairs_none, eval, [], ◌∷◌, All, div-add-mod, pow-le-pow_right, mul-le-mul, mod_below, IsTable}
 use Rattle.dl_transform.specs.Lists.{IsTableFor}
+use Rattle.dl_transform.specs.Setup.{IsSetup}
+use Rattle.dl_transform.specs.declared.combined.Setup.{Setup}
 use Rattle.dl_transform.specs.declared.tables.Table.{Table}
 use Rattle.std.proofs.lemmas.List.Sums.{sum_by-cons}
 use Rattle.dl_transform.proofs.Residues.{same_refl, same_of, same_by, same_sym, same_trans, same_times, same_cancel, same_below, same_mod}
@@ -81,6 +83,23 @@ table_for {l = l} {most = most} fewer right inside room = record {
   table = right;
   inside = omega (arith, fewer, inside);
   within = omega (arith, pow-le-pow_right {n = 2} (omega arith) {i = l} {j = most} fewer, room);
+}
+
+pub fewer_levels : {t : Table} {l most : ℕ} → l ≤ most → IsTableFor t most → IsTableFor t l
+fewer_levels {l = l} {most = most} fewer h = table_for fewer h.table h.inside h.within
+
+pub setup_of : (s : Setup) → IsSetup s
+setup_of s = record {
+  first = s.right.first.table;
+  second = s.right.second.table;
+  order = s.right.order;
+  factor = s.right.factor;
+  inverse = s.right.inverse;
+  few = s.right.few;
+  in_first = s.right.first.inside;
+  in_second = s.right.second.inside;
+  first_room = s.right.first.within;
+  second_room = s.right.second.within;
 }
 
 -- the sum of one list times what no item of the other is above

@@ -1,11 +1,12 @@
 -- High ends as low ends and widths: what the products of high ends are above those of low ends.
 use Rattle.dl_transform.proofs.Common.{ℕ, zero, suc, ◌≡◌, ◌+◌, ◌*◌, ◌<◌, ◌≤◌, List, [], ◌∷◌, length, get_or, sum_by, mul-le-mul_right, arith, sym, ap, ap₂, ◌∙◌, Same, count_pairs, eval}
+use Rattle.std.specs.Prelude.{min}
 use mathlib.Core.Path.{fun_ext}
 use Rattle.std.proofs.lemmas.List.Sums.{sum_by-cons}
 use Rattle.std.proofs.Math.Nat.{le_trans}
 use Rattle.dl_exact.proofs.Counts.{below_first, below_none, pairs_le, pairs_plus, pairs_same}
 use Rattle.dl_exact.specs.Count.{count_below}
-use Rattle.dl_transform.specs.Ends.{low_sum, high_sum, mixed_sum}
+use Rattle.dl_transform.specs.Ends.{high_at, low_sum, high_sum, mixed_sum}
 use Rattle.dl_transform.proofs.Residues.{same_of, same_plus, same_times, same_trans}
 use Rattle.dl_transform.proofs.Values.{eval_linear}
 use Rattle.dl_transform.proofs.Wholes.{pairs_bound, product_value}
@@ -101,3 +102,32 @@ mixed_small a u b v all low width most wide s p e f g above over small =
       ap (λ t. wide * t) g,
       small,
     ))
+
+-- nor does a sum of products of high ends
+pub high_small : (a u b v : List ℕ) (low wide most s bound : ℕ) → low ≡ sum_by (λ x. x) a → wide ≡ sum_by (λ x. x) u
+    → ((k : ℕ) → high_at b v k ≤ most) → most * (low + wide) < bound → high_sum a u b v s < bound
+high_small a u b v low wide most s bound e f above small =
+    rw (pairs_same s _ _ (λ i j. parts (get_or a i 0) (get_or u i 0) (high_at b v j))
+    ∙ pairs_plus s (λ i j. get_or a i 0 * high_at b v j) (λ i j. get_or u i 0 * high_at b v j))
+    (omega (
+      arith,
+      pairs_bound a (high_at b v) most s above,
+      pairs_bound u (high_at b v) most s above,
+      ap (λ t. most * t) e,
+      ap (λ t. most * t) f,
+      small,
+    ))
+  where
+    parts : (a u h : ℕ) → (a + u) * h ≡ a * h + u * h
+    parts a u h = omega arith
+
+-- a number that was cut at a bound and is below it is as it was
+pub uncut : (x m r : ℕ) → r ≡ min x m → r < m → x ≡ r
+uncut x m r is below = grind arith
+
+-- a sum of products of high ends is no less than either part of it
+pub low_below : (a u b v : List ℕ) (s bound : ℕ) → high_sum a u b v s < bound → low_sum a b s < bound
+low_below a u b v s bound h = omega (arith, high_is a u b v s, h)
+
+pub mixed_below : (a u b v : List ℕ) (s bound : ℕ) → high_sum a u b v s < bound → mixed_sum a u b v s < bound
+mixed_below a u b v s bound h = omega (arith, high_is a u b v s, h)

@@ -8,6 +8,10 @@ pub record AreWords (lows widths : List ℕ) : Type 0 where
   pub low : All (λ x. x < 2 ^ 64) lows
   pub width : All (λ x. x < 2 ^ 64) widths
 
+-- high end k
+abbrev pub high_at : (lows widths : List ℕ) → ℕ → ℕ
+high_at lows widths k = slice_index lows k + slice_index widths k
+
 -- the sum of the products of the low ends of cells i and j over all i + j = s
 abbrev pub low_sum : (a b : List ℕ) → ℕ → ℕ
 low_sum a b s = count_pairs s (λ i j. slice_index a i * slice_index b j)

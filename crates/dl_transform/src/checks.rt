@@ -4,9 +4,9 @@ ghost use Rattle.std.specs.Prelude.{◌≡◌, ℕ, ◌+◌, ◌-◌, ◌*◌, �
 ghost use Rattle.std.specs.Prelude.{true, length, slice_index};
 ghost use Rattle.dl_transform.specs.Residue.{Same, IsFactor, IsModulus, IsPair};
 ghost use Rattle.dl_transform.specs.Table.{point, IsTable, IsRoot, IsScale};
-ghost use Rattle.dl_transform.specs.Setup.{IsSetup};
+ghost use Rattle.dl_transform.specs.Lists.{IsTableFor};
+ghost use Rattle.dl_transform.specs.Transforms.{AreTransforms};
 
-use crate::combined::Setup;
 use crate::factors::{lowered, times};
 use crate::tables::Table;
 
@@ -153,32 +153,34 @@ fn is_table(t: &Table) -> bool
     are_roots(t) && are_scales(t)
 }
 
-/// Whether `roots` roots are enough for `levels` levels.
-fn has_room(levels: u32, roots: usize) -> bool
-    requires { levels < 40 }
-    ensures { result ≡ true → 2 ^ levels ≤ 2 * roots }
+/// Whether all constants are right, those of `levels` levels among them.
+fn is_table_for(t: &Table, levels: u32) -> bool
+    requires few { levels < 40 }
+    ensures { result ≡ true → IsTableFor t.now levels }
 {
-    (1u128 << levels) <= 2 * (roots as u128)
+    is_table(t)
+        && (levels as usize) < t.scales.len()
+        && (1u128 << levels) <= 2 * (t.roots.len() as u128)
 }
 
 /// Whether both transforms and what joins them are right.
-pub(crate) fn is_setup(s: &Setup) -> bool
-    ensures { result ≡ true → IsSetup s.now }
+pub(crate) fn are_transforms(
+    first: &Table,
+    second: &Table,
+    inverse: u64,
+    quotient: u64,
+    levels: u32,
+) -> bool
+    ensures { result ≡ true → AreTransforms first.now second.now inverse quotient levels }
 {
-    if !is_table(&s.first) || !is_table(&s.second) {
+    if levels >= 40 || !is_table_for(first, levels) || !is_table_for(second, levels) {
         return false;
     }
-    let p1 = s.first.p;
-    let p2 = s.second.p;
-    if p1 > p2 || !is_factor(p2, s.inverse, s.inverse_quotient) {
+    if first.p > second.p || !is_factor(second.p, inverse, quotient) {
         return false;
     }
-    if p1 as u128 * s.inverse as u128 % p2 as u128 != 1 {
+    if first.p as u128 * inverse as u128 % second.p as u128 != 1 {
         return false;
     }
-    let levels = s.levels as usize;
-    if s.levels >= 40 || levels >= s.first.scales.len() || levels >= s.second.scales.len() {
-        return false;
-    }
-    has_room(s.levels, s.first.roots.len()) && has_room(s.levels, s.second.roots.len())
+    true
 }

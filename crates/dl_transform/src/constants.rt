@@ -4,7 +4,7 @@ ghost use Rattle.std.specs.Prelude.{◌≡◌, ◌<◌, IfOk, IfSome};
 ghost use Rattle.dl_transform.specs.Residue.{IsModulus};
 ghost use Rattle.dl_transform.specs.Setup.{IsSetup};
 
-use crate::checks::{is_factor, is_setup};
+use crate::checks::{are_transforms, is_factor};
 use crate::combined::Setup;
 use crate::factors::{lowered, times};
 use crate::tables::Table;
@@ -180,7 +180,7 @@ fn scales(alloc: Global, p: u64, lift: u64, levels: u32) -> Result<(Vec<u64>, Ve
     Ok((all, quotients))
 }
 
-/// The constants for up to `levels` levels, which `is_setup` checks.
+/// The constants for up to `levels` levels, which `are_transforms` checks.
 fn table(alloc: Global, p: u64, levels: u32) -> Result<Table, AllocError>
     requires modulus { IsModulus p }
     requires few { levels < 40 }
@@ -214,15 +214,15 @@ pub fn set_up(alloc: Global, levels: u32) -> Result<Option<Setup>, AllocError>
     let first = table(alloc, FIRST, levels)?;
     let second = table(alloc, SECOND, levels)?;
     let inverse = power(FIRST, SECOND - 2, SECOND);
-    let made = Setup {
+    let inverse_quotient = quotient(inverse, excess(SECOND), SECOND);
+    if !are_transforms(&first, &second, inverse, inverse_quotient, levels) {
+        return Ok(None);
+    }
+    Ok(Some(Setup {
         first,
         second,
         inverse,
-        inverse_quotient: quotient(inverse, excess(SECOND), SECOND),
+        inverse_quotient,
         levels,
-    };
-    if is_setup(&made) {
-        return Ok(Some(made));
-    }
-    Ok(None)
+    }))
 }

@@ -11,8 +11,9 @@ ghost use Rattle.dl_transform.specs.Setup.{IsSetup};
 ghost use Rattle.dl_transform.specs.Values.{ArePairValues, AreValuesOf};
 
 use crate::cell_values::CellValues;
-use crate::combined::{
-    Buffers, Setup, cells_of, combine_all, is_large_enough, levels_for, most, scaled, total,
+use crate::combined::Setup;
+use crate::joined::{
+    Buffers, cells_of, combine_all, is_large_enough, levels_for, most, scaled, total,
 };
 use crate::modular::{ends_modulo, ends_of_values, product_from_values, product_modulo};
 use crate::tables::Table;

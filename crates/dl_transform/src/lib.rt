@@ -22,18 +22,24 @@
 #![tactic(auto)]
 
 mod cell_values;
+mod cells;
 mod checks;
 mod combined;
 mod constants;
 mod ends;
 mod factors;
+mod joined;
 mod list_values;
 mod modular;
+mod multiply;
 mod passes;
 mod tables;
 
 pub use cell_values::{CellValues, values_of_ends};
-pub use combined::{Buffers, Setup, checked_product, checked_square, is_large_enough, levels_for};
+pub use cells::Cells;
+pub use combined::Setup;
 pub use constants::set_up;
 pub use ends::{Ends, Transformed, checked_ends, checked_values};
+pub use joined::{Buffers, checked_product, checked_square, is_large_enough, levels_for};
 pub use list_values::{ListValues, TransformedList, checked_list_values, values_of_list};
+pub use multiply::product;

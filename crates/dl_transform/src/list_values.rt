@@ -6,7 +6,8 @@ ghost use Rattle.dl_exact.specs.Count.{count_pairs};
 ghost use Rattle.dl_transform.specs.Setup.{IsSetup};
 ghost use Rattle.dl_transform.specs.Values.{AreListValues};
 
-use crate::combined::{Buffers, Setup, cells_of, combine_all, is_large_enough};
+use crate::combined::Setup;
+use crate::joined::{Buffers, cells_of, combine_all, is_large_enough};
 use crate::modular::{new_values, product_from_values};
 use std::alloc::{AllocError, Global};
 

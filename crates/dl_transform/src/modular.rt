@@ -6,8 +6,8 @@ ghost use Rattle.dl_transform.specs.Table.{value_at};
 ghost use Rattle.dl_transform.specs.Lists.{AreBelow, AreItems, AreOver, AreValues, AreValuesFor, IsTableFor};
 ghost use Rattle.dl_transform.specs.Ends.{low_sum, mixed_sum, AreWords};
 
-use crate::combined::cells_of;
 use crate::ends::Pair;
+use crate::joined::cells_of;
 use crate::passes::{add_ends, load, mix_all, multiply_all, square_all, to_items, to_values};
 use crate::tables::Table;
 use std::alloc::{AllocError, Global};
@@ -32,7 +32,7 @@ fn padded_values(x: &mut [u64], a: &[u128], table: &Table, levels: u32)
 }
 
 /// The values of the polynomial `a` at all lowest nodes.
-fn values_of(x: &mut [u64], a: &[u128], table: &Table, levels: u32)
+pub(crate) fn values_of(x: &mut [u64], a: &[u128], table: &Table, levels: u32)
     requires table { IsTableFor table.now levels }
     requires size { length x.old ≡ 2 ^ levels }
     requires room { length a.now ≤ length x.old }
@@ -67,7 +67,7 @@ pub(crate) fn new_values(
 
 /// The polynomial whose values at the lowest nodes are those in `x` times `2^64`, where its scale is
 /// still to come.
-fn items_of(x: &mut [u64], table: &Table, levels: u32)
+pub(crate) fn items_of(x: &mut [u64], table: &Table, levels: u32)
     requires table { IsTableFor table.now levels }
     requires size { length x.old ≡ 2 ^ levels }
     requires small { AreBelow (2 * table.now.p) x.old }

@@ -22,5 +22,5 @@ overflow_mul-second c =
 pub returns : goal.returns
 returns c _ s =
     mixed_small c.args.a.lows.now c.args.a.widths.now c.args.b.lows.now c.args.b.widths.now c.total-low.result
-    c.total-other_low.result c.total-other_width.result c.most.result c.most-2.result s c.args.p c.total-low.ensures
-    c.total-other_low.ensures c.total-other_width.ensures c.most.ensures.above c.most-2.ensures.above (omega arith)
+    c.total-other_low.result c.total-other_width.result c.most.result c.most-2.result s c.args.p c.total-low.ensures.sum
+    c.total-other_low.ensures.sum c.total-other_width.ensures.sum c.most.ensures.above c.most-2.ensures.above (omega arith)

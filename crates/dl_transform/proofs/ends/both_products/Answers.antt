@@ -18,7 +18,7 @@ add_mixed-requires-clause-small c s b =
     omega (arith, b, c.requires.within, c.requires.paired, c.requires.room) in
     let low = low_sum c.args.pair.a.lows.now c.args.pair.b.lows.now s in
     let is : get_or c.combine_all.new.out s 0 ≡ low =
-    c.combine_all.ensures s (omega (arith, b, c.requires.paired)) low (c.requires.sums s)
+    c.combine_all.ensures.is s (omega (arith, b, c.requires.paired)) low (c.requires.sums s)
     (c.products_modulo.ensures.first s inside) (c.products_modulo.ensures.second s inside) in
     rw is (c.requires.sums s)
 
@@ -26,7 +26,7 @@ pub returns-clause-low : goal.returns-clause-low
 returns-clause-low c s b =
     let inside : s < 2 ^ c.args.levels =
     omega (arith, b, c.requires.within, c.requires.room) in
-    c.combine_all.ensures s b _ (c.requires.sums s)
+    c.combine_all.ensures.is s b _ (c.requires.sums s)
     (c.products_modulo.ensures.first s inside) (c.products_modulo.ensures.second s inside)
 
 pub returns-clause-high : goal.returns-clause-high
@@ -36,7 +36,7 @@ returns-clause-high c s b =
     let low = low_sum c.args.pair.a.lows.now c.args.pair.b.lows.now s in
     let mixed = mixed_sum c.args.pair.a.lows.now c.args.pair.a.widths.now c.args.pair.b.lows.now c.args.pair.b.widths.now s in
     let is : get_or c.combine_all.new.out s 0 ≡ low =
-    c.combine_all.ensures s b low (c.requires.sums s)
+    c.combine_all.ensures.is s b low (c.requires.sums s)
     (c.products_modulo.ensures.first s inside) (c.products_modulo.ensures.second s inside) in
     c.add_mixed.ensures s (omega (arith, b, c.requires.paired)) mixed (c.requires.mixed s)
     (c.products_modulo.ensures.mixed s inside)
@@ -72,7 +72,6 @@ products_modulo-requires c =
 pub combine_all-requires : goal.combine_all-requires
 combine_all-requires c =
     record {
-      setup = c.requires.setup;
       in_first = front_room _ _ _ _ _ _ c.products_modulo.auto.first c.as_mut_slice.ensures.value
           c.in_ok-make_room_for_ends.ensures.first c.cells_of-size.ensures (omega (arith, c.requires.within, c.requires.room));
       in_second = front_room _ _ _ _ _ _ c.products_modulo.auto.second c.as_mut_slice-2.ensures.value

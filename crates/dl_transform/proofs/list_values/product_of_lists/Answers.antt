@@ -13,7 +13,7 @@ lent_alike out known same levels room = ap length same ∙ known.size ∙ rw lev
 pub returns : goal.returns
 returns c s b =
     let inside : s < 2 ^ c.args.a.values.now.levels = omega (arith, b, c.requires.within, c.requires.room) in
-    c.combine_all.ensures s b _ (c.requires.sums s)
+    c.combine_all.ensures.is s b _ (c.requires.sums s)
     (c.product_from_values.ensures.same c.args.a.items.now c.args.b.items.now c.requires.room
     (values_at c.requires.first.first refl c.deref.ensures.value)
     (values_at c.requires.second.first c.requires.alike c.deref-2.ensures.value) s inside)
@@ -55,7 +55,6 @@ product_from_values-requires-2 c =
 
 pub combine_all-requires : goal.combine_all-requires
 combine_all-requires c = record {
-  setup = c.requires.setup;
   in_first = front_room _ _ _ _ _ _ c.product_from_values.auto.out c.as_mut_slice.ensures.value
       c.in_ok-make_room.ensures.first c.cells_of-size.ensures (omega (arith, c.requires.within, c.requires.room));
   in_second = front_room _ _ _ _ _ _ c.product_from_values-2.auto.out c.as_mut_slice-2.ensures.value

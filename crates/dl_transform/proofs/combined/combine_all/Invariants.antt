@@ -1,8 +1,0 @@
-use Rattle.dl_transform.proofs.Common.{ℕ, ◌≡◌, ◌*◌, ◌^◌, ◌<◌, get_or, Same}
-use Rattle.dl_transform.proofs.combined.combine_all.Given as goal
-
-abbrev pub invariant-loop-s : goal.invariant-loop-s
-invariant-loop-s l = (s : ℕ) → s < l.s → (n : ℕ) → n < 2 ^ 123
-    → Same l.setup.first.p (get_or l.x s 0 * get_or l.setup.first.scales.items l.levels 0) n
-    → Same l.setup.second.p (get_or l.y s 0 * get_or l.setup.second.scales.items l.levels 0) n
-    → get_or l.out s 0 ≡ n

@@ -1,0 +1,21 @@
+use Rattle.dl_transform.proofs.Common.{◌≡◌, ◌+◌, ◌^◌, ◌<◌, ◌∙◌, ℕ, ap, arith, get_or, length, sym}
+use Rattle.dl_transform.specs.Ends.{low_sum}
+use Rattle.dl_transform.specs.Products.{other}
+use Rattle.dl_transform.proofs.Widths.{high_is, low_below, mixed_below}
+use Rattle.dl_transform.proofs.multiply.products_by_one.Goals as goal
+
+pub returns-clause-low : goal.returns-clause-low
+returns-clause-low c s b =
+    let inside : s < 2 ^ c.args.levels = omega (arith, b, c.requires.served.room.within, c.requires.served.room.room) in
+    c.combine_all.ensures.is s b _ (low_below _ _ _ _ s _ (c.requires.served.sums s))
+    (c.ends_modulo.ensures.low s inside) (c.lows_modulo.ensures s inside)
+
+pub returns-clause-high : goal.returns-clause-high
+returns-clause-high c s b =
+    let inside : s < 2 ^ c.args.levels = omega (arith, b, c.requires.served.room.within, c.requires.served.room.room) in
+    let second = other c.args.a c.args.b in
+    let low : get_or c.combine_all.new.out s 0 ≡ low_sum c.args.a.lows.now second.lows.now s =
+    c.combine_all.ensures.is s b _ (low_below _ _ _ _ s _ (c.requires.served.sums s))
+    (c.ends_modulo.ensures.low s inside) (c.lows_modulo.ensures s inside) in
+    let mixed = c.add_mixed.ensures s (omega (arith, b, c.requires.paired)) _ (c.requires.mixed s) (c.ends_modulo.ensures.mixed s inside) in
+    omega (arith, low, mixed, high_is c.args.a.lows.now c.args.a.widths.now second.lows.now second.widths.now s)
