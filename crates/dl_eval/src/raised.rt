@@ -16,7 +16,7 @@ use dl_common::extra;
 use dl_grid::Grid;
 use dl_limits::BUDGET_BOUND;
 use dl_plan::{Plan, Unit};
-use dl_product::{Factor, Workspace, product_of};
+use dl_product::{Workspace, product};
 use std::alloc::{AllocError, Global};
 
 /// The fewest units of a plan in which the share of a gamma unit comes from the total with its extra
@@ -51,15 +51,7 @@ fn total_beside<const B: u32>(
         GridEncloses made (total_of (loss_of unit.now ∷ aggregates_of plan.now))) }
 {
     let (grid, _) = outcomes_of::<B>(alloc, work, unit, plan.cells)?;
-    let one = Factor {
-        grid: &grid,
-        comes_again: false,
-    };
-    let all = Factor {
-        grid: total,
-        comes_again: true,
-    };
-    product_of(alloc, work, one, all, plan.cells)
+    product(alloc, work, &grid, total, plan.cells)
 }
 
 /// Whether the joint mean of a gamma unit, unit `i` of the plan, from a grid of this spread is no

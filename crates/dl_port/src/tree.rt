@@ -13,7 +13,7 @@ use crate::no_units;
 use crate::shared::no_others;
 use crate::shortest::last_used;
 use dl_grid::Grid;
-use dl_product::{Factor, Workspace, product_of};
+use dl_product::{Workspace, product};
 use std::alloc::{AllocError, Global};
 
 /// The sum of two parts that have no unit in common.
@@ -85,32 +85,6 @@ fn shortest_root<const B: u32>(units: &[Grid<B>], nodes: &[Node<B>], roots: &[us
     least
 }
 
-/// The first `cells` cells of the convolution of two sums of the tree, each of which is a factor of
-/// further products.
-fn product_in_tree<const B: u32>(
-    alloc: Global,
-    work: &mut Workspace,
-    a: &Grid<B>,
-    b: &Grid<B>,
-    cells: u32,
-) -> Result<Grid<B>, AllocError>
-    requires some { 1 ≤ cells }
-    requires in_first { cells ≤ length a.now }
-    requires in_second { cells ≤ length b.now }
-    ensures cells { IfOk result (λ g. length g ≡ cells) }
-    ensures convolution { IfOk result (λ g. IsConvolution cells a.now b.now g) }
-{
-    let first = Factor {
-        grid: a,
-        comes_again: true,
-    };
-    let second = Factor {
-        grid: b,
-        comes_again: true,
-    };
-    product_of(alloc, work, first, second, cells)
-}
-
 /// The node of the sums at two places.
 fn node_of<const B: u32>(
     alloc: Global,
@@ -137,7 +111,7 @@ fn node_of<const B: u32>(
     let one = sum_at(units, nodes, first);
     let other = sum_at(units, nodes, second);
     let asked = is_either_asked(asked, nodes, first, second);
-    let grid = product_in_tree(alloc, work, one, other, cells)?;
+    let grid = product(alloc, work, one, other, cells)?;
     Ok(Node {
         grid,
         first,
@@ -257,7 +231,7 @@ fn outside_part<const B: u32>(
     if !asked {
         return Ok(None);
     }
-    let sum = product_in_tree(alloc, work, outside, other, cells)?;
+    let sum = product(alloc, work, outside, other, cells)?;
     Ok(Some(sum))
 }
 

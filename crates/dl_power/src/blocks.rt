@@ -9,7 +9,7 @@ ghost use Rattle.dl_plan.specs.Weighted.{weight_sum};
 ghost use Rattle.dl_power.specs.Powers.{Between, ArePowers, AreParts};
 
 use crate::mixture::block;
-use crate::short::{Factors, short_product, short_square, trimmed};
+use crate::short::{short_product, short_square, trimmed};
 use dl_grid::Grid;
 use dl_plan::Item;
 use dl_product::Workspace;
@@ -35,13 +35,7 @@ pub(crate) fn next_power<const B: u32>(
     if claims % 2 == 0 {
         return short_square(alloc, work, half, cells);
     }
-    let factors = Factors {
-        a: half,
-        b: &powers[claims / 2 + 1],
-        is_square: false,
-        a_comes_again: false,
-    };
-    short_product(alloc, work, factors, cells)
+    short_product(alloc, work, half, &powers[claims / 2 + 1], cells)
 }
 
 /// The grids of no claim, one claim and so on up to `most` claims.

@@ -13,7 +13,7 @@ use crate::widths::spread_of_counts;
 use dl_grid::{Grid, empty_grid, units_of_one};
 use dl_iv::Iv;
 use dl_plan::Item;
-use dl_product::{Factor, Workspace, product_of};
+use dl_product::{Workspace, product};
 use std::alloc::{AllocError, Global};
 
 /// Adds an interval to cell 0, and lowers its high end to 1 where it is above.
@@ -61,15 +61,7 @@ fn one_claim_more<const B: u32>(
         (spread later.now) + (share.entry.hi - share.entry.lo)) }
 {
     base.cells();
-    let again = Factor {
-        grid: base,
-        comes_again: true,
-    };
-    let once = Factor {
-        grid: later,
-        comes_again: false,
-    };
-    let mut grid = product_of(alloc, work, again, once, cells)?;
+    let mut grid = product(alloc, work, base, later, cells)?;
     add_at_zero(&mut grid, share);
     Ok(grid)
 }

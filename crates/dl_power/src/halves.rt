@@ -13,7 +13,7 @@ use crate::blocks::{blocks_of, next_power, powers_to};
 use crate::listed::Listed;
 use crate::powers::power;
 use crate::shares::greatest_of;
-use crate::short::{Factors, end_at, extended, short_product, short_square};
+use crate::short::{end_at, extended, short_product, short_square};
 use dl_grid::{Grid, units_of_one};
 use dl_product::Workspace;
 use std::alloc::{AllocError, Global};
@@ -36,13 +36,12 @@ fn added(alloc: Global, first: &[u128], second: &[u128], one: u128) -> Result<Ve
 }
 
 /// A block of counts and the counts after it: `block + step * later`, where `step` is the sum of as
-/// many claims as the block has counts, and a factor of later products too where it `comes_again`.
+/// many claims as the block has counts.
 fn block_with_later<const B: u32>(
     alloc: Global,
     work: &mut Workspace,
     block: &Grid<B>,
     step: &Grid<B>,
-    comes_again: bool,
     later: &Grid<B>,
     cells: u32,
 ) -> Result<Grid<B>, AllocError>
@@ -57,13 +56,7 @@ fn block_with_later<const B: u32>(
         → IsStep cells w f k m n block.now step.now later.now
         → Between cells g (λ s. cell_from w f k s (suc m + n))) }
 {
-    let factors = Factors {
-        a: step,
-        b: later,
-        is_square: false,
-        a_comes_again: comes_again,
-    };
-    let moved = short_product(alloc, work, factors, cells)?;
+    let moved = short_product(alloc, work, step, later, cells)?;
     let one = units_of_one(B);
     let lows = added(alloc, moved.lows(), block.lows(), one)?;
     let highs = added(alloc, moved.highs(), block.highs(), one)?;
@@ -93,7 +86,7 @@ fn paired<const B: u32>(
     for i in 0..parts.len() / 2 {
         let block = &parts[2 * i];
         let later = &parts[2 * i + 1];
-        let pair = block_with_later(alloc, work, block, step, true, later, cells)?;
+        let pair = block_with_later(alloc, work, block, step, later, cells)?;
         pairs.push(pair)?;
     }
     Ok(pairs)
@@ -143,7 +136,7 @@ impl<const B: u32> Listed<'_, B> {
             parts = paired(alloc, work, parts.as_slice(), &step, self.cells)?;
             step = short_square(alloc, work, &step, self.cells)?;
         }
-        let whole = block_with_later(alloc, work, &parts[0], &step, false, &parts[1], self.cells)?;
+        let whole = block_with_later(alloc, work, &parts[0], &step, &parts[1], self.cells)?;
         extended(alloc, &whole, self.cells)
     }
 }

@@ -1,7 +1,7 @@
 //! Grids that end before the cells they speak of: past its last cell a grid has the ends 0, so a
 //! sum of a few short claims takes a short list.
 
-ghost use Rattle.std.specs.Prelude.{◌≡◌, ℕ, suc, ◌+◌, ◌*◌, ◌/◌, ◌<◌, ◌≤◌, true, length, get_or, All, IfOk};
+ghost use Rattle.std.specs.Prelude.{◌≡◌, ℕ, suc, ◌+◌, ◌*◌, ◌/◌, ◌<◌, ◌≤◌, length, get_or, All, IfOk};
 ghost use Rattle.dl_limits.specs.Limits.{most_cell_end};
 ghost use Rattle.dl_exact.specs.Fraction.{Fraction};
 ghost use Rattle.dl_grid.specs.Prelude.{low_at, high_at, IsConvolution, IsGridSize};
@@ -9,7 +9,7 @@ ghost use Rattle.dl_model.specs.Compound.{power};
 ghost use Rattle.dl_power.specs.Powers.{Between};
 
 use dl_grid::Grid;
-use dl_product::{Factor, Workspace, product_of, square};
+use dl_product::{Workspace, product, square};
 use std::alloc::{AllocError, Global};
 
 /// The end of cell `x`, 0 past the last cell.
@@ -99,45 +99,24 @@ fn cells_of_product<const B: u32>(a: &Grid<B>, b: &Grid<B>, cells: u32) -> u32
     (a.cells() + b.cells() - 1).min(cells)
 }
 
-/// Two short grids to multiply. Where `is_square` they are one. Where `a_comes_again`, `a` is a factor
-/// of later products too.
-#[derive(Clone, Copy)]
-pub(crate) struct Factors<'a, const B: u32> {
-    pub(crate) a: &'a Grid<B>,
-    pub(crate) b: &'a Grid<B>,
-    pub(crate) is_square: bool,
-    pub(crate) a_comes_again: bool,
-}
-
 /// The first `cells` cells of the convolution of two short grids, as a short grid.
 pub(crate) fn short_product<const B: u32>(
     alloc: Global,
     work: &mut Workspace,
-    factors: Factors<'_, B>,
+    a: &Grid<B>,
+    b: &Grid<B>,
     cells: u32,
 ) -> Result<Grid<B>, AllocError>
     requires size { IsGridSize B cells }
-    requires in_first { length factors.a.now ≤ cells }
-    requires in_second { length factors.b.now ≤ cells }
-    requires square { factors.is_square ≡ true → factors.b.now ≡ factors.a.now }
+    requires in_first { length a.now ≤ cells }
+    requires in_second { length b.now ≤ cells }
     ensures few { IfOk result (λ g. length g ≤ cells) }
-    ensures convolution { IfOk result (λ g. IsConvolution cells factors.entry.a.now factors.entry.b.now g) }
+    ensures convolution { IfOk result (λ g. IsConvolution cells a.now b.now g) }
 {
-    let long = cells_of_product(factors.a, factors.b, cells);
-    let first = extended(alloc, factors.a, long)?;
-    if factors.is_square {
-        return square(alloc, work, &first, long);
-    }
-    let second = extended(alloc, factors.b, long)?;
-    let again = Factor {
-        grid: &first,
-        comes_again: factors.a_comes_again,
-    };
-    let once = Factor {
-        grid: &second,
-        comes_again: false,
-    };
-    product_of(alloc, work, again, once, long)
+    let long = cells_of_product(a, b, cells);
+    let first = extended(alloc, a, long)?;
+    let second = extended(alloc, b, long)?;
+    product(alloc, work, &first, &second, long)
 }
 
 /// The first `cells` cells of the convolution of a short grid with itself, as a short grid.
@@ -152,11 +131,7 @@ pub(crate) fn short_square<const B: u32>(
     ensures few { IfOk result (λ g. length g ≤ cells) }
     ensures convolution { IfOk result (λ g. IsConvolution cells a.now a.now g) }
 {
-    let factors = Factors {
-        a,
-        b: a,
-        is_square: true,
-        a_comes_again: false,
-    };
-    short_product(alloc, work, factors, cells)
+    let long = cells_of_product(a, a, cells);
+    let first = extended(alloc, a, long)?;
+    square(alloc, work, &first, long)
 }

@@ -1,19 +1,18 @@
--- Products of lists whose items lie a common step apart.
-use Rattle.std.specs.Prelude.{All, Bool}
-use Rattle.dl_product.proofs.Common.{end_fits, fewer_fit, ℕ, zero, suc, ◌≡◌, ◌+◌, ◌-◌, ◌*◌, ◌/◌, ◌<◌, ◌≤◌, inl, inr, List, length, get_or, arith, sym, ap, ap₂, ◌∙◌, cases_lt, get_or_past, count_pairs, pairs_same, times_nothing, pair_sum}
+-- Lists whose items lie a common step apart, and products of them.
+use Rattle.dl_product.proofs.Common.{ℕ, zero, suc, ◌≡◌, ◌+◌, ◌-◌, ◌*◌, ◌/◌, ◌<◌, ◌≤◌, inl, inr, List, length, get_or, arith, sym, ap, ap₂, ◌∙◌, cases_lt, get_or_past, count_pairs, pairs_same, times_nothing, pair_sum, max}
 use Rattle.std.proofs.Common.{◌%◌}
-use Rattle.std.proofs.Math.Nat.{add-mod_left, add-mul-mod_self_right, eq_of_mul-eq-mul_right, le_trans, le-mul_of_pos_right, mod-eq_of_lt, mod-add-div', mul-le-mul_right, lt_of_mul-lt-mul_right, mul-mod_left, suc-add, zero-mul}
+use Rattle.std.proofs.Math.Nat.{add-mod_left, add-mul-mod_self_right, eq_of_mul-eq-mul_right, le_trans, mod-eq_of_lt, mod-lt, mod-add-div', mul-le-mul_right, mul-mod_left, suc-add, zero-mul}
 use Prim.Native.Nat.{◌∣◌}
 use Rattle.std.specs.Int.{div_ceil}
-use Rattle.std.proofs.Math.ListN.{set, length-set}
+use Rattle.std.specs.Prelude.{min}
+use Rattle.std.proofs.Math.ListN.{set}
 use Rattle.std.proofs.lemmas.List.{get_or-set_same, get_or-set_other}
 use Rattle.std.proofs.lemmas.Bool.{cases_eq}
 use Rattle.std.proofs.lemmas.Nat.Gcd.{dvd_trans, dvd_of_mod-eq-zero, mod-eq-zero_of_dvd}
-use Rattle.std.proofs.lemmas.Grind.{div_ceil_times, get_or_default_zero, same_number_lists}
+use Rattle.std.proofs.lemmas.Grind.{div_ceil_times}
 use Rattle.dl_exact.proofs.Counts.{nothing_times}
-use Rattle.dl_product.specs.Factors.{AreFactors, AreZeros, IsProduct}
-use Rattle.dl_product.specs.Steps.{LieApart, AreMultiples}
-use Rattle.dl_product.proofs.Zeros.{no_products, shift_first}
+use Rattle.dl_product.specs.Places.{AreMultiples, IsCount, LieApart, LieFrom}
+use Rattle.dl_product.proofs.Zeros.{before_both, no_products, past_both, shift_both, shift_first}
 
 -- what is no multiple of a divisor is none of the number
 pub off_finer : (g h i : ℕ) → g ∣ h → 0 < i % g → 0 < i % h
@@ -27,6 +26,14 @@ off_finer g h i d off = elim (cases_lt 0 (i % h)) [
 -- items that lie a step apart lie a divisor of it apart
 pub finer : (g h : ℕ) (xs : List ℕ) → g ∣ h → LieApart h xs → LieApart g xs
 finer g h xs d apart i off = apart i (off_finer g h i d off)
+
+le_max : (g : ℕ) → max (suc g) 1 ≡ suc g
+le_max g = omega arith
+
+-- a step of 0 leaves the first place alone, so that 1 will do
+pub some_step : (g : ℕ) (xs : List ℕ) → LieApart g xs → LieApart (max g 1) xs
+some_step zero xs apart i off = absurd (omega (arith, off, mod-lt i {m = 1} (omega arith)))
+some_step (suc g) xs apart i off = apart i (rw (le_max g) at off)
 
 shifted : (d i : ℕ) → i % suc d ≡ suc (d + i) % suc d
 shifted d i = sym (add-mod_left (suc d) i) ∙ ap (λ n. n % suc d) (suc-add d i)
@@ -61,14 +68,31 @@ between g s f h first second off = no_products s f h (λ i b. elim (cases_lt 0 (
   | inr c ↦ times_nothing (f i) (h (s - i)) (second (s - i) (rw (rest_off g s i b (omega (arith, c))) off))
 ])
 
+-- the products of items that lie a step apart lie as far apart
+pub products_from : (p q d : ℕ) (f h cells others : ℕ → ℕ) → 0 < d → LieFrom p d f cells → LieFrom q d h others
+    → LieFrom (p + q) d (λ k. count_pairs k (λ i j. f i * h j)) (λ s. count_pairs s (λ i j. cells i * others j))
+products_from p q zero f h cells others some a b = absurd (omega (arith, some))
+products_from p q (suc d) f h cells others some a b = record {
+  at = λ k. pairs_same k _ _ (λ i j. ap₂ (λ x y. x * y) (a.at i) (b.at j))
+      ∙ sym (multiples_sum d k (λ i. cells (p + i)) (λ j. others (q + j)) a.between)
+      ∙ sym (shift_both p q (k * suc d) cells others a.before b.before);
+  before = λ i inside. before_both p q i cells others a.before b.before inside;
+  between = λ i off. shift_both p q i cells others a.before b.before
+      ∙ between (suc d) i (λ i. cells (p + i)) (λ j. others (q + j)) a.between b.between off;
+}
+
 -- a multiple that is one of the first n / g, rounded up, is before n
 pub multiple_inside : (g n k : ℕ) → 0 < g → k < div_ceil n g → k * g < n
 multiple_inside g n k some b =
     omega (arith, mul-le-mul_right {m = k + 1} {n = div_ceil n g} g (omega (arith, b)), (div_ceil_times n g some).1)
 
+-- lists of as many items have as many at the multiples
+pub same_count : (n m p q k g : ℕ) → n ≡ div_ceil p g → m ≡ div_ceil q g → p ≡ k → q ≡ k → m ≡ n
+same_count n m p q k g first second a b = second ∙ ap (λ t. div_ceil t g) (b ∙ sym a) ∙ sym first
+
 pub ceil_within : (g n : ℕ) → 0 < g → div_ceil n g ≤ n
 ceil_within g n some = elim (cases_lt n (div_ceil n g)) [
-  | inl b ↦ absurd (omega (arith, mul-le-mul_right {m = n + 1} {n = div_ceil n g} g (omega (arith, b)), (div_ceil_times n g some).1, le-mul_of_pos_right n some))
+  | inl b ↦ absurd (omega (arith, multiple_inside g n n some b, mul-le-mul_right {m = 1} {n = g} n (omega (arith, some))))
   | inr b ↦ b
 ]
 
@@ -80,49 +104,91 @@ multiple_past g n k some b = le_trans (div_ceil_times n g some).0 (mul-le-mul_ri
 place : (g s : ℕ) → s % g ≡ 0 → s / g * g ≡ s
 place g s none = omega (arith, none, mod-add-div' s g)
 
--- the sum at a multiple of the step, from the items of both lists at the multiples
-multiple_at : (g s : ℕ) (a b first second : List ℕ) → 0 < g → LieApart g a → AreMultiples g a first
-    → AreMultiples g b second → s % g ≡ 0 → pair_sum a b s ≡ pair_sum first second (s / g)
-multiple_at zero s a b first second some lie each all none = absurd (omega (arith, some))
-multiple_at (suc d) s a b first second some lie each all none =
-    ap (λ n. pair_sum a b n) (sym (place (suc d) s none))
-    ∙ multiples_sum d (s / suc d) (λ i. get_or a i 0) (λ j. get_or b j 0) lie
-    ∙ pairs_same (s / suc d) _ _ (λ i j. ap₂ (λ u v. u * v) (sym (each i)) (sym (all j)))
-
--- the products of the items at the multiples, written at the multiples of a list of zeros, are the
--- product of two lists whose items lie a step apart
-pub product_apart : (g n : ℕ) (a b first second sums old out : List ℕ) → 0 < g → LieApart g a → LieApart g b
-    → AreMultiples g a first → AreMultiples g b second → IsProduct first second (div_ceil n g) sums → AreZeros old
-    → AreMultiples g out sums → ((s : ℕ) → 0 < s % g → get_or out s 0 ≡ get_or old s 0) → IsProduct a b n out
-product_apart g n a b first second sums old out some lie also each all product zeros written others s inside = elim (cases_lt 0 (s % g)) [
-  | inl off ↦ others s off ∙ zeros s ∙ sym (between g s _ _ lie also off)
-  | inr c ↦
-      let none : s % g ≡ 0 = omega (arith, c) in
-      let at : s / g * g ≡ s = place g s none in
-      ap (λ i. get_or out i 0) (sym at) ∙ sym (written (s / g))
-      ∙ product (s / g) (lt_of_mul-lt-mul_right g (omega (arith, at, inside, (div_ceil_times n g some).0)))
-      ∙ sym (multiple_at g s a b first second some lie each all none)
+-- items before n that lie a step apart are known from those that are written
+pub all_items : (start step n : ℕ) (items out : List ℕ) (f cells : ℕ → ℕ) → LieFrom start step f cells
+    → LieFrom start step (λ k. get_or items k 0) (λ s. get_or out s 0)
+    → ((k : ℕ) → k < length items → get_or items k 0 ≡ f k)
+    → ((k : ℕ) → length items ≤ k → start + k * step < n → f k ≡ 0) → (s : ℕ) → s < n → get_or out s 0 ≡ cells s
+all_items start step n items out f cells l o each none s inside = elim (cases_lt s start) [
+  | inl b ↦ o.before s b ∙ sym (l.before s b)
+  | inr b ↦
+      let i = s - start in
+      let e : start + i ≡ s = omega (arith, b) in
+      elim (cases_lt 0 (i % step)) [
+        | inl off ↦ ap (λ t. get_or out t 0) (sym e) ∙ o.between i off ∙ sym (l.between i off) ∙ ap cells e
+        | inr c ↦
+            let k = i / step in
+            let here : start + k * step ≡ s = omega (arith, e, place step i (omega (arith, c))) in
+            ap (λ t. get_or out t 0) (sym here) ∙ sym (o.at k)
+            ∙ elim (cases_lt k (length items)) [
+              | inl d ↦ each k d
+              | inr d ↦ get_or_past items k 0 d ∙ sym (none k d (omega (arith, here, inside)))
+            ]
+            ∙ l.at k ∙ ap cells here
+      ]
 ]
 
--- k items written g apart
-pub record AreWritten (g k : ℕ) (items old out : List ℕ) : Type 0 where
-  pub long : length out ≡ length old
-  pub done : (j : ℕ) → j < k → get_or items j 0 ≡ get_or out (j * g) 0
-  pub others : (s : ℕ) → 0 < s % g → get_or out s 0 ≡ get_or old s 0
-
-pub one_written : (g k : ℕ) (items old out : List ℕ) → 0 < g → k * g < length out
-    → AreWritten g k items old out → AreWritten g (k + 1) items old (set out (k * g) (get_or items k 0))
-one_written g k items old out some inside w = record {
-  long = length-set out (k * g) (get_or items k 0) ∙ w.long;
-  done = λ j b. elim (cases_eq j k) [
-    | inl e ↦ rw e (sym (get_or-set_same out (k * g) (get_or items k 0) 0 inside))
-    | inr e ↦ w.done j (omega (arith, b, e))
-        ∙ sym (get_or-set_other out (k * g) (j * g) (get_or items k 0) 0
-        (λ same. e (eq_of_mul-eq-mul_right g some j k same)))
+pub count_of : (cells start step m left wanted count : ℕ) → 0 < step → left ≡ cells - start → wanted ≡ div_ceil left step
+    → count ≡ min wanted m → IsCount cells start step m count
+count_of cells start step m left wanted count some less up e = record {
+  within = omega (arith, e, less, up, ceil_within step left some);
+  inside = λ k b. omega (arith, less, multiple_inside step left k some (omega (arith, e, up, b)));
+  all = λ k b c. elim (cases_lt k wanted) [
+    | inl d ↦ omega (arith, e, b, d)
+    | inr d ↦ absurd (omega (arith, c, less, multiple_past step left k some (omega (arith, up, d))))
   ];
-  others = λ s off. get_or-set_other out (k * g) s (get_or items k 0) 0
-      (λ same. absurd (omega (arith, off, ap (λ n. n % g) same ∙ mul-mod_left k g)))
-      ∙ w.others s off;
+}
+
+-- the sums of products of two lists, spread out, are those of what the lists hold
+pub list_sums : (p q d n m l : ℕ) (xs ys items out : List ℕ) (cells others : ℕ → ℕ) → 0 < d
+    → LieFrom p d (λ k. get_or xs k 0) cells → LieFrom q d (λ k. get_or ys k 0) others
+    → LieFrom (p + q) d (λ k. get_or items k 0) (λ s. get_or out s 0)
+    → ((k : ℕ) → k < length items → get_or items k 0 ≡ pair_sum xs ys k) → IsCount n (p + q) d (m + l) (length items)
+    → ((i : ℕ) → m ≤ i → get_or xs i 0 ≡ 0) → ((j : ℕ) → l ≤ j → get_or ys j 0 ≡ 0)
+    → (s : ℕ) → s < n → get_or out s 0 ≡ count_pairs s (λ i j. cells i * others j)
+list_sums p q d n m l xs ys items out cells others some a b o each count first second =
+    all_items (p + q) d n items out (λ k. pair_sum xs ys k) (λ s. count_pairs s (λ i j. cells i * others j))
+    (products_from p q d _ _ cells others some a b) o each
+    (λ k past inside. past_both m l k (λ i. get_or xs i 0) (λ j. get_or ys j 0) first second (count.all k past inside))
+
+-- k items written from place `start` on, g apart
+pub record AreWritten (start g k : ℕ) (items out : List ℕ) : Type 0 where
+  pub done : (j : ℕ) → j < k → get_or items j 0 ≡ get_or out (start + j * g) 0
+  pub rest : (j : ℕ) → k ≤ j → get_or out (start + j * g) 0 ≡ 0
+  pub before : (i : ℕ) → i < start → get_or out i 0 ≡ 0
+  pub between : (i : ℕ) → 0 < i % g → get_or out (start + i) 0 ≡ 0
+
+apart_places : (start g j k : ℕ) → 0 < g → start + j * g ≡ start + k * g → j ≡ k
+apart_places start g j k some same = eq_of_mul-eq-mul_right g some j k (omega (arith, same))
+
+pub one_written : (start g k : ℕ) (items out : List ℕ) → 0 < g → start + k * g < length out
+    → AreWritten start g k items out → AreWritten start g (k + 1) items (set out (start + k * g) (get_or items k 0))
+one_written start g k items out some inside w = record {
+  done = λ j b. elim (cases_eq j k) [
+    | inl e ↦ rw e (sym (get_or-set_same out (start + k * g) (get_or items k 0) 0 inside))
+    | inr e ↦ w.done j (omega (arith, b, e))
+        ∙ sym (get_or-set_other out (start + k * g) (start + j * g) (get_or items k 0) 0 (λ same. e (apart_places start g j k some same)))
+  ];
+  rest = λ j b. get_or-set_other out (start + k * g) (start + j * g) (get_or items k 0) 0
+      (λ same. absurd (omega (arith, b, apart_places start g j k some same)))
+      ∙ w.rest j (omega (arith, b));
+  before = λ i b. get_or-set_other out (start + k * g) i (get_or items k 0) 0 (λ same. absurd (omega (arith, b, same)))
+      ∙ w.before i b;
+  between = λ i off. get_or-set_other out (start + k * g) (start + i) (get_or items k 0) 0
+      (λ same. let e : i ≡ k * g = omega (arith, same) in
+      absurd (omega (arith, off, ap (λ n. n % g) e ∙ mul-mod_left k g)))
+      ∙ w.between i off;
+}
+
+pub all_written : (start g k : ℕ) (items out : List ℕ) → length items ≤ k → AreWritten start g k items out
+    → LieFrom start g (λ j. get_or items j 0) (λ s. get_or out s 0)
+all_written start g k items out all w = record {
+  at = λ j. elim (cases_lt j k) [
+    | inl b ↦ w.done j b
+    | inr b ↦ get_or_past items j 0 (omega (arith, all, b)) ∙ sym (w.rest j b)
+  ];
+  before = w.before;
+  between = w.between;
 }
 
 -- the items at the multiples, so far
@@ -133,28 +199,3 @@ all_taken g k xs items some long all done j = elim (cases_lt j k) [
   | inr b ↦ get_or_past items j 0 (omega (arith, all, b))
       ∙ sym (get_or_past xs (j * g) 0 (multiple_past g (length xs) j some (omega (arith, long, all, b))))
 ]
-
-taken_small : (g : ℕ) (xs items : List ℕ) (top : ℕ) → All (λ x. x ≤ top) xs → AreMultiples g xs items
-    → All (λ x. x ≤ top) items
-taken_small g xs items top small each k d inside =
-    rw (get_or_default_zero items k d inside, each k) (end_fits xs top small (k * g))
-
--- the items at the multiples, as two lists to multiply
-pub multiples_factors : (g n : ℕ) (a b first second : List ℕ) (is_square : Bool) → 0 < g → AreFactors a b is_square n
-    → AreMultiples g a first → AreMultiples g b second → length first ≡ div_ceil (length a) g
-    → length second ≡ div_ceil (length b) g → AreFactors first second is_square (div_ceil n g)
-multiples_factors g n a b first second is_square some f each all long also = record {
-  fits = fewer_fit (div_ceil n g) (ceil_within g n some) record {
-    top = f.fits.top;
-    first = taken_small g a first f.fits.top f.fits.first each;
-    second = taken_small g b second f.fits.top f.fits.second all;
-    room = f.fits.room;
-    few = f.fits.few;
-  };
-  first_few = omega (arith, long, ceil_within g (length a) some, f.first_few);
-  second_few = omega (arith, also, ceil_within g (length b) some, f.second_few);
-  square = λ yes.
-      let same = f.square yes in
-      same_number_lists second first (also ∙ ap (λ xs. div_ceil (length xs) g) same ∙ sym long)
-      (λ k _. all k ∙ ap (λ xs. get_or xs (k * g) 0) same ∙ sym (each k));
-}

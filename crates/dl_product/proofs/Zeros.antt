@@ -1,5 +1,5 @@
 -- Products of lists that begin and end with zeros.
-use Rattle.dl_product.proofs.Common.{ℕ, zero, suc, ◌≡◌, ◌+◌, ◌-◌, ◌*◌, ◌<◌, ◌≤◌, inl, inr, List, take, drop, length, get_or, arith, refl, sym, ap, ap₂, ◌∙◌, cases_lt, get_or-take, get_or-drop, get_or_past, length-take, count_pairs, pairs_same, times_nothing}
+use Rattle.dl_product.proofs.Common.{ℕ, zero, suc, ◌≡◌, ◌+◌, ◌-◌, ◌*◌, ◌<◌, ◌≤◌, inl, inr, arith, refl, sym, ap, ap₂, ◌∙◌, cases_lt, count_pairs, pairs_same, times_nothing}
 use Rattle.std.proofs.Math.Nat.{add_assoc, add-suc, add-zero, suc-add}
 use Rattle.std.proofs.Common.{zero-add}
 use Rattle.dl_exact.proofs.Counts.{below_none, below_pairs, nothing_times}
@@ -76,13 +76,3 @@ past_both m n s f g h k b = no_products s f g (λ i d. elim (cases_lt i m) [
   | inl before ↦ times_nothing (f i) (g (s - i)) (k (s - i) (omega (arith, before)))
   | inr past ↦ nothing_times (f i) (g (s - i)) (h i past)
 ])
-
--- the items of a list from p to e, where those past e are 0
-pub window_at : (xs : List ℕ) (p e i : ℕ) → p ≤ e → e ≤ length xs → ((i : ℕ) → e ≤ i → get_or xs i 0 ≡ 0)
-    → get_or (take (e - p) (drop p xs)) i 0 ≡ get_or xs (p + i) 0
-window_at xs p e i b c h = elim (cases_lt i (e - p)) [
-  | inl d ↦ get_or-take (e - p) (drop p xs) i 0 d ∙ get_or-drop p xs i 0
-  | inr d ↦
-      get_or_past (take (e - p) (drop p xs)) i 0 (omega (arith, length-take (e - p) (drop p xs)))
-      ∙ sym (h (p + i) (omega arith))
-]

@@ -1,7 +1,11 @@
--- The low ends and the high ends of the same cells.
-use Rattle.std.specs.Prelude.{ℕ, ◌≡◌, ◌≤◌, List, length, get_or}
+-- The low ends, the high ends and the widths of the same cells.
+use Rattle.std.specs.Prelude.{ℕ, ◌≡◌, ◌+◌, ◌≤◌, List, length, get_or}
 
 -- as many of one kind as of the other, and no low end above its high end
 pub record ArePaired (lows highs : List ℕ) : Type 0 where
   pub alike : length highs ≡ length lows
-  pub order : (i : ℕ) → get_or lows i 0 ≤ get_or highs i 0
+  pub order : (k : ℕ) → get_or lows k 0 ≤ get_or highs k 0
+
+-- each high end is the low end and the width
+abbrev pub AreWidths : (lows widths highs : List ℕ) → Type 0
+AreWidths lows widths highs = (k : ℕ) → get_or lows k 0 + get_or widths k 0 ≡ get_or highs k 0

@@ -1,5 +1,4 @@
 pub mod Ends
-pub mod Factors
-pub mod Kept
-pub mod Steps
+pub mod Operand
+pub mod Places
 pub mod Windows

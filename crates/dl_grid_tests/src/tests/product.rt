@@ -1,12 +1,12 @@
 //! Products of grids, all ways beside the plain convolution.
 
-ghost use Rattle.std.specs.Prelude.{◌≡◌, ◌≤◌};
+ghost use Rattle.std.specs.Prelude.{◌≤◌};
 
 use crate::tests::helpers::{empty, is_plain, most_cells, part};
 use Ends::{Between, Part, Sure, Unknown, Zero};
 use dl_grid::{Grid, units_of_one};
 use dl_iv::Iv;
-use dl_product::{Factor, Workspace, product, product_of, square};
+use dl_product::{Workspace, product, square};
 use std::alloc::{AllocError, Global};
 
 /// The ends of a cell, as parts of 1.
@@ -250,51 +250,43 @@ fn longest_grids(rt: HostRuntime) {
     assert!(rt; has_long_sums(rt.alloc()));
 }
 
-/// A factor that comes again.
-fn again<const B: u32>(grid: &Grid<B>) -> Factor<'_, B>
-    ensures { result.grid.now ≡ grid.now }
-{
-    Factor {
-        grid,
-        comes_again: true,
-    }
-}
-
-/// Whether the product of two grids that both come again has the cells of the plain convolution.
-fn is_kept(alloc: Global, work: &mut Workspace, a: &Grid<56>, b: &Grid<56>) -> bool {
+/// Whether the product of two grids has the cells of the plain convolution.
+fn is_product(alloc: Global, work: &mut Workspace, a: &Grid<56>, b: &Grid<56>) -> bool {
     let cells = a.cells();
     if cells == 0 || b.cells() != cells {
         return false;
     }
-    let first = again(a);
-    let second = again(b);
-    let found = product_of(alloc, work, first, second, cells);
+    let found = product(alloc, work, a, b, cells);
     is_plain(alloc, found, a, b, cells)
 }
 
 /// Whether the product of a grid with one of a shape has them.
-fn kept_agrees(alloc: Global, work: &mut Workspace, a: &Grid<56>, shape: Shape) -> bool {
+fn product_agrees(alloc: Global, work: &mut Workspace, a: &Grid<56>, shape: Shape) -> bool {
     match shaped::<56>(alloc, a.cells(), shape) {
-        Some(b) => is_kept(alloc, work, a, &b),
+        Some(b) => is_product(alloc, work, a, &b),
         None => false,
     }
 }
 
 /// Whether the products of a grid of a shape with those of others have them.
-fn all_kept_agree(alloc: Global, work: &mut Workspace, shape: Shape, partners: &[Shape]) -> bool {
+fn all_products_agree(
+    alloc: Global,
+    work: &mut Workspace,
+    shape: Shape,
+    partners: &[Shape],
+) -> bool {
     let Some(a) = shaped::<56>(alloc, 700, shape) else {
         return false;
     };
     let mut good = true;
     for partner in partners {
-        good = kept_agrees(alloc, work, &a, *partner) && good;
+        good = product_agrees(alloc, work, &a, *partner) && good;
     }
     good
 }
 
-/// As long as the grid, shorter, so that the transforms are, the first once more, and wide cells,
-/// which make too much for transforms, or are multiplied by the values of each kind of ends, the
-/// first ones twice, among them some a step apart.
+/// As long as the grid, shorter, so that the transforms are, the first once more, and wide cells, which
+/// take one prime or two, among them some a step apart.
 const PARTNERS: [Shape; 9] = [
     (1, Part(700), 0, 700),
     (1, Part(650), 50, 650),
@@ -317,11 +309,11 @@ const FACTORS: [Shape; 6] = [
 ];
 
 #[test]
-fn factors_that_come_again(rt: HostRuntime) {
+fn products_in_one_room(rt: HostRuntime) {
     let alloc = rt.alloc();
     let mut work = Workspace::new(alloc);
     for factor in &FACTORS {
-        assert!(rt; all_kept_agree(alloc, &mut work, *factor, &PARTNERS));
+        assert!(rt; all_products_agree(alloc, &mut work, *factor, &PARTNERS));
     }
 }
 
@@ -338,16 +330,14 @@ const WIDE_SUMS: [CellEnds; 6] = [
 
 const WIDE: Case = (700, (1, Between(800), 0, 700), (1, Between(700), 50, 650));
 
-/// Whether two products of the same two grids, which come again, have them.
+/// Whether two products of the same two grids have them.
 fn both_have_wide_sums(alloc: Global, a: &Grid<56>, b: &Grid<56>) -> bool {
     if a.cells() != 700 || b.cells() != 700 {
         return false;
     }
-    let first = again(a);
-    let second = again(b);
     let mut work = Workspace::new(alloc);
-    let sum = product_of(alloc, &mut work, first, second, 700);
-    let swapped = product_of(alloc, &mut work, second, first, 700);
+    let sum = product(alloc, &mut work, a, b, 700);
+    let swapped = product(alloc, &mut work, b, a, 700);
     has_cells(sum, &WIDE_SUMS) && has_cells(swapped, &WIDE_SUMS)
 }
 
@@ -360,40 +350,6 @@ fn have_wide_sums(alloc: Global) -> bool {
 }
 
 #[test]
-fn wide_cells_that_come_again(rt: HostRuntime) {
+fn wide_cells(rt: HostRuntime) {
     assert!(rt; have_wide_sums(rt.alloc()));
-}
-
-/// Whether there was a product of a grid of a shape with itself, as two factors that come again.
-fn is_kept_twice(alloc: Global, work: &mut Workspace, shape: Shape) -> Option<bool> {
-    let a = shaped::<56>(alloc, 700, shape)?;
-    if a.cells() != 700 {
-        return None;
-    }
-    let factor = again(&a);
-    let found = product_of(alloc, work, factor, factor, 700).ok()?;
-    Some(found.cells() == 700)
-}
-
-/// Whether there was one for each of 260 grids, one after another.
-fn are_kept_twice(alloc: Global, work: &mut Workspace) -> bool {
-    let mut good = true;
-    for k in 0..260u32 {
-        let shape = (1, Part(700 + k), 0, 400);
-        good = is_kept_twice(alloc, work, shape).unwrap_or(false) && good;
-    }
-    good
-}
-
-#[test]
-fn more_factors_than_are_kept(rt: HostRuntime) {
-    let alloc = rt.alloc();
-    let mut work = Workspace::new(alloc);
-    assert!(rt; are_kept_twice(alloc, &mut work));
-    // the first has left, the last one is there
-    for parts in &[700, 959] {
-        let factor = (1, Part(*parts), 0, 400);
-        let agree = all_kept_agree(alloc, &mut work, factor, &[(1, Part(300), 0, 300)]);
-        assert!(rt; agree, "{parts} parts");
-    }
 }

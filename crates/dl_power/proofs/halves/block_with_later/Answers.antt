@@ -1,5 +1,5 @@
 use Rattle.std.proofs.lemmas.Bool.{ltb-true}
-use Rattle.dl_power.proofs.Common.{true, false, ℕ, ◌≡◌, ◌+◌, ◌^◌, ◌<◌, ◌≤◌, length, get_or, arith, refl, subst, ap₂, ◌∙◌, max, min, low_at, high_at, size_within}
+use Rattle.dl_power.proofs.Common.{ℕ, ◌≡◌, ◌+◌, ◌^◌, ◌<◌, ◌≤◌, length, get_or, arith, refl, subst, ap₂, ◌∙◌, max, min, low_at, high_at, size_within}
 use Rattle.dl_grid.proofs.EndLists.{low_ends_long}
 use Rattle.dl_power.proofs.BlockGrids.{as_made}
 use Rattle.dl_power.proofs.StepGrids.{step_between, step_ends}
@@ -55,8 +55,7 @@ returns-clause-between g c w f k m n p =
 
 pub short_product-requires : goal.short_product-requires
 short_product-requires g c =
-    let other : false ≡ true → c.args.later.now ≡ c.args.step.now = λ square. absurd (cc) in
-    (ltb-true _ _ refl, (ltb-true _ _ refl, (c.requires.size, (c.requires.in_step, (c.requires.in_later, other)))))
+    (ltb-true _ _ refl, (c.requires.size, (c.requires.in_step, c.requires.in_later)))
 
 pub returns-clause-few : goal.returns-clause-few
 returns-clause-few g c =

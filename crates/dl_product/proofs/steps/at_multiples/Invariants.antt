@@ -1,9 +1,0 @@
-use Rattle.dl_product.proofs.Common.{ℕ, ◌≡◌, ◌*◌, ◌<◌, length, get_or}
-use Rattle.std.specs.Int.{div_ceil}
-use Rattle.dl_product.proofs.steps.at_multiples.Given as goal
-
-abbrev pub invariant-loop-k : goal.invariant-loop-k
-invariant-loop-k l = record {
-  long : length l.items.items ≡ div_ceil (length l.xs) l.step;
-  done : (k : ℕ) → k < l.k → get_or l.items.items k 0 ≡ get_or l.xs (k * l.step) 0;
-}
