@@ -1,4 +1,4 @@
-# What each typing rule asks, by its number; docs/LANGUAGE.md has them as a table, with examples.
+# What each typing rule asks, by its number; docs/LANGUAGE.md has them as a table, with examples. From clients/sentences.txt.
 decl_sentences <- c(
     "Two units have the same name; each unit of a portfolio needs its own.",
     "A numeral has at most 11 digits (9 before a percent sign, 11 in each part of a fraction) and no fraction is over 0.",
@@ -21,7 +21,7 @@ decl_sentences <- c(
     "Probabilities, shares or weights have too fine a common denominator (above 2^30), or the expected count or loss is too fine a fraction.",
     "Too many claims: at most 256 of listed counts, 65,536 of fixed counts and trials, 4,096 expected ones above 0 of poisson and mixed gamma, and a shape of at most 10,000.",
     "The aggregate clause needs more buckets of the sum before it than there are: 16,384 with log2 up to 12, 65,536 with 13 or more; take larger buckets, a smaller grid, or a log2 of 13.",
-        "A portfolio has at most 16 units.",
+    "A portfolio has at most 16 units.",
     "Two severities have the same name; each needs its own.",
     "No severity has this name; a text names its severities before its units, as in sev NAME dsev [1:6].",
     "zt and zm need from 1/16 to 4,096 expected claims before the change, and zm a number below 1.",

@@ -170,16 +170,10 @@ test("units under a common factor", {
     found <- fault(decl_run(text, c("mean", "cotail:A:0.8"), log2 = 4))
     stopifnot(found$status == 8L, found$ask == 1L, found$told == "decl: ask 1: no share under a common factor")
 })
-rules <- file.path(here, "..", "..", "python", "src", "decl", "rules.py")
-if (file.exists(rules)) test("the sentences of the rules are those of the Python client", {
-    lines <- readLines(rules)
-    lines <- lines[-seq_len(grep("^SENTENCES", lines))]
-    told <- regmatches(lines, regexec('^ +([0-9]+): "(.*)",$', lines))
-    told <- told[lengths(told) == 3L]
-    stopifnot(identical(as.integer(vapply(told, `[`, "", 2L)), which(!is.na(decl_sentences))))
-    stopifnot(identical(
-        gsub("decl.bucket", "decl_bucket", vapply(told, `[`, "", 3L), fixed = TRUE), decl_sentences[!is.na(decl_sentences)]
-    ))
+rules <- file.path(here, "..", "..", "sentences.txt")
+if (file.exists(rules)) test("the sentences of the rules are those of the one file", {
+    told <- sub("^[0-9]+\t", "", readLines(rules))
+    stopifnot(identical(gsub("{bucket}", "decl_bucket(text)", told, fixed = TRUE), decl_sentences))
 })
 test("several lines, and raw bytes", {
     stopifnot(identical(decl_run(c("agg D dfreq [1]", "dsev [1:6]"), "mean")$low, "3.500000"))

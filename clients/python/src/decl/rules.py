@@ -1,5 +1,5 @@
 """The typing rules for messages: each in a sentence, by its number, with the bounds that the client keeps to. The program decides;
-docs/LANGUAGE.md has the rules as a table, with examples."""
+docs/LANGUAGE.md has the rules as a table, with examples. clients/sentences.py writes the sentences from clients/sentences.txt."""
 
 from typing import Dict
 
