@@ -217,7 +217,11 @@ class Answers(Case):
         self.assertEqual(decl.Book(FACTOR, log2=2).share_of_tail("A", 0.9).state, "beyond")
         page = book.page()
         self.assertIn("each unit&#x27;s share of the total", page)
-        self.assertNotIn("share of the TVaR", page)
+        self.assertIn("each unit&#x27;s share of the TVaR", page)
+        self.assertIn("The program has no such shares under a common factor: the client adds them up, from the program&#x27;s joint means", page)
+        for name, share in shares.items():
+            low, high = re.search(rf'data-ask="cotail:{name}:0.9" data-low="(.*?)" data-high="(.*?)"', page).groups()
+            self.assertTrue(Fraction(low) <= share <= Fraction(high) < Fraction(low) + Fraction(1, 100), name)
         self.assertIn("port C common 0.5", page)
 
     def test_a_unit_under_a_factor(self):

@@ -181,10 +181,10 @@ class Held(Case):
 
     def test_its_page(self):
         page = decl.coarser(self.TEXT, 1).page([2, 10], title="Held")
-        for told in ("<title>Held</title>", "Return periods", "Layers of the year", "# from below", "mean of Coin"):
+        for told in ("<title>Held</title>", "Return periods", "Layers of the year", "From below: 16 buckets of 1.", "mean of Coin"):
             self.assertIn(told, page)
         self.assertNotIn("share of the TVaR", page)
-        self.assertEqual(re.findall(r"<h2>(.*?)</h2>", page)[-1], "The program")
+        self.assertEqual(re.findall(r"<h2>(.*?)</h2>", page)[-2:], ["The two programs", "What the figures rest on"])
 
     def test_a_continuous_severity(self):
         held = decl.between("agg C 2 claims 500 xs 0 sev gamma 50 cv 0.5 poisson", 10)

@@ -15,7 +15,7 @@ from .continuous import between
 from .books import Book
 from .calls import certify, check, fmt, made, report, run, verify
 from .choose import bucket, grid
-from .compare import compare, run_many
+from .compare import compare, compare_page, run_many
 from .faults import (
     AskFault,
     BadAnswer,
@@ -105,6 +105,7 @@ __all__ = [
     "check",
     "coarser",
     "compare",
+    "compare_page",
     "fmt",
     "from_frame",
     "grid",

@@ -11,17 +11,22 @@ from .coarse import Between, coarser
 from .continuous import between
 from .books import RETURN_PERIODS, Book
 from .calls import report
+from .compare import compare_page
 from .cautions import cautions
 from .figures import plain
 from .words import ASKS
 
+#: The words that may stand before a file, and those that make a page.
+FORMS = ("report", "compare", "check")
+PAGES = ("report", "compare")
 ABOUT = """
 python -m decl FILE ASK..                 the report that `decl run ASK.. < FILE` writes
 python -m decl FILE --money ASK..         the same in money: bucket and grid are chosen, amounts of the asks are in money
 python -m decl FILE --table 10,50,100     VaR and TVaR of these return periods, in money
 python -m decl FILE --coarser BS ASK..    the same by two programs on a coarser bucket, between which the book lies
 python -m decl FILE --between ASK..       the same of a text whose severities may be continuous; --bs is the bucket
-python -m decl report FILE -o book.html   a page on the book, in money
+python -m decl report FILE -o book.html   a page on the book, in money; with --coarser or --between on two programs
+python -m decl compare FILE FILE.. -o page.html   a page on several books side by side, the first one the one to compare with
 python -m decl check FILE                 its faults, and what it says that may not be meant
 """
 
@@ -45,8 +50,9 @@ def parser() -> argparse.ArgumentParser:
         made.add_argument(f"--{name}", help=told)
     for name in ("width", "mwidth", "format"):
         made.add_argument(f"--{name}", help="as in docs/USAGE.md, without --money")
-    made.add_argument("-o", "--output", metavar="PAGE", help="where report puts the page; without it, on the standard output")
-    made.add_argument("--title", help="the title of the page")
+    made.add_argument("-o", "--output", metavar="PAGE", help="where a page is put; without it, on the standard output")
+    for name, told in (("title", "the title of a page"), ("currency", "the currency of its amounts"), ("date", "its date")):
+        made.add_argument(f"--{name}", help=told)
     return made
 
 
@@ -60,24 +66,30 @@ def text_of(name: str) -> bytes:
     return sys.stdin.buffer.read() if name == "-" else pathlib.Path(name).read_bytes()
 
 
-def book_of(given: argparse.Namespace) -> Book:
-    """The book of the file, with the bucket, grid and digits that are given."""
+def book_of(given: argparse.Namespace, file: str) -> Union[Between, Book]:
+    """The book of a file with the bucket, grid and digits that are given, or the two programs that hold it between them."""
     whole = {name: int(getattr(given, name)) for name in ("log2", "digits") if getattr(given, name) is not None}
-    return Book(text_of(given.file), bs=given.bs, **whole)
-
-
-def two_of(given: argparse.Namespace) -> Optional[Between]:
-    """The two programs that hold the book of the file between them, where that is asked for."""
     if given.between:
-        return between(text_of(given.file), given.bs, log2=None if given.log2 is None else int(given.log2))
-    return None if given.coarser is None else coarser(text_of(given.file), given.coarser)
+        return between(text_of(file), given.bs, log2=whole.get("log2"))
+    if given.coarser is not None:
+        return coarser(text_of(file), given.coarser)
+    return Book(text_of(file), bs=given.bs, **whole)
+
+
+def page(given: argparse.Namespace) -> str:
+    """The page on the book of the file, or on the books of several files by the names of these."""
+    years = periods(given.table)
+    if not given.asks:
+        return book_of(given, given.file).page(years, title=given.title, currency=given.currency, date=given.date)
+    books = {pathlib.Path(file).stem: book_of(given, file) for file in (given.file, *given.asks)}
+    return compare_page(books, years, title=given.title, currency=given.currency, date=given.date)
 
 
 def answer(given: argparse.Namespace) -> str:
     """What is written for the words."""
     options = {name: getattr(given, name) for name in ("bs", "log2", "digits", "width", "mwidth")}
     if given.table is not None or given.money or given.between or given.coarser is not None:
-        book: Union[Between, Book] = two_of(given) or book_of(given)
+        book = book_of(given, given.file)
         if given.table is not None:
             return f"{book.return_periods(periods(given.table))}\n"
         rows = book.each(given.asks)
@@ -101,19 +113,15 @@ def checked(given: argparse.Namespace) -> str:
 def main(words: List[str]) -> int:
     """Runs the command; the status is that of the program where it refuses, 2 for words that are not understood."""
     made = parser()
-    paged = words[:1] == ["report"]
-    checks = words[:1] == ["check"]
-    given = made.parse_intermixed_args(words[1:] if paged or checks else words)
+    kind = words[0] if words[:1] and words[0] in FORMS else ""
+    given = made.parse_intermixed_args(words[1:] if kind else words)
     try:
-        if (paged or checks) and given.asks:
-            made.error(f"a {'page' if paged else 'check'} has no asks")
-        if checks:
-            written = checked(given)
-        elif not paged:
-            written = answer(given)
-        else:
-            written = book_of(given).page(periods(given.table), title=given.title)
-        if paged and given.output:
+        if kind in ("report", "check") and given.asks:
+            made.error(f"a {'page' if kind == 'report' else kind} has no asks")
+        if kind == "compare" and len({pathlib.Path(file).stem for file in (given.file, *given.asks)}) < max(2, len(given.asks) + 1):
+            made.error("two files or more are compared, each with a name of its own")
+        written = checked(given) if kind == "check" else page(given) if kind else answer(given)
+        if kind in PAGES and given.output:
             pathlib.Path(given.output).write_text(written, encoding="utf-8")
         else:
             sys.stdout.write(written)

@@ -14,12 +14,12 @@ from .faults import AskFault, GridTooSmall, NeedsWidth, NoMoments, NumberFault
 from .figures import decimals, plain
 from .levels import DIGITS, SHARE_DIGITS, numeral, one, two
 from .moments import Moments, of_plan
-from .pages import page_of
-from .pictures import Picture, alone, exceedance
+from .pages import Date, book_page, head_of
+from .pictures import Picture, alone
 from .plan import Plan, plan_in
 from .reports import Report, Row, ask_in_money
 from .several import of_amount, of_level
-from .shares import share_under_factor
+from .shares import share_by_joints
 from .tables import Cell, Table
 from .tower import Tower, Written, tower_of
 from .words import MOST_ASKS
@@ -96,6 +96,8 @@ class Book:
         self.units = tuple(unit.name for unit in self.plan.units)
         self.name = self.plan.name
         self._known: Dict[str, Row] = {}
+        self._means: Dict[str, Row] = {}
+        self._sums: Dict[str, List[Ends]] = {}
         self._finer: Dict[int, Book] = {}
         if self._lost > MOST_LOST:
             warnings.warn(grid_caution(self._lost, self.cells, self.bs, self._reach()), stacklevel=level_outside())
@@ -202,7 +204,7 @@ class Book:
         quantile is not sure (`absent`). Under a common factor the program has no such shares: the client adds them up from the joint means
         of the unit with each total up to the quantile, and this step is tested and not proved."""
         if self.plan.common is not None:
-            return share_under_factor(self, unit, exact(p))
+            return share_by_joints(self, unit, exact(p))
         return self._row(f"cotail:{unit}:{one(exact(p), SHARE_DIGITS, 'cotail')}").in_money(self.bs)
 
     @of_amount
@@ -309,7 +311,9 @@ class Book:
 
     def mean_of(self, name: str) -> Row:
         """The mean of a unit, which is the same on every grid: on the least one that takes the unit."""
-        return self.unit(name, log2=least_grid(self._line(name), bs=self.bs, timeout=self.timeout)).mean()
+        if name not in self._means:
+            self._means[name] = self.unit(name, log2=least_grid(self._line(name), bs=self.bs, timeout=self.timeout)).mean()
+        return self._means[name]
 
     def _members(self) -> Dict[str, str]:
         """Each name by which a unit is asked for, with its unit."""
@@ -412,16 +416,17 @@ class Book:
         rows = self._rows(f"cdf:{at}" for at in range(0, self.cells, step))
         return Report(rows, self.bs, self.cells).in_money()
 
-    def curve(self, most: int = 4096) -> List[Tuple[Fraction, Fraction, Fraction]]:
-        """At most so many totals in money from 0 on, evenly over the grid, each with two ends of the probability of more, which hold
-        up to the next total: between two buckets that probability stays the same, and over several it falls."""
-        step = -(-self.cells // most)
-        places = range(0, self.cells, step)
+    def curve(self, most: int = 4096, until: Optional[Number] = None) -> List[Tuple[Fraction, Fraction, Fraction]]:
+        """At most so many totals in money from 0 on, evenly over the grid or up to the total `until`, each with two ends of the probability
+        of more, which hold up to the next total: between two buckets that probability stays the same, and over several it falls."""
+        cells = self.cells if until is None else min(self.cells, math.floor(exact(until) / self.bs) + 1)
+        step = -(-cells // most)
+        places = range(0, cells, step)
         self._rows(f"cdf:{at}" for at in places)
         ends = [(at * self.bs, *self._above(at)) for at in places]
         if step == 1:
             return ends
-        lows = [low for _, low, _ in ends[1:]] + [self._above(self.cells - 1)[0]]
+        lows = [low for _, low, _ in ends[1:]] + [self._above(min(places[-1] + step, self.cells) - 1)[0]]
         return [(amount, low, high) for (amount, _, high), low in zip(ends, lows)]
 
     def describe(self, levels: Iterable[Number] = LEVELS) -> Table:
@@ -456,7 +461,7 @@ class Book:
             try:
                 from matplotlib import pyplot
             except ImportError:
-                return alone(exceedance(self, [exact(each) for each in years]))
+                return alone(self, [exact(each) for each in years])
             axes = pyplot.subplots()[1]
         curve = self.curve()
         amounts, low, high = ([float(point[part]) for point in curve] for part in range(3))
@@ -467,10 +472,12 @@ class Book:
         axes.set_ylabel("probability of more")
         return axes
 
-    def page(self, years: Iterable[Number] = RETURN_PERIODS, *, title: Optional[str] = None) -> str:
-        """A page of HTML on the book, which fetches nothing: return periods, the exceedance curve, layers of the year, each
-        unit's share, what the book is worth, and its program."""
-        return page_of(self, [exact(each) for each in years], title or self.name)
+    def page(
+        self, years: Iterable[Number] = RETURN_PERIODS, *, title: Optional[str] = None, currency: Optional[str] = None, date: Date = None
+    ) -> str:
+        """A page of HTML on the book, which fetches nothing: return periods, the exceedance curve, gross, ceded and net where there are
+        clauses, layers of the year, each unit's share, what the book is worth, and its program. `currency` and `date` stand at its head."""
+        return book_page(self, [exact(each) for each in years], head_of(title or self.name, currency, date))
 
 
 def in_buckets(word: str, bs: Fraction, cells: int) -> Optional[str]:

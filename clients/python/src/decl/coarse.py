@@ -10,7 +10,7 @@ from .choose import least_grid
 from .faults import NoMoments, NotBetween, RuleFault
 from .figures import plain
 from .moments import Moments, of_plan
-from .pages import page_of
+from .pages import Date, between_page, head_of
 from .pictures import Picture
 from .plan import Chances, Clause, Plan, Unit, moved, plan_of
 from .reports import Row
@@ -287,9 +287,11 @@ class Between:
         """The exceedance curve, as `Book.plot`."""
         return Book.plot(cast(Book, self), axes, years=years)
 
-    def page(self, years: Iterable[Number] = RETURN_PERIODS, *, title: Optional[str] = None) -> str:
+    def page(
+        self, years: Iterable[Number] = RETURN_PERIODS, *, title: Optional[str] = None, currency: Optional[str] = None, date: Date = None
+    ) -> str:
         """A page of HTML on the book, as `Book.page`, without shares of the units, which two programs do not hold."""
-        return page_of(cast(Book, self), [exact(each) for each in years], title or self.name)
+        return between_page(self, [exact(each) for each in years], head_of(title or self.name, currency, date))
 
     @property
     def name(self) -> str:
@@ -320,13 +322,14 @@ class Between:
         """The probability that the total lies inside the smaller grid."""
         return self.cdf((self.cells - 1) * self.bs)
 
-    def curve(self, most: int = 4096) -> List[Tuple[Fraction, Fraction, Fraction]]:
-        """At most so many totals in money from 0 on, evenly over the smaller grid, each with two ends of the probability of more, which
-        hold up to the next total."""
-        step = -(-self.cells // most)
-        rows = self.each(f"sf:{plain(at * self.bs)}" for at in range(0, self.cells, step))
+    def curve(self, most: int = 4096, until: Optional[Number] = None) -> List[Tuple[Fraction, Fraction, Fraction]]:
+        """At most so many totals in money from 0 on, evenly over the smaller grid or up to the total `until`, each with two ends of the
+        probability of more, which hold up to the next total."""
+        cells = self.cells if until is None else min(self.cells, math.floor(exact(until) / self.bs) + 1)
+        step = -(-cells // most)
+        rows = self.each(f"sf:{plain(at * self.bs)}" for at in range(0, cells, step))
         ends = [(Fraction(row.low or 0), Fraction(1) if row.high is None else Fraction(row.high)) for row in rows]
-        last = self.sf((self.cells - 1) * self.bs).low
+        last = self.sf((min(len(rows) * step, self.cells) - 1) * self.bs).low
         lows = [low for low, _ in ends[1:]] + [Fraction(last or 0)]
         return [(at * step * self.bs, low, high) for at, ((_, high), low) in enumerate(zip(ends, lows))]
 

@@ -8,12 +8,13 @@ from concurrent.futures import ProcessPoolExecutor
 from fractions import Fraction
 from typing import Dict, Iterable, Iterator, List, Mapping, Optional, Tuple, Union
 
-from .books import Book
-from .calls import Text
+from .books import RETURN_PERIODS, Book, exact
+from .calls import Number, Text
 from .cautions import warn_of
 from .coarse import Between
 from .faults import DeclError
 from .figures import decimals
+from .pages import Date, compared_page, head_of
 from .reports import Row
 from .tables import Cell, Table
 
@@ -74,6 +75,22 @@ def compare(books: Books, asks: Asks, *, differences: bool = True) -> Table:
         lines.append([name, *found, *(apart if differences and len(rows) > 1 else [])])
     heads = [f"{name} less {first}" for name in names] if differences and len(rows) > 1 else []
     return Table(["book", *names, *heads], lines)
+
+
+def compare_page(
+    books: Books,
+    years: Iterable[Number] = RETURN_PERIODS,
+    *,
+    title: Optional[str] = None,
+    currency: Optional[str] = None,
+    date: Date = None,
+) -> str:
+    """A page of HTML on several books side by side, which fetches nothing: mean, VaR and TVaR of each, each less that of the first book, the
+    exceedance curves in one picture, and the programs. `currency` and `date` stand at its head."""
+    if not books:
+        raise ValueError("there is no book to compare")
+    made = {name: Book(book) if isinstance(book, (str, bytes)) else book for name, book in books.items()}
+    return compared_page(made, [exact(each) for each in years], head_of(title or ", ".join(made), currency, date))
 
 
 def answered(given: Tuple[Text, Tuple[str, ...], Optional[float]]) -> Union[List[Row], DeclError]:

@@ -1,9 +1,12 @@
-"""Shares of the tail mean under a common factor, of which the program has none: from its joint means, one for each total."""
+"""Shares of the units in the tail mean at several return periods. Where the program has none, under a common factor and at levels of many
+digits, they are added up from its joint means, one for each total."""
 
+from dataclasses import dataclass
 from fractions import Fraction
-from typing import TYPE_CHECKING, Tuple
+from typing import TYPE_CHECKING, Dict, Iterable, List, Sequence, Tuple
 
 from .figures import decimals, plain
+from .levels import SHARE_DIGITS, around
 from .reports import Row
 
 if TYPE_CHECKING:
@@ -13,6 +16,9 @@ Ends = Tuple[Fraction, Fraction]
 NOTHING = (Fraction(0), Fraction(0))
 #: Joint means are asked for with so many digits, since their ends add up.
 FINEST = 9
+#: A page adds up so many joint means at most.
+MOST_JOINTS = 20_000
+NOT_ONE = "the quantile is not sure to be one total"
 
 
 def ends(row: Row) -> Ends:
@@ -29,7 +35,16 @@ def atom(book: "Book", at: int, p: Fraction) -> Ends:
     return max(low, Fraction(0)), min(high, Fraction(1))
 
 
-def share_under_factor(book: "Book", unit: str, p: Fraction) -> Row:
+def sums_of(book: "Book", unit: str, at: int) -> List[Ends]:
+    """For each total from 0 to at least this one, in buckets: two ends of the mean of the unit's outcome in the years up to it."""
+    known = book._sums.setdefault(unit, [])
+    for row in book._rows(f"joint:{unit}:{x}" for x in range(len(known), at + 1)):
+        before, more = known[-1] if known else NOTHING, ends(row)
+        known.append((before[0] + more[0], before[1] + more[1]))
+    return known
+
+
+def share_by_joints(book: "Book", unit: str, p: Fraction) -> Row:
     """The mean of a unit in the worst 1 - p of the total: its mean less its joint means with the totals up to the quantile, but for the
     part of the years at the quantile that belongs to the worst; over 1 - p."""
     ask = f"cotail:{unit}:{plain(p)}"
@@ -38,10 +53,65 @@ def share_under_factor(book: "Book", unit: str, p: Fraction) -> Row:
         return Row(ask, None, None, ("beyond", "beyond") if var.state == "beyond" else ("-", "-"), True)
     fine = book._with_digits(FINEST)
     at = int(Fraction(var.low) / book.bs)
-    rows = [ends(row) for row in fine._rows(f"joint:{unit}:{x}" for x in range(at + 1))]
-    below = tuple(sum((row[side] for row in rows), Fraction(0)) for side in (0, 1))
-    part, mean, last = atom(fine, at, p), ends(fine.mean_of(unit)), rows[-1]
+    below = sums_of(fine, unit, at)[at]
+    part, mean, last = atom(fine, at, p), ends(fine.mean_of(unit)), ends(fine._rows([f"joint:{unit}:{at}"])[0])
     low = mean[0] - below[1] * book.bs + part[0] * last[0] * book.bs
     high = mean[1] - below[0] * book.bs + part[1] * last[1] * book.bs
     found = max(low / (1 - p), Fraction(0)), high / (1 - p)
     return Row(ask, *found, decimals(*found), True)
+
+
+def is_asked(book: "Book", p: Fraction) -> bool:
+    """Whether the program has an ask for shares at this level."""
+    low, high = around(p, SHARE_DIGITS)
+    return book.plan.common is None and low == high
+
+
+def joints_for(book: "Book", units: int, p: Fraction) -> int:
+    """How many joint means the shares of so many units at a level take."""
+    var = book.q(p)
+    return units * (int(Fraction(var.low or 0) / book.bs) + 1)
+
+
+@dataclass(frozen=True)
+class TailShares:
+    """The shares of units at return periods, of which 1 year is all years; the periods at which they are added up from joint means, and
+    those that would take too many of them."""
+
+    rows: Dict[Fraction, List[Row]]
+    added: Sequence[Fraction]
+    dear: Sequence[Fraction]
+
+    @property
+    def there(self) -> Dict[Fraction, List[Row]]:
+        """Those of the return periods at which every unit has a share."""
+        return {years: rows for years, rows in self.rows.items() if all(row.state == "closed" for row in rows)}
+
+    def missing(self) -> Dict[str, List[Fraction]]:
+        """Why there are no shares, with the return periods without them."""
+        found: Dict[str, List[Fraction]] = {}
+        for years in sorted([*self.rows, *self.dear]):
+            row = next((row for row in self.rows.get(years, []) if row.state != "closed"), None)
+            if years in self.dear:
+                found.setdefault(f"more than {MOST_JOINTS:,} joint means would have to be added up", []).append(years)
+            elif row is not None and row.state == "beyond":
+                found.setdefault("the TVaR may lie past the grid", []).append(years)
+            elif row is not None:
+                more = "" if years in self.added else ", or that total is not sure to have a probability of at least 1 in 65,536"
+                found.setdefault(NOT_ONE + more, []).append(years)
+        return found
+
+
+def tail_shares(book: "Book", units: Sequence[str], periods: Iterable[Fraction]) -> TailShares:
+    """The shares of these units at return periods."""
+    levels = {years: 1 - 1 / years for years in sorted({*periods} - {Fraction(1)})}
+    asked = [years for years, p in levels.items() if is_asked(book, p)]
+    book.each(f"cotail:{unit}:{levels[years]}" for years in asked for unit in units)
+    dear = [years for years, p in levels.items() if years not in asked and joints_for(book, len(units), p) > MOST_JOINTS]
+    rows = {Fraction(1): [book.mean_of(unit) for unit in units]}
+    for years, p in levels.items():
+        if years in asked:
+            rows[years] = [book.share_of_tail(unit, p) for unit in units]
+        elif years not in dear:
+            rows[years] = [share_by_joints(book, unit, p) for unit in units]
+    return TailShares(rows, [years for years in rows if years > 1 and years not in asked], dear)

@@ -1,0 +1,157 @@
+"""Gross, ceded and net of a program with reinsurance clauses, each as a program of its own where one declares it.
+
+Gross is the program without its clauses. What is ceded and what is left of it are programs where a unit has one clause. With an
+occurrence and an aggregate clause, what both leave is a program, and what both cede is not, as the sum of two cessions of the same
+year: its mean is the gross mean less the net one. Where the occurrence clause cedes, the aggregate one acts on what it cedes.
+"""
+
+import re
+from dataclasses import dataclass, replace
+from fractions import Fraction
+from typing import TYPE_CHECKING, Dict, List, Mapping, Optional, Sequence
+
+from .areas import amount_of
+from .choose import NOTE, bucket, least_grid
+from .faults import NoMoments
+from .figures import decimals
+from .moments import of_count
+from .plan import Unit, mean_of
+from .reports import Row
+from .tables import Cell, Table
+
+if TYPE_CHECKING:
+    from .books import Book
+
+CESSION = r"(?:\S+ (?:so|po) )?\S+ xs \S+"
+CLAUSE = re.compile(rf" (occurrence|aggregate) (net of|ceded to) {CESSION}(?: and {CESSION})*")
+SIDES = ("gross", "ceded", "net")
+BEFORE = "before layers"
+Texts = Dict[str, Optional[str]]
+
+
+def sides_of(line: str) -> Texts:
+    """The unit in this line before its clauses, as what they cede, and as what they leave: empty where that is nothing, None where no
+    program declares it."""
+    ways = {found[1]: found[2] for found in CLAUSE.finditer(line)}
+
+    def turned(way: str) -> str:
+        return CLAUSE.sub(lambda found: found[0].replace(found[2], way, 1), line)
+
+    gross = CLAUSE.sub("", line)
+    if not ways:
+        return {"gross": gross, "ceded": "", "net": line}
+    if len(ways) == 1:
+        return {"gross": gross, "ceded": turned("ceded to"), "net": turned("net of")}
+    if ways["occurrence"] == "ceded to":
+        return {"gross": gross, "ceded": line, "net": None}
+    return {"gross": gross, "ceded": None, "net": turned("net of")}
+
+
+def less(one: Row, other: Row) -> Row:
+    """Two ends of the difference of two means."""
+    low, high = Fraction(one.low or 0) - Fraction(other.high or 0), Fraction(one.high or 0) - Fraction(other.low or 0)
+    found = max(low, Fraction(0)), high
+    return Row("mean", *found, decimals(*found), True)
+
+
+def exactly(value: Fraction) -> Row:
+    """A mean that is known exactly."""
+    return Row("mean", value, value, decimals(value, value), True)
+
+
+def before_layer(unit: Unit) -> Optional[Row]:
+    """The mean of the claims of a unit before its layer, as many as the program expects; None where their number is no fraction."""
+    entering = replace(unit, layer=unit.layer and replace(unit.layer, limit=None))
+    above = unit.layer.attachment if unit.layer and not unit.kept else Fraction(0)
+    amount = mean_of(unit.amounts) if not above else mean_of(entering.in_layer()) + above
+    try:
+        mean = of_count(unit).mean * amount
+    except NoMoments:
+        return None
+    return exactly(mean)
+
+
+def takes(unit: Unit) -> bool:
+    """Whether the layer of a unit takes something off."""
+    layer = unit.layer
+    return layer is not None and any(layer.of(amount) != amount for amount in unit.amounts)
+
+
+@dataclass(frozen=True)
+class Cessions:
+    """The books of the sides of a program that a program declares, and the means of each unit on each side, by their names."""
+
+    book: "Book"
+    sides: Mapping[str, "Book"]
+    means: Mapping[str, Mapping[str, Row]]
+
+    def line(self, name: str, rows: Mapping[str, Cell], columns: Sequence[str]) -> List[Cell]:
+        """A line of the table."""
+        return [name, *(rows.get(column, "not declared") for column in columns)]
+
+    def total(self) -> Dict[str, Cell]:
+        """The mean of the total on each side: of the one that no program declares as the gross mean less that of the other."""
+        found = {side: book.mean() for side, book in self.sides.items()}
+        for side, other in (("ceded", "net"), ("net", "ceded")):
+            if side not in found and other in found:
+                found[side] = less(found["gross"], found[other])
+        return {**found}
+
+    def table(self, years: Sequence[Fraction]) -> Table:
+        """The means, and VaR and TVaR of return periods, gross, ceded and net."""
+        before = {unit.name: before_layer(unit) for unit in self.book.plan.units}
+        columns = [*([BEFORE] if any(map(takes, self.book.plan.units)) else []), *SIDES]
+        lines: List[List[Cell]] = []
+        for name, means in self.means.items() if len(self.means) > 1 else ():
+            lines.append(self.line(f"mean of {name}", {**means, BEFORE: before[name] or ""}, columns))
+        known = [row for row in before.values() if row is not None]
+        whole: Cell = exactly(sum((Fraction(row.low or 0) for row in known), Fraction(0))) if len(known) == len(before) else ""
+        lines.append(self.line("mean", {**self.total(), BEFORE: whole}, columns))
+        for each in years:
+            for kind, ask in (("VaR", "q"), ("TVaR", "tail")):
+                rows: Dict[str, Cell] = {side: getattr(book, ask)(1 - 1 / each) for side, book in self.sides.items()}
+                lines.append(self.line(f"{kind} {amount_of(each)} years", {**rows, BEFORE: ""}, columns))
+        return Table(["", *columns], lines)
+
+    def declared(self) -> str:
+        """Which side the program itself declares."""
+        own = bare(self.book.spelling)
+        return next((side for side in ("net", "ceded") if side in self.sides and bare(self.sides[side].spelling) == own), "")
+
+
+def bare(spelling: str) -> List[str]:
+    """The lines of a canonical text without its notes."""
+    return [line.rstrip() for line in NOTE.sub("", spelling).splitlines()]
+
+
+def mean_alone(book: "Book", head: Sequence[str], line: str) -> Row:
+    """The mean of a unit in a program of its own."""
+    from .books import Book
+
+    text = "\n".join([*head, line])
+    size = bucket(text, timeout=book.timeout)
+    log2 = least_grid(text, bs=size, timeout=book.timeout)
+    return Book(text, bs=size, log2=log2, digits=book.digits, timeout=book.timeout).mean()
+
+
+def cessions_of(book: "Book") -> Optional[Cessions]:
+    """The sides of a book; None where no unit has a clause."""
+    lines = bare(book.spelling)
+    head = [line for line in lines if not line.startswith("agg ")]
+    units = {line.split(" ")[1]: sides_of(line) for line in lines if line.startswith("agg ")}
+    if not any(each["ceded"] != "" for each in units.values()):
+        return None
+    above = [line for line in head if line.startswith("sev ") or book.plan.common is not None]
+    means: Dict[str, Dict[str, Row]] = {}
+    for name, texts in units.items():
+        found = {side: mean_alone(book, above, text) if text else exactly(Fraction(0)) for side, text in texts.items() if text is not None}
+        for side, other in (("ceded", "net"), ("net", "ceded")):
+            if side not in found:
+                found[side] = less(found["gross"], found[other])
+        means[name] = found
+    sides = {}
+    for side in SIDES:
+        declared = [texts[side] for texts in units.values()]
+        if None not in declared:
+            sides[side] = book._at_least("\n".join([*head, *(text for text in declared if text)]), None)
+    return Cessions(book, sides, means)
