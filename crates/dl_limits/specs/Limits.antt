@@ -236,6 +236,10 @@ series_one = 2 ^ 63
 
 -- ---- how large means are, their high ends in units of the scale
 
+-- the mean of one claim above 0
+abbrev pub most_claim_mean : ℕ
+most_claim_mean = 2 ^ 71
+
 -- the mean of a unit before its aggregate clause
 abbrev pub most_gross_mean : ℕ
 most_gross_mean = 2 ^ 94

@@ -1,6 +1,6 @@
 -- The ranges of the settings, as the command line gives them.
 use Rattle.std.specs.Prelude.{⊤, ◌^◌, ◌<◌, ◌≤◌, length, All}
-use Rattle.dl_limits.specs.Limits.{most_asks, most_digits, most_log2}
+use Rattle.dl_limits.specs.Limits.{most_asks, most_digits, most_log2, numeral_bound, most_level_den, most_share_den}
 use Rattle.dl_exact.specs.Fraction.{Fraction, whole, ◌<ℚ◌}
 use Rattle.dl_plan.specs.declared.settings.Ask.{Ask}
 use Rattle.dl_plan.specs.declared.settings.Settings.{Settings}
@@ -11,14 +11,14 @@ use Rattle.dl_plan.specs.Terms.{ArePriced}
 -- a bucket size above 0, as a numeral of at most 11 digits gives it
 pub record IsBucket (bs : Fraction) : Type 0 where
   pub above : whole 0 <ℚ bs
-  pub num : bs.num < 10 ^ 11
-  pub den : bs.den ≤ 10 ^ 11
+  pub num : bs.num < numeral_bound
+  pub den : bs.den ≤ numeral_bound
 
 -- a probability below 1, as a numeral of at most 9 digits gives it
 pub record IsLevel (p : Fraction) : Type 0 where
   pub below : p <ℚ whole 1
-  pub num : p.num ≤ 10 ^ 9
-  pub den : p.den ≤ 10 ^ 9
+  pub num : p.num ≤ most_level_den
+  pub den : p.den ≤ most_level_den
 
 -- each probability of the ask is such
 abbrev pub HasLevels : Ask → Type 0
@@ -31,7 +31,7 @@ HasTerms ask = ⊤
 
 -- the probability of an ask for a share of the tail mean has parts of at most 10,000
 abbrev pub HasShareLevel : Ask → Type 0
-HasShareLevel (Cotail unit p) = p.den ≤ 10 ^ 4
+HasShareLevel (Cotail unit p) = p.den ≤ most_share_den
 HasShareLevel ask = ⊤
 
 -- an ask with such values

@@ -1,7 +1,7 @@
 //! Reinsurance clauses: a side, and layers with shares.
 
 ghost use Rattle.std.specs.Prelude.{◌≡◌, ◌<◌, ◌≤◌, ◌^◌, ◌*◌, ◌↔◌, IsTrue, Bool, List, None, All, AllPairs, length, sum_by, IfOk, OnOk, IfSome, MatchOption};
-ghost use Rattle.dl_limits.specs.Limits.{most_layers, most_parts, sum_bound};
+ghost use Rattle.dl_limits.specs.Limits.{most_layers, most_parts, sum_bound, edge_bound};
 ghost use Rattle.dl_exact.specs.Fraction.{whole, ◌≤ℚ◌};
 ghost use Rattle.dl_plan.specs.declared.cede.CedeLayer.{CedeLayer};
 ghost use Rattle.dl_plan.specs.Fine.{IsFineTo30Bits, IsWhole, common_denominator};
@@ -58,7 +58,7 @@ pub fn in_layer(x: u64, limit: Option<u32>, attach: u32) -> u64
 /// it begins.
 pub(crate) fn end_of(limit: Option<u32>, attach: u32) -> u64
     ensures value { result ≡ edge_of limit attach }
-    ensures small { result < 2 ^ 33 }
+    ensures small { result < edge_bound }
 {
     attach as u64 + limit.unwrap_or(0) as u64
 }
@@ -92,7 +92,7 @@ impl CedeLayer {
     /// Where the layer ends, in buckets; where it has no limit, where it begins.
     pub fn edge(&self) -> u64
         ensures value { result ≡ edge self.now }
-        ensures small { result < 2 ^ 33 }
+        ensures small { result < edge_bound }
     {
         end_of(self.limit, self.attach)
     }
@@ -237,7 +237,7 @@ impl Cede {
 fn last_edge(layers: &[CedeLayer]) -> u64
     ensures value { result ≡ last_edge layers.now }
     ensures positive { 1 ≤ result }
-    ensures small { result < 2 ^ 33 }
+    ensures small { result < edge_bound }
 {
     let mut last = 1;
     'layers: for layer in layers {

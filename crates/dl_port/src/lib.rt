@@ -7,9 +7,9 @@
 //! the outcomes of a loss make up its whole weight. Of a valid plan these are the losses of its
 //! units, `aggregates_of plan`, by `dl_model::plans::law_declared`.
 //!
-//! `total_with` and `others_with` enclose the sum of units whose grids enclose them, and of all but one
-//! (`encloses`, `spread`); `total_and_others` gives the same, as narrow, from sums that they share,
-//! and `sums_of_one` for one unit alone (`IsTotal`, `AreSumsWithout`).
+//! `total_with` and `others_with` enclose the sum of units whose grids enclose them, and of all but
+//! one (`encloses`, `spread`); `total_and_others` gives the same, as narrow, from sums that they
+//! share, and `sums_of_one` for one unit alone (`IsTotal`, `AreSumsWithout`).
 #![tactic(auto)]
 
 mod only;
