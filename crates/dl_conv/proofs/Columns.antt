@@ -1,7 +1,6 @@
 -- One sum of a product of two lists: the products of the items whose places add up to s, place by place of the first.
-use Rattle.dl_conv.proofs.Common.{ℕ, suc, ◌≡◌, ◌+◌, ◌-◌, ◌*◌, ◌^◌, ◌<◌, ◌≤◌, List, length, get_or, arith, sym, ap, ap₂, ◌∙◌, min, mul-le-mul, count_below, below_none, below_more, below_bound, below_pairs, IsSame, ItemsFit, pair_sum, max, get_or_past, below_rest, nothing_times, times_nothing}
+use Rattle.dl_conv.proofs.Common.{ℕ, suc, ◌≡◌, ◌+◌, ◌-◌, ◌*◌, ◌^◌, ◌<◌, ◌≤◌, List, length, get_or, arith, sym, ap, ◌∙◌, min, mul-le-mul, count_below, below_none, below_more, below_bound, below_pairs, ItemsFit, pair_sum, max, get_or_past, below_rest, nothing_times, times_nothing}
 use Rattle.dl_conv.proofs.Fits.{end_fits, products_fit}
-use Rattle.dl_conv.proofs.Same.{same, same_sym, same_then, same_plus}
 
 -- the sum over the first n places
 abbrev pub column : List ℕ → List ℕ → (s n : ℕ) → ℕ
@@ -58,14 +57,3 @@ column_fits xs ys s i n total part f few e h =
     let here : get_or xs i 0 * get_or ys (s - i) 0 ≤ f.top * f.top =
     mul-le-mul (end_fits xs f.top f.first i) (end_fits ys f.top f.second (s - i)) in
     omega (arith, before, here, products_fit f (suc i) few, e, h)
-
--- and modulo 2^128
-pub column_more : (xs ys : List ℕ) (s i sum product total a b : ℕ)
-    → IsSame sum (count_below i (λ i. get_or xs i 0 * get_or ys (s - i) 0))
-    → a ≡ get_or xs i 0 → b ≡ get_or ys (s - i) 0 → IsSame product (a * b) → IsSame total (sum + product)
-    → IsSame total (count_below (i + 1) (λ i. get_or xs i 0 * get_or ys (s - i) 0))
-column_more xs ys s i sum product total a b before e h made added =
-    let here : IsSame product (get_or xs i 0 * get_or ys (s - i) 0) =
-    same_then made (same _ _ (ap₂ (λ u v. u * v) e h)) in
-    same_then added (same_then (same_plus before here)
-    (same_sym (same _ _ (below_more i (λ i. get_or xs i 0 * get_or ys (s - i) 0)))))

@@ -1,2 +1,1 @@
-pub mod Modulo
 pub mod Sums

@@ -1,5 +1,5 @@
 -- Products of two lists of numbers: an item for each sum of two places.
-use Rattle.std.specs.Prelude.{ℕ, ◌≡◌, ◌*◌, ◌^◌, ◌≤◌, List, get_or, All}
+use Rattle.std.specs.Prelude.{ℕ, ◌*◌, ◌≤◌, List, get_or, All}
 use Rattle.dl_limits.specs.Limits.{most_cells}
 use Rattle.dl_exact.specs.Count.{count_pairs}
 use Rattle.dl_grid.specs.Room.{HasRoom}
@@ -16,13 +16,3 @@ pub record ItemsFit (a b : List ℕ) (n : ℕ) : Type 0 where
   pub second : All (λ y. y ≤ top) b
   pub room : HasRoom n top
   pub few : n ≤ most_cells
-
--- a length of which halvings, at most 11, lead to 32
-pub record IsHalvable (n : ℕ) : Type 0 where
-  pub halvings : ℕ
-  pub few : halvings ≤ 11
-  pub length_is : n ≡ 32 * 2 ^ halvings
-
--- the number of items from which on a product is by halves
-abbrev pub halved_from : ℕ
-halved_from = 1536

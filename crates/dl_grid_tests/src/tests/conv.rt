@@ -5,7 +5,7 @@ ghost use Rattle.dl_limits.specs.Limits.{most_fine_cells};
 ghost use Rattle.dl_grid.specs.Room.{IsGridSize};
 
 use crate::tests::helpers::{empty, is_plain, part};
-use dl_conv::{Counted, convolve, halved};
+use dl_halves::{Counted, convolve, halved};
 use dl_grid::{Grid, units_of_one};
 use dl_iv::Iv;
 use std::alloc::{AllocError, Global};

@@ -1,5 +1,0 @@
-use Rattle.dl_conv.proofs.Common.{length}
-use Rattle.dl_conv.proofs.halves.+halved.Given as goal
-
-abbrev pub decreases-halved : goal.decreases-halved
-decreases-halved g l = length l.a.now
