@@ -1,7 +1,7 @@
 -- Products of values at the lowest nodes, over 2^64, and the polynomials that they belong to.
 use Rattle.dl_transform.proofs.Common.{ℕ, ◌≡◌, ◌+◌, ◌*◌, ◌^◌, ◌<◌, ◌≤◌, List, length, get_or, arith, sym, Same, point}
 use Rattle.dl_transform.specs.Ends.{low_sum, mixed_sum}
-use Rattle.dl_transform.specs.Lists.{AreBelow, AreOver, AreValues, AreValuesFor, mixed_at, product_at}
+use Rattle.dl_transform.specs.Lists.{AreOver, AreValues, mixed_at, product_at}
 use Rattle.dl_transform.specs.Table.{value_at}
 use Rattle.dl_transform.specs.declared.tables.Table.{Table}
 use Rattle.dl_transform.proofs.Residues.{same_of, same_refl, same_times, same_trans}
@@ -36,12 +36,3 @@ square_over p n m x w y z alike sums over k h =
   where
     parts : (x w : ℕ) → w * (2 * x + w) ≡ x * w + w * (x + w)
     parts x w = omega arith
-
--- values that were copied, for another name of their levels
-pub values_at : {t : Table} {l m : ℕ} {a x y : List ℕ} → AreValuesFor t l a x → l ≡ m → y ≡ x
-    → AreValues t m (λ i. get_or a i 0) y
-values_at known alike same = rw (same, ← alike) known.values
-
--- and stay small
-pub small_at : {t : Table} {l : ℕ} {a x y : List ℕ} → AreValuesFor t l a x → y ≡ x → AreBelow (4 * t.p) y
-small_at known same = rw same known.small

@@ -1,8 +1,6 @@
 -- The product of two lists from its remainders.
 use Rattle.dl_transform.proofs.Common.{ℕ, zero, suc, ◌≡◌, ◌+◌, ◌-◌, ◌*◌, ◌/◌, ◌%◌, ◌^◌, ◌<◌, ◌≤◌, List, length, get_or, sum_by, mul-le-mul_left, mul-le-mul_right, arith, sym, ap, ap₂, ◌∙◌, div_below, get_or_past, length-take-le, take, Same, count_pairs, pairs_none, eval, [], ◌∷◌, All, div-add-mod, pow-le-pow_right, mul-le-mul, mod_below, IsTable}
 use Rattle.dl_transform.specs.Lists.{IsTableFor}
-use Rattle.dl_transform.specs.Setup.{IsSetup}
-use Rattle.dl_transform.specs.declared.combined.Setup.{Setup}
 use Rattle.dl_transform.specs.declared.tables.Table.{Table}
 use Rattle.std.proofs.lemmas.List.Sums.{sum_by-cons}
 use Rattle.dl_transform.proofs.Residues.{same_refl, same_of, same_by, same_sym, same_trans, same_times, same_cancel, same_below, same_mod}
@@ -77,29 +75,11 @@ pub two_room : (p1 p2 : ℕ) → 3 * 2 ^ 60 ≤ p1 → 3 * 2 ^ 60 ≤ p2 → 2 ^
 two_room p1 p2 h k = omega (arith, mul-le-mul h k)
 
 -- a table with room for some levels has room for fewer
-pub table_for : {t : Table} {l most : ℕ} → l ≤ most → IsTable t → most < length t.scales.items
-    → 2 ^ most ≤ 2 * length t.roots.items → IsTableFor t l
-table_for {l = l} {most = most} fewer right inside room = record {
-  table = right;
-  inside = omega (arith, fewer, inside);
-  within = omega (arith, pow-le-pow_right {n = 2} (omega arith) {i = l} {j = most} fewer, room);
-}
-
 pub fewer_levels : {t : Table} {l most : ℕ} → l ≤ most → IsTableFor t most → IsTableFor t l
-fewer_levels {l = l} {most = most} fewer h = table_for fewer h.table h.inside h.within
-
-pub setup_of : (s : Setup) → IsSetup s
-setup_of s = record {
-  first = s.right.first.table;
-  second = s.right.second.table;
-  order = s.right.order;
-  factor = s.right.factor;
-  inverse = s.right.inverse;
-  few = s.right.few;
-  in_first = s.right.first.inside;
-  in_second = s.right.second.inside;
-  first_room = s.right.first.within;
-  second_room = s.right.second.within;
+fewer_levels {l = l} {most = most} fewer h = record {
+  table = h.table;
+  inside = omega (arith, fewer, h.inside);
+  within = omega (arith, pow-le-pow_right {n = 2} (omega arith) {i = l} {j = most} fewer, h.within);
 }
 
 -- the sum of one list times what no item of the other is above
@@ -114,34 +94,3 @@ pairs_bound (x ∷ xs) b m (suc s) h =
 -- words stay words where they are read past the end
 pub word_at : (xs : List ℕ) → All (λ x. x < 2 ^ 64) xs → (i : ℕ) → get_or xs i 0 < 2 ^ 64
 word_at xs h i = grind (arith, get_or_past)
-
--- so no sum of the product passes what both come to
-pub sums_small : (a : List ℕ) (b : ℕ → ℕ) (all most bound s : ℕ) → all ≡ sum_by (λ x. x) a → ((k : ℕ) → b k ≤ most)
-    → most * all < bound → count_pairs s (λ i j. get_or a i 0 * b j) < bound
-sums_small a b all most bound s e above h =
-    omega (arith, pairs_bound a b most s above, ap (λ t. t * most) e, h)
-
--- where both come to too much, so does the sum times each number that is no less than the items
-pub too_large : (a : List ℕ) (all most m bound : ℕ) → all ≡ sum_by (λ x. x) a → most ≤ m → bound ≤ most * all
-    → m * sum_by (λ x. x) a < bound → ⊥
-too_large a all most m bound e least large small = grind (arith, mul-le-mul_right (sum_by (λ x. x) a) least)
-
--- words multiplied
-pub words_fit : (b : List ℕ) (all most : ℕ) → All (λ x. x < 2 ^ 64) b
-    → ((m : ℕ) → ((k : ℕ) → get_or b k 0 ≤ m) → most ≤ m) → all < 2 ^ 64 → most * all < 2 ^ 128
-words_fit b all most words least small =
-    let first : most ≤ 2 ^ 64 - 1 = least (2 ^ 64 - 1) (λ k. omega (arith, word_at b words k)) in
-    let second : all ≤ 2 ^ 64 - 1 = omega (arith, small) in
-    omega (arith, mul-le-mul first second)
-
--- the first n items of a buffer with room for them
-pub front : (n : ℕ) (xs x : List ℕ) → x ≡ xs → n ≤ length xs → length (take n x) ≡ n
-front n xs x same room = rw same (length-take-le n xs room)
-
-pub fronts_alike : (n : ℕ) (xs x ys y : List ℕ) → x ≡ xs → n ≤ length xs → y ≡ ys → n ≤ length ys
-    → length (take n x) ≡ length (take n y)
-fronts_alike n xs x ys y same room other there = front n xs x same room ∙ sym (front n ys y other there)
-
-pub front_room : (k n m : ℕ) (xs x new : List ℕ) → length new ≡ length (take n x) → x ≡ xs → n ≤ length xs → n ≡ m
-    → k ≤ m → k ≤ length new
-front_room k n m xs x new alike same room size few = omega (arith, alike, front n xs x same room, size, few)

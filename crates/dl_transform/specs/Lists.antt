@@ -46,12 +46,6 @@ abbrev pub AreValues : Table → ℕ → (ℕ → ℕ) → List ℕ → Type 0
 AreValues t levels f xs =
     (k : ℕ) → k < 2 ^ levels → Same t.p (slice_index xs k) (value_at t (2 ^ levels) f k)
 
--- the values of the polynomial with the items a at the lowest nodes, with room for one product
-pub record AreValuesFor (t : Table) (levels : ℕ) (a xs : List ℕ) : Type 0 where
-  pub size : length xs ≡ 2 ^ levels
-  pub small : AreBelow (4 * t.p) xs
-  pub values : AreValues t levels (λ i. slice_index a i) xs
-
 -- the items, each times the scale of `levels` levels, are the numbers f
 abbrev pub AreItems : Table → ℕ → (ℕ → ℕ) → List ℕ → Type 0
 AreItems t levels f xs =

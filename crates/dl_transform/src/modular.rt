@@ -1,16 +1,14 @@
 //! Products of polynomials modulo `p`, by their values.
 
-ghost use Rattle.std.specs.Prelude.{◌≡◌, ℕ, ◌+◌, ◌*◌, ◌/◌, ◌^◌, ◌<◌, ◌≤◌};
-ghost use Rattle.std.specs.Prelude.{true, List, length, slice_index, IfOk};
+ghost use Rattle.std.specs.Prelude.{◌≡◌, ℕ, ◌+◌, ◌*◌, ◌/◌, ◌^◌, ◌<◌, ◌≤◌, length, slice_index};
 ghost use Rattle.dl_transform.specs.Table.{value_at};
-ghost use Rattle.dl_transform.specs.Lists.{AreBelow, AreItems, AreOver, AreValues, AreValuesFor, IsTableFor};
-ghost use Rattle.dl_transform.specs.Ends.{low_sum, mixed_sum, AreWords};
+ghost use Rattle.dl_transform.specs.Lists.{AreBelow, AreItems, AreOver, AreValues, IsTableFor};
+ghost use Rattle.dl_transform.specs.Ends.{low_sum, mixed_sum};
+ghost use Rattle.dl_transform.specs.Products.{other};
 
-use crate::ends::Pair;
-use crate::joined::cells_of;
+use crate::cells::Cells;
 use crate::passes::{add_ends, load, mix_all, multiply_all, square_all, to_items, to_values};
 use crate::tables::Table;
-use std::alloc::{AllocError, Global};
 
 /// The values of the polynomial `a` at all lowest nodes, where the upper half of its items is
 /// zeros: then both halves begin alike.
@@ -32,7 +30,7 @@ fn padded_values(x: &mut [u64], a: &[u128], table: &Table, levels: u32)
 }
 
 /// The values of the polynomial `a` at all lowest nodes.
-pub(crate) fn values_of(x: &mut [u64], a: &[u128], table: &Table, levels: u32)
+fn values_of(x: &mut [u64], a: &[u128], table: &Table, levels: u32)
     requires table { IsTableFor table.now levels }
     requires size { length x.old ≡ 2 ^ levels }
     requires room { length a.now ≤ length x.old }
@@ -48,26 +46,9 @@ pub(crate) fn values_of(x: &mut [u64], a: &[u128], table: &Table, levels: u32)
     to_values(x, 0, table, levels);
 }
 
-/// The same values, in a list of their own.
-pub(crate) fn new_values(
-    alloc: Global,
-    a: &[u128],
-    table: &Table,
-    levels: u32,
-) -> Result<Vec<u64>, AllocError>
-    requires table { IsTableFor table.now levels }
-    requires room { length a.now ≤ 2 ^ levels }
-    requires items { AreBelow (2 ^ 64) a.now }
-    ensures { IfOk result (λ v. AreValuesFor table.now levels a.now v.items) }
-{
-    let mut values = Vec::from_elem(alloc, 0u64, cells_of(levels))?;
-    values_of(values.as_mut_slice(), a, table, levels);
-    Ok(values)
-}
-
 /// The polynomial whose values at the lowest nodes are those in `x` times `2^64`, where its scale is
 /// still to come.
-pub(crate) fn items_of(x: &mut [u64], table: &Table, levels: u32)
+fn items_of(x: &mut [u64], table: &Table, levels: u32)
     requires table { IsTableFor table.now levels }
     requires size { length x.old ≡ 2 ^ levels }
     requires small { AreBelow (2 * table.now.p) x.old }
@@ -79,154 +60,71 @@ pub(crate) fn items_of(x: &mut [u64], table: &Table, levels: u32)
     to_items(x, 0, table, levels);
 }
 
-/// The product of two lists modulo `p` before its scale, in the place of the values `x` of the first;
-/// `y` are those of the second.
-pub(crate) fn product_of_values(x: &mut [u64], y: &[u64], table: &Table, levels: u32)
+/// The sums of products of low ends modulo the prime of a table, in `x`, before their scale; `y` is
+/// for what is needed on the way. A square needs the values of its cells once.
+pub(crate) fn lows_modulo(
+    x: &mut [u64],
+    y: &mut [u64],
+    a: Cells<'_>,
+    b: Option<Cells<'_>>,
+    table: &Table,
+    levels: u32,
+)
     requires table { IsTableFor table.now levels }
     requires size { length x.old ≡ 2 ^ levels }
-    requires alike { length y.now ≡ length x.old }
-    requires first_small { AreBelow (4 * table.now.p) x.old }
-    requires second_small { AreBelow (4 * table.now.p) y.now }
-    ensures small { AreBelow (2 * table.now.p) x.new }
-    ensures same { (a b : List ℕ) → length a + length b ≤ 2 ^ levels
-        → AreValues table.now levels (λ i. slice_index a i) x.old
-        → AreValues table.now levels (λ j. slice_index b j) y.now
-        → AreItems table.now levels (low_sum a b) x.new }
+    requires second_size { length y.old ≡ 2 ^ levels }
+    requires room { length a.lows.now + length (other a b).lows.now ≤ 2 ^ levels }
+    ensures { AreItems table.now levels (low_sum a.entry.lows.now (other a.entry b.entry).lows.now) x.new }
 {
+    values_of(x, a.lows, table, levels);
+    let Some(b) = b else {
+        square_all(x, table.minus_inverse, table.p);
+        items_of(x, table, levels);
+        return;
+    };
+    values_of(y, b.lows, table, levels);
     multiply_all(x, y, table.minus_inverse, table.p);
     items_of(x, table, levels);
 }
 
-/// The product of two lists modulo `p` before its scale, from the values `x` of the first and `y` of
-/// the second, which stay as they are.
-pub(crate) fn product_from_values(out: &mut [u64], x: &[u64], y: &[u64], table: &Table, levels: u32)
-    requires table { IsTableFor table.now levels }
-    requires size { length out.old ≡ 2 ^ levels }
-    requires first_alike { length x.now ≡ length out.old }
-    requires second_alike { length y.now ≡ length out.old }
-    requires first_small { AreBelow (4 * table.now.p) x.now }
-    requires second_small { AreBelow (4 * table.now.p) y.now }
-    ensures small { AreBelow (2 * table.now.p) out.new }
-    ensures same { (a b : List ℕ) → length a + length b ≤ 2 ^ levels
-        → AreValues table.now levels (λ i. slice_index a i) x.now
-        → AreValues table.now levels (λ j. slice_index b j) y.now
-        → AreItems table.now levels (low_sum a b) out.new }
-{
-    out.copy_from_slice(x);
-    product_of_values(out, y, table, levels);
-}
-
-/// The product of the low ends of two lists modulo `p`, in the place of the values `x` of the first,
-/// and what that of their high ends has beyond it, in the place of the values `u` of its widths, both
-/// before their scale; `y` and `v` are the values of the low ends and widths of the second list.
-pub(crate) fn ends_of_values(
-    x: &mut [u64],
-    y: &[u64],
-    u: &mut [u64],
-    v: &[u64],
-    table: &Table,
-    levels: u32,
-)
-    requires table { IsTableFor table.now levels }
-    requires size { length x.old ≡ 2 ^ levels }
-    requires second_alike { length y.now ≡ length x.old }
-    requires widths_alike { length u.old ≡ length x.old }
-    requires second_widths_alike { length v.now ≡ length x.old }
-    requires first_small { AreBelow (4 * table.now.p) x.old }
-    requires second_small { AreBelow (4 * table.now.p) y.now }
-    requires widths_small { AreBelow (4 * table.now.p) u.old }
-    requires second_widths_small { AreBelow (4 * table.now.p) v.now }
-    ensures small { AreBelow (2 * table.now.p) x.new }
-    ensures same { (a b : List ℕ) → length a + length b ≤ 2 ^ levels
-        → AreValues table.now levels (λ i. slice_index a i) x.old
-        → AreValues table.now levels (λ j. slice_index b j) y.now
-        → AreItems table.now levels (low_sum a b) x.new }
-    ensures mixed_small { AreBelow (2 * table.now.p) u.new }
-    ensures mixed { (a w b z : List ℕ) → length a + length b ≤ 2 ^ levels
-        → length w ≡ length a → length z ≡ length b
-        → AreValues table.now levels (λ i. slice_index a i) x.old
-        → AreValues table.now levels (λ i. slice_index w i) u.old
-        → AreValues table.now levels (λ j. slice_index b j) y.now
-        → AreValues table.now levels (λ j. slice_index z j) v.now
-        → AreItems table.now levels (mixed_sum a w b z) u.new }
-{
-    mix_all(x, y, u, v, table.minus_inverse, table.p);
-    items_of(u, table, levels);
-    product_of_values(x, y, table, levels);
-}
-
-/// The product of two lists modulo `p` before its scale, with `y` for what is needed on the way.
-/// That of a list with itself needs its values once.
-pub(crate) fn product_modulo(
-    x: &mut [u64],
-    y: &mut [u64],
-    a: &[u128],
-    b: &[u128],
-    is_square: bool,
-    table: &Table,
-    levels: u32,
-)
-    requires table { IsTableFor table.now levels }
-    requires size { length x.old ≡ 2 ^ levels }
-    requires alike { length y.old ≡ length x.old }
-    requires square { is_square ≡ true → b.now ≡ a.now }
-    requires room { length a.now + length b.now ≤ 2 ^ levels }
-    requires first { AreBelow (2 ^ 64) a.now }
-    requires second { AreBelow (2 ^ 64) b.now }
-    ensures small { AreBelow (2 * table.now.p) x.new }
-    ensures same { AreItems table.now levels (low_sum a.now b.now) x.new }
-{
-    values_of(x, a, table, levels);
-    if is_square {
-        square_all(x, table.minus_inverse, table.p);
-        items_of(x, table, levels);
-        return;
-    }
-    values_of(y, b, table, levels);
-    product_of_values(x, y, table, levels);
-}
-
-/// The product of the low ends of two lists modulo `p`, in `x`, and in `u` what that of their high
-/// ends has beyond it, both before their scale; `y` and `v` are for what is needed on the way. Two
-/// lists that are one need their values once: the difference of the squares of high and low ends is
-/// the width times their sum.
+/// The same, and in `u` what the sums of products of high ends have beyond them; `y` and `v` are for
+/// what is needed on the way. For a square this is the width times the sum of both ends.
 pub(crate) fn ends_modulo(
     x: &mut [u64],
     y: &mut [u64],
     u: &mut [u64],
     v: &mut [u64],
-    pair: Pair<'_>,
+    a: Cells<'_>,
+    b: Option<Cells<'_>>,
     table: &Table,
     levels: u32,
 )
     requires table { IsTableFor table.now levels }
     requires size { length x.old ≡ 2 ^ levels }
-    requires second_alike { length y.old ≡ length x.old }
-    requires widths_alike { length u.old ≡ length x.old }
-    requires spare_alike { length v.old ≡ length x.old }
-    requires square { pair.is_square ≡ true → pair.b.lows.now ≡ pair.a.lows.now }
-    requires square_widths { pair.is_square ≡ true → pair.b.widths.now ≡ pair.a.widths.now }
-    requires room { length pair.a.lows.now + length pair.b.lows.now ≤ 2 ^ levels }
-    requires first { AreWords pair.a.lows.now pair.a.widths.now }
-    requires second { AreWords pair.b.lows.now pair.b.widths.now }
-    ensures small { AreBelow (2 * table.now.p) x.new }
-    ensures same { AreItems table.now levels (low_sum pair.entry.a.lows.now pair.entry.b.lows.now) x.new }
-    ensures mixed_small { AreBelow (2 * table.now.p) u.new }
+    requires second_size { length y.old ≡ 2 ^ levels }
+    requires widths_size { length u.old ≡ 2 ^ levels }
+    requires spare_size { length v.old ≡ 2 ^ levels }
+    requires room { length a.lows.now + length (other a b).lows.now ≤ 2 ^ levels }
+    ensures low { AreItems table.now levels
+        (low_sum a.entry.lows.now (other a.entry b.entry).lows.now) x.new }
     ensures mixed { AreItems table.now levels
-        (mixed_sum pair.entry.a.lows.now pair.entry.a.widths.now
-        pair.entry.b.lows.now pair.entry.b.widths.now) u.new }
+        (mixed_sum a.entry.lows.now a.entry.widths.now
+        (other a.entry b.entry).lows.now (other a.entry b.entry).widths.now) u.new }
 {
-    values_of(x, pair.a.lows, table, levels);
-    values_of(u, pair.a.widths, table, levels);
-    if pair.is_square {
+    values_of(x, a.lows, table, levels);
+    values_of(u, a.widths, table, levels);
+    let Some(b) = b else {
         add_ends(y, x, u, table.p);
         multiply_all(u, y, table.minus_inverse, table.p);
         square_all(x, table.minus_inverse, table.p);
-        items_of(u, table, levels);
         items_of(x, table, levels);
+        items_of(u, table, levels);
         return;
-    }
-    values_of(y, pair.b.lows, table, levels);
-    values_of(v, pair.b.widths, table, levels);
-    ends_of_values(x, y, u, v, table, levels);
+    };
+    values_of(y, b.lows, table, levels);
+    values_of(v, b.widths, table, levels);
+    mix_all(x, y, u, v, table.minus_inverse, table.p);
+    multiply_all(x, y, table.minus_inverse, table.p);
+    items_of(x, table, levels);
+    items_of(u, table, levels);
 }

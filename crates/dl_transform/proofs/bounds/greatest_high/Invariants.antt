@@ -1,0 +1,9 @@
+use Rattle.dl_transform.proofs.Common.{ℕ, ◌<◌, ◌≤◌}
+use Rattle.dl_transform.specs.Ends.{high_at}
+use Rattle.dl_transform.proofs.bounds.greatest_high.Given as goal
+
+abbrev pub invariant-loop-k : goal.invariant-loop-k
+invariant-loop-k l = record {
+  above : (k : ℕ) → k < l.k → high_at l.a.lows.now l.a.widths.now k ≤ l.greatest;
+  least : (m : ℕ) → ((k : ℕ) → high_at l.a.lows.now l.a.widths.now k ≤ m) → l.greatest ≤ m;
+}
