@@ -47,10 +47,19 @@ def named(name: str, fault: DeclError) -> DeclError:
     return type(fault)(f"book {name}: {fault.told}", **fault.facts)
 
 
+def book_of(name: str, book: Union[Text, Book, Between]) -> Union[Book, Between]:
+    """One of several books."""
+    try:
+        return Book(book) if isinstance(book, (str, bytes)) else book
+    except DeclError as fault:
+        raise named(name, fault) from None
+
+
 def rows_of(name: str, book: Union[Text, Book, Between], asks: Iterable[str]) -> List[Row]:
     """The answers of one of several books."""
+    made = book_of(name, book)
     try:
-        return (Book(book) if isinstance(book, (str, bytes)) else book).each(asks)
+        return made.each(asks)
     except DeclError as fault:
         raise named(name, fault) from None
 
@@ -89,7 +98,7 @@ def compare_page(
     exceedance curves in one picture, and the programs. `currency` and `date` stand at its head."""
     if not books:
         raise ValueError("there is no book to compare")
-    made = {name: Book(book) if isinstance(book, (str, bytes)) else book for name, book in books.items()}
+    made = {name: book_of(name, book) for name, book in books.items()}
     return compared_page(made, [exact(each) for each in years], head_of(title or ", ".join(made), currency, date))
 
 
