@@ -149,6 +149,55 @@ class Packages(Case):
                 pass
         raise unittest.SkipTest("no root can be entered: neither chroot nor unshare runs here")
 
+    def environment(self, *packages):
+        """An environment with these packages alone, which are files or folders: the path of its Python."""
+        fresh = self.room / "venv"
+        if subprocess.run([sys.executable, "-m", "venv", fresh], capture_output=True).returncode:
+            raise unittest.SkipTest("python3 -m venv does not run here")
+        done = subprocess.run([fresh / "bin" / "pip", "install", "--no-index", *packages], capture_output=True, text=True)
+        self.assertEqual(done.returncode, 0, done.stderr)
+        listed = subprocess.run([fresh / "bin" / "pip", "list", "--format=freeze"], capture_output=True, text=True).stdout
+        self.assertFalse({line.split("==")[0] for line in listed.splitlines()} - {"decl-client", "pip", "setuptools", "wheel"})
+        return fresh / "bin" / "python"
+
+    def makes_pages(self, python, pages, program):
+        """The installed client, which has nothing beside it, writes the pages that the client of the repository writes: of an example, of it
+        between two programs, and of two of them."""
+        examples = [str(pages / "examples" / f"{name}.decl") for name in ("common", "dice")]
+        world = {} if program is None else {"DECL": str(program)}
+        own = {"DECL": str(BUILT), "PYTHONPATH": str(ROOT / "clients" / "python" / "src")}
+        for words in (["report", examples[0]], ["report", examples[1], "--coarser", "2"], ["compare", *examples]):
+            words = ["-m", "decl", *words, "--table", "10,50", "--currency", "EUR", "--date", "31 December 2026"]
+            found = [
+                subprocess.run([first, *words], env=env, cwd=self.room, capture_output=True, text=True)
+                for first, env in ((python, world), (sys.executable, own))
+            ]
+            self.assertEqual(found[0].returncode, 0, found[0].stderr)
+            self.assertTrue(found[0].stdout.startswith("<!DOCTYPE html>") and found[0].stdout == found[1].stdout)
+
+    def installs_in_r(self, pages, program):
+        """R CMD INSTALL of the package in this folder gives a library that answers by the program, where R is installed."""
+        if not shutil.which("R"):
+            self.without_r = True
+            return
+        library = self.room / "library"
+        library.mkdir()
+        words = ["R", "--vanilla", "CMD", "INSTALL", f"--library={library}", str(pages / "clients" / "r")]
+        done = subprocess.run(words, capture_output=True, text=True)
+        self.assertIn("DONE (decl)", done.stdout + done.stderr)
+        ask = 'library(decl); cat(decl_ask(decl_book("agg Dice dfreq [2] dsev [100:600:100]"), c("mean", "q:0.9"))$low)'
+        world = {**os.environ, "DECL": str(program), "R_LIBS": str(library)}
+        done = subprocess.run(["Rscript", "--vanilla", "-e", ask], env=world, capture_output=True, text=True)
+        self.assertEqual(done.stdout, "700 1000", done.stderr)
+
+    def brings_clients(self, prefix, program):
+        """The clients below the prefix are installed as the pages say, and work; the test counts as skipped where R is not installed."""
+        pages = prefix / "share" / "doc" / "decl"
+        self.makes_pages(self.environment(pages / "clients" / "python"), pages, program)
+        self.installs_in_r(pages, program)
+        if getattr(self, "without_r", False):
+            raise unittest.SkipTest("R is not installed")
+
     def runs_in(self, root, enter, prefix):
         """Runs the examples of the README below the prefix by the program there, inside the root."""
         inside = self.room / "inside"
@@ -170,6 +219,17 @@ class Packages(Case):
         self.assertEqual([each for each in INSIDE if not (prefix / each).is_file()], [])
         self.assertNotIn(b".symtab", (prefix / "bin" / "decl").read_bytes())
         self.runs_in(root, enter, "/usr/local")
+
+    def test_the_clients_of_the_tarball(self):
+        packed, prefix = self.packed("dist"), self.room / "local"
+        prefix.mkdir()
+        subprocess.run(["tar", "-xzf", packed, "--strip-components=1", "-C", prefix], check=True)
+        self.brings_clients(prefix, prefix / "bin" / "decl")
+
+    def test_the_clients_of_the_debian_package(self):
+        packed = self.packed("deb", "dpkg-deb")
+        subprocess.run(["dpkg-deb", "--extract", packed, self.room / "root"], check=True)
+        self.brings_clients(self.room / "root" / "usr", self.room / "root" / "usr" / "bin" / "decl")
 
     def test_the_debian_package(self):
         packed = self.packed("deb", "dpkg")
@@ -198,12 +258,7 @@ class Packages(Case):
         self.assertEqual(done.returncode, 0, done.stdout + done.stderr)
 
     def test_the_wheel(self):
-        packed = self.packed("wheel")
-        fresh = self.room / "venv"
-        if subprocess.run([sys.executable, "-m", "venv", fresh], capture_output=True).returncode:
-            raise unittest.SkipTest("python3 -m venv does not run here")
-        done = subprocess.run([fresh / "bin" / "pip", "install", "--no-index", packed], capture_output=True, text=True)
-        self.assertEqual(done.returncode, 0, done.stderr)
+        fresh = self.environment(self.packed("wheel")).parent.parent
         self.assertEqual([each for each in INSIDE if not (fresh / each).is_file()], [])
         pages = fresh / "share" / "doc" / "decl"
         self.runs_examples(pages, fresh / "bin" / "decl")
@@ -215,6 +270,8 @@ class Packages(Case):
         ask = "import decl; print(decl.program.find()); print(decl.run('agg D dfreq [2] dsev [1:6]', ['pmf:2']), end='')"
         done = subprocess.run([fresh / "bin" / "python", "-c", ask], env={}, cwd=self.room, capture_output=True, text=True)
         self.assertRegex(done.stdout, rf"\A{self.room}/venv/lib/\S*/decl/bin/decl\npmf:2 0.027777 0.027778\n\Z", done.stderr)
+        self.makes_pages(fresh / "bin" / "python", pages, None)
+        self.installs_in_r(pages, fresh / "bin" / "decl")
 
     def test_the_same_bytes_again(self):
         for kind in ("dist", "wheel", "deb"):
