@@ -18,7 +18,6 @@ pub mod Tails
 pub mod PriceRows
 pub mod TailShares
 pub mod ShareLaws
-pub mod FromTotal
-pub mod FromRaised
+pub mod ClaimsGrids
 pub mod Parted
 pub mod Parts

@@ -1,13 +1,16 @@
 -- The one unit in the place of units that share a factor: what its grid and its mean hold, and how wide they are.
-use Rattle.dl_eval.proofs.Common.{ℕ, suc, ◌≡◌, ◌+◌, ◌-◌, ◌*◌, ◌^◌, ◌<◌, ◌≤◌, List, [], ◌∷◌, length, get_or, arith, refl, sym, ap, subst, subst₂, ◌∙◌, mul-le-mul, mul-le-mul_right, pow_pos, Option, None, Some, IfSome, Fraction, whole, ◌over◌, Iv, spread, low_at, high_at, Holds, One, Point, Mean, partial_sums, total, GridEncloses, mapped, aggregate_of, compound_of, loss, unit_declared, Plan, IsValid, IsValidUnit, claims_budget, total_budget, Declares, IsTotalOf, IsMeanOf, Loss, fun_ext, IsSome, UnitOfPlan, thinned_mean, expected_count, IsPoisson, raised, thinned_of, probability_of, SharesFactor, ◌*ℚ◌, ◌-ℚ◌, up, Quantity, Joint, CountsTotal, after_zero, declared, no_clause, encloses_same, total_mean, total_point, unit_declared_loss, HoldsClaims, count_budget, joint_by, mean_by, total_by, IsJointOf, IsRaisedGridOf}
+use Rattle.dl_eval.proofs.Common.{ℕ, suc, ◌≡◌, ◌+◌, ◌*◌, ◌^◌, ◌<◌, ◌≤◌, List, [], ◌∷◌, length, get_or, arith, refl, sym, ap, subst, subst₂, ◌∙◌, mul-le-mul, pow_pos, Option, None, Some, Fraction, whole, ◌over◌, Iv, spread, low_at, high_at, Holds, One, Point, Mean, partial_sums, total, GridEncloses, mapped, aggregate_of, compound_of, loss, unit_declared, Plan, IsValid, IsValidUnit, claims_budget, total_budget, IsTotalOf, IsMeanOf, Loss, fun_ext, IsSome, UnitOfPlan, thinned_mean, expected_count, raised, thinned_of, probability_of, SharesFactor, ◌*ℚ◌, ◌-ℚ◌, up, Quantity, CountsTotal, after_zero, declared, no_clause, encloses_same, total_mean, total_point, unit_declared_loss, HoldsClaims, count_budget, joint_by, mean_by, total_by, get_or_default, unit_budget, budget_after_zero, none_budget, after_clause, horizon}
 use Rattle.dl_plan.specs.declared.plan.Freq.TheVariants.{Gamma}
-use Rattle.dl_plan.proofs.Shared.{has_factor}
+use Rattle.dl_plan.proofs.Shared.{has_factor, poisson_unbounded}
 use Rattle.dl_model.proofs.Outcomes.{total_alone, total_alone_all}
 use Rattle.dl_common.specs.Pooled.{IsPooled, IsRaised, alone}
 use Rattle.dl_common.proofs.Alone.{pooled_thinned, pooled_valid, raised_thinned, raised_valid, same_declared}
-use Rattle.dl_budget.specs.Shared.{raised_budget, shape_budget, thinned_at}
+use Rattle.dl_budget.specs.Shared.{raised_budget, shape_budget, shared_joint_budget, thinned_at}
 use Rattle.dl_budget.proofs.SharedUnits.{shape_rises, thinned_here}
+use Rattle.dl_common.proofs.JointEnds.{common_exact}
+use Rattle.dl_limits.specs.Limits.{budget_bound}
 use Rattle.dl_eval.proofs.Totals.{plain_encloses}
+use Rattle.dl_eval.specs.Totals.{IsClaimsGrid}
 
 -- a plan with some factor shares one
 pub some_shape : (common : Option ℕ) → IsSome common → (r : ℕ) × (common ≡ Some r)
@@ -19,6 +22,12 @@ gamma_claims : (S cells r : ℕ) (u : UnitOfPlan) (v thinned : Fraction) → u.f
 unfolding count_budget
 gamma_claims S cells r u v thinned count is =
     ap (count_budget S cells (length u.sev.items) (thinned_mean u)) count ∙ ap (shape_budget S cells r) is
+
+joint_narrow : (K n D E claims most : ℕ) → n ≤ K → D ≤ E → claims ≡ most → (n * D + 2) * claims + 2 ≤ (K * E + 2) * most + 2
+joint_narrow K n D E claims most few less same =
+    let sums : n * D + 2 ≤ K * E + 2 = omega (arith, mul-le-mul few less) in
+    let under : claims ≤ most = omega (arith, same) in
+    omega (arith, mul-le-mul sums under)
 
 module _ {plan : Plan} (valid : IsValid plan) {r : ℕ} (shape : plan.common ≡ Some r) (u : UnitOfPlan) where
   abbrev shares : SharesFactor plan r
@@ -34,22 +43,38 @@ module _ {plan : Plan} (valid : IsValid plan) {r : ℕ} (shape : plan.common ≡
       (ap (λ f. expected_count f *ℚ (whole 1 -ℚ probability_of u.sev 0)) is.count
       ∙ raised_thinned plan.units (has_factor plan r shares).some u is.severity r (has_factor plan r shares).some_shape)
 
-  pub raised_is_grid : {B : ℕ} → IsRaised r plan.units u → {reach : ℕ} → reach ≤ plan.cells → {g : List (Iv B)}
+  plain_budget : (S : ℕ) → IsRaised r plan.units u → unit_budget S plan.cells u ≡ claims_budget S plan.cells u
+  unfolding horizon
+  plain_budget S is =
+      ap (λ z. budget_after_zero z plan.cells (none_budget S u.freq) (after_clause u.cede (claims_budget S (horizon u.cede plan.cells) u))) is.zero
+      ∙ ap (λ o. after_clause o (claims_budget S (horizon o plan.cells) u)) is.clause
+
+  -- over the grid of the raised unit the claims of each unit give its joint means
+  pub raised_claims : {B : ℕ} → IsRaised r plan.units u → {reach : ℕ} → reach ≤ plan.cells → {g : List (Iv B)}
       → length g ≡ reach → GridEncloses g (compound_of u.freq u.sev) → spread g ≤ claims_budget (2 ^ B) reach u
-      → IsRaisedGridOf r plan g
-  raised_is_grid {B} is {reach = reach} within {g = g} cells encloses narrow = record {
-    few = omega (arith, cells, within);
-    unit = u;
-    raised = is;
-    encloses = encloses;
-    narrow = omega (
-      arith,
-      narrow,
-      raised_narrow (2 ^ B) reach is,
-      shape_rises (2 ^ B) reach plan.cells (suc r) (raised r (thinned_of plan.units)) (pow_pos B)
-          (omega arith) within,
-    );
-  }
+      → unit_budget (2 ^ B) plan.cells u < budget_bound → (i : ℕ) → i < length plan.units → IsClaimsGrid plan i g
+  raised_claims {B} is {reach = reach} within {g = g} cells encloses narrow small i inside =
+      let v = get_or plan.units i u in
+      let here : v ≡ get_or plan.units i v = get_or_default plan.units i u v inside in
+      let most : spread g ≤ raised_budget (2 ^ B) plan.cells r plan.units = omega (
+        arith,
+        narrow,
+        raised_narrow (2 ^ B) reach is,
+        shape_rises (2 ^ B) reach plan.cells (suc r) (raised r (thinned_of plan.units)) (pow_pos B)
+            (omega arith) within,
+      ) in record {
+        unit = v;
+        is = here;
+        unbounded = poisson_unbounded v.freq ((has_factor plan r shares).can_share i u inside).count;
+        bounded = omega (arith, most, raised_narrow (2 ^ B) plan.cells is, plain_budget (2 ^ B) is, small);
+        cells = λ none. absurd (cc (shape, none));
+        gives = λ x near. (common_exact g plan i x u v near r shares inside (sym here) is encloses).0;
+        narrow = subst (λ b. shared_joint_budget (length g) (spread g) (thinned_mean v) ≤ b)
+            (ap (λ o. joint_by o (2 ^ B) plan i) (sym shape))
+            (joint_narrow plan.cells (length g) (spread g) (raised_budget (2 ^ B) plan.cells r plan.units)
+            (up (thinned_mean v)) (up (thinned_at plan.units i)) (omega (arith, cells, within)) most
+            (ap up (thinned_here plan.units i v inside here)));
+      }
 
   module _ (is : IsPooled r plan.units u) where
     pub pooled_unit_valid : IsValidUnit plan.cells u
@@ -99,39 +124,3 @@ module _ {plan : Plan} (valid : IsValid plan) {r : ℕ} (shape : plan.common ≡
       where
         HoldsOf : List Loss → Type 0
         HoldsOf us = Holds (partial_sums us Mean) (partial_sums us One) (mean.lo over 2 ^ B) (mean.hi over 2 ^ B)
-
--- ---- joint means
-
-pub raised_there : {B : ℕ} (plan : Plan) (r : ℕ) {raised : Option (List (Iv B))} {g : List (Iv B)} → raised ≡ Some g
-    → IfSome raised (IsRaisedGridOf r plan) → IsRaisedGridOf r plan g
-raised_there plan r is all = subst (λ o. IfSome o (IsRaisedGridOf r plan)) is all
-
-pub reached_there : {B : ℕ} {n : ℕ} {raised : Option (List (Iv B))} {g : List (Iv B)} → raised ≡ Some g
-    → IfSome raised (λ cells. n ≤ length cells) → n ≤ length g
-reached_there {n = n} is all = rw is at all
-
-pub unit_poisson : {plan : Plan} → IsValid plan → {r : ℕ} → plan.common ≡ Some r → (i : ℕ) {u : UnitOfPlan}
-    → i < length plan.units → u ≡ get_or plan.units i u → IsPoisson u.freq
-unit_poisson {plan = plan} valid {r = r} shape i {u = u} inside is =
-    subst (λ (w : UnitOfPlan). IsPoisson w.freq) (sym is)
-    ((has_factor plan r (record { shape = shape; valid = valid })).can_share i u inside).count
-
-joint_narrow : (K n E lo hi claims most : ℕ) → n ≤ K → claims ≡ most → lo ≤ hi
-    → hi - lo ≤ (n * E + 2) * claims + 2 → hi ≤ lo + ((K * E + 2) * most + 2)
-joint_narrow K n E lo hi claims most few same order width =
-    let more : (n * E + 2) * claims ≤ (K * E + 2) * most = mul-le-mul (omega (arith, mul-le-mul_right E few)) (omega (arith, same)) in
-    omega (arith, order, width, more)
-
-pub pooled_is_joint : {B : ℕ} {plan : Plan} → IsValid plan → {r : ℕ} → plan.common ≡ Some r → {g : List (Iv B)}
-    → IsRaisedGridOf r plan g → {i at : ℕ} {u : UnitOfPlan} {mean : Iv B} → i < length plan.units
-    → u ≡ get_or plan.units i u → Declares plan (Joint i at) (mean.lo over 2 ^ B) (mean.hi over 2 ^ B)
-    → ((D : ℕ) → spread g ≤ D → mean.hi - mean.lo ≤ (length g * D + 2) * up (thinned_mean u) + 2)
-    → IsJointOf plan i at mean
-pooled_is_joint {B} {plan = plan} valid {r = r} shape {g = g} raised {i = i} {u = u} {mean = mean} inside is holds width = record {
-  holds = holds;
-  narrow = subst (λ b. mean.hi ≤ mean.lo + b) (ap (λ o. joint_by o (2 ^ B) plan i) (sym shape))
-      (joint_narrow plan.cells (length g) (raised_budget (2 ^ B) plan.cells r plan.units) mean.lo mean.hi
-      (up (thinned_mean u)) (up (thinned_at plan.units i)) raised.few
-      (ap up (thinned_here plan.units i u inside is)) mean.ordered
-      (width (raised_budget (2 ^ B) plan.cells r plan.units) raised.narrow));
-}

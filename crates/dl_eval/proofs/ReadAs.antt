@@ -26,6 +26,12 @@ pub valid_there : {plan : Plan} {units : List UnitOfPlan} (i : ℕ) {u : UnitOfP
     → u ≡ get_or units i u → i < length plan.units → IsValid plan → (k : ℕ) × IsValidUnit k u
 valid_there {plan = plan} i same is inside valid = (plan.cells, unit_there i same is inside valid)
 
+-- it is the one that was found there
+pub same_unit : (plan : Plan) {units : List UnitOfPlan} (i : ℕ) {u v : UnitOfPlan} → units ≡ plan.units
+    → u ≡ get_or units i u → i < length plan.units → v ≡ get_or plan.units i v → v ≡ u
+same_unit plan i {u = u} {v = v} same is inside found =
+    found ∙ get_or_default plan.units i v u inside ∙ sym (is ∙ ap (λ t. get_or t i u) same)
+
 pub horizon_there : {plan : Plan} {units : List UnitOfPlan} (i : ℕ) {u : UnitOfPlan} → units ≡ plan.units
     → u ≡ get_or units i u → i < length plan.units → IsValid plan
     → (k : ℕ) × IsHorizonOf u.cede plan.cells k × (k ≤ most_horizon plan.cells)

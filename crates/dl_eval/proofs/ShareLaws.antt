@@ -1,52 +1,53 @@
 -- The share of a unit in a total, from the grids of the unit, of all others and of the total.
-use Rattle.dl_eval.proofs.Common.{ℕ, ◌≡◌, ◌+◌, ◌-◌, ◌*◌, ◌^◌, ◌<◌, ◌≤◌, List, length, get_or, arith, sym, subst, mul-le-mul_left, pow_pos, length-map, None, Fraction, ◌over◌, ◌+ℚ◌, ◌≤ℚ◌, ◌<ℚ◌, Iv, over_le_over, low_at, high_at, spread, convolution_spread, cv_rises, Holds, AreDeclarable, One, Point, partial_sums, total, GridEncloses, unit_of, AreDeclared, aggregates_of, at_most_wider, plan_declared, plan_units, Plan, IsValid, Row, unit_budgets, total_budget, index_of, tail_budget, ask_budget, in_digits, Declares, DeclaresGiven, IsBelow, IsTailMean, IsAnswerTo, total_error, IsTotalOf, AreOthersOf, Prints, Loss, loss_of, ◌⊎◌, mul-le-mul, over_lt, over_plus, Series, AtLeast, AtMost, Joint, without, others_budget, joint_budget, kappa_budget, least_likely, IsAtMost, IsBeyond, IsShareOfUnit, IsTooRare, IsJointOf, independent, declared, IsGridOfUnit}
+use Rattle.dl_eval.proofs.Common.{ℕ, ◌≡◌, ◌+◌, ◌-◌, ◌*◌, ◌^◌, ◌<◌, ◌≤◌, List, length, get_or, arith, sym, ap, subst, subst₂, thinned_mean, mul-le-mul_left, pow_pos, None, Fraction, ◌over◌, ◌+ℚ◌, ◌≤ℚ◌, ◌<ℚ◌, Iv, over_le_over, low_at, high_at, spread, convolution_spread, cv_rises, Holds, One, Point, partial_sums, aggregates_of, at_most_wider, Plan, Row, unit_budgets, total_budget, index_of, tail_budget, ask_budget, in_digits, Declares, DeclaresGiven, IsBelow, IsTailMean, IsAnswerTo, total_error, IsTotalOf, AreOthersOf, Prints, ◌⊎◌, mul-le-mul, over_lt, over_plus, Series, AtLeast, Joint, others_budget, joint_budget, kappa_budget, least_likely, IsAtMost, IsBeyond, IsShareOfUnit, IsTooRare, IsJointOf, declared, IsGridOfUnit}
 use Rattle.dl_plan.specs.declared.settings.Ask.TheVariants as asks
+use Rattle.dl_budget.specs.Shared.{shared_joint_budget}
+use Rattle.dl_common.specs.Amounts.{claims_mean}
+use Rattle.dl_cotail.specs.Source.{GivesJoints, exact_high, exact_low, joint_width}
+use Rattle.dl_cotail.specs.declared.source.OverClaims.{OverClaims}
+use Rattle.dl_cotail.specs.declared.source.ShareSource.{ShareSource}
+use Rattle.dl_cotail.specs.declared.source.ShareSource.TheVariants as sources
+use Rattle.dl_eval.specs.Totals.{IsClaimsGrid, IsSourceOf}
 use Rattle.dl_eval.proofs.Losses.{is_independent}
 use Rattle.dl_eval.proofs.Printed.{are_ends, declared_ends, given_widens}
 use Rattle.dl_eval.proofs.GoodRows.{cell_apart, plus_lt}
 
 -- ---- joint means
 
-joint_width : {B : ℕ} (S K u v x y : ℕ) (g : List (Iv B)) → 0 < S → length g ≡ K → u ≤ x → v ≤ y
+widest : {B : ℕ} (S K u v x y : ℕ) (g : List (Iv B)) → 0 < S → length g ≡ K → u ≤ x → v ≤ y
     → length g * convolution_spread S (length g) u v ≤ K * convolution_spread S K x y
-joint_width S K u v x y g pos same p q =
+widest S K u v x y g pos same p q =
     subst (λ n. n * convolution_spread S n u v ≤ K * convolution_spread S K x y) (sym same)
     (mul-le-mul_left K (cv_rises S K K u x v y pos (omega arith) p q))
 
-pub is_joint : {B : ℕ} {plan : Plan} {unit others : List (Iv B)} {i at : ℕ} {mean : Iv B}
-    → ((us : List Loss) (j : ℕ) → AreDeclarable us → j < length us → GridEncloses unit (unit_of us j)
-    → GridEncloses others (total (without us j))
-    → Holds (partial_sums us (Joint j at)) (partial_sums us One) (mean.lo over 2 ^ B) (mean.hi over 2 ^ B))
-    → mean.hi - mean.lo ≤ length unit * convolution_spread (2 ^ B) (length unit) (spread unit) (spread others)
-    → IsGridOfUnit plan i unit → i < length plan.units → IsValid plan → AreOthersOf plan i others
-    → plan.common ≡ None → IsJointOf plan i at mean
-is_joint {B} {plan = plan} {unit = unit} {others = others} {i = i} {at = at} {mean = mean} holds width own inside valid rest none =
-    subst (λ whole. IsJointOf whole i at mean) (is_independent plan none) alone
-  where
-    wide : length unit * convolution_spread (2 ^ B) (length unit) (spread unit) (spread others)
-        ≤ joint_budget (2 ^ B) (independent plan) i
-    wide = joint_width (2 ^ B) plan.cells (spread unit) (spread others)
-        (get_or (unit_budgets (2 ^ B) plan.cells plan.units) i 0) (others_budget (2 ^ B) plan i) unit (pow_pos B)
-        own.cells own.narrow rest.narrow
+pub beside_narrow : {B : ℕ} {plan : Plan} {unit others : List (Iv B)} {i : ℕ} → IsGridOfUnit plan i unit
+    → AreOthersOf plan i others → plan.common ≡ None
+    → length unit * convolution_spread (2 ^ B) (length unit) (spread unit) (spread others) ≤ joint_budget (2 ^ B) plan i
+beside_narrow {B} {plan = plan} {unit = unit} {others = others} {i = i} own rest none =
+    subst (λ whole. length unit * convolution_spread (2 ^ B) (length unit) (spread unit) (spread others)
+    ≤ joint_budget (2 ^ B) whole i) (is_independent plan none)
+    (widest (2 ^ B) plan.cells (spread unit) (spread others) (get_or (unit_budgets (2 ^ B) plan.cells plan.units) i 0)
+    (others_budget (2 ^ B) plan i) unit (pow_pos B) own.cells own.narrow rest.narrow)
 
-    alone : IsJointOf (independent plan) i at mean
-    alone = record {
-      holds = holds (aggregates_of plan) i (plan_units plan valid)
-          (omega (arith, inside, length-map plan.units loss_of)) own.encloses rest.encloses;
-      narrow = omega (arith, mean.ordered, width, wide);
-    }
+-- ---- what they are drawn from
 
--- a unit has at most the whole of a total
-pub is_below : {B : ℕ} {plan : Plan} {unit others : List (Iv B)} {i : ℕ} (at low : ℕ)
-    → ((us : List Loss) (j h : ℕ) → AreDeclared us → j < length us → GridEncloses unit (unit_of us j)
-    → GridEncloses others (total (without us j))
-    → AtMost (partial_sums us (Point at)) (partial_sums us One) (h over 2 ^ B) → low ≤ at * h)
-    → IsGridOfUnit plan i unit → i < length plan.units → IsValid plan → AreOthersOf plan i others
-    → plan.common ≡ None → (h : ℕ) → IsAtMost plan (Point at) (h over 2 ^ B) → low ≤ at * h
-is_below {B} {plan = plan} {i = i} at low below own inside valid rest none h most =
-    below (aggregates_of plan) i h (plan_declared plan valid)
-    (omega (arith, inside, length-map plan.units loss_of)) own.encloses rest.encloses
-    (subst (λ whole. IsAtMost whole (Point at) (h over 2 ^ B)) (sym (is_independent plan none)) most)
+pub source_alone : {B : ℕ} {plan : Plan} {i : ℕ} (source : ShareSource B) → plan.common ≡ None
+    → GivesJoints source (partial_sums (aggregates_of plan)) i → joint_width source ≤ joint_budget (2 ^ B) plan i
+    → IsSourceOf plan i source
+source_alone {plan = plan} {i = i} source none gives narrow = record {
+  gives = λ x near. subst (λ whole. Holds (declared whole (Joint i x)) (declared whole One) (exact_low source x)
+      (exact_high source x)) (is_independent plan none) (gives x near);
+  narrow = narrow;
+}
+
+pub source_over : {B : ℕ} {plan : Plan} {i : ℕ} {g : List (Iv B)} (from : OverClaims B) (grid : IsClaimsGrid plan i g)
+    → from.unit.now ≡ grid.unit → from.grid.now ≡ g → IsSourceOf plan i (sources.OverClaims from)
+source_over {B} {plan = plan} {i = i} from grid unit same = record {
+  gives = λ x near. subst₂ (λ v h. Holds (declared plan (Joint i x)) (declared plan One) (claims_mean v (2 ^ B) x (low_at h))
+      (claims_mean v (2 ^ B) x (high_at h))) (sym unit) (sym same) (grid.gives x (omega (arith, near, ap length same)));
+  narrow = subst₂ (λ v h. shared_joint_budget (length h) (spread h) (thinned_mean v) ≤ joint_budget (2 ^ B) plan i)
+      (sym unit) (sym same) grid.narrow;
+}
 
 -- ---- shares
 

@@ -1,11 +1,16 @@
 -- The answer to an ask for a share of the tail mean.
-use Rattle.dl_eval.proofs.Common.{ℕ, ◌≡◌, ◌-◌, ◌^◌, ◌<◌, ◌≤◌, List, [], ◌∷◌, length, get_or, map, arith, inl, inr, sym, ap, subst, pow_pos, length-map, Option, None, Some, IfSome, Fraction, ◌over◌, ◌≤ℚ◌, Iv, over_le_over, low_at, spread, low_cdf, Holds, One, Mean, partial_sums, total, GridEncloses, unit_of, AreDeclarable, AreDeclared, Loss, loss_of, aggregates_of, plan_declared, plan_units, at_least_wider, at_most_wider, Plan, IsValid, Row, ask_budget, in_digits, unit_budgets, unit_mean_budget, total_budget, at_the_end, index_of, IsAnswerTo, total_error, AreUnitMeans, IsTotalOf, AreOthersOf, Prints, ◌⊎◌, ◌↔◌, get_or-map, IsNone, UnitOfPlan, others_budget, cotail_budget, IsQuantile, without, declared, IsFirstFound, DeclaresShare, IsAtLeast, IsBeyond, IsTailShare, IsNoTailShare, IsTailShareOf, independent, le_refl, plus_le_both, sub_le_both, lt_of_lt_of_le, IsGridOfUnit}
+use Rattle.dl_eval.proofs.Common.{ℕ, ◌≡◌, ◌+◌, ◌*◌, ◌<ℚ◌, whole, spread, Joint, joint_budget, mul-le-mul_left, mul-le-mul_right, div_ceil, div_ceil_least, div_ceil_times, up_quotient, ◌-◌, ◌^◌, ◌<◌, ◌≤◌, List, [], ◌∷◌, length, get_or, map, arith, inl, inr, sym, ap, subst, pow_pos, length-map, Option, None, Some, IfSome, Fraction, ◌over◌, ◌≤ℚ◌, Iv, over_le_over, low_at, spread, low_cdf, Holds, One, Mean, partial_sums, total, GridEncloses, AreDeclarable, AreDeclared, Loss, loss_of, aggregates_of, plan_declared, plan_units, at_least_wider, at_most_wider, Plan, IsValid, Row, ask_budget, in_digits, unit_mean_budget, total_budget, at_the_end, index_of, IsAnswerTo, total_error, AreUnitMeans, IsTotalOf, Prints, ◌⊎◌, ◌↔◌, get_or-map, IsNone, UnitOfPlan, cotail_budget, IsQuantile, declared, IsFirstFound, DeclaresShare, IsAtLeast, IsBeyond, IsTailShare, IsNoTailShare, IsTailShareOf, le_refl, plus_le_both, sub_le_both, lt_of_lt_of_le}
 use Rattle.dl_plan.specs.declared.settings.Ask.TheVariants as asks
 use Rattle.dl_model.specs.Shares.{HoldsShare, unit_mean}
-use Rattle.dl_cotail.specs.Prelude.{IsPast, MayBeAbsent, cotail_width}
+use Rattle.dl_exact.proofs.BelowOne.{num_below}
+use Rattle.dl_cotail.specs.Prelude.{IsPast, MayBeAbsent}
+use Rattle.dl_cotail.specs.Source.{GivesJoints, exact_high, exact_low, joint_width}
+use Rattle.dl_cotail.specs.Widths.{conditional_width, share_width}
+use Rattle.dl_cotail.specs.declared.source.ShareSource.{ShareSource}
 use Rattle.dl_eval.proofs.Losses.{is_independent, total_alone}
 use Rattle.dl_eval.proofs.Printed.{Widens, are_ends}
 use Rattle.dl_eval.proofs.Tails.{tail_reached}
+use Rattle.dl_eval.specs.Totals.{IsSourceOf}
 
 -- ---- the mean of a unit
 
@@ -44,6 +49,24 @@ mean_within {B} plan {mean = mean} i u is inside each =
 
 -- ---- the share
 
+ceiling_rises : (m n d : ℕ) → 0 < d → m ≤ n → div_ceil m d ≤ div_ceil n d
+ceiling_rises m n d pos h = div_ceil_least m d (div_ceil n d) pos (omega (arith, (div_ceil_times n d pos).0))
+
+-- the width of a share rises with those of the joint means and of the total
+share_rises : (p : Fraction) (m K j w x t : ℕ) → p <ℚ whole 1 → j ≤ x → w ≤ t
+    → share_width p m K j w ≤ share_width p m K x t
+share_rises p m K j w x t below of_joint of_total =
+    let left : 0 < p.den - p.num = omega (arith, num_below p below) in
+    let low = m + j + 2 * K + K * (w + 2) + conditional_width K j w + 4 in
+    let high = m + x + 2 * K + K * (t + 2) + conditional_width K x t + 4 in
+    let sums : low ≤ high = omega (arith, mul-le-mul_left K of_total) in
+    omega (
+      arith,
+      up_quotient (low * p.den) (p.den - p.num) left,
+      up_quotient (high * p.den) (p.den - p.num) left,
+      ceiling_rises (low * p.den) (high * p.den) (p.den - p.num) left (mul-le-mul_right p.den sums),
+    )
+
 pub if_some_two : {X : Type 0} (r : Option X) (P Q Z : X → Type 0) → ((x : X) → P x → Q x → Z x) → IfSome r P
     → IfSome r Q → IfSome r Z
 if_some_two (Some x) P Q Z f p q = f x p q
@@ -54,35 +77,34 @@ some_unit : (us : List UnitOfPlan) (i : ℕ) → i < length us → UnitOfPlan
 some_unit [] i inside = absurd (omega (arith, inside))
 some_unit (u ∷ us) i inside = u
 
-pub tail_share : {B : ℕ} {plan : Plan} {means : List (Iv B)} {unit others g : List (Iv B)} {mean : Iv B} {i : ℕ}
+pub tail_share : {B : ℕ} {plan : Plan} {source : ShareSource B} {means : List (Iv B)} {t : List (Iv B)} {mean : Iv B} {i : ℕ}
     (p : Fraction) (result : Option (Iv B))
-    → ((us : List Loss) (j : ℕ) → AreDeclared us → j < length us → GridEncloses unit (unit_of us j)
-    → GridEncloses others (total (without us j)) → GridEncloses g (total us)
+    → ((us : List Loss) (j : ℕ) → AreDeclared us → GivesJoints source (partial_sums us) j → GridEncloses t (total us)
     → Holds (unit_mean us j) (partial_sums us One) (mean.lo over 2 ^ B) (mean.hi over 2 ^ B)
     → IfSome result (λ r. (q : ℕ) → IsQuantile (partial_sums us) q p
     → HoldsShare (partial_sums us) j p q (r.lo over 2 ^ B) (r.hi over 2 ^ B)))
-    → IfSome result (λ r. (m d o t : ℕ) → mean.hi - mean.lo ≤ m → spread unit ≤ d → spread others ≤ o → spread g ≤ t
-    → r.hi - r.lo ≤ cotail_width p (2 ^ B) m (length unit) d o t)
+    → IfSome result (λ r. (m w : ℕ) → mean.hi - mean.lo ≤ m → spread t ≤ w
+    → r.hi - r.lo ≤ share_width p m (length t) (joint_width source) w)
     → ((us : List Loss) (j : ℕ) (v : Loss) (l h : Fraction) → AreDeclarable us → j < length us
     → Holds (partial_sums (get_or us j v ∷ []) Mean) (partial_sums (get_or us j v ∷ []) One) l h
     → Holds (unit_mean us j) (partial_sums us One) l h)
-    → IsGridOfUnit plan i unit → mean ≡ get_or means i mean → i < length plan.units → IsValid plan
-    → AreUnitMeans plan.cells plan.units means → AreOthersOf plan i others → IsTotalOf plan g → plan.common ≡ None
+    → p <ℚ whole 1 → IsSourceOf plan i source → mean ≡ get_or means i mean → i < length plan.units → IsValid plan
+    → AreUnitMeans plan.cells plan.units means → IsTotalOf plan t → plan.common ≡ None
     → IfSome result (IsTailShareOf plan i p)
-tail_share {B} {plan = plan} {g = g} {i = i} p result holds width beside own read inside valid each rest t none =
-    subst (λ whole. IfSome result (IsTailShareOf whole i p)) (is_independent plan none)
-    (if_some_two result _ _ _ (λ r held narrow. record {
-      holds = held;
-      narrow = omega (
-        arith,
-        r.ordered,
-        subst (λ n. r.hi - r.lo ≤ cotail_width p (2 ^ B) of_mean n spreads (others_budget (2 ^ B) plan i) most)
-            own.cells (narrow of_mean spreads (others_budget (2 ^ B) plan i) most
-            (mean_within plan i u read inside each) own.narrow rest.narrow (total_alone none t).narrow),
-      );
+tail_share {B} {plan = plan} {source = source} {t = t} {mean = mean} {i = i} p result holds width beside below from read inside valid each of_total
+    none =
+    if_some_two result _ _ _ (λ r held narrow. record {
+      holds = subst (λ whole. DeclaresShare whole i p (r.lo over 2 ^ B) (r.hi over 2 ^ B)) (is_independent plan none) held;
+      narrow =
+          let wide : r.hi - r.lo ≤ share_width p of_mean plan.cells (joint_width source) (spread t) =
+          subst (λ n. r.hi - r.lo ≤ share_width p of_mean n (joint_width source) (spread t)) of_total.cells
+          (narrow of_mean (spread t) (mean_within plan i u read inside each) (omega arith)) in
+          omega (arith, r.ordered, wide, within);
     })
-    (holds (aggregates_of plan) i (plan_declared plan valid) (omega (arith, inside, length-map plan.units loss_of))
-    own.encloses rest.encloses (total_alone none t).encloses (mean_beside i beside u read inside valid each)) width)
+    (holds (aggregates_of plan) i (plan_declared plan valid)
+    (λ x near. subst (λ whole. Holds (declared whole (Joint i x)) (declared whole One) (exact_low source x) (exact_high source x))
+    (sym (is_independent plan none)) (from.gives x near))
+    (total_alone none of_total).encloses (mean_beside i beside u read inside valid each)) width
   where
     u : UnitOfPlan
     u = some_unit plan.units i inside
@@ -90,11 +112,9 @@ tail_share {B} {plan = plan} {g = g} {i = i} p result holds width beside own rea
     of_mean : ℕ
     of_mean = get_or (map (unit_mean_budget (2 ^ B) plan.cells) plan.units) i 0
 
-    spreads : ℕ
-    spreads = get_or (unit_budgets (2 ^ B) plan.cells plan.units) i 0
-
-    most : ℕ
-    most = total_budget (2 ^ B) (independent plan)
+    within : share_width p of_mean plan.cells (joint_width source) (spread t) ≤ cotail_budget (2 ^ B) plan i p
+    within = share_rises p of_mean plan.cells (joint_width source) (spread t) (joint_budget (2 ^ B) plan i)
+        (total_budget (2 ^ B) plan) below from.narrow of_total.narrow
 
 -- where there is a share, the distribution reaches p inside the grid
 pub share_reached : {B : ℕ} {plan : Plan} {g : List (Iv B)} {p : Fraction} {Else : Type 0} (result : Option (Iv B))

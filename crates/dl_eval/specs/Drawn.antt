@@ -6,12 +6,23 @@ use Rattle.dl_plan.specs.declared.settings.Asked.{Asked}
 use Rattle.dl_plan.specs.Prelude.{facts_of}
 use Rattle.dl_eval.specs.declared.drawn.PlanGrids.{PlanGrids}
 use Rattle.dl_eval.specs.declared.drawn.PlanGrids.TheVariants.{Independent, Shared}
-use Rattle.dl_eval.specs.Totals.{AreGridsOf, ArePooledGridsOf, HasShareFrom}
+use Rattle.dl_cotail.specs.declared.source.ShareSource.TheVariants as sources
+use Rattle.dl_eval.specs.declared.shares.DrawnFrom.{DrawnFrom}
+use Rattle.dl_eval.specs.declared.shares.DrawnFrom.TheVariants.{Beside, Total, Extra}
+use Rattle.dl_eval.specs.Totals.{AreGridsOf, ArePooledGridsOf, HasShareFrom, IsClaimsGrid, IsSourceOf}
 
 -- the grids of a plan: of its units, which then are independent, or of the one unit in their place
 abbrev pub AreDrawnOf : {B : ℕ} → Plan → PlanGrids B → Type 0
 AreDrawnOf plan (Independent grids) = (plan.common ≡ None) × AreGridsOf plan grids
 AreDrawnOf plan (Shared grids) = ArePooledGridsOf plan grids
+
+-- what the joint means of unit i are drawn from gives them, beside independent units, where t is the
+-- grid of their total
+abbrev pub GivesFrom : {B : ℕ} → Plan → List (Iv B) → ℕ → DrawnFrom B → Type 0
+GivesFrom plan t i (Beside from) = IsSourceOf plan i (sources.Beside from)
+    × (length from.unit.now ≡ plan.cells)
+GivesFrom plan t i Total = IsClaimsGrid plan i t
+GivesFrom plan t i (Extra raised) = IsClaimsGrid plan i raised.now
 
 -- that of the total
 abbrev pub total_drawn : {B : ℕ} → PlanGrids B → List (Iv B)

@@ -6,15 +6,17 @@ use Rattle.dl_exact.specs.Prelude.{Fraction, ◌over◌}
 use Rattle.dl_limits.specs.Limits.{budget_bound}
 use Rattle.dl_iv.specs.declared.interval.Iv.{Iv}
 use Rattle.dl_grid.specs.Cells.{low_at, high_at, spread}
-use Rattle.dl_model.specs.Prelude.{Holds, GridEncloses, mapped, One, Point, Mean, Joint, partial_sums, total, unit_of, without, aggregate_of, loss_of, aggregates_of, compound_of}
-use Rattle.dl_common.specs.Extra.{IsExtra}
-use Rattle.dl_common.specs.Pooled.{IsPooled, IsRaised}
+use Rattle.dl_model.specs.Prelude.{Holds, GridEncloses, mapped, One, Point, Mean, Joint, partial_sums, total, unit_of, without, aggregate_of, loss_of, aggregates_of, declared}
+use Rattle.dl_common.specs.Amounts.{claims_mean}
+use Rattle.dl_common.specs.Pooled.{IsPooled}
 use Rattle.dl_plan.specs.declared.plan.Unit.{Unit as UnitOfPlan}
 use Rattle.dl_plan.specs.declared.plan.Plan.{Plan}
-use Rattle.dl_plan.specs.Prelude.{CanRaise, CanShare, horizon, mean_width, thinned_mean}
+use Rattle.dl_plan.specs.Prelude.{IsUnbounded, horizon, mean_width, thinned_mean}
 use Rattle.dl_cede.specs.Means.{HoldsMean}
-use Rattle.dl_budget.specs.Prelude.{claims_budget, raised_budget, after_clause, unit_budget, unit_budgets, unit_mean_budget, total_budget, others_budget, mean_budget, joint_budget, cotail_budget}
+use Rattle.dl_budget.specs.Prelude.{claims_budget, after_clause, unit_budget, unit_budgets, unit_mean_budget, total_budget, others_budget, mean_budget, joint_budget, cotail_budget}
 use Rattle.dl_budget.specs.Shared.{shared_joint_budget}
+use Rattle.dl_cotail.specs.declared.source.ShareSource.{ShareSource}
+use Rattle.dl_cotail.specs.Source.{GivesJoints, joint_width}
 use Rattle.dl_report.specs.declared.report.End.TheVariants.{Number}
 use Rattle.dl_report.specs.declared.report.Row.{Row}
 use Rattle.dl_eval.specs.declared.grids.Grids.{Grids}
@@ -104,28 +106,38 @@ pub record IsMeanOf {B : ℕ} (plan : Plan) (mean : Iv B) : Type 0 where
   pub holds : Declares plan Mean (mean.lo over 2 ^ B) (mean.hi over 2 ^ B)
   pub narrow : mean.hi ≤ mean.lo + mean_budget (2 ^ B) plan
 
+-- ---- what joint means are drawn from
+
+-- unit i has no greatest number of claims, and these over the grid g give its joint means, within its
+-- budget
+pub record IsClaimsGrid {B : ℕ} (plan : Plan) (i : ℕ) (g : List (Iv B)) : Type 0 where
+  pub unit : UnitOfPlan
+  pub is : unit ≡ get_or plan.units i unit
+  pub unbounded : IsUnbounded unit.freq
+  pub bounded : spread g < budget_bound
+  pub cells : plan.common ≡ None → length g ≡ plan.cells
+  pub gives : (x : ℕ) → x < length g → Declares plan (Joint i x)
+      (claims_mean unit (2 ^ B) x (low_at g)) (claims_mean unit (2 ^ B) x (high_at g))
+  pub narrow : shared_joint_budget (length g) (spread g) (thinned_mean unit)
+      ≤ joint_budget (2 ^ B) plan i
+
+-- the source gives the joint means of unit i, within its budget
+pub record IsSourceOf {B : ℕ} (plan : Plan) (i : ℕ) (source : ShareSource B) : Type 0 where
+  pub gives : GivesJoints source (declared plan) i
+  pub narrow : joint_width source ≤ joint_budget (2 ^ B) plan i
+
 -- ---- units that share a factor
 
 -- the one unit in the place of all, with the shape of the factor
 abbrev pub IsPooledOf : Plan → UnitOfPlan → Type 0
 IsPooledOf plan unit = (r : ℕ) → plan.common ≡ Some r → IsPooled r plan.units unit
 
--- the first cells of the grid of that unit with one more in its shape, within its budget on all
--- cells of the plan
-pub record IsRaisedGridOf {B : ℕ} (r : ℕ) (plan : Plan) (g : List (Iv B)) : Type 0 where
-  pub few : length g ≤ plan.cells
-  pub unit : UnitOfPlan
-  pub raised : IsRaised r plan.units unit
-  pub encloses : GridEncloses g (compound_of unit.freq unit.sev)
-  pub narrow : spread g ≤ raised_budget (2 ^ B) plan.cells r plan.units
-
 -- the grid of the total of units that share a factor; and that of the raised unit, where it is
 -- there
 pub record ArePooledGridsOf {B : ℕ} (plan : Plan) (grids : PooledGrids B) : Type 0 where
-  pub shape : ℕ
-  pub shares : plan.common ≡ Some shape
+  pub shares : IsSome plan.common
   pub total : IsTotalOf plan grids.total
-  pub raised : IfSome grids.raised (IsRaisedGridOf shape plan)
+  pub raised : IfSome grids.raised (λ g. (i : ℕ) → i < length plan.units → IsClaimsGrid plan i g)
 
 -- ---- shares
 
@@ -148,25 +160,11 @@ pub record AreOthers {B : ℕ} (plan : Plan) (others : List (Option (List (Iv B)
   pub as_many : length others ≡ length plan.units
   pub each : (i : ℕ) → i < length plan.units → IfSome (get_or others i None) (AreOthersOf plan i)
 
--- the grid of the total with the extra claims of unit i, a gamma unit, from which its joint mean
--- comes within its budget
-pub record IsRaisedTotalOf {B : ℕ} (plan : Plan) (i : ℕ) (g : List (Iv B)) : Type 0 where
-  pub unit : UnitOfPlan
-  pub is : unit ≡ get_or plan.units i unit
-  pub can_raise : CanRaise unit
-  pub extra : UnitOfPlan
-  pub is_extra : IsExtra unit extra
-  pub cells : length g ≡ plan.cells
-  pub encloses : GridEncloses g (total (loss_of extra ∷ aggregates_of plan))
-  pub bounded : spread g < budget_bound
-  pub narrow : shared_joint_budget plan.cells (spread g) (thinned_mean unit)
-      ≤ joint_budget (2 ^ B) plan i
-
 -- for each unit, where it is there, the grid of the total with its extra claims
 pub record AreRaisedTotals {B : ℕ} (plan : Plan) (raised : List (Option (List (Iv B)))) : Type 0 where
   pub as_many : length raised ≡ length plan.units
   pub each : (i : ℕ) → i < length plan.units
-      → IfSome (get_or raised i None) (IsRaisedTotalOf plan i)
+      → IfSome (get_or raised i None) (IsClaimsGrid plan i)
 
 -- the grids of the units, where that of all others is there for one of them; their means; the grids
 -- of all but one, that of the total, and those of the total with the extra claims of one unit
@@ -179,20 +177,11 @@ pub record AreGridsOf {B : ℕ} (plan : Plan) (grids : Grids B) : Type 0 where
   pub total : IsTotalOf plan grids.sums.total
   pub raised : AreRaisedTotals plan grids.raised.items
 
--- the joint mean of unit i comes from the grid g of the total, within its budget
-pub record IsFromTotal {B : ℕ} (plan : Plan) (g : List (Iv B)) (i : ℕ) : Type 0 where
-  pub unit : UnitOfPlan
-  pub is : unit ≡ get_or plan.units i unit
-  pub can_share : CanShare unit
-  pub bounded : spread g < budget_bound
-  pub narrow : shared_joint_budget plan.cells (spread g) (thinned_mean unit)
-      ≤ joint_budget (2 ^ B) plan i
-
 -- the share of unit i comes from the sum of all other units, from the total with its extra claims,
 -- or from the grid g of the total
 abbrev pub HasShareFrom : {B : ℕ} → Plan → Grids B → List (Iv B) → ℕ → Type 0
 HasShareFrom plan grids g i = IsSome (get_or grids.sums.others.items i None)
-    ⊎ (IsSome (get_or grids.raised.items i None) ⊎ IsFromTotal plan g i)
+    ⊎ (IsSome (get_or grids.raised.items i None) ⊎ IsClaimsGrid plan i g)
 
 -- the joint mean of unit i at a total, within its budget
 pub record IsJointOf {B : ℕ} (plan : Plan) (i at : ℕ) (mean : Iv B) : Type 0 where

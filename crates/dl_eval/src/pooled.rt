@@ -1,18 +1,17 @@
 //! The grids that rows come from where the units of a plan share a factor: that of the one unit in
 //! their place, and that of the same with one more in its shape.
 
-ghost use Rattle.std.specs.Prelude.{ℕ, ◌≡◌, ◌+◌, ◌*◌, ◌^◌, ◌<◌, ◌≤◌, Some, IfSome, IsSome, IsTrue, IfOk, length};
+ghost use Rattle.std.specs.Prelude.{ℕ, ◌≡◌, ◌<◌, ◌≤◌, IfSome, IsSome, IsTrue, IfOk, length};
 ghost use Rattle.dl_limits.specs.Limits.{bits_of};
-ghost use Rattle.dl_exact.specs.Fraction.{◌over◌};
 ghost use Rattle.dl_plan.specs.Valid.{IsValid};
-ghost use Rattle.dl_model.specs.Program.{Point};
-ghost use Rattle.dl_eval.specs.Rows.{IsAtMost};
-ghost use Rattle.dl_eval.specs.Totals.{most_mean, ArePooledGridsOf, IsJointOf, IsMeanOf, IsPooledOf, IsRaisedGridOf};
+ghost use Rattle.dl_eval.specs.Totals.{most_mean, ArePooledGridsOf, IsClaimsGrid, IsMeanOf, IsPooledOf};
 
+use dl_budget::unit_budget;
 use dl_cede::claims_mean;
-use dl_common::{common_joint, pool, raised};
+use dl_common::{pool, raised};
 use dl_grid::Grid;
 use dl_iv::Iv;
+use dl_limits::BUDGET_BOUND;
 use dl_plan::{Plan, Unit};
 use dl_product::Workspace;
 use dl_unit::unit_grid_with;
@@ -43,7 +42,7 @@ pub(crate) fn pooled_mean<const B: u32>(plan: &Plan, pooled: &Unit) -> Iv<B>
 
 /// The first `reach` cells of the grid of the one unit in the place of all units of a plan that
 /// share a factor, with one more in its shape.
-#[tactic(auto, using(crate::proofs::Scales::grid_size))]
+#[tactic(auto, using(crate::proofs::Scales::grid_size, crate::proofs::Scales::plan_scale))]
 fn raised_grid<const B: u32>(
     alloc: Global,
     work: &mut Workspace,
@@ -57,11 +56,13 @@ fn raised_grid<const B: u32>(
     requires pooled { IsPooledOf plan.now pooled.now }
     requires some { 1 ≤ reach }
     requires within { reach ≤ plan.now.cells }
-    ensures grid { IfOk result (λ g. (r : ℕ) → plan.now.common ≡ Some r
-        → IsRaisedGridOf r plan.now g) }
+    ensures grid { IfOk result (λ g. (i : ℕ) → i < length plan.now.units
+        → IsClaimsGrid plan.now i g) }
     ensures reach { IfOk result (λ g. length g ≡ reach) }
 {
     let unit = raised(alloc, pooled)?;
+    // its grid is not so wide that the ends are a whole apart
+    prove!(unit_budget::<B>(&unit, plan.cells) < BUDGET_BOUND);
     unit_grid_with(alloc, work, &unit, reach)
 }
 
@@ -107,30 +108,4 @@ pub(crate) fn pooled_unit(alloc: Global, plan: &Plan) -> Result<Unit, AllocError
     ensures { IfOk result (IsPooledOf plan.now) }
 {
     pool(alloc, plan)
-}
-
-/// The mean outcome of unit `i` where the total is `at`, and 0 elsewhere, in buckets, of units that
-/// share a factor.
-pub(crate) fn pooled_joint<const B: u32>(
-    plan: &Plan,
-    grids: &PooledGrids<B>,
-    i: u32,
-    at: u32,
-) -> Iv<B>
-    requires scale { B ≡ bits_of plan.now.cells }
-    requires valid { IsValid plan.now }
-    requires grids { ArePooledGridsOf plan.now grids.now }
-    requires unit { i < length plan.now.units }
-    requires there { IsSome grids.now.raised }
-    requires inside { at < plan.now.cells }
-    requires reached { IfSome grids.now.raised (λ g. at + 1 ≤ length g) }
-    ensures joint { IsJointOf plan.now i at result }
-    ensures below { (h : ℕ) → IsAtMost plan.now (Point at) (h over 2 ^ B) → result.lo ≤ at * h }
-    ensures divisible { result.hi * 2 ^ B ≤ 2 ^ 127 }
-{
-    let unit = &plan.units.as_slice()[i as usize];
-    match &grids.raised {
-        Some(raised) => common_joint(unit, raised, at),
-        None => unreachable!(),
-    }
 }

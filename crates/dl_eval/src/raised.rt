@@ -7,7 +7,7 @@ ghost use Rattle.dl_model.specs.Prelude.{GridEncloses, total as total_of, loss_o
 ghost use Rattle.dl_common.specs.Extra.{IsExtra};
 ghost use Rattle.dl_budget.specs.Asks.{joint_budget};
 ghost use Rattle.dl_budget.specs.Shared.{shared_joint_budget};
-ghost use Rattle.dl_eval.specs.Totals.{AreRaisedTotals, IsRaisedTotalOf, IsTotalOf};
+ghost use Rattle.dl_eval.specs.Totals.{AreRaisedTotals, IsClaimsGrid, IsTotalOf};
 
 use crate::grids::is_named;
 use crate::units::outcomes_of;
@@ -93,7 +93,7 @@ fn raised_by<const B: u32>(
     requires inside { i < length plan.now.units }
     requires claims { IsValidUnit plan.now.cells claims.now }
     requires extra { IsExtra unit.now claims.now }
-    ensures { IfOk result (λ made. IfSome made (IsRaisedTotalOf plan.now i)) }
+    ensures { IfOk result (λ made. IfSome made (IsClaimsGrid plan.now i)) }
 {
     let made = total_beside(alloc, work, plan, total, claims)?;
     let is_narrow = is_within_joint::<B>(plan, unit, i, made.spread());
@@ -115,7 +115,7 @@ fn raised_total<const B: u32>(
     requires independent { plan.now.common ≡ None }
     requires total { IsTotalOf plan.now total.now }
     requires unit { i < length plan.now.units }
-    ensures { IfOk result (λ made. IfSome made (IsRaisedTotalOf plan.now i)) }
+    ensures { IfOk result (λ made. IfSome made (IsClaimsGrid plan.now i)) }
 {
     let units = plan.units.as_slice();
     let unit = &units[i as usize];
@@ -142,7 +142,7 @@ fn named_total<const B: u32>(
     requires independent { plan.now.common ≡ None }
     requires total { IsTotalOf plan.now total.now }
     requires unit { i < length plan.now.units }
-    ensures { IfOk result (λ made. IfSome made (IsRaisedTotalOf plan.now i)) }
+    ensures { IfOk result (λ made. IfSome made (IsClaimsGrid plan.now i)) }
 {
     if is_named(named, i) {
         return raised_total(alloc, work, plan, total, i);

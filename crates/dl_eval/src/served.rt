@@ -1,12 +1,12 @@
 //! Which units have a grid that their share of the total comes from.
 
-ghost use Rattle.std.specs.Prelude.{◌≡◌, ◌<◌, IsTrue, All, IfSome, length};
+ghost use Rattle.std.specs.Prelude.{◌≡◌, ◌<◌, IsTrue, None, All, IfSome, length};
 ghost use Rattle.dl_limits.specs.Limits.{bits_of};
 ghost use Rattle.dl_plan.specs.Prelude.{IsValid};
 ghost use Rattle.dl_grid.specs.Cells.{spread};
 ghost use Rattle.dl_eval.specs.declared.drawn.PlanGrids.TheVariants.{Independent};
 ghost use Rattle.dl_eval.specs.Drawn.{HasNeeded};
-ghost use Rattle.dl_eval.specs.Totals.{AreGridsOf, AreUnits, IsFromTotal};
+ghost use Rattle.dl_eval.specs.Totals.{AreGridsOf, AreUnits, IsClaimsGrid, IsTotalOf};
 
 use crate::grids::Grids;
 use crate::raised::is_raised;
@@ -28,9 +28,11 @@ pub(crate) fn is_without_others(units: &[Unit], unit: &Unit) -> bool {
 fn is_from_total<const B: u32>(plan: &Plan, total: &Grid<B>, apart: u128, i: u32) -> bool
     requires scale { B ≡ bits_of plan.now.cells }
     requires valid { IsValid plan.now }
+    requires independent { plan.now.common ≡ None }
+    requires total { IsTotalOf plan.now total.now }
     requires apart { apart ≡ spread total.now }
     requires unit { i < length plan.now.units }
-    ensures { IsTrue result → IsFromTotal plan.now total.now i }
+    ensures { IsTrue result → IsClaimsGrid plan.now i total.now }
 {
     let unit = &plan.units.as_slice()[i as usize];
     if !unit.can_share() || apart >= BUDGET_BOUND {
@@ -45,6 +47,7 @@ fn is_from_total<const B: u32>(plan: &Plan, total: &Grid<B>, apart: u128, i: u32
 fn is_served<const B: u32>(plan: &Plan, grids: &Grids<B>, apart: u128, unit: Option<u32>) -> bool
     requires scale { B ≡ bits_of plan.now.cells }
     requires valid { IsValid plan.now }
+    requires independent { plan.now.common ≡ None }
     requires grids { AreGridsOf plan.now grids.now }
     requires apart { apart ≡ spread grids.now.sums.total }
     requires unit { IfSome unit (λ i. i < length plan.now.units) }
@@ -67,6 +70,7 @@ fn is_served<const B: u32>(plan: &Plan, grids: &Grids<B>, apart: u128, unit: Opt
 pub(crate) fn are_served<const B: u32>(plan: &Plan, grids: &Grids<B>, named: &[Option<u32>]) -> bool
     requires scale { B ≡ bits_of plan.now.cells }
     requires valid { IsValid plan.now }
+    requires independent { plan.now.common ≡ None }
     requires grids { AreGridsOf plan.now grids.now }
     requires named { AreUnits (length plan.now.units) named.now }
     ensures { IsTrue result → All (HasNeeded plan.now (Independent grids.now)) named.now }

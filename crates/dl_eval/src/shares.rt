@@ -1,27 +1,27 @@
 //! The share of a unit in a total.
 
-ghost use Rattle.std.specs.Prelude.{◌+◌, ◌≡◌, ◌*◌, ◌^◌, ◌<◌, ◌≤◌, ◌⊎◌, IsSome, IsNone, IfSome, Some, None, ℕ, IfOk, length, get_or};
-ghost use Rattle.dl_limits.specs.Limits.{bits_of, budget_bound, most_digits};
-ghost use Rattle.dl_exact.specs.Fraction.{◌over◌};
-ghost use Rattle.dl_model.specs.Prelude.{Point, declared};
+ghost use Rattle.std.specs.Prelude.{◌+◌, ◌≡◌, ◌*◌, ◌^◌, ◌<◌, ◌≤◌, ◌⊎◌, All, IsSome, IsNone, IfSome, Some, None, ℕ, IfOk, length};
+ghost use Rattle.dl_limits.specs.Limits.{bits_of, most_digits};
+ghost use Rattle.dl_model.specs.Prelude.{declared};
 ghost use Rattle.dl_plan.specs.Prelude.{IsValid, IsLevel};
 ghost use Rattle.dl_budget.specs.Asks.{kappa_budget, cotail_budget, in_digits};
-ghost use Rattle.dl_eval.specs.Rows.{IsAtLeast, IsAtMost, IsBeyond, IsShareOfUnit, IsTooRare, IsTailShare, IsNoTailShare, at_the_end, total_error};
-ghost use Rattle.dl_eval.specs.Totals.{AreGridsOf, AreOthersOf, HasShareFrom, IsGridOfUnit, IsFromTotal, IsJointOf, IsRaisedTotalOf, IsTailShareOf, IsTotalOf};
-ghost use Rattle.dl_eval.specs.Drawn.{AreDrawnOf, HasCells, HasShareOf};
-ghost use Rattle.dl_grid.specs.Cells.{low_at, spread};
+ghost use Rattle.dl_eval.specs.Rows.{IsAtLeast, IsBeyond, IsShareOfUnit, IsTooRare, IsTailShare, IsNoTailShare, at_the_end, total_error};
+ghost use Rattle.dl_eval.specs.Totals.{AreGridsOf, AreOthersOf, ArePooledGridsOf, AreUnitGrids, AreUnitMeans, HasShareFrom, IsClaimsGrid, IsJointOf, IsSourceOf, IsTailShareOf, IsTotalOf, most_unit_mean};
+ghost use Rattle.dl_eval.specs.Drawn.{AreDrawnOf, GivesFrom, HasCells, HasShareOf};
+ghost use Rattle.dl_grid.specs.Cells.{low_at};
 ghost use Rattle.dl_measures.specs.Prelude.{IsFirstFound, low_cdf};
 ghost use Rattle.dl_cotail.specs.Settled.{MayBeAbsent};
+ghost use Rattle.dl_cotail.specs.Source.{reach};
+ghost use Rattle.dl_cotail.specs.declared.source.ShareSource.TheVariants as sources;
 
 use crate::drawn::PlanGrids;
 use crate::grids::Grids;
-use crate::pooled::pooled_joint;
+use crate::pooled::PooledGrids;
 use crate::rows::{beyond_row, ends_row, row_with};
-use dl_alloc::{conditional_mean, joint_mean};
-use dl_budget::{others_budget, total_budget, unit_budget};
-use dl_common::{gamma_joint, poisson_joint};
-use dl_cotail::laws::law_unit_mean;
-use dl_cotail::{cotail, gamma_cotail, poisson_cotail};
+use dl_alloc::conditional_mean;
+use dl_budget::{others_budget, unit_budget};
+use dl_cotail::laws::{law_beside, law_plan_joint_most, law_unit_mean};
+use dl_cotail::{Beside, OverClaims, ShareSource};
 use dl_frac::Frac;
 use dl_grid::Grid;
 use dl_iv::Iv;
@@ -31,89 +31,106 @@ use dl_plan::{Asked, Plan};
 use dl_report::{End, Row};
 use std::alloc::{AllocError, Global};
 
-impl<const B: u32> Grids<B> {
-    /// The grid of unit `i`.
-    #[tactic(auto, using(crate::proofs::Scales::plan_scale))]
-    fn unit(&self, plan: &Plan, i: u32) -> &Grid<B>
-        requires valid { IsValid plan.now }
-        requires grids { AreGridsOf plan.now self.now }
-        requires unit { i < length plan.now.units }
-        requires there { IsSome (get_or self.now.sums.others.items i None) }
-        requires scale { B ≡ bits_of plan.now.cells }
-        ensures is { IsGridOfUnit plan.now i result.now }
-        ensures narrow { spread result.now < budget_bound }
-    {
-        // no grid is so wide that its ends are a whole apart
-        prove!(unit_budget::<B>(&plan.units.as_slice()[i as usize], plan.cells) < BUDGET_BOUND);
-        &self.units.as_slice()[i as usize]
-    }
-
-    /// The grid of the sum of all units but `i`.
-    #[tactic(auto, using(crate::proofs::Scales::plan_scale))]
-    fn others(&self, plan: &Plan, i: u32) -> &Grid<B>
-        requires valid { IsValid plan.now }
-        requires grids { AreGridsOf plan.now self.now }
-        requires unit { i < length plan.now.units }
-        requires there { IsSome (get_or self.now.sums.others.items i None) }
-        requires scale { B ≡ bits_of plan.now.cells }
-        ensures are { AreOthersOf plan.now i result.now }
-        ensures narrow { spread result.now < budget_bound }
-    {
-        prove!(others_budget::<B>(plan, i) < BUDGET_BOUND);
-        match &self.sums.others.as_slice()[i as usize] {
-            Some(others) => others,
-            None => unreachable!(),
-        }
-    }
+/// The grids that the joint means of a unit beside independent units are drawn from.
+enum DrawnFrom<'a, const B: u32> {
+    /// That of the unit and that of the sum of all others.
+    Beside(Beside<'a, B>),
+    /// That of the total, under the claims of the unit.
+    Total,
+    /// That of the total with the unit's extra claims, under the claims of the unit.
+    Extra(&'a Grid<B>),
 }
 
-/// The mean outcome of unit `i` where the total is `at`, and 0 elsewhere, in buckets, from the grid
-/// of the unit and that of the sum of all others.
+/// The grid of unit `i` and that of the sum of all others.
 #[tactic(auto, using(crate::proofs::Scales::plan_scale))]
-fn joint_beside<const B: u32>(plan: &Plan, grids: &Grids<B>, i: u32, at: u32) -> Iv<B>
+fn beside<'a, const B: u32>(
+    plan: &Plan,
+    grids: &'a Grids<B>,
+    others: &'a Grid<B>,
+    i: u32,
+) -> Beside<'a, B>
+    requires scale { B ≡ bits_of plan.now.cells }
+    requires valid { IsValid plan.now }
+    requires independent { plan.now.common ≡ None }
+    requires units { AreUnitGrids plan.now.cells plan.now.units grids.now.units.items }
+    requires others { AreOthersOf plan.now i others.now }
+    requires unit { i < length plan.now.units }
+    ensures source { IsSourceOf plan.now i (sources.Beside result) }
+    ensures cells { length result.unit.now ≡ plan.now.cells }
+{
+    // no grid is so wide that its ends are a whole apart
+    prove!(unit_budget::<B>(&plan.units.as_slice()[i as usize], plan.cells) < BUDGET_BOUND);
+    prove!(others_budget::<B>(plan, i) < BUDGET_BOUND);
+    let unit = &grids.units.as_slice()[i as usize];
+    let from = Beside { unit, others };
+    law_beside(&from);
+    from
+}
+
+/// What the joint means of unit `i` are drawn from.
+fn drawn_from<'a, const B: u32>(plan: &Plan, grids: &'a Grids<B>, i: u32) -> DrawnFrom<'a, B>
     requires scale { B ≡ bits_of plan.now.cells }
     requires valid { IsValid plan.now }
     requires independent { plan.now.common ≡ None }
     requires grids { AreGridsOf plan.now grids.now }
     requires unit { i < length plan.now.units }
-    requires there { IsSome (get_or grids.now.sums.others.items i None) }
-    requires inside { at < plan.now.cells }
-    ensures joint { IsJointOf plan.now i at result }
-    ensures below { (h : ℕ) → IsAtMost plan.now (Point at) (h over 2 ^ B) → result.lo ≤ at * h }
-    ensures divisible { result.hi * 2 ^ B ≤ 2 ^ 127 }
+    requires there { HasShareFrom plan.now grids.now grids.now.sums.total i }
+    ensures { GivesFrom plan.now grids.now.sums.total i result }
 {
-    joint_mean(grids.unit(plan, i), grids.others(plan, i), at)
+    match &grids.sums.others.as_slice()[i as usize] {
+        Some(others) => DrawnFrom::Beside(beside(plan, grids, others, i)),
+        None => match &grids.raised.as_slice()[i as usize] {
+            Some(raised) => DrawnFrom::Extra(raised),
+            None => DrawnFrom::Total,
+        },
+    }
 }
 
-/// The same from the grid of the total, of a Poisson unit.
-fn joint_from<const B: u32>(plan: &Plan, total: &Grid<B>, i: u32, at: u32) -> Iv<B>
+/// The claims of unit `i` over a grid.
+#[tactic(auto, using(crate::proofs::Scales::plan_scale))]
+fn over<'a, const B: u32>(
+    plan: &'a Plan,
+    grid: &'a Distribution<'a, B>,
+    i: u32,
+) -> ShareSource<'a, B>
     requires scale { B ≡ bits_of plan.now.cells }
     requires valid { IsValid plan.now }
-    requires independent { plan.now.common ≡ None }
-    requires total { IsTotalOf plan.now total.now }
     requires unit { i < length plan.now.units }
-    requires from { IsFromTotal plan.now total.now i }
-    requires inside { at < plan.now.cells }
-    ensures joint { IsJointOf plan.now i at result }
-    ensures below { (h : ℕ) → IsAtMost plan.now (Point at) (h over 2 ^ B) → result.lo ≤ at * h }
-    ensures divisible { result.hi * 2 ^ B ≤ 2 ^ 127 }
+    requires grid { IsClaimsGrid plan.now i grid.now }
+    ensures source { IsSourceOf plan.now i result }
+    ensures reach { reach result ≡ length grid.now }
 {
-    poisson_joint(&plan.units.as_slice()[i as usize], total, at)
+    ShareSource::OverClaims(OverClaims::of(&plan.units.as_slice()[i as usize], grid))
 }
 
-/// The same from the grid of the total with the extra claims of the unit, of a gamma unit.
-fn joint_raised<const B: u32>(plan: &Plan, raised: &Grid<B>, i: u32, at: u32) -> Iv<B>
+/// The mean outcome of unit `i` where the total is `at`, and 0 elsewhere, in buckets.
+fn joint_from<const B: u32>(plan: &Plan, from: &ShareSource<B>, i: u32, at: u32) -> Iv<B>
     requires scale { B ≡ bits_of plan.now.cells }
     requires valid { IsValid plan.now }
-    requires independent { plan.now.common ≡ None }
-    requires raised { IsRaisedTotalOf plan.now i raised.now }
-    requires unit { i < length plan.now.units }
+    requires from { IsSourceOf plan.now i from.now }
     requires inside { at < plan.now.cells }
+    requires reached { at < reach from.now }
     ensures joint { IsJointOf plan.now i at result }
-    ensures below { (h : ℕ) → IsAtMost plan.now (Point at) (h over 2 ^ B) → result.lo ≤ at * h }
     ensures divisible { result.hi * 2 ^ B ≤ 2 ^ 127 }
 {
-    gamma_joint(&plan.units.as_slice()[i as usize], raised, at)
+    law_plan_joint_most(plan);
+    from.joint(at)
+}
+
+/// The same from the claims of the unit over a grid.
+fn joint_over<const B: u32>(plan: &Plan, grid: &Grid<B>, i: u32, at: u32) -> Iv<B>
+    requires scale { B ≡ bits_of plan.now.cells }
+    requires valid { IsValid plan.now }
+    requires unit { i < length plan.now.units }
+    requires grid { IsClaimsGrid plan.now i grid.now }
+    requires inside { at < plan.now.cells }
+    requires reached { at < length grid.now }
+    ensures joint { IsJointOf plan.now i at result }
+    ensures divisible { result.hi * 2 ^ B ≤ 2 ^ 127 }
+{
+    let sums = Distribution::walked(grid);
+    let from = over(plan, &sums, i);
+    joint_from(plan, &from, i, at)
 }
 
 /// The mean outcome of unit `i` where the total is `at`, and 0 elsewhere, in buckets, of
@@ -127,15 +144,30 @@ fn independent_joint<const B: u32>(plan: &Plan, grids: &Grids<B>, i: u32, at: u3
     requires there { HasShareFrom plan.now grids.now grids.now.sums.total i }
     requires inside { at < plan.now.cells }
     ensures joint { IsJointOf plan.now i at result }
-    ensures below { (h : ℕ) → IsAtMost plan.now (Point at) (h over 2 ^ B) → result.lo ≤ at * h }
     ensures divisible { result.hi * 2 ^ B ≤ 2 ^ 127 }
 {
-    match &grids.sums.others.as_slice()[i as usize] {
-        Some(_) => joint_beside(plan, grids, i, at),
-        None => match &grids.raised.as_slice()[i as usize] {
-            Some(raised) => joint_raised(plan, raised, i, at),
-            None => joint_from(plan, &grids.sums.total, i, at),
-        },
+    match drawn_from(plan, grids, i) {
+        DrawnFrom::Beside(from) => joint_from(plan, &ShareSource::Beside(from), i, at),
+        DrawnFrom::Total => joint_over(plan, &grids.sums.total, i, at),
+        DrawnFrom::Extra(raised) => joint_over(plan, raised, i, at),
+    }
+}
+
+/// The same of units that share a factor.
+fn shared_joint<const B: u32>(plan: &Plan, grids: &PooledGrids<B>, i: u32, at: u32) -> Iv<B>
+    requires scale { B ≡ bits_of plan.now.cells }
+    requires valid { IsValid plan.now }
+    requires grids { ArePooledGridsOf plan.now grids.now }
+    requires unit { i < length plan.now.units }
+    requires there { IsSome grids.now.raised }
+    requires inside { at < plan.now.cells }
+    requires reached { IfSome grids.now.raised (λ g. at + 1 ≤ length g) }
+    ensures joint { IsJointOf plan.now i at result }
+    ensures divisible { result.hi * 2 ^ B ≤ 2 ^ 127 }
+{
+    match &grids.raised {
+        Some(raised) => joint_over(plan, raised, i, at),
+        None => unreachable!(),
     }
 }
 
@@ -149,12 +181,11 @@ pub(crate) fn joint_of<const B: u32>(plan: &Plan, grids: &PlanGrids<B>, i: u32, 
     requires inside { at < plan.now.cells }
     requires reached { HasCells grids.now (at + 1) }
     ensures joint { IsJointOf plan.now i at result }
-    ensures below { (h : ℕ) → IsAtMost plan.now (Point at) (h over 2 ^ B) → result.lo ≤ at * h }
     ensures divisible { result.hi * 2 ^ B ≤ 2 ^ 127 }
 {
     match grids {
         PlanGrids::Independent(grids) => independent_joint(plan, grids, i, at),
-        PlanGrids::Shared(grids) => pooled_joint(plan, grids, i, at),
+        PlanGrids::Shared(grids) => shared_joint(plan, grids, i, at),
     }
 }
 
@@ -183,6 +214,7 @@ pub(crate) fn share_row<const B: u32>(
         (in_digits (2 ^ B) (kappa_budget (2 ^ B) plan.now i) digits) row
         ⊎ IsTooRare plan.now at (total_error (2 ^ B) plan.now) row) }
 {
+    law_plan_joint_most(plan);
     let joint = joint_of(plan, grids, i, at);
     match conditional_mean(joint, grids.total().at(at)) {
         Some(share) => ends_row(alloc, asked, digits, share),
@@ -190,56 +222,25 @@ pub(crate) fn share_row<const B: u32>(
     }
 }
 
-/// The share of unit `i` in the tail mean at `p`, in buckets, from the grid of the unit and that of
-/// the sum of all others; none where the grid of the total ends before the quantile, does not
-/// settle it, or it may be too rare.
-#[tactic(auto, using(crate::proofs::Scales::plan_scale))]
-fn tail_share_beside<const B: u32>(
-    plan: &Plan,
-    grids: &Grids<B>,
-    total: &Distribution<B>,
-    i: u32,
-    p: Frac,
-) -> Option<Iv<B>>
-    requires scale { B ≡ bits_of plan.now.cells }
-    requires valid { IsValid plan.now }
-    requires independent { plan.now.common ≡ None }
-    requires grids { AreGridsOf plan.now grids.now }
-    requires total { IsTotalOf plan.now total.now }
-    requires unit { i < length plan.now.units }
-    requires there { IsSome (get_or grids.now.sums.others.items i None) }
-    requires level { IsLevel p }
-    requires few { p.den ≤ 10 ^ 4 }
-    ensures share { IfSome result (IsTailShareOf plan.now i p) }
-    ensures reached { IfSome result (λ _. IsAtLeast plan.now (at_the_end plan.now) p) }
-    ensures absent { (x : ℕ) → IsNone result
-        → IsFirstFound (low_cdf (2 ^ B) (low_at total.now)) p plan.now.cells (Some x)
-        → MayBeAbsent (declared plan.now) plan.now.cells p (total_error (2 ^ B) plan.now) }
-{
-    prove!(total_budget::<B>(plan) < BUDGET_BOUND);
-    law_unit_mean();
-    let mean = grids.means.as_slice()[i as usize];
-    cotail(grids.unit(plan, i), grids.others(plan, i), total, mean, p)
-}
-
-/// The share of Poisson unit `i` in the tail mean at `p`, in buckets, from the grid of the total of
-/// independent units; none where that grid ends before the quantile, does not settle it, or it may
-/// be too rare.
-#[tactic(auto, using(crate::proofs::Scales::plan_scale))]
+/// The share of unit `i` in the tail mean at `p`, in buckets, from what its joint means are drawn
+/// from, the running sums of the total and the means of all units; none where the grid of the total
+/// ends before the quantile, does not settle it, or it may be too rare.
 fn tail_share_from<const B: u32>(
     plan: &Plan,
-    grids: &Grids<B>,
+    from: &ShareSource<B>,
     total: &Distribution<B>,
+    means: &[Iv<B>],
     i: u32,
     p: Frac,
 ) -> Option<Iv<B>>
-    requires scale { B ≡ bits_of plan.now.cells }
     requires valid { IsValid plan.now }
     requires independent { plan.now.common ≡ None }
-    requires grids { AreGridsOf plan.now grids.now }
+    requires from { IsSourceOf plan.now i from.now }
+    requires reached { reach from.now ≡ plan.now.cells }
     requires total { IsTotalOf plan.now total.now }
+    requires means { AreUnitMeans plan.now.cells plan.now.units means.now }
+    requires small { All (λ mean. mean.hi ≤ most_unit_mean) means.now }
     requires unit { i < length plan.now.units }
-    requires from { IsFromTotal plan.now total.now i }
     requires level { IsLevel p }
     requires few { p.den ≤ 10 ^ 4 }
     ensures share { IfSome result (IsTailShareOf plan.now i p) }
@@ -249,78 +250,7 @@ fn tail_share_from<const B: u32>(
         → MayBeAbsent (declared plan.now) plan.now.cells p (total_error (2 ^ B) plan.now) }
 {
     law_unit_mean();
-    let unit = &plan.units.as_slice()[i as usize];
-    poisson_cotail(unit, total, grids.means.as_slice()[i as usize], p)
-}
-
-/// The share of gamma unit `i` in the tail mean at `p`, in buckets, from the grid of the total with
-/// the unit's extra claims and that of the total; none where the grid of the total ends before the
-/// quantile, does not settle it, or it may be too rare.
-#[tactic(auto, using(crate::proofs::Scales::plan_scale))]
-fn tail_share_raised<const B: u32>(
-    plan: &Plan,
-    grids: &Grids<B>,
-    raised: &Distribution<B>,
-    total: &Distribution<B>,
-    i: u32,
-    p: Frac,
-) -> Option<Iv<B>>
-    requires scale { B ≡ bits_of plan.now.cells }
-    requires valid { IsValid plan.now }
-    requires independent { plan.now.common ≡ None }
-    requires grids { AreGridsOf plan.now grids.now }
-    requires total { IsTotalOf plan.now total.now }
-    requires unit { i < length plan.now.units }
-    requires raised { IsRaisedTotalOf plan.now i raised.now }
-    requires level { IsLevel p }
-    requires few { p.den ≤ 10 ^ 4 }
-    ensures share { IfSome result (IsTailShareOf plan.now i p) }
-    ensures reached { IfSome result (λ _. IsAtLeast plan.now (at_the_end plan.now) p) }
-    ensures absent { (x : ℕ) → IsNone result
-        → IsFirstFound (low_cdf (2 ^ B) (low_at total.now)) p plan.now.cells (Some x)
-        → MayBeAbsent (declared plan.now) plan.now.cells p (total_error (2 ^ B) plan.now) }
-{
-    prove!(total_budget::<B>(plan) < BUDGET_BOUND);
-    law_unit_mean();
-    let unit = &plan.units.as_slice()[i as usize];
-    gamma_cotail(unit, raised, total, grids.means.as_slice()[i as usize], p)
-}
-
-/// The share of unit `i` in the tail mean at `p`, in buckets, where the sum of the other units is not
-/// there; none where the grid of the total ends before the quantile, does not settle it, or it may
-/// be too rare.
-fn tail_share_without<const B: u32>(
-    alloc: Global,
-    plan: &Plan,
-    grids: &Grids<B>,
-    total: &Distribution<B>,
-    i: u32,
-    p: Frac,
-) -> Result<Option<Iv<B>>, AllocError>
-    requires scale { B ≡ bits_of plan.now.cells }
-    requires valid { IsValid plan.now }
-    requires independent { plan.now.common ≡ None }
-    requires grids { AreGridsOf plan.now grids.now }
-    requires total { IsTotalOf plan.now total.now }
-    requires unit { i < length plan.now.units }
-    requires there { IsSome (get_or grids.now.raised.items i None)
-        ⊎ IsFromTotal plan.now total.now i }
-    requires level { IsLevel p }
-    requires few { p.den ≤ 10 ^ 4 }
-    ensures share { IfOk result (λ share. IfSome share (IsTailShareOf plan.now i p)) }
-    ensures reached { IfOk result (λ share.
-        IfSome share (λ _. IsAtLeast plan.now (at_the_end plan.now) p)) }
-    ensures absent { IfOk result (λ share. (x : ℕ) → IsNone share
-        → IsFirstFound (low_cdf (2 ^ B) (low_at total.now)) p plan.now.cells (Some x)
-        → MayBeAbsent (declared plan.now) plan.now.cells p (total_error (2 ^ B) plan.now)) }
-{
-    match &grids.raised.as_slice()[i as usize] {
-        Some(raised) => {
-            let sums = Distribution::of(alloc, raised)?;
-            Ok(tail_share_raised(plan, grids, &sums, total, i, p))
-        }
-        None => Ok(tail_share_from(plan, grids, total, i, p)),
-    }
+    from.tail_share(total, means[i as usize], p)
 }
 
 /// The share of unit `i` in the tail mean at `p`, in buckets; none where the grid of the total ends
@@ -337,9 +267,9 @@ fn tail_share_of<const B: u32>(
     requires valid { IsValid plan.now }
     requires independent { plan.now.common ≡ None }
     requires grids { AreGridsOf plan.now grids.now }
-    requires total { IsTotalOf plan.now total.now }
+    requires total { total.now ≡ grids.now.sums.total }
     requires unit { i < length plan.now.units }
-    requires there { HasShareFrom plan.now grids.now total.now i }
+    requires there { HasShareFrom plan.now grids.now grids.now.sums.total i }
     requires level { IsLevel p }
     requires few { p.den ≤ 10 ^ 4 }
     ensures share { IfOk result (λ share. IfSome share (IsTailShareOf plan.now i p)) }
@@ -349,9 +279,21 @@ fn tail_share_of<const B: u32>(
         → IsFirstFound (low_cdf (2 ^ B) (low_at total.now)) p plan.now.cells (Some x)
         → MayBeAbsent (declared plan.now) plan.now.cells p (total_error (2 ^ B) plan.now)) }
 {
-    match &grids.sums.others.as_slice()[i as usize] {
-        Some(_) => Ok(tail_share_beside(plan, grids, total, i, p)),
-        None => tail_share_without(alloc, plan, grids, total, i, p),
+    let means = grids.means.as_slice();
+    match drawn_from(plan, grids, i) {
+        DrawnFrom::Beside(from) => {
+            let from = ShareSource::Beside(from);
+            Ok(tail_share_from(plan, &from, total, means, i, p))
+        }
+        DrawnFrom::Total => {
+            let from = over(plan, total, i);
+            Ok(tail_share_from(plan, &from, total, means, i, p))
+        }
+        DrawnFrom::Extra(raised) => {
+            let sums = Distribution::of(alloc, raised)?;
+            let from = over(plan, &sums, i);
+            Ok(tail_share_from(plan, &from, total, means, i, p))
+        }
     }
 }
 
@@ -373,9 +315,9 @@ pub(crate) fn tail_share_row<const B: u32>(
     requires valid { IsValid plan.now }
     requires independent { plan.now.common ≡ None }
     requires grids { AreGridsOf plan.now grids.now }
-    requires total { IsTotalOf plan.now total.now }
+    requires total { total.now ≡ grids.now.sums.total }
     requires unit { i < length plan.now.units }
-    requires there { HasShareFrom plan.now grids.now total.now i }
+    requires there { HasShareFrom plan.now grids.now grids.now.sums.total i }
     requires level { IsLevel p }
     requires few { p.den ≤ 10 ^ 4 }
     ensures ask { IfOk result (λ row. row.ask ≡ asked.now.text) }

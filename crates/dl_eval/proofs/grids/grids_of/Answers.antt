@@ -1,7 +1,7 @@
 use Rattle.dl_eval.proofs.Common.{◌≡◌, List, [], ◌∷◌, ◌++◌, length, arith, ap, ◌∙◌, few_cells, ◌also◌, Option, Iv}
 use Rattle.std.specs.Option.{option_to_list}
 use Rattle.dl_eval.proofs.Totals.{only_one, grids_of_one, is_total, are_others, has_others, long_enough}
-use Rattle.dl_eval.proofs.FromRaised.{no_raised}
+use Rattle.dl_eval.proofs.ClaimsGrids.{no_raised}
 use Rattle.dl_eval.proofs.grids.grids_of.Goals as goal
 
 pub returns-then-not-is_named-clause-grids : goal.returns-then-not-is_named-clause-grids

@@ -15,8 +15,7 @@ pub returns-then-not-wanted-clause-grids : goal.returns-then-not-wanted-clause-g
 returns-then-not-wanted-clause-grids g c =
     let s = some_shape c.args.plan.now.common c.requires.shares in
     let total = c.in_ok-total.ensures in record {
-      shape = s.0;
-      shares = s.1;
+      shares = c.requires.shares;
       total = pooled_total c.requires.valid s.1 _ (c.requires.pooled s.0 s.1) total.cells total.encloses total.spread;
       raised = tt;
     }
@@ -25,8 +24,7 @@ pub returns-clause-grids : goal.returns-clause-grids
 returns-clause-grids g c =
     let s = some_shape c.args.plan.now.common c.requires.shares in
     let total = c.in_ok-total.ensures in record {
-      shape = s.0;
-      shares = s.1;
+      shares = c.requires.shares;
       total = pooled_total c.requires.valid s.1 _ (c.requires.pooled s.0 s.1) total.cells total.encloses total.spread;
-      raised = c.in_ok-grid.ensures.grid s.0 s.1;
+      raised = c.in_ok-grid.ensures.grid;
     }

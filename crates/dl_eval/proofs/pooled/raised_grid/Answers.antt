@@ -1,6 +1,6 @@
-use Rattle.dl_eval.proofs.Common.{arith, few_cells, if_ok_three, ◌also◌}
-use Rattle.dl_eval.proofs.Scales.{grid_size}
-use Rattle.dl_eval.proofs.PooledUnits.{some_shape, raised_unit_valid, raised_is_grid}
+use Rattle.dl_eval.proofs.Common.{arith, few_cells, unit_horizon, if_ok_three, ◌also◌}
+use Rattle.dl_eval.proofs.Scales.{grid_size, plan_scale}
+use Rattle.dl_eval.proofs.PooledUnits.{some_shape, raised_unit_valid, raised_claims}
 use Rattle.dl_eval.proofs.pooled.raised_grid.Goals as goal
 
 pub raised-requires : goal.raised-requires
@@ -26,10 +26,26 @@ unit_grid_with-requires g c =
           (record { shape = s.1; valid = c.requires.valid }) (c.requires.pooled s.0 s.1)),
     )
 
+pub unit_budget-requires : goal.unit_budget-requires
+unit_budget-requires g c =
+    let plan = c.args.plan.now in
+    let s = some_shape plan.common c.requires.shares in
+    let few = few_cells plan c.requires.valid in
+    let valid = raised_unit_valid c.requires.valid s.1 _ (c.in_ok-unit.ensures.raised plan s.0
+    (record { shape = s.1; valid = c.requires.valid }) (c.requires.pooled s.0 s.1)) in record {
+      scale = plan_scale g.row.B plan.cells c.requires.scale;
+      valid = (plan.cells, valid);
+      some = few.0;
+      few = few.1;
+      horizon = unit_horizon plan.cells _ few.1 valid;
+    }
+
 pub returns-clause-grid : goal.returns-clause-grid
 returns-clause-grid g c =
     let plan = c.args.plan.now in
-    if_ok_three c.unit_grid_with.result _ _ _ _ (λ grid cells encloses spread r shape.
-    raised_is_grid c.requires.valid shape _ (c.in_ok-unit.ensures.raised plan r (record { shape = shape; valid = c.requires.valid })
-    (c.requires.pooled r shape)) c.requires.within cells encloses spread)
+    let s = some_shape plan.common c.requires.shares in
+    if_ok_three c.unit_grid_with.result _ _ _ _ (λ grid cells encloses spread.
+    raised_claims c.requires.valid s.1 _ (c.in_ok-unit.ensures.raised plan s.0 (record { shape = s.1; valid = c.requires.valid })
+    (c.requires.pooled s.0 s.1)) c.requires.within cells encloses spread
+    (omega (arith, c.unit_budget.ensures.value, c.if-prove.false)))
     c.unit_grid_with.ensures.cells c.unit_grid_with.ensures.encloses c.unit_grid_with.ensures.spread

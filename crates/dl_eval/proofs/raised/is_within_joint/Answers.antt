@@ -1,6 +1,6 @@
 use Rattle.dl_eval.proofs.Common.{◌≤◌, refl, subst₂, few_cells}
 use Rattle.dl_eval.proofs.ReadAs.{unit_there}
-use Rattle.dl_eval.proofs.FromTotal.{told_le}
+use Rattle.dl_eval.proofs.ClaimsGrids.{told_le}
 use Rattle.dl_plan.proofs.Shared.{gamma_unbounded}
 use Rattle.dl_eval.proofs.raised.is_within_joint.Goals as goal
 

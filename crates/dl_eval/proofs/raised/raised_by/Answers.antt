@@ -1,8 +1,9 @@
-use Rattle.dl_eval.proofs.Common.{◌^◌, ◌<◌, ◌≤◌, IsTrue, subst, thinned_mean, joint_budget}
+use Rattle.dl_eval.proofs.Common.{◌^◌, ◌<◌, ◌≤◌, IsTrue, refl, subst, thinned_mean, joint_budget}
 use Rattle.dl_limits.specs.Limits.{budget_bound}
 use Rattle.dl_budget.specs.Shared.{shared_joint_budget}
+use Rattle.dl_eval.proofs.ClaimsGrids.{with_extra}
 use Rattle.dl_eval.proofs.Lists.{some_where}
-use Rattle.dl_eval.specs.Totals.{IsRaisedTotalOf}
+use Rattle.dl_eval.specs.Totals.{IsClaimsGrid}
 use Rattle.dl_eval.proofs.raised.raised_by.Goals as goal
 
 pub returns : goal.returns
@@ -10,16 +11,10 @@ returns g c =
     let plan = c.args.plan.now in
     let unit = c.args.unit.now in
     let made = c.in_ok-made.ensures in
-    rw c.then_some.ensures (some_where (IsRaisedTotalOf plan c.args.i) c.is_within_joint-is_narrow.result c.in_ok-made.made
-    (λ (within : IsTrue c.is_within_joint-is_narrow.result). record {
-      unit = unit;
-      is = c.requires.here;
-      can_raise = c.requires.gamma;
-      extra = c.args.claims.now;
-      is_extra = c.requires.extra;
-      cells = made.cells;
-      encloses = made.encloses;
-      bounded = subst (λ s. s < budget_bound) c.spread.ensures (c.is_within_joint-is_narrow.ensures.bounded within);
-      narrow = subst (λ s. shared_joint_budget plan.cells s (thinned_mean unit)
-          ≤ joint_budget (2 ^ g.row.B) plan c.args.i) c.spread.ensures (c.is_within_joint-is_narrow.ensures.narrow within);
-    }))
+    rw c.then_some.ensures (some_where (IsClaimsGrid plan c.args.i) c.is_within_joint-is_narrow.result c.in_ok-made.made
+    (λ (within : IsTrue c.is_within_joint-is_narrow.result).
+    with_extra plan c.args.i refl c.requires.here c.requires.inside c.in_ok-made.made made.cells
+    (subst (λ s. s < budget_bound) c.spread.ensures (c.is_within_joint-is_narrow.ensures.bounded within))
+    (subst (λ s. shared_joint_budget plan.cells s (thinned_mean unit) ≤ joint_budget (2 ^ g.row.B) plan c.args.i)
+    c.spread.ensures (c.is_within_joint-is_narrow.ensures.narrow within)) c.requires.valid c.requires.independent
+    c.args.claims.now c.requires.gamma c.requires.extra made.encloses))

@@ -1,14 +1,14 @@
 use Rattle.dl_eval.proofs.Common.{ℕ, arith, ap, length, List, Option, None, IfSome, Iv}
 use Rattle.dl_eval.proofs.Parts.{all_six}
 use Rattle.dl_eval.proofs.Lists.{pushed_length, each_pushed}
-use Rattle.dl_eval.specs.Totals.{IsRaisedTotalOf}
+use Rattle.dl_eval.specs.Totals.{IsClaimsGrid}
 use Rattle.dl_eval.proofs.raised.raised_totals.Goals as goal
 
 pub loop-i-preserved : goal.loop-i-preserved
 loop-i-preserved g c =
     let i = c.loop-i.invariant in record {
       as_many = pushed_length _ _ _ _ i.as_many c.in_ok-push.ensures.items;
-      each = each_pushed (λ (k : ℕ) (o : Option (List (Iv g.row.B))). IfSome o (IsRaisedTotalOf c.args.plan.now k)) _ _ _ _
+      each = each_pushed (λ (k : ℕ) (o : Option (List (Iv g.row.B))). IfSome o (IsClaimsGrid c.args.plan.now k)) _ _ _ _
           None i.as_many i.each c.in_ok-push.ensures.items c.in_ok-one.ensures;
     }
 

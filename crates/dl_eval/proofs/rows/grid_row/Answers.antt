@@ -1,4 +1,4 @@
-use Rattle.dl_eval.proofs.Common.{[], ◌^◌, arith, ap, IfOk-weaker, All-head, facts_of, IsLevel, ◌also◌, subst, sym}
+use Rattle.dl_eval.proofs.Common.{[], ℕ, ◌≡◌, ◌^◌, Option, None, IsSome, subst, arith, ap, IfOk-weaker, All-head, facts_of, IsLevel, ◌also◌}
 use Rattle.dl_eval.proofs.Insides.{layer_inside}
 use Rattle.dl_eval.proofs.GoodRows.{point_answer, cdf_answer, mean_answer, layer_answer}
 use Rattle.dl_eval.proofs.Named.{index_named, named_inside}
@@ -7,7 +7,6 @@ use Rattle.dl_eval.proofs.PriceRows.{price_asked}
 use Rattle.dl_eval.proofs.ShareLaws.{joint_asked, share_asked, tail_asked}
 use Rattle.dl_eval.proofs.TailShares.{tail_share_asked}
 use Rattle.dl_eval.proofs.Parts.{all_six}
-use Rattle.dl_eval.specs.Totals.{HasShareFrom}
 use Rattle.dl_eval.proofs.rows.grid_row.Goals as goal
 
 pub at-requires : goal.at-requires
@@ -124,9 +123,15 @@ tail_share_row-requires g c =
     let grids = rw c.in-Independent.is at c.requires.grids in
     let there = rw (c.unwrap-in-Independent.ensures, c.in-Independent.is) at c.requires.there in
     all_six (omega arith) (omega arith) c.requires.scale c.requires.digits c.requires.valid (all_six grids.0 grids.1
-    c.requires.total (named_inside c.args.plan.now.units c.args.asked.now.ask c.requires.unit c.requires.named
-    c.unwrap-in-Independent.ensures)
-    (subst (λ t. HasShareFrom c.args.plan.now c.in-Independent.grids t c.unwrap-in-Independent.result)
-    (sym (rw c.in-Independent.is at c.requires.same)) there)
+    (rw c.in-Independent.is at c.requires.same) (named_inside c.args.plan.now.units c.args.asked.now.ask c.requires.unit
+    c.requires.named c.unwrap-in-Independent.ensures) there
     (All-head IsLevel c.in-Cotail.p [] (rw c.in-Cotail.is at c.requires.values.levels)
     also rw c.in-Cotail.is at c.requires.values.share))
+
+-- there is none where the units share a factor
+pub unreachable-requires : goal.unreachable-requires
+unreachable-requires g c =
+    let grids = rw c.in-Shared.is at c.requires.grids in
+    let none : c.args.plan.now.common ≡ None = rw c.in-Cotail.is at c.requires.share in
+    let some = subst (λ (o : Option ℕ). IsSome o) none grids.shares in
+    absurd cc

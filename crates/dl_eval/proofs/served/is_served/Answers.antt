@@ -3,5 +3,6 @@ use Rattle.dl_eval.proofs.served.is_served.Goals as goal
 
 pub is_from_total-requires : goal.is_from_total-requires
 is_from_total-requires g c =
-    (omega arith) also c.requires.scale also c.requires.valid also c.requires.apart
+    (omega arith) also c.requires.scale also c.requires.valid also c.requires.independent
+    also c.requires.grids.total also c.requires.apart
     also rw c.in-Some.is at c.requires.unit

@@ -1,4 +1,4 @@
-use Rattle.dl_eval.proofs.Common.{ℕ, ◌^◌, length, inl, inr, subst, Option, IfOk-weaker, low_at, low_cdf, IsFirstFound, arith, ◌also◌}
+use Rattle.dl_eval.proofs.Common.{ℕ, ◌^◌, length, inl, inr, subst, sym, IsTotalOf, Option, IfOk-weaker, low_at, low_cdf, IsFirstFound, arith, ◌also◌}
 use Rattle.dl_eval.proofs.GoodRows.{ends_below}
 use Rattle.dl_eval.proofs.TailShares.{share_told}
 use Rattle.dl_eval.proofs.Parts.{all_six}
@@ -18,7 +18,7 @@ returns-in-None-clause-share g c =
       below = ends_below
           (subst (λ (hi : Option ℕ). IsFirstFound (low_cdf (2 ^ g.row.B) (low_at total)) c.args.p (length total) hi)
           c.in-None.is c.quantile.ensures.hi)
-          c.requires.valid c.requires.total;
+          c.requires.valid (subst (IsTotalOf c.args.plan.now) (sym c.requires.total) c.requires.grids.total);
     })))
     c.beyond_row.ensures.ends
 
