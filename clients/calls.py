@@ -1,12 +1,13 @@
 #!/usr/bin/env python3
 """Whole calls of the built program: how each ends, and all that it writes to its two outputs, which are kept apart.
 
-The calls of clients/calls.txt and clients/rules.txt, then those whose text is too long for a table, and those whose input, outputs, words or memory fail:
-at least one for each status. Calls that write to /dev/full are skipped where there is none. The program is DECL, else
+The calls of clients/calls.txt and clients/rules.txt, then those whose text is too long for a table or no text, totals on the longest grid, and
+those whose input, outputs, words or memory fail: at least one for each status. Calls that write to /dev/full are skipped where there is none. The program is DECL, else
 crates/decl/out/decl. The last line is 'N passed, M failed, K skipped'.
 """
 
 import contextlib
+import math
 import os
 import pathlib
 import resource
@@ -50,7 +51,7 @@ class Call:
             given = opened(files, stdin, os.O_RDONLY)
             out, err = (opened(files, path, os.O_WRONLY) for path in (stdout, stderr))
             if stdin is None:
-                given.write(self.source.encode())
+                given.write(self.source if isinstance(self.source, bytes) else self.source.encode())
                 given.seek(0)
             done = subprocess.run(
                 [DECL, *self.words], stdin=given, stdout=out, stderr=err, preexec_fn=prepare, timeout=SECONDS
@@ -139,6 +140,36 @@ def long_texts():
     yield Call(["run", *["mean"] * 257], DIE, USAGE, err="decl: usage\n")
 
 
+def odd_bytes():
+    """Bytes that no token has, and lines that end in two bytes; in a comment or a note any byte may stand."""
+    for text, place in ((b"\x80", "1:1"), (b"a\xff", "1:2"), (b"\x0b", "1:1"), (b"port\0", "1:5"), (b"\r\nagg\x85", "2:4")):
+        yield Call(["fmt"], text, REFUSED, err=f"decl: {place}: no token begins here\n")
+    text = b"# {\xff} note{\n\r\nagg\r\nD dfreq [1]\tdsev [1] note{a \xe9#\r\n[b]}"
+    yield Call(["fmt"], text, out="agg D dfreq [1] dsev [1] note{a \ufffd#\r\n[b]}\n")
+
+
+def pairs(x, first, second):
+    """How many pairs of numbers of two runs, each from a number on and so many, come to at most x."""
+    (a, n), (b, m) = first, second
+    return sum(sign * math.comb(max(x - a - b - less + 2, 0), 2) for sign, less in ((1, 0), (-1, n), (-1, m), (1, n + m)))
+
+
+def longest_grids():
+    """Totals of two amounts on 65,536 cells, each one of some 60,000 in a row that are equally likely: an amount is the sum of two units,
+    one of steps and one within a step. They are worked by counting pairs."""
+    runs = {"A": (100, 60_000, "dsev [0:249]", "dsev [100:59850:250]"), "B": (3, 50_000, "dsev [0:199]", "dsev [3:49803:200]")}
+    for one, other in ("AB", "AA"):
+        units = [f"agg U{k} dfreq [1] {severity}" for k, severity in enumerate((*runs[one][2:], *runs[other][2:]))]
+        ends = [runs[each][:2] for each in (one, other)]
+        most, rows = ends[0][1] * ends[1][1], ""
+        for kind, x in (("pmf", 30_001), ("cdf", 29_995), ("cdf", 50_104), ("cdf", 60_099), ("pmf", 65_535), ("cdf", 65_535)):
+            scaled = 10**9 * (pairs(x, *ends) - (pairs(x - 1, *ends) if kind == "pmf" else 0))
+            low, high = (f"{end // 10**9}.{end % 10**9:09d}" for end in (scaled // most, -(-scaled // most)))
+            rows += f"{kind}:{x} {low} {high}\n"
+        asks = [row.split(" ")[0] for row in rows.splitlines()]
+        yield Call(["run", "--log2", "16", "--digits", "9", *asks], "port P\n" + "\n".join(units) + "\n", out=rows)
+
+
 def little_stack():
     """A megabyte of short tokens, a deep text and a wide one, on a stack of 256 KB."""
     limits = [(words, small(resource.RLIMIT_STACK, 256 * 1024)) for words in (["run", "pmf:3"], ["fmt"])]
@@ -203,7 +234,7 @@ def main():
     if not os.path.exists(FULL):
         skipped, to_full = len(to_full), []
         print(f"SKIPPED: {skipped} calls that write to {FULL}: there is none")
-    for call in [*table(), *long_texts(), *little_stack(), *failing(), *to_full, *little_memory()]:
+    for call in [*table(), *long_texts(), *odd_bytes(), *longest_grids(), *little_stack(), *failing(), *to_full, *little_memory()]:
         wrong = list(call.wrong())
         passed, failed = passed + (not wrong), failed + bool(wrong)
         statuses.add(call.status)
