@@ -218,7 +218,7 @@ class Answers(Case):
         page = book.page()
         self.assertIn("each unit&#x27;s share of the total", page)
         self.assertIn("each unit&#x27;s share of the TVaR", page)
-        self.assertIn("The program has no such shares under a common factor: the client adds them up, from the program&#x27;s joint means", page)
+        self.assertIn("The program has no such shares under a common factor: at 2 to 250 years the client adds them up", page)
         for name, share in shares.items():
             low, high = re.search(rf'data-ask="cotail:{name}:0.9" data-low="(.*?)" data-high="(.*?)"', page).groups()
             self.assertTrue(Fraction(low) <= share <= Fraction(high) < Fraction(low) + Fraction(1, 100), name)

@@ -202,15 +202,28 @@ class Pages(Case):
         there = re.search(r'class="curve" data-years="([^"]*)"', wide)[1].split()
         self.assertLessEqual({"1", "2", "3", "3.5", "5", "10", "250", "20000"}, set(there))
         told = html.unescape(re.sub(r"<[^>]*>", "", drawn))
-        self.assertIn("No share is drawn at 2, 5 and 10 years: the quantile is not sure to be one total, or that total", told)
-        self.assertIn("The program has no such shares at a level of more than 4 digits: the client adds them up at 10,000, 12,189, 15,614 and 20,000", told)
+        self.assertIn("No share is drawn at 2, 5 and 10 years: the quantile is not sure to be one total.", told)
+        self.assertIn("at a level of more than 4 digits: at 10,000 to 20,000 years the client adds them up, from the program's joint means", told)
         self.assertIn("2 years, 5 years: The quantile is not sure to be one total", told)
 
     def test_shares_that_take_too_many_joint_means(self):
         """Ten thousand buckets up to the VaR: 20,002 joint means for two units."""
         book = decl.Book("port P agg A dfreq [1] dsev [1 10000] [0.5 0.5] agg B dfreq [1] dsev [0]")
-        drawn = areas.told_of_tail(areas_of_tail(book, [Fraction(10), Fraction(20000)]), False)
+        drawn = areas.told_of_tail(areas_of_tail(book, [Fraction(10), Fraction(20000)]))
         self.assertEqual(drawn[-1], "No share is drawn at 20,000 years: more than 20,000 joint means would have to be added up.")
+
+    def test_shares_at_a_rare_total(self):
+        """Each of 90,000 totals is equally likely, and so too rare for shares of the program. In the worst 10/11 of the years the total is above
+        8,181, or 8,181 in 2/11 of the years with it; its hundreds of 3 are those of A, and what is left is that of B."""
+        book = decl.Book("port P agg A dfreq [1] dsev [0:89700:300] agg B dfreq [1] dsev [0:299]", bs=1, log2=16)
+        years = Fraction(11, 10)
+        found = areas_of_tail(book, [years, Fraction(2)])
+        self.assertEqual(found.added, {years: "where the total at the VaR is not sure to have a probability of at least 1 in 65,536"})
+        parts = {8181: Fraction(2, 11), **dict.fromkeys(range(8182, 90000), 1)}
+        for row, outcome in zip(found.rows[years], (lambda x: x - x % 300, lambda x: x % 300)):
+            value = sum(outcome(total) * part for total, part in parts.items()) / Fraction(90000 * 10, 11)
+            self.assertTrue(row.holds(value) and row.high - row.low < Fraction(1, 10), row)
+        self.assertEqual(list(found.missing()), ["the quantile is not sure to be one total"])
 
     def test_totals_without_shares_are_white(self):
         """Totals of 2 to 5 and of 22 to 25 are there, and 1 in 4 of both is 1 of the second unit; up to the VaR of 5 years, which is 24."""

@@ -149,17 +149,16 @@ def tail_picture(found: TailShares, tails: Mapping[Fraction, Row], colours: Mapp
     return drawn(frame, parts, "each unit's share of the TVaR")
 
 
-def told_of_tail(found: TailShares, factor: bool) -> List[str]:
+def told_of_tail(found: TailShares) -> List[str]:
     """The sentences on the shares of the TVaR."""
     told = ["What each unit brings to the mean of the worst years, by their return period: together the TVaR. One year is the mean."]
-    if found.added:
-        where = "" if factor else f" at {stretches([[years] for years in found.added])} years"
-        why = "under a common factor" if factor else "at a level of more than 4 digits"
+    everywhere = sorted({*found.rows, *found.dear})
+    for why in dict.fromkeys(found.added.values()):
+        added = runs(everywhere, [years for years, reason in found.added.items() if reason == why])
         told.append(
-            f"The program has no such shares {why}: the client adds them up{where}, from the program's joint means of each unit with each total"
-            " up to the VaR. That step is tested and not proved."
+            f"The program has no such shares {why}: at {stretches(added)} years the client adds them up, from the program's joint means of each unit"
+            " with each total up to the VaR. That step is tested and not proved."
         )
-    everywhere = sorted([*found.rows, *found.dear])
     for why, missing in found.missing().items():
         told.append(f"No share is drawn at {stretches(runs(everywhere, missing))} years: {why}.")
     return told

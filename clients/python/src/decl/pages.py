@@ -124,7 +124,7 @@ def on_tail_shares(book: "Book", years: Sequence[Fraction], head: Head) -> str:
     legend = [] if {*members} == {*book.units} else [key({name: swatch_of(hue) for name, hue in colours.items()})]
     return section(
         "Each unit's share of the TVaR",
-        *map(paragraph, told_of_tail(drawn, book.plan.common is not None)),
+        *map(paragraph, told_of_tail(drawn)),
         *tabled(shares_table(book, columns), f"the mean, and shares of the TVaR by return period{head.within}", swatches=swatches(book)),
         f"<figure>{picture}</figure>",
         *legend,
@@ -133,7 +133,7 @@ def on_tail_shares(book: "Book", years: Sequence[Fraction], head: Head) -> str:
 
 def rows_at(found: TailShares, years: Fraction, many: int) -> List[Row]:
     """The shares at a return period, which are not there where they take too many joint means."""
-    return found.rows.get(years, [Row(f"cotail:{plain(years)}", None, None, ("-", "-"), True)] * many)
+    return found.rows.get(years, [Row(f"cotail:{plain(1 - 1 / years)}", None, None, ("-", "-"), True)] * many)
 
 
 def totals_of(book: "Book", years: Iterable[Fraction]) -> Dict[Fraction, List[Fraction]]:

@@ -1,5 +1,5 @@
-"""Shares of the units in the tail mean at several return periods. Where the program has none, under a common factor and at levels of many
-digits, they are added up from its joint means, one for each total."""
+"""Shares of the units in the tail mean at several return periods. Where the program has none, as under a common factor, they are added up
+from its joint means, one for each total."""
 
 from dataclasses import dataclass
 from fractions import Fraction
@@ -19,6 +19,7 @@ FINEST = 9
 #: A page adds up so many joint means at most.
 MOST_JOINTS = 20_000
 NOT_ONE = "the quantile is not sure to be one total"
+TOO_MANY = f"more than {MOST_JOINTS:,} joint means would have to be added up"
 
 
 def ends(row: Row) -> Ends:
@@ -61,12 +62,6 @@ def share_by_joints(book: "Book", unit: str, p: Fraction) -> Row:
     return Row(ask, *found, decimals(*found), True)
 
 
-def is_asked(book: "Book", p: Fraction) -> bool:
-    """Whether the program has an ask for shares at this level."""
-    low, high = around(p, SHARE_DIGITS)
-    return book.plan.common is None and low == high
-
-
 def joints_for(book: "Book", units: int, p: Fraction) -> int:
     """How many joint means the shares of so many units at a level take."""
     var = book.q(p)
@@ -75,11 +70,11 @@ def joints_for(book: "Book", units: int, p: Fraction) -> int:
 
 @dataclass(frozen=True)
 class TailShares:
-    """The shares of units at return periods, of which 1 year is all years; the periods at which they are added up from joint means, and
-    those that would take too many of them."""
+    """The shares of units at return periods, of which 1 year is all years; why they are added up from joint means at some of them; and the
+    return periods at which that would take too many."""
 
     rows: Dict[Fraction, List[Row]]
-    added: Sequence[Fraction]
+    added: Dict[Fraction, str]
     dear: Sequence[Fraction]
 
     @property
@@ -90,28 +85,32 @@ class TailShares:
     def missing(self) -> Dict[str, List[Fraction]]:
         """Why there are no shares, with the return periods without them."""
         found: Dict[str, List[Fraction]] = {}
-        for years in sorted([*self.rows, *self.dear]):
-            row = next((row for row in self.rows.get(years, []) if row.state != "closed"), None)
-            if years in self.dear:
-                found.setdefault(f"more than {MOST_JOINTS:,} joint means would have to be added up", []).append(years)
-            elif row is not None and row.state == "beyond":
-                found.setdefault("the TVaR may lie past the grid", []).append(years)
-            elif row is not None:
-                more = "" if years in self.added else ", or that total is not sure to have a probability of at least 1 in 65,536"
-                found.setdefault(NOT_ONE + more, []).append(years)
+        for years in sorted({*self.rows, *self.dear} - {*self.there}):
+            beyond = any(row.state == "beyond" for row in self.rows.get(years, []))
+            why = TOO_MANY if years in self.dear else "the TVaR may lie past the grid" if beyond else NOT_ONE
+            found.setdefault(why, []).append(years)
         return found
 
 
+def why_added(book: "Book", p: Fraction) -> str:
+    """Why the program has no ask for shares at this level; empty where it has."""
+    if book.plan.common is not None:
+        return "under a common factor"
+    low, high = around(p, SHARE_DIGITS)
+    return "" if low == high else "at a level of more than 4 digits"
+
+
 def tail_shares(book: "Book", units: Sequence[str], periods: Iterable[Fraction]) -> TailShares:
-    """The shares of these units at return periods."""
+    """The shares of these units at return periods: those of the program, and where it has none those that are added up from at most
+    MOST_JOINTS joint means."""
     levels = {years: 1 - 1 / years for years in sorted({*periods} - {Fraction(1)})}
-    asked = [years for years, p in levels.items() if is_asked(book, p)]
-    book.each(f"cotail:{unit}:{levels[years]}" for years in asked for unit in units)
-    dear = [years for years, p in levels.items() if years not in asked and joints_for(book, len(units), p) > MOST_JOINTS]
-    rows = {Fraction(1): [book.mean_of(unit) for unit in units]}
-    for years, p in levels.items():
-        if years in asked:
-            rows[years] = [book.share_of_tail(unit, p) for unit in units]
-        elif years not in dear:
-            rows[years] = [share_by_joints(book, unit, p) for unit in units]
-    return TailShares(rows, [years for years in rows if years > 1 and years not in asked], dear)
+    added = {years: why for years, why in ((years, why_added(book, p)) for years, p in levels.items()) if why}
+    book.each(f"cotail:{unit}:{p}" for years, p in levels.items() if years not in added for unit in units)
+    rows = {years: [book.share_of_tail(unit, p) for unit in units] for years, p in levels.items() if years not in added}
+    for years, own in rows.items():
+        if any(row.state == "absent" for row in own) and book.q(levels[years]).low == book.q(levels[years]).high:
+            added[years] = "where the total at the VaR is not sure to have a probability of at least 1 in 65,536"
+    dear = [years for years in added if joints_for(book, len(units), levels[years]) > MOST_JOINTS]
+    rows.update({years: [share_by_joints(book, unit, levels[years]) for unit in units] for years in added if years not in dear})
+    rows[Fraction(1)] = [book.mean_of(unit) for unit in units]
+    return TailShares(rows, {years: why for years, why in added.items() if years not in dear}, dear)
