@@ -1,5 +1,5 @@
 -- The product of two lists from its remainders.
-use Rattle.dl_transform.proofs.Common.{ℕ, zero, suc, ◌≡◌, ◌+◌, ◌-◌, ◌*◌, ◌/◌, ◌%◌, ◌^◌, ◌<◌, ◌≤◌, List, length, get_or, sum_by, mul-le-mul_left, mul-le-mul_right, arith, sym, ap, ap₂, ◌∙◌, div_below, get_or_past, length-take-le, take, Same, count_pairs, pairs_none, eval, [], ◌∷◌, All, div-add-mod, pow-le-pow_right, mul-le-mul, mod_below, IsTable}
+use Rattle.dl_transform.proofs.Common.{ℕ, zero, suc, ◌≡◌, ◌+◌, ◌-◌, ◌*◌, ◌/◌, ◌%◌, ◌^◌, ◌<◌, ◌≤◌, List, length, get_or, sum_by, mul-le-mul_left, arith, sym, ap, ap₂, ◌∙◌, div_below, get_or_past, Same, count_pairs, pairs_none, eval, [], ◌∷◌, div-add-mod, pow-le-pow_right, mul-le-mul, mod_below}
 use Rattle.dl_transform.specs.Lists.{IsTableFor}
 use Rattle.dl_transform.specs.declared.tables.Table.{Table}
 use Rattle.std.proofs.lemmas.List.Sums.{sum_by-cons}
@@ -90,7 +90,3 @@ pairs_bound [] b m s h = omega (arith, pairs_none s (λ i j. 0 * b j) (λ i j. o
 pairs_bound (x ∷ xs) b m zero h = rw sum_by-cons (omega (arith, mul-le-mul_left x (h 0)))
 pairs_bound (x ∷ xs) b m (suc s) h =
     rw sum_by-cons (omega (arith, mul-le-mul_left x (h (suc s)), pairs_bound xs b m s h))
-
--- words stay words where they are read past the end
-pub word_at : (xs : List ℕ) → All (λ x. x < 2 ^ 64) xs → (i : ℕ) → get_or xs i 0 < 2 ^ 64
-word_at xs h i = grind (arith, get_or_past)

@@ -1,4 +1,4 @@
-use Rattle.dl_transform.proofs.Common.{◌≡◌, ◌+◌, ◌^◌, ◌<◌, ◌∙◌, ℕ, ap, arith, get_or, length, sym}
+use Rattle.dl_transform.proofs.Common.{◌≡◌, ◌^◌, ◌<◌, arith, get_or}
 use Rattle.dl_transform.specs.Ends.{low_sum}
 use Rattle.dl_transform.specs.Products.{other}
 use Rattle.dl_transform.proofs.Widths.{high_is, low_below, mixed_below}
