@@ -1,10 +1,13 @@
 -- What a unit has where the total is x is at most x, so its joint mean is at most x times the probability of x.
-use Rattle.dl_alloc.proofs.Common.{ℕ, inl, inr, ◌*◌, ◌<◌, ◌≤◌, arith, sym, ap, subst, ◌∙◌, List, get_or, ne_eqb, eq-eqb, mul-le-mul_right, whole, ◌over◌, ◌*ℚ◌, ◌≤ℚ◌, over_lt, le_refl, le_of_eq, zero_le, times_one, times_assoc, times_le_both, whole_le, over_times, AtMost, AtLeast, Loss, One, Point, Joint, where_true, score, partial_sums, AreDeclared, outcomes_le, outcomes_times, outcomes_rise, are_units, quantity_bounded, whole_positive}
+use Rattle.dl_alloc.proofs.Common.{ℕ, inl, inr, ◌*◌, ◌<◌, ◌≤◌, le_of_mul-le-mul_right, Series, arith, sym, ap, subst, ◌∙◌, List, get_or, ne_eqb, eq-eqb, whole, ◌over◌, ◌*ℚ◌, ◌≤ℚ◌, le_refl, le_of_eq, zero_le, times_one, times_assoc, times_le_both, whole_le, over_times, AtMost, AtLeast, Loss, One, Point, Joint, where_true, score, partial_sums, outcomes_le, outcomes_times}
 use Rattle.std.specs.Prelude.{sum}
-use Rattle.std.proofs.lemmas.Bool.{cases_eq, cases_lt}
+use Rattle.std.proofs.lemmas.Bool.{cases_eq}
 use Rattle.dl_exact.proofs.Laws.{le_trans}
 use Rattle.dl_exact.proofs.Lists.{item_le_total}
-use Rattle.dl_model.proofs.Alike.{not_both}
+use Rattle.dl_exact.proofs.Over.{le_over}
+use Rattle.dl_model.specs.Program.{Quantity}
+use Rattle.dl_model.proofs.Alike.{ends_in_order}
+use Rattle.dl_model.proofs.Bounded.{IsDistribution}
 
 score_le : (i x : ℕ) (ys : List ℕ) → score (Joint i x) ys ≤ℚ whole x *ℚ score (Point x) ys
 score_le i x ys = elim (cases_eq (sum ys) x) [
@@ -22,32 +25,22 @@ joint_le_point us i x N =
     le_trans _ _ _ (outcomes_le us (score (Joint i x)) (λ ys. whole x *ℚ score (Point x) ys) (score_le i x) N)
     (le_of_eq _ _ (outcomes_times us (whole x) (score (Point x)) N))
 
-pub joint_most : (us : List Loss) (i x h S : ℕ) → 0 < S
-    → AtMost (partial_sums us (Point x)) (partial_sums us One) (h over S)
-    → AtMost (partial_sums us (Joint i x)) (partial_sums us One) ((x * h) over S)
-joint_most us i x h S s at N u bound =
-    le_trans _ _ _ (joint_le_point us i x N)
-    (subst (λ t. whole x *ℚ partial_sums us (Point x) N ≤ℚ t)
-    (sym (times_assoc (whole x) (h over S) u) ∙ ap (λ t. t *ℚ u) (over_times x h S s))
-    (times_le_both _ _ _ _ (le_refl (whole x)) (at N u bound)))
+-- ---- of whatever declares such joint means
 
--- a low end of the joint mean is at most x times a high end of the probability
-pub low_share : (us : List Loss) (i x l h S : ℕ) → AreDeclared us → 0 < S
-    → AtLeast (partial_sums us (Joint i x)) (partial_sums us One) (l over S)
-    → AtMost (partial_sums us (Point x)) (partial_sums us One) (h over S) → l ≤ x * h
-low_share us i x l h S d s low at = elim (cases_lt (x * h) l) [
-  | inr within ↦ within
-  | inl above ↦
-      let bound = quantity_bounded us One d tt in
-      let some = whole_positive us d in
-      absurd (not_both (partial_sums us One) (outcomes_rise us (are_units us d) (score One)) bound.0 some.0
-      bound.1 some.1
-      (partial_sums us (Joint i x)) (l over S) low (
-        (x * h) over S,
-        over_lt (x * h) S l S s s (mul_lt above),
-        joint_most us i x h S s at,
-      ))
-]
-  where
-    mul_lt : x * h < l → x * h * S < l * S
-    mul_lt above = omega (arith, mul-le-mul_right S above)
+module _ (D : Quantity → Series) (within : (i x N : ℕ) → D (Joint i x) N ≤ℚ whole x *ℚ D (Point x) N) where
+  pub joint_most : (i x h S : ℕ) → 0 < S → AtMost (D (Point x)) (D One) (h over S)
+      → AtMost (D (Joint i x)) (D One) ((x * h) over S)
+  joint_most i x h S s at N u bound =
+      le_trans _ _ _ (within i x N)
+      (subst (λ t. whole x *ℚ D (Point x) N ≤ℚ t)
+      (sym (times_assoc (whole x) (h over S) u) ∙ ap (λ t. t *ℚ u) (over_times x h S s))
+      (times_le_both _ _ _ _ (le_refl (whole x)) (at N u bound)))
+
+  -- a low end of the joint mean is at most x times a high end of the probability
+  pub low_share : IsDistribution D → (i x l h S : ℕ) → 0 < S → AtLeast (D (Joint i x)) (D One) (l over S)
+      → AtMost (D (Point x)) (D One) (h over S) → l ≤ x * h
+  low_share d i x l h S s low at =
+      let bound = d.bounded One tt in
+      let order = ends_in_order (D One) d.rises bound.0 d.positive.0 bound.1 d.positive.1 (D (Joint i x)) (l over S)
+      ((x * h) over S) low (joint_most i x h S s at) in
+      le_of_mul-le-mul_right {k = S} (le_over l S (x * h) S s s order) s

@@ -1,10 +1,9 @@
--- The joint mean from the grids of a unit and of the others: what its ends hold, and how far apart they lie.
-use Rattle.dl_alloc.proofs.Common.{ℕ, ◌≡◌, ◌+◌, ◌-◌, ◌*◌, ◌/◌, ◌^◌, ◌<◌, ◌≤◌, List, length, arith, ap₂, div_ceil, mul-le-mul, mul-le-mul_left, mul-le-mul_right, mul-pos, le_trans, pow_pos, ◌over◌, le_refl, div_ceil_least, round_down, round_up, low_at, high_at, spread, IsGrid, count_pairs, count_below, size_of, cells_fit, grid_room, size_within, below_same, below_plus, pairs_le, pairs_same, Holds, Loss, AreDeclarable, One, Joint, partial_sums, total, GridEncloses, unit_of, without, at_least_wider, at_most_wider, low_weighted, high_weighted}
+-- The joint mean from the grids of a unit and of the others: how large its ends are, and how far apart they lie.
+use Rattle.dl_alloc.proofs.Common.{ℕ, ◌≡◌, ◌+◌, ◌-◌, ◌*◌, ◌/◌, ◌^◌, ◌<◌, ◌≤◌, List, length, arith, ap₂, div_ceil, mul-le-mul, mul-le-mul_left, mul-le-mul_right, mul-pos, le_trans, pow_pos, div_ceil_least, low_at, high_at, spread, IsGrid, count_pairs, count_below, size_of, cells_fit, grid_room, size_within, below_same, below_plus, pairs_le, pairs_same, low_weighted, high_weighted}
 use Rattle.dl_iv.specs.declared.interval.Iv.{Iv}
 use Rattle.dl_grid.specs.Prelude.{convolution_spread, HasRoom}
 use Rattle.dl_grid.proofs.PlaceSums.{width_at, high_is, low_within, width_within}
 use Rattle.dl_grid.proofs.WidthLaws.{cv_is}
-use Rattle.dl_alloc.proofs.JointEnds.{joint_ends}
 use Rattle.dl_alloc.proofs.WeightedSums.{weighted_top, weighted_width}
 
 -- ---- how large they are
@@ -49,25 +48,6 @@ pub sums_order : {B : ℕ} (unit others : List (Iv B)) (x : ℕ) → low_weighte
 sums_order unit others x =
     pairs_le x (λ y z. y * low_at unit y * low_at others z) (λ y z. y * high_at unit y * high_at others z)
     (λ y z. mul-le-mul (mul-le-mul_left y (omega (arith, high_is unit y))) (omega (arith, high_is others z)))
-
--- ---- what they hold
-
-pub joint_holds : {B : ℕ} (unit others : List (Iv B)) (us : List Loss) (i x : ℕ) → x < length unit
-    → x < length others → AreDeclarable us
-    → i < length us
-    → GridEncloses unit (unit_of us i) → GridEncloses others (total (without us i))
-    → Holds (partial_sums us (Joint i x)) (partial_sums us One)
-    ((low_weighted unit others x / 2 ^ B) over 2 ^ B) (div_ceil (high_weighted unit others x) (2 ^ B) over 2 ^ B)
-joint_holds {B} unit others us i x inside beside units here e f =
-    let s = pow_pos B in
-    let exact = joint_ends us (2 ^ B) (length unit) (length others) (low_at unit) (high_at unit) (low_at others)
-    (high_at others)
-    i x units s here inside beside e f in (
-      at_least_wider (partial_sums us (Joint i x)) (partial_sums us One) _ _ exact.0
-          (round_down (low_weighted unit others x) (2 ^ B) (2 ^ B) _ s s (le_refl _)),
-      at_most_wider (partial_sums us (Joint i x)) (partial_sums us One) _ _ exact.1
-          (round_up (high_weighted unit others x) (2 ^ B) (2 ^ B) _ s s (le_refl _)),
-    )
 
 -- ---- how wide they are
 

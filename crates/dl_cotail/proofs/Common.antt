@@ -6,7 +6,7 @@ pub use Rattle.std.proofs.Math.Nat.{le_trans, lt-div-mul-add, min-le_left}
 pub use Rattle.std.specs.Prelude.{false, true, ◌⊎◌}
 pub use Rattle.dl_alloc.proofs.JointEnds.{all_split, joint_ends}
 pub use Rattle.dl_alloc.proofs.WeightedEnds.{fits, room_of}
-pub use Rattle.dl_cotail.specs.Widths.{conditional_width, cotail_width, beside_width, share_width}
+pub use Rattle.dl_cotail.specs.Widths.{beside_width, conditional_width, share_width}
 pub use Rattle.dl_exact.proofs.Counts.{below_first, below_le, below_pairs, below_plus, below_same, below_times, pairs_le, pairs_plus, pairs_same, pairs_within}
 pub use Rattle.dl_exact.proofs.Laws.{le_refl, ring, times_comm, times_le_both, times_left_comm, times_one}
 pub use Rattle.dl_exact.proofs.RoundingLaws.{div_ceil_least}

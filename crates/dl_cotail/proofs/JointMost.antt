@@ -1,9 +1,6 @@
 -- No outcome of a unit is above the total, so its joint mean at x is at most x, and at most x times the probability of x.
-use Rattle.dl_cotail.proofs.Common.{ℕ, suc, ◌*◌, ◌<◌, ◌≤◌, sym, ap, refl, subst, ◌∙◌, List, [], ◌∷◌, whole, ◌over◌, ◌*ℚ◌, ◌≤ℚ◌, le_refl, times_le_both, Series, AtMost, AtLeast, Quantity, One, Point, Joint, Loss, AreDeclared, score, partial_sums}
-use Rattle.std.proofs.Math.Nat.{le_of_mul-le-mul_right}
-use Rattle.dl_exact.proofs.Denominators.{over_times}
-use Rattle.dl_exact.proofs.Laws.{le_of_eq, le_trans, times_assoc}
-use Rattle.dl_exact.proofs.Over.{le_over}
+use Rattle.dl_cotail.proofs.Common.{ℕ, suc, ◌*◌, ◌<◌, ◌≤◌, sym, refl, List, [], ◌∷◌, whole, ◌over◌, ◌≤ℚ◌, Series, AtMost, AtLeast, Quantity, One, Point, Joint, Loss, AreDeclared, score, partial_sums}
+use Rattle.dl_exact.proofs.Laws.{le_of_eq, le_trans}
 use Rattle.dl_plan.specs.declared.plan.Plan.{Plan}
 use Rattle.dl_plan.specs.declared.plan.Unit.{Unit as UnitOfPlan}
 use Rattle.dl_plan.specs.Prelude.{HasCommonFactor, IsValid}
@@ -11,15 +8,14 @@ use Rattle.dl_model.specs.CommonFactor.{common_sums, pooled_unit}
 use Rattle.dl_model.specs.CommonUnits.{poisson_units}
 use Rattle.dl_model.specs.Plans.{aggregates_of, declared}
 use Rattle.dl_model.specs.Units.{loss}
-use Rattle.dl_model.proofs.Alike.{ends_in_order}
-use Rattle.dl_model.proofs.Bounded.{IsDistribution, losses_distribution}
+use Rattle.dl_model.proofs.Bounded.{losses_distribution}
 use Rattle.dl_model.proofs.CommonPlans.{are_severities, by_factor, greatest_of, pooled_past, shared_distribution, some}
 use Rattle.dl_model.proofs.Outcomes.{outcomes_le}
 use Rattle.dl_model.proofs.PlanUnits.{plan_declared}
 use Rattle.dl_model.proofs.Pooled.{total_point}
 use Rattle.dl_model.proofs.PooledLoss.{as_one_loss}
 use Rattle.dl_model.proofs.SharedBounds.{joint_within}
-use Rattle.dl_alloc.proofs.Shares.{joint_le_point}
+use Rattle.dl_alloc.proofs.Shares.{joint_le_point, low_share}
 use Rattle.dl_common.proofs.JointValues.{at_most_whole, where_le}
 use Rattle.dl_common.proofs.OneClaim.{outcome_most}
 
@@ -29,27 +25,9 @@ AreWithin D = ((i x : ℕ) → AtMost (D (Joint i x)) (D One) (whole x))
     × ((i x l h S : ℕ) → 0 < S → AtLeast (D (Joint i x)) (D One) (l over S)
     → AtMost (D (Point x)) (D One) (h over S) → l ≤ x * h)
 
-module _ (D : Quantity → Series) (d : IsDistribution D)
-    (within : (i x N : ℕ) → D (Joint i x) N ≤ℚ whole x *ℚ D (Point x) N) where
-  joint_below : (i x h S : ℕ) → 0 < S → AtMost (D (Point x)) (D One) (h over S)
-      → AtMost (D (Joint i x)) (D One) ((x * h) over S)
-  joint_below i x h S s at N u b =
-      le_trans _ _ _ (within i x N)
-      (subst (λ t. whole x *ℚ D (Point x) N ≤ℚ t)
-      (sym (times_assoc (whole x) (h over S) u) ∙ ap (λ t. t *ℚ u) (over_times x h S s))
-      (times_le_both _ _ _ _ (le_refl (whole x)) (at N u b)))
-
-  pub low_within : (i x l h S : ℕ) → 0 < S → AtLeast (D (Joint i x)) (D One) (l over S)
-      → AtMost (D (Point x)) (D One) (h over S) → l ≤ x * h
-  low_within i x l h S s low at =
-      let bound = d.bounded One tt in
-      let order = ends_in_order (D One) d.rises bound.0 d.positive.0 bound.1 d.positive.1 (D (Joint i x)) (l over S)
-      ((x * h) over S) low (joint_below i x h S s at) in
-      le_of_mul-le-mul_right {k = S} (le_over l S (x * h) S s s order) s
-
 pub losses_within : (us : List Loss) → AreDeclared us → AreWithin (partial_sums us)
 losses_within us h =
-    (outcome_most us, low_within (partial_sums us) (losses_distribution us h) (joint_le_point us))
+    (outcome_most us, low_share (partial_sums us) (joint_le_point us) (losses_distribution us h))
 
 module _ (units : List UnitOfPlan) (q : ℕ) (factor : HasCommonFactor (suc q) units) where
   abbrev D : Quantity → Series
@@ -69,7 +47,7 @@ module _ (units : List UnitOfPlan) (q : ℕ) (factor : HasCommonFactor (suc q) u
   pub shared_within : AreWithin D
   shared_within = (
     λ i x. at_most_whole _ (D (Point x)) (D One) x (joint_within (suc q) (poisson_units units) i x) (point_le x),
-    low_within D (shared_distribution units q factor) (joint_within (suc q) (poisson_units units)),
+    low_share D (joint_within (suc q) (poisson_units units)) (shared_distribution units q factor),
   )
 
 pub plan_within : (plan : Plan) → IsValid plan → AreWithin (declared plan)

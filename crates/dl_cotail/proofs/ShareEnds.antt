@@ -35,7 +35,7 @@ pub joint_lowered : (us : List Loss) (i q S j J A : ℕ) → 0 < S
     → Holds (partial_sums us (Joint i q)) (partial_sums us One) (min j (q * A) over S) (min J (q * A) over S)
 joint_lowered us i q S j J A s held at = (
   least_lesser (partial_sums us (Joint i q)) (partial_sums us One) S j (q * A) s held.0,
-  most_lesser (partial_sums us (Joint i q)) (partial_sums us One) S J (q * A) held.1 (joint_most us i q A S s at),
+  most_lesser (partial_sums us (Joint i q)) (partial_sums us One) S J (q * A) held.1 (joint_most (partial_sums us) (joint_le_point us) i q A S s at),
 )
 
 pub share_lowered : (us : List Loss) (i q S k K : ℕ) → 0 < S

@@ -1,5 +1,5 @@
 -- How wide the share of a unit in the tail mean is, in plain numbers. S units make 1.
-use Rattle.dl_cotail.proofs.Common.{ℕ, ◌≡◌, ◌+◌, ◌-◌, ◌*◌, ◌/◌, ◌<◌, ◌≤◌, min, arith, ap, div_ceil, mul-le-mul, mul-le-mul_left, mul-le-mul_right, lt-div-mul-add, Fraction, whole, ◌<ℚ◌, div_ceil_least, num_below, up_quotient, cv_rises, quotients_apart, beside_width, conditional_width, share_width}
+use Rattle.dl_cotail.proofs.Common.{ℕ, ◌≡◌, ◌+◌, ◌-◌, ◌*◌, ◌/◌, ◌<◌, ◌≤◌, min, arith, ap, div_ceil, mul-le-mul, mul-le-mul_left, mul-le-mul_right, lt-div-mul-add, Fraction, whole, ◌<ℚ◌, div_ceil_least, num_below, up_quotient, quotients_apart, conditional_width, share_width}
 
 -- ---- the conditional mean
 
@@ -37,15 +37,6 @@ above_narrow S n d fl fh al ah pos low high =
     omega arith
 
 -- ---- the whole
-
-pub joint_rises : (S K u o d e : ℕ) → 0 < S → u ≤ d → o ≤ e → beside_width S K u o ≤ beside_width S K d e
-joint_rises S K u o d e s of_unit of_others =
-    mul-le-mul_left K (cv_rises S K K u d o e s (omega arith) of_unit of_others)
-
-pub claims_rise : (K u s t : ℕ) → s ≤ t → (K * s + 2) * u + 2 ≤ (K * t + 2) * u + 2
-claims_rise K u s t near =
-    let wide : K * s + 2 ≤ K * t + 2 = omega (arith, mul-le-mul_left K near) in
-    omega (arith, mul-le-mul_right u wide)
 
 pub share_narrow : (p : Fraction) (K t m j f q bl bh ml mh al ah pl ph kw l h : ℕ) → p <ℚ whole 1
     → q < K → bh - bl ≤ j → ml ≤ mh → bl ≤ bh → ah - al ≤ t + 1

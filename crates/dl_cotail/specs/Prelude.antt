@@ -1,4 +1,4 @@
 -- The definitions that other crates cite, passed on from one place. Declares nothing.
 pub use Rattle.dl_cotail.specs.Settled.{IsPast, MayBeAbsent}
 pub use Rattle.dl_cotail.specs.Source.{GivesJoints, exact_high, exact_low, joint_width, reach}
-pub use Rattle.dl_cotail.specs.Widths.{cotail_width, poisson_cotail_width, gamma_cotail_width}
+pub use Rattle.dl_cotail.specs.Widths.{share_width}

@@ -8,12 +8,6 @@ use Rattle.dl_grid.specs.Width.{up, convolution_spread}
 abbrev pub beside_width : (S cells unit others : ℕ) → ℕ
 beside_width S cells unit others = cells * convolution_spread S cells unit others
 
--- a joint mean of a Poisson unit, and the sum of those up to a total, from its expected claims above
--- 0 rounded up and the spread of the total's grid; and those of a gamma unit, from the spread of the
--- grid of the total with its extra claims
-abbrev pub poisson_joint_width : (cells claims total : ℕ) → ℕ
-poisson_joint_width cells claims total = (cells * total + 2) * claims + 2
-
 -- its mean outcome at a total that is not too rare, from the width of its joint mean there
 abbrev pub conditional_width : (cells joint total : ℕ) → ℕ
 conditional_width cells joint total = rarest_parts * (cells * total + joint) + 2
@@ -23,19 +17,3 @@ abbrev pub share_width : (p : Fraction) (mean cells joint total : ℕ) → ℕ
 share_width p mean cells joint total = up
     (((mean + joint + 2 * cells + cells * (total + 2) + conditional_width cells joint total + 4) * p.den)
     over (p.den - p.num)) + 4
-
--- the same from the spreads of its grid and of the others'
-abbrev pub cotail_width : (p : Fraction) (S mean cells unit others total : ℕ) → ℕ
-cotail_width p S mean cells unit others total =
-    share_width p mean cells (beside_width S cells unit others) total
-
--- the same of a Poisson unit
-abbrev pub poisson_cotail_width : (p : Fraction) (mean cells claims total : ℕ) → ℕ
-poisson_cotail_width p mean cells claims total =
-    share_width p mean cells (poisson_joint_width cells claims total) total
-
--- the same of a gamma unit, from the spreads of the grid of the total with its extra claims and of
--- the total's
-abbrev pub gamma_cotail_width : (p : Fraction) (mean cells claims raised total : ℕ) → ℕ
-gamma_cotail_width p mean cells claims raised total =
-    share_width p mean cells (poisson_joint_width cells claims raised) total

@@ -18,8 +18,7 @@
 //! the quantile, its bracket has two ends, or that total may be rarer than 1/65,536 (`holds`,
 //! `width`, `none`, `absent`). The shares of all units of a plan without a common factor add up to
 //! the tail mean at every level (`law_shares`), and a unit's mean beside others is that of the unit
-//! alone (`law_unit_mean`). `cotail`, `poisson_cotail` and `gamma_cotail` are the same from grids
-//! and units that stand alone.
+//! alone (`law_unit_mean`).
 #![tactic(auto)]
 
 mod claims;
@@ -31,5 +30,4 @@ mod shares;
 mod source;
 mod sums;
 
-pub use shares::{cotail, gamma_cotail, poisson_cotail};
 pub use source::{Beside, OverClaims, ShareSource};

@@ -1,29 +1,23 @@
 //! Shares in a tail mean.
 
-ghost use Rattle.std.specs.Prelude.{◌≡◌, ◌↔◌, ◌⊎◌, ℕ, ◌-◌, ◌*◌, ◌/◌, ◌^◌, ◌<◌, ◌≤◌, List, ◌∷◌, length, get_or, Some, IsNone, IfSome};
+ghost use Rattle.std.specs.Prelude.{◌≡◌, ◌↔◌, ◌⊎◌, ℕ, ◌-◌, ◌*◌, ◌/◌, ◌^◌, ◌<◌, ◌≤◌, List, length, Some, IsNone, IfSome};
 ghost use Rattle.std.specs.Int.{div_ceil};
 ghost use Rattle.dl_limits.specs.Limits.{rarest_parts};
 ghost use Rattle.dl_exact.specs.Prelude.{Fraction, whole, ◌over◌, ◌-ℚ◌, ◌<ℚ◌, sum_to};
 ghost use Rattle.dl_iv.specs.Enclosure.{LiesIn};
-ghost use Rattle.dl_grid.specs.Prelude.{low_at, spread, up};
-ghost use Rattle.dl_plan.specs.declared.plan.Unit.{Unit as UnitOfPlan};
-ghost use Rattle.dl_plan.specs.Prelude.{thinned_mean, IsValidUnit, CanShare};
-ghost use Rattle.dl_model.specs.Prelude.{Holds, Loss, AreDeclarable, One, Point, Joint, partial_sums, total as total_of, GridEncloses, unit_of, without, IsQuantile, AreDeclared, HoldsShare, unit_mean, loss_of};
+ghost use Rattle.dl_grid.specs.Cells.{low_at, spread};
+ghost use Rattle.dl_model.specs.Prelude.{Holds, Loss, AreDeclarable, One, Point, Joint, partial_sums, total as total_of, GridEncloses, IsQuantile, AreDeclared, HoldsShare, unit_mean};
 ghost use Rattle.dl_measures.specs.Prelude.{IsFirstFound, low_cdf};
-ghost use Rattle.dl_common.specs.Extra.{CanRaise, IsExtra};
 ghost use Rattle.dl_cotail.specs.Settled.{IsPast, IsOpen, IsRare, IsSettled, MayBeAbsent};
-ghost use Rattle.dl_cotail.specs.Widths.{conditional_width, share_width, cotail_width, poisson_cotail_width, gamma_cotail_width};
+ghost use Rattle.dl_cotail.specs.Widths.{conditional_width, share_width};
 
-use crate::claims::{claims_joint, claims_sums};
 use crate::settled::common_quantile;
 use crate::source::ShareSource;
-use crate::sums::joint_sums;
-use dl_alloc::{conditional_mean, joint_mean};
+use dl_alloc::conditional_mean;
 use dl_frac::Frac;
-use dl_grid::{Grid, units_of_one};
+use dl_grid::units_of_one;
 use dl_iv::Iv;
 use dl_measures::Distribution;
-use dl_plan::Unit;
 
 /// The conditional mean of a unit at the total `q`, in buckets, from its joint mean there: at most
 /// `q`, since the unit's outcome is not above the total.
@@ -142,152 +136,4 @@ impl<'a, const B: u32> ShareSource<'a, B> {
         let below = self.joints_to(q);
         Some(tail_share_at(total, mean, joint, below, q, p))
     }
-}
-
-/// The share of one unit in the tail mean at `p`, in buckets. Of the greatest totals, whose
-/// probability is `1 - p`, it is the mean of the unit's outcome: what of its mean lies above the
-/// quantile, and its conditional mean at the quantile times what the distribution has there above
-/// `p`, over `1 - p`.
-///
-/// `unit` is the grid of that unit, `others` that of all other units together, `total` that of the
-/// total, and `mean` is to hold the unit's mean. `p` is below 1, with parts of at most 10,000. None
-/// exactly where the grid ends before the quantile, the bracket of the quantile has two ends, or
-/// its probability may be below one in `rarest_parts`.
-pub fn cotail<const B: u32>(
-    unit: &Grid<B>,
-    others: &Grid<B>,
-    total: &Distribution<B>,
-    mean: Iv<B>,
-    p: Frac,
-) -> Option<Iv<B>>
-    requires below_one { p <ℚ whole 1 }
-    requires small { p.den ≤ 10000 }
-    requires others_cells { length others.now ≡ length unit.now }
-    requires total_cells { length total.now ≡ length unit.now }
-    requires unit_narrow { spread unit.now < 2 ^ B }
-    requires others_narrow { spread others.now < 2 ^ B }
-    requires total_narrow { spread total.now < 2 ^ B }
-    requires mean { mean.hi ≤ 2 ^ 97 }
-    ensures none { IsNone result
-        ↔ (IsPast total.now p ⊎ IsOpen total.now p ⊎ IsRare total.now p) }
-    ensures holds { (us : List Loss) (i : ℕ) → AreDeclared us → i < length us
-        → GridEncloses unit.now (unit_of us i) → GridEncloses others.now (total_of (without us i))
-        → GridEncloses total.now (total_of us)
-        → Holds (unit_mean us i) (partial_sums us One) (mean.entry.lo over 2 ^ B)
-        (mean.entry.hi over 2 ^ B)
-        → IfSome result (λ r. (q : ℕ) → IsQuantile (partial_sums us) q p
-        → HoldsShare (partial_sums us) i p q (r.lo over 2 ^ B) (r.hi over 2 ^ B)) }
-    ensures small { IfSome result (λ r. r.hi ≤ 2 ^ 112) }
-    // at a quantile inside the grid there is none only where the distribution is near p, or the
-    // quantile is rare
-    ensures absent { (us : List Loss) (x : ℕ) → AreDeclared us
-        → GridEncloses total.now (total_of us) → IsNone result
-        → IsFirstFound (low_cdf (2 ^ B) (low_at total.now)) p (length total.now) (Some x)
-        → MayBeAbsent (partial_sums us) (length total.now) p (spread total.now over 2 ^ B) }
-    // within the budget for spreads and means within theirs
-    ensures width { IfSome result (λ r. (m d o t : ℕ) → mean.entry.hi - mean.entry.lo ≤ m
-        → spread unit.now ≤ d → spread others.now ≤ o → spread total.now ≤ t
-        → r.hi - r.lo ≤ cotail_width p (2 ^ B) m (length unit.now) d o t) }
-{
-    let q = common_quantile(total, p)?;
-    let joint = joint_mean(unit, others, q);
-    let below = joint_sums(unit, others, q);
-    Some(tail_share_at(total, mean, joint, below, q, p))
-}
-
-/// The share of one Poisson unit in the tail mean at `p`, in buckets, beside independent units: as
-/// `cotail`, from the grid of the total alone. The sum of the other units is not needed.
-///
-/// `total` is the grid of the total, and `mean` is to hold the unit's mean. `p` is below 1, with
-/// parts of at most 10,000. None exactly where the grid ends before the quantile, the bracket of
-/// the quantile has two ends, or its probability may be below one in `rarest_parts`. Takes no
-/// memory.
-pub fn poisson_cotail<const B: u32>(
-    unit: &Unit,
-    total: &Distribution<B>,
-    mean: Iv<B>,
-    p: Frac,
-) -> Option<Iv<B>>
-    requires below_one { p <ℚ whole 1 }
-    requires small { p.den ≤ 10000 }
-    requires valid { (cells : ℕ) × IsValidUnit cells unit.now }
-    requires poisson { CanShare unit.now }
-    requires total_narrow { spread total.now < 2 ^ B }
-    requires mean { mean.hi ≤ 2 ^ 97 }
-    ensures none { IsNone result
-        ↔ (IsPast total.now p ⊎ IsOpen total.now p ⊎ IsRare total.now p) }
-    ensures holds { (us : List Loss) (i : ℕ) → AreDeclared us → i < length us
-        → get_or us i (loss_of unit.now) ≡ loss_of unit.now → GridEncloses total.now (total_of us)
-        → Holds (unit_mean us i) (partial_sums us One) (mean.entry.lo over 2 ^ B)
-        (mean.entry.hi over 2 ^ B)
-        → IfSome result (λ r. (q : ℕ) → IsQuantile (partial_sums us) q p
-        → HoldsShare (partial_sums us) i p q (r.lo over 2 ^ B) (r.hi over 2 ^ B)) }
-    ensures small { IfSome result (λ r. r.hi ≤ 2 ^ 112) }
-    // at a quantile inside the grid there is none only where the distribution is near p, or the
-    // quantile is rare
-    ensures absent { (us : List Loss) (x : ℕ) → AreDeclared us
-        → GridEncloses total.now (total_of us) → IsNone result
-        → IsFirstFound (low_cdf (2 ^ B) (low_at total.now)) p (length total.now) (Some x)
-        → MayBeAbsent (partial_sums us) (length total.now) p (spread total.now over 2 ^ B) }
-    // within the budget for spreads and means within theirs
-    ensures width { IfSome result (λ r. (m t : ℕ) → mean.entry.hi - mean.entry.lo ≤ m
-        → spread total.now ≤ t
-        → r.hi - r.lo ≤ poisson_cotail_width p m (length total.now) (up (thinned_mean unit.now)) t) }
-{
-    let q = common_quantile(total, p)?;
-    let joint = claims_joint(unit, total, q);
-    let below = claims_sums(unit, total, q);
-    Some(tail_share_at(total, mean, joint, below, q, p))
-}
-
-/// The share of one gamma unit in the tail mean at `p`, in buckets, beside independent units: as
-/// `cotail`, from the grid of the total and that of the total with the unit's extra claims,
-/// `dl_common::extra`, which are independent of all units. The sum of the other units is not
-/// needed.
-///
-/// `raised` is the grid of the total with the extra claims, on as many cells as `total`, the grid
-/// of the total, and `mean` is to hold the unit's mean. `p` is below 1, with parts of at most
-/// 10,000. None exactly where `total` ends before the quantile, the bracket of the quantile has two
-/// ends, or its probability may be below one in `rarest_parts`. Takes no memory.
-pub fn gamma_cotail<const B: u32>(
-    unit: &Unit,
-    raised: &Distribution<B>,
-    total: &Distribution<B>,
-    mean: Iv<B>,
-    p: Frac,
-) -> Option<Iv<B>>
-    requires below_one { p <ℚ whole 1 }
-    requires small { p.den ≤ 10000 }
-    requires valid { (cells : ℕ) × IsValidUnit cells unit.now }
-    requires gamma { CanRaise unit.now }
-    requires cells { length raised.now ≡ length total.now }
-    requires raised_narrow { spread raised.now < 2 ^ B }
-    requires total_narrow { spread total.now < 2 ^ B }
-    requires mean { mean.hi ≤ 2 ^ 97 }
-    ensures none { IsNone result
-        ↔ (IsPast total.now p ⊎ IsOpen total.now p ⊎ IsRare total.now p) }
-    ensures holds { (us : List Loss) (i : ℕ) (extra : UnitOfPlan) → AreDeclared us → i < length us
-        → get_or us i (loss_of unit.now) ≡ loss_of unit.now → IsExtra unit.now extra
-        → GridEncloses raised.now (total_of (loss_of extra ∷ us))
-        → GridEncloses total.now (total_of us)
-        → Holds (unit_mean us i) (partial_sums us One) (mean.entry.lo over 2 ^ B)
-        (mean.entry.hi over 2 ^ B)
-        → IfSome result (λ r. (q : ℕ) → IsQuantile (partial_sums us) q p
-        → HoldsShare (partial_sums us) i p q (r.lo over 2 ^ B) (r.hi over 2 ^ B)) }
-    ensures small { IfSome result (λ r. r.hi ≤ 2 ^ 112) }
-    // at a quantile inside the grid there is none only where the distribution is near p, or the
-    // quantile is rare
-    ensures absent { (us : List Loss) (x : ℕ) → AreDeclared us
-        → GridEncloses total.now (total_of us) → IsNone result
-        → IsFirstFound (low_cdf (2 ^ B) (low_at total.now)) p (length total.now) (Some x)
-        → MayBeAbsent (partial_sums us) (length total.now) p (spread total.now over 2 ^ B) }
-    // within the budget for spreads and means within theirs
-    ensures width { IfSome result (λ r. (m s t : ℕ) → mean.entry.hi - mean.entry.lo ≤ m
-        → spread raised.now ≤ s → spread total.now ≤ t → r.hi - r.lo
-        ≤ gamma_cotail_width p m (length total.now) (up (thinned_mean unit.now)) s t) }
-{
-    let q = common_quantile(total, p)?;
-    let joint = claims_joint(unit, raised, q);
-    let below = claims_sums(unit, raised, q);
-    Some(tail_share_at(total, mean, joint, below, q, p))
 }

@@ -1,7 +1,6 @@
-use Rattle.dl_alloc.proofs.Common.{◌/◌, ◌^◌, ◌<◌, ◌∙◌, arith, refl, sym, subst, pow_pos, scale_of, are_units, low_at, high_at, low_weighted}
+use Rattle.dl_alloc.proofs.Common.{◌^◌, ◌<◌, ◌∙◌, arith, refl, sym, subst, scale_of, low_at, high_at}
 use Rattle.dl_alloc.proofs.Nested.{listed}
-use Rattle.dl_alloc.proofs.WeightedEnds.{sums_order, high_room, end_divisible, end_fits, end_top, joint_holds, joint_width}
-use Rattle.dl_alloc.proofs.Shares.{low_share}
+use Rattle.dl_alloc.proofs.WeightedEnds.{sums_order, high_room, end_divisible, end_fits, end_top, joint_width}
 use Rattle.dl_alloc.proofs.joint.joint_mean.Goals as goal
 
 pub weighted_sum-low-requires-clause-fits : goal.weighted_sum-low-requires-clause-fits
@@ -46,16 +45,10 @@ returns g c =
     ∙ listed _ _ (high_at unit) (high_at others) c.args.x c.highs.ensures.each c.highs-2.ensures.each in
     let top = end_top unit others c.args.x c.lows.ensures.grid c.lows-2.ensures.grid c.requires.unit_narrow
     c.requires.others_narrow in
-    let held = joint_holds unit others in
     rw (c.outward.ensures.low, c.outward.ensures.high, low, high) (record {
       low = refl;
       high = refl;
-      holds = λ us i units here e f. held us i c.args.x c.requires.in_unit c.requires.in_others units here e f;
       width = joint_width unit others c.args.x c.lows.ensures.grid c.lows-2.ensures.grid c.requires.in_unit;
-      below = λ us i h declared here e f at.
-          low_share us i c.args.x (low_weighted unit others c.args.x / 2 ^ g.row.B) h
-          (2 ^ g.row.B) declared (pow_pos g.row.B) (held us i c.args.x c.requires.in_unit c.requires.in_others
-          (are_units us declared) here e f).0 at;
       small = top;
       divisible = λ room. end_divisible (2 ^ g.row.B) c.args.x _ top room;
     })
