@@ -187,7 +187,7 @@ static void reads_unit(struct text *line, struct unit *unit) {
 /* The lines of the plan, up to the line ---. */
 static void reads_plan(struct text *text) {
     struct text line;
-    uint64_t log2;
+    uint64_t log2 = 0;
     if (!takes_line(text, &line) || !takes(&line, "log2 ") || !takes_number(&line, 2, &log2) || line.at != line.end)
         refuse("the first line is no log2");
     if (log2 < 1 || log2 > 10) refuse("log2 is not from 1 to 10");
