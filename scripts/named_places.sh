@@ -26,6 +26,11 @@ named() {
     sed 's/[^ ]*\*[^ ]*//g' $pages | grep -oE "(^|[^/[:alnum:]_.-])$1" | sed 's/^[^[:alnum:]]//' | sort -u
 }
 
+# has LIST NAME: whether the name stands in the list, between two blanks
+has() {
+    case $1 in *" $2 "*) ;; *) return 1 ;; esac
+}
+
 # some KIND NAMES: the names, and a failure where there are none
 some() {
     if [ -z "$2" ]; then
@@ -44,12 +49,14 @@ for place in $names; do
     is_there "$place" test -e "$place"
 done
 some law "$(grep -ohE '\blaw_[a-z_]+' $pages | sort -u)"
+laws=$(grep -rohE '\bfn law_[a-z_]+\(' crates/*/src --include=*.rt | sed 's/^fn \(.*\)($/ \1 /' | sort -u)
 for law in $names; do
-    is_there "$law" grep -rqE "fn $law\(" crates --include=*.rt
+    is_there "$law" has "$laws" "$law"
 done
 some definition "$(grep -ohE '`(Is|Are|Has|Holds|Declares)[A-Za-z]*' docs/DEFINITIONS.md docs/PROOFS.md | tr -d '`' | sort -u)"
+words=$(grep -rohE '\b(Is|Are|Has|Holds|Declares)[A-Za-z]*\b' crates/*/specs --include=*.antt | sort -u | sed 's/.*/ & /')
 for word in $names; do
-    is_there "$word" grep -rqE "\b$word\b" crates --include=*.antt --exclude-dir=out --exclude-dir=proofs
+    is_there "$word" has "$words" "$word"
 done
 some crate "$(sed -n 's/^\([a-z_]*\)[^:#]*:.*/\1/p' crates.txt)"
 for crate in $names; do
