@@ -37,13 +37,15 @@ import json, os, pathlib, sys, time
 files = sorted(str(it) for it in pathlib.Path(".").rglob("*") if it.is_file())
 rows = open("crates.txt").read().splitlines() if sys.argv[1] == "ci" else []
 said = {"words": sys.argv[1:], "place": os.path.basename(os.getcwd()), "files": files, "rows": rows, "given": sys.stdin.read()}
+if sys.argv[1] == "try":
+    said.update(texts=[open(it).read() for it in files], above=open("../../crates.txt").read().splitlines())
 pathlib.Path(os.environ["SAID"]).write_text(json.dumps(said))
 way = os.environ["WAY"]
 if way == "waits":
     time.sleep(60)
 if sys.argv[1] == "try":
     is_wrong = way == "fails"
-    print(f"test one ... {'FAILED' if is_wrong else 'ok'}", f"test result: {'FAILED' if is_wrong else 'ok'}. 3 passed; {int(is_wrong)} failed; 0 ignored", sep="\\n")
+    print(f"test low_tests::one ... {'FAILED' if is_wrong else 'ok'}", f"test result: {'FAILED' if is_wrong else 'ok'}. 3 passed; {int(is_wrong)} failed; 0 ignored", sep="\\n")
     sys.exit(is_wrong)
 for name in ("low", "side", "mid", "decl"):
     if sys.argv[1] == "run":
@@ -245,10 +247,25 @@ class Tests(Case):
             shutil.rmtree(self.tools)
             status, lines = self.ended(way, ".ci/test", "--quick")
             self.assertEqual((status, lines[-1]), (failed, f"10 passed, {failed} failed, 1 skipped"))
-            self.assertEqual((self.said()["words"][:2], self.said()["place"]), (["try", "--test"], "low_tests"))
-            self.assertEqual("test one ... FAILED" in lines, failed == 1)
+            self.assertEqual("test low_tests::one ... FAILED" in lines, failed == 1)
+            self.assertIn(f"rt try: low_tests: {1 - failed} passed, {failed} failed", lines)
             time = r"\d+ min \d+ s"
-            self.assertRegex(lines[-2], rf"\Art try: {time}; clients: {time}; both: {time}, {time} of processor time, on \d+ processors\Z")
+            parts = rf"rt try: {time}, {time} of processor time; clients: {time}, {time}"
+            self.assertRegex(lines[-2], rf"\A{parts}; both: {time}, {time}, on \d+ processors\Z")
+
+    def test_all_tests_are_in_one_crate(self):
+        self.clients("7 passed, 0 failed, 0 skipped")
+        self.put("crates/decl/out/decl", "").chmod(0o755)
+        self.put("crates/low_tests/src/lib.rt", "//! Tests.\n#![tactic(auto)]\n\n#[cfg(test)]\nmod tests;\n")
+        self.put("crates/low_tests/src/tests.rt", "mod deep;\n")
+        self.put("crates/low_tests/src/tests/deep.rt", "use crate::tests::deep;\n")
+        self.ended("well", ".ci/test", "--quick")
+        said = self.said()
+        self.assertEqual((said["words"][:2], said["place"]), (["try", "--test"], "decl_tests"))
+        self.assertEqual(said["files"], ["src/lib.rt", "src/low_tests.rt", "src/low_tests/tests.rt", "src/low_tests/tests/deep.rt"])
+        self.assertEqual(said["texts"][0].splitlines()[-2:], ["#[cfg(test)]", "mod low_tests;"])
+        self.assertEqual(said["texts"][1:], ["//! Tests.\n\n#[cfg(test)]\nmod tests;\n", "mod deep;\n", "use crate::low_tests::tests::deep;\n"])
+        self.assertEqual(said["above"], [*CRATES.splitlines()[:5], "apart:", "decl_tests: low"])
 
     def test_a_proof_that_fails_is_counted(self):
         self.clients("7 passed, 0 failed, 0 skipped")
