@@ -1,6 +1,5 @@
 //! Tests of whole calls.
 
-mod eval;
 mod helpers;
 mod hostile;
 mod limits;

@@ -1,5 +1,5 @@
-//! Tests of the numbers and grids: fractions, intervals, exponentials, grids, their convolutions
-//! and products, each public function on values that were worked outside the program.
+//! Tests of the numbers and grids, on values that were worked outside the program: intervals at
+//! three scales, and the ways to a product of grids, which no row of a report tells apart.
 #![tactic(auto)]
 
 #[cfg(test)]

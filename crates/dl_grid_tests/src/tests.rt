@@ -1,11 +1,6 @@
-//! Tests of fractions, intervals, grids, convolutions, transforms, products and the exponential.
+//! Tests of intervals, products of grids and transforms.
 
-mod conv;
-mod exp;
-mod frac;
-mod grid;
-mod helpers;
 mod iv;
-mod product;
+mod products;
 mod quotients;
 mod transform;

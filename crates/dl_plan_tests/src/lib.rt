@@ -1,4 +1,4 @@
-//! Plans and the steps of severities on values worked by hand: tests alone.
+//! The steps of severities on values worked by hand: tests alone.
 #![tactic(auto)]
 
 #[cfg(test)]

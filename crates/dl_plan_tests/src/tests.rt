@@ -1,5 +1,3 @@
-//! Tests of plans and severities.
+//! Tests of the steps of severities.
 
-mod helpers;
-mod plan;
 mod sev;

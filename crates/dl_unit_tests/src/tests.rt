@@ -1,4 +1,5 @@
-//! Tests of powers and of the two ways to a Poisson or gamma count.
+//! Tests of powers, of the two ways to a Poisson or gamma count, and of sums of units.
 
+mod port;
 mod power;
 mod unit;

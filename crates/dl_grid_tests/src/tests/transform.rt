@@ -2,7 +2,6 @@
 
 ghost use Rattle.std.specs.Prelude.{◌≡◌, ◌^◌, ◌<◌, All, length, IfOk};
 
-use crate::tests::helpers::is_so;
 use dl_transform::{Buffers, Cells, Setup, product, set_up};
 use std::alloc::{AllocError, Global};
 
@@ -237,20 +236,20 @@ const CASES: [Case; 17] = [
         low: None,
         high: None,
     },
-    // more sums than cells
 ];
 
 #[test]
-fn products_are_exact(rt: HostRuntime) {
+fn products_are_exact(rt: HostRuntime) -> Result<(), AllocError> {
     let alloc = rt.alloc();
     let mut buffers = Buffers::new(alloc);
     for case in &CASES {
         assert!(rt;
-            is_so(agrees(alloc, &mut buffers, case)),
+            agrees(alloc, &mut buffers, case)?,
             "{} levels",
             case.levels
         );
     }
+    Ok(())
 }
 
 /// Whether a list counts 1, 2, 3 and so on.
@@ -297,13 +296,11 @@ fn counts(alloc: Global, levels: u32, buffers: &mut Buffers) -> Result<bool, All
 }
 
 #[test]
-fn there_are_tables_at_every_level(rt: HostRuntime) {
+fn there_are_tables_at_every_level(rt: HostRuntime) -> Result<(), AllocError> {
     let alloc = rt.alloc();
     let mut buffers = Buffers::new(alloc);
     for levels in 1..18 {
-        assert!(rt;
-            is_so(counts(alloc, levels, &mut buffers)),
-            "{levels} levels"
-        );
+        assert!(rt; counts(alloc, levels, &mut buffers)?, "{levels} levels");
     }
+    Ok(())
 }

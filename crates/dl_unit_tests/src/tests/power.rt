@@ -1,7 +1,6 @@
 //! Sums of a fixed and of a listed number of claims, worked by whole numbers of any size.
 
-ghost use Rattle.std.specs.Prelude.{◌≡◌, ◌<◌, ◌≤◌, length, IfOk};
-ghost use Rattle.dl_plan.specs.Weighted.{weight_sum};
+ghost use Rattle.std.specs.Prelude.{◌≡◌, ◌≤◌, length, IfOk};
 
 use dl_grid::Grid;
 use dl_plan::Item;
@@ -37,14 +36,21 @@ const DIE: [Item; 6] = [
     },
 ];
 
-/// An amount of a list.
-fn item(amount: u32, weight: u32) -> Item
-    ensures is { result ≡ record { amount = amount; weight = weight } }
-    ensures amount { result.amount ≡ amount }
-    ensures weight { result.weight ≡ weight }
-{
-    Item { amount, weight }
-}
+/// None, one or two claims, each number as likely as the others.
+const COUNTS: [Item; 3] = [
+    Item {
+        amount: 0,
+        weight: 1,
+    },
+    Item {
+        amount: 1,
+        weight: 1,
+    },
+    Item {
+        amount: 2,
+        weight: 1,
+    },
+];
 
 /// The ends of the cells from 0 to 12, and the spread of the whole grid.
 struct Ends {
@@ -272,61 +278,32 @@ fn has<const B: u32>(grid: &Grid<B>, want: &Ends) -> bool {
         && grid.spread() == want.spread
 }
 
-/// The first `cells` cells of a die.
+/// A die on 13 cells.
 #[tactic(auto, using(dl_grid::proofs::Sizes::few_at_each_scale))]
-fn die<const B: u32>(alloc: Global, cells: u32) -> Result<Grid<B>, AllocError>
+fn die<const B: u32>(alloc: Global) -> Result<Grid<B>, AllocError>
     requires scale_above { 1 ≤ B }
     requires scale_below { B ≤ 56 }
-    requires some { 1 ≤ cells }
-    requires few { cells ≤ 1537 }
-    ensures { IfOk result (λ g. length g ≡ cells) }
+    ensures { IfOk result (λ g. length g ≡ 13) }
 {
-    claim_grid::<B>(alloc, &DIE, 6, cells)
+    claim_grid::<B>(alloc, &DIE, 6, 13)
 }
 
 /// The sum of so many dice.
-fn sum_of<const B: u32>(alloc: Global, dice: u32, cells: u32) -> Result<Grid<B>, AllocError>
+fn sum_of<const B: u32>(alloc: Global, dice: u32) -> Result<Grid<B>, AllocError>
     requires scale_above { 1 ≤ B }
     requires scale_below { B ≤ 56 }
-    requires some { 1 ≤ cells }
-    requires few { cells ≤ 1537 }
 {
-    let die = die::<B>(alloc, cells)?;
-    power(alloc, &mut Workspace::new(alloc), &die, dice, cells)
+    let die = die::<B>(alloc)?;
+    power(alloc, &mut Workspace::new(alloc), &die, dice, 13)
 }
 
-/// Whether the sum of so many dice has the ends that were worked out.
-fn is_sum<const B: u32>(alloc: Global, dice: u32, want: &Ends) -> Result<bool, AllocError>
+/// The sum of none, one or two dice.
+fn mixed<const B: u32>(alloc: Global) -> Result<Grid<B>, AllocError>
     requires scale_above { 1 ≤ B }
     requires scale_below { B ≤ 56 }
 {
-    let sum = sum_of::<B>(alloc, dice, 13)?;
-    Ok(has(&sum, want))
-}
-
-/// The sum of as many dice as a list says, each number with its weight out of `total`.
-fn mixed<const B: u32>(
-    alloc: Global,
-    counts: &[Item],
-    total: u32,
-    cells: u32,
-) -> Result<Grid<B>, AllocError>
-    requires scale_above { 1 ≤ B }
-    requires scale_below { B ≤ 56 }
-    requires some { 1 ≤ cells }
-    requires few { cells ≤ 1537 }
-    requires sum { weight_sum counts.now ≡ total }
-    requires positive { 0 < total }
-{
-    let die = die::<B>(alloc, cells)?;
-    mix_counts(
-        alloc,
-        &mut Workspace::new(alloc),
-        &die,
-        counts,
-        total,
-        cells,
-    )
+    let die = die::<B>(alloc)?;
+    mix_counts(alloc, &mut Workspace::new(alloc), &die, &COUNTS, 3, 13)
 }
 
 /// Whether the sums of dice are those that were worked out, at one scale.
@@ -334,10 +311,9 @@ fn agrees<const B: u32>(alloc: Global, want: &Sums) -> Result<bool, AllocError>
     requires scale_above { 1 ≤ B }
     requires scale_below { B ≤ 56 }
 {
-    let two = is_sum::<B>(alloc, 2, &want.two)?;
-    let three = is_sum::<B>(alloc, 3, &want.three)?;
-    let mixed = mixed::<B>(alloc, &[item(0, 1), item(1, 1), item(2, 1)], 3, 13)?;
-    Ok(two & three & has(&mixed, &want.mixed))
+    let two = has(&sum_of::<B>(alloc, 2)?, &want.two);
+    let three = has(&sum_of::<B>(alloc, 3)?, &want.three);
+    Ok(two && three && has(&mixed::<B>(alloc)?, &want.mixed))
 }
 
 #[test]
@@ -345,107 +321,5 @@ fn dice(rt: HostRuntime) -> Result<(), AllocError> {
     let alloc = rt.alloc();
     assert!(rt; agrees::<48>(alloc, &AT_48)?);
     assert!(rt; agrees::<56>(alloc, &AT_56)?);
-    Ok(())
-}
-
-/// A cell, and its probability in units rounded down and up.
-type Held = (u32, u128, u128);
-
-/// Whether the cells hold what was worked out.
-fn hold(sum: &Grid<56>, cells: &[Held]) -> bool {
-    for (x, floor, ceiling) in cells {
-        if *x >= sum.cells() || sum.at(*x).lo > *floor || *ceiling > sum.at(*x).hi {
-            return false;
-        }
-    }
-    true
-}
-
-/// Cells of none, three, four, five or eight dice, with the weights 1, 2, 1, 3 and 1, each with its
-/// probability in units of `1 / 2^56`, rounded down and up: worked out in fractions.
-const COUNTED: [Held; 7] = [
-    (0, 9007199254740992, 9007199254740992),
-    (3, 83399993099453, 83399993099454),
-    (9, 2717492676388215, 2717492676388216),
-    (14, 4151359070095257, 4151359070095258),
-    (20, 2702219838145723, 2702219838145724),
-    (31, 609669394000172, 609669394000173),
-    (48, 5362653877, 5362653878),
-];
-
-/// Whether the cells of counts that take two blocks hold what was worked out.
-fn are_held(alloc: Global) -> Result<bool, AllocError> {
-    let counts = [item(0, 1), item(3, 2), item(4, 1), item(5, 3), item(8, 1)];
-    let sum = mixed::<56>(alloc, &counts, 8, 49)?;
-    Ok(sum.cells() == 49 && sum.spread() <= 857 && hold(&sum, &COUNTED))
-}
-
-#[test]
-fn counts_in_blocks(rt: HostRuntime) -> Result<(), AllocError> {
-    assert!(rt; are_held(rt.alloc())?);
-    Ok(())
-}
-
-/// Cells of none, 16, 17, 100, 255 or 256 dice, with the weights 1, 2, 1, 2, 1 and 1, as above.
-const PAIRED: [Held; 9] = [
-    (0, 9007199254740992, 9007199254740992),
-    (16, 6385, 6386),
-    (56, 1490312180026016, 1490312180026017),
-    (60, 1387369306112766, 1387369306112767),
-    (350, 420142719040072, 420142719040073),
-    (700, 1776, 1777),
-    (890, 259427182031004, 259427182031005),
-    (1000, 145567011074, 145567011075),
-    (1100, 75, 76),
-];
-
-/// Whether the cells of counts that take 16 blocks of 17 counts, the first and the last of a block,
-/// and one alone in the last block, hold what was worked out, as closely as whole numbers of any
-/// size say of the same way.
-fn are_close(alloc: Global) -> Result<bool, AllocError> {
-    let counts = [
-        item(0, 1),
-        item(16, 2),
-        item(17, 1),
-        item(100, 2),
-        item(255, 1),
-        item(256, 1),
-    ];
-    let sum = mixed::<56>(alloc, &counts, 8, 1537)?;
-    Ok(sum.cells() == 1537 && sum.spread() == 6489 && hold(&sum, &PAIRED))
-}
-
-#[test]
-fn counts_by_halves(rt: HostRuntime) -> Result<(), AllocError> {
-    assert!(rt; are_close(rt.alloc())?);
-    Ok(())
-}
-
-/// Whether a sum of none, one of the two numbers of dice or the other, with the weights 1, 2 and 1,
-/// meets the mixture of the two powers in each cell past 0.
-fn meets(sum: &Grid<56>, few: &Grid<56>, many: &Grid<56>) -> bool {
-    let mut meets = sum.cells() == few.cells() && sum.cells() == many.cells();
-    for x in 1..601 {
-        if x < sum.cells() && x < few.cells() && x < many.cells() {
-            let cell = sum.at(x);
-            let (one, other) = (few.at(x), many.at(x));
-            meets = meets && 4 * cell.lo <= 2 * one.hi + other.hi;
-            meets = meets && 2 * one.lo + other.lo <= 4 * cell.hi;
-        }
-    }
-    meets
-}
-
-/// Whether that of 16 and 100 dice does.
-fn meets_powers(alloc: Global) -> Result<bool, AllocError> {
-    let sum = mixed::<56>(alloc, &[item(0, 1), item(16, 2), item(100, 1)], 4, 601)?;
-    let few = sum_of::<56>(alloc, 16, 601)?;
-    let many = sum_of::<56>(alloc, 100, 601)?;
-    Ok(meets(&sum, &few, &many))
-}
-
-#[test]
-fn counts_beside_powers(rt: HostRuntime) -> Result<(), AllocError> {
-    assert!(rt; meets_powers(rt.alloc())?);
     Ok(())
 }
