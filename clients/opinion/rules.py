@@ -146,14 +146,14 @@ class Part:
         """The severity before the occurrence clause."""
         merged = [severities.merge(*atom) for atom in self.atoms]
         found = severities.mix(merged, self.weights) if self.mixture.weights else merged[0]
-        found = severities.conditioned(self.exceeding, found) if self.exceeding else found
+        found = severities.above(self.exceeding, found) if self.exceeding else found
         return severities.cut(*self.in_layer(self.unit.layer), found) if self.unit.layer else found
 
     @cached_property
     def final_severity(self):
         """The severity after all steps."""
         clause = self.clause(self.unit.occurrence)
-        found = severities.ceded_each(clause, self.severity_in_layer) if clause else self.severity_in_layer
+        found = severities.cede_each(clause, self.severity_in_layer) if clause else self.severity_in_layer
         return {int(amount): chance for amount, chance in found.items()}
 
     @cached_property

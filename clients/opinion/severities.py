@@ -22,7 +22,7 @@ def mix(severities, weights):
     return merge(*zip(*parts))
 
 
-def conditioned(attachment, severity):
+def above(attachment, severity):
     """The severity given that it exceeds the attachment."""
     kept = {amount: chance for amount, chance in severity.items() if amount > attachment}
     whole = sum(kept.values())
@@ -51,7 +51,7 @@ def kept(clause, x):
     return ceded(cessions, x) if side == "ceded" else x - ceded(cessions, x)
 
 
-def ceded_each(clause, severity):
+def cede_each(clause, severity):
     """The severity after an occurrence clause."""
     return merge([int(kept(clause, amount)) for amount in severity], severity.values())
 

@@ -34,7 +34,7 @@ class Aggregate:
         severity, few = {amount // step: chance for amount, chance in self.severity.items()}, -(-cells // step)
         if kind in ("poisson", "gamma"):
             mean = numbers[0] * (1 - severity.get(0, 0))
-            found = getattr(sums, kind)(mean, *numbers[1:], severities.conditioned(0, severity), few) if mean else Cells([ONE], 0)
+            found = getattr(sums, kind)(mean, *numbers[1:], severities.above(0, severity), few) if mean else Cells([ONE], 0)
         else:
             found = getattr(sums, kind)(*numbers, severity, few)
         low = [0] * ((len(found.low) - 1) * step + 1)

@@ -1,5 +1,5 @@
 -- Cells that are read one after the other.
-use Rattle.dl_cert.proofs.Common.{ℕ, ◌≡◌, ◌+◌, ◌<◌, ◌≤◌, ◌∙◌, sym, ap, subst, arith, List, [], ◌∷◌, ◌++◌, length, drop, append-nil, append_assoc, length-append, length-drop, ◌≢◌, drop_all, Iv, AreCells, BeginsCell}
+use Rattle.dl_cert.proofs.Common.{ℕ, ◌≡◌, ◌+◌, ◌<◌, ◌≤◌, ◌∙◌, refl, sym, ap, subst, arith, List, [], ◌∷◌, ◌++◌, length, drop, append-nil, append_assoc, length-append, length-drop, ◌≢◌, drop_all, Iv, AreCells, BeginsCell}
 
 -- from a place of a text on the first n cells are these, and the text goes on behind them
 pub record ReadTo (text : List ℕ) (start from n : ℕ) (cells : List (Iv 56)) : Type 0 where
@@ -8,6 +8,14 @@ pub record ReadTo (text : List ℕ) (start from n : ℕ) (cells : List (Iv 56)) 
   pub spells : (more : List (Iv 56)) → AreCells (drop from text) more → AreCells (drop start text) (cells ++ more)
   pub only : (all : List (Iv 56)) → AreCells (drop start text) all → n ≤ length all
       → (more : List (Iv 56)) × (all ≡ cells ++ more) × AreCells (drop from text) more
+
+pub none_read : (text : List ℕ) (start : ℕ) → start ≤ length text → ReadTo text start start 0 []
+none_read text start within = record {
+  many = refl;
+  within = within;
+  spells = λ more are. are;
+  only = λ all are few. (all, refl, are);
+}
 
 pub one_read : {text : List ℕ} {start from next n : ℕ} {cells : List (Iv 56)} {cell : Iv 56}
     → ReadTo text start from n cells → BeginsCell (drop from text) cell (drop next text) → next ≤ length text

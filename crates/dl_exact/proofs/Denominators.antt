@@ -1,7 +1,8 @@
 -- Numbers over one denominator: as numbers of units, of which d make 1.
-use Rattle.dl_exact.proofs.Common.{◌≡◌, ℕ, ◌+◌, ◌-◌, ◌*◌, ◌<◌, ◌≤◌, arith, sym, ap, ◌∙◌, mul-pos, mul_comm, mul-le-mul_right, mul-sub, eq_of_mul-eq-mul_right, Fraction, whole, ◌over◌, ◌+ℚ◌, ◌-ℚ◌, ◌*ℚ◌, ◌≤ℚ◌, ◌<ℚ◌}
+use Rattle.dl_exact.proofs.Common.{◌≡◌, ℕ, ◌+◌, ◌-◌, ◌*◌, ◌/◌, ◌<◌, ◌≤◌, arith, sym, ap, subst, ◌∙◌, mul-pos, mul_comm, mul-le-mul_right, mul-sub, eq_of_mul-eq-mul_right, div_ceil, Fraction, whole, ◌over◌, ◌+ℚ◌, ◌-ℚ◌, ◌*ℚ◌, ◌≤ℚ◌, ◌<ℚ◌, IsFloor, IsCeiling}
 use Rattle.dl_exact.proofs.Over.{over_self, over_same, over_add, over_sub, over_mul, over_le, over_lt, le_over}
 use Rattle.dl_exact.proofs.Laws.{one_pos, le_of_eq}
+use Rattle.dl_exact.proofs.RoundingLaws.{floor_div, ceiling_div}
 
 pub over_le_over : (m n d : ℕ) → 0 < d → m ≤ n → m over d ≤ℚ n over d
 over_le_over m n d h p = over_le m d n d h h (mul-le-mul_right d p)
@@ -49,3 +50,12 @@ pub units_of : (s : ℕ) (x : Fraction) → (x.num * s) over x.den ≡ whole s *
 units_of s x =
     sym (ap (λ t. whole s *ℚ t) (sym (over_self x)) ∙ over_times s x.num x.den x.positive
     ∙ ap (λ n. n over x.den) (mul_comm s x.num))
+
+pub floor_units : (s : ℕ) (x : Fraction) → IsFloor (whole s *ℚ x) (x.num * s / x.den)
+floor_units s x =
+    subst (λ t. IsFloor t (x.num * s / x.den)) (units_of s x) (floor_div (x.num * s) x.den x.positive)
+
+pub ceiling_units : (s : ℕ) (x : Fraction) → IsCeiling (whole s *ℚ x) (div_ceil (x.num * s) x.den)
+ceiling_units s x =
+    subst (λ t. IsCeiling t (div_ceil (x.num * s) x.den)) (units_of s x)
+    (ceiling_div (x.num * s) x.den x.positive)

@@ -1,6 +1,8 @@
 -- The two parts of a fraction, and those of a number over another.
-use Rattle.dl_exact.proofs.Common.{◌≡◌, ℕ, ◌+◌, ◌*◌, ◌/◌, ◌<◌, ◌≤◌, arith, refl, sym, ap, subst, eq-one_of_dvd-one, gcd, Fraction, ◌over◌, whole, ◌+ℚ◌, ◌*ℚ◌, ◌<ℚ◌, ◌/ℚ◌}
-use Rattle.std.proofs.Common.{div-le_self}
+use Rattle.dl_exact.proofs.Common.{◌≡◌, ℕ, ◌+◌, ◌*◌, ◌/◌, ◌<◌, ◌≤◌, arith, refl, sym, ap, subst, ◌∙◌, eq-one_of_dvd-one, gcd, Fraction, ◌over◌, whole, ◌+ℚ◌, ◌*ℚ◌, ◌<ℚ◌, ◌/ℚ◌}
+use Rattle.std.proofs.Common.{div-le_self, Ordering, Less, Equal, Greater}
+use Rattle.std.specs.Ordering.{MatchOrdering, nat_cmp}
+use Rattle.std.proofs.lemmas.Cmp.{ranked}
 use Rattle.dl_exact.proofs.GcdLaws.{gcd_is, cut_left, cut_right, cut_pos}
 use Rattle.dl_exact.proofs.Over.{over_num, over_den, over_self, over_same, over_lt, lt_over}
 use Rattle.dl_exact.proofs.Laws.{one_pos}
@@ -61,3 +63,14 @@ product_is x y = refl
 pub quotient_is : (x y : Fraction) → (x.num * y.den) over (x.den * y.num) ≡ x /ℚ y
 unfolding ◌/ℚ◌
 quotient_is x y = refl
+
+-- the order of two fractions is that of the cross products
+pub by_cross : (x y : Fraction) (r : Ordering) → r ≡ nat_cmp (x.num * y.den) (y.num * x.den)
+    → MatchOrdering r (x <ℚ y) (x ≡ y) (y <ℚ x)
+unfolding ◌<ℚ◌
+by_cross x y Less e = ranked (x.num * y.den) (y.num * x.den) Less e
+by_cross x y Equal e =
+    sym (over_self x)
+    ∙ over_same _ _ _ _ x.positive y.positive (ranked (x.num * y.den) (y.num * x.den) Equal e)
+    ∙ over_self y
+by_cross x y Greater e = ranked (x.num * y.den) (y.num * x.den) Greater e

@@ -1,12 +1,14 @@
 //! The fractions and their arithmetic.
 
 ghost use Rattle.std.specs.Prelude.{◌≡◌, ℕ, ◌*◌, ◌<◌, ◌≤◌, ◌^◌, ◌↔◌};
+ghost use Rattle.std.specs.Ordering.{MatchOrdering};
 ghost use Rattle.dl_limits.specs.Limits.{frac_bound};
-ghost use Rattle.dl_exact.specs.Prelude.{gcd, Fraction, whole, ◌over◌, ◌+ℚ◌, ◌*ℚ◌, ◌/ℚ◌, ◌<ℚ◌};
+ghost use Rattle.dl_exact.specs.Prelude.{gcd, Fraction, whole, ◌over◌, ◌+ℚ◌, ◌*ℚ◌, ◌/ℚ◌, ◌<ℚ◌, IsFloor, IsCeiling};
 ghost use Rattle.dl_frac.specs.Exact.{Gives};
 
 use crate::divisors::{divisor, wide_divisor};
 use dl_limits::FRAC_BOUND;
+use std::cmp::Ordering;
 use std::marker::Model;
 use thiserror::Error;
 
@@ -102,6 +104,31 @@ impl Frac {
         ensures { Gives result (self /ℚ o) }
     {
         product(self.num, self.den, o.den, o.num)
+    }
+
+    /// The order of the two values.
+    pub fn compare(self, o: Frac) -> Ordering
+        ensures { MatchOrdering result (self <ℚ o) (self ≡ o) (o <ℚ self) }
+    {
+        let left = self.num as u128 * o.den as u128;
+        let right = o.num as u128 * self.den as u128;
+        left.cmp(&right)
+    }
+
+    /// The greatest whole number of units of 1 / 2^B that is not above the value.
+    pub fn floor_scaled<const B: u32>(self) -> u128
+        requires { B ≤ 56 }
+        ensures { IsFloor (whole (2 ^ B) *ℚ self) result }
+    {
+        self.num as u128 * (1u128 << B) / self.den as u128
+    }
+
+    /// The least whole number of units of 1 / 2^B that is not below the value.
+    pub fn ceil_scaled<const B: u32>(self) -> u128
+        requires { B ≤ 56 }
+        ensures { IsCeiling (whole (2 ^ B) *ℚ self) result }
+    {
+        (self.num as u128 * (1u128 << B)).div_ceil(self.den as u128)
     }
 }
 

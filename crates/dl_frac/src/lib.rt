@@ -3,9 +3,9 @@
 //! Nothing here takes memory.
 //!
 //! `Frac` is a fraction of 64-bit parts, always in lowest terms. `make`, `add`, `mul` and `div`
-//! give the exact result, or `TooFine` exactly where a part of it reaches 2^62; `lcm_to`
-//! is exact; `numeral` gives the value of a numeral, or `BadNumeral` exactly where it has too many
-//! digits or nothing below the line.
+//! give the exact result, or `TooFine` exactly where a part of it reaches 2^62; `compare`,
+//! `floor_scaled`, `ceil_scaled` and `lcm_to` are exact; `numeral` gives the value of a numeral, or
+//! `BadNumeral` exactly where it has too many digits or nothing below the line.
 #![tactic(auto)]
 
 mod arithmetic;

@@ -1,5 +1,5 @@
 -- What the ends of a list of cells are at one place, and how large they can be.
-use Rattle.dl_grid.proofs.Common.{ℕ, zero, suc, ◌≡◌, ◌-◌, ◌*◌, ◌^◌, ◌<◌, ◌≤◌, List, [], ◌∷◌, length, get_or, arith, refl, sym, ap, ◌∙◌, get_or-map, low_ends, high_ends, All, le_trans, mul-le-mul_right, pow-le-pow_right, Iv, low_at, high_at, IsGrid, IsGridSize}
+use Rattle.dl_grid.proofs.Common.{ℕ, zero, suc, ◌≡◌, ◌-◌, ◌*◌, ◌^◌, ◌<◌, ◌≤◌, List, [], ◌∷◌, length, get_or, take, arith, refl, sym, ap, ◌∙◌, get_or-map, low_ends, high_ends, All, le_trans, mul-le-mul_right, pow-le-pow_right, sum_by-le, sum_by-take-le, Iv, low_at, high_at, IsGrid, IsGridSize, sum_by}
 use Rattle.dl_grid.proofs.Room.{mass_fits}
 
 -- an end by its place in the list of ends
@@ -62,6 +62,15 @@ high_fits {B} cells x grid = omega (arith, high_le cells x (2 ^ B) grid.small, o
 -- the sum of a number of at most 1 for some of the cells
 pub cells_fit : {B : ℕ} (cells : List (Iv B)) (n : ℕ) → IsGrid cells → n ≤ length cells → n * 2 ^ B ≤ 2 ^ 70
 cells_fit {B} cells n grid inside = le_trans (mul-le-mul_right (2 ^ B) inside) (mass_fits (size_of cells grid))
+
+-- a sum of parts that are each at most 1
+pub sum_fits : {B : ℕ} (cells : List (Iv B)) (f : Iv B → ℕ) (n : ℕ) → IsGrid cells → ((cell : Iv B) → f cell ≤ cell.hi)
+    → sum_by f (take n cells) ≤ 2 ^ 70
+sum_fits {B} cells f n grid within =
+    let each : All (λ cell. f cell ≤ 2 ^ B) cells = λ k d h.
+    omega (arith, within (get_or cells k d), grid.small k d h) in
+    let whole : sum_by f cells ≤ length cells * 2 ^ B = sum_by-le f (2 ^ B) cells each in
+    omega (arith, sum_by-take-le f cells n, whole, mass_fits (size_of cells grid))
 
 pub width_within : {B : ℕ} (cell : Iv B) → cell.hi - cell.lo ≤ cell.hi
 width_within cell = omega arith

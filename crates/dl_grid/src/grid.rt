@@ -1,6 +1,6 @@
 //! Grids: an interval for each number of buckets.
 
-ghost use Rattle.std.specs.Prelude.{◌≡◌, ℕ, ◌+◌, ◌-◌, ◌^◌, ◌<◌, ◌≤◌, min, length, take, get_or, slice_set, sum, All, IfOk};
+ghost use Rattle.std.specs.Prelude.{◌≡◌, ℕ, ◌+◌, ◌-◌, ◌^◌, ◌<◌, ◌≤◌, min, length, take, get_or, slice_set, sum, All, IfOk, true, false};
 ghost use Rattle.dl_limits.specs.Limits.{most_cell_end, most_ends};
 ghost use Rattle.dl_grid.specs.Cells.{low_at, high_at, low_ends, high_ends, mass_low, mass_high, spread, all_at_zero};
 ghost use Rattle.dl_grid.specs.Cells.{IsGrid, AreEnds};
@@ -178,5 +178,23 @@ impl<const B: u32> Grid<B> {
     {
         self.lows[x as usize] = v.lo;
         self.highs[x as usize] = v.hi;
+    }
+
+    /// Writes one cell where the grid stays one, and leaves the others as they are; whether it did.
+    pub fn try_set(&mut self, x: u32, v: Iv<B>) -> bool
+        ensures written { result ≡ true → self.new ≡ slice_set self.old x v.entry }
+        ensures left { result ≡ false → self.new ≡ self.old }
+        ensures room { x < length self.old → v.entry.hi ≤ 2 ^ B
+            → mass_low self.old - low_at self.old x + v.entry.lo ≤ 2 ^ B → result ≡ true }
+    {
+        let one = units_of_one(B);
+        if x >= self.cells() || v.hi > one {
+            return false;
+        }
+        if self.mass_low().saturating_sub(self.at(x).lo) + v.lo > one {
+            return false;
+        }
+        self.set(x, v);
+        true
     }
 }

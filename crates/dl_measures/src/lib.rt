@@ -23,6 +23,6 @@ mod quantiles;
 mod tails;
 
 pub use distribution::Distribution;
-pub use layers::layer_mean;
+pub use layers::{grid_layer_mean, layer_mean};
 pub use quantiles::{Bracket, quantile};
 pub use tails::tail_mean;

@@ -7,9 +7,9 @@
 //! the outcomes of a loss make up its whole weight. Of a valid plan these are the losses of its
 //! units, `aggregates_of plan`, by `dl_model::plans::law_declared`.
 //!
-//! `total_with` and `others_with` enclose the sum of units whose grids enclose them, and of all but
-//! one (`encloses`, `spread`); `total_and_others` gives the same, as narrow, from sums that they
-//! share, and `sums_of_one` for one unit alone (`IsTotal`, `AreSumsWithout`).
+//! `total` and `others` enclose the sum of units whose grids enclose them, and of all but one
+//! (`encloses`, `spread`); `total_and_others` gives the same, as narrow, from sums that they share,
+//! and `sums_of_one` for one unit alone (`IsTotal`, `AreSumsWithout`).
 #![tactic(auto)]
 
 mod only;
@@ -129,9 +129,27 @@ fn all_units<const B: u32>(
 }
 
 /// The first `cells` cells of the sum of all units. There is at least one unit, and each grid has
-/// at least these cells. The first units that have one grid are added up by squaring; where these
-/// are not several, the units are added up the shortest first. Where that comes out wider than it
-/// may be when the units are taken in one by one, they are taken in one by one.
+/// at least these cells.
+pub fn total<const B: u32>(
+    alloc: Global,
+    units: &[Grid<B>],
+    cells: u32,
+) -> Result<Grid<B>, AllocError>
+    requires units { 1 ≤ length units.now }
+    requires some { 1 ≤ cells }
+    requires in_each { All (λ g. cells ≤ length g) units.now }
+    ensures cells { IfOk result (λ g. length g ≡ cells) }
+    ensures encloses { IfOk result (λ g. (us : List Loss) → AreDeclarable us
+        → EncloseEach units.now us → GridEncloses g (total us)) }
+    ensures spread { IfOk result (λ g. spread g ≤ sum_spread (2 ^ B) cells (map spread units.now)) }
+{
+    total_with(alloc, &mut Workspace::new(alloc), units, cells)
+}
+
+/// The same sum, by products in a workspace that is lent. The first units that have one grid are
+/// added up by squaring; where these are not several, the units are added up the shortest first.
+/// Where that comes out wider than it may be when the units are taken in one by one, they are taken
+/// in one by one.
 pub fn total_with<const B: u32>(
     alloc: Global,
     work: &mut Workspace,
@@ -157,8 +175,27 @@ pub fn total_with<const B: u32>(
 }
 
 /// The first `cells` cells of the sum of all units but unit `i`, counted from 0. Where there is no
-/// other unit, it is the sum that is surely 0. Each grid has at least these cells. The units are
-/// taken in one by one, in order.
+/// other unit, it is the sum that is surely 0. Each grid has at least these cells.
+pub fn others<const B: u32>(
+    alloc: Global,
+    units: &[Grid<B>],
+    i: u32,
+    cells: u32,
+) -> Result<Grid<B>, AllocError>
+    requires unit { i < length units.now }
+    requires some { 1 ≤ cells }
+    requires in_each { All (λ g. cells ≤ length g) units.now }
+    ensures cells { IfOk result (λ g. length g ≡ cells) }
+    ensures encloses { IfOk result (λ g. (us : List Loss) → AreDeclarable us
+        → EncloseEach units.now us → GridEncloses g (total (without us i))) }
+    ensures spread { IfOk result (λ g. spread g ≤ sum_spread (2 ^ B) cells
+        (map spread (remove units.now i))) }
+{
+    others_with(alloc, &mut Workspace::new(alloc), units, i, cells)
+}
+
+/// The same sum, by products in a workspace that is lent: the units are taken in one by one, in
+/// order.
 pub fn others_with<const B: u32>(
     alloc: Global,
     work: &mut Workspace,

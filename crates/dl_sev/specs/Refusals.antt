@@ -1,11 +1,27 @@
 -- When each step is refused.
-use Rattle.std.specs.Prelude.{⊤, List, map}
+use Rattle.std.specs.Prelude.{ℕ, ◌≤◌, ⊤, List, map, All, Any}
+use Rattle.dl_plan.specs.declared.item.Item.{Item}
 use Rattle.dl_plan.specs.declared.severity.Sev.{Sev}
-use Rattle.dl_plan.specs.Prelude.{IsFineTo30Bits}
+use Rattle.dl_plan.specs.Prelude.{IsFineTo30Bits, IsWhole, Clause, kept}
 use Rattle.dl_sev.specs.declared.weights.Weights.{Weights}
 use Rattle.dl_sev.specs.Steps.{mixture}
 use Rattle.dl_sev.specs.declared.fault.MixFault.{MixFault}
 use Rattle.dl_sev.specs.declared.fault.MixFault.TheVariants as mix_fault
+use Rattle.dl_sev.specs.declared.fault.AboveFault.{AboveFault}
+use Rattle.dl_sev.specs.declared.fault.AboveFault.TheVariants as above_fault
+use Rattle.dl_sev.specs.declared.fault.CedeFault.{CedeFault}
+use Rattle.dl_sev.specs.declared.fault.CedeFault.TheVariants as cede_fault
+
+-- no amount exceeds the attachment
+abbrev pub RefusesAbove : Sev → ℕ → AboveFault → Type 0
+RefusesAbove sev attach above_fault.NoneAbove = All (λ item. item.amount ≤ attach) sev.items
+RefusesAbove sev attach above_fault.OutOfMemory = ⊤
+
+-- the clause maps an amount to no whole number
+abbrev pub RefusesClause : List Item → Clause → CedeFault → Type 0
+RefusesClause items clause cede_fault.OffGrid =
+    Any (λ item. ¬ IsWhole (kept clause item.amount)) items
+RefusesClause items clause cede_fault.OutOfMemory = ⊤
 
 -- the products of a weight and an atom's probability have a common denominator above 2^30
 abbrev pub RefusesMixture : List Sev → Weights → MixFault → Type 0

@@ -3,6 +3,50 @@
 use std::alloc::AllocError;
 use thiserror::Error;
 
+/// Why a severity was not conditioned.
+#[derive(Clone, Copy, Debug, PartialEq, Eq, Error)]
+pub enum AboveFault {
+    /// No amount exceeds the attachment.
+    #[error("no amount exceeds the attachment")]
+    NoneAbove,
+    /// The items found no room.
+    #[error("out of memory")]
+    OutOfMemory,
+}
+
+impl From<AllocError> for AboveFault {
+    ghost use Rattle.dl_sev.specs.declared.fault.AboveFault.TheVariants.{OutOfMemory};
+    ghost use Rattle.std.specs.Prelude.{◌≡◌};
+
+    ghost from_gives = { λ _ fault. fault ≡ OutOfMemory };
+
+    fn from(_error: AllocError) -> AboveFault {
+        AboveFault::OutOfMemory
+    }
+}
+
+/// Why a clause did not map each amount.
+#[derive(Clone, Copy, Debug, PartialEq, Eq, Error)]
+pub enum CedeFault {
+    /// An amount is mapped to no whole number of buckets.
+    #[error("an amount is mapped to no whole number of buckets")]
+    OffGrid,
+    /// The items found no room.
+    #[error("out of memory")]
+    OutOfMemory,
+}
+
+impl From<AllocError> for CedeFault {
+    ghost use Rattle.dl_sev.specs.declared.fault.CedeFault.TheVariants.{OutOfMemory};
+    ghost use Rattle.std.specs.Prelude.{◌≡◌};
+
+    ghost from_gives = { λ _ fault. fault ≡ OutOfMemory };
+
+    fn from(_error: AllocError) -> CedeFault {
+        CedeFault::OutOfMemory
+    }
+}
+
 /// Why probabilities have no whole weights.
 #[derive(Clone, Copy, Debug, PartialEq, Eq, Error)]
 pub enum WeighFault {
@@ -47,6 +91,31 @@ impl From<AllocError> for MixFault {
 
     fn from(_error: AllocError) -> MixFault {
         MixFault::OutOfMemory
+    }
+}
+
+/// Why values are no amounts.
+#[derive(Clone, Copy, Debug, PartialEq, Eq, Error)]
+pub enum AmountFault {
+    /// The value at this place is no whole number of buckets.
+    #[error("value {0} is no whole number of buckets")]
+    OffGrid(u32),
+    /// The value at this place passes the greatest amount.
+    #[error("value {0} passes the greatest amount")]
+    TooFar(u32),
+    /// The items found no room.
+    #[error("out of memory")]
+    OutOfMemory,
+}
+
+impl From<AllocError> for AmountFault {
+    ghost use Rattle.dl_sev.specs.declared.fault.AmountFault.TheVariants.{OutOfMemory};
+    ghost use Rattle.std.specs.Prelude.{◌≡◌};
+
+    ghost from_gives = { λ _ fault. fault ≡ OutOfMemory };
+
+    fn from(_error: AllocError) -> AmountFault {
+        AmountFault::OutOfMemory
     }
 }
 

@@ -1,12 +1,13 @@
 //! The steps of a severity, from the lists of a program to the amounts and whole weights of a plan:
-//! the values of a list, whole weights, the mixture, the layer and the occurrence clause. Each is
-//! exact, or refused.
+//! the values of a list, whole buckets, whole weights, the mixture, the conditioning on exceeding
+//! an attachment, the layer and the occurrence clause. Each is exact, or refused.
 //!
-//! `expand`, `weigh`, `merge`, `mix`, `cut`, `cede_whole`, `fits` and `mean` are exact, and each
-//! refusal comes exactly where its definition says.
+//! `expand`, `amounts`, `weigh`, `merge`, `mix`, `above`, `cut`, `cede_each`, `fits` and `mean` are
+//! exact, and each refusal comes exactly where its definition says.
 #![tactic(auto)]
 
 mod atoms;
+mod buckets;
 mod expand_list;
 mod fault;
 mod gather;
@@ -20,11 +21,12 @@ mod weighing;
 mod weights;
 
 pub use atoms::{merge, mix};
+pub use buckets::amounts;
 pub use expand_list::expand;
-pub use fault::{ExpandFault, MixFault, WeighFault};
+pub use fault::{AboveFault, AmountFault, CedeFault, ExpandFault, MixFault, WeighFault};
 pub use kept_whole::cede_whole;
 pub use lattice::fits;
-pub use layers::{cut, cut_amount};
+pub use layers::{above, cede_each, cut, cut_amount};
 pub use means::mean;
 pub use range::Range;
 pub use weighing::weigh;
