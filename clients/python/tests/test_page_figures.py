@@ -220,6 +220,17 @@ class Sides(Figures):
         self.holds(cells, "mean", {"gross": 100, "ceded": 10, "net": 90})
         self.assertTrue(page.programs["ceded"].text.startswith("port C common 0.5\nagg A"))
 
+    def test_units_that_differ_in_what_is_declared(self):
+        """One unit whose ceded side no program declares and one whose net side none does: means add up, and VaR and TVaR are gross alone."""
+        one = "agg A dfreq [1] dsev [40 80] occurrence net of 0.5 so inf xs 40 aggregate net of 20 xs 20"
+        other = "agg B dfreq [1] dsev [10 50] occurrence ceded to 40 xs 10 aggregate ceded to 20 xs 0"
+        page, cells = self.sides(f"port Two\n{one}\n{other}", [4])
+        self.holds(cells, "mean of A", {"gross": 60, "net": 30, "ceded": 30})
+        self.holds(cells, "mean of B", {"gross": 30, "net": 20, "ceded": 10})
+        self.holds(cells, "mean", {"gross": 90, "net": 50, "ceded": 40})
+        self.assertEqual([cells["VaR 4 years", side].shown for side in ("ceded", "net")], ["not declared"] * 2)
+        self.assertIn("All else on this page is what the program itself declares.", page.told)
+
     def test_none(self):
         """A program without clauses has no such table; nor have pooled lines, whose clauses are in their amounts."""
         self.assertFalse(Page(decl.Book(example("dice")).page([10])).of("Gross, ceded and net"))
@@ -234,15 +245,16 @@ class OfTwoPrograms(Figures):
 
     def held(self, page):
         """The figures of the page are those of calls of the two programs."""
-        self.assertEqual(list(page.programs), ["below", "above"])
-        cells = [cell for cell in page.cells if cell.ask.split(":")[0] not in OWN]
-        for cell in cells:
+        self.assertEqual(list(page.programs)[:2], ["below", "above"])
+        for cell in page.cells:
             unit = cell.line[len("mean of ") :] if cell.line.startswith("mean of ") else ""
-            below, above = (page.programs[name].alone(unit) if unit else page.programs[name] for name in ("below", "above"))
+            names = [f"{cell.book}, {end}" if cell.book else end for end in ("below", "above")]
+            if not cell.ask or cell.ask.split(":")[0] in OWN or names[0] not in page.programs or (cell.book and unit):
+                continue
+            below, above = (page.programs[name].alone(unit) if unit else page.programs[name] for name in names)
             first, last = (above, below) if cell.ask.startswith("cdf:") else (below, above)
-            if cell.ask:
-                self.assertEqual(cell.ends[0], asked(first, [cell.ask])[cell.ask][0], cell)
-                self.assertTrue(cell.ends[1] is None or cell.ends[1] == asked(last, [cell.ask])[cell.ask][1], cell)
+            self.assertEqual(cell.ends[0], asked(first, [cell.ask])[cell.ask][0], cell)
+            self.assertTrue(cell.ends[1] is None or cell.ends[1] == asked(last, [cell.ask])[cell.ask][1], cell)
         self.rounded_outward(page)
 
     def test_a_coarser_bucket(self):
@@ -265,6 +277,26 @@ class OfTwoPrograms(Figures):
         page = Page(decl.between("agg C 3 claims 500 xs 0 sev lognorm 50 cv 1.75 poisson", 10).page([10, 100]))
         self.held(page)
         self.assertNotIn("or more", "".join(cell.shown for cell in page.cells))
+
+    def test_gross_ceded_and_net(self):
+        """Of a claim of 10 or 37 half of what lies above 20 is ceded, and nothing of two dice, on buckets of 2; and of lognormal claims 100 xs 100."""
+        text = "port T agg A dfreq [1] dsev [10 37] # half of 17\n occurrence net of 0.5 so inf xs 20 agg B dfreq [2] dsev [1:6]"
+        page = Page(decl.coarser(text, 2).page([2, 10]))
+        self.held(page)
+        self.assertEqual(len(page.programs), 8)
+        cells = page.of("Gross, ceded and net")
+        for line, values in (("mean of A", (23.5, 4.25, 19.25)), ("mean of B", (7, 0, 7)), ("mean", (30.5, 4.25, 26.25))):
+            for side, value in zip(("gross", "ceded", "net"), values):
+                low, high = cells[line, side].ends
+                self.assertTrue(low <= Fraction(value) <= high < low + 5, (line, side))
+        for clause in ("occurrence net of 100 xs 100", "occurrence ceded to 100xs  100"):
+            page = Page(decl.between(f"agg C 1 claims sev lognorm 50 cv 1.75 {clause} poisson", 10, log2=8).page([10]))
+            self.held(page)
+            cells = page.of("Gross, ceded and net")
+            gross, ceded, net = (cells["VaR 10 years", side].ends for side in ("gross", "ceded", "net"))
+            self.assertTrue(ceded[1] <= gross[1] and net[1] <= gross[1])
+            self.assertIn(f"All else on this page is {'net' if 'net' in clause else 'ceded'}.", page.told)
+            self.assertTrue(cells["mean", "gross"].shown.endswith("or more") and " to " in cells["mean", "ceded"].shown)
 
     def test_claims_without_a_limit(self):
         """What rests on claims of any size has no high end, and a sentence says why."""

@@ -207,10 +207,10 @@ class Pages(Case):
         self.assertIn("2 years, 5 years: The quantile is not sure to be one total", told)
 
     def test_shares_that_take_too_many_joint_means(self):
-        """Ten thousand buckets up to the VaR: 20,002 joint means for two units."""
-        book = decl.Book("port P agg A dfreq [1] dsev [1 10000] [0.5 0.5] agg B dfreq [1] dsev [0]")
+        """65,000 buckets up to the VaR: 130,002 joint means for two units."""
+        book = decl.Book("port P agg A dfreq [1] dsev [1 65000] [0.5 0.5] agg B dfreq [1] dsev [0]")
         drawn = areas.told_of_tail(areas_of_tail(book, [Fraction(10), Fraction(20000)]))
-        self.assertEqual(drawn[-1], "No share is drawn at 20,000 years: more than 20,000 joint means would have to be added up.")
+        self.assertEqual(drawn[-1], "No share is drawn at 20,000 years: more than 120,000 joint means would have to be added up.")
 
     def test_shares_at_a_rare_total(self):
         """Each of 90,000 totals is equally likely, and so too rare for shares of the program. In the worst 10/11 of the years the total is above

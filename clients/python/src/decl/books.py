@@ -325,6 +325,20 @@ class Book:
             self._finer[digits] = Book(self.text, bs=self.bs, log2=self.log2, digits=digits, timeout=self.timeout)
         return self._finer[digits]
 
+    def _declared(self) -> str:
+        """The program as its sides are made of it."""
+        return self.spelling
+
+    def _of_text(self, text: str) -> "Book":
+        """The book of another program, on a bucket and a grid that are chosen for it."""
+        return self._at_least(text, None)
+
+    def _mean_of_text(self, text: str) -> Row:
+        """The mean of another program, which is the same on every grid: on the least one that takes it."""
+        size = bucket(text, timeout=self.timeout)
+        log2 = least_grid(text, bs=size, timeout=self.timeout)
+        return Book(text, bs=size, log2=log2, digits=self.digits, timeout=self.timeout).mean()
+
     def _at_least(self, text: str, reach: Optional[Fraction]) -> "Book":
         """The book of another program, with the same digits; on a grid that goes past `reach`, in money, where one does, else on one that
         is chosen."""

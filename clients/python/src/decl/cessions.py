@@ -8,10 +8,9 @@ year: its mean is the gross mean less the net one. Where the occurrence clause c
 import re
 from dataclasses import dataclass, replace
 from fractions import Fraction
-from typing import TYPE_CHECKING, Dict, List, Mapping, Optional, Sequence
+from typing import TYPE_CHECKING, Dict, List, Mapping, Optional, Sequence, Union
 
 from .areas import amount_of
-from .choose import NOTE, bucket, least_grid
 from .faults import NoMoments
 from .figures import decimals
 from .moments import of_count
@@ -21,9 +20,16 @@ from .tables import Cell, Table
 
 if TYPE_CHECKING:
     from .books import Book
+    from .coarse import Between
 
-CESSION = r"(?:\S+ (?:so|po) )?\S+ xs \S+"
-CLAUSE = re.compile(rf" (occurrence|aggregate) (net of|ceded to) {CESSION}(?: and {CESSION})*")
+    Asked = Union[Book, Between]
+
+#: Notes and comments, and what stands before each unit.
+ASIDE = re.compile(r"note\{[^{}]*\}|#[^\n]*")
+UNIT = re.compile(r"(?<![\w.-])(?=agg\s)")
+NUMERAL = r"(?:\d+/\d+|(?:\d+\.?\d*|\.\d+)%?)"
+CESSION = rf"(?:{NUMERAL}\s*(?:so|po)\s*)?(?:inf|{NUMERAL})\s*xs\s*{NUMERAL}"
+CLAUSE = re.compile(rf"\s*(?<![\w.-])(occurrence|aggregate)\s+(net of|ceded to)\s+{CESSION}(?:\s*and\s*{CESSION})*")
 SIDES = ("gross", "ceded", "net")
 BEFORE = "before layers"
 Texts = Dict[str, Optional[str]]
@@ -48,10 +54,12 @@ def sides_of(line: str) -> Texts:
 
 
 def less(one: Row, other: Row) -> Row:
-    """Two ends of the difference of two means."""
-    low, high = Fraction(one.low or 0) - Fraction(other.high or 0), Fraction(one.high or 0) - Fraction(other.low or 0)
-    found = max(low, Fraction(0)), high
-    return Row("mean", *found, decimals(*found), True)
+    """Two ends of the difference of two means, which is at least 0; no high end where that of the first one is not there."""
+    low = Fraction(0) if other.high is None else max(Fraction(one.low or 0) - Fraction(other.high), Fraction(0))
+    if one.high is None:
+        return Row("mean", low, None, (decimals(low, low)[0], one.written[1]), True)
+    high = Fraction(one.high) - Fraction(other.low or 0)
+    return Row("mean", low, high, decimals(low, high), True)
 
 
 def exactly(value: Fraction) -> Row:
@@ -81,8 +89,8 @@ def takes(unit: Unit) -> bool:
 class Cessions:
     """The books of the sides of a program that a program declares, and the means of each unit on each side, by their names."""
 
-    book: "Book"
-    sides: Mapping[str, "Book"]
+    book: "Asked"
+    sides: "Mapping[str, Asked]"
     means: Mapping[str, Mapping[str, Row]]
 
     def line(self, name: str, rows: Mapping[str, Cell], columns: Sequence[str]) -> List[Cell]:
@@ -92,18 +100,27 @@ class Cessions:
     def total(self) -> Dict[str, Cell]:
         """The mean of the total on each side: of the one that no program declares as the gross mean less that of the other."""
         found = {side: book.mean() for side, book in self.sides.items()}
-        for side, other in (("ceded", "net"), ("net", "ceded")):
-            if side not in found and other in found:
-                found[side] = less(found["gross"], found[other])
-        return {**found}
+        return {**(with_differences(found) if len(found) > 1 else {**found, **self.added_up()})}
+
+    def added_up(self) -> Dict[str, Row]:
+        """The means of the total as sums of those of the units, where units differ in the side that no program declares."""
+        found = {}
+        for side in SIDES:
+            rows = [means[side] for means in self.means.values()]
+            low = sum((Fraction(row.low or 0) for row in rows), Fraction(0))
+            high = None if any(row.high is None for row in rows) else sum((Fraction(row.high or 0) for row in rows), Fraction(0))
+            words = decimals(low, low if high is None else high)
+            found[side] = Row("mean", low, high, (words[0], "beyond" if high is None else words[1]), True)
+        return found
 
     def table(self, years: Sequence[Fraction]) -> Table:
         """The means, and VaR and TVaR of return periods, gross, ceded and net."""
-        before = {unit.name: before_layer(unit) for unit in self.book.plan.units}
-        columns = [*([BEFORE] if any(map(takes, self.book.plan.units)) else []), *SIDES]
+        units = self.book.plan.units if self.book.plan is not None else []
+        before = {unit.name: before_layer(unit) for unit in units}
+        columns = [*([BEFORE] if any(map(takes, units)) else []), *SIDES]
         lines: List[List[Cell]] = []
         for name, means in self.means.items() if len(self.means) > 1 else ():
-            lines.append(self.line(f"mean of {name}", {**means, BEFORE: before[name] or ""}, columns))
+            lines.append(self.line(f"mean of {name}", {**means, BEFORE: before.get(name) or ""}, columns))
         known = [row for row in before.values() if row is not None]
         whole: Cell = exactly(sum((Fraction(row.low or 0) for row in known), Fraction(0))) if len(known) == len(before) else ""
         lines.append(self.line("mean", {**self.total(), BEFORE: whole}, columns))
@@ -115,43 +132,37 @@ class Cessions:
 
     def declared(self) -> str:
         """Which side the program itself declares."""
-        own = bare(self.book.spelling)
-        return next((side for side in ("net", "ceded") if side in self.sides and bare(self.sides[side].spelling) == own), "")
+        own = parts_of(self.book._declared())
+        return next((side for side in ("net", "ceded") if side in self.sides and parts_of(self.sides[side]._declared()) == own), "")
 
 
-def bare(spelling: str) -> List[str]:
-    """The lines of a canonical text without its notes."""
-    return [line.rstrip() for line in NOTE.sub("", spelling).splitlines()]
+def parts_of(text: str) -> List[str]:
+    """What stands before the units of a text, and each unit, in a line each and without notes and comments."""
+    return [" ".join(part.split()) for part in UNIT.split(ASIDE.sub(" ", text))]
 
 
-def mean_alone(book: "Book", head: Sequence[str], line: str) -> Row:
-    """The mean of a unit in a program of its own."""
-    from .books import Book
-
-    text = "\n".join([*head, line])
-    size = bucket(text, timeout=book.timeout)
-    log2 = least_grid(text, bs=size, timeout=book.timeout)
-    return Book(text, bs=size, log2=log2, digits=book.digits, timeout=book.timeout).mean()
+def with_differences(found: Dict[str, Row]) -> Dict[str, Row]:
+    """The means of all sides: that of the one that no program declares is the gross mean less that of the other."""
+    for side, other in (("ceded", "net"), ("net", "ceded")):
+        if side not in found:
+            found[side] = less(found["gross"], found[other])
+    return found
 
 
-def cessions_of(book: "Book") -> Optional[Cessions]:
+def cessions_of(book: "Asked") -> Optional[Cessions]:
     """The sides of a book; None where no unit has a clause."""
-    lines = bare(book.spelling)
-    head = [line for line in lines if not line.startswith("agg ")]
-    units = {line.split(" ")[1]: sides_of(line) for line in lines if line.startswith("agg ")}
+    head, *lines = parts_of(book._declared())
+    units = {line.split(" ")[1]: sides_of(line) for line in lines}
     if not any(each["ceded"] != "" for each in units.values()):
         return None
-    above = [line for line in head if line.startswith("sev ") or book.plan.common is not None]
-    means: Dict[str, Dict[str, Row]] = {}
+    alone = head if " common " in head else re.sub(r"(?<![\w.-])port\s+\S+", "", head)
+    means = {}
     for name, texts in units.items():
-        found = {side: mean_alone(book, above, text) if text else exactly(Fraction(0)) for side, text in texts.items() if text is not None}
-        for side, other in (("ceded", "net"), ("net", "ceded")):
-            if side not in found:
-                found[side] = less(found["gross"], found[other])
-        means[name] = found
+        found = {side: book._mean_of_text(f"{alone}\n{text}") if text else exactly(Fraction(0)) for side, text in texts.items() if text is not None}
+        means[name] = with_differences(found)
     sides = {}
     for side in SIDES:
         declared = [texts[side] for texts in units.values()]
         if None not in declared:
-            sides[side] = book._at_least("\n".join([*head, *(text for text in declared if text)]), None)
+            sides[side] = book._of_text("\n".join([head, *(text for text in declared if text)]))
     return Cessions(book, sides, means)

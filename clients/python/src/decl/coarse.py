@@ -13,6 +13,7 @@ from .moments import Moments, of_plan
 from .pages import Date, between_page, head_of
 from .pictures import Picture
 from .plan import Chances, Clause, Plan, Unit, moved, plan_of
+from .program import as_text
 from .reports import Row
 from .rules import DIGITS, LAYERS, VALUES
 from .several import of_amount, of_level
@@ -190,9 +191,12 @@ class Between:
         reach: Optional[Fraction] = None,
         log2: Optional[int] = None,
         plan: Optional[Plan] = None,
+        source: str = "",
+        again: "Optional[Callable[[str], Between]]" = None,
     ) -> None:
         self.low, self.high, self.bs, self.reach, self.log2 = low, high, bs, reach, log2
         self.timeout, self.plan = timeout, plan
+        self._source, self._again = source, again
         self._books: Dict[bool, Book] = {}
 
     def __repr__(self) -> str:
@@ -355,6 +359,19 @@ class Between:
     def _repr_html_(self) -> str:
         return Book._repr_html_(cast(Book, self))
 
+    def _declared(self) -> str:
+        """The text of the book that the two programs hold."""
+        return self._source
+
+    def _of_text(self, text: str) -> "Between":
+        """Another book, between two programs on the same buckets."""
+        assert self._again is not None
+        return self._again(text)
+
+    def _mean_of_text(self, text: str) -> Row:
+        """The mean of another book."""
+        return self._of_text(text).mean()
+
     def _members(self) -> Dict[str, str]:
         return dict(zip(self.units, self.units))
 
@@ -375,4 +392,4 @@ def coarser(text: Text, bs: Number, *, timeout: Optional[float] = None) -> Betwe
     low, high = (plan.head + "\n".join(side(unit, size, up, timeout) for unit in plan.units) for up in (False, True))
     for each in (low, high):
         least_grid(each, bs=size, timeout=timeout)
-    return Between(low, high, size, timeout, plan=plan)
+    return Between(low, high, size, timeout, plan=plan, source=as_text(text), again=lambda other: coarser(other, size, timeout=timeout))

@@ -5,6 +5,7 @@ import re
 from bisect import bisect_left, bisect_right
 from dataclasses import dataclass
 from fractions import Fraction
+from functools import partial
 from itertools import accumulate
 from typing import Dict, List, Optional, Tuple
 
@@ -402,4 +403,5 @@ def between(
     grid = Grid(size, LARGEST_SHORT if log2 is None else log2)
     low, high = (source.checked(grid, up) for up in (False, True))
     reaches = [reach for reach in (each.reach(grid) for each in source.units) if reach is not None]
-    return Between(low, high, size, timeout, reach=min(reaches, default=None), log2=grid.log2)
+    again = partial(between, bs=size, log2=grid.log2, timeout=timeout)
+    return Between(low, high, size, timeout, reach=min(reaches, default=None), log2=grid.log2, source=as_text(text), again=again)

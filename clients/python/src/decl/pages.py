@@ -3,11 +3,12 @@
 import datetime
 import html
 from fractions import Fraction
-from typing import TYPE_CHECKING, Dict, Iterable, List, Mapping, Optional, Sequence, Union
+from typing import TYPE_CHECKING, Dict, Iterable, List, Mapping, Optional, Sequence, Tuple, Union
 
 from .areas import amount_of, periods_of, tail_picture, told_of_tail, year_shares
 from .cessions import Cessions, cessions_of
 from .drawing import colour
+from .faults import DeclError
 from .figures import plain
 from .pictures import LOOK, both, exceedances, sign_of
 from .reports import Row
@@ -28,6 +29,8 @@ HOW = (
     " up. One figure alone is exact. Probabilities are in percent. VaR of 200 years is the least total that is passed at most once in 200"
     " years; TVaR is the mean of those worst years."
 )
+#: Which of two programs is the one from above.
+END = {False: "below", True: "above"}
 MODEL = "What the program assumes of claims, amounts and dependence is taken as it is: no figure here judges it."
 
 
@@ -89,7 +92,7 @@ def on_cessions(found: Cessions, years: Sequence[Fraction], head: Head) -> str:
             "Where it says `not declared`, an occurrence and an aggregate clause act in one unit: no program declares the sum of what both cede,"
             " or leave, and its mean is the difference of the other two."
         )
-    shown = tabled(rows, f"means, VaR and TVaR{head.within}", books={name: name for name in found.sides})
+    shown = tabled(rows, f"means, VaR and TVaR{head.within}", beyond(found.book), books={name: name for name in found.sides})
     return section("Gross, ceded and net", paragraph(" ".join(told)), *shown)
 
 
@@ -180,6 +183,19 @@ def program(book: "Book", name: str = "", side: str = "") -> str:
     return f"{note(told)}\n<pre {facts}>{html.escape(book.spelling)}</pre>"
 
 
+def programs_of(books: "Mapping[str, Asked]") -> List[str]:
+    """The program of each of several books, or the two that hold it between them."""
+    from .coarse import Between
+
+    found: List[str] = []
+    for name, book in books.items():
+        if isinstance(book, Between):
+            found += [program(book.book(up), f"{name}, from {END[up]}: ", f"{name}, {END[up]}") for up in (False, True)]
+        else:
+            found.append(program(book, f"{name}: ", name))
+    return found
+
+
 def rests(more: str) -> str:
     """What the figures rest on."""
     from . import __version__
@@ -205,10 +221,20 @@ def book_page(book: "Book", years: Sequence[Fraction], head: Head) -> str:
         parts += [on_tail_shares(book, years, head), on_year_shares(book, years, head)]
     parts.append(section("What the book is worth", *tabled(book.describe(), f"of the total of a year{head.within}")))
     apart = [note("Lines are pooled after their clauses, so that gross and ceded are not told apart.")] if pooled else []
-    sides = [program(side, f"{name.capitalize()}: ", name) for name, side in (found.sides if found else {}).items()]
+    sides = programs_of(found.sides) if found else []
     parts += [section("The programs" if sides else "The program", *apart, program(book), *sides)]
     parts.append(rests(", gross less net, and shares that are added up"))
     return sheet(head, [f"{grid} {HOW}"], parts, LOOK)
+
+
+def sides_of(book: "Between", years: Sequence[Fraction], head: Head) -> Tuple[List[str], List[str]]:
+    """Gross, ceded and net of a book between two programs, each between two of its own, with these programs; a note where they cannot be
+    written."""
+    try:
+        found = cessions_of(book)
+    except DeclError as fault:
+        return [note(f"Gross, ceded and net are not here: {fault.told.splitlines()[0]}")], []
+    return ([], []) if found is None else ([on_cessions(found, years, head)], programs_of(found.sides))
 
 
 def between_page(book: "Between", years: Sequence[Fraction], head: Head) -> str:
@@ -224,13 +250,15 @@ def between_page(book: "Between", years: Sequence[Fraction], head: Head) -> str:
             " has no high end."
         )
     shares = "Shares of the units are not here: of two programs, a share in one need not lie below that in the other, so they do not hold it."
-    programs = [program(book.book(up), f"From {'above' if up else 'below'}: ", "above" if up else "below") for up in (False, True)]
+    programs = [program(book.book(up), f"From {END[up]}: ", END[up]) for up in (False, True)]
+    sides, apart = sides_of(book, years, head)
     parts = [
         on_periods(book, years, head),
+        *sides,
         on_layers(book, years, head),
         section("What the book is worth", *tabled(book.describe(), f"of the total of a year{head.within}", beyond(book)), note(shares)),
-        section("The two programs", *programs),
-        rests(""),
+        section("The two programs" if not apart else "The programs", *programs, *apart),
+        rests(", gross less net" if apart else ""),
     ]
     return sheet(head, [told, HOW], parts, LOOK)
 
@@ -260,14 +288,7 @@ def compared_page(books: "Mapping[str, Asked]", years: Sequence[Fraction], head:
     if others:
         parts.append(section(f"Less {first}", *tabled(apart, f"each book less {first}, by two ends{head.within}", why)))
     parts.append(section("Exceedance curves", f"<figure>{picture}</figure>", key(signs)))
-    parts.append(section("The programs", *(text for name, book in books.items() for text in programs_of(name, book))))
+    parts.append(section("The programs", *programs_of(books)))
     return sheet(head, [HOW], [*parts, rests("")], LOOK)
 
 
-def programs_of(name: str, book: "Asked") -> List[str]:
-    """The program of a book, or the two that hold it between them."""
-    from .coarse import Between
-
-    if isinstance(book, Between):
-        return [program(book.book(up), f"{name}, from {'above' if up else 'below'}: ", f"{name}, {'above' if up else 'below'}") for up in (False, True)]
-    return [program(book, f"{name}: ", name)]

@@ -17,7 +17,7 @@ NOTHING = (Fraction(0), Fraction(0))
 #: Joint means are asked for with so many digits, since their ends add up.
 FINEST = 9
 #: A page adds up so many joint means at most.
-MOST_JOINTS = 20_000
+MOST_JOINTS = 120_000
 NOT_ONE = "the quantile is not sure to be one total"
 TOO_MANY = f"more than {MOST_JOINTS:,} joint means would have to be added up"
 
