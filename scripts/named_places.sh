@@ -49,7 +49,7 @@ for place in $names; do
     is_there "$place" test -e "$place"
 done
 some law "$(grep -ohE '\blaw_[a-z_]+' $pages | sort -u)"
-laws=$(grep -rohE '\bfn law_[a-z_]+\(' crates/*/src --include=*.rt | sed 's/^fn \(.*\)($/ \1 /' | sort -u)
+laws=$(grep -rohE '\bfn law_[a-z_]+[(<]' crates/*/src --include=*.rt | sed 's/^fn \(.*\)[(<]$/ \1 /' | sort -u)
 for law in $names; do
     is_there "$law" has "$laws" "$law"
 done

@@ -68,7 +68,7 @@ module _ {plan : Plan} (valid : IsValid plan) {r : ℕ} (shape : plan.common ≡
         unbounded = poisson_unbounded v.freq ((has_factor plan r shares).can_share i u inside).count;
         bounded = omega (arith, most, raised_narrow (2 ^ B) plan.cells is, plain_budget (2 ^ B) is, small);
         cells = λ none. absurd (cc (shape, none));
-        gives = λ x near. (common_exact g plan i x u v near r shares inside (sym here) is encloses).0;
+        gives = λ x near. common_exact g plan i x u v near r shares inside (sym here) is encloses;
         narrow = subst (λ b. shared_joint_budget (length g) (spread g) (thinned_mean v) ≤ b)
             (ap (λ o. joint_by o (2 ^ B) plan i) (sym shape))
             (joint_narrow plan.cells (length g) (spread g) (raised_budget (2 ^ B) plan.cells r plan.units)

@@ -1,5 +1,5 @@
 -- What was read in a list that is another.
-use Rattle.dl_eval.proofs.Common.{All, refl, ℕ, ◌≡◌, ◌^◌, ◌<◌, ◌≤◌, List, [], length, get_or, arith, sym, ap, subst, ◌∙◌, Option, None, Some, IfSome, get_or_default, Iv, spread, Plan, IsHorizonOf, IsValidUnit, IsValid, unit_budget, few_cells, unit_horizon, AreUnitGrids, AreUnitMeans, most_horizon, UnitOfPlan, IsGridOfUnit}
+use Rattle.dl_eval.proofs.Common.{refl, ℕ, ◌≡◌, ◌^◌, ◌<◌, ◌≤◌, List, [], length, get_or, arith, sym, ap, subst, ◌∙◌, Option, None, Some, IfSome, get_or_default, Iv, spread, Plan, IsHorizonOf, IsValidUnit, IsValid, unit_budget, few_cells, unit_horizon, AreUnitGrids, most_horizon, UnitOfPlan, IsGridOfUnit}
 use Rattle.dl_eval.proofs.Totals.{each_cells, each_encloses, unit_narrow}
 
 pub read_as : {A : Type 0} {slice xs : List A} (i : ℕ) {x : A} (d : A) → slice ≡ xs → x ≡ get_or slice i x → i < length xs
@@ -65,18 +65,3 @@ grid_of_unit {B} {plan = plan} {grids = grids} i same is inside each =
       encloses = each_encloses plan.cells plan.units grids i inside each;
       narrow = unit_narrow plan.cells plan.units grids i inside each;
     })
-
--- ---- means
-
-module _ {B cells : ℕ} {units : List UnitOfPlan} {means slice : List (Iv B)} (i : ℕ) {mean : Iv B} (same : slice ≡ means)
-    (is : mean ≡ get_or slice i mean) (inside : i < length units) (each : AreUnitMeans cells units means) where
-  here : i < length means
-  here = omega (arith, inside, each.as_many)
-
-  -- the mean of a unit that was read there
-  pub mean_there : mean ≡ get_or means i mean
-  mean_there = read_as i mean same is here
-
-  -- it is small where all are
-  pub mean_small : All (λ m. m.hi ≤ 2 ^ 93) means → mean.hi ≤ 2 ^ 93
-  mean_small all = omega (arith, all i mean here, ap (λ m. m.hi) mean_there)

@@ -1,5 +1,5 @@
 -- The scales of plans.
-use Rattle.dl_eval.proofs.Common.{ℕ, ◌≡◌, ◌+◌, ◌*◌, ◌^◌, ◌<◌, ◌≤◌, arith, sym, subst, mul-le-mul_left, mul-le-mul_right, mul-le-mul, pow-le-pow_right, inl, inr, refl, ◌⊎◌, leb_tells, bits_of, most_amount_at, most_cells_at, most_expected, most_horizon, most_plan_cells, most_short_cells, IsPlanScale, Plan, IsValid, few_cells, cells_fit, is_plan_scale, most_claims_mean, most_limited}
+use Rattle.dl_eval.proofs.Common.{ℕ, ◌≡◌, ◌+◌, ◌*◌, ◌^◌, ◌<◌, ◌≤◌, arith, sym, subst, mul-le-mul_left, mul-le-mul, pow-le-pow_right, inl, inr, refl, ◌⊎◌, leb_tells, bits_of, most_amount_at, most_cells_at, most_expected, most_horizon, most_plan_cells, most_short_cells, IsPlanScale, cells_fit, is_plan_scale, most_claims_mean, most_limited}
 use Rattle.dl_grid.specs.Room.{IsGridSize}
 
 pub plan_scale : (B cells : ℕ) → B ≡ bits_of cells → IsPlanScale B
@@ -77,12 +77,6 @@ share_fits B cells at same few inside = elim (by_length B cells same) [
   | inl short ↦ rw short.1 (omega (arith, short.0, inside))
   | inr long ↦ rw long.1 (omega (arith, few, inside))
 ]
-
--- a share of a total of the grid, in units of 1 / 2^(2B), has room
-pub share_divides : {B at hi : ℕ} (plan : Plan) → B ≡ bits_of plan.cells → IsValid plan → at < plan.cells
-    → hi ≤ at * 2 ^ B → hi * 2 ^ B ≤ 2 ^ 127
-share_divides {B} {at = at} plan same valid inside small =
-    omega (arith, mul-le-mul_right (2 ^ B) small, share_fits B plan.cells at same (few_cells plan valid).1 inside)
 
 pub bits_of_long : (cells : ℕ) → most_short_cells < cells → 48 ≡ bits_of cells
 unfolding bits_of
