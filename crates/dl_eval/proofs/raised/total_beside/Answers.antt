@@ -10,7 +10,7 @@ outcomes_of-requires g c =
 
 pub product-requires : goal.product-requires
 product-requires g c =
-    (omega arith) also (omega arith) also (omega arith) also (omega (arith, c.in_ok-grid.ensures.grid.cells))
+    (omega arith) also (omega (arith, c.in_ok-grid.ensures.grid.cells))
     also (few_cells c.args.plan.now c.requires.valid).0
     also (omega (arith, c.requires.total.cells))
 
