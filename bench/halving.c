@@ -1,5 +1,5 @@
 /* The product by halves of lists of 128-bit words in plain C, beside the plain product with 64-bit
-   operands: what dl_conv's calls do, without contracts. Build: clang -O3 halving.c -o halving */
+   operands: what the calls of dl_halves do, without contracts. Build: clang -O3 halving.c -o halving */
 #include <stdint.h>
 #include <stdio.h>
 #include <stdlib.h>
