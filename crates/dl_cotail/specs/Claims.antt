@@ -8,15 +8,15 @@ use Rattle.dl_plan.specs.declared.plan.Unit.{Unit as UnitOfPlan}
 use Rattle.dl_plan.specs.Prelude.{HasPartsOf48Bits, expected_count, thinned_mean, weight_at}
 
 -- a Poisson count, or a gamma count of an admitted shape: there is no greatest number of claims
-abbrev pub is_unbounded : Freq → Bool
-is_unbounded (Poisson mean) = true
-is_unbounded (Gamma shape mean) = nat_le 1 shape && nat_le shape most_shape
-is_unbounded freq = false
+abbrev pub is_poisson_or_gamma : Freq → Bool
+is_poisson_or_gamma (Poisson mean) = true
+is_poisson_or_gamma (Gamma shape mean) = nat_le 1 shape && nat_le shape most_shape
+is_poisson_or_gamma freq = false
 
 -- a Poisson or a gamma unit, whose expected numbers of claims, and of claims above 0, have parts below
 -- 2^48
 pub record HasClaims (u : UnitOfPlan) : Type 0 where
-  pub unbounded : is_unbounded u.freq ≡ true
+  pub count : is_poisson_or_gamma u.freq ≡ true
   pub expected : HasPartsOf48Bits (expected_count u.freq)
   pub thinned : HasPartsOf48Bits (thinned_mean u)
 

@@ -81,7 +81,7 @@ returns-then-num-eq0-clause-high g c =
 
 pub thinned-mean-requires : goal.thinned-mean-requires
 thinned-mean-requires g c = record {
-  count = counted c.args.unit.now.freq c.requires.claims.unbounded;
+  count = counted c.args.unit.now.freq c.requires.claims.count;
   expected = c.requires.claims.expected;
   admitted = c.requires.claims.thinned;
 }
