@@ -2,7 +2,7 @@
 
 ghost use Rattle.std.specs.Prelude.{◌≡◌, ◌^◌, ◌<◌, ◌≤◌, ◌∷◌, IsTrue, None, IfOk, IfSome, length, get_or};
 ghost use Rattle.dl_limits.specs.Limits.{bits_of, budget_bound};
-ghost use Rattle.dl_plan.specs.Prelude.{CanRaise, IsValid, IsValidUnit, thinned_mean};
+ghost use Rattle.dl_plan.specs.Prelude.{CanRaise, IsUnbounded, IsValid, IsValidUnit, thinned_mean};
 ghost use Rattle.dl_model.specs.Prelude.{GridEncloses, total as total_of, loss_of, aggregates_of};
 ghost use Rattle.dl_common.specs.Extra.{IsExtra};
 ghost use Rattle.dl_budget.specs.Asks.{joint_budget};
@@ -54,13 +54,14 @@ fn total_beside<const B: u32>(
     product(alloc, work, &grid, total, plan.cells)
 }
 
-/// Whether the joint mean of a gamma unit, unit `i` of the plan, from a grid of this spread is no
-/// wider than its budget. Spreads and budgets are in units of 1 / 2^B.
+/// Whether the joint mean of unit `i` of the plan, from its claims over a grid of this spread, is no
+/// wider than its budget; then its share in a tail mean is not either. Spreads and budgets are in
+/// units of 1 / 2^B.
 #[tactic(auto, using(crate::proofs::Scales::plan_scale))]
-fn is_within_joint<const B: u32>(plan: &Plan, unit: &Unit, i: u32, spread: u128) -> bool
+pub(crate) fn is_narrow<const B: u32>(plan: &Plan, unit: &Unit, i: u32, spread: u128) -> bool
     requires scale { B ≡ bits_of plan.now.cells }
     requires valid { IsValid plan.now }
-    requires gamma { CanRaise unit.now }
+    requires unbounded { IsUnbounded unit.now.freq }
     requires here { unit.now ≡ get_or plan.now.units i unit.now }
     requires inside { i < length plan.now.units }
     ensures bounded { IsTrue result → spread < budget_bound }
@@ -96,8 +97,8 @@ fn raised_by<const B: u32>(
     ensures { IfOk result (λ made. IfSome made (IsClaimsGrid plan.now i)) }
 {
     let made = total_beside(alloc, work, plan, total, claims)?;
-    let is_narrow = is_within_joint::<B>(plan, unit, i, made.spread());
-    Ok(is_narrow.then_some(made))
+    let narrow = is_narrow::<B>(plan, unit, i, made.spread());
+    Ok(narrow.then_some(made))
 }
 
 /// The grid of the total with the extra claims of unit `i`; none where the unit is not one whose

@@ -9,10 +9,8 @@ ghost use Rattle.dl_eval.specs.Drawn.{HasNeeded};
 ghost use Rattle.dl_eval.specs.Totals.{AreGridsOf, AreUnits, IsClaimsGrid, IsTotalOf};
 
 use crate::grids::Grids;
-use crate::raised::is_raised;
-use dl_budget::{joint_budget, shared_joint_budget};
+use crate::raised::{is_narrow, is_raised};
 use dl_grid::Grid;
-use dl_limits::BUDGET_BOUND;
 use dl_plan::{Plan, Unit};
 
 /// Whether the share of a unit is taken from the grid of the total, or from that of the total with
@@ -22,9 +20,7 @@ pub(crate) fn is_without_others(units: &[Unit], unit: &Unit) -> bool {
 }
 
 /// Whether the unit is a Poisson unit that can be pooled, and its joint mean from the grid of the
-/// total, whose spread is `apart`, is no wider than its budget; then its share in a tail mean is not
-/// either.
-#[tactic(auto, using(crate::proofs::Scales::plan_scale))]
+/// total, whose spread is `apart`, is no wider than its budget.
 fn is_from_total<const B: u32>(plan: &Plan, total: &Grid<B>, apart: u128, i: u32) -> bool
     requires scale { B ≡ bits_of plan.now.cells }
     requires valid { IsValid plan.now }
@@ -35,10 +31,10 @@ fn is_from_total<const B: u32>(plan: &Plan, total: &Grid<B>, apart: u128, i: u32
     ensures { IsTrue result → IsClaimsGrid plan.now i total.now }
 {
     let unit = &plan.units.as_slice()[i as usize];
-    if !unit.can_share() || apart >= BUDGET_BOUND {
+    if !unit.can_share() {
         return false;
     }
-    shared_joint_budget(unit, apart, plan.cells) <= joint_budget::<B>(plan, i)
+    is_narrow::<B>(plan, unit, i, apart)
 }
 
 /// Whether these grids give the joint mean of the unit within its budget: the grid of the sum of all

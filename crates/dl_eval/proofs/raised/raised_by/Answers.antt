@@ -1,6 +1,7 @@
 use Rattle.dl_eval.proofs.Common.{◌^◌, ◌<◌, ◌≤◌, IsTrue, refl, subst, thinned_mean, joint_budget}
 use Rattle.dl_limits.specs.Limits.{budget_bound}
 use Rattle.dl_budget.specs.Shared.{shared_joint_budget}
+use Rattle.dl_plan.proofs.Shared.{gamma_unbounded}
 use Rattle.dl_eval.proofs.ClaimsGrids.{with_extra}
 use Rattle.dl_eval.proofs.Lists.{some_where}
 use Rattle.dl_eval.specs.Totals.{IsClaimsGrid}
@@ -11,10 +12,13 @@ returns g c =
     let plan = c.args.plan.now in
     let unit = c.args.unit.now in
     let made = c.in_ok-made.ensures in
-    rw c.then_some.ensures (some_where (IsClaimsGrid plan c.args.i) c.is_within_joint-is_narrow.result c.in_ok-made.made
-    (λ (within : IsTrue c.is_within_joint-is_narrow.result).
+    rw c.then_some.ensures (some_where (IsClaimsGrid plan c.args.i) c.is_narrow-narrow.result c.in_ok-made.made
+    (λ (within : IsTrue c.is_narrow-narrow.result).
     with_extra plan c.args.i refl c.requires.here c.requires.inside c.in_ok-made.made made.cells
-    (subst (λ s. s < budget_bound) c.spread.ensures (c.is_within_joint-is_narrow.ensures.bounded within))
+    (subst (λ s. s < budget_bound) c.spread.ensures (c.is_narrow-narrow.ensures.bounded within))
     (subst (λ s. shared_joint_budget plan.cells s (thinned_mean unit) ≤ joint_budget (2 ^ g.row.B) plan c.args.i)
-    c.spread.ensures (c.is_within_joint-is_narrow.ensures.narrow within)) c.requires.valid c.requires.independent
+    c.spread.ensures (c.is_narrow-narrow.ensures.narrow within)) c.requires.valid c.requires.independent
     c.args.claims.now c.requires.gamma c.requires.extra made.encloses))
+
+pub is_narrow-narrow-requires-clause-unbounded : goal.is_narrow-narrow-requires-clause-unbounded
+is_narrow-narrow-requires-clause-unbounded g c = gamma_unbounded c.args.unit.now.freq c.requires.gamma.count

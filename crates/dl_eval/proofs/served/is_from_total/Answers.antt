@@ -1,24 +1,25 @@
-use Rattle.dl_eval.proofs.Common.{◌≤◌, arith, sym, ap, subst₂, ◌∙◌, thinned_mean}
+use Rattle.dl_eval.proofs.Common.{◌^◌, ◌≤◌, arith, sym, subst, ◌∙◌, read_unit, thinned_mean, joint_budget}
 use Rattle.dl_budget.specs.Shared.{shared_joint_budget}
-use Rattle.dl_plan.proofs.Shared.{true_shares}
-use Rattle.dl_eval.proofs.ClaimsGrids.{of_total, told_le}
-use Rattle.dl_eval.proofs.Scales.{plan_scale}
+use Rattle.dl_plan.proofs.Shared.{poisson_unbounded, true_shares}
+use Rattle.dl_eval.proofs.ClaimsGrids.{of_total}
 use Rattle.dl_eval.proofs.served.is_from_total.Goals as goal
+
+pub is_narrow-requires : goal.is_narrow-requires
+is_narrow-requires g c =
+    let u = c.index-as_slice-i.result in record {
+      scale = c.requires.scale;
+      valid = c.requires.valid;
+      unbounded = poisson_unbounded u.freq (true_shares u (sym c.can_share.ensures ∙ c.if-not-can_share.false)).count;
+      here = read_unit c.as_slice.result.now c.args.plan.now.units c.args.i u c.as_slice.ensures c.index-as_slice-i.is;
+      inside = c.requires.unit;
+    }
 
 pub returns : goal.returns
 returns g c narrow =
     let plan = c.args.plan.now in
     let u = c.index-as_slice-i.result in
-    let within : c.shared_joint_budget.result ≤ c.joint_budget.result = told_le c.shared_joint_budget.result c.joint_budget.result narrow in
     of_total plan c.args.i c.as_slice.ensures c.index-as_slice-i.is c.requires.unit c.args.total.now c.requires.total.cells
-    (omega (arith, c.requires.apart, c.if-apart-ge-BUDGET_BOUND.false))
-    (subst₂ (λ x y. x ≤ y) (c.shared_joint_budget.ensures.value
-    ∙ ap (λ s. shared_joint_budget plan.cells s (thinned_mean u)) c.requires.apart) c.joint_budget.ensures.value within)
-    c.requires.valid c.requires.independent (true_shares u (sym c.can_share.ensures ∙ c.if-not-can_share.false)) c.requires.total
-
-pub joint_budget-requires : goal.joint_budget-requires
-joint_budget-requires g c = record {
-  scale = plan_scale g.row.B c.args.plan.now.cells c.requires.scale;
-  valid = c.requires.valid;
-  unit = c.requires.unit;
-}
+    (omega (arith, c.requires.apart, c.is_narrow.ensures.bounded narrow))
+    (subst (λ s. shared_joint_budget plan.cells s (thinned_mean u) ≤ joint_budget (2 ^ g.row.B) plan c.args.i)
+    c.requires.apart (c.is_narrow.ensures.narrow narrow)) c.requires.valid c.requires.independent
+    (true_shares u (sym c.can_share.ensures ∙ c.if-not-can_share.false)) c.requires.total
