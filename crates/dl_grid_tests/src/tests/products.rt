@@ -14,7 +14,7 @@ use std::alloc::{AllocError, Global};
 
 /// The ends of a cell, as parts of 1.
 #[derive(Clone, Copy)]
-pub(crate) enum Ends {
+enum Ends {
     /// Both 0.
     Zero,
     /// One of so many equal parts, rounded down and up.
@@ -29,7 +29,7 @@ pub(crate) enum Ends {
 
 /// A grid with the same ends at every step-th of so many cells from a start on, and 0 elsewhere: the
 /// step, the ends, the start, and how many cells.
-pub(crate) type Shape = (u32, Ends, u32, u32);
+type Shape = (u32, Ends, u32, u32);
 
 /// Two grids on so many cells.
 type Case = (u32, Shape, Shape);
@@ -76,7 +76,7 @@ fn interval<const B: u32>(ends: Ends) -> Iv<B>
 
 /// A grid of a shape, where it is one and there is memory.
 #[tactic(auto, using(dl_grid::proofs::Sizes::few_at_each_scale))]
-pub(crate) fn shaped<const B: u32>(alloc: Global, cells: u32, shape: Shape) -> Option<Grid<B>>
+fn shaped<const B: u32>(alloc: Global, cells: u32, shape: Shape) -> Option<Grid<B>>
     requires scale_above { 1 ≤ B }
     requires scale_below { B ≤ 56 }
 {
@@ -100,7 +100,7 @@ pub(crate) fn shaped<const B: u32>(alloc: Global, cells: u32, shape: Shape) -> O
 }
 
 /// Whether a product of two grids was found, and has the cells of the plain convolution.
-pub(crate) fn is_plain<const B: u32>(
+fn is_plain<const B: u32>(
     alloc: Global,
     found: Result<Grid<B>, AllocError>,
     a: &Grid<B>,

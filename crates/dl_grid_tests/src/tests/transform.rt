@@ -1,240 +1,176 @@
 //! Products by transforms, beside long multiplication.
 
-ghost use Rattle.std.specs.Prelude.{◌≡◌, ◌^◌, ◌<◌, All, length, IfOk};
+ghost use Rattle.std.specs.Prelude.{◌<◌, ◌^◌, ◌↔◌, All, IsTrue};
 
 use dl_transform::{Buffers, Cells, Setup, product, set_up};
 use std::alloc::{AllocError, Global};
 
-/// Two lists of low ends and widths, at how many levels they are multiplied, and the first sums of
-/// products of the low ends and of the high ends, by long multiplication.
-struct Case {
-    lows: [&'static [u64]; 2],
-    widths: [&'static [u64]; 2],
-    levels: u32,
-    low: Option<&'static [u128]>,
-    high: Option<&'static [u128]>,
+/// What of two lists of cells is wanted: the first items of the products of their low ends and of
+/// their high ends; none where these are too large, or too many.
+#[derive(Clone, Copy)]
+struct Products<'a> {
+    low: Option<&'a [u128]>,
+    high: Option<&'a [u128]>,
 }
 
-/// In wider words.
-fn widened(alloc: Global, items: &[u64]) -> Result<Vec<u128>, AllocError>
-    ensures { IfOk result (λ v. All (λ x. x < 2 ^ 64) v.items) }
+/// Two lists of low ends and widths, at how many levels they are multiplied, and their products by
+/// long multiplication.
+struct Case {
+    lows: [&'static [u128]; 2],
+    widths: [&'static [u128]; 2],
+    levels: u32,
+    want: Products<'static>,
+}
+
+/// Whether each number has at most 64 bits.
+fn are_short(list: &[u128]) -> bool
+    ensures { IsTrue result ↔ All (λ x. x < 2 ^ 64) list.now }
 {
-    let mut wide = Vec::with_capacity(alloc, items.len())?;
-    for item in items {
-        wide.push(u128::from(*item))?;
+    list.iter().all(|x| *x < 18446744073709551616)
+}
+
+/// The cells of these low ends and widths, where they are as many, each in 64 bits.
+fn cells_of<'a>(lows: &'a [u128], widths: &'a [u128]) -> Option<Cells<'a>> {
+    if lows.len() == widths.len() && are_short(lows) && are_short(widths) {
+        Some(Cells { lows, widths })
+    } else {
+        None
     }
-    Ok(wide)
 }
 
 /// Whether a call gave what is wanted.
-fn is_wanted(told: bool, out: &[u128], want: Option<&'static [u128]>) -> bool {
+fn is_wanted(told: bool, out: &[u128], want: Option<&[u128]>) -> bool {
     let found = if told { Some(out) } else { None };
     found == want
 }
 
-/// Whether the product of two lists of cells, in buffers that have been used before, is what is wanted.
-fn product_agrees(
+/// Whether the products of two lists, in buffers that have been used before, are what is wanted.
+fn are_wanted(
     alloc: Global,
     buffers: &mut Buffers,
     setup: &Setup,
-    a: Cells<'_>,
+    a: Option<Cells<'_>>,
     b: Option<Cells<'_>>,
-    case: &Case,
+    want: Products<'_>,
 ) -> Result<bool, AllocError> {
-    let count = case.low.map_or(1, |items| items.len());
+    let (Some(a), Some(b)) = (a, b) else {
+        return Ok(false);
+    };
+    let count = want.low.map_or(1, |items| items.len());
     let mut lows = Vec::from_elem(alloc, 99, count)?;
     let mut highs = Vec::from_elem(alloc, 99, count)?;
     let (low, high) = (lows.as_mut_slice(), highs.as_mut_slice());
-    let told = product(alloc, a, b, setup, buffers, low, high)?;
-    Ok(is_wanted(told, lows.as_slice(), case.low) && is_wanted(told, highs.as_slice(), case.high))
+    let told = product(alloc, a, Some(b), setup, buffers, low, high)?;
+    Ok(is_wanted(told, lows.as_slice(), want.low) && is_wanted(told, highs.as_slice(), want.high))
 }
 
-/// Whether the product of a case is what is wanted, and also, where both lists are the same, the
-/// square.
-fn lists_agree(
-    alloc: Global,
-    buffers: &mut Buffers,
-    setup: &Setup,
-    case: &Case,
-) -> Result<bool, AllocError> {
-    let low = widened(alloc, case.lows[0])?;
-    let width = widened(alloc, case.widths[0])?;
-    let other_low = widened(alloc, case.lows[1])?;
-    let other_width = widened(alloc, case.widths[1])?;
-    if width.len() != low.len() || other_width.len() != other_low.len() {
-        return Ok(false);
-    }
-    let a = Cells {
-        lows: low.as_slice(),
-        widths: width.as_slice(),
-    };
-    let b = Cells {
-        lows: other_low.as_slice(),
-        widths: other_width.as_slice(),
-    };
-    let products = product_agrees(alloc, buffers, setup, a, Some(b), case)?;
-    let is_square = case.lows[0] == case.lows[1] && case.widths[0] == case.widths[1];
-    Ok(products && (!is_square || product_agrees(alloc, buffers, setup, a, None, case)?))
-}
-
-/// Whether a case has a setup, and they are.
+/// Whether a case has a setup, and its products are what is wanted.
 fn agrees(alloc: Global, buffers: &mut Buffers, case: &Case) -> Result<bool, AllocError> {
     if case.levels >= 40 {
         return Ok(false);
     }
+    let a = cells_of(case.lows[0], case.widths[0]);
+    let b = cells_of(case.lows[1], case.widths[1]);
     match set_up(alloc, case.levels)? {
-        Some(setup) => lists_agree(alloc, buffers, &setup, case),
+        Some(setup) => are_wanted(alloc, buffers, &setup, a, b, case.want),
         None => Ok(false),
     }
 }
 
-const CASES: [Case; 17] = [
-    Case {
-        lows: [&[1, 2, 3, 4, 5], &[6, 7, 8, 9]],
-        widths: [&[0, 0, 0, 0, 0], &[0, 0, 0, 0]],
-        levels: 4,
-        low: Some(&[6, 19, 40, 70, 100, 94, 76, 45, 0]),
-        high: Some(&[6, 19, 40, 70, 100, 94, 76, 45, 0]),
-    },
-    Case {
-        lows: [&[1, 2, 3], &[1, 2, 3]],
-        widths: [&[0, 0, 0], &[0, 0, 0]],
-        levels: 3,
-        low: Some(&[1, 4, 10, 12, 9]),
-        high: Some(&[1, 4, 10, 12, 9]),
-    },
-    // only the first items, and a setup for longer lists
-    Case {
-        lows: [&[1, 2, 3], &[4, 5]],
-        widths: [&[0, 0, 0], &[0, 0]],
-        levels: 7,
-        low: Some(&[4, 13]),
-        high: Some(&[4, 13]),
-    },
-    Case {
-        lows: [&[0, 0], &[0, 0]],
-        widths: [&[0, 0], &[0, 0]],
-        levels: 2,
-        low: Some(&[0, 0, 0, 0]),
-        high: Some(&[0, 0, 0, 0]),
-    },
-    Case {
-        lows: [&[7], &[9]],
-        widths: [&[0], &[0]],
-        levels: 1,
-        low: Some(&[63]),
-        high: Some(&[63]),
-    },
-    Case {
-        lows: [
-            &[72057594037927936, 72057594037927936],
-            &[72057594037927936, 72057594037927936],
-        ],
-        widths: [&[0, 0], &[0, 0]],
-        levels: 2,
-        low: Some(&[
-            5192296858534827628530496329220096,
-            10384593717069655257060992658440192,
-            5192296858534827628530496329220096,
-        ]),
-        high: Some(&[
-            5192296858534827628530496329220096,
-            10384593717069655257060992658440192,
-            5192296858534827628530496329220096,
-        ]),
-    },
+const CASES: [Case; 10] = [
     Case {
         lows: [&[1, 2, 3], &[4, 5]],
         widths: [&[1, 0, 2], &[3, 1]],
         levels: 4,
-        low: Some(&[4, 13, 22, 15, 0]),
-        high: Some(&[14, 26, 47, 30, 0]),
+        want: Products {
+            low: Some(&[4, 13, 22, 15, 0]),
+            high: Some(&[14, 26, 47, 30, 0]),
+        },
+    },
+    Case {
+        lows: [&[1, 2, 3, 4, 5], &[6, 7, 8, 9]],
+        widths: [&[0, 0, 0, 0, 0], &[0, 0, 0, 0]],
+        levels: 4,
+        want: Products {
+            low: Some(&[6, 19, 40, 70, 100, 94, 76, 45, 0]),
+            high: Some(&[6, 19, 40, 70, 100, 94, 76, 45, 0]),
+        },
     },
     Case {
         lows: [&[3, 1], &[3, 1]],
         widths: [&[1, 4], &[1, 4]],
         levels: 2,
-        low: Some(&[9, 6, 1]),
-        high: Some(&[16, 40, 25]),
+        want: Products {
+            low: Some(&[9, 6, 1]),
+            high: Some(&[16, 40, 25]),
+        },
     },
-    // what high ends have beyond low ends just below one prime, and above it
+    // only the first items, and a setup for longer lists
+    Case {
+        lows: [&[1, 2, 3], &[4, 5]],
+        widths: [&[1, 0, 2], &[3, 1]],
+        levels: 7,
+        want: Products {
+            low: Some(&[4, 13]),
+            high: Some(&[14, 26]),
+        },
+    },
+    Case {
+        lows: [&[7], &[9]],
+        widths: [&[0], &[0]],
+        levels: 1,
+        want: Products {
+            low: Some(&[63]),
+            high: Some(&[63]),
+        },
+    },
+    // what the high ends have more is just below a prime, and needs two
     Case {
         lows: [&[36028797018963968], &[36028797018963968]],
         widths: [&[1], &[63]],
         levels: 1,
-        low: Some(&[1298074214633706907132624082305024]),
-        high: Some(&[1298074214633709212975633295999039]),
+        want: Products {
+            low: Some(&[1298074214633706907132624082305024]),
+            high: Some(&[1298074214633709212975633295999039]),
+        },
     },
     Case {
         lows: [&[72057594037927936], &[1]],
         widths: [&[0], &[64]],
         levels: 1,
-        low: Some(&[72057594037927936, 0]),
-        high: Some(&[4683743612465315840, 0]),
-    },
-    Case {
-        lows: [&[1099511627776], &[1099511627776]],
-        widths: [&[1073741824], &[1073741824]],
-        levels: 1,
-        low: Some(&[1208925819614629174706176, 0]),
-        high: Some(&[1211288155777568604160000, 0]),
-    },
-    Case {
-        lows: [
-            &[4294967296, 5, 4294967296],
-            &[1099511627776, 2199023255552],
-        ],
-        widths: [&[4294967296, 0, 7], &[1125899906842624, 1]],
-        levels: 3,
-        low: Some(&[
-            4722366482869645213696,
-            9444732971236848566272,
-            4722366493864761491456,
-            9444732965739290427392,
-        ]),
-        high: Some(&[
-            9680851289882772688076800,
-            18889471566484263141376,
-            4840425652841377389608965,
-            9444732981136748183559,
-        ]),
+        want: Products {
+            low: Some(&[72057594037927936]),
+            high: Some(&[4683743612465315840]),
+        },
     },
     // the greatest sum that is surely found, and the next one
     Case {
-        lows: [&[9223372036854775808], &[1152921504606846975]],
+        lows: [&[9223372036854775807], &[1152921504606846976]],
         widths: [&[0], &[0]],
         levels: 1,
-        low: Some(&[10633823966279326974007084445387980800]),
-        high: Some(&[10633823966279326974007084445387980800]),
+        want: Products {
+            low: Some(&[10633823966279326982077534977635909632]),
+            high: Some(&[10633823966279326982077534977635909632]),
+        },
     },
     Case {
-        lows: [&[9223372036854775808], &[1152921504606846976]],
+        lows: [&[9223372036854775807], &[1152921504606846977]],
         widths: [&[0], &[0]],
         levels: 1,
-        low: None,
-        high: None,
+        want: Products {
+            low: None,
+            high: None,
+        },
     },
-    Case {
-        lows: [&[4611686018427387904], &[576460752303423488]],
-        widths: [&[4611686018427387904], &[576460752303423488]],
-        levels: 1,
-        low: None,
-        high: None,
-    },
-    Case {
-        lows: [&[9223372036854775808, 9223372036854775808], &[1]],
-        widths: [&[0, 0], &[0]],
-        levels: 2,
-        low: Some(&[9223372036854775808, 9223372036854775808]),
-        high: Some(&[9223372036854775808, 9223372036854775808]),
-    },
-    // no room
+    // too long
     Case {
         lows: [&[1, 1, 1], &[1, 1]],
         widths: [&[0, 0, 0], &[0, 0]],
         levels: 2,
-        low: None,
-        high: None,
+        want: Products {
+            low: None,
+            high: None,
+        },
     },
 ];
 
@@ -252,45 +188,34 @@ fn products_are_exact(rt: HostRuntime) -> Result<(), AllocError> {
     Ok(())
 }
 
-/// Whether a list counts 1, 2, 3 and so on.
-fn is_count(list: &[u128]) -> bool {
-    let mut same = true;
-    for (s, item) in list.iter().enumerate() {
-        same = same && *item == s as u128 + 1;
+/// The numbers 1, 2, 3 and so on, so many.
+fn counted(alloc: Global, count: usize) -> Result<Vec<u128>, AllocError> {
+    let mut list = Vec::with_capacity(alloc, count)?;
+    for i in 0..count {
+        list.push(i as u128 + 1)?;
     }
-    same
+    Ok(list)
 }
 
-/// Whether the square of so many ones counts the pairs.
-fn square_counts(
-    alloc: Global,
-    setup: &Setup,
-    buffers: &mut Buffers,
-    count: usize,
-) -> Result<bool, AllocError> {
-    let ones = Vec::from_elem(alloc, 1, count)?;
-    let zeros = Vec::from_elem(alloc, 0, count)?;
-    let cells = Cells {
-        lows: ones.as_slice(),
-        widths: zeros.as_slice(),
-    };
-    let mut lows = Vec::from_elem(alloc, 0, count)?;
-    let mut highs = Vec::from_elem(alloc, 0, count)?;
-    let (low, high) = (lows.as_mut_slice(), highs.as_mut_slice());
-    let told = product(alloc, cells, None, setup, buffers, low, high)?;
-    Ok(told && is_count(lows.as_slice()) && is_count(highs.as_slice()))
-}
-
-/// Whether the setup of so many levels has them, and squares half as many ones as it has room for.
-fn counts(alloc: Global, levels: u32, buffers: &mut Buffers) -> Result<bool, AllocError> {
+/// Whether the setup of so many levels is there, and the square of half as many ones as it has room
+/// for counts the pairs.
+fn counts(alloc: Global, buffers: &mut Buffers, levels: u32) -> Result<bool, AllocError> {
     if levels == 0 || levels >= 40 {
         return Ok(false);
     }
+    let count = 1usize << (levels - 1);
+    let (ones, none) = (
+        Vec::from_elem(alloc, 1, count)?,
+        Vec::from_elem(alloc, 0, count)?,
+    );
+    let cells = cells_of(ones.as_slice(), none.as_slice());
+    let sums = counted(alloc, count)?;
+    let want = Products {
+        low: Some(sums.as_slice()),
+        high: Some(sums.as_slice()),
+    };
     match set_up(alloc, levels)? {
-        Some(setup) => Ok(
-            setup.levels() == levels
-                && square_counts(alloc, &setup, buffers, 1usize << (levels - 1))?,
-        ),
+        Some(setup) => are_wanted(alloc, buffers, &setup, cells, cells, want),
         None => Ok(false),
     }
 }
@@ -300,7 +225,7 @@ fn there_are_tables_at_every_level(rt: HostRuntime) -> Result<(), AllocError> {
     let alloc = rt.alloc();
     let mut buffers = Buffers::new(alloc);
     for levels in 1..18 {
-        assert!(rt; counts(alloc, levels, &mut buffers)?, "{levels} levels");
+        assert!(rt; counts(alloc, &mut buffers, levels)?, "{levels} levels");
     }
     Ok(())
 }
