@@ -76,6 +76,8 @@ def made():
     text = f"port Large agg {long} 2 claims dsev [1000000000 2000000000] poisson agg Marine 1 claims dsev [1000000000] poisson"
     yield "large", decl.Book(text).page([10, 20, 50, 100, 200, 250, 500, 1000], currency="JPY")
     yield "common", example("common").page()
+    rows = [{"name": f"Line of business {at}", "claims": at + 1, "amounts": [1000, 2000], "limit": 1500, "attachment": 0} for at in range(18)]
+    yield "pooled", decl.from_frame(rows).page([10, 200])
     yield "between", decl.between("agg C 3 claims 500 xs 0 sev lognorm 50 cv 1.75 poisson", 10, log2=8).page([10, 100])
     yield "open", decl.between("agg C 1 claims sev lognorm 50 cv 1 poisson", 20, log2=7).page([10, 100])
     start = "agg Fire 3 claims dsev [10 20 50 100 300] [0.5 0.25 0.15 0.08 0.02]"

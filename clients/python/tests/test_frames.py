@@ -385,6 +385,9 @@ class Pooled(Case):
         rows = [{"name": f"L{at}", "claims": 0.25, "amounts": [1, 2]} for at in range(17)]
         book = decl.from_frame(rows, common=1)
         self.assertEqual((book.units, book.changed), (("Pool",), 0))
+        page = book.page([10])
+        self.assertIn('data-ask="cotail:L16:0.9"', page)
+        self.assertNotIn("each unit&#x27;s share", page)
         self.assertTrue(book.text.startswith("port Book common 1 note{Poisson lines in one unit: L0, L1,"))
         year = Year.gamma(Fraction(17, 4), 1, {1: 1, 2: 1}, 256)
         for name in ("L0", "L16"):

@@ -279,7 +279,7 @@ class OfTwoPrograms(Figures):
         self.assertNotIn("or more", "".join(cell.shown for cell in page.cells))
 
     def test_gross_ceded_and_net(self):
-        """Of a claim of 10 or 37 half of what lies above 20 is ceded, and nothing of two dice, on buckets of 2; and of lognormal claims 100 xs 100."""
+        """Of a claim of 10 or 37 half of what lies above 20 is ceded, and nothing of two dice; and of lognormal claims 100 xs 100."""
         text = "port T agg A dfreq [1] dsev [10 37] # half of 17\n occurrence net of 0.5 so inf xs 20 agg B dfreq [2] dsev [1:6]"
         page = Page(decl.coarser(text, 2).page([2, 10]))
         self.held(page)

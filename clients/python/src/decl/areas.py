@@ -7,7 +7,7 @@ from fractions import Fraction
 from itertools import groupby
 from typing import TYPE_CHECKING, Container, Iterable, List, Mapping, Optional, Sequence, TypeVar
 
-from .drawing import Frame, Scale, amount_axis, area, drawn, label, middle, money_axis, period_axis, round_periods
+from .drawing import WIDE, Frame, Scale, amount_axis, area, drawn, label, middle, money_axis, period_axis, round_periods
 from .figures import plain
 from .reports import Row
 from .shares import TailShares
@@ -38,6 +38,11 @@ def thinned(found: List[List[int]]) -> List[List[int]]:
     found = found[:: -(-len(found) // SAMPLES) or 1]
     step = -(-sum(map(len, found)) // SAMPLES) or 1
     return [[*run[:-1:step], run[-1]] for run in found]
+
+
+def halved(run: List[int]) -> List[int]:
+    """About every second place of a long run, for a narrow picture, and its ends."""
+    return [*run[:-1:2], run[-1]] if len(run) > SAMPLES // 4 else run
 
 
 def named(words: Sequence[str]) -> str:
@@ -88,7 +93,7 @@ class YearShares:
         across, up = frame.across(float(self.last * book.bs)), frame.up(0, 1)
         parts: List[str] = []
         for run in self.drawn:
-            totals = [at * book.bs for at in run]
+            totals = [at * book.bs for at in (run if frame is WIDE else halved(run))]
             values = [[(middle_of(book.kappa(name, x)) or 0.0) / float(x) for x in totals] for name in book.units]
             more = f'data-totals="{plain(totals[0])} {plain(totals[-1])}"'
             parts += stacked(colours, values, [across.at(float(x)) for x in totals], up, more)
@@ -118,7 +123,8 @@ def year_shares(book: "Book", longest: Fraction) -> YearShares:
     white = runs(cells, {*cells} - {at for run in found for at in run})
     if white:
         where = stretches([[at * book.bs for at in run] for run in white])
-        told.append(f"No share is drawn at totals of {where}: such a total cannot occur, or is not sure to have a probability of at least 1 in 65,536.")
+        why = "such a total cannot occur, or is not sure to have a probability of at least 1 in 65,536"
+        told.append(f"No share is drawn at totals of {where}: {why}.")
     if len(chosen) < len(found):
         told.append(f"Of {len(found):,} stretches of totals with shares {len(chosen)} are drawn.")
     return YearShares(book, last, chosen, told + ([f"One total in {step} is looked at."] if step > 1 else []))

@@ -9,6 +9,8 @@ from typing import Iterable, List, Optional, Tuple
 Point = Tuple[float, float]
 #: Units of money of an axis, with their names.
 UNITS = ((10.0**9, "billions"), (10.0**6, "millions"), (10.0**3, "thousands"))
+#: The digits of an exponent.
+RAISED = "\u2070\u00b9\u00b2\u00b3\u2074\u2075\u2076\u2077\u2078\u2079"
 
 
 @dataclass(frozen=True)
@@ -165,7 +167,7 @@ def steps(values: List[Point], end: float) -> List[Point]:
 
 def power_of_ten(power: int) -> str:
     """A power of ten of at most 0 as a label: `0.001`, and those that are longer with an exponent."""
-    return f"{10.0**power:.10g}" if power > -5 else "10\u207b" + "".join("\u2070\u00b9\u00b2\u00b3\u2074\u2075\u2076\u2077\u2078\u2079"[int(sign)] for sign in str(-power))
+    return f"{10.0**power:.10g}" if power > -5 else "10\u207b" + "".join(RAISED[int(digit)] for digit in str(-power))
 
 
 def middle(low: Optional[Fraction], high: Optional[Fraction]) -> Optional[float]:

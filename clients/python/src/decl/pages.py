@@ -121,17 +121,22 @@ def on_tail_shares(book: "Book", years: Sequence[Fraction], head: Head) -> str:
     members, colours = [*book._members().values()], colours_of(book)
     asked = tail_shares(book, members, given)
     columns = {f"{amount_of(each)} years": [*rows_at(asked, each, len(members)), book.tail(1 - 1 / each)] for each in given}
-    drawn = tail_shares(book, book.units, periods_of(given))
+    drawn = tail_shares(book, book.units, periods_of(given)) if len(book.units) > 1 else asked
     tails = {each: book.mean() if each == 1 else book.tail(1 - 1 / each) for each in periods_of(given)}
-    picture = both(lambda frame: tail_picture(drawn, tails, colours, frame, head.currency))
-    legend = [] if {*members} == {*book.units} else [key({name: swatch_of(hue) for name, hue in colours.items()})]
+    caption = f"the mean, and shares of the TVaR by return period{head.within}"
     return section(
         "Each unit's share of the TVaR",
         *map(paragraph, told_of_tail(drawn)),
-        *tabled(shares_table(book, columns), f"the mean, and shares of the TVaR by return period{head.within}", swatches=swatches(book)),
-        f"<figure>{picture}</figure>",
-        *legend,
+        *tabled(shares_table(book, columns), caption, swatches=swatches(book)),
+        *pictured(book, both(lambda frame: tail_picture(drawn, tails, colours, frame, head.currency)) if len(book.units) > 1 else ""),
     )
+
+
+def pictured(book: "Book", picture: str) -> List[str]:
+    """A picture of all units, where there is one, with their colours where the table beside it is not of the same units."""
+    alike = {*book._members().values()} == {*book.units}
+    legend = [] if alike else [key({name: swatch_of(hue) for name, hue in colours_of(book).items()})]
+    return [f"<figure>{picture}</figure>", *legend] if picture else []
 
 
 def rows_at(found: TailShares, years: Fraction, many: int) -> List[Row]:
@@ -165,13 +170,14 @@ def on_year_shares(book: "Book", years: Sequence[Fraction], head: Head) -> str:
     """Each unit's share of a year of a given total, as numbers at the VaRs and as a picture up to the longest of them."""
     found = year_shares(book, max(years, default=Fraction(200)))
     columns = {year_of(total, periods): year_column(book, total) for total, periods in totals_of(book, years).items()}
-    picture = both(lambda frame: found.picture(colours_of(book), frame, head.currency))
+    is_drawn = found.drawn and len(book.units) > 1
     caption = f"the mean, and the mean of each unit in a year whose total is a VaR{head.within}"
     return section(
         "Each unit's share of a year",
-        *map(paragraph, found.told),
+        *(map(paragraph, found.told) if len(book.units) > 1 else []),
         *tabled(shares_table(book, columns), caption, swatches=swatches(book)),
-        *([f"<figure>{picture}</figure>"] if found.drawn else [note("There is no picture, since no total has shares.")]),
+        *pictured(book, both(lambda frame: found.picture(colours_of(book), frame, head.currency)) if is_drawn else ""),
+        *([] if found.drawn else [note("There is no picture, since no total has shares.")]),
     )
 
 
@@ -217,7 +223,7 @@ def book_page(book: "Book", years: Sequence[Fraction], head: Head) -> str:
     if found is not None:
         parts.append(on_cessions(found, years, head))
     parts.append(on_layers(book, years, head))
-    if len(book.units) > 1:
+    if len(book._members()) > 1:
         parts += [on_tail_shares(book, years, head), on_year_shares(book, years, head)]
     parts.append(section("What the book is worth", *tabled(book.describe(), f"of the total of a year{head.within}")))
     apart = [note("Lines are pooled after their clauses, so that gross and ceded are not told apart.")] if pooled else []
@@ -246,8 +252,8 @@ def between_page(book: "Between", years: Sequence[Fraction], head: Head) -> str:
     )
     if book.reach is not None:
         told += (
-            f" A claim can be of any size: the program from above holds the total below {amount_of(book.reach)} alone, and a figure that rests on more"
-            " has no high end."
+            f" A claim can be of any size: the program from above holds the total below {amount_of(book.reach)} alone, and a figure that rests on"
+            " more has no high end."
         )
     shares = "Shares of the units are not here: of two programs, a share in one need not lie below that in the other, so they do not hold it."
     programs = [program(book.book(up), f"From {END[up]}: ", END[up]) for up in (False, True)]

@@ -35,7 +35,8 @@ LOOK = """
 svg text { font: 15px system-ui, sans-serif; fill: var(--soft); } svg[data-frame=narrow] text { font-size: 12px; }
 .axis { stroke: var(--soft); } .grid { stroke: var(--line); } .period { stroke: var(--soft); stroke-dasharray: 2 5; opacity: 0.7; }
 .band { fill: var(--band); stroke: var(--curve); stroke-width: 1.2; } .curve { fill: none; stroke: var(--curve); stroke-width: 2; }
-svg.sign { display: inline-block; width: 40px; height: 8px; margin-right: 8px; } .book { fill-opacity: 0.35; stroke-width: 2; } .share { stroke: var(--paper); stroke-width: 0.7; }
+svg.sign { display: inline-block; width: 40px; height: 8px; margin-right: 8px; } .book { fill-opacity: 0.35; stroke-width: 2; }
+.share { stroke: var(--paper); stroke-width: 0.7; }
 .VaR { fill: var(--var); } .TVaR { fill: var(--tvar); } .mark { stroke: var(--paper); stroke-width: 1; }
 .open { stroke-dasharray: 6 4; stroke-width: 2; } .open.VaR { stroke: var(--var); } .open.TVaR { stroke: var(--tvar); }
 """
@@ -75,7 +76,8 @@ def probability_axis(frame: Frame, down: Scale, end: float, years: Iterable[Frac
     parts = [label(2, frame.top - 14, "probability of more", "start"), label(frame.width - 2, frame.top - 14, "years", "end")]
     for power in range(int(down.low), 1):
         y = down.at(power)
-        parts += [line(frame.left, y, end, y, "grid"), label(frame.left - 8, y + 4, power_of_ten(power), "end", f' class="power" data-power="{power}"')]
+        parts.append(line(frame.left, y, end, y, "grid"))
+        parts.append(label(frame.left - 8, y + 4, power_of_ten(power), "end", f' class="power" data-power="{power}"'))
     last = math.inf
     for each in sorted(years):
         y = down.at(math.log10(1 / each))

@@ -35,7 +35,8 @@ pre { background: var(--shade); padding: 0.8em 1em; white-space: pre-wrap; overf
 table { border-collapse: collapse; margin: 0.8em 0; overflow-wrap: normal; } caption { text-align: left; color: var(--soft); padding-bottom: 0.3em; }
 th, td { padding: 0.3em 0.8em; text-align: right; vertical-align: top; border-bottom: 1px solid var(--line); }
 td { font-variant-numeric: tabular-nums; } thead th { vertical-align: bottom; }
-th:first-child { text-align: left; padding-left: 0; } th.long { overflow-wrap: anywhere; min-width: 13em; }
+th:first-child { text-align: left; padding-left: 0; white-space: nowrap; }
+th:first-child.long { white-space: normal; overflow-wrap: anywhere; min-width: 13em; }
 th:first-child.named { position: relative; padding-left: 1.4em; } .named .swatch { position: absolute; left: 0; top: 0.6em; }
 tr.total > * { border-top: 2px solid var(--soft); font-weight: 600; }
 figure { margin: 1em 0; } svg { display: block; width: 100%; height: auto; } .narrow { display: none; max-width: 560px; }
