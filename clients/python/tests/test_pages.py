@@ -282,13 +282,17 @@ class Pages(Case):
         self.assertIn('<th scope="row">mean of Vans</th>', page)
 
     def test_books_at_the_edge(self):
-        """No loss at all, a grid that is too small, and one total: a page is there, and a VaR past the grid has no mark."""
+        """No loss at all, a grid that is too small, and one total: a page is there, and a TVaR past the grid has no mark. So it is without
+        periods, with one year, and with very many."""
         for text, marks in (("agg Z dfreq [1] dsev [0]", 8), ("agg Wide dfreq [2] dsev [1 80000]", 4), ("agg One dfreq [1] dsev [7]", 8)):
             page = decl.Book(text).page([10, 100])
             self.assertEqual(page.count('class="mark'), marks, text)
             self.assertIn("past the grid" if marks == 4 else "<svg", page)
         twins = decl.Book("port Twins agg A dfreq [1] dsev [1] agg B dfreq [1] dsev [1]").page()
         self.assertIn("<title>Twins</title>", twins)
+        rare = decl.Book("port R agg A dfreq [0 1] [0.999 0.001] dsev [5] agg B dfreq [0 1] [0.999 0.001] dsev [7]")
+        for years in ([], [1], [1, "3/2"], [2, 10**8]):
+            self.assertIn("the mean, and shares of the TVaR by return period", rare.page(years))
 
 
 def areas_of_tail(book, years):

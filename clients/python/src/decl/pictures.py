@@ -22,6 +22,8 @@ if TYPE_CHECKING:
 POINTS = {"wide": 640, "narrow": 300}
 #: The least probability that is drawn is this part of that of the longest return period.
 FURTHER = 10
+#: The least probability whose quantile is asked for.
+LEAST = Fraction(1, 10**8)
 #: How round a mark is.
 ROUND = {"VaR": 5, "TVaR": 0}
 #: Curves of several books differ by their strokes, too.
@@ -130,7 +132,7 @@ def reach(book: "Asked", years: Iterable[Fraction], least: Fraction) -> Fraction
     """How far a picture goes: past the VaR and the TVaR of each return period, and to the total that is passed with the least probability
     that is drawn. Of an answer without a high end it is the low one."""
     levels = [1 - 1 / each for each in years]
-    rows = [book.q(1 - least), *(book.q(p) for p in levels), *(book.tail(p) for p in levels)]
+    rows = [book.q(1 - max(least, LEAST)), *(book.q(p) for p in levels), *(book.tail(p) for p in levels)]
     ends = [row.low if row.high is None else row.high for row in rows]
     return Fraction(102, 100) * max([book.bs, *(Fraction(end) for end in ends if end is not None)])
 
