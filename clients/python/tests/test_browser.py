@@ -105,7 +105,7 @@ class Browser(Case):
         """A finished run of Chromium without a window."""
         with tempfile.TemporaryDirectory() as room:
             fixed = ["--headless", "--no-sandbox", "--disable-gpu", "--hide-scrollbars", "--enable-logging=stderr", f"--user-data-dir={room}"]
-            return subprocess.run([cls.browser, *fixed, *words], capture_output=True, text=True, timeout=60)
+            return subprocess.run([cls.browser, *fixed, *words], capture_output=True, text=True, timeout=180)
 
     @classmethod
     def looked_at(cls, page):
