@@ -8,10 +8,10 @@ use Rattle.dl_plan.specs.Common.{CanRaise, CanShare}
 use Rattle.dl_plan.specs.Count.{IsUnbounded}
 use Rattle.dl_plan.proofs.Shared.{gamma_unbounded, poisson_unbounded}
 use Rattle.dl_budget.specs.Shared.{shared_joint_budget}
-use Rattle.dl_common.specs.Amounts.{claims_mean}
-use Rattle.dl_common.specs.Extra.{IsExtra}
-use Rattle.dl_common.proofs.GammaJoint.{gamma_exact}
-use Rattle.dl_common.proofs.PoissonJoint.{poisson_exact}
+use Rattle.dl_shares.specs.Amounts.{claims_mean}
+use Rattle.dl_pool.specs.Extra.{IsExtra}
+use Rattle.dl_shares.proofs.GammaJoint.{gamma_exact}
+use Rattle.dl_shares.proofs.PoissonJoint.{poisson_exact}
 use Rattle.dl_eval.proofs.Losses.{is_independent, total_alone}
 use Rattle.dl_eval.proofs.ReadAs.{read_as, unit_there}
 use Rattle.dl_eval.specs.Totals.{AreRaisedTotals, IsClaimsGrid}

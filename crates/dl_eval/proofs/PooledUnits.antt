@@ -3,11 +3,11 @@ use Rattle.dl_eval.proofs.Common.{ℕ, suc, ◌≡◌, ◌+◌, ◌*◌, ◌^◌
 use Rattle.dl_plan.specs.declared.plan.Freq.TheVariants.{Gamma}
 use Rattle.dl_plan.proofs.Shared.{has_factor, poisson_unbounded}
 use Rattle.dl_model.proofs.Outcomes.{total_alone, total_alone_all}
-use Rattle.dl_common.specs.Pooled.{IsPooled, IsRaised, alone}
-use Rattle.dl_common.proofs.Alone.{pooled_thinned, pooled_valid, raised_thinned, raised_valid, same_declared}
+use Rattle.dl_pool.specs.Pooled.{IsPooled, IsRaised, alone}
+use Rattle.dl_pool.proofs.Alone.{pooled_thinned, pooled_valid, raised_thinned, raised_valid, same_declared}
 use Rattle.dl_budget.specs.Shared.{raised_budget, shape_budget, shared_joint_budget, thinned_at}
 use Rattle.dl_budget.proofs.SharedUnits.{shape_rises, thinned_here}
-use Rattle.dl_common.proofs.JointEnds.{common_exact}
+use Rattle.dl_shares.proofs.CommonJoint.{common_exact}
 use Rattle.dl_limits.specs.Limits.{budget_bound}
 use Rattle.dl_eval.proofs.Totals.{plain_encloses}
 use Rattle.dl_eval.specs.Totals.{IsClaimsGrid}

@@ -2,11 +2,11 @@
 use Rattle.dl_eval.proofs.Common.{ℕ, ◌≡◌, ◌+◌, ◌-◌, ◌*◌, ◌^◌, ◌<◌, ◌≤◌, List, length, get_or, arith, sym, ap, subst, subst₂, thinned_mean, mul-le-mul_left, pow_pos, None, Fraction, ◌over◌, ◌+ℚ◌, ◌≤ℚ◌, ◌<ℚ◌, Iv, over_le_over, low_at, high_at, spread, convolution_spread, cv_rises, Holds, One, Point, partial_sums, aggregates_of, at_most_wider, Plan, Row, unit_budgets, total_budget, index_of, tail_budget, ask_budget, in_digits, Declares, DeclaresGiven, IsBelow, IsTailMean, IsAnswerTo, total_error, IsTotalOf, AreOthersOf, Prints, ◌⊎◌, mul-le-mul, over_lt, over_plus, Series, AtLeast, Joint, others_budget, joint_budget, kappa_budget, least_likely, IsAtMost, IsBeyond, IsShareOfUnit, IsTooRare, IsJointOf, declared, IsGridOfUnit}
 use Rattle.dl_plan.specs.declared.settings.Ask.TheVariants as asks
 use Rattle.dl_budget.specs.Shared.{shared_joint_budget}
-use Rattle.dl_common.specs.Amounts.{claims_mean}
-use Rattle.dl_cotail.specs.Source.{GivesJoints, exact_high, exact_low, joint_width}
-use Rattle.dl_cotail.specs.declared.source.OverClaims.{OverClaims}
-use Rattle.dl_cotail.specs.declared.source.ShareSource.{ShareSource}
-use Rattle.dl_cotail.specs.declared.source.ShareSource.TheVariants as sources
+use Rattle.dl_shares.specs.Amounts.{claims_mean}
+use Rattle.dl_shares.specs.Source.{GivesJoints, exact_high, exact_low, joint_width}
+use Rattle.dl_shares.specs.declared.source.OverClaims.{OverClaims}
+use Rattle.dl_shares.specs.declared.source.ShareSource.{ShareSource}
+use Rattle.dl_shares.specs.declared.source.ShareSource.TheVariants as sources
 use Rattle.dl_eval.specs.Totals.{IsClaimsGrid, IsSourceOf}
 use Rattle.dl_eval.proofs.Losses.{is_independent}
 use Rattle.dl_eval.proofs.Printed.{are_ends, declared_ends, given_widens}

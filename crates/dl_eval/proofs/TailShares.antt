@@ -3,10 +3,10 @@ use Rattle.dl_eval.proofs.Common.{ℕ, ◌≡◌, ◌+◌, ◌*◌, ◌<ℚ◌, 
 use Rattle.dl_plan.specs.declared.settings.Ask.TheVariants as asks
 use Rattle.dl_model.specs.Shares.{HoldsShare, unit_mean}
 use Rattle.dl_exact.proofs.BelowOne.{num_below}
-use Rattle.dl_cotail.specs.Prelude.{IsPast, MayBeAbsent}
-use Rattle.dl_cotail.specs.Source.{GivesJoints, exact_high, exact_low, joint_width}
-use Rattle.dl_cotail.specs.Widths.{conditional_width, share_width}
-use Rattle.dl_cotail.specs.declared.source.ShareSource.{ShareSource}
+use Rattle.dl_shares.specs.Prelude.{IsPast, MayBeAbsent}
+use Rattle.dl_shares.specs.Source.{GivesJoints, exact_high, exact_low, joint_width}
+use Rattle.dl_shares.specs.Widths.{conditional_width, share_width}
+use Rattle.dl_shares.specs.declared.source.ShareSource.{ShareSource}
 use Rattle.dl_eval.proofs.Losses.{is_independent, total_alone}
 use Rattle.dl_eval.proofs.Printed.{Widens, are_ends}
 use Rattle.dl_eval.proofs.Tails.{tail_reached}

@@ -6,7 +6,7 @@ use Rattle.dl_plan.specs.declared.settings.Asked.{Asked}
 use Rattle.dl_plan.specs.Prelude.{facts_of}
 use Rattle.dl_eval.specs.declared.drawn.PlanGrids.{PlanGrids}
 use Rattle.dl_eval.specs.declared.drawn.PlanGrids.TheVariants.{Independent, Shared}
-use Rattle.dl_cotail.specs.declared.source.ShareSource.TheVariants as sources
+use Rattle.dl_shares.specs.declared.source.ShareSource.TheVariants as sources
 use Rattle.dl_eval.specs.declared.shares.DrawnFrom.{DrawnFrom}
 use Rattle.dl_eval.specs.declared.shares.DrawnFrom.TheVariants.{Beside, Total, Extra}
 use Rattle.dl_eval.specs.Totals.{AreGridsOf, ArePooledGridsOf, HasShareFrom, IsClaimsGrid, IsSourceOf}

@@ -6,7 +6,7 @@ use Rattle.dl_exact.specs.Fraction.{Fraction, ◌over◌, ◌+ℚ◌}
 use Rattle.dl_model.specs.Prelude.{Holds, AtLeast, AtMost, Below, Quantity, PricedTerm, One, Point, Cdf, Mean, Layer, Tail, Price, Joint, IsQuantile, IsBracketed, HoldsShare, declared}
 use Rattle.dl_measures.specs.Ends.{IsTight}
 use Rattle.dl_distort.specs.Prices.{AreTermsOf, AreQuantiles}
-use Rattle.dl_cotail.specs.Settled.{MayBeAbsent}
+use Rattle.dl_shares.specs.Settled.{MayBeAbsent}
 use Rattle.dl_plan.specs.declared.plan.Plan.{Plan}
 use Rattle.dl_plan.specs.declared.settings.Ask.{Ask}
 use Rattle.dl_plan.specs.declared.settings.Ask.TheVariants as asks

@@ -7,16 +7,16 @@ use Rattle.dl_limits.specs.Limits.{budget_bound}
 use Rattle.dl_iv.specs.declared.interval.Iv.{Iv}
 use Rattle.dl_grid.specs.Cells.{low_at, high_at, spread}
 use Rattle.dl_model.specs.Prelude.{Holds, GridEncloses, mapped, One, Point, Mean, Joint, partial_sums, total, unit_of, without, aggregate_of, loss_of, aggregates_of, declared}
-use Rattle.dl_common.specs.Amounts.{claims_mean}
-use Rattle.dl_common.specs.Pooled.{IsPooled}
+use Rattle.dl_shares.specs.Amounts.{claims_mean}
+use Rattle.dl_pool.specs.Pooled.{IsPooled}
 use Rattle.dl_plan.specs.declared.plan.Unit.{Unit as UnitOfPlan}
 use Rattle.dl_plan.specs.declared.plan.Plan.{Plan}
 use Rattle.dl_plan.specs.Prelude.{IsUnbounded, horizon, mean_width, thinned_mean}
 use Rattle.dl_cede.specs.Means.{HoldsMean}
 use Rattle.dl_budget.specs.Prelude.{claims_budget, after_clause, unit_budget, unit_budgets, unit_mean_budget, total_budget, others_budget, mean_budget, joint_budget, cotail_budget}
 use Rattle.dl_budget.specs.Shared.{shared_joint_budget}
-use Rattle.dl_cotail.specs.declared.source.ShareSource.{ShareSource}
-use Rattle.dl_cotail.specs.Source.{GivesJoints, joint_width}
+use Rattle.dl_shares.specs.declared.source.ShareSource.{ShareSource}
+use Rattle.dl_shares.specs.Source.{GivesJoints, joint_width}
 use Rattle.dl_report.specs.declared.report.End.TheVariants.{Number}
 use Rattle.dl_report.specs.declared.report.Row.{Row}
 use Rattle.dl_eval.specs.declared.grids.Grids.{Grids}

@@ -8,11 +8,11 @@ ghost use Rattle.dl_eval.specs.Totals.{most_mean, ArePooledGridsOf, IsClaimsGrid
 
 use dl_budget::unit_budget;
 use dl_cede::claims_mean;
-use dl_common::{pool, raised};
 use dl_grid::Grid;
 use dl_iv::Iv;
 use dl_limits::BUDGET_BOUND;
 use dl_plan::{Plan, Unit};
+use dl_pool::{pool, raised};
 use dl_product::Workspace;
 use dl_unit::unit_grid_with;
 use std::alloc::{AllocError, Global};

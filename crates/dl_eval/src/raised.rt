@@ -4,7 +4,7 @@ ghost use Rattle.std.specs.Prelude.{◌≡◌, ◌^◌, ◌<◌, ◌≤◌, ◌�
 ghost use Rattle.dl_limits.specs.Limits.{bits_of, budget_bound};
 ghost use Rattle.dl_plan.specs.Prelude.{CanRaise, IsUnbounded, IsValid, IsValidUnit, thinned_mean};
 ghost use Rattle.dl_model.specs.Prelude.{GridEncloses, total as total_of, loss_of, aggregates_of};
-ghost use Rattle.dl_common.specs.Extra.{IsExtra};
+ghost use Rattle.dl_pool.specs.Extra.{IsExtra};
 ghost use Rattle.dl_budget.specs.Asks.{joint_budget};
 ghost use Rattle.dl_budget.specs.Shared.{shared_joint_budget};
 ghost use Rattle.dl_eval.specs.Totals.{AreRaisedTotals, IsClaimsGrid, IsTotalOf};
@@ -12,10 +12,10 @@ ghost use Rattle.dl_eval.specs.Totals.{AreRaisedTotals, IsClaimsGrid, IsTotalOf}
 use crate::grids::is_named;
 use crate::units::outcomes_of;
 use dl_budget::{joint_budget, shared_joint_budget};
-use dl_common::extra;
 use dl_grid::Grid;
 use dl_limits::BUDGET_BOUND;
 use dl_plan::{Plan, Unit};
+use dl_pool::extra;
 use dl_product::{Workspace, product};
 use std::alloc::{AllocError, Global};
 

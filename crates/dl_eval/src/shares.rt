@@ -10,18 +10,15 @@ ghost use Rattle.dl_eval.specs.Totals.{AreGridsOf, AreOthersOf, ArePooledGridsOf
 ghost use Rattle.dl_eval.specs.Drawn.{AreDrawnOf, GivesFrom, HasCells, HasShareOf};
 ghost use Rattle.dl_grid.specs.Cells.{low_at};
 ghost use Rattle.dl_measures.specs.Prelude.{IsFirstFound, low_cdf};
-ghost use Rattle.dl_cotail.specs.Settled.{MayBeAbsent};
-ghost use Rattle.dl_cotail.specs.Source.{reach};
-ghost use Rattle.dl_cotail.specs.declared.source.ShareSource.TheVariants as sources;
+ghost use Rattle.dl_shares.specs.Settled.{MayBeAbsent};
+ghost use Rattle.dl_shares.specs.Source.{reach};
+ghost use Rattle.dl_shares.specs.declared.source.ShareSource.TheVariants as sources;
 
 use crate::drawn::PlanGrids;
 use crate::grids::Grids;
 use crate::pooled::PooledGrids;
 use crate::rows::{beyond_row, ends_row, row_with};
-use dl_alloc::conditional_mean;
 use dl_budget::{others_budget, unit_budget};
-use dl_cotail::laws::{law_beside, law_plan_joint_most, law_unit_mean};
-use dl_cotail::{Beside, OverClaims, ShareSource};
 use dl_frac::Frac;
 use dl_grid::Grid;
 use dl_iv::Iv;
@@ -29,6 +26,8 @@ use dl_limits::BUDGET_BOUND;
 use dl_measures::{Distribution, quantile};
 use dl_plan::{Asked, Plan};
 use dl_report::{End, Row};
+use dl_shares::laws::{law_beside, law_plan_joint_most, law_unit_mean};
+use dl_shares::{Beside, OverClaims, ShareSource, conditional_mean};
 use std::alloc::{AllocError, Global};
 
 /// The grids that the joint means of a unit beside independent units are drawn from.

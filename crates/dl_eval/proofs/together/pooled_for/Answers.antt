@@ -1,6 +1,6 @@
 use Rattle.dl_eval.proofs.Common.{◌≡◌, length, arith, ap, ◌∙◌, subst, sym, All, if_ok_two}
 use Rattle.std.specs.Prelude.{filter}
-use Rattle.dl_common.specs.Pooled.{lent}
+use Rattle.dl_pool.specs.Pooled.{lent}
 use Rattle.dl_plan.specs.Common.{can_share}
 use Rattle.dl_plan.specs.Common.{CanShare}
 use Rattle.dl_eval.proofs.Parted.{shared_valid, is_pooled_for}

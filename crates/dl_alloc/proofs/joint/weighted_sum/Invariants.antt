@@ -1,9 +1,0 @@
-use Rattle.dl_alloc.proofs.Common.{◌≡◌, get_or}
-use Rattle.dl_alloc.proofs.Nested.{running, nested}
-use Rattle.dl_alloc.proofs.joint.weighted_sum.Given as goal
-
-abbrev pub invariant-loop-z : goal.invariant-loop-z
-invariant-loop-z l = record {
-  so_far : l.so_far ≡ running l.x (λ y. get_or l.own y 0) (λ z. get_or l.other z 0) l.z;
-  sum : l.sum ≡ nested l.x (λ y. get_or l.own y 0) (λ z. get_or l.other z 0) l.z;
-}

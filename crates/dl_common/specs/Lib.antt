@@ -1,3 +1,0 @@
-pub mod Pooled
-pub mod Amounts
-pub mod Extra

@@ -1,9 +1,0 @@
-use Rattle.dl_common.proofs.OneClaim.{outcome_most}
-use Rattle.dl_cotail.proofs.JointMost.{losses_within}
-use Rattle.dl_cotail.proofs.laws.law_joint_most.Goals as goal
-
-pub returns : goal.returns
-returns c = record {
-  most = outcome_most;
-  below = λ us i x l h S declared. (losses_within us declared).1 i x l h S;
-}

@@ -1,5 +1,0 @@
-use Rattle.dl_cotail.proofs.UnitMeans.{mean_beside}
-use Rattle.dl_cotail.proofs.laws.law_unit_mean.Goals as goal
-
-pub returns : goal.returns
-returns c = mean_beside

@@ -1,9 +1,0 @@
-use Rattle.dl_common.proofs.GammaJoint.{gamma_exact}
-use Rattle.dl_cotail.proofs.ClaimCounts.{counted}
-use Rattle.dl_cotail.proofs.laws.law_with_extra.Goals as goal
-
-pub returns : goal.returns
-returns g c us i extra units there here is encloses x inside =
-    let from = c.args.from.now in
-    gamma_exact from.unit.now extra c.requires.gamma (counted from.unit.now.freq from.fit.count) is from.grid.now us i x
-    units there here encloses inside

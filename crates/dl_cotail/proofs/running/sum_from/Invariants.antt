@@ -1,6 +1,0 @@
-use Rattle.dl_cotail.proofs.Common.{◌≡◌, ◌-◌, low_at}
-use Rattle.dl_cotail.specs.Sums.{sums_of}
-use Rattle.dl_cotail.proofs.running.sum_from.Given as goal
-
-abbrev pub invariant-loop-step : goal.invariant-loop-step
-invariant-loop-step g l = l.lowered ≡ sums_of (low_at l.total) (l.from - l.step)

@@ -1,6 +1,0 @@
-pub mod Claims
-pub mod Settled
-pub mod Source
-pub mod Sums
-pub mod Widths
-pub mod Prelude

@@ -1,4 +1,0 @@
--- The definitions that other crates cite, passed on from one place. Declares nothing.
-pub use Rattle.dl_cotail.specs.Settled.{IsPast, MayBeAbsent}
-pub use Rattle.dl_cotail.specs.Source.{GivesJoints, exact_high, exact_low, joint_width, reach}
-pub use Rattle.dl_cotail.specs.Widths.{share_width}

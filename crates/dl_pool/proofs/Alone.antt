@@ -1,0 +1,220 @@
+-- The plan of the one unit is valid: its amounts are those of the units, and its thinned mean is the sum of theirs.
+use Rattle.dl_pool.proofs.Common.{ℕ, zero, suc, ◌≡◌, ◌∙◌, ◌<◌, ◌≤◌, List, [], ◌∷◌, length, take, get_or, inl, inr, refl, ap, ap₂, sym, subst, arith, All, take_all, cases_lt, sum_by-cons, Fraction, whole, ◌over◌, ◌+ℚ◌, ◌-ℚ◌, ◌*ℚ◌, ◌/ℚ◌, ◌≤ℚ◌, ◌<ℚ◌, sum_over, sum_over_same, sum_over_times, ring, le_refl, le_trans, div_times, times_cancel, times_one, times_zero, times_plus, plus_zero, plus_cancel, sub_plus, times_le_both, whole_pos, over_zero, severity_total, Item, Sev, UnitOfPlan, Plan, HasPartsOf48Bits, greatest, weight_at, probability_of, expected_count, IsUnbounded, Freq, Gamma, thinned_mean, SharesFactor, expected_of, thinned_of, raised, PoissonUnit, expected_claims, pooled_severity, poisson_units, IsMixedOf, IsPooled, IsRaised, alone, ◌==◌, cond, fun_ext, eq-eqb, ne_eqb, get_or-le-sum_by, le_div, whole_le, same_num, over_le, IsClaimCount, has_factor, weight_at-le, gamma_of, Quantity, partial_sums, loss, plain, after_zero, aggregate_of, count_weights, outcome_after, declared, common_sums, pooled_unit, CountsTotal, as_one_loss, declared_is, expected_units, are_severities, pooled_over, shares_severity}
+use Rattle.dl_model.proofs.PoissonTotals.{part_back}
+use Rattle.std.proofs.lemmas.List.Elements.{All-head, All-tail, All-cons, All-nil}
+use Rattle.dl_plan.specs.Valid.{IsValid, IsValidUnit, IsAggregate, IsNewZero}
+use Rattle.std.specs.Prelude.{IfSome}
+use Rattle.dl_limits.specs.Limits.{most_amount_at, most_expected}
+
+-- ---- no amount is past those of the units
+
+absent : (items : List Item) (top a : ℕ) → All (λ (i : Item). i.amount ≤ top) items → top < a → weight_at items a ≡ 0
+absent [] top a near far = refl
+absent (item ∷ items) top a near far =
+    let here = All-head (λ (i : Item). i.amount ≤ top) item items near in
+    let other = ap (λ t. cond t item.weight 0) (ne_eqb item.amount a (λ e. omega arith)) in
+    omega (
+      arith,
+      sum_by-cons (λ (i : Item). cond (i.amount == a) i.weight 0) item items,
+      absent items top a (All-tail (λ (i : Item). i.amount ≤ top) item items near) far,
+    )
+
+none_past : (v : Fraction) (units : List UnitOfPlan) (top a : ℕ)
+    → All (λ (u : UnitOfPlan). All (λ (i : Item). i.amount ≤ top) u.sev.items) units → top < a
+    → sum_over units (λ u. expected_count u.freq /ℚ v *ℚ probability_of u.sev a) ≡ whole 0
+unfolding sum_over
+none_past v [] top a near far = refl
+none_past v (u ∷ us) top a near far =
+    ap₂ (λ s t. s +ℚ t)
+    (ap (λ p. expected_count u.freq /ℚ v *ℚ p)
+    (ap (λ n. n over u.sev.total) (absent u.sev.items top a
+    (All-head (λ (u : UnitOfPlan). All (λ (i : Item). i.amount ≤ top) u.sev.items) u us near) far)
+    ∙ over_zero u.sev.total (severity_total u.sev))
+    ∙ times_zero _)
+    (none_past v us top a
+    (All-tail (λ (u : UnitOfPlan). All (λ (i : Item). i.amount ≤ top) u.sev.items) u us near) far)
+    ∙ plus_zero (whole 0)
+
+-- an item of a severity has a weight, so its amount has
+weight_here : (sev : Sev) (k : ℕ) (d : Item) → k < length sev.items
+    → 0 < weight_at sev.items (get_or sev.items k d).amount
+weight_here sev k d inside =
+    let a : ℕ = (get_or sev.items k d).amount in
+    let own = get_or-le-sum_by (λ (i : Item). cond (i.amount == a) i.weight 0) sev.items k d inside in
+    let all = ap (λ t. cond t (get_or sev.items k d).weight 0) (eq-eqb a a refl) in
+    omega (arith, sev.weighted.positive k d inside)
+
+pub amounts_near : (units : List UnitOfPlan) (made : UnitOfPlan) (top : ℕ)
+    → ((x : ℕ) → probability_of made.sev x ≡ pooled_severity (poisson_units units) x)
+    → All (λ (u : UnitOfPlan). All (λ (i : Item). i.amount ≤ top) u.sev.items) units
+    → All (λ (i : Item). i.amount ≤ top) made.sev.items
+amounts_near units made top same near k d inside = elim (cases_lt top (get_or made.sev.items k d).amount) [
+  | inr h ↦ h
+  | inl far ↦ absurd (
+      let a : ℕ = (get_or made.sev.items k d).amount in
+      let pos : 0 < made.sev.total = severity_total made.sev in
+      let none : weight_at made.sev.items a over made.sev.total ≡ 0 over made.sev.total =
+      same a ∙ pooled_over units a ∙ none_past (expected_of units) units top a near far
+      ∙ sym (over_zero made.sev.total pos) in
+      omega (arith, same_num _ _ made.sev.total pos none, weight_here made.sev k d inside))
+]
+
+-- ---- the thinned mean
+
+zero_le_one : (sev : Sev) → probability_of sev 0 ≤ℚ whole 1
+zero_le_one sev = over_le (weight_at sev.items 0) sev.total 1 1 (severity_total sev) (omega arith)
+    (omega (arith, weight_at-le sev.items))
+
+-- v * (1 - P), where P are the units' probabilities of 0 by their parts of v
+rest_back : (n p : Fraction) → p ≤ℚ whole 1 → n *ℚ (whole 1 -ℚ p) +ℚ n *ℚ p ≡ n
+rest_back n p within = sym (times_plus n (whole 1 -ℚ p) p) ∙ ap (λ t. n *ℚ t) (sub_plus (whole 1) p within) ∙ times_one n
+
+thinned_and_rest : (units : List UnitOfPlan)
+    → thinned_of units +ℚ sum_over units (λ u. expected_count u.freq *ℚ probability_of u.sev 0) ≡ expected_of units
+unfolding sum_over
+thinned_and_rest [] = plus_zero (whole 0)
+thinned_and_rest (u ∷ us) =
+    turn (thinned_mean u) (thinned_of us) (expected_count u.freq *ℚ probability_of u.sev 0) _
+    ∙ ap₂ (λ s t. s +ℚ t) (rest_back (expected_count u.freq) (probability_of u.sev 0) (zero_le_one u.sev))
+    (thinned_and_rest us)
+  where
+    turn : (a b c d : Fraction) → a +ℚ b +ℚ (c +ℚ d) ≡ a +ℚ c +ℚ (b +ℚ d)
+    turn a b c d = simp ring
+
+module _ (units : List UnitOfPlan) (some : whole 0 <ℚ expected_of units) (made : UnitOfPlan)
+    (same : (x : ℕ) → probability_of made.sev x ≡ pooled_severity (poisson_units units) x) where
+  abbrev v : Fraction
+  v = expected_of units
+
+  abbrev none : Fraction
+  none = probability_of made.sev 0
+
+  -- the expected claims of amount 0
+  zeros : v *ℚ none ≡ sum_over units (λ u. expected_count u.freq *ℚ probability_of u.sev 0)
+  zeros =
+      ap (λ t. v *ℚ t) (same 0 ∙ pooled_over units 0)
+      ∙ sym (sum_over_times v (λ (u : UnitOfPlan). expected_count u.freq /ℚ v *ℚ probability_of u.sev 0) units)
+      ∙ sum_over_same _ _ units (λ u. part_back v (expected_count u.freq) (probability_of u.sev 0) some)
+
+  pub pooled_thinned : v *ℚ (whole 1 -ℚ none) ≡ thinned_of units
+  pooled_thinned =
+      plus_cancel _ _ (v *ℚ none)
+      (rest_back v none (zero_le_one made.sev)
+      ∙ sym (ap (λ t. thinned_of units +ℚ t) zeros ∙ thinned_and_rest units))
+
+  pub raised_thinned : (r : ℕ) → 0 < r → raised r v *ℚ (whole 1 -ℚ none) ≡ raised r (thinned_of units)
+  raised_thinned r above =
+      let pos : whole 0 <ℚ whole r = whole_pos r above in
+      times_cancel _ _ (whole r) pos
+      (turn (raised r v) (whole 1 -ℚ none) (whole r)
+      ∙ ap (λ t. t *ℚ (whole 1 -ℚ none)) (div_times (v *ℚ whole (suc r)) (whole r) pos)
+      ∙ turn v (whole (suc r)) (whole 1 -ℚ none)
+      ∙ ap (λ t. t *ℚ whole (suc r)) pooled_thinned
+      ∙ sym (div_times (thinned_of units *ℚ whole (suc r)) (whole r) pos))
+    where
+      turn : (a b c : Fraction) → a *ℚ b *ℚ c ≡ a *ℚ c *ℚ b
+      turn a b c = simp ring
+
+-- raising makes no less
+pub raised_more : (r : ℕ) (h : Fraction) → 0 < r → h ≤ℚ raised r h
+raised_more r h above =
+    let pos : whole 0 <ℚ whole r = whole_pos r above in
+    le_div h (whole r) (h *ℚ whole (suc r)) pos (times_le_both h h _ _ (le_refl h) (whole_le r (suc r) (omega arith)))
+
+-- ---- the plan
+
+module _ (cells : ℕ) (units : List UnitOfPlan) (count : Freq) (made : UnitOfPlan) (each : All (IsValidUnit cells) units)
+    (is : IsMixedOf units count made) (counted : IsClaimCount count) (unbounded : IsUnbounded count)
+    (expected : HasPartsOf48Bits (expected_count count))
+    (admitted : HasPartsOf48Bits (expected_count count *ℚ (whole 1 -ℚ probability_of made.sev 0)))
+    (few : expected_count count *ℚ (whole 1 -ℚ probability_of made.sev 0) ≤ℚ whole most_expected) where
+  pub mixed_valid : IsValidUnit cells made
+  mixed_valid = record {
+    amounts = amounts_near units made (most_amount_at cells) is.severity (λ k d h. (each k d h).amounts);
+    items = λ bounded. absurd (bounded (subst IsUnbounded (sym is.count) unbounded));
+    count = subst IsClaimCount (sym is.count) counted;
+    expected = subst (λ f. HasPartsOf48Bits (expected_count f)) (sym is.count) expected;
+    thinned = λ unbounded. subst (λ f. HasPartsOf48Bits (expected_count f *ℚ (whole 1 -ℚ probability_of made.sev 0))
+        × (expected_count f *ℚ (whole 1 -ℚ probability_of made.sev 0) ≤ℚ whole most_expected)) (sym is.count)
+        (admitted, few);
+    clause = subst (λ o. IfSome o (IsAggregate cells made.sev)) (sym is.clause) tt;
+    zero = subst (λ o. IfSome o (IsNewZero made.freq)) (sym is.zero) tt;
+  }
+
+alone_valid : (plan : Plan) (made : UnitOfPlan) → IsValid plan → IsValidUnit plan.cells made → IsValid (alone plan made)
+alone_valid plan made valid unit = record {
+  bucket = valid.bucket;
+  cells = valid.cells;
+  some = omega arith;
+  few = omega arith;
+  names = λ i j d p q. absurd (omega arith);
+  units = All-cons (IsValidUnit plan.cells) made [] unit (All-nil (IsValidUnit plan.cells));
+  common = tt;
+}
+
+pub whole_list : (P : Fraction → Type 0) (f : List UnitOfPlan → Fraction) (units : List UnitOfPlan) → 1 ≤ length units
+    → ((k : ℕ) → 1 ≤ k → k ≤ length units → P (f (take k units))) → P (f units)
+whole_list P f units some h =
+    subst (λ us. P (f us)) (take_all (length units) units (omega arith)) (h (length units) some (omega arith))
+
+pub pooled_valid : (plan : Plan) (r : ℕ) (made : UnitOfPlan) → SharesFactor plan r → IsPooled r plan.units made
+    → IsValid (alone plan made)
+pooled_valid plan r made shares is =
+    let factor = has_factor plan r shares in
+    let thinned = pooled_thinned plan.units factor.some made is.severity in
+    let all = whole_list HasPartsOf48Bits thinned_of plan.units shares.valid.some factor.thinned in
+    alone_valid plan made shares.valid
+    (mixed_valid plan.cells plan.units (Gamma r (expected_of plan.units)) made shares.valid.units is
+    (factor.some_shape, omega arith) tt
+    (whole_list HasPartsOf48Bits expected_of plan.units shares.valid.some factor.expected)
+    (subst HasPartsOf48Bits (sym thinned) all)
+    (subst (λ t. t ≤ℚ whole most_expected) (sym thinned)
+    (le_trans _ _ _ (raised_more r (thinned_of plan.units) factor.some_shape) factor.few)))
+
+pub raised_valid : (plan : Plan) (r : ℕ) (made : UnitOfPlan) → SharesFactor plan r → IsRaised r plan.units made
+    → IsValid (alone plan made)
+raised_valid plan r made shares is =
+    let factor = has_factor plan r shares in
+    let thinned = raised_thinned plan.units factor.some made is.severity r factor.some_shape in
+    alone_valid plan made shares.valid
+    (mixed_valid plan.cells plan.units (Gamma (suc r) (raised r (expected_of plan.units))) made shares.valid.units is
+    (omega arith, factor.few_shape) tt factor.raised_expected
+    (subst HasPartsOf48Bits (sym thinned) factor.raised_thinned)
+    (subst (λ t. t ≤ℚ whole most_expected) (sym thinned) factor.few))
+
+-- ---- what it declares
+
+module _ (plan : Plan) (q : ℕ) (shares : SharesFactor plan (suc q)) (made : UnitOfPlan)
+    (is : IsPooled (suc q) plan.units made) where
+  abbrev us : List PoissonUnit
+  us = poisson_units plan.units
+
+  aggregate_is : aggregate_of made ≡ pooled_unit (suc q) us (greatest made.sev.items)
+  aggregate_is =
+      ap₂ (λ w o. record {
+        count = w;
+        severity = probability_of made.sev;
+        most = greatest made.sev.items;
+        clause = outcome_after o;
+      }) (ap count_weights is.count ∙ ap (gamma_of (suc q)) (sym (expected_units plan.units))) is.clause
+      ∙ ap (λ f. plain (gamma_of (suc q) (expected_claims us)) f (greatest made.sev.items)) (fun_ext is.severity)
+
+  pub declares_same : (quantity : Quantity) → CountsTotal quantity → (N : ℕ)
+      → declared (alone plan made) quantity N ≡ common_sums (suc q) us quantity N
+  declares_same quantity total N =
+      ap (λ o. partial_sums (after_zero o (aggregate_of made) ∷ []) quantity N) is.zero
+      ∙ ap (λ a. partial_sums (loss a ∷ []) quantity N) aggregate_is
+      ∙ sym (as_one_loss q us (subst (λ t. whole 0 <ℚ t) (sym (expected_units plan.units)) (has_factor plan (suc q) shares).some)
+      (are_severities plan.units) (greatest made.sev.items)
+      (λ a far. sym (is.severity a)
+      ∙ (shares_severity made.sev.items made.sev.total made.sev.weighted).past a far) quantity total N)
+
+pub same_declared : (plan : Plan) (r : ℕ) → SharesFactor plan r → (made : UnitOfPlan) → IsPooled r plan.units made
+    → (quantity : Quantity) → CountsTotal quantity → (N : ℕ)
+    → declared (alone plan made) quantity N ≡ declared plan quantity N
+same_declared plan zero shares made is quantity total N = absurd (omega (
+  arith,
+  (has_factor plan zero shares).some_shape,
+))
+same_declared plan (suc q) shares made is quantity total N = declares_same plan q shares made is quantity total N
+    ∙ sym (ap (λ D. D quantity N) (declared_is plan (suc q) shares.shape))

@@ -1,0 +1,6 @@
+mod Common
+pub mod Units
+pub mod Alone
+mod Named
+mod Mixtures
+pub mod GammaUnits

@@ -1,0 +1,26 @@
+mod Common
+mod BesideJoint
+mod Quotients
+mod Nested
+mod WeightedSums
+mod WeightedEnds
+mod JointBounds
+mod Tilted
+mod ClaimWidths
+mod JointValues
+mod PlainUnits
+mod OneClaim
+pub mod PoissonJoint
+pub mod CommonJoint
+pub mod GammaJoint
+mod ClaimCounts
+mod PairSums
+mod JointSums
+mod UnitMeans
+mod ShareEnds
+mod Widths
+mod Absent
+mod ClaimEnds
+mod ClaimSums
+mod JointMost
+mod JointTotals
