@@ -19,8 +19,6 @@ ALLOWED = {
     "dl_top/src/generator.rt": "the same, computed",
     "dl_recursion/src/quotient.rt": "half a word of 128 bits, in guesses on which no quotient rests",
     "dl_transform/": "two primes of 62 bits and words with a bit to spare, which speak of nothing outside",
-    "dl_conv/": "words of 56 bits, and sums of products with a bit to spare",
-    "dl_product/": "how much of a product is kept, and words with two bits to spare",
 }
 
 NUMBER = re.compile(

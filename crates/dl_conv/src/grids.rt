@@ -2,6 +2,7 @@
 
 ghost use Rattle.std.specs.Prelude.{◌≡◌, ℕ, ◌*◌, ◌/◌, ◌^◌, ◌<◌, ◌≤◌, min, length, replicate, get_or, All, IfOk};
 ghost use Rattle.std.specs.Int.{div_ceil};
+ghost use Rattle.dl_limits.specs.Limits.{most_high};
 ghost use Rattle.dl_grid.specs.Prelude.{low_at, high_at, spread, IsConvolution, convolution_spread};
 ghost use Rattle.dl_exact.specs.Count.{count_pairs};
 ghost use Rattle.dl_conv.specs.Sums.{pair_sum, ItemsFit};
@@ -28,7 +29,7 @@ fn round_down(mut sums: Vec<u128>, bits: u32) -> Vec<u128>
 /// 1.
 fn round_up(mut sums: Vec<u128>, bits: u32) -> Vec<u128>
     requires scale { bits ≤ 56 }
-    requires small { All (λ sum. sum ≤ 2 ^ 127) sums.items }
+    requires small { All (λ sum. sum ≤ most_high) sums.items }
     ensures cells { length result.items ≡ length sums.items }
     ensures each { (s : ℕ) → s < length sums.items
         → get_or result.items s 0 ≡ min (2 ^ bits) (div_ceil (get_or sums.items s 0) (2 ^ bits)) }

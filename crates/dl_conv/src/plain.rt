@@ -1,13 +1,14 @@
 //! Sums of products of two lists, one product after another.
 
 ghost use Rattle.std.specs.Prelude.{◌≡◌, ℕ, ◌+◌, ◌-◌, ◌*◌, ◌/◌, ◌^◌, ◌<◌, ◌≤◌, length, get_or};
+ghost use Rattle.dl_limits.specs.Limits.{most_cell_end};
 ghost use Rattle.dl_exact.specs.Count.{count_below};
 ghost use Rattle.dl_conv.specs.Sums.{pair_sum, ItemsFit};
 
 /// The product of two ends of at most 1: one multiplication of 64 bits by 64 bits.
 pub fn product_of_ends(x: u128, y: u128) -> u128
-    requires first { x ≤ 2 ^ 56 }
-    requires second { y ≤ 2 ^ 56 }
+    requires first { x ≤ most_cell_end }
+    requires second { y ≤ most_cell_end }
     ensures { result ≡ x * y }
 {
     u128::from(x as u64) * u128::from(y as u64)

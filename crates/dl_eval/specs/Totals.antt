@@ -3,7 +3,8 @@
 use Rattle.std.specs.Prelude.{ℕ, ◌≡◌, ◌+◌, ◌*◌, ◌/◌, ◌<◌, ◌≤◌, ◌^◌, ◌↔◌, ◌⊎◌, Bool, false, IsTrue, Option, None, Some, IsSome, IfSome, All, Any, List, [], ◌∷◌, length, get_or}
 use Rattle.std.specs.Int.{div_ceil}
 use Rattle.dl_exact.specs.Prelude.{Fraction, ◌over◌}
-use Rattle.dl_limits.specs.Limits.{budget_bound}
+use Rattle.dl_limits.specs.Limits.{budget_bound, most_mean_to_change}
+pub use Rattle.dl_limits.specs.Limits.{most_mean, most_unit_mean}
 use Rattle.dl_iv.specs.declared.interval.Iv.{Iv}
 use Rattle.dl_grid.specs.Cells.{low_at, high_at, spread}
 use Rattle.dl_model.specs.Prelude.{Holds, GridEncloses, mapped, One, Point, Mean, Joint, partial_sums, total, unit_of, without, aggregate_of, loss_of, aggregates_of, declared}
@@ -25,18 +26,11 @@ use Rattle.dl_eval.specs.Rows.{Declares, DeclaresShare}
 
 -- ---- how large means can be
 
--- the high end of the mean of a unit, and of that of the total, in units of 1 / 2^B
-abbrev pub most_unit_mean : ℕ
-most_unit_mean = 2 ^ 93
-
-abbrev pub most_mean : ℕ
-most_mean = 2 ^ 97
-
 -- the high end of the mean of a unit before its probability of no claim is changed, where it is:
 -- at most 4,096 claims are expected then
 abbrev pub most_clause_mean : Option Fraction → ℕ
 most_clause_mean None = most_unit_mean
-most_clause_mean (Some p) = 2 ^ 88 + 2 ^ 82
+most_clause_mean (Some p) = most_mean_to_change
 
 -- ---- units
 

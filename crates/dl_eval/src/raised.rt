@@ -22,14 +22,14 @@ use std::alloc::{AllocError, Global};
 /// The fewest units of a plan in which the share of a gamma unit comes from the total with its extra
 /// claims. That takes one grid more and one product for each such unit; with fewer units the sum of
 /// the others takes no longer.
-const FEWEST_UNITS: usize = 8;
+const FEWEST_FOR_EXTRA: usize = 8;
 
 /// Whether the share of a unit is taken from the total with the unit's extra claims, where that is
 /// within its budget.
 pub(crate) fn is_raised(units: &[Unit], unit: &Unit) -> bool
     ensures { IsTrue result → CanRaise unit.now }
 {
-    units.len() >= FEWEST_UNITS && unit.can_raise()
+    units.len() >= FEWEST_FOR_EXTRA && unit.can_raise()
 }
 
 /// The grid of the total with the claims of one unit more, which is independent of all units.

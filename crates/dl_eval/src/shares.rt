@@ -1,7 +1,7 @@
 //! The share of a unit in a total.
 
 ghost use Rattle.std.specs.Prelude.{◌+◌, ◌≡◌, ◌*◌, ◌^◌, ◌<◌, ◌≤◌, ◌⊎◌, All, IsSome, IsNone, IfSome, Some, None, ℕ, IfOk, length};
-ghost use Rattle.dl_limits.specs.Limits.{bits_of, most_digits};
+ghost use Rattle.dl_limits.specs.Limits.{bits_of, most_digits, most_high, most_share_den};
 ghost use Rattle.dl_model.specs.Prelude.{declared};
 ghost use Rattle.dl_plan.specs.Prelude.{IsValid, IsLevel};
 ghost use Rattle.dl_budget.specs.Asks.{kappa_budget, cotail_budget, in_digits};
@@ -110,7 +110,7 @@ fn joint_from<const B: u32>(plan: &Plan, from: &ShareSource<B>, i: u32, at: u32)
     requires inside { at < plan.now.cells }
     requires reached { at < reach from.now }
     ensures joint { IsJointOf plan.now i at result }
-    ensures divisible { result.hi * 2 ^ B ≤ 2 ^ 127 }
+    ensures divisible { result.hi * 2 ^ B ≤ most_high }
 {
     law_plan_joint_most(plan);
     from.joint(at)
@@ -125,7 +125,7 @@ fn joint_over<const B: u32>(plan: &Plan, grid: &Grid<B>, i: u32, at: u32) -> Iv<
     requires inside { at < plan.now.cells }
     requires reached { at < length grid.now }
     ensures joint { IsJointOf plan.now i at result }
-    ensures divisible { result.hi * 2 ^ B ≤ 2 ^ 127 }
+    ensures divisible { result.hi * 2 ^ B ≤ most_high }
 {
     let sums = Distribution::walked(grid);
     let from = over(plan, &sums, i);
@@ -143,7 +143,7 @@ fn independent_joint<const B: u32>(plan: &Plan, grids: &Grids<B>, i: u32, at: u3
     requires there { HasShareFrom plan.now grids.now grids.now.sums.total i }
     requires inside { at < plan.now.cells }
     ensures joint { IsJointOf plan.now i at result }
-    ensures divisible { result.hi * 2 ^ B ≤ 2 ^ 127 }
+    ensures divisible { result.hi * 2 ^ B ≤ most_high }
 {
     match drawn_from(plan, grids, i) {
         DrawnFrom::Beside(from) => joint_from(plan, &ShareSource::Beside(from), i, at),
@@ -162,7 +162,7 @@ fn shared_joint<const B: u32>(plan: &Plan, grids: &PooledGrids<B>, i: u32, at: u
     requires inside { at < plan.now.cells }
     requires reached { IfSome grids.now.raised (λ g. at + 1 ≤ length g) }
     ensures joint { IsJointOf plan.now i at result }
-    ensures divisible { result.hi * 2 ^ B ≤ 2 ^ 127 }
+    ensures divisible { result.hi * 2 ^ B ≤ most_high }
 {
     match &grids.raised {
         Some(raised) => joint_over(plan, raised, i, at),
@@ -180,7 +180,7 @@ pub(crate) fn joint_of<const B: u32>(plan: &Plan, grids: &PlanGrids<B>, i: u32, 
     requires inside { at < plan.now.cells }
     requires reached { HasCells grids.now (at + 1) }
     ensures joint { IsJointOf plan.now i at result }
-    ensures divisible { result.hi * 2 ^ B ≤ 2 ^ 127 }
+    ensures divisible { result.hi * 2 ^ B ≤ most_high }
 {
     match grids {
         PlanGrids::Independent(grids) => independent_joint(plan, grids, i, at),
@@ -241,7 +241,7 @@ fn tail_share_from<const B: u32>(
     requires small { All (λ mean. mean.hi ≤ most_unit_mean) means.now }
     requires unit { i < length plan.now.units }
     requires level { IsLevel p }
-    requires few { p.den ≤ 10 ^ 4 }
+    requires few { p.den ≤ most_share_den }
     ensures share { IfSome result (IsTailShareOf plan.now i p) }
     ensures reached { IfSome result (λ _. IsAtLeast plan.now (at_the_end plan.now) p) }
     ensures absent { (x : ℕ) → IsNone result
@@ -270,7 +270,7 @@ fn tail_share_of<const B: u32>(
     requires unit { i < length plan.now.units }
     requires there { HasShareFrom plan.now grids.now grids.now.sums.total i }
     requires level { IsLevel p }
-    requires few { p.den ≤ 10 ^ 4 }
+    requires few { p.den ≤ most_share_den }
     ensures share { IfOk result (λ share. IfSome share (IsTailShareOf plan.now i p)) }
     ensures reached { IfOk result (λ share.
         IfSome share (λ _. IsAtLeast plan.now (at_the_end plan.now) p)) }
@@ -318,7 +318,7 @@ pub(crate) fn tail_share_row<const B: u32>(
     requires unit { i < length plan.now.units }
     requires there { HasShareFrom plan.now grids.now grids.now.sums.total i }
     requires level { IsLevel p }
-    requires few { p.den ≤ 10 ^ 4 }
+    requires few { p.den ≤ most_share_den }
     ensures ask { IfOk result (λ row. row.ask ≡ asked.now.text) }
     ensures share { IfOk result (λ row. IsTailShare plan.now i p digits
         (in_digits (2 ^ B) (cotail_budget (2 ^ B) plan.now i p) digits) row

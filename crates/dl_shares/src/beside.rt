@@ -2,6 +2,7 @@
 
 ghost use Rattle.std.specs.Prelude.{◌≡◌, ℕ, ◌-◌, ◌*◌, ◌/◌, ◌^◌, ◌<◌, ◌≤◌, length, get_or, All};
 ghost use Rattle.std.specs.Int.{div_ceil};
+ghost use Rattle.dl_limits.specs.Limits.{most_high, most_cell_end};
 ghost use Rattle.dl_exact.specs.Count.{count_pairs};
 ghost use Rattle.dl_grid.specs.Prelude.{spread, convolution_spread};
 ghost use Rattle.dl_shares.specs.Weighted.{low_weighted, high_weighted};
@@ -15,8 +16,8 @@ use dl_iv::Iv;
 fn weighted_sum(own: &[u128], other: &[u128], x: u32) -> u128
     requires in_own { x < length own.now }
     requires in_other { x < length other.now }
-    requires own_words { All (λ end. end ≤ 2 ^ 56) own.now }
-    requires other_words { All (λ end. end ≤ 2 ^ 56) other.now }
+    requires own_words { All (λ end. end ≤ most_cell_end) own.now }
+    requires other_words { All (λ end. end ≤ most_cell_end) other.now }
     requires fits { count_pairs x (λ y z. y * get_or own.now y 0 * get_or other.now z 0) < 2 ^ 128 }
     ensures { result ≡ count_pairs x (λ y z. y * get_or own.now y 0 * get_or other.now z 0) }
 {
@@ -46,7 +47,7 @@ pub fn joint_mean<const B: u32>(unit: &Grid<B>, others: &Grid<B>, x: u32) -> Iv<
     // the high ends of so narrow a grid add up to less than 2
     ensures small { result.hi ≤ 4 * x * 2 ^ B }
     // so it can be divided by a probability, where 4 * x in units of 1 / 2^(2B) fits a word
-    ensures divisible { 4 * x * 2 ^ B * 2 ^ B ≤ 2 ^ 127 → result.hi * 2 ^ B ≤ 2 ^ 127 }
+    ensures divisible { 4 * x * 2 ^ B * 2 ^ B ≤ most_high → result.hi * 2 ^ B ≤ most_high }
 {
     let low = weighted_sum(unit.lows(), others.lows(), x);
     let high = weighted_sum(unit.highs(), others.highs(), x);

@@ -1,7 +1,7 @@
 //! Joint means of one unit from its claims and one grid.
 
 ghost use Rattle.std.specs.Prelude.{ℕ, ◌≡◌, ◌+◌, ◌-◌, ◌*◌, ◌^◌, ◌<◌, ◌≤◌, min, length};
-ghost use Rattle.dl_limits.specs.Limits.{most_parts};
+ghost use Rattle.dl_limits.specs.Limits.{most_parts, most_claim_mean};
 ghost use Rattle.dl_exact.specs.Prelude.{whole, ◌over◌, ◌*ℚ◌, sum_to};
 ghost use Rattle.dl_grid.specs.Prelude.{low_at, high_at, spread, up};
 ghost use Rattle.dl_plan.specs.Prelude.{weight_sum, expected_count, thinned_mean};
@@ -46,7 +46,7 @@ fn of_claims<const B: u32>(unit: &Unit, low: u128, high: u128) -> Iv<B>
     requires scale_below { B ≤ 56 }
     requires claims { HasClaims unit.now }
     requires order { low ≤ high }
-    requires fits { high ≤ 2 ^ 71 * positive_weight unit.now }
+    requires fits { high ≤ most_claim_mean * positive_weight unit.now }
     ensures low { result.lo ≡ claims_down unit.now low }
     ensures high { result.hi ≡ claims_up unit.now high }
     ensures holds { (Q R : Series) → Holds Q R

@@ -2,7 +2,7 @@
 
 ghost use Rattle.std.specs.Prelude.{◌≡◌, ℕ, ◌+◌, ◌-◌, ◌*◌, ◌^◌, ◌<◌, ◌≤◌, ◌↔◌, IsNone, IfSome};
 ghost use Rattle.dl_exact.specs.Fraction.{◌over◌};
-ghost use Rattle.dl_limits.specs.Limits.{rarest_parts};
+ghost use Rattle.dl_limits.specs.Limits.{rarest_parts, most_high};
 ghost use Rattle.dl_model.specs.Series.{Series, AtLeast, Holds};
 
 use dl_grid::units_of_one;
@@ -14,7 +14,7 @@ use dl_limits::RAREST_PARTS;
 /// is at most `k` buckets, its width is at most `RAREST_PARTS * (k * w + v) + 2` units, with `w`
 /// the width of the probability and `v` that of the joint mean.
 pub fn conditional_mean<const B: u32>(joint: Iv<B>, at: Iv<B>) -> Option<Iv<B>>
-    requires small { joint.hi * 2 ^ B ≤ 2 ^ 127 }
+    requires small { joint.hi * 2 ^ B ≤ most_high }
     ensures none { IsNone result ↔ (at.entry.lo * rarest_parts < 2 ^ B) }
     ensures holds { IfSome result (λ r. (Q R O : Series)
         → Holds Q O (joint.entry.lo over 2 ^ B) (joint.entry.hi over 2 ^ B)

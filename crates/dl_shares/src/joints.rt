@@ -8,6 +8,7 @@ use dl_iv::Iv;
 
 impl<'a, const B: u32> ShareSource<'a, B> {
     ghost use Rattle.std.specs.Prelude.{ℕ, ◌≡◌, ◌-◌, ◌*◌, ◌^◌, ◌<◌, ◌≤◌};
+    ghost use Rattle.dl_limits.specs.Limits.{most_high};
     ghost use Rattle.dl_exact.specs.Prelude.{whole, ◌over◌, sum_to};
     ghost use Rattle.dl_model.specs.Prelude.{Series, AtMost, Holds, Quantity, One, Joint};
     ghost use Rattle.dl_model.specs.Series.{Rises};
@@ -25,7 +26,7 @@ impl<'a, const B: u32> ShareSource<'a, B> {
         ensures width { result.hi - result.lo ≤ joint_width self.now }
         ensures small { result.hi ≤ 4 * x * 2 ^ B }
         // so it can be divided by a probability, where 4 * x in units of 1 / 2^(2B) fits a word
-        ensures divisible { 4 * x * 2 ^ B * 2 ^ B ≤ 2 ^ 127 → result.hi * 2 ^ B ≤ 2 ^ 127 }
+        ensures divisible { 4 * x * 2 ^ B * 2 ^ B ≤ most_high → result.hi * 2 ^ B ≤ most_high }
     {
         match self {
             ShareSource::Beside(from) => joint_mean(from.unit, from.others, x),

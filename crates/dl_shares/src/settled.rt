@@ -1,6 +1,7 @@
 //! The quantile that a grid settles.
 
 ghost use Rattle.std.specs.Prelude.{ℕ, ◌↔◌, ◌^◌, ◌<◌, ◌≤◌, ◌⊎◌, List, length, Some, IsNone, IfSome};
+ghost use Rattle.dl_limits.specs.Limits.{most_level_den};
 ghost use Rattle.dl_exact.specs.Fraction.{whole, ◌<ℚ◌, ◌over◌};
 ghost use Rattle.dl_grid.specs.Cells.{low_at, spread};
 ghost use Rattle.dl_model.specs.Prelude.{Loss, AreDeclared, partial_sums, total, GridEncloses};
@@ -17,7 +18,7 @@ use dl_measures::{Distribution, quantile};
 /// has two ends.
 pub(crate) fn settled_quantile<const B: u32>(g: &Distribution<B>, p: Frac) -> Option<u32>
     requires below_one { p <ℚ whole 1 }
-    requires small { p.den ≤ 1000000000 }
+    requires small { p.den ≤ most_level_den }
     ensures some { IfSome result (λ q. (q < length g.now) × IsBracketIn g.now p q (Some q)) }
     ensures none { IsNone result → IsPast g.now p ⊎ IsOpen g.now p }
 {
@@ -35,7 +36,7 @@ pub(crate) fn settled_quantile<const B: u32>(g: &Distribution<B>, p: Frac) -> Op
 /// ends before the quantile, its bracket has two ends, or its probability may be lower.
 pub(crate) fn common_quantile<const B: u32>(g: &Distribution<B>, p: Frac) -> Option<u32>
     requires below_one { p <ℚ whole 1 }
-    requires small { p.den ≤ 1000000000 }
+    requires small { p.den ≤ most_level_den }
     ensures some { IfSome result (IsSettled g.now p) }
     ensures none { IsNone result ↔ (IsPast g.now p ⊎ IsOpen g.now p ⊎ IsRare g.now p) }
     // inside the grid there is none only where the distribution is near p, or the quantile is rare

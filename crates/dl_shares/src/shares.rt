@@ -2,7 +2,7 @@
 
 ghost use Rattle.std.specs.Prelude.{◌≡◌, ◌↔◌, ◌⊎◌, ℕ, ◌-◌, ◌*◌, ◌/◌, ◌^◌, ◌<◌, ◌≤◌, List, length, Some, IsNone, IfSome};
 ghost use Rattle.std.specs.Int.{div_ceil};
-ghost use Rattle.dl_limits.specs.Limits.{rarest_parts};
+ghost use Rattle.dl_limits.specs.Limits.{rarest_parts, most_level_den, most_share_den, most_mean, most_share_mean};
 ghost use Rattle.dl_exact.specs.Prelude.{Fraction, whole, ◌over◌, ◌-ℚ◌, ◌<ℚ◌, sum_to};
 ghost use Rattle.dl_iv.specs.Enclosure.{LiesIn};
 ghost use Rattle.dl_grid.specs.Cells.{low_at, spread};
@@ -46,7 +46,7 @@ fn share_at<const B: u32>(total: &Distribution<B>, joint: Iv<B>, q: u32) -> Iv<B
 /// The difference `cdf - p`, 0 where `cdf` is below `p`.
 fn above<const B: u32>(cdf: Iv<B>, p: Frac) -> Iv<B>
     requires below_one { p <ℚ whole 1 }
-    requires small { p.den ≤ 1000000000 }
+    requires small { p.den ≤ most_level_den }
     ensures low { result.lo ≡ cdf.entry.lo - div_ceil (2 ^ B * p.num) p.den }
     ensures high { result.hi ≡ cdf.entry.hi - 2 ^ B * p.num / p.den }
     ensures holds { (x : Fraction) → LiesIn x cdf.entry → LiesIn (x -ℚ p) result }
@@ -69,9 +69,9 @@ fn tail_share_at<const B: u32>(
     p: Frac,
 ) -> Iv<B>
     requires below_one { p <ℚ whole 1 }
-    requires small { p.den ≤ 10000 }
+    requires small { p.den ≤ most_share_den }
     requires settled { IsSettled total.now p q }
-    requires mean { mean.hi ≤ 2 ^ 97 }
+    requires mean { mean.hi ≤ most_mean }
     ensures holds { (us : List Loss) (i : ℕ) → AreDeclared us → GridEncloses total.now (total_of us)
         → Holds (unit_mean us i) (partial_sums us One) (mean.entry.lo over 2 ^ B)
         (mean.entry.hi over 2 ^ B)
@@ -81,7 +81,7 @@ fn tail_share_at<const B: u32>(
         (below.entry.lo over 2 ^ B) (below.entry.hi over 2 ^ B)
         → (x : ℕ) → IsQuantile (partial_sums us) x p
         → HoldsShare (partial_sums us) i p x (result.lo over 2 ^ B) (result.hi over 2 ^ B) }
-    ensures small { result.hi ≤ 2 ^ 112 }
+    ensures small { result.hi ≤ most_share_mean }
     ensures width { (m j t : ℕ) → mean.entry.hi - mean.entry.lo ≤ m
         → joint.entry.hi - joint.entry.lo ≤ j → below.entry.hi - below.entry.lo ≤ j
         → spread total.now ≤ t
@@ -108,9 +108,9 @@ impl<'a, const B: u32> ShareSource<'a, B> {
     /// memory.
     pub fn tail_share(&self, total: &Distribution<B>, mean: Iv<B>, p: Frac) -> Option<Iv<B>>
         requires below_one { p <ℚ whole 1 }
-        requires small { p.den ≤ 10000 }
+        requires small { p.den ≤ most_share_den }
         requires cells { length total.now ≡ reach self.now }
-        requires mean { mean.hi ≤ 2 ^ 97 }
+        requires mean { mean.hi ≤ most_mean }
         ensures none { IsNone result
             ↔ (IsPast total.now p ⊎ IsOpen total.now p ⊎ IsRare total.now p) }
         ensures holds { (us : List Loss) (i : ℕ) → AreDeclared us
@@ -119,7 +119,7 @@ impl<'a, const B: u32> ShareSource<'a, B> {
             (mean.entry.hi over 2 ^ B)
             → IfSome result (λ r. (q : ℕ) → IsQuantile (partial_sums us) q p
             → HoldsShare (partial_sums us) i p q (r.lo over 2 ^ B) (r.hi over 2 ^ B)) }
-        ensures small { IfSome result (λ r. r.hi ≤ 2 ^ 112) }
+        ensures small { IfSome result (λ r. r.hi ≤ most_share_mean) }
         // at a quantile inside the grid there is none only where the distribution is near p, or the
         // quantile is rare
         ensures absent { (us : List Loss) (x : ℕ) → AreDeclared us

@@ -1,6 +1,7 @@
 //! Sums of joint means.
 
 ghost use Rattle.std.specs.Prelude.{◌≡◌, ℕ, ◌-◌, ◌*◌, ◌^◌, ◌<◌, ◌≤◌, length, get_or, All};
+ghost use Rattle.dl_limits.specs.Limits.{most_cell_end};
 ghost use Rattle.dl_exact.specs.Prelude.{◌over◌, count_below, sum_to};
 ghost use Rattle.dl_grid.specs.Cells.{spread};
 ghost use Rattle.dl_shares.specs.Weighted.{AreBeside, low_weighted, high_weighted};
@@ -19,7 +20,7 @@ use dl_iv::Iv;
 fn weighted_sum(own: &[u128], others: &[u128], q: u32) -> u128
     requires in_own { q < length own.now }
     requires in_others { q < length others.now }
-    requires own_words { All (λ end. end ≤ 2 ^ 56) own.now }
+    requires own_words { All (λ end. end ≤ most_cell_end) own.now }
     requires mass { count_below q (λ z. get_or others.now z 0) < 2 ^ 64 }
     requires fits { weighted_to (λ y. get_or own.now y 0) (λ z. get_or others.now z 0) q < 2 ^ 128 }
     ensures { result ≡ weighted_to (λ y. get_or own.now y 0) (λ z. get_or others.now z 0) q }

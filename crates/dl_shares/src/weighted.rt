@@ -2,6 +2,7 @@
 
 ghost use Rattle.std.specs.Prelude.{◌≡◌, ◌*◌, ◌/◌, ◌^◌, ◌<◌, ◌≤◌};
 ghost use Rattle.std.specs.Int.{div_ceil};
+ghost use Rattle.dl_limits.specs.Limits.{most_high};
 
 use dl_grid::units_of_one;
 use dl_iv::Iv;
@@ -22,7 +23,7 @@ pub(crate) fn outward<const B: u32>(low: u128, high: u128) -> Iv<B>
     requires scale_above { 1 ≤ B }
     requires scale_below { B ≤ 56 }
     requires order { low ≤ high }
-    requires fits { div_ceil high (2 ^ B) ≤ 2 ^ 127 }
+    requires fits { div_ceil high (2 ^ B) ≤ most_high }
     ensures low { result.lo ≡ low / 2 ^ B }
     ensures high { result.hi ≡ div_ceil high (2 ^ B) }
 {
