@@ -1,5 +1,5 @@
 -- The names that the proofs of this crate cite most, passed on from one place. Declares nothing.
-pub use Rattle.std.proofs.Common.{All, List, [], ap, ap₂, arith, below_more, div-mul-le_self, drop, get_or, inl, inr, length, mul-le-mul_left, mul-le-mul_right, pow-suc, refl, slice_index, suc, sum_by, sym, take, zero, ℕ, ◌%◌, ◌*◌, ◌++◌, ◌+◌, ◌-◌, ◌/◌, ◌<◌, ◌^◌, ◌∙◌, ◌∷◌, ◌≡◌, ◌≤◌}
+pub use Rattle.std.proofs.Common.{List, [], ap, ap₂, arith, below_more, div-mul-le_self, drop, get_or, inl, inr, length, mul-le-mul_left, mul-le-mul_right, pow-suc, refl, slice_index, suc, sum_by, sym, take, zero, ℕ, ◌%◌, ◌*◌, ◌++◌, ◌+◌, ◌-◌, ◌/◌, ◌<◌, ◌^◌, ◌∙◌, ◌∷◌, ◌≡◌, ◌≤◌}
 pub use Rattle.std.proofs.Math.Nat.{add-mod, add-mul-mod_self_right, div-add-mod, lt-div-mul-add, lt_of_mul-lt-mul_right, mod-eq_of_lt, mod-mod, mul-le-mul, pow-le-pow_right, pow-zero, suc-add}
 pub use Rattle.std.proofs.lemmas.Bool.{cases_lt, eqb-true}
 pub use Rattle.std.proofs.lemmas.List.{get_or-append_right, get_or-drop, get_or-take, get_or_past, length-take}
