@@ -1,12 +1,17 @@
 //! The bounds of a plan, of its settings and of the numbers that follow from them: each is defined
 //! once, in `specs/Limits.antt`, and here are those that code compares with.
 //!
-//! `most_amount` and `most_horizon` give the bounds that depend on a plan's number of cells.
-//! Nothing else runs, and nothing is proved of a bound alone.
+//! `most_amount` and `most_horizon` give the bounds that depend on a plan's number of cells, and
+//! `bounds_of` those that depend on the rules that a program is typed by. Nothing else runs, and
+//! nothing is proved of a bound alone.
 #![tactic(auto)]
+
+mod rules;
 
 ghost use Rattle.std.specs.Prelude.{◌≡◌};
 ghost use Rattle.dl_limits.specs.Limits.{bits_of, most_amount_at, most_cells_at, most_horizon};
+
+pub use rules::{Bounds, Rules, bounds_of};
 
 /// A plan's grid has 2 to the power of at most this many cells.
 pub const MOST_LOG2: u32 = 16;

@@ -3,7 +3,7 @@
 use Rattle.std.specs.Prelude.{ℕ, ◌+◌, Option, Some, None, List, [], ◌∷◌, map}
 use Rattle.dl_exact.specs.Fraction.{Fraction}
 use Rattle.dl_plan.specs.declared.settings.Ask.{Ask}
-use Rattle.dl_plan.specs.declared.settings.Ask.TheVariants.{Pmf, Cdf, Mean, Quantile, LayerMean, Tail, Price, Joint, Kappa, Cotail}
+use Rattle.dl_plan.specs.declared.settings.Ask.TheVariants.{Pmf, Cdf, Mean, Quantile, LayerMean, Tail, Price, Joint, Kappa, Cotail, Share}
 use Rattle.dl_plan.specs.declared.settings.Settings.{Settings}
 use Rattle.dl_plan.specs.Horizon.{edge_of}
 
@@ -39,3 +39,4 @@ facts_of (Price terms) = facts 0 None (map (λ term. term.p) terms) of_mean
 facts_of (Joint unit at) = facts (at + 1) (Some unit) [] of_mean
 facts_of (Kappa unit at) = facts (at + 1) (Some unit) [] of_mean
 facts_of (Cotail unit p) = facts 0 (Some unit) (p ∷ []) of_mean
+facts_of (Share unit p) = facts 0 (Some unit) (p ∷ []) of_mean

@@ -16,7 +16,12 @@ impl Ask {
             Ask::Pmf(x) | Ask::Cdf(x) => *x as u64 + 1,
             Ask::LayerMean { limit, attach } => end_of(*limit, *attach),
             Ask::Joint { at, .. } | Ask::Kappa { at, .. } => *at as u64 + 1,
-            Ask::Mean | Ask::Quantile(_) | Ask::Tail(_) | Ask::Price(_) | Ask::Cotail { .. } => 0,
+            Ask::Mean
+            | Ask::Quantile(_)
+            | Ask::Tail(_)
+            | Ask::Price(_)
+            | Ask::Cotail { .. }
+            | Ask::Share { .. } => 0,
         }
     }
 
@@ -25,9 +30,10 @@ impl Ask {
         ensures { option_map (λ name. name.now) result ≡ (facts_of self.now).unit }
     {
         match self {
-            Ask::Joint { unit, .. } | Ask::Kappa { unit, .. } | Ask::Cotail { unit, .. } => Some(
-                unit,
-            ),
+            Ask::Joint { unit, .. }
+            | Ask::Kappa { unit, .. }
+            | Ask::Cotail { unit, .. }
+            | Ask::Share { unit, .. } => Some(unit),
             _ => None,
         }
     }

@@ -2,6 +2,7 @@
 
 use dl_bytes::{Items, Text};
 use dl_frac::Frac;
+use dl_limits::Rules;
 
 /// What is done with the text.
 #[derive(Clone, Copy, Debug, PartialEq, Eq)]
@@ -79,6 +80,14 @@ pub enum Ask {
         /// The probability of the tail mean, below 1, with parts of at most 10,000.
         p: Frac,
     },
+    /// The same at each quantile inside the grid, however rare its total, and under a common factor
+    /// too.
+    Share {
+        /// The unit's name.
+        unit: Text,
+        /// The probability of the tail mean, below 1.
+        p: Frac,
+    },
 }
 
 /// An ask, and the word that it was written with.
@@ -109,6 +118,8 @@ pub struct Settings {
     pub mwidth: u64,
     /// How the report is written.
     pub format: Format,
+    /// The rules that the program is typed by.
+    pub rules: Rules,
     /// What is asked, in order.
     pub asks: Items<Asked>,
 }

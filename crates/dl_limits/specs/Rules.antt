@@ -1,0 +1,10 @@
+-- The bounds in which the two sets of rules differ.
+use Rattle.dl_limits.specs.Limits.{most_parts, most_units, most_values}
+use Rattle.dl_limits.specs.declared.rules.Rules.{Rules}
+use Rattle.dl_limits.specs.declared.rules.Rules.TheVariants.{Standard, Extended}
+use Rattle.dl_limits.specs.declared.rules.Bounds.{Bounds}
+
+-- those of a set of rules; both have the same so far
+abbrev pub bounds_of : Rules → Bounds
+bounds_of Standard = record { units = most_units; values = most_values; parts = most_parts }
+bounds_of Extended = record { units = most_units; values = most_values; parts = most_parts }
