@@ -1,5 +1,5 @@
 -- Ends of a share of the tail mean, from the unit's mean, its joint means up to the quantile, and its share at it.
-use Rattle.dl_model.proofs.Common.{◌≡◌, inl, inr, ℕ, nat_eq, nat_lt, nat_le, arith, sym, ap, ap₂, subst, subst₂, ◌∙◌, List, sum, get_or, fun_ext, cases_lt, cases_eq, lt-ltb, le-ltb, eq-eqb, ne_eqb, Fraction, whole, ◌+ℚ◌, ◌-ℚ◌, ◌*ℚ◌, ◌/ℚ◌, ◌≤ℚ◌, ◌<ℚ◌, sum_to, ring, times_one, one_times, times_comm, times_assoc, zero_plus, plus_times, sub_plus, sum_to_same, sum_to_times_right, Series, IsBound, Rises, AtMost, AtLeast, Holds, Loss, AreDeclarable, One, Point, Cdf, Joint, Part, Share, score, sum_over_outcomes, partial_sums, where_true, lt-leb, le-leb, Bool, false, true, times_plus, times_zero, HoldsShare, unit_mean}
+use Rattle.dl_model.proofs.Common.{◌≡◌, inl, inr, ℕ, nat_eq, nat_lt, nat_le, arith, sym, ap, ap₂, subst, subst₂, ◌∙◌, List, sum, get_or, fun_ext, cases_lt, cases_eq, lt-ltb, le-ltb, eq-eqb, ne_eqb, Fraction, whole, ◌+ℚ◌, ◌-ℚ◌, ◌*ℚ◌, ◌/ℚ◌, ◌≤ℚ◌, ◌<ℚ◌, sum_to, ring, times_one, one_times, times_comm, times_assoc, zero_plus, plus_times, sub_plus, sum_to_same, sum_to_times_right, Series, IsBound, Rises, AtMost, AtLeast, Holds, Loss, AreDeclarable, One, Point, Cdf, Outcome, Joint, Part, Share, score, sum_over_outcomes, partial_sums, where_true, lt-leb, le-leb, Bool, false, true, times_plus, times_zero, HoldsShare}
 use Rattle.dl_model.proofs.TotalLaws.{scaled_least, scaled_most, at_most_plus, at_least_plus, scaled_rises, most_with_factor, least_with_factor, minus_most, minus_least, where_factor, times_where, to_rises, outcomes_same, outcomes_plus, outcomes_times, outcomes_sum, outcomes_rise, points_to, above_cdf, div_is_times, rest_pos}
 use Rattle.dl_model.proofs.ShareLaws.{r_pos}
 
@@ -29,7 +29,7 @@ module _ (us : List Loss) (i q : ℕ) where
   abbrev up_to : Series
   up_to N = sum_to q (λ x. partial_sums us (Joint i x) N)
 
-  mean_parts : (N : ℕ) → beyond N +ℚ up_to N ≡ unit_mean us i N
+  mean_parts : (N : ℕ) → beyond N +ℚ up_to N ≡ partial_sums us (Outcome i) N
   mean_parts N =
       ap (λ t. beyond N +ℚ t) (sym (outcomes_sum us q (λ x. score (Joint i x)) N))
       ∙ sym (outcomes_plus us (λ ys. where_true (nat_lt q (sum ys)) (whole (get_or ys i 0)))
@@ -95,7 +95,7 @@ module _ (us : List Loss) (i q : ℕ) where
 
 module _ (us : List Loss) (w : AreDeclarable us) (i q : ℕ) (p v : Fraction) (below : p <ℚ whole 1)
     (bound : IsBound (partial_sums us One) v) (ml mh bl bh fl fh kl kh : Fraction)
-    (mean : Holds (unit_mean us i) (partial_sums us One) ml mh)
+    (mean : Holds (partial_sums us (Outcome i)) (partial_sums us One) ml mh)
     (joints : Holds (λ N. sum_to q (λ x. partial_sums us (Joint i x) N)) (partial_sums us One) bl bh)
     (cdf : Holds (partial_sums us (Cdf q)) (partial_sums us One) fl fh)
     (share : Holds (partial_sums us (Joint i q)) (partial_sums us (Point q)) kl kh) where

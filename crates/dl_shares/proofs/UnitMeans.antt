@@ -1,5 +1,5 @@
 -- The mean of a unit beside others is that of the unit alone.
-use Rattle.dl_shares.proofs.Common.{ℕ, zero, suc, ◌≡◌, ◌<◌, arith, sym, ap, ap₂, subst, subst₂, ◌∙◌, List, [], ◌∷◌, length, get_or, fun_ext, Fraction, whole, ◌*ℚ◌, ring, times_one, times_left_comm, Rises, Holds, times, Loss, IsLoss, AreDeclarable, One, Mean, score, sum_over_outcomes, partial_sums, without, level_mean, unit_mean, self_holds, holds_times, loss_proper, outcomes_same, outcomes_times, outcomes_rise, total_alone_all, total_more_all, mean_alone}
+use Rattle.dl_shares.proofs.Common.{ℕ, zero, suc, ◌≡◌, ◌<◌, arith, sym, ap, ap₂, subst, subst₂, ◌∙◌, List, [], ◌∷◌, length, get_or, fun_ext, Fraction, whole, ◌*ℚ◌, ring, times_one, times_left_comm, Rises, Holds, times, Loss, IsLoss, AreDeclarable, One, Mean, Outcome, score, sum_over_outcomes, partial_sums, without, level_mean, self_holds, holds_times, loss_proper, outcomes_same, outcomes_times, outcomes_rise, total_alone_all, total_more_all, mean_alone}
 use Rattle.dl_shares.proofs.BesideJoint.{all_split}
 use Rattle.dl_exact.proofs.Sums.{sum_to_same, sum_to_times_right}
 use Rattle.dl_model.proofs.Without.{unit_is, without_units}
@@ -11,7 +11,7 @@ loss_at (v ∷ us) (suc i) u w b = loss_at us i u w.1 (omega arith)
 
 -- the unit's mean times the whole weight of the others
 mean_split : (us : List Loss) (i : ℕ) (u : Loss) → AreDeclarable us → i < length us → (N : ℕ)
-    → unit_mean us i N ≡ level_mean (get_or us i u) N *ℚ partial_sums (without us i) One N
+    → partial_sums us (Outcome i) N ≡ level_mean (get_or us i u) N *ℚ partial_sums (without us i) One N
 unfolding sum_over_outcomes
 mean_split [] i u w b N = absurd (omega arith)
 mean_split (v ∷ us) zero u w b N =
@@ -25,14 +25,14 @@ mean_split (v ∷ us) zero u w b N =
     turn a b c = simp ring
 mean_split (v ∷ us) (suc i) u w b N =
     let m = level_mean (get_or us i u) N in
-    sum_to_times_right (v.last_outcome N) (unit_mean us i N) (λ y. v.family.cells y N)
+    sum_to_times_right (v.last_outcome N) (partial_sums us (Outcome i) N) (λ y. v.family.cells y N)
     ∙ ap₂ (λ s t. s *ℚ t) (w.0.full N) (mean_split us i u w.1 (omega arith) N)
     ∙ times_left_comm (v.family.all N) m (partial_sums (without us i) One N)
     ∙ ap (λ t. m *ℚ t) (sym (total_more_all v (without us i) w.0 N))
 
 pub mean_beside : (us : List Loss) (i : ℕ) (u : Loss) (l h : Fraction) → AreDeclarable us → i < length us
     → Holds (partial_sums (get_or us i u ∷ []) Mean) (partial_sums (get_or us i u ∷ []) One) l h
-    → Holds (unit_mean us i) (partial_sums us One) l h
+    → Holds (partial_sums us (Outcome i)) (partial_sums us One) l h
 mean_beside us i u l h w b held =
     let v = get_or us i u in
     let is = loss_at us i u w b in

@@ -5,7 +5,7 @@ ghost use Rattle.dl_exact.specs.Prelude.{Fraction, whole, ◌over◌, ◌+ℚ◌
 ghost use Rattle.dl_plan.specs.declared.plan.Plan.{Plan as PlanOf};
 ghost use Rattle.dl_plan.specs.declared.plan.Unit.{Unit as UnitOfPlan};
 ghost use Rattle.dl_plan.specs.Prelude.{CanShare, IsValid, SharesFactor};
-ghost use Rattle.dl_model.specs.Prelude.{AtMost, AtLeast, Holds, Loss, AreDeclarable, AreDeclared, One, Mean, Point, Joint, Tail, Part, Share, partial_sums, declared, unit_mean, unit_of, without, total, GridEncloses, compound_of, loss_of, Encloses};
+ghost use Rattle.dl_model.specs.Prelude.{AtMost, AtLeast, Holds, Loss, AreDeclarable, AreDeclared, One, Mean, Point, Outcome, Joint, Tail, Part, Share, partial_sums, declared, unit_of, without, total, GridEncloses, compound_of, loss_of, Encloses};
 ghost use Rattle.dl_pool.specs.Extra.{CanRaise, IsExtra};
 ghost use Rattle.dl_pool.specs.Pooled.{IsRaised};
 ghost use Rattle.dl_shares.specs.declared.source.ShareSource.TheVariants as sources;
@@ -33,7 +33,7 @@ pub fn law_unit_mean()
     ensures { (us : List Loss) (i : ℕ) (u : Loss) (l h : Fraction) → AreDeclarable us
         → i < length us
         → Holds (partial_sums (get_or us i u ∷ []) Mean) (partial_sums (get_or us i u ∷ []) One) l h
-        → Holds (unit_mean us i) (partial_sums us One) l h }
+        → Holds (partial_sums us (Outcome i)) (partial_sums us One) l h }
 {}
 
 /// The grids of a unit and of the sum of all others give its joint means.
