@@ -1,0 +1,22 @@
+-- The share of a unit of a valid plan in the tail mean, from what is known at both ends of a bracket of the quantile,
+-- under a common factor too. Statements, of a plan, a unit i and p below 1 (D is `declared plan`, O is `D One`):
+--
+-- abbrev pub AtomMost : (Quantity → Series) → (i : ℕ) (p : Fraction) (x : ℕ) (a : Fraction) → Type 0
+-- AtomMost D i p x a = (u : Fraction) → u ≤ℚ whole 1 → AtLeast (D (Part x u)) (D One) p
+--     → AtMost (λ N. (whole 1 -ℚ u) *ℚ D (Joint i x) N) (D One) a
+-- abbrev pub AtomLeast : (Quantity → Series) → (i : ℕ) (p : Fraction) (x : ℕ) (a : Fraction) → Type 0
+-- AtomLeast D i p x a = (u : Fraction) → u ≤ℚ whole 1 → AtMost (D (Part x u)) (D One) p
+--     → AtLeast (λ N. (whole 1 -ℚ u) *ℚ D (Joint i x) N) (D One) a
+--
+-- module _ (plan : Plan) (valid : IsValid plan) (i : ℕ) (p : Fraction) where
+--   pub atom_whole : (x : ℕ) (a : Fraction) → AtMost (D (Joint i x)) O a → AtomMost D i p x a
+--   pub atom_most : (x : ℕ) (j c f a : Fraction) → whole 0 <ℚ c → AtMost (D (Joint i x)) O j → AtLeast (D (Point x)) O c
+--       → AtMost (D (Cdf x)) O f → j *ℚ (f -ℚ p) ≤ℚ a *ℚ c → AtomMost D i p x a
+--   pub atom_least : (x : ℕ) (j c f a : Fraction) → AtLeast (D (Joint i x)) O j → AtMost (D (Point x)) O c
+--       → AtLeast (D (Cdf x)) O f → a ≤ℚ j → a *ℚ c ≤ℚ j *ℚ (f -ℚ p) → AtomLeast D i p x a
+--   pub share_between : p <ℚ whole 1 → (lo q hi : ℕ) → lo ≤ q → q ≤ hi → (ml mh bl bh al ah : Fraction)
+--       → Holds (D (Outcome i)) O ml mh
+--       → AtLeast (λ N. sum_to lo (λ x. D (Joint i x) N)) O bl → AtMost (λ N. sum_to hi (λ x. D (Joint i x) N)) O bh
+--       → AtomMost D i p lo ah → AtomLeast D i p hi al → AtLeast (D (Joint i hi)) O al
+--       → HoldsShare D i p q ((ml -ℚ bh +ℚ al) /ℚ (whole 1 -ℚ p)) ((mh -ℚ bl +ℚ ah) /ℚ (whole 1 -ℚ p))
+-- Where c is 0 atom_least needs no division: no outcome of a unit is above a total that has no probability.
