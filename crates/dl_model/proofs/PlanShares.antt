@@ -1,6 +1,6 @@
 -- The share of a unit of a valid plan in the tail mean, from what is known at both ends of a bracket of the quantile,
 -- under a common factor too.
-use Rattle.dl_model.proofs.Common.{◌≡◌, ℕ, ◌≤◌, refl, sym, subst, List, length, map, Option, None, Some, IfSome, Fraction, whole, ◌+ℚ◌, ◌-ℚ◌, ◌*ℚ◌, ◌/ℚ◌, ◌≤ℚ◌, ◌<ℚ◌, sum_to, Series, IsBound, Rises, AtMost, AtLeast, Holds, AreDeclarable, Quantity, One, Point, Cdf, Outcome, Joint, score, sum_over_outcomes, HoldsShare, Plan, IsValid, UnitOfPlan, aggregates_of, loss_of, declared, declared_by, poisson_units}
+use Rattle.dl_model.proofs.Common.{◌≡◌, ℕ, ◌≤◌, refl, sym, subst, List, length, map, Option, None, Some, Fraction, whole, ◌+ℚ◌, ◌-ℚ◌, ◌*ℚ◌, ◌/ℚ◌, ◌≤ℚ◌, ◌<ℚ◌, sum_to, Series, IsBound, Rises, AtMost, AtLeast, Holds, AreDeclarable, Quantity, One, Point, Cdf, Outcome, Joint, Part, Share, Tail, sum_below, score, sum_over_outcomes, HoldsShare, Plan, IsValid, UnitOfPlan, aggregates_of, loss_of, declared, declared_by, poisson_units}
 use Rattle.std.proofs.lemmas.List.{length-map}
 use Rattle.dl_model.specs.CommonUnits.{poisson_unit}
 use Rattle.dl_model.proofs.TotalLaws.{outcomes_rise}
@@ -9,6 +9,7 @@ use Rattle.dl_model.proofs.PlanUnits.{plan_declared}
 use Rattle.dl_model.proofs.CommonPlans.{plan_distribution}
 use Rattle.dl_model.proofs.Weighings.{IsWeighing, losses_weighing, weighed_by}
 use Rattle.dl_model.proofs.SharedBounds.{values, values_rise, shared_weighing}
+use Rattle.dl_model.proofs.ShareLaws.{joint_means, shares_add_up}
 use Rattle.dl_model.proofs.ShareEnds.{AtomMost, AtomLeast, atom_whole as whole_atom, atom_most as most_of_atom, atom_least as least_of_atom, share_most, share_least}
 
 -- ---- the weighing by which units declare each quantity
@@ -28,6 +29,23 @@ pub declared_weighed : (common : Option ℕ) (units : List UnitOfPlan)
     → weighed_by (weighing_of common units) ≡ declared_by common units
 declared_weighed None units = refl
 declared_weighed (Some r) units = refl
+
+pub units_joint_means : (common : Option ℕ) (units : List UnitOfPlan) (x N : ℕ)
+    → sum_below (length units) (λ i. declared_by common units (Joint i x) N)
+    ≡ whole x *ℚ declared_by common units (Point x) N
+units_joint_means common units x N = subst (λ D. sum_below (length units) (λ i. D (Joint i x) N) ≡ whole x *ℚ D (Point x) N)
+    (declared_weighed common units)
+    (joint_means (length units) (weighing_of common units) (is_weighing common units) x N)
+
+pub units_shares : (common : Option ℕ) (units : List UnitOfPlan) (p u : Fraction) (q N : ℕ) → p <ℚ whole 1
+    → u ≤ℚ whole 1
+    → (whole 1 -ℚ p) *ℚ sum_below (length units) (λ i. declared_by common units (Share i p q u) N) +ℚ
+    whole q *ℚ declared_by common units (Part q u) N
+    ≡ (whole 1 -ℚ p) *ℚ declared_by common units (Tail p q) N +ℚ p *ℚ whole q *ℚ declared_by common units One N
+units_shares common units p u q N below le =
+    subst (λ D. (whole 1 -ℚ p) *ℚ sum_below (length units) (λ i. D (Share i p q u) N) +ℚ whole q *ℚ D (Part q u) N
+    ≡ (whole 1 -ℚ p) *ℚ D (Tail p q) N +ℚ p *ℚ whole q *ℚ D One N) (declared_weighed common units)
+    (shares_add_up p u q below le (length units) (weighing_of common units) (is_weighing common units) N)
 
 weighing_rises : (common : Option ℕ) (units : List UnitOfPlan) → AreDeclarable (map loss_of units)
     → (f : List ℕ → Fraction) → Rises (weighing_of common units f)
