@@ -34,6 +34,16 @@ pub fn law_unit_mean()
         → Holds (partial_sums us (Outcome i)) (partial_sums us One) l h }
 {}
 
+/// The mean of a unit's outcome beside the others of a plan, under a common factor too, is that of
+/// the unit alone.
+pub fn law_plan_unit_mean(plan: &Plan)
+    requires valid { IsValid plan.now }
+    ensures { (i : ℕ) (u : UnitOfPlan) (l h : Fraction) → i < length plan.now.units
+        → Holds (partial_sums (loss_of (get_or plan.now.units i u) ∷ []) Mean)
+        (partial_sums (loss_of (get_or plan.now.units i u) ∷ []) One) l h
+        → Holds (declared plan.now (Outcome i)) (declared plan.now One) l h }
+{}
+
 /// The grids of a unit and of the sum of all others give its joint means.
 pub fn law_beside<const B: u32>(from: &Beside<B>)
     ensures { (us : List Loss) (i : ℕ) → AreDeclarable us → i < length us

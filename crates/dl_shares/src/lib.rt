@@ -22,7 +22,7 @@
 //! the quantile, its bracket has two ends, or that total may be rarer than 1/65,536 (`holds`,
 //! `width`, `none`, `absent`). The shares of all units of a plan add up to the tail mean at every
 //! level, under a common factor too (`law_shares`), and a unit's mean beside others is that of the
-//! unit alone (`law_unit_mean`).
+//! unit alone (`law_unit_mean`, `law_plan_unit_mean`).
 #![tactic(auto)]
 
 mod beside;
