@@ -1,7 +1,8 @@
 -- The answer to an ask for a share of the tail mean.
 use Rattle.dl_eval.proofs.Common.{ℕ, ◌≡◌, ◌+◌, ◌*◌, ◌<ℚ◌, whole, spread, Joint, joint_budget, mul-le-mul_left, mul-le-mul_right, div_ceil, div_ceil_least, div_ceil_times, up_quotient, ◌-◌, ◌^◌, ◌<◌, ◌≤◌, List, [], ◌∷◌, length, get_or, map, arith, inl, inr, sym, ap, subst, pow_pos, length-map, Option, None, Some, IfSome, Fraction, ◌over◌, ◌≤ℚ◌, Iv, over_le_over, low_at, spread, low_cdf, Holds, One, Mean, partial_sums, total, GridEncloses, AreDeclarable, AreDeclared, Loss, loss_of, aggregates_of, plan_declared, plan_units, at_least_wider, at_most_wider, Plan, IsValid, Row, ask_budget, in_digits, unit_mean_budget, total_budget, at_the_end, index_of, IsAnswerTo, total_error, AreUnitMeans, IsTotalOf, Prints, ◌⊎◌, ◌↔◌, get_or-map, IsNone, UnitOfPlan, cotail_budget, IsQuantile, declared, IsFirstFound, DeclaresShare, IsAtLeast, IsBeyond, IsTailShare, IsNoTailShare, IsTailShareOf, le_refl, plus_le_both, sub_le_both, lt_of_lt_of_le}
 use Rattle.dl_plan.specs.declared.settings.Ask.TheVariants as asks
-use Rattle.dl_model.specs.Shares.{HoldsShare, unit_mean}
+use Rattle.dl_model.specs.Shares.{HoldsShare}
+use Rattle.dl_model.specs.Program.{Outcome}
 use Rattle.dl_exact.proofs.BelowOne.{num_below}
 use Rattle.dl_shares.specs.Prelude.{IsPast, MayBeAbsent}
 use Rattle.dl_shares.specs.Source.{GivesJoints, exact_high, exact_low, joint_width}
@@ -18,10 +19,10 @@ use Rattle.dl_eval.specs.Totals.{IsSourceOf}
 pub mean_beside : {B : ℕ} {plan : Plan} {means : List (Iv B)} {mean : Iv B} (i : ℕ)
     → ((us : List Loss) (j : ℕ) (u : Loss) (l h : Fraction) → AreDeclarable us → j < length us
     → Holds (partial_sums (get_or us j u ∷ []) Mean) (partial_sums (get_or us j u ∷ []) One) l h
-    → Holds (unit_mean us j) (partial_sums us One) l h)
+    → Holds (partial_sums us (Outcome j)) (partial_sums us One) l h)
     → (u : UnitOfPlan) → mean ≡ get_or means i mean → i < length plan.units → IsValid plan
     → AreUnitMeans plan.cells plan.units means
-    → Holds (unit_mean (aggregates_of plan) i) (partial_sums (aggregates_of plan) One) (mean.lo over 2 ^ B)
+    → Holds (partial_sums (aggregates_of plan) (Outcome i)) (partial_sums (aggregates_of plan) One) (mean.lo over 2 ^ B)
     (mean.hi over 2 ^ B)
 mean_beside {B} {plan = plan} {mean = mean} i beside u is inside valid each =
     beside (aggregates_of plan) i (loss_of u) (mean.lo over 2 ^ B) (mean.hi over 2 ^ B) (plan_units plan valid)
@@ -80,14 +81,14 @@ some_unit (u ∷ us) i inside = u
 pub tail_share : {B : ℕ} {plan : Plan} {source : ShareSource B} {means : List (Iv B)} {t : List (Iv B)} {mean : Iv B} {i : ℕ}
     (p : Fraction) (result : Option (Iv B))
     → ((us : List Loss) (j : ℕ) → AreDeclared us → GivesJoints source (partial_sums us) j → GridEncloses t (total us)
-    → Holds (unit_mean us j) (partial_sums us One) (mean.lo over 2 ^ B) (mean.hi over 2 ^ B)
+    → Holds (partial_sums us (Outcome j)) (partial_sums us One) (mean.lo over 2 ^ B) (mean.hi over 2 ^ B)
     → IfSome result (λ r. (q : ℕ) → IsQuantile (partial_sums us) q p
     → HoldsShare (partial_sums us) j p q (r.lo over 2 ^ B) (r.hi over 2 ^ B)))
     → IfSome result (λ r. (m w : ℕ) → mean.hi - mean.lo ≤ m → spread t ≤ w
     → r.hi - r.lo ≤ share_width p m (length t) (joint_width source) w)
     → ((us : List Loss) (j : ℕ) (v : Loss) (l h : Fraction) → AreDeclarable us → j < length us
     → Holds (partial_sums (get_or us j v ∷ []) Mean) (partial_sums (get_or us j v ∷ []) One) l h
-    → Holds (unit_mean us j) (partial_sums us One) l h)
+    → Holds (partial_sums us (Outcome j)) (partial_sums us One) l h)
     → p <ℚ whole 1 → IsSourceOf plan i source → mean ≡ get_or means i mean → i < length plan.units → IsValid plan
     → AreUnitMeans plan.cells plan.units means → IsTotalOf plan t → plan.common ≡ None
     → IfSome result (IsTailShareOf plan i p)

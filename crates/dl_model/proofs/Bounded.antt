@@ -1,6 +1,6 @@
 -- Every quantity of declared losses is bounded, their whole weight is somewhere above 0, and their probabilities add up
 -- to 1.
-use Rattle.dl_model.proofs.Common.{◌≡◌, ℕ, zero, ◌+◌, ◌-◌, ◌≤◌, max, Bool, true, false, nat_eq, nat_lt, nat_le, arith, sym, ap, subst, ◌∙◌, List, [], ◌∷◌, sum, get_or, le-max_left, le-max_right, le-ltb, Fraction, ◌+ℚ◌, ◌-ℚ◌, ◌*ℚ◌, ◌/ℚ◌, ◌≤ℚ◌, ◌<ℚ◌, whole, ring, plus_comm, zero_plus, times_zero, times_one, one_times, whole_pos, one_pos, le_refl, le_trans, le_of_eq, zero_le, le_plus, plus_le_both, times_pos, lt_of_lt_of_le, times_le_both, whole_le, sum_over, sum_to_zero, IsBound, AtLeast, Settles, layer, Loss, fun_ext, AreDeclarable, One, Point, Cdf, Mean, Layer, Tail, Joint, where_true, score, sum_over_outcomes, partial_sums, survival, AreDeclared, item_le_total, layer_le, Quantity, Series, Rises, Price, Part, Share, PricedTerm, IsAsked, ArePriced, times_plus, order}
+use Rattle.dl_model.proofs.Common.{◌≡◌, ℕ, zero, ◌+◌, ◌-◌, ◌≤◌, max, Bool, true, false, nat_eq, nat_lt, nat_le, arith, sym, ap, subst, ◌∙◌, List, [], ◌∷◌, sum, get_or, le-max_left, le-max_right, le-ltb, Fraction, ◌+ℚ◌, ◌-ℚ◌, ◌*ℚ◌, ◌/ℚ◌, ◌≤ℚ◌, ◌<ℚ◌, whole, ring, plus_comm, zero_plus, times_zero, times_one, one_times, whole_pos, one_pos, le_refl, le_trans, le_of_eq, zero_le, le_plus, plus_le_both, times_pos, lt_of_lt_of_le, times_le_both, whole_le, sum_over, sum_to_zero, IsBound, AtLeast, Settles, layer, Loss, fun_ext, AreDeclarable, One, Point, Cdf, Mean, Layer, Tail, Outcome, Joint, where_true, score, sum_over_outcomes, partial_sums, survival, AreDeclared, item_le_total, layer_le, Quantity, Series, Rises, Price, Part, Share, PricedTerm, IsAsked, ArePriced, times_plus, order}
 use Rattle.dl_model.proofs.TotalLaws.{rises_to, loss_proper, outcomes_same, outcomes_plus, outcomes_times, outcomes_le, outcomes_rise, sum-cons, total_more_all, mean_more, survival_rest, cdf_grows, rest_pos, div_is_times}
 use Rattle.dl_model.proofs.SettlesGamma.{settles_times}
 
@@ -88,6 +88,7 @@ score_scaled Mean h = (whole 1, λ ys. by_total (sum ys) ys (omega arith))
 score_scaled (Layer limit attachment) h =
     (whole 1, λ ys. by_total (layer limit attachment (sum ys)) ys (layer_le limit attachment (sum ys)))
 score_scaled (Tail p q) h = (whole q +ℚ whole 1 /ℚ (whole 1 -ℚ p), tail_scaled p q h)
+score_scaled (Outcome i) h = (whole 1, λ ys. by_total (get_or ys i 0) ys (item_le_total ys i))
 score_scaled (Joint i x) h = (
   whole 1,
   λ ys. le_trans _ _ _ (where_at_most (nat_eq (sum ys) x) (whole (get_or ys i 0)))

@@ -11,7 +11,7 @@ pub use Prim.Native.Nat.{◌∣◌}
 pub use mathlib.Core.Path.{fun_ext}
 pub use native.Mathlib.Decide.{le_ind}
 pub use Rattle.dl_model.specs.Recursion.{Recursion, from_before}
-pub use Rattle.dl_model.specs.Shares.{HoldsShare, unit_mean}
+pub use Rattle.dl_model.specs.Shares.{HoldsShare}
 pub use Rattle.dl_plan.specs.declared.plan.Unit.{Unit as UnitOfPlan}
 pub use Rattle.std.proofs.lemmas.Bool.Decides.{eqb_tells, nat_tests}
 unfoldable pub use Rattle.dl_model.specs.Ways.{ways}
@@ -46,7 +46,7 @@ pub use Rattle.dl_model.specs.Family.{Encloses, Family, IsProper, SameCells, com
 pub use Rattle.dl_model.specs.Listed.{equally_likely, probability_at}
 pub use Rattle.dl_model.specs.Measures.{AreDeclared, IsDeclaredLoss, IsQuantile, above, level_mean, survival, unit_of, without, ArePriced, IsAsked, IsBracketed}
 pub use Rattle.dl_model.specs.Plans.{aggregate_of, compound_of, count_weights, loss_of, outcome_after, after_zero, aggregates_of, claims_of, declared, declared_by, mean_ceded}
-pub use Rattle.dl_model.specs.Program.{AreDeclarable, Cdf, IsLoss, Joint, Layer, Loss, Mean, One, Part, Point, Price, PricedTerm, Share, Tail, partial_sums, score, total, where_true, Quantity, above_quantile}
+pub use Rattle.dl_model.specs.Program.{AreDeclarable, Cdf, IsLoss, Joint, Layer, Loss, Mean, One, Outcome, Part, Point, Price, PricedTerm, Share, Tail, partial_sums, score, total, where_true, Quantity, above_quantile}
 unfoldable pub use Rattle.dl_model.specs.Program.{sum_over_outcomes}
 pub use Rattle.dl_model.specs.Series.{AtLeast, AtMost, Below, Holds, IsBound, IsLeastBound, Rises, SameValue, Series, Settles, plus, times, SameBounds}
 pub use Rattle.dl_model.specs.Units.{Aggregate, IsDeclarable, IsDeclared, loss, mapped, outcome, listed_aggregate, plain}

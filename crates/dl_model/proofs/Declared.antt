@@ -118,11 +118,18 @@ scaled_least k Q R l a n u b =
 pub scaled : (k : Fraction) (Q R : Series) (l h : Fraction) → Holds Q R l h → Holds (λ N. k *ℚ Q N) R (k *ℚ l) (k *ℚ h)
 scaled k Q R l h w = (scaled_least k Q R l w.0, scaled_most k Q R h w.1)
 
+pub quotient_least : (Q R O : Series) (l h : Fraction) → whole 0 <ℚ h → AtLeast Q O l → AtMost R O h
+    → AtLeast Q R (l /ℚ h)
+quotient_least Q R O l h pos a b n u bound = times_le_cancel _ _ h pos
+    (rw (times_right_comm (l /ℚ h), div_times l h pos, times_comm l, times_comm u)
+    (most_with_factor R O h b l u (λ m. rw times_comm (a m u bound)) n))
+
+pub quotient_most : (Q R O : Series) (h l : Fraction) → whole 0 <ℚ l → AtMost Q O h → AtLeast R O l
+    → AtMost Q R (h /ℚ l)
+quotient_most Q R O h l pos a b n u bound = times_le_cancel _ _ l pos
+    (rw (times_right_comm (h /ℚ l) u l, div_times h l pos)
+    (most_with_factor Q O h a l u (λ m. rw times_comm (b m u bound)) n))
+
 pub quotient : (Q R O : Series) (l h l' h' : Fraction) → whole 0 <ℚ l' → whole 0 <ℚ h' → Holds Q O l h
     → Holds R O l' h' → Holds Q R (l /ℚ h') (h /ℚ l')
-quotient Q R O l h l' h' lp hp a b = (
-  λ n u bound. times_le_cancel _ _ h' hp (rw (times_right_comm (l /ℚ h'), div_times l h' hp, times_comm l, times_comm u)
-      (most_with_factor R O h' b.1 l u (λ m. rw times_comm (a.0 m u bound)) n)),
-  λ n u bound. times_le_cancel _ _ l' lp (rw (times_right_comm (h /ℚ l') u l', div_times h l' lp)
-      (most_with_factor Q O h a.1 l' u (λ m. rw times_comm (b.0 m u bound)) n)),
-)
+quotient Q R O l h l' h' lp hp a b = (quotient_least Q R O l h' hp a.0 b.1, quotient_most Q R O h l' lp a.1 b.0)

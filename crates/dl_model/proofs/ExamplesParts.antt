@@ -1,6 +1,6 @@
 -- One unit beside the others, worked by hand: two dice, and the share of each in the tail mean at 4/5. Below 9 lie 26/36,
 -- and 9 has 4/36, so that 7/10 of it lie below the tail.
-use Rattle.dl_model.proofs.Common.{List, [], ◌∷◌, ℕ, ◌≡◌, arith, refl, sum, get_or, nat_eq, nat_lt, zero-lt-suc, one_pos, whole, ◌over◌, count_pairs, Joint, Part, Share, Tail, score, partial_sums, unit_mean, ways, ◌-ℚ◌}
+use Rattle.dl_model.proofs.Common.{List, [], ◌∷◌, ℕ, ◌≡◌, arith, refl, sum, get_or, nat_eq, nat_lt, zero-lt-suc, one_pos, whole, ◌over◌, count_pairs, Outcome, Joint, Part, Share, Tail, score, partial_sums, ways, ◌-ℚ◌}
 use Rattle.dl_model.proofs.Ratios.{Known, worked, over_is, whole_is, plus_is, minus_is, times_is, divided_is, where_is}
 unfoldable use Rattle.dl_model.proofs.Ratios.{through_is, pairs_is}
 use Rattle.dl_model.proofs.ExamplesTotals.{dice, of_dice, above_is}
@@ -22,7 +22,7 @@ share_is i ys =
     (zero-lt-suc _)))
 
 -- the mean of the first die, and its outcome where the total is 7: 21/36
-pub die_mean : unit_mean dice 0 1 ≡ 7 over 2
+pub die_mean : partial_sums dice (Outcome 0) 1 ≡ 7 over 2
 unfolding ways count_pairs through_is over_outcomes_is
 die_mean = worked 7 2 (of_dice (λ ys. whole_is (get_or ys 0 0))) (zero-lt-suc _) refl
 

@@ -66,11 +66,13 @@ pub mod ChangedZero
 mod TotalLaws
 pub mod SomeClaim
 pub mod PriceLaws
+pub mod Weighings
 pub mod ShareLaws
 pub mod ShareEnds
 pub mod SharedBounds
 pub mod PooledLoss
 pub mod CommonPlans
 pub mod CommonMeans
+pub mod PlanShares
 pub mod PoissonTotals
 pub mod ChangedLoss

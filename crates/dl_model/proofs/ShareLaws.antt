@@ -1,16 +1,9 @@
 -- Shares of the tail mean, and joint means of all units together.
-use Rattle.dl_model.proofs.Common.{◌≡◌, inl, inr, ℕ, zero, suc, ◌+◌, ◌-◌, Bool, true, false, nat_eq, nat_lt, arith, refl, sym, ap, ap₂, ◌∙◌, List, [], ◌∷◌, length, sum, get_or, fun_ext, cases_lt, cases_eq, lt-ltb, le-ltb, eq-eqb, ne_eqb, Fraction, whole, ◌+ℚ◌, ◌-ℚ◌, ◌*ℚ◌, ◌/ℚ◌, ◌≤ℚ◌, ◌<ℚ◌, sum_to, sum_below, ring, times_one, one_times, times_zero, zero_times, times_comm, whole_plus, plus_times, times_plus, le_of_lt, div_times, sub_plus, Loss, One, Point, Tail, Joint, Part, Share, score, sum_over_outcomes, partial_sums, where_true}
-use Rattle.dl_model.proofs.TotalLaws.{below_first, outcomes_same, outcomes_plus, outcomes_times, outcomes_below, sum-cons, where_factor, rest_pos}
+use Rattle.dl_model.proofs.Common.{◌≡◌, inl, inr, ℕ, zero, suc, ◌+◌, ◌-◌, Bool, true, false, nat_eq, nat_lt, arith, refl, sym, ap, ap₂, ◌∙◌, List, [], ◌∷◌, length, sum, get_or, fun_ext, cases_lt, cases_eq, lt-ltb, le-ltb, eq-eqb, ne_eqb, Fraction, whole, ◌+ℚ◌, ◌-ℚ◌, ◌*ℚ◌, ◌/ℚ◌, ◌≤ℚ◌, ◌<ℚ◌, sum_below, ring, times_one, one_times, times_zero, zero_times, times_comm, whole_plus, plus_times, times_plus, le_of_lt, div_times, sub_plus, Series, Loss, One, Point, Tail, Joint, Part, Share, score, sum_over_outcomes, partial_sums, where_true}
+use Rattle.dl_model.proofs.TotalLaws.{below_first, sum-cons, where_factor, rest_pos}
+use Rattle.dl_model.proofs.Weighings.{IsWeighing, losses_weighing, weighed_below, weighed_same}
 
 -- ---- sums over the units
-
--- a sum over outcomes reads only lists with one outcome of each loss
-pub outcomes_of_length : (us : List Loss) (f g : List ℕ → Fraction) (N : ℕ)
-    → ((ys : List ℕ) → length ys ≡ length us → f ys ≡ g ys) → sum_over_outcomes us f N ≡ sum_over_outcomes us g N
-unfolding sum_over_outcomes
-outcomes_of_length [] f g N h = h [] refl
-outcomes_of_length (u ∷ us) f g N h = ap (sum_to (u.last_outcome N)) (fun_ext (λ y. ap (λ t. u.family.cells y N *ℚ t)
-    (outcomes_of_length us (λ ys. f (y ∷ ys)) (λ ys. g (y ∷ ys)) N (λ ys e. h (y ∷ ys) (ap suc e)))))
 
 below_same : (n : ℕ) (f g : ℕ → Fraction) → ((i : ℕ) → f i ≡ g i) → sum_below n f ≡ sum_below n g
 below_same n f g h = ap (sum_below n) (fun_ext h)
@@ -27,25 +20,28 @@ outcomes_total [] = refl
 outcomes_total (y ∷ ys) = below_first (length ys) (λ i. whole (get_or (y ∷ ys) i 0))
     ∙ ap (λ t. whole y +ℚ t) (outcomes_total ys) ∙ sym (ap whole (sum-cons y ys) ∙ whole_plus y (sum ys))
 
-each_outcome : (us : List Loss) (ys : List ℕ) → length ys ≡ length us
-    → sum_below (length us) (λ i. whole (get_or ys i 0)) ≡ whole (sum ys)
-each_outcome us ys e = rw (← e) (outcomes_total ys)
+each_outcome : (n : ℕ) (ys : List ℕ) → length ys ≡ n → sum_below n (λ i. whole (get_or ys i 0)) ≡ whole (sum ys)
+each_outcome n ys e = rw (← e) (outcomes_total ys)
+
+module _ (n : ℕ) (E : (List ℕ → Fraction) → Series) (w : IsWeighing n E) where
+  pub joint_means : (x N : ℕ) → sum_below n (λ i. E (score (Joint i x)) N) ≡ whole x *ℚ E (score (Point x)) N
+  joint_means x N =
+      sym (weighed_below n E w n (λ i. score (Joint i x)) N)
+      ∙ w.reads _ (λ ys. whole x *ℚ score (Point x) ys) N (λ ys e.
+      below_same n _ _ (λ i. where_factor (nat_eq (sum ys) x) (whole (get_or ys i 0)))
+      ∙ below_times n (score (Point x) ys) (λ i. whole (get_or ys i 0))
+      ∙ ap (λ t. score (Point x) ys *ℚ t) (each_outcome n ys e) ∙ at ys)
+      ∙ w.scales (whole x) (score (Point x)) N
+    where
+      at : (ys : List ℕ) → score (Point x) ys *ℚ whole (sum ys) ≡ whole x *ℚ score (Point x) ys
+      at ys = elim (cases_eq (sum ys) x) [
+        | inl e ↦ rw e (times_comm _ _)
+        | inr e ↦ rw (ne_eqb (sum ys) x e) (simp (zero_times, times_zero))
+      ]
 
 pub joint_means_total : (us : List Loss) (x N : ℕ) → sum_below (length us) (λ i. partial_sums us (Joint i x) N)
     ≡ whole x *ℚ partial_sums us (Point x) N
-joint_means_total us x N =
-    sym (outcomes_below us (length us) (λ i. score (Joint i x)) N)
-    ∙ outcomes_of_length us _ (λ ys. whole x *ℚ score (Point x) ys) N (λ ys e.
-    below_same (length us) _ _ (λ i. where_factor (nat_eq (sum ys) x) (whole (get_or ys i 0)))
-    ∙ below_times (length us) (score (Point x) ys) (λ i. whole (get_or ys i 0))
-    ∙ ap (λ t. score (Point x) ys *ℚ t) (each_outcome us ys e) ∙ at ys)
-    ∙ outcomes_times us (whole x) (score (Point x)) N
-  where
-    at : (ys : List ℕ) → score (Point x) ys *ℚ whole (sum ys) ≡ whole x *ℚ score (Point x) ys
-    at ys = elim (cases_eq (sum ys) x) [
-      | inl e ↦ rw e (times_comm _ _)
-      | inr e ↦ rw (ne_eqb (sum ys) x e) (simp (zero_times, times_zero))
-    ]
+joint_means_total us = joint_means (length us) (sum_over_outcomes us) (losses_weighing us)
 
 -- ---- the shares of all units
 
@@ -102,23 +98,25 @@ module _ (p u : Fraction) (q : ℕ) (below : p <ℚ whole 1) (le : u ≤ℚ whol
       the_greater : (m : ℕ) → m ≡ q + (sum ys - q) → whole m ≡ greater ys
       the_greater m e = ap whole e ∙ whole_plus q (sum ys - q)
 
+  pub shares_add_up : (n : ℕ) (E : (List ℕ → Fraction) → Series) → IsWeighing n E → (N : ℕ)
+      → (whole 1 -ℚ p) *ℚ sum_below n (λ i. E (score (Share i p q u)) N) +ℚ whole q *ℚ E (score (Part q u)) N
+      ≡ (whole 1 -ℚ p) *ℚ E (score (Tail p q)) N +ℚ p *ℚ whole q *ℚ E (score One) N
+  shares_add_up n E w N =
+      ap₂ (λ a b. a +ℚ b)
+      (ap (λ t. r *ℚ t) (sym (weighed_below n E w n (λ i. score (Share i p q u)) N))
+      ∙ sym (w.scales r (λ ys. sum_below n (λ i. score (Share i p q u) ys)) N))
+      (sym (w.scales (whole q) (score (Part q u)) N))
+      ∙ sym (w.adds (λ ys. r *ℚ sum_below n (λ i. score (Share i p q u) ys)) (λ ys. whole q *ℚ score (Part q u) ys) N)
+      ∙ w.reads _ greater N (λ ys e. ap (λ t. t +ℚ whole q *ℚ score (Part q u) ys)
+      (sym (below_times n r (λ i. score (Share i p q u) ys))
+      ∙ below_same n _ _ (λ i. share_factor i ys) ∙ below_times n (factor ys) (λ i. whole (get_or ys i 0))
+      ∙ ap (λ t. factor ys *ℚ t) (each_outcome n ys e)) ∙ parts_greater ys)
+      ∙ sym (ap₂ (λ a b. a +ℚ b) (sym (w.scales r (score (Tail p q)) N)) (sym (w.scales (p *ℚ whole q) (score One) N))
+      ∙ sym (w.adds (λ ys. r *ℚ score (Tail p q) ys) (λ ys. p *ℚ whole q *ℚ score One ys) N)
+      ∙ weighed_same E _ greater N tail_greater)
+
   pub shares_total : (us : List Loss) (N : ℕ)
       → (whole 1 -ℚ p) *ℚ sum_below (length us) (λ i. partial_sums us (Share i p q u) N) +ℚ
       whole q *ℚ partial_sums us (Part q u) N
       ≡ (whole 1 -ℚ p) *ℚ partial_sums us (Tail p q) N +ℚ p *ℚ whole q *ℚ partial_sums us One N
-  shares_total us N =
-      let n = length us in
-      ap₂ (λ a b. a +ℚ b)
-      (ap (λ t. r *ℚ t) (sym (outcomes_below us n (λ i. score (Share i p q u)) N))
-      ∙ sym (outcomes_times us r (λ ys. sum_below n (λ i. score (Share i p q u) ys)) N))
-      (sym (outcomes_times us (whole q) (score (Part q u)) N))
-      ∙ sym (outcomes_plus us (λ ys. r *ℚ sum_below n (λ i. score (Share i p q u) ys))
-      (λ ys. whole q *ℚ score (Part q u) ys) N)
-      ∙ outcomes_of_length us _ greater N (λ ys e. ap (λ t. t +ℚ whole q *ℚ score (Part q u) ys)
-      (sym (below_times n r (λ i. score (Share i p q u) ys))
-      ∙ below_same n _ _ (λ i. share_factor i ys) ∙ below_times n (factor ys) (λ i. whole (get_or ys i 0))
-      ∙ ap (λ t. factor ys *ℚ t) (each_outcome us ys e)) ∙ parts_greater ys)
-      ∙ sym (ap₂ (λ a b. a +ℚ b) (sym (outcomes_times us r (score (Tail p q)) N))
-      (sym (outcomes_times us (p *ℚ whole q) (score One) N))
-      ∙ sym (outcomes_plus us (λ ys. r *ℚ score (Tail p q) ys) (λ ys. p *ℚ whole q *ℚ score One ys) N)
-      ∙ outcomes_same us _ greater N tail_greater)
+  shares_total us = shares_add_up (length us) (sum_over_outcomes us) (losses_weighing us)

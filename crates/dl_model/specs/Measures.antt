@@ -3,7 +3,7 @@
 use Rattle.std.specs.Prelude.{ℕ, zero, suc, ◌≡◌, nat_lt, Option, Some, List, [], ◌∷◌, sum}
 use Rattle.dl_exact.specs.Prelude.{Fraction, whole, ◌*ℚ◌, ◌<ℚ◌, sum_to}
 use Rattle.dl_model.specs.Series.{Series, IsBound, AtLeast, Below, Settles}
-use Rattle.dl_model.specs.Program.{Loss, IsLoss, Quantity, One, Point, Cdf, Mean, Layer, Tail, Joint, Price, Part, Share, PricedTerm, where_true, sum_over_outcomes}
+use Rattle.dl_model.specs.Program.{Loss, IsLoss, Quantity, One, Point, Cdf, Mean, Layer, Tail, Outcome, Joint, Price, Part, Share, PricedTerm, where_true, sum_over_outcomes}
 use Rattle.dl_model.specs.Family.{Family, nothing}
 
 -- 1 where the total is above x
@@ -73,6 +73,7 @@ IsAsked (Cdf x) = Unit {0}
 IsAsked Mean = Unit {0}
 IsAsked (Layer limit attachment) = Unit {0}
 IsAsked (Tail p q) = p <ℚ whole 1
+IsAsked (Outcome i) = Unit {0}
 IsAsked (Joint i x) = Unit {0}
 IsAsked (Price terms) = ArePriced terms
 IsAsked (Part q u) = Unit {0}

@@ -10,10 +10,10 @@ pub use Rattle.dl_model.specs.Family.{Encloses, Family, GridEncloses, IsProper, 
 pub use Rattle.dl_model.specs.Listed.{probability_at}
 pub use Rattle.dl_model.specs.Measures.{AreDeclared, IsBracketed, IsDeclaredLoss, IsQuantile, unit_of, without}
 pub use Rattle.dl_model.specs.Plans.{aggregate_of, aggregates_of, claims_of, compound_of, count_weights, declared, loss_of, mean_ceded, outcome_after}
-pub use Rattle.dl_model.specs.Program.{AreDeclarable, Cdf, Joint, Layer, Loss, Mean, One, Part, Point, Price, PricedTerm, Quantity, Share, Tail, partial_sums, total, where_true}
+pub use Rattle.dl_model.specs.Program.{AreDeclarable, Cdf, Joint, Layer, Loss, Mean, One, Outcome, Part, Point, Price, PricedTerm, Quantity, Share, Tail, partial_sums, total, where_true}
 unfoldable pub use Rattle.dl_model.specs.Program.{sum_over_outcomes}
 pub use Rattle.dl_model.specs.Recursion.{Recursion, from_before}
 pub use Rattle.dl_model.specs.Series.{AtLeast, AtMost, Below, Holds, IsBound, Series}
 pub use Rattle.dl_model.specs.Severity.{IsWithinOne}
-pub use Rattle.dl_model.specs.Shares.{HoldsShare, unit_mean}
+pub use Rattle.dl_model.specs.Shares.{HoldsShare}
 pub use Rattle.dl_model.specs.Units.{Aggregate, IsDeclared, loss, mapped}

@@ -37,8 +37,9 @@ pub record PricedTerm : Type 0 where
 
 -- What is asked of the total: that it is there at all, that it is x, that it is at most x, its
 -- mean, its part in the layer of a limit above an attachment, its tail mean at p where q is the
--- quantile, the outcome of unit i where the total is x, a weighted sum of tail means, that it is
--- below q or with the part u at q, and the outcome of unit i over 1 - p in the tail above that.
+-- quantile, the outcome of unit i, that outcome where the total is x, a weighted sum of tail means,
+-- that it is below q or with the part u at q, and the outcome of unit i over 1 - p in the tail above
+-- that.
 pub data Quantity : Type 0 where
   One : Quantity
   Point : ℕ → Quantity
@@ -46,6 +47,7 @@ pub data Quantity : Type 0 where
   Mean : Quantity
   Layer : Option ℕ → ℕ → Quantity
   Tail : Fraction → ℕ → Quantity
+  Outcome : ℕ → Quantity
   Joint : ℕ → ℕ → Quantity
   Price : List PricedTerm → Quantity
   Part : ℕ → Fraction → Quantity
@@ -63,6 +65,7 @@ score (Cdf x) ys = where_true (nat_le (sum ys) x) (whole 1)
 score Mean ys = whole (sum ys)
 score (Layer limit attachment) ys = whole (layer limit attachment (sum ys))
 score (Tail p q) ys = above_quantile p q (sum ys)
+score (Outcome i) ys = whole (get_or ys i 0)
 score (Joint i x) ys = where_true (nat_eq (sum ys) x) (whole (get_or ys i 0))
 score (Price terms) ys = sum_over terms (λ t. t.weight *ℚ above_quantile t.p t.quantile (sum ys))
 score (Part q u) ys =

@@ -1,12 +1,8 @@
 -- The share of a unit in the tail mean of the total.
-use Rattle.std.specs.Prelude.{ℕ, List, get_or}
+use Rattle.std.specs.Prelude.{ℕ}
 use Rattle.dl_exact.specs.Fraction.{Fraction, whole, ◌≤ℚ◌}
 use Rattle.dl_model.specs.Series.{Series, AtMost, AtLeast}
-use Rattle.dl_model.specs.Program.{Loss, Quantity, One, Part, Share, sum_over_outcomes}
-
--- the outcome of unit i, whatever the total is
-abbrev pub unit_mean : List Loss → ℕ → Series
-unit_mean us i = sum_over_outcomes us (λ ys. whole (get_or ys i 0))
+use Rattle.dl_model.specs.Program.{Quantity, One, Part, Share}
 
 -- The ends low and high hold the share of unit i in the tail mean at p, where q is the quantile.
 -- The tail has the probability 1 - p, so that of the probability at q the part u lies below it for

@@ -3,8 +3,8 @@
 ghost use Rattle.std.specs.Prelude.{ℕ, ◌≡◌, List, length};
 ghost use Rattle.dl_exact.specs.Prelude.{Fraction, whole, ◌+ℚ◌, ◌-ℚ◌, ◌*ℚ◌, ◌/ℚ◌, ◌≤ℚ◌, ◌<ℚ◌, sum_to, sum_below};
 ghost use Rattle.dl_model.specs.Series.{IsBound, Holds};
-ghost use Rattle.dl_model.specs.Program.{Loss, AreDeclarable, One, Point, Cdf, Tail, Joint, Part, Share, partial_sums};
-ghost use Rattle.dl_model.specs.Shares.{HoldsShare, unit_mean};
+ghost use Rattle.dl_model.specs.Program.{Loss, AreDeclarable, One, Point, Cdf, Tail, Outcome, Joint, Part, Share, partial_sums};
+ghost use Rattle.dl_model.specs.Shares.{HoldsShare};
 
 /// The joint means of all units at a total `x` add up to `x` times that of the total `x` itself.
 #[tactic(auto, using(crate::proofs::ShareLaws::joint_means_total))]
@@ -34,7 +34,7 @@ pub fn law_share_ends()
     ensures { (us : List Loss) → AreDeclarable us
         → (i q : ℕ) (p bound : Fraction) → p <ℚ whole 1 → IsBound (partial_sums us One) bound
         → (mean_low mean_high below_low below_high cdf_low cdf_high at_low at_high : Fraction)
-        → Holds (unit_mean us i) (partial_sums us One) mean_low mean_high
+        → Holds (partial_sums us (Outcome i)) (partial_sums us One) mean_low mean_high
         → Holds (λ N. sum_to q (λ x. partial_sums us (Joint i x) N)) (partial_sums us One)
         below_low below_high
         → Holds (partial_sums us (Cdf q)) (partial_sums us One) cdf_low cdf_high

@@ -24,10 +24,10 @@ pub use Rattle.dl_measures.proofs.TailLaws.{in_order, inverse, parts, quotients_
 pub use Rattle.dl_model.proofs.Declared.{at_least_times, at_most_times, holds_times, quotient, scaled, self_holds}
 pub use Rattle.dl_model.proofs.Outcomes.{loss_proper, mean_alone, outcomes_le, outcomes_same, outcomes_times, total_alone_all, total_more_all, total_proper}
 pub use Rattle.dl_model.specs.Measures.{level_mean, unit_of, without}
-pub use Rattle.dl_model.specs.Program.{IsLoss, Joint, Part, Quantity, Share, where_true}
+pub use Rattle.dl_model.specs.Program.{IsLoss, Joint, Outcome, Part, Quantity, Share, where_true}
 unfoldable pub use Rattle.dl_model.specs.Program.{sum_over_outcomes}
 pub use Rattle.dl_model.specs.Series.{Rises, Series, times}
-pub use Rattle.dl_model.specs.Shares.{HoldsShare, unit_mean}
+pub use Rattle.dl_model.specs.Shares.{HoldsShare}
 pub use Rattle.dl_shares.specs.Amounts.{amounts_to, claims_mean}
 pub use Rattle.dl_grid.proofs.CellLaws.{high_le}
 pub use Rattle.dl_grid.proofs.EndLists.{low_le_high}

@@ -6,7 +6,7 @@ ghost use Rattle.dl_limits.specs.Limits.{rarest_parts, most_level_den, most_shar
 ghost use Rattle.dl_exact.specs.Prelude.{Fraction, whole, ◌over◌, ◌-ℚ◌, ◌<ℚ◌, sum_to};
 ghost use Rattle.dl_iv.specs.Enclosure.{LiesIn};
 ghost use Rattle.dl_grid.specs.Cells.{low_at, spread};
-ghost use Rattle.dl_model.specs.Prelude.{Holds, Loss, AreDeclarable, One, Point, Joint, partial_sums, total as total_of, GridEncloses, IsQuantile, AreDeclared, HoldsShare, unit_mean};
+ghost use Rattle.dl_model.specs.Prelude.{Holds, Loss, AreDeclarable, One, Point, Outcome, Joint, partial_sums, total as total_of, GridEncloses, IsQuantile, AreDeclared, HoldsShare};
 ghost use Rattle.dl_measures.specs.Prelude.{IsFirstFound, low_cdf};
 ghost use Rattle.dl_shares.specs.Settled.{IsPast, IsOpen, IsRare, IsSettled, MayBeAbsent};
 ghost use Rattle.dl_shares.specs.Widths.{conditional_width, share_width};
@@ -73,7 +73,7 @@ fn tail_share_at<const B: u32>(
     requires settled { IsSettled total.now p q }
     requires mean { mean.hi ≤ most_mean }
     ensures holds { (us : List Loss) (i : ℕ) → AreDeclared us → GridEncloses total.now (total_of us)
-        → Holds (unit_mean us i) (partial_sums us One) (mean.entry.lo over 2 ^ B)
+        → Holds (partial_sums us (Outcome i)) (partial_sums us One) (mean.entry.lo over 2 ^ B)
         (mean.entry.hi over 2 ^ B)
         → Holds (partial_sums us (Joint i q)) (partial_sums us One) (joint.entry.lo over 2 ^ B)
         (joint.entry.hi over 2 ^ B)
@@ -115,7 +115,7 @@ impl<'a, const B: u32> ShareSource<'a, B> {
             ↔ (IsPast total.now p ⊎ IsOpen total.now p ⊎ IsRare total.now p) }
         ensures holds { (us : List Loss) (i : ℕ) → AreDeclared us
             → GivesJoints self.now (partial_sums us) i → GridEncloses total.now (total_of us)
-            → Holds (unit_mean us i) (partial_sums us One) (mean.entry.lo over 2 ^ B)
+            → Holds (partial_sums us (Outcome i)) (partial_sums us One) (mean.entry.lo over 2 ^ B)
             (mean.entry.hi over 2 ^ B)
             → IfSome result (λ r. (q : ℕ) → IsQuantile (partial_sums us) q p
             → HoldsShare (partial_sums us) i p q (r.lo over 2 ^ B) (r.hi over 2 ^ B)) }
