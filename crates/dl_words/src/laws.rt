@@ -4,16 +4,19 @@
 ghost use Rattle.std.specs.Prelude.{◌≡◌, ◌↔◌, ℕ, List, Some, IsTrue};
 ghost use Rattle.dl_bytes.specs.Prelude.{IsNumeral, is_numeral};
 ghost use Rattle.dl_lexer.specs.Tokens.{IsWord};
+ghost use Rattle.dl_limits.specs.declared.rules.Rules.{Rules};
 ghost use Rattle.dl_plan.specs.declared.settings.Ask.{Ask};
 ghost use Rattle.dl_words.specs.AsWritten.{AreParts};
 ghost use Rattle.dl_words.specs.Parts.{Part, command_parts};
 ghost use Rattle.dl_words.specs.Spelling.{is_word};
 ghost use Rattle.dl_words.specs.Table.{SpellsAsk, ask_of};
 
-/// A text is read as an ask exactly where the table of the asks has it; so no text is two asks.
+/// By either set of rules a text is read as an ask exactly where the table of the asks has it; so no
+/// text is two asks.
 #[tactic(auto, using(crate::proofs::TableLaws::table_back, crate::proofs::TableLaws::table_read))]
 pub fn law_asks()
-    ensures table { (text : List ℕ) (ask : Ask) → (ask_of text ≡ Some ask) ↔ SpellsAsk text ask }
+    ensures table { (rules : Rules) (text : List ℕ) (ask : Ask)
+        → (ask_of rules text ≡ Some ask) ↔ SpellsAsk rules text ask }
 {}
 
 /// The tests of a numeral and of a name pass exactly the numerals and the words of a program.
