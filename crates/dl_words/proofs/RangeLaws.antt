@@ -229,6 +229,16 @@ module _ (P : Settings → Type 0) (words : List Text) (each : (word : Text) (te
 pub words_in_range : (words : List Text) (settings : Settings) → words_of words ≡ Ok settings → AreInRange settings
 words_in_range words = from_words AreInRange words (λ word texts form values asks q. ranges form values texts asks)
 
+-- each ask is what its text spells by the rules of the settings
+pub asks_by_rules : (words : List Text) (settings : Settings) → words_of words ≡ Ok settings
+    → All (λ asked. SpellsAsk settings.rules asked.text asked.ask) settings.asks
+asks_by_rules words = from_words (λ s. All (λ asked. SpellsAsk s.rules asked.text asked.ask) s.asks) words
+    (λ word texts form values asks q t a. asks_each (rules_in values)
+    (λ texts asks. All (λ asked. SpellsAsk (rules_in values) asked.text asked.ask) asks)
+    (All-nil (λ asked. SpellsAsk (rules_in values) asked.text asked.ask)) (λ text ask texts asks is h.
+    All-cons (λ asked. SpellsAsk (rules_in values) asked.text asked.ask) _ asks (table_back (rules_in values) text ask is) h)
+    texts asks)
+
 pub words_are_text : (words : List Text) (settings : Settings) → All IsUtf8 words → words_of words ≡ Ok settings
     → All (λ asked. IsUtf8 asked.text) settings.asks
 words_are_text words settings u e = from_words (λ s. All (λ asked. IsUtf8 asked.text) s.asks) words
