@@ -1,5 +1,5 @@
 -- The asks of good words are written with plain bytes alone.
-use Rattle.dl_words.proofs.Common.{◌≡◌, ℕ, Bool, true, inl, inr, refl, sym, subst, List, [], ◌∷◌, ◌++◌, All, Ok, arith, codes, nat_lt, ◌&&◌, ◌==◌, IsTrue, list_all, is_ascii_digit, All-nil, All-cons, nat_tests, is_word_byte, begins_with_letter, Ask, Asked, Rules, Standard, Extended, Settings, Text, is_amount, is_number, is_numeral, is_probability, is_word, SpellsAsk, rules_in, words_of}
+use Rattle.dl_words.proofs.Common.{◌≡◌, ℕ, Bool, true, inl, inr, refl, sym, subst, List, [], ◌∷◌, ◌++◌, All, Ok, arith, codes, nat_lt, ◌&&◌, ◌==◌, IsTrue, list_all, is_ascii_digit, All-nil, nat_tests, is_word_byte, begins_with_letter, Ask, Asked, Rules, Standard, Extended, Settings, Text, is_amount, is_number, is_numeral, is_probability, is_word, SpellsAsk, words_of}
 use Rattle.std.specs.Prelude.{not}
 use Rattle.dl_plan.specs.Plain.{IsPlainByte}
 use Rattle.dl_plan.specs.declared.settings.Term.{Term}
@@ -9,8 +9,9 @@ use Rattle.dl_words.specs.Table.{amount, by_row, colon, layer, letter_s, letter_
 use Rattle.dl_words.specs.Ways.{AreJoined, Way, behind, last, made, more, pair}
 use Rattle.std.proofs.lemmas.Bool.{and_parts as both}
 use Rattle.dl_words.proofs.NumeralBytes.{joined, passed, written_each}
-use Rattle.dl_words.proofs.RangeLaws.{asks_each, from_words}
-use Rattle.dl_words.proofs.TableLaws.{EachRow, Spelling, by_each, no_more, spelled_row, table_back, ◌also◌}
+use Rattle.dl_words.proofs.RangeLaws.{IsSpelled, asks_by_rules}
+use Rattle.std.proofs.lemmas.List.Elements.{All-weaker}
+use Rattle.dl_words.proofs.TableLaws.{EachRow, Spelling, by_each, no_more, spelled_row, ◌also◌}
 
 -- ---- bytes
 
@@ -134,6 +135,5 @@ HasPlainText asked = ArePlain asked.text
 
 pub asks_are_plain : (words : List Text) (settings : Settings) → words_of words ≡ Ok settings
     → All HasPlainText settings.asks
-asks_are_plain words = from_words (λ s. All HasPlainText s.asks) words (λ word texts form values asks q t a.
-    asks_each (rules_in values) (λ texts asks. All HasPlainText asks) (All-nil HasPlainText) (λ text ask texts asks is h.
-    All-cons HasPlainText _ asks (spelled_plain (rules_in values) text ask (table_back (rules_in values) text ask is)) h) texts asks)
+asks_are_plain words s e = All-weaker (IsSpelled s.rules) HasPlainText
+    (λ asked. spelled_plain s.rules asked.text asked.ask) s.asks (asks_by_rules words s e)

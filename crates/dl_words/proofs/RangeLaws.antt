@@ -4,7 +4,7 @@ use Rattle.dl_exact.proofs.BelowOne.{below_one}
 use Rattle.std.proofs.lemmas.Bool.{leb-true, ltb-true, not-true}
 use Rattle.std.proofs.Math.Nat.{pow-le-pow_right}
 use Rattle.std.proofs.Common.{not, IsUtf8, ◌^◌}
-use Rattle.std.proofs.lemmas.List.Elements.{All-head, All-tail}
+use Rattle.std.proofs.lemmas.List.Elements.{All-head, All-tail, All-weaker}
 use Rattle.dl_exact.specs.Fraction.{Fraction, whole}
 use Rattle.dl_exact.proofs.Parts.{pos_num}
 use Rattle.dl_plan.proofs.Buckets.{one_bucket}
@@ -137,6 +137,15 @@ module _ (rules : Rules) (R : List Text → List Asked → Type 0) (nil : R [] [
     pub asks_each : (texts : List Text) (asks : List Asked) → asks_of rules texts ≡ Ok asks → R texts asks
     asks_each texts asks e = subst (λ r. IfOk r (R texts)) e (each_read texts)
 
+-- its text spells the ask
+abbrev pub IsSpelled : Rules → Asked → Type 0
+IsSpelled rules asked = SpellsAsk rules asked.text asked.ask
+
+asks_spelled : (rules : Rules) (texts : List Text) (asks : List Asked) → asks_of rules texts ≡ Ok asks
+    → All (IsSpelled rules) asks
+asks_spelled rules = asks_each rules (λ texts. All (IsSpelled rules)) (All-nil (IsSpelled rules))
+    (λ text ask texts asks is. All-cons (IsSpelled rules) _ asks (table_back rules text ask is))
+
 none : (n : ℕ) → IsTrue (n == 0) → n ≤ 256
 none n h = grind (arith, nat_tests, h)
 
@@ -161,9 +170,8 @@ module _ (form : Form) (values : Values) (texts : List Text) (asks : List Asked)
       let wide = between_of 1 1000000000 10 (values (codes "width")) (omega arith, omega arith) width.0 in
       let mean_wide = between_of 1 1000000000000 1000000 (values (codes "mwidth"))
       (omega arith, omega arith) mwidth.0 in
-      let ranged = asks_each (rules_in values) (λ texts. All (λ asked. IsAskInRange asked.ask)) (All-nil (λ asked. IsAskInRange asked.ask))
-      (λ text ask texts asks is h. All-cons (λ asked. IsAskInRange asked.ask) _ asks
-      (in_range (rules_in values) text ask (table_back (rules_in values) text ask is)) h) texts asks e in
+      let ranged = All-weaker (IsSpelled (rules_in values)) (λ asked. IsAskInRange asked.ask)
+      (λ asked. in_range (rules_in values) asked.text asked.ask) asks (asks_spelled (rules_in values) texts asks e) in
       let same = asks_each (rules_in values) (λ texts asks. length asks ≡ length texts) refl (λ text ask texts asks is h. ap suc h) texts asks e in
       record {
         bucket = taken IsBucket is_bucket (whole 1) numeral_value (values (codes "bs")) one_bucket bucket bs.0;
@@ -231,13 +239,9 @@ words_in_range words = from_words AreInRange words (λ word texts form values as
 
 -- each ask is what its text spells by the rules of the settings
 pub asks_by_rules : (words : List Text) (settings : Settings) → words_of words ≡ Ok settings
-    → All (λ asked. SpellsAsk settings.rules asked.text asked.ask) settings.asks
-asks_by_rules words = from_words (λ s. All (λ asked. SpellsAsk s.rules asked.text asked.ask) s.asks) words
-    (λ word texts form values asks q t a. asks_each (rules_in values)
-    (λ texts asks. All (λ asked. SpellsAsk (rules_in values) asked.text asked.ask) asks)
-    (All-nil (λ asked. SpellsAsk (rules_in values) asked.text asked.ask)) (λ text ask texts asks is h.
-    All-cons (λ asked. SpellsAsk (rules_in values) asked.text asked.ask) _ asks (table_back (rules_in values) text ask is) h)
-    texts asks)
+    → All (IsSpelled settings.rules) settings.asks
+asks_by_rules words = from_words (λ s. All (IsSpelled s.rules) s.asks) words
+    (λ word texts form values asks q t a. asks_spelled (rules_in values) texts asks)
 
 pub words_are_text : (words : List Text) (settings : Settings) → All IsUtf8 words → words_of words ≡ Ok settings
     → All (λ asked. IsUtf8 asked.text) settings.asks
