@@ -3,7 +3,7 @@
 # What can follow these words of a command line, the last of which is begun.
 _decl_offers() {
     local begun=${*: -1} before=${*: -2:1} word command='' offers='' option powers='1 2 3 4 5 6 7 8 9 10'
-    local fits='--bs --log2 --digits --width --mwidth --format --make'
+    local fits='--bs --log2 --digits --width --mwidth --format --rules --make'
     for word in "${@:2:$#-2}"; do
         case $word in
             run | fmt | cert | verify) command=${command:-$word} ;;
@@ -18,6 +18,7 @@ _decl_offers() {
     esac
     case $before in
         --format) echo text csv json; return ;;
+        --rules) echo standard extended; return ;;
         --log2) echo $powers; return ;;
         --digits) echo 1 2 3 4 5 6 7 8 9; return ;;
         --bs | --width | --mwidth | --make) return ;;

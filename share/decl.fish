@@ -47,4 +47,5 @@ complete -c decl -n '__decl_wants digits' -l digits -x -a '(seq 1 9)' -d 'digits
 complete -c decl -n '__decl_wants width' -l width -x -d 'width of probabilities, in last digits'
 complete -c decl -n '__decl_wants mwidth' -l mwidth -x -d 'width of means, in last digits'
 complete -c decl -n '__decl_wants format' -l format -x -a 'text csv json' -d 'form of the report'
+complete -c decl -n '__decl_wants rules' -l rules -x -a 'standard extended' -d 'rules that a text is held to'
 complete -c decl -n '__decl_wants make' -l make -x -d 'evaluate a made program'

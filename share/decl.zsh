@@ -3,7 +3,7 @@
 
 _decl() {
     local command= word option
-    local -a offers powers=({1..10}) fits=(--bs --log2 --digits --width --mwidth --format --make)
+    local -a offers powers=({1..10}) fits=(--bs --log2 --digits --width --mwidth --format --rules --make)
     local before=${words[CURRENT-1]}
     # A value can stand behind `=` in the word of its option.
     if compset -P '--*='; then
@@ -22,6 +22,7 @@ _decl() {
     esac
     case $before in
         --format) compadd -- text csv json; return ;;
+        --rules) compadd -- standard extended; return ;;
         --log2) compadd -- $powers; return ;;
         --digits) compadd -- {1..9}; return ;;
         --bs | --width | --mwidth | --make) return ;;

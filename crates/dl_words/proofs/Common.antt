@@ -18,6 +18,8 @@ pub use Rattle.std.specs.List.{after_first, before_first, fold, list_all, list_a
 pub use Rattle.std.specs.Prelude.{IsTrue, if◌then◌else◌, is_some, nat_le, nat_lt, option_and_then, option_map, slice_get, unwrap_or, ⊤, ◌&&◌, ◌==◌, ◌||◌}
 pub use Rattle.std.specs.Str.{bytes_eq, chars}
 pub use Rattle.dl_exact.specs.Fraction.{Fraction}
+pub use Rattle.dl_limits.specs.declared.rules.Rules.{Rules}
+pub use Rattle.dl_limits.specs.declared.rules.Rules.TheVariants.{Standard, Extended}
 pub use Rattle.dl_lexer.specs.Bytes.{is_word_byte}
 pub use Rattle.dl_lexer.specs.Tokens.{begins_with_letter}
 pub use Rattle.std.proofs.lemmas.Bool.{cases_Bool}
@@ -34,7 +36,7 @@ unfoldable pub use Rattle.dl_words.specs.Asks.{asks_of}
 pub use Rattle.dl_words.specs.Command.{command}
 pub use Rattle.dl_words.specs.Faults.{Explains, ExplainsAsks}
 pub use Rattle.dl_words.specs.Found.{answer_in, asks_in, values_in}
-pub use Rattle.dl_words.specs.Options.{Values, are_taken, form_named, is_taken}
+pub use Rattle.dl_words.specs.Options.{Values, are_taken, form_named, is_taken, rules_in}
 pub use Rattle.dl_words.specs.Parts.{Kind, Mode, Part, command_parts, is_equals, is_name, kind_of, option_values, positionals_of, read_kind, with_part}
 unfoldable pub use Rattle.dl_words.specs.Parts.{parts_from}
 pub use Rattle.dl_words.specs.Parts.Kind.{begins, ends, misfit, plain, whole}

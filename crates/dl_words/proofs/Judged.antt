@@ -1,6 +1,6 @@
 -- The answer to what `clap` found is the answer to the words.
 use Rattle.std.proofs.lemmas.Grind.{common_steps}
-use Rattle.dl_words.proofs.Common.{◌≡◌, ◌∙◌, inl, inr, cases_Bool, ℕ, Bool, true, false, refl, sym, ap, ap₂, List, [], ◌∷◌, Option, Some, None, Result, Ok, Err, codes, true≢false, length, drop, arith, ◌≤◌, if◌then◌else◌, is_some, slice_get, ◌&&◌, option_and_then, option_map, unwrap_or, Bor, is_ascii_digit, IsTrue, list_all, bytes_eq, bytes_eq-Decides, nat_tests, all_of, rows_of, matches_of, Asked, Form, Run, Settings, UsageFault, Line, WordsFault, asks_of, command, Explains, ExplainsAsks, answer_in, asks_in, values_in, Values, are_taken, form_named, is_taken, Part, is_name, command_parts, positionals_of, option_values, option, positional, between, Text, begins_plainly, is_bucket, is_number_within, admits, answer, to_parts, to_positionals, with_asks, words_of}
+use Rattle.dl_words.proofs.Common.{◌≡◌, ◌∙◌, inl, inr, cases_Bool, ℕ, Bool, true, false, refl, sym, ap, ap₂, List, [], ◌∷◌, Option, Some, None, Result, Ok, Err, codes, true≢false, length, drop, arith, ◌≤◌, if◌then◌else◌, is_some, slice_get, ◌&&◌, option_and_then, option_map, unwrap_or, Bor, is_ascii_digit, IsTrue, list_all, bytes_eq, bytes_eq-Decides, nat_tests, all_of, rows_of, matches_of, Asked, Form, Run, Rules, Settings, UsageFault, Line, WordsFault, asks_of, command, Explains, ExplainsAsks, answer_in, asks_in, values_in, Values, are_taken, form_named, is_taken, rules_in, Part, is_name, command_parts, positionals_of, option_values, option, positional, between, Text, begins_plainly, is_bucket, is_number_within, admits, answer, to_parts, to_positionals, with_asks, words_of}
 use Rattle.std.proofs.Common.{All, IfSome}
 use Rattle.std.proofs.lemmas.Bool.{and_left, both_ways, false_from_ne_true, leb-true}
 use Rattle.std.specs.Prelude.{take, ◌==◌}
@@ -12,7 +12,7 @@ use Rattle.clap.proofs.WalkLemmas.{first_value-rows, raw_values-rows}
 use Rattle.dl_words.specs.declared.fault.UsageFault.TheVariants.{Ask}
 use Rattle.dl_words.specs.declared.fault.WordsFault.TheVariants.{Usage, OutOfMemory}
 use Rattle.dl_words.specs.Found.{form_in, list_of}
-use Rattle.dl_words.specs.Options.{format_named, is_format}
+use Rattle.dl_words.specs.Options.{format_named, is_format, is_rules, rules_named}
 use Rattle.std.proofs.lemmas.Bool.{and_parts}
 use Rattle.dl_words.proofs.NumeralBytes.{passed, written_each}
 use Rattle.dl_words.proofs.Reading.{clap_from}
@@ -47,6 +47,9 @@ named_plain text name p other = grind (arith, bytes_eq-Decides text name)
 format_plain : (text : Text) → is_some (format_named text) ≡ true → begins_plainly text ≡ true
 format_plain text h = grind (arith, nat_tests, common_steps, named_plain)
 
+rules_plain : (text : Text) → is_some (rules_named text) ≡ true → begins_plainly text ≡ true
+rules_plain text h = grind (arith, nat_tests, common_steps, named_plain)
+
 form_plain : (text : Text) → is_some (form_named text) ≡ true → begins_plainly text ≡ true
 form_plain text h = grind (arith, nat_tests, common_steps, named_plain)
 
@@ -69,6 +72,7 @@ module _ (values : Values) where
       let digits = (and_parts _ _ log2).1 in
       let width = (and_parts _ _ digits).1 in
       let mwidth = (and_parts _ _ width).1 in
+      let format = (and_parts _ _ mwidth).1 in
       by_name (λ name. (takes : Text → Bool) × ((text : Text) → takes text ≡ true → begins_plainly text ≡ true)
       × (is_taken takes (values name) ≡ true))
       (is_number_within 0 4294967295, whole_plain 0 4294967295, (and_parts _ _ make).0)
@@ -77,7 +81,8 @@ module _ (values : Values) where
       (is_number_within 1 9, whole_plain 1 9, (and_parts _ _ digits).0)
       (is_number_within 1 1000000000, whole_plain 1 1000000000, (and_parts _ _ width).0)
       (is_number_within 1 1000000000000, whole_plain 1 1000000000000, (and_parts _ _ mwidth).0)
-      (is_format, format_plain, (and_parts _ _ (and_parts _ _ mwidth).1).0)
+      (is_format, format_plain, (and_parts _ _ format).0)
+      (is_rules, rules_plain, (and_parts _ _ (and_parts _ _ format).1).0)
 
   pub values_plain : are_taken values ≡ true → (name : Text) → is_name name ≡ true
       → list_all begins_plainly (values name) ≡ true
@@ -85,7 +90,8 @@ module _ (values : Values) where
 
   -- an option that stands twice is not taken
   pub twice_untaken : (name : Text) → is_name name ≡ true → 2 ≤ length (values name) → are_taken values ≡ false
-  twice_untaken name is two = grind (arith, false_from_ne_true, taken_at, leb-true, and_parts)
+  twice_untaken name is two = false_from_ne_true _ (λ all.
+      let few = leb-true (length (values name)) 1 (and_parts _ _ (taken_at all name is).2).0 in omega (arith, two, few))
 
 -- ---- parts that are not clean are refused
 
@@ -191,7 +197,7 @@ asks_more : (ws : List Text) → unwrap_or (more None ws) [] ≡ ws
 asks_more [] = refl
 asks_more (w ∷ ws) = refl
 
--- the values of the seven names, and none of another
+-- the values of the options' names, and none of another
 abbrev named_values : Values → Values
 named_values f name = if is_name name then f name else []
 
@@ -209,7 +215,11 @@ same_values : (f g : Values) → ((name : Text) → is_name name ≡ true → f 
     → (form : Option Form) (asks : List Text) → answer form f asks ≡ answer form g asks
 same_values f g h None asks = refl
 same_values f g h (Some form) asks =
-    grind (arith, told_by_name form f asks (asks_of asks), told_by_name form g asks (asks_of asks))
+    grind (
+      arith,
+      told_by_name form f asks (asks_of (rules_in f) asks),
+      told_by_name form g asks (asks_of (rules_in g) asks),
+    )
 
 -- what was found of a parse with these matches
 pub given : (words : List Text) (ps : List Part) (m : Matched words ps) (found : Found)
@@ -248,12 +258,13 @@ pub plain_found : (r : Bool) (texts : List (Bor Text)) (asks : List Text)
 plain_found r texts asks h e = grind (arith, list_all-map begins_plainly (λ text. text.now) texts)
 
 -- where the values are taken, and the tests of the texts of the asks pass, what was found fits the form
-pub fitting_tests : (found : Found) (form : Form) (texts : List (Bor Text)) (begin admitted : Bool)
+pub fitting_tests : (found : Found) (form : Form) (rules : Rules) (texts : List (Bor Text)) (begin admitted : Bool)
     → Some form ≡ form_in found → lent texts ≡ asks_in found → IsTrue (are_taken (values_in found))
+    → rules ≡ rules_in (values_in found)
     → begin ≡ list_all (λ text. begins_plainly text.now) texts → IsTrue begin
     → admitted ≡ admits form (values_in found) (lent texts) → IsTrue admitted
-    → answer_in found ≡ with_asks form (values_in found) (asks_of (lent texts))
-fitting_tests found form texts begin admitted is same taken tested b asked a =
+    → answer_in found ≡ with_asks form (values_in found) (asks_of rules (lent texts))
+fitting_tests found form rules texts begin admitted is same taken by tested b asked a =
     grind (arith, plain_found begin texts (asks_in found) tested same)
 
 -- the first misfit of the asks is the answer's fault

@@ -1,16 +1,17 @@
 -- The asks of good words are written with plain bytes alone.
-use Rattle.dl_words.proofs.Common.{◌≡◌, ℕ, Bool, true, inl, inr, refl, sym, subst, List, [], ◌∷◌, ◌++◌, All, Ok, arith, codes, nat_lt, ◌&&◌, ◌==◌, IsTrue, list_all, is_ascii_digit, All-nil, All-cons, nat_tests, is_word_byte, begins_with_letter, Ask, Asked, Settings, Text, is_amount, is_number, is_numeral, is_probability, is_word, SpellsAsk, words_of}
+use Rattle.dl_words.proofs.Common.{◌≡◌, ℕ, Bool, true, inl, inr, refl, sym, subst, List, [], ◌∷◌, ◌++◌, All, Ok, arith, codes, nat_lt, ◌&&◌, ◌==◌, IsTrue, list_all, is_ascii_digit, All-nil, nat_tests, is_word_byte, begins_with_letter, Ask, Asked, Rules, Standard, Extended, Settings, Text, is_amount, is_number, is_numeral, is_probability, is_word, SpellsAsk, words_of}
 use Rattle.std.specs.Prelude.{not}
 use Rattle.dl_plan.specs.Plain.{IsPlainByte}
 use Rattle.dl_plan.specs.declared.settings.Term.{Term}
 use Rattle.dl_words.specs.Spelling.{is_weight}
-use Rattle.dl_plan.specs.declared.settings.Ask.TheVariants.{Pmf, Cdf, Quantile, LayerMean, Tail, Price, Joint, Kappa, Cotail}
-use Rattle.dl_words.specs.Table.{amount, by_row, colon, layer, letter_s, letter_x, limit, mean, name, plus, probability, rows, term, terms, unit_amount, unit_level, weight}
+use Rattle.dl_plan.specs.declared.settings.Ask.TheVariants.{Pmf, Cdf, Quantile, LayerMean, Tail, Price, Joint, Kappa, Cotail, Share}
+use Rattle.dl_words.specs.Table.{amount, by_row, colon, layer, letter_s, letter_x, limit, mean, name, plus, probability, rows, share_of_tail, term, terms, unit_amount, unit_level, weight}
 use Rattle.dl_words.specs.Ways.{AreJoined, Way, behind, last, made, more, pair}
 use Rattle.std.proofs.lemmas.Bool.{and_parts as both}
 use Rattle.dl_words.proofs.NumeralBytes.{joined, passed, written_each}
-use Rattle.dl_words.proofs.RangeLaws.{asks_each, from_words}
-use Rattle.dl_words.proofs.TableLaws.{EachRow, Spelling, by_each, no_more, spelled_row, table_back, ◌also◌}
+use Rattle.dl_words.proofs.RangeLaws.{IsSpelled, asks_by_rules}
+use Rattle.std.proofs.lemmas.List.Elements.{All-weaker}
+use Rattle.dl_words.proofs.TableLaws.{EachRow, Spelling, by_each, no_more, spelled_row, ◌also◌}
 
 -- ---- bytes
 
@@ -96,8 +97,15 @@ terms_way text _ (more front rest x xs h later e) =
 unit_amount_way : IsPlainWay unit_amount
 unit_amount_way = pair_plain colon name amount refl name_way amount_way
 
-rows_plain : EachRow (λ row. Spelling (λ text ask. ArePlain text) row.follows) rows
-rows_plain =
+unit_level_way : (digits : ℕ) → IsPlainWay (unit_level digits)
+unit_level_way digits = pair_plain colon name (probability digits) refl name_way (level_way digits)
+
+share_plain : (rules : Rules) → Spelling (λ text ask. ArePlain text) (share_of_tail rules)
+share_plain Standard = made_plain (λ both. Cotail both.0 both.1) (unit_level 4) (unit_level_way 4)
+share_plain Extended = made_plain (λ both. Share both.0 both.1) (unit_level 9) (unit_level_way 9)
+
+rows_plain : (rules : Rules) → EachRow (λ row. Spelling (λ text ask. ArePlain text) row.follows) (rows rules)
+rows_plain rules =
     made_plain Pmf amount amount_way
     also made_plain Cdf amount amount_way
     also made_plain Quantile (probability 9) (level_way 9)
@@ -107,18 +115,18 @@ rows_plain =
     (pair_plain letter_x limit (behind letter_s amount) refl limit_way attach_way)
     also made_plain (λ both. Joint both.0 both.1) unit_amount unit_amount_way
     also made_plain (λ both. Kappa both.0 both.1) unit_amount unit_amount_way
-    also made_plain (λ both. Cotail both.0 both.1) unit_level
-    (pair_plain colon name (probability 4) refl name_way (level_way 4))
+    also share_plain rules
     also no_more
 
-heads_plain : EachRow (λ row. list_all is_plain row.head ≡ true) rows
-heads_plain = refl also refl also refl also refl also refl also refl also refl also refl also refl also no_more
+heads_plain : (rules : Rules) → EachRow (λ row. list_all is_plain row.head ≡ true) (rows rules)
+heads_plain rules = refl also refl also refl also refl also refl also refl also refl also refl also refl also no_more
 
-spelled_plain : (text : Text) (ask : Ask) → SpellsAsk text ask → ArePlain text
-spelled_plain text _ (mean e) = subst ArePlain (sym e) (literal (codes "mean") refl)
-spelled_plain text _ (by_row head rest ask e s) =
-    let front : ArePlain head = spelled_row rows head rest ask heads_plain s (λ row p h _. rw h (literal row.head p)) in
-    subst ArePlain (sym e) (around head rest 58 refl front (by_each (λ text ask. ArePlain text) head rest ask rows_plain s))
+spelled_plain : (rules : Rules) (text : Text) (ask : Ask) → SpellsAsk rules text ask → ArePlain text
+spelled_plain rules text _ (mean e) = subst ArePlain (sym e) (literal (codes "mean") refl)
+spelled_plain rules text _ (by_row head rest ask e s) =
+    let front : ArePlain head =
+    spelled_row (rows rules) head rest ask (heads_plain rules) s (λ row p h _. rw h (literal row.head p)) in
+    subst ArePlain (sym e) (around head rest 58 refl front (by_each (λ text ask. ArePlain text) rules head rest ask (rows_plain rules) s))
 
 -- ---- the law
 
@@ -127,6 +135,5 @@ HasPlainText asked = ArePlain asked.text
 
 pub asks_are_plain : (words : List Text) (settings : Settings) → words_of words ≡ Ok settings
     → All HasPlainText settings.asks
-asks_are_plain words = from_words (λ s. All HasPlainText s.asks) words (λ word texts form values asks q t a.
-    asks_each (λ texts asks. All HasPlainText asks) (All-nil HasPlainText) (λ text ask texts asks is h.
-    All-cons HasPlainText _ asks (spelled_plain text ask (table_back text ask is)) h) texts asks)
+asks_are_plain words s e = All-weaker (IsSpelled s.rules) HasPlainText
+    (λ asked. spelled_plain s.rules asked.text asked.ask) s.asks (asks_by_rules words s e)

@@ -1,17 +1,17 @@
 -- What good words say lies in its ranges, and the asks are words.
-use Rattle.dl_words.proofs.Common.{◌≡◌, inl, inr, cases_Bool, ℕ, suc, ◌≤◌, Bool, refl, ap, subst, List, [], ◌∷◌, length, map, All, Option, Some, None, Result, Ok, Err, IfOk, arith, codes, nat_lt, ◌&&◌, ◌==◌, IsTrue, list_all, All-nil, All-cons, nat_tests, is_bad, numeral_value, Ask, Asked, Form, Run, Cert, Verify, Settings, ask_of, asks_of, with_ask, Values, are_taken, form_named, is_taken, Part, command_parts, positionals_of, option_values, Text, begins_plainly, is_bucket, is_numeral, is_probability, is_number_within, number, SpellsAsk, admits, answer, to_parts, to_positionals, with_asks, words_of}
+use Rattle.dl_words.proofs.Common.{◌≡◌, inl, inr, cases_Bool, ℕ, suc, ◌≤◌, Bool, refl, ap, subst, List, [], ◌∷◌, length, map, All, Option, Some, None, Result, Ok, Err, IfOk, arith, codes, nat_lt, ◌&&◌, ◌==◌, IsTrue, list_all, All-nil, All-cons, nat_tests, is_bad, numeral_value, Ask, Asked, Form, Run, Cert, Verify, Rules, Standard, Extended, Settings, ask_of, asks_of, with_ask, Values, are_taken, form_named, is_taken, rules_in, Part, command_parts, positionals_of, option_values, Text, begins_plainly, is_bucket, is_numeral, is_probability, is_number_within, number, SpellsAsk, admits, answer, to_parts, to_positionals, with_asks, words_of}
 use Rattle.dl_exact.proofs.BelowOne.{below_one}
 use Rattle.std.proofs.lemmas.Bool.{leb-true, ltb-true, not-true}
 use Rattle.std.proofs.Math.Nat.{pow-le-pow_right}
 use Rattle.std.proofs.Common.{not, IsUtf8, ◌^◌}
-use Rattle.std.proofs.lemmas.List.Elements.{All-head, All-tail}
+use Rattle.std.proofs.lemmas.List.Elements.{All-head, All-tail, All-weaker}
 use Rattle.dl_exact.specs.Fraction.{Fraction, whole}
 use Rattle.dl_exact.proofs.Parts.{pos_num}
 use Rattle.dl_plan.proofs.Buckets.{one_bucket}
 use Rattle.dl_plan.specs.Prelude.{IsBucket, IsLevel, IsAskInRange, AreInRange, IsOfCert}
 use Rattle.dl_plan.specs.declared.settings.Term.{Term}
-use Rattle.dl_plan.specs.declared.settings.Ask.TheVariants.{Pmf, Cdf, Quantile, LayerMean, Tail, Price, Joint, Kappa, Cotail}
-use Rattle.dl_words.specs.Table.{amount, by_row, layer, mean, plus, probability, rows, term, terms, unit_amount, unit_level}
+use Rattle.dl_plan.specs.declared.settings.Ask.TheVariants.{Pmf, Cdf, Quantile, LayerMean, Tail, Price, Joint, Kappa, Cotail, Share}
+use Rattle.dl_words.specs.Table.{amount, by_row, layer, mean, plus, probability, rows, share_of_tail, term, terms, unit_amount, unit_level}
 use Rattle.dl_words.specs.Ways.{AreJoined, Way, last, made, more}
 use Rattle.dl_words.proofs.Prices.{priced}
 use Rattle.dl_words.specs.Options.{is_report_plain, are_of_cert, are_of_verify, most_cert_log2, or_default, settings_of}
@@ -92,8 +92,14 @@ made_in_range : {A : Type 0} (f : A → Ask) (w : Way A)
     → ((text : Text) (x : A) → w.Spells text x → IsAskInRange (f x)) → Spelling (λ text ask. IsAskInRange ask) (made f w)
 made_in_range f w each text ask h = subst IsAskInRange h.1 (each text h.0 h.2)
 
-rows_in_range : EachRow (λ row. Spelling (λ text ask. IsAskInRange ask) row.follows) rows
-rows_in_range =
+share_in_range : (rules : Rules) → Spelling (λ text ask. IsAskInRange ask) (share_of_tail rules)
+share_in_range Standard = made_in_range (λ both. Cotail both.0 both.1) (unit_level 4) (λ text both h.
+    let short = short_level_of h.1 both.1 h.4 in record { levels = one_level both.1 short.0; terms = tt; share = short.1 })
+share_in_range Extended = made_in_range (λ both. Share both.0 both.1) (unit_level 9) (λ text both h.
+    record { levels = one_level both.1 (level_of h.1 both.1 h.4); terms = tt; share = tt })
+
+rows_in_range : (rules : Rules) → EachRow (λ row. Spelling (λ text ask. IsAskInRange ask) row.follows) (rows rules)
+rows_in_range rules =
     made_in_range Pmf amount (λ text x h. record { levels = All-nil IsLevel; terms = tt; share = tt })
     also made_in_range Cdf amount (λ text x h. record { levels = All-nil IsLevel; terms = tt; share = tt })
     also made_in_range Quantile (probability 9) (λ text p h. record { levels = one_level p (level_of text p h); terms = tt; share = tt })
@@ -105,31 +111,40 @@ rows_in_range =
     (λ text x h. record { levels = All-nil IsLevel; terms = tt; share = tt })
     also made_in_range (λ both. Kappa both.0 both.1) unit_amount
     (λ text x h. record { levels = All-nil IsLevel; terms = tt; share = tt })
-    also made_in_range (λ both. Cotail both.0 both.1) unit_level (λ text both h.
-    let short = short_level_of h.1 both.1 h.4 in record { levels = one_level both.1 short.0; terms = tt; share = short.1 })
+    also share_in_range rules
     also no_more
 
-in_range : (text : Text) (ask : Ask) → SpellsAsk text ask → IsAskInRange ask
-in_range text ask (mean e) = record { levels = All-nil IsLevel; terms = tt; share = tt }
-in_range text ask (by_row head rest ask' e s) = by_each (λ text ask. IsAskInRange ask) head rest ask rows_in_range s
+in_range : (rules : Rules) (text : Text) (ask : Ask) → SpellsAsk rules text ask → IsAskInRange ask
+in_range rules text ask (mean e) = record { levels = All-nil IsLevel; terms = tt; share = tt }
+in_range rules text ask (by_row head rest ask' e s) =
+    by_each (λ text ask. IsAskInRange ask) rules head rest ask (rows_in_range rules) s
 
 -- what holds of no texts and their asks, and of one more text and its ask, holds of all
-module _ (R : List Text → List Asked → Type 0) (nil : R [] []) (cons : (text : Text) (ask : Ask) (texts : List Text)
-    (asks : List Asked) → ask_of text ≡ Some ask → R texts asks → R (text ∷ texts) (record { text = text; ask = ask } ∷ asks))
+module _ (rules : Rules) (R : List Text → List Asked → Type 0) (nil : R [] []) (cons : (text : Text) (ask : Ask) (texts : List Text)
+    (asks : List Asked) → ask_of rules text ≡ Some ask → R texts asks → R (text ∷ texts) (record { text = text; ask = ask } ∷ asks))
   where
-    one_more : (text : Text) (ask : Option Ask) (texts : List Text) (rest : Result (List Asked) ℕ) → ask_of text ≡ ask
+    one_more : (text : Text) (ask : Option Ask) (texts : List Text) (rest : Result (List Asked) ℕ) → ask_of rules text ≡ ask
         → IfOk rest (R texts) → IfOk (with_ask text ask rest) (R (text ∷ texts))
     one_more text None texts rest e h = tt
     one_more text (Some ask) texts (Err i) e h = tt
     one_more text (Some ask) texts (Ok asks) e h = cons text ask texts asks e h
 
-    each_read : (texts : List Text) → IfOk (asks_of texts) (R texts)
+    each_read : (texts : List Text) → IfOk (asks_of rules texts) (R texts)
     unfolding asks_of
     each_read [] = nil
-    each_read (text ∷ texts) = one_more text (ask_of text) texts (asks_of texts) refl (each_read texts)
+    each_read (text ∷ texts) = one_more text (ask_of rules text) texts (asks_of rules texts) refl (each_read texts)
 
-    pub asks_each : (texts : List Text) (asks : List Asked) → asks_of texts ≡ Ok asks → R texts asks
+    pub asks_each : (texts : List Text) (asks : List Asked) → asks_of rules texts ≡ Ok asks → R texts asks
     asks_each texts asks e = subst (λ r. IfOk r (R texts)) e (each_read texts)
+
+-- its text spells the ask
+abbrev pub IsSpelled : Rules → Asked → Type 0
+IsSpelled rules asked = SpellsAsk rules asked.text asked.ask
+
+asks_spelled : (rules : Rules) (texts : List Text) (asks : List Asked) → asks_of rules texts ≡ Ok asks
+    → All (IsSpelled rules) asks
+asks_spelled rules = asks_each rules (λ texts. All (IsSpelled rules)) (All-nil (IsSpelled rules))
+    (λ text ask texts asks is. All-cons (IsSpelled rules) _ asks (table_back rules text ask is))
 
 none : (n : ℕ) → IsTrue (n == 0) → n ≤ 256
 none n h = grind (arith, nat_tests, h)
@@ -141,7 +156,7 @@ few _ values asks h = none (length asks) (both (length asks == 0) _ h).0
 -- ---- the settings of a form, of the values of the options and of asks
 
 module _ (form : Form) (values : Values) (texts : List Text) (asks : List Asked) where
-  pub ranges : IsTrue (are_taken values) → IsTrue (admits form values texts) → asks_of texts ≡ Ok asks
+  pub ranges : IsTrue (are_taken values) → IsTrue (admits form values texts) → asks_of (rules_in values) texts ≡ Ok asks
       → AreInRange (settings_of form values asks)
   ranges taken_all admitted e =
       let make = both _ _ taken_all in
@@ -155,10 +170,9 @@ module _ (form : Form) (values : Values) (texts : List Text) (asks : List Asked)
       let wide = between_of 1 1000000000 10 (values (codes "width")) (omega arith, omega arith) width.0 in
       let mean_wide = between_of 1 1000000000000 1000000 (values (codes "mwidth"))
       (omega arith, omega arith) mwidth.0 in
-      let ranged = asks_each (λ texts. All (λ asked. IsAskInRange asked.ask)) (All-nil (λ asked. IsAskInRange asked.ask))
-      (λ text ask texts asks is h. All-cons (λ asked. IsAskInRange asked.ask) _ asks
-      (in_range text ask (table_back text ask is)) h) texts asks e in
-      let same = asks_each (λ texts asks. length asks ≡ length texts) refl (λ text ask texts asks is h. ap suc h) texts asks e in
+      let ranged = All-weaker (IsSpelled (rules_in values)) (λ asked. IsAskInRange asked.ask)
+      (λ asked. in_range (rules_in values) asked.text asked.ask) asks (asks_spelled (rules_in values) texts asks e) in
+      let same = asks_each (rules_in values) (λ texts asks. length asks ≡ length texts) refl (λ text ask texts asks is h. ap suc h) texts asks e in
       record {
         bucket = taken IsBucket is_bucket (whole 1) numeral_value (values (codes "bs")) one_bucket bucket bs.0;
         some_cells = cells.0;
@@ -189,7 +203,7 @@ few_power values h = (between_of 1 10 10 (values (codes "log2")) (omega arith, o
 -- the settings of the words
 module _ (P : Settings → Type 0) (words : List Text) (each : (word : Text) (texts : List Text) (form : Form) (values : Values)
     (asks : List Asked) → ((Q : Text → Type 0) → All Q words → All Q (word ∷ texts)) → IsTrue (are_taken values)
-    → IsTrue (admits form values texts) → asks_of texts ≡ Ok asks → P (settings_of form values asks)) where
+    → IsTrue (admits form values texts) → asks_of (rules_in values) texts ≡ Ok asks → P (settings_of form values asks)) where
   answered : (word : Text) (texts : List Text) (values : Values) → ((Q : Text → Type 0) → All Q words → All Q (word ∷ texts))
       → (form : Option Form) → IfOk (answer form values texts) P
   answered word texts values q None = tt
@@ -197,11 +211,11 @@ module _ (P : Settings → Type 0) (words : List Text) (each : (word : Text) (te
       && admits form values texts)) [
         | inl h ↦
             let t = both _ (admits form values texts) h in
-            rw h (asked (asks_of texts) refl (both (are_taken values) _ t.0).0 t.1)
+            rw h (asked (asks_of (rules_in values) texts) refl (both (are_taken values) _ t.0).0 t.1)
         | inr h ↦ rw h tt
       ]
     where
-      asked : (r : Result (List Asked) ℕ) → asks_of texts ≡ r → IsTrue (are_taken values) → IsTrue (admits form values texts)
+      asked : (r : Result (List Asked) ℕ) → asks_of (rules_in values) texts ≡ r → IsTrue (are_taken values) → IsTrue (admits form values texts)
           → IfOk (with_asks form values r) P
       asked (Err i) is t a = tt
       asked (Ok asks) is t a = each word texts form values asks q t a is
@@ -223,10 +237,16 @@ module _ (P : Settings → Type 0) (words : List Text) (each : (word : Text) (te
 pub words_in_range : (words : List Text) (settings : Settings) → words_of words ≡ Ok settings → AreInRange settings
 words_in_range words = from_words AreInRange words (λ word texts form values asks q. ranges form values texts asks)
 
+-- each ask is what its text spells by the rules of the settings
+pub asks_by_rules : (words : List Text) (settings : Settings) → words_of words ≡ Ok settings
+    → All (IsSpelled settings.rules) settings.asks
+asks_by_rules words = from_words (λ s. All (IsSpelled s.rules) s.asks) words
+    (λ word texts form values asks q t a. asks_spelled (rules_in values) texts asks)
+
 pub words_are_text : (words : List Text) (settings : Settings) → All IsUtf8 words → words_of words ≡ Ok settings
     → All (λ asked. IsUtf8 asked.text) settings.asks
 words_are_text words settings u e = from_words (λ s. All (λ asked. IsUtf8 asked.text) s.asks) words
-    (λ word texts form values asks q t a read. asks_each (λ texts asks. All IsUtf8 texts → All (λ asked. IsUtf8 asked.text) asks)
+    (λ word texts form values asks q t a read. asks_each (rules_in values) (λ texts asks. All IsUtf8 texts → All (λ asked. IsUtf8 asked.text) asks)
     (λ _. All-nil (λ asked. IsUtf8 asked.text)) (λ text ask texts asks is h u.
     All-cons (λ asked. IsUtf8 asked.text) _ asks (All-head IsUtf8 text texts u) (h (All-tail IsUtf8 text texts u)))
     texts asks read (All-tail IsUtf8 word texts (q IsUtf8 u))) settings e

@@ -1,11 +1,11 @@
 -- What is read as an ask is what the table of the asks has.
-use Rattle.dl_words.proofs.Common.{◌≡◌, ◌∙◌, inl, inr, cases_Bool, ℕ, Bool, true, false, refl, sym, ap, subst, List, [], ◌∷◌, ◌++◌, Some, None, codes, true≢false, arith, ◌==◌, ◌&&◌, IsTrue, option_and_then, is_ascii_digit, list_all, list_any, bytes_eq, nat_tests, bytes_eq-Decides, numeral_value, is_word_byte, begins_with_letter, Ask, ask_of, cut_at, Text, is_amount, is_probability, is_word, number, SpellsAsk}
+use Rattle.dl_words.proofs.Common.{◌≡◌, ◌∙◌, inl, inr, cases_Bool, ℕ, Bool, true, false, refl, sym, ap, subst, List, [], ◌∷◌, ◌++◌, Some, None, codes, true≢false, arith, ◌==◌, ◌&&◌, IsTrue, option_and_then, is_ascii_digit, list_all, list_any, bytes_eq, nat_tests, bytes_eq-Decides, numeral_value, is_word_byte, begins_with_letter, Ask, Rules, Standard, Extended, ask_of, cut_at, Text, is_amount, is_probability, is_word, number, SpellsAsk}
 use Rattle.std.specs.Prelude.{not}
 use Rattle.std.proofs.lemmas.Bool.{false_from_ne_true, not-true}
 use Rattle.std.proofs.lemmas.List.Folds.{list_any_none}
 use Rattle.dl_words.proofs.NumeralBytes.{passed}
-use Rattle.dl_plan.specs.declared.settings.Ask.TheVariants.{Pmf, Cdf, Mean, Quantile, LayerMean, Tail, Price, Joint, Kappa, Cotail}
-use Rattle.dl_words.specs.Table.{Row, SpelledBy, amount, by_row, colon, layer, letter_s, letter_x, limit, mean, name, probability, read_by, rows, terms, unit_amount, unit_level}
+use Rattle.dl_plan.specs.declared.settings.Ask.TheVariants.{Pmf, Cdf, Mean, Quantile, LayerMean, Tail, Price, Joint, Kappa, Cotail, Share}
+use Rattle.dl_words.specs.Table.{Row, SpelledBy, amount, by_row, colon, layer, letter_s, letter_x, limit, mean, name, probability, read_by, rows, share_of_tail, terms, unit_amount, unit_level}
 use Rattle.dl_words.specs.Ways.{Way, behind, made}
 use Rattle.std.proofs.lemmas.Bool.{and_parts as both}
 use Rattle.dl_bytes.proofs.FirstSign.{any_at}
@@ -54,8 +54,12 @@ layer_read = pair_read letter_x limit (behind letter_s amount) limit_read (behin
 unit_amount_read : IsRead unit_amount
 unit_amount_read = pair_read colon name amount name_read amount_read name_without
 
-unit_level_read : IsRead unit_level
-unit_level_read = pair_read colon name (probability 4) name_read (level_read 4) name_without
+unit_level_read : (digits : ℕ) → IsRead (unit_level digits)
+unit_level_read digits = pair_read colon name (probability digits) name_read (level_read digits) name_without
+
+share_read : (rules : Rules) → IsRead (share_of_tail rules)
+share_read Standard = made_read (λ both. Cotail both.0 both.1) (unit_level 4) (unit_level_read 4)
+share_read Extended = made_read (λ both. Share both.0 both.1) (unit_level 9) (unit_level_read 9)
 
 -- ---- rows
 
@@ -72,8 +76,8 @@ spelled_row [] head rest ask each h f = absurd h
 spelled_row (row ∷ all) head rest ask (p also later) (inl h) f = f row p h.0 h.1
 spelled_row (row ∷ all) head rest ask (p also later) (inr h) f = spelled_row all head rest ask later h f
 
-rows_read : EachRow (λ row. IsRead row.follows) rows
-rows_read =
+rows_read : (rules : Rules) → EachRow (λ row. IsRead row.follows) (rows rules)
+rows_read rules =
     made_read Pmf amount amount_read
     also made_read Cdf amount amount_read
     also made_read Quantile (probability 9) (level_read 9)
@@ -82,7 +86,7 @@ rows_read =
     also made_read (λ both. LayerMean both.0 both.1) layer layer_read
     also made_read (λ both. Joint both.0 both.1) unit_amount unit_amount_read
     also made_read (λ both. Kappa both.0 both.1) unit_amount unit_amount_read
-    also made_read (λ both. Cotail both.0 both.1) unit_level unit_level_read
+    also share_read rules
     also no_more
 
 -- no other row has the head
@@ -95,12 +99,12 @@ all_differ : List Row → Bool
 all_differ [] = true
 all_differ (row ∷ all) = differs row.head all && all_differ all
 
-rows_differ : IsTrue (all_differ rows)
+rows_differ : (rules : Rules) → IsTrue (all_differ (rows rules))
 unfolding all_differ differs
-rows_differ = refl
+rows_differ rules = refl
 
-no_colon : EachRow (λ row. list_any (λ b. b == 58) row.head ≡ false) rows
-no_colon = refl also refl also refl also refl also refl also refl also refl also refl also refl also no_more
+no_colon : (rules : Rules) → EachRow (λ row. list_any (λ b. b == 58) row.head ≡ false) (rows rules)
+no_colon rules = refl also refl also refl also refl also refl also refl also refl also refl also refl also no_more
 
 other_head : (other : Text) (all : List Row) (head rest : Text) (ask : Ask) → IsTrue (differs other all)
     → SpelledBy all head rest ask → bytes_eq head other ≡ false
@@ -133,21 +137,22 @@ not_mean : (head rest : Text) → bytes_eq (head ++ 58 ∷ rest) (codes "mean") 
 not_mean head rest = false_from_ne_true _ (λ h. true≢false (sym (any_at (λ b. b == 58) 58 refl head rest)
     ∙ ap (list_any (λ b. b == 58)) ((bytes_eq-Decides (head ++ 58 ∷ rest) (codes "mean")).0 h)))
 
-pub table_read : (text : Text) (ask : Ask) → SpellsAsk text ask → ask_of text ≡ Some ask
+pub table_read : (rules : Rules) (text : Text) (ask : Ask) → SpellsAsk rules text ask → ask_of rules text ≡ Some ask
 unfolding ask_of
-table_read text _ (mean e) = rw e refl
-table_read text _ (by_row head rest ask e s) =
-    let free : list_any (λ b. b == 58) head ≡ false = spelled_row rows head rest ask no_colon s (λ row p h _. rw h p) in
-    rw (e, not_mean head rest) (ap (option_and_then (λ cut. read_by rows cut.0 cut.1)) (cut_there 58 head rest free)
-    ∙ read_there rows head rest ask rows_read rows_differ s)
+table_read rules text _ (mean e) = rw e refl
+table_read rules text _ (by_row head rest ask e s) =
+    let free : list_any (λ b. b == 58) head ≡ false =
+    spelled_row (rows rules) head rest ask (no_colon rules) s (λ row p h _. rw h p) in
+    rw (e, not_mean head rest) (ap (option_and_then (λ cut. read_by (rows rules) cut.0 cut.1)) (cut_there 58 head rest free)
+    ∙ read_there (rows rules) head rest ask (rows_read rules) (rows_differ rules) s)
 
-pub table_back : (text : Text) (ask : Ask) → ask_of text ≡ Some ask → SpellsAsk text ask
+pub table_back : (rules : Rules) (text : Text) (ask : Ask) → ask_of rules text ≡ Some ask → SpellsAsk rules text ask
 unfolding ask_of
-table_back text ask e = elim (cases_Bool (bytes_eq text (codes "mean"))) [
-  | inl h ↦ subst (SpellsAsk text) (some_is Mean ask (rw h at e)) (mean ((bytes_eq-Decides text (codes "mean")).0 h))
+table_back rules text ask e = elim (cases_Bool (bytes_eq text (codes "mean"))) [
+  | inl h ↦ subst (SpellsAsk rules text) (some_is Mean ask (rw h at e)) (mean ((bytes_eq-Decides text (codes "mean")).0 h))
   | inr h ↦
-      let c = chained (λ cut. read_by rows cut.0 cut.1) (cut_at 58 text) ask (rw h at e) in
-      by_row c.0.0 c.0.1 ask (cut_back 58 text c.0 c.1) (read_back rows c.0.0 c.0.1 ask rows_read c.2)
+      let c = chained (λ cut. read_by (rows rules) cut.0 cut.1) (cut_at 58 text) ask (rw h at e) in
+      by_row c.0.0 c.0.1 ask (cut_back 58 text c.0 c.1) (read_back (rows rules) c.0.0 c.0.1 ask (rows_read rules) c.2)
 ]
 
 -- ---- what holds of what each row spells
@@ -156,6 +161,6 @@ table_back text ask e = elim (cases_Bool (bytes_eq text (codes "mean"))) [
 abbrev pub Spelling : (Text → Ask → Type 0) → Way Ask → Type 0
 Spelling P w = (rest : Text) (ask : Ask) → w.Spells rest ask → P rest ask
 
-pub by_each : (P : Text → Ask → Type 0) (head rest : Text) (ask : Ask) → EachRow (λ row. Spelling P row.follows) rows
-    → SpelledBy rows head rest ask → P rest ask
-by_each P head rest ask each h = spelled_row rows head rest ask each h (λ row p _ s. p rest ask s)
+pub by_each : (P : Text → Ask → Type 0) (rules : Rules) (head rest : Text) (ask : Ask)
+    → EachRow (λ row. Spelling P row.follows) (rows rules) → SpelledBy (rows rules) head rest ask → P rest ask
+by_each P rules head rest ask each h = spelled_row (rows rules) head rest ask each h (λ row p _ s. p rest ask s)

@@ -43,22 +43,23 @@ split P name k here other = elim (cases_Bool (bytes_eq k name)) [
   | inr e ↦ other e
 ]
 
--- what holds of each name, and of what is none and has no argument before the eighth, holds of all
+-- what holds of each name, and of what is none and has no argument before the ninth, holds of all
 each_name : (P : Text → Type 0) → P (codes "make") → P (codes "bs") → P (codes "log2") → P (codes "digits")
-    → P (codes "width") → P (codes "mwidth") → P (codes "format") → (name : Text)
-    → (is_name name ≡ false → arg_by_long shape.rules name ≡ arg_by_long (rule_at 9 ∷ []) name → P name) → P name
-each_name P make bs log2 digits width mwidth format name other =
+    → P (codes "width") → P (codes "mwidth") → P (codes "format") → P (codes "rules") → (name : Text)
+    → (is_name name ≡ false → arg_by_long shape.rules name ≡ arg_by_long (rule_at 10 ∷ []) name → P name) → P name
+each_name P make bs log2 digits width mwidth format rules name other =
     split P name (codes "make") make (λ e0. split P name (codes "bs") bs
     (λ e1. split P name (codes "log2") log2 (λ e2. split P name (codes "digits") digits
     (λ e3. split P name (codes "width") width (λ e4. split P name (codes "mwidth") mwidth
-    (λ e5. split P name (codes "format") format
-    (λ e6. other (rw (e0, e1, e2, e3, e4, e5, e6) refl) (rw (e0, e1, e2, e3, e4, e5, e6) refl))))))))
+    (λ e5. split P name (codes "format") format (λ e6. split P name (codes "rules") rules
+    (λ e7. other (rw (e0, e1, e2, e3, e4, e5, e6, e7) refl) (rw (e0, e1, e2, e3, e4, e5, e6, e7) refl)))))))))
 
 -- what holds of each name holds of a name
 pub by_name : (P : Text → Type 0) → P (codes "make") → P (codes "bs") → P (codes "log2") → P (codes "digits")
-    → P (codes "width") → P (codes "mwidth") → P (codes "format") → (name : Text) → is_name name ≡ true → P name
-by_name P make bs log2 digits width mwidth format name h =
-    each_name P make bs log2 digits width mwidth format name (λ n _. absurd (both_ways _ n h))
+    → P (codes "width") → P (codes "mwidth") → P (codes "format") → P (codes "rules") → (name : Text)
+    → is_name name ≡ true → P name
+by_name P make bs log2 digits width mwidth format rules name h =
+    each_name P make bs log2 digits width mwidth format rules name (λ n _. absurd (both_ways _ n h))
 
 -- ---- the command is one that the walk's lemmas cover
 
@@ -67,7 +68,7 @@ takes_literal : (name : Text) (a : Rule) → arg_by_id shape.rules name ≡ Some
 takes_literal name a found same takes single most least = grind arith
 
 -- `--help` always fails
-help_fails : (v : Option Text) (h : Held) → Fails (long_fault shape.rules false (Some (rule_at 9)) v h)
+help_fails : (v : Option Text) (h : Held) → Fails (long_fault shape.rules false (Some (rule_at 10)) v h)
 help_fails (Some v) h = tt
 help_fails None h = fails_next (settle_fault shape.rules false h) _ tt
 
@@ -80,6 +81,7 @@ long_met name = each_name (LongMet shape)
     (takes_long (rule_at 6) refl refl (takes_literal (codes "width") (rule_at 6) refl refl refl refl refl refl))
     (takes_long (rule_at 7) refl refl (takes_literal (codes "mwidth") (rule_at 7) refl refl refl refl refl refl))
     (takes_long (rule_at 8) refl refl (takes_literal (codes "format") (rule_at 8) refl refl refl refl refl refl))
+    (takes_long (rule_at 9) refl refl (takes_literal (codes "rules") (rule_at 9) refl refl refl refl refl refl))
     name (λ n same. elim (cases_Bool (bytes_eq (codes "help") name)) [
       | inl e ↦ no_long n (λ v h. rw (same, e) (help_fails v h))
       | inr e ↦ no_long n (λ v h. rw (same, e) tt)
@@ -119,7 +121,7 @@ no_defaults [] rows h = (refl, refl)
 no_defaults (a ∷ rest) rows h = let one = no_default a rows h.0 in rw (one.0, one.1) (no_defaults rest rows h.1)
 
 literal : NoDefaults shape.rules
-literal = (refl, (refl, (refl, (refl, (refl, (refl, (refl, (refl, (refl, (refl, tt))))))))))
+literal = (refl, (refl, (refl, (refl, (refl, (refl, (refl, (refl, (refl, (refl, (refl, tt)))))))))))
 
 abbrev pub walked_to : List Text → Outcome
 walked_to words = outcome shape (walk_from nothing_held) words
@@ -159,6 +161,7 @@ kept_name = by_name (Kept shape)
     (kept_once (rule_at 6) refl refl refl (λ v r. or_else-nil (repeat_fault false (codes "width") r)))
     (kept_once (rule_at 7) refl refl refl (λ v r. or_else-nil (repeat_fault false (codes "mwidth") r)))
     (kept_once (rule_at 8) refl refl refl (λ v r. or_else-nil (repeat_fault false (codes "format") r)))
+    (kept_once (rule_at 9) refl refl refl (λ v r. or_else-nil (repeat_fault false (codes "rules") r)))
 
 kept_place : (first : Bool) → Kept shape (place first)
 kept_place true = kept_once (rule_at 0) refl refl refl (λ v r. or_else-nil (repeat_fault false (codes "form") r))
@@ -175,14 +178,14 @@ named_action none name = action_of (unwrap_or (arg_by_id shape.rules name) none)
 
 single_name : (name : Text) → is_name name ≡ true → IsSingle shape name
 single_name name h = λ a found. ap (λ o. action_of (unwrap_or o a)) (sym found)
-    ∙ by_name (λ n. named_action a n ≡ Set) refl refl refl refl refl refl refl name h
+    ∙ by_name (λ n. named_action a n ≡ Set) refl refl refl refl refl refl refl refl name h
 
 asks_not_single : IsSingle shape (codes "asks") → ⊥
 asks_not_single h = true≢false (ap is_append (h (rule_at 1) refl))
 
 no_place : (first : Bool) (name : Text) → is_name name ≡ true → bytes_eq (place first) name ≡ false
-no_place true = by_name (λ n. bytes_eq (codes "form") n ≡ false) refl refl refl refl refl refl refl
-no_place false = by_name (λ n. bytes_eq (codes "asks") n ≡ false) refl refl refl refl refl refl refl
+no_place true = by_name (λ n. bytes_eq (codes "form") n ≡ false) refl refl refl refl refl refl refl refl
+no_place false = by_name (λ n. bytes_eq (codes "asks") n ≡ false) refl refl refl refl refl refl refl refl
 
 -- a name has the values of its option
 named_values : (ps : List Part) (first : Bool) (name : Text) → is_name name ≡ true

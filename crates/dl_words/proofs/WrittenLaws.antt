@@ -13,7 +13,7 @@ use Rattle.dl_words.proofs.Whole.{by_name}
 -- ---- what is written is read
 
 no_equals : (name : Text) → is_name name ≡ true → list_any is_equals name ≡ false
-no_equals = by_name (λ name. list_any is_equals name ≡ false) refl refl refl refl refl refl refl
+no_equals = by_name (λ name. list_any is_equals name ≡ false) refl refl refl refl refl refl refl refl
 
 all_before : (name : Text) → list_any is_equals name ≡ false → before_first is_equals name ≡ name
 all_before name h = grind (arith, append-nil name, before_none is_equals name)

@@ -1,6 +1,7 @@
 -- The asks of the command line.
 use Rattle.std.specs.Prelude.{ℕ, ◌+◌, List, [], ◌∷◌, Option, Some, None, Result, Ok, Err}
 use Rattle.std.specs.Result.{result_map_both}
+use Rattle.dl_limits.specs.declared.rules.Rules.{Rules}
 use Rattle.dl_plan.specs.declared.settings.Ask.{Ask}
 use Rattle.dl_plan.specs.declared.settings.Asked.{Asked}
 use Rattle.dl_words.specs.Spelling.{Text}
@@ -13,7 +14,7 @@ with_ask text None rest = Err 0
 with_ask text (Some ask) rest = result_map_both (λ asks. record { text = text; ask = ask } ∷ asks)
     (λ i. 1 + i) rest
 
--- the asks that the texts spell, or the index of the first that spells none
-unfoldable pub asks_of : List Text → Result (List Asked) ℕ
-asks_of [] = Ok []
-asks_of (text ∷ rest) = with_ask text (ask_of text) (asks_of rest)
+-- the asks that the texts spell by these rules, or the index of the first that spells none
+unfoldable pub asks_of : Rules → List Text → Result (List Asked) ℕ
+asks_of rules [] = Ok []
+asks_of rules (text ∷ rest) = with_ask text (ask_of rules text) (asks_of rules rest)

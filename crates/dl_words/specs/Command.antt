@@ -28,9 +28,9 @@ positionals = with_rule (with_rule bare_command form) asks
 abbrev pub with_option : App → Text → App
 with_option app name = with_rule app (option_of name)
 
--- a form, asks, and seven options with a value each
+-- a form, asks, and eight options with a value each
 abbrev pub command : App
 command =
-    with_option (with_option (with_option
+    with_option (with_option (with_option (with_option
     (with_option (with_option (with_option (with_option positionals (codes "make")) (codes "bs"))
-    (codes "log2")) (codes "digits")) (codes "width")) (codes "mwidth")) (codes "format")
+    (codes "log2")) (codes "digits")) (codes "width")) (codes "mwidth")) (codes "format")) (codes "rules")

@@ -4,6 +4,8 @@ use Rattle.std.specs.Prelude.{ℕ, Bool, List, [], ◌∷◌, ◌&&◌, Option, 
 use Rattle.std.specs.List.{list_all}
 use Rattle.std.specs.Str.{bytes_eq}
 use Rattle.dl_limits.specs.Limits.{most_digits, most_log2, most_width, most_mean_width}
+use Rattle.dl_limits.specs.declared.rules.Rules.{Rules}
+use Rattle.dl_limits.specs.declared.rules.Rules.TheVariants.{Standard, Extended}
 use Rattle.dl_exact.specs.Fraction.{whole}
 use Rattle.dl_frac.specs.Numerals.{numeral_value}
 use Rattle.dl_plan.specs.declared.settings.Asked.{Asked}
@@ -26,6 +28,17 @@ format_named text =
 -- the text names a format
 abbrev pub is_format : Text → Bool
 is_format text = is_some (format_named text)
+
+-- the set of rules of this name
+abbrev pub rules_named : Text → Option Rules
+rules_named text =
+    if bytes_eq text (codes "standard") then Some Standard
+    else if bytes_eq text (codes "extended") then Some Extended
+    else None
+
+-- the text names a set of rules
+abbrev pub is_rules : Text → Bool
+is_rules text = is_some (rules_named text)
 
 -- the form of this name
 abbrev pub form_named : Text → Option Form
@@ -50,6 +63,7 @@ options =
     ∷ (codes "width", is_number_within 1 most_width)
     ∷ (codes "mwidth", is_number_within 1 most_mean_width)
     ∷ (codes "format", is_format)
+    ∷ (codes "rules", is_rules)
     ∷ []
 
 -- the values behind each option's name
@@ -68,7 +82,7 @@ are_taken values = list_all (λ row. is_taken row.1 (values row.0)) options
 abbrev pub is_make_alone : Values → Bool
 is_make_alone values = list_all (λ row. length (values row.0) == 0) (drop 1 options)
 
--- no option of a report is given
+-- no option of a report is given, and no `--rules`
 abbrev pub is_report_plain : Values → Bool
 is_report_plain values = list_all (λ row. length (values row.0) == 0) (drop 3 options)
 
@@ -99,6 +113,13 @@ seed_of text = Some (number text)
 abbrev pub format_of : Text → Format
 format_of text = unwrap_or (format_named text) Plain
 
+abbrev pub rules_of : Text → Rules
+rules_of text = unwrap_or (rules_named text) Standard
+
+-- the rules that the values of the options name, wherever they stand among the words
+abbrev pub rules_in : Values → Rules
+rules_in values = or_default Standard rules_of (values (codes "rules"))
+
 -- the settings of a form, the values of the options, and asks
 abbrev pub settings_of : Form → Values → List Asked → Settings
 settings_of form values asks = record {
@@ -110,5 +131,6 @@ settings_of form values asks = record {
   width = or_default 10 number (values (codes "width"));
   mwidth = or_default 1000000 number (values (codes "mwidth"));
   format = or_default Plain format_of (values (codes "format"));
+  rules = rules_in values;
   asks = asks;
 }

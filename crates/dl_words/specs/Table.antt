@@ -1,11 +1,13 @@
--- The table of the asks: each row is one spelling, and what it asks. From it follow which text
--- spells which ask, and what a text is read as.
+-- The table of the asks: each row is one spelling, and what it asks; the last one depends on the
+-- rules. From it follow which text spells which ask, and what a text is read as.
 use Rattle.std.specs.Prelude.{ℕ, ◌≡◌, ◌++◌, ◌==◌, ◌&&◌, ◌⊎◌, Bool, List, [], ◌∷◌, Option, Some, None, codes, map, nat_le, option_and_then, if◌then◌else◌}
 use Rattle.std.specs.Str.{bytes_eq}
 use Rattle.dl_exact.specs.Prelude.{Fraction, sum_over}
 use Rattle.dl_frac.specs.Numerals.{numeral_value}
+use Rattle.dl_limits.specs.declared.rules.Rules.{Rules}
+use Rattle.dl_limits.specs.declared.rules.Rules.TheVariants.{Standard, Extended}
 use Rattle.dl_plan.specs.declared.settings.Ask.{Ask}
-use Rattle.dl_plan.specs.declared.settings.Ask.TheVariants.{Pmf, Cdf, Mean, Quantile, LayerMean, Tail, Price, Joint, Kappa, Cotail}
+use Rattle.dl_plan.specs.declared.settings.Ask.TheVariants.{Pmf, Cdf, Mean, Quantile, LayerMean, Tail, Price, Joint, Kappa, Cotail, Share}
 use Rattle.dl_plan.specs.declared.settings.Term.{Term}
 use Rattle.dl_plan.specs.Prelude.{common_denominator, most_terms, most_weight_parts}
 use Rattle.dl_words.specs.Spelling.{Text, is_amount, is_probability, is_weight, is_word}
@@ -61,9 +63,9 @@ layer = pair letter_x limit (behind letter_s amount)
 abbrev pub unit_amount : Way (Text × ℕ)
 unit_amount = pair colon name amount
 
--- `NAME:p`, with at most 4 digits
-abbrev pub unit_level : Way (Text × Fraction)
-unit_level = pair colon name (probability 4)
+-- `NAME:p`, with so many digits
+abbrev pub unit_level : ℕ → Way (Text × Fraction)
+unit_level digits = pair colon name (probability digits)
 
 -- `W@P`
 abbrev pub term : Way Term
@@ -78,6 +80,12 @@ are_weighted terms = nat_le (common_denominator (map (λ term. term.weight) term
 abbrev pub terms : Way (List Term)
 terms = that are_weighted (list most_terms plus term)
 
+-- the share of a unit in a tail mean: by the standard rules its probability has at most 4 digits,
+-- and by the extended ones as many as that of the tail mean
+abbrev pub share_of_tail : Rules → Way Ask
+share_of_tail Standard = made (λ both. Cotail both.0 both.1) (unit_level 4)
+share_of_tail Extended = made (λ both. Share both.0 both.1) (unit_level 9)
+
 -- ---- the table
 
 -- the head of an ask, in front of a colon, and what follows the colon
@@ -88,9 +96,9 @@ pub record Row : Type 1 where
 abbrev pub row : Text → Way Ask → Row
 row head follows = record { head = head; follows = follows }
 
--- the table of the asks, each by its head and what follows it
-abbrev pub rows : List Row
-rows =
+-- the table of the asks by these rules, each by its head and what follows it
+abbrev pub rows : Rules → List Row
+rows rules =
     row (codes "pmf") (made Pmf amount)
     ∷ row (codes "cdf") (made Cdf amount)
     ∷ row (codes "q") (made Quantile (probability 9))
@@ -99,7 +107,7 @@ rows =
     ∷ row (codes "layer") (made (λ both. LayerMean both.0 both.1) layer)
     ∷ row (codes "joint") (made (λ both. Joint both.0 both.1) unit_amount)
     ∷ row (codes "kappa") (made (λ both. Kappa both.0 both.1) unit_amount)
-    ∷ row (codes "cotail") (made (λ both. Cotail both.0 both.1) unit_level)
+    ∷ row (codes "cotail") (share_of_tail rules)
     ∷ []
 
 -- some row has the head, and the text behind the colon spells the ask by it
@@ -114,13 +122,13 @@ read_by [] head rest = None
 read_by (row ∷ rows) head rest =
     if bytes_eq head row.head then row.follows.read rest else read_by rows head rest
 
--- the text is spelled as this ask: `mean`, or by a row
-pub data SpellsAsk (text : Text) : Ask → Type 0 where
-  mean : text ≡ codes "mean" → SpellsAsk text Mean
-  by_row : (head rest : Text) (ask : Ask) → text ≡ head ++ colon ∷ rest → SpelledBy rows head rest ask
-      → SpellsAsk text ask
+-- by these rules the text is spelled as this ask: `mean`, or by a row
+pub data SpellsAsk (rules : Rules) (text : Text) : Ask → Type 0 where
+  mean : text ≡ codes "mean" → SpellsAsk rules text Mean
+  by_row : (head rest : Text) (ask : Ask) → text ≡ head ++ colon ∷ rest
+      → SpelledBy (rows rules) head rest ask → SpellsAsk rules text ask
 
--- the ask that the text spells, if it does
-unfoldable pub ask_of : Text → Option Ask
-ask_of text = if bytes_eq text (codes "mean") then Some Mean
-    else option_and_then (λ cut. read_by rows cut.0 cut.1) (cut_at colon text)
+-- the ask that the text spells by these rules, if it does
+unfoldable pub ask_of : Rules → Text → Option Ask
+ask_of rules text = if bytes_eq text (codes "mean") then Some Mean
+    else option_and_then (λ cut. read_by (rows rules) cut.0 cut.1) (cut_at colon text)

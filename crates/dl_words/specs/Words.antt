@@ -9,7 +9,7 @@ use Rattle.dl_plan.specs.declared.settings.Settings.{Settings}
 use Rattle.dl_words.specs.declared.fault.UsageFault.{UsageFault}
 use Rattle.dl_words.specs.declared.fault.UsageFault.TheVariants.{Line, Ask}
 use Rattle.dl_words.specs.Asks.{asks_of}
-use Rattle.dl_words.specs.Options.{Values, are_taken, are_of_cert, are_of_verify, form_named, is_make_alone, settings_of}
+use Rattle.dl_words.specs.Options.{Values, are_taken, are_of_cert, are_of_verify, form_named, is_make_alone, rules_in, settings_of}
 use Rattle.dl_words.specs.Parts.{Part, command_parts, positionals_of, option_values}
 use Rattle.dl_words.specs.Spelling.{Text, begins_plainly}
 
@@ -31,7 +31,7 @@ abbrev pub answer : Option Form → Values → List Text → Result Settings Usa
 answer None values asks = Err Line
 answer (Some form) values asks =
     if are_taken values && list_all begins_plainly asks && admits form values asks
-    then with_asks form values (asks_of asks) else Err Line
+    then with_asks form values (asks_of (rules_in values) asks) else Err Line
 
 -- the settings of the values of the options and the positionals: the first positional is the form
 abbrev pub to_positionals : Values → List Text → Result Settings UsageFault

@@ -3,7 +3,7 @@
 ghost use Rattle.std.specs.Prelude.{◌≡◌, ◌<◌, ◌≤◌, ◌^◌, ◌++◌, ◌∷◌, [], IfErr, IfOk, Ok, drop, length, map, option_map};
 ghost use Rattle.dl_limits.specs.Limits.{most_asks};
 ghost use Rattle.dl_words.specs.Asks.{asks_of};
-ghost use Rattle.dl_words.specs.Table.{ask_of, layer, letter_s, limit, plus, read_by, rows, term, terms, unit_amount, unit_level};
+ghost use Rattle.dl_words.specs.Table.{ask_of, layer, letter_s, limit, plus, read_by, rows, share_of_tail, term, terms, unit_amount, unit_level};
 ghost use Rattle.dl_words.specs.Ways.{behind_sign, cut_at, joined};
 ghost use Rattle.dl_words.specs.Faults.{ExplainsAsks};
 ghost use Rattle.dl_plan.specs.Terms.{most_terms};
@@ -14,20 +14,25 @@ use crate::fault::{UsageFault, WordsFault};
 use crate::spelling::{amount, is_word, probability, weight};
 use dl_frac::Frac;
 use dl_lexer::Text;
+use dl_limits::Rules;
 use dl_plan::{Ask, Asked, Items, MOST_TERMS, Term, are_priced};
 use std::alloc::{AllocError, Global};
 
-/// The asks that the texts spell, or the index of the first that spells none.
+/// The asks that the texts spell by these rules, or the index of the first that spells none.
 #[tactic(auto, using(crate::proofs::AskLists::all_read))]
-pub(crate) fn read_asks(alloc: Global, texts: &[&str]) -> Result<Vec<Asked>, WordsFault>
+pub(crate) fn read_asks(
+    alloc: Global,
+    rules: Rules,
+    texts: &[&str],
+) -> Result<Vec<Asked>, WordsFault>
     requires { length texts.now ≤ most_asks }
     ensures asks { IfOk result (λ asks.
-        asks_of (map (λ text. text.now) texts.now) ≡ Ok asks.items) }
-    ensures fault { IfErr result (ExplainsAsks (asks_of (map (λ text. text.now) texts.now))) }
+        asks_of rules (map (λ text. text.now) texts.now) ≡ Ok asks.items) }
+    ensures fault { IfErr result (ExplainsAsks (asks_of rules (map (λ text. text.now) texts.now))) }
 {
     let mut asks = Vec::new(alloc);
     for (index, text) in texts.iter().enumerate() {
-        match read_asked(alloc, text)? {
+        match read_asked(alloc, rules, text)? {
             Some(asked) => asks.push(asked)?,
             None => return Err(ask_fault(index)),
         }
@@ -43,35 +48,41 @@ fn ask_fault(index: usize) -> WordsFault
     WordsFault::Usage(UsageFault::Ask(index as u32))
 }
 
-/// The ask that the text spells, with a copy of the text; none where it spells none.
-fn read_asked(alloc: Global, text: &str) -> Result<Option<Asked>, AllocError>
+/// The ask that the text spells by these rules, with a copy of the text; none where it spells none.
+fn read_asked(alloc: Global, rules: Rules, text: &str) -> Result<Option<Asked>, AllocError>
     ensures { IfOk result (λ asked. asked ≡ option_map
-        (λ ask. record { text = text.now; ask = ask }) (ask_of text.now)) }
+        (λ ask. record { text = text.now; ask = ask }) (ask_of rules text.now)) }
 {
-    let Some(ask) = read_ask(alloc, text)? else {
+    let Some(ask) = read_ask(alloc, rules, text)? else {
         return Ok(None);
     };
     let text = Text::copy(alloc, text.as_bytes())?;
     Ok(Some(Asked { text, ask }))
 }
 
-/// The ask that the text spells; none where it spells none.
+/// The ask that the text spells by these rules; none where it spells none.
 #[tactic(auto, unfolding(crate::specs::Table::ask_of))]
-fn read_ask(alloc: Global, text: &str) -> Result<Option<Ask>, AllocError>
-    ensures { IfOk result (λ ask. ask ≡ ask_of text.now) }
+fn read_ask(alloc: Global, rules: Rules, text: &str) -> Result<Option<Ask>, AllocError>
+    ensures { IfOk result (λ ask. ask ≡ ask_of rules text.now) }
 {
     if text == "mean" {
         return Ok(Some(Ask::Mean));
     }
     match cut(text, ':') {
-        Some((head, rest)) => ask_between(alloc, head, rest),
+        Some((head, rest)) => ask_between(alloc, rules, head, rest),
         None => Ok(None),
     }
 }
 
-/// The ask of the text before the first colon and the text behind it; none where it is no ask.
-fn ask_between(alloc: Global, head: &str, rest: &str) -> Result<Option<Ask>, AllocError>
-    ensures { IfOk result (λ ask. ask ≡ read_by rows head.now rest.now) }
+/// The ask by these rules of the text before the first colon and the text behind it; none where it
+/// is no ask.
+fn ask_between(
+    alloc: Global,
+    rules: Rules,
+    head: &str,
+    rest: &str,
+) -> Result<Option<Ask>, AllocError>
+    ensures { IfOk result (λ ask. ask ≡ read_by (rows rules) head.now rest.now) }
 {
     match head {
         "pmf" => Ok(amount(rest).map(Ask::Pmf)),
@@ -80,20 +91,35 @@ fn ask_between(alloc: Global, head: &str, rest: &str) -> Result<Option<Ask>, All
         "tail" => Ok(probability(rest, 9).map(Ask::Tail)),
         "price" => Ok(price(alloc, rest)?.map(|terms| Ask::Price(Items::from_vec(terms)))),
         "layer" => Ok(layer(rest).map(|(limit, attach)| Ask::LayerMean { limit, attach })),
-        _ => ask_of_unit(alloc, head, rest),
+        _ => ask_of_unit(alloc, rules, head, rest),
     }
 }
 
-/// The ask of the text before the first colon, where it asks of one unit, and the text behind it;
-/// none where it is no such ask.
-fn ask_of_unit(alloc: Global, head: &str, rest: &str) -> Result<Option<Ask>, AllocError>
-    ensures { IfOk result (λ ask. ask ≡ read_by (drop 6 rows) head.now rest.now) }
+/// The ask by these rules of the text before the first colon, where it asks of one unit, and the
+/// text behind it; none where it is no such ask.
+fn ask_of_unit(
+    alloc: Global,
+    rules: Rules,
+    head: &str,
+    rest: &str,
+) -> Result<Option<Ask>, AllocError>
+    ensures { IfOk result (λ ask. ask ≡ read_by (drop 6 (rows rules)) head.now rest.now) }
 {
     match head {
         "joint" => Ok(unit_at(alloc, rest)?.map(|(unit, at)| Ask::Joint { unit, at })),
         "kappa" => Ok(unit_at(alloc, rest)?.map(|(unit, at)| Ask::Kappa { unit, at })),
-        "cotail" => Ok(unit_level(alloc, rest)?.map(|(unit, p)| Ask::Cotail { unit, p })),
+        "cotail" => share_of_tail(alloc, rules, rest),
         _ => Ok(None),
+    }
+}
+
+/// The share of a unit in a tail mean, by these rules.
+fn share_of_tail(alloc: Global, rules: Rules, text: &str) -> Result<Option<Ask>, AllocError>
+    ensures { IfOk result (λ ask. ask ≡ (share_of_tail rules).read text.now) }
+{
+    match rules {
+        Rules::Standard => Ok(unit_level(alloc, text, 4)?.map(|(unit, p)| Ask::Cotail { unit, p })),
+        Rules::Extended => Ok(unit_level(alloc, text, 9)?.map(|(unit, p)| Ask::Share { unit, p })),
     }
 }
 
@@ -199,9 +225,10 @@ fn unit_at(alloc: Global, text: &str) -> Result<Option<(Text, u32)>, AllocError>
     Ok(Some((Text::copy(alloc, name.as_bytes())?, at)))
 }
 
-/// `NAME:p`, with at most 4 digits.
-fn unit_level(alloc: Global, text: &str) -> Result<Option<(Text, Frac)>, AllocError>
-    ensures { IfOk result (λ parts. parts ≡ unit_level.read text.now) }
+/// `NAME:p`, with at most so many digits.
+fn unit_level(alloc: Global, text: &str, digits: u32) -> Result<Option<(Text, Frac)>, AllocError>
+    requires { digits ≤ 9 }
+    ensures { IfOk result (λ parts. parts ≡ (unit_level digits).read text.now) }
 {
     let Some((name, rest)) = cut(text, ':') else {
         return Ok(None);
@@ -209,7 +236,7 @@ fn unit_level(alloc: Global, text: &str) -> Result<Option<(Text, Frac)>, AllocEr
     if !is_word(name.as_bytes()) {
         return Ok(None);
     }
-    let Some(p) = probability(rest, 4) else {
+    let Some(p) = probability(rest, digits) else {
         return Ok(None);
     };
     Ok(Some((Text::copy(alloc, name.as_bytes())?, p)))

@@ -15,7 +15,8 @@ pub(crate) fn simple_command<'a>(alloc: Global) -> Result<Command<'a>, AllocErro
     let command = with_option(alloc, command, "digits");
     let command = with_option(alloc, command, "width");
     let command = with_option(alloc, command, "mwidth");
-    with_option(alloc, command, "format")
+    let command = with_option(alloc, command, "format");
+    with_option(alloc, command, "rules")
 }
 
 /// The command with the options that say what is computed.

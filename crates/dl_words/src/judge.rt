@@ -39,7 +39,7 @@ pub(crate) fn judge(alloc: Global, matches: &ArgMatches<'_>) -> Result<Settings,
     let Some(settings) = settings_of(alloc, form, matches) else {
         return Err(LINE);
     };
-    match read_asks(alloc, texts) {
+    match read_asks(alloc, settings.rules, texts) {
         Ok(asks) => Ok(Settings {
             asks: Items::from_vec(asks),
             ..settings

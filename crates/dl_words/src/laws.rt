@@ -1,19 +1,26 @@
 //! Laws of the definitions of the words alone. Nothing here runs: each law is the
 //! contract of a function with an empty body.
 
-ghost use Rattle.std.specs.Prelude.{◌≡◌, ◌↔◌, ℕ, List, Some, IsTrue};
+ghost use Rattle.std.specs.Prelude.{◌≡◌, ◌↔◌, ℕ, List, All, Ok, Some, IsTrue};
 ghost use Rattle.dl_bytes.specs.Prelude.{IsNumeral, is_numeral};
 ghost use Rattle.dl_lexer.specs.Tokens.{IsWord};
+ghost use Rattle.dl_limits.specs.declared.rules.Rules.{Rules};
 ghost use Rattle.dl_plan.specs.declared.settings.Ask.{Ask};
+ghost use Rattle.dl_plan.specs.declared.settings.Settings.{Settings};
 ghost use Rattle.dl_words.specs.AsWritten.{AreParts};
 ghost use Rattle.dl_words.specs.Parts.{Part, command_parts};
 ghost use Rattle.dl_words.specs.Spelling.{is_word};
 ghost use Rattle.dl_words.specs.Table.{SpellsAsk, ask_of};
+ghost use Rattle.dl_words.specs.Words.{words_of};
 
-/// A text is read as an ask exactly where the table of the asks has it; so no text is two asks.
-#[tactic(auto, using(crate::proofs::TableLaws::table_back, crate::proofs::TableLaws::table_read))]
+/// By either set of rules a text is read as an ask exactly where the table of the asks has it; so no
+/// text is two asks. Each ask of good words is what its text spells by the rules that they name.
+#[tactic(auto, using(crate::proofs::TableLaws::table_back, crate::proofs::TableLaws::table_read, crate::proofs::RangeLaws::asks_by_rules))]
 pub fn law_asks()
-    ensures table { (text : List ℕ) (ask : Ask) → (ask_of text ≡ Some ask) ↔ SpellsAsk text ask }
+    ensures table { (rules : Rules) (text : List ℕ) (ask : Ask)
+        → (ask_of rules text ≡ Some ask) ↔ SpellsAsk rules text ask }
+    ensures words { (words : List (List ℕ)) (settings : Settings) → words_of words ≡ Ok settings
+        → All (λ asked. SpellsAsk settings.rules asked.text asked.ask) settings.asks }
 {}
 
 /// The tests of a numeral and of a name pass exactly the numerals and the words of a program.

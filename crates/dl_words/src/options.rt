@@ -5,16 +5,17 @@ ghost use Rattle.std.specs.List.{list_all};
 ghost use Rattle.clap.specs.Matches.{found_of, first_value};
 ghost use Rattle.dl_exact.specs.Fraction.{whole};
 ghost use Rattle.dl_frac.specs.Numerals.{numeral_value};
+ghost use Rattle.dl_limits.specs.declared.rules.Rules.TheVariants.{Standard};
 ghost use Rattle.dl_plan.specs.declared.settings.Format.TheVariants.{Plain};
 ghost use Rattle.dl_words.specs.Found.{TakesOption, values_in};
-ghost use Rattle.dl_words.specs.Options.{are_of_cert, are_of_verify, are_taken, form_named, format_named, format_of, is_format, is_make_alone, is_report_plain, is_taken, no_seed, options, seed_of, settings_of};
+ghost use Rattle.dl_words.specs.Options.{are_of_cert, are_of_verify, are_taken, form_named, format_named, format_of, is_format, is_make_alone, is_report_plain, is_rules, is_taken, no_seed, options, rules_named, rules_of, seed_of, settings_of};
 ghost use Rattle.dl_bytes.specs.Prelude.{number};
 ghost use Rattle.dl_words.specs.Spelling.{is_bucket, is_number_within};
 
 use crate::spelling::{bucket, whole};
 use clap::ArgMatches;
 use dl_frac::Frac;
-use dl_limits::{MOST_DIGITS, MOST_LOG2, MOST_MEAN_WIDTH, MOST_WIDTH};
+use dl_limits::{MOST_DIGITS, MOST_LOG2, MOST_MEAN_WIDTH, MOST_WIDTH, Rules};
 use dl_plan::{Form, Format, Items, Settings};
 use std::alloc::Global;
 
@@ -55,6 +56,7 @@ fn settings_with(
     let width = number_of(matches, "width", MOST_WIDTH, 10)?;
     let mwidth = number_of(matches, "mwidth", MOST_MEAN_WIDTH, 1_000_000)?;
     let format = format_of(matches)?;
+    let rules = rules_of(matches)?;
     Some(Settings {
         form,
         make,
@@ -64,6 +66,7 @@ fn settings_with(
         width,
         mwidth,
         format,
+        rules,
         asks: Items::from_vec(Vec::new(alloc)),
     })
 }
@@ -126,6 +129,28 @@ fn format_named(text: &str) -> Option<Format>
     }
 }
 
+/// The value of `--rules`.
+fn rules_of(matches: &ArgMatches<'_>) -> Option<Rules>
+    ensures { TakesOption is_rules Standard rules_of
+        (values_in (found_of matches.now) (codes "rules")) result }
+{
+    match matches.get_str("rules") {
+        Some(text) => rules_named(text),
+        None => Some(Rules::Standard),
+    }
+}
+
+/// The set of rules of this name.
+fn rules_named(text: &str) -> Option<Rules>
+    ensures { result ≡ rules_named text.now }
+{
+    match text {
+        "standard" => Some(Rules::Standard),
+        "extended" => Some(Rules::Extended),
+        _ => None,
+    }
+}
+
 /// The form of this name.
 pub(crate) fn form_named(text: &str) -> Option<Form>
     ensures { result ≡ form_named text.now }
@@ -146,7 +171,7 @@ pub(crate) fn is_make_alone(matches: &ArgMatches<'_>) -> bool
     is_absent(matches, "bs") && is_absent(matches, "log2") && is_report_plain(matches)
 }
 
-/// Whether no option of a report is given.
+/// Whether no option of a report is given, and no `--rules`.
 fn is_report_plain(matches: &ArgMatches<'_>) -> bool
     ensures { result ≡ is_report_plain (values_in (found_of matches.now)) }
 {
@@ -154,6 +179,7 @@ fn is_report_plain(matches: &ArgMatches<'_>) -> bool
         && is_absent(matches, "width")
         && is_absent(matches, "mwidth")
         && is_absent(matches, "format")
+        && is_absent(matches, "rules")
 }
 
 /// Whether no option is given but `--make`, `--bs` and `--log2`, and a plan with the cells of the

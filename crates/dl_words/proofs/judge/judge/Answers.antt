@@ -1,8 +1,11 @@
 use Rattle.std.proofs.lemmas.Bool.{and_left, and_right}
-use Rattle.dl_words.proofs.Common.{◌∙◌, refl, sym, ap, ap₂, Ok, Settings, found_of, values_in, with_asks}
+use Rattle.dl_words.proofs.Common.{◌≡◌, ◌∙◌, refl, sym, ap, ap₂, Ok, Settings, found_of, values_in, with_asks}
 use Rattle.dl_words.proofs.Judged.{asks_no_line, explained, fitting_tests, misfit_found, plain_found, texts_found}
 use Rattle.dl_words.proofs.judge.judge.Goals.{then-not-begin_plainly-via-then-not-begin_plainly, then-not-begin_plainly-via-else-not-begin_plainly+then-not-admits}
 use Rattle.dl_words.proofs.judge.judge.Goals as goal
+
+rules_same : {s t : Settings} → s ≡ t → s.rules ≡ t.rules
+rules_same same = ap (λ (s : Settings). s.rules) same
 
 pub returns-in_default-settings_of-clause-fault : goal.returns-in_default-settings_of-clause-fault
 returns-in_default-settings_of-clause-fault c =
@@ -21,8 +24,8 @@ returns-then-not-begin_plainly-clause-fault c =
 pub returns-in-Ok-clause-settings : goal.returns-in-Ok-clause-settings
 returns-in-Ok-clause-settings c =
     let taken = c.in-Some-settings_of.ensures.some in
-    fitting_tests (found_of c.args.matches.now) _ _ _ _ (sym c.in-Some.is ∙ c.form_of.ensures)
-    (texts_found _ _ _ _ c.unwrap_or-texts.ensures refl c.get_strs.ensures) taken.0
+    fitting_tests (found_of c.args.matches.now) _ _ _ _ _ (sym c.in-Some.is ∙ c.form_of.ensures)
+    (texts_found _ _ _ _ c.unwrap_or-texts.ensures refl c.get_strs.ensures) taken.0 (rules_same taken.1)
     c.begin_plainly.ensures c.if-not-begin_plainly.false c.admits.ensures c.if-not-admits.false
     ∙ ap (with_asks _ (values_in (found_of c.args.matches.now))) c.in-Ok.ensures.asks
     ∙ ap₂ (λ (s : Settings) asks. Ok (record s { asks = asks })) (sym taken.1) (sym c.from_vec.ensures)
@@ -30,16 +33,16 @@ returns-in-Ok-clause-settings c =
 pub returns-in-Ok-clause-line : goal.returns-in-Ok-clause-line
 returns-in-Ok-clause-line c =
     let found = found_of c.args.matches.now in
-    let fit = fitting_tests found _ _ _ _ (sym c.in-Some.is ∙ c.form_of.ensures)
-    (texts_found _ _ _ _ c.unwrap_or-texts.ensures refl c.get_strs.ensures) c.in-Some-settings_of.ensures.some.0
+    let fit = fitting_tests found _ _ _ _ _ (sym c.in-Some.is ∙ c.form_of.ensures)
+    (texts_found _ _ _ _ c.unwrap_or-texts.ensures refl c.get_strs.ensures) c.in-Some-settings_of.ensures.some.0 (rules_same c.in-Some-settings_of.ensures.some.1)
     c.begin_plainly.ensures c.if-not-begin_plainly.false c.admits.ensures c.if-not-admits.false in
     λ line. absurd (asks_no_line _ (values_in found) _ (sym fit ∙ line))
 
 pub returns : goal.returns
 returns c =
     let found = found_of c.args.matches.now in
-    let fit = fitting_tests found _ _ _ _ (sym c.in-Some.is ∙ c.form_of.ensures)
-    (texts_found _ _ _ _ c.unwrap_or-texts.ensures refl c.get_strs.ensures) c.in-Some-settings_of.ensures.some.0
+    let fit = fitting_tests found _ _ _ _ _ (sym c.in-Some.is ∙ c.form_of.ensures)
+    (texts_found _ _ _ _ c.unwrap_or-texts.ensures refl c.get_strs.ensures) c.in-Some-settings_of.ensures.some.0 (rules_same c.in-Some-settings_of.ensures.some.1)
     c.begin_plainly.ensures c.if-not-begin_plainly.false c.admits.ensures c.if-not-admits.false in
     record {
       settings = tt;
