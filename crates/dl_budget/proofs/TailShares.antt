@@ -1,6 +1,7 @@
 -- The budget of a share of a tail mean by whole numbers.
-use Rattle.dl_budget.proofs.Common.{ℕ, ◌≡◌, ◌+◌, ◌-◌, ◌*◌, ◌^◌, ◌<◌, ◌≤◌, arith, ap, ap₂, sym, ◌∙◌, List, length, get_or, div_ceil, mul-le-mul, Fraction, whole, ◌over◌, div_ceil_least, mul-le-mul_left, up, up_quotient, unit_mean_budget, map, get_or-map, num_below, ◌<ℚ◌, UnitOfPlan, Plan, IsValid}
+use Rattle.dl_budget.proofs.Common.{ℕ, ◌≡◌, ◌+◌, ◌-◌, ◌*◌, ◌^◌, ◌<◌, ◌≤◌, arith, ap, ap₂, sym, ◌∙◌, List, length, get_or, div_ceil, mul-le-mul, Fraction, whole, ◌over◌, div_ceil_least, mul-le-mul_left, up, unit_mean_budget, map, get_or-map, ◌<ℚ◌, UnitOfPlan, Plan, IsValid}
 use Rattle.dl_budget.proofs.Horizons.{few_cells}
+use Rattle.dl_budget.proofs.Tails.{over_tail}
 use Rattle.dl_budget.specs.Once.{AreBudgetsOf, AreUnitBudgets}
 use Rattle.dl_budget.specs.declared.once.Budgets.{Budgets}
 use Rattle.dl_budget.specs.declared.once.UnitBudgets.{UnitBudgets}
@@ -35,15 +36,13 @@ pub share_value : (M J T K cells x j y k b d n : ℕ) (p : Fraction) → x ≡ M
     → n ≡ p.num → p <ℚ whole 1
     → div_ceil ((x + (j + 2 * cells + cells * (y + 2)) + k + 4) * b) (d - n) + 4
     ≡ up (((M + J + 2 * cells + cells * (T + 2) + K + 4) * p.den) over (p.den - p.num)) + 4
-share_value M J T K cells x j y k b d n p of_mean of_joint of_total of_kappa of_b of_d of_n below =
+share_value M J T K cells x j y k b d n p of_mean of_joint of_total of_kappa =
     let first : x + (j + 2 * cells + cells * (y + 2)) + k + 4 ≡ x + j + 2 * cells + cells * (y + 2) + k + 4 = omega arith in
     let two : x + j + 2 * cells + cells * (y + 2) + k + 4 ≡ M + J + 2 * cells + cells * (T + 2) + K + 4 =
     ap₂ (λ s t. s + 2 * cells + cells * (t + 2) + k + 4) (ap₂ (λ s t. s + t) of_mean of_joint) of_total
     ∙ ap (λ t. M + J + 2 * cells + cells * (T + 2) + t + 4) of_kappa in
-    let top = ap₂ (λ s t. s * t) (first ∙ two) of_b in
-    let rest : 0 < p.den - p.num = omega (arith, num_below p below) in
-    ap (λ t. t + 4) (ap₂ div_ceil top (ap₂ (λ s t. s - t) of_d of_n)
-    ∙ sym (up_quotient ((M + J + 2 * cells + cells * (T + 2) + K + 4) * p.den) (p.den - p.num) rest))
+    over_tail (x + (j + 2 * cells + cells * (y + 2)) + k + 4) (M + J + 2 * cells + cells * (T + 2) + K + 4) b d n p
+    (first ∙ two)
 
 -- those of a unit of a valid plan
 pub share_room : (S : ℕ) (plan : Plan) (budgets : Budgets) (of : UnitBudgets) (kappa b d : ℕ) → IsValid plan

@@ -13,17 +13,22 @@ tail_sums mean cells total of_mean few small =
     let below : total ≤ 2 ^ 44 = omega (arith, small) in
     omega (arith, of_mean, mul-le-mul few below)
 
+-- a width over 1 - p, and 4 more, from the parts of p
+pub over_tail : (x y b d n : ℕ) (p : Fraction) → x ≡ y → b ≡ p.den → d ≡ p.den → n ≡ p.num → p <ℚ whole 1
+    → div_ceil (x * b) (d - n) + 4 ≡ up ((y * p.den) over (p.den - p.num)) + 4
+over_tail x y b d n p here of_b of_d of_n below =
+    let rest : 0 < p.den - p.num = omega (arith, num_below p below) in
+    ap (λ t. t + 4) (ap₂ div_ceil (ap₂ (λ s t. s * t) here of_b) (ap₂ (λ s t. s - t) of_d of_n)
+    ∙ sym (up_quotient (y * p.den) (p.den - p.num) rest))
+
 -- from the mean and the total's budget, and the parts of p
 pub tail_value : (M T cells x y b d n : ℕ) (p : Fraction) → x ≡ M → y ≡ T → b ≡ p.den → d ≡ p.den → n ≡ p.num
     → p <ℚ whole 1
     → div_ceil ((2 * x + 3 * cells * y) * b) (d - n) + 4
     ≡ up (((2 * M + 3 * cells * T) * p.den) over (p.den - p.num)) + 4
-tail_value M T cells x y b d n p of_mean of_total of_b of_d of_n below =
-    let sums : 2 * x + 3 * cells * y ≡ 2 * M + 3 * cells * T = ap₂ (λ s t. 2 * s + 3 * cells * t) of_mean of_total in
-    let top : (2 * x + 3 * cells * y) * b ≡ (2 * M + 3 * cells * T) * p.den = ap₂ (λ s t. s * t) sums of_b in
-    let rest : 0 < p.den - p.num = omega (arith, num_below p below) in
-    ap (λ t. t + 4) (ap₂ div_ceil top (ap₂ (λ s t. s - t) of_d of_n)
-    ∙ sym (up_quotient ((2 * M + 3 * cells * T) * p.den) (p.den - p.num) rest))
+tail_value M T cells x y b d n p of_mean of_total =
+    over_tail (2 * x + 3 * cells * y) (2 * M + 3 * cells * T) b d n p
+    (ap₂ (λ s t. 2 * s + 3 * cells * t) of_mean of_total)
 
 -- where the mean's and the total's budget are not too large
 pub tail_most : (M T cells : ℕ) (p : Fraction) → M ≤ 2 ^ 67 → T < 2 ^ 44 → cells ≤ 65536 → IsLevel p

@@ -7,7 +7,7 @@ use Rattle.dl_grid.specs.Width.{up, convolution_spread, layer_width, tail_width}
 use Rattle.dl_plan.specs.declared.plan.Unit.{Unit as UnitOfPlan}
 use Rattle.dl_plan.specs.declared.plan.Plan.{Plan}
 use Rattle.dl_plan.specs.declared.settings.Ask.{Ask}
-use Rattle.dl_plan.specs.declared.settings.Ask.TheVariants.{Pmf, Cdf, Mean, Quantile, LayerMean, Tail, Price, Joint, Kappa, Cotail}
+use Rattle.dl_plan.specs.declared.settings.Ask.TheVariants.{Pmf, Cdf, Mean, Quantile, LayerMean, Tail, Price, Joint, Kappa, Cotail, Share}
 use Rattle.dl_plan.specs.declared.settings.Asked.{Asked}
 use Rattle.dl_plan.specs.declared.settings.Settings.{Settings}
 use Rattle.dl_plan.specs.declared.settings.Term.{Term}
@@ -67,6 +67,19 @@ cotail_budget S plan i p = up
     + 2 * plan.cells + plan.cells * (total_budget S plan + 2)
     + kappa_budget S plan i + 4) * p.den) over (p.den - p.num)) + 4
 
+-- that of the same at every quantile, before it is divided by 1 - p: from the widths of the unit's
+-- mean, of its joint means and of the total; under a common factor its mean is exact but for its ends
+abbrev pub undivided_by : Option ℕ → (S : ℕ) → Plan → ℕ → ℕ
+undivided_by None S plan i = get_or (map (unit_mean_budget S plan.cells) plan.units) i 0
+    + 4 * joint_budget S plan i + 6 * (plan.cells * total_budget S plan) + 8 * plan.cells + 4
+undivided_by (Some r) S plan i = 1
+    + 4 * joint_budget S plan i + 6 * (plan.cells * total_budget S plan) + 4 * plan.cells + 4
+
+-- that of the share of unit i in the tail mean at p, at every quantile
+abbrev pub share_budget : (S : ℕ) → Plan → ℕ → Fraction → ℕ
+share_budget S plan i p =
+    up ((undivided_by plan.common S plan i * p.den) over (p.den - p.num)) + 4
+
 -- the budget of an ask
 unfoldable pub ask_budget : (S : ℕ) → Plan → Ask → ℕ
 ask_budget S plan (Pmf x) = total_budget S plan
@@ -79,6 +92,7 @@ ask_budget S plan (Price terms) = price_budget S plan terms
 ask_budget S plan (Joint unit at) = joint_budget S plan (index_of unit plan.units)
 ask_budget S plan (Kappa unit at) = kappa_budget S plan (index_of unit plan.units)
 ask_budget S plan (Cotail unit p) = cotail_budget S plan (index_of unit plan.units) p
+ask_budget S plan (Share unit p) = share_budget S plan (index_of unit plan.units) p
 
 -- how many units of the last printed digit a budget comes to, and one more
 unfoldable pub in_digits : (S budget digits : ℕ) → ℕ

@@ -1,12 +1,12 @@
 //! The budget of an ask, what it needs, and whether it passes.
 
 ghost use Rattle.std.specs.Prelude.{ℕ, ◌≡◌, ◌+◌, ◌*◌, ◌^◌, ◌<◌, ◌≤◌, ◌↔◌, List, None, Some, All, IfSome, IsTrue, length, map};
-ghost use Rattle.dl_limits.specs.Limits.{IsPlanScale, most_digits, most_units, most_ask_budget, most_term_budget, most_joint_budget, most_alone_joint_budget, most_kappa_budget, most_share_den, most_tail_budget};
+ghost use Rattle.dl_limits.specs.Limits.{IsPlanScale, most_digits, most_units, most_level_den, most_ask_budget, most_term_budget, most_joint_budget, most_alone_joint_budget, most_kappa_budget, most_share_den, most_tail_budget};
 ghost use Rattle.dl_exact.specs.Fraction.{whole, ◌*ℚ◌};
 ghost use Rattle.dl_grid.specs.Width.{up};
 ghost use Rattle.dl_plan.specs.Prelude.{ArePriced, most_weight_parts, IsLevel, IsValid};
 ghost use Rattle.dl_plan.specs.declared.settings.Ask.TheVariants.{LayerMean};
-ghost use Rattle.dl_budget.specs.Asks.{IsInside, IsAskOf, index_of, named_unit, ask_budget, layer_mean_budget, tail_budget, price_budget, joint_by, joint_budget, kappa_budget, cotail_budget, in_digits, needed, Passes};
+ghost use Rattle.dl_budget.specs.Asks.{IsInside, IsAskOf, index_of, named_unit, ask_budget, layer_mean_budget, tail_budget, price_budget, joint_by, joint_budget, kappa_budget, cotail_budget, undivided_by, share_budget, in_digits, needed, Passes};
 ghost use Rattle.dl_budget.specs.Once.{AreBudgetsOf, AreBudgetsOfUnit, AreUnitBudgets, HasBudgets};
 
 use crate::once::{Budgets, UnitBudgets, budgets_of};
@@ -60,6 +60,7 @@ fn ask_budget_with<const B: u32>(
         Ask::Joint { .. } => of_unit.unwrap().joint,
         Ask::Kappa { .. } => kappa_budget::<B>(plan, budgets, of_unit.unwrap()),
         Ask::Cotail { p, .. } => cotail_budget::<B>(plan, budgets, of_unit.unwrap(), *p),
+        Ask::Share { p, .. } => share_budget::<B>(plan, budgets, of_unit.unwrap(), *p),
     }
 }
 
@@ -217,6 +218,36 @@ fn cotail_budget<const B: u32>(plan: &Plan, budgets: Budgets, of_unit: UnitBudge
     let parts = of_unit.mean + sums + kappa_budget::<B>(plan, budgets, of_unit) + 4;
     let rest = p.den() - p.num();
     (parts * p.den() as u128).div_ceil(rest as u128) + 4
+}
+
+/// The budget of the share of a unit in the tail mean at every quantile, before it is divided by
+/// `1 - p`.
+fn undivided<const B: u32>(plan: &Plan, budgets: Budgets, of_unit: UnitBudgets) -> u128
+    requires valid { IsValid plan.now }
+    requires budgets { AreBudgetsOf (2 ^ B) plan.now budgets }
+    requires unit { AreUnitBudgets (2 ^ B) plan.now of_unit }
+    ensures value { result ≡ undivided_by plan.now.common (2 ^ B) plan.now of_unit.unit }
+    ensures small { result * most_level_den + 4 ≤ most_ask_budget }
+{
+    let cells = plan.cells as u128;
+    let sums = 4 * of_unit.joint + 6 * (cells * budgets.total);
+    match plan.common {
+        Some(_) => 1 + sums + 4 * cells + 4,
+        None => of_unit.mean + sums + 8 * cells + 4,
+    }
+}
+
+/// The budget of the share of a unit in the tail mean at the probability `p`, at every quantile.
+fn share_budget<const B: u32>(plan: &Plan, budgets: Budgets, of_unit: UnitBudgets, p: Frac) -> u128
+    requires valid { IsValid plan.now }
+    requires budgets { AreBudgetsOf (2 ^ B) plan.now budgets }
+    requires unit { AreUnitBudgets (2 ^ B) plan.now of_unit }
+    requires level { IsLevel p }
+    ensures value { result ≡ share_budget (2 ^ B) plan.now of_unit.unit p }
+    ensures small { result ≤ most_ask_budget }
+{
+    let parts = undivided::<B>(plan, budgets, of_unit) * p.den() as u128;
+    parts.div_ceil((p.den() - p.num()) as u128) + 4
 }
 
 /// How many units come before the one of this name.
