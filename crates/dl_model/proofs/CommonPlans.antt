@@ -1,5 +1,5 @@
 -- Plans whose units share a common factor: what they declare is bounded, above 0 somewhere, and adds up to 1.
-use Rattle.dl_model.proofs.Common.{◌≡◌, ℕ, zero, suc, ◌<◌, ◌≤◌, max, arith, refl, ap, ◌∙◌, List, [], ◌∷◌, Option, None, Some, IfSome, Fraction, whole, ◌*ℚ◌, ◌/ℚ◌, ◌<ℚ◌, sum_over, times_zero, plus_zero, greatest, probability_of, expected_count, Series, One, IsQuantile, sum_over_map, Plan, HasCommonFactor, expected_of, Quantity, IsBracketed, IsValid, aggregates_of, PoissonUnit, expected_claims, common_sums, pooled_severity, AreSeverities, poisson_unit, poisson_units, declared, declared_by, UnitOfPlan}
+use Rattle.dl_model.proofs.Common.{◌≡◌, ℕ, zero, suc, ◌<◌, ◌≤◌, max, arith, refl, ap, ◌∙◌, List, [], ◌∷◌, Option, None, Some, IfSome, Fraction, whole, ◌*ℚ◌, ◌/ℚ◌, ◌<ℚ◌, sum_over, times_zero, plus_zero, greatest, probability_of, expected_count, Series, One, IsQuantile, sum_over_map, Plan, HasCommonFactor, expected_of, Quantity, IsBracketed, IsValid, aggregates_of, PoissonUnit, IsUnit, length, get_or, expected_claims, common_sums, pooled_severity, AreSeverities, poisson_unit, poisson_units, declared, declared_by, UnitOfPlan}
 use Rattle.dl_model.proofs.ItemWeights.{shares_severity}
 use Rattle.dl_model.proofs.PooledLoss.{common_distribution}
 use Rattle.dl_model.proofs.Bracket.{bracket_holds, one_quantile}
@@ -26,6 +26,18 @@ pooled_over units x =
 abbrev pub greatest_of : List UnitOfPlan → ℕ
 greatest_of [] = 0
 greatest_of (u ∷ us) = max (greatest u.sev.items) (greatest_of us)
+
+pub greatest_among : (units : List UnitOfPlan) (i : ℕ) (u : UnitOfPlan) → i < length units
+    → greatest (get_or units i u).sev.items ≤ greatest_of units
+greatest_among [] i u h = absurd (omega arith)
+greatest_among (w ∷ us) zero u h = omega arith
+greatest_among (w ∷ us) (suc i) u h = omega (arith, greatest_among us i u (omega arith))
+
+pub is_unit : (units : List UnitOfPlan) (i : ℕ) (u : UnitOfPlan) → i < length units
+    → IsUnit (poisson_units units) i (poisson_unit (get_or units i u))
+is_unit [] i u h = absurd (omega arith)
+is_unit (w ∷ us) zero u h = refl
+is_unit (w ∷ us) (suc i) u h = is_unit us i u (omega arith)
 
 none_past : (v : Fraction) (units : List UnitOfPlan) (a : ℕ) → greatest_of units < a
     → sum_over units (λ u. expected_count u.freq /ℚ v *ℚ probability_of u.sev a) ≡ whole 0

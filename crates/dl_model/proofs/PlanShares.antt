@@ -1,14 +1,15 @@
 -- The share of a unit of a valid plan in the tail mean, from what is known at both ends of a bracket of the quantile,
 -- under a common factor too.
-use Rattle.dl_model.proofs.Common.{◌≡◌, ℕ, ◌≤◌, refl, sym, subst, List, length, map, Option, None, Some, IfSome, Fraction, whole, ◌+ℚ◌, ◌-ℚ◌, ◌*ℚ◌, ◌/ℚ◌, ◌≤ℚ◌, ◌<ℚ◌, sum_to, Series, IsBound, Rises, AtMost, AtLeast, Holds, AreDeclarable, Quantity, One, Point, Cdf, Outcome, Joint, score, sum_over_outcomes, HoldsShare, Plan, IsValid, UnitOfPlan, aggregates_of, loss_of, declared, declared_by, poisson_units}
+use Rattle.dl_model.proofs.Common.{◌≡◌, ℕ, ◌≤◌, refl, sym, subst, List, length, map, Option, None, Some, Fraction, whole, ◌+ℚ◌, ◌-ℚ◌, ◌*ℚ◌, ◌/ℚ◌, ◌≤ℚ◌, ◌<ℚ◌, sum_to, Series, IsBound, Rises, AtMost, AtLeast, Holds, AreDeclarable, Quantity, One, Point, Cdf, Outcome, Joint, Part, Share, Tail, sum_below, score, sum, nat_le, where_true, Bool, true, false, one_times, le_refl, le_trans, zero_le, ◌∙◌, sum_over_outcomes, HoldsShare, Plan, IsValid, UnitOfPlan, aggregates_of, loss_of, declared, declared_by, poisson_units}
 use Rattle.std.proofs.lemmas.List.{length-map}
 use Rattle.dl_model.specs.CommonUnits.{poisson_unit}
-use Rattle.dl_model.proofs.TotalLaws.{outcomes_rise}
+use Rattle.dl_model.proofs.TotalLaws.{outcomes_rise, points_to}
 use Rattle.dl_model.proofs.Bounded.{are_units}
 use Rattle.dl_model.proofs.PlanUnits.{plan_declared}
 use Rattle.dl_model.proofs.CommonPlans.{plan_distribution}
-use Rattle.dl_model.proofs.Weighings.{IsWeighing, losses_weighing, weighed_by}
+use Rattle.dl_model.proofs.Weighings.{IsWeighing, losses_weighing, weighed_by, weighed_same, weighed_sum}
 use Rattle.dl_model.proofs.SharedBounds.{values, values_rise, shared_weighing}
+use Rattle.dl_model.proofs.ShareLaws.{joint_means, shares_add_up}
 use Rattle.dl_model.proofs.ShareEnds.{AtomMost, AtomLeast, atom_whole as whole_atom, atom_most as most_of_atom, atom_least as least_of_atom, share_most, share_least}
 
 -- ---- the weighing by which units declare each quantity
@@ -28,6 +29,23 @@ pub declared_weighed : (common : Option ℕ) (units : List UnitOfPlan)
     → weighed_by (weighing_of common units) ≡ declared_by common units
 declared_weighed None units = refl
 declared_weighed (Some r) units = refl
+
+pub units_joint_means : (common : Option ℕ) (units : List UnitOfPlan) (x N : ℕ)
+    → sum_below (length units) (λ i. declared_by common units (Joint i x) N)
+    ≡ whole x *ℚ declared_by common units (Point x) N
+units_joint_means common units x N = subst (λ D. sum_below (length units) (λ i. D (Joint i x) N) ≡ whole x *ℚ D (Point x) N)
+    (declared_weighed common units)
+    (joint_means (length units) (weighing_of common units) (is_weighing common units) x N)
+
+pub units_shares : (common : Option ℕ) (units : List UnitOfPlan) (p u : Fraction) (q N : ℕ) → p <ℚ whole 1
+    → u ≤ℚ whole 1
+    → (whole 1 -ℚ p) *ℚ sum_below (length units) (λ i. declared_by common units (Share i p q u) N) +ℚ
+    whole q *ℚ declared_by common units (Part q u) N
+    ≡ (whole 1 -ℚ p) *ℚ declared_by common units (Tail p q) N +ℚ p *ℚ whole q *ℚ declared_by common units One N
+units_shares common units p u q N below le =
+    subst (λ D. (whole 1 -ℚ p) *ℚ sum_below (length units) (λ i. D (Share i p q u) N) +ℚ whole q *ℚ D (Part q u) N
+    ≡ (whole 1 -ℚ p) *ℚ D (Tail p q) N +ℚ p *ℚ whole q *ℚ D One N) (declared_weighed common units)
+    (shares_add_up p u q below le (length units) (weighing_of common units) (is_weighing common units) N)
 
 weighing_rises : (common : Option ℕ) (units : List UnitOfPlan) → AreDeclarable (map loss_of units)
     → (f : List ℕ → Fraction) → Rises (weighing_of common units f)
@@ -57,6 +75,23 @@ module _ (plan : Plan) (valid : IsValid plan) where
   bound : (v : Fraction) × IsBound (E (score One)) v
   bound = subst (λ F. (v : Fraction) × IsBound (F One) v) (sym (declared_weighed plan.common plan.units))
       ((plan_distribution plan valid).bounded One tt)
+
+  -- ---- the distribution
+
+  pub quantity_rises : (quantity : Quantity) → Rises (D quantity)
+  quantity_rises quantity = of_plan (λ D. Rises (D quantity)) (rise (score quantity))
+
+  pub cdf_points : (x N : ℕ) → D (Cdf x) N ≡ sum_to x (λ y. D (Point y) N)
+  cdf_points x N = of_plan (λ D. D (Cdf x) N ≡ sum_to x (λ y. D (Point y) N))
+      (weighed_same E _ _ N (λ ys. points_to x (sum ys)) ∙ weighed_sum n E w x (λ y. score (Point y)) N)
+
+  pub cdf_most_one : (x : ℕ) → AtMost (D (Cdf x)) (D One) (whole 1)
+  cdf_most_one x = of_plan (λ D. AtMost (D (Cdf x)) (D One) (whole 1)) (λ N u b. rw one_times
+      (le_trans _ _ _ (w.grows (score (Cdf x)) (score One) (λ ys. where_most (nat_le (sum ys) x)) N) (b N)))
+    where
+      where_most : (b : Bool) → where_true b (whole 1) ≤ℚ whole 1
+      where_most true = le_refl (whole 1)
+      where_most false = zero_le (whole 1)
 
   module _ (i : ℕ) (p : Fraction) where
     -- ---- the part of the unit's outcome at a total that lies in the tail

@@ -2,8 +2,7 @@
 use Rattle.dl_model.proofs.Common.{◌≡◌, inl, inr, ℕ, nat_eq, nat_lt, nat_le, arith, sym, ap, ap₂, subst, subst₂, ◌∙◌, List, sum, get_or, fun_ext, cases_lt, cases_eq, lt-ltb, le-ltb, eq-eqb, ne_eqb, Fraction, whole, ◌+ℚ◌, ◌-ℚ◌, ◌*ℚ◌, ◌/ℚ◌, ◌≤ℚ◌, ◌<ℚ◌, ◌<◌, ◌≤◌, length, le_refl_n, le_antisymm, le_plus, le_refl, le_trans, plus_le_both, plus_zero, times_le_cancel, times_le_times, zero_le, zero_or_pos, zero_times, div_times, times_right_comm, Quantity, sum_to, ring, times_one, one_times, times_comm, times_assoc, zero_plus, plus_times, sub_plus, sum_to_same, sum_to_times_right, Series, IsBound, Rises, AtMost, AtLeast, Holds, Loss, AreDeclarable, One, Point, Cdf, Outcome, Joint, Part, Share, score, sum_over_outcomes, partial_sums, where_true, lt-leb, le-leb, Bool, false, true, times_plus, times_zero, HoldsShare}
 use Rattle.dl_model.proofs.TotalLaws.{scaled_least, scaled_most, at_least_wider, at_most_wider, at_most_plus, at_least_plus, scaled_rises, most_with_factor, least_with_factor, minus_most, minus_least, where_factor, times_where, to_rises, outcomes_rise, points_to, above_cdf, div_is_times, rest_pos}
 use Rattle.dl_model.proofs.Declared.{quotient_least, quotient_most}
-use Rattle.dl_model.proofs.SharedBounds.{outcome_le}
-use Rattle.dl_model.proofs.Weighings.{IsWeighing, losses_weighing, weighed_by, weighed_same, weighed_sum}
+use Rattle.dl_model.proofs.Weighings.{IsWeighing, joint_le_point, losses_weighing, weighed_by, weighed_same, weighed_sum}
 
 -- ---- a value over a value
 
@@ -166,9 +165,8 @@ module _ (n : ℕ) (E : (List ℕ → Fraction) → Series) (w : IsWeighing n E)
 
   -- no outcome of a unit is above a total that has no probability
   no_joint : (x : ℕ) → AtMost (D (Point x)) (D One) (whole 0) → (N : ℕ) → D (Joint i x) N ≡ whole 0
-  no_joint x point N = le_antisymm _ _ (subst (λ t. D (Joint i x) N ≤ℚ t) none (subst (λ t. D (Joint i x) N ≤ℚ t)
-      (w.scales (whole x) (score (Point x)) N)
-      (w.grows (score (Joint i x)) (λ ys. whole x *ℚ score (Point x) ys) (outcome_le i x) N))) (zero_le _)
+  no_joint x point N =
+      le_antisymm _ _ (subst (λ t. D (Joint i x) N ≤ℚ t) none (joint_le_point n E w i x N)) (zero_le _)
     where
       none : whole x *ℚ D (Point x) N ≡ whole 0
       none = ap (λ t. whole x *ℚ t) (le_antisymm _ _ (rw zero_times at (point N v bound)) (zero_le _)) ∙ times_zero _

@@ -1,5 +1,5 @@
 -- Shares of the tail mean, and joint means of all units together.
-use Rattle.dl_model.proofs.Common.{◌≡◌, inl, inr, ℕ, zero, suc, ◌+◌, ◌-◌, Bool, true, false, nat_eq, nat_lt, arith, refl, sym, ap, ap₂, ◌∙◌, List, [], ◌∷◌, length, sum, get_or, fun_ext, cases_lt, cases_eq, lt-ltb, le-ltb, eq-eqb, ne_eqb, Fraction, whole, ◌+ℚ◌, ◌-ℚ◌, ◌*ℚ◌, ◌/ℚ◌, ◌≤ℚ◌, ◌<ℚ◌, sum_to, sum_below, ring, times_one, one_times, times_zero, zero_times, times_comm, whole_plus, plus_times, times_plus, le_of_lt, div_times, sub_plus, Series, Loss, One, Point, Tail, Joint, Part, Share, score, sum_over_outcomes, partial_sums, where_true}
+use Rattle.dl_model.proofs.Common.{◌≡◌, inl, inr, ℕ, zero, suc, ◌+◌, ◌-◌, Bool, true, false, nat_eq, nat_lt, arith, refl, sym, ap, ap₂, ◌∙◌, List, [], ◌∷◌, length, sum, get_or, fun_ext, cases_lt, cases_eq, lt-ltb, le-ltb, eq-eqb, ne_eqb, Fraction, whole, ◌+ℚ◌, ◌-ℚ◌, ◌*ℚ◌, ◌/ℚ◌, ◌≤ℚ◌, ◌<ℚ◌, sum_below, ring, times_one, one_times, times_zero, zero_times, times_comm, whole_plus, plus_times, times_plus, le_of_lt, div_times, sub_plus, Series, Loss, One, Point, Tail, Joint, Part, Share, score, sum_over_outcomes, partial_sums, where_true}
 use Rattle.dl_model.proofs.TotalLaws.{below_first, sum-cons, where_factor, rest_pos}
 use Rattle.dl_model.proofs.Weighings.{IsWeighing, losses_weighing, weighed_below, weighed_same}
 

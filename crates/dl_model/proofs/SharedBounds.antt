@@ -1,8 +1,8 @@
 -- Bounds of the sums over claims lists: what counts for less has the lesser sums, and no outcome is above the total.
-use Rattle.dl_model.proofs.Common.{◌≡◌, ℕ, suc, zero, ◌*◌, refl, sym, ap, ◌∙◌, List, [], ◌∷◌, sum, inl, inr, cases_eq, ne_eqb, eq-eqb, Fraction, ◌+ℚ◌, ◌*ℚ◌, ◌≤ℚ◌, whole, ring, plus_zero, times_one, le_refl, zero_le, times_le_times, whole_le, fun_ext, sum_to, sum_to_le, sum_to_same, sum_to_times, sum_to_plus, sum_pairs_plus, Series, Rises, length, le_plus, sum_pairs_same, One, Point, Mean, Joint, score, item_le_total, sum_pairs_le, sum_over_claims, PoissonUnit, Claims, amounts, amounts_given_counts, ways_to_share, chances, expected_claims, common_sums, Quantity, IsAsked}
+use Rattle.dl_model.proofs.Common.{◌≡◌, ℕ, suc, zero, ◌*◌, refl, sym, ap, ◌∙◌, List, [], ◌∷◌, Fraction, ◌+ℚ◌, ◌*ℚ◌, ◌≤ℚ◌, whole, ring, plus_zero, le_refl, times_le_times, fun_ext, sum_to, sum_to_le, sum_to_same, sum_to_times, sum_to_plus, sum_pairs_plus, Series, Rises, length, le_plus, sum_pairs_same, One, Point, Mean, Joint, score, sum_pairs_le, sum_over_claims, PoissonUnit, Claims, amounts, amounts_given_counts, ways_to_share, chances, expected_claims, common_sums, Quantity, IsAsked}
 use Rattle.dl_model.proofs.SharedClaims.{claims_times}
 use Rattle.dl_model.proofs.Bounded.{score_scaled}
-use Rattle.dl_model.proofs.Weighings.{IsWeighing}
+use Rattle.dl_model.proofs.Weighings.{IsWeighing, joint_le_point}
 use Rattle.std.proofs.lemmas.List.{length-map}
 
 claims_le : (us : List PoissonUnit) (n : ℕ) (f g : List Claims → Fraction)
@@ -29,13 +29,6 @@ claims_of_length [] zero f g h = h [] refl
 claims_of_length [] (suc n) f g h = refl
 claims_of_length (u ∷ us) n f g h = sum_pairs_same n _ _ (λ j k e. sum_to_same (j * u.most) _ _ (λ s b.
     claims_of_length us k _ _ (λ claims d. h (record { unit = u; count = j; amount = s } ∷ claims) (ap suc d))))
-
--- no outcome is above the total
-pub outcome_le : (i x : ℕ) (ys : List ℕ) → score (Joint i x) ys ≤ℚ whole x *ℚ score (Point x) ys
-outcome_le i x ys = elim (cases_eq (sum ys) x) [
-  | inl e ↦ rw (eq-eqb (sum ys) x e, times_one) (whole_le _ _ (rw e at (item_le_total ys i)))
-  | inr e ↦ rw (ne_eqb (sum ys) x e) (zero_le _)
-]
 
 -- ---- of any value of the amounts
 
@@ -87,5 +80,4 @@ module _ (r : ℕ) (us : List PoissonUnit) where
       )
 
   pub joint_within : (i x N : ℕ) → common_sums r us (Joint i x) N ≤ℚ whole x *ℚ common_sums r us (Point x) N
-  joint_within i x N = rw (values_times (whole x) (score (Point x)) N) at
-      (values_le (score (Joint i x)) (λ ys. whole x *ℚ score (Point x) ys) (outcome_le i x) N)
+  joint_within = joint_le_point (length us) values shared_weighing

@@ -1,8 +1,8 @@
 -- One unit beside the total under a common factor: one claim of the unit apart, the others with one more in the shape.
-use Rattle.dl_model.proofs.Common.{◌≡◌, ℕ, suc, zero, ◌+◌, ◌-◌, ◌*◌, ◌<◌, ◌≤◌, arith, refl, sym, ap, ap₂, subst, ◌∙◌, List, [], ◌∷◌, nat_eq, fun_ext, get_or, sum, sum_by-cons, Fraction, ◌+ℚ◌, ◌*ℚ◌, ◌<ℚ◌, whole, choose, sum_to, sum_over, sum_pairs, ring, times_comm, times_left_comm, times_zero, zero_times, zero_plus, plus_zero, sum_to_same, sum_to_first, sum_to_times, sum_pairs_same, sum_pairs_none, sum_pairs_sum_to, convolve, power, cell, gamma, Joint, score, where_true, factorial, whole_times, sum_pairs_first, sum_pairs_last, divided_power, PoissonUnit, expected_claims, common_sums, pooled_severity, AreSeverities, IsUnit, le_refl_n, one_times}
-use Rattle.dl_model.proofs.TotalLaws.{convolve_past, tilt_at_zero, pick, where_factor, convolve_assoc, convolve_times, convolve_scaled, convolve_first, choose-absorb, choose-shift, divided_plus, divided_tilt, undivided, convolve_pairs}
+use Rattle.dl_model.proofs.Common.{◌≡◌, ℕ, suc, zero, ◌+◌, ◌-◌, ◌*◌, ◌<◌, ◌≤◌, arith, refl, sym, ap, ap₂, subst, ◌∙◌, List, [], ◌∷◌, nat_eq, fun_ext, get_or, sum, sum_by-cons, Fraction, ◌+ℚ◌, ◌*ℚ◌, ◌<ℚ◌, whole, choose, sum_to, sum_over, sum_pairs, ring, times_comm, times_left_comm, times_zero, zero_times, zero_plus, plus_zero, sum_to_same, sum_to_first, sum_to_times, sum_pairs_same, sum_pairs_none, sum_pairs_sum_to, convolve, power, cell, gamma, Outcome, Joint, score, where_true, sum_to_zero, times_assoc, times_one, IsSeverity, factorial, whole_times, sum_pairs_first, sum_pairs_last, divided_power, PoissonUnit, expected_claims, common_sums, pooled_severity, AreSeverities, IsUnit, le_refl_n, one_times}
+use Rattle.dl_model.proofs.TotalLaws.{convolve_past, tilt_at_zero, pick, where_factor, convolve_assoc, convolve_times, convolve_scaled, convolve_first, sum_convolve, power_past, power_severity, choose-absorb, choose-shift, divided_plus, divided_tilt, undivided, convolve_pairs}
 use Rattle.dl_model.proofs.SharedClaims.{mixed, scaled_severity, weighed, weighed_same, weighed_times, weighed_by_total, first_none, others_none, divided_past, by_first}
-use Rattle.dl_model.proofs.Pooled.{chance, any_chance, orders, level_sum, mixed_pooled, gamma_divided}
+use Rattle.dl_model.proofs.Pooled.{chance, any_chance, orders, level_sum, pooled_is_severity, mixed_pooled, gamma_divided}
 
 -- ---- one claim apart
 
@@ -176,3 +176,70 @@ module _ (q : ℕ) (us : List PoissonUnit) (some : whole 0 <ℚ expected_claims 
       ∙ sum_to_times N (whole (suc q) *ℚ y u) (λ m. convolve t (g m) x)
       ∙ ap (λ z. whole (suc q) *ℚ y u *ℚ z) (sym (sum_pairs_sum_to x N (λ a k m. t a *ℚ g m k))
       ∙ sum_pairs_same x _ _ (λ a k e. sum_to_times N (t a) (λ m. g m k)))
+
+  -- ---- the outcome of the unit, whatever the total is
+
+  severity_all : IsSeverity (pooled_severity us) M
+  severity_all = pooled_is_severity us h some M past
+
+  level_outcome : (n : ℕ) → weighed y us n (score (Outcome i)) ≡ sum_to (n * M) (apart n)
+  level_outcome n = weighed_same y us n _ (λ ys. whole 1 *ℚ whole (get_or ys i 0)) (λ ys. sym (one_times _))
+      ∙ weighed_joint y u us i at h M mixed_past n (n * M) (le_refl_n (n * M)) (λ s. whole 1)
+      ∙ sum_to_same (n * M) _ _ (λ x d. one_times _)
+
+  -- the m other claims come to something
+  others_all : (m : ℕ) → sum_to (m * M) (λ k. gamma (suc (suc q)) c m *ℚ power (pooled_severity us) m k)
+      ≡ gamma (suc (suc q)) c m
+  others_all m =
+      sum_to_times (m * M) (gamma (suc (suc q)) c m) (power (pooled_severity us) m)
+      ∙ ap (λ z. gamma (suc (suc q)) c m *ℚ z) (power_severity (pooled_severity us) M severity_all m).add_up ∙ times_one _
+
+  -- the claim that is apart, where it can be of the unit
+  unit_amounts : ℕ → Fraction
+  unit_amounts a = y u *ℚ t a
+
+  amounts_past : (a : ℕ) → M < a → unit_amounts a ≡ whole 0
+  unfolding unit_amounts
+  amounts_past a d = times_left_comm (y u) (whole a) (u.severity a)
+      ∙ ap (λ z. whole a *ℚ z) (unit_past y u us i at a (mixed_past a d)) ∙ times_zero _
+
+  outcome_apart : (m : ℕ) → whole (orders (suc q) (suc m)) *ℚ sum_to (suc m * M) (apart (suc m))
+      ≡ whole (suc q) *ℚ y u *ℚ sum_to M t *ℚ gamma (suc (suc q)) c m
+  unfolding unit_amounts
+  outcome_apart m =
+      let far = suc m * M in
+      let r = whole (suc q) in
+      let g : ℕ → Fraction = λ k. gamma (suc (suc q)) c m *ℚ power (pooled_severity us) m k in
+      let g_past : (k : ℕ) → m * M < k → g k ≡ whole 0 = λ k d.
+      ap (λ z. gamma (suc (suc q)) c m *ℚ z) (power_past (pooled_severity us) M severity_all.past m k d) ∙ times_zero _ in
+      sym (sum_to_times far (whole (orders (suc q) (suc m))) (apart (suc m)))
+      ∙ sum_to_same far _ (λ x. r *ℚ convolve unit_amounts g x) (λ x d. apart_next m x ∙ times_assoc r (y u) _
+      ∙ ap (λ z. r *ℚ z) (sym (convolve_scaled (y u) t g x)))
+      ∙ sum_to_times far r (convolve unit_amounts g)
+      ∙ ap (λ z. r *ℚ z) (sum_convolve unit_amounts g M (m * M) far amounts_past g_past (omega arith)
+      ∙ ap₂ (λ a b. a *ℚ b) (sum_to_times M (y u) t) (others_all m)) ∙ simp ring
+
+  outcome_term : ℕ → Fraction
+  outcome_term n = whole (orders (suc q) n) *ℚ sum_to (n * M) (apart n)
+
+  outcome_sums : (N : ℕ) → common_sums (suc q) us (Outcome i) N ≡ sum_to N outcome_term
+  unfolding outcome_term
+  outcome_sums N = sum_to_same N _ _ (λ n d. level_sum (suc q) us (Outcome i) n
+      ∙ ap (λ z. whole (orders (suc q) n) *ℚ z) (level_outcome n))
+
+  outcome_first : outcome_term zero ≡ whole 0
+  unfolding outcome_term claim_apart
+  outcome_first = ap (λ z. whole (orders (suc q) zero) *ℚ z) (sum_to_zero (zero * M) _ (λ x d. refl)) ∙ times_zero _
+
+  pub outcome_none : common_sums (suc q) us (Outcome i) zero ≡ whole 0
+  unfolding sum_to
+  outcome_none = outcome_sums zero ∙ outcome_first
+
+  pub outcome_next : (N : ℕ) → common_sums (suc q) us (Outcome i) (suc N)
+      ≡ whole (suc q) *ℚ y u *ℚ (sum_to M t *ℚ sum_to N (gamma (suc (suc q)) c))
+  unfolding outcome_term
+  outcome_next N =
+      outcome_sums (suc N) ∙ sum_to_first N outcome_term
+      ∙ ap (λ z. z +ℚ sum_to N (λ m. outcome_term (suc m))) outcome_first ∙ zero_plus _
+      ∙ sum_to_same N _ _ (λ m d. outcome_apart m)
+      ∙ sum_to_times N (whole (suc q) *ℚ y u *ℚ sum_to M t) (gamma (suc (suc q)) c) ∙ times_assoc _ _ _

@@ -1,8 +1,8 @@
 -- Declared joint means under a common factor, from the cells of the pooled unit with one more in the shape.
-use Rattle.dl_model.proofs.Common.{◌≡◌, ℕ, suc, ◌<◌, ◌≤◌, arith, sym, ap, subst, ◌∙◌, List, fun_ext, Fraction, ◌+ℚ◌, ◌*ℚ◌, ◌/ℚ◌, ◌<ℚ◌, whole, ◌^ℚ◌, sum_to, sum_pairs, ring, div_times, le_refl, le_trans, times_le_both, IsLeastBound, Holds, Rises, Series, cell, gamma, gamma_of, One, Joint, PoissonUnit, expected_claims, common_sums, pooled_severity, raised_mean, AreSeverities, IsUnit, refl, times_comm}
-use Rattle.dl_model.proofs.TotalLaws.{same_value, level_same, least_scaled, scaled, scaled_rises, sum_holds, sum_rises_to, gamma_of_least, shape_pos, shape_times, share_of, div_is_times}
+use Rattle.dl_model.proofs.Common.{◌≡◌, ℕ, suc, ◌<◌, ◌≤◌, arith, sym, ap, subst, ◌∙◌, List, fun_ext, Fraction, ◌+ℚ◌, ◌*ℚ◌, ◌/ℚ◌, ◌<ℚ◌, whole, ◌^ℚ◌, sum_to, sum_pairs, ring, div_times, le_refl, le_trans, times_le_both, IsLeastBound, Holds, Rises, Series, cell, gamma, gamma_of, One, Outcome, Joint, zero, times_one, PoissonUnit, expected_claims, common_sums, pooled_severity, raised_mean, AreSeverities, IsUnit, refl, times_comm}
+use Rattle.dl_model.proofs.TotalLaws.{self_holds, same_value, level_same, least_scaled, scaled, scaled_rises, sum_holds, sum_rises_to, gamma_of_least, shape_pos, shape_times, share_of, div_is_times}
 use Rattle.dl_model.proofs.Pooled.{pooled_one}
-use Rattle.dl_model.proofs.SharedJoint.{joint_none, joint_next}
+use Rattle.dl_model.proofs.SharedJoint.{joint_none, joint_next, outcome_none, outcome_next}
 use Rattle.dl_model.proofs.CountMeans.{shifted}
 
 -- ---- a value over another series, by the least bounds of both
@@ -49,8 +49,7 @@ module _ (q : ℕ) (v : Fraction) where
 -- ---- the values
 
 module _ (q : ℕ) (us : List PoissonUnit) (some : whole 0 <ℚ expected_claims us) (h : AreSeverities us) (M : ℕ)
-    (past : (a : ℕ) → M < a → pooled_severity us a ≡ whole 0) (i : ℕ) (u : PoissonUnit) (at : IsUnit us i u) (x : ℕ)
-    (lo hi : ℕ → Fraction) where
+    (past : (a : ℕ) → M < a → pooled_severity us a ≡ whole 0) (i : ℕ) (u : PoissonUnit) (at : IsUnit us i u) where
   abbrev v : Fraction
   v = expected_claims us
 
@@ -74,39 +73,48 @@ module _ (q : ℕ) (us : List PoissonUnit) (some : whole 0 <ℚ expected_claims 
   abbrev factor : Fraction
   factor = whole (suc q) *ℚ (u.mean /ℚ (whole (suc q) +ℚ v))
 
-  -- the cells of one shape more
-  abbrev part : ℕ → Series
-  part k = cell (gamma (suc (suc q)) c) f k
+  -- what begins with 0 and goes on as the factor times some terms of one shape more
+  from_terms : (Q terms : Series) (lo hi : Fraction) → Q zero ≡ whole 0 → ((N : ℕ) → Q (suc N) ≡ factor *ℚ terms N)
+      → Holds terms all_more lo hi → Holds Q (common_sums (suc q) us One) (u.mean *ℚ lo) (u.mean *ℚ hi)
+  from_terms Q terms lo hi none next held =
+      let later : Series = λ N. factor *ℚ terms N in
+      let later_holds : Holds later all (u.mean *ℚ lo) (u.mean *ℚ hi) =
+      over_other later all all_more _ _ _ _ _ _ (sum_rises_to (gamma (suc (suc q)) c)) (gamma_of_least q v q)
+      (gamma_of_least q v (suc q)) (one_more q v u.mean lo) (one_more q v u.mean hi)
+      (scaled factor terms all_more lo hi held) in
+      let level = same_value Q all later all (shifted Q later none next) (level_same all all (λ N. refl)) in
+      subst (λ R. Holds Q R (u.mean *ℚ lo) (u.mean *ℚ hi))
+      (sym (fun_ext (pooled_one (suc q) us h some M past))) ((level.0 _).1 later_holds.0, (level.1 _).1 later_holds.1)
 
-  abbrev terms : Series
-  terms N = sum_pairs x (λ a k. t a *ℚ part k N)
+  -- the unit's outcome, whatever the total is
+  pub outcome_holds : Holds (common_sums (suc q) us (Outcome i)) (common_sums (suc q) us One)
+      (u.mean *ℚ sum_to M t) (u.mean *ℚ sum_to M t)
+  outcome_holds = subst (λ m. Holds (common_sums (suc q) us (Outcome i)) (common_sums (suc q) us One) m m)
+      (ap (λ m. u.mean *ℚ m) (times_one (sum_to M t)))
+      (from_terms _ (λ N. sum_to M t *ℚ all_more N) _ _ (outcome_none q us some h M past i u at)
+      (outcome_next q us some h M past i u at) (scaled (sum_to M t) all_more all_more _ _ (self_holds all_more)))
 
-  abbrev ends : (ℕ → Fraction) → Fraction
-  ends e = sum_pairs x (λ a k. t a *ℚ e k)
+  module _ (x : ℕ) (lo hi : ℕ → Fraction) where
+    -- the cells of one shape more
+    abbrev part : ℕ → Series
+    part k = cell (gamma (suc (suc q)) c) f k
 
-  module _ (cells : (k : ℕ) → k ≤ x → Holds (part k) all_more (lo k) (hi k)) where
-    terms_hold : Holds terms all_more (ends lo) (ends hi)
-    terms_hold = sum_holds x (λ a k N. t a *ℚ part k N) all_more (λ a k. t a *ℚ lo k)
+    abbrev terms : Series
+    terms N = sum_pairs x (λ a k. t a *ℚ part k N)
+
+    abbrev ends : (ℕ → Fraction) → Fraction
+    ends e = sum_pairs x (λ a k. t a *ℚ e k)
+
+    terms_hold : ((k : ℕ) → k ≤ x → Holds (part k) all_more (lo k) (hi k)) → Holds terms all_more (ends lo) (ends hi)
+    terms_hold cells = sum_holds x (λ a k N. t a *ℚ part k N) all_more (λ a k. t a *ℚ lo k)
         (λ a k. t a *ℚ hi k) (λ a k e. scaled_rises (t a) (part k) (sum_rises_to _))
         (λ a k e. scaled (t a) (part k) all_more (lo k) (hi k) (cells k (omega arith)))
 
-    abbrev joint : Series
-    joint = common_sums (suc q) us (Joint i x)
-
-    abbrev later : Series
-    later N = factor *ℚ terms N
-
-    later_holds : Holds later all (u.mean *ℚ ends lo) (u.mean *ℚ ends hi)
-    later_holds = over_other later all all_more _ _ _ _ _ _ (sum_rises_to (gamma (suc (suc q)) c)) (gamma_of_least q v q)
-        (gamma_of_least q v (suc q)) (one_more q v u.mean (ends lo)) (one_more q v u.mean (ends hi))
-        (scaled factor terms all_more (ends lo) (ends hi) terms_hold)
-
-    pub joint_holds : Holds joint (common_sums (suc q) us One) (u.mean *ℚ ends lo) (u.mean *ℚ ends hi)
-    joint_holds =
-        let level = same_value joint all later all (shifted joint later (joint_none q us some h M past i u at x)
-        (joint_next q us some h M past i u at x)) (level_same all all (λ N. refl)) in
-        subst (λ R. Holds joint R (u.mean *ℚ ends lo) (u.mean *ℚ ends hi))
-        (sym (fun_ext (pooled_one (suc q) us h some M past))) ((level.0 _).1 later_holds.0, (level.1 _).1 later_holds.1)
+    pub joint_holds : ((k : ℕ) → k ≤ x → Holds (part k) all_more (lo k) (hi k))
+        → Holds (common_sums (suc q) us (Joint i x)) (common_sums (suc q) us One)
+        (u.mean *ℚ ends lo) (u.mean *ℚ ends hi)
+    joint_holds cells = from_terms _ terms _ _ (joint_none q us some h M past i u at x)
+        (joint_next q us some h M past i u at x) (terms_hold cells)
 
 -- with the raised mean
 pub joint_raised : (q : ℕ) (us : List PoissonUnit) → whole 0 <ℚ expected_claims us → AreSeverities us → (M : ℕ)

@@ -1,6 +1,6 @@
 -- Weighings of lists of outcomes: what the sums over the outcomes of independent units, and those over claims lists,
 -- have in common.
-use Rattle.dl_model.proofs.Common.{◌≡◌, ℕ, zero, suc, refl, sym, ap, ◌∙◌, List, [], ◌∷◌, length, fun_ext, Fraction, ◌+ℚ◌, ◌*ℚ◌, ◌≤ℚ◌, whole, sum_to, sum_below, zero_times, Series, Quantity, Loss, score, sum_over_outcomes}
+use Rattle.dl_model.proofs.Common.{◌≡◌, ℕ, zero, suc, refl, sym, ap, ◌∙◌, List, [], ◌∷◌, length, fun_ext, Fraction, ◌+ℚ◌, ◌*ℚ◌, ◌≤ℚ◌, whole, sum_to, sum_below, zero_times, subst, inl, inr, cases_eq, eq-eqb, ne_eqb, item_le_total, times_one, whole_le, zero_le, sum, Joint, Point, Series, Quantity, Loss, score, sum_over_outcomes}
 use Rattle.dl_model.proofs.TotalLaws.{outcomes_plus, outcomes_times, outcomes_le}
 
 -- E is a weighted sum of the values of lists of outcomes at each level, with weights of 0 or more, and reads only lists
@@ -18,6 +18,13 @@ weighed_by E quantity = E (score quantity)
 pub weighed_same : (E : (List ℕ → Fraction) → Series) (f g : List ℕ → Fraction) (N : ℕ)
     → ((ys : List ℕ) → f ys ≡ g ys) → E f N ≡ E g N
 weighed_same E f g N h = ap (λ s. E s N) (fun_ext h)
+
+-- no outcome is above the total
+outcome_le : (i x : ℕ) (ys : List ℕ) → score (Joint i x) ys ≤ℚ whole x *ℚ score (Point x) ys
+outcome_le i x ys = elim (cases_eq (sum ys) x) [
+  | inl e ↦ rw (eq-eqb (sum ys) x e, times_one) (whole_le _ _ (rw e at (item_le_total ys i)))
+  | inr e ↦ rw (ne_eqb (sum ys) x e) (zero_le _)
+]
 
 module _ (n : ℕ) (E : (List ℕ → Fraction) → Series) (w : IsWeighing n E) where
   pub weighed_none : (N : ℕ) → E (λ ys. whole 0) N ≡ whole 0
@@ -37,6 +44,10 @@ module _ (n : ℕ) (E : (List ℕ → Fraction) → Series) (w : IsWeighing n E)
   weighed_below zero f N = weighed_none N
   weighed_below (suc k) f N =
       w.adds (λ ys. sum_below k (λ i. f i ys)) (f k) N ∙ ap (λ t. t +ℚ E (f k) N) (weighed_below k f N)
+
+  pub joint_le_point : (i x N : ℕ) → E (score (Joint i x)) N ≤ℚ whole x *ℚ E (score (Point x)) N
+  joint_le_point i x N = subst (λ t. E (score (Joint i x)) N ≤ℚ t) (w.scales (whole x) (score (Point x)) N)
+      (w.grows (score (Joint i x)) (λ ys. whole x *ℚ score (Point x) ys) (outcome_le i x) N)
 
 -- ---- independent units
 

@@ -4,13 +4,8 @@ use Rattle.dl_exact.proofs.Laws.{le_trans}
 use Rattle.dl_exact.proofs.SumsOver.{sum_pairs_over}
 use Rattle.dl_iv.proofs.Operations.{scale_low, scale_high}
 use Rattle.dl_model.proofs.SharedValues.{joint_raised}
+use Rattle.dl_model.proofs.CommonPlans.{is_unit}
 use Rattle.dl_shares.proofs.Tilted.{amounts_pairs}
-
-is_unit : (units : List UnitOfPlan) (i : ℕ) (u : UnitOfPlan) → i < length units → get_or units i u ≡ u
-    → IsUnit (poisson_units units) i (poisson_unit u)
-is_unit [] i u h e = absurd (omega arith)
-is_unit (w ∷ ws) zero u h e = ap poisson_unit e
-is_unit (w ∷ ws) (suc i) u h e = is_unit ws i u (omega arith) e
 
 -- ---- the sum over the amounts, in units of the scale
 
@@ -114,7 +109,7 @@ module _ (units : List UnitOfPlan) (q : ℕ) (factor : HasCommonFactor (suc q) u
     joint_exact =
         let family = subst (λ F. GridEncloses grid F) raised_family encloses in
         let s = pow_pos B in
-        let told = joint_raised q us some (are_severities units) M past i (poisson_unit u) (is_unit units i u there here) x
+        let told = joint_raised q us some (are_severities units) M past i (poisson_unit u) (subst (λ w. IsUnit us i (poisson_unit w)) here (is_unit units i u there)) x
         (λ k. low_at grid k over S) (λ k. high_at grid k over S) (λ k near. family k (omega arith)) in
         subst₂ (λ a b. Holds (common_sums (suc q) us (Joint i x)) all a b)
         (ap (λ y. n *ℚ y) (amounts_over x S u.sev (low_at grid) s))

@@ -23,4 +23,3 @@ mod Absent
 mod ClaimEnds
 mod ClaimSums
 mod JointMost
-mod JointTotals

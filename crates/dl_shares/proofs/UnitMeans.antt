@@ -1,5 +1,14 @@
--- The mean of a unit beside others is that of the unit alone.
+-- The mean of a unit beside others is that of the unit alone, under a common factor too.
 use Rattle.dl_shares.proofs.Common.{ℕ, zero, suc, ◌≡◌, ◌<◌, arith, sym, ap, ap₂, subst, subst₂, ◌∙◌, List, [], ◌∷◌, length, get_or, fun_ext, Fraction, whole, ◌*ℚ◌, ring, times_one, times_left_comm, Rises, Holds, times, Loss, IsLoss, AreDeclarable, One, Mean, Outcome, score, sum_over_outcomes, partial_sums, without, level_mean, self_holds, holds_times, loss_proper, outcomes_same, outcomes_times, outcomes_rise, total_alone_all, total_more_all, mean_alone}
+use Rattle.std.proofs.lemmas.List.{get_or-map, length-map}
+use Rattle.dl_plan.specs.declared.plan.Plan.{Plan}
+use Rattle.dl_plan.specs.declared.plan.Unit.{Unit as UnitOfPlan}
+use Rattle.dl_plan.specs.Prelude.{IsValid}
+use Rattle.dl_model.specs.Plans.{aggregates_of, declared, loss_of}
+use Rattle.dl_model.proofs.Bounded.{are_units}
+use Rattle.dl_model.proofs.PlanUnits.{plan_declared}
+use Rattle.dl_model.proofs.CommonPlans.{by_factor}
+use Rattle.dl_model.proofs.CommonMeans.{shared_outcome}
 use Rattle.dl_shares.proofs.BesideJoint.{all_split}
 use Rattle.dl_exact.proofs.Sums.{sum_to_same, sum_to_times_right}
 use Rattle.dl_model.proofs.Without.{unit_is, without_units}
@@ -48,3 +57,16 @@ mean_beside us i u l h w b held =
     let both = holds_times A W O O l (whole 1) h (whole 1) rise (loss_proper v is).all_rises o o a (self_holds O) in
     subst₂ (λ Q R. Holds Q R l h) (sym (fun_ext (mean_split us i u w b))) (sym weight)
     (subst₂ (Holds (times A O) (times W O)) (times_one l) (times_one h) both)
+
+-- in a plan, under a common factor too
+pub plan_mean_beside : (plan : Plan) → IsValid plan → (i : ℕ) (u : UnitOfPlan) (l h : Fraction) → i < length plan.units
+    → Holds (partial_sums (loss_of (get_or plan.units i u) ∷ []) Mean)
+    (partial_sums (loss_of (get_or plan.units i u) ∷ []) One) l h
+    → Holds (declared plan (Outcome i)) (declared plan One) l h
+plan_mean_beside plan valid i u l h there held =
+    by_factor (λ D. Holds (D (Outcome i)) (D One) l h) plan.common plan.units valid.common
+    (mean_beside (aggregates_of plan) i (loss_of u) l h (are_units (aggregates_of plan) (plan_declared plan valid))
+    (subst (λ n. i < n) (sym (length-map plan.units loss_of)) there)
+    (subst (λ v. Holds (partial_sums (v ∷ []) Mean) (partial_sums (v ∷ []) One) l h)
+    (sym (get_or-map loss_of plan.units i u (loss_of u) there)) held))
+    (λ q factor. shared_outcome plan.cells q plan.units valid.units factor i u l h there held)

@@ -1,6 +1,6 @@
 //! The laws of joint means, and of the shares in a tail mean, over the definitions alone.
 
-ghost use Rattle.std.specs.Prelude.{ℕ, ◌≡◌, ◌*◌, ◌<◌, ◌≤◌, None, List, [], ◌∷◌, length, get_or};
+ghost use Rattle.std.specs.Prelude.{ℕ, ◌≡◌, ◌*◌, ◌<◌, ◌≤◌, List, [], ◌∷◌, length, get_or};
 ghost use Rattle.dl_exact.specs.Prelude.{Fraction, whole, ◌over◌, ◌+ℚ◌, ◌-ℚ◌, ◌*ℚ◌, ◌≤ℚ◌, ◌<ℚ◌, sum_below, count_pairs};
 ghost use Rattle.dl_plan.specs.declared.plan.Plan.{Plan as PlanOf};
 ghost use Rattle.dl_plan.specs.declared.plan.Unit.{Unit as UnitOfPlan};
@@ -14,12 +14,10 @@ ghost use Rattle.dl_shares.specs.Source.{GivesJoints};
 use crate::source::{Beside, OverClaims};
 use dl_plan::Plan;
 
-/// `1 - p` times the shares of all units of a valid plan without a common factor, and `q` times
-/// what lies below the tail, are `1 - p` times the tail mean, and `p` times `q`, at every level. So
+/// `1 - p` times the shares of all units of a plan, and `q` times what lies below the tail, are
+/// `1 - p` times the tail mean, and `p` times `q`, at every level, under a common factor too. So
 /// where the part below the tail has the probability `p`, the shares add up to the tail mean.
 pub fn law_shares(plan: &Plan)
-    requires valid { IsValid plan.now }
-    requires independent { plan.now.common ≡ None }
     ensures { (p u : Fraction) (q N : ℕ) → p <ℚ whole 1 → u ≤ℚ whole 1
         → (whole 1 -ℚ p) *ℚ sum_below (length plan.now.units)
         (λ i. declared plan.now (Share i p q u) N) +ℚ
@@ -34,6 +32,16 @@ pub fn law_unit_mean()
         → i < length us
         → Holds (partial_sums (get_or us i u ∷ []) Mean) (partial_sums (get_or us i u ∷ []) One) l h
         → Holds (partial_sums us (Outcome i)) (partial_sums us One) l h }
+{}
+
+/// The mean of a unit's outcome beside the others of a plan, under a common factor too, is that of
+/// the unit alone.
+pub fn law_plan_unit_mean(plan: &Plan)
+    requires valid { IsValid plan.now }
+    ensures { (i : ℕ) (u : UnitOfPlan) (l h : Fraction) → i < length plan.now.units
+        → Holds (partial_sums (loss_of (get_or plan.now.units i u) ∷ []) Mean)
+        (partial_sums (loss_of (get_or plan.now.units i u) ∷ []) One) l h
+        → Holds (declared plan.now (Outcome i)) (declared plan.now One) l h }
 {}
 
 /// The grids of a unit and of the sum of all others give its joint means.

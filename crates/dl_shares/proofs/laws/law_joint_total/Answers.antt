@@ -1,5 +1,5 @@
-use Rattle.dl_shares.proofs.JointTotals.{units_total}
+use Rattle.dl_model.proofs.PlanShares.{units_joint_means}
 use Rattle.dl_shares.proofs.laws.law_joint_total.Goals as goal
 
 pub returns : goal.returns
-returns c = units_total c.args.plan.now.common c.args.plan.now.units
+returns c = units_joint_means c.args.plan.now.common c.args.plan.now.units
