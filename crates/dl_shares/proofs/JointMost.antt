@@ -1,5 +1,5 @@
 -- No outcome of a unit is above the total, so its joint mean at x is at most x, and at most x times the probability of x.
-use Rattle.dl_shares.proofs.Common.{ℕ, ◌≤ℚ◌, ◌*ℚ◌, ◌*◌, ◌<◌, ◌≤◌, sym, subst, subst₂, List, length, Fraction, whole, ◌over◌, Series, AtMost, AtLeast, Quantity, One, Point, Joint, Loss, AreDeclared, score, sum_over_outcomes, partial_sums}
+use Rattle.dl_shares.proofs.Common.{ℕ, ◌≤ℚ◌, ◌*ℚ◌, ◌*◌, ◌<◌, ◌≤◌, sym, subst, List, length, Fraction, whole, ◌over◌, Series, AtMost, AtLeast, Quantity, One, Point, Joint, Loss, AreDeclared, score, sum_over_outcomes, partial_sums}
 use Rattle.dl_plan.specs.declared.plan.Plan.{Plan}
 use Rattle.dl_plan.specs.Prelude.{IsValid}
 use Rattle.dl_model.specs.Plans.{declared}

@@ -1,7 +1,5 @@
 -- The bracket of a quantile in whole numbers: how little lies between its ends, and above the level at them.
-use Rattle.dl_shares.proofs.Common.{ℕ, suc, ◌≡◌, inl, inr, ◌+◌, ◌-◌, ◌*◌, ◌/◌, ◌^◌, ◌<◌, ◌≤◌, min, List, length, take, Some, arith, refl, sym, ap, subst, subst₂, ◌∙◌, add-one, cases_lt, div_ceil, div_ceil_least, div_ceil_times, mul-le-mul_right, le_of_mul-le-mul_right, pow_pos, Fraction, whole, ◌over◌, ◌<ℚ◌, ◌≤ℚ◌, over_self, lt_not_le, below_grows, below_more, count_below, Iv, low_at, high_at, mass_low, mass_high, spread, IsGrid, low_sum, apart, high_mass, IsFirstAtLeast, IsFirstFound, low_cdf, high_cdf}
-use Rattle.dl_exact.proofs.Denominators.{over_le_over}
-use Rattle.dl_exact.proofs.Laws.{le_trans}
+use Rattle.dl_shares.proofs.Common.{ℕ, suc, ◌≡◌, ◌+◌, ◌-◌, ◌*◌, ◌/◌, ◌^◌, ◌<◌, ◌≤◌, min, List, take, Some, arith, refl, sym, ap, subst, ◌∙◌, add-one, div_ceil, div_ceil_least, div_ceil_times, mul-le-mul_right, le_of_mul-le-mul_right, pow_pos, Fraction, ◌<ℚ◌, ◌≤ℚ◌, over_self, below_grows, below_more, count_below, Iv, low_at, high_at, mass_low, mass_high, spread, IsGrid, apart, high_mass, low_cdf, high_cdf}
 use Rattle.dl_exact.proofs.Over.{le_over, lt_over}
 use Rattle.dl_iv.proofs.Rounding.{floor_le_ceiling}
 use Rattle.dl_measures.proofs.Sums.{low_high, low_most}

@@ -1,5 +1,5 @@
 -- The share of a unit of a plan at a bracket of the quantile: what its ends hold.
-use Rattle.dl_shares.proofs.Common.{ℕ, suc, ◌≡◌, inl, inr, ◌+◌, ◌-◌, ◌*◌, ◌/◌, ◌^◌, ◌<◌, ◌≤◌, min, List, length, Some, arith, refl, sym, ap, subst, subst₂, ◌∙◌, cases_lt, div_ceil, mul-le-mul_right, mul-pos, pow_pos, Fraction, whole, ◌over◌, ◌+ℚ◌, ◌-ℚ◌, ◌*ℚ◌, ◌≤ℚ◌, ◌<ℚ◌, le_refl, times_le_both, over_le, over_mul, over_pos, over_self, count_below, Iv, low_at, high_at, low_cdf, high_cdf, AtMost, AtLeast, Holds, Series, Quantity, One, Point, Cdf, Joint, Plan, declared, IsQuantile, at_least_wider, ceiling_reaches}
+use Rattle.dl_shares.proofs.Common.{ℕ, ◌≡◌, inl, inr, ◌+◌, ◌-◌, ◌*◌, ◌/◌, ◌^◌, ◌<◌, ◌≤◌, List, length, Some, arith, refl, sym, ap, subst, subst₂, ◌∙◌, cases_lt, div_ceil, mul-le-mul_right, mul-pos, pow_pos, Fraction, ◌over◌, ◌+ℚ◌, ◌-ℚ◌, ◌*ℚ◌, ◌≤ℚ◌, le_refl, times_le_both, over_le, over_mul, over_pos, over_self, Iv, low_at, high_at, low_cdf, high_cdf, AtMost, AtLeast, Holds, Series, Quantity, One, Point, Cdf, Joint, Plan, declared, IsQuantile, at_least_wider, ceiling_reaches}
 use Rattle.std.proofs.Math.Nat.{div-mul-le_self}
 use Rattle.dl_exact.proofs.Denominators.{over_le_over, over_minus, over_plus}
 use Rattle.dl_exact.proofs.Laws.{le_trans}

@@ -1,5 +1,5 @@
 -- The joint means of a unit of a plan between two totals, by the high ends of the probabilities there.
-use Rattle.dl_shares.proofs.Common.{ℕ, zero, suc, ◌≡◌, ◌+◌, ◌-◌, ◌*◌, ◌<◌, ◌≤◌, arith, add-one, ap, sym, subst, mul-le-mul_right, le_of_mul-le-mul_right, below_grows, below_more, Fraction, ◌over◌, ◌≤ℚ◌, count_below, Series, AtMost, AtLeast, Quantity, One, Point, Joint, Plan, declared, at_most_wider}
+use Rattle.dl_shares.proofs.Common.{ℕ, zero, suc, ◌≡◌, ◌+◌, ◌-◌, ◌*◌, ◌<◌, ◌≤◌, arith, add-one, ap, sym, subst, mul-le-mul_right, le_of_mul-le-mul_right, below_grows, below_more, ◌over◌, ◌≤ℚ◌, count_below, Series, AtMost, AtLeast, One, Point, Joint, Plan, declared, at_most_wider}
 use Rattle.std.proofs.Math.Decide.{le_ind}
 unfoldable use Rattle.dl_exact.specs.Sum.{sum_to}
 use Rattle.dl_exact.proofs.Denominators.{over_le_over, over_plus}

@@ -1,5 +1,5 @@
 -- What lies above a level p at a total x: of the distribution, and of a unit's joint mean there.
-use Rattle.std.specs.Prelude.{ℕ, suc, ◌-◌, ◌*◌, ◌/◌, ◌^◌, ◌≤◌, min, nat_le, if◌then◌else◌, List, length}
+use Rattle.std.specs.Prelude.{ℕ, suc, ◌-◌, ◌*◌, ◌/◌, ◌^◌, ◌≤◌, min, nat_le, if◌then◌else◌, List}
 use Rattle.std.specs.Int.{div_ceil}
 use Rattle.dl_exact.specs.Count.{count_below}
 use Rattle.dl_exact.specs.Fraction.{Fraction, ◌over◌}

@@ -1,4 +1,4 @@
-use Rattle.dl_shares.proofs.Common.{ℕ, inl, inr, ◌≡◌, ◌+◌, ◌-◌, ◌*◌, ◌/◌, ◌^◌, ◌<◌, ◌≤◌, length, arith, sym, ap, subst, subst₂, ◌∙◌, ap₂, LiesIn, whole, ◌-ℚ◌, ◌/ℚ◌, ◌≤ℚ◌, at_least_wider, cases_lt, pow_pos, div_ceil, cells_fit, low_at, high_at, spread, AtLeast, One, Joint, declared, ◌over◌}
+use Rattle.dl_shares.proofs.Common.{ℕ, inl, inr, ◌≡◌, ◌+◌, ◌-◌, ◌*◌, ◌/◌, ◌^◌, ◌<◌, ◌≤◌, length, arith, sym, ap, subst, subst₂, ◌∙◌, ap₂, LiesIn, whole, ◌-ℚ◌, ◌/ℚ◌, ◌≤ℚ◌, at_least_wider, cases_lt, pow_pos, div_ceil, cells_fit, low_at, high_at, AtLeast, One, Joint, declared, ◌over◌}
 use Rattle.std.specs.Prelude.{max}
 use Rattle.dl_exact.proofs.Denominators.{over_le_over}
 use Rattle.dl_exact.proofs.Laws.{div_le_both, le_refl, le_trans}

@@ -1,4 +1,4 @@
-use Rattle.dl_shares.proofs.Common.{◌≡◌, arith, sym, subst}
+use Rattle.dl_shares.proofs.Common.{◌≡◌, arith, subst}
 use Rattle.dl_shares.specs.Source.{joint_width}
 use Rattle.dl_shares.specs.Tails.{HoldJoints}
 use Rattle.dl_shares.proofs.source.ShareSource.first_joints.Goals as goal

@@ -1,6 +1,5 @@
-use Rattle.dl_shares.proofs.Common.{◌≡◌, ◌^◌, ◌<◌, ◌≤◌, Some, arith, length, subst, sym, low_at, low_cdf, IsFirstFound, in_order}
+use Rattle.dl_shares.proofs.Common.{◌^◌, ◌<◌, Some, arith, length, subst, low_at, low_cdf, IsFirstFound, in_order}
 use Rattle.dl_shares.specs.Settled.{IsBracketIn}
-use Rattle.dl_shares.specs.Source.{reach}
 use Rattle.dl_shares.proofs.Absent.{not_past}
 use Rattle.dl_shares.proofs.source.ShareSource.share.Goals as goal
 
