@@ -269,6 +269,10 @@ most_mean = 2 ^ 97
 abbrev pub most_share_mean : ℕ
 most_share_mean = 2 ^ 112
 
+-- the same at every level
+abbrev pub most_share_end : ℕ
+most_share_end = 2 ^ 127
+
 -- ---- how far two ends can lie apart, in units of the scale
 
 -- the operands of a power, of a listed count or of halvings, each with its roundings, all together:

@@ -1,31 +1,36 @@
 -- The ends of a distribution and of a layer, from those of the cells of an enclosing grid.
-use Rattle.dl_measures.proofs.Common.{◌≡◌, inl, inr, ℕ, suc, ◌+◌, ◌-◌, ◌<◌, ◌≤◌, min, arith, sym, ap, subst, subst₂, ◌∙◌, List, Some, fun_ext, cases_lt, Fraction, ◌over◌, count_below, below_grows, IsBound, AtMost, Holds, Loss, AreDeclarable, One, Cdf, Layer, score, partial_sums, total, Encloses, outcomes_rise, cdf_most_one, low_cdf, high_cdf, min-eq_left, min-eq_right, over_one, over_rest, Point, above, survival, cdf_points, layer_survivals, to_holds, below_holds, above_ends, low_layer, high_layer}
+use Rattle.dl_measures.proofs.Common.{◌≡◌, inl, inr, ℕ, suc, ◌+◌, ◌-◌, ◌<◌, ◌≤◌, min, arith, sym, ap, subst, subst₂, ◌∙◌, List, Some, fun_ext, cases_lt, Fraction, whole, ◌over◌, count_below, below_grows, IsBound, AtMost, Holds, Loss, AreDeclarable, One, Cdf, Layer, score, partial_sums, total, Encloses, outcomes_rise, cdf_most_one, low_cdf, high_cdf, min-eq_left, min-eq_right, over_one, over_rest, Point, above, survival, cdf_points, layer_survivals, to_holds, below_holds, above_ends, low_layer, high_layer}
+use Rattle.dl_model.specs.Program.{Quantity}
+use Rattle.dl_model.specs.Series.{Rises, Series}
 use Rattle.dl_exact.specs.Sum.{sum_to, sum_below}
 use Rattle.dl_exact.proofs.SumsOver.{to_over, below_over}
+
+-- whatever declares them: the distribution is the sum of the points, and at most 1
+pub cdf_within : (D : Quantity → Series) (S K : ℕ) (lo hi : ℕ → ℕ) → ((x : ℕ) → Rises (D (Point x)))
+    → ((x N : ℕ) → D (Cdf x) N ≡ sum_to x (λ i. D (Point i) N)) → ((x : ℕ) → AtMost (D (Cdf x)) (D One) (whole 1)) → 0 < S
+    → ((x : ℕ) → x < K → Holds (D (Point x)) (D One) (lo x over S) (hi x over S))
+    → (x : ℕ) → x < K → Holds (D (Cdf x)) (D One) (low_cdf S lo x) (high_cdf S hi x)
+cdf_within D S K lo hi rise points most s e x xk =
+    let R = D One in
+    let Q : D (Cdf x) ≡ (λ N. sum_to x (λ i. D (Point i) N)) = fun_ext (points x) in
+    let h : Holds (λ N. sum_to x (λ i. D (Point i) N)) R (sum_to x (λ y. lo y over S)) (sum_to x (λ y. hi y over S)) =
+    to_holds x (λ i. D (Point i)) R (λ y. lo y over S) (λ y. hi y over S) rise (λ i b. e i (omega arith)) in
+    let g : Holds (D (Cdf x)) R (low_cdf S lo x) (count_below (suc x) hi over S) =
+    subst (λ t. Holds t R (low_cdf S lo x) (count_below (suc x) hi over S)) (sym Q)
+    (subst₂ (λ l h. Holds (λ N. sum_to x (λ i. D (Point i) N)) R l h) (to_over x S lo s) (to_over x S hi s) h) in (
+      g.0,
+      elim (cases_lt S (count_below (suc x) hi)) [
+        | inl l ↦ subst (λ t. AtMost (D (Cdf x)) (D One) t)
+            (sym (ap (λ t. t over S) (min-eq_left (omega arith)) ∙ over_one S s)) (most x)
+        | inr l ↦ subst (λ t. AtMost (D (Cdf x)) (D One) (t over S)) (sym (min-eq_right l)) g.1
+      ],
+    )
 
 pub cdf_ends : (us : List Loss) (S K : ℕ) (lo hi : ℕ → ℕ) → AreDeclarable us → 0 < S
     → Encloses S K lo hi (total us)
     → (x : ℕ) → x < K → Holds (partial_sums us (Cdf x)) (partial_sums us One) (low_cdf S lo x) (high_cdf S hi x)
-cdf_ends us S K lo hi w s e x xk =
-    let R = partial_sums us One in
-    let Q : partial_sums us (Cdf x) ≡ (λ N. sum_to x (λ i. partial_sums us (Point i) N)) =
-    fun_ext (λ N. cdf_points us x N) in
-    let h : Holds (λ N. sum_to x (λ i. partial_sums us (Point i) N)) R (sum_to x (λ y. lo y over S))
-    (sum_to x (λ y. hi y over S)) =
-    to_holds x (λ i. partial_sums us (Point i)) R (λ y. lo y over S) (λ y. hi y over S)
-    (λ i. outcomes_rise us w (score (Point i))) (λ i b. e i (omega arith)) in
-    let g : Holds (partial_sums us (Cdf x)) R (low_cdf S lo x) (count_below (suc x) hi over S) =
-    subst (λ t. Holds t R (low_cdf S lo x) (count_below (suc x) hi over S)) (sym Q)
-    (subst₂ (λ l h. Holds (λ N. sum_to x (λ i. partial_sums us (Point i) N)) R l h) (to_over x S lo s)
-    (to_over x S hi s) h) in (
-      g.0,
-      elim (cases_lt S (count_below (suc x) hi)) [
-        | inl l ↦ subst (λ t. AtMost (partial_sums us (Cdf x)) (partial_sums us One) t)
-            (sym (ap (λ t. t over S) (min-eq_left (omega arith)) ∙ over_one S s)) (cdf_most_one us x)
-        | inr l ↦ subst (λ t. AtMost (partial_sums us (Cdf x)) (partial_sums us One) (t over S))
-            (sym (min-eq_right l)) g.1
-      ],
-    )
+cdf_ends us S K lo hi w = cdf_within (partial_sums us) S K lo hi (λ x. outcomes_rise us w (score (Point x))) (cdf_points us)
+    (cdf_most_one us)
 
 pub layer_ends : (us : List Loss) (S K : ℕ) (lo hi : ℕ → ℕ) (v : Fraction) → AreDeclarable us → 0 < S
     → Encloses S K lo hi (total us)

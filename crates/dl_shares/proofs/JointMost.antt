@@ -1,5 +1,5 @@
 -- No outcome of a unit is above the total, so its joint mean at x is at most x, and at most x times the probability of x.
-use Rattle.dl_shares.proofs.Common.{ℕ, ◌*◌, ◌<◌, ◌≤◌, sym, subst, subst₂, List, length, Fraction, whole, ◌over◌, Series, AtMost, AtLeast, Quantity, One, Point, Joint, Loss, AreDeclared, score, sum_over_outcomes, partial_sums}
+use Rattle.dl_shares.proofs.Common.{ℕ, ◌≤ℚ◌, ◌*ℚ◌, ◌*◌, ◌<◌, ◌≤◌, sym, subst, List, length, Fraction, whole, ◌over◌, Series, AtMost, AtLeast, Quantity, One, Point, Joint, Loss, AreDeclared, score, sum_over_outcomes, partial_sums}
 use Rattle.dl_plan.specs.declared.plan.Plan.{Plan}
 use Rattle.dl_plan.specs.Prelude.{IsValid}
 use Rattle.dl_model.specs.Plans.{declared}
@@ -33,3 +33,10 @@ plan_within plan h =
     let same = declared_weighed plan.common plan.units in
     subst AreWithin same (weighed_within (length plan.units) (weighing_of plan.common plan.units)
     (is_weighing plan.common plan.units) (subst IsDistribution (sym same) (plan_distribution plan h)))
+
+-- no outcome of a unit of a plan is above the total
+pub plan_joint_le : (plan : Plan) → IsValid plan → (i x N : ℕ)
+    → declared plan (Joint i x) N ≤ℚ whole x *ℚ declared plan (Point x) N
+plan_joint_le plan h = subst (λ D. (i x N : ℕ) → D (Joint i x) N ≤ℚ whole x *ℚ D (Point x) N)
+    (declared_weighed plan.common plan.units) (joint_le_point (length plan.units) (weighing_of plan.common plan.units)
+    (is_weighing plan.common plan.units))

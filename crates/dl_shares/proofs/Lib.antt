@@ -19,7 +19,12 @@ mod JointSums
 mod UnitMeans
 mod ShareEnds
 mod Widths
+mod TailParts
+mod TailBrackets
+mod TailWidths
 mod Absent
 mod ClaimEnds
 mod ClaimSums
 mod JointMost
+mod TailJoints
+mod TailEnds

@@ -4,5 +4,6 @@ pub mod Claims
 pub mod Settled
 pub mod Source
 pub mod Sums
+pub mod Tails
 pub mod Widths
 pub mod Prelude

@@ -1,12 +1,14 @@
 -- The joint means of a unit, and what they are drawn from.
-use Rattle.std.specs.Prelude.{ℕ, ◌*◌, ◌/◌, ◌^◌, ◌<◌, min, length}
+use Rattle.std.specs.Prelude.{ℕ, ◌*◌, ◌/◌, ◌^◌, ◌<◌, min, List, length}
 use Rattle.std.specs.Int.{div_ceil}
 use Rattle.dl_exact.specs.Fraction.{Fraction, ◌over◌}
+use Rattle.dl_iv.specs.declared.interval.Iv.{Iv}
 use Rattle.dl_grid.specs.Cells.{low_at, high_at, spread}
 use Rattle.dl_grid.specs.Width.{convolution_spread}
+use Rattle.dl_plan.specs.declared.plan.Plan.{Plan}
 use Rattle.dl_plan.specs.Prelude.{thinned_mean}
 use Rattle.dl_budget.specs.Shared.{shared_joint_budget}
-use Rattle.dl_model.specs.Prelude.{Series, Holds, Quantity, One, Joint}
+use Rattle.dl_model.specs.Prelude.{Series, Holds, Quantity, One, Point, Joint, Outcome, declared}
 use Rattle.dl_shares.specs.Amounts.{amounts_to, claims_mean}
 use Rattle.dl_shares.specs.Weighted.{low_weighted, high_weighted}
 use Rattle.dl_shares.specs.declared.source.ShareSource.{ShareSource}
@@ -53,3 +55,13 @@ joint_width (OverClaims c) =
 abbrev pub GivesJoints : {B : ℕ} → ShareSource B → (Quantity → Series) → ℕ → Type 0
 GivesJoints source declares i = (x : ℕ) → x < reach source
     → Holds (declares (Joint i x)) (declares One) (exact_low source x) (exact_high source x)
+
+-- What the share of unit i of a plan is drawn from: its joint means, the grid of the total, and its
+-- mean.
+pub record IsSharedBy {B : ℕ} (plan : Plan) (i : ℕ) (source : ShareSource B) (grid : List (Iv B))
+    (ends : Iv B) : Type 0 where
+  pub joints : GivesJoints source (declared plan) i
+  pub total : (x : ℕ) → x < length grid → Holds (declared plan (Point x)) (declared plan One)
+      (low_at grid x over 2 ^ B) (high_at grid x over 2 ^ B)
+  pub mean : Holds (declared plan (Outcome i)) (declared plan One) (ends.lo over 2 ^ B)
+      (ends.hi over 2 ^ B)

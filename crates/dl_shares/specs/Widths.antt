@@ -17,3 +17,8 @@ abbrev pub share_width : (p : Fraction) (mean cells joint total : ℕ) → ℕ
 share_width p mean cells joint total = up
     (((mean + joint + 2 * cells + cells * (total + 2) + conditional_width cells joint total + 4) * p.den)
     over (p.den - p.num)) + 4
+
+-- its share at every quantile, from the same
+abbrev pub whole_share_width : (p : Fraction) (mean cells joint total : ℕ) → ℕ
+whole_share_width p mean cells joint total = up
+    (((mean + 4 * joint + 6 * (cells * total) + 4 * cells + 4) * p.den) over (p.den - p.num)) + 4

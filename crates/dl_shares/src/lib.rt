@@ -35,6 +35,7 @@ mod settled;
 mod shares;
 mod source;
 mod sums;
+mod tails;
 mod weighted;
 
 pub use beside::joint_mean;

@@ -44,7 +44,7 @@ fn share_at<const B: u32>(total: &Distribution<B>, joint: Iv<B>, q: u32) -> Iv<B
 }
 
 /// The difference `cdf - p`, 0 where `cdf` is below `p`.
-fn above<const B: u32>(cdf: Iv<B>, p: Frac) -> Iv<B>
+pub(crate) fn above<const B: u32>(cdf: Iv<B>, p: Frac) -> Iv<B>
     requires below_one { p <ℚ whole 1 }
     requires small { p.den ≤ most_level_den }
     ensures low { result.lo ≡ cdf.entry.lo - div_ceil (2 ^ B * p.num) p.den }
