@@ -116,7 +116,7 @@ format_of text = unwrap_or (format_named text) Plain
 abbrev pub rules_of : Text → Rules
 rules_of text = unwrap_or (rules_named text) Standard
 
--- the rules that the values of the options name, wherever they stand among the words
+-- the rules that a text is held to and an ask is read by, wherever among the words they are named
 abbrev pub rules_in : Values → Rules
 rules_in values = or_default Standard rules_of (values (codes "rules"))
 
