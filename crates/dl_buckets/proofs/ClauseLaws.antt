@@ -1,5 +1,5 @@
 -- Layers that keep the rules make a clause where their shares are fine.
-use Rattle.dl_buckets.proofs.Common.{le-leb, Clause, or_parts, false_from_ne_true, leb-true, ◌≡◌, ◌∙◌, ℕ, zero, suc, ◌*◌, ◌^◌, ◌<◌, ◌≤◌, List, [], ◌∷◌, ◌++◌, length, map, take, get_or, Option, None, true, false, sym, ap, subst, arith, append_assoc, mul-pos, inl, inr, Some, All, list_any, append-nil, get_or-map, length-map, length-take, All-map, list_any_at, Fraction, whole, ◌/ℚ◌, ◌≤ℚ◌, quotient_is, CedeLayer, IsFineTo30Bits, common_denominator, Overlap, IsClause, common_pos, den_divides, GridCeded, GridClause, in_turn, is_fine, is_above, share_of, shares_of, ceded_layer, clause_of, overlaps, share_exceeds, share_above_one_in, overlap_in, IsClauseLayered, else_first, else_second, none_each, not_at}
+use Rattle.dl_buckets.proofs.Common.{le-leb, Clause, or_parts, false_from_ne_true, leb-true, ◌≡◌, ◌∙◌, ℕ, zero, suc, ◌*◌, ◌^◌, ◌<◌, ◌≤◌, List, [], ◌∷◌, ◌++◌, length, map, take, get_or, Option, None, true, false, sym, ap, subst, arith, append_assoc, mul-pos, inl, inr, Some, All, list_any, append-nil, get_or-map, length-map, length-take, All-map, list_any_at, Fraction, whole, ◌/ℚ◌, ◌≤ℚ◌, quotient_is, CedeLayer, IsFineTo30Bits, common_denominator, Overlap, IsClause, common_pos, den_divides, GridCeded, GridClause, in_turn, is_fine, is_above, share_of, shares_of, ceded_layer, clause_of, overlaps, share_exceeds, share_above_one_in, overlap_in, IsClauseLayered, else_first, else_second, none_each, not_at, most_parts}
 use Rattle.std.proofs.lemmas.Bool.{ltb-false}
 use Rattle.dl_plan.specs.Clause.{layer_shares}
 use Rattle.std.specs.List.{AllPairs}
@@ -21,8 +21,8 @@ use Rattle.dl_buckets.proofs.Turns.{yes_overlap, overlap_at, share_at}
 
 -- a share with a great denominator is not fine
 pub one_too_fine : (xs : List Fraction) (i : ℕ) (d : Fraction) → i < length xs → 2 ^ 30 < (get_or xs i d).den
-    → is_fine xs ≡ false
-one_too_fine xs i d h far = false_from_ne_true (is_fine xs)
+    → is_fine most_parts xs ≡ false
+one_too_fine xs i d h far = false_from_ne_true (is_fine most_parts xs)
     (λ yes. let le : (get_or xs i d).den ≤ common_denominator xs = le_of_dvd (common_pos xs) (den_divides 1 xs i d h) in
     omega (arith, le, leb-true (common_denominator xs) (2 ^ 30) yes, far))
 
@@ -89,7 +89,7 @@ pairs_map R f (y ∷ ys) h i j d p q =
 
 -- a clause has fine shares
 pub clause_fine : (c : GridClause) (clause : Clause) → (clause ≡ clause_of c) × IsClause clause
-    → is_fine (shares_of c) ≡ true
+    → is_fine most_parts (shares_of c) ≡ true
 clause_fine c clause told = le-leb (common_denominator (shares_of c)) (2 ^ 30) (subst IsFineTo30Bits
     (ap (λ (d : Clause). layer_shares d.1) told.0 ∙ map-map (λ (l : CedeLayer). l.share) ceded_layer c.layers) told.1.fine)
 
@@ -100,7 +100,7 @@ module _ (c : GridClause) (layered : IsClauseLayered c) where
   unfolding overlap_in
   turned = layered.apart
 
-  pub made_is_clause : is_fine (shares_of c) ≡ true → IsClause (clause_of c)
+  pub made_is_clause : is_fine most_parts (shares_of c) ≡ true → IsClause (clause_of c)
   made_is_clause fine = record {
     some = omega (arith, length-map c.layers ceded_layer, layered.grid.some);
     few = omega (arith, length-map c.layers ceded_layer, layered.grid.few);
@@ -114,5 +114,5 @@ module _ (c : GridClause) (layered : IsClauseLayered c) where
         (leb-true (common_denominator (shares_of c)) (2 ^ 30) fine);
   }
 
-  pub no_clause : (IsClause (clause_of c) → ⊥) → is_fine (shares_of c) ≡ false
-  no_clause none = false_from_ne_true (is_fine (shares_of c)) (λ fine. none (made_is_clause fine))
+  pub no_clause : (IsClause (clause_of c) → ⊥) → is_fine most_parts (shares_of c) ≡ false
+  no_clause none = false_from_ne_true (is_fine most_parts (shares_of c)) (λ fine. none (made_is_clause fine))

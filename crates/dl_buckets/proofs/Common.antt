@@ -1,6 +1,6 @@
 -- The names that the proofs of this crate cite most, passed on from one place. Declares nothing.
 pub use Rattle.std.proofs.Common.{Bool, List, None, Option, Some, [], ap, append_assoc, ap₂, arith, cond, drop, false, filter, flat_map, get_or, inl, inr, length, map, max, mul-pos, nat_lt, not, refl, subst, suc, sym, take, true, zero, zip, ℕ, ◌%◌, ◌&&◌, ◌*◌, ◌++◌, ◌+◌, ◌/◌, ◌<◌, ◌==◌, ◌^◌, ◌||◌, ◌↔◌, ◌∙◌, ◌∷◌, ◌≡◌, ◌≢◌, ◌≤◌, ◌⊎◌}
-pub use Rattle.std.proofs.lemmas.Bool.{cases_lt, eq-eqb, eqb-true, false_from_ne_true, le-leb, le-ltb, leb-true, lt-ltb, ne_eqb, not-false, or_parts}
+pub use Rattle.std.proofs.lemmas.Bool.{cases_lt, eq-eqb, eqb-true, false_from_ne_true, le-leb, le-ltb, leb-true, lt-ltb, and_parts, ne_eqb, not-false, or_parts}
 pub use Rattle.std.proofs.lemmas.Bool.Decides.{eqb_tells, nat_tests}
 pub use Rattle.std.proofs.lemmas.List.{append-nil, get_or-map, length-map, length-take, map-append, map_more, take_all, take_more}
 pub use Rattle.std.proofs.lemmas.List.Elements.{All-append, All-cons, All-head, All-map, All-nil, All-tail, All-weaker}
@@ -33,11 +33,11 @@ pub use Rattle.dl_buckets.proofs.Firsts.{at_item}
 pub use Rattle.dl_buckets.proofs.Nothing.{else_first, else_second, none_each, not_at}
 pub use Rattle.dl_buckets.specs.First.{at_if, first_in, in_turn, within, ◌else◌}
 unfoldable pub use Rattle.dl_buckets.specs.First.{in_turn}
-pub use Rattle.dl_buckets.specs.Lists.{is_above, is_fine, is_not_one, is_one, is_whole, probs_among, probs_in_count, weights_over}
+pub use Rattle.dl_buckets.specs.Lists.{are_fine, is_above, is_fine, is_not_one, is_one, is_whole, probs_among, weights_over}
 pub use Rattle.dl_buckets.specs.declared.grid.ValueList.{ValueList}
 pub use Rattle.dl_buckets.specs.declared.grid.Shares.{Shares}
 pub use Rattle.dl_buckets.specs.Small.{IsShares}
-pub use Rattle.dl_buckets.specs.FineParts.{has_atoms, has_severity, has_shares}
+pub use Rattle.dl_buckets.specs.FineParts.{has_atoms, has_probs, has_severity, has_shares}
 pub use Rattle.dl_buckets.specs.Clauses.{IsMade, ceded_layer, clause_of, made_of, is_off, is_off_multiples, overlaps, share_of, shares_of}
 pub use Rattle.dl_buckets.specs.CheckedClauses.{IsClauseLayered}
 pub use Rattle.dl_buckets.specs.Flaws.{AgreeEarly, AgreeToFirst, AreNone, IsClean, IsRead, IsReadTo, KeepsLists, earlier_flaws, flaws_else, flaws_within, lengths_at, long_at, no_flaws, spans, range_at, sum_at}
@@ -64,7 +64,9 @@ pub use Rattle.dl_buckets.specs.Reading.{flaws_beside, flaws_of_amount, flaws_of
 pub use Rattle.dl_buckets.specs.Values.{AreTooMany, if_there, spanned_in, spanned_item, spanned_range, spanned_values, range_of, value, value_or, values_of}
 pub use Rattle.dl_buckets.specs.declared.flaws.Flaws.{Flaws}
 pub use Rattle.dl_buckets.specs.declared.flaws.Gridded.{Gridded}
-pub use Rattle.dl_limits.specs.Limits.{most_amount, most_atoms, most_layers, most_range_parts, most_values}
+pub use Rattle.dl_limits.specs.Limits.{most_amount, most_atoms, most_layers, most_parts, most_range_parts, most_values}
+pub use Rattle.dl_limits.specs.Rules.{AreBounds}
+pub use Rattle.dl_limits.specs.declared.rules.Bounds.{Bounds}
 pub use Rattle.dl_sev.specs.Buckets.{HasPartsOf18Digits, buckets}
-pub use Rattle.dl_sev.specs.Ranges.{IsRange, PassesRoom, range_denominator, range_values, steps_in, value_at}
+pub use Rattle.dl_sev.specs.Ranges.{IsRange, range_denominator, range_values, steps_in, value_at}
 pub use Rattle.dl_sev.specs.declared.range.Range.{Range}

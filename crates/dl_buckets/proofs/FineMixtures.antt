@@ -1,5 +1,5 @@
 -- The products of the atoms of a mixture are fine exactly where those of the text are.
-use Rattle.dl_buckets.proofs.Common.{refl, ℕ, ◌≡◌, ◌∙◌, ◌+◌, ◌<◌, ◌^◌, ◌==◌, List, [], ◌∷◌, ◌++◌, map, true, false, le-leb, cond, sym, ap, subst, arith, inl, inr, AllZip, All, ◌∣◌, eqb_tells, map-append, All-nil, All-head, All-tail, All-append, All-map, sum_by-cons, Fraction, whole, ◌over◌, ◌*ℚ◌, times_zero, Item, Sev, IsFineTo30Bits, common_denominator, weight_at, Pairs, probability, pairs_of, HasDistribution, den_divides, whole_den, Weights, IsWeighing, scaled, mixture_of, mixture, is_fine, shares_in_mixture}
+use Rattle.dl_buckets.proofs.Common.{refl, ℕ, ◌≡◌, ◌∙◌, ◌+◌, ◌<◌, ◌==◌, List, [], ◌∷◌, ◌++◌, map, true, false, le-leb, cond, sym, ap, subst, arith, inl, inr, AllZip, All, ◌∣◌, eqb_tells, map-append, All-nil, All-head, All-tail, All-append, All-map, sum_by-cons, Fraction, whole, ◌over◌, ◌*ℚ◌, times_zero, Item, Sev, common_denominator, weight_at, Pairs, probability, pairs_of, HasDistribution, den_divides, whole_den, Weights, IsWeighing, scaled, mixture_of, mixture, is_fine, shares_in_mixture, ◌≤◌}
 use Rattle.dl_plan.proofs.CommonDenominators.{common_from_divides}
 use Rattle.dl_exact.proofs.Denominators.{over_zero as zero_over}
 use Rattle.dl_plan.proofs.Means.{severity_total as total_pos}
@@ -58,21 +58,21 @@ mixture_back P t atoms ws lists means none all = All-nil P
 
 module _ (atoms : List Sev) (weights : Weights) (probs : List Fraction) (lists : List Pairs)
     (is : IsWeighing probs weights) (means : AllZip HasDistribution atoms lists) where
-  fine_back : IsFineTo30Bits (map (λ pair. pair.1) (mixture atoms weights)) → IsFineTo30Bits
-      (shares_in_mixture probs lists)
-  fine_back fine =
+  fine_back : (most : ℕ) → common_denominator (map (λ pair. pair.1) (mixture atoms weights)) ≤ most
+      → common_denominator (shares_in_mixture probs lists) ≤ most
+  fine_back most fine =
       let all : List Fraction = map (λ pair. pair.1) (mixture atoms weights) in
       let c : ℕ = common_denominator all in
-      fine_with (shares_in_mixture probs lists) all
+      fine_with most (shares_in_mixture probs lists) all
       (subst (λ ws. All (λ x. x.den ∣ c) (shares_in_mixture ws lists)) is.shares
       (mixture_back (λ x. x.den ∣ c) weights.total atoms weights.weights lists means
       (subst (λ d. d ∣ c) (sym (whole_den 0)) (common_from_divides 1 all)) (den_divides 1 all))) fine
 
-  pub mixed_fine : IsFineTo30Bits (map (λ pair. pair.1) (mixture atoms weights))
-      → is_fine (shares_in_mixture probs lists) ≡ true
-  mixed_fine fine = le-leb (common_denominator (shares_in_mixture probs lists)) (2 ^ 30) (fine_back fine)
+  pub mixed_fine : (most : ℕ) → common_denominator (map (λ pair. pair.1) (mixture atoms weights)) ≤ most
+      → is_fine most (shares_in_mixture probs lists) ≡ true
+  mixed_fine most fine = le-leb (common_denominator (shares_in_mixture probs lists)) most (fine_back most fine)
 
-  pub mixed_coarse : ¬ IsFineTo30Bits (map (λ pair. pair.1) (mixture atoms weights))
-      → is_fine (shares_in_mixture probs lists) ≡ false
-  mixed_coarse coarse = coarse_test (shares_in_mixture probs lists)
-      (λ fine. coarse (mixture_fine atoms weights probs lists is means fine))
+  pub mixed_coarse : (most : ℕ) → ¬ common_denominator (map (λ pair. pair.1) (mixture atoms weights)) ≤ most
+      → is_fine most (shares_in_mixture probs lists) ≡ false
+  mixed_coarse most coarse = coarse_test most (shares_in_mixture probs lists)
+      (λ fine. coarse (mixture_fine atoms weights probs lists is means most fine))

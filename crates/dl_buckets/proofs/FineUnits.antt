@@ -1,11 +1,11 @@
 -- What a unit that keeps all rules on its severity gives.
-use Rattle.dl_buckets.proofs.Common.{leb-true, get_or, ◌≡◌, ◌^◌, ◌||◌, ◌&&◌, nat_tests, not, Bool, true, false, Option, Some, None, refl, sym, subst, All, IfSome, ◌≤◌, ℕ, Item, arith, length, length-map, Fraction, IsClause, IsClauseLayered, IsSevWithin, final_severity, made_of, GridSev, IsGridSev, has_atoms, has_severity, weights_of, probs_in_count, GridClause, GridUnit, IsFineTo30Bits, IsWhole, common_denominator, Pairs, HasDistribution, pairs_of, kept, Sev, is_fine, clause_of, shares_of, is_off, severity_in_layer, ceded_pairs, mixture_shares, support, off_grid_cession, AreProbabilities, atom_probs, not-false}
+use Rattle.dl_buckets.proofs.Common.{leb-true, get_or, ◌≡◌, ◌||◌, ◌&&◌, nat_tests, not, Bool, true, false, Option, Some, None, refl, sym, subst, All, IfSome, ◌≤◌, ℕ, Item, arith, length, length-map, Fraction, IsClause, IsClauseLayered, IsSevWithin, final_severity, made_of, GridSev, has_atoms, has_severity, weights_of, GridClause, GridUnit, IsFineTo30Bits, IsWhole, common_denominator, Pairs, HasDistribution, pairs_of, kept, Sev, is_fine, clause_of, shares_of, is_off, severity_in_layer, ceded_pairs, mixture_shares, support, off_grid_cession, AreProbabilities, atom_probs, not-false, are_fine, Bounds, AreBounds, has_probs, most_parts}
 use Rattle.dl_buckets.specs.FineParts.{has_shares}
 use Rattle.dl_buckets.specs.CheckedUnit.{IsFineSev}
 use Rattle.dl_buckets.proofs.PastEdges.{whole_unless}
 use Rattle.dl_buckets.proofs.Values.{never}
 use Rattle.std.proofs.lemmas.List.Sums.{AllPass-from_list_all}
-use Rattle.dl_buckets.proofs.Shared.{among_probabilities}
+use Rattle.dl_buckets.proofs.Shared.{fine_probabilities}
 use Rattle.dl_buckets.specs.Rules.{off_grid_amounts}
 use Rattle.dl_buckets.specs.Severity.{made_pairs, KeepsWhole}
 use Rattle.dl_buckets.proofs.Meaning.{alike_own, mapped_means, means_alike}
@@ -16,9 +16,11 @@ use Rattle.dl_buckets.proofs.Near.{ceded_near, in_layer_few, in_layer_near, item
 use Rattle.dl_buckets.proofs.OffGrid.{made_whole, occurrence_none}
 
 -- the parts of a severity that are fine
-pub parts_of : (s : GridSev) → has_severity s ≡ true
-    → (has_atoms s ≡ true) × (is_fine (weights_of s) ≡ true) × (is_fine (mixture_shares s) ≡ true)
-parts_of s e = three (has_atoms s) (is_fine (weights_of s)) (is_fine (mixture_shares s)) e
+pub parts_of : (bounds : Bounds) (s : GridSev) → has_severity bounds s ≡ true
+    → (has_atoms bounds s ≡ true) × (are_fine bounds.parts (weights_of s) ≡ true)
+    × (is_fine bounds.parts (mixture_shares s) ≡ true)
+parts_of bounds s e =
+    three (has_atoms bounds s) (are_fine bounds.parts (weights_of s)) (is_fine bounds.parts (mixture_shares s)) e
   where
     three : (a b c : Bool) → (a && b && c) ≡ true → (a ≡ true) × (b ≡ true) × (c ≡ true)
     three a b c h = grind (arith, nat_tests, h)
@@ -29,33 +31,37 @@ pub record IsSevShared (s : GridSev) : Type 0 where
   pub weights : AreProbabilities (weights_of s)
 
 -- a severity with fine parts has probabilities
-pub sev_shared : (s : GridSev) → IsGridSev s → has_severity s ≡ true → IsSevShared s
-sev_shared s grid e = record {
-  atoms = λ k d h. among_probabilities _ (get_or s.atoms k d).probs (grid.atoms k d h).some (grid.atoms k d h).few
-      (grid.atoms k d h).probs (AllPass-from_list_all _ s.atoms (parts_of s e).0 k d h);
-  weights = among_probabilities _ s.weights grid.some (omega (arith, grid.few)) grid.weights (parts_of s e).1;
+pub sev_shared : (bounds : Bounds) → AreBounds bounds → (s : GridSev) → has_severity bounds s ≡ true → IsSevShared s
+sev_shared bounds within s e = record {
+  atoms = λ k d h. fine_probabilities bounds.parts _ within.parts
+      (AllPass-from_list_all _ s.atoms (parts_of bounds s e).0 k d h);
+  weights = fine_probabilities bounds.parts (weights_of s) within.parts (parts_of bounds s e).1;
 }
 
 none_of : (a b c d : Bool) → (a || b || c || d) ≡ false → (b ≡ false) × (d ≡ false)
 none_of a b c d h = grind (arith, nat_tests, h)
 
-module _ (u : GridUnit) (fine : IsFineSev u) where
-  facts : (not (has_shares u.occ) ≡ false) × (not (has_severity u.sev) ≡ false)
+module _ {bounds : Bounds} (u : GridUnit) (fine : IsFineSev bounds u) where
+  facts : (not (has_shares u.occ) ≡ false) × (not (has_severity bounds u.sev) ≡ false)
   facts =
-      none_of (not (is_fine (probs_in_count u.count))) (not (has_shares u.occ)) (not (has_shares u.agr))
-      (not (has_severity u.sev)) fine.fine
+      none_of (not (has_probs bounds u.count)) (not (has_shares u.occ)) (not (has_shares u.agr))
+      (not (has_severity bounds u.sev)) fine.fine
 
-  pub severity_fine : has_severity u.sev ≡ true
+  pub severity_fine : has_severity bounds u.sev ≡ true
   severity_fine = not-false _ facts.1
 
   pub unit_shared : IsSevShared u.sev
-  unit_shared = sev_shared u.sev fine.layered.weighted.grid.sev severity_fine
+  unit_shared = sev_shared bounds fine.allowed u.sev severity_fine
 
   pub mixture_fine : IsFineTo30Bits (mixture_shares u.sev)
-  mixture_fine = leb-true (common_denominator (mixture_shares u.sev)) (2 ^ 30) (parts_of u.sev severity_fine).2
+  mixture_fine = omega (
+    arith,
+    fine.allowed.parts,
+    leb-true (common_denominator (mixture_shares u.sev)) bounds.parts (parts_of bounds u.sev severity_fine).2,
+  )
 
   module _ (c : GridClause) (is : u.occ ≡ Some c) where
-    pub shares_fine : is_fine (shares_of c) ≡ true
+    pub shares_fine : is_fine most_parts (shares_of c) ≡ true
     shares_fine = subst (λ o. has_shares o ≡ true) is (not-false _ facts.0)
 
     pub support_whole : All (λ x. IsWhole (kept (clause_of c) x)) (support (severity_in_layer u))

@@ -1,5 +1,5 @@
 -- What a unit without flaws keeps in whole buckets, part by part.
-use Rattle.dl_buckets.proofs.Common.{ℕ, ◌≡◌, ◌∙◌, ◌*◌, ◌≤◌, length, nat_lt, not, Option, Some, None, refl, sym, ap, arith, All, IfSome, length-map, All-map, eqb-true, eq-eqb, not-false, not_at, Fraction, whole, whole_num, whole_den, Span, IsShares, ◌over◌, subst, probs_among, IsClean, flaws_else, number_of, grid_atom, grid_layer, grid_ceded, grid_clause, grid_mixture, GridLayer, IsGridAtom, IsGridSev, IsLayerWithin, IsClauseWithin, IsSevWithin, IsGridClause, IsGridUnit, IsWithin, other_length, most_amount, most_atoms, most_layers, buckets, Numeral, ListAst, Atom, MixAst, IsFormedAtom, IsFormedMixture, IsFormedCession, IsFormedCount, IsFormedUnit, Flaws, flaws_in, flaws_within, earlier_flaws, long_at, grid_shares, limit_value, grid_exposure, grid_freq, grid_count, zero_value, given_zero, flaws_of_numeral, flaws_of_amount, flaws_of_money, flaws_of_list, flaws_of_amounts, flaws_of_shares, flaws_beside, flaws_of_atom, flaws_of_mixture, flaws_of_limit, flaws_of_layer, flaws_of_share, flaws_of_ceded, flaws_of_clause, flaws_of_exposure, flaws_of_count, flaws_of_freq, flaws_of_zero, flaws_of_distribution, is_named, if_there, value, values_of, spanned_values}
+use Rattle.dl_buckets.proofs.Common.{ℕ, ◌≡◌, ◌∙◌, ◌*◌, ◌≤◌, length, nat_lt, not, Option, Some, None, refl, sym, ap, arith, All, IfSome, length-map, All-map, eqb-true, eq-eqb, not-false, not_at, Fraction, whole, whole_num, whole_den, Span, IsShares, ◌over◌, subst, probs_among, IsClean, flaws_else, number_of, grid_atom, grid_layer, grid_ceded, grid_clause, grid_mixture, GridLayer, IsGridAtom, IsGridSev, IsLayerWithin, IsClauseWithin, IsSevWithin, IsGridClause, IsGridUnit, IsWithin, other_length, most_amount, most_atoms, most_layers, buckets, Numeral, ListAst, Atom, MixAst, IsFormedAtom, IsFormedMixture, IsFormedCession, IsFormedCount, IsFormedUnit, Flaws, flaws_in, flaws_within, earlier_flaws, long_at, grid_shares, limit_value, grid_exposure, grid_freq, grid_count, zero_value, given_zero, flaws_of_numeral, flaws_of_amount, flaws_of_money, flaws_of_list, flaws_of_amounts, flaws_of_shares, flaws_beside, flaws_of_atom, flaws_of_mixture, flaws_of_limit, flaws_of_layer, flaws_of_share, flaws_of_ceded, flaws_of_clause, flaws_of_exposure, flaws_of_count, flaws_of_freq, flaws_of_zero, flaws_of_distribution, is_named, if_there, value, values_of, spanned_values, Bounds, AreBounds}
 use Rattle.std.proofs.Math.Nat.{le_trans}
 use Rattle.std.proofs.lemmas.Bool.{ltb-false}
 use Rattle.std.proofs.lemmas.Option.{IfSome_then}
@@ -33,24 +33,21 @@ if_there_is f g P each (Some x) clean = each x clean
 
 -- ---- the lists of probabilities
 
-shares_is : (l : ListAst) → IsClean (flaws_of_shares l) → IsShares (grid_shares l)
-shares_is l clean = record {
-  weights = refl;
-  one = not_at _ l.span (each_none _ (clean_second (flaws_of_list l) _ clean)).sum;
-}
+shares_is : (bounds : Bounds) (l : ListAst) → IsClean (flaws_of_shares bounds l) → IsShares (grid_shares l)
+shares_is bounds l clean = record { weights = refl }
 
-module _ (n : ℕ) where
-  beside_is : (o : Option ListAst) → IsClean (flaws_within (flaws_beside n) o) → IfSome (if_there grid_shares o) IsShares
-  beside_is = if_there_is (flaws_beside n) grid_shares IsShares (λ l clean. shares_is l (clean_first (flaws_of_shares l) _ clean))
+module _ (bounds : Bounds) (n : ℕ) where
+  beside_is : (o : Option ListAst) → IsClean (flaws_within (flaws_beside bounds n) o) → IfSome (if_there grid_shares o) IsShares
+  beside_is = if_there_is (flaws_beside bounds n) grid_shares IsShares (λ l clean. shares_is bounds l (clean_first (flaws_of_shares bounds l) _ clean))
 
   -- as many as the values
-  beside_length : (o : Option ListAst) → IsClean (flaws_within (flaws_beside n) o)
+  beside_length : (o : Option ListAst) → IsClean (flaws_within (flaws_beside bounds n) o)
       → length (probs_among n (if_there grid_shares o)) ≡ n
   beside_length None clean = length-replicate n (1 over n)
   beside_length (Some l) clean =
       length-map (spanned_values l) (λ pair. pair.0)
       ∙ sym (eqb-true n (length (spanned_values l)) (not-false _ (not_at _ l.span
-      (each_none _ (clean_second (flaws_of_shares l) _ clean)).lengths)))
+      (each_none _ (clean_second (flaws_of_shares bounds l) _ clean)).lengths)))
 
 -- ---- amounts of money
 
@@ -71,24 +68,24 @@ money_small most bs span n clean =
 abbrev too_long : MixAst → Flaws
 too_long m = long_at (at_if (nat_lt most_atoms (length m.atoms)) m.span)
 
-module _ (most : ℕ) (bs : Fraction) where
+module _ (bounds : Bounds) (most : ℕ) (bs : Fraction) where
   -- ---- the severity
 
-  atom_within : (a : Atom) → IsClean (flaws_of_atom most bs a)
+  atom_within : (a : Atom) → IsClean (flaws_of_atom bounds most bs a)
       → All (λ n. n ≤ most) (grid_atom bs a).amounts
   atom_within a clean =
       let each = clean_each (λ pair. flaws_of_amount most bs pair.0 pair.1) (spanned_values a.values)
-      (clean_second (flaws_of_list a.values) _ (clean_first (flaws_of_amounts most bs a.values) _ clean)) in
+      (clean_second (flaws_of_list bounds a.values) _ (clean_first (flaws_of_amounts bounds most bs a.values) _ clean)) in
       All-map (λ n. n ≤ most) (number_of bs) (values_of a.values)
       (All-map (λ x. number_of bs x ≤ most) (λ pair. pair.0) (spanned_values a.values)
       (λ k d h. amount_small most bs _ _ (each k d h)))
 
-  mixture_atoms : (m : MixAst) → IsClean (flaws_of_mixture most bs m)
-      → All (λ a. IsClean (flaws_of_atom most bs a)) m.atoms
-  mixture_atoms m clean = clean_each (flaws_of_atom most bs) m.atoms
-      (clean_first (flaws_in (flaws_of_atom most bs) m.atoms) _ (clean_second (too_long m) _ clean))
+  mixture_atoms : (m : MixAst) → IsClean (flaws_of_mixture bounds most bs m)
+      → All (λ a. IsClean (flaws_of_atom bounds most bs a)) m.atoms
+  mixture_atoms m clean = clean_each (flaws_of_atom bounds most bs) m.atoms
+      (clean_first (flaws_in (flaws_of_atom bounds most bs) m.atoms) _ (clean_second (too_long m) _ clean))
 
-  sev_within : (m : MixAst) → IsClean (flaws_of_mixture most bs m) → IsSevWithin most (grid_mixture bs m)
+  sev_within : (m : MixAst) → IsClean (flaws_of_mixture bounds most bs m) → IsSevWithin most (grid_mixture bs m)
   sev_within m clean = All-map (λ a. All (λ n. n ≤ most) a.amounts) (grid_atom bs) m.atoms
       (λ k d h. atom_within _ (mixture_atoms m clean k d h))
 
@@ -120,37 +117,37 @@ layer_weaker m n l le h = record {
   attach = le_trans h.attach le;
 }
 
-module _ (most : ℕ) (bs : Fraction) (le : most ≤ most_amount) where
-  atom_is : (a : Atom) → IsFormedAtom a → IsClean (flaws_of_atom most bs a) → IsGridAtom (grid_atom bs a)
+module _ (bounds : Bounds) (within : AreBounds bounds) (most : ℕ) (bs : Fraction) (le : most ≤ most_amount) where
+  atom_is : (a : Atom) → IsFormedAtom a → IsClean (flaws_of_atom bounds most bs a) → IsGridAtom (grid_atom bs a)
   atom_is a formed clean =
-      let both = clean_both (flaws_of_amounts most bs a.values) _ clean in
-      let list = list_is a.values formed.values (clean_first (flaws_of_list a.values) _ both.0) in
+      let both = clean_both (flaws_of_amounts bounds most bs a.values) _ clean in
+      let list = list_is bounds within a.values formed.values (clean_first (flaws_of_list bounds a.values) _ both.0) in
       let each = length-map (values_of a.values) (number_of bs) in
       record {
         some = omega (arith, each, list.some);
         few = omega (arith, each, list.few);
-        near = λ k d h. le_trans (atom_within most bs a clean k d h) le;
-        probs = beside_is (length (spanned_values a.values)) a.probs both.1;
+        near = λ k d h. le_trans (atom_within bounds most bs a clean k d h) le;
+        probs = beside_is bounds (length (spanned_values a.values)) a.probs both.1;
         each = subst (λ n. length (probs_among n (if_there grid_shares a.probs)) ≡ n)
             (sym (each ∙ length-map (spanned_values a.values) (λ pair. pair.0)))
-            (beside_length (length (spanned_values a.values)) a.probs both.1);
+            (beside_length bounds (length (spanned_values a.values)) a.probs both.1);
       }
 
-  sev_is : (m : MixAst) → IsFormedMixture m → IsClean (flaws_of_mixture most bs m)
+  sev_is : (m : MixAst) → IsFormedMixture m → IsClean (flaws_of_mixture bounds most bs m)
       → IsGridSev (grid_mixture bs m)
   sev_is m formed clean =
       let each = length-map m.atoms (grid_atom bs) in
       record {
         atoms = All-map IsGridAtom (grid_atom bs) m.atoms
-            (λ k d h. atom_is _ (formed.atoms k d h) (mixture_atoms most bs m clean k d h));
+            (λ k d h. atom_is _ (formed.atoms k d h) (mixture_atoms bounds most bs m clean k d h));
         some = omega (arith, each, formed.some);
         few = omega (
           arith,
           each,
           ltb-false most_atoms (length m.atoms) (not_at _ m.span (each_none _ (clean_first (too_long m) _ clean)).long),
         );
-        weights = if_there_is flaws_of_shares grid_shares IsShares shares_is m.weights
-            (clean_second (flaws_in (flaws_of_atom most bs) m.atoms) _ (clean_second (too_long m) _ clean));
+        weights = if_there_is (flaws_of_shares bounds) grid_shares IsShares (shares_is bounds) m.weights
+            (clean_second (flaws_in (flaws_of_atom bounds most bs) m.atoms) _ (clean_second (too_long m) _ clean));
       }
 
   clause_is : (o : Option Cession) → IfSome o IsFormedCession
@@ -163,7 +160,7 @@ module _ (most : ℕ) (bs : Fraction) (le : most ≤ most_amount) where
       record {
         some = omega (arith, each, formed.some);
         few = omega (arith, each, ltb-false most_layers (length c.layers) (not_at _ c.span (each_none _ long).long));
-        layers = λ k d h. layer_weaker most most_amount _ le (clause_within most bs c clean k d h);
+        layers = λ k d h. layer_weaker most most_amount _ le (clause_within bounds most bs c clean k d h);
       }
 
 -- ---- the count
@@ -187,21 +184,21 @@ zero_is Plain clean = tt
 zero_is (Truncated span) clean = record { num = omega (arith, whole_num 0); den = omega (arith, whole_den 0) }
 zero_is (Modified n span) clean = number_is n clean
 
-count_is : (k : CountAst) → IsFormedCount k → IsClean (flaws_of_count k) → IsClean (flaws_of_distribution k)
+count_is : (bounds : Bounds) → AreBounds bounds → (k : CountAst) → IsFormedCount k → IsClean (flaws_of_count bounds k) → IsClean (flaws_of_distribution k)
     → IsGridCount (grid_count k)
-count_is (Exposed exposure freq zero) formed clean later =
+count_is bounds within (Exposed exposure freq zero) formed clean later =
     (exposure_is exposure clean, freq_is freq (clean_first (flaws_of_freq freq) _ later))
-count_is (Listed values probs span) formed clean later =
-    let both = clean_both (flaws_of_list values) _ clean in
-    (list_is values formed.0 both.0, beside_is (length (spanned_values values)) probs both.1)
+count_is bounds within (Listed values probs span) formed clean later =
+    let both = clean_both (flaws_of_list bounds values) _ clean in
+    (list_is bounds within values formed.0 both.0, beside_is bounds (length (spanned_values values)) probs both.1)
 
-paired_is : (k : CountAst) → IsClean (flaws_of_count k) → count_lengths (grid_count k) ≡ None
+paired_is : (bounds : Bounds) (k : CountAst) → IsClean (flaws_of_count bounds k) → count_lengths (grid_count k) ≡ None
 unfolding other_length
-paired_is (Exposed exposure freq zero) clean = refl
-paired_is (Listed values None span) clean = refl
-paired_is (Listed values (Some l) span) clean =
+paired_is bounds (Exposed exposure freq zero) clean = refl
+paired_is bounds (Listed values None span) clean = refl
+paired_is bounds (Listed values (Some l) span) clean =
     let each = length-map (spanned_values values) (λ pair. pair.0) in
-    let same = beside_length (length (spanned_values values)) (Some l) (clean_second (flaws_of_list values) _ clean) in
+    let same = beside_length bounds (length (spanned_values values)) (Some l) (clean_second (flaws_of_list bounds values) _ clean) in
     ap (λ b. at_if (not b) l.span) (eq-eqb (length (values_of values)) (length (values_of l)) (each ∙ sym same))
 
 given_is : (k : CountAst) → IsClean (flaws_of_distribution k) → IfSome (given_zero k) IsSmall
@@ -210,12 +207,12 @@ given_is (Listed values probs span) clean = tt
 
 -- ---- the unit
 
-module _ (most : ℕ) (bs : Fraction) (u : UnitAst) (m : MixAst) (clean : IsClean (flaws_of most bs u m)) where
+module _ (bounds : Bounds) (most : ℕ) (bs : Fraction) (u : UnitAst) (m : MixAst) (clean : IsClean (flaws_of bounds most bs u m)) where
   abbrev own : Flaws
-  own = flaws_else (flaws_of_count u.count) (flaws_within (flaws_of_layer most bs) u.layer)
+  own = flaws_else (flaws_of_count bounds u.count) (flaws_within (flaws_of_layer most bs) u.layer)
 
   abbrev front : Flaws
-  front = earlier_flaws (is_named u.sev.body) own (flaws_of_mixture most bs m)
+  front = earlier_flaws (is_named u.sev.body) own (flaws_of_mixture bounds most bs m)
 
   parts : IsClean front × IsClean (flaws_within (flaws_of_clause most bs) u.occ)
       × (IsClean (flaws_of_distribution u.count) × IsClean (flaws_within (flaws_of_clause most bs) u.agr))
@@ -225,31 +222,31 @@ module _ (most : ℕ) (bs : Fraction) (u : UnitAst) (m : MixAst) (clean : IsClea
       let terms = clean_both (flaws_within (flaws_of_clause most bs) u.occ) _ outer.1 in
       (outer.0, terms.0, clean_both (flaws_of_distribution u.count) _ terms.1)
 
-  fronts : (IsClean (flaws_of_count u.count) × IsClean (flaws_within (flaws_of_layer most bs) u.layer))
-      × IsClean (flaws_of_mixture most bs m)
+  fronts : (IsClean (flaws_of_count bounds u.count) × IsClean (flaws_within (flaws_of_layer most bs) u.layer))
+      × IsClean (flaws_of_mixture bounds most bs m)
   fronts =
-      let both = clean_earlier (is_named u.sev.body) own (flaws_of_mixture most bs m) parts.0 in
-      (clean_both (flaws_of_count u.count) _ both.0, both.1)
+      let both = clean_earlier (is_named u.sev.body) own (flaws_of_mixture bounds most bs m) parts.0 in
+      (clean_both (flaws_of_count bounds u.count) _ both.0, both.1)
 
   -- no amount passes the most
   pub within_is : IsWithin most (grid_of bs u m)
   unfolding grid_of
   within_is = record {
-    layer = if_there_is (flaws_of_layer most bs) (grid_layer bs) (IsLayerWithin most) (layer_within most bs) u.layer fronts.0.1;
-    sev = sev_within most bs m fronts.1;
-    occ = if_there_is (flaws_of_clause most bs) (grid_clause bs) (IsClauseWithin most) (clause_within most bs) u.occ parts.1;
-    agr = if_there_is (flaws_of_clause most bs) (grid_clause bs) (IsClauseWithin most) (clause_within most bs) u.agr parts.2.1;
+    layer = if_there_is (flaws_of_layer most bs) (grid_layer bs) (IsLayerWithin most) (layer_within bounds most bs) u.layer fronts.0.1;
+    sev = sev_within bounds most bs m fronts.1;
+    occ = if_there_is (flaws_of_clause most bs) (grid_clause bs) (IsClauseWithin most) (clause_within bounds most bs) u.occ parts.1;
+    agr = if_there_is (flaws_of_clause most bs) (grid_clause bs) (IsClauseWithin most) (clause_within bounds most bs) u.agr parts.2.1;
   }
 
-  pub grid_is : most ≤ most_amount → IsFormedUnit u → IsFormedMixture m → IsGridUnit (grid_of bs u m)
+  pub grid_is : AreBounds bounds → most ≤ most_amount → IsFormedUnit u → IsFormedMixture m → IsGridUnit (grid_of bs u m)
   unfolding grid_of
-  grid_is le formed mixed = record {
-    count = count_is u.count formed.count fronts.0.0 parts.2.0;
-    paired = paired_is u.count fronts.0.0;
+  grid_is within le formed mixed = record {
+    count = count_is bounds within u.count formed.count fronts.0.0 parts.2.0;
+    paired = paired_is bounds u.count fronts.0.0;
     layer = if_there_is (flaws_of_layer most bs) (grid_layer bs) (IsLayerWithin most_amount)
-        (λ l own. layer_weaker most most_amount _ le (layer_within most bs l own)) u.layer fronts.0.1;
-    sev = sev_is most bs le m mixed fronts.1;
+        (λ l own. layer_weaker most most_amount _ le (layer_within bounds most bs l own)) u.layer fronts.0.1;
+    sev = sev_is bounds within most bs le m mixed fronts.1;
     zero = given_is u.count parts.2.0;
-    occ = clause_is most bs le u.occ formed.occ parts.1;
-    agr = clause_is most bs le u.agr formed.agr parts.2.1;
+    occ = clause_is bounds within most bs le u.occ formed.occ parts.1;
+    agr = clause_is bounds within most bs le u.agr formed.agr parts.2.1;
   }

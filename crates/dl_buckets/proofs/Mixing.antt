@@ -1,5 +1,5 @@
 -- The severities of the atoms, and their mixture, mean what the text says.
-use Rattle.dl_buckets.proofs.Common.{◌≡◌, ◌∙◌, ℕ, ◌+◌, ◌<◌, List, [], ◌∷◌, ◌++◌, map, zip, length, take, get_or, sym, ap, subst, AllZip, All, ◌∣◌, length-map, map_more, Fraction, ◌over◌, Sev, IsFineTo30Bits, common_denominator, Pairs, probability, HasDistribution, den_divides, Weights, IsWeighing, weighed, mixture, mixed, shares_in_mixture}
+use Rattle.dl_buckets.proofs.Common.{◌≡◌, ◌∙◌, ℕ, ◌+◌, ◌<◌, List, [], ◌∷◌, ◌++◌, map, zip, length, take, get_or, sym, ap, subst, AllZip, All, ◌∣◌, length-map, map_more, Fraction, ◌over◌, Sev, common_denominator, Pairs, probability, HasDistribution, den_divides, Weights, IsWeighing, weighed, mixture, mixed, shares_in_mixture, ◌≤◌}
 use Rattle.std.proofs.lemmas.Slice.Zip.{all_zipped_more, AllZip-long, firsts-zip as zipped_firsts, seconds-zip as zipped_seconds}
 use Rattle.dl_sev.proofs.Mixed.{seconds, weighed-back}
 use Rattle.dl_buckets.proofs.Shared.{fine_with}
@@ -42,11 +42,11 @@ module _ (atoms : List Sev) (weights : Weights) (shares : List Fraction) (lists 
   mixture_means made h x = h x ∙ mixture_alike weights.total atoms weights.weights lists means x
       ∙ ap (λ ws. probability (mixed ws lists) x) is.shares
 
-  pub mixture_fine : IsFineTo30Bits (shares_in_mixture shares lists) → IsFineTo30Bits
-      (map (λ pair. pair.1) (mixture atoms weights))
-  mixture_fine fine =
+  pub mixture_fine : (most : ℕ) → common_denominator (shares_in_mixture shares lists) ≤ most
+      → common_denominator (map (λ pair. pair.1) (mixture atoms weights)) ≤ most
+  mixture_fine most fine =
       let all : List Fraction = shares_in_mixture shares lists in
-      fine_with (map (λ pair. pair.1) (mixture atoms weights)) all
+      fine_with most (map (λ pair. pair.1) (mixture atoms weights)) all
       (mixture_products (λ x. x.den ∣ common_denominator all) weights.total atoms weights.weights lists means
       (subst (λ ws. All (λ x. x.den ∣ common_denominator all) (shares_in_mixture ws lists)) (sym is.shares)
       (den_divides 1 all))) fine

@@ -1,5 +1,5 @@
 -- Whether the clauses of a unit map whole amounts to whole amounts.
-use Rattle.dl_buckets.proofs.Common.{ℕ, ◌+◌, ◌≡◌, ◌∙◌, ◌<◌, ◌++◌, map, take, drop, length, get_or, true, false, List, Option, Some, None, refl, sym, ap, subst, list_any, MatchOption, Fraction, whole, GridClause, IsWhole, Clause, kept, whole_num, is_fine, clause_of, made_of, shares_of, is_off, is_off_multiples, ceded_pairs, support, Pairs, common_amount_of, has_shares, else_first, else_second, not_at}
+use Rattle.dl_buckets.proofs.Common.{ℕ, ◌+◌, ◌≡◌, ◌∙◌, ◌<◌, ◌++◌, map, take, drop, length, get_or, true, false, List, Option, Some, None, refl, sym, ap, subst, list_any, MatchOption, Fraction, whole, GridClause, IsWhole, Clause, kept, whole_num, is_fine, clause_of, made_of, shares_of, is_off, is_off_multiples, ceded_pairs, support, Pairs, common_amount_of, has_shares, else_first, else_second, not_at, most_parts}
 use Rattle.std.proofs.lemmas.List.{get_or_default}
 use Rattle.std.proofs.Math.ListN.{set}
 use Rattle.std.proofs.lemmas.List.Edits.{map_over_more}
@@ -24,10 +24,10 @@ module _ (clause : Clause) (xs ys : List ℕ) (i : ℕ) (lt : i < length xs)
 
 -- ---- clauses that break no rule
 
-pub made_whole : (c : GridClause) → is_fine (shares_of c) ≡ true → made_of (Some c) ≡ Whole (clause_of c) c.span
+pub made_whole : (c : GridClause) → is_fine most_parts (shares_of c) ≡ true → made_of (Some c) ≡ Whole (clause_of c) c.span
 made_whole c fine = rw fine refl
 
-pub occurrence_none : (c : GridClause) (agr : MadeClause) (xs : List ℕ) → is_fine (shares_of c) ≡ true
+pub occurrence_none : (c : GridClause) (agr : MadeClause) (xs : List ℕ) → is_fine most_parts (shares_of c) ≡ true
     → off_grid_amounts (made_of (Some c)) agr xs ≡ None → list_any (is_off (clause_of c)) xs ≡ false
 occurrence_none c agr xs fine none = not_at _ c.span (else_first _ _ (rw (made_whole c fine) at none))
 
@@ -39,6 +39,6 @@ sums_none (Some c) agr ps has none =
     subst (λ xs. off_grid_sums agr xs ≡ None) (sym (support-mapped (λ x. (kept (clause_of c) x).num) ps))
     (else_second _ _ (rw (made_whole c has) at none))
 
-pub multiples_none : (c : GridClause) (xs : List ℕ) → is_fine (shares_of c) ≡ true
+pub multiples_none : (c : GridClause) (xs : List ℕ) → is_fine most_parts (shares_of c) ≡ true
     → off_grid_sums (made_of (Some c)) xs ≡ None → is_off_multiples (clause_of c) (common_amount_of xs) ≡ false
 multiples_none c xs fine none = not_at _ c.span (rw (made_whole c fine) at none)

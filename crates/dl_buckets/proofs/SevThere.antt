@@ -1,5 +1,5 @@
 -- A unit whose fractions are fine has a final severity.
-use Rattle.dl_buckets.proofs.Common.{ℕ, ◌≡◌, ◌∙◌, ◌≤◌, List, [], ◌∷◌, map, length, Bool, true, false, cond, Option, Some, None, refl, sym, subst, All, AllZip, length-map, All-head, All-tail, whole, Item, Sev, Weights, IsWeighing, IsFineTo30Bits, Pairs, conditioned, HasDistribution, layer, kept, sum_of, mixture, with_amounts, GridAtom, GridLayer, GridClause, GridUnit, clause_of, atom_probs, atom_pairs, weights_of, mixed_pairs, is_conditioned, layer_pairs, severity_in_layer, ceded_pairs, final_severity, IsGridAtom, IsSevWithin, IsSevWeighted, AreProbabilities}
+use Rattle.dl_buckets.proofs.Common.{ℕ, ◌≡◌, ◌∙◌, ◌≤◌, List, [], ◌∷◌, map, length, Bool, true, false, cond, Option, Some, None, refl, sym, subst, All, AllZip, length-map, All-head, All-tail, whole, Item, Sev, Weights, IsWeighing, IsFineTo30Bits, Pairs, conditioned, HasDistribution, layer, kept, sum_of, mixture, with_amounts, GridAtom, GridLayer, GridClause, GridUnit, clause_of, atom_probs, atom_pairs, weights_of, mixed_pairs, is_conditioned, layer_pairs, severity_in_layer, ceded_pairs, final_severity, IsGridAtom, IsSevWithin, IsSevWeighted, AreProbabilities, Bounds, most_parts}
 use Rattle.dl_buckets.specs.CheckedUnit.{IsFineSev}
 use Rattle.dl_sev.proofs.Mixed.{mixture_one}
 use Rattle.dl_buckets.proofs.Parts.{sev_weighted}
@@ -35,7 +35,7 @@ atom_sevs (a ∷ atoms) grid shared =
     (All-tail (λ b. AreProbabilities (atom_probs b)) a atoms shared) in
     (first.0 ∷ rest.0, (first.1, rest.1))
 
-module _ (u : GridUnit) (fine : IsFineSev u) where
+module _ {bounds : Bounds} (u : GridUnit) (fine : IsFineSev bounds u) where
   weighted : IsSevWeighted u.sev
   weighted = sev_weighted u fine.layered.weighted
 
@@ -50,7 +50,7 @@ module _ (u : GridUnit) (fine : IsFineSev u) where
       pair_length atoms.0 lists atoms.1 ∙ length-map u.sev.atoms atom_pairs
       ∙ sym (weights_length (weights_of u.sev) w weighed ∙ weighted.each) in
       let made = sev_of (mixture atoms.0 w) (products_fine atoms.0 w (weights_of u.sev) lists weighed atoms.1
-      (mixture_fine u fine))
+      most_parts (mixture_fine u fine))
       (mixture_one w.total atoms.0 w.weights weighed.some lengths weighed.sum) in
       (made.0, mixture_means atoms.0 w (weights_of u.sev) lists weighed atoms.1 made.0 made.1)
 

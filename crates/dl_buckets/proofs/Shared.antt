@@ -1,6 +1,7 @@
 -- Fine probabilities that sum to 1, and their whole weights.
-use Rattle.dl_buckets.proofs.Common.{not-false, leb-true, le-leb, eqb-true, false_from_ne_true, ◌≡◌, ◌≢◌, ◌∙◌, ℕ, zero, suc, ◌<◌, ◌≤◌, ◌^◌, List, [], ◌∷◌, ◌++◌, map, length, true, false, Option, Some, None, inl, inr, refl, sym, ap, ap₂, subst, arith, All, ◌∣◌, IfSome, MatchOption, All-head, All-tail, Fraction, whole, ◌over◌, over_self, over_same, whole_num, whole_den, IsFineTo30Bits, common_denominator, common_pos, den_divides, sum_of, Weights, IsWeighing, Span, at_if, Shares, is_fine, is_one, is_not_one, probs_among, weights_over, IsShares, AreProbabilities}
-use Rattle.std.specs.Prelude.{replicate}
+use Rattle.dl_buckets.proofs.Common.{leb-true, le-leb, eqb-true, false_from_ne_true, ◌≡◌, ◌≢◌, ◌∙◌, ℕ, zero, suc, ◌<◌, ◌≤◌, ◌^◌, List, [], ◌∷◌, ◌++◌, map, length, true, false, Some, None, inl, inr, refl, sym, ap, ap₂, subst, arith, All, ◌∣◌, MatchOption, All-head, All-tail, Fraction, whole, ◌over◌, over_self, over_same, whole_num, whole_den, IsFineTo30Bits, common_denominator, common_pos, den_divides, sum_of, Weights, IsWeighing, Span, at_if, Shares, is_fine, is_one, is_not_one, weights_over, IsShares, AreProbabilities, Bool, ◌&&◌, are_fine, and_parts, most_parts}
+use Rattle.std.specs.Prelude.{nat_le, replicate}
+use Rattle.std.proofs.Math.Bool.{and-false, and-true}
 use Rattle.std.proofs.lemmas.Bool.{cases_Bool}
 use Rattle.std.proofs.lemmas.List.{drop_at, get_or-replicate, length-replicate, take_at}
 use Rattle.std.proofs.lemmas.List.Elements.{All-drop, All-replicate, All-take}
@@ -31,10 +32,10 @@ one_divides c = dvd_of_mod-eq-zero 1 (omega arith)
 pub common_divides : (xs : List Fraction) (c : ℕ) → All (λ x. x.den ∣ c) xs → common_denominator xs ∣ c
 common_divides xs c all = common_divides_from 1 xs c (one_divides c) all
 
--- each denominator of the one list divides the common denominator of the other, which is fine
-pub fine_with : (xs ys : List Fraction) → All (λ x. x.den ∣ common_denominator ys) xs → IsFineTo30Bits ys →
-    IsFineTo30Bits xs
-fine_with xs ys all fine = omega (
+-- each denominator of the one list divides the common denominator of the other, which is at most this
+pub fine_with : (most : ℕ) (xs ys : List Fraction) → All (λ x. x.den ∣ common_denominator ys) xs
+    → common_denominator ys ≤ most → common_denominator xs ≤ most
+fine_with most xs ys all fine = omega (
   arith,
   fine,
   le_of_dvd (common_pos ys)
@@ -70,8 +71,13 @@ probabilities_of xs made is = record {
       ∙ over_same made.total made.total 1 1 is.some (omega arith) (omega arith);
 }
 
-pub weighing_fine : (xs : List Fraction) (made : Weights) → IsWeighing xs made → is_fine xs ≡ true
-weighing_fine xs made is = le-leb (common_denominator xs) (2 ^ 30) (probabilities_of xs made is).fine
+one_test : (xs : List Fraction) → sum_of xs ≡ whole 1 → is_one (sum_of xs) ≡ true
+one_test xs one = rw (one, whole_num 1, whole_den 1) refl
+
+pub weighing_fine : (most : ℕ) (xs : List Fraction) (made : Weights) → IsWeighing xs made → common_denominator xs ≤ most
+    → are_fine most xs ≡ true
+weighing_fine most xs made is fine =
+    rw (le-leb (common_denominator xs) most fine, one_test xs (probabilities_of xs made is).one) refl
 
 same_weights : (vs ws : List ℕ) (t : ℕ) → 0 < t → map (λ w. w over t) vs ≡ map (λ w. w over t) ws → vs ≡ ws
 same_weights [] [] t h e = refl
@@ -90,40 +96,84 @@ weights_as xs made is =
 -- ---- a list with its weights
 
 pub fine_weights : (xs : List Fraction) (made : Weights) → IsWeighing xs made → Some made ≡ weights_over xs
-fine_weights xs made is = ap (λ w. Some w) (weights_as xs made is) ∙ sym (rw (weighing_fine xs made is) refl)
+fine_weights xs made is =
+    ap (λ w. Some w) (weights_as xs made is)
+    ∙ sym (rw (weighing_fine most_parts xs made is (probabilities_of xs made is).fine) refl)
 
-pub coarse_test : (xs : List Fraction) → ¬ IsFineTo30Bits xs → is_fine xs ≡ false
-coarse_test xs coarse = false_from_ne_true (is_fine xs) (λ yes. coarse (leb-true (common_denominator xs) (2 ^ 30) yes))
+pub coarse_test : (most : ℕ) (xs : List Fraction) → ¬ common_denominator xs ≤ most → is_fine most xs ≡ false
+coarse_test most xs coarse =
+    false_from_ne_true (is_fine most xs) (λ fine. coarse (leb-true (common_denominator xs) most fine))
 
 one_yes : (x : Fraction) → is_one x ≡ true → x ≡ whole 1
 one_yes x e = sym (over_self x) ∙ over_same x.num x.den 1 1 x.positive (omega arith)
     (omega (arith, eqb-true x.num x.den e))
 
--- fine probabilities of a list sum to 1
-pub list_probabilities : (xs : List Fraction) → is_not_one xs ≡ false → is_fine xs ≡ true → AreProbabilities xs
-list_probabilities xs one fine = record {
-  fine = leb-true (common_denominator xs) (2 ^ 30) fine;
-  one = one_yes (sum_of xs) (not-false (is_one (sum_of xs)) (rw fine at one));
-}
+no_weights : (xs : List Fraction) → (are_fine most_parts xs ≡ true → ⊥) → None ≡ weights_over xs
+no_weights xs none = sym (rw (false_from_ne_true (are_fine most_parts xs) none) refl)
 
--- the weights of a list are none exactly where it is not fine
-pub list_weighed : (l : Shares) → IsShares l → MatchOption l.weights (is_fine l.values ≡ false) (IsWeighing l.values)
-list_weighed l is = rw is.weights (elim (cases_Bool (is_fine l.values)) [
-  | inl e ↦ let are = list_probabilities l.values is.one e in rw e (weighing l.values are.fine are.one)
-  | inr e ↦ rw e refl
-])
+pub coarse_weights : (xs : List Fraction) → ¬ IsFineTo30Bits xs → None ≡ weights_over xs
+coarse_weights xs coarse =
+    no_weights xs (λ fine. coarse (leb-true (common_denominator xs) most_parts (and_parts _ _ fine).0))
+
+pub other_weights : (xs : List Fraction) → sum_of xs ≢ whole 1 → None ≡ weights_over xs
+other_weights xs other = no_weights xs (λ fine. other (one_yes (sum_of xs) (and_parts _ _ fine).1))
+
+pub probabilities_fine : (xs : List Fraction) → AreProbabilities xs → are_fine most_parts xs ≡ true
+probabilities_fine xs are = rw (le-leb (common_denominator xs) most_parts are.fine, one_test xs are.one) refl
+
+-- what is fine by a bound of at most 2^30 are probabilities
+pub fine_probabilities : (most : ℕ) (xs : List Fraction) → most ≤ most_parts → are_fine most xs ≡ true
+    → AreProbabilities xs
+fine_probabilities most xs le fine =
+    let both = and_parts (is_fine most xs) (is_one (sum_of xs)) fine in
+    record {
+      fine = omega (arith, le, leb-true (common_denominator xs) most both.0);
+      one = one_yes (sum_of xs) both.1;
+    }
+
+module _ (most : ℕ) (l : Shares) (le : most ≤ most_parts) (is : IsShares l) where
+  -- a list that is fine has its weights
+  pub list_weighed : are_fine most l.values ≡ true
+      → (w : Weights) × (l.weights ≡ Some w) × IsWeighing l.values w
+  list_weighed fine =
+      let are = fine_probabilities most l.values le fine in
+      let w : Weights = over_common l.values in
+      let made : IsWeighing l.values w = weighing l.values are.fine are.one in
+      (w, is.weights ∙ sym (fine_weights l.values w made), made)
+
+  -- a list is fine where it has weights, with a total of at most this
+  pub list_test : (b : Bool) → MatchOption l.weights (b ≡ false) (λ w. b ≡ nat_le w.total most)
+      → b ≡ are_fine most l.values
+  list_test b h = elim (cases_Bool (are_fine most_parts l.values)) [
+    | inl e ↦
+        let both = and_parts (is_fine most_parts l.values) (is_one (sum_of l.values)) e in
+        let there : l.weights ≡ Some (over_common l.values) = is.weights ∙ rw e refl in
+        (rw there at h) ∙ sym (and-true (is_fine most l.values))
+        ∙ ap (λ t. is_fine most l.values && t) (sym both.1)
+    | inr e ↦
+        let none : l.weights ≡ None = is.weights ∙ rw e refl in
+        (rw none at h) ∙ sym (false_from_ne_true (are_fine most l.values) (λ fine.
+        let are = fine_probabilities most l.values le fine in
+        absurd (cc (
+          e,
+          weighing_fine most_parts l.values (over_common l.values)
+              (weighing l.values are.fine are.one) are.fine,
+        ))))
+  ]
 
 -- ---- the sum of a list
 
-module _ (xs : List Fraction) (span : Span) where
-  pub keeps_weighed : (made : Weights) → IsWeighing xs made → None ≡ at_if (is_not_one xs) span
-  keeps_weighed made is =
-      rw (weighing_fine xs made is, (probabilities_of xs made is).one, whole_num 1, whole_den 1) refl
+module _ (most : ℕ) (xs : List Fraction) (span : Span) where
+  pub keeps_weighed : (made : Weights) → IsWeighing xs made → None ≡ at_if (is_not_one most xs) span
+  keeps_weighed made is = rw (one_test xs (probabilities_of xs made is).one, and-false (is_fine most xs)) refl
 
-  pub breaks_one : IsFineTo30Bits xs → sum_of xs ≢ whole 1 → Some span ≡ at_if (is_not_one xs) span
-  breaks_one fine other =
+  pub coarse_kept : most ≤ most_parts → ¬ IsFineTo30Bits xs → None ≡ at_if (is_not_one most xs) span
+  coarse_kept le coarse = rw (coarse_test most xs (λ fine. coarse (omega (arith, le, fine)))) refl
+
+  pub breaks_one : sum_of xs ≢ whole 1 → at_if (is_fine most xs) span ≡ at_if (is_not_one most xs) span
+  breaks_one other =
       let not_one = false_from_ne_true (is_one (sum_of xs)) (λ e. other (one_yes (sum_of xs) e)) in
-      rw (le-leb (common_denominator xs) (2 ^ 30) fine, not_one) refl
+      rw (not_one, and-true (is_fine most xs)) refl
 
 -- ---- equal shares
 
@@ -134,7 +184,7 @@ map_replicate f (suc n) x = ap (λ xs. f x ∷ xs) (map_replicate f n x)
 share_den : (n : ℕ) → 0 < n → (1 over n).den ≡ n
 share_den n h = lowest_den 1 n h (lowest_by 1 n (λ d one other. one))
 
-equal_common : (n : ℕ) → 0 < n → n ≡ common_denominator (replicate n (1 over n))
+pub equal_common : (n : ℕ) → 0 < n → n ≡ common_denominator (replicate n (1 over n))
 equal_common n h =
     let xs : List Fraction = replicate n (1 over n) in
     let some : 0 < length xs = omega (arith, h, length-replicate n (1 over n)) in
@@ -156,15 +206,6 @@ equal_weighing n ws some few e = record {
   some = omega (arith, some);
   within = omega (arith, few);
 }
-
--- ---- probabilities of so many values
-
--- they are fine and sum to 1, or are not fine
-pub among_probabilities : (n : ℕ) (o : Option Shares) → 0 < n → n ≤ 1024 → IfSome o IsShares
-    → is_fine (probs_among n o) ≡ true → AreProbabilities (probs_among n o)
-among_probabilities n None some few is fine =
-    probabilities_of (replicate n (1 over n)) _ (equal_weighing n (replicate n 1) some few refl)
-among_probabilities n (Some l) some few is fine = list_probabilities l.values is.one fine
 
 -- ---- parts of lists
 

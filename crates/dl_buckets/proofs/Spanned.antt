@@ -1,5 +1,5 @@
 -- The values of a list whose numerals and ranges are good.
-use Rattle.dl_buckets.proofs.Common.{ℕ, ◌≡◌, ◌∙◌, ◌<◌, ◌≤◌, List, [], ◌∷◌, map, flat_map, length, take, get_or, Option, Some, None, refl, sym, ap, subst, arith, All, All-nil, All-cons, All-map, length-map, Fraction, Span, else_second, IsClean, flaws_else, most_values, HasPartsOf18Digits, IsRange, PassesRoom, range_values, Range, Numeral, ListItem, ListAst, IsFormedList, Flaws, Gridded, IsReadTo, AgreeToFirst, AreNone, spans, flaws_in, flaws_within, range_at, long_at, flaws_of_numeral, flaws_of_item, flaws_of_list, spanned_range, spanned_in, spanned_item, spanned_values, AreTooMany}
+use Rattle.dl_buckets.proofs.Common.{ℕ, ◌≡◌, ◌∙◌, ◌<◌, ◌≤◌, List, [], ◌∷◌, map, flat_map, length, take, get_or, Option, Some, None, refl, sym, ap, subst, arith, All, All-nil, All-cons, All-map, length-map, Fraction, Span, else_second, IsClean, flaws_else, HasPartsOf18Digits, IsRange, range_values, Range, Numeral, ListItem, ListAst, IsFormedList, Flaws, Gridded, IsReadTo, AgreeToFirst, AreNone, spans, flaws_in, flaws_within, range_at, long_at, flaws_of_numeral, flaws_of_item, flaws_of_list, spanned_range, spanned_in, spanned_item, spanned_values, AreTooMany, Bounds, ◌+◌}
 use Rattle.std.proofs.lemmas.List.Folds.{flat_map-map, length-flat_map-take}
 use Rattle.dl_sev.specs.declared.fault.ExpandFault.{ExpandFault}
 use Rattle.dl_sev.specs.declared.fault.ExpandFault.TheVariants.{TooLong, OutOfMemory}
@@ -7,12 +7,12 @@ use Rattle.dl_buckets.proofs.Firsts.{passes_limit, keeps_limit}
 use Rattle.dl_buckets.proofs.Agreeing.{agree_else, agree_same, keeps_first, keeps_second, flaws_none}
 use Rattle.dl_buckets.proofs.ItemRanges.{item_is, item_modest, all_joined, enough}
 
--- with the values of one range more there are more than 1,024
-pub too_many : (ranges : List (Range × Span)) (i : ℕ) (pair : Range × Span) (values : List (Fraction × Span))
+-- with the values of one range more there are more than a list may have
+pub too_many : (bounds : Bounds) (ranges : List (Range × Span)) (i : ℕ) (pair : Range × Span) (values : List (Fraction × Span))
     (fault : ExpandFault) → i < length ranges → pair ≡ get_or ranges i pair
-    → values ≡ flat_map spanned_in (take i ranges) → PassesRoom (length values) pair.0 fault
-    → AreTooMany (length (flat_map spanned_in ranges)) fault
-too_many ranges i pair values TooLong lt at so_far far =
+    → values ≡ flat_map spanned_in (take i ranges) → AreTooMany bounds (length values + length (range_values pair.0)) fault
+    → AreTooMany bounds (length (flat_map spanned_in ranges)) fault
+too_many bounds ranges i pair values TooLong lt at so_far far =
     omega (
       arith,
       far,
@@ -21,7 +21,7 @@ too_many ranges i pair values TooLong lt at so_far far =
       ap (λ (p : Range × Span). length (spanned_in p)) at,
       length-map {B = Fraction × Span} (range_values pair.0) (λ x. (x, pair.1)),
     )
-too_many ranges i pair values OutOfMemory lt at so_far far = tt
+too_many bounds ranges i pair values OutOfMemory lt at so_far far = tt
 
 -- an item has flaws of the first two rules alone
 abbrev item_flaws : Numeral → Option Numeral → Option Numeral → Option Span → Flaws
@@ -45,15 +45,16 @@ items_clean (i ∷ items) h =
     (no_later i.from i.to i.step _ (keeps_first 2 (flaws_of_item i) (flaws_in flaws_of_item items) h))
     (items_clean items (keeps_second 2 (flaws_of_item i) (flaws_in flaws_of_item items) h))
 
-pub many : (l : ListAst) → most_values < length l.items → most_values < length (spanned_values l)
-many l h = omega (arith, h, enough l.items)
+pub many : (bounds : Bounds) (l : ListAst) → bounds.values < length l.items
+    → bounds.values < length (spanned_values l)
+many bounds l h = omega (arith, h, enough l.items)
 
 -- no values of a list that has too many, beside the flaws of its items
-pub long_read : (l : ListAst) {values : List (Fraction × Span)} (items : Flaws) {all : Flaws} → most_values < length (spanned_values l)
+pub long_read : (bounds : Bounds) (l : ListAst) {values : List (Fraction × Span)} (items : Flaws) {all : Flaws} → bounds.values < length (spanned_values l)
     → AgreeToFirst (spans items) (spans (flaws_in flaws_of_item l.items)) → all ≡ flaws_else items (long_at (Some l.span))
-    → IsReadTo 3 (flaws_of_list l) (spanned_values l) (record { part = values; flaws = all })
-long_read l items many told is =
-    let far = passes_limit most_values (length (spanned_values l)) l.span many in
+    → IsReadTo 3 (flaws_of_list bounds l) (spanned_values l) (record { part = values; flaws = all })
+long_read bounds l items many told is =
+    let far = passes_limit bounds.values (length (spanned_values l)) l.span many in
     let late = spans (long_at (Some l.span)) in
     record {
       first = rw (is, ← far) (agree_else (spans items) (spans (flaws_in flaws_of_item l.items)) late late told (agree_same late));
@@ -86,11 +87,11 @@ module _ (l : ListAst) (formed : IsFormedList l) (ranges : Gridded (List (Range 
       (λ k d h. item_modest _ (formed.items k d h) (clean k d h)))
 
   -- not too many values
-  pub few_read : (values : List (Fraction × Span)) → values ≡ flat_map spanned_in ranges.part
-      → length values ≤ most_values
-      → IsReadTo 3 (flaws_of_list l) (spanned_values l) (record { part = values; flaws = ranges.flaws })
-  few_read values e few =
-      let none = keeps_limit most_values (length (spanned_values l)) l.span
+  pub few_read : (bounds : Bounds) (values : List (Fraction × Span)) → values ≡ flat_map spanned_in ranges.part
+      → length values ≤ bounds.values
+      → IsReadTo 3 (flaws_of_list bounds l) (spanned_values l) (record { part = values; flaws = ranges.flaws })
+  few_read bounds values e few =
+      let none = keeps_limit bounds.values (length (spanned_values l)) l.span
       (omega (arith, few, ap length (e ∙ values_are))) in
       record {
         first = subst (λ o. AgreeToFirst (spans ranges.flaws) (spans (flaws_else (flaws_in flaws_of_item l.items) (long_at o))))

@@ -1,6 +1,8 @@
 -- The properties of a unit in whole buckets that keeps the rules so far: later rules
 -- rest on them.
 use Rattle.std.specs.Prelude.{◌≡◌, None, false}
+use Rattle.dl_limits.specs.declared.rules.Bounds.{Bounds}
+use Rattle.dl_limits.specs.Rules.{AreBounds}
 use Rattle.dl_buckets.specs.declared.grid.GridUnit.{GridUnit}
 use Rattle.dl_buckets.specs.FineParts.{fractions_too_fine}
 use Rattle.dl_buckets.specs.CheckedGrid.{IsGridUnit}
@@ -19,9 +21,10 @@ pub record IsLayered (u : GridUnit) : Type 0 where
   pub apart : overlap u ≡ None
   pub within : share_above_one u ≡ None
 
--- its clauses map whole amounts to whole amounts, and its fractions are fine, apart from its
--- exposure: it has a final severity
-pub record IsFineSev (u : GridUnit) : Type 0 where
+-- its clauses map whole amounts to whole amounts, and its fractions are fine by these bounds, apart
+-- from its exposure: it has a final severity
+pub record IsFineSev (bounds : Bounds) (u : GridUnit) : Type 0 where
+  pub allowed : AreBounds bounds
   pub layered : IsLayered u
   pub ceded : off_grid_cession u ≡ None
-  pub fine : fractions_too_fine u ≡ false
+  pub fine : fractions_too_fine bounds u ≡ false

@@ -1,6 +1,7 @@
 -- The reinsurance clauses of a unit: shares, limits and attachments. Amounts are in buckets.
 use Rattle.std.specs.Prelude.{ℕ, ◌+◌, ◌*◌, ◌/◌, max, Bool, true, not, ◌&&◌, nat_lt, if◌then◌else◌, ⊤, List, map, fold, Option, Some, None}
 use Rattle.std.specs.List.{list_any, range_with_len}
+use Rattle.dl_limits.specs.Limits.{most_parts}
 use Rattle.dl_exact.specs.Fraction.{Fraction, whole, ◌/ℚ◌}
 use Rattle.dl_plan.specs.declared.cede.CedeLayer.{CedeLayer}
 use Rattle.dl_plan.specs.Prelude.{Clause, IsClause, kept, edge}
@@ -39,7 +40,7 @@ shares_of c = map (λ l. share_of l.share) c.layers
 -- a clause, none, or the mark that its shares are not fine
 abbrev pub made_of : Option GridClause → MadeClause
 made_of None = Missing
-made_of (Some c) = if is_fine (shares_of c) then Whole (clause_of c) c.span else TooFine
+made_of (Some c) = if is_fine most_parts (shares_of c) then Whole (clause_of c) c.span else TooFine
 
 -- it is one
 abbrev pub IsMade : MadeClause → Type 0

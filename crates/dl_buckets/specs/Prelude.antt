@@ -3,13 +3,13 @@ pub use Rattle.dl_buckets.specs.CheckedClauses.{AreClausesOf, IsClauseLayered}
 pub use Rattle.dl_buckets.specs.CheckedGrid.{IsGridUnit, IsSevWithin, IsWithin}
 pub use Rattle.dl_buckets.specs.CheckedUnit.{IsLayered}
 pub use Rattle.dl_buckets.specs.Clauses.{IsMade, clause_of, made_of}
-pub use Rattle.dl_buckets.specs.FineParts.{IsWeighed, fractions_too_fine, has_severity, has_shares}
+pub use Rattle.dl_buckets.specs.FineParts.{IsWeighed, fractions_too_fine, has_probs, has_severity, has_shares}
 pub use Rattle.dl_buckets.specs.First.{at_if, within, ◌else◌}
 unfoldable pub use Rattle.dl_buckets.specs.First.{first_in, in_turn}
 pub use Rattle.dl_buckets.specs.Flaws.{IsRead}
 pub use Rattle.dl_buckets.specs.Grid.{grid_mixture}
 unfoldable pub use Rattle.dl_buckets.specs.Grid.{grid_of}
-pub use Rattle.dl_buckets.specs.Lists.{is_above, is_admitted, is_fine, is_whole, is_zero, probs_in_count, probs_of}
+pub use Rattle.dl_buckets.specs.Lists.{are_fine, is_above, is_admitted, is_fine, is_whole, is_zero, probs_of}
 pub use Rattle.dl_buckets.specs.Parts.{AreProbabilities}
 pub use Rattle.dl_buckets.specs.Reading.{flaws_of_mixture}
 unfoldable pub use Rattle.dl_buckets.specs.Reading.{flaws_of}

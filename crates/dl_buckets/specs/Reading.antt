@@ -1,7 +1,9 @@
 -- The flaws of a unit: of each of the rules 2 to 8 the first place in the text where it is broken.
--- Amounts of money are in buckets of size bs, and at most `most` of them.
+-- Amounts of money are in buckets of size bs, and at most `most` of them. How long a list may be,
+-- and which one is fine, is read from the bounds.
 use Rattle.std.specs.Prelude.{ℕ, Bool, true, false, not, ◌&&◌, ◌||◌, ◌==◌, nat_lt, is_some, length}
-use Rattle.dl_limits.specs.Limits.{most_values, most_atoms, most_layers, most_range_parts}
+use Rattle.dl_limits.specs.Limits.{most_atoms, most_layers, most_range_parts}
+use Rattle.dl_limits.specs.declared.rules.Bounds.{Bounds}
 use Rattle.dl_exact.specs.Fraction.{Fraction, whole}
 use Rattle.dl_sev.specs.Prelude.{buckets, range_denominator}
 use Rattle.dl_sev.specs.declared.range.Range.{Range}
@@ -68,38 +70,41 @@ flaws_of_item i =
     (flaws_else (flaws_within flaws_of_numeral i.step)
     (range_at (at_if (is_some i.to && is_no_range (range_of i)) i.span))))
 
--- 4 ListTooLong: a list has more than 1,024 values; below, a severity more than 64 atoms, and a
--- clause more than 16 layers
-abbrev pub flaws_of_list : ListAst → Flaws
-flaws_of_list l =
+-- 4 ListTooLong: a list has more values than it may have; below, a severity more than 64 atoms, and
+-- a clause more than 16 layers
+abbrev pub flaws_of_list : Bounds → ListAst → Flaws
+flaws_of_list bounds l =
     flaws_else (flaws_in flaws_of_item l.items)
-    (long_at (at_if (nat_lt most_values (length (spanned_values l))) l.span))
+    (long_at (at_if (nat_lt bounds.values (length (spanned_values l))) l.span))
 
 -- a list of amounts of money
-abbrev pub flaws_of_amounts : ℕ → Fraction → ListAst → Flaws
-flaws_of_amounts most bs l =
-    flaws_else (flaws_of_list l)
+abbrev pub flaws_of_amounts : Bounds → ℕ → Fraction → ListAst → Flaws
+flaws_of_amounts bounds most bs l =
+    flaws_else (flaws_of_list bounds l)
     (flaws_in (λ pair. flaws_of_amount most bs pair.0 pair.1) (spanned_values l))
 
 -- 6 NotOne: a fine list of probabilities does not sum to 1
-abbrev pub flaws_of_shares : ListAst → Flaws
-flaws_of_shares l = flaws_else (flaws_of_list l) (sum_at (at_if (is_not_one (values_of l)) l.span))
+abbrev pub flaws_of_shares : Bounds → ListAst → Flaws
+flaws_of_shares bounds l =
+    flaws_else (flaws_of_list bounds l)
+    (sum_at (at_if (is_not_one bounds.parts (values_of l)) l.span))
 
 -- 5 LengthsDiffer: a list of so many values has another number of probabilities
-abbrev pub flaws_beside : ℕ → ListAst → Flaws
-flaws_beside count l =
-    flaws_else (flaws_of_shares l)
+abbrev pub flaws_beside : Bounds → ℕ → ListAst → Flaws
+flaws_beside bounds count l =
+    flaws_else (flaws_of_shares bounds l)
     (lengths_at (at_if (not (count == length (spanned_values l))) l.span))
 
-abbrev pub flaws_of_atom : ℕ → Fraction → Atom → Flaws
-flaws_of_atom most bs a =
-    flaws_else (flaws_of_amounts most bs a.values)
-    (flaws_within (flaws_beside (length (spanned_values a.values))) a.probs)
+abbrev pub flaws_of_atom : Bounds → ℕ → Fraction → Atom → Flaws
+flaws_of_atom bounds most bs a =
+    flaws_else (flaws_of_amounts bounds most bs a.values)
+    (flaws_within (flaws_beside bounds (length (spanned_values a.values))) a.probs)
 
-abbrev pub flaws_of_mixture : ℕ → Fraction → MixAst → Flaws
-flaws_of_mixture most bs m =
+abbrev pub flaws_of_mixture : Bounds → ℕ → Fraction → MixAst → Flaws
+flaws_of_mixture bounds most bs m =
     flaws_else (long_at (at_if (nat_lt most_atoms (length m.atoms)) m.span))
-    (flaws_else (flaws_in (flaws_of_atom most bs) m.atoms) (flaws_within flaws_of_shares m.weights))
+    (flaws_else (flaws_in (flaws_of_atom bounds most bs) m.atoms)
+    (flaws_within (flaws_of_shares bounds) m.weights))
 
 -- ---- layers and clauses
 
@@ -137,11 +142,11 @@ flaws_of_exposure (Loss n _) = flaws_of_numeral n
 flaws_of_exposure (Premium p r _) = flaws_else (flaws_of_numeral p) (flaws_of_numeral r)
 
 -- what of a count precedes the severity, and what follows the occurrence clause
-abbrev pub flaws_of_count : CountAst → Flaws
-flaws_of_count (Exposed exposure freq zero) = flaws_of_exposure exposure
-flaws_of_count (Listed values probs _) =
-    flaws_else (flaws_of_list values) (flaws_within
-    (flaws_beside (length (spanned_values values))) probs)
+abbrev pub flaws_of_count : Bounds → CountAst → Flaws
+flaws_of_count bounds (Exposed exposure freq zero) = flaws_of_exposure exposure
+flaws_of_count bounds (Listed values probs _) =
+    flaws_else (flaws_of_list bounds values) (flaws_within
+    (flaws_beside bounds (length (spanned_values values))) probs)
 
 abbrev pub flaws_of_freq : FreqAst → Flaws
 flaws_of_freq (Fixed _) = no_flaws
@@ -168,13 +173,13 @@ is_named (Mixture m) = false
 is_named (Ref n) = true
 
 -- a unit whose severity has these flaws
-abbrev pub flaws_with : ℕ → Fraction → Flaws → UnitAst → Flaws
-flaws_with most bs severity u =
+abbrev pub flaws_with : Bounds → ℕ → Fraction → Flaws → UnitAst → Flaws
+flaws_with bounds most bs severity u =
     flaws_else (earlier_flaws (is_named u.sev.body)
-    (flaws_else (flaws_of_count u.count) (flaws_within (flaws_of_layer most bs) u.layer)) severity)
+    (flaws_else (flaws_of_count bounds u.count) (flaws_within (flaws_of_layer most bs) u.layer)) severity)
     (flaws_else (flaws_within (flaws_of_clause most bs) u.occ)
     (flaws_else (flaws_of_distribution u.count) (flaws_within (flaws_of_clause most bs) u.agr)))
 
 -- a unit whose severity is this mixture
-unfoldable pub flaws_of : ℕ → Fraction → UnitAst → MixAst → Flaws
-flaws_of most bs u m = flaws_with most bs (flaws_of_mixture most bs m) u
+unfoldable pub flaws_of : Bounds → ℕ → Fraction → UnitAst → MixAst → Flaws
+flaws_of bounds most bs u m = flaws_with bounds most bs (flaws_of_mixture bounds most bs m) u

@@ -1,11 +1,11 @@
 -- The bounds of a unit's numbers: small parts, and lists of some values, but not too many.
-use Rattle.std.specs.Prelude.{◌≡◌, ◌<◌, ◌≤◌, ⊤, false, length, All, IfSome}
+use Rattle.std.specs.Prelude.{◌≡◌, ◌<◌, ◌≤◌, ⊤, length, All, IfSome}
 use Rattle.dl_limits.specs.Limits.{most_values, numeral_bound}
 use Rattle.dl_exact.specs.Fraction.{Fraction}
 use Rattle.dl_sev.specs.Buckets.{HasPartsOf18Digits}
 use Rattle.dl_buckets.specs.declared.grid.ValueList.{ValueList}
 use Rattle.dl_buckets.specs.declared.grid.Shares.{Shares}
-use Rattle.dl_buckets.specs.Lists.{is_not_one, weights_over}
+use Rattle.dl_buckets.specs.Lists.{weights_over}
 use Rattle.dl_buckets.specs.declared.grid.GridExposure.{GridExposure}
 use Rattle.dl_buckets.specs.declared.grid.GridExposure.TheVariants.{Claims, Loss, Premium}
 use Rattle.dl_buckets.specs.declared.grid.GridFreq.{GridFreq}
@@ -24,10 +24,9 @@ pub record IsValueList (l : ValueList) : Type 0 where
   pub few : length l.values ≤ most_values
   pub modest : All HasPartsOf18Digits l.values
 
--- it has its weights, and fine probabilities sum to 1
+-- it has its weights
 pub record IsShares (l : Shares) : Type 0 where
   pub weights : l.weights ≡ weights_over l.values
-  pub one : is_not_one l.values ≡ false
 
 abbrev pub IsGridExposure : GridExposure → Type 0
 IsGridExposure (Claims x _) = IsSmall x

@@ -2,7 +2,7 @@
 use Rattle.std.specs.Prelude.{ℕ, ◌<◌, ⊤, Bool, List, map, flat_map, Option, Some, None}
 use Rattle.dl_exact.specs.Fraction.{Fraction, whole}
 use Rattle.dl_frac.specs.Numerals.{numeral_value, is_bad}
-use Rattle.dl_limits.specs.Limits.{most_values}
+use Rattle.dl_limits.specs.declared.rules.Bounds.{Bounds}
 use Rattle.dl_sev.specs.declared.range.Range.{Range}
 use Rattle.dl_sev.specs.declared.fault.ExpandFault.{ExpandFault}
 use Rattle.dl_sev.specs.declared.fault.ExpandFault.TheVariants.{TooLong, OutOfMemory}
@@ -49,10 +49,10 @@ spanned_range i = (range_of i, i.span)
 abbrev pub spanned_in : Range × Span → List (Fraction × Span)
 spanned_in pair = map (λ x. (x, pair.1)) (range_values pair.0)
 
--- so many values are more than 1,024, where memory did not run out
-abbrev pub AreTooMany : ℕ → ExpandFault → Type 0
-AreTooMany count TooLong = most_values < count
-AreTooMany count OutOfMemory = ⊤
+-- so many values are more than a list may have, where memory did not run out
+abbrev pub AreTooMany : Bounds → ℕ → ExpandFault → Type 0
+AreTooMany bounds count TooLong = bounds.values < count
+AreTooMany bounds count OutOfMemory = ⊤
 
 -- those of a list are those of its items, in order
 abbrev pub spanned_values : ListAst → List (Fraction × Span)

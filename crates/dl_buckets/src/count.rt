@@ -1,6 +1,7 @@
 //! The claim count of a unit, read.
 
 ghost use Rattle.std.specs.Prelude.{IfOk};
+ghost use Rattle.dl_limits.specs.Rules.{AreBounds};
 ghost use Rattle.dl_ast.specs.WellFormed.{IsFormedCount, IsFormedExposure, IsFormedFrequency, IsFormedZero};
 ghost use Rattle.dl_buckets.specs.Flaws.{IsRead, IsReadTo};
 ghost use Rattle.dl_buckets.specs.Grid.{grid_exposure, grid_freq, zero_value, given_zero, count_with, freq_of};
@@ -13,6 +14,7 @@ use crate::numbers::number;
 use crate::value_lists::value_list;
 use dl_ast::{CountAst, Exposure, FreqAst, ZeroAst};
 use dl_frac::Frac;
+use dl_limits::Bounds;
 use std::alloc::{AllocError, Global};
 
 /// A claim count with this distribution; listed counts have none.
@@ -20,9 +22,11 @@ pub(crate) fn grid_count(
     alloc: Global,
     count: &CountAst,
     freq: GridFreq,
+    bounds: Bounds,
 ) -> Result<Gridded<GridCount>, AllocError>
-    requires { IsFormedCount count.now }
-    ensures { IfOk result (IsRead (flaws_of_count count.now) (count_with count.now freq)) }
+    requires bounds { AreBounds bounds }
+    requires formed { IsFormedCount count.now }
+    ensures { IfOk result (IsRead (flaws_of_count bounds count.now) (count_with count.now freq)) }
 {
     match count {
         CountAst::Exposed { exposure, .. } => {
@@ -31,8 +35,8 @@ pub(crate) fn grid_count(
             Ok(read.with(GridCount::Exposed { exposure, freq }))
         }
         CountAst::Listed { counts, probs, .. } => {
-            let counts = value_list(alloc, counts)?;
-            let probs = probs_beside(alloc, counts.part.values.as_slice().len(), probs)?;
+            let counts = value_list(alloc, counts, bounds)?;
+            let probs = probs_beside(alloc, counts.part.values.as_slice().len(), probs, bounds)?;
             let flaws = counts.flaws.or(probs.flaws);
             let (counts, probs) = (counts.part, probs.part);
             let part = GridCount::Listed { counts, probs };

@@ -13,8 +13,8 @@ pub struct Flaws {
     pub numeral: Option<Span>,
     /// A range that goes down, has the step 0, or too fine numbers.
     pub range: Option<Span>,
-    /// A list of more than 1,024 values, a severity of more than 64 atoms, or a clause of more than
-    /// 16 layers.
+    /// A list of more values than the bounds allow, a severity of more than 64 atoms, or a clause of
+    /// more than 16 layers.
     pub long: Option<Span>,
     /// Probabilities beside another number of values.
     pub lengths: Option<Span>,

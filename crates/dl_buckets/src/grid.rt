@@ -8,7 +8,7 @@ use dl_sev::Weights;
 /// A list of numbers.
 #[derive(Drop)]
 pub struct ValueList {
-    /// The values of its items in order, 1 to 1,024 of them.
+    /// The values of its items in order, at least one, and at most as many as the bounds allow.
     pub values: Items<Frac>,
     /// The span of the list.
     pub span: Span,
@@ -17,9 +17,10 @@ pub struct ValueList {
 /// A list of probabilities.
 #[derive(Drop)]
 pub struct Shares {
-    /// The probabilities in order, 1 to 1,024 of them.
+    /// The probabilities in order, at least one, and at most as many as the bounds allow.
     pub values: Items<Frac>,
-    /// Their whole weights over the common denominator; none where that passes 2^30.
+    /// Their whole weights over the common denominator; none where that passes 2^30, or where they do
+    /// not sum to 1.
     pub weights: Option<Weights>,
     /// The span of the list.
     pub span: Span,
@@ -28,7 +29,8 @@ pub struct Shares {
 /// A discrete severity.
 #[derive(Drop)]
 pub struct GridAtom {
-    /// The amounts in buckets, 1 to 1,024 of them, each at most 2^22.
+    /// The amounts in buckets, at least one, and at most as many as the bounds allow, each at most
+    /// 2^22.
     pub amounts: Items<u32>,
     /// The probability of each; where there is none they are equally likely.
     pub probs: Option<Shares>,

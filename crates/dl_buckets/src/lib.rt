@@ -35,7 +35,7 @@ pub use grid::{
     GridAtom, GridCeded, GridClause, GridCount, GridExposure, GridFreq, GridLayer, GridSev,
     GridShare, GridUnit, Shares, ValueList,
 };
-pub use law::law_clauses;
+pub use law::{law_clauses, law_fine};
 pub use made::{Clauses, MadeClause, make_clauses};
 pub use off_grid::off_grid_cession;
 pub use reading::{grid_mixture, grid_unit};

@@ -2,6 +2,7 @@
 
 ghost use Rattle.std.specs.Prelude.{ℕ, ◌<◌, All, IfSome, length};
 ghost use Rattle.dl_limits.specs.Limits.{most_atoms};
+ghost use Rattle.dl_limits.specs.declared.rules.Bounds.{Bounds as BoundsOfRules};
 ghost use Rattle.dl_exact.specs.Fraction.{Fraction};
 ghost use Rattle.dl_ast.specs.WellFormed.{IsFormedAtom, IsFormedList, IsFormedMixture};
 ghost use Rattle.dl_buckets.specs.Flaws.{AgreeEarly, IsRead, flaws_in, flaws_within};
@@ -19,8 +20,8 @@ use std::alloc::Global;
 pub(crate) fn long_mixture(alloc: Global, mix: &MixAst) -> Gridded<GridSev>
     requires long { most_atoms < length mix.now.atoms }
     requires formed { IsFormedMixture mix.now }
-    ensures { (most : ℕ) (bs : Fraction)
-        → IsRead (flaws_of_mixture most bs mix.now) (grid_mixture bs mix.now) result }
+    ensures { (bounds : BoundsOfRules) (most : ℕ) (bs : Fraction)
+        → IsRead (flaws_of_mixture bounds most bs mix.now) (grid_mixture bs mix.now) result }
 {
     let long = Flaws::long_at(Some(mix.span));
     let atoms = atoms_flaws(mix.atoms.as_slice());
@@ -37,8 +38,8 @@ pub(crate) fn long_mixture(alloc: Global, mix: &MixAst) -> Gridded<GridSev>
 /// The flaws of the numerals and ranges of atoms.
 fn atoms_flaws(atoms: &[Atom]) -> Flaws
     requires { All IsFormedAtom atoms.now }
-    ensures { (most : ℕ) (bs : Fraction)
-        → AgreeEarly result (flaws_in (flaws_of_atom most bs) atoms.now) }
+    ensures { (bounds : BoundsOfRules) (most : ℕ) (bs : Fraction)
+        → AgreeEarly result (flaws_in (flaws_of_atom bounds most bs) atoms.now) }
 {
     let mut flaws = Flaws::none();
     'atoms: for atom in atoms {
@@ -52,7 +53,8 @@ fn atoms_flaws(atoms: &[Atom]) -> Flaws
 /// The flaws of the numerals and ranges of a list that may be missing.
 fn second_flaws(list: &Option<ListAst>) -> Flaws
     requires { IfSome list.now IsFormedList }
-    ensures { AgreeEarly result (flaws_within flaws_of_list list.now) }
+    ensures { (bounds : BoundsOfRules)
+        → AgreeEarly result (flaws_within (flaws_of_list bounds) list.now) }
 {
     match list {
         Some(list) => list_flaws(list),
@@ -63,7 +65,7 @@ fn second_flaws(list: &Option<ListAst>) -> Flaws
 /// The flaws of the numerals and ranges of a list.
 fn list_flaws(list: &ListAst) -> Flaws
     requires { IsFormedList list.now }
-    ensures { AgreeEarly result (flaws_of_list list.now) }
+    ensures { (bounds : BoundsOfRules) → AgreeEarly result (flaws_of_list bounds list.now) }
 {
     item_flaws(list.items.as_slice())
 }

@@ -2,6 +2,7 @@
 
 ghost use Rattle.std.specs.Prelude.{◌≡◌, ◌≤◌, All, IfOk, IfSome, map};
 ghost use Rattle.dl_limits.specs.Limits.{most_amount};
+ghost use Rattle.dl_limits.specs.Rules.{AreBounds};
 ghost use Rattle.dl_ast.specs.WellFormed.{IsFormedAtom, IsFormedList};
 ghost use Rattle.dl_plan.specs.Ranges.{IsBucket};
 ghost use Rattle.dl_buckets.specs.Flaws.{IsRead, KeepsLists, flaws_in, flaws_within};
@@ -16,6 +17,7 @@ use crate::spans::span_if;
 use crate::value_lists::{grid_amounts, spanned_values, value_list};
 use dl_ast::{Atom, ListAst};
 use dl_frac::Frac;
+use dl_limits::Bounds;
 use dl_plan::Items;
 use std::alloc::{AllocError, Global};
 
@@ -25,17 +27,19 @@ pub(crate) fn grid_atoms(
     atoms: &[Atom],
     bs: Frac,
     most: u32,
+    bounds: Bounds,
 ) -> Result<Gridded<Items<GridAtom>>, AllocError>
+    requires bounds { AreBounds bounds }
     requires bucket { IsBucket bs }
     requires most { most ≤ most_amount }
     requires formed { All IsFormedAtom atoms.now }
-    ensures { IfOk result (IsRead (flaws_in (flaws_of_atom most bs) atoms.now)
+    ensures { IfOk result (IsRead (flaws_in (flaws_of_atom bounds most bs) atoms.now)
         (map (grid_atom bs) atoms.now)) }
 {
     let mut made = Vec::new(alloc);
     let mut flaws = Flaws::none();
     'atoms: for atom in atoms {
-        let one = grid_atom(alloc, atom, bs, most)?;
+        let one = grid_atom(alloc, atom, bs, most, bounds)?;
         made.push(one.part)?;
         flaws = flaws.or(one.flaws);
     }
@@ -49,16 +53,18 @@ fn grid_atom(
     atom: &Atom,
     bs: Frac,
     most: u32,
+    bounds: Bounds,
 ) -> Result<Gridded<GridAtom>, AllocError>
+    requires bounds { AreBounds bounds }
     requires bucket { IsBucket bs }
     requires most { most ≤ most_amount }
     requires formed { IsFormedAtom atom.now }
-    ensures { IfOk result (IsRead (flaws_of_atom most bs atom.now) (grid_atom bs atom.now)) }
+    ensures { IfOk result (IsRead (flaws_of_atom bounds most bs atom.now) (grid_atom bs atom.now)) }
 {
-    let spanned = spanned_values(alloc, &atom.values)?;
+    let spanned = spanned_values(alloc, &atom.values, bounds)?;
     let values = spanned.part.as_slice();
     let amounts = grid_amounts(alloc, values, bs, most)?;
-    let probs = probs_beside(alloc, values.len(), &atom.probs)?;
+    let probs = probs_beside(alloc, values.len(), &atom.probs, bounds)?;
     let own = spanned.flaws.or(amounts.flaws);
     Ok(Gridded {
         part: GridAtom {
@@ -74,14 +80,16 @@ pub(crate) fn probs_beside(
     alloc: Global,
     count: usize,
     probs: &Option<ListAst>,
+    bounds: Bounds,
 ) -> Result<Gridded<Option<Shares>>, AllocError>
-    requires { IfSome probs.now IsFormedList }
-    ensures { IfOk result (IsRead (flaws_within (flaws_beside count) probs.now)
+    requires bounds { AreBounds bounds }
+    requires formed { IfSome probs.now IsFormedList }
+    ensures { IfOk result (IsRead (flaws_within (flaws_beside bounds count) probs.now)
         (if_there grid_shares probs.now)) }
 {
     match probs {
         Some(list) => {
-            let made = read_shares(alloc, list)?;
+            let made = read_shares(alloc, list, bounds)?;
             let is_other = count != made.part.values.as_slice().len();
             let lengths = Flaws {
                 lengths: span_if(is_other, list.span),
@@ -100,26 +108,29 @@ pub(crate) fn probs_beside(
 pub(crate) fn mixture_weights(
     alloc: Global,
     weights: &Option<ListAst>,
+    bounds: Bounds,
 ) -> Result<Gridded<Option<Shares>>, AllocError>
-    requires { IfSome weights.now IsFormedList }
-    ensures { IfOk result (IsRead (flaws_within flaws_of_shares weights.now)
+    requires bounds { AreBounds bounds }
+    requires formed { IfSome weights.now IsFormedList }
+    ensures { IfOk result (IsRead (flaws_within (flaws_of_shares bounds) weights.now)
         (if_there grid_shares weights.now)) }
 {
     match weights {
-        Some(list) => Ok(read_shares(alloc, list)?.some()),
+        Some(list) => Ok(read_shares(alloc, list, bounds)?.some()),
         None => Ok(Gridded::clean(None)),
     }
 }
 
 /// A list of probabilities. It has its values where the text keeps the rules on lists.
-fn read_shares(alloc: Global, list: &ListAst) -> Result<Gridded<Shares>, AllocError>
-    requires { IsFormedList list.now }
-    ensures read { IfOk result (IsRead (flaws_of_shares list.now) (grid_shares list.now)) }
-    ensures values { IfOk result (λ made. KeepsLists (flaws_of_list list.now)
+fn read_shares(alloc: Global, list: &ListAst, bounds: Bounds) -> Result<Gridded<Shares>, AllocError>
+    requires bounds { AreBounds bounds }
+    requires formed { IsFormedList list.now }
+    ensures read { IfOk result (IsRead (flaws_of_shares bounds list.now) (grid_shares list.now)) }
+    ensures values { IfOk result (λ made. KeepsLists (flaws_of_list bounds list.now)
         → made.part.values ≡ values_of list.now) }
 {
-    let listed = value_list(alloc, list)?;
-    let made = shares(alloc, listed.part.values.into_vec(), list.span)?;
+    let listed = value_list(alloc, list, bounds)?;
+    let made = shares(alloc, listed.part.values.into_vec(), list.span, bounds)?;
     Ok(Gridded {
         part: made.part,
         flaws: listed.flaws.or(made.flaws),

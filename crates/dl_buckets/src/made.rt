@@ -64,7 +64,7 @@ fn made(alloc: Global, written: &Option<GridClause>) -> Result<MadeClause, Alloc
 /// A clause; none exactly where its shares are not fine.
 fn clause(alloc: Global, written: &GridClause) -> Result<Option<Cede>, AllocError>
     requires layered { IsClauseLayered written.now }
-    ensures value { IfOk result (λ made. MatchOption made (is_fine (shares_of written.now) ≡ false)
+    ensures value { IfOk result (λ made. MatchOption made (is_fine most_parts (shares_of written.now) ≡ false)
         (λ clause. clause ≡ clause_of written.now)) }
     ensures is_clause { IfOk result (λ made. IfSome made IsClause) }
 {
@@ -82,7 +82,7 @@ fn clause(alloc: Global, written: &GridClause) -> Result<Option<Cede>, AllocErro
 /// The layers of a clause with their shares; none only where the shares are not fine.
 fn parts_of(alloc: Global, written: &GridClause) -> Result<Option<Vec<CedeLayer>>, AllocError>
     requires layered { IsClauseLayered written.now }
-    ensures { IfOk result (λ made. MatchOption made (is_fine (shares_of written.now) ≡ false)
+    ensures { IfOk result (λ made. MatchOption made (is_fine most_parts (shares_of written.now) ≡ false)
         (λ layers. layers.items ≡ map ceded_layer written.now.layers)) }
 {
     let mut layers = Vec::new(alloc);

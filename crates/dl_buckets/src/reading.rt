@@ -2,6 +2,7 @@
 
 ghost use Rattle.std.specs.Prelude.{◌≡◌, ◌≤◌, IfOk};
 ghost use Rattle.dl_limits.specs.Limits.{most_amount};
+ghost use Rattle.dl_limits.specs.Rules.{AreBounds};
 ghost use Rattle.dl_ast.specs.WellFormed.{IsFormedMixture, IsFormedUnit};
 ghost use Rattle.dl_plan.specs.Ranges.{IsBucket};
 ghost use Rattle.dl_buckets.specs.Flaws.{IsRead, earlier_flaws, flaws_else, flaws_within};
@@ -19,7 +20,7 @@ use crate::long_mixtures::long_mixture;
 use crate::losses::{grid_atoms, mixture_weights};
 use dl_ast::{MixAst, SevBody, UnitAst};
 use dl_frac::Frac;
-use dl_limits::MOST_ATOMS;
+use dl_limits::{Bounds, MOST_ATOMS};
 use std::alloc::{AllocError, Global};
 
 /// The claim count of a unit, the clause of each claim and that of the unit's sum.
@@ -30,24 +31,26 @@ type UnitParts = (
 );
 
 /// A mixture in whole buckets of size `bs`, with the first place where it breaks each rule; an
-/// amount passes where it is above `most`.
+/// amount passes where it is above `most`, and a list where it passes the bounds.
 pub fn grid_mixture(
     alloc: Global,
     mix: &MixAst,
     bs: Frac,
     most: u32,
+    bounds: Bounds,
 ) -> Result<Gridded<GridSev>, AllocError>
+    requires bounds { AreBounds bounds }
     requires bucket { IsBucket bs }
     requires most { most ≤ most_amount }
     requires formed { IsFormedMixture mix.now }
-    ensures { IfOk result (IsRead (flaws_of_mixture most bs mix.now) (grid_mixture bs mix.now)) }
+    ensures { IfOk result (IsRead (flaws_of_mixture bounds most bs mix.now) (grid_mixture bs mix.now)) }
 {
     let atoms = mix.atoms.as_slice();
     if atoms.len() > MOST_ATOMS {
         return Ok(long_mixture(alloc, mix));
     }
-    let atoms = grid_atoms(alloc, atoms, bs, most)?;
-    let weights = mixture_weights(alloc, &mix.weights)?;
+    let atoms = grid_atoms(alloc, atoms, bs, most, bounds)?;
+    let weights = mixture_weights(alloc, &mix.weights, bounds)?;
     Ok(Gridded {
         part: GridSev {
             atoms: atoms.part,
@@ -58,23 +61,25 @@ pub fn grid_mixture(
 }
 
 /// A unit with this severity in whole buckets of size `bs`, with the first place where it breaks
-/// each rule; an amount passes where it is above `most`.
+/// each rule; an amount passes where it is above `most`, and a list where it passes the bounds.
 pub fn grid_unit(
     alloc: Global,
     unit: &UnitAst,
     sev: Gridded<GridSev>,
     bs: Frac,
     most: u32,
+    bounds: Bounds,
 ) -> Result<Gridded<GridUnit>, AllocError>
+    requires bounds { AreBounds bounds }
     requires bucket { IsBucket bs }
     requires most { most ≤ most_amount }
     requires formed { IsFormedUnit unit.now }
     ensures { (flaws : FlawsOfText) (right : Severity) → IsRead flaws right sev
-        → IfOk result (IsRead (flaws_with most bs flaws unit.now) (grid_with bs right unit.now)) }
+        → IfOk result (IsRead (flaws_with bounds most bs flaws unit.now) (grid_with bs right unit.now)) }
 {
     let given = distribution(&unit.count);
     let (freq, zero) = given.part;
-    let parts = unit_parts(alloc, unit, freq, bs, most)?;
+    let parts = unit_parts(alloc, unit, freq, bs, most, bounds)?;
     let layer = unit_layer(&unit.layer, bs, most);
     Ok(with_parts(unit, zero, given.flaws, parts, layer, sev))
 }
@@ -129,18 +134,20 @@ fn unit_parts(
     freq: GridFreq,
     bs: Frac,
     most: u32,
+    bounds: Bounds,
 ) -> Result<UnitParts, AllocError>
+    requires bounds { AreBounds bounds }
     requires bucket { IsBucket bs }
     requires most { most ≤ most_amount }
     requires formed { IsFormedUnit unit.now }
-    ensures count { IfOk result (λ parts. IsRead (flaws_of_count unit.now.count)
+    ensures count { IfOk result (λ parts. IsRead (flaws_of_count bounds unit.now.count)
         (count_with unit.now.count freq) parts.0) }
     ensures occ { IfOk result (λ parts. IsRead (flaws_within (flaws_of_clause most bs) unit.now.occ)
         (if_there (grid_clause bs) unit.now.occ) parts.1) }
     ensures agr { IfOk result (λ parts. IsRead (flaws_within (flaws_of_clause most bs) unit.now.agr)
         (if_there (grid_clause bs) unit.now.agr) parts.2) }
 {
-    let count = grid_count(alloc, &unit.count, freq)?;
+    let count = grid_count(alloc, &unit.count, freq, bounds)?;
     let (occ, agr) = unit_clauses(alloc, unit, bs, most)?;
     Ok((count, occ, agr))
 }

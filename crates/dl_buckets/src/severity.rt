@@ -2,7 +2,8 @@
 
 ghost use Rattle.std.specs.Prelude.{◌≡◌, None, true, false, map, IfOk, MatchOption};
 ghost use Rattle.std.specs.List.{AllZip};
-ghost use Rattle.dl_buckets.specs.Lists.{is_fine};
+ghost use Rattle.dl_limits.specs.Rules.{AreBounds};
+ghost use Rattle.dl_buckets.specs.Lists.{are_fine, is_fine};
 ghost use Rattle.dl_plan.specs.Severity.{pairs_of, HasDistribution};
 ghost use Rattle.dl_buckets.specs.Severity.{atom_probs, atom_pairs, mixed_pairs, severity_in_layer, made_pairs, KeepsWhole};
 ghost use Rattle.dl_buckets.specs.Parts.{IsSevWeighted};
@@ -17,35 +18,43 @@ use crate::grid::{GridAtom, GridSev, GridUnit};
 use crate::made::MadeClause;
 use crate::shares::weights_among;
 use crate::support::is_conditioned;
+use dl_limits::Bounds;
 use dl_plan::Sev;
 use dl_sev::{MixFault, cede_whole, cut, merge, mix};
 use std::alloc::{AllocError, Global};
 
 /// The severity in the layer; `None` exactly where the probabilities of an atom, the weights or the
 /// mixture are not fine.
-pub fn weighed_severity(alloc: Global, unit: &GridUnit) -> Result<Option<Sev>, AllocError>
+pub fn weighed_severity(
+    alloc: Global,
+    unit: &GridUnit,
+    bounds: Bounds,
+) -> Result<Option<Sev>, AllocError>
+    requires bounds { AreBounds bounds }
     requires weighted { IsWeighted unit.now }
     requires reached { none_above unit.now ≡ None }
-    ensures { IfOk result (IsWeighed unit.now) }
+    ensures { IfOk result (IsWeighed bounds unit.now) }
 {
-    let Some(mixed) = mixture(alloc, &unit.sev)? else {
+    let Some(mixed) = mixture(alloc, &unit.sev, bounds)? else {
         return Ok(None);
     };
     Ok(Some(severity_in_layer(alloc, unit, mixed)?))
 }
 
 /// The mixture of the atoms; `None` exactly where it or a part of it is not fine.
-fn mixture(alloc: Global, sev: &GridSev) -> Result<Option<Sev>, AllocError>
-    requires { IsSevWeighted sev.now }
-    ensures { IfOk result (HasPairsWhere (has_severity sev.now) (mixed_pairs sev.now)) }
+fn mixture(alloc: Global, sev: &GridSev, bounds: Bounds) -> Result<Option<Sev>, AllocError>
+    requires bounds { AreBounds bounds }
+    requires sev { IsSevWeighted sev.now }
+    ensures { IfOk result (HasPairsWhere (has_severity bounds sev.now) (mixed_pairs sev.now)) }
 {
-    let Some(atoms) = atom_severities(alloc, sev)? else {
+    let Some(atoms) = atom_severities(alloc, sev, bounds)? else {
         return Ok(None);
     };
-    let Some(weights) = weights_among(alloc, sev.atoms.as_slice().len(), &sev.weights)? else {
+    let count = sev.atoms.as_slice().len();
+    let Some(weights) = weights_among(alloc, count, &sev.weights, bounds.parts)? else {
         return Ok(None);
     };
-    match mix(alloc, &atoms, &weights) {
+    match mix(alloc, &atoms, &weights, bounds.parts) {
         Ok(made) => Ok(Some(made)),
         Err(MixFault::TooFine) => Ok(None),
         Err(MixFault::OutOfMemory) => Err(AllocError),
@@ -53,14 +62,20 @@ fn mixture(alloc: Global, sev: &GridSev) -> Result<Option<Sev>, AllocError>
 }
 
 /// The severity of each atom; `None` exactly where the probabilities of one are not fine.
-fn atom_severities(alloc: Global, sev: &GridSev) -> Result<Option<Vec<Sev>>, AllocError>
-    requires { IsGridSev sev.now }
-    ensures { IfOk result (λ made. MatchOption made (has_atoms sev.now ≡ false)
-        (λ sevs. (has_atoms sev.now ≡ true) × AllZip HasDistribution sevs.items (map atom_pairs sev.now.atoms))) }
+fn atom_severities(
+    alloc: Global,
+    sev: &GridSev,
+    bounds: Bounds,
+) -> Result<Option<Vec<Sev>>, AllocError>
+    requires bounds { AreBounds bounds }
+    requires sev { IsGridSev sev.now }
+    ensures { IfOk result (λ made. MatchOption made (has_atoms bounds sev.now ≡ false)
+        (λ sevs. (has_atoms bounds sev.now ≡ true)
+        × AllZip HasDistribution sevs.items (map atom_pairs sev.now.atoms))) }
 {
     let mut made = Vec::new(alloc);
     'atoms: for atom in sev.atoms.as_slice() {
-        let Some(severity) = atom_severity(alloc, atom)? else {
+        let Some(severity) = atom_severity(alloc, atom, bounds)? else {
             return Ok(None);
         };
         made.push(severity)?;
@@ -69,12 +84,14 @@ fn atom_severities(alloc: Global, sev: &GridSev) -> Result<Option<Vec<Sev>>, All
 }
 
 /// The severity of an atom; `None` exactly where its probabilities are not fine.
-fn atom_severity(alloc: Global, atom: &GridAtom) -> Result<Option<Sev>, AllocError>
-    requires { IsGridAtom atom.now }
-    ensures { IfOk result (HasPairsWhere (is_fine (atom_probs atom.now)) (atom_pairs atom.now)) }
+fn atom_severity(alloc: Global, atom: &GridAtom, bounds: Bounds) -> Result<Option<Sev>, AllocError>
+    requires bounds { AreBounds bounds }
+    requires atom { IsGridAtom atom.now }
+    ensures { IfOk result (HasPairsWhere (are_fine bounds.parts (atom_probs atom.now))
+        (atom_pairs atom.now)) }
 {
     let amounts = atom.amounts.as_slice();
-    let Some(weights) = weights_among(alloc, amounts.len(), &atom.probs)? else {
+    let Some(weights) = weights_among(alloc, amounts.len(), &atom.probs, bounds.parts)? else {
         return Ok(None);
     };
     Ok(Some(merge(alloc, amounts, &weights)?))

@@ -1,13 +1,14 @@
 //! Lists of probabilities with their whole weights.
 
-ghost use Rattle.std.specs.Prelude.{ℕ, ◌≡◌, ◌≤◌, ◌<◌, false, replicate, IfOk, IfSome, MatchOption};
-ghost use Rattle.dl_limits.specs.Limits.{most_values};
+ghost use Rattle.std.specs.Prelude.{ℕ, ◌≡◌, ◌≤◌, ◌<◌, false, true, nat_le, replicate, IfOk, IfSome, MatchOption};
+ghost use Rattle.dl_limits.specs.Limits.{most_parts, most_values};
+ghost use Rattle.dl_limits.specs.Rules.{AreBounds};
 ghost use Rattle.dl_exact.specs.Fraction.{◌over◌};
 ghost use Rattle.dl_sev.specs.Weighed.{IsWeighing};
 ghost use Rattle.dl_buckets.specs.First.{at_if};
 ghost use Rattle.dl_buckets.specs.Flaws.{IsRead, sum_at};
 ghost use Rattle.dl_buckets.specs.Grid.{shares_at};
-ghost use Rattle.dl_buckets.specs.Lists.{is_fine, is_not_one, probs_among};
+ghost use Rattle.dl_buckets.specs.Lists.{are_fine, is_fine, is_not_one, probs_among};
 ghost use Rattle.dl_buckets.specs.Rules.{weights_differ};
 ghost use Rattle.dl_buckets.specs.Small.{IsShares};
 
@@ -17,28 +18,42 @@ use crate::grid::{GridUnit, Shares};
 use crate::spans::span_if;
 use dl_frac::Frac;
 use dl_lexer::Span;
+use dl_limits::Bounds;
 use dl_plan::Items;
-use dl_sev::{WeighFault, Weights, weigh};
+use dl_sev::{WeighFault, Weights, common_within, weigh};
 use std::alloc::{AllocError, Global};
 
 /// The list of these probabilities at a place, with its weights. Its one flaw is that fine
 /// probabilities do not sum to 1.
-#[tactic(auto, using(crate::proofs::Shared::keeps_weighed, crate::proofs::Shared::fine_weights, crate::proofs::Shared::breaks_one))]
+#[tactic(auto, using(crate::proofs::Shared::keeps_weighed, crate::proofs::Shared::fine_weights, crate::proofs::Shared::coarse_kept, crate::proofs::Shared::coarse_weights, crate::proofs::Shared::other_weights))]
 pub(crate) fn shares(
     alloc: Global,
     values: Vec<Frac>,
     span: Span,
+    bounds: Bounds,
 ) -> Result<Gridded<Shares>, AllocError>
-    ensures read { IfOk result (IsRead (sum_at (at_if (is_not_one values.items) span))
+    requires bounds { AreBounds bounds }
+    ensures read { IfOk result (IsRead (sum_at (at_if (is_not_one bounds.parts values.items) span))
         (shares_at values.items span)) }
     ensures values { IfOk result (λ made. made.part.values ≡ values.items) }
 {
     match weigh(alloc, &values) {
         Ok(weights) => Ok(weighed(values, Some(weights), span, None)),
         Err(WeighFault::TooFine) => Ok(weighed(values, None, span, None)),
-        Err(WeighFault::NotOne) => Ok(weighed(values, None, span, Some(span))),
+        Err(WeighFault::NotOne) => {
+            let sum = span_if(is_fine(&values, bounds.parts), span);
+            Ok(weighed(values, None, span, sum))
+        }
         Err(WeighFault::OutOfMemory) => Err(AllocError),
     }
+}
+
+/// Whether the common denominator of a list is at most `most`.
+fn is_fine(values: &[Frac], most: u64) -> bool
+    requires { most ≤ most_parts }
+    ensures { result ≡ is_fine most values.now }
+{
+    common_within(values, most).is_some()
 }
 
 /// A list with its weights, and the place where its sum is not 1.
@@ -66,18 +81,27 @@ fn weighed(
     }
 }
 
-/// The whole weights of the probabilities of `count` values; none exactly where these are not fine.
+/// The whole weights of the probabilities of `count` values; none exactly where these have a common
+/// denominator above `most`, which is at most 2^30, or do not sum to 1.
 pub fn weights_among(
     alloc: Global,
     count: usize,
     probs: &Option<Shares>,
+    most: u64,
 ) -> Result<Option<Weights>, AllocError>
     requires some { 0 < count }
     requires few { count ≤ most_values }
+    requires parts { most ≤ most_parts }
+    requires equal { most_values ≤ most }
     requires shares { IfSome probs.now IsShares }
-    ensures { IfOk result (λ made. MatchOption made (is_fine (probs_among count probs.now) ≡ false)
-        (IsWeighing (probs_among count probs.now))) }
+    ensures { IfOk result (λ made. MatchOption made
+        (are_fine most (probs_among count probs.now) ≡ false)
+        (λ made. (are_fine most (probs_among count probs.now) ≡ true)
+        × IsWeighing (probs_among count probs.now) made)) }
 {
+    if !are_fine(probs, most) {
+        return Ok(None);
+    }
     match probs {
         Some(probs) => copy_weights(alloc, &probs.weights),
         None => Ok(Some(equal_weights(alloc, count)?)),
@@ -97,15 +121,28 @@ fn equal_weights(alloc: Global, count: usize) -> Result<Weights, AllocError>
     })
 }
 
-/// Whether the probabilities of some values are fine.
-pub fn are_fine(probs: &Option<Shares>) -> bool
-    requires { IfSome probs.now IsShares }
+/// Whether the probabilities of some values have a common denominator of at most `most`, which is
+/// at most 2^30, and sum to 1.
+pub fn are_fine(probs: &Option<Shares>, most: u64) -> bool
+    requires parts { most ≤ most_parts }
+    requires equal { most_values ≤ most }
+    requires shares { IfSome probs.now IsShares }
     ensures { (count : ℕ) → 0 < count → count ≤ most_values
-        → result ≡ is_fine (probs_among count probs.now) }
+        → result ≡ are_fine most (probs_among count probs.now) }
 {
     match probs {
-        Some(probs) => probs.weights.is_some(),
+        Some(probs) => is_within(&probs.weights, most),
         None => true,
+    }
+}
+
+/// Whether there are weights, with a total of at most `most`.
+fn is_within(weights: &Option<Weights>, most: u64) -> bool
+    ensures { MatchOption weights.now (result ≡ false) (λ made. result ≡ nat_le made.total most) }
+{
+    match weights {
+        Some(weights) => weights.total as u64 <= most,
+        None => false,
     }
 }
 

@@ -1,10 +1,11 @@
 //! The values of a list, each with the place of its item.
 
-ghost use Rattle.std.specs.Prelude.{◌≡◌, ◌<◌, ◌≤◌, ◌++◌, [], All, IfOk, IfErr, map, flat_map, length};
-ghost use Rattle.dl_limits.specs.Limits.{most_amount, most_values};
+ghost use Rattle.std.specs.Prelude.{◌≡◌, ◌<◌, ◌≤◌, ◌+◌, ◌++◌, [], All, IfOk, IfErr, map, flat_map, length};
+ghost use Rattle.dl_limits.specs.Limits.{most_amount};
+ghost use Rattle.dl_limits.specs.Rules.{AreBounds};
 ghost use Rattle.dl_ast.specs.WellFormed.{IsFormedItem, IsFormedList};
 ghost use Rattle.dl_plan.specs.Ranges.{IsBucket};
-ghost use Rattle.dl_sev.specs.Prelude.{HasPartsOf18Digits, IsRange, PassesRoom};
+ghost use Rattle.dl_sev.specs.Prelude.{HasPartsOf18Digits, IsRange, range_values};
 ghost use Rattle.dl_buckets.specs.Flaws.{AgreeToFirst, IsRead, IsReadTo, flaws_in, spans};
 ghost use Rattle.dl_buckets.specs.Grid.{grid_list, number_of};
 ghost use Rattle.dl_buckets.specs.Reading.{flaws_of_item, flaws_of_list, flaws_of_amount};
@@ -16,17 +17,22 @@ use crate::numbers::{grid_amount, item_range};
 use dl_ast::{ListAst, ListItem};
 use dl_frac::Frac;
 use dl_lexer::Span;
-use dl_limits::MOST_VALUES;
+use dl_limits::Bounds;
 use dl_plan::Items;
 use dl_sev::{ExpandFault, Range, expand};
 use std::alloc::{AllocError, Global};
 
 /// The values of a list; none where it has a flaw.
-pub(crate) fn value_list(alloc: Global, list: &ListAst) -> Result<Gridded<ValueList>, AllocError>
-    requires { IsFormedList list.now }
-    ensures { IfOk result (IsReadTo 3 (flaws_of_list list.now) (grid_list list.now)) }
+pub(crate) fn value_list(
+    alloc: Global,
+    list: &ListAst,
+    bounds: Bounds,
+) -> Result<Gridded<ValueList>, AllocError>
+    requires bounds { AreBounds bounds }
+    requires formed { IsFormedList list.now }
+    ensures { IfOk result (IsReadTo 3 (flaws_of_list bounds list.now) (grid_list list.now)) }
 {
-    let spanned = spanned_values(alloc, list)?;
+    let spanned = spanned_values(alloc, list, bounds)?;
     Ok(Gridded {
         part: ValueList {
             values: Items::from_vec(values_alone(alloc, spanned.part.as_slice())?),
@@ -40,31 +46,39 @@ pub(crate) fn value_list(alloc: Global, list: &ListAst) -> Result<Gridded<ValueL
 pub(crate) fn spanned_values(
     alloc: Global,
     list: &ListAst,
+    bounds: Bounds,
 ) -> Result<Gridded<Items<(Frac, Span)>>, AllocError>
-    requires { IsFormedList list.now }
-    ensures read { IfOk result (IsReadTo 3 (flaws_of_list list.now) (spanned_values list.now)) }
+    requires bounds { AreBounds bounds }
+    requires formed { IsFormedList list.now }
+    ensures read { IfOk result (IsReadTo 3 (flaws_of_list bounds list.now)
+        (spanned_values list.now)) }
     ensures modest { IfOk result (λ made. All (λ pair. HasPartsOf18Digits pair.0) made.part) }
 {
     let items = list.items.as_slice();
-    if items.len() > MOST_VALUES {
-        return Ok(long_list(alloc, list, item_flaws(items)));
+    if items.len() > bounds.values {
+        return Ok(long_list(alloc, list, bounds, item_flaws(items)));
     }
     let ranges = item_ranges(alloc, items)?;
     if ranges.flaws.numeral.is_some() || ranges.flaws.range.is_some() {
         return Ok(no_values(alloc, ranges.flaws));
     }
-    match values_of_ranges(alloc, ranges.part.as_slice()) {
+    match values_of_ranges(alloc, ranges.part.as_slice(), bounds) {
         Ok(values) => Ok(ranges.with(Items::from_vec(values))),
-        Err(ExpandFault::TooLong) => Ok(long_list(alloc, list, ranges.flaws)),
+        Err(ExpandFault::TooLong) => Ok(long_list(alloc, list, bounds, ranges.flaws)),
         Err(ExpandFault::OutOfMemory) => Err(AllocError),
     }
 }
 
-/// No values of a list of more than 1,024, beside the flaws of its items.
-fn long_list(alloc: Global, list: &ListAst, items: Flaws) -> Gridded<Items<(Frac, Span)>>
-    requires long { most_values < length (spanned_values list.now) }
+/// No values of a list of more than it may have, beside the flaws of its items.
+fn long_list(
+    alloc: Global,
+    list: &ListAst,
+    bounds: Bounds,
+    items: Flaws,
+) -> Gridded<Items<(Frac, Span)>>
+    requires long { bounds.values < length (spanned_values list.now) }
     requires items { AgreeToFirst (spans items) (spans (flaws_in flaws_of_item list.now.items)) }
-    ensures read { IsReadTo 3 (flaws_of_list list.now) (spanned_values list.now) result }
+    ensures read { IsReadTo 3 (flaws_of_list bounds list.now) (spanned_values list.now) result }
     ensures part { result.part ≡ [] }
 {
     no_values(alloc, items.or(Flaws::long_at(Some(list.span))))
@@ -112,19 +126,21 @@ fn item_ranges(
 }
 
 /// The values of ranges, each with the place of its range. `TooLong` exactly where there are more
-/// than 1,024 values.
+/// than a list may have.
 fn values_of_ranges(
     alloc: Global,
     ranges: &[(Range, Span)],
+    bounds: Bounds,
 ) -> Result<Vec<(Frac, Span)>, ExpandFault>
-    requires { All (λ pair. IsRange pair.0) ranges.now }
+    requires bounds { AreBounds bounds }
+    requires ranges { All (λ pair. IsRange pair.0) ranges.now }
     ensures values { IfOk result (λ values. values.items ≡ flat_map spanned_in ranges.now) }
-    ensures few { IfOk result (λ values. length values.items ≤ most_values) }
-    ensures long { IfErr result (AreTooMany (length (flat_map spanned_in ranges.now))) }
+    ensures few { IfOk result (λ values. length values.items ≤ bounds.values) }
+    ensures long { IfErr result (AreTooMany bounds (length (flat_map spanned_in ranges.now))) }
 {
     let mut values = Vec::new(alloc);
     'each: for &(range, span) in ranges {
-        if let Err(fault) = push_spanned(alloc, range, span, &mut values) {
+        if let Err(fault) = push_spanned(alloc, range, span, bounds, &mut values) {
             return Err(fault);
         }
     }
@@ -132,22 +148,25 @@ fn values_of_ranges(
 }
 
 /// The values of a range put behind others, each with this place. `TooLong` exactly where there are
-/// then more than 1,024 values.
+/// then more than a list may have.
 fn push_spanned(
     alloc: Global,
     range: Range,
     span: Span,
+    bounds: Bounds,
     values: &mut Vec<(Frac, Span)>,
 ) -> Result<(), ExpandFault>
+    requires bounds { AreBounds bounds }
     requires range { IsRange range }
-    requires room { length values.old.items ≤ most_values }
+    requires room { length values.old.items ≤ bounds.values }
     ensures values { IfOk result (λ _. values.new.items
         ≡ values.old.items ++ spanned_in (range, span)) }
-    ensures few { IfOk result (λ _. length values.new.items ≤ most_values) }
-    ensures long { IfErr result (PassesRoom (length values.old.items) range) }
+    ensures few { IfOk result (λ _. length values.new.items ≤ bounds.values) }
+    ensures long { IfErr result (AreTooMany bounds (length values.old.items
+        + length (range_values range))) }
 {
     let part = expand(alloc, &[range])?;
-    if part.len() > MOST_VALUES - values.len() {
+    if part.len() > bounds.values - values.len() {
         return Err(ExpandFault::TooLong);
     }
     push_each(values, &part, span)?;

@@ -12,7 +12,7 @@ use crate::copies::severities;
 use crate::shares::{expected, shares, sharing};
 use dl_bytes::Text;
 use dl_frac::Frac;
-use dl_limits::{ADMITTED_BOUND, MOST_EXPECTED};
+use dl_limits::{ADMITTED_BOUND, MOST_EXPECTED, MOST_PARTS};
 use dl_plan::{Freq, Plan, Sev, Unit};
 use dl_sev::{MixFault, WeighFault, Weights, mix, weigh};
 use std::alloc::{AllocError, Global};
@@ -133,7 +133,7 @@ fn mixed_severity(alloc: Global, units: &[&Unit], all: Frac) -> Result<Option<Se
         return Ok(None);
     };
     let sevs = severities(alloc, units)?;
-    match mix(alloc, &sevs, &weights) {
+    match mix(alloc, &sevs, &weights, MOST_PARTS) {
         Ok(sev) => Ok(Some(sev)),
         Err(MixFault::OutOfMemory) => Err(AllocError),
         Err(MixFault::TooFine) => Ok(None),

@@ -1,5 +1,5 @@
 -- Values in money as whole numbers of buckets.
-use Rattle.std.specs.Prelude.{ℕ, ◌≡◌, ◌<◌, ◌≤◌, ◌^◌, ⊤, List, length, map, All, slice_index_or}
+use Rattle.std.specs.Prelude.{ℕ, ◌≡◌, ◌<◌, ◌≤◌, ⊤, List, length, map, All, slice_index_or}
 use Rattle.dl_limits.specs.Limits.{amount_bound}
 use Rattle.dl_exact.specs.Fraction.{Fraction, whole, ◌/ℚ◌, ◌<ℚ◌}
 use Rattle.dl_plan.specs.Fine.{IsWhole}

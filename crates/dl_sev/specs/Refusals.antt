@@ -2,7 +2,7 @@
 use Rattle.std.specs.Prelude.{ℕ, ◌≤◌, ⊤, List, map, All, Any}
 use Rattle.dl_plan.specs.declared.item.Item.{Item}
 use Rattle.dl_plan.specs.declared.severity.Sev.{Sev}
-use Rattle.dl_plan.specs.Prelude.{IsFineTo30Bits, IsWhole, Clause, kept}
+use Rattle.dl_plan.specs.Prelude.{common_denominator, IsWhole, Clause, kept}
 use Rattle.dl_sev.specs.declared.weights.Weights.{Weights}
 use Rattle.dl_sev.specs.Steps.{mixture}
 use Rattle.dl_sev.specs.declared.fault.MixFault.{MixFault}
@@ -23,8 +23,8 @@ RefusesClause items clause cede_fault.OffGrid =
     Any (λ item. ¬ IsWhole (kept clause item.amount)) items
 RefusesClause items clause cede_fault.OutOfMemory = ⊤
 
--- the products of a weight and an atom's probability have a common denominator above 2^30
-abbrev pub RefusesMixture : List Sev → Weights → MixFault → Type 0
-RefusesMixture atoms weights mix_fault.TooFine =
-    ¬ IsFineTo30Bits (map (λ pair. pair.1) (mixture atoms weights))
-RefusesMixture atoms weights mix_fault.OutOfMemory = ⊤
+-- the products of a weight and an atom's probability have a common denominator above `most`
+abbrev pub RefusesMixture : (most : ℕ) → List Sev → Weights → MixFault → Type 0
+RefusesMixture most atoms weights mix_fault.TooFine =
+    ¬ common_denominator (map (λ pair. pair.1) (mixture atoms weights)) ≤ most
+RefusesMixture most atoms weights mix_fault.OutOfMemory = ⊤

@@ -3,15 +3,15 @@
 ghost use Rattle.std.specs.Prelude.{◌≡◌, ◌++◌, ◌≤◌, ◌<◌, ◌^◌, length, map, sum, zip, IfOk, OnOk, MatchResult};
 ghost use Rattle.dl_limits.specs.Limits.{most_parts};
 ghost use Rattle.dl_exact.specs.Fraction.{◌over◌};
-ghost use Rattle.dl_plan.specs.Prelude.{IsFineTo30Bits, amounts_of, HasDistribution};
+ghost use Rattle.dl_plan.specs.Prelude.{amounts_of, common_denominator, HasDistribution};
 ghost use Rattle.dl_sev.specs.Steps.{weighed, items_of, mixture, mixed_probability};
 ghost use Rattle.dl_sev.specs.Refusals.{RefusesMixture};
 
 use crate::fault::MixFault;
 use crate::gather::gathered;
-use crate::weights::{Weights, over_common};
+use crate::weights::{Weights, common_within, over_common};
 use dl_frac::Frac;
-use dl_plan::{Item, Sev, common_denominator_of};
+use dl_plan::{Item, Sev};
 use std::alloc::{AllocError, Global};
 
 /// The severity of amounts with whole weights: equal amounts are added up, and weights of 0
@@ -42,16 +42,18 @@ fn items_of(alloc: Global, amounts: &[u32], weights: &[u32]) -> Result<Vec<Item>
 }
 
 /// The mixture of atoms: the probabilities of each times its weight over the total, which is from 1
-/// to 2^30. `TooFine` exactly where these products have a common denominator above 2^30.
-pub fn mix(alloc: Global, atoms: &[Sev], weights: &Weights) -> Result<Sev, MixFault>
+/// to 2^30. `TooFine` exactly where these products have a common denominator above `most`, which is
+/// at most 2^30.
+pub fn mix(alloc: Global, atoms: &[Sev], weights: &Weights, most: u64) -> Result<Sev, MixFault>
     requires lengths { length atoms.now ≡ length weights.now.weights }
     requires sum { sum weights.now.weights ≡ weights.now.total }
     requires some { 1 ≤ weights.now.total }
     requires within { weights.now.total ≤ most_parts }
+    requires most { most ≤ most_parts }
     ensures step { MatchResult result (λ made. HasDistribution made (mixture atoms.now weights.now))
-        (RefusesMixture atoms.now weights.now) }
-    ensures fine { OnOk result
-        (IsFineTo30Bits (map (λ pair. pair.1) (mixture atoms.now weights.now))) }
+        (RefusesMixture most atoms.now weights.now) }
+    ensures fine { OnOk result (common_denominator (map (λ pair. pair.1)
+        (mixture atoms.now weights.now)) ≤ most) }
 {
     let mut amounts = Vec::new(alloc);
     let mut probs = Vec::new(alloc);
@@ -60,7 +62,7 @@ pub fn mix(alloc: Global, atoms: &[Sev], weights: &Weights) -> Result<Sev, MixFa
         push_amounts(&mut amounts, atom.items.as_slice())?;
         push_probs(&mut probs, atom, parts[at], weights.total)?;
     }
-    let Some(common) = common_denominator_of(&probs) else {
+    let Some(common) = common_within(&probs, most) else {
         return Err(MixFault::TooFine);
     };
     let whole = over_common(alloc, &probs, common)?;

@@ -75,8 +75,8 @@ impl From<AllocError> for WeighFault {
 /// Why atoms were not mixed.
 #[derive(Clone, Copy, Debug, PartialEq, Eq, Error)]
 pub enum MixFault {
-    /// The products of a weight and an atom's probability have a common denominator above 2^30.
-    #[error("the common denominator of the mixed probabilities passes 2^30")]
+    /// The products of a weight and an atom's probability have a common denominator above the bound.
+    #[error("the common denominator of the mixed probabilities passes its bound")]
     TooFine,
     /// The items found no room.
     #[error("out of memory")]

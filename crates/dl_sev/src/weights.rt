@@ -1,5 +1,6 @@
 //! Whole weights of a list of probabilities.
 
+ghost use Rattle.std.specs.Option.{SomeIff};
 ghost use Rattle.std.specs.Prelude.{◌≡◌, ◌≤◌, ◌^◌, IfOk};
 ghost use Rattle.dl_limits.specs.Limits.{most_parts};
 ghost use Rattle.dl_exact.specs.Fraction.{whole};
@@ -8,7 +9,7 @@ ghost use Rattle.dl_sev.specs.Weighing.{sum_of};
 ghost use Rattle.dl_sev.specs.Weighed.{IsWeighing};
 
 use dl_frac::Frac;
-use dl_plan::{Items, numerator_over};
+use dl_plan::{Items, common_denominator_of, numerator_over};
 use std::alloc::{AllocError, Global};
 
 /// Whole weights, each of which has itself over the total as its probability.
@@ -18,6 +19,18 @@ pub struct Weights {
     pub weights: Items<u32>,
     /// Their sum.
     pub total: u32,
+}
+
+/// The common denominator of the fractions; `None` exactly where it passes `most`, which is at most
+/// 2^30. Takes no memory.
+pub fn common_within(fracs: &[Frac], most: u64) -> Option<u32>
+    requires { most ≤ most_parts }
+    ensures { SomeIff result (common_denominator fracs.now ≤ most) (common_denominator fracs.now) }
+{
+    match common_denominator_of(fracs) {
+        Some(common) if common as u64 <= most => Some(common),
+        _ => None,
+    }
 }
 
 /// The whole weights of probabilities that sum to 1, over their common denominator.

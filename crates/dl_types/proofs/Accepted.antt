@@ -1,10 +1,10 @@
 -- A program that breaks no rule has a plan.
-use Rattle.dl_types.proofs.Common.{ℕ, zero, suc, ◌≡◌, ◌∙◌, ◌<◌, ◌≤◌, List, [], ◌∷◌, ◌++◌, length, take, get_or, None, refl, sym, ap, subst, arith, Ok, All, All-nil, most_units, Plan, Settings, IsValidUnit, UnitAst, Program, IsWellFormed, in_turn, expected_claims, cells_asked, fault_on_grid, first_fault_of, first_fault, AnswersUnit, AnswersUnits, aggregate_clause, GridUnit, IsGridUnit, too_many_units, breaks, IsSet, else_first, else_second, clauses_layered, most_amount_at, amount_fits, IsWithin, add-one, UnitOfPlan, IsValid, IsFormedUnit, IsFormedMixture, IsFormedDefinition, fault_of_text, fault_of_mixture, fault_of_severity, fault_with, AnswersWith, mixture_of, MixAst, PortHead, SevDef, Option, Some, IfSome, IsPlanOf, common_unit, grid_of, IsClean, flaws_of, turn_start, turn_none, grid_is, within_is}
+use Rattle.dl_types.proofs.Common.{ℕ, zero, suc, ◌≡◌, ◌∙◌, ◌<◌, ◌≤◌, List, [], ◌∷◌, ◌++◌, length, take, get_or, None, refl, sym, ap, subst, arith, Ok, All, All-nil, Plan, Settings, IsValidUnit, UnitAst, Program, IsWellFormed, in_turn, expected_claims, cells_asked, fault_on_grid, first_fault_of, first_fault, AnswersUnit, AnswersUnits, aggregate_clause, GridUnit, IsGridUnit, too_many_units, breaks, IsSet, else_first, else_second, clauses_layered, most_amount_at, amount_fits, IsWithin, add-one, UnitOfPlan, IsValid, IsFormedUnit, IsFormedMixture, IsFormedDefinition, fault_of_text, fault_of_mixture, fault_of_severity, fault_with, AnswersWith, mixture_of, MixAst, PortHead, SevDef, Option, Some, IfSome, IsPlanOf, common_unit, grid_of, IsClean, flaws_of, turn_start, turn_none, grid_is, within_is, bounds_asked}
 use Rattle.dl_types.specs.declared.rule.Rule.TheVariants as rules
 use Rattle.dl_buckets.proofs.SevThere.{final_there}
 use Rattle.dl_types.proofs.Aggregates.{clause_there}
 use Rattle.dl_types.proofs.PlannedCounts.{count_there}
-use Rattle.dl_types.proofs.UnitFacts.{layered_is, fine_agr, fine_sev, kept_is, grid_parts, grid_answer}
+use Rattle.dl_types.proofs.UnitFacts.{asked_within, layered_is, fine_agr, fine_sev, kept_is, grid_parts, grid_answer}
 use Rattle.dl_types.proofs.RuleLists.{both}
 use Rattle.dl_types.proofs.Texts.{text_clean}
 use Rattle.dl_types.proofs.FactorKept.{shape_there}
@@ -23,30 +23,30 @@ module _ (settings : Settings) (before : List UnitAst) (u : UnitAst) (m : MixAst
   abbrev most : ℕ
   most = most_amount_at (cells_asked settings)
 
-  groups : (fault_of_text unit (flaws_of most settings.bs u m) ≡ None) × (fault_on_grid settings unit g ≡ None)
+  groups : (fault_of_text unit (flaws_of (bounds_asked settings) most settings.bs u m) ≡ None) × (fault_on_grid settings unit g ≡ None)
   unfolding fault_with
   groups =
       let later = both unit rules.DuplicateName _ _ none in (
-        else_first (fault_of_text unit (flaws_of most settings.bs u m)) _ later.1,
-        else_second (fault_of_text unit (flaws_of most settings.bs u m)) _ later.1,
+        else_first (fault_of_text unit (flaws_of (bounds_asked settings) most settings.bs u m)) _ later.1,
+        else_second (fault_of_text unit (flaws_of (bounds_asked settings) most settings.bs u m)) _ later.1,
       )
 
-  clean : IsClean (flaws_of most settings.bs u m)
-  clean = text_clean unit (flaws_of most settings.bs u m) groups.0
+  clean : IsClean (flaws_of (bounds_asked settings) most settings.bs u m)
+  clean = text_clean unit (flaws_of (bounds_asked settings) most settings.bs u m) groups.0
 
   grid : IsGridUnit g
-  grid = grid_is most settings.bs u m clean (amount_fits (cells_asked settings)) formed mixed
+  grid = grid_is (bounds_asked settings) most settings.bs u m clean (asked_within settings) (amount_fits (cells_asked settings)) formed mixed
 
   within : IsWithin most g
-  within = within_is most settings.bs u m clean
+  within = within_is (bounds_asked settings) most settings.bs u m clean
 
   there_with : (made : UnitOfPlan) × AnswersWith settings before u m (Ok made)
   there_with =
       let parts = grid_parts settings unit g groups.1 in
       let layered = layered_is unit g grid parts.0 in
-      let sev = final_there g (fine_sev settings.bs unit g grid parts.1 layered.0 layered.1) in
-      let freq = count_there g.count (expected_claims settings.bs g) (kept_is settings.bs unit g grid parts.1) in
-      let clause = clause_there g.agr (clauses_layered g layered.0).1 (fine_agr settings.bs unit g grid parts.1) in
+      let sev = final_there g (fine_sev (bounds_asked settings) (asked_within settings) settings.bs unit g grid parts.1 layered.0 layered.1) in
+      let freq = count_there g.count (expected_claims (bounds_asked settings) settings.bs g) (kept_is (bounds_asked settings) (asked_within settings) settings.bs unit g grid parts.1) in
+      let clause = clause_there g.agr (clauses_layered g layered.0).1 (fine_agr (bounds_asked settings) (asked_within settings) settings.bs unit g grid parts.1) in
       let made : UnitOfPlan = record {
         name = u.name.text;
         sev = sev.0;
@@ -119,7 +119,8 @@ pub accepted : (program : Program) (settings : Settings) → IsWellFormed progra
     → first_fault program settings ≡ None → (plan : Plan) × IsPlanOf program settings plan × IsValid plan
 unfolding first_fault
 accepted program settings formed set none =
-    let many = both most_units rules.TooManyUnits (too_many_units program.units) _ none in
+    let bounds = bounds_asked settings in
+    let many = both bounds.units rules.TooManyUnits (too_many_units bounds.units program.units) _ none in
     let names = else_first (in_turn fault_of_severity [] program.sevs) _ many.1 in
     let later = else_second (in_turn fault_of_severity [] program.sevs) _ many.1 in
     let each = else_first (in_turn (first_fault_of settings program.port program.sevs) [] program.units) _ later in
@@ -128,5 +129,5 @@ accepted program settings formed set none =
     let shape = shape_there settings program units.0 units.1 yet in
     let plan : Plan = record { bs = settings.bs; cells = cells_asked settings; units = units.0; common = shape.0 } in
     let answer = plan_of_units program settings plan refl refl shape.1 shape.2 set formed
-    (few_units program.units many.0) many.0 names units.1 yet in
+    (omega (arith, few_units bounds.units program.units many.0, (asked_within settings).units)) many.0 names units.1 yet in
     (plan, answer.1, answer.2)

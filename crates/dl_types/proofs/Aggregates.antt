@@ -1,11 +1,11 @@
 -- An aggregate clause that breaks no rule is one of a valid plan.
-use Rattle.dl_types.proofs.Common.{◌≡◌, ◌∙◌, ap, ℕ, ◌≤◌, true, Option, Some, None, refl, sym, subst, All, IfSome, ltb-false, All-map, most_horizon, most_amount_at, Sev, HasDistribution, Clause, IsClause, horizon, horizon_is, not_at, GridClause, GridUnit, clause_of, has_shares, off_grid_cession, final_severity, aggregate_clause, IsCedeOf, horizon_too_large, IsWithinMostAmount, IsAggregate, ceded_layer, IsClauseWithin, IsWithin, made_of, shares_of, is_fine, MadeClause, clause_fine, made_is_clause, made_whole, cede_of}
+use Rattle.dl_types.proofs.Common.{◌≡◌, ◌∙◌, ap, ℕ, ◌≤◌, true, Option, Some, None, refl, sym, subst, All, IfSome, ltb-false, All-map, most_horizon, most_amount_at, Sev, HasDistribution, Clause, IsClause, horizon, horizon_is, not_at, GridClause, GridUnit, clause_of, has_shares, off_grid_cession, final_severity, aggregate_clause, IsCedeOf, horizon_too_large, IsWithinMostAmount, IsAggregate, ceded_layer, IsClauseWithin, IsWithin, made_of, shares_of, is_fine, MadeClause, clause_fine, made_is_clause, made_whole, cede_of, most_parts}
 use Rattle.dl_buckets.specs.CheckedClauses.{IsClauseLayered}
 use Rattle.dl_types.proofs.ClauseFacts.{sums_whole}
 
 -- ---- the horizon
 
-near_most : (cells : ℕ) (c : GridClause) → is_fine (shares_of c) ≡ true
+near_most : (cells : ℕ) (c : GridClause) → is_fine most_parts (shares_of c) ≡ true
     → horizon_too_large cells (made_of (Some c)) ≡ None → horizon (Some (clause_of c)) cells ≤ most_horizon cells
 unfolding horizon_too_large
 near_most cells c fine near = ltb-false (most_horizon cells) (horizon (Some (clause_of c)) cells)

@@ -10,6 +10,9 @@ pub use Rattle.std.specs.Option.{IfSome}
 pub use Rattle.std.specs.Prelude.{option_and_then, Err, Ok, is_some, Result, IfOk, OnOk, nat_le, IfErr, slice_get}
 pub use Rattle.std.specs.Str.{bytes_eq}
 pub use Prim.Native.Nat.{◌∣◌}
+pub use Rattle.dl_limits.proofs.RuleBounds.{bounds_within}
+pub use Rattle.dl_limits.specs.Rules.{AreBounds}
+pub use Rattle.dl_limits.specs.declared.rules.Bounds.{Bounds}
 pub use Rattle.dl_limits.specs.Limits.{admitted_bound, most_amount_at, most_claims, most_count, most_horizon, most_shape, most_units, most_parts, most_expected, rarest_claims, frac_bound, most_amount}
 pub use Rattle.dl_exact.proofs.GcdLaws.{gcd_is}
 pub use Rattle.dl_exact.proofs.Laws.{div_times, plus_comm, le_plus, lt_not_le, le_refl, one_pos, times_pos, whole_pos, le_of_eq, plus_assoc, plus_zero, zero_plus, le_trans, zero_times, times_comm, div_pos, one_times, times_le_cancel, times_le_both, ring, times_cancel, lt_of_lt_of_le}
@@ -36,7 +39,7 @@ pub use Rattle.dl_plan.specs.declared.severity.Sev.{Sev}
 pub use Rattle.dl_buckets.proofs.Nothing.{else_first, else_second, not_at}
 pub use Rattle.dl_buckets.specs.First.{at_if, ◌else◌, within}
 unfoldable pub use Rattle.dl_buckets.specs.First.{in_turn, first_in}
-pub use Rattle.dl_buckets.specs.Lists.{is_admitted, is_whole, probs_in_count, probs_of, is_fine, is_zero, is_above}
+pub use Rattle.dl_buckets.specs.Lists.{are_fine, is_admitted, is_whole, probs_of, is_fine, is_zero, is_above}
 pub use Rattle.dl_buckets.specs.declared.grid.GridCount.{GridCount}
 pub use Rattle.dl_buckets.specs.declared.grid.GridCount.TheVariants.{Exposed, Listed}
 pub use Rattle.dl_buckets.specs.declared.grid.GridFreq.{GridFreq}
@@ -47,7 +50,7 @@ pub use Rattle.dl_buckets.proofs.ClauseGrids.{clauses_layered}
 pub use Rattle.dl_buckets.proofs.Items.{items_in, Rising, rises, support_positive, none_later, item_share, support_all}
 pub use Rattle.dl_buckets.proofs.Values.{never, zero_above, not_above}
 pub use Rattle.dl_buckets.specs.Clauses.{clause_of, made_of, shares_of, ceded_layer, is_off_multiples}
-pub use Rattle.dl_buckets.specs.FineParts.{fractions_too_fine, has_severity, has_shares}
+pub use Rattle.dl_buckets.specs.FineParts.{fractions_too_fine, has_probs, has_severity, has_shares}
 pub use Rattle.dl_buckets.specs.CheckedGrid.{IsGridUnit, IsWithin, IsClauseWithin}
 unfoldable pub use Rattle.dl_buckets.specs.Rules.{off_grid_cession, other_length}
 pub use Rattle.dl_buckets.specs.Severity.{final_severity, severity_in_layer, support, KeepsWhole, made_pairs}
@@ -56,11 +59,11 @@ pub use Rattle.dl_buckets.specs.declared.grid.GridUnit.{GridUnit}
 pub use Rattle.dl_types.specs.Answer.{AnswersUnit, AnswersUnits, HasFault, StopsAt, IsCheckOf, AnswersWith, AnswersGrid}
 pub use Rattle.dl_types.specs.Exposures.{admitted, claims_above_zero, claims_of, shape_of, is_unbounded, has_count, is_there_and, thinned}
 unfoldable pub use Rattle.dl_types.specs.Exposures.{expected_claims}
-pub use Rattle.dl_types.specs.Faults.{breaks, cells_asked, fault_of_severity, first_broken, fault_of_text, fault_of_mixture, common_size, parts_in, clause_rules, whole_rules, count_rules, most_asked, AllKept, number_rules, change_rules, grid_rules, text_rules}
+pub use Rattle.dl_types.specs.Faults.{bounds_asked, breaks, cells_asked, fault_of_severity, first_broken, fault_of_text, fault_of_mixture, common_size, parts_in, clause_rules, whole_rules, count_rules, most_asked, AllKept, number_rules, change_rules, grid_rules, text_rules}
 unfoldable pub use Rattle.dl_types.specs.Faults.{fault_on_grid, first_fault, first_fault_of, fault_of_port, fault_with}
 pub use Rattle.dl_types.specs.Checked.{IsCountChecked, IsFreqChecked, IsSet, IsWholeCount, IsWholeFreq, IsSmallFreq}
 pub use Rattle.dl_types.specs.Plans.{IsCedeOf, IsCountMade, aggregate_clause, pairs_of_counts, freq_with, IsCountOf, IsUnitOn, IsUnitOf, IsSharedShape, IsWrittenShape, IsPlanOf, IsTableOf, cede_of, IsCountWith, IsUnitWith}
-pub use Rattle.dl_types.specs.Rules.{passes, repeated, has_common, exposure_span, is_poisson, is_plain_poisson, freq_span, has_no_base, has_bad_shape, seventeenth}
+pub use Rattle.dl_types.specs.Rules.{passes, repeated, has_common, exposure_span, is_poisson, is_plain_poisson, freq_span, has_no_base, has_bad_shape}
 unfoldable pub use Rattle.dl_types.specs.Rules.{duplicate_name, exposed_too_fine, has_too_many_claims, horizon_too_large, too_fine, too_many_claims, too_many_units, common_unit, zero_base, common_shape, duplicate_severity, count_not_whole, count_above_one, trials_not_whole, shape_not_whole, zero_mean}
 pub use Rattle.dl_types.specs.UnitNames.{names_of, severity_names}
 pub use Rattle.dl_types.specs.declared.fault.CheckFault.{CheckFault}
@@ -110,7 +113,7 @@ pub use Rattle.dl_types.specs.Known.{IsKnown, IsMixtureRead}
 pub use Rattle.std.proofs.Math.Nat.{ℕ_set, eq_of_mul-eq-mul_right, mul-le-mul, pos_of_dvd_of_pos, mul-le-mul_right, eq-one_of_dvd-one, eq-zero-or-pos, dvd-mul_right}
 pub use Rattle.dl_buckets.specs.Small.{IsGridCount, IsSmall}
 pub use Rattle.dl_buckets.specs.Rules.{count_lengths, common_amount_of, off_grid_sums, off_grid_amounts}
-pub use Rattle.dl_buckets.proofs.Shared.{among_probabilities, all_left, all_right, common_divides}
+pub use Rattle.dl_buckets.proofs.Shared.{fine_probabilities, probabilities_fine, all_left, all_right, common_divides}
 pub use Rattle.dl_buckets.proofs.OffGrid.{made_whole, multiples_none, sums_none}
 pub use Rattle.dl_types.specs.Severities.{body_span}
 pub use Rattle.dl_buckets.proofs.Mixing.{seconds-zip, weights_length, weighed_are}

@@ -1,6 +1,6 @@
 -- The bounds of units under a factor, by the units and by their parts.
 use Rattle.std.proofs.lemmas.Simd.{map-map}
-use Rattle.dl_types.proofs.Common.{◌≡◌, ◌∙◌, ℕ, suc, ◌<◌, ◌≤◌, ◌&&◌, ◌||◌, Bool, true, false, not, is_some, if◌then◌else◌, nat_lt, List, [], ◌∷◌, ◌++◌, map, Option, Some, None, refl, sym, ap, ap₂, arith, Fraction, whole, ◌over◌, ◌*ℚ◌, Item, ltb-false, most_shape, passes, flat_map, or-true, le-ltb, or_parts, flat_map-cons, most_expected, UnitOfPlan, raised, unit_share, shared_probabilities, expected_count, thinned_mean, is_fine, is_zero, Part, part_of, claim_share, amount_shares, is_raised_coarse, passes_bounds, passes_with, running_sum, is_too_large}
+use Rattle.dl_types.proofs.Common.{◌≡◌, ◌∙◌, ℕ, suc, ◌<◌, ◌≤◌, ◌&&◌, ◌||◌, Bool, true, false, not, is_some, if◌then◌else◌, nat_lt, List, [], ◌∷◌, ◌++◌, map, Option, Some, None, refl, sym, ap, ap₂, arith, Fraction, whole, ◌over◌, ◌*ℚ◌, Item, ltb-false, most_shape, passes, flat_map, or-true, le-ltb, or_parts, flat_map-cons, most_expected, UnitOfPlan, raised, unit_share, shared_probabilities, expected_count, thinned_mean, is_fine, is_zero, Part, part_of, claim_share, amount_shares, is_raised_coarse, passes_bounds, passes_with, running_sum, is_too_large, most_parts}
 
 abbrev pub claims_of_units : List UnitOfPlan → Option Fraction
 claims_of_units units = running_sum (whole 0) (map (λ (u : UnitOfPlan). expected_count u.freq) units)
@@ -28,10 +28,10 @@ module _ (r : ℕ) (v h : Fraction) (units : List UnitOfPlan) where
   -- the two tests of shares, read of the units
   pub bounds_are : passes_bounds r v h (map part_of units)
       ≡ (is_zero v || is_raised_coarse r v || is_raised_coarse r h || passes (raised r h) most_expected
-      || not (is_fine (map (unit_share v) units)) || not (is_fine (flat_map (shared_probabilities v) units)))
+      || not (is_fine most_parts (map (unit_share v) units)) || not (is_fine most_parts (flat_map (shared_probabilities v) units)))
   bounds_are =
       ap₂ (λ xs ys. is_zero v || is_raised_coarse r v || is_raised_coarse r h || passes (raised r h) most_expected
-      || not (is_fine xs) || not (is_fine ys)) (claim_shares_are v units) (amount_shares_are v units)
+      || not (is_fine most_parts xs) || not (is_fine most_parts ys)) (claim_shares_are v units) (amount_shares_are v units)
 
 -- the tests in the order of the code
 pub last_passes : (a b d e x y : Bool) → a ≡ false → b ≡ false → (d || e) ≡ false

@@ -15,7 +15,7 @@ both_there r parts None h e = absurd cc
 both_there r parts (Some v) None e = absurd cc
 both_there r parts (Some v) (Some h) e = (v, h, refl, refl, e)
 
-is_fine_list : (xs : List Fraction) → is_fine xs ≡ true → IsFineTo30Bits xs
+is_fine_list : (xs : List Fraction) → is_fine most_parts xs ≡ true → IsFineTo30Bits xs
 is_fine_list xs h = leb-true (common_denominator xs) most_parts h
 
 module _ (r : ℕ) (units : List UnitOfPlan) (some : 0 < r) (can : All CanShare units)

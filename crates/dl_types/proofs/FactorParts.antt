@@ -84,7 +84,7 @@ module _ (ps qs : List Part) (h : AllZip SamePart ps qs) (v : Fraction) where
   same_bounds : (r : ℕ) (u : Fraction) → passes_bounds r v u ps ≡ passes_bounds r v u qs
   same_bounds r u =
       ap₂ (λ xs n. is_zero v || is_raised_coarse r v || is_raised_coarse r u || passes (raised r u) most_expected
-      || not (is_fine xs) || not (nat_le n most_parts))
+      || not (is_fine most_parts xs) || not (nat_le n most_parts))
       (map_alike SamePart (claim_share v) (claim_share v) (λ p q s. ap (λ n. n /ℚ v) s.expected) ps qs h) same_denominator
 
 same_with : (ps qs : List Part) → AllZip SamePart ps qs → (r : ℕ) (v u : Option Fraction)

@@ -90,11 +90,11 @@ module _ (v : Fraction) (units : List UnitOfPlan) (i : ℕ) (u : UnitOfPlan) (lt
       ∙ common_multiple_append 1 (amounts (take i units)) (shared_probabilities v u)
 
   abbrev fine : Bool
-  fine = is_fine (claims units) && is_fine (amounts units)
+  fine = is_fine most_parts (claims units) && is_fine most_parts (amounts units)
 
   pub claims_coarse : most_parts < lcm (common_multiple 1 (claims (take i units))) (unit_share v u).den → false ≡ fine
   claims_coarse far =
-      sym (ap (λ b. b && is_fine (amounts units)) (lt-leb (common_multiple 1 (claims units)) most_parts
+      sym (ap (λ b. b && is_fine most_parts (amounts units)) (lt-leb (common_multiple 1 (claims units)) most_parts
       (numbers_coarse (unit_share v) 1 units i u lt is (omega arith) far)))
 
   pub amounts_coarse : most_parts < common_multiple (common_multiple 1 (amounts (take i units))) (shared_probabilities v u) → false ≡ fine
@@ -109,8 +109,8 @@ module _ (v : Fraction) (units : List UnitOfPlan) (i : ℕ) (u : UnitOfPlan) (lt
         common_multiple_within 1 (amounts (take (i + 1) units)) (amounts (drop (i + 1) units)) (omega arith),
         ap (common_multiple 1) split,
       ) in
-      sym (ap (λ b. is_fine (claims units) && b) (lt-leb (common_multiple 1 (amounts units)) most_parts more)
-      ∙ and-false (is_fine (claims units)))
+      sym (ap (λ b. is_fine most_parts (claims units) && b) (lt-leb (common_multiple 1 (amounts units)) most_parts more)
+      ∙ and-false (is_fine most_parts (claims units)))
 
 -- ---- the amounts of one unit, from whole numbers
 

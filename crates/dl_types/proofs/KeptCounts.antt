@@ -1,5 +1,7 @@
 -- What the rules on a count leave of it.
-use Rattle.dl_types.proofs.Common.{◌≡◌, ◌&&◌, Bool, true, false, not, if◌then◌else◌, length, Option, Some, None, refl, IfSome, is_some, Fraction, pos_num, HasPartsOf48Bits, GridFreq, Fixed, Poisson, Bernoulli, Binomial, Gamma, GridCount, Exposed, Listed, probs_in_count, not_at, not-false, IsWholeFreq, IsWholeCount, IsCountChecked, exposed_too_fine, has_too_many_claims, or_parts, IsGridCount, is_fine, count_lengths, among_probabilities, is_unbounded, IsSmallFreq, exposure_span, count_not_whole, count_above_one, trials_not_whole, shape_not_whole, zero_above}
+use Rattle.dl_types.proofs.Common.{◌≡◌, ◌&&◌, Bool, true, false, not, if◌then◌else◌, Option, Some, None, refl, IfSome, is_some, Fraction, pos_num, HasPartsOf48Bits, GridFreq, Fixed, Poisson, Bernoulli, Binomial, Gamma, GridCount, Exposed, Listed, not_at, not-false, IsWholeFreq, IsWholeCount, IsCountChecked, exposed_too_fine, has_too_many_claims, or_parts, IsGridCount, count_lengths, is_unbounded, IsSmallFreq, exposure_span, count_not_whole, count_above_one, trials_not_whole, shape_not_whole, zero_above, fine_probabilities, has_probs, probs_of, Bounds, AreBounds}
+use Rattle.std.specs.Prelude.{⊤}
+use Rattle.dl_buckets.specs.Parts.{AreProbabilities}
 use Rattle.dl_buckets.specs.declared.grid.GridExposure.{GridExposure}
 
 -- ---- tests
@@ -50,6 +52,15 @@ whole_count (Listed counts probs) n above are fine = tt
 
 -- ---- all rules
 
+-- the probabilities of listed counts are fine
+abbrev pub AreShared : GridCount → Type 0
+AreShared (Exposed e f) = ⊤
+AreShared (Listed counts probs) = AreProbabilities (probs_of counts probs)
+
+pub probs_are : (bounds : Bounds) → AreBounds bounds → (k : GridCount) → has_probs bounds k ≡ true → AreShared k
+probs_are bounds within (Exposed e f) fine = tt
+probs_are bounds within (Listed counts probs) fine = fine_probabilities bounds.parts (probs_of counts probs) within.parts fine
+
 -- and the rules on fractions and on sizes, with so many claims above 0; the lists are good, and the number is admitted
 pub record AreChecked (k : GridCount) (n above : Option Fraction) : Type 0 where
   pub whole : AreWhole k n
@@ -57,7 +68,7 @@ pub record AreChecked (k : GridCount) (n above : Option Fraction) : Type 0 where
   pub few : has_too_many_claims k n above ≡ false
   pub read : IsGridCount k
   pub paired : count_lengths k ≡ None
-  pub shared : is_fine (probs_in_count k) ≡ true
+  pub shared : AreShared k
   pub admitted : IfSome n HasPartsOf48Bits
 
 small_freq : (e : GridExposure) (f : GridFreq) (n : Fraction) (above : Option Fraction)
@@ -84,5 +95,5 @@ count_kept (Listed counts probs) n above are = record {
   lengths = are.paired;
   whole = not_at _ counts.span are.whole.whole;
   few = are.few;
-  shares = among_probabilities (length counts.values) probs are.read.0.some are.read.0.few are.read.1 are.shared;
+  shares = are.shared;
 }

@@ -22,3 +22,4 @@ pub mod Accepted
 pub mod OnePlan
 mod RuleLists
 mod Texts
+pub mod BothRules

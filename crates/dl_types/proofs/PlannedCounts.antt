@@ -1,5 +1,5 @@
 -- The claim count of a plan that is made of a count that breaks no rule.
-use Rattle.dl_types.proofs.Common.{ℕ, ◌≡◌, ◌∙◌, ◌*◌, ◌<◌, ◌<ℚ◌, ◌&&◌, not, nat_lt, Bool, true, false, if◌then◌else◌, List, map, Option, Some, None, refl, sym, ap, ap₂, subst, arith, is_some, IfSome, length-map, admitted_bound, most_claims, most_shape, Fraction, whole, ◌*ℚ◌, ◌/ℚ◌, ◌≤ℚ◌, div_times, Sev, HasPartsOf48Bits, Pairs, HasDistribution, GridFreq, Fixed, Poisson, Bernoulli, Binomial, Gamma, GridCount, Exposed, Listed, probs_of, is_admitted, not-false, GridUnit, claims_of, claims_above_zero, shape_of, IsFreqChecked, IsCountChecked, IsCountMade, freq_with, pairs_of_counts, has_too_many_claims, passes, and_parts, ltb-true, or_parts, most_expected, rarest_claims, ◌-ℚ◌, ◌over◌, IsNewZero, Freq, IsFineTo30Bits, probability_of, IsClaimCount, IsUnbounded, IsExposed, expected_of_plan, IsSmall, not_above, seconds-zip, has_count, is_there_and, thinned, freq_span, has_no_base, zero_base, is_above, IsCountWith, IsCountOf, not_at}
+use Rattle.dl_types.proofs.Common.{ℕ, ◌≡◌, ◌∙◌, ◌*◌, ◌<◌, ◌<ℚ◌, ◌&&◌, not, nat_lt, Bool, true, false, if◌then◌else◌, List, map, Option, Some, None, refl, sym, ap, ap₂, subst, arith, is_some, IfSome, length-map, admitted_bound, most_claims, most_shape, Fraction, whole, ◌*ℚ◌, ◌/ℚ◌, ◌≤ℚ◌, div_times, Sev, HasPartsOf48Bits, Pairs, HasDistribution, GridFreq, Fixed, Poisson, Bernoulli, Binomial, Gamma, GridCount, Exposed, Listed, probs_of, is_admitted, not-false, GridUnit, claims_of, claims_above_zero, shape_of, IsFreqChecked, IsCountChecked, IsCountMade, freq_with, pairs_of_counts, has_too_many_claims, passes, and_parts, ltb-true, or_parts, most_expected, rarest_claims, ◌-ℚ◌, ◌over◌, IsNewZero, Freq, IsFineTo30Bits, probability_of, IsClaimCount, IsUnbounded, IsExposed, expected_of_plan, IsSmall, not_above, seconds-zip, has_count, is_there_and, thinned, freq_span, has_no_base, zero_base, is_above, IsCountWith, IsCountOf, not_at, Bounds}
 use Rattle.dl_plan.specs.declared.plan.Freq.TheVariants as of_plan
 use Rattle.dl_sev.specs.Weighing.{sum_of}
 use Rattle.dl_buckets.proofs.SevSteps.{sev_of}
@@ -94,22 +94,22 @@ made_valid (Exposed e f) (Some n) freq kept made = (
 )
 made_valid (Listed counts probs) n freq kept made = (made.valid, made.expected)
 
-pub made_is : (bs : Fraction) (u : GridUnit) (k : GridCount) (n : Option Fraction) (freq : Freq) → n ≡ claims_of bs u k
+pub made_is : (bounds : Bounds) (bs : Fraction) (u : GridUnit) (k : GridCount) (n : Option Fraction) (freq : Freq) → n ≡ claims_of bounds bs u k
     → IsCountChecked k n → IsCountMade k n freq → IsCountOf bs u k freq
-made_is bs u (Exposed e f) None freq same kept made = absurd kept
-made_is bs u (Exposed e f) (Some n) freq same kept made =
+made_is bounds bs u (Exposed e f) None freq same kept made = absurd kept
+made_is bounds bs u (Exposed e f) (Some n) freq same kept made =
     subst (λ x. IsCountWith f x freq) (given _ (expected_count bs u e) n (sym same)).0
     (subst (IsCountWith f n) (sym made) (freq_is f n kept))
-made_is bs u (Listed counts probs) n freq same kept made = (made.table, made.valid)
+made_is bounds bs u (Listed counts probs) n freq same kept made = (made.table, made.valid)
 
 -- an expected count that is there is admitted
-pub claims_admitted : (bs : Fraction) (u : GridUnit) (k : GridCount) (n : Option Fraction) → n ≡ claims_of bs u k
+pub claims_admitted : (bounds : Bounds) (bs : Fraction) (u : GridUnit) (k : GridCount) (n : Option Fraction) → n ≡ claims_of bounds bs u k
     → IfSome n HasPartsOf48Bits
-claims_admitted bs u k None same = tt
-claims_admitted bs u (Exposed e f) (Some n) same =
-    let told = given (has_count u e && is_admitted (expected_count bs u e)) (expected_count bs u e) n (sym same) in
+claims_admitted bounds bs u k None same = tt
+claims_admitted bounds bs u (Exposed e f) (Some n) same =
+    let told = given (has_count bounds u e && is_admitted (expected_count bs u e)) (expected_count bs u e) n (sym same) in
     subst HasPartsOf48Bits (sym told.0) (admitted_is (expected_count bs u e) (and_parts _ _ told.1).1)
-claims_admitted bs u (Listed counts probs) (Some n) same = absurd (cc)
+claims_admitted bounds bs u (Listed counts probs) (Some n) same = absurd (cc)
 
 -- a change of its probability of no claim that breaks no rule
 pub made_zero : (k : GridCount) (n zero : Option Fraction) (freq : Freq) → IsCountChecked k n → IsCountMade k n freq

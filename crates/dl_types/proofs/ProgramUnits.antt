@@ -1,5 +1,5 @@
 -- The units of a plan, one after another.
-use Rattle.dl_types.proofs.Common.{Bool, true, false, list_any, map, if◌then◌else◌, IfSome, ◌≡◌, ◌∙◌, ℕ, ◌+◌, ◌<◌, ◌≤◌, List, [], ◌∷◌, ◌++◌, take, length, get_or, Option, Some, None, refl, sym, ap, subst, arith, bytes_eq, All, Ok, Err, CheckFault, Typing, OutOfMemory, AnswersUnit, AnswersUnits, All-nil, All-cons, All-head, All-tail, most_units, Fraction, whole, ◌<ℚ◌, Settings, IsValidUnit, UnitAst, ◌else◌, in_turn, Span, cells_asked, first_fault_of, first_fault, breaks, duplicate_name, too_many_units, IsSet, Program, IsWellFormed, Plan, else_first, not_at, never, both_ways, ◌≢◌, AllZip, AllPairs, take_all, bytes_eq-Decides, IsCheckOf, NoneTurned, turn_passed, turn_ended, All-append, UnitOfPlan, HasCommonFactor, IsUnitOn, IsUnitWith, IsUnitOf, IsSharedShape, common_unit, fault_with, fault_of_port, most_asked, fault_of_text, fault_of_mixture, fault_of_severity, StopsAt, HasFault, AnswersGrid, AnswersWith, named, mixture_of, body_span, TypeFault, GridUnit, fault_on_grid, names_of, grid_of, flaws_of, repeated, from_map, MixAst, PortHead, SevDef, IsFormedMixture, IsFormedBody, IsFormedDefinition, Result, IfOk, inl, inr, slice_get_cases}
+use Rattle.dl_types.proofs.Common.{Bool, true, false, list_any, map, if◌then◌else◌, IfSome, ◌≡◌, ◌∙◌, ℕ, ◌+◌, ◌<◌, ◌≤◌, List, [], ◌∷◌, ◌++◌, take, length, get_or, Option, Some, None, refl, sym, ap, subst, arith, bytes_eq, All, Ok, Err, CheckFault, Typing, OutOfMemory, AnswersUnit, AnswersUnits, All-nil, All-cons, All-head, All-tail, most_units, Fraction, whole, ◌<ℚ◌, Settings, IsValidUnit, UnitAst, ◌else◌, in_turn, Span, cells_asked, first_fault_of, first_fault, breaks, duplicate_name, too_many_units, IsSet, Program, IsWellFormed, Plan, else_first, not_at, never, both_ways, ◌≢◌, AllZip, AllPairs, take_all, bytes_eq-Decides, IsCheckOf, NoneTurned, turn_passed, turn_ended, All-append, UnitOfPlan, HasCommonFactor, IsUnitOn, IsUnitWith, IsUnitOf, IsSharedShape, common_unit, fault_with, fault_of_port, most_asked, fault_of_text, fault_of_mixture, fault_of_severity, StopsAt, HasFault, AnswersGrid, AnswersWith, named, mixture_of, body_span, TypeFault, GridUnit, fault_on_grid, names_of, grid_of, flaws_of, repeated, from_map, MixAst, PortHead, SevDef, IsFormedMixture, IsFormedBody, IsFormedDefinition, Result, IfOk, inl, inr, slice_get_cases, bounds_asked}
 use Rattle.std.proofs.lemmas.List.Quantifiers.{all_pairs_push}
 use Rattle.std.proofs.lemmas.Slice.Zip.{all_zipped_more, AllZip-long}
 use Rattle.dl_types.specs.declared.rule.Rule.TheVariants as rules
@@ -73,9 +73,9 @@ planned_all settings port sevs units i made before le = (
 
 -- ---- the program
 
-pub few_units : (units : List UnitAst) → too_many_units units ≡ None → length units ≤ most_units
+pub few_units : (most : ℕ) (units : List UnitAst) → too_many_units most units ≡ None → length units ≤ most
 unfolding too_many_units
-few_units units e = elim (slice_get_cases units most_units).1 [
+few_units most units e = elim (slice_get_cases units most).1 [
   | inl (u, lt, there, is) ↦ absurd (cc (rw there at e))
   | inr past ↦ past.0
 ]
@@ -109,20 +109,20 @@ name_rule before u names same = ap (λ ns. breaks (length before) rules.Duplicat
 -- what is told of the unit in whole buckets is told of it, where its name and its text break no rule
 pub answer_on_grid : (settings : Settings) (before : List UnitAst) (u : UnitAst) (m : MixAst) (g : GridUnit)
     → g ≡ grid_of settings.bs u m → breaks (length before) rules.DuplicateName (duplicate_name before u) ≡ None
-    → fault_of_text (length before) (flaws_of (most_asked settings) settings.bs u m) ≡ None
+    → fault_of_text (length before) (flaws_of (bounds_asked settings) (most_asked settings) settings.bs u m) ≡ None
     → (r : Result UnitOfPlan CheckFault) → AnswersGrid settings (length before) u.name.text g r
     → AnswersWith settings before u m r
 unfolding fault_with
 answer_on_grid settings before u m g same fresh clean (Ok made) (none, is, valid) = (
   skip (breaks (length before) rules.DuplicateName (duplicate_name before u)) _ fresh
-      ∙ skip (fault_of_text (length before) (flaws_of (most_asked settings) settings.bs u m)) _ clean
+      ∙ skip (fault_of_text (length before) (flaws_of (bounds_asked settings) (most_asked settings) settings.bs u m)) _ clean
       ∙ ap (fault_on_grid settings (length before)) (sym same) ∙ none,
   subst (λ x. IsUnitOn settings.bs u.name.text x made) same is,
   valid,
 )
 answer_on_grid settings before u m g same fresh clean (Err stop) told =
     stop_second (breaks (length before) rules.DuplicateName (duplicate_name before u)) _ stop fresh
-    (stop_second (fault_of_text (length before) (flaws_of (most_asked settings) settings.bs u m)) _ stop clean
+    (stop_second (fault_of_text (length before) (flaws_of (bounds_asked settings) (most_asked settings) settings.bs u m)) _ stop clean
     (subst (λ x. StopsAt (fault_on_grid settings (length before) x) stop) same told))
 
 -- what is told of a unit with its mixture is told of it with the named severities, where it can stand in the portfolio
@@ -165,12 +165,12 @@ module _ (program : Program) (settings : Settings) where
   check_stopped (Typing f) told = told
   check_stopped OutOfMemory told = tt
 
-  pub fault_of_many : (span : Span) → too_many_units program.units ≡ Some span
-      → first_fault program settings ≡ Some (record { unit = most_units; rule = rules.TooManyUnits; span = span })
+  pub fault_of_many : (span : Span) → too_many_units (bounds_asked settings).units program.units ≡ Some span
+      → first_fault program settings ≡ Some (record { unit = (bounds_asked settings).units; rule = rules.TooManyUnits; span = span })
   unfolding first_fault
   fault_of_many span e = rw e refl
 
-  module _ (few : too_many_units program.units ≡ None) where
+  module _ (few : too_many_units (bounds_asked settings).units program.units ≡ None) where
     pub fault_of_names : (stop : CheckFault) → StopsAt names stop → IsCheckOf program settings (Err stop)
     unfolding first_fault
     fault_of_names stop told = check_stopped stop (rw few (stop_first names _ stop told))
@@ -189,7 +189,7 @@ module _ (program : Program) (settings : Settings) where
 
   pub plan_of_units : (plan : Plan) → plan.bs ≡ settings.bs → plan.cells ≡ cells_asked settings
       → IsSharedShape program.port plan.common → IfSome plan.common (λ r. HasCommonFactor r plan.units) → IsSet settings
-      → IsWellFormed program → length program.units ≤ most_units → too_many_units program.units ≡ None → names ≡ None
+      → IsWellFormed program → length program.units ≤ most_units → too_many_units (bounds_asked settings).units program.units ≡ None → names ≡ None
       → AnswersUnits settings program.port program.sevs program.units (Ok plan.units) → fault_of_port settings program ≡ None
       → IsCheckOf program settings (Ok plan)
   plan_of_units plan bs cells shape factor set formed few none fresh told rest =

@@ -1,5 +1,5 @@
 -- A unit that is read tells of the rules that its text breaks, and where it breaks none it is the unit of the text.
-use Rattle.dl_types.proofs.Common.{ℕ, ◌≡◌, ◌∙◌, List, [], ◌∷◌, Option, Some, None, refl, sym, ap, subst, arith, Ok, Err, Fraction, Span, ◌else◌, breaks, CheckFault, GridUnit, UnitAst, length, Result, OnOk, Rule, MixAst, first_in, spans, AgreeToFirst, IsClean, IsRead, grid_mixture, grid_with, grid_of, flaws_of_mixture, flaws_with, flaws_of, HasFault, first_broken, fault_of_text, text_rules}
+use Rattle.dl_types.proofs.Common.{ℕ, ◌≡◌, ◌∙◌, List, [], ◌∷◌, Option, Some, None, refl, sym, ap, subst, arith, Ok, Err, Fraction, Span, ◌else◌, breaks, CheckFault, GridUnit, UnitAst, length, Result, OnOk, Rule, MixAst, first_in, spans, AgreeToFirst, IsClean, IsRead, grid_mixture, grid_with, grid_of, flaws_of_mixture, flaws_with, flaws_of, HasFault, first_broken, fault_of_text, text_rules, Bounds}
 use Rattle.dl_types.specs.declared.rule.Rule.TheVariants as rules
 use Rattle.dl_buckets.specs.declared.flaws.Flaws.{Flaws}
 use Rattle.dl_buckets.specs.declared.flaws.Gridded.{Gridded}
@@ -46,8 +46,8 @@ module _ {A : Type 0} (unit : ℕ) (flaws : Flaws) (part : A) (made : Gridded A)
   part_keeps P (Err stop) told keeps = tt
 
 -- the parts of a unit and its mixture
-pub unit_read : (most : ℕ) (bs : Fraction) (u : UnitAst) (m : MixAst) (made : Gridded GridUnit)
-    → IsRead (flaws_with most bs (flaws_of_mixture most bs m) u) (grid_with bs (grid_mixture bs m) u) made
-    → IsRead (flaws_of most bs u m) (grid_of bs u m) made
+pub unit_read : (bounds : Bounds) (most : ℕ) (bs : Fraction) (u : UnitAst) (m : MixAst) (made : Gridded GridUnit)
+    → IsRead (flaws_with bounds most bs (flaws_of_mixture bounds most bs m) u) (grid_with bs (grid_mixture bs m) u) made
+    → IsRead (flaws_of bounds most bs u m) (grid_of bs u m) made
 unfolding flaws_of grid_of
-unit_read most bs u m made read = read
+unit_read bounds most bs u m made read = read

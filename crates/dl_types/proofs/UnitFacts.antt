@@ -1,11 +1,11 @@
 -- What a unit in whole buckets keeps where the rules on it are not broken, and its unit of the plan.
-use Rattle.dl_types.proofs.Common.{ℕ, ◌≡◌, ◌∙◌, Bool, true, false, List, [], ◌∷◌, Option, None, Sev, Clause, refl, sym, ap, ap₂, subst, Ok, Err, Fraction, Settings, Span, at_if, not_at, ◌else◌, else_first, else_second, GridUnit, GridCount, Exposed, Listed, ◌++◌, has_shares, fractions_too_fine, IsGridUnit, off_grid_cession, severity_in_layer, support, final_severity, CheckFault, OutOfMemory, expected_claims, claims_of, claims_above_zero, breaks, cells_asked, fault_on_grid, IsWholeCount, IsCountChecked, IsCountMade, IsCedeOf, too_fine, exposed_too_fine, too_many_claims, has_too_many_claims, horizon_too_large, most_amount_at, IsWithin, made_of, Result, OnOk, IfOk, IfErr, UnitOfPlan, IsNewZero, IfSome, IsLayered, IsFineSev, TypeFault, StopsAt, HasFault, AnswersGrid, first_broken, clause_rules, whole_rules, number_rules, count_rules, change_rules, zero_base, zero_mean, IsErr, IsErrAnd, else_none, first_in, AllKept}
+use Rattle.dl_types.proofs.Common.{ℕ, ◌≡◌, ◌∙◌, Bool, true, false, List, [], ◌∷◌, Option, None, Sev, Clause, refl, sym, ap, ap₂, subst, Ok, Err, Fraction, Settings, Span, at_if, not_at, ◌else◌, else_first, else_second, GridUnit, GridCount, Exposed, Listed, ◌++◌, has_shares, fractions_too_fine, IsGridUnit, off_grid_cession, severity_in_layer, support, final_severity, CheckFault, OutOfMemory, expected_claims, claims_of, claims_above_zero, breaks, cells_asked, fault_on_grid, IsWholeCount, IsCountChecked, IsCountMade, IsCedeOf, too_fine, exposed_too_fine, too_many_claims, has_too_many_claims, horizon_too_large, most_amount_at, IsWithin, made_of, Result, OnOk, IfOk, IfErr, UnitOfPlan, IsNewZero, IfSome, IsLayered, IsFineSev, TypeFault, StopsAt, HasFault, AnswersGrid, first_broken, clause_rules, whole_rules, number_rules, count_rules, change_rules, zero_base, zero_mean, IsErr, IsErrAnd, else_none, first_in, AllKept, Bounds, AreBounds, bounds_asked, bounds_within}
 use Rattle.dl_types.specs.declared.rule.Rule.TheVariants as rules
 use Rattle.dl_types.specs.declared.claims.Claims.{Claims}
 use Rattle.dl_types.specs.Claimed.{IsFinal, AreClaims, IsNumberOf, IsUnitCount, count_of, number_of}
 use Rattle.dl_types.proofs.Aggregates.{aggregate_valid}
 use Rattle.dl_types.proofs.FineClaims.{count_probs, fine_left, occ_shares, agr_shares}
-use Rattle.dl_types.proofs.KeptCounts.{AreWhole, AreChecked, whole_count, count_kept}
+use Rattle.dl_types.proofs.KeptCounts.{AreWhole, AreChecked, probs_are, whole_count, count_kept}
 use Rattle.dl_types.proofs.Stops.{stop_second, stopped}
 use Rattle.dl_types.proofs.RuleLists.{only, both, all_kept, lists}
 use Rattle.dl_types.proofs.PlannedCounts.{claims_admitted, made_valid, made_is, made_zero, made_thinned}
@@ -34,13 +34,13 @@ layered_is unit u grid none =
 -- ---- the count
 
 -- with n claims expected
-pub record Counted (u : GridUnit) (n : Option Fraction) : Type 0 where
+pub record Counted (bounds : Bounds) (u : GridUnit) (n : Option Fraction) : Type 0 where
   pub whole : AreWhole u.count n
-  pub fine : too_fine u n ≡ None
+  pub fine : too_fine bounds u n ≡ None
   pub few : too_many_claims u n ≡ None
 
-counted_is : (u : GridUnit) (n : Option Fraction) → AllKept (number_rules u n) → Counted u n
-counted_is u n kept = record {
+counted_is : (bounds : Bounds) (u : GridUnit) (n : Option Fraction) → AllKept (number_rules bounds u n) → Counted bounds u n
+counted_is bounds u n kept = record {
   whole = record { whole = kept.0; within = kept.1.0; trials = kept.1.1.0; shape = kept.1.1.1.0 };
   fine = kept.1.1.1.1.0;
   few = kept.1.1.1.1.1.0;
@@ -52,9 +52,9 @@ whole_is unit k n none =
     let kept = all_kept unit (whole_rules k n) none in
     record { whole = kept.0; within = kept.1.0; trials = kept.1.1.0; shape = kept.1.1.1.0 }
 
-pub whole_here : (u : GridUnit) (n : Option Fraction) → AreWhole u.count n → too_fine u n ≡ None
+pub whole_here : (bounds : Bounds) (u : GridUnit) (n : Option Fraction) → AreWhole u.count n → too_fine bounds u n ≡ None
     → IsWholeCount u.count n
-whole_here u n are fine = whole_count u.count n (claims_above_zero (final_severity u) n) are (fine_left u n fine).1
+whole_here bounds u n are fine = whole_count u.count n (claims_above_zero (final_severity u) n) are (fine_left bounds u n fine).1
 
 pub many_span : (u : GridUnit) (n : Option Fraction) (claims : Claims) (r : Bool) → AreClaims u claims
     → IsUnitCount u.count n claims.count
@@ -66,61 +66,61 @@ many_span u n claims r are is e =
     ∙ ap (has_too_many_claims u.count n) (are.above ∙ ap (claims_above_zero (final_severity u)) is.number))
 
 -- no number of claims is expected where they are listed
-pub number_is : (bs : Fraction) (u : GridUnit) → IsNumberOf u.count (expected_claims bs u)
+pub number_is : (bounds : Bounds) (bs : Fraction) (u : GridUnit) → IsNumberOf u.count (expected_claims bounds bs u)
 unfolding expected_claims
-number_is bs u = of_count u.count
+number_is bounds bs u = of_count u.count
   where
-    of_count : (k : GridCount) → IsNumberOf k (claims_of bs u k)
+    of_count : (k : GridCount) → IsNumberOf k (claims_of bounds bs u k)
     of_count (Exposed exposure freq) = tt
     of_count (Listed values probs) = refl
 
 -- the rules on its count, from what they are asked of
-module _ (bs : Fraction) (unit : ℕ) (u : GridUnit) (xs : List ℕ) (n : Option Fraction) (span : Option Span)
-    (amounts : xs ≡ support (severity_in_layer u)) (number : n ≡ expected_claims bs u) (at : span ≡ zero_mean xs u.count)
+module _ (bounds : Bounds) (bs : Fraction) (unit : ℕ) (u : GridUnit) (xs : List ℕ) (n : Option Fraction) (span : Option Span)
+    (amounts : xs ≡ support (severity_in_layer u)) (number : n ≡ expected_claims bounds bs u) (at : span ≡ zero_mean xs u.count)
   where
     abbrev asked : Option TypeFault
     asked =
         breaks unit rules.ZeroMean span else first_broken unit (whole_rules u.count n)
-        else breaks unit rules.TooFine (too_fine u n) else breaks unit rules.TooManyClaims (too_many_claims u n)
+        else breaks unit rules.TooFine (too_fine bounds u n) else breaks unit rules.TooManyClaims (too_many_claims u n)
 
-    pub count_fault : first_broken unit (count_rules bs u) ≡ asked
+    pub count_fault : first_broken unit (count_rules bounds bs u) ≡ asked
     unfolding first_in
     count_fault =
-        ap₂ (λ p m. breaks unit rules.ZeroMean p else first_broken unit (number_rules u m))
+        ap₂ (λ p m. breaks unit rules.ZeroMean p else first_broken unit (number_rules bounds u m))
         (sym (at ∙ ap (λ ys. zero_mean ys u.count) amounts)) (sym number)
         ∙ ap (λ o. breaks unit rules.ZeroMean span else o) (lists unit (whole_rules u.count n)
-        ((rules.TooFine, too_fine u n) ∷ (rules.TooManyClaims, too_many_claims u n) ∷ [])
-        ∙ ap (λ o. first_broken unit (whole_rules u.count n) else breaks unit rules.TooFine (too_fine u n) else o)
+        ((rules.TooFine, too_fine bounds u n) ∷ (rules.TooManyClaims, too_many_claims u n) ∷ [])
+        ∙ ap (λ o. first_broken unit (whole_rules u.count n) else breaks unit rules.TooFine (too_fine bounds u n) else o)
         (else_none (breaks unit rules.TooManyClaims (too_many_claims u n))))
 
     pub count_told : {A : Type 0} (r : Result A CheckFault) (stop : CheckFault) → IsErr r × IsErrAnd r (λ e. e ≡ stop)
-        → StopsAt asked stop → HasFault (first_broken unit (count_rules bs u)) r
+        → StopsAt asked stop → HasFault (first_broken unit (count_rules bounds bs u)) r
     count_told r stop is told =
-        stopped (HasFault (first_broken unit (count_rules bs u))) r stop is (subst (λ o. StopsAt o stop) (sym count_fault) told)
+        stopped (HasFault (first_broken unit (count_rules bounds bs u))) r stop is (subst (λ o. StopsAt o stop) (sym count_fault) told)
 
-module _ (bs : Fraction) (unit : ℕ) (u : GridUnit) (grid : IsGridUnit u) (none : first_broken unit (count_rules bs u) ≡ None) where
+module _ (bounds : Bounds) (allowed : AreBounds bounds) (bs : Fraction) (unit : ℕ) (u : GridUnit) (grid : IsGridUnit u) (none : first_broken unit (count_rules bounds bs u) ≡ None) where
   abbrev n : Option Fraction
-  n = expected_claims bs u
+  n = expected_claims bounds bs u
 
   abbrev above : Option Fraction
   above = claims_above_zero (final_severity u) n
 
-  counted : Counted u n
-  counted = counted_is u n (all_kept unit (count_rules bs u) none).1
+  counted : Counted bounds u n
+  counted = counted_is bounds u n (all_kept unit (count_rules bounds bs u) none).1
 
-  parts : (fractions_too_fine u ≡ false) × (exposed_too_fine u.count n above ≡ false)
-  parts = fine_left u n counted.fine
+  parts : (fractions_too_fine bounds u ≡ false) × (exposed_too_fine u.count n above ≡ false)
+  parts = fine_left bounds u n counted.fine
 
   pub fine_occ : has_shares u.occ ≡ true
-  fine_occ = occ_shares u parts.0
+  fine_occ = occ_shares bounds u parts.0
 
   pub fine_agr : has_shares u.agr ≡ true
-  fine_agr = agr_shares u parts.0
+  fine_agr = agr_shares bounds u parts.0
 
-  pub fine_sev : IsLayered u → off_grid_cession u ≡ None → IsFineSev u
-  fine_sev layered ceded = record { layered = layered; ceded = ceded; fine = parts.0 }
+  pub fine_sev : IsLayered u → off_grid_cession u ≡ None → IsFineSev bounds u
+  fine_sev layered ceded = record { allowed = allowed; layered = layered; ceded = ceded; fine = parts.0 }
 
-  claims_is : n ≡ claims_of bs u u.count
+  claims_is : n ≡ claims_of bounds bs u u.count
   unfolding expected_claims
   claims_is = refl
 
@@ -135,8 +135,8 @@ module _ (bs : Fraction) (unit : ℕ) (u : GridUnit) (grid : IsGridUnit u) (none
     few = few_is;
     read = grid.count;
     paired = grid.paired;
-    shared = count_probs u parts.0;
-    admitted = claims_admitted bs u u.count n claims_is;
+    shared = probs_are bounds allowed u.count (count_probs bounds u parts.0);
+    admitted = claims_admitted bounds bs u u.count n claims_is;
   }
 
   pub kept_is : IsCountChecked u.count n
@@ -144,18 +144,21 @@ module _ (bs : Fraction) (unit : ℕ) (u : GridUnit) (grid : IsGridUnit u) (none
 
 -- ---- all rules on the unit in whole buckets
 
+pub asked_within : (settings : Settings) → AreBounds (bounds_asked settings)
+asked_within settings = bounds_within settings.rules
+
 module _ (settings : Settings) (unit : ℕ) (u : GridUnit) where
   abbrev clauses : Option TypeFault
   clauses = first_broken unit (clause_rules u)
 
   abbrev counted_fault : Option TypeFault
-  counted_fault = first_broken unit (count_rules settings.bs u)
+  counted_fault = first_broken unit (count_rules (bounds_asked settings) settings.bs u)
 
   abbrev far : Option Span
   far = horizon_too_large (cells_asked settings) (made_of u.agr)
 
   abbrev base : Option Span
-  base = zero_base u.count u.zero (expected_claims settings.bs u)
+  base = zero_base u.count u.zero (expected_claims (bounds_asked settings) settings.bs u)
 
   abbrev all_asked : Option TypeFault
   all_asked = clauses else counted_fault else breaks unit rules.HorizonTooLarge far else breaks unit rules.ZeroBase base
@@ -163,8 +166,8 @@ module _ (settings : Settings) (unit : ℕ) (u : GridUnit) where
   pub grid_fault : fault_on_grid settings unit u ≡ all_asked
   unfolding fault_on_grid first_in
   grid_fault =
-      lists unit (clause_rules u) (count_rules settings.bs u ++ change_rules settings u)
-      ∙ ap (λ o. clauses else o) (lists unit (count_rules settings.bs u) (change_rules settings u)
+      lists unit (clause_rules u) (count_rules (bounds_asked settings) settings.bs u ++ change_rules settings u)
+      ∙ ap (λ o. clauses else o) (lists unit (count_rules (bounds_asked settings) settings.bs u) (change_rules settings u)
       ∙ ap (λ o. counted_fault else breaks unit rules.HorizonTooLarge far else o) (else_none (breaks unit rules.ZeroBase base)))
 
   -- a check of the unit in whole buckets stops as a check of its part
@@ -192,19 +195,21 @@ module _ (settings : Settings) (unit : ℕ) (u : GridUnit) (grid : IsGridUnit u)
     (within : IsWithin (most_amount_at (cells_asked settings)) u)
     (none : fault_on_grid settings unit u ≡ None) (text : List ℕ) where
   pub grid_answer : (made : UnitOfPlan) → made.name ≡ text → made.zero ≡ u.zero → IsFinal u made.sev
-      → IsCountMade u.count (expected_claims settings.bs u) made.freq → IsCedeOf u.agr made.cede
+      → IsCountMade u.count (expected_claims (bounds_asked settings) settings.bs u) made.freq → IsCedeOf u.agr made.cede
       → AnswersGrid settings unit text u (Ok made)
   grid_answer made name zero sev freq cede =
       let parts = grid_parts settings unit u none in
       let ceded = (layered_is unit u grid parts.0).1 in
-      let n = expected_claims settings.bs u in
-      let kept = kept_is settings.bs unit u grid parts.1 in
+      let n = expected_claims (bounds_asked settings) settings.bs u in
+      let bounds = bounds_asked settings in
+      let allowed = asked_within settings in
+      let kept = kept_is bounds allowed settings.bs unit u grid parts.1 in
       let valid = made_valid u.count n made.freq kept freq in (
         none,
         record {
           name = name;
           severity = sev.means;
-          count = made_is settings.bs u u.count n made.freq (claims_is settings.bs unit u grid parts.1) kept freq;
+          count = made_is bounds settings.bs u u.count n made.freq (claims_is bounds allowed settings.bs unit u grid parts.1) kept freq;
           clause = cede.same;
           zero = zero;
         },
@@ -214,8 +219,8 @@ module _ (settings : Settings) (unit : ℕ) (u : GridUnit) (grid : IsGridUnit u)
           count = valid.0;
           expected = valid.1;
           thinned = made_thinned (final_severity u) made.sev sev.means u.count n made.freq
-              (are_kept settings.bs unit u grid parts.1) freq;
-          clause = aggregate_valid (cells_asked settings) u ceded (fine_occ settings.bs unit u grid parts.1) parts.2
+              (are_kept bounds allowed settings.bs unit u grid parts.1) freq;
+          clause = aggregate_valid (cells_asked settings) u ceded (fine_occ bounds allowed settings.bs unit u grid parts.1) parts.2
               within made.sev sev.means made.cede cede;
           zero = subst (λ z. IfSome z (IsNewZero made.freq)) (sym zero)
               (made_zero u.count n u.zero made.freq kept freq grid.zero parts.3);
@@ -225,7 +230,7 @@ module _ (settings : Settings) (unit : ℕ) (u : GridUnit) (grid : IsGridUnit u)
   -- the unit is made of these parts, or there is no room for it
   pub made_answer : (sev : Sev) (clause : Option Clause) → IsFinal u sev → IsCedeOf u.agr clause
       → (r : Result UnitOfPlan CheckFault) → IfOk r (λ made. made.name ≡ text) → IfOk r (λ made. made.sev ≡ sev)
-      → IfOk r (λ made. IsCountMade u.count (expected_claims settings.bs u) made.freq)
+      → IfOk r (λ made. IsCountMade u.count (expected_claims (bounds_asked settings) settings.bs u) made.freq)
       → IfOk r (λ made. made.cede ≡ clause) → IfOk r (λ made. made.zero ≡ u.zero) → IfErr r (λ stop. stop ≡ OutOfMemory)
       → AnswersGrid settings unit text u r
   made_answer sev clause final cede (Ok made) name same freq kept plain room =

@@ -2,6 +2,7 @@
 use Rattle.std.specs.Prelude.{ℕ, ◌≡◌, ◌≤◌, ⊤, true, false, length, All, Option, Some, None}
 use Rattle.std.specs.Option.{MatchOption}
 use Rattle.dl_limits.specs.Limits.{most_items}
+use Rattle.dl_limits.specs.declared.rules.Bounds.{Bounds}
 use Rattle.dl_plan.specs.declared.severity.Sev.{Sev}
 use Rattle.dl_plan.specs.Severity.{HasDistribution}
 use Rattle.dl_exact.specs.Fraction.{Fraction}
@@ -22,9 +23,9 @@ pub record IsFinal (u : GridUnit) (sev : Sev) : Type 0 where
 
 -- it is that severity, where the fractions of the unit are fine, apart from those of its
 -- exposure
-abbrev pub IsFineSeverity : GridUnit → Option Sev → Type 0
-IsFineSeverity u made = MatchOption made (fractions_too_fine u ≡ true)
-    (λ sev. (fractions_too_fine u ≡ false) × IsFinal u sev)
+abbrev pub IsFineSeverity : Bounds → GridUnit → Option Sev → Type 0
+IsFineSeverity bounds u made = MatchOption made (fractions_too_fine bounds u ≡ true)
+    (λ sev. (fractions_too_fine bounds u ≡ false) × IsFinal u sev)
 
 -- a count, and the number of claims that are expected where it does not list them
 abbrev pub count_of : UnitCount → GridCount

@@ -1,6 +1,7 @@
 -- Expected claim counts. Amounts of money are over the bucket size bs.
 use Rattle.std.specs.Prelude.{◌&&◌, Bool, true, false, if◌then◌else◌, Option, Some, None}
 use Rattle.dl_exact.specs.Fraction.{Fraction, whole, ◌-ℚ◌, ◌*ℚ◌, ◌/ℚ◌}
+use Rattle.dl_limits.specs.declared.rules.Bounds.{Bounds}
 use Rattle.dl_plan.specs.Severity.{Pairs, probability, mean_amount}
 use Rattle.dl_plan.specs.Ranges.{IsBucket}
 use Rattle.dl_buckets.specs.declared.grid.GridExposure.{GridExposure}
@@ -34,26 +35,27 @@ expected_count bs u (Loss n _) = n /ℚ mean_in_money bs u
 expected_count bs u (Premium p r _) = p *ℚ r /ℚ mean_in_money bs u
 
 -- the expected count is there: a loss or a premium needs the severity
-abbrev pub has_count : GridUnit → GridExposure → Bool
-has_count u (Claims n _) = true
-has_count u (Loss n _) = has_severity u.sev
-has_count u (Premium p r _) = has_severity u.sev
+abbrev pub has_count : Bounds → GridUnit → GridExposure → Bool
+has_count bounds u (Claims n _) = true
+has_count bounds u (Loss n _) = has_severity bounds u.sev
+has_count bounds u (Premium p r _) = has_severity bounds u.sev
 
 -- a number, where it is there and both parts of it are below 2^48
 abbrev pub admitted : Bool → Fraction → Option Fraction
 admitted has x = if has && is_admitted x then Some x else None
 
 -- the expected count of an exposure, where it is there and admitted
-abbrev pub exposed_claims : Fraction → GridUnit → GridExposure → Option Fraction
-exposed_claims bs u exposure = admitted (has_count u exposure) (expected_count bs u exposure)
+abbrev pub exposed_claims : Bounds → Fraction → GridUnit → GridExposure → Option Fraction
+exposed_claims bounds bs u exposure =
+    admitted (has_count bounds u exposure) (expected_count bs u exposure)
 
 -- and that of the unit, where it lists no counts
-abbrev pub claims_of : Fraction → GridUnit → GridCount → Option Fraction
-claims_of bs u (Exposed exposure freq) = exposed_claims bs u exposure
-claims_of bs u (Listed counts probs) = None
+abbrev pub claims_of : Bounds → Fraction → GridUnit → GridCount → Option Fraction
+claims_of bounds bs u (Exposed exposure freq) = exposed_claims bounds bs u exposure
+claims_of bounds bs u (Listed counts probs) = None
 
-unfoldable pub expected_claims : Fraction → GridUnit → Option Fraction
-expected_claims bs u = claims_of bs u u.count
+unfoldable pub expected_claims : Bounds → Fraction → GridUnit → Option Fraction
+expected_claims bounds bs u = claims_of bounds bs u u.count
 
 -- a Poisson or a gamma count: there is no greatest number of claims
 abbrev pub is_unbounded : GridFreq → Bool

@@ -1,6 +1,6 @@
 -- The conditions on units that share a factor.
 use Rattle.std.specs.Prelude.{ℕ, suc, ◌≡◌, ◌<◌, Bool, true, false, not, ◌||◌, nat_lt, if◌then◌else◌, List, [], ◌∷◌, map, flat_map, fold, Option, Some, None}
-use Rattle.dl_limits.specs.Limits.{most_expected, most_shape}
+use Rattle.dl_limits.specs.Limits.{most_expected, most_parts, most_shape}
 use Rattle.dl_exact.specs.Prelude.{Fraction, whole, ◌over◌, ◌+ℚ◌, ◌*ℚ◌, ◌/ℚ◌, lcm}
 use Rattle.dl_ast.specs.declared.ast.MixAst.{MixAst}
 use Rattle.dl_ast.specs.declared.ast.Numeral.{Numeral}
@@ -52,8 +52,8 @@ abbrev pub passes_bounds : ℕ → Fraction → Fraction → List Part → Bool
 passes_bounds r v h parts =
     is_zero v || is_raised_coarse r v || is_raised_coarse r h
     || passes (raised r h) most_expected
-    || not (is_fine (map (claim_share v) parts))
-    || not (is_fine (flat_map (amount_shares v) parts))
+    || not (is_fine most_parts (map (claim_share v) parts))
+    || not (is_fine most_parts (flat_map (amount_shares v) parts))
 
 abbrev pub passes_with : ℕ → Option Fraction → Option Fraction → List Part → Bool
 passes_with r None h parts = true

@@ -1,7 +1,10 @@
 -- The first fault of a program: the first broken rule in the written order, with its unit and its
 -- place.
 use Rattle.std.specs.Prelude.{ℕ, ◌^◌, ◌≡◌, ⊤, List, [], ◌∷◌, ◌++◌, length, map, Option, Some, None}
-use Rattle.dl_limits.specs.Limits.{most_amount_at, most_units}
+use Rattle.dl_limits.specs.Limits.{most_amount_at}
+use Rattle.dl_limits.specs.Rules.{bounds_of}
+use Rattle.dl_limits.specs.declared.rules.Bounds.{Bounds}
+use Rattle.dl_limits.specs.declared.rules.Rules.{Rules}
 use Rattle.dl_exact.specs.Fraction.{Fraction}
 use Rattle.dl_lexer.specs.declared.token.Span.{Span}
 use Rattle.dl_ast.specs.declared.ast.MixAst.{MixAst}
@@ -31,6 +34,10 @@ breaks unit rule (Some span) = Some (record { unit = unit; rule = rule; span = s
 -- how many cells the grid has
 abbrev pub cells_asked : Settings → ℕ
 cells_asked settings = 2 ^ settings.log2
+
+-- the bounds of the rules that are set
+abbrev pub bounds_asked : Settings → Bounds
+bounds_asked settings = bounds_of settings.rules
 
 -- the greatest amount on that grid, in buckets
 abbrev pub most_asked : Settings → ℕ
@@ -75,25 +82,30 @@ whole_rules count n =
     ∷ (rules.ShapeNotWhole, shape_not_whole count) ∷ []
 
 -- the rules on its count, and on the sizes of what it means
-abbrev pub number_rules : GridUnit → Option Fraction → List (Rule × Option Span)
-number_rules u n =
-    whole_rules u.count n ++ (rules.TooFine, too_fine u n)
+abbrev pub number_rules : Bounds → GridUnit → Option Fraction → List (Rule × Option Span)
+number_rules bounds u n =
+    whole_rules u.count n ++ (rules.TooFine, too_fine bounds u n)
     ∷ (rules.TooManyClaims, too_many_claims u n) ∷ []
 
-abbrev pub count_rules : Fraction → GridUnit → List (Rule × Option Span)
-count_rules bs u =
+abbrev pub count_rules : Bounds → Fraction → GridUnit → List (Rule × Option Span)
+count_rules bounds bs u =
     (rules.ZeroMean, zero_mean (support (severity_in_layer u)) u.count)
-    ∷ number_rules u (expected_claims bs u)
+    ∷ number_rules bounds u (expected_claims bounds bs u)
 
 -- the rules on its horizon, and on the change of its probability of no claim
 abbrev pub change_rules : Settings → GridUnit → List (Rule × Option Span)
 change_rules settings u =
     (rules.HorizonTooLarge, horizon_too_large (cells_asked settings) (made_of u.agr))
-    ∷ (rules.ZeroBase, zero_base u.count u.zero (expected_claims settings.bs u)) ∷ []
+    ∷ (
+      rules.ZeroBase,
+      zero_base u.count u.zero
+          (expected_claims (bounds_asked settings) settings.bs u),
+    ) ∷ []
 
 -- the rules on the unit in whole buckets, in their order
 abbrev pub grid_rules : Settings → GridUnit → List (Rule × Option Span)
-grid_rules settings u = clause_rules u ++ count_rules settings.bs u ++ change_rules settings u
+grid_rules settings u =
+    clause_rules u ++ count_rules (bounds_asked settings) settings.bs u ++ change_rules settings u
 
 unfoldable pub fault_on_grid : Settings → ℕ → GridUnit → Option TypeFault
 fault_on_grid settings unit u = first_broken unit (grid_rules settings u)
@@ -103,7 +115,8 @@ fault_on_grid settings unit u = first_broken unit (grid_rules settings u)
 unfoldable pub fault_with : Settings → List UnitAst → UnitAst → MixAst → Option TypeFault
 fault_with settings before u m =
     breaks (length before) rules.DuplicateName (duplicate_name before u)
-    else fault_of_text (length before) (flaws_of (most_asked settings) settings.bs u m)
+    else fault_of_text (length before) (flaws_of (bounds_asked settings) (most_asked settings)
+    settings.bs u m)
     else fault_on_grid settings (length before) (grid_of settings.bs u m)
 
 -- the same where there may be no mixture, since no severity has the name
@@ -140,11 +153,16 @@ fault_of_port settings program =
     breaks 0 rules.CommonShape (common_shape program.port)
     else breaks 0 rules.CommonSize (common_size program.port (parts_in settings program))
 
--- more than 16 units first; then the named severities and the units in the order of the text; then
+-- more units than a program may have first; then the named severities and the units in the order of the text; then
 -- the whole portfolio
 unfoldable pub first_fault : Program → Settings → Option TypeFault
 first_fault program settings =
-    breaks most_units rules.TooManyUnits (too_many_units program.units)
+    breaks (bounds_asked settings).units rules.TooManyUnits
+    (too_many_units (bounds_asked settings).units program.units)
     else in_turn fault_of_severity [] program.sevs
     else in_turn (first_fault_of settings program.port program.sevs) [] program.units
     else fault_of_port settings program
+
+-- the settings with these rules
+abbrev pub by : Rules → Settings → Settings
+by rules settings = record settings { rules = rules }

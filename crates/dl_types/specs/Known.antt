@@ -8,14 +8,15 @@ use Rattle.dl_buckets.specs.declared.flaws.Gridded.{Gridded}
 use Rattle.dl_buckets.specs.declared.grid.GridSev.{GridSev}
 use Rattle.dl_buckets.specs.Prelude.{IsRead, grid_mixture, flaws_of_mixture}
 use Rattle.dl_types.specs.declared.known.KnownSeverity.{KnownSeverity}
-use Rattle.dl_types.specs.Faults.{most_asked}
+use Rattle.dl_types.specs.Faults.{bounds_asked, most_asked}
 use Rattle.dl_types.specs.Severities.{named}
 
 -- a mixture is read
 pub record IsMixtureRead (settings : Settings) (mix : MixAst) (made : Gridded GridSev) : Type 0
   where
     pub formed : IsFormedMixture mix
-    pub right : IsRead (flaws_of_mixture (most_asked settings) settings.bs mix)
+    pub right : IsRead (flaws_of_mixture (bounds_asked settings) (most_asked settings)
+        settings.bs mix)
         (grid_mixture settings.bs mix) made
 
 -- the mixture that a severity is, is there and is read

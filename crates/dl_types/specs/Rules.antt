@@ -5,7 +5,8 @@
 use Rattle.std.specs.Prelude.{ℕ, Bool, true, false, not, ◌&&◌, ◌||◌, nat_lt, is_some, List, slice_get, Option, Some, None}
 use Rattle.std.specs.List.{list_any}
 use Rattle.std.specs.Str.{bytes_eq}
-use Rattle.dl_limits.specs.Limits.{most_claims, most_count, most_expected, most_horizon, most_shape, most_units, rarest_claims}
+use Rattle.dl_limits.specs.Limits.{most_claims, most_count, most_expected, most_horizon, most_shape, rarest_claims}
+use Rattle.dl_limits.specs.declared.rules.Bounds.{Bounds}
 use Rattle.dl_plan.specs.Horizon.{horizon}
 use Rattle.dl_exact.specs.Fraction.{Fraction, whole, ◌over◌, ◌/ℚ◌}
 use Rattle.dl_lexer.specs.declared.token.Span.{Span}
@@ -121,8 +122,8 @@ exposed_too_fine (Exposed exposure freq) n above = loss_too_fine (expected_loss 
     || not (is_some n) || (is_unbounded freq && not (is_some above))
 exposed_too_fine (Listed counts probs) n above = false
 
-unfoldable pub too_fine : GridUnit → Option Fraction → Option Span
-too_fine u n = at_if (fractions_too_fine u
+unfoldable pub too_fine : Bounds → GridUnit → Option Fraction → Option Span
+too_fine bounds u n = at_if (fractions_too_fine bounds u
     || exposed_too_fine u.count n (claims_above_zero (final_severity u) n)) u.name
 
 -- 20 TooManyClaims: the expected number of claims above 0 of Poisson or gamma passes 4,096; the
@@ -155,13 +156,13 @@ horizon_too_large cells made.TooFine = None
 horizon_too_large cells (made.Whole clause span) =
     at_if (nat_lt (most_horizon cells) (horizon (Some clause) cells)) span
 
--- 22 TooManyUnits: there are more than 16 units
-abbrev pub seventeenth : Option UnitAst → Option Span
-seventeenth None = None
-seventeenth (Some u) = Some u.name.span
+-- 22 TooManyUnits: there are more than `most` units
+abbrev pub name_of : Option UnitAst → Option Span
+name_of None = None
+name_of (Some u) = Some u.name.span
 
-unfoldable pub too_many_units : List UnitAst → Option Span
-too_many_units units = seventeenth (slice_get units most_units)
+unfoldable pub too_many_units : (most : ℕ) → List UnitAst → Option Span
+too_many_units most units = name_of (slice_get units most)
 
 -- 23 DuplicateSeverity: the name of a severity is that of an earlier one
 unfoldable pub duplicate_severity : List SevDef → SevDef → Option Span

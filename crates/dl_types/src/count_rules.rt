@@ -6,6 +6,7 @@ ghost use Rattle.dl_types.specs.Answer.{HasFault};
 ghost use Rattle.dl_types.specs.declared.rule.Rule.TheVariants.{TooFine};
 ghost use Rattle.dl_buckets.specs.Prelude.{off_grid_cession, severity_in_layer, support, IsWeighed, IsLayered, AreClausesOf};
 ghost use Rattle.dl_types.specs.Rules.{too_fine};
+ghost use Rattle.dl_limits.specs.Rules.{AreBounds};
 ghost use Rattle.dl_plan.specs.Ranges.{IsBucket};
 ghost use Rattle.dl_types.specs.Exposures.{expected_claims};
 ghost use Rattle.dl_types.specs.Claimed.{AreClaims, IsNumberOf, IsUnitCount};
@@ -22,6 +23,7 @@ use crate::fine::{fine_count, fine_severity};
 use crate::rule::Rule;
 use dl_buckets::{Clauses, GridCount, GridUnit, off_grid_cession, span_if, weighed_severity};
 use dl_frac::Frac;
+use dl_limits::Bounds;
 use dl_plan::Sev;
 use std::alloc::Global;
 
@@ -32,25 +34,28 @@ pub(crate) fn check_count<'a>(
     number: u32,
     unit: &'a GridUnit,
     bs: Frac,
+    bounds: Bounds,
     layered_unit: &LayeredUnit,
 ) -> Result<Claims<'a>, CheckFault>
+    requires bounds { AreBounds bounds }
     requires bucket { IsBucket bs }
     requires layered { IsLayered unit.now }
     requires ceded { off_grid_cession unit.now ≡ None }
     requires amounts { layered_unit.now.amounts.items ≡ support (severity_in_layer unit.now) }
     requires clauses { AreClausesOf unit.now layered_unit.now.clauses }
-    ensures fault { HasFault (first_broken number (count_rules bs unit.now)) result }
+    ensures fault { HasFault (first_broken number (count_rules bounds bs unit.now)) result }
     ensures claims { IfOk result (AreClaims unit.now) }
     ensures count { IfOk result (λ claims. IsUnitCount unit.now.count
-        (expected_claims bs unit.now) claims.count) }
+        (expected_claims bounds bs unit.now) claims.count) }
 {
     let span = zero_mean(&unit.count, &layered_unit.amounts);
     broken(number, Rule::ZeroMean, span)?;
-    let layered = weighed_severity(alloc, unit)?;
+    let layered = weighed_severity(alloc, unit, bounds)?;
     let count = expected_claims(unit, bs, &layered);
     let whole = check_whole(number, &unit.count, &count);
     let kept = unless_broken(layered, whole)?;
-    let claims = check_fine(alloc, number, unit, &layered_unit.clauses, kept, count)?;
+    let clauses = &layered_unit.clauses;
+    let claims = check_fine(alloc, number, unit, clauses, kept, count, bounds)?;
     let many = too_many_claims(&claims.count, &claims.above);
     let checked = broken(number, Rule::TooManyClaims, span_if(many, unit.name));
     unless_broken(claims, checked)
@@ -78,17 +83,19 @@ fn check_fine<'a>(
     clauses: &Clauses,
     layered: Option<Sev>,
     count: Option<Frac>,
+    bounds: Bounds,
 ) -> Result<Claims<'a>, CheckFault>
+    requires bounds { AreBounds bounds }
     requires layered { IsLayered unit.now }
     requires ceded { off_grid_cession unit.now ≡ None }
     requires made { AreClausesOf unit.now clauses.now }
-    requires weighed { IsWeighed unit.now layered }
+    requires weighed { IsWeighed bounds unit.now layered }
     requires number { IsNumberOf unit.now.count count }
-    ensures fault { HasFault (breaks number TooFine (too_fine unit.now count)) result }
+    ensures fault { HasFault (breaks number TooFine (too_fine bounds unit.now count)) result }
     ensures claims { IfOk result (AreClaims unit.now) }
     ensures count { IfOk result (λ claims. IsUnitCount unit.now.count count claims.count) }
 {
-    let Some(severity) = fine_severity(alloc, unit, clauses, layered)? else {
+    let Some(severity) = fine_severity(alloc, unit, clauses, layered, bounds)? else {
         return Err(typing(number, Rule::TooFine, unit.name));
     };
     let above = above_zero(&severity, &count);

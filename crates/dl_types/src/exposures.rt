@@ -3,6 +3,7 @@
 ghost use Rattle.std.specs.Prelude.{◌≡◌, nat_lt, not, false, None};
 ghost use Rattle.std.specs.List.{list_any};
 ghost use Rattle.dl_exact.specs.Fraction.{whole, ◌*ℚ◌, ◌/ℚ◌, ◌<ℚ◌};
+ghost use Rattle.dl_limits.specs.declared.rules.Bounds.{Bounds as BoundsOfRules};
 ghost use Rattle.dl_plan.specs.Prelude.{IsBucket, mean_amount, HasDistribution};
 ghost use Rattle.dl_buckets.specs.declared.grid.GridCount.TheVariants.{Exposed};
 ghost use Rattle.dl_buckets.specs.Prelude.{is_whole, has_severity, IsWeighed, IsGridUnit, severity_in_layer, support};
@@ -55,9 +56,10 @@ fn is_any_above_zero(amounts: &[u32]) -> bool
 pub(crate) fn expected_claims(unit: &GridUnit, bs: Frac, layered: &Option<Sev>) -> Option<Frac>
     requires bucket { IsBucket bs }
     requires grid { IsGridUnit unit.now }
-    requires layered { IsWeighed unit.now layered.now }
+    requires layered { (bounds : BoundsOfRules) × IsWeighed bounds unit.now layered.now }
     requires above { zero_mean (support (severity_in_layer unit.now)) unit.now.count ≡ None }
-    ensures { result ≡ expected_claims bs unit.now }
+    ensures { (bounds : BoundsOfRules) → IsWeighed bounds unit.now layered.now
+        → result ≡ expected_claims bounds bs unit.now }
 {
     match &unit.count {
         GridCount::Exposed { exposure, .. } => exposed_claims(unit, exposure, bs, layered),
@@ -74,9 +76,10 @@ fn exposed_claims(
     layered: &Option<Sev>,
 ) -> Option<Frac>
     requires unit { IsUnitOn bs unit.now }
-    requires layered { IsWeighed unit.now layered.now }
+    requires layered { (bounds : BoundsOfRules) × IsWeighed bounds unit.now layered.now }
     requires above { zero_loss (support (severity_in_layer unit.now)) exposure.now ≡ None }
-    ensures { result ≡ exposed_claims bs unit.now exposure.now }
+    ensures { (bounds : BoundsOfRules) → IsWeighed bounds unit.now layered.now
+        → result ≡ exposed_claims bounds bs unit.now exposure.now }
 {
     match exposure {
         GridExposure::Claims(number, _) => admitted(*number),
@@ -97,9 +100,10 @@ fn over_mean(
     layered: &Option<Sev>,
 ) -> Option<Frac>
     requires unit { IsUnitOn bs unit.now }
-    requires layered { IsWeighed unit.now layered.now }
+    requires layered { (bounds : BoundsOfRules) × IsWeighed bounds unit.now layered.now }
     requires loss { has_no_loss (support (severity_in_layer unit.now)) ≡ false }
-    ensures { result ≡ admitted (has_severity unit.now.sev)
+    ensures { (bounds : BoundsOfRules) → IsWeighed bounds unit.now layered.now
+        → result ≡ admitted (has_severity bounds unit.now.sev)
         (amount *ℚ share /ℚ mean_in_money bs unit.now) }
 {
     match layered {

@@ -103,8 +103,8 @@ fn are_shares_fine(units: &[Unit], expected: Frac) -> bool
     requires above { whole 0 <ℚ expected }
     requires counted { All IsCounted units.now }
     requires each { All (λ u. expected_count u.freq ≤ℚ expected) units.now }
-    ensures { result ≡ (is_fine (map (unit_share expected) units.now)
-        && is_fine (flat_map (shared_probabilities expected) units.now)) }
+    ensures { result ≡ (is_fine most_parts (map (unit_share expected) units.now)
+        && is_fine most_parts (flat_map (shared_probabilities expected) units.now)) }
 {
     let mut claims = 1;
     let mut amounts = 1;

@@ -2,10 +2,11 @@
 
 ghost use Rattle.std.specs.Prelude.{◌≡◌, ◌||◌, Option, None, true, false, not, IfOk};
 ghost use Rattle.std.specs.Option.{MatchOption};
+ghost use Rattle.dl_limits.specs.Rules.{AreBounds};
 ghost use Rattle.dl_types.specs.Rules.{loss_too_fine, exposed_too_fine};
 ghost use Rattle.dl_types.specs.Exposures.{expected_loss, is_unbounded};
 ghost use Rattle.dl_buckets.specs.declared.grid.GridClause.{GridClause as ClauseInGrid};
-ghost use Rattle.dl_buckets.specs.Prelude.{made_of, AreClausesOf, has_shares, IsWeighed, IsLayered, probs_in_count, is_fine, IsGridCount, off_grid_cession};
+ghost use Rattle.dl_buckets.specs.Prelude.{made_of, AreClausesOf, has_shares, IsWeighed, IsLayered, has_probs, IsGridCount, off_grid_cession};
 ghost use Rattle.dl_types.specs.Claimed.{IsFineSeverity, IsNumberOf, IsUnitCount};
 
 use crate::claims::{UnitCount, is_admitted, small};
@@ -13,6 +14,7 @@ use dl_buckets::{
     Clauses, GridCount, GridExposure, GridFreq, GridUnit, MadeClause, are_fine, final_severity,
 };
 use dl_frac::Frac;
+use dl_limits::Bounds;
 use dl_plan::Sev;
 use std::alloc::{AllocError, Global};
 
@@ -23,30 +25,33 @@ pub(crate) fn fine_severity(
     unit: &GridUnit,
     clauses: &Clauses,
     layered: Option<Sev>,
+    bounds: Bounds,
 ) -> Result<Option<Sev>, AllocError>
+    requires bounds { AreBounds bounds }
     requires unit { IsLayered unit.now }
     requires ceded { off_grid_cession unit.now ≡ None }
     requires made { AreClausesOf unit.now clauses.now }
-    requires layered { IsWeighed unit.now layered }
-    ensures { IfOk result (IsFineSeverity unit.now) }
+    requires layered { IsWeighed bounds unit.now layered }
+    ensures { IfOk result (IsFineSeverity bounds unit.now) }
 {
     let Some(layered) = layered else {
         return Ok(None);
     };
-    if parts_too_fine(unit, clauses) {
+    if parts_too_fine(unit, clauses, bounds) {
         return Ok(None);
     }
     Ok(Some(final_severity(alloc, layered, &clauses.occ)?))
 }
 
 /// Whether the probabilities of listed counts, or the shares of a clause, are not fine.
-fn parts_too_fine(unit: &GridUnit, clauses: &Clauses) -> bool
+fn parts_too_fine(unit: &GridUnit, clauses: &Clauses, bounds: Bounds) -> bool
+    requires bounds { AreBounds bounds }
     requires layered { IsLayered unit.now }
     requires made { AreClausesOf unit.now clauses.now }
-    ensures { result ≡ (not (is_fine (probs_in_count unit.now.count))
+    ensures { result ≡ (not (has_probs bounds unit.now.count)
         || not (has_shares unit.now.occ) || not (has_shares unit.now.agr)) }
 {
-    count_too_fine(&unit.count) || is_too_fine(&clauses.occ) || is_too_fine(&clauses.agr)
+    count_too_fine(&unit.count, bounds) || is_too_fine(&clauses.occ) || is_too_fine(&clauses.agr)
 }
 
 /// Whether the shares of a clause are not fine.
@@ -58,13 +63,14 @@ fn is_too_fine(made: &MadeClause) -> bool
 }
 
 /// Whether the probabilities of listed counts are not fine.
-fn count_too_fine(count: &GridCount) -> bool
-    requires { IsGridCount count.now }
-    ensures { result ≡ not (is_fine (probs_in_count count.now)) }
+fn count_too_fine(count: &GridCount, bounds: Bounds) -> bool
+    requires bounds { AreBounds bounds }
+    requires count { IsGridCount count.now }
+    ensures { result ≡ not (has_probs bounds count.now) }
 {
     match count {
         GridCount::Exposed { .. } => false,
-        GridCount::Listed { probs, .. } => !are_fine(probs),
+        GridCount::Listed { probs, .. } => !are_fine(probs, bounds.parts),
     }
 }
 

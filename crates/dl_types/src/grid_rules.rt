@@ -21,7 +21,7 @@ use crate::count_rules::check_count;
 use crate::counts::unit_count;
 use crate::fault::CheckFault;
 use crate::rule::Rule;
-use crate::scale::{cells, most_asked};
+use crate::scale::{bounds_asked, cells, most_asked};
 use dl_ast::UnitAst;
 use dl_buckets::{GridUnit, MadeClause, span_if};
 use dl_frac::Frac;
@@ -108,7 +108,8 @@ pub(crate) fn check_grid(
     ensures { AnswersGrid settings.now number unit.now.name.text grid.now result }
 {
     let layered_unit = check_clauses(alloc, number, grid)?;
-    let claims = check_count(alloc, number, grid, settings.bs, &layered_unit)?;
+    let bounds = bounds_asked(settings);
+    let claims = check_count(alloc, number, grid, settings.bs, bounds, &layered_unit)?;
     let clauses = layered_unit.clauses;
     let cede = check_changes(
         number,

@@ -9,7 +9,7 @@ ghost use Rattle.dl_types.specs.Checked.{IsSet};
 ghost use Rattle.dl_types.specs.Known.{IsMixtureRead, IsSeverityRead, IsKnown};
 ghost use Rattle.dl_types.specs.Severities.{named, mixture_of};
 
-use crate::scale::most_asked;
+use crate::scale::{bounds_asked, most_asked};
 use crate::severities::named;
 use dl_ast::{MixAst, SevBody, SevDef};
 use dl_buckets::{GridSev, Gridded, grid_mixture};
@@ -105,5 +105,6 @@ fn read_mixture(
     requires formed { IsFormedMixture mix.now }
     ensures { IfOk result (IsMixtureRead settings.now mix.now) }
 {
-    grid_mixture(alloc, mix, settings.bs, most_asked(settings))
+    let bounds = bounds_asked(settings);
+    grid_mixture(alloc, mix, settings.bs, most_asked(settings), bounds)
 }

@@ -6,7 +6,8 @@ ghost use Rattle.dl_ast.specs.WellFormed.{IsWellFormed};
 ghost use Rattle.dl_plan.specs.declared.plan.Plan.{Plan};
 ghost use Rattle.dl_plan.specs.declared.settings.Settings.{Settings};
 ghost use Rattle.dl_plan.specs.Valid.{IsValid};
-ghost use Rattle.dl_types.specs.Faults.{first_fault};
+ghost use Rattle.dl_limits.specs.declared.rules.Rules.TheVariants.{Extended, Standard};
+ghost use Rattle.dl_types.specs.Faults.{by, first_fault};
 ghost use Rattle.dl_types.specs.Checked.{IsSet};
 ghost use Rattle.dl_types.specs.Plans.{IsPlanOf};
 
@@ -22,4 +23,14 @@ pub fn law_accepted()
 pub fn law_plan_unique()
     ensures { (program : Program) (settings : Settings) (a b : Plan) → IsPlanOf program settings a
         → IsPlanOf program settings b → a ≡ b }
+{}
+
+/// Where the standard rules accept a program, the extended rules accept it, with the same plan.
+pub fn law_rules()
+    ensures accepted { (program : Program) (settings : Settings)
+        → first_fault program (by Standard settings) ≡ None
+        → first_fault program (by Extended settings) ≡ None }
+    ensures plan { (program : Program) (settings : Settings) (plan : Plan)
+        → IsPlanOf program (by Standard settings) plan
+        → IsPlanOf program (by Extended settings) plan }
 {}

@@ -3,7 +3,8 @@
 //! `check` gives the plan of a program, which is valid, or the first broken rule with its unit and
 //! place (`IsCheckOf`). Each of the 28 rules is a definition of its own. A program that breaks none
 //! has a valid plan (`law_accepted`), and a program and settings have at most one plan
-//! (`law_plan_unique`): the definition of a plan leaves nothing open.
+//! (`law_plan_unique`): the definition of a plan leaves nothing open. Where the standard rules accept
+//! a program, the extended rules accept it, with the same plan (`law_rules`).
 #![tactic(auto)]
 
 mod broken;
@@ -29,6 +30,6 @@ mod severities;
 mod unit;
 
 pub use fault::{CheckFault, TypeFault};
-pub use law::{law_accepted, law_plan_unique};
+pub use law::{law_accepted, law_plan_unique, law_rules};
 pub use program::check;
 pub use rule::Rule;

@@ -2,7 +2,7 @@
 
 ghost use Rattle.std.specs.Prelude.{◌≡◌, ◌≤◌, [], None, Ok, All, length};
 ghost use Rattle.dl_buckets.specs.First.{in_turn};
-ghost use Rattle.dl_types.specs.Faults.{fault_of_severity};
+ghost use Rattle.dl_types.specs.Faults.{bounds_asked, fault_of_severity};
 ghost use Rattle.dl_limits.specs.Limits.{most_units};
 ghost use Rattle.dl_ast.specs.WellFormed.{IsWellFormed, IsFormedUnit, IsFormedDefinition};
 ghost use Rattle.dl_types.specs.Rules.{too_many_units};
@@ -14,19 +14,18 @@ use crate::changes::shared_shape;
 use crate::fault::CheckFault;
 use crate::known::KnownSeverity;
 use crate::rule::Rule;
-use crate::scale::cells;
+use crate::scale::{bounds_asked, cells};
 use crate::severities::check_severities;
 use crate::unit::check_unit;
 use dl_ast::{PortHead, Program, SevDef, UnitAst};
 use dl_lexer::Span;
-use dl_limits::MOST_UNITS;
 use dl_plan::{Items, Plan, Settings, Unit};
 use indexmap::IndexSet;
 use std::alloc::Global;
 
 /// The plan of a program, in buckets of the size that is set, on a grid of 2^`log2` cells; or the
-/// first broken rule, with its place. A seventeenth unit comes before all other faults, then two
-/// severities of one name, then the rules of each unit in the order of the text, and last those of
+/// first broken rule, with its place. More units than the rules that are set allow come before all
+/// other faults, then two severities of one name, then the rules of each unit in the order of the text, and last those of
 /// the portfolio.
 ///
 /// It needs a program as the parser builds it, and settings in their ranges. `CheckFault::Typing`
@@ -36,8 +35,9 @@ pub fn check(alloc: Global, program: &Program, settings: &Settings) -> Result<Pl
     requires set { IsSet settings.now }
     ensures { IsCheckOf program.now settings.now result }
 {
-    if let Some(span) = too_many_units(program.units.as_slice()) {
-        return Err(typing(MOST_UNITS as u32, Rule::TooManyUnits, span));
+    let most = bounds_asked(settings).units;
+    if let Some(span) = too_many_units(program.units.as_slice(), most) {
+        return Err(typing(most as u32, Rule::TooManyUnits, span));
     }
     let sevs = program.sevs.as_slice();
     check_severities(alloc, sevs)?;
@@ -55,7 +55,7 @@ pub fn check(alloc: Global, program: &Program, settings: &Settings) -> Result<Pl
 fn planned(program: &Program, settings: &Settings, units: Items<Unit>) -> Result<Plan, CheckFault>
     requires formed { IsWellFormed program.now }
     requires set { IsSet settings.now }
-    requires few { too_many_units program.now.units ≡ None }
+    requires few { too_many_units (bounds_asked settings.now).units program.now.units ≡ None }
     requires fresh { in_turn fault_of_severity [] program.now.sevs ≡ None }
     requires units { AnswersUnits settings.now program.now.port program.now.sevs program.now.units (Ok units) }
     ensures { IsCheckOf program.now settings.now result }
@@ -69,12 +69,12 @@ fn planned(program: &Program, settings: &Settings, units: Items<Unit>) -> Result
     })
 }
 
-/// The span of the seventeenth unit.
+/// The span of the first unit past the first `most`.
 #[tactic(auto, unfolding(crate::specs::Rules::too_many_units))]
-fn too_many_units(units: &[UnitAst]) -> Option<Span>
-    ensures { result ≡ too_many_units units.now }
+fn too_many_units(units: &[UnitAst], most: usize) -> Option<Span>
+    ensures { result ≡ too_many_units most units.now }
 {
-    Some(units.get(MOST_UNITS)?.name.span)
+    Some(units.get(most)?.name.span)
 }
 
 /// The units of the plan, or the first fault of the first unit that has one.

@@ -1,11 +1,12 @@
-//! How large the grid of a plan is.
+//! How large the grid of a plan is, and the bounds of the rules that are set.
 
 ghost use Rattle.std.specs.Prelude.{◌≡◌, ◌≤◌};
 ghost use Rattle.dl_limits.specs.Limits.{most_amount};
-ghost use Rattle.dl_types.specs.Faults.{cells_asked, most_asked};
+ghost use Rattle.dl_limits.specs.Rules.{AreBounds};
+ghost use Rattle.dl_types.specs.Faults.{bounds_asked, cells_asked, most_asked};
 ghost use Rattle.dl_types.specs.Checked.{IsSet};
 
-use dl_limits::most_amount;
+use dl_limits::{Bounds, bounds_of, most_amount};
 use dl_plan::Settings;
 
 /// How many cells the grid has.
@@ -14,6 +15,15 @@ pub(crate) fn cells(settings: &Settings) -> u32
     ensures { result ≡ cells_asked settings.now }
 {
     1 << settings.log2
+}
+
+/// The bounds of the rules that are set.
+#[tactic(auto, using(dl_limits::proofs::RuleBounds::bounds_within))]
+pub(crate) fn bounds_asked(settings: &Settings) -> Bounds
+    ensures value { result ≡ bounds_asked settings.now }
+    ensures bounds { AreBounds result }
+{
+    bounds_of(settings.rules)
 }
 
 /// The greatest amount on that grid, in buckets.

@@ -1,7 +1,7 @@
 //! The rules of one unit, in their order.
 
 ghost use Rattle.std.specs.Prelude.{All, ◌≡◌, ◌<◌, ◌∷◌, ◌++◌, [], Option, None, Some, IfOk, Err, length, map};
-ghost use Rattle.dl_types.specs.Faults.{most_asked, fault_of_text};
+ghost use Rattle.dl_types.specs.Faults.{bounds_asked, most_asked, fault_of_text};
 ghost use Rattle.dl_types.specs.Answer.{HasFault, AnswersWith, AnswersUnit};
 ghost use Rattle.dl_ast.specs.WellFormed.{IsFormedUnit, IsFormedDefinition};
 ghost use Rattle.dl_ast.specs.declared.ast.MixAst.{MixAst as Mixture};
@@ -18,7 +18,7 @@ use crate::grid_rules::check_grid;
 use crate::known::{KnownSeverity, unit_severity};
 use crate::names::check_name;
 use crate::rule::Rule;
-use crate::scale::most_asked;
+use crate::scale::{bounds_asked, most_asked};
 use crate::severities::body_span;
 use dl_ast::{PortHead, SevDef, UnitAst};
 use dl_buckets::{Flaws, GridSev, GridUnit, Gridded, grid_unit};
@@ -53,13 +53,15 @@ fn check_text(
     requires sev { (mix : Mixture) × IsMixtureRead settings.now mix sev }
     ensures fault { (mix : Mixture) → IsMixtureRead settings.now mix sev
         → HasFault (fault_of_text number
-        (flaws_of (most_asked settings.now) settings.now.bs unit.now mix)) result }
+        (flaws_of (bounds_asked settings.now) (most_asked settings.now) settings.now.bs unit.now
+        mix)) result }
     ensures same { (mix : Mixture) → IsMixtureRead settings.now mix sev
         → IfOk result (λ made. made ≡ grid_of settings.now.bs unit.now mix) }
     ensures grid { IfOk result IsGridUnit }
     ensures within { IfOk result (IsWithin (most_asked settings.now)) }
 {
-    let made = grid_unit(alloc, unit, sev, settings.bs, most_asked(settings))?;
+    let bounds = bounds_asked(settings);
+    let made = grid_unit(alloc, unit, sev, settings.bs, most_asked(settings), bounds)?;
     let checked = check_flaws(number, made.flaws);
     unless_broken(made.part, checked)
 }

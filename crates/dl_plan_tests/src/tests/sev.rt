@@ -179,7 +179,10 @@ fn mixed(
 fn mixture(alloc: Global, atoms: &[Sev], parts: Parts<'_>) -> Result<Sev, MixFault> {
     match weighed(alloc, parts) {
         Ok(weights) if weights.weights.as_slice().len() == atoms.len() => mix(
-            alloc, atoms, &weights,
+            alloc,
+            atoms,
+            &weights,
+            1 << 30,
         ),
         _ => Err(MixFault::OutOfMemory),
     }

@@ -7,5 +7,5 @@ use Rattle.dl_buckets.proofs.count.grid_count.Goals as goal
 pub returns-in_ok-probs-in-Listed : goal.returns-in_ok-probs-in-Listed
 returns-in_ok-probs-in-Listed c =
     let each = length-map {B = Fraction} (spanned_values c.in-Listed.counts) (λ pair. pair.0) in
-    rw c.in-Listed.is (rw each at (beside_read (λ (v : ValueList). length v.values) Listed c.in-Listed.probs
+    rw c.in-Listed.is (rw each at (beside_read c.args.bounds (λ (v : ValueList). length v.values) Listed c.in-Listed.probs
     c.in_ok-counts-in-Listed.ensures (ap length c.as_slice.ensures) c.in_ok-probs-in-Listed.ensures c.or-flaws.ensures))

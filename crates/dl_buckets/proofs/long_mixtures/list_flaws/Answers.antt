@@ -3,4 +3,4 @@ use Rattle.dl_buckets.proofs.LongMixtures.{list_early}
 use Rattle.dl_buckets.proofs.long_mixtures.list_flaws.Goals as goal
 
 pub returns : goal.returns
-returns c = list_early c.item_flaws.result c.args.list.now (rw c.as_slice.ensures at c.item_flaws.ensures)
+returns c = λ bounds. list_early bounds c.item_flaws.result c.args.list.now (rw c.as_slice.ensures at c.item_flaws.ensures)

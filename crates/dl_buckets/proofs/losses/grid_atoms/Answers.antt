@@ -4,12 +4,12 @@ use Rattle.dl_buckets.proofs.Agreeing.{read_no_part, read_next, read_end}
 use Rattle.dl_buckets.proofs.losses.grid_atoms.Goals as goal
 
 pub atoms-init : goal.atoms-init
-atoms-init c = read_no_part 7 (flaws_of_atom c.args.most c.args.bs) (grid_atom c.args.bs) c.new-made.ensures.items
+atoms-init c = read_no_part 7 (flaws_of_atom c.args.bounds c.args.most c.args.bs) (grid_atom c.args.bs) c.new-made.ensures.items
     c.none-flaws.ensures
 
 pub atoms-preserved : goal.atoms-preserved
 atoms-preserved c =
-    read_next 7 (flaws_of_atom c.args.most c.args.bs) (grid_atom c.args.bs) c.args.atoms.now c.atoms.atom-index
+    read_next 7 (flaws_of_atom c.args.bounds c.args.most c.args.bs) (grid_atom c.args.bs) c.args.atoms.now c.atoms.atom-index
     c.atoms-test.true c.atom-item.is c.atoms.invariant c.in_ok-one.ensures c.in_ok-push.ensures.items c.or-flaws.ensures
 
 pub returns : goal.returns

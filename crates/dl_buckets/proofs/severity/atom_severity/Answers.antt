@@ -1,7 +1,6 @@
 -- The whole weights are those of the probabilities.
 use Rattle.dl_buckets.proofs.Common.{◌∙◌, length, zip, ap, sym, probability, atom_probs}
 use Rattle.dl_buckets.proofs.Mixing.{weighed_are}
-use Rattle.dl_buckets.proofs.Shared.{weighing_fine}
 use Rattle.dl_buckets.proofs.severity.atom_severity.Goals as goal
 
 pub returns : goal.returns
@@ -10,8 +9,8 @@ returns c =
     let amounts = c.as_slice-amounts.ensures in
     let w = c.in-Some.weights in
     let is = rw (c.in-Some.is, amounts) at c.in_ok-weights.ensures in (
-      weighing_fine (atom_probs a) w is,
+      is.0,
       λ x. c.in_ok-merge.ensures x ∙ ap (λ ps. probability ps x)
-          (weighed_are c.as_slice-amounts.result.now (atom_probs a) w (ap length amounts ∙ sym c.requires.each) is
+          (weighed_are c.as_slice-amounts.result.now (atom_probs a) w (ap length amounts ∙ sym c.requires.atom.each) is.1
           ∙ ap (λ xs. zip xs (atom_probs a)) amounts),
     )

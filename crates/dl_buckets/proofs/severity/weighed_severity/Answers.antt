@@ -2,5 +2,5 @@
 use Rattle.dl_buckets.proofs.Parts.{sev_weighted}
 use Rattle.dl_buckets.proofs.severity.weighed_severity.Goals as goal
 
-pub mixture-requires : goal.mixture-requires
-mixture-requires c = sev_weighted c.args.unit.now c.requires.weighted
+pub mixture-requires-clause-sev : goal.mixture-requires-clause-sev
+mixture-requires-clause-sev c = sev_weighted c.args.unit.now c.requires.weighted

@@ -1,10 +1,12 @@
--- Those of the list.
-use Rattle.dl_buckets.proofs.Common.{◌≡◌, if_ok}
+-- Those of the list, where it is fine.
+use Rattle.dl_buckets.proofs.Common.{◌≡◌, ◌∙◌, sym, if_ok}
 use Rattle.dl_buckets.proofs.Shared.{list_weighed}
 use Rattle.dl_buckets.proofs.shares.weights_among.Goals as goal
 
 pub returns-in-Some : goal.returns-in-Some
 returns-in-Some c =
-    let weighed = list_weighed c.in-Some.probs (rw c.in-Some.is at c.requires.shares) in
-    rw c.in-Some.is (if_ok c.copy_weights.result (λ made. made ≡ c.in-Some.probs.weights) _ (λ made e. rw e weighed)
-    c.copy_weights.ensures)
+    let l = c.in-Some.probs in
+    let fine = sym (rw c.in-Some.is at (c.are_fine.ensures c.args.count c.requires.some c.requires.few)) ∙ c.if-not-are_fine.false in
+    let weighed = list_weighed c.args.most l c.requires.parts (rw c.in-Some.is at c.requires.shares) fine in
+    rw c.in-Some.is (if_ok c.copy_weights.result (λ made. made ≡ l.weights) _
+    (λ made e. rw (e ∙ weighed.1) (fine, weighed.2)) c.copy_weights.ensures)

@@ -6,12 +6,12 @@ use Rattle.dl_buckets.proofs.value_lists.values_of_ranges.Goals as goal
 
 pub returns-in-Err-clause-long : goal.returns-in-Err-clause-long
 returns-in-Err-clause-long c =
-    too_many c.args.ranges.now c.each.range-index c.each-item.result c.each.values.items c.in-Err.fault c.each-test.true
+    too_many c.args.bounds c.args.ranges.now c.each.range-index c.each-item.result c.each.values.items c.in-Err.fault c.each-test.true
     c.each-item.is c.each.invariant.values c.in-Err.ensures.long
 
 pub push_spanned-requires-clause-range : goal.push_spanned-requires-clause-range
 push_spanned-requires-clause-range c =
-    at_item (λ (pair : Range × Span). IsRange pair.0) _ _ _ _ refl c.requires c.each-test.true c.each-item.is
+    at_item (λ (pair : Range × Span). IsRange pair.0) _ _ _ _ refl c.requires.ranges c.each-test.true c.each-item.is
 
 pub push_spanned-requires-clause-room : goal.push_spanned-requires-clause-room
 push_spanned-requires-clause-room c = c.each.invariant.few

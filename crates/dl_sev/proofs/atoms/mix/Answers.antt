@@ -1,6 +1,6 @@
 -- The amounts with the weights of the products are the mixture.
-use Rattle.dl_plan.specs.Prelude.{IsFineTo30Bits, common_denominator}
-use Rattle.dl_sev.proofs.Common.{◌∙◌, ◌++◌, map, get_or, ap, subst, sym, ◌over◌, amounts_of, probability, mixture_of, mixed_probability, sum_of}
+use Rattle.dl_plan.specs.Prelude.{common_denominator}
+use Rattle.dl_sev.proofs.Common.{◌∙◌, ◌≤◌, ◌++◌, map, get_or, ap, subst, sym, ◌over◌, amounts_of, probability, mixture_of, mixed_probability, sum_of}
 use Rattle.dl_sev.proofs.Mixed.{amounts-more, probs-more, weighed-back, as_many, mixture_whole, mixture_one, firsts, seconds}
 use Rattle.dl_sev.proofs.atoms.mix.Goals as goal
 
@@ -42,13 +42,13 @@ returns-in_default-clause-step c = λ fine.
     let all = mixture_whole c.args.weights.now.total c.args.atoms.now c.args.weights.now.weights c.atoms.at
     c.atoms-test.false c.requires.lengths in
     c.in_default.ensures
-    (subst IsFineTo30Bits (sym (c.deref.ensures.value ∙ c.atoms.invariant.probs ∙ ap seconds all)) fine)
+    (subst (λ xs. common_denominator xs ≤ c.args.most) (sym (c.deref.ensures.value ∙ c.atoms.invariant.probs ∙ ap seconds all)) fine)
 
 pub returns-clause-fine : goal.returns-clause-fine
 returns-clause-fine c =
     let all = mixture_whole c.args.weights.now.total c.args.atoms.now c.args.weights.now.weights c.atoms.at
     c.atoms-test.false c.requires.lengths in
-    subst IsFineTo30Bits (c.deref.ensures.value ∙ c.atoms.invariant.probs ∙ ap seconds all) c.in-Some.ensures.0
+    subst (λ xs. common_denominator xs ≤ c.args.most) (c.deref.ensures.value ∙ c.atoms.invariant.probs ∙ ap seconds all) c.in-Some.ensures.0
 
 pub over_common-requires-clause-common : goal.over_common-requires-clause-common
 over_common-requires-clause-common c =

@@ -6,27 +6,27 @@ use Rattle.dl_types.proofs.UnitFacts.{number_is, whole_is, whole_here, many_span
 use Rattle.dl_types.proofs.count_rules.check_count.Goals as goal
 
 pub expected_claims-count-requires-clause-layered : goal.expected_claims-count-requires-clause-layered
-expected_claims-count-requires-clause-layered c = c.in_ok-layered.ensures
+expected_claims-count-requires-clause-layered c = (c.args.bounds, c.in_ok-layered.ensures)
 
 pub check_fine-requires-clause-weighed : goal.check_fine-requires-clause-weighed
 check_fine-requires-clause-weighed c = rw c.in_ok-kept.ensures.same c.in_ok-layered.ensures
 
 pub check_fine-requires-clause-number : goal.check_fine-requires-clause-number
-check_fine-requires-clause-number c = rw c.expected_claims-count.ensures (number_is c.args.bs c.args.unit.now)
+check_fine-requires-clause-number c = rw (c.expected_claims-count.ensures c.args.bounds c.in_ok-layered.ensures) (number_is c.args.bounds c.args.bs c.args.unit.now)
 
 pub too_many_claims-many-requires : goal.too_many_claims-many-requires
 too_many_claims-many-requires c =
     let u = c.args.unit.now in
     let is = c.in_ok-claims.ensures.count in
-    rw (is.same, is.number) (whole_here u c.expected_claims-count.result
+    rw (is.same, is.number) (whole_here c.args.bounds u c.expected_claims-count.result
     (whole_is c.args.number u.count c.expected_claims-count.result (c.in_ok-kept.ensures.fault _ c.check_whole-whole.ensures))
     (only _ TooFine _ c.in_ok-claims.ensures.fault))
 
 pub returns-in_err-kept-clause-fault : goal.returns-in_err-kept-clause-fault
 returns-in_err-kept-clause-fault c =
     let stop = c.in_err-kept.field-0.0 in
-    count_told c.args.bs c.args.number c.args.unit.now c.deref.result.now c.expected_claims-count.result
-    c.zero_mean-span.result (c.deref.ensures.value ∙ c.requires.amounts) c.expected_claims-count.ensures
+    count_told c.args.bounds c.args.bs c.args.number c.args.unit.now c.deref.result.now c.expected_claims-count.result
+    c.zero_mean-span.result (c.deref.ensures.value ∙ c.requires.amounts) (c.expected_claims-count.ensures c.args.bounds c.in_ok-layered.ensures)
     c.zero_mean-span.ensures c.from_residual-in_err-kept.result stop c.from_residual-in_err-kept.ensures
     (stop_second (breaks c.args.number ZeroMean c.zero_mean-span.result) _ stop c.in_ok-broken.ensures
     (stop_first (first_broken c.args.number (whole_rules c.args.unit.now.count c.expected_claims-count.result)) _ stop
@@ -37,12 +37,12 @@ returns-in_err-claims-clause-fault c =
     let u = c.args.unit.now in
     let n = c.expected_claims-count.result in
     let stop = c.in_err-claims.field-0.0 in
-    count_told c.args.bs c.args.number u c.deref.result.now n c.zero_mean-span.result
-    (c.deref.ensures.value ∙ c.requires.amounts) c.expected_claims-count.ensures c.zero_mean-span.ensures
+    count_told c.args.bounds c.args.bs c.args.number u c.deref.result.now n c.zero_mean-span.result
+    (c.deref.ensures.value ∙ c.requires.amounts) (c.expected_claims-count.ensures c.args.bounds c.in_ok-layered.ensures) c.zero_mean-span.ensures
     c.from_residual-in_err-claims.result stop c.from_residual-in_err-claims.ensures
     (stop_second (breaks c.args.number ZeroMean c.zero_mean-span.result) _ stop c.in_ok-broken.ensures
     (stop_second (first_broken c.args.number (whole_rules u.count n)) _ stop (c.in_ok-kept.ensures.fault _ c.check_whole-whole.ensures)
-    (stop_first (breaks c.args.number TooFine (too_fine u n)) _ stop c.in_err-claims.ensures.fault)))
+    (stop_first (breaks c.args.number TooFine (too_fine c.args.bounds u n)) _ stop c.in_err-claims.ensures.fault)))
 
 pub returns-clause-fault : goal.returns-clause-fault
 returns-clause-fault c =
@@ -51,10 +51,10 @@ returns-clause-fault c =
     let span : c.span_if.result ≡ too_many_claims u n = c.span_if.ensures ∙ many_span u n c.in_ok-claims.claims
     c.too_many_claims-many.result c.in_ok-claims.ensures.claims c.in_ok-claims.ensures.count
     c.too_many_claims-many.ensures in
-    let last = count_fault c.args.bs c.args.number u c.deref.result.now n c.zero_mean-span.result
-    (c.deref.ensures.value ∙ c.requires.amounts) c.expected_claims-count.ensures c.zero_mean-span.ensures
+    let last = count_fault c.args.bounds c.args.bs c.args.number u c.deref.result.now n c.zero_mean-span.result
+    (c.deref.ensures.value ∙ c.requires.amounts) (c.expected_claims-count.ensures c.args.bounds c.in_ok-layered.ensures) c.zero_mean-span.ensures
     ∙ skip (breaks c.args.number ZeroMean c.zero_mean-span.result) _ c.in_ok-broken.ensures
     ∙ skip (first_broken c.args.number (whole_rules u.count n)) _ (c.in_ok-kept.ensures.fault _ c.check_whole-whole.ensures)
-    ∙ skip (breaks c.args.number TooFine (too_fine u n)) _ c.in_ok-claims.ensures.fault in
+    ∙ skip (breaks c.args.number TooFine (too_fine c.args.bounds u n)) _ c.in_ok-claims.ensures.fault in
     subst (λ fault. HasFault fault c.unless_broken-2.result) (ap (breaks c.args.number TooManyClaims) span ∙ sym last)
     (c.unless_broken-2.ensures.fault _ c.broken-checked.ensures)

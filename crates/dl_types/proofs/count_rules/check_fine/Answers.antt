@@ -6,14 +6,14 @@ use Rattle.dl_types.proofs.count_rules.check_fine.Goals as goal
 pub returns-in_default-clause-fault : goal.returns-in_default-clause-fault
 returns-in_default-clause-fault c =
     let told = rw c.in_default.is at c.in_ok-severity.ensures in
-    rw c.typing.ensures (ap (breaks c.args.number TooFine) (coarse_span c.args.unit.now c.args.count told))
+    rw c.typing.ensures (ap (breaks c.args.number TooFine) (coarse_span c.args.bounds c.args.unit.now c.args.count told))
 
 pub returns-clause-fault : goal.returns-clause-fault
 returns-clause-fault c =
     let u = c.args.unit.now in
     let told = rw c.in-Some.is at c.in_ok-severity.ensures in
     let above = c.above_zero-above.ensures (final_severity u) told.1.means in
-    ap (breaks c.args.number TooFine) (sym (fine_span u c.args.count false told.0
+    ap (breaks c.args.number TooFine) (sym (fine_span c.args.bounds u c.args.count false told.0
     (sym (ap (exposed_too_fine u.count c.args.count) (sym above) ∙ c.in-Some-fine_count.ensures.0))))
 
 pub returns-clause-claims : goal.returns-clause-claims
@@ -30,5 +30,5 @@ returns-in_default-fine_count-clause-fault c =
     let u = c.args.unit.now in
     let told = rw c.in-Some.is at c.in_ok-severity.ensures in
     let above = c.above_zero-above.ensures (final_severity u) told.1.means in
-    rw c.typing-in_default-fine_count.ensures (ap (breaks c.args.number TooFine) (sym (fine_span u c.args.count true told.0
+    rw c.typing-in_default-fine_count.ensures (ap (breaks c.args.number TooFine) (sym (fine_span c.args.bounds u c.args.count true told.0
     (sym (ap (exposed_too_fine u.count c.args.count) (sym above) ∙ c.in_default-fine_count.ensures)))))

@@ -4,8 +4,8 @@ use Rattle.dl_types.proofs.Exposed.{quotients}
 use Rattle.dl_types.proofs.exposures.over_mean.Goals as goal
 
 pub returns-in-Some : goal.returns-in-Some
-returns-in-Some c =
-    let told = rw c.in-Some.is at c.requires.layered in
+returns-in-Some c = λ bounds weighed.
+    let told = rw c.in-Some.is at weighed in
     c.times.ensures ∙ ap₂ admitted (sym told.0) (ap₂ (λ x y. x *ℚ y) c.of.ensures c.of-in-Some.ensures
     ∙ quotients c.args.amount c.args.bs c.args.share c.mean_in_layer-mean.result c.requires.unit.bucket.above
     c.mean_in_layer-mean.ensures.above

@@ -1,5 +1,5 @@
 -- The tests in the order of the code.
-use Rattle.dl_types.proofs.Common.{◌≡◌, ◌∙◌, true, false, not, map, sym, ap, subst, is_some, Option, Fraction, most_expected, raised, unit_share, shared_probabilities, is_fine, is_zero, flat_map, is_raised_coarse, passes, ne_eqb}
+use Rattle.dl_types.proofs.Common.{◌≡◌, ◌∙◌, true, false, not, map, sym, ap, subst, is_some, Option, Fraction, most_expected, raised, unit_share, shared_probabilities, is_fine, is_zero, flat_map, is_raised_coarse, passes, ne_eqb, most_parts}
 use Rattle.dl_types.proofs.FactorBounds.{bounds_are, last_passes, some_admitted}
 use Rattle.dl_types.proofs.factor.passes_bounds.Goals as goal
 
@@ -14,5 +14,5 @@ returns c =
     (subst (λ (o : Option Fraction). is_some o ≡ true) c.raised.ensures c.if-is_none.ensures) in
     ap not c.are_shares_fine.ensures
     ∙ last_passes (is_zero v) (is_raised_coarse r v) (is_raised_coarse r h) (passes (raised r h) most_expected)
-    (is_fine (map (unit_share v) units)) (is_fine (flat_map (shared_probabilities v) units)) zero coarse
+    (is_fine most_parts (map (unit_share v) units)) (is_fine most_parts (flat_map (shared_probabilities v) units)) zero coarse
     (sym c.if-is_raised_large.ensures) ∙ sym (bounds_are r v h units)

@@ -1,5 +1,5 @@
 -- A clause is made where its shares are fine.
-use Rattle.dl_types.proofs.Common.{◌≡◌, ◌∙◌, Bool, true, false, not, Option, Some, None, refl, sym, ap, GridClause, has_shares, made_of, shares_of, is_fine, MadeClause}
+use Rattle.dl_types.proofs.Common.{◌≡◌, ◌∙◌, Bool, true, false, not, Option, Some, None, refl, sym, ap, GridClause, has_shares, made_of, shares_of, is_fine, MadeClause, most_parts}
 use Rattle.dl_buckets.specs.declared.made.MadeClause.TheVariants.{Missing, TooFine, Whole}
 use Rattle.dl_types.proofs.fine.is_too_fine.Goals as goal
 
@@ -10,9 +10,9 @@ coarse (Whole clause span) = false
 
 coarse_is : (o : Option GridClause) → coarse (made_of o) ≡ not (has_shares o)
 coarse_is None = refl
-coarse_is (Some c) = by_test (is_fine (shares_of c)) refl
+coarse_is (Some c) = by_test (is_fine most_parts (shares_of c)) refl
   where
-    by_test : (b : Bool) → is_fine (shares_of c) ≡ b → coarse (made_of (Some c)) ≡ not (is_fine (shares_of c))
+    by_test : (b : Bool) → is_fine most_parts (shares_of c) ≡ b → coarse (made_of (Some c)) ≡ not (is_fine most_parts (shares_of c))
     by_test true e = rw e refl
     by_test false e = rw e refl
 

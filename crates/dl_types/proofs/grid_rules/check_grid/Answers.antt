@@ -1,8 +1,8 @@
 -- Where no rule is broken, the parts of the plan are valid.
-use Rattle.dl_types.proofs.Common.{ℕ, ◌≡◌, ◌∙◌, sym, ap, ap₂, subst, IsCedeOf, clauses_layered, HorizonTooLarge, breaks, horizon_too_large, IfOk, MadeClause, StopsAt, zero_base, ZeroBase, first_broken, clause_rules, count_rules}
+use Rattle.dl_types.proofs.Common.{◌≡◌, ◌∙◌, sym, subst, IsCedeOf, clauses_layered, IfOk, first_broken, clause_rules, count_rules, bounds_asked}
 use Rattle.dl_types.proofs.Aggregates.{cede_is}
 use Rattle.dl_types.proofs.Stops.{skip, stop_first, stop_second}
-use Rattle.dl_types.proofs.UnitFacts.{fine_agr, kept_is, grid_fault, grid_told, late_told, made_answer}
+use Rattle.dl_types.proofs.UnitFacts.{asked_within, fine_agr, kept_is, grid_fault, grid_told, late_told, made_answer}
 use Rattle.dl_types.proofs.grid_rules.check_grid.Goals as goal
 
 pub returns-in_err-layered_unit : goal.returns-in_err-layered_unit
@@ -20,24 +20,24 @@ returns-in_err-claims c =
     grid_told c.args.settings.now n u c.args.unit.now.name.text c.from_residual-in_err-claims.result stop
     c.from_residual-in_err-claims.ensures
     (stop_second (first_broken n (clause_rules u)) _ stop c.in_ok-layered_unit.ensures.fault
-    (stop_first (first_broken n (count_rules c.args.settings.now.bs u)) _ stop c.in_err-claims.ensures.fault))
+    (stop_first (first_broken n (count_rules (bounds_asked c.args.settings.now) c.args.settings.now.bs u)) _ stop (rw c.bounds_asked-bounds.ensures.value at c.in_err-claims.ensures.fault)))
 
 pub check_changes-requires : goal.check_changes-requires
 check_changes-requires c = c.in_ok-layered_unit.ensures.clauses.agr_made
 
 pub returns-in_err-cede : goal.returns-in_err-cede
 returns-in_err-cede c =
-    let is = c.in_ok-claims.ensures.count in
+    let is = rw c.bounds_asked-bounds.ensures.value at c.in_ok-claims.ensures.count in
     late_told c.args.settings.now c.args.number c.args.grid.now c.args.unit.now.name.text
     c.from_residual-in_err-cede.result c.in_err-cede.field-0.0 c.from_residual-in_err-cede.ensures
-    c.in_ok-layered_unit.ensures.fault c.in_ok-claims.ensures.fault
+    c.in_ok-layered_unit.ensures.fault (rw c.bounds_asked-bounds.ensures.value at c.in_ok-claims.ensures.fault)
     (rw (is.same, is.number, c.cells.ensures, c.in_ok-layered_unit.ensures.clauses.agr) at c.in_err-cede.ensures.fault)
 
 pub planned-requires : goal.planned-requires
 planned-requires c =
-    let is = c.in_ok-claims.ensures.count in
+    let is = rw c.bounds_asked-bounds.ensures.value at c.in_ok-claims.ensures.count in
     rw (is.same, is.number)
-    (kept_is c.args.settings.now.bs c.args.number c.args.grid.now c.requires.grid c.in_ok-claims.ensures.fault)
+    (kept_is (bounds_asked c.args.settings.now) (asked_within c.args.settings.now) c.args.settings.now.bs c.args.number c.args.grid.now c.requires.grid (rw c.bounds_asked-bounds.ensures.value at c.in_ok-claims.ensures.fault))
 
 pub returns : goal.returns
 returns c =
@@ -45,13 +45,13 @@ returns c =
     let n = c.args.number in
     let settings = c.args.settings.now in
     let made = c.planned.ensures in
-    let is = c.in_ok-claims.ensures.count in
+    let is = rw c.bounds_asked-bounds.ensures.value at c.in_ok-claims.ensures.count in
     let agr = c.in_ok-layered_unit.layered_unit.clauses.agr in
     let same = c.in_ok-layered_unit.ensures.clauses.agr in
     let cede = cede_is u.agr agr (clauses_layered u c.in_ok-layered_unit.ensures.layered).1
-    (fine_agr settings.bs n u c.requires.grid c.in_ok-claims.ensures.fault) same in
+    (fine_agr (bounds_asked settings) (asked_within settings) settings.bs n u c.requires.grid (rw c.bounds_asked-bounds.ensures.value at c.in_ok-claims.ensures.fault)) same in
     let none = grid_fault settings n u ∙ skip (first_broken n (clause_rules u)) _ c.in_ok-layered_unit.ensures.fault
-    ∙ skip (first_broken n (count_rules settings.bs u)) _ c.in_ok-claims.ensures.fault
+    ∙ skip (first_broken n (count_rules (bounds_asked settings) settings.bs u)) _ (rw c.bounds_asked-bounds.ensures.value at c.in_ok-claims.ensures.fault)
     ∙ (rw (is.same, is.number, c.cells.ensures, same) at c.in_ok-cede.ensures.fault) in
     made_answer settings n u c.requires.grid c.requires.within none c.args.unit.now.name.text
     c.in_ok-claims.claims.severity c.in_ok-cede.cede c.in_ok-claims.ensures.claims.severity

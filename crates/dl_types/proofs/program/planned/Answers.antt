@@ -1,7 +1,8 @@
 -- What the portfolio breaks comes last.
-use Rattle.dl_types.proofs.Common.{Ok, refl, sym, subst, AnswersUnits, IfSome, List, HasCommonFactor, UnitOfPlan, StopsAt, IsCheckOf}
+use Rattle.dl_types.proofs.Common.{Ok, refl, sym, subst, AnswersUnits, IfSome, List, HasCommonFactor, UnitOfPlan, StopsAt, IsCheckOf, bounds_asked, arith}
 use Rattle.dl_types.proofs.ProgramUnits.{check_stopped, fault_of_rest, few_units, plan_of_units}
 use Rattle.dl_types.proofs.Stops.{stopped}
+use Rattle.dl_types.proofs.UnitFacts.{asked_within}
 use Rattle.dl_types.proofs.program.planned.Goals as goal
 
 pub shared_shape-requires : goal.shared_shape-requires
@@ -30,5 +31,9 @@ returns c =
     }) refl c.cells.ensures c.in_ok-common.ensures.shape
     (subst (λ (us : List UnitOfPlan). IfSome c.in_ok-common.common (λ r. HasCommonFactor r us)) c.as_slice.ensures
     c.in_ok-common.ensures.factor)
-    c.requires.set c.requires.formed (few_units c.args.program.now.units c.requires.few) c.requires.few c.requires.fresh
+    c.requires.set c.requires.formed (omega (
+      arith,
+      few_units (bounds_asked c.args.settings.now).units c.args.program.now.units c.requires.few,
+      (asked_within c.args.settings.now).units,
+    )) c.requires.few c.requires.fresh
     c.requires.units c.in_ok-common.ensures.fault

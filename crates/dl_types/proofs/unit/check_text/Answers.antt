@@ -1,7 +1,7 @@
 -- What is read tells the faults of the text, and is the unit where there is none.
-use Rattle.dl_types.proofs.Common.{◌≡◌, refl, sym, subst, GridUnit, IsGridUnit, Settings, cells_asked, IfOk, amount_fits, MixAst, IsClean, IsRead, grid_mixture, grid_of, IsWithin, flaws_of_mixture, flaws_of, grid_is, within_is, HasFault, fault_of_text, most_asked, IsMixtureRead}
+use Rattle.dl_types.proofs.Common.{◌≡◌, refl, subst, GridUnit, IsGridUnit, Settings, cells_asked, IfOk, amount_fits, MixAst, IsClean, IsRead, grid_of, IsWithin, flaws_of, grid_is, within_is, HasFault, fault_of_text, most_asked, IsMixtureRead, bounds_asked}
 use Rattle.dl_types.proofs.Texts.{same_fault, part_keeps, unit_read}
-use Rattle.dl_types.proofs.UnitFacts.{kept_as}
+use Rattle.dl_types.proofs.UnitFacts.{asked_within, kept_as}
 use Rattle.dl_types.proofs.unit.check_text.Goals as goal
 
 module _ (c : goal.After-unless_broken) (m : MixAst) (sev : IsMixtureRead c.args.settings.now m c.args.sev) where
@@ -11,22 +11,19 @@ module _ (c : goal.After-unless_broken) (m : MixAst) (sev : IsMixtureRead c.args
   abbrev part : GridUnit
   part = grid_of settings.bs c.args.unit.now m
 
-  read : IsRead (flaws_of (most_asked settings) settings.bs c.args.unit.now m) part c.in_ok-made.made
+  read : IsRead (flaws_of (bounds_asked settings) (most_asked settings) settings.bs c.args.unit.now m) part c.in_ok-made.made
   read =
-      subst (λ most. IsRead (flaws_of most settings.bs c.args.unit.now m) part c.in_ok-made.made)
-      c.most_asked.ensures.value
-      (unit_read c.most_asked.result settings.bs c.args.unit.now m c.in_ok-made.made (c.in_ok-made.ensures _ _
-      (subst (λ most. IsRead (flaws_of_mixture most settings.bs m) (grid_mixture settings.bs m) c.args.sev)
-      (sym c.most_asked.ensures.value) sev.right)))
+      unit_read (bounds_asked settings) (most_asked settings) settings.bs c.args.unit.now m c.in_ok-made.made
+      (rw (c.bounds_asked-bounds.ensures.value, c.most_asked.ensures.value) at (c.in_ok-made.ensures _ _ sev.right))
 
   told : HasFault (fault_of_text c.args.number
-      (flaws_of (most_asked settings) settings.bs c.args.unit.now m)) c.unless_broken.result
+      (flaws_of (bounds_asked settings) (most_asked settings) settings.bs c.args.unit.now m)) c.unless_broken.result
   told = subst (λ fault. HasFault fault c.unless_broken.result) (same_fault c.args.number _ part c.in_ok-made.made read)
       (c.unless_broken.ensures.fault _ c.check_flaws-checked.ensures)
 
   -- what holds of the unit of a text without flaws
   keeps : (P : GridUnit → Type 0)
-      → (IsClean (flaws_of (most_asked settings) settings.bs c.args.unit.now m) → P part) → IfOk c.unless_broken.result P
+      → (IsClean (flaws_of (bounds_asked settings) (most_asked settings) settings.bs c.args.unit.now m) → P part) → IfOk c.unless_broken.result P
   keeps P h =
       kept_as P _ _ c.unless_broken.result c.unless_broken.ensures.same c.unless_broken.ensures.kept
       (part_keeps c.args.number _ part c.in_ok-made.made read P c.check_flaws-checked.result c.check_flaws-checked.ensures h)
@@ -43,7 +40,7 @@ returns-clause-grid c =
     let settings = c.args.settings.now in
     let m = c.requires.sev.0 in
     keeps c m c.requires.sev.1 IsGridUnit
-    (λ clean. grid_is (most_asked settings) settings.bs c.args.unit.now m clean (amount_fits (cells_asked settings))
+    (λ clean. grid_is (bounds_asked settings) (most_asked settings) settings.bs c.args.unit.now m clean (asked_within settings) (amount_fits (cells_asked settings))
     c.requires.formed c.requires.sev.1.formed)
 
 pub returns-clause-within : goal.returns-clause-within
@@ -51,4 +48,4 @@ returns-clause-within c =
     let settings = c.args.settings.now in
     let m = c.requires.sev.0 in
     keeps c m c.requires.sev.1 (IsWithin (most_asked settings))
-    (λ clean. within_is (most_asked settings) settings.bs c.args.unit.now m clean)
+    (λ clean. within_is (bounds_asked settings) (most_asked settings) settings.bs c.args.unit.now m clean)
