@@ -1,7 +1,7 @@
 -- Lists whose items lie a common step apart, and products of them.
 use Rattle.dl_product.proofs.Common.{ℕ, zero, suc, ◌≡◌, ◌+◌, ◌-◌, ◌*◌, ◌/◌, ◌<◌, ◌≤◌, inl, inr, List, length, get_or, arith, sym, ap, ap₂, ◌∙◌, cases_lt, get_or_past, count_pairs, pairs_same, times_nothing, pair_sum, max}
 use Rattle.std.proofs.Common.{◌%◌}
-use Rattle.std.proofs.Math.Nat.{add-mod_left, add-mul-mod_self_right, eq_of_mul-eq-mul_right, le_trans, mod-eq_of_lt, mod-lt, mod-add-div', mul-le-mul_right, mul-mod_left, suc-add, zero-mul}
+use Rattle.std.proofs.Math.Nat.{add-mod_left, add-mul-mod_self_right, eq_of_mul-eq-mul_right, le_trans, lt_of_mul-lt-mul_right, mod-eq_of_lt, mod-lt, mod-add-div', mul-le-mul_right, mul-mod_left, suc-add, zero-mul}
 use Prim.Native.Nat.{◌∣◌}
 use Rattle.std.specs.Int.{div_ceil}
 use Rattle.std.specs.Prelude.{min}
@@ -12,6 +12,7 @@ use Rattle.std.proofs.lemmas.Nat.Gcd.{dvd_trans, dvd_of_mod-eq-zero, mod-eq-zero
 use Rattle.std.proofs.lemmas.Grind.{div_ceil_times}
 use Rattle.dl_exact.proofs.Counts.{nothing_times}
 use Rattle.dl_product.specs.Places.{AreMultiples, IsCount, LieApart, LieFrom}
+use Rattle.dl_product.specs.Windows.{IsWindow}
 use Rattle.dl_product.proofs.Zeros.{before_both, no_products, past_both, shift_both, shift_first}
 
 -- what is no multiple of a divisor is none of the number
@@ -103,6 +104,39 @@ multiple_past g n k some b = le_trans (div_ceil_times n g some).0 (mul-le-mul_ri
 -- a multiple of the step is that many times the step
 place : (g s : ℕ) → s % g ≡ 0 → s / g * g ≡ s
 place g s none = omega (arith, none, mod-add-div' s g)
+
+-- the start of a window among m / d items, rounded up, is d times so far within m
+pub start_within : (d m n w : ℕ) → 0 < d → n ≡ div_ceil m d → w ≤ n - 1 → w * d ≤ m
+start_within d m n w some many early = elim (cases_lt w n) [
+  | inl b ↦ omega (arith, multiple_inside d m w some (omega (arith, many, b)))
+  | inr none ↦
+      let first : w ≡ 0 = omega (arith, early, none) in
+      rw first (omega (arith, zero-mul d))
+]
+
+-- what is in a window of items that lie a step apart lies as far apart from its own start on
+pub in_window : (p d w e : ℕ) (xs items : List ℕ) (cells : ℕ → ℕ) → 0 < d → IsWindow xs w e
+    → ((i : ℕ) → get_or items i 0 ≡ get_or xs (w + i) 0) → LieFrom p d (λ k. get_or xs k 0) cells
+    → LieFrom (p + w * d) d (λ k. get_or items k 0) cells
+in_window p d w e xs items cells some window each l = record {
+  at = λ k. each k ∙ l.at (w + k) ∙ ap cells (omega arith);
+  before = λ i b. elim (cases_lt i p) [
+    | inl c ↦ l.before i c
+    | inr c ↦
+        let j = i - p in
+        let here : p + j ≡ i = omega (arith, c) in
+        elim (cases_lt 0 (j % d)) [
+          | inl off ↦ ap cells (sym here) ∙ l.between j off
+          | inr none ↦
+              let k = j / d in
+              let whole : k * d ≡ j = place d j (omega (arith, none)) in
+              ap cells (omega (arith, here, whole)) ∙ sym (l.at k)
+              ∙ window.before k (lt_of_mul-lt-mul_right d (omega (arith, here, whole, b)))
+        ]
+  ];
+  between = λ i off. ap cells (omega arith)
+      ∙ l.between (i + w * d) (rw (add-mul-mod_self_right i w d) off);
+}
 
 -- items before n that lie a step apart are known from those that are written
 pub all_items : (start step n : ℕ) (items out : List ℕ) (f cells : ℕ → ℕ) → LieFrom start step f cells

@@ -22,6 +22,7 @@ none_low g x none = nothing_low _ _ (rw (low_at_ends g x, high_at_ends g x) (low
 -- outside of a window of the high ends the low ends are 0 too
 pub low_window : {B : ℕ} (g : List (Iv B)) (p e : ℕ) → IsWindow (high_ends g) p e → IsWindow (low_ends g) p e
 low_window g p e w = record {
+  early = omega (arith, w.early, low_ends_long g, high_ends_long g);
   order = w.order;
   within = omega (arith, w.within, low_ends_long g, high_ends_long g);
   before = λ i b. none_low g i (w.before i b);
@@ -56,15 +57,9 @@ words_of a u h long each small = record {
 pub ends_sum : (a u h b v k : List ℕ) (s : ℕ) → AreWidths a u h → AreWidths b v k → high_sum a u b v s ≡ pair_sum h k s
 ends_sum a u h b v k s first second = pairs_same s _ _ (λ i j. ap₂ (λ x y. x * y) (first i) (second j))
 
--- past the low ends there are no high ends
-pub high_past : (o : Operand) (i : ℕ) → length o.cells.lows.now ≤ i → get_or o.highs.now i 0 ≡ 0
-high_past o i past =
-    omega (
-      arith,
-      o.widths i,
-      get_or_past o.cells.lows.now i 0 past,
-      get_or_past o.cells.widths.now i 0 (omega (arith, past, o.cells.words.alike)),
-    )
+-- past the high ends there are no low ends
+pub low_past : (o : Operand) (i : ℕ) → length o.highs.items.now ≤ i → get_or o.cells.lows.now i 0 ≡ 0
+low_past o i past = omega (arith, o.widths i, get_or_past o.highs.items.now i 0 past)
 
 ends_small : {B : ℕ} (g : List (Iv B)) (p d : ℕ) (f : ℕ → ℕ) (xs : List ℕ) → IsGrid g → ((x : ℕ) → f x ≤ high_at g x)
     → LieFrom p d (λ k. get_or xs k 0) f → All (λ x. x ≤ 2 ^ B) xs
@@ -77,9 +72,9 @@ pub held_fit : {B : ℕ} (g h : List (Iv B)) (a b : Operand) (n : ℕ) → IsGri
 held_fit g h a b n grid other some within step p q = record {
   step = step;
   lows = ends_fit g _ _ n grid some within
-      (ends_small g a.start a.step (low_at g) a.cells.lows.now grid (low_le_high g) p.low)
-      (ends_small h b.start b.step (low_at h) b.cells.lows.now other (low_le_high h) q.low);
+      (ends_small g a.lows.start a.step (low_at g) a.lows.items.now grid (low_le_high g) p.low)
+      (ends_small h b.lows.start b.step (low_at h) b.lows.items.now other (low_le_high h) q.low);
   highs = ends_fit g _ _ n grid some within
-      (ends_small g a.start a.step (high_at g) a.highs.now grid (λ x. omega arith) p.high)
-      (ends_small h b.start b.step (high_at h) b.highs.now other (λ x. omega arith) q.high);
+      (ends_small g a.highs.start a.step (high_at g) a.highs.items.now grid (λ x. omega arith) p.high)
+      (ends_small h b.highs.start b.step (high_at h) b.highs.items.now other (λ x. omega arith) q.high);
 }

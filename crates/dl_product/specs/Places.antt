@@ -16,9 +16,8 @@ pub record LieFrom (start step : ℕ) (items cells : ℕ → ℕ) : Type 0 where
   pub before : (i : ℕ) → i < start → cells i ≡ 0
   pub between : (i : ℕ) → 0 < i % step → cells (start + i) ≡ 0
 
--- `many` items of a grid, `step` apart from place `start` on
-pub record ArePlaces (start step many : ℕ) : Type 0 where
-  pub some : 0 < step
+-- `many` items of a grid, the first of them at place `start`
+pub record ArePlaces (start many : ℕ) : Type 0 where
   pub early : start ≤ most_cells
   pub few : many ≤ most_cells
 

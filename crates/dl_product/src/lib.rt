@@ -3,6 +3,7 @@
 //! here has the contract of the convolution, and both ways give the same cells.
 #![tactic(auto)]
 
+mod ends;
 mod lists;
 mod operand;
 mod products;

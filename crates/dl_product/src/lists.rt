@@ -6,9 +6,10 @@ ghost use Rattle.dl_product.specs.Ends.{ArePaired, AreWidths};
 ghost use Rattle.dl_product.specs.Operand.{HoldsCells};
 ghost use Rattle.dl_product.specs.Windows.{IsWindow};
 
+use crate::ends::Ends;
 use crate::operand::Operand;
 use crate::steps::{set_length, take_multiples};
-use crate::windows::Window;
+use crate::windows::{Window, window_of};
 use dl_grid::Grid;
 use dl_transform::Cells;
 use std::alloc::{AllocError, Global};
@@ -65,13 +66,21 @@ impl Lists {
             self.highs.as_slice(),
             &mut self.widths,
         )?;
+        let lows = self.lows.as_slice();
+        let inner = window_of(lows);
         Ok(Operand {
             cells: Cells {
-                lows: self.lows.as_slice(),
+                lows,
                 widths: self.widths.as_slice(),
             },
-            highs: self.highs.as_slice(),
-            start: window.start,
+            lows: Ends {
+                items: inner.part(lows),
+                start: window.start + inner.start * step,
+            },
+            highs: Ends {
+                items: self.highs.as_slice(),
+                start: window.start,
+            },
             step,
         })
     }

@@ -1,19 +1,21 @@
-//! The sums of products of the ends of two operands, by transforms or plainly.
+//! The sums of products of the ends of two operands: of both kinds at once by transforms, or of one
+//! kind after the other, by transforms or plainly.
 
-ghost use Rattle.std.specs.Prelude.{◌≡◌, ℕ, ◌+◌, ◌*◌, ◌^◌, ◌<◌, ◌≤◌, true, List, length, get_or, unwrap_or, IfOk, IfSome};
+ghost use Rattle.std.specs.Prelude.{◌≡◌, ℕ, ◌+◌, ◌*◌, ◌^◌, ◌<◌, ◌≤◌, true, length, get_or, unwrap_or, IfOk, IfSome};
 ghost use Rattle.dl_limits.specs.Limits.{most_cells};
 ghost use Rattle.dl_exact.specs.Count.{count_pairs};
-ghost use Rattle.dl_iv.specs.declared.interval.Iv.{Iv};
-ghost use Rattle.dl_grid.specs.Cells.{low_at, high_at};
-ghost use Rattle.dl_conv.specs.Sums.{pair_sum};
+ghost use Rattle.dl_conv.specs.Sums.{pair_sum, ItemsFit};
 ghost use Rattle.dl_transform.specs.Products.{other};
+ghost use Rattle.dl_product.specs.declared.ends.Ends.{Ends};
 ghost use Rattle.dl_product.specs.declared.operand.Operand.{Operand};
-ghost use Rattle.dl_product.specs.Operand.{AreFactors, HoldsCells};
+ghost use Rattle.dl_product.specs.Operand.{AreEndSums, AreFactors};
+ghost use Rattle.dl_product.specs.Places.{LieFrom};
 
+use crate::ends::Ends;
 use crate::operand::Operand;
 use crate::steps::{count_before, set_length, spread_out};
 use dl_conv::plain_sums;
-use dl_transform::{Buffers, Cells, Setup, product, set_up};
+use dl_transform::{Buffers, Cells, Setup, list_product, product, set_up};
 use std::alloc::{AllocError, Global};
 
 /// How many products of items of two lists take the time of one item of a transform at one level:
@@ -73,12 +75,54 @@ fn levels_if_shorter(first: usize, second: usize, count: usize) -> Option<u32>
     }
 }
 
+/// The levels of the transform that multiplies both kinds of ends of two operands at once, where it
+/// takes less time than other ways and the low ends alone need as many.
+fn levels_at_once(a: Operand<'_>, b: Operand<'_>, count: usize) -> Option<u32>
+    ensures { IfSome result (λ levels. levels ≤ 17) }
+{
+    let levels = levels_if_shorter(a.highs.items.len(), b.highs.items.len(), count)?;
+    if levels_for(a.lows.items.len() + b.lows.items.len()) < levels {
+        return None;
+    }
+    Some(levels)
+}
+
 /// The low ends and widths of an operand that is there.
 fn cells_of(b: Option<Operand<'_>>) -> Option<Cells<'_>>
     ensures { (a : Operand) → other a.cells result ≡ (unwrap_or b.entry a).cells }
 {
     match b {
         Some(b) => Some(b.cells),
+        None => None,
+    }
+}
+
+/// Its low ends alone.
+fn lows_of(b: Option<Operand<'_>>) -> Option<Ends<'_>>
+    ensures { (a : Operand) → unwrap_or result a.lows ≡ (unwrap_or b.entry a).lows }
+{
+    match b {
+        Some(b) => Some(b.lows),
+        None => None,
+    }
+}
+
+/// Its high ends.
+fn highs_of(b: Option<Operand<'_>>) -> Option<Ends<'_>>
+    ensures { (a : Operand) → unwrap_or result a.highs ≡ (unwrap_or b.entry a).highs }
+{
+    match b {
+        Some(b) => Some(b.highs),
+        None => None,
+    }
+}
+
+/// The items of ends that are there.
+fn items_of(b: Option<Ends<'_>>) -> Option<&[u128]>
+    ensures { (a : Ends) → (unwrap_or result a.items).now ≡ (unwrap_or b.entry a).items.now }
+{
+    match b {
+        Some(b) => Some(b.items),
         None => None,
     }
 }
@@ -114,7 +158,8 @@ impl Tables {
             → get_or lows.new s 0
             ≡ pair_sum a.entry.cells.lows.now (unwrap_or b.entry a.entry).cells.lows.now s) }
         ensures high { IfOk result (λ found. found ≡ true → (s : ℕ) → s < length lows.old
-            → get_or highs.new s 0 ≡ pair_sum a.entry.highs.now (unwrap_or b.entry a.entry).highs.now s) }
+            → get_or highs.new s 0
+            ≡ pair_sum a.entry.highs.items.now (unwrap_or b.entry a.entry).highs.items.now s) }
     {
         self.prepare(alloc, levels)?;
         let Some(setup) = &self.setup else {
@@ -123,34 +168,51 @@ impl Tables {
         let cells = cells_of(b);
         product(alloc, a.cells, cells, setup, &mut self.buffers, lows, highs)
     }
+
+    /// Whether they find those of two lists of ends; then `out` has the first of them.
+    fn transform_list(
+        &mut self,
+        alloc: Global,
+        levels: u32,
+        a: Ends<'_>,
+        b: Option<Ends<'_>>,
+        out: &mut [u128],
+    ) -> Result<bool, AllocError>
+        requires levels { levels < 40 }
+        requires fit { ItemsFit a.items.now (unwrap_or b a).items.now (length out.old) }
+        ensures { IfOk result (λ found. found ≡ true → (s : ℕ) → s < length out.old → get_or out.new s 0
+            ≡ pair_sum a.entry.items.now (unwrap_or b.entry a.entry).items.now s) }
+    {
+        self.prepare(alloc, levels)?;
+        let Some(setup) = &self.setup else {
+            return Ok(false);
+        };
+        let items = items_of(b);
+        list_product(alloc, a.items, items, setup, &mut self.buffers, out)
+    }
 }
 
-/// The first sums of products of two operands, or of one with itself, as many as `lows` and `highs`
-/// have room for, the shorter way.
+/// The first sums of products of two lists of ends, or of one with itself, as many as `out` has room
+/// for, the shorter way.
 fn write_sums(
     alloc: Global,
     tables: &mut Tables,
-    a: Operand<'_>,
-    b: Option<Operand<'_>>,
-    lows: &mut [u128],
-    highs: &mut [u128],
+    a: Ends<'_>,
+    b: Option<Ends<'_>>,
+    out: &mut [u128],
 ) -> Result<(), AllocError>
-    requires factors { AreFactors a (unwrap_or b a) (length lows.old) }
-    requires paired { length highs.old ≡ length lows.old }
-    ensures low { IfOk result (λ _. (s : ℕ) → s < length lows.old → get_or lows.new s 0
-        ≡ pair_sum a.entry.cells.lows.now (unwrap_or b.entry a.entry).cells.lows.now s) }
-    ensures high { IfOk result (λ _. (s : ℕ) → s < length lows.old → get_or highs.new s 0
-        ≡ pair_sum a.entry.highs.now (unwrap_or b.entry a.entry).highs.now s) }
+    requires { ItemsFit a.items.now (unwrap_or b a).items.now (length out.old) }
+    ensures { IfOk result (λ _. (s : ℕ) → s < length out.old → get_or out.new s 0
+        ≡ pair_sum a.entry.items.now (unwrap_or b.entry a.entry).items.now s) }
 {
     let other = b.unwrap_or(a);
-    let levels = levels_if_shorter(a.cells.lows.len(), other.cells.lows.len(), lows.len());
+    let levels = levels_if_shorter(a.items.len(), other.items.len(), out.len());
     if let Some(levels) = levels {
-        if tables.transform(alloc, levels, a, b, lows, highs)? {
+        if tables.transform_list(alloc, levels, a, b, out)? {
             return Ok(());
         }
     }
-    plain_sums(a.cells.lows, other.cells.lows, lows);
-    plain_sums(a.highs, other.highs, highs);
+    plain_sums(a.items, other.items, out);
     Ok(())
 }
 
@@ -167,31 +229,90 @@ impl Room {
         }
     }
 
-    /// Writes into the room the first `count` sums of products of two operands.
+    /// Whether transforms of `2^levels` items find the sums of products of both kinds of ends of two
+    /// operands at once; then the room has the first `count` of them.
     fn multiply(
         &mut self,
         alloc: Global,
+        levels: u32,
         a: Operand<'_>,
         b: Option<Operand<'_>>,
         count: usize,
-    ) -> Result<(), AllocError>
-        requires { AreFactors a (unwrap_or b a) count }
+    ) -> Result<bool, AllocError>
+        requires { levels < 40 }
         ensures low_count { IfOk result (λ _. length self.new.lows.items ≡ count) }
         ensures high_count { IfOk result (λ _. length self.new.highs.items ≡ count) }
-        ensures low { IfOk result (λ _. (s : ℕ) → s < count → get_or self.new.lows.items s 0
+        ensures low { IfOk result (λ found. found ≡ true → (s : ℕ) → s < count → get_or self.new.lows.items s 0
             ≡ pair_sum a.entry.cells.lows.now (unwrap_or b.entry a.entry).cells.lows.now s) }
-        ensures high { IfOk result (λ _. (s : ℕ) → s < count → get_or self.new.highs.items s 0
-            ≡ pair_sum a.entry.highs.now (unwrap_or b.entry a.entry).highs.now s) }
+        ensures high { IfOk result (λ found. found ≡ true → (s : ℕ) → s < count → get_or self.new.highs.items s 0
+            ≡ pair_sum a.entry.highs.items.now (unwrap_or b.entry a.entry).highs.items.now s) }
     {
         set_length(&mut self.lows, count)?;
         set_length(&mut self.highs, count)?;
         let lows = self.lows.as_mut_slice();
         let highs = self.highs.as_mut_slice();
-        write_sums(alloc, &mut self.tables, a, b, lows, highs)
+        self.tables.transform(alloc, levels, a, b, lows, highs)
+    }
+
+    /// The sums of the products of the low ends and of the high ends of two grids, both at once, where
+    /// that takes less time than one kind after the other.
+    fn sums_at_once(
+        &mut self,
+        alloc: Global,
+        a: Operand<'_>,
+        b: Option<Operand<'_>>,
+        cells: u32,
+    ) -> Result<Option<(Vec<u128>, Vec<u128>)>, AllocError>
+        requires { (unwrap_or b a).step ≡ a.step }
+        ensures { IfOk result (λ o. IfSome o (λ v. AreEndSums a.entry (unwrap_or b.entry a.entry) cells v.0.items v.1.items)) }
+    {
+        let other = b.unwrap_or(a);
+        let start = a.highs.start + other.highs.start;
+        let most = a.highs.items.len() + other.highs.items.len();
+        let count = count_before(cells as usize, start, a.step, most);
+        let Some(levels) = levels_at_once(a, other, count) else {
+            return Ok(None);
+        };
+        if !self.multiply(alloc, levels, a, b, count)? {
+            return Ok(None);
+        }
+        let lows = spread_out(alloc, self.lows.as_slice(), start, a.step, cells)?;
+        let highs = spread_out(alloc, self.highs.as_slice(), start, a.step, cells)?;
+        Ok(Some((lows, highs)))
+    }
+
+    /// The sums of the products of two lists of ends that lie `step` apart, one for each of the first
+    /// `cells` cells.
+    fn list_sums(
+        &mut self,
+        alloc: Global,
+        a: Ends<'_>,
+        b: Option<Ends<'_>>,
+        step: usize,
+        cells: u32,
+    ) -> Result<Vec<u128>, AllocError>
+        requires some { 0 < step }
+        requires fit { ItemsFit a.items.now (unwrap_or b a).items.now cells }
+        ensures cells { IfOk result (λ v. length v.items ≡ cells) }
+        ensures sums { IfOk result (λ v. (f h : ℕ → ℕ)
+            → LieFrom a.entry.start step (λ k. get_or a.entry.items.now k 0) f
+            → LieFrom (unwrap_or b.entry a.entry).start step
+            (λ k. get_or (unwrap_or b.entry a.entry).items.now k 0) h
+            → (s : ℕ) → s < cells → get_or v.items s 0 ≡ count_pairs s (λ i j. f i * h j)) }
+    {
+        let other = b.unwrap_or(a);
+        let start = a.start + other.start;
+        let most = a.items.len() + other.items.len();
+        let count = count_before(cells as usize, start, step, most);
+        set_length(&mut self.lows, count)?;
+        write_sums(alloc, &mut self.tables, a, b, self.lows.as_mut_slice())?;
+        spread_out(alloc, self.lows.as_slice(), start, step, cells)
     }
 
     /// The sums of the products of the low ends and of the high ends of two grids, one for each of the
-    /// first `cells` cells. Where `b` is none, that of a grid and itself.
+    /// first `cells` cells. Where `b` is none, that of a grid and itself. Where the low ends alone need
+    /// shorter transforms than the high ends, one kind of ends is multiplied after the other, and else
+    /// both at once.
     pub(crate) fn sums(
         &mut self,
         alloc: Global,
@@ -200,22 +321,13 @@ impl Room {
         cells: u32,
     ) -> Result<(Vec<u128>, Vec<u128>), AllocError>
         requires { AreFactors a (unwrap_or b a) cells }
-        ensures low_cells { IfOk result (λ v. length v.0.items ≡ cells) }
-        ensures high_cells { IfOk result (λ v. length v.1.items ≡ cells) }
-        ensures low { IfOk result (λ v. (B : ℕ) → (g h : List (Iv B)) → HoldsCells g a.entry
-            → HoldsCells h (unwrap_or b.entry a.entry) → (s : ℕ) → s < cells
-            → get_or v.0.items s 0 ≡ count_pairs s (λ i j. low_at g i * low_at h j)) }
-        ensures high { IfOk result (λ v. (B : ℕ) → (g h : List (Iv B)) → HoldsCells g a.entry
-            → HoldsCells h (unwrap_or b.entry a.entry) → (s : ℕ) → s < cells
-            → get_or v.1.items s 0 ≡ count_pairs s (λ i j. high_at g i * high_at h j)) }
+        ensures { IfOk result (λ v. AreEndSums a.entry (unwrap_or b.entry a.entry) cells v.0.items v.1.items) }
     {
-        let other = b.unwrap_or(a);
-        let start = a.start + other.start;
-        let most = a.cells.lows.len() + other.cells.lows.len();
-        let count = count_before(cells as usize, start, a.step, most);
-        self.multiply(alloc, a, b, count)?;
-        let lows = spread_out(alloc, self.lows.as_slice(), start, a.step, cells)?;
-        let highs = spread_out(alloc, self.highs.as_slice(), start, a.step, cells)?;
+        if let Some(sums) = self.sums_at_once(alloc, a, b, cells)? {
+            return Ok(sums);
+        }
+        let lows = self.list_sums(alloc, a.lows, lows_of(b), a.step, cells)?;
+        let highs = self.list_sums(alloc, a.highs, highs_of(b), a.step, cells)?;
         Ok((lows, highs))
     }
 }

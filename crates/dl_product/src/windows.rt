@@ -3,16 +3,16 @@
 ghost use Rattle.std.specs.Prelude.{◌≡◌, ℕ, ◌+◌, ◌-◌, ◌<◌, ◌≤◌, length, get_or};
 ghost use Rattle.dl_product.specs.Windows.{IsWindow};
 
-/// The place of the first item that is not 0, and the one past the last.
+/// The place of the first item that is not 0, and the one past the last; 0 and 0 where none is.
 #[derive(Clone, Copy)]
 pub(crate) struct Window {
     pub(crate) start: usize,
     pub(crate) end: usize,
 }
 
-/// How many zeros a list begins with.
+/// The place of the first item that is not 0; 0 where none is.
 fn start_of(xs: &[u128]) -> usize
-    ensures within { result ≤ length xs.now }
+    ensures within { result ≤ length xs.now - 1 }
     ensures zeros { (i : ℕ) → i < result → get_or xs.now i 0 ≡ 0 }
 {
     for i in 0..xs.len() {
@@ -20,7 +20,7 @@ fn start_of(xs: &[u128]) -> usize
             return i;
         }
     }
-    xs.len()
+    0
 }
 
 /// The place past the last item from `start` on that is not 0.

@@ -2,7 +2,8 @@
 
 ghost use Rattle.std.specs.Prelude.{◌≡◌, ℕ, ◌+◌, ◌*◌, ◌^◌, ◌<◌, ◌≤◌};
 ghost use Rattle.std.specs.Prelude.{true, length, slice_index, sum_by, All};
-ghost use Rattle.dl_transform.specs.Ends.{high_at, high_sum, mixed_sum};
+ghost use Rattle.dl_transform.specs.Ends.{high_at, high_sum, low_sum, mixed_sum};
+ghost use Rattle.dl_transform.specs.Lists.{AreBelow};
 ghost use Rattle.dl_transform.specs.Products.{AreSumsBelow};
 
 use crate::cells::Cells;
@@ -94,4 +95,12 @@ pub(crate) fn are_narrow(a: Cells<'_>, b: Cells<'_>, p: u64) -> bool
     let first = most(b.widths).saturating_mul(total(a.lows));
     let second = most(a.widths).saturating_mul(sum);
     first.saturating_add(second) < p as u128
+}
+
+/// Whether the sum of the items of `a` times the greatest of `b` is below `2^123`.
+pub(crate) fn are_list_sums_small(a: &[u128], b: &[u128]) -> bool
+    requires { AreBelow (2 ^ 64) a.now }
+    ensures { result ≡ true → (s : ℕ) → low_sum a.now b.now s < 2 ^ 123 }
+{
+    most(b).saturating_mul(total(a)) < 1 << 123
 }

@@ -33,5 +33,5 @@ mod tables;
 
 pub use cells::Cells;
 pub use constants::set_up;
-pub use multiply::{Buffers, product};
+pub use multiply::{Buffers, list_product, product};
 pub use setup::Setup;

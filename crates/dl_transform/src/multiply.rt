@@ -2,14 +2,16 @@
 //! ends. What the second are above the first comes from the widths, by one prime where these are
 //! small.
 
-ghost use Rattle.std.specs.Prelude.{◌≡◌, ℕ, ◌^◌, ◌<◌, true, length, slice_index, IfOk};
+ghost use Rattle.std.specs.Prelude.{◌≡◌, ℕ, ◌^◌, ◌<◌, true, length, slice_index, unwrap_or, IfOk};
+ghost use Rattle.dl_transform.specs.declared.cells.Cells.{Cells};
 ghost use Rattle.dl_transform.specs.Ends.{low_sum, high_sum, mixed_sum};
+ghost use Rattle.dl_transform.specs.Lists.{AreBelow};
 ghost use Rattle.dl_transform.specs.Products.{other, AreServed, AreSumsBelow, HasRoomFor};
 
-use crate::bounds::{are_narrow, are_sums_small, cells_of, levels_for};
+use crate::bounds::{are_list_sums_small, are_narrow, are_sums_small, cells_of, levels_for};
 use crate::cells::Cells;
 use crate::combined::{add_lows, add_mixed, combine_all};
-use crate::modular::{ends_modulo, lows_modulo};
+use crate::modular::{ends_modulo, sums_modulo};
 use crate::setup::Setup;
 use std::alloc::{AllocError, Global};
 
@@ -54,6 +56,16 @@ fn room_in<'a>(
     Ok(&mut buffer.as_mut_slice()[..size])
 }
 
+/// The low ends of cells that are there.
+fn lows_of(b: Option<Cells<'_>>) -> Option<&[u128]>
+    ensures { (a : Cells) → (unwrap_or result a.lows).now ≡ (other a b.entry).lows.now }
+{
+    match b {
+        Some(b) => Some(b.lows),
+        None => None,
+    }
+}
+
 /// The sums of products of low ends and those of high ends, as many as `lows` and `highs` have room
 /// for, where the second are above the first by less than the first prime.
 #[tactic(auto, using(crate::proofs::Wholes::fewer_levels))]
@@ -84,7 +96,7 @@ fn products_by_one(
     let mixed = room_in(alloc, &mut buffers.first_mixed, size)?;
     let spare = room_in(alloc, &mut buffers.spare_lows, size)?;
     ends_modulo(first, second, mixed, spare, a, b, &setup.first, levels);
-    lows_modulo(second, spare, a, b, &setup.second, levels);
+    sums_modulo(second, spare, a.lows, lows_of(b), &setup.second, levels);
     combine_all(first, second, setup, levels, lows);
     add_mixed(mixed, lows, &setup.first, levels, highs);
     Ok(())
@@ -164,5 +176,40 @@ pub fn product(
     } else {
         products_by_two(alloc, a, b, levels, setup, buffers, lows, highs)?;
     }
+    Ok(true)
+}
+
+/// Whether the first sums of products of two lists of numbers below 2^64 are known, as many as `out` has room
+/// for; then it has them: for each `s` the sum of the products of items `i` and `j` over all `i + j =
+/// s`. They are known where the setup has room for both lists, no more sums are wanted than the lists
+/// have items together, and the sum of the items of `a` times the greatest of `b` is below `2^123`.
+/// Where `b` is None it is the product of `a` with itself, which takes fewer transforms.
+#[tactic(auto, using(crate::proofs::Wholes::fewer_levels))]
+pub fn list_product(
+    alloc: Global,
+    a: &[u128],
+    b: Option<&[u128]>,
+    setup: &Setup,
+    buffers: &mut Buffers,
+    out: &mut [u128],
+) -> Result<bool, AllocError>
+    requires first { AreBelow (2 ^ 64) a.now }
+    requires second { AreBelow (2 ^ 64) (unwrap_or b a).now }
+    ensures { IfOk result (λ found. found ≡ true → (s : ℕ) → s < length out.old
+        → slice_index out.new s ≡ low_sum a.now (unwrap_or b.entry a.entry).now s) }
+{
+    let second = b.unwrap_or(a);
+    let items = a.len() + second.len();
+    if out.len() > items || items > cells_of(setup.levels) || !are_list_sums_small(a, second) {
+        return Ok(false);
+    }
+    let levels = levels_for(items, setup.levels);
+    let size = cells_of(levels);
+    let first = room_in(alloc, &mut buffers.first_lows, size)?;
+    let other = room_in(alloc, &mut buffers.second_lows, size)?;
+    let spare = room_in(alloc, &mut buffers.spare_lows, size)?;
+    sums_modulo(first, spare, a, b, &setup.first, levels);
+    sums_modulo(other, spare, a, b, &setup.second, levels);
+    combine_all(first, other, setup, levels, out);
     Ok(true)
 }

@@ -1,9 +1,11 @@
-use Rattle.dl_product.proofs.Common.{◌+◌, ◌*◌, ◌∙◌, ap, arith, length, end_fits, refl}
+use Rattle.dl_product.proofs.Common.{◌+◌, ◌*◌, ◌∙◌, ap, arith, get_or, length, end_fits, refl}
 use Rattle.std.proofs.Common.{◌^◌}
+use Rattle.dl_grid.specs.Cells.{low_at}
 use Rattle.dl_grid.proofs.CellLaws.{size_of}
 use Rattle.dl_grid.proofs.EndLists.{high_ends_long}
 use Rattle.dl_grid.proofs.Room.{size_few}
-use Rattle.dl_product.proofs.Apart.{ceil_within, same_count}
+use Rattle.dl_product.specs.Places.{LieFrom}
+use Rattle.dl_product.proofs.Apart.{ceil_within, in_window, same_count, start_within}
 use Rattle.dl_product.proofs.Reading.{high_from, low_from, low_window, words_of}
 use Rattle.dl_product.proofs.lists.Lists.read.Goals as goal
 
@@ -31,7 +33,7 @@ invariant_of-result g c =
     let highs = c.in_ok-take_multiples-2.ensures in
     let widths = c.in_ok-take_widths.ensures in
     record {
-      words = rw (c.as_slice-3.ensures.value, c.as_slice-4.ensures.value)
+      words = rw (c.as_slice-lows.ensures.value, c.as_slice-3.ensures.value)
           (words_of c.take_multiples.new.out.items c.take_widths.new.out.items c.take_multiples-2.new.out.items
           (widths.alike ∙ ap length c.as_slice.ensures.value)
           (rw (c.as_slice.ensures.value, c.as_slice-2.ensures.value) at widths.each)
@@ -42,32 +44,61 @@ invariant_of-result g c =
 pub invariant_of-result-2 : goal.invariant_of-result-2
 invariant_of-result-2 g c =
     let few = size_few (size_of c.args.grid.now c.lows.ensures.grid) in
+    let many = ap length c.as_slice-lows.ensures.value ∙ c.in_ok-take_multiples.ensures.many in
+    let within = ceil_within c.args.step (length c.part.result.now) c.requires.some in
     record {
-      widths = rw (c.as_slice-3.ensures.value, c.as_slice-4.ensures.value, c.as_slice-5.ensures.value)
-          (rw (c.as_slice.ensures.value, c.as_slice-2.ensures.value) at c.in_ok-take_widths.ensures.each);
       places = record {
-        some = c.requires.some;
-        early = omega (arith, c.requires.window.order, c.requires.window.within, high_ends_long c.args.grid.now, few);
-        few = rw (c.as_slice-3.ensures.value, c.in_ok-take_multiples.ensures.many) (omega (
+        early = omega (
           arith,
-          ceil_within c.args.step (length c.part.result.now) c.requires.some,
-          c.part.ensures.few,
-          c.lows.ensures.cells,
+          start_within c.args.step _ _ _ c.requires.some many c.window_of-inner.ensures.early,
+          c.part.ensures.long,
+          c.requires.window.order,
+          c.requires.window.within,
+          high_ends_long c.args.grid.now,
+          few,
+        );
+        few = omega (arith, c.part-3.ensures.few, many, within, c.part.ensures.few, c.lows.ensures.cells, few);
+      };
+    }
+
+pub invariant_of-result-3 : goal.invariant_of-result-3
+invariant_of-result-3 g c =
+    let few = size_few (size_of c.args.grid.now c.highs.ensures.grid) in
+    record {
+      places = record {
+        early = omega (arith, c.requires.window.order, c.requires.window.within, high_ends_long c.args.grid.now, few);
+        few = rw (c.as_slice-4.ensures.value, c.in_ok-take_multiples-2.ensures.many) (omega (
+          arith,
+          ceil_within c.args.step (length c.part-2.result.now) c.requires.some,
+          c.part-2.ensures.few,
+          c.highs.ensures.cells,
           few,
         ));
       };
     }
 
+pub invariant_of-result-4 : goal.invariant_of-result-4
+invariant_of-result-4 g c = record {
+  widths = rw (c.as_slice-lows.ensures.value, c.as_slice-3.ensures.value, c.as_slice-4.ensures.value)
+      (rw (c.as_slice.ensures.value, c.as_slice-2.ensures.value) at c.in_ok-take_widths.ensures.each);
+  some = c.requires.some;
+}
+
 pub returns : goal.returns
 returns g c =
     let w = c.args.window in
     let step = c.args.step in
+    let inner = c.window_of-inner in
+    let lows : LieFrom w.start step (λ k. get_or c.as_slice-lows.result.now k 0) (low_at c.args.grid.now) =
+    rw c.as_slice-lows.ensures.value (low_from c.args.grid.now w.start w.end step c.requires.window c.requires.apart
+    c.take_multiples.new.out.items (λ k. c.in_ok-take_multiples.ensures.each k ∙ c.part.ensures.each (k * step)
+    ∙ c.lows.ensures.each (w.start + k * step))) in
     record {
       cells = record {
-        low = rw c.as_slice-3.ensures.value (low_from c.args.grid.now w.start w.end step c.requires.window c.requires.apart
-            c.take_multiples.new.out.items (λ k. c.in_ok-take_multiples.ensures.each k ∙ c.part.ensures.each (k * step)
-            ∙ c.lows.ensures.each (w.start + k * step)));
-        high = rw c.as_slice-5.ensures.value (high_from c.args.grid.now w.start w.end step c.requires.window c.requires.apart
+        cells = lows;
+        low = in_window w.start step inner.result.start inner.result.end c.as_slice-lows.result.now c.part-3.result.now
+            (low_at c.args.grid.now) c.requires.some inner.ensures c.part-3.ensures.each lows;
+        high = rw c.as_slice-4.ensures.value (high_from c.args.grid.now w.start w.end step c.requires.window c.requires.apart
             c.take_multiples-2.new.out.items (λ k. c.in_ok-take_multiples-2.ensures.each k ∙ c.part-2.ensures.each (k * step)
             ∙ c.highs.ensures.each (w.start + k * step)));
       };

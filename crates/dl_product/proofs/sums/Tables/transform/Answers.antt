@@ -15,5 +15,5 @@ returns-clause-high c =
     let a = c.args.a in
     let b = unwrap_or c.args.b a in
     if_ok_two c.product.result _ _ _ (λ _ each _ yes s inside. each yes s inside
-    ∙ rw (c.cells_of-cells.ensures a) (ends_sum a.cells.lows.now a.cells.widths.now a.highs.now b.cells.lows.now
-    b.cells.widths.now b.highs.now s a.widths b.widths)) c.product.ensures.high c.product.ensures.high
+    ∙ rw (c.cells_of-cells.ensures a) (ends_sum a.cells.lows.now a.cells.widths.now a.highs.items.now b.cells.lows.now
+    b.cells.widths.now b.highs.items.now s a.widths b.widths)) c.product.ensures.high c.product.ensures.high
