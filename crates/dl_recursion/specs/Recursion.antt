@@ -94,6 +94,13 @@ pub record IsShifted (x y : ScaledCells) : Type 0 where
   pub low : (k : ℕ) → slice_index y.low.items k ≡ slice_index x.low.items k / 256
   pub high : (k : ℕ) → slice_index y.high.items k ≡ (slice_index x.high.items k + 255) / 256
 
+-- y has the cells of x
+pub record HasCellsOf (x y : ScaledCells) : Type 0 where
+  pub low : y.low ≡ x.low
+  pub high : y.high ≡ x.high
+  pub first : y.first ≡ x.first
+  pub shift : y.shift ≡ x.shift
+
 -- what the amounts give to the cell after those of x; y is x with the windows of all runs there
 pub record AreContributions (amounts : Amounts) (a b : ℕ) (x y : ScaledCells) (ends : Ends)
     : Type 0 where
@@ -105,10 +112,7 @@ pub record AreContributions (amounts : Amounts) (a b : ℕ) (x y : ScaledCells) 
   pub windows : AreWindows amounts.runs.items y.low.items y.high.items (length y.low.items)
       y.windows.items
   pub each_run : length y.windows.items ≡ length amounts.runs.items
-  pub same_low : y.low ≡ x.low
-  pub same_high : y.high ≡ x.high
-  pub same_first : y.first ≡ x.first
-  pub same_shift : y.shift ≡ x.shift
+  pub same : HasCellsOf x y
 
 -- y has one cell more than x, the next one of the recursion
 pub record IsGrown (amounts : Amounts) (a b q : ℕ) (x y : ScaledCells) : Type 0 where

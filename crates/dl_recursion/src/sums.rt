@@ -5,7 +5,7 @@
 ghost use Rattle.std.specs.Prelude.{◌≡◌, ℕ, ◌+◌, ◌-◌, ◌*◌, ◌/◌, ◌^◌, ◌<◌, ◌≤◌, ◌⊎◌, length, slice_index, sum_by, flat_map, not, nat_le, All, IfOk, IsTrue};
 ghost use Rattle.dl_limits.specs.Limits.{most_end};
 ghost use Rattle.dl_recursion.specs.Runs.{run_parts, all_parts, part_sum, IsRun, ArePositiveAmounts};
-ghost use Rattle.dl_recursion.specs.Recursion.{cell_before, contribution, HasRoom, AreEnds, IsWindow, AreWindows, AreInScale, AreContributions};
+ghost use Rattle.dl_recursion.specs.Recursion.{cell_before, contribution, HasRoom, AreEnds, IsWindow, AreWindows, AreInScale, HasCellsOf, AreContributions};
 
 use crate::cells::{Ends, ScaledCells, Window, Windows};
 use crate::parts::{Amounts, Part, Run};
@@ -239,10 +239,7 @@ fn together(x: &mut ScaledCells, runs: &[Run], a: u64, b: u64) -> Result<Ends, A
     ensures windows { IfOk result (λ ends. AreWindows runs.now x.new.low.items x.new.high.items
         (length x.new.low.items) x.new.windows.items) }
     ensures each_run { IfOk result (λ ends. length x.new.windows.items ≡ length runs.now) }
-    ensures same_low { x.new.low ≡ x.old.low }
-    ensures same_high { x.new.high ≡ x.old.high }
-    ensures same_first { x.new.first ≡ x.old.first }
-    ensures same_shift { x.new.shift ≡ x.old.shift }
+    ensures same { HasCellsOf x.old x.new }
 {
     add_up(&mut x.windows, runs, x.low.as_slice(), x.high.as_slice())?;
     let (low, high) = (x.low.as_slice(), x.high.as_slice());

@@ -15,10 +15,10 @@ divided-requires-clause-positive c =
 pub shift_down-ends-requires-clause-sound : goal.shift_down-ends-requires-clause-sound
 shift_down-ends-requires-clause-sound c =
     let told = c.in_ok-sums.ensures in
-    rw (told.same_low, told.same_high, told.same_first) c.requires.in_scale.sound
+    rw (told.same.low, told.same.high, told.same.first) c.requires.in_scale.sound
 
 pub shift_down-ends-requires-clause-room : goal.shift_down-ends-requires-clause-room
-shift_down-ends-requires-clause-room c = rw c.in_ok-sums.ensures.same_shift c.requires.shift
+shift_down-ends-requires-clause-room c = rw c.in_ok-sums.ensures.same.shift c.requires.shift
 
 pub shift_down-ends-requires-clause-small : goal.shift_down-ends-requires-clause-small
 shift_down-ends-requires-clause-small c =
@@ -42,7 +42,7 @@ returns c =
     let parts = all_parts c.args.amounts.now in
     let amounts = all_positive c.args.amounts.now c.requires.amounts in
     let d_is : d ≡ c.args.q * suc m = ap (λ t. c.args.q * t) (c.len-n.ensures ∙ x.low.ok.0 ∙ e) in
-    let low_n : length y.low.items ≡ suc m = shift_down.cells ∙ ap (λ v. length v.items) told.same_low ∙ e in
+    let low_n : length y.low.items ≡ suc m = shift_down.cells ∙ ap (λ v. length v.items) told.same.low ∙ e in
     let high_n : length y.high.items ≡ suc m = shift_down.sound.alike ∙ low_n in
     let len : length (y.low.items ++ lo ∷ []) ≡ suc (suc m) = simp length-append (omega (arith, low_n)) in
     let runs = c.args.amounts.now.runs.items in
@@ -74,18 +74,18 @@ returns c =
         ];
       };
       cells = rw low_pushed (omega (arith, len, e));
-      shift = omega (arith, shift_down.shift, told.same_shift);
+      shift = omega (arith, shift_down.shift, told.same.shift);
       round = λ r F R.
           let Q : EncloseScaled r x.shift (suc m) x.low.items x.high.items =
           rw (← e) R in
           let Z : EncloseScaled r z.shift (suc m) z.low.items z.high.items =
-          rw (told.same_shift, told.same_low, told.same_high) Q in
+          rw (told.same.shift, told.same.low, told.same.high) Q in
           let below : whole (c.divided.result.low * 2 ^ z.shift) ≤ℚ whole (2 ^ 61) *ℚ r (suc m) =
-          rw (c.divided.ensures.low, told.same_shift)
+          rw (c.divided.ensures.low, told.same.shift)
           (next_low parts c.args.a c.args.b c.args.q r amounts c.requires.room.divisor F x.shift m x.low.items x.high.items
           Q d _ d_is lo_sum) in
           let above : whole (2 ^ 61) *ℚ r (suc m) ≤ℚ whole (c.divided.result.high * 2 ^ z.shift) =
-          rw (c.divided.ensures.high, told.same_shift)
+          rw (c.divided.ensures.high, told.same.shift)
           (next_high parts c.args.a c.args.b c.args.q r amounts c.requires.room.divisor F x.shift m x.low.items x.high.items
           Q d _ d_is hi_sum) in
           rw (low_pushed, high_pushed, len)

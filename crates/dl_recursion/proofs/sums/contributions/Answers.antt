@@ -75,10 +75,7 @@ returns-then-is_empty c =
       );
       windows = λ k run d l. absurd (omega (arith, l, each, none));
       each_run = each;
-      same_low = refl;
-      same_high = refl;
-      same_first = refl;
-      same_shift = refl;
+      same = record { low = refl; high = refl; first = refl; shift = refl };
     }
 
 pub returns : goal.returns
@@ -104,8 +101,5 @@ returns c =
       );
       windows = rw c.deref-2.ensures.value at e.windows;
       each_run = rw c.deref-2.ensures.value at e.each_run;
-      same_low = e.same_low;
-      same_high = e.same_high;
-      same_first = e.same_first;
-      same_shift = e.same_shift;
+      same = e.same;
     }
