@@ -5,7 +5,7 @@ ghost use Rattle.dl_limits.specs.Limits.{most_cells, most_expected, most_shape, 
 ghost use Rattle.dl_exact.specs.Fraction.{Fraction, whole, ◌over◌, ◌*ℚ◌, ◌≤ℚ◌};
 ghost use Rattle.dl_grid.specs.Prelude.{IsGrid, IsGridSize};
 ghost use Rattle.dl_model.specs.Prelude.{poisson, gamma_of, IsPanjer, compound, GridEncloses};
-ghost use Rattle.dl_plan.specs.Severity.{probability_of};
+ghost use Rattle.dl_plan.specs.Prelude.{probability_of, HasPartsOf48Bits};
 ghost use Rattle.dl_recursion.specs.Runs.{run_parts, all_parts, part_sum, IsRun, ArePositiveAmounts};
 ghost use Rattle.dl_recursion.specs.Recursion.{HasRoomOver, AreFirst};
 ghost use Rattle.dl_recursion.specs.Start.{HoldsNoClaim};
@@ -150,8 +150,7 @@ pub fn poisson_direct<const B: u32>(
 ) -> Result<Option<Grid<B>>, AllocError>
     requires size { IsGridSize B cells }
     requires no_zero { probability_of sev.now 0 ≡ whole 0 }
-    requires num { mean.num < admitted_bound }
-    requires den { mean.den < admitted_bound }
+    requires admitted { HasPartsOf48Bits mean }
     requires within { mean ≤ℚ whole most_expected }
     ensures cells { IfOk result (λ made. IfSome made (λ g. length g ≡ cells)) }
     ensures encloses { IfOk result (λ made. IfSome made (λ g.
@@ -180,8 +179,7 @@ pub fn gamma_direct<const B: u32>(
     requires no_zero { probability_of sev.now 0 ≡ whole 0 }
     requires shape_above { 1 ≤ shape }
     requires shape_below { shape ≤ most_shape }
-    requires num { mean.num < admitted_bound }
-    requires den { mean.den < admitted_bound }
+    requires admitted { HasPartsOf48Bits mean }
     ensures cells { IfOk result (λ made. IfSome made (λ g. length g ≡ cells)) }
     ensures encloses { IfOk result (λ made. IfSome made (λ g.
         GridEncloses g (compound (gamma_of shape mean) (probability_of sev.now)))) }
