@@ -1,5 +1,5 @@
 -- Steps of each kind whose ends are their numbers, and what they count.
-use Rattle.dl_cert.proofs.Common.{fun_ext, ℕ, zero, suc, ◌≡◌, ◌+◌, ◌*◌, ◌/◌, ◌<◌, ◌≤◌, ◌^◌, ◌∙◌, inl, inr, refl, sym, ap₂, subst, arith, List, [], ◌∷◌, ◌++◌, length, map, get_or, append_assoc, append-nil, Option, Some, None, pow-suc, cases_lt, lt-ltb, le-ltb, nat_tests, get_or_past, length-map, pow_pos, more_below, most_cert_cells, most_cells_at, IsGridSize, Iv, low_at, high_at, all_at_zero, IsGrid, IsConvolution, Plan, UnitOfPlan, thinned_mean, IsValid, Factor, One, Start, Times, Label, together, no_unit, low_start, high_start, IsExactStart, Made, target, unit_parts, All-nil, text_of, line_of, CanBeWritten, IsWritten, IsMade, EndsWith, often, first_of, IsSum, IsBefore}
+use Rattle.dl_cert.proofs.Common.{fun_ext, ℕ, zero, suc, ◌≡◌, ◌+◌, ◌*◌, ◌/◌, ◌<◌, ◌≤◌, ◌^◌, ◌∙◌, inl, inr, refl, sym, ap₂, subst, arith, List, [], ◌∷◌, ◌++◌, length, map, get_or, append_assoc, append-nil, Option, Some, None, pow-suc, cases_lt, lt-ltb, le-ltb, nat_tests, get_or_past, length-map, pow_pos, more_below, most_cells_at, IsGridSize, Iv, low_at, high_at, all_at_zero, IsGrid, IsConvolution, Plan, UnitOfPlan, thinned_mean, IsCertPlan, Factor, One, Start, Times, Label, together, no_unit, low_start, high_start, IsExactStart, Made, target, unit_parts, All-nil, text_of, line_of, CanBeWritten, IsWritten, IsMade, EndsWith, often, first_of, IsSum, IsBefore}
 use Rattle.dl_cert.proofs.Tests.{start_is}
 use Rattle.dl_cert.proofs.WrittenSteps.{exact_step, made_kept}
 
@@ -92,13 +92,13 @@ digit_fewer n (suc j) some h = (j, refl, half_below n (2 ^ j) (omega (arith, h, 
     half_below m p below = omega (arith, below)
 
 -- a plan with few cells has a grid at the finer scale
-pub cert_size : (plan : Plan) → IsValid plan → plan.cells ≤ most_cert_cells → IsGridSize 56 plan.cells
+pub cert_size : (plan : Plan) → IsCertPlan plan → IsGridSize 56 plan.cells
 unfolding most_cells_at
-cert_size plan valid few = record {
+cert_size plan h = record {
   scale_above = omega arith;
   scale_below = omega arith;
-  some = rw valid.cells.3 (pow_pos valid.cells.0);
-  few = omega (arith, few);
+  some = rw h.valid.cells.3 (pow_pos h.valid.cells.0);
+  few = omega (arith, h.few);
 }
 
 -- ---- sums of units

@@ -1,9 +1,16 @@
 -- Which plans have certificates.
-use Rattle.std.specs.Prelude.{ℕ, ◌≡◌, ◌≢◌, ◌⊎◌, ◌<◌, ⊤, None, List, length, get_or, All}
+use Rattle.std.specs.Prelude.{ℕ, ◌≡◌, ◌≢◌, ◌⊎◌, ◌<◌, ◌≤◌, ⊤, None, List, length, get_or, All}
+use Rattle.dl_limits.specs.Limits.{most_cert_cells}
 use Rattle.dl_plan.specs.declared.plan.Freq.{Freq}
 use Rattle.dl_plan.specs.declared.plan.Freq.TheVariants.{Fixed, Table, Bernoulli, Binomial, Poisson, Gamma}
 use Rattle.dl_plan.specs.declared.plan.Plan.{Plan}
 use Rattle.dl_plan.specs.declared.plan.Unit.{Unit as UnitOfPlan}
+use Rattle.dl_plan.specs.Valid.{IsValid}
+
+-- a valid plan of no more cells than a certificate can have
+pub record IsCertPlan (plan : Plan) : Type 0 where
+  pub valid : IsValid plan
+  pub few : plan.cells ≤ most_cert_cells
 
 -- a listed count: no sum of equal parts
 abbrev pub IsTable : Freq → Type 0

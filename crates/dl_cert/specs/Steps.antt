@@ -1,5 +1,6 @@
 -- The steps of a certificate, and what they make.
-use Rattle.std.specs.Prelude.{ℕ, ◌<◌, ⊤, List, [], get_or}
+use Rattle.std.specs.Prelude.{ℕ, ◌<◌, ◌≤◌, ⊤, All, List, [], length, get_or}
+use Rattle.dl_limits.specs.Limits.{most_cert_cells, most_cell_end}
 use Rattle.dl_iv.specs.declared.interval.Iv.{Iv}
 use Rattle.dl_cert.specs.declared.step.Kind.{Kind}
 use Rattle.dl_cert.specs.declared.step.Kind.TheVariants.{One, Start, Times}
@@ -9,6 +10,11 @@ use Rattle.dl_cert.specs.Labels.{Label, no_unit, once, together}
 pub record Step : Type 0 where
   pub kind : Kind
   pub cells : List (Iv 56)
+
+-- no more cells than a certificate can have, each at most 1
+pub record AreStepCells (cells : List (Iv 56)) : Type 0 where
+  pub few : length cells ≤ most_cert_cells
+  pub small : All (λ cell. cell.hi ≤ most_cell_end) cells
 
 -- the cells of a step, and how often each unit's part is a factor of it
 pub record Made : Type 0 where

@@ -3,12 +3,13 @@
 ghost use Rattle.std.specs.Prelude.{ℕ, ◌≡◌, ◌*◌, ◌/◌, ◌<◌, ◌≤◌, ◌↔◌, ◌⊎◌, IsTrue, List, length, get_or, slice_index_or, All, IfOk, true, false};
 ghost use Rattle.std.specs.Int.{div_ceil};
 ghost use Rattle.std.specs.List.Sorted.{IsStrictlyIncreasing};
-ghost use Rattle.dl_limits.specs.Limits.{admitted_bound, most_cert_cells, most_shape, most_cell_end};
+ghost use Rattle.dl_limits.specs.Limits.{admitted_bound, most_shape};
 ghost use Rattle.dl_exact.specs.Fraction.{Fraction, whole, ◌over◌, ◌/ℚ◌, ◌≤ℚ◌};
 ghost use Rattle.dl_grid.specs.Prelude.{low_at, high_at, IsGridSize};
 ghost use Rattle.dl_plan.specs.declared.plan.Freq.TheVariants.{Gamma, Poisson as PoissonCount};
 ghost use Rattle.dl_plan.specs.Prelude.{IsProbability, IsValidUnit, amounts_of, weight_at};
 ghost use Rattle.dl_cert.specs.Covered.{IsTable};
+ghost use Rattle.dl_cert.specs.Steps.{AreStepCells};
 ghost use Rattle.dl_cert.specs.Targets.{unit_parts};
 ghost use Rattle.dl_cert.specs.Numbers.{one};
 ghost use Rattle.dl_cert.specs.Bases.{low_base, high_base, low_share, high_share, trial_parts, IsBaseOf, PassesTo};
@@ -64,8 +65,7 @@ fn trial_number(chance: Chance, sev: &Sev, y: usize) -> Iv<56>
 
 /// The number with which the cell after `before` of a share is compared.
 fn share_number<const BY_AMOUNT: bool>(share: &Share, before: &[Iv<56>]) -> Iv<56>
-    requires few { length before.now ≤ most_cert_cells }
-    requires small { All (λ cell. cell.hi ≤ most_cell_end) before.now }
+    requires cells { AreStepCells before.now }
     ensures low { result.lo ≡ low_share BY_AMOUNT share.now (low_at before.now)
         (length before.now) }
     ensures high { result.hi ≡ high_share BY_AMOUNT share.now (high_at before.now)
@@ -81,8 +81,7 @@ fn share_number<const BY_AMOUNT: bool>(share: &Share, before: &[Iv<56>]) -> Iv<5
 
 /// The number with which the cell after `before` of a start is compared.
 pub(crate) fn number_after(base: &Base, sev: &Sev, before: &[Iv<56>]) -> Iv<56>
-    requires few { length before.now ≤ most_cert_cells }
-    requires small { All (λ cell. cell.hi ≤ most_cell_end) before.now }
+    requires cells { AreStepCells before.now }
     ensures low { result.lo ≡ low_base base.now sev.now (low_at before.now) (length before.now) }
     ensures high { result.hi ≡ high_base base.now sev.now (high_at before.now)
         (length before.now) }
@@ -98,8 +97,7 @@ pub(crate) fn number_after(base: &Base, sev: &Sev, before: &[Iv<56>]) -> Iv<56>
 
 /// The number with which a cell of a start is compared.
 fn number_at(base: &Base, sev: &Sev, cells: &[Iv<56>], y: usize) -> Iv<56>
-    requires few { length cells.now ≤ most_cert_cells }
-    requires small { All (λ cell. cell.hi ≤ most_cell_end) cells.now }
+    requires cells { AreStepCells cells.now }
     requires inside { y < length cells.now }
     ensures low { result.lo ≡ low_base base.now sev.now (low_at cells.now) y }
     ensures high { result.hi ≡ high_base base.now sev.now (high_at cells.now) y }
@@ -117,8 +115,7 @@ pub(crate) fn is_outside(cell: Iv<56>, number: Iv<56>) -> bool
 
 /// Whether the cells of a start pass.
 pub(crate) fn is_start(base: &Base, sev: &Sev, cells: &[Iv<56>]) -> bool
-    requires few { length cells.now ≤ most_cert_cells }
-    requires small { All (λ cell. cell.hi ≤ most_cell_end) cells.now }
+    requires cells { AreStepCells cells.now }
     ensures { IsTrue result ↔ PassesTo (length cells.now) cells.now
         (low_base base.now sev.now (low_at cells.now))
         (high_base base.now sev.now (high_at cells.now)) }

@@ -1,11 +1,10 @@
 //! Steps that are checked.
 
 ghost use Rattle.std.specs.Prelude.{ℕ, ◌≡◌, ◌∷◌, ◌<◌, ◌≤◌, ◌↔◌, IsTrue, List, length, get_or, drop, All, map, ◌*◌, ◌+◌, IfOk, MatchOption, MatchResult, if◌then◌else◌};
-ghost use Rattle.dl_limits.specs.Limits.{most_cert_cells, most_steps_text, most_units, most_cell_end};
-ghost use Rattle.dl_plan.specs.Valid.{IsValid};
+ghost use Rattle.dl_limits.specs.Limits.{most_steps_text, most_units, most_cell_end};
 ghost use Rattle.dl_model.specs.Prelude.{GridEncloses, total, aggregates_of};
 ghost use Rattle.dl_cert.specs.Bases.{AreStarts};
-ghost use Rattle.dl_cert.specs.Covered.{IsCovered};
+ghost use Rattle.dl_cert.specs.Covered.{IsCertPlan, IsCovered};
 ghost use Rattle.dl_cert.specs.PassedSteps.{HavePassed, IsRow, label_at, HasPassedTo};
 ghost use Rattle.dl_cert.specs.Lines.{lines_of};
 ghost use Rattle.dl_cert.specs.Passes.{Passes};
@@ -34,6 +33,8 @@ struct Checked<'a> {
     bases: &'a [Base],
     targets: &'a [u32],
     text: &'a [u8],
+    ghost starts: { AreStarts plan.now bases.now targets.now },
+    ghost short: { length text.now ≤ most_steps_text },
 }
 
 /// The label of a step that passes; `None` where it does not pass.
@@ -44,9 +45,7 @@ fn tested(
     so_far: &PassedSteps,
     step: &ReadStep,
 ) -> Result<Option<Vec<u32>>, AllocError>
-    requires valid { IsValid of.now.plan.now }
-    requires few { of.now.plan.now.cells ≤ most_cert_cells }
-    requires starts { AreStarts of.now.plan.now of.now.bases.now of.now.targets.now }
+    requires plan { IsCertPlan of.now.plan.now }
     requires cells { length step.now.cells.items ≡ of.now.plan.now.cells }
     requires small { All (λ cell. cell.hi ≤ most_cell_end) step.now.cells.items }
     requires so_far { (before : List Made)
@@ -88,10 +87,7 @@ fn take_step(
     offset: usize,
     so_far: &mut PassedSteps,
 ) -> Result<bool, AllocError>
-    requires valid { IsValid of.now.plan.now }
-    requires few { of.now.plan.now.cells ≤ most_cert_cells }
-    requires short { length of.now.text.now ≤ most_steps_text }
-    requires starts { AreStarts of.now.plan.now of.now.bases.now of.now.targets.now }
+    requires plan { IsCertPlan of.now.plan.now }
     requires inside { offset < length of.now.text.now }
     requires so_far { HasPassedTo of.now.plan.now of.now.text.now offset
         so_far.old.offsets.items so_far.old.labels.items }
@@ -122,11 +118,8 @@ fn take_steps(
     of: &Checked,
     so_far: &mut PassedSteps,
 ) -> Result<(), VerifyFault>
-    requires valid { IsValid of.now.plan.now }
+    requires plan { IsCertPlan of.now.plan.now }
     requires covered { IsCovered of.now.plan.now }
-    requires few { of.now.plan.now.cells ≤ most_cert_cells }
-    requires short { length of.now.text.now ≤ most_steps_text }
-    requires starts { AreStarts of.now.plan.now of.now.bases.now of.now.targets.now }
     requires none { HasPassedTo of.now.plan.now of.now.text.now 0 so_far.old.offsets.items
         so_far.old.labels.items }
     ensures { MatchResult result
@@ -153,9 +146,8 @@ fn read_steps(
     targets: &[u32],
     text: &[u8],
 ) -> Result<PassedSteps, VerifyFault>
-    requires valid { IsValid plan.now }
+    requires plan { IsCertPlan plan.now }
     requires covered { IsCovered plan.now }
-    requires few { plan.now.cells ≤ most_cert_cells }
     requires short { length text.now ≤ most_steps_text }
     requires starts { AreStarts plan.now bases.now targets.now }
     ensures { MatchResult result
@@ -202,9 +194,8 @@ fn last_grid(
     text: &[u8],
     so_far: &PassedSteps,
 ) -> Result<Grid<56>, VerifyFault>
-    requires valid { IsValid plan.now }
+    requires plan { IsCertPlan plan.now }
     requires covered { IsCovered plan.now }
-    requires few { plan.now.cells ≤ most_cert_cells }
     requires short { length text.now ≤ most_steps_text }
     requires targets { targets.now ≡ map unit_parts plan.now.units }
     requires so_far { HasPassedTo plan.now text.now (length text.now) so_far.now.offsets.items
@@ -226,8 +217,7 @@ fn last_grid(
 /// one counts each unit as often as the plan's total does: it encloses that total. Else the unit
 /// that keeps the plan from having a certificate, or the number of the first bad step.
 pub fn verify(alloc: Global, plan: &Plan, steps: &[u8]) -> Result<Grid<56>, VerifyFault>
-    requires valid { IsValid plan.now }
-    requires few { plan.now.cells ≤ most_cert_cells }
+    requires plan { IsCertPlan plan.now }
     requires short { length steps.now ≤ most_steps_text }
     ensures verified { MatchResult result (IsVerified plan.now steps.now)
         (RefusesSteps plan.now steps.now) }

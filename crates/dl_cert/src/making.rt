@@ -1,9 +1,8 @@
 //! Certificates that are written.
 
 ghost use Rattle.std.specs.Prelude.{◌≡◌, ◌+◌, ◌*◌, ◌^◌, ◌<◌, ◌≤◌, [], MatchResult, IfOk, IfSome, length};
-ghost use Rattle.dl_limits.specs.Limits.{most_cert_cells, most_cert_text};
-ghost use Rattle.dl_plan.specs.Valid.{IsValid};
-ghost use Rattle.dl_cert.specs.Covered.{IsCovered};
+ghost use Rattle.dl_limits.specs.Limits.{most_cert_text};
+ghost use Rattle.dl_cert.specs.Covered.{IsCertPlan, IsCovered};
 ghost use Rattle.dl_cert.specs.Targets.{target};
 ghost use Rattle.dl_cert.specs.Verified.{IsCertificate, RefusesPlan};
 ghost use Rattle.dl_cert.specs.Written.{EndsWith, IsSum};
@@ -24,8 +23,7 @@ fn all_units(
     plan: &Plan,
     steps: &mut Steps,
 ) -> Result<Option<Factor>, AllocError>
-    requires valid { IsValid plan.now }
-    requires few_cells { plan.now.cells ≤ most_cert_cells }
+    requires plan { IsCertPlan plan.now }
     requires none { steps.old.count ≡ 0 }
     requires empty { steps.old.text.items ≡ [] }
     ensures count { IfOk result (λ sum. steps.new.count ≤ 576) }
@@ -47,8 +45,7 @@ fn whole(
     steps: &mut Steps,
     sum: Option<Factor>,
 ) -> Result<Factor, AllocError>
-    requires valid { IsValid plan.now }
-    requires few_cells { plan.now.cells ≤ most_cert_cells }
+    requires plan { IsCertPlan plan.now }
     requires few { steps.old.count ≤ 576 }
     requires sum { IsSum plan.now (length plan.now.units) steps.old.text.items
         steps.old.count sum }
@@ -67,8 +64,7 @@ fn whole(
 
 /// The text of the steps of a plan.
 fn written(alloc: Global, plan: &Plan) -> Result<Vec<u8>, AllocError>
-    requires valid { IsValid plan.now }
-    requires few_cells { plan.now.cells ≤ most_cert_cells }
+    requires plan { IsCertPlan plan.now }
     ensures certificate { IfOk result (λ text. IsCovered plan.now
         → IsCertificate plan.now text.items) }
     ensures short { IfOk result (λ text. length text.items ≤ most_cert_text) }
@@ -86,8 +82,7 @@ fn written(alloc: Global, plan: &Plan) -> Result<Vec<u8>, AllocError>
 /// The text of steps that certify the plan's total, each end the number that it is compared with,
 /// in at most 66,000,000 bytes; or the unit that keeps the plan from having a certificate.
 pub fn certify(alloc: Global, plan: &Plan) -> Result<Vec<u8>, CertFault>
-    requires valid { IsValid plan.now }
-    requires few { plan.now.cells ≤ most_cert_cells }
+    requires plan { IsCertPlan plan.now }
     ensures certified { MatchResult result (λ text. IsCertificate plan.now text.items)
         (RefusesPlan plan.now) }
     ensures short { IfOk result (λ text. length text.items ≤ most_cert_text) }

@@ -1,9 +1,9 @@
 //! Steps that are written one after the other.
 
 ghost use Rattle.std.specs.Prelude.{◌≡◌, ℕ, suc, ◌+◌, ◌*◌, ◌^◌, ◌<◌, ◌≤◌, ◌++◌, ◌∷◌, [], length, List, get_or, IfOk, IfSome};
-ghost use Rattle.dl_limits.specs.Limits.{most_cert_cells, most_units, step_bound, steps_bound};
+ghost use Rattle.dl_limits.specs.Limits.{most_units, step_bound, steps_bound};
 ghost use Rattle.dl_grid.specs.Cells.{IsGrid};
-ghost use Rattle.dl_plan.specs.Valid.{IsValid};
+ghost use Rattle.dl_cert.specs.Covered.{IsCertPlan};
 ghost use Rattle.dl_cert.specs.Labels.{Label, together};
 ghost use Rattle.dl_cert.specs.Steps.{Made};
 ghost use Rattle.dl_cert.specs.Targets.{target};
@@ -137,8 +137,7 @@ fn unit_power(
     unit: u32,
     parts: u32,
 ) -> Result<Factor, AllocError>
-    requires valid { IsValid plan.now }
-    requires few_cells { plan.now.cells ≤ most_cert_cells }
+    requires plan { IsCertPlan plan.now }
     requires inside { unit < length plan.now.units }
     requires counted { parts ≡ target plan.now unit }
     requires above { 1 ≤ parts }
@@ -194,8 +193,7 @@ pub(crate) fn with_unit(
     sum: Option<Factor>,
     unit: u32,
 ) -> Result<Option<Factor>, AllocError>
-    requires valid { IsValid plan.now }
-    requires few_cells { plan.now.cells ≤ most_cert_cells }
+    requires plan { IsCertPlan plan.now }
     requires inside { unit < length plan.now.units }
     requires cells { IfSome sum (λ f. length f.grid ≡ plan.now.cells) }
     requires count { steps.old.count ≤ 36 * unit }

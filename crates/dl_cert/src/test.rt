@@ -9,7 +9,7 @@ ghost use Rattle.dl_cert.specs.Bases.{AreStarts, PassesTo};
 ghost use Rattle.dl_cert.specs.PassedSteps.{HavePassed};
 ghost use Rattle.dl_cert.specs.declared.step.Kind.TheVariants.{Start, Times};
 ghost use Rattle.dl_cert.specs.Numbers.{low_number, high_number};
-ghost use Rattle.dl_cert.specs.Steps.{Made, IsThere, made_at};
+ghost use Rattle.dl_cert.specs.Steps.{AreStepCells, Made, IsThere, made_at};
 ghost use Rattle.dl_cert.specs.Targets.{target};
 
 use crate::base::Base;
@@ -25,8 +25,7 @@ use std::alloc::{AllocError, Global};
 
 /// The sum of the low ends.
 pub(crate) fn mass_of(cells: &[Iv<56>]) -> u128
-    requires few { length cells.now ≤ most_cert_cells }
-    requires small { All (λ cell. cell.hi ≤ most_cell_end) cells.now }
+    requires cells { AreStepCells cells.now }
     ensures { result ≡ mass_low cells.now }
 {
     let mut mass = 0;

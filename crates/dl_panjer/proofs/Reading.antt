@@ -1,9 +1,10 @@
 -- What the items of a slice and the cells that they leave are.
-use Rattle.dl_panjer.proofs.Common.{ℕ, ◌≡◌, ◌+◌, ◌-◌, ◌*◌, ◌^◌, ◌<◌, ◌≤◌, Bool, List, length, get_or, take, drop, arith, sym, ap₂, subst, ◌∙◌, All, sum_by, sum_by-take-le, Iv, low_at, high_at, one_fits, low_at_read, high_at_read, Item, weight_sum, counted, given, low_le_high, get_or-map, get_or-take, get_or-drop, length-map, length-take-le, length-drop, sum_by_more, high_le, amounts_of, mass_fits, IsGridSize}
+use Rattle.dl_panjer.proofs.Common.{ℕ, ◌≡◌, ◌+◌, ◌-◌, ◌*◌, ◌^◌, ◌<◌, ◌≤◌, Bool, List, length, get_or, take, drop, arith, sym, ap₂, subst, ◌∙◌, All, sum_by, sum_by-take-le, Iv, low_at, high_at, one_fits, low_at_read, high_at_read, Item, weight_sum, counted, given, low_le_high, get_or-map, get_or-take, get_or-drop, length-map, length-take-le, length-drop, sum_by_more, high_le, amounts_of, mass_fits}
 use Rattle.std.specs.List.Sorted.{IsStrictlyIncreasing, IsNonDecreasingBy}
 use Rattle.std.proofs.lemmas.List.Sorted.{IsNonDecreasingBy-from_all_adjacent}
 use Rattle.std.proofs.Math.Nat.{mul-le-mul}
 use Rattle.dl_limits.specs.Limits.{most_parts}
+use Rattle.dl_panjer.specs.Cells.{AreFirstCells}
 use Rattle.dl_panjer.proofs.ItemSums.{items_fit}
 
 -- the amounts of items that rise never fall
@@ -61,18 +62,18 @@ few_fit b ends next S items i some many bound near within =
     omega (arith, sum_by-take-le (given b ends next) items i, items_fit b next S ends items some bound near, top)
 
 -- item i, and the cell that it leaves
-module _ (b : Bool) {B : ℕ} (cells : List (Iv B)) (items : List Item) (size : IsGridSize B (length cells))
-    (small : All (λ cell. cell.hi ≤ 2 ^ B) cells) (positive : All (λ item. 0 < item.amount) items) (i : ℕ) (d : Item)
+module _ (b : Bool) {B : ℕ} (cells : List (Iv B)) (items : List Item) (first : AreFirstCells cells)
+    (positive : All (λ item. 0 < item.amount) items) (i : ℕ) (d : Item)
     (at : i < length items) {factor : ℕ} (counts : factor ≡ counted b (get_or items i d).amount (get_or items i d).weight)
     {cell : Iv B} (is : cell ≡ get_or cells (length cells - (get_or items i d).amount) cell) where
   there : length cells - (get_or items i d).amount < length cells
-  there = omega (arith, size.some, positive i d at)
+  there = omega (arith, first.size.some, positive i d at)
 
   pub low_small : cell.lo ≤ 2 ^ 56
-  low_small = omega (arith, low_at_read cells _ cell there is, low_at_most cells small (length cells - (get_or items i d).amount), one_fits B size.scale_below)
+  low_small = omega (arith, low_at_read cells _ cell there is, low_at_most cells first.small (length cells - (get_or items i d).amount), one_fits B first.size.scale_below)
 
   pub high_small : cell.hi ≤ 2 ^ 56
-  high_small = omega (arith, high_at_read cells _ cell there is, high_at_most cells small (length cells - (get_or items i d).amount), one_fits B size.scale_below)
+  high_small = omega (arith, high_at_read cells _ cell there is, high_at_most cells first.small (length cells - (get_or items i d).amount), one_fits B first.size.scale_below)
 
   pub low_more : {part total : ℕ} → part ≡ factor * cell.lo
       → total ≡ sum_by (given b (low_at cells) (length cells)) (take i items)
@@ -90,9 +91,9 @@ module _ (b : Bool) {B : ℕ} (cells : List (Iv B)) (items : List Item) (size : 
     pub low_fits : {part total : ℕ} → part ≡ factor * cell.lo
         → total ≡ sum_by (given b (low_at cells) (length cells)) (take i items) → total + part < 2 ^ 128
     low_fits made before = rw (low_more made before) (few_fit b (low_at cells) (length cells) (2 ^ B) items (i + 1)
-        size.some (mass_fits size) (low_at_most cells small) near within)
+        first.size.some (mass_fits first.size) (low_at_most cells first.small) near within)
 
     pub high_fits : {part total : ℕ} → part ≡ factor * cell.hi
         → total ≡ sum_by (given b (high_at cells) (length cells)) (take i items) → total + part < 2 ^ 128
     high_fits made before = rw (high_more made before) (few_fit b (high_at cells) (length cells) (2 ^ B) items (i + 1)
-        size.some (mass_fits size) (high_at_most cells small) near within)
+        first.size.some (mass_fits first.size) (high_at_most cells first.small) near within)

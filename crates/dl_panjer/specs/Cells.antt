@@ -1,9 +1,16 @@
 -- One step of a grid's recursion, in whole numbers.
-use Rattle.std.specs.Prelude.{ℕ, suc, Bool, ◌≡◌, ◌-◌, ◌*◌, ◌/◌, ◌<◌, List, min, if◌then◌else◌}
+use Rattle.std.specs.Prelude.{ℕ, suc, Bool, ◌≡◌, ◌-◌, ◌*◌, ◌/◌, ◌^◌, ◌<◌, ◌≤◌, All, List, length, min, if◌then◌else◌}
 use Rattle.std.specs.Int.{div_ceil}
 use Rattle.dl_exact.specs.Prelude.{Fraction, count_pairs}
+use Rattle.dl_grid.specs.Prelude.{IsGridSize}
+use Rattle.dl_iv.specs.declared.interval.Iv.{Iv}
 use Rattle.dl_plan.specs.declared.item.Item.{Item}
 use Rattle.dl_plan.specs.Weighted.{weight_at}
+
+-- the first cells of a grid, each at most 1
+pub record AreFirstCells {B : ℕ} (cells : List (Iv B)) : Type 0 where
+  pub size : IsGridSize B (length cells)
+  pub small : All (λ cell. cell.hi ≤ 2 ^ B) cells
 
 -- amount * n, or n where amounts do not count
 abbrev pub counted : Bool → ℕ → ℕ → ℕ

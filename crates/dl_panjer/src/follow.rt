@@ -6,7 +6,7 @@ ghost use Rattle.dl_limits.specs.Limits.{most_cells, admitted_bound};
 ghost use Rattle.dl_exact.specs.Fraction.{whole, ◌≤ℚ◌};
 ghost use Rattle.dl_grid.specs.Prelude.{low_at, high_at, IsGridSize};
 ghost use Rattle.dl_plan.specs.Weighted.{weight_sum, IsWeighted};
-ghost use Rattle.dl_panjer.specs.Cells.{counted, coefficient, low_next, high_next, Follows};
+ghost use Rattle.dl_panjer.specs.Cells.{AreFirstCells, counted, coefficient, low_next, high_next, Follows};
 
 use crate::sums::sums_before;
 use dl_frac::Frac;
@@ -26,8 +26,7 @@ pub fn next_cell<const B: u32, const BY_AMOUNT: bool>(
     rate: Frac,
     cells: &[Iv<B>],
 ) -> Iv<B>
-    requires size { IsGridSize B (length cells.now) }
-    requires small { All (λ cell. cell.hi ≤ 2 ^ B) cells.now }
+    requires cells { AreFirstCells cells.now }
     requires weighted { IsWeighted items.now total }
     requires no_zero { All (λ item. 0 < item.amount) items.now }
     requires rate { rate ≤ℚ whole 1 }

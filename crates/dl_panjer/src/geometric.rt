@@ -5,7 +5,7 @@ ghost use Rattle.dl_limits.specs.Limits.{most_shape, admitted_bound};
 ghost use Rattle.dl_exact.specs.Prelude.{whole, ◌+ℚ◌, ◌*ℚ◌, ◌/ℚ◌, ◌≤ℚ◌, IsFloor, IsCeiling};
 ghost use Rattle.dl_grid.specs.Prelude.{low_at, high_at, spread, IsGridSize, up};
 ghost use Rattle.dl_model.specs.Prelude.{gamma_of, compound, GridEncloses};
-ghost use Rattle.dl_plan.specs.Severity.{probability_of};
+ghost use Rattle.dl_plan.specs.Prelude.{probability_of, HasPartsOf48Bits};
 ghost use Rattle.dl_panjer.specs.Bases.{IsGeometricBase};
 
 use crate::follow::follow;
@@ -24,8 +24,7 @@ pub fn geometric_start<const B: u32>(mean: Frac, shape: u32) -> (Frac, Iv<B>)
     requires scale_below { B ≤ 56 }
     requires shape_above { 1 ≤ shape }
     requires shape_below { shape ≤ most_shape }
-    requires num { mean.num < admitted_bound }
-    requires den { mean.den < admitted_bound }
+    requires admitted { HasPartsOf48Bits mean }
     ensures rate { result.0 ≡ mean /ℚ whole shape /ℚ (whole 1 +ℚ mean /ℚ whole shape) }
     ensures within { result.0 ≤ℚ whole 1 }
     ensures num { result.0.num < admitted_bound }
@@ -51,8 +50,7 @@ pub fn geometric_base<const B: u32>(
     requires size { IsGridSize B cells }
     requires shape_above { 1 ≤ shape }
     requires shape_below { shape ≤ most_shape }
-    requires num { mean.num < admitted_bound }
-    requires den { mean.den < admitted_bound }
+    requires admitted { HasPartsOf48Bits mean }
     requires no_zero { probability_of sev.now 0 ≡ whole 0 }
     ensures cells { IfOk result (λ g. length g ≡ cells) }
     ensures start_low { IfOk result (λ g. IsFloor

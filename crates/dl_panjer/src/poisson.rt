@@ -1,11 +1,10 @@
 //! The Poisson count.
 
-ghost use Rattle.std.specs.Prelude.{◌≡◌, ℕ, ◌+◌, ◌*◌, ◌^◌, ◌<◌, ◌≤◌, length, IfOk};
-ghost use Rattle.dl_limits.specs.Limits.{admitted_bound};
+ghost use Rattle.std.specs.Prelude.{◌≡◌, ℕ, ◌+◌, ◌*◌, ◌^◌, ◌≤◌, length, IfOk};
 ghost use Rattle.dl_exact.specs.Fraction.{whole, ◌over◌, ◌/ℚ◌, ◌≤ℚ◌};
 ghost use Rattle.dl_grid.specs.Prelude.{spread, IsGridSize};
 ghost use Rattle.dl_model.specs.Prelude.{poisson, compound, GridEncloses};
-ghost use Rattle.dl_plan.specs.Severity.{probability_of};
+ghost use Rattle.dl_plan.specs.Prelude.{probability_of, HasPartsOf48Bits};
 ghost use Rattle.dl_panjer.specs.Bases.{IsPoissonBase, StartsAtExp};
 
 use crate::follow::follow;
@@ -28,8 +27,7 @@ pub fn poisson_base<const B: u32>(
     cells: u32,
 ) -> Result<Grid<B>, AllocError>
     requires size { IsGridSize B cells }
-    requires num { mean.num < admitted_bound }
-    requires den { mean.den < admitted_bound }
+    requires admitted { HasPartsOf48Bits mean }
     requires halvings { halvings ≤ 13 }
     requires half { mean /ℚ whole (2 ^ halvings) ≤ℚ 1 over 2 }
     requires no_zero { probability_of sev.now 0 ≡ whole 0 }

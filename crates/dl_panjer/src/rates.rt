@@ -3,6 +3,7 @@
 ghost use Rattle.std.specs.Prelude.{◌≡◌, ◌+◌, ◌^◌, ◌<◌, ◌≤◌};
 ghost use Rattle.dl_limits.specs.Limits.{most_shape, admitted_bound, frac_bound};
 ghost use Rattle.dl_exact.specs.Fraction.{whole, ◌over◌, ◌/ℚ◌};
+ghost use Rattle.dl_plan.specs.Fine.{HasPartsOf48Bits};
 
 use dl_frac::Frac;
 
@@ -21,8 +22,7 @@ pub(crate) fn fraction(num: u64, den: u64) -> Frac
 pub(crate) fn shared(mean: Frac, shape: u32) -> (u64, u64)
     requires shape_above { 1 ≤ shape }
     requires shape_below { shape ≤ most_shape }
-    requires num { mean.num < admitted_bound }
-    requires den { mean.den < admitted_bound }
+    requires admitted { HasPartsOf48Bits mean }
     ensures positive { 0 < result.1 }
     ensures small { result.0 < admitted_bound }
     ensures together { result.0 + result.1 < frac_bound }
@@ -33,8 +33,7 @@ pub(crate) fn shared(mean: Frac, shape: u32) -> (u64, u64)
 
 /// `mean / 2^halvings`.
 pub fn halved(mean: Frac, halvings: u32) -> Frac
-    requires num { mean.num < admitted_bound }
-    requires den { mean.den < admitted_bound }
+    requires admitted { HasPartsOf48Bits mean }
     requires halvings { halvings ≤ 13 }
     ensures value { result ≡ mean /ℚ whole (2 ^ halvings) }
     ensures num { result.num ≤ mean.num }

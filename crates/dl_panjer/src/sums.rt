@@ -3,9 +3,9 @@
 ghost use Rattle.std.specs.Prelude.{◌≡◌, ℕ, suc, ◌+◌, ◌-◌, ◌*◌, ◌^◌, ◌<◌, ◌≤◌, length, sum_by, All, slice_index_or};
 ghost use Rattle.std.specs.List.Sorted.{IsStrictlyIncreasing};
 ghost use Rattle.dl_limits.specs.Limits.{most_parts, most_cell_end};
-ghost use Rattle.dl_grid.specs.Prelude.{low_at, high_at, IsGridSize};
+ghost use Rattle.dl_grid.specs.Prelude.{low_at, high_at};
 ghost use Rattle.dl_plan.specs.Weighted.{amounts_of, weight_sum, weight_at};
-ghost use Rattle.dl_panjer.specs.Cells.{counted, coefficient, given, next_sum};
+ghost use Rattle.dl_panjer.specs.Cells.{AreFirstCells, counted, coefficient, given, next_sum};
 
 use dl_iv::Iv;
 use dl_plan::Item;
@@ -44,8 +44,7 @@ fn product(factor: u64, end: u128) -> u128
 /// The sums of the products of each amount's factor and the low end, and the high end, of the cell
 /// that the amount leaves of the next cell's number, which no amount passes.
 fn sums_over<const B: u32, const BY_AMOUNT: bool>(items: &[Item], cells: &[Iv<B>]) -> (u128, u128)
-    requires size { IsGridSize B (length cells.now) }
-    requires small { All (λ cell. cell.hi ≤ 2 ^ B) cells.now }
+    requires cells { AreFirstCells cells.now }
     requires no_zero { All (λ item. 0 < item.amount) items.now }
     requires near { All (λ item. item.amount ≤ length cells.now) items.now }
     requires within { weight_sum items.now ≤ most_parts }
@@ -71,8 +70,7 @@ pub(crate) fn sums_before<const B: u32, const BY_AMOUNT: bool>(
     items: &[Item],
     cells: &[Iv<B>],
 ) -> (u128, u128)
-    requires size { IsGridSize B (length cells.now) }
-    requires small { All (λ cell. cell.hi ≤ 2 ^ B) cells.now }
+    requires cells { AreFirstCells cells.now }
     requires rising { IsStrictlyIncreasing (amounts_of items.now) }
     requires no_zero { All (λ item. 0 < item.amount) items.now }
     requires within { weight_sum items.now ≤ most_parts }

@@ -28,14 +28,15 @@ pushed r e n low high x y p q h f g = record {
   high_end = pushed_at (λ k t. whole (2 ^ 61) *ℚ r k ≤ℚ whole (t * 2 ^ e)) high y n q h.high_end g;
 }
 
-pub cells_pushed : (low high : List ℕ) (first x y : ℕ) → AreScaledCells low high first → first ≤ length low → x ≤ 2 ^ 62
-    → y ≤ 2 ^ 62 → AreScaledCells (low ++ x ∷ []) (high ++ y ∷ []) first
-cells_pushed low high first x y h within p q = record {
+pub cells_pushed : (low high : List ℕ) (first x y : ℕ) → AreScaledCells low high first → x ≤ 2 ^ 62 → y ≤ 2 ^ 62
+    → AreScaledCells (low ++ x ∷ []) (high ++ y ∷ []) first
+cells_pushed low high first x y h p q = record {
   alike = simp length-append (omega (arith, h.alike));
   low_small = small_pushed low x (2 ^ 62) h.low_small p;
   high_small = small_pushed high y (2 ^ 62) h.high_small q;
-  low_settled = λ k l. get_or-append low (x ∷ []) 0 k (omega (arith, l, within)) ∙ h.low_settled k l;
-  high_settled = λ k l. rw (get_or-append high (y ∷ []) 0 k (omega (arith, l, within, h.alike))) (h.high_settled k l);
+  low_settled = λ k l. get_or-append low (x ∷ []) 0 k (omega (arith, l, h.within)) ∙ h.low_settled k l;
+  high_settled = λ k l. rw (get_or-append high (y ∷ []) 0 k (omega (arith, l, h.within, h.alike))) (h.high_settled k l);
+  within = simp length-append (omega (arith, h.within));
 }
 
 module _ (parts : List Part) (a b q : ℕ) (r : ℕ → Fraction) (amounts : All (λ p. 0 < p.amount) parts) (q_pos : 0 < q)
@@ -73,8 +74,9 @@ begun_in_scale runs x h = record {
     high_small = begun_small;
     low_settled = λ k l. absurd (omega (arith, l));
     high_settled = λ k l. absurd (omega (arith, l));
+    within = omega arith;
   });
-  within = rw h.first (omega arith);
+  some = rw h.low (omega arith);
   windows = λ k run d l. absurd (omega (arith, rw h.windows at l));
   all_or_none = inr (ap length h.windows);
 }

@@ -1,7 +1,7 @@
 -- Runs: their amounts one by one, and what they give to the next cell by their windows.
 use Rattle.std.proofs.lemmas.Bool.Decides.{nat_tests}
 use Rattle.std.proofs.lemmas.Grind.{common_steps}
-use Rattle.dl_recursion.proofs.Common.{◌≡◌, inl, inr, ℕ, suc, zero, ◌+◌, ◌-◌, ◌*◌, ◌^◌, ◌<◌, ◌≤◌, List, [], ◌∷◌, ◌++◌, length, take, get_or, arith, refl, mul-le-mul, mul-le-mul_left, mul-le-mul_right, zero-lt-suc, sum_by, All, flat_map, sum_by-cons, sum_by-append, sum_by_push, sum_by_more, sum_by_more_le, cases_lt, count_below, Part, Run, in_a_row, run_parts, all_parts, part_sum, ArePositiveAmounts, contribution, cell_before, add-zero, add-suc, suc-add, IsWindow, Window, All-append, append-nil, take_more, get_or-append, length-append}
+use Rattle.dl_recursion.proofs.Common.{◌≡◌, inl, inr, ℕ, suc, zero, ◌+◌, ◌-◌, ◌*◌, ◌^◌, ◌<◌, ◌≤◌, List, [], ◌∷◌, ◌++◌, length, take, get_or, arith, refl, mul-le-mul, mul-le-mul_left, mul-le-mul_right, zero-lt-suc, sum_by, All, flat_map, sum_by-cons, sum_by-append, sum_by_push, sum_by_more, sum_by_more_le, cases_lt, count_below, Part, Run, in_a_row, run_parts, all_parts, part_sum, IsRun, ArePositiveAmounts, contribution, cell_before, add-zero, add-suc, suc-add, IsWindow, Window, All-append, append-nil, take_more, get_or-append, length-append}
 use Rattle.std.proofs.lemmas.Grind.{flat_map-append}
 use Rattle.dl_exact.proofs.Counts.{below_none, times_nothing}
 use Rattle.dl_recursion.proofs.Windows.{before_none}
@@ -40,11 +40,11 @@ pub runs_sum : (f : Part → ℕ) (runs : List Run)
 runs_sum f [] = refl
 runs_sum f (run ∷ runs) = rw (sum_by-append, runs_sum f runs, sum_by-cons)
 
-runs_positive : (runs : List Run) → All (λ run. 0 < run.amount) runs → All (λ p. 0 < p.amount) (flat_map run_parts runs)
+runs_positive : (runs : List Run) → All IsRun runs → All (λ p. 0 < p.amount) (flat_map run_parts runs)
 runs_positive [] h = λ k d q. absurd (omega (arith, q))
 runs_positive (run ∷ runs) h =
     All-append (λ (p : Part). 0 < p.amount) (run_parts run) (flat_map run_parts runs)
-    (row_positive run.amount run.count run.weight (h zero run (zero-lt-suc _)))
+    (row_positive run.amount run.count run.weight (h zero run (zero-lt-suc _)).amount)
     (runs_positive runs (λ k d q. h (suc k) d (omega (arith, q))))
 
 pub all_positive : (amounts : Amounts) → ArePositiveAmounts amounts → All (λ p. 0 < p.amount) (all_parts amounts)
@@ -80,9 +80,9 @@ pub all_left : (P : Part → Type 0) (xs ys : List Part) → All P (xs ++ ys) �
 all_left P xs ys h k d l =
     rw (← get_or-append xs ys d k l) (h k d (simp length-append (omega (arith, l))))
 
-pub run_fits : (K : ℕ) (runs : List Run) (i : ℕ) (d : Run) → i < length runs
-    → K * part_sum (flat_map run_parts runs) < 2 ^ 64 → K * part_sum (run_parts (get_or runs i d)) < 2 ^ 64
-run_fits K runs i d h room = omega (arith, room, mul-le-mul_left K (runs_more_le (λ (p : Part). p.weight) runs i d h))
+pub run_le : (runs : List Run) (i : ℕ) (d : Run) → i < length runs
+    → part_sum (run_parts (get_or runs i d)) ≤ part_sum (flat_map run_parts runs)
+run_le runs i d h = omega (arith, runs_more_le (λ (p : Part). p.weight) runs i d h)
 
 -- ---- bounds
 

@@ -1,5 +1,5 @@
 -- The windows of runs: bounds, the next one, and which stay when cells are added.
-use Rattle.dl_recursion.proofs.Common.{◌≡◌, inl, inr, ℕ, suc, zero, ◌+◌, ◌-◌, ◌*◌, ◌^◌, ◌<◌, ◌≤◌, List, [], ◌∷◌, ◌++◌, length, get_or, arith, ap, ◌∙◌, All, add-zero, mul-le-mul, cases_lt, count_below, cell_before, Run, Window, Windows, IsWindow, AreWindow, AreWindows, get_or-append, get_or_push, get_or_default, length-append, get_or-set_other, get_or-set_same, set, leb_tells}
+use Rattle.dl_recursion.proofs.Common.{◌≡◌, inl, inr, ℕ, suc, zero, ◌+◌, ◌-◌, ◌*◌, ◌^◌, ◌<◌, ◌≤◌, List, [], ◌∷◌, ◌++◌, length, get_or, arith, ap, ◌∙◌, All, add-zero, mul-le-mul, cases_lt, count_below, cell_before, Run, Window, Windows, IsRun, IsWindow, AreWindow, AreWindows, get_or-append, get_or_push, get_or_default, length-append, get_or-set_other, get_or-set_same, set, leb_tells}
 use Rattle.dl_exact.proofs.Counts.{below_bound, below_same}
 
 -- ---- the cell that lies an amount before
@@ -123,11 +123,11 @@ window_grown cells more s run window w p is = record {
     same k = grind (arith, before_grown cells more s (run.amount + k) w (omega (arith, p)))
 
 pub windows_grown : (runs : List Run) (low high : List ℕ) (x y : ℕ) (windows : List Windows) → length high ≡ length low
-    → All (λ run. 0 < run.amount) runs → length windows ≤ length runs → AreWindows runs low high (length low) windows
+    → All IsRun runs → length windows ≤ length runs → AreWindows runs low high (length low) windows
     → AreWindows runs (low ++ x ∷ []) (high ++ y ∷ []) (length low) windows
-windows_grown runs low high x y windows alike amounts fit are k run d l =
+windows_grown runs low high x y windows alike sound fit are k run d l =
     let is = are k run d l in
-    let p : 0 < (get_or runs k run).amount = amounts k run (omega (arith, l, fit)) in
+    let p : 0 < (get_or runs k run).amount = (sound k run (omega (arith, l, fit))).amount in
     record {
       low_window = window_grown low (x ∷ []) (length low) (get_or runs k run) (get_or windows k d).low (omega arith) p
           is.low_window;

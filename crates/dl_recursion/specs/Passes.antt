@@ -1,10 +1,10 @@
 -- What a pass over the cells uses: the sum of the cells of a run's window, the factor for a weight
 -- over q, and cells up to a bound.
-use Rattle.std.specs.Prelude.{ℕ, ◌+◌, ◌*◌, ◌^◌, ◌≤◌, ◌≡◌, List, length, slice_index}
+use Rattle.std.specs.Prelude.{ℕ, ◌+◌, ◌*◌, ◌^◌, ◌≤◌, ◌≡◌, List, length}
 use Rattle.dl_exact.specs.Prelude.{count_below}
 use Rattle.dl_recursion.specs.declared.parts.Run.{Run}
 use Rattle.dl_recursion.specs.declared.cells.ScaledCells.{ScaledCells}
-use Rattle.dl_recursion.specs.Recursion.{cell_before}
+use Rattle.dl_recursion.specs.Recursion.{cell_before, AreEnds}
 
 -- the sum of the cells that lie an amount of the run before cell s
 abbrev pub window_sum : List ℕ → ℕ → Run → ℕ
@@ -18,7 +18,5 @@ pub record IsFactor (weight q factor : ℕ) : Type 0 where
 -- n cells, with no end above this one
 pub record AreUpTo (n most : ℕ) (x : ScaledCells) : Type 0 where
   pub cells : length x.low.items ≡ n
-  pub alike : length x.high.items ≡ n
-  pub low_small : (k : ℕ) → slice_index x.low.items k ≤ most
-  pub high_small : (k : ℕ) → slice_index x.high.items k ≤ most
+  pub ends : AreEnds most x.low.items x.high.items
   pub first : x.first ≡ 0

@@ -22,6 +22,18 @@ abbrev pub contribution : ℕ → ℕ → List ℕ → ℕ → Part → ℕ
 contribution a b cells s p =
     (a * s + b * p.amount) * p.weight * cell_before cells s p.amount
 
+-- room for cell n: (a + b) * n, the most that a part's factor a * n + b * amount can be, is below
+-- 2^32, and times the weights together below 2^64
+pub record HasRoom (a b weight n : ℕ) : Type 0 where
+  pub steps : (a + b) * n < 2 ^ 32
+  pub weights : (a + b) * n * weight < 2 ^ 64
+
+-- room for cell n and for what it is divided by, q * n
+pub record HasRoomOver (q a b weight n : ℕ) : Type 0 where
+  pub room : HasRoom a b weight n
+  pub divisor : 0 < q
+  pub divisors : q * n < 2 ^ 64
+
 -- the recursion in whole numbers: q * (n + 1) * r (n + 1) is the sum over the amounts 1 + i and the
 -- cells k with i + k = n
 pub record FollowsInWhole (parts : List Part) (a b q : ℕ) (r : ℕ → Fraction) : Type 0 where
@@ -35,6 +47,12 @@ pub record EncloseScaled (r : ℕ → Fraction) (e n : ℕ) (low high : List ℕ
   pub high_end : (k : ℕ) → k < n → whole (2 ^ start_bits) *ℚ r k ≤ℚ whole
       (slice_index high k * 2 ^ e)
 
+-- the ends of as many cells, none above this one
+pub record AreEnds (most : ℕ) (low high : List ℕ) : Type 0 where
+  pub alike : length high ≡ length low
+  pub low_small : (k : ℕ) → slice_index low k ≤ most
+  pub high_small : (k : ℕ) → slice_index high k ≤ most
+
 -- the ends of as many cells, each at most 2^62; those of the first cells are 0, and 0 or 1, which
 -- no shift down changes
 pub record AreScaledCells (low high : List ℕ) (first : ℕ) : Type 0 where
@@ -43,6 +61,7 @@ pub record AreScaledCells (low high : List ℕ) (first : ℕ) : Type 0 where
   pub high_small : (k : ℕ) → slice_index high k ≤ most_end
   pub low_settled : (k : ℕ) → k < first → slice_index low k ≡ 0
   pub high_settled : (k : ℕ) → k < first → slice_index high k ≤ 1
+  pub within : first ≤ length low
 
 -- the cells that lie an amount of the run before cell s: their sum, and their sum with each times
 -- how far its amount lies above the run's first
@@ -60,21 +79,27 @@ abbrev pub AreWindows : List Run → List ℕ → List ℕ → ℕ → List Wind
 AreWindows runs low high s windows = (k : ℕ) (run : Run) (d : Windows) → k < length windows
     → AreWindow low high s (get_or runs k run) (get_or windows k d)
 
--- cells with the windows of all runs at the last of them, or of none
+-- cells, at least one, with the windows of all runs at the last of them, or of none
 pub record AreInScale (runs : List Run) (x : ScaledCells) : Type 0 where
   pub sound : AreScaledCells x.low.items x.high.items x.first
-  pub within : x.first ≤ length x.low.items
+  pub some : 0 < length x.low.items
   pub windows : AreWindows runs x.low.items x.high.items (length x.low.items - 1) x.windows.items
   pub all_or_none : (length x.windows.items ≡ length runs) ⊎ (length x.windows.items ≡ 0)
 
 -- y is x with all cells shifted down by 8 bits, low ends by floor and high ends by ceiling
 pub record IsShifted (x y : ScaledCells) : Type 0 where
   pub sound : AreScaledCells y.low.items y.high.items y.first
-  pub within : y.first ≤ length y.low.items
   pub cells : length y.low.items ≡ length x.low.items
   pub shift : y.shift ≡ x.shift + 8
   pub low : (k : ℕ) → slice_index y.low.items k ≡ slice_index x.low.items k / 256
   pub high : (k : ℕ) → slice_index y.high.items k ≡ (slice_index x.high.items k + 255) / 256
+
+-- y has the cells of x
+pub record HasCellsOf (x y : ScaledCells) : Type 0 where
+  pub low : y.low ≡ x.low
+  pub high : y.high ≡ x.high
+  pub first : y.first ≡ x.first
+  pub shift : y.shift ≡ x.shift
 
 -- what the amounts give to the cell after those of x; y is x with the windows of all runs there
 pub record AreContributions (amounts : Amounts) (a b : ℕ) (x y : ScaledCells) (ends : Ends)
@@ -87,10 +112,7 @@ pub record AreContributions (amounts : Amounts) (a b : ℕ) (x y : ScaledCells) 
   pub windows : AreWindows amounts.runs.items y.low.items y.high.items (length y.low.items)
       y.windows.items
   pub each_run : length y.windows.items ≡ length amounts.runs.items
-  pub same_low : y.low ≡ x.low
-  pub same_high : y.high ≡ x.high
-  pub same_first : y.first ≡ x.first
-  pub same_shift : y.shift ≡ x.shift
+  pub same : HasCellsOf x y
 
 -- y has one cell more than x, the next one of the recursion
 pub record IsGrown (amounts : Amounts) (a b q : ℕ) (x y : ScaledCells) : Type 0 where

@@ -26,9 +26,13 @@ run_parts run = in_a_row run.amount run.count run.weight
 abbrev pub all_parts : Amounts → List Part
 all_parts amounts = amounts.parts.items ++ flat_map run_parts amounts.runs.items
 
--- no amount is 0; no run is empty, and its last amount is below 2^32
+-- a run of amounts above 0 and below 2^32, not empty
+pub record IsRun (run : Run) : Type 0 where
+  pub amount : 0 < run.amount
+  pub count : 0 < run.count
+  pub end : run.amount + run.count ≤ 2 ^ 32
+
+-- no amount is 0
 pub record ArePositiveAmounts (amounts : Amounts) : Type 0 where
   pub parts : All (λ p. 0 < p.amount) amounts.parts.items
-  pub runs : All (λ run. 0 < run.amount) amounts.runs.items
-  pub counts : All (λ run. 0 < run.count) amounts.runs.items
-  pub ends : All (λ run. run.amount + run.count ≤ 2 ^ 32) amounts.runs.items
+  pub runs : All IsRun amounts.runs.items

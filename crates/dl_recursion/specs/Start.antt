@@ -2,7 +2,7 @@
 use Rattle.std.specs.Prelude.{ℕ, ◌^◌}
 use Rattle.dl_exact.specs.Prelude.{Fraction, whole, ◌over◌, sum_to}
 use Rattle.dl_model.specs.Series.{Holds}
-use Rattle.dl_recursion.specs.declared.start.Scaled.{Scaled}
+use Rattle.dl_recursion.specs.declared.scaled.Scaled.{Scaled}
 
 -- the probability of no claim, which is 1 over the sum of the count's weights w, is from low to
 -- high in units of 1 / 2^exponent

@@ -1,13 +1,13 @@
 //! The grids of units whose counts are of the (a, b, 0) class, by one recursion.
 
 ghost use Rattle.std.specs.Prelude.{◌≡◌, ℕ, ◌+◌, ◌-◌, ◌*◌, ◌^◌, ◌<◌, ◌≤◌, length, IfOk, IfSome, IsTrue};
-ghost use Rattle.dl_limits.specs.Limits.{most_cells, most_expected, most_shape, most_parts, admitted_bound, frac_bound, most_start};
+ghost use Rattle.dl_limits.specs.Limits.{most_cells, most_expected, most_shape, most_parts, admitted_bound, frac_bound};
 ghost use Rattle.dl_exact.specs.Fraction.{Fraction, whole, ◌over◌, ◌*ℚ◌, ◌≤ℚ◌};
 ghost use Rattle.dl_grid.specs.Prelude.{IsGrid, IsGridSize};
 ghost use Rattle.dl_model.specs.Prelude.{poisson, gamma_of, IsPanjer, compound, GridEncloses};
-ghost use Rattle.dl_plan.specs.Severity.{probability_of};
-ghost use Rattle.dl_recursion.specs.Runs.{run_parts, all_parts, part_sum, ArePositiveAmounts};
-ghost use Rattle.dl_recursion.specs.Recursion.{AreFirst};
+ghost use Rattle.dl_plan.specs.Prelude.{probability_of, HasPartsOf48Bits};
+ghost use Rattle.dl_recursion.specs.Runs.{run_parts, all_parts, part_sum, IsRun, ArePositiveAmounts};
+ghost use Rattle.dl_recursion.specs.Recursion.{HasRoomOver, AreFirst};
 ghost use Rattle.dl_recursion.specs.Start.{HoldsNoClaim};
 
 use crate::cells::{START_BITS, ScaledCells};
@@ -15,7 +15,7 @@ use crate::first::{gamma_start, poisson_start};
 use crate::parts::{Amounts, Run, amounts_of, common_amount};
 use crate::passes::{MOST_PASSES, by_passes};
 use crate::recursion::recur;
-use crate::start::Scaled;
+use crate::scaled::Scaled;
 use crate::to_grid::to_grid;
 use dl_frac::Frac;
 use dl_grid::Grid;
@@ -30,14 +30,18 @@ struct Steps {
     inverse: u64,
     numerator: u64,
     denominator: u64,
+    ghost constant_small: { constant ≤ 1 },
+    ghost inverse_small: { inverse ≤ most_shape },
+    ghost some: { 0 < constant + inverse },
+    ghost numerator_small: { numerator < admitted_bound },
+    ghost positive: { 0 < denominator },
+    ghost denominator_small: { denominator < frac_bound },
 }
 
 /// Whether the sums of the recursion stay in their words: the factors of a cell in 64 bits, and
 /// what it is divided by in 64 bits. `ratio` is `numerator / denominator` over the total of
 /// the weights.
 fn is_within_words(steps: Steps, ratio: Frac, total: u32, cells: u32) -> bool
-    requires a_small { steps.constant ≤ 1 }
-    requires b_small { steps.inverse ≤ most_shape }
     requires total_small { total ≤ most_parts }
     requires cells_small { cells ≤ most_cells }
     ensures factors { IsTrue result
@@ -54,8 +58,7 @@ fn is_within_words(steps: Steps, ratio: Frac, total: u32, cells: u32) -> bool
 fn only_run(amounts: &Amounts) -> Option<Run>
     requires amounts { ArePositiveAmounts amounts.now }
     ensures parts { IfSome result (λ run. all_parts amounts.now ≡ run_parts run) }
-    ensures amount { IfSome result (λ run. 0 < run.amount) }
-    ensures end { IfSome result (λ run. run.amount + run.count ≤ 2 ^ 32) }
+    ensures run { IfSome result IsRun }
 {
     if !amounts.parts.is_empty() || amounts.runs.len() != 1 {
         return None;
@@ -77,10 +80,7 @@ fn first_cells(
     requires few { cells ≤ most_cells }
     requires amounts { ArePositiveAmounts amounts.now }
     requires some_step { 0 < a + b }
-    requires steps { (a + b) * cells < 2 ^ 32 }
-    requires weights { (a + b) * cells * part_sum (all_parts amounts.now) < 2 ^ 64 }
-    requires divisor { 0 < q }
-    requires divisors { q * cells < 2 ^ 64 }
+    requires room { HasRoomOver q a b (part_sum (all_parts amounts.now)) cells }
     ensures { IfOk result (AreFirst (all_parts amounts.now) a b q cells) }
 {
     if a == 1 && b < MOST_PASSES {
@@ -106,14 +106,6 @@ fn compound_direct<const B: u32>(
 ) -> Result<Option<Grid<B>>, AllocError>
     requires size { IsGridSize B cells }
     requires no_zero { probability_of sev.now 0 ≡ whole 0 }
-    requires base_positive { 0 < steps.denominator }
-    requires some_step { 0 < steps.constant + steps.inverse }
-    requires a_small { steps.constant ≤ 1 }
-    requires b_small { steps.inverse ≤ most_shape }
-    requires num_small { steps.numerator < admitted_bound }
-    requires base_small { steps.denominator < frac_bound }
-    requires low_small { start.low ≤ most_start }
-    requires high_small { start.high ≤ most_start }
     ensures cells { IfOk result (λ made. IfSome made (λ g. length g ≡ cells)) }
     ensures encloses { IfOk result (λ made. IfSome made (λ g. (w : ℕ → Fraction)
         → IsPanjer (whole steps.constant *ℚ steps.numerator over steps.denominator)
@@ -158,8 +150,7 @@ pub fn poisson_direct<const B: u32>(
 ) -> Result<Option<Grid<B>>, AllocError>
     requires size { IsGridSize B cells }
     requires no_zero { probability_of sev.now 0 ≡ whole 0 }
-    requires num { mean.num < admitted_bound }
-    requires den { mean.den < admitted_bound }
+    requires admitted { HasPartsOf48Bits mean }
     requires within { mean ≤ℚ whole most_expected }
     ensures cells { IfOk result (λ made. IfSome made (λ g. length g ≡ cells)) }
     ensures encloses { IfOk result (λ made. IfSome made (λ g.
@@ -188,8 +179,7 @@ pub fn gamma_direct<const B: u32>(
     requires no_zero { probability_of sev.now 0 ≡ whole 0 }
     requires shape_above { 1 ≤ shape }
     requires shape_below { shape ≤ most_shape }
-    requires num { mean.num < admitted_bound }
-    requires den { mean.den < admitted_bound }
+    requires admitted { HasPartsOf48Bits mean }
     ensures cells { IfOk result (λ made. IfSome made (λ g. length g ≡ cells)) }
     ensures encloses { IfOk result (λ made. IfSome made (λ g.
         GridEncloses g (compound (gamma_of shape mean) (probability_of sev.now)))) }

@@ -1,12 +1,13 @@
 //! The probability of no claim of Poisson and of gamma counts.
 
 ghost use Rattle.std.specs.Prelude.{◌≡◌, ◌+◌, ◌*◌, ◌^◌, ◌<◌, ◌≤◌};
-ghost use Rattle.dl_limits.specs.Limits.{most_expected, most_shape, admitted_bound, most_start};
+ghost use Rattle.dl_limits.specs.Limits.{most_expected, most_shape, admitted_bound};
 ghost use Rattle.dl_exact.specs.Fraction.{◌over◌};
 ghost use Rattle.dl_model.specs.Counts.{poisson, gamma};
 ghost use Rattle.dl_recursion.specs.Start.{HoldsNoClaim};
 
-use crate::start::{Scaled, power_of};
+use crate::scaled::Scaled;
+use crate::start::power_of;
 use dl_limits::SERIES_ONE;
 
 /// Of the geometric count with the ratio `num / (num + rest)`: the rest of 1, `rest / (num +
@@ -14,9 +15,7 @@ use dl_limits::SERIES_ONE;
 fn geometric_start(num: u64, rest: u64) -> Scaled
     requires positive { 0 < rest }
     requires room { num + rest < 2 ^ 64 }
-    ensures top { result.high ≤ most_start }
     ensures exponent { result.exponent ≡ 63 }
-    ensures order { result.low ≤ result.high }
     ensures holds { HoldsNoClaim (gamma 1 (num over (num + rest))) result }
 {
     let all = u128::from(num + rest);
@@ -37,9 +36,7 @@ const TERMS: u64 = 18;
 fn exponential_start(num: u64, den: u64) -> Scaled
     requires positive { 0 < den }
     requires half { num + num ≤ den }
-    ensures top { result.high ≤ most_start }
     ensures exponent { result.exponent ≡ 63 }
-    ensures order { result.low ≤ result.high }
     ensures holds { HoldsNoClaim (poisson (num over den)) result }
 {
     let mut low_term = SERIES_ONE;
@@ -68,8 +65,6 @@ pub(crate) fn poisson_start(num: u64, den: u64) -> Scaled
     requires num_small { num < admitted_bound }
     requires den_small { den < admitted_bound }
     requires mean { num ≤ most_expected * den }
-    ensures top { result.high ≤ most_start }
-    ensures order { result.low ≤ result.high }
     ensures holds { HoldsNoClaim (poisson (num over den)) result }
 {
     let mut shares: u32 = 1;
@@ -87,8 +82,6 @@ pub(crate) fn gamma_start(num: u64, den: u64, shape: u32) -> Scaled
     requires den_small { den < admitted_bound }
     requires shape_positive { 0 < shape }
     requires shape_small { shape ≤ most_shape }
-    ensures top { result.high ≤ most_start }
-    ensures order { result.low ≤ result.high }
     ensures holds { HoldsNoClaim (gamma shape (num over (num + shape * den))) result }
 {
     power_of(geometric_start(num, u64::from(shape) * den), shape)

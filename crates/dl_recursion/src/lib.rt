@@ -9,7 +9,7 @@
 //! rows of one weight as runs; `sums` adds up what they give to the next cell; `quotient` divides;
 //! `recursion` adds the cell and shifts; `rest` has the cells past those that count; `passes` makes
 //! the cells of a gamma count of a small shape without a division, where the amounts are one run;
-//! `start` and `first` hold the probability of no claim; `to_grid` makes the grid, and `direct` has
+//! `scaled`, `start` and `first` hold the probability of no claim; `to_grid` makes the grid, and `direct` has
 //! the two counts.
 //!
 //! `poisson_direct` and `gamma_direct` give a grid that encloses the compound sum, or none
@@ -32,6 +32,7 @@ mod passes;
 mod quotient;
 mod recursion;
 mod rest;
+mod scaled;
 mod start;
 mod sums;
 mod to_grid;

@@ -4,8 +4,8 @@
 ghost use Rattle.std.specs.Prelude.{◌≡◌, ℕ, ◌+◌, ◌-◌, ◌*◌, ◌/◌, ◌^◌, ◌<◌, ◌≤◌, length, set, replicate, slice_index, IfOk, IfSome, IsTrue};
 ghost use Rattle.dl_limits.specs.Limits.{most_cells, most_end, start_bits, least_pass_end};
 ghost use Rattle.dl_exact.specs.Fraction.{Fraction};
-ghost use Rattle.dl_recursion.specs.Runs.{run_parts};
-ghost use Rattle.dl_recursion.specs.Recursion.{cell_before, EncloseScaled, AreFirst};
+ghost use Rattle.dl_recursion.specs.Runs.{run_parts, IsRun};
+ghost use Rattle.dl_recursion.specs.Recursion.{cell_before, EncloseScaled, AreEnds, AreFirst};
 ghost use Rattle.dl_recursion.specs.Geometric.{IsRaisedBy, only_first};
 ghost use Rattle.dl_recursion.specs.Passes.{window_sum, IsFactor, AreUpTo};
 
@@ -47,8 +47,7 @@ fn coming_in(last: u64, cells: &[u64], s: usize, amount: usize) -> u64
 fn slid(sum: u64, last: u64, run: Run, cells: &[u64], s: usize) -> u64
     requires some { 0 < s }
     requires within { s ≤ length cells.now }
-    requires amount { 0 < run.amount }
-    requires end { run.amount + run.count ≤ 2 ^ 32 }
+    requires run { IsRun run }
     requires last { last ≡ slice_index cells.now (s - 1) }
     requires sum { sum ≡ window_sum cells.now (s - 1) run }
     requires room { sum + cell_before cells.now s run.amount < 2 ^ 64 }
@@ -77,15 +76,12 @@ fn raised(end: u64, down: u32) -> u64
 /// with cells that say nothing, where an end would be above `most`.
 fn pass(run: Run, factor: u64, down: u32, most: u64, low: &mut [u64], high: &mut [u64]) -> bool
     requires some { 0 < length low.old }
-    requires alike { length high.old ≡ length low.old }
-    requires amount { 0 < run.amount }
-    requires end { run.amount + run.count ≤ 2 ^ 32 }
+    requires run { IsRun run }
     requires factor { factor + 1 < 2 ^ 64 }
     requires down { down ≤ 16 }
     requires most { most ≤ most_end }
     requires room { (run.count + 1) * most + 1 < 2 ^ 64 }
-    requires low_small { (k : ℕ) → slice_index low.old k ≤ most }
-    requires high_small { (k : ℕ) → slice_index high.old k ≤ most }
+    requires ends { AreEnds most low.old high.old }
     ensures low_small { IsTrue result → (k : ℕ) → slice_index low.new k ≤ most }
     ensures high_small { IsTrue result → (k : ℕ) → slice_index high.new k ≤ most }
     ensures round { IsTrue result → (q e : ℕ) (u r : ℕ → Fraction) → 0 < q
@@ -180,8 +176,7 @@ fn raise_all(run: Run, factor: u64, down: u32, most: u64, x: &mut ScaledCells) -
     requires some { 0 < length x.old.low.items }
     requires cells { AreUpTo (length x.old.low.items) most x.old }
     requires shift { x.old.shift + down < 2 ^ 64 }
-    requires amount { 0 < run.amount }
-    requires end { run.amount + run.count ≤ 2 ^ 32 }
+    requires run { IsRun run }
     requires factor { factor + 1 < 2 ^ 64 }
     requires down { down ≤ 16 }
     requires most { most ≤ most_end }
@@ -259,8 +254,7 @@ pub(crate) fn by_passes(
     q: u64,
     cells: usize,
 ) -> Result<Option<ScaledCells>, AllocError>
-    requires amount { 0 < run.amount }
-    requires end { run.amount + run.count ≤ 2 ^ 32 }
+    requires run { IsRun run }
     requires few { cells ≤ most_cells }
     requires shape { 0 < shape }
     requires divisor { 0 < q }

@@ -5,7 +5,7 @@ ghost use Rattle.dl_limits.specs.Limits.{most_cells, most_end, most_given, start
 ghost use Rattle.dl_exact.specs.Fraction.{Fraction, whole, ◌*ℚ◌, ◌≤ℚ◌};
 ghost use Rattle.dl_recursion.specs.declared.parts.Run.{Run};
 ghost use Rattle.dl_recursion.specs.Runs.{all_parts, part_sum, ArePositiveAmounts};
-ghost use Rattle.dl_recursion.specs.Recursion.{AreWindows, EncloseScaled, AreScaledCells, AreInScale, IsShifted, IsBegun, IsGrown, AreFirst};
+ghost use Rattle.dl_recursion.specs.Recursion.{HasRoomOver, AreWindows, EncloseScaled, AreScaledCells, AreInScale, IsShifted, IsBegun, IsGrown, AreFirst};
 
 use crate::cells::{Ends, ScaledCells};
 use crate::parts::Amounts;
@@ -57,7 +57,6 @@ fn advance(low: &[u64], high: &[u64], first: usize) -> usize
 /// Shifts all cells down by 8 bits, low ends by floor and high ends by ceiling.
 fn shift_cells(x: &mut ScaledCells)
     requires sound { AreScaledCells x.old.low.items x.old.high.items x.old.first }
-    requires within { x.old.first ≤ length x.old.low.items }
     requires room { x.old.shift + 8 < 2 ^ 64 }
     ensures shifted { IsShifted x.old x.new }
 {
@@ -70,7 +69,6 @@ fn shift_cells(x: &mut ScaledCells)
 /// Shifts all cells down by 8 bits. The windows are then outdated, and none is kept.
 fn shrink(x: &mut ScaledCells)
     requires sound { AreScaledCells x.old.low.items x.old.high.items x.old.first }
-    requires within { x.old.first ≤ length x.old.low.items }
     requires room { x.old.shift + 8 < 2 ^ 64 }
     ensures shifted { IsShifted x.old x.new }
     ensures windows { x.new.windows.items ≡ [] }
@@ -82,11 +80,9 @@ fn shrink(x: &mut ScaledCells)
 /// Shifts all cells down, and the next one with them, until that one is at most 2^62.
 fn shift_down(x: &mut ScaledCells, next: Ends) -> Ends
     requires sound { AreScaledCells x.old.low.items x.old.high.items x.old.first }
-    requires within { x.old.first ≤ length x.old.low.items }
     requires room { x.old.shift + 64 < 2 ^ 64 }
     requires small { next.high ≤ most_given }
     ensures sound { AreScaledCells x.new.low.items x.new.high.items x.new.first }
-    ensures within { x.new.first ≤ length x.new.low.items }
     ensures cells { length x.new.low.items ≡ length x.old.low.items }
     ensures shift { x.new.shift ≤ x.old.shift + 64 }
     ensures order { result.low ≤ result.high }
@@ -151,15 +147,10 @@ fn grow(
     q: u64,
 ) -> Result<(), AllocError>
     requires in_scale { AreInScale amounts.now.runs.items x.old }
-    requires some { 0 < length x.old.low.items }
-    requires room { x.old.shift + 64 < 2 ^ 64 }
+    requires shift { x.old.shift + 64 < 2 ^ 64 }
     requires amounts { ArePositiveAmounts amounts.now }
     requires reach { All (λ p. p.amount ≤ reach) amounts.now.parts.items }
-    requires steps { (a + b) * length x.old.low.items < 2 ^ 32 }
-    requires weights { (a + b) * length x.old.low.items * part_sum
-        (all_parts amounts.now) < 2 ^ 64 }
-    requires divisor { 0 < q }
-    requires divisors { q * length x.old.low.items < 2 ^ 64 }
+    requires room { HasRoomOver q a b (part_sum (all_parts amounts.now)) (length x.old.low.items) }
     ensures { IfOk result (λ u. IsGrown amounts.now a b q x.old x.new) }
 {
     let n = x.low.len();
@@ -211,10 +202,7 @@ pub(crate) fn recur(
     requires few { cells ≤ most_cells }
     requires amounts { ArePositiveAmounts amounts.now }
     requires some_step { 0 < a + b }
-    requires steps { (a + b) * cells < 2 ^ 32 }
-    requires weights { (a + b) * cells * part_sum (all_parts amounts.now) < 2 ^ 64 }
-    requires divisor { 0 < q }
-    requires divisors { q * cells < 2 ^ 64 }
+    requires room { HasRoomOver q a b (part_sum (all_parts amounts.now)) cells }
     ensures { IfOk result (AreFirst (all_parts amounts.now) a b q cells) }
 {
     let mut x = begin(alloc, amounts, cells)?;

@@ -7,8 +7,8 @@ ghost use Rattle.std.specs.Prelude.{◌≡◌, ℕ, ◌+◌, ◌-◌, ◌*◌, �
 ghost use Rattle.dl_limits.specs.Limits.{most_end};
 ghost use Rattle.dl_exact.specs.Fraction.{Fraction};
 ghost use Rattle.dl_recursion.specs.declared.parts.Part.{Part};
-ghost use Rattle.dl_recursion.specs.Runs.{run_parts, all_parts, part_sum, ArePositiveAmounts};
-ghost use Rattle.dl_recursion.specs.Recursion.{AreScaledCells, AreFalling, AreLast, FollowsInWhole, EncloseScaled};
+ghost use Rattle.dl_recursion.specs.Runs.{run_parts, all_parts, part_sum, IsRun, ArePositiveAmounts};
+ghost use Rattle.dl_recursion.specs.Recursion.{HasRoomOver, AreScaledCells, AreFalling, AreLast, FollowsInWhole, EncloseScaled};
 
 use crate::cells::ScaledCells;
 use crate::parts::{Amounts, Part, Run};
@@ -41,8 +41,7 @@ fn reach_alone(parts: &[Part]) -> Reach
 
 /// How far the amounts of runs go.
 fn reach_together(runs: &[Run]) -> Reach
-    requires amounts { All (λ run. 0 < run.amount) runs.now }
-    requires ends { All (λ run. run.amount + run.count ≤ 2 ^ 32) runs.now }
+    requires runs { All IsRun runs.now }
     requires room { part_sum (flat_map run_parts runs.now) < 2 ^ 64 }
     ensures amount { All (λ p. p.amount ≤ result.amount) (flat_map run_parts runs.now) }
     ensures weight { result.weight ≡ part_sum (flat_map run_parts runs.now) }
@@ -75,9 +74,7 @@ pub(crate) fn reach_of(amounts: &Amounts) -> Reach
 /// amount `top` and the sum `weight` of the weights; then that holds for each later cell, too.
 #[tactic(auto, using(crate::proofs::Contributions::factor_le))]
 pub(crate) fn is_falling(reach: Reach, a: u64, b: u64, q: u64, n: usize) -> bool
-    requires steps { (a + b) * n < 2 ^ 32 }
-    requires weights { (a + b) * n * reach.weight < 2 ^ 64 }
-    requires divisors { q * n < 2 ^ 64 }
+    requires room { HasRoomOver q a b reach.weight n }
     ensures within { IsTrue result → reach.amount ≤ n }
     ensures falling { IsTrue result → (a * n + b * reach.amount) * reach.weight ≤ q * n }
 {
@@ -104,7 +101,6 @@ pub(crate) fn greatest_from(ends: &[u64], from: usize) -> u64
 /// Adds cells with the low end 0 and this high end, until there are `cells`.
 pub(crate) fn fill(x: &mut ScaledCells, high: u64, cells: usize) -> Result<(), AllocError>
     requires sound { AreScaledCells x.old.low.items x.old.high.items x.old.first }
-    requires within { x.old.first ≤ length x.old.low.items }
     requires some { 0 < length x.old.low.items }
     requires few { length x.old.low.items ≤ cells }
     requires small { high ≤ most_end }

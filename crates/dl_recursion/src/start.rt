@@ -1,37 +1,17 @@
-//! The probability of no claim as two numbers with one exponent, and its powers.
+//! The powers of the probability of no claim.
 
-ghost use Rattle.std.specs.Prelude.{◌≡◌, ℕ, ◌+◌, ◌*◌, ◌^◌, ◌<◌, ◌≤◌};
-ghost use Rattle.dl_limits.specs.Limits.{most_start};
+ghost use Rattle.std.specs.Prelude.{ℕ, ◌+◌, ◌*◌, ◌^◌, ◌<◌, ◌≤◌};
 ghost use Rattle.dl_exact.specs.Fraction.{Fraction};
 ghost use Rattle.dl_model.specs.Compound.{convolve, power};
 ghost use Rattle.dl_recursion.specs.Start.{HoldsNoClaim};
 
+use crate::scaled::Scaled;
 use dl_limits::MOST_START;
-
-/// The numbers from `low / 2^exponent` to `high / 2^exponent`, both ends among them.
-#[derive(Clone, Copy)]
-pub struct Scaled {
-    /// The low end, in units of `1 / 2^exponent`.
-    pub low: u64,
-    /// The high end, in units of `1 / 2^exponent`.
-    pub high: u64,
-    /// How often the unit halves 1.
-    pub exponent: u32,
-}
 
 /// The product, rounded outward: the probability of no claim in two counts together. At least 62
 /// bits of a high end are kept.
 pub(crate) fn times(a: Scaled, b: Scaled) -> Scaled
-    requires a_top { a.high ≤ most_start }
-    requires a_least { 63 ≤ a.exponent }
-    requires a_order { a.low ≤ a.high }
-    requires b_top { b.high ≤ most_start }
-    requires b_least { 63 ≤ b.exponent }
-    requires b_order { b.low ≤ b.high }
     requires room { a.exponent + b.exponent < 2 ^ 32 }
-    ensures top { result.high ≤ most_start }
-    ensures least { 63 ≤ result.exponent }
-    ensures order { result.low ≤ result.high }
     ensures room { result.exponent ≤ a.exponent + b.exponent }
     ensures holds { (v w : ℕ → Fraction) → HoldsNoClaim v a → HoldsNoClaim w b
         → HoldsNoClaim (convolve v w) result }
@@ -55,14 +35,8 @@ pub(crate) fn times(a: Scaled, b: Scaled) -> Scaled
 
 /// The n-th power: the probability of no claim in n such counts together.
 pub(crate) fn power_of(x: Scaled, n: u32) -> Scaled
-    requires top { x.high ≤ most_start }
-    requires least { 63 ≤ x.exponent }
-    requires order { x.low ≤ x.high }
     requires positive { 0 < n }
     requires room { n * x.exponent < 2 ^ 32 }
-    ensures top { result.high ≤ most_start }
-    ensures least { 63 ≤ result.exponent }
-    ensures order { result.low ≤ result.high }
     ensures room { result.exponent ≤ n * x.exponent }
     ensures holds { (w : ℕ → Fraction) → HoldsNoClaim w x → HoldsNoClaim (power w n) result }
 {

@@ -4,8 +4,8 @@
 
 ghost use Rattle.std.specs.Prelude.{◌≡◌, ℕ, ◌+◌, ◌-◌, ◌*◌, ◌/◌, ◌^◌, ◌<◌, ◌≤◌, ◌⊎◌, length, slice_index, sum_by, flat_map, not, nat_le, All, IfOk, IsTrue};
 ghost use Rattle.dl_limits.specs.Limits.{most_end};
-ghost use Rattle.dl_recursion.specs.Runs.{run_parts, all_parts, part_sum, ArePositiveAmounts};
-ghost use Rattle.dl_recursion.specs.Recursion.{cell_before, contribution, IsWindow, AreWindows, AreInScale, AreContributions};
+ghost use Rattle.dl_recursion.specs.Runs.{run_parts, all_parts, part_sum, IsRun, ArePositiveAmounts};
+ghost use Rattle.dl_recursion.specs.Recursion.{cell_before, contribution, HasRoom, AreEnds, IsWindow, AreWindows, AreInScale, HasCellsOf, AreContributions};
 
 use crate::cells::{Ends, ScaledCells, Window, Windows};
 use crate::parts::{Amounts, Part, Run};
@@ -16,8 +16,7 @@ use std::alloc::AllocError;
 #[tactic(auto, using(crate::proofs::Contributions::factor_le))]
 fn contribution(part: Part, a: u64, b: u64, s: usize, cells: &[u64]) -> u128
     requires next { length cells.now ≡ s }
-    requires steps { (a + b) * s < 2 ^ 64 }
-    requires room { (a + b) * s * part.weight < 2 ^ 64 }
+    requires room { HasRoom a b part.weight s }
     requires amount { 0 < part.amount }
     requires within { part.amount ≤ s }
     requires small { (k : ℕ) → slice_index cells.now k ≤ most_end }
@@ -46,13 +45,10 @@ fn parts_contribution<const NEAR: bool>(
     low: &[u64],
     high: &[u64],
 ) -> Ends
-    requires alike { length high.now ≡ length low.now }
-    requires steps { (a + b) * length low.now < 2 ^ 64 }
-    requires room { (a + b) * length low.now * part_sum parts.now < 2 ^ 64 }
+    requires ends { AreEnds most_end low.now high.now }
+    requires room { HasRoom a b (part_sum parts.now) (length low.now) }
     requires amounts { All (λ p. 0 < p.amount) parts.now }
     requires near { IsTrue NEAR → All (λ p. p.amount ≤ length low.now) parts.now }
-    requires low_small { (k : ℕ) → slice_index low.now k ≤ most_end }
-    requires high_small { (k : ℕ) → slice_index high.now k ≤ most_end }
     ensures low { result.low ≡ sum_by (contribution a b low.now (length low.now)) parts.now }
     ensures high { result.high ≡ sum_by (contribution a b high.now (length high.now)) parts.now }
 {
@@ -74,13 +70,10 @@ fn parts_contribution<const NEAR: bool>(
 
 /// What amounts taken one by one give. None is above `reach`.
 fn alone(parts: &[Part], reach: usize, a: u64, b: u64, low: &[u64], high: &[u64]) -> Ends
-    requires alike { length high.now ≡ length low.now }
-    requires steps { (a + b) * length low.now < 2 ^ 64 }
-    requires room { (a + b) * length low.now * part_sum parts.now < 2 ^ 64 }
+    requires ends { AreEnds most_end low.now high.now }
+    requires room { HasRoom a b (part_sum parts.now) (length low.now) }
     requires amounts { All (λ p. 0 < p.amount) parts.now }
     requires reach { All (λ p. p.amount ≤ reach) parts.now }
-    requires low_small { (k : ℕ) → slice_index low.now k ≤ most_end }
-    requires high_small { (k : ℕ) → slice_index high.now k ≤ most_end }
     ensures low { result.low ≡ sum_by (contribution a b low.now (length low.now)) parts.now }
     ensures high { result.high ≡ sum_by (contribution a b high.now (length low.now)) parts.now }
 {
@@ -109,8 +102,7 @@ pub(crate) fn cell_before(cells: &[u64], s: usize, amount: usize) -> u64
 fn window_of(run: Run, cells: &[u64]) -> Window
     requires some { 0 < length cells.now }
     requires small { (k : ℕ) → slice_index cells.now k ≤ most_end }
-    requires amount { 0 < run.amount }
-    requires end { run.amount + run.count ≤ 2 ^ 32 }
+    requires run { IsRun run }
     ensures { IsWindow cells.now (length cells.now - 1) run result }
 {
     let s = cells.len() - 1;
@@ -131,8 +123,7 @@ fn window_of(run: Run, cells: &[u64]) -> Window
 fn next_window(last: Window, run: Run, cells: &[u64]) -> Window
     requires some { 0 < length cells.now }
     requires small { (k : ℕ) → slice_index cells.now k ≤ most_end }
-    requires amount { 0 < run.amount }
-    requires end { run.amount + run.count ≤ 2 ^ 32 }
+    requires run { IsRun run }
     requires last { IsWindow cells.now (length cells.now - 1) run last }
     ensures { IsWindow cells.now (length cells.now) run result }
 {
@@ -148,10 +139,8 @@ fn next_window(last: Window, run: Run, cells: &[u64]) -> Window
 /// What a run gives, for one end.
 fn run_contribution(run: Run, window: Window, a: u64, b: u64, cells: &[u64]) -> u128
     requires small { (k : ℕ) → slice_index cells.now k ≤ most_end }
-    requires steps { (a + b) * length cells.now < 2 ^ 32 }
-    requires room { (a + b) * length cells.now * part_sum (run_parts run) < 2 ^ 64 }
-    requires amount { 0 < run.amount }
-    requires count { 0 < run.count }
+    requires room { HasRoom a b (part_sum (run_parts run)) (length cells.now) }
+    requires run { IsRun run }
     requires window { IsWindow cells.now (length cells.now) run window }
     ensures { result ≡ sum_by (contribution a b cells.now (length cells.now)) (run_parts run) }
 {
@@ -172,11 +161,8 @@ fn add_up(
     high: &[u64],
 ) -> Result<(), AllocError>
     requires some { 0 < length low.now }
-    requires alike { length high.now ≡ length low.now }
-    requires low_small { (k : ℕ) → slice_index low.now k ≤ most_end }
-    requires high_small { (k : ℕ) → slice_index high.now k ≤ most_end }
-    requires amounts { All (λ run. 0 < run.amount) runs.now }
-    requires ends { All (λ run. run.amount + run.count ≤ 2 ^ 32) runs.now }
+    requires ends { AreEnds most_end low.now high.now }
+    requires runs { All IsRun runs.now }
     requires windows { AreWindows runs.now low.now high.now (length low.now - 1) windows.old.items }
     requires all_or_none { (length windows.old.items ≡ length runs.now)
         ⊎ (length windows.old.items ≡ 0) }
@@ -207,14 +193,9 @@ fn runs_contribution(
     high: &[u64],
 ) -> Ends
     requires some { 0 < length low.now }
-    requires alike { length high.now ≡ length low.now }
-    requires low_small { (k : ℕ) → slice_index low.now k ≤ most_end }
-    requires high_small { (k : ℕ) → slice_index high.now k ≤ most_end }
-    requires steps { (a + b) * length low.now < 2 ^ 32 }
-    requires room { (a + b) * length low.now * part_sum (flat_map run_parts runs.now) < 2 ^ 64 }
-    requires amounts { All (λ run. 0 < run.amount) runs.now }
-    requires counts { All (λ run. 0 < run.count) runs.now }
-    requires ends { All (λ run. run.amount + run.count ≤ 2 ^ 32) runs.now }
+    requires ends { AreEnds most_end low.now high.now }
+    requires room { HasRoom a b (part_sum (flat_map run_parts runs.now)) (length low.now) }
+    requires runs { All IsRun runs.now }
     requires windows { AreWindows runs.now low.now high.now (length low.now - 1) windows.old }
     requires each_run { length windows.old ≡ length runs.now }
     ensures low { result.low ≡ sum_by (contribution a b low.now (length low.now))
@@ -246,13 +227,9 @@ fn runs_contribution(
 /// What runs give.
 fn together(x: &mut ScaledCells, runs: &[Run], a: u64, b: u64) -> Result<Ends, AllocError>
     requires in_scale { AreInScale runs.now x.old }
-    requires some { 0 < length x.old.low.items }
-    requires steps { (a + b) * length x.old.low.items < 2 ^ 32 }
-    requires room { (a + b) * length x.old.low.items
-        * part_sum (flat_map run_parts runs.now) < 2 ^ 64 }
-    requires amounts { All (λ run. 0 < run.amount) runs.now }
-    requires counts { All (λ run. 0 < run.count) runs.now }
-    requires ends { All (λ run. run.amount + run.count ≤ 2 ^ 32) runs.now }
+    requires room { HasRoom a b (part_sum (flat_map run_parts runs.now))
+        (length x.old.low.items) }
+    requires runs { All IsRun runs.now }
     ensures low { IfOk result (λ ends. ends.low
         ≡ sum_by (contribution a b x.old.low.items (length x.old.low.items))
         (flat_map run_parts runs.now)) }
@@ -262,10 +239,7 @@ fn together(x: &mut ScaledCells, runs: &[Run], a: u64, b: u64) -> Result<Ends, A
     ensures windows { IfOk result (λ ends. AreWindows runs.now x.new.low.items x.new.high.items
         (length x.new.low.items) x.new.windows.items) }
     ensures each_run { IfOk result (λ ends. length x.new.windows.items ≡ length runs.now) }
-    ensures same_low { x.new.low ≡ x.old.low }
-    ensures same_high { x.new.high ≡ x.old.high }
-    ensures same_first { x.new.first ≡ x.old.first }
-    ensures same_shift { x.new.shift ≡ x.old.shift }
+    ensures same { HasCellsOf x.old x.new }
 {
     add_up(&mut x.windows, runs, x.low.as_slice(), x.high.as_slice())?;
     let (low, high) = (x.low.as_slice(), x.high.as_slice());
@@ -282,9 +256,7 @@ pub(crate) fn contributions(
     b: u64,
 ) -> Result<Ends, AllocError>
     requires in_scale { AreInScale amounts.now.runs.items x.old }
-    requires some { 0 < length x.old.low.items }
-    requires steps { (a + b) * length x.old.low.items < 2 ^ 32 }
-    requires room { (a + b) * length x.old.low.items * part_sum (all_parts amounts.now) < 2 ^ 64 }
+    requires room { HasRoom a b (part_sum (all_parts amounts.now)) (length x.old.low.items) }
     requires amounts { ArePositiveAmounts amounts.now }
     requires reach { All (λ p. p.amount ≤ reach) amounts.now.parts.items }
     ensures { IfOk result (AreContributions amounts.now a b x.old x.new) }

@@ -7,7 +7,7 @@ ghost use Rattle.dl_recursion.specs.Recursion.{AreScaledCells};
 ghost use Rattle.dl_recursion.specs.ToGrid.{HasGridEnds};
 
 use crate::cells::ScaledCells;
-use crate::start::Scaled;
+use crate::scaled::Scaled;
 use dl_grid::{Grid, units_of_one};
 use std::alloc::{AllocError, Global};
 
@@ -80,8 +80,6 @@ pub(crate) fn to_grid<const B: u32>(
     requires apart { 0 < step }
     requires within { step * length x.now.low.items < cells + step }
     requires settled { AreScaledCells x.now.low.items x.now.high.items x.now.first }
-    requires low_small { start.low ≤ most_start }
-    requires high_small { start.high ≤ most_start }
     requires scale { start_bits + start.exponent ≡ down + (x.now.shift + B) }
     ensures cells { IfOk result (λ g. length g ≡ cells) }
     ensures ends { IfOk result (λ g. HasGridEnds B start x.now.shift step (length x.now.low.items)

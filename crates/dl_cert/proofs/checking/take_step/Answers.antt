@@ -32,10 +32,10 @@ returns-clause-passes c = λ yes next split.
     let read = rw c.in-Some.is at c.in_ok-step.ensures in
     let spelled : IsStep (line_from c.args.of.now.text.now c.args.offset) step = rw c.line_from-line.ensures at read.0 in
     let t = rw c.in-Some-2.is at (c.in_ok-label.ensures (made_after [] passed.steps) passed.so_far) in
-    let some : 1 ≤ plan.cells = rw c.requires.valid.cells.3 (pow_pos c.requires.valid.cells.0) in
-    let grid = grid_now plan.cells step.cells some c.requires.few read.1
+    let some : 1 ≤ plan.cells = rw c.requires.plan.valid.cells.3 (pow_pos c.requires.plan.valid.cells.0) in
+    let grid = grid_now plan.cells step.cells some c.requires.plan.few read.1
     (step_small c.line_from-line.result.now step read.0) t.0.mass in
     line_passes passed step split spelled t.0
     (rw (c.in_ok-keep.ensures.offsets, c.in_ok-keep.ensures.labels, c.deref.ensures.value)
-    (keeps_more passed.so_far step c.requires.starts.counts t.0.there t.1 c.args.offset (omega (arith, c.requires.inside)) spelled
+    (keeps_more passed.so_far step c.args.of.now.starts.counts t.0.there t.1 c.args.offset (omega (arith, c.requires.inside)) spelled
     read.1 grid))

@@ -4,7 +4,7 @@ use Rattle.dl_cert.proofs.SeveralFacts.{if_ok_five}
 use Rattle.dl_cert.proofs.making.whole.Goals as goal
 
 pub zero-requires : goal.zero-requires
-zero-requires c = (omega arith, cert_size c.args.plan.now c.requires.valid c.requires.few_cells)
+zero-requires c = (omega arith, cert_size c.args.plan.now c.requires.plan)
 
 pub returns-in-Some-clause-ends : goal.returns-in-Some-clause-ends
 returns-in-Some-clause-ends c = renamed (rw c.in-Some.is at c.requires.sum) (first_all c.args.plan.now)

@@ -5,4 +5,4 @@ pub returns-clause-certificate : goal.returns-clause-certificate
 returns-clause-certificate c covered = is_certificate covered c.in_ok-_last.ensures.ends
 
 pub returns-clause-short : goal.returns-clause-short
-returns-clause-short c = is_short c.in_ok-_last.ensures.ends.written c.requires.few_cells c.in_ok-_last.ensures.count
+returns-clause-short c = is_short c.in_ok-_last.ensures.ends.written c.requires.plan.few c.in_ok-_last.ensures.count

@@ -20,7 +20,7 @@ returns-clause-ends c =
     c.index-units-unit.is ∙ ap (λ t. get_or t u unit) c.as_slice-units.ensures in
     let exact : IsExactStart unit.freq unit.sev (thinned_mean unit) c.in_ok-base.base.grid =
     rw base.grid c.in_ok-grid.ensures.exact in
-    let few : u < 10 ^ 9 = omega (arith, c.requires.inside, c.requires.valid.few) in
+    let few : u < 10 ^ 9 = omega (arith, c.requires.inside, c.requires.plan.valid.few) in
     let all : c.args.parts ≤ target plan u = omega (arith, c.requires.counted) in
     let some : 1 ≤ target plan u = omega (arith, all, c.requires.above) in
     IfOk-weaker c.power.result _ _ (λ f ends made w.

@@ -8,7 +8,7 @@ overflow_add-mass c =
     let cell = c.cell-item.result in
     let all : mass_low cells ≤ length cells * 2 ^ 56 =
     sum_by-le (λ (t : Iv 56). t.lo) (2 ^ 56) cells
-    (λ k d inside. omega (arith, (get_or cells k d).ordered, c.requires.small k d inside)) in
-    let here = c.requires.small i cell (omega (arith, c.loop-cell-test.true)) in
+    (λ k d inside. omega (arith, (get_or cells k d).ordered, c.requires.cells.small k d inside)) in
+    let here = c.requires.cells.small i cell (omega (arith, c.loop-cell-test.true)) in
     let is = ap (λ (t : Iv 56). t.hi) c.cell-item.is in
     omega (arith, sum_by-take-le (λ (t : Iv 56). t.lo) cells i)

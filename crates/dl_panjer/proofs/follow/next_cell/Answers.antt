@@ -20,7 +20,7 @@ fits b {B} {n} {T} {num = num} {items} {ends} w size small is all less =
     (rw (is, all) (high_counted b items T (2 ^ B) (n - 1) (total_pos items T w) w.sum ends small)) less
 
 pub divisor-den-requires : goal.divisor-den-requires
-divisor-den-requires g c = size_few c.requires.size
+divisor-den-requires g c = size_few c.requires.cells.size
 
 pub ends_of-lo-requires-clause-total : goal.ends_of-lo-requires-clause-total
 ends_of-lo-requires-clause-total g c =
@@ -34,7 +34,7 @@ ends_of-lo-requires-clause-ordered g c =
 
 pub ends_of-lo-requires-clause-fits : goal.ends_of-lo-requires-clause-fits
 ends_of-lo-requires-clause-fits g c =
-    fits (not (eqb g.row.BY_AMOUNT 0)) c.requires.weighted c.requires.size (high_at_most c.args.cells.now c.requires.small)
+    fits (not (eqb g.row.BY_AMOUNT 0)) c.requires.weighted c.requires.cells.size (high_at_most c.args.cells.now c.requires.cells.small)
     c.sums_before-sums.ensures.high c.from.ensures
     (omega (arith, c.from-num.ensures, c.num.ensures.part, c.requires.rate_num))
 
@@ -47,16 +47,16 @@ invariant_of-result-clause-ordered g c =
     ∙ ap (counted b (length cells)) c.den.ensures.part in
     let num = c.from-num.ensures ∙ c.num.ensures.part in
     let low = c.ends_of-lo.ensures.low ∙ cell_low b c.args.items.now c.args.total c.args.rate (low_at cells)
-    (length cells) _ _ _ _ c.requires.size.some c.sums_before-sums.ensures.low c.from.ensures num divisor in
+    (length cells) _ _ _ _ c.requires.cells.size.some c.sums_before-sums.ensures.low c.from.ensures num divisor in
     let high = c.ends_of-lo.ensures.high ∙ cell_high (2 ^ g.row.B) b c.args.items.now c.args.total c.args.rate (high_at cells)
-    (length cells) _ _ _ _ c.requires.size.some c.sums_before-sums.ensures.high c.from.ensures num divisor in
+    (length cells) _ _ _ _ c.requires.cells.size.some c.sums_before-sums.ensures.high c.from.ensures num divisor in
     rw (low, high) (next_order b c.args.items.now c.args.total (2 ^ g.row.B) (length cells - 1)
     (total_pos c.args.items.now c.args.total w) w.sum c.args.rate c.requires.rate
-    (low_at cells) (high_at cells) (low_le_high cells) (low_at_most cells c.requires.small))
+    (low_at cells) (high_at cells) (low_le_high cells) (low_at_most cells c.requires.cells.small))
 
 pub invariant_of-result-clause-in_range : goal.invariant_of-result-clause-in_range
 invariant_of-result-clause-in_range g c =
-    omega (arith, c.ends_of-lo.ensures.high, one_fits g.row.B c.requires.size.scale_below)
+    omega (arith, c.ends_of-lo.ensures.high, one_fits g.row.B c.requires.cells.size.scale_below)
 
 pub returns : goal.returns
 returns g c =
@@ -66,7 +66,7 @@ returns g c =
     let divisor = c.divisor-den.ensures ∙ ap (counted b (length cells)) c.den.ensures.part in
     record {
       low = c.ends_of-lo.ensures.low ∙ cell_low b c.args.items.now c.args.total c.args.rate (low_at cells) (length cells)
-          _ _ _ _ c.requires.size.some c.sums_before-sums.ensures.low c.from.ensures num divisor;
+          _ _ _ _ c.requires.cells.size.some c.sums_before-sums.ensures.low c.from.ensures num divisor;
       high = c.ends_of-lo.ensures.high ∙ cell_high (2 ^ g.row.B) b c.args.items.now c.args.total c.args.rate (high_at cells)
-          (length cells) _ _ _ _ c.requires.size.some c.sums_before-sums.ensures.high c.from.ensures num divisor;
+          (length cells) _ _ _ _ c.requires.cells.size.some c.sums_before-sums.ensures.high c.from.ensures num divisor;
     }

@@ -11,7 +11,7 @@ small_den den h few small =
 
 pub fraction-requires-clause-small_den : goal.fraction-requires-clause-small_den
 fraction-requires-clause-small_den c =
-    small_den c.den.result c.args.halvings c.requires.halvings (omega (arith, c.den.ensures.part, c.requires.den))
+    small_den c.den.result c.args.halvings c.requires.halvings (omega (arith, c.den.ensures.part, c.requires.admitted.den))
 
 pub returns-clause-value : goal.returns-clause-value
 returns-clause-value c =

@@ -19,11 +19,11 @@ all_next_sum b ends items {r} {m} some bound positive before after =
 pub returns-clause-low : goal.returns-clause-low
 returns-clause-low g c =
     c.sums_over.ensures.low ∙ all_next_sum (not (eqb g.row.BY_AMOUNT 0)) (low_at c.args.cells.now) c.args.items.now
-    c.requires.size.some c.count_at_most.ensures.bound c.requires.no_zero c.count_at_most.ensures.before
+    c.requires.cells.size.some c.count_at_most.ensures.bound c.requires.no_zero c.count_at_most.ensures.before
     c.count_at_most.ensures.after
 
 pub returns-clause-high : goal.returns-clause-high
 returns-clause-high g c =
     c.sums_over.ensures.high ∙ all_next_sum (not (eqb g.row.BY_AMOUNT 0)) (high_at c.args.cells.now) c.args.items.now
-    c.requires.size.some c.count_at_most.ensures.bound c.requires.no_zero c.count_at_most.ensures.before
+    c.requires.cells.size.some c.count_at_most.ensures.bound c.requires.no_zero c.count_at_most.ensures.before
     c.count_at_most.ensures.after

@@ -43,7 +43,7 @@ module _ (sev : Sev) {items : List Item} {step : ℕ} (is : step ≡ common_amou
       pos_of_dvd_of_pos (step_divides 0 item sev.weighted.some) (amounts_positive sev no_zero 0 item sev.weighted.some)
 
 pub make-requires : goal.make-requires
-make-requires g c = grind (arith, mul-pos c.requires.base_positive (severity_total c.args.sev.now))
+make-requires g c = grind (arith, mul-pos c.args.steps.positive (severity_total c.args.sev.now))
 
 pub nonzero_div-rows : goal.nonzero_div-rows
 nonzero_div-rows g c =
@@ -68,7 +68,7 @@ amounts_of-requires-clause-room g c =
     let rows = (c.args.cells - 1) / c.common_amount-step.result + 1 in
     rw (c.num.ensures.part, c.as_slice-2.ensures, sev.weighted.sum)
     (one_factor ((s.constant + s.inverse) * rows) (c.in-Ok.ratio.num * sev.total)
-    (mul-pos c.requires.some_step (omega arith)) (c.if-not-is_within_words.ensures.factors refl))
+    (mul-pos c.args.steps.some (omega arith)) (c.if-not-is_within_words.ensures.factors refl))
 
 pub amounts_of-requires-clause-no_zero : goal.amounts_of-requires-clause-no_zero
 amounts_of-requires-clause-no_zero g c = rw c.as_slice-2.ensures (amounts_positive c.args.sev.now c.requires.no_zero)
@@ -77,28 +77,24 @@ pub first_cells-requires-clause-few : goal.first_cells-requires-clause-few
 first_cells-requires-clause-few g c =
     omega (arith, rows_few c.common_amount-step.result c.args.cells c.requires.size.some, size_few c.requires.size)
 
-pub first_cells-requires-clause-steps : goal.first_cells-requires-clause-steps
-first_cells-requires-clause-steps g c =
-    few_steps c.args.steps.constant c.args.steps.inverse _ c.requires.a_small c.requires.b_small
-    (omega (arith, rows_few c.common_amount-step.result c.args.cells c.requires.size.some, size_few c.requires.size))
-
-pub first_cells-requires-clause-weights : goal.first_cells-requires-clause-weights
-first_cells-requires-clause-weights g c =
-    rw (c.in_ok-amounts.ensures.sum, c.num.ensures.part, c.as_slice-2.ensures, c.args.sev.now.weighted.sum)
-    (c.if-not-is_within_words.ensures.factors refl)
-
-pub first_cells-requires-clause-divisor : goal.first_cells-requires-clause-divisor
-first_cells-requires-clause-divisor g c = rw c.den.ensures.part c.in-Ok.ratio.positive
-
-pub first_cells-requires-clause-divisors : goal.first_cells-requires-clause-divisors
-first_cells-requires-clause-divisors g c = rw c.den.ensures.part (c.if-not-is_within_words.ensures.divisors refl)
+pub first_cells-requires-clause-room : goal.first_cells-requires-clause-room
+first_cells-requires-clause-room g c = record {
+  room = record {
+    steps = few_steps c.args.steps.constant c.args.steps.inverse _ c.args.steps.constant_small c.args.steps.inverse_small
+        (omega (arith, rows_few c.common_amount-step.result c.args.cells c.requires.size.some, size_few c.requires.size));
+    weights = rw (c.in_ok-amounts.ensures.sum, c.num.ensures.part, c.as_slice-2.ensures, c.args.sev.now.weighted.sum)
+        (c.if-not-is_within_words.ensures.factors refl);
+  };
+  divisor = rw c.den.ensures.part c.in-Ok.ratio.positive;
+  divisors = rw c.den.ensures.part (c.if-not-is_within_words.ensures.divisors refl);
+}
 
 pub to_grid-requires : goal.to_grid-requires
 to_grid-requires g c =
     let above = step_above c.args.sev.now c.common_amount-step.ensures c.as_slice.ensures c.requires.no_zero in
     let within : c.common_amount-step.result * length c.in_ok-x.x.low.items < c.args.cells + c.common_amount-step.result =
     rw c.in_ok-x.ensures.cells (rows_within c.common_amount-step.result c.args.cells c.requires.size.some) in
-    (omega arith, (c.requires.size, (above, (within, (c.in_ok-x.ensures.sound, (c.requires.low_small, (c.requires.high_small, omega arith)))))))
+    (omega arith, (c.requires.size, (above, (within, (c.in_ok-x.ensures.sound, omega arith)))))
 
 pub returns-clause-encloses : goal.returns-clause-encloses
 returns-clause-encloses g c w P H =
@@ -121,7 +117,7 @@ returns-clause-encloses g c w P H =
     let no_zero : smaller 0 ≡ whole 0 = rw mul-zero c.requires.no_zero in
     let scaled : IsScaled parts c.den.result x smaller = λ j.
     rw c.den.ensures.part (chance_scaled s.denominator sev.total s.numerator (weight_at sev.items (step * j)) (part_at parts j) ratio
-    c.requires.base_positive (severity_total sev) lowest
+    c.args.steps.positive (severity_total sev) lowest
     (rw (← c.num.ensures.part, ← c.as_slice-2.ensures) (c.in_ok-amounts.ensures.each j))) in
     let round : EncloseScaled (λ k. cell w smaller k k) in_scale.shift rows in_scale.low.items in_scale.high.items =
     c.in_ok-x.ensures.round (λ k. cell w smaller k k)

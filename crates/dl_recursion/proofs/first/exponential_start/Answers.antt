@@ -114,14 +114,6 @@ overflow_cast-result c =
 pub overflow_cast-result-2 : goal.overflow_cast-result-2
 overflow_cast-result-2 c = omega (arith, high_end_small c.loop-n.low c.loop-n.invariant.start)
 
-pub returns-clause-top : goal.returns-clause-top
-returns-clause-top c = high_end_small c.loop-n.low c.loop-n.invariant.start
-
-pub returns-clause-order : goal.returns-clause-order
-returns-clause-order c =
-    let i = c.loop-n.invariant in
-    ends_ordered (2 ^ 126) c.loop-n.low (c.loop-n.high + c.loop-n.high_term) (omega (arith, i.start)) (omega (arith, i.order))
-
 pub loop-n-preserved : goal.loop-n-preserved
 loop-n-preserved c =
     let i = c.loop-n.invariant in

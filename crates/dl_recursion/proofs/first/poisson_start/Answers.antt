@@ -2,9 +2,11 @@ use Rattle.dl_recursion.proofs.Common.{◌*◌, ◌over◌, poisson}
 use Rattle.dl_recursion.proofs.Units.{shares}
 use Rattle.dl_recursion.proofs.first.poisson_start.Goals as goal
 
-pub returns-clause-holds : goal.returns-clause-holds
-returns-clause-holds c =
+pub returns : goal.returns
+returns c =
     let s = c.loop-shares.shares in
     let h = rw c.from-2.ensures at c.exponential_start.ensures.holds in
-    rw (← shares c.args.num c.args.den s c.requires.positive c.loop-shares.invariant.some)
-    (c.power_of.ensures.holds (poisson (c.args.num over (s * c.args.den))) h)
+    record {
+      holds = rw (← shares c.args.num c.args.den s c.requires.positive c.loop-shares.invariant.some)
+          (c.power_of.ensures.holds (poisson (c.args.num over (s * c.args.den))) h);
+    }

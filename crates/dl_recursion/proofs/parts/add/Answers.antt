@@ -17,8 +17,6 @@ each-preserved c =
         parts = subst (All (λ (p : Part). 0 < p.amount)) (sym e)
             (All-push (λ (p : Part). 0 < p.amount) parts p i.sound.parts (omega (arith, c.requires.amount)));
         runs = i.sound.runs;
-        counts = i.sound.counts;
-        ends = i.sound.ends;
       };
       parts = λ f.
           let row : sum_by f (in_a_row m (k + 1) w) ≡ sum_by f (in_a_row m k w) + f p =

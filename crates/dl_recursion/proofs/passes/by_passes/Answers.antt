@@ -1,4 +1,4 @@
-use Rattle.dl_recursion.proofs.Common.{◌≡◌, ℕ, suc, ◌+◌, ◌-◌, arith, refl, sym, ◌∙◌, length, run_parts, Fraction}
+use Rattle.dl_recursion.proofs.Common.{◌≡◌, ℕ, suc, ◌+◌, ◌-◌, arith, refl, length, run_parts, Fraction}
 use Rattle.dl_recursion.specs.Geometric.{only_first}
 use Rattle.dl_recursion.proofs.Geometric.{follows_some, raised_first, raised_next}
 use Rattle.dl_recursion.proofs.passes.by_passes.Goals as goal
@@ -48,11 +48,12 @@ returns c =
       cells = cells.cells;
       shift = omega (arith, i.shift, k_is, c.if-cells-lt2.false, c.if-shape-gt-MOST_PASSES.false);
       sound = record {
-        alike = cells.alike ∙ sym cells.cells;
-        low_small = λ k. omega (arith, cells.low_small k, most);
-        high_small = λ k. omega (arith, cells.high_small k, most);
+        alike = cells.ends.alike;
+        low_small = λ k. omega (arith, cells.ends.low_small k, most);
+        high_small = λ k. omega (arith, cells.ends.high_small k, most);
         low_settled = λ k before. absurd (omega (arith, before, cells.first));
         high_settled = λ k before. absurd (omega (arith, before, cells.first));
+        within = omega (arith, cells.first);
       };
       round = rw k_is at i.round;
     }

@@ -11,24 +11,24 @@ cells-init c =
     let high = c.args.high.now in
     let run = c.args.run in
     let some : 0 < length low = c.requires.some in
-    let high_some : 0 < length high = omega (arith, some, c.requires.alike) in
+    let high_some : 0 < length high = omega (arith, some, c.requires.ends.alike) in
     let low_end = get_or low 0 0 / 2 ^ c.args.down in
     let high_small : c.raised.result ≤ c.args.most =
-    rw c.raised.ensures (ceil_small (get_or high 0 0) (2 ^ c.args.down) c.args.most (two_pos c.args.down) (c.requires.high_small 0)) in
+    rw c.raised.ensures (ceil_small (get_or high 0 0) (2 ^ c.args.down) c.args.most (two_pos c.args.down) (c.requires.ends.high_small 0)) in
     record {
-      alike = rw (length-set, length-set) c.requires.alike;
-      low_small = small_set low 0 low_end c.args.most some c.requires.low_small
-          (omega (arith, div-le_self (get_or low 0 0) (2 ^ c.args.down), c.requires.low_small 0));
-      high_small = small_set high 0 c.raised.result c.args.most high_some c.requires.high_small high_small;
+      alike = rw (length-set, length-set) c.requires.ends.alike;
+      low_small = small_set low 0 low_end c.args.most some c.requires.ends.low_small
+          (omega (arith, div-le_self (get_or low 0 0) (2 ^ c.args.down), c.requires.ends.low_small 0));
+      high_small = small_set high 0 c.raised.result c.args.most high_some c.requires.ends.high_small high_small;
       low_last = refl;
       high_last = refl;
-      low_window = sym (window_begins (set low 0 low_end) run c.requires.amount);
-      high_window = sym (window_begins (set high 0 c.raised.result) run c.requires.amount);
+      low_window = sym (window_begins (set low 0 low_end) run c.requires.run.amount);
+      high_window = sym (window_begins (set high 0 c.raised.result) run c.requires.run.amount);
       low_left = left_set low low 0 low_end (λ k l. refl);
       high_left = left_set high high 0 c.raised.result (λ k l. refl);
       round = λ q e u r pos is raised was.
-          rw c.raised.ensures (pass_begins run c.requires.amount c.args.factor q e c.args.down u r pos is raised (length low) low high was
-          some (omega arith) c.requires.alike);
+          rw c.raised.ensures (pass_begins run c.requires.run.amount c.args.factor q e c.args.down u r pos is raised (length low) low high was
+          some (omega arith) c.requires.ends.alike);
     }
 
 pub slid-low_sum-requires-clause-room : goal.slid-low_sum-requires-clause-room
@@ -91,13 +91,13 @@ cells-preserved c =
           (omega (arith, c.max.ensures, c.if-max-most.false));
       low_last = rw here (sym (get_or-set_same low s low_end 0 low_within));
       high_last = rw here (sym (get_or-set_same high s high_end 0 high_within));
-      low_window = c.slid-low_sum.ensures ∙ sym (window_set low s low_end run c.requires.amount);
-      high_window = c.slid-high_sum.ensures ∙ sym (window_set high s high_end run c.requires.amount);
+      low_window = c.slid-low_sum.ensures ∙ sym (window_set low s low_end run c.requires.run.amount);
+      high_window = c.slid-high_sum.ensures ∙ sym (window_set high s high_end run c.requires.run.amount);
       low_left = left_set low c.args.low.now s low_end i.low_left;
       high_left = left_set high c.args.high.now s high_end i.high_left;
       round = λ q e u r pos is raised was.
           rw (c.share.ensures, c.slid-low_sum.ensures, c.share-in-cells.ensures, c.slid-high_sum.ensures, c.raised-in-cells.ensures)
-          (pass_goes_on run c.requires.amount c.args.factor q e c.args.down u r pos is raised (length c.args.low.now)
+          (pass_goes_on run c.requires.run.amount c.args.factor q e c.args.down u r pos is raised (length c.args.low.now)
           c.args.low.now c.args.high.now was low high s c.cells.auto.s
           (omega (arith, c.cells-test.true, length-set {A = ℕ})) low_within i.alike (i.low_left s (omega arith))
           (i.high_left s (omega arith)) (i.round q e u r pos is raised was));

@@ -6,28 +6,24 @@ use Rattle.dl_recursion.proofs.Windows.{windows_grown}
 use Rattle.dl_recursion.proofs.recursion.grow.Goals as goal
 
 pub overflow_mul-d : goal.overflow_mul-d
-overflow_mul-d c = record { fits = rw (c.len-n.ensures, c.args.x.now.low.ok.0) c.requires.divisors }
+overflow_mul-d c = record { fits = rw (c.len-n.ensures, c.args.x.now.low.ok.0) c.requires.room.divisors }
 
 pub divided-requires-clause-positive : goal.divided-requires-clause-positive
 divided-requires-clause-positive c =
-    rw (c.len-n.ensures, c.args.x.now.low.ok.0) (mul-pos c.requires.divisor c.requires.some)
+    rw (c.len-n.ensures, c.args.x.now.low.ok.0) (mul-pos c.requires.room.divisor c.requires.in_scale.some)
 
 pub shift_down-ends-requires-clause-sound : goal.shift_down-ends-requires-clause-sound
 shift_down-ends-requires-clause-sound c =
     let told = c.in_ok-sums.ensures in
-    rw (told.same_low, told.same_high, told.same_first) c.requires.in_scale.sound
-
-pub shift_down-ends-requires-clause-within : goal.shift_down-ends-requires-clause-within
-shift_down-ends-requires-clause-within c =
-    rw (c.in_ok-sums.ensures.same_low, c.in_ok-sums.ensures.same_first) c.requires.in_scale.within
+    rw (told.same.low, told.same.high, told.same.first) c.requires.in_scale.sound
 
 pub shift_down-ends-requires-clause-room : goal.shift_down-ends-requires-clause-room
-shift_down-ends-requires-clause-room c = rw c.in_ok-sums.ensures.same_shift c.requires.room
+shift_down-ends-requires-clause-room c = rw c.in_ok-sums.ensures.same.shift c.requires.shift
 
 pub shift_down-ends-requires-clause-small : goal.shift_down-ends-requires-clause-small
 shift_down-ends-requires-clause-small c =
     let some : 0 < c.args.q * c.len-n.result = rw (c.len-n.ensures, c.args.x.now.low.ok.0)
-    (mul-pos c.requires.divisor c.requires.some) in
+    (mul-pos c.requires.room.divisor c.requires.in_scale.some) in
     rw c.divided.ensures.high (ceil_small _ _ _ some c.in_ok-sums.ensures.high_room)
 
 pub returns : goal.returns
@@ -41,12 +37,12 @@ returns c =
     let hi = c.shift_down-ends.result.high in
     let n = length x.low.items in
     let m = n - 1 in
-    let e : n ≡ suc m = omega (arith, c.requires.some) in
+    let e : n ≡ suc m = omega (arith, c.requires.in_scale.some) in
     let d = c.args.q * c.len-n.result in
     let parts = all_parts c.args.amounts.now in
     let amounts = all_positive c.args.amounts.now c.requires.amounts in
     let d_is : d ≡ c.args.q * suc m = ap (λ t. c.args.q * t) (c.len-n.ensures ∙ x.low.ok.0 ∙ e) in
-    let low_n : length y.low.items ≡ suc m = shift_down.cells ∙ ap (λ v. length v.items) told.same_low ∙ e in
+    let low_n : length y.low.items ≡ suc m = shift_down.cells ∙ ap (λ v. length v.items) told.same.low ∙ e in
     let high_n : length y.high.items ≡ suc m = shift_down.sound.alike ∙ low_n in
     let len : length (y.low.items ++ lo ∷ []) ≡ suc (suc m) = simp length-append (omega (arith, low_n)) in
     let runs = c.args.amounts.now.runs.items in
@@ -66,9 +62,9 @@ returns c =
     let one_less : length (y.low.items ++ lo ∷ []) - 1 ≡ length y.low.items = omega (arith, len, low_n) in
     record {
       in_scale = record {
-        sound = rw (low_pushed, high_pushed) (cells_pushed y.low.items y.high.items y.first lo hi shift_down.sound shift_down.within
+        sound = rw (low_pushed, high_pushed) (cells_pushed y.low.items y.high.items y.first lo hi shift_down.sound
             (omega (arith, shift_down.order, shift_down.small)) shift_down.small);
-        within = rw low_pushed (omega (arith, len, low_n, shift_down.within));
+        some = rw low_pushed (omega (arith, len));
         windows = rw (low_pushed, high_pushed, one_less)
             (windows_grown runs y.low.items y.high.items lo hi y.windows.items shift_down.sound.alike
             c.requires.amounts.runs fit windows);
@@ -78,19 +74,19 @@ returns c =
         ];
       };
       cells = rw low_pushed (omega (arith, len, e));
-      shift = omega (arith, shift_down.shift, told.same_shift);
+      shift = omega (arith, shift_down.shift, told.same.shift);
       round = λ r F R.
           let Q : EncloseScaled r x.shift (suc m) x.low.items x.high.items =
           rw (← e) R in
           let Z : EncloseScaled r z.shift (suc m) z.low.items z.high.items =
-          rw (told.same_shift, told.same_low, told.same_high) Q in
+          rw (told.same.shift, told.same.low, told.same.high) Q in
           let below : whole (c.divided.result.low * 2 ^ z.shift) ≤ℚ whole (2 ^ 61) *ℚ r (suc m) =
-          rw (c.divided.ensures.low, told.same_shift)
-          (next_low parts c.args.a c.args.b c.args.q r amounts c.requires.divisor F x.shift m x.low.items x.high.items
+          rw (c.divided.ensures.low, told.same.shift)
+          (next_low parts c.args.a c.args.b c.args.q r amounts c.requires.room.divisor F x.shift m x.low.items x.high.items
           Q d _ d_is lo_sum) in
           let above : whole (2 ^ 61) *ℚ r (suc m) ≤ℚ whole (c.divided.result.high * 2 ^ z.shift) =
-          rw (c.divided.ensures.high, told.same_shift)
-          (next_high parts c.args.a c.args.b c.args.q r amounts c.requires.divisor F x.shift m x.low.items x.high.items
+          rw (c.divided.ensures.high, told.same.shift)
+          (next_high parts c.args.a c.args.b c.args.q r amounts c.requires.room.divisor F x.shift m x.low.items x.high.items
           Q d _ d_is hi_sum) in
           rw (low_pushed, high_pushed, len)
           (pushed r y.shift (suc m) y.low.items y.high.items lo hi low_n high_n (shift_down.round r (suc m) Z)

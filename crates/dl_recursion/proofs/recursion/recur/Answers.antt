@@ -1,7 +1,7 @@
-use Rattle.std.proofs.Math.Nat.{le_of_lt, lt_of_le_of_lt}
+use Rattle.std.proofs.Math.Nat.{le_of_lt}
 use Rattle.std.proofs.Math.Numerals.{lt-add-one}
-use Rattle.dl_recursion.proofs.Common.{◌≡◌, ◌+◌, ◌-◌, ◌*◌, ◌^◌, ◌≤◌, length, arith, refl, ap, ◌∙◌, mul-pos, mul-le-mul_left, mul-le-mul_right, flat_map, all_parts, run_parts, Part, part_sum, AreFalling, AreLast}
-use Rattle.dl_recursion.proofs.Contributions.{share_room}
+use Rattle.dl_recursion.proofs.Common.{◌≡◌, ◌+◌, ◌-◌, ◌*◌, ◌^◌, ◌≤◌, length, arith, refl, ap, ◌∙◌, mul-pos, flat_map, all_parts, run_parts, Part, part_sum, AreFalling, AreLast}
+use Rattle.dl_recursion.proofs.Contributions.{share_room, room_before}
 use Rattle.dl_recursion.proofs.Grow.{begun, begun_in_scale, shift_room}
 use Rattle.dl_recursion.proofs.Runs.{all_positive, all_left}
 use Rattle.dl_recursion.proofs.recursion.recur.Goals as goal
@@ -9,7 +9,7 @@ use Rattle.dl_recursion.proofs.recursion.recur.Goals as goal
 pub reach_of-reach-requires-clause-room : goal.reach_of-reach-requires-clause-room
 reach_of-reach-requires-clause-room c =
     share_room ((c.args.a + c.args.b) * c.args.cells) (part_sum (all_parts c.args.amounts.now)) (2 ^ 64)
-    (mul-pos c.requires.some_step c.requires.some) c.requires.weights
+    (mul-pos c.requires.some_step c.requires.some) c.requires.room.room.weights
 
 pub cells-init : goal.cells-init
 cells-init c =
@@ -21,18 +21,10 @@ cells-init c =
       round = λ r F. rw (e.low, e.high, e.shift) (begun r F.start);
     }
 
-pub is_falling-requires-clause-steps : goal.is_falling-requires-clause-steps
-is_falling-requires-clause-steps c =
-    lt_of_le_of_lt (mul-le-mul_left (c.args.a + c.args.b) (le_of_lt c.cells-test.true)) c.requires.steps
-
-pub is_falling-requires-clause-weights : goal.is_falling-requires-clause-weights
-is_falling-requires-clause-weights c =
-    rw c.reach_of-reach.ensures.weight (lt_of_le_of_lt (mul-le-mul_right (part_sum (all_parts c.args.amounts.now))
-    (mul-le-mul_left (c.args.a + c.args.b) (le_of_lt c.cells-test.true))) c.requires.weights)
-
-pub is_falling-requires-clause-divisors : goal.is_falling-requires-clause-divisors
-is_falling-requires-clause-divisors c =
-    lt_of_le_of_lt (mul-le-mul_left c.args.q (le_of_lt c.cells-test.true)) c.requires.divisors
+pub is_falling-requires : goal.is_falling-requires
+is_falling-requires c = record {
+  room = rw c.reach_of-reach.ensures.weight (room_before c.requires.room (le_of_lt c.cells-test.true));
+}
 
 pub overflow_sub-n : goal.overflow_sub-n
 overflow_sub-n c = c.if-is_falling.ensures.within refl
@@ -46,26 +38,12 @@ fill-requires-clause-some c = rw c.cells.invariant.count c.cells.auto.n
 pub fill-requires-clause-few : goal.fill-requires-clause-few
 fill-requires-clause-few c = rw c.cells.invariant.count (le_of_lt c.cells-test.true)
 
-pub grow-requires-clause-some : goal.grow-requires-clause-some
-grow-requires-clause-some c = rw c.cells.invariant.count c.cells.auto.n
+pub grow-requires-clause-shift : goal.grow-requires-clause-shift
+grow-requires-clause-shift c = shift_room c.cells.x.shift c.cells.n c.args.cells c.cells.invariant.shift c.cells-test.true c.requires.few
 
 pub grow-requires-clause-room : goal.grow-requires-clause-room
-grow-requires-clause-room c = shift_room c.cells.x.shift c.cells.n c.args.cells c.cells.invariant.shift c.cells-test.true c.requires.few
-
-pub grow-requires-clause-steps : goal.grow-requires-clause-steps
-grow-requires-clause-steps c =
-    rw c.cells.invariant.count
-    (lt_of_le_of_lt (mul-le-mul_left (c.args.a + c.args.b) (le_of_lt c.cells-test.true)) c.requires.steps)
-
-pub grow-requires-clause-weights : goal.grow-requires-clause-weights
-grow-requires-clause-weights c =
-    rw c.cells.invariant.count (lt_of_le_of_lt (mul-le-mul_right (part_sum (all_parts c.args.amounts.now))
-    (mul-le-mul_left (c.args.a + c.args.b) (le_of_lt c.cells-test.true))) c.requires.weights)
-
-pub grow-requires-clause-divisors : goal.grow-requires-clause-divisors
-grow-requires-clause-divisors c =
-    rw c.cells.invariant.count
-    (lt_of_le_of_lt (mul-le-mul_left c.args.q (le_of_lt c.cells-test.true)) c.requires.divisors)
+grow-requires-clause-room c =
+    rw c.cells.invariant.count (room_before c.requires.room (le_of_lt c.cells-test.true))
 
 pub index-requires : goal.index-requires
 index-requires c =
@@ -123,5 +101,5 @@ returns-then-is_falling c =
       sound = e.sound;
       round = λ r F.
           e.round (all_parts amounts) c.args.a c.args.b c.args.q reach.amount r falling last
-          (all_positive amounts c.requires.amounts) c.requires.divisor F (i.round r F);
+          (all_positive amounts c.requires.amounts) c.requires.room.divisor F (i.round r F);
     }

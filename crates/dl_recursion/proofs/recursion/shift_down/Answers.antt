@@ -19,7 +19,6 @@ loop-k-preserved c =
           let e = told.shifted in
           rw (w.low-is, w.high-is, w.x-is, e.shift) (record {
             sound = e.sound;
-            within = e.within;
             windows = λ runs s h. rw told.windows (no_windows runs _ _ s);
             all_or_none = rw told.windows (inr refl);
             cells = e.cells ∙ i.cells;
@@ -32,7 +31,6 @@ loop-k-preserved c =
       | else-high-gt-MOST_END w ↦
           rw (w.low-is, w.high-is, w.x-is) (record {
             sound = i.sound;
-            within = i.within;
             windows = i.windows;
             all_or_none = i.all_or_none;
             cells = i.cells;

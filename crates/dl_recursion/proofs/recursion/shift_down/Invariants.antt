@@ -4,7 +4,6 @@ use Rattle.dl_recursion.proofs.recursion.shift_down.Given as goal
 abbrev pub invariant-loop-k : goal.invariant-loop-k
 invariant-loop-k l = record {
   sound : AreScaledCells l.x.low.items l.x.high.items l.x.first;
-  within : l.x.first ≤ length l.x.low.items;
   windows : (runs : List Run) (s : ℕ)
       → AreWindows runs l.initial.x.low.items l.initial.x.high.items s l.initial.x.windows.items
       → AreWindows runs l.x.low.items l.x.high.items s l.x.windows.items;

@@ -15,9 +15,8 @@ cells-preserved c =
     let start : length c.args.x.now.low.items ≤ c.cells.n =
     omega (arith, c.cells.auto.n, c.len-n.ensures, c.args.x.now.low.ok.0) in
     record {
-      sound = rw (low_pushed, high_pushed) (cells_pushed x.low.items x.high.items x.first 0 h i.sound i.within (omega arith)
+      sound = rw (low_pushed, high_pushed) (cells_pushed x.low.items x.high.items x.first 0 h i.sound (omega arith)
           c.requires.small);
-      within = rw low_pushed (omega (arith, more, i.within, i.count));
       count = rw low_pushed more;
       shift = i.shift;
       last = λ top l. rw high_pushed (last_pushed x.high.items c.cells.n top h high_n (i.last top l));

@@ -1,10 +1,9 @@
-use Rattle.dl_recursion.proofs.Common.{◌≡◌, ℕ, ◌-◌, ◌<◌, ◌≤◌, List, length, All, Fraction, Part, AreScaledCells, AreFalling, AreLast, FollowsInWhole, EncloseScaled}
+use Rattle.dl_recursion.proofs.Common.{◌≡◌, ℕ, ◌-◌, ◌<◌, List, length, All, Fraction, Part, AreScaledCells, AreFalling, AreLast, FollowsInWhole, EncloseScaled}
 use Rattle.dl_recursion.proofs.rest.fill.Given as goal
 
 abbrev pub invariant-cells : goal.invariant-cells
 invariant-cells l = record {
   sound : AreScaledCells l.x.low.items l.x.high.items l.x.first;
-  within : l.x.first ≤ length l.x.low.items;
   count : length l.x.low.items ≡ l.n;
   shift : l.x.shift ≡ l.initial.x.shift;
   last : (top : ℕ) → AreLast l.initial.x.high.items (length l.initial.x.low.items - top) l.high

@@ -6,8 +6,8 @@ use Rattle.dl_model.proofs.FiniteCounts.{power_one}
 pub returns-then-n-eq1-clause-holds : goal.returns-then-n-eq1-clause-holds
 returns-then-n-eq1-clause-holds t c w h = rw (c.if-n-eq1.true, power_one w) h
 
-pub times-square-requires-clause-room : goal.times-square-requires-clause-room
-times-square-requires-clause-room t c = grind (arith, mul-le-mul_right c.args.x.exponent (div-mul-le_self c.args.n 2))
+pub times-square-requires : goal.times-square-requires
+times-square-requires t c = record { room = grind (arith, mul-le-mul_right c.args.x.exponent (div-mul-le_self c.args.n 2)) }
 
 pub returns-then-n-eq0-clause-room : goal.returns-then-n-eq0-clause-room
 returns-then-n-eq0-clause-room t c = grind (arith, mul-le-mul_right c.args.x.exponent (div-mul-le_self c.args.n 2))

@@ -13,7 +13,7 @@ runs-preserved c =
           c.runs-test.true i.windows
           (record {
             low_window = c.window_of.ensures;
-            high_window = rw (← c.requires.alike) c.window_of-in-runs.ensures;
+            high_window = rw (← c.requires.ends.alike) c.window_of-in-runs.ensures;
           });
       count = simp length-append (omega (arith, i.count));
     })

@@ -1,6 +1,7 @@
 use Rattle.std.proofs.lemmas.Bool.Decides.{nat_tests}
-use Rattle.dl_recursion.proofs.Common.{◌≡◌, ℕ, ◌+◌, ◌*◌, ◌^◌, ◌<◌, ◌≤◌, List, [], ◌∷◌, ◌++◌, length, get_or, arith, refl, ap, sum_by, flat_map, sum_by-append, inl, inr, ◌∙◌, Part, Run, run_parts, all_parts, part_sum, contribution, append-nil}
+use Rattle.dl_recursion.proofs.Common.{◌≡◌, ℕ, ◌+◌, ◌^◌, ◌≤◌, List, [], ◌∷◌, ◌++◌, length, get_or, arith, refl, sum_by, flat_map, sum_by-append, inl, inr, ◌∙◌, Part, Run, run_parts, all_parts, part_sum, HasRoom, contribution, append-nil}
 use Rattle.dl_recursion.specs.declared.parts.Amounts.{Amounts}
+use Rattle.dl_recursion.proofs.Contributions.{room_part}
 use Rattle.dl_recursion.proofs.Runs.{contributions_top}
 use Rattle.dl_recursion.proofs.sums.contributions.Goals as goal
 
@@ -12,27 +13,23 @@ no_runs f parts (r ∷ rs) e = absurd (omega (arith, e))
 
 -- what the amounts alone and the runs give together
 top : (a b s : ℕ) (cells : List ℕ) (amounts : Amounts) → ((k : ℕ) → get_or cells k 0 ≤ 2 ^ 62)
-    → (a + b) * s * part_sum (all_parts amounts) < 2 ^ 64
+    → HasRoom a b (part_sum (all_parts amounts)) s
     → sum_by (contribution a b cells s) amounts.parts.items + sum_by (contribution a b cells s)
     (flat_map run_parts amounts.runs.items) ≤ 2 ^ 126
-top a b s cells amounts small room = rw (← sum_by-append) (contributions_top a b s cells small (all_parts amounts) room)
+top a b s cells amounts small room = rw (← sum_by-append) (contributions_top a b s cells small (all_parts amounts) room.weights)
 
--- each of the two alone has room
-first_room : (k : ℕ) (xs ys : List Part) → k * part_sum (xs ++ ys) < 2 ^ 64 → k * part_sum xs < 2 ^ 64
-first_room k xs ys h = omega (arith, h, ap (λ t. k * t) (sum_by-append (λ (p : Part). p.weight) xs ys))
-
-second_room : (k : ℕ) (xs ys : List Part) → k * part_sum (xs ++ ys) < 2 ^ 64 → k * part_sum ys < 2 ^ 64
-second_room k xs ys h = omega (arith, h, ap (λ t. k * t) (sum_by-append (λ (p : Part). p.weight) xs ys))
+-- the weights of all amounts are those of the amounts alone and those of the runs
+both : (amounts : Amounts)
+    → part_sum (all_parts amounts) ≡ part_sum amounts.parts.items + part_sum (flat_map run_parts amounts.runs.items)
+both amounts = sum_by-append (λ (p : Part). p.weight) amounts.parts.items (flat_map run_parts amounts.runs.items)
 
 pub alone-alone-requires-clause-room : goal.alone-alone-requires-clause-room
 alone-alone-requires-clause-room c =
-    rw (c.as_slice.ensures.value, c.deref.ensures.value)
-    (first_room _ c.args.amounts.now.parts.items (flat_map run_parts c.args.amounts.now.runs.items) c.requires.room)
+    rw (c.as_slice.ensures.value, c.deref.ensures.value) (room_part c.requires.room (omega (arith, both c.args.amounts.now)))
 
 pub together-requires-clause-room : goal.together-requires-clause-room
 together-requires-clause-room c =
-    rw c.deref-2.ensures.value
-    (second_room _ c.args.amounts.now.parts.items (flat_map run_parts c.args.amounts.now.runs.items) c.requires.room)
+    rw c.deref-2.ensures.value (room_part c.requires.room (omega (arith, both c.args.amounts.now)))
 
 pub overflow_add-result : goal.overflow_add-result
 overflow_add-result c =
@@ -78,10 +75,7 @@ returns-then-is_empty c =
       );
       windows = λ k run d l. absurd (omega (arith, l, each, none));
       each_run = each;
-      same_low = refl;
-      same_high = refl;
-      same_first = refl;
-      same_shift = refl;
+      same = record { low = refl; high = refl; first = refl; shift = refl };
     }
 
 pub returns : goal.returns
@@ -107,8 +101,5 @@ returns c =
       );
       windows = rw c.deref-2.ensures.value at e.windows;
       each_run = rw c.deref-2.ensures.value at e.each_run;
-      same_low = e.same_low;
-      same_high = e.same_high;
-      same_first = e.same_first;
-      same_shift = e.same_shift;
+      same = e.same;
     }

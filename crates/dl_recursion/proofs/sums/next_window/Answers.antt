@@ -5,7 +5,7 @@ use Rattle.dl_recursion.proofs.sums.next_window.Goals as goal
 pub overflow_add-result : goal.overflow_add-result
 overflow_add-result c = omega (
   arith,
-  window_cells_le c.args.cells.now _ c.args.run c.args.last c.requires.small (omega (arith, c.requires.end)) c.requires.last,
+  window_cells_le c.args.cells.now _ c.args.run c.args.last c.requires.small (omega (arith, c.requires.run.end)) c.requires.last,
   before_small c.args.cells.now (length c.args.cells.now) c.args.run.amount (2 ^ 62) c.requires.small,
 )
 
@@ -16,8 +16,8 @@ overflow_sub-result c =
 pub overflow_add-result-2 : goal.overflow_add-result-2
 overflow_add-result-2 c = omega (
   arith,
-  window_cells_le c.args.cells.now _ c.args.run c.args.last c.requires.small (omega (arith, c.requires.end)) c.requires.last,
-  window_steps_le c.args.cells.now _ c.args.run c.args.last c.requires.small (omega (arith, c.requires.end)) c.requires.last,
+  window_cells_le c.args.cells.now _ c.args.run c.args.last c.requires.small (omega (arith, c.requires.run.end)) c.requires.last,
+  window_steps_le c.args.cells.now _ c.args.run c.args.last c.requires.small (omega (arith, c.requires.run.end)) c.requires.last,
 )
 
 pub overflow_sub-result-2 : goal.overflow_sub-result-2

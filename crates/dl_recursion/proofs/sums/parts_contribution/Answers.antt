@@ -1,7 +1,6 @@
-use Rattle.std.proofs.Math.Nat.{lt_of_le_of_lt}
 use Rattle.std.proofs.lemmas.List.Sums.{get_or-le-sum_by}
-use Rattle.dl_recursion.proofs.Common.{◌+◌, ◌*◌, length, sym, ◌∙◌, mul-le-mul_left, take_all, Part}
-use Rattle.dl_recursion.proofs.Contributions.{is_within, next_none, next_added}
+use Rattle.dl_recursion.proofs.Common.{length, sym, ◌∙◌, take_all, Part}
+use Rattle.dl_recursion.proofs.Contributions.{room_part, is_within, next_none, next_added}
 use Rattle.dl_recursion.proofs.Runs.{next_fits}
 use Rattle.dl_recursion.proofs.sums.parts_contribution.Goals as goal
 
@@ -28,13 +27,13 @@ loop-part-preserved g c = record {
 
 pub contribution-low_sum-requires-clause-room : goal.contribution-low_sum-requires-clause-room
 contribution-low_sum-requires-clause-room g c =
-    lt_of_le_of_lt (mul-le-mul_left ((c.args.a + c.args.b) * length c.args.low.now)
-    (get_or-le-sum_by (λ (p : Part). p.weight) c.args.parts.now c.loop-part.part-index _ c.loop-part-test.true)) c.requires.room
+    room_part c.requires.room
+    (get_or-le-sum_by (λ (p : Part). p.weight) c.args.parts.now c.loop-part.part-index _ c.loop-part-test.true)
 
 pub contribution-high_sum-requires-clause-room : goal.contribution-high_sum-requires-clause-room
 contribution-high_sum-requires-clause-room g c =
-    lt_of_le_of_lt (mul-le-mul_left ((c.args.a + c.args.b) * length c.args.low.now)
-    (get_or-le-sum_by (λ (p : Part). p.weight) c.args.parts.now c.loop-part.part-index _ c.loop-part-test.true)) c.requires.room
+    room_part c.requires.room
+    (get_or-le-sum_by (λ (p : Part). p.weight) c.args.parts.now c.loop-part.part-index _ c.loop-part-test.true)
 
 pub contribution-low_sum-requires-clause-amount : goal.contribution-low_sum-requires-clause-amount
 contribution-low_sum-requires-clause-amount g c = c.requires.amounts _ _ c.loop-part-test.true
@@ -50,18 +49,18 @@ contribution-high_sum-requires-clause-within g c = is_within _ _ (sym c.is_above
 
 pub overflow_add-low_sum : goal.overflow_add-low_sum
 overflow_add-low_sum g c = record {
-  fits = next_fits c.args.a c.args.b (length c.args.low.now) c.args.low.now c.requires.low_small c.args.parts.now
-      c.loop-part.part-index _ c.loop-part-test.true c.requires.room c.loop-part.low_sum _ c.loop-part.invariant.low c.contribution-low_sum.ensures;
+  fits = next_fits c.args.a c.args.b (length c.args.low.now) c.args.low.now c.requires.ends.low_small c.args.parts.now
+      c.loop-part.part-index _ c.loop-part-test.true c.requires.room.weights c.loop-part.low_sum _ c.loop-part.invariant.low c.contribution-low_sum.ensures;
 }
 
 pub overflow_add-high_sum : goal.overflow_add-high_sum
 overflow_add-high_sum g c = record {
-  fits = next_fits c.args.a c.args.b (length c.args.low.now) c.args.high.now c.requires.high_small c.args.parts.now
-      c.loop-part.part-index _ c.loop-part-test.true c.requires.room c.loop-part.high_sum _ c.loop-part.invariant.high c.contribution-high_sum.ensures;
+  fits = next_fits c.args.a c.args.b (length c.args.low.now) c.args.high.now c.requires.ends.high_small c.args.parts.now
+      c.loop-part.part-index _ c.loop-part-test.true c.requires.room.weights c.loop-part.high_sum _ c.loop-part.invariant.high c.contribution-high_sum.ensures;
 }
 
 pub returns-clause-low : goal.returns-clause-low
 returns-clause-low g c = rw (take_all _ _ c.loop-part-test.false) at c.loop-part.invariant.low
 
 pub returns-clause-high : goal.returns-clause-high
-returns-clause-high g c = rw c.requires.alike (rw (take_all _ _ c.loop-part-test.false) at c.loop-part.invariant.high)
+returns-clause-high g c = rw c.requires.ends.alike (rw (take_all _ _ c.loop-part-test.false) at c.loop-part.invariant.high)

@@ -10,7 +10,7 @@ pub overflow_mul-factor-3 : goal.overflow_mul-factor-3
 overflow_mul-factor-3 c = omega (
   arith,
   factor_le c.args.a c.args.b (length c.args.cells.now) c.args.run.amount c.args.run.weight c.if-run-s.false,
-  weight_room c.args.a c.args.b (length c.args.cells.now) c.args.run c.requires.count c.requires.room,
+  weight_room c.args.a c.args.b (length c.args.cells.now) c.args.run c.requires.run.count c.requires.room.weights,
 )
 
 pub overflow_mul-step : goal.overflow_mul-step
@@ -18,12 +18,12 @@ overflow_mul-step c =
     let a = c.args.a in
     let b = c.args.b in
     let s = length c.args.cells.now in
-    let some : 0 < s = omega (arith, c.requires.amount, c.if-run-s.false) in
+    let some : 0 < s = omega (arith, c.requires.run.amount, c.if-run-s.false) in
     let step : b ≤ (a + b) * s = omega (arith, mul-le-mul_left b some) in
     omega (
       arith,
       mul-le-mul_right c.args.run.weight step,
-      weight_room a b s c.args.run c.requires.count c.requires.room,
+      weight_room a b s c.args.run c.requires.run.count c.requires.room.weights,
     )
 
 -- both products together
@@ -40,14 +40,14 @@ pub overflow_mul-result : goal.overflow_mul-result
 overflow_mul-result c = omega (
   arith,
   ap (λ x. x * c.args.window.cells) c.from.ensures,
-  products_le c.args.a c.args.b c.args.cells.now c.args.run c.args.window c.requires.small c.requires.room c.requires.window,
+  products_le c.args.a c.args.b c.args.cells.now c.args.run c.args.window c.requires.small c.requires.room.weights c.requires.window,
 )
 
 pub overflow_mul-result-2 : goal.overflow_mul-result-2
 overflow_mul-result-2 c = omega (
   arith,
   ap (λ x. x * c.args.window.steps) c.from-2.ensures,
-  products_le c.args.a c.args.b c.args.cells.now c.args.run c.args.window c.requires.small c.requires.room c.requires.window,
+  products_le c.args.a c.args.b c.args.cells.now c.args.run c.args.window c.requires.small c.requires.room.weights c.requires.window,
 )
 
 pub overflow_add-result : goal.overflow_add-result
@@ -55,7 +55,7 @@ overflow_add-result c = omega (
   arith,
   ap (λ x. x * c.args.window.cells) c.from.ensures,
   ap (λ x. x * c.args.window.steps) c.from-2.ensures,
-  products_le c.args.a c.args.b c.args.cells.now c.args.run c.args.window c.requires.small c.requires.room c.requires.window,
+  products_le c.args.a c.args.b c.args.cells.now c.args.run c.args.window c.requires.small c.requires.room.weights c.requires.window,
 )
 
 pub returns : goal.returns

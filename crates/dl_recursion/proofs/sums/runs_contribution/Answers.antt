@@ -1,6 +1,7 @@
 use Rattle.std.proofs.Math.Nat.{lt_of_le_of_lt}
-use Rattle.dl_recursion.proofs.Common.{◌+◌, ◌*◌, ◌<◌, length, get_or, arith, refl, AreWindow, Run, Windows, contribution, get_or_default, get_or-set_other, length-set}
-use Rattle.dl_recursion.proofs.Runs.{runs_more, run_fits, run_room}
+use Rattle.dl_recursion.proofs.Common.{◌<◌, length, get_or, arith, refl, AreWindow, Run, Windows, contribution, get_or_default, get_or-set_other, length-set}
+use Rattle.dl_recursion.proofs.Contributions.{room_part}
+use Rattle.dl_recursion.proofs.Runs.{runs_more, run_le, run_room}
 use Rattle.dl_recursion.proofs.Windows.{placed}
 use Rattle.dl_recursion.proofs.sums.runs_contribution.Goals as goal
 
@@ -19,30 +20,30 @@ next_window-requires-clause-last c =
 
 pub next_window-requires-in-loop-i-clause-last : goal.next_window-requires-in-loop-i-clause-last
 next_window-requires-in-loop-i-clause-last c =
-    rw c.requires.alike
+    rw c.requires.ends.alike
     (c.loop-i.invariant.rest c.loop-i.i _ _ (omega arith) (omega (arith, c.loop-i.invariant.each_run, c.loop-i-test.true))).high_window
 
 pub run_contribution-low_sum-requires-clause-room : goal.run_contribution-low_sum-requires-clause-room
 run_contribution-low_sum-requires-clause-room c =
-    run_fits ((c.args.a + c.args.b) * length c.args.low.now) c.args.runs.now c.loop-i.i _ c.loop-i-test.true c.requires.room
+    room_part c.requires.room (run_le c.args.runs.now c.loop-i.i _ c.loop-i-test.true)
 
 pub overflow_add-low_sum : goal.overflow_add-low_sum
 overflow_add-low_sum c = record {
-  fits = lt_of_le_of_lt (run_room c.args.a c.args.b (length c.args.low.now) c.args.low.now c.requires.low_small c.args.runs.now
-      c.loop-i.i _ c.loop-i-test.true c.requires.room c.loop-i.low_sum _ c.loop-i.invariant.low
+  fits = lt_of_le_of_lt (run_room c.args.a c.args.b (length c.args.low.now) c.args.low.now c.requires.ends.low_small c.args.runs.now
+      c.loop-i.i _ c.loop-i-test.true c.requires.room.weights c.loop-i.low_sum _ c.loop-i.invariant.low
       c.run_contribution-low_sum.ensures) (omega arith);
 }
 
 pub run_contribution-high_sum-requires-clause-room : goal.run_contribution-high_sum-requires-clause-room
 run_contribution-high_sum-requires-clause-room c =
-    rw c.requires.alike
-    (run_fits ((c.args.a + c.args.b) * length c.args.low.now) c.args.runs.now c.loop-i.i _ c.loop-i-test.true c.requires.room)
+    rw c.requires.ends.alike
+    (room_part c.requires.room (run_le c.args.runs.now c.loop-i.i _ c.loop-i-test.true))
 
 pub overflow_add-high_sum : goal.overflow_add-high_sum
 overflow_add-high_sum c = record {
-  fits = lt_of_le_of_lt (run_room c.args.a c.args.b (length c.args.low.now) c.args.high.now c.requires.high_small c.args.runs.now
-      c.loop-i.i _ c.loop-i-test.true c.requires.room c.loop-i.high_sum _ c.loop-i.invariant.high
-      (rw c.requires.alike at c.run_contribution-high_sum.ensures)) (omega arith);
+  fits = lt_of_le_of_lt (run_room c.args.a c.args.b (length c.args.low.now) c.args.high.now c.requires.ends.high_small c.args.runs.now
+      c.loop-i.i _ c.loop-i-test.true c.requires.room.weights c.loop-i.high_sum _ c.loop-i.invariant.high
+      (rw c.requires.ends.alike at c.run_contribution-high_sum.ensures)) (omega arith);
 }
 
 pub loop-i-preserved : goal.loop-i-preserved
@@ -58,7 +59,7 @@ loop-i-preserved c =
     let next : Windows = record { low = c.next_window.result; high = c.next_window-in-loop-i.result } in
     let within : at < length c.loop-i.windows = omega (arith, i.each_run, c.loop-i-test.true) in
     let here : AreWindow low high (length low) (get_or runs at d) next =
-    record { low_window = c.next_window.ensures; high_window = rw (← c.requires.alike) c.next_window-in-loop-i.ensures } in
+    record { low_window = c.next_window.ensures; high_window = rw (← c.requires.ends.alike) c.next_window-in-loop-i.ensures } in
     record {
       low = omega (
         arith,
@@ -69,7 +70,7 @@ loop-i-preserved c =
       high = omega (
         arith,
         i.high,
-        rw c.requires.alike at c.run_contribution-high_sum.ensures,
+        rw c.requires.ends.alike at c.run_contribution-high_sum.ensures,
         runs_more (contribution a b high (length low)) runs at d c.loop-i-test.true,
       );
       moved = λ k run e l.

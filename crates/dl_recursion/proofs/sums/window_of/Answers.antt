@@ -14,7 +14,7 @@ first_of run k = record { amount = run.amount; count = k; weight = 0 }
 pub overflow_add-sum : goal.overflow_add-sum
 overflow_add-sum c =
     let s = length c.args.cells.now - 1 in
-    let few : c.loop-k.k ≤ 2 ^ 32 = omega (arith, c.loop-k-test.true, c.min-reached.ensures, c.requires.end) in
+    let few : c.loop-k.k ≤ 2 ^ 32 = omega (arith, c.loop-k-test.true, c.min-reached.ensures, c.requires.run.end) in
     let most = window_cells_le c.args.cells.now s (first_of c.args.run c.loop-k.k) (record { cells = c.loop-k.sum; steps = c.loop-k.steps })
     c.requires.small few (record { cells = c.loop-k.invariant.cells; steps = c.loop-k.invariant.steps }) in
     omega (arith, most, before_small c.args.cells.now s (c.args.run.amount + c.loop-k.k) (2 ^ 62) c.requires.small)
@@ -22,7 +22,7 @@ overflow_add-sum c =
 pub overflow_add-steps : goal.overflow_add-steps
 overflow_add-steps c =
     let more = ap₂ (λ x y. x * y) c.from.ensures (c.from-end.ensures ∙ c.cell_before.ensures) in
-    let few : c.loop-k.k ≤ 2 ^ 32 = omega (arith, c.loop-k-test.true, c.min-reached.ensures, c.requires.end) in
+    let few : c.loop-k.k ≤ 2 ^ 32 = omega (arith, c.loop-k-test.true, c.min-reached.ensures, c.requires.run.end) in
     let most = window_steps_le c.args.cells.now (length c.args.cells.now - 1) (first_of c.args.run c.loop-k.k) (record { cells = c.loop-k.sum; steps = c.loop-k.steps })
     c.requires.small few (record { cells = c.loop-k.invariant.cells; steps = c.loop-k.invariant.steps }) in
     omega (

@@ -9,7 +9,7 @@ pub poisson_direct-requires : goal.poisson_direct-requires
 poisson_direct-requires g c =
     let small = rw (← c.thinned-mean.ensures) at (c.requires.valid.1.thinned (rw c.requires.count.1 tt)) in
     let none = no_zero c.args.sev.now c.in-Some.positive (c.in_ok-positive.ensures.means c.in-Some.positive c.in-Some.is) in
-    (omega arith, (c.requires.size, (none, (small.0.num, (small.0.den, small.1)))))
+    (omega arith, (c.requires.size, (none, (small.0, small.1))))
 
 pub returns-in-Some-kept_if_narrow : goal.returns-in-Some-kept_if_narrow
 returns-in-Some-kept_if_narrow g c =

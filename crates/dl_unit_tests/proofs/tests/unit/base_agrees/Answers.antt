@@ -15,4 +15,4 @@ poisson_base-requires g c =
     let num : c.fraction.result.num < 2 ^ 48 = omega (arith, c.fraction.ensures.num) in
     let den : c.fraction.result.den < 2 ^ 48 = omega (arith, c.fraction.ensures.den) in
     let half = half_of c.fraction.result c.fraction.ensures.value in
-    (omega arith, (size, (num, (den, (omega arith, (half, search rules))))))
+    (omega arith, (size, (record { num = num; den = den }, (omega arith, (half, search rules)))))
