@@ -21,7 +21,7 @@ from random_calls import call
 
 HERE = pathlib.Path(__file__).resolve().parent
 CALLS = 500
-STANDARD = set("bisect collections fractions functools itertools json math opinion re sys typing".split())
+STANDARD = set("bisect collections decimal fractions functools itertools json math opinion re sys typing".split())
 DIE, DICE, TENTH = "agg D dfreq [1] dsev [1:6]", "agg D dfreq [2] dsev [1:6]", "agg D dfreq [1] dsev [1:10]"
 PAIR = "port T agg A dfreq [1] dsev [1:3] agg B dfreq [1] dsev [1:3] [1/2 1/6 1/3]"
 TENTHS = "agg D dfreq [1] dsev [0 1] [0.9 0.1]"

@@ -50,7 +50,7 @@ def is_priced(word):
     return terms if sum(weight for weight, _ in terms) == 1 and common <= 1_000_000 else None
 
 
-def asked(word, rules):
+def asked(word, rules="standard"):
     """An ask in its parts, or None. By the extended rules `cotail` is a `share`, whose level is spelled as that of the tail mean."""
     found = next((match for match in (pattern.fullmatch(word) for pattern in ASKS) if match), None)
     if not found:

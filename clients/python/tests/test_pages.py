@@ -201,7 +201,7 @@ class Pages(Case):
         self.assertEqual([(run[0], run[-1]) for run in runs], [("1", "20000")])
         self.assertLessEqual({"1", "2", "3", "3.5", "5", "10", "250", "20000"}, set(runs[0]))
         told = html.unescape(re.sub(r"<[^>]*>", "", drawn))
-        self.assertIn("At 2, 5, 10 and 10,000 to 20,000 years the shares are those of the program's extended rules (`--rules extended`)", told)
+        self.assertIn("At 2, 5, 10 and 10,000 to 20,000 years the shares are those of the program's extended rules (--rules extended), since", told)
         self.assertNotIn("No share is drawn", told)
         low, high = re.search(r'data-ask="cotail:A:0.5" data-rules="extended" data-low="(.*?)" data-high="(.*?)"', drawn).groups()
         self.assertTrue(Fraction(low) <= 8 <= Fraction(high) < Fraction(low) + Fraction(1, 1000))

@@ -6,7 +6,7 @@ from typing import TYPE_CHECKING, Dict, Iterable, List, Sequence, Tuple
 
 from .calls import Rules
 from .figures import decimals, plain
-from .levels import DIGITS, SHARE_DIGITS, one, two
+from .levels import DIGITS, SHARE_DIGITS, around, one, two
 from .reports import Row
 
 if TYPE_CHECKING:
@@ -16,7 +16,7 @@ if TYPE_CHECKING:
 def ask_of(book: "Book", unit: str, p: Fraction) -> Tuple[str, Rules]:
     """The ask for a share of a unit in the tail mean, and the rules by which it is asked first: the standard ones, but under a common factor
     and at a level of more digits than they take."""
-    low, high = two(p, SHARE_DIGITS)
+    low, high = around(p, SHARE_DIGITS)
     if book.plan.common is not None or low != high:
         return f"cotail:{unit}:{one(p, DIGITS, 'cotail')}", "extended"
     return f"cotail:{unit}:{one(p, SHARE_DIGITS, 'cotail')}", "standard"
