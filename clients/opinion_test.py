@@ -21,9 +21,10 @@ from random_calls import call
 
 HERE = pathlib.Path(__file__).resolve().parent
 CALLS = 500
-STANDARD = set("bisect collections fractions functools itertools json math opinion re sys typing".split())
+STANDARD = set("bisect collections decimal fractions functools itertools json math opinion re sys typing".split())
 DIE, DICE, TENTH = "agg D dfreq [1] dsev [1:6]", "agg D dfreq [2] dsev [1:6]", "agg D dfreq [1] dsev [1:10]"
 PAIR = "port T agg A dfreq [1] dsev [1:3] agg B dfreq [1] dsev [1:3] [1/2 1/6 1/3]"
+FACTOR = "port C common 0.5 agg A 1 claims dsev [1] poisson agg B 2 claims dsev [1] poisson"
 TENTHS = "agg D dfreq [1] dsev [0 1] [0.9 0.1]"
 SHARES = ["joint:A:4 0.722222 0.722223", "kappa:A:4 2.166666 2.166667", "cotail:A:0.8 2.703703 2.703704"]
 ROWS = ["pmf:3 0.166666 0.166667", "cdf:2 0.333333 0.333334", "mean 3.500000 3.500000"]
@@ -41,6 +42,10 @@ PLANTED = [
     ("run joint:A:4 kappa:A:4 cotail:A:0.8", PAIR, "\n".join([*SHARES, ""]), [
         ("0.722222", "0.722223"), ("2.166667", "2.166666"), ("2.703704", "2.703703"),
     ]),
+    ("run --rules extended --log2 4 cotail:A:0.8 cotail:A:0", FACTOR, "cotail:A:0.8 2.188934 2.188935\ncotail:A:0 1.000000 1.000000\n", [
+        ("2.188935", "2.188934"), ("2.188934", "2.188935"), ("1.000000 1.000000", "- -"), ("1.000000 1.000000", "beyond beyond"),
+    ]),
+    ("run cotail:A:0.8", FACTOR, "decl: ask 0: no share under a common factor\n", [("ask 0", "ask 1"), ("no share", "not a share")]),
     ("run --format csv pmf:3", DIE, "ask,low,high\npmf:3,0.166666,0.166667\n", [("0.166667", "0.166666")]),
     ("run --log2 4 --format json pmf:3", DIE, '{"bs":"1","cells":16,"rows":[{"ask":"pmf:3","high":"0.166667","low":"0.166666"}]}\n', [
         ("0.166666", "0.166667"), ('"cells":16', '"cells":17'),

@@ -187,8 +187,13 @@ def level(rng):
     return rng.choice((f"0.{rng.randint(0, 999):03}", f"{rng.randint(0, 99)}%", f"{rng.randint(0, 96)}/97", "0", ".5", "0.9", "0.99"))
 
 
-def asks(rng, names, cells):
-    """Some asks, which lie inside the grid but for a few."""
+def fine_level(rng):
+    """A probability below 1 of up to 9 digits as a word."""
+    return rng.choice((f".{rng.randrange(10**9):09}", f".999{rng.randrange(10**6):06}", f"{rng.randrange(10**9 - 63)}/{10**9 - 63}"))
+
+
+def asks(rng, names, cells, extended):
+    """Some asks, which lie inside the grid but for a few. By the extended rules some shares of the tail mean have finer levels."""
     far = cells + 2 if rng.random() < 0.01 else cells
     found = []
     for _ in range(rng.choice((1, 2, 3, 4, 6))):
@@ -202,12 +207,13 @@ def asks(rng, names, cells):
             weights = parts_of_one(rng, rng.choice((1, 2, 3)))
             found.append("price:" + "+".join(f"{weight.numerator}/{weight.denominator}@{level(rng)}" for weight in weights))
         else:
-            rest = {"mean": [], "q": [level(rng)], "tail": [level(rng)], "cotail": [name, level(rng)], "pmf": [x], "cdf": [x]}
+            p = fine_level(rng) if rng.random() < (0.5 if extended and kind == "cotail" else 0.01) else level(rng)
+            rest = {"mean": [], "q": [p], "tail": [p], "cotail": [name, p], "pmf": [x], "cdf": [x]}
             found.append(":".join(map(str, [kind, *rest.get(kind, [name, x])])))
     return found
 
 
-def options(rng, log2, bs):
+def options(rng, log2, bs, rules):
     """The options of a call."""
     found = [["--log2", str(log2)]] if log2 != 10 or rng.random() < 0.5 else []
     found += [["--bs", spelled(rng, bs)]] if bs != 1 or rng.random() < 0.1 else []
@@ -215,6 +221,8 @@ def options(rng, log2, bs):
     found += [["--width", str(rng.choice((1, 2, 10, 10**9)))]] if rng.random() < 0.3 else []
     found += [["--mwidth", str(rng.choice((1, 2, 1000, 10**12)))]] if rng.random() < 0.3 else []
     found += [["--format", rng.choice(("text", "csv", "json"))]] if rng.random() < 0.2 else []
+    found += [["--rules", rules]] if rules != "standard" or rng.random() < 0.05 else []
+    found += [["--rules", rng.choice(("standard", "extended", "wide", ""))]] if rng.random() < 0.002 else []
     rng.shuffle(found)
     return [word for option in found for word in ([f"{option[0]}={option[1]}"] if rng.random() < 0.2 else option)]
 
@@ -224,10 +232,12 @@ def call(rng):
     log2 = rng.choice((1, 2, 3, 4, 5, 5, 6, 6, 7)) if rng.random() < 0.97 else rng.choice((8, 9, 10, 13, 14, 15, 16))
     writer = Writer(rng, log2)
     text, names = writer.program()
-    words = ["run", *options(rng, log2, writer.bs), *asks(rng, names, 2**log2)]
+    rules = "extended" if rng.random() < 0.3 else "standard"
+    given, wanted = options(rng, log2, writer.bs, rules), asks(rng, names, 2**log2, rules == "extended")
+    words = ["run", *given, *wanted] if rng.random() < 0.9 else ["run", *wanted, *given]
     kind = rng.random()
     if kind < 0.06:
-        words = ["fmt"]
+        words = ["fmt"] if rng.random() < 0.99 else ["fmt", "--rules", rules]
     if 0.94 < kind < 0.943:
         words[1:1] = ["--make", str(rng.randrange(2**32))]
     if kind < 0.15:

@@ -4,8 +4,8 @@
     python3 clients/second_opinion.py PROGRAM REPORT [OPTION].. [ASK]..
 
 PROGRAM is the file of the text, and REPORT that of what decl wrote, or `-` for standard input: rows as text, CSV or JSON, or the message of a refusal, or with the
-one option --fmt the canonical text. The options are those of the call: --bs, --log2, --digits, --width, --mwidth; without --digits they
-are those of the rows. Asks are named only where REPORT is a refusal of one. There is a line for each row: `agrees`, `not: ..` or
+one option --fmt the canonical text. The options are those of the call: --bs, --log2, --digits, --width, --mwidth, --rules; without --digits
+they are those of the rows. Asks are named only where REPORT is a refusal of one. There is a line for each row: `agrees`, `not: ..` or
 `too large: ..`, and the row. A row agrees where an interval of its own, of at most a tenth of the last digit, meets the two ends, and these
 lie as close together as asked; a refusal where rule and place are the same. How much width an ask needs is worked by
 clients/widths.py, not here. The status is 0 only where all agree.

@@ -69,9 +69,9 @@ class Widths:
         """A binomial number of claims."""
         return self.power(3 * (items + 1), trials)
 
-    def needs(self, budget):
+    def needs(self, budget, digits=DIGITS):
         """The units of the last digit that a budget comes to, and one more."""
-        return 1 + ceil(Fraction(budget * 10**DIGITS, self.scale))
+        return 1 + ceil(Fraction(budget * 10**digits, self.scale))
 
     def joint(self, own, others):
         """The mean of a unit where the total is given."""
@@ -98,6 +98,12 @@ class Widths:
         """What a unit has of such a mean: its own mean, less those up to the quantile, and the part of the quantile itself."""
         below = joint + 2 * self.cells + self.cells * (total + 2)
         return ceil((mean + below + self.share(total, joint) + 4) / (1 - Fraction(p))) + 4
+
+    def whole_share(self, total, mean, joint, p, factor=False):
+        """By the extended rules, what a unit has of the mean above a quantile: its own mean, less those up to the quantile, and of the
+        quantile itself no more than there is of it; under a common factor the sums are rounded once."""
+        sums = 4 * joint + 6 * self.cells * total + (4 if factor else 8) * self.cells + 4
+        return ceil((mean + sums) / (1 - Fraction(p))) + 4
 
     def changed(self, own, none):
         """A unit whose probability of no claim, of this budget, is changed: at least 1/18 is left to divide by."""
@@ -158,7 +164,9 @@ def just_met():
     shared, pair = short.gamma(3, 4), short.joined(die, die)
     yield short, "--mwidth", "price:1/2@0+1/2@0.9", short.price(dice, 1, [("1/2", "0"), ("1/2", "0.9")])
     yield short, "--mwidth", "cotail:A:0.8", short.tail_share(pair, 1, short.joint(die, die), "0.8")
+    yield short, "--rules extended --mwidth", "cotail:A:0.8", short.whole_share(pair, 1, short.joint(die, die), "0.8")
     yield short, "--mwidth", "joint:A:2", short.shared_joint(3, 4, 1)
+    yield short, "--rules extended --mwidth", "cotail:A:0.9", short.whole_share(shared, 1, short.shared_joint(3, 4, 1), "0.9", True)
     yield short, "--mwidth", "kappa:A:2", short.share(shared, short.shared_joint(3, 4, 1))
     yield short, "--mwidth", "mean", short.changed_mean(1, 4096, none.binomial(1, 8192))
     yield long, "--width", "pmf:0", long.gamma(3, 4)
@@ -176,8 +184,20 @@ def without_options():
     yield short, "tail:2819257/2819258", short.tail(half, 1, "2819257/2819258"), True
 
 
+def at_a_rare_quantile():
+    """The words of a call with the width that it needs, in units of 3 digits: the share of one of two units of 1,000 values each, where
+    the total at the quantile is rarer than 1 in 65,536. It is refused for less, and its own width is met."""
+    plan, words = Widths(2048), "run --rules extended --log2 11 --digits 3"
+    own = plan.listed(1000, 1)
+    pair = plan.joined(own, own)
+    needed = plan.needs(plan.whole_share(pair, 1, plan.joint(own, own), ".999993"), 3)
+    yield f"{words} --mwidth {needed - 1} cotail:A:.999993", needed, True
+    yield f"{words} cotail:A:.999993", needed, False
+
+
 def expected():
     """The words of each call of calls.txt that these widths decide, with the width that its ask needs; and whether it is refused."""
+    yield from at_a_rare_quantile()
     for plan, budgets in (short_calls(), long_calls()):
         for words, budget in budgets.items():
             yield words_of(plan, words), plan.needs(budget), True

@@ -1,17 +1,21 @@
 """Probabilities of the amounts 0, 1, .. in whole numbers rounded outward, of which ONE make 1 (docs/DEFINITIONS.md, "Compound sums").
 
-Sums of independent amounts are products of two long whole numbers, in which the cells stand one behind the other.
+Sums of independent amounts are products of two long numbers, in whose digits the cells stand one behind the other.
 """
 
+import decimal
 import math
 from collections import namedtuple
 from fractions import Fraction
+from itertools import accumulate
 from typing import NamedTuple
 
-BITS = 192
-ONE = 1 << BITS
-WIDE = BITS // 4 + 1  # bytes of a cell in a long number: room for sums of products of two cells
+DIGITS = 80
+ONE = 10**DIGITS
+WIDE = 2 * DIGITS + 2  # digits of a cell in a long number: room for sums of products of two cells
+WHOLE = decimal.Context(decimal.MAX_PREC, Emin=decimal.MIN_EMIN, Emax=decimal.MAX_EMAX, traps=[decimal.Inexact])
 MOST_STEPS = 30_000_000  # products of cells that a unit may take
+OF_PRODUCT = 30  # such steps that a cell of a long product takes
 
 
 class TooLarge(Exception):
@@ -34,6 +38,11 @@ class Cells(NamedTuple):
     def ends(self, k):
         """The probability of an amount."""
         return Ends(Fraction(self.at(k), ONE), Fraction(self.at(k) + self.slack, ONE))
+
+    def up_to(self, cells):
+        """For each amount on so many cells the probability of at most it."""
+        sums = list(accumulate(self.low))
+        return Cells(sums + sums[-1:] * (cells - len(sums)), cells * self.slack)
 
 
 def exact(part):
@@ -64,16 +73,17 @@ def claim(severity, cells):
 
 
 def packed(low):
-    """The cells of a list one behind the other."""
-    return int.from_bytes(b"".join([cell.to_bytes(WIDE, "little") for cell in low]), "little")
+    """The cells of a list one behind the other, the first one last."""
+    return decimal.Decimal("".join([f"{cell:0{WIDE}}" for cell in reversed(low)]))
 
 
 def convolve(x, y, cells):
     """The first cells of the sum of two independent amounts. The low ends of each add up to at most ONE, so that a cell is too low by
     at most both slacks, their product for each cell, and one rounding."""
     length = min(cells, len(x.low) + len(y.low) - 1)
-    data = (packed(x.low) * packed(y.low)).to_bytes((len(x.low) + len(y.low)) * WIDE, "little")
-    low = [int.from_bytes(data[k * WIDE : (k + 1) * WIDE], "little") >> BITS for k in range(length)]
+    end = (len(x.low) + len(y.low)) * WIDE
+    data = f"{WHOLE.multiply(packed(x.low), packed(y.low)):f}".zfill(end)
+    low = [int(data[end - (k + 1) * WIDE : end - k * WIDE - DIGITS]) for k in range(length)]
     return Cells(trimmed(low), x.slack + y.slack + cells * x.slack * y.slack // ONE + 2)
 
 
@@ -86,7 +96,7 @@ def within_steps(steps, what):
 def power(x, times, cells):
     """The sum of so many independent amounts, by squaring."""
     reach = min(cells, times * (len(x.low) - 1) + 1)
-    within_steps((len(bin(times)) + bin(times).count("1") - 4) * reach**1.585, f"the sum of {times} claims")
+    within_steps((len(bin(times)) + bin(times).count("1") - 4) * reach * OF_PRODUCT, f"the sum of {times} claims")
     found = None if times else Cells([ONE], 0)
     while times:
         found = (convolve(found, x, cells) if found else x) if times % 2 else found
@@ -99,7 +109,7 @@ def listed(chances, severity, cells):
     """The sum of a listed number of claims: Horner's rule over the counts, which are dictionary keys with their probabilities."""
     x, most = claim(severity, cells), max(chances)
     reach = min(cells, most * (len(x.low) - 1) + 1)
-    within_steps(most * reach * min(reach, len(x.low)) ** 0.585, f"the sum of {most} listed claims")
+    within_steps(most * reach * OF_PRODUCT, f"the sum of {most} listed claims")
     found = Cells([exact(chances[most])], 1)
     for count in range(most - 1, -1, -1):
         found = convolve(found, x, cells)

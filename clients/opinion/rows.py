@@ -44,7 +44,7 @@ class Opinion:
                 self.text = texts.canonical(self.source)
             else:
                 self.book = Book(self.source, self.settings.bs, self.settings.cells)
-                self.asks = [words.asked(ask) for ask in self.settings.asks]
+                self.asks = [words.asked(ask, self.settings.rules) for ask in self.settings.asks]
                 self.look_at_asks()
         except Fault as fault:
             self.fault, self.status = f"decl: {fault}\n", fault.status
@@ -54,7 +54,7 @@ class Opinion:
         mean under a common factor."""
         faults = {
             "beyond the grid": self.is_beyond,
-            "no such unit": lambda kind, *rest: kind in ("joint", "kappa", "cotail") and rest[0] not in self.book.names,
+            "no such unit": lambda kind, *rest: kind in ("joint", "kappa", "cotail", "share") and rest[0] not in self.book.names,
             "no share under a common factor": lambda kind, *_: kind == "cotail" and self.book.shape,
         }
         for fault, has in faults.items():
@@ -82,7 +82,7 @@ class Opinion:
         try:
             if kind == "q":
                 return self.of_bracket(ask[1], low, high)
-            if (low, high) == ("beyond", "beyond") and kind in ("tail", "cotail", "price"):
+            if (low, high) == ("beyond", "beyond") and kind in ("tail", "cotail", "share", "price"):
                 return self.of_beyond([ask[-1]] if kind != "price" else [p for _, p in ask[1]])
             if (low, high) == ("-", "-") and kind in ("kappa", "cotail"):
                 return self.of_absent(ask)

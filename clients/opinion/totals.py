@@ -230,7 +230,7 @@ class Book:
     def sum_of(self, grids):
         """The sum of independent outcomes."""
         found = Cells([ONE], 0)
-        sums.within_steps(sum(len(grid.low) ** 1.585 for grid in grids) if len(grids) > 1 else 0, "the sum of the units")
+        sums.within_steps(len(grids) * self.cells * sums.OF_PRODUCT if len(grids) > 2 else 0, "the sum of the units")
         for grid in grids:
             found = sums.convolve(found, grid, self.cells)
         return found
@@ -241,52 +241,43 @@ class Book:
             self.kept[i] = self.sum_of(self.grids[:i] + self.grids[i + 1 :])
         return self.kept[i]
 
-    def joint(self, name, x):
-        """The mean of a unit's outcome where the total is `x`, and of 0 elsewhere. Under a common factor it is the expected count of
-        the unit times the mean amount of one claim, where the rest of the total comes from the raised unit."""
+    def joint(self, name, x, up_to=False):
+        """The mean of a unit's outcome where the total is `x`, or at most `x`, and of 0 elsewhere. Under a common factor it is the expected
+        count of the unit times the mean amount of one claim, where the rest of the total comes from the raised unit."""
         i = self.names.index(name)
-        if self.shape:
-            unit, other = self.units[i], self.raised
-            parts = [(unit.expected_count * amount * chance, x - amount) for amount, chance in unit.severity.items() if amount <= x]
-            low = sum((part * other.at(rest) for part, rest in parts), Fraction(0)) / ONE
-            return Ends(low, low + sum((part for part, _ in parts), Fraction(0)) * other.slack / ONE)
-        other = self.others(i)
-        return self.summed(self.grids[i], lambda rest: (other.at(rest), other.at(rest) + other.slack), x)
-
-    @staticmethod
-    def summed(own, ends, x):
-        """The sum over the outcomes `y` up to `x` of `y`, its probability, and what `x - y` has between these two ends."""
+        unit, rest = self.units[i], self.raised if self.shape else self.others(i)
+        claims = {amount: unit.expected_count * chance for amount, chance in unit.severity.items()} if self.shape else {}
+        own, rest = sums.claim(claims, self.cells) if claims else self.grids[i], rest.up_to(self.cells) if up_to else rest
         low = high = 0
-        for y in range(x + 1):
-            least, most = ends(x - y)
-            low, high = low + y * own.at(y) * least, high + y * (own.at(y) + own.slack) * most
+        for y in range(1, x + 1):
+            least, most = own.at(y), rest.at(x - y)
+            low, high = low + y * least * most, high + y * (least + own.slack) * (most + rest.slack)
         return Ends(Fraction(low, ONE * ONE), Fraction(high, ONE * ONE))
 
     def kappa(self, name, x):
-        """The joint mean over the probability of the total."""
+        """The joint mean over the probability of the total; no outcome is above it."""
         joint, at = self.joint(name, x), self.total.cells.ends(x)
-        return Ends(joint.low / at.high, joint.high / at.low) if at.low else None
+        return Ends(joint.low / at.high, min(joint.high / at.low, x)) if at.low else None
 
     def cotail(self, name, p):
-        """The share of a unit in the tail mean, or None past the grid: the mean of its outcome above the quantile, and at it with the part
-        that belongs to the worst `1 - p`, over `1 - p`. Where the quantile is not sure, TooLarge is raised."""
-        low, q = self.total.bracket(p, self.cells)
-        if low is None:
+        """The share of a unit in the tail mean, or None past the grid: the mean of its outcome above the total `x`, the low end of the
+        bracket, and kappa times what the distribution at `x` is above `p`, over `1 - p`. Where the bracket has two ends, what the
+        distribution differs from `p` is of totals up to its high end, and no outcome is above that."""
+        x, end = self.total.bracket(p, self.cells)
+        if x is None:
             return None
-        if low != q or not self.total.cells.at(q):
-            raise TooLarge(f"the quantile at {p} is {low} or {q}, or too rare")
-        i = self.names.index(name)
-        others = Total(self.others(i), None)
-        below = self.summed(self.grids[i], lambda rest: tuple(math.floor(end * ONE) + k for k, end in enumerate(others.cdf(rest))), q)
-        cdf, share, mean = self.total.cdf(q), self.kappa(name, q), self.means[i]
-        low = mean.low - below.high + (cdf.low - p) * share.low
-        return Ends(low / (1 - p), (mean.high - below.low + (cdf.high - p) * share.high) / (1 - p))
+        if end is None:
+            raise TooLarge(f"it is not sure that the grid reaches the quantile at {p}")
+        kappa = (x == end and self.kappa(name, x)) or Ends(0, end)
+        below, mean = self.joint(name, x, True), self.means[self.names.index(name)]
+        atom = [(part - p) * each for part in self.total.cdf(x) for each in kappa]
+        return Ends((mean.low - below.high + min(atom)) / (1 - p), (mean.high - below.low + max(atom)) / (1 - p))
 
     def value(self, ask):
         """The two ends of an ask in its parts (words.py), None past the grid; of a quantile its bracket."""
         kind, *rest = ask
-        if kind in ("joint", "kappa", "cotail"):
-            return getattr(self, kind)(*rest)
+        if kind in ("joint", "kappa", "cotail", "share"):
+            return getattr(self, kind.replace("share", "cotail"))(*rest)
         if kind == "mean":
             return self.mean
         if kind == "pmf":

@@ -13,7 +13,7 @@ WHOLE = {
     "width": (1, 10**9, 10),
     "mwidth": (1, 10**12, 10**6),
 }
-FORMATS = ("text", "csv", "json")
+CHOICES = {"format": ("text", "csv", "json"), "rules": ("standard", "extended")}
 X = "[0-9]{1,9}"
 ASKS = [
     re.compile(pattern)
@@ -29,7 +29,7 @@ ASKS = [
 ]
 
 
-Settings = namedtuple("Settings", "form asks bs cells digits width mwidth format make")
+Settings = namedtuple("Settings", "form asks bs cells digits width mwidth make format rules")
 
 
 def level(numeral, most=9):
@@ -50,19 +50,20 @@ def is_priced(word):
     return terms if sum(weight for weight, _ in terms) == 1 and common <= 1_000_000 else None
 
 
-def asked(word):
-    """An ask in its parts, or None."""
+def asked(word, rules="standard"):
+    """An ask in its parts, or None. By the extended rules `cotail` is a `share`, whose level is spelled as that of the tail mean."""
     found = next((match for match in (pattern.fullmatch(word) for pattern in ASKS) if match), None)
     if not found:
         return None
     parts = found.groupdict()
     if "limit" in parts:
         return "layer", None if parts["limit"] == "inf" else int(parts["limit"]), int(parts["x"])
+    kind = "share" if parts["kind"] == "cotail" and rules == "extended" else parts["kind"]
     rest = [is_priced(parts["terms"])] if "terms" in parts else []
     rest += [parts["name"]] if "name" in parts else []
     rest += [int(parts["x"])] if "x" in parts else []
-    rest += [level(parts["p"], 4 if parts["kind"] == "cotail" else 9)] if "p" in parts else []
-    return None if None in rest else (parts["kind"], *rest)
+    rest += [level(parts["p"], 4 if kind == "cotail" else 9)] if "p" in parts else []
+    return None if None in rest else (kind, *rest)
 
 
 def read_words(words):
@@ -74,7 +75,7 @@ def read_words(words):
             positionals, left = positionals + left, []
         elif word.startswith("--"):
             name, is_one, text = word[2:].partition("=")
-            if name in given or name not in (*WHOLE, "bs", "format") or not (is_one or left):
+            if name in given or name not in (*WHOLE, *CHOICES, "bs") or not (is_one or left):
                 raise Fault("usage", 2)
             given[name] = text if is_one else left.pop(0)
         elif word.startswith("-"):
@@ -93,14 +94,15 @@ def settings_of(given, positionals):
             if not re.fullmatch("[0-9]{1,15}", text) or not least <= int(text) <= most:
                 raise Fault("usage", 2)
             found[name] = int(text)
-    bs, form = given.get("bs", "1"), given.get("format", "text")
-    if not re.fullmatch(NUMERAL, bs) or is_bad(bs) or value(bs) == 0 or form not in FORMATS or not positionals:
+    bs, chosen = given.get("bs", "1"), {name: given.get(name, names[0]) for name, names in CHOICES.items()}
+    is_chosen = all(chosen[name] in names for name, names in CHOICES.items())
+    if not re.fullmatch(NUMERAL, bs) or is_bad(bs) or value(bs) == 0 or not is_chosen or not positionals:
         raise Fault("usage", 2)
     kind, *asks = positionals
     is_run = kind == "run" and 1 <= len(asks) <= 256 and not any(ask.startswith("-") for ask in asks)
     if not is_run and not (kind == "fmt" and not asks and set(given) <= {"make"}):
         raise Fault("usage", 2)
     for i, ask in enumerate(asks):
-        if asked(ask) is None:
+        if asked(ask, chosen["rules"]) is None:
             raise Fault(f"ask {i}: not an ask", 2)
-    return Settings(kind, asks, value(bs), 2 ** found["log2"], found["digits"], found["width"], found["mwidth"], form, found["make"])
+    return Settings(kind, asks, value(bs), 2 ** found.pop("log2"), **found, **chosen)

@@ -13,7 +13,8 @@ WIDEST = ["--width", "1000000000", "--mwidth", "1000000000000"]
 
 @dataclass(frozen=True)
 class Cell:
-    """A cell of a table: the section and the names that it stands under, its ask, its book, its ends as data, and what is shown."""
+    """A cell of a table: the section and the names that it stands under, its ask, its book, its ends as data, what is shown, and the rules
+    by which it is asked."""
 
     section: str
     line: str
@@ -22,6 +23,7 @@ class Cell:
     book: str
     ends: tuple
     shown: str
+    rules: str
 
 
 @dataclass(frozen=True)
@@ -33,9 +35,10 @@ class Program:
     log2: str
     digits: str
 
-    def rows(self, asks):
+    def rows(self, asks, rules):
         """The two ends of asks in buckets, by one call of the program; None where an end is no number."""
         words = ["--bs", str(self.bs), "--log2", self.log2, "--digits", self.digits, *WIDEST, "--format", "json"]
+        words += ["--rules", rules] if rules != "standard" else []
         done = subprocess.run([BUILT, "run", *words, *asks], input=self.text, capture_output=True, text=True)
         if done.returncode:
             raise AssertionError(f"{asks}: {done.stderr}")
@@ -85,6 +88,7 @@ class Page(HTMLParser):
         elif tag == "td":
             ends = tuple(Fraction(facts[name]) if facts.get(name) else None for name in ("data-low", "data-high"))
             found = (facts["data-name"], facts.get("data-ask", ""), facts.get("data-book", ""), ends, heard.replace("\xa0", " "))
+            found += (facts.get("data-rules", "standard"),)
             self.cells.append(Cell(self.section, self.line, *found))
 
     def of(self, section):
@@ -109,13 +113,13 @@ def in_money(ask, ends, bs):
     return ends if kind in ("cdf", "pmf") else tuple(None if end is None else end * bs for end in ends)
 
 
-def asked(program, asks):
+def asked(program, asks, rules="standard"):
     """The two ends of asks in money, straight from the program."""
     asks = list(asks)
     found = {}
     for first in range(0, len(asks), 256):
         some = asks[first : first + 256]
-        rows = program.rows([in_buckets(ask, program.bs) for ask in some])
+        rows = program.rows([in_buckets(ask, program.bs) for ask in some], rules)
         found.update({ask: in_money(ask, ends, program.bs) for ask, ends in zip(some, rows)})
     return found
 

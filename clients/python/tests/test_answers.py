@@ -53,6 +53,12 @@ class Forms(Case):
         """73/27 and 77/27 add up to the tail mean, 50/9; a third of the years come to 1, so that the quantile at 1/3 is not sure."""
         report = decl.run(PAIR, ["cotail:A:0.8", "cotail:B:0.8", "tail:0.8"], log2=4)
         self.assertTrue(report[0].holds(Fraction(73, 27)) and report[1].holds(Fraction(77, 27)) and report[2].holds(Fraction(50, 9)))
+        rare = decl.run(PAIR, ["cotail:A:0.99999", "cotail:A:0", "mean"], log2=4, rules="extended")
+        self.assertTrue(rare[0].holds(3) and rare[1].holds(2), rare)
+        self.assertEqual([(row.state, row.rules, row.in_money(2).rules) for row in rare], [("closed", "extended", "extended")] * 3)
+        self.assertEqual(decl.report(PAIR, ["cotail:A:0"], log2=4, rules="standard"), "cotail:A:0 - -\n")
+        self.assertEqual(decl.report(PAIR, ["cotail:A:0"], log2=4, rules="extended"), "cotail:A:0 2.000000 2.000000\n")
+        decl.check(PAIR, rules="extended")
         third = decl.run("agg A dfreq [1] dsev [1 3 5]", ["cotail:A:1/3", "cotail:A:0.6"], log2=4)
         self.assertEqual((third[0].written, third[0].state, third[0].low), (("-", "-"), "absent", None))
         self.assertTrue(third[1].holds(Fraction(14, 3)))

@@ -176,6 +176,7 @@ class Answers(Case):
             tail = book.tail(level)
             self.assertTrue(low <= tail.high and tail.low <= high and high - low < Fraction(1, 100), level)
         self.assertEqual(book.share_of_tail("A", "0.9995").ask, "cotail:A:1999/2000")
+        self.assertEqual([(row.rules, row.in_money(1)) for row in shares], [("standard", row) for row in shares])
         self.assertEqual(self.raises(decl.AskFault, book.share_of_tail, "C", 0.8).reason, "no such unit")
         self.raises(decl.NumberFault, book.share_of_tail, "A", 1)
 
@@ -209,18 +210,20 @@ class Answers(Case):
             row = book.share_of_tail(name, 0.9)
             self.assertTrue(row.holds(shares[name]), row)
             self.assertLess(row.high - row.low, Fraction(1, 100))
-            self.assertEqual(row.ask, f"cotail:{name}:0.9")
+            self.assertEqual((row.ask, row.rules, row.money), (f"cotail:{name}:0.9", "extended", True))
         self.assertTrue(book.tail(0.9).holds(sum(shares.values())))
         fault = self.raises(decl.AskFault, decl.run, FACTOR, ["cotail:A:0.9"], bs=1000)
         self.assertEqual(fault.reason, "no share under a common factor")
-        self.assertIn("ask for kappa instead", str(fault))
+        self.assertIn('by rules="extended" alone', str(fault))
+        self.assertEqual(book.each(["cotail:A:0.9", "mean", "cotail:B:0.9"])[::2], [book.share_of_tail(name, 0.9) for name in "AB"])
+        self.assertEqual([line[2].rules for line in book.by_unit(0.9)], ["extended", "extended", "standard"])
         self.assertEqual(decl.Book(FACTOR, log2=2).share_of_tail("A", 0.9).state, "beyond")
         page = book.page()
         self.assertIn("each unit&#x27;s share of the total", page)
         self.assertIn("each unit&#x27;s share of the TVaR", page)
-        self.assertIn("The program has no such shares under a common factor: at 2 to 250 years the client adds them up", page)
+        self.assertIn("At 2 to 250 years the shares are those of the program&#x27;s extended rules", page)
         for name, share in shares.items():
-            low, high = re.search(rf'data-ask="cotail:{name}:0.9" data-low="(.*?)" data-high="(.*?)"', page).groups()
+            low, high = re.search(rf'data-ask="cotail:{name}:0.9" data-rules="extended" data-low="(.*?)" data-high="(.*?)"', page).groups()
             self.assertTrue(Fraction(low) <= share <= Fraction(high) < Fraction(low) + Fraction(1, 100), name)
         self.assertIn("port C common 0.5", page)
 
@@ -232,12 +235,21 @@ class Answers(Case):
         named = decl.Book("sev S dsev [1000 3000] port C common 0.5 agg A 1 claims sev.S poisson agg B 2 claims sev.S poisson").unit("A")
         self.assertEqual(named.mean(), one.mean())
 
-    def test_shares_of_a_tail_mean_that_are_not_there(self):
-        """A third of the years come to 1 exactly; and ten claims on a grid of four buckets."""
+    def test_shares_of_a_tail_mean_by_the_extended_rules(self):
+        """A third of the years come to 1 exactly, so that the quantile there is not sure: the standard rules have no number. They ask for none
+        at a level of more than 4 digits, and one of more than 9 lies between two. Beyond a grid of four buckets there is none."""
         book = decl.Book("port P agg A dfreq [1] dsev [1 3 5] agg B dfreq [1] dsev [0]")
-        self.assertEqual((book.share_of_tail("A", "1/3").state, book.share_of_tail("A", "1/3").low), ("absent", None))
-        self.assertTrue(book.share_of_tail("A", 0.6).holds(Fraction(14, 3)))
-        self.assertTrue(book.share_of_tail("A", 0.25).holds(Fraction(11, 3)))
+        absent = decl.run(book.text, ["cotail:A:1/3"])[0]
+        self.assertEqual((absent.state, absent.rules), ("absent", "standard"))
+        self.assertIn('by rules="extended" there is a share', absent.why)
+        shares = {"1/3": (4, "extended"), "0.33333": (Fraction(9 - 3 * Fraction("0.33333"), 3) / (1 - Fraction("0.33333")), "extended")}
+        shares.update({"0": (3, "extended"), "0.6": (Fraction(14, 3), "standard"), "0.25": (Fraction(11, 3), "standard")})
+        shares["0.6000000000001"] = (Fraction(5 + 3 * 2 - 9 * Fraction("0.6000000000001"), 3) / Fraction("0.3999999999999"), "extended")
+        for level, (value, rules) in shares.items():
+            row = book.share_of_tail("A", level)
+            self.assertTrue(row.holds(value) and row.high - row.low < Fraction(1, 10**4), (row, value))
+            self.assertEqual(row.rules, rules, level)
+        self.assertEqual(book.share_of_tail("A", "0.6000000000001").ask, "cotail:A:0.6000000000001")
         far = decl.Book("agg P 10 claims dsev [1] poisson", log2=2)
         self.assertEqual((far.share_of_tail("P", 0.5).state, far.price("1@0.5").state), ("beyond", "beyond"))
 

@@ -203,6 +203,7 @@ class Sentences(Case):
             ({"width": 10**9 + 1}, "width is a whole number from 1 to 1,000,000,000, not 1000000001."),
             ({"mwidth": 10**12 + 1}, "mwidth is a whole number from 1 to 1,000,000,000,000, not"),
             ({"make": 2**32}, "make is a whole number from 0 to 4,294,967,295, not"),
+            ({"rules": "wide"}, "rules is standard or extended, not wide."),
             ({"bs": 0}, "bs is the size of a bucket, a numeral above 0"),
             ({"bs": "123456789012"}, "bs is the size of a bucket, a numeral above 0"),
         ]

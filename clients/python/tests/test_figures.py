@@ -108,9 +108,12 @@ class Levels(Case):
 
     def test_levels_that_are_refused(self):
         book = decl.Book("port P agg A dfreq [1] dsev [1:6] agg B dfreq [1] dsev [1:6]")
-        fault = self.raises(decl.NumberFault, book.share_of_tail, "A", 1 - 1 / 300)
+        fault = self.raises(decl.NumberFault, book.price, [(1, 1 - 1 / 300)])
         self.assertIn("299/300 lies below it, and ", str(fault))  # the float is a little above 299/300
-        self.raises(decl.NumberFault, book.price, [(1, 2 / 3)])
+        self.assertTrue(book.share_of_tail("A", 1 - 1 / 300).holds(6))
+        self.assertTrue(decl.Book(book.text, log2=2).share_of_tail("A", 1 - 1 / 300).state == "beyond")
+        for level in (1, 1 - Fraction(1, 10**12)):
+            self.raises(decl.NumberFault, book.share_of_tail, "A", level)
         fault = self.raises(decl.NumberFault, book.q, 99)
         self.assertIn("did you mean 99%, which is 0.99?", str(fault))
         fault = self.raises(decl.NumberFault, book.tail, "99,5%")

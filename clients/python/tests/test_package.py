@@ -10,7 +10,7 @@ import unittest
 
 from support import ROOT, Case, decl, main
 
-OPTIONS = {"bs", "log2", "digits", "width", "mwidth", "make"}
+OPTIONS = {"bs", "log2", "digits", "width", "mwidth", "make", "rules"}
 FOLDER = pathlib.Path(decl.__file__).parent
 PYTHON = ROOT / "clients" / "python"
 

@@ -32,15 +32,16 @@ class Figures(Case):
 
     def same(self, page, cells, program):
         """The exact ends of cells are those of calls of this program."""
-        found = asked(program, [cell.ask for cell in cells])
-        for cell in cells:
-            self.assertEqual(cell.ends, found[cell.ask], cell)
+        for rules in {cell.rules for cell in cells}:
+            chosen = [cell for cell in cells if cell.rules == rules]
+            found = asked(program, [cell.ask for cell in chosen], rules)
+            for cell in chosen:
+                self.assertEqual(cell.ends, found[cell.ask], cell)
 
-    def of_a_book(self, page, added=()):
-        """All figures of a page on a book but those of its sides; `added` are kinds of asks that the client adds up."""
+    def of_a_book(self, page):
+        """All figures of a page on a book but those of its sides."""
         program, cells = page.programs[""], [cell for cell in page.cells if cell.ask and not cell.book]
-        kinds = (*OWN, *added)
-        plain = [cell for cell in cells if cell.ask.split(":")[0] not in kinds and cell.section != "Gross, ceded and net"]
+        plain = [cell for cell in cells if cell.ask.split(":")[0] not in OWN and cell.section != "Gross, ceded and net"]
         units = [cell for cell in plain if cell.ask == "mean" and mean_of(cell, program)]
         self.same(page, [cell for cell in plain if cell not in units], program)
         for cell in units:
@@ -75,7 +76,7 @@ class OfBooks(Figures):
         self.assertEqual(columns, ["mean", "3 years", "30 years", "300 years", "20,000 years"])
 
     def test_shares_add_up_to_the_total(self):
-        """Of each column the low ends add up to at most the total, and the high ends to at least it; so do those that are added up."""
+        """Of each column the low ends add up to at most the total, and the high ends to at least it; so do those of the extended rules."""
         for text in (BOOK, example("common")):
             page = Page(decl.Book(text).page([10, 100, 20000]))
             for section in ("Each unit's share of the TVaR", "Each unit's share of a year"):
@@ -90,14 +91,14 @@ class OfBooks(Figures):
                     self.assertGreaterEqual(sum(high for _, high in ends.values()), total[0], column)
 
     def test_a_common_factor(self):
-        """Shares of the TVaR are added up here from the program's joint means, with nine digits."""
+        """Shares of the TVaR by the extended rules hold what is added up here from the program's joint means, with nine digits."""
         page = Page(decl.Book(example("common")).page([10, 100]))
-        self.of_a_book(page, added=["cotail"])
+        self.of_a_book(page)
         program = page.programs[""]
         fine = type(program)(program.text, program.bs, program.log2, "9")
-        self.assertIn("The program has no such shares under a common factor", page.told)
+        self.assertIn("the shares are those of the program's extended rules", page.told)
         cells = [cell for cell in page.cells if cell.ask.startswith("cotail:")]
-        self.assertEqual(len(cells), 6)
+        self.assertEqual([cell.rules for cell in cells], ["extended"] * 6)
         for cell in cells:
             _, unit, p = cell.ask.split(":")
             at = asked(program, [f"q:{p}"])[f"q:{p}"][0]
@@ -105,7 +106,7 @@ class OfBooks(Figures):
             reached, chance = asked(fine, [f"cdf:{at}", f"pmf:{at}"]).values()
             mean, left, p = asked(fine.alone(unit), ["mean"])["mean"], sum(reached) / 2 - Fraction(p), Fraction(p)
             value = (sum(mean) / 2 - sum(sum(ends) / 2 for ends in joints) + left * sum(joints[-1]) / sum(chance)) / (1 - p)
-            self.assertTrue(cell.ends[0] <= value <= cell.ends[1] < cell.ends[0] + Fraction(1, 1000), cell)
+            self.assertTrue(abs(value - sum(cell.ends) / 2) < Fraction(1, 1000) > cell.ends[1] - cell.ends[0] >= 0, cell)
 
 
 class Sides(Figures):

@@ -39,6 +39,7 @@ class Commands(Case):
         text = pathlib.Path(DICE).read_text()
         self.assertEqual(command("-", "--digits", "2", "pmf:2", given=text), (0, "pmf:2 0.02 0.03\n", ""))
         self.assertEqual(command(DICE, "--format", "csv", "q:0.9")[1], "ask,low,high\nq:0.9,10,10\n")
+        self.assertEqual(command(DICE, "--rules", "extended", "cotail:Dice:0")[1], "cotail:Dice:0 7.000000 7.000000\n")
 
     def test_money(self):
         """Two dice in thousands: 3.5 of each, and of what lies above 11,500 the 500 of one outcome in 36."""
@@ -191,39 +192,45 @@ class Pages(Case):
                     self.assertAlmostEqual(upper[at][1], on_line(amounts, below), delta=0.11)
                 self.assertAlmostEqual(below, float(book.tail(p).low), delta=1e-3)
 
-    def test_periods_without_shares_are_white(self):
-        """One loss of 1 to 10: at 1/2, 4/5 and 9/10 the distribution is exactly at the level, so no share is there, and no area goes over
-        them. The curve of the TVaR does. At 20,000 years, whose level has five digits, the shares are added up from joint means."""
+    def test_periods_whose_shares_are_of_the_extended_rules(self):
+        """One loss of 1 to 10: at 1/2, 4/5 and 9/10 the distribution is exactly at the level; and 20,000 years have a level of five digits.
+        There the shares are those of the extended rules. Half the years bring 8, as the worst of them."""
         drawn = decl.Book("port P agg A dfreq [1] dsev [1:10] agg B dfreq [1] dsev [0]").page([2, "7/2", 5, 250, 20000])
         wide = [text for text in re.findall(r"<svg xmlns.*?</svg>", drawn, re.S) if 'data-frame="wide"' in text and "share of the TVaR" in text][0]
         runs = [found.split() for found in re.findall(r'data-unit="A" data-years="([^"]*)"', wide)]
-        self.assertEqual([(run[0], run[-1]) for run in runs], [("1", "1"), ("3", "4"), ("6", "9"), ("12", "20000")])
-        self.assertEqual(runs[1], ["3", "3.5", "4"])
-        there = re.search(r'class="curve" data-years="([^"]*)"', wide)[1].split()
-        self.assertLessEqual({"1", "2", "3", "3.5", "5", "10", "250", "20000"}, set(there))
+        self.assertEqual([(run[0], run[-1]) for run in runs], [("1", "20000")])
+        self.assertLessEqual({"1", "2", "3", "3.5", "5", "10", "250", "20000"}, set(runs[0]))
         told = html.unescape(re.sub(r"<[^>]*>", "", drawn))
-        self.assertIn("No share is drawn at 2, 5 and 10 years: the quantile is not sure to be one total.", told)
-        self.assertIn("at a level of more than 4 digits: at 10,000 to 20,000 years the client adds them up, from the program's joint means", told)
-        self.assertIn("2 years, 5 years: The quantile is not sure to be one total", told)
+        self.assertIn("At 2, 5, 10 and 10,000 to 20,000 years the shares are those of the program's extended rules (--rules extended), since", told)
+        self.assertNotIn("No share is drawn", told)
+        low, high = re.search(r'data-ask="cotail:A:0.5" data-rules="extended" data-low="(.*?)" data-high="(.*?)"', drawn).groups()
+        self.assertTrue(Fraction(low) <= 8 <= Fraction(high) < Fraction(low) + Fraction(1, 1000))
 
-    def test_shares_that_take_too_many_joint_means(self):
-        """65,000 buckets up to the VaR: 130,002 joint means for two units."""
+    def test_periods_without_shares_are_white(self):
+        """One loss of 1, or in one year of a hundred of 70,000, which is past the grid: so is the TVaR of more than 100 years."""
+        book = decl.Book("port P agg A dfreq [1] dsev [1 70000] [0.99 0.01] agg B dfreq [1] dsev [0]", bs=1, log2=16)
+        found = areas_of_tail(book, [Fraction(10), Fraction(101), Fraction(200)])
+        self.assertEqual(found.missing, [101, 200])
+        self.assertEqual(areas.told_of_tail(found)[-1], "No share is drawn at 101 to 200 years: the TVaR may lie past the grid.")
+
+    def test_shares_of_a_long_grid(self):
+        """65,000 buckets up to the VaR, in half the years, and 1 else."""
         book = decl.Book("port P agg A dfreq [1] dsev [1 65000] [0.5 0.5] agg B dfreq [1] dsev [0]")
-        drawn = areas.told_of_tail(areas_of_tail(book, [Fraction(10), Fraction(20000)]))
-        self.assertEqual(drawn[-1], "No share is drawn at 20,000 years: more than 120,000 joint means would have to be added up.")
+        for years, value in ((Fraction(10), 65000), (Fraction(20000), 65000), (Fraction(4, 3), 1 / Fraction(3) + 65000 * Fraction(2, 3))):
+            row = areas_of_tail(book, [years]).rows[years][0]
+            self.assertTrue(row.holds(value) and row.high - row.low < 1, row)
 
     def test_shares_at_a_rare_total(self):
-        """Each of 90,000 totals is equally likely, and so too rare for shares of the program. In the worst 10/11 of the years the total is above
-        8,181, or 8,181 in 2/11 of the years with it; its hundreds of 3 are those of A, and what is left is that of B."""
+        """Each of 90,000 totals is equally likely, and so too rare for shares of the standard rules. In the worst 10/11 of the years the total is
+        above 8,181, or 8,181 in 2/11 of the years with it; its hundreds of 3 are those of A, and what is left is that of B."""
         book = decl.Book("port P agg A dfreq [1] dsev [0:89700:300] agg B dfreq [1] dsev [0:299]", bs=1, log2=16)
         years = Fraction(11, 10)
         found = areas_of_tail(book, [years, Fraction(2)])
-        self.assertEqual(found.added, {years: "where the total at the VaR is not sure to have a probability of at least 1 in 65,536"})
+        self.assertEqual((found.extended, found.missing), ([years, 2], []))
         parts = {8181: Fraction(2, 11), **dict.fromkeys(range(8182, 90000), 1)}
         for row, outcome in zip(found.rows[years], (lambda x: x - x % 300, lambda x: x % 300)):
             value = sum(outcome(total) * part for total, part in parts.items()) / Fraction(90000 * 10, 11)
             self.assertTrue(row.holds(value) and row.high - row.low < Fraction(1, 10), row)
-        self.assertEqual(list(found.missing()), ["the quantile is not sure to be one total"])
 
     def test_totals_without_shares_are_white(self):
         """Totals of 2 to 5 and of 22 to 25 are there, and 1 in 4 of both is 1 of the second unit; up to the VaR of 5 years, which is 24."""

@@ -6,12 +6,13 @@ decl_most_asks <- 256L
 decl_most_lost <- 1e-4
 
 # The book that the text declares: a list of class decl_book with text, bs (the size of a bucket in money, as text), log2, cells (the
-# number of buckets), digits and timeout.
+# number of buckets), digits, timeout and rules.
 #
 # The bucket is the greatest that divides all amounts, the grid the least in which a probability of inside is sure to lie, else the
 # largest that takes the text; either can be given. digits are those of an answer in buckets, of which there are fewer where it needs a
-# larger width than there is.
-decl_book <- function(text, bs = NULL, log2 = NULL, digits = 6, inside = "0.999999", timeout = 0) {
+# larger width than there is. With rules = "extended" a share of the tail mean, cotail, has numbers wherever the tail mean has, also under a
+# common factor.
+decl_book <- function(text, bs = NULL, log2 = NULL, digits = 6, inside = "0.999999", timeout = 0, rules = NULL) {
     size <- if (is.null(bs)) decl_bucket(text, timeout = timeout) else decl_written(decl_value(decl_spelled(bs, "bs")))
     if (is.null(log2)) {
         log2 <- tryCatch(decl_grid(text, inside, bs = size, timeout = timeout), decl_fault = function(fault) {
@@ -26,7 +27,7 @@ decl_book <- function(text, bs = NULL, log2 = NULL, digits = 6, inside = "0.9999
         decl_check(text, bs = size, log2 = log2, timeout = timeout)
     }
     structure(class = "decl_book", list(
-        text = text, bs = size, log2 = log2, cells = 2^log2, digits = digits, timeout = timeout
+        text = text, bs = size, log2 = log2, cells = 2^log2, digits = digits, timeout = timeout, rules = rules
     ))
 }
 
@@ -78,7 +79,8 @@ quantile.decl_book <- function(x, probs = c(0.5, 0.9, 0.95, 0.99, 0.995), numeri
 decl_narrowed <- function(asks, book) {
     for (digits in seq(book$digits, min(book$digits, 1))) {
         rows <- tryCatch(
-            decl_run(book$text, asks, bs = book$bs, log2 = book$log2, digits = digits, width = 1e9, mwidth = 1e12, timeout = book$timeout),
+            decl_run(book$text, asks, bs = book$bs, log2 = book$log2, digits = digits, width = 1e9, mwidth = 1e12, timeout = book$timeout,
+                     rules = book$rules),
             decl_fault = function(fault) if (identical(fault$status, 4L) && digits > 1) NULL else stop(fault)
         )
         if (!is.null(rows)) return(rows)

@@ -32,23 +32,24 @@
 #
 # text     one string, several lines, or raw bytes
 # asks     words such as "mean", "q:0.995", "layer:10xs5", with amounts in buckets
+# rules    "extended" for shares of the tail mean wherever the tail mean has numbers, also under a common factor
 # numeric  FALSE gives the ends as the program wrote them, exact decimals as text; TRUE gives doubles, low ends
 #          rounded down and high ends up: an end beyond the grid is then infinite, and one that is not there is NA
 # timeout  seconds after which the program and what it started are ended, by timeout of coreutils; 0 for none
 decl_run <- function(text, asks, bs = NULL, log2 = NULL, digits = NULL, width = NULL, mwidth = NULL, make = NULL,
-                     numeric = FALSE, timeout = 0) {
-    given <- decl_options(bs = bs, log2 = log2, digits = digits, width = width, mwidth = mwidth, make = make)
+                     numeric = FALSE, timeout = 0, rules = NULL) {
+    given <- decl_options(bs = bs, log2 = log2, digits = digits, width = width, mwidth = mwidth, make = make, rules = rules)
     words <- c("run", "--format", "json", given, "--", as.character(asks))
     rows <- decl_rows(decl_call(words, text, asks, timeout), asks)
     if (numeric) decl_numeric(rows) else rows
 }
 
 # Raises the fault of the text, if it has one; evaluates nothing. The rules on whole buckets are asked at bs, and the
-# one on the sum before an aggregate clause at log2.
-decl_check <- function(text, bs = NULL, log2 = NULL, timeout = 0) {
+# one on the sum before an aggregate clause at log2; rules are those of decl_run.
+decl_check <- function(text, bs = NULL, log2 = NULL, timeout = 0, rules = NULL) {
     past <- "pmf:999999999"
     found <- tryCatch(
-        decl_call(c("run", decl_options(bs = bs, log2 = log2), past), text, past, timeout),
+        decl_call(c("run", decl_options(bs = bs, log2 = log2, rules = rules), past), text, past, timeout),
         decl_fault = function(fault) if (identical(fault$status, 8L)) NULL else stop(fault)
     )
     if (!is.null(found)) stop(decl_fault("decl answered an ask past every grid"))

@@ -11,7 +11,7 @@
   value. The ends in buckets are proved of the program; that they are turned into money outward is tested.
 }
 \usage{
-decl_book(text, bs = NULL, log2 = NULL, digits = 6, inside = "0.999999", timeout = 0)
+decl_book(text, bs = NULL, log2 = NULL, digits = 6, inside = "0.999999", timeout = 0, rules = NULL)
 decl_ask(book, asks, numeric = FALSE)
 decl_return_periods(book, years = c(10, 50, 100, 200, 250), numeric = FALSE)
 \method{print}{decl_book}(x, ...)
@@ -26,6 +26,7 @@ decl_return_periods(book, years = c(10, 50, 100, 200, 250), numeric = FALSE)
   \item{digits}{digits of an answer in buckets; there are fewer where it needs a larger width than there is}
   \item{inside}{a probability, as a number or a text}
   \item{timeout}{seconds for one call of the program; 0 for none}
+  \item{rules}{those of \code{\link{decl_run}}, for all asks about the book}
   \item{book, x}{a book of \code{decl_book}}
   \item{asks}{asks of the program with amounts in money, as \code{"layer:80000xs20000"}, and \code{"sf:x"}, the probability of more than x}
   \item{numeric}{FALSE: ends as decimals in text. TRUE: doubles, low ends rounded down and high ends up}
@@ -38,8 +39,8 @@ decl_return_periods(book, years = c(10, 50, 100, 200, 250), numeric = FALSE)
   \code{layer}, \code{joint} and \code{kappa} have to be whole numbers of buckets; a smaller \code{bs} divides them.
 }
 \value{
-  \code{decl_book}: a list of class \code{decl_book} with \code{text}, \code{bs}, \code{log2}, \code{cells}, \code{digits} and
-  \code{timeout}. \code{decl_ask}, \code{mean} and \code{quantile}: a data frame with the columns \code{ask}, \code{low} and \code{high}.
+  \code{decl_book}: a list of class \code{decl_book} with \code{text}, \code{bs}, \code{log2}, \code{cells}, \code{digits},
+  \code{timeout} and \code{rules}. \code{decl_ask}, \code{mean} and \code{quantile}: a data frame with the columns \code{ask}, \code{low} and \code{high}.
   \code{decl_return_periods}: a data frame with \code{years}, and two ends each of the total that is passed at most once in so many years
   (VaR) and of the mean of the worst such years (TVaR).
 }

@@ -10,8 +10,8 @@
 }
 \usage{
 decl_run(text, asks, bs = NULL, log2 = NULL, digits = NULL, width = NULL, mwidth = NULL,
-         make = NULL, numeric = FALSE, timeout = 0)
-decl_check(text, bs = NULL, log2 = NULL, timeout = 0)
+         make = NULL, numeric = FALSE, timeout = 0, rules = NULL)
+decl_check(text, bs = NULL, log2 = NULL, timeout = 0, rules = NULL)
 decl_fmt(text, timeout = 0)
 decl_made(number, timeout = 0)
 }
@@ -26,6 +26,8 @@ decl_made(number, timeout = 0)
   \item{numeric}{FALSE: ends are exact decimals as text. TRUE: doubles, low ends rounded down and high ends up; an end beyond the grid
     is infinite, and one that is not there is NA}
   \item{timeout}{seconds after which the program is ended; 0 for none}
+  \item{rules}{\code{"standard"}, as where it is NULL, or \code{"extended"}: then a share of the tail mean, \code{cotail}, has numbers wherever
+    the tail mean has, also under a common factor and at a rare total, and its level has up to 9 digits}
 }
 \details{
   A number is passed on as the decimal or the fraction that it is; a text such as \code{"1/3"} as it is. The program is the one that the

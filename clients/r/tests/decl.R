@@ -169,6 +169,22 @@ test("units under a common factor", {
     stopifnot(identical(rows$low, c("0.106622", "0.666666")), identical(rows$high, c("0.106623", "0.666667")))
     found <- fault(decl_run(text, c("mean", "cotail:A:0.8"), log2 = 4))
     stopifnot(found$status == 8L, found$ask == 1L, found$told == "decl: ask 1: no share under a common factor")
+    # one third and two thirds of the tail mean
+    rows <- decl_run(text, c("cotail:A:0.8", "cotail:B:.8", "tail:0.8", "cotail:A:0"), bs = 2, log2 = 4, rules = "extended")
+    stopifnot(identical(rows$low, c("2.188934", "4.377868", "6.566803", "1.000000")))
+    book <- decl_book(text, rules = "extended")
+    rows <- decl_ask(book, c("mean", "cotail:A:.8"), numeric = TRUE)
+    stopifnot(rows$low[2] <= 4.377868955, rows$high[2] >= 4.377868956, rows$high[2] - rows$low[2] < 1e-5)
+    found <- fault(decl_ask(decl_book(text), "cotail:A:0.8"))
+    stopifnot(found$told == "decl: ask 0: no share under a common factor", fault(decl_check(text, rules = "wide"))$status == 2L)
+})
+test("shares of the tail mean by the extended rules", {
+    # a third of the years come to 1 exactly, so that the quantile is not sure: 4 of the others; and the mean, 3
+    text <- "port P agg A dfreq [1] dsev [1 3 5] agg B dfreq [1] dsev [0]"
+    stopifnot(identical(decl_run(text, c("cotail:A:1/3", "cotail:A:0"), log2 = 4, rules = "standard")$low, c("-", "-")))
+    rows <- decl_run(text, c("cotail:A:1/3", "cotail:A:0", "cotail:A:0.99999"), log2 = 4, rules = "extended", numeric = TRUE)
+    stopifnot(rows$low <= c(4, 3, 5), rows$high >= c(4, 3, 5), rows$high - rows$low < 1e-5)
+    stopifnot(decl_check(text, rules = "extended"))
 })
 rules <- file.path(here, "..", "..", "sentences.txt")
 if (file.exists(rules)) test("the sentences of the rules are those of the one file", {

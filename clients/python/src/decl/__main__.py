@@ -48,7 +48,7 @@ def parser() -> argparse.ArgumentParser:
     made.add_argument("--between", action="store_true", help="two programs hold a book of continuous severities between them")
     for name, told in (("bs", "size of a bucket in money"), ("log2", "the grid has 2^N buckets"), ("digits", "digits of the ends")):
         made.add_argument(f"--{name}", help=told)
-    for name in ("width", "mwidth", "format"):
+    for name in ("width", "mwidth", "format", "rules"):
         made.add_argument(f"--{name}", help="as in docs/USAGE.md, without --money")
     made.add_argument("-o", "--output", metavar="PAGE", help="where a page is put; without it, on the standard output")
     for name, told in (("title", "the title of a page"), ("currency", "the currency of its amounts"), ("date", "its date")):
@@ -87,7 +87,7 @@ def page(given: argparse.Namespace) -> str:
 
 def answer(given: argparse.Namespace) -> str:
     """What is written for the words."""
-    options = {name: getattr(given, name) for name in ("bs", "log2", "digits", "width", "mwidth")}
+    options = {name: getattr(given, name) for name in ("bs", "log2", "digits", "width", "mwidth", "rules")}
     if given.table is not None or given.money or given.between or given.coarser is not None:
         book = book_of(given, given.file)
         if given.table is not None:

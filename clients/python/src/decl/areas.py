@@ -158,13 +158,11 @@ def tail_picture(found: TailShares, tails: Mapping[Fraction, Row], colours: Mapp
 def told_of_tail(found: TailShares) -> List[str]:
     """The sentences on the shares of the TVaR."""
     told = ["What each unit brings to the mean of the worst years, by their return period: together the TVaR. One year is the mean."]
-    everywhere = sorted({*found.rows, *found.dear})
-    for why in dict.fromkeys(found.added.values()):
-        added = runs(everywhere, [years for years, reason in found.added.items() if reason == why])
+    if found.extended:
         told.append(
-            f"The program has no such shares {why}: at {stretches(added)} years the client adds them up, from the program's joint means of each unit"
-            " with each total up to the VaR. That step is tested and not proved."
+            f"At {stretches(runs(sorted(found.rows), found.extended))} years the shares are those of the program's extended rules"
+            " (`--rules extended`), since the standard ones have none."
         )
-    for why, missing in found.missing().items():
-        told.append(f"No share is drawn at {stretches(runs(everywhere, missing))} years: {why}.")
+    if found.missing:
+        told.append(f"No share is drawn at {stretches(runs(sorted(found.rows), found.missing))} years: the TVaR may lie past the grid.")
     return told

@@ -8,7 +8,7 @@ from typing import TYPE_CHECKING, Any, Dict, Iterable, List, Optional, Sequence,
 
 from . import program
 from .cautions import DEVIATIONS, MOST_LOST, grid_caution, level_outside, warn_of
-from .calls import Number, Text, fmt, run, spelled
+from .calls import Number, Rules, Text, fmt, run, spelled
 from .choose import LARGEST, NOTE, bucket, grid, least_grid, value_of
 from .faults import AskFault, GridTooSmall, NeedsWidth, NoMoments, NumberFault
 from .figures import decimals, plain
@@ -19,7 +19,7 @@ from .pictures import Picture, alone
 from .plan import Plan, plan_in
 from .reports import Report, Row, ask_in_money
 from .several import of_amount, of_level
-from .shares import share_by_joints
+from .shares import shares_of_tail
 from .tables import Cell, Table
 from .tower import Tower, Written, tower_of
 from .words import MOST_ASKS
@@ -95,10 +95,8 @@ class Book:
         self.plan: Plan = plan_in(self.spelling)
         self.units = tuple(unit.name for unit in self.plan.units)
         self.name = self.plan.name
-        self._known: Dict[str, Row] = {}
+        self._known: Dict[Tuple[Rules, str], Row] = {}
         self._means: Dict[str, Row] = {}
-        self._sums: Dict[str, List[Ends]] = {}
-        self._finer: Dict[int, Book] = {}
         if self._lost > MOST_LOST:
             warnings.warn(grid_caution(self._lost, self.cells, self.bs, self._reach()), stacklevel=level_outside())
 
@@ -123,18 +121,18 @@ class Book:
     def _repr_html_(self) -> str:
         return f"<p>{html.escape(self.name)}: {html.escape(repr(self)[1:-1])}</p>{self.return_periods()._repr_html_()}"
 
-    def _rows(self, asks: Iterable[str]) -> List[Row]:
-        """The rows of the asks, in buckets; each is asked once."""
+    def _rows(self, asks: Iterable[str], rules: Rules = "standard") -> List[Row]:
+        """The rows of the asks by these rules, in buckets; each is asked once."""
         asks = list(asks)
-        wanted = [ask for ask in dict.fromkeys(asks) if ask not in self._known]
+        wanted = [ask for ask in dict.fromkeys(asks) if (rules, ask) not in self._known]
         for first in range(0, len(wanted), MOST_ASKS):
-            self._known.update((row.ask, row) for row in self._asked(wanted[first : first + MOST_ASKS]))
-        return [self._known[ask] for ask in asks]
+            self._known.update(((rules, row.ask), row) for row in self._asked(wanted[first : first + MOST_ASKS], rules))
+        return [self._known[rules, ask] for ask in asks]
 
-    def _asked(self, asks: List[str]) -> Report:
+    def _asked(self, asks: List[str], rules: Rules) -> Report:
         """The report on at most 256 asks; the fault of one shows it in money."""
         try:
-            return self._narrowed(asks)
+            return self._narrowed(asks, rules)
         except AskFault as fault:
             first, *_, sentence = fault.told.splitlines()
             if fault.reason == BEYOND:
@@ -142,9 +140,10 @@ class Book:
                 sentence = f"The grid ends at {last}, with {self.cells:,} buckets of {plain(self.bs)}: take a larger log2, or larger buckets."
             raise AskFault(f"{first}\n  {ask_in_money(asks[fault.ask], self.bs)}\n{sentence}", **fault.facts) from None
 
-    def _narrowed(self, asks: List[str]) -> Report:
+    def _narrowed(self, asks: List[str], rules: Rules) -> Report:
         """The report on at most 256 asks, with fewer digits where one of them needs more width than the widest."""
         settings: Dict[str, Any] = {"log2": self.log2, "timeout": self.timeout, **WIDEST}
+        settings.update({} if rules == "standard" else {"rules": rules})
         for digits in range(self.digits, 1, -1):
             try:
                 return run(self.text, asks, bs=self.bs, digits=digits, **settings)
@@ -199,13 +198,12 @@ class Book:
 
     def share_of_tail(self, unit: str, p: Number) -> Row:
         """The share of a unit in the tail mean of the total: the mean of its outcome in the worst `1 - p` of the total. The shares of
-        all units add up to the tail mean. Both ends are None where the tail mean is beyond the grid (`state` is `beyond`), and
-        where the probability of the total at the quantile is too small, or the distribution is so near to `p` there that the
-        quantile is not sure (`absent`). Under a common factor the program has no such shares: the client adds them up from the joint means
-        of the unit with each total up to the quantile, and this step is tested and not proved."""
-        if self.plan.common is not None:
-            return share_by_joints(self, unit, exact(p))
-        return self._row(f"cotail:{unit}:{one(exact(p), SHARE_DIGITS, 'cotail')}").in_money(self.bs)
+        all units add up to the tail mean. Both ends are None where the tail mean is beyond the grid (`state` is `beyond`). Where the
+        program's standard rules have no number it is asked by its extended rules: under a common factor, at a level of more than 4
+        digits, where the total at the quantile is rare, and where the quantile is not sure to be one total. The row says so: its
+        `rules` are `standard` or `extended`. A level of more than 9 digits is enclosed by the two nearest ones."""
+        level = exact(p)
+        return shares_of_tail(self, [unit], [level])[level][0]
 
     @of_amount
     def cdf(self, x: Number) -> Row:
@@ -319,12 +317,6 @@ class Book:
         """Each name by which a unit is asked for, with its unit."""
         return dict(zip(self.units, self.units))
 
-    def _with_digits(self, digits: int) -> "Book":
-        """The same book with answers of so many digits."""
-        if digits not in self._finer:
-            self._finer[digits] = Book(self.text, bs=self.bs, log2=self.log2, digits=digits, timeout=self.timeout)
-        return self._finer[digits]
-
     def _declared(self) -> str:
         """The program as its sides are made of it."""
         return self.spelling
@@ -359,9 +351,8 @@ class Book:
         """A table of the units: the mean of each, its share of the TVaR, and of a `year` of this total, where one is given. The last line
         is the total, to which each column adds up."""
         level, names = exact(p), self._members()
-        if self.plan.common is None:
-            self._rows(f"cotail:{unit}:{one(level, SHARE_DIGITS, 'cotail')}" for unit in names.values())
-        lines: List[List[Cell]] = [[name, self.mean_of(name), self.share_of_tail(name, p)] for name in names]
+        shares = shares_of_tail(self, names.values(), [level])[level]
+        lines: List[List[Cell]] = [[name, self.mean_of(name), share] for name, share in zip(names, shares)]
         lines.append(["total", self.mean(), self.tail(p)])
         if year is not None:
             total = exact(year)
@@ -404,7 +395,7 @@ class Book:
         """The answers to several asks in money, by few calls of the program."""
         words = list(words)
         inside = [in_buckets(word, self.bs, self.cells) for word in words]
-        self._rows(ask for ask in inside if ask is not None)
+        self._rows(ask for ask in inside if ask is not None and (self.plan.common is None or not ask.startswith("cotail:")))
         return [self.ask(word) for word in words]
 
     def inside(self) -> Row:

@@ -2,7 +2,7 @@
 
 from decimal import Decimal
 from fractions import Fraction
-from typing import Iterable, List, Optional, Type, Union
+from typing import Iterable, List, Literal, Optional, Type, Union
 
 from . import program
 from .cautions import warn_of
@@ -16,6 +16,7 @@ PAST_EVERY_GRID = "pmf:999999999"
 Text = Union[str, bytes]
 Asks = Union[str, Iterable[str]]
 Number = Union[int, Fraction, Decimal, float, str]
+Rules = Literal["standard", "extended"]
 
 
 def spelled(value: Number) -> str:
@@ -51,20 +52,23 @@ def run(
     width: Optional[int] = None,
     mwidth: Optional[int] = None,
     make: Optional[int] = None,
+    rules: Optional[Rules] = None,
     ends: Union[Type[Fraction], Type[Decimal]] = Fraction,
     timeout: Optional[float] = None,
 ) -> Report:
     """The report on the asks about the text, with exact ends.
 
     `asks` are words such as "mean", "q:0.995" or "layer:10xs5", with amounts in buckets. `bs` is the size of a bucket
-    in money; `log2`, `digits`, `width`, `mwidth` and `make` are the options of the program of these names (the table of
-    options in docs/USAGE.md), and None leaves one out. `ends` is the type of the ends, `Fraction` or `Decimal`.
+    in money; `log2`, `digits`, `width`, `mwidth`, `make` and `rules` are the options of the program of these names (the table
+    of options in docs/USAGE.md), and None leaves one out. By the rules "extended" a share of the tail mean, `cotail`, has
+    numbers wherever the tail mean has, also under a common factor. `ends` is the type of the ends, `Fraction` or `Decimal`.
     `timeout` is in seconds. Raises a `DeclError` where there is no whole report.
     """
     warn_of(text)
     asks = listed(asks)
-    given = options(bs=bs, log2=log2, digits=digits, width=width, mwidth=mwidth, make=make)
-    return read_report(program.call(["run", "--format", "json", *given, "--", *asks], text, asks, timeout), asks, ends)
+    given = options(bs=bs, log2=log2, digits=digits, width=width, mwidth=mwidth, make=make, rules=rules)
+    written = program.call(["run", "--format", "json", *given, "--", *asks], text, asks, timeout)
+    return read_report(written, asks, ends, rules or "standard")
 
 
 def report(
@@ -78,25 +82,31 @@ def report(
     width: Optional[int] = None,
     mwidth: Optional[int] = None,
     make: Optional[int] = None,
+    rules: Optional[Rules] = None,
     timeout: Optional[float] = None,
 ) -> str:
     """The report as the program writes it, as `text`, `csv` or `json`; the options are those of `run`."""
     warn_of(text)
     asks = listed(asks)
-    given = options(bs=bs, log2=log2, digits=digits, width=width, mwidth=mwidth, make=make)
+    given = options(bs=bs, log2=log2, digits=digits, width=width, mwidth=mwidth, make=make, rules=rules)
     return program.call(["run", "--format", form, *given, "--", *asks], text, asks, timeout)
 
 
 def check(
-    text: Text, *, bs: Optional[Number] = None, log2: Optional[int] = None, timeout: Optional[float] = None
+    text: Text,
+    *,
+    bs: Optional[Number] = None,
+    log2: Optional[int] = None,
+    rules: Optional[Rules] = None,
+    timeout: Optional[float] = None,
 ) -> None:
     """Raises the fault of the text, if it has one. Nothing is evaluated.
 
-    The rules on whole buckets are asked at `bs`, and the one on the sum before an aggregate clause at `log2`.
+    The rules on whole buckets are asked at `bs`, and the one on the sum before an aggregate clause at `log2`; `rules` is that of `run`.
     """
     warn_of(text)
     try:
-        program.call(["run", *options(bs=bs, log2=log2), PAST_EVERY_GRID], text, [PAST_EVERY_GRID], timeout)
+        program.call(["run", *options(bs=bs, log2=log2, rules=rules), PAST_EVERY_GRID], text, [PAST_EVERY_GRID], timeout)
     except AskFault:
         return
     raise BadAnswer("decl answered an ask past every grid")

@@ -11,7 +11,7 @@ from fractions import Fraction
 from typing import Any, Dict, Iterable, List, Mapping, Optional, Sequence, Tuple
 
 from .books import Book
-from .calls import Number
+from .calls import Number, Rules
 from .cells import nearest
 from .coarse import numeral, severity
 from .faults import TableFault
@@ -173,21 +173,14 @@ class TableBook(Book):
             self._apart[place] = Book(text, bs=self.bs, log2=self.log2, digits=self.digits, timeout=self.timeout)
         return self._apart[place]
 
-    def _with_digits(self, digits: int) -> Book:
-        """The same book with answers of so many digits."""
-        if digits not in self._finer:
-            settings = {"bs": self.bs, "log2": self.log2, "digits": digits, "timeout": self.timeout}
-            self._finer[digits] = TableBook(self.text, self.names, self.changed, self.pool, **settings)
-        return self._finer[digits]
-
-    def _rows(self, asks: Iterable[str]) -> List[Row]:
+    def _rows(self, asks: Iterable[str], rules: Rules = "standard") -> List[Row]:
         """The rows of the asks, each of the program that has its unit."""
         asks = list(asks)
         places = [self._place(ask) for ask in asks]
         found: Dict[str, Row] = {}
         for place in dict.fromkeys(places):
             chosen = [ask for ask, where in zip(asks, places) if where == place]
-            rows = super()._rows(chosen) if place is None else self._book(place)._rows(chosen)
+            rows = super()._rows(chosen, rules) if place is None else self._book(place)._rows(chosen, rules)
             found.update(zip(chosen, rows))
         return [found[ask] for ask in asks]
 

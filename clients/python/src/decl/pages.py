@@ -13,7 +13,7 @@ from .figures import plain
 from .pictures import LOOK, both, exceedances, sign_of
 from .reports import Row
 from .sheets import Head, key, note, notes, paragraph, section, sheet, swatch_of, table
-from .shares import TailShares, tail_shares
+from .shares import tail_shares
 from .tables import Cell, Table
 
 if TYPE_CHECKING:
@@ -120,7 +120,7 @@ def on_tail_shares(book: "Book", years: Sequence[Fraction], head: Head) -> str:
     given = sorted({*years} - {Fraction(1)})
     members, colours = [*book._members().values()], colours_of(book)
     asked = tail_shares(book, members, given)
-    columns = {f"{amount_of(each)} years": [*rows_at(asked, each, len(members)), book.tail(1 - 1 / each)] for each in given}
+    columns = {f"{amount_of(each)} years": [*asked.rows[each], book.tail(1 - 1 / each)] for each in given}
     drawn = tail_shares(book, book.units, periods_of(given)) if len(book.units) > 1 else asked
     tails = {each: book.mean() if each == 1 else book.tail(1 - 1 / each) for each in periods_of(given)}
     caption = f"the mean, and shares of the TVaR by return period{head.within}"
@@ -137,11 +137,6 @@ def pictured(book: "Book", picture: str) -> List[str]:
     alike = {*book._members().values()} == {*book.units}
     legend = [] if alike else [key({name: swatch_of(hue) for name, hue in colours_of(book).items()})]
     return [f"<figure>{picture}</figure>", *legend] if picture else []
-
-
-def rows_at(found: TailShares, years: Fraction, many: int) -> List[Row]:
-    """The shares at a return period, which are not there where they take too many joint means."""
-    return found.rows.get(years, [Row(f"cotail:{plain(1 - 1 / years)}", None, None, ("-", "-"), True)] * many)
 
 
 def totals_of(book: "Book", years: Iterable[Fraction]) -> Dict[Fraction, List[Fraction]]:
@@ -229,7 +224,7 @@ def book_page(book: "Book", years: Sequence[Fraction], head: Head) -> str:
     apart = [note("Lines are pooled after their clauses, so that gross and ceded are not told apart.")] if pooled else []
     sides = programs_of(found.sides) if found else []
     parts += [section("The programs" if sides else "The program", *apart, program(book), *sides)]
-    parts.append(rests(", gross less net, and shares that are added up"))
+    parts.append(rests(", and gross less net"))
     return sheet(head, [f"{grid} {HOW}"], parts, LOOK)
 
 

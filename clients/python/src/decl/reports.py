@@ -4,7 +4,7 @@ import html
 import json
 import math
 from collections.abc import Sequence
-from dataclasses import dataclass
+from dataclasses import dataclass, replace
 from decimal import Decimal
 from fractions import Fraction
 from typing import TYPE_CHECKING, Iterable, Iterator, List, Optional, Tuple, Type, Union, overload
@@ -48,7 +48,7 @@ class Row:
     The ends of a bracket (`q`) in buckets are `int`. `high` is None where it is beyond the grid; both ends are None for
     a tail mean, a price or a share of one beyond the grid, and for a share in a total that is too rare. `written` has the ends as they are printed:
     in buckets as the program wrote them, in money as the decimals that are equal to them, rounded outward where there are none. Where `money`
-    is true, the amounts of the ask and the ends are in money, else in buckets.
+    is true, the amounts of the ask and the ends are in money, else in buckets. `rules` are those of the call, `standard` or `extended`.
     """
 
     ask: str
@@ -56,6 +56,7 @@ class Row:
     high: End
     written: Tuple[str, str]
     money: bool = False
+    rules: str = "standard"
 
     @property
     def kind(self) -> str:
@@ -125,11 +126,11 @@ class Row:
             return self
         ask = ask_in_money(self.ask, Fraction(bs))
         if self.unit == "probability":
-            return Row(ask, self.low, self.high, self.written, True)
+            return replace(self, ask=ask, money=True)
         low, high = (end if end is None else Fraction(end) * bs for end in (self.low, self.high))
         shown = decimals(low or Fraction(0), high or Fraction(0))
         first, last = (word if end is None else decimal for end, word, decimal in zip((low, high), self.written, shown))
-        return Row(ask, low, high, (first, last), True)
+        return replace(self, ask=ask, low=low, high=high, written=(first, last), money=True)
 
 
 class Report(Sequence[Row]):
@@ -206,7 +207,8 @@ def why_of(kind: str, state: str) -> str:
     if state == "beyond":
         return "The grid ends before the distribution is sure to reach so far: take a larger log2, or larger buckets."
     if kind == "cotail":
-        return "The quantile is not sure to be one total, or its total is not sure to have a probability of at least 1/65,536."
+        told = "The quantile is not sure to be one total, or its total is not sure to have a probability of at least 1/65,536"
+        return f'{told}: by rules="extended" there is a share.'
     return "The total cannot occur, or is not sure to have a probability of at least 1/65,536: larger buckets make each total likelier."
 
 
@@ -226,8 +228,8 @@ def read_end(ask: str, written: str, ends: Union[Type[Fraction], Type[Decimal]])
     return int(written) if ask.startswith("q:") else ends(written)
 
 
-def read_report(written: str, asks: List[str], ends: Union[Type[Fraction], Type[Decimal]]) -> Report:
-    """The report that these bytes of JSON spell; it has to be whole."""
+def read_report(written: str, asks: List[str], ends: Union[Type[Fraction], Type[Decimal]], rules: str = "standard") -> Report:
+    """The report by these rules that these bytes of JSON spell; it has to be whole."""
     try:
         found = json.loads(written)
         rows = [
@@ -236,6 +238,7 @@ def read_report(written: str, asks: List[str], ends: Union[Type[Fraction], Type[
                 read_end(row["ask"], row["low"], ends),
                 read_end(row["ask"], row["high"], ends),
                 (row["low"], row["high"]),
+                rules=rules,
             )
             for row in found["rows"]
         ]

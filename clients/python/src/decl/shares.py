@@ -1,116 +1,83 @@
-"""Shares of the units in the tail mean at several return periods. Where the program has none, as under a common factor, they are added up
-from its joint means, one for each total."""
+"""Shares of the units in the tail mean: by the program's standard rules where these have numbers, else by its extended rules."""
 
 from dataclasses import dataclass
 from fractions import Fraction
 from typing import TYPE_CHECKING, Dict, Iterable, List, Sequence, Tuple
 
+from .calls import Rules
 from .figures import decimals, plain
-from .levels import SHARE_DIGITS, around
+from .levels import DIGITS, SHARE_DIGITS, around, one, two
 from .reports import Row
 
 if TYPE_CHECKING:
     from .books import Book
 
-Ends = Tuple[Fraction, Fraction]
-NOTHING = (Fraction(0), Fraction(0))
-#: Joint means are asked for with so many digits, since their ends add up.
-FINEST = 9
-#: A page adds up so many joint means at most.
-MOST_JOINTS = 120_000
-NOT_ONE = "the quantile is not sure to be one total"
-TOO_MANY = f"more than {MOST_JOINTS:,} joint means would have to be added up"
+
+def ask_of(book: "Book", unit: str, p: Fraction) -> Tuple[str, Rules]:
+    """The ask for a share of a unit in the tail mean, and the rules by which it is asked first: the standard ones, but under a common factor
+    and at a level of more digits than they take."""
+    low, high = around(p, SHARE_DIGITS)
+    if book.plan.common is not None or low != high:
+        return f"cotail:{unit}:{one(p, DIGITS, 'cotail')}", "extended"
+    return f"cotail:{unit}:{one(p, SHARE_DIGITS, 'cotail')}", "standard"
 
 
-def ends(row: Row) -> Ends:
-    """The two ends of a row that has both."""
-    return Fraction(row.low or 0), Fraction(row.high or 0)
+def rows_of(book: "Book", asks: Iterable[Tuple[str, Rules]]) -> Dict[str, Row]:
+    """The rows of such asks, in money, by few calls of the program: those that are absent by the standard rules by the extended ones."""
+    asks = list(asks)
+    standard = [ask for ask, rules in asks if rules == "standard"]
+    found = dict(zip(standard, book._rows(standard)))
+    extended = [ask for ask, rules in asks if rules == "extended" or found[ask].state == "absent"]
+    found.update(zip(extended, book._rows(extended, "extended")))
+    return {ask: row.in_money(book.bs) for ask, row in found.items()}
 
 
-def atom(book: "Book", at: int, p: Fraction) -> Ends:
-    """Two ends of the part of the years with this total, the quantile at p, that belong to the worst 1 - p."""
-    reached, chance = (ends(book._rows([f"{kind}:{at}"])[0]) for kind in ("cdf", "pmf"))
-    if not chance[0]:
-        return Fraction(0), Fraction(1)
-    low, high = (reached[0] - p) / chance[1], (reached[1] - p) / chance[0]
-    return max(low, Fraction(0)), min(high, Fraction(1))
+def enclosed(ask: str, p: Fraction, below: Tuple[Fraction, Row], above: Tuple[Fraction, Row]) -> Row:
+    """The row at a level between two, with their rows: what of the mean of a unit is of the worst years falls as the level rises."""
+    (low, first), (high, last) = below, above
+    if first.high is None or last.low is None:
+        return Row(ask, None, None, ("beyond", "beyond"), True, "extended")
+    ends = Fraction(last.low) * (1 - high) / (1 - p), Fraction(first.high) * (1 - low) / (1 - p)
+    return Row(ask, *ends, decimals(*ends), True, "extended")
 
 
-def sums_of(book: "Book", unit: str, at: int) -> List[Ends]:
-    """For each total from 0 to at least this one, in buckets: two ends of the mean of the unit's outcome in the years up to it."""
-    known = book._sums.setdefault(unit, [])
-    for row in book._rows(f"joint:{unit}:{x}" for x in range(len(known), at + 1)):
-        before, more = known[-1] if known else NOTHING, ends(row)
-        known.append((before[0] + more[0], before[1] + more[1]))
-    return known
-
-
-def share_by_joints(book: "Book", unit: str, p: Fraction) -> Row:
-    """The mean of a unit in the worst 1 - p of the total: its mean less its joint means with the totals up to the quantile, but for the
-    part of the years at the quantile that belongs to the worst; over 1 - p."""
-    ask = f"cotail:{unit}:{plain(p)}"
-    var = book.q(p)
-    if var.low is None or var.low != var.high:
-        return Row(ask, None, None, ("beyond", "beyond") if var.state == "beyond" else ("-", "-"), True)
-    fine = book._with_digits(FINEST)
-    at = int(Fraction(var.low) / book.bs)
-    below = sums_of(fine, unit, at)[at]
-    part, mean, last = atom(fine, at, p), ends(fine.mean_of(unit)), ends(fine._rows([f"joint:{unit}:{at}"])[0])
-    low = mean[0] - below[1] * book.bs + part[0] * last[0] * book.bs
-    high = mean[1] - below[0] * book.bs + part[1] * last[1] * book.bs
-    found = max(low / (1 - p), Fraction(0)), high / (1 - p)
-    return Row(ask, *found, decimals(*found), True)
-
-
-def joints_for(book: "Book", units: int, p: Fraction) -> int:
-    """How many joint means the shares of so many units at a level take."""
-    var = book.q(p)
-    return units * (int(Fraction(var.low or 0) / book.bs) + 1)
+def shares_of_tail(book: "Book", units: Iterable[str], levels: Iterable[Fraction]) -> Dict[Fraction, List[Row]]:
+    """The shares of these units in the tail mean at each level, in money. A level of more digits than an ask takes lies between two."""
+    units, around = list(units), {p: two(p) for p in levels}
+    asks = {(unit, p): ask_of(book, unit, p) for pair in around.values() for p in pair for unit in units}
+    rows = rows_of(book, asks.values())
+    found: Dict[Fraction, List[Row]] = {}
+    for p, pair in around.items():
+        sides = [[(level, rows[asks[unit, level][0]]) for level in pair] for unit in units]
+        exact = pair[0] == pair[1]
+        found[p] = [below[1] if exact else enclosed(f"cotail:{unit}:{plain(p)}", p, below, above) for unit, (below, above) in zip(units, sides)]
+    return found
 
 
 @dataclass(frozen=True)
 class TailShares:
-    """The shares of units at return periods, of which 1 year is all years; why they are added up from joint means at some of them; and the
-    return periods at which that would take too many."""
+    """The shares of units at return periods, of which 1 year is all years."""
 
     rows: Dict[Fraction, List[Row]]
-    added: Dict[Fraction, str]
-    dear: Sequence[Fraction]
 
     @property
     def there(self) -> Dict[Fraction, List[Row]]:
         """Those of the return periods at which every unit has a share."""
         return {years: rows for years, rows in self.rows.items() if all(row.state == "closed" for row in rows)}
 
-    def missing(self) -> Dict[str, List[Fraction]]:
-        """Why there are no shares, with the return periods without them."""
-        found: Dict[str, List[Fraction]] = {}
-        for years in sorted({*self.rows, *self.dear} - {*self.there}):
-            beyond = any(row.state == "beyond" for row in self.rows.get(years, []))
-            why = TOO_MANY if years in self.dear else "the TVaR may lie past the grid" if beyond else NOT_ONE
-            found.setdefault(why, []).append(years)
-        return found
+    @property
+    def missing(self) -> List[Fraction]:
+        """The return periods at which some unit has none, since the TVaR may lie past the grid."""
+        return sorted({*self.rows} - {*self.there})
 
-
-def why_added(book: "Book", p: Fraction) -> str:
-    """Why the program has no ask for shares at this level; empty where it has."""
-    if book.plan.common is not None:
-        return "under a common factor"
-    low, high = around(p, SHARE_DIGITS)
-    return "" if low == high else "at a level of more than 4 digits"
+    @property
+    def extended(self) -> List[Fraction]:
+        """The return periods whose shares are those of the extended rules."""
+        return sorted(years for years, rows in self.there.items() if any(row.rules == "extended" for row in rows))
 
 
 def tail_shares(book: "Book", units: Sequence[str], periods: Iterable[Fraction]) -> TailShares:
-    """The shares of these units at return periods: those of the program, and where it has none those that are added up from at most
-    MOST_JOINTS joint means."""
-    levels = {years: 1 - 1 / years for years in sorted({*periods} - {Fraction(1)})}
-    added = {years: why for years, why in ((years, why_added(book, p)) for years, p in levels.items()) if why}
-    book.each(f"cotail:{unit}:{p}" for years, p in levels.items() if years not in added for unit in units)
-    rows = {years: [book.share_of_tail(unit, p) for unit in units] for years, p in levels.items() if years not in added}
-    for years, own in rows.items():
-        if any(row.state == "absent" for row in own) and book.q(levels[years]).low == book.q(levels[years]).high:
-            added[years] = "where the total at the VaR is not sure to have a probability of at least 1 in 65,536"
-    dear = [years for years in added if joints_for(book, len(units), levels[years]) > MOST_JOINTS]
-    rows.update({years: [share_by_joints(book, unit, levels[years]) for unit in units] for years in added if years not in dear})
-    rows[Fraction(1)] = [book.mean_of(unit) for unit in units]
-    return TailShares(rows, {years: why for years, why in added.items() if years not in dear}, dear)
+    """The shares of these units at return periods."""
+    levels = {1 - 1 / years: years for years in sorted({*periods} - {Fraction(1)})}
+    rows = {levels[p]: found for p, found in shares_of_tail(book, units, levels).items()}
+    return TailShares({**rows, Fraction(1): [book.mean_of(unit) for unit in units]})

@@ -118,13 +118,15 @@ def figure(cell: Cell) -> str:
 
 
 def cell_of(name: str, cell: Cell, book: str) -> str:
-    """A cell of a table under its name. A figure has its ask, the book that is asked, and its exact ends as data."""
+    """A cell of a table under its name. A figure has its ask, the book that is asked, the rules where they are not the standard ones,
+    and its exact ends as data."""
     head = f'<td data-name="{html.escape(name)}"'
     if isinstance(cell, str):
         return f"{head}>{html.escape(cell)}</td>"
     low, high = ("" if end is None else str(end) for end in (cell.low, cell.high))
     of_book = f' data-book="{html.escape(book)}"' if book else ""
-    facts = f'data-ask="{html.escape(cell.ask)}"{of_book} data-low="{low}" data-high="{high}"'
+    by_rules = f' data-rules="{cell.rules}"' if cell.rules != "standard" else ""
+    facts = f'data-ask="{html.escape(cell.ask)}"{of_book}{by_rules} data-low="{low}" data-high="{high}"'
     shown = html.escape(figure(cell)).replace(" to ", "&nbsp;to ")
     return f'{head} {facts} title="{html.escape(" to ".join(cell.written))}">{shown}</td>'
 

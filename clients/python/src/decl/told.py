@@ -8,6 +8,7 @@ from .expected import Refusal, expected, listed
 
 Reason = Tuple[Type[faults.DeclError], Dict[str, Any], str]
 
+NO_SHARE = 'Units that share a factor have a share of the tail mean by rules="extended" alone.'
 #: An ask of these kinds is held to `width`, any other to `mwidth`.
 PROBABILITIES = ("pmf:", "cdf:", "q:")
 #: Continuous severities that decl.between takes.
@@ -124,7 +125,7 @@ def ask_reason(status: int, reason: str, ask: str, words: Sequence[str]) -> Reas
     if status == 8 and reason == "no such unit":
         return faults.AskFault, {"reason": reason}, "joint, kappa and cotail name a unit of the text."
     if status == 8 and reason == "no share under a common factor":
-        return faults.AskFault, {"reason": reason}, "Units that share a factor have no share of the tail mean here; ask for kappa instead."
+        return faults.AskFault, {"reason": reason}, NO_SHARE
     if status == 8:
         return faults.AskFault, {"reason": reason}, sentences.grid_sentence(words)
     return faults.UsageFault, {}, sentences.ask_sentence(ask) + hints.ask_hint(ask, sentences.FORM)

@@ -12,7 +12,8 @@ RANGES: Dict[str, Tuple[int, int]] = {
     "mwidth": (1, 10**12),
     "make": (0, 2**32 - 1),
 }
-FORMS = ("text", "csv", "json")
+#: The values of each option that is a word.
+CHOICES: Dict[str, Tuple[str, ...]] = {"format": ("text", "csv", "json"), "rules": ("standard", "extended")}
 MOST_ASKS = 256
 CELLS = 1024
 AMOUNT = "a whole number of buckets, of at most 9 digits"
@@ -27,7 +28,8 @@ FORM: Dict[str, str] = {
     "layer": f"In layer:LxsA, L and A are each {AMOUNT}; L can be inf.",
     "joint": f"In joint:NAME:x, NAME is a unit and x {AMOUNT}.",
     "kappa": f"In kappa:NAME:x, NAME is a unit and x {AMOUNT}.",
-    "cotail": "In cotail:NAME:p, NAME is a unit, and p is below 1: a decimal or a fraction of at most 4 digits, or a percent of at most 2.",
+    "cotail": "In cotail:NAME:p, NAME is a unit, and p is below 1: a decimal or a fraction of at most 4 digits, or a percent of at most 2;"
+    " by the extended rules of at most 9, or 7.",
 }
 ASKS = "Asks are pmf:x, cdf:x, mean, q:p, layer:LxsA, tail:p, price:W@P+W@P.., joint:NAME:x, kappa:NAME:x and cotail:NAME:p."
 
@@ -83,15 +85,16 @@ def is_size(value: str) -> bool:
 
 def value_sentence(name: str, value: Optional[str]) -> Optional[str]:
     """What is wrong with an option and its value, None where nothing is."""
-    if name not in RANGES and name not in ("bs", "format"):
-        return f"There is no option {name}; options are bs, log2, digits, width, mwidth, format and make."
+    if name not in RANGES and name not in CHOICES and name != "bs":
+        return f"There is no option {name}; options are bs, log2, digits, width, mwidth, format, make and rules."
     if value is None:
         return f"The option {name} has no value."
     if name == "bs":
         wants = "a numeral above 0, of at most 11 digits (a percent 9, a fraction 11 in each part)"
         return None if is_size(value) else f"bs is the size of a bucket, {wants}, not {value}."
-    if name == "format":
-        return None if value in FORMS else f"format is text, csv or json, not {value}."
+    if name in CHOICES:
+        *first, last = CHOICES[name]
+        return None if value in CHOICES[name] else f"{name} is {', '.join(first)} or {last}, not {value}."
     least, most = RANGES[name]
     if re.fullmatch(r"[0-9]{1,15}", value) and least <= int(value) <= most:
         return None
