@@ -21,7 +21,7 @@ pub scale-requires : goal.scale-requires
 scale-requires g c =
     let left : 0 < c.den-2.result - c.num.result = omega (arith, rest_above c.args.p c.requires.below_one) in
     let most : c.max.result ≤ 2 ^ 97 + 2 ^ 72 =
-    omega (arith, cells_fit c.args.total.now c.args.hi c.cells.ensures.grid (omega arith), cells_fit c.args.total.now c.args.lo c.cells.ensures.grid (omega arith)) in
+    omega (arith, cells_fit c.args.total.now c.args.last.x c.cells.ensures.grid (omega arith), cells_fit c.args.total.now c.args.first.x c.cells.ensures.grid (omega arith)) in
     let fits = whole_fits c.max.result c.den.result _ left most (omega arith) in
     (omega arith, (left, (omega (arith, fits.0), omega (arith, fits.1))))
 
@@ -36,8 +36,8 @@ returns-clause-width g c plan i m j t valid points first last of_mean of_total =
     let is = c.cells.ensures.grid in
     let K = length grid in
     let p = c.args.p in
-    let lo = c.args.lo in
-    let hi = c.args.hi in
+    let lo = c.args.first.x in
+    let hi = c.args.last.x in
     let inside : lo < K = omega arith in
     let jl = c.args.first.at.lo in
     let jh = c.args.first.at.hi in
@@ -85,8 +85,8 @@ returns-clause-holds g c plan i j valid points mean first last q quantile =
     let s = pow_pos g.row.B in
     let grid = c.args.total.now in
     let p = c.args.p in
-    let lo = c.args.lo in
-    let hi = c.args.hi in
+    let lo = c.args.first.x in
+    let hi = c.args.last.x in
     let low = c.mean_in_tail-low.result.lo in
     let high = c.mean_in_tail-high.result.hi in
     let u = part_up c.args.first.at.hi (high_above grid p lo) (low_at grid lo) in
