@@ -165,13 +165,13 @@ impl<'a, const B: u32> ShareSource<'a, B> {
 
     /// The share of the unit in the tail mean at `p`, in buckets, at every quantile inside the
     /// grid: of the greatest totals, whose probability is `1 - p`, the mean of the unit's outcome.
-    /// That is what of its mean lies above the quantile, and the part of its joint mean at the
-    /// quantile that what the distribution has there above `p` is of the probability of the
-    /// quantile, over `1 - p`. Where the bracket of the quantile has two ends, the low end is that
-    /// at the greater, and the high end that at the lesser.
+    /// That is, over `1 - p`: its mean where the total is above the quantile, and its joint mean at
+    /// the quantile times `(F - p) / P`, at most 1, with `P` the probability of the quantile and `F`
+    /// that of a total up to it. Where the bracket of the quantile has two ends, the low end is
+    /// that at the greater, and the high end that at the lesser.
     ///
-    /// `total` is the grid of the total, and `mean` is to hold the unit's mean. `p` is below 1, with
-    /// parts of at most `10^9`. None exactly where the grid ends before the quantile. Takes no
+    /// `total` is the grid of the total, and `mean` is to hold the unit's mean. `p` is below 1,
+    /// with parts of at most `10^9`. None exactly where the grid ends before the quantile. Takes no
     /// memory.
     pub fn share(&self, total: &Distribution<B>, mean: Iv<B>, p: Frac) -> Option<Iv<B>>
         requires below_one { p <ℚ whole 1 }

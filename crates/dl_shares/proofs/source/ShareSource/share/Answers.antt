@@ -71,9 +71,10 @@ share_between-requires g c =
 
 pub returns-clause-none : goal.returns-clause-none
 returns-clause-none g c =
-    let found = subst (IsFirstFound (low_cdf (2 ^ g.row.B) (low_at c.args.total.now)) c.args.p (length c.args.total.now))
+    let grid = c.args.total.now in
+    let found = subst (IsFirstFound (low_cdf (2 ^ g.row.B) (low_at grid)) c.args.p (length grid))
     c.in_ok-hi.was c.quantile-bracket.ensures.hi in
-    (λ none. cc, λ past. absurd (not_past c.args.total.now c.args.p c.in_ok-hi.hi found past))
+    (λ none. cc, λ past. absurd (not_past grid c.args.p c.in_ok-hi.hi found past))
 
 pub returns-clause-holds : goal.returns-clause-holds
 returns-clause-holds g c plan i valid named from = c.share_between.ensures.holds plan i _ valid from.total from.mean
