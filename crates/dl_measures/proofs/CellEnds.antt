@@ -7,7 +7,8 @@ use Rattle.dl_exact.proofs.SumsOver.{to_over, below_over}
 
 -- whatever declares them: the distribution is the sum of the points, and at most 1
 pub cdf_within : (D : Quantity → Series) (S K : ℕ) (lo hi : ℕ → ℕ) → ((x : ℕ) → Rises (D (Point x)))
-    → ((x N : ℕ) → D (Cdf x) N ≡ sum_to x (λ i. D (Point i) N)) → ((x : ℕ) → AtMost (D (Cdf x)) (D One) (whole 1)) → 0 < S
+    → ((x N : ℕ) → D (Cdf x) N ≡ sum_to x (λ i. D (Point i) N))
+    → ((x : ℕ) → AtMost (D (Cdf x)) (D One) (whole 1)) → 0 < S
     → ((x : ℕ) → x < K → Holds (D (Point x)) (D One) (lo x over S) (hi x over S))
     → (x : ℕ) → x < K → Holds (D (Cdf x)) (D One) (low_cdf S lo x) (high_cdf S hi x)
 cdf_within D S K lo hi rise points most s e x xk =
@@ -29,8 +30,8 @@ cdf_within D S K lo hi rise points most s e x xk =
 pub cdf_ends : (us : List Loss) (S K : ℕ) (lo hi : ℕ → ℕ) → AreDeclarable us → 0 < S
     → Encloses S K lo hi (total us)
     → (x : ℕ) → x < K → Holds (partial_sums us (Cdf x)) (partial_sums us One) (low_cdf S lo x) (high_cdf S hi x)
-cdf_ends us S K lo hi w = cdf_within (partial_sums us) S K lo hi (λ x. outcomes_rise us w (score (Point x))) (cdf_points us)
-    (cdf_most_one us)
+cdf_ends us S K lo hi w = cdf_within (partial_sums us) S K lo hi (λ x. outcomes_rise us w (score (Point x)))
+    (cdf_points us) (cdf_most_one us)
 
 pub layer_ends : (us : List Loss) (S K : ℕ) (lo hi : ℕ → ℕ) (v : Fraction) → AreDeclarable us → 0 < S
     → Encloses S K lo hi (total us)

@@ -27,7 +27,8 @@ pub above_apart : {B : ℕ} (grid : List (Iv B)) (p : Fraction) (x : ℕ)
     → high_above grid p x - low_above grid p x ≤ spread grid + 1
 above_apart {B} grid p x = omega (
   arith,
-  above_narrow (2 ^ B) p.num p.den (count_below (suc x) (low_at grid)) (min (2 ^ B) (count_below (suc x) (high_at grid)))
+  above_narrow (2 ^ B) p.num p.den (count_below (suc x) (low_at grid))
+      (min (2 ^ B) (count_below (suc x) (high_at grid)))
       _ _ p.positive refl refl,
   apart grid (suc x),
 )
@@ -64,7 +65,8 @@ module _ {B : ℕ} (grid : List (Iv B)) (p : Fraction) (lo hi : ℕ) (bracket : 
     pub none_above : low_above grid p lo ≡ 0
     none_above =
         let most : count_below (suc lo) (low_at grid) ≤ div_ceil (2 ^ B * p.num) p.den =
-        le_of_mul-le-mul_right {k = p.den} (omega (arith, short lo less, (div_ceil_times (2 ^ B * p.num) p.den p.positive).0))
+        le_of_mul-le-mul_right {k = p.den}
+        (omega (arith, short lo less, (div_ceil_times (2 ^ B * p.num) p.den p.positive).0))
         p.positive in
         omega (arith, most)
 

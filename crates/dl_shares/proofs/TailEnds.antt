@@ -53,7 +53,11 @@ above_most S f p s = subst (λ t. t ≤ℚ (f - S * p.num / p.den) over S) (sym 
 above_least : (S f : ℕ) (p : Fraction) → 0 < S → (f - div_ceil (S * p.num) p.den) over S ≤ℚ f over S -ℚ p
 above_least S f p s = subst (λ t. (f - div_ceil (S * p.num) p.den) over S ≤ℚ t) (sym (less_p S f p s))
     (over_le _ _ _ _ s (mul-pos s p.positive)
-    (omega (arith, mul-le-mul_right S (numbers (div_ceil (S * p.num) p.den) (ceiling_reaches (S * p.num) p.den p.positive)))))
+    (omega (
+      arith,
+      mul-le-mul_right S (numbers (div_ceil (S * p.num) p.den)
+          (ceiling_reaches (S * p.num) p.den p.positive)),
+    )))
   where
     numbers : (k : ℕ) → S * p.num ≤ k * p.den → (f - k) * p.den ≤ f * p.den - p.num * S
     numbers k part = elim (cases_lt k f) [
@@ -85,7 +89,11 @@ module _ {B : ℕ} (plan : Plan) (valid : IsValid plan) (grid : List (Iv B))
   pub quantile_between : (lo hi q : ℕ) → IsBracketIn grid p lo (Some hi) → IsQuantile D q p → (lo ≤ q) × (q ≤ hi)
   quantile_between lo hi q bracket is =
       let held : IsBracketed D lo (Some hi) p = record {
-        before = λ x e. (high_cdf (2 ^ B) (high_at grid) x, bracket.first.before x (omega (arith, e)), (cdf x (omega (arith, e, bracket.first.within))).1);
+        before = λ x e. (
+          high_cdf (2 ^ B) (high_at grid) x,
+          bracket.first.before x (omega (arith, e)),
+          (cdf x (omega (arith, e, bracket.first.within))).1,
+        );
         reached = λ x e. subst (λ y. AtLeast (D (Cdf y)) (D One) p) (same x e) (at_least_wider (D (Cdf hi)) (D One) _ p
             (cdf hi bracket.found.0).0 (bracket.found.1.reached bracket.found.0));
       } in
@@ -110,7 +118,7 @@ module _ {B : ℕ} (plan : Plan) (valid : IsValid plan) (grid : List (Iv B))
 
     pub atom_low : (j : ℕ) → AtLeast (D (Joint i x)) (D One) (j over 2 ^ B)
         → AtomLeast D i p x (part_down j (low_above grid p x) (high_at grid x) over 2 ^ B)
-    atom_low j least = atom_least plan valid i p x (j over 2 ^ B) (high_at grid x over 2 ^ B) (low_cdf (2 ^ B) (low_at grid) x) _
-        least (points x inside).1 (cdf x inside).0 (over_le_over _ _ (2 ^ B) s (down_most j _ _))
+    atom_low j least = atom_least plan valid i p x (j over 2 ^ B) (high_at grid x over 2 ^ B)
+        (low_cdf (2 ^ B) (low_at grid) x) _ least (points x inside).1 (cdf x inside).0 (over_le_over _ _ (2 ^ B) s (down_most j _ _))
         (low_product j (low_above grid p x) _ (high_at grid x) (2 ^ B) _ s (above_least (2 ^ B) _ p s)
         (down_reaches j (low_above grid p x) (high_at grid x)))

@@ -34,7 +34,12 @@ module _ (plan : Plan) (valid : IsValid plan) (i S K : ℕ) (s : 0 < S) (top : �
       → (b + K * between a q) + suc q * top (suc q) ≤ b + K * between a (suc q)
   further a b q order inside =
       let more : between a (suc q) ≡ between a q + top (suc q) =
-      omega (arith, below_more (suc q) top, ap (λ n. count_below n top) (add-one (suc q)), below_grows (suc a) (suc q) top (omega arith)) in
+      omega (
+        arith,
+        below_more (suc q) top,
+        ap (λ n. count_below n top) (add-one (suc q)),
+        below_grows (suc a) (suc q) top (omega arith),
+      ) in
       omega (arith, ap (λ t. K * t) more, mul-le-mul_right {m = suc q} {n = K} (top (suc q)) (omega arith))
 
   sums_most : (a b : ℕ) → AtMost (up_to a) O (b over S) → (q : ℕ) → a ≤ q → q < K

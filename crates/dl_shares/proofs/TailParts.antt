@@ -97,7 +97,8 @@ part_narrow jl jh al ah pl ph x j a p few = elim (leb_tells pl ah) [
   | inr some ↦ elim (leb_tells ph al) [
     | inl more ↦ absurd (omega (arith, some.1, more.1))
     | inr less ↦ rw (some.0, less.0) (div_ceil_least (jh * ah) pl _ (omega (arith, some.1))
-        (both (jl * al / ph) (ah - al) (ph - pl) (jh - jl) (omega (arith, some.1)) (omega arith) (omega arith) (omega arith)
+        (both (jl * al / ph) (ah - al) (ph - pl) (jh - jl) (omega (arith, some.1)) (omega arith) (omega arith)
+        (omega arith)
         (omega (arith, some.1)) (omega (arith, lt-div-mul-add {a = jl * al} {b = ph} (omega (arith, some.1))))))
   ]
 ]

@@ -23,8 +23,8 @@ pub one_sum : (m K j t ml mh bl bh u v : ℕ) → mh - ml ≤ m → ml ≤ mh �
 one_sum m K j t ml mh bl bh u v mean order sums near = omega arith
 
 -- two totals
-pub two_sums : (m K j t q ml mh bl bh cl ch jl jh u v g r : ℕ) → q < K → mh - ml ≤ m → ml ≤ mh → bh - bl ≤ j → ch - cl ≤ j
-    → jh - jl ≤ j → cl ≤ bh + K * g + jh → g ≤ t → jl ≤ v + q * r + 1 → r ≤ t → u ≤ 0 + j + (2 * (K * t) + K) + 2
+pub two_sums : (m K j t q ml mh bl bh cl ch jl jh u v g r : ℕ) → q < K → mh - ml ≤ m → ml ≤ mh → bh - bl ≤ j
+    → ch - cl ≤ j → jh - jl ≤ j → cl ≤ bh + K * g + jh → g ≤ t → jl ≤ v + q * r + 1 → r ≤ t → u ≤ 0 + j + (2 * (K * t) + K) + 2
     → (mh - bl) + u ≤ ((ml - ch) + v) + sum_width m K j t
 two_sums m K j t q ml mh bl bh cl ch jl jh u v g r inside mean order first last joint sums between part rest high =
     let most : q * r ≤ K * t = mul-le-mul (omega arith) rest in

@@ -29,12 +29,12 @@ part_down joint above at = if nat_le at above then joint else joint * above / at
 abbrev pub part_up : (joint above at : ℕ) → ℕ
 part_up joint above at = if nat_le at above then joint else div_ceil (joint * above) at
 
--- these hold the joint mean of unit i of a plan at x, and the sum of those up to x, each within
--- `most`
-pub record HoldJoints {B : ℕ} (plan : Plan) (i x most : ℕ) (joints : Joints B) : Type 0 where
-  pub at : Holds (declared plan (Joint i x)) (declared plan One) (joints.at.lo over 2 ^ B)
+-- these hold the joint mean of unit i of a plan at their total, and the sum of those up to it, each
+-- within `most`
+pub record HoldJoints {B : ℕ} (plan : Plan) (i most : ℕ) (joints : Joints B) : Type 0 where
+  pub at : Holds (declared plan (Joint i joints.x)) (declared plan One) (joints.at.lo over 2 ^ B)
       (joints.at.hi over 2 ^ B)
-  pub up_to : Holds (λ N. sum_to x (λ y. declared plan (Joint i y) N)) (declared plan One)
+  pub up_to : Holds (λ N. sum_to joints.x (λ y. declared plan (Joint i y) N)) (declared plan One)
       (joints.up_to.lo over 2 ^ B) (joints.up_to.hi over 2 ^ B)
   pub at_narrow : joints.at.hi - joints.at.lo ≤ most
   pub up_to_narrow : joints.up_to.hi - joints.up_to.lo ≤ most

@@ -20,9 +20,11 @@
 //! holds the share at the declared quantile, whatever part of the probability there belongs to the
 //! tail, within the width that its budget states. There is none exactly where the grid ends before
 //! the quantile, its bracket has two ends, or that total may be rarer than 1/65,536 (`holds`,
-//! `width`, `none`, `absent`). The shares of all units of a plan add up to the tail mean at every
-//! level, under a common factor too (`law_shares`), and a unit's mean beside others is that of the
-//! unit alone (`law_unit_mean`, `law_plan_unit_mean`).
+//! `width`, `none`, `absent`). `share` holds it at every quantile inside the grid, under a common
+//! factor too: there is none exactly where the grid ends before the quantile (`holds`, `width`,
+//! `none`). The shares of all units of a plan add up to the tail mean at every level, under a
+//! common factor too (`law_shares`), and a unit's mean beside others is that of the unit alone
+//! (`law_unit_mean`, `law_plan_unit_mean`).
 #![tactic(auto)]
 
 mod beside;

@@ -17,10 +17,12 @@ use dl_frac::Frac;
 use dl_iv::Iv;
 use dl_measures::{Distribution, quantile};
 
-/// The joint means of a unit at one total and up to it, in buckets.
+/// The joint means of a unit at a total `x` and up to it, in buckets.
 #[derive(Clone, Copy)]
 struct Joints<const B: u32> {
-    /// The joint mean at the total.
+    /// The total.
+    x: u32,
+    /// The joint mean at it.
     at: Iv<B>,
     /// The sum of those at the totals up to it.
     up_to: Iv<B>,
@@ -47,73 +49,73 @@ fn tail_part<const B: u32>(joint: Iv<B>, above: Iv<B>, at: Iv<B>) -> Iv<B>
     Iv { lo, hi }
 }
 
-/// What of the mean of a unit belongs to the tail at `p` where the quantile is `x`, in buckets: what
-/// of `mean` lies above `x`, and the part of the joint mean at `x` that belongs to the tail.
+/// What of the mean of a unit belongs to the tail at `p` where the quantile is the total of
+/// `joints`, in buckets: what of `mean` lies above it, and the part of the joint mean at it that
+/// belongs to the tail.
 fn mean_in_tail<const B: u32>(
     total: &Distribution<B>,
     mean: Iv<B>,
     joints: Joints<B>,
-    x: u32,
     p: Frac,
 ) -> Iv<B>
     requires below_one { p <ℚ whole 1 }
     requires small { p.den ≤ most_level_den }
-    requires inside { x < length total.now }
+    requires inside { joints.x < length total.now }
     requires mean { mean.hi ≤ most_mean }
-    requires joint { joints.at.hi ≤ 4 * x * 2 ^ B }
+    requires joint { joints.at.hi ≤ 4 * joints.x * 2 ^ B }
     ensures low { result.lo ≡ (mean.entry.lo - joints.entry.up_to.hi)
-        + part_down joints.entry.at.lo (low_above total.now p x) (high_at total.now x) }
+        + part_down joints.entry.at.lo (low_above total.now p joints.entry.x)
+        (high_at total.now joints.entry.x) }
     ensures high { result.hi ≡ (mean.entry.hi - joints.entry.up_to.lo)
-        + part_up joints.entry.at.hi (high_above total.now p x) (low_at total.now x) }
-    ensures small { result.hi ≤ most_mean + 4 * x * 2 ^ B }
+        + part_up joints.entry.at.hi (high_above total.now p joints.entry.x)
+        (low_at total.now joints.entry.x) }
+    ensures small { result.hi ≤ most_mean + 4 * joints.entry.x * 2 ^ B }
 {
     total.cells();
-    let part = tail_part(joints.at, above(total.cdf(x), p), total.at(x));
+    let part = tail_part(joints.at, above(total.cdf(joints.x), p), total.at(joints.x));
     mean.sub_floor0(joints.up_to).add(part)
 }
 
-/// The share of a unit in the tail mean at `p`, in buckets, where the bracket of the quantile goes
-/// from `lo` to `hi`: over `1 - p`, what of its mean belongs to the tail. That falls as the
-/// quantile rises, so its low end is that at `hi`, and its high end that at `lo`. `first` has the
-/// joint means of the unit at `lo`, `last` those at `hi`, and `mean` is to hold its mean.
+/// The share of a unit in the tail mean at `p`, in buckets: what of its mean belongs to the tail,
+/// over `1 - p`. The bracket of the quantile goes from the total of `first` to that of `last`. What
+/// belongs to the tail falls as the quantile rises, so the low end is that at the last total, and
+/// the high end that at the first. `mean` is to hold the unit's mean.
 #[tactic(auto, using(dl_exact::proofs::BelowOne::num_below))]
 fn share_between<const B: u32>(
     total: &Distribution<B>,
     mean: Iv<B>,
     first: Joints<B>,
-    lo: u32,
     last: Joints<B>,
-    hi: u32,
     p: Frac,
 ) -> Iv<B>
     requires below_one { p <ℚ whole 1 }
     requires small { p.den ≤ most_level_den }
-    requires order { lo ≤ hi }
-    requires same { lo ≡ hi → first ≡ last }
-    requires inside { hi < length total.now }
-    requires bracket { IsBracketIn total.now p lo (Some hi) }
+    requires order { first.x ≤ last.x }
+    requires same { first.x ≡ last.x → first ≡ last }
+    requires inside { last.x < length total.now }
+    requires bracket { IsBracketIn total.now p first.x (Some last.x) }
     requires mean { mean.hi ≤ most_mean }
-    requires first { first.at.hi ≤ 4 * lo * 2 ^ B }
-    requires last { last.at.hi ≤ 4 * hi * 2 ^ B }
+    requires first { first.at.hi ≤ 4 * first.x * 2 ^ B }
+    requires last { last.at.hi ≤ 4 * last.x * 2 ^ B }
     ensures holds { (plan : Plan) (i j : ℕ) → IsValid plan
         → ((x : ℕ) → x < length total.now → Holds (declared plan (Point x)) (declared plan One)
         (low_at total.now x over 2 ^ B) (high_at total.now x over 2 ^ B))
         → Holds (declared plan (Outcome i)) (declared plan One) (mean.entry.lo over 2 ^ B)
         (mean.entry.hi over 2 ^ B)
-        → HoldJoints plan i lo j first.entry → HoldJoints plan i hi j last.entry
+        → HoldJoints plan i j first.entry → HoldJoints plan i j last.entry
         → (q : ℕ) → IsQuantile (declared plan) q p
         → HoldsShare (declared plan) i p q (result.lo over 2 ^ B) (result.hi over 2 ^ B) }
     ensures small { result.hi ≤ most_share_end }
     ensures width { (plan : Plan) (i m j t : ℕ) → IsValid plan
         → ((x : ℕ) → x < length total.now → Holds (declared plan (Point x)) (declared plan One)
         (low_at total.now x over 2 ^ B) (high_at total.now x over 2 ^ B))
-        → HoldJoints plan i lo j first.entry → HoldJoints plan i hi j last.entry
+        → HoldJoints plan i j first.entry → HoldJoints plan i j last.entry
         → mean.entry.hi - mean.entry.lo ≤ m → spread total.now ≤ t
         → result.hi - result.lo ≤ whole_share_width p m (length total.now) j t }
 {
     total.cells();
-    let low = mean_in_tail(total, mean, last, hi, p).lo;
-    let high = mean_in_tail(total, mean, first, lo, p).hi;
+    let low = mean_in_tail(total, mean, last, p).lo;
+    let high = mean_in_tail(total, mean, first, p).hi;
     let ends = Iv {
         lo: low,
         hi: high.max(low),
@@ -127,29 +129,35 @@ impl<'a, const B: u32> ShareSource<'a, B> {
     /// The joint means of the unit at `x` and up to it.
     fn joints(&self, x: u32) -> Joints<B>
         requires inside { x < reach self.now }
-        ensures holds { (plan : Plan) (i : ℕ) → IsValid plan → GivesJoints self.now (declared plan) i
-            → HoldJoints plan i x (joint_width self.now) result }
+        ensures total { result.x ≡ x }
+        ensures holds { (plan : Plan) (i : ℕ) → IsValid plan
+            → GivesJoints self.now (declared plan) i
+            → HoldJoints plan i (joint_width self.now) result }
         ensures small { result.at.hi ≤ 4 * x * 2 ^ B }
     {
         Joints {
+            x,
             at: self.joint(x),
             up_to: self.joints_to(x),
         }
     }
 
-    /// Those at `lo`, which are `last` where that is `hi`.
-    fn first_joints(&self, lo: u32, last: Joints<B>, hi: u32) -> Joints<B>
-        requires order { lo ≤ hi }
-        requires inside { hi < reach self.now }
-        requires last { (plan : Plan) (i : ℕ) → IsValid plan → GivesJoints self.now (declared plan) i
-            → HoldJoints plan i hi (joint_width self.now) last }
-        requires small { last.at.hi ≤ 4 * hi * 2 ^ B }
-        ensures holds { (plan : Plan) (i : ℕ) → IsValid plan → GivesJoints self.now (declared plan) i
-            → HoldJoints plan i lo (joint_width self.now) result }
-        ensures same { lo ≡ hi → result ≡ last.entry }
+    /// Those at `lo`, which is at most the total of `last`: `last` itself where it is that total.
+    fn first_joints(&self, lo: u32, last: Joints<B>) -> Joints<B>
+        requires order { lo ≤ last.x }
+        requires inside { last.x < reach self.now }
+        requires holds { (plan : Plan) (i : ℕ) → IsValid plan
+            → GivesJoints self.now (declared plan) i
+            → HoldJoints plan i (joint_width self.now) last }
+        requires small { last.at.hi ≤ 4 * last.x * 2 ^ B }
+        ensures total { result.x ≡ lo }
+        ensures same { lo ≡ last.entry.x → result ≡ last.entry }
+        ensures holds { (plan : Plan) (i : ℕ) → IsValid plan
+            → GivesJoints self.now (declared plan) i
+            → HoldJoints plan i (joint_width self.now) result }
         ensures small { result.at.hi ≤ 4 * lo * 2 ^ B }
     {
-        if lo < hi {
+        if lo < last.x {
             return self.joints(lo);
         }
         last
@@ -157,13 +165,13 @@ impl<'a, const B: u32> ShareSource<'a, B> {
 
     /// The share of the unit in the tail mean at `p`, in buckets, at every quantile inside the
     /// grid: of the greatest totals, whose probability is `1 - p`, the mean of the unit's outcome.
-    /// That is what of its mean lies above the quantile, and the part of its joint mean at the
-    /// quantile that what the distribution has there above `p` is of the probability of the
-    /// quantile, over `1 - p`. Where the bracket of the quantile has two ends, the low end is that
-    /// at the greater, and the high end that at the lesser.
+    /// That is, over `1 - p`: its mean where the total is above the quantile, and its joint mean at
+    /// the quantile times `(F - p) / P`, at most 1, with `P` the probability of the quantile and `F`
+    /// that of a total up to it. Where the bracket of the quantile has two ends, the low end is
+    /// that at the greater, and the high end that at the lesser.
     ///
-    /// `total` is the grid of the total, and `mean` is to hold the unit's mean. `p` is below 1, with
-    /// parts of at most `10^9`. None exactly where the grid ends before the quantile. Takes no
+    /// `total` is the grid of the total, and `mean` is to hold the unit's mean. `p` is below 1,
+    /// with parts of at most `10^9`. None exactly where the grid ends before the quantile. Takes no
     /// memory.
     pub fn share(&self, total: &Distribution<B>, mean: Iv<B>, p: Frac) -> Option<Iv<B>>
         requires below_one { p <ℚ whole 1 }
@@ -187,7 +195,7 @@ impl<'a, const B: u32> ShareSource<'a, B> {
         let bracket = quantile(total, p);
         let hi = bracket.hi?;
         let last = self.joints(hi);
-        let first = self.first_joints(bracket.lo, last, hi);
-        Some(share_between(total, mean, first, bracket.lo, last, hi, p))
+        let first = self.first_joints(bracket.lo, last);
+        Some(share_between(total, mean, first, last, p))
     }
 }
