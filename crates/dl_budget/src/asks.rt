@@ -29,7 +29,7 @@ pub fn ask_budget<const B: u32>(plan: &Plan, ask: &Ask) -> u128
     ensures small { result ≤ most_ask_budget }
 {
     let unit = named_unit(plan.units.as_slice(), ask);
-    let of_unit = budgets_of_named::<B>(plan, unit, None);
+    let of_unit = budgets_of_named::<B>(plan, unit);
     ask_budget_with::<B>(plan, budgets_of::<B>(plan), of_unit, ask)
 }
 
@@ -169,26 +169,15 @@ fn budgets_of_unit<const B: u32>(plan: &Plan, i: u32) -> UnitBudgets
     }
 }
 
-/// The budgets of the unit with this number, counted from 0, of a valid plan: `known`, if they are
-/// its own. None where there is no number.
-pub fn budgets_of_named<const B: u32>(
-    plan: &Plan,
-    unit: Option<u32>,
-    known: Option<UnitBudgets>,
-) -> Option<UnitBudgets>
+/// The budgets of the unit with this number, counted from 0, of a valid plan; none where there is no
+/// number.
+pub fn budgets_of_named<const B: u32>(plan: &Plan, unit: Option<u32>) -> Option<UnitBudgets>
     requires scale { IsPlanScale B }
     requires valid { IsValid plan.now }
     requires unit { IfSome unit (λ i. i < length plan.now.units) }
-    requires known { IfSome known (AreUnitBudgets (2 ^ B) plan.now) }
     ensures { AreBudgetsOfUnit (2 ^ B) plan.now unit result }
 {
-    let i = unit?;
-    if let Some(last) = known {
-        if last.unit == i {
-            return known;
-        }
-    }
-    Some(budgets_of_unit::<B>(plan, i))
+    Some(budgets_of_unit::<B>(plan, unit?))
 }
 
 /// The budget of the share of a unit over the probability of the total.

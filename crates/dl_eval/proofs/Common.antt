@@ -81,4 +81,4 @@ pub use Rattle.dl_report.specs.declared.report.Row.{Row}
 pub use mathlib.Core.Path.{fun_ext}
 pub use Rattle.dl_eval.specs.Answers.{HasShare, IsFirstNot}
 pub use Rattle.dl_eval.specs.Rows.{AreRowEnds, Declares, DeclaresGiven, DeclaresShare, DeclaresTail, IsAnswerTo, IsAtLeast, IsAtMost, IsBelow, IsBeyond, IsBeyondSome, IsBracket, IsGood, IsNoTailShare, IsPrice, IsPriceBetween, IsShareOfUnit, IsTailMean, IsTailShare, IsTooRare, at_the_end, bracket_end, least_likely, scale, total_error}
-pub use Rattle.dl_eval.specs.Totals.{AreGridsOf, AreOthers, AreOthersOf, AreShared, AreUnitGrids, AreUnitMeans, AreUnits, HasOthers, IsClauseGrid, IsClauseMean, IsGridOfUnit, IsJointOf, IsMeanOf, IsTailShareOf, IsTotalOf, IsUnitGrid, IsUnitMean, Prints, most_clause_mean, most_unit_mean}
+pub use Rattle.dl_eval.specs.Totals.{AreGridsOf, AreOthers, AreOthersOf, AreUnitGrids, AreUnitMeans, AreUnits, HasOthers, IsClauseGrid, IsClauseMean, IsGridOfUnit, IsJointOf, IsMeanOf, IsTailShareOf, IsTotalOf, IsUnitGrid, IsUnitMean, Prints, most_clause_mean, most_unit_mean}

@@ -1,7 +1,7 @@
 -- Lists made one by one from another list.
 use Rattle.std.specs.Bool.{then_some}
 use Rattle.std.proofs.Common.{refl, true}
-use Rattle.dl_eval.proofs.Common.{Bool, false, IsTrue, IfSome, ℕ, zero, suc, ◌≡◌, ◌+◌, ◌<◌, List, [], ◌∷◌, ◌++◌, length, get_or, arith, inl, inr, sym, ap, ◌∙◌, All, Any, zip, cases_lt, get_or_default, length-append, All-nil, All-cons, All-append, get_or_append_left, get_or_push}
+use Rattle.dl_eval.proofs.Common.{Bool, false, IsTrue, IfSome, IsSome, Option, None, ℕ, zero, suc, ◌≡◌, ◌+◌, ◌<◌, List, [], ◌∷◌, ◌++◌, length, get_or, arith, inl, inr, sym, ap, ◌∙◌, All, Any, zip, cases_lt, get_or_default, length-append, All-nil, All-cons, All-append, get_or_append_left, get_or_push}
 
 -- one item more
 pub pushed_length : {R : Type 0} (ys zs : List R) (i : ℕ) (y : R) → length ys ≡ i → zs ≡ ys ++ y ∷ []
@@ -68,3 +68,9 @@ all_pairs P (x ∷ xs) (y ∷ ys) same each zero d inside = each 0 x y (omega ar
 all_pairs P (x ∷ xs) (y ∷ ys) same each (suc k) d inside =
     all_pairs P xs ys (omega (arith, same)) (λ j a r below. each (suc j) a r (omega (arith, below))) k d
     (omega (arith, inside))
+
+-- what is there has a place in the list
+pub some_inside : {A : Type 0} (xs : List (Option A)) (i : ℕ) → IsSome (get_or xs i None) → i < length xs
+some_inside [] i some = absurd cc
+some_inside (x ∷ xs) zero some = omega arith
+some_inside (x ∷ xs) (suc i) some = omega (arith, some_inside xs i some)

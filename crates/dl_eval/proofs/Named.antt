@@ -1,6 +1,7 @@
 -- The numbers of the units that asks name.
-use Rattle.dl_eval.proofs.Common.{ℕ, ◌≡◌, ◌<◌, ◌↔◌, List, length, get_or, sym, ap, ◌∙◌, subst, length-map, Option, None, Some, IfSome, All, Asked, NamesUnit, index_of, named_unit, named_units, option_map, get_or-map, All-map, UnitOfPlan, facts_of, IsNamed, AreUnits}
+use Rattle.dl_eval.proofs.Common.{ℕ, ◌≡◌, ◌<◌, ◌↔◌, List, length, get_or, sym, ap, ◌∙◌, subst, length-map, Option, None, Some, IfSome, All, Any, refl, Asked, NamesUnit, index_of, named_unit, named_units, option_map, get_or-map, All-map, UnitOfPlan, facts_of, IsNamed, AreUnits}
 use Rattle.dl_plan.specs.declared.settings.Ask.{Ask}
+use Rattle.dl_eval.proofs.Lists.{any_here}
 
 -- an ask names a unit where the number is that of one
 pub names_inside : (units : List UnitOfPlan) (ask : Ask) → IfSome (named_unit units ask) (λ i. i < length units)
@@ -57,3 +58,13 @@ pub are_units : (units : List UnitOfPlan) (asks : List Asked) {named : List (Opt
 are_units units asks same all = subst (AreUnits (length units)) (sym same)
     (All-map (λ unit. IfSome unit (λ i. i < length units)) (λ (asked : Asked). named_unit units asked.ask) asks
     (λ k d inside. (names_inside units (get_or asks k d).ask).1 (all k d inside)))
+
+-- what holds of each unit that an ask names
+pub each_named : {P : ℕ → Type 0} (named : List (Option ℕ)) {n : ℕ} → AreUnits n named
+    → ((i : ℕ) → i < n → Any (λ unit. unit ≡ Some i) named → P i) → All (λ unit. IfSome unit P) named
+each_named {P} named {n} units holds = λ k d inside. there k d inside (get_or named k d) refl (units k d inside)
+  where
+    there : (k : ℕ) (d : Option ℕ) → k < length named → (unit : Option ℕ) → get_or named k d ≡ unit
+        → IfSome unit (λ i. i < n) → IfSome unit P
+    there k d inside None is unit = tt
+    there k d inside (Some i) is unit = holds i unit (any_here (λ (unit : Option ℕ). unit ≡ Some i) named k d inside is)

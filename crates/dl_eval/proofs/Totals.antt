@@ -1,8 +1,7 @@
 -- The grid of a total, from those of its units.
-use Rattle.dl_eval.proofs.Common.{ℕ, zero, suc, ◌≡◌, ◌^◌, ◌<◌, ◌≤◌, List, [], ◌∷◌, ◌++◌, length, get_or, map, arith, refl, sym, ap, subst, subst₂, ◌∙◌, Option, None, Some, IfSome, All, pow_pos, length-append, length-map, get_or_default, Iv, spread, low_at, high_at, convolution_spread, cv_rises, mapped, GridEncloses, unit_of, outcome_after, aggregate_of, aggregates_of, compound_of, unit_declared, plan_units, Plan, IsValidUnit, IsValid, unit_budget, unit_budgets, IsTotal, AreSumsWithout, AreUnitGrids, AreShared, IsTotalOf, AreOthersOf, AreOthers, HasOthers, loss_of, IfSome_then, Bool, false, IsTrue, fold, remove, get_or-map, sum_budget, sum_spread, encloses_same, UnitOfPlan, budgets_length, budget_here, IsSumWithout, independent, AreGridsOf, AreUnitMeans, AreUnits, most_unit_mean}
+use Rattle.dl_eval.proofs.Common.{ℕ, zero, suc, ◌≡◌, ◌^◌, ◌<◌, ◌≤◌, List, [], ◌∷◌, ◌++◌, length, get_or, map, arith, refl, sym, ap, subst, subst₂, ◌∙◌, Option, None, All, pow_pos, length-append, length-map, get_or_default, Iv, spread, low_at, high_at, convolution_spread, cv_rises, mapped, GridEncloses, unit_of, outcome_after, aggregate_of, aggregates_of, compound_of, unit_declared, plan_units, Plan, IsValidUnit, IsValid, unit_budget, unit_budgets, IsTotal, AreSumsWithout, AreUnitGrids, IsTotalOf, AreOthersOf, AreOthers, loss_of, IfSome_then, Bool, false, IsTrue, fold, remove, get_or-map, sum_budget, sum_spread, encloses_same, UnitOfPlan, budgets_length, budget_here, IsSumWithout, independent, AreGridsOf, AreUnitMeans, most_unit_mean}
 use Rattle.dl_model.proofs.UnitLaws.{unit_plain}
 use Rattle.dl_port.specs.Sums.{EncloseEach}
-use Rattle.dl_eval.proofs.Lists.{any_here}
 use Rattle.dl_eval.specs.declared.grids.Grids.{Grids}
 use Rattle.dl_eval.specs.Totals.{AreRaisedTotals}
 use Rattle.dl_eval.proofs.Losses.{is_independent}
@@ -162,22 +161,6 @@ are_others {sums = sums} valid each rest = record {
       IfSome_then (get_or sums i None)
       (rest.each i (omega (arith, inside, each.as_many))) (λ g sum. others_of valid each sum);
 }
-
--- for the unit that an ask names, the sum of all others is there
-pub has_others : {B : ℕ} (plan : Plan) {grids : List (List (Iv B))} (named : List (Option ℕ)) {asked : List Bool}
-    (made : Grids B)
-    → AreUnitGrids plan.cells plan.units grids
-    → AreShared (length plan.units) named asked → AreSumsWithout plan.cells grids asked made.sums.others.items
-    → AreUnits (length plan.units) named → All (HasOthers made) named
-has_others plan named made each shared rest all = λ k d inside.
-    there k d inside (get_or named k d) refl (all k d inside)
-  where
-    there : (k : ℕ) (d : Option ℕ) → k < length named → (unit : Option ℕ) → get_or named k d ≡ unit
-        → IfSome unit (λ i. i < length plan.units) → HasOthers made unit
-    there k d inside None is index = index
-    there k d inside (Some i) is index =
-        (rest.there i (omega (arith, index, each.as_many))).1
-        ((shared.each i index).1 (any_here (λ (unit : Option ℕ). unit ≡ Some i) named k d inside is))
 
 -- each grid has the cells
 pub long_enough : {B : ℕ} (cells : ℕ) (us : List UnitOfPlan) (grids : List (List (Iv B))) → AreUnitGrids cells us grids

@@ -1,9 +1,10 @@
 -- The grids that the rows of a plan are drawn from.
-use Rattle.std.specs.Prelude.{ℕ, ◌≡◌, ◌≤◌, List, Option, None, IsSome, IfSome, All, length, ⊤}
+use Rattle.std.specs.Prelude.{ℕ, ◌≡◌, ◌<◌, ◌≤◌, List, Option, None, IsSome, IfSome, All, length, get_or, ⊤}
 use Rattle.dl_iv.specs.declared.interval.Iv.{Iv}
 use Rattle.dl_plan.specs.declared.plan.Plan.{Plan}
 use Rattle.dl_plan.specs.declared.settings.Asked.{Asked}
 use Rattle.dl_plan.specs.Prelude.{facts_of}
+use Rattle.dl_budget.specs.declared.once.UnitBudgets.{UnitBudgets}
 use Rattle.dl_eval.specs.declared.drawn.PlanGrids.{PlanGrids}
 use Rattle.dl_eval.specs.declared.drawn.PlanGrids.TheVariants.{Independent, Shared}
 use Rattle.dl_shares.specs.declared.source.ShareSource.TheVariants as sources
@@ -47,3 +48,8 @@ CoverAsks grids asks = All (λ asked. HasCells grids (facts_of asked.ask).least_
 -- that of the unit which an ask names, if it names one
 abbrev pub HasNeeded : {B : ℕ} → Plan → PlanGrids B → Option ℕ → Type 0
 HasNeeded plan grids unit = IfSome unit (HasShareOf plan grids)
+
+-- those of all units that asks name, which then have their budgets
+abbrev pub HasAllNeeded : {B : ℕ} → Plan → PlanGrids B → List (Option UnitBudgets) → Type 0
+HasAllNeeded plan grids budgets = (i : ℕ) → i < length plan.units
+    → IsSome (get_or budgets i None) → HasShareOf plan grids i

@@ -1,3 +1,4 @@
+pub mod Budgets
 pub mod Rows
 pub mod Totals
 pub mod Drawn

@@ -1,6 +1,6 @@
 -- The grounds of the rows: the grids and the means of the units, of their total, and of all but
 -- one.
-use Rattle.std.specs.Prelude.{ℕ, ◌≡◌, ◌+◌, ◌*◌, ◌/◌, ◌<◌, ◌≤◌, ◌^◌, ◌↔◌, ◌⊎◌, Bool, false, IsTrue, Option, None, Some, IsSome, IfSome, All, Any, List, [], ◌∷◌, length, get_or}
+use Rattle.std.specs.Prelude.{ℕ, ◌≡◌, ◌+◌, ◌*◌, ◌/◌, ◌<◌, ◌≤◌, ◌^◌, ◌⊎◌, Bool, false, IsTrue, Option, None, Some, IsSome, IfSome, All, List, [], ◌∷◌, length, get_or}
 use Rattle.std.specs.Int.{div_ceil}
 use Rattle.dl_exact.specs.Prelude.{Fraction, ◌over◌}
 use Rattle.dl_limits.specs.Limits.{budget_bound, most_mean_to_change}
@@ -139,15 +139,10 @@ pub record ArePooledGridsOf {B : ℕ} (plan : Plan) (grids : PooledGrids B) : Ty
 abbrev pub AreUnits : ℕ → List (Option ℕ) → Type 0
 AreUnits units named = All (λ unit. IfSome unit (λ i. i < units)) named
 
--- whether each of so many units is one of those that asks name
-pub record AreShared (units : ℕ) (named : List (Option ℕ)) (asked : List Bool) : Type 0 where
-  pub as_many : length asked ≡ units
-  pub each : (i : ℕ) → i < units → IsTrue (get_or asked i false)
-      ↔ Any (λ unit. unit ≡ Some i) named
-
--- the grid of all other units is there for this unit, if there is one
-abbrev pub HasOthers : {B : ℕ} → Grids B → Option ℕ → Type 0
-HasOthers grids unit = IfSome unit (λ i. IsSome (get_or grids.sums.others.items i None))
+-- the grid of all other units is there for each unit that is asked
+abbrev pub HasOthers : {B : ℕ} → Plan → List Bool → Grids B → Type 0
+HasOthers plan asked grids = (i : ℕ) → i < length plan.units → IsTrue (get_or asked i false)
+    → IsSome (get_or grids.sums.others.items i None)
 
 -- for each unit, where it is there, the grid of the sum of all others
 pub record AreOthers {B : ℕ} (plan : Plan) (others : List (Option (List (Iv B)))) : Type 0 where

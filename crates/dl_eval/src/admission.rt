@@ -1,15 +1,26 @@
 //! Which asks are refused.
 
-ghost use Rattle.std.specs.Prelude.{◌≡◌, ◌<◌, ◌≤◌, ◌↔◌, IsTrue, ℕ, List, None, All, IfOk, IfSome, MatchOption, MatchResult, length};
+ghost use Rattle.std.specs.Prelude.{◌≡◌, ◌<◌, ◌≤◌, ◌^◌, ◌↔◌, IsTrue, ℕ, List, None, All, IfOk, IfSome, MatchOption, MatchResult, length};
 ghost use Rattle.dl_limits.specs.Limits.{bits_of, most_asks, most_units};
 ghost use Rattle.dl_plan.specs.Prelude.{AreInRange, IsValid};
 ghost use Rattle.dl_budget.specs.Asks.{IsInside, NamesUnit, named_units};
+ghost use Rattle.dl_eval.specs.Budgets.{AreAllBudgets, HaveBudgets, IsAdmissionOf};
 ghost use Rattle.dl_eval.specs.Answers.{AreInside, NameUnits, HasShare, AllPass, IsFirstNot, IsFirstWide, AreAdmitted, RefusesAsk};
 
+use crate::budgets::{AllBudgets, all_budgets};
 use crate::fault::EvalFault;
-use dl_budget::{budgets_of, budgets_of_named, named_unit, needed_with};
+use dl_budget::{named_unit, needed_with};
 use dl_plan::{Ask, Asked, Plan, Settings, Unit};
 use std::alloc::{AllocError, Global};
+
+/// What the asks name, and the budgets that they need.
+#[derive(Drop)]
+pub(crate) struct Admitted {
+    /// For each ask, the number of the unit that it names, counted from 0.
+    pub(crate) named: Vec<Option<u32>>,
+    /// The budgets of the total and of these units.
+    pub(crate) budgets: AllBudgets,
+}
 
 /// Whether an ask lies inside a grid of `cells` cells.
 fn is_inside(cells: u32, ask: &Ask) -> bool
@@ -100,14 +111,13 @@ fn first_share(plan: &Plan, asks: &[Asked]) -> Option<u32>
     None
 }
 
-/// The first ask that needs more width than the settings give, and the width it needs. The budgets
-/// of the total and of its mean are computed once for all asks, and those of a unit once for asks
-/// that name it one after the other.
+/// The first ask that needs more width than the settings give, and the width it needs.
 #[tactic(auto, using(crate::proofs::Scales::plan_scale))]
 fn first_wide<const B: u32>(
     plan: &Plan,
     settings: &Settings,
     named: &[Option<u32>],
+    budgets: &AllBudgets,
 ) -> Option<(u32, u128)>
     requires scale { B ≡ bits_of plan.now.cells }
     requires valid { IsValid plan.now }
@@ -115,39 +125,37 @@ fn first_wide<const B: u32>(
     requires inside { AreInside plan.now settings.now }
     requires named { NameUnits plan.now settings.now }
     requires numbers { named.now ≡ named_units plan.now.units settings.now.asks }
+    requires budgets { AreAllBudgets (2 ^ B) plan.now budgets.now }
+    requires there { HaveBudgets plan.now named.now budgets.now }
     ensures { MatchOption result (AllPass plan.now settings.now)
         (λ wide. IsFirstWide plan.now settings.now wide.0 wide.1) }
 {
     let asks = settings.asks.as_slice();
-    let budgets = budgets_of::<B>(plan);
-    let mut last = None;
     for i in 0..asks.len() {
         let ask = &asks[i].ask;
-        let of_unit = budgets_of_named::<B>(plan, named[i], last);
-        let width = needed_with::<B>(plan, budgets, of_unit, ask, settings.digits);
+        let of_unit = budgets.of(named[i]);
+        let width = needed_with::<B>(plan, budgets.of_total, of_unit, ask, settings.digits);
         if width > ask.most_width(settings) as u128 {
             return Some((i as u32, width));
         }
-        last = of_unit.or(last);
     }
     None
 }
 
-/// For each ask the number of the unit that it names; or refuses the first ask past the grid, else
+/// For each ask the number of the unit that it names, and the budgets; or refuses the first ask past the grid, else
 /// the first that names no unit, else the first for a share of the tail mean where the units share
 /// a factor, else the first that needs more width than the settings give.
 pub(crate) fn admit<const B: u32>(
     alloc: Global,
     plan: &Plan,
     settings: &Settings,
-) -> Result<Vec<Option<u32>>, EvalFault>
+) -> Result<Admitted, EvalFault>
     requires scale { B ≡ bits_of plan.now.cells }
     requires valid { IsValid plan.now }
     requires ranges { AreInRange settings.now }
     ensures admitted { MatchResult result (λ _. AreAdmitted plan.now settings.now)
         (RefusesAsk plan.now settings.now) }
-    ensures numbers { IfOk result (λ named.
-        named.items ≡ named_units plan.now.units settings.now.asks) }
+    ensures told { IfOk result (IsAdmissionOf (2 ^ B) plan.now settings.now.asks) }
 {
     let asks = settings.asks.as_slice();
     if let Some(i) = first_beyond(plan.cells, asks) {
@@ -161,8 +169,9 @@ pub(crate) fn admit<const B: u32>(
     if let Some(i) = first_share(plan, asks) {
         return Err(EvalFault::NoShare(i));
     }
-    if let Some((i, width)) = first_wide::<B>(plan, settings, named.as_slice()) {
+    let budgets = all_budgets::<B>(alloc, plan, named.as_slice())?;
+    if let Some((i, width)) = first_wide::<B>(plan, settings, named.as_slice(), &budgets) {
         return Err(EvalFault::TooWide(i, width));
     }
-    Ok(named)
+    Ok(Admitted { named, budgets })
 }

@@ -1,16 +1,18 @@
 //! The report of a plan.
 
-ghost use Rattle.std.specs.Prelude.{◌≡◌, ◌≤◌, ◌^◌, ◌↔◌, ℕ, IsTrue, IsSome, None, All, Any, IfOk, MatchResult, IfSome, length};
+ghost use Rattle.std.specs.Prelude.{◌≡◌, ◌≤◌, ◌^◌, ◌↔◌, ℕ, IsTrue, IsSome, None, All, IfOk, MatchResult, IfSome, length};
 ghost use Rattle.dl_limits.specs.Limits.{bits_of};
 ghost use Rattle.dl_plan.specs.declared.settings.Ask.TheVariants as kinds;
 ghost use Rattle.dl_plan.specs.Prelude.{AreInRange, IsValid};
 ghost use Rattle.dl_budget.specs.Asks.{IsInside, named_units};
+ghost use Rattle.dl_eval.specs.Budgets.{AreAllBudgets, IsAdmissionOf};
 ghost use Rattle.dl_eval.specs.Answers.{AreInside, NameUnits, HaveShares, IsGoodReport, IsAnswered, RefusesAsk};
 ghost use Rattle.dl_eval.specs.declared.drawn.PlanGrids.TheVariants.{Independent};
-ghost use Rattle.dl_eval.specs.Totals.{most_mean, AreGridsOf, AreUnits, IsMeanOf, IsPooledOf, IsTotalOf};
-ghost use Rattle.dl_eval.specs.Drawn.{AreDrawnOf, CoverAsks, HasNeeded, total_drawn};
+ghost use Rattle.dl_eval.specs.Totals.{most_mean, AreGridsOf, IsMeanOf, IsPooledOf, IsTotalOf};
+ghost use Rattle.dl_eval.specs.Drawn.{AreDrawnOf, CoverAsks, HasAllNeeded, HasNeeded, total_drawn};
 
-use crate::admission::admit;
+use crate::admission::{Admitted, admit};
+use crate::budgets::AllBudgets;
 use crate::drawn::PlanGrids;
 use crate::fault::EvalFault;
 use crate::grids::Grids;
@@ -63,20 +65,21 @@ fn independent_grids<const B: u32>(
     alloc: Global,
     work: &mut Workspace,
     plan: &Plan,
-    named: &[Option<u32>],
+    budgets: &AllBudgets,
 ) -> Result<Grids<B>, AllocError>
     requires scale { B ≡ bits_of plan.now.cells }
     requires valid { IsValid plan.now }
     requires independent { plan.now.common ≡ None }
-    requires named { AreUnits (length plan.now.units) named.now }
+    requires budgets { AreAllBudgets (2 ^ B) plan.now budgets.now }
     ensures grids { IfOk result (λ grids. AreGridsOf plan.now grids) }
-    ensures there { IfOk result (λ grids. All (HasNeeded plan.now (Independent grids)) named.now) }
+    ensures there { IfOk result (λ grids.
+        HasAllNeeded plan.now (Independent grids) budgets.now.of_units.items) }
 {
-    if let Some(grids) = grids_together::<B>(alloc, work, plan, named)? {
+    if let Some(grids) = grids_together::<B>(alloc, work, plan, budgets)? {
         return Ok(grids);
     }
     let made = unit_outcomes(alloc, work, plan)?;
-    mixed_grids(alloc, work, plan, named, made.grids, made.means)
+    mixed_grids(alloc, work, plan, budgets, made.grids, made.means)
 }
 
 /// The grids and means behind the rows of a valid plan whose units are independent. Where all asks
@@ -87,16 +90,16 @@ fn independent_parts<const B: u32>(
     work: &mut Workspace,
     plan: &Plan,
     asks: &[Asked],
-    named: &[Option<u32>],
+    budgets: &AllBudgets,
 ) -> Result<Parts<B>, AllocError>
     requires scale { B ≡ bits_of plan.now.cells }
     requires valid { IsValid plan.now }
     requires independent { plan.now.common ≡ None }
-    requires named { AreUnits (length plan.now.units) named.now }
+    requires budgets { AreAllBudgets (2 ^ B) plan.now budgets.now }
     ensures grids { IfOk result (λ parts. IfSome parts.grids (λ made.
         AreDrawnOf plan.now made)) }
     ensures there { IfOk result (λ parts. IfSome parts.grids (λ made.
-        All (HasNeeded plan.now made) named.now)) }
+        HasAllNeeded plan.now made budgets.now.of_units.items)) }
     ensures reached { IfOk result (λ parts. IfSome parts.grids (λ made. CoverAsks made asks.now)) }
     ensures none { IfOk result (λ parts. parts.grids ≡ None
         → All (λ asked. asked.ask ≡ kinds.Mean) asks.now) }
@@ -110,7 +113,7 @@ fn independent_parts<const B: u32>(
             mean: total_mean(means.as_slice()),
         });
     }
-    let grids = independent_grids(alloc, work, plan, named)?;
+    let grids = independent_grids(alloc, work, plan, budgets)?;
     let mean = total_mean(grids.means.as_slice());
     Ok(Parts {
         grids: Some(PlanGrids::Independent(grids)),
@@ -132,13 +135,6 @@ fn cells_asked(asks: &[Asked]) -> u64
     cells
 }
 
-/// Whether an ask names a unit.
-fn is_some_named(named: &[Option<u32>]) -> bool
-    ensures { IsTrue result ↔ Any (λ unit. IsSome unit) named.now }
-{
-    named.iter().any(|unit| unit.is_some())
-}
-
 /// The grids and means behind the rows of a valid plan whose units share a factor, from the one unit
 /// in their place. Where all asks are for the mean there is no grid.
 fn parts_from_pooled<const B: u32>(
@@ -146,19 +142,19 @@ fn parts_from_pooled<const B: u32>(
     work: &mut Workspace,
     plan: &Plan,
     asks: &[Asked],
-    named: &[Option<u32>],
+    budgets: &AllBudgets,
     pooled: &Unit,
 ) -> Result<Parts<B>, AllocError>
     requires scale { B ≡ bits_of plan.now.cells }
     requires valid { IsValid plan.now }
     requires shares { IsSome plan.now.common }
     requires inside { All (λ asked. IsInside plan.now.cells asked.ask) asks.now }
-    requires named { AreUnits (length plan.now.units) named.now }
+    requires budgets { AreAllBudgets (2 ^ B) plan.now budgets.now }
     requires pooled { IsPooledOf plan.now pooled.now }
     ensures grids { IfOk result (λ parts. IfSome parts.grids (λ made.
         AreDrawnOf plan.now made)) }
     ensures there { IfOk result (λ parts. IfSome parts.grids (λ made.
-        All (HasNeeded plan.now made) named.now)) }
+        HasAllNeeded plan.now made budgets.now.of_units.items)) }
     ensures reached { IfOk result (λ parts. IfSome parts.grids (λ made. CoverAsks made asks.now)) }
     ensures none { IfOk result (λ parts. parts.grids ≡ None
         → All (λ asked. asked.ask ≡ kinds.Mean) asks.now) }
@@ -170,7 +166,7 @@ fn parts_from_pooled<const B: u32>(
         return Ok(Parts { grids: None, mean });
     }
     let reach = cells_asked(asks) as u32;
-    let grids = pooled_grids(alloc, work, plan, pooled, is_some_named(named), reach)?;
+    let grids = pooled_grids(alloc, work, plan, pooled, budgets.are_named(), reach)?;
     Ok(Parts {
         grids: Some(PlanGrids::Shared(grids)),
         mean,
@@ -184,17 +180,17 @@ fn shared_parts<const B: u32>(
     work: &mut Workspace,
     plan: &Plan,
     asks: &[Asked],
-    named: &[Option<u32>],
+    budgets: &AllBudgets,
 ) -> Result<Parts<B>, AllocError>
     requires scale { B ≡ bits_of plan.now.cells }
     requires valid { IsValid plan.now }
     requires shares { IsSome plan.now.common }
     requires inside { All (λ asked. IsInside plan.now.cells asked.ask) asks.now }
-    requires named { AreUnits (length plan.now.units) named.now }
+    requires budgets { AreAllBudgets (2 ^ B) plan.now budgets.now }
     ensures grids { IfOk result (λ parts. IfSome parts.grids (λ made.
         AreDrawnOf plan.now made)) }
     ensures there { IfOk result (λ parts. IfSome parts.grids (λ made.
-        All (HasNeeded plan.now made) named.now)) }
+        HasAllNeeded plan.now made budgets.now.of_units.items)) }
     ensures reached { IfOk result (λ parts. IfSome parts.grids (λ made. CoverAsks made asks.now)) }
     ensures none { IfOk result (λ parts. parts.grids ≡ None
         → All (λ asked. asked.ask ≡ kinds.Mean) asks.now) }
@@ -202,7 +198,7 @@ fn shared_parts<const B: u32>(
     ensures small { IfOk result (λ parts. parts.mean.hi ≤ most_mean) }
 {
     let pooled = pooled_unit(alloc, plan)?;
-    parts_from_pooled(alloc, work, plan, asks, named, &pooled)
+    parts_from_pooled(alloc, work, plan, asks, budgets, &pooled)
 }
 
 /// The grids and means behind the rows of a valid plan.
@@ -210,16 +206,16 @@ fn parts_for<const B: u32>(
     alloc: Global,
     plan: &Plan,
     asks: &[Asked],
-    named: &[Option<u32>],
+    budgets: &AllBudgets,
 ) -> Result<Parts<B>, AllocError>
     requires scale { B ≡ bits_of plan.now.cells }
     requires valid { IsValid plan.now }
     requires inside { All (λ asked. IsInside plan.now.cells asked.ask) asks.now }
-    requires named { AreUnits (length plan.now.units) named.now }
+    requires budgets { AreAllBudgets (2 ^ B) plan.now budgets.now }
     ensures grids { IfOk result (λ parts. IfSome parts.grids (λ made.
         AreDrawnOf plan.now made)) }
     ensures there { IfOk result (λ parts. IfSome parts.grids (λ made.
-        All (HasNeeded plan.now made) named.now)) }
+        HasAllNeeded plan.now made budgets.now.of_units.items)) }
     ensures reached { IfOk result (λ parts. IfSome parts.grids (λ made. CoverAsks made asks.now)) }
     ensures none { IfOk result (λ parts. parts.grids ≡ None
         → All (λ asked. asked.ask ≡ kinds.Mean) asks.now) }
@@ -229,8 +225,8 @@ fn parts_for<const B: u32>(
     let mut space = Workspace::new(alloc);
     let work = &mut space;
     match plan.common {
-        Some(_) => shared_parts(alloc, work, plan, asks, named),
-        None => independent_parts(alloc, work, plan, asks, named),
+        Some(_) => shared_parts(alloc, work, plan, asks, budgets),
+        None => independent_parts(alloc, work, plan, asks, budgets),
     }
 }
 
@@ -303,41 +299,12 @@ fn report<const B: u32>(
     })
 }
 
-/// The rows of the asks, in order, from the grids and means behind them.
-fn drawn_report<const B: u32>(
-    alloc: Global,
-    plan: &Plan,
-    settings: &Settings,
-    named: &[Option<u32>],
-    parts: &Parts<B>,
-) -> Result<Report, AllocError>
-    requires scale { B ≡ bits_of plan.now.cells }
-    requires grids { IfSome parts.now.grids (λ made. AreDrawnOf plan.now made) }
-    requires valid { IsValid plan.now }
-    requires ranges { AreInRange settings.now }
-    requires inside { AreInside plan.now settings.now }
-    requires named { NameUnits plan.now settings.now }
-    requires shares { HaveShares plan.now settings.now }
-    requires numbers { named.now ≡ named_units plan.now.units settings.now.asks }
-    requires there { IfSome parts.now.grids (λ made.
-        All (HasNeeded plan.now made) named.now) }
-    requires reached { IfSome parts.now.grids (λ made. CoverAsks made settings.now.asks) }
-    requires none { parts.now.grids ≡ None
-        → All (λ asked. asked.ask ≡ kinds.Mean) settings.now.asks }
-    requires mean { IsMeanOf plan.now parts.now.mean }
-    requires small { parts.now.mean.hi ≤ most_mean }
-    ensures { IfOk result (λ report. IsGoodReport plan.now settings.now report) }
-{
-    let total = summed(alloc, plan, &parts.grids)?;
-    report(alloc, plan, settings, named, parts, &total)
-}
-
-/// The report of a plan whose asks are admitted, from the number of the unit that each ask names.
+/// The report of a plan whose asks are admitted.
 fn admitted_report<const B: u32>(
     alloc: Global,
     plan: &Plan,
     settings: &Settings,
-    named: &[Option<u32>],
+    admitted: &Admitted,
 ) -> Result<Report, AllocError>
     requires scale { B ≡ bits_of plan.now.cells }
     requires valid { IsValid plan.now }
@@ -345,11 +312,19 @@ fn admitted_report<const B: u32>(
     requires inside { AreInside plan.now settings.now }
     requires named { NameUnits plan.now settings.now }
     requires shares { HaveShares plan.now settings.now }
-    requires numbers { named.now ≡ named_units plan.now.units settings.now.asks }
+    requires admitted { IsAdmissionOf (2 ^ B) plan.now settings.now.asks admitted.now }
     ensures { IfOk result (λ report. IsGoodReport plan.now settings.now report) }
 {
-    let parts = parts_for::<B>(alloc, plan, settings.asks.as_slice(), named)?;
-    drawn_report(alloc, plan, settings, named, &parts)
+    let parts = parts_for::<B>(alloc, plan, settings.asks.as_slice(), &admitted.budgets)?;
+    let total = summed(alloc, plan, &parts.grids)?;
+    report(
+        alloc,
+        plan,
+        settings,
+        admitted.named.as_slice(),
+        &parts,
+        &total,
+    )
 }
 
 /// The report of a plan whose grids are in units of `1 / 2^B`, or its first refused ask.
@@ -364,8 +339,8 @@ fn answered<const B: u32>(
     ensures { MatchResult result (IsAnswered plan.now settings.now)
         (RefusesAsk plan.now settings.now) }
 {
-    let named = admit::<B>(alloc, plan, settings)?;
-    Ok(admitted_report::<B>(alloc, plan, settings, named.as_slice())?)
+    let admitted = admit::<B>(alloc, plan, settings)?;
+    Ok(admitted_report::<B>(alloc, plan, settings, &admitted)?)
 }
 
 /// A row for each ask, in order; or the first ask that lies past the grid, else the first that

@@ -1,9 +1,9 @@
 //! The grids behind the rows.
 
-ghost use Rattle.std.specs.Prelude.{◌≡◌, ◌<◌, ◌≤◌, ◌↔◌, IsTrue, None, Some, All, Any, IfOk, length, replicate};
-ghost use Rattle.dl_limits.specs.Limits.{IsPlanScale, most_units};
+ghost use Rattle.std.specs.Prelude.{◌≡◌, ◌<◌, ◌≤◌, None, All, IfOk, length, replicate};
+ghost use Rattle.dl_limits.specs.Limits.{IsPlanScale};
 ghost use Rattle.dl_plan.specs.Valid.{IsValid};
-ghost use Rattle.dl_eval.specs.Totals.{AreUnitGrids, AreUnitMeans, AreGridsOf, AreShared, AreUnits, HasOthers, most_unit_mean};
+ghost use Rattle.dl_eval.specs.Totals.{AreUnitGrids, AreUnitMeans, AreGridsOf, HasOthers, most_unit_mean};
 
 use dl_grid::Grid;
 use dl_iv::Iv;
@@ -26,25 +26,6 @@ pub(crate) struct Grids<const B: u32> {
     pub(crate) raised: Vec<Option<Grid<B>>>,
 }
 
-/// Whether unit `i`, counted from 0, is one of those that asks name.
-pub(crate) fn is_named(named: &[Option<u32>], i: u32) -> bool
-    ensures { IsTrue result ↔ Any (λ unit. unit ≡ Some i) named.now }
-{
-    named.iter().any(|unit| *unit == Some(i))
-}
-
-/// For each of `units` units, whether an ask names it.
-fn shared_units(alloc: Global, units: usize, named: &[Option<u32>]) -> Result<Vec<bool>, AllocError>
-    requires few { units ≤ most_units }
-    ensures { IfOk result (λ asked. AreShared units named.now asked.items) }
-{
-    let mut asked = Vec::new(alloc);
-    for i in 0..units {
-        asked.push(is_named(named, i as u32))?;
-    }
-    Ok(asked)
-}
-
 /// For each of `many` units, no grid.
 pub(crate) fn no_grids<const B: u32>(
     alloc: Global,
@@ -60,31 +41,31 @@ pub(crate) fn no_grids<const B: u32>(
 }
 
 /// The grids behind the rows of a valid plan, where the grids and the means of its
-/// units' outcomes are there, and for each ask the number of the unit that it names. The grid of an
-/// only unit whose share no ask is for is that of the total: it is moved and not copied.
+/// units' outcomes are there, with the sum of the others for each unit that is `asked`. The grid of
+/// an only unit that is not is that of the total: it is moved and not copied.
 pub(crate) fn grids_of<const B: u32>(
     alloc: Global,
     work: &mut Workspace,
     plan: &Plan,
-    named: &[Option<u32>],
+    asked: &[bool],
     units: Vec<Grid<B>>,
     means: Vec<Iv<B>>,
 ) -> Result<Grids<B>, AllocError>
     requires scale { IsPlanScale B }
     requires valid { IsValid plan.now }
     requires independent { plan.now.common ≡ None }
-    requires named { AreUnits (length plan.now.units) named.now }
+    requires asked { length asked.now ≡ length plan.now.units }
     requires units { AreUnitGrids plan.now.cells plan.now.units units.items }
     requires means { AreUnitMeans plan.now.cells plan.now.units means.items }
     requires small { All (λ mean. mean.hi ≤ most_unit_mean) means.items }
     ensures grids { IfOk result (λ grids. AreGridsOf plan.now grids) }
-    ensures there { IfOk result (λ grids. All (HasOthers grids) named.now) }
+    ensures there { IfOk result (HasOthers plan.now asked.now) }
     ensures kept { IfOk result (λ grids. 1 < length units.entry.items
         → AreUnitGrids plan.now.cells plan.now.units grids.units.items) }
 {
     let many = plan.units.as_slice().len();
     let raised = no_grids(alloc, many)?;
-    if units.len() == 1 && !is_named(named, 0) {
+    if units.len() == 1 && !asked[0] {
         let mut units = units;
         let unit = units.pop().unwrap();
         let sums = sums_of_one(alloc, unit)?;
@@ -95,8 +76,7 @@ pub(crate) fn grids_of<const B: u32>(
             raised,
         });
     }
-    let asked = shared_units(alloc, many, named)?;
-    let sums = total_and_others(alloc, work, units.as_slice(), asked.as_slice(), plan.cells)?;
+    let sums = total_and_others(alloc, work, units.as_slice(), asked, plan.cells)?;
     Ok(Grids {
         units,
         means,

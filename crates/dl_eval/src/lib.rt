@@ -10,6 +10,7 @@
 #![tactic(auto)]
 
 mod admission;
+mod budgets;
 mod drawn;
 mod evaluation;
 mod fault;

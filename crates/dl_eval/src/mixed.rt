@@ -1,12 +1,14 @@
 //! The grids of independent units, where the sum of the others is needed for some named units.
 
-ghost use Rattle.std.specs.Prelude.{◌≡◌, ◌≤◌, ◌<◌, None, All, IfOk, IfSome, length};
-ghost use Rattle.dl_limits.specs.Limits.{bits_of};
+ghost use Rattle.std.specs.Prelude.{ℕ, ◌≡◌, ◌≤◌, ◌<◌, ◌^◌, false, None, All, IfOk, IsSome, IsTrue, length, get_or};
+ghost use Rattle.dl_limits.specs.Limits.{IsPlanScale, bits_of};
 ghost use Rattle.dl_plan.specs.Prelude.{IsValid};
+ghost use Rattle.dl_eval.specs.Budgets.{AreAllBudgets};
 ghost use Rattle.dl_eval.specs.declared.drawn.PlanGrids.TheVariants.{Independent};
-ghost use Rattle.dl_eval.specs.Drawn.{HasNeeded};
-ghost use Rattle.dl_eval.specs.Totals.{most_unit_mean, AreGridsOf, AreUnitGrids, AreUnitMeans, AreUnits};
+ghost use Rattle.dl_eval.specs.Drawn.{HasAllNeeded};
+ghost use Rattle.dl_eval.specs.Totals.{most_unit_mean, AreGridsOf, AreUnitGrids, AreUnitMeans};
 
+use crate::budgets::AllBudgets;
 use crate::grids::{Grids, grids_of};
 use crate::raised::raised_totals;
 use crate::served::{are_served, is_without_others};
@@ -16,37 +18,50 @@ use dl_plan::{Plan, Unit};
 use dl_product::Workspace;
 use std::alloc::{AllocError, Global};
 
-/// `unit`, if it is the number of a unit whose share needs the grid of the sum of all other units;
-/// else none.
-fn beside(units: &[Unit], unit: Option<u32>) -> Option<u32>
-    requires unit { IfSome unit (λ i. i < length units.now) }
-    ensures { IfSome result (λ i. i < length units.now) }
-{
-    match unit {
-        Some(i) => {
-            if is_without_others(units, &units[i as usize]) {
-                return None;
-            }
-            unit
-        }
-        None => None,
-    }
-}
-
-/// The named units whose share is to come from the sum of the others.
-fn named_beside(
+/// For each unit, whether an ask names it, and `all` or its share needs the grid of the sum of all
+/// other units.
+fn beside(
     alloc: Global,
     units: &[Unit],
-    named: &[Option<u32>],
-) -> Result<Vec<Option<u32>>, AllocError>
-    requires named { AreUnits (length units.now) named.now }
-    ensures { IfOk result (λ rest. AreUnits (length units.now) rest.items) }
+    budgets: &AllBudgets,
+    all: bool,
+) -> Result<Vec<bool>, AllocError>
+    requires as_many { length budgets.now.of_units.items ≡ length units.now }
+    ensures as_many { IfOk result (λ asked. length asked.items ≡ length units.now) }
+    ensures all { IfOk result (λ asked. IsTrue all → (i : ℕ) → i < length units.now
+        → IsSome (get_or budgets.now.of_units.items i None)
+        → IsTrue (get_or asked.items i false)) }
 {
-    let mut rest = Vec::new(alloc);
-    for unit in named {
-        rest.push(beside(units, *unit))?;
+    let mut asked = Vec::new(alloc);
+    for i in 0..units.len() {
+        let others = all | !is_without_others(units, &units[i]);
+        asked.push(budgets.at(i).is_some() & others)?;
     }
-    Ok(rest)
+    Ok(asked)
+}
+
+/// The grids behind the rows, with the sum of the others for each unit that an ask names.
+fn grids_beside<const B: u32>(
+    alloc: Global,
+    work: &mut Workspace,
+    plan: &Plan,
+    budgets: &AllBudgets,
+    units: Vec<Grid<B>>,
+    means: Vec<Iv<B>>,
+) -> Result<Grids<B>, AllocError>
+    requires scale { IsPlanScale B }
+    requires valid { IsValid plan.now }
+    requires independent { plan.now.common ≡ None }
+    requires budgets { AreAllBudgets (2 ^ B) plan.now budgets.now }
+    requires units { AreUnitGrids plan.now.cells plan.now.units units.items }
+    requires means { AreUnitMeans plan.now.cells plan.now.units means.items }
+    requires small { All (λ mean. mean.hi ≤ most_unit_mean) means.items }
+    ensures grids { IfOk result (λ grids. AreGridsOf plan.now grids) }
+    ensures there { IfOk result (λ grids.
+        HasAllNeeded plan.now (Independent grids) budgets.now.of_units.items) }
+{
+    let asked = beside(alloc, plan.units.as_slice(), budgets, true)?;
+    grids_of(alloc, work, plan, asked.as_slice(), units, means)
 }
 
 /// These grids, and for named gamma units the total with their extra claims.
@@ -54,17 +69,18 @@ fn with_raised<const B: u32>(
     alloc: Global,
     work: &mut Workspace,
     plan: &Plan,
-    named: &[Option<u32>],
+    budgets: &AllBudgets,
     grids: Grids<B>,
 ) -> Result<Grids<B>, AllocError>
     requires scale { B ≡ bits_of plan.now.cells }
     requires valid { IsValid plan.now }
     requires independent { plan.now.common ≡ None }
+    requires budgets { AreAllBudgets (2 ^ B) plan.now budgets.now }
     requires grids { AreGridsOf plan.now grids }
     ensures grids { IfOk result (AreGridsOf plan.now) }
     ensures units { IfOk result (λ made. made.units.items ≡ grids.entry.units.items) }
 {
-    let raised = raised_totals(alloc, work, plan, named, &grids.sums.total)?;
+    let raised = raised_totals(alloc, work, plan, budgets, &grids.sums.total)?;
     Ok(Grids {
         units: grids.units,
         means: grids.means,
@@ -82,28 +98,29 @@ pub(crate) fn mixed_grids<const B: u32>(
     alloc: Global,
     work: &mut Workspace,
     plan: &Plan,
-    named: &[Option<u32>],
+    budgets: &AllBudgets,
     units: Vec<Grid<B>>,
     means: Vec<Iv<B>>,
 ) -> Result<Grids<B>, AllocError>
     requires scale { B ≡ bits_of plan.now.cells }
     requires valid { IsValid plan.now }
     requires independent { plan.now.common ≡ None }
-    requires named { AreUnits (length plan.now.units) named.now }
+    requires budgets { AreAllBudgets (2 ^ B) plan.now budgets.now }
     requires units { AreUnitGrids plan.now.cells plan.now.units units.items }
     requires means { AreUnitMeans plan.now.cells plan.now.units means.items }
     requires small { All (λ mean. mean.hi ≤ most_unit_mean) means.items }
     ensures grids { IfOk result (λ grids. AreGridsOf plan.now grids) }
-    ensures there { IfOk result (λ grids. All (HasNeeded plan.now (Independent grids)) named.now) }
+    ensures there { IfOk result (λ grids.
+        HasAllNeeded plan.now (Independent grids) budgets.now.of_units.items) }
 {
     if units.len() == 1 {
-        return grids_of(alloc, work, plan, named, units, means);
+        return grids_beside(alloc, work, plan, budgets, units, means);
     }
-    let rest = named_beside(alloc, plan.units.as_slice(), named)?;
-    let made = grids_of(alloc, work, plan, rest.as_slice(), units, means)?;
-    let grids = with_raised(alloc, work, plan, named, made)?;
-    if are_served(plan, &grids, named) {
+    let asked = beside(alloc, plan.units.as_slice(), budgets, false)?;
+    let made = grids_of(alloc, work, plan, asked.as_slice(), units, means)?;
+    let grids = with_raised(alloc, work, plan, budgets, made)?;
+    if are_served(plan, &grids, budgets) {
         return Ok(grids);
     }
-    grids_of(alloc, work, plan, named, grids.units, grids.means)
+    grids_beside(alloc, work, plan, budgets, grids.units, grids.means)
 }

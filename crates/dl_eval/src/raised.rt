@@ -1,17 +1,18 @@
 //! The grids of a total with the extra claims of one gamma unit.
 
-ghost use Rattle.std.specs.Prelude.{◌≡◌, ◌^◌, ◌<◌, ◌≤◌, ◌∷◌, IsTrue, None, IfOk, IfSome, length, get_or};
-ghost use Rattle.dl_limits.specs.Limits.{bits_of, budget_bound};
+ghost use Rattle.std.specs.Prelude.{ℕ, ◌≡◌, ◌^◌, ◌<◌, ◌≤◌, ◌∷◌, IsTrue, None, IfOk, IfSome, length, get_or};
+ghost use Rattle.dl_limits.specs.Limits.{bits_of, budget_bound, most_plan_cells};
 ghost use Rattle.dl_plan.specs.Prelude.{CanRaise, IsUnbounded, IsValid, IsValidUnit, thinned_mean};
 ghost use Rattle.dl_model.specs.Prelude.{GridEncloses, total as total_of, loss_of, aggregates_of};
 ghost use Rattle.dl_pool.specs.Extra.{IsExtra};
 ghost use Rattle.dl_budget.specs.Asks.{joint_budget};
 ghost use Rattle.dl_budget.specs.Shared.{shared_joint_budget};
+ghost use Rattle.dl_eval.specs.Budgets.{AreAllBudgets, IsBudgetOf};
 ghost use Rattle.dl_eval.specs.Totals.{AreRaisedTotals, IsClaimsGrid, IsTotalOf};
 
-use crate::grids::is_named;
+use crate::budgets::AllBudgets;
 use crate::units::outcomes_of;
-use dl_budget::{joint_budget, shared_joint_budget};
+use dl_budget::{UnitBudgets, shared_joint_budget};
 use dl_grid::Grid;
 use dl_limits::BUDGET_BOUND;
 use dl_plan::{Plan, Unit};
@@ -54,28 +55,25 @@ fn total_beside<const B: u32>(
     product(alloc, work, &grid, total, plan.cells)
 }
 
-/// Whether the joint mean of unit `i` of the plan, from its claims over a grid of this spread, is no
-/// wider than its budget; then its share in a tail mean is not either. Spreads and budgets are in
-/// units of 1 / 2^B.
-#[tactic(auto, using(crate::proofs::Scales::plan_scale))]
-pub(crate) fn is_narrow<const B: u32>(plan: &Plan, unit: &Unit, i: u32, spread: u128) -> bool
-    requires scale { B ≡ bits_of plan.now.cells }
-    requires valid { IsValid plan.now }
+/// Whether the joint mean of a Poisson or gamma unit, from its claims over a grid of `cells` cells of
+/// this spread, is no wider than `most`; then its share in a tail mean is not either. Spreads and
+/// widths are in units of 1 / 2^B.
+pub(crate) fn is_narrow(unit: &Unit, spread: u128, cells: u32, most: u128) -> bool
+    requires valid { (h : ℕ) × IsValidUnit h unit.now }
     requires unbounded { IsUnbounded unit.now.freq }
-    requires here { unit.now ≡ get_or plan.now.units i unit.now }
-    requires inside { i < length plan.now.units }
+    requires few { cells ≤ most_plan_cells }
     ensures bounded { IsTrue result → spread < budget_bound }
-    ensures narrow { IsTrue result → shared_joint_budget plan.now.cells spread
-        (thinned_mean unit.now) ≤ joint_budget (2 ^ B) plan.now i }
+    ensures narrow { IsTrue result
+        → shared_joint_budget cells spread (thinned_mean unit.now) ≤ most }
 {
     if spread >= BUDGET_BOUND {
         return false;
     }
-    shared_joint_budget(unit, spread, plan.cells) <= joint_budget::<B>(plan, i)
+    shared_joint_budget(unit, spread, cells) <= most
 }
 
 /// The grid of the total with these extra claims of a gamma unit, unit `i` of the plan; none where
-/// the joint mean of the unit would be wider than its budget.
+/// the joint mean of the unit would be wider than `most`, its budget.
 fn raised_by<const B: u32>(
     alloc: Global,
     work: &mut Workspace,
@@ -84,6 +82,7 @@ fn raised_by<const B: u32>(
     i: u32,
     unit: &Unit,
     claims: &Unit,
+    most: u128,
 ) -> Result<Option<Grid<B>>, AllocError>
     requires scale { B ≡ bits_of plan.now.cells }
     requires valid { IsValid plan.now }
@@ -94,61 +93,45 @@ fn raised_by<const B: u32>(
     requires inside { i < length plan.now.units }
     requires claims { IsValidUnit plan.now.cells claims.now }
     requires extra { IsExtra unit.now claims.now }
+    requires most { most ≡ joint_budget (2 ^ B) plan.now i }
     ensures { IfOk result (λ made. IfSome made (IsClaimsGrid plan.now i)) }
 {
     let made = total_beside(alloc, work, plan, total, claims)?;
-    let narrow = is_narrow::<B>(plan, unit, i, made.spread());
+    let narrow = is_narrow(unit, made.spread(), plan.cells, most);
     Ok(narrow.then_some(made))
 }
 
-/// The grid of the total with the extra claims of unit `i`; none where the unit is not one whose
-/// share is taken from it, where its extra claims are not a valid unit, and where the joint mean of
-/// the unit would be wider than its budget.
+/// The grid of the total with the extra claims of unit `i`, of these budgets; none where no ask names
+/// the unit, where its share is not taken from that grid, where its extra claims are not a valid unit,
+/// and where its joint mean would be wider than its budget.
 fn raised_total<const B: u32>(
     alloc: Global,
     work: &mut Workspace,
     plan: &Plan,
     total: &Grid<B>,
     i: u32,
+    budgets: Option<UnitBudgets>,
 ) -> Result<Option<Grid<B>>, AllocError>
     requires scale { B ≡ bits_of plan.now.cells }
     requires valid { IsValid plan.now }
     requires independent { plan.now.common ≡ None }
     requires total { IsTotalOf plan.now total.now }
     requires unit { i < length plan.now.units }
+    requires budgets { IfSome budgets (IsBudgetOf (2 ^ B) plan.now i) }
     ensures { IfOk result (λ made. IfSome made (IsClaimsGrid plan.now i)) }
 {
+    let Some(of) = budgets else {
+        return Ok(None);
+    };
     let units = plan.units.as_slice();
     let unit = &units[i as usize];
     if !is_raised(units, unit) {
         return Ok(None);
     }
     match extra(alloc, unit)? {
-        Some(claims) => raised_by(alloc, work, plan, total, i, unit, &claims),
+        Some(claims) => raised_by(alloc, work, plan, total, i, unit, &claims, of.joint),
         None => Ok(None),
     }
-}
-
-/// The grid of the total with the extra claims of unit `i`, where an ask names the unit.
-fn named_total<const B: u32>(
-    alloc: Global,
-    work: &mut Workspace,
-    plan: &Plan,
-    named: &[Option<u32>],
-    total: &Grid<B>,
-    i: u32,
-) -> Result<Option<Grid<B>>, AllocError>
-    requires scale { B ≡ bits_of plan.now.cells }
-    requires valid { IsValid plan.now }
-    requires independent { plan.now.common ≡ None }
-    requires total { IsTotalOf plan.now total.now }
-    requires unit { i < length plan.now.units }
-    ensures { IfOk result (λ made. IfSome made (IsClaimsGrid plan.now i)) }
-{
-    if is_named(named, i) {
-        return raised_total(alloc, work, plan, total, i);
-    }
-    Ok(None)
 }
 
 /// For each unit of a valid plan, the grid of the total with its extra claims, where an ask names
@@ -157,18 +140,19 @@ pub(crate) fn raised_totals<const B: u32>(
     alloc: Global,
     work: &mut Workspace,
     plan: &Plan,
-    named: &[Option<u32>],
+    budgets: &AllBudgets,
     total: &Grid<B>,
 ) -> Result<Vec<Option<Grid<B>>>, AllocError>
     requires scale { B ≡ bits_of plan.now.cells }
     requires valid { IsValid plan.now }
     requires independent { plan.now.common ≡ None }
+    requires budgets { AreAllBudgets (2 ^ B) plan.now budgets.now }
     requires total { IsTotalOf plan.now total.now }
     ensures { IfOk result (λ made. AreRaisedTotals plan.now made.items) }
 {
     let mut made = Vec::new(alloc);
     for i in 0..plan.units.as_slice().len() {
-        let one = named_total(alloc, work, plan, named, total, i as u32)?;
+        let one = raised_total(alloc, work, plan, total, i as u32, budgets.at(i))?;
         made.push(one)?;
     }
     Ok(made)

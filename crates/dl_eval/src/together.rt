@@ -1,19 +1,21 @@
 //! The grid of a total where one Poisson unit stands for several.
 
-ghost use Rattle.std.specs.Prelude.{◌≡◌, ◌≤◌, None, All, IfOk, IfSome, length};
+ghost use Rattle.std.specs.Prelude.{◌≡◌, ◌≤◌, ◌^◌, None, All, IfOk, IfSome, length};
 ghost use Rattle.dl_limits.specs.Limits.{bits_of};
 ghost use Rattle.dl_plan.specs.Prelude.{IsValid};
+ghost use Rattle.dl_budget.specs.Units.{total_budget};
+ghost use Rattle.dl_eval.specs.Budgets.{AreAllBudgets};
 ghost use Rattle.dl_eval.specs.declared.drawn.PlanGrids.TheVariants.{Independent};
-ghost use Rattle.dl_eval.specs.Drawn.{HasNeeded};
+ghost use Rattle.dl_eval.specs.Drawn.{HasAllNeeded};
 ghost use Rattle.dl_eval.specs.Together.{rest_of, IsPooledFor};
-ghost use Rattle.dl_eval.specs.Totals.{most_unit_mean, AreGridsOf, AreUnitGrids, AreUnitMeans, AreUnits, IsTotalOf};
+ghost use Rattle.dl_eval.specs.Totals.{most_unit_mean, AreGridsOf, AreUnitGrids, AreUnitMeans, IsTotalOf};
 
+use crate::budgets::AllBudgets;
 use crate::grids::{Grids, no_grids};
 use crate::raised::raised_totals;
 use crate::same::first_alike;
 use crate::served::{are_served, is_without_others};
 use crate::units::{Outcomes, mean_of, outcomes_of};
-use dl_budget::total_budget;
 use dl_grid::Grid;
 use dl_iv::Iv;
 use dl_plan::{Plan, Unit};
@@ -76,7 +78,7 @@ fn outcomes_of_rest<const B: u32>(
 }
 
 /// The grid of the total, from those of the units that cannot be pooled and from the one unit in
-/// the place of the others; none where it is wider than the total may be.
+/// the place of the others; none where it is wider than `most`, the budget of the total.
 #[tactic(auto, using(crate::proofs::Scales::plan_scale))]
 fn total_of<const B: u32>(
     alloc: Global,
@@ -84,36 +86,40 @@ fn total_of<const B: u32>(
     plan: &Plan,
     rest: Vec<Grid<B>>,
     pooled: &Unit,
+    most: u128,
 ) -> Result<Option<Grid<B>>, AllocError>
     requires scale { B ≡ bits_of plan.now.cells }
     requires valid { IsValid plan.now }
     requires independent { plan.now.common ≡ None }
     requires rest { AreUnitGrids plan.now.cells (rest_of plan.now.units) rest.items }
     requires pooled { IsPooledFor plan.now pooled.now }
+    requires most { most ≡ total_budget (2 ^ B) plan.now }
     ensures { IfOk result (λ made. IfSome made (IsTotalOf plan.now)) }
 {
     let (grid, _) = outcomes_of::<B>(alloc, work, pooled, plan.cells)?;
     let mut grids = rest;
     grids.push(grid)?;
     let total = total_with(alloc, work, grids.as_slice(), plan.cells)?;
-    if total.spread() > total_budget::<B>(plan) {
+    if total.spread() > most {
         return Ok(None);
     }
     Ok(Some(total))
 }
 
 /// The grid of the total, by the one unit in the place of those that can be pooled, and the means of
-/// all units; none where the grid is wider than the total may be.
+/// all units; none where the grid is wider than `most`, the budget of the total.
 fn total_and_means<const B: u32>(
     alloc: Global,
     work: &mut Workspace,
     plan: &Plan,
     pooled: &Unit,
+    most: u128,
 ) -> Result<Option<(Grid<B>, Vec<Iv<B>>)>, AllocError>
     requires scale { B ≡ bits_of plan.now.cells }
     requires valid { IsValid plan.now }
     requires independent { plan.now.common ≡ None }
     requires pooled { IsPooledFor plan.now pooled.now }
+    requires most { most ≡ total_budget (2 ^ B) plan.now }
     ensures total { IfOk result (λ made. IfSome made (λ both. IsTotalOf plan.now both.0)) }
     ensures means { IfOk result (λ made. IfSome made (λ both.
         AreUnitMeans plan.now.cells plan.now.units both.1.items)) }
@@ -121,7 +127,7 @@ fn total_and_means<const B: u32>(
         All (λ mean. mean.hi ≤ most_unit_mean) both.1.items)) }
 {
     let made = outcomes_of_rest::<B>(alloc, work, plan)?;
-    match total_of(alloc, work, plan, made.grids, pooled)? {
+    match total_of(alloc, work, plan, made.grids, pooled, most)? {
         Some(total) => Ok(Some((total, made.means))),
         None => Ok(None),
     }
@@ -133,19 +139,20 @@ fn grids_of_total<const B: u32>(
     alloc: Global,
     work: &mut Workspace,
     plan: &Plan,
-    named: &[Option<u32>],
+    budgets: &AllBudgets,
     total: Grid<B>,
     means: Vec<Iv<B>>,
 ) -> Result<Grids<B>, AllocError>
     requires scale { B ≡ bits_of plan.now.cells }
     requires valid { IsValid plan.now }
     requires independent { plan.now.common ≡ None }
+    requires budgets { AreAllBudgets (2 ^ B) plan.now budgets.now }
     requires total { IsTotalOf plan.now total }
     requires means { AreUnitMeans plan.now.cells plan.now.units means.items }
     requires small { All (λ mean. mean.hi ≤ most_unit_mean) means.items }
     ensures { IfOk result (AreGridsOf plan.now) }
 {
-    let raised = raised_totals(alloc, work, plan, named, &total)?;
+    let raised = raised_totals(alloc, work, plan, budgets, &total)?;
     let others = no_grids(alloc, plan.units.as_slice().len())?;
     Ok(Grids {
         units: Vec::new(alloc),
@@ -156,11 +163,15 @@ fn grids_of_total<const B: u32>(
 }
 
 /// Whether the sum of the other units is needed for no named unit.
-fn are_without_others(units: &[Unit], named: &[Option<u32>]) -> bool {
-    named.iter().all(|unit| match unit {
-        Some(i) => { (*i as usize) < units.len() && is_without_others(units, &units[*i as usize]) }
-        None => true,
-    })
+fn are_without_others(units: &[Unit], budgets: &AllBudgets) -> bool
+    requires as_many { length budgets.now.of_units.items ≡ length units.now }
+{
+    for i in 0..units.len() {
+        if budgets.at(i).is_some() && !is_without_others(units, &units[i]) {
+            return false;
+        }
+    }
+    true
 }
 
 /// The grids behind the rows of a valid plan whose units are independent, with this one unit in the
@@ -171,23 +182,24 @@ fn grids_by<const B: u32>(
     alloc: Global,
     work: &mut Workspace,
     plan: &Plan,
-    named: &[Option<u32>],
+    budgets: &AllBudgets,
     pooled: &Unit,
 ) -> Result<Option<Grids<B>>, AllocError>
     requires scale { B ≡ bits_of plan.now.cells }
     requires valid { IsValid plan.now }
     requires independent { plan.now.common ≡ None }
-    requires named { AreUnits (length plan.now.units) named.now }
+    requires budgets { AreAllBudgets (2 ^ B) plan.now budgets.now }
     requires pooled { IsPooledFor plan.now pooled.now }
     ensures grids { IfOk result (λ made. IfSome made (AreGridsOf plan.now)) }
     ensures there { IfOk result (λ made. IfSome made (λ grids.
-        All (HasNeeded plan.now (Independent grids)) named.now)) }
+        HasAllNeeded plan.now (Independent grids) budgets.now.of_units.items)) }
 {
-    let Some((total, means)) = total_and_means(alloc, work, plan, pooled)? else {
+    let Some((total, means)) = total_and_means(alloc, work, plan, pooled, budgets.of_total.total)?
+    else {
         return Ok(None);
     };
-    let grids = grids_of_total(alloc, work, plan, named, total, means)?;
-    if !are_served(plan, &grids, named) {
+    let grids = grids_of_total(alloc, work, plan, budgets, total, means)?;
+    if !are_served(plan, &grids, budgets) {
         return Ok(None);
     }
     Ok(Some(grids))
@@ -201,21 +213,21 @@ pub(crate) fn grids_together<const B: u32>(
     alloc: Global,
     work: &mut Workspace,
     plan: &Plan,
-    named: &[Option<u32>],
+    budgets: &AllBudgets,
 ) -> Result<Option<Grids<B>>, AllocError>
     requires scale { B ≡ bits_of plan.now.cells }
     requires valid { IsValid plan.now }
     requires independent { plan.now.common ≡ None }
-    requires named { AreUnits (length plan.now.units) named.now }
+    requires budgets { AreAllBudgets (2 ^ B) plan.now budgets.now }
     ensures grids { IfOk result (λ made. IfSome made (AreGridsOf plan.now)) }
     ensures there { IfOk result (λ made. IfSome made (λ grids.
-        All (HasNeeded plan.now (Independent grids)) named.now)) }
+        HasAllNeeded plan.now (Independent grids) budgets.now.of_units.items)) }
 {
-    if !are_without_others(plan.units.as_slice(), named) {
+    if !are_without_others(plan.units.as_slice(), budgets) {
         return Ok(None);
     }
     let Some(pooled) = pooled_for(alloc, plan)? else {
         return Ok(None);
     };
-    grids_by(alloc, work, plan, named, &pooled)
+    grids_by(alloc, work, plan, budgets, &pooled)
 }

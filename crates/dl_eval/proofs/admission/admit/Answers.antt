@@ -1,4 +1,5 @@
 use Rattle.dl_eval.proofs.Common.{arith, ap, length, ◌∙◌}
+use Rattle.dl_eval.proofs.Scales.{plan_scale}
 use Rattle.dl_eval.proofs.admission.admit.Goals as goal
 
 pub returns-in-Some-first_wide-clause-admitted : goal.returns-in-Some-first_wide-clause-admitted
@@ -47,5 +48,20 @@ first_wide-requires g c = record {
   ranges = c.requires.ranges;
   inside = rw c.as_slice-asks.ensures at c.in_default.ensures;
   named = rw (c.as_slice-units.ensures, c.as_slice-asks.ensures) at c.in_default-first_unknown.ensures;
-  numbers = c.as_slice-2.ensures.value ∙ (rw (c.as_slice-units.ensures, c.as_slice-asks.ensures) at c.in_ok-named.ensures);
+  numbers = c.as_slice-3.ensures.value ∙ (rw (c.as_slice-units.ensures, c.as_slice-asks.ensures) at c.in_ok-named.ensures);
+  budgets = c.in_ok-budgets.ensures.are;
+  there = rw c.as_slice-3.ensures.value (rw c.as_slice-2.ensures.value at c.in_ok-budgets.ensures.there);
+}
+
+pub all_budgets-requires : goal.all_budgets-requires
+all_budgets-requires g c = record {
+  scale = plan_scale g.row.B c.args.plan.now.cells c.requires.scale;
+  valid = c.requires.valid;
+}
+
+pub returns-clause-told : goal.returns-clause-told
+returns-clause-told g c = record {
+  numbers = rw (c.as_slice-units.ensures, c.as_slice-asks.ensures) at c.in_ok-named.ensures;
+  budgets = c.in_ok-budgets.ensures.are;
+  there = rw c.as_slice-2.ensures.value at c.in_ok-budgets.ensures.there;
 }

@@ -1,22 +1,18 @@
-use Rattle.dl_eval.proofs.Common.{◌^◌, ap, subst, ◌∙◌, Asked, IsInside, NamesUnit, IsAskInRange, named_unit}
+use Rattle.dl_eval.proofs.Common.{◌^◌, arith, ap, subst, ◌∙◌, None, Asked, IsInside, NamesUnit, IsAskInRange, named_unit}
 use Rattle.dl_budget.specs.Asks.{IsAskOf}
 use Rattle.dl_budget.specs.Once.{AreBudgetsOfUnit}
 use Rattle.dl_eval.proofs.Insides.{ask_has}
-use Rattle.dl_eval.proofs.Named.{named_here, names_inside}
+use Rattle.dl_eval.proofs.Named.{named_here, numbers_many, are_units, each_named}
 use Rattle.dl_eval.proofs.Scales.{plan_scale}
 use Rattle.dl_eval.proofs.admission.first_wide.Goals as goal
 
--- The unit that is looked up is the one which the ask names.
-pub budgets_of_named-of_unit-requires : goal.budgets_of_named-of_unit-requires
-budgets_of_named-of_unit-requires g c =
-    let units = c.args.plan.now.units in
-    let read = c.index-asks-i in
-    let named = named_here units c.loop-i.i c.as_slice-asks.ensures c.requires.numbers read.is c.loop-i-test.true in record {
-      scale = plan_scale g.row.B c.args.plan.now.cells c.requires.scale;
-      valid = c.requires.valid;
-      unit = rw named ((names_inside units read.result.ask).1 (ask_has (λ (a : Asked). NamesUnit units a.ask)
-          c.loop-i.i c.as_slice-asks.ensures read.is c.loop-i-test.true c.requires.named));
-      known = c.loop-i.invariant.1;
+-- The budgets of the unit that an ask names are there.
+pub of-of_unit-requires : goal.of-of_unit-requires
+of-of_unit-requires g c =
+    let units = c.args.plan.now.units in record {
+      there = each_named c.args.named.now (are_units units c.args.settings.now.asks c.requires.numbers c.requires.named)
+          c.requires.there c.loop-i.i None
+          (omega (arith, c.loop-i-test.true, numbers_many units c.as_slice-asks.ensures c.requires.numbers));
     }
 
 -- The budgets of an ask are those of the plan and of the unit which it names.
@@ -29,10 +25,10 @@ needed_with-width-requires g c =
     let test = c.loop-i-test.true in record {
       scale = plan_scale g.row.B plan.cells c.requires.scale;
       valid = c.requires.valid;
-      budgets = c.budgets_of-budgets.ensures;
-      unit = subst (λ number. AreBudgetsOfUnit (2 ^ g.row.B) plan number c.budgets_of_named-of_unit.result)
+      budgets = c.requires.budgets.total;
+      unit = subst (λ number. AreBudgetsOfUnit (2 ^ g.row.B) plan number c.of-of_unit.result)
           (named_here plan.units i same c.requires.numbers asked.is test
-          ∙ ap (λ (a : Asked). named_unit plan.units a.ask) asked.is) c.budgets_of_named-of_unit.ensures;
+          ∙ ap (λ (a : Asked). named_unit plan.units a.ask) asked.is) (c.of-of_unit.ensures _ plan c.requires.budgets);
       ask = subst (λ (a : Asked). IsAskOf plan a.ask) asked.is (record {
         inside = ask_has (λ (a : Asked). IsInside plan.cells a.ask) i same asked.is test c.requires.inside;
         unit = ask_has (λ (a : Asked). NamesUnit plan.units a.ask) i same asked.is test c.requires.named;

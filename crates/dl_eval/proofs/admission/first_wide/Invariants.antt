@@ -1,7 +1,5 @@
-use Rattle.dl_eval.proofs.Common.{ℕ, ◌^◌, ◌<◌, get_or, Asked, IfSome, scale, Passes}
-use Rattle.dl_budget.specs.Once.{AreUnitBudgets}
+use Rattle.dl_eval.proofs.Common.{ℕ, ◌<◌, get_or, Asked, scale, Passes}
 use Rattle.dl_eval.proofs.admission.first_wide.Given as goal
 
 abbrev pub invariant-loop-i : goal.invariant-loop-i
-invariant-loop-i g l = ((k : ℕ) (d : Asked) → k < l.i → Passes (scale l.plan) l.plan (get_or l.asks k d).ask l.settings)
-    × IfSome l.last (AreUnitBudgets (2 ^ g.row.B) l.plan)
+invariant-loop-i g l = (k : ℕ) (d : Asked) → k < l.i → Passes (scale l.plan) l.plan (get_or l.asks k d).ask l.settings

@@ -20,7 +20,7 @@ total_mean-requires g c =
 
 pub independent_grids-requires : goal.independent_grids-requires
 independent_grids-requires g c =
-    (omega arith) also c.requires.scale also c.requires.valid also c.requires.independent also c.requires.named
+    (omega arith) also c.requires.scale also c.requires.valid also c.requires.independent also c.requires.budgets
 
 pub total_mean-mean-requires : goal.total_mean-mean-requires
 total_mean-mean-requires g c =

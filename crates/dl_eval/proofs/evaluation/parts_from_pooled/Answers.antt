@@ -16,8 +16,8 @@ pooled_grids-requires g c =
 
 pub returns-clause-there : goal.returns-clause-there
 returns-clause-there g c =
-    shared_needed c.args.plan.now c.in_ok-grids.grids c.args.named.now
-    (λ some. c.in_ok-grids.ensures.there (c.is_some_named.ensures.1 some))
+    shared_needed c.args.plan.now c.in_ok-grids.grids c.args.budgets.now.of_units.items
+    (λ some. c.in_ok-grids.ensures.there (c.are_named.ensures.1 some))
 
 pub returns-clause-reached : goal.returns-clause-reached
 returns-clause-reached g c =

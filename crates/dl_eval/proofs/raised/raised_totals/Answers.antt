@@ -1,4 +1,4 @@
-use Rattle.dl_eval.proofs.Common.{ℕ, arith, ap, length, List, Option, None, IfSome, Iv}
+use Rattle.dl_eval.proofs.Common.{ℕ, ◌<◌, arith, ap, length, List, Option, None, IfSome, Iv}
 use Rattle.dl_eval.proofs.Parts.{all_six}
 use Rattle.dl_eval.proofs.Lists.{pushed_length, each_pushed}
 use Rattle.dl_eval.specs.Totals.{IsClaimsGrid}
@@ -18,7 +18,11 @@ returns g c = record {
   each = λ i inside. c.loop-i.invariant.each i (omega (arith, inside, ap length c.as_slice-i-end.ensures));
 }
 
-pub named_total-requires : goal.named_total-requires
-named_total-requires g c =
+pub at-requires : goal.at-requires
+at-requires g c = omega (arith, c.loop-i-test.true, ap length c.as_slice-i-end.ensures, c.requires.budgets.as_many)
+
+pub raised_total-requires : goal.raised_total-requires
+raised_total-requires g c =
+    let inside : c.loop-i.i < length c.args.plan.now.units = omega (arith, c.loop-i-test.true, ap length c.as_slice-i-end.ensures) in
     all_six (omega arith) c.requires.scale c.requires.valid c.requires.independent c.requires.total
-    (omega (arith, c.loop-i-test.true, ap length c.as_slice-i-end.ensures))
+    (inside, rw c.at.ensures (c.requires.budgets.each c.loop-i.i inside))

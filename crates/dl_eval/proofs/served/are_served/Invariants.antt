@@ -1,10 +1,8 @@
--- The shares of the units named so far come from the grids, and so does that of the last of them.
-use Rattle.dl_eval.proofs.Common.{ℕ, ◌<◌, get_or, Option}
-use Rattle.dl_eval.specs.declared.drawn.PlanGrids.TheVariants.{Independent}
-use Rattle.dl_eval.specs.Drawn.{HasNeeded}
+-- The shares of the named units so far come from the grids.
+use Rattle.dl_eval.proofs.Common.{ℕ, ◌<◌, get_or, None, IsSome}
+use Rattle.dl_eval.specs.Totals.{HasShareFrom}
 use Rattle.dl_eval.proofs.served.are_served.Given as goal
 
-abbrev pub invariant-loop-unit : goal.invariant-loop-unit
-invariant-loop-unit g l = ((k : ℕ) (d : Option ℕ) → k < l.unit-index
-    → HasNeeded {B = g.row.B} l.plan (Independent l.grids) (get_or l.named k d))
-    × HasNeeded {B = g.row.B} l.plan (Independent l.grids) l.last
+abbrev pub invariant-loop-i : goal.invariant-loop-i
+invariant-loop-i g l = (k : ℕ) → k < l.i → IsSome (get_or l.budgets.of_units.items k None)
+    → HasShareFrom {B = g.row.B} l.plan l.grids l.grids.sums.total k

@@ -1,17 +1,16 @@
-use Rattle.dl_eval.proofs.Common.{◌^◌, ◌≤◌, arith, sym, subst, ◌∙◌, read_unit, thinned_mean, joint_budget}
+use Rattle.dl_eval.proofs.Common.{◌^◌, ◌≤◌, arith, sym, subst, ◌∙◌, few_cells, thinned_mean, joint_budget}
 use Rattle.dl_budget.specs.Shared.{shared_joint_budget}
 use Rattle.dl_plan.proofs.Shared.{poisson_unbounded, true_shares}
 use Rattle.dl_eval.proofs.ClaimsGrids.{of_total}
+use Rattle.dl_eval.proofs.ReadAs.{valid_there}
 use Rattle.dl_eval.proofs.served.is_from_total.Goals as goal
 
 pub is_narrow-requires : goal.is_narrow-requires
 is_narrow-requires g c =
     let u = c.index-as_slice-i.result in record {
-      scale = c.requires.scale;
-      valid = c.requires.valid;
+      valid = valid_there c.args.i c.as_slice.ensures c.index-as_slice-i.is c.requires.unit c.requires.valid;
       unbounded = poisson_unbounded u.freq (true_shares u (sym c.can_share.ensures ∙ c.if-not-can_share.false)).count;
-      here = read_unit c.as_slice.result.now c.args.plan.now.units c.args.i u c.as_slice.ensures c.index-as_slice-i.is;
-      inside = c.requires.unit;
+      few = (few_cells c.args.plan.now c.requires.valid).1;
     }
 
 pub returns : goal.returns
@@ -21,5 +20,5 @@ returns g c narrow =
     of_total plan c.args.i c.as_slice.ensures c.index-as_slice-i.is c.requires.unit c.args.total.now c.requires.total.cells
     (omega (arith, c.requires.apart, c.is_narrow.ensures.bounded narrow))
     (subst (λ s. shared_joint_budget plan.cells s (thinned_mean u) ≤ joint_budget (2 ^ g.row.B) plan c.args.i)
-    c.requires.apart (c.is_narrow.ensures.narrow narrow)) c.requires.valid c.requires.independent
+    c.requires.apart (rw c.requires.most at c.is_narrow.ensures.narrow narrow)) c.requires.valid c.requires.independent
     (true_shares u (sym c.can_share.ensures ∙ c.if-not-can_share.false)) c.requires.total

@@ -2,7 +2,6 @@ use Rattle.dl_eval.proofs.Common.{[], ◌∷◌, ◌++◌, arith, sym, subst, �
 use Rattle.dl_eval.specs.Together.{rest_of}
 use Rattle.dl_eval.proofs.Parted.{grids_more, is_total_together}
 use Rattle.dl_eval.proofs.Totals.{long_enough}
-use Rattle.dl_eval.proofs.Scales.{plan_scale}
 use Rattle.dl_eval.proofs.together.total_of.Goals as goal
 
 pub outcomes_of-requires : goal.outcomes_of-requires
@@ -32,10 +31,4 @@ returns g c =
     (grids_more plan.cells (rest_of plan.units) _ made _ c.requires.rest c.in_ok-grid.ensures.grid) in
     let total = c.in_ok-total.ensures in
     is_total_together made c.requires.valid c.requires.independent c.requires.pooled each total.cells total.encloses
-    (omega (arith, c.if-spread-total_budget.false, c.spread.ensures, c.total_budget.ensures.value))
-
-pub total_budget-requires : goal.total_budget-requires
-total_budget-requires g c = record {
-  scale = plan_scale g.row.B c.args.plan.now.cells c.requires.scale;
-  valid = c.requires.valid;
-}
+    (omega (arith, c.if-spread-most.false, c.spread.ensures, c.requires.most))
