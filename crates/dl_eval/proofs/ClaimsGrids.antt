@@ -16,6 +16,11 @@ use Rattle.dl_eval.proofs.Losses.{is_independent, total_alone}
 use Rattle.dl_eval.proofs.ReadAs.{read_as, unit_there}
 use Rattle.dl_eval.specs.Totals.{AreRaisedTotals, IsClaimsGrid}
 
+-- beside independent units such a grid has all cells
+pub all_cells : {B : ℕ} {plan : Plan} {i : ℕ} {g : List (Iv B)} → plan.common ≡ None → IsClaimsGrid plan i g
+    → IsClaimsGrid plan i g × (length g ≡ plan.cells)
+all_cells none grid = (grid, grid.cells none)
+
 -- a unit that was read in the units of a plan
 module _ (plan : Plan) (i : ℕ) {units : List UnitOfPlan} {u : UnitOfPlan} (same : units ≡ plan.units)
     (read : u ≡ get_or units i u) (inside : i < length plan.units) {B : ℕ} (g : List (Iv B)) (cells : length g ≡ plan.cells)

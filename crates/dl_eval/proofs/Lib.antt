@@ -17,6 +17,7 @@ pub mod GoodRows
 pub mod Tails
 pub mod PriceRows
 pub mod TailShares
+pub mod WholeShares
 pub mod ShareLaws
 pub mod ClaimsGrids
 pub mod Parted

@@ -74,7 +74,7 @@ if_some_two (Some x) P Q Z f p q = f x p q
 if_some_two None P Q Z f p q = tt
 
 -- some unit of a list that has one
-some_unit : (us : List UnitOfPlan) (i : ℕ) → i < length us → UnitOfPlan
+pub some_unit : (us : List UnitOfPlan) (i : ℕ) → i < length us → UnitOfPlan
 some_unit [] i inside = absurd (omega (arith, inside))
 some_unit (u ∷ us) i inside = u
 
@@ -91,7 +91,7 @@ pub tail_share : {B : ℕ} {plan : Plan} {source : ShareSource B} {means : List 
     → Holds (partial_sums us (Outcome j)) (partial_sums us One) l h)
     → p <ℚ whole 1 → IsSourceOf plan i source → mean ≡ get_or means i mean → i < length plan.units → IsValid plan
     → AreUnitMeans plan.cells plan.units means → IsTotalOf plan t → plan.common ≡ None
-    → IfSome result (IsTailShareOf plan i p)
+    → IfSome result (IsTailShareOf plan i p (cotail_budget (2 ^ B) plan i p))
 tail_share {B} {plan = plan} {source = source} {t = t} {mean = mean} {i = i} p result holds width beside below from read inside valid each of_total
     none =
     if_some_two result _ _ _ (λ r held narrow. record {
@@ -165,13 +165,13 @@ share_widens plan i p l m h k low high holds = λ q is. record {
   at_least = λ u le part. at_least_wider _ _ _ _ ((holds q is).at_least u le part) low;
 }
 
-pub share_told : {B : ℕ} {plan : Plan} {i d : ℕ} {p : Fraction} {share : Iv B} {row : Row} → IsTailShareOf plan i p share
-    → IsAtLeast plan (at_the_end plan) p → Prints (2 ^ B) share.lo share.hi d row
-    → IsTailShare plan i p d (in_digits (2 ^ B) (cotail_budget (2 ^ B) plan i p) d) row
-share_told {B} {plan = plan} {i = i} {d = d} {p = p} {share = share} {row = row} s reached printed = record {
+pub share_told : {B : ℕ} {plan : Plan} {i d most : ℕ} {p : Fraction} {share : Iv B} {row : Row}
+    → IsTailShareOf plan i p most share → IsAtLeast plan (at_the_end plan) p → Prints (2 ^ B) share.lo share.hi d row
+    → IsTailShare plan i p d (in_digits (2 ^ B) most d) row
+share_told {B} {plan = plan} {i = i} {d = d} {most = most} {p = p} {share = share} {row = row} s reached printed = record {
   reached = reached;
-  ends = are_ends B (DeclaresShare plan i p) share.lo share.hi d (cotail_budget (2 ^ B) plan i p) row
-      (share_widens plan i p) printed s.holds s.narrow;
+  ends = are_ends B (DeclaresShare plan i p) share.lo share.hi d most row (share_widens plan i p) printed s.holds
+      s.narrow;
 }
 
 pub tail_share_asked : (S : ℕ) {plan : Plan} (unit : List ℕ) {i d : ℕ} {p : Fraction} {row : Row}

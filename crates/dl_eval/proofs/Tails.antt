@@ -6,7 +6,7 @@ use Rattle.dl_eval.proofs.Printed.{are_ends, tail_widens}
 
 -- ---- how wide it is
 
-up_rises : (m n d : ℕ) → 0 < d → m ≤ n → up (m over d) ≤ up (n over d)
+pub up_rises : (m n d : ℕ) → 0 < d → m ≤ n → up (m over d) ≤ up (n over d)
 up_rises m n d pos h =
     omega (
       arith,

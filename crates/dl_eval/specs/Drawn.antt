@@ -2,6 +2,8 @@
 use Rattle.std.specs.Prelude.{ℕ, ◌≡◌, ◌<◌, ◌≤◌, List, Option, None, IsSome, IfSome, All, length, get_or, ⊤}
 use Rattle.dl_iv.specs.declared.interval.Iv.{Iv}
 use Rattle.dl_plan.specs.declared.plan.Plan.{Plan}
+use Rattle.dl_plan.specs.declared.settings.Ask.{Ask}
+use Rattle.dl_plan.specs.declared.settings.Ask.TheVariants.{Share}
 use Rattle.dl_plan.specs.declared.settings.Asked.{Asked}
 use Rattle.dl_plan.specs.Prelude.{facts_of}
 use Rattle.dl_budget.specs.declared.once.UnitBudgets.{UnitBudgets}
@@ -17,13 +19,13 @@ abbrev pub AreDrawnOf : {B : ℕ} → Plan → PlanGrids B → Type 0
 AreDrawnOf plan (Independent grids) = (plan.common ≡ None) × AreGridsOf plan grids
 AreDrawnOf plan (Shared grids) = ArePooledGridsOf plan grids
 
--- what the joint means of unit i are drawn from gives them, beside independent units, where t is the
--- grid of their total
+-- what the joint means of unit i are drawn from gives all of them, where t is the grid of the total
 abbrev pub GivesFrom : {B : ℕ} → Plan → List (Iv B) → ℕ → DrawnFrom B → Type 0
 GivesFrom plan t i (Beside from) = IsSourceOf plan i (sources.Beside from)
     × (length from.unit.now ≡ plan.cells)
-GivesFrom plan t i Total = IsClaimsGrid plan i t
+GivesFrom plan t i Total = IsClaimsGrid plan i t × (length t ≡ plan.cells)
 GivesFrom plan t i (Extra raised) = IsClaimsGrid plan i raised.now
+    × (length raised.now ≡ plan.cells)
 
 -- that of the total
 abbrev pub total_drawn : {B : ℕ} → PlanGrids B → List (Iv B)
@@ -41,9 +43,19 @@ abbrev pub HasCells : {B : ℕ} → PlanGrids B → ℕ → Type 0
 HasCells (Independent grids) n = ⊤
 HasCells (Shared grids) n = IfSome grids.raised (λ g. n ≤ length g)
 
--- it has all cells that the asks look at
+-- how many cells of that grid an ask looks at, where the grid of the total has so many: all, for a
+-- share at every quantile
+abbrev pub cells_read : ℕ → Ask → ℕ
+cells_read cells (Share unit p) = cells
+cells_read cells ask = (facts_of ask).least_cells
+
+-- it has all cells that the ask looks at
+abbrev pub CoversAsk : {B : ℕ} → PlanGrids B → Ask → Type 0
+CoversAsk grids ask = HasCells grids (cells_read (length (total_drawn grids)) ask)
+
+-- the same of all asks
 abbrev pub CoverAsks : {B : ℕ} → PlanGrids B → List Asked → Type 0
-CoverAsks grids asks = All (λ asked. HasCells grids (facts_of asked.ask).least_cells) asks
+CoverAsks grids asks = All (λ asked. CoversAsk grids asked.ask) asks
 
 -- that of the unit which an ask names, if it names one
 abbrev pub HasNeeded : {B : ℕ} → Plan → PlanGrids B → Option ℕ → Type 0

@@ -184,6 +184,9 @@ IsAnswerTo S plan d (asks.Cotail unit p) row =
     IsTailShare plan (index_of unit plan.units) p d (needed S plan (asks.Cotail unit p) d) row
     ⊎ IsBeyond plan p (total_error S plan) row
     ⊎ IsNoTailShare plan p (total_error S plan) row
+IsAnswerTo S plan d (asks.Share unit p) row =
+    IsTailShare plan (index_of unit plan.units) p d (needed S plan (asks.Share unit p) d) row
+    ⊎ IsBeyond plan p (total_error S plan) row
 
 -- the ask as it was written, and two good ends
 pub record IsGood (plan : Plan) (d : ℕ) (asked : Asked) (row : Row) : Type 0 where

@@ -14,7 +14,7 @@ use Rattle.dl_plan.specs.declared.plan.Unit.{Unit as UnitOfPlan}
 use Rattle.dl_plan.specs.declared.plan.Plan.{Plan}
 use Rattle.dl_plan.specs.Prelude.{IsUnbounded, horizon, mean_width, thinned_mean}
 use Rattle.dl_cede.specs.Means.{HoldsMean}
-use Rattle.dl_budget.specs.Prelude.{claims_budget, after_clause, unit_budget, unit_budgets, unit_mean_budget, total_budget, others_budget, mean_budget, joint_budget, cotail_budget}
+use Rattle.dl_budget.specs.Prelude.{claims_budget, after_clause, unit_budget, unit_budgets, unit_mean_budget, total_budget, others_budget, mean_budget, joint_budget}
 use Rattle.dl_budget.specs.Shared.{shared_joint_budget}
 use Rattle.dl_shares.specs.declared.source.ShareSource.{ShareSource}
 use Rattle.dl_shares.specs.Source.{GivesJoints, joint_width}
@@ -132,6 +132,7 @@ pub record ArePooledGridsOf {B : ℕ} (plan : Plan) (grids : PooledGrids B) : Ty
   pub shares : IsSome plan.common
   pub total : IsTotalOf plan grids.total
   pub raised : IfSome grids.raised (λ g. (i : ℕ) → i < length plan.units → IsClaimsGrid plan i g)
+  pub within : IfSome grids.raised (λ g. length g ≤ plan.cells)
 
 -- ---- shares
 
@@ -177,10 +178,11 @@ pub record IsJointOf {B : ℕ} (plan : Plan) (i at : ℕ) (mean : Iv B) : Type 0
   pub holds : Declares plan (Joint i at) (mean.lo over 2 ^ B) (mean.hi over 2 ^ B)
   pub narrow : mean.hi ≤ mean.lo + joint_budget (2 ^ B) plan i
 
--- the share of unit i in the tail mean at p, within its budget
-pub record IsTailShareOf {B : ℕ} (plan : Plan) (i : ℕ) (p : Fraction) (share : Iv B) : Type 0 where
+-- the share of unit i in the tail mean at p, whose ends lie at most `most` units apart
+pub record IsTailShareOf {B : ℕ} (plan : Plan) (i : ℕ) (p : Fraction) (most : ℕ)
+    (share : Iv B) : Type 0 where
   pub holds : DeclaresShare plan i p (share.lo over 2 ^ B) (share.hi over 2 ^ B)
-  pub narrow : share.hi ≤ share.lo + cotail_budget (2 ^ B) plan i p
+  pub narrow : share.hi ≤ share.lo + most
 
 -- ---- what is printed
 

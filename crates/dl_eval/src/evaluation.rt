@@ -9,7 +9,7 @@ ghost use Rattle.dl_eval.specs.Budgets.{AreAllBudgets, IsAdmissionOf};
 ghost use Rattle.dl_eval.specs.Answers.{AreInside, NameUnits, HaveShares, IsGoodReport, IsAnswered, RefusesAsk};
 ghost use Rattle.dl_eval.specs.declared.drawn.PlanGrids.TheVariants.{Independent};
 ghost use Rattle.dl_eval.specs.Totals.{most_mean, AreGridsOf, IsMeanOf, IsPooledOf, IsTotalOf};
-ghost use Rattle.dl_eval.specs.Drawn.{AreDrawnOf, CoverAsks, HasAllNeeded, HasNeeded, total_drawn};
+ghost use Rattle.dl_eval.specs.Drawn.{AreDrawnOf, CoverAsks, HasAllNeeded, HasNeeded, cells_read, total_drawn};
 
 use crate::admission::{Admitted, admit};
 use crate::budgets::AllBudgets;
@@ -121,18 +121,33 @@ fn independent_parts<const B: u32>(
     })
 }
 
-/// The fewest cells that hold all that the asks look at; at least one.
-fn cells_asked(asks: &[Asked]) -> u64
-    ensures some { 1 ≤ result }
-    ensures inside { All (λ asked. IsInside result asked.ask) asks.now }
-    ensures fewest { (cells : ℕ) → 1 ≤ cells
-        → All (λ asked. IsInside cells asked.ask) asks.now → result ≤ cells }
+/// How many cells of the raised unit's grid an ask looks at, where that of the total has
+/// `cells`.
+fn cells_read(cells: u32, ask: &Ask) -> u64
+    requires inside { IsInside cells ask.now }
+    ensures value { result ≡ cells_read cells ask.now }
+    ensures within { result ≤ cells }
 {
-    let mut cells = 1;
-    'asks: for i in 0..asks.len() {
-        cells = cells.max(asks[i].ask.least_cells());
+    match ask {
+        Ask::Share { .. } => cells as u64,
+        _ => ask.least_cells(),
     }
-    cells
+}
+
+/// The fewest cells of the raised unit's grid that hold all that the asks look at, where the total
+/// has `cells`; at least one.
+fn cells_asked(cells: u32, asks: &[Asked]) -> u64
+    requires some { 1 ≤ cells }
+    requires inside { All (λ asked. IsInside cells asked.ask) asks.now }
+    ensures some { 1 ≤ result }
+    ensures within { result ≤ cells }
+    ensures inside { All (λ asked. cells_read cells asked.ask ≤ result) asks.now }
+{
+    let mut most = 1;
+    'asks: for i in 0..asks.len() {
+        most = most.max(cells_read(cells, &asks[i].ask));
+    }
+    most
 }
 
 /// The grids and means behind the rows of a valid plan whose units share a factor, from the one unit
@@ -165,7 +180,7 @@ fn parts_from_pooled<const B: u32>(
     if are_means(asks) {
         return Ok(Parts { grids: None, mean });
     }
-    let reach = cells_asked(asks) as u32;
+    let reach = cells_asked(plan.cells, asks) as u32;
     let grids = pooled_grids(alloc, work, plan, pooled, budgets.are_named(), reach)?;
     Ok(Parts {
         grids: Some(PlanGrids::Shared(grids)),

@@ -6,7 +6,8 @@
 //! unit, else the first for a share of the tail mean where the units share a factor, else the first
 //! that needs too much width, with that width. A valid plan has independent units or units that
 //! share a factor, and a good report is the same for both: what it holds is what the plan declares
-//! (`declared`).
+//! (`declared`). A share of the tail mean at every quantile is printed wherever the tail mean is, under
+//! a common factor too.
 #![tactic(auto)]
 
 mod admission;
@@ -23,6 +24,7 @@ mod rows;
 mod same;
 mod served;
 mod shares;
+mod tail_shares;
 mod together;
 mod units;
 

@@ -23,7 +23,8 @@ pub(crate) struct PooledGrids<const B: u32> {
     /// That of the total.
     pub(crate) total: Grid<B>,
     /// That of the one unit in the place of all, with one more in its shape, up to the last cell
-    /// that an ask looks at; it may be gone where no ask is for the share of a unit.
+    /// that an ask looks at, which is the last of all for a share at every quantile; it may be gone
+    /// where no ask is for the share of a unit.
     pub(crate) raised: Option<Grid<B>>,
 }
 

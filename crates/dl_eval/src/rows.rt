@@ -4,15 +4,16 @@ ghost use Rattle.std.specs.Prelude.{◌≡◌, ◌≤◌, ◌^◌, ◌⊎◌, �
 ghost use Rattle.dl_limits.specs.Limits.{IsPlanScale, bits_of, most_digits};
 ghost use Rattle.dl_plan.specs.declared.plan.Plan.{Plan as PlanValue};
 ghost use Rattle.dl_plan.specs.declared.settings.Ask.TheVariants as asks;
-ghost use Rattle.dl_plan.specs.Prelude.{facts_of, IsLevel, IsAskInRange, ArePriced, IsValid};
+ghost use Rattle.dl_plan.specs.Prelude.{IsLevel, IsAskInRange, ArePriced, IsValid};
 ghost use Rattle.dl_budget.specs.Asks.{IsInside, NamesUnit, named_unit, tail_budget, price_budget, in_digits};
 ghost use Rattle.dl_eval.specs.Rows.{IsBracket, IsTailMean, IsBeyond, IsPastGrid, IsPrice, IsBeyondSome, IsAnswerTo, IsGood, bracket_end, total_error};
 ghost use Rattle.dl_eval.specs.Totals.{most_mean, IsTotalOf, IsMeanOf, Prints};
 ghost use Rattle.dl_eval.specs.Answers.{HasShare};
-ghost use Rattle.dl_eval.specs.Drawn.{AreDrawnOf, HasCells, HasNeeded, total_drawn};
+ghost use Rattle.dl_eval.specs.Drawn.{AreDrawnOf, CoversAsk, HasNeeded, total_drawn};
 
 use crate::drawn::PlanGrids;
 use crate::shares::{joint_of, share_row, tail_share_row};
+use crate::tail_shares::whole_share_row;
 use dl_bytes::Text;
 use dl_distort::price;
 use dl_frac::Frac;
@@ -165,7 +166,7 @@ fn grid_row<const B: u32>(
     requires total { IsTotalOf plan.now total.now }
     requires unit { unit ≡ named_unit plan.now.units asked.now.ask }
     requires there { HasNeeded plan.now grids.now unit }
-    requires reached { HasCells grids.now (facts_of asked.now.ask).least_cells }
+    requires reached { CoversAsk grids.now asked.now.ask }
     requires same { total.now ≡ total_drawn grids.now }
     requires mean { IsMeanOf plan.now mean }
     requires small { mean.hi ≤ most_mean }
@@ -200,6 +201,9 @@ fn grid_row<const B: u32>(
             }
             PlanGrids::Shared(_) => unreachable!(),
         },
+        Ask::Share { p, .. } => {
+            whole_share_row(alloc, asked, digits, plan, grids, total, unit.unwrap(), *p)
+        }
     }
 }
 
@@ -229,8 +233,7 @@ pub(crate) fn row<const B: u32>(
     requires summed { total.now ≡ None → grids.now ≡ None }
     requires unit { unit ≡ named_unit plan.now.units asked.now.ask }
     requires there { IfSome grids.now (λ made. HasNeeded plan.now made unit) }
-    requires reached { IfSome grids.now (λ made.
-        HasCells made (facts_of asked.now.ask).least_cells) }
+    requires reached { IfSome grids.now (λ made. CoversAsk made asked.now.ask) }
     requires same { IfSome grids.now (λ made. IfSome total.now (λ sums. sums ≡ total_drawn made)) }
     requires none { grids.now ≡ None → asked.now.ask ≡ asks.Mean }
     requires mean { IsMeanOf plan.now mean }

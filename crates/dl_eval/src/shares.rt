@@ -30,13 +30,14 @@ use dl_shares::laws::{law_beside, law_plan_joint_most, law_unit_mean};
 use dl_shares::{Beside, OverClaims, ShareSource, conditional_mean};
 use std::alloc::{AllocError, Global};
 
-/// The grids that the joint means of a unit beside independent units are drawn from.
-enum DrawnFrom<'a, const B: u32> {
+/// The grids that the joint means of a unit are drawn from.
+pub(crate) enum DrawnFrom<'a, const B: u32> {
     /// That of the unit and that of the sum of all others.
     Beside(Beside<'a, B>),
     /// That of the total, under the claims of the unit.
     Total,
-    /// That of the total with the unit's extra claims, under the claims of the unit.
+    /// That of the total with the unit's extra claims, or under a common factor that of the raised
+    /// unit, under the claims of the unit.
     Extra(&'a Grid<B>),
 }
 
@@ -66,8 +67,12 @@ fn beside<'a, const B: u32>(
     from
 }
 
-/// What the joint means of unit `i` are drawn from.
-fn drawn_from<'a, const B: u32>(plan: &Plan, grids: &'a Grids<B>, i: u32) -> DrawnFrom<'a, B>
+/// What the joint means of unit `i` are drawn from, beside independent units.
+pub(crate) fn drawn_from<'a, const B: u32>(
+    plan: &Plan,
+    grids: &'a Grids<B>,
+    i: u32,
+) -> DrawnFrom<'a, B>
     requires scale { B ≡ bits_of plan.now.cells }
     requires valid { IsValid plan.now }
     requires independent { plan.now.common ≡ None }
@@ -87,7 +92,7 @@ fn drawn_from<'a, const B: u32>(plan: &Plan, grids: &'a Grids<B>, i: u32) -> Dra
 
 /// The claims of unit `i` over a grid.
 #[tactic(auto, using(crate::proofs::Scales::plan_scale))]
-fn over<'a, const B: u32>(
+pub(crate) fn over<'a, const B: u32>(
     plan: &'a Plan,
     grid: &'a Distribution<'a, B>,
     i: u32,
@@ -242,7 +247,8 @@ fn tail_share_from<const B: u32>(
     requires unit { i < length plan.now.units }
     requires level { IsLevel p }
     requires few { p.den ≤ most_share_den }
-    ensures share { IfSome result (IsTailShareOf plan.now i p) }
+    ensures share { IfSome result (IsTailShareOf plan.now i p
+        (cotail_budget (2 ^ B) plan.now i p)) }
     ensures reached { IfSome result (λ _. IsAtLeast plan.now (at_the_end plan.now) p) }
     ensures absent { (x : ℕ) → IsNone result
         → IsFirstFound (low_cdf (2 ^ B) (low_at total.now)) p plan.now.cells (Some x)
@@ -271,7 +277,8 @@ fn tail_share_of<const B: u32>(
     requires there { HasShareFrom plan.now grids.now grids.now.sums.total i }
     requires level { IsLevel p }
     requires few { p.den ≤ most_share_den }
-    ensures share { IfOk result (λ share. IfSome share (IsTailShareOf plan.now i p)) }
+    ensures share { IfOk result (λ share. IfSome share (IsTailShareOf plan.now i p
+        (cotail_budget (2 ^ B) plan.now i p))) }
     ensures reached { IfOk result (λ share.
         IfSome share (λ _. IsAtLeast plan.now (at_the_end plan.now) p)) }
     ensures absent { IfOk result (λ share. (x : ℕ) → IsNone share

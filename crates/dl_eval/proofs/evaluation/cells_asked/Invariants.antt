@@ -1,9 +1,10 @@
-use Rattle.dl_eval.proofs.Common.{ℕ, ◌<◌, ◌≤◌, get_or, All, Asked, IsInside}
+use Rattle.dl_eval.proofs.Common.{ℕ, ◌<◌, ◌≤◌, get_or, Asked}
+use Rattle.dl_eval.specs.Drawn.{cells_read}
 use Rattle.dl_eval.proofs.evaluation.cells_asked.Given as goal
 
 abbrev pub invariant-asks : goal.invariant-asks
 invariant-asks l = record {
-  some : 1 ≤ l.cells;
-  inside : (k : ℕ) (d : Asked) → k < l.i → IsInside l.cells (get_or l.asks k d).ask;
-  fewest : (cells : ℕ) → 1 ≤ cells → All (λ asked. IsInside cells asked.ask) l.asks → l.cells ≤ cells;
+  some : 1 ≤ l.most;
+  within : l.most ≤ l.cells;
+  inside : (k : ℕ) (d : Asked) → k < l.i → cells_read l.cells (get_or l.asks k d).ask ≤ l.most;
 }

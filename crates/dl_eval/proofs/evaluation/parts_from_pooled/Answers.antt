@@ -6,13 +6,12 @@ use Rattle.dl_eval.proofs.evaluation.parts_from_pooled.Goals as goal
 pub overflow_cast-reach : goal.overflow_cast-reach
 overflow_cast-reach g c =
     let few = few_cells c.args.plan.now c.requires.valid in
-    omega (arith, c.cells_asked-reach.ensures.fewest c.args.plan.now.cells few.0 c.requires.inside, few.1)
+    omega (arith, c.cells_asked-reach.ensures.within, few.1)
 
 pub pooled_grids-requires : goal.pooled_grids-requires
 pooled_grids-requires g c =
-    let few = few_cells c.args.plan.now c.requires.valid in
     all_six (omega arith) c.requires.scale c.requires.valid c.requires.shares c.requires.pooled
-    (c.cells_asked-reach.ensures.some, c.cells_asked-reach.ensures.fewest c.args.plan.now.cells few.0 c.requires.inside)
+    (c.cells_asked-reach.ensures.some, c.cells_asked-reach.ensures.within)
 
 pub returns-clause-there : goal.returns-clause-there
 returns-clause-there g c =
@@ -21,4 +20,5 @@ returns-clause-there g c =
 
 pub returns-clause-reached : goal.returns-clause-reached
 returns-clause-reached g c =
-    shared_cells c.in_ok-grids.grids c.args.asks.now _ c.in_ok-grids.ensures.reach c.cells_asked-reach.ensures.inside
+    shared_cells c.in_ok-grids.grids c.args.asks.now _ c.in_ok-grids.ensures.grids.total.cells
+    c.in_ok-grids.ensures.reach c.cells_asked-reach.ensures.inside

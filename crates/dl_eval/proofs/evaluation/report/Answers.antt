@@ -1,7 +1,6 @@
 use Rattle.dl_eval.proofs.Common.{◌≡◌, arith, refl, sym, ap, subst₂, length, All, zip, Asked, IsInside, None, NamesUnit, IsGood, IsAskInRange, HasShare, IfSome_then, ◌also◌}
 use Rattle.dl_plan.specs.declared.settings.Ask.TheVariants.{Mean}
-use Rattle.dl_plan.specs.Prelude.{facts_of}
-use Rattle.dl_eval.specs.Drawn.{HasCells}
+use Rattle.dl_eval.specs.Drawn.{CoversAsk}
 use Rattle.dl_eval.proofs.Insides.{ask_has}
 use Rattle.dl_eval.proofs.Lists.{each_next, pushed_length, all_pairs}
 use Rattle.dl_eval.proofs.Named.{named_here, numbers_many}
@@ -27,7 +26,7 @@ row-requires g c =
     c.requires.grids c.requires.total c.requires.summed unit
     (IfSome_then c.args.parts.now.grids c.requires.there (λ made each. each i None (omega (arith, many, test))))
     (IfSome_then c.args.parts.now.grids c.requires.reached
-    (λ made. ask_has (λ (a : Asked). HasCells made (facts_of a.ask).least_cells) i same c.index-asks-i.is test)
+    (λ made. ask_has (λ (a : Asked). CoversAsk made a.ask) i same c.index-asks-i.is test)
     also c.requires.same
     also (λ none. ask_has (λ (a : Asked). a.ask ≡ Mean) i same c.index-asks-i.is test (c.requires.none none))
     also c.requires.mean also c.requires.small)))

@@ -18,6 +18,7 @@ returns-then-not-wanted-clause-grids g c =
       shares = c.requires.shares;
       total = pooled_total c.requires.valid s.1 _ (c.requires.pooled s.0 s.1) total.cells total.encloses total.spread;
       raised = tt;
+      within = tt;
     }
 
 pub returns-clause-grids : goal.returns-clause-grids
@@ -27,4 +28,5 @@ returns-clause-grids g c =
       shares = c.requires.shares;
       total = pooled_total c.requires.valid s.1 _ (c.requires.pooled s.0 s.1) total.cells total.encloses total.spread;
       raised = c.in_ok-grid.ensures.grid;
+      within = omega (arith, c.in_ok-grid.ensures.reach, c.requires.within);
     }

@@ -1,4 +1,4 @@
-use Rattle.dl_eval.proofs.Common.{[], ℕ, ◌≡◌, ◌^◌, Option, None, IsSome, subst, arith, ap, IfOk-weaker, All-head, facts_of, IsLevel, ◌also◌}
+use Rattle.dl_eval.proofs.Common.{[], ℕ, ◌≡◌, ◌^◌, Option, None, IsSome, length, subst, sym, ◌∙◌, arith, ap, IfOk-weaker, All-head, facts_of, IsLevel, ◌also◌}
 use Rattle.dl_eval.proofs.Insides.{layer_inside}
 use Rattle.dl_eval.proofs.GoodRows.{point_answer, cdf_answer, mean_answer, layer_answer}
 use Rattle.dl_eval.proofs.Named.{index_named, named_inside}
@@ -6,6 +6,8 @@ use Rattle.dl_eval.proofs.Scales.{plan_scale}
 use Rattle.dl_eval.proofs.PriceRows.{price_asked}
 use Rattle.dl_eval.proofs.ShareLaws.{joint_asked, share_asked, tail_asked}
 use Rattle.dl_eval.proofs.TailShares.{tail_share_asked}
+use Rattle.dl_eval.proofs.WholeShares.{whole_share_asked}
+use Rattle.dl_eval.specs.Drawn.{HasCells}
 use Rattle.dl_eval.proofs.Parts.{all_six}
 use Rattle.dl_eval.proofs.rows.grid_row.Goals as goal
 
@@ -127,6 +129,22 @@ tail_share_row-requires g c =
     c.requires.named c.unwrap-in-Independent.ensures) there
     (All-head IsLevel c.in-Cotail.p [] (rw c.in-Cotail.is at c.requires.values.levels)
     also rw c.in-Cotail.is at c.requires.values.share))
+
+pub returns-in-Share-clause-answer : goal.returns-in-Share-clause-answer
+returns-in-Share-clause-answer g c =
+    let named = index_named c.args.plan.now.units c.args.asked.now.ask
+    (ap (λ ask. (facts_of ask).unit) c.in-Share.is) c.requires.unit c.unwrap-in-Share.ensures in
+    IfOk-weaker c.whole_share_row.result _ _ (λ row told.
+    rw c.in-Share.is (whole_share_asked (2 ^ g.row.B) c.in-Share.unit named told)) c.whole_share_row.ensures.share
+
+pub whole_share_row-requires : goal.whole_share_row-requires
+whole_share_row-requires g c =
+    let all = ap (λ t. length t) (sym c.requires.same) ∙ c.requires.total.cells in
+    all_six (omega arith) (omega arith) c.requires.scale c.requires.digits c.requires.valid (all_six c.requires.grids
+    c.requires.total c.requires.same (named_inside c.args.plan.now.units c.args.asked.now.ask c.requires.unit
+    c.requires.named c.unwrap-in-Share.ensures) (rw c.unwrap-in-Share.ensures at c.requires.there)
+    (subst (HasCells c.args.grids.now) all (rw c.in-Share.is at c.requires.reached)
+    also All-head IsLevel c.in-Share.p [] (rw c.in-Share.is at c.requires.values.levels)))
 
 -- there is none where the units share a factor
 pub unreachable-requires : goal.unreachable-requires

@@ -1,5 +1,5 @@
 use Rattle.dl_eval.proofs.Common.{arith, ◌also◌}
-use Rattle.dl_eval.proofs.ClaimsGrids.{none_read, some_read}
+use Rattle.dl_eval.proofs.ClaimsGrids.{all_cells, none_read, some_read}
 use Rattle.dl_eval.proofs.ReadAs.{some_there}
 use Rattle.dl_eval.proofs.Parts.{all_six}
 use Rattle.dl_eval.proofs.shares.drawn_from.Goals as goal
@@ -19,12 +19,14 @@ returns-in-Some g c = (c.beside.ensures.source, c.beside.ensures.cells)
 pub returns-in-Some-as_slice : goal.returns-in-Some-as_slice
 returns-in-Some-as_slice g c =
     let raised = c.requires.grids.raised in
-    some_there _ c.args.i c.as_slice-in-None.ensures.value c.index-as_slice-i-in-None.is c.in-Some-as_slice.is
-    (omega (arith, c.requires.unit, raised.as_many)) (raised.each c.args.i c.requires.unit)
+    all_cells c.requires.independent
+    (some_there _ c.args.i c.as_slice-in-None.ensures.value c.index-as_slice-i-in-None.is c.in-Some-as_slice.is
+    (omega (arith, c.requires.unit, raised.as_many)) (raised.each c.args.i c.requires.unit))
 
 pub returns-in-None-as_slice : goal.returns-in-None-as_slice
 returns-in-None-as_slice g c =
-    none_read c.args.i c.as_slice-in-None.ensures.value c.index-as_slice-i-in-None.is
+    all_cells c.requires.independent
+    (none_read c.args.i c.as_slice-in-None.ensures.value c.index-as_slice-i-in-None.is
     (omega (arith, c.requires.unit, c.requires.grids.raised.as_many)) c.in-None-as_slice.is
     (none_read c.args.i c.as_slice.ensures.value c.index-as_slice-i.is
-    (omega (arith, c.requires.unit, c.requires.grids.others.as_many)) c.in-None.is c.requires.there)
+    (omega (arith, c.requires.unit, c.requires.grids.others.as_many)) c.in-None.is c.requires.there))
