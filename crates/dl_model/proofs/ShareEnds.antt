@@ -1,4 +1,5 @@
--- Ends of a share of the tail mean, from the unit's mean, its joint means up to the quantile, and its share at it.
+-- Ends of a share of the tail mean, from the mean of the unit, its joint means and its outcome at both ends of a bracket of
+-- the quantile, in every weighing of lists of outcomes.
 use Rattle.dl_model.proofs.Common.{◌≡◌, inl, inr, ℕ, nat_eq, nat_lt, nat_le, arith, sym, ap, ap₂, subst, subst₂, ◌∙◌, List, sum, get_or, fun_ext, cases_lt, cases_eq, lt-ltb, le-ltb, eq-eqb, ne_eqb, Fraction, whole, ◌+ℚ◌, ◌-ℚ◌, ◌*ℚ◌, ◌/ℚ◌, ◌≤ℚ◌, ◌<ℚ◌, ◌<◌, ◌≤◌, length, le_refl_n, le_antisymm, le_plus, le_refl, le_trans, plus_le_both, plus_zero, times_le_cancel, times_le_times, zero_le, zero_or_pos, zero_times, div_times, times_right_comm, Quantity, sum_to, ring, times_one, one_times, times_comm, times_assoc, zero_plus, plus_times, sub_plus, sum_to_same, sum_to_times_right, Series, IsBound, Rises, AtMost, AtLeast, Holds, Loss, AreDeclarable, One, Point, Cdf, Outcome, Joint, Part, Share, score, sum_over_outcomes, partial_sums, where_true, lt-leb, le-leb, Bool, false, true, times_plus, times_zero, HoldsShare}
 use Rattle.dl_model.proofs.TotalLaws.{scaled_least, scaled_most, at_least_wider, at_most_wider, at_most_plus, at_least_plus, scaled_rises, most_with_factor, least_with_factor, minus_most, minus_least, where_factor, times_where, to_rises, outcomes_rise, points_to, above_cdf, div_is_times, rest_pos}
 use Rattle.dl_model.proofs.Declared.{quotient_least, quotient_most}

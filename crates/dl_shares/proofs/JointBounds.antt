@@ -1,29 +1,15 @@
 -- What a unit has where the total is x is at most x, so its joint mean is at most x times the probability of x.
-use Rattle.dl_shares.proofs.Common.{ℕ, inl, inr, ◌*◌, ◌<◌, ◌≤◌, le_of_mul-le-mul_right, Series, arith, sym, ap, subst, ◌∙◌, List, get_or, ne_eqb, eq-eqb, whole, ◌over◌, ◌*ℚ◌, ◌≤ℚ◌, le_refl, le_of_eq, zero_le, times_one, times_assoc, times_le_both, whole_le, over_times, AtMost, AtLeast, Loss, One, Point, Joint, where_true, score, partial_sums, outcomes_le, outcomes_times}
-use Rattle.std.specs.Prelude.{sum}
-use Rattle.std.proofs.lemmas.Bool.{cases_eq}
+use Rattle.dl_shares.proofs.Common.{ℕ, ◌*◌, ◌<◌, ◌≤◌, le_of_mul-le-mul_right, Series, sym, ap, subst, ◌∙◌, List, length, whole, ◌over◌, ◌*ℚ◌, ◌≤ℚ◌, le_refl, times_assoc, times_le_both, over_times, AtMost, AtLeast, Loss, One, Point, Joint, sum_over_outcomes, partial_sums}
 use Rattle.dl_exact.proofs.Laws.{le_trans}
-use Rattle.dl_exact.proofs.Lists.{item_le_total}
 use Rattle.dl_exact.proofs.Over.{le_over}
 use Rattle.dl_model.specs.Program.{Quantity}
 use Rattle.dl_model.proofs.Alike.{ends_in_order}
 use Rattle.dl_model.proofs.Bounded.{IsDistribution}
-
-score_le : (i x : ℕ) (ys : List ℕ) → score (Joint i x) ys ≤ℚ whole x *ℚ score (Point x) ys
-score_le i x ys = elim (cases_eq (sum ys) x) [
-  | inl e ↦ subst (λ b. where_true b (whole (get_or ys i 0)) ≤ℚ whole x *ℚ where_true b (whole 1))
-      (sym (eq-eqb (sum ys) x e))
-      (subst (λ t. whole (get_or ys i 0) ≤ℚ t) (sym (times_one (whole x)))
-      (whole_le (get_or ys i 0) x (omega (arith, item_le_total ys i))))
-  | inr n ↦ subst (λ b. where_true b (whole (get_or ys i 0)) ≤ℚ whole x *ℚ where_true b (whole 1))
-      (sym (ne_eqb (sum ys) x n)) (zero_le _)
-]
+use Rattle.dl_model.proofs.Weighings.{losses_weighing, joint_le_point as weighed_joint}
 
 pub joint_le_point : (us : List Loss) (i x N : ℕ)
     → partial_sums us (Joint i x) N ≤ℚ whole x *ℚ partial_sums us (Point x) N
-joint_le_point us i x N =
-    le_trans _ _ _ (outcomes_le us (score (Joint i x)) (λ ys. whole x *ℚ score (Point x) ys) (score_le i x) N)
-    (le_of_eq _ _ (outcomes_times us (whole x) (score (Point x)) N))
+joint_le_point us = weighed_joint (length us) (sum_over_outcomes us) (losses_weighing us)
 
 -- ---- of whatever declares such joint means
 
