@@ -47,6 +47,8 @@ class Magic(Case):
         shell = Shell()
         decl.load_ipython_extension(shell)
         self.check_book(shell)
+        shell.run_cell_magic("decl", "--log2 10 --rules extended --into book cotail:Motor:.99999", BOOK)
+        self.assertEqual((shell.user_ns["book"][0].state, shell.user_ns["book"][0].rules), ("closed", "extended"))
 
     def test_a_cell_of_a_notebook(self):
         try:

@@ -36,10 +36,10 @@ def parted(line: str) -> Tuple[List[str], Optional[str], Set[str]]:
 def answer(line: str, text: str) -> Tuple[Report, Optional[str], Set[str]]:
     """The report of a cell, with the name it goes to and the flags of its line."""
     words, into, flags = parted(line)
-    asks = options_of(words)[1]
+    options, asks = options_of(words)
     ends: Union[Type[Fraction], Type[Decimal]] = Fraction if "--fractions" in flags else Decimal
     written = program.call(["run", "--format", "json", *words], text, asks)
-    return read_report(written, asks, ends), into, flags
+    return read_report(written, asks, ends, dict(options).get("rules") or "standard"), into, flags
 
 
 def load_ipython_extension(shell: Any) -> None:
