@@ -7,12 +7,14 @@ use Rattle.dl_plan.specs.declared.settings.Ask.TheVariants.{Share}
 use Rattle.dl_plan.specs.declared.settings.Asked.{Asked}
 use Rattle.dl_plan.specs.Prelude.{facts_of}
 use Rattle.dl_budget.specs.declared.once.UnitBudgets.{UnitBudgets}
+use Rattle.dl_plan.specs.declared.settings.Ask.TheVariants as kinds
+use Rattle.dl_eval.specs.declared.evaluation.Parts.{Parts}
 use Rattle.dl_eval.specs.declared.drawn.PlanGrids.{PlanGrids}
 use Rattle.dl_eval.specs.declared.drawn.PlanGrids.TheVariants.{Independent, Shared}
 use Rattle.dl_shares.specs.declared.source.ShareSource.TheVariants as sources
 use Rattle.dl_eval.specs.declared.shares.DrawnFrom.{DrawnFrom}
 use Rattle.dl_eval.specs.declared.shares.DrawnFrom.TheVariants.{Beside, Total, Extra}
-use Rattle.dl_eval.specs.Totals.{AreGridsOf, ArePooledGridsOf, HasShareFrom, IsClaimsGrid, IsSourceOf}
+use Rattle.dl_eval.specs.Totals.{AreGridsOf, ArePooledGridsOf, HasShareFrom, IsClaimsGrid, IsMeanOf, IsSourceOf, most_mean}
 
 -- the grids of a plan: of its units, which then are independent, or of the one unit in their place
 abbrev pub AreDrawnOf : {B : ℕ} → Plan → PlanGrids B → Type 0
@@ -65,3 +67,12 @@ HasNeeded plan grids unit = IfSome unit (HasShareOf plan grids)
 abbrev pub HasAllNeeded : {B : ℕ} → Plan → PlanGrids B → List (Option UnitBudgets) → Type 0
 HasAllNeeded plan grids budgets = (i : ℕ) → i < length plan.units
     → IsSome (get_or budgets i None) → HasShareOf plan grids i
+
+-- the grids behind the rows of these asks, and the mean of the total; without grids, all asks are for
+-- the mean
+pub record ArePartsOf {B : ℕ} (plan : Plan) (asks : List Asked) (parts : Parts B) : Type 0 where
+  pub grids : IfSome parts.grids (AreDrawnOf plan)
+  pub reached : IfSome parts.grids (λ made. CoverAsks made asks)
+  pub none : parts.grids ≡ None → All (λ asked. asked.ask ≡ kinds.Mean) asks
+  pub mean : IsMeanOf plan parts.mean
+  pub small : parts.mean.hi ≤ most_mean

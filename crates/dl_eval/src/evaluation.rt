@@ -6,10 +6,10 @@ ghost use Rattle.dl_plan.specs.declared.settings.Ask.TheVariants as kinds;
 ghost use Rattle.dl_plan.specs.Prelude.{AreInRange, IsValid};
 ghost use Rattle.dl_budget.specs.Asks.{IsInside, named_units};
 ghost use Rattle.dl_eval.specs.Budgets.{AreAllBudgets, IsAdmissionOf};
-ghost use Rattle.dl_eval.specs.Answers.{AreInside, NameUnits, HaveShares, IsGoodReport, IsAnswered, RefusesAsk};
+ghost use Rattle.dl_eval.specs.Answers.{AreAdmitted, IsGoodReport, IsAnswered, RefusesAsk};
 ghost use Rattle.dl_eval.specs.declared.drawn.PlanGrids.TheVariants.{Independent};
-ghost use Rattle.dl_eval.specs.Totals.{most_mean, AreGridsOf, IsMeanOf, IsPooledOf, IsTotalOf};
-ghost use Rattle.dl_eval.specs.Drawn.{AreDrawnOf, CoverAsks, HasAllNeeded, HasNeeded, cells_read, total_drawn};
+ghost use Rattle.dl_eval.specs.Totals.{AreGridsOf, IsTotalOf};
+ghost use Rattle.dl_eval.specs.Drawn.{AreDrawnOf, ArePartsOf, HasAllNeeded, HasNeeded, cells_read, total_drawn};
 
 use crate::admission::{Admitted, admit};
 use crate::budgets::AllBudgets;
@@ -25,7 +25,7 @@ use crate::units::{unit_means, unit_outcomes};
 use dl_iv::Iv;
 use dl_limits::MOST_SHORT_CELLS;
 use dl_measures::Distribution;
-use dl_plan::{Ask, Asked, Items, Plan, Settings, Unit};
+use dl_plan::{Ask, Asked, Items, Plan, Settings};
 use dl_product::Workspace;
 use dl_report::Report;
 use std::alloc::{AllocError, Global};
@@ -49,11 +49,11 @@ fn are_means(asks: &[Asked]) -> bool
 
 /// The grids and means behind the rows of a plan.
 #[derive(Drop)]
-struct Parts<const B: u32> {
+pub(crate) struct Parts<const B: u32> {
     /// The grids; none where all asks are for the mean.
-    grids: Option<PlanGrids<B>>,
+    pub(crate) grids: Option<PlanGrids<B>>,
     /// The mean of the total, in buckets.
-    mean: Iv<B>,
+    pub(crate) mean: Iv<B>,
 }
 
 /// The grids behind the rows of a valid plan whose units are independent: of the total by one unit
@@ -96,15 +96,9 @@ fn independent_parts<const B: u32>(
     requires valid { IsValid plan.now }
     requires independent { plan.now.common ≡ None }
     requires budgets { AreAllBudgets (2 ^ B) plan.now budgets.now }
-    ensures grids { IfOk result (λ parts. IfSome parts.grids (λ made.
-        AreDrawnOf plan.now made)) }
+    ensures parts { IfOk result (ArePartsOf plan.now asks.now) }
     ensures there { IfOk result (λ parts. IfSome parts.grids (λ made.
         HasAllNeeded plan.now made budgets.now.of_units.items)) }
-    ensures reached { IfOk result (λ parts. IfSome parts.grids (λ made. CoverAsks made asks.now)) }
-    ensures none { IfOk result (λ parts. parts.grids ≡ None
-        → All (λ asked. asked.ask ≡ kinds.Mean) asks.now) }
-    ensures mean { IfOk result (λ parts. IsMeanOf plan.now parts.mean) }
-    ensures small { IfOk result (λ parts. parts.mean.hi ≤ most_mean) }
 {
     if are_means(asks) {
         let means = unit_means(alloc, work, plan)?;
@@ -152,44 +146,6 @@ fn cells_asked(cells: u32, asks: &[Asked]) -> u64
 
 /// The grids and means behind the rows of a valid plan whose units share a factor, from the one unit
 /// in their place. Where all asks are for the mean there is no grid.
-fn parts_from_pooled<const B: u32>(
-    alloc: Global,
-    work: &mut Workspace,
-    plan: &Plan,
-    asks: &[Asked],
-    budgets: &AllBudgets,
-    pooled: &Unit,
-) -> Result<Parts<B>, AllocError>
-    requires scale { B ≡ bits_of plan.now.cells }
-    requires valid { IsValid plan.now }
-    requires shares { IsSome plan.now.common }
-    requires inside { All (λ asked. IsInside plan.now.cells asked.ask) asks.now }
-    requires budgets { AreAllBudgets (2 ^ B) plan.now budgets.now }
-    requires pooled { IsPooledOf plan.now pooled.now }
-    ensures grids { IfOk result (λ parts. IfSome parts.grids (λ made.
-        AreDrawnOf plan.now made)) }
-    ensures there { IfOk result (λ parts. IfSome parts.grids (λ made.
-        HasAllNeeded plan.now made budgets.now.of_units.items)) }
-    ensures reached { IfOk result (λ parts. IfSome parts.grids (λ made. CoverAsks made asks.now)) }
-    ensures none { IfOk result (λ parts. parts.grids ≡ None
-        → All (λ asked. asked.ask ≡ kinds.Mean) asks.now) }
-    ensures mean { IfOk result (λ parts. IsMeanOf plan.now parts.mean) }
-    ensures small { IfOk result (λ parts. parts.mean.hi ≤ most_mean) }
-{
-    let mean = pooled_mean(plan, pooled);
-    if are_means(asks) {
-        return Ok(Parts { grids: None, mean });
-    }
-    let reach = cells_asked(plan.cells, asks) as u32;
-    let grids = pooled_grids(alloc, work, plan, pooled, budgets.are_named(), reach)?;
-    Ok(Parts {
-        grids: Some(PlanGrids::Shared(grids)),
-        mean,
-    })
-}
-
-/// The grids and means behind the rows of a valid plan whose units share a factor. Where all asks
-/// are for the mean there is no grid.
 fn shared_parts<const B: u32>(
     alloc: Global,
     work: &mut Workspace,
@@ -202,18 +158,21 @@ fn shared_parts<const B: u32>(
     requires shares { IsSome plan.now.common }
     requires inside { All (λ asked. IsInside plan.now.cells asked.ask) asks.now }
     requires budgets { AreAllBudgets (2 ^ B) plan.now budgets.now }
-    ensures grids { IfOk result (λ parts. IfSome parts.grids (λ made.
-        AreDrawnOf plan.now made)) }
+    ensures parts { IfOk result (ArePartsOf plan.now asks.now) }
     ensures there { IfOk result (λ parts. IfSome parts.grids (λ made.
         HasAllNeeded plan.now made budgets.now.of_units.items)) }
-    ensures reached { IfOk result (λ parts. IfSome parts.grids (λ made. CoverAsks made asks.now)) }
-    ensures none { IfOk result (λ parts. parts.grids ≡ None
-        → All (λ asked. asked.ask ≡ kinds.Mean) asks.now) }
-    ensures mean { IfOk result (λ parts. IsMeanOf plan.now parts.mean) }
-    ensures small { IfOk result (λ parts. parts.mean.hi ≤ most_mean) }
 {
     let pooled = pooled_unit(alloc, plan)?;
-    parts_from_pooled(alloc, work, plan, asks, budgets, &pooled)
+    let mean = pooled_mean(plan, &pooled);
+    if are_means(asks) {
+        return Ok(Parts { grids: None, mean });
+    }
+    let reach = cells_asked(plan.cells, asks) as u32;
+    let grids = pooled_grids(alloc, work, plan, &pooled, budgets.are_named(), reach)?;
+    Ok(Parts {
+        grids: Some(PlanGrids::Shared(grids)),
+        mean,
+    })
 }
 
 /// The grids and means behind the rows of a valid plan.
@@ -227,15 +186,9 @@ fn parts_for<const B: u32>(
     requires valid { IsValid plan.now }
     requires inside { All (λ asked. IsInside plan.now.cells asked.ask) asks.now }
     requires budgets { AreAllBudgets (2 ^ B) plan.now budgets.now }
-    ensures grids { IfOk result (λ parts. IfSome parts.grids (λ made.
-        AreDrawnOf plan.now made)) }
+    ensures parts { IfOk result (ArePartsOf plan.now asks.now) }
     ensures there { IfOk result (λ parts. IfSome parts.grids (λ made.
         HasAllNeeded plan.now made budgets.now.of_units.items)) }
-    ensures reached { IfOk result (λ parts. IfSome parts.grids (λ made. CoverAsks made asks.now)) }
-    ensures none { IfOk result (λ parts. parts.grids ≡ None
-        → All (λ asked. asked.ask ≡ kinds.Mean) asks.now) }
-    ensures mean { IfOk result (λ parts. IsMeanOf plan.now parts.mean) }
-    ensures small { IfOk result (λ parts. parts.mean.hi ≤ most_mean) }
 {
     let mut space = Workspace::new(alloc);
     let work = &mut space;
@@ -273,24 +226,17 @@ fn report<const B: u32>(
     total: &Option<Distribution<B>>,
 ) -> Result<Report, AllocError>
     requires scale { B ≡ bits_of plan.now.cells }
-    requires grids { IfSome parts.now.grids (λ made. AreDrawnOf plan.now made) }
+    requires parts { ArePartsOf plan.now settings.now.asks parts.now }
     requires total { IfSome total.now (λ sums. IsTotalOf plan.now sums) }
     requires summed { total.now ≡ None → parts.now.grids ≡ None }
     requires same { IfSome parts.now.grids (λ made.
         IfSome total.now (λ sums. sums ≡ total_drawn made)) }
     requires valid { IsValid plan.now }
     requires ranges { AreInRange settings.now }
-    requires inside { AreInside plan.now settings.now }
-    requires named { NameUnits plan.now settings.now }
-    requires shares { HaveShares plan.now settings.now }
+    requires admitted { AreAdmitted plan.now settings.now }
     requires numbers { named.now ≡ named_units plan.now.units settings.now.asks }
     requires there { IfSome parts.now.grids (λ made.
         All (HasNeeded plan.now made) named.now) }
-    requires reached { IfSome parts.now.grids (λ made. CoverAsks made settings.now.asks) }
-    requires none { parts.now.grids ≡ None
-        → All (λ asked. asked.ask ≡ kinds.Mean) settings.now.asks }
-    requires mean { IsMeanOf plan.now parts.now.mean }
-    requires small { parts.now.mean.hi ≤ most_mean }
     ensures { IfOk result (λ report. IsGoodReport plan.now settings.now report) }
 {
     let asks = settings.asks.as_slice();
@@ -324,10 +270,8 @@ fn admitted_report<const B: u32>(
     requires scale { B ≡ bits_of plan.now.cells }
     requires valid { IsValid plan.now }
     requires ranges { AreInRange settings.now }
-    requires inside { AreInside plan.now settings.now }
-    requires named { NameUnits plan.now settings.now }
-    requires shares { HaveShares plan.now settings.now }
-    requires admitted { IsAdmissionOf (2 ^ B) plan.now settings.now.asks admitted.now }
+    requires admitted { AreAdmitted plan.now settings.now }
+    requires told { IsAdmissionOf (2 ^ B) plan.now settings.now.asks admitted.now }
     ensures { IfOk result (λ report. IsGoodReport plan.now settings.now report) }
 {
     let parts = parts_for::<B>(alloc, plan, settings.asks.as_slice(), &admitted.budgets)?;

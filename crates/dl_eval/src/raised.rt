@@ -4,8 +4,6 @@ ghost use Rattle.std.specs.Prelude.{ℕ, ◌≡◌, ◌^◌, ◌<◌, ◌≤◌,
 ghost use Rattle.dl_limits.specs.Limits.{bits_of, budget_bound, most_plan_cells};
 ghost use Rattle.dl_plan.specs.Prelude.{CanRaise, IsUnbounded, IsValid, IsValidUnit, thinned_mean};
 ghost use Rattle.dl_model.specs.Prelude.{GridEncloses, total as total_of, loss_of, aggregates_of};
-ghost use Rattle.dl_pool.specs.Extra.{IsExtra};
-ghost use Rattle.dl_budget.specs.Asks.{joint_budget};
 ghost use Rattle.dl_budget.specs.Shared.{shared_joint_budget};
 ghost use Rattle.dl_eval.specs.Budgets.{AreAllBudgets, IsBudgetOf};
 ghost use Rattle.dl_eval.specs.Totals.{AreRaisedTotals, IsClaimsGrid, IsTotalOf};
@@ -72,35 +70,6 @@ pub(crate) fn is_narrow(unit: &Unit, spread: u128, cells: u32, most: u128) -> bo
     shared_joint_budget(unit, spread, cells) <= most
 }
 
-/// The grid of the total with these extra claims of a gamma unit, unit `i` of the plan; none where
-/// the joint mean of the unit would be wider than `most`, its budget.
-fn raised_by<const B: u32>(
-    alloc: Global,
-    work: &mut Workspace,
-    plan: &Plan,
-    total: &Grid<B>,
-    i: u32,
-    unit: &Unit,
-    claims: &Unit,
-    most: u128,
-) -> Result<Option<Grid<B>>, AllocError>
-    requires scale { B ≡ bits_of plan.now.cells }
-    requires valid { IsValid plan.now }
-    requires independent { plan.now.common ≡ None }
-    requires total { IsTotalOf plan.now total.now }
-    requires gamma { CanRaise unit.now }
-    requires here { unit.now ≡ get_or plan.now.units i unit.now }
-    requires inside { i < length plan.now.units }
-    requires claims { IsValidUnit plan.now.cells claims.now }
-    requires extra { IsExtra unit.now claims.now }
-    requires most { most ≡ joint_budget (2 ^ B) plan.now i }
-    ensures { IfOk result (λ made. IfSome made (IsClaimsGrid plan.now i)) }
-{
-    let made = total_beside(alloc, work, plan, total, claims)?;
-    let narrow = is_narrow(unit, made.spread(), plan.cells, most);
-    Ok(narrow.then_some(made))
-}
-
 /// The grid of the total with the extra claims of unit `i`, of these budgets; none where no ask names
 /// the unit, where its share is not taken from that grid, where its extra claims are not a valid unit,
 /// and where its joint mean would be wider than its budget.
@@ -128,10 +97,12 @@ fn raised_total<const B: u32>(
     if !is_raised(units, unit) {
         return Ok(None);
     }
-    match extra(alloc, unit)? {
-        Some(claims) => raised_by(alloc, work, plan, total, i, unit, &claims, of.joint),
-        None => Ok(None),
-    }
+    let Some(claims) = extra(alloc, unit)? else {
+        return Ok(None);
+    };
+    let made = total_beside(alloc, work, plan, total, &claims)?;
+    let narrow = is_narrow(unit, made.spread(), plan.cells, of.joint);
+    Ok(narrow.then_some(made))
 }
 
 /// For each unit of a valid plan, the grid of the total with its extra claims, where an ask names

@@ -16,7 +16,6 @@ ghost use Rattle.dl_shares.specs.declared.source.ShareSource.TheVariants as sour
 
 use crate::drawn::PlanGrids;
 use crate::grids::Grids;
-use crate::pooled::PooledGrids;
 use crate::rows::{beyond_row, ends_row, row_with};
 use dl_budget::{others_budget, unit_budget};
 use dl_frac::Frac;
@@ -137,44 +136,6 @@ fn joint_over<const B: u32>(plan: &Plan, grid: &Grid<B>, i: u32, at: u32) -> Iv<
     joint_from(plan, &from, i, at)
 }
 
-/// The mean outcome of unit `i` where the total is `at`, and 0 elsewhere, in buckets, of
-/// independent units.
-fn independent_joint<const B: u32>(plan: &Plan, grids: &Grids<B>, i: u32, at: u32) -> Iv<B>
-    requires scale { B ≡ bits_of plan.now.cells }
-    requires valid { IsValid plan.now }
-    requires independent { plan.now.common ≡ None }
-    requires grids { AreGridsOf plan.now grids.now }
-    requires unit { i < length plan.now.units }
-    requires there { HasShareFrom plan.now grids.now grids.now.sums.total i }
-    requires inside { at < plan.now.cells }
-    ensures joint { IsJointOf plan.now i at result }
-    ensures divisible { result.hi * 2 ^ B ≤ most_high }
-{
-    match drawn_from(plan, grids, i) {
-        DrawnFrom::Beside(from) => joint_from(plan, &ShareSource::Beside(from), i, at),
-        DrawnFrom::Total => joint_over(plan, &grids.sums.total, i, at),
-        DrawnFrom::Extra(raised) => joint_over(plan, raised, i, at),
-    }
-}
-
-/// The same of units that share a factor.
-fn shared_joint<const B: u32>(plan: &Plan, grids: &PooledGrids<B>, i: u32, at: u32) -> Iv<B>
-    requires scale { B ≡ bits_of plan.now.cells }
-    requires valid { IsValid plan.now }
-    requires grids { ArePooledGridsOf plan.now grids.now }
-    requires unit { i < length plan.now.units }
-    requires there { IsSome grids.now.raised }
-    requires inside { at < plan.now.cells }
-    requires reached { IfSome grids.now.raised (λ g. at + 1 ≤ length g) }
-    ensures joint { IsJointOf plan.now i at result }
-    ensures divisible { result.hi * 2 ^ B ≤ most_high }
-{
-    match &grids.raised {
-        Some(raised) => joint_over(plan, raised, i, at),
-        None => unreachable!(),
-    }
-}
-
 /// The mean outcome of unit `i` where the total is `at`, and 0 elsewhere, in buckets.
 pub(crate) fn joint_of<const B: u32>(plan: &Plan, grids: &PlanGrids<B>, i: u32, at: u32) -> Iv<B>
     requires scale { B ≡ bits_of plan.now.cells }
@@ -188,8 +149,15 @@ pub(crate) fn joint_of<const B: u32>(plan: &Plan, grids: &PlanGrids<B>, i: u32, 
     ensures divisible { result.hi * 2 ^ B ≤ most_high }
 {
     match grids {
-        PlanGrids::Independent(grids) => independent_joint(plan, grids, i, at),
-        PlanGrids::Shared(grids) => shared_joint(plan, grids, i, at),
+        PlanGrids::Independent(grids) => match drawn_from(plan, grids, i) {
+            DrawnFrom::Beside(from) => joint_from(plan, &ShareSource::Beside(from), i, at),
+            DrawnFrom::Total => joint_over(plan, &grids.sums.total, i, at),
+            DrawnFrom::Extra(raised) => joint_over(plan, raised, i, at),
+        },
+        PlanGrids::Shared(grids) => match &grids.raised {
+            Some(raised) => joint_over(plan, raised, i, at),
+            None => unreachable!(),
+        },
     }
 }
 

@@ -106,33 +106,6 @@ fn total_of<const B: u32>(
     Ok(Some(total))
 }
 
-/// The grid of the total, by the one unit in the place of those that can be pooled, and the means of
-/// all units; none where the grid is wider than `most`, the budget of the total.
-fn total_and_means<const B: u32>(
-    alloc: Global,
-    work: &mut Workspace,
-    plan: &Plan,
-    pooled: &Unit,
-    most: u128,
-) -> Result<Option<(Grid<B>, Vec<Iv<B>>)>, AllocError>
-    requires scale { B ≡ bits_of plan.now.cells }
-    requires valid { IsValid plan.now }
-    requires independent { plan.now.common ≡ None }
-    requires pooled { IsPooledFor plan.now pooled.now }
-    requires most { most ≡ total_budget (2 ^ B) plan.now }
-    ensures total { IfOk result (λ made. IfSome made (λ both. IsTotalOf plan.now both.0)) }
-    ensures means { IfOk result (λ made. IfSome made (λ both.
-        AreUnitMeans plan.now.cells plan.now.units both.1.items)) }
-    ensures small { IfOk result (λ made. IfSome made (λ both.
-        All (λ mean. mean.hi ≤ most_unit_mean) both.1.items)) }
-{
-    let made = outcomes_of_rest::<B>(alloc, work, plan)?;
-    match total_of(alloc, work, plan, made.grids, pooled, most)? {
-        Some(total) => Ok(Some((total, made.means))),
-        None => Ok(None),
-    }
-}
-
 /// The grids behind the rows where the total is there: for no unit the sum of the others, and for
 /// named gamma units the total with their extra claims.
 fn grids_of_total<const B: u32>(
@@ -194,11 +167,12 @@ fn grids_by<const B: u32>(
     ensures there { IfOk result (λ made. IfSome made (λ grids.
         HasAllNeeded plan.now (Independent grids) budgets.now.of_units.items)) }
 {
-    let Some((total, means)) = total_and_means(alloc, work, plan, pooled, budgets.of_total.total)?
-    else {
+    let made = outcomes_of_rest::<B>(alloc, work, plan)?;
+    let most = budgets.of_total.total;
+    let Some(total) = total_of(alloc, work, plan, made.grids, pooled, most)? else {
         return Ok(None);
     };
-    let grids = grids_of_total(alloc, work, plan, budgets, total, means)?;
+    let grids = grids_of_total(alloc, work, plan, budgets, total, made.means)?;
     if !are_served(plan, &grids, budgets) {
         return Ok(None);
     }

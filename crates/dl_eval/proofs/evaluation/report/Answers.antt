@@ -20,16 +20,16 @@ row-requires g c =
     let many = numbers_many plan.units same c.requires.numbers in
     all_six (omega arith) (omega arith) (omega arith) c.requires.scale c.requires.ranges.few_digits (all_six
     (ask_has (λ (a : Asked). IsAskInRange a.ask) i same c.index-asks-i.is test c.requires.ranges.asks) c.requires.valid
-    (ask_has (λ (a : Asked). IsInside plan.cells a.ask) i same c.index-asks-i.is test c.requires.inside)
-    (ask_has (λ (a : Asked). NamesUnit plan.units a.ask) i same c.index-asks-i.is test c.requires.named)
-    (ask_has (λ (a : Asked). HasShare plan a.ask) i same c.index-asks-i.is test c.requires.shares) (all_six
-    c.requires.grids c.requires.total c.requires.summed unit
+    (ask_has (λ (a : Asked). IsInside plan.cells a.ask) i same c.index-asks-i.is test c.requires.admitted.inside)
+    (ask_has (λ (a : Asked). NamesUnit plan.units a.ask) i same c.index-asks-i.is test c.requires.admitted.named)
+    (ask_has (λ (a : Asked). HasShare plan a.ask) i same c.index-asks-i.is test c.requires.admitted.shares) (all_six
+    c.requires.parts.grids c.requires.total c.requires.summed unit
     (IfSome_then c.args.parts.now.grids c.requires.there (λ made each. each i None (omega (arith, many, test))))
-    (IfSome_then c.args.parts.now.grids c.requires.reached
+    (IfSome_then c.args.parts.now.grids c.requires.parts.reached
     (λ made. ask_has (λ (a : Asked). CoversAsk made a.ask) i same c.index-asks-i.is test)
     also c.requires.same
-    also (λ none. ask_has (λ (a : Asked). a.ask ≡ Mean) i same c.index-asks-i.is test (c.requires.none none))
-    also c.requires.mean also c.requires.small)))
+    also (λ none. ask_has (λ (a : Asked). a.ask ≡ Mean) i same c.index-asks-i.is test (c.requires.parts.none none))
+    also c.requires.parts.mean also c.requires.parts.small)))
 
 pub loop-i-preserved : goal.loop-i-preserved
 loop-i-preserved g c =
