@@ -2,21 +2,24 @@
 use Rattle.dl_top.proofs.Common.{◌≡◌, ◌∙◌, ◌^◌, ℕ, List, refl, sym, ap, subst, Iv, Program, Plan, Settings, IsValid, first_fault, first_fault_of, fault_with, fault_on_grid, fault_of_port, IsPlanOf, IsUnitOf, IsCovered, IsVerified, steps_of, IsVerifiable}
 use Rattle.std.specs.List.{AllZip}
 use Rattle.dl_exact.specs.Fraction.{Fraction}
+use Rattle.dl_types.proofs.BothRules.{same_fault as rules_alike}
 use Rattle.dl_types.proofs.OnePlan.{one_plan}
+use Rattle.dl_types.specs.Faults.{by}
 use Rattle.dl_top.specs.Repeated.{IsHandedOn}
 
 -- settings with another bucket and another grid
 abbrev on_grid : Settings → Fraction → ℕ → Settings
 on_grid settings bs log2 = record settings { bs = bs; log2 = log2 }
 
--- a first fault hangs on these alone
-on_its_grid : (p : Program) (a b : Settings) → first_fault p a ≡ first_fault p (on_grid b a.bs a.log2)
+-- a first fault hangs on these and the rules alone
+on_its_grid : (p : Program) (a b : Settings) → first_fault p (by b.rules a) ≡ first_fault p (on_grid b a.bs a.log2)
 unfolding first_fault first_fault_of fault_with fault_on_grid fault_of_port
 on_its_grid p a b = refl
 
 same_fault : (p : Program) (a b : Settings) → b.bs ≡ a.bs → b.log2 ≡ a.log2 → first_fault p a ≡ first_fault p b
 same_fault p a b bucket cells =
-    on_its_grid p a b
+    rules_alike p a a.rules b.rules
+    ∙ on_its_grid p a b
     ∙ ap (λ bs. first_fault p (on_grid b bs a.log2)) (sym bucket)
     ∙ ap (λ n. first_fault p (on_grid b b.bs n)) (sym cells)
 
