@@ -273,6 +273,8 @@ def tail_cases():
     yield Case("256 asks `price` of eight terms, 65,536 cells", row, [*wide, *prices()], log2=16)
     yield Case("256 asks `cotail`, 4,096 cells", book(), [*wide, *shares("Motor", 744)])
     yield Case("256 asks `cotail`, 65,536 cells", halves, [*wide, *shares("W0", 500)], log2=16)
+    extended = ["--rules", "extended", *wide, *shares("W0", 500)]
+    yield Case("256 asks `cotail` by the extended rules, 65,536 cells", halves, extended, log2=16)
 
 
 def apart(first, last, step):
