@@ -1,6 +1,8 @@
 -- The answer to an ask for a tail mean.
-use Rattle.dl_eval.proofs.Common.{sym, Some, ◌∙◌, ◌↔◌, ℕ, suc, ◌≡◌, ◌+◌, ◌-◌, ◌*◌, ◌^◌, ◌<◌, ◌≤◌, List, length, arith, inl, inr, div_ceil, mul-le-mul_left, mul-le-mul_right, pow_pos, div_ceil_times, Fraction, ◌over◌, ◌≤ℚ◌, ◌<ℚ◌, le_trans, lt_or_le, lt_not_le, div_ceil_least, Iv, over_le_over, low_at, high_at, spread, up_quotient, count_below, Holds, One, Mean, Tail, partial_sums, total, GridEncloses, AreDeclared, low_cdf, at_least_wider, cdf_ends, IsFirstAtLeast, Plan, IsValid, Row, total_budget, mean_budget, tail_budget, in_digits, few_cells, at_the_end, IsTailMean, DeclaresTail, IsTotalOf, IsMeanOf, Prints, Loss, up, tail_width, IsQuantile, count_below_grows, IsLevel, IsAtLeast, total_cdf, total_mean, total_tail}
+use Rattle.dl_eval.proofs.Common.{Option, None, IsFirstFound, bracket_end, sym, Some, ◌∙◌, ◌↔◌, ℕ, suc, ◌≡◌, ◌+◌, ◌-◌, ◌*◌, ◌^◌, ◌<◌, ◌≤◌, List, length, arith, inl, inr, div_ceil, mul-le-mul_left, mul-le-mul_right, pow_pos, div_ceil_times, Fraction, ◌over◌, ◌≤ℚ◌, ◌<ℚ◌, le_trans, lt_or_le, lt_not_le, div_ceil_least, Iv, over_le_over, low_at, high_at, spread, up_quotient, count_below, Holds, One, Mean, Tail, partial_sums, total, GridEncloses, AreDeclared, low_cdf, at_least_wider, cdf_ends, IsFirstAtLeast, Plan, IsValid, Row, total_budget, mean_budget, tail_budget, in_digits, few_cells, at_the_end, IsTailMean, DeclaresTail, IsTotalOf, IsMeanOf, Prints, Loss, up, tail_width, IsQuantile, count_below_grows, IsLevel, IsAtLeast, total_cdf, total_mean, total_tail}
 use Rattle.dl_exact.proofs.BelowOne.{num_below}
+use Rattle.dl_report.specs.declared.report.End.{End}
+use Rattle.dl_report.specs.declared.report.End.TheVariants.{Beyond}
 use Rattle.dl_shares.specs.Prelude.{IsPast}
 use Rattle.dl_eval.specs.Rows.{IsPastGrid}
 use Rattle.dl_eval.specs.Totals.{reach_of}
@@ -65,9 +67,18 @@ pub not_past : {S lo hi d : ℕ} {row : Row} {Past : Type 0} → Prints S lo hi 
 not_past printed none =
     (λ past. let same = sym printed.is_low ∙ past.is_low in absurd cc, λ past. absurd (none past))
 
--- a row is past the grid at the levels above what is sure to lie inside it
-pub past_above : {B : ℕ} {plan : Plan} {g : List (Iv B)} {p : Fraction} {row : Row} → IsValid plan → IsTotalOf plan g
-    → IsPastGrid row ↔ IsPast g p → IsPastGrid row ↔ (reach_of (Some g) <ℚ p)
+-- the high end of a bracket is past the grid exactly where no low end reaches p
+pub bracket_past : {B : ℕ} (g : List (Iv B)) {p : Fraction} (hi : Option ℕ) {end : End} → end ≡ bracket_end hi
+    → IsFirstFound (low_cdf (2 ^ B) (low_at g)) p (length g) hi → (end ≡ Beyond) ↔ IsPast g p
+bracket_past g None is found = (λ _. found, λ _. is)
+bracket_past g {p = p} (Some x) is found = (
+  λ past. let same = sym is ∙ past in absurd cc,
+  λ past. absurd (lt_not_le _ p (past.before x found.0) (found.1.reached found.0)),
+)
+
+-- what is past the grid where no low end reaches p is so at the levels above what is sure to lie inside it
+pub past_above : {B : ℕ} {plan : Plan} {g : List (Iv B)} {p : Fraction} {Past : Type 0} → IsValid plan → IsTotalOf plan g
+    → Past ↔ IsPast g p → Past ↔ (reach_of (Some g) <ℚ p)
 past_above {plan = plan} {g = g} {p = p} valid t same =
     let some = few_cells plan valid in
     let ends = none_reaches g p (length g) (length g - 1) (omega (arith, t.cells, some.0)) in

@@ -12,8 +12,9 @@ use Rattle.dl_eval.specs.declared.fault.EvalFault.{EvalFault}
 use Rattle.dl_eval.specs.declared.fault.EvalFault.TheVariants.{AskBeyond, UnknownUnit, NoShare, TooWide, OutOfMemory}
 use Rattle.dl_eval.specs.Rows.{scale, IsGood, IsPastAbove}
 
--- The number of digits of the settings, and one good row for each ask, in order. At one level the
--- tail mean and each share of it have numbers alike: they do exactly up to the level `reach`.
+-- The number of digits of the settings, and one good row for each ask, in order. Up to the level
+-- `reach`, and no farther, quantiles have a high end inside the grid, and tail means and shares of
+-- them at every quantile have numbers: at one level all alike.
 pub record IsGoodReport (plan : Plan) (settings : Settings) (report : Report) : Type 0 where
   pub digits : report.digits ≡ settings.digits
   pub as_many : length report.rows ≡ length settings.asks

@@ -114,9 +114,10 @@ pub record IsBeyond (plan : Plan) (p d : Fraction) (row : Row) : Type 0 where
   pub past : IsPastGrid row
   pub below : IsBelow plan (at_the_end plan) (p +ℚ d)
 
--- a tail mean, and a share of it at every quantile, lies past the grid exactly where its level is
--- above `reach`
+-- The high end of a quantile lies past the grid exactly where its level is above `reach`; and so do
+-- both ends of a tail mean, and of a share of it at every quantile.
 abbrev pub IsPastAbove : (reach : Fraction) → Ask → Row → Type 0
+IsPastAbove reach (asks.Quantile p) row = (row.high ≡ Beyond) ↔ (reach <ℚ p)
 IsPastAbove reach (asks.Tail p) row = IsPastGrid row ↔ (reach <ℚ p)
 IsPastAbove reach (asks.Share unit p) row = IsPastGrid row ↔ (reach <ℚ p)
 IsPastAbove reach ask row = ⊤

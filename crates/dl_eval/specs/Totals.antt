@@ -187,8 +187,8 @@ pub record IsTailShareOf {B : ℕ} (plan : Plan) (i : ℕ) (p : Fraction) (most 
 
 -- ---- what is printed
 
--- the greatest level at which a tail mean has numbers: the probability that is sure to lie inside
--- the grid of the total; where there is no grid, there is no ask for one
+-- the greatest level at which a quantile has a high end and a tail mean has numbers: the
+-- probability that is sure to lie inside the grid of the total; any, where there is no grid
 abbrev pub reach_of : {B : ℕ} → Option (List (Iv B)) → Fraction
 reach_of {B} (Some g) = low_cdf (2 ^ B) (low_at g) (length g - 1)
 reach_of None = whole 1

@@ -7,6 +7,7 @@ ghost use Rattle.dl_plan.specs.declared.settings.Ask.TheVariants as asks;
 ghost use Rattle.dl_plan.specs.Prelude.{IsLevel, IsAskInRange, ArePriced, IsValid};
 ghost use Rattle.dl_shares.specs.Settled.{IsPast};
 ghost use Rattle.dl_budget.specs.Asks.{IsInside, NamesUnit, named_unit, tail_budget, price_budget, in_digits};
+ghost use Rattle.dl_report.specs.declared.report.End.TheVariants.{Beyond};
 ghost use Rattle.dl_eval.specs.Rows.{IsBracket, IsTailMean, IsBeyond, IsPastGrid, IsPastAbove, IsPrice, IsBeyondSome, IsAnswerTo, IsGood, bracket_end, total_error};
 ghost use Rattle.dl_eval.specs.Totals.{most_mean, reach_of, IsTotalOf, IsMeanOf, Prints};
 ghost use Rattle.dl_eval.specs.Answers.{HasShare};
@@ -82,6 +83,7 @@ fn quantile_row<const B: u32>(
     ensures bracket { IfOk result (λ row. (plan : PlanValue) → IsValid plan
         → IsTotalOf plan total.now
         → IsBracket plan p (total_error (2 ^ B) plan) row) }
+    ensures past { IfOk result (λ row. (row.high ≡ Beyond) ↔ IsPast total.now p) }
 {
     total.cells();
     let bracket = quantile(total, p);

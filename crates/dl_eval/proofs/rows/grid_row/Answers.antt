@@ -155,6 +155,11 @@ unreachable-requires g c =
     let some = subst (λ (o : Option ℕ). IsSome o) none grids.shares in
     absurd cc
 
+pub returns-in-Quantile-clause-past : goal.returns-in-Quantile-clause-past
+returns-in-Quantile-clause-past g c =
+    IfOk-weaker c.quantile_row.result _ _ (λ row past.
+    rw c.in-Quantile.is (past_above c.requires.valid c.requires.total past)) c.quantile_row.ensures.past
+
 pub returns-in-Tail-clause-past : goal.returns-in-Tail-clause-past
 returns-in-Tail-clause-past g c =
     IfOk-weaker c.tail_row.result _ _ (λ row past.
