@@ -1,6 +1,11 @@
 -- The answer to an ask for a tail mean.
-use Rattle.dl_eval.proofs.Common.{ℕ, suc, ◌≡◌, ◌+◌, ◌-◌, ◌*◌, ◌^◌, ◌<◌, ◌≤◌, List, length, arith, inl, inr, div_ceil, mul-le-mul_left, mul-le-mul_right, pow_pos, div_ceil_times, Fraction, ◌over◌, ◌≤ℚ◌, ◌<ℚ◌, le_trans, lt_or_le, lt_not_le, div_ceil_least, Iv, over_le_over, low_at, high_at, spread, up_quotient, count_below, Holds, One, Mean, Tail, partial_sums, total, GridEncloses, AreDeclared, low_cdf, at_least_wider, cdf_ends, IsFirstAtLeast, Plan, IsValid, Row, total_budget, mean_budget, tail_budget, in_digits, few_cells, at_the_end, IsTailMean, DeclaresTail, IsTotalOf, IsMeanOf, Prints, Loss, up, tail_width, IsQuantile, count_below_grows, IsLevel, IsAtLeast, total_cdf, total_mean, total_tail}
+use Rattle.dl_eval.proofs.Common.{Option, None, IsFirstFound, bracket_end, sym, Some, ◌∙◌, ◌↔◌, ℕ, suc, ◌≡◌, ◌+◌, ◌-◌, ◌*◌, ◌^◌, ◌<◌, ◌≤◌, List, length, arith, inl, inr, div_ceil, mul-le-mul_left, mul-le-mul_right, pow_pos, div_ceil_times, Fraction, ◌over◌, ◌≤ℚ◌, ◌<ℚ◌, le_trans, lt_or_le, lt_not_le, div_ceil_least, Iv, over_le_over, low_at, high_at, spread, up_quotient, count_below, Holds, One, Mean, Tail, partial_sums, total, GridEncloses, AreDeclared, low_cdf, at_least_wider, cdf_ends, IsFirstAtLeast, Plan, IsValid, Row, total_budget, mean_budget, tail_budget, in_digits, few_cells, at_the_end, IsTailMean, DeclaresTail, IsTotalOf, IsMeanOf, Prints, Loss, up, tail_width, IsQuantile, count_below_grows, IsLevel, IsAtLeast, total_cdf, total_mean, total_tail}
 use Rattle.dl_exact.proofs.BelowOne.{num_below}
+use Rattle.dl_report.specs.declared.report.End.{End}
+use Rattle.dl_report.specs.declared.report.End.TheVariants.{Beyond}
+use Rattle.dl_shares.specs.Prelude.{IsPast}
+use Rattle.dl_eval.specs.Rows.{IsPastGrid}
+use Rattle.dl_eval.specs.Totals.{reach_of}
 use Rattle.dl_eval.proofs.Losses.{losses_of, losses_declared, losses_units, encloses_losses, holds_told, holds_back, quantile_back}
 use Rattle.dl_eval.proofs.Printed.{are_ends, tail_widens}
 
@@ -39,18 +44,45 @@ below_before : (p x y : Fraction) → x ≤ℚ y → y <ℚ p → x <ℚ p
 below_before p x y order below = elim (lt_or_le x p)
     [ inl less ↦ less | inr not_less ↦ absurd (lt_not_le y p below (le_trans p x y not_less order)) ]
 
+-- no low end reaches p exactly where the last one does not
+none_reaches : {B : ℕ} (g : List (Iv B)) (p : Fraction) (n x : ℕ) → x + 1 ≡ n
+    → IsFirstAtLeast (low_cdf (2 ^ B) (low_at g)) p n n ↔ (low_cdf (2 ^ B) (low_at g) x <ℚ p)
+none_reaches g p n x last = (
+  λ none. none.before x (omega (arith, last)),
+  λ below. record {
+    within = omega arith;
+    before = λ y inside. below_before p _ _ (low_cdf_rises g y x (omega (arith, inside, last))) below;
+    reached = λ past. absurd (omega (arith, past));
+  },
+)
+
 -- where some low end reaches p, the last one does
 last_reaches : {B : ℕ} (g : List (Iv B)) (p : Fraction) (n x : ℕ) → x + 1 ≡ n
     → ¬ IsFirstAtLeast (low_cdf (2 ^ B) (low_at g)) p n n → p ≤ℚ low_cdf (2 ^ B) (low_at g) x
-last_reaches {B} g p n x last found = elim (lt_or_le (low_cdf (2 ^ B) (low_at g) x) p) [
-  | inl below ↦
-      absurd (found (record {
-        within = omega arith;
-        before = λ y inside. below_before p _ _ (low_cdf_rises g y x (omega (arith, inside, last))) below;
-        reached = λ past. absurd (omega (arith, past));
-      }))
-  | inr reached ↦ reached
-]
+last_reaches {B} g p n x last found = elim (lt_or_le (low_cdf (2 ^ B) (low_at g) x) p)
+    [ inl below ↦ absurd (found ((none_reaches g p n x last).1 below)) | inr reached ↦ reached ]
+
+-- a row with numbers is not past the grid
+pub not_past : {S lo hi d : ℕ} {row : Row} {Past : Type 0} → Prints S lo hi d row → ¬ Past → IsPastGrid row ↔ Past
+not_past printed none =
+    (λ past. let same = sym printed.is_low ∙ past.is_low in absurd cc, λ past. absurd (none past))
+
+-- the high end of a bracket is past the grid exactly where no low end reaches p
+pub bracket_past : {B : ℕ} (g : List (Iv B)) {p : Fraction} (hi : Option ℕ) {end : End} → end ≡ bracket_end hi
+    → IsFirstFound (low_cdf (2 ^ B) (low_at g)) p (length g) hi → (end ≡ Beyond) ↔ IsPast g p
+bracket_past g None is found = (λ _. found, λ _. is)
+bracket_past g {p = p} (Some x) is found = (
+  λ past. let same = sym is ∙ past in absurd cc,
+  λ past. absurd (lt_not_le _ p (past.before x found.0) (found.1.reached found.0)),
+)
+
+-- what is past the grid where no low end reaches p is so at the levels above what is sure to lie inside it
+pub past_above : {B : ℕ} {plan : Plan} {g : List (Iv B)} {p : Fraction} {Past : Type 0} → IsValid plan → IsTotalOf plan g
+    → Past ↔ IsPast g p → Past ↔ (reach_of (Some g) <ℚ p)
+past_above {plan = plan} {g = g} {p = p} valid t same =
+    let some = few_cells plan valid in
+    let ends = none_reaches g p (length g) (length g - 1) (omega (arith, t.cells, some.0)) in
+    (λ past. ends.0 (same.0 past), λ below. same.1 (ends.1 below))
 
 pub tail_reached : {B : ℕ} {plan : Plan} {g : List (Iv B)} (p : Fraction)
     → ¬ IsFirstAtLeast (low_cdf (2 ^ B) (low_at g)) p (length g) (length g)

@@ -1,5 +1,6 @@
 -- The result of an evaluation: a good report, or its first fault.
 use Rattle.std.specs.Prelude.{ℕ, ◌≡◌, ◌<◌, ⊤, None, List, length, get_or, zip, All}
+use Rattle.dl_exact.specs.Prelude.{Fraction}
 use Rattle.dl_plan.specs.declared.plan.Plan.{Plan}
 use Rattle.dl_plan.specs.declared.settings.Ask.{Ask}
 use Rattle.dl_plan.specs.declared.settings.Ask.TheVariants.{Cotail}
@@ -9,13 +10,17 @@ use Rattle.dl_report.specs.declared.report.Report.{Report}
 use Rattle.dl_budget.specs.Asks.{IsInside, NamesUnit, Passes, needed}
 use Rattle.dl_eval.specs.declared.fault.EvalFault.{EvalFault}
 use Rattle.dl_eval.specs.declared.fault.EvalFault.TheVariants.{AskBeyond, UnknownUnit, NoShare, TooWide, OutOfMemory}
-use Rattle.dl_eval.specs.Rows.{scale, IsGood}
+use Rattle.dl_eval.specs.Rows.{scale, IsGood, IsPastAbove}
 
--- the number of digits of the settings, and one good row for each ask, in order
+-- The number of digits of the settings, and one good row for each ask, in order. Up to the level
+-- `reach`, and no farther, quantiles have a high end inside the grid, and tail means and shares of
+-- them at every quantile have numbers: at one level all alike.
 pub record IsGoodReport (plan : Plan) (settings : Settings) (report : Report) : Type 0 where
   pub digits : report.digits ≡ settings.digits
   pub as_many : length report.rows ≡ length settings.asks
   pub rows : All (λ pair. IsGood plan settings.digits pair.0 pair.1) (zip settings.asks report.rows)
+  pub reach : Fraction
+  pub past : All (λ pair. IsPastAbove reach pair.0.ask pair.1) (zip settings.asks report.rows)
 
 -- each ask lies inside the grid; each names a unit of the plan, if it names one; and each passes
 -- the width rule

@@ -1,8 +1,8 @@
 -- When a row of a report is good: its ends hold what the plan declares, and lie no farther apart
 -- than is needed.
-use Rattle.std.specs.Prelude.{ℕ, ◌≡◌, ◌+◌, ◌-◌, ◌^◌, ◌<◌, ◌≤◌, ◌⊎◌, Option, None, Some, MatchOption, List, All, Any}
+use Rattle.std.specs.Prelude.{ℕ, ◌≡◌, ◌+◌, ◌-◌, ◌^◌, ◌<◌, ◌≤◌, ◌⊎◌, ◌↔◌, ⊤, Option, None, Some, MatchOption, List, All, Any}
 use Rattle.dl_limits.specs.Limits.{rarest_parts, bits_of}
-use Rattle.dl_exact.specs.Fraction.{Fraction, ◌over◌, ◌+ℚ◌}
+use Rattle.dl_exact.specs.Fraction.{Fraction, ◌over◌, ◌+ℚ◌, ◌<ℚ◌}
 use Rattle.dl_model.specs.Prelude.{Holds, AtLeast, AtMost, Below, Quantity, PricedTerm, One, Point, Cdf, Mean, Layer, Tail, Price, Joint, IsQuantile, IsBracketed, HoldsShare, declared}
 use Rattle.dl_measures.specs.Ends.{IsTight}
 use Rattle.dl_distort.specs.Prices.{AreTermsOf, AreQuantiles}
@@ -113,6 +113,14 @@ pub record IsPastGrid (row : Row) : Type 0 where
 pub record IsBeyond (plan : Plan) (p d : Fraction) (row : Row) : Type 0 where
   pub past : IsPastGrid row
   pub below : IsBelow plan (at_the_end plan) (p +ℚ d)
+
+-- The high end of a quantile lies past the grid exactly where its level is above `reach`; and so do
+-- both ends of a tail mean, and of a share of it at every quantile.
+abbrev pub IsPastAbove : (reach : Fraction) → Ask → Row → Type 0
+IsPastAbove reach (asks.Quantile p) row = (row.high ≡ Beyond) ↔ (reach <ℚ p)
+IsPastAbove reach (asks.Tail p) row = IsPastGrid row ↔ (reach <ℚ p)
+IsPastAbove reach (asks.Share unit p) row = IsPastGrid row ↔ (reach <ℚ p)
+IsPastAbove reach ask row = ⊤
 
 -- A price by these terms in numbers. They come only where the distribution reaches the probability
 -- of each term inside the grid.

@@ -1,12 +1,13 @@
 -- The grounds of the rows: the grids and the means of the units, of their total, and of all but
 -- one.
-use Rattle.std.specs.Prelude.{ℕ, ◌≡◌, ◌+◌, ◌*◌, ◌/◌, ◌<◌, ◌≤◌, ◌^◌, ◌⊎◌, Bool, false, IsTrue, Option, None, Some, IsSome, IfSome, All, List, [], ◌∷◌, length, get_or}
+use Rattle.std.specs.Prelude.{ℕ, ◌≡◌, ◌+◌, ◌*◌, ◌-◌, ◌/◌, ◌<◌, ◌≤◌, ◌^◌, ◌⊎◌, Bool, false, IsTrue, Option, None, Some, IsSome, IfSome, All, List, [], ◌∷◌, length, get_or}
 use Rattle.std.specs.Int.{div_ceil}
-use Rattle.dl_exact.specs.Prelude.{Fraction, ◌over◌}
+use Rattle.dl_exact.specs.Prelude.{Fraction, whole, ◌over◌}
 use Rattle.dl_limits.specs.Limits.{budget_bound, most_mean_to_change}
 pub use Rattle.dl_limits.specs.Limits.{most_mean, most_unit_mean}
 use Rattle.dl_iv.specs.declared.interval.Iv.{Iv}
 use Rattle.dl_grid.specs.Cells.{low_at, high_at, spread}
+use Rattle.dl_measures.specs.Prelude.{low_cdf}
 use Rattle.dl_model.specs.Prelude.{Holds, GridEncloses, mapped, One, Point, Mean, Joint, partial_sums, total, unit_of, without, aggregate_of, loss_of, aggregates_of, declared}
 use Rattle.dl_shares.specs.Amounts.{claims_mean}
 use Rattle.dl_pool.specs.Pooled.{IsPooled}
@@ -185,6 +186,12 @@ pub record IsTailShareOf {B : ℕ} (plan : Plan) (i : ℕ) (p : Fraction) (most 
   pub narrow : share.hi ≤ share.lo + most
 
 -- ---- what is printed
+
+-- the greatest level at which a quantile has a high end and a tail mean has numbers: the
+-- probability that is sure to lie inside the grid of the total; any, where there is no grid
+abbrev pub reach_of : {B : ℕ} → Option (List (Iv B)) → Fraction
+reach_of {B} (Some g) = low_cdf (2 ^ B) (low_at g) (length g - 1)
+reach_of None = whole 1
 
 -- the row holds the ends lo and hi, in units of 1/S: the low end rounded down to d digits, the high
 -- end up

@@ -1,13 +1,15 @@
 //! The row of an ask.
 
-ghost use Rattle.std.specs.Prelude.{◌≡◌, ◌≤◌, ◌^◌, ◌⊎◌, ℕ, List, None, All, map, IfOk, IfSome};
+ghost use Rattle.std.specs.Prelude.{◌≡◌, ◌≤◌, ◌^◌, ◌⊎◌, ◌↔◌, ℕ, List, Some, None, All, map, IfOk, IfSome};
 ghost use Rattle.dl_limits.specs.Limits.{IsPlanScale, bits_of, most_digits};
 ghost use Rattle.dl_plan.specs.declared.plan.Plan.{Plan as PlanValue};
 ghost use Rattle.dl_plan.specs.declared.settings.Ask.TheVariants as asks;
 ghost use Rattle.dl_plan.specs.Prelude.{IsLevel, IsAskInRange, ArePriced, IsValid};
+ghost use Rattle.dl_shares.specs.Settled.{IsPast};
 ghost use Rattle.dl_budget.specs.Asks.{IsInside, NamesUnit, named_unit, tail_budget, price_budget, in_digits};
-ghost use Rattle.dl_eval.specs.Rows.{IsBracket, IsTailMean, IsBeyond, IsPastGrid, IsPrice, IsBeyondSome, IsAnswerTo, IsGood, bracket_end, total_error};
-ghost use Rattle.dl_eval.specs.Totals.{most_mean, IsTotalOf, IsMeanOf, Prints};
+ghost use Rattle.dl_report.specs.declared.report.End.TheVariants.{Beyond};
+ghost use Rattle.dl_eval.specs.Rows.{IsBracket, IsTailMean, IsBeyond, IsPastGrid, IsPastAbove, IsPrice, IsBeyondSome, IsAnswerTo, IsGood, bracket_end, total_error};
+ghost use Rattle.dl_eval.specs.Totals.{most_mean, reach_of, IsTotalOf, IsMeanOf, Prints};
 ghost use Rattle.dl_eval.specs.Answers.{HasShare};
 ghost use Rattle.dl_eval.specs.Drawn.{AreDrawnOf, CoversAsk, HasNeeded, total_drawn};
 
@@ -81,6 +83,7 @@ fn quantile_row<const B: u32>(
     ensures bracket { IfOk result (λ row. (plan : PlanValue) → IsValid plan
         → IsTotalOf plan total.now
         → IsBracket plan p (total_error (2 ^ B) plan) row) }
+    ensures past { IfOk result (λ row. (row.high ≡ Beyond) ↔ IsPast total.now p) }
 {
     total.cells();
     let bracket = quantile(total, p);
@@ -107,6 +110,7 @@ fn tail_row<const B: u32>(
         → IsTotalOf plan total.now → IsMeanOf plan mean.entry
         → IsTailMean plan p digits (in_digits (2 ^ B) (tail_budget (2 ^ B) plan p) digits) row
         ⊎ IsBeyond plan p (total_error (2 ^ B) plan) row) }
+    ensures past { IfOk result (λ row. IsPastGrid row ↔ IsPast total.now p) }
 {
     match tail_mean(total, p, mean) {
         Some(tail) => ends_row(alloc, asked, digits, tail),
@@ -172,6 +176,8 @@ fn grid_row<const B: u32>(
     requires small { mean.hi ≤ most_mean }
     ensures ask { IfOk result (λ row. row.ask ≡ asked.now.text) }
     ensures answer { IfOk result (λ row. IsAnswerTo (2 ^ B) plan.now digits asked.now.ask row) }
+    ensures past { IfOk result (λ row.
+        IsPastAbove (reach_of (Some total.now)) asked.now.ask row) }
 {
     match &asked.ask {
         Ask::Pmf(x) => ends_row(alloc, asked, digits, total.at(*x)),
@@ -238,7 +244,8 @@ pub(crate) fn row<const B: u32>(
     requires none { grids.now ≡ None → asked.now.ask ≡ asks.Mean }
     requires mean { IsMeanOf plan.now mean }
     requires small { mean.hi ≤ most_mean }
-    ensures { IfOk result (λ row. IsGood plan.now digits asked.now row) }
+    ensures good { IfOk result (λ row. IsGood plan.now digits asked.now row) }
+    ensures past { IfOk result (λ row. IsPastAbove (reach_of total.now) asked.now.ask row) }
 {
     match grids {
         Some(grids) => match total {

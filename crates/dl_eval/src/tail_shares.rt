@@ -7,7 +7,7 @@ ghost use Rattle.dl_plan.specs.Prelude.{IsValid, IsLevel};
 ghost use Rattle.dl_budget.specs.Asks.{in_digits, share_budget};
 ghost use Rattle.dl_shares.specs.Settled.{IsPast};
 ghost use Rattle.dl_shares.specs.Source.{reach};
-ghost use Rattle.dl_eval.specs.Rows.{IsBeyond, IsTailShare, total_error};
+ghost use Rattle.dl_eval.specs.Rows.{IsBeyond, IsPastGrid, IsTailShare, total_error};
 ghost use Rattle.dl_eval.specs.Totals.{IsSourceOf, IsTailShareOf, IsTotalOf, IsUnitMean};
 ghost use Rattle.dl_eval.specs.Drawn.{AreDrawnOf, GivesFrom, HasCells, HasShareOf, total_drawn};
 
@@ -154,6 +154,7 @@ pub(crate) fn whole_share_row<const B: u32>(
     ensures share { IfOk result (λ row. IsTailShare plan.now i p digits
         (in_digits (2 ^ B) (share_budget (2 ^ B) plan.now i p) digits) row
         ⊎ IsBeyond plan.now p (total_error (2 ^ B) plan.now) row) }
+    ensures past { IfOk result (λ row. IsPastGrid row ↔ IsPast total.now p) }
 {
     match share_of(alloc, plan, grids, total, i, p)? {
         Some(share) => ends_row(alloc, asked, digits, share),

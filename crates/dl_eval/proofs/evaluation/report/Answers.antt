@@ -1,6 +1,8 @@
-use Rattle.dl_eval.proofs.Common.{◌≡◌, arith, refl, sym, ap, subst₂, length, All, zip, Asked, IsInside, None, NamesUnit, IsGood, IsAskInRange, HasShare, IfSome_then, ◌also◌}
+use Rattle.dl_eval.proofs.Common.{◌≡◌, arith, refl, sym, ap, subst₂, length, All, zip, Asked, Row, IsInside, None, NamesUnit, IsGood, IsAskInRange, HasShare, IfSome_then, ◌also◌}
 use Rattle.dl_plan.specs.declared.settings.Ask.TheVariants.{Mean}
 use Rattle.dl_eval.specs.Drawn.{CoversAsk}
+use Rattle.dl_eval.specs.Rows.{IsPastAbove}
+use Rattle.dl_eval.specs.Totals.{reach_of}
 use Rattle.dl_eval.proofs.Insides.{ask_has}
 use Rattle.dl_eval.proofs.Lists.{each_next, pushed_length, all_pairs}
 use Rattle.dl_eval.proofs.Named.{named_here, numbers_many}
@@ -36,7 +38,9 @@ loop-i-preserved g c =
     let i = c.loop-i.invariant in record {
       as_many = pushed_length _ _ _ _ i.as_many c.in_ok-push.ensures.items;
       each = each_next (IsGood c.args.plan.now c.args.settings.now.digits) _ _ _ _ _ _ i.as_many i.each
-          c.in_ok-push.ensures.items c.loop-i-test.true c.index-asks-i.is c.in_ok-row.ensures;
+          c.in_ok-push.ensures.items c.loop-i-test.true c.index-asks-i.is c.in_ok-row.ensures.good;
+      past = each_next (λ (a : Asked) (r : Row). IsPastAbove (reach_of c.args.total.now) a.ask r) _ _ _ _ _ _ i.as_many
+          i.past c.in_ok-push.ensures.items c.loop-i-test.true c.index-asks-i.is c.in_ok-row.ensures.past;
     }
 
 pub returns : goal.returns
@@ -48,4 +52,10 @@ returns g c = record {
       (all_pairs (IsGood c.args.plan.now c.args.settings.now.digits) c.as_slice-asks.result.now c.loop-i.rows.items
       (omega (arith, c.loop-i.invariant.as_many))
       (λ j a r below. c.loop-i.invariant.each j a r (omega (arith, below))));
+  reach = reach_of c.args.total.now;
+  past = subst₂ (λ xs ys. All (λ pair. IsPastAbove (reach_of c.args.total.now) pair.0.ask pair.1) (zip xs ys))
+      c.as_slice-asks.ensures (sym c.from_vec.ensures)
+      (all_pairs (λ (a : Asked) (r : Row). IsPastAbove (reach_of c.args.total.now) a.ask r) c.as_slice-asks.result.now
+      c.loop-i.rows.items (omega (arith, c.loop-i.invariant.as_many))
+      (λ j a r below. c.loop-i.invariant.past j a r (omega (arith, below))));
 }

@@ -1,4 +1,6 @@
 use Rattle.dl_eval.proofs.Common.{ℕ, ◌≡◌, ◌<◌, length, get_or, Asked, Row, IsGood}
+use Rattle.dl_eval.specs.Rows.{IsPastAbove}
+use Rattle.dl_eval.specs.Totals.{reach_of}
 use Rattle.dl_eval.proofs.evaluation.report.Given as goal
 
 abbrev pub invariant-loop-i : goal.invariant-loop-i
@@ -6,4 +8,6 @@ invariant-loop-i g l = record {
   as_many : length l.rows.items ≡ l.i;
   each : (k : ℕ) (a : Asked) (r : Row) → k < l.i
       → IsGood l.plan l.settings.digits (get_or l.asks k a) (get_or l.rows.items k r);
+  past : (k : ℕ) (a : Asked) (r : Row) → k < l.i
+      → IsPastAbove (reach_of l.total) (get_or l.asks k a).ask (get_or l.rows.items k r);
 }

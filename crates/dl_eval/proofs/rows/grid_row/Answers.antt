@@ -5,6 +5,7 @@ use Rattle.dl_eval.proofs.Named.{index_named, named_inside}
 use Rattle.dl_eval.proofs.Scales.{plan_scale}
 use Rattle.dl_eval.proofs.PriceRows.{price_asked}
 use Rattle.dl_eval.proofs.ShareLaws.{joint_asked, share_asked, tail_asked}
+use Rattle.dl_eval.proofs.Tails.{past_above}
 use Rattle.dl_eval.proofs.TailShares.{tail_share_asked}
 use Rattle.dl_eval.proofs.WholeShares.{whole_share_asked}
 use Rattle.dl_eval.specs.Drawn.{HasCells}
@@ -153,3 +154,18 @@ unreachable-requires g c =
     let none : c.args.plan.now.common ≡ None = rw c.in-Cotail.is at c.requires.share in
     let some = subst (λ (o : Option ℕ). IsSome o) none grids.shares in
     absurd cc
+
+pub returns-in-Quantile-clause-past : goal.returns-in-Quantile-clause-past
+returns-in-Quantile-clause-past g c =
+    IfOk-weaker c.quantile_row.result _ _ (λ row past.
+    rw c.in-Quantile.is (past_above c.requires.valid c.requires.total past)) c.quantile_row.ensures.past
+
+pub returns-in-Tail-clause-past : goal.returns-in-Tail-clause-past
+returns-in-Tail-clause-past g c =
+    IfOk-weaker c.tail_row.result _ _ (λ row past.
+    rw c.in-Tail.is (past_above c.requires.valid c.requires.total past)) c.tail_row.ensures.past
+
+pub returns-in-Share-clause-past : goal.returns-in-Share-clause-past
+returns-in-Share-clause-past g c =
+    IfOk-weaker c.whole_share_row.result _ _ (λ row past.
+    rw c.in-Share.is (past_above c.requires.valid c.requires.total past)) c.whole_share_row.ensures.past
