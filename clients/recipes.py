@@ -168,6 +168,45 @@ class Port(Year):
         return self.share_of_tail(rest[0], Fraction(rest[1])) if kind == "cotail" else super().value(ask)
 
 
+class UnderFactor:
+    """Lines whose claims one gamma factor of a whole shape scales: of each line the expected claims of each amount. Under the factor with
+    one claim of a line, the rest of the year is that of a factor of a shape larger by 1."""
+
+    def __init__(self, shape, lines, cells):
+        self.lines, mixed = lines, {}
+        for claims in lines.values():
+            for amount, expected in claims.items():
+                mixed[amount] = mixed.get(amount, Fraction(0)) + expected
+        parts = math.lcm(*(expected.denominator for expected in mixed.values()))
+        weights, mean = {amount: int(parts * expected) for amount, expected in mixed.items()}, sum(mixed.values())
+        self.year = Worked.gamma(mean, shape, weights, cells)
+        self.larger = Worked.gamma(mean * Fraction(shape + 1, shape), shape + 1, weights, cells)
+
+    def mean_of(self, line):
+        """The mean of a line."""
+        return sum(amount * expected for amount, expected in self.lines[line].items())
+
+    def joint(self, line, total):
+        """The mean of a line where the total is this, and 0 elsewhere."""
+        rest = self.larger.cells
+        return sum(x * part * Fraction(rest[total - x], ONE) for x, part in self.lines[line].items() if x <= total)
+
+    def share_of_tail(self, line, p):
+        """The mean of a line in the worst 1 - p of the total."""
+        at = self.year.q(p)
+        left = (self.year.cdf(at) - p) * ONE / self.year.cells[at]
+        below = sum(x * part * Fraction(sum(self.larger.cells[: max(at - x + 1, 0)]), ONE) for x, part in self.lines[line].items())
+        return (self.mean_of(line) - below + left * self.joint(line, at)) / (1 - p)
+
+    def value(self, ask):
+        """What an ask declares."""
+        kind, *rest = ask.split(":")
+        if kind == "mean":
+            return self.year.mean
+        p = Fraction(rest[-1])
+        return self.share_of_tail(rest[0], p) if kind == "cotail" else {"q": self.year.q, "tail": self.year.tail}[kind](p)
+
+
 XL = layer(80, 20)
 CAT = layer(100, 100)
 QUOTA = share("0.4", whole)
@@ -204,6 +243,19 @@ def corridor_net(gross):
 BOTH = net(plus(QUOTA, lambda amount: layer(60, 60)(Fraction("0.6") * amount)))
 QUOTA_AFTER_CAT = share("0.4", net(CAT))
 
+SCALED = UnderFactor(
+    4,
+    {
+        name: {amount: Fraction(claims * part, 100) for amount, part in chances.items()}
+        for name, claims, chances in (
+            ("Fire", 15, {95: 50, 210: 25, 520: 15, 1040: 8, 3100: 2}),
+            ("Motor", 60, {11: 50, 23: 30, 42: 15, 90: 5}),
+            ("Liability", 6, {50: 60, 240: 30, 810: 10}),
+        )
+    },
+    1 << 15,
+)
+
 # Each program of the pages, with the year that it is about; where a program is run several times, with those in order.
 RECIPES = {
     "agg Fire 3 claims FIRE poisson": GROSS,
@@ -235,6 +287,9 @@ RECIPES = {
     "agg To100 1 claims 100 xs 0 FIRE occurrence ceded to 80 xs 20 poisson "
     "agg To300 0.5 claims 300 xs 0 FIRE occurrence ceded to 80 xs 20 poisson": PROFILED,
     "port Book agg Fire 3 claims FIRE poisson agg Motor 2 claims MOTOR poisson": BOOK,
+    "port Book common 0.5 agg Fire 15 claims dsev [95 210 520 1040 3100] [0.5 0.25 0.15 0.08 0.02] poisson "
+    "agg Motor 60 claims dsev [11 23 42 90] [0.5 0.3 0.15 0.05] poisson "
+    "agg Liability 6 claims dsev [50 240 810] [0.6 0.3 0.1] poisson": SCALED,
     "agg Book 5 claims FIRE MOTOR wts [3/5 2/5] poisson aggregate ceded to 150 xs 150": BOOK.after(layer(150, 150)),
 }
 TOWER = [layer(10, 0), layer(10, 10), layer(20, 20)]
@@ -453,29 +508,16 @@ def changed_zeros():
 
 
 def common_factor():
-    """VaR and TVaR; and of each line its mean, its share of the TVaR and of a year of 60. Under the factor with one claim of the line, the
-    rest of the year is that of a factor of a shape larger by 1."""
+    """VaR and TVaR; and of each line its mean, its share of the TVaR and of a year of 60."""
     amounts = [[1, 2, 5], [1, 2, 4], [1, 2, 3], [1, 2, 2], [1, 2]]
-    claims = [{x: Fraction((at + 1) * line.count(x), len(line)) for x in line} for at, line in enumerate(amounts)]
-    mixed, p, shape, cells = {}, Fraction(199, 200), 4, 192
-    for line in claims:
-        for x, part in line.items():
-            mixed[x] = mixed.get(x, 0) + int(6 * part)
-    year = Worked.gamma(15, shape, mixed, cells)
-    larger = Worked.gamma(15 * Fraction(shape + 1, shape), shape + 1, mixed, cells)
-    at = year.q(p)
-    yield [at]
-    yield [year.tail(p)]
-
-    def joint(line, total):
-        return sum(x * part * Fraction(larger.cells[total - x], ONE) for x, part in line.items() if x <= total)
-
-    for line in claims:
-        mean = sum(x * part for x, part in line.items())
-        left = (year.cdf(at) - p) * ONE / year.cells[at]
-        above = mean - sum(joint(line, total) for total in range(at + 1)) + left * joint(line, at)
-        yield [mean, above / (1 - p), joint(line, 60) * ONE / year.cells[60]]
-    yield [year.mean, year.tail(p), 60]
+    lines = {at: {x: Fraction((at + 1) * line.count(x), len(line)) for x in line} for at, line in enumerate(amounts)}
+    book = UnderFactor(4, lines, 192)
+    p = Fraction(199, 200)
+    yield [book.year.q(p)]
+    yield [book.year.tail(p)]
+    for line in lines:
+        yield [book.mean_of(line), book.share_of_tail(line, p), book.joint(line, 60) * ONE / book.year.cells[60]]
+    yield [book.year.mean, book.year.tail(p), 60]
 
 
 def six_lines():
