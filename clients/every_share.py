@@ -243,7 +243,7 @@ def faults(rng, book, p, seen):
     shares = {name: f"cotail:{name}:{level}" for name in book.units}
     digits = rng.randint(1, 9) if book.log2 < 16 else rng.randint(1, 3)
     words = ["run", "--rules", "extended", "--log2", str(book.log2), "--digits", str(digits), f"q:{level}", f"tail:{level}"]
-    words += [*shares.values(), *(["--width", str(10**9), "--mwidth", str(10**12)] if book.log2 == 16 else [])]
+    words += [*shares.values(), "--width", str(10**9), "--mwidth", str(10**12)]
     status, out, err = run(words, book.text)
     if status == 4:
         words = wider(words, err)
