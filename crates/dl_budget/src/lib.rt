@@ -6,13 +6,14 @@
 //! `total_budget` and `others_budget`, which are below 2^44 units of the scale for a valid plan,
 //! `ask_budget`, `needed` and `passes`, and `needed_with` from budgets that are made once: of the
 //! total and of its mean (`AreBudgetsOf`), and of the unit that an ask names (`AreBudgetsOfUnit`),
-//! which `budgets_of_named` gives. Each unit of a valid plan has the one horizon that `horizon`
+//! which `budgets_of_named` gives; `all_budgets` makes all of them that the asks of a call need. Each unit of a valid plan has the one horizon that `horizon`
 //! gives (`law_horizons`).
 #![tactic(auto)]
 
 mod asks;
 mod claims;
 mod laws;
+mod named;
 mod once;
 mod shared;
 mod steps;
@@ -23,6 +24,7 @@ pub use asks::{
 };
 pub use claims::{claims_budget, none_budget};
 pub use laws::{law_halvings, law_horizons};
+pub use named::{AllBudgets, all_budgets};
 pub use once::{Budgets, UnitBudgets, budgets_of};
 pub use shared::shared_joint_budget;
 pub use steps::{convolution_spread, doubled, halvings, listed, power_spread};

@@ -15,5 +15,6 @@ pub mod Sums
 pub mod SumsOver
 pub mod Counts
 pub mod Lists
+pub mod Made
 pub mod Writing
 pub mod Results

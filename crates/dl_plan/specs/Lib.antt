@@ -8,6 +8,7 @@ pub mod Count
 pub mod Means
 pub mod Common
 pub mod Valid
+pub mod At
 pub mod Shared
 pub mod Facts
 pub mod Ranges

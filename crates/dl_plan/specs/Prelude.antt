@@ -1,4 +1,5 @@
 -- The definitions that other crates cite, passed on from one place. Declares nothing.
+pub use Rattle.dl_plan.specs.At.{IsIndependentAt, IsPlanAt, IsUnitAt, IsUnitOn}
 pub use Rattle.dl_plan.specs.Clause.{Clause, IsBelowTop, IsClause, ceded, kept, layer, layer_shares}
 pub use Rattle.dl_plan.specs.Common.{CanRaise, CanShare, HasCommonFactor, IsGamma, IsPoisson, can_share, expected_of, is_poisson, raised, shared_probabilities, thinned_of, unit_share}
 pub use Rattle.dl_plan.specs.Count.{IsClaimCount, IsExposed, IsProbability, IsUnbounded, expected_count}

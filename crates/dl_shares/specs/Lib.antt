@@ -3,6 +3,7 @@ pub mod Amounts
 pub mod Claims
 pub mod Settled
 pub mod Source
+pub mod Drawn
 pub mod Sums
 pub mod Tails
 pub mod Widths

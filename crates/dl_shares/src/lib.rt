@@ -25,11 +25,15 @@
 //! `none`). The shares of all units of a plan add up to the tail mean at every level, under a
 //! common factor too (`law_shares`), and a unit's mean beside others is that of the unit alone
 //! (`law_unit_mean`, `law_plan_unit_mean`).
+//!
+//! `Drawn` has the grids and means that all rows of a plan are drawn from, and for each unit where
+//! its joint means come from (`AreDrawnOf`).
 #![tactic(auto)]
 
 mod beside;
 mod claims;
 mod conditional;
+mod drawn;
 mod joints;
 pub mod laws;
 mod running;
@@ -42,4 +46,5 @@ mod weighted;
 
 pub use beside::joint_mean;
 pub use conditional::conditional_mean;
+pub use drawn::{Drawn, Origin};
 pub use source::{Beside, OverClaims, ShareSource};
