@@ -1,7 +1,7 @@
 -- The scale of a plan's grid, and what is allowed at it.
-use Rattle.std.proofs.Common.{ℕ, ◌≡◌, ◌≤◌, arith, inl, inr, refl}
+use Rattle.std.proofs.Common.{ℕ, ◌≡◌, ◌<◌, ◌≤◌, arith, inl, inr, refl}
 use Rattle.std.proofs.lemmas.Bool.Decides.{leb_tells}
-use Rattle.dl_limits.specs.Limits.{most_short_cells, short_bits, bits_of, IsPlanScale}
+use Rattle.dl_limits.specs.Limits.{most_short_cells, short_bits, long_bits, bits_of, IsPlanScale}
 use Rattle.dl_limits.specs.Limits.{most_cells, most_cells_at, most_amount, most_amount_at, most_horizon}
 
 pub is_plan_scale : (cells : ℕ) → IsPlanScale (bits_of cells)
@@ -16,6 +16,13 @@ unfolding bits_of
 bits_of_short cells few = elim (leb_tells cells most_short_cells) [
   | inl short ↦ rw short.0 refl
   | inr long ↦ absurd (omega (arith, few, long.1))
+]
+
+pub bits_of_long : (cells : ℕ) → most_short_cells < cells → long_bits ≡ bits_of cells
+unfolding bits_of
+bits_of_long cells many = elim (leb_tells cells most_short_cells) [
+  | inl short ↦ absurd (omega (arith, many, short.1))
+  | inr long ↦ rw long.0 refl
 ]
 
 -- a grid has room for each cell of its plan

@@ -8,8 +8,8 @@ pub use Rattle.std.specs.Vec.Iter.{into_iter_items}
 pub use Rattle.dl_ast.specs.declared.ast.Program.{Program}
 pub use Rattle.dl_cert.specs.Covered.{IsCovered, IsCoveredUnit, IsFirstUncovered, IsNotCovered}
 pub use Rattle.dl_cert.specs.Verified.{IsBadStep, IsVerified}
-pub use Rattle.dl_eval.specs.Rows.{IsGood}
-pub use Rattle.dl_eval.specs.declared.fault.EvalFault.TheVariants.{AskBeyond, NoShare, OutOfMemory as NoRoom, TooWide, UnknownUnit}
+pub use Rattle.dl_answers.specs.Rows.{IsGood}
+pub use Rattle.dl_answers.specs.declared.fault.EvalFault.TheVariants.{AskBeyond, NoShare, OutOfMemory as NoRoom, TooWide, UnknownUnit}
 pub use Rattle.dl_iv.specs.declared.interval.Iv.{Iv}
 pub use Rattle.dl_lexer.specs.Cutting.{Covers, IsBad}
 pub use Rattle.dl_lexer.specs.declared.token.Token.{Token}

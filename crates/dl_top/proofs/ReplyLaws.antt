@@ -9,11 +9,11 @@ use Rattle.dl_cert.proofs.Excluding.{no_bad_step}
 use Rattle.dl_plan.specs.declared.settings.Ask.TheVariants.{Mean}
 use Rattle.dl_words.specs.Words.{words_of}
 use Rattle.dl_types.specs.declared.fault.TypeFault.{TypeFault}
-use Rattle.dl_eval.specs.declared.fault.EvalFault.{EvalFault}
-use Rattle.dl_eval.specs.Answers.{IsFirstNot, AreAdmitted, RefusesAsk as RefusesAsks}
+use Rattle.dl_answers.specs.declared.fault.EvalFault.{EvalFault}
+use Rattle.dl_answers.specs.Answers.{IsFirstNot, AreAdmitted, RefusesAsk as RefusesAsks}
 use Rattle.std.proofs.lemmas.Str.{IsUtf8-string_bytes}
 use Rattle.dl_report.specs.Objects.{AsksAreText}
-use Rattle.dl_eval.specs.Answers.{IsAnswered}
+use Rattle.dl_answers.specs.Answers.{IsAnswered}
 use Rattle.dl_top.specs.declared.reply.Reply.{Reply}
 use Rattle.dl_top.specs.declared.reply.Reply.TheVariants.{Answer, Refusal, OutOfMemory}
 use Rattle.dl_plan.specs.declared.settings.Form.{Form}

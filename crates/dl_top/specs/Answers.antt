@@ -19,9 +19,9 @@ use Rattle.dl_words.specs.Words.{words_of}
 use Rattle.dl_types.specs.declared.fault.TypeFault.{TypeFault}
 use Rattle.dl_types.specs.Prelude.{first_fault, IsPlanOf}
 use Rattle.dl_report.specs.declared.report.Report.{Report}
-use Rattle.dl_eval.specs.declared.fault.EvalFault.{EvalFault}
-use Rattle.dl_eval.specs.declared.fault.EvalFault.TheVariants as evals
-use Rattle.dl_eval.specs.Answers.{IsAnswered, AreAdmitted, RefusesAsk as RefusesAsks}
+use Rattle.dl_answers.specs.declared.fault.EvalFault.{EvalFault}
+use Rattle.dl_answers.specs.declared.fault.EvalFault.TheVariants as evals
+use Rattle.dl_answers.specs.Answers.{IsAnswered, AreAdmitted, RefusesAsk as RefusesAsks}
 use Rattle.dl_cert.specs.Prelude.{IsCovered, IsNotCovered, IsBadStep, IsCertificate, IsVerified}
 use Rattle.dl_top.specs.declared.status.Status.{Status}
 use Rattle.dl_top.specs.declared.status.Status.TheVariants as statuses

@@ -4,7 +4,7 @@ use Rattle.dl_plan.specs.declared.plan.Plan.{Plan}
 use Rattle.dl_plan.specs.declared.settings.Settings.{Settings}
 use Rattle.dl_report.specs.declared.report.Report.{Report}
 use Rattle.dl_report.specs.Plain.{IsInRange}
-use Rattle.dl_eval.specs.Answers.{IsAnswered}
+use Rattle.dl_answers.specs.Answers.{IsAnswered}
 use Rattle.dl_top.specs.Answers.{Asks, HasPlan}
 use Rattle.dl_top.specs.Reports.{written}
 

@@ -12,6 +12,7 @@
 #![tactic(auto)]
 
 mod arguments;
+mod evaluation;
 mod fault;
 mod generator;
 mod law;
