@@ -101,7 +101,7 @@ pub const FRAC_BOUND: u128 = 1 << 62;
 pub const MOST_PARTS: u64 = 1 << 30;
 
 /// The budget of a sum of units is below this, in units of the scale.
-pub const BUDGET_BOUND: u128 = 1 << 44;
+pub const BUDGET_BOUND: u128 = 1 << 45;
 
 /// The greatest amount, limit or attachment, in buckets, in a plan whose grid has `cells` cells.
 #[tactic(auto, unfolding(crate::specs::Limits::most_amount_at))]

@@ -15,6 +15,7 @@ pub mod Positive
 pub mod PlainBytes
 pub mod Buckets
 pub mod ValidUnits
+pub mod Few
 pub mod Shared
 pub mod Raised
 pub mod Passed
