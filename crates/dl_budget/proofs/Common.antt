@@ -22,11 +22,11 @@ pub use Rattle.dl_frac.specs.Exact.{FitsFrac}
 pub use Rattle.dl_grid.proofs.WidthLaws.{cv_is, mixed_next, mixed_none, pw_doubled, pw_even, pw_none, pw_odd, pw_one, size_joined, size_step, up_quotient}
 pub use Rattle.dl_grid.specs.Width.{IsSizeWithin, sum_spread}
 unfoldable pub use Rattle.dl_grid.specs.Width.{convolution_spread, mixed_spread, power_spread, rounded_spread, up}
-pub use Rattle.dl_limits.specs.Limits.{IsPlanScale, most_amount, most_cells, most_claims_budget, most_expected, most_horizon, most_none_budget, most_operands, most_plan_cells, most_tail_budget, most_unit_budget, rarest_parts}
+pub use Rattle.dl_limits.specs.Limits.{IsPlanScale, most_amount, most_cells, most_claims_budget, most_expected, most_horizon, most_none_budget, most_operands, most_plan_cells, most_sum_operands, most_tail_budget, most_unit_budget, rarest_parts, standard_units}
 pub use Rattle.dl_plan.proofs.Fits.{given_ok, given_value}
 pub use Rattle.dl_plan.proofs.Means.{admitted_fits}
 pub use Rattle.dl_plan.proofs.ValidUnits.{alone_valid, mean_most, near_in_any, new_zero}
-pub use Rattle.dl_plan.specs.Prelude.{CanShare, HasCommonFactor, HasPartsOf48Bits, HorizonPasses, IsAggregate, IsClaimCount, IsHorizon, IsHorizonOf, IsLevel, IsNewZero, IsPoisson, IsUnbounded, IsValid, IsValidUnit, claims_alone, common_denominator, declared_mean, edge, expected_count, expected_of, mean_width, numerator_over, part_width, raised, thinned_mean, thinned_of}
+pub use Rattle.dl_plan.specs.Prelude.{AreFew, CanShare, HasCommonFactor, HasPartsOf48Bits, HorizonPasses, IsAggregate, IsClaimCount, IsHorizon, IsHorizonOf, IsLevel, IsNewZero, IsPoisson, IsUnbounded, IsValid, IsValidUnit, claims_alone, common_denominator, declared_mean, edge, expected_count, expected_of, mean_width, numerator_over, part_width, raised, thinned_mean, thinned_of}
 unfoldable pub use Rattle.dl_plan.specs.Prelude.{horizon}
 pub use Rattle.dl_plan.specs.declared.plan.Freq.{Freq}
 pub use Rattle.dl_plan.specs.declared.plan.Freq.TheVariants.{Bernoulli, Binomial, Fixed, Gamma, Poisson, Table}
@@ -39,5 +39,5 @@ pub use Rattle.dl_budget.specs.Claims.{claims_budget, none_budget}
 unfoldable pub use Rattle.dl_budget.specs.Claims.{count_budget, gamma_budget, poisson_budget}
 pub use Rattle.dl_budget.specs.Halvings.{IsHalvings}
 unfoldable pub use Rattle.dl_budget.specs.Halvings.{halvings, halvings_from}
-pub use Rattle.dl_budget.specs.Sizes.{IsOfUnits}
+pub use Rattle.dl_budget.specs.Sizes.{IsOfUnits, most_budget_of, most_mean_budget_of, operands}
 pub use Rattle.dl_budget.specs.Units.{after_clause, mean_budget, total_budget, unit_budget, unit_budgets, unit_mean_budget}

@@ -103,11 +103,11 @@ joint_small cells before thinned few small within =
     let beside : cells * before + 2 ≤ most_plan_cells * most_claims_budget + 2 = omega (arith, mul-le-mul few small) in
     omega (arith, mul-le-mul beside (up_few thinned within))
 
-pub joint_fits : (cells before most : ℕ) → cells ≤ most_plan_cells → before < 2 ^ 44 → most < 2 ^ 64
+pub joint_fits : (cells before most : ℕ) → cells ≤ most_plan_cells → before < 2 ^ 45 → most < 2 ^ 64
     → (cells * before + 2) * most + 2 < 2 ^ 128
 joint_fits cells before most few small word =
-    let below : before ≤ 2 ^ 44 = omega (arith, small) in
-    let beside : cells * before + 2 ≤ 2 ^ 60 + 2 = omega (arith, mul-le-mul few below) in
+    let below : before ≤ 2 ^ 45 = omega (arith, small) in
+    let beside : cells * before + 2 ≤ 2 ^ 61 + 2 = omega (arith, mul-le-mul few below) in
     let least : most ≤ 2 ^ 64 - 1 = omega (arith, word) in
     omega (arith, mul-le-mul beside least)
 

@@ -42,20 +42,23 @@ size_step_of S k more c d x y z pos room hx hy e =
 scale_least : (B : ℕ) → IsPlanScale B → 2 ^ 48 ≤ 2 ^ B
 scale_least B scale = pow-le-pow_right {n = 2} (omega arith) {i = 48} {j = B} scale.least
 
--- what is at most 2^40 is at most 1/64 of them, and what is at most 2^44 at most 1/16
+-- what is at most 2^40 is at most 1/64 of them, what is at most 2^44 at most 1/16, and what is at most 2^45 at most 1/8
 pub far_below : (B c : ℕ) → IsPlanScale B → c ≤ 2 ^ 40 → 64 * c ≤ 2 ^ B
 far_below B c scale h = omega (arith, h, scale_least B scale)
 
-pub below : (B c : ℕ) → IsPlanScale B → c ≤ 2 ^ 44 → 16 * c ≤ 2 ^ B
-below B c scale h = omega (arith, h, scale_least B scale)
+pub a_sixteenth : (B c : ℕ) → IsPlanScale B → c ≤ 2 ^ 44 → 16 * c ≤ 2 ^ B
+a_sixteenth B c scale h = omega (arith, h, scale_least B scale)
+
+pub an_eighth : (B c : ℕ) → IsPlanScale B → c ≤ 2 ^ 45 → 8 * c ≤ 2 ^ B
+an_eighth B c scale h = omega (arith, h, scale_least B scale)
 
 -- one step that stays below
-pub within_step : (B k more c d n x y z : ℕ) → IsPlanScale B → c + d ≡ n → n ≤ 2 ^ 44
+pub within_step : (B k more c d n x y z : ℕ) → IsPlanScale B → c + d ≡ n → n ≤ 2 ^ 45
     → IsSizeWithin (2 ^ B) c (rounded_spread k more x) → IsSizeWithin (2 ^ B) d (rounded_spread k more y)
     → z ≡ convolution_spread (2 ^ B) k x y + more → IsSizeWithin (2 ^ B) n (rounded_spread k more z)
 within_step B k more c d n x y z e sum room hx hy step =
     subst (λ t. IsSizeWithin (2 ^ B) t (rounded_spread k more z)) sum
-    (size_step_of (2 ^ B) k more c d x y z (pow_pos B) (omega (arith, sum, below B n e room)) hx hy step)
+    (size_step_of (2 ^ B) k more c d x y z (pow_pos B) (omega (arith, sum, an_eighth B n e room)) hx hy step)
 
 -- the spread of a unit
 pub unit_small : (B k more c x : ℕ) → IsPlanScale B → c ≤ most_operands
@@ -111,8 +114,8 @@ odd_size B k b m n x y z e sum room half square step =
     let even = square_size B k b m (m + m) x y e refl less half square in
     (unit_small B k 0 _ y e less even, next_size B k b (m + m) n y z e sum room even step)
 
--- the product of two spreads of at most 2^44, over the scale
-pub joined_small : (B x y : ℕ) → IsPlanScale B → x ≤ 2 ^ 44 → y ≤ 2 ^ 44 → div_ceil (x * y) (2 ^ B) ≤ 2 ^ 40
+-- the product of two spreads of at most 2^45, over the scale
+pub joined_small : (B x y : ℕ) → IsPlanScale B → x ≤ 2 ^ 45 → y ≤ 2 ^ 45 → div_ceil (x * y) (2 ^ B) ≤ 2 ^ 42
 joined_small B x y scale left right =
-    div_ceil_least (x * y) (2 ^ B) (2 ^ 40) (pow_pos B)
+    div_ceil_least (x * y) (2 ^ B) (2 ^ 42) (pow_pos B)
     (omega (arith, mul-le-mul left right, scale_least B scale))

@@ -1,7 +1,13 @@
 -- Budgets of sums of units, as a loop over the units makes them.
-use Rattle.dl_budget.proofs.Common.{IsPlanScale, ℕ, suc, zero, ◌≡◌, ◌+◌, ◌-◌, ◌*◌, ◌^◌, ◌<◌, ◌≤◌, List, [], ◌∷◌, length, get_or, take, drop, arith, sym, ap, ap₂, subst, ◌∙◌, fold, remove, mul-le-mul, pow_pos, convolution_spread, rounded_spread, IsSizeWithin, sum_spread, IsOfUnits, unit_budgets, from_there, ◌++◌, length-map, length-take, length-drop, get_or-map, take-map, drop-map, fold_more, fold-append, most_unit_budget, UnitOfPlan, unit_budget, Plan, IsValid, IsValidUnit, All, take_all, eqb_tells, ◌==◌}
+use Rattle.dl_budget.proofs.Common.{IsPlanScale, ℕ, suc, zero, ◌≡◌, ◌+◌, ◌-◌, ◌*◌, ◌^◌, ◌<◌, ◌≤◌, List, [], ◌∷◌, length, get_or, take, drop, arith, sym, ap, ap₂, subst, ◌∙◌, fold, remove, pow_pos, convolution_spread, rounded_spread, sum_spread, IsOfUnits, unit_budgets, from_there, ◌++◌, length-map, length-take, length-drop, get_or-map, take-map, drop-map, fold_more, fold-append, UnitOfPlan, unit_budget, Plan, IsValid, IsValidUnit, All, take_all, eqb_tells, ◌==◌, AreFew, Fraction, Option, None, Some, cond, operands, most_budget_of, most_mean_budget_of, most_sum_operands, standard_units, sum_by, sum_by_more}
 use Rattle.std.specs.Prelude.{Bool, true, false}
-use Rattle.dl_budget.proofs.SizeLaws.{size_least, within_step, spread_near, below}
+use Rattle.dl_budget.proofs.SizeLaws.{size_least, within_step, spread_near, a_sixteenth, an_eighth}
+use Rattle.std.specs.Prelude.{is_some}
+use Rattle.std.proofs.Common.{add-one}
+use Rattle.std.proofs.lemmas.List.{drop-drop}
+use Rattle.std.proofs.lemmas.List.Sums.{sum_by-drop_more, sum_by-take-drop, sum_by-take-le, sum_by_more_le}
+use Rattle.dl_plan.proofs.Few.{are_few, sum_of_few, sum_of_standard}
+use Rattle.dl_budget.proofs.Horizons.{few_cells}
 
 pub budgets_length : (S cells : ℕ) (us : List UnitOfPlan) → length (unit_budgets S cells us) ≡ length us
 budgets_length S cells us = length-map us (unit_budget S cells)
@@ -28,42 +34,90 @@ budget_next S cells us i sum t x b u inside is before here step =
 
 -- ---- sizes
 
--- the budgets of n units, n at most 16, add up to less than 15/16 of 2^44
-units_small : (cells n : ℕ) → cells ≤ 65536 → n ≤ 16 → n * rounded_spread cells 0 most_unit_budget ≤ 12689 * 2 ^ 30
+-- 44 * 2^30 for each unit, and 749 * 2^30 more for each changed one
+operand_of_kind : (cells : ℕ) (us : List UnitOfPlan) → cells ≤ 65536
+    → All (λ u. rounded_spread cells 0 (most_budget_of u.zero) ≤ 44 * 2 ^ 30 + 131073
+    + cond (is_some u.zero) (749 * 2 ^ 30) 0) us
 unfolding rounded_spread
-units_small cells n few most =
-    let one : most_unit_budget + 2 * cells + 1 + 0 ≤ 793 * 2 ^ 30 + 131073 = omega arith in
-    omega (arith, mul-le-mul most one)
+operand_of_kind cells us few i u inside = by (get_or us i u).zero
+  where
+    by : (z : Option Fraction) → rounded_spread cells 0 (most_budget_of z) ≤ 44 * 2 ^ 30 + 131073 + cond (is_some z) (749 * 2 ^ 30) 0
+    by None = omega (arith, few)
+    by (Some p) = omega (arith, few)
 
-pub unit_size : (B cells x : ℕ) → x ≤ most_unit_budget → IsOfUnits (2 ^ B) cells 1 x
-unfolding rounded_spread
-unit_size B cells x small = size_least (2 ^ B) _ _ (omega (arith, small))
-
--- a unit is not larger than one of the greatest budget
-one_unit : (B cells x : ℕ) → x ≤ most_unit_budget → IsSizeWithin (2 ^ B) (rounded_spread cells 0 most_unit_budget)
-    (rounded_spread cells 0 x)
-unfolding rounded_spread
-one_unit B cells x small = size_least (2 ^ B) _ _ (omega (arith, small))
-
--- one unit more
-pub sum_size_next : (B cells n sum b x : ℕ) → IsPlanScale B → cells ≤ 65536 → n + 1 ≤ 16 → IsOfUnits (2 ^ B) cells n sum
-    → b ≤ most_unit_budget → x ≡ convolution_spread (2 ^ B) cells sum b
-    → IsOfUnits (2 ^ B) cells (n + 1) x
-sum_size_next B cells n sum b x e few most before small step =
-    within_step B cells 0 _ _ _ sum b x e (omega arith) (omega (arith, units_small cells (n + 1) few most)) before
-    (one_unit B cells b small) (step ∙ omega arith)
-
-pub sum_small : (B cells n x : ℕ) → IsPlanScale B → cells ≤ 65536 → n ≤ 16 → IsOfUnits (2 ^ B) cells n x → x < 2 ^ 44
-sum_small B cells n x e few most size =
-    let units = units_small cells n few most in
+pub operands_few : (cells : ℕ) (us : List UnitOfPlan) → cells ≤ 65536 → AreFew us
+    → operands cells us ≤ most_sum_operands
+operands_few cells us few are =
     omega (
       arith,
-      spread_near 15 (2 ^ B) cells 0 _ x (pow_pos B)
-          (below B (n * rounded_spread cells 0 most_unit_budget) e (omega (arith, units))) size,
+      sum_of_few (λ u. rounded_spread cells 0 (most_budget_of u.zero)) (44 * 2 ^ 30 + 131073) (749 * 2 ^ 30) us are
+          (operand_of_kind cells us few),
     )
+
+-- those of at most 16 units
+pub operands_standard : (cells : ℕ) (us : List UnitOfPlan) → cells ≤ 65536 → length us ≤ standard_units
+    → operands cells us ≤ 12689 * 2 ^ 30
+operands_standard cells us few most =
+    omega (
+      arith,
+      sum_of_standard (λ u. rounded_spread cells 0 (most_budget_of u.zero)) (44 * 2 ^ 30 + 131073) (749 * 2 ^ 30) us most
+          (operand_of_kind cells us few),
+    )
+
+-- those of the first units
+pub operands_so_far : (cells : ℕ) (us : List UnitOfPlan) (i : ℕ) → operands cells (take i us) ≤ operands cells us
+operands_so_far cells us i = sum_by-take-le (λ (u : UnitOfPlan). rounded_spread cells 0 (most_budget_of u.zero)) us i
+
+-- a unit is not larger than one of the greatest budget
+pub unit_size : (B cells x : ℕ) (u : UnitOfPlan) → x ≤ most_budget_of u.zero
+    → IsOfUnits (2 ^ B) cells (rounded_spread cells 0 (most_budget_of u.zero)) x
+unfolding rounded_spread
+unit_size B cells x u small = size_least (2 ^ B) _ _ (omega (arith, small))
+
+-- one unit more
+pub sum_size_next : (B cells c sum b x : ℕ) (us : List UnitOfPlan) (i : ℕ) (u : UnitOfPlan) → IsPlanScale B
+    → i < length us → u ≡ get_or us i u → c + operands cells us ≤ most_sum_operands
+    → IsOfUnits (2 ^ B) cells (c + operands cells (take i us)) sum
+    → b ≤ most_budget_of u.zero → x ≡ convolution_spread (2 ^ B) cells sum b
+    → IsOfUnits (2 ^ B) cells (c + operands cells (take (i + 1) us)) x
+sum_size_next B cells c sum b x us i u e inside is room before small step =
+    let f = λ (v : UnitOfPlan). rounded_spread cells 0 (most_budget_of v.zero) in
+    let more : operands cells (take (i + 1) us) ≡ operands cells (take i us) + f u =
+    sum_by_more f us i u inside ∙ ap (λ v. operands cells (take i us) + f v) (sym is) in
+    let within = sum_by-take-le f us (i + 1) in
+    within_step B cells 0 (c + operands cells (take i us)) (f u) _ sum b x e (omega (arith, more))
+    (omega (arith, room, within)) before (unit_size B cells b u small) (step ∙ omega arith)
+
+pub sum_small : (B cells c x : ℕ) → IsPlanScale B → c ≤ most_sum_operands → IsOfUnits (2 ^ B) cells c x → x < 2 ^ 45
+sum_small B cells c x e few size =
+    omega (arith, spread_near 7 (2 ^ B) cells 0 c x (pow_pos B) (an_eighth B c e (omega (arith, few))) size)
+
+-- of at most 16 units
+pub sum_standard : (B cells c x : ℕ) → IsPlanScale B → c ≤ 12689 * 2 ^ 30 → IsOfUnits (2 ^ B) cells c x → x < 2 ^ 44
+sum_standard B cells c x e few size =
+    omega (arith, spread_near 15 (2 ^ B) cells 0 c x (pow_pos B) (a_sixteenth B c e (omega (arith, few))) size)
 
 pub size_at : (B cells m n x : ℕ) → m ≡ n → IsOfUnits (2 ^ B) cells m x → IsOfUnits (2 ^ B) cells n x
 size_at B cells m n x e size = subst (λ t. IsOfUnits (2 ^ B) cells t x) e size
+
+-- the first unit and the later ones
+pub operands_first : (cells : ℕ) (us : List UnitOfPlan) (u : UnitOfPlan) → 1 ≤ length us → u ≡ get_or us 0 u
+    → rounded_spread cells 0 (most_budget_of u.zero) + operands cells (take (length us - 1) (drop 1 us)) ≡ operands cells us
+operands_first cells us u some is =
+    let f = λ (v : UnitOfPlan). rounded_spread cells 0 (most_budget_of v.zero) in
+    ap₂ (λ s t. s + t) (ap f is) (ap (operands cells) (from_there 0 us))
+    ∙ sym (sum_by-drop_more f us 0 u some)
+
+-- the units before i and those after it
+pub operands_apart : (cells : ℕ) (us : List UnitOfPlan) (i : ℕ)
+    → operands cells (take i us) + operands cells (take (length us - (i + 1)) (drop (i + 1) us)) ≤ operands cells us
+operands_apart cells us i =
+    let f = λ (v : UnitOfPlan). rounded_spread cells 0 (most_budget_of v.zero) in
+    let rest : take (length us - (i + 1)) (drop (i + 1) us) ≡ drop 1 (drop i us) =
+    from_there i us ∙ ap (λ k. drop k us) (sym (add-one i)) ∙ sym (drop-drop 1 i us) in
+    let parts : sum_by f (take i us) + sum_by f (drop 1 (drop i us)) ≤ sum_by f us =
+    omega (arith, sum_by-take-drop f us i, sum_by-take-drop f (drop i us) 1) in
+    rw rest parts
 
 -- ---- a first unit and the later ones
 
@@ -98,10 +152,6 @@ sum_of_later S cells us zero x inside none e =
     ∙ ap (sum_spread S cells) (sym (drop-map (unit_budget S cells) 1 us))
 sum_of_later S cells us (suc i) x inside none e = absurd (omega (arith, none, inside, length-take (suc i) us))
 
--- the later units
-pub later_length : (us : List UnitOfPlan) → length (take (length us - 1) (drop 1 us)) ≡ length us - 1
-later_length us = ap length (from_there 0 us) ∙ length-drop 1 us
-
 -- n is 0 where the test n == 0 is true, and at least 1 where it is false
 pub none_there : (n : ℕ) (empty : Bool) → empty ≡ (n == 0) → empty ≡ true → n ≡ 0
 none_there n empty told is = grind (arith, eqb_tells n 0)
@@ -132,3 +182,38 @@ pub unit_there : (plan : Plan) (slice : List UnitOfPlan) (i : ℕ) (u : UnitOfPl
     → slice ≡ plan.units → u ≡ get_or slice i u → IsValidUnit plan.cells u
 unit_there plan slice i u valid inside e is =
     valid_there plan.cells plan.units i u valid.units inside (read_unit slice plan.units i u e is)
+
+-- ---- means
+
+-- the greatest budgets of the means of units, added up
+pub means_few : (us : List UnitOfPlan) → AreFew us → sum_by (λ u. most_mean_budget_of u.zero) us ≤ 2 ^ 67
+means_few us few =
+    omega (
+      arith,
+      sum_of_few (λ u. most_mean_budget_of u.zero) (2 ^ 56) (103 * 2 ^ 56) us few (λ i u inside. by (get_or us i u).zero),
+    )
+  where
+    by : (z : Option Fraction) → most_mean_budget_of z ≤ 2 ^ 56 + cond (is_some z) (103 * 2 ^ 56) 0
+    by None = omega arith
+    by (Some p) = omega arith
+
+-- those of the first units
+pub means_so_far : (us : List UnitOfPlan) (i : ℕ)
+    → sum_by (λ u. most_mean_budget_of u.zero) (take i us) ≤ sum_by (λ u. most_mean_budget_of u.zero) us
+means_so_far us i = sum_by-take-le (λ (u : UnitOfPlan). most_mean_budget_of u.zero) us i
+
+-- with one unit more
+pub means_next : (us : List UnitOfPlan) (i sum b : ℕ) (u : UnitOfPlan) → AreFew us → i < length us → u ≡ get_or us i u
+    → sum ≤ sum_by (λ u. most_mean_budget_of u.zero) (take i us) → b ≤ most_mean_budget_of u.zero
+    → (sum + b ≤ sum_by (λ u. most_mean_budget_of u.zero) (take (i + 1) us)) × (sum + b ≤ 2 ^ 67)
+means_next us i sum b u few inside is before small =
+    let f = λ (u : UnitOfPlan). most_mean_budget_of u.zero in
+    let own : b ≤ f (get_or us i u) = subst (λ v. b ≤ f v) is small in
+    (omega (arith, sum_by_more f us i u inside), omega (arith, sum_by_more_le f us i u inside, means_few us few))
+
+-- ---- plans
+
+-- the units of a valid plan have room, as they were read
+pub room_of : (plan : Plan) (units : List UnitOfPlan) → IsValid plan → units ≡ plan.units
+    → operands plan.cells units ≤ most_sum_operands
+room_of plan units valid is = rw is (operands_few plan.cells plan.units (few_cells plan valid).1 (are_few plan valid))

@@ -14,13 +14,13 @@ mean_here S cells us i b u inside is here =
     here ∙ ap (unit_mean_budget S cells) is ∙ sym (get_or-map (unit_mean_budget S cells) us i u 0 inside)
 
 -- a product of cells and the total's budget
-pub cells_total : (cells total : ℕ) → cells ≤ 65536 → total < 2 ^ 44 → cells * total ≤ 2 ^ 60
+pub cells_total : (cells total : ℕ) → cells ≤ 65536 → total < 2 ^ 45 → cells * total ≤ 2 ^ 61
 cells_total cells total few small =
-    let below : total ≤ 2 ^ 44 = omega (arith, small) in
+    let below : total ≤ 2 ^ 45 = omega (arith, small) in
     omega (arith, mul-le-mul few below)
 
 -- those parts times one of p
-pub share_parts : (mean joint cells total kappa b d : ℕ) → mean ≤ 2 ^ 63 → joint ≤ 2 ^ 63 → cells ≤ 65536 → total < 2 ^ 44
+pub share_parts : (mean joint cells total kappa b d : ℕ) → mean ≤ 104 * 2 ^ 56 → joint ≤ 2 ^ 63 → cells ≤ 65536 → total < 2 ^ 45
     → kappa ≤ 2 ^ 80 → b ≡ d → d ≤ 10 ^ 4 → (mean + (joint + 2 * cells + cells * (total + 2)) + kappa + 4) * b ≤ 2 ^ 97
 share_parts mean joint cells total kappa b d of_mean of_joint few small of_kappa e parts =
     let sum : mean + (joint + 2 * cells + cells * (total + 2)) + kappa + 4 ≤ 2 ^ 82 =

@@ -1,16 +1,16 @@
 -- The budget of a tail mean by whole numbers.
 use Rattle.dl_budget.proofs.Common.{ℕ, ◌≡◌, ◌+◌, ◌-◌, ◌*◌, ◌^◌, ◌<◌, ◌≤◌, arith, ap, ap₂, sym, ◌∙◌, div_ceil, mul-le-mul, mul-le-mul_left, Fraction, whole, ◌over◌, div_ceil_least, up, up_quotient, num_below, ◌<ℚ◌, IsLevel}
 
-pub tail_small : (both b rest : ℕ) → 0 < rest → b ≤ 10 ^ 9 → both ≤ 2 ^ 68 + 2 ^ 62
+pub tail_small : (both b rest : ℕ) → 0 < rest → b ≤ 10 ^ 9 → both ≤ 2 ^ 68 + 2 ^ 63
     → div_ceil (both * b) rest + 4 ≤ 2 ^ 98 - 2 ^ 90
 tail_small both b rest some few small =
     let more : both * b * 1 ≤ both * b * rest = mul-le-mul_left (both * b) some in
     omega (arith, div_ceil_least (both * b) rest (both * b) some (omega (arith, more)), mul-le-mul small few)
 
-pub tail_sums : (mean cells total : ℕ) → mean ≤ 2 ^ 67 → cells ≤ 65536 → total < 2 ^ 44
-    → 2 * mean + 3 * cells * total ≤ 2 ^ 68 + 2 ^ 62
+pub tail_sums : (mean cells total : ℕ) → mean ≤ 2 ^ 67 → cells ≤ 65536 → total < 2 ^ 45
+    → 2 * mean + 3 * cells * total ≤ 2 ^ 68 + 2 ^ 63
 tail_sums mean cells total of_mean few small =
-    let below : total ≤ 2 ^ 44 = omega (arith, small) in
+    let below : total ≤ 2 ^ 45 = omega (arith, small) in
     omega (arith, of_mean, mul-le-mul few below)
 
 -- a width over 1 - p, and 4 more, from the parts of p
@@ -31,7 +31,7 @@ tail_value M T cells x y b d n p of_mean of_total =
     (ap₂ (λ s t. 2 * s + 3 * cells * t) of_mean of_total)
 
 -- where the mean's and the total's budget are not too large
-pub tail_most : (M T cells : ℕ) (p : Fraction) → M ≤ 2 ^ 67 → T < 2 ^ 44 → cells ≤ 65536 → IsLevel p
+pub tail_most : (M T cells : ℕ) (p : Fraction) → M ≤ 2 ^ 67 → T < 2 ^ 45 → cells ≤ 65536 → IsLevel p
     → up (((2 * M + 3 * cells * T) * p.den) over (p.den - p.num)) + 4 ≤ 2 ^ 98 - 2 ^ 90
 tail_most M T cells p of_mean of_total few level =
     let below = num_below p level.below in

@@ -1,9 +1,26 @@
--- How large the budget of a sum of units can be, so that no step passes 128 bits.
-use Rattle.std.specs.Prelude.{ℕ, ◌*◌}
-use Rattle.dl_limits.specs.Limits.{most_unit_budget}
+-- How large the budget of a sum of units can be, so that no step passes 128 bits. A unit whose
+-- probability of no claim is changed can have a budget 18 times as large as another.
+use Rattle.std.specs.Prelude.{ℕ, Option, None, Some, List, sum_by}
+use Rattle.dl_limits.specs.Limits.{most_clause_budget, most_unit_budget, most_clause_mean_budget, most_unit_mean_budget}
+use Rattle.dl_exact.specs.Fraction.{Fraction}
 use Rattle.dl_grid.specs.Width.{rounded_spread, IsSizeWithin}
+use Rattle.dl_plan.specs.declared.plan.Unit.{Unit as UnitOfPlan}
 
--- x is not too large for the sum of n units on so many cells
-abbrev pub IsOfUnits : (S cells n x : ℕ) → Type 0
-IsOfUnits S cells n x =
-    IsSizeWithin S (n * rounded_spread cells 0 most_unit_budget) (rounded_spread cells 0 x)
+-- the greatest budget of a unit
+abbrev pub most_budget_of : Option Fraction → ℕ
+most_budget_of None = most_clause_budget
+most_budget_of (Some p) = most_unit_budget
+
+-- that of its mean
+abbrev pub most_mean_budget_of : Option Fraction → ℕ
+most_mean_budget_of None = most_clause_mean_budget
+most_mean_budget_of (Some p) = most_unit_mean_budget
+
+-- the greatest budgets of these units, each with what one convolution on so many cells rounds,
+-- added up
+abbrev pub operands : (cells : ℕ) → List UnitOfPlan → ℕ
+operands cells units = sum_by (λ u. rounded_spread cells 0 (most_budget_of u.zero)) units
+
+-- x is not too large for the sum, on so many cells, of units whose operands come to c
+abbrev pub IsOfUnits : (S cells c x : ℕ) → Type 0
+IsOfUnits S cells c x = IsSizeWithin S c (rounded_spread cells 0 x)

@@ -1,12 +1,12 @@
 //! The budgets of units, of their sums and of their means.
 
 ghost use Rattle.std.specs.Prelude.{ℕ, ◌≡◌, ◌+◌, ◌*◌, ◌^◌, ◌<◌, ◌≤◌, List, All, length, sum_by, fold, remove};
-ghost use Rattle.dl_limits.specs.Limits.{IsPlanScale, budget_bound, most_cells, most_claims_budget, most_clause_budget, most_horizon, most_layers, most_plan_cells, most_units, most_unit_budget, most_mean_budget, most_layer_mean_budget, most_layers_mean_budget, most_clause_mean_budget, most_whole_mean, most_unit_mean_budget};
+ghost use Rattle.dl_limits.specs.Limits.{IsPlanScale, budget_bound, standard_budget_bound, standard_units, most_cells, most_claims_budget, most_clause_budget, most_horizon, most_layers, most_plan_cells, most_sum_operands, most_unit_budget, most_mean_budget, most_layer_mean_budget, most_layers_mean_budget, most_clause_mean_budget, most_whole_mean, most_unit_mean_budget};
 ghost use Rattle.dl_exact.specs.Fraction.{Fraction};
 ghost use Rattle.dl_grid.specs.Width.{convolution_spread, sum_spread, up};
-ghost use Rattle.dl_plan.specs.Prelude.{IsHorizonOf, edge, horizon, declared_mean, IsNewZero, IsValidUnit, IsValid, mean_width, part_width};
+ghost use Rattle.dl_plan.specs.Prelude.{IsHorizonOf, edge, horizon, declared_mean, IsNewZero, AreFew, IsValidUnit, IsValid, mean_width, part_width};
 ghost use Rattle.dl_budget.specs.Claims.{claims_budget};
-ghost use Rattle.dl_budget.specs.Sizes.{IsOfUnits};
+ghost use Rattle.dl_budget.specs.Sizes.{IsOfUnits, most_budget_of, most_mean_budget_of, operands};
 ghost use Rattle.dl_budget.specs.Units.{after_clause, unit_budget, unit_budgets, unit_mean_budget, total_budget, others_budget, mean_budget};
 
 use crate::claims::{claims_budget, gamma_budget, none_budget};
@@ -51,6 +51,7 @@ pub fn unit_budget<const B: u32>(unit: &Unit, cells: u32) -> u128
     requires few { cells ≤ most_plan_cells }
     requires horizon { (k : ℕ) × IsHorizonOf unit.now.cede cells k × (k ≤ most_horizon cells) }
     ensures value { result ≡ unit_budget (2 ^ B) cells unit.now }
+    ensures kind { result ≤ most_budget_of unit.now.zero }
     ensures small { result ≤ most_unit_budget }
 {
     let before = clause_budget::<B>(unit, cells);
@@ -67,10 +68,12 @@ fn with_units<const B: u32>(sum: u128, units: &[Unit], cells: u32) -> u128
     requires valid { All (IsValidUnit cells) units.now }
     requires some { 1 ≤ cells }
     requires few { cells ≤ most_plan_cells }
-    requires room { (n : ℕ) × (n + length units.now ≤ most_units) × IsOfUnits (2 ^ B) cells n sum }
+    requires room { (c : ℕ) × (c + operands cells units.now ≤ most_sum_operands)
+        × IsOfUnits (2 ^ B) cells c sum }
     ensures value { result ≡ fold (convolution_spread (2 ^ B) cells) sum (unit_budgets (2 ^ B) cells units.now) }
-    ensures size { (n : ℕ) → n + length units.now ≤ most_units → IsOfUnits (2 ^ B) cells n sum
-        → IsOfUnits (2 ^ B) cells (n + length units.now) result }
+    ensures size { (c : ℕ) → c + operands cells units.now ≤ most_sum_operands
+        → IsOfUnits (2 ^ B) cells c sum
+        → IsOfUnits (2 ^ B) cells (c + operands cells units.now) result }
 {
     let mut total = sum;
     for unit in units {
@@ -85,10 +88,12 @@ fn sum_of<const B: u32>(units: &[Unit], cells: u32) -> u128
     requires valid { All (IsValidUnit cells) units.now }
     requires some { 1 ≤ cells }
     requires few { cells ≤ most_plan_cells }
-    requires units { length units.now ≤ most_units }
+    requires room { operands cells units.now ≤ most_sum_operands }
     ensures value { result ≡ sum_spread (2 ^ B) cells (unit_budgets (2 ^ B) cells units.now) }
-    ensures size { 1 ≤ length units.now → IsOfUnits (2 ^ B) cells (length units.now) result }
+    ensures size { 1 ≤ length units.now
+        → IsOfUnits (2 ^ B) cells (operands cells units.now) result }
     ensures small { result < budget_bound }
+    ensures standard { length units.now ≤ standard_units → result < standard_budget_bound }
 {
     if units.is_empty() {
         return 0;
@@ -104,11 +109,12 @@ fn sum_without<const B: u32>(units: &[Unit], i: u32, cells: u32) -> u128
     requires valid { All (IsValidUnit cells) units.now }
     requires some { 1 ≤ cells }
     requires few { cells ≤ most_plan_cells }
-    requires units { length units.now ≤ most_units }
+    requires room { operands cells units.now ≤ most_sum_operands }
     requires unit { i < length units.now }
     ensures value { result
         ≡ sum_spread (2 ^ B) cells (remove (unit_budgets (2 ^ B) cells units.now) i) }
     ensures small { result < budget_bound }
+    ensures standard { length units.now ≤ standard_units → result < standard_budget_bound }
 {
     let before = &units[..i as usize];
     let after = &units[i as usize + 1..];
@@ -126,6 +132,7 @@ pub fn total_budget<const B: u32>(plan: &Plan) -> u128
     requires valid { IsValid plan.now }
     ensures value { result ≡ total_budget (2 ^ B) plan.now }
     ensures small { result < budget_bound }
+    ensures standard { length plan.now.units ≤ standard_units → result < standard_budget_bound }
 {
     let units = plan.units.as_slice();
     match plan.common {
@@ -142,6 +149,7 @@ pub fn others_budget<const B: u32>(plan: &Plan, i: u32) -> u128
     requires unit { i < length plan.now.units }
     ensures value { result ≡ others_budget (2 ^ B) plan.now i }
     ensures small { result < budget_bound }
+    ensures standard { length plan.now.units ≤ standard_units → result < standard_budget_bound }
 {
     sum_without::<B>(plan.units.as_slice(), i, plan.cells)
 }
@@ -212,6 +220,7 @@ pub(crate) fn unit_mean_budget<const B: u32>(unit: &Unit, cells: u32) -> u128
     requires valid { IsValidUnit cells unit.now }
     requires few { cells ≤ most_plan_cells }
     ensures value { result ≡ unit_mean_budget (2 ^ B) cells unit.now }
+    ensures kind { result ≤ most_mean_budget_of unit.now.zero }
     ensures small { result ≤ most_unit_mean_budget }
 {
     let before = clause_mean_budget::<B>(unit, cells);
@@ -226,7 +235,7 @@ fn sum_of_means<const B: u32>(units: &[Unit], cells: u32) -> u128
     requires scale { IsPlanScale B }
     requires valid { All (IsValidUnit cells) units.now }
     requires few { cells ≤ most_plan_cells }
-    requires units { length units.now ≤ most_units }
+    requires units { AreFew units.now }
     ensures value { result ≡ sum_by (unit_mean_budget (2 ^ B) cells) units.now }
     ensures small { result ≤ most_mean_budget }
 {

@@ -68,6 +68,22 @@ most_claims = 65536
 abbrev pub most_items : ℕ
 most_items = 65536
 
+-- the mean of all units of a plan with a grid of at most `most_short_cells` cells, in buckets
+abbrev pub most_short_total : ℕ
+most_short_total = 17 * 2 ^ 36
+
+-- the same in any plan
+abbrev pub most_total : ℕ
+most_total = 17 * 2 ^ 38
+
+-- the same in a plan with a grid of so many cells
+unfoldable pub most_total_at : ℕ → ℕ
+most_total_at cells = if nat_le cells most_short_cells then most_short_total else most_total
+
+-- a change of the probability of no claim makes a mean at most so many times as large
+abbrev pub most_growth : ℕ
+most_growth = 17
+
 -- the expected number of claims above 0, where the count has no greatest number
 abbrev pub most_expected : ℕ
 most_expected = 4096
@@ -83,7 +99,15 @@ most_parts = 2 ^ 30
 
 -- the units of a plan
 abbrev pub most_units : ℕ
-most_units = 16
+most_units = 256
+
+-- of these, the units whose probability of no claim is changed
+abbrev pub most_changed : ℕ
+most_changed = 16
+
+-- the units of a plan by the standard rules
+abbrev pub standard_units : ℕ
+standard_units = 16
 
 -- the layers of a clause
 abbrev pub most_layers : ℕ
@@ -200,7 +224,11 @@ most_claims_budget = 22 * 2 ^ 30
 
 -- the budget of a sum of units is below this
 abbrev pub budget_bound : ℕ
-budget_bound = 2 ^ 44
+budget_bound = 2 ^ 45
+
+-- that of a sum of at most `standard_units` units
+abbrev pub standard_budget_bound : ℕ
+standard_budget_bound = 2 ^ 44
 
 -- an end of a cell of any grid, in units of its scale: so many make 1 at the finest scale
 abbrev pub most_cell_end : ℕ
@@ -224,11 +252,19 @@ most_high = 2 ^ 127
 
 -- the numerator of a number that is enclosed is below this
 abbrev pub enclosed_num_bound : ℕ
-enclosed_num_bound = 2 ^ 100
+enclosed_num_bound = 2 ^ 110
 
 -- the denominator of a number that is enclosed is below this
 abbrev pub enclosed_den_bound : ℕ
-enclosed_den_bound = 2 ^ 80
+enclosed_den_bound = 2 ^ 100
+
+-- the numerator of the mean of a unit's claims, in buckets, is below this
+abbrev pub mean_num_bound : ℕ
+mean_num_bound = 2 ^ 110
+
+-- the denominator of that mean is below this
+abbrev pub mean_den_bound : ℕ
+mean_den_bound = 2 ^ 88
 
 -- so many units make 1 in the sums of the series of an exponential
 abbrev pub series_one : ℕ
@@ -292,9 +328,13 @@ most_none_budget = 142 * 2 ^ 13
 abbrev pub most_unit_budget : ℕ
 most_unit_budget = 793 * 2 ^ 30
 
+-- the greatest budgets of the units of a plan, each with what one convolution rounds, added up
+abbrev pub most_sum_operands : ℕ
+most_sum_operands = 23249 * 2 ^ 30
+
 -- one convolution of two grids within `budget_bound`
 abbrev pub most_convolution_budget : ℕ
-most_convolution_budget = 2 ^ 46
+most_convolution_budget = 2 ^ 47
 
 -- what a layer of an aggregate clause adds to a mean's
 abbrev pub most_layer_mean_budget : ℕ
@@ -308,13 +348,13 @@ most_layers_mean_budget = 2 ^ 55
 abbrev pub most_clause_mean_budget : ℕ
 most_clause_mean_budget = 2 ^ 56
 
--- the mean of a unit
+-- the mean of a unit after its probability of no claim is changed
 abbrev pub most_unit_mean_budget : ℕ
-most_unit_mean_budget = 2 ^ 63
+most_unit_mean_budget = 104 * 2 ^ 56
 
 -- a unit's joint mean with a total of independent units, from the sum of the others
 abbrev pub most_alone_joint_budget : ℕ
-most_alone_joint_budget = 2 ^ 62
+most_alone_joint_budget = 2 ^ 63
 
 -- a unit's joint mean with any total
 abbrev pub most_joint_budget : ℕ

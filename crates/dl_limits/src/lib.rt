@@ -46,8 +46,8 @@ pub const MOST_EXPECTED: u32 = 4_096;
 /// The greatest shape of a gamma count.
 pub const MOST_SHAPE: u32 = 10_000;
 
-/// The most units of a plan.
-pub const MOST_UNITS: usize = 16;
+/// The most units of a plan by the standard rules.
+pub const STANDARD_UNITS: usize = 16;
 
 /// The most layers of a clause.
 pub const MOST_LAYERS: usize = 16;
@@ -101,7 +101,7 @@ pub const FRAC_BOUND: u128 = 1 << 62;
 pub const MOST_PARTS: u64 = 1 << 30;
 
 /// The budget of a sum of units is below this, in units of the scale.
-pub const BUDGET_BOUND: u128 = 1 << 44;
+pub const BUDGET_BOUND: u128 = 1 << 45;
 
 /// The greatest amount, limit or attachment, in buckets, in a plan whose grid has `cells` cells.
 #[tactic(auto, unfolding(crate::specs::Limits::most_amount_at))]

@@ -15,6 +15,8 @@ pub mod Positive
 pub mod PlainBytes
 pub mod Buckets
 pub mod ValidUnits
+pub mod Few
+pub mod MeanSizes
 pub mod Shared
 pub mod Raised
 pub mod Passed

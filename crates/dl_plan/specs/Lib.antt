@@ -7,6 +7,7 @@ pub mod Parts
 pub mod Count
 pub mod Means
 pub mod Common
+pub mod Size
 pub mod Valid
 pub mod At
 pub mod Shared

@@ -3,7 +3,7 @@
 
 ghost use Rattle.std.specs.Prelude.{◌≡◌, ◌<◌, ◌≤◌, ◌^◌, ◌↔◌, IsTrue, All, length, IfSome, MatchOption};
 ghost use Rattle.std.specs.List.Sorted.{IsStrictlyIncreasing};
-ghost use Rattle.dl_limits.specs.Limits.{most_amount, most_horizon, enclosed_num_bound, enclosed_den_bound};
+ghost use Rattle.dl_limits.specs.Limits.{most_amount, most_horizon, mean_num_bound, mean_den_bound};
 ghost use Rattle.dl_exact.specs.Fraction.{whole, ◌over◌, ◌-ℚ◌, ◌*ℚ◌};
 ghost use Rattle.dl_plan.specs.Fine.{HasPartsOf48Bits};
 ghost use Rattle.dl_plan.specs.Weighted.{amounts_of, weight_at};
@@ -85,7 +85,7 @@ impl Unit {
         matches!(self.freq, Freq::Gamma { .. }) && self.cede.is_none() && self.zero.is_none()
     }
 
-    /// A numerator below 2^100 and a denominator below 2^80 of the mean in buckets, before the
+    /// A numerator below 2^110 and a denominator below 2^88 of the mean in buckets, before the
     /// aggregate clause and before the probability of no claim is changed, of a unit of a valid
     /// plan.
     #[tactic(auto, using(crate::proofs::Means::mean_over))]
@@ -94,8 +94,8 @@ impl Unit {
         requires expected { HasPartsOf48Bits (expected_count self.now.freq) }
         requires near { All (λ item. item.amount ≤ most_amount) self.now.sev.items }
         ensures value { result.0 over result.1 ≡ declared_mean self.now }
-        ensures num { result.0 < enclosed_num_bound }
-        ensures den { result.1 < enclosed_den_bound }
+        ensures num { result.0 < mean_num_bound }
+        ensures den { result.1 < mean_den_bound }
         ensures positive { 0 < result.1 }
     {
         let count = self.freq.expected();

@@ -1,6 +1,6 @@
-use Rattle.dl_budget.proofs.Common.{◌+◌, ◌-◌, ◌≤◌, length, take, drop, arith, sym, subst, common_steps, IsValidUnit, All-take, All-drop}
+use Rattle.dl_budget.proofs.Common.{◌-◌, ◌≤◌, length, drop, arith, sym, subst, common_steps, IsValidUnit, All-take, All-drop, most_budget_of, operands, rounded_spread}
 use Rattle.dl_budget.proofs.Horizons.{unit_horizon}
-use Rattle.dl_budget.proofs.Sums.{later_length, unit_size, size_at, sum_small}
+use Rattle.dl_budget.proofs.Sums.{operands_first, operands_standard, unit_size, size_at, sum_small, sum_standard}
 use Rattle.dl_budget.proofs.units.sum_of.Goals as goal
 
 pub unit_budget-first-requires-clause-horizon : goal.unit_budget-first-requires-clause-horizon
@@ -15,20 +15,25 @@ with_units-requires-clause-valid g c = All-take (IsValidUnit c.args.cells) (leng
 
 pub with_units-requires-clause-room : goal.with_units-requires-clause-room
 with_units-requires-clause-room g c = (
-  1,
-  omega (arith, later_length c.args.units.now, c.requires.units),
-  unit_size g.row.B c.args.cells c.unit_budget-first.result c.unit_budget-first.ensures.small,
+  rounded_spread c.args.cells 0 (most_budget_of c.index-units-0.result.zero),
+  omega (arith, operands_first c.args.cells c.args.units.now c.index-units-0.result (grind (arith, common_steps)) c.index-units-0.is),
+  unit_size g.row.B c.args.cells c.unit_budget-first.result c.index-units-0.result c.unit_budget-first.ensures.kind,
 )
 
 pub returns-clause-size : goal.returns-clause-size
 returns-clause-size g c some =
-    let rest = later_length c.args.units.now in
-    size_at g.row.B c.args.cells (1 + length (take (length c.args.units.now - 1) (drop 1 c.args.units.now)))
-    (length c.args.units.now) _ (omega (arith, rest))
-    (c.with_units.ensures.size 1 (omega (arith, rest, c.requires.units))
-    (unit_size g.row.B c.args.cells c.unit_budget-first.result c.unit_budget-first.ensures.small))
+    let rest = operands_first c.args.cells c.args.units.now c.index-units-0.result some c.index-units-0.is in
+    size_at g.row.B c.args.cells _ (operands c.args.cells c.args.units.now) _ rest
+    (c.with_units.ensures.size (rounded_spread c.args.cells 0 (most_budget_of c.index-units-0.result.zero))
+    (omega (arith, rest))
+    (unit_size g.row.B c.args.cells c.unit_budget-first.result c.index-units-0.result c.unit_budget-first.ensures.kind))
 
 pub returns-clause-small : goal.returns-clause-small
 returns-clause-small g c =
-    sum_small g.row.B c.args.cells (length c.args.units.now) _ c.requires.scale c.requires.few c.requires.units
+    sum_small g.row.B c.args.cells _ _ c.requires.scale c.requires.room
+    (returns-clause-size g c (grind (arith, common_steps)))
+
+pub returns-clause-standard : goal.returns-clause-standard
+returns-clause-standard g c few =
+    sum_standard g.row.B c.args.cells _ _ c.requires.scale (operands_standard c.args.cells c.args.units.now c.requires.few few)
     (returns-clause-size g c (grind (arith, common_steps)))
