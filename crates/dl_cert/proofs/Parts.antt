@@ -64,7 +64,7 @@ module _ (sev : Sev) (v : Fraction) (K : ℕ) (some : 0 < K) (lo hi : ℕ → �
         (from_floor one (omega arith) l start (omega arith)) (from_ceiling one (omega arith) u start (omega arith)) in
         let g = above_zero sev in
         rw (ne_eqb v.num 0 above)
-        (recursion_start one (omega arith) x (whole 0) g (λ s. x) (sum_plain g)
-        (sums_by_rate x g) (gamma_of 1 beta) K l u lo hi (given_part sev).no_zero (geometric_class beta)
+        (recursion_start one (omega arith) x x g (λ s. x) (sum_plain g)
+        (sums_by_rate x g) (gamma_of (whole 1) beta) K l u lo hi (given_part sev).no_zero (geometric_class beta)
         (above_within sev v mean is above) low high refl some holds.0 holds.1)
   ]

@@ -59,7 +59,8 @@ part_values (Poisson mean) sev v h is = elim (cases_eq v.num 0) [
 part_values (Gamma shape mean) sev v h is = elim (cases_eq v.num 0) [
   | inl none ↦ rw (eq-eqb v.num 0 none) nothing_values
   | inr some ↦ rw (ne_eqb v.num 0 some)
-      (compound_values _ _ (above_within sev v mean is some) (gamma_of_count 0 (v /ℚ whole shape)))
+      (compound_values _ _ (above_within sev v mean is some)
+      (gamma_of_count (whole 1) (v /ℚ whole shape) (whole_pos 1 (omega arith))))
 ]
 
 pub parts_make_up : (freq : Freq) (sev : Sev) (v : Fraction) → IsCountOfPlan freq → ¬ IsTable freq

@@ -30,7 +30,7 @@ part_of (Binomial trials q) sev v = compound (binomial 1 q.num q.den) (probabili
 part_of (Poisson mean) sev v =
     where_none v nothing (compound (poisson (v /ℚ whole (2 ^ halvings v))) (above_zero sev))
 part_of (Gamma shape mean) sev v =
-    where_none v nothing (compound (gamma_of 1 (v /ℚ whole shape)) (above_zero sev))
+    where_none v nothing (compound (gamma_of (whole 1) (v /ℚ whole shape)) (above_zero sev))
 
 -- how many such parts make up the count
 abbrev pub parts_of : Freq → Fraction → ℕ

@@ -1,5 +1,5 @@
 -- Series with the same bounds.
-use Rattle.dl_model.proofs.Common.{inl, inr, ℕ, ◌+◌, max, sym, ap, subst, ◌∙◌, le-max_left, le-max_right, Fraction, ◌over◌, ◌*ℚ◌, ◌≤ℚ◌, ◌<ℚ◌, whole, sum_to, Series, IsBound, AtMost, AtLeast, Below, Rises, times, SameValue, convolve, Family, SameCells, Encloses, lt_not_le, ring, times_comm, le_refl, le_trans, lt_or_le, times_left_comm, one_times, lt_gap, times_pos, times_le_both, ◌≡◌, le_of_eq, order, zero_plus, times_assoc}
+use Rattle.dl_model.proofs.Common.{SameBounds, ◌/ℚ◌, div_times, le_div, zero_or_pos, zero_times, zero_le, times_le_times, inl, inr, ℕ, ◌+◌, max, sym, ap, subst, ◌∙◌, le-max_left, le-max_right, Fraction, ◌over◌, ◌*ℚ◌, ◌≤ℚ◌, ◌<ℚ◌, whole, sum_to, Series, IsBound, AtMost, AtLeast, Below, Rises, times, SameValue, convolve, Family, SameCells, Encloses, lt_not_le, ring, times_comm, le_refl, le_trans, lt_or_le, times_left_comm, one_times, lt_gap, times_pos, times_le_both, ◌≡◌, le_of_eq, order, zero_plus, times_assoc}
 use Rattle.dl_model.proofs.Declared.{self_holds, rises_to, at_most_times, at_least_times}
 use Rattle.dl_model.proofs.Minus.{close}
 use Rattle.dl_model.proofs.Cauchy.{cauchy_low, cauchy_high}
@@ -67,6 +67,23 @@ value_trans A B C D E F s t = (
 
 pub value_sym : (A B C D : Series) → SameValue A B C D → SameValue C D A B
 value_sym A B C D s = ((λ l. ((s.0 l).1, (s.0 l).0)), (λ h. ((s.1 h).1, (s.1 h).0)))
+
+-- series with the same bounds, in the place of both
+pub bounds_value : (Q R Q' R' : Series) → SameBounds Q Q' → SameBounds R R' → SameValue Q R Q' R'
+bounds_value Q R Q' R' q r = (
+  (λ l. (least Q R Q' R' q r l, least Q' R' Q R (λ u. ((q u).1, (q u).0)) (λ u. ((r u).1, (r u).0)) l)),
+  (λ h. (most Q R Q' R' q r h, most Q' R' Q R (λ u. ((q u).1, (q u).0)) (λ u. ((r u).1, (r u).0)) h)),
+)
+  where
+    most : (Q R Q' R' : Series) → SameBounds Q Q' → SameBounds R R' → (h : Fraction) → AtMost Q R h → AtMost Q' R' h
+    most Q R Q' R' q r h a n u b = (q (h *ℚ u)).0 (λ m. a m u ((r u).1 b)) n
+
+    least : (Q R Q' R' : Series) → SameBounds Q Q' → SameBounds R R' → (l : Fraction) → AtLeast Q R l → AtLeast Q' R' l
+    least Q R Q' R' q r l a n u b = elim (zero_or_pos l) [
+      | inl z ↦ rw (z, zero_times) (zero_le u)
+      | inr lp ↦ subst (λ t. t ≤ℚ u) (times_comm _ _) (rw div_times at (times_le_times _ _ l
+          ((r (u /ℚ l)).0 (λ m. le_div (R m) l u lp (rw times_comm (a m u ((q u).1 b)))) n)))
+    ]
 
 -- ---- a common factor
 

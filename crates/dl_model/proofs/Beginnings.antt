@@ -1,6 +1,6 @@
 -- The grids that powers begin from, and counts of no loss.
-use Rattle.dl_model.proofs.Common.{◌≡◌, ℕ, suc, zero, ◌+◌, ◌-◌, ◌<◌, arith, sym, ap, ap₂, subst₂, ◌∙◌, fun_ext, Fraction, ◌over◌, ◌+ℚ◌, ◌*ℚ◌, ◌/ℚ◌, whole, ◌^ℚ◌, choose, sum_to, zero_times, times_zero, times_cancel, div_times, SameValue, at_zero, power, cell, IsPositivePart, fixed, binomial, poisson, gamma, gamma_of, compound, nothing, times_itself, SameCells, refl}
-use Rattle.dl_model.proofs.TotalLaws.{value_sym, sum_at_zero, fixed_cell, power_one, count_power, sum_to_at_zero, fixed_power, binomial_power, one_trial_none, one_trial_one, gamma_zero, gamma_is, thin_gamma, mean_pos}
+use Rattle.dl_model.proofs.Common.{◌≡◌, ℕ, suc, zero, ◌+◌, ◌-◌, ◌<◌, arith, sym, ap, ap₂, subst₂, ◌∙◌, fun_ext, Fraction, ◌over◌, ◌+ℚ◌, ◌*ℚ◌, ◌/ℚ◌, ◌<ℚ◌, whole, sum_to, zero_times, times_zero, times_cancel, div_times, SameValue, at_zero, power, cell, IsPositivePart, fixed, binomial, poisson, gamma, gamma_of, compound, nothing, times_itself, SameCells, refl}
+use Rattle.dl_model.proofs.TotalLaws.{value_sym, sum_at_zero, fixed_cell, power_one, count_power, sum_to_at_zero, fixed_power, binomial_power, one_trial_none, one_trial_one, gamma_zero, gamma_next, over_next, thin_gamma, pos_plus}
 use Rattle.dl_model.proofs.PoissonThin.{thin_poisson}
 use Rattle.dl_model.proofs.PoissonTimes.{poisson_none}
 
@@ -42,20 +42,22 @@ pub poisson_no_loss : (v p : Fraction) (f g : ℕ → Fraction) → IsPositivePa
 poisson_no_loss v p f g h z y = none_value (poisson v) (poisson (v *ℚ p)) f g y
     (ap poisson z ∙ fun_ext (λ n. sym (poisson_none n))) (thin_poisson v f p g h y)
 
-no_gamma : (q : ℕ) → gamma_of (suc q) (whole 0) ≡ at_zero
-unfolding at_zero ◌^ℚ◌
-no_gamma q = ap (gamma (suc q)) share ∙ fun_ext each
+no_gamma : (r : Fraction) → whole 0 <ℚ r → gamma_of r (whole 0) ≡ at_zero
+unfolding at_zero
+no_gamma r rp = ap (gamma r) share ∙ fun_ext each
   where
-    share : whole 0 /ℚ (whole (suc q) +ℚ whole 0) ≡ whole 0
-    share = times_cancel _ _ (whole (suc q) +ℚ whole 0) (mean_pos q (whole 0))
-        (rw (div_times (whole 0) (whole (suc q) +ℚ whole 0) (mean_pos q (whole 0)), zero_times) refl)
+    W : whole 0 <ℚ r +ℚ whole 0
+    W = pos_plus r (whole 0) rp
 
-    each : (n : ℕ) → gamma (suc q) (whole 0) n ≡ at_zero n
-    each zero = gamma_zero q (whole 0)
-    each (suc n) =
-        gamma_is q (whole 0) (suc n) ∙ ap (λ t. whole (choose (q + suc n) (suc n)) *ℚ t) (zero_times _) ∙ times_zero _
+    share : whole 0 /ℚ (r +ℚ whole 0) ≡ whole 0
+    share = times_cancel _ _ (r +ℚ whole 0) W (rw (div_times (whole 0) (r +ℚ whole 0) W, zero_times) refl)
 
-pub gamma_no_loss : (q : ℕ) (v p : Fraction) (f g : ℕ → Fraction) → IsPositivePart f p g → v *ℚ p ≡ whole 0
-    → SameCells nothing (compound (gamma_of (suc q) v) f)
-gamma_no_loss q v p f g h z y = none_value (gamma_of (suc q) v) (gamma_of (suc q) (v *ℚ p)) f g y
-    (ap (gamma_of (suc q)) z ∙ no_gamma q) (thin_gamma q v f p g h y)
+    each : (n : ℕ) → gamma r (whole 0) n ≡ at_zero n
+    each zero = gamma_zero r (whole 0)
+    each (suc n) = over_next n _ _ (gamma_next r (whole 0) n ∙ ap (λ t. (r +ℚ whole n) *ℚ t) (zero_times _)
+        ∙ times_zero _ ∙ sym (times_zero _))
+
+pub gamma_no_loss : (r v p : Fraction) (f g : ℕ → Fraction) → whole 0 <ℚ r → IsPositivePart f p g
+    → v *ℚ p ≡ whole 0 → SameCells nothing (compound (gamma_of r v) f)
+gamma_no_loss r v p f g rp h z y = none_value (gamma_of r v) (gamma_of r (v *ℚ p)) f g y
+    (ap (gamma_of r) z ∙ no_gamma r rp) (thin_gamma r v f p g rp h y)

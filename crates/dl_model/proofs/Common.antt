@@ -41,7 +41,7 @@ pub use Rattle.dl_plan.specs.declared.severity.Sev.{Sev}
 pub use Rattle.dl_model.specs.Compound.{cell, convolve, cell_from}
 unfoldable pub use Rattle.dl_model.specs.Compound.{at_zero, power}
 pub use Rattle.dl_model.specs.Counts.{AreCountWeights, binomial, fixed, gamma_of, IsPanjer}
-unfoldable pub use Rattle.dl_model.specs.Counts.{gamma, poisson}
+unfoldable pub use Rattle.dl_model.specs.Counts.{gamma, poisson, product_below}
 pub use Rattle.dl_model.specs.Family.{Encloses, Family, IsProper, SameCells, compound, nothing, product, times_itself, GridEncloses}
 pub use Rattle.dl_model.specs.Listed.{equally_likely, probability_at}
 pub use Rattle.dl_model.specs.Measures.{AreDeclared, IsDeclaredLoss, IsQuantile, above, level_mean, survival, unit_of, without, ArePriced, IsAsked, IsBracketed}

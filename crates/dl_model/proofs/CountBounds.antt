@@ -1,6 +1,7 @@
 -- The counts that can be declared: finite counts, trials, Poisson and gamma counts.
-use Rattle.dl_model.proofs.Common.{ℕ, suc, zero, ◌*◌, ◌<◌, ◌≤◌, arith, subst, Fraction, ◌+ℚ◌, ◌*ℚ◌, ◌/ℚ◌, whole, ◌^ℚ◌, sum_to, one_pos, times_one, whole_pos, le_plus, times_zero, power, IsSeverity, fixed, binomial, poisson, gamma_of, AreCountWeights, le_of_eq, order}
-use Rattle.dl_model.proofs.TotalLaws.{bounded_by_all, fixed_sum, power_severity, severity_within_one, fixed_past, binomial_power, trial, poisson_zero, poisson_bound, gamma_of_least, parts_one, rest_part_pos, gamma_zero}
+use Rattle.dl_model.proofs.Common.{ℕ, suc, zero, ◌*◌, ◌<◌, ◌≤◌, arith, subst, Fraction, ◌+ℚ◌, ◌*ℚ◌, ◌/ℚ◌, ◌<ℚ◌, div_pos, plus_comm, whole, sum_to, one_pos, times_one, whole_pos, le_plus, times_zero, power, IsSeverity, fixed, binomial, poisson, gamma_of, AreCountWeights, le_of_eq, order}
+use Rattle.dl_model.proofs.TotalLaws.{bounded_by_all, fixed_sum, power_severity, severity_within_one, fixed_past, binomial_power, trial, poisson_zero, poisson_bound, div_plus, pos_plus, gamma_zero}
+use Rattle.dl_model.proofs.Shapes.{gamma_bound}
 use Rattle.dl_model.proofs.Settles.{poisson_settles}
 use Rattle.dl_model.proofs.SettlesGamma.{gamma_settles}
 use Rattle.dl_model.proofs.CountMeans.{poisson_mean, gamma_mean}
@@ -45,17 +46,20 @@ poisson_count v = record {
 
 -- ---- gamma counts
 
-pub gamma_of_count : (q : ℕ) (v : Fraction) → AreCountWeights (gamma_of (suc q) v)
+pub gamma_of_count : (r v : Fraction) → whole 0 <ℚ r → AreCountWeights (gamma_of r v)
 unfolding sum_to
-gamma_of_count q v =
-    let least = gamma_of_least q v q in
-    let L = (whole (suc q) +ℚ v) /ℚ whole (suc q) in
+gamma_of_count r v rp =
+    let W = r +ℚ v in
+    let Wp = pos_plus r v rp in
+    let one = div_plus v r W Wp (plus_comm v r) in
+    let dp = div_pos r W rp Wp in
+    let bound = gamma_bound (v /ℚ W) (r /ℚ W) one dp r in
     record {
-      bound = L ^ℚ suc q;
-      bounded = least.0;
-      mean_bound = v *ℚ L ^ℚ suc q;
-      mean_bounded = λ N. (gamma_mean q v).1 N _ least.0;
+      bound = bound.0;
+      bounded = bound.1;
+      mean_bound = v *ℚ bound.0;
+      mean_bounded = λ N. (gamma_mean r v rp).1 N _ bound.1;
       level = zero;
-      positive = rw (gamma_zero q (v /ℚ (whole (suc q) +ℚ v))) (whole_pos 1 one_pos);
-      settles = gamma_settles _ _ (parts_one q v) (rest_part_pos q v) q;
+      positive = rw (gamma_zero r (v /ℚ W)) (whole_pos 1 one_pos);
+      settles = gamma_settles (v /ℚ W) (r /ℚ W) one dp r;
     }

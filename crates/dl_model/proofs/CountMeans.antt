@@ -1,8 +1,7 @@
 -- The expected numbers of claims.
-use Rattle.dl_model.proofs.Common.{◌≡◌, ℕ, suc, zero, ◌*◌, ◌<◌, ◌≤◌, nat_eq, refl, sym, ap, ap₂, subst, ◌∙◌, Fraction, ◌over◌, ◌+ℚ◌, ◌*ℚ◌, ◌/ℚ◌, ◌≤ℚ◌, whole, sum_to, ring, zero_times, times_zero, zero_plus, times_one, one_times, le_refl, le_of_eq, zero_le, sum_to_same, sum_to_first, sum_to_times, Series, Holds, IsSeverity, power, fixed, binomial, poisson, gamma, gamma_of, Series, times_left_comm, le_refl_n}
-use Rattle.dl_model.proofs.TotalLaws.{severity_within_one, pick, times_where, power_severity, times_self, IsUnder, AreLevel, level_same, same_value, sum_rises_to, fixed_past, binomial_power, trial, one_trial_one, holds_reached, bounded_by_all, fixed_sum, next_of, gamma_of_least, shape_times, gamma_next, gamma_shift}
+use Rattle.dl_model.proofs.Common.{◌≡◌, ℕ, suc, zero, ◌*◌, ◌<◌, ◌≤◌, nat_eq, refl, sym, ap, ap₂, subst, ◌∙◌, Fraction, ◌over◌, ◌+ℚ◌, ◌*ℚ◌, ◌/ℚ◌, ◌≤ℚ◌, whole, sum_to, ring, zero_times, times_zero, zero_plus, times_one, one_times, le_refl, le_of_eq, zero_le, sum_to_same, sum_to_first, sum_to_times, Series, Holds, IsSeverity, power, fixed, binomial, poisson, gamma, gamma_of, AtMost, AtLeast, Rises, ◌<ℚ◌, subst₂, div_times, div_pos, plus_comm, times_comm, times_assoc, times_cancel, times_le_both, times_le_cancel, plus_le_both, sum_to_plus, le_refl_n}
+use Rattle.dl_model.proofs.TotalLaws.{severity_within_one, pick, times_where, power_severity, times_self, IsUnder, AreLevel, level_same, same_value, sum_rises_to, fixed_past, binomial_power, trial, one_trial_one, holds_reached, bounded_by_all, fixed_sum, next_of, gamma_next, pos_plus, div_plus, at_most_rest}
 use Rattle.dl_model.proofs.Means.{power_mean}
-use Rattle.dl_model.proofs.Least.{least_from, least_scaled, least_iff, most_iff}
 
 -- each number times its weight, summed
 abbrev counted : (ℕ → Fraction) → Series
@@ -46,24 +45,71 @@ poisson_mean v =
     (level_same R R (λ N. refl)) in
     ((same.0 v).1 (times_self v R).0, (same.1 v).1 (times_self v R).1)
 
--- the gamma count of shape q + 1 and mean v, by the least bound of the weights of one shape more
-pub gamma_mean : (q : ℕ) (v : Fraction) → HasMean (gamma_of (suc q) v) v
-gamma_mean q v =
-    let r = whole (suc q) in
-    let w = gamma_of (suc q) v in
-    let W = r +ℚ v in
-    let x = v /ℚ W in
-    let G = gamma (suc (suc q)) x in
-    let each : (n : ℕ) → whole (suc n) *ℚ w (suc n) ≡ r *ℚ x *ℚ G n =
-    λ n. gamma_next q x n ∙ times_left_comm _ x (w n) ∙ ap (λ t. x *ℚ t) (sym (gamma_shift q x n)) ∙ simp ring in
-    let next : (N : ℕ) → counted w (suc N) ≡ r *ℚ x *ℚ sum_to N G =
-    λ N. counted_next w (λ n. r *ℚ x *ℚ G n) each N ∙ sum_to_times N (r *ℚ x) G in
-    let mean = least_from (counted w) (λ N. r *ℚ x *ℚ sum_to N G) _ (shifted _ _ (counted_none w) next)
-    (least_scaled (r *ℚ x) (λ N. sum_to N G) _ (sum_rises_to G) (gamma_of_least q v (suc q))) in
-    let all = gamma_of_least q v q in (
-      (least_iff (counted w) (λ N. sum_to N w) _ _ v (sum_rises_to w) mean all).1 (le_of_eq _ _ (sym (shape_times q v v))),
-      (most_iff (counted w) (λ N. sum_to N w) _ _ v mean all).1 (le_of_eq _ _ (shape_times q v v)),
-    )
+-- the gamma count of shape r and mean v: n + 1 times the weight of n + 1 claims is x times n, and r / (r + v) times v,
+-- times the weight of n
+pub gamma_mean : (r v : Fraction) → whole 0 <ℚ r → HasMean (gamma_of r v) v
+gamma_mean r v rp = (at_least, at_most)
+  where
+    W : Fraction
+    W = r +ℚ v
+
+    x : Fraction
+    x = v /ℚ W
+
+    d : Fraction
+    d = r /ℚ W
+
+    w : ℕ → Fraction
+    w = gamma_of r v
+
+    Wp : whole 0 <ℚ W
+    Wp = pos_plus r v rp
+
+    one : x +ℚ d ≡ whole 1
+    one = div_plus v r W Wp (plus_comm v r)
+
+    parts : r *ℚ x ≡ v *ℚ d
+    parts = times_cancel _ _ W Wp (times_assoc _ _ _ ∙ ap (λ t. r *ℚ t) (div_times v W Wp) ∙ times_comm r v
+        ∙ sym (times_assoc _ _ _ ∙ ap (λ t. v *ℚ t) (div_times r W Wp)))
+
+    S : Series
+    S N = sum_to N w
+
+    M : Series
+    M = counted w
+
+    spread : (n : ℕ) → whole (suc n) *ℚ w (suc n) ≡ x *ℚ (whole n *ℚ w n) +ℚ d *ℚ v *ℚ w n
+    spread n = gamma_next r x n ∙ apart r (whole n) x (w n)
+        ∙ ap (λ t. x *ℚ (whole n *ℚ w n) +ℚ t *ℚ w n) (parts ∙ times_comm v d)
+      where
+        apart : (r n x w : Fraction) → (r +ℚ n) *ℚ (x *ℚ w) ≡ x *ℚ (n *ℚ w) +ℚ r *ℚ x *ℚ w
+        apart r n x w = simp ring
+
+    next : (N : ℕ) → x *ℚ M N +ℚ d *ℚ v *ℚ S N ≡ M (suc N)
+    next N = sym (counted_next w _ spread N ∙ sum_to_plus N (λ n. x *ℚ (whole n *ℚ w n)) (λ n. d *ℚ v *ℚ w n)
+        ∙ ap₂ (λ s t. s +ℚ t) (sum_to_times N x (λ n. whole n *ℚ w n)) (sum_to_times N (d *ℚ v) w))
+
+    M_rises : Rises M
+    M_rises = sum_rises_to (λ n. whole n *ℚ w n)
+
+    at_most : AtMost M S v
+    at_most zero u b = subst (λ t. t ≤ℚ v *ℚ u) (sym (counted_none w)) (zero_le _)
+    at_most (suc N) u b = subst₂ (λ s t. s ≤ℚ t) (next N) (together x d v u ∙ ap (λ t. t *ℚ (v *ℚ u)) one ∙ one_times _)
+        (plus_le_both _ _ _ _ (times_le_both _ _ _ _ (le_refl x) (at_most N u b))
+        (times_le_both _ _ _ _ (le_refl (d *ℚ v)) (b N)))
+      where
+        together : (x d v u : Fraction) → x *ℚ (v *ℚ u) +ℚ d *ℚ v *ℚ u ≡ (x +ℚ d) *ℚ (v *ℚ u)
+        together x d v u = simp ring
+
+    rest : AtMost (λ N. d *ℚ v *ℚ S N) (λ N. M (suc N)) d
+    rest = at_most_rest (λ N. x *ℚ M N) (λ N. d *ℚ v *ℚ S N) (λ N. M (suc N)) x d
+        (λ N. times_le_both _ _ _ _ (le_refl x) (M_rises N))
+        (λ N. times_le_both _ _ _ _ (le_refl (d *ℚ v)) (sum_rises_to w N)) next one
+        (λ N u b. b (suc N))
+
+    at_least : AtLeast M S v
+    at_least N u b = times_le_cancel _ _ d (div_pos r W rp Wp)
+        (subst₂ (λ s t. s ≤ℚ t) (times_assoc _ _ _ ∙ times_comm _ _) (times_comm d u) (rest N u (λ n. b (suc n))))
 
 -- ---- exact counts and trials
 

@@ -1,8 +1,8 @@
 -- Counts and sums of claims, on small cases worked by hand.
-use Rattle.dl_model.proofs.Common.{List, [], ◌∷◌, ℕ, suc, ◌≡◌, ◌+◌, ◌-◌, ◌*◌, ◌^◌, ◌<◌, ◌∙◌, ap, arith, refl, sym, mul-pos, one-le-pow, nat_eq, Fraction, whole, ◌over◌, factorial, choose, one_pos, zero-lt-suc, over_same, factorial_pos, sum_to, Item, weight_at, weight_sum, equally_likely, probability_at, convolve, at_zero, power, cell, cell_from, count_pairs, fixed, binomial, poisson, gamma, gamma_of, divided_power, IsPositivePart, nat_tests, mul-pow, from_before, ways, over_cross}
+use Rattle.dl_model.proofs.Common.{List, [], ◌∷◌, ℕ, suc, ◌≡◌, ◌+◌, ◌-◌, ◌*◌, ◌^◌, ◌<◌, ◌∙◌, ap, ◌+ℚ◌, ◌*ℚ◌, ◌/ℚ◌, arith, refl, sym, mul-pos, one-le-pow, nat_eq, Fraction, whole, ◌over◌, factorial, choose, one_pos, zero-lt-suc, over_same, factorial_pos, sum_to, Item, weight_at, weight_sum, equally_likely, probability_at, convolve, at_zero, power, cell, cell_from, count_pairs, fixed, binomial, poisson, gamma, gamma_of, divided_power, IsPositivePart, nat_tests, mul-pow, from_before, ways, over_cross}
 use Rattle.dl_model.proofs.CountLaws.{power_ways}
 use Rattle.dl_model.proofs.Ratios.{Known, worked, over_is, whole_is, plus_is, times_is, divided_is, power_is, where_is}
-unfoldable use Rattle.dl_model.proofs.Ratios.{through_is, pairs_is}
+unfoldable use Rattle.dl_model.proofs.Ratios.{through_is, product_is, pairs_is}
 
 -- ---- the definitions as numbers over numbers
 
@@ -38,11 +38,11 @@ poisson_is a b pos n = record {
   same = poisson_same a b pos n;
 }
 
-unfoldable pub gamma_is : (r a b : ℕ) → 0 < r → 0 < b → (n : ℕ) → Known (gamma_of r (a over b) n)
+unfoldable pub gamma_is : (c d a b : ℕ) → 0 < c → 0 < d → 0 < b → (n : ℕ) → Known (gamma_of (c over d) (a over b) n)
 unfolding gamma
-gamma_is r a b shape pos n =
-    times_is (whole_is (choose (r + n - 1) n))
-    (power_is (divided_is (over_is a b pos) (plus_is (whole_is r) (over_is a b pos))
+gamma_is c d a b shape below pos n =
+    times_is (product_is (λ i. divided_is (plus_is (over_is c d below) (whole_is i)) (whole_is (suc i)) (zero-lt-suc i)) n)
+    (power_is (divided_is (over_is a b pos) (plus_is (over_is c d below) (over_is a b pos))
     (omega (arith, mul-pos shape pos))) n)
 
 -- ---- amounts
@@ -157,29 +157,51 @@ poisson_sum = worked 4 3 (poisson_is 2 1 one_pos 3) (zero-lt-suc _) refl
 
 -- a gamma count of shape 4 and mean 2: one claim has 4 * (2 / 6), two have 10 * (2 / 6)^2
 pub gamma_some :
-    (gamma_of 4 (whole 2) 1 ≡ 4 over 3)
-    × (gamma_of 4 (whole 2) 2 ≡ 10 over 9)
-unfolding choose gamma_is
+    (gamma_of (whole 4) (whole 2) 1 ≡ 4 over 3)
+    × (gamma_of (whole 4) (whole 2) 2 ≡ 10 over 9)
+unfolding product_is gamma_is
 gamma_some = (
-  worked 4 3 (gamma_is 4 2 1 (zero-lt-suc _) one_pos 1) (zero-lt-suc _) refl,
-  worked 10 9 (gamma_is 4 2 1 (zero-lt-suc _) one_pos 2) (zero-lt-suc _) refl,
+  worked 4 3 (gamma_is 4 1 2 1 (zero-lt-suc _) one_pos one_pos 1) (zero-lt-suc _) refl,
+  worked 10 9 (gamma_is 4 1 2 1 (zero-lt-suc _) one_pos one_pos 2) (zero-lt-suc _) refl,
 )
 
 -- its weights up to 17 claims come to 5.06249, so that no claim has 0.197531, as 16/81 has
-pub gamma_all : sum_to 17 (gamma_of 4 (whole 2)) ≡ 653771355 over 129140163
-unfolding choose gamma_is through_is
-gamma_all = worked _ _ (through_is (gamma_is 4 2 1 (zero-lt-suc _) one_pos) 17) (zero-lt-suc _) refl
+pub gamma_all : sum_to 17 (gamma_of (whole 4) (whole 2)) ≡ 653771355 over 129140163
+unfolding product_is gamma_is through_is
+gamma_all = worked _ _ (through_is (gamma_is 4 1 2 1 (zero-lt-suc _) one_pos one_pos) 17) (zero-lt-suc _) refl
 
 -- two of shape 1 and mean 1, with 1, 1/2, 1/4, 1/8, make one of shape 2 and mean 2: three claims have 4 * 1/8
-pub geometric_added : convolve (gamma_of 1 (whole 1)) (gamma_of 1 (whole 1)) 3 ≡ 1 over 2
-unfolding choose gamma_is pairs_is
+pub geometric_added : convolve (gamma_of (whole 1) (whole 1)) (gamma_of (whole 1) (whole 1)) 3 ≡ 1 over 2
+unfolding product_is gamma_is pairs_is
 geometric_added =
-    worked 1 2 (pairs_is (λ i j. times_is (gamma_is 1 1 1 one_pos one_pos i) (gamma_is 1 1 1 one_pos one_pos j)) 3)
+    worked 1 2 (pairs_is (λ i j. times_is (gamma_is 1 1 1 1 one_pos one_pos one_pos i) (gamma_is 1 1 1 1 one_pos one_pos one_pos j)) 3)
     (zero-lt-suc _) refl
 
-pub gamma_sum : gamma_of 2 (whole 2) 3 ≡ 1 over 2
-unfolding choose gamma_is
-gamma_sum = worked 1 2 (gamma_is 2 2 1 (zero-lt-suc _) one_pos 3) (zero-lt-suc _) refl
+pub gamma_sum : gamma_of (whole 2) (whole 2) 3 ≡ 1 over 2
+unfolding product_is gamma_is
+gamma_sum = worked 1 2 (gamma_is 2 1 2 1 (zero-lt-suc _) one_pos one_pos 3) (zero-lt-suc _) refl
+
+-- of shape 1/2 and mean 1, with x = 2/3: one claim has 1/2 * 2/3, two have 1/2 * 3/4 * 4/9, three 1/2 * 3/4 * 5/6 * 8/27
+pub gamma_half :
+    (gamma_of (1 over 2) (whole 1) 1 ≡ 1 over 3)
+    × (gamma_of (1 over 2) (whole 1) 2 ≡ 1 over 6)
+    × (gamma_of (1 over 2) (whole 1) 3 ≡ 5 over 54)
+unfolding product_is gamma_is
+gamma_half = (
+  worked 1 3 (gamma_is 1 2 1 1 one_pos (zero-lt-suc _) one_pos 1) (zero-lt-suc _) refl,
+  worked 1 6 (gamma_is 1 2 1 1 one_pos (zero-lt-suc _) one_pos 2) (zero-lt-suc _) refl,
+  worked 5 54 (gamma_is 1 2 1 1 one_pos (zero-lt-suc _) one_pos 3) (zero-lt-suc _) refl,
+)
+
+-- two of these make one of shape 1 and mean 2: two claims have 1/6 + 1/3 * 1/3 + 1/6 = (2/3)^2
+pub halves_added : convolve (gamma_of (1 over 2) (whole 1)) (gamma_of (1 over 2) (whole 1)) 2 ≡ 4 over 9
+unfolding product_is gamma_is pairs_is
+halves_added = worked 4 9 (pairs_is (λ i j. times_is (gamma_is 1 2 1 1 one_pos (zero-lt-suc _) one_pos i)
+    (gamma_is 1 2 1 1 one_pos (zero-lt-suc _) one_pos j)) 2) (zero-lt-suc _) refl
+
+pub halves_sum : gamma_of (whole 1) (whole 2) 2 ≡ 4 over 9
+unfolding product_is gamma_is
+halves_sum = worked 4 9 (gamma_is 1 1 2 1 one_pos one_pos one_pos 2) (zero-lt-suc _) refl
 
 -- ---- sums of claims
 
@@ -232,11 +254,17 @@ unfolding ways count_pairs factorial through_is
 poisson_zeros = worked 5 1 (cells_are (poisson_is 4 1 one_pos) none_or_one (zero-lt-suc _) 0 2) one_pos refl
 
 -- a gamma count of shape 3 and mean 1/2: 6 * (1/7)^2 * 3/8
-pub gamma_five : cell (gamma_of 3 (1 over 2)) (probability_at unequal) 5 3 ≡ 9 over 196
-unfolding ways count_pairs choose through_is gamma_is
+pub gamma_five : cell (gamma_of (whole 3) (1 over 2)) (probability_at unequal) 5 3 ≡ 9 over 196
+unfolding ways count_pairs product_is through_is gamma_is
 gamma_five =
-    worked 9 196 (cells_are (gamma_is 3 1 2 (zero-lt-suc _) (zero-lt-suc _)) unequal (zero-lt-suc _) 5 3)
+    worked 9 196 (cells_are (gamma_is 3 1 1 2 (zero-lt-suc _) one_pos (zero-lt-suc _)) unequal (zero-lt-suc _) 5 3)
     (zero-lt-suc _) refl
+
+-- (a * k + c * (1 + i)) / (s + 1)
+abbrev step_is : {a c : Fraction} → Known a → Known c → (s i k : ℕ)
+    → Known ((a *ℚ whole k +ℚ c *ℚ whole (suc i)) /ℚ whole (suc s))
+step_is a c s i k = divided_is (plus_is (times_is a (whole_is k)) (times_is c (whole_is (suc i)))) (whole_is (suc s))
+    (zero-lt-suc s)
 
 -- Panjer's recursion for a Poisson count of mean 1 and claims of 1 or 2 alike: the sum 2 has, from the sums 1 and 0,
 -- 1/2 * 1/2 * 1/2 + 2/2 * 1/2 * 1 = 5/8, which is 1/2 for a claim of 2 and 1/2 * 1/4 for two of 1
@@ -244,11 +272,27 @@ pub recursion_two : from_before (whole 0) (whole 1) (probability_at one_or_two)
     (λ s. cell (poisson (whole 1)) (probability_at one_or_two) s 2) 1 ≡ 5 over 8
 unfolding ways count_pairs factorial through_is pairs_is
 recursion_two =
-    worked 5 8 (pairs_is (λ i k. times_is (times_is
-    (plus_is (whole_is 0) (times_is (whole_is 1) (over_is (suc i) 2 (zero-lt-suc _))))
+    worked 5 8 (pairs_is (λ i k. times_is (times_is (step_is (whole_is 0) (whole_is 1) 1 i k)
     (listed_is one_or_two (zero-lt-suc _) (suc i)))
     (cells_are (poisson_is 1 1 one_pos) one_or_two (zero-lt-suc _) k 2)) 1) (zero-lt-suc _) refl
 
 pub compound_two : cell (poisson (whole 1)) (probability_at one_or_two) 2 2 ≡ 5 over 8
 unfolding ways count_pairs factorial through_is
 compound_two = worked 5 8 (cells_are (poisson_is 1 1 one_pos) one_or_two (zero-lt-suc _) 2 2) (zero-lt-suc _) refl
+
+-- the same of the gamma count of shape 1/2 and mean 1, with a = 2/3 and c = 1/3: the sum 2 has
+-- (2/3 + 1/3) / 2 * 1/2 * 1/6 + (2/3) / 2 * 1/2 * 1 = 5/24, which is 1/3 * 1/2 for a claim of 2 and 1/6 * 1/4 for two of 1
+pub recursion_half : from_before (2 over 3) (1 over 3) (probability_at one_or_two)
+    (λ s. cell (gamma_of (1 over 2) (whole 1)) (probability_at one_or_two) s 2) 1 ≡ 5 over 24
+unfolding ways count_pairs product_is gamma_is through_is pairs_is
+recursion_half =
+    worked 5 24 (pairs_is (λ i k. times_is (times_is
+    (step_is (over_is 2 3 (zero-lt-suc _)) (over_is 1 3 (zero-lt-suc _)) 1 i k)
+    (listed_is one_or_two (zero-lt-suc _) (suc i)))
+    (cells_are (gamma_is 1 2 1 1 one_pos (zero-lt-suc _) one_pos) one_or_two (zero-lt-suc _) k 2)) 1) (zero-lt-suc _) refl
+
+pub compound_half : cell (gamma_of (1 over 2) (whole 1)) (probability_at one_or_two) 2 2 ≡ 5 over 24
+unfolding ways count_pairs product_is gamma_is through_is
+compound_half =
+    worked 5 24 (cells_are (gamma_is 1 2 1 1 one_pos (zero-lt-suc _) one_pos) one_or_two (zero-lt-suc _) 2 2)
+    (zero-lt-suc _) refl

@@ -31,6 +31,7 @@ pub mod GammaThin
 pub mod Panjer
 pub mod Settles
 pub mod SettlesGamma
+pub mod Shapes
 pub mod AddedCounts
 pub mod Outcomes
 pub mod UnitLaws

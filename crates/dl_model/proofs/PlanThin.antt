@@ -1,5 +1,5 @@
 -- Thinning and division of the units of a plan.
-use Rattle.dl_model.proofs.Common.{ℕ, zero, suc, ◌≡◌, ◌+◌, ◌*◌, ◌^◌, ◌<◌, ◌≤◌, List, [], ◌∷◌, length, map, nat_lt, arith, refl, sym, ap, subst, inl, inr, ◌∙◌, fun_ext, All, cases_lt, lt-ltb, le-ltb, All-head, All-tail, pow_pos, Fraction, whole, ◌over◌, ◌+ℚ◌, ◌-ℚ◌, ◌*ℚ◌, ◌/ℚ◌, ◌≤ℚ◌, sum_over, over_same, over_mul, over_le, plus_comm, times_comm, times_zero, sub_plus, div_times, whole_pos, Item, Sev, Freq, Fixed, Table, Bernoulli, Binomial, Poisson, Gamma, weight_at, weight_sum, probability_of, pairs_of, expected_count, over_zero, total_pos, IsPositivePart, nothing, times_itself, SameCells, compound_of, All-filter, Pairs, probability, conditioned, mass, shares, HasDistribution, thinned_mean, items_over, filter-shares, probability-conditioned, positive_share, weight_at-le, total, eq-zero-or-pos, mul-pos, ne_eqb, eq-eqb, UnitOfPlan, IsUnbounded, IsCountOfPlan}
+use Rattle.dl_model.proofs.Common.{ℕ, zero, suc, ◌≡◌, ◌+◌, ◌*◌, ◌^◌, ◌<◌, ◌≤◌, List, [], ◌∷◌, length, map, nat_lt, arith, refl, sym, ap, subst, inl, inr, ◌∙◌, fun_ext, All, cases_lt, lt-ltb, le-ltb, All-head, All-tail, pow_pos, Fraction, whole, ◌over◌, ◌+ℚ◌, ◌-ℚ◌, ◌*ℚ◌, ◌/ℚ◌, ◌≤ℚ◌, sum_over, over_same, over_mul, over_le, plus_comm, times_comm, times_zero, sub_plus, div_times, whole_pos, Item, Sev, Freq, Fixed, Table, Bernoulli, Binomial, Poisson, Gamma, weight_at, weight_sum, probability_of, pairs_of, expected_count, over_zero, total_pos, IsPositivePart, nothing, times_itself, SameCells, compound_of, All-filter, Pairs, probability, conditioned, mass, shares, HasDistribution, thinned_mean, items_over, filter-shares, probability-conditioned, positive_share, weight_at-le, total, eq-zero-or-pos, mul-pos, ne_eqb, eq-eqb, UnitOfPlan, IsUnbounded, IsCountOfPlan, zero-lt-suc}
 use Rattle.dl_plan.proofs.Weights.{weight_sum_pos}
 use Rattle.dl_model.proofs.PoissonTimes.{poisson_shares}
 use Rattle.dl_model.proofs.TotalLaws.{gamma_shares, part_of, weight_within, weight_sum-cons, weight_at-cons}
@@ -173,7 +173,8 @@ none_thinned (Poisson mean) sev h unbounded none =
     poisson_no_loss mean (positive sev) (probability_of sev) (given sev) (given_part sev) none
 none_thinned (Gamma zero mean) sev h unbounded none = absurd (omega (arith, h))
 none_thinned (Gamma (suc q) mean) sev h unbounded none =
-    gamma_no_loss q mean (positive sev) (probability_of sev) (given sev) (given_part sev) none
+    gamma_no_loss (whole (suc q)) mean (positive sev) (probability_of sev) (given sev) (whole_pos (suc q) (zero-lt-suc q))
+    (given_part sev) none
 
 no_item : (xs : List Item) → All (λ (i : Item). i.amount ≤ 0) xs → weight_sum (items_over 0 xs) ≡ 0
 no_item [] h = refl

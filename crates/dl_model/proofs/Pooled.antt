@@ -1,5 +1,6 @@
 -- A portfolio under a common factor declares of its total what one gamma unit with the pooled severity does.
 use Rattle.dl_model.proofs.Common.{◌≡◌, ℕ, ◌+◌, ◌-◌, ◌*◌, ◌<◌, ◌≤◌, arith, refl, sym, ap, ap₂, ◌∙◌, mul-le-mul_right, List, [], ◌∷◌, fun_ext, sum, sum_by-cons, Fraction, ◌+ℚ◌, ◌*ℚ◌, ◌/ℚ◌, ◌<ℚ◌, whole, choose, sum_to, sum_over, ring, div_times, plus_comm, times_comm, times_assoc, times_cancel, times_zero, sum_to_same, sum_to_times, sum_to_times_right, sum_to_swap, sum_to_none, sum_to_plus, sum_to_either, times_one, IsSeverity, power, cell, gamma, gamma_of, One, Point, Cdf, Mean, Layer, Tail, score, where_true, layer, nat_eq, nat_le, nat_lt, Option, ◌-ℚ◌, factorial, whole_times, sum_over_same, sum_over_times, times_right_comm, divided_power, Quantity, PricedTerm, above_quantile, Price, Part, PoissonUnit, amounts, amounts_given_counts, ways_to_share, chances, expected_claims, common_sums, pooled_severity, AreSeverities, CountsTotal, sum_over_claims, total, le_refl_n}
+use Rattle.dl_model.proofs.Shapes.{gamma_ways}
 use Rattle.dl_model.proofs.TotalLaws.{div_is_times, pos_plus, cells_all, divided_whole}
 use Rattle.dl_model.proofs.SharedClaims.{mixed, weighed, weighed_same, weighed_by_total, first_none, others_none, four_factors, claims_same, claims_times, scaled_power}
 
@@ -38,9 +39,9 @@ orders r n = choose (r + n - 1) n * factorial n
 
 -- with n! and the number of ways, a divided power is a gamma weight times a power
 pub gamma_divided : (r : ℕ) (c : Fraction) (f : ℕ → Fraction) (n x : ℕ)
-    → whole (orders r n) *ℚ divided_power (λ a. c *ℚ f a) n x ≡ gamma r c n *ℚ power f n x
-unfolding gamma
+    → whole (orders r n) *ℚ divided_power (λ a. c *ℚ f a) n x ≡ gamma (whole r) c n *ℚ power f n x
 gamma_divided r c f n x = rw (
+  gamma_ways r c n,
   whole_times,
   times_assoc,
   times_comm (whole (factorial n)),
@@ -89,14 +90,14 @@ module _ (r : ℕ) (us : List PoissonUnit) where
 
     -- the weight of n claims of the pooled unit, times the probability that they come to x
     pub pooled_weight : (n x : ℕ) → whole (orders r n) *ℚ divided_power (mixed chance us) n x
-        ≡ gamma r any_chance n *ℚ power (pooled_severity us) n x
+        ≡ gamma (whole r) any_chance n *ℚ power (pooled_severity us) n x
     pooled_weight n x = ap (λ f. whole (orders r n) *ℚ divided_power f n x) (fun_ext mixed_pooled)
         ∙ gamma_divided r any_chance (pooled_severity us) n x
 
     pub pooled : AreSeverities us → (M : ℕ) → ((a : ℕ) → M < a → pooled_severity us a ≡ whole 0)
         → (quantity : Quantity) → CountsTotal quantity → (N : ℕ)
         → common_sums r us quantity N ≡ sum_to (N * M) (λ x.
-        cell (gamma_of r (expected_claims us)) (pooled_severity us) x N *ℚ score quantity (x ∷ []))
+        cell (gamma_of (whole r) (expected_claims us)) (pooled_severity us) x N *ℚ score quantity (x ∷ []))
     pooled h M past quantity total N =
         let value : ℕ → Fraction = λ x. score quantity (x ∷ []) in
         let far = N * M in
@@ -107,11 +108,11 @@ module _ (r : ℕ) (us : List PoissonUnit) where
         ∙ weighed_by_total chance us h M (λ a d. mixed_pooled a ∙ ap (λ t. any_chance *ℚ t) (past a d) ∙ times_zero _)
         n far few value)
         ∙ sym (sum_to_times far (whole (orders r n)) _)
-        ∙ sum_to_same far _ (λ x. gamma r any_chance n *ℚ power (pooled_severity us) n x *ℚ value x) (λ x d.
+        ∙ sum_to_same far _ (λ x. gamma (whole r) any_chance n *ℚ power (pooled_severity us) n x *ℚ value x) (λ x d.
         (simp ring) ∙ ap (λ t. t *ℚ value x) (pooled_weight n x)))
-        ∙ sum_to_swap N far (λ n x. gamma r any_chance n *ℚ power (pooled_severity us) n x *ℚ value x)
+        ∙ sum_to_swap N far (λ n x. gamma (whole r) any_chance n *ℚ power (pooled_severity us) n x *ℚ value x)
         ∙ sum_to_same far _ _ (λ x d. sum_to_times_right N (value x)
-        (λ n. gamma r any_chance n *ℚ power (pooled_severity us) n x))
+        (λ n. gamma (whole r) any_chance n *ℚ power (pooled_severity us) n x))
 
 -- ---- the pooled severity adds up to 1
 
@@ -138,7 +139,7 @@ pooled_is_severity us h some M past =
 -- the whole weight
 pub pooled_one : (r : ℕ) (us : List PoissonUnit) → AreSeverities us → whole 0 <ℚ expected_claims us → (M : ℕ)
     → ((a : ℕ) → M < a → pooled_severity us a ≡ whole 0) → (N : ℕ)
-    → common_sums r us One N ≡ sum_to N (gamma_of r (expected_claims us))
+    → common_sums r us One N ≡ sum_to N (gamma_of (whole r) (expected_claims us))
 pooled_one r us h some M past N = pooled r us some h M past One (λ ys. refl) N
-    ∙ sum_to_same (N * M) _ _ (λ x c. times_one _) ∙ cells_all (gamma_of r (expected_claims us))
+    ∙ sum_to_same (N * M) _ _ (λ x c. times_one _) ∙ cells_all (gamma_of (whole r) (expected_claims us))
     (pooled_severity us) M (pooled_is_severity us h some M past) N (N * M) (le_refl_n _)

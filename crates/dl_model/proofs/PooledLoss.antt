@@ -1,5 +1,5 @@
 -- A portfolio under a common factor as one loss: what it declares is bounded, above 0 somewhere, and adds up to 1.
-use Rattle.dl_model.proofs.Common.{◌≡◌, ℕ, suc, ◌*◌, ◌<◌, ◌≤◌, arith, refl, sym, ap, subst, subst₂, ◌∙◌, List, [], ◌∷◌, fun_ext, Fraction, whole, ◌+ℚ◌, ◌*ℚ◌, ◌≤ℚ◌, ◌<ℚ◌, le_trans, sum_to, sum_to_same, IsBound, AtLeast, Holds, Rises, Loss, One, Cdf, Mean, score, sum_over_outcomes, partial_sums, loss, IsDeclared, IsDeclaredLoss, Quantity, IsAsked, AreDeclared, PoissonUnit, expected_claims, common_sums, pooled_severity, pooled_unit, AreSeverities, CountsTotal, total, order}
+use Rattle.dl_model.proofs.Common.{◌≡◌, ℕ, suc, ◌*◌, ◌<◌, ◌≤◌, arith, refl, sym, ap, subst, subst₂, ◌∙◌, List, [], ◌∷◌, fun_ext, Fraction, whole, ◌+ℚ◌, ◌*ℚ◌, ◌≤ℚ◌, ◌<ℚ◌, le_trans, sum_to, sum_to_same, IsBound, AtLeast, Holds, Rises, Loss, One, Cdf, Mean, score, sum_over_outcomes, partial_sums, loss, IsDeclared, IsDeclaredLoss, Quantity, IsAsked, AreDeclared, PoissonUnit, expected_claims, common_sums, pooled_severity, pooled_unit, AreSeverities, CountsTotal, total, order, whole_pos, zero-lt-suc}
 use Rattle.dl_model.proofs.CountBounds.{gamma_of_count}
 use Rattle.dl_model.proofs.CountMeans.{gamma_mean}
 use Rattle.dl_model.proofs.Means.{mean_of_unit}
@@ -14,7 +14,7 @@ module _ (q : ℕ) (us : List PoissonUnit) (some : whole 0 <ℚ expected_claims 
   unit_declared : IsDeclared (pooled_unit (suc q) us M)
   unit_declared = record {
     unit = record { severity = pooled_is_severity us h some M past; clause = λ s. omega arith };
-    count = gamma_of_count q (expected_claims us);
+    count = gamma_of_count (whole (suc q)) (expected_claims us) (whole_pos (suc q) (zero-lt-suc q));
   }
 
   abbrev one_loss : List Loss
@@ -85,4 +85,4 @@ module _ (q : ℕ) (us : List PoissonUnit) (some : whole 0 <ℚ expected_claims 
       let E = sum_to M (λ j. whole j *ℚ pooled_severity us j) *ℚ expected_claims us in
       subst₂ (λ Q R. Holds Q R E E) (same Mean total_mean) (same One (λ ys. refl))
       (mean_of_unit (pooled_unit (suc q) us M) unit_declared.unit (λ s. refl) (expected_claims us) (expected_claims us)
-      (gamma_mean q (expected_claims us)))
+      (gamma_mean (whole (suc q)) (expected_claims us) (whole_pos (suc q) (zero-lt-suc q))))

@@ -1,6 +1,6 @@
 -- Fractions as numbers over numbers above 0, not in lowest terms: these compute, so that a closed example is read off
 -- them.
-use Rattle.dl_model.proofs.Common.{Bool, List, [], ◌∷◌, true, false, ℕ, zero, suc, ◌≡◌, ◌+◌, ◌-◌, ◌*◌, ◌^◌, ◌<◌, ◌∙◌, ap₂, refl, sym, mul-pos, one-le-pow, pow-zero, pow-succ', Fraction, whole, ◌over◌, ◌+ℚ◌, ◌-ℚ◌, ◌*ℚ◌, ◌/ℚ◌, ◌^ℚ◌, one_pos, over_same, over_add, over_mul, over_div, over_sub, sum_to, sum_pairs, sum_over, where_true}
+use Rattle.dl_model.proofs.Common.{Bool, List, [], ◌∷◌, true, false, ℕ, zero, suc, ◌≡◌, ◌+◌, ◌-◌, ◌*◌, ◌^◌, ◌<◌, ◌∙◌, ap₂, refl, sym, mul-pos, one-le-pow, pow-zero, pow-succ', Fraction, whole, ◌over◌, ◌+ℚ◌, ◌-ℚ◌, ◌*ℚ◌, ◌/ℚ◌, ◌^ℚ◌, one_pos, over_same, over_add, over_mul, over_div, over_sub, sum_to, sum_pairs, sum_over, where_true, product_below}
 
 pub record Known (x : Fraction) : Type 0 where
   pub num : ℕ
@@ -69,7 +69,7 @@ power_is p n = record {
   same = power_same p n;
 }
 
--- ---- choices and finite sums
+-- ---- choices, finite sums and products
 
 abbrev pub where_is : {x : Fraction} (b : Bool) → Known x → Known (where_true b x)
 where_is true p = p
@@ -79,6 +79,11 @@ unfoldable pub through_is : {f : ℕ → Fraction} → ((k : ℕ) → Known (f k
 unfolding sum_to
 through_is p zero = p zero
 through_is p (suc n) = plus_is (through_is p n) (p (suc n))
+
+unfoldable pub product_is : {f : ℕ → Fraction} → ((k : ℕ) → Known (f k)) → (n : ℕ) → Known (product_below n f)
+unfolding product_below
+product_is p zero = whole_is 1
+product_is p (suc n) = times_is (product_is p n) (p n)
 
 unfoldable pub pairs_is : {f : ℕ → ℕ → Fraction} → ((i j : ℕ) → Known (f i j)) → (n : ℕ) → Known (sum_pairs n f)
 unfolding sum_pairs

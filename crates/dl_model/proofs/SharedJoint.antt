@@ -136,7 +136,7 @@ module _ (q : ℕ) (us : List PoissonUnit) (some : whole 0 <ℚ expected_claims 
 
   -- n + 1 claims of shape r by n claims of shape r + 1
   apart_next : (m x : ℕ) → whole (orders (suc q) (suc m)) *ℚ apart (suc m) x
-      ≡ whole (suc q) *ℚ y u *ℚ convolve t (λ k. gamma (suc (suc q)) c m *ℚ power (pooled_severity us) m k) x
+      ≡ whole (suc q) *ℚ y u *ℚ convolve t (λ k. gamma (whole (suc (suc q))) c m *ℚ power (pooled_severity us) m k) x
   unfolding claim_apart
   apart_next m x =
       let d = divided_power (mixed y us) m in
@@ -166,9 +166,9 @@ module _ (q : ℕ) (us : List PoissonUnit) (some : whole 0 <ℚ expected_claims 
 
   pub joint_next : (x N : ℕ) → common_sums (suc q) us (Joint i x) (suc N)
       ≡ whole (suc q) *ℚ y u *ℚ sum_pairs x
-      (λ a k. whole a *ℚ u.severity a *ℚ cell (gamma (suc (suc q)) c) (pooled_severity us) k N)
+      (λ a k. whole a *ℚ u.severity a *ℚ cell (gamma (whole (suc (suc q))) c) (pooled_severity us) k N)
   joint_next x N =
-      let g : ℕ → ℕ → Fraction = λ m k. gamma (suc (suc q)) c m *ℚ power (pooled_severity us) m k in
+      let g : ℕ → ℕ → Fraction = λ m k. gamma (whole (suc (suc q))) c m *ℚ power (pooled_severity us) m k in
       joint_sums x (suc N)
       ∙ sum_to_first N (joint_term x) ∙ ap (λ z. z +ℚ sum_to N (λ m. joint_term x (suc m))) (joint_first x)
       ∙ zero_plus _
@@ -188,11 +188,11 @@ module _ (q : ℕ) (us : List PoissonUnit) (some : whole 0 <ℚ expected_claims 
       ∙ sum_to_same (n * M) _ _ (λ x d. one_times _)
 
   -- the m other claims come to something
-  others_all : (m : ℕ) → sum_to (m * M) (λ k. gamma (suc (suc q)) c m *ℚ power (pooled_severity us) m k)
-      ≡ gamma (suc (suc q)) c m
+  others_all : (m : ℕ) → sum_to (m * M) (λ k. gamma (whole (suc (suc q))) c m *ℚ power (pooled_severity us) m k)
+      ≡ gamma (whole (suc (suc q))) c m
   others_all m =
-      sum_to_times (m * M) (gamma (suc (suc q)) c m) (power (pooled_severity us) m)
-      ∙ ap (λ z. gamma (suc (suc q)) c m *ℚ z) (power_severity (pooled_severity us) M severity_all m).add_up ∙ times_one _
+      sum_to_times (m * M) (gamma (whole (suc (suc q))) c m) (power (pooled_severity us) m)
+      ∙ ap (λ z. gamma (whole (suc (suc q))) c m *ℚ z) (power_severity (pooled_severity us) M severity_all m).add_up ∙ times_one _
 
   -- the claim that is apart, where it can be of the unit
   unit_amounts : ℕ → Fraction
@@ -204,14 +204,14 @@ module _ (q : ℕ) (us : List PoissonUnit) (some : whole 0 <ℚ expected_claims 
       ∙ ap (λ z. whole a *ℚ z) (unit_past y u us i at a (mixed_past a d)) ∙ times_zero _
 
   outcome_apart : (m : ℕ) → whole (orders (suc q) (suc m)) *ℚ sum_to (suc m * M) (apart (suc m))
-      ≡ whole (suc q) *ℚ y u *ℚ sum_to M t *ℚ gamma (suc (suc q)) c m
+      ≡ whole (suc q) *ℚ y u *ℚ sum_to M t *ℚ gamma (whole (suc (suc q))) c m
   unfolding unit_amounts
   outcome_apart m =
       let far = suc m * M in
       let r = whole (suc q) in
-      let g : ℕ → Fraction = λ k. gamma (suc (suc q)) c m *ℚ power (pooled_severity us) m k in
+      let g : ℕ → Fraction = λ k. gamma (whole (suc (suc q))) c m *ℚ power (pooled_severity us) m k in
       let g_past : (k : ℕ) → m * M < k → g k ≡ whole 0 = λ k d.
-      ap (λ z. gamma (suc (suc q)) c m *ℚ z) (power_past (pooled_severity us) M severity_all.past m k d) ∙ times_zero _ in
+      ap (λ z. gamma (whole (suc (suc q))) c m *ℚ z) (power_past (pooled_severity us) M severity_all.past m k d) ∙ times_zero _ in
       sym (sum_to_times far (whole (orders (suc q) (suc m))) (apart (suc m)))
       ∙ sum_to_same far _ (λ x. r *ℚ convolve unit_amounts g x) (λ x d. apart_next m x ∙ times_assoc r (y u) _
       ∙ ap (λ z. r *ℚ z) (sym (convolve_scaled (y u) t g x)))
@@ -236,10 +236,10 @@ module _ (q : ℕ) (us : List PoissonUnit) (some : whole 0 <ℚ expected_claims 
   outcome_none = outcome_sums zero ∙ outcome_first
 
   pub outcome_next : (N : ℕ) → common_sums (suc q) us (Outcome i) (suc N)
-      ≡ whole (suc q) *ℚ y u *ℚ (sum_to M t *ℚ sum_to N (gamma (suc (suc q)) c))
+      ≡ whole (suc q) *ℚ y u *ℚ (sum_to M t *ℚ sum_to N (gamma (whole (suc (suc q))) c))
   unfolding outcome_term
   outcome_next N =
       outcome_sums (suc N) ∙ sum_to_first N outcome_term
       ∙ ap (λ z. z +ℚ sum_to N (λ m. outcome_term (suc m))) outcome_first ∙ zero_plus _
       ∙ sum_to_same N _ _ (λ m d. outcome_apart m)
-      ∙ sum_to_times N (whole (suc q) *ℚ y u *ℚ sum_to M t) (gamma (suc (suc q)) c) ∙ times_assoc _ _ _
+      ∙ sum_to_times N (whole (suc q) *ℚ y u *ℚ sum_to M t) (gamma (whole (suc (suc q))) c) ∙ times_assoc _ _ _

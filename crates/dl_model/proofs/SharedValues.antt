@@ -36,8 +36,8 @@ module _ (q : ℕ) (v : Fraction) where
       sym (share_of r1 u (raised_mean (suc q) v) (shape_pos (suc q) v) up)
       ∙ share_of r u v rp (times_comm r u ∙ div_times v r rp)
 
-  pub raised_weights : (n : ℕ) → gamma_of (suc (suc q)) (raised_mean (suc q) v) n ≡ gamma (suc (suc q)) (v /ℚ W) n
-  raised_weights n = ap (λ x. gamma (suc (suc q)) x n) raised_part
+  pub raised_weights : (n : ℕ) → gamma_of (whole (suc (suc q))) (raised_mean (suc q) v) n ≡ gamma (whole (suc (suc q))) (v /ℚ W) n
+  raised_weights n = ap (λ x. gamma (whole (suc (suc q))) x n) raised_part
 
   abbrev L : Fraction
   L = W /ℚ r
@@ -61,10 +61,10 @@ module _ (q : ℕ) (us : List PoissonUnit) (some : whole 0 <ℚ expected_claims 
 
   -- the whole weights of both shapes
   abbrev all : Series
-  all N = sum_to N (gamma (suc q) c)
+  all N = sum_to N (gamma (whole (suc q)) c)
 
   abbrev all_more : Series
-  all_more N = sum_to N (gamma (suc (suc q)) c)
+  all_more N = sum_to N (gamma (whole (suc (suc q))) c)
 
   -- the amounts of one claim of the unit, tilted
   abbrev t : ℕ → Fraction
@@ -79,7 +79,7 @@ module _ (q : ℕ) (us : List PoissonUnit) (some : whole 0 <ℚ expected_claims 
   from_terms Q terms lo hi none next held =
       let later : Series = λ N. factor *ℚ terms N in
       let later_holds : Holds later all (u.mean *ℚ lo) (u.mean *ℚ hi) =
-      over_other later all all_more _ _ _ _ _ _ (sum_rises_to (gamma (suc (suc q)) c)) (gamma_of_least q v q)
+      over_other later all all_more _ _ _ _ _ _ (sum_rises_to (gamma (whole (suc (suc q))) c)) (gamma_of_least q v q)
       (gamma_of_least q v (suc q)) (one_more q v u.mean lo) (one_more q v u.mean hi)
       (scaled factor terms all_more lo hi held) in
       let level = same_value Q all later all (shifted Q later none next) (level_same all all (λ N. refl)) in
@@ -97,7 +97,7 @@ module _ (q : ℕ) (us : List PoissonUnit) (some : whole 0 <ℚ expected_claims 
   module _ (x : ℕ) (lo hi : ℕ → Fraction) where
     -- the cells of one shape more
     abbrev part : ℕ → Series
-    part k = cell (gamma (suc (suc q)) c) f k
+    part k = cell (gamma (whole (suc (suc q))) c) f k
 
     abbrev terms : Series
     terms N = sum_pairs x (λ a k. t a *ℚ part k N)
@@ -121,8 +121,8 @@ pub joint_raised : (q : ℕ) (us : List PoissonUnit) → whole 0 <ℚ expected_c
     → ((a : ℕ) → M < a → pooled_severity us a ≡ whole 0) → (i : ℕ) (u : PoissonUnit) → IsUnit us i u → (x : ℕ)
     → (lo hi : ℕ → Fraction)
     → ((k : ℕ) → k ≤ x → Holds
-    (cell (gamma_of (suc (suc q)) (raised_mean (suc q) (expected_claims us))) (pooled_severity us) k)
-    (λ N. sum_to N (gamma_of (suc (suc q)) (raised_mean (suc q) (expected_claims us)))) (lo k) (hi k))
+    (cell (gamma_of (whole (suc (suc q))) (raised_mean (suc q) (expected_claims us))) (pooled_severity us) k)
+    (λ N. sum_to N (gamma_of (whole (suc (suc q))) (raised_mean (suc q) (expected_claims us)))) (lo k) (hi k))
     → Holds (common_sums (suc q) us (Joint i x)) (common_sums (suc q) us One)
     (u.mean *ℚ sum_pairs x (λ a k. whole a *ℚ u.severity a *ℚ lo k))
     (u.mean *ℚ sum_pairs x (λ a k. whole a *ℚ u.severity a *ℚ hi k))

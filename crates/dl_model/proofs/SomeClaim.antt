@@ -22,7 +22,7 @@ poisson_some_claim v h n u b =
     (subst₂ (λ s t. s +ℚ t ≤ℚ u) (poisson_zero v) one (b 1))))
 
 pub gamma_some_claim : (q : ℕ) (v : Fraction) → 1 over 16 ≤ℚ v
-    → AtMost (λ N. gamma_of (suc q) v zero) (λ N. sum_to N (gamma_of (suc q) v)) (16 over 17)
+    → AtMost (λ N. gamma_of (whole (suc q)) v zero) (λ N. sum_to N (gamma_of (whole (suc q)) v)) (16 over 17)
 gamma_some_claim q v h n u b =
     let r = whole (suc q) in
     let W = r +ℚ v in
@@ -31,8 +31,8 @@ gamma_some_claim q v h n u b =
     times_cancel _ _ r rp (rw (div_times W r rp, plus_times, one_times, div_times v r rp) refl) in
     let power : whole 1 +ℚ v ≤ℚ (W /ℚ r) ^ℚ suc q =
     rw L_is (rw (times_comm r (v /ℚ r), div_times v r rp) at (bernoulli (v /ℚ r) (suc q))) in
-    some_claim (gamma_of (suc q) v zero) u
-    (rw (gamma_zero q (v /ℚ W), one_times) (grw (order, h, power) ((gamma_of_least q v q).1 u b)))
+    some_claim (gamma_of (whole (suc q)) v zero) u
+    (rw (gamma_zero r (v /ℚ W), one_times) (grw (order, h, power) ((gamma_of_least q v q).1 u b)))
 
 power_zero : (f : ℕ → Fraction) (n : ℕ) → power f n zero ≡ f zero ^ℚ n
 unfolding power at_zero ◌^ℚ◌ sum_pairs

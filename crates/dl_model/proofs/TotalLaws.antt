@@ -14,8 +14,8 @@ pub use Rattle.dl_model.proofs.Alike.{AreLevel, IsUnder, cancel_value, cauchy_le
 pub use Rattle.dl_model.proofs.Least.{least_scaled}
 pub use Rattle.dl_model.proofs.Itself.{count_power, sum_to_at_zero}
 pub use Rattle.dl_model.proofs.PoissonWeights.{next_of, poisson_bound, poisson_next, poisson_plus, poisson_zero}
-pub use Rattle.dl_model.proofs.Gamma.{choose-absorb, choose-shift, gamma_is, gamma_next, gamma_one_more, gamma_shift, gamma_zero, geometric_identity, geometric_low, geometric_next}
-pub use Rattle.dl_model.proofs.GammaThin.{gamma_of_least, gamma_shares, mean_pos, parts_one, pos_plus, rest_part_pos, shape_pos, shape_times, share_of, thin_gamma}
+pub use Rattle.dl_model.proofs.Gamma.{choose-absorb, choose-shift, gamma_is, gamma_next, gamma_one_more, gamma_shift, gamma_zero, geometric_identity, geometric_low, geometric_next, over_next}
+pub use Rattle.dl_model.proofs.GammaThin.{div_plus, gamma_of_least, gamma_shares, mean_pos, parts_one, pos_plus, rest_part_pos, shape_pos, shape_times, share_of, thin_gamma}
 pub use Rattle.dl_model.proofs.AddedCounts.{binomial_power, fixed_past, fixed_power, one_trial_none, one_trial_one, trial}
 pub use Rattle.dl_model.proofs.Outcomes.{first_unit, loss_proper, mean_alone, mean_more, outcomes_below, outcomes_le, outcomes_none, outcomes_plus, outcomes_rise, outcomes_same, outcomes_sum, outcomes_times, sum-cons, total_alone, total_alone_all, total_more, total_more_all}
 pub use Rattle.dl_model.proofs.UnitLaws.{unit_loss, unit_plain, unit_proper, unit_within}

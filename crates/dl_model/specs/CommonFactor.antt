@@ -71,7 +71,7 @@ pooled_severity us a = sum_over us (λ u. u.mean /ℚ expected_claims us *ℚ u.
 -- the one unit for all of them: a gamma count of shape r and of all their expected claims, with the
 -- pooled severity, whose greatest amount is given
 abbrev pub pooled_unit : ℕ → List PoissonUnit → ℕ → Aggregate
-pooled_unit r us most = plain (gamma_of r (expected_claims us)) (pooled_severity us) most
+pooled_unit r us most = plain (gamma_of (whole r) (expected_claims us)) (pooled_severity us) most
 
 -- the probabilities of the amounts of each unit add up to 1
 abbrev pub AreSeverities : List PoissonUnit → Type 0

@@ -19,20 +19,26 @@ binomial m a b n = (choose m n * a ^ n * (b - a) ^ (m - n)) over (b ^ m)
 unfoldable pub poisson : Fraction → ℕ → Fraction
 poisson v n = (v.num ^ n) over (v.den ^ n * factorial n)
 
+-- f 0 * f 1 * .. * f (n - 1), and 1 for n = 0
+unfoldable pub product_below : ℕ → (ℕ → Fraction) → Fraction
+product_below zero f = whole 1
+product_below (suc n) f = product_below n f *ℚ f n
+
 -- the gamma count of shape r (a negative binomial count, a Poisson count whose mean is mixed by a
--- gamma), where x is v / (r + v) for the mean v: C(r + n - 1, n) * x^n
-unfoldable pub gamma : ℕ → Fraction → ℕ → Fraction
-gamma r x n = whole (choose (r + n - 1) n) *ℚ x ^ℚ n
+-- gamma), where x is v / (r + v) for the mean v: the product of (r + i) / (i + 1) over the i below
+-- n, times x^n
+unfoldable pub gamma : Fraction → Fraction → ℕ → Fraction
+gamma r x n = product_below n (λ i. (r +ℚ whole i) /ℚ whole (suc i)) *ℚ x ^ℚ n
 
 -- the same by shape r and mean v
-abbrev pub gamma_of : ℕ → Fraction → ℕ → Fraction
-gamma_of r v = gamma r (v /ℚ (whole r +ℚ v))
+abbrev pub gamma_of : Fraction → Fraction → ℕ → Fraction
+gamma_of r v = gamma r (v /ℚ (r +ℚ v))
 
--- w are the weights of a count of the class (a, b, 0), with no negative a or b: 1 at 0, and
--- w (n + 1) = (a + b / (n + 1)) * w n
-pub record IsPanjer (a b : Fraction) (w : ℕ → Fraction) : Type 0 where
+-- w are the weights of a count of the class (a, b, 0), by a and c = a + b, of which none is
+-- negative where b may be: 1 at 0, and (n + 1) * w (n + 1) = (a * n + c) * w n
+pub record IsPanjer (a c : Fraction) (w : ℕ → Fraction) : Type 0 where
   pub start : w zero ≡ whole 1
-  pub next : (n : ℕ) → w (suc n) *ℚ whole (suc n) ≡ (a *ℚ whole (suc n) +ℚ b) *ℚ w n
+  pub next : (n : ℕ) → whole (suc n) *ℚ w (suc n) ≡ (a *ℚ whole n +ℚ c) *ℚ w n
 
 -- Count weights that can be declared: their sums, and those of each number times its weight, are
 -- bounded; some sum is above 0; and the sums come near their least upper bound.

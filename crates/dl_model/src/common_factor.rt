@@ -44,7 +44,7 @@ pub fn law_pooled()
         → (most : ℕ) → ((a : ℕ) → most < a → pooled_severity us a ≡ whole 0)
         → (quantity : Quantity) → CountsTotal quantity → (N : ℕ)
         → common_sums r us quantity N ≡ sum_to (N * most) (λ x.
-        cell (gamma_of r (expected_claims us)) (pooled_severity us) x N *ℚ
+        cell (gamma_of (whole r) (expected_claims us)) (pooled_severity us) x N *ℚ
         score quantity (x ∷ [])) }
 {}
 
@@ -58,7 +58,7 @@ pub fn law_pooled_unit()
     ensures all { (r : ℕ) (us : List PoissonUnit) → AreSeverities us
         → whole 0 <ℚ expected_claims us
         → (most : ℕ) → ((a : ℕ) → most < a → pooled_severity us a ≡ whole 0) → (N : ℕ)
-        → common_sums r us One N ≡ sum_to N (gamma_of r (expected_claims us)) }
+        → common_sums r us One N ≡ sum_to N (gamma_of (whole r) (expected_claims us)) }
 {}
 
 /// The joint mean of unit `i` at the total `x`, with claims up to the level `N + 1`: the shape `r`
@@ -78,7 +78,7 @@ pub fn law_common_joint()
         → common_sums (suc q) us (Joint i x) (suc N)
         ≡ whole (suc q) *ℚ (u.mean /ℚ (whole (suc q) +ℚ expected_claims us)) *ℚ sum_pairs x
         (λ a k. whole a *ℚ u.severity a *ℚ
-        cell (gamma (suc (suc q)) (expected_claims us /ℚ (whole (suc q) +ℚ expected_claims us)))
+        cell (gamma (whole (suc (suc q))) (expected_claims us /ℚ (whole (suc q) +ℚ expected_claims us)))
         (pooled_severity us) k N) }
 {}
 
@@ -87,8 +87,8 @@ pub fn law_common_joint()
 #[tactic(auto, using(crate::proofs::SharedValues::raised_weights))]
 pub fn law_raised()
     ensures { (q : ℕ) (v : Fraction) (n : ℕ)
-        → gamma_of (suc (suc q)) (raised_mean (suc q) v) n
-        ≡ gamma (suc (suc q)) (v /ℚ (whole (suc q) +ℚ v)) n }
+        → gamma_of (whole (suc (suc q))) (raised_mean (suc q) v) n
+        ≡ gamma (whole (suc (suc q))) (v /ℚ (whole (suc q) +ℚ v)) n }
 {}
 
 /// The declared joint mean of unit `i` at the total `x`: its expected number of claims, times the
@@ -99,9 +99,9 @@ pub fn law_common_joint_mean()
         → (most : ℕ) → ((a : ℕ) → most < a → pooled_severity us a ≡ whole 0)
         → (i : ℕ) (u : PoissonUnit) → IsUnit us i u → (x : ℕ) → (lo hi : ℕ → Fraction)
         → ((k : ℕ) → k ≤ x → Holds
-        (cell (gamma_of (suc (suc q)) (raised_mean (suc q) (expected_claims us)))
+        (cell (gamma_of (whole (suc (suc q))) (raised_mean (suc q) (expected_claims us)))
         (pooled_severity us) k)
-        (λ N. sum_to N (gamma_of (suc (suc q)) (raised_mean (suc q) (expected_claims us))))
+        (λ N. sum_to N (gamma_of (whole (suc (suc q))) (raised_mean (suc q) (expected_claims us))))
         (lo k) (hi k))
         → Holds (common_sums (suc q) us (Joint i x)) (common_sums (suc q) us One)
         (u.mean *ℚ sum_pairs x (λ a k. whole a *ℚ u.severity a *ℚ lo k))

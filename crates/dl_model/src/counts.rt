@@ -9,11 +9,11 @@ ghost use Rattle.dl_model.specs.Severity.{IsSeverity, IsPositivePart};
 ghost use Rattle.dl_model.specs.Counts.{fixed, binomial, poisson, gamma, gamma_of, IsPanjer};
 ghost use Rattle.dl_model.specs.Family.{Family, compound, nothing, times_itself, SameCells, Encloses};
 
-/// Poisson and gamma counts are of the (a, b, 0) class: a = 0 and b the mean; a = x and b = (r - 1)
-/// * x for the shape r.
+/// Poisson and gamma counts are of the (a, b, 0) class, by a and c = a + b: a = 0 and c the mean;
+/// a = x and c = r * x for the shape r.
 pub fn law_class()
     ensures poisson { (v : Fraction) → IsPanjer (whole 0) v (poisson v) }
-    ensures gamma { (q : ℕ) (x : Fraction) → IsPanjer x (whole q *ℚ x) (gamma (suc q) x) }
+    ensures gamma { (r x : Fraction) → IsPanjer x (r *ℚ x) (gamma r x) }
 {}
 
 /// The sums over at most `N` claims of two counts together have the least upper bound of the
@@ -35,15 +35,15 @@ pub fn law_poisson_bounded()
 /// 1)`, with `d` for `1 - x`.
 pub fn law_gamma_least()
     ensures { (x d L : Fraction) (s : ℕ) → x +ℚ d ≡ whole 1 → L *ℚ d ≡ whole 1
-        → IsLeastBound (λ N. sum_to N (gamma (suc s) x)) (L ^ℚ suc s) }
+        → IsLeastBound (λ N. sum_to N (gamma (whole (suc s)) x)) (L ^ℚ suc s) }
 {}
 
-/// The sums of Poisson and of gamma weights come near their least upper bounds, at a rate that is
-/// known.
+/// The sums of Poisson and of gamma weights, of any shape, come near their least upper bounds, at a
+/// rate that is known.
 pub fn law_settles()
     ensures poisson { (v : Fraction) → Settles (λ N. sum_to N (poisson v)) }
-    ensures gamma { (s : ℕ) (x d : Fraction) → x +ℚ d ≡ whole 1 → whole 0 <ℚ d
-        → Settles (λ N. sum_to N (gamma (suc s) x)) }
+    ensures gamma { (r x d : Fraction) → x +ℚ d ≡ whole 1 → whole 0 <ℚ d
+        → Settles (λ N. sum_to N (gamma r x)) }
 {}
 
 /// A bounded factor of both series that is above 0 somewhere changes no declared
@@ -84,9 +84,9 @@ pub fn law_at_most_one_claim()
 pub fn law_no_loss()
     ensures poisson { (v p : Fraction) (f g : ℕ → Fraction) → IsPositivePart f p g
         → v *ℚ p ≡ whole 0 → SameCells nothing (compound (poisson v) f) }
-    ensures gamma { (q : ℕ) (v p : Fraction) (f g : ℕ → Fraction) → IsPositivePart f p g
+    ensures gamma { (r v p : Fraction) (f g : ℕ → Fraction) → whole 0 <ℚ r → IsPositivePart f p g
         → v *ℚ p ≡ whole 0
-        → SameCells nothing (compound (gamma_of (suc q) v) f) }
+        → SameCells nothing (compound (gamma_of r v) f) }
 {}
 
 /// Counts added up: `m` times one claim, `m` trials, `k` Poisson counts, `r` geometric counts.
@@ -95,7 +95,7 @@ pub fn law_added_counts()
     ensures fixed { (m n : ℕ) → power (fixed 1) m n ≡ fixed m n }
     ensures binomial { (a b m n : ℕ) → 0 < b → power (binomial 1 a b) m n ≡ binomial m a b n }
     ensures poisson { (u : Fraction) (k n : ℕ) → power (poisson u) k n ≡ poisson (whole k *ℚ u) n }
-    ensures gamma { (x : Fraction) (s n : ℕ) → power (gamma 1 x) (suc s) n ≡ gamma (suc s) x n }
+    ensures gamma { (x : Fraction) (s n : ℕ) → power (gamma (whole 1) x) (suc s) n ≡ gamma (whole (suc s)) x n }
 {}
 
 /// Thinning and shares of a Poisson count: with `p` the probability of an amount above 0 and `g`
@@ -113,8 +113,8 @@ pub fn law_poisson_shares()
 pub fn law_gamma_shares()
     ensures { (q : ℕ) (u v p : Fraction) (f g : ℕ → Fraction) → IsPositivePart f p g
         → whole (suc q) *ℚ u ≡ v *ℚ p
-        → SameCells (times_itself (compound (gamma_of 1 u) g) (suc q))
-        (compound (gamma_of (suc q) v) f) }
+        → SameCells (times_itself (compound (gamma_of (whole 1) u) g) (suc q))
+        (compound (gamma_of (whole (suc q)) v) f) }
 {}
 
 /// The expected number of claims: of a count of finitely many claims, exact, of trials with
@@ -130,7 +130,7 @@ pub fn law_expected_count()
         (whole m *ℚ a over b) (whole m *ℚ a over b) }
     ensures poisson { (v : Fraction) → Holds (λ N. sum_to N (λ n. whole n *ℚ poisson v n))
         (λ N. sum_to N (poisson v)) v v }
-    ensures gamma { (q : ℕ) (v : Fraction)
-        → Holds (λ N. sum_to N (λ n. whole n *ℚ gamma_of (suc q) v n))
-        (λ N. sum_to N (gamma_of (suc q) v)) v v }
+    ensures gamma { (r v : Fraction) → whole 0 <ℚ r
+        → Holds (λ N. sum_to N (λ n. whole n *ℚ gamma_of r v n))
+        (λ N. sum_to N (gamma_of r v)) v v }
 {}

@@ -1,7 +1,7 @@
 //! The laws of declared units: every quantity is bounded, the whole weight is above 0, and the
 //! probabilities add up to 1.
 
-ghost use Rattle.std.specs.Prelude.{ℕ, suc, ◌≡◌, ◌<◌, ◌≤◌, List};
+ghost use Rattle.std.specs.Prelude.{ℕ, ◌≡◌, ◌<◌, ◌≤◌, List};
 ghost use Rattle.dl_exact.specs.Fraction.{Fraction, whole, ◌+ℚ◌, ◌<ℚ◌};
 ghost use Rattle.dl_model.specs.Series.{IsBound, AtLeast};
 ghost use Rattle.dl_plan.specs.declared.item.Item.{Item};
@@ -12,14 +12,14 @@ ghost use Rattle.dl_model.specs.Program.{Loss, Quantity, One, Cdf, partial_sums}
 ghost use Rattle.dl_model.specs.Measures.{AreDeclared, IsAsked};
 
 /// The counts that can be declared: exact, listed, of trials with probability `a / b`, Poisson, and
-/// gamma of shape `q + 1` and mean `v`.
+/// gamma of any shape above 0.
 pub fn law_counts()
     ensures fixed { (m : ℕ) → AreCountWeights (fixed m) }
     ensures listed { (counts : List Item) → 0 < weight_sum counts
         → AreCountWeights (probability_at counts) }
     ensures binomial { (m a b : ℕ) → 0 < b → a ≤ b → AreCountWeights (binomial m a b) }
     ensures poisson { (v : Fraction) → AreCountWeights (poisson v) }
-    ensures gamma { (q : ℕ) (v : Fraction) → AreCountWeights (gamma_of (suc q) v) }
+    ensures gamma { (r v : Fraction) → whole 0 <ℚ r → AreCountWeights (gamma_of r v) }
 {}
 
 /// Some fraction is a bound of every quantity that can be asked.

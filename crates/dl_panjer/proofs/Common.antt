@@ -39,7 +39,7 @@ pub use Rattle.dl_plan.specs.declared.item.Item.{Item}
 pub use Rattle.dl_plan.specs.declared.severity.Sev.{Sev}
 pub use Rattle.dl_exp.specs.Exponential.{EnclosesExp, exponential_sum, exponential_term}
 pub use Rattle.dl_model.proofs.FamilyLaws.{cell_at_most_one, compound_proper}
-pub use Rattle.dl_model.proofs.Panjer.{cell_from_before, cell_zero, gamma_class, poisson_class, recursion_there}
+pub use Rattle.dl_model.proofs.Panjer.{before_in_whole, cell_from_before, cell_zero, gamma_class, poisson_class, recursion_there}
 pub use Rattle.dl_model.proofs.WithinOne.{within_one}
 pub use Rattle.dl_model.specs.Compound.{cell}
 pub use Rattle.dl_model.specs.Counts.{IsPanjer, gamma_of}

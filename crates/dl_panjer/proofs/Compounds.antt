@@ -1,5 +1,7 @@
 -- The grids of a Poisson and of a geometric count enclose their compound sums.
 use Rattle.dl_panjer.proofs.Common.{◌≡◌, ℕ, zero, suc, ◌<◌, ◌^◌, true, false, List, length, sym, ap, ap₂, ◌∙◌, Fraction, ◌over◌, ◌+ℚ◌, ◌*ℚ◌, ◌/ℚ◌, ◌≤ℚ◌, ◌<ℚ◌, whole, sum_to, over_zero, pow_pos, one_pos, times_comm, zero_times, one_times, times_cancel, div_times, le_trans, whole_pos, times_le_both, Holds, IsWithinOne, poisson, gamma_of, IsPanjer, compound, GridEncloses, Iv, low_at, high_at, Item, weight_at, FollowsRounded, poisson_class, plus_comm, plus_times, div_pos, lt_of_lt_of_le, le_plus, Series, IsLeastBound, gamma_class}
+use Rattle.std.proofs.Common.{subst}
+use Rattle.dl_model.specs.Counts.{gamma}
 use Rattle.dl_model.proofs.Gamma.{geometric_least}
 use Rattle.dl_panjer.proofs.Base.{base_encloses}
 use Rattle.dl_panjer.proofs.Outward.{poisson_outward, geometric_outward}
@@ -27,18 +29,20 @@ module _ (beta : Fraction) where
       ∙ sym (one_times all))
 
   pub geometric_start : (l h : Fraction) → l ≤ℚ whole 1 /ℚ (whole 1 +ℚ beta) → whole 1 /ℚ (whole 1 +ℚ beta) ≤ℚ h
-      → Holds (λ N. whole 1) (λ N. sum_to N (gamma_of 1 beta)) l h
+      → Holds (λ N. whole 1) (λ N. sum_to N (gamma_of (whole 1) beta)) l h
   unfolding all
   geometric_start l h low high =
       let d = whole 1 /ℚ all in
       let inverse : all *ℚ d ≡ whole 1 = times_comm _ _ ∙ div_times (whole 1) all all_pos in
-      reciprocal_of_least (λ N. sum_to N (gamma_of 1 beta)) all d l h
+      reciprocal_of_least (λ N. sum_to N (gamma_of (whole 1) beta)) all d l h
       (geometric_least (beta /ℚ all) d shares all
       (div_pos (whole 1) all (whole_pos 1 one_pos) all_pos) inverse) inverse low high
 
   -- the geometric count is the gamma count of shape 1
-  pub geometric_class : IsPanjer (beta /ℚ (whole 1 +ℚ beta)) (whole 0) (gamma_of 1 beta)
-  geometric_class = rw (zero_times _) at (gamma_class zero (beta /ℚ (whole 1 +ℚ beta)))
+  pub geometric_class : IsPanjer (beta /ℚ (whole 1 +ℚ beta)) (beta /ℚ (whole 1 +ℚ beta)) (gamma_of (whole 1) beta)
+  geometric_class =
+      let x = beta /ℚ (whole 1 +ℚ beta) in
+      subst (λ c. IsPanjer x c (gamma (whole 1) x)) (one_times x) (gamma_class (whole 1) x)
 
 -- ---- the two grids
 
@@ -57,9 +61,9 @@ module _ {B : ℕ} (items : List Item) (T : ℕ) (v : Fraction) (grid : List (Iv
   pub geometric_base : FollowsRounded false (λ s. v /ℚ (whole 1 +ℚ v)) items T grid
       → low_at grid 0 over 2 ^ B ≤ℚ whole 1 /ℚ (whole 1 +ℚ v)
       → whole 1 /ℚ (whole 1 +ℚ v) ≤ℚ high_at grid 0 over 2 ^ B
-      → GridEncloses grid (compound (gamma_of 1 v) (λ j. weight_at items j over T))
+      → GridEncloses grid (compound (gamma_of (whole 1) v) (λ j. weight_at items j over T))
   geometric_base F low high =
       let start = geometric_start v (low_at grid 0 over 2 ^ B) (high_at grid 0 over 2 ^ B) low high in
-      base_encloses (2 ^ B) (length grid) (v /ℚ (whole 1 +ℚ v)) (whole 0) (λ j. weight_at items j over T)
-      (low_at grid) (high_at grid) (geometric_outward items T v T_pos grid F) (gamma_of 1 v)
+      base_encloses (2 ^ B) (length grid) (v /ℚ (whole 1 +ℚ v)) (v /ℚ (whole 1 +ℚ v)) (λ j. weight_at items j over T)
+      (low_at grid) (high_at grid) (geometric_outward items T v T_pos grid F) (gamma_of (whole 1) v)
       none (geometric_class v) (pow_pos B) severity start.1 start.0

@@ -92,11 +92,11 @@ module _ {B : ℕ} {items : List Item} {T : ℕ} (v : Fraction) {cells : List (I
 
   pub geometric_grid : IsGrid cells
   geometric_grid =
-      grid made (v /ℚ (whole 1 +ℚ v)) (whole 0) (gamma_of 1 v)
+      grid made (v /ℚ (whole 1 +ℚ v)) (v /ℚ (whole 1 +ℚ v)) (gamma_of (whole 1) v)
       (geometric_outward items T v made.total_above cells follows_g) (geometric_class v)
       (geometric_start v (low_at cells 0 over 2 ^ B) (high_at cells 0 over 2 ^ B) low high).0
 
-  pub geometric_encloses : GridEncloses cells (compound (gamma_of 1 v) (λ j. weight_at items j over T))
+  pub geometric_encloses : GridEncloses cells (compound (gamma_of (whole 1) v) (λ j. weight_at items j over T))
   geometric_encloses =
       geometric_base items T v cells made.total_above made.within
       made.no_zero follows_g low high

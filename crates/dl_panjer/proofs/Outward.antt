@@ -1,5 +1,5 @@
 -- The two roundings of a Poisson and of a geometric grid are outward.
-use Rattle.dl_panjer.proofs.Common.{◌≡◌, ◌⊎◌, inl, inr, ℕ, suc, ◌*◌, ◌/◌, ◌^◌, ◌<◌, ◌≤◌, Bool, true, false, List, length, arith, refl, sym, ap, ◌∙◌, zero-lt-suc, cases_lt, div_ceil, Fraction, ◌over◌, ◌+ℚ◌, ◌*ℚ◌, ◌/ℚ◌, ◌≤ℚ◌, ◌<ℚ◌, whole, IsFloor, ring, zero_times, le_refl, le_trans, whole_pos, times_cancel, div_times, over_times_whole, times_le_both, floor_div, ceiling_div, sum_pairs_same, sum_pairs_times, from_before, Iv, low_at, high_at, Item, weight_at, coefficient, next_sum, FollowsOutward, FollowsRounded, min-eq_right, times_assoc, times_comm, mul_comm, zero_plus, plus_zero, IsCeilingWithin, times_right_comm}
+use Rattle.dl_panjer.proofs.Common.{◌≡◌, ◌⊎◌, inl, inr, ℕ, suc, ◌*◌, ◌/◌, ◌^◌, ◌<◌, ◌≤◌, Bool, true, false, List, length, arith, refl, sym, ap, ◌∙◌, zero-lt-suc, cases_lt, div_ceil, Fraction, ◌over◌, ◌+ℚ◌, ◌*ℚ◌, ◌/ℚ◌, ◌≤ℚ◌, ◌<ℚ◌, whole, IsFloor, ring, zero_times, le_refl, le_trans, whole_pos, times_cancel, div_times, over_times_whole, times_le_both, floor_div, ceiling_div, sum_pairs_same, sum_pairs_times, from_before, Iv, low_at, high_at, Item, weight_at, coefficient, next_sum, FollowsOutward, FollowsRounded, min-eq_right, times_assoc, times_comm, mul_comm, zero_plus, plus_zero, IsCeilingWithin, times_right_comm, ◌+◌, whole_plus, before_in_whole}
 use Rattle.dl_exact.proofs.Denominators.{over_times}
 use Rattle.dl_exact.proofs.SumsOver.{sum_pairs_over}
 use Rattle.dl_exact.specs.Sum.{sum_pairs}
@@ -35,32 +35,38 @@ outward {B} b factor items T grid x y pos same F = record {
 
 -- ---- the sums of the recursion, over any severity
 
--- where the count's first part is 0
+-- where a is 0
 pub sums_by_number : (v : Fraction) (f : ℕ → Fraction) (g : ℕ → ℕ) (s : ℕ) → from_before (whole 0) v f (λ k. whole (g k)) s
     ≡ v /ℚ whole (suc s) *ℚ sum_pairs s (λ i k. whole (suc i) *ℚ f (suc i) *ℚ whole (g k))
 sums_by_number v f g s =
-    sum_pairs_same s _ _ (λ i k e. ap (λ t. t *ℚ f (suc i) *ℚ whole (g k)) (zero_plus _ ∙ by_suc i)
-    ∙ turn (v /ℚ whole (suc s)) (whole (suc i)) (f (suc i)) (whole (g k)))
-    ∙ sum_pairs_times s (v /ℚ whole (suc s)) (λ i k. whole (suc i) *ℚ f (suc i) *ℚ whole (g k))
+    let S = whole (suc s) in
+    let Sp = whole_pos (suc s) (zero-lt-suc s) in
+    times_cancel _ _ S Sp (times_comm _ _ ∙ before_in_whole (whole 0) v f (λ k. whole (g k)) s
+    ∙ sum_pairs_same s _ _ (λ i k e. ap (λ t. t *ℚ f (suc i) *ℚ whole (g k))
+    (ap (λ t. t +ℚ v *ℚ whole (suc i)) (zero_times _) ∙ zero_plus _)
+    ∙ turn v (whole (suc i)) (f (suc i)) (whole (g k)))
+    ∙ sum_pairs_times s v (λ i k. whole (suc i) *ℚ f (suc i) *ℚ whole (g k))
+    ∙ sym (times_right_comm _ _ S
+    ∙ ap (λ t. t *ℚ sum_pairs s (λ i k. whole (suc i) *ℚ f (suc i) *ℚ whole (g k))) (div_times v S Sp)))
   where
-    S' : whole 0 <ℚ whole (suc s)
-    S' = whole_pos (suc s) (zero-lt-suc s)
-
     turn : (a b c d : Fraction) → a *ℚ b *ℚ c *ℚ d ≡ a *ℚ (b *ℚ c *ℚ d)
     turn a b c d = simp ring
 
-    by_suc : (i : ℕ) → v *ℚ suc i over suc s ≡ v /ℚ whole (suc s) *ℚ whole (suc i)
-    by_suc i = times_cancel _ _ (whole (suc s)) S'
-        (times_assoc _ _ _ ∙ ap (λ t. v *ℚ t) (over_times_whole (suc i) (suc s) (zero-lt-suc s))
-        ∙ sym (times_right_comm _ _ _ ∙ ap (λ t. t *ℚ whole (suc i)) (div_times v (whole (suc s)) S')))
-
--- where its second part is 0
+-- where a and c are the same
 pub sums_by_rate : (x : Fraction) (f : ℕ → Fraction) (g : ℕ → ℕ) (s : ℕ)
-    → from_before x (whole 0) f (λ k. whole (g k)) s ≡ x *ℚ sum_pairs s (λ i k. f (suc i) *ℚ whole (g k))
+    → from_before x x f (λ k. whole (g k)) s ≡ x *ℚ sum_pairs s (λ i k. f (suc i) *ℚ whole (g k))
 sums_by_rate x f g s =
-    sum_pairs_same s _ _ (λ i k e.
-    ap (λ t. t *ℚ f (suc i) *ℚ whole (g k)) (ap (λ t. x +ℚ t) (zero_times _) ∙ plus_zero x)
-    ∙ times_assoc x (f (suc i)) (whole (g k))) ∙ sum_pairs_times s x (λ i k. f (suc i) *ℚ whole (g k))
+    let S = whole (suc s) in
+    times_cancel _ _ S (whole_pos (suc s) (zero-lt-suc s))
+    (times_comm _ _ ∙ before_in_whole x x f (λ k. whole (g k)) s
+    ∙ sum_pairs_same s _ (λ i k. x *ℚ S *ℚ (f (suc i) *ℚ whole (g k))) (λ i k e.
+    let m : k + suc i ≡ suc s = omega (arith, e) in
+    together x (whole k) (whole (suc i)) (f (suc i)) (whole (g k))
+    ∙ ap (λ t. x *ℚ t *ℚ (f (suc i) *ℚ whole (g k))) (sym (whole_plus k (suc i)) ∙ ap whole m))
+    ∙ sum_pairs_times s (x *ℚ S) (λ i k. f (suc i) *ℚ whole (g k)) ∙ times_right_comm x S _)
+  where
+    together : (x k j f g : Fraction) → (x *ℚ k +ℚ x *ℚ j) *ℚ f *ℚ g ≡ x *ℚ (k +ℚ j) *ℚ (f *ℚ g)
+    together x k j f g = simp ring
 
 -- ---- over the weights of items
 
@@ -91,8 +97,8 @@ module _ (items : List Item) (T : ℕ) (v : Fraction) (T_pos : 0 < T) where
       sums_by_number v chance g s ∙ ap (λ t. v /ℚ whole (suc s) *ℚ t) (sum_of_amounts items T T_pos chance (λ x. refl) g s))
 
   pub geometric_outward : {B : ℕ} (grid : List (Iv B)) → FollowsRounded false (λ s. v /ℚ (whole 1 +ℚ v)) items T grid
-      → FollowsOutward (2 ^ B) (length grid) (v /ℚ (whole 1 +ℚ v)) (whole 0) chance (low_at grid) (high_at grid)
+      → FollowsOutward (2 ^ B) (length grid) (v /ℚ (whole 1 +ℚ v)) (v /ℚ (whole 1 +ℚ v)) chance (low_at grid) (high_at grid)
   geometric_outward grid =
-      outward false (λ s. v /ℚ (whole 1 +ℚ v)) items T grid (v /ℚ (whole 1 +ℚ v)) (whole 0) T_pos (λ g s.
-      sums_by_rate (v /ℚ (whole 1 +ℚ v)) chance g s
-      ∙ ap (λ t. v /ℚ (whole 1 +ℚ v) *ℚ t) (sum_of_weights items T T_pos chance (λ x. refl) g s))
+      let x = v /ℚ (whole 1 +ℚ v) in
+      outward false (λ s. x) items T grid x x T_pos (λ g s. sums_by_rate x chance g s
+      ∙ ap (λ t. x *ℚ t) (sum_of_weights items T T_pos chance (λ y. refl) g s))

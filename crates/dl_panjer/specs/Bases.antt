@@ -49,10 +49,10 @@ IsGeometricBase sev beta grid =
 
 -- With the recursion r over f, the low end of each cell s is at most, and its high end at least,
 -- r s times that of cell 0; the high end where no cell up to s reaches 1.
-pub record StandsByRecursion {B : ℕ} (a b : Fraction) (f : ℕ → Fraction)
+pub record StandsByRecursion {B : ℕ} (a c : Fraction) (f : ℕ → Fraction)
     (grid : List (Iv B)) : Type 0 where
-  pub low : (r : ℕ → Fraction) → Recursion a b f r → (s : ℕ) → s < length grid
+  pub low : (r : ℕ → Fraction) → Recursion a c f r → (s : ℕ) → s < length grid
       → whole (low_at grid s) ≤ℚ whole (low_at grid 0) *ℚ r s
-  pub high : (r : ℕ → Fraction) → Recursion a b f r → (s : ℕ) → s < length grid
+  pub high : (r : ℕ → Fraction) → Recursion a c f r → (s : ℕ) → s < length grid
       → ((k : ℕ) → k ≤ s → high_at grid k < 2 ^ B)
       → whole (high_at grid 0) *ℚ r s ≤ℚ whole (high_at grid s)

@@ -59,7 +59,7 @@ pub fn geometric_base<const B: u32>(
         (whole (2 ^ B) /ℚ (whole 1 +ℚ mean /ℚ whole shape)) (high_at g 0)) }
     ensures follows { IfOk result (λ g. IsGeometricBase sev.now (mean /ℚ whole shape) g) }
     ensures encloses { IfOk result (λ g. GridEncloses g
-        (compound (gamma_of 1 (mean /ℚ whole shape)) (probability_of sev.now))) }
+        (compound (gamma_of (whole 1) (mean /ℚ whole shape)) (probability_of sev.now))) }
     ensures spread { IfOk result (λ g. spread g ≤ up
         (whole (4 * cells + 1) *ℚ (whole 1 +ℚ mean /ℚ whole shape))) }
 {

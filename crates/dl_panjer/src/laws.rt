@@ -15,11 +15,11 @@ ghost use Rattle.dl_panjer.specs.Bases.{IsPoissonBase, IsGeometricBase, StandsBy
 /// In a grid that follows the recursion `r` outward, the low end of cell `s` is at most `r s` times
 /// that of cell 0, and its high end at least, while no high end has reached the scale.
 pub fn law_outward()
-    ensures low { (scale cells : ℕ) (a b : Fraction) (f : ℕ → Fraction) (lo hi : ℕ → ℕ)
-        → FollowsOutward scale cells a b f lo hi → (r : ℕ → Fraction) → Recursion a b f r
+    ensures low { (scale cells : ℕ) (a c : Fraction) (f : ℕ → Fraction) (lo hi : ℕ → ℕ)
+        → FollowsOutward scale cells a c f lo hi → (r : ℕ → Fraction) → Recursion a c f r
         → (s : ℕ) → s < cells → whole (lo s) ≤ℚ whole (lo 0) *ℚ r s }
-    ensures high { (scale cells : ℕ) (a b : Fraction) (f : ℕ → Fraction) (lo hi : ℕ → ℕ)
-        → FollowsOutward scale cells a b f lo hi → (r : ℕ → Fraction) → Recursion a b f r
+    ensures high { (scale cells : ℕ) (a c : Fraction) (f : ℕ → Fraction) (lo hi : ℕ → ℕ)
+        → FollowsOutward scale cells a c f lo hi → (r : ℕ → Fraction) → Recursion a c f r
         → (s : ℕ) → s < cells → ((k : ℕ) → k ≤ s → hi k < scale)
         → whole (hi 0) *ℚ r s ≤ℚ whole (hi s) }
 {}
@@ -27,8 +27,8 @@ pub fn law_outward()
 /// Such a grid encloses the compound sum where its cell 0 holds the reciprocal of the sum of the
 /// count's weights.
 pub fn law_base()
-    ensures { (scale cells : ℕ) (a b : Fraction) (f w : ℕ → Fraction) (lo hi : ℕ → ℕ)
-        → FollowsOutward scale cells a b f lo hi → f 0 ≡ whole 0 → IsPanjer a b w → 0 < scale
+    ensures { (scale cells : ℕ) (a c : Fraction) (f w : ℕ → Fraction) (lo hi : ℕ → ℕ)
+        → FollowsOutward scale cells a c f lo hi → f 0 ≡ whole 0 → IsPanjer a c w → 0 < scale
         → IsWithinOne f
         → Holds (λ N. whole 1) (λ N. sum_to N w) (lo 0 over scale) (hi 0 over scale)
         → Encloses scale cells lo hi (compound w f) }
@@ -42,9 +42,8 @@ pub fn law_two_roundings()
         (high_at grid) }
     ensures geometric { (B : ℕ) (sev : Sev) (beta : Fraction) (grid : List (Iv B))
         → IsGeometricBase sev beta grid
-        → FollowsOutward (2 ^ B) (length grid) (beta /ℚ (whole 1 +ℚ beta)) (whole 0)
-        (probability_of sev)
-        (low_at grid) (high_at grid) }
+        → FollowsOutward (2 ^ B) (length grid) (beta /ℚ (whole 1 +ℚ beta))
+        (beta /ℚ (whole 1 +ℚ beta)) (probability_of sev) (low_at grid) (high_at grid) }
 {}
 
 /// A Poisson grid encloses the compound sum of mean `v` where its cell 0 holds the reciprocal of
@@ -64,7 +63,7 @@ pub fn law_geometric_base()
         → IsGeometricBase sev beta grid
         → probability_of sev 0 ≡ whole 0 → low_at grid 0 over 2 ^ B ≤ℚ whole 1 /ℚ (whole 1 +ℚ beta)
         → whole 1 /ℚ (whole 1 +ℚ beta) ≤ℚ high_at grid 0 over 2 ^ B
-        → GridEncloses grid (compound (gamma_of 1 beta) (probability_of sev)) }
+        → GridEncloses grid (compound (gamma_of (whole 1) beta) (probability_of sev)) }
 {}
 
 /// The ends of each cell are to those of cell 0 as Panjer's recursion says.
@@ -74,7 +73,8 @@ pub fn law_stands()
         → StandsByRecursion (whole 0) v (probability_of sev) grid }
     ensures geometric { (B : ℕ) (sev : Sev) (beta : Fraction) (grid : List (Iv B))
         → IsGeometricBase sev beta grid
-        → StandsByRecursion (beta /ℚ (whole 1 +ℚ beta)) (whole 0) (probability_of sev) grid }
+        → StandsByRecursion (beta /ℚ (whole 1 +ℚ beta)) (beta /ℚ (whole 1 +ℚ beta))
+        (probability_of sev) grid }
 {}
 
 /// An interval encloses the exponential exactly where it holds 1 over the sums of its series; and

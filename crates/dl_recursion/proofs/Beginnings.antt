@@ -6,7 +6,7 @@ use Rattle.dl_model.proofs.Gamma.{geometric_low, geometric_least}
 -- ---- geometric
 
 pub geometric_holds : (n r l h T : ℕ) → 0 < r → 0 < T → l * (n + r) ≤ r * T → r * T ≤ h * (n + r)
-    → Holds (λ N. whole 1) (λ N. sum_to N (gamma 1 (n over (n + r)))) (l over T) (h over T)
+    → Holds (λ N. whole 1) (λ N. sum_to N (gamma (whole 1) (n over (n + r)))) (l over T) (h over T)
 geometric_holds n r l h T rp Tp p q =
     let x = n over (n + r) in
     let d = r over (n + r) in
@@ -19,7 +19,7 @@ geometric_holds n r l h T rp Tp p q =
     let dp : whole 0 <ℚ d = over_lt 0 1 r (n + r) one_pos ap' (omega (arith, rp)) in
     let low : l over T ≤ℚ d = over_le l T r (n + r) Tp ap' p in
     let high : d ≤ℚ h over T = over_le r (n + r) h T ap' Tp q in (
-      (λ N u b. le_trans _ _ _ (times_le_times _ _ (sum_to N (gamma 1 x)) low)
+      (λ N u b. le_trans _ _ _ (times_le_times _ _ (sum_to N (gamma (whole 1) x)) low)
           (le_trans _ _ _ (geometric_low x d one N) (b zero))),
       (λ N u b. rw (times_comm d L, Ld) at
           (times_le_both d (h over T) L u high ((geometric_least x d one L dp Ld).1 u b))),

@@ -104,29 +104,35 @@ module _ (f w : ℕ → Fraction) (z : f zero ≡ whole 0) (severity : IsWithinO
 -- ---- the recursion in whole numbers
 
 pub follows : (f w : ℕ → Fraction) (x : Fraction) (a b q : ℕ) (parts : List Part) → f zero ≡ whole 0
-    → IsPanjer (whole a *ℚ x) (whole b *ℚ x) w → IsScaled parts q x f → FollowsInWhole parts a b q (λ s. cell w f s s)
+    → IsPanjer (whole a *ℚ x) (whole (a + b) *ℚ x) w → IsScaled parts q x f
+    → FollowsInWhole parts a b q (λ s. cell w f s s)
 follows f w x a b q parts z P W =
     let r : ℕ → Fraction = λ s. cell w f s s in
-    let R : Recursion (whole a *ℚ x) (whole b *ℚ x) f r = recursion_there f w (whole a *ℚ x) (whole b *ℚ x) z P in
+    let c : Fraction = whole (a + b) *ℚ x in
+    let R : Recursion (whole a *ℚ x) c f r = recursion_there f w (whole a *ℚ x) c z P in
     record {
       start = R.start;
       next = λ n.
           ap (λ t. t *ℚ r (suc n)) (whole_times q (suc n)) ∙ turn (whole q) (whole (suc n)) (r (suc n))
-          ∙ ap (λ t. whole q *ℚ t) (recursion_next f w (whole a *ℚ x) (whole b *ℚ x) z P r R n)
+          ∙ ap (λ t. whole q *ℚ t) (recursion_next f w (whole a *ℚ x) c z P r R n)
           ∙ sym (sum_pairs_times n (whole q)
-          (λ i k. (whole a *ℚ x *ℚ whole (suc n) +ℚ whole b *ℚ x *ℚ whole (suc i)) *ℚ f (suc i) *ℚ r k))
+          (λ i k. (whole a *ℚ x *ℚ whole k +ℚ c *ℚ whole (suc i)) *ℚ f (suc i) *ℚ r k))
           ∙ sum_pairs_same n _ _ (λ i k e.
-          each (whole q) (whole a) x (whole (suc n)) (whole b) (whole (suc i)) (f (suc i)) (r k)
-          ∙ ap₂ (λ s t. s *ℚ t *ℚ r k) (factor n i) (W (suc i))
+          each (whole q) (whole a) x (whole k) (whole (a + b)) (whole (suc i)) (f (suc i)) (r k)
+          ∙ ap₂ (λ s t. s *ℚ t *ℚ r k) (factor n i k e) (W (suc i))
           ∙ ap (λ t. t *ℚ r k) (sym (whole_times (a * suc n + b * suc i) (part_at parts (suc i)))));
     }
   where
-    turn : (q s r : Fraction) → q *ℚ s *ℚ r ≡ q *ℚ (r *ℚ s)
+    turn : (q s r : Fraction) → q *ℚ s *ℚ r ≡ q *ℚ (s *ℚ r)
     turn q s r = simp ring
 
-    each : (q a x s b i f r : Fraction)
-        → q *ℚ ((a *ℚ x *ℚ s +ℚ b *ℚ x *ℚ i) *ℚ f *ℚ r) ≡ (a *ℚ s +ℚ b *ℚ i) *ℚ (q *ℚ (x *ℚ f)) *ℚ r
-    each q a x s b i f r = simp ring
+    each : (q a x k c i f r : Fraction)
+        → q *ℚ ((a *ℚ x *ℚ k +ℚ c *ℚ x *ℚ i) *ℚ f *ℚ r) ≡ (a *ℚ k +ℚ c *ℚ i) *ℚ (q *ℚ (x *ℚ f)) *ℚ r
+    each q a x k c i f r = simp ring
 
-    factor : (n i : ℕ) → whole a *ℚ whole (suc n) +ℚ whole b *ℚ whole (suc i) ≡ whole (a * suc n + b * suc i)
-    factor n i = grind (arith, whole_times a (suc n), whole_times b (suc i), whole_plus (a * suc n) (b * suc i))
+    factor : (n i k : ℕ) → i + k ≡ n
+        → whole a *ℚ whole k +ℚ whole (a + b) *ℚ whole (suc i) ≡ whole (a * suc n + b * suc i)
+    factor n i k e =
+        let m : a * k + (a + b) * suc i ≡ a * suc n + b * suc i = omega (arith, ap (λ t. a * t) e) in
+        ap₂ (λ s t. s +ℚ t) (sym (whole_times a k)) (sym (whole_times (a + b) (suc i)))
+        ∙ sym (whole_plus (a * k) ((a + b) * suc i)) ∙ ap whole m

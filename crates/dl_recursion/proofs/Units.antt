@@ -16,7 +16,7 @@ shares num den s d p =
     ∙ over_same _ _ _ _ (mul-pos one_pos (mul-pos p d)) d (omega arith))
 
 -- as many geometric counts as the shape says, together
-pub shapes : (x : Fraction) (s : ℕ) → 0 < s → power (gamma 1 x) s ≡ gamma s x
+pub shapes : (x : Fraction) (s : ℕ) → 0 < s → power (gamma (whole 1) x) s ≡ gamma (whole s) x
 shapes x zero p = absurd (omega (arith, p))
 shapes x (suc s) p = gamma_power s x
 
@@ -91,12 +91,14 @@ chance_scaled base total num w v ratio b t is e =
 
 -- ---- the two classes
 
-pub poisson_steps : (v : Fraction) → IsPanjer (whole 0 *ℚ v) (whole 1 *ℚ v) (poisson v)
+pub poisson_steps : (v : Fraction) → IsPanjer (whole 0 *ℚ v) (whole (0 + 1) *ℚ v) (poisson v)
 poisson_steps v = rw (zero_times, one_times) (poisson_class v)
 
-pub gamma_steps : (s b : ℕ) (x : Fraction) → 0 < s → b ≡ s - 1 → IsPanjer (whole 1 *ℚ x) (whole b *ℚ x) (gamma s x)
-gamma_steps zero b x p e = absurd (omega (arith, p))
-gamma_steps (suc s) b x p e = grind (arith, gamma_class s x, one_times)
+pub gamma_steps : (s b : ℕ) (x : Fraction) → 0 < s → b ≡ s - 1
+    → IsPanjer (whole 1 *ℚ x) (whole (1 + b) *ℚ x) (gamma (whole s) x)
+gamma_steps s b x p e =
+    let m : 1 + b ≡ s = omega (arith, p, e) in
+    rw (one_times, m) (gamma_class (whole s) x)
 
 pub contribution_is : (num den s : ℕ) → 0 < den → 0 < s
     → num over (num + s * den) ≡ num over den /ℚ (whole s +ℚ num over den)

@@ -109,7 +109,7 @@ fn compound_direct<const B: u32>(
     ensures cells { IfOk result (λ made. IfSome made (λ g. length g ≡ cells)) }
     ensures encloses { IfOk result (λ made. IfSome made (λ g. (w : ℕ → Fraction)
         → IsPanjer (whole steps.constant *ℚ steps.numerator over steps.denominator)
-        (whole steps.inverse *ℚ steps.numerator over steps.denominator) w
+        (whole (steps.constant + steps.inverse) *ℚ steps.numerator over steps.denominator) w
         → HoldsNoClaim w start → GridEncloses g (compound w (probability_of sev.now)))) }
 {
     let divisor = u128::from(steps.denominator) * u128::from(sev.total);
@@ -182,7 +182,7 @@ pub fn gamma_direct<const B: u32>(
     requires admitted { HasPartsOf48Bits mean }
     ensures cells { IfOk result (λ made. IfSome made (λ g. length g ≡ cells)) }
     ensures encloses { IfOk result (λ made. IfSome made (λ g.
-        GridEncloses g (compound (gamma_of shape mean) (probability_of sev.now)))) }
+        GridEncloses g (compound (gamma_of (whole shape) mean) (probability_of sev.now)))) }
 {
     let start = gamma_start(mean.num(), mean.den(), shape);
     let steps = Steps {

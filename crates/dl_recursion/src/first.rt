@@ -2,7 +2,7 @@
 
 ghost use Rattle.std.specs.Prelude.{◌≡◌, ◌+◌, ◌*◌, ◌^◌, ◌<◌, ◌≤◌};
 ghost use Rattle.dl_limits.specs.Limits.{most_expected, most_shape, admitted_bound};
-ghost use Rattle.dl_exact.specs.Fraction.{◌over◌};
+ghost use Rattle.dl_exact.specs.Fraction.{whole, ◌over◌};
 ghost use Rattle.dl_model.specs.Counts.{poisson, gamma};
 ghost use Rattle.dl_recursion.specs.Start.{HoldsNoClaim};
 
@@ -16,7 +16,7 @@ fn geometric_start(num: u64, rest: u64) -> Scaled
     requires positive { 0 < rest }
     requires room { num + rest < 2 ^ 64 }
     ensures exponent { result.exponent ≡ 63 }
-    ensures holds { HoldsNoClaim (gamma 1 (num over (num + rest))) result }
+    ensures holds { HoldsNoClaim (gamma (whole 1) (num over (num + rest))) result }
 {
     let all = u128::from(num + rest);
     let part = u128::from(rest) * SERIES_ONE;
@@ -82,7 +82,7 @@ pub(crate) fn gamma_start(num: u64, den: u64, shape: u32) -> Scaled
     requires den_small { den < admitted_bound }
     requires shape_positive { 0 < shape }
     requires shape_small { shape ≤ most_shape }
-    ensures holds { HoldsNoClaim (gamma shape (num over (num + shape * den))) result }
+    ensures holds { HoldsNoClaim (gamma (whole shape) (num over (num + shape * den))) result }
 {
     power_of(geometric_start(num, u64::from(shape) * den), shape)
 }

@@ -18,6 +18,7 @@ use Rattle.dl_model.specs.Series.{IsLeastBound, Rises, times}
 use Rattle.dl_model.proofs.Alike.{AreLevel, level_both, level_same, level_trans, same_value}
 use Rattle.dl_model.proofs.Declared.{rises_to}
 use Rattle.dl_model.proofs.FamilyLaws.{rises_times, sum_rises, sum_rises_to}
+use Rattle.dl_exact.proofs.Laws.{whole_suc}
 use Rattle.dl_model.proofs.Gamma.{gamma_next, gamma_one_more, gamma_shift}
 use Rattle.dl_model.proofs.GammaThin.{gamma_of_least, mean_pos, shape_pos, share_of}
 use Rattle.dl_model.proofs.Itself.{level_sum, rows_level}
@@ -91,23 +92,23 @@ module _ (q : ℕ) (m : Fraction) where
   W = r +ℚ m
 
   abbrev own : ℕ → Fraction
-  own = gamma (suc q) (m /ℚ W)
+  own = gamma (whole (suc q)) (m /ℚ W)
 
   abbrev more : ℕ → Fraction
-  more = gamma (suc (suc q)) (m /ℚ W)
+  more = gamma (whole (suc (suc q))) (m /ℚ W)
 
   abbrev few : ℕ → Fraction
-  few = gamma 1 (m /ℚ W)
+  few = gamma (whole 1) (m /ℚ W)
 
   one_apart : (n : ℕ) → own (suc n) *ℚ whole (suc n) ≡ r *ℚ (m /ℚ W) *ℚ more n
   one_apart n =
       let c = m /ℚ W in
-      times_comm _ _ ∙ gamma_next q c n ∙ times_left_comm _ c (own n)
-      ∙ ap (λ t. c *ℚ t) (sym (gamma_shift q c n)) ∙ simp ring
+      times_comm _ _ ∙ gamma_next r c n ∙ times_left_comm _ c (own n)
+      ∙ ap (λ t. c *ℚ t) (sym (gamma_shift r c n) ∙ ap (λ s. r *ℚ gamma s c n) (sym (whole_suc (suc q)))) ∙ simp ring
 
   -- the extra count has the same ratio
-  extra_weights : gamma_of 1 (m /ℚ r) ≡ few
-  extra_weights = ap (gamma 1) (share_of r (m /ℚ r) m (shape_pos q m)
+  extra_weights : gamma_of (whole 1) (m /ℚ r) ≡ few
+  extra_weights = ap (gamma (whole 1)) (share_of r (m /ℚ r) m (shape_pos q m)
       (times_comm r (m /ℚ r) ∙ div_times m r (shape_pos q m)))
 
   -- and added to the unit's one more in the shape

@@ -88,9 +88,9 @@ module _ (units : List UnitOfPlan) (q : ℕ) (factor : HasCommonFactor (suc q) u
   past a far = sym (is.severity a) ∙ (shares_severity made.sev.items made.sev.total made.sev.weighted).past a far
 
   raised_family : compound_of made.freq made.sev
-      ≡ compound (gamma_of (suc (suc q)) (raised (suc q) (expected_claims us))) (pooled_severity us)
+      ≡ compound (gamma_of (whole (suc (suc q))) (raised (suc q) (expected_claims us))) (pooled_severity us)
   raised_family = ap₂ compound
-      (ap count_weights is.count ∙ ap (λ v. gamma_of (suc (suc q)) (raised (suc q) v)) (sym (expected_units units)))
+      (ap count_weights is.count ∙ ap (λ v. gamma_of (whole (suc (suc q))) (raised (suc q) v)) (sym (expected_units units)))
       (fun_ext is.severity)
 
   abbrev all : Series

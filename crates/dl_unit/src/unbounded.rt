@@ -81,7 +81,7 @@ pub fn gamma_claims<const B: u32>(
     requires shape_below { shape ≤ most_shape }
     ensures cells { IfOk result (λ g. length g ≡ cells) }
     ensures encloses { IfOk result (λ g.
-        GridEncloses g (times_itself (compound (gamma_of 1 (mean /ℚ whole shape))
+        GridEncloses g (times_itself (compound (gamma_of (whole 1) (mean /ℚ whole shape))
         (probability_of sev.now)) shape)) }
     ensures spread { IfOk result (λ g. spread g ≤ gamma_budget (2 ^ B) cells shape mean) }
 {

@@ -46,7 +46,7 @@ returns g c =
       start_low = told (λ g. IsFloor (whole (2 ^ B) /ℚ (whole 1 +ℚ v)) (low_at g 0)) low;
       start_high = told (λ g. IsCeiling (whole (2 ^ B) /ℚ (whole 1 +ℚ v)) (high_at g 0)) high;
       follows = told (IsGeometricBase c.args.sev.now v) (geometric_is_base c.args.sev.now v list made);
-      encloses = told (λ g. GridEncloses g (compound (gamma_of 1 v) (probability_of c.args.sev.now)))
+      encloses = told (λ g. GridEncloses g (compound (gamma_of (whole 1) v) (probability_of c.args.sev.now)))
           (geometric_encloses v made (floor_start B v _ low) (ceiling_start B v _ high));
       spread = told (λ g. spread g ≤ up (whole (4 * c.args.cells + 1) *ℚ (whole 1 +ℚ v)))
           (geometric_widths v made (rw (← first.rate) first.within)

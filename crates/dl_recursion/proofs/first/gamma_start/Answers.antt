@@ -1,4 +1,4 @@
-use Rattle.dl_recursion.proofs.Common.{◌+◌, ◌*◌, ◌over◌, gamma}
+use Rattle.dl_recursion.proofs.Common.{◌+◌, ◌*◌, ◌over◌, whole, gamma}
 use Rattle.dl_recursion.proofs.Units.{shapes}
 use Rattle.dl_recursion.proofs.first.gamma_start.Goals as goal
 
@@ -6,4 +6,4 @@ pub returns : goal.returns
 returns c =
     let x = c.args.num over (c.args.num + c.args.shape * c.args.den) in
     let h = rw c.from.ensures at c.geometric_start.ensures.holds in
-    record { holds = rw (← shapes x c.args.shape c.requires.shape_positive) (c.power_of.ensures.holds (gamma 1 x) h) }
+    record { holds = rw (← shapes x c.args.shape c.requires.shape_positive) (c.power_of.ensures.holds (gamma (whole 1) x) h) }

@@ -5,7 +5,7 @@ use Rattle.dl_unit.proofs.unbounded.gamma_claims.Goals as goal
 pub returns-clause-encloses : goal.returns-clause-encloses
 returns-clause-encloses g c =
     IfOk-weaker c.power.result _ _ (λ grid copies.
-    copies _ (compound_proper (gamma_of 1 (c.args.mean /ℚ whole c.args.shape)) (probability_of c.args.sev.now)
+    copies _ (compound_proper (gamma_of (whole 1) (c.args.mean /ℚ whole c.args.shape)) (probability_of c.args.sev.now)
     (within_one c.args.sev.now)) c.in_ok-base.ensures.encloses) c.power.ensures.encloses
 
 pub returns-clause-spread : goal.returns-clause-spread
