@@ -28,3 +28,4 @@ mod ClaimSums
 mod JointMost
 mod TailJoints
 mod TailEnds
+pub mod Origins

@@ -27,7 +27,8 @@
 //! (`law_unit_mean`, `law_plan_unit_mean`).
 //!
 //! `Drawn` has the grids and means that all rows of a plan are drawn from, and for each unit where
-//! its joint means come from (`AreDrawnOf`).
+//! its joint means come from (`AreDrawnOf`); `source_of` gives the source of a unit, over the running
+//! sums of the grids, which `sums_of` marks once (`IsSourceOf`).
 #![tactic(auto)]
 
 mod beside;
@@ -46,5 +47,5 @@ mod weighted;
 
 pub use beside::joint_mean;
 pub use conditional::conditional_mean;
-pub use drawn::{Drawn, Origin};
+pub use drawn::{Drawn, Origin, source_of, sums_of};
 pub use source::{Beside, OverClaims, ShareSource};
