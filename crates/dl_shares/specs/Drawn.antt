@@ -1,6 +1,6 @@
 -- The grids and means that the rows of a plan are drawn from: what each of them holds, and how wide
 -- it may be.
-use Rattle.std.specs.Prelude.{ℕ, ◌≡◌, ◌+◌, ◌<◌, ◌≤◌, ◌^◌, ⊤, ⊥, None, All, List, [], ◌∷◌, length, get_or}
+use Rattle.std.specs.Prelude.{ℕ, ◌≡◌, ◌+◌, ◌<◌, ◌≤◌, ◌^◌, ⊤, None, All, List, [], ◌∷◌, length, get_or}
 use Rattle.dl_exact.specs.Fraction.{Fraction, ◌over◌}
 use Rattle.dl_limits.specs.Limits.{budget_bound, most_mean, most_unit_mean}
 use Rattle.dl_iv.specs.declared.interval.Iv.{Iv}
@@ -25,10 +25,10 @@ Declares plan quantity l h = Holds (declared plan quantity) (declared plan One) 
 -- ---- units
 
 -- a grid of so many cells of a unit's outcomes, within its budget
-pub record IsUnitGrid {B : ℕ} (cells : ℕ) (u : UnitOfPlan) (g : List (Iv B)) : Type 0 where
-  pub cells : length g ≡ cells
+pub record IsUnitGrid {B : ℕ} (many : ℕ) (u : UnitOfPlan) (g : List (Iv B)) : Type 0 where
+  pub cells : length g ≡ many
   pub encloses : GridEncloses g (loss_of u).family
-  pub narrow : spread g ≤ unit_budget (2 ^ B) cells u
+  pub narrow : spread g ≤ unit_budget (2 ^ B) many u
 
 -- the mean of a unit's outcomes, within its budget
 pub record IsUnitMean {B : ℕ} (cells : ℕ) (u : UnitOfPlan) (mean : Iv B) : Type 0 where
@@ -99,11 +99,11 @@ pub record IsSourceOf {B : ℕ} (plan : Plan) (i : ℕ) (source : ShareSource B)
 -- ---- what is drawn
 
 -- the units are independent; the grid of unit i, and that of the sum of all others
-pub record AreBeside {B : ℕ} (plan : Plan) (drawn : Drawn B) (i : ℕ) (others : List (Iv B)) : Type 0 where
+pub record AreBeside {B : ℕ} (plan : Plan) (drawn : Drawn B) (i : ℕ) (rest : List (Iv B)) : Type 0 where
   pub independent : plan.common ≡ None
   pub there : i < length drawn.units.items
   pub unit : IsGridOfUnit plan i (get_or drawn.units.items i [])
-  pub others : AreOthersOf plan i others
+  pub others : AreOthersOf plan i rest
 
 -- the grid with number k is one that the claims of unit i go over
 pub record IsClaimsNumber {B : ℕ} (plan : Plan) (drawn : Drawn B) (i k : ℕ) : Type 0 where
