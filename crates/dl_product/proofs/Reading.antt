@@ -1,5 +1,5 @@
 -- The ends of a grid's cells as lists.
-use Rattle.dl_product.proofs.Common.{ℕ, ◌≡◌, ◌+◌, ◌*◌, ◌<◌, ◌≤◌, List, length, get_or, arith, ap₂, ◌∙◌, sym, get_or_past, pair_sum, pairs_same, ends_fit}
+use Rattle.dl_product.proofs.Common.{ℕ, ◌≡◌, ◌+◌, ◌*◌, ◌<◌, ◌≤◌, List, [], length, get_or, arith, ap₂, ◌∙◌, sym, get_or_past, pair_sum, pairs_same, ends_fit}
 use Rattle.std.proofs.Common.{All, ◌^◌, ◌%◌}
 use Rattle.std.proofs.lemmas.List.{get_or_default}
 use Rattle.dl_iv.specs.declared.interval.Iv.{Iv}
@@ -49,9 +49,17 @@ module _ {B : ℕ} (g : List (Iv B)) (start e step : ℕ) (window : IsWindow (hi
 
 pub words_of : (a u h : List ℕ) → length u ≡ length a → AreWidths a u h → ((k : ℕ) → get_or h k 0 ≤ 2 ^ 56) → AreWords a u
 words_of a u h long each small = record {
-  alike = long;
+  within = omega (arith, long);
   low = λ k d inside. rw (get_or_default a k d 0 inside) (omega (arith, each k, small k));
   width = λ k d inside. rw (get_or_default u k d 0 inside) (omega (arith, each k, small k));
+}
+
+-- numbers of at most 2^56 are the low ends of cells with no widths
+pub words_alone : (a : List ℕ) → ((k : ℕ) → get_or a k 0 ≤ 2 ^ 56) → AreWords a []
+words_alone a small = record {
+  within = omega arith;
+  low = λ k d inside. rw (get_or_default a k d 0 inside) (omega (arith, small k));
+  width = λ k d inside. absurd (omega (arith, inside));
 }
 
 pub ends_sum : (a u h b v k : List ℕ) (s : ℕ) → AreWidths a u h → AreWidths b v k → high_sum a u b v s ≡ pair_sum h k s

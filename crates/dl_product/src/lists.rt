@@ -46,7 +46,8 @@ impl Lists {
         }
     }
 
-    /// The cells of a grid in a window of its high ends, where those that are not 0 lie `step` apart.
+    /// The cells of a grid in a window of its high ends, where those that are not 0 lie `step`
+    /// apart.
     pub(crate) fn read<'a, const B: u32>(
         &'a mut self,
         grid: &Grid<B>,

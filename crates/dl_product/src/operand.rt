@@ -6,8 +6,8 @@ ghost use Rattle.dl_product.specs.Ends.{AreWidths};
 use crate::ends::Ends;
 use dl_transform::Cells;
 
-/// The cells of a grid that lie `step` apart from the start of its high ends on, as low ends and widths;
-/// its high ends; and its low ends alone, from their own start on.
+/// The cells of a grid that lie `step` apart from the start of its high ends on, as low ends and
+/// widths; its high ends; and its low ends alone, from their own start on.
 #[derive(Clone, Copy)]
 pub(crate) struct Operand<'a> {
     pub(crate) cells: Cells<'a>,

@@ -33,8 +33,8 @@ impl Workspace {
     }
 }
 
-/// The first `cells` cells of the convolution of `a` and `b`, of which `first` and `second` have what is
-/// not 0. Where there is no `second`, both grids are one.
+/// The first `cells` cells of the convolution of `a` and `b`, of which `first` and `second` have
+/// what is not 0. Where there is no `second`, both grids are one.
 fn convolved<const B: u32>(
     alloc: Global,
     room: &mut Room,
@@ -50,7 +50,8 @@ fn convolved<const B: u32>(
     requires first { HoldsCells a.now first }
     requires second { HoldsCells b.now (unwrap_or second first) }
     requires step { (unwrap_or second first).step ≡ first.step }
-    ensures spread { IfOk result (λ g. spread g ≤ convolution_spread (2 ^ B) cells (spread a.now) (spread b.now)) }
+    ensures spread { IfOk result (λ g.
+        spread g ≤ convolution_spread (2 ^ B) cells (spread a.now) (spread b.now)) }
     ensures convolution { IfOk result (λ g. IsConvolution cells a.now b.now g) }
     ensures cells { IfOk result (λ g. length g ≡ cells) }
 {
@@ -73,7 +74,8 @@ pub fn product<const B: u32>(
     requires in_first { cells ≤ length a.now }
     requires some { 1 ≤ cells }
     requires in_second { cells ≤ length b.now }
-    ensures spread { IfOk result (λ g. spread g ≤ convolution_spread (2 ^ B) cells (spread a.now) (spread b.now)) }
+    ensures spread { IfOk result (λ g.
+        spread g ≤ convolution_spread (2 ^ B) cells (spread a.now) (spread b.now)) }
     ensures convolution { IfOk result (λ g. IsConvolution cells a.now b.now g) }
     ensures cells { IfOk result (λ g. length g ≡ cells) }
 {
@@ -96,7 +98,8 @@ pub fn square<const B: u32>(
     requires in_first { cells ≤ length a.now }
     ensures cells { IfOk result (λ g. length g ≡ cells) }
     ensures convolution { IfOk result (λ g. IsConvolution cells a.now a.now g) }
-    ensures spread { IfOk result (λ g. spread g ≤ convolution_spread (2 ^ B) cells (spread a.now) (spread a.now)) }
+    ensures spread { IfOk result (λ g.
+        spread g ≤ convolution_spread (2 ^ B) cells (spread a.now) (spread a.now)) }
 {
     let window = window_of(a.highs());
     let step = common_step(window.part(a.highs()), window.part(a.highs()));

@@ -29,8 +29,8 @@ fn step_with(xs: &[u128], step: u32) -> u32
     step
 }
 
-/// The greatest common divisor of the places of the items of two lists that are not 0; 1 where no item
-/// past the first is.
+/// The greatest common divisor of the places of the items of two lists that are not 0; 1 where no
+/// item past the first is.
 pub(crate) fn common_step(a: &[u128], b: &[u128]) -> usize
     requires first { length a.now ≤ most_cells }
     requires second { length b.now ≤ most_cells }

@@ -1,21 +1,23 @@
 //! The sums of products of the ends of two operands: of both kinds at once by transforms, or of one
 //! kind after the other, by transforms or plainly.
 
-ghost use Rattle.std.specs.Prelude.{◌≡◌, ℕ, ◌+◌, ◌*◌, ◌^◌, ◌<◌, ◌≤◌, true, length, get_or, unwrap_or, IfOk, IfSome};
+ghost use Rattle.std.specs.Prelude.{◌≡◌, ℕ, ◌+◌, ◌*◌, ◌^◌, ◌<◌, ◌≤◌};
+ghost use Rattle.std.specs.Prelude.{true, length, get_or, unwrap_or, IfOk, IfSome};
 ghost use Rattle.dl_limits.specs.Limits.{most_cells};
 ghost use Rattle.dl_exact.specs.Count.{count_pairs};
-ghost use Rattle.dl_conv.specs.Sums.{pair_sum, ItemsFit};
-ghost use Rattle.dl_transform.specs.Products.{other};
+ghost use Rattle.dl_conv.specs.Sums.{ItemsFit};
+ghost use Rattle.dl_transform.specs.Products.{other, AreHighSums, AreLowSums};
+ghost use Rattle.dl_transform.specs.declared.cells.Cells.{Cells};
 ghost use Rattle.dl_product.specs.declared.ends.Ends.{Ends};
 ghost use Rattle.dl_product.specs.declared.operand.Operand.{Operand};
-ghost use Rattle.dl_product.specs.Operand.{AreEndSums, AreFactors};
+ghost use Rattle.dl_product.specs.Operand.{AreEndSums, AreFactors, ArePairSums};
 ghost use Rattle.dl_product.specs.Places.{LieFrom};
 
 use crate::ends::Ends;
 use crate::operand::Operand;
 use crate::steps::{count_before, set_length, spread_out};
 use dl_conv::plain_sums;
-use dl_transform::{Buffers, Cells, Setup, list_product, product, set_up};
+use dl_transform::{Buffers, Cells, Setup, product, set_up};
 use std::alloc::{AllocError, Global};
 
 /// How many products of items of two lists take the time of one item of a transform at one level:
@@ -117,12 +119,13 @@ fn highs_of(b: Option<Operand<'_>>) -> Option<Ends<'_>>
     }
 }
 
-/// The items of ends that are there.
-fn items_of(b: Option<Ends<'_>>) -> Option<&[u128]>
-    ensures { (a : Ends) → (unwrap_or result a.items).now ≡ (unwrap_or b.entry a).items.now }
+/// The items of ends that are there, as cells with no widths.
+fn items_of(b: Option<Ends<'_>>) -> Option<Cells<'_>>
+    ensures { (a : Ends) → (first : Cells) → first.lows ≡ a.items
+        → (other first result).lows ≡ (unwrap_or b.entry a).items }
 {
     match b {
-        Some(b) => Some(b.items),
+        Some(b) => Some(b.cells()),
         None => None,
     }
 }
@@ -141,59 +144,35 @@ impl Tables {
         Ok(())
     }
 
-    /// Whether transforms of `2^levels` items find the sums of products of two operands, or of one
-    /// with itself; then `lows` and `highs` have the first of them.
+    /// Whether transforms of `2^levels` items find the first sums of products of two lists of
+    /// cells, or of one with itself, as many as `lows` and `highs` have room for; then these have
+    /// them.
     fn transform(
         &mut self,
         alloc: Global,
         levels: u32,
-        a: Operand<'_>,
-        b: Option<Operand<'_>>,
+        a: Cells<'_>,
+        b: Option<Cells<'_>>,
         lows: &mut [u128],
         highs: &mut [u128],
     ) -> Result<bool, AllocError>
         requires levels { levels < 40 }
-        requires paired { length highs.old ≡ length lows.old }
-        ensures low { IfOk result (λ found. found ≡ true → (s : ℕ) → s < length lows.old
-            → get_or lows.new s 0
-            ≡ pair_sum a.entry.cells.lows.now (unwrap_or b.entry a.entry).cells.lows.now s) }
-        ensures high { IfOk result (λ found. found ≡ true → (s : ℕ) → s < length lows.old
-            → get_or highs.new s 0
-            ≡ pair_sum a.entry.highs.items.now (unwrap_or b.entry a.entry).highs.items.now s) }
+        requires fewer { length highs.old ≤ length lows.old }
+        ensures low { IfOk result (λ found. found ≡ true
+            → AreLowSums a.entry (other a.entry b.entry) (length lows.old) lows.new) }
+        ensures high { IfOk result (λ found. found ≡ true
+            → AreHighSums a.entry (other a.entry b.entry) (length highs.old) highs.new) }
     {
         self.prepare(alloc, levels)?;
         let Some(setup) = &self.setup else {
             return Ok(false);
         };
-        let cells = cells_of(b);
-        product(alloc, a.cells, cells, setup, &mut self.buffers, lows, highs)
-    }
-
-    /// Whether they find those of two lists of ends; then `out` has the first of them.
-    fn transform_list(
-        &mut self,
-        alloc: Global,
-        levels: u32,
-        a: Ends<'_>,
-        b: Option<Ends<'_>>,
-        out: &mut [u128],
-    ) -> Result<bool, AllocError>
-        requires levels { levels < 40 }
-        requires fit { ItemsFit a.items.now (unwrap_or b a).items.now (length out.old) }
-        ensures { IfOk result (λ found. found ≡ true → (s : ℕ) → s < length out.old → get_or out.new s 0
-            ≡ pair_sum a.entry.items.now (unwrap_or b.entry a.entry).items.now s) }
-    {
-        self.prepare(alloc, levels)?;
-        let Some(setup) = &self.setup else {
-            return Ok(false);
-        };
-        let items = items_of(b);
-        list_product(alloc, a.items, items, setup, &mut self.buffers, out)
+        product(alloc, a, b, setup, &mut self.buffers, lows, highs)
     }
 }
 
-/// The first sums of products of two lists of ends, or of one with itself, as many as `out` has room
-/// for, the shorter way.
+/// The first sums of products of two lists of ends, or of one with itself, as many as `out` has
+/// room for, the shorter way.
 fn write_sums(
     alloc: Global,
     tables: &mut Tables,
@@ -202,13 +181,13 @@ fn write_sums(
     out: &mut [u128],
 ) -> Result<(), AllocError>
     requires { ItemsFit a.items.now (unwrap_or b a).items.now (length out.old) }
-    ensures { IfOk result (λ _. (s : ℕ) → s < length out.old → get_or out.new s 0
-        ≡ pair_sum a.entry.items.now (unwrap_or b.entry a.entry).items.now s) }
+    ensures { IfOk result (λ _.
+        ArePairSums a.entry (unwrap_or b.entry a.entry) (length out.old) out.new) }
 {
     let other = b.unwrap_or(a);
     let levels = levels_if_shorter(a.items.len(), other.items.len(), out.len());
     if let Some(levels) = levels {
-        if tables.transform_list(alloc, levels, a, b, out)? {
+        if tables.transform(alloc, levels, a.cells(), items_of(b), out, &mut [])? {
             return Ok(());
         }
     }
@@ -229,8 +208,8 @@ impl Room {
         }
     }
 
-    /// Whether transforms of `2^levels` items find the sums of products of both kinds of ends of two
-    /// operands at once; then the room has the first `count` of them.
+    /// Whether transforms of `2^levels` items find the sums of products of both kinds of ends of
+    /// two operands at once; then the room has the first `count` of them.
     fn multiply(
         &mut self,
         alloc: Global,
@@ -242,20 +221,22 @@ impl Room {
         requires { levels < 40 }
         ensures low_count { IfOk result (λ _. length self.new.lows.items ≡ count) }
         ensures high_count { IfOk result (λ _. length self.new.highs.items ≡ count) }
-        ensures low { IfOk result (λ found. found ≡ true → (s : ℕ) → s < count → get_or self.new.lows.items s 0
-            ≡ pair_sum a.entry.cells.lows.now (unwrap_or b.entry a.entry).cells.lows.now s) }
-        ensures high { IfOk result (λ found. found ≡ true → (s : ℕ) → s < count → get_or self.new.highs.items s 0
-            ≡ pair_sum a.entry.highs.items.now (unwrap_or b.entry a.entry).highs.items.now s) }
+        ensures low { IfOk result (λ found. found ≡ true → AreLowSums a.entry.cells
+            (unwrap_or b.entry a.entry).cells count self.new.lows.items) }
+        ensures high { IfOk result (λ found. found ≡ true → ArePairSums a.entry.highs
+            (unwrap_or b.entry a.entry).highs count self.new.highs.items) }
     {
         set_length(&mut self.lows, count)?;
         set_length(&mut self.highs, count)?;
         let lows = self.lows.as_mut_slice();
         let highs = self.highs.as_mut_slice();
-        self.tables.transform(alloc, levels, a, b, lows, highs)
+        let second = cells_of(b);
+        self.tables
+            .transform(alloc, levels, a.cells, second, lows, highs)
     }
 
-    /// The sums of the products of the low ends and of the high ends of two grids, both at once, where
-    /// that takes less time than one kind after the other.
+    /// The sums of the products of the low ends and of the high ends of two grids, both at once,
+    /// where that takes less time than one kind after the other.
     fn sums_at_once(
         &mut self,
         alloc: Global,
@@ -264,7 +245,8 @@ impl Room {
         cells: u32,
     ) -> Result<Option<(Vec<u128>, Vec<u128>)>, AllocError>
         requires { (unwrap_or b a).step ≡ a.step }
-        ensures { IfOk result (λ o. IfSome o (λ v. AreEndSums a.entry (unwrap_or b.entry a.entry) cells v.0.items v.1.items)) }
+        ensures { IfOk result (λ o. IfSome o (λ v.
+            AreEndSums a.entry (unwrap_or b.entry a.entry) cells v.0.items v.1.items)) }
     {
         let other = b.unwrap_or(a);
         let start = a.highs.start + other.highs.start;
@@ -281,8 +263,8 @@ impl Room {
         Ok(Some((lows, highs)))
     }
 
-    /// The sums of the products of two lists of ends that lie `step` apart, one for each of the first
-    /// `cells` cells.
+    /// The sums of the products of two lists of ends that lie `step` apart, one for each of the
+    /// first `cells` cells.
     fn list_sums(
         &mut self,
         alloc: Global,
@@ -309,10 +291,10 @@ impl Room {
         spread_out(alloc, self.lows.as_slice(), start, step, cells)
     }
 
-    /// The sums of the products of the low ends and of the high ends of two grids, one for each of the
-    /// first `cells` cells. Where `b` is none, that of a grid and itself. Where the low ends alone need
-    /// shorter transforms than the high ends, one kind of ends is multiplied after the other, and else
-    /// both at once.
+    /// The sums of the products of the low ends and of the high ends of two grids, one for each of
+    /// the first `cells` cells. Where `b` is none, that of a grid and itself. Where the low ends
+    /// alone need shorter transforms than the high ends, one kind of ends is multiplied after the
+    /// other, and else both at once.
     pub(crate) fn sums(
         &mut self,
         alloc: Global,
@@ -321,7 +303,8 @@ impl Room {
         cells: u32,
     ) -> Result<(Vec<u128>, Vec<u128>), AllocError>
         requires { AreFactors a (unwrap_or b a) cells }
-        ensures { IfOk result (λ v. AreEndSums a.entry (unwrap_or b.entry a.entry) cells v.0.items v.1.items) }
+        ensures { IfOk result (λ v.
+            AreEndSums a.entry (unwrap_or b.entry a.entry) cells v.0.items v.1.items) }
     {
         if let Some(sums) = self.sums_at_once(alloc, a, b, cells)? {
             return Ok(sums);

@@ -18,7 +18,7 @@ product_over t l n a b x y z size room first second over k h =
 
 -- of the low ends and widths of two lists
 pub mixed_over : (t : Table) (l n : ℕ) (a u b v x w y s z : List ℕ) → n ≡ 2 ^ l → length a + length b ≤ 2 ^ l
-    → length u ≡ length a → length v ≡ length b
+    → length u ≤ length a → length v ≤ length b
     → AreValues t l (λ i. get_or a i 0) x → AreValues t l (λ i. get_or u i 0) w
     → AreValues t l (λ j. get_or b j 0) y → AreValues t l (λ j. get_or v j 0) s
     → AreOver t.p n (mixed_at x y w s) z → AreOver t.p (2 ^ l) (value_at t (2 ^ l) (mixed_sum a u b v)) z

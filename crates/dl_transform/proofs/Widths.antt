@@ -41,8 +41,8 @@ sum_value n f g r =
     one x y = omega arith
 
 -- the value of these sums, where there is room for them
-pub mixed_value : (n : ℕ) (a u b v : List ℕ) (r : ℕ) → length a + length b ≤ n → length u ≡ length a
-    → length v ≡ length b
+pub mixed_value : (n : ℕ) (a u b v : List ℕ) (r : ℕ) → length a + length b ≤ n → length u ≤ length a
+    → length v ≤ length b
     → eval n (mixed_sum a u b v) r ≡ eval n (λ i. get_or a i 0) r * eval n (λ j. get_or v j 0) r
     + eval n (λ i. get_or u i 0) r * (eval n (λ j. get_or b j 0) r + eval n (λ j. get_or v j 0) r)
 mixed_value n a u b v r room first second =
@@ -58,8 +58,8 @@ mixed_value n a u b v r room first second =
     parts u b v = omega arith
 
 -- the values of the parts give that of the whole
-pub mixed_same : (p n : ℕ) (a u b v : List ℕ) (r w x y z : ℕ) → length a + length b ≤ n → length u ≡ length a
-    → length v ≡ length b
+pub mixed_same : (p n : ℕ) (a u b v : List ℕ) (r w x y z : ℕ) → length a + length b ≤ n → length u ≤ length a
+    → length v ≤ length b
     → Same p w (eval n (λ i. get_or a i 0) r) → Same p x (eval n (λ i. get_or u i 0) r)
     → Same p y (eval n (λ j. get_or b j 0) r) → Same p z (eval n (λ j. get_or v j 0) r)
     → Same p (w * z + x * (y + z)) (eval n (mixed_sum a u b v) r)

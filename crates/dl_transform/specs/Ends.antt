@@ -1,10 +1,10 @@
 -- The ends of a list of cells, as their low ends and widths.
-use Rattle.std.specs.Prelude.{ℕ, ◌≡◌, ◌+◌, ◌*◌, ◌^◌, ◌<◌, List, length, slice_index, All}
+use Rattle.std.specs.Prelude.{ℕ, ◌+◌, ◌*◌, ◌^◌, ◌<◌, ◌≤◌, List, length, slice_index, All}
 use Rattle.dl_exact.specs.Count.{count_pairs}
 
--- each cell has a low end and a width, in words
+-- each cell has a low end and the first ones a width, in words; the others have the width 0
 pub record AreWords (lows widths : List ℕ) : Type 0 where
-  pub alike : length widths ≡ length lows
+  pub within : length widths ≤ length lows
   pub low : All (λ x. x < 2 ^ 64) lows
   pub width : All (λ x. x < 2 ^ 64) widths
 

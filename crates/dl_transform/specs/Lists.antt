@@ -35,7 +35,8 @@ AreValuesBelow t n node f xs =
 -- ys are the items of the polynomial that has the values xs there, times n
 abbrev pub AreItemsBelow : Table → (n node : ℕ) → (xs ys : List ℕ) → Type 0
 AreItemsBelow t n node xs ys =
-    (f : ℕ → ℕ) → AreValuesBelow t n node f xs → (k : ℕ) → k < n → Same t.p (slice_index ys k) (n * f k)
+    (f : ℕ → ℕ) → AreValuesBelow t n node f xs
+    → (k : ℕ) → k < n → Same t.p (slice_index ys k) (n * f k)
 
 -- the first n items are, over 2^64 and modulo p, the numbers f
 abbrev pub AreOver : ℕ → ℕ → (ℕ → ℕ) → List ℕ → Type 0

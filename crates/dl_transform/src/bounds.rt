@@ -2,9 +2,8 @@
 
 ghost use Rattle.std.specs.Prelude.{◌≡◌, ℕ, ◌+◌, ◌*◌, ◌^◌, ◌<◌, ◌≤◌};
 ghost use Rattle.std.specs.Prelude.{true, length, slice_index, sum_by, All};
-ghost use Rattle.dl_transform.specs.Ends.{high_at, high_sum, low_sum, mixed_sum};
-ghost use Rattle.dl_transform.specs.Lists.{AreBelow};
-ghost use Rattle.dl_transform.specs.Products.{AreSumsBelow};
+ghost use Rattle.dl_transform.specs.Ends.{high_at};
+ghost use Rattle.dl_transform.specs.Products.{AreHighSumsBelow, AreNarrow, AreSumsBelow};
 
 use crate::cells::Cells;
 
@@ -64,8 +63,8 @@ fn greatest_high(a: Cells<'_>) -> u128
     ensures least { (m : ℕ) → ((k : ℕ) → high_at a.entry.lows.now a.entry.widths.now k ≤ m)
         → result ≤ m }
 {
-    let mut greatest = 0;
-    for k in 0..a.lows.len() {
+    let mut greatest = most(&a.lows[a.widths.len()..]);
+    for k in 0..a.widths.len() {
         let high = a.lows[k] + a.widths[k];
         if high > greatest {
             greatest = high;
@@ -76,8 +75,7 @@ fn greatest_high(a: Cells<'_>) -> u128
 
 /// Whether the sum of the high ends of `a` times the greatest of `b` is below `2^123`.
 pub(crate) fn are_sums_small(a: Cells<'_>, b: Cells<'_>) -> bool
-    ensures sums { result ≡ true → (s : ℕ) → high_sum a.entry.lows.now a.entry.widths.now
-        b.entry.lows.now b.entry.widths.now s < 2 ^ 123 }
+    ensures sums { result ≡ true → AreHighSumsBelow (2 ^ 123) a.entry b.entry }
     ensures found { AreSumsBelow (2 ^ 123) a.entry b.entry → result ≡ true }
 {
     let sum = total(a.lows) + total(a.widths);
@@ -88,19 +86,10 @@ pub(crate) fn are_sums_small(a: Cells<'_>, b: Cells<'_>) -> bool
 /// of the low ends of `a` times the greatest width of `b`, and the greatest width of `a` times the
 /// sum of the high ends of `b`, together.
 pub(crate) fn are_narrow(a: Cells<'_>, b: Cells<'_>, p: u64) -> bool
-    ensures { result ≡ true → (s : ℕ) → mixed_sum a.entry.lows.now a.entry.widths.now
-        b.entry.lows.now b.entry.widths.now s < p }
+    ensures { result ≡ true → AreNarrow p a.entry b.entry }
 {
     let sum = total(b.lows) + total(b.widths);
     let first = most(b.widths).saturating_mul(total(a.lows));
     let second = most(a.widths).saturating_mul(sum);
     first.saturating_add(second) < p as u128
-}
-
-/// Whether the sum of the items of `a` times the greatest of `b` is below `2^123`.
-pub(crate) fn are_list_sums_small(a: &[u128], b: &[u128]) -> bool
-    requires { AreBelow (2 ^ 64) a.now }
-    ensures { result ≡ true → (s : ℕ) → low_sum a.now b.now s < 2 ^ 123 }
-{
-    most(b).saturating_mul(total(a)) < 1 << 123
 }

@@ -142,9 +142,9 @@ fn roots(alloc: Global, p: u64, levels: u32) -> Result<Vec<u64>, AllocError>
     Ok(all)
 }
 
-/// The inverses of the roots, and their quotients. The inverse of a root after the first is `p` less
-/// the root at the node whose number has the same highest bit and each lower bit the other way, and
-/// its quotient is `2^64 - 1` less the quotient of that root.
+/// The inverses of the roots, and their quotients. The inverse of a root after the first is `p`
+/// less the root at the node whose number has the same highest bit and each lower bit the other
+/// way, and its quotient is `2^64 - 1` less the quotient of that root.
 fn inverses(
     alloc: Global,
     p: u64,

@@ -1,6 +1,6 @@
 //! Products of polynomials modulo `p`, by their values.
 
-ghost use Rattle.std.specs.Prelude.{◌≡◌, ℕ, ◌+◌, ◌*◌, ◌/◌, ◌^◌, ◌<◌, ◌≤◌, length, slice_index, unwrap_or};
+ghost use Rattle.std.specs.Prelude.{◌≡◌, ℕ, ◌+◌, ◌*◌, ◌/◌, ◌^◌, ◌<◌, ◌≤◌, length, slice_index};
 ghost use Rattle.dl_transform.specs.Table.{value_at};
 ghost use Rattle.dl_transform.specs.Lists.{AreBelow, AreItems, AreOver, AreValues, IsTableFor};
 ghost use Rattle.dl_transform.specs.Ends.{low_sum, mixed_sum};
@@ -46,8 +46,8 @@ fn values_of(x: &mut [u64], a: &[u128], table: &Table, levels: u32)
     to_values(x, 0, table, levels);
 }
 
-/// The polynomial whose values at the lowest nodes are those in `x` times `2^64`, where its scale is
-/// still to come.
+/// The polynomial whose values at the lowest nodes are those in `x` times `2^64`, where its scale
+/// is still to come.
 fn items_of(x: &mut [u64], table: &Table, levels: u32)
     requires table { IsTableFor table.now levels }
     requires size { length x.old ≡ 2 ^ levels }
@@ -60,31 +60,30 @@ fn items_of(x: &mut [u64], table: &Table, levels: u32)
     to_items(x, 0, table, levels);
 }
 
-/// The sums of products of two lists modulo the prime of a table, in `x`, before their scale; `y` is
-/// for what is needed on the way. A square needs the values of its list once.
+/// The sums of products of low ends modulo the prime of a table, in `x`, before their scale; `y` is
+/// for what is needed on the way. A square needs the values of its cells once.
 pub(crate) fn sums_modulo(
     x: &mut [u64],
     y: &mut [u64],
-    a: &[u128],
-    b: Option<&[u128]>,
+    a: Cells<'_>,
+    b: Option<Cells<'_>>,
     table: &Table,
     levels: u32,
 )
     requires table { IsTableFor table.now levels }
     requires size { length x.old ≡ 2 ^ levels }
     requires second_size { length y.old ≡ 2 ^ levels }
-    requires room { length a.now + length (unwrap_or b a).now ≤ 2 ^ levels }
-    requires first { AreBelow (2 ^ 64) a.now }
-    requires second { AreBelow (2 ^ 64) (unwrap_or b a).now }
-    ensures { AreItems table.now levels (low_sum a.now (unwrap_or b.entry a.entry).now) x.new }
+    requires room { length a.lows.now + length (other a b).lows.now ≤ 2 ^ levels }
+    ensures { AreItems table.now levels
+        (low_sum a.entry.lows.now (other a.entry b.entry).lows.now) x.new }
 {
-    values_of(x, a, table, levels);
+    values_of(x, a.lows, table, levels);
     let Some(b) = b else {
         square_all(x, table.minus_inverse, table.p);
         items_of(x, table, levels);
         return;
     };
-    values_of(y, b, table, levels);
+    values_of(y, b.lows, table, levels);
     multiply_all(x, y, table.minus_inverse, table.p);
     items_of(x, table, levels);
 }

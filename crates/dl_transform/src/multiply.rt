@@ -1,23 +1,21 @@
-//! Products of two lists of cells: the sums of the products of their low ends and those of their high
-//! ends. What the second are above the first comes from the widths, by one prime where these are
-//! small.
+//! Products of two lists of cells: the sums of the products of their low ends and those of their
+//! high ends. What the second are above the first comes from the widths, by one prime where these
+//! are small.
 
-ghost use Rattle.std.specs.Prelude.{◌≡◌, ℕ, ◌^◌, ◌<◌, true, length, slice_index, unwrap_or, IfOk};
-ghost use Rattle.dl_transform.specs.declared.cells.Cells.{Cells};
-ghost use Rattle.dl_transform.specs.Ends.{low_sum, high_sum, mixed_sum};
-ghost use Rattle.dl_transform.specs.Lists.{AreBelow};
-ghost use Rattle.dl_transform.specs.Products.{other, AreServed, AreSumsBelow, HasRoomFor};
+ghost use Rattle.std.specs.Prelude.{◌≡◌, ℕ, ◌^◌, ◌≤◌, true, length, IfOk};
+ghost use Rattle.dl_transform.specs.Products.{other, AreHighSums, AreLowSums, AreNarrow};
+ghost use Rattle.dl_transform.specs.Products.{AreServed, AreSumsBelow, HasRoomFor};
 
-use crate::bounds::{are_list_sums_small, are_narrow, are_sums_small, cells_of, levels_for};
+use crate::bounds::{are_narrow, are_sums_small, cells_of, levels_for};
 use crate::cells::Cells;
 use crate::combined::{add_lows, add_mixed, combine_all};
 use crate::modular::{ends_modulo, sums_modulo};
 use crate::setup::Setup;
 use std::alloc::{AllocError, Global};
 
-/// Room for the remainders of a product by both primes: of its sums of low ends, and of what its sums
-/// of high ends are above them. It is taken at the first product that needs it, and kept for those
-/// after it.
+/// Room for the remainders of a product by both primes: of its sums of low ends, and of what its
+/// sums of high ends are above them. It is taken at the first product that needs it, and kept for
+/// those after it.
 #[derive(Drop)]
 pub struct Buffers {
     first_lows: Vec<u64>,
@@ -56,18 +54,33 @@ fn room_in<'a>(
     Ok(&mut buffer.as_mut_slice()[..size])
 }
 
-/// The low ends of cells that are there.
-fn lows_of(b: Option<Cells<'_>>) -> Option<&[u128]>
-    ensures { (a : Cells) → (unwrap_or result a.lows).now ≡ (other a b.entry).lows.now }
+/// The sums of products of low ends, as many as `lows` has room for.
+#[tactic(auto, using(crate::proofs::Wholes::fewer_levels))]
+fn low_products(
+    alloc: Global,
+    a: Cells<'_>,
+    b: Option<Cells<'_>>,
+    levels: u32,
+    setup: &Setup,
+    buffers: &mut Buffers,
+    lows: &mut [u128],
+) -> Result<(), AllocError>
+    requires { AreServed setup.now.levels levels a (other a b) (length lows.old) }
+    ensures { IfOk result
+        (λ _. AreLowSums a.entry (other a.entry b.entry) (length lows.old) lows.new) }
 {
-    match b {
-        Some(b) => Some(b.lows),
-        None => None,
-    }
+    let size = cells_of(levels);
+    let first = room_in(alloc, &mut buffers.first_lows, size)?;
+    let second = room_in(alloc, &mut buffers.second_lows, size)?;
+    let spare = room_in(alloc, &mut buffers.spare_lows, size)?;
+    sums_modulo(first, spare, a, b, &setup.first, levels);
+    sums_modulo(second, spare, a, b, &setup.second, levels);
+    combine_all(first, second, setup, levels, lows);
+    Ok(())
 }
 
-/// The sums of products of low ends and those of high ends, as many as `lows` and `highs` have room
-/// for, where the second are above the first by less than the first prime.
+/// The sums of products of low ends and the first of those of high ends, as many as `lows` and
+/// `highs` have room for, where the second are above the first by less than the first prime.
 #[tactic(auto, using(crate::proofs::Wholes::fewer_levels))]
 fn products_by_one(
     alloc: Global,
@@ -80,15 +93,12 @@ fn products_by_one(
     highs: &mut [u128],
 ) -> Result<(), AllocError>
     requires served { AreServed setup.now.levels levels a (other a b) (length lows.old) }
-    requires paired { length highs.old ≡ length lows.old }
-    requires mixed { (s : ℕ)
-        → mixed_sum a.lows.now a.widths.now (other a b).lows.now (other a b).widths.now s
-        < setup.now.first.p }
-    ensures low { IfOk result (λ _. (s : ℕ) → s < length lows.old
-        → slice_index lows.new s ≡ low_sum a.entry.lows.now (other a.entry b.entry).lows.now s) }
-    ensures high { IfOk result (λ _. (s : ℕ) → s < length lows.old
-        → slice_index highs.new s ≡ high_sum a.entry.lows.now a.entry.widths.now
-        (other a.entry b.entry).lows.now (other a.entry b.entry).widths.now s) }
+    requires fewer { length highs.old ≤ length lows.old }
+    requires narrow { AreNarrow setup.now.first.p a (other a b) }
+    ensures low { IfOk result
+        (λ _. AreLowSums a.entry (other a.entry b.entry) (length lows.old) lows.new) }
+    ensures high { IfOk result
+        (λ _. AreHighSums a.entry (other a.entry b.entry) (length highs.old) highs.new) }
 {
     let size = cells_of(levels);
     let first = room_in(alloc, &mut buffers.first_lows, size)?;
@@ -96,7 +106,7 @@ fn products_by_one(
     let mixed = room_in(alloc, &mut buffers.first_mixed, size)?;
     let spare = room_in(alloc, &mut buffers.spare_lows, size)?;
     ends_modulo(first, second, mixed, spare, a, b, &setup.first, levels);
-    sums_modulo(second, spare, a.lows, lows_of(b), &setup.second, levels);
+    sums_modulo(second, spare, a, b, &setup.second, levels);
     combine_all(first, second, setup, levels, lows);
     add_mixed(mixed, lows, &setup.first, levels, highs);
     Ok(())
@@ -115,12 +125,11 @@ fn products_by_two(
     highs: &mut [u128],
 ) -> Result<(), AllocError>
     requires served { AreServed setup.now.levels levels a (other a b) (length lows.old) }
-    requires paired { length highs.old ≡ length lows.old }
-    ensures low { IfOk result (λ _. (s : ℕ) → s < length lows.old
-        → slice_index lows.new s ≡ low_sum a.entry.lows.now (other a.entry b.entry).lows.now s) }
-    ensures high { IfOk result (λ _. (s : ℕ) → s < length lows.old
-        → slice_index highs.new s ≡ high_sum a.entry.lows.now a.entry.widths.now
-        (other a.entry b.entry).lows.now (other a.entry b.entry).widths.now s) }
+    requires fewer { length highs.old ≤ length lows.old }
+    ensures low { IfOk result
+        (λ _. AreLowSums a.entry (other a.entry b.entry) (length lows.old) lows.new) }
+    ensures high { IfOk result
+        (λ _. AreHighSums a.entry (other a.entry b.entry) (length highs.old) highs.new) }
 {
     let size = cells_of(levels);
     let first = room_in(alloc, &mut buffers.first_lows, size)?;
@@ -137,12 +146,13 @@ fn products_by_two(
     Ok(())
 }
 
-/// Whether the first sums of products of two lists of cells are known, as many as `lows` and `highs`
-/// have room for; then these have them, `lows` those of low ends and `highs` those of high ends: for
-/// each `s` the sum of the products of cells `i` and `j` over all `i + j = s`. They are known where
-/// the setup has room for both lists, no more sums are wanted than the lists have cells together,
-/// and the sum of the high ends of `a` times the greatest of `b` is below `2^123`. Where `b` is None
-/// it is the product of `a` with itself, which takes fewer transforms.
+/// Whether the first sums of products of two lists of cells are known, as many as `lows` and
+/// `highs` have room for; then these have them, `lows` those of low ends and `highs` those of high
+/// ends: for each `s` the sum of the products of cells `i` and `j` over all `i + j = s`. They are
+/// known where the setup has room for both lists, no more sums are wanted than the lists have cells
+/// together, and the sum of the high ends of `a` times the greatest of `b` is below `2^123`. Where
+/// `b` is None it is the product of `a` with itself, and where `highs` has no room the sums of low
+/// ends alone are made: both take fewer transforms.
 pub fn product(
     alloc: Global,
     a: Cells<'_>,
@@ -152,12 +162,11 @@ pub fn product(
     lows: &mut [u128],
     highs: &mut [u128],
 ) -> Result<bool, AllocError>
-    requires paired { length highs.old ≡ length lows.old }
-    ensures low { IfOk result (λ found. found ≡ true → (s : ℕ) → s < length lows.old
-        → slice_index lows.new s ≡ low_sum a.entry.lows.now (other a.entry b.entry).lows.now s) }
-    ensures high { IfOk result (λ found. found ≡ true → (s : ℕ) → s < length lows.old
-        → slice_index highs.new s ≡ high_sum a.entry.lows.now a.entry.widths.now
-        (other a.entry b.entry).lows.now (other a.entry b.entry).widths.now s) }
+    requires fewer { length highs.old ≤ length lows.old }
+    ensures low { IfOk result (λ found. found ≡ true
+        → AreLowSums a.entry (other a.entry b.entry) (length lows.old) lows.new) }
+    ensures high { IfOk result (λ found. found ≡ true
+        → AreHighSums a.entry (other a.entry b.entry) (length highs.old) highs.new) }
     ensures found { IfOk result (λ found.
         HasRoomFor setup.now.levels a.entry (other a.entry b.entry) (length lows.old)
         → AreSumsBelow (2 ^ 123) a.entry (other a.entry b.entry) → found ≡ true) }
@@ -171,45 +180,12 @@ pub fn product(
         return Ok(false);
     }
     let levels = levels_for(cells, setup.levels);
-    if are_narrow(a, second, setup.first.p) {
+    if highs.is_empty() {
+        low_products(alloc, a, b, levels, setup, buffers, lows)?;
+    } else if are_narrow(a, second, setup.first.p) {
         products_by_one(alloc, a, b, levels, setup, buffers, lows, highs)?;
     } else {
         products_by_two(alloc, a, b, levels, setup, buffers, lows, highs)?;
     }
-    Ok(true)
-}
-
-/// Whether the first sums of products of two lists of numbers below 2^64 are known, as many as `out` has room
-/// for; then it has them: for each `s` the sum of the products of items `i` and `j` over all `i + j =
-/// s`. They are known where the setup has room for both lists, no more sums are wanted than the lists
-/// have items together, and the sum of the items of `a` times the greatest of `b` is below `2^123`.
-/// Where `b` is None it is the product of `a` with itself, which takes fewer transforms.
-#[tactic(auto, using(crate::proofs::Wholes::fewer_levels))]
-pub fn list_product(
-    alloc: Global,
-    a: &[u128],
-    b: Option<&[u128]>,
-    setup: &Setup,
-    buffers: &mut Buffers,
-    out: &mut [u128],
-) -> Result<bool, AllocError>
-    requires first { AreBelow (2 ^ 64) a.now }
-    requires second { AreBelow (2 ^ 64) (unwrap_or b a).now }
-    ensures { IfOk result (λ found. found ≡ true → (s : ℕ) → s < length out.old
-        → slice_index out.new s ≡ low_sum a.now (unwrap_or b.entry a.entry).now s) }
-{
-    let second = b.unwrap_or(a);
-    let items = a.len() + second.len();
-    if out.len() > items || items > cells_of(setup.levels) || !are_list_sums_small(a, second) {
-        return Ok(false);
-    }
-    let levels = levels_for(items, setup.levels);
-    let size = cells_of(levels);
-    let first = room_in(alloc, &mut buffers.first_lows, size)?;
-    let other = room_in(alloc, &mut buffers.second_lows, size)?;
-    let spare = room_in(alloc, &mut buffers.spare_lows, size)?;
-    sums_modulo(first, spare, a, b, &setup.first, levels);
-    sums_modulo(other, spare, a, b, &setup.second, levels);
-    combine_all(first, other, setup, levels, out);
     Ok(true)
 }

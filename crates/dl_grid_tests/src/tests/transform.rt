@@ -29,9 +29,9 @@ fn are_short(list: &[u128]) -> bool
     list.iter().all(|x| *x < 18446744073709551616)
 }
 
-/// The cells of these low ends and widths, where they are as many, each in 64 bits.
+/// The cells of these low ends and widths, where there are no more widths, each in 64 bits.
 fn cells_of<'a>(lows: &'a [u128], widths: &'a [u128]) -> Option<Cells<'a>> {
-    if lows.len() == widths.len() && are_short(lows) && are_short(widths) {
+    if widths.len() <= lows.len() && are_short(lows) && are_short(widths) {
         Some(Cells { lows, widths })
     } else {
         None
@@ -44,7 +44,8 @@ fn is_wanted(told: bool, out: &[u128], want: Option<&[u128]>) -> bool {
     found == want
 }
 
-/// Whether the products of two lists, in buffers that have been used before, are what is wanted.
+/// Whether the products of two lists, in buffers that have been used before, are what is wanted, and
+/// those of low ends alone too.
 fn are_wanted(
     alloc: Global,
     buffers: &mut Buffers,
@@ -61,7 +62,15 @@ fn are_wanted(
     let mut highs = Vec::from_elem(alloc, 99, count)?;
     let (low, high) = (lows.as_mut_slice(), highs.as_mut_slice());
     let told = product(alloc, a, Some(b), setup, buffers, low, high)?;
-    Ok(is_wanted(told, lows.as_slice(), want.low) && is_wanted(told, highs.as_slice(), want.high))
+    if !is_wanted(told, lows.as_slice(), want.low)
+        || !is_wanted(told, highs.as_slice(), want.high)
+    {
+        return Ok(false);
+    }
+    let mut alone = Vec::from_elem(alloc, 99, count)?;
+    let low = alone.as_mut_slice();
+    let told = product(alloc, a, Some(b), setup, buffers, low, &mut [])?;
+    Ok(is_wanted(told, alone.as_slice(), want.low))
 }
 
 /// Whether a case has a setup, and its products are what is wanted.
@@ -89,7 +98,7 @@ const CASES: [Case; 10] = [
     },
     Case {
         lows: [&[1, 2, 3, 4, 5], &[6, 7, 8, 9]],
-        widths: [&[0, 0, 0, 0, 0], &[0, 0, 0, 0]],
+        widths: [&[], &[0, 0]],
         levels: 4,
         want: Products {
             low: Some(&[6, 19, 40, 70, 100, 94, 76, 45, 0]),

@@ -16,7 +16,7 @@ returns-in_default-clause-mixed c =
     let u = c.args.a.widths.now in
     rw c.in_default.is (c.items_of-in_default.ensures.items (mixed_sum a u a u)
     (mixed_over c.args.table.now c.args.levels _ a u a u _ _ _ _ _ (omega arith) (rw c.in_default.is at c.requires.room)
-    c.args.a.words.alike c.args.a.words.alike c.values_of.ensures.values c.values_of-2.ensures.values
+    c.args.a.words.within c.args.a.words.within c.values_of.ensures.values c.values_of-2.ensures.values
     c.values_of.ensures.values c.values_of-2.ensures.values
     (square_over c.args.table.now.p _ _ _ _ _ _ (omega arith) c.add_ends.ensures.same c.multiply_all.ensures.same)))
 
@@ -34,5 +34,5 @@ returns-clause-mixed c =
     let b = c.in-Some.b in
     rw c.in-Some.is (c.items_of-3.ensures.items (mixed_sum a.lows.now a.widths.now b.lows.now b.widths.now)
     (mixed_over c.args.table.now c.args.levels _ a.lows.now a.widths.now b.lows.now b.widths.now _ _ _ _ _ (omega arith)
-    (rw c.in-Some.is at c.requires.room) a.words.alike b.words.alike c.values_of.ensures.values c.values_of-2.ensures.values
+    (rw c.in-Some.is at c.requires.room) a.words.within b.words.within c.values_of.ensures.values c.values_of-2.ensures.values
     c.values_of-3.ensures.values c.values_of-4.ensures.values c.mix_all.ensures.same))

@@ -1,5 +1,4 @@
-use Rattle.dl_transform.proofs.Common.{◌≡◌, ◌^◌, ◌<◌, arith, get_or}
-use Rattle.dl_transform.specs.Ends.{low_sum}
+use Rattle.dl_transform.proofs.Common.{◌^◌, ◌<◌, arith, length}
 use Rattle.dl_transform.specs.Products.{other}
 use Rattle.dl_transform.proofs.Widths.{high_is, low_below, mixed_below}
 use Rattle.dl_transform.proofs.multiply.products_by_two.Goals as goal
@@ -12,17 +11,14 @@ returns-clause-low c s b =
 
 pub returns-clause-high : goal.returns-clause-high
 returns-clause-high c s b =
-    let inside : s < 2 ^ c.args.levels = omega (arith, b, c.requires.served.room.within, c.requires.served.room.room) in
+    let here : s < length c.args.lows.now = omega (arith, b, c.requires.fewer) in
+    let inside : s < 2 ^ c.args.levels = omega (arith, here, c.requires.served.room.within, c.requires.served.room.room) in
     let second = other c.args.a c.args.b in
-    let low : get_or c.combine_all.new.out s 0 ≡ low_sum c.args.a.lows.now second.lows.now s =
-    c.combine_all.ensures.is s b _ (low_below _ _ _ _ s _ (c.requires.served.sums s))
-    (c.ends_modulo.ensures.low s inside) (c.ends_modulo-2.ensures.low s inside) in
-    let mixed = c.combine_all-2.ensures.is s (omega (arith, b, c.requires.paired)) _ (mixed_below _ _ _ _ s _ (c.requires.served.sums s))
-    (c.ends_modulo.ensures.mixed s inside) (c.ends_modulo-2.ensures.mixed s inside) in
     omega (
       arith,
-      low,
-      mixed,
-      c.add_lows.ensures s (omega (arith, b, c.requires.paired)),
+      returns-clause-low c s here,
+      c.combine_all-2.ensures.is s b _ (mixed_below _ _ _ _ s _ (c.requires.served.sums s))
+          (c.ends_modulo.ensures.mixed s inside) (c.ends_modulo-2.ensures.mixed s inside),
+      c.add_lows.ensures s (omega (arith, b)),
       high_is c.args.a.lows.now c.args.a.widths.now second.lows.now second.widths.now s,
     )

@@ -6,7 +6,7 @@ use Rattle.dl_grid.proofs.EndLists.{high_ends_long}
 use Rattle.dl_grid.proofs.Room.{size_few}
 use Rattle.dl_product.specs.Places.{LieFrom}
 use Rattle.dl_product.proofs.Apart.{ceil_within, in_window, same_count, start_within}
-use Rattle.dl_product.proofs.Reading.{high_from, low_from, low_window, words_of}
+use Rattle.dl_product.proofs.Reading.{high_from, low_from, low_window, words_alone, words_of}
 use Rattle.dl_product.proofs.lists.Lists.read.Goals as goal
 
 pub part-requires : goal.part-requires
@@ -59,6 +59,12 @@ invariant_of-result-2 g c =
         );
         few = omega (arith, c.part-3.ensures.few, many, within, c.part.ensures.few, c.lows.ensures.cells, few);
       };
+      words = words_alone _ (λ k. rw (
+        c.part-3.ensures.each k,
+        c.as_slice-lows.ensures.value,
+        c.in_ok-take_multiples.ensures.each (c.window_of-inner.result.start + k),
+        c.part.ensures.each ((c.window_of-inner.result.start + k) * c.args.step),
+      ) (end_fits c.lows.result.now (2 ^ 56) c.lows.ensures.fits _));
     }
 
 pub invariant_of-result-3 : goal.invariant_of-result-3
@@ -75,6 +81,9 @@ invariant_of-result-3 g c =
           few,
         ));
       };
+      words = rw (c.as_slice-4.ensures.value) (words_alone _
+          (λ k. rw (c.in_ok-take_multiples-2.ensures.each k, c.part-2.ensures.each (k * c.args.step))
+          (end_fits c.highs.result.now (2 ^ 56) c.highs.ensures.fits _)));
     }
 
 pub invariant_of-result-4 : goal.invariant_of-result-4
