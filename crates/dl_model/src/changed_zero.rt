@@ -120,5 +120,6 @@ pub fn law_some_claim()
     ensures poisson { (v : Fraction) → 1 over 16 ≤ℚ v
         → AtMost (λ N. poisson v 0) (λ N. sum_to N (poisson v)) (16 over 17) }
     ensures gamma { (q : ℕ) (v : Fraction) → 1 over 16 ≤ℚ v
-        → AtMost (λ N. gamma_of (whole (suc q)) v 0) (λ N. sum_to N (gamma_of (whole (suc q)) v)) (16 over 17) }
+        → AtMost (λ N. gamma_of (whole (suc q)) v 0)
+        (λ N. sum_to N (gamma_of (whole (suc q)) v)) (16 over 17) }
 {}
