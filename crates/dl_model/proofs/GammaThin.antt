@@ -7,7 +7,7 @@ use Rattle.dl_model.proofs.Thin.{split}
 use Rattle.dl_model.proofs.Itself.{count_power}
 use Rattle.dl_model.proofs.Least.{least_scaled, least_sum}
 use Rattle.dl_model.proofs.Gamma.{gamma_zero, gamma_next, gamma_shift, gamma_plus, gamma_power, gamma_least, over_next}
-use Rattle.dl_model.proofs.Shapes.{gamma_bound, gamma_part, whole_least}
+use Rattle.dl_model.proofs.AnyShape.{gamma_bound, gamma_part, whole_least}
 
 -- x is r's parameter over all amounts, x' that over the amounts above 0
 module _ (f : ℕ → Fraction) (p : Fraction) (g : ℕ → Fraction) (h : IsPositivePart f p g) (r : Fraction)

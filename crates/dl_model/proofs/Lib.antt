@@ -31,7 +31,8 @@ pub mod GammaThin
 pub mod Panjer
 pub mod Settles
 pub mod SettlesGamma
-pub mod Shapes
+pub mod Roots
+pub mod AnyShape
 pub mod AddedCounts
 pub mod Outcomes
 pub mod UnitLaws

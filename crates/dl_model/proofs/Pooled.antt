@@ -1,6 +1,6 @@
 -- A portfolio under a common factor declares of its total what one gamma unit with the pooled severity does.
 use Rattle.dl_model.proofs.Common.{◌≡◌, ℕ, ◌+◌, ◌-◌, ◌*◌, ◌<◌, ◌≤◌, arith, refl, sym, ap, ap₂, ◌∙◌, mul-le-mul_right, List, [], ◌∷◌, fun_ext, sum, sum_by-cons, Fraction, ◌+ℚ◌, ◌*ℚ◌, ◌/ℚ◌, ◌<ℚ◌, whole, choose, sum_to, sum_over, ring, div_times, plus_comm, times_comm, times_assoc, times_cancel, times_zero, sum_to_same, sum_to_times, sum_to_times_right, sum_to_swap, sum_to_none, sum_to_plus, sum_to_either, times_one, IsSeverity, power, cell, gamma, gamma_of, One, Point, Cdf, Mean, Layer, Tail, score, where_true, layer, nat_eq, nat_le, nat_lt, Option, ◌-ℚ◌, factorial, whole_times, sum_over_same, sum_over_times, times_right_comm, divided_power, Quantity, PricedTerm, above_quantile, Price, Part, PoissonUnit, amounts, amounts_given_counts, ways_to_share, chances, expected_claims, common_sums, pooled_severity, AreSeverities, CountsTotal, sum_over_claims, total, le_refl_n}
-use Rattle.dl_model.proofs.Shapes.{gamma_ways}
+use Rattle.dl_model.proofs.AnyShape.{gamma_ways}
 use Rattle.dl_model.proofs.TotalLaws.{div_is_times, pos_plus, cells_all, divided_whole}
 use Rattle.dl_model.proofs.SharedClaims.{mixed, weighed, weighed_same, weighed_by_total, first_none, others_none, four_factors, claims_same, claims_times, scaled_power}
 

@@ -1,7 +1,7 @@
 -- Sums of gamma weights settle.
 use Rattle.dl_model.proofs.Common.{◌-ℚ◌, plus_comm, sub_plus, one_pos, lt_of_lt_of_le, times_assoc, ◌≡◌, ℕ, suc, zero, max, arith, refl, sym, ap, subst, subst₂, ◌∙◌, zero-lt-suc, fun_ext, le-max_left, le-max_right, Fraction, ◌+ℚ◌, ◌*ℚ◌, ◌/ℚ◌, ◌≤ℚ◌, ◌<ℚ◌, whole, sum_to, Series, Rises, times, Settles, gamma, ring, times_comm, plus_times, plus_assoc, times_plus, one_times, times_one, whole_suc, whole_plus, whole_pos, le_refl, le_trans, le_of_eq, le_of_lt, le_plus, plus_le_both, plus_le_cancel, times_le_cancel, times_le_times, times_pos, archimedes, div_times, div_pos, times_le_both, sum_to_same, times_reverse, times_swap, whole_le, order}
 use Rattle.dl_model.proofs.TotalLaws.{rises_to, sum_rises_to, AreLevel, cauchy_level, geometric_next, geometric_identity, geometric_low, gamma_one_more, gamma_zero}
-use Rattle.dl_model.proofs.Shapes.{shape_above, shapes_level}
+use Rattle.dl_model.proofs.AnyShape.{shape_above, shapes_level}
 
 -- half of a fraction
 half_of : (q : Fraction) → q /ℚ whole 2 +ℚ q /ℚ whole 2 ≡ q

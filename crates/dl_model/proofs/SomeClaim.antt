@@ -1,7 +1,8 @@
 -- The probability of no claim where at least 1 / 16 of a claim is expected, and the weights of at least one claim.
-use Rattle.dl_model.proofs.Common.{◌≡◌, ℕ, suc, zero, ◌+◌, ◌-◌, ◌*◌, ◌<◌, ◌≤◌, max, arith, refl, sym, ap, ap₂, subst, subst₂, ◌∙◌, Fraction, whole, ◌over◌, ◌+ℚ◌, ◌-ℚ◌, ◌*ℚ◌, ◌/ℚ◌, ◌≤ℚ◌, ◌<ℚ◌, ◌^ℚ◌, sum_to, sum_pairs, ring, over_same, over_mul, one_pos, plus_comm, times_comm, times_zero, zero_times, times_one, one_times, times_plus, plus_times, le_refl, le_trans, zero_le, le_plus, sub_plus, plus_le_both, plus_le_cancel, times_le_both, times_le_times, times_le_cancel, times_cancel, times_pos, div_times, div_pos, lt_of_lt_of_le, AtMost, Settles, at_zero, power, fixed, binomial, poisson, gamma_of, AreCountWeights, plus_assoc, over_rest, over_add, pow_times, without_none, plus_swap, order, fun_ext, Series, le_of_eq}
+use Rattle.dl_model.proofs.Common.{◌≡◌, ℕ, suc, zero, ◌+◌, ◌-◌, ◌*◌, ◌<◌, ◌≤◌, max, arith, refl, sym, ap, ap₂, subst, subst₂, ◌∙◌, Fraction, whole, ◌over◌, ◌+ℚ◌, ◌-ℚ◌, ◌*ℚ◌, ◌/ℚ◌, ◌≤ℚ◌, ◌<ℚ◌, ◌^ℚ◌, sum_to, sum_pairs, ring, over_same, over_mul, one_pos, plus_comm, times_comm, times_zero, zero_times, times_one, one_times, times_plus, plus_times, le_refl, le_trans, zero_le, le_plus, sub_plus, plus_le_both, plus_le_cancel, times_le_both, times_le_times, times_le_cancel, times_cancel, times_pos, div_times, div_pos, lt_of_lt_of_le, AtMost, Settles, at_zero, power, fixed, binomial, poisson, gamma, gamma_of, AreCountWeights, plus_zero, whole_pos, times_assoc, plus_assoc, over_rest, over_add, pow_times, without_none, plus_swap, order, fun_ext, Series, le_of_eq}
 use Rattle.dl_exact.proofs.Bernoulli.{bernoulli, pow_below_one}
-use Rattle.dl_model.proofs.TotalLaws.{rises_to, sum_rises_to, power_severity, binomial_power, trial, one_trial_none, poisson_zero, poisson_next, gamma_zero, gamma_of_least, shape_pos, weights_apart, off}
+use Rattle.dl_model.proofs.TotalLaws.{rises_to, sum_rises_to, power_severity, binomial_power, trial, one_trial_none, poisson_zero, poisson_next, gamma_zero, gamma_next, pos_plus, div_plus, least_scaled, weights_apart, off}
+use Rattle.dl_model.proofs.Gamma.{geometric_least}
 
 -- ---- at most 16 / 17
 
@@ -21,18 +22,83 @@ poisson_some_claim v h n u b =
     some_claim (poisson v zero) u (rw (poisson_zero v, one_times) (grw (order, h)
     (subst₂ (λ s t. s +ℚ t ≤ℚ u) (poisson_zero v) one (b 1))))
 
-pub gamma_some_claim : (q : ℕ) (v : Fraction) → 1 over 16 ≤ℚ v
-    → AtMost (λ N. gamma_of (whole (suc q)) v zero) (λ N. sum_to N (gamma_of (whole (suc q)) v)) (16 over 17)
-gamma_some_claim q v h n u b =
-    let r = whole (suc q) in
+-- of a shape of 1 or more each weight past the first is at least the shape times the geometric one
+geometric_below : (r x : Fraction) → whole 1 ≤ℚ r → (n : ℕ)
+    → r *ℚ gamma (whole 1) x (suc n) ≤ℚ gamma r x (suc n)
+geometric_below r x h zero = le_of_eq _ _ (ap (λ t. r *ℚ t) (first (whole 1) ∙ one_times x) ∙ sym (first r))
+  where
+    first : (s : Fraction) → gamma s x 1 ≡ s *ℚ x
+    first s = sym (one_times _) ∙ gamma_next s x zero ∙ ap₂ (λ a b. a *ℚ (x *ℚ b)) (plus_zero s) (gamma_zero s x)
+        ∙ ap (λ t. s *ℚ t) (times_one x)
+geometric_below r x h (suc n) =
+    let N = whole (suc (suc n)) in
+    times_le_cancel _ _ N (whole_pos (suc (suc n)) (omega arith))
+    (subst₂ (λ s t. s ≤ℚ t)
+    (turn (whole 1 +ℚ whole (suc n)) x r (gamma (whole 1) x (suc n))
+    ∙ ap (λ t. r *ℚ t) (sym (gamma_next (whole 1) x (suc n))) ∙ outside r N (gamma (whole 1) x (suc (suc n))))
+    (sym (gamma_next r x (suc n)) ∙ times_comm _ _)
+    (times_le_both _ _ _ _ (plus_le_both _ _ _ _ h (le_refl (whole (suc n))))
+    (times_le_both _ _ _ _ (le_refl x) (geometric_below r x h n))))
+  where
+    turn : (k x r g : Fraction) → k *ℚ (x *ℚ (r *ℚ g)) ≡ r *ℚ (k *ℚ (x *ℚ g))
+    turn k x r g = simp ring
+
+    outside : (r n g : Fraction) → r *ℚ (n *ℚ g) ≡ r *ℚ g *ℚ n
+    outside r n g = simp ring
+
+sums_below : (r x : Fraction) → whole 1 ≤ℚ r → (N : ℕ)
+    → r *ℚ sum_to N (gamma (whole 1) x) +ℚ whole 1 ≤ℚ sum_to N (gamma r x) +ℚ r
+unfolding sum_to
+sums_below r x h zero = le_of_eq _ _ (ap (λ t. r *ℚ t +ℚ whole 1) (gamma_zero (whole 1) x)
+    ∙ ap (λ t. t +ℚ whole 1) (times_one r) ∙ plus_comm r (whole 1) ∙ ap (λ t. t +ℚ r) (sym (gamma_zero r x)))
+sums_below r x h (suc N) =
+    subst₂ (λ s t. s ≤ℚ t) (sym (more r (sum_to N (gamma (whole 1) x)) (gamma (whole 1) x (suc N)) (whole 1)))
+    (sym (last (sum_to N (gamma r x)) (gamma r x (suc N)) r))
+    (plus_le_both _ _ _ _ (sums_below r x h N) (geometric_below r x h N))
+  where
+    more : (r s g o : Fraction) → r *ℚ (s +ℚ g) +ℚ o ≡ r *ℚ s +ℚ o +ℚ r *ℚ g
+    more r s g o = simp ring
+
+    last : (s g r : Fraction) → s +ℚ g +ℚ r ≡ s +ℚ r +ℚ g
+    last s g r = simp ring
+
+pub gamma_some_claim : (r v : Fraction) → whole 1 ≤ℚ r → 1 over 16 ≤ℚ v
+    → AtMost (λ N. gamma_of r v zero) (λ N. sum_to N (gamma_of r v)) (16 over 17)
+unfolding sum_to
+gamma_some_claim r v one h n u b =
     let W = r +ℚ v in
-    let rp = shape_pos q v in
-    let L_is : W /ℚ r ≡ whole 1 +ℚ v /ℚ r =
-    times_cancel _ _ r rp (rw (div_times W r rp, plus_times, one_times, div_times v r rp) refl) in
-    let power : whole 1 +ℚ v ≤ℚ (W /ℚ r) ^ℚ suc q =
-    rw L_is (rw (times_comm r (v /ℚ r), div_times v r rp) at (bernoulli (v /ℚ r) (suc q))) in
-    some_claim (gamma_of (whole (suc q)) v zero) u
-    (rw (gamma_zero r (v /ℚ W), one_times) (grw (order, h, power) ((gamma_of_least q v q).1 u b)))
+    let x = v /ℚ W in
+    let rp = lt_of_lt_of_le (whole 0) (whole 1) r (whole_pos 1 one_pos) one in
+    let Wp = pos_plus r v rp in
+    let L = W /ℚ r in
+    let inverse : L *ℚ (r /ℚ W) ≡ whole 1 =
+    times_cancel _ _ W Wp (rw (times_assoc, div_times r W Wp, div_times W r rp) (sym (one_times W))) in
+    let least = geometric_least x (r /ℚ W) (div_plus v r W Wp (plus_comm v r)) L (div_pos r W rp Wp) inverse in
+    let some : whole 1 ≤ℚ u = rw (gamma_zero r x) at (b zero) in
+    let k = u -ℚ whole 1 in
+    let back : k +ℚ whole 1 ≡ u = sub_plus u (whole 1) some in
+    let below : (N : ℕ) → r *ℚ sum_to N (gamma (whole 1) x) ≤ℚ k +ℚ r = λ N.
+    plus_le_cancel _ _ (whole 1) (le_trans _ _ _ (sums_below r x one N) (subst (λ t. sum_to N (gamma r x) +ℚ r ≤ℚ t)
+    (ap (λ t. t +ℚ r) (sym back) ∙ last k (whole 1) r) (plus_le_both _ _ _ _ (b N) (le_refl r)))) in
+    let all : r +ℚ v ≤ℚ k +ℚ r = subst (λ t. t ≤ℚ k +ℚ r) (times_comm r L ∙ div_times W r rp)
+    ((least_scaled r (λ N. sum_to N (gamma (whole 1) x)) L (sum_rises_to (gamma (whole 1) x)) least).1 (k +ℚ r) below) in
+    let claim : v ≤ℚ k = plus_le_cancel v k r (subst (λ t. t ≤ℚ k +ℚ r) (plus_comm r v) all) in
+    some_claim (gamma_of r v zero) u (rw (gamma_zero r x, one_times) (subst (λ t. whole 1 +ℚ 1 over 16 ≤ℚ t)
+    (plus_comm (whole 1) k ∙ back) (plus_le_both _ _ _ _ (le_refl (whole 1)) (le_trans _ _ _ h claim))))
+  where
+    last : (k o r : Fraction) → k +ℚ o +ℚ r ≡ k +ℚ r +ℚ o
+    last k o r = simp ring
+
+-- of any shape, by the weight of one claim
+pub gamma_some_claim_below : (r v : Fraction) → 1 over 16 ≤ℚ r *ℚ (v /ℚ (r +ℚ v))
+    → AtMost (λ N. gamma_of r v zero) (λ N. sum_to N (gamma_of r v)) (16 over 17)
+unfolding sum_to
+gamma_some_claim_below r v h n u b =
+    let x = v /ℚ (r +ℚ v) in
+    let first : gamma r x 1 ≡ r *ℚ x = sym (one_times _) ∙ gamma_next r x zero
+    ∙ ap₂ (λ a b. a *ℚ (x *ℚ b)) (plus_zero r) (gamma_zero r x) ∙ ap (λ t. r *ℚ t) (times_one x) in
+    some_claim (gamma_of r v zero) u (rw (gamma_zero r x, one_times) (grw (order, h)
+    (subst₂ (λ s t. s +ℚ t ≤ℚ u) (gamma_zero r x) first (b 1))))
 
 power_zero : (f : ℕ → Fraction) (n : ℕ) → power f n zero ≡ f zero ^ℚ n
 unfolding power at_zero ◌^ℚ◌ sum_pairs

@@ -34,8 +34,8 @@ gamma r x n = product_below n (λ i. (r +ℚ whole i) /ℚ whole (suc i)) *ℚ x
 abbrev pub gamma_of : Fraction → Fraction → ℕ → Fraction
 gamma_of r v = gamma r (v /ℚ (r +ℚ v))
 
--- w are the weights of a count of the class (a, b, 0), by a and c = a + b, of which none is
--- negative where b may be: 1 at 0, and (n + 1) * w (n + 1) = (a * n + c) * w n
+-- w are the weights of a count of the class (a, b, 0), by a and c = a + b, which is not negative
+-- where b is: 1 at 0, and (n + 1) * w (n + 1) = (a * n + c) * w n
 pub record IsPanjer (a c : Fraction) (w : ℕ → Fraction) : Type 0 where
   pub start : w zero ≡ whole 1
   pub next : (n : ℕ) → whole (suc n) *ℚ w (suc n) ≡ (a *ℚ whole n +ℚ c) *ℚ w n

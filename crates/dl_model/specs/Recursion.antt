@@ -1,5 +1,5 @@
--- Panjer's recursion (Loss Models, "The recursive method"), without a negative number: for the class
--- (a, b, 0) by a and c = a + b.
+-- Panjer's recursion (Loss Models, "The recursive method"), for the class (a, b, 0) by a and
+-- c = a + b: so no number is negative.
 use Rattle.std.specs.Prelude.{ℕ, zero, suc, ◌≡◌}
 use Rattle.dl_exact.specs.Prelude.{Fraction, whole, ◌+ℚ◌, ◌*ℚ◌, ◌/ℚ◌, sum_pairs}
 

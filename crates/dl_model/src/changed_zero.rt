@@ -2,7 +2,7 @@
 //! "Truncation and modification at zero").
 
 ghost use Rattle.std.specs.Prelude.{ℕ, suc, ◌≡◌, ◌*◌, ◌<◌, ◌≤◌, nat_eq};
-ghost use Rattle.dl_exact.specs.Prelude.{Fraction, whole, ◌over◌, ◌-ℚ◌, ◌*ℚ◌, ◌/ℚ◌, ◌≤ℚ◌, ◌<ℚ◌, sum_to};
+ghost use Rattle.dl_exact.specs.Prelude.{Fraction, whole, ◌+ℚ◌, ◌over◌, ◌-ℚ◌, ◌*ℚ◌, ◌/ℚ◌, ◌≤ℚ◌, ◌<ℚ◌, sum_to};
 ghost use Rattle.dl_model.specs.Series.{Series, IsBound, AtMost, AtLeast, Holds, Rises};
 ghost use Rattle.dl_model.specs.Compound.{cell};
 ghost use Rattle.dl_model.specs.Counts.{fixed, binomial, poisson, gamma_of, AreCountWeights};
@@ -110,8 +110,8 @@ pub fn law_changed_values()
 {}
 
 /// Where at least 1 / 16 of a claim is expected, the probability of no claim is at most 16 / 17:
-/// of exactly `m` claims, of `m` trials with probability `a / b`, Poisson, and gamma of shape `q +
-/// 1` and mean `v`.
+/// of exactly `m` claims, of `m` trials with probability `a / b`, Poisson, and gamma of a shape `r`
+/// of at least 1 and mean `v`; of a smaller shape, where the weight of one claim is at least 1 / 16.
 pub fn law_some_claim()
     ensures fixed { (m : ℕ) → 0 < m
         → AtMost (λ N. fixed m 0) (λ N. sum_to N (fixed m)) (16 over 17) }
@@ -119,6 +119,8 @@ pub fn law_some_claim()
         → AtMost (λ N. binomial m a b 0) (λ N. sum_to N (binomial m a b)) (16 over 17) }
     ensures poisson { (v : Fraction) → 1 over 16 ≤ℚ v
         → AtMost (λ N. poisson v 0) (λ N. sum_to N (poisson v)) (16 over 17) }
-    ensures gamma { (q : ℕ) (v : Fraction) → 1 over 16 ≤ℚ v
-        → AtMost (λ N. gamma_of (whole (suc q)) v 0) (λ N. sum_to N (gamma_of (whole (suc q)) v)) (16 over 17) }
+    ensures gamma { (r v : Fraction) → whole 1 ≤ℚ r → 1 over 16 ≤ℚ v
+        → AtMost (λ N. gamma_of r v 0) (λ N. sum_to N (gamma_of r v)) (16 over 17) }
+    ensures gamma_below_one { (r v : Fraction) → 1 over 16 ≤ℚ r *ℚ (v /ℚ (r +ℚ v))
+        → AtMost (λ N. gamma_of r v 0) (λ N. sum_to N (gamma_of r v)) (16 over 17) }
 {}

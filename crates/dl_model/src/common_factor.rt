@@ -78,7 +78,8 @@ pub fn law_common_joint()
         → common_sums (suc q) us (Joint i x) (suc N)
         ≡ whole (suc q) *ℚ (u.mean /ℚ (whole (suc q) +ℚ expected_claims us)) *ℚ sum_pairs x
         (λ a k. whole a *ℚ u.severity a *ℚ
-        cell (gamma (whole (suc (suc q))) (expected_claims us /ℚ (whole (suc q) +ℚ expected_claims us)))
+        cell (gamma (whole (suc (suc q)))
+        (expected_claims us /ℚ (whole (suc q) +ℚ expected_claims us)))
         (pooled_severity us) k N) }
 {}
 

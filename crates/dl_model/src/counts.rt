@@ -95,7 +95,8 @@ pub fn law_added_counts()
     ensures fixed { (m n : ℕ) → power (fixed 1) m n ≡ fixed m n }
     ensures binomial { (a b m n : ℕ) → 0 < b → power (binomial 1 a b) m n ≡ binomial m a b n }
     ensures poisson { (u : Fraction) (k n : ℕ) → power (poisson u) k n ≡ poisson (whole k *ℚ u) n }
-    ensures gamma { (x : Fraction) (s n : ℕ) → power (gamma (whole 1) x) (suc s) n ≡ gamma (whole (suc s)) x n }
+    ensures gamma { (x : Fraction) (s n : ℕ)
+        → power (gamma (whole 1) x) (suc s) n ≡ gamma (whole (suc s)) x n }
 {}
 
 /// Thinning and shares of a Poisson count: with `p` the probability of an amount above 0 and `g`

@@ -53,6 +53,7 @@ pub mod poisson;
 pub mod prices;
 pub mod programs;
 pub mod recursion;
+pub mod shapes;
 pub mod shares;
 pub mod totals;
 pub mod units;

@@ -30,7 +30,7 @@ pub use Rattle.dl_recursion.specs.ToGrid.{HasGridEnds, IsScaled}
 pub use Rattle.dl_recursion.specs.Runs.{ArePositiveAmounts, IsRun, all_parts, part_at, part_sum, run_parts}
 unfoldable pub use Rattle.dl_recursion.specs.Runs.{in_a_row}
 pub use Rattle.dl_recursion.specs.Recursion.{HasRoom, HasRoomOver, AreEnds, AreFalling, AreLast, AreScaledCells, AreWindow, AreWindows, FollowsInWhole, EncloseScaled, AreInScale, IsWindow, cell_before, contribution}
-pub use Rattle.dl_recursion.specs.Start.{HoldsNoClaim}
+pub use Rattle.dl_start.specs.Start.{HoldsNoClaim}
 pub use Rattle.dl_recursion.specs.declared.parts.Part.{Part}
 pub use Rattle.dl_recursion.specs.declared.parts.Run.{Run}
 pub use Rattle.dl_recursion.specs.declared.cells.Window.{Window}

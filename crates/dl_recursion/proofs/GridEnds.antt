@@ -2,8 +2,8 @@
 use Rattle.std.proofs.Math.Nat.{div-div-eq-div-mul}
 use Rattle.dl_recursion.proofs.Common.{◌≡◌, ◌⊎◌, inl, inr, ℕ, ◌+◌, ◌-◌, ◌*◌, ◌/◌, ◌^◌, ◌<◌, ◌≤◌, List, length, get_or, arith, ◌∙◌, pow-add, mul-le-mul_left, mul-le-mul_right, div-mul-le_self, lt-div-mul-add, cases_lt, sum, HasGridEnds, min, set, dvd-mul_right, eq_of_mul-eq-mul_left, get_or-set_same, get_or-set_other, sum_by-set, replicate, get_or-replicate, get_or_past, length-replicate, ap, sym}
 use Prim.Native.Nat.{◌∣◌}
-use Rattle.dl_recursion.specs.declared.scaled.Scaled.{Scaled}
-use Rattle.dl_recursion.proofs.Starts.{two_pos, two_le}
+use Rattle.dl_start.specs.declared.scaled.Scaled.{Scaled}
+use Rattle.dl_start.proofs.Products.{two_pos, two_le}
 
 pub up_reaches : (p d e : ℕ) → 0 < p → d ≤ e → p ≤ ((p - 1) / 2 ^ d + 1) * 2 ^ e
 up_reaches p d e h l = grind (arith, two_pos d, mul-le-mul_left ((p - 1) / 2 ^ d + 1) (two_le d e l), lt-div-mul-add)

@@ -2,7 +2,7 @@
 use Rattle.dl_recursion.proofs.Common.{◌≡◌, ℕ, suc, zero, ◌+◌, ◌-◌, ◌*◌, ◌/◌, ◌^◌, ◌<◌, ◌≤◌, List, [], ◌∷◌, ◌++◌, length, get_or, arith, ◌∙◌, mul-pos, div-mul-le_self, sum_by, All, zero-lt-suc, length-append, Fraction, ◌*ℚ◌, ◌≤ℚ◌, whole, times_one, le_of_eq, Part, contribution, FollowsInWhole, EncloseScaled, AreScaledCells, AreInScale, most_cells, refl, ap, inr, Run, get_or-append, get_or_push}
 use Rattle.dl_recursion.specs.declared.cells.ScaledCells.{ScaledCells}
 use Rattle.dl_recursion.specs.Recursion.{IsBegun}
-use Rattle.dl_recursion.proofs.Rounding.{ceil_reaches}
+use Rattle.dl_start.proofs.Rounding.{ceil_reaches}
 use Rattle.dl_recursion.proofs.Pairs.{contribution_pairs}
 use Rattle.dl_recursion.proofs.Steps.{low_step, high_step}
 

@@ -1,7 +1,4 @@
 mod Common
-pub mod Starts
-pub mod Beginnings
-pub mod Rounding
 pub mod Contributions
 pub mod Runs
 pub mod Windows

@@ -1,10 +1,10 @@
 -- Passes: the window sums of a run, and one cell of a pass.
 use Rattle.dl_recursion.proofs.Common.{◌≡◌, inl, inr, ℕ, suc, zero, ◌+◌, ◌-◌, ◌*◌, ◌/◌, ◌^◌, ◌<◌, ◌≤◌, List, length, get_or, arith, refl, sym, ap, ap₂, ◌∙◌, add-zero, mul-le-mul_left, mul-le-mul_right, div-mul-le_self, pow-add, zero-lt-suc, set, cases_lt, count_pairs, Fraction, ◌+ℚ◌, ◌*ℚ◌, ◌≤ℚ◌, whole, sum_pairs, plus_le_both, whole_plus, whole_times, whole_pos, whole_le, le_refl, le_trans, times_le_cancel, times_le_both, times_left_comm, sum_pairs_same, sum_pairs_times, sum_pairs_le, Run, run_parts, part_at, cell_before, EncloseScaled, le_of_mul-le-mul_right, eq_of_mul-eq-mul_left, get_or-set_other, get_or-set_same, lt-div-mul-add, times_le_times, ring, zero-mul, le_of_eq, times_one, get_or-replicate, length-replicate, take, ◌++◌, replicate}
 use Rattle.dl_exact.proofs.Counts.{below_bound, below_none, below_same, pairs_same}
-use Rattle.dl_recursion.proofs.Rounding.{ceil_reaches}
+use Rattle.dl_start.proofs.Rounding.{ceil_reaches}
 use Rattle.dl_recursion.proofs.Pairs.{contribution_pairs}
 use Rattle.dl_recursion.proofs.Runs.{run_is, row_positive}
-use Rattle.dl_recursion.proofs.Starts.{two_pos}
+use Rattle.dl_start.proofs.Products.{two_pos}
 use Rattle.dl_recursion.proofs.Steps.{scaled_sum}
 use Rattle.dl_recursion.proofs.Windows.{before_at, before_none, before_equal, before_small, sum_slides}
 use Rattle.dl_recursion.specs.Geometric.{IsRaisedBy}

@@ -1,6 +1,6 @@
 -- One step of the recursion and one shift, over whole numbers that stand round 2 ^ 61 * r.
 use Rattle.dl_recursion.proofs.Common.{◌≡◌, ℕ, suc, zero, ◌+◌, ◌-◌, ◌*◌, ◌/◌, ◌^◌, ◌<◌, ◌≤◌, List, get_or, arith, refl, sym, ap, ◌∙◌, mul-le-mul_right, div-mul-le_self, pow-add, zero-lt-suc, Fraction, ◌+ℚ◌, ◌*ℚ◌, ◌≤ℚ◌, whole, count_pairs, times_comm, whole_plus, whole_times, whole_pos, le_refl, le_trans, times_le_cancel, times_le_both, whole_le, EncloseScaled, times_assoc, times_left_comm, sum_pairs_same, sum_pairs_times, sum_pairs_times_right, sum_pairs_le, times_right_comm, sum_pairs}
-use Rattle.dl_recursion.proofs.Rounding.{ceil_reaches, ceil_least}
+use Rattle.dl_start.proofs.Rounding.{ceil_reaches, ceil_least}
 
 -- a sum of whole numbers as a sum of fractions
 as_sum : (n : ℕ) (f : ℕ → ℕ → ℕ) → whole (count_pairs n f) ≡ sum_pairs n (λ i k. whole (f i k))

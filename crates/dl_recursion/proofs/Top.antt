@@ -1,12 +1,12 @@
 -- The placed cells enclose the compound sum.
 use Rattle.dl_recursion.proofs.Common.{◌≡◌, inl, inr, ℕ, suc, zero, ◌+◌, ◌*◌, ◌^◌, ◌<◌, ◌≤◌, List, arith, sym, ap, ap₂, ◌∙◌, pow-add, Fraction, ◌over◌, ◌+ℚ◌, ◌*ℚ◌, ◌≤ℚ◌, ◌<ℚ◌, whole, sum_to, cell, over_same, ring, one_pos, times_one, one_times, le_refl, le_trans, times_le_times, times_le_cancel, whole_pos, whole_times, whole_plus, over_times_whole, times_le_both, Part, IsPanjer, HoldsNoClaim, part_at, FollowsInWhole, EncloseScaled, HasGridEnds, IsScaled, whole_le, max, AtMost, AtLeast, times_pos, sum_pairs_same, sum_pairs_times, times_right_comm, times_second, le-max_left, le-max_right}
 use Rattle.dl_model.specs.Prelude.{compound, Encloses, Recursion, IsWithinOne}
-use Rattle.dl_recursion.specs.declared.scaled.Scaled.{Scaled}
+use Rattle.dl_start.specs.declared.scaled.Scaled.{Scaled}
 use Rattle.dl_model.proofs.Declared.{rises_to}
 use Rattle.dl_model.proofs.FamilyLaws.{cell_at_most_one, compound_proper}
 use Rattle.dl_model.proofs.CompoundLaws.{cell_stays}
 use Rattle.dl_model.proofs.Panjer.{recursion_there, recursion_next}
-use Rattle.dl_recursion.proofs.Starts.{two_pos}
+use Rattle.dl_start.proofs.Products.{two_pos}
 
 -- ---- the numbers of one cell
 

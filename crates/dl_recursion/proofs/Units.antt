@@ -1,24 +1,9 @@
--- Equal shares of a count, the steps of its weights, and items with their weights times a factor.
+-- The steps of a count's weights, and items with their weights times a factor.
 use Rattle.dl_recursion.proofs.Common.{◌≡◌, inl, inr, ℕ, suc, zero, ◌+◌, ◌-◌, ◌*◌, ◌/◌, ◌<◌, List, [], ◌∷◌, length, take, get_or, arith, sym, ap, ◌∙◌, mul-pos, refl, add-one, All, sum_by, sum_by-cons, sum_by_more, Fraction, ◌over◌, ◌+ℚ◌, ◌*ℚ◌, ◌/ℚ◌, whole, over_add, over_mul, over_same, over_self, over_times_whole, whole_times, one_pos, one_times, power, poisson, gamma, IsPanjer, Part, in_a_row, eq-zero-or-pos, mul-add, ◌≢◌, add-zero, eq_of_mul-eq-mul_right, eq-eqb, ne_eqb, All-head, All-tail, ◌==◌, if◌then◌else◌, eqb_tells, over_div, times_assoc, zero_times, times_comm, Item, weight_sum, weight_at}
 use Prim.Native.Nat.{◌∣◌}
 use Rattle.dl_model.proofs.Panjer.{poisson_class, gamma_class}
-use Rattle.dl_model.proofs.PoissonTimes.{poisson_power}
-use Rattle.dl_model.proofs.Gamma.{gamma_power}
 use Rattle.dl_model.proofs.Multiples.{multiple_of}
 use Rattle.dl_recursion.proofs.Runs.{row_none, row_more}
-
--- equal shares of a Poisson mean, together
-pub shares : (num den s : ℕ) → 0 < den → 0 < s → power (poisson (num over (s * den))) s ≡ poisson (num over den)
-shares num den s d p =
-    poisson_power (num over (s * den)) s
-    ∙ ap poisson
-    (over_mul s 1 num (s * den) one_pos (mul-pos p d)
-    ∙ over_same _ _ _ _ (mul-pos one_pos (mul-pos p d)) d (omega arith))
-
--- as many geometric counts as the shape says, together
-pub shapes : (x : Fraction) (s : ℕ) → 0 < s → power (gamma (whole 1) x) s ≡ gamma (whole s) x
-shapes x zero p = absurd (omega (arith, p))
-shapes x (suc s) p = gamma_power s x
 
 -- ---- an item with its amount in steps of g and its weight times k
 
@@ -99,8 +84,3 @@ pub gamma_steps : (s b : ℕ) (x : Fraction) → 0 < s → b ≡ s - 1
 gamma_steps s b x p e =
     let m : 1 + b ≡ s = omega (arith, p, e) in
     rw (one_times, m) (gamma_class (whole s) x)
-
-pub contribution_is : (num den s : ℕ) → 0 < den → 0 < s
-    → num over (num + s * den) ≡ num over den /ℚ (whole s +ℚ num over den)
-contribution_is num den s d p =
-    grind (arith, mul-pos p d, over_add s 1 num den one_pos d, mul-pos one_pos d, over_div, over_same, mul-pos)

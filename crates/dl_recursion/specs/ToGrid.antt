@@ -4,7 +4,7 @@ use Prim.Native.Nat.{◌∣◌}
 use Rattle.dl_limits.specs.Limits.{start_bits}
 use Rattle.dl_exact.specs.Fraction.{Fraction, whole, ◌*ℚ◌}
 use Rattle.dl_recursion.specs.declared.parts.Part.{Part}
-use Rattle.dl_recursion.specs.declared.scaled.Scaled.{Scaled}
+use Rattle.dl_start.specs.declared.scaled.Scaled.{Scaled}
 use Rattle.dl_recursion.specs.Runs.{part_at}
 
 -- The ends lo and hi of cells in units of 1 / 2^B, from n cells of the recursion over amounts that

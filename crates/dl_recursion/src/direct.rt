@@ -8,18 +8,17 @@ ghost use Rattle.dl_model.specs.Prelude.{poisson, gamma_of, IsPanjer, compound, 
 ghost use Rattle.dl_plan.specs.Prelude.{probability_of, HasPartsOf48Bits};
 ghost use Rattle.dl_recursion.specs.Runs.{run_parts, all_parts, part_sum, IsRun, ArePositiveAmounts};
 ghost use Rattle.dl_recursion.specs.Recursion.{HasRoomOver, AreFirst};
-ghost use Rattle.dl_recursion.specs.Start.{HoldsNoClaim};
+ghost use Rattle.dl_start.specs.Start.{HoldsNoClaim};
 
 use crate::cells::{START_BITS, ScaledCells};
-use crate::first::{gamma_start, poisson_start};
 use crate::parts::{Amounts, Run, amounts_of, common_amount};
 use crate::passes::{MOST_PASSES, by_passes};
 use crate::recursion::recur;
-use crate::scaled::Scaled;
 use crate::to_grid::to_grid;
 use dl_frac::Frac;
 use dl_grid::Grid;
 use dl_plan::Sev;
+use dl_start::{Scaled, gamma_start, poisson_start};
 use std::alloc::{AllocError, Global};
 
 /// How the weights of a count step: the weight of `n + 1` claims is

@@ -7,8 +7,8 @@ ghost use Rattle.dl_recursion.specs.Recursion.{AreScaledCells};
 ghost use Rattle.dl_recursion.specs.ToGrid.{HasGridEnds};
 
 use crate::cells::ScaledCells;
-use crate::scaled::Scaled;
 use dl_grid::{Grid, units_of_one};
+use dl_start::Scaled;
 use std::alloc::{AllocError, Global};
 
 /// The product of two ends has fewer bits.

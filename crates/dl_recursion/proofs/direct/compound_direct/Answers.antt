@@ -8,7 +8,7 @@ use Rattle.dl_plan.specs.Severity.{probability_of}
 use Rattle.dl_plan.proofs.Positive.{amounts_positive}
 use Rattle.dl_model.proofs.WithinOne.{within_one}
 use Rattle.dl_model.proofs.Stretched.{common_divides, multiples_within, multiples_enclose}
-use Rattle.dl_recursion.proofs.Starts.{two_pos}
+use Rattle.dl_start.proofs.Products.{two_pos}
 use Rattle.dl_recursion.proofs.Units.{chance_scaled}
 use Rattle.dl_recursion.proofs.Top.{follows, ends_enclose}
 use Rattle.dl_recursion.proofs.direct.compound_direct.Goals as goal

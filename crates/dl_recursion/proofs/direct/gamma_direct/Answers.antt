@@ -1,7 +1,8 @@
 use Rattle.dl_recursion.proofs.Common.{◌≡◌, ◌+◌, ◌*◌, whole, ◌over◌, ◌+ℚ◌, ◌/ℚ◌, over_self, gamma, HoldsNoClaim}
 use Rattle.std.proofs.lemmas.Result.{IfOk-weaker}
 use Rattle.std.proofs.lemmas.Option.{IfSome_then}
-use Rattle.dl_recursion.proofs.Units.{gamma_steps, contribution_is}
+use Rattle.dl_start.proofs.Shares.{contribution_is}
+use Rattle.dl_recursion.proofs.Units.{gamma_steps}
 use Rattle.dl_recursion.proofs.direct.gamma_direct.Goals as goal
 
 pub returns-clause-encloses : goal.returns-clause-encloses

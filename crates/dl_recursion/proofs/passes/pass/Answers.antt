@@ -1,7 +1,7 @@
 use Rattle.std.proofs.Common.{div-le_self}
 use Rattle.dl_recursion.proofs.Common.{◌≡◌, ℕ, ◌+◌, ◌-◌, ◌/◌, ◌^◌, ◌<◌, ◌≤◌, length, arith, refl, sym, ◌∙◌, get_or, get_or-set_same, set, length-set}
-use Rattle.dl_recursion.proofs.Rounding.{ceil_small}
-use Rattle.dl_recursion.proofs.Starts.{two_pos}
+use Rattle.dl_start.proofs.Rounding.{ceil_small}
+use Rattle.dl_start.proofs.Products.{two_pos}
 use Rattle.dl_recursion.proofs.Raising.{window_begins, window_set, room_before, room_for, small_set, left_set, share_le, pass_begins, pass_goes_on}
 use Rattle.dl_recursion.proofs.passes.pass.Goals as goal
 

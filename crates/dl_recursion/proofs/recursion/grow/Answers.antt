@@ -1,6 +1,6 @@
 use Rattle.dl_recursion.proofs.Common.{◌≡◌, suc, ◌<◌, mul-pos, ◌-◌, ◌*◌, ◌^◌, length, ◌∷◌, [], ◌++◌, arith, ap, ◌≤◌, ◌∙◌, length-append, sum_by, whole, ◌*ℚ◌, ◌≤ℚ◌, all_parts, contribution, AreWindows, EncloseScaled, inl, inr}
 use Rattle.dl_recursion.proofs.Grow.{cells_pushed, pushed, next_low, next_high}
-use Rattle.dl_recursion.proofs.Rounding.{ceil_small}
+use Rattle.dl_start.proofs.Rounding.{ceil_small}
 use Rattle.dl_recursion.proofs.Runs.{all_positive}
 use Rattle.dl_recursion.proofs.Windows.{windows_grown}
 use Rattle.dl_recursion.proofs.recursion.grow.Goals as goal

@@ -1,6 +1,6 @@
 use Rattle.dl_recursion.proofs.Common.{◌+◌, ◌-◌, ◌*◌, ◌^◌, ◌≤◌, arith, ◌∙◌, mul-le-mul_right, le_trans, whole_le, inr, refl}
 use Rattle.dl_recursion.proofs.Windows.{no_windows}
-use Rattle.dl_recursion.proofs.Starts.{two_le}
+use Rattle.dl_start.proofs.Products.{two_le}
 use Rattle.dl_recursion.proofs.Steps.{shifted, shift_low, shift_high, shift_down_top}
 use Rattle.dl_recursion.proofs.recursion.shift_down.Goals as goal
 use Rattle.dl_recursion.proofs.recursion.shift_down.Goals.{then-high-gt-MOST_END, else-high-gt-MOST_END}

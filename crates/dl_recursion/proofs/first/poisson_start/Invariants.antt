@@ -1,8 +1,0 @@
-use Rattle.dl_recursion.proofs.Common.{◌-◌, ◌≤◌, ◌<◌}
-use Rattle.dl_recursion.proofs.first.poisson_start.Given as goal
-
-abbrev pub invariant-loop-shares : goal.invariant-loop-shares
-invariant-loop-shares l = record { some : 0 < l.shares; few : l.shares ≤ 16384 }
-
-abbrev pub decreases-loop-shares : goal.decreases-loop-shares
-decreases-loop-shares l = 16384 - l.shares

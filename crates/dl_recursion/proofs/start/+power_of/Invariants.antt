@@ -1,4 +1,0 @@
-use Rattle.dl_recursion.proofs.start.+power_of.Given as goal
-
-abbrev pub decreases-power_of : goal.decreases-power_of
-decreases-power_of l = l.n
