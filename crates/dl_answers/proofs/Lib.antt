@@ -1,0 +1,10 @@
+mod Common
+mod Scales
+mod Losses
+mod Printed
+mod Named
+mod Grounds
+mod GoodRows
+mod Tails
+mod PriceRows
+mod ShareLaws

@@ -1,0 +1,9 @@
+use Rattle.dl_answers.proofs.Common.{ℕ, ◌≡◌, ◌<◌, length, get_or, Asked, Row, IsGood}
+use Rattle.dl_answers.proofs.reports.mean_report.Given as goal
+
+abbrev pub invariant-loop-i : goal.invariant-loop-i
+invariant-loop-i g l = record {
+  as_many : length l.rows.items ≡ l.i;
+  each : (k : ℕ) (a : Asked) (r : Row) → k < l.i
+      → IsGood l.plan l.settings.digits (get_or l.asks k a) (get_or l.rows.items k r);
+}

@@ -1,0 +1,5 @@
+pub mod Rows
+pub mod Answers
+pub mod Admission
+pub mod Grounds
+pub mod Prelude
