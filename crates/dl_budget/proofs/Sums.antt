@@ -152,10 +152,6 @@ sum_of_later S cells us zero x inside none e =
     ∙ ap (sum_spread S cells) (sym (drop-map (unit_budget S cells) 1 us))
 sum_of_later S cells us (suc i) x inside none e = absurd (omega (arith, none, inside, length-take (suc i) us))
 
--- the later units
-pub later_length : (us : List UnitOfPlan) → length (take (length us - 1) (drop 1 us)) ≡ length us - 1
-later_length us = ap length (from_there 0 us) ∙ length-drop 1 us
-
 -- n is 0 where the test n == 0 is true, and at least 1 where it is false
 pub none_there : (n : ℕ) (empty : Bool) → empty ≡ (n == 0) → empty ≡ true → n ≡ 0
 none_there n empty told is = grind (arith, eqb_tells n 0)

@@ -1,6 +1,6 @@
 -- Which plans have certificates.
 use Rattle.std.specs.Prelude.{ℕ, ◌≡◌, ◌≢◌, ◌⊎◌, ◌<◌, ◌≤◌, ⊤, None, List, length, get_or, All}
-use Rattle.dl_limits.specs.Limits.{most_cert_cells}
+use Rattle.dl_limits.specs.Limits.{most_cert_cells, standard_units}
 use Rattle.dl_plan.specs.declared.plan.Freq.{Freq}
 use Rattle.dl_plan.specs.declared.plan.Freq.TheVariants.{Fixed, Table, Bernoulli, Binomial, Poisson, Gamma}
 use Rattle.dl_plan.specs.declared.plan.Plan.{Plan}
@@ -27,15 +27,18 @@ pub record IsCoveredUnit (u : UnitOfPlan) : Type 0 where
   pub clause : u.cede ≡ None
   pub zero : u.zero ≡ None
 
--- a plan of such units, which share no factor
+-- a plan of at most 16 such units, which share no factor
 pub record IsCovered (plan : Plan) : Type 0 where
+  pub few : length plan.units ≤ standard_units
   pub units : All IsCoveredUnit plan.units
   pub common : plan.common ≡ None
 
--- unit i is the first that is not covered
+-- unit i is the first that is not covered, as are all behind the first 16
 pub record IsFirstUncovered (units : List UnitOfPlan) (i : ℕ) : Type 0 where
   pub inside : i < length units
-  pub here : (default : UnitOfPlan) → ¬ IsCoveredUnit (get_or units i default)
+  pub few : i ≤ standard_units
+  pub here : (default : UnitOfPlan)
+      → (i ≡ standard_units) ⊎ ¬ IsCoveredUnit (get_or units i default)
   pub before : (k : ℕ) (default : UnitOfPlan) → k < i → IsCoveredUnit (get_or units k default)
 
 -- what a plan that is not covered is refused with: the number of its first unit that is not

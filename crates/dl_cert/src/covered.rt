@@ -1,10 +1,11 @@
 //! Which plans have certificates.
 
-ghost use Rattle.std.specs.Prelude.{ℕ, ◌≤◌, ◌↔◌, IsTrue, All, MatchOption, length};
-ghost use Rattle.dl_limits.specs.Limits.{most_units};
+ghost use Rattle.std.specs.Prelude.{ℕ, ◌≤◌, ◌↔◌, IsNone, IsTrue, All, MatchOption, length};
+ghost use Rattle.dl_limits.specs.Limits.{standard_units};
 ghost use Rattle.dl_plan.specs.Valid.{IsValid};
 ghost use Rattle.dl_cert.specs.Covered.{IsTable, IsCoveredUnit, IsCovered, IsFirstUncovered, IsNotCovered};
 
+use dl_limits::STANDARD_UNITS;
 use dl_plan::{Freq, Plan, Unit};
 
 /// Whether a count is listed.
@@ -24,13 +25,13 @@ fn is_covered(unit: &Unit) -> bool
     !is_listed(&unit.freq) && unit.cede.is_none() && unit.zero.is_none()
 }
 
-/// The first unit that is not covered.
+/// The first unit that is not covered, as are all behind the first 16.
 fn first_uncovered(units: &[Unit]) -> Option<u32>
-    requires few { length units.now ≤ most_units }
-    ensures { MatchOption result (All IsCoveredUnit units.now) (IsFirstUncovered units.now) }
+    ensures few { IsNone result → length units.now ≤ standard_units }
+    ensures first { MatchOption result (All IsCoveredUnit units.now) (IsFirstUncovered units.now) }
 {
     for i in 0..units.len() {
-        if !is_covered(&units[i]) {
+        if i == STANDARD_UNITS || !is_covered(&units[i]) {
             return Some(i as u32);
         }
     }
@@ -38,7 +39,8 @@ fn first_uncovered(units: &[Unit]) -> Option<u32>
 }
 
 /// The reason why a valid plan has no certificate: the number of its first unit that is not
-/// covered, or 0 where its units share a factor. `None` where the plan is covered.
+/// covered, as are all behind the first 16, or 0 where its units share a factor. `None` where the
+/// plan is covered.
 pub fn not_covered(plan: &Plan) -> Option<u32>
     requires valid { IsValid plan.now }
     ensures { MatchOption result (IsCovered plan.now) (IsNotCovered plan.now) }

@@ -1,10 +1,10 @@
 //! The mean of a total.
 
-ghost use Rattle.std.specs.Prelude.{◌≡◌, ◌≤◌, ◌^◌, ℕ, List, None, All, length};
-ghost use Rattle.dl_limits.specs.Limits.{IsPlanScale, most_units};
+ghost use Rattle.std.specs.Prelude.{◌≡◌, ◌≤◌, None, sum_by};
+ghost use Rattle.dl_limits.specs.Limits.{IsPlanScale};
 ghost use Rattle.dl_plan.specs.declared.plan.Plan.{Plan};
 ghost use Rattle.dl_plan.specs.Valid.{IsValid};
-ghost use Rattle.dl_eval.specs.Totals.{most_unit_mean, most_mean, AreUnitMeans, IsMeanOf};
+ghost use Rattle.dl_eval.specs.Totals.{most_mean, AreUnitMeans, IsMeanOf};
 
 use dl_iv::Iv;
 
@@ -12,8 +12,7 @@ use dl_iv::Iv;
 /// means of its units.
 pub(crate) fn total_mean<const B: u32>(means: &[Iv<B>]) -> Iv<B>
     requires scale { IsPlanScale B }
-    requires few { length means.now ≤ most_units }
-    requires small { All (λ mean. mean.hi ≤ most_unit_mean) means.now }
+    requires small { sum_by (λ mean. mean.hi) means.now ≤ most_mean }
     ensures mean { (plan : Plan) → IsValid plan → plan.common ≡ None
         → AreUnitMeans plan.cells plan.units means.now → IsMeanOf plan result }
     ensures small { result.hi ≤ most_mean }

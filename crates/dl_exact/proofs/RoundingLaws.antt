@@ -1,9 +1,10 @@
 -- Quotients of whole numbers are floors and ceilings, and there is one of each.
-use Rattle.dl_exact.proofs.Common.{◌≡◌, ℕ, ◌*◌, ◌/◌, ◌<◌, ◌≤◌, arith, inl, inr, mul-le-mul_left, cases_lt, div_ceil, Fraction, ◌over◌, ◌≤ℚ◌, whole, IsFloor, IsCeiling}
+use Rattle.dl_exact.proofs.Common.{◌≡◌, ℕ, ◌*◌, ◌/◌, ◌<◌, ◌≤◌, arith, inl, inr, subst, mul-le-mul_left, cases_lt, div_ceil, Fraction, ◌over◌, ◌≤ℚ◌, whole, IsFloor, IsCeiling}
 use Rattle.std.proofs.Math.Nat.{div-mul-le_self, mul-le-mul_right}
 use Rattle.std.proofs.lemmas.Nat.{le-div}
 use Rattle.std.proofs.lemmas.Grind.{div_ceil_times}
-use Rattle.dl_exact.proofs.Over.{over_le, le_over}
+use Rattle.dl_exact.proofs.Over.{over_le, le_over, over_self}
+unfoldable use Rattle.dl_exact.specs.Rounding.{up}
 use Rattle.dl_exact.proofs.Laws.{one_pos}
 
 -- whole numbers stand as their fractions do
@@ -19,6 +20,18 @@ div_ceil_least n d m pos h = elim (cases_lt m (div_ceil n d)) [
   | inl far ↦ absurd (omega (arith, (div_ceil_times n d pos).1, mul-le-mul_right d far))
   | inr near ↦ near
 ]
+
+-- the least whole number that is not below x is not below x
+pub up_above : (x : Fraction) → x ≤ℚ whole (up x)
+unfolding up
+up_above x = subst (λ y. y ≤ℚ whole (up x)) (over_self x) (over_le x.num x.den (div_ceil x.num x.den) 1 x.positive one_pos
+    (omega (arith, (div_ceil_times x.num x.den x.positive).0)))
+
+-- and no whole number that is not is less
+pub up_least : (x : Fraction) (n : ℕ) → x ≤ℚ whole n → up x ≤ n
+unfolding up
+up_least x n h = div_ceil_least x.num x.den n x.positive
+    (omega (arith, le_over x.num x.den n 1 x.positive one_pos (rw (over_self x) h)))
 
 -- a part of a number, rounded up, is not above it
 pub part_within : (n a b : ℕ) → 0 < b → a ≤ b → div_ceil (n * a) b ≤ n

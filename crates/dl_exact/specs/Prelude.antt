@@ -7,4 +7,5 @@ pub use Rattle.dl_exact.specs.Multiples.{IsLcm}
 unfoldable pub use Rattle.dl_exact.specs.Multiples.{lcm}
 unfoldable pub use Rattle.dl_exact.specs.Power.{choose, factorial, ◌^ℚ◌}
 pub use Rattle.dl_exact.specs.Rounding.{IsCeiling, IsFloor}
+unfoldable pub use Rattle.dl_exact.specs.Rounding.{up}
 unfoldable pub use Rattle.dl_exact.specs.Sum.{sum_below, sum_over, sum_pairs, sum_to}

@@ -2,12 +2,8 @@
 -- before either is. S units make 1; a spread is the sum of the widths of a grid's cells, in those
 -- units.
 use Rattle.std.specs.Prelude.{ℕ, zero, suc, ◌+◌, ◌-◌, ◌*◌, ◌≤◌, Option, Some, None, List, [], ◌∷◌, fold}
-use Rattle.std.specs.Int.{div_ceil}
 use Rattle.dl_exact.specs.Fraction.{Fraction, ◌over◌}
-
--- the least whole number not below x
-unfoldable pub up : Fraction → ℕ
-up x = div_ceil x.num x.den
+unfoldable pub use Rattle.dl_exact.specs.Rounding.{up}
 
 -- ---- grids
 

@@ -68,6 +68,22 @@ most_claims = 65536
 abbrev pub most_items : ℕ
 most_items = 65536
 
+-- the mean of all units of a plan with a grid of at most `most_short_cells` cells, in buckets
+abbrev pub most_short_total : ℕ
+most_short_total = 17 * 2 ^ 36
+
+-- the same in any plan
+abbrev pub most_total : ℕ
+most_total = 17 * 2 ^ 38
+
+-- the same in a plan with a grid of so many cells
+unfoldable pub most_total_at : ℕ → ℕ
+most_total_at cells = if nat_le cells most_short_cells then most_short_total else most_total
+
+-- a change of the probability of no claim makes a mean at most so many times as large
+abbrev pub most_growth : ℕ
+most_growth = 17
+
 -- the expected number of claims above 0, where the count has no greatest number
 abbrev pub most_expected : ℕ
 most_expected = 4096
@@ -83,7 +99,7 @@ most_parts = 2 ^ 30
 
 -- the units of a plan
 abbrev pub most_units : ℕ
-most_units = 16
+most_units = 256
 
 -- of these, the units whose probability of no claim is changed
 abbrev pub most_changed : ℕ

@@ -46,8 +46,8 @@ pub const MOST_EXPECTED: u32 = 4_096;
 /// The greatest shape of a gamma count.
 pub const MOST_SHAPE: u32 = 10_000;
 
-/// The most units of a plan.
-pub const MOST_UNITS: usize = 16;
+/// The most units of a plan by the standard rules.
+pub const STANDARD_UNITS: usize = 16;
 
 /// The most layers of a clause.
 pub const MOST_LAYERS: usize = 16;

@@ -3,7 +3,7 @@
 ghost use Rattle.std.specs.Prelude.{◌≡◌};
 ghost use Rattle.dl_limits.specs.Rules.{bounds_of};
 
-use crate::{MOST_PARTS, MOST_UNITS, MOST_VALUES};
+use crate::{MOST_PARTS, MOST_VALUES, STANDARD_UNITS};
 
 /// The rules that a program is typed by.
 #[derive(Clone, Copy, Debug, PartialEq, Eq)]
@@ -33,7 +33,7 @@ pub fn bounds_of(rules: Rules) -> Bounds
 {
     match rules {
         Rules::Standard | Rules::Extended => Bounds {
-            units: MOST_UNITS,
+            units: STANDARD_UNITS,
             values: MOST_VALUES,
             parts: MOST_PARTS,
         },

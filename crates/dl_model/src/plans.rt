@@ -9,7 +9,7 @@ ghost use Rattle.dl_plan.specs.declared.plan.Freq.{Freq};
 ghost use Rattle.dl_plan.specs.declared.plan.Freq.TheVariants.{Poisson, Gamma};
 ghost use Rattle.dl_plan.specs.declared.plan.Unit.{Unit as UnitOfPlan};
 ghost use Rattle.dl_plan.specs.declared.plan.Plan.{Plan};
-ghost use Rattle.dl_plan.specs.Prelude.{probability_of, pairs_of, mean_amount, conditioned, HasDistribution, common_amount, Clause, kept, expected_count, IsUnbounded, IsClaimCount as IsCountOfPlan, declared_mean, thinned_mean, IsNewZero, IsValidUnit, IsValid, SharesFactor};
+ghost use Rattle.dl_plan.specs.Prelude.{probability_of, pairs_of, mean_amount, conditioned, HasDistribution, common_amount, Clause, kept, expected_count, IsUnbounded, IsClaimCount as IsCountOfPlan, declared_mean, thinned_mean, growth, IsNewZero, IsValidUnit, IsValid, SharesFactor};
 ghost use Rattle.dl_model.specs.Series.{IsBound, AtMost, AtLeast, Holds};
 ghost use Rattle.dl_model.specs.ChangedZero.{without_none};
 ghost use Rattle.dl_model.specs.Compound.{cell};
@@ -89,8 +89,8 @@ pub fn law_expected()
 {}
 
 /// Without an aggregate clause and a changed probability of no claim the mean of a unit is its
-/// expected count times the mean of one claim; no clause raises it; and the mean of a total is the
-/// sum of the means of its units. Where the units share a factor, each has the first of these.
+/// expected count times the mean of one claim; no clause raises it, and no change of the probability
+/// of no claim makes it more than 17 times as large; and the mean of a total is the sum of the means of its units. Where the units share a factor, each has the first of these.
 pub fn law_plan_mean()
     ensures unit { (cells : ℕ) (u : UnitOfPlan) → IsValidUnit cells u → u.cede ≡ None
         → u.zero ≡ None
@@ -101,6 +101,9 @@ pub fn law_plan_mean()
         → AtMost (partial_sums (loss (aggregate_of u) ∷ []) Mean)
         (partial_sums (loss (aggregate_of u) ∷ []) One)
         (expected_count u.freq *ℚ mean_amount (pairs_of u.sev)) }
+    ensures changed { (cells : ℕ) (u : UnitOfPlan) → IsValidUnit cells u
+        → AtMost (partial_sums (loss_of u ∷ []) Mean) (partial_sums (loss_of u ∷ []) One)
+        (whole (growth u.zero) *ℚ declared_mean u) }
     ensures total { (plan : Plan) (l h : UnitOfPlan → Fraction) → IsValid plan
         → All (λ u. Holds (partial_sums (loss_of u ∷ []) Mean) (partial_sums (loss_of u ∷ []) One)
         (l u) (h u)) plan.units

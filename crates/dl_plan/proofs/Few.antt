@@ -53,7 +53,11 @@ sum_of_standard f a e us few each =
 
 -- those of a valid plan
 pub are_few : (plan : Plan) → IsValid plan → AreFew plan.units
-are_few plan valid = record {
-  few = valid.few;
-  changed = omega (arith, valid.few, count_by-le-length (λ (u : UnitOfPlan). is_some u.zero) plan.units);
+are_few plan valid = record { few = valid.few; changed = valid.changed }
+
+-- at most 16 units, by the standard rules
+pub standard_few : (us : List UnitOfPlan) → length us ≤ standard_units → AreFew us
+standard_few us few = record {
+  few = omega (arith, few);
+  changed = omega (arith, few, count_by-le-length (λ (u : UnitOfPlan). is_some u.zero) us);
 }

@@ -16,6 +16,7 @@ pub mod PlainBytes
 pub mod Buckets
 pub mod ValidUnits
 pub mod Few
+pub mod MeanSizes
 pub mod Shared
 pub mod Raised
 pub mod Passed

@@ -15,7 +15,7 @@ pub use Rattle.dl_plan.specs.Plain.{IsPlainByte}
 pub use Rattle.dl_plan.specs.Ranges.{AreInRange, IsAskInRange, IsBucket, IsLevel}
 pub use Rattle.dl_plan.specs.Severity.{HasDistribution, Pairs, conditioned, mean_amount, pairs_of, probability, probability_of}
 pub use Rattle.dl_plan.specs.Shared.{SharesFactor}
-pub use Rattle.dl_plan.specs.Size.{AreFew, changed_units}
+pub use Rattle.dl_plan.specs.Size.{AreFew, changed_units, growth, whole_mean, whole_means}
 pub use Rattle.dl_plan.specs.Terms.{ArePriced, most_terms, most_weight_parts}
 pub use Rattle.dl_plan.specs.Valid.{IsAggregate, IsNewZero, IsValid, IsValidUnit, claims_alone}
 pub use Rattle.dl_plan.specs.Weighted.{IsWeighted, amounts_of, common_amount, common_weight, divided_by, greatest, weight_at, weight_sum, weighted_sum}

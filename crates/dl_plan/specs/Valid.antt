@@ -1,6 +1,6 @@
 -- What a valid plan is.
 use Rattle.std.specs.Prelude.{ℕ, ◌≡◌, ◌≢◌, ◌*◌, ◌<◌, ◌≤◌, ◌^◌, None, IfSome, [], length, All, AllPairs}
-use Rattle.dl_limits.specs.Limits.{most_amount_at, most_expected, most_horizon, most_items, most_log2, most_units, rarest_claims, zero_bound}
+use Rattle.dl_limits.specs.Limits.{most_amount_at, most_expected, most_horizon, most_items, most_changed, most_log2, most_total_at, most_units, rarest_claims, zero_bound}
 use Rattle.dl_exact.specs.Fraction.{Fraction, whole, ◌over◌, ◌≤ℚ◌, ◌<ℚ◌}
 use Rattle.dl_plan.specs.declared.cede.CedeLayer.{CedeLayer}
 use Rattle.dl_plan.specs.declared.severity.Sev.{Sev}
@@ -14,6 +14,7 @@ use Rattle.dl_plan.specs.Horizon.{IsHorizon}
 use Rattle.dl_plan.specs.Count.{expected_count, IsUnbounded, IsExposed, IsClaimCount}
 use Rattle.dl_plan.specs.Means.{thinned_mean}
 use Rattle.dl_plan.specs.Common.{HasCommonFactor}
+use Rattle.dl_plan.specs.Size.{changed_units, whole_means}
 
 -- a unit of this count and severity alone: no clause, and no change of its probability of no claim
 abbrev pub claims_alone : Freq → Sev → UnitOfPlan
@@ -56,13 +57,17 @@ pub record IsValidUnit (cells : ℕ) (u : UnitOfPlan) : Type 0 where
   pub clause : IfSome u.cede (IsAggregate cells u.sev)
   pub zero : IfSome u.zero (IsNewZero u.freq)
 
--- a bucket size above 0, a power of two from 2 to 65,536 cells, and 1 to 16 valid units with
--- different names; and where they share a gamma factor, what its shape and they keep together
+-- a bucket size above 0, a power of two from 2 to 65,536 cells, and 1 to 256 valid units with
+-- different names, at most 16 of them with a changed probability of no claim, and with means of at
+-- most 17 * 2^36 buckets together where the grid has up to 4,096 cells, else 17 * 2^38; and where
+-- they share a gamma factor, what its shape and they keep together
 pub record IsValid (plan : Plan) : Type 0 where
   pub bucket : whole 0 <ℚ plan.bs
   pub cells : (k : ℕ) × (1 ≤ k) × (k ≤ most_log2) × (plan.cells ≡ 2 ^ k)
   pub some : 1 ≤ length plan.units
   pub few : length plan.units ≤ most_units
+  pub changed : changed_units plan.units ≤ most_changed
+  pub means : whole_means plan.units ≤ most_total_at plan.cells
   pub names : AllPairs (λ u v. u.name ≢ v.name) plan.units
   pub units : All (IsValidUnit plan.cells) plan.units
   pub common : IfSome plan.common (λ r. HasCommonFactor r plan.units)

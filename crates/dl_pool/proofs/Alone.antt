@@ -1,5 +1,7 @@
 -- The plan of the one unit is valid: its amounts are those of the units, and its thinned mean is the sum of theirs.
 use Rattle.dl_pool.proofs.Common.{ℕ, zero, suc, ◌≡◌, ◌∙◌, ◌<◌, ◌≤◌, List, [], ◌∷◌, length, take, get_or, inl, inr, refl, ap, ap₂, sym, subst, arith, All, take_all, cases_lt, sum_by-cons, Fraction, whole, ◌over◌, ◌+ℚ◌, ◌-ℚ◌, ◌*ℚ◌, ◌/ℚ◌, ◌≤ℚ◌, ◌<ℚ◌, sum_over, sum_over_same, sum_over_times, ring, le_refl, le_trans, div_times, times_cancel, times_one, times_zero, times_plus, plus_zero, plus_cancel, sub_plus, times_le_both, whole_pos, over_zero, severity_total, Item, Sev, UnitOfPlan, Plan, HasPartsOf48Bits, greatest, weight_at, probability_of, expected_count, IsUnbounded, Freq, Gamma, thinned_mean, SharesFactor, expected_of, thinned_of, raised, PoissonUnit, expected_claims, pooled_severity, poisson_units, IsMixedOf, IsPooled, IsRaised, alone, ◌==◌, cond, fun_ext, eq-eqb, ne_eqb, get_or-le-sum_by, le_div, whole_le, same_num, over_le, IsClaimCount, has_factor, weight_at-le, gamma_of, Quantity, partial_sums, loss, plain, after_zero, aggregate_of, count_weights, outcome_after, declared, common_sums, pooled_unit, CountsTotal, as_one_loss, declared_is, expected_units, are_severities, pooled_over, shares_severity}
+use Rattle.dl_plan.proofs.Few.{standard_few}
+use Rattle.dl_plan.proofs.MeanSizes.{standard_means}
 use Rattle.dl_model.proofs.PoissonTotals.{part_back}
 use Rattle.std.proofs.lemmas.List.Elements.{All-head, All-tail, All-cons, All-nil}
 use Rattle.dl_plan.specs.Valid.{IsValid, IsValidUnit, IsAggregate, IsNewZero}
@@ -147,10 +149,15 @@ alone_valid plan made valid unit = record {
   cells = valid.cells;
   some = omega arith;
   few = omega arith;
+  changed = (standard_few (made ∷ []) (omega arith)).changed;
+  means = standard_means plan.cells (made ∷ []) units (omega arith);
   names = λ i j d p q. absurd (omega arith);
-  units = All-cons (IsValidUnit plan.cells) made [] unit (All-nil (IsValidUnit plan.cells));
+  units = units;
   common = tt;
 }
+  where
+    units : All (IsValidUnit plan.cells) (made ∷ [])
+    units = All-cons (IsValidUnit plan.cells) made [] unit (All-nil (IsValidUnit plan.cells))
 
 pub whole_list : (P : Fraction → Type 0) (f : List UnitOfPlan → Fraction) (units : List UnitOfPlan) → 1 ≤ length units
     → ((k : ℕ) → 1 ≤ k → k ≤ length units → P (f (take k units))) → P (f units)

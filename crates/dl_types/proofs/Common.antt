@@ -13,7 +13,7 @@ pub use Prim.Native.Nat.{◌∣◌}
 pub use Rattle.dl_limits.proofs.RuleBounds.{bounds_within}
 pub use Rattle.dl_limits.specs.Rules.{AreBounds}
 pub use Rattle.dl_limits.specs.declared.rules.Bounds.{Bounds}
-pub use Rattle.dl_limits.specs.Limits.{admitted_bound, most_amount_at, most_claims, most_count, most_horizon, most_shape, most_units, most_parts, most_expected, rarest_claims, frac_bound, most_amount}
+pub use Rattle.dl_limits.specs.Limits.{admitted_bound, most_amount_at, most_claims, most_count, most_horizon, most_shape, most_total_at, most_units, most_parts, standard_units, most_expected, rarest_claims, frac_bound, most_amount}
 pub use Rattle.dl_exact.proofs.GcdLaws.{gcd_is}
 pub use Rattle.dl_exact.proofs.Laws.{div_times, plus_comm, le_plus, lt_not_le, le_refl, one_pos, times_pos, whole_pos, le_of_eq, plus_assoc, plus_zero, zero_plus, le_trans, zero_times, times_comm, div_pos, one_times, times_le_cancel, times_le_both, ring, times_cancel, lt_of_lt_of_le}
 pub use Rattle.dl_exact.proofs.Multiples.{lowest_product, lowest_swap, lowest_times, lowest_parts, part_divides, lcm_right}

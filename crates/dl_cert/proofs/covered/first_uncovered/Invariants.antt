@@ -1,5 +1,9 @@
-use Rattle.dl_cert.proofs.Common.{ℕ, ◌<◌, get_or, UnitOfPlan, IsCoveredUnit}
+use Rattle.dl_cert.proofs.Common.{ℕ, ◌<◌, ◌≤◌, get_or, UnitOfPlan, IsCoveredUnit}
+use Rattle.dl_limits.specs.Limits.{standard_units}
 use Rattle.dl_cert.proofs.covered.first_uncovered.Given as goal
 
 abbrev pub invariant-loop-i : goal.invariant-loop-i
-invariant-loop-i l = (k : ℕ) (d : UnitOfPlan) → k < l.i → IsCoveredUnit (get_or l.units k d)
+invariant-loop-i l = record {
+  few : l.i ≤ standard_units;
+  covered : (k : ℕ) (d : UnitOfPlan) → k < l.i → IsCoveredUnit (get_or l.units k d);
+}

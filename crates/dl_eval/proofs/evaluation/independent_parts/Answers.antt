@@ -1,4 +1,5 @@
-use Rattle.dl_eval.proofs.Common.{sym, subst, AreUnitMeans, arith, ap, length, ◌also◌}
+use Rattle.dl_eval.proofs.Common.{sym, subst, AreUnitMeans, arith, ◌also◌}
+use Rattle.dl_eval.proofs.Means.{means_fit}
 use Rattle.dl_eval.proofs.Scales.{plan_scale}
 use Rattle.dl_eval.proofs.evaluation.independent_parts.Goals as goal
 
@@ -30,9 +31,10 @@ unit_means-requires g c = (omega arith) also c.requires.scale also c.requires.va
 pub total_mean-requires : goal.total_mean-requires
 total_mean-requires g c =
     let means = c.in_ok-means.ensures in
+    let budgets = c.requires.budgets.total in
     (omega arith) also plan_scale g.row.B c.args.plan.now.cells c.requires.scale
-    also (omega (arith, ap (λ t. length t) c.as_slice.ensures.value, means.means.as_many, c.requires.valid.few))
-    also rw c.as_slice.ensures.value means.small
+    also rw c.as_slice.ensures.value (means_fit c.args.plan.now _ c.requires.scale c.requires.valid c.requires.independent
+    means.means (omega (arith, budgets.mean, budgets.mean_small)))
 
 pub independent_grids-requires : goal.independent_grids-requires
 independent_grids-requires g c =
@@ -41,6 +43,7 @@ independent_grids-requires g c =
 pub total_mean-mean-requires : goal.total_mean-mean-requires
 total_mean-mean-requires g c =
     let grids = c.in_ok-grids.ensures.grids in
+    let budgets = c.requires.budgets.total in
     (omega arith) also plan_scale g.row.B c.args.plan.now.cells c.requires.scale
-    also (omega (arith, ap (λ t. length t) c.as_slice-2.ensures.value, grids.means.as_many, c.requires.valid.few))
-    also rw c.as_slice-2.ensures.value grids.small
+    also rw c.as_slice-2.ensures.value (means_fit c.args.plan.now _ c.requires.scale c.requires.valid
+    c.requires.independent grids.means (omega (arith, budgets.mean, budgets.mean_small)))

@@ -1,6 +1,6 @@
 use Rattle.dl_model.proofs.Common.{zero, suc, arith, subst, sym, Holds, One, Mean, sum_over, declared_mean, declared_by}
 use Rattle.dl_plan.proofs.Shared.{has_factor}
-use Rattle.dl_model.proofs.PlanMeans.{mean_at_most, unit_mean, units_mean}
+use Rattle.dl_model.proofs.PlanMeans.{mean_at_most, mean_with_change, unit_mean, units_mean}
 use Rattle.dl_model.proofs.CommonPlans.{by_factor}
 use Rattle.dl_model.proofs.CommonMeans.{shared_mean, shared_total}
 use Rattle.dl_model.proofs.plans.law_plan_mean.Goals as goal
@@ -10,6 +10,9 @@ returns-clause-unit c = unit_mean
 
 pub returns-clause-most : goal.returns-clause-most
 returns-clause-most c = mean_at_most
+
+pub returns-clause-changed : goal.returns-clause-changed
+returns-clause-changed c = mean_with_change
 
 pub returns-clause-total : goal.returns-clause-total
 returns-clause-total c plan l h valid each =
