@@ -1,7 +1,7 @@
 //! Certificates that are written.
 
 ghost use Rattle.std.specs.Prelude.{◌≡◌, ◌+◌, ◌*◌, ◌^◌, ◌<◌, ◌≤◌, [], MatchResult, IfOk, IfSome, length};
-ghost use Rattle.dl_limits.specs.Limits.{most_cert_text};
+ghost use Rattle.dl_limits.specs.Limits.{most_cert_text, standard_units};
 ghost use Rattle.dl_cert.specs.Covered.{IsCertPlan, IsCovered};
 ghost use Rattle.dl_cert.specs.Targets.{target};
 ghost use Rattle.dl_cert.specs.Verified.{IsCertificate, RefusesPlan};
@@ -24,6 +24,7 @@ fn all_units(
     steps: &mut Steps,
 ) -> Result<Option<Factor>, AllocError>
     requires plan { IsCertPlan plan.now }
+    requires units { length plan.now.units ≤ standard_units }
     requires none { steps.old.count ≡ 0 }
     requires empty { steps.old.text.items ≡ [] }
     ensures count { IfOk result (λ sum. steps.new.count ≤ 576) }
@@ -65,6 +66,7 @@ fn whole(
 /// The text of the steps of a plan.
 fn written(alloc: Global, plan: &Plan) -> Result<Vec<u8>, AllocError>
     requires plan { IsCertPlan plan.now }
+    requires units { length plan.now.units ≤ standard_units }
     ensures certificate { IfOk result (λ text. IsCovered plan.now
         → IsCertificate plan.now text.items) }
     ensures short { IfOk result (λ text. length text.items ≤ most_cert_text) }

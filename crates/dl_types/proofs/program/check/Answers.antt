@@ -1,7 +1,6 @@
 -- A unit too many first, then the names of severities; then the units in turn.
-use Rattle.dl_types.proofs.Common.{◌∙◌, sym, IsCheckOf}
+use Rattle.dl_types.proofs.Common.{◌∙◌, arith, sym, IsCheckOf}
 use Rattle.dl_types.proofs.ProgramUnits.{fault_of_units, fault_of_many, fault_of_names, few_units}
-use Rattle.std.proofs.Math.Nat.{le_trans}
 use Rattle.dl_types.proofs.Stops.{stopped}
 use Rattle.dl_types.proofs.program.check.Goals as goal
 
@@ -20,8 +19,11 @@ returns-in_err-check_severities c =
 
 pub check_units-requires-clause-few : goal.check_units-requires-clause-few
 check_units-requires-clause-few c =
-    rw c.as_slice-2.ensures (le_trans (few_units _ c.args.program.now.units
-    (rw c.as_slice.ensures at (sym c.too_many_units.ensures ∙ c.in_default.is))) c.bounds_asked-most.ensures.bounds.units)
+    rw c.as_slice-2.ensures (omega (
+      arith,
+      few_units _ c.args.program.now.units (rw c.as_slice.ensures at (sym c.too_many_units.ensures ∙ c.in_default.is)),
+      c.bounds_asked-most.ensures.bounds.units,
+    ))
 
 pub returns-in_err-units : goal.returns-in_err-units
 returns-in_err-units c =
