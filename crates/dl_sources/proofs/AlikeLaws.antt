@@ -1,0 +1,53 @@
+-- Units that are alike have the same grids and means.
+use Rattle.dl_sources.proofs.Common.{ℕ, ◌≡◌, ◌^◌, List, [], ◌∷◌, length, take, arith, refl, sym, ap, subst, subst₂, ◌∙◌, Option, whole, ◌over◌, Iv, spread, Holds, GridEncloses, Aggregate, One, Mean, partial_sums, outcome_after, Clause, horizon, after_clause, unit_budget, unit_mean_budget, mean_width, IsUnitGrid, IsUnitMean, loss_of, take_all, Fraction, ◌*ℚ◌, ◌-ℚ◌, up, mean_amount, shares, Loss, after_zero, count_weights, UnitOfPlan, expected_count, count_budget, none_budget, budget_after_zero, mean_after_zero}
+use Rattle.dl_plan.specs.declared.item.Item.{Item}
+use Rattle.dl_plan.specs.declared.plan.Freq.{Freq}
+use Rattle.dl_plan.specs.Weighted.{weight_at, greatest}
+use Rattle.dl_sources.specs.Same.{AreAlike}
+
+-- a unit's aggregate loss, and its budget before its clause, from what alike units share
+abbrev aggregate : Freq → Option Clause → List Item → ℕ → Aggregate
+aggregate freq cede items total = record {
+  count = count_weights freq;
+  severity = λ x. weight_at items x over total;
+  most = greatest items;
+  clause = outcome_after cede;
+}
+
+abbrev budget : (S : ℕ) → ℕ → Freq → Option Clause → List Item → ℕ → ℕ
+budget S H freq cede items total =
+    count_budget S (horizon cede H) (length items)
+    (expected_count freq *ℚ (whole 1 -ℚ weight_at items 0 over total)) freq
+
+alike_same : {A : Type 0} (f : Freq → Option Clause → Option Fraction → List Item → ℕ → A) {u v : UnitOfPlan} → AreAlike u v
+    → f u.freq u.cede u.zero u.sev.items u.sev.total ≡ f v.freq v.cede v.zero v.sev.items v.sev.total
+alike_same f e = rw (e.count, e.clause, e.zero, e.items, e.total) refl
+
+same_loss_of : {u v : UnitOfPlan} → AreAlike u v → loss_of u ≡ loss_of v
+same_loss_of = alike_same (λ freq cede zero items total. after_zero zero (aggregate freq cede items total))
+
+pub alike_grid : {B : ℕ} {H : ℕ} {u v : UnitOfPlan} {g t : List (Iv B)} → AreAlike u v → IsUnitGrid H u g → t ≡ take H g
+    → IsUnitGrid H v t
+alike_grid {B} {H = H} {u = u} {v = v} {g = g} {t = t} e of_u is =
+    let all : t ≡ g = is ∙ take_all H g (omega (arith, of_u.cells)) in
+    let narrow : unit_budget (2 ^ B) H u ≡ unit_budget (2 ^ B) H v =
+    alike_same (λ freq cede zero items total. budget_after_zero zero H (none_budget (2 ^ B) freq)
+    (after_clause cede (budget (2 ^ B) H freq cede items total))) e in record {
+      cells = ap length all ∙ of_u.cells;
+      encloses = subst₂ (λ (s : List (Iv B)) (l : Loss). GridEncloses s l.family) (sym all) (same_loss_of e)
+          of_u.encloses;
+      narrow = omega (arith, of_u.narrow, narrow, ap spread all);
+    }
+
+pub alike_mean : {B : ℕ} {H : ℕ} {u v : UnitOfPlan} {mean : Iv B} → AreAlike u v → IsUnitMean H u mean
+    → IsUnitMean H v mean
+alike_mean {B} {H = H} {u = u} {v = v} {mean = mean} e of_u = record {
+  holds = subst (λ (l : Loss). Holds (partial_sums (l ∷ []) Mean) (partial_sums (l ∷ []) One) (mean.lo over 2 ^ B)
+      (mean.hi over 2 ^ B)) (same_loss_of e) of_u.holds;
+  narrow =
+      let same : unit_mean_budget (2 ^ B) H u ≡ unit_mean_budget (2 ^ B) H v =
+      alike_same (λ freq cede zero items total. mean_after_zero zero
+      (up (expected_count freq *ℚ mean_amount (shares items total))) (none_budget (2 ^ B) freq)
+      (mean_width cede (budget (2 ^ B) H freq cede items total))) e in
+      omega (arith, of_u.narrow, same);
+}

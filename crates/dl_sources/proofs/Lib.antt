@@ -1,0 +1,16 @@
+mod Common
+pub mod Scales
+mod Losses
+mod SumLaws
+mod ReadAs
+mod UnitLaws
+mod ZeroLaws
+mod AlikeLaws
+mod Means
+mod Taken
+mod Parted
+mod Alone
+mod Found
+mod FactorLaws
+mod PooledUnits
+mod ClaimsGrids

@@ -1,0 +1,141 @@
+-- The mean of a total, from those of its units.
+use Rattle.dl_sources.proofs.Common.{ℕ, suc, ◌≡◌, ◌+◌, ◌-◌, ◌*◌, ◌^◌, ◌<◌, ◌≤◌, List, [], ◌∷◌, length, get_or, map, arith, sym, ap, subst, subst₂, ◌∙◌, Option, None, Some, All, mul-le-mul_left, pow_pos, Fraction, whole, ◌over◌, ◌+ℚ◌, Iv, spread, CedeLayer, Plan, Clause, horizon, IsValidUnit, IsValid, claims_budget, mean_width, unit_mean_budget, one_horizon, AreUnitMeans, IsUnitMean, IsMeanOf, loss_of, sum_by, All-tail, over_same, one_pos, over_plus, are_units, no_clause, units_declared, MeanHolds, units_mean, UnitOfPlan, layer_budget, clause_mean, part_width, HoldsClaims, HoldsMean, independent, IsClaimsSum, IsClauseMean}
+use Rattle.std.proofs.lemmas.List.Sums.{sum_by-cons}
+use Rattle.dl_exact.specs.Sum.{sum_over}
+use Rattle.dl_model.proofs.TotalMeans.{mean_of_total}
+use Rattle.dl_sources.proofs.Losses.{is_independent}
+
+-- ---- of a unit without a clause
+
+pub plain_mean : {B : ℕ} {cells : ℕ} {u : UnitOfPlan} {mean : Iv B} → u.cede ≡ None → HoldsClaims u mean
+    → mean.hi ≤ mean.lo + 1 → IsClauseMean cells u mean
+plain_mean {B} {cells = cells} {u = u} {mean = mean} none holds narrow = record {
+  holds = rw (no_clause u none) holds;
+  narrow = omega (arith, narrow, ap (λ c. clause_mean c (claims_budget (2 ^ B) (horizon u.cede cells) u)) none);
+}
+
+-- ---- of a unit with a clause
+
+layer_rises : (v w : ℕ) (limit : Option ℕ) (attach : ℕ) → v ≤ w
+    → part_width v limit attach ≤ layer_budget w limit attach
+layer_rises v w None attach h = omega (arith, mul-le-mul_left attach h)
+layer_rises v w (Some limit) attach h = omega (arith, mul-le-mul_left limit h)
+
+layers_rise : (v w : ℕ) (layers : List CedeLayer) → v ≤ w
+    → sum_by (λ l. part_width v l.limit l.attach) layers ≤ sum_by (λ l. layer_budget w l.limit l.attach) layers
+layers_rise v w [] h = omega arith
+layers_rise v w (l ∷ layers) h =
+    omega (
+      arith,
+      layer_rises v w l.limit l.attach h,
+      layers_rise v w layers h,
+      sum_by-cons (λ (l : CedeLayer). part_width v l.limit l.attach) l layers,
+      sum_by-cons (λ (l : CedeLayer). layer_budget w l.limit l.attach) l layers,
+    )
+
+clause_rises : (v w : ℕ) (cede : Option Clause) → v ≤ w → mean_width cede v ≤ clause_mean cede w
+clause_rises v w None h = omega arith
+clause_rises v w (Some clause) h = omega (arith, layers_rise v w clause.1 h)
+
+pub clause_unit_mean : {B : ℕ} {cells : ℕ} {u : UnitOfPlan} (g : List (Iv B)) {mean : Iv B} → IsValidUnit cells u
+    → HoldsMean u mean → mean.hi - mean.lo ≤ mean_width u.cede (spread g) → IsClaimsSum cells u g
+    → IsClauseMean cells u mean
+clause_unit_mean {B} {cells = cells} {u = u} g valid holds width sum = record {
+  holds = holds;
+  narrow =
+      omega (
+        arith,
+        clause_rises (spread g) (claims_budget (2 ^ B) (horizon u.cede cells) u) u.cede
+            (rw (one_horizon cells cells (length g) u valid sum.horizon) at sum.narrow),
+      );
+}
+
+-- ---- the sum
+
+abbrev lows : {B : ℕ} → List (Iv B) → ℕ
+lows means = sum_by (λ mean. mean.lo) means
+
+abbrev highs : {B : ℕ} → List (Iv B) → ℕ
+highs means = sum_by (λ mean. mean.hi) means
+
+later_means : {B : ℕ} (cells : ℕ) (u : UnitOfPlan) (us : List UnitOfPlan) (m : Iv B) (means : List (Iv B))
+    → AreUnitMeans cells (u ∷ us) (m ∷ means) → AreUnitMeans cells us means
+later_means cells u us m means each = record {
+  as_many = omega (arith, each.as_many);
+  each = λ i v n inside. each.each (suc i) v n (omega (arith, inside));
+}
+
+nothing : UnitOfPlan → Fraction
+nothing u = whole 0
+
+no_units : (B : ℕ) → MeanHolds [] (0 over 2 ^ B) (0 over 2 ^ B)
+unfolding sum_over
+no_units B =
+    subst (λ v. MeanHolds [] v v) (sym (over_same 0 (2 ^ B) 0 1 (pow_pos B) one_pos (omega arith)))
+    (units_mean 0 nothing nothing [] (λ i d inside. absurd (omega (arith, inside)))
+    (λ i d inside. absurd (omega (arith, inside))))
+
+means_hold : {B : ℕ} (cells : ℕ) (us : List UnitOfPlan) (means : List (Iv B)) → All (IsValidUnit cells) us
+    → AreUnitMeans cells us means
+    → MeanHolds us (lows means over 2 ^ B) (highs means over 2 ^ B)
+means_hold {B} cells [] [] valid each = no_units B
+means_hold {B} cells [] (m ∷ means) valid each = absurd (omega (arith, each.as_many))
+means_hold {B} cells (u ∷ us) [] valid each = absurd (omega (arith, each.as_many))
+means_hold {B} cells (u ∷ us) (m ∷ means) valid each =
+    let rest = All-tail (IsValidUnit cells) u us valid in
+    let are = units_declared cells (u ∷ us) valid in
+    let low : (m.lo + lows means) over 2 ^ B ≡ m.lo over 2 ^ B +ℚ lows means over 2 ^ B =
+    over_plus m.lo (lows means) (2 ^ B) (pow_pos B) in
+    let high : (m.hi + highs means) over 2 ^ B ≡ m.hi over 2 ^ B +ℚ highs means over 2 ^ B =
+    over_plus m.hi (highs means) (2 ^ B) (pow_pos B) in
+    let sums : MeanHolds (u ∷ us) (m.lo over 2 ^ B +ℚ lows means over 2 ^ B)
+    (m.hi over 2 ^ B +ℚ highs means over 2 ^ B) =
+    mean_of_total (loss_of u) (map loss_of us) are.0.loss (are_units (map loss_of us) are.1) (m.lo over 2 ^ B)
+    (m.hi over 2 ^ B)
+    (lows means over 2 ^ B) (highs means over 2 ^ B)
+    (each.each 0 u m (omega arith)).holds (means_hold cells us means rest (later_means cells u us m means each)) in
+    subst₂ (MeanHolds (u ∷ us))
+    (sym low ∙ ap (λ t. t over 2 ^ B) (sym (sum_by-cons (λ (mean : Iv B). mean.lo) m means)))
+    (sym high ∙ ap (λ t. t over 2 ^ B) (sym (sum_by-cons (λ (mean : Iv B). mean.hi) m means))) sums
+
+means_narrow : {B : ℕ} (cells : ℕ) (us : List UnitOfPlan) (means : List (Iv B)) → AreUnitMeans cells us means
+    → highs means ≤ lows means + sum_by (unit_mean_budget (2 ^ B) cells) us
+means_narrow {B} cells [] [] each = omega arith
+means_narrow {B} cells [] (m ∷ means) each = absurd (omega (arith, each.as_many))
+means_narrow {B} cells (u ∷ us) [] each = absurd (omega (arith, each.as_many))
+means_narrow {B} cells (u ∷ us) (m ∷ means) each =
+    omega (
+      arith,
+      (each.each 0 u m (omega arith)).narrow,
+      means_narrow cells us means (later_means cells u us m means each),
+      sum_by-cons (λ (mean : Iv B). mean.lo) m means,
+      sum_by-cons (λ (mean : Iv B). mean.hi) m means,
+      sum_by-cons (unit_mean_budget (2 ^ B) cells) u us,
+    )
+
+pub means_small : {B : ℕ} (means : List (Iv B)) → length means ≤ 16 → All (λ mean. mean.hi ≤ 2 ^ 93) means
+    → sum_by (λ mean. mean.hi) means ≤ 2 ^ 97
+means_small {B} means few small = omega (arith, few, sum_small means small)
+  where
+    sum_small : (means : List (Iv B)) → All (λ mean. mean.hi ≤ 2 ^ 93) means → highs means ≤ length means * 2 ^ 93
+    sum_small [] small = omega arith
+    sum_small (m ∷ means) small =
+        omega (
+          arith,
+          small 0 m (omega arith),
+          sum_small means
+              (All-tail (λ (mean : Iv B). mean.hi ≤ 2 ^ 93) m means small),
+          sum_by-cons (λ (mean : Iv B). mean.hi) m means,
+        )
+
+pub is_mean : {B : ℕ} (means : List (Iv B)) (mean : Iv B) → mean.lo ≡ sum_by (λ mean. mean.lo) means
+    → mean.hi ≡ sum_by (λ mean. mean.hi) means
+    → (plan : Plan) → IsValid plan → plan.common ≡ None → AreUnitMeans plan.cells plan.units means → IsMeanOf plan mean
+is_mean {B} means mean low high plan valid none each =
+    subst (λ whole. IsMeanOf whole mean) (is_independent plan none) alone
+  where
+    alone : IsMeanOf (independent plan) mean
+    alone = record {
+      holds = rw (low, high) (means_hold plan.cells plan.units means valid.units each);
+      narrow = omega (arith, low, high, means_narrow plan.cells plan.units means each);
+    }

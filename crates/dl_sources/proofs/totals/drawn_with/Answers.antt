@@ -1,0 +1,27 @@
+use Rattle.dl_shares.specs.declared.drawn.Origin.TheVariants.{Nowhere}
+use Rattle.dl_sources.proofs.Common.{arith, get_or, sym, ◌also◌}
+use Rattle.dl_sources.proofs.Found.{found_reach, origin_drawn}
+use Rattle.dl_sources.proofs.totals.drawn_with.Goals as goal
+
+pub total_mean-mean-requires : goal.total_mean-mean-requires
+total_mean-mean-requires g c =
+    (omega arith) also c.requires.at also rw c.as_slice.ensures.value c.requires.means
+
+pub returns-clause-drawn : goal.returns-clause-drawn
+returns-clause-drawn g c =
+    let sources = c.requires.sources.1 in record {
+      some = sources.some;
+      total = sources.total;
+      means = record {
+        mean = c.total_mean-mean.ensures.mean;
+        small = c.total_mean-mean.ensures.small;
+        units = c.requires.means.means;
+        units_small = c.requires.means.small;
+      };
+      as_many = sources.as_many;
+      origins = λ i inside. origin_drawn c.args.plan.now _ i _ (get_or c.args.sources.origins.items i Nowhere) c.requires.at.independent inside
+          (c.requires.units i) (sources.each i inside);
+    }
+
+pub returns-clause-reached : goal.returns-clause-reached
+returns-clause-reached g c budgets sources = found_reach sources.each

@@ -1,0 +1,4 @@
+pub mod Units
+pub mod Same
+pub mod Pooled
+pub mod Origins
