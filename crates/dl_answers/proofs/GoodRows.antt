@@ -65,7 +65,8 @@ layer_narrow : (S : ℕ) (plan : Plan) (limit : Option ℕ) (attach mean spread 
 layer_narrow S plan None attach mean spread p q = omega (arith, p, mul-le-mul_left attach q)
 layer_narrow S plan (Some limit) attach mean spread p q = mul-le-mul_left limit q
 
-pub layer_answer : {B : ℕ} {plan : Plan} {g : List (Iv B)} {mean : Iv B} {d : ℕ} (attach : ℕ) {lo hi : ℕ} (limit : Option ℕ)
+pub layer_answer : {B : ℕ} {plan : Plan} {g : List (Iv B)} {mean : Iv B} {d : ℕ} (attach : ℕ) {lo hi : ℕ}
+    (limit : Option ℕ)
     {row : Row}
     → ((us : List Loss) → AreDeclared us → GridEncloses g (total us)
     → (limit ≡ None → Holds (partial_sums us Mean) (partial_sums us One) (mean.lo over 2 ^ B) (mean.hi over 2 ^ B))

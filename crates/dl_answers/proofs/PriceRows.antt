@@ -62,7 +62,8 @@ price_past terms valid t (k, term, inside, is, past) =
     (k, term, inside, is, ends_below past valid t)
 
 pub price_asked : (S : ℕ) {plan : Plan} {slice terms : List Term} {d : ℕ} {row : Row} → slice ≡ terms
-    → IsPrice plan slice d (in_digits S (price_budget S plan slice) d) row ⊎ IsBeyondSome plan slice (total_error S plan) row
+    → IsPrice plan slice d (in_digits S (price_budget S plan slice) d) row ⊎ IsBeyondSome plan slice
+    (total_error S plan) row
     → IsAnswerTo S plan d (asks.Price terms) row
 unfolding ask_budget
 price_asked S same told = rw (← same) told

@@ -1,5 +1,5 @@
 -- The share of a unit in a total, and in the tail mean.
-use Rattle.dl_answers.proofs.Common.{ℕ, ◌≡◌, ◌+◌, ◌-◌, ◌*◌, ◌^◌, ◌<◌, ◌≤◌, ◌↔◌, ◌⊎◌, List, [], ◌∷◌, length, get_or, get_or-map, map, arith, inl, inr, refl, sym, ap, subst, ◌∙◌, mul-le-mul, mul-le-mul_left, mul-le-mul_right, pow_pos, Option, None, Some, IsNone, IfSome, Fraction, whole, ◌over◌, ◌+ℚ◌, ◌≤ℚ◌, ◌<ℚ◌, le_refl, lt_of_lt_of_le, plus_le_both, sub_le_both, over_le_over, over_lt, over_plus, up, Iv, low_at, high_at, spread, low_cdf, IsFirstFound, Series, AtLeast, Holds, Quantity, One, Mean, Point, Joint, Loss, AreDeclared, IsQuantile, GridEncloses, partial_sums, total, declared, loss_of, aggregates_of, declared_by, plan_declared, at_least_wider, at_most_wider, Plan, UnitOfPlan, IsValid, Row, claims_budget, none_budget, horizon, mean_width, declared_mean, unit_mean_budget, total_budget, joint_budget, kappa_budget, cotail_budget, ask_budget, in_digits, index_of, IsTotalOf, Prints, Declares, DeclaresGiven, DeclaresShare, IsAtLeast, IsAtMost, IsBelow, IsBeyond, IsShareOfUnit, IsTailShare, IsNoTailShare, IsTooRare, IsAnswerTo, at_the_end, least_likely, total_error, IsJointOf, IsTailShareOf}
+use Rattle.dl_answers.proofs.Common.{ℕ, ◌≡◌, ◌+◌, ◌-◌, ◌*◌, ◌^◌, ◌<◌, ◌≤◌, ◌↔◌, ◌⊎◌, List, [], ◌∷◌, length, get_or, get_or-map, map, arith, inl, inr, refl, sym, ap, subst, ◌∙◌, mul-le-mul, mul-le-mul_left, mul-le-mul_right, pow_pos, Option, None, Some, IsNone, IfSome, Fraction, whole, ◌over◌, ◌+ℚ◌, ◌≤ℚ◌, ◌<ℚ◌, le_refl, lt_of_lt_of_le, plus_le_both, sub_le_both, over_le_over, over_lt, over_plus, up, Iv, low_at, high_at, spread, low_cdf, IsFirstFound, Series, AtLeast, Holds, Quantity, One, Mean, Point, Joint, Loss, AreDeclared, IsQuantile, GridEncloses, partial_sums, total, declared, loss_of, aggregates_of, declared_by, plan_declared, at_least_wider, at_most_wider, Plan, UnitOfPlan, IsValid, Row, claims_budget, none_budget, horizon, mean_width, declared_mean, unit_mean_budget, total_budget, joint_budget, kappa_budget, cotail_budget, ask_budget, in_digits, index_of, IsTotalOf, Prints, Declares, DeclaresGiven, DeclaresShare, IsAtLeast, IsAtMost, IsBelow, IsBeyond, IsShareOfUnit, IsTailShare, IsNoTailShare, IsTooRare, IsAnswerTo, at_the_end, least_likely, total_error, IsJointOf}
 use Rattle.dl_exact.proofs.BelowOne.{num_below}
 use Rattle.dl_plan.specs.Common.{CanShare}
 use Rattle.dl_plan.specs.declared.settings.Ask.TheVariants as asks
@@ -43,7 +43,8 @@ pub share_answer : {B : ℕ} {plan : Plan} {g : List (Iv B)} {joint : Iv B} {i a
     → ((h : ℕ) → IsAtMost plan (Point at) (h over 2 ^ B) → joint.lo ≤ at * h)
     → at < plan.cells → IsTotalOf plan g → IsJointOf plan i at joint → Prints (2 ^ B) lo hi d row
     → IsShareOfUnit plan i at d (in_digits (2 ^ B) (kappa_budget (2 ^ B) plan i) d) row
-share_answer {B} {plan} {g} {joint} {i} {at} {low} {high} {d} {lo} {hi} {row} of_low of_high divided width below inside t j
+share_answer {B} {plan} {g} {joint} {i} {at} {low} {high} {d} {lo} {hi} {row} of_low of_high divided width below
+    inside t j
     printed =
     let cell : Declares plan (Point at) (low over 2 ^ B) (high over 2 ^ B) =
     cell_holds at of_low of_high inside t in
@@ -63,7 +64,8 @@ share_answer {B} {plan} {g} {joint} {i} {at} {low} {high} {d} {lo} {hi} {row} of
     }
 
 -- where there is none, the total is too rare
-pub rare_answer : {B : ℕ} {plan : Plan} {g : List (Iv B)} (at : ℕ) {low high : ℕ} → low ≡ low_at g at → high ≡ high_at g at
+pub rare_answer : {B : ℕ} {plan : Plan} {g : List (Iv B)} (at : ℕ) {low high : ℕ} → low ≡ low_at g at
+    → high ≡ high_at g at
     → low * 2 ^ 16 < 2 ^ B
     → at < plan.cells → IsTotalOf plan g → IsBelow plan (Point at) (least_likely +ℚ total_error (2 ^ B) plan)
 rare_answer {B} {plan = plan} {g = g} at {low = low} {high = high} of_low of_high rare inside t =
@@ -79,6 +81,11 @@ rare_answer {B} {plan = plan} {g = g} at {low = low} {high = high} of_low of_hig
     )
 
 -- ---- its share in the tail mean
+
+-- the share of unit i in the tail mean at p, whose ends lie at most `most` units apart
+pub record IsTailShareOf {B : ℕ} (plan : Plan) (i : ℕ) (p : Fraction) (most : ℕ) (share : Iv B) : Type 0 where
+  pub holds : DeclaresShare plan i p (share.lo over 2 ^ B) (share.hi over 2 ^ B)
+  pub narrow : share.hi ≤ share.lo + most
 
 if_some_two : {X : Type 0} (r : Option X) (P Q Z : X → Type 0) → ((x : X) → P x → Q x → Z x) → IfSome r P
     → IfSome r Q → IfSome r Z
@@ -157,7 +164,8 @@ module _ {B : ℕ} {part : Part B} (is : IsPart part) (none : part.plan.now.comm
       → Holds (D (Point x)) (D One) (low_at part.total.now x over 2 ^ B) (high_at part.total.now x over 2 ^ B))
       (declared_alone part.plan.now none) is.total.encloses
 
-  pub tail_share : (p : Fraction) (result : Option (Iv B)) → IsSharedBy part.plan.now part.i part.source part.total.now part.mean → p <ℚ whole 1
+  pub tail_share : (p : Fraction) (result : Option (Iv B))
+      → IsSharedBy part.plan.now part.i part.source part.total.now part.mean → p <ℚ whole 1
       → ((us : List Loss) (j : ℕ) → AreDeclared us → GivesJoints part.source (partial_sums us) j
       → GridEncloses part.total.now (total us)
       → Holds (partial_sums us (Outcome j)) (partial_sums us One) (part.mean.lo over 2 ^ B) (part.mean.hi over 2 ^ B)
@@ -177,7 +185,8 @@ module _ {B : ℕ} {part : Part B} (is : IsPart part) (none : part.plan.now.comm
       (part.mean.hi over 2 ^ B)) alone from.mean))) width
       (share_rises p _ part.plan.now.cells _ _ _ _ below is.source.narrow is.total.narrow)
 
-  pub share_absent : (p : Fraction) (result : Option (Iv B)) → ((us : List Loss) (y : ℕ) → AreDeclared us → GridEncloses part.total.now (total us) → IsNone result
+  pub share_absent : (p : Fraction) (result : Option (Iv B))
+      → ((us : List Loss) (y : ℕ) → AreDeclared us → GridEncloses part.total.now (total us) → IsNone result
       → IsFirstFound (low_cdf (2 ^ B) (low_at part.total.now)) p (length part.total.now) (Some y)
       → MayBeAbsent (partial_sums us) (length part.total.now) p (spread part.total.now over 2 ^ B))
       → (x : ℕ) → IsNone result → IsFirstFound (low_cdf (2 ^ B) (low_at part.total.now)) p part.plan.now.cells (Some x)
@@ -187,7 +196,8 @@ module _ {B : ℕ} {part : Part B} (is : IsPart part) (none : part.plan.now.comm
       absent_wider (length part.total.now) plan.cells p _ _ is.total.cells
       (over_le_over (spread part.total.now) (total_budget (2 ^ B) plan) (2 ^ B) (pow_pos B) is.total.narrow)
       (subst (λ (D : Quantity → Series). MayBeAbsent D (length part.total.now) p (spread part.total.now over 2 ^ B))
-      (sym (declared_alone plan none)) (absent (aggregates_of plan) x (plan_declared plan is.unit.at.valid) encloses missing
+      (sym (declared_alone plan none)) (absent (aggregates_of plan) x
+      (plan_declared plan is.unit.at.valid) encloses missing
       (subst (λ n. IsFirstFound (low_cdf (2 ^ B) (low_at part.total.now)) p n (Some x)) (sym is.total.cells) found)))
     where
       absent_wider : {D : Quantity → Series} (K L : ℕ) (p d e : Fraction) → K ≡ L → d ≤ℚ e → MayBeAbsent D K p d
@@ -219,7 +229,8 @@ share_reached {p = p} (Some r) none valid t = tail_reached p (λ past. let some 
 -- under a common factor the mean of a unit is exact but for its ends
 shared_mean : (S : ℕ) {plan : Plan} {r : ℕ} (i : ℕ) (u : UnitOfPlan) → IsValid plan → plan.common ≡ Some r
     → i < length plan.units → unit_mean_budget S plan.cells (get_or plan.units i u) ≡ 1
-shared_mean S {plan} {r} i u valid shape inside = ap (λ z. mean_after_zero z (up (declared_mean v)) (none_budget S v.freq)
+shared_mean S {plan} {r} i u valid shape inside = ap (λ z. mean_after_zero z (up (declared_mean v))
+    (none_budget S v.freq)
     (mean_width v.cede (claims_budget S (horizon v.cede plan.cells) v))) can.zero
     ∙ ap (λ c. mean_width c (claims_budget S (horizon v.cede plan.cells) v)) can.clause
   where
@@ -271,10 +282,11 @@ whole_share {B} {part} p result is below holds width =
 pub share_told : {B : ℕ} {plan : Plan} {i d most : ℕ} {p : Fraction} {share : Iv B} {row : Row}
     → IsTailShareOf plan i p most share → IsAtLeast plan (at_the_end plan) p → Prints (2 ^ B) share.lo share.hi d row
     → IsTailShare plan i p d (in_digits (2 ^ B) most d) row
-share_told {B} {plan = plan} {i = i} {d = d} {most = most} {p = p} {share = share} {row = row} s reached printed = record {
-  reached = reached;
-  ends = are_ends B (DeclaresShare plan i p) share.lo share.hi d most row widens printed s.holds s.narrow;
-}
+share_told {B} {plan = plan} {i = i} {d = d} {most = most} {p = p} {share = share} {row = row} s reached printed =
+    record {
+      reached = reached;
+      ends = are_ends B (DeclaresShare plan i p) share.lo share.hi d most row widens printed s.holds s.narrow;
+    }
   where
     widens : Widens (DeclaresShare plan i p)
     widens l m h k low high holds = λ q is. record {

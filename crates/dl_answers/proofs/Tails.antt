@@ -78,7 +78,8 @@ bracket_past g {p = p} (Some x) is found = (
 )
 
 -- what is past the grid where no low end reaches p is so at the levels above what is sure to lie inside it
-pub past_above : {B : ℕ} {plan : Plan} {g : List (Iv B)} {p : Fraction} {Past : Type 0} → IsValid plan → IsTotalOf plan g
+pub past_above : {B : ℕ} {plan : Plan} {g : List (Iv B)} {p : Fraction} {Past : Type 0} → IsValid plan
+    → IsTotalOf plan g
     → Past ↔ IsPast g p → Past ↔ (reach_of g <ℚ p)
 past_above {plan = plan} {g = g} {p = p} valid t same =
     let some = few_cells plan valid in

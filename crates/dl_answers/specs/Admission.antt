@@ -7,7 +7,8 @@ use Rattle.dl_budget.specs.Once.{AreAllBudgets, HaveBudgets}
 use Rattle.dl_answers.specs.declared.admission.Admitted.{Admitted}
 
 -- the numbers of the units that the asks name, and the budgets of the total and of these units
-pub record IsAdmissionOf (S : ℕ) (plan : Plan) (asks : List Asked) (admitted : Admitted) : Type 0 where
+pub record IsAdmissionOf (S : ℕ) (plan : Plan) (asks : List Asked)
+    (admitted : Admitted) : Type 0 where
   pub numbers : admitted.named.items ≡ named_units plan.units asks
   pub budgets : AreAllBudgets S plan admitted.budgets
   pub there : HaveBudgets plan admitted.named.items admitted.budgets

@@ -22,7 +22,6 @@ use Rattle.dl_shares.specs.declared.drawn.Drawn.{Drawn}
 use Rattle.dl_report.specs.declared.report.End.TheVariants.{Number}
 use Rattle.dl_report.specs.declared.report.Row.{Row}
 use Rattle.dl_answers.specs.Answers.{HasShare}
-use Rattle.dl_answers.specs.Rows.{DeclaresShare}
 use Rattle.dl_answers.specs.declared.reports.Ground.{Ground}
 use Rattle.dl_answers.specs.declared.shares.Part.{Part}
 
@@ -35,8 +34,8 @@ cells_read cells (Cotail unit p) = cells
 cells_read cells (Share unit p) = cells
 cells_read cells ask = (facts_of ask).least_cells
 
--- the joint means of each unit that has its budgets are drawn at the totals below `reach`, and no ask
--- looks at greater ones
+-- the joint means of each unit that has its budgets are drawn at the totals below `reach`, and no
+-- ask looks at greater ones
 pub record AreReached {B : ℕ} (plan : Plan) (asks : List Asked) (budgets : AllBudgets)
     (drawn : Drawn B) : Type 0 where
   pub reach : ℕ
@@ -78,12 +77,6 @@ pub record IsPart {B : ℕ} (part : Part B) : Type 0 where
 pub record IsJointOf {B : ℕ} (plan : Plan) (i at : ℕ) (mean : Iv B) : Type 0 where
   pub holds : Declares plan (Joint i at) (mean.lo over 2 ^ B) (mean.hi over 2 ^ B)
   pub narrow : mean.hi ≤ mean.lo + joint_budget (2 ^ B) plan i
-
--- the share of unit i in the tail mean at p, whose ends lie at most `most` units apart
-pub record IsTailShareOf {B : ℕ} (plan : Plan) (i : ℕ) (p : Fraction) (most : ℕ)
-    (share : Iv B) : Type 0 where
-  pub holds : DeclaresShare plan i p (share.lo over 2 ^ B) (share.hi over 2 ^ B)
-  pub narrow : share.hi ≤ share.lo + most
 
 -- ---- what is printed
 

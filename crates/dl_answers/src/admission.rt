@@ -140,9 +140,9 @@ fn first_wide<const B: u32>(
     None
 }
 
-/// For each ask the number of the unit that it names, and the budgets; or refuses the first ask past
-/// the grid, else the first that names no unit, else the first for a share of the tail mean where the
-/// units share a factor, else the first that needs more width than the settings give.
+/// For each ask the number of the unit that it names, and the budgets; or refuses the first ask
+/// past the grid, else the first that names no unit, else the first for a share of the tail mean
+/// where the units share a factor, else the first that needs more width than the settings give.
 #[tactic(auto, using(crate::proofs::Scales::at_scale))]
 pub fn admit<const B: u32>(
     alloc: Global,

@@ -7,21 +7,11 @@ ghost use Rattle.dl_answers.specs.Grounds.{cells_read};
 
 use dl_plan::{Ask, Asked};
 
-/// Whether an ask is for the mean.
-fn is_mean(ask: &Ask) -> bool
-    ensures { IsTrue result ↔ (ask.now ≡ kinds.Mean) }
-{
-    match ask {
-        Ask::Mean => true,
-        _ => false,
-    }
-}
-
 /// Whether all asks are for the mean, so that no grid is needed.
 pub fn are_means(asks: &[Asked]) -> bool
     ensures { IsTrue result ↔ All (λ asked. asked.ask ≡ kinds.Mean) asks.now }
 {
-    asks.iter().all(|asked| is_mean(&asked.ask))
+    asks.iter().all(|asked| matches!(asked.ask, Ask::Mean))
 }
 
 /// How many cells of a grid an ask looks at, where there are `cells`: of the total, and of what the

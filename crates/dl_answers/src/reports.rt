@@ -5,7 +5,7 @@ ghost use Rattle.dl_limits.specs.Limits.{most_digits};
 ghost use Rattle.dl_plan.specs.At.{IsPlanAt};
 ghost use Rattle.dl_plan.specs.declared.settings.Ask.TheVariants as kinds;
 ghost use Rattle.dl_plan.specs.Prelude.{AreInRange};
-ghost use Rattle.dl_shares.specs.Drawn.{AreDrawnOf, IsMeanOf, IsTotalOf, Reaches};
+ghost use Rattle.dl_shares.specs.Drawn.{AreDrawnOf, IsMeanOf, Reaches};
 ghost use Rattle.dl_shares.specs.Source.{reach};
 ghost use Rattle.dl_answers.specs.Admission.{IsAdmissionOf};
 ghost use Rattle.dl_answers.specs.Answers.{AreAdmitted, IsGoodReport};

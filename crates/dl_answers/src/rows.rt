@@ -1,6 +1,6 @@
 //! The row of an ask for a quantity of the total.
 
-ghost use Rattle.std.specs.Prelude.{◌≡◌, ◌≤◌, ◌^◌, ◌⊎◌, ◌↔◌, ℕ, List, Some, None, All, map};
+ghost use Rattle.std.specs.Prelude.{◌≡◌, ◌≤◌, ◌^◌, ◌⊎◌, ◌↔◌, Some, None, All, map};
 ghost use Rattle.dl_limits.specs.Limits.{IsPlanScale, most_digits, most_mean};
 ghost use Rattle.dl_plan.specs.declared.plan.Plan.{Plan as PlanValue};
 ghost use Rattle.dl_plan.specs.Prelude.{IsLevel, ArePriced, IsValid};

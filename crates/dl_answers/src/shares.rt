@@ -1,17 +1,14 @@
 //! The row of an ask for the share of a unit in a total.
 
-ghost use Rattle.std.specs.Prelude.{◌≡◌, ◌*◌, ◌^◌, ◌<◌, ◌≤◌, ◌⊎◌, ◌↔◌, None, Some, IsNone, IfSome, ℕ};
+ghost use Rattle.std.specs.Prelude.{◌≡◌, ◌*◌, ◌^◌, ◌<◌, ◌≤◌, ◌⊎◌, ◌↔◌, None, Some};
 ghost use Rattle.dl_limits.specs.Limits.{most_digits, most_high, most_share_den};
-ghost use Rattle.dl_model.specs.Prelude.{declared};
 ghost use Rattle.dl_plan.specs.Prelude.{IsLevel};
 ghost use Rattle.dl_budget.specs.Asks.{kappa_budget, cotail_budget, share_budget, in_digits};
-ghost use Rattle.dl_grid.specs.Cells.{low_at};
-ghost use Rattle.dl_measures.specs.Prelude.{IsFirstFound, low_cdf};
-ghost use Rattle.dl_shares.specs.Settled.{IsPast, MayBeAbsent};
+ghost use Rattle.dl_shares.specs.Settled.{IsPast};
 ghost use Rattle.dl_shares.specs.Source.{reach};
 ghost use Rattle.dl_report.specs.declared.report.End.TheVariants.{Absent};
-ghost use Rattle.dl_answers.specs.Grounds.{IsJointOf, IsPart, IsTailShareOf};
-ghost use Rattle.dl_answers.specs.Rows.{IsAtLeast, IsBeyond, IsNoTailShare, IsPastGrid, IsShareOfUnit, IsTailShare, IsTooRare, at_the_end, total_error};
+ghost use Rattle.dl_answers.specs.Grounds.{IsJointOf, IsPart};
+ghost use Rattle.dl_answers.specs.Rows.{IsBeyond, IsNoTailShare, IsPastGrid, IsShareOfUnit, IsTailShare, IsTooRare, total_error};
 
 use crate::rows::{beyond_row, ends_row};
 use dl_bytes::Text;
@@ -49,8 +46,8 @@ pub(crate) fn joint_of<const B: u32>(part: &Part<B>, at: u32) -> Iv<B>
     part.source.joint(at)
 }
 
-/// The row of an ask for the mean outcome of the unit, given that the total is `at`; without numbers
-/// where that total may be too rare.
+/// The row of an ask for the mean outcome of the unit, given that the total is `at`; without
+/// numbers where that total may be too rare.
 #[tactic(auto, using(crate::proofs::Scales::part_scale))]
 pub(crate) fn share_row<const B: u32>(ask: Text, digits: u32, part: &Part<B>, at: u32) -> Row
     requires digits { digits ≤ most_digits }
@@ -82,27 +79,6 @@ fn absent_row(ask: Text) -> Row
     }
 }
 
-/// The share of the unit in the tail mean at `p`, in buckets; none where the grid of the total ends
-/// before the quantile, does not settle it, or it may be too rare.
-fn tail_share_of<const B: u32>(part: &Part<B>, p: Frac) -> Option<Iv<B>>
-    requires part { IsPart part.now }
-    requires independent { part.now.plan.now.common ≡ None }
-    requires reached { part.now.plan.now.cells ≤ reach part.now.source }
-    requires level { IsLevel p }
-    requires few { p.den ≤ most_share_den }
-    ensures share { IfSome result (IsTailShareOf part.now.plan.now part.now.i p
-        (cotail_budget (2 ^ B) part.now.plan.now part.now.i p)) }
-    ensures reached { IfSome result (λ _.
-        IsAtLeast part.now.plan.now (at_the_end part.now.plan.now) p) }
-    ensures absent { (x : ℕ) → IsNone result
-        → IsFirstFound (low_cdf (2 ^ B) (low_at part.now.total.now)) p part.now.plan.now.cells (Some x)
-        → MayBeAbsent (declared part.now.plan.now) part.now.plan.now.cells p
-        (total_error (2 ^ B) part.now.plan.now) }
-{
-    law_plan_unit_mean(part.plan);
-    part.source.tail_share(part.total, part.mean, p)
-}
-
 /// The row of an ask for the share of the unit in the tail mean at `p`; without numbers where there
 /// is none.
 #[tactic(auto, using(crate::proofs::Scales::part_scale))]
@@ -119,27 +95,14 @@ pub(crate) fn tail_share_row<const B: u32>(ask: Text, digits: u32, part: &Part<B
         ⊎ IsBeyond part.now.plan.now p (total_error (2 ^ B) part.now.plan.now) result
         ⊎ IsNoTailShare part.now.plan.now p (total_error (2 ^ B) part.now.plan.now) result }
 {
-    if let Some(share) = tail_share_of(part, p) {
+    law_plan_unit_mean(part.plan);
+    if let Some(share) = part.source.tail_share(part.total, part.mean, p) {
         return ends_row(ask, digits, share);
     }
     match quantile(part.total, p).hi {
         Some(_) => absent_row(ask),
         None => beyond_row(ask),
     }
-}
-
-/// The share of the unit in the tail mean at `p`, at every quantile, in buckets; none exactly where
-/// the grid of the total ends before the quantile.
-fn whole_share_of<const B: u32>(part: &Part<B>, p: Frac) -> Option<Iv<B>>
-    requires part { IsPart part.now }
-    requires reached { part.now.plan.now.cells ≤ reach part.now.source }
-    requires level { IsLevel p }
-    ensures share { IfSome result (IsTailShareOf part.now.plan.now part.now.i p
-        (share_budget (2 ^ B) part.now.plan.now part.now.i p)) }
-    ensures none { IsNone result ↔ IsPast part.now.total.now p }
-{
-    law_plan_unit_mean(part.plan);
-    part.source.share(part.total, part.mean, p)
 }
 
 /// The row of an ask for the share of the unit in the tail mean at `p`, at every quantile; without
@@ -156,7 +119,8 @@ pub(crate) fn whole_share_row<const B: u32>(ask: Text, digits: u32, part: &Part<
         ⊎ IsBeyond part.now.plan.now p (total_error (2 ^ B) part.now.plan.now) result }
     ensures past { IsPastGrid result ↔ IsPast part.now.total.now p }
 {
-    match whole_share_of(part, p) {
+    law_plan_unit_mean(part.plan);
+    match part.source.share(part.total, part.mean, p) {
         Some(share) => ends_row(ask, digits, share),
         None => beyond_row(ask),
     }

@@ -30,7 +30,8 @@ needed_with-width-requires g c =
       budgets = c.requires.told.budgets.total;
       unit = subst (λ number. AreBudgetsOfUnit (2 ^ g.row.B) plan number c.of-of_unit.result)
           (named_here plan.units i same (c.as_slice-named.ensures.value ∙ c.requires.told.numbers) asked.is test
-          ∙ ap (λ (a : Asked). named_unit plan.units a.ask) asked.is) (c.of-of_unit.ensures _ plan c.requires.told.budgets);
+          ∙ ap (λ (a : Asked). named_unit plan.units a.ask) asked.is)
+          (c.of-of_unit.ensures _ plan c.requires.told.budgets);
       ask = subst (λ (a : Asked). IsAskOf plan a.ask) asked.is
           (ask_of plan i same asked.is test c.requires.ranges c.requires.inside c.requires.named);
       digits = c.requires.ranges.few_digits;

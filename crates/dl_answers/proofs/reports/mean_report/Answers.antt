@@ -15,7 +15,8 @@ pub loop-i-preserved : goal.loop-i-preserved
 loop-i-preserved g c =
     let i = c.loop-i.invariant in
     let mean : c.index-asks-i.result.ask ≡ Mean =
-    ask_has (λ (a : Asked). a.ask ≡ Mean) c.loop-i.i c.as_slice-asks.ensures c.index-asks-i.is c.loop-i-test.true c.requires.means in
+    ask_has (λ (a : Asked). a.ask ≡ Mean) c.loop-i.i c.as_slice-asks.ensures c.index-asks-i.is c.loop-i-test.true
+    c.requires.means in
     record {
       as_many = pushed_length _ _ _ _ i.as_many c.in_ok-push.ensures.items;
       each = each_next (IsGood c.args.plan.now c.args.settings.now.digits) _ _ _ _ _ _ i.as_many i.each
@@ -31,7 +32,8 @@ returns g c =
     let same = c.as_slice-asks.ensures in record {
       digits = refl;
       as_many = omega (arith, ap (λ t. length t) c.from_vec.ensures, ap (λ t. length t) same);
-      rows = each_row (IsGood c.args.plan.now c.args.settings.now.digits) _ same c.from_vec.ensures i.as_many (omega arith)
+      rows = each_row (IsGood c.args.plan.now c.args.settings.now.digits) _ same c.from_vec.ensures i.as_many
+          (omega arith)
           (omega arith) i.each;
       reach = whole 1;
       past = each_row (λ (a : Asked) (r : Row). IsPastAbove (whole 1) a.ask r) _ same c.from_vec.ensures i.as_many

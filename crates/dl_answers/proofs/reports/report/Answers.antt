@@ -61,9 +61,11 @@ returns g c =
     let reach = reach_of {B = g.row.B} (get_or c.as_slice.result.now 0 []) in record {
       digits = refl;
       as_many = omega (arith, ap (λ t. length t) c.from_vec.ensures, ap (λ t. length t) same);
-      rows = each_row (IsGood c.args.plan.now c.args.settings.now.digits) _ same c.from_vec.ensures i.as_many (omega arith)
+      rows = each_row (IsGood c.args.plan.now c.args.settings.now.digits) _ same c.from_vec.ensures i.as_many
+          (omega arith)
           (omega arith) i.each;
       reach = reach;
-      past = each_row (λ (a : Asked) (r : Row). IsPastAbove reach a.ask r) _ same c.from_vec.ensures i.as_many (omega arith)
+      past = each_row (λ (a : Asked) (r : Row). IsPastAbove reach a.ask r) _ same c.from_vec.ensures i.as_many
+          (omega arith)
           (omega arith) i.past;
     }

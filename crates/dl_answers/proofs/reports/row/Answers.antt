@@ -37,13 +37,15 @@ returns-in-LayerMean-clause-answer g c =
 
 pub returns-in-Tail-clause-answer : goal.returns-in-Tail-clause-answer
 returns-in-Tail-clause-answer g c =
-    rw c.in-Tail.is (tail_asked (2 ^ g.row.B) (c.tail_row.ensures.tail c.args.ground.now.plan.now c.requires.ground.plan.valid
+    rw c.in-Tail.is (tail_asked (2 ^ g.row.B) (c.tail_row.ensures.tail c.args.ground.now.plan.now
+    c.requires.ground.plan.valid
     (total_there c.requires.ground c.index-ground-0.result) c.requires.ground.drawn.means.mean))
 
 pub returns-in-Price-clause-answer : goal.returns-in-Price-clause-answer
 returns-in-Price-clause-answer g c =
     rw c.in-Price.is (price_asked (2 ^ g.row.B) c.as_slice.ensures (c.price_row.ensures.price c.args.ground.now.plan.now
-    c.requires.ground.plan.valid (total_there c.requires.ground c.index-ground-0.result) c.requires.ground.drawn.means.mean))
+    c.requires.ground.plan.valid (total_there c.requires.ground c.index-ground-0.result)
+    c.requires.ground.drawn.means.mean))
 
 -- ---- what is past the grid
 
@@ -51,7 +53,8 @@ pub returns-in-Quantile-clause-past : goal.returns-in-Quantile-clause-past
 returns-in-Quantile-clause-past g c =
     let is = c.requires.ground in
     subst (λ t. IsPastAbove (reach_of t) c.args.ask.now c.quantile_row.result) (total_read is c.index-ground-0.result)
-    (rw c.in-Quantile.is (past_above is.plan.valid (total_there is c.index-ground-0.result) c.quantile_row.ensures.past))
+    (rw c.in-Quantile.is (past_above is.plan.valid (total_there is c.index-ground-0.result)
+    c.quantile_row.ensures.past))
 
 pub returns-in-Tail-clause-past : goal.returns-in-Tail-clause-past
 returns-in-Tail-clause-past g c =
@@ -68,7 +71,8 @@ returns-in-Share-clause-past g c =
 
 pub joint_of-requires : goal.joint_of-requires
 joint_of-requires g c =
-    let far = c.part_of.ensures.reach (c.in-Joint.at + 1) (unit_reached c.requires.ground c.args.ask.now _ c.requires.reached
+    let far = c.part_of.ensures.reach (c.in-Joint.at + 1) (unit_reached c.requires.ground c.args.ask.now _
+    c.requires.reached
     c.unwrap.ensures (rw c.in-Joint.is (omega arith))) in
     (omega arith) also (omega arith) also c.part_of.ensures.part also (omega (arith, far))
 
@@ -97,31 +101,31 @@ whole_share_row-requires g c =
 
 pub returns-in-Joint-clause-answer : goal.returns-in-Joint-clause-answer
 returns-in-Joint-clause-answer g c =
-    let named = index_named c.args.ground.now.plan.now.units c.args.ask.now (ap (λ ask. (facts_of ask).unit) c.in-Joint.is)
-    c.requires.ask.number c.unwrap.ensures in
+    let named = index_named c.args.ground.now.plan.now.units c.args.ask.now
+    (ap (λ a. (facts_of a).unit) c.in-Joint.is) c.requires.ask.number c.unwrap.ensures in
     rw c.in-Joint.is (joint_asked c.in-Joint.unit named
     (rw (c.part_of.ensures.plan, c.part_of.ensures.unit) at c.joint_of.ensures.joint) c.ends_row-in-Joint.ensures.ends)
 
 pub returns-in-Kappa-clause-answer : goal.returns-in-Kappa-clause-answer
 returns-in-Kappa-clause-answer g c =
     let made = c.part_of-in-Kappa.ensures in
-    let named = index_named c.args.ground.now.plan.now.units c.args.ask.now (ap (λ ask. (facts_of ask).unit) c.in-Kappa.is)
-    c.requires.ask.number c.unwrap-in-Kappa.ensures in
+    let named = index_named c.args.ground.now.plan.now.units c.args.ask.now
+    (ap (λ a. (facts_of a).unit) c.in-Kappa.is) c.requires.ask.number c.unwrap-in-Kappa.ensures in
     rw c.in-Kappa.is (share_asked (2 ^ g.row.B) c.in-Kappa.unit c.in-Kappa.at named
     (rw (made.plan, made.unit) at c.share_row.ensures.share))
 
 pub returns-in-Cotail-clause-answer : goal.returns-in-Cotail-clause-answer
 returns-in-Cotail-clause-answer g c =
     let made = c.part_of-in-Cotail.ensures in
-    let named = index_named c.args.ground.now.plan.now.units c.args.ask.now (ap (λ ask. (facts_of ask).unit) c.in-Cotail.is)
-    c.requires.ask.number c.unwrap-in-Cotail.ensures in
+    let named = index_named c.args.ground.now.plan.now.units c.args.ask.now
+    (ap (λ a. (facts_of a).unit) c.in-Cotail.is) c.requires.ask.number c.unwrap-in-Cotail.ensures in
     rw c.in-Cotail.is (tail_share_asked (2 ^ g.row.B) c.in-Cotail.unit named
     (rw (made.plan, made.unit) at c.tail_share_row.ensures.share))
 
 pub returns-in-Share-clause-answer : goal.returns-in-Share-clause-answer
 returns-in-Share-clause-answer g c =
     let made = c.part_of-in-Share.ensures in
-    let named = index_named c.args.ground.now.plan.now.units c.args.ask.now (ap (λ ask. (facts_of ask).unit) c.in-Share.is)
-    c.requires.ask.number c.unwrap-in-Share.ensures in
+    let named = index_named c.args.ground.now.plan.now.units c.args.ask.now
+    (ap (λ a. (facts_of a).unit) c.in-Share.is) c.requires.ask.number c.unwrap-in-Share.ensures in
     rw c.in-Share.is (whole_share_asked (2 ^ g.row.B) c.in-Share.unit named
     (rw (made.plan, made.unit) at c.whole_share_row.ensures.share))

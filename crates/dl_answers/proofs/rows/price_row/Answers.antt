@@ -11,7 +11,8 @@ price-requires g c =
 
 pub returns-in-Some-clause-price : goal.returns-in-Some-clause-price
 returns-in-Some-clause-price g c = λ plan valid t m. inl (
-    price_answer c.args.terms.now valid t m (λ past. let some = c.in-Some.ensures.none.1 past in cc) c.in-Some.ensures.holds
+    price_answer c.args.terms.now valid t m (λ past. let some = c.in-Some.ensures.none.1 past in cc)
+    c.in-Some.ensures.holds
     c.in-Some.ensures.least c.in-Some.ensures.width c.ends_row.ensures.ends)
 
 pub returns-in-None-clause-price : goal.returns-in-None-clause-price

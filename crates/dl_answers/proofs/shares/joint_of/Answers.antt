@@ -14,5 +14,6 @@ pub returns-clause-divisible : goal.returns-clause-divisible
 returns-clause-divisible g c =
     let is = c.requires.part in
     let plan = c.args.part.now.plan.now in
-    c.joint.ensures.divisible (share_fits g.row.B plan.cells c.args.at is.unit.at.scale (few_cells plan is.unit.at.valid).1
+    c.joint.ensures.divisible (share_fits g.row.B plan.cells c.args.at is.unit.at.scale
+    (few_cells plan is.unit.at.valid).1
     (omega (arith, c.requires.inside, is.within)))
