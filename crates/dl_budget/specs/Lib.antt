@@ -5,4 +5,5 @@ pub mod Units
 pub mod Asks
 pub mod Once
 pub mod Sizes
+pub mod Plans
 pub mod Prelude

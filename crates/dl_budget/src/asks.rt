@@ -8,6 +8,7 @@ ghost use Rattle.dl_plan.specs.Prelude.{ArePriced, most_weight_parts, IsLevel, I
 ghost use Rattle.dl_plan.specs.declared.settings.Ask.TheVariants.{LayerMean};
 ghost use Rattle.dl_budget.specs.Asks.{IsInside, IsAskOf, index_of, named_unit, ask_budget, layer_mean_budget, tail_budget, price_budget, joint_by, joint_budget, kappa_budget, cotail_budget, undivided_by, share_budget, in_digits, needed, Passes};
 ghost use Rattle.dl_budget.specs.Once.{AreBudgetsOf, AreBudgetsOfUnit, AreUnitBudgets, HasBudgets};
+ghost use Rattle.dl_budget.specs.Plans.{HasUnitOn, IsPlanOn};
 
 use crate::once::{Budgets, UnitBudgets, budgets_of};
 use crate::shared::{raised_budget, shared_joint_budget};
@@ -22,8 +23,7 @@ use dl_plan::{Ask, Plan, Settings, Term, Unit};
 /// follows from the plan and the ask alone. The ask lies inside the grid, names a unit of the
 /// plan, if it names one, and its probability is below 1 and has parts of at most 10^9.
 pub fn ask_budget<const B: u32>(plan: &Plan, ask: &Ask) -> u128
-    requires scale { IsPlanScale B }
-    requires valid { IsValid plan.now }
+    requires plan { IsPlanOn B plan.now }
     requires ask { IsAskOf plan.now ask.now }
     ensures value { result ≡ ask_budget (2 ^ B) plan.now ask.now }
     ensures small { result ≤ most_ask_budget }
@@ -71,8 +71,7 @@ fn layer_mean_budget<const B: u32>(
     limit: Option<u32>,
     attach: u32,
 ) -> u128
-    requires valid { IsValid plan.now }
-    requires budgets { AreBudgetsOf (2 ^ B) plan.now budgets }
+    requires plan { HasBudgets (2 ^ B) plan.now budgets }
     requires inside { IsInside plan.now.cells (LayerMean limit attach) }
     ensures value { result ≡ layer_mean_budget (2 ^ B) plan.now limit attach }
     ensures small { result ≤ most_ask_budget }
@@ -85,8 +84,7 @@ fn layer_mean_budget<const B: u32>(
 
 /// The budget of a tail mean at the probability `p`.
 fn tail_budget<const B: u32>(plan: &Plan, budgets: Budgets, p: Frac) -> u128
-    requires valid { IsValid plan.now }
-    requires budgets { AreBudgetsOf (2 ^ B) plan.now budgets }
+    requires plan { HasBudgets (2 ^ B) plan.now budgets }
     requires level { IsLevel p }
     ensures value { result ≡ tail_budget (2 ^ B) plan.now p }
     ensures small { result ≤ most_tail_budget }
@@ -110,8 +108,7 @@ fn part_budget(weight: Frac, tail: u128) -> u128
 
 /// The budget of a price by these terms.
 fn price_budget<const B: u32>(plan: &Plan, budgets: Budgets, terms: &[Term]) -> u128
-    requires valid { IsValid plan.now }
-    requires budgets { AreBudgetsOf (2 ^ B) plan.now budgets }
+    requires plan { HasBudgets (2 ^ B) plan.now budgets }
     requires levels { All IsLevel (map (λ term. term.p) terms.now) }
     requires priced { ArePriced terms.now }
     ensures value { result ≡ price_budget (2 ^ B) plan.now terms.now }
@@ -126,9 +123,7 @@ fn price_budget<const B: u32>(plan: &Plan, budgets: Budgets, terms: &[Term]) -> 
 
 /// The budget of the share of unit `i` in a total.
 pub fn joint_budget<const B: u32>(plan: &Plan, i: u32) -> u128
-    requires scale { IsPlanScale B }
-    requires valid { IsValid plan.now }
-    requires unit { i < length plan.now.units }
+    requires unit { HasUnitOn B plan.now i }
     ensures value { result ≡ joint_budget (2 ^ B) plan.now i }
     ensures small { result ≤ most_joint_budget }
 {
@@ -144,9 +139,7 @@ pub fn joint_budget<const B: u32>(plan: &Plan, i: u32) -> u128
 
 /// The budget of the share of unit `i` in a total of independent units.
 fn joint_alone<const B: u32>(plan: &Plan, i: u32) -> u128
-    requires scale { IsPlanScale B }
-    requires valid { IsValid plan.now }
-    requires unit { i < length plan.now.units }
+    requires unit { HasUnitOn B plan.now i }
     ensures value { result ≡ joint_by None (2 ^ B) plan.now i }
     ensures small { result ≤ most_alone_joint_budget }
 {
@@ -156,9 +149,7 @@ fn joint_alone<const B: u32>(plan: &Plan, i: u32) -> u128
 
 /// The budgets of unit `i`.
 fn budgets_of_unit<const B: u32>(plan: &Plan, i: u32) -> UnitBudgets
-    requires scale { IsPlanScale B }
-    requires valid { IsValid plan.now }
-    requires unit { i < length plan.now.units }
+    requires unit { HasUnitOn B plan.now i }
     ensures are { AreUnitBudgets (2 ^ B) plan.now result }
     ensures unit { result.unit ≡ i }
 {
@@ -182,8 +173,7 @@ pub fn budgets_of_named<const B: u32>(plan: &Plan, unit: Option<u32>) -> Option<
 
 /// The budget of the share of a unit over the probability of the total.
 fn kappa_budget<const B: u32>(plan: &Plan, budgets: Budgets, of_unit: UnitBudgets) -> u128
-    requires valid { IsValid plan.now }
-    requires budgets { AreBudgetsOf (2 ^ B) plan.now budgets }
+    requires plan { HasBudgets (2 ^ B) plan.now budgets }
     requires unit { AreUnitBudgets (2 ^ B) plan.now of_unit }
     ensures value { result ≡ kappa_budget (2 ^ B) plan.now of_unit.unit }
     ensures small { result ≤ most_kappa_budget }
@@ -194,8 +184,7 @@ fn kappa_budget<const B: u32>(plan: &Plan, budgets: Budgets, of_unit: UnitBudget
 
 /// The budget of the share of a unit in the tail mean at the probability `p`.
 fn cotail_budget<const B: u32>(plan: &Plan, budgets: Budgets, of_unit: UnitBudgets, p: Frac) -> u128
-    requires valid { IsValid plan.now }
-    requires budgets { AreBudgetsOf (2 ^ B) plan.now budgets }
+    requires plan { HasBudgets (2 ^ B) plan.now budgets }
     requires unit { AreUnitBudgets (2 ^ B) plan.now of_unit }
     requires level { IsLevel p }
     requires few { p.den ≤ most_share_den }
@@ -212,8 +201,7 @@ fn cotail_budget<const B: u32>(plan: &Plan, budgets: Budgets, of_unit: UnitBudge
 /// The budget of the share of a unit in the tail mean at every quantile, before it is divided by
 /// `1 - p`.
 fn undivided<const B: u32>(plan: &Plan, budgets: Budgets, of_unit: UnitBudgets) -> u128
-    requires valid { IsValid plan.now }
-    requires budgets { AreBudgetsOf (2 ^ B) plan.now budgets }
+    requires plan { HasBudgets (2 ^ B) plan.now budgets }
     requires unit { AreUnitBudgets (2 ^ B) plan.now of_unit }
     ensures value { result ≡ undivided_by plan.now.common (2 ^ B) plan.now of_unit.unit }
     ensures small { result * most_level_den + 4 ≤ most_ask_budget }
@@ -228,8 +216,7 @@ fn undivided<const B: u32>(plan: &Plan, budgets: Budgets, of_unit: UnitBudgets) 
 
 /// The budget of the share of a unit in the tail mean at the probability `p`, at every quantile.
 fn share_budget<const B: u32>(plan: &Plan, budgets: Budgets, of_unit: UnitBudgets, p: Frac) -> u128
-    requires valid { IsValid plan.now }
-    requires budgets { AreBudgetsOf (2 ^ B) plan.now budgets }
+    requires plan { HasBudgets (2 ^ B) plan.now budgets }
     requires unit { AreUnitBudgets (2 ^ B) plan.now of_unit }
     requires level { IsLevel p }
     ensures value { result ≡ share_budget (2 ^ B) plan.now of_unit.unit p }
@@ -273,8 +260,7 @@ fn in_digits<const B: u32>(budget: u128, digits: u32) -> u128
 /// The width that an ask needs, in units of the last of `digits` digits: its printed ends lie no
 /// farther apart. Of the ask as of `ask_budget`; at most 9 digits.
 pub fn needed<const B: u32>(plan: &Plan, ask: &Ask, digits: u32) -> u128
-    requires scale { IsPlanScale B }
-    requires valid { IsValid plan.now }
+    requires plan { IsPlanOn B plan.now }
     requires ask { IsAskOf plan.now ask.now }
     requires digits { digits ≤ most_digits }
     ensures { result ≡ needed (2 ^ B) plan.now ask.now digits }
@@ -305,8 +291,7 @@ pub fn needed_with<const B: u32>(
 /// Whether the settings let the ask pass: it needs at most the width that they name for a
 /// probability or a quantile, or that for a mean.
 pub fn passes<const B: u32>(plan: &Plan, ask: &Ask, settings: &Settings) -> bool
-    requires scale { IsPlanScale B }
-    requires valid { IsValid plan.now }
+    requires plan { IsPlanOn B plan.now }
     requires ask { IsAskOf plan.now ask.now }
     requires digits { settings.now.digits ≤ most_digits }
     ensures { IsTrue result ↔ Passes (2 ^ B) plan.now ask.now settings.now }

@@ -5,6 +5,7 @@ ghost use Rattle.dl_limits.specs.Limits.{IsPlanScale};
 ghost use Rattle.dl_plan.specs.declared.plan.Plan.{Plan as PlanValue};
 ghost use Rattle.dl_plan.specs.Valid.{IsValid};
 ghost use Rattle.dl_budget.specs.Once.{AreBudgetsOfUnit, AreAllBudgets, HaveBudgets, IsBudgetOf};
+ghost use Rattle.dl_budget.specs.Plans.{HasUnitOn};
 
 use crate::asks::budgets_of_named;
 use crate::once::{Budgets, UnitBudgets, budgets_of};
@@ -55,9 +56,7 @@ fn is_named(named: &[Option<u32>], i: u32) -> bool
 
 /// The budgets of unit `i` of a valid plan; none where no ask names it.
 fn budgets_where<const B: u32>(plan: &Plan, named: &[Option<u32>], i: u32) -> Option<UnitBudgets>
-    requires scale { IsPlanScale B }
-    requires valid { IsValid plan.now }
-    requires unit { i < length plan.now.units }
+    requires unit { HasUnitOn B plan.now i }
     ensures are { IfSome result (IsBudgetOf (2 ^ B) plan.now i) }
     ensures there { Any (λ unit. unit ≡ Some i) named.now → IsSome result }
 {

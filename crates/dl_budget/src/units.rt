@@ -6,6 +6,7 @@ ghost use Rattle.dl_exact.specs.Fraction.{Fraction};
 ghost use Rattle.dl_grid.specs.Width.{convolution_spread, sum_spread, up};
 ghost use Rattle.dl_plan.specs.Prelude.{IsHorizonOf, edge, horizon, declared_mean, IsNewZero, AreFew, IsValidUnit, IsValid, mean_width, part_width};
 ghost use Rattle.dl_budget.specs.Claims.{claims_budget};
+ghost use Rattle.dl_budget.specs.Plans.{IsPlanOn};
 ghost use Rattle.dl_budget.specs.Sizes.{IsOfUnits, most_budget_of, most_mean_budget_of, operands};
 ghost use Rattle.dl_budget.specs.Units.{after_clause, unit_budget, unit_budgets, unit_mean_budget, total_budget, others_budget, mean_budget};
 
@@ -128,8 +129,7 @@ fn sum_without<const B: u32>(units: &[Unit], i: u32, cells: u32) -> u128
 /// all. Of independent units it starts with that of the first and takes in each further one as a
 /// convolution does; of units that share a factor it is that of one gamma unit.
 pub fn total_budget<const B: u32>(plan: &Plan) -> u128
-    requires scale { IsPlanScale B }
-    requires valid { IsValid plan.now }
+    requires plan { IsPlanOn B plan.now }
     ensures value { result ≡ total_budget (2 ^ B) plan.now }
     ensures small { result < budget_bound }
     ensures standard { length plan.now.units ≤ standard_units → result < standard_budget_bound }
@@ -248,8 +248,7 @@ fn sum_of_means<const B: u32>(units: &[Unit], cells: u32) -> u128
 
 /// The budget of the mean of the total of a valid plan; of units that share a factor it is 1.
 pub(crate) fn mean_budget<const B: u32>(plan: &Plan) -> u128
-    requires scale { IsPlanScale B }
-    requires valid { IsValid plan.now }
+    requires plan { IsPlanOn B plan.now }
     ensures value { result ≡ mean_budget (2 ^ B) plan.now }
     ensures small { result ≤ most_mean_budget }
 {

@@ -8,6 +8,11 @@ use Rattle.dl_transform.specs.declared.tables.Table.{Table}
 abbrev pub AreBelow : ℕ → List ℕ → Type 0
 AreBelow b xs = (i : ℕ) → slice_index xs i < b
 
+-- n items, each below b
+pub record IsListOf (n b : ℕ) (xs : List ℕ) : Type 0 where
+  pub size : length xs ≡ n
+  pub small : AreBelow b xs
+
 -- the table is right, and has the roots and the scale of `levels` levels
 pub record IsTableFor (t : Table) (levels : ℕ) : Type 0 where
   pub table : IsTable t

@@ -10,6 +10,11 @@ pub record IsModulus (p : ℕ) : Type 0 where
   pub large : 3 * 2 ^ 60 ≤ p
   pub small : p < 2 ^ 62
 
+-- p is such a number, and k the inverse of -p modulo 2^64
+pub record HasInverse (p k : ℕ) : Type 0 where
+  pub modulus : IsModulus p
+  pub inverse : (p * k + 1) % 2 ^ 64 ≡ 0
+
 -- q is the quotient that a product by the factor w needs: w * 2^64 / p, rounded down
 pub record IsFactor (p w q : ℕ) : Type 0 where
   pub below : w < p

@@ -1,7 +1,7 @@
 //! Arithmetic modulo `p` with a factor whose quotient is known (Shoup), and Montgomery's.
 
 ghost use Rattle.std.specs.Prelude.{◌≡◌, ℕ, ◌+◌, ◌-◌, ◌*◌, ◌/◌, ◌%◌, ◌^◌, ◌<◌, ◌≤◌};
-ghost use Rattle.dl_transform.specs.Residue.{Same, IsFactor, IsModulus};
+ghost use Rattle.dl_transform.specs.Residue.{HasInverse, Same, IsFactor, IsModulus};
 
 /// The product of `x` and the factor `w` modulo `p`, below `2 * p`; `q` is the quotient of `w`.
 #[tactic(auto, using(crate::proofs::Quotients::quotient_low, crate::proofs::Quotients::quotient_high, crate::proofs::Quotients::left_same))]
@@ -77,8 +77,7 @@ pub(crate) fn join(u: u64, v: u64, w: u64, q: u64, p: u64) -> (u64, u64)
 /// a multiple of `2^64`.
 #[tactic(auto, using(crate::proofs::Quotients::filled_same))]
 pub(crate) fn reduced(x: u64, y: u64, k: u64, p: u64) -> u64
-    requires modulus { IsModulus p }
-    requires inverse { (p * k + 1) % 2 ^ 64 ≡ 0 }
+    requires inverse { HasInverse p k }
     requires first_small { x < 2 * p }
     requires second_small { y < 2 * p }
     ensures small { result < 2 * p }

@@ -1,10 +1,10 @@
 //! The passes of a transform, from items to values and back.
 
-ghost use Rattle.std.specs.Prelude.{◌≡◌, ℕ, ◌+◌, ◌-◌, ◌*◌, ◌/◌, ◌%◌, ◌^◌, ◌<◌, ◌≤◌};
+ghost use Rattle.std.specs.Prelude.{◌≡◌, ℕ, ◌+◌, ◌-◌, ◌*◌, ◌/◌, ◌^◌, ◌<◌, ◌≤◌};
 ghost use Rattle.std.specs.Prelude.{length, slice_index};
-ghost use Rattle.dl_transform.specs.Residue.{Same, IsFactor, IsModulus};
+ghost use Rattle.dl_transform.specs.Residue.{HasInverse, Same, IsFactor, IsModulus};
 ghost use Rattle.dl_transform.specs.Lists.{product_at, mixed_at, AreBelow, AreHalves, AreItemsBelow};
-ghost use Rattle.dl_transform.specs.Lists.{AreOver, AreValuesBelow, IsPart};
+ghost use Rattle.dl_transform.specs.Lists.{AreOver, AreValuesBelow, IsListOf, IsPart};
 
 use crate::factors::{join, lowered, part, reduced};
 use crate::tables::Table;
@@ -218,11 +218,9 @@ pub(crate) fn load(x: &mut [u64], a: &[u128], p: u64)
 /// Each product `x * y` over `2^64` modulo `p`, in the place of `x`; `p * k + 1` is a multiple of
 /// `2^64`.
 pub(crate) fn multiply_all(x: &mut [u64], y: &[u64], k: u64, p: u64)
-    requires modulus { IsModulus p }
-    requires inverse { (p * k + 1) % 2 ^ 64 ≡ 0 }
-    requires alike { length y.now ≡ length x.old }
-    requires first_small { AreBelow (4 * p) x.old }
-    requires second_small { AreBelow (4 * p) y.now }
+    requires inverse { HasInverse p k }
+    requires first { AreBelow (4 * p) x.old }
+    requires second { IsListOf (length x.old) (4 * p) y.now }
     ensures small { AreBelow (2 * p) x.new }
     ensures same { AreOver p (length x.old) (product_at x.old y.now) x.new }
 {
@@ -233,8 +231,7 @@ pub(crate) fn multiply_all(x: &mut [u64], y: &[u64], k: u64, p: u64)
 
 /// Each square over `2^64` modulo `p`; `p * k + 1` is a multiple of `2^64`.
 pub(crate) fn square_all(x: &mut [u64], k: u64, p: u64)
-    requires modulus { IsModulus p }
-    requires inverse { (p * k + 1) % 2 ^ 64 ≡ 0 }
+    requires inverse { HasInverse p k }
     requires small { AreBelow (4 * p) x.old }
     ensures small { AreBelow (2 * p) x.new }
     ensures same { AreOver p (length x.old) (product_at x.old x.old) x.new }
@@ -248,10 +245,8 @@ pub(crate) fn square_all(x: &mut [u64], k: u64, p: u64)
 /// Each sum `2 * x + u` modulo `p`: a low end and the high end above it by the width `u`.
 pub(crate) fn add_ends(sums: &mut [u64], x: &[u64], u: &[u64], p: u64)
     requires modulus { IsModulus p }
-    requires lows_alike { length x.now ≡ length sums.old }
-    requires widths_alike { length u.now ≡ length sums.old }
-    requires lows { AreBelow (4 * p) x.now }
-    requires widths { AreBelow (4 * p) u.now }
+    requires lows { IsListOf (length sums.old) (4 * p) x.now }
+    requires widths { IsListOf (length sums.old) (4 * p) u.now }
     ensures small { AreBelow (4 * p) sums.new }
     ensures same { (i : ℕ) → i < length sums.old
         → Same p (slice_index sums.new i) (2 * slice_index x.now i + slice_index u.now i) }
@@ -265,8 +260,7 @@ pub(crate) fn add_ends(sums: &mut [u64], x: &[u64], u: &[u64], p: u64)
 /// The sum of two products, `x * v` and `u * (y + v)`, over `2^64` modulo `p`; `p * k + 1` is a
 /// multiple of `2^64`.
 fn mixed(x: u64, y: u64, u: u64, v: u64, k: u64, p: u64) -> u64
-    requires modulus { IsModulus p }
-    requires inverse { (p * k + 1) % 2 ^ 64 ≡ 0 }
+    requires inverse { HasInverse p k }
     requires first_low { x < 4 * p }
     requires second_low { y < 4 * p }
     requires first_width { u < 4 * p }
@@ -284,15 +278,11 @@ fn mixed(x: u64, y: u64, u: u64, v: u64, k: u64, p: u64) -> u64
 /// Each sum of two products, `x * v` and `u * (y + v)`, over `2^64` modulo `p`, in the place of
 /// `u`; `p * k + 1` is a multiple of `2^64`.
 pub(crate) fn mix_all(x: &[u64], y: &[u64], u: &mut [u64], v: &[u64], k: u64, p: u64)
-    requires modulus { IsModulus p }
-    requires inverse { (p * k + 1) % 2 ^ 64 ≡ 0 }
-    requires first_alike { length x.now ≡ length u.old }
-    requires second_alike { length y.now ≡ length u.old }
-    requires widths_alike { length v.now ≡ length u.old }
-    requires first_lows { AreBelow (4 * p) x.now }
-    requires second_lows { AreBelow (4 * p) y.now }
+    requires inverse { HasInverse p k }
+    requires first_lows { IsListOf (length u.old) (4 * p) x.now }
+    requires second_lows { IsListOf (length u.old) (4 * p) y.now }
     requires first_widths { AreBelow (4 * p) u.old }
-    requires second_widths { AreBelow (4 * p) v.now }
+    requires second_widths { IsListOf (length u.old) (4 * p) v.now }
     ensures small { AreBelow (2 * p) u.new }
     ensures same { AreOver p (length u.old) (mixed_at x.now y.now u.old v.now) u.new }
 {

@@ -36,12 +36,12 @@ returns-clause-small g c =
     let plan = c.args.plan.now in
     let S = 2 ^ g.row.B in
     let levels = levels_each c.args.terms.now c.requires.levels in
-    let total = c.requires.budgets.total in
-    let mean = c.requires.budgets.mean in
+    let total = c.requires.plan.are.total in
+    let mean = c.requires.plan.are.mean in
     let small = price_small c.args.terms.now c.requires.priced (λ p. tail_budget S plan p) most_tail_budget
     (λ i (t : Term) inside. tail_most (mean_budget S plan) (total_budget S plan) plan.cells _
-    (omega (arith, mean, c.requires.budgets.mean_small)) (omega (arith, total, c.requires.budgets.total_small))
-    (few_cells plan c.requires.valid).1 (levels i t inside)) in
+    (omega (arith, mean, c.requires.plan.are.mean_small)) (omega (arith, total, c.requires.plan.are.total_small))
+    (few_cells plan c.requires.plan.valid).1 (levels i t inside)) in
     let bound = price_all (λ (t : Term). up (t.weight *ℚ whole (tail_budget S plan t.p)) + 2) c.args.terms.now
     c.terms.term-index c.terms.sum (omega arith) c.terms.invariant.so_far in
     omega arith

@@ -7,7 +7,7 @@ use Rattle.dl_budget.proofs.units.total_budget.Goals as goal
 
 pub above_zero-requires-clause-valid : goal.above_zero-requires-clause-valid
 above_zero-requires-clause-valid g c =
-    read_valid c.args.plan.now c.as_slice-units.result.now c.requires.valid c.as_slice-units.ensures
+    read_valid c.args.plan.now c.as_slice-units.result.now c.requires.plan.valid c.as_slice-units.ensures
 
 pub gamma_budget-requires-clause-within : goal.gamma_budget-requires-clause-within
 gamma_budget-requires-clause-within g c =
