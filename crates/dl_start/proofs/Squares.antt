@@ -1,7 +1,6 @@
 -- Square roots of whole numbers, and of the probability of no claim.
-use Rattle.dl_start.proofs.Common.{◌≡◌, ℕ, suc, zero, ◌+◌, ◌-◌, ◌*◌, ◌^◌, ◌<◌, ◌≤◌, inl, inr, cases_lt, arith, sym, ap, ◌∙◌, mul-pos, mul-le-mul, mul-le-mul_right, pow-add, Fraction, ◌over◌, ◌+ℚ◌, ◌*ℚ◌, ◌≤ℚ◌, whole, sum_to, over_le, over_mul, gamma, Holds}
+use Rattle.dl_start.proofs.Common.{◌≡◌, ℕ, suc, ◌+◌, ◌*◌, ◌^◌, ◌<◌, ◌≤◌, inl, inr, cases_lt, arith, sym, ap, ◌∙◌, mul-pos, mul-le-mul, mul-le-mul_right, pow-add, Fraction, ◌over◌, ◌+ℚ◌, ◌*ℚ◌, ◌≤ℚ◌, whole, sum_to, over_le, over_mul, gamma, Holds}
 use Rattle.dl_model.proofs.Roots.{root_least, root_most}
-use Rattle.dl_start.proofs.Products.{two_pos}
 
 -- a number whose square is below that of another is below it
 pub le_of_squares : (a b l h : ℕ) → a * a ≤ l → l ≤ h → h ≤ b * b → a ≤ b

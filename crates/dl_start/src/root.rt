@@ -49,9 +49,11 @@ pub(crate) fn root(x: Scaled) -> Scaled
 {
     let odd = (x.exponent + 63) % 2;
     let scale = if odd == 0 { MOST_START } else { MOST_START / 2 };
+    let low = whole_root(u128::from(x.low) * scale);
+    let high = whole_root_above(u128::from(x.high) * scale);
     Scaled {
-        low: whole_root(u128::from(x.low) * scale) as u64,
-        high: whole_root_above(u128::from(x.high) * scale) as u64,
+        low: low as u64,
+        high: high as u64,
         exponent: (x.exponent + 63 - odd) / 2,
     }
 }

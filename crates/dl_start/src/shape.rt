@@ -1,6 +1,7 @@
 //! The probability of no claim of a gamma count of a shape below 1.
 
 ghost use Rattle.std.specs.Prelude.{ℕ, ◌≡◌, ◌+◌, ◌*◌, ◌^◌, ◌<◌, ◌≤◌};
+ghost use Rattle.dl_limits.specs.Limits.{frac_bound};
 ghost use Rattle.dl_exact.specs.Fraction.{Fraction, whole, ◌over◌, ◌+ℚ◌, ◌/ℚ◌, ◌≤ℚ◌, ◌<ℚ◌};
 ghost use Rattle.dl_model.specs.Counts.{gamma, gamma_of};
 ghost use Rattle.dl_start.specs.Start.{HoldsNoClaim};
@@ -61,7 +62,7 @@ fn any_start(num: u64, rest: u64) -> Scaled
 /// the rest is any shape below 1, and `any` holds it.
 fn by_digits(one: Scaled, any: Scaled, num: u64, den: u64, digits: u32) -> Scaled
     requires below { num < den }
-    requires small { den < 2 ^ 63 }
+    requires small { den < frac_bound }
     requires room { one.exponent ≤ 80 }
     requires any_room { any.exponent ≤ 143 }
     ensures room { result.exponent ≤ 143 }

@@ -1,4 +1,4 @@
-use Rattle.dl_start.proofs.Common.{◌≡◌, ℕ, ◌+◌, ◌-◌, ◌*◌, ◌/◌, ◌^◌, arith}
+use Rattle.dl_start.proofs.Common.{◌≡◌, ◌+◌, ◌-◌, ◌*◌, ◌/◌, ◌^◌, arith}
 use Rattle.std.proofs.Common.{◌%◌}
 use Rattle.dl_start.proofs.Products.{two_pos}
 use Rattle.dl_start.proofs.Squares.{root_holds, even_scales, odd_scales}
@@ -14,5 +14,5 @@ returns-clause-holds c t x H =
       | else-odd-eq0 w ↦ rw w.scale-is (odd_scales e f (omega (arith, w.if-odd-eq0.false)))
     ] in
     root_holds (2 ^ e) (2 ^ f) c.if-odd-eq0.scale (two_pos e) (two_pos f) scales t x c.args.x.low c.args.x.high
-    c.whole_root.result c.whole_root_above.result H (rw c.from.ensures at c.whole_root.ensures.below)
-    (rw c.from-2.ensures at c.whole_root_above.ensures.above)
+    c.whole_root-low.result c.whole_root_above-high.result H (rw c.from.ensures at c.whole_root-low.ensures.below)
+    (rw c.from-2.ensures at c.whole_root_above-high.ensures.above)

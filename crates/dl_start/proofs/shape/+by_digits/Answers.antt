@@ -1,4 +1,4 @@
-use Rattle.dl_start.proofs.Common.{◌≡◌, ◌+◌, ◌-◌, arith, ap, subst, sym, ◌∙◌, ◌<◌, Fraction, whole, ◌over◌, ◌+ℚ◌, gamma, over_le, one_pos}
+use Rattle.dl_start.proofs.Common.{◌+◌, ◌-◌, arith, subst, whole, ◌over◌, gamma, over_le, one_pos}
 use Rattle.dl_start.proofs.Shares.{digit_none, digit_one}
 use Rattle.dl_start.specs.Start.{HoldsNoClaim}
 use Rattle.dl_start.proofs.shape.+by_digits.Goals as goal

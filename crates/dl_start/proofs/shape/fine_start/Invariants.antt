@@ -1,4 +1,4 @@
-use Rattle.dl_start.proofs.Common.{◌≡◌, ◌+◌, ◌*◌, ◌^◌, ◌<◌, ◌≤◌}
+use Rattle.dl_start.proofs.Common.{◌≡◌, ◌+◌, ◌*◌, ◌^◌, ◌≤◌}
 use Rattle.dl_start.proofs.shape.fine_start.Given as goal
 
 abbrev pub invariant-loop-k : goal.invariant-loop-k

@@ -1,4 +1,4 @@
-use Rattle.dl_start.proofs.Common.{◌≡◌, ◌+◌, whole, ◌over◌, ◌+ℚ◌, ◌/ℚ◌, over_self, gamma}
+use Rattle.dl_start.proofs.Common.{whole, ◌+ℚ◌, ◌/ℚ◌, over_self, gamma}
 use Rattle.dl_exact.proofs.BelowOne.{num_below}
 use Rattle.dl_start.proofs.Shares.{ratio_is}
 use Rattle.dl_start.specs.Start.{HoldsNoClaim}
