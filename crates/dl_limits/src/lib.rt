@@ -103,6 +103,9 @@ pub const MOST_PARTS: u64 = 1 << 30;
 /// The budget of a sum of units is below this, in units of the scale.
 pub const BUDGET_BOUND: u128 = 1 << 45;
 
+/// The greatest budget of the mean of a total, in units of the scale.
+pub const MOST_MEAN_BUDGET: u128 = 1 << 67;
+
 /// The greatest amount, limit or attachment, in buckets, in a plan whose grid has `cells` cells.
 #[tactic(auto, unfolding(crate::specs::Limits::most_amount_at))]
 pub fn most_amount(cells: u32) -> u32

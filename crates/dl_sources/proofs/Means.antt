@@ -1,9 +1,20 @@
 -- The mean of a total, from those of its units.
-use Rattle.dl_sources.proofs.Common.{ℕ, suc, ◌≡◌, ◌+◌, ◌-◌, ◌*◌, ◌^◌, ◌<◌, ◌≤◌, List, [], ◌∷◌, length, get_or, map, arith, sym, ap, subst, subst₂, ◌∙◌, Option, None, Some, All, mul-le-mul_left, pow_pos, Fraction, whole, ◌over◌, ◌+ℚ◌, Iv, spread, CedeLayer, Plan, Clause, horizon, IsValidUnit, IsValid, claims_budget, mean_width, unit_mean_budget, one_horizon, AreUnitMeans, IsUnitMean, IsMeanOf, loss_of, sum_by, All-tail, over_same, one_pos, over_plus, are_units, no_clause, units_declared, MeanHolds, units_mean, UnitOfPlan, layer_budget, clause_mean, part_width, HoldsClaims, HoldsMean, independent, IsClaimsSum, IsClauseMean}
+use Rattle.dl_sources.proofs.Common.{ℕ, suc, ◌≡◌, ◌+◌, ◌-◌, ◌*◌, ◌^◌, ◌<◌, ◌≤◌, List, [], ◌∷◌, length, get_or, map, arith, sym, ap, subst, subst₂, ◌∙◌, Option, None, Some, All, mul-le-mul_left, pow_pos, Fraction, whole, ◌over◌, ◌*ℚ◌, ◌+ℚ◌, Iv, spread, CedeLayer, Plan, Clause, horizon, IsValidUnit, IsValid, claims_budget, mean_width, unit_mean_budget, one_horizon, AreUnitMeans, IsUnitMean, IsMeanOf, loss_of, sum_by, All-tail, over_same, one_pos, over_plus, are_units, no_clause, units_declared, MeanHolds, units_mean, UnitOfPlan, layer_budget, clause_mean, part_width, HoldsClaims, HoldsMean, independent, IsClaimsSum, IsClauseMean}
 use Rattle.std.proofs.lemmas.List.Sums.{sum_by-cons}
 use Rattle.dl_exact.specs.Sum.{sum_over}
 use Rattle.dl_model.proofs.TotalMeans.{mean_of_total}
 use Rattle.dl_sources.proofs.Losses.{is_independent}
+use Rattle.std.proofs.Math.Nat.{le_trans, mul-le-mul_right}
+use Rattle.std.proofs.lemmas.List.Elements.{All-head}
+use Rattle.dl_exact.proofs.RoundingLaws.{up_above}
+use Rattle.dl_limits.specs.Limits.{bits_of, most_mean, most_mean_budget, most_total_at}
+use Rattle.dl_limits.proofs.Scales.{total_units}
+use Rattle.dl_plan.specs.Prelude.{declared_mean, growth, whole_mean, whole_means}
+use Rattle.dl_model.proofs.Declared.{at_most_wider}
+use Rattle.dl_model.proofs.PlanMeans.{mean_with_change}
+use Rattle.dl_model.proofs.PlanUnits.{loss_of_declared}
+use Rattle.dl_budget.specs.Units.{mean_budget, mean_by}
+use Rattle.dl_zero.proofs.Means.{mean_low as low_of_mean}
 
 -- ---- of a unit without a clause
 
@@ -113,20 +124,42 @@ means_narrow {B} cells (u ∷ us) (m ∷ means) each =
       sum_by-cons (unit_mean_budget (2 ^ B) cells) u us,
     )
 
-pub means_small : {B : ℕ} (means : List (Iv B)) → length means ≤ 16 → All (λ mean. mean.hi ≤ 2 ^ 93) means
-    → sum_by (λ mean. mean.hi) means ≤ 2 ^ 97
-means_small {B} means few small = omega (arith, few, sum_small means small)
-  where
-    sum_small : (means : List (Iv B)) → All (λ mean. mean.hi ≤ 2 ^ 93) means → highs means ≤ length means * 2 ^ 93
-    sum_small [] small = omega arith
-    sum_small (m ∷ means) small =
-        omega (
-          arith,
-          small 0 m (omega arith),
-          sum_small means
-              (All-tail (λ (mean : Iv B). mean.hi ≤ 2 ^ 93) m means small),
-          sum_by-cons (λ (mean : Iv B). mean.hi) m means,
-        )
+-- no low end is above what the means of the units come to
+mean_low : {B : ℕ} (cells : ℕ) (u : UnitOfPlan) (m : Iv B) → IsValidUnit cells u → IsUnitMean cells u m
+    → m.lo ≤ whole_mean u * 2 ^ B
+mean_low {B} cells u m valid is =
+    low_of_mean B (loss_of u) (whole_mean u) m (loss_of_declared cells u valid) is.holds
+    (at_most_wider _ _ _ _ (mean_with_change cells u valid) (up_above (whole (growth u.zero) *ℚ declared_mean u)))
+
+lows_fit : {B : ℕ} (cells : ℕ) (us : List UnitOfPlan) (means : List (Iv B)) → All (IsValidUnit cells) us
+    → AreUnitMeans cells us means → lows means ≤ whole_means us * 2 ^ B
+lows_fit {B} cells [] [] valid each = omega arith
+lows_fit {B} cells [] (m ∷ means) valid each = absurd (omega (arith, each.as_many))
+lows_fit {B} cells (u ∷ us) [] valid each = absurd (omega (arith, each.as_many))
+lows_fit {B} cells (u ∷ us) (m ∷ means) valid each =
+    omega (
+      arith,
+      mean_low cells u m (All-head (IsValidUnit cells) u us valid) (each.each 0 u m (omega arith)),
+      lows_fit cells us means (All-tail (IsValidUnit cells) u us valid) (later_means cells u us m means each),
+      sum_by-cons (λ (mean : Iv B). mean.lo) m means,
+      ap (λ t. t * 2 ^ B) (sum_by-cons whole_mean u us),
+    )
+
+-- the means of a valid plan's independent units, where their budgets are not too large
+pub means_fit : {B : ℕ} (plan : Plan) (means : List (Iv B)) → B ≡ bits_of plan.cells → IsValid plan → plan.common ≡ None
+    → AreUnitMeans plan.cells plan.units means → mean_budget (2 ^ B) plan ≤ most_mean_budget → highs means ≤ most_mean
+means_fit {B} plan means scale valid none each small =
+    let own : sum_by (unit_mean_budget (2 ^ B) plan.cells) plan.units ≤ most_mean_budget =
+    subst (λ o. mean_by o (2 ^ B) plan.cells plan.units ≤ most_mean_budget) none small in
+    let most : whole_means plan.units * 2 ^ B ≤ 17 * 2 ^ 92 =
+    le_trans (mul-le-mul_right (2 ^ B) valid.means)
+    (subst (λ b. most_total_at plan.cells * 2 ^ b ≤ 17 * 2 ^ 92) (sym scale) (total_units plan.cells)) in
+    omega (
+      arith,
+      most,
+      lows_fit plan.cells plan.units means valid.units each,
+      means_narrow plan.cells plan.units means each,
+    )
 
 pub is_mean : {B : ℕ} (means : List (Iv B)) (mean : Iv B) → mean.lo ≡ sum_by (λ mean. mean.lo) means
     → mean.hi ≡ sum_by (λ mean. mean.hi) means

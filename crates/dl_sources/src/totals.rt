@@ -13,9 +13,10 @@ ghost use Rattle.dl_sources.specs.Units.{AreMeansOf, AreOutcomesOf};
 use crate::extra::is_without_others;
 use crate::origins::{Sources, sources_of};
 use crate::outcomes::Outcomes;
-use dl_budget::AllBudgets;
+use dl_budget::{AllBudgets, budgets_of};
 use dl_grid::Grid;
 use dl_iv::Iv;
+use dl_limits::MOST_MEAN_BUDGET;
 use dl_plan::{Plan, Unit};
 use dl_port::{sums_of_one, total_and_others};
 use dl_product::Workspace;
@@ -30,6 +31,8 @@ pub(crate) fn total_mean<const B: u32>(plan: &Plan, means: &[Iv<B>]) -> Iv<B>
     ensures mean { IsMeanOf plan.now result }
     ensures small { result.hi ≤ most_mean }
 {
+    // the budget of the mean is that of a valid plan, so the sum has room
+    prove!(budgets_of::<B>(plan).mean <= MOST_MEAN_BUDGET);
     Iv::sum(means)
 }
 

@@ -21,4 +21,4 @@ gamma_budget-requires-clause-admitted g c =
 
 pub sum_of-requires-clause-room : goal.sum_of-requires-clause-room
 sum_of-requires-clause-room g c =
-    room_of c.args.plan.now c.as_slice-units.result.now c.requires.valid c.as_slice-units.ensures
+    room_of c.args.plan.now c.as_slice-units.result.now c.requires.plan.valid c.as_slice-units.ensures

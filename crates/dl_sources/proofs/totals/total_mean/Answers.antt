@@ -1,16 +1,18 @@
 use Rattle.dl_sources.proofs.Common.{arith, ◌also◌}
-use Rattle.dl_sources.proofs.Means.{means_small, is_mean}
+use Rattle.dl_sources.proofs.Means.{means_fit, is_mean}
 use Rattle.dl_sources.proofs.Scales.{plan_scale}
 use Rattle.dl_sources.proofs.totals.total_mean.Goals as goal
 
 pub sum-requires : goal.sum-requires
 sum-requires g c =
     let plan = c.args.plan.now in
-    let scale = plan_scale g.row.B plan.cells c.requires.at.at.scale in
-    let few = means_small c.args.means.now
-    (omega (arith, c.requires.means.means.as_many, c.requires.at.at.valid.few)) c.requires.means.small in
+    let at = c.requires.at.at in
+    let scale = plan_scale g.row.B plan.cells at.scale in
+    let budget = c.budgets_of.ensures in
+    let fit = means_fit plan c.args.means.now at.scale at.valid c.requires.at.independent c.requires.means.means
+    (omega (arith, budget.mean, budget.mean_small)) in
     (omega (arith, scale.least, scale.most)) also (omega (arith, scale.least, scale.most))
-    also (omega (arith, scale.least, scale.most)) also (omega (arith, few))
+    also (omega (arith, scale.least, scale.most)) also (omega (arith, fit))
 
 pub returns-clause-mean : goal.returns-clause-mean
 returns-clause-mean g c =
@@ -19,6 +21,8 @@ returns-clause-mean g c =
 
 pub returns-clause-small : goal.returns-clause-small
 returns-clause-small g c =
-    let few = means_small c.args.means.now
-    (omega (arith, c.requires.means.means.as_many, c.requires.at.at.valid.few)) c.requires.means.small in
-    omega (arith, c.sum.ensures.high, few)
+    let at = c.requires.at.at in
+    let budget = c.budgets_of.ensures in
+    let fit = means_fit c.args.plan.now c.args.means.now at.scale at.valid c.requires.at.independent c.requires.means.means
+    (omega (arith, budget.mean, budget.mean_small)) in
+    omega (arith, c.sum.ensures.high, fit)

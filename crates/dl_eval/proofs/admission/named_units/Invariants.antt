@@ -1,5 +1,0 @@
-use Rattle.dl_eval.proofs.Common.{◌≡◌, take, named_units}
-use Rattle.dl_eval.proofs.admission.named_units.Given as goal
-
-abbrev pub invariant-loop-asked : goal.invariant-loop-asked
-invariant-loop-asked l = l.named.items ≡ named_units l.units (take l.asked-index l.asks)

@@ -1,6 +1,0 @@
-use Rattle.dl_eval.proofs.Common.{None}
-use Rattle.std.proofs.lemmas.List.{replicate-append-replicate}
-use Rattle.dl_eval.proofs.grids.no_grids.Goals as goal
-
-pub units-preserved : goal.units-preserved
-units-preserved g c = rw (c.in_ok-push.ensures.items, c.units.invariant) (replicate-append-replicate _ 1 None)

@@ -1,6 +1,0 @@
-use Rattle.dl_eval.proofs.Common.{◌≡◌, None}
-use Rattle.std.specs.Prelude.{replicate}
-use Rattle.dl_eval.proofs.grids.no_grids.Given as goal
-
-abbrev pub invariant-units : goal.invariant-units
-invariant-units g l = l.grids.items ≡ replicate l.counter None

@@ -1,8 +1,0 @@
-use Rattle.dl_eval.proofs.Common.{◌≤◌, subst}
-use Rattle.dl_eval.proofs.ClaimsGrids.{told_le}
-use Rattle.dl_eval.proofs.raised.is_narrow.Goals as goal
-
-pub returns-clause-narrow : goal.returns-clause-narrow
-returns-clause-narrow c within =
-    subst (λ x. x ≤ c.args.most) c.shared_joint_budget.ensures.value
-    (told_le c.shared_joint_budget.result c.args.most within)

@@ -1,6 +1,0 @@
-use Rattle.dl_eval.proofs.Common.{Decides-eqb, rules}
-use Rattle.std.proofs.lemmas.Slice.Eq.{slice_eq-Decides}
-use Rattle.dl_eval.proofs.same.same_items.Goals as goal
-
-pub returns : goal.returns
-returns c = slice_eq-Decides (λ x y. search (rules, Decides-eqb)) c.args.a.now c.args.b.now c.eq.result c.eq.ensures
