@@ -3,12 +3,12 @@
 //! takes memory.
 //!
 //! The numbers are exact at every scale from 2^48 to 2^56 (`IsPlanScale`): `unit_budget`,
-//! `total_budget` and `others_budget`, which are below 2^45 units of the scale for a valid plan, and below
-//! 2^44 for one of at most 16 units,
-//! `ask_budget`, `needed` and `passes`, and `needed_with` from budgets that are made once: of the
-//! total and of its mean (`AreBudgetsOf`), and of the unit that an ask names (`AreBudgetsOfUnit`),
-//! which `budgets_of_named` gives; `all_budgets` makes all of them that the asks of a call need. Each unit of a valid plan has the one horizon that `horizon`
-//! gives (`law_horizons`).
+//! `total_budget` and `others_budget`, which are below 2^45 units of the scale for a valid plan and
+//! below 2^44 for one of at most 16 units, `ask_budget`, `needed` and `passes`, and `needed_with`
+//! from budgets that are made once: of the total and of its mean (`AreBudgetsOf`), and of the unit
+//! that an ask names (`AreBudgetsOfUnit`), which `budgets_of_named` gives; `all_budgets` makes all
+//! of them that the asks of a call need. Each unit of a valid plan has the one horizon that
+//! `horizon` gives (`law_horizons`).
 #![tactic(auto)]
 
 mod asks;

@@ -89,8 +89,9 @@ pub fn law_expected()
 {}
 
 /// Without an aggregate clause and a changed probability of no claim the mean of a unit is its
-/// expected count times the mean of one claim; no clause raises it, and no change of the probability
-/// of no claim makes it more than 17 times as large; and the mean of a total is the sum of the means of its units. Where the units share a factor, each has the first of these.
+/// expected count times the mean of one claim; no clause raises it, and no change of the
+/// probability of no claim makes it more than 17 times as large; and the mean of a total is the sum
+/// of the means of its units. Where the units share a factor, each has the first of these.
 pub fn law_plan_mean()
     ensures unit { (cells : ℕ) (u : UnitOfPlan) → IsValidUnit cells u → u.cede ≡ None
         → u.zero ≡ None
