@@ -11,8 +11,8 @@
 //! pooled and from the rest, where no named unit needs the sum of the others, else from all units;
 //! where a joint mean would be wider than its budget, the next way is taken: at last that by the
 //! sum of the others, which is always within it. The total of units under a common factor comes
-//! from one unit in their place. The grid, the mean and the budget of a unit are each made once in
-//! a call.
+//! from one unit in their place. The grid and the mean of each unit of the plan are made once in a
+//! call.
 #![tactic(auto)]
 
 mod drawn;
