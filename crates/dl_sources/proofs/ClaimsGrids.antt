@@ -1,5 +1,5 @@
 -- Grids over which the claims of a unit give its joint means.
-use Rattle.dl_sources.proofs.Common.{IsTrue, leb_tells, ℕ, ◌≡◌, ◌^◌, ◌<◌, ◌≤◌, List, ◌∷◌, length, get_or, arith, sym, ap, subst, refl, ◌∙◌, get_or-map, length-map, inl, inr, None, Iv, low_at, high_at, spread, Holds, One, Joint, partial_sums, total, GridEncloses, loss_of, aggregates_of, plan_units, Plan, IsValid, UnitOfPlan, read_unit, thinned_mean, joint_budget, Declares, IsClaimsGrid, IsTotalOf}
+use Rattle.dl_sources.proofs.Common.{IsTrue, leb_tells, ℕ, ◌≡◌, ◌^◌, ◌<◌, ◌≤◌, List, ◌∷◌, length, get_or, arith, sym, ap, subst, ◌∙◌, get_or-map, length-map, inl, inr, None, Iv, low_at, high_at, spread, Holds, One, Joint, partial_sums, total, GridEncloses, loss_of, aggregates_of, plan_units, Plan, IsValid, UnitOfPlan, read_unit, thinned_mean, joint_budget, Declares, IsTotalOf}
 use Rattle.std.proofs.Math.Dec.{leb}
 use Rattle.dl_limits.specs.Limits.{budget_bound}
 use Rattle.dl_plan.specs.Common.{CanRaise, CanShare}

@@ -9,9 +9,8 @@ use Rattle.dl_budget.specs.declared.once.UnitBudgets.{UnitBudgets}
 use Rattle.dl_shares.specs.declared.drawn.Drawn.{Drawn}
 use Rattle.dl_shares.specs.declared.drawn.Origin.{Origin}
 use Rattle.dl_shares.specs.declared.drawn.Origin.TheVariants.{Nowhere, Beside, Claims}
-use Rattle.dl_sources.specs.declared.origins.Sources.{Sources}
-use Rattle.dl_sources.specs.Origins.{AreGridsFor, AreOthers, AreSourcesOf, IsBeside, IsFoundOf, IsWholeClaimsGrid, IsWholeNumber, ReachNamed, StayAmong}
-use Rattle.dl_sources.proofs.Common.{ℕ, suc, inl, inr, cases_lt, remove, IsTotalOf, ◌≡◌, ◌+◌, ◌<◌, ◌≤◌, List, [], ◌∷◌, ◌++◌, length, get_or, arith, refl, sym, ap, subst, ◌∙◌, Option, None, Some, IfSome, IsSome, Iv, spread, Plan, AreOthersOf, AreUnitGrids, Gives, IsOriginOf, length-append, get_or_append_left, get_or_push}
+use Rattle.dl_sources.specs.Origins.{AreGridsFor, AreOthers, IsBeside, IsFoundOf, IsWholeClaimsGrid, IsWholeNumber, ReachNamed, StayAmong}
+use Rattle.dl_sources.proofs.Common.{ℕ, suc, inl, inr, cases_lt, remove, IsTotalOf, ◌≡◌, ◌+◌, ◌<◌, ◌≤◌, List, [], ◌∷◌, ◌++◌, length, get_or, arith, sym, ap, subst, ◌∙◌, Option, None, Some, IfSome, IsSome, Iv, spread, Plan, AreOthersOf, AreUnitGrids, Gives, IsOriginOf, length-append, get_or_push}
 use Rattle.dl_sources.proofs.ReadAs.{grid_of_unit}
 
 -- ---- more grids

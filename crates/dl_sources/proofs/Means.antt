@@ -1,5 +1,5 @@
 -- The mean of a total, from those of its units.
-use Rattle.dl_sources.proofs.Common.{ℕ, suc, ◌≡◌, ◌+◌, ◌-◌, ◌*◌, ◌^◌, ◌<◌, ◌≤◌, List, [], ◌∷◌, length, get_or, map, arith, sym, ap, subst, subst₂, ◌∙◌, Option, None, Some, All, mul-le-mul_left, pow_pos, Fraction, whole, ◌over◌, ◌*ℚ◌, ◌+ℚ◌, Iv, spread, CedeLayer, Plan, Clause, horizon, IsValidUnit, IsValid, claims_budget, mean_width, unit_mean_budget, one_horizon, AreUnitMeans, IsUnitMean, IsMeanOf, loss_of, sum_by, All-tail, over_same, one_pos, over_plus, are_units, no_clause, units_declared, MeanHolds, units_mean, UnitOfPlan, layer_budget, clause_mean, part_width, HoldsClaims, HoldsMean, independent, IsClaimsSum, IsClauseMean}
+use Rattle.dl_sources.proofs.Common.{ℕ, suc, ◌≡◌, ◌+◌, ◌-◌, ◌*◌, ◌^◌, ◌≤◌, List, [], ◌∷◌, length, map, arith, sym, ap, subst, subst₂, ◌∙◌, Option, None, Some, All, mul-le-mul_left, pow_pos, Fraction, whole, ◌over◌, ◌*ℚ◌, ◌+ℚ◌, Iv, spread, CedeLayer, Plan, Clause, horizon, IsValidUnit, IsValid, claims_budget, mean_width, unit_mean_budget, one_horizon, AreUnitMeans, IsUnitMean, IsMeanOf, loss_of, sum_by, All-tail, over_same, one_pos, over_plus, are_units, no_clause, units_declared, MeanHolds, units_mean, UnitOfPlan, layer_budget, clause_mean, part_width, HoldsClaims, HoldsMean, independent, IsClaimsSum, IsClauseMean}
 use Rattle.std.proofs.lemmas.List.Sums.{sum_by-cons}
 use Rattle.dl_exact.specs.Sum.{sum_over}
 use Rattle.dl_model.proofs.TotalMeans.{mean_of_total}

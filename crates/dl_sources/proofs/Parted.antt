@@ -1,15 +1,15 @@
 -- The total of a plan where one Poisson unit stands for several: the order in which units are added up is of no account.
-use Rattle.dl_sources.proofs.Common.{ℕ, ◌≡◌, ◌<◌, ◌^◌, List, [], ◌∷◌, ◌++◌, length, get_or, map, arith, refl, sym, ap, subst, ◌∙◌, All, Loss, AreDeclarable, total, GridEncloses, Fraction, ◌*ℚ◌, Iv, low_at, high_at, loss_of, encloses_same, AreUnitGrids, IsUnitGrid, IsValid, IsValidUnit, UnitOfPlan, Plan, None, Some, Option, IfSome, IsSome, AreOthersOf, IsTotalOf, ◌≤◌, ◌+◌, spread, total_budget, take, All-append, All-cons, All-nil, are_units, units_declared, plan_units, length-map, length-append, get_or_append_left, get_or_push, get_or_default, take_all, fun_ext}
+use Rattle.dl_sources.proofs.Common.{ℕ, ◌≡◌, ◌^◌, List, [], ◌∷◌, ◌++◌, length, map, arith, refl, sym, ap, subst, ◌∙◌, All, Loss, AreDeclarable, total, GridEncloses, Fraction, ◌*ℚ◌, Iv, low_at, high_at, loss_of, encloses_same, AreUnitGrids, IsValid, IsValidUnit, UnitOfPlan, Plan, None, Some, Option, IfSome, IsTotalOf, ◌≤◌, spread, total_budget, All-append, All-cons, All-nil, are_units, units_declared, plan_units, length-map, fun_ext}
 use Rattle.std.proofs.Common.{Bool, true, false, not, cond}
-use Rattle.std.specs.Prelude.{filter, replicate}
+use Rattle.std.specs.Prelude.{filter}
 use Rattle.dl_exact.proofs.Laws.{times_left_comm}
 use Rattle.dl_model.specs.Prelude.{convolve}
 use Rattle.dl_model.specs.CommonUnits.{IsPoissonSum}
 use Rattle.dl_model.specs.Program.{IsLoss}
 use Rattle.dl_model.proofs.Powers.{convolve_comm, convolve_assoc}
 use Rattle.dl_model.proofs.Outcomes.{total_more, total_more_all}
-use Rattle.std.proofs.lemmas.List.{append-nil, get_or-replicate, length-replicate, map-append}
-use Rattle.std.proofs.lemmas.List.Elements.{All-filter, filter_more}
+use Rattle.std.proofs.lemmas.List.{map-append}
+use Rattle.std.proofs.lemmas.List.Elements.{All-filter}
 use Rattle.dl_plan.specs.Common.{can_share}
 use Rattle.dl_model.proofs.Alike.{same_cells_enclosed}
 use Rattle.dl_model.proofs.PoissonTotals.{poisson_among}

@@ -1,5 +1,5 @@
 -- What was read in a list that is another.
-use Rattle.dl_sources.proofs.Common.{refl, ℕ, ◌≡◌, ◌^◌, ◌<◌, ◌≤◌, List, [], length, get_or, arith, sym, ap, subst, ◌∙◌, get_or_default, Iv, spread, IsPlanAt, IsUnitOn, IsValidUnit, IsValid, few_cells, AreUnitGrids, Plan, UnitOfPlan, IsGridOfUnit}
+use Rattle.dl_sources.proofs.Common.{refl, ℕ, ◌≡◌, ◌<◌, List, [], length, get_or, arith, sym, ap, subst, ◌∙◌, get_or_default, Iv, IsPlanAt, IsUnitOn, IsValidUnit, IsValid, few_cells, AreUnitGrids, Plan, UnitOfPlan, IsGridOfUnit}
 use Rattle.dl_sources.proofs.SumLaws.{each_cells, each_encloses, unit_narrow}
 
 pub read_as : {A : Type 0} {slice xs : List A} (i : ℕ) {x : A} (d : A) → slice ≡ xs → x ≡ get_or slice i x → i < length xs

@@ -6,9 +6,8 @@ use Rattle.std.proofs.lemmas.List.{append-nil, take_more}
 use Rattle.std.proofs.lemmas.List.Elements.{filter_more}
 use Rattle.dl_exact.proofs.Made.{all_pushed, each_next}
 use Rattle.dl_plan.specs.Common.{can_share}
-use Rattle.dl_sources.specs.declared.outcomes.Outcomes.{Outcomes}
 use Rattle.dl_sources.specs.Pooled.{rest_of}
-use Rattle.dl_sources.proofs.Common.{ℕ, suc, ◌≡◌, ◌+◌, ◌^◌, ◌<◌, ◌≤◌, List, [], ◌∷◌, ◌++◌, length, get_or, take, arith, refl, sym, ap, subst, ◌∙◌, Iv, UnitOfPlan, AreUnitGrids, AreUnitMeans, IsUnitGrid, IsUnitMean, AreMeansOf, AreOutcomesOf, most_unit_mean, length-append, get_or_append_left, get_or_push, get_or_default, take_all, remove}
+use Rattle.dl_sources.proofs.Common.{ℕ, suc, ◌≡◌, ◌+◌, ◌<◌, ◌≤◌, List, [], ◌∷◌, ◌++◌, length, get_or, take, arith, refl, sym, ap, subst, ◌∙◌, Iv, UnitOfPlan, AreUnitGrids, AreUnitMeans, IsUnitGrid, IsUnitMean, AreMeansOf, most_unit_mean, length-append, get_or_append_left, get_or_push, get_or_default, take_all, remove}
 
 -- ---- one grid more
 

@@ -19,8 +19,8 @@ pub record IsWholeNumber {B : ℕ} (plan : Plan) (grids : List (List (Iv B))) (i
   pub there : k < length grids
   pub whole : IsWholeClaimsGrid plan i (get_or grids k [])
 
--- What the joint means of unit i, of these budgets, come from, among these grids: nothing only where
--- there are no budgets, since no ask names the unit.
+-- What the joint means of unit i, of these budgets, come from, among these grids: nothing only
+-- where there are no budgets, since no ask names the unit.
 abbrev pub IsFoundOf : {B : ℕ} → Plan → Option UnitBudgets → List (List (Iv B)) → ℕ → Origin B
     → Type 0
 IsFoundOf plan of grids i Nowhere = of ≡ None
@@ -82,12 +82,13 @@ abbrev pub factor_origin : {B : ℕ} → Option UnitBudgets → Origin B
 factor_origin None = Nowhere
 factor_origin (Some of) = Claims 1
 
--- the grid of the total; and behind it, where a unit is named, n cells over which the claims of each
--- unit go
+-- the grid of the total; and behind it, where a unit is named, n cells over which the claims of
+-- each unit go
 pub record AreFactorGrids {B : ℕ} (plan : Plan) (named : Bool) (n : ℕ)
     (grids : List (List (Iv B))) : Type 0 where
   pub some : 0 < length grids
   pub total : IsTotalOf plan (get_or grids 0 [])
   pub there : IsTrue named → 1 < length grids
-  pub each : IsTrue named → (i : ℕ) → i < length plan.units → IsClaimsGrid plan i (get_or grids 1 [])
+  pub each : IsTrue named → (i : ℕ) → i < length plan.units
+      → IsClaimsGrid plan i (get_or grids 1 [])
   pub reach : IsTrue named → length (get_or grids 1 []) ≡ n

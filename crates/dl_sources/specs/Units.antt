@@ -28,8 +28,8 @@ pub record IsClaimsSum {B : ℕ} (cells : ℕ) (u : UnitOfPlan) (g : List (Iv B)
   pub encloses : GridEncloses g (compound_of u.freq u.sev)
   pub narrow : spread g ≤ claims_budget (2 ^ B) (length g) u
 
--- a grid of so many cells of a unit's outcomes after its aggregate clause, before its probability of
--- no claim is changed, within its budget
+-- a grid of so many cells of a unit's outcomes after its aggregate clause, before its probability
+-- of no claim is changed, within its budget
 pub record IsClauseGrid {B : ℕ} (many : ℕ) (u : UnitOfPlan) (g : List (Iv B)) : Type 0 where
   pub cells : length g ≡ many
   pub encloses : GridEncloses g (mapped (aggregate_of u))

@@ -64,8 +64,8 @@ fn independent_drawn<const B: u32>(
 }
 
 /// The grids and means behind the rows of a valid plan, in units of `1 / 2^B` and in buckets: the
-/// grid and the mean of the total, the mean of each unit, and for each unit that has budgets what its
-/// joint means at all totals below `reach` come from.
+/// grid and the mean of the total, the mean of each unit, and for each unit that has budgets what
+/// its joint means at all totals below `reach` come from.
 pub fn drawn_for<const B: u32>(
     alloc: Global,
     plan: &Plan,

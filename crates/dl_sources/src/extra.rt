@@ -25,23 +25,23 @@ use std::alloc::{AllocError, Global};
 /// sum of the others takes no longer.
 const FEWEST_FOR_EXTRA: usize = 8;
 
-/// Whether the joint means of a unit come from the total with the unit's extra claims, where that is
-/// within its budget.
+/// Whether the joint means of a unit come from the total with the unit's extra claims, where that
+/// is within its budget.
 pub(crate) fn has_extra(units: &[Unit], unit: &Unit) -> bool
     ensures { IsTrue result → CanRaise unit.now }
 {
     units.len() >= FEWEST_FOR_EXTRA && unit.can_raise()
 }
 
-/// Whether the joint means of a unit come from its claims over the grid of the total, or over that of
-/// the total with its extra claims, where that is within its budget.
+/// Whether the joint means of a unit come from its claims over the grid of the total, or over that
+/// of the total with its extra claims, where that is within its budget.
 pub(crate) fn is_without_others(units: &[Unit], unit: &Unit) -> bool {
     unit.can_share() || has_extra(units, unit)
 }
 
-/// Whether the joint mean of a Poisson or gamma unit, from its claims over a grid of `cells` cells of
-/// this spread, is no wider than `most`; then its share in a tail mean is not either. Spreads and
-/// widths are in units of 1 / 2^B.
+/// Whether the joint mean of a Poisson or gamma unit, from its claims over a grid of `cells` cells
+/// of this spread, is no wider than `most`; then its share in a tail mean is not either. Spreads
+/// and widths are in units of 1 / 2^B.
 fn is_narrow(unit: &Unit, spread: u128, cells: u32, most: u128) -> bool
     requires valid { (h : ℕ) × IsValidUnit h unit.now }
     requires unbounded { IsUnbounded unit.now.freq }

@@ -19,15 +19,16 @@ use std::alloc::{AllocError, Global};
 /// What the joint means of independent units come from.
 #[derive(Drop)]
 pub(crate) struct Sources<const B: u32> {
-    /// The grid of the total, and behind it those of the total with the extra claims of a gamma unit.
+    /// The grid of the total, and behind it those of the total with the extra claims of a gamma
+    /// unit.
     pub(crate) grids: Vec<Grid<B>>,
     /// For each unit, in order, what its joint means come from.
     pub(crate) origins: Vec<Origin<B>>,
 }
 
 /// What the joint means of unit `i` come from, within their budget; none where they would be wider.
-/// A grid of the total with the unit's extra claims is added to `grids`, of which the first is that of
-/// the total, whose spread is `apart`.
+/// A grid of the total with the unit's extra claims is added to `grids`, of which the first is that
+/// of the total, whose spread is `apart`.
 fn origin_of<const B: u32>(
     alloc: Global,
     work: &mut Workspace,

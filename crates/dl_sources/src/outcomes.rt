@@ -48,8 +48,8 @@ impl<const B: u32> Outcomes<B> {
     }
 }
 
-/// The grid and the mean of a unit, where those of the units before it are there: a copy of those of
-/// the first that is like it, where there is one.
+/// The grid and the mean of a unit, where those of the units before it are there: a copy of those
+/// of the first that is like it, where there is one.
 fn outcome_after<const B: u32>(
     alloc: Global,
     work: &mut Workspace,

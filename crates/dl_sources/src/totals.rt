@@ -36,8 +36,8 @@ pub(crate) fn total_mean<const B: u32>(plan: &Plan, means: &[Iv<B>]) -> Iv<B>
     Iv::sum(means)
 }
 
-/// What is drawn of these means of all units, of this grid of the total, and of what joint means come
-/// from; with the grids of all units where that is the sum of all others.
+/// What is drawn of these means of all units, of this grid of the total, and of what joint means
+/// come from; with the grids of all units where that is the sum of all others.
 pub(crate) fn drawn_with<const B: u32>(
     plan: &Plan,
     units: Vec<Grid<B>>,
@@ -48,9 +48,11 @@ pub(crate) fn drawn_with<const B: u32>(
     requires units { (i : ℕ) → IsBeside (get_or sources.origins.items i Nowhere)
         → AreUnitGrids plan.now.cells plan.now.units units.items }
     requires means { AreMeansOf plan.now.cells plan.now.units means.items }
-    requires sources { (budgets : List (Option UnitBudgets)) × AreSourcesOf plan.now budgets sources }
+    requires sources { (budgets : List (Option UnitBudgets))
+        × AreSourcesOf plan.now budgets sources }
     ensures drawn { AreDrawnOf plan.now result }
-    ensures reached { (budgets : List (Option UnitBudgets)) → AreSourcesOf plan.now budgets sources.entry
+    ensures reached { (budgets : List (Option UnitBudgets))
+        → AreSourcesOf plan.now budgets sources.entry
         → ReachNamed plan.now budgets plan.now.cells result }
 {
     let mean = total_mean(plan, means.as_slice());
@@ -85,8 +87,8 @@ fn beside(
     Ok(asked)
 }
 
-/// What the joint means of all units come from: of each named unit that needs it, or where `all`, of
-/// each named unit, from the sum of all others. None where a joint mean would be wider than its
+/// What the joint means of all units come from: of each named unit that needs it, or where `all`,
+/// of each named unit, from the sum of all others. None where a joint mean would be wider than its
 /// budget.
 fn sources_beside<const B: u32>(
     alloc: Global,
@@ -133,8 +135,8 @@ fn drawn_of_one<const B: u32>(
     Ok(drawn_with(plan, grids, made.means, sources))
 }
 
-/// What is drawn of a valid plan of independent units, whose grids and means are there: with the sum
-/// of the others for those named units that need it, else for all named units.
+/// What is drawn of a valid plan of independent units, whose grids and means are there: with the
+/// sum of the others for those named units that need it, else for all named units.
 pub(crate) fn drawn_of_units<const B: u32>(
     alloc: Global,
     work: &mut Workspace,

@@ -1,4 +1,4 @@
-use Rattle.dl_sources.proofs.Common.{◌≡◌, ◌^◌, ◌<◌, ◌≤◌, IsTrue, arith, few_cells, subst, thinned_mean, joint_budget, ◌also◌}
+use Rattle.dl_sources.proofs.Common.{◌^◌, ◌<◌, ◌≤◌, IsTrue, arith, few_cells, subst, thinned_mean, joint_budget, ◌also◌}
 use Rattle.dl_exact.proofs.Made.{some_where}
 use Rattle.dl_limits.specs.Limits.{budget_bound}
 use Rattle.dl_budget.specs.Shared.{shared_joint_budget}

@@ -1,5 +1,4 @@
-use Rattle.dl_sources.proofs.Common.{[], ◌∷◌, ◌++◌, ap, subst, sym, ◌∙◌, false, arith, ◌also◌}
-use Rattle.dl_sources.specs.Origins.{AreFactorGrids}
+use Rattle.dl_sources.proofs.Common.{[], ◌∷◌, ◌++◌, ap, ◌∙◌}
 use Rattle.dl_sources.proofs.FactorLaws.{one_grid, two_grids}
 use Rattle.dl_sources.proofs.factor.factor_grids.Goals as goal
 

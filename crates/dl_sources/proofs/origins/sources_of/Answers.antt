@@ -1,5 +1,4 @@
 use Rattle.dl_exact.proofs.Made.{each_pushed, pushed_length}
-use Rattle.dl_budget.specs.Once.{IsBudgetOf}
 use Rattle.dl_shares.specs.declared.drawn.Origin.{Origin}
 use Rattle.dl_shares.specs.declared.drawn.Origin.TheVariants.{Nowhere}
 use Rattle.std.proofs.lemmas.List.{length-drop}

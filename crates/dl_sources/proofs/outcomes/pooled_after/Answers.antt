@@ -1,4 +1,4 @@
-use Rattle.dl_sources.proofs.Common.{[], take, length, arith, ap, subst, sym, ◌∙◌, IfOk-weaker, IsUnitGrid, get_or_default, ◌also◌}
+use Rattle.dl_sources.proofs.Common.{[], length, arith, ap, subst, sym, ◌∙◌, IfOk-weaker, IsUnitGrid, get_or_default, ◌also◌}
 use Rattle.dl_sources.proofs.AlikeLaws.{alike_grid}
 use Rattle.dl_sources.proofs.outcomes.pooled_after.Goals as goal
 

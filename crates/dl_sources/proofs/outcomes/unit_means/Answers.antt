@@ -1,4 +1,4 @@
-use Rattle.dl_sources.proofs.Common.{◌≤◌, arith, length, ◌also◌, AreMeansOf}
+use Rattle.dl_sources.proofs.Common.{arith, ◌also◌, AreMeansOf}
 use Rattle.dl_sources.proofs.ReadAs.{unit_on_there}
 use Rattle.dl_sources.proofs.Taken.{means_taken, no_means, all_taken}
 use Rattle.dl_sources.proofs.outcomes.unit_means.Goals as goal

@@ -1,4 +1,4 @@
-use Rattle.dl_sources.proofs.Common.{◌≤◌, ap, arith, length, ◌also◌, AreOutcomesOf}
+use Rattle.dl_sources.proofs.Common.{arith, ◌also◌, AreOutcomesOf}
 use Rattle.dl_sources.proofs.ReadAs.{unit_on_there}
 use Rattle.dl_sources.proofs.Taken.{grids_taken, means_taken, no_grids, no_means, all_taken}
 use Rattle.dl_sources.proofs.outcomes.unit_outcomes.Goals as goal

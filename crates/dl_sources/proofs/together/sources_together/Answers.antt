@@ -1,4 +1,4 @@
-use Rattle.dl_sources.proofs.Common.{arith, length, ap, sym, ◌∙◌, IfSome_then, IfOk-weaker, ◌also◌}
+use Rattle.dl_sources.proofs.Common.{arith, IfSome_then, IfOk-weaker, ◌also◌}
 use Rattle.dl_sources.proofs.Found.{no_others, none_there}
 use Rattle.dl_sources.proofs.together.sources_together.Goals as goal
 

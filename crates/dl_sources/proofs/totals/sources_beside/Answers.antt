@@ -1,4 +1,4 @@
-use Rattle.dl_sources.proofs.Common.{arith, ap, length, ◌∙◌, few_cells, IfOk-weaker, ◌also◌}
+use Rattle.dl_sources.proofs.Common.{arith, ap, length, few_cells, IfOk-weaker, ◌also◌}
 use Rattle.dl_sources.proofs.Scales.{plan_scale}
 use Rattle.dl_sources.proofs.SumLaws.{are_others, is_total, long_enough}
 use Rattle.dl_sources.proofs.totals.sources_beside.Goals as goal
