@@ -1,9 +1,6 @@
 -- Gamma counts of any shape: how they grow with it, their bounds, and the square root of a start.
-use Rattle.dl_model.proofs.Common.{◌≡◌, inl, inr, ℕ, suc, zero, ◌+◌, ◌-◌, arith, refl, sym, ap, ap₂, subst, subst₂, ◌∙◌, zero-lt-suc, fun_ext, Fraction, ◌+ℚ◌, ◌*ℚ◌, ◌/ℚ◌, ◌≤ℚ◌, ◌<ℚ◌, whole, sum_to, Series, IsBound, IsLeastBound, AtMost, AtLeast, Rises, times, convolve, at_zero, gamma, choose, product_below, ◌^ℚ◌, ring, one_pos, pow_times, plus_zero, zero_plus, times_comm, times_zero, zero_times, times_one, one_times, whole_pos, whole_le, le_refl, le_trans, le_of_eq, le_of_lt, lt_or_le, lt_not_le, archimedes, plus_le_both, times_le_both, times_le_cancel, div_times, sum_to_le, sum_to_same}
-use Rattle.dl_model.proofs.ValueLaws.{sum_at_zero, sum_rises_to, cauchy_level, AreLevel}
-use Rattle.dl_model.proofs.Cauchy.{cauchy_low, cauchy_high}
-use Rattle.dl_model.proofs.Declared.{at_least_times, at_most_times}
-use Rattle.dl_model.proofs.Alike.{least_from, most_from, level_same}
+use Rattle.dl_model.proofs.Common.{◌≡◌, ℕ, suc, zero, ◌+◌, ◌-◌, arith, refl, sym, ap, ap₂, subst, subst₂, ◌∙◌, zero-lt-suc, fun_ext, Fraction, ◌+ℚ◌, ◌*ℚ◌, ◌/ℚ◌, ◌≤ℚ◌, ◌<ℚ◌, whole, sum_to, IsBound, IsLeastBound, times, at_zero, gamma, choose, product_below, ◌^ℚ◌, ring, one_pos, pow_times, zero_plus, times_comm, times_zero, zero_times, times_one, whole_pos, whole_le, le_refl, le_trans, le_of_eq, le_of_lt, archimedes, plus_le_both, times_le_both, times_le_cancel, div_times, sum_to_le, sum_to_same}
+use Rattle.dl_model.proofs.ValueLaws.{sum_at_zero, cauchy_level, AreLevel}
 use Rattle.dl_model.proofs.Least.{least_const}
 use Rattle.dl_model.proofs.Gamma.{gamma_zero, gamma_next, gamma_is, gamma_plus, gamma_least, over_next}
 

@@ -1,5 +1,5 @@
 -- The grids that powers begin from, and counts of no loss.
-use Rattle.dl_model.proofs.Common.{◌≡◌, ℕ, suc, zero, ◌+◌, ◌-◌, ◌<◌, arith, sym, ap, ap₂, subst₂, ◌∙◌, fun_ext, Fraction, ◌over◌, ◌+ℚ◌, ◌*ℚ◌, ◌/ℚ◌, ◌<ℚ◌, whole, sum_to, zero_times, times_zero, times_cancel, div_times, SameValue, at_zero, power, cell, IsPositivePart, fixed, binomial, poisson, gamma, gamma_of, compound, nothing, times_itself, SameCells, refl}
+use Rattle.dl_model.proofs.Common.{◌≡◌, ℕ, suc, zero, ◌-◌, ◌<◌, arith, sym, ap, ap₂, subst₂, ◌∙◌, fun_ext, Fraction, ◌over◌, ◌+ℚ◌, ◌*ℚ◌, ◌/ℚ◌, ◌<ℚ◌, whole, sum_to, zero_times, times_zero, times_cancel, div_times, SameValue, at_zero, power, cell, IsPositivePart, fixed, binomial, poisson, gamma, gamma_of, compound, nothing, times_itself, SameCells, refl}
 use Rattle.dl_model.proofs.TotalLaws.{value_sym, sum_at_zero, fixed_cell, power_one, count_power, sum_to_at_zero, fixed_power, binomial_power, one_trial_none, one_trial_one, gamma_zero, gamma_next, over_next, thin_gamma, pos_plus}
 use Rattle.dl_model.proofs.PoissonThin.{thin_poisson}
 use Rattle.dl_model.proofs.PoissonTimes.{poisson_none}

@@ -1,5 +1,5 @@
 -- The counts that can be declared: finite counts, trials, Poisson and gamma counts.
-use Rattle.dl_model.proofs.Common.{ℕ, suc, zero, ◌*◌, ◌<◌, ◌≤◌, arith, subst, Fraction, ◌+ℚ◌, ◌*ℚ◌, ◌/ℚ◌, ◌<ℚ◌, div_pos, plus_comm, whole, sum_to, one_pos, times_one, whole_pos, le_plus, times_zero, power, IsSeverity, fixed, binomial, poisson, gamma_of, AreCountWeights, le_of_eq, order}
+use Rattle.dl_model.proofs.Common.{ℕ, zero, ◌*◌, ◌<◌, ◌≤◌, arith, subst, Fraction, ◌+ℚ◌, ◌*ℚ◌, ◌/ℚ◌, ◌<ℚ◌, div_pos, plus_comm, whole, sum_to, one_pos, times_one, whole_pos, le_plus, times_zero, power, IsSeverity, fixed, binomial, poisson, gamma_of, AreCountWeights, le_of_eq, order}
 use Rattle.dl_model.proofs.TotalLaws.{bounded_by_all, fixed_sum, power_severity, severity_within_one, fixed_past, binomial_power, trial, poisson_zero, poisson_bound, div_plus, pos_plus, gamma_zero}
 use Rattle.dl_model.proofs.AnyShape.{gamma_bound}
 use Rattle.dl_model.proofs.Settles.{poisson_settles}

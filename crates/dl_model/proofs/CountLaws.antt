@@ -1,6 +1,5 @@
 -- The weighted ways of a number of claims.
-use Rattle.dl_model.proofs.Common.{◌≡◌, ℕ, suc, zero, ◌*◌, ◌^◌, ◌<◌, ◌≤◌, arith, ap, subst, ◌∙◌, mul-pos, pow-suc, one-le-pow, zero-lt-suc, pow-zero, ◌over◌, ◌*ℚ◌, ◌≤ℚ◌, whole, over_same, over_mul, le_over, one_pos, le_trans, sum_pairs_same, item_le_sum, at_zero, power, IsWithinOne, count_pairs, sum_pairs_over, ways}
-use Rattle.dl_model.proofs.CompoundLaws.{power_within_one}
+use Rattle.dl_model.proofs.Common.{◌≡◌, ℕ, suc, zero, ◌*◌, ◌^◌, ◌<◌, arith, ap, ◌∙◌, mul-pos, pow-suc, one-le-pow, zero-lt-suc, pow-zero, ◌over◌, ◌*ℚ◌, over_same, over_mul, sum_pairs_same, at_zero, power, count_pairs, sum_pairs_over, ways}
 
 pub power_ways : (w : ℕ → ℕ) (T : ℕ) → 0 < T → (n s : ℕ) → power (λ j. w j over T) n s ≡ ways w n s over T ^ n
 unfolding power at_zero ways

@@ -1,5 +1,5 @@
 -- The expected numbers of claims.
-use Rattle.dl_model.proofs.Common.{◌≡◌, ℕ, suc, zero, ◌*◌, ◌<◌, ◌≤◌, nat_eq, refl, sym, ap, ap₂, subst, ◌∙◌, Fraction, ◌over◌, ◌+ℚ◌, ◌*ℚ◌, ◌/ℚ◌, ◌≤ℚ◌, whole, sum_to, ring, zero_times, times_zero, zero_plus, times_one, one_times, le_refl, le_of_eq, zero_le, sum_to_same, sum_to_first, sum_to_times, Series, Holds, IsSeverity, power, fixed, binomial, poisson, gamma, gamma_of, AtMost, AtLeast, Rises, ◌<ℚ◌, subst₂, div_times, div_pos, plus_comm, times_comm, times_assoc, times_cancel, times_le_both, times_le_cancel, plus_le_both, sum_to_plus, le_refl_n}
+use Rattle.dl_model.proofs.Common.{◌≡◌, ℕ, suc, zero, ◌*◌, ◌<◌, ◌≤◌, nat_eq, refl, sym, ap, ap₂, subst, ◌∙◌, Fraction, ◌over◌, ◌+ℚ◌, ◌*ℚ◌, ◌/ℚ◌, ◌≤ℚ◌, whole, sum_to, ring, zero_times, times_zero, zero_plus, times_one, one_times, le_refl, le_of_eq, zero_le, sum_to_same, sum_to_first, sum_to_times, Series, Holds, IsSeverity, power, fixed, binomial, poisson, gamma_of, AtMost, AtLeast, Rises, ◌<ℚ◌, subst₂, div_times, div_pos, plus_comm, times_comm, times_assoc, times_cancel, times_le_both, times_le_cancel, plus_le_both, sum_to_plus, le_refl_n}
 use Rattle.dl_model.proofs.TotalLaws.{severity_within_one, pick, times_where, power_severity, times_self, IsUnder, AreLevel, level_same, same_value, sum_rises_to, fixed_past, binomial_power, trial, one_trial_one, holds_reached, bounded_by_all, fixed_sum, next_of, gamma_next, pos_plus, div_plus, at_most_rest}
 use Rattle.dl_model.proofs.Means.{power_mean}
 

@@ -1,5 +1,5 @@
 -- Counts and sums of claims, on small cases worked by hand.
-use Rattle.dl_model.proofs.Common.{List, [], ◌∷◌, ℕ, suc, ◌≡◌, ◌+◌, ◌-◌, ◌*◌, ◌^◌, ◌<◌, ◌∙◌, ap, ◌+ℚ◌, ◌*ℚ◌, ◌/ℚ◌, arith, refl, sym, mul-pos, one-le-pow, nat_eq, Fraction, whole, ◌over◌, factorial, choose, one_pos, zero-lt-suc, over_same, factorial_pos, sum_to, Item, weight_at, weight_sum, equally_likely, probability_at, convolve, at_zero, power, cell, cell_from, count_pairs, fixed, binomial, poisson, gamma, gamma_of, divided_power, IsPositivePart, nat_tests, mul-pow, from_before, ways, over_cross}
+use Rattle.dl_model.proofs.Common.{List, [], ◌∷◌, ℕ, suc, ◌≡◌, ◌+◌, ◌*◌, ◌^◌, ◌<◌, ◌∙◌, ap, ◌+ℚ◌, ◌*ℚ◌, ◌/ℚ◌, arith, refl, sym, mul-pos, one-le-pow, nat_eq, Fraction, whole, ◌over◌, factorial, choose, one_pos, zero-lt-suc, over_same, factorial_pos, sum_to, Item, weight_at, weight_sum, equally_likely, probability_at, convolve, at_zero, power, cell, cell_from, count_pairs, fixed, binomial, poisson, gamma, gamma_of, divided_power, IsPositivePart, nat_tests, mul-pow, from_before, ways, over_cross}
 use Rattle.dl_model.proofs.CountLaws.{power_ways}
 use Rattle.dl_model.proofs.Ratios.{Known, worked, over_is, whole_is, plus_is, times_is, divided_is, power_is, where_is}
 unfoldable use Rattle.dl_model.proofs.Ratios.{through_is, product_is, pairs_is}
@@ -41,7 +41,8 @@ poisson_is a b pos n = record {
 unfoldable pub gamma_is : (c d a b : ℕ) → 0 < c → 0 < d → 0 < b → (n : ℕ) → Known (gamma_of (c over d) (a over b) n)
 unfolding gamma
 gamma_is c d a b shape below pos n =
-    times_is (product_is (λ i. divided_is (plus_is (over_is c d below) (whole_is i)) (whole_is (suc i)) (zero-lt-suc i)) n)
+    times_is
+    (product_is (λ i. divided_is (plus_is (over_is c d below) (whole_is i)) (whole_is (suc i)) (zero-lt-suc i)) n)
     (power_is (divided_is (over_is a b pos) (plus_is (over_is c d below) (over_is a b pos))
     (omega (arith, mul-pos shape pos))) n)
 
@@ -174,14 +175,16 @@ gamma_all = worked _ _ (through_is (gamma_is 4 1 2 1 (zero-lt-suc _) one_pos one
 pub geometric_added : convolve (gamma_of (whole 1) (whole 1)) (gamma_of (whole 1) (whole 1)) 3 ≡ 1 over 2
 unfolding product_is gamma_is pairs_is
 geometric_added =
-    worked 1 2 (pairs_is (λ i j. times_is (gamma_is 1 1 1 1 one_pos one_pos one_pos i) (gamma_is 1 1 1 1 one_pos one_pos one_pos j)) 3)
+    worked 1 2 (pairs_is (λ i j. times_is (gamma_is 1 1 1 1 one_pos one_pos one_pos i)
+    (gamma_is 1 1 1 1 one_pos one_pos one_pos j)) 3)
     (zero-lt-suc _) refl
 
 pub gamma_sum : gamma_of (whole 2) (whole 2) 3 ≡ 1 over 2
 unfolding product_is gamma_is
 gamma_sum = worked 1 2 (gamma_is 2 1 2 1 (zero-lt-suc _) one_pos one_pos 3) (zero-lt-suc _) refl
 
--- of shape 1/2 and mean 1, with x = 2/3: one claim has 1/2 * 2/3, two have 1/2 * 3/4 * 4/9, three 1/2 * 3/4 * 5/6 * 8/27
+-- of shape 1/2 and mean 1, with x = 2/3: one claim has 1/2 * 2/3, two have 1/2 * 3/4 * 4/9, and three have
+-- 1/2 * 3/4 * 5/6 * 8/27
 pub gamma_half :
     (gamma_of (1 over 2) (whole 1) 1 ≡ 1 over 3)
     × (gamma_of (1 over 2) (whole 1) 2 ≡ 1 over 6)
@@ -281,7 +284,8 @@ unfolding ways count_pairs factorial through_is
 compound_two = worked 5 8 (cells_are (poisson_is 1 1 one_pos) one_or_two (zero-lt-suc _) 2 2) (zero-lt-suc _) refl
 
 -- the same of the gamma count of shape 1/2 and mean 1, with a = 2/3 and c = 1/3: the sum 2 has
--- (2/3 + 1/3) / 2 * 1/2 * 1/6 + (2/3) / 2 * 1/2 * 1 = 5/24, which is 1/3 * 1/2 for a claim of 2 and 1/6 * 1/4 for two of 1
+-- (2/3 + 1/3) / 2 * 1/2 * 1/6 + (2/3) / 2 * 1/2 * 1 = 5/24, which is 1/3 * 1/2 for a claim of 2 and 1/6 * 1/4 for two
+-- of 1
 pub recursion_half : from_before (2 over 3) (1 over 3) (probability_at one_or_two)
     (λ s. cell (gamma_of (1 over 2) (whole 1)) (probability_at one_or_two) s 2) 1 ≡ 5 over 24
 unfolding ways count_pairs product_is gamma_is through_is pairs_is
@@ -289,7 +293,8 @@ recursion_half =
     worked 5 24 (pairs_is (λ i k. times_is (times_is
     (step_is (over_is 2 3 (zero-lt-suc _)) (over_is 1 3 (zero-lt-suc _)) 1 i k)
     (listed_is one_or_two (zero-lt-suc _) (suc i)))
-    (cells_are (gamma_is 1 2 1 1 one_pos (zero-lt-suc _) one_pos) one_or_two (zero-lt-suc _) k 2)) 1) (zero-lt-suc _) refl
+    (cells_are (gamma_is 1 2 1 1 one_pos (zero-lt-suc _) one_pos) one_or_two (zero-lt-suc _) k 2)) 1)
+    (zero-lt-suc _) refl
 
 pub compound_half : cell (gamma_of (1 over 2) (whole 1)) (probability_at one_or_two) 2 2 ≡ 5 over 24
 unfolding ways count_pairs product_is gamma_is through_is

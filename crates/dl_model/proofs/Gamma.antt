@@ -1,5 +1,5 @@
 -- Gamma counts: their weights, sums and powers.
-use Rattle.dl_model.proofs.Common.{◌≡◌, ℕ, suc, zero, ◌+◌, ◌-◌, ◌*◌, arith, sym, ap, ap₂, subst, subst₂, ◌∙◌, zero-lt-suc, fun_ext, Fraction, ◌+ℚ◌, ◌*ℚ◌, ◌≤ℚ◌, ◌<ℚ◌, whole, sum_to, sum_pairs, IsLeastBound, convolve, at_zero, power, gamma, product_below, choose, ◌^ℚ◌, ◌/ℚ◌, div_times, plus_assoc, plus_zero, whole_suc, ring, plus_comm, times_comm, times_assoc, plus_times, one_times, times_one, whole_plus, whole_pos, times_cancel, le_refl, le_plus, times_le_cancel, times_le_both, sum_to_same, sum_to_first, sum_to_times, whole_times}
+use Rattle.dl_model.proofs.Common.{◌≡◌, ℕ, suc, zero, ◌+◌, ◌*◌, arith, sym, ap, ap₂, subst, subst₂, ◌∙◌, zero-lt-suc, fun_ext, Fraction, ◌+ℚ◌, ◌*ℚ◌, ◌≤ℚ◌, ◌<ℚ◌, whole, sum_to, sum_pairs, IsLeastBound, convolve, at_zero, power, gamma, product_below, choose, ◌^ℚ◌, ◌/ℚ◌, div_times, plus_assoc, plus_zero, whole_suc, ring, plus_comm, times_comm, times_assoc, plus_times, one_times, times_one, whole_plus, whole_pos, times_cancel, le_refl, le_plus, times_le_cancel, times_le_both, sum_to_same, sum_to_first, sum_to_times, whole_times}
 use Rattle.dl_model.proofs.ValueLaws.{at_zero_convolve, convolve_comm, convolve_next, sum_rises_to, at_most_rest, cauchy_level}
 use Rattle.dl_model.proofs.Least.{least_times, least_from}
 
@@ -112,15 +112,18 @@ pub geometric_next : (x : Fraction) (n : ℕ) → gamma (whole 1) x (suc n) ≡ 
 geometric_next x n = over_next n _ _
     (gamma_next (whole 1) x n ∙ ap (λ t. t *ℚ (x *ℚ gamma (whole 1) x n)) (plus_comm _ _ ∙ sym (whole_suc n)))
 
-geometric_sum : (x : Fraction) (N : ℕ) → sum_to (suc N) (gamma (whole 1) x) ≡ x *ℚ sum_to N (gamma (whole 1) x) +ℚ whole 1
+geometric_sum : (x : Fraction) (N : ℕ)
+    → sum_to (suc N) (gamma (whole 1) x) ≡ x *ℚ sum_to N (gamma (whole 1) x) +ℚ whole 1
 geometric_sum x N = sum_to_first N (gamma (whole 1) x) ∙ ap₂ (λ a b. a +ℚ b)
-    (gamma_zero (whole 1) x) (sum_to_same N _ _ (λ n e. geometric_next x n) ∙ sum_to_times N x (gamma (whole 1) x)) ∙ plus_comm _ _
+    (gamma_zero (whole 1) x) (sum_to_same N _ _ (λ n e. geometric_next x n) ∙ sum_to_times N x (gamma (whole 1) x))
+    ∙ plus_comm _ _
 
 module _ (x d : Fraction) (one : x +ℚ d ≡ whole 1) where
   pub geometric_identity : (N : ℕ) → d *ℚ sum_to N (gamma (whole 1) x) +ℚ gamma (whole 1) x (suc N) ≡ whole 1
   unfolding sum_to
   geometric_identity zero = ap₂ (λ s t. d *ℚ s +ℚ t) (gamma_zero (whole 1) x) (geometric_next x zero
-      ∙ ap (λ t. x *ℚ t) (gamma_zero (whole 1) x)) ∙ ap₂ (λ s t. s +ℚ t) (times_one d) (times_one x) ∙ plus_comm d x ∙ one
+      ∙ ap (λ t. x *ℚ t) (gamma_zero (whole 1) x)) ∙ ap₂ (λ s t. s +ℚ t) (times_one d) (times_one x)
+      ∙ plus_comm d x ∙ one
   geometric_identity (suc N) =
       let g = gamma (whole 1) x (suc N) in
       ap (λ t. d *ℚ (sum_to N (gamma (whole 1) x) +ℚ g) +ℚ t) (geometric_next x (suc N))
@@ -131,11 +134,13 @@ module _ (x d : Fraction) (one : x +ℚ d ≡ whole 1) where
   geometric_low N = subst (λ t. d *ℚ sum_to N (gamma (whole 1) x) ≤ℚ t) (geometric_identity N) (le_plus _ _)
 
   -- the sums of x^n have the least bound 1 / (1 - x)
-  pub geometric_least : (L : Fraction) → whole 0 <ℚ d → L *ℚ d ≡ whole 1 → IsLeastBound (λ N. sum_to N (gamma (whole 1) x)) L
+  pub geometric_least : (L : Fraction) → whole 0 <ℚ d → L *ℚ d ≡ whole 1
+      → IsLeastBound (λ N. sum_to N (gamma (whole 1) x)) L
   geometric_least L dp e = (
     (λ N. times_le_cancel _ _ d dp (subst₂ (λ s t. s ≤ℚ t) (times_comm _ _) (sym e) (geometric_low N))),
     (λ u b. times_le_cancel _ _ d dp (subst₂ (λ s t. s ≤ℚ t) (sym e) (times_comm d u)
-        (at_most_rest (λ N. x *ℚ sum_to N (gamma (whole 1) x)) (λ N. whole 1) (λ N. sum_to (suc N) (gamma (whole 1) x)) x d
+        (at_most_rest (λ N. x *ℚ sum_to N (gamma (whole 1) x)) (λ N. whole 1)
+        (λ N. sum_to (suc N) (gamma (whole 1) x)) x d
         (λ n. times_le_both x x _ _ (le_refl x) (sum_rises_to (gamma (whole 1) x) n)) (λ n. le_refl _)
         (λ n. sym (geometric_sum x n)) one (λ n u b. b (suc n)) zero u (λ m. b (suc m))))),
   )

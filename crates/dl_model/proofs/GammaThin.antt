@@ -1,6 +1,6 @@
 -- Claims of amount 0 left out of a gamma count.
-use Rattle.dl_model.proofs.Common.{◌≡◌, ℕ, suc, zero, ◌+◌, ◌≤◌, max, arith, sym, ap, ap₂, subst, subst₂, ◌∙◌, zero-lt-suc, fun_ext, le-max_left, le-max_right, Fraction, ◌+ℚ◌, ◌*ℚ◌, ◌/ℚ◌, ◌≤ℚ◌, ◌<ℚ◌, whole, sum_to, sum_pairs, Series, IsBound, IsLeastBound, Rises, SameBounds, SameValue, times, convolve, refl, power, cell, gamma, gamma_of, ◌^ℚ◌, IsPositivePart, compound, times_itself, ring, plus_comm, plus_assoc, times_comm, times_assoc, times_left_comm, plus_times, times_plus, one_times, times_one, whole_pos, whole_plus, whole_suc, times_cancel, le_refl, le_trans, le_of_eq, le_plus, plus_le_both, times_le_both, lt_of_lt_of_le, div_times, div_pos, sum_to_same, sum_to_le, sum_to_grows, sum_to_times, sum_pairs_same, sum_pairs_plus, sum_pairs_times, sum_pairs_turn, sum_pairs_weighed, times_right_comm, times_second, one_pos}
-use Rattle.dl_model.proofs.ValueLaws.{sum_rises_to, triangle_le_square, square_le_triangle, cauchy_low, AreLevel, level_same, level_trans, same_value, cancel_value, rises_to, value_trans, value_sym}
+use Rattle.dl_model.proofs.Common.{◌≡◌, ℕ, suc, zero, ◌+◌, max, arith, sym, ap, ap₂, subst, subst₂, ◌∙◌, zero-lt-suc, fun_ext, le-max_left, le-max_right, Fraction, ◌+ℚ◌, ◌*ℚ◌, ◌/ℚ◌, ◌≤ℚ◌, ◌<ℚ◌, whole, sum_to, sum_pairs, Series, IsLeastBound, Rises, SameBounds, SameValue, times, convolve, refl, power, cell, gamma, gamma_of, ◌^ℚ◌, IsPositivePart, compound, times_itself, ring, plus_comm, plus_assoc, times_comm, times_assoc, times_left_comm, plus_times, times_plus, one_times, times_one, whole_pos, whole_plus, whole_suc, times_cancel, le_refl, le_trans, le_plus, times_le_both, lt_of_lt_of_le, div_times, div_pos, sum_to_same, sum_to_le, sum_to_grows, sum_to_times, sum_pairs_same, sum_pairs_plus, sum_pairs_times, sum_pairs_turn, sum_pairs_weighed, times_right_comm, times_second, one_pos}
+use Rattle.dl_model.proofs.ValueLaws.{sum_rises_to, triangle_le_square, square_le_triangle, cauchy_low, AreLevel, level_trans, same_value, cancel_value, rises_to, value_trans, value_sym}
 use Rattle.dl_model.proofs.Cauchy.{cauchy_high}
 use Rattle.dl_model.proofs.Alike.{bounds_value}
 use Rattle.dl_model.proofs.Thin.{split}
@@ -106,7 +106,8 @@ module _ (f : ℕ → Fraction) (p : Fraction) (g : ℕ → Fraction) (h : IsPos
         λ N. (
           N,
           subst (λ s. of_each N ≤ℚ s) (factor_out N) (sum_to_le N _ _ (λ j b. rw (row j N)
-              (times_le_both _ _ _ _ (le_refl (term j)) (rw (sums j N) (cauchy_low N (gamma r z) (gamma (whole j) z)))))),
+              (times_le_both _ _ _ _ (le_refl (term j))
+              (rw (sums j N) (cauchy_low N (gamma r z) (gamma (whole j) z)))))),
         ),
         λ N. (
           N + N,
@@ -142,7 +143,8 @@ module _ (f : ℕ → Fraction) (p : Fraction) (g : ℕ → Fraction) (h : IsPos
           (sum_to_same n _ _ (λ j b. greatest_part j))
           (least_sum n (λ j N. term j *ℚ F j N) (λ j. term j *ℚ L ^ℚ j)
           (λ j N. times_le_both _ _ _ _ (le_refl (term j)) (sum_rises_to (gamma (whole j) z) N))
-          (λ j. least_scaled (term j) (F j) (L ^ℚ j) (sum_rises_to (gamma (whole j) z)) (whole_least z c rest cp L inverse j)))
+          (λ j. least_scaled (term j) (F j) (L ^ℚ j) (sum_rises_to (gamma (whole j) z))
+          (whole_least z c rest cp L inverse j)))
 
       V_bounds : SameBounds V D
       V_bounds u = (

@@ -1,5 +1,5 @@
 -- Panjer's recursion for every count of the (a, b, 0) class.
-use Rattle.dl_model.proofs.Common.{◌≡◌, ℕ, suc, zero, ◌+◌, ◌≤◌, arith, sym, ap, ap₂, ◌∙◌, zero-lt-suc, Fraction, ◌+ℚ◌, ◌*ℚ◌, ◌/ℚ◌, whole, sum_to, sum_pairs, at_zero, power, cell, poisson, gamma, ring, times_comm, times_assoc, plus_times, one_times, zero_plus, plus_zero, plus_cancel, times_zero, zero_times, times_one, whole_pos, whole_plus, whole_suc, times_cancel, div_times, sum_to_same, sum_to_first, sum_to_times, sum_pairs_same, sum_pairs_plus, sum_pairs_times, sum_pairs_sum_to, IsPanjer, sum_pairs_first, Recursion, from_before}
+use Rattle.dl_model.proofs.Common.{◌≡◌, ℕ, suc, zero, ◌+◌, ◌≤◌, arith, sym, ap, ap₂, ◌∙◌, zero-lt-suc, Fraction, ◌+ℚ◌, ◌*ℚ◌, ◌/ℚ◌, whole, sum_to, sum_pairs, at_zero, power, cell, poisson, gamma, ring, times_comm, plus_times, one_times, zero_plus, plus_zero, plus_cancel, times_zero, zero_times, times_one, whole_pos, whole_plus, whole_suc, times_cancel, div_times, sum_to_same, sum_to_first, sum_to_times, sum_pairs_same, sum_pairs_plus, sum_pairs_times, sum_pairs_sum_to, IsPanjer, sum_pairs_first, Recursion, from_before}
 use Rattle.dl_model.proofs.TotalLaws.{power_tilt, no_power, cell_stays, poisson_zero, poisson_next, gamma_zero, gamma_next}
 
 -- the part of cell s + 1 from the cells before it, times s + 1

@@ -173,8 +173,8 @@ none_thinned (Poisson mean) sev h unbounded none =
     poisson_no_loss mean (positive sev) (probability_of sev) (given sev) (given_part sev) none
 none_thinned (Gamma zero mean) sev h unbounded none = absurd (omega (arith, h))
 none_thinned (Gamma (suc q) mean) sev h unbounded none =
-    gamma_no_loss (whole (suc q)) mean (positive sev) (probability_of sev) (given sev) (whole_pos (suc q) (zero-lt-suc q))
-    (given_part sev) none
+    gamma_no_loss (whole (suc q)) mean (positive sev) (probability_of sev) (given sev)
+    (whole_pos (suc q) (zero-lt-suc q)) (given_part sev) none
 
 no_item : (xs : List Item) → All (λ (i : Item). i.amount ≤ 0) xs → weight_sum (items_over 0 xs) ≡ 0
 no_item [] h = refl

@@ -1,5 +1,5 @@
 -- A portfolio under a common factor as one loss: what it declares is bounded, above 0 somewhere, and adds up to 1.
-use Rattle.dl_model.proofs.Common.{◌≡◌, ℕ, suc, ◌*◌, ◌<◌, ◌≤◌, arith, refl, sym, ap, subst, subst₂, ◌∙◌, List, [], ◌∷◌, fun_ext, Fraction, whole, ◌+ℚ◌, ◌*ℚ◌, ◌≤ℚ◌, ◌<ℚ◌, le_trans, sum_to, sum_to_same, IsBound, AtLeast, Holds, Rises, Loss, One, Cdf, Mean, score, sum_over_outcomes, partial_sums, loss, IsDeclared, IsDeclaredLoss, Quantity, IsAsked, AreDeclared, PoissonUnit, expected_claims, common_sums, pooled_severity, pooled_unit, AreSeverities, CountsTotal, total, order, whole_pos, zero-lt-suc}
+use Rattle.dl_model.proofs.Common.{◌≡◌, ℕ, suc, ◌*◌, ◌<◌, arith, refl, sym, ap, subst, subst₂, ◌∙◌, List, [], ◌∷◌, fun_ext, Fraction, whole, ◌+ℚ◌, ◌*ℚ◌, ◌<ℚ◌, le_trans, sum_to, sum_to_same, IsBound, AtLeast, Holds, Rises, Loss, One, Cdf, Mean, score, sum_over_outcomes, partial_sums, loss, IsDeclared, IsDeclaredLoss, Quantity, IsAsked, AreDeclared, PoissonUnit, expected_claims, common_sums, pooled_severity, pooled_unit, AreSeverities, CountsTotal, total, order, whole_pos, zero-lt-suc}
 use Rattle.dl_model.proofs.CountBounds.{gamma_of_count}
 use Rattle.dl_model.proofs.CountMeans.{gamma_mean}
 use Rattle.dl_model.proofs.Means.{mean_of_unit}

@@ -1,6 +1,6 @@
 -- Fractions as numbers over numbers above 0, not in lowest terms: these compute, so that a closed example is read off
 -- them.
-use Rattle.dl_model.proofs.Common.{Bool, List, [], ◌∷◌, true, false, ℕ, zero, suc, ◌≡◌, ◌+◌, ◌-◌, ◌*◌, ◌^◌, ◌<◌, ◌∙◌, ap₂, refl, sym, mul-pos, one-le-pow, pow-zero, pow-succ', Fraction, whole, ◌over◌, ◌+ℚ◌, ◌-ℚ◌, ◌*ℚ◌, ◌/ℚ◌, ◌^ℚ◌, one_pos, over_same, over_add, over_mul, over_div, over_sub, sum_to, sum_pairs, sum_over, where_true, product_below}
+use Rattle.dl_model.proofs.Common.{Bool, true, false, ℕ, zero, suc, ◌≡◌, ◌+◌, ◌-◌, ◌*◌, ◌^◌, ◌<◌, ◌∙◌, ap₂, refl, sym, mul-pos, one-le-pow, pow-zero, pow-succ', Fraction, whole, ◌over◌, ◌+ℚ◌, ◌-ℚ◌, ◌*ℚ◌, ◌/ℚ◌, ◌^ℚ◌, one_pos, over_same, over_add, over_mul, over_div, over_sub, sum_to, sum_pairs, where_true, product_below}
 
 pub record Known (x : Fraction) : Type 0 where
   pub num : ℕ

@@ -1,5 +1,5 @@
 -- The probability of no claim of a gamma count of any shape: 1 over the sum of its weights.
-use Rattle.dl_model.proofs.Common.{◌≡◌, inl, inr, ℕ, zero, sym, subst, subst₂, ◌∙◌, Fraction, ◌*ℚ◌, ◌+ℚ◌, ◌≤ℚ◌, ◌<ℚ◌, whole, sum_to, Series, AtMost, AtLeast, times, gamma, ring, times_comm, times_one, one_times, le_refl, le_trans, le_of_eq, le_of_lt, lt_or_le, lt_not_le, times_le_both, sum_to_le}
+use Rattle.dl_model.proofs.Common.{◌≡◌, inl, inr, ℕ, zero, sym, subst, subst₂, Fraction, ◌*ℚ◌, ◌+ℚ◌, ◌≤ℚ◌, whole, sum_to, Series, AtMost, AtLeast, times, gamma, ring, times_one, one_times, le_refl, le_trans, le_of_eq, le_of_lt, lt_or_le, lt_not_le, times_le_both, sum_to_le}
 use Rattle.dl_model.proofs.ValueLaws.{sum_rises_to}
 use Rattle.dl_model.proofs.Declared.{at_least_times, at_most_times}
 use Rattle.dl_model.proofs.Alike.{least_from, most_from}

@@ -65,7 +65,8 @@ module _ (x d : Fraction) (one : x +ℚ d ≡ whole 1) (dp : whole 0 <ℚ d) whe
   many zero = le_of_eq _ _ (one_times _)
   many (suc N) =
       let g = gamma (whole 1) x (suc N) in
-      let falls : g ≤ℚ gamma (whole 1) x N = rw (geometric_next x N) (rw one_times at (times_le_times _ _ (gamma (whole 1) x N) x_le)) in
+      let falls : g ≤ℚ gamma (whole 1) x N =
+      rw (geometric_next x N) (rw one_times at (times_le_times _ _ (gamma (whole 1) x N) x_le)) in
       rw (whole_suc (suc N), plus_times, one_times g) (plus_le_both _ _ _ _ (grw (order, falls) (many N)) (le_refl g))
 
   pub geometric_settles : Settles S
@@ -93,7 +94,10 @@ module _ (x d : Fraction) (one : x +ℚ d ≡ whole 1) (dp : whole 0 <ℚ d) whe
   whole_settles zero = geometric_settles
   whole_settles (suc s) =
       subst Settles (fun_ext (λ N. sum_to_same N _ _ (λ n b. sym (gamma_one_more s x n))))
-      (settles_from _ _ ((cauchy_level (gamma (whole 1) x) (gamma (whole (suc s)) x)).1, (cauchy_level (gamma (whole 1) x) (gamma (whole (suc s)) x)).0)
+      (settles_from _ _ (
+        (cauchy_level (gamma (whole 1) x) (gamma (whole (suc s)) x)).1,
+        (cauchy_level (gamma (whole 1) x) (gamma (whole (suc s)) x)).0,
+      )
       (settles_times _ _ (sum_rises_to (gamma (whole 1) x)) (sum_rises_to (gamma (whole (suc s)) x)) geometric_settles
       (whole_settles s)))
 

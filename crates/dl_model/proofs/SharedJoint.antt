@@ -192,7 +192,8 @@ module _ (q : ℕ) (us : List PoissonUnit) (some : whole 0 <ℚ expected_claims 
       ≡ gamma (whole (suc (suc q))) c m
   others_all m =
       sum_to_times (m * M) (gamma (whole (suc (suc q))) c m) (power (pooled_severity us) m)
-      ∙ ap (λ z. gamma (whole (suc (suc q))) c m *ℚ z) (power_severity (pooled_severity us) M severity_all m).add_up ∙ times_one _
+      ∙ ap (λ z. gamma (whole (suc (suc q))) c m *ℚ z) (power_severity (pooled_severity us) M severity_all m).add_up
+      ∙ times_one _
 
   -- the claim that is apart, where it can be of the unit
   unit_amounts : ℕ → Fraction
@@ -211,7 +212,8 @@ module _ (q : ℕ) (us : List PoissonUnit) (some : whole 0 <ℚ expected_claims 
       let r = whole (suc q) in
       let g : ℕ → Fraction = λ k. gamma (whole (suc (suc q))) c m *ℚ power (pooled_severity us) m k in
       let g_past : (k : ℕ) → m * M < k → g k ≡ whole 0 = λ k d.
-      ap (λ z. gamma (whole (suc (suc q))) c m *ℚ z) (power_past (pooled_severity us) M severity_all.past m k d) ∙ times_zero _ in
+      ap (λ z. gamma (whole (suc (suc q))) c m *ℚ z) (power_past (pooled_severity us) M severity_all.past m k d)
+      ∙ times_zero _ in
       sym (sum_to_times far (whole (orders (suc q) (suc m))) (apart (suc m)))
       ∙ sum_to_same far _ (λ x. r *ℚ convolve unit_amounts g x) (λ x d. apart_next m x ∙ times_assoc r (y u) _
       ∙ ap (λ z. r *ℚ z) (sym (convolve_scaled (y u) t g x)))

@@ -36,7 +36,8 @@ module _ (q : ℕ) (v : Fraction) where
       sym (share_of r1 u (raised_mean (suc q) v) (shape_pos (suc q) v) up)
       ∙ share_of r u v rp (times_comm r u ∙ div_times v r rp)
 
-  pub raised_weights : (n : ℕ) → gamma_of (whole (suc (suc q))) (raised_mean (suc q) v) n ≡ gamma (whole (suc (suc q))) (v /ℚ W) n
+  pub raised_weights : (n : ℕ)
+      → gamma_of (whole (suc (suc q))) (raised_mean (suc q) v) n ≡ gamma (whole (suc (suc q))) (v /ℚ W) n
   raised_weights n = ap (λ x. gamma (whole (suc (suc q))) x n) raised_part
 
   abbrev L : Fraction

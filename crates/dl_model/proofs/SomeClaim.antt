@@ -81,7 +81,8 @@ gamma_some_claim r v one h n u b =
     plus_le_cancel _ _ (whole 1) (le_trans _ _ _ (sums_below r x one N) (subst (λ t. sum_to N (gamma r x) +ℚ r ≤ℚ t)
     (ap (λ t. t +ℚ r) (sym back) ∙ last k (whole 1) r) (plus_le_both _ _ _ _ (b N) (le_refl r)))) in
     let all : r +ℚ v ≤ℚ k +ℚ r = subst (λ t. t ≤ℚ k +ℚ r) (times_comm r L ∙ div_times W r rp)
-    ((least_scaled r (λ N. sum_to N (gamma (whole 1) x)) L (sum_rises_to (gamma (whole 1) x)) least).1 (k +ℚ r) below) in
+    ((least_scaled r (λ N. sum_to N (gamma (whole 1) x)) L (sum_rises_to (gamma (whole 1) x)) least).1
+    (k +ℚ r) below) in
     let claim : v ≤ℚ k = plus_le_cancel v k r (subst (λ t. t ≤ℚ k +ℚ r) (plus_comm r v) all) in
     some_claim (gamma_of r v zero) u (rw (gamma_zero r x, one_times) (subst (λ t. whole 1 +ℚ 1 over 16 ≤ℚ t)
     (plus_comm (whole 1) k ∙ back) (plus_le_both _ _ _ _ (le_refl (whole 1)) (le_trans _ _ _ h claim))))

@@ -1,7 +1,7 @@
 -- The weights of claim counts. Those of Poisson and gamma counts are the probabilities without
 -- their constant factor (Klugman, Panjer and Willmot, Loss Models, "The (a, b, 0) class"); the
 -- others are probabilities.
-use Rattle.std.specs.Prelude.{ℕ, zero, suc, ◌≡◌, ◌+◌, ◌-◌, ◌*◌, ◌^◌, nat_eq}
+use Rattle.std.specs.Prelude.{ℕ, zero, suc, ◌≡◌, ◌-◌, ◌*◌, ◌^◌, nat_eq}
 use Rattle.dl_exact.specs.Prelude.{Fraction, whole, ◌over◌, ◌+ℚ◌, ◌*ℚ◌, ◌/ℚ◌, ◌<ℚ◌, ◌^ℚ◌, factorial, choose, sum_to}
 use Rattle.dl_model.specs.Series.{IsBound, Settles}
 use Rattle.dl_model.specs.Program.{where_true}

@@ -111,7 +111,8 @@ pub fn law_changed_values()
 
 /// Where at least 1 / 16 of a claim is expected, the probability of no claim is at most 16 / 17:
 /// of exactly `m` claims, of `m` trials with probability `a / b`, Poisson, and gamma of a shape `r`
-/// of at least 1 and mean `v`; of a smaller shape, where the weight of one claim is at least 1 / 16.
+/// of at least 1 and mean `v`; of a smaller shape, where the weight of one claim is at least 1 /
+/// 16.
 pub fn law_some_claim()
     ensures fixed { (m : ℕ) → 0 < m
         → AtMost (λ N. fixed m 0) (λ N. sum_to N (fixed m)) (16 over 17) }

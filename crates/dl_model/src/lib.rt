@@ -22,6 +22,11 @@
 //! `law_some_claim`. A unit with such a change is a loss that can be declared, and its outcomes and
 //! mean have ends from those of the unit (`law_changed_loss`, `law_changed_values`).
 //!
+//! Gamma counts have any shape above 0: their weights are bounded, add up to the whole weight and
+//! have their mean (`law_counts`, `law_settles`, `law_expected_count`); claims of amount 0 can be
+//! left out of them (`law_gamma_thinned`); and the probability of no claim of a shape comes from
+//! that of sums of shapes and of twice the shape (`law_no_claim_of_shapes`, `law_roots`).
+//!
 //! Units under a common gamma factor declare of their total what one gamma unit with the mixture of
 //! their severities does, at every number of claims (`law_pooled`, `law_pooled_unit`), and a unit's
 //! joint mean comes from the cells of that unit with one more in the shape (`law_common_joint`,

@@ -56,8 +56,8 @@ pub fn law_roots()
 {}
 
 /// Thinning: with `p` the probability of an amount above 0 and `g` the severity of those amounts,
-/// the sum of gamma claims of any shape has in every cell the declared value of that of `g` with the
-/// mean `v` times `p`.
+/// the sum of gamma claims of any shape has in every cell the declared value of that of `g` with
+/// the mean `v` times `p`.
 pub fn law_gamma_thinned()
     ensures { (r v p : Fraction) (f g : ℕ → Fraction) → whole 0 <ℚ r → IsPositivePart f p g
         → SameCells (compound (gamma_of r v) f) (compound (gamma_of r (v *ℚ p)) g) }

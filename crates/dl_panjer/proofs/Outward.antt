@@ -1,5 +1,5 @@
 -- The two roundings of a Poisson and of a geometric grid are outward.
-use Rattle.dl_panjer.proofs.Common.{◌≡◌, ◌⊎◌, inl, inr, ℕ, suc, ◌*◌, ◌/◌, ◌^◌, ◌<◌, ◌≤◌, Bool, true, false, List, length, arith, refl, sym, ap, ◌∙◌, zero-lt-suc, cases_lt, div_ceil, Fraction, ◌over◌, ◌+ℚ◌, ◌*ℚ◌, ◌/ℚ◌, ◌≤ℚ◌, ◌<ℚ◌, whole, IsFloor, ring, zero_times, le_refl, le_trans, whole_pos, times_cancel, div_times, over_times_whole, times_le_both, floor_div, ceiling_div, sum_pairs_same, sum_pairs_times, from_before, Iv, low_at, high_at, Item, weight_at, coefficient, next_sum, FollowsOutward, FollowsRounded, min-eq_right, times_assoc, times_comm, mul_comm, zero_plus, plus_zero, IsCeilingWithin, times_right_comm, ◌+◌, whole_plus, before_in_whole}
+use Rattle.dl_panjer.proofs.Common.{◌≡◌, ◌⊎◌, inl, inr, ℕ, suc, ◌*◌, ◌/◌, ◌^◌, ◌<◌, ◌≤◌, Bool, true, false, List, length, arith, refl, sym, ap, ◌∙◌, zero-lt-suc, cases_lt, div_ceil, Fraction, ◌over◌, ◌+ℚ◌, ◌*ℚ◌, ◌/ℚ◌, ◌≤ℚ◌, whole, IsFloor, ring, zero_times, le_refl, le_trans, whole_pos, times_cancel, div_times, times_le_both, floor_div, ceiling_div, sum_pairs_same, sum_pairs_times, from_before, Iv, low_at, high_at, Item, weight_at, coefficient, next_sum, FollowsOutward, FollowsRounded, min-eq_right, times_assoc, times_comm, mul_comm, zero_plus, IsCeilingWithin, times_right_comm, ◌+◌, whole_plus, before_in_whole}
 use Rattle.dl_exact.proofs.Denominators.{over_times}
 use Rattle.dl_exact.proofs.SumsOver.{sum_pairs_over}
 use Rattle.dl_exact.specs.Sum.{sum_pairs}
@@ -97,7 +97,8 @@ module _ (items : List Item) (T : ℕ) (v : Fraction) (T_pos : 0 < T) where
       sums_by_number v chance g s ∙ ap (λ t. v /ℚ whole (suc s) *ℚ t) (sum_of_amounts items T T_pos chance (λ x. refl) g s))
 
   pub geometric_outward : {B : ℕ} (grid : List (Iv B)) → FollowsRounded false (λ s. v /ℚ (whole 1 +ℚ v)) items T grid
-      → FollowsOutward (2 ^ B) (length grid) (v /ℚ (whole 1 +ℚ v)) (v /ℚ (whole 1 +ℚ v)) chance (low_at grid) (high_at grid)
+      → FollowsOutward (2 ^ B) (length grid) (v /ℚ (whole 1 +ℚ v)) (v /ℚ (whole 1 +ℚ v)) chance
+      (low_at grid) (high_at grid)
   geometric_outward grid =
       let x = v /ℚ (whole 1 +ℚ v) in
       outward false (λ s. x) items T grid x x T_pos (λ g s. sums_by_rate x chance g s

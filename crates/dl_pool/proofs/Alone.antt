@@ -204,7 +204,8 @@ module _ (plan : Plan) (q : ℕ) (shares : SharesFactor plan (suc q)) (made : Un
         most = greatest made.sev.items;
         clause = outcome_after o;
       }) (ap count_weights is.count ∙ ap (gamma_of (whole (suc q))) (sym (expected_units plan.units))) is.clause
-      ∙ ap (λ f. plain (gamma_of (whole (suc q)) (expected_claims us)) f (greatest made.sev.items)) (fun_ext is.severity)
+      ∙ ap (λ f. plain (gamma_of (whole (suc q)) (expected_claims us)) f (greatest made.sev.items))
+      (fun_ext is.severity)
 
   pub declares_same : (quantity : Quantity) → CountsTotal quantity → (N : ℕ)
       → declared (alone plan made) quantity N ≡ common_sums (suc q) us quantity N

@@ -1,5 +1,5 @@
 -- The steps of a count's weights, and items with their weights times a factor.
-use Rattle.dl_recursion.proofs.Common.{◌≡◌, inl, inr, ℕ, suc, zero, ◌+◌, ◌-◌, ◌*◌, ◌/◌, ◌<◌, List, [], ◌∷◌, length, take, get_or, arith, sym, ap, ◌∙◌, mul-pos, refl, add-one, All, sum_by, sum_by-cons, sum_by_more, Fraction, ◌over◌, ◌+ℚ◌, ◌*ℚ◌, ◌/ℚ◌, whole, over_add, over_mul, over_same, over_self, over_times_whole, whole_times, one_pos, one_times, power, poisson, gamma, IsPanjer, Part, in_a_row, eq-zero-or-pos, mul-add, ◌≢◌, add-zero, eq_of_mul-eq-mul_right, eq-eqb, ne_eqb, All-head, All-tail, ◌==◌, if◌then◌else◌, eqb_tells, over_div, times_assoc, zero_times, times_comm, Item, weight_sum, weight_at}
+use Rattle.dl_recursion.proofs.Common.{◌≡◌, inl, inr, ℕ, ◌+◌, ◌-◌, ◌*◌, ◌/◌, ◌<◌, List, [], ◌∷◌, length, take, get_or, arith, sym, ap, ◌∙◌, mul-pos, refl, add-one, All, sum_by, sum_by-cons, sum_by_more, Fraction, ◌over◌, ◌*ℚ◌, whole, over_mul, over_same, over_self, over_times_whole, whole_times, one_pos, one_times, poisson, gamma, IsPanjer, Part, in_a_row, eq-zero-or-pos, mul-add, ◌≢◌, add-zero, eq_of_mul-eq-mul_right, eq-eqb, ne_eqb, All-head, All-tail, ◌==◌, if◌then◌else◌, eqb_tells, times_assoc, zero_times, times_comm, Item, weight_sum, weight_at}
 use Prim.Native.Nat.{◌∣◌}
 use Rattle.dl_model.proofs.Panjer.{poisson_class, gamma_class}
 use Rattle.dl_model.proofs.Multiples.{multiple_of}

@@ -9,8 +9,8 @@
 //! rows of one weight as runs; `sums` adds up what they give to the next cell; `quotient` divides;
 //! `recursion` adds the cell and shifts; `rest` has the cells past those that count; `passes` makes
 //! the cells of a gamma count of a small shape without a division, where the amounts are one run;
-//! `to_grid` makes the grid, from the probability of no claim of `dl_start`, and `direct` has the two
-//! counts.
+//! `to_grid` makes the grid, from the probability of no claim of `dl_start`, and `direct` has the
+//! two counts.
 //!
 //! `poisson_direct` and `gamma_direct` give a grid that encloses the compound sum, or none
 //! (`encloses`). No clause says when there is none: `unit_grid_with` of `dl_unit` then makes the

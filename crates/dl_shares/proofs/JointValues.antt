@@ -90,7 +90,8 @@ module _ (units : List UnitOfPlan) (q : ℕ) (factor : HasCommonFactor (suc q) u
   raised_family : compound_of made.freq made.sev
       ≡ compound (gamma_of (whole (suc (suc q))) (raised (suc q) (expected_claims us))) (pooled_severity us)
   raised_family = ap₂ compound
-      (ap count_weights is.count ∙ ap (λ v. gamma_of (whole (suc (suc q))) (raised (suc q) v)) (sym (expected_units units)))
+      (ap count_weights is.count
+      ∙ ap (λ v. gamma_of (whole (suc (suc q))) (raised (suc q) v)) (sym (expected_units units)))
       (fun_ext is.severity)
 
   abbrev all : Series

@@ -14,7 +14,8 @@ returns-clause-encloses g c =
     rw (over_self v) at (contribution_is v.num v.den s v.positive c.requires.shape_above) in
     let holds : HoldsNoClaim (gamma (whole s) ratio) c.gamma_start-start.result =
     rw (c.num.ensures.part, c.den.ensures.part, is) at c.gamma_start-start.ensures.holds in
-    IfOk-weaker c.compound_direct.result _ _ (λ made told. IfSome_then made told (λ grid all. all (gamma (whole s) ratio)
+    IfOk-weaker c.compound_direct.result _ _ (λ made told. IfSome_then made told (λ grid all.
+    all (gamma (whole s) ratio)
     (rw (c.num-2.ensures.part, c.num-3.ensures.part, c.from-2.ensures, c.den-2.ensures.part, is)
     (gamma_steps s c.from.result ratio c.requires.shape_above c.from.ensures)) holds))
     c.compound_direct.ensures.encloses

@@ -5,7 +5,8 @@ use Rattle.dl_start.specs.Start.{HoldsNoClaim}
 use Rattle.dl_start.proofs.shape.shape_start.Goals as goal
 
 pub by_digits-requires-clause-below : goal.by_digits-requires-clause-below
-by_digits-requires-clause-below c = rw (c.num-3.ensures.part, c.den-3.ensures.part) (num_below c.args.t c.requires.below)
+by_digits-requires-clause-below c =
+    rw (c.num-3.ensures.part, c.den-3.ensures.part) (num_below c.args.t c.requires.below)
 
 pub returns : goal.returns
 returns c =
