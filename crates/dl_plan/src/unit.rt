@@ -85,7 +85,7 @@ impl Unit {
         matches!(self.freq, Freq::Gamma { .. }) && self.cede.is_none() && self.zero.is_none()
     }
 
-    /// A numerator below 2^100 and a denominator below 2^80 of the mean in buckets, before the
+    /// A numerator below 2^110 and a denominator below 2^88 of the mean in buckets, before the
     /// aggregate clause and before the probability of no claim is changed, of a unit of a valid
     /// plan.
     #[tactic(auto, using(crate::proofs::Means::mean_over))]
@@ -129,7 +129,7 @@ impl Unit {
 
 /// The weight of amount 0 in a list of rising amounts.
 #[tactic(auto, using(crate::proofs::Means::zero_yes, crate::proofs::Means::zero_no))]
-fn weight_of_zero(items: &[Item]) -> u32
+fn weight_of_zero(items: &[Item]) -> u64
     requires some { 0 < length items.now }
     requires rising { IsStrictlyIncreasing (amounts_of items.now) }
     ensures { result ≡ weight_at items.now 0 }

@@ -27,9 +27,9 @@ ends_ordered : (m d : ℕ) {r : ℕ} → 0 < d → r ≡ div_ceil m d → m / d 
 ends_ordered m d h e = rw e (floor_le_ceiling m m d d h (le_refl d) (le_refl m))
 
 -- a rest times the power of a half of the scale
-rest_fits : (r d f b : ℕ) → r < d → d < 2 ^ 80 → f ≡ 2 ^ b → b ≤ 28 → r * f < 2 ^ 128
+rest_fits : (r d f b : ℕ) → r < d → d < 2 ^ 88 → f ≡ 2 ^ b → b ≤ 28 → r * f < 2 ^ 128
 rest_fits r d f b below small e h =
-    let product : r * f ≤ 2 ^ 80 * 2 ^ 28 = mul-le r f (2 ^ 80) (2 ^ 28) (omega arith) (power_le b f 28 e h) in
+    let product : r * f ≤ 2 ^ 88 * 2 ^ 28 = mul-le r f (2 ^ 88) (2 ^ 28) (omega arith) (power_le b f 28 e h) in
     omega arith
 
 pub overflow_mul-rest : goal.overflow_mul-rest
