@@ -18,7 +18,7 @@ pub use Rattle.dl_lexer.specs.declared.token.Span.{Span}
 pub use Rattle.dl_plan.proofs.CommonDenominators.{common_pos, den_divides}
 pub use Rattle.dl_plan.proofs.Fits.{given_ok, over_fits}
 pub use Rattle.dl_plan.specs.Clause.{Clause, IsClause, Overlap, kept, layer}
-pub use Rattle.dl_plan.specs.Fine.{IsFineTo30Bits, IsWhole, common_denominator}
+pub use Rattle.dl_plan.specs.Fine.{IsFineTo30Bits, IsFineTo40Bits, IsWhole, common_denominator}
 pub use Rattle.dl_plan.specs.Severity.{HasDistribution, Pairs, conditioned, mass, pairs_of, probability, shares}
 pub use Rattle.dl_plan.specs.Weighted.{amounts_of, weight_at, weight_sum}
 pub use Rattle.dl_plan.specs.declared.cede.CedeLayer.{CedeLayer}
@@ -64,7 +64,7 @@ pub use Rattle.dl_buckets.specs.Reading.{flaws_beside, flaws_of_amount, flaws_of
 pub use Rattle.dl_buckets.specs.Values.{AreTooMany, if_there, spanned_in, spanned_item, spanned_range, spanned_values, range_of, value, value_or, values_of}
 pub use Rattle.dl_buckets.specs.declared.flaws.Flaws.{Flaws}
 pub use Rattle.dl_buckets.specs.declared.flaws.Gridded.{Gridded}
-pub use Rattle.dl_limits.specs.Limits.{most_amount, most_atoms, most_layers, most_parts, most_range_parts, most_values}
+pub use Rattle.dl_limits.specs.Limits.{most_amount, most_atoms, most_layers, most_parts, most_range_parts, most_values, most_weights}
 pub use Rattle.dl_limits.specs.Rules.{AreBounds}
 pub use Rattle.dl_limits.specs.declared.rules.Bounds.{Bounds}
 pub use Rattle.dl_sev.specs.Buckets.{HasPartsOf18Digits, buckets}

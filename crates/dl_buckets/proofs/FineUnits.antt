@@ -1,5 +1,5 @@
 -- What a unit that keeps all rules on its severity gives.
-use Rattle.dl_buckets.proofs.Common.{leb-true, get_or, ◌≡◌, ◌||◌, ◌&&◌, nat_tests, not, Bool, true, false, Option, Some, None, refl, sym, subst, All, IfSome, ◌≤◌, ℕ, Item, arith, length, length-map, Fraction, IsClause, IsClauseLayered, IsSevWithin, final_severity, made_of, GridSev, has_atoms, has_severity, weights_of, GridClause, GridUnit, IsFineTo30Bits, IsWhole, common_denominator, Pairs, HasDistribution, pairs_of, kept, Sev, is_fine, clause_of, shares_of, is_off, severity_in_layer, ceded_pairs, mixture_shares, support, off_grid_cession, AreProbabilities, atom_probs, not-false, are_fine, Bounds, AreBounds, has_probs, most_parts}
+use Rattle.dl_buckets.proofs.Common.{leb-true, IsFineTo40Bits, get_or, ◌≡◌, ◌||◌, ◌&&◌, nat_tests, not, Bool, true, false, Option, Some, None, refl, sym, subst, All, IfSome, ◌≤◌, ℕ, Item, arith, length, length-map, Fraction, IsClause, IsClauseLayered, IsSevWithin, final_severity, made_of, GridSev, has_atoms, has_severity, weights_of, GridClause, GridUnit, IsWhole, common_denominator, Pairs, HasDistribution, pairs_of, kept, Sev, is_fine, clause_of, shares_of, is_off, severity_in_layer, ceded_pairs, mixture_shares, support, off_grid_cession, AreProbabilities, atom_probs, not-false, are_fine, Bounds, AreBounds, has_probs, most_parts}
 use Rattle.dl_buckets.specs.FineParts.{has_shares}
 use Rattle.dl_buckets.specs.CheckedUnit.{IsFineSev}
 use Rattle.dl_buckets.proofs.PastEdges.{whole_unless}
@@ -53,7 +53,7 @@ module _ {bounds : Bounds} (u : GridUnit) (fine : IsFineSev bounds u) where
   pub unit_shared : IsSevShared u.sev
   unit_shared = sev_shared bounds fine.allowed u.sev severity_fine
 
-  pub mixture_fine : IsFineTo30Bits (mixture_shares u.sev)
+  pub mixture_fine : IsFineTo40Bits (mixture_shares u.sev)
   mixture_fine = omega (
     arith,
     fine.allowed.parts,

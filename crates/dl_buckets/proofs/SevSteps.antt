@@ -1,5 +1,5 @@
 -- Each step of a severity that is not refused gives one.
-use Rattle.dl_buckets.proofs.Common.{ℕ, ◌≡◌, ◌∙◌, ◌<◌, ◌≤◌, ◌^◌, List, map, length, nat_lt, refl, sym, ap, subst, arith, inl, inr, All, length-map, whole, ◌over◌, Item, Sev, IsFineTo30Bits, weight_sum, weight_at, Pairs, pairs_of, conditioned, probability, HasDistribution, Weights, sum_of, IsWeighing, with_amounts}
+use Rattle.dl_buckets.proofs.Common.{ℕ, ◌≡◌, ◌∙◌, ◌<◌, ◌≤◌, ◌^◌, List, map, length, nat_lt, refl, sym, ap, subst, arith, inl, inr, All, length-map, whole, ◌over◌, Item, Sev, IsFineTo40Bits, weight_sum, weight_at, Pairs, pairs_of, conditioned, probability, HasDistribution, Weights, sum_of, IsWeighing, with_amounts}
 use Rattle.std.proofs.Math.Nat.{eq-zero-or-pos}
 use Rattle.dl_sev.specs.Steps.{items_of, with_amount}
 use Rattle.dl_sev.proofs.Mixed.{firsts, seconds, weighed-back}
@@ -12,7 +12,7 @@ use Rattle.dl_buckets.proofs.Shared.{over_common, weighing}
 use Rattle.dl_buckets.proofs.Tables.{gathered}
 
 -- amounts with probabilities that are fine and sum to 1
-pub sev_of : (ps : Pairs) → IsFineTo30Bits (seconds ps) → sum_of (seconds ps) ≡ whole 1 → (sev : Sev) × HasDistribution sev ps
+pub sev_of : (ps : Pairs) → IsFineTo40Bits (seconds ps) → sum_of (seconds ps) ≡ whole 1 → (sev : Sev) × HasDistribution sev ps
 sev_of ps fine one =
     let weights : Weights = over_common (seconds ps) in
     let is : IsWeighing (seconds ps) weights = weighing (seconds ps) fine one in
@@ -22,7 +22,7 @@ sev_of ps fine one =
     ∙ ap length is.shares ∙ length-map ps (λ pair. pair.1)) in
     let total : weight_sum items ≡ weights.total = weight_sum-items (firsts ps) weights.weights lengths ∙ is.sum in
     let made = gathered items (subst (λ n. 0 < n) (sym total) is.some)
-    (subst (λ n. n ≤ 2 ^ 30) (sym total) is.within) in (
+    (subst (λ n. n ≤ 2 ^ 40) (sym total) is.within) in (
       made.0,
       λ x. made.1 x ∙ ap (λ n. weight_at items x over n) total ∙ sym (probability-weighed (firsts ps) weights x is.some)
           ∙ ap (λ qs. probability qs x) (weighed-back ps (firsts ps) weights refl is.shares),
@@ -34,7 +34,7 @@ mapped_sev f sev =
     let items : List Item = map (with_amount f) sev.items in
     let total : weight_sum items ≡ sev.total = mapped_sum sev f items refl in
     let made = gathered items (subst (λ n. 0 < n) (sym total) (total_pos sev))
-    (subst (λ n. n ≤ 2 ^ 30) (sym total) sev.weighted.within) in
+    (subst (λ n. n ≤ 2 ^ 40) (sym total) sev.weighted.within) in
     (made.0, λ x. made.1 x ∙ mapped_means sev f items x refl)
 
 -- the part above an amount that one exceeds

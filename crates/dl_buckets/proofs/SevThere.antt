@@ -1,5 +1,5 @@
 -- A unit whose fractions are fine has a final severity.
-use Rattle.dl_buckets.proofs.Common.{ℕ, ◌≡◌, ◌∙◌, ◌≤◌, List, [], ◌∷◌, map, length, Bool, true, false, cond, Option, Some, None, refl, sym, subst, All, AllZip, length-map, All-head, All-tail, whole, Item, Sev, Weights, IsWeighing, IsFineTo30Bits, Pairs, conditioned, HasDistribution, layer, kept, sum_of, mixture, with_amounts, GridAtom, GridLayer, GridClause, GridUnit, clause_of, atom_probs, atom_pairs, weights_of, mixed_pairs, is_conditioned, layer_pairs, severity_in_layer, ceded_pairs, final_severity, IsGridAtom, IsSevWithin, IsSevWeighted, AreProbabilities, Bounds, most_parts}
+use Rattle.dl_buckets.proofs.Common.{ℕ, ◌≡◌, ◌∙◌, ◌≤◌, List, [], ◌∷◌, map, length, Bool, true, false, cond, Option, Some, None, refl, sym, subst, All, AllZip, length-map, All-head, All-tail, whole, Item, Sev, Weights, IsWeighing, IsFineTo40Bits, Pairs, conditioned, HasDistribution, layer, kept, sum_of, mixture, with_amounts, GridAtom, GridLayer, GridClause, GridUnit, clause_of, atom_probs, atom_pairs, weights_of, mixed_pairs, is_conditioned, layer_pairs, severity_in_layer, ceded_pairs, final_severity, IsGridAtom, IsSevWithin, IsSevWeighted, AreProbabilities, Bounds, most_weights}
 use Rattle.dl_buckets.specs.CheckedUnit.{IsFineSev}
 use Rattle.dl_sev.proofs.Mixed.{mixture_one}
 use Rattle.dl_buckets.proofs.Parts.{sev_weighted}
@@ -22,7 +22,7 @@ atom_sev : (a : GridAtom) → IsGridAtom a → AreProbabilities (atom_probs a)
     → Meant (atom_pairs a)
 atom_sev a grid shared =
     let same = seconds-zip a.amounts (atom_probs a) (sym grid.each) in
-    sev_of (atom_pairs a) (subst IsFineTo30Bits same shared.fine) (subst (λ xs. sum_of xs ≡ whole 1) same shared.one)
+    sev_of (atom_pairs a) (subst IsFineTo40Bits same shared.fine) (subst (λ xs. sum_of xs ≡ whole 1) same shared.one)
 
 atom_sevs : (atoms : List GridAtom) → All IsGridAtom atoms
     → All (λ a. AreProbabilities (atom_probs a)) atoms
@@ -50,7 +50,7 @@ module _ {bounds : Bounds} (u : GridUnit) (fine : IsFineSev bounds u) where
       pair_length atoms.0 lists atoms.1 ∙ length-map u.sev.atoms atom_pairs
       ∙ sym (weights_length (weights_of u.sev) w weighed ∙ weighted.each) in
       let made = sev_of (mixture atoms.0 w) (products_fine atoms.0 w (weights_of u.sev) lists weighed atoms.1
-      most_parts (mixture_fine u fine))
+      most_weights (mixture_fine u fine))
       (mixture_one w.total atoms.0 w.weights weighed.some lengths weighed.sum) in
       (made.0, mixture_means atoms.0 w (weights_of u.sev) lists weighed atoms.1 made.0 made.1)
 

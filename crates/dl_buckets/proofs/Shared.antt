@@ -1,5 +1,5 @@
 -- Fine probabilities that sum to 1, and their whole weights.
-use Rattle.dl_buckets.proofs.Common.{leb-true, le-leb, eqb-true, false_from_ne_true, ◌≡◌, ◌≢◌, ◌∙◌, ℕ, zero, suc, ◌<◌, ◌≤◌, ◌^◌, List, [], ◌∷◌, ◌++◌, map, length, true, false, Some, None, inl, inr, refl, sym, ap, ap₂, subst, arith, All, ◌∣◌, MatchOption, All-head, All-tail, Fraction, whole, ◌over◌, over_self, over_same, whole_num, whole_den, IsFineTo30Bits, common_denominator, common_pos, den_divides, sum_of, Weights, IsWeighing, Span, at_if, Shares, is_fine, is_one, is_not_one, weights_over, IsShares, AreProbabilities, Bool, ◌&&◌, are_fine, and_parts, most_parts}
+use Rattle.dl_buckets.proofs.Common.{leb-true, le-leb, eqb-true, false_from_ne_true, ◌≡◌, ◌≢◌, ◌∙◌, ℕ, zero, suc, ◌<◌, ◌≤◌, ◌^◌, List, [], ◌∷◌, ◌++◌, map, length, true, false, Some, None, inl, inr, refl, sym, ap, ap₂, subst, arith, All, ◌∣◌, MatchOption, All-head, All-tail, Fraction, whole, ◌over◌, over_self, over_same, whole_num, whole_den, IsFineTo40Bits, common_denominator, common_pos, den_divides, sum_of, Weights, IsWeighing, Span, at_if, Shares, is_fine, is_one, is_not_one, weights_over, IsShares, AreProbabilities, Bool, ◌&&◌, are_fine, and_parts, most_weights}
 use Rattle.std.specs.Prelude.{nat_le, replicate}
 use Rattle.std.proofs.Math.Bool.{and-false, and-true}
 use Rattle.std.proofs.lemmas.Bool.{cases_Bool}
@@ -52,7 +52,7 @@ over_common xs = record {
 }
 
 -- of fine probabilities that sum to 1
-pub weighing : (xs : List Fraction) → IsFineTo30Bits xs → sum_of xs ≡ whole 1 → IsWeighing xs (over_common xs)
+pub weighing : (xs : List Fraction) → IsFineTo40Bits xs → sum_of xs ≡ whole 1 → IsWeighing xs (over_common xs)
 weighing xs fine one = record {
   shares = shares_back xs;
   total = refl;
@@ -63,7 +63,7 @@ weighing xs fine one = record {
 
 pub probabilities_of : (xs : List Fraction) (made : Weights) → IsWeighing xs made → AreProbabilities xs
 probabilities_of xs made is = record {
-  fine = subst (λ n. n ≤ 2 ^ 30) is.total is.within;
+  fine = subst (λ n. n ≤ 2 ^ 40) is.total is.within;
   one =
       ap sum_of (sym is.shares) ∙ sum_over_map (λ w. w over made.total) (λ x. x) made.weights
       ∙ sum_over_common (λ w. w) made.total made.weights is.some
@@ -98,7 +98,7 @@ weights_as xs made is =
 pub fine_weights : (xs : List Fraction) (made : Weights) → IsWeighing xs made → Some made ≡ weights_over xs
 fine_weights xs made is =
     ap (λ w. Some w) (weights_as xs made is)
-    ∙ sym (rw (weighing_fine most_parts xs made is (probabilities_of xs made is).fine) refl)
+    ∙ sym (rw (weighing_fine most_weights xs made is (probabilities_of xs made is).fine) refl)
 
 pub coarse_test : (most : ℕ) (xs : List Fraction) → ¬ common_denominator xs ≤ most → is_fine most xs ≡ false
 coarse_test most xs coarse =
@@ -108,21 +108,21 @@ one_yes : (x : Fraction) → is_one x ≡ true → x ≡ whole 1
 one_yes x e = sym (over_self x) ∙ over_same x.num x.den 1 1 x.positive (omega arith)
     (omega (arith, eqb-true x.num x.den e))
 
-no_weights : (xs : List Fraction) → (are_fine most_parts xs ≡ true → ⊥) → None ≡ weights_over xs
-no_weights xs none = sym (rw (false_from_ne_true (are_fine most_parts xs) none) refl)
+no_weights : (xs : List Fraction) → (are_fine most_weights xs ≡ true → ⊥) → None ≡ weights_over xs
+no_weights xs none = sym (rw (false_from_ne_true (are_fine most_weights xs) none) refl)
 
-pub coarse_weights : (xs : List Fraction) → ¬ IsFineTo30Bits xs → None ≡ weights_over xs
+pub coarse_weights : (xs : List Fraction) → ¬ IsFineTo40Bits xs → None ≡ weights_over xs
 coarse_weights xs coarse =
-    no_weights xs (λ fine. coarse (leb-true (common_denominator xs) most_parts (and_parts _ _ fine).0))
+    no_weights xs (λ fine. coarse (leb-true (common_denominator xs) most_weights (and_parts _ _ fine).0))
 
 pub other_weights : (xs : List Fraction) → sum_of xs ≢ whole 1 → None ≡ weights_over xs
 other_weights xs other = no_weights xs (λ fine. other (one_yes (sum_of xs) (and_parts _ _ fine).1))
 
-pub probabilities_fine : (xs : List Fraction) → AreProbabilities xs → are_fine most_parts xs ≡ true
-probabilities_fine xs are = rw (le-leb (common_denominator xs) most_parts are.fine, one_test xs are.one) refl
+pub probabilities_fine : (xs : List Fraction) → AreProbabilities xs → are_fine most_weights xs ≡ true
+probabilities_fine xs are = rw (le-leb (common_denominator xs) most_weights are.fine, one_test xs are.one) refl
 
 -- what is fine by a bound of at most 2^30 are probabilities
-pub fine_probabilities : (most : ℕ) (xs : List Fraction) → most ≤ most_parts → are_fine most xs ≡ true
+pub fine_probabilities : (most : ℕ) (xs : List Fraction) → most ≤ most_weights → are_fine most xs ≡ true
     → AreProbabilities xs
 fine_probabilities most xs le fine =
     let both = and_parts (is_fine most xs) (is_one (sum_of xs)) fine in
@@ -131,7 +131,7 @@ fine_probabilities most xs le fine =
       one = one_yes (sum_of xs) both.1;
     }
 
-module _ (most : ℕ) (l : Shares) (le : most ≤ most_parts) (is : IsShares l) where
+module _ (most : ℕ) (l : Shares) (le : most ≤ most_weights) (is : IsShares l) where
   -- a list that is fine has its weights
   pub list_weighed : are_fine most l.values ≡ true
       → (w : Weights) × (l.weights ≡ Some w) × IsWeighing l.values w
@@ -144,9 +144,9 @@ module _ (most : ℕ) (l : Shares) (le : most ≤ most_parts) (is : IsShares l) 
   -- a list is fine where it has weights, with a total of at most this
   pub list_test : (b : Bool) → MatchOption l.weights (b ≡ false) (λ w. b ≡ nat_le w.total most)
       → b ≡ are_fine most l.values
-  list_test b h = elim (cases_Bool (are_fine most_parts l.values)) [
+  list_test b h = elim (cases_Bool (are_fine most_weights l.values)) [
     | inl e ↦
-        let both = and_parts (is_fine most_parts l.values) (is_one (sum_of l.values)) e in
+        let both = and_parts (is_fine most_weights l.values) (is_one (sum_of l.values)) e in
         let there : l.weights ≡ Some (over_common l.values) = is.weights ∙ rw e refl in
         (rw there at h) ∙ sym (and-true (is_fine most l.values))
         ∙ ap (λ t. is_fine most l.values && t) (sym both.1)
@@ -156,7 +156,7 @@ module _ (most : ℕ) (l : Shares) (le : most ≤ most_parts) (is : IsShares l) 
         let are = fine_probabilities most l.values le fine in
         absurd (cc (
           e,
-          weighing_fine most_parts l.values (over_common l.values)
+          weighing_fine most_weights l.values (over_common l.values)
               (weighing l.values are.fine are.one) are.fine,
         ))))
   ]
@@ -167,7 +167,7 @@ module _ (most : ℕ) (xs : List Fraction) (span : Span) where
   pub keeps_weighed : (made : Weights) → IsWeighing xs made → None ≡ at_if (is_not_one most xs) span
   keeps_weighed made is = rw (one_test xs (probabilities_of xs made is).one, and-false (is_fine most xs)) refl
 
-  pub coarse_kept : most ≤ most_parts → ¬ IsFineTo30Bits xs → None ≡ at_if (is_not_one most xs) span
+  pub coarse_kept : most ≤ most_weights → ¬ IsFineTo40Bits xs → None ≡ at_if (is_not_one most xs) span
   coarse_kept le coarse = rw (coarse_test most xs (λ fine. coarse (omega (arith, le, fine)))) refl
 
   pub breaks_one : sum_of xs ≢ whole 1 → at_if (is_fine most xs) span ≡ at_if (is_not_one most xs) span

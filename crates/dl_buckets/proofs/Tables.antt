@@ -74,7 +74,7 @@ all_summed (i ∷ items) n h =
       sum_by-cons (λ (j : Item). j.weight) i items,
     )
 
-module _ (items : List Item) (some : 0 < weight_sum items) (within : weight_sum items ≤ 2 ^ 30) where
+module _ (items : List Item) (some : 0 < weight_sum items) (within : weight_sum items ≤ 2 ^ 40) where
   abbrev made : List Item
   made = table items (beyond items)
 
@@ -91,7 +91,7 @@ module _ (items : List Item) (some : 0 < weight_sum items) (within : weight_sum 
       items = map (divided_by (common_weight made)) made;
       total = weight_sum made / common_weight made;
       weighted = divided_is made made_some (positive items (beyond items)) (rising items (beyond items))
-          (subst (λ n. n ≤ 2 ^ 30) (sym made_sum) within);
+          (subst (λ n. n ≤ 2 ^ 40) (sym made_sum) within);
     },
     λ x. divided_means made made_some (positive items (beyond items)) x ∙ ap₂ (λ n d. n over d)
         (table_at items (beyond items) x ∙ one_place (beyond items) x (weight_at items) (none_beyond items x)) made_sum,

@@ -1,6 +1,6 @@
 -- Lists of probabilities with their weights, and tests of fractions.
 use Rattle.std.specs.Prelude.{ℕ, ◌*◌, ◌&&◌, Bool, not, ◌==◌, nat_le, nat_lt, if◌then◌else◌, List, map, length, replicate, Option, Some, None}
-use Rattle.dl_limits.specs.Limits.{most_parts, admitted_bound}
+use Rattle.dl_limits.specs.Limits.{most_weights, admitted_bound}
 use Rattle.dl_exact.specs.Fraction.{Fraction, ◌over◌}
 use Rattle.dl_plan.specs.Fine.{common_denominator, numerator_over}
 use Rattle.dl_sev.specs.Weighing.{sum_of}
@@ -31,9 +31,9 @@ is_not_one most xs = is_fine most xs && not (is_one (sum_of xs))
 abbrev pub are_fine : (most : ℕ) → List Fraction → Bool
 are_fine most xs = is_fine most xs && is_one (sum_of xs)
 
--- the numerators of a list that sums to 1 over its common denominator, where that is at most 2^30
+-- the numerators of a list that sums to 1 over its common denominator, where that is at most 2^40
 abbrev pub weights_over : List Fraction → Option Weights
-weights_over xs = if are_fine most_parts xs
+weights_over xs = if are_fine most_weights xs
     then Some (record {
       weights = map (numerator_over (common_denominator xs)) xs;
       total = common_denominator xs;

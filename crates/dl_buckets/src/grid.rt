@@ -19,7 +19,7 @@ pub struct ValueList {
 pub struct Shares {
     /// The probabilities in order, at least one, and at most as many as the bounds allow.
     pub values: Items<Frac>,
-    /// Their whole weights over the common denominator; none where that passes 2^30, or where they do
+    /// Their whole weights over the common denominator; none where that passes 2^40, or where they do
     /// not sum to 1.
     pub weights: Option<Weights>,
     /// The span of the list.

@@ -1,7 +1,7 @@
 //! Lists of probabilities with their whole weights.
 
 ghost use Rattle.std.specs.Prelude.{ℕ, ◌≡◌, ◌≤◌, ◌<◌, false, true, nat_le, replicate, IfOk, IfSome, MatchOption};
-ghost use Rattle.dl_limits.specs.Limits.{most_parts, most_values};
+ghost use Rattle.dl_limits.specs.Limits.{most_values, most_weights};
 ghost use Rattle.dl_limits.specs.Rules.{AreBounds};
 ghost use Rattle.dl_exact.specs.Fraction.{◌over◌};
 ghost use Rattle.dl_sev.specs.Weighed.{IsWeighing};
@@ -18,9 +18,9 @@ use crate::grid::{GridUnit, Shares};
 use crate::spans::span_if;
 use dl_frac::Frac;
 use dl_lexer::Span;
-use dl_limits::Bounds;
-use dl_plan::Items;
-use dl_sev::{WeighFault, Weights, common_within, weigh};
+use dl_limits::{Bounds, MOST_WEIGHTS};
+use dl_plan::{Items, common_denominator_of};
+use dl_sev::{WeighFault, Weights, weigh};
 use std::alloc::{AllocError, Global};
 
 /// The list of these probabilities at a place, with its weights. Its one flaw is that fine
@@ -37,7 +37,7 @@ pub(crate) fn shares(
         (shares_at values.items span)) }
     ensures values { IfOk result (λ made. made.part.values ≡ values.items) }
 {
-    match weigh(alloc, &values) {
+    match weigh(alloc, &values, MOST_WEIGHTS) {
         Ok(weights) => Ok(weighed(values, Some(weights), span, None)),
         Err(WeighFault::TooFine) => Ok(weighed(values, None, span, None)),
         Err(WeighFault::NotOne) => {
@@ -50,10 +50,9 @@ pub(crate) fn shares(
 
 /// Whether the common denominator of a list is at most `most`.
 fn is_fine(values: &[Frac], most: u64) -> bool
-    requires { most ≤ most_parts }
     ensures { result ≡ is_fine most values.now }
 {
-    common_within(values, most).is_some()
+    common_denominator_of(values, most).is_some()
 }
 
 /// A list with its weights, and the place where its sum is not 1.
@@ -82,7 +81,7 @@ fn weighed(
 }
 
 /// The whole weights of the probabilities of `count` values; none exactly where these have a common
-/// denominator above `most`, which is at most 2^30, or do not sum to 1.
+/// denominator above `most`, which is at most 2^40, or do not sum to 1.
 pub fn weights_among(
     alloc: Global,
     count: usize,
@@ -91,7 +90,7 @@ pub fn weights_among(
 ) -> Result<Option<Weights>, AllocError>
     requires some { 0 < count }
     requires few { count ≤ most_values }
-    requires parts { most ≤ most_parts }
+    requires parts { most ≤ most_weights }
     requires equal { most_values ≤ most }
     requires shares { IfSome probs.now IsShares }
     ensures { IfOk result (λ made. MatchOption made
@@ -117,14 +116,14 @@ fn equal_weights(alloc: Global, count: usize) -> Result<Weights, AllocError>
     let weights = vec![in alloc; 1; count]?;
     Ok(Weights {
         weights: Items::from_vec(weights),
-        total: count as u32,
+        total: count as u64,
     })
 }
 
 /// Whether the probabilities of some values have a common denominator of at most `most`, which is
-/// at most 2^30, and sum to 1.
+/// at most 2^40, and sum to 1.
 pub fn are_fine(probs: &Option<Shares>, most: u64) -> bool
-    requires parts { most ≤ most_parts }
+    requires parts { most ≤ most_weights }
     requires equal { most_values ≤ most }
     requires shares { IfSome probs.now IsShares }
     ensures { (count : ℕ) → 0 < count → count ≤ most_values
@@ -141,7 +140,7 @@ fn is_within(weights: &Option<Weights>, most: u64) -> bool
     ensures { MatchOption weights.now (result ≡ false) (λ made. result ≡ nat_le made.total most) }
 {
     match weights {
-        Some(weights) => weights.total as u64 <= most,
+        Some(weights) => weights.total <= most,
         None => false,
     }
 }

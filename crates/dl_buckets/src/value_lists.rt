@@ -165,10 +165,7 @@ fn push_spanned(
     ensures long { IfErr result (AreTooMany bounds (length values.old.items
         + length (range_values range))) }
 {
-    let part = expand(alloc, &[range])?;
-    if part.len() > bounds.values - values.len() {
-        return Err(ExpandFault::TooLong);
-    }
+    let part = expand(alloc, &[range], bounds.values - values.len())?;
     push_each(values, &part, span)?;
     Ok(())
 }

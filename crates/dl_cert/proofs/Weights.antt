@@ -94,8 +94,8 @@ trial_within num den w total within least =
 pub claim_within : (num den w total : ℕ) → num ≤ den → w ≤ total → num * w ≤ den * total
 claim_within num den w total within least = mul-le-mul within least
 
-pub parts_small : (den total : ℕ) → den < 2 ^ 48 → total ≤ 2 ^ 30 → den * total < 2 ^ 80
+pub parts_small : (den total : ℕ) → den < 2 ^ 48 → total ≤ 2 ^ 40 → den * total < 2 ^ 88
 parts_small den total small few =
-    let least : den ≤ 2 ^ 48 = omega (arith, small) in
-    let product : den * total ≤ 2 ^ 48 * 2 ^ 30 = mul-le-mul least few in
+    let least : den ≤ 2 ^ 48 - 1 = omega (arith, small) in
+    let product : den * total ≤ (2 ^ 48 - 1) * 2 ^ 40 = mul-le-mul least few in
     omega (arith, product)

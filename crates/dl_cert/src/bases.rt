@@ -24,7 +24,7 @@ use dl_plan::{Freq, Item, Sev, Unit};
 use std::alloc::{AllocError, Global};
 
 /// The weight of an amount.
-fn weight_of(items: &[Item], amount: usize) -> u32
+fn weight_of(items: &[Item], amount: usize) -> u64
     requires rising { IsStrictlyIncreasing (amounts_of items.now) }
     ensures { result ≡ weight_at items.now amount }
 {

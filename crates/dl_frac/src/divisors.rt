@@ -4,8 +4,8 @@ ghost use Rattle.std.specs.Prelude.{◌≡◌, ◌<◌, ◌≤◌};
 ghost use Rattle.std.specs.Option.{SomeIff};
 ghost use Rattle.dl_exact.specs.Prelude.{gcd, lcm};
 
-/// The greatest common divisor, by Euclid's steps.
-pub(crate) fn divisor(a: u64, b: u64) -> u64
+/// The greatest common divisor.
+pub fn divisor(a: u64, b: u64) -> u64
     ensures value { result ≡ gcd a b }
     ensures positive { 0 < b → 0 < result }
 {

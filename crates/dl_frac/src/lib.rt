@@ -15,7 +15,7 @@ mod numerals;
 mod reading;
 
 pub use arithmetic::{Frac, TooFine};
-pub use divisors::{lcm_to, small_divisor};
+pub use divisors::{divisor, lcm_to, small_divisor};
 pub use dl_bytes::is_numeral;
 pub use laws::{law_bad_numerals, law_fits, law_lcm, law_numeral_values};
 pub use numerals::{BadNumeral, numeral};

@@ -92,10 +92,15 @@ most_expected = 4096
 abbrev pub most_shape : ℕ
 most_shape = 10000
 
--- the common denominator of fractions that are used together: of the probabilities of a severity or
--- of listed counts, and of the shares of a clause
+-- the common denominator of the shares of a clause, and of what Poisson units that are pooled have
+-- of all claims and of their amounts
 abbrev pub most_parts : ℕ
 most_parts = 2 ^ 30
+
+-- the common denominator of the probabilities of a severity or of listed counts: what their whole
+-- weights sum to
+abbrev pub most_weights : ℕ
+most_weights = 2 ^ 40
 
 -- the units of a plan
 abbrev pub most_units : ℕ
@@ -120,6 +125,10 @@ most_atoms = 64
 -- the values of a list
 abbrev pub most_values : ℕ
 most_values = 1024
+
+-- the common denominator of probabilities, by the standard rules
+abbrev pub standard_weights : ℕ
+standard_weights = 2 ^ 30
 
 -- the common denominator of the ends and the step of a range of values
 abbrev pub most_range_parts : ℕ
@@ -241,10 +250,6 @@ most_ends = 2 ^ 70
 -- the products of two ends, added up over all cells of a grid, in units of the square of its scale
 abbrev pub most_products : ℕ
 most_products = 2 ^ 126
-
--- the ends of 2^32 grids at one cell, each times a weight of 32 bits, added up
-abbrev pub most_weighted_ends : ℕ
-most_weighted_ends = 2 ^ 120
 
 -- the high end of an interval, in units of its scale
 abbrev pub most_high : ℕ

@@ -58,6 +58,9 @@ pub const MOST_ATOMS: usize = 64;
 /// The most values of a list.
 pub const MOST_VALUES: usize = 1_024;
 
+/// The greatest common denominator of probabilities, by the standard rules.
+pub const STANDARD_WEIGHTS: u64 = 1 << 30;
+
 /// The greatest common denominator of the ends and the step of a range of values.
 pub const MOST_RANGE_PARTS: u64 = 1_000_000;
 
@@ -97,8 +100,12 @@ pub const ADMITTED_BOUND: u64 = 1 << 48;
 /// The parts of a fraction that the program holds are below this.
 pub const FRAC_BOUND: u128 = 1 << 62;
 
-/// The greatest common denominator of fractions that are used together.
+/// The greatest common denominator of the shares of a clause, and of what Poisson units that are
+/// pooled have of all claims and of their amounts.
 pub const MOST_PARTS: u64 = 1 << 30;
+
+/// The greatest common denominator of the probabilities of a severity or of listed counts.
+pub const MOST_WEIGHTS: u64 = 1 << 40;
 
 /// The budget of a sum of units is below this, in units of the scale.
 pub const BUDGET_BOUND: u128 = 1 << 45;

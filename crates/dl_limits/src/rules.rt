@@ -3,7 +3,7 @@
 ghost use Rattle.std.specs.Prelude.{◌≡◌};
 ghost use Rattle.dl_limits.specs.Rules.{bounds_of};
 
-use crate::{MOST_PARTS, MOST_VALUES, STANDARD_UNITS};
+use crate::{MOST_VALUES, STANDARD_UNITS, STANDARD_WEIGHTS};
 
 /// The rules that a program is typed by.
 #[derive(Clone, Copy, Debug, PartialEq, Eq)]
@@ -35,7 +35,7 @@ pub fn bounds_of(rules: Rules) -> Bounds
         Rules::Standard | Rules::Extended => Bounds {
             units: STANDARD_UNITS,
             values: MOST_VALUES,
-            parts: MOST_PARTS,
+            parts: STANDARD_WEIGHTS,
         },
     }
 }

@@ -3,7 +3,7 @@ use Rattle.dl_panjer.proofs.Common.{ℕ, ◌≡◌, ◌+◌, ◌-◌, ◌*◌, �
 use Rattle.std.specs.List.Sorted.{IsStrictlyIncreasing, IsNonDecreasingBy}
 use Rattle.std.proofs.lemmas.List.Sorted.{IsNonDecreasingBy-from_all_adjacent}
 use Rattle.std.proofs.Math.Nat.{mul-le-mul}
-use Rattle.dl_limits.specs.Limits.{most_parts}
+use Rattle.dl_limits.specs.Limits.{most_weights}
 use Rattle.dl_panjer.specs.Cells.{AreFirstCells}
 use Rattle.dl_panjer.proofs.ItemSums.{items_fit}
 
@@ -55,10 +55,10 @@ more b ends next items i d factor end part total at counts is made before = omeg
 
 -- what the first items add up to
 few_fit : (b : Bool) (ends : ℕ → ℕ) (next S : ℕ) (items : List Item) (i : ℕ) → 1 ≤ next → next * S ≤ 2 ^ 70
-    → ((k : ℕ) → ends k ≤ S) → All (λ item. item.amount ≤ next) items → weight_sum items ≤ most_parts
+    → ((k : ℕ) → ends k ≤ S) → All (λ item. item.amount ≤ next) items → weight_sum items ≤ most_weights
     → sum_by (given b ends next) (take i items) < 2 ^ 128
 few_fit b ends next S items i some many bound near within =
-    let top : next * S * weight_sum items ≤ 2 ^ 70 * 2 ^ 30 = mul-le-mul many within in
+    let top : next * S * weight_sum items ≤ 2 ^ 70 * 2 ^ 40 = mul-le-mul many within in
     omega (arith, sum_by-take-le (given b ends next) items i, items_fit b next S ends items some bound near, top)
 
 -- item i, and the cell that it leaves
@@ -87,7 +87,7 @@ module _ (b : Bool) {B : ℕ} (cells : List (Iv B)) (items : List Item) (first :
   high_more = more b (high_at cells) (length cells) items i d factor cell.hi _ _ at counts
       (high_at_read cells _ cell there is)
 
-  module _ (near : All (λ item. item.amount ≤ length cells) items) (within : weight_sum items ≤ most_parts) where
+  module _ (near : All (λ item. item.amount ≤ length cells) items) (within : weight_sum items ≤ most_weights) where
     pub low_fits : {part total : ℕ} → part ≡ factor * cell.lo
         → total ≡ sum_by (given b (low_at cells) (length cells)) (take i items) → total + part < 2 ^ 128
     low_fits made before = rw (low_more made before) (few_fit b (low_at cells) (length cells) (2 ^ B) items (i + 1)

@@ -22,7 +22,7 @@ use std::alloc::{AllocError, Global};
 /// a Poisson count, the first with `beta / (1 + beta)` for a geometric one of mean `beta`.
 pub fn next_cell<const B: u32, const BY_AMOUNT: bool>(
     items: &[Item],
-    total: u32,
+    total: u64,
     rate: Frac,
     cells: &[Iv<B>],
 ) -> Iv<B>
@@ -75,7 +75,7 @@ fn divisor<const BY_AMOUNT: bool>(den: u64, number: usize) -> u128
 pub(crate) fn follow<const B: u32, const BY_AMOUNT: bool>(
     alloc: Global,
     items: &[Item],
-    total: u32,
+    total: u64,
     rate: Frac,
     start: Iv<B>,
     cells: u32,

@@ -2,7 +2,7 @@
 
 ghost use Rattle.std.specs.Prelude.{◌≡◌, ℕ, suc, ◌+◌, ◌-◌, ◌*◌, ◌^◌, ◌<◌, ◌≤◌, length, sum_by, All, slice_index_or};
 ghost use Rattle.std.specs.List.Sorted.{IsStrictlyIncreasing};
-ghost use Rattle.dl_limits.specs.Limits.{most_parts, most_cell_end};
+ghost use Rattle.dl_limits.specs.Limits.{most_cells, most_weights, most_cell_end};
 ghost use Rattle.dl_grid.specs.Prelude.{low_at, high_at};
 ghost use Rattle.dl_plan.specs.Weighted.{amounts_of, weight_sum, weight_at};
 ghost use Rattle.dl_panjer.specs.Cells.{AreFirstCells, counted, coefficient, given, next_sum};
@@ -24,12 +24,14 @@ pub fn count_at_most(items: &[Item], most: usize) -> usize
 
 /// What an item counts for: its amount times its weight, or its weight alone.
 fn factor<const BY_AMOUNT: bool>(item: &Item) -> u64
+    requires near { item.now.amount ≤ most_cells }
+    requires within { item.now.weight ≤ most_weights }
     ensures { result ≡ counted BY_AMOUNT item.now.amount item.now.weight }
 {
     if BY_AMOUNT {
-        u64::from(item.amount) * u64::from(item.weight)
+        u64::from(item.amount) * item.weight
     } else {
-        u64::from(item.weight)
+        item.weight
     }
 }
 
@@ -47,7 +49,7 @@ fn sums_over<const B: u32, const BY_AMOUNT: bool>(items: &[Item], cells: &[Iv<B>
     requires cells { AreFirstCells cells.now }
     requires no_zero { All (λ item. 0 < item.amount) items.now }
     requires near { All (λ item. item.amount ≤ length cells.now) items.now }
-    requires within { weight_sum items.now ≤ most_parts }
+    requires within { weight_sum items.now ≤ most_weights }
     ensures low { result.0 ≡ sum_by (given BY_AMOUNT (low_at cells.now) (length cells.now))
         items.now }
     ensures high { result.1 ≡ sum_by (given BY_AMOUNT (high_at cells.now) (length cells.now))
@@ -73,7 +75,7 @@ pub(crate) fn sums_before<const B: u32, const BY_AMOUNT: bool>(
     requires cells { AreFirstCells cells.now }
     requires rising { IsStrictlyIncreasing (amounts_of items.now) }
     requires no_zero { All (λ item. 0 < item.amount) items.now }
-    requires within { weight_sum items.now ≤ most_parts }
+    requires within { weight_sum items.now ≤ most_weights }
     ensures low { result.0 ≡ next_sum (coefficient BY_AMOUNT items.now) (low_at cells.now)
         (length cells.now - 1) }
     ensures high { result.1 ≡ next_sum (coefficient BY_AMOUNT items.now) (high_at cells.now)

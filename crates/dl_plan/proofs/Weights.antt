@@ -128,7 +128,7 @@ module _ (xs : List Item) (some : 0 < length xs) (positive : All (λ (i : Item).
   lowest = grind (arith, common-times g 0 ys g_pos, nought_times g, one_times g, back, cancel, g_pos)
 
   -- the greatest common divisor taken out
-  pub divided_is : IsStrictlyIncreasing (amounts_of xs) → weight_sum xs ≤ 2 ^ 30 → IsWeighted ys (weight_sum xs / g)
+  pub divided_is : IsStrictlyIncreasing (amounts_of xs) → weight_sum xs ≤ 2 ^ 40 → IsWeighted ys (weight_sum xs / g)
   divided_is rising within = record {
     some = rw (length-map xs (divided_by g)) some;
     rising = subst IsStrictlyIncreasing (sym (map-map (λ (i : Item). i.amount) (divided_by g) xs)) rising;
@@ -151,7 +151,7 @@ module _ (xs : List Item) (some : 0 < length xs) (positive : All (λ (i : Item).
 
   -- the same of items and a total that were computed
   pub made_weighted : {items : List Item} {common sum : ℕ} → items ≡ map (divided_by common) xs → common ≡ g
-      → sum ≡ weight_sum xs → IsStrictlyIncreasing (amounts_of xs) → weight_sum xs ≤ 2 ^ 30
+      → sum ≡ weight_sum xs → IsStrictlyIncreasing (amounts_of xs) → weight_sum xs ≤ 2 ^ 40
       → IsWeighted items (sum / common)
   made_weighted made by all rising within = rw (made, by, all) (divided_is rising within)
 

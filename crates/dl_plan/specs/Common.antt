@@ -5,7 +5,7 @@ use Rattle.dl_exact.specs.Prelude.{Fraction, whole, ◌over◌, ◌*ℚ◌, ◌/
 use Rattle.dl_plan.specs.declared.plan.Freq.{Freq}
 use Rattle.dl_plan.specs.declared.plan.Freq.TheVariants.{Poisson, Gamma}
 use Rattle.dl_plan.specs.declared.plan.Unit.{Unit as UnitOfPlan}
-use Rattle.dl_plan.specs.Fine.{IsFineTo30Bits, HasPartsOf48Bits}
+use Rattle.dl_plan.specs.Fine.{IsFineTo40Bits, HasPartsOf48Bits}
 use Rattle.dl_plan.specs.Count.{expected_count}
 use Rattle.dl_plan.specs.Means.{thinned_mean}
 
@@ -65,7 +65,7 @@ shared_probabilities v u =
 -- the claims of all have a mean above 0; the expected counts and the thinned means of the first k
 -- units add up to admitted sums; the sums of all are admitted for the shape r + 1 too, and then the
 -- thinned one is at most 4,096; and the shares of the units, and these times the probabilities of
--- amounts, are fine to 30 bits.
+-- amounts, are fine to 40 bits.
 pub record HasCommonFactor (r : ℕ) (units : List UnitOfPlan) : Type 0 where
   pub some_shape : 1 ≤ r
   pub few_shape : suc r ≤ most_shape
@@ -78,5 +78,5 @@ pub record HasCommonFactor (r : ℕ) (units : List UnitOfPlan) : Type 0 where
   pub raised_expected : HasPartsOf48Bits (raised r (expected_of units))
   pub raised_thinned : HasPartsOf48Bits (raised r (thinned_of units))
   pub few : raised r (thinned_of units) ≤ℚ whole most_expected
-  pub shares : IsFineTo30Bits (map (unit_share (expected_of units)) units)
-  pub products : IsFineTo30Bits (flat_map (shared_probabilities (expected_of units)) units)
+  pub shares : IsFineTo40Bits (map (unit_share (expected_of units)) units)
+  pub products : IsFineTo40Bits (flat_map (shared_probabilities (expected_of units)) units)

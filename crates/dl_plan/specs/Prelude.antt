@@ -4,7 +4,7 @@ pub use Rattle.dl_plan.specs.Clause.{Clause, IsBelowTop, IsClause, ceded, kept, 
 pub use Rattle.dl_plan.specs.Common.{CanRaise, CanShare, HasCommonFactor, IsGamma, IsPoisson, can_share, expected_of, is_poisson, raised, shared_probabilities, thinned_of, unit_share}
 pub use Rattle.dl_plan.specs.Count.{IsClaimCount, IsExposed, IsProbability, IsUnbounded, expected_count}
 pub use Rattle.dl_plan.specs.Facts.{facts_of}
-pub use Rattle.dl_plan.specs.Fine.{HasPartsOf48Bits, IsFineTo30Bits, IsWhole, common_denominator, numerator_over}
+pub use Rattle.dl_plan.specs.Fine.{HasPartsOf48Bits, IsFineTo30Bits, IsFineTo40Bits, IsWhole, common_denominator, numerator_over}
 pub use Rattle.dl_plan.specs.Forms.{IsOfCert, IsOfPlan}
 pub use Rattle.dl_plan.specs.Horizon.{HorizonPasses, IsHorizon, IsHorizonOf, edge, edge_of}
 unfoldable pub use Rattle.dl_plan.specs.Horizon.{horizon}

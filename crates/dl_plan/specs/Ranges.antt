@@ -1,5 +1,5 @@
 -- The ranges of the settings, as the command line gives them.
-use Rattle.std.specs.Prelude.{⊤, ◌^◌, ◌<◌, ◌≤◌, length, All}
+use Rattle.std.specs.Prelude.{⊤, ◌<◌, ◌≤◌, length, All}
 use Rattle.dl_limits.specs.Limits.{most_asks, most_digits, most_log2, numeral_bound, most_level_den, most_share_den}
 use Rattle.dl_exact.specs.Fraction.{Fraction, whole, ◌<ℚ◌}
 use Rattle.dl_plan.specs.declared.settings.Ask.{Ask}

@@ -1,7 +1,7 @@
 -- Amounts in buckets, or numbers of claims, with whole weights.
 use Rattle.std.specs.Prelude.{ℕ, ◌≡◌, ◌*◌, ◌/◌, ◌<◌, ◌≤◌, ◌==◌, if◌then◌else◌, List, length, map, fold, sum_by, All, [], ◌∷◌, max}
 use Rattle.std.specs.List.Sorted.{IsStrictlyIncreasing}
-use Rattle.dl_limits.specs.Limits.{most_parts}
+use Rattle.dl_limits.specs.Limits.{most_weights}
 use Rattle.dl_exact.specs.Gcd.{gcd}
 use Rattle.dl_plan.specs.declared.item.Item.{Item}
 
@@ -33,14 +33,14 @@ divided_by d item = record { amount = item.amount; weight = item.weight / d }
 abbrev pub common_amount : List Item → ℕ
 common_amount items = fold (λ d item. gcd d item.amount) 0 items
 
--- at least one item, amounts rising, and weights above 0 that sum to the total, at most 2^30, and
+-- at least one item, amounts rising, and weights above 0 that sum to the total, at most 2^40, and
 -- have no common divisor above 1
 pub record IsWeighted (items : List Item) (total : ℕ) : Type 0 where
   pub some : 0 < length items
   pub rising : IsStrictlyIncreasing (amounts_of items)
   pub positive : All (λ item. 0 < item.weight) items
   pub sum : weight_sum items ≡ total
-  pub within : total ≤ most_parts
+  pub within : total ≤ most_weights
   pub lowest : common_weight items ≡ 1
 
 -- the greatest amount, 0 of none

@@ -12,7 +12,7 @@ ghost use Rattle.dl_plan.specs.Parts.{layer_parts, kept_parts, parts_in_bucket};
 use crate::fine::{common_denominator_of, numerator_over};
 use crate::layers::{are_apart, shares_within};
 use dl_frac::Frac;
-use dl_limits::MOST_LAYERS;
+use dl_limits::{MOST_LAYERS, MOST_PARTS};
 use smallvec::SmallVec;
 use std::alloc::{AllocError, Global};
 use std::marker::Model;
@@ -104,7 +104,7 @@ pub struct Cede {
     net: bool,
     layers: SmallVec<CedeLayer, 4>,
     /// The common denominator of the shares; none where it passes 2^30.
-    common: Option<u32>,
+    common: Option<u64>,
 }
 
 impl Model for Cede {
@@ -132,7 +132,7 @@ impl Cede {
         Ok(Cede {
             net,
             layers,
-            common: common_denominator_of(&shares),
+            common: common_denominator_of(&shares, MOST_PARTS),
         })
     }
 
@@ -206,7 +206,7 @@ impl Cede {
 
     /// How many parts make a bucket: the common denominator of the shares.
     #[tactic(auto, using(crate::proofs::Clauses::bucket_pos))]
-    fn common(&self) -> u32
+    fn common(&self) -> u64
         requires { IsClause self.now }
         ensures value { result ≡ parts_in_bucket self.now }
         ensures positive { 0 < result }
@@ -259,7 +259,7 @@ fn shares_of(alloc: Global, layers: &[CedeLayer]) -> Result<Vec<Frac>, AllocErro
 
 /// What is ceded of `x`, in parts of which `common` make a bucket.
 #[tactic(auto, using(std::proofs::lemmas::List::Sums::sum_by_more, crate::proofs::Clauses::scaled_le, crate::proofs::Clauses::layer_le))]
-fn ceded_parts(layers: &[CedeLayer], common: u32, x: u64) -> u128
+fn ceded_parts(layers: &[CedeLayer], common: u64, x: u64) -> u128
     requires few { length layers.now ≤ most_layers }
     requires within { All (λ l. l.share ≤ℚ whole 1) layers.now }
     requires fine { common ≤ most_parts }
@@ -269,7 +269,7 @@ fn ceded_parts(layers: &[CedeLayer], common: u32, x: u64) -> u128
 {
     let mut parts = 0;
     'layers: for layer in layers {
-        parts += numerator_over(layer.share, common as u64) * layer.taken(x) as u128;
+        parts += numerator_over(layer.share, common) * layer.taken(x) as u128;
     }
     parts
 }

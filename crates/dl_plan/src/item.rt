@@ -6,5 +6,5 @@ pub struct Item {
     /// The amount in buckets, or the number of claims.
     pub amount: u32,
     /// Its weight: its probability times the total of its list.
-    pub weight: u32,
+    pub weight: u64,
 }

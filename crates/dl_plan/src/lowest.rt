@@ -2,7 +2,7 @@
 
 ghost use Rattle.std.specs.Prelude.{◌≡◌, ◌/◌, ◌<◌, ◌≤◌, ◌^◌, ℕ, nat_lt, List, [], ◌∷◌, filter, length, map, All, IfOk, MatchOption};
 ghost use Rattle.std.specs.List.Sorted.{IsStrictlyIncreasing};
-ghost use Rattle.dl_limits.specs.Limits.{most_parts};
+ghost use Rattle.dl_limits.specs.Limits.{most_weights};
 ghost use Rattle.dl_exact.specs.Fraction.{◌over◌};
 ghost use Rattle.dl_plan.specs.Weighted.{amounts_of, weight_sum, weight_at, common_weight, divided_by};
 ghost use Rattle.dl_plan.specs.Severity.{probability_of, pairs_of, conditioned, HasDistribution};
@@ -11,7 +11,7 @@ use crate::item::Item;
 use crate::severity::Sev;
 use crate::totals::total_weight;
 use dl_bytes::Items;
-use dl_frac::small_divisor;
+use dl_frac::divisor;
 use std::alloc::{AllocError, Global};
 
 impl Sev {
@@ -22,7 +22,7 @@ impl Sev {
         requires some { 0 < length items.items }
         requires rising { IsStrictlyIncreasing (amounts_of items.items) }
         requires positive { All (λ item. 0 < item.weight) items.items }
-        requires within { weight_sum items.items ≤ most_parts }
+        requires within { weight_sum items.items ≤ most_weights }
         ensures { (x : ℕ) → probability_of result x
             ≡ weight_at items.items x over weight_sum items.items }
     {
@@ -87,18 +87,18 @@ fn items_above(alloc: Global, items: &[Item], attach: u32) -> Result<Vec<Item>, 
 }
 
 /// The greatest common divisor of the weights.
-fn divisor_of_weights(items: &[Item]) -> u32
+fn divisor_of_weights(items: &[Item]) -> u64
     ensures { result ≡ common_weight items.now }
 {
     let mut common = 0;
     'items: for item in items {
-        common = small_divisor(common, item.weight);
+        common = divisor(common, item.weight);
     }
     common
 }
 
 /// Each weight divided by a number.
-fn divided(mut items: Vec<Item>, common: u32) -> Vec<Item>
+fn divided(mut items: Vec<Item>, common: u64) -> Vec<Item>
     requires { 0 < common }
     ensures { result.items ≡ map (divided_by common) items.items }
 {

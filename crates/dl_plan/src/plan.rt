@@ -16,7 +16,7 @@ pub enum Freq {
         /// The numbers of claims.
         counts: Items<Item>,
         /// The sum of their weights.
-        total: u32,
+        total: u64,
     },
     /// One claim with this probability, else none.
     Bernoulli(Frac),

@@ -11,7 +11,7 @@ use dl_bytes::Items;
 pub struct Sev {
     /// The amounts, rising, each of positive weight.
     pub items: Items<Item>,
-    /// The sum of the weights, at most 2^30. The weights have no common divisor above 1.
-    pub total: u32,
+    /// The sum of the weights, at most 2^40. The weights have no common divisor above 1.
+    pub total: u64,
     pub ghost weighted: { IsWeighted items total },
 }

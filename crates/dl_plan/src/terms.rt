@@ -12,7 +12,7 @@ use std::alloc::{AllocError, Global};
 pub const MOST_TERMS: usize = 8;
 
 /// The greatest common denominator that the weights of a price may have.
-const MOST_WEIGHT_PARTS: u32 = 1_000_000;
+const MOST_WEIGHT_PARTS: u64 = 1_000_000;
 
 /// The weights of the terms, in order.
 fn weights_of(alloc: Global, terms: &[Term]) -> Result<Vec<Frac>, AllocError>
@@ -35,8 +35,8 @@ pub fn are_priced(alloc: Global, terms: &[Term]) -> Result<bool, AllocError>
         return Ok(false);
     }
     let weights = weights_of(alloc, terms)?;
-    match common_denominator_of(weights.as_slice()) {
-        Some(common) if common <= MOST_WEIGHT_PARTS => Ok(sum_to_one(weights.as_slice(), common)),
-        _ => Ok(false),
+    match common_denominator_of(weights.as_slice(), MOST_WEIGHT_PARTS) {
+        Some(common) => Ok(sum_to_one(weights.as_slice(), common)),
+        None => Ok(false),
     }
 }

@@ -129,7 +129,7 @@ impl Unit {
 
 /// The weight of amount 0 in a list of rising amounts.
 #[tactic(auto, using(crate::proofs::Means::zero_yes, crate::proofs::Means::zero_no))]
-fn weight_of_zero(items: &[Item]) -> u32
+fn weight_of_zero(items: &[Item]) -> u64
     requires some { 0 < length items.now }
     requires rising { IsStrictlyIncreasing (amounts_of items.now) }
     ensures { result ≡ weight_at items.now 0 }

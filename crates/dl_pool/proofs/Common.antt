@@ -29,7 +29,7 @@ pub use Rattle.dl_plan.proofs.Means.{admitted_fits, severity_total, weight_at-le
 pub use Rattle.dl_plan.proofs.Shared.{has_factor, shares_true, true_shares}
 pub use Rattle.dl_plan.specs.Common.{IsPoisson, can_share, expected_of, raised, shared_probabilities, thinned_of, unit_share}
 pub use Rattle.dl_plan.specs.Count.{IsClaimCount, IsUnbounded, expected_count}
-pub use Rattle.dl_plan.specs.Fine.{HasPartsOf48Bits, IsFineTo30Bits, common_denominator}
+pub use Rattle.dl_plan.specs.Fine.{HasPartsOf48Bits, IsFineTo30Bits, IsFineTo40Bits, common_denominator}
 pub use Rattle.dl_plan.specs.Means.{thinned_mean}
 pub use Rattle.dl_plan.specs.Severity.{Pairs, pairs_of, probability, probability_of, shares}
 pub use Rattle.dl_plan.specs.Shared.{SharesFactor}

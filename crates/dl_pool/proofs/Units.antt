@@ -1,5 +1,5 @@
 -- The expected numbers of claims of units, one unit after another, and the part of all claims that each has.
-use Rattle.dl_pool.proofs.Common.{ℕ, ◌≡◌, ◌∙◌, refl, ◌+◌, ◌<◌, ◌≤◌, List, [], ◌∷◌, ◌++◌, length, map, take, get_or, ap, ap₂, sym, subst, arith, take_more, map_more, Fraction, whole, ◌+ℚ◌, ◌*ℚ◌, ◌/ℚ◌, ◌≤ℚ◌, ◌<ℚ◌, sum_over, le_trans, zero, suc, plus_zero, plus_comm, div_times, times_cancel, one_times, times_comm, sum_over_append, sum_over_same, sum_over_times, sum_over_map, FitsFrac, UnitOfPlan, Bor, Freq, Poisson, Sev, Bool, true, false, cond, Option, None, Some, inl, inr, arith, ◌*◌, lent, can_share, true_shares, shares_true, IsPoisson, IsClaimCount, All, pairs_of, shares, map-append, over_self, over_le, le_over, one_pos, IsFineTo30Bits, common_denominator, expected_count, expected_of, unit_share, le_plus, times_le_cancel, length-map, get_or-map, sum_of, count_weights, HasPartsOf48Bits}
+use Rattle.dl_pool.proofs.Common.{ℕ, ◌≡◌, ◌∙◌, refl, ◌+◌, ◌<◌, ◌≤◌, List, [], ◌∷◌, ◌++◌, length, map, take, get_or, ap, ap₂, sym, subst, arith, take_more, map_more, Fraction, whole, ◌+ℚ◌, ◌*ℚ◌, ◌/ℚ◌, ◌≤ℚ◌, ◌<ℚ◌, sum_over, le_trans, zero, suc, plus_zero, plus_comm, div_times, times_cancel, one_times, times_comm, sum_over_append, sum_over_same, sum_over_times, sum_over_map, FitsFrac, UnitOfPlan, Bor, Freq, Poisson, Sev, Bool, true, false, cond, Option, None, Some, inl, inr, arith, ◌*◌, lent, can_share, true_shares, shares_true, IsPoisson, IsClaimCount, All, pairs_of, shares, map-append, over_self, over_le, le_over, one_pos, IsFineTo40Bits, common_denominator, expected_count, expected_of, unit_share, le_plus, times_le_cancel, length-map, get_or-map, sum_of, count_weights, HasPartsOf48Bits}
 use Rattle.std.proofs.Common.{Result, Ok, Err, filter, IsSome}
 use Rattle.std.proofs.lemmas.List.Elements.{All-head, All-tail, All-cons, All-nil}
 use Rattle.dl_plan.specs.Common.{CanShare}
@@ -36,7 +36,7 @@ share_le_one v n some within = times_le_cancel (n /ℚ v) (whole 1) v some
 
 -- a fine fraction of at most 1 fits
 pub fine_fits : (xs : List Fraction) (i : ℕ) (x : Fraction) → i < length xs → get_or xs i x ≡ x
-    → IsFineTo30Bits xs → x ≤ℚ whole 1 → FitsFrac x
+    → IsFineTo40Bits xs → x ≤ℚ whole 1 → FitsFrac x
 fine_fits xs i x h is fine one =
     let den : x.den ≤ common_denominator xs =
     subst (λ (y : Fraction). y.den ≤ common_denominator xs) is
@@ -44,7 +44,7 @@ fine_fits xs i x h is fine one =
     record { num = omega (arith, num_le_den x one); den = omega arith }
 
 pub share_fits : (units : List UnitOfPlan) (v : Fraction) (i : ℕ) (u : UnitOfPlan) → i < length units
-    → u ≡ get_or units i u → v ≡ expected_of units → whole 0 <ℚ v → IsFineTo30Bits (map (unit_share v) units)
+    → u ≡ get_or units i u → v ≡ expected_of units → whole 0 <ℚ v → IsFineTo40Bits (map (unit_share v) units)
     → FitsFrac (expected_count u.freq /ℚ v)
 share_fits units v i u h is all some fine =
     fine_fits (map (unit_share v) units) i (unit_share v u) (subst (λ n. i < n) (sym (length-map units (unit_share v))) h)

@@ -1,9 +1,9 @@
 //! The one unit in the place of all units under a common factor, and of independent Poisson units.
 
 ghost use Rattle.std.specs.Prelude.{ℕ, ◌≡◌, ◌≤◌, length, map, flat_map, All, IsTrue, IsSome, IfOk, IfSome};
-ghost use Rattle.dl_limits.specs.Limits.{most_expected};
+ghost use Rattle.dl_limits.specs.Limits.{most_expected, most_weights};
 ghost use Rattle.dl_exact.specs.Fraction.{whole, ◌-ℚ◌, ◌*ℚ◌, ◌≤ℚ◌, ◌<ℚ◌};
-ghost use Rattle.dl_plan.specs.Prelude.{IsFineTo30Bits, HasPartsOf48Bits, pairs_of, probability_of, expected_count, IsValid, IsValidUnit, CanShare, expected_of, unit_share, shared_probabilities, SharesFactor};
+ghost use Rattle.dl_plan.specs.Prelude.{common_denominator, HasPartsOf48Bits, pairs_of, probability_of, expected_count, IsValid, IsValidUnit, CanShare, expected_of, unit_share, shared_probabilities, SharesFactor};
 ghost use Rattle.dl_sev.specs.Prelude.{IsWeighing, sum_of};
 ghost use Rattle.dl_model.specs.Prelude.{Quantity, declared, pooled_severity, CountsTotal, IsPoissonSum, poisson_units};
 ghost use Rattle.dl_pool.specs.Pooled.{HavePoissonSum, IsPooled, alone, lent};
@@ -12,7 +12,7 @@ use crate::copies::severities;
 use crate::shares::{expected, shares, sharing};
 use dl_bytes::Text;
 use dl_frac::Frac;
-use dl_limits::{ADMITTED_BOUND, MOST_EXPECTED, MOST_PARTS};
+use dl_limits::{ADMITTED_BOUND, MOST_EXPECTED, MOST_PARTS, MOST_WEIGHTS};
 use dl_plan::{Freq, Plan, Sev, Unit};
 use dl_sev::{MixFault, WeighFault, Weights, mix, weigh};
 use std::alloc::{AllocError, Global};
@@ -37,7 +37,7 @@ pub fn pool(alloc: Global, plan: &Plan) -> Result<Unit, AllocError>
     let shared = sharing(alloc, units)?;
     let all = shared.as_slice();
     let mean = expected(all).unwrap();
-    let Some(sev) = mixed_severity(alloc, all, mean)? else {
+    let Some(sev) = mixed_severity(alloc, all, mean, MOST_WEIGHTS)? else {
         unreachable!()
     };
     let name = Text::copy(alloc, units[0].name.as_slice())?;
@@ -69,7 +69,7 @@ pub fn pool_poisson(alloc: Global, units: &[&Unit]) -> Result<Option<Unit>, Allo
     if mean.num() == 0 {
         return Ok(None);
     }
-    let Some(sev) = mixed_severity(alloc, units, mean)? else {
+    let Some(sev) = mixed_severity(alloc, units, mean, MOST_PARTS)? else {
         return Ok(None);
     };
     if !are_admitted(mean, &sev) {
@@ -117,8 +117,14 @@ fn has_small_parts(x: Frac) -> bool
 
 /// The severities of the units, mixed by their parts of the expected number `all` of claims. None
 /// where a part, or a part times a probability, is too fine: where their common denominator passes
-/// 2^30.
-fn mixed_severity(alloc: Global, units: &[&Unit], all: Frac) -> Result<Option<Sev>, AllocError>
+/// `most`.
+fn mixed_severity(
+    alloc: Global,
+    units: &[&Unit],
+    all: Frac,
+    most: u64,
+) -> Result<Option<Sev>, AllocError>
+    requires most { most ≤ most_weights }
     requires poisson { All CanShare (lent units.now) }
     requires each { All (λ u. HasPartsOf48Bits (expected_count u.freq)) (lent units.now) }
     requires all { all ≡ expected_of (lent units.now) }
@@ -126,14 +132,15 @@ fn mixed_severity(alloc: Global, units: &[&Unit], all: Frac) -> Result<Option<Se
     ensures value { IfOk result (λ made. IfSome made (λ sev. (x : ℕ)
         → probability_of sev x ≡ pooled_severity (poisson_units (lent units.now)) x)) }
     ensures there { IfOk result (λ made.
-        IsFineTo30Bits (map (unit_share all) (lent units.now))
-        → IsFineTo30Bits (flat_map (shared_probabilities all) (lent units.now)) → IsSome made) }
+        common_denominator (map (unit_share all) (lent units.now)) ≤ most
+        → common_denominator (flat_map (shared_probabilities all) (lent units.now)) ≤ most
+        → IsSome made) }
 {
-    let Some(weights) = unit_weights(alloc, units, all)? else {
+    let Some(weights) = unit_weights(alloc, units, all, most)? else {
         return Ok(None);
     };
     let sevs = severities(alloc, units)?;
-    match mix(alloc, &sevs, &weights, MOST_PARTS) {
+    match mix(alloc, &sevs, &weights, most) {
         Ok(sev) => Ok(Some(sev)),
         Err(MixFault::OutOfMemory) => Err(AllocError),
         Err(MixFault::TooFine) => Ok(None),
@@ -141,8 +148,14 @@ fn mixed_severity(alloc: Global, units: &[&Unit], all: Frac) -> Result<Option<Se
 }
 
 /// The whole weights of the units' parts of the expected number `all` of claims; none where these
-/// are too fine.
-fn unit_weights(alloc: Global, units: &[&Unit], all: Frac) -> Result<Option<Weights>, AllocError>
+/// have a common denominator above `most`.
+fn unit_weights(
+    alloc: Global,
+    units: &[&Unit],
+    all: Frac,
+    most: u64,
+) -> Result<Option<Weights>, AllocError>
+    requires most { most ≤ most_weights }
     requires poisson { All CanShare (lent units.now) }
     requires each { All (λ u. HasPartsOf48Bits (expected_count u.freq)) (lent units.now) }
     requires all { all ≡ expected_of (lent units.now) }
@@ -150,21 +163,24 @@ fn unit_weights(alloc: Global, units: &[&Unit], all: Frac) -> Result<Option<Weig
     ensures value { IfOk result (λ made.
         IfSome made (IsWeighing (map (unit_share all) (lent units.now)))) }
     ensures there { IfOk result (λ made.
-        IsFineTo30Bits (map (unit_share all) (lent units.now)) → IsSome made) }
+        common_denominator (map (unit_share all) (lent units.now)) ≤ most → IsSome made) }
 {
     let Some(parts) = shares(alloc, units, all)? else {
         return Ok(None);
     };
-    weights_of(alloc, &parts)
+    weights_of(alloc, &parts, most)
 }
 
-/// The whole weights of probabilities that sum to 1; none where they are too fine.
-fn weights_of(alloc: Global, probs: &[Frac]) -> Result<Option<Weights>, AllocError>
+/// The whole weights of probabilities that sum to 1; none where their common denominator passes
+/// `most`.
+fn weights_of(alloc: Global, probs: &[Frac], most: u64) -> Result<Option<Weights>, AllocError>
+    requires most { most ≤ most_weights }
     requires one { sum_of probs.now ≡ whole 1 }
     ensures value { IfOk result (λ made. IfSome made (IsWeighing probs.now)) }
-    ensures there { IfOk result (λ made. IsFineTo30Bits probs.now → IsSome made) }
+    ensures there { IfOk result (λ made.
+        common_denominator probs.now ≤ most → IsSome made) }
 {
-    match weigh(alloc, probs) {
+    match weigh(alloc, probs, most) {
         Ok(weights) => Ok(Some(weights)),
         Err(WeighFault::OutOfMemory) => Err(AllocError),
         Err(WeighFault::TooFine) => Ok(None),

@@ -2,7 +2,7 @@
 
 ghost use Rattle.std.specs.Prelude.{ℕ, ◌≡◌, ◌≤◌, map, take, filter, length, All, IsSome, IfOk, IfSome};
 ghost use Rattle.dl_exact.specs.Fraction.{whole, ◌<ℚ◌};
-ghost use Rattle.dl_plan.specs.Prelude.{IsFineTo30Bits, HasPartsOf48Bits, CanShare, can_share, expected_of, unit_share, expected_count};
+ghost use Rattle.dl_plan.specs.Prelude.{IsFineTo40Bits, HasPartsOf48Bits, CanShare, can_share, expected_of, unit_share, expected_count};
 ghost use Rattle.dl_pool.specs.Pooled.{lent};
 
 use dl_frac::Frac;
@@ -58,7 +58,7 @@ pub(crate) fn shares(
     ensures value { IfOk result (λ made. IfSome made (λ parts. parts.items
         ≡ map (unit_share all) (lent units.now))) }
     ensures there { IfOk result (λ made.
-        IsFineTo30Bits (map (unit_share all) (lent units.now)) → IsSome made) }
+        IsFineTo40Bits (map (unit_share all) (lent units.now)) → IsSome made) }
 {
     let mut made = Vec::new(alloc);
     'units: for unit in units {

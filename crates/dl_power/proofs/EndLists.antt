@@ -81,6 +81,5 @@ mixture_end_more weights grids g i sum w v end inside is e h before =
     let product : w * v ≡ get_or weights i 0 * end (get_or grids i []) = ap₂ (λ s t. s * t) e (h ∙ ap end (sym same)) in
     omega (arith, product, before, below_more i (λ k. get_or weights k 0 * end (get_or grids k [])))
 
-pub product_small : (w v : ℕ) → w < 2 ^ 32 → v ≤ 2 ^ 56 → w * v ≤ 2 ^ 88
-product_small w v few small =
-    omega (arith, mul-le-mul {n₁ = w} {m₁ = v} {n₂ = 2 ^ 32} {m₂ = 2 ^ 56} (omega arith) small)
+pub product_small : (w v : ℕ) → w ≤ 2 ^ 40 → v ≤ 2 ^ 56 → w * v ≤ 2 ^ 96
+product_small w v few small = omega (arith, mul-le-mul {n₁ = w} {m₁ = v} {n₂ = 2 ^ 40} {m₂ = 2 ^ 56} few small)

@@ -1,7 +1,7 @@
 //! Blocks of counts: each is a mixture of low powers, which all blocks share.
 
 ghost use Rattle.std.specs.Prelude.{◌≡◌, ℕ, suc, ◌+◌, ◌-◌, ◌*◌, ◌^◌, ◌<◌, ◌≤◌, length, get_or, All, IfOk};
-ghost use Rattle.dl_limits.specs.Limits.{edge_bound};
+ghost use Rattle.dl_limits.specs.Limits.{edge_bound, most_weights};
 ghost use Rattle.dl_exact.specs.Fraction.{Fraction};
 ghost use Rattle.dl_grid.specs.Prelude.{low_at, high_at, IsGridSize};
 ghost use Rattle.dl_model.specs.Prelude.{power, cell_from, probability_at, IsWithinOne};
@@ -72,13 +72,14 @@ pub(crate) fn blocks_of<const B: u32>(
     alloc: Global,
     powers: &[Grid<B>],
     table: &[Item],
-    total: u32,
+    total: u64,
     blocks: u32,
     cells: u32,
 ) -> Result<Vec<Grid<B>>, AllocError>
     requires size { IsGridSize B cells }
     requires sum { weight_sum table.now ≡ total }
     requires positive { 0 < total }
+    requires within { total ≤ most_weights }
     requires one { 1 ≤ length powers.now }
     requires most { length powers.now < 2 ^ 32 }
     requires near { blocks * length powers.now < edge_bound }

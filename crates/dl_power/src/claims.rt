@@ -17,7 +17,7 @@ use std::alloc::{AllocError, Global};
 pub fn claim_grid<const B: u32>(
     alloc: Global,
     amounts: &[Item],
-    total: u32,
+    total: u64,
     cells: u32,
 ) -> Result<Grid<B>, AllocError>
     requires size { IsGridSize B cells }

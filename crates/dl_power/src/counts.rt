@@ -2,6 +2,7 @@
 
 ghost use Rattle.std.specs.Prelude.{◌≡◌, ℕ, suc, ◌+◌, ◌-◌, ◌*◌, ◌/◌, ◌^◌, ◌<◌, ◌≤◌, min, length, IfOk};
 ghost use Rattle.std.specs.Int.{div_ceil};
+ghost use Rattle.dl_limits.specs.Limits.{most_weights};
 ghost use Rattle.dl_grid.specs.Prelude.{low_at, high_at, mass_low, spread, all_at_zero, convolution_spread, mixed_spread};
 ghost use Rattle.dl_exact.specs.Count.{count_pairs};
 ghost use Rattle.dl_plan.specs.Weighted.{weight_at, weight_sum, greatest};
@@ -67,7 +68,7 @@ fn one_claim_more<const B: u32>(
 }
 
 /// The share of the total that the weight of the number `count` has, rounded outward.
-fn share_of<const B: u32>(table: &[Item], count: u32, total: u32) -> Iv<B>
+fn share_of<const B: u32>(table: &[Item], count: u32, total: u64) -> Iv<B>
     requires scale_above { 1 ≤ B }
     requires scale_below { B ≤ 56 }
     requires sum { weight_sum table.now ≡ total }
@@ -102,18 +103,20 @@ impl<const B: u32> Listed<'_, B> {
 }
 
 /// The first `cells` cells of the sum of a listed number of claims: `table` has the numbers of
-/// claims, each with its weight out of `total`, and `base` is the grid of one claim. It is made by
-/// halves; where that comes out wider than by Horner's rule it may be, by Horner's rule.
+/// claims, each with its weight out of `total`, which is at most 2^40, and `base` is the grid of one
+/// claim. It is made by halves; where that comes out wider than by Horner's rule it may be, by
+/// Horner's rule.
 pub fn mix_counts<const B: u32>(
     alloc: Global,
     work: &mut Workspace,
     base: &Grid<B>,
     table: &[Item],
-    total: u32,
+    total: u64,
     cells: u32,
 ) -> Result<Grid<B>, AllocError>
     requires sum { weight_sum table.now ≡ total }
     requires positive { 0 < total }
+    requires most { total ≤ most_weights }
     requires some { 1 ≤ cells }
     requires within { cells ≤ length base.now }
     ensures cells { IfOk result (λ g. length g ≡ cells) }

@@ -3,7 +3,7 @@
 
 ghost use Rattle.std.specs.Prelude.{◌≡◌, ℕ, ◌+◌, ◌-◌, ◌*◌, ◌/◌, ◌^◌, ◌<◌, ◌≤◌, length, get_or, All, IfOk};
 ghost use Rattle.std.specs.Int.{div_ceil};
-ghost use Rattle.dl_limits.specs.Limits.{edge_bound, most_weighted_ends};
+ghost use Rattle.dl_limits.specs.Limits.{edge_bound, most_weights};
 ghost use Rattle.dl_exact.specs.Fraction.{Fraction};
 ghost use Rattle.dl_grid.specs.Prelude.{low_at, high_at, IsGridSize};
 ghost use Rattle.dl_model.specs.Prelude.{cell_from, probability_at, IsWithinOne};
@@ -22,13 +22,14 @@ fn weights_from(
     table: &[Item],
     first: u64,
     many: usize,
-) -> Result<Vec<u32>, AllocError>
-    requires fits { weight_sum table.now < 2 ^ 32 }
+) -> Result<Vec<u64>, AllocError>
+    requires fits { weight_sum table.now ≤ most_weights }
     requires few { many < 2 ^ 32 }
     requires near { first < edge_bound }
     ensures many { IfOk result (λ list. length list.items ≡ many) }
     ensures each { IfOk result (λ list. (i : ℕ) → i < many
         → get_or list.items i 0 ≡ weight_at table.now (first + i)) }
+    ensures fits { IfOk result (λ list. All (λ weight. weight ≤ most_weights) list.items) }
 {
     let mut weights = Vec::with_capacity(alloc, many)?;
     for i in 0..many {
@@ -38,13 +39,13 @@ fn weights_from(
 }
 
 /// The sums of the low ends, and of the high ends, of the cells `x`, each times its grid's weight.
-fn sums_at<const B: u32>(weights: &[u32], grids: &[Grid<B>], x: usize) -> (u128, u128)
+fn sums_at<const B: u32>(weights: &[u64], grids: &[Grid<B>], x: usize) -> (u128, u128)
     requires scale { B ≤ 56 }
     requires as_many { length weights.now ≡ length grids.now }
     requires few { length grids.now < 2 ^ 32 }
+    requires fits { All (λ weight. weight ≤ most_weights) weights.now }
     ensures low { result.0 ≡ mixture_end weights.now grids.now (λ g. low_at g x) }
     ensures high { result.1 ≡ mixture_end weights.now grids.now (λ g. high_at g x) }
-    ensures small { result.1 ≤ most_weighted_ends }
 {
     let mut low = 0;
     let mut high = 0;
@@ -59,10 +60,11 @@ fn sums_at<const B: u32>(weights: &[u32], grids: &[Grid<B>], x: usize) -> (u128,
 
 /// The ends of the mixture at the cells `x`: the sums of the weighted ends over the total, the low
 /// one rounded down and the high one up.
-fn ends_at<const B: u32>(weights: &[u32], grids: &[Grid<B>], x: usize, total: u32) -> (u128, u128)
+fn ends_at<const B: u32>(weights: &[u64], grids: &[Grid<B>], x: usize, total: u64) -> (u128, u128)
     requires scale { B ≤ 56 }
     requires as_many { length weights.now ≡ length grids.now }
     requires few { length grids.now < 2 ^ 32 }
+    requires fits { All (λ weight. weight ≤ most_weights) weights.now }
     requires positive { 0 < total }
     ensures low { result.0 ≡ mixture_end weights.now grids.now (λ g. low_at g x) / total }
     ensures high { result.1
@@ -93,12 +95,13 @@ pub(crate) fn block<const B: u32>(
     powers: &[Grid<B>],
     table: &[Item],
     first: u64,
-    total: u32,
+    total: u64,
     cells: u32,
 ) -> Result<Grid<B>, AllocError>
     requires size { IsGridSize B cells }
     requires sum { weight_sum table.now ≡ total }
     requires positive { 0 < total }
+    requires within { total ≤ most_weights }
     requires one { 1 ≤ length powers.now }
     requires most { length powers.now < 2 ^ 32 }
     requires near { first < edge_bound }

@@ -12,8 +12,8 @@ use dl_plan::Item;
 use std::alloc::{AllocError, Global};
 
 /// The weight of `x`, 0 where it is not listed.
-pub(crate) fn weight_of(items: &[Item], x: u64) -> u32
-    requires fits { weight_sum items.now < 2 ^ 32 }
+pub(crate) fn weight_of(items: &[Item], x: u64) -> u64
+    requires fits { weight_sum items.now < 2 ^ 64 }
     ensures { result ≡ weight_at items.now x }
 {
     let mut weight = 0;
@@ -37,7 +37,7 @@ pub(crate) fn greatest_of(items: &[Item]) -> u32
 }
 
 /// A weight over the total, rounded outward.
-pub(crate) fn share<const B: u32>(weight: u32, total: u32) -> Iv<B>
+pub(crate) fn share<const B: u32>(weight: u64, total: u64) -> Iv<B>
     requires scale_above { 1 ≤ B }
     requires scale_below { B ≤ 56 }
     requires positive { 0 < total }

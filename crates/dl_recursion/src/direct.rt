@@ -1,7 +1,7 @@
 //! The grids of units whose counts are of the (a, b, 0) class, by one recursion.
 
 ghost use Rattle.std.specs.Prelude.{◌≡◌, ℕ, ◌+◌, ◌-◌, ◌*◌, ◌^◌, ◌<◌, ◌≤◌, length, IfOk, IfSome, IsTrue};
-ghost use Rattle.dl_limits.specs.Limits.{most_cells, most_expected, most_shape, most_parts, admitted_bound, frac_bound};
+ghost use Rattle.dl_limits.specs.Limits.{most_cells, most_expected, most_shape, most_weights, admitted_bound, frac_bound};
 ghost use Rattle.dl_exact.specs.Fraction.{Fraction, whole, ◌over◌, ◌*ℚ◌, ◌≤ℚ◌};
 ghost use Rattle.dl_grid.specs.Prelude.{IsGrid, IsGridSize};
 ghost use Rattle.dl_model.specs.Prelude.{poisson, gamma_of, IsPanjer, compound, GridEncloses};
@@ -40,8 +40,9 @@ struct Steps {
 /// Whether the sums of the recursion stay in their words: the factors of a cell in 64 bits, and
 /// what it is divided by in 64 bits. `ratio` is `numerator / denominator` over the total of
 /// the weights.
-fn is_within_words(steps: Steps, ratio: Frac, total: u32, cells: u32) -> bool
-    requires total_small { total ≤ most_parts }
+fn is_within_words(steps: Steps, ratio: Frac, total: u64, cells: u32) -> bool
+    requires ratio_small { ratio.num < admitted_bound }
+    requires total_small { total ≤ most_weights }
     requires cells_small { cells ≤ most_cells }
     ensures factors { IsTrue result
         → (steps.constant + steps.inverse) * cells * (ratio.num * total) < 2 ^ 64 }

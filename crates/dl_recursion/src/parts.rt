@@ -79,7 +79,7 @@ fn alone(item: Item, step: u32, factor: u64) -> Run
     Run {
         amount: (item.amount / step) as usize,
         count: 1,
-        weight: factor * u64::from(item.weight),
+        weight: factor * item.weight,
     }
 }
 

@@ -7,7 +7,6 @@ pub use Rattle.std.proofs.lemmas.List.FromFn.{length-map-range_with_len}
 pub use Rattle.std.proofs.lemmas.List.Sums.{sum_by-cons, sum_by_more}
 pub use Rattle.std.specs.List.{All, range_with_len, sum_by}
 pub use Prim.Native.Nat.{◌∣◌}
-pub use Rattle.dl_limits.specs.Limits.{most_values}
 pub use Rattle.dl_exact.proofs.Denominators.{over_plus}
 pub use Rattle.dl_exact.proofs.Over.{le_over, lt_over, over_mul, over_same, over_self}
 pub use Rattle.dl_exact.proofs.Parts.{whole_den}

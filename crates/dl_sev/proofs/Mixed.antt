@@ -1,11 +1,22 @@
 -- Atoms one after another, with their amounts and their probabilities apart.
-use Rattle.dl_sev.proofs.Common.{ℕ, ◌≡◌, ◌∙◌, ◌+◌, ◌*◌, ◌<◌, ◌≤◌, ◌^◌, List, [], ◌∷◌, ◌++◌, length, map, zip, get_or, take, sum, refl, sym, ap, ap₂, subst, arith, append_assoc, mul-pos, mul-le-mul, length-take-le, take_more, map-append, map_more, append-nil, take_all, sum_by-cons, Fraction, whole, ◌over◌, ◌+ℚ◌, ◌*ℚ◌, over_mul, over_same, sum_over, FitsFrac, Item, Sev, amounts_of, weight_sum, shares, pairs_of, over_fits, over_plus, Weights, sum_of, mixture_of, mixed_probability, weighed, severity_total}
-use Rattle.std.proofs.lemmas.List.{length-map}
+use Rattle.dl_sev.proofs.Common.{ℕ, ◌≡◌, ◌∙◌, ◌+◌, ◌*◌, ◌<◌, ◌≤◌, List, [], ◌∷◌, ◌++◌, length, map, zip, get_or, take, sum, refl, sym, ap, ap₂, subst, arith, append_assoc, mul-pos, mul-le-mul, length-take-le, take_more, map-append, map_more, append-nil, take_all, sum_by-cons, Fraction, whole, ◌over◌, ◌+ℚ◌, ◌*ℚ◌, over_mul, over_same, sum_over, Item, Sev, amounts_of, weight_sum, shares, pairs_of, over_plus, Weights, sum_of, mixture_of, mixed_probability, weighed, severity_total, All, inl, inr, zero, suc, common_pos, den_divides, length-append}
+use Rattle.std.proofs.Common.{◌⊎◌}
+use Rattle.std.proofs.lemmas.List.{length-map, get_or_append_left, get_or-append-add, get_or-map}
+use Rattle.std.proofs.lemmas.Nat.Gcd.{le_of_dvd}
 use Rattle.std.proofs.lemmas.List.Sums.{sum_by_more_le}
 use Rattle.dl_exact.proofs.Laws.{zero_plus, plus_assoc, times_plus, times_zero, times_one}
+use Rattle.dl_limits.specs.Limits.{frac_bound, most_weights}
+use Rattle.dl_exact.proofs.Over.{over_le}
+use Rattle.dl_exact.specs.Fraction.{◌≤ℚ◌}
+use Rattle.dl_frac.specs.Exact.{IsTooFine}
+use Rattle.dl_plan.proofs.Clauses.{num_le_den}
+use Rattle.dl_plan.specs.Fine.{common_denominator}
 use Rattle.dl_plan.specs.Severity.{Pairs}
 use Rattle.dl_exact.proofs.Denominators.{over_zero}
 use Rattle.dl_sev.specs.Steps.{scaled}
+use Rattle.dl_sev.specs.Refusals.{RefusesMixture, RefusesProducts}
+use Rattle.dl_sev.specs.declared.fault.MixFault.{MixFault}
+use Rattle.dl_sev.specs.declared.fault.MixFault.TheVariants.{TooFine, OutOfMemory}
 
 abbrev pub firsts : Pairs → List ℕ
 firsts ps = map (λ pair. pair.0) ps
@@ -90,26 +101,66 @@ as_many ps xs whole amounts probs =
 
 -- ---- one product
 
-pub product_fits : (w t : ℕ) (atom : Sev) (i : ℕ) (d : Item) → i < length atom.items → w < 2 ^ 32 → 0 < t → t ≤ 2 ^ 30
-    → FitsFrac ((w * (get_or atom.items i d).weight) over (t * atom.total))
-product_fits w t atom i d h small pos within =
-    let weight : (get_or atom.items i d).weight ≤ 2 ^ 30 =
-    omega (arith, sum_by_more_le (λ (j : Item). j.weight) atom.items i d h, atom.weighted.sum, atom.weighted.within) in
-    over_fits _ _ (mul-pos pos (severity_total atom))
-    (omega (arith, small_product w (get_or atom.items i d).weight small weight))
-    (omega (arith, mul-le-mul within atom.weighted.within))
+-- a product of a share and a probability that is no fraction of 62 bits has a large denominator
+pub coarse_product : (w t : ℕ) (atom : Sev) (i : ℕ) (d : Item) → i < length atom.items → 0 < t → w ≤ t
+    → IsTooFine (w over t *ℚ (get_or atom.items i d).weight over atom.total)
+    → frac_bound ≤ (w over t *ℚ (get_or atom.items i d).weight over atom.total).den
+coarse_product w t atom i d h pos part = by_part (num_le_den _ within)
   where
-    small_product : (a b : ℕ) → a < 2 ^ 32 → b ≤ 2 ^ 30 → a * b ≤ 4294967295 * 2 ^ 30
-    small_product a b p q =
-        let below : a ≤ 4294967295 = omega (arith, p) in
-        mul-le-mul below q
+    v : ℕ
+    v = (get_or atom.items i d).weight
 
-pub fits_at : (w t : ℕ) (atom : Sev) (slice : List Item) (i : ℕ) (d : Item) → slice ≡ atom.items → i < length slice
-    → w < 2 ^ 32 → 0 < t → t ≤ 2 ^ 30
-    → FitsFrac ((w * (get_or slice i d).weight) over (t * atom.total))
-fits_at w t atom slice i d same h small pos within =
-    subst (λ (xs : List Item). FitsFrac ((w * (get_or xs i d).weight) over (t * atom.total))) (sym same)
-    (product_fits w t atom i d (subst (λ (xs : List Item). i < length xs) same h) small pos within)
+    small : v ≤ atom.total
+    small = omega (arith, sum_by_more_le (λ (j : Item). j.weight) atom.items i d h, atom.weighted.sum)
+
+    within : w over t *ℚ v over atom.total ≤ℚ whole 1
+    within = subst (λ x. x ≤ℚ whole 1) (sym (over_mul w t v atom.total pos (severity_total atom)))
+        (over_le (w * v) (t * atom.total) 1 1 (mul-pos pos (severity_total atom)) (omega arith)
+        (omega (arith, mul-le-mul part small)))
+
+    by_part : {n e : ℕ} → n ≤ e → (frac_bound ≤ n) ⊎ (frac_bound ≤ e) → frac_bound ≤ e
+    by_part le (inl far) = omega (arith, le, far)
+    by_part le (inr far) = far
+
+front : (P : Fraction → Type 0) (xs ys : List Fraction) → All P (xs ++ ys) → All P xs
+front P xs ys all k d h = subst P (get_or_append_left xs ys d k h) (all k d (omega (arith, h, length-append xs ys)))
+
+back : (P : Fraction → Type 0) (xs ys : List Fraction) → All P (xs ++ ys) → All P ys
+back P xs ys all k d h = subst P (get_or-append-add xs ys k d)
+    (all (length xs + k) d (omega (arith, h, length-append xs ys)))
+
+-- what holds of all probabilities of a mixture holds of those of each atom
+of_atom : (P : Fraction → Type 0) (t : ℕ) (atoms : List Sev) (ws : List ℕ) (i d : ℕ) (a : Sev) → i < length atoms
+    → length atoms ≡ length ws → a ≡ get_or atoms i a → All P (seconds (mixture_of t atoms ws))
+    → All P (map (mixed_probability (get_or ws i d over t) a.total) a.items)
+of_atom P t [] ws i d a h e is all = absurd (omega (arith, h))
+of_atom P t (b ∷ atoms) [] i d a h e is all = absurd (omega (arith, e))
+of_atom P t (b ∷ atoms) (w ∷ ws) zero d a h e is all =
+    rw is (subst (All P) (seconds-scaled (w over t) b.total b.items)
+    (front P _ _ (subst (All P)
+    (map-append (λ pair. pair.1) (scaled (w over t) (pairs_of b)) (mixture_of t atoms ws)) all)))
+of_atom P t (b ∷ atoms) (w ∷ ws) (suc i) d a h e is all =
+    of_atom P t atoms ws i d a (omega (arith, h)) (omega (arith, e)) is
+    (back P _ _ (subst (All P)
+    (map-append (λ pair. pair.1) (scaled (w over t) (pairs_of b)) (mixture_of t atoms ws)) all))
+
+-- a denominator is at most the common one
+den_within : (xs : List Fraction) → All (λ x. x.den ≤ common_denominator xs) xs
+den_within xs k d h = le_of_dvd (common_pos xs) (den_divides 1 xs k d h)
+
+-- a mixture with a probability of a large denominator is refused
+pub coarse_mixture : (most : ℕ) (atoms : List Sev) (weights : Weights) (i d : ℕ) (a : Sev) (fault : MixFault)
+    → most ≤ most_weights → i < length atoms → length atoms ≡ length weights.weights → a ≡ get_or atoms i a
+    → RefusesProducts (get_or weights.weights i d over weights.total) a fault → RefusesMixture most atoms weights fault
+coarse_mixture most atoms weights i d a TooFine few h e is (k, item, inside, there, far) = λ fine.
+    let probs = seconds (mixture_of weights.total atoms weights.weights) in
+    let all = of_atom (λ x. x.den ≤ common_denominator probs) weights.total atoms weights.weights i d a h e is
+    (den_within probs) in
+    let f = mixed_probability (get_or weights.weights i d over weights.total) a.total in
+    let one = all k (f item) (subst (λ n. k < n) (sym (length-map a.items f)) inside) in
+    let same = get_or-map f a.items k item (f item) inside ∙ ap f there in
+    absurd (omega (arith, one, ap (λ (x : Fraction). x.den) same, far, fine, few))
+coarse_mixture most atoms weights i d a OutOfMemory few h e is refused = tt
 
 pub product_is : (w v t u : ℕ) → 0 < t → 0 < u → (w * v) over (t * u) ≡ w over t *ℚ v over u
 product_is w v t u p q = sym (over_mul w t v u p q)

@@ -123,10 +123,10 @@ one_value r range same =
 
 -- ---- what is refused
 
-pub refuses : (items : List Range) (n : ℕ) (r : Range) (fault : ExpandFault) → PassesRoom n r fault
-    → n + length (range_values r) ≤ length (list_values items) → RefusesRanges items fault
-refuses items n r TooLong passes h = omega (arith, passes, h)
-refuses items n r OutOfMemory passes h = tt
+pub refuses : (most : ℕ) (items : List Range) (n : ℕ) (r : Range) (fault : ExpandFault) → PassesRoom most n r fault
+    → n + length (range_values r) ≤ length (list_values items) → RefusesRanges most items fault
+refuses most items n r TooLong passes h = omega (arith, passes, h)
+refuses most items n r OutOfMemory passes h = tt
 
 pub part_le : (items : List Range) (i : ℕ) → length (list_values (take i items)) ≤ length (list_values items)
 part_le items i =

@@ -1,7 +1,7 @@
 -- The values of a list: a, a + s, a + 2s, and so on, as long as the value does not pass b.
 use Rattle.std.specs.Prelude.{ℕ, ◌≡◌, ◌⊎◌, ◌+◌, ◌<◌, ◌≤◌, ◌/◌, ⊤, List, [], ◌∷◌, length, map, flat_map}
 use Rattle.std.specs.List.{range_with_len}
-use Rattle.dl_limits.specs.Limits.{most_range_parts, most_values, numeral_bound}
+use Rattle.dl_limits.specs.Limits.{most_range_parts, numeral_bound}
 use Rattle.dl_exact.specs.Fraction.{Fraction, whole, ◌+ℚ◌, ◌-ℚ◌, ◌*ℚ◌, ◌/ℚ◌, ◌≤ℚ◌, ◌<ℚ◌}
 use Rattle.dl_plan.specs.Fine.{common_denominator}
 use Rattle.dl_sev.specs.declared.range.Range.{Range}
@@ -44,12 +44,12 @@ pub record IsRange (r : Range) : Type 0 where
   pub digits : r.to.num < numeral_bound
   pub shared : (r.from ≡ r.to) ⊎ IsShared r
 
--- there are more than 1,024 values
-abbrev pub RefusesRanges : List Range → ExpandFault → Type 0
-RefusesRanges ranges TooLong = most_values < length (list_values ranges)
-RefusesRanges ranges OutOfMemory = ⊤
+-- there are more than `most` values
+abbrev pub RefusesRanges : (most : ℕ) → List Range → ExpandFault → Type 0
+RefusesRanges most ranges TooLong = most < length (list_values ranges)
+RefusesRanges most ranges OutOfMemory = ⊤
 
--- with the values of the range there are more than 1,024, of which there are some already
-abbrev pub PassesRoom : ℕ → Range → ExpandFault → Type 0
-PassesRoom already r TooLong = most_values < already + length (range_values r)
-PassesRoom already r OutOfMemory = ⊤
+-- with the values of the range there are more than `most`, of which there are some already
+abbrev pub PassesRoom : (most already : ℕ) → Range → ExpandFault → Type 0
+PassesRoom most already r TooLong = most < already + length (range_values r)
+PassesRoom most already r OutOfMemory = ⊤

@@ -1,10 +1,12 @@
 -- When each step is refused.
 use Rattle.std.specs.Prelude.{ℕ, ◌≤◌, ⊤, List, map, All, Any}
+use Rattle.dl_limits.specs.Limits.{frac_bound}
+use Rattle.dl_exact.specs.Fraction.{Fraction}
 use Rattle.dl_plan.specs.declared.item.Item.{Item}
 use Rattle.dl_plan.specs.declared.severity.Sev.{Sev}
 use Rattle.dl_plan.specs.Prelude.{common_denominator, IsWhole, Clause, kept}
 use Rattle.dl_sev.specs.declared.weights.Weights.{Weights}
-use Rattle.dl_sev.specs.Steps.{mixture}
+use Rattle.dl_sev.specs.Steps.{mixed_probability, mixture}
 use Rattle.dl_sev.specs.declared.fault.MixFault.{MixFault}
 use Rattle.dl_sev.specs.declared.fault.MixFault.TheVariants as mix_fault
 use Rattle.dl_sev.specs.declared.fault.AboveFault.{AboveFault}
@@ -28,3 +30,9 @@ abbrev pub RefusesMixture : (most : ℕ) → List Sev → Weights → MixFault �
 RefusesMixture most atoms weights mix_fault.TooFine =
     ¬ common_denominator (map (λ pair. pair.1) (mixture atoms weights)) ≤ most
 RefusesMixture most atoms weights mix_fault.OutOfMemory = ⊤
+
+-- a product of the share and a probability of the atom has a denominator of more than 62 bits
+abbrev pub RefusesProducts : (share : Fraction) → Sev → MixFault → Type 0
+RefusesProducts share atom mix_fault.TooFine =
+    Any (λ item. frac_bound ≤ (mixed_probability share atom.total item).den) atom.items
+RefusesProducts share atom mix_fault.OutOfMemory = ⊤

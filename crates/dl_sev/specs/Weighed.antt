@@ -1,6 +1,6 @@
 -- The whole weights of a list of probabilities.
 use Rattle.std.specs.Prelude.{◌≡◌, ◌≤◌, List, map, sum}
-use Rattle.dl_limits.specs.Limits.{most_parts}
+use Rattle.dl_limits.specs.Limits.{most_weights}
 use Rattle.dl_exact.specs.Fraction.{Fraction, ◌over◌}
 use Rattle.dl_plan.specs.Fine.{common_denominator}
 use Rattle.dl_sev.specs.declared.weights.Weights.{Weights}
@@ -12,4 +12,4 @@ pub record IsWeighing (probs : List Fraction) (made : Weights) : Type 0 where
   pub total : made.total ≡ common_denominator probs
   pub sum : sum made.weights ≡ made.total
   pub some : 1 ≤ made.total
-  pub within : made.total ≤ most_parts
+  pub within : made.total ≤ most_weights

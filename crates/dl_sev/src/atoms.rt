@@ -1,33 +1,34 @@
 //! Atoms and their mixture.
 
 ghost use Rattle.std.specs.Prelude.{◌≡◌, ◌++◌, ◌≤◌, ◌<◌, ◌^◌, length, map, sum, zip, IfOk, OnOk, MatchResult};
-ghost use Rattle.dl_limits.specs.Limits.{most_parts};
+ghost use Rattle.dl_limits.specs.Limits.{most_weights};
 ghost use Rattle.dl_exact.specs.Fraction.{◌over◌};
 ghost use Rattle.dl_plan.specs.Prelude.{amounts_of, common_denominator, HasDistribution};
 ghost use Rattle.dl_sev.specs.Steps.{weighed, items_of, mixture, mixed_probability};
-ghost use Rattle.dl_sev.specs.Refusals.{RefusesMixture};
+ghost use Rattle.dl_sev.specs.Refusals.{RefusesMixture, RefusesProducts};
 
 use crate::fault::MixFault;
 use crate::gather::gathered;
-use crate::weights::{Weights, common_within, over_common};
+use crate::list::push_item;
+use crate::weights::{Weights, over_common};
 use dl_frac::Frac;
-use dl_plan::{Item, Sev};
+use dl_plan::{Item, Sev, common_denominator_of};
 use std::alloc::{AllocError, Global};
 
 /// The severity of amounts with whole weights: equal amounts are added up, and weights of 0
-/// dropped. The weights sum to their total, which is from 1 to 2^30.
+/// dropped. The weights sum to their total, which is from 1 to 2^40.
 pub fn merge(alloc: Global, amounts: &[u32], weights: &Weights) -> Result<Sev, AllocError>
     requires lengths { length amounts.now ≡ length weights.now.weights }
     requires sum { sum weights.now.weights ≡ weights.now.total }
     requires some { 1 ≤ weights.now.total }
-    requires within { weights.now.total ≤ most_parts }
+    requires within { weights.now.total ≤ most_weights }
     ensures { IfOk result (λ sev. HasDistribution sev (weighed amounts.now weights.now)) }
 {
     gathered(alloc, items_of(alloc, amounts, weights.weights.as_slice())?)
 }
 
 /// Amounts and weights, item by item.
-fn items_of(alloc: Global, amounts: &[u32], weights: &[u32]) -> Result<Vec<Item>, AllocError>
+fn items_of(alloc: Global, amounts: &[u32], weights: &[u64]) -> Result<Vec<Item>, AllocError>
     requires { length amounts.now ≡ length weights.now }
     ensures { IfOk result (λ items. items.items ≡ items_of amounts.now weights.now) }
 {
@@ -42,14 +43,14 @@ fn items_of(alloc: Global, amounts: &[u32], weights: &[u32]) -> Result<Vec<Item>
 }
 
 /// The mixture of atoms: the probabilities of each times its weight over the total, which is from 1
-/// to 2^30. `TooFine` exactly where these products have a common denominator above `most`, which is
-/// at most 2^30.
+/// to 2^40. `TooFine` exactly where these products have a common denominator above `most`, which is
+/// at most 2^40.
 pub fn mix(alloc: Global, atoms: &[Sev], weights: &Weights, most: u64) -> Result<Sev, MixFault>
     requires lengths { length atoms.now ≡ length weights.now.weights }
     requires sum { sum weights.now.weights ≡ weights.now.total }
     requires some { 1 ≤ weights.now.total }
-    requires within { weights.now.total ≤ most_parts }
-    requires most { most ≤ most_parts }
+    requires within { weights.now.total ≤ most_weights }
+    requires most { most ≤ most_weights }
     ensures step { MatchResult result (λ made. HasDistribution made (mixture atoms.now weights.now))
         (RefusesMixture most atoms.now weights.now) }
     ensures fine { OnOk result (common_denominator (map (λ pair. pair.1)
@@ -60,9 +61,11 @@ pub fn mix(alloc: Global, atoms: &[Sev], weights: &Weights, most: u64) -> Result
     let parts = weights.weights.as_slice();
     'atoms: for (at, atom) in atoms.iter().enumerate() {
         push_amounts(&mut amounts, atom.items.as_slice())?;
-        push_probs(&mut probs, atom, parts[at], weights.total)?;
+        if let Err(fault) = push_probs(&mut probs, atom, parts[at], weights.total) {
+            return Err(fault);
+        }
     }
-    let Some(common) = common_within(&probs, most) else {
+    let Some(common) = common_denominator_of(&probs, most) else {
         return Err(MixFault::TooFine);
     };
     let whole = over_common(alloc, &probs, common)?;
@@ -79,18 +82,24 @@ fn push_amounts(amounts: &mut Vec<u32>, items: &[Item]) -> Result<(), AllocError
     Ok(())
 }
 
-/// The probabilities of an atom, times `weight` over `total`, put behind others.
-fn push_probs(probs: &mut Vec<Frac>, atom: &Sev, weight: u32, total: u32) -> Result<(), AllocError>
+/// The probabilities of an atom, times `weight` over `total`, put behind others. `TooFine` only
+/// where one of these products is no fraction of 62 bits.
+fn push_probs(probs: &mut Vec<Frac>, atom: &Sev, weight: u64, total: u64) -> Result<(), MixFault>
     requires some { 0 < total }
-    requires within { total ≤ most_parts }
-    ensures { IfOk result (λ _. probs.new.items
-        ≡ probs.old.items ++ map (mixed_probability (weight over total) atom.now.total)
-        atom.now.items) }
+    requires within { total ≤ most_weights }
+    requires part { weight ≤ total }
+    ensures { MatchResult result
+        (λ _. probs.new.items ≡ probs.old.items
+        ++ map (mixed_probability (weight over total) atom.now.total) atom.now.items)
+        (RefusesProducts (weight over total) atom.now) }
 {
     'items: for item in atom.items.as_slice() {
         let num = weight as u128 * item.weight as u128;
         let den = total as u128 * atom.total as u128;
-        probs.push(Frac::make(num, den).unwrap())?;
+        let Ok(prob) = Frac::make(num, den) else {
+            return Err(MixFault::TooFine);
+        };
+        push_item(probs, prob)?;
     }
     Ok(())
 }

@@ -50,8 +50,8 @@ impl From<AllocError> for CedeFault {
 /// Why probabilities have no whole weights.
 #[derive(Clone, Copy, Debug, PartialEq, Eq, Error)]
 pub enum WeighFault {
-    /// Their common denominator passes 2^30.
-    #[error("the common denominator of the probabilities passes 2^30")]
+    /// Their common denominator passes the bound.
+    #[error("the common denominator of the probabilities passes its bound")]
     TooFine,
     /// They do not sum to 1.
     #[error("the probabilities do not sum to 1")]
@@ -122,8 +122,8 @@ impl From<AllocError> for AmountFault {
 /// Why a list was not expanded.
 #[derive(Clone, Copy, Debug, PartialEq, Eq, Error)]
 pub enum ExpandFault {
-    /// There are more than 1,024 values.
-    #[error("there are more than 1024 values")]
+    /// There are more values than may be.
+    #[error("there are too many values")]
     TooLong,
     /// The items found no room.
     #[error("out of memory")]

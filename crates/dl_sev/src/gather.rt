@@ -2,7 +2,7 @@
 
 ghost use Rattle.std.specs.Prelude.{◌≡◌, ◌<◌, ◌≤◌, ◌^◌, ℕ, List, All, IsPermutation, IfOk};
 ghost use Rattle.std.specs.List.Sorted.{IsNonDecreasingBy, IsStrictlyIncreasing};
-ghost use Rattle.dl_limits.specs.Limits.{most_parts};
+ghost use Rattle.dl_limits.specs.Limits.{most_weights};
 ghost use Rattle.dl_exact.specs.Fraction.{◌over◌};
 ghost use Rattle.dl_plan.specs.Prelude.{amounts_of, weight_sum, weight_at, probability_of};
 ghost use Rattle.dl_sev.specs.Steps.{with_weighed};
@@ -13,7 +13,7 @@ use std::alloc::{AllocError, Global};
 /// The severity of these items: equal amounts are added up, and weights of 0 dropped.
 pub(crate) fn gathered(alloc: Global, items: Vec<Item>) -> Result<Sev, AllocError>
     requires some { 0 < weight_sum items.items }
-    requires within { weight_sum items.items ≤ most_parts }
+    requires within { weight_sum items.items ≤ most_weights }
     ensures { IfOk result (λ sev. (x : ℕ)
         → probability_of sev x ≡ weight_at items.items x over weight_sum items.items) }
 {
@@ -34,7 +34,7 @@ fn sorted(mut items: Vec<Item>) -> Vec<Item>
 /// Sorted items with equal amounts added up, and weights of 0 dropped.
 fn added_up(alloc: Global, items: &[Item]) -> Result<Vec<Item>, AllocError>
     requires order { IsNonDecreasingBy (λ item. item.amount) items.now }
-    requires within { weight_sum items.now ≤ most_parts }
+    requires within { weight_sum items.now ≤ most_weights }
     ensures rising { IfOk result (λ made. IsStrictlyIncreasing (amounts_of made.items)) }
     ensures positive { IfOk result (λ made. All (λ item. 0 < item.weight) made.items) }
     ensures sum { IfOk result (λ made. weight_sum made.items ≡ weight_sum items.now) }

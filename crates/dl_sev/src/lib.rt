@@ -30,4 +30,4 @@ pub use layers::{above, cede_each, cut, cut_amount};
 pub use means::mean;
 pub use range::Range;
 pub use weighing::weigh;
-pub use weights::{Weights, common_within};
+pub use weights::Weights;

@@ -66,7 +66,7 @@ one_less step from f less =
 pub running_fit : {B : ℕ} (grid : List (Iv B)) (q : ℕ) (items : List Item) (i : ℕ) (d : Item) (sum v : ℕ) → IsGrid grid
     → q < length grid → i < length items → sum ≡ amounts_to q (sums_of (low_at grid)) (take i items)
     → (get_or items i d).amount ≤ q → v ≡ sums_of (low_at grid) (q - (get_or items i d).amount)
-    → weight_sum items ≤ 2 ^ 30 → sum + (get_or items i d).amount * (get_or items i d).weight * v < 2 ^ 128
+    → weight_sum items ≤ 2 ^ 40 → sum + (get_or items i d).amount * (get_or items i d).weight * v < 2 ^ 128
 running_fit {B} grid q items i d sum v is inside there so_far near value light =
     amounts_fit q (sums_of (low_at grid)) items i d there sum v (2 ^ B) so_far near value
     (λ k. low_most grid (suc k) is) (omega (arith, size_few (size_of grid is)))

@@ -65,7 +65,7 @@ module _ (x : ℕ) (at : ℕ → ℕ) (items : List Item) (i : ℕ) (d : Item) (
 
   pub amounts_fit : (sum v top : ℕ) → sum ≡ amounts_to x at (take i items) → (get_or items i d).amount ≤ x
       → v ≡ at (x - (get_or items i d).amount) → ((k : ℕ) → at k ≤ top) → x ≤ 65536 → top ≤ 2 ^ 56
-      → weight_sum items ≤ 2 ^ 30
+      → weight_sum items ≤ 2 ^ 40
       → sum + (get_or items i d).amount * (get_or items i d).weight * v < 2 ^ 128
   amounts_fit sum v top so_far near value most few small light =
       let all : sum + (get_or items i d).amount * (get_or items i d).weight * v ≤ x * top * weight_sum items =

@@ -1,7 +1,7 @@
 //! Joint means of one unit from its claims and one grid.
 
 ghost use Rattle.std.specs.Prelude.{ℕ, ◌≡◌, ◌+◌, ◌-◌, ◌*◌, ◌^◌, ◌<◌, ◌≤◌, min, length};
-ghost use Rattle.dl_limits.specs.Limits.{most_parts, most_claim_mean};
+ghost use Rattle.dl_limits.specs.Limits.{most_weights, most_claim_mean};
 ghost use Rattle.dl_exact.specs.Prelude.{whole, ◌over◌, ◌*ℚ◌, sum_to};
 ghost use Rattle.dl_grid.specs.Prelude.{low_at, high_at, spread, up};
 ghost use Rattle.dl_plan.specs.Prelude.{weight_sum, expected_count, thinned_mean};
@@ -21,7 +21,7 @@ use dl_plan::{Item, Unit, numerator_over};
 /// of the cell at the rest of `q`.
 fn cell_sums<const B: u32>(items: &[Item], total: &Distribution<B>, q: u32) -> (u128, u128)
     requires inside { q < length total.now }
-    requires within { weight_sum items.now ≤ most_parts }
+    requires within { weight_sum items.now ≤ most_weights }
     ensures low { result.0 ≡ amounts_to q (low_at total.now) items.now }
     ensures high { result.1 ≡ amounts_to q (high_at total.now) items.now }
 {
@@ -61,7 +61,7 @@ fn of_claims<const B: u32>(unit: &Unit, low: u128, high: u128) -> Iv<B>
     if mean.num() == 0 {
         return Iv::point(0);
     }
-    let positive = numerator_over(unit.sev.share_above_zero(), unit.sev.total as u64);
+    let positive = numerator_over(unit.sev.share_above_zero(), unit.sev.total);
     let one = Iv {
         lo: low / positive,
         hi: high.div_ceil(positive),

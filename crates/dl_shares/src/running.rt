@@ -1,7 +1,7 @@
 //! Sums over the amounts of one claim of what a total has up to the rest of a total.
 
 ghost use Rattle.std.specs.Prelude.{◌≡◌, ◌<◌, ◌≤◌, length};
-ghost use Rattle.dl_limits.specs.Limits.{most_parts};
+ghost use Rattle.dl_limits.specs.Limits.{most_weights};
 ghost use Rattle.dl_grid.specs.Cells.{low_at};
 ghost use Rattle.dl_plan.specs.Prelude.{weight_sum};
 ghost use Rattle.dl_shares.specs.Amounts.{amounts_to};
@@ -48,7 +48,7 @@ pub(crate) fn running_sums<const B: u32>(
     q: u32,
 ) -> (u128, u128)
     requires inside { q < length total.now }
-    requires within { weight_sum items.now ≤ most_parts }
+    requires within { weight_sum items.now ≤ most_weights }
     ensures low { result.0 ≡ amounts_to q (sums_of (low_at total.now)) items.now }
     ensures parts { result.1 ≡ amounts_to q (λ _. 1) items.now }
 {

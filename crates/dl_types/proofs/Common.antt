@@ -28,7 +28,7 @@ pub use Rattle.dl_ast.specs.declared.ast.Program.{Program}
 pub use Rattle.dl_ast.specs.declared.ast.UnitAst.{UnitAst}
 pub use Rattle.dl_plan.proofs.Horizons.{horizon_is, same_horizon}
 pub use Rattle.dl_plan.specs.Clause.{Clause, IsClause, kept}
-pub use Rattle.dl_plan.specs.Fine.{HasPartsOf48Bits, common_denominator, IsFineTo30Bits, IsWhole}
+pub use Rattle.dl_plan.specs.Fine.{HasPartsOf48Bits, common_denominator, IsFineTo40Bits, IsWhole}
 unfoldable pub use Rattle.dl_plan.specs.Horizon.{horizon}
 pub use Rattle.dl_plan.specs.Severity.{HasDistribution, Pairs, mean_amount, probability, pairs_of, probability_of}
 pub use Rattle.dl_plan.specs.Valid.{IsValidUnit, IsNewZero, IsWithinMostAmount, IsAggregate, IsValid}

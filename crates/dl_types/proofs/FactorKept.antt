@@ -1,5 +1,5 @@
 -- Units that are not too large for a factor can share it in a valid plan.
-use Rattle.dl_types.proofs.Common.{◌≡◌, ◌∙◌, ℕ, suc, ◌<◌, Bool, true, false, nat_lt, List, map, Option, Some, None, refl, sym, ap, ap₂, subst, All, ltb-false, not-false, most_shape, Fraction, whole, ◌<ℚ◌, ◌≤ℚ◌, HasPartsOf48Bits, pos_num, is_some, Span, at_if, not_at, Ok, IfSome, Settings, Program, AnswersUnits, shape_of, breaks, ◌else◌, flat_map, leb-true, or_parts, most_expected, most_parts, UnitOfPlan, CanShare, HasCommonFactor, expected_of, thinned_of, raised, unit_share, shared_probabilities, expected_count, IsFineTo30Bits, common_denominator, thinned_mean, is_fine, is_zero, not_above, zero_above, IsShapeIn, Part, part_of, passes_bounds, passes_with, is_too_large, Numeral, PortHead, value, is_bad_numeral, within, IsSharedShape, IsWrittenShape, has_bad_shape, has_common, common_shape, common_size, parts_in, fault_of_port}
+use Rattle.dl_types.proofs.Common.{arith, ◌≡◌, ◌∙◌, ℕ, suc, ◌<◌, Bool, true, false, nat_lt, List, map, Option, Some, None, refl, sym, ap, ap₂, subst, All, ltb-false, not-false, most_shape, Fraction, whole, ◌<ℚ◌, ◌≤ℚ◌, HasPartsOf48Bits, pos_num, is_some, Span, at_if, not_at, Ok, IfSome, Settings, Program, AnswersUnits, shape_of, breaks, ◌else◌, flat_map, leb-true, or_parts, most_expected, most_parts, UnitOfPlan, CanShare, HasCommonFactor, expected_of, thinned_of, raised, unit_share, shared_probabilities, expected_count, IsFineTo40Bits, common_denominator, thinned_mean, is_fine, is_zero, not_above, zero_above, IsShapeIn, Part, part_of, passes_bounds, passes_with, is_too_large, Numeral, PortHead, value, is_bad_numeral, within, IsSharedShape, IsWrittenShape, has_bad_shape, has_common, common_shape, common_size, parts_in, fault_of_port}
 use Rattle.dl_types.proofs.PlannedCounts.{admitted_is}
 use Rattle.dl_types.specs.declared.rule.Rule.TheVariants as rules
 use Rattle.dl_types.proofs.ExposedCounts.{shape_above, whole_is}
@@ -15,8 +15,8 @@ both_there r parts None h e = absurd cc
 both_there r parts (Some v) None e = absurd cc
 both_there r parts (Some v) (Some h) e = (v, h, refl, refl, e)
 
-is_fine_list : (xs : List Fraction) → is_fine most_parts xs ≡ true → IsFineTo30Bits xs
-is_fine_list xs h = leb-true (common_denominator xs) most_parts h
+is_fine_list : (xs : List Fraction) → is_fine most_parts xs ≡ true → IsFineTo40Bits xs
+is_fine_list xs h = omega (arith, leb-true (common_denominator xs) most_parts h)
 
 module _ (r : ℕ) (units : List UnitOfPlan) (some : 0 < r) (can : All CanShare units)
     (kept : is_too_large r (map part_of units) ≡ false) where
@@ -49,9 +49,9 @@ module _ (r : ℕ) (units : List UnitOfPlan) (some : 0 < r) (can : All CanShare 
             (admitted_is (raised r h) (not-false _ coarse.1));
         few = subst (λ x. raised r x ≤ℚ whole most_expected) thinned
             (not_above (raised r h) (whole most_expected) large.1);
-        shares = subst (λ x. IsFineTo30Bits (map (unit_share x) units)) all
+        shares = subst (λ x. IsFineTo40Bits (map (unit_share x) units)) all
             (is_fine_list (map (unit_share v) units) (not-false _ shares.1));
-        products = subst (λ x. IsFineTo30Bits (flat_map (shared_probabilities x) units)) all
+        products = subst (λ x. IsFineTo40Bits (flat_map (shared_probabilities x) units)) all
             (is_fine_list (flat_map (shared_probabilities v) units) (not-false _ products.1));
       }
 

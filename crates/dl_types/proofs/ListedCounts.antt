@@ -1,5 +1,7 @@
 -- Listed counts: what the rules leave of them, and what their table is.
-use Rattle.dl_types.proofs.Common.{◌≡◌, ◌∙◌, ℕ, ◌*◌, ◌≤◌, ◌==◌, false, not, nat_lt, List, [], ◌∷◌, zip, map, length, get_or, Option, Some, None, sym, ap, ap₂, arith, All, All-nil, All-cons, All-head, All-tail, All-map, sum_by-cons, most_count, Fraction, whole, ◌over◌, Item, Sev, HasPartsOf48Bits, HasDistribution, whole_num, whole_den, ValueList, Shares, probs_of, is_whole, not_at, not-false, pairs_of_counts, passes, never, items_in, eqb-true, length-replicate, mul-le-mul_right, weight_sum, weighted_sum, num_of_over-le, den_of_over-le, total_pos, within, other_length, support_all}
+use Rattle.dl_types.proofs.Common.{inl, inr, subst, admitted_bound, ◌≡◌, ◌∙◌, ℕ, ◌*◌, ◌≤◌, ◌==◌, false, not, nat_lt, List, [], ◌∷◌, zip, map, length, get_or, Option, Some, None, sym, ap, ap₂, arith, All, All-nil, All-cons, All-head, All-tail, All-map, sum_by-cons, most_count, Fraction, whole, ◌over◌, Item, Sev, HasPartsOf48Bits, HasDistribution, whole_num, whole_den, ValueList, Shares, probs_of, is_whole, not_at, not-false, pairs_of_counts, passes, never, items_in, eqb-true, length-replicate, mul-le-mul_right, weight_sum, weighted_sum, num_of_over-le, den_of_over-le, total_pos, within, other_length, support_all}
+use Rattle.std.proofs.lemmas.Bool.{cases_lt}
+use Rattle.dl_exact.proofs.Over.{over_same}
 use Rattle.dl_types.specs.Listed.{AreCounts}
 
 -- ---- limits
@@ -70,7 +72,16 @@ table_admitted sev few =
     let t = sev.total in
     let s = weighted_sum sev.items in
     let small : s ≤ most_count * weight_sum sev.items = weighted_within sev.items few in
-    record {
-      num = omega (arith, num_of_over-le s t (total_pos sev), small, sev.weighted.sum, sev.weighted.within);
-      den = omega (arith, den_of_over-le s t (total_pos sev), sev.weighted.within);
-    }
+    elim (cases_lt s admitted_bound) [
+      | inl below ↦ record {
+        num = omega (arith, num_of_over-le s t (total_pos sev), below);
+        den = omega (arith, den_of_over-le s t (total_pos sev), sev.weighted.within);
+      }
+      | inr far ↦
+          let all : s ≡ most_count * t = omega (arith, far, small, sev.weighted.sum, sev.weighted.within) in
+          subst HasPartsOf48Bits (over_same most_count 1 s t (omega arith) (total_pos sev) (omega (arith, all)))
+          (record {
+            num = omega (arith, num_of_over-le most_count 1 (omega arith));
+            den = omega (arith, den_of_over-le most_count 1 (omega arith));
+          })
+    ]

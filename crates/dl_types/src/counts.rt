@@ -15,7 +15,7 @@ use crate::frequencies::{exposed_count, exposed_too_many};
 use dl_buckets::{GridCount, Shares, ValueList, is_above, span_if, weights_among};
 use dl_frac::Frac;
 use dl_lexer::Span;
-use dl_limits::{MOST_COUNT, MOST_PARTS};
+use dl_limits::{MOST_COUNT, MOST_WEIGHTS};
 use dl_plan::Freq;
 use dl_sev::merge;
 use std::alloc::{AllocError, Global};
@@ -83,7 +83,7 @@ fn count_table(
 {
     let values = counts.values.as_slice();
     let numbers = numbers_of(alloc, values)?;
-    let weights = weights_among(alloc, values.len(), probs, MOST_PARTS)?.unwrap();
+    let weights = weights_among(alloc, values.len(), probs, MOST_WEIGHTS)?.unwrap();
     let table = merge(alloc, &numbers, &weights)?;
     Ok(Freq::Table {
         counts: table.items,

@@ -38,7 +38,7 @@ pub(crate) fn listed_claims<const B: u32>(
     work: &mut Workspace,
     sev: &Sev,
     counts: &[Item],
-    total: u32,
+    total: u64,
     cells: u32,
 ) -> Result<Grid<B>, AllocError>
     requires size { IsGridSize B cells }

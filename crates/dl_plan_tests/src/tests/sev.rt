@@ -12,7 +12,7 @@ type Parts<'a> = &'a [(u64, u64)];
 
 /// The amounts of a severity with their weights, and what these come to; no amounts where no
 /// severity is wanted.
-type Shown<'a> = (&'a [(u32, u32)], u32);
+type Shown<'a> = (&'a [(u32, u64)], u64);
 
 /// Fractions of these parts; a part of 0 below the line is left out.
 fn fractions(alloc: Global, parts: Parts<'_>) -> Result<Vec<Frac>, AllocError> {
@@ -30,34 +30,34 @@ fn fractions(alloc: Global, parts: Parts<'_>) -> Result<Vec<Frac>, AllocError> {
 fn weighed(alloc: Global, parts: Parts<'_>) -> Result<Weights, WeighFault>
     ensures sum { IfOk result (λ made. sum made.weights ≡ made.total) }
     ensures some { IfOk result (λ made. 1 ≤ made.total) }
-    ensures within { IfOk result (λ made. made.total ≤ 2 ^ 30) }
+    ensures within { IfOk result (λ made. made.total ≤ 2 ^ 40) }
 {
-    weigh(alloc, &fractions(alloc, parts)?)
+    weigh(alloc, &fractions(alloc, parts)?, 1 << 40)
 }
 
 /// Probabilities, their weights and what these come to, or why there are none. The last weights
-/// have the common denominator 2^30. What is not 1 in sum and has a common denominator above 2^30
+/// have the common denominator 2^40. What is not 1 in sum and has a common denominator above 2^40
 /// is too fine.
-const WEIGHTS: [(Parts<'_>, &[u32], u32, Option<WeighFault>); 8] = [
+const WEIGHTS: [(Parts<'_>, &[u64], u64, Option<WeighFault>); 8] = [
     (&[(1, 2), (1, 3), (1, 6)], &[3, 2, 1], 6, None),
     (&[(1, 2), (1, 2), (0, 1)], &[1, 1, 0], 2, None),
     (&[(1, 3), (1, 3), (1, 3)], &[1, 1, 1], 3, None),
     (
-        &[(1, 1 << 30), ((1 << 30) - 1, 1 << 30)],
-        &[1, 1_073_741_823],
-        1 << 30,
+        &[(1, 1 << 40), ((1 << 40) - 1, 1 << 40)],
+        &[1, 1_099_511_627_775],
+        1 << 40,
         None,
     ),
     (&[(1, 3), (1, 3)], &[], 0, Some(WeighFault::NotOne)),
     (&[(1, 2), (1, 2), (1, 9)], &[], 0, Some(WeighFault::NotOne)),
     (
-        &[(1, (1 << 30) + 1), (1 << 30, (1 << 30) + 1)],
+        &[(1, (1 << 40) + 1), (1 << 40, (1 << 40) + 1)],
         &[],
         0,
         Some(WeighFault::TooFine),
     ),
     (
-        &[(1, (1 << 30) + 1), (1, 3)],
+        &[(1, (1 << 40) + 1), (1, 3)],
         &[],
         0,
         Some(WeighFault::TooFine),
@@ -68,8 +68,8 @@ const WEIGHTS: [(Parts<'_>, &[u32], u32, Option<WeighFault>); 8] = [
 fn is_weighed(
     alloc: Global,
     parts: Parts<'_>,
-    weights: &[u32],
-    total: u32,
+    weights: &[u64],
+    total: u64,
     fault: Option<WeighFault>,
 ) -> bool {
     match weighed(alloc, parts) {
@@ -182,7 +182,7 @@ fn mixture(alloc: Global, atoms: &[Sev], parts: Parts<'_>) -> Result<Sev, MixFau
             alloc,
             atoms,
             &weights,
-            1 << 30,
+            1 << 40,
         ),
         _ => Err(MixFault::OutOfMemory),
     }
@@ -193,11 +193,11 @@ const HALVES: Parts<'_> = &[(1, 2), (1, 2)];
 
 const THIRDS: Parts<'_> = &[(1, 3), (1, 3), (1, 3)];
 
-/// An amount of probability 1 / 2^29, and one of all that is left.
-const FINE: Parts<'_> = &[(1, 1 << 29), ((1 << 29) - 1, 1 << 29)];
+/// An amount of probability 1 / 2^39, and one of all that is left.
+const FINE: Parts<'_> = &[(1, 1 << 39), ((1 << 39) - 1, 1 << 39)];
 
-/// Two atoms, their weights, and the mixture; none where its common denominator is 2^31.
-const MIXED: [(Listed<'_>, Listed<'_>, Parts<'_>, Shown<'_>); 4] = [
+/// Two atoms, their weights, and the mixture; none where its common denominator is 2^41, or 2^78.
+const MIXED: [(Listed<'_>, Listed<'_>, Parts<'_>, Shown<'_>); 5] = [
     // 1 and 2, or 2, 3 and 4, each with 1/2: 2 has 1/4 + 1/6
     (
         (&[1, 2], HALVES),
@@ -212,12 +212,12 @@ const MIXED: [(Listed<'_>, Listed<'_>, Parts<'_>, Shown<'_>); 4] = [
         &[(1, 1), (0, 1)],
         (&[(1, 1)], 1),
     ),
-    // a common denominator of 2^30, and of 2^31
+    // a common denominator of 2^40, of 2^41 and of 2^78
     (
         (&[1, 2], FINE),
         (&[1], &[(1, 1)]),
         HALVES,
-        (&[(1, (1 << 29) + 1), (2, (1 << 29) - 1)], 1 << 30),
+        (&[(1, (1 << 39) + 1), (2, (1 << 39) - 1)], 1 << 40),
     ),
     (
         (&[1, 2], FINE),
@@ -225,6 +225,7 @@ const MIXED: [(Listed<'_>, Listed<'_>, Parts<'_>, Shown<'_>); 4] = [
         &[(1, 4), (3, 4)],
         (&[], 0),
     ),
+    ((&[1, 2], FINE), (&[1], &[(1, 1)]), FINE, (&[], 0)),
 ];
 
 #[test]

@@ -14,7 +14,7 @@ pub returns-in-Err-NotOne-clause-read : goal.returns-in-Err-NotOne-clause-read
 returns-in-Err-NotOne-clause-read c =
     let xs = c.args.values.items in
     let made = c.weighed-in-Err-NotOne.ensures in
-    let other = (rw (c.in-Err-NotOne.field-0-is, c.deref.ensures.value) at c.in-Err-NotOne.ensures).1 in
+    let other = (rw (c.in-Err-NotOne.field-0-is, c.deref.ensures.value) at c.in-Err-NotOne.ensures.weights).1 in
     let sum = c.span_if-sum.ensures ∙ ap (λ b. at_if b c.args.span) (rw c.deref-in-Err-NotOne.ensures.value at c.is_fine.ensures)
     ∙ breaks_one c.args.bounds.parts xs c.args.span other in
     record {

@@ -10,7 +10,7 @@ enclose-requires c =
     let sev = c.args.sev.now in
     let is : c.from.result * c.from-2.result ≡ q.den * sev.total =
     ap₂ (λ m n. m * n) (c.from.ensures ∙ c.den.ensures.part) c.from-2.ensures in
-    let small : q.den * sev.total < 2 ^ 80 = parts_small q.den sev.total c.args.chance.den sev.weighted.within in
+    let small : q.den * sev.total < 2 ^ 88 = parts_small q.den sev.total c.args.chance.den sev.weighted.within in
     let pos : 0 < q.den * sev.total = mul-pos q.positive (severity_total sev) in
     (omega arith) also (omega arith) also (omega arith) also (omega (arith, is, pos)) also (omega (arith, is, small))
     also (omega (arith, c.trial_parts.ensures.within, small))

@@ -1,6 +1,21 @@
-use Rattle.dl_panjer.proofs.Common.{◌+◌, ◌<◌, ◌^◌, arith, eqb, not}
+use Rattle.dl_panjer.proofs.Common.{◌+◌, ◌<◌, ◌^◌, arith, eqb, not, Item, size_few}
+use Rattle.std.proofs.lemmas.List.Sums.{sum_by_more_le}
 use Rattle.dl_panjer.proofs.Reading.{low_small, high_small, low_more, high_more, low_fits, high_fits}
 use Rattle.dl_panjer.proofs.sums.sums_over.Goals as goal
+
+abbrev none : Item
+none = record { amount = 0; weight = 0 }
+
+pub factor-factor-requires-clause-near : goal.factor-factor-requires-clause-near
+factor-factor-requires-clause-near g c =
+    omega (arith, c.requires.near c.items.item-index none c.items-test.true, size_few c.requires.cells.size)
+
+pub factor-factor-requires-clause-within : goal.factor-factor-requires-clause-within
+factor-factor-requires-clause-within g c = omega (
+  arith,
+  sum_by_more_le (λ (i : Item). i.weight) c.args.items.now c.items.item-index none c.items-test.true,
+  c.requires.within,
+)
 
 pub product-low-requires : goal.product-low-requires
 product-low-requires g c = low_small (not (eqb g.row.BY_AMOUNT 0)) c.args.cells.now c.args.items.now c.requires.cells

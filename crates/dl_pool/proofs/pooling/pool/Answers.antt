@@ -1,6 +1,6 @@
 -- All units are pooled, and nothing is refused. The one unit is that of the definition, so its plan is valid and declares
 -- the same.
-use Rattle.dl_pool.proofs.Common.{◌≡◌, ◌≤◌, ◌∙◌, ap, ap₂, sym, subst, subst₂, refl, length, length-map, map, take, flat_map, Bor, Gamma, UnitOfPlan, whole, ◌<ℚ◌, HasPartsOf48Bits, IsFineTo30Bits, expected_of, unit_share, shared_probabilities, lent, pooled_severity, poisson_units, has_factor}
+use Rattle.dl_pool.proofs.Common.{◌≡◌, ◌≤◌, ◌∙◌, ap, ap₂, sym, subst, subst₂, refl, length, length-map, map, take, flat_map, Bor, Gamma, UnitOfPlan, whole, ◌<ℚ◌, HasPartsOf48Bits, IsFineTo40Bits, expected_of, unit_share, shared_probabilities, lent, pooled_severity, poisson_units, has_factor}
 use Rattle.dl_pool.proofs.Alone.{pooled_valid, same_declared}
 use Rattle.dl_pool.proofs.Named.{first_name, all_lent, each_expected, all_expected}
 use Rattle.dl_pool.proofs.Units.{none_there}
@@ -44,8 +44,8 @@ unreachable-requires-in_default-2 c =
     c.expected.ensures.value in
     let factor = has_factor plan c.requires.0 c.requires.1 in
     none_there _ c.in_default-2.is (c.in_ok-sev.ensures.there
-    (subst₂ (λ v us. IsFineTo30Bits (map (unit_share v) us)) (sym mean) (sym are) factor.shares)
-    (subst₂ (λ v us. IsFineTo30Bits (flat_map (shared_probabilities v) us)) (sym mean) (sym are) factor.products))
+    (subst₂ (λ v us. IsFineTo40Bits (map (unit_share v) us)) (sym mean) (sym are) factor.shares)
+    (subst₂ (λ v us. IsFineTo40Bits (flat_map (shared_probabilities v) us)) (sym mean) (sym are) factor.products))
 
 pub returns-clause-pooled : goal.returns-clause-pooled
 returns-clause-pooled c r shares =

@@ -1,4 +1,4 @@
-use Rattle.dl_pool.proofs.Common.{◌∙◌, ap, subst, lent, IsFineTo30Bits, sum_of}
+use Rattle.dl_pool.proofs.Common.{◌∙◌, ◌≤◌, ap, subst, lent, common_denominator, sum_of}
 use Rattle.std.specs.Prelude.{IfOk, IfSome, IsSome}
 use Rattle.dl_sev.specs.Prelude.{IsWeighing}
 use Rattle.dl_pool.proofs.Units.{shares_one}
@@ -7,6 +7,7 @@ use Rattle.dl_pool.proofs.pooling.unit_weights.Goals as goal
 pub weights_of-requires : goal.weights_of-requires
 weights_of-requires c =
     let parts = rw c.in-Some.is at c.in_ok-parts.ensures.value in record {
+      most = c.requires.most;
       one = ap sum_of (c.deref.ensures.value ∙ parts)
           ∙ shares_one (lent c.args.units.now) c.args.all c.requires.all c.requires.some;
     }
@@ -20,5 +21,5 @@ returns-clause-value c =
 pub returns-clause-there : goal.returns-clause-there
 returns-clause-there c =
     let parts = rw c.in-Some.is at c.in_ok-parts.ensures.value in
-    subst (λ t. IfOk c.weights_of.result (λ made. IsFineTo30Bits t → IsSome made)) (c.deref.ensures.value ∙ parts)
-    c.weights_of.ensures.there
+    subst (λ t. IfOk c.weights_of.result (λ made. common_denominator t ≤ c.args.most → IsSome made))
+    (c.deref.ensures.value ∙ parts) c.weights_of.ensures.there

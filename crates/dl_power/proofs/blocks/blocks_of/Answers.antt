@@ -25,7 +25,7 @@ block-requires g c =
     let near = place_near c.loop-i.i c.args.blocks (length c.args.powers.now) c.from.result c.from.ensures
     c.loop-i-test.true c.requires.near in
     let r = c.requires in
-    (omega arith, (r.size, (r.sum, (r.positive, (r.one, (r.most, (near, (r.few, r.powers))))))))
+    (omega arith, (r.size, (r.sum, (r.positive, (r.within, (r.one, (r.most, (near, (r.few, r.powers)))))))))
 
 pub loop-i-preserved : goal.loop-i-preserved
 loop-i-preserved g c =

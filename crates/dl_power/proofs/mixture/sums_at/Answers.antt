@@ -1,4 +1,4 @@
-use Rattle.dl_power.proofs.Common.{ℕ, ◌<◌, ◌≡◌, ◌*◌, ◌^◌, List, [], length, get_or, arith, sym, ap, ◌∙◌, Iv, low_at, high_at, count_below, below_nothing}
+use Rattle.dl_power.proofs.Common.{ℕ, ◌<◌, ◌≤◌, ◌≡◌, ◌*◌, ◌^◌, List, [], length, get_or, arith, sym, ap, ◌∙◌, Iv, low_at, high_at, count_below, below_nothing}
 use Rattle.dl_power.proofs.EndLists.{mixture_end_is, mixture_end_more, product_small}
 use Rattle.dl_power.proofs.mixture.sums_at.Goals as goal
 
@@ -17,7 +17,8 @@ loop-i-preserved g c =
     let inside : c.loop-i.i < length c.args.grids.now = omega arith in
     let grid = c.index-grids-i.result in
     let weight : c.from-weight.result ≡ get_or c.args.weights.now c.loop-i.i 0 = c.from-weight.ensures in
-    let few : c.from-weight.result < 2 ^ 32 = omega (arith, weight, c.type_inv.weights c.loop-i.i) in
+    let few : c.from-weight.result ≤ 2 ^ 40 =
+    omega (arith, weight, c.requires.fits c.loop-i.i 0 (omega (arith, inside, c.requires.as_many))) in
     let low = c.end_at.ensures.end ∙ c.lows.ensures.each x in
     let high = c.end_at-in-loop-i.ensures.end ∙ c.highs.ensures.each x in
     let small_low = product_small c.from-weight.result c.end_at.result few (c.end_at.ensures.small c.lows.ensures.fits) in
@@ -42,5 +43,4 @@ returns g c =
     record {
       low = c.loop-i.invariant.low ∙ ends (λ g. low_at g x);
       high = c.loop-i.invariant.high ∙ ends (λ g. high_at g x);
-      small = omega (arith, c.loop-i.invariant.small, all, c.requires.few);
     }

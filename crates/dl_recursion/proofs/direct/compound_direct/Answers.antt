@@ -13,6 +13,8 @@ use Rattle.dl_recursion.proofs.Units.{chance_scaled}
 use Rattle.dl_recursion.proofs.Top.{follows, ends_enclose}
 use Rattle.dl_recursion.proofs.direct.compound_direct.Goals as goal
 use Rattle.dl_plan.proofs.Means.{severity_total}
+use Rattle.dl_exact.proofs.Parts.{over_num_le}
+use Rattle.std.proofs.Common.{ap}
 
 few_steps : (a b n : ℕ) → a ≤ 1 → b ≤ most_shape → n ≤ most_cells → (a + b) * n < 2 ^ 32
 few_steps a b n p q few =
@@ -48,6 +50,19 @@ make-requires g c = grind (arith, mul-pos c.args.steps.positive (severity_total 
 pub nonzero_div-rows : goal.nonzero_div-rows
 nonzero_div-rows g c =
     omega (arith, step_above c.args.sev.now c.common_amount-step.ensures c.as_slice.ensures c.requires.no_zero)
+
+pub is_within_words-requires-clause-ratio_small : goal.is_within_words-requires-clause-ratio_small
+is_within_words-requires-clause-ratio_small g c =
+    let sev = c.args.sev.now in
+    let s = c.args.steps in
+    let lowest : c.in-Ok.ratio ≡ s.numerator over (s.denominator * sev.total) =
+    rw (c.from.ensures, c.from-2.ensures, c.from-3.ensures) at c.in-Ok.ensures.0 in
+    omega (
+      arith,
+      ap (λ (x : Fraction). x.num) lowest,
+      over_num_le s.numerator (s.denominator * sev.total) (mul-pos s.positive (severity_total sev)),
+      s.numerator_small,
+    )
 
 pub is_within_words-requires-clause-cells_small : goal.is_within_words-requires-clause-cells_small
 is_within_words-requires-clause-cells_small g c =

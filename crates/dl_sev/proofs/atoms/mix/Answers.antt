@@ -1,7 +1,8 @@
 -- The amounts with the weights of the products are the mixture.
 use Rattle.dl_plan.specs.Prelude.{common_denominator}
 use Rattle.dl_sev.proofs.Common.{◌∙◌, ◌≤◌, ◌++◌, map, get_or, ap, subst, sym, ◌over◌, amounts_of, probability, mixture_of, mixed_probability, sum_of}
-use Rattle.dl_sev.proofs.Mixed.{amounts-more, probs-more, weighed-back, as_many, mixture_whole, mixture_one, firsts, seconds}
+use Rattle.dl_sev.proofs.Mixed.{amounts-more, probs-more, weighed-back, as_many, coarse_mixture, mixture_whole, mixture_one, firsts, seconds}
+use Rattle.dl_sev.specs.Refusals.{RefusesProducts}
 use Rattle.dl_sev.proofs.atoms.mix.Goals as goal
 
 pub atoms-preserved : goal.atoms-preserved
@@ -14,9 +15,16 @@ atoms-preserved c =
           (c.in_ok-push_amounts.ensures ∙ ap (λ xs. c.atoms.amounts.items ++ amounts_of xs) c.as_slice.ensures);
       probs = probs-more t c.args.atoms.now c.args.weights.now.weights c.atoms.at 0 atom c.atoms-test.true
           c.requires.lengths c.index-atoms-at.is c.atoms.probs.items _ c.atoms.invariant.probs
-          (c.in_ok-push_probs.ensures ∙ ap (λ ws. c.atoms.probs.items ++ map
+          (c.in_default.ensures ∙ ap (λ ws. c.atoms.probs.items ++ map
           (mixed_probability (get_or ws c.atoms.at 0 over t) atom.total) atom.items) c.as_slice-parts.ensures);
     }
+
+pub returns-in-Err-clause-step : goal.returns-in-Err-clause-step
+returns-in-Err-clause-step c =
+    coarse_mixture c.args.most c.args.atoms.now c.args.weights.now c.atoms.at 0
+    c.index-atoms-at.result c.in-Err.fault c.requires.most c.atoms-test.true c.requires.lengths c.index-atoms-at.is
+    (subst (λ ws. RefusesProducts (get_or ws c.atoms.at 0 over c.args.weights.now.total) c.index-atoms-at.result
+    c.in-Err.fault) c.as_slice-parts.ensures c.in-Err.ensures)
 
 pub over_common-requires-clause-one : goal.over_common-requires-clause-one
 over_common-requires-clause-one c =
@@ -37,11 +45,11 @@ returns-clause-step c = λ x.
     ∙ ap (λ ps. probability ps x) (weighed-back (mixture_of t c.args.atoms.now c.args.weights.now.weights)
     c.deref-3.result.now c.in_ok-whole.whole amounts probs)
 
-pub returns-in_default-clause-step : goal.returns-in_default-clause-step
-returns-in_default-clause-step c = λ fine.
+pub returns-in_default-common_denominator_of-clause-step : goal.returns-in_default-common_denominator_of-clause-step
+returns-in_default-common_denominator_of-clause-step c = λ fine.
     let all = mixture_whole c.args.weights.now.total c.args.atoms.now c.args.weights.now.weights c.atoms.at
     c.atoms-test.false c.requires.lengths in
-    c.in_default.ensures
+    c.in_default-common_denominator_of.ensures
     (subst (λ xs. common_denominator xs ≤ c.args.most) (sym (c.deref.ensures.value ∙ c.atoms.invariant.probs ∙ ap seconds all)) fine)
 
 pub returns-clause-fine : goal.returns-clause-fine

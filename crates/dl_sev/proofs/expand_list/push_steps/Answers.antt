@@ -1,5 +1,5 @@
 -- Each step is one value more.
-use Rattle.dl_sev.proofs.Common.{ℕ, ◌≡◌, ◌∙◌, ◌+◌, ◌-◌, ◌*◌, ◌/◌, ◌<◌, ◌≤◌, ◌++◌, length, map, ap, ap₂, sym, arith, List, length-append, range_with_len, length-map-range_with_len, most_values, Fraction, ◌over◌, given_ok, given_value, numerator_over, steps_in, value_at, ◌^◌}
+use Rattle.dl_sev.proofs.Common.{ℕ, ◌≡◌, ◌∙◌, ◌+◌, ◌-◌, ◌*◌, ◌/◌, ◌<◌, ◌≤◌, ◌++◌, length, map, ap, ap₂, sym, arith, List, length-append, range_with_len, length-map-range_with_len, Fraction, ◌over◌, given_ok, given_value, numerator_over, steps_in, value_at, ◌^◌}
 use Rattle.dl_sev.proofs.Ranged.{pos, rising, step_pos, steps_are, term_fits, value_is, value_fits, values_length, steps_more}
 use Rattle.dl_sev.proofs.expand_list.push_steps.Goals as goal
 
@@ -11,12 +11,12 @@ pub nonzero_div-steps : goal.nonzero_div-steps
 nonzero_div-steps c = rw c.numerator_over-step.ensures
     (step_pos c.args.range.now c.requires.range c.args.den c.requires.den)
 
-pub returns-then-steps-len-clause-long : goal.returns-then-steps-len-clause-long
-returns-then-steps-len-clause-long c =
+pub returns-then-steps-most-clause-long : goal.returns-then-steps-most-clause-long
+returns-then-steps-most-clause-long c =
     let steps = steps_are c.args.range.now c.requires.range c.args.den c.requires.den in
-    let count : most_values - c.len.result ≤ steps_in c.args.range.now =
+    let count : c.args.most - c.len.result ≤ steps_in c.args.range.now =
     rw steps (rw (c.numerator_over.ensures, c.numerator_over-from.ensures, c.numerator_over-step.ensures) at
-    c.if-steps-len.true) in
+    c.if-steps-most.true) in
     omega (arith, count, values_length c.args.range.now, c.len.ensures, c.args.values.now.ok.0, c.requires.room)
 
 pub overflow_add-from : goal.overflow_add-from
@@ -90,7 +90,7 @@ returns-clause-few c =
       length-append c.args.values.now.items (map (value_at c.args.range.now) (range_with_len 0 c.steps.k)),
       length-map-range_with_len (value_at c.args.range.now) 0 c.steps.k,
       count,
-      c.if-steps-len.false,
+      c.if-steps-most.false,
       c.len.ensures,
       c.args.values.now.ok.0,
       c.requires.room,

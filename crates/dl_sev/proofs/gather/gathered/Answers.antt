@@ -24,7 +24,7 @@ from_rising-requires-clause-within c =
     let sum =
     same_sum c.args.items.items c.sorted-sorted.result.items c.in_ok-rising.rising.items c.sorted-sorted.ensures.same
     (c.in_ok-rising.ensures.sum ∙ ap weight_sum c.deref.ensures.value) in
-    subst (λ n. n ≤ 2 ^ 30) (sym sum) c.requires.within
+    subst (λ n. n ≤ 2 ^ 40) (sym sum) c.requires.within
 
 pub returns : goal.returns
 returns c = λ x.

@@ -43,7 +43,7 @@ blocks_of-requires g c =
     let powers = powers_in c.args.self.cells f c.as_slice-2.ensures.value
     (c.in_ok-powers.ensures.powers f within (own_between c.args.self.base.now c.args.self.cells)) in
     let s = c.args.self in
-    (ltb-true _ _ refl, (size, (s.sum, (s.positive, (one, (most, (near, (few, (f, within, powers)))))))))
+    (ltb-true _ _ refl, (size, (s.sum, (s.positive, (s.most, (one, (most, (near, (few, (f, within, powers))))))))))
 
 pub loop-init : goal.loop-init
 loop-init g c =
