@@ -1,5 +1,6 @@
 -- What follows of a reply, and why an accepted text is not refused.
 use Rattle.dl_top.proofs.Common.{ℕ, ◌≡◌, map, String, string_bytes, Global, ◌≤◌, List, [], ◌∷◌, length, get_or, All, Option, None, Some, Ok, Err, IfSome, IsUtf8, arith, refl, sym, ap, subst, inl, inr, ◌∙◌, Takes, TakesAtMost, Step, Reading, all_gave, unread, Token, Covers, IsBad, Program, Plan, IsValid, IsCoveredUnit, IsCovered, IsFirstUncovered, IsNotCovered, IsBadStep, IsVerified, Iv, Asked, Settings, UsageFault, words_in_range, words_are_text, words_have_few_cells, first_fault, AskBeyond, UnknownUnit, NoShare, TooWide, NoRoom, zip, All-nil, All-cons, All-head, All-tail, All-map, Rows, Row, IsGood, Fault, Read, BadByte, Syntax, Continuous, Typing, Done, fault_line, made_of, Say, IsTooLong, input_of, program_of, program_in, steps_of, limit_of, limit_for, IsReadFault, IsOfText, IfAnswer, HasParts, AreReady, IsPlanOf, HasTokens, SpellsProgram, HasPlan, HasCovered, AsksOfCert, Certifies, Verifies, IsAccepted, HasForm, IsCertifiable, IsVerifiable, Answers, Refuses, of_asks, usage, not_read, too_long, bad_byte, continuous, syntax, typing, not_covered, bad_step, asking, IsReply, IsRefusalOf, ◌<◌}
+use Rattle.dl_limits.specs.Limits.{standard_units}
 use Rattle.dl_lexer.proofs.CoverLaws.{cover_one, covered_not_bad}
 use Rattle.dl_ast.specs.Prelude.{lexemes, Spells, program}
 use Rattle.dl_parser.proofs.Whole.{one_program}
@@ -168,13 +169,17 @@ module _ (words : List (List ℕ)) (input : List ℕ) (a : Settings) (say : Say 
       (subst (λ s. RefusesAsks plan s of) set refuses))
 
 -- a covered plan has no first unit that is not covered
-covered_not_first : (units : List UnitOfPlan) (u : ℕ) → All IsCoveredUnit units → IsFirstUncovered units u → ⊥
-covered_not_first [] u all first = absurd (omega (arith, first.inside))
-covered_not_first (x ∷ xs) u all first = first.here x (all u x first.inside)
+covered_not_first : (units : List UnitOfPlan) (u : ℕ) → length units ≤ standard_units → All IsCoveredUnit units
+    → IsFirstUncovered units u → ⊥
+covered_not_first [] u few all first = absurd (omega (arith, first.inside))
+covered_not_first (x ∷ xs) u few all first = elim (first.here x) [
+  | inl far ↦ absurd (omega (arith, few, far, first.inside))
+  | inr not ↦ not (all u x first.inside)
+]
 
 covered_not_refused : (plan : Plan) (u : ℕ) → IsCovered plan → IsNotCovered plan u → ⊥
 covered_not_refused plan u covered (inl (some, at_0)) = some covered.common
-covered_not_refused plan u covered (inr (none, first)) = covered_not_first plan.units u covered.units first
+covered_not_refused plan u covered (inr (none, first)) = covered_not_first plan.units u covered.few covered.units first
 
 -- steps that certify a plan have no bad one
 not_bad : (plan : Plan) (text : List ℕ) (k : ℕ) → (grid : List (Iv 56)) × IsVerified plan text grid
