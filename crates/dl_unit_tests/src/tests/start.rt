@@ -1,5 +1,7 @@
 //! The probability of no claim of gamma counts of a shape below 1.
 
+ghost use Rattle.std.specs.Prelude.{◌<◌};
+
 use dl_frac::Frac;
 use dl_start::shape_start;
 use std::cmp::Ordering;
