@@ -53,11 +53,7 @@ fn answered<const B: u32>(
 /// names no unit, else the first for a share of the tail mean where the units share a factor, else
 /// the first that needs more width than the settings give, with the width it needs. The grids of a
 /// plan of up to 4,096 cells are in units of 1 / 2^56, those of a longer one in units of 1 / 2^48.
-pub(crate) fn evaluate(
-    alloc: Global,
-    plan: &Plan,
-    settings: &Settings,
-) -> Result<Report, EvalFault>
+pub(crate) fn evaluate(alloc: Global, plan: &Plan, settings: &Settings) -> Result<Report, EvalFault>
     requires valid { IsValid plan.now }
     requires ranges { AreInRange settings.now }
     ensures { MatchResult result (IsAnswered plan.now settings.now)

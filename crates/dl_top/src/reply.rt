@@ -20,13 +20,13 @@ ghost use Rattle.dl_parser.specs.Within.{AllInside};
 ghost use Rattle.dl_report.specs.Objects.{AsksAreText};
 ghost use Rattle.dl_answers.specs.Answers.{IsAnswered};
 
+use crate::evaluation::evaluate;
 use crate::fault::{Fault, fault_text};
 use crate::generator::made;
 use crate::parts::{limit_of, parts_of};
+use dl_answers::EvalFault;
 use dl_ast::Program;
 use dl_cert::{CertFault, VerifyFault, certify, verify};
-use crate::evaluation::evaluate;
-use dl_answers::EvalFault;
 use dl_lexer::{LexFault, Token, lex};
 use dl_limits::MOST_TEXT;
 use dl_outside::{ReadEnd, Source, read_all};
