@@ -2,7 +2,8 @@
 
 ghost use Rattle.std.specs.Prelude.{◌≡◌, ◌^◌, IfOk, MatchResult};
 ghost use Rattle.dl_plan.specs.Prelude.{AreInRange, IsPlanAt, IsValid};
-ghost use Rattle.dl_answers.specs.Answers.{AreAdmitted, IsAdmissionOf, IsAnswered, IsGoodReport, RefusesAsk};
+ghost use Rattle.dl_answers.specs.Admission.{IsAdmissionOf};
+ghost use Rattle.dl_answers.specs.Answers.{AreAdmitted, IsAnswered, IsGoodReport, RefusesAsk};
 
 use dl_answers::{Admitted, EvalFault, admit, are_means, cells_asked, mean_report, report};
 use dl_limits::{LONG_BITS, MOST_SHORT_CELLS, SHORT_BITS};

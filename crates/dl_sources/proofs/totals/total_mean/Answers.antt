@@ -3,6 +3,9 @@ use Rattle.dl_sources.proofs.Means.{means_fit, is_mean}
 use Rattle.dl_sources.proofs.Scales.{plan_scale}
 use Rattle.dl_sources.proofs.totals.total_mean.Goals as goal
 
+pub budgets_of-requires-clause-scale : goal.budgets_of-requires-clause-scale
+budgets_of-requires-clause-scale g c = plan_scale g.row.B c.args.plan.now.cells c.requires.at.at.scale
+
 pub sum-requires : goal.sum-requires
 sum-requires g c =
     let plan = c.args.plan.now in
