@@ -92,6 +92,10 @@ most_expected = 4096
 abbrev pub most_shape : ℕ
 most_shape = 10000
 
+-- the expected claims above 0 of a gamma count over its shape
+abbrev pub most_beta : ℕ
+most_beta = 32768
+
 -- the common denominator of the shares of a clause, and of what Poisson units that are pooled have
 -- of all claims and of their amounts
 abbrev pub most_parts : ℕ
@@ -124,7 +128,11 @@ most_atoms = 64
 
 -- the values of a list
 abbrev pub most_values : ℕ
-most_values = 1024
+most_values = 65536
+
+-- the same by the standard rules
+abbrev pub standard_values : ℕ
+standard_values = 1024
 
 -- the common denominator of probabilities, by the standard rules
 abbrev pub standard_weights : ℕ

@@ -1,15 +1,15 @@
 //! The bounds of a plan, of its settings and of the numbers that follow from them: each is defined
 //! once, in `specs/Limits.antt`, and here are those that code compares with.
 //!
-//! `most_amount` and `most_horizon` give the bounds that depend on a plan's number of cells, and
-//! `bounds_of` those that depend on the rules that a program is typed by. Nothing else runs, and
-//! nothing is proved of a bound alone.
+//! `most_amount`, `most_total` and `most_horizon` give the bounds that depend on a plan's number of
+//! cells, and `bounds_of` those that depend on the rules that a program is typed by. Nothing else
+//! runs, and nothing is proved of a bound alone.
 #![tactic(auto)]
 
 mod rules;
 
 ghost use Rattle.std.specs.Prelude.{◌≡◌};
-ghost use Rattle.dl_limits.specs.Limits.{bits_of, most_amount_at, most_cells_at, most_horizon};
+ghost use Rattle.dl_limits.specs.Limits.{bits_of, most_amount_at, most_cells_at, most_horizon, most_total_at};
 
 pub use rules::{Bounds, Rules, bounds_of};
 
@@ -46,8 +46,26 @@ pub const MOST_EXPECTED: u32 = 4_096;
 /// The greatest shape of a gamma count.
 pub const MOST_SHAPE: u32 = 10_000;
 
+/// The greatest number of expected claims above 0 of a gamma count over its shape.
+pub const MOST_BETA: u32 = 32_768;
+
+/// The most units of a plan.
+pub const MOST_UNITS: usize = 256;
+
 /// The most units of a plan by the standard rules.
 pub const STANDARD_UNITS: usize = 16;
+
+/// The most units of a plan whose probability of no claim is changed.
+pub const MOST_CHANGED: usize = 16;
+
+/// A change of the probability of no claim makes a mean at most so many times as large.
+pub const MOST_GROWTH: u128 = 17;
+
+/// The greatest mean of all units of a plan, in buckets.
+pub const MOST_TOTAL: u128 = 17 << 38;
+
+/// The same in a plan whose grid has at most `MOST_SHORT_CELLS` cells.
+pub const MOST_SHORT_TOTAL: u128 = 17 << 36;
 
 /// The most layers of a clause.
 pub const MOST_LAYERS: usize = 16;
@@ -56,7 +74,10 @@ pub const MOST_LAYERS: usize = 16;
 pub const MOST_ATOMS: usize = 64;
 
 /// The most values of a list.
-pub const MOST_VALUES: usize = 1_024;
+pub const MOST_VALUES: usize = 65_536;
+
+/// The most values of a list by the standard rules.
+pub const STANDARD_VALUES: usize = 1_024;
 
 /// The greatest common denominator of probabilities, by the standard rules.
 pub const STANDARD_WEIGHTS: u64 = 1 << 30;
@@ -122,6 +143,18 @@ pub fn most_amount(cells: u32) -> u32
         MOST_SHORT_AMOUNT
     } else {
         MOST_AMOUNT
+    }
+}
+
+/// The greatest mean of all units, in buckets, in a plan whose grid has `cells` cells.
+#[tactic(auto, unfolding(crate::specs::Limits::most_total_at))]
+pub fn most_total(cells: u32) -> u128
+    ensures most { result ≡ most_total_at cells }
+{
+    if cells <= MOST_SHORT_CELLS {
+        MOST_SHORT_TOTAL
+    } else {
+        MOST_TOTAL
     }
 }
 

@@ -3,7 +3,9 @@
 ghost use Rattle.std.specs.Prelude.{◌≡◌};
 ghost use Rattle.dl_limits.specs.Rules.{bounds_of};
 
-use crate::{MOST_VALUES, STANDARD_UNITS, STANDARD_WEIGHTS};
+use crate::{
+    MOST_UNITS, MOST_VALUES, MOST_WEIGHTS, STANDARD_UNITS, STANDARD_VALUES, STANDARD_WEIGHTS,
+};
 
 /// The rules that a program is typed by.
 #[derive(Clone, Copy, Debug, PartialEq, Eq)]
@@ -25,17 +27,26 @@ pub struct Bounds {
     /// The greatest common denominator of the probabilities of a list, and of the products of those
     /// of a mixture with its weights.
     pub parts: u64,
+    /// Whether the shape of a gamma factor has to be whole.
+    pub whole_shapes: bool,
 }
 
-/// The bounds of these rules. Both sets have the same so far.
+/// The bounds of these rules.
 pub fn bounds_of(rules: Rules) -> Bounds
     ensures { result ≡ bounds_of rules }
 {
     match rules {
-        Rules::Standard | Rules::Extended => Bounds {
+        Rules::Standard => Bounds {
             units: STANDARD_UNITS,
-            values: MOST_VALUES,
+            values: STANDARD_VALUES,
             parts: STANDARD_WEIGHTS,
+            whole_shapes: true,
+        },
+        Rules::Extended => Bounds {
+            units: MOST_UNITS,
+            values: MOST_VALUES,
+            parts: MOST_WEIGHTS,
+            whole_shapes: false,
         },
     }
 }

@@ -18,5 +18,5 @@ pub mod ValidUnits
 pub mod Few
 pub mod MeanSizes
 pub mod Shared
-pub mod Raised
+pub mod NextShape
 pub mod Passed

@@ -1,6 +1,7 @@
 -- Units that can share a factor, and those that can have extra claims; what units that share one keep together.
-use Rattle.dl_plan.proofs.Common.{ℕ, IfSome, subst, Option, None, Some, true, ap, refl, ◌≡◌, ◌∙◌}
+use Rattle.dl_plan.proofs.Common.{IfSome, subst, Option, None, Some, true, ap, refl, ◌≡◌, ◌∙◌}
 use Rattle.std.specs.Prelude.{Bool, false, ◌&&◌, is_none}
+use Rattle.dl_exact.specs.Fraction.{Fraction}
 use Rattle.dl_plan.specs.declared.plan.Plan.{Plan}
 use Rattle.dl_plan.specs.declared.plan.Unit.{Unit as UnitOfPlan}
 use Rattle.dl_plan.specs.declared.plan.Freq.{Freq}
@@ -63,5 +64,5 @@ shares_true u h =
     ap (λ b. b && (is_none u.cede && is_none u.zero)) (poisson_true u.freq h.count)
     ∙ ap (λ o. is_none o && is_none u.zero) h.clause ∙ ap is_none h.zero
 
-pub has_factor : (plan : Plan) (r : ℕ) → SharesFactor plan r → HasCommonFactor r plan.units
+pub has_factor : (plan : Plan) (r : Fraction) → SharesFactor plan r → HasCommonFactor r plan.units
 has_factor plan r h = subst (λ common. IfSome common (λ shape. HasCommonFactor shape plan.units)) h.shape h.valid.common

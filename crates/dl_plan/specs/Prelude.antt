@@ -2,7 +2,7 @@
 pub use Rattle.dl_plan.specs.At.{IsIndependentAt, IsPlanAt, IsUnitAt, IsUnitOn}
 pub use Rattle.dl_plan.specs.Clause.{Clause, IsBelowTop, IsClause, ceded, kept, layer, layer_shares}
 pub use Rattle.dl_plan.specs.Common.{CanRaise, CanShare, HasCommonFactor, IsGamma, IsPoisson, can_share, expected_of, is_poisson, raised, shared_probabilities, thinned_of, unit_share}
-pub use Rattle.dl_plan.specs.Count.{IsClaimCount, IsExposed, IsProbability, IsUnbounded, expected_count}
+pub use Rattle.dl_plan.specs.Count.{IsClaimCount, IsExposed, IsGammaCount, IsProbability, IsShape, IsThinnedGamma, IsThinnedTo, IsUnbounded, expected_count}
 pub use Rattle.dl_plan.specs.Facts.{facts_of}
 pub use Rattle.dl_plan.specs.Fine.{HasPartsOf48Bits, IsFineTo30Bits, IsFineTo40Bits, IsWhole, common_denominator, numerator_over}
 pub use Rattle.dl_plan.specs.Forms.{IsOfCert, IsOfPlan}
@@ -17,5 +17,5 @@ pub use Rattle.dl_plan.specs.Severity.{HasDistribution, Pairs, conditioned, mean
 pub use Rattle.dl_plan.specs.Shared.{SharesFactor}
 pub use Rattle.dl_plan.specs.Size.{AreFew, changed_units, growth, whole_mean, whole_means}
 pub use Rattle.dl_plan.specs.Terms.{ArePriced, most_terms, most_weight_parts}
-pub use Rattle.dl_plan.specs.Valid.{IsAggregate, IsNewZero, IsValid, IsValidUnit, claims_alone}
+pub use Rattle.dl_plan.specs.Valid.{IsAggregate, IsNewZero, IsSomeClaim, IsValid, IsValidUnit, claims_alone}
 pub use Rattle.dl_plan.specs.Weighted.{IsWeighted, amounts_of, common_amount, common_weight, divided_by, greatest, weight_at, weight_sum, weighted_sum}

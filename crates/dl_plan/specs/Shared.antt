@@ -1,5 +1,6 @@
 -- Valid plans whose units share a factor.
-use Rattle.std.specs.Prelude.{ℕ, ◌≡◌, Some, None}
+use Rattle.std.specs.Prelude.{◌≡◌, Some, None}
+use Rattle.dl_exact.specs.Fraction.{Fraction}
 use Rattle.dl_plan.specs.declared.plan.Plan.{Plan}
 use Rattle.dl_plan.specs.Valid.{IsValid}
 
@@ -13,6 +14,6 @@ independent plan = record {
 }
 
 -- a valid plan whose units share a factor of shape r
-pub record SharesFactor (plan : Plan) (r : ℕ) : Type 0 where
+pub record SharesFactor (plan : Plan) (r : Fraction) : Type 0 where
   pub shape : plan.common ≡ Some r
   pub valid : IsValid plan

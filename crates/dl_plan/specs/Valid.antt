@@ -1,17 +1,18 @@
 -- What a valid plan is.
-use Rattle.std.specs.Prelude.{ℕ, ◌≡◌, ◌≢◌, ◌*◌, ◌<◌, ◌≤◌, ◌^◌, None, IfSome, [], length, All, AllPairs}
+use Rattle.std.specs.Prelude.{ℕ, ⊤, ◌≡◌, ◌≢◌, ◌*◌, ◌<◌, ◌≤◌, ◌^◌, None, IfSome, [], length, All, AllPairs}
 use Rattle.dl_limits.specs.Limits.{most_amount_at, most_expected, most_horizon, most_items, most_changed, most_log2, most_total_at, most_units, rarest_claims, zero_bound}
-use Rattle.dl_exact.specs.Fraction.{Fraction, whole, ◌over◌, ◌≤ℚ◌, ◌<ℚ◌}
+use Rattle.dl_exact.specs.Fraction.{Fraction, whole, ◌over◌, ◌+ℚ◌, ◌*ℚ◌, ◌/ℚ◌, ◌≤ℚ◌, ◌<ℚ◌}
 use Rattle.dl_plan.specs.declared.cede.CedeLayer.{CedeLayer}
 use Rattle.dl_plan.specs.declared.severity.Sev.{Sev}
 use Rattle.dl_plan.specs.declared.plan.Freq.{Freq}
+use Rattle.dl_plan.specs.declared.plan.Freq.TheVariants.{Gamma}
 use Rattle.dl_plan.specs.declared.plan.Unit.{Unit as UnitOfPlan}
 use Rattle.dl_plan.specs.declared.plan.Plan.{Plan}
 use Rattle.dl_plan.specs.Fine.{HasPartsOf48Bits, IsWhole}
 use Rattle.dl_plan.specs.Weighted.{common_amount}
 use Rattle.dl_plan.specs.Clause.{Clause, kept, IsClause}
 use Rattle.dl_plan.specs.Horizon.{IsHorizon}
-use Rattle.dl_plan.specs.Count.{expected_count, IsUnbounded, IsExposed, IsClaimCount}
+use Rattle.dl_plan.specs.Count.{expected_count, IsUnbounded, IsExposed, IsClaimCount, IsThinnedTo}
 use Rattle.dl_plan.specs.Means.{thinned_mean}
 use Rattle.dl_plan.specs.Common.{HasCommonFactor}
 use Rattle.dl_plan.specs.Size.{changed_units, whole_means}
@@ -21,9 +22,15 @@ abbrev pub claims_alone : Freq → Sev → UnitOfPlan
 claims_alone freq sev =
     record { name = []; sev = sev; freq = freq; cede = None; zero = None }
 
+-- of a gamma count of a shape r below 1 and mean v, the weight of one claim, r * v / (r + v) where
+-- that of none is 1, is at least 1/16
+abbrev pub IsSomeClaim : Freq → Type 0
+IsSomeClaim (Gamma r v) = r <ℚ whole 1 → 1 over rarest_claims ≤ℚ r *ℚ (v /ℚ (r +ℚ v))
+IsSomeClaim freq = ⊤
+
 -- p can be the probability of no claim in place of that of the count: it is below 1, with both
 -- parts below 2^37; and before the change from 1/16 to 4,096 claims are expected, by a count that
--- is not listed
+-- is not listed and does not weigh one claim too little
 pub record IsNewZero (freq : Freq) (p : Fraction) : Type 0 where
   pub below : p <ℚ whole 1
   pub num : p.num < zero_bound
@@ -31,6 +38,7 @@ pub record IsNewZero (freq : Freq) (p : Fraction) : Type 0 where
   pub least : 1 over rarest_claims ≤ℚ expected_count freq
   pub most : expected_count freq ≤ℚ whole most_expected
   pub exposed : IsExposed freq
+  pub some : IsSomeClaim freq
 
 -- limit and attachment are at most 2^20 buckets where the grid has up to 4,096 cells, else 2^22
 pub record IsWithinMostAmount (cells : ℕ) (l : CedeLayer) : Type 0 where
@@ -54,6 +62,7 @@ pub record IsValidUnit (cells : ℕ) (u : UnitOfPlan) : Type 0 where
   pub expected : HasPartsOf48Bits (expected_count u.freq)
   pub thinned : IsUnbounded u.freq → HasPartsOf48Bits (thinned_mean u)
       × (thinned_mean u ≤ℚ whole most_expected)
+  pub thinned_count : IsThinnedTo u.freq (thinned_mean u)
   pub clause : IfSome u.cede (IsAggregate cells u.sev)
   pub zero : IfSome u.zero (IsNewZero u.freq)
 

@@ -29,10 +29,10 @@ pub enum Freq {
     },
     /// Poisson with this mean.
     Poisson(Frac),
-    /// Poisson mixed by a gamma factor of whole shape: negative binomial.
+    /// Poisson mixed by a gamma factor: negative binomial.
     Gamma {
-        /// The shape of the factor.
-        shape: u32,
+        /// The shape of the factor, 1 over the square of its coefficient of variation.
+        shape: Frac,
         /// The expected number of claims.
         mean: Frac,
     },
@@ -65,5 +65,5 @@ pub struct Plan {
     pub units: Items<Unit>,
     /// The shape of the gamma factor of mean 1 that all claim counts share; `None`: the units are
     /// independent.
-    pub common: Option<u32>,
+    pub common: Option<Frac>,
 }
