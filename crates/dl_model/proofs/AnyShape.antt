@@ -1,8 +1,8 @@
 -- Gamma counts of any shape: how they grow with it, their bounds, and the square root of a start.
-use Rattle.dl_model.proofs.Common.{◌≡◌, ℕ, suc, zero, ◌+◌, ◌-◌, arith, refl, sym, ap, ap₂, subst, subst₂, ◌∙◌, zero-lt-suc, fun_ext, Fraction, ◌+ℚ◌, ◌*ℚ◌, ◌/ℚ◌, ◌≤ℚ◌, ◌<ℚ◌, whole, sum_to, IsBound, IsLeastBound, times, at_zero, gamma, choose, product_below, ◌^ℚ◌, ring, one_pos, pow_times, zero_plus, times_comm, times_zero, zero_times, times_one, whole_pos, whole_le, le_refl, le_trans, le_of_eq, le_of_lt, archimedes, plus_le_both, times_le_both, times_le_cancel, div_times, sum_to_le, sum_to_same}
+use Rattle.dl_model.proofs.Common.{◌≡◌, ℕ, suc, zero, arith, sym, ap, subst, subst₂, ◌∙◌, zero-lt-suc, fun_ext, Fraction, ◌+ℚ◌, ◌*ℚ◌, ◌/ℚ◌, ◌≤ℚ◌, ◌<ℚ◌, whole, sum_to, IsBound, IsLeastBound, times, at_zero, gamma, product_below, ◌^ℚ◌, ring, one_pos, pow_times, zero_plus, times_comm, times_zero, zero_times, times_one, whole_pos, whole_le, le_refl, le_trans, le_of_eq, le_of_lt, archimedes, plus_le_both, times_le_both, times_le_cancel, div_times, sum_to_le, sum_to_same}
 use Rattle.dl_model.proofs.ValueLaws.{sum_at_zero, cauchy_level, AreLevel}
 use Rattle.dl_model.proofs.Least.{least_const}
-use Rattle.dl_model.proofs.Gamma.{gamma_zero, gamma_next, gamma_is, gamma_plus, gamma_least, over_next}
+use Rattle.dl_model.proofs.Gamma.{gamma_zero, gamma_next, gamma_plus, gamma_least, over_next}
 
 -- ---- weights
 
@@ -25,25 +25,6 @@ gamma_none x (suc n) = over_next n _ _ (gamma_next (whole 0) x n ∙ none n (gam
     none zero e = ap (λ t. t *ℚ (x *ℚ gamma (whole 0) x zero)) (zero_plus _) ∙ zero_times _
     none (suc n) e = ap (λ t. (whole 0 +ℚ whole (suc n)) *ℚ (x *ℚ t)) e
         ∙ ap (λ t. (whole 0 +ℚ whole (suc n)) *ℚ t) (times_zero x) ∙ times_zero _
-
--- of a whole shape, 0 among them, by the number of ways to choose
-pub gamma_ways : (r : ℕ) (x : Fraction) (n : ℕ) → gamma (whole r) x n ≡ whole (choose (r + n - 1) n) *ℚ x ^ℚ n
-unfolding choose ◌^ℚ◌ at_zero
-gamma_ways zero x zero = gamma_zero (whole 0) x ∙ sym (times_one _)
-gamma_ways zero x (suc n) =
-    let e : choose (zero + suc n - 1) (suc n) ≡ 0 =
-    ap₂ (λ m k. choose m (suc k)) (omega arith) (omega arith) ∙ none n zero in
-    gamma_none x (suc n) ∙ sym (ap (λ m. whole m *ℚ x ^ℚ suc n) e ∙ zero_times _)
-  where
-    none : (n k : ℕ) → choose n (suc (n + k)) ≡ 0
-    none zero k = refl
-    none (suc n) k =
-        let d : suc n + k ≡ n + suc k = omega arith in
-        let f : suc n + k ≡ suc (n + k) = omega arith in
-        omega (arith, none n k, none n (suc k), ap (λ m. choose n (suc m)) d, ap (choose n) f)
-gamma_ways (suc q) x n =
-    let e : q + n ≡ suc q + n - 1 = omega arith in
-    gamma_is q x n ∙ ap (λ m. whole (choose m n) *ℚ x ^ℚ n) e
 
 -- by a part of the parameter
 pub gamma_part : (r x y : Fraction) (n : ℕ) → gamma r (x *ℚ y) n ≡ gamma r x n *ℚ y ^ℚ n

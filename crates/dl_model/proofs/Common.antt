@@ -60,7 +60,7 @@ pub use Rattle.dl_grid.specs.Cells.{high_at, low_at}
 pub use Rattle.dl_iv.specs.declared.interval.Iv.{Iv}
 pub use Rattle.dl_model.specs.ChangedZero.{IsWithNone, changed, changed_end, with_claims, with_none}
 unfoldable pub use Rattle.dl_model.specs.ChangedZero.{without_none}
-pub use Rattle.dl_model.specs.CommonFactor.{AreSeverities, Claims, CountsTotal, IsUnit, PoissonUnit, amounts, amounts_given_counts, chances, common_sums, expected_claims, pooled_severity, pooled_unit, raised_mean, ways_to_share}
+pub use Rattle.dl_model.specs.CommonFactor.{AreSeverities, Claims, CountsTotal, IsUnit, PoissonUnit, amounts, amounts_given_counts, chances, common_sums, expected_claims, pooled_severity, pooled_unit, ways_to_share}
 unfoldable pub use Rattle.dl_model.specs.CommonFactor.{product_over, sum_over_claims}
 pub use Rattle.dl_model.specs.CommonUnits.{IsPoissonSum, poisson_unit, poisson_units}
 pub use Rattle.dl_model.specs.Divided.{divided_power}

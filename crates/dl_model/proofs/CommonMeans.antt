@@ -1,5 +1,5 @@
 -- The mean under a common factor: the sum of the means of the units.
-use Rattle.dl_model.proofs.Common.{◌≡◌, ℕ, suc, ◌≤◌, arith, ap, ap₂, subst, ◌∙◌, List, [], ◌∷◌, All, All-cons, All-nil, get_or, length, Outcome, ◌<◌, ◌≤ℚ◌, Fraction, whole, ◌+ℚ◌, ◌*ℚ◌, ◌/ℚ◌, ◌<ℚ◌, ring, sum_to, sum_over, sum_to_same, sum_to_plus, sum_to_times, times_zero, plus_times, zero_times, div_times, pairs_of, mean_amount, probability_of, expected_count, IsValidUnit, Holds, One, Mean, partial_sums, loss_of, map, declared_mean, CanShare, HasCommonFactor, expected_of, common_sums, pooled_severity, expected_claims, poisson_units, fun_ext, sum_to_none, times_right_comm, UnitOfPlan}
+use Rattle.dl_model.proofs.Common.{◌≡◌, ℕ, ◌≤◌, arith, ap, ap₂, subst, ◌∙◌, List, [], ◌∷◌, All, All-cons, All-nil, get_or, length, Outcome, ◌<◌, ◌≤ℚ◌, Fraction, whole, ◌+ℚ◌, ◌*ℚ◌, ◌/ℚ◌, ◌<ℚ◌, ring, sum_to, sum_over, sum_to_same, sum_to_plus, sum_to_times, times_zero, plus_times, zero_times, div_times, pairs_of, mean_amount, probability_of, expected_count, IsValidUnit, Holds, One, Mean, partial_sums, loss_of, map, declared_mean, CanShare, HasCommonFactor, expected_of, common_sums, pooled_severity, expected_claims, poisson_units, fun_ext, sum_to_none, times_right_comm, UnitOfPlan}
 use Rattle.dl_model.proofs.TotalLaws.{ends_in_order, holds_wider, outcomes_rise}
 use Rattle.dl_model.proofs.Bounded.{are_units, quantity_bounded, whole_positive}
 use Rattle.dl_model.proofs.ItemWeights.{severity_mean}
@@ -29,7 +29,7 @@ mixed_mean v pos (u ∷ us) far near =
 
 -- ---- the mean of the total
 
-module _ (units : List UnitOfPlan) (q : ℕ) (factor : HasCommonFactor (suc q) units) where
+module _ (units : List UnitOfPlan) (r : Fraction) (factor : HasCommonFactor r units) where
   claims_mean : sum_to (greatest_of units) (λ j. whole j *ℚ pooled_severity (poisson_units units) j) *ℚ
       expected_claims (poisson_units units)
       ≡ sum_over units declared_mean
@@ -37,12 +37,12 @@ module _ (units : List UnitOfPlan) (q : ℕ) (factor : HasCommonFactor (suc q) u
       (fun_ext (λ j. ap (λ p. whole j *ℚ p) (pooled_over units j))) (expected_units units)
       ∙ mixed_mean (expected_of units) factor.some units (greatest_of units) (omega arith)
 
-  pub shared_mean : Holds (common_sums (suc q) (poisson_units units) Mean)
-      (common_sums (suc q) (poisson_units units) One)
+  pub shared_mean : Holds (common_sums r (poisson_units units) Mean)
+      (common_sums r (poisson_units units) One)
       (sum_over units declared_mean) (sum_over units declared_mean)
-  shared_mean = subst (λ m. Holds (common_sums (suc q) (poisson_units units) Mean)
-      (common_sums (suc q) (poisson_units units) One) m m) claims_mean (common_mean q (poisson_units units)
-      (some units q factor) (are_severities units) (greatest_of units) (pooled_past units))
+  shared_mean = subst (λ m. Holds (common_sums r (poisson_units units) Mean)
+      (common_sums r (poisson_units units) One) m m) claims_mean (common_mean r factor.shape.above
+      (poisson_units units) (some units r factor) (are_severities units) (greatest_of units) (pooled_past units))
 
 -- units that can share a factor have their means alone
 each_mean : (cells : ℕ) (units : List UnitOfPlan) → All (IsValidUnit cells) units → All CanShare units
@@ -62,30 +62,30 @@ between cells units l h V valid ends exact =
     (order l V ends.0 exact.1, order V h exact.0 ends.1)
 
 -- ends of the mean of units hold it under a factor too
-pub shared_total : (cells q : ℕ) (l h : UnitOfPlan → Fraction) (units : List UnitOfPlan) → All (IsValidUnit cells) units
-    → HasCommonFactor (suc q) units → All (λ u. MeanHolds (u ∷ []) (l u) (h u)) units
-    → Holds (common_sums (suc q) (poisson_units units) Mean) (common_sums (suc q) (poisson_units units) One)
+pub shared_total : (cells : ℕ) (r : Fraction) (l h : UnitOfPlan → Fraction) (units : List UnitOfPlan) → All (IsValidUnit cells) units
+    → HasCommonFactor r units → All (λ u. MeanHolds (u ∷ []) (l u) (h u)) units
+    → Holds (common_sums r (poisson_units units) Mean) (common_sums r (poisson_units units) One)
     (sum_over units l) (sum_over units h)
-shared_total cells q l h units valid factor each =
+shared_total cells r l h units valid factor each =
     let V = sum_over units declared_mean in
     let exact = units_mean cells declared_mean declared_mean units valid (each_mean cells units valid factor.can_share) in
     let order = between cells units (sum_over units l) (sum_over units h) V valid (units_mean cells l h units valid each)
     exact in
-    holds_wider _ _ V (sum_over units l) V (sum_over units h) order.0 order.1 (shared_mean units q factor)
+    holds_wider _ _ V (sum_over units l) V (sum_over units h) order.0 order.1 (shared_mean units r factor)
 
 -- ends of the mean of one unit alone hold that of its outcome beside the others, under a factor too
-pub shared_outcome : (cells q : ℕ) (units : List UnitOfPlan) → All (IsValidUnit cells) units
-    → HasCommonFactor (suc q) units → (i : ℕ) (u : UnitOfPlan) (l h : Fraction) → i < length units
+pub shared_outcome : (cells : ℕ) (r : Fraction) (units : List UnitOfPlan) → All (IsValidUnit cells) units
+    → HasCommonFactor r units → (i : ℕ) (u : UnitOfPlan) (l h : Fraction) → i < length units
     → MeanHolds (get_or units i u ∷ []) l h
-    → Holds (common_sums (suc q) (poisson_units units) (Outcome i)) (common_sums (suc q) (poisson_units units) One) l h
-shared_outcome cells q units valid factor i u l h there held =
+    → Holds (common_sums r (poisson_units units) (Outcome i)) (common_sums r (poisson_units units) One) l h
+shared_outcome cells r units valid factor i u l h there held =
     let w = get_or units i u in
     let V = declared_mean w in
     let M = greatest_of units in
-    let outcome = subst (λ m. Holds (common_sums (suc q) (poisson_units units) (Outcome i))
-    (common_sums (suc q) (poisson_units units) One) m m)
+    let outcome = subst (λ m. Holds (common_sums r (poisson_units units) (Outcome i))
+    (common_sums r (poisson_units units) One) m m)
     (ap (λ m. expected_count w.freq *ℚ m) (severity_mean w.sev M (greatest_among units i u there)))
-    (outcome_holds q (poisson_units units) (some units q factor) (are_severities units) M (pooled_past units) i
+    (outcome_holds r factor.shape.above (poisson_units units) (some units r factor) (are_severities units) M (pooled_past units) i
     (poisson_unit w) (is_unit units i u there)) in
     let order = between cells (w ∷ []) l h V
     (All-cons (IsValidUnit cells) w [] (valid i u there) (All-nil (IsValidUnit cells))) held

@@ -53,28 +53,28 @@ pub pooled_past : (units : List UnitOfPlan) (a : ℕ) → greatest_of units < a
     → pooled_severity (poisson_units units) a ≡ whole 0
 pooled_past units a far = pooled_over units a ∙ none_past (expected_of units) units a far
 
-module _ (units : List UnitOfPlan) (q : ℕ) (factor : HasCommonFactor (suc q) units) where
+module _ (units : List UnitOfPlan) (r : Fraction) (factor : HasCommonFactor r units) where
   pub some : whole 0 <ℚ expected_claims (poisson_units units)
   some = rw (expected_units units) factor.some
 
-  pub shared_distribution : IsDistribution (common_sums (suc q) (poisson_units units))
+  pub shared_distribution : IsDistribution (common_sums r (poisson_units units))
   shared_distribution =
-      common_distribution q (poisson_units units) some (are_severities units) (greatest_of units) (pooled_past units)
+      common_distribution r factor.shape.above (poisson_units units) some (are_severities units) (greatest_of units)
+      (pooled_past units)
 
 -- ---- by the factor that a plan has, or has not
 
-pub declared_is : (plan : Plan) (r : ℕ) → plan.common ≡ Some r
+pub declared_is : (plan : Plan) (r : Fraction) → plan.common ≡ Some r
     → declared plan ≡ common_sums r (poisson_units plan.units)
 declared_is plan r shape = ap (λ common. declared_by common plan.units) shape
 
 -- where each of two holds, that which a plan declares does
-pub by_factor : (P : (Quantity → Series) → Type 0) (common : Option ℕ) (units : List UnitOfPlan)
+pub by_factor : (P : (Quantity → Series) → Type 0) (common : Option Fraction) (units : List UnitOfPlan)
     → IfSome common (λ r. HasCommonFactor r units) → P (declared_by None units)
-    → ((q : ℕ) → HasCommonFactor (suc q) units → P (common_sums (suc q) (poisson_units units)))
+    → ((r : Fraction) → HasCommonFactor r units → P (common_sums r (poisson_units units)))
     → P (declared_by common units)
 by_factor P None units factor none some = none
-by_factor P (Some zero) units factor none some = absurd (omega (arith, factor.some_shape))
-by_factor P (Some (suc q)) units factor none some = some q factor
+by_factor P (Some r) units factor none some = some r factor
 
 pub plan_distribution : (plan : Plan) → IsValid plan → IsDistribution (declared plan)
 plan_distribution plan h = by_factor IsDistribution plan.common plan.units h.common

@@ -1,21 +1,7 @@
 -- Gamma counts: their weights, sums and powers.
-use Rattle.dl_model.proofs.Common.{◌≡◌, ℕ, suc, zero, ◌+◌, ◌*◌, arith, sym, ap, ap₂, subst, subst₂, ◌∙◌, zero-lt-suc, fun_ext, Fraction, ◌+ℚ◌, ◌*ℚ◌, ◌≤ℚ◌, ◌<ℚ◌, whole, sum_to, sum_pairs, IsLeastBound, convolve, at_zero, power, gamma, product_below, choose, ◌^ℚ◌, ◌/ℚ◌, div_times, plus_assoc, plus_zero, whole_suc, ring, plus_comm, times_comm, times_assoc, plus_times, one_times, times_one, whole_plus, whole_pos, times_cancel, le_refl, le_plus, times_le_cancel, times_le_both, sum_to_same, sum_to_first, sum_to_times, whole_times}
+use Rattle.dl_model.proofs.Common.{◌≡◌, ℕ, suc, zero, ◌+◌, arith, sym, ap, ap₂, subst, subst₂, ◌∙◌, zero-lt-suc, fun_ext, Fraction, ◌+ℚ◌, ◌*ℚ◌, ◌≤ℚ◌, ◌<ℚ◌, whole, sum_to, sum_pairs, IsLeastBound, convolve, at_zero, power, gamma, product_below, ◌^ℚ◌, ◌/ℚ◌, div_times, plus_assoc, plus_zero, whole_suc, ring, plus_comm, times_comm, times_assoc, plus_times, one_times, times_one, whole_plus, whole_pos, times_cancel, le_refl, le_plus, times_le_cancel, times_le_both, sum_to_same, sum_to_first, sum_to_times}
 use Rattle.dl_model.proofs.ValueLaws.{at_zero_convolve, convolve_comm, convolve_next, sum_rises_to, at_most_rest, cauchy_level}
 use Rattle.dl_model.proofs.Least.{least_times, least_from}
-
-pub choose-absorb : (m k : ℕ) → suc k * choose (suc m) (suc k) ≡ suc m * choose m k
-unfolding choose
-choose-absorb zero zero = omega arith
-choose-absorb zero (suc k) = omega arith
-choose-absorb (suc m) zero = omega (arith, choose-absorb m zero)
-choose-absorb (suc m) (suc k) = omega (arith, choose-absorb m k, choose-absorb m (suc k))
-
-pub choose-shift : (q i : ℕ) → suc q * choose (suc (q + i)) i ≡ suc (q + i) * choose (q + i) i
-unfolding choose
-choose-shift q zero = omega arith
-choose-shift q (suc i) =
-    let d : q + suc i ≡ suc (q + i) = omega arith in
-    rw d (omega (arith, choose-shift q i, choose-absorb (q + i) i))
 
 -- ---- weights
 
@@ -39,19 +25,6 @@ gamma_next r x n =
 pub over_next : (n : ℕ) (y z : Fraction) → whole (suc n) *ℚ y ≡ whole (suc n) *ℚ z → y ≡ z
 over_next n y z e =
     times_cancel y z (whole (suc n)) (whole_pos (suc n) (zero-lt-suc n)) (times_comm _ _ ∙ e ∙ times_comm _ _)
-
--- of a whole shape, by the number of ways to choose
-pub gamma_is : (q : ℕ) (x : Fraction) (n : ℕ) → gamma (whole (suc q)) x n ≡ whole (choose (q + n) n) *ℚ x ^ℚ n
-unfolding choose ◌^ℚ◌
-gamma_is q x zero = gamma_zero (whole (suc q)) x ∙ sym (times_one _)
-gamma_is q x (suc n) =
-    let e : q + suc n ≡ suc (q + n) = omega arith in
-    let d : suc q + n ≡ suc (q + n) = omega arith in
-    over_next n _ _ (gamma_next (whole (suc q)) x n
-    ∙ ap₂ (λ s t. s *ℚ (x *ℚ t)) (sym (whole_plus (suc q) n) ∙ ap whole d) (gamma_is q x n)
-    ∙ (simp ring)
-    ∙ ap (λ t. t *ℚ (x *ℚ x ^ℚ n)) (sym (whole_times _ _) ∙ ap whole (sym (choose-absorb (q + n) n)) ∙ whole_times _ _)
-    ∙ times_assoc _ _ _ ∙ ap (λ m. whole (suc n) *ℚ (whole (choose m (suc n)) *ℚ (x *ℚ x ^ℚ n))) (sym e))
 
 -- one more in the shape, times the shape, is the shape and the number of claims times the weight
 pub gamma_shift : (r x : Fraction) (i : ℕ) → r *ℚ gamma (r +ℚ whole 1) x i ≡ (r +ℚ whole i) *ℚ gamma r x i

@@ -6,7 +6,7 @@ use Rattle.dl_model.proofs.Alike.{bounds_value}
 use Rattle.dl_model.proofs.Thin.{split}
 use Rattle.dl_model.proofs.Itself.{count_power}
 use Rattle.dl_model.proofs.Least.{least_scaled, least_sum}
-use Rattle.dl_model.proofs.Gamma.{gamma_zero, gamma_next, gamma_shift, gamma_plus, gamma_power, gamma_least, over_next}
+use Rattle.dl_model.proofs.Gamma.{gamma_zero, gamma_next, gamma_shift, gamma_plus, gamma_power, geometric_least, over_next}
 use Rattle.dl_model.proofs.AnyShape.{gamma_bound, gamma_part, whole_least}
 
 -- x is r's parameter over all amounts, x' that over the amounts above 0
@@ -191,40 +191,24 @@ div_plus a b w h e = times_cancel _ _ w h
 pub pos_plus : (a b : Fraction) → whole 0 <ℚ a → whole 0 <ℚ a +ℚ b
 pos_plus a b h = lt_of_lt_of_le (whole 0) a (a +ℚ b) h (le_plus a b)
 
--- the gamma weights of mean v in shape q + 1 have the parameter v / W, and r / W is the rest of 1, with r for q + 1
-module _ (q : ℕ) (v : Fraction) where
-  abbrev r : Fraction
-  r = whole (suc q)
-
+-- the gamma weights of mean v and shape r have the parameter v / W, and r / W is the rest of 1
+module _ (r v : Fraction) (above : whole 0 <ℚ r) where
   abbrev W : Fraction
   W = r +ℚ v
 
-  pub shape_pos : whole 0 <ℚ r
-  shape_pos = whole_pos (suc q) (zero-lt-suc q)
-
   pub mean_pos : whole 0 <ℚ W
-  mean_pos = pos_plus r v shape_pos
+  mean_pos = pos_plus r v above
 
-  pub rest_part_pos : whole 0 <ℚ r /ℚ W
-  rest_part_pos = div_pos r W shape_pos mean_pos
+  -- the sums of the weights of shape 1 with that parameter
+  pub one_least : IsLeastBound (λ N. sum_to N (gamma (whole 1) (v /ℚ W))) (W /ℚ r)
+  one_least = geometric_least (v /ℚ W) (r /ℚ W) (div_plus v r W mean_pos (plus_comm v r)) (W /ℚ r)
+      (div_pos r W above mean_pos) (times_cancel _ _ W mean_pos
+      (rw (times_assoc, div_times r W mean_pos, div_times W r above) (sym (one_times W))))
 
-  pub parts_one : v /ℚ W +ℚ r /ℚ W ≡ whole 1
-  parts_one = div_plus v r W mean_pos (plus_comm v r)
-
-  pub rest_inverse : W /ℚ r *ℚ (r /ℚ W) ≡ whole 1
-  rest_inverse = times_cancel _ _ W mean_pos
-      (rw (times_assoc, div_times r W mean_pos, div_times W r shape_pos) (sym (one_times W)))
-
-  pub gamma_of_least : (s : ℕ) → IsLeastBound (λ N. sum_to N (gamma (whole (suc s)) (v /ℚ W))) ((W /ℚ r) ^ℚ suc s)
-  gamma_of_least = gamma_least (v /ℚ W) (r /ℚ W) parts_one (W /ℚ r) rest_part_pos rest_inverse
-
-  -- the shape times a part of the mean, times the greatest sum of one shape more
-  pub shape_times : (m : Fraction) → r *ℚ (m /ℚ W) *ℚ (W /ℚ r) ^ℚ suc (suc q) ≡ m *ℚ (W /ℚ r) ^ℚ suc q
-  unfolding ◌^ℚ◌
-  shape_times m =
-      let P = (W /ℚ r) ^ℚ suc q in
-      (simp ring) ∙ ap (λ t. t *ℚ (m /ℚ W) *ℚ P) (div_times W r shape_pos)
-      ∙ ap (λ t. t *ℚ P) (times_comm W (m /ℚ W) ∙ div_times m W mean_pos)
+  -- that bound, times the shape and a part of the mean
+  pub shape_times : (m : Fraction) → W /ℚ r *ℚ (r *ℚ (m /ℚ W)) ≡ m
+  shape_times m = sym (times_assoc _ _ _) ∙ ap (λ t. t *ℚ (m /ℚ W)) (div_times W r above)
+      ∙ times_comm W (m /ℚ W) ∙ div_times m W mean_pos
 
 all_of : (v a p r : Fraction) → a +ℚ p ≡ whole 1 → v *ℚ a +ℚ (r +ℚ v *ℚ p) ≡ r +ℚ v
 all_of v a p r e = (simp ring) ∙ ap (λ s. r +ℚ v *ℚ s) e ∙ ap (λ s. r +ℚ s) (times_one v)

@@ -52,7 +52,7 @@ module _ (a b f : ℕ → Fraction) (y : ℕ) where
   triangle N = sum_to_same N _ _ (λ s e. sym (sum_pairs_times_right s (power f s y) (λ n m. a n *ℚ b m))
       ∙ sum_pairs_same s _ _ (λ n m e'. ap (λ k. a n *ℚ b m *ℚ power f k y) (sym e') ∙ sym (both n m)))
 
-  product_level : AreLevel ((product (compound a f) (compound b f)).cells y) (cell (convolve a b) f y)
+  pub product_level : AreLevel ((product (compound a f) (compound b f)).cells y) (cell (convolve a b) f y)
   product_level = level_trans _ _ _ (rows_level (λ n i. a n *ℚ power f n i) (λ m j. b m *ℚ power f m j) y)
       (level_same _ _ (λ N. sym (triangle N)))
 
@@ -102,6 +102,13 @@ module _ (w f : ℕ → Fraction) where
   pub itself_value : (n y : ℕ) → SameValue ((times_itself (compound w f) n).cells y)
       ((times_itself (compound w f) n).all) (cell (power w n) f y) (λ N. sum_to N (power w n))
   itself_value n y = same_value _ _ _ _ (itself_level n y) (all_level n)
+
+-- two counts added up, by what their weights are
+pub count_sum : (a b v f : ℕ → Fraction) → convolve a b ≡ v
+    → SameCells (product (compound a f) (compound b f)) (compound v f)
+count_sum a b v f e y = subst (λ c. SameValue ((product (compound a f) (compound b f)).cells y)
+    (times (λ N. sum_to N a) (λ N. sum_to N b)) (cell c f y) (λ N. sum_to N c)) e
+    (same_value _ _ _ _ (product_level a b f y) ((cauchy_level a b).1, (cauchy_level a b).0))
 
 -- n counts added up, by what their weights are
 pub count_power : (w v f : ℕ → Fraction) (n : ℕ) → power w n ≡ v

@@ -1,6 +1,6 @@
 -- Series whose least upper bound is a fraction.
-use Rattle.dl_model.proofs.Common.{ℕ, suc, zero, subst, fun_ext, Fraction, ◌+ℚ◌, ◌*ℚ◌, ◌≤ℚ◌, ◌<ℚ◌, whole, sum_to, Series, AtMost, AtLeast, Holds, Rises, plus, times, SameValue, IsLeastBound, times_comm, le_refl, le_trans, plus_le_both, times_one, times_le_cancel, times_le_both, ◌↔◌, times_left_comm}
-use Rattle.dl_model.proofs.Declared.{holds_times, holds_plus}
+use Rattle.dl_model.proofs.Common.{ℕ, suc, zero, ◌≡◌, max, le-max_left, le-max_right, ring, times_assoc, subst, fun_ext, Fraction, ◌+ℚ◌, ◌*ℚ◌, ◌≤ℚ◌, ◌<ℚ◌, whole, sum_to, Series, AtMost, AtLeast, Holds, Rises, plus, times, SameValue, IsLeastBound, times_comm, le_refl, le_trans, plus_le_both, times_one, times_le_cancel, times_le_both, ◌↔◌, times_left_comm}
+use Rattle.dl_model.proofs.Declared.{holds_times, holds_plus, rises_to}
 use Rattle.dl_model.proofs.Alike.{AreLevel, bound_from}
 
 abbrev pub one : Series
@@ -52,6 +52,29 @@ least_sum (suc n) P A r a = least_plus _ _ _ _ (rises n) (r (suc n)) (least_sum 
     rises : (n : ℕ) → Rises (λ N. sum_to n (λ j. P j N))
     rises zero = λ N. r zero N
     rises (suc n) = λ N. plus_le_both _ _ _ _ (rises n N) (r (suc n) N)
+
+-- a value over a series with a factor G more, whose least bound is A, is A times as much without that factor
+pub over_factor : (Q R G R' : Series) (A l h : Fraction) → Rises R → Rises G → IsLeastBound G A
+    → AreLevel R' (times R G) → Holds Q R' l h → Holds Q R (A *ℚ l) (A *ℚ h)
+over_factor Q R G R' A l h r g a level v = (
+  λ n u b.
+      let each : (k : ℕ) → l *ℚ (R n *ℚ G k) ≤ℚ u = λ k.
+      let m = max n k in
+      let far = level.1 m in
+      le_trans _ _ _ (times_le_both l l _ _ (le_refl l) (le_trans _ _ _
+      (times_le_both _ _ _ _ (rises_to R r n m (le-max_left n k)) (rises_to G g k m (le-max_right n k))) far.1))
+      (v.0 far.0 u b) in
+      rw (turned A l (R n)) ((least_scaled (l *ℚ R n) G A g a).1 u (λ k. rw (times_assoc l (R n) (G k)) (each k))),
+  λ n u b.
+      rw (turned' A h u) (v.1 n (u *ℚ A) (bound_from R' (times R G) level.0 (u *ℚ A)
+      (λ k. times_le_both _ _ _ _ (b k) (a.0 k)))),
+)
+  where
+    turned : (a l x : Fraction) → a *ℚ l *ℚ x ≡ l *ℚ x *ℚ a
+    turned a l x = simp ring
+
+    turned' : (a h u : Fraction) → a *ℚ h *ℚ u ≡ h *ℚ (u *ℚ a)
+    turned' a h u = simp ring
 
 -- ---- the declared value is the quotient of the two least bounds
 

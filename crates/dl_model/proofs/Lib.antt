@@ -28,6 +28,7 @@ pub mod PoissonThin
 pub mod PoissonTimes
 pub mod Gamma
 pub mod GammaThin
+pub mod AddedShapes
 pub mod Panjer
 pub mod Settles
 pub mod SettlesGamma

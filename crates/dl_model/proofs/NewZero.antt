@@ -1,8 +1,8 @@
 -- Where the probability of no claim of a count of a plan can be changed: it is at most 16 / 17, and some number of claims
 -- above 0 has a positive weight.
-use Rattle.dl_model.proofs.Common.{◌≡◌, inl, inr, ℕ, suc, zero, ◌*◌, ◌≤◌, max, arith, sym, ap, subst, ◌∙◌, le-max_left, le-max_right, Fraction, whole, ◌over◌, ◌+ℚ◌, ◌*ℚ◌, ◌/ℚ◌, ◌≤ℚ◌, ◌<ℚ◌, sum_to, over_same, over_self, le_over, one_pos, whole_le, one_times, times_comm, times_assoc, zero_plus, le_trans, le_div, zero_or_pos, times_le_times, times_le_cancel, div_times, lt_of_lt_of_le, AtMost, IsBound, AreCountWeights, Freq, Fixed, Table, Bernoulli, Binomial, Poisson, Gamma, num_le_den, count_weights, over_pos, over_add, IsNewZero, without_none, total, IsCountOfPlan}
+use Rattle.dl_model.proofs.Common.{◌≡◌, inl, inr, ℕ, zero, ◌*◌, ◌≤◌, max, arith, sym, ap, subst, ◌∙◌, le-max_left, le-max_right, Fraction, whole, ◌over◌, ◌+ℚ◌, ◌*ℚ◌, ◌/ℚ◌, ◌≤ℚ◌, ◌<ℚ◌, sum_to, over_same, over_self, le_over, one_pos, lt_or_le, one_times, times_comm, times_assoc, zero_plus, le_trans, le_div, zero_or_pos, times_le_times, times_le_cancel, div_times, lt_of_lt_of_le, AtMost, IsBound, AreCountWeights, Freq, Fixed, Table, Bernoulli, Binomial, Poisson, Gamma, num_le_den, count_weights, over_pos, over_add, IsNewZero, without_none, total, IsCountOfPlan}
 use Rattle.dl_model.proofs.TotalLaws.{rises_to, sum_rises_to, weights_apart}
-use Rattle.dl_model.proofs.SomeClaim.{fixed_some_claim, binomial_some_claim, poisson_some_claim, gamma_some_claim}
+use Rattle.dl_model.proofs.SomeClaim.{fixed_some_claim, binomial_some_claim, poisson_some_claim, gamma_some_claim, gamma_some_claim_below}
 
 pub count_new_zero : (freq : Freq) (p : Fraction) → IsCountOfPlan freq → IsNewZero freq p
     → AtMost (λ N. count_weights freq zero) (λ N. sum_to N (count_weights freq)) (16 over 17)
@@ -15,9 +15,10 @@ count_new_zero (Bernoulli q) p h z = binomial_some_claim 1 q.num q.den q.positiv
 count_new_zero (Binomial trials q) p h z = binomial_some_claim trials q.num q.den q.positive (num_le_den q h.1.within)
     (subst (λ t. 1 over 16 ≤ℚ whole trials *ℚ t) (sym (over_self q)) z.least)
 count_new_zero (Poisson mean) p h z = poisson_some_claim mean z.least
-count_new_zero (Gamma zero mean) p h z = absurd (omega (arith, h))
-count_new_zero (Gamma (suc q) mean) p h z =
-    gamma_some_claim (whole (suc q)) mean (whole_le 1 (suc q) (omega arith)) z.least
+count_new_zero (Gamma shape mean) p h z = elim (lt_or_le shape (whole 1)) [
+  | inl below ↦ gamma_some_claim_below shape mean (z.some below)
+  | inr above ↦ gamma_some_claim shape mean above z.least
+]
 
 module _ (w : ℕ → Fraction) (W : AreCountWeights w) (most : AtMost (λ N. w zero) (λ N. sum_to N w) (16 over 17)) where
   abbrev near : Fraction

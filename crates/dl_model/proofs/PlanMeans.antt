@@ -1,5 +1,5 @@
 -- The expected counts of a plan's units, and their means.
-use Rattle.dl_model.proofs.Common.{ℕ, zero, suc, ◌≡◌, List, [], ◌∷◌, map, arith, refl, sym, ap, subst, ◌∙◌, All, All-head, All-tail, Fraction, whole, ◌*ℚ◌, ◌≤ℚ◌, sum_over, over_self, ring, times_comm, one_times, le_trans, Freq, Fixed, Table, Bernoulli, Binomial, Poisson, Gamma, pairs_of, mean_amount, greatest, expected_count, IsValidUnit, num_le_den, total_pos, AtLeast, AtMost, Holds, IfSome, IsDeclared, IsLoss, One, Mean, Series, changed, fun_ext, level_mean, sum_over_outcomes, partial_sums, count_weights, outcome_after, loss_of, Sev, probability_of, Aggregate, IsDeclarable, loss, aggregate_of, after_zero, le_of_eq, total, order, le_refl_n, UnitOfPlan, IsCountOfPlan, whole_pos, zero-lt-suc}
+use Rattle.dl_model.proofs.Common.{ℕ, ◌≡◌, List, [], ◌∷◌, map, arith, refl, sym, ap, subst, ◌∙◌, All, All-head, All-tail, Fraction, whole, ◌*ℚ◌, ◌≤ℚ◌, sum_over, over_self, ring, times_comm, one_times, le_trans, Freq, Fixed, Table, Bernoulli, Binomial, Poisson, Gamma, pairs_of, mean_amount, greatest, expected_count, IsValidUnit, num_le_den, total_pos, AtLeast, AtMost, Holds, IfSome, IsDeclared, IsLoss, One, Mean, Series, changed, fun_ext, level_mean, sum_over_outcomes, partial_sums, count_weights, outcome_after, loss_of, Sev, probability_of, Aggregate, IsDeclarable, loss, aggregate_of, after_zero, le_of_eq, total, order, le_refl_n, UnitOfPlan, IsCountOfPlan}
 use Rattle.dl_model.proofs.TotalLaws.{none_holds, unit_loss, mean_alone, sub_zero, total_alone_all}
 use Rattle.dl_exact.specs.Sum.{sum_to}
 use Rattle.std.proofs.Common.{None, Option, Some, subst₂, ◌*◌, ◌-◌}
@@ -31,8 +31,7 @@ count_mean (Bernoulli q) h = subst (HasMean (count_weights (Bernoulli q)))
 count_mean (Binomial trials q) h = subst (HasMean (count_weights (Binomial trials q)))
     (ap (λ x. whole trials *ℚ x) (over_self q)) (binomial_mean trials q.num q.den q.positive (num_le_den q h.1.within))
 count_mean (Poisson mean) h = poisson_mean mean
-count_mean (Gamma zero mean) h = absurd (omega (arith, h))
-count_mean (Gamma (suc q) mean) h = gamma_mean (whole (suc q)) mean (whole_pos (suc q) (zero-lt-suc q))
+count_mean (Gamma shape mean) h = gamma_mean shape mean h.shape.above
 
 -- a unit of these claims
 abbrev pub with_clause : Freq → Sev → (ℕ → ℕ) → Aggregate

@@ -15,29 +15,29 @@ use Rattle.dl_model.proofs.ShareEnds.{AtomMost, AtomLeast, atom_whole as whole_a
 -- ---- the weighing by which units declare each quantity
 
 -- of independent units, or of units that share a factor of shape r
-abbrev pub weighing_of : Option ℕ → List UnitOfPlan → (List ℕ → Fraction) → Series
+abbrev pub weighing_of : Option Fraction → List UnitOfPlan → (List ℕ → Fraction) → Series
 weighing_of None units = sum_over_outcomes (map loss_of units)
 weighing_of (Some r) units = values r (poisson_units units)
 
-pub is_weighing : (common : Option ℕ) (units : List UnitOfPlan) → IsWeighing (length units) (weighing_of common units)
+pub is_weighing : (common : Option Fraction) (units : List UnitOfPlan) → IsWeighing (length units) (weighing_of common units)
 is_weighing None units = subst (λ n. IsWeighing n (weighing_of None units)) (length-map units loss_of)
     (losses_weighing (map loss_of units))
 is_weighing (Some r) units = subst (λ n. IsWeighing n (weighing_of (Some r) units)) (length-map units poisson_unit)
     (shared_weighing r (poisson_units units))
 
-pub declared_weighed : (common : Option ℕ) (units : List UnitOfPlan)
+pub declared_weighed : (common : Option Fraction) (units : List UnitOfPlan)
     → weighed_by (weighing_of common units) ≡ declared_by common units
 declared_weighed None units = refl
 declared_weighed (Some r) units = refl
 
-pub units_joint_means : (common : Option ℕ) (units : List UnitOfPlan) (x N : ℕ)
+pub units_joint_means : (common : Option Fraction) (units : List UnitOfPlan) (x N : ℕ)
     → sum_below (length units) (λ i. declared_by common units (Joint i x) N)
     ≡ whole x *ℚ declared_by common units (Point x) N
 units_joint_means common units x N = subst (λ D. sum_below (length units) (λ i. D (Joint i x) N) ≡ whole x *ℚ D (Point x) N)
     (declared_weighed common units)
     (joint_means (length units) (weighing_of common units) (is_weighing common units) x N)
 
-pub units_shares : (common : Option ℕ) (units : List UnitOfPlan) (p u : Fraction) (q N : ℕ) → p <ℚ whole 1
+pub units_shares : (common : Option Fraction) (units : List UnitOfPlan) (p u : Fraction) (q N : ℕ) → p <ℚ whole 1
     → u ≤ℚ whole 1
     → (whole 1 -ℚ p) *ℚ sum_below (length units) (λ i. declared_by common units (Share i p q u) N) +ℚ
     whole q *ℚ declared_by common units (Part q u) N
@@ -47,7 +47,7 @@ units_shares common units p u q N below le =
     ≡ (whole 1 -ℚ p) *ℚ D (Tail p q) N +ℚ p *ℚ whole q *ℚ D One N) (declared_weighed common units)
     (shares_add_up p u q below le (length units) (weighing_of common units) (is_weighing common units) N)
 
-weighing_rises : (common : Option ℕ) (units : List UnitOfPlan) → AreDeclarable (map loss_of units)
+weighing_rises : (common : Option Fraction) (units : List UnitOfPlan) → AreDeclarable (map loss_of units)
     → (f : List ℕ → Fraction) → Rises (weighing_of common units f)
 weighing_rises None units are f = outcomes_rise (map loss_of units) are f
 weighing_rises (Some r) units are f = values_rise r (poisson_units units) f

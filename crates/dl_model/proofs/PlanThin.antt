@@ -1,8 +1,8 @@
 -- Thinning and division of the units of a plan.
-use Rattle.dl_model.proofs.Common.{ℕ, zero, suc, ◌≡◌, ◌+◌, ◌*◌, ◌^◌, ◌<◌, ◌≤◌, List, [], ◌∷◌, length, map, nat_lt, arith, refl, sym, ap, subst, inl, inr, ◌∙◌, fun_ext, All, cases_lt, lt-ltb, le-ltb, All-head, All-tail, pow_pos, Fraction, whole, ◌over◌, ◌+ℚ◌, ◌-ℚ◌, ◌*ℚ◌, ◌/ℚ◌, ◌≤ℚ◌, sum_over, over_same, over_mul, over_le, plus_comm, times_comm, times_zero, sub_plus, div_times, whole_pos, Item, Sev, Freq, Fixed, Table, Bernoulli, Binomial, Poisson, Gamma, weight_at, weight_sum, probability_of, pairs_of, expected_count, over_zero, total_pos, IsPositivePart, nothing, times_itself, SameCells, compound_of, All-filter, Pairs, probability, conditioned, mass, shares, HasDistribution, thinned_mean, items_over, filter-shares, probability-conditioned, positive_share, weight_at-le, total, eq-zero-or-pos, mul-pos, ne_eqb, eq-eqb, UnitOfPlan, IsUnbounded, IsCountOfPlan, zero-lt-suc}
+use Rattle.dl_model.proofs.Common.{ℕ, suc, ◌≡◌, ◌+◌, ◌*◌, ◌^◌, ◌<◌, ◌≤◌, List, [], ◌∷◌, length, map, nat_lt, arith, refl, sym, ap, subst, inl, inr, ◌∙◌, fun_ext, All, cases_lt, lt-ltb, le-ltb, All-head, All-tail, pow_pos, Fraction, whole, ◌over◌, ◌+ℚ◌, ◌-ℚ◌, ◌*ℚ◌, ◌/ℚ◌, ◌≤ℚ◌, ◌<ℚ◌, sum_over, over_same, over_mul, over_le, plus_comm, times_comm, times_zero, sub_plus, div_times, whole_pos, Item, Sev, Freq, Fixed, Table, Bernoulli, Binomial, Poisson, Gamma, weight_at, weight_sum, probability_of, pairs_of, expected_count, over_zero, total_pos, IsPositivePart, nothing, times_itself, SameCells, compound_of, All-filter, Pairs, probability, conditioned, mass, shares, HasDistribution, thinned_mean, items_over, filter-shares, probability-conditioned, positive_share, weight_at-le, total, eq-zero-or-pos, mul-pos, ne_eqb, eq-eqb, UnitOfPlan, IsUnbounded, IsCountOfPlan}
 use Rattle.dl_plan.proofs.Weights.{weight_sum_pos}
 use Rattle.dl_model.proofs.PoissonTimes.{poisson_shares}
-use Rattle.dl_model.proofs.TotalLaws.{gamma_shares, part_of, weight_within, weight_sum-cons, weight_at-cons}
+use Rattle.dl_model.proofs.TotalLaws.{thin_gamma, value_sym, part_of, weight_within, weight_sum-cons, weight_at-cons}
 use Rattle.dl_model.proofs.Beginnings.{poisson_no_loss, gamma_no_loss}
 
 -- ---- the weights of the amounts above 0
@@ -149,18 +149,13 @@ poisson_thinned u s mean h is means =
     (part_of_means u.sev s means)
     (shares_make_up m k (pow_pos h) ∙ ap (λ freq. expected_count freq *ℚ positive u.sev) is))
 
-pub gamma_thinned : (u : UnitOfPlan) (s : Sev) (shape : ℕ) (mean : Fraction) → u.freq ≡ Gamma shape mean → 1 ≤ shape
-    → HasDistribution s (conditioned 0 (pairs_of u.sev))
-    → SameCells (times_itself (compound_of (Gamma 1 (thinned_mean u /ℚ whole shape)) s) shape)
-    (compound_of u.freq u.sev)
-gamma_thinned u s zero mean is some means = absurd (omega (arith, some))
-gamma_thinned u s (suc q) mean is some means =
-    let m = thinned_mean u in
-    subst (λ freq. SameCells (times_itself (compound_of (Gamma 1 (m /ℚ whole (suc q))) s) (suc q))
-    (compound_of freq u.sev)) (sym is)
-    (gamma_shares q (m /ℚ whole (suc q)) mean (probability_of u.sev) (positive u.sev) (probability_of s)
-    (part_of_means u.sev s means)
-    (shares_make_up m (suc q) (omega arith) ∙ ap (λ freq. expected_count freq *ℚ positive u.sev) is))
+pub gamma_thinned : (u : UnitOfPlan) (s : Sev) (shape mean : Fraction) → u.freq ≡ Gamma shape mean
+    → whole 0 <ℚ shape → HasDistribution s (conditioned 0 (pairs_of u.sev))
+    → SameCells (compound_of (Gamma shape (thinned_mean u)) s) (compound_of u.freq u.sev)
+gamma_thinned u s shape mean is above means = subst
+    (λ freq. SameCells (compound_of (Gamma shape (expected_count freq *ℚ positive u.sev)) s) (compound_of freq u.sev))
+    (sym is) (λ y. value_sym _ _ _ _ (thin_gamma shape mean (probability_of u.sev) (positive u.sev) (probability_of s)
+    above (part_of_means u.sev s means) y))
 
 -- where the thinned mean is 0 there is no loss
 pub none_thinned : (freq : Freq) (sev : Sev) → IsCountOfPlan freq
@@ -171,10 +166,8 @@ none_thinned (Bernoulli q) sev h bounded none = absurd bounded
 none_thinned (Binomial trials q) sev h bounded none = absurd bounded
 none_thinned (Poisson mean) sev h unbounded none =
     poisson_no_loss mean (positive sev) (probability_of sev) (given sev) (given_part sev) none
-none_thinned (Gamma zero mean) sev h unbounded none = absurd (omega (arith, h))
-none_thinned (Gamma (suc q) mean) sev h unbounded none =
-    gamma_no_loss (whole (suc q)) mean (positive sev) (probability_of sev) (given sev)
-    (whole_pos (suc q) (zero-lt-suc q)) (given_part sev) none
+none_thinned (Gamma shape mean) sev h unbounded none =
+    gamma_no_loss shape mean (positive sev) (probability_of sev) (given sev) h.shape.above (given_part sev) none
 
 no_item : (xs : List Item) → All (λ (i : Item). i.amount ≤ 0) xs → weight_sum (items_over 0 xs) ≡ 0
 no_item [] h = refl

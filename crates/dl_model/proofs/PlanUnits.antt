@@ -1,5 +1,5 @@
 -- The units of a valid plan can be declared.
-use Rattle.dl_model.proofs.Common.{ℕ, zero, suc, ◌*◌, ◌/◌, ◌≤◌, List, [], ◌∷◌, map, Option, arith, IfSome, All, All-head, All-tail, Fraction, whole, ◌≤ℚ◌, le_of_lt, over_self, over_le, le_over, Sev, Freq, Fixed, Table, Bernoulli, Binomial, Poisson, Gamma, Clause, kept, greatest, IsAggregate, IsValidUnit, num_le_den, AreCountWeights, AreDeclarable, IsDeclared, IsDeclaredLoss, AreDeclared, count_weights, outcome_after, aggregate_of, loss_of, Plan, IsClause, IsNewZero, IsValid, kept_is, bucket_pos, aggregates_of, after_zero, declared, total, div-le_of_le-mul, le_refl_n, UnitOfPlan, IsCountOfPlan, whole_pos, zero-lt-suc}
+use Rattle.dl_model.proofs.Common.{ℕ, ◌*◌, ◌/◌, ◌≤◌, List, [], ◌∷◌, map, Option, arith, IfSome, All, All-head, All-tail, Fraction, whole, ◌≤ℚ◌, le_of_lt, over_self, over_le, le_over, Sev, Freq, Fixed, Table, Bernoulli, Binomial, Poisson, Gamma, Clause, kept, greatest, IsAggregate, IsValidUnit, num_le_den, AreCountWeights, AreDeclarable, IsDeclared, IsDeclaredLoss, AreDeclared, count_weights, outcome_after, aggregate_of, loss_of, Plan, IsClause, IsNewZero, IsValid, kept_is, bucket_pos, aggregates_of, after_zero, declared, total, div-le_of_le-mul, le_refl_n, UnitOfPlan, IsCountOfPlan}
 use Rattle.std.proofs.Common.{Some, None}
 use Rattle.dl_plan.specs.Parts.{kept_parts, parts_in_bucket}
 use Rattle.dl_plan.proofs.Apart.{kept_le}
@@ -36,8 +36,7 @@ count_declared (Table counts total) h = finite_count _ (greatest counts) (shares
 count_declared (Bernoulli q) h = binomial_count 1 q.num q.den q.positive (num_le_den q h.within)
 count_declared (Binomial trials q) h = binomial_count trials q.num q.den q.positive (num_le_den q h.1.within)
 count_declared (Poisson mean) h = poisson_count mean
-count_declared (Gamma zero mean) h = absurd (omega (arith, h))
-count_declared (Gamma (suc q) mean) h = gamma_of_count (whole (suc q)) mean (whole_pos (suc q) (zero-lt-suc q))
+count_declared (Gamma shape mean) h = gamma_of_count shape mean h.shape.above
 
 -- ---- the unit
 

@@ -1,6 +1,5 @@
 -- A portfolio under a common factor declares of its total what one gamma unit with the pooled severity does.
-use Rattle.dl_model.proofs.Common.{◌≡◌, ℕ, ◌+◌, ◌-◌, ◌*◌, ◌<◌, ◌≤◌, arith, refl, sym, ap, ap₂, ◌∙◌, mul-le-mul_right, List, [], ◌∷◌, fun_ext, sum, sum_by-cons, Fraction, ◌+ℚ◌, ◌*ℚ◌, ◌/ℚ◌, ◌<ℚ◌, whole, choose, sum_to, sum_over, ring, div_times, plus_comm, times_comm, times_assoc, times_cancel, times_zero, sum_to_same, sum_to_times, sum_to_times_right, sum_to_swap, sum_to_none, sum_to_plus, sum_to_either, times_one, IsSeverity, power, cell, gamma, gamma_of, One, Point, Cdf, Mean, Layer, Tail, score, where_true, layer, nat_eq, nat_le, nat_lt, Option, ◌-ℚ◌, factorial, whole_times, sum_over_same, sum_over_times, times_right_comm, divided_power, Quantity, PricedTerm, above_quantile, Price, Part, PoissonUnit, amounts, amounts_given_counts, ways_to_share, chances, expected_claims, common_sums, pooled_severity, AreSeverities, CountsTotal, sum_over_claims, total, le_refl_n}
-use Rattle.dl_model.proofs.AnyShape.{gamma_ways}
+use Rattle.dl_model.proofs.Common.{◌≡◌, ℕ, ◌-◌, ◌*◌, ◌<◌, ◌≤◌, arith, refl, sym, ap, ap₂, ◌∙◌, mul-le-mul_right, List, [], ◌∷◌, fun_ext, sum, sum_by-cons, Fraction, ◌+ℚ◌, ◌*ℚ◌, ◌/ℚ◌, ◌<ℚ◌, whole, product_below, whole_pos, zero-lt-suc, suc, zero, sum_to, sum_over, ring, div_times, plus_comm, times_comm, times_assoc, times_cancel, times_zero, sum_to_same, sum_to_times, sum_to_times_right, sum_to_swap, sum_to_none, sum_to_plus, sum_to_either, times_one, IsSeverity, power, cell, gamma, gamma_of, One, Point, Cdf, Mean, Layer, Tail, score, where_true, layer, nat_eq, nat_le, nat_lt, Option, ◌-ℚ◌, factorial, whole_times, sum_over_same, sum_over_times, times_right_comm, divided_power, Quantity, PricedTerm, above_quantile, Price, Part, PoissonUnit, amounts, amounts_given_counts, ways_to_share, chances, expected_claims, common_sums, pooled_severity, AreSeverities, CountsTotal, sum_over_claims, total, le_refl_n}
 use Rattle.dl_model.proofs.TotalLaws.{div_is_times, pos_plus, cells_all, divided_whole}
 use Rattle.dl_model.proofs.SharedClaims.{mixed, weighed, weighed_same, weighed_by_total, first_none, others_none, four_factors, claims_same, claims_times, scaled_power}
 
@@ -33,47 +32,64 @@ total_part q u ys = ap (λ t. where_true (nat_lt t q) (whole 1) +ℚ where_true 
 
 -- ---- one gamma unit for all
 
--- the numbers C(r + n - 1, n) * n!
-abbrev pub orders : ℕ → ℕ → ℕ
-orders r n = choose (r + n - 1) n * factorial n
+-- the product of the r + i over the i below n
+abbrev pub orders : Fraction → ℕ → Fraction
+orders r n = product_below n (λ i. r +ℚ whole i)
+
+-- it is n! times the gamma weight of n claims without its power
+orders_shared : (r : Fraction) (n : ℕ)
+    → orders r n ≡ whole (factorial n) *ℚ product_below n (λ i. (r +ℚ whole i) /ℚ whole (suc i))
+unfolding factorial product_below
+orders_shared r zero = sym (times_one _)
+orders_shared r (suc n) =
+    let N = whole (suc n) in
+    let P = product_below n (λ i. (r +ℚ whole i) /ℚ whole (suc i)) in
+    ap₂ (λ s t. s *ℚ t) (orders_shared r n) (sym (div_times (r +ℚ whole n) N (whole_pos (suc n) (zero-lt-suc n))))
+    ∙ turned (whole (factorial n)) P ((r +ℚ whole n) /ℚ N) N
+    ∙ ap (λ t. t *ℚ (P *ℚ ((r +ℚ whole n) /ℚ N))) (sym (whole_times (suc n) (factorial n)))
+  where
+    turned : (F P d N : Fraction) → F *ℚ P *ℚ (d *ℚ N) ≡ N *ℚ F *ℚ (P *ℚ d)
+    turned F P d N = simp ring
 
 -- with n! and the number of ways, a divided power is a gamma weight times a power
-pub gamma_divided : (r : ℕ) (c : Fraction) (f : ℕ → Fraction) (n x : ℕ)
-    → whole (orders r n) *ℚ divided_power (λ a. c *ℚ f a) n x ≡ gamma (whole r) c n *ℚ power f n x
-gamma_divided r c f n x = rw (
-  gamma_ways r c n,
-  whole_times,
-  times_assoc,
-  times_comm (whole (factorial n)),
-  divided_whole (λ a. c *ℚ f a) n x,
-  scaled_power c f n x,
-) (sym (times_assoc _ _ _))
+pub gamma_divided : (r c : Fraction) (f : ℕ → Fraction) (n x : ℕ)
+    → orders r n *ℚ divided_power (λ a. c *ℚ f a) n x ≡ gamma r c n *ℚ power f n x
+unfolding gamma
+gamma_divided r c f n x =
+    let F = whole (factorial n) in
+    let P = product_below n (λ i. (r +ℚ whole i) /ℚ whole (suc i)) in
+    let D = divided_power (λ a. c *ℚ f a) n x in
+    ap (λ t. t *ℚ D) (orders_shared r n) ∙ turned F P D
+    ∙ ap (λ t. P *ℚ t) (divided_whole (λ a. c *ℚ f a) n x ∙ scaled_power c f n x) ∙ sym (times_assoc _ _ _)
+  where
+    turned : (F P D : Fraction) → F *ℚ P *ℚ D ≡ P *ℚ (D *ℚ F)
+    turned F P D = simp ring
 
-module _ (r : ℕ) (us : List PoissonUnit) where
+module _ (r : Fraction) (us : List PoissonUnit) where
   -- a claim's chance to be of a unit, and to be of any
   abbrev pub chance : PoissonUnit → Fraction
-  chance u = u.mean /ℚ (whole r +ℚ expected_claims us)
+  chance u = u.mean /ℚ (r +ℚ expected_claims us)
 
   abbrev pub any_chance : Fraction
-  any_chance = expected_claims us /ℚ (whole r +ℚ expected_claims us)
+  any_chance = expected_claims us /ℚ (r +ℚ expected_claims us)
 
   -- the sum over the claims lists of n claims, by the parts of the units
   pub level_sum : (quantity : Quantity) (n : ℕ) → sum_over_claims us n (λ claims.
       score quantity (amounts claims) *ℚ amounts_given_counts claims *ℚ ways_to_share r n claims *ℚ
       chances r (expected_claims us) claims)
-      ≡ whole (orders r n) *ℚ weighed chance us n (score quantity)
+      ≡ orders r n *ℚ weighed chance us n (score quantity)
   level_sum quantity n = claims_same us n _ _ (λ claims. four_factors chance (score quantity (amounts claims))
-      (whole (orders r n)) claims) ∙ claims_times us n (whole (orders r n)) _
+      (orders r n) claims) ∙ claims_times us n (orders r n) _
 
   module _ (some : whole 0 <ℚ expected_claims us) where
-    pub claims_pos : whole 0 <ℚ whole r +ℚ expected_claims us
-    claims_pos = rw plus_comm (pos_plus (expected_claims us) (whole r) some)
+    pub claims_pos : whole 0 <ℚ r +ℚ expected_claims us
+    claims_pos = rw plus_comm (pos_plus (expected_claims us) r some)
 
     -- a chance is the chance of any times the unit's share
     pub chance_share : (u : PoissonUnit) → chance u ≡ any_chance *ℚ (u.mean /ℚ expected_claims us)
     chance_share u =
         let v = expected_claims us in
-        let c = whole r +ℚ v in
+        let c = r +ℚ v in
         times_cancel _ _ c claims_pos (rw (
           div_times u.mean c claims_pos,
           times_right_comm any_chance,
@@ -89,30 +105,30 @@ module _ (r : ℕ) (us : List PoissonUnit) where
         ∙ sum_over_times any_chance (λ u. u.mean /ℚ expected_claims us *ℚ u.severity a) us
 
     -- the weight of n claims of the pooled unit, times the probability that they come to x
-    pub pooled_weight : (n x : ℕ) → whole (orders r n) *ℚ divided_power (mixed chance us) n x
-        ≡ gamma (whole r) any_chance n *ℚ power (pooled_severity us) n x
-    pooled_weight n x = ap (λ f. whole (orders r n) *ℚ divided_power f n x) (fun_ext mixed_pooled)
+    pub pooled_weight : (n x : ℕ) → orders r n *ℚ divided_power (mixed chance us) n x
+        ≡ gamma r any_chance n *ℚ power (pooled_severity us) n x
+    pooled_weight n x = ap (λ f. orders r n *ℚ divided_power f n x) (fun_ext mixed_pooled)
         ∙ gamma_divided r any_chance (pooled_severity us) n x
 
     pub pooled : AreSeverities us → (M : ℕ) → ((a : ℕ) → M < a → pooled_severity us a ≡ whole 0)
         → (quantity : Quantity) → CountsTotal quantity → (N : ℕ)
         → common_sums r us quantity N ≡ sum_to (N * M) (λ x.
-        cell (gamma_of (whole r) (expected_claims us)) (pooled_severity us) x N *ℚ score quantity (x ∷ []))
+        cell (gamma_of r (expected_claims us)) (pooled_severity us) x N *ℚ score quantity (x ∷ []))
     pooled h M past quantity total N =
         let value : ℕ → Fraction = λ x. score quantity (x ∷ []) in
         let far = N * M in
         sum_to_same N _ _ (λ n c.
         let few : n * M ≤ far = mul-le-mul_right M c in
         level_sum quantity n
-        ∙ ap (λ t. whole (orders r n) *ℚ t) (weighed_same chance us n _ (λ ys. value (sum ys)) total
+        ∙ ap (λ t. orders r n *ℚ t) (weighed_same chance us n _ (λ ys. value (sum ys)) total
         ∙ weighed_by_total chance us h M (λ a d. mixed_pooled a ∙ ap (λ t. any_chance *ℚ t) (past a d) ∙ times_zero _)
         n far few value)
-        ∙ sym (sum_to_times far (whole (orders r n)) _)
-        ∙ sum_to_same far _ (λ x. gamma (whole r) any_chance n *ℚ power (pooled_severity us) n x *ℚ value x) (λ x d.
+        ∙ sym (sum_to_times far (orders r n) _)
+        ∙ sum_to_same far _ (λ x. gamma r any_chance n *ℚ power (pooled_severity us) n x *ℚ value x) (λ x d.
         (simp ring) ∙ ap (λ t. t *ℚ value x) (pooled_weight n x)))
-        ∙ sum_to_swap N far (λ n x. gamma (whole r) any_chance n *ℚ power (pooled_severity us) n x *ℚ value x)
+        ∙ sum_to_swap N far (λ n x. gamma r any_chance n *ℚ power (pooled_severity us) n x *ℚ value x)
         ∙ sum_to_same far _ _ (λ x d. sum_to_times_right N (value x)
-        (λ n. gamma (whole r) any_chance n *ℚ power (pooled_severity us) n x))
+        (λ n. gamma r any_chance n *ℚ power (pooled_severity us) n x))
 
 -- ---- the pooled severity adds up to 1
 
@@ -137,9 +153,9 @@ pooled_is_severity us h some M past =
     }
 
 -- the whole weight
-pub pooled_one : (r : ℕ) (us : List PoissonUnit) → AreSeverities us → whole 0 <ℚ expected_claims us → (M : ℕ)
+pub pooled_one : (r : Fraction) (us : List PoissonUnit) → AreSeverities us → whole 0 <ℚ expected_claims us → (M : ℕ)
     → ((a : ℕ) → M < a → pooled_severity us a ≡ whole 0) → (N : ℕ)
-    → common_sums r us One N ≡ sum_to N (gamma_of (whole r) (expected_claims us))
+    → common_sums r us One N ≡ sum_to N (gamma_of r (expected_claims us))
 pooled_one r us h some M past N = pooled r us some h M past One (λ ys. refl) N
-    ∙ sum_to_same (N * M) _ _ (λ x c. times_one _) ∙ cells_all (gamma_of (whole r) (expected_claims us))
+    ∙ sum_to_same (N * M) _ _ (λ x c. times_one _) ∙ cells_all (gamma_of r (expected_claims us))
     (pooled_severity us) M (pooled_is_severity us h some M past) N (N * M) (le_refl_n _)

@@ -32,7 +32,7 @@ claims_of_length (u ∷ us) n f g h = sum_pairs_same n _ _ (λ j k e. sum_to_sam
 
 -- ---- of any value of the amounts
 
-module _ (r : ℕ) (us : List PoissonUnit) where
+module _ (r : Fraction) (us : List PoissonUnit) where
   -- what a claims list counts for, at this value of its amounts
   abbrev counted : (List ℕ → Fraction) → ℕ → List Claims → Fraction
   counted value n claims = value (amounts claims) *ℚ amounts_given_counts claims *ℚ ways_to_share r n claims *ℚ

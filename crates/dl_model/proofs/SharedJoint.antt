@@ -1,6 +1,6 @@
 -- One unit beside the total under a common factor: one claim of the unit apart, the others with one more in the shape.
-use Rattle.dl_model.proofs.Common.{◌≡◌, ℕ, suc, zero, ◌+◌, ◌-◌, ◌*◌, ◌<◌, ◌≤◌, arith, refl, sym, ap, ap₂, subst, ◌∙◌, List, [], ◌∷◌, nat_eq, fun_ext, get_or, sum, sum_by-cons, Fraction, ◌+ℚ◌, ◌*ℚ◌, ◌<ℚ◌, whole, choose, sum_to, sum_over, sum_pairs, ring, times_comm, times_left_comm, times_zero, zero_times, zero_plus, plus_zero, sum_to_same, sum_to_first, sum_to_times, sum_pairs_same, sum_pairs_none, sum_pairs_sum_to, convolve, power, cell, gamma, Outcome, Joint, score, where_true, sum_to_zero, times_assoc, times_one, IsSeverity, factorial, whole_times, sum_pairs_first, sum_pairs_last, divided_power, PoissonUnit, expected_claims, common_sums, pooled_severity, AreSeverities, IsUnit, le_refl_n, one_times}
-use Rattle.dl_model.proofs.TotalLaws.{convolve_past, tilt_at_zero, pick, where_factor, convolve_assoc, convolve_times, convolve_scaled, convolve_first, sum_convolve, power_past, power_severity, choose-absorb, choose-shift, divided_plus, divided_tilt, undivided, convolve_pairs}
+use Rattle.dl_model.proofs.Common.{◌≡◌, ℕ, suc, zero, ◌+◌, ◌*◌, ◌<◌, ◌≤◌, arith, refl, sym, ap, ap₂, subst, ◌∙◌, List, [], ◌∷◌, nat_eq, fun_ext, get_or, sum, sum_by-cons, Fraction, ◌+ℚ◌, ◌*ℚ◌, ◌<ℚ◌, whole, sum_to, sum_over, sum_pairs, ring, times_comm, times_left_comm, times_zero, zero_times, zero_plus, plus_zero, plus_assoc, plus_comm, whole_suc, product_below, sum_to_same, sum_to_first, sum_to_times, sum_pairs_same, sum_pairs_none, sum_pairs_sum_to, convolve, power, cell, gamma, Outcome, Joint, score, where_true, sum_to_zero, times_assoc, times_one, IsSeverity, sum_pairs_first, sum_pairs_last, divided_power, PoissonUnit, expected_claims, common_sums, pooled_severity, AreSeverities, IsUnit, le_refl_n, one_times}
+use Rattle.dl_model.proofs.TotalLaws.{convolve_past, tilt_at_zero, pick, where_factor, convolve_assoc, convolve_times, convolve_scaled, convolve_first, sum_convolve, power_past, power_severity, divided_plus, divided_tilt, undivided, convolve_pairs}
 use Rattle.dl_model.proofs.SharedClaims.{mixed, scaled_severity, weighed, weighed_same, weighed_times, weighed_by_total, first_none, others_none, divided_past, by_first}
 use Rattle.dl_model.proofs.Pooled.{chance, any_chance, orders, level_sum, pooled_is_severity, mixed_pooled, gamma_divided}
 
@@ -101,29 +101,28 @@ module _ (y : PoissonUnit → Fraction) (u : PoissonUnit) where
 
 -- ---- the joint sums
 
-orders_next : (q m : ℕ) → orders (suc q) (suc m) ≡ suc q * orders (suc (suc q)) m
-unfolding factorial
-orders_next q m =
-    let a : suc q + suc m - 1 ≡ suc (q + m) = omega arith in
-    let b : suc (suc q) + m - 1 ≡ suc (q + m) = omega arith in
-    ap (λ t. choose t (suc m) * (suc m * factorial m)) a
-    ∙ omega (arith, ap (λ t. t * factorial m) (choose-absorb (q + m) m), ap (λ t. t * factorial m) (choose-shift q m))
-    ∙ sym (ap (λ t. suc q * (choose t m * factorial m)) b)
+orders_next : (r : Fraction) (m : ℕ) → orders r (suc m) ≡ r *ℚ orders (r +ℚ whole 1) m
+unfolding product_below
+orders_next r zero = one_times _ ∙ plus_zero r ∙ sym (times_one r)
+orders_next r (suc m) =
+    let more : r +ℚ whole (suc m) ≡ r +ℚ whole 1 +ℚ whole m =
+    ap (λ t. r +ℚ t) (whole_suc m ∙ plus_comm _ _) ∙ sym (plus_assoc r _ _) in
+    ap₂ (λ s t. s *ℚ t) (orders_next r m) more ∙ times_assoc _ _ _
 
-module _ (q : ℕ) (us : List PoissonUnit) (some : whole 0 <ℚ expected_claims us) (h : AreSeverities us) (M : ℕ)
+module _ (r : Fraction) (us : List PoissonUnit) (some : whole 0 <ℚ expected_claims us) (h : AreSeverities us) (M : ℕ)
     (past : (a : ℕ) → M < a → pooled_severity us a ≡ whole 0) (i : ℕ) (u : PoissonUnit) (at : IsUnit us i u) where
   abbrev y : PoissonUnit → Fraction
-  y = chance (suc q) us
+  y = chance r us
 
   abbrev c : Fraction
-  c = any_chance (suc q) us
+  c = any_chance r us
 
   -- the amounts of one claim of the unit, tilted
   abbrev t : ℕ → Fraction
   t = tilt u.severity
 
   mixed_past : (a : ℕ) → M < a → mixed y us a ≡ whole 0
-  mixed_past a d = mixed_pooled (suc q) us some a ∙ ap (λ z. c *ℚ z) (past a d) ∙ times_zero _
+  mixed_past a d = mixed_pooled r us some a ∙ ap (λ z. c *ℚ z) (past a d) ∙ times_zero _
 
   abbrev apart : ℕ → ℕ → Fraction
   apart n x = claim_apart (tilt (scaled_severity y u)) (mixed y us) n x
@@ -135,46 +134,46 @@ module _ (q : ℕ) (us : List PoissonUnit) (some : whole 0 <ℚ expected_claims 
       ∙ pick (n * M + x) x (apart n) (omega arith)
 
   -- n + 1 claims of shape r by n claims of shape r + 1
-  apart_next : (m x : ℕ) → whole (orders (suc q) (suc m)) *ℚ apart (suc m) x
-      ≡ whole (suc q) *ℚ y u *ℚ convolve t (λ k. gamma (whole (suc (suc q))) c m *ℚ power (pooled_severity us) m k) x
+  apart_next : (m x : ℕ) → orders r (suc m) *ℚ apart (suc m) x
+      ≡ r *ℚ y u *ℚ convolve t (λ k. gamma (r +ℚ whole 1) c m *ℚ power (pooled_severity us) m k) x
   unfolding claim_apart
   apart_next m x =
       let d = divided_power (mixed y us) m in
-      let n = whole (orders (suc (suc q)) m) in
-      ap₂ (λ a b. a *ℚ b) (ap whole (orders_next q m) ∙ whole_times (suc q) (orders (suc (suc q)) m))
+      let n = orders (r +ℚ whole 1) m in
+      ap₂ (λ a b. a *ℚ b) (orders_next r m)
       (ap (λ f. convolve f d x) (fun_ext (λ a. times_left_comm (whole a) (y u) (u.severity a)))
       ∙ convolve_scaled (y u) t d x)
       ∙ (simp ring)
-      ∙ ap (λ z. whole (suc q) *ℚ y u *ℚ z) (sym (convolve_times n t d x)
+      ∙ ap (λ z. r *ℚ y u *ℚ z) (sym (convolve_times n t d x)
       ∙ ap (λ f. convolve t f x) (fun_ext (λ k. ap (λ f. n *ℚ divided_power f m k)
-      (fun_ext (mixed_pooled (suc q) us some)) ∙ gamma_divided (suc (suc q)) c (pooled_severity us) m k)))
+      (fun_ext (mixed_pooled r us some)) ∙ gamma_divided (r +ℚ whole 1) c (pooled_severity us) m k)))
 
   abbrev joint_term : ℕ → ℕ → Fraction
-  joint_term x n = whole (orders (suc q) n) *ℚ apart n x
+  joint_term x n = orders r n *ℚ apart n x
 
-  joint_sums : (x N : ℕ) → common_sums (suc q) us (Joint i x) N ≡ sum_to N (joint_term x)
-  joint_sums x N = sum_to_same N _ _ (λ n d. level_sum (suc q) us (Joint i x) n
-      ∙ ap (λ z. whole (orders (suc q) n) *ℚ z) (level_joint n x))
+  joint_sums : (x N : ℕ) → common_sums r us (Joint i x) N ≡ sum_to N (joint_term x)
+  joint_sums x N = sum_to_same N _ _ (λ n d. level_sum r us (Joint i x) n
+      ∙ ap (λ z. orders r n *ℚ z) (level_joint n x))
 
   joint_first : (x : ℕ) → joint_term x zero ≡ whole 0
   unfolding claim_apart
   joint_first x = times_zero _
 
-  pub joint_none : (x : ℕ) → common_sums (suc q) us (Joint i x) zero ≡ whole 0
+  pub joint_none : (x : ℕ) → common_sums r us (Joint i x) zero ≡ whole 0
   unfolding sum_to
   joint_none x = joint_sums x zero ∙ joint_first x
 
-  pub joint_next : (x N : ℕ) → common_sums (suc q) us (Joint i x) (suc N)
-      ≡ whole (suc q) *ℚ y u *ℚ sum_pairs x
-      (λ a k. whole a *ℚ u.severity a *ℚ cell (gamma (whole (suc (suc q))) c) (pooled_severity us) k N)
+  pub joint_next : (x N : ℕ) → common_sums r us (Joint i x) (suc N)
+      ≡ r *ℚ y u *ℚ sum_pairs x
+      (λ a k. whole a *ℚ u.severity a *ℚ cell (gamma (r +ℚ whole 1) c) (pooled_severity us) k N)
   joint_next x N =
-      let g : ℕ → ℕ → Fraction = λ m k. gamma (whole (suc (suc q))) c m *ℚ power (pooled_severity us) m k in
+      let g : ℕ → ℕ → Fraction = λ m k. gamma (r +ℚ whole 1) c m *ℚ power (pooled_severity us) m k in
       joint_sums x (suc N)
       ∙ sum_to_first N (joint_term x) ∙ ap (λ z. z +ℚ sum_to N (λ m. joint_term x (suc m))) (joint_first x)
       ∙ zero_plus _
       ∙ sum_to_same N _ _ (λ m d. apart_next m x)
-      ∙ sum_to_times N (whole (suc q) *ℚ y u) (λ m. convolve t (g m) x)
-      ∙ ap (λ z. whole (suc q) *ℚ y u *ℚ z) (sym (sum_pairs_sum_to x N (λ a k m. t a *ℚ g m k))
+      ∙ sum_to_times N (r *ℚ y u) (λ m. convolve t (g m) x)
+      ∙ ap (λ z. r *ℚ y u *ℚ z) (sym (sum_pairs_sum_to x N (λ a k m. t a *ℚ g m k))
       ∙ sum_pairs_same x _ _ (λ a k e. sum_to_times N (t a) (λ m. g m k)))
 
   -- ---- the outcome of the unit, whatever the total is
@@ -188,11 +187,11 @@ module _ (q : ℕ) (us : List PoissonUnit) (some : whole 0 <ℚ expected_claims 
       ∙ sum_to_same (n * M) _ _ (λ x d. one_times _)
 
   -- the m other claims come to something
-  others_all : (m : ℕ) → sum_to (m * M) (λ k. gamma (whole (suc (suc q))) c m *ℚ power (pooled_severity us) m k)
-      ≡ gamma (whole (suc (suc q))) c m
+  others_all : (m : ℕ) → sum_to (m * M) (λ k. gamma (r +ℚ whole 1) c m *ℚ power (pooled_severity us) m k)
+      ≡ gamma (r +ℚ whole 1) c m
   others_all m =
-      sum_to_times (m * M) (gamma (whole (suc (suc q))) c m) (power (pooled_severity us) m)
-      ∙ ap (λ z. gamma (whole (suc (suc q))) c m *ℚ z) (power_severity (pooled_severity us) M severity_all m).add_up
+      sum_to_times (m * M) (gamma (r +ℚ whole 1) c m) (power (pooled_severity us) m)
+      ∙ ap (λ z. gamma (r +ℚ whole 1) c m *ℚ z) (power_severity (pooled_severity us) M severity_all m).add_up
       ∙ times_one _
 
   -- the claim that is apart, where it can be of the unit
@@ -204,17 +203,16 @@ module _ (q : ℕ) (us : List PoissonUnit) (some : whole 0 <ℚ expected_claims 
   amounts_past a d = times_left_comm (y u) (whole a) (u.severity a)
       ∙ ap (λ z. whole a *ℚ z) (unit_past y u us i at a (mixed_past a d)) ∙ times_zero _
 
-  outcome_apart : (m : ℕ) → whole (orders (suc q) (suc m)) *ℚ sum_to (suc m * M) (apart (suc m))
-      ≡ whole (suc q) *ℚ y u *ℚ sum_to M t *ℚ gamma (whole (suc (suc q))) c m
+  outcome_apart : (m : ℕ) → orders r (suc m) *ℚ sum_to (suc m * M) (apart (suc m))
+      ≡ r *ℚ y u *ℚ sum_to M t *ℚ gamma (r +ℚ whole 1) c m
   unfolding unit_amounts
   outcome_apart m =
       let far = suc m * M in
-      let r = whole (suc q) in
-      let g : ℕ → Fraction = λ k. gamma (whole (suc (suc q))) c m *ℚ power (pooled_severity us) m k in
+      let g : ℕ → Fraction = λ k. gamma (r +ℚ whole 1) c m *ℚ power (pooled_severity us) m k in
       let g_past : (k : ℕ) → m * M < k → g k ≡ whole 0 = λ k d.
-      ap (λ z. gamma (whole (suc (suc q))) c m *ℚ z) (power_past (pooled_severity us) M severity_all.past m k d)
+      ap (λ z. gamma (r +ℚ whole 1) c m *ℚ z) (power_past (pooled_severity us) M severity_all.past m k d)
       ∙ times_zero _ in
-      sym (sum_to_times far (whole (orders (suc q) (suc m))) (apart (suc m)))
+      sym (sum_to_times far (orders r (suc m)) (apart (suc m)))
       ∙ sum_to_same far _ (λ x. r *ℚ convolve unit_amounts g x) (λ x d. apart_next m x ∙ times_assoc r (y u) _
       ∙ ap (λ z. r *ℚ z) (sym (convolve_scaled (y u) t g x)))
       ∙ sum_to_times far r (convolve unit_amounts g)
@@ -222,26 +220,26 @@ module _ (q : ℕ) (us : List PoissonUnit) (some : whole 0 <ℚ expected_claims 
       ∙ ap₂ (λ a b. a *ℚ b) (sum_to_times M (y u) t) (others_all m)) ∙ simp ring
 
   outcome_term : ℕ → Fraction
-  outcome_term n = whole (orders (suc q) n) *ℚ sum_to (n * M) (apart n)
+  outcome_term n = orders r n *ℚ sum_to (n * M) (apart n)
 
-  outcome_sums : (N : ℕ) → common_sums (suc q) us (Outcome i) N ≡ sum_to N outcome_term
+  outcome_sums : (N : ℕ) → common_sums r us (Outcome i) N ≡ sum_to N outcome_term
   unfolding outcome_term
-  outcome_sums N = sum_to_same N _ _ (λ n d. level_sum (suc q) us (Outcome i) n
-      ∙ ap (λ z. whole (orders (suc q) n) *ℚ z) (level_outcome n))
+  outcome_sums N = sum_to_same N _ _ (λ n d. level_sum r us (Outcome i) n
+      ∙ ap (λ z. orders r n *ℚ z) (level_outcome n))
 
   outcome_first : outcome_term zero ≡ whole 0
   unfolding outcome_term claim_apart
-  outcome_first = ap (λ z. whole (orders (suc q) zero) *ℚ z) (sum_to_zero (zero * M) _ (λ x d. refl)) ∙ times_zero _
+  outcome_first = ap (λ z. orders r zero *ℚ z) (sum_to_zero (zero * M) _ (λ x d. refl)) ∙ times_zero _
 
-  pub outcome_none : common_sums (suc q) us (Outcome i) zero ≡ whole 0
+  pub outcome_none : common_sums r us (Outcome i) zero ≡ whole 0
   unfolding sum_to
   outcome_none = outcome_sums zero ∙ outcome_first
 
-  pub outcome_next : (N : ℕ) → common_sums (suc q) us (Outcome i) (suc N)
-      ≡ whole (suc q) *ℚ y u *ℚ (sum_to M t *ℚ sum_to N (gamma (whole (suc (suc q))) c))
+  pub outcome_next : (N : ℕ) → common_sums r us (Outcome i) (suc N)
+      ≡ r *ℚ y u *ℚ (sum_to M t *ℚ sum_to N (gamma (r +ℚ whole 1) c))
   unfolding outcome_term
   outcome_next N =
       outcome_sums (suc N) ∙ sum_to_first N outcome_term
       ∙ ap (λ z. z +ℚ sum_to N (λ m. outcome_term (suc m))) outcome_first ∙ zero_plus _
       ∙ sum_to_same N _ _ (λ m d. outcome_apart m)
-      ∙ sum_to_times N (whole (suc q) *ℚ y u *ℚ sum_to M t) (gamma (whole (suc (suc q))) c) ∙ times_assoc _ _ _
+      ∙ sum_to_times N (r *ℚ y u *ℚ sum_to M t) (gamma (r +ℚ whole 1) c) ∙ times_assoc _ _ _

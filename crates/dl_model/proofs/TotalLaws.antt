@@ -11,11 +11,11 @@ pub use Rattle.dl_model.proofs.WeightLaws.{part_of, probabilities_all, probabili
 pub use Rattle.dl_model.proofs.FiniteCounts.{bounded_by_all, finite_holds, fixed_cell, fixed_sum, holds_reached, power_one}
 pub use Rattle.dl_model.proofs.FamilyLaws.{cell_at_most_one, encloses_same, rises_times, sum_holds, sum_rises_to}
 pub use Rattle.dl_model.proofs.Alike.{AreLevel, IsUnder, cancel_value, cauchy_level, ends_in_order, level_same, same_value, value_sym, value_trans}
-pub use Rattle.dl_model.proofs.Least.{least_scaled}
+pub use Rattle.dl_model.proofs.Least.{least_scaled, over_factor}
 pub use Rattle.dl_model.proofs.Itself.{count_power, sum_to_at_zero}
 pub use Rattle.dl_model.proofs.PoissonWeights.{next_of, poisson_bound, poisson_next, poisson_plus, poisson_zero}
-pub use Rattle.dl_model.proofs.Gamma.{choose-absorb, choose-shift, gamma_is, gamma_next, gamma_one_more, gamma_shift, gamma_zero, geometric_identity, geometric_low, geometric_next, over_next}
-pub use Rattle.dl_model.proofs.GammaThin.{div_plus, gamma_of_least, gamma_shares, mean_pos, parts_one, pos_plus, rest_part_pos, shape_pos, shape_times, share_of, thin_gamma}
+pub use Rattle.dl_model.proofs.Gamma.{gamma_next, gamma_one_more, gamma_shift, gamma_zero, geometric_identity, geometric_low, geometric_next, over_next}
+pub use Rattle.dl_model.proofs.GammaThin.{div_plus, gamma_shares, mean_pos, one_least, pos_plus, shape_times, share_of, thin_gamma}
 pub use Rattle.dl_model.proofs.AddedCounts.{binomial_power, fixed_past, fixed_power, one_trial_none, one_trial_one, trial}
 pub use Rattle.dl_model.proofs.Outcomes.{first_unit, loss_proper, mean_alone, mean_more, outcomes_below, outcomes_le, outcomes_none, outcomes_plus, outcomes_rise, outcomes_same, outcomes_sum, outcomes_times, sum-cons, total_alone, total_alone_all, total_more, total_more_all}
 pub use Rattle.dl_model.proofs.UnitLaws.{unit_loss, unit_plain, unit_proper, unit_within}

@@ -1,12 +1,12 @@
 -- A portfolio under a common factor: given one gamma factor of mean 1 and shape r, which scales the
 -- means of all units, their claim counts are independent Poisson counts (Loss Models, "Mixed
 -- frequency distributions").
-use Rattle.std.specs.Prelude.{ℕ, zero, suc, ◌≡◌, ◌+◌, ◌-◌, ◌*◌, List, [], ◌∷◌, map, sum}
-use Rattle.dl_exact.specs.Prelude.{Fraction, whole, ◌+ℚ◌, ◌*ℚ◌, ◌/ℚ◌, ◌^ℚ◌, factorial, choose, sum_to, sum_pairs, sum_over}
+use Rattle.std.specs.Prelude.{ℕ, zero, suc, ◌≡◌, ◌*◌, List, [], ◌∷◌, map, sum}
+use Rattle.dl_exact.specs.Prelude.{Fraction, whole, ◌+ℚ◌, ◌*ℚ◌, ◌/ℚ◌, ◌^ℚ◌, factorial, sum_to, sum_pairs, sum_over}
 use Rattle.dl_model.specs.Series.{Series}
 use Rattle.dl_model.specs.Compound.{power}
 use Rattle.dl_model.specs.Severity.{IsSeverity}
-use Rattle.dl_model.specs.Counts.{gamma_of}
+use Rattle.dl_model.specs.Counts.{gamma_of, product_below}
 use Rattle.dl_model.specs.Program.{Quantity, score}
 use Rattle.dl_model.specs.Units.{Aggregate, plain}
 
@@ -48,18 +48,19 @@ amounts claims = map (λ c. c.amount) claims
 abbrev pub amounts_given_counts : List Claims → Fraction
 amounts_given_counts claims = product_over claims (λ c. power c.unit.severity c.count c.amount)
 
--- C(r + n - 1, n) * n!, divided by the product of the factorials of the counts
-abbrev pub ways_to_share : ℕ → ℕ → List Claims → Fraction
-ways_to_share r n claims = whole (choose (r + n - 1) n * factorial n) /ℚ
+-- the product of the r + i over the i below n, divided by the product of the factorials of the
+-- counts
+abbrev pub ways_to_share : Fraction → ℕ → List Claims → Fraction
+ways_to_share r n claims = product_below n (λ i. r +ℚ whole i) /ℚ
     product_over claims (λ c. whole (factorial c.count))
 
 -- the product of (v_i / (r + v)) ^ n_i, where v is the expected number of claims of all units
-abbrev pub chances : ℕ → Fraction → List Claims → Fraction
-chances r v claims = product_over claims (λ c. (c.unit.mean /ℚ (whole r +ℚ v)) ^ℚ c.count)
+abbrev pub chances : Fraction → Fraction → List Claims → Fraction
+chances r v claims = product_over claims (λ c. (c.unit.mean /ℚ (r +ℚ v)) ^ℚ c.count)
 
--- The quantity over the claims lists of at most N claims in all; without the constant factor
--- (r / (r + v)) ^ r, which the sums of every quantity have.
-abbrev pub common_sums : ℕ → List PoissonUnit → Quantity → Series
+-- The quantity over the claims lists of at most N claims in all; without the probability of no
+-- claim, a constant factor that the sums of every quantity have.
+abbrev pub common_sums : Fraction → List PoissonUnit → Quantity → Series
 common_sums r us quantity N = sum_to N (λ n. sum_over_claims us n (λ claims.
     score quantity (amounts claims) *ℚ amounts_given_counts claims *ℚ ways_to_share r n claims *ℚ
     chances r (expected_claims us) claims))
@@ -70,8 +71,8 @@ pooled_severity us a = sum_over us (λ u. u.mean /ℚ expected_claims us *ℚ u.
 
 -- the one unit for all of them: a gamma count of shape r and of all their expected claims, with the
 -- pooled severity, whose greatest amount is given
-abbrev pub pooled_unit : ℕ → List PoissonUnit → ℕ → Aggregate
-pooled_unit r us most = plain (gamma_of (whole r) (expected_claims us)) (pooled_severity us) most
+abbrev pub pooled_unit : Fraction → List PoissonUnit → ℕ → Aggregate
+pooled_unit r us most = plain (gamma_of r (expected_claims us)) (pooled_severity us) most
 
 -- the probabilities of the amounts of each unit add up to 1
 abbrev pub AreSeverities : List PoissonUnit → Type 0
@@ -87,8 +88,3 @@ abbrev pub IsUnit : List PoissonUnit → ℕ → PoissonUnit → Type 0
 IsUnit [] i u = ⊥
 IsUnit (w ∷ us) zero u = w ≡ u
 IsUnit (w ∷ us) (suc i) u = IsUnit us i u
-
--- the mean of a gamma count of shape r + 1 that has the part v / (r + v) which the mean v has with
--- the shape r: v * (r + 1) / r
-abbrev pub raised_mean : ℕ → Fraction → Fraction
-raised_mean r v = v *ℚ whole (suc r) /ℚ whole r

@@ -1,6 +1,6 @@
 -- The quantities that the units of a plan declare.
 use Rattle.std.specs.Prelude.{ℕ, ◌/◌, Option, None, Some, List, [], ◌∷◌, map, sum}
-use Rattle.dl_exact.specs.Fraction.{Fraction, whole, ◌over◌}
+use Rattle.dl_exact.specs.Fraction.{Fraction, ◌over◌}
 use Rattle.dl_plan.specs.declared.cede.CedeLayer.{CedeLayer}
 use Rattle.dl_plan.specs.declared.severity.Sev.{Sev}
 use Rattle.dl_plan.specs.declared.plan.Freq.{Freq}
@@ -24,7 +24,7 @@ count_weights (Table counts all) = λ n. weight_at counts n over all
 count_weights (Bernoulli q) = binomial 1 q.num q.den
 count_weights (Binomial trials q) = binomial trials q.num q.den
 count_weights (Poisson mean) = poisson mean
-count_weights (Gamma shape mean) = gamma_of (whole shape) mean
+count_weights (Gamma shape mean) = gamma_of shape mean
 
 -- The outcome of a sum after an aggregate clause. A sum of claims is a multiple of the divisor of
 -- the amounts, and there the clause of a valid plan keeps a whole number; the floor gives a value
@@ -57,7 +57,7 @@ aggregates_of plan = map loss_of plan.units
 
 -- each quantity of the total that units declare, where they are independent, or where they share a
 -- factor of shape r
-abbrev pub declared_by : Option ℕ → List UnitOfPlan → Quantity → Series
+abbrev pub declared_by : Option Fraction → List UnitOfPlan → Quantity → Series
 declared_by None units = partial_sums (map loss_of units)
 declared_by (Some r) units = common_sums r (poisson_units units)
 

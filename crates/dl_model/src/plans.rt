@@ -110,25 +110,25 @@ pub fn law_plan_mean()
         (l u) (h u)) plan.units
         → Holds (declared plan Mean) (declared plan One) (sum_over plan.units l)
         (sum_over plan.units h) }
-    ensures common { (plan : Plan) (r : ℕ) → SharesFactor plan r
+    ensures common { (plan : Plan) (r : Fraction) → SharesFactor plan r
         → Holds (declared plan Mean) (declared plan One) (sum_over plan.units declared_mean)
         (sum_over plan.units declared_mean) }
 {}
 
 /// Thinning and division: over the positive amounts, with the thinned mean, `2^h` Poisson sums of
-/// one `2^h`-th of the mean each, or as many geometric sums as the shape says, have in every cell
-/// the declared value of the unit's sum of claims. Where the thinned mean is 0, as it is where no
-/// amount is positive, there is no loss.
+/// one `2^h`-th of the mean each, or a gamma sum of the same shape, have in every cell the declared
+/// value of the unit's sum of claims. Where the thinned mean is 0, as it is where no amount is
+/// positive, there is no loss.
 pub fn law_thinned()
     ensures poisson { (u : UnitOfPlan) (positive : Sev) (mean : Fraction) (h : ℕ)
         → u.freq ≡ Poisson mean → HasDistribution positive (conditioned 0 (pairs_of u.sev))
         → SameCells (times_itself (compound_of
         (Poisson (thinned_mean u /ℚ whole (2 ^ h))) positive) (2 ^ h)) (compound_of u.freq u.sev) }
-    ensures gamma { (u : UnitOfPlan) (positive : Sev) (shape : ℕ) (mean : Fraction)
-        → u.freq ≡ Gamma shape mean → 1 ≤ shape
+    ensures gamma { (u : UnitOfPlan) (positive : Sev) (shape mean : Fraction)
+        → u.freq ≡ Gamma shape mean → whole 0 <ℚ shape
         → HasDistribution positive (conditioned 0 (pairs_of u.sev))
-        → SameCells (times_itself (compound_of
-        (Gamma 1 (thinned_mean u /ℚ whole shape)) positive) shape) (compound_of u.freq u.sev) }
+        → SameCells (compound_of (Gamma shape (thinned_mean u)) positive)
+        (compound_of u.freq u.sev) }
     ensures none { (u : UnitOfPlan) → IsCountOfPlan u.freq → IsUnbounded u.freq
         → thinned_mean u ≡ whole 0
         → SameCells nothing (compound_of u.freq u.sev) }

@@ -2,18 +2,30 @@
 //! class"): sums of shapes, how the weights grow, square roots of the probability of no claim, and
 //! thinning. No power with a fraction for its exponent is in them.
 
-ghost use Rattle.std.specs.Prelude.{ℕ, ◌≡◌};
+ghost use Rattle.std.specs.Prelude.{ℕ, ◌≡◌, ◌<◌};
 ghost use Rattle.dl_exact.specs.Prelude.{Fraction, whole, ◌+ℚ◌, ◌*ℚ◌, ◌<ℚ◌, ◌≤ℚ◌, sum_to};
 ghost use Rattle.dl_model.specs.Series.{IsBound, AtMost, AtLeast};
 ghost use Rattle.dl_model.specs.Compound.{convolve};
 ghost use Rattle.dl_model.specs.Severity.{IsPositivePart};
 ghost use Rattle.dl_model.specs.Counts.{gamma, gamma_of};
-ghost use Rattle.dl_model.specs.Family.{SameCells, compound};
+ghost use Rattle.dl_model.specs.Family.{SameCells, compound, product, times_itself};
 
 /// Two gamma counts of one `x` added up are one whose shape is the sum of theirs.
 pub fn law_sum_of_shapes()
     ensures { (r t x : Fraction) (n : ℕ)
         → convolve (gamma r x) (gamma t x) n ≡ gamma (r +ℚ t) x n }
+{}
+
+/// Sums of gamma numbers of claims with one severity and means of `b` times their shapes, added up:
+/// `k` of shape 1 are one of shape `k`, and those of shapes `r` and `t` are one of shape `r + t`.
+pub fn law_added_shapes()
+    ensures powers { (k : ℕ) (b : Fraction) (f : ℕ → Fraction) → 0 < k
+        → SameCells (times_itself (compound (gamma_of (whole 1) b) f) k)
+        (compound (gamma_of (whole k) (whole k *ℚ b)) f) }
+    ensures sum { (r t b : Fraction) (f : ℕ → Fraction) → whole 0 <ℚ r → whole 0 <ℚ t
+        → SameCells
+        (product (compound (gamma_of r (r *ℚ b)) f) (compound (gamma_of t (t *ℚ b)) f))
+        (compound (gamma_of (r +ℚ t) ((r +ℚ t) *ℚ b)) f) }
 {}
 
 /// No weight falls as the shape grows; and the sums of the weights are bounded, with `d` for

@@ -1,12 +1,14 @@
 -- The plan of the one unit is valid: its amounts are those of the units, and its thinned mean is the sum of theirs.
-use Rattle.dl_pool.proofs.Common.{ℕ, zero, suc, ◌≡◌, ◌∙◌, ◌<◌, ◌≤◌, List, [], ◌∷◌, length, take, get_or, inl, inr, refl, ap, ap₂, sym, subst, arith, All, take_all, cases_lt, sum_by-cons, Fraction, whole, ◌over◌, ◌+ℚ◌, ◌-ℚ◌, ◌*ℚ◌, ◌/ℚ◌, ◌≤ℚ◌, ◌<ℚ◌, sum_over, sum_over_same, sum_over_times, ring, le_refl, le_trans, div_times, times_cancel, times_one, times_zero, times_plus, plus_zero, plus_cancel, sub_plus, times_le_both, whole_pos, over_zero, severity_total, Item, Sev, UnitOfPlan, Plan, HasPartsOf48Bits, greatest, weight_at, probability_of, expected_count, IsUnbounded, Freq, Gamma, thinned_mean, SharesFactor, expected_of, thinned_of, raised, PoissonUnit, expected_claims, pooled_severity, poisson_units, IsMixedOf, IsPooled, IsRaised, alone, ◌==◌, cond, fun_ext, eq-eqb, ne_eqb, get_or-le-sum_by, le_div, whole_le, same_num, over_le, IsClaimCount, has_factor, weight_at-le, gamma_of, Quantity, partial_sums, loss, plain, after_zero, aggregate_of, count_weights, outcome_after, declared, common_sums, pooled_unit, CountsTotal, as_one_loss, declared_is, expected_units, are_severities, pooled_over, shares_severity}
+use Rattle.dl_pool.proofs.Common.{ℕ, FitsFrac, plus_comm, le_plus, ◌≡◌, ◌∙◌, ◌<◌, ◌≤◌, List, [], ◌∷◌, length, take, get_or, inl, inr, refl, ap, ap₂, sym, subst, arith, All, take_all, cases_lt, sum_by-cons, Fraction, whole, ◌over◌, ◌+ℚ◌, ◌-ℚ◌, ◌*ℚ◌, ◌/ℚ◌, ◌≤ℚ◌, ◌<ℚ◌, sum_over, sum_over_same, sum_over_times, ring, le_refl, le_trans, div_times, times_cancel, times_one, times_zero, times_plus, plus_zero, plus_cancel, sub_plus, times_le_both, over_zero, severity_total, Item, Sev, UnitOfPlan, Plan, HasPartsOf48Bits, greatest, weight_at, probability_of, expected_count, IsUnbounded, Freq, Gamma, thinned_mean, SharesFactor, expected_of, thinned_of, raised, PoissonUnit, expected_claims, pooled_severity, poisson_units, IsMixedOf, IsPooled, IsRaised, alone, ◌==◌, cond, fun_ext, eq-eqb, ne_eqb, get_or-le-sum_by, le_div, whole_le, same_num, over_le, IsClaimCount, has_factor, weight_at-le, gamma_of, Quantity, partial_sums, loss, plain, after_zero, aggregate_of, count_weights, outcome_after, declared, common_sums, pooled_unit, CountsTotal, as_one_loss, declared_is, expected_units, are_severities, pooled_over, shares_severity}
 use Rattle.dl_plan.proofs.Few.{standard_few}
 use Rattle.dl_plan.proofs.MeanSizes.{standard_means}
 use Rattle.dl_model.proofs.PoissonTotals.{part_back}
 use Rattle.std.proofs.lemmas.List.Elements.{All-head, All-tail, All-cons, All-nil}
 use Rattle.dl_plan.specs.Valid.{IsValid, IsValidUnit, IsAggregate, IsNewZero}
 use Rattle.std.specs.Prelude.{IfSome}
-use Rattle.dl_limits.specs.Limits.{most_amount_at, most_expected}
+use Rattle.dl_limits.specs.Limits.{most_amount_at, most_beta, most_expected}
+use Rattle.dl_exact.proofs.Laws.{div_le_both}
+use Rattle.dl_plan.specs.Count.{IsThinnedGamma, IsThinnedTo}
 
 -- ---- no amount is past those of the units
 
@@ -104,24 +106,38 @@ module _ (units : List UnitOfPlan) (some : whole 0 <ℚ expected_of units) (made
       (rest_back v none (zero_le_one made.sev)
       ∙ sym (ap (λ t. thinned_of units +ℚ t) zeros ∙ thinned_and_rest units))
 
-  pub raised_thinned : (r : ℕ) → 0 < r → raised r v *ℚ (whole 1 -ℚ none) ≡ raised r (thinned_of units)
+  pub raised_thinned : (r : Fraction) → whole 0 <ℚ r → raised r v *ℚ (whole 1 -ℚ none) ≡ raised r (thinned_of units)
   raised_thinned r above =
-      let pos : whole 0 <ℚ whole r = whole_pos r above in
-      times_cancel _ _ (whole r) pos
-      (turn (raised r v) (whole 1 -ℚ none) (whole r)
-      ∙ ap (λ t. t *ℚ (whole 1 -ℚ none)) (div_times (v *ℚ whole (suc r)) (whole r) pos)
-      ∙ turn v (whole (suc r)) (whole 1 -ℚ none)
-      ∙ ap (λ t. t *ℚ whole (suc r)) pooled_thinned
-      ∙ sym (div_times (thinned_of units *ℚ whole (suc r)) (whole r) pos))
+      times_cancel _ _ r above
+      (turn (raised r v) (whole 1 -ℚ none) r
+      ∙ ap (λ t. t *ℚ (whole 1 -ℚ none)) (div_times (v *ℚ (r +ℚ whole 1)) r above)
+      ∙ turn v (r +ℚ whole 1) (whole 1 -ℚ none)
+      ∙ ap (λ t. t *ℚ (r +ℚ whole 1)) pooled_thinned
+      ∙ sym (div_times (thinned_of units *ℚ (r +ℚ whole 1)) r above))
     where
       turn : (a b c : Fraction) → a *ℚ b *ℚ c ≡ a *ℚ c *ℚ b
       turn a b c = simp ring
 
--- raising makes no less
-pub raised_more : (r : ℕ) (h : Fraction) → 0 < r → h ≤ℚ raised r h
-raised_more r h above =
-    let pos : whole 0 <ℚ whole r = whole_pos r above in
-    le_div h (whole r) (h *ℚ whole (suc r)) pos (times_le_both h h _ _ (le_refl h) (whole_le r (suc r) (omega arith)))
+module _ (r h : Fraction) (above : whole 0 <ℚ r) where
+  -- raising makes no less
+  pub raised_more : h ≤ℚ raised r h
+  raised_more = le_div h r (h *ℚ (r +ℚ whole 1)) above (times_le_both h h _ _ (le_refl h) (le_plus r (whole 1)))
+
+  -- over the shape it is the same
+  raised_part : whole 0 <ℚ r +ℚ whole 1 → raised r h /ℚ (r +ℚ whole 1) ≡ h /ℚ r
+  raised_part next = times_cancel _ _ (r +ℚ whole 1) next (div_times (raised r h) (r +ℚ whole 1) next
+      ∙ times_cancel _ _ r above (div_times (h *ℚ (r +ℚ whole 1)) r above
+      ∙ ap (λ t. t *ℚ (r +ℚ whole 1)) (sym (div_times h r above)) ∙ turn (h /ℚ r) r (r +ℚ whole 1)))
+    where
+      turn : (a b c : Fraction) → a *ℚ b *ℚ c ≡ a *ℚ c *ℚ b
+      turn a b c = simp ring
+
+  -- and that is no more than it
+  part_few : raised r h ≤ℚ whole most_expected → h /ℚ r ≤ℚ whole most_beta
+  part_few few = le_trans _ _ _ (div_le_both h (h *ℚ (r +ℚ whole 1)) r r above
+      (subst (λ t. t ≤ℚ h *ℚ (r +ℚ whole 1)) (times_one h) (times_le_both h h _ _ (le_refl h)
+      (subst (λ t. whole 1 ≤ℚ t) (plus_comm (whole 1) r) (le_plus (whole 1) r)))) (le_refl r))
+      (le_trans _ _ _ few (whole_le most_expected most_beta (omega arith)))
 
 -- ---- the plan
 
@@ -129,7 +145,8 @@ module _ (cells : ℕ) (units : List UnitOfPlan) (count : Freq) (made : UnitOfPl
     (is : IsMixedOf units count made) (counted : IsClaimCount count) (unbounded : IsUnbounded count)
     (expected : HasPartsOf48Bits (expected_count count))
     (admitted : HasPartsOf48Bits (expected_count count *ℚ (whole 1 -ℚ probability_of made.sev 0)))
-    (few : expected_count count *ℚ (whole 1 -ℚ probability_of made.sev 0) ≤ℚ whole most_expected) where
+    (few : expected_count count *ℚ (whole 1 -ℚ probability_of made.sev 0) ≤ℚ whole most_expected)
+    (thin : IsThinnedTo count (expected_count count *ℚ (whole 1 -ℚ probability_of made.sev 0))) where
   pub mixed_valid : IsValidUnit cells made
   mixed_valid = record {
     amounts = amounts_near units made (most_amount_at cells) is.severity (λ k d h. (each k d h).amounts);
@@ -139,6 +156,8 @@ module _ (cells : ℕ) (units : List UnitOfPlan) (count : Freq) (made : UnitOfPl
     thinned = λ unbounded. subst (λ f. HasPartsOf48Bits (expected_count f *ℚ (whole 1 -ℚ probability_of made.sev 0))
         × (expected_count f *ℚ (whole 1 -ℚ probability_of made.sev 0) ≤ℚ whole most_expected)) (sym is.count)
         (admitted, few);
+    thinned_count = subst (λ f. IsThinnedTo f (expected_count f *ℚ (whole 1 -ℚ probability_of made.sev 0)))
+        (sym is.count) thin;
     clause = subst (λ o. IfSome o (IsAggregate cells made.sev)) (sym is.clause) tt;
     zero = subst (λ o. IfSome o (IsNewZero made.freq)) (sym is.zero) tt;
   }
@@ -164,65 +183,79 @@ pub whole_list : (P : Fraction → Type 0) (f : List UnitOfPlan → Fraction) (u
 whole_list P f units some h =
     subst (λ us. P (f us)) (take_all (length units) units (omega arith)) (h (length units) some (omega arith))
 
-pub pooled_valid : (plan : Plan) (r : ℕ) (made : UnitOfPlan) → SharesFactor plan r → IsPooled r plan.units made
+pub pooled_valid : (plan : Plan) (r : Fraction) (made : UnitOfPlan) → SharesFactor plan r → IsPooled r plan.units made
     → IsValid (alone plan made)
 pooled_valid plan r made shares is =
     let factor = has_factor plan r shares in
+    let above = factor.shape.above in
     let thinned = pooled_thinned plan.units factor.some made is.severity in
     let all = whole_list HasPartsOf48Bits thinned_of plan.units shares.valid.some factor.thinned in
     alone_valid plan made shares.valid
     (mixed_valid plan.cells plan.units (Gamma r (expected_of plan.units)) made shares.valid.units is
-    (factor.some_shape, omega arith) tt
+    (record { shape = factor.shape; beta = factor.expected_beta }) tt
     (whole_list HasPartsOf48Bits expected_of plan.units shares.valid.some factor.expected)
     (subst HasPartsOf48Bits (sym thinned) all)
     (subst (λ t. t ≤ℚ whole most_expected) (sym thinned)
-    (le_trans _ _ _ (raised_more r (thinned_of plan.units) factor.some_shape) factor.few)))
+    (le_trans _ _ _ (raised_more r (thinned_of plan.units) above) factor.few))
+    (subst (IsThinnedGamma r) (sym thinned) (record {
+      beta = factor.thinned_beta;
+      few = part_few r (thinned_of plan.units) above factor.few;
+    })))
 
-pub raised_valid : (plan : Plan) (r : ℕ) (made : UnitOfPlan) → SharesFactor plan r → IsRaised r plan.units made
+pub raised_valid : (plan : Plan) (r : Fraction) (made : UnitOfPlan) → SharesFactor plan r → IsRaised r plan.units made
     → IsValid (alone plan made)
 raised_valid plan r made shares is =
     let factor = has_factor plan r shares in
-    let thinned = raised_thinned plan.units factor.some made is.severity r factor.some_shape in
+    let above = factor.shape.above in
+    let next = factor.next_shape.above in
+    let thinned = raised_thinned plan.units factor.some made is.severity r above in
+    let part : (h : Fraction) → h /ℚ r ≡ raised r h /ℚ (r +ℚ whole 1) = λ h. sym (raised_part r h above next) in
     alone_valid plan made shares.valid
-    (mixed_valid plan.cells plan.units (Gamma (suc r) (raised r (expected_of plan.units))) made shares.valid.units is
-    (omega arith, factor.few_shape) tt factor.raised_expected
+    (mixed_valid plan.cells plan.units (Gamma (r +ℚ whole 1) (raised r (expected_of plan.units))) made
+    shares.valid.units is
+    (record {
+      shape = factor.next_shape;
+      beta = subst FitsFrac (part (expected_of plan.units)) factor.expected_beta;
+    }) tt factor.raised_expected
     (subst HasPartsOf48Bits (sym thinned) factor.raised_thinned)
-    (subst (λ t. t ≤ℚ whole most_expected) (sym thinned) factor.few))
+    (subst (λ t. t ≤ℚ whole most_expected) (sym thinned) factor.few)
+    (subst (IsThinnedGamma (r +ℚ whole 1)) (sym thinned) (record {
+      beta = subst FitsFrac (part (thinned_of plan.units)) factor.thinned_beta;
+      few = subst (λ t. t ≤ℚ whole most_beta) (part (thinned_of plan.units))
+          (part_few r (thinned_of plan.units) above factor.few);
+    })))
 
 -- ---- what it declares
 
-module _ (plan : Plan) (q : ℕ) (shares : SharesFactor plan (suc q)) (made : UnitOfPlan)
-    (is : IsPooled (suc q) plan.units made) where
+module _ (plan : Plan) (r : Fraction) (shares : SharesFactor plan r) (made : UnitOfPlan)
+    (is : IsPooled r plan.units made) where
   abbrev us : List PoissonUnit
   us = poisson_units plan.units
 
-  aggregate_is : aggregate_of made ≡ pooled_unit (suc q) us (greatest made.sev.items)
+  aggregate_is : aggregate_of made ≡ pooled_unit r us (greatest made.sev.items)
   aggregate_is =
       ap₂ (λ w o. record {
         count = w;
         severity = probability_of made.sev;
         most = greatest made.sev.items;
         clause = outcome_after o;
-      }) (ap count_weights is.count ∙ ap (gamma_of (whole (suc q))) (sym (expected_units plan.units))) is.clause
-      ∙ ap (λ f. plain (gamma_of (whole (suc q)) (expected_claims us)) f (greatest made.sev.items))
+      }) (ap count_weights is.count ∙ ap (gamma_of r) (sym (expected_units plan.units))) is.clause
+      ∙ ap (λ f. plain (gamma_of r (expected_claims us)) f (greatest made.sev.items))
       (fun_ext is.severity)
 
   pub declares_same : (quantity : Quantity) → CountsTotal quantity → (N : ℕ)
-      → declared (alone plan made) quantity N ≡ common_sums (suc q) us quantity N
+      → declared (alone plan made) quantity N ≡ common_sums r us quantity N
   declares_same quantity total N =
       ap (λ o. partial_sums (after_zero o (aggregate_of made) ∷ []) quantity N) is.zero
       ∙ ap (λ a. partial_sums (loss a ∷ []) quantity N) aggregate_is
-      ∙ sym (as_one_loss q us (subst (λ t. whole 0 <ℚ t) (sym (expected_units plan.units)) (has_factor plan (suc q) shares).some)
+      ∙ sym (as_one_loss r (has_factor plan r shares).shape.above us
+      (subst (λ t. whole 0 <ℚ t) (sym (expected_units plan.units)) (has_factor plan r shares).some)
       (are_severities plan.units) (greatest made.sev.items)
       (λ a far. sym (is.severity a)
       ∙ (shares_severity made.sev.items made.sev.total made.sev.weighted).past a far) quantity total N)
 
-pub same_declared : (plan : Plan) (r : ℕ) → SharesFactor plan r → (made : UnitOfPlan) → IsPooled r plan.units made
+pub same_declared : (plan : Plan) (r : Fraction) → SharesFactor plan r → (made : UnitOfPlan) → IsPooled r plan.units made
     → (quantity : Quantity) → CountsTotal quantity → (N : ℕ)
     → declared (alone plan made) quantity N ≡ declared plan quantity N
-same_declared plan zero shares made is quantity total N = absurd (omega (
-  arith,
-  (has_factor plan zero shares).some_shape,
-))
-same_declared plan (suc q) shares made is quantity total N = declares_same plan q shares made is quantity total N
-    ∙ sym (ap (λ D. D quantity N) (declared_is plan (suc q) shares.shape))
+same_declared plan r shares made is quantity total N = declares_same plan r shares made is quantity total N
+    ∙ sym (ap (λ D. D quantity N) (declared_is plan r shares.shape))

@@ -10,7 +10,7 @@ pub use Rattle.dl_plan.specs.Prelude.{CanRaise}
 
 -- of a gamma count of shape r and mean m the count of shape 1 and mean m / r
 abbrev pub extra_count : Freq → Freq
-extra_count (Gamma shape mean) = Gamma 1 (mean /ℚ whole shape)
+extra_count (Gamma shape mean) = Gamma (whole 1) (mean /ℚ shape)
 extra_count freq = freq
 
 -- the unit of this count with u's name and u's severity, and neither an aggregate clause nor a

@@ -1,10 +1,10 @@
 -- One unit in the place of all units of a plan under a common factor (Loss Models, "Mixed frequency
 -- distributions": Poisson counts with one gamma mean are a negative binomial count), and in the
 -- place of independent Poisson units.
-use Rattle.std.specs.Prelude.{ℕ, suc, ◌≡◌, ◌≤◌, None, List, [], ◌∷◌, length, map, take, flat_map, get_or}
+use Rattle.std.specs.Prelude.{ℕ, ◌≡◌, ◌≤◌, None, List, [], ◌∷◌, length, map, take, flat_map, get_or}
 use Rattle.std.specs.Borrow.{Bor}
 use Rattle.dl_limits.specs.Limits.{most_expected}
-use Rattle.dl_exact.specs.Prelude.{whole, ◌≤ℚ◌, ◌<ℚ◌}
+use Rattle.dl_exact.specs.Prelude.{Fraction, whole, ◌+ℚ◌, ◌≤ℚ◌, ◌<ℚ◌}
 use Rattle.dl_plan.specs.declared.plan.Freq.{Freq}
 use Rattle.dl_plan.specs.declared.plan.Freq.TheVariants.{Gamma}
 use Rattle.dl_plan.specs.declared.plan.Unit.{Unit as UnitOfPlan}
@@ -39,12 +39,12 @@ pub record HavePoissonSum (units : List UnitOfPlan) : Type 0 where
   pub products : IsFineTo30Bits (flat_map (shared_probabilities (expected_of units)) units)
 
 -- the one unit for units under a factor of shape r: its mean is the expected number of all claims
-abbrev pub IsPooled : ℕ → List UnitOfPlan → UnitOfPlan → Type 0
+abbrev pub IsPooled : Fraction → List UnitOfPlan → UnitOfPlan → Type 0
 IsPooled r units made = IsMixedOf units (Gamma r (expected_of units)) made
 
 -- the same with one more in the shape and the mean v * (r + 1) / r
-abbrev pub IsRaised : ℕ → List UnitOfPlan → UnitOfPlan → Type 0
-IsRaised r units made = IsMixedOf units (Gamma (suc r) (raised r (expected_of units))) made
+abbrev pub IsRaised : Fraction → List UnitOfPlan → UnitOfPlan → Type 0
+IsRaised r units made = IsMixedOf units (Gamma (r +ℚ whole 1) (raised r (expected_of units))) made
 
 -- the plan of one unit, on the grid of another plan
 abbrev pub alone : Plan → UnitOfPlan → Plan

@@ -2,7 +2,7 @@
 
 ghost use Rattle.std.specs.Prelude.{ℕ, ◌≡◌, ◌≤◌, length, map, flat_map, All, IsTrue, IsSome, IfOk, IfSome};
 ghost use Rattle.dl_limits.specs.Limits.{most_expected, most_weights};
-ghost use Rattle.dl_exact.specs.Fraction.{whole, ◌-ℚ◌, ◌*ℚ◌, ◌≤ℚ◌, ◌<ℚ◌};
+ghost use Rattle.dl_exact.specs.Fraction.{Fraction, whole, ◌-ℚ◌, ◌*ℚ◌, ◌≤ℚ◌, ◌<ℚ◌};
 ghost use Rattle.dl_plan.specs.Prelude.{common_denominator, HasPartsOf48Bits, pairs_of, probability_of, expected_count, IsValid, IsValidUnit, CanShare, expected_of, unit_share, shared_probabilities, SharesFactor};
 ghost use Rattle.dl_sev.specs.Prelude.{IsWeighing, sum_of};
 ghost use Rattle.dl_model.specs.Prelude.{Quantity, declared, pooled_severity, CountsTotal, IsPoissonSum, poisson_units};
@@ -23,8 +23,8 @@ use std::alloc::{AllocError, Global};
 /// valid, declares what the units do, at every level: that it is there, its probabilities and its
 /// distribution, its mean, its layers and its tail means.
 pub fn pool(alloc: Global, plan: &Plan) -> Result<Unit, AllocError>
-    requires { (r : ℕ) × SharesFactor plan.now r }
-    ensures pooled { IfOk result (λ unit. (r : ℕ) → SharesFactor plan.now r
+    requires { (r : Fraction) × SharesFactor plan.now r }
+    ensures pooled { IfOk result (λ unit. (r : Fraction) → SharesFactor plan.now r
         → IsPooled r plan.now.units unit) }
     ensures valid { IfOk result (λ unit. IsValid (alone plan.now unit)) }
     ensures same { IfOk result (λ unit. (quantity : Quantity) → CountsTotal quantity → (N : ℕ)

@@ -1,6 +1,7 @@
 //! The pooled unit with one more in its shape.
 
-ghost use Rattle.std.specs.Prelude.{ℕ, IfOk};
+ghost use Rattle.std.specs.Prelude.{IfOk};
+ghost use Rattle.dl_exact.specs.Fraction.{Fraction};
 ghost use Rattle.dl_plan.specs.declared.plan.Plan.{Plan};
 ghost use Rattle.dl_plan.specs.Prelude.{IsValid, SharesFactor};
 ghost use Rattle.dl_pool.specs.Pooled.{IsPooled, IsRaised, alone};
@@ -15,25 +16,26 @@ use std::alloc::{AllocError, Global};
 /// shape `r + 1` and mean `v * (r + 1) / r` for its mean `v`. From its grid comes what one unit
 /// adds to a total. Its plan is valid.
 pub fn raised(alloc: Global, pooled: &Unit) -> Result<Unit, AllocError>
-    requires { (plan : Plan) × (r : ℕ) × SharesFactor plan r × IsPooled r plan.units pooled.now }
-    ensures raised { IfOk result (λ unit. (plan : Plan) (r : ℕ) → SharesFactor plan r
+    requires { (plan : Plan) × (r : Fraction) × SharesFactor plan r
+        × IsPooled r plan.units pooled.now }
+    ensures raised { IfOk result (λ unit. (plan : Plan) (r : Fraction) → SharesFactor plan r
         → IsPooled r plan.units pooled.now → IsRaised r plan.units unit) }
-    ensures valid { IfOk result (λ unit. (plan : Plan) (r : ℕ) → SharesFactor plan r
+    ensures valid { IfOk result (λ unit. (plan : Plan) (r : Fraction) → SharesFactor plan r
         → IsPooled r plan.units pooled.now → IsValid (alone plan unit)) }
 {
     let Freq::Gamma { shape, mean } = &pooled.freq else {
         unreachable!()
     };
-    let num = mean.num() as u128 * (*shape as u128 + 1);
-    let den = mean.den() as u128 * *shape as u128;
+    let next_shape = shape.add(Frac::whole(1)).unwrap();
+    let raised_mean = dl_plan::raised(*shape, *mean).unwrap();
     let name = Text::copy(alloc, pooled.name.as_slice())?;
     let sev = copied(alloc, &pooled.sev)?;
     Ok(Unit {
         name,
         sev,
         freq: Freq::Gamma {
-            shape: *shape + 1,
-            mean: Frac::make(num, den).unwrap(),
+            shape: next_shape,
+            mean: raised_mean,
         },
         cede: None,
         zero: None,

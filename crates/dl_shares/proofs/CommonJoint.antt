@@ -1,5 +1,5 @@
 -- The weight of the amounts above 0 of a unit, and the joint mean of a unit under a common factor of every shape.
-use Rattle.dl_shares.proofs.Common.{ℕ, zero, suc, ◌≡◌, ◌∙◌, ◌-◌, ◌<◌, ◌^◌, List, length, get_or, inl, inr, ap, sym, subst, arith, cases_lt, Fraction, whole, ◌over◌, ◌*ℚ◌, over_zero, times_zero, severity_total, UnitOfPlan, Plan, weight_at, expected_count, thinned_mean, SharesFactor, IsRaised, Iv, low_at, high_at, positive_share, has_factor, Holds, GridEncloses, compound_of, declared, One, Joint, declared_is, claims_mean}
+use Rattle.dl_shares.proofs.Common.{ℕ, ◌≡◌, ◌∙◌, ◌-◌, ◌<◌, ◌^◌, List, length, get_or, inl, inr, ap, sym, subst, arith, cases_lt, Fraction, whole, ◌over◌, ◌*ℚ◌, over_zero, times_zero, severity_total, UnitOfPlan, Plan, weight_at, expected_count, thinned_mean, SharesFactor, IsRaised, Iv, low_at, high_at, positive_share, has_factor, Holds, GridEncloses, compound_of, declared, One, Joint, declared_is, claims_mean}
 use Rattle.dl_exact.proofs.Parts.{whole_num}
 use Rattle.dl_shares.proofs.JointValues.{joint_exact}
 
@@ -28,15 +28,11 @@ some_positive u h is some = elim (cases_lt (weight_at u.sev.items 0) u.sev.total
 -- ---- under a common factor, of every shape
 
 module _ {B : ℕ} (grid : List (Iv B)) (plan : Plan) (i x : ℕ) (made u : UnitOfPlan) (inside : x < length grid) where
-  pub common_exact : (r : ℕ) → SharesFactor plan r → i < length plan.units → get_or plan.units i u ≡ u
+  pub common_exact : (r : Fraction) → SharesFactor plan r → i < length plan.units → get_or plan.units i u ≡ u
       → IsRaised r plan.units made → GridEncloses grid (compound_of made.freq made.sev)
       → Holds (declared plan (Joint i x)) (declared plan One) (claims_mean u (2 ^ B) x (low_at grid))
       (claims_mean u (2 ^ B) x (high_at grid))
-  common_exact zero shares there here raised encloses =
-      absurd (omega (arith, (has_factor plan zero shares).some_shape))
-  common_exact (suc q) shares there here raised encloses =
-      let factor = has_factor plan (suc q) shares in
+  common_exact r shares there here raised encloses =
       subst (λ D. Holds (D (Joint i x)) (D One) (claims_mean u (2 ^ B) x (low_at grid))
-      (claims_mean u (2 ^ B) x (high_at grid)))
-      (sym (declared_is plan (suc q) shares.shape))
-      (joint_exact plan.units q factor made raised grid encloses i x u there here inside)
+      (claims_mean u (2 ^ B) x (high_at grid))) (sym (declared_is plan r shares.shape))
+      (joint_exact plan.units r (has_factor plan r shares) made raised grid encloses i x u there here inside)

@@ -1,12 +1,8 @@
 -- The joint mean of a gamma unit beside independent units, from the cells of the total with the unit's extra claims. One
 -- claim apart leaves a gamma count with one more in its shape, and so do the extra claims.
-use Rattle.dl_shares.proofs.Common.{ℕ, zero, suc, ◌≡◌, ◌∙◌, ◌+◌, ◌<◌, ◌≤◌, ◌^◌, List, ◌∷◌, length, get_or, refl, ap, ap₂, sym, subst, subst₂, arith, fun_ext, Fraction, whole, ◌over◌, ◌+ℚ◌, ◌*ℚ◌, ◌/ℚ◌, ◌≤ℚ◌, sum_pairs, ring, le_refl, times_le_both, times_assoc, times_comm, times_left_comm, times_one, div_times, sum_pairs_same, UnitOfPlan, probability_of, expected_count, IsClaimCount, Iv, low_at, high_at, pow_pos, Series, Holds, GridEncloses, Loss, One, Point, Joint, partial_sums, score, gamma_of, count_weights, claims_mean}
-use Rattle.dl_exact.proofs.Laws.{le_trans}
-use Rattle.std.proofs.Common.{max}
-use Rattle.std.proofs.Math.Nat.{le-max_left, le-max_right}
-use Rattle.dl_exact.specs.Power.{◌^ℚ◌}
+use Rattle.dl_shares.proofs.Common.{ℕ, suc, ◌≡◌, ◌∙◌, ◌<◌, ◌≤◌, ◌^◌, List, ◌∷◌, length, get_or, refl, ap, ap₂, sym, subst, subst₂, arith, fun_ext, Fraction, whole, ◌over◌, ◌+ℚ◌, ◌*ℚ◌, ◌/ℚ◌, ◌<ℚ◌, sum_pairs, times_le_both, times_assoc, times_comm, times_left_comm, div_times, sum_pairs_same, UnitOfPlan, probability_of, expected_count, IsClaimCount, Iv, low_at, high_at, pow_pos, Series, Holds, GridEncloses, Loss, One, Point, Joint, partial_sums, score, gamma_of, count_weights, claims_mean}
+use Rattle.dl_exact.proofs.Laws.{plus_comm}
 use Rattle.dl_exact.specs.Sum.{sum_to}
-use Rattle.dl_exact.proofs.Sums.{sum_pairs_times_right}
 use Rattle.dl_model.specs.Compound.{convolve, cell}
 unfoldable use Rattle.dl_model.specs.Compound.{power}
 use Rattle.dl_model.specs.Counts.{gamma}
@@ -14,17 +10,15 @@ use Rattle.dl_model.specs.Family.{Family}
 use Rattle.dl_model.specs.Measures.{unit_of, without}
 use Rattle.dl_model.specs.Plans.{loss_of}
 use Rattle.dl_model.specs.Program.{AreDeclarable, IsLoss, total}
-use Rattle.dl_model.specs.Series.{IsLeastBound, Rises, times}
+use Rattle.dl_model.specs.Series.{Rises, times}
 use Rattle.dl_model.proofs.Alike.{AreLevel, level_both, level_same, level_trans, same_value}
-use Rattle.dl_model.proofs.Declared.{rises_to}
 use Rattle.dl_model.proofs.FamilyLaws.{rises_times, sum_rises, sum_rises_to}
-use Rattle.dl_exact.proofs.Laws.{whole_suc}
-use Rattle.dl_model.proofs.Gamma.{gamma_next, gamma_one_more, gamma_shift}
-use Rattle.dl_model.proofs.GammaThin.{gamma_of_least, mean_pos, shape_pos, share_of}
-use Rattle.dl_model.proofs.Itself.{level_sum, rows_level}
-use Rattle.dl_model.proofs.Least.{least_scaled}
+use Rattle.dl_model.proofs.Gamma.{gamma_next, gamma_plus, gamma_shift}
+use Rattle.dl_model.proofs.GammaThin.{one_least, shape_times, share_of}
+use Rattle.dl_model.proofs.Itself.{level_sum, product_level}
+use Rattle.dl_model.proofs.Least.{over_factor}
 use Rattle.dl_model.proofs.Outcomes.{outcomes_rise, total_more, total_more_all}
-use Rattle.dl_model.proofs.Powers.{convolve_assoc, convolve_scaled, convolve_times, power_plus}
+use Rattle.dl_model.proofs.Powers.{convolve_assoc}
 use Rattle.dl_model.proofs.Without.{unit_is, without_units}
 use Rattle.dl_shares.proofs.BesideJoint.{cells_split}
 use Rattle.dl_pool.specs.Extra.{CanRaise, IsExtra, extra_count}
@@ -35,67 +29,25 @@ use Rattle.dl_shares.proofs.PlainUnits.{plain_cells, plain_all, plain_loss}
 
 -- ---- the claims of two counts
 
--- the claims of both together are those of the counts' sum
 module _ (a b f : ℕ → Fraction) (y : ℕ) where
   abbrev together : Series
   together N = sum_pairs y (λ i j. cell a f i N *ℚ cell b f j N)
-
-  both : (n k : ℕ) → convolve (λ i. a n *ℚ power f n i) (λ j. b k *ℚ power f k j) y
-      ≡ a n *ℚ b k *ℚ power f (n + k) y
-  both n k = convolve_scaled (a n) (power f n) (λ j. b k *ℚ power f k j) y
-      ∙ ap (λ t. a n *ℚ t) (convolve_times (b k) (power f n) (power f k) y
-      ∙ ap (λ g. b k *ℚ g y) (sym (power_plus f n k))) ∙ sym (times_assoc _ _ _)
-
-  by_sum : (s : ℕ) → sum_pairs s (λ n k. convolve (λ i. a n *ℚ power f n i) (λ j. b k *ℚ power f k j) y)
-      ≡ convolve a b s *ℚ power f s y
-  by_sum s = sum_pairs_same s _ _ (λ n k e. both n k ∙ ap (λ m. a n *ℚ b k *ℚ power f m y) e)
-      ∙ sum_pairs_times_right s (power f s y) (λ n k. a n *ℚ b k)
-
-  added_level : AreLevel together (cell (convolve a b) f y)
-  added_level = level_trans _ _ _ (rows_level (λ n i. a n *ℚ power f n i) (λ k j. b k *ℚ power f k j) y)
-      (level_same _ _ (λ N. ap (sum_to N) (fun_ext by_sum)))
 
   together_rises : Rises together
   together_rises = sum_rises y (λ i j. times (cell a f i) (cell b f j))
       (λ i j e. rises_times _ _ (sum_rises_to (λ n. a n *ℚ power f n i)) (sum_rises_to (λ n. b n *ℚ power f n j)))
 
--- ---- a factor of the whole weight
+-- ---- gamma counts of shape r and mean m
 
--- over R the declared value is that over E times R, times the least bound of E
-without_factor : (Q E R : Series) (L l h : Fraction) → Rises E → Rises R → IsLeastBound E L → Holds Q (times E R) l h
-    → Holds Q R (l *ℚ L) (h *ℚ L)
-without_factor Q E R L l h rise r least told = (
-  λ n u b. subst (λ t. t ≤ℚ u) (turn l (R n) L) ((least_scaled (l *ℚ R n) E L rise least).1 u (λ k.
-      let far = max k n in
-      le_trans _ _ _
-      (subst (λ t. t ≤ℚ l *ℚ (E far *ℚ R far)) (sym (turned l (R n) (E k)))
-      (times_le_both _ _ _ _ (le_refl l) (times_le_both _ _ _ _ (rises_to E rise k far (le-max_left k n))
-      (rises_to R r n far (le-max_right k n)))))
-      (told.0 far u b))),
-  λ n u b. subst (λ t. Q n ≤ℚ t) (sym (times_assoc h L u))
-      (told.1 n (L *ℚ u) (λ k. times_le_both _ _ _ _ (least.0 k) (b k))),
-)
-  where
-    turn : (a b c : Fraction) → a *ℚ b *ℚ c ≡ a *ℚ c *ℚ b
-    turn a b c = simp ring
-
-    turned : (a b c : Fraction) → a *ℚ b *ℚ c ≡ a *ℚ (c *ℚ b)
-    turned a b c = simp ring
-
--- ---- gamma counts of shape q + 1 and mean m
-
-module _ (q : ℕ) (m : Fraction) where
-  abbrev r : Fraction
-  r = whole (suc q)
-
+module _ (r m : Fraction) (above : whole 0 <ℚ r) where
   abbrev W : Fraction
   W = r +ℚ m
 
   abbrev own : ℕ → Fraction
-  own = gamma (whole (suc q)) (m /ℚ W)
+  own = gamma r (m /ℚ W)
 
   abbrev more : ℕ → Fraction
-  more = gamma (whole (suc (suc q))) (m /ℚ W)
+  more = gamma (r +ℚ whole 1) (m /ℚ W)
 
   abbrev few : ℕ → Fraction
   few = gamma (whole 1) (m /ℚ W)
@@ -104,28 +56,19 @@ module _ (q : ℕ) (m : Fraction) where
   one_apart n =
       let c = m /ℚ W in
       times_comm _ _ ∙ gamma_next r c n ∙ times_left_comm _ c (own n)
-      ∙ ap (λ t. c *ℚ t) (sym (gamma_shift r c n) ∙ ap (λ s. r *ℚ gamma s c n) (sym (whole_suc (suc q)))) ∙ simp ring
+      ∙ ap (λ t. c *ℚ t) (sym (gamma_shift r c n)) ∙ times_left_comm c r (more n) ∙ sym (times_assoc r c (more n))
 
   -- the extra count has the same ratio
   extra_weights : gamma_of (whole 1) (m /ℚ r) ≡ few
-  extra_weights = ap (gamma (whole 1)) (share_of r (m /ℚ r) m (shape_pos q m)
-      (times_comm r (m /ℚ r) ∙ div_times m r (shape_pos q m)))
+  extra_weights = ap (gamma (whole 1)) (share_of r (m /ℚ r) m above (times_comm r (m /ℚ r) ∙ div_times m r above))
 
   -- and added to the unit's one more in the shape
   more_level : (f : ℕ → Fraction) (y : ℕ) → AreLevel (cell more f y) (together few own f y)
   more_level f y =
-      let level = added_level few own f y in
-      subst (λ w. AreLevel (cell w f y) (together few own f y)) (sym (fun_ext (gamma_one_more q (m /ℚ W))))
-      (level.1, level.0)
-
-  few_least : IsLeastBound (λ N. sum_to N few) (W /ℚ r)
-  unfolding ◌^ℚ◌
-  few_least = subst (IsLeastBound (λ N. sum_to N few)) (times_one (W /ℚ r)) (gamma_of_least q m zero)
-
-  whole_back : (s : Fraction) → r *ℚ (m /ℚ W) *ℚ s *ℚ (W /ℚ r) ≡ m *ℚ s
-  whole_back s =
-      (simp ring) ∙ ap (λ t. t *ℚ (m /ℚ W) *ℚ s) (div_times W r (shape_pos q m))
-      ∙ ap (λ t. t *ℚ s) (times_comm W (m /ℚ W) ∙ div_times m W (mean_pos q m))
+      let level = product_level few own f y in
+      let added : convolve few own ≡ more = fun_ext (λ n. sym (gamma_plus (whole 1) r (m /ℚ W) n)
+      ∙ ap (λ s. gamma s (m /ℚ W) n) (plus_comm (whole 1) r)) in
+      subst (λ w. AreLevel (cell w f y) (together few own f y)) added (level.1, level.0)
 
   -- ---- beside the others, with the extra claims
 
@@ -166,8 +109,12 @@ module _ (q : ℕ) (m : Fraction) where
         (others_rise z) (more_level f y) (level_same _ _ (λ N. refl))))
         (level_same _ _ (λ N. sym (extra_cell k N)))
 
-    extra_all : partial_sums (extra ∷ us) One ≡ times (λ N. sum_to N few) ones
-    extra_all = fun_ext (λ N. total_more_all extra us is_loss N ∙ ap (λ t. t *ℚ ones N) (all N))
+    extra_all : AreLevel (partial_sums (extra ∷ us) One) (times ones (λ N. sum_to N few))
+    extra_all = level_same _ _ (λ N. total_more_all extra us is_loss N ∙ ap (λ t. t *ℚ ones N) (all N)
+        ∙ times_comm _ _)
+
+    whole_back : (s : Fraction) → W /ℚ r *ℚ (r *ℚ (m /ℚ W) *ℚ s) ≡ m *ℚ s
+    whole_back s = sym (times_assoc _ _ _) ∙ ap (λ t. t *ℚ s) (shape_times r m above m)
 
     abbrev ends : (ℕ → Fraction) → Fraction
     ends g = sum_pairs x (λ a k. whole a *ℚ f a *ℚ g k)
@@ -181,9 +128,8 @@ module _ (q : ℕ) (m : Fraction) where
         let same = same_value (rest k) R (with_extra k) R (rest_level k) (level_same R R (λ N. refl)) in
         ((same.0 _).1 (cells k near).0, (same.1 _).1 (cells k near).1)) in
         subst₂ (Holds (partial_sums us (Joint i x)) ones) (whole_back (ends lo)) (whole_back (ends hi))
-        (without_factor _ (λ N. sum_to N few) ones (W /ℚ r) _ _ (sum_rises_to few) (outcomes_rise us w (score One)) few_least
-        (subst (λ T. Holds (partial_sums us (Joint i x)) T (r *ℚ (m /ℚ W) *ℚ ends lo) (r *ℚ (m /ℚ W) *ℚ ends hi)) extra_all
-        told))
+        (over_factor _ ones (λ N. sum_to N few) R (W /ℚ r) _ _ (outcomes_rise us w (score One)) (sum_rises_to few)
+        (one_least r m above) extra_all told)
 
 -- ---- a unit of a plan
 
@@ -191,17 +137,21 @@ module _ (u made : UnitOfPlan) (can : CanRaise u) (counts : IsClaimCount u.freq)
   abbrev n : Fraction
   n = expected_count u.freq
 
-  abbrev q : ℕ
-  q = (gamma_count u.freq can.count counts).0
+  abbrev r : Fraction
+  r = (gamma_count u.freq can.count counts).0
 
   abbrev f : ℕ → Fraction
   f = probability_of u.sev
 
-  weights : count_weights u.freq ≡ own q n
+  above : whole 0 <ℚ r
+  above = (gamma_count u.freq can.count counts).2
+
+  weights : count_weights u.freq ≡ own r n above
   weights = ap count_weights (gamma_count u.freq can.count counts).1
 
-  made_weights : count_weights made.freq ≡ few q n
-  made_weights = ap count_weights (is.count ∙ ap extra_count (gamma_count u.freq can.count counts).1) ∙ extra_weights q n
+  made_weights : count_weights made.freq ≡ few r n above
+  made_weights = ap count_weights (is.count ∙ ap extra_count (gamma_count u.freq can.count counts).1)
+      ∙ extra_weights r n above
 
   pub gamma_exact : {B : ℕ} (grid : List (Iv B)) (us : List Loss) (i x : ℕ) (w : AreDeclarable us) → i < length us
       → get_or us i (loss_of u) ≡ loss_of u → GridEncloses grid (total (loss_of made ∷ us)) → x < length grid
@@ -209,7 +159,7 @@ module _ (u made : UnitOfPlan) (can : CanRaise u) (counts : IsClaimCount u.freq)
       (claims_mean u (2 ^ B) x (high_at grid))
   gamma_exact {B} grid us i x w there here encloses inside =
       let s = pow_pos B in
-      let told = gamma_holds q n f us w i there
+      let told = gamma_holds r n above f us w i there
       (λ y N. ap (λ (F : Family). F.cells y N) (unit_is us i (loss_of u) there)
       ∙ ap (λ (l : Loss). l.family.cells y N) here ∙ plain_cells u can.clause can.zero y N
       ∙ ap (λ c. cell c f y N) weights) (loss_of made) (plain_loss made is.clause is.zero)

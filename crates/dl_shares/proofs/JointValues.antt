@@ -1,5 +1,5 @@
 -- What the sum over the amounts of one claim holds, where a grid encloses the raised unit.
-use Rattle.dl_shares.proofs.Common.{subst₂, ℕ, suc, ◌≡◌, ◌∙◌, ◌*◌, ◌/◌, ◌<◌, ◌≤◌, ◌^◌, List, length, get_or, true, false, ap, ap₂, sym, subst, arith, mul-pos, Fraction, whole, ◌over◌, ◌*ℚ◌, ◌≤ℚ◌, ◌<ℚ◌, sum_pairs, le_refl, le_of_eq, zero_le, times_le_both, times_zero, over_mul, over_same, over_self, over_le, over_times, over_zero, severity_total, Sev, UnitOfPlan, greatest, weight_at, probability_of, expected_count, HasCommonFactor, raised, PoissonUnit, expected_claims, pooled_severity, common_sums, IsUnit, poisson_unit, poisson_units, IsRaised, Bool, div_ceil, pow_pos, mul-le-mul_right, fun_ext, times_left_comm, sum_pairs_same, Iv, round_down, round_up, low_at, high_at, Series, AtMost, Holds, gamma_of, compound, GridEncloses, count_weights, compound_of, One, Joint, where_true, shares_severity, amounts_to, claims_mean, expected_units, are_severities}
+use Rattle.dl_shares.proofs.Common.{subst₂, ℕ, ◌+ℚ◌, ◌≡◌, ◌∙◌, ◌*◌, ◌/◌, ◌<◌, ◌≤◌, ◌^◌, List, length, get_or, true, false, ap, ap₂, sym, subst, arith, mul-pos, Fraction, whole, ◌over◌, ◌*ℚ◌, ◌≤ℚ◌, ◌<ℚ◌, sum_pairs, le_refl, le_of_eq, zero_le, times_le_both, times_zero, over_mul, over_same, over_self, over_le, over_times, over_zero, severity_total, Sev, UnitOfPlan, greatest, weight_at, probability_of, expected_count, HasCommonFactor, raised, PoissonUnit, expected_claims, pooled_severity, common_sums, IsUnit, poisson_unit, poisson_units, IsRaised, Bool, div_ceil, pow_pos, mul-le-mul_right, fun_ext, times_left_comm, sum_pairs_same, Iv, round_down, round_up, low_at, high_at, Series, AtMost, Holds, gamma_of, compound, GridEncloses, count_weights, compound_of, One, Joint, where_true, shares_severity, amounts_to, claims_mean, expected_units, are_severities}
 use Rattle.dl_exact.proofs.Laws.{le_trans}
 use Rattle.dl_exact.proofs.SumsOver.{sum_pairs_over}
 use Rattle.dl_iv.proofs.Operations.{scale_low, scale_high}
@@ -73,8 +73,8 @@ pub at_most_whole : (Q P R : Series) (x : ℕ) → ((N : ℕ) → Q N ≤ℚ who
 at_most_whole Q P R x q p N u b =
     le_trans _ _ _ (q N) (times_le_both _ _ _ _ (le_refl (whole x)) (le_trans _ _ _ (p N) (b N)))
 
-module _ (units : List UnitOfPlan) (q : ℕ) (factor : HasCommonFactor (suc q) units) (made : UnitOfPlan)
-    (is : IsRaised (suc q) units made) where
+module _ (units : List UnitOfPlan) (r : Fraction) (factor : HasCommonFactor r units) (made : UnitOfPlan)
+    (is : IsRaised r units made) where
   abbrev us : List PoissonUnit
   us = poisson_units units
 
@@ -88,14 +88,14 @@ module _ (units : List UnitOfPlan) (q : ℕ) (factor : HasCommonFactor (suc q) u
   past a far = sym (is.severity a) ∙ (shares_severity made.sev.items made.sev.total made.sev.weighted).past a far
 
   raised_family : compound_of made.freq made.sev
-      ≡ compound (gamma_of (whole (suc (suc q))) (raised (suc q) (expected_claims us))) (pooled_severity us)
+      ≡ compound (gamma_of (r +ℚ whole 1) (raised r (expected_claims us))) (pooled_severity us)
   raised_family = ap₂ compound
       (ap count_weights is.count
-      ∙ ap (λ v. gamma_of (whole (suc (suc q))) (raised (suc q) v)) (sym (expected_units units)))
+      ∙ ap (λ v. gamma_of (r +ℚ whole 1) (raised r v)) (sym (expected_units units)))
       (fun_ext is.severity)
 
   abbrev all : Series
-  all = common_sums (suc q) us One
+  all = common_sums r us One
 
   module _ {B : ℕ} (grid : List (Iv B)) (encloses : GridEncloses grid (compound_of made.freq made.sev)) (i x : ℕ)
       (u : UnitOfPlan) (there : i < length units) (here : get_or units i u ≡ u) (inside : x < length grid) where
@@ -105,13 +105,13 @@ module _ (units : List UnitOfPlan) (q : ℕ) (factor : HasCommonFactor (suc q) u
     abbrev n : Fraction
     n = expected_count u.freq
 
-    pub joint_exact : Holds (common_sums (suc q) us (Joint i x)) all
+    pub joint_exact : Holds (common_sums r us (Joint i x)) all
         (claims_mean u S x (low_at grid)) (claims_mean u S x (high_at grid))
     joint_exact =
         let family = subst (λ F. GridEncloses grid F) raised_family encloses in
         let s = pow_pos B in
-        let told = joint_raised q us some (are_severities units) M past i (poisson_unit u) (subst (λ w. IsUnit us i (poisson_unit w)) here (is_unit units i u there)) x
+        let told = joint_raised r factor.shape.above us some (are_severities units) M past i (poisson_unit u) (subst (λ w. IsUnit us i (poisson_unit w)) here (is_unit units i u there)) x
         (λ k. low_at grid k over S) (λ k. high_at grid k over S) (λ k near. family k (omega arith)) in
-        subst₂ (λ a b. Holds (common_sums (suc q) us (Joint i x)) all a b)
+        subst₂ (λ a b. Holds (common_sums r us (Joint i x)) all a b)
         (ap (λ y. n *ℚ y) (amounts_over x S u.sev (low_at grid) s))
         (ap (λ y. n *ℚ y) (amounts_over x S u.sev (high_at grid) s)) told

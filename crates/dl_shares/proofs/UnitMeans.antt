@@ -69,4 +69,4 @@ plan_mean_beside plan valid i u l h there held =
     (subst (λ n. i < n) (sym (length-map plan.units loss_of)) there)
     (subst (λ v. Holds (partial_sums (v ∷ []) Mean) (partial_sums (v ∷ []) One) l h)
     (sym (get_or-map loss_of plan.units i u (loss_of u) there)) held))
-    (λ q factor. shared_outcome plan.cells q plan.units valid.units factor i u l h there held)
+    (λ r factor. shared_outcome plan.cells r plan.units valid.units factor i u l h there held)

@@ -76,7 +76,7 @@ pub fn law_with_extra<const B: u32>(from: &OverClaims<B>)
 /// The claims of a unit of a plan under a common factor, over the grid of the one unit in the place
 /// of all with one more in its shape, `dl_pool::raised`, give its joint means.
 pub fn law_raised<const B: u32>(from: &OverClaims<B>)
-    ensures { (plan : PlanOf) (r i : ℕ) (raised : UnitOfPlan) → SharesFactor plan r
+    ensures { (plan : PlanOf) (r : Fraction) (i : ℕ) (raised : UnitOfPlan) → SharesFactor plan r
         → i < length plan.units → get_or plan.units i from.now.unit.now ≡ from.now.unit.now
         → IsRaised r plan.units raised
         → GridEncloses from.now.grid.now (compound_of raised.freq raised.sev)

@@ -3,7 +3,7 @@
 ghost use Rattle.std.specs.Prelude.{◌≡◌, ◌^◌, ◌<◌, ℕ, length};
 ghost use Rattle.dl_grid.specs.Cells.{spread};
 ghost use Rattle.dl_plan.specs.Prelude.{IsValidUnit, IsUnbounded};
-ghost use Rattle.dl_shares.specs.Claims.{HasClaims};
+ghost use Rattle.dl_shares.specs.Claims.{HasClaims, HasClaims-prop};
 
 use dl_grid::Grid;
 use dl_measures::Distribution;
@@ -30,7 +30,7 @@ pub struct OverClaims<'a, const B: u32> {
     pub unit: &'a Unit,
     /// The grid of what there is beside one of its claims.
     pub grid: &'a Distribution<'a, B>,
-    pub ghost fit: { HasClaims unit.now },
+    pub ghost fit: { HasClaims unit.now } by { HasClaims-prop unit.now },
     pub ghost narrow: { spread grid.now < 2 ^ B },
 }
 

@@ -7,5 +7,5 @@ returns c = record {
   bounded = common_bounded;
   positive = common_positive;
   adds_up = common_whole;
-  quantile = λ q us some h M past. at_most_one _ (common_distribution q us some h M past);
+  quantile = λ r above us some h M past. at_most_one _ (common_distribution r above us some h M past);
 }

@@ -1,4 +1,4 @@
-use Rattle.dl_model.proofs.Common.{zero, suc, arith, subst, sym, Holds, One, Mean, sum_over, declared_mean, declared_by}
+use Rattle.dl_model.proofs.Common.{subst, sym, Holds, One, Mean, sum_over, declared_mean, declared_by}
 use Rattle.dl_plan.proofs.Shared.{has_factor}
 use Rattle.dl_model.proofs.PlanMeans.{mean_at_most, mean_with_change, unit_mean, units_mean}
 use Rattle.dl_model.proofs.CommonPlans.{by_factor}
@@ -18,11 +18,10 @@ pub returns-clause-total : goal.returns-clause-total
 returns-clause-total c plan l h valid each =
     by_factor (λ D. Holds (D Mean) (D One) (sum_over plan.units l) (sum_over plan.units h)) plan.common plan.units
     valid.common (units_mean plan.cells l h plan.units valid.units each)
-    (λ q factor. shared_total plan.cells q l h plan.units valid.units factor each)
+    (λ r factor. shared_total plan.cells r l h plan.units valid.units factor each)
 
 pub returns-clause-common : goal.returns-clause-common
-returns-clause-common c plan zero shares = absurd (omega (arith, (has_factor plan zero shares).some_shape))
-returns-clause-common c plan (suc q) shares =
+returns-clause-common c plan r shares =
     let m = sum_over plan.units declared_mean in
     subst (λ o. Holds (declared_by o plan.units Mean) (declared_by o plan.units One) m m) (sym shares.shape)
-    (shared_mean plan.units q (has_factor plan (suc q) shares))
+    (shared_mean plan.units r (has_factor plan r shares))

@@ -21,7 +21,7 @@ returns-clause-valid c cells each =
       clause = refl;
       zero = refl;
     }) tt tt (c.if-not-are_admitted.ensures.claims refl) (c.if-not-are_admitted.ensures.above refl)
-    (c.if-not-are_admitted.ensures.few refl)
+    (c.if-not-are_admitted.ensures.few refl) tt
 
 pub returns-then-not-are_admitted-clause-there : goal.returns-then-not-are_admitted-clause-there
 returns-then-not-are_admitted-clause-there c sum =
