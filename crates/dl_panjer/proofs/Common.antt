@@ -52,3 +52,4 @@ unfoldable pub use Rattle.dl_model.specs.Compound.{at_zero, power}
 pub use Rattle.dl_panjer.specs.Bases.{FollowsRounded, IsGeometricBase, IsPoissonBase, StandsByRecursion, StartsAtExp}
 pub use Rattle.dl_panjer.specs.Cells.{Follows, coefficient, counted, given, high_next, low_next, next_sum}
 pub use Rattle.dl_panjer.specs.Outward.{FollowsOutward, IsCeilingWithin}
+pub use Rattle.dl_panjer.specs.declared.rate.Rate.{Rate}

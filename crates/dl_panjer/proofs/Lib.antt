@@ -11,3 +11,4 @@ pub mod Spreads
 pub mod Starts
 pub mod Grids
 pub mod EndsOf
+pub mod Shapes

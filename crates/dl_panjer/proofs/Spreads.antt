@@ -1,12 +1,12 @@
 -- How far apart the ends of a grid that follows the recursion lie.
-use Rattle.dl_panjer.proofs.Common.{ℕ, suc, ◌≡◌, ◌+◌, ◌-◌, ◌*◌, ◌/◌, ◌<◌, ◌≤◌, Bool, true, false, List, arith, ap, ◌∙◌, mul-le-mul, div_ceil, zero-lt-suc, lt-div-mul-add, Fraction, count_below, below_le, below_plus, below_times, below_pairs, Item, weight_at, weight_sum, counted, coefficient, next_sum, Follows, below_constant, pairs_plus, pairs_same, pairs_within, below_grows}
+use Rattle.dl_panjer.proofs.Common.{ℕ, suc, ◌≡◌, ◌+◌, ◌-◌, ◌*◌, ◌/◌, ◌<◌, ◌≤◌, Bool, true, false, List, arith, ap, ◌∙◌, mul-le-mul, div_ceil, zero-lt-suc, lt-div-mul-add, Rate, low_next, high_next, count_below, below_le, below_plus, below_times, below_pairs, Item, weight_at, weight_sum, counted, coefficient, next_sum, Follows, below_constant, pairs_plus, pairs_same, pairs_within, below_grows}
 use Rattle.std.proofs.Common.{mul-le-mul_left, mul-le-mul_right, le_of_mul-le-mul_right}
 use Rattle.std.proofs.lemmas.Grind.{div_ceil_times}
 use Rattle.dl_panjer.proofs.ItemSums.{weights_within}
 use Rattle.dl_panjer.proofs.Steps.{counted_pos}
 
 -- one step: D is what the sum of the high ends is above that of the low ends
-step_width : (L D T num d lo w : ℕ) → 0 < T → 0 < d → num ≤ d → lo ≡ L / T * num / d
+pub step_width : (L D T num d lo w : ℕ) → 0 < T → 0 < d → num ≤ d → lo ≡ L / T * num / d
     → lo + w ≤ div_ceil (div_ceil (L + D) T * num) d
     → w * (d * T) ≤ D * num + 4 * (d * T)
 step_width L D T num d lo w T_pos pos small low high =
@@ -55,23 +55,32 @@ next_sum_plus : (c f g : ℕ → ℕ) (s : ℕ) → next_sum c (λ k. f k + g k)
 next_sum_plus c f g s = pairs_same s (λ i k. c i * (f k + g k)) (λ i k. c i * f k + c i * g k) (λ i k. omega arith)
     ∙ pairs_plus s (λ i k. c i * f k) (λ i k. c i * g k)
 
-module _ (b : Bool) (items : List Item) (S T : ℕ) (rate : Fraction) (lo hi w : ℕ → ℕ) (K : ℕ)
-    (F : Follows S b items T rate lo hi K) (T_pos : 0 < T)
-    (at_most_one : rate.num ≤ rate.den) (apart : (k : ℕ) → hi k ≡ lo k + w k) where
-  widths : (s : ℕ) → suc s < K → rate.den * T * w (suc s) ≤ rate.num * next_sum (λ i. weight_at items (suc i)) w s + 4 *
-      (rate.den * T)
+pub next_sum_apart : (c lo hi w : ℕ → ℕ) (s : ℕ) → ((k : ℕ) → hi k ≡ lo k + w k)
+    → next_sum c hi s ≡ next_sum c lo s + next_sum c w s
+next_sum_apart c lo hi w s apart =
+    pairs_same s (λ i k. c i * hi k) (λ i k. c i * (lo k + w k)) (λ i k. ap (λ t. c i * t) (apart k))
+    ∙ next_sum_plus c lo w s
+
+-- the widths follow a recursion with the rate num / den, and c units of rounding a cell
+unfoldable pub AreWidths : (items : List Item) (T num den c K : ℕ) (w : ℕ → ℕ) → Type 0
+AreWidths items T num den c K w = (s : ℕ) → suc s < K
+    → den * T * w (suc s) ≤ num * next_sum (λ i. weight_at items (suc i)) w s + c * (den * T)
+
+module _ (b : Bool) (items : List Item) (S T : ℕ) (rate : Rate) (lo hi w : ℕ → ℕ) (K : ℕ)
+    (F : Follows (low_next b items T rate) (high_next S b items T rate) lo hi K) (T_pos : 0 < T)
+    (apart : (k : ℕ) → hi k ≡ lo k + w k) where
+  pub widths : AreWidths items T rate.num rate.den 4 K w
+  unfolding AreWidths
   widths s inside =
       let d : ℕ = counted b (suc s) rate.den in
       let L : ℕ = next_sum (coefficient b items) lo s in
       let D : ℕ = next_sum (coefficient b items) w s in
-      let H : next_sum (coefficient b items) hi s ≡ L + D =
-      pairs_same s (λ i k. coefficient b items i * hi k) (λ i k. coefficient b items i * (lo k + w k))
-      (λ i k. ap (λ t. coefficient b items i * t) (apart k)) ∙ next_sum_plus (coefficient b items) lo w s in
+      let H : next_sum (coefficient b items) hi s ≡ L + D = next_sum_apart (coefficient b items) lo hi w s apart in
       let pos : 0 < d = counted_pos b (suc s) rate.den (zero-lt-suc s) rate.positive in
       let high : lo (suc s) + w (suc s) ≤ div_ceil (div_ceil (L + D) T * rate.num) d =
       rw (← H) (omega (arith, apart (suc s), F.high s inside)) in
       let one = step_width L D T rate.num d (lo (suc s)) (w (suc s)) T_pos pos
-      (wider b (suc s) rate.num rate.den (zero-lt-suc s) at_most_one) (F.low s inside) high in
+      (wider b (suc s) rate.num rate.den (zero-lt-suc s) rate.within) (F.low s inside) high in
       let shared : D * rate.num ≤ counted b (suc s) (next_sum (λ i. weight_at items (suc i)) w s) * rate.num =
       mul-le-mul_right rate.num (next_sum_counted b items w s) in
       omega (
@@ -86,31 +95,33 @@ module _ (b : Bool) (items : List Item) (S T : ℕ) (rate : Fraction) (lo hi w :
           omega (arith, grown, h)
       wider false j n d pos h = h
 
-  -- all widths of the first n + 1 cells
-  pub all_widths : (n : ℕ) → suc n ≡ K → weight_sum items ≡ T
-      → rate.den * count_below n (λ s. w (suc s)) ≤ rate.num * count_below (suc n) w + 4 * n * rate.den
-  all_widths n last sum =
-      let v : ℕ → ℕ = λ i. weight_at items (suc i) in
-      let A : ℕ = rate.den * T in
-      let each : count_below n (λ s. w (suc s) * A) ≤ count_below n (λ s. next_sum v w s * rate.num + 4 * A) =
-      below_le n _ _ (λ s inside. omega (arith, widths s (omega (arith, inside, last)))) in
-      let pairs : count_below n (next_sum v w) ≤ count_below n v * count_below n w = pairs_within n v w in
-      let within : count_below n v * count_below n w ≤ T * count_below (suc n) w =
-      mul-le-mul (rw (← sum) (weights_within n items))
-      (below_grows n (suc n) w (omega arith)) in
-      let scaled : count_below n (next_sum v w) * rate.num ≤ T * count_below (suc n) w * rate.num =
-      mul-le-mul_right rate.num (omega (arith, pairs, within)) in
-      le_of_mul-le-mul_right {k = T} (
-      omega (
-        arith,
-        each,
-        below_times n A (λ s. w (suc s)),
-        below_plus n (λ s. next_sum v w s * rate.num) (λ s. 4 * A),
-        below_times n rate.num (next_sum v w),
-        below_constant n (4 * A),
-        scaled,
-      )
-      ) T_pos
+-- all widths of the first n + 1 cells
+pub all_widths : (items : List Item) (T num den c K : ℕ) (w : ℕ → ℕ) → AreWidths items T num den c K w → 0 < T
+    → (n : ℕ) → suc n ≡ K → weight_sum items ≡ T
+    → den * count_below n (λ s. w (suc s)) ≤ num * count_below (suc n) w + c * n * den
+unfolding AreWidths
+all_widths items T num den c K w step T_pos n last sum =
+    let v : ℕ → ℕ = λ i. weight_at items (suc i) in
+    let A : ℕ = den * T in
+    let each : count_below n (λ s. w (suc s) * A) ≤ count_below n (λ s. next_sum v w s * num + c * A) =
+    below_le n _ _ (λ s inside. omega (arith, step s (omega (arith, inside, last)))) in
+    let pairs : count_below n (next_sum v w) ≤ count_below n v * count_below n w = pairs_within n v w in
+    let within : count_below n v * count_below n w ≤ T * count_below (suc n) w =
+    mul-le-mul (rw (← sum) (weights_within n items))
+    (below_grows n (suc n) w (omega arith)) in
+    let scaled : count_below n (next_sum v w) * num ≤ T * count_below (suc n) w * num =
+    mul-le-mul_right num (omega (arith, pairs, within)) in
+    le_of_mul-le-mul_right {k = T} (
+    omega (
+      arith,
+      each,
+      below_times n A (λ s. w (suc s)),
+      below_plus n (λ s. next_sum v w s * num) (λ s. c * A),
+      below_times n num (next_sum v w),
+      below_constant n (c * A),
+      scaled,
+    )
+    ) T_pos
 
 -- with a rate of at most 1/2
 pub half_spread : (n num den first rest all : ℕ) → 0 < den → num + num ≤ den → all ≡ first + rest
@@ -120,15 +131,15 @@ half_spread n num den first rest all pos half split h start =
     let less : rest * 2 ≤ all + 8 * n = le_of_mul-le-mul_right {k = den} (omega (arith, h, doubled)) pos in
     omega (arith, less, split, start)
 
--- with the rate p / (p + d), as q' p' says
-pub geometric_spread : (n num den p d first rest all : ℕ) → 0 < den → num * (p + d) ≡ p * den → all ≡ first + rest
-    → den * rest ≤ num * all + 4 * n * den → first ≤ 1
-    → all * d ≤ (4 * (n + 1) + 1) * (p + d)
-geometric_spread n num den p d first rest all pos cross split h start =
-    let whole : den * all ≤ num * all + (4 * n + 1) * den =
+-- with the rate p / (p + d), where num over den is it
+pub ratio_spread : (c f n num den p d first rest all : ℕ) → 0 < den → num * (p + d) ≡ p * den → all ≡ first + rest
+    → den * rest ≤ num * all + c * n * den → first ≤ f
+    → all * d ≤ (c * (n + 1) + f) * (p + d)
+ratio_spread c f n num den p d first rest all pos cross split h start =
+    let whole : den * all ≤ num * all + (c * n + f) * den =
     omega (arith, h, ap (λ t. den * t) split, mul-le-mul_left den start) in
-    let wide : den * all * (p + d) ≤ (num * all + (4 * n + 1) * den) * (p + d) = mul-le-mul_right (p + d) whole in
+    let wide : den * all * (p + d) ≤ (num * all + (c * n + f) * den) * (p + d) = mul-le-mul_right (p + d) whole in
     let crossed : num * (p + d) * all ≡ p * den * all = ap (λ t. t * all) cross in
-    let less : all * d ≤ (4 * n + 1) * (p + d) = le_of_mul-le-mul_right {k = den} (omega (arith, wide, crossed)) pos in
-    let more : (4 * n + 1) * (p + d) ≤ (4 * (n + 1) + 1) * (p + d) = mul-le-mul_right (p + d) (omega arith) in
+    let less : all * d ≤ (c * n + f) * (p + d) = le_of_mul-le-mul_right {k = den} (omega (arith, wide, crossed)) pos in
+    let more : (c * n + f) * (p + d) ≤ (c * (n + 1) + f) * (p + d) = mul-le-mul_right (p + d) (omega arith) in
     omega (arith, less, more)

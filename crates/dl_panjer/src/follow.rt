@@ -2,14 +2,13 @@
 
 ghost use Rattle.std.specs.Prelude.{◌≡◌, ℕ, suc, ◌+◌, ◌-◌, ◌*◌, ◌/◌, ◌^◌, ◌<◌, ◌≤◌, length, min, All, IfOk};
 ghost use Rattle.std.specs.Int.{div_ceil};
-ghost use Rattle.dl_limits.specs.Limits.{most_cells, admitted_bound};
-ghost use Rattle.dl_exact.specs.Fraction.{whole, ◌≤ℚ◌};
+ghost use Rattle.dl_limits.specs.Limits.{most_cells};
 ghost use Rattle.dl_grid.specs.Prelude.{low_at, high_at, IsGridSize};
 ghost use Rattle.dl_plan.specs.Weighted.{weight_sum, IsWeighted};
 ghost use Rattle.dl_panjer.specs.Cells.{AreFirstCells, counted, coefficient, low_next, high_next, Follows};
 
+use crate::rate::Rate;
 use crate::sums::sums_before;
-use dl_frac::Frac;
 use dl_grid::units_of_one;
 use dl_iv::Iv;
 use dl_plan::Item;
@@ -23,29 +22,33 @@ use std::alloc::{AllocError, Global};
 pub fn next_cell<const B: u32, const BY_AMOUNT: bool>(
     items: &[Item],
     total: u64,
-    rate: Frac,
+    rate: Rate,
     cells: &[Iv<B>],
 ) -> Iv<B>
     requires cells { AreFirstCells cells.now }
     requires weighted { IsWeighted items.now total }
     requires no_zero { All (λ item. 0 < item.amount) items.now }
-    requires rate { rate ≤ℚ whole 1 }
-    requires rate_num { rate.num < admitted_bound }
+    requires room { counted BY_AMOUNT most_cells rate.num < 2 ^ 64 }
     ensures low { result.lo ≡ low_next BY_AMOUNT items.now total rate (low_at cells.now)
         (length cells.now - 1) }
     ensures high { result.hi ≡ high_next (2 ^ B) BY_AMOUNT items.now total rate (high_at cells.now)
         (length cells.now - 1) }
 {
     let sums = sums_before::<B, BY_AMOUNT>(items, cells);
-    let num = u128::from(rate.num());
-    let den = divisor::<BY_AMOUNT>(rate.den(), cells.len());
+    let num = u128::from(rate.num);
+    let den = divisor::<BY_AMOUNT>(rate.den, cells.len());
     let (lo, hi) = ends_of::<B>(sums, u128::from(total), num, den);
     Iv { lo, hi }
 }
 
-/// The ends that two sums give, over the total weight and times the rate: the low end by two floors,
-/// the high one by two ceilings and at most 1.
-fn ends_of<const B: u32>(sums: (u128, u128), total: u128, num: u128, den: u128) -> (u128, u128)
+/// The ends that two sums give, over a divisor and times the rate: the low end by two floors, the
+/// high one by two ceilings and at most 1.
+pub(crate) fn ends_of<const B: u32>(
+    sums: (u128, u128),
+    total: u128,
+    num: u128,
+    den: u128,
+) -> (u128, u128)
     requires scale { B ≤ 56 }
     requires total { 0 < total }
     requires den { 0 < den }
@@ -76,7 +79,7 @@ pub(crate) fn follow<const B: u32, const BY_AMOUNT: bool>(
     alloc: Global,
     items: &[Item],
     total: u64,
-    rate: Frac,
+    rate: Rate,
     start: Iv<B>,
     cells: u32,
 ) -> Result<Vec<Iv<B>>, AllocError>
@@ -84,14 +87,14 @@ pub(crate) fn follow<const B: u32, const BY_AMOUNT: bool>(
     requires small { start.hi ≤ 2 ^ B }
     requires weighted { IsWeighted items.now total }
     requires no_zero { All (λ item. 0 < item.amount) items.now }
-    requires rate { rate ≤ℚ whole 1 }
-    requires rate_num { rate.num < admitted_bound }
+    requires room { counted BY_AMOUNT most_cells rate.num < 2 ^ 64 }
     ensures cells { IfOk result (λ list. length list.items ≡ cells) }
     ensures start_low { IfOk result (λ list. low_at list.items 0 ≡ start.entry.lo) }
     ensures start_high { IfOk result (λ list. high_at list.items 0 ≡ start.entry.hi) }
     ensures small { IfOk result (λ list. All (λ cell. cell.hi ≤ 2 ^ B) list.items) }
-    ensures follows { IfOk result (λ list. Follows (2 ^ B) BY_AMOUNT items.now total rate
-        (low_at list.items) (high_at list.items) cells) }
+    ensures follows { IfOk result (λ list. Follows (low_next BY_AMOUNT items.now total rate)
+        (high_next (2 ^ B) BY_AMOUNT items.now total rate) (low_at list.items) (high_at list.items)
+        cells) }
 {
     let mut list = Vec::with_capacity(alloc, cells as usize)?;
     list.push(start)?;

@@ -1,11 +1,12 @@
-//! Grids of compound Poisson and compound geometric sums by Panjer's recursion: cell 0 encloses the
-//! probability of no claim, and each later cell follows from those before it, with two outward
-//! roundings for each end.
+//! Grids of compound Poisson sums, and of compound gamma sums of shape 1 and below, by Panjer's
+//! recursion: cell 0 encloses the probability of no claim, and each later cell follows from those
+//! before it, rounded outward.
 //!
 //! `poisson_base` and `geometric_base` give grids by Panjer's recursion with two outward roundings
 //! for each end of a cell (`follows`), from a first cell that encloses the probability of no claim
 //! (`start`), which enclose the compound sums of these counts (`encloses`) and spread no more than
-//! is stated (`spread`). To enclose the exponential is to hold 1 over the sums of its series, and
+//! is stated (`spread`). So does `shape_base` for a gamma count of a shape below 1, with three
+//! roundings for each end. To enclose the exponential is to hold 1 over the sums of its series, and
 //! these are the sums of the Poisson weights (`law_exponential`).
 #![tactic(auto)]
 
@@ -14,7 +15,9 @@ mod geometric;
 mod laws;
 mod made;
 mod poisson;
+mod rate;
 mod rates;
+mod shape;
 mod sums;
 
 pub use follow::next_cell;
@@ -22,5 +25,7 @@ pub use geometric::{geometric_base, geometric_start};
 pub use laws::{law_exponential, law_stands};
 pub use made::grid_of;
 pub use poisson::poisson_base;
+pub use rate::{Rate, rate_of};
 pub use rates::halved;
+pub use shape::shape_base;
 pub use sums::count_at_most;

@@ -9,6 +9,7 @@ ghost use Rattle.dl_panjer.specs.Bases.{IsPoissonBase, StartsAtExp};
 
 use crate::follow::follow;
 use crate::made::grid_of;
+use crate::rate::rate_of;
 use crate::rates::halved;
 use dl_exp::exp_neg;
 use dl_frac::Frac;
@@ -38,8 +39,9 @@ pub fn poisson_base<const B: u32>(
         (compound (poisson (mean /ℚ whole (2 ^ halvings))) (probability_of sev.now))) }
     ensures spread { IfOk result (λ g. spread g ≤ 8 * cells + 128) }
 {
-    let rate = halved(mean, halvings);
-    let start = exp_neg(rate);
+    let share = halved(mean, halvings);
+    let start = exp_neg(share);
+    let rate = rate_of(share);
     let list = follow::<B, true>(alloc, sev.items.as_slice(), sev.total, rate, start, cells)?;
     grid_of(alloc, &list)
 }

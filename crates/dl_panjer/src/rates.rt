@@ -1,7 +1,7 @@
 //! Fractions of small parts.
 
-ghost use Rattle.std.specs.Prelude.{◌≡◌, ◌+◌, ◌^◌, ◌<◌, ◌≤◌};
-ghost use Rattle.dl_limits.specs.Limits.{most_shape, admitted_bound, frac_bound};
+ghost use Rattle.std.specs.Prelude.{◌≡◌, ◌^◌, ◌<◌, ◌≤◌};
+ghost use Rattle.dl_limits.specs.Limits.{frac_bound};
 ghost use Rattle.dl_exact.specs.Fraction.{whole, ◌over◌, ◌/ℚ◌};
 ghost use Rattle.dl_plan.specs.Fine.{HasPartsOf48Bits};
 
@@ -16,19 +16,6 @@ pub(crate) fn fraction(num: u64, den: u64) -> Frac
     ensures num { result.num ≤ num }
 {
     Frac::make(u128::from(num), u128::from(den)).unwrap()
-}
-
-/// A mean over a shape, as two whole numbers whose fraction it is.
-pub(crate) fn shared(mean: Frac, shape: u32) -> (u64, u64)
-    requires shape_above { 1 ≤ shape }
-    requires shape_below { shape ≤ most_shape }
-    requires admitted { HasPartsOf48Bits mean }
-    ensures positive { 0 < result.1 }
-    ensures small { result.0 < admitted_bound }
-    ensures together { result.0 + result.1 < frac_bound }
-    ensures value { result.0 over result.1 ≡ mean /ℚ whole shape }
-{
-    (mean.num(), mean.den() * u64::from(shape))
 }
 
 /// `mean / 2^halvings`.

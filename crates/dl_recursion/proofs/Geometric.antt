@@ -10,13 +10,13 @@ unfoldable use Rattle.dl_recursion.specs.Geometric.{only_first}
 
 module _ (parts : List Part) (a b q : ℕ) (q_pos : 0 < q) where
   abbrev factor : ℕ → ℕ → Fraction
-  factor n i = whole ((a * suc n + b * suc i) * part_at parts (suc i))
+  factor i k = whole ((a * k + b * suc i) * part_at parts (suc i))
 
   -- cell s, where s is at most m
   from : ℕ → ℕ → Fraction
   from m zero = whole 1
   from zero (suc s) = whole 0
-  from (suc m) (suc s) = sum_pairs s (λ i k. factor s i *ℚ from m k) *ℚ 1 over (q * suc s)
+  from (suc m) (suc s) = sum_pairs s (λ i k. factor i k *ℚ from m k) *ℚ 1 over (q * suc s)
 
   enough : (m n s : ℕ) → s ≤ m → s ≤ n → from m s ≡ from n s
   unfolding from
@@ -25,7 +25,7 @@ module _ (parts : List Part) (a b q : ℕ) (q_pos : 0 < q) where
   enough (suc m) zero (suc s) l h = absurd (omega arith)
   enough (suc m) (suc n) (suc s) l h =
       ap (λ t. t *ℚ 1 over (q * suc s)) (sum_pairs_same s _ _ (λ i k e.
-      ap (λ t. factor s i *ℚ t) (enough m n k (omega arith) (omega arith))))
+      ap (λ t. factor i k *ℚ t) (enough m n k (omega arith) (omega arith))))
 
   pub follows_some : (r : ℕ → Fraction) × FollowsInWhole parts a b q r
   unfolding from
@@ -35,10 +35,10 @@ module _ (parts : List Part) (a b q : ℕ) (q_pos : 0 < q) where
       start = refl;
       next = λ n.
           times_comm _ _ ∙ times_assoc _ _ _
-          ∙ ap (λ t. sum_pairs n (λ i k. factor n i *ℚ from n k) *ℚ t)
+          ∙ ap (λ t. sum_pairs n (λ i k. factor i k *ℚ from n k) *ℚ t)
           (over_times_whole 1 (q * suc n) (mul-pos q_pos (zero-lt-suc n)))
           ∙ times_one _
-          ∙ sum_pairs_same n _ _ (λ i k e. ap (λ t. factor n i *ℚ t) (enough n k k (omega arith) (omega arith)));
+          ∙ sum_pairs_same n _ _ (λ i k e. ap (λ t. factor i k *ℚ t) (enough n k k (omega arith) (omega arith)));
     },
   )
 
@@ -79,28 +79,27 @@ module _ (parts : List Part) where
   none_at_zero = refl
 
   tilted : (b q : ℕ) (r : ℕ → Fraction) → FollowsInWhole parts 1 b q r → (n : ℕ)
-      → whole q *ℚ tilt r n ≡ convolve weight_of (tilt r) n +ℚ whole (suc b) *ℚ convolve (tilt weight_of) r n
+      → whole q *ℚ tilt r n ≡ convolve weight_of (tilt r) n +ℚ whole b *ℚ convolve (tilt weight_of) r n
   unfolding sum_pairs weight_of
   tilted b q r F zero = simp (zero_times, times_zero, plus_zero)
   tilted b q r F (suc n) =
       sym (times_assoc _ _ _) ∙ ap (λ t. t *ℚ r (suc n)) (sym (whole_times q (suc n)))
       ∙ F.next n
-      ∙ sum_pairs_same n _ _ each
-      ∙ sum_pairs_plus n (λ i k. weight_of (suc i) *ℚ tilt r k) (λ i k. whole (suc b) *ℚ (tilt weight_of (suc i) *ℚ r k))
+      ∙ sum_pairs_same n _ _ (λ i k e. split i k (part_at parts (suc i)) (r k))
+      ∙ sum_pairs_plus n (λ i k. weight_of (suc i) *ℚ tilt r k) (λ i k. whole b *ℚ (tilt weight_of (suc i) *ℚ r k))
       ∙ ap₂ (λ s t. s +ℚ t) (sym (without_first weight_of none_at_zero (tilt r) n))
-      (sum_pairs_times n (whole (suc b)) (λ i k. tilt weight_of (suc i) *ℚ r k)
-      ∙ ap (λ t. whole (suc b) *ℚ t) (sym (without_first (tilt weight_of) (zero_times _) r n)))
+      (sum_pairs_times n (whole b) (λ i k. tilt weight_of (suc i) *ℚ r k)
+      ∙ ap (λ t. whole b *ℚ t) (sym (without_first (tilt weight_of) (zero_times _) r n)))
     where
-      split : (k i p : ℕ) (x : Fraction) → whole ((k + suc b * suc i) * p) *ℚ x
-          ≡ whole p *ℚ (whole k *ℚ x) +ℚ whole (suc b) *ℚ (whole (suc i) *ℚ whole p *ℚ x)
-      split k i p x = rw (whole_times (k + suc b * suc i) p, whole_plus k (suc b * suc i), whole_times (suc b) (suc i))
-          (simp ring)
-
-      each : (i k : ℕ) → i + k ≡ n → whole ((1 * suc n + b * suc i) * part_at parts (suc i)) *ℚ r k
-          ≡ weight_of (suc i) *ℚ tilt r k +ℚ whole (suc b) *ℚ (tilt weight_of (suc i) *ℚ r k)
-      each i k e =
-          let same : 1 * suc n + b * suc i ≡ k + suc b * suc i = omega arith in
-          ap (λ t. whole (t * part_at parts (suc i)) *ℚ r k) same ∙ split k i (part_at parts (suc i)) (r k)
+      split : (i k p : ℕ) (x : Fraction) → whole ((1 * k + b * suc i) * p) *ℚ x
+          ≡ whole p *ℚ (whole k *ℚ x) +ℚ whole b *ℚ (whole (suc i) *ℚ whole p *ℚ x)
+      split i k p x = rw (
+        whole_times (1 * k + b * suc i) p,
+        whole_plus (1 * k) (b * suc i),
+        whole_times 1 k,
+        whole_times b (suc i),
+        one_times (whole k),
+      ) (simp ring)
 
   -- r at n is u with the convolution of the weights and r
   abbrev IsRaisedAt : ℕ → (ℕ → Fraction) → (ℕ → Fraction) → ℕ → Type 0
@@ -115,13 +114,13 @@ module _ (parts : List Part) where
 
 -- ---- the first shape
 
-pub raised_first : (parts : List Part) (q : ℕ) (r : ℕ → Fraction) → 0 < q → FollowsInWhole parts 1 0 q r
+pub raised_first : (parts : List Part) (q : ℕ) (r : ℕ → Fraction) → 0 < q → FollowsInWhole parts 1 1 q r
     → IsRaisedBy parts q only_first r
 unfolding only_first
 raised_first parts q r q_pos F =
     let weights = weight_of parts in
     raised parts q only_first r F.start (λ n. times_cancel _ _ (whole (suc n)) (whole_pos (suc n) (zero-lt-suc n))
-    (times_comm _ _ ∙ times_left_comm _ _ _ ∙ tilted parts 0 q r F (suc n)
+    (times_comm _ _ ∙ times_left_comm _ _ _ ∙ tilted parts 1 q r F (suc n)
     ∙ ap (λ t. convolve weights (tilt r) (suc n) +ℚ t) (one_times _) ∙ plus_comm _ _
     ∙ sym (tilt_convolve weights r (suc n)) ∙ times_comm _ _
     ∙ ap (λ t. t *ℚ whole (suc n)) (sym (ap (λ t. t +ℚ convolve weights r (suc n)) (times_zero _) ∙ zero_plus _))))
@@ -137,12 +136,12 @@ module _ (parts : List Part) (b q : ℕ) (u r : ℕ → Fraction) (q_pos : 0 < q
   IsRaised = IsRaisedAt parts q u r
 
   abbrev IsTilted : ℕ → Type 0
-  IsTilted n = whole q *ℚ tilt u n ≡ whole (suc b) *ℚ convolve (tilt weights) r n
+  IsTilted n = whole q *ℚ tilt u n ≡ whole b *ℚ convolve (tilt weights) r n
 
   -- both sides times q
   tilted_next : (n : ℕ) → ((k : ℕ) → k < n → IsRaised k) → ((k : ℕ) → k < n → IsTilted k) → IsTilted n
   tilted_next n raised_below tilted_below =
-      let c = whole (suc b) in
+      let c = whole b in
       let scaled : ℕ → Fraction = λ k. whole q *ℚ u k in
       let before : whole q *ℚ convolve weights (tilt u) n ≡ c *ℚ convolve (tilt weights) (convolve weights r) n =
       sym (convolve_times (whole q) weights (tilt u) n)
@@ -171,11 +170,11 @@ module _ (parts : List Part) (b q : ℕ) (u r : ℕ → Fraction) (q_pos : 0 < q
   raised_here zero t = ap (λ t. whole q *ℚ t) (R.start ∙ sym U.start)
       ∙ sym (ap (λ t. whole q *ℚ u zero +ℚ t) (zero_times _) ∙ plus_zero _)
   raised_here (suc n) t =
-      let c = whole (suc b) in
+      let c = whole b in
       let s = suc n in
       times_cancel _ _ (whole s) (whole_pos s (zero-lt-suc n))
       (times_comm _ _ ∙ times_left_comm _ _ _ ∙ tilted parts (suc b) q r R s
-      ∙ ap (λ t. convolve weights (tilt r) s +ℚ t *ℚ convolve (tilt weights) r s) (whole_suc (suc b))
+      ∙ ap (λ t. convolve weights (tilt r) s +ℚ t *ℚ convolve (tilt weights) r s) (whole_suc b)
       ∙ turn c (convolve (tilt weights) r s) (convolve weights (tilt r) s)
       ∙ ap₂ (λ x y. x +ℚ y) (sym t) (sym (tilt_convolve weights r s))
       ∙ split (whole q) (whole s) (u s) (convolve weights r s))

@@ -15,7 +15,7 @@ at_other p j h = grind (arith, eqb_tells p.amount j)
 
 module _ (a b n : ℕ) (cells : List ℕ) where
   term : (ℕ → ℕ) → ℕ → ℕ → ℕ
-  term w i k = (a * suc n + b * suc i) * w (suc i) * get_or cells k 0
+  term w i k = (a * k + b * suc i) * w (suc i) * get_or cells k 0
 
   zero_term : (w : ℕ → ℕ) (i k : ℕ) → w (suc i) ≡ 0 → term w i k ≡ 0
   unfolding term
@@ -29,8 +29,8 @@ module _ (a b n : ℕ) (cells : List ℕ) where
         let k = n - j in
         let m : suc n - p.amount ≡ k = omega (arith, e) in
         contribution_yes a b cells (suc n) p (omega (arith, e, l))
-        ∙ ap₂ (λ u v. (a * suc n + b * u) * p.weight * get_or cells v 0) e m
-        ∙ ap (λ u. (a * suc n + b * suc j) * u * get_or cells k 0) (sym (at_same p) ∙ ap (at p) e)
+        ∙ ap₂ (λ u v. (a * v + b * u) * p.weight * get_or cells v 0) e m
+        ∙ ap (λ u. (a * k + b * suc j) * u * get_or cells k 0) (sym (at_same p) ∙ ap (at p) e)
         ∙ sym (pairs_only n j k (term (at p)) (omega (arith, l)) off)
   ]
     where
@@ -39,7 +39,7 @@ module _ (a b n : ℕ) (cells : List ℕ) where
 
   pub contribution_pairs : (parts : List Part) → All (λ p. 0 < p.amount) parts
       → sum_by (contribution a b cells (suc n)) parts ≡ count_pairs n
-      (λ i k. (a * suc n + b * suc i) * part_at parts (suc i) * get_or cells k 0)
+      (λ i k. (a * k + b * suc i) * part_at parts (suc i) * get_or cells k 0)
   unfolding term
   contribution_pairs [] h = sym (pairs_none n _ (λ i k. zero_term (λ j. 0) i k refl))
   contribution_pairs (p ∷ ps) h =
@@ -49,8 +49,8 @@ module _ (a b n : ℕ) (cells : List ℕ) where
       (contribution_pairs ps (λ k d q. h (suc k) d (omega (arith, q))))
       ∙ sym (pairs_plus n (term (at p)) (term (part_at ps)))
       ∙ pairs_same n _ _
-      (λ i k. split (a * suc n + b * suc i) (at p (suc i)) (part_at ps (suc i)) (get_or cells k 0)
-      ∙ ap (λ t. (a * suc n + b * suc i) * t * get_or cells k 0) (sym (sum_by-cons (λ p. at p (suc i)) p ps)))
+      (λ i k. split (a * k + b * suc i) (at p (suc i)) (part_at ps (suc i)) (get_or cells k 0)
+      ∙ ap (λ t. (a * k + b * suc i) * t * get_or cells k 0) (sym (sum_by-cons (λ p. at p (suc i)) p ps)))
     where
       split : (f u v g : ℕ) → f * u * g + f * v * g ≡ f * (u + v) * g
       split f u v g = omega arith

@@ -1,6 +1,7 @@
 -- Passes: the window sums of a run, and one cell of a pass.
 use Rattle.dl_recursion.proofs.Common.{◌≡◌, inl, inr, ℕ, suc, zero, ◌+◌, ◌-◌, ◌*◌, ◌/◌, ◌^◌, ◌<◌, ◌≤◌, List, length, get_or, arith, refl, sym, ap, ap₂, ◌∙◌, add-zero, mul-le-mul_left, mul-le-mul_right, div-mul-le_self, pow-add, zero-lt-suc, set, cases_lt, count_pairs, Fraction, ◌+ℚ◌, ◌*ℚ◌, ◌≤ℚ◌, whole, sum_pairs, plus_le_both, whole_plus, whole_times, whole_pos, whole_le, le_refl, le_trans, times_le_cancel, times_le_both, times_left_comm, sum_pairs_same, sum_pairs_times, sum_pairs_le, Run, run_parts, part_at, cell_before, EncloseScaled, le_of_mul-le-mul_right, eq_of_mul-eq-mul_left, get_or-set_other, get_or-set_same, lt-div-mul-add, times_le_times, ring, zero-mul, le_of_eq, times_one, get_or-replicate, length-replicate, take, ◌++◌, replicate}
-use Rattle.dl_exact.proofs.Counts.{below_bound, below_none, below_same, pairs_same}
+use Rattle.dl_exact.proofs.Counts.{below_bound, below_none, below_pairs, below_same, below_times, pairs_same}
+use Rattle.std.proofs.Math.Nat.{mul_assoc, mul_comm}
 use Rattle.dl_start.proofs.Rounding.{ceil_reaches}
 use Rattle.dl_recursion.proofs.Pairs.{contribution_pairs}
 use Rattle.dl_recursion.proofs.Runs.{run_is, row_positive}
@@ -62,28 +63,41 @@ window_set cells s x run p =
 
 -- ---- what a run gives to a cell
 
-pairs_times : (n c : ℕ) (f : ℕ → ℕ → ℕ) → count_pairs n (λ i k. c * f i k) ≡ c * count_pairs n f
-unfolding count_pairs
-pairs_times zero c f = refl
-pairs_times (suc n) c f = omega (arith, pairs_times n c (λ i k. f (suc i) k))
+-- a factor that the two numbers of a pair make by their sum
+pairs_times : (n : ℕ) (f : ℕ → ℕ → ℕ) → count_pairs n (λ i k. (1 * k + 1 * suc i) * f i k) ≡ suc n * count_pairs n f
+pairs_times n f =
+    sym (below_pairs n (λ i k. (1 * k + 1 * suc i) * f i k))
+    ∙ below_same (suc n) _ (λ i. f i (n - i) * suc n) (λ i l. each i (n - i) (f i (n - i)) (omega (arith, l)))
+    ∙ below_times (suc n) (suc n) (λ i. f i (n - i)) ∙ ap (λ t. t * suc n) (below_pairs n f) ∙ mul_comm _ (suc n)
+  where
+    each : (i k x : ℕ) → i + k ≡ n → (1 * k + 1 * suc i) * x ≡ x * suc n
+    each i k x e = omega (arith, ap (λ t. t * x) e)
 
 pub window_pairs : (cells : List ℕ) (n : ℕ) (run : Run) → 0 < run.amount
     → count_pairs n (λ i k. part_at (run_parts run) (suc i) * get_or cells k 0) ≡ run.weight * window_sum cells (suc n) run
 window_pairs cells n run p =
     let parts = run_parts run in
     let f : ℕ → ℕ → ℕ = λ i k. part_at parts (suc i) * get_or cells k 0 in
-    let pairs = contribution_pairs 1 0 n cells parts (row_positive run.amount run.count run.weight p) in
-    let window = run_is 1 0 (suc n) cells run.amount run.count run.weight in
-    let factor : count_pairs n (λ i k. (1 * suc n + 0 * suc i) * part_at parts (suc i) * get_or cells k 0) ≡ suc n * count_pairs n f =
-    pairs_same n _ _ (λ i k. out i (part_at parts (suc i)) (get_or cells k 0)) ∙ pairs_times n (suc n) f in
+    let pairs = contribution_pairs 1 1 n cells parts (row_positive run.amount run.count run.weight p) in
+    let window = run_is 1 1 (suc n) cells run.amount run.count run.weight in
+    let factor : count_pairs n (λ i k. (1 * k + 1 * suc i) * part_at parts (suc i) * get_or cells k 0) ≡ suc n * count_pairs n f =
+    pairs_same n _ _ (λ i k. mul_assoc (1 * k + 1 * suc i) (part_at parts (suc i)) (get_or cells k 0)) ∙ pairs_times n f in
     eq_of_mul-eq-mul_left (suc n) (zero-lt-suc n) (count_pairs n f) (run.weight * window_sum cells (suc n) run)
-    (sym factor ∙ sym pairs ∙ window ∙ whole_window (window_sum cells (suc n) run) _)
+    (sym factor ∙ sym pairs ∙ whole_window _ _ window)
   where
-    out : (i w c : ℕ) → (1 * suc n + 0 * suc i) * w * c ≡ suc n * (w * c)
-    out i w c = omega arith
-
-    whole_window : (W S : ℕ) → (1 * suc n + 0 * run.amount) * run.weight * W + 0 * run.weight * S ≡ suc n * (run.weight * W)
-    whole_window W S = omega arith
+    -- the factor of each amount is the number of the cell
+    whole_window : (A S : ℕ) → A + 1 * run.weight * S
+        ≡ (1 * (suc n - run.amount) + 1 * run.amount) * run.weight * window_sum cells (suc n) run + 1 * run.weight * S
+        → A ≡ suc n * (run.weight * window_sum cells (suc n) run)
+    whole_window A S e = elim (cases_lt (suc n) run.amount) [
+      | inl l ↦
+          let none : window_sum cells (suc n) run ≡ 0 = below_none run.count (λ k. cell_before cells (suc n) (run.amount + k))
+          (λ k q. before_none cells (suc n) (run.amount + k) (omega (arith, l))) in
+          rw none (omega (arith, rw none at e))
+      | inr l ↦
+          let s_is : suc n - run.amount + run.amount ≡ suc n = omega (arith, l) in
+          omega (arith, e, ap (λ t. t * run.weight * window_sum cells (suc n) run) s_is)
+    ]
 
 -- ---- one cell of a pass
 

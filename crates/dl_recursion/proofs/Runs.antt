@@ -1,10 +1,10 @@
 -- Runs: their amounts one by one, and what they give to the next cell by their windows.
 use Rattle.std.proofs.lemmas.Bool.Decides.{nat_tests}
 use Rattle.std.proofs.lemmas.Grind.{common_steps}
-use Rattle.dl_recursion.proofs.Common.{◌≡◌, inl, inr, ℕ, suc, zero, ◌+◌, ◌-◌, ◌*◌, ◌^◌, ◌<◌, ◌≤◌, List, [], ◌∷◌, ◌++◌, length, take, get_or, arith, refl, mul-le-mul, mul-le-mul_left, mul-le-mul_right, zero-lt-suc, sum_by, All, flat_map, sum_by-cons, sum_by-append, sum_by_push, sum_by_more, sum_by_more_le, cases_lt, count_below, Part, Run, in_a_row, run_parts, all_parts, part_sum, IsRun, ArePositiveAmounts, contribution, cell_before, add-zero, add-suc, suc-add, IsWindow, Window, All-append, append-nil, take_more, get_or-append, length-append}
+use Rattle.dl_recursion.proofs.Common.{◌≡◌, inl, inr, ℕ, suc, zero, ◌+◌, ◌-◌, ◌*◌, ◌^◌, ◌<◌, ◌≤◌, List, [], ◌∷◌, ◌++◌, length, take, get_or, arith, ap, refl, max, mul-le-mul, mul-le-mul_left, mul-le-mul_right, zero-lt-suc, sum_by, All, flat_map, sum_by-cons, sum_by-append, sum_by_push, sum_by_more, sum_by_more_le, cases_lt, count_below, Part, Run, in_a_row, run_parts, all_parts, part_sum, IsRun, ArePositiveAmounts, contribution, cell_before, add-zero, add-suc, suc-add, IsWindow, Window, All-append, append-nil, take_more, get_or-append, length-append}
 use Rattle.std.proofs.lemmas.Grind.{flat_map-append}
-use Rattle.dl_exact.proofs.Counts.{below_none, times_nothing}
-use Rattle.dl_recursion.proofs.Windows.{before_none}
+use Rattle.dl_exact.proofs.Counts.{below_bound, below_none, times_nothing}
+use Rattle.dl_recursion.proofs.Windows.{before_none, before_small}
 use Rattle.dl_recursion.specs.declared.parts.Amounts.{Amounts}
 use Rattle.dl_recursion.proofs.Contributions.{contribution_yes, contribution_no, factor_le}
 
@@ -87,7 +87,7 @@ run_le runs i d h = omega (arith, runs_more_le (λ (p : Part). p.weight) runs i 
 -- ---- bounds
 
 module _ (a b s : ℕ) (cells : List ℕ) (small : (k : ℕ) → get_or cells k 0 ≤ 2 ^ 62) where
-  contribution_le : (p : Part) → contribution a b cells s p ≤ (a + b) * s * p.weight * 2 ^ 62
+  contribution_le : (p : Part) → contribution a b cells s p ≤ max a b * s * p.weight * 2 ^ 62
   contribution_le p = elim (cases_lt s p.amount) [
     | inl l ↦ omega (arith, contribution_no a b cells s p l)
     | inr l ↦ omega (
@@ -98,17 +98,17 @@ module _ (a b s : ℕ) (cells : List ℕ) (small : (k : ℕ) → get_or cells k 
   ]
 
   contributions_le : (parts : List Part) → sum_by (contribution a b cells s) parts ≤
-      (a + b) * s * part_sum parts * 2 ^ 62
+      max a b * s * part_sum parts * 2 ^ 62
   contributions_le [] = omega arith
   contributions_le (p ∷ ps) =
       rw (sum_by-cons (contribution a b cells s) p ps, sum_by-cons (λ (p : Part). p.weight) p ps)
       (omega (arith, contribution_le p, contributions_le ps))
 
-  pub contributions_top : (parts : List Part) → (a + b) * s * part_sum parts < 2 ^ 64
+  pub contributions_top : (parts : List Part) → max a b * s * part_sum parts < 2 ^ 64
       → sum_by (contribution a b cells s) parts ≤ 2 ^ 126
   contributions_top parts h = omega (arith, contributions_le parts, h)
 
-  pub next_fits : (parts : List Part) (i : ℕ) (d : Part) → i < length parts → (a + b) * s * part_sum parts < 2 ^ 64
+  pub next_fits : (parts : List Part) (i : ℕ) (d : Part) → i < length parts → max a b * s * part_sum parts < 2 ^ 64
       → (sum x : ℕ) → sum ≡ sum_by (contribution a b cells s) (take i parts)
       → x ≡ contribution a b cells s (get_or parts i d) → sum + x < 2 ^ 128
   next_fits parts i d h room sum x p q =
@@ -116,7 +116,7 @@ module _ (a b s : ℕ) (cells : List ℕ) (small : (k : ℕ) → get_or cells k 
 
 -- the amounts of one more run of those stay within the whole
 pub run_room : (a b s : ℕ) (cells : List ℕ) → ((k : ℕ) → get_or cells k 0 ≤ 2 ^ 62)
-    → (runs : List Run) (i : ℕ) (d : Run) → i < length runs → (a + b) * s * part_sum (flat_map run_parts runs) < 2 ^ 64
+    → (runs : List Run) (i : ℕ) (d : Run) → i < length runs → max a b * s * part_sum (flat_map run_parts runs) < 2 ^ 64
     → (sum x : ℕ) → sum ≡ sum_by (contribution a b cells s) (flat_map run_parts (take i runs))
     → x ≡ sum_by (contribution a b cells s) (run_parts (get_or runs i d)) → sum + x ≤ 2 ^ 126
 run_room a b s cells small runs i d h room sum x p q =
@@ -131,35 +131,58 @@ run_room a b s cells small runs i d h room sum x p q =
 
 -- ---- a run by its window
 
+-- an amount k above the first, by the factor of the first
+moved : (a b s m k w B : ℕ) → (s < m + k → B ≡ 0)
+    → (a * (s - (m + k)) + b * (m + k)) * w * B + a * w * (k * B) ≡ (a * (s - m) + b * m) * w * B + b * w * (k * B)
+moved a b s m k w B none = elim (cases_lt s (m + k)) [
+  | inl l ↦ rw (none l) (omega arith)
+  | inr l ↦
+      let d = s - (m + k) in
+      let e : s - m ≡ d + k = omega (arith, l) in
+      rw e (omega arith)
+]
+
 module _ (a b s : ℕ) (cells : List ℕ) where
-  pub run_is : (m n w : ℕ) → sum_by (contribution a b cells s) (in_a_row m n w)
-      ≡ (a * s + b * m) * w * count_below n (λ k. cell_before cells s (m + k)) + b * w * count_below n
+  pub run_is : (m n w : ℕ) → sum_by (contribution a b cells s) (in_a_row m n w) + a * w * count_below n
+      (λ k. k * cell_before cells s (m + k))
+      ≡ (a * (s - m) + b * m) * w * count_below n (λ k. cell_before cells s (m + k)) + b * w * count_below n
       (λ k. k * cell_before cells s (m + k))
   unfolding count_below
   run_is m zero w = omega (arith, row_none (contribution a b cells s) m w)
   run_is m (suc n) w =
-      rw (row_more (contribution a b cells s) m n w, run_is m n w)
-      (one_more (count_below n (λ k. cell_before cells s (m + k))) (count_below n (λ k. k * cell_before cells s (m + k)))
-      (cell_before cells s (m + n)))
-    where
-      one_more : (C S B : ℕ) → (a * s + b * m) * w * C + b * w * S + (a * s + b * (m + n)) * w * B
-          ≡ (a * s + b * m) * w * (C + B) + b * w * (S + n * B)
-      one_more C S B = omega arith
+      rw (row_more (contribution a b cells s) m n w)
+      (omega (
+        arith,
+        run_is m n w,
+        moved a b s m n w (cell_before cells s (m + n)) (λ l. before_none cells s (m + n) l),
+      ))
 
-  pub run_by_window : (run : Run) (window : Window) → IsWindow cells s run window
-      → (a * s + b * run.amount) * run.weight * window.cells + b * run.weight * window.steps ≡ sum_by
-      (contribution a b cells s) (run_parts run)
-  run_by_window run window is = rw (is.cells, is.steps, run_is run.amount run.count run.weight) refl
+  module _ (run : Run) (window : Window) (is : IsWindow cells s run window) where
+    abbrev first : ℕ
+    first = (a * (s - run.amount) + b * run.amount) * run.weight * window.cells
+
+    by_window : sum_by (contribution a b cells s) (run_parts run) + a * run.weight * window.steps
+        ≡ (a * (s - run.amount) + b * run.amount) * run.weight * window.cells + b * run.weight * window.steps
+    by_window = rw (is.cells, is.steps) (run_is run.amount run.count run.weight)
+
+    -- where the factor rises with the amount, and where it falls
+    pub run_rises : a ≤ b → first + (b - a) * run.weight * window.steps ≡ sum_by (contribution a b cells s) (run_parts run)
+    run_rises h =
+        let e : b - a + a ≡ b = omega (arith, h) in
+        omega (arith, by_window, ap (λ t. t * run.weight * window.steps) e)
+
+    pub run_falls : b ≤ a → sum_by (contribution a b cells s) (run_parts run) + (a - b) * run.weight * window.steps ≡ first
+    run_falls h =
+        let e : a - b + b ≡ a = omega (arith, h) in
+        omega (arith, by_window, ap (λ t. t * run.weight * window.steps) e)
 
   pub run_above : (run : Run) → s < run.amount → 0 ≡ sum_by (contribution a b cells s) (run_parts run)
   run_above run l =
       let none : (k : ℕ) → cell_before cells s (run.amount + k) ≡ 0 = λ k. before_none cells s (run.amount + k) (omega (arith, l)) in
-      rw (
-        run_is run.amount run.count run.weight,
-        below_none run.count (λ k. cell_before cells s (run.amount + k)) (λ k q. none k),
-        below_none run.count (λ k. k * cell_before cells s (run.amount + k))
-            (λ k q. times_nothing k _ (none k)),
-      ) (omega arith)
+      let cells_none = below_none run.count (λ k. cell_before cells s (run.amount + k)) (λ k q. none k) in
+      let steps_none = below_none run.count (λ k. k * cell_before cells s (run.amount + k))
+      (λ k q. times_nothing k _ (none k)) in
+      omega (arith, rw (cells_none, steps_none) at (run_is run.amount run.count run.weight))
 
 -- ---- weights
 
@@ -184,11 +207,20 @@ weights_more_le runs i d h =
     omega (arith, row_weight run.amount run.count run.weight, runs_more_le (λ p. p.weight) runs i d h)
 
 -- an amount of a run has its share of the room
-pub weight_room : (a b s : ℕ) (run : Run) → 0 < run.count → (a + b) * s * part_sum (run_parts run) < 2 ^ 64
-    → (a + b) * s * run.weight < 2 ^ 64
-weight_room a b s run some room =
+pub weight_room : (x : ℕ) (run : Run) → 0 < run.count → x * part_sum (run_parts run) < 2 ^ 64 → x * run.weight < 2 ^ 64
+weight_room x run some room =
     let each : run.weight ≤ run.count * run.weight = omega (arith, mul-le-mul_right run.weight some) in
-    omega (arith, rw (row_weight run.amount run.count run.weight) at room, mul-le-mul_left ((a + b) * s) each)
+    omega (arith, rw (row_weight run.amount run.count run.weight) at room, mul-le-mul_left x each)
+
+-- the cells of a window, each by the factor of the run's first amount
+pub first_le : (a b s : ℕ) (cells : List ℕ) (run : Run) (window : Window) → ((k : ℕ) → get_or cells k 0 ≤ 2 ^ 62)
+    → run.amount ≤ s → max a b * s * part_sum (run_parts run) < 2 ^ 64 → IsWindow cells s run window
+    → (a * (s - run.amount) + b * run.amount) * run.weight * window.cells ≤ 2 ^ 126
+first_le a b s cells run window small within room is =
+    let most : window.cells ≤ run.count * 2 ^ 62 = rw is.cells (below_bound run.count (2 ^ 62) _
+    (λ k l. before_small cells s (run.amount + k) (2 ^ 62) small)) in
+    let all : max a b * s * (run.count * run.weight) < 2 ^ 64 = rw (row_weight run.amount run.count run.weight) at room in
+    omega (arith, mul-le-mul (factor_le a b s run.amount run.weight within) most, all)
 
 -- ---- amounts that are added
 

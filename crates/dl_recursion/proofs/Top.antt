@@ -104,11 +104,11 @@ module _ (f w : ℕ → Fraction) (z : f zero ≡ whole 0) (severity : IsWithinO
 -- ---- the recursion in whole numbers
 
 pub follows : (f w : ℕ → Fraction) (x : Fraction) (a b q : ℕ) (parts : List Part) → f zero ≡ whole 0
-    → IsPanjer (whole a *ℚ x) (whole (a + b) *ℚ x) w → IsScaled parts q x f
+    → IsPanjer (whole a *ℚ x) (whole b *ℚ x) w → IsScaled parts q x f
     → FollowsInWhole parts a b q (λ s. cell w f s s)
 follows f w x a b q parts z P W =
     let r : ℕ → Fraction = λ s. cell w f s s in
-    let c : Fraction = whole (a + b) *ℚ x in
+    let c : Fraction = whole b *ℚ x in
     let R : Recursion (whole a *ℚ x) c f r = recursion_there f w (whole a *ℚ x) c z P in
     record {
       start = R.start;
@@ -118,9 +118,9 @@ follows f w x a b q parts z P W =
           ∙ sym (sum_pairs_times n (whole q)
           (λ i k. (whole a *ℚ x *ℚ whole k +ℚ c *ℚ whole (suc i)) *ℚ f (suc i) *ℚ r k))
           ∙ sum_pairs_same n _ _ (λ i k e.
-          each (whole q) (whole a) x (whole k) (whole (a + b)) (whole (suc i)) (f (suc i)) (r k)
-          ∙ ap₂ (λ s t. s *ℚ t *ℚ r k) (factor n i k e) (W (suc i))
-          ∙ ap (λ t. t *ℚ r k) (sym (whole_times (a * suc n + b * suc i) (part_at parts (suc i)))));
+          each (whole q) (whole a) x (whole k) (whole b) (whole (suc i)) (f (suc i)) (r k)
+          ∙ ap₂ (λ s t. s *ℚ t *ℚ r k) (factor i k) (W (suc i))
+          ∙ ap (λ t. t *ℚ r k) (sym (whole_times (a * k + b * suc i) (part_at parts (suc i)))));
     }
   where
     turn : (q s r : Fraction) → q *ℚ s *ℚ r ≡ q *ℚ (s *ℚ r)
@@ -130,9 +130,6 @@ follows f w x a b q parts z P W =
         → q *ℚ ((a *ℚ x *ℚ k +ℚ c *ℚ x *ℚ i) *ℚ f *ℚ r) ≡ (a *ℚ k +ℚ c *ℚ i) *ℚ (q *ℚ (x *ℚ f)) *ℚ r
     each q a x k c i f r = simp ring
 
-    factor : (n i k : ℕ) → i + k ≡ n
-        → whole a *ℚ whole k +ℚ whole (a + b) *ℚ whole (suc i) ≡ whole (a * suc n + b * suc i)
-    factor n i k e =
-        let m : a * k + (a + b) * suc i ≡ a * suc n + b * suc i = omega (arith, ap (λ t. a * t) e) in
-        ap₂ (λ s t. s +ℚ t) (sym (whole_times a k)) (sym (whole_times (a + b) (suc i)))
-        ∙ sym (whole_plus (a * k) ((a + b) * suc i)) ∙ ap whole m
+    factor : (i k : ℕ) → whole a *ℚ whole k +ℚ whole b *ℚ whole (suc i) ≡ whole (a * k + b * suc i)
+    factor i k = ap₂ (λ s t. s +ℚ t) (sym (whole_times a k)) (sym (whole_times b (suc i)))
+        ∙ sym (whole_plus (a * k) (b * suc i))

@@ -1,5 +1,5 @@
 -- The steps of a count's weights, and items with their weights times a factor.
-use Rattle.dl_recursion.proofs.Common.{◌≡◌, inl, inr, ℕ, ◌+◌, ◌-◌, ◌*◌, ◌/◌, ◌<◌, List, [], ◌∷◌, length, take, get_or, arith, sym, ap, ◌∙◌, mul-pos, refl, add-one, All, sum_by, sum_by-cons, sum_by_more, Fraction, ◌over◌, ◌*ℚ◌, whole, over_mul, over_same, over_self, over_times_whole, whole_times, one_pos, one_times, poisson, gamma, IsPanjer, Part, in_a_row, eq-zero-or-pos, mul-add, ◌≢◌, add-zero, eq_of_mul-eq-mul_right, eq-eqb, ne_eqb, All-head, All-tail, ◌==◌, if◌then◌else◌, eqb_tells, times_assoc, zero_times, times_comm, Item, weight_sum, weight_at}
+use Rattle.dl_recursion.proofs.Common.{◌≡◌, inl, inr, ℕ, ◌+◌, ◌*◌, ◌/◌, ◌<◌, List, [], ◌∷◌, length, take, get_or, arith, sym, ap, ◌∙◌, mul-pos, refl, add-one, All, sum_by, sum_by-cons, sum_by_more, Fraction, ◌over◌, ◌*ℚ◌, whole, over_mul, over_same, over_self, over_times_whole, whole_times, one_pos, one_times, poisson, gamma, IsPanjer, Part, in_a_row, eq-zero-or-pos, mul-add, ◌≢◌, add-zero, eq_of_mul-eq-mul_right, eq-eqb, ne_eqb, All-head, All-tail, ◌==◌, if◌then◌else◌, eqb_tells, times_assoc, zero_times, times_comm, Item, weight_sum, weight_at}
 use Prim.Native.Nat.{◌∣◌}
 use Rattle.dl_model.proofs.Panjer.{poisson_class, gamma_class}
 use Rattle.dl_model.proofs.Multiples.{multiple_of}
@@ -61,26 +61,33 @@ module _ (f : Part → ℕ) (g k : ℕ) (items : List Item) (i : ℕ) (d : Item)
   item_begun w S q e =
       grind (arith, sum_by_more (λ (item : Item). f (times_item g k item)) items i d h, row_more, row_none, add-zero)
 
--- the weights by their lowest terms: q times the ratio of a weight is its numerator
-pub chance_scaled : (base total num w v : ℕ) (ratio : Fraction) → 0 < base → 0 < total
-    → ratio ≡ num over (base * total) → v ≡ ratio.num * w
-    → whole ratio.den *ℚ (num over base *ℚ w over total) ≡ whole v
-chance_scaled base total num w v ratio b t is e =
-    let product : num over base *ℚ w over total ≡ ratio *ℚ whole w =
-    over_mul num base w total b t
+-- the weights by the lowest terms of x over their total: q times x times a probability is its weight
+pub chance_scaled : (x : Fraction) (total w v : ℕ) (each : Fraction) → 0 < total → each ≡ x.num over (x.den * total)
+    → v ≡ each.num * w → whole each.den *ℚ (x *ℚ w over total) ≡ whole v
+chance_scaled x total w v each t is e =
+    let b : 0 < x.den = x.positive in
+    let product : x *ℚ w over total ≡ each *ℚ whole w =
+    ap (λ s. s *ℚ w over total) (sym (over_self x)) ∙ over_mul x.num x.den w total b t
     ∙ over_same _ _ _ _ (mul-pos b t) (mul-pos (mul-pos b t) one_pos) (omega arith)
-    ∙ sym (over_mul num (base * total) w 1 (mul-pos b t) one_pos) ∙ ap (λ x. x *ℚ whole w) (sym is) in
-    let back : whole ratio.den *ℚ ratio ≡ whole ratio.num =
-    times_comm _ _ ∙ ap (λ x. x *ℚ whole ratio.den) (sym (over_self ratio)) ∙ over_times_whole _ _ ratio.positive in
+    ∙ sym (over_mul x.num (x.den * total) w 1 (mul-pos b t) one_pos) ∙ ap (λ s. s *ℚ whole w) (sym is) in
+    let back : whole each.den *ℚ each ≡ whole each.num =
+    times_comm _ _ ∙ ap (λ s. s *ℚ whole each.den) (sym (over_self each)) ∙ over_times_whole _ _ each.positive in
     rw (product, ← times_assoc, back, e, whole_times)
 
 -- ---- the two classes
 
-pub poisson_steps : (v : Fraction) → IsPanjer (whole 0 *ℚ v) (whole (0 + 1) *ℚ v) (poisson v)
+pub poisson_steps : (v : Fraction) → IsPanjer (whole 0 *ℚ v) (whole 1 *ℚ v) (poisson v)
 poisson_steps v = rw (zero_times, one_times) (poisson_class v)
 
-pub gamma_steps : (s b : ℕ) (x : Fraction) → 0 < s → b ≡ s - 1
-    → IsPanjer (whole 1 *ℚ x) (whole (1 + b) *ℚ x) (gamma (whole s) x)
-gamma_steps s b x p e =
-    let m : 1 + b ≡ s = omega (arith, p, e) in
-    rw (one_times, m) (gamma_class (whole s) x)
+pub over_part : (n m d : ℕ) → 0 < m → 0 < d → n over (m * d) *ℚ whole d ≡ n over m
+over_part n m d p q = over_mul n (m * d) d 1 (mul-pos p q) one_pos
+    ∙ over_same _ _ _ _ (mul-pos (mul-pos p q) one_pos) p (omega arith)
+
+-- of shape r, by x over the divisor of r
+pub gamma_steps : (r x y : Fraction) → y *ℚ whole r.den ≡ x
+    → IsPanjer (whole r.den *ℚ y) (whole r.num *ℚ y) (gamma r x)
+gamma_steps r x y e =
+    let part : r *ℚ whole r.den ≡ whole r.num =
+    ap (λ t. t *ℚ whole r.den) (sym (over_self r)) ∙ over_times_whole r.num r.den r.positive in
+    let turn : r *ℚ whole r.den *ℚ y ≡ r *ℚ (y *ℚ whole r.den) = times_assoc _ _ _ ∙ ap (λ t. r *ℚ t) (times_comm _ _) in
+    rw (times_comm (whole r.den) y, e, ← part, turn, e) (gamma_class r x)

@@ -1,6 +1,6 @@
 -- Panjer's recursion in whole numbers (Loss Models, "The recursive method"), and cells that share
 -- an exponent.
-use Rattle.std.specs.Prelude.{ℕ, zero, suc, ◌≡◌, ◌+◌, ◌-◌, ◌*◌, ◌/◌, ◌^◌, ◌<◌, ◌≤◌, ◌⊎◌, if◌then◌else◌, nat_le, All, List, [], ◌∷◌, get_or, slice_index, length, sum_by}
+use Rattle.std.specs.Prelude.{ℕ, zero, suc, ◌≡◌, ◌+◌, ◌-◌, ◌*◌, ◌/◌, ◌^◌, ◌<◌, ◌≤◌, ◌⊎◌, if◌then◌else◌, nat_le, max, All, List, [], ◌∷◌, get_or, slice_index, length, sum_by}
 use Rattle.dl_limits.specs.Limits.{start_bits, most_end, most_given}
 use Rattle.dl_exact.specs.Prelude.{Fraction, whole, ◌*ℚ◌, ◌≤ℚ◌, sum_pairs, count_below}
 use Rattle.dl_recursion.specs.declared.parts.Part.{Part}
@@ -16,30 +16,30 @@ use Rattle.dl_recursion.specs.Runs.{part_at, part_sum, all_parts}
 abbrev pub cell_before : List ℕ → ℕ → ℕ → ℕ
 cell_before cells s amount = if nat_le amount s then slice_index cells (s - amount) else 0
 
--- what one part gives to cell s: (a * s + b * amount) * weight times the cell that lies its amount
--- before
+-- what one part gives to cell s: the cell that lies its amount before, times its weight and its
+-- factor, `before` for each cell up to that one and `after` for each from there to s
 abbrev pub contribution : ℕ → ℕ → List ℕ → ℕ → Part → ℕ
-contribution a b cells s p =
-    (a * s + b * p.amount) * p.weight * cell_before cells s p.amount
+contribution before after cells s p =
+    (before * (s - p.amount) + after * p.amount) * p.weight * cell_before cells s p.amount
 
--- room for cell n: (a + b) * n, the most that a part's factor a * n + b * amount can be, is below
--- 2^32, and times the weights together below 2^64
-pub record HasRoom (a b weight n : ℕ) : Type 0 where
-  pub steps : (a + b) * n < 2 ^ 32
-  pub weights : (a + b) * n * weight < 2 ^ 64
+-- room for cell n: the most that a part's factor can be is below 2^64, and so is that times the
+-- weights together
+pub record HasRoom (before after weight n : ℕ) : Type 0 where
+  pub steps : max before after * n < 2 ^ 64
+  pub weights : max before after * n * weight < 2 ^ 64
 
 -- room for cell n and for what it is divided by, q * n
-pub record HasRoomOver (q a b weight n : ℕ) : Type 0 where
-  pub room : HasRoom a b weight n
+pub record HasRoomOver (q before after weight n : ℕ) : Type 0 where
+  pub room : HasRoom before after weight n
   pub divisor : 0 < q
   pub divisors : q * n < 2 ^ 64
 
 -- the recursion in whole numbers: q * (n + 1) * r (n + 1) is the sum over the amounts 1 + i and the
 -- cells k with i + k = n
-pub record FollowsInWhole (parts : List Part) (a b q : ℕ) (r : ℕ → Fraction) : Type 0 where
+pub record FollowsInWhole (parts : List Part) (before after q : ℕ) (r : ℕ → Fraction) : Type 0 where
   pub start : r zero ≡ whole 1
   pub next : (n : ℕ) → whole (q * suc n) *ℚ r (suc n)
-      ≡ sum_pairs n (λ i k. whole ((a * suc n + b * suc i) * part_at parts (suc i)) *ℚ r k)
+      ≡ sum_pairs n (λ i k. whole ((before * k + after * suc i) * part_at parts (suc i)) *ℚ r k)
 
 -- in units of 2^e the numbers enclose 2^61 times r k, for each k below n
 pub record EncloseScaled (r : ℕ → Fraction) (e n : ℕ) (low high : List ℕ) : Type 0 where
@@ -102,12 +102,12 @@ pub record HasCellsOf (x y : ScaledCells) : Type 0 where
   pub shift : y.shift ≡ x.shift
 
 -- what the amounts give to the cell after those of x; y is x with the windows of all runs there
-pub record AreContributions (amounts : Amounts) (a b : ℕ) (x y : ScaledCells) (ends : Ends)
+pub record AreContributions (amounts : Amounts) (before after : ℕ) (x y : ScaledCells) (ends : Ends)
     : Type 0 where
   pub low : ends.low
-      ≡ sum_by (contribution a b x.low.items (length x.low.items)) (all_parts amounts)
+      ≡ sum_by (contribution before after x.low.items (length x.low.items)) (all_parts amounts)
   pub high : ends.high
-      ≡ sum_by (contribution a b x.high.items (length x.low.items)) (all_parts amounts)
+      ≡ sum_by (contribution before after x.high.items (length x.low.items)) (all_parts amounts)
   pub high_room : ends.high ≤ most_given
   pub windows : AreWindows amounts.runs.items y.low.items y.high.items (length y.low.items)
       y.windows.items
@@ -115,18 +115,19 @@ pub record AreContributions (amounts : Amounts) (a b : ℕ) (x y : ScaledCells) 
   pub same : HasCellsOf x y
 
 -- y has one cell more than x, the next one of the recursion
-pub record IsGrown (amounts : Amounts) (a b q : ℕ) (x y : ScaledCells) : Type 0 where
+pub record IsGrown (amounts : Amounts) (before after q : ℕ) (x y : ScaledCells) : Type 0 where
   pub in_scale : AreInScale amounts.runs.items y
   pub cells : length y.low.items ≡ length x.low.items + 1
   pub shift : y.shift ≤ x.shift + 64
-  pub round : (r : ℕ → Fraction) → FollowsInWhole (all_parts amounts) a b q r
+  pub round : (r : ℕ → Fraction) → FollowsInWhole (all_parts amounts) before after q r
       → EncloseScaled r x.shift (length x.low.items) x.low.items x.high.items
       → EncloseScaled r y.shift (length y.low.items) y.low.items y.high.items
 
--- no amount is above `top`, and (a * n + b * top) times the sum of the weights is at most q * n
-pub record AreFalling (parts : List Part) (a b q top n : ℕ) : Type 0 where
+-- no amount is above `top`, and at cell n no factor of an amount, times the sum of the weights, is
+-- above q * n
+pub record AreFalling (parts : List Part) (before after q top n : ℕ) : Type 0 where
   pub reach : All (λ p. p.amount ≤ top) parts
-  pub falling : (a * n + b * top) * part_sum parts ≤ q * n
+  pub falling : (before * n + (after - before) * top) * part_sum parts ≤ q * n
 
 -- no end from cell n on is above this one
 pub record AreLast (ends : List ℕ) (n high : ℕ) : Type 0 where
@@ -141,9 +142,9 @@ pub record IsBegun (x : ScaledCells) : Type 0 where
   pub windows : x.windows.items ≡ []
 
 -- the first n cells of the recursion
-pub record AreFirst (parts : List Part) (a b q n : ℕ) (x : ScaledCells) : Type 0 where
+pub record AreFirst (parts : List Part) (before after q n : ℕ) (x : ScaledCells) : Type 0 where
   pub cells : length x.low.items ≡ n
   pub shift : x.shift ≤ 64 * n
   pub sound : AreScaledCells x.low.items x.high.items x.first
-  pub round : (r : ℕ → Fraction) → FollowsInWhole parts a b q r
+  pub round : (r : ℕ → Fraction) → FollowsInWhole parts before after q r
       → EncloseScaled r x.shift n x.low.items x.high.items

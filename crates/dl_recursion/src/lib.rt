@@ -17,8 +17,10 @@
 //! unit from equal parts of its mean, with the same contract, which costs time alone. What a run of
 //! amounts gives to a cell by its window, two sums over cells that move on with each cell, is what
 //! its amounts give one by one (`runs_contribution`), and a quotient that was guessed is the
-//! quotient (`quotient`), so neither changes an answer. A gamma count of a shape up to 8 whose
-//! amounts are one run goes by as many passes, each of which raises the shape by one (`round` of
+//! quotient (`quotient`), so neither changes an answer. A gamma count of any shape takes the same
+//! steps: an amount counts by the shape and the cells before it by 1, both times the divisor of the
+//! shape (`contribution`), so that no number is negative. One of a whole shape up to 8 whose amounts
+//! are one run goes by as many passes, each of which raises the shape by one (`round` of
 //! `pass`; `raised_next` of its proofs), with the same contract. Where all amounts are multiples of
 //! a number, the sums of claims are those of the amounts over it, at its multiples, and 0 between
 //! (`multiples_enclose` of `dl_model`).

@@ -259,7 +259,7 @@ pub(crate) fn by_passes(
     requires shape { 0 < shape }
     requires divisor { 0 < q }
     ensures { IfOk result (λ made.
-        IfSome made (AreFirst (run_parts run) 1 (shape - 1) q cells)) }
+        IfSome made (AreFirst (run_parts run) 1 shape q cells)) }
 {
     if cells < 2 || shape > MOST_PASSES || run.count > MOST_COUNT {
         return Ok(None);

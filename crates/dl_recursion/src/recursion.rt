@@ -142,21 +142,22 @@ fn grow(
     inverse: &mut Inverse,
     amounts: &Amounts,
     reach: usize,
-    a: u64,
-    b: u64,
+    before: u64,
+    after: u64,
     q: u64,
 ) -> Result<(), AllocError>
     requires in_scale { AreInScale amounts.now.runs.items x.old }
     requires shift { x.old.shift + 64 < 2 ^ 64 }
     requires amounts { ArePositiveAmounts amounts.now }
     requires reach { All (λ p. p.amount ≤ reach) amounts.now.parts.items }
-    requires room { HasRoomOver q a b (part_sum (all_parts amounts.now)) (length x.old.low.items) }
-    ensures { IfOk result (λ u. IsGrown amounts.now a b q x.old x.new) }
+    requires room { HasRoomOver q before after (part_sum (all_parts amounts.now))
+        (length x.old.low.items) }
+    ensures { IfOk result (λ u. IsGrown amounts.now before after q x.old x.new) }
 {
     let n = x.low.len();
     let d = q * (n as u64);
     *inverse = inverse_of(d, n, *inverse);
-    let sums = contributions(x, amounts, reach, a, b)?;
+    let sums = contributions(x, amounts, reach, before, after)?;
     let ends = shift_down(x, divided(sums, d, *inverse));
     x.low.push(ends.low as u64)?;
     x.high.push(ends.high as u64)?;
@@ -193,17 +194,17 @@ fn begin(alloc: Global, amounts: &Amounts, cells: usize) -> Result<ScaledCells, 
 pub(crate) fn recur(
     alloc: Global,
     amounts: &Amounts,
-    a: u64,
-    b: u64,
+    before: u64,
+    after: u64,
     q: u64,
     cells: usize,
 ) -> Result<ScaledCells, AllocError>
     requires some { 0 < cells }
     requires few { cells ≤ most_cells }
     requires amounts { ArePositiveAmounts amounts.now }
-    requires some_step { 0 < a + b }
-    requires room { HasRoomOver q a b (part_sum (all_parts amounts.now)) cells }
-    ensures { IfOk result (AreFirst (all_parts amounts.now) a b q cells) }
+    requires some_step { 0 < after }
+    requires room { HasRoomOver q before after (part_sum (all_parts amounts.now)) cells }
+    ensures { IfOk result (AreFirst (all_parts amounts.now) before after q cells) }
 {
     let mut x = begin(alloc, amounts, cells)?;
     let mut inverse = Inverse {
@@ -214,12 +215,20 @@ pub(crate) fn recur(
     let reach = reach_of(amounts);
     let mut last = 0;
     'cells: for n in 1..cells {
-        if n.saturating_sub(last) > reach.amount && is_falling(reach, a, b, q, n) {
+        if n.saturating_sub(last) > reach.amount && is_falling(reach, before, after, q, n) {
             let high = greatest_from(x.high.as_slice(), n - reach.amount);
             fill(&mut x, high, cells)?;
             return Ok(x);
         }
-        grow(&mut x, &mut inverse, amounts, reach.amount, a, b, q)?;
+        grow(
+            &mut x,
+            &mut inverse,
+            amounts,
+            reach.amount,
+            before,
+            after,
+            q,
+        )?;
         if x.low[n] > 0 {
             last = n;
         }

@@ -1,7 +1,7 @@
 //! The last cells of the recursion, once the low ends have become 0. Where
-//! `(a * n + b * top) * weight <= q * n`, with `top` the greatest amount and `weight` the sum of
-//! the weights, no cell from `n` on is above the greatest of the `top` cells before it: all of them
-//! get that one high end, and the low end 0.
+//! `(before * n + max(after - before, 0) * top) * weight <= q * n`, with `top` the greatest amount
+//! and `weight` the sum of the weights, no cell from `n` on is above the greatest of the `top`
+//! cells before it: all of them get that one high end, and the low end 0.
 
 ghost use Rattle.std.specs.Prelude.{◌≡◌, ℕ, ◌+◌, ◌-◌, ◌*◌, ◌^◌, ◌<◌, ◌≤◌, List, length, slice_index, flat_map, All, IfOk, IsTrue};
 ghost use Rattle.dl_limits.specs.Limits.{most_end};
@@ -70,19 +70,21 @@ pub(crate) fn reach_of(amounts: &Amounts) -> Reach
     }
 }
 
-/// Whether no amount is above `n`, and `(a * n + b * top) * weight <= q * n` with the greatest
-/// amount `top` and the sum `weight` of the weights; then that holds for each later cell, too.
-#[tactic(auto, using(crate::proofs::Contributions::factor_le))]
-pub(crate) fn is_falling(reach: Reach, a: u64, b: u64, q: u64, n: usize) -> bool
-    requires room { HasRoomOver q a b reach.weight n }
+/// Whether no amount is above `n`, and
+/// `(before * n + max(after - before, 0) * top) * weight <= q * n` with the greatest amount `top`
+/// and the sum `weight` of the weights; then that holds for each later cell, too.
+pub(crate) fn is_falling(reach: Reach, before: u64, after: u64, q: u64, n: usize) -> bool
+    requires room { HasRoomOver q before after reach.weight n }
     ensures within { IsTrue result → reach.amount ≤ n }
-    ensures falling { IsTrue result → (a * n + b * reach.amount) * reach.weight ≤ q * n }
+    ensures falling { IsTrue result
+        → (before * n + (after - before) * reach.amount) * reach.weight ≤ q * n }
 {
     if reach.amount > n {
         return false;
     }
     let n = n as u64;
-    (a * n + b * (reach.amount as u64)) * reach.weight <= q * n
+    let more = after.saturating_sub(before);
+    (before * n + more * (reach.amount as u64)) * reach.weight <= q * n
 }
 
 /// The greatest of the ends from one cell on.
@@ -107,10 +109,11 @@ pub(crate) fn fill(x: &mut ScaledCells, high: u64, cells: usize) -> Result<(), A
     ensures sound { IfOk result (λ u. AreScaledCells x.new.low.items x.new.high.items x.new.first) }
     ensures cells { IfOk result (λ u. length x.new.low.items ≡ cells) }
     ensures shift { IfOk result (λ u. x.new.shift ≡ x.old.shift) }
-    ensures round { IfOk result (λ u. (parts : List Part) (a b q top : ℕ) (r : ℕ → Fraction)
-        → AreFalling parts a b q top (length x.old.low.items)
+    ensures round { IfOk result (λ u. (parts : List Part) (before after q top : ℕ)
+        (r : ℕ → Fraction)
+        → AreFalling parts before after q top (length x.old.low.items)
         → AreLast x.old.high.items (length x.old.low.items - top) high
-        → All (λ p. 0 < p.amount) parts → 0 < q → FollowsInWhole parts a b q r
+        → All (λ p. 0 < p.amount) parts → 0 < q → FollowsInWhole parts before after q r
         → EncloseScaled r x.old.shift (length x.old.low.items) x.old.low.items x.old.high.items
         → EncloseScaled r x.new.shift cells x.new.low.items x.new.high.items) }
 {

@@ -2,7 +2,7 @@
 //! gives one product. A run gives two products, from sums over the cells that lie its amounts
 //! before: they are its window, which moves on with each cell.
 
-ghost use Rattle.std.specs.Prelude.{◌≡◌, ℕ, ◌+◌, ◌-◌, ◌*◌, ◌/◌, ◌^◌, ◌<◌, ◌≤◌, ◌⊎◌, length, slice_index, sum_by, flat_map, not, nat_le, All, IfOk, IsTrue};
+ghost use Rattle.std.specs.Prelude.{◌≡◌, ℕ, ◌+◌, ◌-◌, ◌*◌, ◌/◌, ◌^◌, ◌<◌, ◌≤◌, ◌⊎◌, length, slice_index, sum_by, flat_map, not, nat_le, max, All, IfOk, IsTrue};
 ghost use Rattle.dl_limits.specs.Limits.{most_end};
 ghost use Rattle.dl_recursion.specs.Runs.{run_parts, all_parts, part_sum, IsRun, ArePositiveAmounts};
 ghost use Rattle.dl_recursion.specs.Recursion.{cell_before, contribution, HasRoom, AreEnds, IsWindow, AreWindows, AreInScale, HasCellsOf, AreContributions};
@@ -11,18 +11,31 @@ use crate::cells::{Ends, ScaledCells, Window, Windows};
 use crate::parts::{Amounts, Part, Run};
 use std::alloc::AllocError;
 
+/// `before * (s - amount) + after * amount`, also where `after` is below `before`: the steps wrap
+/// round at 2^64, and the number is below that.
+#[tactic(auto, using(crate::proofs::Contributions::wrapped))]
+fn amount_factor(before: u64, after: u64, s: usize, amount: usize) -> u64
+    requires within { amount ≤ s }
+    requires room { max before after * s < 2 ^ 64 }
+    ensures { result ≡ before * (s - amount) + after * amount }
+{
+    let step = after.wrapping_sub(before);
+    let first = before.wrapping_mul(s as u64);
+    first.wrapping_add(step.wrapping_mul(amount as u64))
+}
+
 /// What an amount taken alone gives to cell `s`, the next one, for one end: its factor times the
 /// end of the cell that lies it before.
 #[tactic(auto, using(crate::proofs::Contributions::factor_le))]
-fn contribution(part: Part, a: u64, b: u64, s: usize, cells: &[u64]) -> u128
+fn contribution(part: Part, before: u64, after: u64, s: usize, cells: &[u64]) -> u128
     requires next { length cells.now ≡ s }
-    requires room { HasRoom a b part.weight s }
+    requires room { HasRoom before after part.weight s }
     requires amount { 0 < part.amount }
     requires within { part.amount ≤ s }
     requires small { (k : ℕ) → slice_index cells.now k ≤ most_end }
-    ensures { result ≡ contribution a b cells.now s part }
+    ensures { result ≡ contribution before after cells.now s part }
 {
-    let factor = (a * (s as u64) + b * (part.amount as u64)) * part.weight;
+    let factor = amount_factor(before, after, s, part.amount) * part.weight;
     u128::from(factor) * u128::from(cells[s - part.amount])
 }
 
@@ -40,17 +53,19 @@ fn is_above<const NEAR: bool>(part: Part, s: usize) -> bool
 #[inline(never)]
 fn parts_contribution<const NEAR: bool>(
     parts: &[Part],
-    a: u64,
-    b: u64,
+    before: u64,
+    after: u64,
     low: &[u64],
     high: &[u64],
 ) -> Ends
     requires ends { AreEnds most_end low.now high.now }
-    requires room { HasRoom a b (part_sum parts.now) (length low.now) }
+    requires room { HasRoom before after (part_sum parts.now) (length low.now) }
     requires amounts { All (λ p. 0 < p.amount) parts.now }
     requires near { IsTrue NEAR → All (λ p. p.amount ≤ length low.now) parts.now }
-    ensures low { result.low ≡ sum_by (contribution a b low.now (length low.now)) parts.now }
-    ensures high { result.high ≡ sum_by (contribution a b high.now (length high.now)) parts.now }
+    ensures low { result.low ≡ sum_by (contribution before after low.now (length low.now))
+        parts.now }
+    ensures high { result.high ≡ sum_by (contribution before after high.now (length high.now))
+        parts.now }
 {
     let s = low.len();
     let mut low_sum: u128 = 0;
@@ -59,8 +74,8 @@ fn parts_contribution<const NEAR: bool>(
         if is_above::<NEAR>(*part, s) {
             continue;
         }
-        low_sum += contribution(*part, a, b, s, low);
-        high_sum += contribution(*part, a, b, s, high);
+        low_sum += contribution(*part, before, after, s, low);
+        high_sum += contribution(*part, before, after, s, high);
     }
     Ends {
         low: low_sum,
@@ -69,21 +84,23 @@ fn parts_contribution<const NEAR: bool>(
 }
 
 /// What amounts taken one by one give. None is above `reach`.
-fn alone(parts: &[Part], reach: usize, a: u64, b: u64, low: &[u64], high: &[u64]) -> Ends
+fn alone(parts: &[Part], reach: usize, before: u64, after: u64, low: &[u64], high: &[u64]) -> Ends
     requires ends { AreEnds most_end low.now high.now }
-    requires room { HasRoom a b (part_sum parts.now) (length low.now) }
+    requires room { HasRoom before after (part_sum parts.now) (length low.now) }
     requires amounts { All (λ p. 0 < p.amount) parts.now }
     requires reach { All (λ p. p.amount ≤ reach) parts.now }
-    ensures low { result.low ≡ sum_by (contribution a b low.now (length low.now)) parts.now }
-    ensures high { result.high ≡ sum_by (contribution a b high.now (length low.now)) parts.now }
+    ensures low { result.low ≡ sum_by (contribution before after low.now (length low.now))
+        parts.now }
+    ensures high { result.high ≡ sum_by (contribution before after high.now (length low.now))
+        parts.now }
 {
     if parts.is_empty() {
         return Ends { low: 0, high: 0 };
     }
     if reach <= low.len() {
-        return parts_contribution::<true>(parts, a, b, low, high);
+        return parts_contribution::<true>(parts, before, after, low, high);
     }
-    parts_contribution::<false>(parts, a, b, low, high)
+    parts_contribution::<false>(parts, before, after, low, high)
 }
 
 /// The end that lies this amount before cell `s`, or 0 where there is none.
@@ -137,20 +154,24 @@ fn next_window(last: Window, run: Run, cells: &[u64]) -> Window
 }
 
 /// What a run gives, for one end.
-fn run_contribution(run: Run, window: Window, a: u64, b: u64, cells: &[u64]) -> u128
+fn run_contribution(run: Run, window: Window, before: u64, after: u64, cells: &[u64]) -> u128
     requires small { (k : ℕ) → slice_index cells.now k ≤ most_end }
-    requires room { HasRoom a b (part_sum (run_parts run)) (length cells.now) }
+    requires room { HasRoom before after (part_sum (run_parts run)) (length cells.now) }
     requires run { IsRun run }
     requires window { IsWindow cells.now (length cells.now) run window }
-    ensures { result ≡ sum_by (contribution a b cells.now (length cells.now)) (run_parts run) }
+    ensures { result ≡ sum_by (contribution before after cells.now (length cells.now))
+        (run_parts run) }
 {
     let s = cells.len();
     if run.amount > s {
         return 0;
     }
-    let factor = (a * (s as u64) + b * (run.amount as u64)) * run.weight;
-    let step = b * run.weight;
-    u128::from(factor) * window.cells + u128::from(step) * window.steps
+    let factor = amount_factor(before, after, s, run.amount) * run.weight;
+    let first = u128::from(factor) * window.cells;
+    if after < before {
+        return first - u128::from((before - after) * run.weight) * window.steps;
+    }
+    first + u128::from((after - before) * run.weight) * window.steps
 }
 
 /// Adds up the windows of the last cell, where they are not known.
@@ -187,20 +208,20 @@ fn add_up(
 fn runs_contribution(
     windows: &mut [Windows],
     runs: &[Run],
-    a: u64,
-    b: u64,
+    before: u64,
+    after: u64,
     low: &[u64],
     high: &[u64],
 ) -> Ends
     requires some { 0 < length low.now }
     requires ends { AreEnds most_end low.now high.now }
-    requires room { HasRoom a b (part_sum (flat_map run_parts runs.now)) (length low.now) }
+    requires room { HasRoom before after (part_sum (flat_map run_parts runs.now)) (length low.now) }
     requires runs { All IsRun runs.now }
     requires windows { AreWindows runs.now low.now high.now (length low.now - 1) windows.old }
     requires each_run { length windows.old ≡ length runs.now }
-    ensures low { result.low ≡ sum_by (contribution a b low.now (length low.now))
+    ensures low { result.low ≡ sum_by (contribution before after low.now (length low.now))
         (flat_map run_parts runs.now) }
-    ensures high { result.high ≡ sum_by (contribution a b high.now (length low.now))
+    ensures high { result.high ≡ sum_by (contribution before after high.now (length low.now))
         (flat_map run_parts runs.now) }
     ensures windows { AreWindows runs.now low.now high.now (length low.now) windows.new }
     ensures each_run { length windows.new ≡ length runs.now }
@@ -215,8 +236,8 @@ fn runs_contribution(
             high: next_window(last.high, run, high),
         };
         windows[i] = next;
-        low_sum += run_contribution(run, next.low, a, b, low);
-        high_sum += run_contribution(run, next.high, a, b, high);
+        low_sum += run_contribution(run, next.low, before, after, low);
+        high_sum += run_contribution(run, next.high, before, after, high);
     }
     Ends {
         low: low_sum,
@@ -225,16 +246,16 @@ fn runs_contribution(
 }
 
 /// What runs give.
-fn together(x: &mut ScaledCells, runs: &[Run], a: u64, b: u64) -> Result<Ends, AllocError>
+fn together(x: &mut ScaledCells, runs: &[Run], before: u64, after: u64) -> Result<Ends, AllocError>
     requires in_scale { AreInScale runs.now x.old }
-    requires room { HasRoom a b (part_sum (flat_map run_parts runs.now))
+    requires room { HasRoom before after (part_sum (flat_map run_parts runs.now))
         (length x.old.low.items) }
     requires runs { All IsRun runs.now }
     ensures low { IfOk result (λ ends. ends.low
-        ≡ sum_by (contribution a b x.old.low.items (length x.old.low.items))
+        ≡ sum_by (contribution before after x.old.low.items (length x.old.low.items))
         (flat_map run_parts runs.now)) }
     ensures high { IfOk result (λ ends. ends.high
-        ≡ sum_by (contribution a b x.old.high.items (length x.old.low.items))
+        ≡ sum_by (contribution before after x.old.high.items (length x.old.low.items))
         (flat_map run_parts runs.now)) }
     ensures windows { IfOk result (λ ends. AreWindows runs.now x.new.low.items x.new.high.items
         (length x.new.low.items) x.new.windows.items) }
@@ -243,7 +264,7 @@ fn together(x: &mut ScaledCells, runs: &[Run], a: u64, b: u64) -> Result<Ends, A
 {
     add_up(&mut x.windows, runs, x.low.as_slice(), x.high.as_slice())?;
     let (low, high) = (x.low.as_slice(), x.high.as_slice());
-    Ok(runs_contribution(x.windows.as_mut_slice(), runs, a, b, low, high))
+    Ok(runs_contribution(x.windows.as_mut_slice(), runs, before, after, low, high))
 }
 
 /// The sum of what each amount adds to the next cell, by its low and its high ends. No amount taken
@@ -252,27 +273,28 @@ pub(crate) fn contributions(
     x: &mut ScaledCells,
     amounts: &Amounts,
     reach: usize,
-    a: u64,
-    b: u64,
+    before: u64,
+    after: u64,
 ) -> Result<Ends, AllocError>
     requires in_scale { AreInScale amounts.now.runs.items x.old }
-    requires room { HasRoom a b (part_sum (all_parts amounts.now)) (length x.old.low.items) }
+    requires room { HasRoom before after (part_sum (all_parts amounts.now))
+        (length x.old.low.items) }
     requires amounts { ArePositiveAmounts amounts.now }
     requires reach { All (λ p. p.amount ≤ reach) amounts.now.parts.items }
-    ensures { IfOk result (AreContributions amounts.now a b x.old x.new) }
+    ensures { IfOk result (AreContributions amounts.now before after x.old x.new) }
 {
     let alone = alone(
         &amounts.parts,
         reach,
-        a,
-        b,
+        before,
+        after,
         x.low.as_slice(),
         x.high.as_slice(),
     );
     if amounts.runs.is_empty() {
         return Ok(alone);
     }
-    let together = together(x, &amounts.runs, a, b)?;
+    let together = together(x, &amounts.runs, before, after)?;
     Ok(Ends {
         low: alone.low + together.low,
         high: alone.high + together.high,

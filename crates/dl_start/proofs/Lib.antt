@@ -4,3 +4,4 @@ pub mod Products
 pub mod Beginnings
 pub mod Shares
 pub mod Squares
+pub mod Widths

@@ -1,6 +1,6 @@
 -- Square roots of whole numbers, and of the probability of no claim.
-use Rattle.dl_start.proofs.Common.{◌≡◌, ℕ, suc, ◌+◌, ◌*◌, ◌^◌, ◌<◌, ◌≤◌, inl, inr, cases_lt, arith, sym, ap, ◌∙◌, mul-pos, mul-le-mul, mul-le-mul_right, pow-add, Fraction, ◌over◌, ◌+ℚ◌, ◌*ℚ◌, ◌≤ℚ◌, whole, sum_to, over_le, over_mul, gamma, Holds}
-use Rattle.dl_model.proofs.Roots.{root_least, root_most}
+use Rattle.dl_start.proofs.Common.{◌≡◌, ℕ, zero, suc, ◌+◌, ◌*◌, ◌^◌, ◌<◌, ◌≤◌, inl, inr, cases_lt, arith, sym, ap, subst, ◌∙◌, mul-pos, mul-le-mul, mul-le-mul_right, pow-add, pow-suc, Fraction, ◌over◌, ◌+ℚ◌, ◌*ℚ◌, ◌≤ℚ◌, whole, sum_to, over_le, over_mul, gamma, AtLeast, AtMost, Holds}
+use Rattle.dl_model.proofs.Roots.{none_least, none_most, root_least, root_most}
 
 -- a number whose square is below that of another is below it
 pub le_of_squares : (a b l h : ℕ) → a * a ≤ l → l ≤ h → h ≤ b * b → a ≤ b
@@ -16,27 +16,46 @@ below_top a n T p q = elim (cases_lt a T) [
   | inr more ↦ absurd (omega (arith, p, q, mul-le-mul {n₁ = T} {m₁ = T} {n₂ = a} {m₂ = a} more more))
 ]
 
--- the squares of ends in units of 1 / Q, against ends in units of 1 / P
-module _ (P Q s : ℕ) (Pp : 0 < P) (Qp : 0 < Q) (scales : Q * Q ≡ P * s) where
-  square_low : (a l : ℕ) → a * a ≤ l * s → a over Q *ℚ a over Q ≤ℚ l over P
-  square_low a l h = rw (over_mul a Q a Q Qp Qp) (over_le _ _ _ _ (mul-pos Qp Qp) Pp
-      (omega (arith, mul-le-mul_right P h, ap (λ t. l * t) scales)))
+-- the squares of ends in units of 1 / Q, against the product of ends in units of 1 / P and 1 / R
+module _ (P R Q s : ℕ) (Pp : 0 < P) (Rp : 0 < R) (Qp : 0 < Q) (scales : Q * Q * s ≡ P * R) where
+  square_low : (a k l m : ℕ) → a * a ≤ k → k * s ≤ l * m → a over Q *ℚ a over Q ≤ℚ l over P *ℚ m over R
+  square_low a k l m h p = rw (over_mul a Q a Q Qp Qp, over_mul l P m R Pp Rp)
+      (over_le _ _ _ _ (mul-pos Qp Qp) (mul-pos Pp Rp) (omega (
+        arith,
+        mul-le-mul_right (Q * Q) p,
+        mul-le-mul_right (Q * Q * s) h,
+        ap (λ t. a * a * t) scales,
+      )))
 
-  square_high : (b h : ℕ) → h * s ≤ b * b → h over P ≤ℚ b over Q *ℚ b over Q
-  square_high b h p = rw (over_mul b Q b Q Qp Qp) (over_le _ _ _ _ Pp (mul-pos Qp Qp)
-      (omega (arith, mul-le-mul_right P p, ap (λ t. h * t) scales)))
+  square_high : (b k l m : ℕ) → k ≤ b * b → l * m ≤ k * s → l over P *ℚ m over R ≤ℚ b over Q *ℚ b over Q
+  square_high b k l m h p = rw (over_mul b Q b Q Qp Qp, over_mul l P m R Pp Rp)
+      (over_le _ _ _ _ (mul-pos Pp Rp) (mul-pos Qp Qp) (omega (
+        arith,
+        mul-le-mul_right (Q * Q) p,
+        mul-le-mul_right (Q * Q * s) h,
+        ap (λ t. b * b * t) scales,
+      )))
 
-  -- the root of the probability of no claim of twice a shape
-  pub root_holds : (t c : Fraction) (l h a b : ℕ)
-      → Holds (λ N. whole 1) (λ N. sum_to N (gamma (t +ℚ t) c)) (l over P) (h over P)
-      → a * a ≤ l * s → h * s ≤ b * b → Holds (λ N. whole 1) (λ N. sum_to N (gamma t c)) (a over Q) (b over Q)
-  root_holds t c l h a b H p q = (
-    root_least t c (l over P) (a over Q) H.0 (square_low a l p),
-    root_most t c (h over P) (b over Q) H.1 (square_high b h q),
+  -- the root of the product of the probabilities of no claim of two shapes
+  pub root_holds : (r t u c : Fraction) (l h l' h' j k a b : ℕ) → r +ℚ r ≡ t +ℚ u
+      → Holds (λ N. whole 1) (λ N. sum_to N (gamma t c)) (l over P) (h over P)
+      → Holds (λ N. whole 1) (λ N. sum_to N (gamma u c)) (l' over R) (h' over R)
+      → a * a ≤ j → j * s ≤ l * l' → k ≤ b * b → h * h' ≤ k * s
+      → Holds (λ N. whole 1) (λ N. sum_to N (gamma r c)) (a over Q) (b over Q)
+  root_holds r t u c l h l' h' j k a b e H K p p' q q' = (
+    root_least r c (l over P *ℚ l' over R) (a over Q)
+        (subst (λ z. AtLeast (λ N. whole 1) (λ N. sum_to N (gamma z c)) (l over P *ℚ l' over R)) (sym e)
+        (none_least t u c (l over P) (l' over R) H.0 K.0)) (square_low a j l l' p p'),
+    root_most r c (h over P *ℚ h' over R) (b over Q)
+        (subst (λ z. AtMost (λ N. whole 1) (λ N. sum_to N (gamma z c)) (h over P *ℚ h' over R)) (sym e)
+        (none_most t u c (h over P) (h' over R) H.1 K.1)) (square_high b k h h' q q'),
   )
 
-pub even_scales : (e f : ℕ) → f + f ≡ e + 63 → 2 ^ f * 2 ^ f ≡ 2 ^ e * 2 ^ 63
-even_scales e f h = sym (pow-add 2 f f) ∙ ap (λ t. 2 ^ t) h ∙ pow-add 2 e 63
-
-pub odd_scales : (e f : ℕ) → f + f ≡ e + 62 → 2 ^ f * 2 ^ f ≡ 2 ^ e * 2 ^ 62
-odd_scales e f h = sym (pow-add 2 f f) ∙ ap (λ t. 2 ^ t) h ∙ pow-add 2 e 62
+pub root_scales : (e g f o : ℕ) → o ≤ 1 → f + f + o ≡ e + g → 2 ^ f * 2 ^ f * (o + 1) ≡ 2 ^ e * 2 ^ g
+root_scales e g f zero few h =
+    let same : f + f ≡ e + g = omega (arith, h) in
+    omega (arith, sym (pow-add 2 f f) ∙ ap (λ t. 2 ^ t) same ∙ pow-add 2 e g)
+root_scales e g f (suc zero) few h =
+    let same : suc (f + f) ≡ e + g = omega (arith, h) in
+    omega (arith, pow-suc 2 (f + f), pow-add 2 f f, ap (λ t. 2 ^ t) same ∙ pow-add 2 e g)
+root_scales e g f (suc (suc o)) few h = absurd (omega (arith, few))

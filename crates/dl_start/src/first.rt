@@ -1,7 +1,7 @@
-//! The probability of no claim of Poisson and of gamma counts.
+//! The probability of no claim of Poisson and of geometric counts.
 
 ghost use Rattle.std.specs.Prelude.{◌≡◌, ◌+◌, ◌*◌, ◌^◌, ◌<◌, ◌≤◌};
-ghost use Rattle.dl_limits.specs.Limits.{most_expected, most_shape, admitted_bound};
+ghost use Rattle.dl_limits.specs.Limits.{most_expected, admitted_bound};
 ghost use Rattle.dl_exact.specs.Fraction.{whole, ◌over◌};
 ghost use Rattle.dl_model.specs.Counts.{poisson, gamma};
 ghost use Rattle.dl_start.specs.Start.{HoldsNoClaim};
@@ -72,17 +72,4 @@ pub fn poisson_start(num: u64, den: u64) -> Scaled
         shares *= 2;
     }
     power_of(exponential_start(num, u64::from(shares) * den), shares)
-}
-
-/// Of the gamma count of this shape and mean `num / den`: the power by the shape of that of the
-/// geometric count of the mean over the shape.
-pub fn gamma_start(num: u64, den: u64, shape: u32) -> Scaled
-    requires positive { 0 < den }
-    requires num_small { num < admitted_bound }
-    requires den_small { den < admitted_bound }
-    requires shape_positive { 0 < shape }
-    requires shape_small { shape ≤ most_shape }
-    ensures holds { HoldsNoClaim (gamma (whole shape) (num over (num + shape * den))) result }
-{
-    power_of(geometric_start(num, u64::from(shape) * den), shape)
 }

@@ -3,18 +3,21 @@
 //! Nothing here takes memory.
 //!
 //! `Scaled` is such a number, between two ends. `poisson_start` and `gamma_start` hold that of a
-//! Poisson count and of a gamma count of a whole shape, as powers of that of an equal share of the
-//! count (`holds`); `times` and `power_of` are those of counts added up. `shape_start` holds that
-//! of a gamma count of a shape below 1, by square roots.
+//! Poisson count and of a gamma count of any shape (`holds`): powers of that of an equal share of
+//! the count, and for the part of a shape below its whole part `shape_start`, by square roots,
+//! between ends that are at most 1 / 2^56 apart where the mean is at most 65,536 times the shape
+//! (`narrow`). `times` and `power_of` hold that of counts added up.
 #![tactic(auto)]
 
 mod first;
+mod gamma;
 mod powers;
 mod root;
 mod scaled;
 mod shape;
 
-pub use first::{gamma_start, poisson_start};
+pub use first::poisson_start;
+pub use gamma::gamma_start;
 pub use powers::{power_of, times};
 pub use scaled::Scaled;
 pub use shape::shape_start;

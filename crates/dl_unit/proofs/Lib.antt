@@ -10,3 +10,4 @@ pub mod TrialGrids
 pub mod CountKinds
 pub mod Thinned
 mod Pushed
+pub mod Shapes

@@ -1,9 +1,7 @@
 -- A unit's sum of claims is that of its claims above 0, whose number is thinned.
-use Rattle.dl_unit.proofs.Common.{ℕ, suc, zero, ◌≡◌, ◌≤◌, arith, Fraction, whole, ◌*ℚ◌, poisson, gamma_of, compound, SameCells, compound_of, Poisson, Gamma, Sev, pairs_of, conditioned, probability_of, HasDistribution, thinned_mean, positive, part_of_means}
-use Rattle.dl_exact.proofs.Laws.{whole_pos}
+use Rattle.dl_unit.proofs.Common.{◌≡◌, Fraction, poisson, compound, SameCells, compound_of, Poisson, Sev, pairs_of, conditioned, probability_of, HasDistribution, thinned_mean, positive, part_of_means}
 use Rattle.dl_model.proofs.Alike.{value_sym}
 use Rattle.dl_model.proofs.PoissonThin.{thin_poisson}
-use Rattle.dl_model.proofs.GammaThin.{thin_gamma}
 use Rattle.dl_plan.specs.declared.plan.Unit.{Unit as UnitOfPlan}
 
 pub poisson_whole : (u : UnitOfPlan) (s : Sev) {mean : Fraction} → u.freq ≡ Poisson mean
@@ -12,11 +10,3 @@ pub poisson_whole : (u : UnitOfPlan) (s : Sev) {mean : Fraction} → u.freq ≡ 
 poisson_whole u s {mean} is means =
     rw is (λ y. value_sym _ _ _ _ (thin_poisson mean (probability_of u.sev) (positive u.sev) (probability_of s)
     (part_of_means u.sev s means) y))
-
-pub gamma_whole : (u : UnitOfPlan) (s : Sev) (shape : ℕ) {mean : Fraction} → u.freq ≡ Gamma shape mean → 1 ≤ shape
-    → HasDistribution s (conditioned 0 (pairs_of u.sev))
-    → SameCells (compound (gamma_of (whole shape) (thinned_mean u)) (probability_of s)) (compound_of u.freq u.sev)
-gamma_whole u s zero {mean} is some means = absurd (omega (arith, some))
-gamma_whole u s (suc q) {mean} is some means =
-    rw is (λ y. value_sym _ _ _ _ (thin_gamma (whole (suc q)) mean (probability_of u.sev) (positive u.sev)
-    (probability_of s) (whole_pos (suc q) (omega arith)) (part_of_means u.sev s means) y))

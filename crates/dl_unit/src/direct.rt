@@ -11,6 +11,7 @@ ghost use Rattle.dl_unit.specs.Narrow.{IsNarrowSum};
 
 use crate::unbounded::{gamma_claims, poisson_claims, positive_claims};
 use dl_budget::claims_budget;
+use dl_frac::Frac;
 use dl_grid::Grid;
 use dl_limits::LONG_BITS;
 use dl_plan::{Freq, Sev};
@@ -86,7 +87,7 @@ pub(crate) fn gamma_grid<const B: u32>(
     work: &mut Workspace,
     freq: &Freq,
     sev: &Sev,
-    shape: u32,
+    shape: Frac,
     cells: u32,
 ) -> Result<Grid<B>, AllocError>
     requires size { IsGridSize B cells }

@@ -7,6 +7,7 @@ ghost use Rattle.dl_model.specs.Prelude.{Holds, count_weights};
 ghost use Rattle.dl_plan.specs.Prelude.{expected_count, IsClaimCount, HasPartsOf48Bits, IsNewZero};
 ghost use Rattle.dl_budget.specs.Claims.{none_budget};
 
+use crate::unbounded::gamma_claims;
 use crate::unit::sum_grid;
 use dl_grid::Grid;
 use dl_iv::Iv;
@@ -16,7 +17,8 @@ use std::alloc::{AllocError, Global};
 
 /// The probability of no claim of a count of a valid plan in which it can be changed: cell 0 of
 /// claims of amount 1 alone, on one cell. A claim of the unit's own severity may be 0, so that cell
-/// 0 of the unit's own grid is no bound of it.
+/// 0 of the unit's own grid is no bound of it, and a shape below 1 may have more claims here than
+/// above 0 in the unit: its cell is made without the unit's budget.
 pub fn none_of<const B: u32>(
     alloc: Global,
     work: &mut Workspace,
@@ -31,6 +33,12 @@ pub fn none_of<const B: u32>(
     ensures width { IfOk result (λ none. none.hi - none.lo ≤ none_budget (2 ^ B) freq.now) }
 {
     let sev = Sev::alone(alloc, 1)?;
+    if let Freq::Gamma { shape, mean } = freq {
+        if shape.num() < shape.den() {
+            let grid: Grid<B> = gamma_claims(alloc, work, &sev, *mean, *shape, 1)?;
+            return Ok(grid.at(0));
+        }
+    }
     let grid: Grid<B> = sum_grid(alloc, work, freq, &sev, 1)?;
     Ok(grid.at(0))
 }

@@ -1,7 +1,7 @@
 //! Two ways to the cells of a Poisson or gamma count, which no row of a report tells apart, and the
 //! base of a Poisson count, to nine digits.
 
-ghost use Rattle.std.specs.Prelude.{◌≡◌, ◌<◌, ◌≤◌, IfOk};
+ghost use Rattle.std.specs.Prelude.{◌≡◌, ◌<◌, ◌≤◌, ◌^◌, IfOk};
 ghost use Rattle.dl_exact.specs.Fraction.{whole, ◌over◌, ◌≤ℚ◌};
 ghost use Rattle.dl_plan.specs.Prelude.{probability_of};
 
@@ -13,6 +13,7 @@ use dl_product::Workspace;
 use dl_recursion::{gamma_direct, poisson_direct};
 use dl_unit::{gamma_claims, poisson_claims};
 use std::alloc::{AllocError, Global};
+use std::cmp::Ordering;
 
 /// `num` over `den`.
 fn fraction(num: u32, den: u32) -> Frac
@@ -68,17 +69,19 @@ fn is_met<const B: u32>(one: &Option<Grid<B>>, other: &Grid<B>) -> bool {
     }
 }
 
-/// A mean, as the numerator and the denominator of a fraction of parts up to 4,096, and a shape up
-/// to 10,000.
-type CountOf = (u32, u32, u32);
+/// A mean and a shape, each as the numerator and the denominator of a fraction. Those of the mean
+/// are up to 4,096.
+type CountOf = (u32, u32, u32, u32);
 
 /// The counts of which both ways meet.
-const COUNTS: [CountOf; 5] = [
-    (1, 3, 1),
-    (3, 2, 2),
-    (8, 1, 3),
-    (100, 7, 16),
-    (1000, 1, 100),
+const COUNTS: [CountOf; 7] = [
+    (1, 3, 1, 1),
+    (3, 2, 2, 1),
+    (8, 1, 3, 1),
+    (100, 7, 16, 1),
+    (1000, 1, 100, 1),
+    (2, 1, 100, 9),
+    (7, 2, 16, 25),
 ];
 
 /// Whether sixteen cells of a Poisson count by the recursion at the full mean meet those by
@@ -97,22 +100,35 @@ fn poisson_meets<const B: u32>(alloc: Global, sev: &Sev, mean: Frac) -> Result<b
     Ok(is_met(&direct, &halved))
 }
 
-/// Whether sixteen cells of a gamma count by the recursion at the full mean meet those by shares.
+/// Whether sixteen cells of a gamma count by the recursion at the full mean meet those by the parts
+/// of the shape. The shape is above 0 and below 10,000, and the mean below 65,536 times the shape.
 #[tactic(auto, using(dl_grid::proofs::Sizes::few_at_each_scale))]
 fn gamma_meets<const B: u32>(
     alloc: Global,
     sev: &Sev,
     mean: Frac,
-    shape: u32,
+    shape: Frac,
 ) -> Result<bool, AllocError>
     requires no_zero { probability_of sev.now 0 ≡ whole 0 }
     requires above { 1 ≤ B }
     requires below { B ≤ 56 }
     requires num { mean.num ≤ 4096 }
     requires den { mean.den ≤ 4096 }
-    requires shape_above { 1 ≤ shape }
-    requires shape_below { shape ≤ 10000 }
+    requires shape_num { shape.num < 2 ^ 32 }
+    requires shape_den { shape.den < 2 ^ 32 }
 {
+    if shape.num() == 0 {
+        return Ok(false);
+    }
+    if shape.compare(Frac::whole(10000)) != Ordering::Less {
+        return Ok(false);
+    }
+    let Ok(beta) = mean.div(shape) else {
+        return Ok(false);
+    };
+    if beta.compare(Frac::whole(65536)) != Ordering::Less {
+        return Ok(false);
+    }
     let shared = gamma_claims::<B>(alloc, &mut Workspace::new(alloc), sev, mean, shape, 16)?;
     let direct = gamma_direct::<B>(alloc, sev, shape, mean, 16)?;
     Ok(is_met(&direct, &shared))
@@ -126,7 +142,8 @@ fn both_meet<const B: u32>(alloc: Global, sev: &Sev, of: &CountOf) -> Result<boo
 {
     let mean = fraction(of.0.min(4096), of.1.clamp(1, 4096));
     let poisson = poisson_meets::<B>(alloc, sev, mean)?;
-    let gamma = gamma_meets::<B>(alloc, sev, mean, of.2.clamp(1, 10000))?;
+    let shape = fraction(of.2, of.3.max(1));
+    let gamma = gamma_meets::<B>(alloc, sev, mean, shape)?;
     Ok(poisson && gamma)
 }
 

@@ -1,5 +1,5 @@
 use Rattle.dl_panjer.proofs.Common.{◌≡◌, ◌-◌, ◌≤◌, ◌^◌, eqb, [], ◌∷◌, length, arith, refl, ◌∙◌, not, Iv, low_at, high_at, low_at_front, high_at_front, low_at_pushed, high_at_pushed, low_next, high_next, All-nil, All-push}
-use Rattle.dl_panjer.proofs.Steps.{follows_pushed}
+use Rattle.dl_panjer.proofs.Steps.{follows_pushed, low_next_same, high_next_same}
 use Rattle.dl_panjer.proofs.follow.follow.Goals as goal
 
 pub loop-s-init : goal.loop-s-init
@@ -29,7 +29,10 @@ loop-s-preserved g c =
       start_low = low_at_front list (cell ∷ []) 0 (omega (arith, i.cells, some)) ∙ i.start_low;
       start_high = high_at_front list (cell ∷ []) 0 (omega (arith, i.cells, some)) ∙ i.start_high;
       follows =
-          follows_pushed b c.args.items.now c.args.total c.args.rate list cell c.loop-s.s i.cells some
+          follows_pushed (low_next b c.args.items.now c.args.total c.args.rate)
+          (high_next (2 ^ g.row.B) b c.args.items.now c.args.total c.args.rate)
+          (low_next_same b c.args.items.now c.args.total c.args.rate)
+          (high_next_same (2 ^ g.row.B) b c.args.items.now c.args.total c.args.rate) list cell c.loop-s.s i.cells some
           i.follows low high;
     })
 

@@ -1,4 +1,4 @@
-use Rattle.dl_recursion.proofs.Common.{◌≡◌, ℕ, zero, suc, List, length, ◌+◌, ◌-◌, ◌*◌, ◌/◌, ◌^◌, ◌<◌, ◌≤◌, arith, refl, sym, mul-pos, mul-le-mul, div-mul-le_self, lt-div-mul-add, Fraction, whole, ◌over◌, cell, all_parts, part_at, EncloseScaled, HasGridEnds, IsScaled, pos_of_dvd_of_pos, most_cells, most_shape, weight_at, common_amount, Item}
+use Rattle.dl_recursion.proofs.Common.{◌≡◌, ℕ, zero, suc, List, length, ◌+◌, ◌-◌, ◌*◌, ◌/◌, ◌^◌, ◌<◌, ◌≤◌, arith, refl, sym, mul-pos, div-mul-le_self, lt-div-mul-add, Fraction, whole, ◌over◌, cell, all_parts, part_at, EncloseScaled, HasGridEnds, IsScaled, pos_of_dvd_of_pos, max, weight_at, common_amount, Item}
 use Prim.Native.Nat.{◌∣◌}
 use Rattle.std.proofs.Common.{All, div-le_self, mul-zero}
 use Rattle.dl_grid.specs.Cells.{low_at, high_at}
@@ -9,16 +9,11 @@ use Rattle.dl_plan.proofs.Positive.{amounts_positive}
 use Rattle.dl_model.proofs.WithinOne.{within_one}
 use Rattle.dl_model.proofs.Stretched.{common_divides, multiples_within, multiples_enclose}
 use Rattle.dl_start.proofs.Products.{two_pos}
+use Rattle.dl_recursion.proofs.Contributions.{few_steps}
 use Rattle.dl_recursion.proofs.Units.{chance_scaled}
 use Rattle.dl_recursion.proofs.Top.{follows, ends_enclose}
 use Rattle.dl_recursion.proofs.direct.compound_direct.Goals as goal
 use Rattle.dl_plan.proofs.Means.{severity_total}
-use Rattle.dl_exact.proofs.Parts.{over_num_le}
-use Rattle.std.proofs.Common.{ap}
-
-few_steps : (a b n : ℕ) → a ≤ 1 → b ≤ most_shape → n ≤ most_cells → (a + b) * n < 2 ^ 32
-few_steps a b n p q few =
-    omega (arith, mul-le-mul {n₁ = a + b} {m₁ = n} {n₂ = 10001} {m₂ = 65536} (omega (arith, p, q)) few)
 
 one_factor : (s n : ℕ) → 0 < s → s * n < 2 ^ 64 → n < 2 ^ 64
 one_factor zero n p h = absurd (omega (arith, p))
@@ -45,24 +40,11 @@ module _ (sev : Sev) {items : List Item} {step : ℕ} (is : step ≡ common_amou
       pos_of_dvd_of_pos (step_divides 0 item sev.weighted.some) (amounts_positive sev no_zero 0 item sev.weighted.some)
 
 pub make-requires : goal.make-requires
-make-requires g c = grind (arith, mul-pos c.args.steps.positive (severity_total c.args.sev.now))
+make-requires g c = grind (arith, mul-pos c.args.ratio.positive (severity_total c.args.sev.now))
 
 pub nonzero_div-rows : goal.nonzero_div-rows
 nonzero_div-rows g c =
     omega (arith, step_above c.args.sev.now c.common_amount-step.ensures c.as_slice.ensures c.requires.no_zero)
-
-pub is_within_words-requires-clause-ratio_small : goal.is_within_words-requires-clause-ratio_small
-is_within_words-requires-clause-ratio_small g c =
-    let sev = c.args.sev.now in
-    let s = c.args.steps in
-    let lowest : c.in-Ok.ratio ≡ s.numerator over (s.denominator * sev.total) =
-    rw (c.from.ensures, c.from-2.ensures, c.from-3.ensures) at c.in-Ok.ensures.0 in
-    omega (
-      arith,
-      ap (λ (x : Fraction). x.num) lowest,
-      over_num_le s.numerator (s.denominator * sev.total) (mul-pos s.positive (severity_total sev)),
-      s.numerator_small,
-    )
 
 pub is_within_words-requires-clause-cells_small : goal.is_within_words-requires-clause-cells_small
 is_within_words-requires-clause-cells_small g c =
@@ -81,9 +63,10 @@ amounts_of-requires-clause-room g c =
     let sev = c.args.sev.now in
     let s = c.args.steps in
     let rows = (c.args.cells - 1) / c.common_amount-step.result + 1 in
-    rw (c.num.ensures.part, c.as_slice-2.ensures, sev.weighted.sum)
-    (one_factor ((s.constant + s.inverse) * rows) (c.in-Ok.ratio.num * sev.total)
-    (mul-pos c.args.steps.some (omega arith)) (c.if-not-is_within_words.ensures.factors refl))
+    let most : 0 < max s.before s.after = omega (arith, s.some) in
+    rw (c.num-2.ensures.part, c.as_slice-2.ensures, sev.weighted.sum)
+    (one_factor (max s.before s.after * rows) (c.in-Ok.each.num * sev.total) (mul-pos most (omega arith))
+    (c.if-not-is_within_words.ensures.factors refl))
 
 pub amounts_of-requires-clause-no_zero : goal.amounts_of-requires-clause-no_zero
 amounts_of-requires-clause-no_zero g c = rw c.as_slice-2.ensures (amounts_positive c.args.sev.now c.requires.no_zero)
@@ -95,13 +78,14 @@ first_cells-requires-clause-few g c =
 pub first_cells-requires-clause-room : goal.first_cells-requires-clause-room
 first_cells-requires-clause-room g c = record {
   room = record {
-    steps = few_steps c.args.steps.constant c.args.steps.inverse _ c.args.steps.constant_small c.args.steps.inverse_small
+    steps = few_steps (max c.args.steps.before c.args.steps.after) _
+        (omega (arith, c.args.steps.before_small, c.args.steps.after_small))
         (omega (arith, rows_few c.common_amount-step.result c.args.cells c.requires.size.some, size_few c.requires.size));
-    weights = rw (c.in_ok-amounts.ensures.sum, c.num.ensures.part, c.as_slice-2.ensures, c.args.sev.now.weighted.sum)
+    weights = rw (c.in_ok-amounts.ensures.sum, c.num-2.ensures.part, c.as_slice-2.ensures, c.args.sev.now.weighted.sum)
         (c.if-not-is_within_words.ensures.factors refl);
   };
-  divisor = rw c.den.ensures.part c.in-Ok.ratio.positive;
-  divisors = rw c.den.ensures.part (c.if-not-is_within_words.ensures.divisors refl);
+  divisor = rw c.den-2.ensures.part c.in-Ok.each.positive;
+  divisors = rw c.den-2.ensures.part (c.if-not-is_within_words.ensures.divisors refl);
 }
 
 pub to_grid-requires : goal.to_grid-requires
@@ -117,8 +101,8 @@ returns-clause-encloses g c w P H =
     let sev = c.args.sev.now in
     let f : ℕ → Fraction = probability_of sev in
     let s = c.args.steps in
-    let x = s.numerator over s.denominator in
-    let ratio = c.in-Ok.ratio in
+    let x = c.args.ratio in
+    let each = c.in-Ok.each in
     let step = c.common_amount-step.result in
     let rows = (c.args.cells - 1) / step + 1 in
     let parts = all_parts c.in_ok-amounts.amounts in
@@ -126,17 +110,16 @@ returns-clause-encloses g c w P H =
     let grid = c.in_ok-grid.grid in
     let is : step ≡ common_amount sev.items = rw (← c.as_slice.ensures) c.common_amount-step.ensures in
     let apart : 0 < step = step_above sev is refl c.requires.no_zero in
-    let lowest : ratio ≡ s.numerator over (s.denominator * sev.total) =
-    rw (c.from.ensures, c.from-2.ensures, c.from-3.ensures) at c.in-Ok.ensures.0 in
+    let lowest : each ≡ x.num over (x.den * sev.total) =
+    rw (c.from.ensures, c.from-2.ensures, c.from-3.ensures, c.num.ensures.part, c.den.ensures.part) at c.in-Ok.ensures.0 in
     let smaller : ℕ → Fraction = λ j. f (step * j) in
     let no_zero : smaller 0 ≡ whole 0 = rw mul-zero c.requires.no_zero in
-    let scaled : IsScaled parts c.den.result x smaller = λ j.
-    rw c.den.ensures.part (chance_scaled s.denominator sev.total s.numerator (weight_at sev.items (step * j)) (part_at parts j) ratio
-    c.args.steps.positive (severity_total sev) lowest
-    (rw (← c.num.ensures.part, ← c.as_slice-2.ensures) (c.in_ok-amounts.ensures.each j))) in
+    let scaled : IsScaled parts c.den-2.result x smaller = λ j.
+    rw c.den-2.ensures.part (chance_scaled x sev.total (weight_at sev.items (step * j)) (part_at parts j) each
+    (severity_total sev) lowest (rw (← c.num-2.ensures.part, ← c.as_slice-2.ensures) (c.in_ok-amounts.ensures.each j))) in
     let round : EncloseScaled (λ k. cell w smaller k k) in_scale.shift rows in_scale.low.items in_scale.high.items =
     c.in_ok-x.ensures.round (λ k. cell w smaller k k)
-    (follows smaller w x s.constant s.inverse c.den.result parts no_zero P scaled) in
+    (follows smaller w x s.before s.after c.den-2.result parts no_zero P scaled) in
     let ends : HasGridEnds B c.args.start in_scale.shift step rows in_scale.low.items in_scale.high.items (low_at grid)
     (high_at grid) = rw (← c.in_ok-x.ensures.cells) c.in_ok-grid.ensures.ends in
     rw c.in_ok-grid.ensures.cells (multiples_enclose sev w step (2 ^ B) c.args.cells rows (low_at grid) (high_at grid)

@@ -14,5 +14,5 @@ returns-clause-encloses g c =
     let holds : HoldsNoClaim (poisson v) start =
     rw (c.num.ensures.part, c.den.ensures.part, over_self v) at c.poisson_start-start.ensures.holds in
     IfOk-weaker c.compound_direct.result _ _ (λ made told. IfSome_then made told (λ grid all. all (poisson v)
-    (rw (c.num-2.ensures.part, c.den-2.ensures.part, over_self v) (poisson_steps v)) holds))
+    (poisson_steps v) holds))
     c.compound_direct.ensures.encloses

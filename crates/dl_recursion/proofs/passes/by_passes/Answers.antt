@@ -1,4 +1,4 @@
-use Rattle.dl_recursion.proofs.Common.{◌≡◌, ℕ, suc, ◌+◌, ◌-◌, arith, refl, length, run_parts, Fraction}
+use Rattle.dl_recursion.proofs.Common.{◌≡◌, add-one, sym, ℕ, suc, ◌+◌, arith, refl, length, run_parts, Fraction}
 use Rattle.dl_recursion.specs.Geometric.{only_first}
 use Rattle.dl_recursion.proofs.Geometric.{follows_some, raised_first, raised_next}
 use Rattle.dl_recursion.proofs.passes.by_passes.Goals as goal
@@ -27,14 +27,14 @@ shapes-preserved c =
     let i = c.shapes.invariant in
     let told = c.if-not-raise_all-2.ensures in
     let e : length c.shapes.x.low.items ≡ n = i.cells.cells in
-    let shape : suc (k - 1) ≡ k + 1 - 1 = omega (arith, c.shapes.auto.k) in
+    let shape : suc k ≡ k + 1 = sym (add-one k) in
     record {
       cells = rw e at (told.cells refl);
       shift = omega (arith, c.raise_all-in-shapes.ensures.shift, c.bits_down-down.ensures, i.shift);
       round = λ r F.
-          let before = follows_some parts 1 (k - 1) q c.requires.divisor in
+          let before = follows_some parts 1 k q c.requires.divisor in
           let u : ℕ → Fraction = before.0 in
-          let raised = raised_next parts (k - 1) q u r c.requires.divisor before.1 (rw shape F) in
+          let raised = raised_next parts k q u r c.requires.divisor before.1 (rw shape F) in
           rw e at (told.round refl q u r c.requires.divisor c.in-Some.ensures.factor raised (rw e (i.round u before.1)));
     }
 

@@ -53,10 +53,10 @@ returns c =
     let cells : length y.low.items ≡ length z.low.items = shift_down.cells in
     let windows : AreWindows runs y.low.items y.high.items (length y.low.items) y.windows.items =
     rw cells (shift_down.windows runs (length z.low.items) told.windows) in
-    let lo_sum : c.in_ok-sums.sums.low ≡ sum_by (contribution c.args.a c.args.b x.low.items (suc m)) parts = told.low
-    ∙ ap (λ t. sum_by (contribution c.args.a c.args.b x.low.items t) parts) e in
-    let hi_sum : c.in_ok-sums.sums.high ≡ sum_by (contribution c.args.a c.args.b x.high.items (suc m)) parts = told.high
-    ∙ ap (λ t. sum_by (contribution c.args.a c.args.b x.high.items t) parts) e in
+    let lo_sum : c.in_ok-sums.sums.low ≡ sum_by (contribution c.args.before c.args.after x.low.items (suc m)) parts = told.low
+    ∙ ap (λ t. sum_by (contribution c.args.before c.args.after x.low.items t) parts) e in
+    let hi_sum : c.in_ok-sums.sums.high ≡ sum_by (contribution c.args.before c.args.after x.high.items (suc m)) parts = told.high
+    ∙ ap (λ t. sum_by (contribution c.args.before c.args.after x.high.items t) parts) e in
     let low_pushed : c.push.new.self.items ≡ y.low.items ++ lo ∷ [] = c.in_ok-push.ensures.items in
     let high_pushed : c.push-2.new.self.items ≡ y.high.items ++ hi ∷ [] = c.in_ok-push-2.ensures.items in
     let one_less : length (y.low.items ++ lo ∷ []) - 1 ≡ length y.low.items = omega (arith, len, low_n) in
@@ -82,11 +82,11 @@ returns c =
           rw (told.same.shift, told.same.low, told.same.high) Q in
           let below : whole (c.divided.result.low * 2 ^ z.shift) ≤ℚ whole (2 ^ 61) *ℚ r (suc m) =
           rw (c.divided.ensures.low, told.same.shift)
-          (next_low parts c.args.a c.args.b c.args.q r amounts c.requires.room.divisor F x.shift m x.low.items x.high.items
+          (next_low parts c.args.before c.args.after c.args.q r amounts c.requires.room.divisor F x.shift m x.low.items x.high.items
           Q d _ d_is lo_sum) in
           let above : whole (2 ^ 61) *ℚ r (suc m) ≤ℚ whole (c.divided.result.high * 2 ^ z.shift) =
           rw (c.divided.ensures.high, told.same.shift)
-          (next_high parts c.args.a c.args.b c.args.q r amounts c.requires.room.divisor F x.shift m x.low.items x.high.items
+          (next_high parts c.args.before c.args.after c.args.q r amounts c.requires.room.divisor F x.shift m x.low.items x.high.items
           Q d _ d_is hi_sum) in
           rw (low_pushed, high_pushed, len)
           (pushed r y.shift (suc m) y.low.items y.high.items lo hi low_n high_n (shift_down.round r (suc m) Z)

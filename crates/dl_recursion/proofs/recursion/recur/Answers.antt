@@ -1,6 +1,6 @@
 use Rattle.std.proofs.Math.Nat.{le_of_lt}
 use Rattle.std.proofs.Math.Numerals.{lt-add-one}
-use Rattle.dl_recursion.proofs.Common.{◌≡◌, ◌+◌, ◌-◌, ◌*◌, ◌^◌, ◌≤◌, length, arith, refl, ap, ◌∙◌, mul-pos, flat_map, all_parts, run_parts, Part, part_sum, AreFalling, AreLast}
+use Rattle.dl_recursion.proofs.Common.{◌≡◌, ◌+◌, ◌-◌, ◌*◌, ◌^◌, ◌≤◌, length, arith, max, refl, ap, ◌∙◌, mul-pos, flat_map, all_parts, run_parts, Part, part_sum, AreFalling, AreLast}
 use Rattle.dl_recursion.proofs.Contributions.{share_room, room_before}
 use Rattle.dl_recursion.proofs.Grow.{begun, begun_in_scale, shift_room}
 use Rattle.dl_recursion.proofs.Runs.{all_positive, all_left}
@@ -8,8 +8,8 @@ use Rattle.dl_recursion.proofs.recursion.recur.Goals as goal
 
 pub reach_of-reach-requires-clause-room : goal.reach_of-reach-requires-clause-room
 reach_of-reach-requires-clause-room c =
-    share_room ((c.args.a + c.args.b) * c.args.cells) (part_sum (all_parts c.args.amounts.now)) (2 ^ 64)
-    (mul-pos c.requires.some_step c.requires.some) c.requires.room.room.weights
+    share_room (max c.args.before c.args.after * c.args.cells) (part_sum (all_parts c.args.amounts.now)) (2 ^ 64)
+    (mul-pos (omega (arith, c.requires.some_step)) c.requires.some) c.requires.room.room.weights
 
 pub cells-init : goal.cells-init
 cells-init c =
@@ -88,7 +88,7 @@ returns-then-is_falling c =
     let amounts = c.args.amounts.now in
     let reach = c.reach_of-reach.result in
     let told = c.if-is_falling.ensures in
-    let falling : AreFalling (all_parts amounts) c.args.a c.args.b c.args.q reach.amount (length x.low.items) =
+    let falling : AreFalling (all_parts amounts) c.args.before c.args.after c.args.q reach.amount (length x.low.items) =
     record {
       reach = c.reach_of-reach.ensures.amount;
       falling = rw (← c.reach_of-reach.ensures.weight, i.count) (told.falling refl);
@@ -100,6 +100,6 @@ returns-then-is_falling c =
       shift = omega (arith, i.shift, e.shift, c.cells-test.true);
       sound = e.sound;
       round = λ r F.
-          e.round (all_parts amounts) c.args.a c.args.b c.args.q reach.amount r falling last
+          e.round (all_parts amounts) c.args.before c.args.after c.args.q reach.amount r falling last
           (all_positive amounts c.requires.amounts) c.requires.room.divisor F (i.round r F);
     }

@@ -38,7 +38,7 @@ overflow_add-result c =
       arith,
       rw (c.as_slice.ensures.value, c.deref.ensures.value) at c.alone-alone.ensures.low,
       rw c.deref-2.ensures.value at c.in_ok-together.ensures.low,
-      top c.args.a c.args.b (length x.low.items) x.low.items c.args.amounts.now c.requires.in_scale.sound.low_small c.requires.room,
+      top c.args.before c.args.after (length x.low.items) x.low.items c.args.amounts.now c.requires.in_scale.sound.low_small c.requires.room,
     )
 
 pub overflow_add-result-2 : goal.overflow_add-result-2
@@ -48,7 +48,7 @@ overflow_add-result-2 c =
       arith,
       rw (c.as_slice.ensures.value, c.as_slice-2.ensures.value, c.deref.ensures.value) at c.alone-alone.ensures.high,
       rw c.deref-2.ensures.value at c.in_ok-together.ensures.high,
-      top c.args.a c.args.b (length x.low.items) x.high.items c.args.amounts.now c.requires.in_scale.sound.high_small c.requires.room,
+      top c.args.before c.args.after (length x.low.items) x.high.items c.args.amounts.now c.requires.in_scale.sound.high_small c.requires.room,
     )
 
 pub together-requires-clause-in_scale : goal.together-requires-clause-in_scale
@@ -71,7 +71,7 @@ returns-then-is_empty c =
       high_room = omega (
         arith,
         high,
-        top c.args.a c.args.b (length x.low.items) x.high.items amounts c.requires.in_scale.sound.high_small c.requires.room,
+        top c.args.before c.args.after (length x.low.items) x.high.items amounts c.requires.in_scale.sound.high_small c.requires.room,
       );
       windows = λ k run d l. absurd (omega (arith, l, each, none));
       each_run = each;
@@ -82,8 +82,8 @@ pub returns : goal.returns
 returns c =
     let x = c.args.x.now in
     let amounts = c.args.amounts.now in
-    let a = c.args.a in
-    let b = c.args.b in
+    let a = c.args.before in
+    let b = c.args.after in
     let s = length x.low.items in
     let e = c.in_ok-together.ensures in
     let low = rw (c.as_slice.ensures.value, c.deref.ensures.value) at c.alone-alone.ensures.low in

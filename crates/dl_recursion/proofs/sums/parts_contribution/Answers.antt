@@ -11,17 +11,17 @@ pub loop-part-preserved-then-is_above : goal.loop-part-preserved-then-is_above
 loop-part-preserved-then-is_above g c =
     let above = sym c.is_above.ensures ∙ c.if-is_above.true in
     record {
-      low = next_none c.args.a c.args.b (length c.args.low.now) c.args.low.now c.args.parts.now c.loop-part.part-index
+      low = next_none c.args.before c.args.after (length c.args.low.now) c.args.low.now c.args.parts.now c.loop-part.part-index
           _ c.loop-part-test.true c.loop-part.low_sum c.loop-part.invariant.low above;
-      high = next_none c.args.a c.args.b (length c.args.low.now) c.args.high.now c.args.parts.now c.loop-part.part-index
+      high = next_none c.args.before c.args.after (length c.args.low.now) c.args.high.now c.args.parts.now c.loop-part.part-index
           _ c.loop-part-test.true c.loop-part.high_sum c.loop-part.invariant.high above;
     }
 
 pub loop-part-preserved : goal.loop-part-preserved
 loop-part-preserved g c = record {
-  low = next_added c.args.a c.args.b (length c.args.low.now) c.args.low.now c.args.parts.now c.loop-part.part-index
+  low = next_added c.args.before c.args.after (length c.args.low.now) c.args.low.now c.args.parts.now c.loop-part.part-index
       _ c.loop-part-test.true c.loop-part.low_sum c.loop-part.invariant.low _ c.contribution-low_sum.ensures;
-  high = next_added c.args.a c.args.b (length c.args.low.now) c.args.high.now c.args.parts.now c.loop-part.part-index
+  high = next_added c.args.before c.args.after (length c.args.low.now) c.args.high.now c.args.parts.now c.loop-part.part-index
       _ c.loop-part-test.true c.loop-part.high_sum c.loop-part.invariant.high _ c.contribution-high_sum.ensures;
 }
 
@@ -49,13 +49,13 @@ contribution-high_sum-requires-clause-within g c = is_within _ _ (sym c.is_above
 
 pub overflow_add-low_sum : goal.overflow_add-low_sum
 overflow_add-low_sum g c = record {
-  fits = next_fits c.args.a c.args.b (length c.args.low.now) c.args.low.now c.requires.ends.low_small c.args.parts.now
+  fits = next_fits c.args.before c.args.after (length c.args.low.now) c.args.low.now c.requires.ends.low_small c.args.parts.now
       c.loop-part.part-index _ c.loop-part-test.true c.requires.room.weights c.loop-part.low_sum _ c.loop-part.invariant.low c.contribution-low_sum.ensures;
 }
 
 pub overflow_add-high_sum : goal.overflow_add-high_sum
 overflow_add-high_sum g c = record {
-  fits = next_fits c.args.a c.args.b (length c.args.low.now) c.args.high.now c.requires.ends.high_small c.args.parts.now
+  fits = next_fits c.args.before c.args.after (length c.args.low.now) c.args.high.now c.requires.ends.high_small c.args.parts.now
       c.loop-part.part-index _ c.loop-part-test.true c.requires.room.weights c.loop-part.high_sum _ c.loop-part.invariant.high c.contribution-high_sum.ensures;
 }
 

@@ -29,7 +29,7 @@ run_contribution-low_sum-requires-clause-room c =
 
 pub overflow_add-low_sum : goal.overflow_add-low_sum
 overflow_add-low_sum c = record {
-  fits = lt_of_le_of_lt (run_room c.args.a c.args.b (length c.args.low.now) c.args.low.now c.requires.ends.low_small c.args.runs.now
+  fits = lt_of_le_of_lt (run_room c.args.before c.args.after (length c.args.low.now) c.args.low.now c.requires.ends.low_small c.args.runs.now
       c.loop-i.i _ c.loop-i-test.true c.requires.room.weights c.loop-i.low_sum _ c.loop-i.invariant.low
       c.run_contribution-low_sum.ensures) (omega arith);
 }
@@ -41,7 +41,7 @@ run_contribution-high_sum-requires-clause-room c =
 
 pub overflow_add-high_sum : goal.overflow_add-high_sum
 overflow_add-high_sum c = record {
-  fits = lt_of_le_of_lt (run_room c.args.a c.args.b (length c.args.low.now) c.args.high.now c.requires.ends.high_small c.args.runs.now
+  fits = lt_of_le_of_lt (run_room c.args.before c.args.after (length c.args.low.now) c.args.high.now c.requires.ends.high_small c.args.runs.now
       c.loop-i.i _ c.loop-i-test.true c.requires.room.weights c.loop-i.high_sum _ c.loop-i.invariant.high
       (rw c.requires.ends.alike at c.run_contribution-high_sum.ensures)) (omega arith);
 }
@@ -50,8 +50,8 @@ pub loop-i-preserved : goal.loop-i-preserved
 loop-i-preserved c =
     let i = c.loop-i.invariant in
     let at = c.loop-i.i in
-    let a = c.args.a in
-    let b = c.args.b in
+    let a = c.args.before in
+    let b = c.args.after in
     let low = c.args.low.now in
     let high = c.args.high.now in
     let runs = c.args.runs.now in

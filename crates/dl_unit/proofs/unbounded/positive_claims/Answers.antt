@@ -1,4 +1,4 @@
-use Rattle.dl_unit.proofs.Common.{◌≤◌, sym, ◌∙◌, IfOk-weaker, claims_alone, no_amount_thinned}
+use Rattle.dl_unit.proofs.Common.{sym, ◌∙◌, IfOk-weaker, claims_alone, no_amount_thinned}
 use Rattle.dl_unit.proofs.Positive.{no_parts}
 use Rattle.dl_unit.proofs.unbounded.positive_claims.Goals as goal
 
