@@ -1,6 +1,6 @@
 -- The names that the proofs of this crate cite most, passed on from one place. Declares nothing.
 pub use Rattle.std.proofs.Common.{List, [], ap, ap₂, arith, bytes_eq, drop, get_or, inl, inr, length, refl, rules, subst, suc, sym, take, tests, zero, ℕ, ◌%◌, ◌*◌, ◌++◌, ◌+◌, ◌-◌, ◌/◌, ◌<◌, ◌^◌, ◌∙◌, ◌∷◌, ◌≡◌, ◌≤◌}
-pub use Rattle.std.proofs.Math.Nat.{div-mul_cancel, eq-zero-or-pos, le_of_mul-le-mul_right, le_trans, mod-le, mul-le-mul, mul-le-mul_left, mul-le-mul_right, mul-pos, pow-le-pow_right, pow-suc}
+pub use Rattle.std.proofs.Math.Nat.{div-eq_of_lt, div-mul_cancel, eq-zero-or-pos, le_of_mul-le-mul_right, le_trans, mod-eq_of_lt, mod-le, mul-le-mul, mul-le-mul_left, mul-le-mul_right, mul-pos, pow-le-pow_right, pow-suc}
 pub use Rattle.std.proofs.lemmas.Bool.Decides.{eqb_tells, leb_tells}
 pub use Rattle.std.proofs.lemmas.Grind.{common_steps, div_ceil_times, pow_more}
 pub use Rattle.std.proofs.lemmas.List.{drop-map, get_or-map, length-drop, length-map, length-take, take-map, take_all, take_more}
@@ -10,11 +10,11 @@ pub use Rattle.std.proofs.lemmas.Nat.{pow_pos}
 pub use Rattle.std.specs.Int.{div_ceil}
 pub use Rattle.std.specs.List.{fold, remove, sum_by}
 pub use Rattle.std.specs.Prelude.{All, IfSome, IsSome, MatchOption, None, Option, Some, cond, if◌then◌else◌, ltb, map, unwrap_or, ◌==◌}
-pub use Rattle.dl_exact.proofs.BelowOne.{num_below}
-pub use Rattle.dl_exact.proofs.Laws.{le_div, le_refl, lt_not_le, one_pos, plus_zero, times_le_both, whole_pos}
+pub use Rattle.dl_exact.proofs.BelowOne.{below_one, num_below}
+pub use Rattle.dl_exact.proofs.Laws.{div_le_both, div_times, le_div, le_plus, le_refl, lt_not_le, one_pos, one_times, plus_zero, times_assoc, times_cancel, times_comm, times_le_both, times_le_times, times_pos, whole_pos}
 pub use Rattle.dl_exact.proofs.Lists.{from_there}
 pub use Rattle.dl_exact.proofs.Over.{le_over, over_add, over_div, over_le, over_mul, over_self}
-pub use Rattle.dl_exact.proofs.RoundingLaws.{div_ceil_least, whole_le}
+pub use Rattle.dl_exact.proofs.RoundingLaws.{div_ceil_least, floor_div, le_whole, whole_le}
 pub use Rattle.dl_exact.proofs.Sums.{sum_over_append, sum_over_map}
 pub use Rattle.dl_exact.specs.Fraction.{Fraction, whole, ◌*ℚ◌, ◌+ℚ◌, ◌<ℚ◌}
 unfoldable pub use Rattle.dl_exact.specs.Fraction.{◌/ℚ◌, ◌over◌, ◌≤ℚ◌}
@@ -26,7 +26,7 @@ pub use Rattle.dl_limits.specs.Limits.{IsPlanScale, most_amount, most_cells, mos
 pub use Rattle.dl_plan.proofs.Fits.{given_ok, given_value}
 pub use Rattle.dl_plan.proofs.Means.{admitted_fits}
 pub use Rattle.dl_plan.proofs.ValidUnits.{alone_valid, mean_most, near_in_any, new_zero}
-pub use Rattle.dl_plan.specs.Prelude.{AreFew, CanShare, HasCommonFactor, HasPartsOf48Bits, HorizonPasses, IsAggregate, IsClaimCount, IsHorizon, IsHorizonOf, IsLevel, IsNewZero, IsPoisson, IsUnbounded, IsValid, IsValidUnit, claims_alone, common_denominator, declared_mean, edge, expected_count, expected_of, mean_width, numerator_over, part_width, raised, thinned_mean, thinned_of}
+pub use Rattle.dl_plan.specs.Prelude.{AreFew, CanShare, HasCommonFactor, HasPartsOf48Bits, HorizonPasses, IsGammaCount, IsSomeClaim, IsShape, IsThinnedGamma, IsThinnedTo, IsAggregate, IsClaimCount, IsHorizon, IsHorizonOf, IsLevel, IsNewZero, IsPoisson, IsUnbounded, IsValid, IsValidUnit, claims_alone, common_denominator, declared_mean, edge, expected_count, expected_of, mean_width, numerator_over, part_width, raised, thinned_mean, thinned_of}
 unfoldable pub use Rattle.dl_plan.specs.Prelude.{horizon}
 pub use Rattle.dl_plan.specs.declared.plan.Freq.{Freq}
 pub use Rattle.dl_plan.specs.declared.plan.Freq.TheVariants.{Bernoulli, Binomial, Fixed, Gamma, Poisson, Table}
@@ -35,9 +35,9 @@ pub use Rattle.dl_plan.specs.declared.plan.Unit.{Unit as UnitOfPlan}
 pub use Rattle.dl_plan.specs.declared.settings.Term.{Term}
 pub use Rattle.dl_budget.specs.Asks.{index_of, tail_budget}
 unfoldable pub use Rattle.dl_budget.specs.Asks.{in_digits}
-pub use Rattle.dl_budget.specs.Claims.{claims_budget, none_budget}
+pub use Rattle.dl_budget.specs.Claims.{claims_budget, geometric_spread, none_budget, shape_spread, whole_part, whole_spread}
 unfoldable pub use Rattle.dl_budget.specs.Claims.{count_budget, gamma_budget, poisson_budget}
 pub use Rattle.dl_budget.specs.Halvings.{IsHalvings}
 unfoldable pub use Rattle.dl_budget.specs.Halvings.{halvings, halvings_from}
-pub use Rattle.dl_budget.specs.Sizes.{IsOfUnits, most_budget_of, most_mean_budget_of, operands}
+pub use Rattle.dl_budget.specs.Sizes.{IsGammaOn, IsOfUnits, most_budget_of, most_mean_budget_of, operands}
 pub use Rattle.dl_budget.specs.Units.{after_clause, mean_budget, total_budget, unit_budget, unit_budgets, unit_mean_budget}

@@ -1,6 +1,7 @@
 -- What validity says of a unit by the kind of its count, and its budget.
-use Rattle.dl_budget.proofs.Common.{ℕ, ◌≡◌, ◌+◌, ◌*◌, ◌<◌, ◌≤◌, List, length, arith, inl, inr, refl, sym, ap, ap₂, subst, ◌∙◌, mul-le-mul, most_operands, Fraction, rounded_spread, IsValidUnit, count_budget, poisson_budget, gamma_budget, claims_budget, ◌==◌, if◌then◌else◌, eqb_tells, Freq, Poisson, Gamma, UnitOfPlan, IsUnbounded, IsClaimCount, thinned_mean}
+use Rattle.dl_budget.proofs.Common.{ℕ, ◌≡◌, ◌+◌, ◌*◌, ◌<◌, ◌≤◌, List, length, arith, inl, inr, refl, sym, ap, ap₂, subst, ◌∙◌, mul-le-mul, most_operands, Fraction, rounded_spread, IsValidUnit, count_budget, poisson_budget, gamma_budget, claims_budget, ◌==◌, if◌then◌else◌, eqb_tells, Freq, Poisson, Gamma, UnitOfPlan, IsUnbounded, IsClaimCount, IsGammaOn, IsThinnedGamma, IsThinnedTo, thinned_mean, ◌/ℚ◌}
 use Rattle.dl_plan.specs.declared.item.Item.{Item}
+use Rattle.dl_budget.proofs.Bases.{beta_room}
 
 -- the budget by the count and the items that were read
 pub claims_of : (S K : ℕ) (u : UnitOfPlan) (freq : Freq) (items : List Item) → u.freq ≡ freq → items ≡ u.sev.items
@@ -46,7 +47,7 @@ poisson_value S K u mean m x of_freq of_mean none some =
     ∙ ap (λ t. if t.num == 0 then 0 else poisson_budget S K t) of_mean
     ∙ claims_of S K u (Poisson mean) u.sev.items of_freq refl
 
-pub gamma_value : (S K : ℕ) (u : UnitOfPlan) (shape : ℕ) (mean m : Fraction) (x : ℕ) → u.freq ≡ Gamma shape mean
+pub gamma_value : (S K : ℕ) (u : UnitOfPlan) (shape mean m : Fraction) (x : ℕ) → u.freq ≡ Gamma shape mean
     → m ≡ thinned_mean u
     → (m.num ≡ 0 → x ≡ 0) → (0 < m.num → x ≡ gamma_budget S K shape m) → x ≡ claims_budget S K u
 unfolding count_budget
@@ -54,3 +55,17 @@ gamma_value S K u shape mean m x of_freq of_mean none some =
     where_none m.num x (gamma_budget S K shape m) none some
     ∙ ap (λ t. if t.num == 0 then 0 else gamma_budget S K shape t) of_mean
     ∙ claims_of S K u (Gamma shape mean) u.sev.items of_freq refl
+
+-- a gamma count of a valid unit can be counted with on any grid
+pub gamma_on : (K h : ℕ) (u : UnitOfPlan) (shape mean m : Fraction) → K ≤ 65536 → IsValidUnit h u
+    → u.freq ≡ Gamma shape mean → m ≡ thinned_mean u → IsGammaOn K shape m
+gamma_on K h u shape mean m few valid is same =
+    let thinned : IsThinnedGamma shape (thinned_mean u) =
+    subst (λ f. IsThinnedTo f (thinned_mean u)) is valid.thinned_count in
+    subst (IsGammaOn K shape) (sym same) record {
+      few = few;
+      of_shape = (count_of h u (Gamma shape mean) valid is).shape;
+      within = (valid.thinned (subst IsUnbounded (sym is) tt)).1;
+      beta = thinned.beta;
+      below_one = λ below. beta_room K (thinned_mean u /ℚ shape) few thinned.few;
+    }

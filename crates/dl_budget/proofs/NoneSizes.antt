@@ -1,6 +1,11 @@
 -- How large the budget of the probability of no claim can be: that of claims of amount 1 alone, on one cell.
-use Rattle.dl_budget.proofs.Common.{IsPlanScale, ℕ, zero, suc, ◌≡◌, ◌+◌, ◌*◌, ◌^◌, ◌≤◌, arith, inl, inr, refl, sym, ap, subst, ◌∙◌, div_ceil, mul-le-mul, mul-pos, pow_pos, pow-le-pow_right, most_operands, Fraction, whole, ◌≤ℚ◌, le_over, over_self, one_pos, convolution_spread, power_spread, rounded_spread, IsSizeWithin, pw_one, count_budget, gamma_budget, poisson_budget, ◌/◌, ◌%◌, ◌==◌, if◌then◌else◌, eqb_tells, div_ceil_times, most_none_budget, Freq, Fixed, Table, Bernoulli, Binomial, Poisson, Gamma, IsClaimCount, IsNewZero, pw_none, pw_even, pw_odd, halvings, none_budget}
-use Rattle.dl_budget.proofs.Bases.{gamma_base, gamma_parts}
+use Rattle.dl_budget.proofs.Common.{IsPlanScale, ℕ, zero, suc, ◌≡◌, ◌+◌, ◌*◌, ◌^◌, ◌≤◌, arith, inl, inr, refl, sym, ap, subst, ◌∙◌, mul-le-mul, pow_pos, pow-le-pow_right, most_operands, Fraction, whole, ◌≤ℚ◌, over_div, div_le_both, div_times, le_plus, le_refl, one_times, times_le_both, below_one, one_pos, convolution_spread, power_spread, rounded_spread, IsSizeWithin, pw_one, count_budget, gamma_budget, poisson_budget, eq-zero-or-pos, ◌/◌, ◌%◌, ◌==◌, if◌then◌else◌, eqb_tells, most_none_budget, Freq, Fixed, Table, Bernoulli, Binomial, Poisson, Gamma, IsClaimCount, IsGammaCount, IsGammaOn, IsNewZero, geometric_spread, shape_spread, whole_part, pw_none, pw_even, pw_odd, halvings, none_budget}
+use Rattle.std.proofs.Common.{subst₂}
+use Rattle.std.proofs.lemmas.Bool.{cases_lt}
+use Rattle.dl_exact.proofs.Denominators.{over_pos}
+use Rattle.dl_exact.proofs.Laws.{le_of_eq, le_trans, lt_of_lt_of_le, plus_comm, times_le_cancel, times_one}
+use Rattle.dl_exact.specs.Fraction.{◌+ℚ◌, ◌*ℚ◌, ◌/ℚ◌, ◌<ℚ◌, ◌over◌}
+use Rattle.dl_budget.proofs.Bases.{base_within, both_size, budget_below, budget_both, budget_whole, one_within, powers_within, whole_few, whole_some}
 use Rattle.dl_budget.proofs.HalvingLaws.{first_below_14}
 use Rattle.dl_budget.proofs.SizeLaws.{room_below, size_least, square_size, odd_size, spread_near, far_below}
 
@@ -71,22 +76,73 @@ poisson_small B mean e within =
     let bound = pw_near B 1 136 (2 ^ h) (139 * 2 ^ 13) e (pow_pos h) (omega (arith, power)) (omega arith) in
     omega arith
 
-gamma_small : (B shape : ℕ) (mean : Fraction) → IsPlanScale B → 1 ≤ shape → shape ≤ 10000 → mean ≤ℚ whole 4096
-    → gamma_budget (2 ^ B) 1 shape mean ≤ most_none_budget
-unfolding gamma_budget rounded_spread
-gamma_small B r m e some most within =
-    let w : ℕ = m.den * r in
-    let P : ℕ = 5 * (w + m.num) in
-    let cross : m.num * 1 ≤ 4096 * m.den = le_over m.num m.den 4096 1 m.positive one_pos
-    (subst (λ x. x ≤ℚ whole 4096) (sym (over_self m)) within) in
-    let above : div_ceil P w * w ≤ P + w = omega (arith, (div_ceil_times P w (mul-pos m.positive some)).1) in
-    let power : r * div_ceil P w ≤ 5 * (r + 4096) + r =
-    gamma_parts 5 r m.den m.num (div_ceil P w) m.positive (omega (arith, cross)) above in
+-- of a gamma count of a shape below 1 that can be changed, the mean over the shape is at most 65,536
+pub none_beta : (r v : Fraction) → whole 0 <ℚ r → v ≤ℚ whole 4096 → 1 over 16 ≤ℚ r *ℚ (v /ℚ (r +ℚ v))
+    → v /ℚ r ≤ℚ whole 65536
+none_beta r v above within some =
+    let sum : whole 0 <ℚ r +ℚ v = lt_of_lt_of_le _ _ _ above (le_plus r v) in
+    let less : v ≤ℚ r +ℚ v = subst (λ t. v ≤ℚ t) (plus_comm v r) (le_plus v r) in
+    let part : v /ℚ (r +ℚ v) ≤ℚ whole 1 = times_le_cancel _ _ (r +ℚ v) sum
+    (subst₂ (λ s t. s ≤ℚ t) (sym (div_times v (r +ℚ v) sum)) (sym (one_times (r +ℚ v))) less) in
+    let least : 1 over 16 ≤ℚ r =
+    le_trans _ _ _ some
+    (subst (λ t. r *ℚ (v /ℚ (r +ℚ v)) ≤ℚ t) (times_one r) (times_le_both r r _ _ (le_refl r) part)) in
+    le_trans _ _ _ (div_le_both v (whole 4096) r (1 over 16) (over_pos 1 16 (omega arith) (omega arith)) within least)
+    (le_of_eq _ _ (over_div 4096 1 1 16 one_pos (omega arith) one_pos))
+
+none_base : (shape mean p : Fraction) → IsGammaCount shape mean → IsNewZero (Gamma shape mean) p → shape <ℚ whole 1
+    → shape_spread 1 (mean /ℚ shape) ≤ 8 * 65537 + 1
+none_base shape mean p count z below =
     omega (
       arith,
-      ap (λ b. power_spread (2 ^ B) 1 b r) (gamma_base 5 r m some),
-      pw_near B 1 (div_ceil P w) r 110480 e some (omega (arith, power, most)) (omega arith),
+      base_within 8 65536 1 (mean /ℚ shape)
+          (subst (λ x. x ≤ℚ whole 65536) (sym (one_times (mean /ℚ shape)))
+          (none_beta shape mean count.shape.above z.most (z.some below))),
     )
+
+-- it can be counted with on one cell
+pub none_on : (shape mean p : Fraction) → IsGammaCount shape mean → IsNewZero (Gamma shape mean) p
+    → IsGammaOn 1 shape mean
+none_on shape mean p count z = record {
+  few = omega arith;
+  of_shape = count.shape;
+  within = z.most;
+  beta = count.beta;
+  below_one = λ below. omega (arith, none_base shape mean p count z below);
+}
+
+-- a shape of at least 1
+module _ (B : ℕ) (r m : Fraction) (e : IsPlanScale B) (on : IsGammaOn 1 r m) (some : 1 ≤ whole_part r) where
+  room : whole_part r * rounded_spread 1 0 (geometric_spread 1 (m /ℚ r)) ≤ 110480
+  unfolding rounded_spread
+  room = omega (arith, base_within 5 4096 (whole_part r) (m /ℚ r) (powers_within 1 r m on), whole_few r on.of_shape)
+
+  rest : rounded_spread 1 0 (shape_spread 1 (m /ℚ r)) ≤ 32780
+  unfolding rounded_spread
+  rest = omega (arith, base_within 8 4096 1 (m /ℚ r) (one_within 1 r m on some))
+
+  whole_small : gamma_budget (2 ^ B) 1 r m ≤ most_none_budget
+  whole_small = elim (eq-zero-or-pos (r.num % r.den)) [
+    | inl none ↦ rw (budget_whole (2 ^ B) 1 r m none)
+        (omega (arith, pw_near B 1 (geometric_spread 1 (m /ℚ r)) (whole_part r) 110480 e some room (omega arith)))
+    | inr part ↦ rw (budget_both (2 ^ B) 1 r m part some)
+        (omega (
+          arith,
+          spread_near 63 (2 ^ B) 1 0 _ _ (pow_pos B) (far_below B _ e (omega (arith, room, rest)))
+              (both_size B 1 r m _ _ _ e on some (pw_size B 1 (geometric_spread 1 (m /ℚ r)) (whole_part r) (whole_part r) e
+              (omega arith) some (omega (arith, room))) refl refl),
+          room,
+          rest,
+        ))
+  ]
+
+gamma_small : (B : ℕ) (shape mean p : Fraction) → IsPlanScale B → IsGammaCount shape mean
+    → IsNewZero (Gamma shape mean) p → gamma_budget (2 ^ B) 1 shape mean ≤ most_none_budget
+gamma_small B r m p e count z = elim (cases_lt r.num r.den) [
+  | inl below ↦ rw (budget_below (2 ^ B) 1 r m count.shape.above below)
+      (omega (arith, none_base r m p count z (below_one r below)))
+  | inr least ↦ whole_small B r m e (none_on r m p count z) (whole_some r least)
+]
 
 -- 0 where n is 0
 none_or : (n x most : ℕ) → x ≤ most → (if n == 0 then 0 else x) ≤ most
@@ -105,7 +161,7 @@ none_small B (Bernoulli q) p e count z = omega arith
 none_small B (Binomial trials q) p e count z = trials_small B 6 trials e (omega arith) count.0
 none_small B (Poisson mean) p e count z = none_or mean.num _ most_none_budget (poisson_small B mean e z.most)
 none_small B (Gamma shape mean) p e count z =
-    none_or mean.num _ most_none_budget (gamma_small B shape mean e count.0 count.1 z.most)
+    none_or mean.num _ most_none_budget (gamma_small B shape mean p e count z)
 
 pub none_within : (B : ℕ) (freq : Freq) (x : ℕ) → IsPlanScale B → IsClaimCount freq → (p : Fraction) × IsNewZero freq p
     → x ≡ none_budget (2 ^ B) freq → x ≤ most_none_budget

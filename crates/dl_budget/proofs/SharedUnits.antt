@@ -1,14 +1,15 @@
--- The claims above 0 of units that share a factor: their sum, the same for the next shape, and the budget of a joint mean.
+-- The claims above 0 of units that share a factor: their sum, the same for the next shape, and the budget of a joint
+-- mean.
 use Rattle.std.specs.Prelude.{Bool, true, false}
-use Rattle.dl_budget.proofs.Common.{ℕ, suc, if◌then◌else◌, ◌==◌, ◌≡◌, ◌+◌, ◌-◌, ◌*◌, ◌^◌, ◌<◌, ◌≤◌, List, [], ◌∷◌, length, get_or, take, arith, refl, sym, ap, ap₂, subst, ◌∙◌, take_all, Fraction, whole, ◌over◌, ◌≤ℚ◌, over_self, one_pos, le_over, div_ceil, div_ceil_times, div_ceil_least, mul-pos, mul-le-mul, mul-le-mul_right, up, IsValidUnit, take_more, get_or-map, All, most_claims_budget, most_expected, most_plan_cells, ◌+ℚ◌, ◌*ℚ◌, ◌<ℚ◌, le_div, le_refl, lt_not_le, plus_zero, times_le_both, whole_pos, whole_le, sum_over_append, UnitOfPlan, Plan, IsUnbounded, HasPartsOf48Bits, thinned_mean, IsValid, CanShare, Some, HasCommonFactor, FitsFrac, admitted_fits, expected_of, raised, thinned_of}
+use Rattle.dl_budget.proofs.Common.{ℕ, if◌then◌else◌, ◌==◌, ◌≡◌, ◌+◌, ◌-◌, ◌*◌, ◌^◌, ◌<◌, ◌≤◌, List, [], ◌∷◌, length, get_or, take, arith, refl, sym, ap, ap₂, subst, ◌∙◌, Fraction, whole, ◌≤ℚ◌, over_self, one_pos, le_over, div_ceil, div_ceil_times, div_ceil_least, mul-le-mul, mul-le-mul_right, up, IsValidUnit, take_more, get_or-map, All, most_claims_budget, most_expected, most_plan_cells, ◌+ℚ◌, ◌*ℚ◌, ◌<ℚ◌, le_div, le_refl, lt_not_le, plus_zero, times_le_both, whole_le, sum_over_append, UnitOfPlan, Plan, IsUnbounded, HasPartsOf48Bits, thinned_mean, IsValid, CanShare, Some, HasCommonFactor, FitsFrac, admitted_fits, expected_of, raised, thinned_of, ◌/ℚ◌, ◌%◌, div_le_both, div_times, le_plus, times_cancel, IsGammaOn, convolution_spread, shape_spread, whole_part, whole_spread}
 unfoldable use Rattle.dl_exact.specs.Sum.{sum_over}
-use Rattle.dl_exact.proofs.Laws.{le_trans}
+use Rattle.dl_exact.proofs.Laws.{le_trans, plus_comm, times_one}
+use Rattle.dl_exact.proofs.Orders.{times_right_comm}
 use Rattle.dl_plan.proofs.Shared.{poisson_unbounded}
-use Rattle.dl_plan.proofs.Raised.{raised_parts}
-use Rattle.dl_budget.proofs.Bases.{gamma_base}
+use Rattle.dl_budget.proofs.Bases.{base_parts, beta_room}
 use Rattle.dl_budget.proofs.Sums.{read_unit}
 use Rattle.dl_budget.specs.Asks.{joint_by}
-use Rattle.dl_grid.proofs.WidthLaws.{pw_rises}
+use Rattle.dl_grid.proofs.WidthLaws.{cv_rises, pw_rises}
 use Rattle.dl_budget.specs.Claims.{gamma_budget}
 use Rattle.dl_budget.specs.Shared.{raised_budget, shape_budget, shared_joint_budget, thinned_at}
 
@@ -46,45 +47,88 @@ unfolding sum_over
 some_unit [] some = absurd (lt_not_le (whole 0) (whole 0) some (le_refl (whole 0)))
 some_unit (u ∷ us) some = omega arith
 
-pub sum_admitted : (r : ℕ) (units : List UnitOfPlan) → HasCommonFactor r units → HasPartsOf48Bits (thinned_of units)
-sum_admitted r units factor =
-    subst (λ us. HasPartsOf48Bits (thinned_of us)) (take_all (length units) units (omega arith))
-    (factor.thinned (length units) (some_unit units factor.some) (omega arith))
+-- ---- the one gamma count in the place of the units, and that of the next shape
 
--- raising makes no less
-raised_more : (r : ℕ) (h : Fraction) → 0 < r → h ≤ℚ raised r h
-raised_more r h above =
-    le_div h (whole r) (h *ℚ whole (suc r)) (whole_pos r above)
-    (times_le_both h h _ _ (le_refl h) (whole_le r (suc r) (omega arith)))
+-- raising makes no less, and no less than a part for each 1 of the shape
+raised_more : (r x : Fraction) → whole 0 <ℚ r → x ≤ℚ raised r x
+raised_more r x above = le_div x r (x *ℚ (r +ℚ whole 1)) above (times_le_both x x r _ (le_refl x) (le_plus r (whole 1)))
 
-pub sum_few : (r : ℕ) (units : List UnitOfPlan) → HasCommonFactor r units → thinned_of units ≤ℚ whole most_expected
-sum_few r units factor = le_trans _ _ _ (raised_more r (thinned_of units) factor.some_shape) factor.few
+raised_parts : (r x : Fraction) → whole 0 <ℚ r → x /ℚ r ≤ℚ raised r x
+raised_parts r x above =
+    let one : whole 1 ≤ℚ r +ℚ whole 1 = subst (λ t. whole 1 ≤ℚ t) (plus_comm (whole 1) r) (le_plus (whole 1) r) in
+    div_le_both x (x *ℚ (r +ℚ whole 1)) r r above
+    (subst (λ t. t ≤ℚ x *ℚ (r +ℚ whole 1)) (times_one x) (times_le_both x x _ _ (le_refl x) one)) (le_refl r)
+
+-- the next shape has as many for each 1 of it
+raised_beta : (r x : Fraction) → whole 0 <ℚ r → whole 0 <ℚ r +ℚ whole 1 → raised r x /ℚ (r +ℚ whole 1) ≡ x /ℚ r
+raised_beta r x above next =
+    times_cancel _ _ (r +ℚ whole 1) next
+    (div_times (raised r x) (r +ℚ whole 1) next
+    ∙ times_cancel _ _ r above (div_times (x *ℚ (r +ℚ whole 1)) r above
+    ∙ sym (times_right_comm (x /ℚ r) (r +ℚ whole 1) r ∙ ap (λ t. t *ℚ (r +ℚ whole 1)) (div_times x r above))))
+
+module _ (K : ℕ) (r : Fraction) (units : List UnitOfPlan) (few : K ≤ 65536) (factor : HasCommonFactor r units) where
+  -- the one unit's count can be counted with
+  pub shared_on : IsGammaOn K r (thinned_of units)
+  shared_on = record {
+    few = few;
+    of_shape = factor.shape;
+    within = le_trans _ _ _ (raised_more r (thinned_of units) factor.shape.above) factor.few;
+    beta = factor.thinned_beta;
+    below_one = λ below. beta_room K (thinned_of units /ℚ r) few
+        (le_trans _ _ _ (raised_parts r (thinned_of units) factor.shape.above)
+        (le_trans _ _ _ factor.few (whole_le 4096 32768 (omega arith))));
+  }
+
+  -- and so can that of the next shape
+  pub raised_on : IsGammaOn K (r +ℚ whole 1) (raised r (thinned_of units))
+  raised_on = record {
+    few = few;
+    of_shape = factor.next_shape;
+    within = factor.few;
+    beta = subst FitsFrac (sym (raised_beta r (thinned_of units) factor.shape.above factor.next_shape.above))
+        factor.thinned_beta;
+    below_one = λ below. absurd (lt_not_le (r +ℚ whole 1) (whole 1) below
+        (subst (λ t. whole 1 ≤ℚ t) (plus_comm (whole 1) r) (le_plus (whole 1) r)));
+  }
 
 -- ---- fewer cells
 
 ceil_rises : (m n d : ℕ) → 0 < d → m ≤ n → div_ceil m d ≤ div_ceil n d
 ceil_rises m n d pos h = div_ceil_least m d (div_ceil n d) pos (omega (arith, h, (div_ceil_times n d pos).0))
 
-gamma_rises : (S k l shape : ℕ) (m : Fraction) → 0 < S → 0 < shape → k ≤ l
-    → gamma_budget S k shape m ≤ gamma_budget S l shape m
+base_rises : (a b : ℕ) (beta : Fraction) → a ≤ b → up (whole a *ℚ (whole 1 +ℚ beta)) ≤ up (whole b *ℚ (whole 1 +ℚ beta))
+base_rises a b beta h = rw (base_parts a beta, base_parts b beta)
+    (ceil_rises _ _ _ beta.positive (mul-le-mul_right (beta.den + beta.num) h))
+
+gamma_rises : (S k l : ℕ) (shape m : Fraction) → 0 < S → k ≤ l → gamma_budget S k shape m ≤ gamma_budget S l shape m
 unfolding gamma_budget
-gamma_rises S k l shape m pos some h =
-    pw_rises S k l _ _ shape pos h (rw (gamma_base (4 * k + 1) shape m some, gamma_base (4 * l + 1) shape m some)
-    (ceil_rises _ _ _ (mul-pos m.positive some) (mul-le-mul_right (m.den * shape + m.num) (omega (arith, h)))))
+gamma_rises S k l shape m pos h = by (shape.num % shape.den == 0) (whole_part shape == 0)
+  where
+    whole_rises : whole_spread S k shape (m /ℚ shape) ≤ whole_spread S l shape (m /ℚ shape)
+    whole_rises = pw_rises S k l _ _ (whole_part shape) pos h
+        (base_rises (4 * k + 1) (4 * l + 1) (m /ℚ shape) (omega (arith, h)))
+
+    rest_rises : shape_spread k (m /ℚ shape) ≤ shape_spread l (m /ℚ shape)
+    rest_rises = base_rises (6 * k + 2) (6 * l + 2) (m /ℚ shape) (omega (arith, h))
+
+    by : (none below : Bool)
+        → (if none then whole_spread S k shape (m /ℚ shape) else if below then shape_spread k (m /ℚ shape)
+        else convolution_spread S k (whole_spread S k shape (m /ℚ shape)) (shape_spread k (m /ℚ shape)))
+        ≤ (if none then whole_spread S l shape (m /ℚ shape) else if below then shape_spread l (m /ℚ shape)
+        else convolution_spread S l (whole_spread S l shape (m /ℚ shape)) (shape_spread l (m /ℚ shape)))
+    by true below = whole_rises
+    by false true = rest_rises
+    by false false = cv_rises S k l _ _ _ _ pos h whole_rises rest_rises
 
 -- on fewer cells the budget of a shape is no more
-pub shape_rises : (S k l shape : ℕ) (thinned : Fraction) → 0 < S → 0 < shape → k ≤ l
+pub shape_rises : (S k l : ℕ) (shape thinned : Fraction) → 0 < S → k ≤ l
     → shape_budget S k shape thinned ≤ shape_budget S l shape thinned
-shape_rises S k l shape thinned pos some h = by (thinned.num == 0)
+shape_rises S k l shape thinned pos h = by (thinned.num == 0)
   where
     by : (none : Bool) → (if none then 0 else gamma_budget S k shape thinned) ≤ (if none then 0 else gamma_budget S l shape thinned)
     by true = omega arith
-    by false = gamma_rises S k l shape thinned pos some h
-
--- ---- the next shape
-
-pub raised_is : (n d r : ℕ) (x : Fraction) → n ≡ x.num → d ≡ x.den → 0 < r → (n * (r + 1)) over (d * r) ≡ raised r x
-raised_is n d r x num den above = raised_parts n d r r x x num den refl refl above
+    by false = gamma_rises S k l shape thinned pos h
 
 -- ---- a joint mean
 
@@ -123,7 +167,7 @@ pub read_valid : (plan : Plan) (units : List UnitOfPlan) → IsValid plan → un
 read_valid plan units valid is = (plan.cells, subst (All (IsValidUnit plan.cells)) (sym is) valid.units)
 
 -- those of a plan whose units share a factor
-module _ (plan : Plan) (r : ℕ) (valid : IsValid plan) (common : plan.common ≡ Some r) (units : List UnitOfPlan)
+module _ (plan : Plan) (r : Fraction) (valid : IsValid plan) (common : plan.common ≡ Some r) (units : List UnitOfPlan)
     (same : units ≡ plan.units) where
   pub factor_of : HasCommonFactor r units
   factor_of = subst (HasCommonFactor r) (sym same) (rw common at valid.common)

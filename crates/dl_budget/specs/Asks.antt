@@ -30,7 +30,7 @@ named_units units asks = map (λ asked. named_unit units asked.ask) asks
 
 -- the share of unit i in the total: of independent units all of its outcomes beside all of those of
 -- the others, on each cell; of units that share a factor, all of its claims beside the raised unit
-abbrev pub joint_by : Option ℕ → (S : ℕ) → Plan → ℕ → ℕ
+abbrev pub joint_by : Option Fraction → (S : ℕ) → Plan → ℕ → ℕ
 joint_by None S plan i = plan.cells * convolution_spread S plan.cells
     (get_or (unit_budgets S plan.cells plan.units) i 0) (others_budget S plan i)
 joint_by (Some r) S plan i = shared_joint_budget plan.cells
@@ -69,7 +69,7 @@ cotail_budget S plan i p = up
 
 -- that of the same at every quantile, before it is divided by 1 - p: from the widths of the unit's
 -- mean, of its joint means and of the total; under a common factor its mean is exact but for its ends
-abbrev pub undivided_by : Option ℕ → (S : ℕ) → Plan → ℕ → ℕ
+abbrev pub undivided_by : Option Fraction → (S : ℕ) → Plan → ℕ → ℕ
 undivided_by None S plan i = get_or (map (unit_mean_budget S plan.cells) plan.units) i 0
     + 4 * joint_budget S plan i + 6 * (plan.cells * total_budget S plan) + 8 * plan.cells + 4
 undivided_by (Some r) S plan i = 1

@@ -31,7 +31,7 @@ unit_budgets S cells units = map (unit_budget S cells) units
 
 -- the budget of the total of units, where they are independent, or where they share a factor of
 -- shape r
-abbrev pub total_by : Option ℕ → (S cells : ℕ) → List UnitOfPlan → ℕ
+abbrev pub total_by : Option Fraction → (S cells : ℕ) → List UnitOfPlan → ℕ
 total_by None S cells units = sum_spread S cells (unit_budgets S cells units)
 total_by (Some r) S cells units = pooled_budget S cells r units
 
@@ -54,7 +54,7 @@ unit_mean_budget S cells u = mean_after_zero u.zero (up (declared_mean u)) (none
     (mean_width u.cede (claims_budget S (horizon u.cede cells) u))
 
 -- that of the mean of the total of units; of units that share a factor it is exact but for its ends
-abbrev pub mean_by : Option ℕ → (S cells : ℕ) → List UnitOfPlan → ℕ
+abbrev pub mean_by : Option Fraction → (S cells : ℕ) → List UnitOfPlan → ℕ
 mean_by None S cells units = sum_by (unit_mean_budget S cells) units
 mean_by (Some r) S cells units = 1
 

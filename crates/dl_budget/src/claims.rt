@@ -1,12 +1,14 @@
 //! The budget of the sum of a unit's claims, by the kind of its count.
 
 ghost use Rattle.std.specs.Prelude.{ℕ, ◌≡◌, ◌+◌, ◌*◌, ◌^◌, ◌≤◌, ◌<◌, All};
-ghost use Rattle.dl_limits.specs.Limits.{IsPlanScale, most_cells, most_claims_budget, most_expected, most_none_budget, most_shape};
-ghost use Rattle.dl_exact.specs.Fraction.{Fraction, whole, ◌<ℚ◌, ◌≤ℚ◌};
+ghost use Rattle.dl_limits.specs.Limits.{IsPlanScale, most_cells, most_claims_budget, most_expected, most_none_budget};
+ghost use Rattle.dl_exact.specs.Fraction.{Fraction, whole, ◌+ℚ◌, ◌*ℚ◌, ◌<ℚ◌, ◌≤ℚ◌};
+ghost use Rattle.dl_grid.specs.Width.{up};
 ghost use Rattle.dl_plan.specs.Prelude.{HasPartsOf48Bits, expected_count, IsClaimCount, claims_alone, IsNewZero, IsValidUnit};
 ghost use Rattle.dl_budget.specs.Claims.{poisson_budget, gamma_budget, claims_budget, none_budget};
+ghost use Rattle.dl_budget.specs.Sizes.{IsGammaOn};
 
-use crate::steps::{doubled, halvings, listed, power_spread};
+use crate::steps::{convolution_spread, doubled, halvings, listed, power_spread};
 use dl_frac::Frac;
 use dl_plan::{Freq, Sev, greatest_amount};
 
@@ -76,14 +78,19 @@ fn poisson_budget<const B: u32>(mean: Frac, cells: u32) -> u128
     doubled::<B>(cells, 8 * cells as u128 + 128, halvings(mean))
 }
 
+/// The spread of a base of a gamma count: `steps` times `1 + beta`, rounded up.
+fn base_spread(steps: u128, beta: Frac) -> u128
+    requires few { steps ≤ 6 * most_cells + 2 }
+    ensures { result ≡ up (whole steps *ℚ (whole 1 +ℚ beta)) }
+{
+    let parts = steps * (beta.den() as u128 + beta.num() as u128);
+    parts.div_ceil(beta.den() as u128)
+}
+
 /// The budget of a gamma count of this shape and thinned mean.
-pub(crate) fn gamma_budget<const B: u32>(mean: Frac, shape: u32, cells: u32) -> u128
+pub(crate) fn gamma_budget<const B: u32>(mean: Frac, shape: Frac, cells: u32) -> u128
     requires scale { IsPlanScale B }
-    requires within { mean ≤ℚ whole most_expected }
-    requires admitted { HasPartsOf48Bits mean }
-    requires some { 1 ≤ shape }
-    requires most { shape ≤ most_shape }
-    requires few { cells ≤ most_cells }
+    requires count { IsGammaOn cells shape mean }
     ensures none { mean.num ≡ 0 → result ≡ 0 }
     ensures value { 0 < mean.num → result ≡ gamma_budget (2 ^ B) cells shape mean }
     ensures small { result ≤ most_claims_budget }
@@ -91,7 +98,15 @@ pub(crate) fn gamma_budget<const B: u32>(mean: Frac, shape: u32, cells: u32) -> 
     if mean.num() == 0 {
         return 0;
     }
-    let whole = mean.den() as u128 * shape as u128;
-    let parts = (4 * cells as u128 + 1) * (whole + mean.num() as u128);
-    power_spread::<B>(cells, parts.div_ceil(whole), shape)
+    let beta = mean.div(shape).unwrap();
+    let rest = base_spread(6 * cells as u128 + 2, beta);
+    if shape.num() < shape.den() {
+        return rest;
+    }
+    let base = base_spread(4 * cells as u128 + 1, beta);
+    let whole = power_spread::<B>(cells, base, (shape.num() / shape.den()) as u32);
+    if shape.num() % shape.den() == 0 {
+        return whole;
+    }
+    convolution_spread::<B>(cells, whole, rest)
 }

@@ -1,18 +1,19 @@
 //! The budgets of units that share a factor.
 
 ghost use Rattle.std.specs.Prelude.{ℕ, ◌≡◌, ◌^◌, ◌<◌, ◌≤◌, All};
-ghost use Rattle.dl_limits.specs.Limits.{IsPlanScale, budget_bound, most_claims_budget, most_plan_cells, most_shape, most_joint_budget};
-ghost use Rattle.dl_plan.specs.Prelude.{HasPartsOf48Bits, thinned_mean, IsUnbounded, IsValidUnit, HasCommonFactor, raised, thinned_of};
+ghost use Rattle.dl_limits.specs.Limits.{IsPlanScale, budget_bound, most_claims_budget, most_plan_cells, most_joint_budget};
+ghost use Rattle.dl_exact.specs.Fraction.{Fraction};
+ghost use Rattle.dl_plan.specs.Prelude.{thinned_mean, IsUnbounded, IsValidUnit, HasCommonFactor, thinned_of};
 ghost use Rattle.dl_budget.specs.Shared.{raised_budget, shared_joint_budget};
 
 use crate::claims::gamma_budget;
 use dl_frac::Frac;
-use dl_plan::Unit;
+use dl_plan::{Unit, raised};
 
 /// The expected number of claims above 0 of all units together.
 pub(crate) fn above_zero(units: &[Unit]) -> Frac
     requires valid { (h : ℕ) × All (IsValidUnit h) units.now }
-    requires factor { (r : ℕ) × HasCommonFactor r units.now }
+    requires factor { (r : Fraction) × HasCommonFactor r units.now }
     ensures { result ≡ thinned_of units.now }
 {
     let mut sum = Frac::whole(0);
@@ -22,21 +23,9 @@ pub(crate) fn above_zero(units: &[Unit]) -> Frac
     sum
 }
 
-/// `claims` for the next shape: times `(shape + 1) / shape`.
-fn raised(claims: Frac, shape: u32) -> Frac
-    requires some { 1 ≤ shape }
-    requires few { shape ≤ most_shape }
-    requires admitted { HasPartsOf48Bits (raised shape claims) }
-    ensures { result ≡ raised shape claims }
-{
-    let num = claims.num() as u128 * (shape as u128 + 1);
-    let den = claims.den() as u128 * shape as u128;
-    Frac::make(num, den).unwrap()
-}
-
 /// The budget of the one gamma unit in the place of units that share a factor of this shape, on
 /// `cells` cells, with one more in its shape: from its grid the joint means come.
-pub(crate) fn raised_budget<const B: u32>(units: &[Unit], shape: u32, cells: u32) -> u128
+pub(crate) fn raised_budget<const B: u32>(units: &[Unit], shape: Frac, cells: u32) -> u128
     requires scale { IsPlanScale B }
     requires valid { (h : ℕ) × All (IsValidUnit h) units.now }
     requires factor { HasCommonFactor shape units.now }
@@ -44,7 +33,9 @@ pub(crate) fn raised_budget<const B: u32>(units: &[Unit], shape: u32, cells: u32
     ensures value { result ≡ raised_budget (2 ^ B) cells shape units.now }
     ensures small { result ≤ most_claims_budget }
 {
-    gamma_budget::<B>(raised(above_zero(units), shape), shape + 1, cells)
+    let claims = raised(shape, above_zero(units)).unwrap();
+    let next = shape.add(Frac::whole(1)).unwrap();
+    gamma_budget::<B>(claims, next, cells)
 }
 
 /// How far apart the ends of the joint mean of a Poisson or gamma unit lie at most, where it comes

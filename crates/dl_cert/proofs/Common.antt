@@ -78,7 +78,7 @@ pub use Rattle.dl_plan.specs.declared.severity.Sev.{Sev}
 pub use borrow.Author.Count.{below_more as more_below}
 pub use mathlib.Core.Path.{fun_ext}
 pub use Rattle.dl_cert.specs.Bases.{AreStarts, IsBaseOf, PassesTo, high_base, high_share, low_base, low_share, trial_parts}
-pub use Rattle.dl_cert.specs.Covered.{IsCertPlan, IsCovered, IsCoveredUnit, IsTable}
+pub use Rattle.dl_cert.specs.Covered.{IsCertPlan, IsCovered, IsCoveredUnit, IsTable, IsWholeShaped}
 pub use Rattle.dl_cert.specs.PassedSteps.{HasPassedTo, IsOver, IsStepAt, IsRow, HavePassed, count_by, label_at}
 pub use Rattle.dl_cert.specs.Labels.{HasValues, Label, no_unit, once, together}
 unfoldable pub use Rattle.dl_cert.specs.Labels.{labelled}

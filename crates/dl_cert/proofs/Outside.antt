@@ -1,13 +1,9 @@
 -- The numbers that the cells of a start are compared with, and cells that pass one after the other.
-use Rattle.dl_cert.proofs.Common.{ℕ, zero, suc, ◌≡◌, ◌≢◌, ◌⊎◌, ◌+◌, ◌<◌, ◌≤◌, inl, inr, refl, sym, subst, subst₂, arith, Bool, true, false, List, length, length-take-le, take, get_or, cases_lt, most_cert_cells, most_cells_at, IsGridSize, Fraction, whole, ◌≤ℚ◌, one_pos, over_self, over_le, Iv, low_at, high_at, Sev, Base, Share, one, low_share, high_share, low_base, high_base, PassesTo}
+use Rattle.dl_cert.proofs.Common.{ℕ, zero, suc, ◌≡◌, ◌≢◌, ◌⊎◌, ◌+◌, ◌<◌, ◌≤◌, inl, inr, refl, sym, subst, subst₂, arith, Bool, true, false, List, length, length-take-le, take, get_or, cases_lt, most_cert_cells, most_cells_at, IsGridSize, Iv, low_at, high_at, Sev, Base, Share, one, low_share, high_share, low_base, high_base, PassesTo}
 use Rattle.dl_grid.proofs.CellLaws.{low_at_read, high_at_read}
 use Rattle.dl_grid.proofs.CellSets.{low_take, high_take}
 use Rattle.dl_panjer.proofs.Steps.{low_next_same, high_next_same}
 use Rattle.dl_cert.specs.declared.base.Base.TheVariants.{Nothing, Trial, Poisson, Geometric}
-
-pub within_one : (x : Fraction) → x.num ≤ x.den → x ≤ℚ whole 1
-within_one x h =
-    subst (λ t. t ≤ℚ whole 1) (over_self x) (over_le x.num x.den 1 1 x.positive one_pos (omega (arith, h)))
 
 -- ---- a share
 

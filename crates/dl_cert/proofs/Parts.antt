@@ -55,7 +55,7 @@ module _ (sev : Sev) (v : Fraction) (K : ℕ) (some : 0 < K) (lo hi : ℕ → �
   start_encloses (Gamma shape mean) h is counted low high = elim (cases_eq v.num 0) [
     | inl none ↦ absurd (omega (arith, (rw (eq-eqb v.num 0 none) at counted)))
     | inr above ↦
-        let beta = v /ℚ whole shape in
+        let beta = v /ℚ shape in
         let x = beta /ℚ (whole 1 +ℚ beta) in
         let start = whole 1 /ℚ (whole 1 +ℚ beta) in
         let l : ℕ = floor_of (whole one *ℚ start) in

@@ -1,6 +1,7 @@
 -- The parts of a unit make it up, and those of a covered plan, each as often as the target says, its total.
-use Rattle.dl_cert.proofs.Common.{ℕ, zero, suc, ◌≡◌, ◌≢◌, ◌<◌, ◌^◌, ◌∙◌, inl, inr, refl, sym, ap, subst, arith, List, [], ◌∷◌, map, get_or, None, cases_eq, eq-eqb, ne_eqb, All-head, All-tail, All-nil, All-cons, pow_pos, All, Fraction, whole, ◌*ℚ◌, ◌/ℚ◌, ◌<ℚ◌, ◌over◌, times_zero, zero_or_pos, times_comm, div_times, whole_pos, one_pos, over_self, over_cross, ◌^ℚ◌, over_zero, Freq, Fixed, Table, Bernoulli, Binomial, Poisson, Gamma, Plan, UnitOfPlan, Sev, probability_of, expected_count, IsCountOfPlan, thinned_mean, IsValid, IsValidUnit, num_le_den, halvings, power, IsWithinOne, Family, product, nothing, times_itself, SameCells, after_zero, compound_of, aggregate_of, loss_of, aggregates_of, outcome_after, Loss, total, sum_over_outcomes, fixed_claims, trials, positive, given_part, none_thinned, within_one, HasValues, Label, labelled, IsTable, IsCoveredUnit, IsCovered, above_zero, part_of, parts_of, unit_part, unit_parts, parts_of_plan, target}
-use Rattle.dl_model.specs.Prelude.{One, loss, mapped}
+use Rattle.dl_cert.proofs.Common.{ℕ, zero, suc, ◌≡◌, ◌≢◌, ◌<◌, ◌^◌, ◌∙◌, inl, inr, refl, sym, ap, subst, arith, List, [], ◌∷◌, map, get_or, None, cases_eq, eq-eqb, ne_eqb, All-head, All-tail, All-nil, All-cons, pow_pos, All, Fraction, whole, ◌*ℚ◌, ◌/ℚ◌, ◌<ℚ◌, ◌over◌, times_zero, zero_or_pos, times_comm, div_times, whole_pos, one_pos, over_self, over_cross, ◌^ℚ◌, over_zero, Freq, Fixed, Table, Bernoulli, Binomial, Poisson, Gamma, Plan, UnitOfPlan, Sev, probability_of, expected_count, IsCountOfPlan, thinned_mean, IsValid, IsValidUnit, num_le_den, halvings, power, IsWithinOne, Family, product, nothing, times_itself, SameCells, after_zero, compound_of, aggregate_of, loss_of, aggregates_of, outcome_after, Loss, total, sum_over_outcomes, fixed_claims, trials, positive, given_part, none_thinned, within_one, HasValues, Label, labelled, IsTable, IsWholeShaped, IsCoveredUnit, IsCovered, above_zero, part_of, parts_of, unit_part, unit_parts, parts_of_plan, target}
+use Rattle.dl_model.specs.Prelude.{One, compound, gamma_of, loss, mapped}
+use Rattle.dl_exact.proofs.Parts.{num_pos}
 use Rattle.dl_model.proofs.Bounded.{quantity_bounded, whole_positive, are_units}
 use Rattle.dl_model.proofs.CountBounds.{fixed_count, binomial_count, poisson_count, gamma_of_count}
 use Rattle.dl_model.proofs.GammaThin.{gamma_shares}
@@ -60,30 +61,40 @@ part_values (Gamma shape mean) sev v h is = elim (cases_eq v.num 0) [
   | inl none ↦ rw (eq-eqb v.num 0 none) nothing_values
   | inr some ↦ rw (ne_eqb v.num 0 some)
       (compound_values _ _ (above_within sev v mean is some)
-      (gamma_of_count (whole 1) (v /ℚ whole shape) (whole_pos 1 (omega arith))))
+      (gamma_of_count (whole 1) (v /ℚ shape) (whole_pos 1 (omega arith))))
 ]
 
+-- n shares of shape 1 are a gamma count of shape n
+whole_shares : (n : ℕ) (mean : Fraction) (sev : Sev) (v : Fraction) → 0 < n → v ≡ mean *ℚ positive sev
+    → SameCells (times_itself (compound (gamma_of (whole 1) (v /ℚ whole n)) (above_zero sev)) n)
+    (compound (gamma_of (whole n) mean) (probability_of sev))
+whole_shares zero mean sev v some is = absurd (omega arith)
+whole_shares (suc q) mean sev v some is =
+    gamma_shares q (v /ℚ whole (suc q)) mean (probability_of sev) (positive sev) (above_zero sev) (given_part sev)
+    (shares_make_up v (suc q) some ∙ is)
+
 pub parts_make_up : (freq : Freq) (sev : Sev) (v : Fraction) → IsCountOfPlan freq → ¬ IsTable freq
-    → v ≡ expected_count freq *ℚ positive sev
+    → IsWholeShaped freq → v ≡ expected_count freq *ℚ positive sev
     → SameCells (times_itself (part_of freq sev v) (parts_of freq v)) (compound_of freq sev)
-parts_make_up (Fixed m) sev v h plain is = fixed_claims (probability_of sev) m
-parts_make_up (Table counts total) sev v h plain is = absurd (plain tt)
-parts_make_up (Bernoulli q) sev v h plain is = trials (probability_of sev) 1 q.num q.den q.positive
-parts_make_up (Binomial m q) sev v h plain is = trials (probability_of sev) m q.num q.den q.positive
-parts_make_up (Poisson mean) sev v h plain is = elim (cases_eq v.num 0) [
+parts_make_up (Fixed m) sev v h plain is_whole is = fixed_claims (probability_of sev) m
+parts_make_up (Table counts total) sev v h plain is_whole is = absurd (plain tt)
+parts_make_up (Bernoulli q) sev v h plain is_whole is = trials (probability_of sev) 1 q.num q.den q.positive
+parts_make_up (Binomial m q) sev v h plain is_whole is = trials (probability_of sev) m q.num q.den q.positive
+parts_make_up (Poisson mean) sev v h plain is_whole is = elim (cases_eq v.num 0) [
   | inl none ↦ rw (eq-eqb v.num 0 none) (values_trans _ nothing _ (no_times nothing)
       (none_thinned (Poisson mean) sev h tt (sym is ∙ none_is_zero v none)))
   | inr some ↦ rw (ne_eqb v.num 0 some)
       (poisson_shares (v /ℚ whole (2 ^ halvings v)) mean (2 ^ halvings v) (probability_of sev) (positive sev)
       (above_zero sev) (given_part sev) (shares_make_up v (2 ^ halvings v) (pow_pos (halvings v)) ∙ is))
 ]
-parts_make_up (Gamma zero mean) sev v h plain is = absurd (omega (arith, h))
-parts_make_up (Gamma (suc q) mean) sev v h plain is = elim (cases_eq v.num 0) [
+parts_make_up (Gamma shape mean) sev v h plain is_whole is = elim (cases_eq v.num 0) [
   | inl none ↦ rw (eq-eqb v.num 0 none) (values_trans _ nothing _ (no_times nothing)
-      (none_thinned (Gamma (suc q) mean) sev h tt (sym is ∙ none_is_zero v none)))
-  | inr some ↦ rw (ne_eqb v.num 0 some)
-      (gamma_shares q (v /ℚ whole (suc q)) mean (probability_of sev) (positive sev) (above_zero sev) (given_part sev)
-      (shares_make_up v (suc q) (omega arith) ∙ is))
+      (none_thinned (Gamma shape mean) sev h tt (sym is ∙ none_is_zero v none)))
+  | inr some ↦ rw (ne_eqb v.num 0 some, eq-eqb shape.den 1 is_whole)
+      (subst (λ r. SameCells (times_itself (compound (gamma_of (whole 1) (v /ℚ r)) (above_zero sev)) shape.num)
+      (compound (gamma_of r mean) (probability_of sev)))
+      (sym (ap (λ d. shape.num over d) is_whole) ∙ over_self shape)
+      (whole_shares shape.num mean sev v (num_pos shape h.shape.above) is))
 ]
 
 -- without a clause the outcomes of a unit are the sums of its claims
@@ -152,7 +163,8 @@ units_make_up cells (u ∷ us) h covered =
     (labelled_values (map unit_part us) (counts us) (parts_values cells us later))
     (total_values cells us later)
     (values_trans _ (compound_of u.freq u.sev) _
-    (parts_make_up u.freq u.sev (thinned_mean u) here.count plain.count refl) (plain_unit cells u here plain.clause))
+    (parts_make_up u.freq u.sev (thinned_mean u) here.count plain.count plain.shape refl)
+    (plain_unit cells u here plain.clause))
     (units_make_up cells us later (All-tail IsCoveredUnit u us covered)))
     (values_same _ _ (λ y N. sym (total_more l (map loss_of us) is y N))
     (λ N. sym (total_more_all l (map loss_of us) is N))))

@@ -1,7 +1,9 @@
 -- The numbers of a base are those of the starts of its unit.
-use Rattle.dl_cert.proofs.Common.{Bool, refl, Freq, ℕ, zero, suc, ◌≡◌, ◌-◌, ◌*◌, ◌/◌, ◌<◌, ◌^◌, ◌∙◌, sym, ap, ap₂, arith, true, false, mul-pos, zero-lt-suc, min, div_ceil, Fraction, whole, ◌+ℚ◌, ◌*ℚ◌, ◌/ℚ◌, ◌over◌, IsFloor, IsCeiling, times_one, times_zero, zero_plus, over_same, over_mul, over_add, whole_num, whole_den, floor_div, ceiling_div, floor_one, ceiling_one, halvings, exp_low, exp_high, at_zero, cell, fixed, binomial, one_claim_cell, one_trial_cell, coefficient, next_sum, Sev, probability_of, pairs_of, conditioned, HasDistribution, weight_at, severity_total, Fixed, Bernoulli, Binomial, PoissonCount, GammaCount, UnitOfPlan, thinned_mean, Share, above_zero, one, floor_of, ceiling_of, sum_plain, sum_by_amount, low_recursion, high_recursion, low_start, high_start, trial_parts, low_share, high_share, IsBaseOf}
+use Rattle.dl_plan.specs.Count.{IsGammaCount}
+use Rattle.dl_cert.proofs.Common.{Bool, refl, subst, IsValidUnit, IsCountOfPlan, Freq, ℕ, zero, suc, ◌≡◌, ◌-◌, ◌*◌, ◌/◌, ◌<◌, ◌^◌, ◌∙◌, sym, ap, ap₂, arith, true, false, mul-pos, zero-lt-suc, min, div_ceil, Fraction, whole, ◌+ℚ◌, ◌*ℚ◌, ◌/ℚ◌, ◌over◌, IsFloor, IsCeiling, times_one, times_zero, zero_plus, over_same, over_mul, over_add, whole_num, whole_den, floor_div, ceiling_div, floor_one, ceiling_one, halvings, exp_low, exp_high, at_zero, cell, fixed, binomial, one_claim_cell, one_trial_cell, coefficient, next_sum, Sev, probability_of, pairs_of, conditioned, HasDistribution, weight_at, severity_total, Fixed, Bernoulli, Binomial, PoissonCount, GammaCount, UnitOfPlan, thinned_mean, Share, above_zero, one, floor_of, ceiling_of, sum_plain, sum_by_amount, low_recursion, high_recursion, low_start, high_start, trial_parts, low_share, high_share, IsBaseOf}
 use Rattle.dl_exact.proofs.Denominators.{over_times}
 use Rattle.dl_panjer.specs.Cells.{counted}
+use Rattle.dl_panjer.specs.declared.rate.Rate.{Rate}
 use Rattle.dl_panjer.proofs.Steps.{counted_pos}
 use Rattle.dl_panjer.proofs.Recursions.{by_number, by_rate}
 use Rattle.dl_panjer.proofs.Outward.{sum_of_amounts, sum_of_weights}
@@ -72,7 +74,7 @@ module _ (share : Share) (b : Bool) (factor : ℕ → Fraction) (sum : (ℕ → 
   abbrev T : ℕ
   T = share.positive.total
 
-  abbrev u : Fraction
+  abbrev u : Rate
   u = share.rate
 
   -- a sum over T, and a multiple of it, each rounded
@@ -95,44 +97,56 @@ module _ (share : Share) (b : Bool) (factor : ℕ → Fraction) (sum : (ℕ → 
 
 -- ---- the bases of units
 
+-- what a plan says of a gamma count
+pub gamma_of_plan : (h : ℕ) (u : UnitOfPlan) (shape mean : Fraction) → IsValidUnit h u → u.freq ≡ GammaCount shape mean
+    → IsGammaCount shape mean
+gamma_of_plan h u shape mean valid is = subst IsCountOfPlan is valid.count
+
 module _ {unit : UnitOfPlan} where
-  pub poisson_is : {mean : Fraction} {share : Share} → unit.freq ≡ PoissonCount mean
+  pub poisson_is : {mean part : Fraction} {share : Share} → unit.freq ≡ PoissonCount mean
       → HasDistribution share.positive (conditioned 0 (pairs_of unit.sev))
-      → share.rate ≡ thinned_mean unit /ℚ whole (2 ^ halvings (thinned_mean unit))
-      → share.first.lo ≡ exp_low 56 share.rate → share.first.hi ≡ exp_high 56 share.rate → IsBaseOf unit (Poisson share)
-  poisson_is {share = share} e means rate low high =
+      → share.rate.num over share.rate.den ≡ part
+      → part ≡ thinned_mean unit /ℚ whole (2 ^ halvings (thinned_mean unit))
+      → share.first.lo ≡ exp_low 56 part → share.first.hi ≡ exp_high 56 part → IsBaseOf unit (Poisson share)
+  poisson_is {part = part} {share = share} e means is rate low high =
       let S = share.positive in
       let sum = sum_by_amount (above_zero unit.sev) in
-      let by = λ (x s : ℕ). by_number x s share.rate in
+      let by = λ (x s : ℕ). by_number x s share.rate.num share.rate.den share.rate.positive
+      ∙ ap (λ t. t /ℚ whole (suc s) *ℚ whole x) is in
       let sums = sum_of_amounts S.items S.total (severity_total S) (above_zero unit.sev) means in
       record {
         low = λ some ends y. low_cells share true _ sum by sums ends y
-            ∙ ap₂ (λ start r. low_recursion start (λ s. r /ℚ whole (suc s)) (sum ends) y) (low ∙ ap (exp_low 56) rate) rate
+            ∙ ap₂ (λ start r. low_recursion start (λ s. r /ℚ whole (suc s)) (sum ends) y)
+            (low ∙ ap (exp_low 56) rate) rate
             ∙ ap (λ f. low_start f unit.sev (thinned_mean unit) ends y) (sym e);
         high = λ some ends y. high_cells share true _ sum by sums ends y
-            ∙ ap₂ (λ start r. high_recursion start (λ s. r /ℚ whole (suc s)) (sum ends) y) (high ∙ ap (exp_high 56) rate) rate
+            ∙ ap₂ (λ start r. high_recursion start (λ s. r /ℚ whole (suc s)) (sum ends) y)
+            (high ∙ ap (exp_high 56) rate) rate
             ∙ ap (λ f. high_start f unit.sev (thinned_mean unit) ends y) (sym e);
       }
 
-  pub geometric_is : {shape : ℕ} {mean : Fraction} {share : Share} → unit.freq ≡ GammaCount shape mean
+  pub geometric_is : {shape mean : Fraction} {share : Share} → unit.freq ≡ GammaCount shape mean
       → HasDistribution share.positive (conditioned 0 (pairs_of unit.sev))
-      → share.rate ≡ thinned_mean unit /ℚ whole shape /ℚ (whole 1 +ℚ thinned_mean unit /ℚ whole shape)
-      → IsFloor (whole one /ℚ (whole 1 +ℚ thinned_mean unit /ℚ whole shape)) share.first.lo
-      → IsCeiling (whole one /ℚ (whole 1 +ℚ thinned_mean unit /ℚ whole shape)) share.first.hi → IsBaseOf unit (Geometric share)
+      → share.rate.num over share.rate.den ≡ thinned_mean unit /ℚ shape /ℚ (whole 1 +ℚ thinned_mean unit /ℚ shape)
+      → IsFloor (whole one /ℚ (whole 1 +ℚ thinned_mean unit /ℚ shape)) share.first.lo
+      → IsCeiling (whole one /ℚ (whole 1 +ℚ thinned_mean unit /ℚ shape)) share.first.hi
+      → IsBaseOf unit (Geometric share)
   geometric_is {shape = shape} {share = share} e means rate floor ceiling =
       let S = share.positive in
       let sum = sum_plain (above_zero unit.sev) in
-      let by = λ (x s : ℕ). by_rate x share.rate in
+      let by = λ (x s : ℕ). by_rate x share.rate.num share.rate.den share.rate.positive ∙ ap (λ t. t *ℚ whole x) rate in
       let sums = sum_of_weights S.items S.total (severity_total S) (above_zero unit.sev) means in
-      let start = units_over one (thinned_mean unit /ℚ whole shape) in
+      let beta = thinned_mean unit /ℚ shape in
+      let factor : ℕ → Fraction = λ s. beta /ℚ (whole 1 +ℚ beta) in
+      let start = units_over one beta in
       let low = floor_one _ _ _ (rw start at floor) (floor_is _) in
       let high = ceiling_one _ _ _ (rw start at ceiling) (ceiling_is _) in
       record {
-        low = λ some ends y. low_cells share false _ sum by sums ends y
-            ∙ ap₂ (λ start r. low_recursion start (λ s. r) (sum ends) y) low rate
+        low = λ some ends y. low_cells share false factor sum by sums ends y
+            ∙ ap (λ start. low_recursion start factor (sum ends) y) low
             ∙ ap (λ f. low_start f unit.sev (thinned_mean unit) ends y) (sym e);
-        high = λ some ends y. high_cells share false _ sum by sums ends y
-            ∙ ap₂ (λ start r. high_recursion start (λ s. r) (sum ends) y) high rate
+        high = λ some ends y. high_cells share false factor sum by sums ends y
+            ∙ ap (λ start. high_recursion start factor (sum ends) y) high
             ∙ ap (λ f. high_start f unit.sev (thinned_mean unit) ends y) (sym e);
       }
 

@@ -5,6 +5,7 @@ use Rattle.dl_plan.specs.declared.plan.Freq.{Freq}
 use Rattle.dl_plan.specs.declared.plan.Freq.TheVariants.{Fixed, Table, Bernoulli, Binomial, Poisson, Gamma}
 use Rattle.dl_plan.specs.declared.plan.Plan.{Plan}
 use Rattle.dl_plan.specs.declared.plan.Unit.{Unit as UnitOfPlan}
+use Rattle.dl_plan.specs.Fine.{IsWhole}
 use Rattle.dl_plan.specs.Valid.{IsValid}
 
 -- a valid plan of no more cells than a certificate can have
@@ -21,9 +22,16 @@ IsTable (Binomial trials q) = ⊥
 IsTable (Poisson mean) = ⊥
 IsTable (Gamma shape mean) = ⊥
 
--- a unit without a listed count, an aggregate clause and a changed probability of no claim
+-- a gamma count has a whole shape, so that it is a sum of equal parts
+abbrev pub IsWholeShaped : Freq → Type 0
+IsWholeShaped (Gamma shape mean) = IsWhole shape
+IsWholeShaped freq = ⊤
+
+-- a unit without a listed count, a shape that is not whole, an aggregate clause and a changed
+-- probability of no claim
 pub record IsCoveredUnit (u : UnitOfPlan) : Type 0 where
   pub count : ¬ IsTable u.freq
+  pub shape : IsWholeShaped u.freq
   pub clause : u.cede ≡ None
   pub zero : u.zero ≡ None
 

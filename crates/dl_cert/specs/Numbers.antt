@@ -68,8 +68,8 @@ start_by rounded listed recursion exp (Poisson mean) sev v ends y =
     recursion (exp (v /ℚ whole (2 ^ halvings v)))
     (λ s. v /ℚ whole (2 ^ halvings v) /ℚ whole (suc s)) (sum_by_amount (above_zero sev) ends) y
 start_by rounded listed recursion exp (Gamma shape mean) sev v ends y =
-    recursion (rounded (whole one *ℚ (whole 1 /ℚ (whole 1 +ℚ v /ℚ whole shape))))
-    (λ s. v /ℚ whole shape /ℚ (whole 1 +ℚ v /ℚ whole shape)) (sum_plain (above_zero sev) ends) y
+    recursion (rounded (whole one *ℚ (whole 1 /ℚ (whole 1 +ℚ v /ℚ shape))))
+    (λ s. v /ℚ shape /ℚ (whole 1 +ℚ v /ℚ shape)) (sum_plain (above_zero sev) ends) y
 
 abbrev pub low_start : Freq → Sev → Fraction → (ℕ → ℕ) → ℕ → ℕ
 low_start = start_by floor_of 0 low_recursion (exp_low 56)

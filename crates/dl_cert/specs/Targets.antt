@@ -19,9 +19,13 @@ above_zero sev = probability (conditioned 0 (pairs_of sev))
 abbrev pub where_none : {A : Type 0} → Fraction → A → A → A
 where_none v none some = if nat_eq v.num 0 then none else some
 
+-- a whole shape as a number, and 0 for any other
+abbrev pub whole_shape : Fraction → ℕ
+whole_shape r = if nat_eq r.den 1 then r.num else 0
+
 -- The part of a claim count that a start counts, where v claims above 0 are expected: one claim,
 -- one trial, or an equal share of the claims above 0, of which a Poisson count has 2^h and a gamma
--- count as many as its shape.
+-- count as many as its shape, where that is whole.
 abbrev pub part_of : Freq → Sev → Fraction → Family
 part_of (Fixed m) sev v = compound (fixed 1) (probability_of sev)
 part_of (Table counts total) sev v = nothing
@@ -30,7 +34,7 @@ part_of (Binomial trials q) sev v = compound (binomial 1 q.num q.den) (probabili
 part_of (Poisson mean) sev v =
     where_none v nothing (compound (poisson (v /ℚ whole (2 ^ halvings v))) (above_zero sev))
 part_of (Gamma shape mean) sev v =
-    where_none v nothing (compound (gamma_of (whole 1) (v /ℚ whole shape)) (above_zero sev))
+    where_none v nothing (compound (gamma_of (whole 1) (v /ℚ shape)) (above_zero sev))
 
 -- how many such parts make up the count
 abbrev pub parts_of : Freq → Fraction → ℕ
@@ -39,7 +43,7 @@ parts_of (Table counts total) v = 0
 parts_of (Bernoulli q) v = 1
 parts_of (Binomial trials q) v = trials
 parts_of (Poisson mean) v = where_none v 0 (2 ^ halvings v)
-parts_of (Gamma shape mean) v = where_none v 0 shape
+parts_of (Gamma shape mean) v = where_none v 0 (whole_shape shape)
 
 -- those of the units of a plan, in its order
 abbrev pub unit_part : UnitOfPlan → Family

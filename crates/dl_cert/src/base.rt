@@ -5,6 +5,7 @@ ghost use Rattle.dl_limits.specs.Limits.{admitted_bound, most_cell_end};
 
 use dl_frac::Frac;
 use dl_iv::Iv;
+use dl_panjer::Rate;
 use dl_plan::Sev;
 
 /// An equal share of the claims above 0 of a count without a greatest number.
@@ -13,11 +14,10 @@ pub(crate) struct Share {
     /// The severity of the claims above 0.
     pub positive: Sev,
     /// By what each sum of the recursion is multiplied.
-    pub rate: Frac,
+    pub rate: Rate,
     /// The number with which cell 0 is compared.
     pub first: Iv<56>,
     ghost no_zero: { All (λ item. 0 < item.amount) positive.items },
-    ghost within: { rate.num ≤ rate.den },
     ghost small: { rate.num < admitted_bound },
     ghost first_small: { first.hi ≤ most_cell_end },
 }

@@ -3,26 +3,28 @@
 ghost use Rattle.std.specs.Prelude.{ℕ, ◌≤◌, ◌↔◌, IsNone, IsTrue, All, MatchOption, length};
 ghost use Rattle.dl_limits.specs.Limits.{standard_units};
 ghost use Rattle.dl_plan.specs.Valid.{IsValid};
-ghost use Rattle.dl_cert.specs.Covered.{IsTable, IsCoveredUnit, IsCovered, IsFirstUncovered, IsNotCovered};
+ghost use Rattle.dl_cert.specs.Covered.{IsTable, IsWholeShaped, IsCoveredUnit, IsCovered, IsFirstUncovered, IsNotCovered};
 
 use dl_limits::STANDARD_UNITS;
 use dl_plan::{Freq, Plan, Unit};
 
-/// Whether a count is listed.
-fn is_listed(freq: &Freq) -> bool
-    ensures { IsTrue result ↔ IsTable freq.now }
+/// Whether a count is a sum of equal parts: it is not listed, and a gamma count has a whole shape.
+fn is_in_parts(freq: &Freq) -> bool
+    ensures { IsTrue result ↔ (¬ IsTable freq.now × IsWholeShaped freq.now) }
 {
     match freq {
-        Freq::Table { .. } => true,
-        _ => false,
+        Freq::Table { .. } => false,
+        Freq::Gamma { shape, .. } => shape.den() == 1,
+        _ => true,
     }
 }
 
-/// Whether a unit has no listed count, no aggregate clause and no changed probability of no claim.
+/// Whether a unit has no listed count, no shape that is not whole, no aggregate clause and no
+/// changed probability of no claim.
 fn is_covered(unit: &Unit) -> bool
     ensures { IsTrue result ↔ IsCoveredUnit unit.now }
 {
-    !is_listed(&unit.freq) && unit.cede.is_none() && unit.zero.is_none()
+    is_in_parts(&unit.freq) && unit.cede.is_none() && unit.zero.is_none()
 }
 
 /// The first unit that is not covered, as are all behind the first 16.

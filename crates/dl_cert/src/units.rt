@@ -17,7 +17,7 @@ use crate::base::{Base, Chance, Share};
 use dl_budget::halvings;
 use dl_exp::exp_neg;
 use dl_frac::Frac;
-use dl_panjer::{geometric_start, halved};
+use dl_panjer::{Rate, geometric_start, halved};
 use dl_plan::{Freq, Sev, Unit};
 use std::alloc::{AllocError, Global};
 
@@ -46,10 +46,10 @@ pub(crate) fn parts(unit: &Unit) -> u32
         Freq::Binomial { trials, .. } => *trials,
         Freq::Poisson(_) => poisson_parts(unit.freq.thinned(&unit.sev)),
         Freq::Gamma { shape, .. } => {
-            if unit.freq.thinned(&unit.sev).num() == 0 {
+            if unit.freq.thinned(&unit.sev).num() == 0 || shape.den() > 1 {
                 return 0;
             }
-            *shape
+            shape.num() as u32
         }
     }
 }
@@ -77,24 +77,31 @@ fn poisson_base(alloc: Global, unit: &Unit) -> Result<Base, AllocError>
         return Ok(Base::Nothing);
     };
     let mean = unit.freq.thinned(&unit.sev);
-    let rate = halved(mean, halvings(mean));
+    let part = halved(mean, halvings(mean));
     Ok(Base::Poisson(Share {
         positive,
-        rate,
-        first: exp_neg(rate),
+        rate: Rate {
+            num: part.num(),
+            den: part.den(),
+        },
+        first: exp_neg(part),
     }))
 }
 
 /// The base of a gamma unit of this shape.
-fn geometric_base(alloc: Global, unit: &Unit, shape: u32) -> Result<Base, AllocError>
+fn geometric_base(alloc: Global, unit: &Unit, shape: Frac) -> Result<Base, AllocError>
     requires valid { (cells : ℕ) × IsValidUnit cells unit.now }
     requires count { (mean : Fraction) × (unit.now.freq ≡ Gamma shape mean) }
     ensures { IfOk result (IsBaseOf unit.now) }
 {
+    if shape.den() > 1 {
+        return Ok(Base::Nothing);
+    }
     let Some(positive) = positive_claims(alloc, unit)? else {
         return Ok(Base::Nothing);
     };
-    let (rate, first) = geometric_start::<56>(unit.freq.thinned(&unit.sev), shape);
+    let beta = unit.freq.thinned(&unit.sev).div(shape).unwrap();
+    let (rate, first) = geometric_start::<56>(beta);
     Ok(Base::Geometric(Share {
         positive,
         rate,

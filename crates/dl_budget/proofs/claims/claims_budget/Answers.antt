@@ -1,7 +1,7 @@
 use Rattle.dl_budget.proofs.Common.{◌^◌, length, arith, ap, ◌∙◌, mixed_spread, count_budget, Fixed, Table, Bernoulli, Binomial, claims_alone}
 use Rattle.dl_plan.specs.Weighted.{greatest}
 use Rattle.dl_plan.proofs.Weights.{greatest_within}
-use Rattle.dl_budget.proofs.Counts.{claims_of, count_of, few_items, power_room, listed_begins, poisson_value, gamma_value}
+use Rattle.dl_budget.proofs.Counts.{claims_of, count_of, few_items, power_room, listed_begins, poisson_value, gamma_on, gamma_value}
 use Rattle.dl_budget.proofs.claims.claims_budget.Goals as goal
 
 pub power_spread-requires-clause-room : goal.power_spread-requires-clause-room
@@ -73,3 +73,8 @@ returns-in-Gamma-clause-value g c =
     gamma_value (2 ^ g.row.B) c.args.cells (claims_alone c.args.freq.now c.args.sev.now) c.in-Gamma.shape c.in-Gamma.mean c.thinned-in-Gamma.result _
     c.in-Gamma.is c.thinned-in-Gamma.ensures
     c.gamma_budget.ensures.none c.gamma_budget.ensures.value
+
+pub gamma_budget-requires-clause-count : goal.gamma_budget-requires-clause-count
+gamma_budget-requires-clause-count g c =
+    gamma_on c.args.cells c.requires.valid.0 (claims_alone c.args.freq.now c.args.sev.now) c.in-Gamma.shape c.in-Gamma.mean _
+    c.requires.few c.requires.valid.1 c.in-Gamma.is c.thinned-in-Gamma.ensures

@@ -1,4 +1,5 @@
-use Rattle.dl_budget.proofs.Common.{◌^◌, arith, ap, sym, subst, ◌∙◌, count_budget, IsClaimCount, none_budget}
+use Rattle.dl_budget.proofs.Common.{◌^◌, arith, ap, sym, subst, ◌∙◌, count_budget, IsClaimCount, IsNewZero, none_budget}
+use Rattle.dl_budget.proofs.NoneSizes.{none_on}
 use Rattle.dl_budget.proofs.Counts.{power_room, where_none}
 use Rattle.dl_budget.proofs.claims.none_by_count.Goals as goal
 
@@ -34,3 +35,8 @@ unfolding count_budget
 returns-in-Gamma g c =
     where_none c.in-Gamma.mean.num _ _ c.gamma_budget.ensures.none c.gamma_budget.ensures.value
     ∙ ap (none_budget (2 ^ g.row.B)) (sym c.in-Gamma.is)
+
+pub gamma_budget-requires-clause-count : goal.gamma_budget-requires-clause-count
+gamma_budget-requires-clause-count g c =
+    none_on c.in-Gamma.shape c.in-Gamma.mean c.requires.changed.0 (subst IsClaimCount c.in-Gamma.is c.requires.count)
+    (subst (λ f. IsNewZero f c.requires.changed.0) c.in-Gamma.is c.requires.changed.1)

@@ -1,7 +1,13 @@
-use Rattle.dl_cert.proofs.Common.{arith, sym, subst, List, length, ◌<◌, All, IsWeighted, nat_tests, Item}
+use Rattle.dl_panjer.specs.Cells.{counted}
+use Rattle.dl_cert.proofs.Common.{Bool, true, false, ℕ, ◌^◌, arith, sym, subst, List, length, ◌<◌, All, IsWeighted, nat_tests, Item}
 use Rattle.dl_budget.proofs.Rows.{◌also◌}
-use Rattle.dl_cert.proofs.Outside.{within_one, grid_size}
+use Rattle.dl_cert.proofs.Outside.{grid_size}
 use Rattle.dl_cert.proofs.bases.share_number.Goals as goal
+
+-- either way of a recursion has room
+room_of : (b : Bool) (n : ℕ) → n < 2 ^ 48 → counted b 65536 n < 2 ^ 64
+room_of true n small = omega (arith, small)
+room_of false n small = omega (arith, small)
 
 pub next_cell-requires : goal.next_cell-requires
 next_cell-requires g c =
@@ -14,4 +20,4 @@ next_cell-requires g c =
     })
     also subst (λ (l : List Item). IsWeighted l share.positive.total) same share.positive.weighted
     also subst (λ (l : List Item). All (λ (i : Item). 0 < i.amount) l) same share.no_zero
-    also within_one share.rate share.within also share.small
+    also room_of _ share.rate.num share.small
