@@ -40,7 +40,7 @@ pub use Rattle.dl_buckets.specs.Small.{IsShares}
 pub use Rattle.dl_buckets.specs.FineParts.{has_atoms, has_probs, has_severity, has_shares}
 pub use Rattle.dl_buckets.specs.Clauses.{IsMade, ceded_layer, clause_of, made_of, is_off, is_off_multiples, overlaps, share_of, shares_of}
 pub use Rattle.dl_buckets.specs.CheckedClauses.{IsClauseLayered}
-pub use Rattle.dl_buckets.specs.Flaws.{AgreeEarly, AgreeToFirst, AreNone, IsClean, IsRead, IsReadTo, KeepsLists, earlier_flaws, flaws_else, flaws_within, lengths_at, long_at, no_flaws, spans, range_at, sum_at}
+pub use Rattle.dl_buckets.specs.Flaws.{AgreeOnLists, AgreeToFirst, AreNone, IsClean, IsRead, IsReadTo, KeepsLengths, KeepsLists, earlier_flaws, flaws_else, flaws_within, lengths_at, long_at, no_flaws, spans, range_at, sum_at}
 pub use Rattle.dl_buckets.specs.Grid.{count_with, freq_of, given_zero, grid_atom, grid_ceded, grid_clause, grid_count, grid_exposure, grid_freq, grid_layer, grid_list, grid_mixture, grid_shares, grid_with, limit_value, number_of, share_beside, shares_at, zero_value}
 pub use Rattle.dl_buckets.specs.CheckedGrid.{IsClauseWithin, IsGridAtom, IsGridClause, IsGridSev, IsGridUnit, IsLayerWithin, IsSevWithin, IsWithin}
 pub use Rattle.dl_buckets.specs.Parts.{AreProbabilities, IsSevWeighted}
@@ -60,7 +60,8 @@ pub use Rattle.dl_ast.specs.declared.ast.ListItem.{ListItem}
 pub use Rattle.dl_ast.specs.declared.ast.MixAst.{MixAst}
 pub use Rattle.dl_ast.specs.declared.ast.Numeral.{Numeral}
 unfoldable pub use Rattle.dl_buckets.specs.Flaws.{flaws_in}
-pub use Rattle.dl_buckets.specs.Reading.{flaws_beside, flaws_of_amount, flaws_of_amounts, flaws_of_atom, flaws_of_ceded, flaws_of_clause, flaws_of_count, flaws_of_distribution, flaws_of_exposure, flaws_of_freq, flaws_of_item, flaws_of_layer, flaws_of_limit, flaws_of_limit_number, flaws_of_list, flaws_of_mixture, flaws_of_money, flaws_of_numeral, flaws_of_share, flaws_of_shares, flaws_of_zero, flaws_with, is_named, is_no_range}
+pub use Rattle.dl_buckets.specs.Listed.{listed_beside, listed_flaws}
+pub use Rattle.dl_buckets.specs.Reading.{are_many_values, is_long_mixture, values_in, flaws_beside, flaws_of_amount, flaws_of_amounts, flaws_of_atom, flaws_of_ceded, flaws_of_clause, flaws_of_count, flaws_of_distribution, flaws_of_exposure, flaws_of_freq, flaws_of_item, flaws_of_layer, flaws_of_limit, flaws_of_limit_number, flaws_of_list, flaws_of_mixture, flaws_of_money, flaws_of_numeral, flaws_of_share, flaws_of_shares, flaws_of_zero, flaws_with, is_named, is_no_range}
 pub use Rattle.dl_buckets.specs.Values.{AreTooMany, if_there, spanned_in, spanned_item, spanned_range, spanned_values, range_of, value, value_or, values_of}
 pub use Rattle.dl_buckets.specs.declared.flaws.Flaws.{Flaws}
 pub use Rattle.dl_buckets.specs.declared.flaws.Gridded.{Gridded}

@@ -1,5 +1,5 @@
 -- What a unit without flaws keeps in whole buckets, part by part.
-use Rattle.dl_buckets.proofs.Common.{ℕ, ◌≡◌, ◌∙◌, ◌*◌, ◌≤◌, length, nat_lt, not, Option, Some, None, refl, sym, ap, arith, All, IfSome, length-map, All-map, eqb-true, eq-eqb, not-false, not_at, Fraction, whole, whole_num, whole_den, Span, IsShares, ◌over◌, subst, probs_among, IsClean, flaws_else, number_of, grid_atom, grid_layer, grid_ceded, grid_clause, grid_mixture, GridLayer, IsGridAtom, IsGridSev, IsLayerWithin, IsClauseWithin, IsSevWithin, IsGridClause, IsGridUnit, IsWithin, other_length, most_amount, most_atoms, most_layers, buckets, Numeral, ListAst, Atom, MixAst, IsFormedAtom, IsFormedMixture, IsFormedCession, IsFormedCount, IsFormedUnit, Flaws, flaws_in, flaws_within, earlier_flaws, long_at, grid_shares, limit_value, grid_exposure, grid_freq, grid_count, zero_value, given_zero, flaws_of_numeral, flaws_of_amount, flaws_of_money, flaws_of_list, flaws_of_amounts, flaws_of_shares, flaws_beside, flaws_of_atom, flaws_of_mixture, flaws_of_limit, flaws_of_layer, flaws_of_share, flaws_of_ceded, flaws_of_clause, flaws_of_exposure, flaws_of_count, flaws_of_freq, flaws_of_zero, flaws_of_distribution, is_named, if_there, value, values_of, spanned_values, Bounds, AreBounds}
+use Rattle.dl_buckets.proofs.Common.{ℕ, ◌≡◌, ◌∙◌, ◌*◌, ◌≤◌, ◌&&◌, List, [], ◌∷◌, map, list_any_none, nat_tests, or_parts, sum_by, sum_by-cons, GridAtom, are_many_values, is_long_mixture, values_in, most_values, length, nat_lt, not, Option, Some, None, refl, sym, ap, arith, All, IfSome, length-map, All-map, eqb-true, eq-eqb, not-false, not_at, Fraction, whole, whole_num, whole_den, Span, IsShares, ◌over◌, subst, probs_among, IsClean, flaws_else, number_of, grid_atom, grid_layer, grid_ceded, grid_clause, grid_mixture, GridLayer, IsGridAtom, IsGridSev, IsLayerWithin, IsClauseWithin, IsSevWithin, IsGridClause, IsGridUnit, IsWithin, other_length, most_amount, most_atoms, most_layers, buckets, Numeral, ListAst, Atom, MixAst, IsFormedAtom, IsFormedMixture, IsFormedCession, IsFormedCount, IsFormedUnit, Flaws, flaws_in, flaws_within, earlier_flaws, long_at, grid_shares, limit_value, grid_exposure, grid_freq, grid_count, zero_value, given_zero, flaws_of_numeral, flaws_of_amount, flaws_of_money, flaws_of_list, flaws_of_amounts, flaws_of_shares, flaws_beside, flaws_of_atom, flaws_of_mixture, flaws_of_limit, flaws_of_layer, flaws_of_share, flaws_of_ceded, flaws_of_clause, flaws_of_exposure, flaws_of_count, flaws_of_freq, flaws_of_zero, flaws_of_distribution, is_named, if_there, value, values_of, spanned_values, Bounds, AreBounds}
 use Rattle.std.proofs.Math.Nat.{le_trans}
 use Rattle.std.proofs.lemmas.Bool.{ltb-false}
 use Rattle.std.proofs.lemmas.Option.{IfSome_then}
@@ -23,7 +23,7 @@ unfoldable use Rattle.dl_buckets.specs.Reading.{flaws_of}
 use Rattle.dl_buckets.specs.Rules.{count_lengths}
 use Rattle.dl_buckets.specs.Small.{IsSmall, IsGridExposure, IsGridFreq, IsGridCount}
 use Rattle.dl_buckets.proofs.Clean.{each_none, clean_first, clean_second, clean_both, clean_earlier, clean_each}
-use Rattle.dl_buckets.proofs.ItemRanges.{number_is, list_is}
+use Rattle.dl_buckets.proofs.ItemRanges.{number_is, list_few, list_is}
 
 -- what holds of each part without flaws holds of one that may be missing
 if_there_is : {A B : Type 0} (f : A → Flaws) (g : A → B) (P : B → Type 0) → ((x : A) → IsClean (f x) → P (g x))
@@ -65,8 +65,21 @@ money_small : (most : ℕ) (bs : Fraction) (span : Span) (n : Numeral) → IsCle
 money_small most bs span n clean =
     amount_small most bs (value n) span (clean_second (flaws_of_numeral n) _ clean)
 
-abbrev too_long : MixAst → Flaws
-too_long m = long_at (at_if (nat_lt most_atoms (length m.atoms)) m.span)
+abbrev pub too_long : Bounds → MixAst → Flaws
+too_long bounds m = long_at (at_if (is_long_mixture bounds m) m.span)
+
+-- not too many atoms, nor too many values where none of their lists is too long
+pub not_long : (bounds : Bounds) (m : MixAst) → IsClean (too_long bounds m) → All (λ a. values_in a ≤ bounds.values) m.atoms
+    → (length m.atoms ≤ most_atoms) × (sum_by values_in m.atoms ≤ most_values)
+not_long bounds m clean each =
+    let tests = or_parts (nat_lt most_atoms (length m.atoms)) (are_many_values bounds m.atoms)
+    (not_at _ m.span (each_none (too_long bounds m) clean).long) in
+    let none = list_any_none (λ a. nat_lt bounds.values (values_in a)) m.atoms
+    (λ k d h. grind (arith, nat_tests, each k d h)) in (
+      ltb-false most_atoms (length m.atoms) tests.0,
+      ltb-false most_values (sum_by values_in m.atoms)
+          (ap (λ b. not b && nat_lt most_values (sum_by values_in m.atoms)) (sym none) ∙ tests.1),
+    )
 
 module _ (bounds : Bounds) (most : ℕ) (bs : Fraction) where
   -- ---- the severity
@@ -83,7 +96,7 @@ module _ (bounds : Bounds) (most : ℕ) (bs : Fraction) where
   mixture_atoms : (m : MixAst) → IsClean (flaws_of_mixture bounds most bs m)
       → All (λ a. IsClean (flaws_of_atom bounds most bs a)) m.atoms
   mixture_atoms m clean = clean_each (flaws_of_atom bounds most bs) m.atoms
-      (clean_first (flaws_in (flaws_of_atom bounds most bs) m.atoms) _ (clean_second (too_long m) _ clean))
+      (clean_first (flaws_in (flaws_of_atom bounds most bs) m.atoms) _ (clean_second (too_long bounds m) _ clean))
 
   sev_within : (m : MixAst) → IsClean (flaws_of_mixture bounds most bs m) → IsSevWithin most (grid_mixture bs m)
   sev_within m clean = All-map (λ a. All (λ n. n ≤ most) a.amounts) (grid_atom bs) m.atoms
@@ -108,6 +121,20 @@ module _ (bounds : Bounds) (most : ℕ) (bs : Fraction) where
       (clean_first (flaws_in (flaws_of_ceded most bs) c.layers) _ clean) in
       All-map (λ l. IsLayerWithin most l.layer) (grid_ceded bs) c.layers
       (λ k d h. layer_within _ (clean_second (flaws_of_share _) _ (each k d h)))
+
+-- the atoms have as many amounts as values
+atoms_sum : (bs : Fraction) (atoms : List Atom)
+    → sum_by (λ (a : GridAtom). length a.amounts) (map (grid_atom bs) atoms) ≡ sum_by values_in atoms
+atoms_sum bs [] = refl
+atoms_sum bs (a ∷ atoms) =
+    omega (
+      arith,
+      sum_by-cons (λ (g : GridAtom). length g.amounts) (grid_atom bs a) (map (grid_atom bs) atoms),
+      sum_by-cons values_in a atoms,
+      length-map (values_of a.values) (number_of bs),
+      length-map (spanned_values a.values) (λ pair. pair.0),
+      atoms_sum bs atoms,
+    )
 
 -- ---- what holds of any amounts of at most 2^22
 
@@ -137,17 +164,17 @@ module _ (bounds : Bounds) (within : AreBounds bounds) (most : ℕ) (bs : Fracti
       → IsGridSev (grid_mixture bs m)
   sev_is m formed clean =
       let each = length-map m.atoms (grid_atom bs) in
+      let long = not_long bounds m (clean_first (too_long bounds m) _ clean) (λ k d h.
+      list_few bounds _ (clean_first (flaws_of_list bounds _) _ (clean_first (flaws_of_amounts bounds most bs _) _
+      (mixture_atoms bounds most bs m clean k d h)))) in
       record {
         atoms = All-map IsGridAtom (grid_atom bs) m.atoms
             (λ k d h. atom_is _ (formed.atoms k d h) (mixture_atoms bounds most bs m clean k d h));
         some = omega (arith, each, formed.some);
-        few = omega (
-          arith,
-          each,
-          ltb-false most_atoms (length m.atoms) (not_at _ m.span (each_none _ (clean_first (too_long m) _ clean)).long),
-        );
+        few = omega (arith, each, long.0);
+        together = omega (arith, atoms_sum bs m.atoms, long.1);
         weights = if_there_is (flaws_of_shares bounds) grid_shares IsShares (shares_is bounds) m.weights
-            (clean_second (flaws_in (flaws_of_atom bounds most bs) m.atoms) _ (clean_second (too_long m) _ clean));
+            (clean_second (flaws_in (flaws_of_atom bounds most bs) m.atoms) _ (clean_second (too_long bounds m) _ clean));
       }
 
   clause_is : (o : Option Cession) → IfSome o IsFormedCession

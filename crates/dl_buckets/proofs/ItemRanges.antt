@@ -1,4 +1,4 @@
--- What good numbers and good ranges say of the values of a list: there are 1 to 1,024, and their parts are small.
+-- What good numbers and good ranges say of the values of a list: there are some, but not too many, and their parts are small.
 use Rattle.dl_buckets.proofs.Common.{◌≡◌, ℕ, zero, suc, ◌+◌, ◌<◌, ◌≤◌, List, [], ◌∷◌, Bool, true, false, map, flat_map, length, Option, Some, None, refl, sym, subst, arith, nat_lt, All, nat_tests, All-nil, All-cons, All-head, All-tail, All-append, All-map, length-map, Fraction, whole, whole_num, Span, is_above, IsClean, not_at, most_range_parts, HasPartsOf18Digits, IsRange, steps_in, value_at, range_values, range_denominator, Range, Numeral, ListItem, ListAst, IsFormedItem, IsFormedList, flaws_within, flaws_in, grid_list, flaws_of_numeral, is_no_range, flaws_of_item, flaws_of_list, value, value_or, range_of, spanned_item, spanned_values, Bounds, AreBounds}
 use Rattle.std.proofs.Common.{inl, inr, ◌*◌, ◌/◌, ◌-◌, ◌^◌, ◌||◌, ◌&&◌, is_some, mul-le-mul, mul-le-mul_right, length-append}
 use Rattle.std.specs.List.{range_with_len}
@@ -145,14 +145,18 @@ enough (i ∷ items) =
 
 -- ---- lists
 
+pub list_few : (bounds : Bounds) (l : ListAst) → IsClean (flaws_of_list bounds l) → length (spanned_values l) ≤ bounds.values
+list_few bounds l clean =
+    ltb-false bounds.values (length (spanned_values l))
+    (not_at _ l.span (each_none _ (clean_second (flaws_in flaws_of_item l.items) _ clean)).long)
+
 pub list_is : (bounds : Bounds) → AreBounds bounds → (l : ListAst) → IsFormedList l → IsClean (flaws_of_list bounds l) → IsValueList (grid_list l)
 list_is bounds within l formed clean =
     let each = length-map (spanned_values l) (λ pair. pair.0) in
     let items = clean_each flaws_of_item l.items (clean_first (flaws_in flaws_of_item l.items) _ clean) in
-    let long = clean_second (flaws_in flaws_of_item l.items) _ clean in
     record {
       some = omega (arith, each, enough l.items, formed.some);
-      few = omega (arith, each, within.values, ltb-false bounds.values (length (spanned_values l)) (not_at _ l.span (each_none _ long).long));
+      few = omega (arith, each, within.values, list_few bounds l clean);
       modest = All-map HasPartsOf18Digits (λ pair. pair.0) (spanned_values l)
           (all_joined (λ pair. HasPartsOf18Digits pair.0) spanned_item l.items
           (λ k d h. item_modest _ (formed.items k d h) (items k d h)));

@@ -28,5 +28,6 @@ pub mod Clean
 pub mod ItemRanges
 pub mod GridUnits
 pub mod Spanned
-pub mod LongMixtures
+pub mod ListLengths
 pub mod ReadUnits
+pub mod Wider

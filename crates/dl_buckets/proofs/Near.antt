@@ -1,5 +1,5 @@
 -- How large the amounts of a severity are, and how many there are.
-use Rattle.dl_buckets.proofs.Common.{◌==◌, amounts_of, ℕ, ◌≡◌, ◌*◌, ◌/◌, ◌≤◌, List, [], ◌∷◌, map, filter, zip, length, get_or, nat_lt, Option, Some, None, Bool, true, cond, refl, sym, subst, arith, All, length-map, All-nil, All-head, All-tail, All-weaker, All-append, All-map, Fraction, ◌*ℚ◌, IsWhole, Item, Sev, Pairs, conditioned, HasDistribution, Clause, layer, kept, IsClause, whole_num, scaled, with_amounts, layered, ceded_each, GridSev, GridLayer, atom_probs, atom_pairs, mixed, mixed_pairs, weights_of, is_conditioned, layer_pairs, support, IsGridAtom, IsGridSev, IsSevWithin}
+use Rattle.dl_buckets.proofs.Common.{◌==◌, amounts_of, ℕ, ◌≡◌, ◌*◌, ◌/◌, ◌≤◌, List, [], ◌∷◌, map, filter, zip, length, get_or, nat_lt, Option, Some, None, Bool, true, cond, refl, sym, subst, arith, All, length-map, All-nil, All-head, All-tail, All-weaker, All-append, All-map, Fraction, ◌*ℚ◌, IsWhole, Item, Sev, Pairs, conditioned, HasDistribution, Clause, layer, kept, IsClause, whole_num, scaled, with_amounts, layered, ceded_each, GridSev, GridLayer, atom_probs, atom_pairs, mixed, mixed_pairs, weights_of, is_conditioned, layer_pairs, support, GridAtom, IsGridSev, IsSevWithin, most_values, sum_by, sum_by-cons}
 use Rattle.std.proofs.Common.{length-append}
 use Rattle.std.specs.Cmp.{IsEquivalence}
 use Rattle.std.specs.Set.{is_member}
@@ -38,17 +38,28 @@ all_mixed_near b (w ∷ ws) (ps ∷ lists) h =
     (All-map (λ pair. pair.0 ≤ b) (λ (pair : ℕ × Fraction). (pair.0, w *ℚ pair.1)) ps (All-head (Near b) ps lists h))
     (all_mixed_near b ws lists (All-tail (Near b) ps lists h))
 
-all_mixed_few : (n : ℕ) (ws : List Fraction) (lists : List Pairs) → All (λ ps. length ps ≤ n) lists
-    → length (mixed ws lists) ≤ length lists * n
-all_mixed_few n [] lists h = omega arith
-all_mixed_few n (w ∷ ws) [] h = omega arith
-all_mixed_few n (w ∷ ws) (ps ∷ lists) h =
+all_mixed_few : (ws : List Fraction) (lists : List Pairs) → length (mixed ws lists) ≤ sum_by (λ ps. length ps) lists
+all_mixed_few [] lists = omega arith
+all_mixed_few (w ∷ ws) [] = omega arith
+all_mixed_few (w ∷ ws) (ps ∷ lists) =
     omega (
       arith,
       length-append (scaled w ps) (mixed ws lists),
       length-map {B = ℕ × Fraction} ps (λ (pair : ℕ × Fraction). (pair.0, w *ℚ pair.1)),
-      All-head (λ qs. length qs ≤ n) ps lists h,
-      all_mixed_few n ws lists (All-tail (λ qs. length qs ≤ n) ps lists h),
+      sum_by-cons (λ (qs : Pairs). length qs) ps lists,
+      all_mixed_few ws lists,
+    )
+
+-- the atoms have no more pairs than amounts
+pairs_few : (atoms : List GridAtom) → sum_by (λ (ps : Pairs). length ps) (map atom_pairs atoms) ≤ sum_by (λ a. length a.amounts) atoms
+pairs_few [] = omega arith
+pairs_few (a ∷ atoms) =
+    omega (
+      arith,
+      sum_by-cons (λ (ps : Pairs). length ps) (atom_pairs a) (map atom_pairs atoms),
+      sum_by-cons (λ (g : GridAtom). length g.amounts) a atoms,
+      length-zip a.amounts (atom_probs a),
+      pairs_few atoms,
     )
 
 mixed_near : (b : ℕ) (s : GridSev) → IsSevWithin b s → Near b (mixed_pairs s)
@@ -56,17 +67,9 @@ mixed_near b s near =
     all_mixed_near b (weights_of s) (map atom_pairs s.atoms) (All-map (Near b) atom_pairs s.atoms
     (λ k d h. zip_near b (get_or s.atoms k d).amounts (atom_probs (get_or s.atoms k d)) (near k d h)))
 
-mixed_few : (s : GridSev) → IsGridSev s → length (mixed_pairs s) ≤ 65536
+mixed_few : (s : GridSev) → IsGridSev s → length (mixed_pairs s) ≤ most_values
 mixed_few s grid =
-    omega (
-      arith,
-      all_mixed_few 1024 (weights_of s) (map atom_pairs s.atoms)
-          (All-map (λ ps. length ps ≤ 1024) atom_pairs s.atoms
-          (All-weaker IsGridAtom (λ a. length (atom_pairs a) ≤ 1024)
-          (λ a each. omega (arith, length-zip a.amounts (atom_probs a), each.few)) s.atoms grid.atoms)),
-      length-map s.atoms atom_pairs,
-      grid.few,
-    )
+    omega (arith, all_mixed_few (weights_of s) (map atom_pairs s.atoms), pairs_few s.atoms, grid.together)
 
 -- ---- the layer
 
@@ -103,7 +106,7 @@ in_layer_near (Some l) bang s b near =
     layered_near b l.limit l.attach (is_conditioned bang l) (mixed_pairs s) (mixed_near b s near)
 
 pub in_layer_few : (o : Option GridLayer) (bang : Bool) (s : GridSev) → IsGridSev s
-    → length (layer_pairs o bang s) ≤ 65536
+    → length (layer_pairs o bang s) ≤ most_values
 in_layer_few None bang s grid = mixed_few s grid
 in_layer_few (Some l) bang s grid =
     omega (arith, layered_few l.limit l.attach (is_conditioned bang l) (mixed_pairs s), mixed_few s grid)

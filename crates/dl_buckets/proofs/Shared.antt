@@ -1,5 +1,5 @@
 -- Fine probabilities that sum to 1, and their whole weights.
-use Rattle.dl_buckets.proofs.Common.{leb-true, le-leb, eqb-true, false_from_ne_true, ◌≡◌, ◌≢◌, ◌∙◌, ℕ, zero, suc, ◌<◌, ◌≤◌, ◌^◌, List, [], ◌∷◌, ◌++◌, map, length, true, false, Some, None, inl, inr, refl, sym, ap, ap₂, subst, arith, All, ◌∣◌, MatchOption, All-head, All-tail, Fraction, whole, ◌over◌, over_self, over_same, whole_num, whole_den, IsFineTo40Bits, common_denominator, common_pos, den_divides, sum_of, Weights, IsWeighing, Span, at_if, Shares, is_fine, is_one, is_not_one, weights_over, IsShares, AreProbabilities, Bool, ◌&&◌, are_fine, and_parts, most_weights}
+use Rattle.dl_buckets.proofs.Common.{most_values, leb-true, le-leb, eqb-true, false_from_ne_true, ◌≡◌, ◌≢◌, ◌∙◌, ℕ, zero, suc, ◌<◌, ◌≤◌, ◌^◌, List, [], ◌∷◌, ◌++◌, map, length, true, false, Some, None, inl, inr, refl, sym, ap, ap₂, subst, arith, All, ◌∣◌, MatchOption, All-head, All-tail, Fraction, whole, ◌over◌, over_self, over_same, whole_num, whole_den, IsFineTo40Bits, common_denominator, common_pos, den_divides, sum_of, Weights, IsWeighing, Span, at_if, Shares, is_fine, is_one, is_not_one, weights_over, IsShares, AreProbabilities, Bool, ◌&&◌, are_fine, and_parts, most_weights}
 use Rattle.std.specs.Prelude.{nat_le, replicate}
 use Rattle.std.proofs.Math.Bool.{and-false, and-true}
 use Rattle.std.proofs.lemmas.Bool.{cases_Bool}
@@ -197,7 +197,7 @@ equal_common n h =
     omega (arith, below, above)
 
 -- so many equal shares of 1 have the weight 1 each
-pub equal_weighing : (n : ℕ) (ws : List ℕ) → 0 < n → n ≤ 1024 → ws ≡ replicate n 1
+pub equal_weighing : (n : ℕ) (ws : List ℕ) → 0 < n → n ≤ most_values → ws ≡ replicate n 1
     → IsWeighing (replicate n (1 over n)) (record { weights = ws; total = n })
 equal_weighing n ws some few e = record {
   shares = ap (map (λ w. w over n)) e ∙ map_replicate (λ w. w over n) n 1;

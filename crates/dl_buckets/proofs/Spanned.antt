@@ -1,5 +1,6 @@
 -- The values of a list whose numerals and ranges are good.
-use Rattle.dl_buckets.proofs.Common.{ℕ, ◌≡◌, ◌∙◌, ◌<◌, ◌≤◌, List, [], ◌∷◌, map, flat_map, length, take, get_or, Option, Some, None, refl, sym, ap, subst, arith, All, All-nil, All-cons, All-map, length-map, Fraction, Span, else_second, IsClean, flaws_else, HasPartsOf18Digits, IsRange, range_values, Range, Numeral, ListItem, ListAst, IsFormedList, Flaws, Gridded, IsReadTo, AgreeToFirst, AreNone, spans, flaws_in, flaws_within, range_at, long_at, flaws_of_numeral, flaws_of_item, flaws_of_list, spanned_range, spanned_in, spanned_item, spanned_values, AreTooMany, Bounds, ◌+◌}
+use Rattle.dl_buckets.proofs.Common.{ℕ, ◌≡◌, ◌∙◌, ◌<◌, ◌≤◌, List, [], ◌∷◌, map, flat_map, length, take, get_or, false, Option, Some, None, refl, sym, ap, subst, arith, All, All-nil, All-cons, All-map, length-map, Fraction, Span, else_second, IsClean, flaws_else, HasPartsOf18Digits, IsRange, range_values, Range, Numeral, ListItem, ListAst, IsFormedItem, IsFormedList, Flaws, Gridded, IsReadTo, AgreeToFirst, AreNone, spans, flaws_in, flaws_within, range_at, long_at, flaws_of_numeral, flaws_of_item, flaws_of_list, range_of, spanned_range, spanned_in, spanned_item, spanned_values, AreTooMany, Bounds, ◌+◌}
+use Rattle.std.specs.Prelude.{is_some}
 use Rattle.std.proofs.lemmas.List.Folds.{flat_map-map, length-flat_map-take}
 use Rattle.dl_sev.specs.declared.fault.ExpandFault.{ExpandFault}
 use Rattle.dl_sev.specs.declared.fault.ExpandFault.TheVariants.{TooLong, OutOfMemory}
@@ -44,6 +45,18 @@ items_clean (i ∷ items) h =
     All-cons (λ j. IsClean (flaws_of_item j)) i items
     (no_later i.from i.to i.step _ (keeps_first 2 (flaws_of_item i) (flaws_in flaws_of_item items) h))
     (items_clean items (keeps_second 2 (flaws_of_item i) (flaws_in flaws_of_item items) h))
+
+pub none_is : {A : Type 0} (o : Option A) → is_some o ≡ false → o ≡ None
+none_is None e = refl
+none_is (Some x) e = absurd (cc)
+
+-- the range of an item whose numerals are good, and which is one
+pub range_good : (i : ListItem) → IsFormedItem i → (range : Gridded Range) → IsReadTo 2 (flaws_of_item i) (range_of i) range
+    → range.flaws.numeral ≡ None → range.flaws.range ≡ None → IsRange range.part
+range_good i formed range read numeral ranged =
+    let one = sym read.first.0 ∙ numeral in
+    let two = sym (read.first.1 one).0 ∙ ranged in
+    subst IsRange (sym (read.right (one, (two, tt)))) (item_is i formed (no_later i.from i.to i.step _ (one, (two, tt))))
 
 pub many : (bounds : Bounds) (l : ListAst) → bounds.values < length l.items
     → bounds.values < length (spanned_values l)

@@ -2,6 +2,7 @@
 -- parts, but not too many. Lists that belong together are equally long, and fine probabilities sum
 -- to 1.
 use Rattle.std.specs.Prelude.{ℕ, ◌≡◌, ◌<◌, ◌≤◌, length, All, IfSome, None}
+use Rattle.std.specs.List.{sum_by}
 use Rattle.dl_limits.specs.Limits.{most_amount, most_atoms, most_layers, most_values}
 use Rattle.dl_buckets.specs.Small.{IsSmall, IsShares, IsGridCount}
 use Rattle.dl_buckets.specs.declared.grid.GridAtom.{GridAtom}
@@ -12,7 +13,7 @@ use Rattle.dl_buckets.specs.declared.grid.GridUnit.{GridUnit}
 use Rattle.dl_buckets.specs.Severity.{atom_probs}
 use Rattle.dl_buckets.specs.Rules.{count_lengths}
 
--- 1 to 1,024 amounts, each with one probability
+-- 1 to 65,536 amounts, each with one probability
 pub record IsGridAtom (a : GridAtom) : Type 0 where
   pub some : 0 < length a.amounts
   pub few : length a.amounts ≤ most_values
@@ -20,11 +21,12 @@ pub record IsGridAtom (a : GridAtom) : Type 0 where
   pub probs : IfSome a.probs IsShares
   pub each : length (atom_probs a) ≡ length a.amounts
 
--- 1 to 64 atoms
+-- 1 to 64 atoms, with at most 65,536 amounts together
 pub record IsGridSev (s : GridSev) : Type 0 where
   pub atoms : All IsGridAtom s.atoms
   pub some : 0 < length s.atoms
   pub few : length s.atoms ≤ most_atoms
+  pub together : sum_by (λ a. length a.amounts) s.atoms ≤ most_values
   pub weights : IfSome s.weights IsShares
 
 -- a limit and an attachment of at most so many buckets

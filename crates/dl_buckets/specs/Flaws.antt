@@ -78,13 +78,17 @@ abbrev pub AreNone : List (Option Span) → Type 0
 AreNone [] = ⊤
 AreNone (x ∷ xs) = (x ≡ None) × AreNone xs
 
--- the same as far as the rules on numerals and ranges
-abbrev pub AgreeEarly : Flaws → Flaws → Type 0
-AgreeEarly made flaws = AgreeToFirst (take 2 (spans made)) (take 2 (spans flaws))
+-- the same as far as the rules on the lengths of lists
+abbrev pub AgreeOnLists : Flaws → Flaws → Type 0
+AgreeOnLists made flaws = AgreeToFirst (take 4 (spans made)) (take 4 (spans flaws))
 
 -- the rules on numerals, ranges and the lengths of lists are kept
 abbrev pub KeepsLists : Flaws → Type 0
 KeepsLists flaws = AreNone (take 3 (spans flaws))
+
+-- and that on lists that belong together
+abbrev pub KeepsLengths : Flaws → Type 0
+KeepsLengths flaws = AreNone (take 4 (spans flaws))
 
 -- no rule is broken
 abbrev pub IsClean : Flaws → Type 0

@@ -4,6 +4,7 @@ pub mod Flaws
 pub mod Lists
 pub mod Small
 pub mod Reading
+pub mod Listed
 pub mod Grid
 pub mod Clauses
 pub mod Severity

@@ -1,8 +1,9 @@
 -- The flaws of a unit: of each of the rules 2 to 8 the first place in the text where it is broken.
 -- Amounts of money are in buckets of size bs, and at most `most` of them. How long a list may be,
 -- and which one is fine, is read from the bounds.
-use Rattle.std.specs.Prelude.{ℕ, Bool, true, false, not, ◌&&◌, ◌||◌, ◌==◌, nat_lt, is_some, length}
-use Rattle.dl_limits.specs.Limits.{most_atoms, most_layers, most_range_parts}
+use Rattle.std.specs.Prelude.{ℕ, Bool, true, false, not, ◌&&◌, ◌||◌, ◌==◌, nat_lt, is_some, List, length}
+use Rattle.std.specs.List.{list_any, sum_by}
+use Rattle.dl_limits.specs.Limits.{most_atoms, most_layers, most_range_parts, most_values}
 use Rattle.dl_limits.specs.declared.rules.Bounds.{Bounds}
 use Rattle.dl_exact.specs.Fraction.{Fraction, whole}
 use Rattle.dl_sev.specs.Prelude.{buckets, range_denominator}
@@ -70,8 +71,8 @@ flaws_of_item i =
     (flaws_else (flaws_within flaws_of_numeral i.step)
     (range_at (at_if (is_some i.to && is_no_range (range_of i)) i.span))))
 
--- 4 ListTooLong: a list has more values than it may have; below, a severity more than 64 atoms, and
--- a clause more than 16 layers
+-- 4 ListTooLong: a list has more values than it may have; below, a severity more than 64 atoms or
+-- more values than it may have in all, and a clause more than 16 layers
 abbrev pub flaws_of_list : Bounds → ListAst → Flaws
 flaws_of_list bounds l =
     flaws_else (flaws_in flaws_of_item l.items)
@@ -100,9 +101,22 @@ flaws_of_atom bounds most bs a =
     flaws_else (flaws_of_amounts bounds most bs a.values)
     (flaws_within (flaws_beside bounds (length (spanned_values a.values))) a.probs)
 
+-- how many values an atom has
+abbrev pub values_in : Atom → ℕ
+values_in a = length (spanned_values a.values)
+
+-- no list of an atom's values is too long, and they have more than 65,536 values together
+abbrev pub are_many_values : Bounds → List Atom → Bool
+are_many_values bounds atoms =
+    not (list_any (λ a. nat_lt bounds.values (values_in a)) atoms)
+    && nat_lt most_values (sum_by values_in atoms)
+
+abbrev pub is_long_mixture : Bounds → MixAst → Bool
+is_long_mixture bounds m = nat_lt most_atoms (length m.atoms) || are_many_values bounds m.atoms
+
 abbrev pub flaws_of_mixture : Bounds → ℕ → Fraction → MixAst → Flaws
 flaws_of_mixture bounds most bs m =
-    flaws_else (long_at (at_if (nat_lt most_atoms (length m.atoms)) m.span))
+    flaws_else (long_at (at_if (is_long_mixture bounds m) m.span))
     (flaws_else (flaws_in (flaws_of_atom bounds most bs) m.atoms)
     (flaws_within (flaws_of_shares bounds) m.weights))
 

@@ -18,7 +18,7 @@ pub record IsSmall (x : Fraction) : Type 0 where
   pub num : x.num < numeral_bound
   pub den : x.den ≤ numeral_bound
 
--- 1 to 1,024 values
+-- 1 to 65,536 values
 pub record IsValueList (l : ValueList) : Type 0 where
   pub some : 0 < length l.values
   pub few : length l.values ≤ most_values

@@ -1,7 +1,7 @@
 //! Of each rule on reading a unit, the first place in the text where it is broken.
 
-ghost use Rattle.std.specs.Prelude.{◌≡◌, Some};
-ghost use Rattle.dl_buckets.specs.Flaws.{no_flaws, flaws_else, earlier_flaws, long_at};
+ghost use Rattle.std.specs.Prelude.{◌≡◌, ◌↔◌, IsTrue, Some};
+ghost use Rattle.dl_buckets.specs.Flaws.{KeepsLengths, no_flaws, flaws_else, earlier_flaws, long_at};
 
 use dl_lexer::Span;
 
@@ -13,8 +13,8 @@ pub struct Flaws {
     pub numeral: Option<Span>,
     /// A range that goes down, has the step 0, or too fine numbers.
     pub range: Option<Span>,
-    /// A list of more values than the bounds allow, a severity of more than 64 atoms, or a clause of
-    /// more than 16 layers.
+    /// A list of more values than the bounds allow, a severity of more than 64 atoms or of more than
+    /// 65,536 values together, or a clause of more than 16 layers.
     pub long: Option<Span>,
     /// Probabilities beside another number of values.
     pub lengths: Option<Span>,
@@ -50,6 +50,16 @@ impl Flaws {
             long: span,
             ..Flaws::none()
         }
+    }
+
+    /// Whether the rules on numerals, ranges and the lengths of lists are kept.
+    pub(crate) fn keep_lengths(&self) -> bool
+        ensures { IsTrue result ↔ KeepsLengths self.now }
+    {
+        self.numeral.is_none()
+            && self.range.is_none()
+            && self.long.is_none()
+            && self.lengths.is_none()
     }
 
     /// These places, and for each rule without one that of a later part.

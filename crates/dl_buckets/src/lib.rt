@@ -1,10 +1,11 @@
-//! A unit of a text in whole buckets, each numeral and each list read once: its severity step by
-//! step, its layer and its clauses, and the rules on them.
+//! A unit of a text in whole buckets: its severity step by step, its layer and its clauses, and the
+//! rules on them.
 //!
-//! `grid_mixture` and `grid_unit` read the syntax of a unit once and give the unit in whole buckets
+//! `grid_mixture` and `grid_unit` read the syntax of a unit and give the unit in whole buckets
 //! (`grid_of`), with the first place of each of the seven rules that reading asks (`flaws_of`): the
 //! first broken rule and its place are those of the text, and where none is broken the unit is
-//! right (`IsRead`). Each later rule gives the first place of the unit in buckets where it is
+//! right (`IsRead`). The values of a severity are counted before they are made, so that no more are
+//! made than it may have. Each later rule gives the first place of the unit in buckets where it is
 //! broken. The few multiples that one of them looks at decide of all (`law_clauses`).
 #![tactic(auto)]
 
@@ -16,7 +17,7 @@ mod flaws;
 mod grid;
 mod law;
 mod layers;
-mod long_mixtures;
+mod list_lengths;
 mod losses;
 mod made;
 mod numbers;

@@ -16,11 +16,12 @@ use crate::count::{distribution, grid_count};
 use crate::flaws::{Flaws, Gridded};
 use crate::grid::{GridClause, GridCount, GridFreq, GridLayer, GridSev, GridUnit};
 use crate::layers::{unit_clause, unit_layer};
-use crate::long_mixtures::long_mixture;
+use crate::list_lengths::mixture_lists;
 use crate::losses::{grid_atoms, mixture_weights};
 use dl_ast::{MixAst, SevBody, UnitAst};
 use dl_frac::Frac;
-use dl_limits::{Bounds, MOST_ATOMS};
+use dl_limits::Bounds;
+use dl_plan::Items;
 use std::alloc::{AllocError, Global};
 
 /// The claim count of a unit, the clause of each claim and that of the unit's sum.
@@ -45,11 +46,11 @@ pub fn grid_mixture(
     requires formed { IsFormedMixture mix.now }
     ensures { IfOk result (IsRead (flaws_of_mixture bounds most bs mix.now) (grid_mixture bs mix.now)) }
 {
-    let atoms = mix.atoms.as_slice();
-    if atoms.len() > MOST_ATOMS {
-        return Ok(long_mixture(alloc, mix));
+    let lists = mixture_lists(mix, bounds);
+    if !lists.keep_lengths() {
+        return Ok(no_severity(alloc, lists));
     }
-    let atoms = grid_atoms(alloc, atoms, bs, most, bounds)?;
+    let atoms = grid_atoms(alloc, mix.atoms.as_slice(), bs, most, bounds)?;
     let weights = mixture_weights(alloc, &mix.weights, bounds)?;
     Ok(Gridded {
         part: GridSev {
@@ -58,6 +59,19 @@ pub fn grid_mixture(
         },
         flaws: atoms.flaws.or(weights.flaws),
     })
+}
+
+/// No atoms beside flaws.
+fn no_severity(alloc: Global, flaws: Flaws) -> Gridded<GridSev>
+    ensures { result.flaws ≡ flaws }
+{
+    Gridded {
+        part: GridSev {
+            atoms: Items::from_vec(Vec::new(alloc)),
+            weights: None,
+        },
+        flaws,
+    }
 }
 
 /// A unit with this severity in whole buckets of size `bs`, with the first place where it breaks

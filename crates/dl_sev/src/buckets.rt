@@ -13,7 +13,7 @@ use std::alloc::Global;
 
 /// The values over `bs`, which is above 0, as whole numbers of buckets. `OffGrid` with the place of
 /// the first that is not whole; else `TooFar` with that of the first above `top`, which is at most
-/// 2^22. There are at most 1,024 values, and the parts of each and of `bs` are below 10^18.
+/// 2^22. There are at most 65,536 values, and the parts of each and of `bs` are below 10^18.
 pub fn amounts(alloc: Global, values: &[Frac], bs: Frac, top: u32) -> Result<Vec<u32>, AmountFault>
     requires bucket { whole 0 <ℚ bs }
     requires modest { HasPartsOf18Digits bs }

@@ -1,6 +1,6 @@
 //! The values of a list.
 
-ghost use Rattle.std.specs.Prelude.{◌≡◌, ◌≢◌, ◌++◌, ◌≤◌, All, length, IfOk, IfErr, MatchResult};
+ghost use Rattle.std.specs.Prelude.{◌≡◌, ◌≢◌, ◌++◌, ◌≤◌, All, length, min, IfOk, IfErr, MatchResult};
 ghost use Rattle.dl_limits.specs.Limits.{most_range_parts};
 ghost use Rattle.dl_sev.specs.Ranges.{IsRange, IsShared, RefusesRanges, PassesRoom, list_values, range_values, range_denominator};
 
@@ -26,6 +26,23 @@ pub fn expand(alloc: Global, items: &[Range], most: usize) -> Result<Vec<Frac>, 
         }
     }
     Ok(values)
+}
+
+/// How many values a range has, but at most `most`.
+pub fn count_to(range: &Range, most: usize) -> usize
+    requires { IsRange range.now }
+    ensures { result ≡ min (length (range_values range.now)) most }
+{
+    if range.from == range.to {
+        return most.min(1);
+    }
+    let den = shared_denominator(range);
+    let from = numerator_over(range.from, den);
+    let steps = (numerator_over(range.to, den) - from) / numerator_over(range.step, den);
+    if steps >= most as u128 {
+        return most;
+    }
+    steps as usize + 1
 }
 
 /// The values of a range put behind others.

@@ -1,5 +1,5 @@
 -- A program that breaks no rule has a plan.
-use Rattle.dl_types.proofs.Common.{ℕ, zero, suc, ◌≡◌, ◌∙◌, ◌<◌, ◌≤◌, List, [], ◌∷◌, ◌++◌, length, take, get_or, None, refl, sym, ap, subst, arith, Ok, All, All-nil, Plan, Settings, IsValidUnit, UnitAst, Program, IsWellFormed, in_turn, expected_claims, cells_asked, fault_on_grid, first_fault_of, first_fault, AnswersUnit, AnswersUnits, aggregate_clause, GridUnit, IsGridUnit, too_many_units, breaks, IsSet, else_first, else_second, clauses_layered, most_amount_at, amount_fits, IsWithin, add-one, UnitOfPlan, IsValid, IsFormedUnit, IsFormedMixture, IsFormedDefinition, fault_of_text, fault_of_mixture, fault_of_severity, fault_with, AnswersWith, mixture_of, MixAst, PortHead, SevDef, Option, Some, IfSome, IsPlanOf, common_unit, grid_of, IsClean, flaws_of, turn_start, turn_none, grid_is, within_is, bounds_asked}
+use Rattle.dl_types.proofs.Common.{ℕ, zero, suc, ◌≡◌, ◌∙◌, ◌<◌, ◌≤◌, List, [], ◌∷◌, ◌++◌, length, take, get_or, None, refl, sym, ap, subst, arith, Ok, All, All-nil, Plan, Settings, IsValidUnit, UnitAst, Program, IsWellFormed, in_turn, expected_claims, cells_asked, fault_on_grid, fault_of_port, first_fault_of, first_fault, AnswersUnit, AnswersUnits, aggregate_clause, GridUnit, IsGridUnit, too_many_units, breaks, IsSet, else_first, else_second, clauses_layered, most_amount_at, amount_fits, IsWithin, standard_units, add-one, UnitOfPlan, IsValid, IsFormedUnit, IsFormedMixture, IsFormedDefinition, fault_of_text, fault_of_mixture, fault_of_severity, fault_with, AnswersWith, mixture_of, MixAst, PortHead, SevDef, Option, Some, IfSome, IsPlanOf, common_unit, grid_of, IsClean, flaws_of, turn_start, turn_none, grid_is, within_is, bounds_asked}
 use Rattle.dl_types.specs.declared.rule.Rule.TheVariants as rules
 use Rattle.dl_buckets.proofs.SevThere.{final_there}
 use Rattle.dl_types.proofs.Aggregates.{clause_there}
@@ -8,6 +8,8 @@ use Rattle.dl_types.proofs.UnitFacts.{asked_within, layered_is, fine_agr, fine_s
 use Rattle.dl_types.proofs.RuleLists.{both}
 use Rattle.dl_types.proofs.Texts.{text_clean}
 use Rattle.dl_types.proofs.FactorKept.{shape_there}
+use Rattle.dl_types.proofs.ProgramSizes.{total_few}
+use Rattle.dl_types.specs.Faults.{fault_of_total}
 use Rattle.dl_types.proofs.ProgramUnits.{Planned, planned_more, planned_all, few_units, plan_of_units, formed_mixture, answer_with}
 
 -- ---- a unit
@@ -124,10 +126,19 @@ accepted program settings formed set none =
     let names = else_first (in_turn fault_of_severity [] program.sevs) _ many.1 in
     let later = else_second (in_turn fault_of_severity [] program.sevs) _ many.1 in
     let each = else_first (in_turn (first_fault_of settings program.port program.sevs) [] program.units) _ later in
-    let yet = else_second (in_turn (first_fault_of settings program.port program.sevs) [] program.units) _ later in
+    let rest = else_second (in_turn (first_fault_of settings program.port program.sevs) [] program.units) _ later in
+    let yet = else_first (fault_of_port settings program) _ rest in
+    let last = else_second (fault_of_port settings program) _ rest in
     let units = units_there settings program.port program.sevs program.units formed.sevs formed.units each in
     let shape = shape_there settings program units.0 units.1 yet in
     let plan : Plan = record { bs = settings.bs; cells = cells_asked settings; units = units.0; common = shape.0 } in
     let answer = plan_of_units program settings plan refl refl shape.1 shape.2 set formed
-    (omega (arith, few_units bounds.units program.units many.0, (asked_within settings).units)) many.0 names units.1 yet in
+    (omega (arith, few_units bounds.units program.units many.0, (asked_within settings).units)) many.0 names units.1 yet last in
     (plan, answer.1, answer.2)
+
+-- at most 16 units that break no rule of their own are not too large all together
+pub few_accepted : (program : Program) (settings : Settings) → IsWellFormed program → length program.units ≤ standard_units
+    → in_turn (first_fault_of settings program.port program.sevs) [] program.units ≡ None → fault_of_total settings program ≡ None
+few_accepted program settings formed few none =
+    let units = units_there settings program.port program.sevs program.units formed.sevs formed.units none in
+    total_few settings program units.0 units.1 few

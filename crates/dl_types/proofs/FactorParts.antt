@@ -1,5 +1,5 @@
 -- The parts of a plan's units are those of the program's: what is too large for a factor is so in both.
-use Rattle.dl_types.proofs.Common.{◌≡◌, ◌∙◌, ℕ, suc, ◌&&◌, ◌||◌, ◌∣◌, true, false, not, is_some, List, [], ◌∷◌, length, map, take, get_or, nat_lt, Option, Some, None, refl, sym, ap, ap₂, subst, All, All-nil, All-cons, All-head, All-tail, All-map, Ok, most_shape, Fraction, whole, ◌over◌, ◌*ℚ◌, Item, Sev, Pairs, HasDistribution, IsValidUnit, Settings, Program, UnitAst, else_second, not_at, not-false, GridUnit, GridCount, Exposed, Listed, Fixed, Poisson, Bernoulli, Binomial, Gamma, final_severity, support, first_fault_of, cells_asked, AnswersUnits, flat_map, and_parts, or_parts, flat_map-cons, All-append, dvd_antisymm, AllZip, ◌-ℚ◌, ◌/ℚ◌, common_denominator, probability, IsUnbounded, expected_of_plan, IsPoisson, CanShare, Freq, UnitOfPlan, den_divides, MixAst, Numeral, PortHead, SevDef, value, if_there, at_if, within, nat_le, most_expected, most_parts, raised, is_fine, is_zero, from_map, grid_of, grid_count, given_zero, grid_clause, turn_none, item_share, items_in, all_left, all_right, common_divides, shape_of, fault_of_mixture, common_size, parts_in, Part, claim_share, amount_shares, claims_expected, part_on, part_of_mixture, part_in, part_of, is_raised_coarse, passes_bounds, passes_with, IsCounted, running_sum, is_too_large, IsCountOf, IsUnitOn, IsUnitOf, aggregate_clause, is_poisson, is_plain_poisson, has_common, passes, common_unit, mixture_of}
+use Rattle.dl_types.proofs.Common.{◌≡◌, ◌∙◌, ℕ, ◌&&◌, ◌||◌, ◌∣◌, true, false, not, is_some, List, [], ◌∷◌, length, map, take, get_or, Option, Some, None, refl, sym, ap, ap₂, subst, All, All-nil, All-cons, All-head, All-tail, All-map, Ok, Fraction, whole, ◌over◌, ◌*ℚ◌, Item, Sev, Pairs, HasDistribution, IsValidUnit, Settings, Program, UnitAst, else_second, not_at, not-false, GridUnit, GridCount, Exposed, Listed, Fixed, Poisson, Bernoulli, Binomial, Gamma, final_severity, support, first_fault_of, cells_asked, AnswersUnits, flat_map, and_parts, or_parts, flat_map-cons, All-append, dvd_antisymm, AllZip, ◌-ℚ◌, ◌/ℚ◌, common_denominator, probability, IsUnbounded, expected_of_plan, IsPoisson, CanShare, Freq, UnitOfPlan, den_divides, MixAst, Numeral, PortHead, SevDef, value, if_there, at_if, within, nat_le, most_expected, raised, is_fine, is_zero, from_map, grid_of, grid_count, given_zero, grid_clause, turn_none, item_share, items_in, all_left, all_right, common_divides, shape_of, fault_of_mixture, common_size, parts_in, Part, claim_share, amount_shares, claims_expected, part_on, part_of_mixture, part_in, part_of, is_coarse_under, has_no_next, bounds_asked, Bounds, passes_bounds, passes_with, IsCounted, running_sum, is_too_large, IsCountOf, IsUnitOn, IsUnitOf, aggregate_clause, is_poisson, is_plain_poisson, has_common, passes, common_unit, mixture_of}
 use Rattle.dl_plan.specs.declared.plan.Freq.TheVariants as of_plan
 use Rattle.dl_ast.specs.declared.ast.CountAst.{CountAst}
 use Rattle.dl_ast.specs.declared.ast.CountAst.TheVariants as counts
@@ -81,26 +81,27 @@ module _ (ps qs : List Part) (h : AllZip SamePart ps qs) (v : Fraction) where
       (common_divides (amounts qs) (common_denominator (amounts ps))
       (amounts_divide v (common_denominator (amounts ps)) ps qs h (den_divides 1 (amounts ps))))
 
-  same_bounds : (r : ℕ) (u : Fraction) → passes_bounds r v u ps ≡ passes_bounds r v u qs
-  same_bounds r u =
-      ap₂ (λ xs n. is_zero v || is_raised_coarse r v || is_raised_coarse r u || passes (raised r u) most_expected
-      || not (is_fine most_parts xs) || not (nat_le n most_parts))
+  same_bounds : (most : ℕ) (r u : Fraction) → passes_bounds most r v u ps ≡ passes_bounds most r v u qs
+  same_bounds most r u =
+      ap₂ (λ xs n. is_zero v || is_coarse_under r v || is_coarse_under r u || passes (raised r u) most_expected
+      || not (is_fine most xs) || not (nat_le n most))
       (map_alike SamePart (claim_share v) (claim_share v) (λ p q s. ap (λ n. n /ℚ v) s.expected) ps qs h) same_denominator
 
-same_with : (ps qs : List Part) → AllZip SamePart ps qs → (r : ℕ) (v u : Option Fraction)
-    → passes_with r v u ps ≡ passes_with r v u qs
-same_with ps qs h r None u = refl
-same_with ps qs h r (Some v) None = refl
-same_with ps qs h r (Some v) (Some u) = same_bounds ps qs h v r u
+same_with : (ps qs : List Part) → AllZip SamePart ps qs → (most : ℕ) (r : Fraction) (v u : Option Fraction)
+    → passes_with most r v u ps ≡ passes_with most r v u qs
+same_with ps qs h most r None u = refl
+same_with ps qs h most r (Some v) None = refl
+same_with ps qs h most r (Some v) (Some u) = same_bounds ps qs h v most r u
 
-large_alike : (r : ℕ) (ps qs : List Part) → AllZip SamePart ps qs → is_too_large r ps ≡ is_too_large r qs
+large_alike : (most : ℕ) (r : Fraction) (ps qs : List Part) → AllZip SamePart ps qs
+    → is_too_large most r ps ≡ is_too_large most r qs
 unfolding is_too_large
-large_alike r ps qs h =
-    ap (λ b. nat_lt most_shape (suc r) || b)
-    (ap₂ (λ xs ys. passes_with r (running_sum (whole 0) xs) (running_sum (whole 0) ys) ps)
+large_alike most r ps qs h =
+    ap (λ b. has_no_next r || b)
+    (ap₂ (λ xs ys. passes_with most r (running_sum (whole 0) xs) (running_sum (whole 0) ys) ps)
     (map_alike SamePart (λ (p : Part). p.expected) (λ p. p.expected) (λ p q s. s.expected) ps qs h)
     (map_alike SamePart (λ (p : Part). p.above) (λ p. p.above) (λ p q s. s.above) ps qs h)
-    ∙ same_with ps qs h r (running_sum (whole 0) (map (λ (q : Part). q.expected) qs))
+    ∙ same_with ps qs h most r (running_sum (whole 0) (map (λ (q : Part). q.expected) qs))
     (running_sum (whole 0) (map (λ (q : Part). q.above) qs)))
 
 -- ---- a unit
@@ -111,7 +112,7 @@ poisson_claims bs g (Exposed e (Fixed _)) freq poisson is = absurd (subst IsPois
 poisson_claims bs g (Exposed e (Poisson _)) freq poisson is = sym (ap expected_of_plan is)
 poisson_claims bs g (Exposed e (Bernoulli _)) freq poisson is = absurd (subst IsPoisson is poisson)
 poisson_claims bs g (Exposed e (Binomial p _)) freq poisson is = absurd (subst IsPoisson is.2 poisson)
-poisson_claims bs g (Exposed e (Gamma c _)) freq poisson is = absurd (subst IsPoisson is.2 poisson)
+poisson_claims bs g (Exposed e (Gamma c _)) freq poisson is = absurd (subst IsPoisson is poisson)
 poisson_claims bs g (Listed counted probs) freq poisson is = absurd (subst IsPoisson is.0.2 poisson)
 
 same_on : (bs : Fraction) (text : List ℕ) (g : GridUnit) (made : UnitOfPlan) → IsPoisson made.freq
@@ -230,27 +231,32 @@ module _ (settings : Settings) (port : Option PortHead) (sevs : List SevDef) (un
         thinned = (valid.thinned (poisson_unbounded u.freq (all_can_share k d h).count)).0;
       }
 
-  pub large_parts : (r : ℕ) → is_too_large r (map part_of made) ≡ is_too_large r (map (part_in settings.bs sevs) units)
-  large_parts r =
-      sym (large_alike r (map (part_in settings.bs sevs) units) (map part_of made)
+  pub large_parts : (most : ℕ) (r : Fraction)
+      → is_too_large most r (map part_of made) ≡ is_too_large most r (map (part_in settings.bs sevs) units)
+  large_parts most r =
+      sym (large_alike most r (map (part_in settings.bs sevs) units) (map part_of made)
       (same_parts settings.bs sevs units made all_can_share answer.1))
 
 -- the place of the rule is the same for parts that are too large alike
-size_alike : (port : Option PortHead) (ps qs : List Part)
-    → (has_common port ≡ true → (r : ℕ) → is_too_large r ps ≡ is_too_large r qs)
-    → common_size port ps ≡ common_size port qs
-size_alike None ps qs same = refl
-size_alike (Some h) ps qs same = at_common h.common same
+size_alike : (bounds : Bounds) (port : Option PortHead) (ps qs : List Part)
+    → (has_common port ≡ true → (r : Fraction) → is_too_large bounds.parts r ps ≡ is_too_large bounds.parts r qs)
+    → common_size bounds port ps ≡ common_size bounds port qs
+size_alike bounds None ps qs same = refl
+size_alike bounds (Some h) ps qs same = at_common h.common same
   where
-    at_common : (common : Option Numeral) → (is_some common ≡ true → (r : ℕ) → is_too_large r ps ≡ is_too_large r qs)
-        → within (λ (c : Numeral). at_if (is_too_large (shape_of (value c)).num ps) h.name.span) common
-        ≡ within (λ (c : Numeral). at_if (is_too_large (shape_of (value c)).num qs) h.name.span) common
+    at_common : (common : Option Numeral)
+        → (is_some common ≡ true → (r : Fraction) → is_too_large bounds.parts r ps ≡ is_too_large bounds.parts r qs)
+        → within (λ (c : Numeral). at_if (is_too_large bounds.parts (shape_of (value c)) ps) h.name.span) common
+        ≡ within (λ (c : Numeral). at_if (is_too_large bounds.parts (shape_of (value c)) qs) h.name.span) common
     at_common None same = refl
-    at_common (Some c) same = ap (λ b. at_if b h.name.span) (same refl (shape_of (value c)).num)
+    at_common (Some c) same = ap (λ b. at_if b h.name.span) (same refl (shape_of (value c)))
 
 -- the place of the rule, by the units of the plan
 pub size_span : (settings : Settings) (program : Program) (made : List UnitOfPlan)
     → AnswersUnits settings program.port program.sevs program.units (Ok made)
-    → common_size program.port (map part_of made) ≡ common_size program.port (parts_in settings program)
-size_span settings program made answer = size_alike program.port (map part_of made) (parts_in settings program)
-    (large_parts settings program.port program.sevs program.units made answer)
+    → common_size (bounds_asked settings) program.port (map part_of made)
+    ≡ common_size (bounds_asked settings) program.port (parts_in settings program)
+size_span settings program made answer =
+    size_alike (bounds_asked settings) program.port (map part_of made) (parts_in settings program)
+    (λ common. large_parts settings program.port program.sevs program.units made answer common
+    (bounds_asked settings).parts)

@@ -1,6 +1,6 @@
 -- The shares of units in all expected claims, and their common denominators.
 use Rattle.std.proofs.lemmas.Grind.{flat_map-append}
-use Rattle.dl_types.proofs.Common.{◌≡◌, ◌∙◌, ℕ, ◌+◌, ◌*◌, ◌<◌, ◌≤◌, ◌&&◌, Bool, false, List, [], ◌∷◌, ◌++◌, length, map, take, get_or, inl, inr, refl, sym, ap, ap₂, subst, arith, Fraction, whole, ◌over◌, ◌*ℚ◌, ◌/ℚ◌, ◌≤ℚ◌, ◌<ℚ◌, div_times, Item, Sev, IsTooFine, drop, flat_map, lt-leb, and-false, get_or_default, flat_map_more, take-append-drop, fold-append, get_or-le-sum_by, le_of_dvd, most_parts, lcm, one_pos, one_times, times_le_cancel, times_le_both, lcm_right, le_over, over_le, over_mul, over_self, UnitOfPlan, unit_share, shared_probabilities, lcm_pos, common_from_pos, common_from_divides, severity_total, is_fine, common_multiple, times_amounts}
+use Rattle.dl_types.proofs.Common.{◌≡◌, ◌∙◌, ℕ, ◌+◌, ◌*◌, ◌<◌, ◌≤◌, ◌&&◌, Bool, false, List, [], ◌∷◌, ◌++◌, length, map, take, get_or, inl, inr, refl, sym, ap, ap₂, subst, arith, Fraction, whole, ◌over◌, ◌*ℚ◌, ◌/ℚ◌, ◌≤ℚ◌, ◌<ℚ◌, div_times, Item, Sev, IsTooFine, drop, flat_map, lt-leb, and-false, get_or_default, flat_map_more, take-append-drop, fold-append, get_or-le-sum_by, le_of_dvd, most_weights, lcm, one_pos, one_times, times_le_cancel, times_le_both, lcm_right, le_over, over_le, over_mul, over_self, UnitOfPlan, unit_share, shared_probabilities, lcm_pos, common_from_pos, common_from_divides, severity_total, is_fine, common_multiple, times_amounts}
 use Rattle.dl_types.proofs.Naming.{one_more, maps_more, maps_split}
 
 -- ---- parts of a whole
@@ -18,7 +18,7 @@ num_within x h = omega (
 )
 
 -- a fraction of at most 1 that is refused has a large denominator
-pub coarse_part : (x : Fraction) → IsTooFine x → x ≤ℚ whole 1 → most_parts < x.den
+pub coarse_part : (x : Fraction) → IsTooFine x → x ≤ℚ whole 1 → most_weights < x.den
 coarse_part x (inl far) h = omega (arith, far, num_within x h)
 coarse_part x (inr far) h = omega (arith, far)
 
@@ -62,9 +62,9 @@ module _ {A : Type 0} (f : A → Fraction) (m : ℕ) (xs : List A) (i : ℕ) (x 
   pub numbers_more : common_multiple m (map f (take (i + 1) xs)) ≡ lcm (common_multiple m (map f (take i xs))) (f x).den
   numbers_more = ap (common_multiple m) (sym (maps_more xs i x lt is f)) ∙ common_multiple_append m (map f (take i xs)) (f x ∷ [])
 
-  numbers_coarse : 0 < m → most_parts < lcm (common_multiple m (map f (take i xs))) (f x).den
-      → most_parts < common_multiple m (map f xs)
-  numbers_coarse pos far =
+  numbers_coarse : (most : ℕ) → 0 < m → most < lcm (common_multiple m (map f (take i xs))) (f x).den
+      → most < common_multiple m (map f xs)
+  numbers_coarse most pos far =
       omega (
         arith,
         far,
@@ -89,28 +89,30 @@ module _ (v : Fraction) (units : List UnitOfPlan) (i : ℕ) (u : UnitOfPlan) (lt
       ∙ ap (common_multiple 1) (sym (flat_map_more (shared_probabilities v) [] (take i units) u))
       ∙ common_multiple_append 1 (amounts (take i units)) (shared_probabilities v u)
 
-  abbrev fine : Bool
-  fine = is_fine most_parts (claims units) && is_fine most_parts (amounts units)
+  abbrev fine : ℕ → Bool
+  fine most = is_fine most (claims units) && is_fine most (amounts units)
 
-  pub claims_coarse : most_parts < lcm (common_multiple 1 (claims (take i units))) (unit_share v u).den → false ≡ fine
-  claims_coarse far =
-      sym (ap (λ b. b && is_fine most_parts (amounts units)) (lt-leb (common_multiple 1 (claims units)) most_parts
-      (numbers_coarse (unit_share v) 1 units i u lt is (omega arith) far)))
+  pub claims_coarse : (most : ℕ) → most < lcm (common_multiple 1 (claims (take i units))) (unit_share v u).den
+      → false ≡ fine most
+  claims_coarse most far =
+      sym (ap (λ b. b && is_fine most (amounts units)) (lt-leb (common_multiple 1 (claims units)) most
+      (numbers_coarse (unit_share v) 1 units i u lt is most (omega arith) far)))
 
-  pub amounts_coarse : most_parts < common_multiple (common_multiple 1 (amounts (take i units))) (shared_probabilities v u) → false ≡ fine
-  amounts_coarse far =
+  pub amounts_coarse : (most : ℕ)
+      → most < common_multiple (common_multiple 1 (amounts (take i units))) (shared_probabilities v u) → false ≡ fine most
+  amounts_coarse most far =
       let split : amounts units ≡ amounts (take (i + 1) units) ++ amounts (drop (i + 1) units) =
       ap amounts (sym (take-append-drop (i + 1) units))
       ∙ flat_map-append (shared_probabilities v) (take (i + 1) units) (drop (i + 1) units) in
-      let more : most_parts < common_multiple 1 (amounts units) = omega (
+      let more : most < common_multiple 1 (amounts units) = omega (
         arith,
         far,
         amounts_more,
         common_multiple_within 1 (amounts (take (i + 1) units)) (amounts (drop (i + 1) units)) (omega arith),
         ap (common_multiple 1) split,
       ) in
-      sym (ap (λ b. is_fine most_parts (claims units) && b) (lt-leb (common_multiple 1 (amounts units)) most_parts more)
-      ∙ and-false (is_fine most_parts (claims units)))
+      sym (ap (λ b. is_fine most (claims units) && b) (lt-leb (common_multiple 1 (amounts units)) most more)
+      ∙ and-false (is_fine most (claims units)))
 
 -- ---- the amounts of one unit, from whole numbers
 
@@ -138,18 +140,19 @@ module _ (share : Fraction) (sev : Sev) (within : share ≤ℚ whole 1) (xs : Li
       (weight_within sev k item (subst (λ (ys : List Item). k < length ys) same lt)
       (subst (λ (ys : List Item). item ≡ get_or ys k item) same is)) within
 
-  pub amount_coarse : (e : ℕ) → e ≡ (f item).den → (lcm multiple e ≤ most_parts → ⊥)
-      → common_multiple m (times_amounts share sev) ≤ most_parts → ⊥
-  amount_coarse e is_den far few =
-      let more = numbers_coarse f m xs k item lt is pos
-      (subst (λ a. most_parts < a) (ap₂ lcm so_far is_den) (omega (arith, far))) in
+  pub amount_coarse : (most e : ℕ) → e ≡ (f item).den → (lcm multiple e ≤ most → ⊥)
+      → common_multiple m (times_amounts share sev) ≤ most → ⊥
+  amount_coarse most e is_den far few =
+      let more = numbers_coarse f m xs k item lt is most pos
+      (subst (λ a. most < a) (ap₂ lcm so_far is_den) (omega (arith, far))) in
       omega (arith, more, few, ap (λ (ys : List Item). common_multiple m (map f ys)) same)
 
-  pub amount_refused : IsTooFine ((n * item.weight) over (d * sev.total))
-      → common_multiple m (times_amounts share sev) ≤ most_parts → ⊥
-  amount_refused fine =
-      amount_coarse (f item).den refl (λ few. omega (
+  pub amount_refused : (most : ℕ) → most ≤ most_weights → IsTooFine ((n * item.weight) over (d * sev.total))
+      → common_multiple m (times_amounts share sev) ≤ most → ⊥
+  amount_refused most bound fine =
+      amount_coarse most (f item).den refl (λ few. omega (
         arith,
+        bound,
         few,
         lcm_reaches multiple (f item).den some (f item).positive,
         coarse_part (f item) (subst IsTooFine product_is_share fine) part,

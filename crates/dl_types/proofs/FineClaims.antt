@@ -30,10 +30,13 @@ module _ (bounds : Bounds) (u : GridUnit) where
     pub agr_shares : has_shares u.agr ≡ true
     agr_shares = not-false _ parts.2
 
+    pub severity_fine : has_severity bounds u.sev ≡ true
+    severity_fine = not-false _ (or_parts others (not (has_severity bounds u.sev)) fine).1
+
   -- the place of the rule
   module _ (n : Option Fraction) where
     abbrev exposed : Bool
-    exposed = exposed_too_fine u.count n (claims_above_zero (final_severity u) n)
+    exposed = exposed_too_fine bounds u.count n (claims_above_zero (final_severity u) n)
 
     pub coarse_span : fractions_too_fine bounds u ≡ true → too_fine bounds u n ≡ Some u.name
     unfolding too_fine

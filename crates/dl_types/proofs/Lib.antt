@@ -5,6 +5,8 @@ mod Stops
 pub mod ClauseFacts
 pub mod ListedCounts
 pub mod Ratios
+pub mod Sizes
+pub mod Shapes
 pub mod Exposed
 pub mod ExposedCounts
 pub mod FineClaims
@@ -15,6 +17,7 @@ pub mod FactorShares
 pub mod FactorBounds
 pub mod Aggregates
 pub mod UnitFacts
+pub mod ProgramSizes
 pub mod ProgramUnits
 pub mod FactorParts
 pub mod FactorKept
@@ -22,4 +25,5 @@ pub mod Accepted
 pub mod OnePlan
 mod RuleLists
 mod Texts
+pub mod WiderBounds
 pub mod BothRules

@@ -4,7 +4,6 @@ use mathlib.Core.HLevel.{is_prop→PathP}
 use Rattle.dl_types.proofs.Common.{◌≡◌, ◌∙◌, ℕ, zero, suc, ◌*◌, ◌<◌, ◌==◌, cond, false, List, [], ◌∷◌, map, Option, Some, None, inl, inr, refl, sym, ap, ap₂, subst, arith, mul-pos, All, All-head, All-tail, sum_by-cons, eqb_tells, Fraction, whole, whole_num, ◌over◌, Item, Sev, Pairs, HasDistribution, Plan, Settings, Program, UnitAst, GridUnit, GridCount, Exposed, Listed, Fixed, Poisson, Bernoulli, Binomial, Gamma, final_severity, ℕ_set, eq_of_mul-eq-mul_right, AllZip, cases_lt, same_from_all_zip, le_of_eq, le_over, Freq, UnitOfPlan, IsClaimCount, IsWeighted, weight_at, common_weight, Rising, rises, none_later, grid_of, ValueList, Shares, MixAst, Numeral, PortHead, SevDef, IsTableOf, IsCountOf, IsUnitOn, IsUnitOf, IsWrittenShape, IsSharedShape, IsPlanOf}
 use Rattle.dl_plan.specs.declared.plan.Freq.TheVariants as of_plan
 use Rattle.dl_plan.proofs.Weights.{common_from, common-times, times, weight_sum_pos}
-use Rattle.dl_types.specs.Exposures.{expected_count}
 
 -- ---- whole weights are told by the probabilities that they mean
 
@@ -180,8 +179,7 @@ one_count bs u (Exposed e (Poisson _)) f g p q = p ∙ sym q
 one_count bs u (Exposed e (Bernoulli _)) f g p q = p ∙ sym q
 one_count bs u (Exposed e (Binomial p _)) f g (m, mw, fm) (n, nw, gn) =
     fm ∙ ap (λ k. of_plan.Binomial k p) (whole_same m n _ mw nw) ∙ sym gn
-one_count bs u (Exposed e (Gamma c _)) f g (m, mw, fm) (n, nw, gn) =
-    fm ∙ ap (λ k. of_plan.Gamma k (expected_count bs u e)) (whole_same m n _ mw nw) ∙ sym gn
+one_count bs u (Exposed e (Gamma c _)) f g p q = p ∙ sym q
 one_count bs u (Listed counts probs) f g (p, vp) (q, vq) = one_table counts probs f g p vp q vq
 
 -- ---- units and plans
@@ -216,11 +214,11 @@ one_units bs sevs (u ∷ us) (m ∷ ms) [] p q = absurd q
 one_units bs sevs (u ∷ us) (m ∷ ms) (n ∷ ns) p q =
     ap₂ (λ x xs. x ∷ xs) (one_unit bs sevs u m n p.0 q.0) (one_units bs sevs us ms ns p.1 q.1)
 
-one_written : (c : Option Numeral) (a b : Option ℕ) → IsWrittenShape c a → IsWrittenShape c b → a ≡ b
+one_written : (c : Option Numeral) (a b : Option Fraction) → IsWrittenShape c a → IsWrittenShape c b → a ≡ b
 one_written None a b p q = p ∙ sym q
-one_written (Some c) a b (m, mw, am) (n, nw, bn) = am ∙ ap (λ r. Some r) (whole_same m n _ mw nw) ∙ sym bn
+one_written (Some c) a b p q = p ∙ sym q
 
-one_shape : (port : Option PortHead) (a b : Option ℕ) → IsSharedShape port a → IsSharedShape port b → a ≡ b
+one_shape : (port : Option PortHead) (a b : Option Fraction) → IsSharedShape port a → IsSharedShape port b → a ≡ b
 one_shape None a b p q = p ∙ sym q
 one_shape (Some h) a b p q = one_written h.common a b p q
 

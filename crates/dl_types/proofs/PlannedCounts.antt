@@ -1,21 +1,13 @@
 -- The claim count of a plan that is made of a count that breaks no rule.
-use Rattle.dl_types.proofs.Common.{ℕ, ◌≡◌, ◌∙◌, ◌*◌, ◌<◌, ◌<ℚ◌, ◌&&◌, not, nat_lt, Bool, true, false, if◌then◌else◌, List, map, Option, Some, None, refl, sym, ap, ap₂, subst, arith, is_some, IfSome, length-map, admitted_bound, most_claims, most_shape, Fraction, whole, ◌*ℚ◌, ◌/ℚ◌, ◌≤ℚ◌, div_times, Sev, HasPartsOf48Bits, Pairs, HasDistribution, GridFreq, Fixed, Poisson, Bernoulli, Binomial, Gamma, GridCount, Exposed, Listed, probs_of, is_admitted, not-false, GridUnit, claims_of, claims_above_zero, shape_of, IsFreqChecked, IsCountChecked, IsCountMade, freq_with, pairs_of_counts, has_too_many_claims, passes, and_parts, ltb-true, or_parts, most_expected, rarest_claims, ◌-ℚ◌, ◌over◌, IsNewZero, Freq, IsFineTo40Bits, probability_of, IsClaimCount, IsUnbounded, IsExposed, expected_of_plan, IsSmall, not_above, seconds-zip, has_count, is_there_and, thinned, freq_span, has_no_base, zero_base, is_above, IsCountWith, IsCountOf, not_at, Bounds}
+use Rattle.dl_types.proofs.Common.{ℕ, ◌≡◌, ◌∙◌, ◌*◌, ◌<ℚ◌, ◌&&◌, ◌||◌, not, Bool, true, false, if◌then◌else◌, List, map, Option, Some, None, refl, sym, ap, ap₂, subst, arith, is_some, IfSome, length-map, most_claims, Fraction, whole, ◌*ℚ◌, ◌/ℚ◌, ◌≤ℚ◌, div_times, Sev, HasPartsOf48Bits, Pairs, HasDistribution, GridFreq, Fixed, Poisson, Bernoulli, Binomial, Gamma, GridCount, Exposed, Listed, probs_of, is_admitted, not-false, GridUnit, claims_of, claims_above_zero, shape_of, IsFreqChecked, IsCountChecked, IsCountMade, freq_with, pairs_of_counts, has_too_many_claims, passes, and_parts, ltb-true, or_parts, most_expected, rarest_claims, ◌-ℚ◌, ◌over◌, IsNewZero, Freq, IsFineTo40Bits, probability_of, IsClaimCount, IsUnbounded, IsExposed, expected_of_plan, IsSmall, not_above, seconds-zip, has_count, is_there_and, thinned, freq_span, has_no_base, zero_base, is_above, IsCountWith, IsCountOf, not_at, Bounds, ◌+ℚ◌, IsSomeClaim, IsThinnedGamma, IsThinnedTo, is_claim_rare, is_one_rare, shape_not_whole, lt-ltb}
 use Rattle.dl_plan.specs.declared.plan.Freq.TheVariants as of_plan
 use Rattle.dl_sev.specs.Weighing.{sum_of}
 use Rattle.dl_buckets.proofs.SevSteps.{sev_of}
 use Rattle.dl_types.specs.Exposures.{expected_count}
 use Rattle.dl_types.proofs.ListedCounts.{same_length, small_table, table_admitted}
-use Rattle.dl_types.proofs.ExposedCounts.{whole_is, few_is, shape_above}
+use Rattle.dl_types.proofs.ExposedCounts.{whole_is, few_is}
 use Rattle.dl_types.proofs.KeptCounts.{given, AreChecked, number_there}
-
--- ---- admitted numbers
-
-pub admitted_is : (x : Fraction) → is_admitted x ≡ true → HasPartsOf48Bits x
-admitted_is x h = let parts = go x.num x.den h in record { num = parts.0; den = parts.1 }
-  where
-    go : (n d : ℕ) → (nat_lt n admitted_bound && nat_lt d admitted_bound) ≡ true
-        → (n < admitted_bound) × (d < admitted_bound)
-    go n d h = grind arith
+use Rattle.dl_types.proofs.Shapes.{admitted_is, thinned_gamma}
 
 -- ---- with n claims expected
 
@@ -24,7 +16,7 @@ freq_is (Fixed span) n kept = (n.num, whole_is n kept.whole, refl)
 freq_is (Poisson span) n kept = refl
 freq_is (Bernoulli span) n kept = refl
 freq_is (Binomial p span) n kept = ((n /ℚ p).num, whole_is (n /ℚ p) kept.whole.whole, refl)
-freq_is (Gamma c span) n kept = ((shape_of c).num, whole_is (shape_of c) kept.whole.whole, refl)
+freq_is (Gamma c span) n kept = refl
 
 freq_valid : (f : GridFreq) (n : Fraction) → IsFreqChecked f n → IsClaimCount (freq_with f n)
 freq_valid (Fixed span) n kept = few_is most_claims n.num n (whole_is n kept.whole) kept.few
@@ -40,11 +32,7 @@ freq_valid (Binomial p span) n kept = (
     admitted = record { num = omega (arith, kept.read.num); den = omega (arith, kept.read.den) };
   },
 )
-freq_valid (Gamma c span) n kept =
-    let same = whole_is (shape_of c) kept.whole.whole in (
-      shape_above (shape_of c).num c kept.whole.above same,
-      few_is most_shape (shape_of c).num (shape_of c) same kept.few,
-    )
+freq_valid (Gamma c span) n kept = kept.few
 
 -- it expects n claims
 freq_expects : (f : GridFreq) (n : Fraction) → IsFreqChecked f n → expected_of_plan (freq_with f n) ≡ n
@@ -68,11 +56,27 @@ is_below : (x y : Fraction) → is_above y x ≡ true → x <ℚ y
 unfolding ◌<ℚ◌
 is_below x y h = ltb-true (x.num * y.den) (y.num * x.den) h
 
-new_zero : (f : GridFreq) (n p : Fraction) → IsFreqChecked f n → IsSmall p → has_no_base p (Some n) ≡ false
+often_enough : (r v : Fraction) → r <ℚ whole 1 → is_one_rare r v ≡ false
+    → 1 over rarest_claims ≤ℚ r *ℚ (v /ℚ (r +ℚ v))
+unfolding ◌<ℚ◌
+often_enough r v below often =
+    not_above (1 over rarest_claims) (r *ℚ (v /ℚ (r +ℚ v)))
+    (ap (λ b. b && is_above (1 over rarest_claims) (r *ℚ (v /ℚ (r +ℚ v)))) (sym (lt-ltb _ _ below)) ∙ often)
+
+-- one claim of a gamma count does not weigh too little beside none
+some_claim : (f : GridFreq) (n : Fraction) → is_claim_rare f n ≡ false → IsSomeClaim (freq_with f n)
+some_claim (Fixed span) n often = tt
+some_claim (Poisson span) n often = tt
+some_claim (Bernoulli span) n often = tt
+some_claim (Binomial p span) n often = tt
+some_claim (Gamma c span) n often = λ below. often_enough (shape_of c) n below often
+
+new_zero : (f : GridFreq) (n p : Fraction) → IsFreqChecked f n → IsSmall p → has_no_base f p (Some n) ≡ false
     → IsNewZero (freq_with f n) p
 new_zero f n p kept small base =
     let low = or_parts (not (is_above (whole 1) p)) _ base in
-    let range = or_parts (is_above (1 over rarest_claims) n) _ low.1 in
+    let rare = or_parts (is_above (1 over rarest_claims) n || passes n most_expected) _ low.1 in
+    let range = or_parts (is_above (1 over rarest_claims) n) _ rare.0 in
     let expects = sym (freq_expects f n kept) in
     record {
       below = is_below p (whole 1) (not-false _ low.0);
@@ -81,6 +85,7 @@ new_zero f n p kept small base =
       least = subst (λ x. 1 over rarest_claims ≤ℚ x) expects (not_above (1 over rarest_claims) n range.0);
       most = subst (λ x. x ≤ℚ whole most_expected) expects (not_above n (whole most_expected) range.1);
       exposed = freq_exposed f n;
+      some = some_claim f n rare.1;
     }
 
 -- ---- of a count
@@ -142,6 +147,11 @@ count_there (Listed counts probs) n are =
 
 -- ---- claims above 0
 
+some_is : (b : Bool) (x : Fraction) → is_some (if b then Some x else None) ≡ true
+    → ((if b then Some x else None) ≡ Some x) × (b ≡ true)
+some_is true x e = (refl, refl)
+some_is false x e = absurd cc
+
 module _ (pairs : Pairs) (sev : Sev) (means : HasDistribution sev pairs) (n : Fraction) (x : Fraction) (is : x ≡ n) where
   abbrev z : Fraction
   z = thinned pairs n
@@ -159,21 +169,47 @@ module _ (pairs : Pairs) (sev : Sev) (means : HasDistribution sev pairs) (n : Fr
 
 module _ (pairs : Pairs) (sev : Sev) (means : HasDistribution sev pairs) where
   -- the claims above 0 of a count without a greatest number are few
-  pub made_thinned : (k : GridCount) (n : Option Fraction) (freq : Freq) → AreChecked k n (claims_above_zero pairs n)
+  pub made_thinned : (bounds : Bounds) (k : GridCount) (n : Option Fraction) (freq : Freq)
+      → AreChecked bounds k n (claims_above_zero pairs n)
       → IsCountMade k n freq → IsUnbounded freq
       → HasPartsOf48Bits (expected_of_plan freq *ℚ (whole 1 -ℚ probability_of sev 0))
       × (expected_of_plan freq *ℚ (whole 1 -ℚ probability_of sev 0) ≤ℚ whole most_expected)
   unfolding has_too_many_claims
-  made_thinned (Exposed e f) None freq are made unbounded = absurd (cc ((number_there e f None None are.fine).0))
-  made_thinned (Exposed e (Fixed span)) (Some n) freq are made unbounded = absurd (subst IsUnbounded made unbounded)
-  made_thinned (Exposed e (Poisson span)) (Some n) freq are made unbounded =
-      small_above pairs sev means n (expected_of_plan freq) (ap expected_of_plan made) (is_admitted (thinned pairs n))
-      refl (not-false _ (number_there e (Poisson span) (Some n) (claims_above_zero pairs (Some n)) are.fine).1) are.few
-  made_thinned (Exposed e (Bernoulli span)) (Some n) freq are made unbounded = absurd (subst IsUnbounded made unbounded)
-  made_thinned (Exposed e (Binomial p span)) (Some n) freq are made unbounded =
+  made_thinned bounds (Exposed e f) None freq are made unbounded =
+      absurd (cc ((number_there bounds e f None None are.fine).0))
+  made_thinned bounds (Exposed e (Fixed span)) (Some n) freq are made unbounded =
       absurd (subst IsUnbounded made unbounded)
-  made_thinned (Exposed e (Gamma c span)) (Some n) freq are made unbounded =
-      small_above pairs sev means n (expected_of_plan freq) (ap expected_of_plan made) (is_admitted (thinned pairs n))
-      refl (not-false _ (number_there e (Gamma c span) (Some n) (claims_above_zero pairs (Some n)) are.fine).1)
+  made_thinned bounds (Exposed e (Poisson span)) (Some n) freq are made unbounded =
+      small_above pairs sev means n (expected_of_plan freq) (ap expected_of_plan made) (is_admitted (thinned pairs n)) refl
+      (not-false _ (number_there bounds e (Poisson span) (Some n) (claims_above_zero pairs (Some n)) are.fine).1) are.few
+  made_thinned bounds (Exposed e (Bernoulli span)) (Some n) freq are made unbounded =
+      absurd (subst IsUnbounded made unbounded)
+  made_thinned bounds (Exposed e (Binomial p span)) (Some n) freq are made unbounded =
+      absurd (subst IsUnbounded made unbounded)
+  made_thinned bounds (Exposed e (Gamma c span)) (Some n) freq are made unbounded =
+      small_above pairs sev means n (expected_of_plan freq) (ap expected_of_plan made) (is_admitted (thinned pairs n)) refl
+      (not-false _ (number_there bounds e (Gamma c span) (Some n) (claims_above_zero pairs (Some n)) are.fine).1)
       (or_parts _ _ are.few).0
-  made_thinned (Listed counts probs) n freq are made unbounded = absurd (subst IsUnbounded made.table.2 unbounded)
+  made_thinned bounds (Listed counts probs) n freq are made unbounded =
+      absurd (subst IsUnbounded made.table.2 unbounded)
+
+  -- so many claims above 0 are expected of it
+  abbrev IsThinned_by : Freq → Type 0
+  IsThinned_by freq = IsThinnedTo freq (expected_of_plan freq *ℚ (whole 1 -ℚ probability_of sev 0))
+
+  -- over the shape of a gamma count they are held and few
+  pub made_over : (bounds : Bounds) (k : GridCount) (n : Option Fraction) (freq : Freq)
+      → AreChecked bounds k n (claims_above_zero pairs n) → IsCountMade k n freq → IsThinned_by freq
+  unfolding has_too_many_claims shape_not_whole
+  made_over bounds (Exposed e f) None freq are made = absurd (cc ((number_there bounds e f None None are.fine).0))
+  made_over bounds (Exposed e (Fixed span)) (Some n) freq are made = subst IsThinned_by (sym made) tt
+  made_over bounds (Exposed e (Poisson span)) (Some n) freq are made = subst IsThinned_by (sym made) tt
+  made_over bounds (Exposed e (Bernoulli span)) (Some n) freq are made = subst IsThinned_by (sym made) tt
+  made_over bounds (Exposed e (Binomial p span)) (Some n) freq are made = subst IsThinned_by (sym made) tt
+  made_over bounds (Exposed e (Gamma c span)) (Some n) freq are made =
+      let fine = number_there bounds e (Gamma c span) (Some n) (claims_above_zero pairs (Some n)) are.fine in
+      let there = some_is (is_admitted (thinned pairs n)) (thinned pairs n) (not-false _ fine.1) in
+      subst IsThinned_by (sym made) (subst (λ p. IsThinnedGamma (shape_of c) (n *ℚ (whole 1 -ℚ p))) (sym (means 0))
+      (thinned_gamma bounds c (Some n) (claims_above_zero pairs (Some n)) (not_at _ span are.whole.shape) fine.2
+      (or_parts _ _ are.few).1 (thinned pairs n) there.0 (admitted_is (thinned pairs n) there.1)))
+  made_over bounds (Listed counts probs) n freq are made = subst IsThinned_by (sym made.table.2) tt

@@ -1,14 +1,14 @@
 -- The units of a plan, one after another.
 use Rattle.dl_plan.specs.Prelude.{whole_means}
-use Rattle.dl_plan.proofs.Few.{standard_few}
-use Rattle.dl_plan.proofs.MeanSizes.{standard_means}
-use Rattle.dl_types.proofs.Common.{Bool, true, false, list_any, map, if◌then◌else◌, IfSome, ◌≡◌, ◌∙◌, ℕ, ◌+◌, ◌<◌, ◌≤◌, List, [], ◌∷◌, ◌++◌, take, length, get_or, Option, Some, None, refl, sym, ap, subst, arith, bytes_eq, All, Ok, Err, CheckFault, Typing, OutOfMemory, AnswersUnit, AnswersUnits, All-nil, All-cons, All-head, All-tail, most_total_at, standard_units, Fraction, whole, ◌<ℚ◌, Settings, IsValidUnit, UnitAst, ◌else◌, in_turn, Span, cells_asked, first_fault_of, first_fault, breaks, duplicate_name, too_many_units, IsSet, Program, IsWellFormed, Plan, else_first, not_at, never, both_ways, ◌≢◌, AllZip, AllPairs, take_all, bytes_eq-Decides, IsCheckOf, NoneTurned, turn_passed, turn_ended, All-append, UnitOfPlan, HasCommonFactor, IsUnitOn, IsUnitWith, IsUnitOf, IsSharedShape, common_unit, fault_with, fault_of_port, most_asked, fault_of_text, fault_of_mixture, fault_of_severity, StopsAt, HasFault, AnswersGrid, AnswersWith, named, mixture_of, body_span, TypeFault, GridUnit, fault_on_grid, names_of, grid_of, flaws_of, repeated, from_map, MixAst, PortHead, SevDef, IsFormedMixture, IsFormedBody, IsFormedDefinition, Result, IfOk, inl, inr, slice_get_cases, bounds_asked}
+use Rattle.dl_types.proofs.Common.{Bool, true, false, list_any, map, if◌then◌else◌, IfSome, ◌≡◌, ◌∙◌, ℕ, ◌+◌, ◌<◌, ◌≤◌, List, [], ◌∷◌, ◌++◌, take, length, get_or, Option, Some, None, refl, sym, ap, subst, arith, bytes_eq, All, Ok, Err, CheckFault, Typing, OutOfMemory, AnswersUnit, AnswersUnits, All-nil, All-cons, All-head, All-tail, most_total_at, most_units, Fraction, whole, ◌<ℚ◌, Settings, IsValidUnit, UnitAst, ◌else◌, in_turn, Span, cells_asked, first_fault_of, first_fault, breaks, duplicate_name, too_many_units, IsSet, Program, IsWellFormed, Plan, else_first, not_at, never, both_ways, ◌≢◌, AllZip, AllPairs, take_all, bytes_eq-Decides, IsCheckOf, NoneTurned, turn_passed, turn_ended, All-append, UnitOfPlan, HasCommonFactor, IsUnitOn, IsUnitWith, IsUnitOf, IsSharedShape, common_unit, fault_with, fault_of_port, most_asked, fault_of_text, fault_of_mixture, fault_of_severity, StopsAt, HasFault, AnswersGrid, AnswersWith, named, mixture_of, body_span, TypeFault, GridUnit, fault_on_grid, names_of, grid_of, flaws_of, repeated, from_map, MixAst, PortHead, SevDef, IsFormedMixture, IsFormedBody, IsFormedDefinition, Result, IfOk, inl, inr, slice_get_cases, bounds_asked}
 use Rattle.std.proofs.lemmas.List.Quantifiers.{all_pairs_push}
 use Rattle.std.proofs.lemmas.Slice.Zip.{all_zipped_more, AllZip-long}
+use Rattle.dl_types.specs.Faults.{fault_of_total}
 use Rattle.dl_types.specs.declared.rule.Rule.TheVariants as rules
 use Rattle.dl_types.proofs.Naming.{one_more}
 use Rattle.dl_types.proofs.OnePlan.{map_alike}
 use Rattle.dl_types.proofs.RuleLists.{both}
+use Rattle.dl_types.proofs.ProgramSizes.{total_kept}
 use Rattle.dl_types.proofs.Stops.{skip, stop_first, stop_second}
 use Rattle.dl_ast.specs.declared.ast.SevBody.{SevBody}
 use Rattle.dl_ast.specs.declared.ast.SevBody.TheVariants.{Mixture, Ref}
@@ -186,28 +186,28 @@ module _ (program : Program) (settings : Settings) where
 
     pub fault_of_rest : (made : List UnitOfPlan) → names ≡ None
         → AnswersUnits settings program.port program.sevs program.units (Ok made)
-        → first_fault program settings ≡ fault_of_port settings program
+        → first_fault program settings ≡ (fault_of_port settings program else fault_of_total settings program)
     unfolding first_fault
     fault_of_rest made fresh told = rw (few, fresh, told.0) refl
 
   pub plan_of_units : (plan : Plan) → plan.bs ≡ settings.bs → plan.cells ≡ cells_asked settings
       → IsSharedShape program.port plan.common → IfSome plan.common (λ r. HasCommonFactor r plan.units) → IsSet settings
-      → IsWellFormed program → length program.units ≤ standard_units → too_many_units (bounds_asked settings).units program.units ≡ None → names ≡ None
+      → IsWellFormed program → length program.units ≤ most_units → too_many_units (bounds_asked settings).units program.units ≡ None → names ≡ None
       → AnswersUnits settings program.port program.sevs program.units (Ok plan.units) → fault_of_port settings program ≡ None
-      → IsCheckOf program settings (Ok plan)
-  plan_of_units plan bs cells shape factor set formed few none fresh told rest =
+      → fault_of_total settings program ≡ None → IsCheckOf program settings (Ok plan)
+  plan_of_units plan bs cells shape factor set formed few none fresh told rest last =
       let as_many : length plan.units ≡ length program.units =
-      AllZip-long (IsUnitOf settings.bs program.sevs) program.units plan.units told.1 in (
-        fault_of_rest none plan.units fresh told ∙ rest,
+      AllZip-long (IsUnitOf settings.bs program.sevs) program.units plan.units told.1 in
+      let total = total_kept settings program plan.units told formed last in (
+        fault_of_rest none plan.units fresh told ∙ skip (fault_of_port settings program) _ rest ∙ last,
         record { bucket = bs; cells = cells; units = told.1; common = shape },
         record {
           bucket = subst (λ x. whole 0 <ℚ x) (sym bs) set.bucket.above;
           cells = (settings.log2, set.some, set.few, cells);
           some = omega (arith, as_many, formed.some);
           few = omega (arith, as_many, few);
-          changed = (standard_few plan.units (omega (arith, as_many, few))).changed;
-          means = subst (λ n. whole_means plan.units ≤ most_total_at n) (sym cells)
-              (standard_means (cells_asked settings) plan.units told.2 (omega (arith, as_many, few)));
+          changed = total.0;
+          means = subst (λ n. whole_means plan.units ≤ most_total_at n) (sym cells) total.1;
           names = told.3;
           units = subst (λ n. All (IsValidUnit n) plan.units) (sym cells) told.2;
           common = factor;

@@ -1,5 +1,5 @@
 -- The first of some rules that is broken.
-use Rattle.dl_types.proofs.Common.{ℕ, ◌≡◌, List, [], ◌∷◌, ◌++◌, Option, Some, None, refl, Span, ◌else◌, else_first, else_second, breaks, Rule, TypeFault, first_in, first-append, first_broken, AllKept}
+use Rattle.dl_types.proofs.Common.{ℕ, ◌≡◌, List, [], ◌∷◌, ◌++◌, Option, Some, None, refl, ap₂, Span, ◌else◌, else_first, else_second, breaks, Rule, TypeFault, first_in, first-append, first_broken, AllKept}
 
 module _ (unit : ℕ) where
   pub only : (rule : Rule) (span : Option Span) → breaks unit rule span ≡ None → span ≡ None
@@ -17,6 +17,11 @@ module _ (unit : ℕ) where
   all_kept (x ∷ rules) e =
       let parts = both x.0 x.1 (first_broken unit rules) e in
       (parts.0, all_kept rules parts.1)
+
+  pub none_broken : (rules : List (Rule × Option Span)) → AllKept rules → first_broken unit rules ≡ None
+  unfolding first_in
+  none_broken [] kept = refl
+  none_broken (x ∷ rules) kept = ap₂ (λ span rest. breaks unit x.0 span else rest) kept.0 (none_broken rules kept.1)
 
   -- the rules of one list, and then those of another
   pub lists : (xs ys : List (Rule × Option Span))

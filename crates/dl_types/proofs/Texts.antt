@@ -3,7 +3,7 @@ use Rattle.dl_types.proofs.Common.{ℕ, ◌≡◌, ◌∙◌, List, [], ◌∷�
 use Rattle.dl_types.specs.declared.rule.Rule.TheVariants as rules
 use Rattle.dl_buckets.specs.declared.flaws.Flaws.{Flaws}
 use Rattle.dl_buckets.specs.declared.flaws.Gridded.{Gridded}
-use Rattle.dl_types.proofs.RuleLists.{all_kept}
+use Rattle.dl_types.proofs.RuleLists.{all_kept, none_broken}
 
 -- each of these rules beside its place
 abbrev beside : List Rule → List (Option Span) → List (Rule × Option Span)
@@ -32,6 +32,9 @@ names =
 
 pub text_clean : (unit : ℕ) (flaws : Flaws) → fault_of_text unit flaws ≡ None → IsClean flaws
 text_clean unit flaws e = all_kept unit (text_rules flaws) e
+
+pub text_none : (unit : ℕ) (flaws : Flaws) → IsClean flaws → fault_of_text unit flaws ≡ None
+text_none unit flaws clean = none_broken unit (text_rules flaws) clean
 
 module _ {A : Type 0} (unit : ℕ) (flaws : Flaws) (part : A) (made : Gridded A) (read : IsRead flaws part made) where
   pub same_fault : fault_of_text unit made.flaws ≡ fault_of_text unit flaws

@@ -8,7 +8,7 @@ use Rattle.dl_types.proofs.FineClaims.{count_probs, fine_left, occ_shares, agr_s
 use Rattle.dl_types.proofs.KeptCounts.{AreWhole, AreChecked, probs_are, whole_count, count_kept}
 use Rattle.dl_types.proofs.Stops.{stop_second, stopped}
 use Rattle.dl_types.proofs.RuleLists.{only, both, all_kept, lists}
-use Rattle.dl_types.proofs.PlannedCounts.{claims_admitted, made_valid, made_is, made_zero, made_thinned}
+use Rattle.dl_types.proofs.PlannedCounts.{claims_admitted, made_valid, made_is, made_zero, made_thinned, made_over}
 
 -- a value that is given back where rules on it are kept
 pub kept_as : {A : Type 0} (P : A → Type 0) (x : A) (rules : Result Unit CheckFault) (r : Result A CheckFault)
@@ -35,7 +35,7 @@ layered_is unit u grid none =
 
 -- with n claims expected
 pub record Counted (bounds : Bounds) (u : GridUnit) (n : Option Fraction) : Type 0 where
-  pub whole : AreWhole u.count n
+  pub whole : AreWhole bounds u.count n
   pub fine : too_fine bounds u n ≡ None
   pub few : too_many_claims u n ≡ None
 
@@ -46,15 +46,15 @@ counted_is bounds u n kept = record {
   few = kept.1.1.1.1.1.0;
 }
 
-pub whole_is : (unit : ℕ) (k : GridCount) (n : Option Fraction) → first_broken unit (whole_rules k n) ≡ None
-    → AreWhole k n
-whole_is unit k n none =
-    let kept = all_kept unit (whole_rules k n) none in
+pub whole_is : (bounds : Bounds) (unit : ℕ) (k : GridCount) (n : Option Fraction)
+    → first_broken unit (whole_rules bounds k n) ≡ None → AreWhole bounds k n
+whole_is bounds unit k n none =
+    let kept = all_kept unit (whole_rules bounds k n) none in
     record { whole = kept.0; within = kept.1.0; trials = kept.1.1.0; shape = kept.1.1.1.0 }
 
-pub whole_here : (bounds : Bounds) (u : GridUnit) (n : Option Fraction) → AreWhole u.count n → too_fine bounds u n ≡ None
+pub whole_here : (bounds : Bounds) (u : GridUnit) (n : Option Fraction) → AreWhole bounds u.count n → too_fine bounds u n ≡ None
     → IsWholeCount u.count n
-whole_here bounds u n are fine = whole_count u.count n (claims_above_zero (final_severity u) n) are (fine_left bounds u n fine).1
+whole_here bounds u n are fine = whole_count bounds u.count n (claims_above_zero (final_severity u) n) are (fine_left bounds u n fine).1
 
 pub many_span : (u : GridUnit) (n : Option Fraction) (claims : Claims) (r : Bool) → AreClaims u claims
     → IsUnitCount u.count n claims.count
@@ -80,7 +80,7 @@ module _ (bounds : Bounds) (bs : Fraction) (unit : ℕ) (u : GridUnit) (xs : Lis
   where
     abbrev asked : Option TypeFault
     asked =
-        breaks unit rules.ZeroMean span else first_broken unit (whole_rules u.count n)
+        breaks unit rules.ZeroMean span else first_broken unit (whole_rules bounds u.count n)
         else breaks unit rules.TooFine (too_fine bounds u n) else breaks unit rules.TooManyClaims (too_many_claims u n)
 
     pub count_fault : first_broken unit (count_rules bounds bs u) ≡ asked
@@ -88,9 +88,9 @@ module _ (bounds : Bounds) (bs : Fraction) (unit : ℕ) (u : GridUnit) (xs : Lis
     count_fault =
         ap₂ (λ p m. breaks unit rules.ZeroMean p else first_broken unit (number_rules bounds u m))
         (sym (at ∙ ap (λ ys. zero_mean ys u.count) amounts)) (sym number)
-        ∙ ap (λ o. breaks unit rules.ZeroMean span else o) (lists unit (whole_rules u.count n)
+        ∙ ap (λ o. breaks unit rules.ZeroMean span else o) (lists unit (whole_rules bounds u.count n)
         ((rules.TooFine, too_fine bounds u n) ∷ (rules.TooManyClaims, too_many_claims u n) ∷ [])
-        ∙ ap (λ o. first_broken unit (whole_rules u.count n) else breaks unit rules.TooFine (too_fine bounds u n) else o)
+        ∙ ap (λ o. first_broken unit (whole_rules bounds u.count n) else breaks unit rules.TooFine (too_fine bounds u n) else o)
         (else_none (breaks unit rules.TooManyClaims (too_many_claims u n))))
 
     pub count_told : {A : Type 0} (r : Result A CheckFault) (stop : CheckFault) → IsErr r × IsErrAnd r (λ e. e ≡ stop)
@@ -108,7 +108,7 @@ module _ (bounds : Bounds) (allowed : AreBounds bounds) (bs : Fraction) (unit : 
   counted : Counted bounds u n
   counted = counted_is bounds u n (all_kept unit (count_rules bounds bs u) none).1
 
-  parts : (fractions_too_fine bounds u ≡ false) × (exposed_too_fine u.count n above ≡ false)
+  parts : (fractions_too_fine bounds u ≡ false) × (exposed_too_fine bounds u.count n above ≡ false)
   parts = fine_left bounds u n counted.fine
 
   pub fine_occ : has_shares u.occ ≡ true
@@ -128,7 +128,7 @@ module _ (bounds : Bounds) (allowed : AreBounds bounds) (bs : Fraction) (unit : 
   unfolding too_many_claims
   few_is = not_at _ u.name counted.few
 
-  are_kept : AreChecked u.count n above
+  are_kept : AreChecked bounds u.count n above
   are_kept = record {
     whole = counted.whole;
     fine = parts.1;
@@ -140,7 +140,7 @@ module _ (bounds : Bounds) (allowed : AreBounds bounds) (bs : Fraction) (unit : 
   }
 
   pub kept_is : IsCountChecked u.count n
-  kept_is = count_kept u.count n above are_kept
+  kept_is = count_kept bounds u.count n above are_kept
 
 -- ---- all rules on the unit in whole buckets
 
@@ -218,7 +218,9 @@ module _ (settings : Settings) (unit : ℕ) (u : GridUnit) (grid : IsGridUnit u)
           items = λ _. sev.few;
           count = valid.0;
           expected = valid.1;
-          thinned = made_thinned (final_severity u) made.sev sev.means u.count n made.freq
+          thinned = made_thinned (final_severity u) made.sev sev.means bounds u.count n made.freq
+              (are_kept bounds allowed settings.bs unit u grid parts.1) freq;
+          thinned_count = made_over (final_severity u) made.sev sev.means bounds u.count n made.freq
               (are_kept bounds allowed settings.bs unit u grid parts.1) freq;
           clause = aggregate_valid (cells_asked settings) u ceded (fine_occ bounds allowed settings.bs unit u grid parts.1) parts.2
               within made.sev sev.means made.cede cede;

@@ -1,14 +1,14 @@
 -- The properties of a unit that keeps the rules so far: later steps rest on them.
 use Rattle.std.specs.Prelude.{◌≡◌, ◌≤◌, ⊤, Option, true, false, IsSomeAnd}
-use Rattle.dl_limits.specs.Limits.{most_claims, most_log2, most_shape}
+use Rattle.dl_limits.specs.Limits.{most_claims, most_log2}
 use Rattle.dl_exact.specs.Fraction.{Fraction, whole, ◌/ℚ◌, ◌<ℚ◌}
 use Rattle.dl_plan.specs.declared.settings.Settings.{Settings}
-use Rattle.dl_plan.specs.Prelude.{HasPartsOf48Bits, IsBucket}
+use Rattle.dl_plan.specs.Prelude.{HasPartsOf48Bits, IsBucket, IsGammaCount}
 use Rattle.dl_buckets.specs.declared.grid.GridFreq.{GridFreq}
 use Rattle.dl_buckets.specs.declared.grid.GridFreq.TheVariants.{Fixed, Poisson, Bernoulli, Binomial, Gamma}
 use Rattle.dl_buckets.specs.declared.grid.GridCount.{GridCount}
 use Rattle.dl_buckets.specs.declared.grid.GridCount.TheVariants.{Exposed, Listed}
-use Rattle.dl_buckets.specs.Prelude.{IsGridFreq, is_whole, is_zero, is_above}
+use Rattle.dl_buckets.specs.Prelude.{IsGridFreq, is_admitted, is_whole, is_zero, is_above}
 use Rattle.dl_types.specs.Exposures.{shape_of}
 use Rattle.dl_types.specs.Listed.{AreCounts}
 use Rattle.dl_types.specs.Rules.{passes}
@@ -25,12 +25,13 @@ pub record AreTrials (p n : Fraction) : Type 0 where
   pub within : is_above p (whole 1) ≡ false
   pub whole : is_whole (n /ℚ p) ≡ true
 
--- a gamma factor with this coefficient of variation has a whole shape
+-- a gamma factor with this coefficient of variation has a shape, which is whole where it is not
+-- admitted
 pub record IsShaped (c : Fraction) : Type 0 where
   pub above : is_zero c ≡ false
-  pub whole : is_whole (shape_of c) ≡ true
+  pub whole : is_admitted (shape_of c) ≡ false → is_whole (shape_of c) ≡ true
 
--- with n claims expected, what has to be whole is, and a probability is at most 1
+-- with n claims expected, what has to be whole is, a probability is at most 1, and a shape is there
 abbrev pub IsWholeFreq : GridFreq → Fraction → Type 0
 IsWholeFreq (Fixed _) n = is_whole n ≡ true
 IsWholeFreq (Poisson _) n = ⊤
@@ -44,7 +45,7 @@ IsSmallFreq (Fixed _) n = passes n most_claims ≡ false
 IsSmallFreq (Poisson _) n = ⊤
 IsSmallFreq (Bernoulli _) n = ⊤
 IsSmallFreq (Binomial p _) n = passes (n /ℚ p) most_claims ≡ false
-IsSmallFreq (Gamma c _) n = passes (shape_of c) most_shape ≡ false
+IsSmallFreq (Gamma c _) n = IsGammaCount (shape_of c) n
 
 -- a distribution that breaks no rule, with n claims expected
 pub record IsFreqChecked (freq : GridFreq) (n : Fraction) : Type 0 where

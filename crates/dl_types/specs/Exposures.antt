@@ -1,6 +1,7 @@
 -- Expected claim counts. Amounts of money are over the bucket size bs.
-use Rattle.std.specs.Prelude.{◌&&◌, Bool, true, false, if◌then◌else◌, Option, Some, None}
+use Rattle.std.specs.Prelude.{◌&&◌, nat_lt, Bool, true, false, if◌then◌else◌, Option, Some, None}
 use Rattle.dl_exact.specs.Fraction.{Fraction, whole, ◌-ℚ◌, ◌*ℚ◌, ◌/ℚ◌}
+use Rattle.dl_limits.specs.Limits.{frac_bound}
 use Rattle.dl_limits.specs.declared.rules.Bounds.{Bounds}
 use Rattle.dl_plan.specs.Severity.{Pairs, probability, mean_amount}
 use Rattle.dl_plan.specs.Ranges.{IsBucket}
@@ -77,6 +78,10 @@ claims_above_zero severity (Some n) = admitted true (thinned severity n)
 abbrev pub is_there_and : (Fraction → Bool) → Option Fraction → Bool
 is_there_and test None = false
 is_there_and test (Some n) = test n
+
+-- both parts of a number are below 2^62
+abbrev pub is_held : Fraction → Bool
+is_held x = nat_lt x.num frac_bound && nat_lt x.den frac_bound
 
 -- the shape of a gamma factor with this coefficient of variation
 abbrev pub shape_of : Fraction → Fraction

@@ -1,6 +1,7 @@
 -- The conditions on units that share a factor.
-use Rattle.std.specs.Prelude.{ℕ, suc, ◌≡◌, ◌<◌, Bool, true, false, not, ◌||◌, nat_lt, if◌then◌else◌, List, [], ◌∷◌, map, flat_map, fold, Option, Some, None}
-use Rattle.dl_limits.specs.Limits.{most_expected, most_parts, most_shape}
+use Rattle.std.specs.Prelude.{ℕ, ◌≡◌, Bool, true, false, not, ◌||◌, if◌then◌else◌, List, [], ◌∷◌, map, flat_map, fold, Option, Some, None}
+use Rattle.dl_limits.specs.Limits.{most_expected, most_shape}
+use Rattle.dl_limits.specs.declared.rules.Bounds.{Bounds}
 use Rattle.dl_exact.specs.Prelude.{Fraction, whole, ◌over◌, ◌+ℚ◌, ◌*ℚ◌, ◌/ℚ◌, lcm}
 use Rattle.dl_ast.specs.declared.ast.MixAst.{MixAst}
 use Rattle.dl_ast.specs.declared.ast.Numeral.{Numeral}
@@ -13,15 +14,14 @@ use Rattle.dl_buckets.specs.declared.grid.GridCount.{GridCount}
 use Rattle.dl_buckets.specs.declared.grid.GridCount.TheVariants.{Exposed, Listed}
 use Rattle.dl_buckets.specs.Prelude.{value, is_admitted, is_fine, is_zero, grid_of, final_severity, support}
 use Rattle.dl_buckets.specs.declared.grid.GridUnit.{GridUnit}
-use Rattle.dl_types.specs.Exposures.{expected_count, thinned, shape_of}
+use Rattle.dl_types.specs.Exposures.{expected_count, thinned, is_held}
 use Rattle.dl_types.specs.Rules.{passes, has_bad_shape}
 use Rattle.dl_types.specs.Severities.{mixture_of}
 
--- the whole shape of a factor with this coefficient of variation
-pub record IsShapeIn (c : Numeral) (r : ℕ) : Type 0 where
-  pub good : has_bad_shape c ≡ false
-  pub value : r ≡ (shape_of (value c)).num
-  pub some : 0 < r
+-- x is the coefficient of variation that is written, and it has a shape
+pub record IsVariation (bounds : Bounds) (c : Numeral) (x : Fraction) : Type 0 where
+  pub good : has_bad_shape bounds c ≡ false
+  pub value : x ≡ value c
 
 -- the claims that a unit brings: how many are expected, how many of them above 0, and the positive
 -- probabilities of the amounts of one
@@ -43,28 +43,35 @@ claim_share v part = part.expected /ℚ v
 abbrev pub amount_shares : Fraction → Part → List Fraction
 amount_shares v part = map (λ p. claim_share v part *ℚ p) part.probabilities
 
--- a number of claims is not admitted for the shape r + 1
-abbrev pub is_raised_coarse : ℕ → Fraction → Bool
-is_raised_coarse r x = not (is_admitted (raised r x))
+-- a number of claims is not held over the shape r, or not admitted for the shape r + 1
+abbrev pub is_coarse_under : Fraction → Fraction → Bool
+is_coarse_under r x = not (is_held (x /ℚ r)) || not (is_admitted (raised r x))
 
--- v claims of all parts are expected, h of them above 0, under a factor of shape r
-abbrev pub passes_bounds : ℕ → Fraction → Fraction → List Part → Bool
-passes_bounds r v h parts =
-    is_zero v || is_raised_coarse r v || is_raised_coarse r h
+-- v claims of all parts are expected, h of them above 0, under a factor of shape r; common
+-- denominators are at most `most`
+abbrev pub passes_bounds : (most : ℕ) → Fraction → Fraction → Fraction → List Part → Bool
+passes_bounds most r v h parts =
+    is_zero v || is_coarse_under r v || is_coarse_under r h
     || passes (raised r h) most_expected
-    || not (is_fine most_parts (map (claim_share v) parts))
-    || not (is_fine most_parts (flat_map (amount_shares v) parts))
+    || not (is_fine most (map (claim_share v) parts))
+    || not (is_fine most (flat_map (amount_shares v) parts))
 
-abbrev pub passes_with : ℕ → Option Fraction → Option Fraction → List Part → Bool
-passes_with r None h parts = true
-passes_with r (Some v) None parts = true
-passes_with r (Some v) (Some h) parts = passes_bounds r v h parts
+abbrev pub passes_with : (most : ℕ) → Fraction → Option Fraction → Option Fraction → List Part
+    → Bool
+passes_with most r None h parts = true
+passes_with most r (Some v) None parts = true
+passes_with most r (Some v) (Some h) parts = passes_bounds most r v h parts
+
+-- r is not admitted, or r + 1 is not, or passes 10,000
+abbrev pub has_no_next : Fraction → Bool
+has_no_next r = not (is_admitted r)
+    || (not (is_admitted (r +ℚ whole 1)) || passes (r +ℚ whole 1) most_shape)
 
 -- the parts are too large for a factor of shape r
-unfoldable pub is_too_large : ℕ → List Part → Bool
-is_too_large r parts =
-    nat_lt most_shape (suc r)
-    || passes_with r (running_sum (whole 0) (map (λ part. part.expected) parts))
+unfoldable pub is_too_large : (most : ℕ) → Fraction → List Part → Bool
+is_too_large most r parts =
+    has_no_next r
+    || passes_with most r (running_sum (whole 0) (map (λ part. part.expected) parts))
     (running_sum (whole 0) (map (λ part. part.above) parts)) parts
 
 -- ---- of a program

@@ -23,6 +23,7 @@ use Rattle.dl_buckets.specs.declared.grid.GridCount.{GridCount}
 use Rattle.dl_buckets.specs.declared.grid.GridUnit.{GridUnit}
 use Rattle.dl_types.specs.Exposures.{expected_claims, shape_of}
 use Rattle.dl_types.specs.Factor.{Part, part_in, is_too_large}
+use Rattle.dl_types.specs.Totals.{Size, is_total_large, size_in}
 use Rattle.dl_types.specs.Rules.{duplicate_name, zero_mean, count_not_whole, count_above_one, trials_not_whole, shape_not_whole, too_fine, too_many_claims, horizon_too_large, too_many_units, zero_base, common_unit, common_shape, duplicate_severity}
 use Rattle.dl_types.specs.Severities.{mixture_of, body_span}
 
@@ -75,16 +76,16 @@ clause_rules u =
     (rules.WeightsDiffer, weights_differ u) ∷ (rules.NoneAbove, none_above u) ∷ layer_rules u
 
 -- the rules on whole numbers, with n claims expected
-abbrev pub whole_rules : GridCount → Option Fraction → List (Rule × Option Span)
-whole_rules count n =
+abbrev pub whole_rules : Bounds → GridCount → Option Fraction → List (Rule × Option Span)
+whole_rules bounds count n =
     (rules.CountNotWhole, count_not_whole count n) ∷ (rules.CountAboveOne, count_above_one count n)
     ∷ (rules.TrialsNotWhole, trials_not_whole count n)
-    ∷ (rules.ShapeNotWhole, shape_not_whole count) ∷ []
+    ∷ (rules.ShapeNotWhole, shape_not_whole bounds count) ∷ []
 
 -- the rules on its count, and on the sizes of what it means
 abbrev pub number_rules : Bounds → GridUnit → Option Fraction → List (Rule × Option Span)
 number_rules bounds u n =
-    whole_rules u.count n ++ (rules.TooFine, too_fine bounds u n)
+    whole_rules bounds u.count n ++ (rules.TooFine, too_fine bounds u n)
     ∷ (rules.TooManyClaims, too_many_claims u n) ∷ []
 
 abbrev pub count_rules : Bounds → Fraction → GridUnit → List (Rule × Option Span)
@@ -139,9 +140,9 @@ fault_of_severity before d =
     breaks (length before) rules.DuplicateSeverity (duplicate_severity before d)
 
 -- 28 CommonSize: what the units bring is too large for the shape of the shared factor
-abbrev pub common_size : Option PortHead → List Part → Option Span
-common_size port parts = within (λ (h : PortHead). within (λ (c : Numeral).
-    at_if (is_too_large (shape_of (value c)).num parts) h.name.span) h.common) port
+abbrev pub common_size : Bounds → Option PortHead → List Part → Option Span
+common_size bounds port parts = within (λ (h : PortHead). within (λ (c : Numeral).
+    at_if (is_too_large bounds.parts (shape_of (value c)) parts) h.name.span) h.common) port
 
 -- the claims that the units of a program bring
 abbrev pub parts_in : Settings → Program → List Part
@@ -150,11 +151,25 @@ parts_in settings program = map (part_in settings.bs program.sevs) program.units
 -- the rules on the whole portfolio
 unfoldable pub fault_of_port : Settings → Program → Option TypeFault
 fault_of_port settings program =
-    breaks 0 rules.CommonShape (common_shape program.port)
-    else breaks 0 rules.CommonSize (common_size program.port (parts_in settings program))
+    breaks 0 rules.CommonShape (common_shape (bounds_asked settings) program.port)
+    else breaks 0 rules.CommonSize (common_size (bounds_asked settings) program.port
+    (parts_in settings program))
 
--- more units than a program may have first; then the named severities and the units in the order of the text; then
--- the whole portfolio
+-- 30 TotalTooLarge: the units of a portfolio are too large all together
+abbrev pub total_too_large : (cells : ℕ) → Option PortHead → List Size → Option Span
+total_too_large cells port sizes =
+    within (λ (h : PortHead). at_if (is_total_large cells sizes) h.name.span) port
+
+-- how large the units of a program are
+abbrev pub sizes_in : Settings → Program → List Size
+sizes_in settings program = map (size_in settings.bs program.sevs) program.units
+
+unfoldable pub fault_of_total : Settings → Program → Option TypeFault
+fault_of_total settings program = breaks 0 rules.TotalTooLarge (total_too_large
+    (cells_asked settings) program.port (sizes_in settings program))
+
+-- more units than a program may have first; then the named severities and the units in the order of
+-- the text; then the whole portfolio, and last how large its units are all together
 unfoldable pub first_fault : Program → Settings → Option TypeFault
 first_fault program settings =
     breaks (bounds_asked settings).units rules.TooManyUnits
@@ -162,6 +177,7 @@ first_fault program settings =
     else in_turn fault_of_severity [] program.sevs
     else in_turn (first_fault_of settings program.port program.sevs) [] program.units
     else fault_of_port settings program
+    else fault_of_total settings program
 
 -- the settings with these rules
 abbrev pub by : Rules → Settings → Settings

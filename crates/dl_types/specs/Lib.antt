@@ -3,6 +3,7 @@ pub mod Factor
 pub mod Rules
 pub mod Checked
 pub mod Listed
+pub mod Totals
 pub mod Faults
 pub mod Names
 pub mod UnitNames

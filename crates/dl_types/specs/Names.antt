@@ -1,7 +1,7 @@
 -- The number and the name of each rule, as they are printed.
 use Rattle.std.specs.Prelude.{ℕ, List, codes}
 use Rattle.dl_types.specs.declared.rule.Rule.{Rule}
-use Rattle.dl_types.specs.declared.rule.Rule.TheVariants.{DuplicateName, BadNumeral, BadRange, ListTooLong, LengthsDiffer, NotOne, OffGrid, TooFar, WeightsDiffer, NoneAbove, Overlap, ShareAboveOne, OffGridCession, ZeroMean, CountNotWhole, CountAboveOne, TrialsNotWhole, ShapeNotWhole, TooFine, TooManyClaims, HorizonTooLarge, TooManyUnits, DuplicateSeverity, UnknownSeverity, ZeroBase, CommonUnit, CommonShape, CommonSize}
+use Rattle.dl_types.specs.declared.rule.Rule.TheVariants.{DuplicateName, BadNumeral, BadRange, ListTooLong, LengthsDiffer, NotOne, OffGrid, TooFar, WeightsDiffer, NoneAbove, Overlap, ShareAboveOne, OffGridCession, ZeroMean, CountNotWhole, CountAboveOne, TrialsNotWhole, ShapeNotWhole, TooFine, TooManyClaims, HorizonTooLarge, TooManyUnits, DuplicateSeverity, UnknownSeverity, ZeroBase, CommonUnit, CommonShape, CommonSize, TotalTooLarge}
 
 abbrev pub rule_number : Rule → ℕ
 rule_number rule = elim rule [
@@ -33,6 +33,7 @@ rule_number rule = elim rule [
   | CommonUnit ↦ 26
   | CommonShape ↦ 27
   | CommonSize ↦ 28
+  | TotalTooLarge ↦ 30
 ]
 
 abbrev pub rule_name : Rule → List ℕ
@@ -65,4 +66,5 @@ rule_name rule = elim rule [
   | CommonUnit ↦ codes "CommonUnit"
   | CommonShape ↦ codes "CommonShape"
   | CommonSize ↦ codes "CommonSize"
+  | TotalTooLarge ↦ codes "TotalTooLarge"
 ]

@@ -1,5 +1,5 @@
 -- The plan of a program: its meaning.
-use Rattle.std.specs.Prelude.{ℕ, ◌≡◌, List, map, zip, Option, Some, None, IfSome}
+use Rattle.std.specs.Prelude.{ℕ, ◌≡◌, List, Option, Some, None, IfSome}
 use Rattle.dl_exact.specs.Fraction.{Fraction, whole, ◌over◌, ◌/ℚ◌}
 use Rattle.dl_plan.specs.declared.plan.Freq.{Freq}
 use Rattle.dl_plan.specs.declared.plan.Freq.TheVariants as of_plan
@@ -7,7 +7,7 @@ use Rattle.dl_plan.specs.declared.plan.Unit.{Unit as UnitOfPlan}
 use Rattle.dl_plan.specs.declared.plan.Plan.{Plan}
 use Rattle.dl_plan.specs.declared.settings.Settings.{Settings}
 use Rattle.dl_plan.specs.declared.item.Item.{Item}
-use Rattle.dl_plan.specs.Prelude.{weight_at, Pairs, probability, HasDistribution, Clause, IsClause, IsClaimCount, expected_count as expected_of_plan, HasPartsOf48Bits}
+use Rattle.dl_plan.specs.Prelude.{weight_at, probability, HasDistribution, Clause, IsClause, IsClaimCount, expected_count as expected_of_plan, HasPartsOf48Bits}
 use Rattle.dl_buckets.specs.declared.grid.GridFreq.{GridFreq}
 use Rattle.dl_buckets.specs.declared.grid.GridFreq.TheVariants.{Fixed, Poisson, Bernoulli, Binomial, Gamma}
 use Rattle.dl_buckets.specs.declared.grid.GridCount.{GridCount}
@@ -16,7 +16,7 @@ use Rattle.dl_buckets.specs.declared.grid.ValueList.{ValueList}
 use Rattle.dl_buckets.specs.declared.grid.Shares.{Shares}
 use Rattle.dl_buckets.specs.declared.grid.GridClause.{GridClause}
 use Rattle.dl_buckets.specs.declared.grid.GridUnit.{GridUnit}
-use Rattle.dl_buckets.specs.Prelude.{grid_of, value, probs_of, clause_of, final_severity}
+use Rattle.dl_buckets.specs.Prelude.{grid_of, value, clause_of, final_severity}
 use Rattle.dl_ast.specs.declared.ast.MixAst.{MixAst}
 use Rattle.dl_ast.specs.declared.ast.Numeral.{Numeral}
 use Rattle.dl_ast.specs.declared.ast.PortHead.{PortHead}
@@ -28,11 +28,8 @@ use Rattle.dl_buckets.specs.declared.made.MadeClause.{MadeClause}
 use Rattle.dl_buckets.specs.declared.made.MadeClause.TheVariants.{Missing, TooFine, Whole}
 use Rattle.dl_types.specs.Exposures.{expected_count, shape_of}
 use Rattle.dl_types.specs.Faults.{cells_asked}
+use Rattle.dl_types.specs.Listed.{pairs_of_counts}
 use Rattle.dl_types.specs.Severities.{mixture_of}
-
--- each listed number of claims with its probability
-abbrev pub pairs_of_counts : ValueList → Option Shares → Pairs
-pairs_of_counts counts probs = zip (map (λ x. x.num) counts.values) (probs_of counts probs)
 
 -- a table of these numbers of claims, equal ones added up
 abbrev pub IsTableOf : ValueList → Option Shares → Freq → Type 0
@@ -48,7 +45,7 @@ IsCountWith (Poisson _) n freq = freq ≡ of_plan.Poisson n
 IsCountWith (Bernoulli _) n freq = freq ≡ of_plan.Bernoulli n
 IsCountWith (Binomial p _) n freq =
     (m : ℕ) × (whole m ≡ n /ℚ p) × (freq ≡ of_plan.Binomial m p)
-IsCountWith (Gamma c _) n freq = (r : ℕ) × (whole r ≡ shape_of c) × (freq ≡ of_plan.Gamma r n)
+IsCountWith (Gamma c _) n freq = freq ≡ of_plan.Gamma (shape_of c) n
 
 -- the claim count of the plan is that of the text, in lowest terms where it is listed
 abbrev pub IsCountOf : Fraction → GridUnit → GridCount → Freq → Type 0
@@ -61,7 +58,7 @@ freq_with (Fixed _) n = of_plan.Fixed n.num
 freq_with (Poisson _) n = of_plan.Poisson n
 freq_with (Bernoulli _) n = of_plan.Bernoulli n
 freq_with (Binomial p _) n = of_plan.Binomial (n /ℚ p).num p
-freq_with (Gamma c _) n = of_plan.Gamma (shape_of c).num n
+freq_with (Gamma c _) n = of_plan.Gamma (shape_of c) n
 
 -- the table of listed counts, which is valid
 pub record IsTabled (counts : ValueList) (probs : Option Shares) (freq : Freq) : Type 0 where
@@ -111,12 +108,12 @@ pub record IsUnitOf (bs : Fraction) (sevs : List SevDef) (u : UnitAst) (made : U
     pub unit : IsUnitWith bs u mix made
 
 -- the shape of a gamma factor with the coefficient of variation that is written, where one is
-abbrev pub IsWrittenShape : Option Numeral → Option ℕ → Type 0
+abbrev pub IsWrittenShape : Option Numeral → Option Fraction → Type 0
 IsWrittenShape None shape = shape ≡ None
-IsWrittenShape (Some c) shape = (r : ℕ) × (whole r ≡ shape_of (value c)) × (shape ≡ Some r)
+IsWrittenShape (Some c) shape = shape ≡ Some (shape_of (value c))
 
 -- that of the factor that all units of a portfolio share
-abbrev pub IsSharedShape : Option PortHead → Option ℕ → Type 0
+abbrev pub IsSharedShape : Option PortHead → Option Fraction → Type 0
 IsSharedShape None shape = shape ≡ None
 IsSharedShape (Some h) shape = IsWrittenShape h.common shape
 

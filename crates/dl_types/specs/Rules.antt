@@ -5,10 +5,10 @@
 use Rattle.std.specs.Prelude.{ℕ, Bool, true, false, not, ◌&&◌, ◌||◌, nat_lt, is_some, List, slice_get, Option, Some, None}
 use Rattle.std.specs.List.{list_any}
 use Rattle.std.specs.Str.{bytes_eq}
-use Rattle.dl_limits.specs.Limits.{most_claims, most_count, most_expected, most_horizon, most_shape, rarest_claims}
+use Rattle.dl_limits.specs.Limits.{most_beta, most_claims, most_count, most_expected, most_horizon, most_shape, rarest_claims}
 use Rattle.dl_limits.specs.declared.rules.Bounds.{Bounds}
 use Rattle.dl_plan.specs.Horizon.{horizon}
-use Rattle.dl_exact.specs.Fraction.{Fraction, whole, ◌over◌, ◌/ℚ◌}
+use Rattle.dl_exact.specs.Fraction.{Fraction, whole, ◌over◌, ◌+ℚ◌, ◌*ℚ◌, ◌/ℚ◌}
 use Rattle.dl_lexer.specs.declared.token.Span.{Span}
 use Rattle.dl_ast.specs.declared.ast.UnitAst.{UnitAst}
 use Rattle.dl_ast.specs.declared.ast.NameAst.{NameAst}
@@ -32,7 +32,7 @@ use Rattle.dl_buckets.specs.declared.made.MadeClause.{MadeClause}
 use Rattle.dl_buckets.specs.declared.made.MadeClause.TheVariants as made
 use Rattle.dl_buckets.specs.declared.grid.GridUnit.{GridUnit}
 use Rattle.dl_types.specs.UnitNames.{names_of, severity_names}
-use Rattle.dl_types.specs.Exposures.{expected_loss, is_unbounded, claims_above_zero, is_there_and, shape_of}
+use Rattle.dl_types.specs.Exposures.{expected_loss, is_unbounded, claims_above_zero, is_there_and, is_held, shape_of}
 
 -- the span of a name that is one of these
 abbrev pub repeated : List (List ℕ) → NameAst → Option Span
@@ -99,37 +99,65 @@ trials_not_whole (Exposed exposure (Binomial p span)) n =
 trials_not_whole (Exposed exposure (Gamma c _)) n = None
 trials_not_whole (Listed counts probs) n = None
 
--- 18 ShapeNotWhole: `mixed gamma c` with c 0 or 1 / c^2 not whole
-unfoldable pub shape_not_whole : GridCount → Option Span
-shape_not_whole (Exposed exposure (Fixed _)) = None
-shape_not_whole (Exposed exposure (Poisson _)) = None
-shape_not_whole (Exposed exposure (Bernoulli _)) = None
-shape_not_whole (Exposed exposure (Binomial p _)) = None
-shape_not_whole (Exposed exposure (Gamma c span)) =
-    at_if (is_zero c || not (is_whole (shape_of c))) span
-shape_not_whole (Listed counts probs) = None
+-- 18 ShapeNotWhole: `mixed gamma c` with c 0, or, by rules that want whole shapes, with 1 / c^2 not
+-- whole
+abbrev pub has_no_shape : Bounds → Fraction → Bool
+has_no_shape bounds c = is_zero c || (bounds.whole_shapes && not (is_whole (shape_of c)))
+
+abbrev pub no_shape_of : Bounds → GridFreq → Option Span
+no_shape_of bounds (Fixed _) = None
+no_shape_of bounds (Poisson _) = None
+no_shape_of bounds (Bernoulli _) = None
+no_shape_of bounds (Binomial p _) = None
+no_shape_of bounds (Gamma c span) = at_if (has_no_shape bounds c) span
+
+unfoldable pub shape_not_whole : Bounds → GridCount → Option Span
+shape_not_whole bounds (Exposed exposure freq) = no_shape_of bounds freq
+shape_not_whole bounds (Listed counts probs) = None
 
 -- 19 TooFine: a list of probabilities, the shares of a clause, or the mixture is not fine; or,
--- where
--- they are, the expected loss, the expected count, or for Poisson and gamma the expected number of
--- claims above 0, is not admitted
+-- where they are, the expected loss, the expected count, or for Poisson and gamma the expected
+-- number of claims above 0, is not admitted; or, by rules that do not want whole shapes, the shape
+-- of a gamma count is not admitted, or one of these two numbers over the shape is not held
 abbrev pub loss_too_fine : Option Fraction → Bool
 loss_too_fine None = false
 loss_too_fine (Some loss) = not (is_admitted loss)
 
-unfoldable pub exposed_too_fine : GridCount → Option Fraction → Option Fraction → Bool
-exposed_too_fine (Exposed exposure freq) n above = loss_too_fine (expected_loss exposure)
+-- a number that is there is not held over a shape
+abbrev pub is_coarse_over : Fraction → Option Fraction → Bool
+is_coarse_over r n = is_there_and (λ x. not (is_held (x /ℚ r))) n
+
+abbrev pub shape_too_fine : Fraction → Option Fraction → Option Fraction → Bool
+shape_too_fine r n above = not (is_admitted r) || is_coarse_over r n || is_coarse_over r above
+
+abbrev pub freq_too_fine : Bounds → GridFreq → Option Fraction → Option Fraction → Bool
+freq_too_fine bounds (Fixed _) n above = false
+freq_too_fine bounds (Poisson _) n above = false
+freq_too_fine bounds (Bernoulli _) n above = false
+freq_too_fine bounds (Binomial p _) n above = false
+freq_too_fine bounds (Gamma c _) n above =
+    not bounds.whole_shapes && shape_too_fine (shape_of c) n above
+
+unfoldable pub exposed_too_fine : Bounds → GridCount → Option Fraction → Option Fraction → Bool
+exposed_too_fine bounds (Exposed exposure freq) n above = loss_too_fine (expected_loss exposure)
     || not (is_some n) || (is_unbounded freq && not (is_some above))
-exposed_too_fine (Listed counts probs) n above = false
+    || freq_too_fine bounds freq n above
+exposed_too_fine bounds (Listed counts probs) n above = false
 
 unfoldable pub too_fine : Bounds → GridUnit → Option Fraction → Option Span
 too_fine bounds u n = at_if (fractions_too_fine bounds u
-    || exposed_too_fine u.count n (claims_above_zero (final_severity u) n)) u.name
+    || exposed_too_fine bounds u.count n (claims_above_zero (final_severity u) n)) u.name
 
 -- 20 TooManyClaims: the expected number of claims above 0 of Poisson or gamma passes 4,096; the
--- shape passes 10,000; a fixed count or the trials pass 65,536; or a `dfreq` count passes 256
+-- shape passes 10,000, or that number over it 32,768; a fixed count or the trials pass 65,536; or a
+-- `dfreq` count passes 256
 abbrev pub passes : Fraction → ℕ → Bool
 passes x limit = is_above x (whole limit)
+
+-- a shape passes 10,000, or a number that is there passes 32,768 over it
+abbrev pub is_shape_large : Fraction → Option Fraction → Bool
+is_shape_large r above =
+    passes r most_shape || is_there_and (λ x. passes (x /ℚ r) most_beta) above
 
 unfoldable pub has_too_many_claims : GridCount → Option Fraction → Option Fraction → Bool
 has_too_many_claims (Exposed exposure (Fixed _)) n above =
@@ -140,7 +168,7 @@ has_too_many_claims (Exposed exposure (Bernoulli _)) n above = false
 has_too_many_claims (Exposed exposure (Binomial p _)) n above =
     is_there_and (λ x. passes (x /ℚ p) most_claims) n
 has_too_many_claims (Exposed exposure (Gamma c _)) n above =
-    is_there_and (λ x. passes x most_expected) above || passes (shape_of c) most_shape
+    is_there_and (λ x. passes x most_expected) above || is_shape_large (shape_of c) above
 has_too_many_claims (Listed counts probs) n above =
     list_any (λ x. passes x most_count) counts.values
 
@@ -169,12 +197,26 @@ unfoldable pub duplicate_severity : List SevDef → SevDef → Option Span
 duplicate_severity before d = repeated (severity_names before) d.name
 
 -- 25 ZeroBase: the probability of no claim is changed to 1 or more, or where fewer than 1/16 or
--- more than 4,096 claims are expected; no text changes that of a `dfreq` count
-abbrev pub is_no_base : Fraction → Bool
-is_no_base n = is_above (1 over rarest_claims) n || passes n most_expected
+-- more than 4,096 claims are expected, or where one claim of a gamma count with a shape r below 1
+-- and n claims expected weighs less than 1/16 of none: that weight is r * n / (r + n); no text
+-- changes the probability of no claim of a `dfreq` count
+abbrev pub is_one_rare : Fraction → Fraction → Bool
+is_one_rare r n =
+    is_above (whole 1) r && is_above (1 over rarest_claims) (r *ℚ (n /ℚ (r +ℚ n)))
 
-abbrev pub has_no_base : Fraction → Option Fraction → Bool
-has_no_base p n = not (is_above (whole 1) p) || is_there_and is_no_base n
+abbrev pub is_claim_rare : GridFreq → Fraction → Bool
+is_claim_rare (Fixed _) n = false
+is_claim_rare (Poisson _) n = false
+is_claim_rare (Bernoulli _) n = false
+is_claim_rare (Binomial p _) n = false
+is_claim_rare (Gamma c _) n = is_one_rare (shape_of c) n
+
+abbrev pub is_no_base : GridFreq → Fraction → Bool
+is_no_base freq n =
+    is_above (1 over rarest_claims) n || passes n most_expected || is_claim_rare freq n
+
+abbrev pub has_no_base : GridFreq → Fraction → Option Fraction → Bool
+has_no_base freq p n = not (is_above (whole 1) p) || is_there_and (is_no_base freq) n
 
 -- the span of a distribution
 abbrev pub freq_span : GridFreq → Span
@@ -185,7 +227,7 @@ freq_span (Binomial p span) = span
 freq_span (Gamma c span) = span
 
 abbrev pub no_base_of : GridCount → Fraction → Option Fraction → Option Span
-no_base_of (Exposed exposure freq) p n = at_if (has_no_base p n) (freq_span freq)
+no_base_of (Exposed exposure freq) p n = at_if (has_no_base freq p n) (freq_span freq)
 no_base_of (Listed counts probs) p n = Some counts.span
 
 unfoldable pub zero_base : GridCount → Option Fraction → Option Fraction → Option Span
@@ -218,11 +260,11 @@ unfoldable pub common_unit : Option PortHead → UnitAst → Option Span
 common_unit port u =
     at_if (has_common port && (not (is_plain_poisson u.count) || is_some u.agr)) u.name.span
 
--- 27 CommonShape: the coefficient of variation c of the shared factor is a bad numeral or 0, or
--- 1 / c^2 is not whole
-abbrev pub has_bad_shape : Numeral → Bool
-has_bad_shape c = is_bad_numeral c || (is_zero (value c) || not (is_whole (shape_of (value c))))
+-- 27 CommonShape: the coefficient of variation c of the shared factor is a bad numeral or 0, or, by
+-- rules that want whole shapes, 1 / c^2 is not whole
+abbrev pub has_bad_shape : Bounds → Numeral → Bool
+has_bad_shape bounds c = is_bad_numeral c || has_no_shape bounds (value c)
 
-unfoldable pub common_shape : Option PortHead → Option Span
-common_shape = within (λ (h : PortHead).
-    within (λ (c : Numeral). at_if (has_bad_shape c) c.span) h.common)
+unfoldable pub common_shape : Bounds → Option PortHead → Option Span
+common_shape bounds = within (λ (h : PortHead).
+    within (λ (c : Numeral). at_if (has_bad_shape bounds c) c.span) h.common)

@@ -5,7 +5,7 @@ ghost use Rattle.dl_types.specs.Faults.{breaks, first_broken, whole_rules, count
 ghost use Rattle.dl_types.specs.Answer.{HasFault};
 ghost use Rattle.dl_types.specs.declared.rule.Rule.TheVariants.{TooFine};
 ghost use Rattle.dl_buckets.specs.Prelude.{off_grid_cession, severity_in_layer, support, IsWeighed, IsLayered, AreClausesOf};
-ghost use Rattle.dl_types.specs.Rules.{too_fine};
+ghost use Rattle.dl_types.specs.Rules.{shape_not_whole, too_fine};
 ghost use Rattle.dl_limits.specs.Rules.{AreBounds};
 ghost use Rattle.dl_plan.specs.Ranges.{IsBucket};
 ghost use Rattle.dl_types.specs.Exposures.{expected_claims};
@@ -52,7 +52,7 @@ pub(crate) fn check_count<'a>(
     broken(number, Rule::ZeroMean, span)?;
     let layered = weighed_severity(alloc, unit, bounds)?;
     let count = expected_claims(unit, bs, &layered);
-    let whole = check_whole(number, &unit.count, &count);
+    let whole = check_whole(number, &unit.count, &count, bounds);
     let kept = unless_broken(layered, whole)?;
     let clauses = &layered_unit.clauses;
     let claims = check_fine(alloc, number, unit, clauses, kept, count, bounds)?;
@@ -63,8 +63,13 @@ pub(crate) fn check_count<'a>(
 
 /// The rules on whole numbers, with `expected` claims expected.
 #[tactic(auto, unfolding(dl_buckets::specs::First::first_in))]
-fn check_whole(number: u32, count: &GridCount, expected: &Option<Frac>) -> Result<(), CheckFault>
-    ensures { HasFault (first_broken number (whole_rules count.now expected.now)) result }
+fn check_whole(
+    number: u32,
+    count: &GridCount,
+    expected: &Option<Frac>,
+    bounds: Bounds,
+) -> Result<(), CheckFault>
+    ensures { HasFault (first_broken number (whole_rules bounds count.now expected.now)) result }
 {
     let span = count_not_whole(count, expected);
     broken(number, Rule::CountNotWhole, span)?;
@@ -72,7 +77,8 @@ fn check_whole(number: u32, count: &GridCount, expected: &Option<Frac>) -> Resul
     broken(number, Rule::CountAboveOne, span)?;
     let span = trials_not_whole(count, expected);
     broken(number, Rule::TrialsNotWhole, span)?;
-    broken(number, Rule::ShapeNotWhole, shape_not_whole(count))
+    let span = shape_not_whole(count, bounds);
+    broken(number, Rule::ShapeNotWhole, span)
 }
 
 /// The rule on fractions, and what the claims of a unit come to whose fractions are fine.
@@ -91,6 +97,7 @@ fn check_fine<'a>(
     requires made { AreClausesOf unit.now clauses.now }
     requires weighed { IsWeighed bounds unit.now layered }
     requires number { IsNumberOf unit.now.count count }
+    requires shape { shape_not_whole bounds unit.now.count ≡ None }
     ensures fault { HasFault (breaks number TooFine (too_fine bounds unit.now count)) result }
     ensures claims { IfOk result (AreClaims unit.now) }
     ensures count { IfOk result (λ claims. IsUnitCount unit.now.count count claims.count) }
@@ -99,7 +106,7 @@ fn check_fine<'a>(
         return Err(typing(number, Rule::TooFine, unit.name));
     };
     let above = above_zero(&severity, &count);
-    let Some(count) = fine_count(&unit.count, &count, &above) else {
+    let Some(count) = fine_count(&unit.count, &count, &above, bounds) else {
         return Err(typing(number, Rule::TooFine, unit.name));
     };
     Ok(Claims {

@@ -17,6 +17,7 @@ use crate::ratio::Ratio;
 use dl_buckets::{GridCount, GridExposure, GridFreq, GridUnit, is_above, span_if};
 use dl_frac::Frac;
 use dl_lexer::Span;
+use dl_limits::Bounds;
 use dl_plan::Sev;
 use dl_sev::mean;
 
@@ -213,10 +214,11 @@ fn is_no_multiple(value: Frac, part: Frac) -> bool
     value.num() as u128 * part.den() as u128 % (value.den() as u128 * part.num() as u128) != 0
 }
 
-/// The span of a gamma factor whose shape is no whole number above 0.
+/// The span of a gamma factor whose coefficient of variation is 0 or, by rules that want whole
+/// shapes, whose shape is no whole number.
 #[tactic(auto, unfolding(crate::specs::Rules::shape_not_whole))]
-pub(crate) fn shape_not_whole(count: &GridCount) -> Option<Span>
-    ensures { result ≡ shape_not_whole count.now }
+pub(crate) fn shape_not_whole(count: &GridCount, bounds: Bounds) -> Option<Span>
+    ensures { result ≡ shape_not_whole bounds count.now }
 {
     let GridCount::Exposed { freq, .. } = count else {
         return None;
@@ -224,5 +226,5 @@ pub(crate) fn shape_not_whole(count: &GridCount) -> Option<Span>
     let GridFreq::Gamma(variation, span) = freq else {
         return None;
     };
-    span_if(has_no_shape(*variation), *span)
+    span_if(has_no_shape(*variation, bounds), *span)
 }

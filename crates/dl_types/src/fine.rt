@@ -3,13 +3,15 @@
 ghost use Rattle.std.specs.Prelude.{◌≡◌, ◌||◌, Option, None, true, false, not, IfOk};
 ghost use Rattle.std.specs.Option.{MatchOption};
 ghost use Rattle.dl_limits.specs.Rules.{AreBounds};
-ghost use Rattle.dl_types.specs.Rules.{loss_too_fine, exposed_too_fine};
+ghost use Rattle.dl_exact.specs.Fraction.{whole, ◌<ℚ◌};
+ghost use Rattle.dl_types.specs.Rules.{loss_too_fine, exposed_too_fine, freq_too_fine, is_coarse_over, no_shape_of, shape_not_whole};
 ghost use Rattle.dl_types.specs.Exposures.{expected_loss, is_unbounded};
 ghost use Rattle.dl_buckets.specs.declared.grid.GridClause.{GridClause as ClauseInGrid};
 ghost use Rattle.dl_buckets.specs.Prelude.{made_of, AreClausesOf, has_shares, IsWeighed, IsLayered, has_probs, IsGridCount, off_grid_cession};
 ghost use Rattle.dl_types.specs.Claimed.{IsFineSeverity, IsNumberOf, IsUnitCount};
 
 use crate::claims::{UnitCount, is_admitted, small};
+use crate::frequencies::shape;
 use dl_buckets::{
     Clauses, GridCount, GridExposure, GridFreq, GridUnit, MadeClause, are_fine, final_severity,
 };
@@ -76,16 +78,18 @@ fn count_too_fine(count: &GridCount, bounds: Bounds) -> bool
 
 /// The claim count of a unit with `number` expected claims, `above` of them above 0; none where the
 /// expected loss, the expected count, or for a Poisson or a gamma count the number above 0, is not
-/// admitted.
-#[tactic(auto, unfolding(crate::specs::Rules::exposed_too_fine))]
+/// admitted, or where a shape that need not be whole is too fine.
+#[tactic(auto, unfolding(crate::specs::Rules::exposed_too_fine, crate::specs::Rules::shape_not_whole))]
 pub(crate) fn fine_count<'a>(
     count: &'a GridCount,
     number: &Option<Frac>,
     above: &Option<Frac>,
+    bounds: Bounds,
 ) -> Option<UnitCount<'a>>
-    requires { IsNumberOf count.now number.now }
-    ensures { MatchOption result (exposed_too_fine count.now number.now above.now ≡ true)
-        (λ made. (exposed_too_fine count.now number.now above.now ≡ false)
+    requires number { IsNumberOf count.now number.now }
+    requires shape { shape_not_whole bounds count.now ≡ None }
+    ensures { MatchOption result (exposed_too_fine bounds count.now number.now above.now ≡ true)
+        (λ made. (exposed_too_fine bounds count.now number.now above.now ≡ false)
         × IsUnitCount count.now number.now made) }
 {
     match count {
@@ -94,9 +98,43 @@ pub(crate) fn fine_count<'a>(
             if loss_too_fine(exposure) || is_unbounded(freq) && above.is_none() {
                 return None;
             }
+            if freq_too_fine(freq, number, above, bounds) {
+                return None;
+            }
             number.map(|number| UnitCount::Exposed(*exposure, *freq, number))
         }
     }
+}
+
+/// Whether a count is gamma with a shape that need not be whole, and that is not admitted, or over
+/// which one of these numbers is not held.
+fn freq_too_fine(
+    freq: &GridFreq,
+    number: &Option<Frac>,
+    above: &Option<Frac>,
+    bounds: Bounds,
+) -> bool
+    requires { no_shape_of bounds freq.now ≡ None }
+    ensures { result ≡ freq_too_fine bounds freq.now number.now above.now }
+{
+    let GridFreq::Gamma(variation, _) = freq else {
+        return false;
+    };
+    if bounds.whole_shapes {
+        return false;
+    }
+    match shape(*variation) {
+        Some(shape) => is_coarse_over(number, shape) || is_coarse_over(above, shape),
+        None => true,
+    }
+}
+
+/// Whether a number that is there has a part of 2^62 or more over a shape.
+fn is_coarse_over(number: &Option<Frac>, shape: Frac) -> bool
+    requires { whole 0 <ℚ shape }
+    ensures { result ≡ is_coarse_over shape number.now }
+{
+    matches!(number, Some(number) if number.div(shape).is_err())
 }
 
 /// Whether there is no greatest number of claims.

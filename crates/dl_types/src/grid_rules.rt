@@ -54,7 +54,8 @@ fn check_changes(
     zero: &Option<Frac>,
     cells: u32,
 ) -> Result<Option<Cede>, CheckFault>
-    requires { IsMade agr }
+    requires made { IsMade agr }
+    requires count { IsCountChecked (count_of count.now) (number_of count.now) }
     ensures fault { HasFault (breaks number HorizonTooLarge (horizon_too_large cells agr)
         else breaks number ZeroBase (zero_base (count_of count.now) zero.now (number_of count.now)))
         result }

@@ -1,13 +1,15 @@
 //! Laws for the callers.
 
-ghost use Rattle.std.specs.Prelude.{◌≡◌, None};
+ghost use Rattle.std.specs.Prelude.{◌≡◌, ◌≤◌, [], None, length};
+ghost use Rattle.dl_limits.specs.Limits.{standard_units};
+ghost use Rattle.dl_buckets.specs.First.{in_turn};
 ghost use Rattle.dl_ast.specs.declared.ast.Program.{Program};
 ghost use Rattle.dl_ast.specs.WellFormed.{IsWellFormed};
 ghost use Rattle.dl_plan.specs.declared.plan.Plan.{Plan};
 ghost use Rattle.dl_plan.specs.declared.settings.Settings.{Settings};
 ghost use Rattle.dl_plan.specs.Valid.{IsValid};
 ghost use Rattle.dl_limits.specs.declared.rules.Rules.TheVariants.{Extended, Standard};
-ghost use Rattle.dl_types.specs.Faults.{by, first_fault};
+ghost use Rattle.dl_types.specs.Faults.{by, fault_of_total, first_fault, first_fault_of};
 ghost use Rattle.dl_types.specs.Checked.{IsSet};
 ghost use Rattle.dl_types.specs.Plans.{IsPlanOf};
 
@@ -33,4 +35,13 @@ pub fn law_rules()
     ensures plan { (program : Program) (settings : Settings) (plan : Plan)
         → IsPlanOf program (by Standard settings) plan
         → IsPlanOf program (by Extended settings) plan }
+{}
+
+/// At most 16 units that break no rule of their own are not too large all together: by the standard
+/// rules the last rule is never broken.
+pub fn law_total()
+    ensures { (program : Program) (settings : Settings) → IsWellFormed program
+        → length program.units ≤ standard_units
+        → in_turn (first_fault_of settings program.port program.sevs) [] program.units ≡ None
+        → fault_of_total settings program ≡ None }
 {}

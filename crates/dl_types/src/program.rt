@@ -16,6 +16,7 @@ use crate::known::KnownSeverity;
 use crate::rule::Rule;
 use crate::scale::{bounds_asked, cells};
 use crate::severities::check_severities;
+use crate::totals::check_total;
 use crate::unit::check_unit;
 use dl_ast::{PortHead, Program, SevDef, UnitAst};
 use dl_lexer::Span;
@@ -25,8 +26,8 @@ use std::alloc::Global;
 
 /// The plan of a program, in buckets of the size that is set, on a grid of 2^`log2` cells; or the
 /// first broken rule, with its place. More units than the rules that are set allow come before all
-/// other faults, then two severities of one name, then the rules of each unit in the order of the text, and last those of
-/// the portfolio.
+/// other faults, then two severities of one name, then the rules of each unit in the order of the
+/// text, and last those of the portfolio.
 ///
 /// It needs a program as the parser builds it, and settings in their ranges. `CheckFault::Typing`
 /// names the rule. `CheckFault::OutOfMemory` says that memory ran out.
@@ -61,6 +62,7 @@ fn planned(program: &Program, settings: &Settings, units: Items<Unit>) -> Result
     ensures { IsCheckOf program.now settings.now result }
 {
     let common = shared_shape(program, settings, units.as_slice())?;
+    check_total(program, settings, units.as_slice())?;
     Ok(Plan {
         bs: settings.bs,
         cells: cells(settings),

@@ -12,8 +12,8 @@ pub enum Rule {
     BadNumeral = 2,
     /// A range goes down, has the step 0, or its numbers have a common denominator above 1,000,000.
     BadRange = 3,
-    /// A list has more than 1,024 values, the severity more than 64 atoms, or a clause more than 16
-    /// layers.
+    /// A list has more values than the rules allow, the severity more than 64 atoms or more than
+    /// 65,536 values together, or a clause more than 16 layers.
     ListTooLong = 4,
     /// Two lists that belong together have different numbers of values.
     LengthsDiffer = 5,
@@ -49,7 +49,7 @@ pub enum Rule {
     TooManyClaims = 20,
     /// The horizon of the aggregate clause is too large.
     HorizonTooLarge = 21,
-    /// There are more than 16 units.
+    /// There are more units than the rules allow.
     TooManyUnits = 22,
     /// The name of a severity is that of an earlier one.
     DuplicateSeverity = 23,
@@ -65,10 +65,14 @@ pub enum Rule {
     /// The units under `common` are too large: the shape, a sum of their claims, or the common
     /// denominator of their shares passes its bound, or no claim is expected.
     CommonSize = 28,
+    /// The units of a portfolio are too large all together: more than 16 of them have `zt` or `zm`,
+    /// or their means pass 17 * 2^36 buckets, or 17 * 2^38 on a grid of more than 4,096 cells, where
+    /// the mean of a unit with `zt` or `zm` counts 17 times.
+    TotalTooLarge = 30,
 }
 
 impl Rule {
-    /// Its number, from 1 to 28.
+    /// Its number: from 1 to 28, or 30.
     pub fn number(self) -> u32
         ensures { result ≡ rule_number self }
     {
@@ -108,6 +112,7 @@ impl Rule {
             Rule::CommonUnit => "CommonUnit",
             Rule::CommonShape => "CommonShape",
             Rule::CommonSize => "CommonSize",
+            Rule::TotalTooLarge => "TotalTooLarge",
         }
     }
 }

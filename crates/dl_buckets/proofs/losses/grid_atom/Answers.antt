@@ -3,7 +3,7 @@ use Rattle.dl_buckets.proofs.Common.{ℕ, ◌≡◌, ◌∙◌, List, length, ma
 use Rattle.std.proofs.lemmas.Simd.{map-map}
 use Rattle.dl_buckets.proofs.Agreeing.{read_after, keeps_first}
 use Rattle.dl_buckets.proofs.Beside.{beside_read}
-use Rattle.dl_buckets.proofs.LongMixtures.{amount_flaws, none_early}
+use Rattle.dl_buckets.proofs.ListLengths.{amount_flaws, none_early}
 use Rattle.dl_buckets.proofs.losses.grid_atom.Goals as goal
 
 -- probabilities are right where the values and the amounts are

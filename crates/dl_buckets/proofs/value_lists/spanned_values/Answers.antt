@@ -1,12 +1,7 @@
 -- The ranges are good where none has a flaw.
-use Rattle.dl_buckets.proofs.Common.{◌≡◌, ◌∙◌, false, Option, Some, None, refl, sym, All-nil, Fraction, Span, HasPartsOf18Digits}
-use Rattle.std.specs.Prelude.{is_some}
-use Rattle.dl_buckets.proofs.Spanned.{all_ranges, few_read, many, values_are, values_modest}
+use Rattle.dl_buckets.proofs.Common.{◌∙◌, sym, All-nil, Fraction, Span, HasPartsOf18Digits}
+use Rattle.dl_buckets.proofs.Spanned.{all_ranges, few_read, many, none_is, values_are, values_modest}
 use Rattle.dl_buckets.proofs.value_lists.spanned_values.Goals as goal
-
-none_is : {A : Type 0} (o : Option A) → is_some o ≡ false → o ≡ None
-none_is None e = refl
-none_is (Some x) e = absurd (cc)
 
 pub long_list-requires-clause-long : goal.long_list-requires-clause-long
 long_list-requires-clause-long c =

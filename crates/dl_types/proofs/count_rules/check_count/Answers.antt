@@ -14,12 +14,17 @@ check_fine-requires-clause-weighed c = rw c.in_ok-kept.ensures.same c.in_ok-laye
 pub check_fine-requires-clause-number : goal.check_fine-requires-clause-number
 check_fine-requires-clause-number c = rw (c.expected_claims-count.ensures c.args.bounds c.in_ok-layered.ensures) (number_is c.args.bounds c.args.bs c.args.unit.now)
 
+pub check_fine-requires-clause-shape : goal.check_fine-requires-clause-shape
+check_fine-requires-clause-shape c =
+    (whole_is c.args.bounds c.args.number c.args.unit.now.count c.expected_claims-count.result
+    (c.in_ok-kept.ensures.fault _ c.check_whole-whole.ensures)).shape
+
 pub too_many_claims-many-requires : goal.too_many_claims-many-requires
 too_many_claims-many-requires c =
     let u = c.args.unit.now in
     let is = c.in_ok-claims.ensures.count in
     rw (is.same, is.number) (whole_here c.args.bounds u c.expected_claims-count.result
-    (whole_is c.args.number u.count c.expected_claims-count.result (c.in_ok-kept.ensures.fault _ c.check_whole-whole.ensures))
+    (whole_is c.args.bounds c.args.number u.count c.expected_claims-count.result (c.in_ok-kept.ensures.fault _ c.check_whole-whole.ensures))
     (only _ TooFine _ c.in_ok-claims.ensures.fault))
 
 pub returns-in_err-kept-clause-fault : goal.returns-in_err-kept-clause-fault
@@ -29,7 +34,7 @@ returns-in_err-kept-clause-fault c =
     c.zero_mean-span.result (c.deref.ensures.value ∙ c.requires.amounts) (c.expected_claims-count.ensures c.args.bounds c.in_ok-layered.ensures)
     c.zero_mean-span.ensures c.from_residual-in_err-kept.result stop c.from_residual-in_err-kept.ensures
     (stop_second (breaks c.args.number ZeroMean c.zero_mean-span.result) _ stop c.in_ok-broken.ensures
-    (stop_first (first_broken c.args.number (whole_rules c.args.unit.now.count c.expected_claims-count.result)) _ stop
+    (stop_first (first_broken c.args.number (whole_rules c.args.bounds c.args.unit.now.count c.expected_claims-count.result)) _ stop
     (c.in_err-kept.ensures.fault _ c.check_whole-whole.ensures)))
 
 pub returns-in_err-claims-clause-fault : goal.returns-in_err-claims-clause-fault
@@ -41,7 +46,7 @@ returns-in_err-claims-clause-fault c =
     (c.deref.ensures.value ∙ c.requires.amounts) (c.expected_claims-count.ensures c.args.bounds c.in_ok-layered.ensures) c.zero_mean-span.ensures
     c.from_residual-in_err-claims.result stop c.from_residual-in_err-claims.ensures
     (stop_second (breaks c.args.number ZeroMean c.zero_mean-span.result) _ stop c.in_ok-broken.ensures
-    (stop_second (first_broken c.args.number (whole_rules u.count n)) _ stop (c.in_ok-kept.ensures.fault _ c.check_whole-whole.ensures)
+    (stop_second (first_broken c.args.number (whole_rules c.args.bounds u.count n)) _ stop (c.in_ok-kept.ensures.fault _ c.check_whole-whole.ensures)
     (stop_first (breaks c.args.number TooFine (too_fine c.args.bounds u n)) _ stop c.in_err-claims.ensures.fault)))
 
 pub returns-clause-fault : goal.returns-clause-fault
@@ -54,7 +59,7 @@ returns-clause-fault c =
     let last = count_fault c.args.bounds c.args.bs c.args.number u c.deref.result.now n c.zero_mean-span.result
     (c.deref.ensures.value ∙ c.requires.amounts) (c.expected_claims-count.ensures c.args.bounds c.in_ok-layered.ensures) c.zero_mean-span.ensures
     ∙ skip (breaks c.args.number ZeroMean c.zero_mean-span.result) _ c.in_ok-broken.ensures
-    ∙ skip (first_broken c.args.number (whole_rules u.count n)) _ (c.in_ok-kept.ensures.fault _ c.check_whole-whole.ensures)
+    ∙ skip (first_broken c.args.number (whole_rules c.args.bounds u.count n)) _ (c.in_ok-kept.ensures.fault _ c.check_whole-whole.ensures)
     ∙ skip (breaks c.args.number TooFine (too_fine c.args.bounds u n)) _ c.in_ok-claims.ensures.fault in
     subst (λ fault. HasFault fault c.unless_broken-2.result) (ap (breaks c.args.number TooManyClaims) span ∙ sym last)
     (c.unless_broken-2.ensures.fault _ c.broken-checked.ensures)

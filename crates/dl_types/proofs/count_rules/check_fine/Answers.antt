@@ -14,7 +14,7 @@ returns-clause-fault c =
     let told = rw c.in-Some.is at c.in_ok-severity.ensures in
     let above = c.above_zero-above.ensures (final_severity u) told.1.means in
     ap (breaks c.args.number TooFine) (sym (fine_span c.args.bounds u c.args.count false told.0
-    (sym (ap (exposed_too_fine u.count c.args.count) (sym above) ∙ c.in-Some-fine_count.ensures.0))))
+    (sym (ap (exposed_too_fine c.args.bounds u.count c.args.count) (sym above) ∙ c.in-Some-fine_count.ensures.0))))
 
 pub returns-clause-claims : goal.returns-clause-claims
 returns-clause-claims c =
@@ -31,4 +31,4 @@ returns-in_default-fine_count-clause-fault c =
     let told = rw c.in-Some.is at c.in_ok-severity.ensures in
     let above = c.above_zero-above.ensures (final_severity u) told.1.means in
     rw c.typing-in_default-fine_count.ensures (ap (breaks c.args.number TooFine) (sym (fine_span c.args.bounds u c.args.count true told.0
-    (sym (ap (exposed_too_fine u.count c.args.count) (sym above) ∙ c.in_default-fine_count.ensures)))))
+    (sym (ap (exposed_too_fine c.args.bounds u.count c.args.count) (sym above) ∙ c.in_default-fine_count.ensures)))))

@@ -1,7 +1,17 @@
 -- A share that is refused, or whose denominator passes 2^30 with those before, is not fine.
-use Rattle.dl_types.proofs.Common.{◌≡◌, ◌∙◌, ◌<◌, sym, ap, ap₂, subst, arith, Fraction, whole, ◌/ℚ◌, ◌≤ℚ◌, IsTooFine, most_parts, lcm, UnitOfPlan, unit_share, expected_count, lcm_pos, common_from_pos, common_multiple, times_amounts}
+use Rattle.dl_types.proofs.Common.{◌≡◌, ◌∙◌, ◌<◌, refl, sym, ap, ap₂, subst, arith, Fraction, whole, ◌/ℚ◌, ◌≤ℚ◌, IsTooFine, most_weights, lcm, UnitOfPlan, unit_share, expected_count, lcm_pos, common_from_pos, common_multiple, times_amounts}
 use Rattle.dl_types.proofs.FactorShares.{share_within, coarse_part, lcm_reaches, numbers_more, claims_coarse, amounts_more, amounts_coarse}
 use Rattle.dl_types.proofs.factor.are_shares_fine.Goals as goal
+
+pub units-init : goal.units-init
+units-init c = record {
+  claims = refl;
+  some = omega arith;
+  few = omega (arith, c.requires.bounds.equal);
+  amounts = refl;
+  some_amounts = omega arith;
+  few_amounts = omega (arith, c.requires.bounds.equal);
+}
 
 pub returns-in_default : goal.returns-in_default
 returns-in_default c =
@@ -11,11 +21,11 @@ returns-in_default c =
     let within : share ≤ℚ whole 1 = share_within v (expected_count u.freq) c.requires.above
     (subst (λ (w : UnitOfPlan). expected_count w.freq ≤ℚ v) (sym c.unit-item.is)
     (c.requires.each c.units.unit-index u c.units-test.true)) in
-    let far : most_parts < share.den =
+    let far : most_weights < share.den =
     coarse_part share (subst (λ n. IsTooFine (n /ℚ v)) c.expected.ensures c.in_default.ensures) within in
-    claims_coarse v c.args.units.now c.units.unit-index u c.units-test.true c.unit-item.is
-    (subst (λ n. most_parts < lcm n share.den) c.units.invariant.claims
-    (omega (arith, far, lcm_reaches c.units.claims share.den c.units.invariant.some share.positive)))
+    claims_coarse v c.args.units.now c.units.unit-index u c.units-test.true c.unit-item.is c.args.bounds.parts
+    (subst (λ n. c.args.bounds.parts < lcm n share.den) c.units.invariant.claims
+    (omega (arith, far, c.requires.bounds.parts, lcm_reaches c.units.claims share.den c.units.invariant.some share.positive)))
 
 pub returns-in-None : goal.returns-in-None
 returns-in-None c =
@@ -23,8 +33,8 @@ returns-in-None c =
     let v = c.args.expected in
     let den : c.den.result ≡ (unit_share v u).den = c.den.ensures.part
     ∙ ap (λ (x : Fraction). x.den) (c.in-Ok.ensures.0 ∙ ap (λ n. n /ℚ v) c.expected.ensures) in
-    claims_coarse v c.args.units.now c.units.unit-index u c.units-test.true c.unit-item.is
-    (subst (λ n. most_parts < n) (ap₂ lcm c.units.invariant.claims den) (omega (arith, c.in-None.ensures)))
+    claims_coarse v c.args.units.now c.units.unit-index u c.units-test.true c.unit-item.is c.args.bounds.parts
+    (subst (λ n. c.args.bounds.parts < n) (ap₂ lcm c.units.invariant.claims den) (omega (arith, c.in-None.ensures)))
 
 pub with_amounts-requires-clause-within : goal.with_amounts-requires-clause-within
 with_amounts-requires-clause-within c =
@@ -40,8 +50,8 @@ returns-in-None-with_amounts c =
     let u = c.unit-item.result in
     let v = c.args.expected in
     let share = c.in-Ok.ensures.0 ∙ ap (λ n. n /ℚ v) c.expected.ensures in
-    amounts_coarse v c.args.units.now c.units.unit-index u c.units-test.true c.unit-item.is
-    (subst (λ n. most_parts < n) (ap₂ (λ m x. common_multiple m (times_amounts x u.sev)) c.units.invariant.amounts share)
+    amounts_coarse v c.args.units.now c.units.unit-index u c.units-test.true c.unit-item.is c.args.bounds.parts
+    (subst (λ n. c.args.bounds.parts < n) (ap₂ (λ m x. common_multiple m (times_amounts x u.sev)) c.units.invariant.amounts share)
     (omega (arith, c.in-None-with_amounts.ensures)))
 
 pub units-preserved : goal.units-preserved

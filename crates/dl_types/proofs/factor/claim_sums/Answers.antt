@@ -22,13 +22,13 @@ units-preserved c = record {
 }
 
 pub returns-in_err-expected-clause-none : goal.returns-in_err-expected-clause-none
-returns-in_err-expected-clause-none c = rw c.from_residual.ensures (λ r. no_claims r c.args.units.now (sym (sums_none
+returns-in_err-expected-clause-none c = rw c.from_residual.ensures (λ most r. no_claims most r c.args.units.now (sym (sums_none
     (λ (u : UnitOfPlan). expected_count u.freq) c.args.units.now c.units.unit-index c.unit-item.result c.units-test.true
     c.unit-item.is c.units.expected c.units.invariant.expected c.small.result (c.small.ensures _ c.add.ensures
     ∙ ap (λ n. admitted true (c.units.expected +ℚ n)) c.expected.ensures) c.in_err-expected.was)))
 
 pub returns-in_err-above-clause-none : goal.returns-in_err-above-clause-none
-returns-in_err-above-clause-none c = rw c.from_residual-in_err-above.ensures (λ r. no_above r c.args.units.now
+returns-in_err-above-clause-none c = rw c.from_residual-in_err-above.ensures (λ most r. no_above most r c.args.units.now
     (sym (sums_none thinned_mean c.args.units.now c.units.unit-index c.unit-item.result c.units-test.true c.unit-item.is
     c.units.above c.units.invariant.above c.small-in-units.result (c.small-in-units.ensures _ c.add-in-units.ensures
     ∙ ap (λ n. admitted true (c.units.above +ℚ n)) c.thinned.ensures) c.in_err-above.was)))

@@ -11,7 +11,7 @@ returns-in_default c =
     amount_refused c.args.share c.args.sev.now c.requires.within c.as_slice-item-items.result.now
     c.as_slice-item-items.ensures c.num.result c.den.result c.items.item-index c.num.ensures.part c.den.ensures.part
     c.items-test.true none c.args.common c.items.multiple c.requires.positive c.items.invariant.positive
-    c.items.invariant.so_far c.in_default.ensures
+    c.items.invariant.so_far c.args.most c.requires.most c.in_default.ensures
 
 pub returns-in-None : goal.returns-in-None
 returns-in-None c =
@@ -22,7 +22,7 @@ returns-in-None c =
     amount_coarse c.args.share c.args.sev.now c.requires.within c.as_slice-item-items.result.now
     c.as_slice-item-items.ensures c.num.result c.den.result c.items.item-index c.num.ensures.part c.den.ensures.part
     c.items-test.true none c.args.common c.items.multiple c.requires.positive c.items.invariant.positive
-    c.items.invariant.so_far c.den-in-items.result
+    c.items.invariant.so_far c.args.most c.den-in-items.result
     (c.den-in-items.ensures.part ∙ ap (λ (x : Fraction). x.den) product) c.in-None.ensures
 
 pub items-preserved : goal.items-preserved

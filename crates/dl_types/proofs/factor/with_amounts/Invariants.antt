@@ -1,5 +1,5 @@
 -- The common multiple of the amounts so far.
-use Rattle.dl_types.proofs.Common.{◌≡◌, ◌<◌, ◌≤◌, map, take, ◌over◌, ◌*ℚ◌, Item, most_parts, common_multiple}
+use Rattle.dl_types.proofs.Common.{◌≡◌, ◌<◌, ◌≤◌, map, take, ◌over◌, ◌*ℚ◌, Item, common_multiple}
 use Rattle.dl_types.proofs.factor.with_amounts.Given as goal
 
 abbrev pub invariant-items : goal.invariant-items
@@ -7,5 +7,5 @@ invariant-items l = record {
   so_far : l.multiple ≡ common_multiple l.common (map (λ (i : Item). l.share *ℚ i.weight over l.sev.total)
       (take l.item-index l.item-items));
   positive : 0 < l.multiple;
-  within : l.multiple ≤ most_parts;
+  within : l.multiple ≤ l.most;
 }

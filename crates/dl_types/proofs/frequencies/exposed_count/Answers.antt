@@ -1,7 +1,8 @@
 -- No rule is broken, so the numbers are whole and small.
-use Rattle.dl_types.proofs.Common.{◌∙◌, ◌≤◌, sym, ap, subst, arith, most_claims, most_shape, Fraction, ◌/ℚ◌, whole_num, shape_of, IsFreqChecked, freq_with}
+use Rattle.dl_types.proofs.Common.{◌∙◌, ◌≤◌, refl, sym, ap, subst, arith, most_claims, Fraction, ◌/ℚ◌, whole_num, shape_of, IsFreqChecked, freq_with}
 use Rattle.dl_plan.specs.declared.plan.Freq.TheVariants as of_plan
 use Rattle.dl_types.proofs.ExposedCounts.{whole_is, few_is}
+use Rattle.dl_types.proofs.Shapes.{admitted_some, is_admitted_since}
 use Rattle.dl_types.proofs.frequencies.exposed_count.Goals as goal
 
 pub overflow_cast-result : goal.overflow_cast-result
@@ -24,15 +25,13 @@ returns-in-Binomial c =
     (sym (whole_num c.trials.result) ∙ ap (λ (x : Fraction). x.num) c.trials.ensures)
     ∙ ap (λ f. freq_with f c.args.number) (sym c.in-Binomial.is)
 
-pub overflow_cast-result-in-Gamma : goal.overflow_cast-result-in-Gamma
-overflow_cast-result-in-Gamma c =
+pub unwrap-requires : goal.unwrap-requires
+unwrap-requires c =
     let kept = subst (λ f. IsFreqChecked f c.args.number) c.in-Gamma.is c.requires in
-    let few : c.shape.result ≤ most_shape = few_is most_shape c.shape.result
-    (shape_of c.in-Gamma.variation) c.shape.ensures kept.few in
-    omega (arith, few)
+    rw (c.shape.ensures, is_admitted_since (shape_of c.in-Gamma.variation) kept.few.shape.admitted) refl
 
 pub returns-in-Gamma : goal.returns-in-Gamma
 returns-in-Gamma c =
-    ap (λ k. of_plan.Gamma k c.args.number)
-    (sym (whole_num c.shape.result) ∙ ap (λ (x : Fraction). x.num) c.shape.ensures)
+    ap (λ r. of_plan.Gamma r c.args.number)
+    (admitted_some (shape_of c.in-Gamma.variation) c.unwrap.result (sym c.unwrap.ensures ∙ c.shape.ensures)).0
     ∙ ap (λ f. freq_with f c.args.number) (sym c.in-Gamma.is)

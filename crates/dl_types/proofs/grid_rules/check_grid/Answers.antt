@@ -22,8 +22,14 @@ returns-in_err-claims c =
     (stop_second (first_broken n (clause_rules u)) _ stop c.in_ok-layered_unit.ensures.fault
     (stop_first (first_broken n (count_rules (bounds_asked c.args.settings.now) c.args.settings.now.bs u)) _ stop (rw c.bounds_asked-bounds.ensures.value at c.in_err-claims.ensures.fault)))
 
-pub check_changes-requires : goal.check_changes-requires
-check_changes-requires c = c.in_ok-layered_unit.ensures.clauses.agr_made
+pub check_changes-requires-clause-made : goal.check_changes-requires-clause-made
+check_changes-requires-clause-made c = c.in_ok-layered_unit.ensures.clauses.agr_made
+
+pub check_changes-requires-clause-count : goal.check_changes-requires-clause-count
+check_changes-requires-clause-count c =
+    let is = rw c.bounds_asked-bounds.ensures.value at c.in_ok-claims.ensures.count in
+    rw (is.same, is.number)
+    (kept_is (bounds_asked c.args.settings.now) (asked_within c.args.settings.now) c.args.settings.now.bs c.args.number c.args.grid.now c.requires.grid (rw c.bounds_asked-bounds.ensures.value at c.in_ok-claims.ensures.fault))
 
 pub returns-in_err-cede : goal.returns-in_err-cede
 returns-in_err-cede c =

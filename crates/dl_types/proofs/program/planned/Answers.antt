@@ -1,7 +1,8 @@
 -- What the portfolio breaks comes last.
-use Rattle.dl_types.proofs.Common.{Ok, refl, sym, subst, AnswersUnits, IfSome, List, HasCommonFactor, UnitOfPlan, StopsAt, IsCheckOf, bounds_asked, arith}
+use Rattle.dl_types.proofs.Common.{Ok, refl, sym, subst, AnswersUnits, IfSome, List, HasCommonFactor, UnitOfPlan, StopsAt, IsCheckOf, IsUnitOf, fault_of_port, bounds_asked, arith}
+use Rattle.std.proofs.lemmas.Slice.Zip.{AllZip-long}
 use Rattle.dl_types.proofs.ProgramUnits.{check_stopped, fault_of_rest, few_units, plan_of_units}
-use Rattle.dl_types.proofs.Stops.{stopped}
+use Rattle.dl_types.proofs.Stops.{stop_first, stop_second, stopped}
 use Rattle.dl_types.proofs.UnitFacts.{asked_within}
 use Rattle.dl_types.proofs.program.planned.Goals as goal
 
@@ -19,7 +20,27 @@ returns-in_err-common c =
     stopped (IsCheckOf c.args.program.now c.args.settings.now) c.from_residual.result stop c.from_residual.ensures
     (check_stopped c.args.program.now c.args.settings.now stop (subst (λ o. StopsAt o stop)
     (sym (fault_of_rest c.args.program.now c.args.settings.now c.requires.few c.args.units c.requires.fresh
-    c.requires.units)) c.in_err-common.ensures.fault))
+    c.requires.units)) (stop_first (fault_of_port c.args.settings.now c.args.program.now) _ stop
+    c.in_err-common.ensures.fault)))
+
+pub check_total-requires-clause-few : goal.check_total-requires-clause-few
+check_total-requires-clause-few c =
+    rw c.as_slice-2.ensures (omega (
+      arith,
+      AllZip-long (IsUnitOf c.args.settings.now.bs c.args.program.now.sevs) c.args.program.now.units c.args.units
+          c.requires.units.1,
+      few_units (bounds_asked c.args.settings.now).units c.args.program.now.units c.requires.few,
+      (asked_within c.args.settings.now).units,
+    ))
+
+pub returns-in_err-check_total : goal.returns-in_err-check_total
+returns-in_err-check_total c =
+    let stop = c.in_err-check_total.field-0.0 in
+    stopped (IsCheckOf c.args.program.now c.args.settings.now) c.from_residual-in_err-check_total.result stop
+    c.from_residual-in_err-check_total.ensures (check_stopped c.args.program.now c.args.settings.now stop
+    (subst (λ o. StopsAt o stop) (sym (fault_of_rest c.args.program.now c.args.settings.now c.requires.few c.args.units
+    c.requires.fresh c.requires.units)) (stop_second (fault_of_port c.args.settings.now c.args.program.now) _ stop
+    c.in_ok-common.ensures.fault c.in_err-check_total.ensures)))
 
 pub returns : goal.returns
 returns c =
@@ -36,4 +57,4 @@ returns c =
       few_units (bounds_asked c.args.settings.now).units c.args.program.now.units c.requires.few,
       (asked_within c.args.settings.now).units,
     )) c.requires.few c.requires.fresh
-    c.requires.units c.in_ok-common.ensures.fault
+    c.requires.units c.in_ok-common.ensures.fault c.in_ok-check_total.ensures
