@@ -4,30 +4,28 @@ use Rattle.dl_model.specs.CommonUnits.{poisson_units}
 use Rattle.dl_model.proofs.CommonPlans.{are_severities, greatest_of, pooled_past, some}
 use Rattle.dl_model.proofs.PooledLoss.{as_one_loss, one_declared}
 
-abbrev pub losses_by : Option ℕ → List UnitOfPlan → List Loss
+abbrev pub losses_by : Option Fraction → List UnitOfPlan → List Loss
 losses_by None units = map loss_of units
 losses_by (Some r) units = loss (pooled_unit r (poisson_units units) (greatest_of units)) ∷ []
 
 abbrev pub losses_of : Plan → List Loss
 losses_of plan = losses_by plan.common plan.units
 
-declared_losses : (common : Option ℕ) (units : List UnitOfPlan) → IfSome common (λ r. HasCommonFactor r units)
+declared_losses : (common : Option Fraction) (units : List UnitOfPlan) → IfSome common (λ r. HasCommonFactor r units)
     → AreDeclared (map loss_of units) → AreDeclared (losses_by common units)
 declared_losses None units factor each = each
-declared_losses (Some zero) units factor each = absurd (omega (arith, factor.some_shape))
-declared_losses (Some (suc q)) units factor each = (
-  one_declared q (poisson_units units) (some units q factor) (are_severities units) (greatest_of units)
+declared_losses (Some r) units factor each = (
+  one_declared r factor.shape.above (poisson_units units) (some units r factor) (are_severities units) (greatest_of units)
       (pooled_past units),
   tt,
 )
 
-told_by : (common : Option ℕ) (units : List UnitOfPlan) → IfSome common (λ r. HasCommonFactor r units)
+told_by : (common : Option Fraction) (units : List UnitOfPlan) → IfSome common (λ r. HasCommonFactor r units)
     → (quantity : Quantity) → CountsTotal quantity
     → partial_sums (losses_by common units) quantity ≡ declared_by common units quantity
 told_by None units factor quantity total = refl
-told_by (Some zero) units factor quantity total = absurd (omega (arith, factor.some_shape))
-told_by (Some (suc q)) units factor quantity total =
-    fun_ext (λ N. sym (as_one_loss q (poisson_units units) (some units q factor) (are_severities units)
+told_by (Some r) units factor quantity total =
+    fun_ext (λ N. sym (as_one_loss r factor.shape.above (poisson_units units) (some units r factor) (are_severities units)
     (greatest_of units) (pooled_past units) quantity total N))
 
 module _ {plan : Plan} (valid : IsValid plan) where

@@ -227,7 +227,7 @@ share_reached {p = p} (Some r) none valid t = tail_reached p (λ past. let some 
 -- ---- at every quantile
 
 -- under a common factor the mean of a unit is exact but for its ends
-shared_mean : (S : ℕ) {plan : Plan} {r : ℕ} (i : ℕ) (u : UnitOfPlan) → IsValid plan → plan.common ≡ Some r
+shared_mean : (S : ℕ) {plan : Plan} {r : Fraction} (i : ℕ) (u : UnitOfPlan) → IsValid plan → plan.common ≡ Some r
     → i < length plan.units → unit_mean_budget S plan.cells (get_or plan.units i u) ≡ 1
 shared_mean S {plan} {r} i u valid shape inside = ap (λ z. mean_after_zero z (up (declared_mean v))
     (none_budget S v.freq)
@@ -245,7 +245,7 @@ undivided_most : (S : ℕ) {plan : Plan} (i : ℕ) (u : UnitOfPlan) → IsValid 
     + 6 * (plan.cells * total_budget S plan) + 4 * plan.cells + 4 ≤ undivided_by plan.common S plan i
 undivided_most S {plan} i u valid inside = by_factor plan.common refl
   where
-    by_factor : (common : Option ℕ) → plan.common ≡ common
+    by_factor : (common : Option Fraction) → plan.common ≡ common
         → mean_budget_of S plan i + 4 * joint_budget S plan i + 6 * (plan.cells * total_budget S plan) + 4 * plan.cells
         + 4 ≤ undivided_by common S plan i
     by_factor None none = omega arith

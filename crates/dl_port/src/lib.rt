@@ -9,7 +9,8 @@
 //!
 //! `total` and `others` enclose the sum of units whose grids enclose them, and of all but one
 //! (`encloses`, `spread`); `total_and_others` gives the same, as narrow, from sums that they share,
-//! and `sums_of_one` for one unit alone (`IsTotal`, `AreSumsWithout`).
+//! and `sums_of_one` for one unit alone (`IsTotal`, `AreSumsWithout`). `sum_of_both` joins two sums
+//! (`EnclosesSum`), and `repeated` adds up units that have one grid; of these no width is told.
 #![tactic(auto)]
 
 mod only;
@@ -19,16 +20,17 @@ mod shortest;
 mod tree;
 mod widths;
 
-ghost use Rattle.std.specs.Prelude.{◌≡◌, ℕ, ◌^◌, ◌<◌, ◌≤◌, List, [], ◌++◌, length, get_or, map, All, IfOk};
+ghost use Rattle.std.specs.Prelude.{◌≡◌, ℕ, ◌^◌, ◌<◌, ◌≤◌, List, [], ◌++◌, length, get_or, map, All, IfOk, IfSome};
 ghost use Rattle.dl_port.specs.Sums.{EncloseEach};
-ghost use Rattle.dl_port.specs.Shared.{AreUnits, HaveCells, IsSumOfPart};
+ghost use Rattle.dl_port.specs.Shared.{AreUnits, EnclosesSum, HaveCells, IsSumOfPart};
 ghost use Rattle.dl_grid.specs.Prelude.{spread, convolution_spread, sum_spread};
 ghost use Rattle.std.specs.List.{fold, remove};
 ghost use Rattle.dl_model.specs.Prelude.{without, Loss, AreDeclarable, total, GridEncloses};
 
 use dl_grid::Grid;
 use dl_product::{Workspace, product};
-use runs::{alike, repeated};
+use runs::alike;
+pub use runs::repeated;
 pub use shared::{Sums, sums_of_one, total_and_others};
 use shortest::shortest_first;
 use std::alloc::{AllocError, Global};
@@ -58,6 +60,33 @@ fn with_units<const B: u32>(
         sum = product(alloc, work, &sum, unit, cells)?;
     }
     Ok(sum)
+}
+
+/// The first `cells` cells of the sum of two sums that have no unit in common, each of which has a
+/// grid of these cells, or none where there are no units.
+pub fn sum_of_both<const B: u32>(
+    alloc: Global,
+    work: &mut Workspace,
+    first: Option<Grid<B>>,
+    second: Option<Grid<B>>,
+    cells: u32,
+) -> Result<Option<Grid<B>>, AllocError>
+    requires some { 1 ≤ cells }
+    requires in_first { IfSome first (λ g. length g ≡ cells) }
+    requires in_second { IfSome second (λ g. length g ≡ cells) }
+    ensures cells { IfOk result (λ sum. IfSome sum (λ g. length g ≡ cells)) }
+    ensures encloses { IfOk result (λ sum. (us vs : List Loss) → AreDeclarable us
+        → AreDeclarable vs → EnclosesSum first.entry us → EnclosesSum second.entry vs
+        → EnclosesSum sum (us ++ vs)) }
+{
+    match (first, second) {
+        (Some(a), Some(b)) => {
+            let both = product(alloc, work, &a, &b, cells)?;
+            Ok(Some(both))
+        }
+        (Some(a), None) => Ok(Some(a)),
+        (None, b) => Ok(b),
+    }
 }
 
 /// The sum of no units: surely 0, on the first `cells` cells of a grid.

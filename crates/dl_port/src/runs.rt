@@ -32,7 +32,7 @@ pub(crate) fn alike<const B: u32>(units: &[Grid<B>]) -> usize
 
 /// The sum of `many` units that have this grid. That of an even number is the square of the sum of
 /// half of them, and that of an odd number has one unit more.
-pub(crate) fn repeated<const B: u32>(
+pub fn repeated<const B: u32>(
     alloc: Global,
     work: &mut Workspace,
     unit: &Grid<B>,

@@ -1,5 +1,5 @@
 -- Units that are alike have the same grids and means.
-use Rattle.dl_sources.proofs.Common.{ℕ, ◌≡◌, ◌^◌, List, [], ◌∷◌, length, take, arith, refl, sym, ap, subst, subst₂, ◌∙◌, Option, whole, ◌over◌, Iv, spread, Holds, GridEncloses, Aggregate, One, Mean, partial_sums, outcome_after, Clause, horizon, after_clause, unit_budget, unit_mean_budget, mean_width, IsUnitGrid, IsUnitMean, loss_of, take_all, Fraction, ◌*ℚ◌, ◌-ℚ◌, up, mean_amount, shares, Loss, after_zero, count_weights, UnitOfPlan, expected_count, count_budget, none_budget, budget_after_zero, mean_after_zero}
+use Rattle.dl_sources.proofs.Common.{inl, inr, cases_lt, get_or, get_or_default, ℕ, ◌≡◌, ◌+◌, ◌<◌, ◌≤◌, ◌^◌, List, [], ◌∷◌, length, take, arith, refl, sym, ap, subst, subst₂, ◌∙◌, Option, whole, ◌over◌, Iv, spread, Holds, GridEncloses, Aggregate, One, Mean, partial_sums, outcome_after, Clause, horizon, after_clause, unit_budget, unit_mean_budget, mean_width, IsUnitGrid, IsUnitMean, loss_of, take_all, Fraction, ◌*ℚ◌, ◌-ℚ◌, up, mean_amount, shares, Loss, after_zero, count_weights, UnitOfPlan, expected_count, count_budget, none_budget, budget_after_zero, mean_after_zero}
 use Rattle.dl_plan.specs.declared.item.Item.{Item}
 use Rattle.dl_plan.specs.declared.plan.Freq.{Freq}
 use Rattle.dl_plan.specs.Weighted.{weight_at, greatest}
@@ -51,3 +51,30 @@ alike_mean {B} {H = H} {u = u} {v = v} {mean = mean} e of_u = record {
       (mean_width cede (budget (2 ^ B) H freq cede items total))) e in
       omega (arith, of_u.narrow, same);
 }
+
+-- ---- units that are all like the first
+
+alike_self : (u : UnitOfPlan) → AreAlike u u
+alike_self u = record { items = refl; total = refl; count = refl; clause = refl; zero = refl }
+
+-- the first is like itself
+pub first_like : (us : List UnitOfPlan) (k : ℕ) (d u : UnitOfPlan) → 1 ≤ length us → k < 1
+    → AreAlike (get_or us 0 u) (get_or us k d)
+first_like [] k d u some first = absurd (omega (arith, some))
+first_like (v ∷ us) k d u some first =
+    let same : 0 ≡ k = omega (arith, first) in
+    subst (λ (n : ℕ). AreAlike v (get_or (v ∷ us) n d)) same (alike_self v)
+
+-- one more
+pub next_like : (us : List UnitOfPlan) (i k : ℕ) (d u a b : UnitOfPlan)
+    → ((k : ℕ) (d u : UnitOfPlan) → k < i → AreAlike (get_or us 0 u) (get_or us k d))
+    → a ≡ get_or us 0 a → b ≡ get_or us i b → i < length us → AreAlike a b → k < i + 1
+    → AreAlike (get_or us 0 u) (get_or us k d)
+next_like us i k d u a b earlier first here inside alike within = elim (cases_lt k i) [
+  | inl below ↦ earlier k d u below
+  | inr past ↦
+      let same : i ≡ k = omega (arith, within, past) in
+      subst (λ (n : ℕ). AreAlike (get_or us 0 u) (get_or us n d)) same
+      (subst₂ AreAlike (first ∙ get_or_default us 0 a u (omega (arith, inside)))
+      (here ∙ get_or_default us i b d inside) alike)
+]

@@ -9,6 +9,7 @@ mod AlikeLaws
 mod Means
 mod Taken
 mod Parted
+mod ByHalves
 mod Alone
 mod Found
 mod FactorLaws

@@ -91,13 +91,16 @@ module _ {plan : Plan} (valid : IsValid plan) (units : List UnitOfPlan) (same : 
 
 -- ---- the total
 
-pub is_total_together : {B : ℕ} {plan : Plan} {grids : List (List (Iv B))} {g : List (Iv B)} (made : UnitOfPlan)
+rest_valid : {plan : Plan} → IsValid plan → All (IsValidUnit plan.cells) (rest_of plan.units)
+rest_valid {plan = plan} valid = All-filter (λ u. not (can_share u)) (IsValidUnit plan.cells) plan.units valid.units
+
+-- the sum of these encloses the total
+pub is_total_among : {B : ℕ} {plan : Plan} {g : List (Iv B)} (made : UnitOfPlan)
     → IsValid plan → plan.common ≡ None → IsPooledFor plan made
-    → AreUnitGrids plan.cells (rest_of plan.units ++ made ∷ []) grids
     → length g ≡ plan.cells
-    → ((us : List Loss) → AreDeclarable us → EncloseEach grids us → GridEncloses g (total us))
+    → GridEncloses g (total (map loss_of (rest_of plan.units ++ made ∷ [])))
     → spread g ≤ total_budget (2 ^ B) plan → IsTotalOf plan g
-is_total_together {B} {plan = plan} {grids = grids} {g = g} made valid none pooled each cells encloses narrow =
+is_total_among {B} {plan = plan} {g = g} made valid none pooled cells enclosed narrow =
     subst (λ whole. IsTotalOf whole g) (is_independent plan none) (record {
       cells = cells;
       encloses = parted_encloses g can_share plan.units (plan_units plan valid) beside;
@@ -107,14 +110,27 @@ is_total_together {B} {plan = plan} {grids = grids} {g = g} made valid none pool
     rest : List UnitOfPlan
     rest = rest_of plan.units
 
-    all : List UnitOfPlan
-    all = rest ++ made ∷ []
+    beside : GridEncloses g (total (map loss_of rest ++ map loss_of (filter can_share plan.units)))
+    beside = same_cells_enclosed (2 ^ B) (length g) (low_at g) (high_at g) _ _
+        (poisson_among (filter can_share plan.units) made pooled.sum (map loss_of rest)
+        (are_units _ (units_declared plan.cells rest (rest_valid valid))))
+        (subst (λ ls. GridEncloses g (total ls)) (map-append loss_of rest (made ∷ [])) enclosed)
 
-    rest_valid : All (IsValidUnit plan.cells) rest
-    rest_valid = All-filter (λ u. not (can_share u)) (IsValidUnit plan.cells) plan.units valid.units
+-- the same of the grids of these units
+pub is_total_together : {B : ℕ} {plan : Plan} {grids : List (List (Iv B))} {g : List (Iv B)} (made : UnitOfPlan)
+    → IsValid plan → plan.common ≡ None → IsPooledFor plan made
+    → AreUnitGrids plan.cells (rest_of plan.units ++ made ∷ []) grids
+    → length g ≡ plan.cells
+    → ((us : List Loss) → AreDeclarable us → EncloseEach grids us → GridEncloses g (total us))
+    → spread g ≤ total_budget (2 ^ B) plan → IsTotalOf plan g
+is_total_together {B} {plan = plan} {grids = grids} {g = g} made valid none pooled each cells encloses narrow =
+    is_total_among made valid none pooled cells enclosed narrow
+  where
+    all : List UnitOfPlan
+    all = rest_of plan.units ++ made ∷ []
 
     all_valid : All (IsValidUnit plan.cells) all
-    all_valid = All-append (IsValidUnit plan.cells) rest (made ∷ []) rest_valid
+    all_valid = All-append (IsValidUnit plan.cells) (rest_of plan.units) (made ∷ []) (rest_valid valid)
         (All-cons (IsValidUnit plan.cells) made [] pooled.valid (All-nil (IsValidUnit plan.cells)))
 
     enclosed : GridEncloses g (total (map loss_of all))
@@ -122,8 +138,3 @@ is_total_together {B} {plan = plan} {grids = grids} {g = g} made valid none pool
       as_many = each.as_many ∙ sym (length-map all loss_of);
       each = λ i inside. each_encloses plan.cells all grids i (omega (arith, inside, each.as_many)) each;
     })
-
-    beside : GridEncloses g (total (map loss_of rest ++ map loss_of (filter can_share plan.units)))
-    beside = same_cells_enclosed (2 ^ B) (length g) (low_at g) (high_at g) _ _
-        (poisson_among (filter can_share plan.units) made pooled.sum (map loss_of rest) (are_units _ (units_declared plan.cells rest rest_valid)))
-        (subst (λ ls. GridEncloses g (total ls)) (map-append loss_of rest (made ∷ [])) enclosed)

@@ -1,5 +1,5 @@
 -- The one unit in the place of units that share a factor: what its grid and its mean hold, and how wide they are.
-use Rattle.dl_sources.proofs.Common.{ℕ, suc, ◌≡◌, ◌+◌, ◌*◌, ◌^◌, ◌<◌, ◌≤◌, List, [], ◌∷◌, length, get_or, arith, refl, sym, ap, subst, subst₂, ◌∙◌, mul-le-mul, pow_pos, Option, None, Some, Fraction, whole, ◌over◌, Iv, spread, low_at, high_at, Holds, One, Point, Mean, partial_sums, total, GridEncloses, mapped, aggregate_of, compound_of, loss, unit_declared, Plan, IsValid, IsValidUnit, claims_budget, total_budget, IsClaimsGrid, IsTotalOf, IsMeanOf, Loss, fun_ext, IsSome, UnitOfPlan, thinned_mean, expected_count, raised, thinned_of, probability_of, SharesFactor, ◌*ℚ◌, ◌-ℚ◌, up, Quantity, CountsTotal, after_zero, declared, no_clause, encloses_same, total_mean, total_point, unit_declared_loss, HoldsClaims, count_budget, joint_by, mean_by, total_by, get_or_default, unit_budget, budget_after_zero, none_budget, after_clause, horizon}
+use Rattle.dl_sources.proofs.Common.{ℕ, suc, ◌≡◌, ◌+◌, ◌*◌, ◌^◌, ◌<◌, ◌≤◌, List, [], ◌∷◌, length, get_or, arith, refl, sym, ap, subst, subst₂, ◌∙◌, mul-le-mul, pow_pos, Option, None, Some, Fraction, whole, ◌over◌, Iv, spread, low_at, high_at, Holds, One, Point, Mean, partial_sums, total, GridEncloses, mapped, aggregate_of, compound_of, loss, unit_declared, Plan, IsValid, IsValidUnit, claims_budget, total_budget, IsClaimsGrid, IsTotalOf, IsMeanOf, Loss, fun_ext, IsSome, UnitOfPlan, thinned_mean, expected_count, raised, thinned_of, probability_of, SharesFactor, ◌+ℚ◌, ◌*ℚ◌, ◌-ℚ◌, up, Quantity, CountsTotal, after_zero, declared, no_clause, encloses_same, total_mean, total_point, unit_declared_loss, HoldsClaims, count_budget, joint_by, mean_by, total_by, get_or_default, unit_budget, budget_after_zero, none_budget, after_clause, horizon}
 use Rattle.dl_plan.specs.declared.plan.Freq.TheVariants.{Gamma}
 use Rattle.dl_plan.proofs.Shared.{has_factor, poisson_unbounded}
 use Rattle.dl_model.proofs.Outcomes.{total_alone, total_alone_all}
@@ -12,11 +12,11 @@ use Rattle.dl_limits.specs.Limits.{budget_bound}
 use Rattle.dl_sources.proofs.SumLaws.{plain_encloses}
 
 -- a plan with some factor shares one
-pub some_shape : (common : Option ℕ) → IsSome common → (r : ℕ) × (common ≡ Some r)
+pub some_shape : (common : Option Fraction) → IsSome common → (r : Fraction) × (common ≡ Some r)
 some_shape (Some r) is = (r, refl)
 some_shape None is = absurd cc
 
-gamma_claims : (S cells r : ℕ) (u : UnitOfPlan) (v thinned : Fraction) → u.freq ≡ Gamma r v → thinned_mean u ≡ thinned
+gamma_claims : (S cells : ℕ) (r : Fraction) (u : UnitOfPlan) (v thinned : Fraction) → u.freq ≡ Gamma r v → thinned_mean u ≡ thinned
     → claims_budget S cells u ≡ shape_budget S cells r thinned
 unfolding count_budget
 gamma_claims S cells r u v thinned count is =
@@ -28,7 +28,7 @@ joint_narrow K n D E claims most few less same =
     let under : claims ≤ most = omega (arith, same) in
     omega (arith, mul-le-mul sums under)
 
-module _ {plan : Plan} (valid : IsValid plan) {r : ℕ} (shape : plan.common ≡ Some r) (u : UnitOfPlan) where
+module _ {plan : Plan} (valid : IsValid plan) {r : Fraction} (shape : plan.common ≡ Some r) (u : UnitOfPlan) where
   abbrev shares : SharesFactor plan r
   shares = record { shape = shape; valid = valid }
 
@@ -38,9 +38,9 @@ module _ {plan : Plan} (valid : IsValid plan) {r : ℕ} (shape : plan.common ≡
   raised_narrow : (S cells : ℕ) → IsRaised r plan.units u
       → claims_budget S cells u ≡ raised_budget S cells r plan.units
   raised_narrow S cells is =
-      gamma_claims S cells (suc r) u _ (raised r (thinned_of plan.units)) is.count
+      gamma_claims S cells (r +ℚ whole 1) u _ (raised r (thinned_of plan.units)) is.count
       (ap (λ f. expected_count f *ℚ (whole 1 -ℚ probability_of u.sev 0)) is.count
-      ∙ raised_thinned plan.units (has_factor plan r shares).some u is.severity r (has_factor plan r shares).some_shape)
+      ∙ raised_thinned plan.units (has_factor plan r shares).some u is.severity r (has_factor plan r shares).shape.above)
 
   plain_budget : (S : ℕ) → IsRaised r plan.units u → unit_budget S plan.cells u ≡ claims_budget S plan.cells u
   unfolding horizon
@@ -59,8 +59,7 @@ module _ {plan : Plan} (valid : IsValid plan) {r : ℕ} (shape : plan.common ≡
         arith,
         narrow,
         raised_narrow (2 ^ B) reach is,
-        shape_rises (2 ^ B) reach plan.cells (suc r) (raised r (thinned_of plan.units)) (pow_pos B)
-            (omega arith) within,
+        shape_rises (2 ^ B) reach plan.cells (r +ℚ whole 1) (raised r (thinned_of plan.units)) (pow_pos B) within,
       ) in record {
         unit = v;
         is = here;

@@ -67,7 +67,7 @@ grids_taken cells xs i {u = u} {grids = grids} {zs = zs} {g = g} inside is each 
 
 -- ---- one mean more
 
-means_more : {B : ℕ} (cells : ℕ) (us : List UnitOfPlan) (means : List (Iv B)) (u : UnitOfPlan) (m : Iv B)
+pub means_more : {B : ℕ} (cells : ℕ) (us : List UnitOfPlan) (means : List (Iv B)) (u : UnitOfPlan) (m : Iv B)
     → AreUnitMeans cells us means → IsUnitMean cells u m → AreUnitMeans cells (us ++ u ∷ []) (means ++ m ∷ [])
 means_more {B} cells us means u m each here = record {
   as_many = length-append means (m ∷ []) ∙ ap (λ n. n + 1) each.as_many ∙ sym (length-append us (u ∷ []));

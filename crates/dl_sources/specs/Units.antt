@@ -1,14 +1,15 @@
 -- The grid and the mean of one unit, step by step, and those of several units.
-use Rattle.std.specs.Prelude.{ℕ, ◌≡◌, ◌+◌, ◌≤◌, ◌^◌, Option, None, Some, All, List, length}
+use Rattle.std.specs.Prelude.{ℕ, ◌≡◌, ◌+◌, ◌≤◌, ◌^◌, Option, None, Some, IfSome, All, List, ◌++◌, length, map}
 use Rattle.dl_exact.specs.Prelude.{Fraction}
 use Rattle.dl_limits.specs.Limits.{most_mean_to_change, most_unit_mean}
 use Rattle.dl_iv.specs.declared.interval.Iv.{Iv}
 use Rattle.dl_grid.specs.Cells.{spread}
-use Rattle.dl_model.specs.Prelude.{GridEncloses, mapped, aggregate_of, compound_of}
+use Rattle.dl_model.specs.Prelude.{GridEncloses, mapped, aggregate_of, compound_of, loss_of}
 use Rattle.dl_plan.specs.declared.plan.Unit.{Unit as UnitOfPlan}
 use Rattle.dl_plan.specs.Prelude.{IsHorizonOf, horizon, mean_width}
 use Rattle.dl_cede.specs.Means.{HoldsMean}
 use Rattle.dl_budget.specs.Prelude.{claims_budget, after_clause}
+use Rattle.dl_port.specs.Shared.{EnclosesSum}
 use Rattle.dl_shares.specs.Drawn.{IsUnitGrid, IsUnitMean, AreUnitGrids, AreUnitMeans}
 use Rattle.dl_sources.specs.declared.units.Outcome.{Outcome}
 use Rattle.dl_sources.specs.declared.outcomes.Outcomes.{Outcomes}
@@ -60,3 +61,14 @@ pub record AreOutcomesOf {B : ℕ} (cells : ℕ) (gridded units : List UnitOfPla
     (made : Outcomes B) : Type 0 where
   pub grids : AreUnitGrids cells gridded made.grids.items
   pub means : AreMeansOf cells units made.means.items
+
+-- the means of these units stand behind those of other units
+abbrev pub AddMeans : {B : ℕ} → ℕ → List UnitOfPlan → List (Iv B) → List (Iv B) → Type 0
+AddMeans cells units old new = (before : List UnitOfPlan) → AreMeansOf cells before old
+    → AreMeansOf cells (before ++ units) new
+
+-- a grid of so many cells of the sum of the outcomes of some units; none where there are no units
+pub record IsSumOfUnits {B : ℕ} (many : ℕ) (units : List UnitOfPlan)
+    (sum : Option (List (Iv B))) : Type 0 where
+  pub cells : IfSome sum (λ g. length g ≡ many)
+  pub encloses : EnclosesSum sum (map loss_of units)

@@ -1,6 +1,6 @@
 //! What the rows of a plan are drawn from, and the mean of its total alone.
 
-ghost use Rattle.std.specs.Prelude.{ℕ, ◌≡◌, ◌<◌, ◌≤◌, ◌^◌, None, IfOk, IsSome, length, get_or};
+ghost use Rattle.std.specs.Prelude.{ℕ, ◌≡◌, ◌<◌, ◌≤◌, ◌^◌, None, IfOk, IfSome, IsSome, length, get_or};
 ghost use Rattle.dl_limits.specs.Limits.{most_mean};
 ghost use Rattle.dl_plan.specs.Prelude.{IsIndependentAt, IsPlanAt};
 ghost use Rattle.dl_budget.specs.Once.{AreAllBudgets};
@@ -9,11 +9,15 @@ ghost use Rattle.dl_sources.specs.Origins.{ReachNamed};
 ghost use Rattle.dl_sources.specs.Pooled.{IsPooledFor};
 
 use crate::factor::{factor_drawn, pooled_mean, pooled_unit};
+use crate::halves::total_by_halves;
 use crate::outcomes::{Outcomes, outcomes_of_rest, unit_means, unit_outcomes, with_pooled};
-use crate::together::{pooled_for, sources_together};
+use crate::together::{
+    are_without_others, pooled_for, pooled_if_any, sources_from, sources_together,
+};
 use crate::totals::{drawn_of_units, drawn_with, total_mean};
 use dl_budget::AllBudgets;
 use dl_iv::Iv;
+use dl_limits::STANDARD_UNITS;
 use dl_plan::{Plan, Unit};
 use dl_product::Workspace;
 use dl_shares::Drawn;
@@ -44,7 +48,31 @@ fn drawn_together<const B: u32>(
     drawn_of_units(alloc, work, plan, budgets, Outcomes { grids, means })
 }
 
-/// What is drawn of a valid plan of independent units.
+/// What is drawn of a valid plan of independent units, none of which needs the sum of the others,
+/// from the total by halves; none where it or a joint mean would be wider than its budget.
+fn drawn_by_halves<const B: u32>(
+    alloc: Global,
+    work: &mut Workspace,
+    plan: &Plan,
+    budgets: &AllBudgets,
+) -> Result<Option<Drawn<B>>, AllocError>
+    requires at { IsIndependentAt B plan.now }
+    requires budgets { AreAllBudgets (2 ^ B) plan.now budgets.now }
+    ensures drawn { IfOk result (λ made. IfSome made (AreDrawnOf plan.now)) }
+    ensures reached { IfOk result (λ made. IfSome made
+        (ReachNamed plan.now budgets.now.of_units.items plan.now.cells)) }
+{
+    let pooled = pooled_if_any(alloc, plan)?;
+    let mut means = Vec::new(alloc);
+    let total = total_by_halves(alloc, work, plan, &pooled, &mut means)?;
+    let Some(sources) = sources_from(alloc, work, plan, budgets, total)? else {
+        return Ok(None);
+    };
+    Ok(Some(drawn_with(plan, Vec::new(alloc), means, sources)))
+}
+
+/// What is drawn of a valid plan of independent units. With more units than the standard rules admit
+/// the total is made by halves, where it can be, so that few grids are held at once.
 fn independent_drawn<const B: u32>(
     alloc: Global,
     work: &mut Workspace,
@@ -56,6 +84,12 @@ fn independent_drawn<const B: u32>(
     ensures drawn { IfOk result (AreDrawnOf plan.now) }
     ensures reached { IfOk result (ReachNamed plan.now budgets.now.of_units.items plan.now.cells) }
 {
+    let units = plan.units.as_slice();
+    if units.len() > STANDARD_UNITS && are_without_others(units, budgets) {
+        if let Some(drawn) = drawn_by_halves(alloc, work, plan, budgets)? {
+            return Ok(drawn);
+        }
+    }
     if let Some(pooled) = pooled_for(alloc, plan, budgets)? {
         return drawn_together(alloc, work, plan, budgets, &pooled);
     }

@@ -11,13 +11,19 @@
 //! pooled and from the rest, where no named unit needs the sum of the others, else from all units;
 //! where a joint mean would be wider than its budget, the next way is taken: at last that by the
 //! sum of the others, which is always within it. The total of units under a common factor comes
-//! from one unit in their place. The grid and the mean of each unit of the plan are made once in a
-//! call.
+//! from one unit in their place.
+//!
+//! With more units than the standard rules admit, and where no named unit needs the sum of the
+//! others, the units are added up by halves: each grid is given up once it is in a sum, and units
+//! in a row that are alike are made once, so that few grids are held at once. Where that comes out
+//! wider than its budget, the ways above follow. In each way the grid and the mean of a unit of the
+//! plan are made once.
 #![tactic(auto)]
 
 mod drawn;
 mod extra;
 mod factor;
+mod halves;
 mod origins;
 mod outcomes;
 mod same;

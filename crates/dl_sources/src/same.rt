@@ -1,8 +1,8 @@
 //! Which units have the same outcomes, whatever their names are.
 
-ghost use Rattle.std.specs.Prelude.{◌≡◌, ◌<◌, ◌↔◌, IsTrue, IfSome, length, get_or};
+ghost use Rattle.std.specs.Prelude.{◌≡◌, ◌<◌, ◌≤◌, ◌⊎◌, ◌↔◌, IsTrue, IfSome, length, get_or};
 ghost use Rattle.dl_plan.specs.declared.plan.Unit.{Unit as UnitOfPlan};
-ghost use Rattle.dl_sources.specs.Same.{AreAlike};
+ghost use Rattle.dl_sources.specs.Same.{AreAlike, AreAllAlike};
 
 use dl_frac::Frac;
 use dl_plan::{Cede, CedeLayer, Freq, Item, Sev, Unit};
@@ -73,7 +73,7 @@ fn same_count(a: &Freq, b: &Freq) -> bool
         }
         (Freq::Poisson(mean), Freq::Poisson(other)) => same_fraction(*mean, *other),
         (Freq::Gamma { shape, mean }, Freq::Gamma { shape: r, mean: m }) => {
-            shape == r && same_fraction(*mean, *m)
+            same_fraction(*shape, *r) && same_fraction(*mean, *m)
         }
         _ => false,
     }
@@ -102,10 +102,24 @@ fn same_zero(a: &Option<Frac>, b: &Option<Frac>) -> bool
 pub(crate) fn are_alike(a: &Unit, b: &Unit) -> bool
     ensures { IsTrue result ↔ AreAlike a.now b.now }
 {
-    same_severity(&a.sev, &b.sev)
-        && same_count(&a.freq, &b.freq)
+    same_count(&a.freq, &b.freq)
         && same_clause(&a.cede, &b.cede)
         && same_zero(&a.zero, &b.zero)
+        && same_severity(&a.sev, &b.sev)
+}
+
+/// Whether all of these units are like the first of them, which is there.
+pub(crate) fn are_all_alike(units: &[Unit]) -> bool
+    requires some { 1 ≤ length units.now }
+    ensures alike { IsTrue result → AreAllAlike units.now }
+    ensures more { (2 ≤ length units.now) ⊎ IsTrue result }
+{
+    for i in 1..units.len() {
+        if !are_alike(&units[0], &units[i]) {
+            return false;
+        }
+    }
+    true
 }
 
 /// The place of the first of these units that is like this one, where there is one.

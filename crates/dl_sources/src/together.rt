@@ -33,7 +33,7 @@ fn are_copied(units: &[Unit]) -> bool {
 }
 
 /// Whether the sum of the other units is needed for no named unit.
-fn are_without_others(units: &[Unit], budgets: &AllBudgets) -> bool
+pub(crate) fn are_without_others(units: &[Unit], budgets: &AllBudgets) -> bool
     requires as_many { length budgets.now.of_units.items ≡ length units.now }
 {
     for i in 0..units.len() {
@@ -45,8 +45,21 @@ fn are_without_others(units: &[Unit], budgets: &AllBudgets) -> bool
 }
 
 /// One Poisson unit in the place of all units of a plan that can be pooled; none where there are
-/// fewer than two, where it would not be a valid unit, and where a named unit needs the sum of the
-/// others.
+/// fewer than two, and where it would not be a valid unit.
+pub(crate) fn pooled_if_any(alloc: Global, plan: &Plan) -> Result<Option<Unit>, AllocError>
+    requires valid { IsValid plan.now }
+    ensures { IfOk result (λ made. IfSome made (IsPooledFor plan.now)) }
+{
+    let units = plan.units.as_slice();
+    let shared = sharing(alloc, units)?;
+    if shared.len() < 2 {
+        return Ok(None);
+    }
+    pool_poisson(alloc, shared.as_slice())
+}
+
+/// The same unit; none also where a named unit needs the sum of the others, and where a unit that
+/// cannot be pooled is like one before it.
 pub(crate) fn pooled_for(
     alloc: Global,
     plan: &Plan,
@@ -60,11 +73,7 @@ pub(crate) fn pooled_for(
     if !are_without_others(units, budgets) || are_copied(units) {
         return Ok(None);
     }
-    let shared = sharing(alloc, units)?;
-    if shared.len() < 2 {
-        return Ok(None);
-    }
-    pool_poisson(alloc, shared.as_slice())
+    pooled_if_any(alloc, plan)
 }
 
 /// The grid of the total, from those of the units that cannot be pooled and from the one unit in
@@ -102,6 +111,30 @@ fn no_grids<const B: u32>(alloc: Global, many: usize) -> Result<Vec<Option<Grid<
     Ok(grids)
 }
 
+/// What the joint means of all units come from, from this grid of the total, where no unit needs
+/// the sum of the others; none where the grid is wider than the budget of the total, and where a
+/// joint mean would be wider than its own.
+pub(crate) fn sources_from<const B: u32>(
+    alloc: Global,
+    work: &mut Workspace,
+    plan: &Plan,
+    budgets: &AllBudgets,
+    total: Grid<B>,
+) -> Result<Option<Sources<B>>, AllocError>
+    requires at { IsIndependentAt B plan.now }
+    requires budgets { AreAllBudgets (2 ^ B) plan.now budgets.now }
+    requires total { spread total ≤ total_budget (2 ^ B) plan.now → IsTotalOf plan.now total }
+    ensures sources { IfOk result (λ made.
+        IfSome made (AreSourcesOf plan.now budgets.now.of_units.items)) }
+    ensures beside { IfOk result (λ made. IfSome made NoneBeside) }
+{
+    if total.spread() > budgets.of_total.total {
+        return Ok(None);
+    }
+    let others = no_grids(alloc, plan.units.as_slice().len())?;
+    sources_of(alloc, work, plan, budgets, Sums { total, others })
+}
+
 /// What the joint means of all units come from, with this one unit in the place of all that can be
 /// pooled; none where the total would be wider than its budget, and where a joint mean would be.
 pub(crate) fn sources_together<const B: u32>(
@@ -122,9 +155,5 @@ pub(crate) fn sources_together<const B: u32>(
     ensures beside { IfOk result (λ made. IfSome made NoneBeside) }
 {
     let total = total_together(alloc, work, plan, rest, pooled)?;
-    if total.spread() > budgets.of_total.total {
-        return Ok(None);
-    }
-    let others = no_grids(alloc, plan.units.as_slice().len())?;
-    sources_of(alloc, work, plan, budgets, Sums { total, others })
+    sources_from(alloc, work, plan, budgets, total)
 }

@@ -1,5 +1,5 @@
 use Rattle.dl_sources.proofs.Common.{rules}
 use Rattle.dl_sources.proofs.same.are_alike.Goals as goal
 
-pub returns-then-same_clause : goal.returns-then-same_clause
-returns-then-same_clause c = search rules
+pub returns-then-same_zero : goal.returns-then-same_zero
+returns-then-same_zero c = search rules

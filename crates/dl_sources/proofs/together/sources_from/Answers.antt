@@ -1,11 +1,11 @@
 use Rattle.dl_sources.proofs.Common.{arith, IfSome_then, IfOk-weaker, ◌also◌}
 use Rattle.dl_sources.proofs.Found.{no_others, none_there}
-use Rattle.dl_sources.proofs.together.sources_together.Goals as goal
+use Rattle.dl_sources.proofs.together.sources_from.Goals as goal
 
 pub sources_of-requires : goal.sources_of-requires
 sources_of-requires g c =
     (omega arith) also (omega arith) also c.requires.at also c.requires.budgets
-    also c.in_ok-total.ensures.total (omega (arith, c.if-spread-budgets.false, c.spread.ensures, c.requires.budgets.total.total))
+    also c.requires.total (omega (arith, c.if-spread-budgets.false, c.spread.ensures, c.requires.budgets.total.total))
     also no_others (rw c.as_slice.ensures at c.in_ok-others.ensures)
 
 pub returns-clause-beside : goal.returns-clause-beside

@@ -4,7 +4,7 @@ use Rattle.dl_pool.specs.Pooled.{lent}
 use Rattle.dl_plan.specs.Common.{can_share}
 use Rattle.dl_plan.specs.Common.{CanShare}
 use Rattle.dl_sources.proofs.Parted.{shared_valid, is_pooled_for}
-use Rattle.dl_sources.proofs.together.pooled_for.Goals as goal
+use Rattle.dl_sources.proofs.together.pooled_if_any.Goals as goal
 
 pub pool_poisson-requires-clause-some : goal.pool_poisson-requires-clause-some
 pool_poisson-requires-clause-some c = omega (arith, ap (λ t. length t) c.as_slice.ensures.value)
