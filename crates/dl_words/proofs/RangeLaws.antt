@@ -14,7 +14,7 @@ use Rattle.dl_plan.specs.declared.settings.Ask.TheVariants.{Pmf, Cdf, Quantile, 
 use Rattle.dl_words.specs.Table.{amount, by_row, layer, mean, plus, probability, rows, share_of_tail, term, terms, unit_amount, unit_level}
 use Rattle.dl_words.specs.Ways.{AreJoined, Way, last, made, more}
 use Rattle.dl_words.proofs.Prices.{priced}
-use Rattle.dl_words.specs.Options.{is_report_plain, are_of_cert, are_of_verify, most_cert_log2, or_default, settings_of}
+use Rattle.dl_words.specs.Options.{is_report_plain, are_of_cert, are_of_verify, most_cert_log2, or_default, rules_of, settings_of}
 use Rattle.std.proofs.lemmas.Bool.{and_parts as both}
 use Rattle.dl_words.proofs.WrittenLaws.{parts_written, written_each}
 use Rattle.dl_frac.proofs.SmallNumerals.{IsSmall, numeral_small}
@@ -255,3 +255,25 @@ pub words_have_few_cells : (words : List Text) (settings : Settings) → words_o
     → IsOfCert settings.form → settings.log2 ≤ most_cert_log2
 words_have_few_cells words = from_words (λ s. IsOfCert s.form → s.log2 ≤ most_cert_log2) words
     (λ word texts form values asks q t a read of. few_power values (of_cert form values texts a of))
+
+-- ---- the rules of a certificate
+
+unnamed : (texts : List Text) → IsTrue (length texts == 0) → or_default Standard rules_of texts ≡ Standard
+unnamed [] none = refl
+unnamed (text ∷ texts) none = grind arith
+
+no_rules : (values : Values) → IsTrue (is_report_plain values) → rules_in values ≡ Standard
+no_rules values plain =
+    let one = both (length (values (codes "digits")) == 0) _ plain in
+    let two = both (length (values (codes "width")) == 0) _ one.1 in
+    let three = both (length (values (codes "mwidth")) == 0) _ two.1 in
+    let four = both (length (values (codes "format")) == 0) _ three.1 in
+    unnamed (values (codes "rules")) (both (length (values (codes "rules")) == 0) _ four.1).0
+
+-- they are the standard ones
+pub certs_are_standard : (words : List Text) (settings : Settings) → words_of words ≡ Ok settings
+    → IsOfCert settings.form → settings.rules ≡ Standard
+certs_are_standard words = from_words (λ s. IsOfCert s.form → s.rules ≡ Standard) words
+    (λ word texts form values asks q t a read of. no_rules values
+    (both (is_taken (is_number_within 1 most_cert_log2) (values (codes "log2"))) (is_report_plain values)
+    (of_cert form values texts a of)).1)
