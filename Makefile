@@ -41,9 +41,10 @@ test: ## every proof, must-fail edit, test and program, and the clients: it ends
 hostile: $(PROGRAM) ## failing outputs, broken texts and little memory, on the built program
 	python3 scripts/hostile.py $(PROGRAM)
 
-opinion: $(PROGRAM) ## COUNT (500) random calls of it and shares of BOOKS (100) books, compared with an evaluator that shares nothing with it
+opinion: $(PROGRAM) ## COUNT (500) random calls of it and shares and shapes of BOOKS (100) books, each worked apart from it
 	python3 clients/opinion_test.py $(or $(COUNT),500)
 	python3 clients/every_share.py $(or $(BOOKS),100)
+	python3 clients/any_shape.py $(or $(BOOKS),100)
 
 # PAGE=docs/SPEED.md puts the table there, BUILDS="before=PROGRAM" measures others too.
 bench: $(PROGRAM) ## times and memory beside C, numpy and R, as a table

@@ -34,6 +34,7 @@ CALLS = int(os.environ.get("CALLS", "21"))
 SECONDS = 2.0  # about so long is each tool called for one program, but 3 times at least
 PATIENCE = 20  # seconds after which a call is given up
 TIME = "/usr/bin/time"
+EXTENDED = ["--rules", "extended", "--digits", "3"]
 
 
 @dataclasses.dataclass
@@ -348,6 +349,65 @@ def refused_cases():
     yield Case("a byte more than a megabyte, refused", [], ["mean"], text="x" * 1_048_577, status=3)
 
 
+def large_units(times):
+    """256 Poisson and negative binomial units in turn, no two alike: 0.2 to 1.22 claims, so many times, of `[1:2]` to `[1:7]`."""
+    units = []
+    for number in range(256):
+        claims, most = Fraction(times * (50 + number), 250), 2 + number % 6
+        kind, count = (("poisson", "poisson {}"), ("mixed gamma 0.5", "gamma {} 4"))[number % 2]
+        text = f"{float(claims)} claims dsev [1:{most}] {kind}"
+        units.append(Unit(f"L{number}", text, count.format(float(claims)), even(1, most)))
+    return units
+
+
+def event_table():
+    """65,536 events in no order of their amounts, one for each amount from 1 to 65,536, with probabilities of eight digits that fall
+    by the square of the amount, more or less."""
+    amounts = [1 + (40_503 * number + 12_345) % 65_536 for number in range(65_536)]
+    rates = [(50 + 7_919 * number % 101) * 10**9 // (amount + 300) ** 2 for number, amount in enumerate(amounts)]
+    weights = [rate * 10**8 // sum(rates) for rate in rates]
+    weights[amounts.index(1)] += 10**8 - sum(weights)
+    text = f"dsev [{' '.join(map(str, amounts))}] [{' '.join(f'.{weight:08}' for weight in weights)}]"
+    return text, pairs(amounts, [Fraction(weight, 10**8) for weight in weights])
+
+
+def weighed(amounts, digits):
+    """A severity whose probabilities have so many digits and differ, as text and as pairs."""
+    rates = [100 + 7_919 * number % 101 for number in range(len(amounts))]
+    weights = [rate * 10**digits // sum(rates) for rate in rates]
+    weights[0] += 10**digits - sum(weights)
+    text = f"dsev [{' '.join(map(str, amounts))}] [{' '.join(f'.{weight:0{digits}}' for weight in weights)}]"
+    return text, pairs(amounts, [Fraction(weight, 10**digits) for weight in weights])
+
+
+def shape_cases():
+    """Gamma units of whole shapes, and of one that is not, with 10 amounts, and one with many weights."""
+    text, severity = weighed([1, 2, 3, 5, 8, 13, 21, 34, 55, 89], 4)
+    for log2, claims in ((12, 60), (16, 1000)):
+        for shape, spread in ((9, "1/3"), (Fraction(100, 9), "0.3"), (16, "0.25")):
+            unit = Unit("G", f"{claims} claims {text} mixed gamma {spread}", f"gamma {claims} {float(shape)!r}", severity)
+            yield Case(f"a gamma unit of shape {shape}, 10 amounts, {2**log2:,} cells", [unit], [*EXTENDED, "mean", "q:0.9"], log2=log2)
+    text, severity = weighed(range(1, 1501), 9)
+    unit = Unit("G", f"1 claims {text} mixed gamma 0.3", f"gamma 1 {100 / 9!r}", severity)
+    yield Case("1,500 weights of nine digits, shape 100/9, 4,096 cells", [unit], [*EXTENDED, "mean", "q:0.9"])
+
+
+def large_cases():
+    """Books that need the extended rules."""
+    some, wide = ["mean", "q:0.99", "tail:0.99"], [*EXTENDED, "--mwidth", "1000000000"]
+    few, many = large_units(1), large_units(64)
+    port = "256 Poisson and negative binomial units"
+    yield Case(f"{port}, 1,024 cells", few, [*wide, *some], log2=10)
+    yield Case(f"{port}, `kappa` of each, 1,024 cells", few, [*wide, *kappas(few, 500)], log2=10)
+    yield Case(f"{port}, 65,536 cells", many, [*wide, *some], log2=16)
+    yield Case(f"{port}, `kappa` of each, 65,536 cells", many, [*wide, *kappas(many, 32_000)], log2=16)
+    text, severity = event_table()
+    for name, words, count in (("one event", "dfreq [1] {}", listed([1])), ("10 events expected", "10 claims {} poisson", "poisson 10")):
+        unit = Unit("E", words.format(text), count, severity)
+        yield Case(f"a table of 65,536 events, {name}, 65,536 cells", [unit], [*wide, "mean", "q:0.95", "tail:0.95"], log2=16)
+    yield from shape_cases()
+
+
 def parts(decl):
     """The programs, part by part of the page."""
     often = "745 claims dsev [1:10] binomial 0.5"
@@ -359,6 +419,7 @@ def parts(decl):
     yield "Counts with a changed probability of no claim", changed_cases()
     yield "A common factor", common_cases()
     yield "256 asks of one kind", ask_cases()
+    yield "Large books, by the extended rules", large_cases()
     yield "Texts that are refused", refused_cases()
 
 

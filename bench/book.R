@@ -47,11 +47,14 @@ count_mean <- function(count, zero) {
     mean * (1 - zero) / (1 - none)
 }
 
-sum_cells <- function(parts, cells) {
-    turned <- function(x) fft(c(x, numeric(cells)))
-    added <- function(x, y) pmax(Re(fft(turned(x) * turned(y), inverse = TRUE))[seq_len(cells)] / (2 * cells), 0)
-    Reduce(added, parts, c(1, numeric(cells - 1)))
+# The cells of the sum of two parts.
+added <- function(x, y) {
+    turned <- function(part) fft(c(part, numeric(length(part))))
+    pmax(Re(fft(turned(x) * turned(y), inverse = TRUE))[seq_along(x)] / (2 * length(x)), 0)
 }
+
+# The cells of the sum of all parts; or of the first ones, how many they are, from none on.
+sum_cells <- function(parts, cells, ...) Reduce(added, parts, c(1, numeric(cells - 1)), ...)
 
 # The distribution function, and the mean of what of the total lies within 0 and each amount.
 sums_of <- function(cell) {
@@ -158,14 +161,19 @@ main <- function() {
         list(cell = cell, mean = mean)
     })
     parts <- lapply(made, `[[`, "cell")
-    without <- list()
+    without <- vector("list", length(parts))
+    before <- behind <- NULL
     total <- sum_cells(parts, cells)
     means <- sapply(made, `[[`, "mean")
     book <- list(
         cells = parts, means = means, mean = sum(means), total = total, sums = sums_of(total),
         others = function(i) {
-            if (is.null(without[i][[1]])) {
-                cell <- sum_cells(parts[-i], cells)
+            if (is.null(before)) {
+                before <<- sum_cells(parts, cells, accumulate = TRUE)
+                behind <<- rev(sum_cells(rev(parts), cells, accumulate = TRUE))
+            }
+            if (is.null(without[[i]])) {
+                cell <- added(before[[i]], behind[[i + 1]])
                 without[[i]] <<- list(cell = cell, below = cumsum(cell))
             }
             without[[i]]

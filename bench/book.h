@@ -17,23 +17,24 @@
 
    Distribution functions are summed once; a quantile is looked up by halving. Under a common factor the total is that of one gamma
    unit with the claims of all, and a joint mean comes from such a unit with one more in the shape. */
+#define _POSIX_C_SOURCE 200809L
 #include <math.h>
 #include <stdio.h>
 #include <stdlib.h>
 #include <string.h>
 
-enum { MOST_UNITS = 16, MOST_ASKS = 256, MOST_ITEMS = 1024, MOST_NUMBERS = 16 };
+enum { MOST_UNITS = 256, MOST_ASKS = 256, MOST_NUMBERS = 16 };
 
 struct unit {
     char count[16];
     double parameter[2]; /* mean and shape, or trials and probability */
     int table_length;
-    double table[MOST_ITEMS];
+    double *table;
     int is_changed; /* whether `zero` is the probability of no claim */
     double zero;
     int items;
-    int amount[MOST_ITEMS];
-    double probability[MOST_ITEMS];
+    int *amount;
+    double *probability;
     double limit, attachment; /* of the aggregate clause; no limit and no attachment: no clause */
     double mean;
     double *cell;   /* after the clause; NULL until something reads them */
@@ -65,38 +66,57 @@ static double *claims_cells(struct unit *unit, int cells);
 static double *total_cells(struct book *book);
 static double *others_cells(struct book *book, int left_out);
 
-static double *numbers(char *rest, double *first, int most, int *found) {
-    for (*found = 0; *found < most; ++*found) {
-        char *end;
+/* Reads numbers into `first`, at most so many, and tells how many there are. */
+static int numbers(char *rest, double *first, int most) {
+    int found = 0;
+    for (char *end; found < most; rest = end) {
         double value = strtod(rest, &end);
         if (end == rest)
             break;
-        first[*found] = value;
-        rest = end;
+        first[found++] = value;
     }
-    return first;
+    return found;
+}
+
+/* How many parts the text has at most, one for each blank. */
+static size_t parts_of(const char *text) {
+    size_t parts = 1;
+    for (; *text != 0; text++)
+        parts += *text == ' ';
+    return parts;
 }
 
 static void read_severity(struct unit *unit, char *rest) {
-    for (char *pair = strtok(rest, " \n"); pair; pair = strtok(NULL, " \n"))
-        sscanf(pair, "%d:%lf", &unit->amount[unit->items], &unit->probability[unit->items]), unit->items++;
+    size_t most = parts_of(rest);
+    unit->amount = malloc(most * sizeof *unit->amount);
+    unit->probability = malloc(most * sizeof *unit->probability);
+    for (char *end;; rest = end) {
+        long amount = strtol(rest, &end, 10);
+        if (end == rest)
+            break;
+        unit->amount[unit->items] = (int)amount;
+        unit->probability[unit->items++] = strtod(end + 1, &end);
+    }
 }
 
 static void read_unit(struct unit *unit, char *rest) {
-    int used, found;
+    int used;
     sscanf(rest, "%15s%n", unit->count, &used);
-    if (strcmp(unit->count, "table") == 0)
-        numbers(rest + used, unit->table, MOST_ITEMS, &unit->table_length);
-    else
-        numbers(rest + used, unit->parameter, 2, &found);
+    if (strcmp(unit->count, "table") != 0) {
+        numbers(rest + used, unit->parameter, 2);
+        return;
+    }
+    size_t most = parts_of(rest);
+    unit->table = malloc(most * sizeof *unit->table);
+    unit->table_length = numbers(rest + used, unit->table, (int)most);
 }
 
 static void read_book(struct book *book) {
-    static char line[1 << 16];
-    char word[16];
+    char *line = NULL, word[16];
+    size_t room = 0;
     int used, found;
     double layer[2];
-    while (fgets(line, sizeof line, stdin) && sscanf(line, "%15s%n", word, &used) == 1) {
+    while (getline(&line, &room, stdin) > 0 && sscanf(line, "%15s%n", word, &used) == 1) {
         struct unit *last = &book->unit[book->units - 1];
         if (strcmp(word, "cells") == 0) {
             book->cells = atoi(line + used);
@@ -109,14 +129,15 @@ static void read_book(struct book *book) {
         } else if (strcmp(word, "severity") == 0) {
             read_severity(last, line + used);
         } else if (strcmp(word, "net") == 0) {
-            numbers(line + used, layer, 2, &found);
+            numbers(line + used, layer, 2);
             last->limit = layer[0], last->attachment = layer[1];
         } else if (strcmp(word, "ask") == 0) {
             struct ask *ask = &book->ask[book->asks++];
             sscanf(line + used, "%15s%n", ask->kind, &found);
-            numbers(line + used + found, ask->parameter, MOST_NUMBERS, &ask->numbers);
+            ask->numbers = numbers(line + used + found, ask->parameter, MOST_NUMBERS);
         }
     }
+    free(line);
 }
 
 static struct sums sums_of(const double *cell, int cells) {
@@ -203,13 +224,11 @@ static double *pooled(const struct book *book, double more) {
             if (book->unit[i].amount[k] < book->cells)
                 chance[book->unit[i].amount[k]] += book->unit[i].parameter[0] / claims * book->unit[i].probability[k];
     all.items = 0, all.spectrum = NULL;
-    for (int s = 0; s < book->cells; s++) {
-        if (chance[s] == 0)
-            continue;
-        if (all.items == MOST_ITEMS)
-            exit(1);
-        all.amount[all.items] = s, all.probability[all.items++] = chance[s];
-    }
+    all.amount = malloc((size_t)book->cells * sizeof *all.amount);
+    all.probability = malloc((size_t)book->cells * sizeof *all.probability);
+    for (int s = 0; s < book->cells; s++)
+        if (chance[s] != 0)
+            all.amount[all.items] = s, all.probability[all.items++] = chance[s];
     strcpy(all.count, "gamma");
     all.parameter[0] = claims * (1 + more / shape), all.parameter[1] = shape + more;
     free(chance);
@@ -228,20 +247,20 @@ static double joint_under_factor(const struct book *book, const struct unit *uni
     return unit->parameter[0] * sum;
 }
 
-/* The sum of all units but one. */
-struct others {
-    double *cell;
-    struct sums sums;
-};
+/* The cells of the sum of all units but one. */
+static const double *without(struct book *book, int left_out) {
+    static double *made[MOST_UNITS];
+    if (made[left_out] == NULL)
+        made[left_out] = others_cells(book, left_out);
+    return made[left_out];
+}
 
-static const struct others *without(struct book *book, int left_out) {
-    static struct others made[MOST_UNITS];
-    struct others *others = &made[left_out];
-    if (others->cell == NULL) {
-        others->cell = others_cells(book, left_out);
-        others->sums = sums_of(others->cell, book->cells);
-    }
-    return others;
+/* The distribution function of that sum. */
+static const double *below_without(struct book *book, int left_out) {
+    static double *made[MOST_UNITS];
+    if (made[left_out] == NULL)
+        made[left_out] = sums_of(without(book, left_out), book->cells).below;
+    return made[left_out];
 }
 
 /* The first total at which the distribution function is at least p. */
@@ -273,12 +292,11 @@ static double weighed(const double *own, const double *other, int x) {
 /* A unit's share of the tail mean: its mean without its part below the quantile, and without that part of it at the quantile which is
    needed to reach p. */
 static double share(struct book *book, const struct sums *sums, const double *total, int unit, double p) {
-    const struct others *others = without(book, unit);
     const double *own = unit_cells(&book->unit[unit], book->cells);
     int q = quantile(sums, p);
     double reached = q > 0 ? sums->below[q - 1] : 0;
-    double below = q > 0 ? weighed(own, others->sums.below, q - 1) : 0;
-    double here = p > reached ? weighed(own, others->cell, q) * (p - reached) / total[q] : 0;
+    double below = q > 0 ? weighed(own, below_without(book, unit), q - 1) : 0;
+    double here = p > reached ? weighed(own, without(book, unit), q) * (p - reached) / total[q] : 0;
     return (book->unit[unit].mean - below - here) / (1 - p);
 }
 
@@ -305,7 +323,7 @@ static double answer(struct book *book, const struct sums *sums, const double *t
     if (strcmp(ask->kind, "cotail") == 0)
         return share(book, sums, total, unit, second);
     sum = book->common > 0 ? joint_under_factor(book, &book->unit[unit], x)
-                           : weighed(unit_cells(&book->unit[unit], book->cells), without(book, unit)->cell, x);
+                           : weighed(unit_cells(&book->unit[unit], book->cells), without(book, unit), x);
     return strcmp(ask->kind, "joint") == 0 ? sum : sum / total[x];
 }
 

@@ -22,7 +22,11 @@ cases <- list(
     survival = function() 1 - poisson(c(0, 1), 1)(20),
     underflow = function() poisson(c(0, 1), 4096)(4095),
     cut = function() above(poisson(rare, 2), 300),
-    changed = function() suppressWarnings(poisson(c(0, 1), 100, 0.2))(100)
+    changed = function() suppressWarnings(poisson(c(0, 1), 100, 0.2))(100),
+    shape = function() {
+        count <- aggregateDist("recursive", model.freq = "negative binomial", model.sev = die, size = 0.64, prob = 0.64 / 20.64, maxit = 100000)
+        count(40)
+    }
 )
 told <- function(case) tryCatch(sprintf("%.17g", case()), error = function(found) conditionMessage(found))
 if ("times" %in% commandArgs(TRUE)) {

@@ -29,12 +29,13 @@ ONE = [(1, Fraction(1))]
 
 
 class Case:
-    """One program and one ask, and how each tool is asked; `none` is a changed probability of no claim."""
+    """One program and one ask, and how each tool is asked; `none` is a changed probability of no claim, and `shape` that of a gamma count,
+    for which the extended rules are needed."""
 
-    def __init__(self, name, text, ask, log2, digits, pairs, mean, read, value, none=None):
+    def __init__(self, name, text, ask, log2, digits, pairs, mean, read, value, none=None, shape=None):
         self.name, self.text, self.ask = name, text, ask
         self.log2, self.digits = log2, digits
-        self.pairs, self.mean, self.read, self.value, self.none = pairs, mean, read, value, none
+        self.pairs, self.mean, self.read, self.value, self.none, self.shape = pairs, mean, read, value, none, shape
 
     def severity(self):
         """The probabilities of one claim, on the grid."""
@@ -55,6 +56,12 @@ class Case:
             total[0] = self.none + kept * (total[0] - unchanged)
             one = kept * self.mean * unchanged - self.mean * self.none
         weighted = numpy.arange(len(cells)) * cells
+        if self.shape is not None:  # of claims above 0
+            q, total[0] = self.mean / (self.shape + self.mean), (1 + self.mean / self.shape) ** -self.shape
+            for cell in range(1, len(cells)):
+                steps = q * (cells + (self.shape - 1) / cell * weighted)
+                total[cell] = numpy.dot(steps[1 : cell + 1], total[cell - 1 :: -1])
+            return self.read(total)
         for cell in range(1, len(cells)):
             stepped = self.mean / cell * numpy.dot(weighted[1 : cell + 1], total[cell - 1 :: -1])
             total[cell] = stepped + one * cells[cell]
@@ -63,6 +70,8 @@ class Case:
     def transform(self):
         """The transform of the severity on the grid, its generating function, and back."""
         turned = numpy.fft.fft(self.severity())
+        if self.shape is not None:
+            return self.read(numpy.real(numpy.fft.ifft((1 - self.mean / self.shape * (turned - 1)) ** -self.shape)))
         turned = turned if self.mean is None else numpy.exp(self.mean * (turned - 1))
         if self.none is not None:
             turned = self.none + (1 - self.none) * (turned - numpy.exp(-self.mean)) / -numpy.expm1(-self.mean)
@@ -71,6 +80,7 @@ class Case:
     def decl(self):
         """The ends that decl writes, or what it says."""
         words = [DECL, "run", "--log2", str(self.log2), "--digits", str(self.digits), self.ask]
+        words += ["--rules", "extended"] if self.shape is not None else []
         done = subprocess.run(words, input=self.text.encode(), capture_output=True)
         return (done.stdout or done.stderr).decode().strip().removeprefix(self.ask).strip()
 
@@ -108,6 +118,7 @@ def cases():
     rare = exact.poisson(RARE, 2, 512)
     many = exact.changed(exact.poisson(ONE, 100, 101), exact.none(100), Fraction(1, 5))
     survival = sum((exact.Decimal(0), *exact.poisson(ONE, 1, 120)[21:]))
+    heavy = exact.gamma(exact.die(6), 20, Fraction(16, 25), 41)
     return [
         Case("wrapped", "agg W 10 claims dsev [1:6] poisson", "pmf:3", 5, 9, exact.die(6), 10, point(3), wrapped[3]),
         Case("meets", "agg Q dfreq [1] dsev [1:10]", "q:0.8", 5, 6, exact.die(10), None, quantile(0.8), 8),
@@ -119,6 +130,7 @@ def cases():
         Case("negative", "agg N 2 claims dsev [1:6] poisson", "pmf:200", 8, 9, exact.die(6), 2, point(200),
              exact.poisson(exact.die(6), 2, 201)[200]),
         Case("changed", "agg Z 100 claims dsev [1] poisson zm 0.2", "cdf:100", 8, 9, ONE, 100, at_most(100), sum(many), 0.2),
+        Case("shape", "agg S 20 claims dsev [1:6] mixed gamma 1.25", "cdf:40", 7, 9, exact.die(6), 20, at_most(40), sum(heavy), shape=0.64),
     ]
 
 

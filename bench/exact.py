@@ -24,6 +24,16 @@ def poisson(pairs, mean, cells):
     return total
 
 
+def gamma(pairs, mean, shape, cells):
+    """The first cells of a total with a negative binomial number of claims above 0, of a mean and any shape, by Panjer's recursion."""
+    amounts, size = severity(pairs), Decimal(shape.numerator) / Decimal(shape.denominator)
+    q, total = Decimal(mean) / (size + Decimal(mean)), [(1 + Decimal(mean) / size) ** -size]
+    for cell in range(1, cells):
+        parts = ((1 + (size - 1) * amount / cell) * chance * total[cell - amount] for amount, chance in amounts.items() if amount <= cell)
+        total.append(q * sum(parts, Decimal(0)))
+    return total
+
+
 def none(mean):
     """The probability that a Poisson count is 0."""
     return (-Decimal(mean)).exp()

@@ -11,6 +11,16 @@ static double chance_of(const struct unit *claim, int amount) {
     return chance;
 }
 
+/* The cells of one claim, with this weight, beside that of no claim. */
+static double *one_claim(const struct unit *unit, double of_it, double of_none, int cells) {
+    double *claim = calloc((size_t)cells, sizeof *claim);
+    claim[0] = of_none;
+    for (int k = 0; k < unit->items; k++)
+        if (unit->amount[k] < cells)
+            claim[unit->amount[k]] += of_it * unit->probability[k];
+    return claim;
+}
+
 /* Where a recursion starts: its cell 0, and what one claim has beyond the step from no claim. Both are times exp(scale). */
 struct start {
     double cell, one, scale;
@@ -21,17 +31,17 @@ struct start {
 static double *recursion(double a, double b, struct start start, const struct unit *claim, int cells) {
     double *cell = calloc((size_t)cells, sizeof *cell);
     double scaled = start.scale; /* each true cell is cell * exp(scaled) */
-    double zero = chance_of(claim, 0), *one = calloc((size_t)cells, sizeof *one);
-    for (int k = 0; k < claim->items; k++)
-        if (claim->amount[k] < cells)
-            one[claim->amount[k]] += claim->probability[k];
+    double *one = one_claim(claim, 1, 0, cells), *probability = malloc((size_t)cells * sizeof *probability);
+    int *amount = malloc((size_t)cells * sizeof *amount), items = 0;
+    for (int s = 1; s < cells; s++)
+        if (one[s] != 0)
+            amount[items] = s, probability[items++] = one[s];
     cell[0] = start.cell;
     for (int s = 1; s < cells; s++) {
         double sum = start.one * one[s];
-        for (int k = 0; k < claim->items && claim->amount[k] <= s; k++)
-            if (claim->amount[k] > 0)
-                sum += (a + b * claim->amount[k] / s) * claim->probability[k] * cell[s - claim->amount[k]];
-        cell[s] = sum / (1 - a * zero);
+        for (int k = 0; k < items && amount[k] <= s; k++)
+            sum += (a + b * amount[k] / s) * probability[k] * cell[s - amount[k]];
+        cell[s] = sum / (1 - a * one[0]);
         if (cell[s] > 0x1p400) {
             for (int k = 0; k <= s; k++)
                 cell[k] *= 0x1p-400;
@@ -39,7 +49,7 @@ static double *recursion(double a, double b, struct start start, const struct un
             start.one *= 0x1p-400;
         }
     }
-    free(one);
+    free(one), free(amount), free(probability);
     for (int s = 0; s < cells; s++)
         cell[s] = cell[s] > 0 ? exp(log(cell[s]) + scaled) : 0;
     return cell;
@@ -71,15 +81,6 @@ static double *power(double *base, int n, int cells) {
             base = convolution(base, base, cells);
     }
     return result;
-}
-
-static double *one_claim(const struct unit *unit, double of_it, double of_none, int cells) {
-    double *claim = calloc((size_t)cells, sizeof *claim);
-    claim[0] = of_none;
-    for (int k = 0; k < unit->items; k++)
-        if (unit->amount[k] < cells)
-            claim[unit->amount[k]] += of_it * unit->probability[k];
-    return claim;
 }
 
 /* Horner's rule over the counts; a table of one count alone is a power. */
@@ -142,9 +143,13 @@ static double *claims_cells(struct unit *unit, int cells) {
 static double *others_cells(struct book *book, int left_out) {
     double *sum = calloc((size_t)book->cells, sizeof *sum);
     sum[0] = 1;
-    for (int i = 0; i < book->units; i++)
-        if (i != left_out)
-            sum = convolution(unit_cells(&book->unit[i], book->cells), sum, book->cells);
+    for (int i = 0; i < book->units; i++) {
+        if (i == left_out)
+            continue;
+        double *more = convolution(unit_cells(&book->unit[i], book->cells), sum, book->cells);
+        free(sum);
+        sum = more;
+    }
     return sum;
 }
 

@@ -1,6 +1,7 @@
 /* A book in doubles by the fast transform of FFTW, on a grid of twice the length: what lies past that wraps round (bench/book.h). The
    spectrum of each unit is made once, the total is the product of all, and the sum of all units but one that of those before it and of
-   those after it. Cells are made of a spectrum where an ask or an aggregate clause reads them. */
+   those after it. Where no ask names a unit, no spectrum is kept but that of the total. Cells are made of a spectrum where an ask or an
+   aggregate clause reads them. */
 #include "book.h"
 #include <complex.h>
 #include <fftw3.h>
@@ -118,7 +119,7 @@ static double *claims_cells(struct unit *unit, int cells) {
     return back(is_cut(unit) ? claims_spectrum(unit, cells) : spectrum_of(unit, cells), cells);
 }
 
-static const double complex *nothing(int cells) {
+static double complex *nothing(int cells) {
     double complex *spectrum = new_spectrum(cells);
     for (int k = 0; k <= cells; k++)
         spectrum[k] = 1;
@@ -143,9 +144,31 @@ static const double complex *from(struct book *book, int unit) {
     return made[unit];
 }
 
+/* Whether an ask names a unit. */
+static int names_units(const struct book *book) {
+    for (int i = 0; i < book->asks; i++)
+        if (strcmp(book->ask[i].kind, "joint") == 0 || strcmp(book->ask[i].kind, "kappa") == 0 ||
+            strcmp(book->ask[i].kind, "cotail") == 0)
+            return 1;
+    return 0;
+}
+
+/* The product of the spectra of all units, which are not kept. */
+static double complex *all_units(struct book *book) {
+    double complex *all = nothing(book->cells);
+    for (int i = 0; i < book->units; i++) {
+        const double complex *one = spectrum_of(&book->unit[i], book->cells);
+        for (int k = 0; k <= book->cells; k++)
+            all[k] *= one[k];
+        fftw_free(book->unit[i].spectrum);
+        book->unit[i].spectrum = NULL;
+    }
+    return all;
+}
+
 static double *total_cells(struct book *book) {
     passes_points = book->units > 1 && book->mean > 2 * book->cells;
-    return back(before(book, book->units), book->cells);
+    return back(names_units(book) ? before(book, book->units) : all_units(book), book->cells);
 }
 
 static double *others_cells(struct book *book, int left_out) {

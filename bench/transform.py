@@ -4,6 +4,8 @@
 Standard input is as bench/book.h says; a line is written for each ask. bench/bench.py measures it beside `decl`.
 """
 
+import functools
+import itertools
 import sys
 
 import numpy
@@ -93,12 +95,16 @@ def made(unit, cells):
     return numpy.bincount(kept, weights=cell, minlength=cells), mean
 
 
-def added(parts, cells):
-    """The cells of the sum of the parts."""
-    turned = numpy.ones(cells + 1, dtype=complex)
-    for part in parts:
-        turned = turned * numpy.fft.rfft(part, 2 * cells)
-    return numpy.fft.irfft(turned, 2 * cells)[:cells]
+def added(turned, cells):
+    """The cells of the sum of parts with these spectra."""
+    return numpy.fft.irfft(functools.reduce(numpy.multiply, turned, numpy.ones(cells + 1, dtype=complex)), 2 * cells)[:cells]
+
+
+def beside(turned, cells):
+    """For each of the spectra the product of those before it, and that of those behind it."""
+    nothing = numpy.ones(cells + 1, dtype=complex)
+    before = list(itertools.accumulate(turned[:-1], numpy.multiply, initial=nothing))
+    return before, list(itertools.accumulate(turned[:0:-1], numpy.multiply, initial=nothing))[::-1]
 
 
 class Book:
@@ -106,13 +112,16 @@ class Book:
 
     def __init__(self, found, cells):
         self.parts, self.means = [cell for cell, _ in found], [mean for _, mean in found]
-        self.total, self.mean = added(self.parts, cells), sum(self.means)
-        self.sums, self.made = Sums(self.total), {}
+        self.total, self.mean = added((numpy.fft.rfft(part, 2 * cells) for part in self.parts), cells), sum(self.means)
+        self.sums, self.made, self.beside = Sums(self.total), {}, None
 
     def without(self, unit):
         """The cells of the sum of all units but this one, and its distribution function."""
+        cells = len(self.total)
+        if self.beside is None:
+            self.beside = beside([numpy.fft.rfft(part, 2 * cells) for part in self.parts], cells)
         if unit not in self.made:
-            others = added([part for at, part in enumerate(self.parts) if at != unit], len(self.total))
+            others = added([side[unit] for side in self.beside], cells)
             self.made[unit] = others, numpy.cumsum(others)
         return self.made[unit]
 

@@ -83,8 +83,8 @@ def table():
     """The calls of the two tables."""
     calls, group, last = [], [], ""
     lines = [line for name in ("calls.txt", "rules.txt") for line in (HERE / name).read_text().splitlines()]
-    for line in lines:
-        mark, text = line[:1], line[2:]
+    for each in lines:
+        mark, text = each[:1], each[2:]
         if mark == "$":  # beside the calls right before it: what comes next is due of each
             group = [*(group if last == "$" else ()), Call(shlex.split(text))]
             calls.append(group[-1])
@@ -94,6 +94,9 @@ def table():
         for call in group:
             if mark == "<":
                 call.source += text + "\n"
+            elif mark == "*":
+                many, _, line = text.partition(" ")
+                call.source += "".join(line.replace("#", str(number)) + "\n" for number in range(int(many)))
             elif mark == ">":
                 call.out += text + "\n"
             elif mark == "!":
@@ -112,6 +115,11 @@ def long_texts():
     rows = "pmf:1 0.000976 0.000977\nmean 512.500000 512.500000\nq:1/3 342 342\n"
     yield Call("run --log2 11 pmf:1 mean q:1/3".split(), thousand, out=rows)
     yield Call(["fmt"], thousand, out=thousand.replace(",", ""))
+    amounts, chances = " ".join(map(str, range(1, 65_537))), " ".join(["1/65536"] * 65_536)
+    most = f"agg D dfreq [1] dsev [{amounts}] [{chances}]\n"  # 65,536 single values, twice: 900,000 bytes
+    yield Call("run --rules extended --log2 16 cdf:32768 mean".split(), most, out="cdf:32768 0.500000 0.500000\nmean 32768.500000 32768.500000\n")
+    one_more = most.replace("[1 2 ", "[1 1 2 ").replace("] [", "] [0 ")
+    yield Call("run --rules extended mean".split(), one_more, REFUSED, err="decl: 1:22: unit 0: rule 4 ListTooLong\n")
     comment = "# " + "x" * 200_000 + "\n"
     yield Call(["run", "pmf:3"], comment + DIE, out=SIXTH)
     yield Call(["run", "pmf:3"], comment + "agg D dfreq [1] dsev [1;6]\n", REFUSED, err="decl: 2:24: no token begins here\n")
@@ -154,6 +162,11 @@ def pairs(x, first, second):
     return sum(sign * math.comb(max(x - a - b - less + 2, 0), 2) for sign, less in ((1, 0), (-1, n), (-1, m), (1, n + m)))
 
 
+def inside(part, whole):
+    """The two ends of nine digits between which a quotient lies."""
+    return " ".join(f"{end // 10**9}.{end % 10**9:09d}" for end in (part * 10**9 // whole, -(-part * 10**9 // whole)))
+
+
 def longest_grids():
     """Totals of two amounts on 65,536 cells, each one of some 60,000 in a row that are equally likely: an amount is the sum of two units,
     one of steps and one within a step. They are worked by counting pairs."""
@@ -163,11 +176,13 @@ def longest_grids():
         ends = [runs[each][:2] for each in (one, other)]
         most, rows = ends[0][1] * ends[1][1], ""
         for kind, x in (("pmf", 30_001), ("cdf", 29_995), ("cdf", 50_104), ("cdf", 60_099), ("pmf", 65_535), ("cdf", 65_535)):
-            scaled = 10**9 * (pairs(x, *ends) - (pairs(x - 1, *ends) if kind == "pmf" else 0))
-            low, high = (f"{end // 10**9}.{end % 10**9:09d}" for end in (scaled // most, -(-scaled // most)))
-            rows += f"{kind}:{x} {low} {high}\n"
+            rows += f"{kind}:{x} {inside(pairs(x, *ends) - (pairs(x - 1, *ends) if kind == 'pmf' else 0), most)}\n"
         asks = [row.split(" ")[0] for row in rows.splitlines()]
         yield Call(["run", "--log2", "16", "--digits", "9", *asks], "port P\n" + "\n".join(units) + "\n", out=rows)
+    amounts = 65_535  # of one list; of two claims x - 1 of its square come to x, and x * (x - 1) / 2 to at most x
+    rows = f"pmf:40000 {inside(39_999, amounts**2)}\ncdf:20010 {inside(20_010 * 20_009 // 2, amounts**2)}\nmean 65536.000000000 65536.000000000\n"
+    words = "run --rules extended --log2 16 --digits 9 pmf:40000 cdf:20010 mean"
+    yield Call(words.split(), "agg D dfreq [2] dsev [1:65535]\n", out=rows)
 
 
 def little_stack():

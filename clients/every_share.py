@@ -93,10 +93,10 @@ class Book:
 
     def exact(self):
         """The probabilities of the totals from 0 on, as far as they are worked exactly, and with each of them the mean outcome of each
-        unit there; nothing where the book is not short."""
+        unit there; nothing where the book is not short, or has a factor whose shape is not whole."""
         if any(isinstance(unit, Listed) for unit in self.units.values()):
             yield from self.of_lists()
-        elif self.common:
+        elif self.common and (1 / Fraction(self.common)).denominator == 1:
             yield from self.of_claims()
 
     def of_lists(self):
@@ -176,7 +176,7 @@ def names(rng, most=3):
 def factor(rng):
     """A short book under a common factor."""
     units = {name: Claims(Fraction(rng.randint(1, 6), rng.choice((1, 2, 3))), some(rng, range(1, 6), 1, 3)) for name in names(rng)}
-    return Book(units, rng.choice(("1", "1/2", "1/2", "1/3")), rng.choice((5, 6, 7)))
+    return Book(units, rng.choice(("1", "1/2", "1/2", "1/3", "0.3", "1.25")), rng.choice((5, 6, 7)))
 
 
 def short(rng, common):
@@ -208,7 +208,8 @@ def rare(rng, common):
     p = 1 - Fraction(rng.randint(1, 90), 10**7)
     if not common:
         return Book({name: Listed({1: 1}, dict.fromkeys(range(1, rng.randint(500, 1001)), 1)) for name in "AB"}, None, 11), p
-    return Book({name: Claims(Fraction(rng.randint(1, 4), 2), some(rng, range(1, 4), 2, 2)) for name in "AB"}, "1/2", 8), p
+    units = {name: Claims(Fraction(rng.randint(1, 4), 2), some(rng, range(1, 4), 2, 2)) for name in "AB"}
+    return Book(units, rng.choice(("1/2", "0.45")), 8), p
 
 
 def long(rng, common):
@@ -224,7 +225,7 @@ def long(rng, common):
         while units[name].expected * units[name].amount * (20 if name == "C" else 2) < mean:
             units[name].amounts = {amount * 2: part for amount, part in units[name].amounts.items()}
     part, whole = rng.choice(((rng.randint(50, 99), 100), (rng.randint(9000, 9999), 10**4), (rng.randrange(5 * 10**8, 10**9), 10**9)))
-    return Book(units, common and rng.choice(("1/5", "0.1", "1/7")), 16), Fraction(part, whole)
+    return Book(units, common and rng.choice(("1/5", "0.1", "1/7", "0.15")), 16), Fraction(part, whole)
 
 
 def spelled(p):

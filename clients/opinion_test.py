@@ -26,6 +26,8 @@ DIE, DICE, TENTH = "agg D dfreq [1] dsev [1:6]", "agg D dfreq [2] dsev [1:6]", "
 PAIR = "port T agg A dfreq [1] dsev [1:3] agg B dfreq [1] dsev [1:3] [1/2 1/6 1/3]"
 FACTOR = "port C common 0.5 agg A 1 claims dsev [1] poisson agg B 2 claims dsev [1] poisson"
 TENTHS = "agg D dfreq [1] dsev [0 1] [0.9 0.1]"
+SHAPE = "agg G 3 claims dsev [0 1 4] mixed gamma 1.25"
+LARGE = " ".join(["port P", *(f"agg U{k} 1 claims dsev [1] poisson zt" for k in range(17))])
 SHARES = ["joint:A:4 0.722222 0.722223", "kappa:A:4 2.166666 2.166667", "cotail:A:0.8 2.703703 2.703704"]
 ROWS = ["pmf:3 0.166666 0.166667", "cdf:2 0.333333 0.333334", "mean 3.500000 3.500000"]
 #: Calls, what each has to write, and the faults that are planted there: a piece, and another one in its place.
@@ -45,6 +47,10 @@ PLANTED = [
     ("run --rules extended --log2 4 cotail:A:0.8 cotail:A:0", FACTOR, "cotail:A:0.8 2.188934 2.188935\ncotail:A:0 1.000000 1.000000\n", [
         ("2.188935", "2.188934"), ("2.188934", "2.188935"), ("1.000000 1.000000", "- -"), ("1.000000 1.000000", "beyond beyond"),
     ]),
+    ("run --rules extended --log2 4 pmf:0 pmf:4", SHAPE, "pmf:0 0.403765 0.403766\npmf:4 0.101375 0.101376\n", [
+        ("0.403766", "0.403765"), ("0.101375 0.101376", "0.101374 0.101375"), ("0.101376", "0.101386"),
+    ]),
+    ("run --rules extended mean", LARGE, "decl: 1:6: unit 0: rule 30 TotalTooLarge\n", [("30 Total", "29 Total"), ("unit 0", "unit 16")]),
     ("run cotail:A:0.8", FACTOR, "decl: ask 0: no share under a common factor\n", [("ask 0", "ask 1"), ("no share", "not a share")]),
     ("run --format csv pmf:3", DIE, "ask,low,high\npmf:3,0.166666,0.166667\n", [("0.166667", "0.166666")]),
     ("run --log2 4 --format json pmf:3", DIE, '{"bs":"1","cells":16,"rows":[{"ask":"pmf:3","high":"0.166667","low":"0.166666"}]}\n', [
@@ -115,7 +121,7 @@ def named():
     and stands on as little, as it has to."""
     page = (HERE.parent / "docs" / "DEFINITIONS.md").read_text(encoding="utf-8").split("## A second opinion\n")[1]
     code = "".join(path.read_text(encoding="utf-8") for path in (HERE / "second_opinion.py", *(HERE / "opinion").glob("*.py")))
-    yield len(code.splitlines()) <= 1500, "the second opinion has more than 1,500 lines"
+    yield len(code.splitlines()) <= 1650, "the second opinion has more than 1,650 lines"
     others = set(re.findall(r"^(?:from|import) (\w+)", code, re.M)) - STANDARD
     yield not others, f"the second opinion imports {others}"
     for name in re.findall("`([a-z_]+)`", page[page.index("- tokens") :]):

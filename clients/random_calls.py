@@ -29,11 +29,11 @@ def spelled_decimal(rng, number, digits):
     return written + "." if not digits and rng.random() < 0.02 else written
 
 
-def parts_of_one(rng, n):
-    """So many numbers that add up to 1."""
-    if rng.random() < 0.5:
-        cuts = sorted(rng.randint(0, 100) for _ in range(n - 1))
-        return [Fraction(b - a, 100) for a, b in zip([0, *cuts], [*cuts, 100])]
+def parts_of_one(rng, n, whole=100):
+    """So many numbers that add up to 1, some in parts of a whole."""
+    if whole > 100 or rng.random() < 0.5:
+        cuts = sorted(rng.randint(0, whole) for _ in range(n - 1))
+        return [Fraction(b - a, whole) for a, b in zip([0, *cuts], [*cuts, whole])]
     weights = [rng.randint(0 if rng.random() < 0.1 else 1, 12) for _ in range(n)]
     return [Fraction(weight, sum(weights)) for weight in weights] if sum(weights) else [Fraction(1)] + [Fraction(0)] * (n - 1)
 
@@ -41,13 +41,14 @@ def parts_of_one(rng, n):
 class Writer:
     """Writes a random program; its amounts are whole numbers of buckets, but for a few."""
 
-    def __init__(self, rng, log2):
+    def __init__(self, rng, log2, rules):
         self.rng, self.reach = rng, rng.choice((4, 6, 10, 16)) if log2 < 13 else rng.choice((30, 2**log2 // 4))
+        self.is_extended, self.calm = rules == "extended", 1
         self.bs = rng.choice((Fraction(1),) * 6 + (Fraction(1, 2), Fraction(1, 4), Fraction(5), Fraction(1000), Fraction(1, 3)))
 
     def has(self, chance):
-        """Whether something that has this chance comes."""
-        return self.rng.random() < chance
+        """Whether something that has this chance comes; less often in a program of many units, so that all of them keep the rules."""
+        return self.rng.random() < chance * self.calm
 
     def rare(self, usual, *others):
         """What is usual, and seldom one of the others."""
@@ -64,7 +65,8 @@ class Writer:
 
     def chances(self, n):
         """A list of probabilities."""
-        parts = parts_of_one(self.rng, n)
+        finer = self.has(0.15 if self.is_extended else 0.002)
+        parts = parts_of_one(self.rng, n, self.rng.choice((2**19 + 1, 2**20, 2**20, 2**20 + 1, 10**9, 10**10)) if finer else 100)
         parts[self.rng.randrange(n)] += self.rare(0, Fraction(1, 2), Fraction(1, 1000))
         fine = 2**30 + self.rng.choice((0, 1))
         return self.rare(self.listed([spelled(self.rng, part) for part in parts]), f"[1/{fine} {fine - 1}/{fine}]", f"[0:1:1/{n}]")
@@ -77,7 +79,7 @@ class Writer:
             last = first + step * self.rng.randint(0, max(self.reach // step, 1)) + self.rng.choice((0, 0, 0, step - 1))
             ends = [self.money(first), self.money(last)] + ([self.money(step)] if step * self.bs != 1 or self.has(0.2) else [])
             usual = "[" + self.rng.choice((":", " : ")).join(ends) + "]"
-            return word + self.rare(usual, "[5:1]", "[1:2:0]", "[1:1024]", "[1:1025]", "[0:1:1/1000001]", "[0:1/1000:1/1000]")
+            return word + self.rare(usual, "[5:1]", "[1:2:0]", "[1:1025]", "[0:1:1/1000001]", "[0:1/1000:1/1000]", "[1:9999]", "[0:65536]")
         amounts = [self.money(self.rng.randint(0, self.reach)) for _ in range(self.rng.randint(1, 4))]
         return word + self.listed(amounts) + (" " + self.chances(len(amounts) + self.has(0.005)) if self.has(0.6) else "")
 
@@ -125,12 +127,15 @@ class Writer:
         return self.rare(usual, 4096, 4097, Fraction(1, 16), Fraction(1, 17), 99_999_999_999), kind
 
     def shape(self):
-        """A coefficient of variation, whose shape is whole but for a few."""
-        return self.rare(self.rng.choice(("1", "0.5", "1/3", "0.25", "20%", "1/7", "0.1")), "0.3", "0", "2", "1/99", "0.01", "1/101")
+        """A coefficient of variation, whose shape is whole but for a few, or by the extended rules often any number."""
+        others, usual = ("0.3", "0", "2", "1/99", "0.01", "1/101"), ("1", "0.5", "1/3", "0.25", "20%", "1/7", "0.1")
+        if self.is_extended and self.has(0.7):
+            usual, others = ("0.3", "1.25", "2/3", "2", "0.07", "70%", "3.5", "17/16", "0.123"), (*others, "100", ".0099", "0.1234567")
+        return self.rare(self.rng.choice(usual), *others)
 
     def exposure(self, expected):
         """So many claims, or a loss or a premium."""
-        if self.has(0.7):
+        if not self.has(0.3):
             return f"{spelled(self.rng, expected)} {self.rng.choice(('claims', 'claims', 'claim'))}"
         loss = self.rare(spelled(self.rng, self.rng.randint(1, 12) * self.bs), "99999999999", "99999999999/99999999998")
         ratio = self.rare(spelled(self.rng, Fraction(self.rng.randint(1, 20), 20)), "0.9999999999", "33333333333/99999999998")
@@ -138,8 +143,8 @@ class Writer:
 
     def unit(self, name, named, common=False):
         """One `agg`, whose severity may be one of those that are named."""
-        listed = self.has(0.25) and not (common and self.has(0.99))
-        expected, count = self.count("poisson" if common and self.has(0.99) else self.rng.choice(COUNTS))
+        listed = self.has(0.25) and (not common or self.has(0.01))
+        expected, count = self.count("poisson" if common and not self.has(0.01) else self.rng.choice(COUNTS))
         if listed:
             counts = [str(self.rare(self.rng.randint(0, 4), 0.5, 256, 257)) for _ in range(self.rng.randint(1, 3))]
             words = ["dfreq", self.listed(counts), *([self.chances(len(counts))] if self.has(0.5) else [])]
@@ -150,9 +155,9 @@ class Writer:
         words += ["!"] if self.has(0.3) else []
         words += [self.clause("occurrence")] if self.has(0.25) else []
         words += [] if listed else [count]
-        if not listed and self.has(0.2) and not (common and self.has(0.99)):
+        if not listed and self.has(0.2) and (not common or self.has(0.01)):
             words += ["zt"] if self.has(0.4) else ["zm", spelled(self.rng, Fraction(self.rng.randint(0, 99), 100))]
-        words += [self.clause("aggregate")] if self.has(0.25) and not (common and self.has(0.99)) else []
+        words += [self.clause("aggregate")] if self.has(0.25) and (not common or self.has(0.01)) else []
         words += [self.rng.choice(("note{}", "note{a b ]}"))] if self.has(0.05) else []
         return " ".join(["agg", name, *words])
 
@@ -166,8 +171,10 @@ class Writer:
             return "\n".join([*lines, self.unit(name, named)]), [name]
         common = self.has(0.3)
         names = rng.sample(NAMES, rng.choice((1, 2, 2, 3, 3, 4)))
-        if self.has(0.005):
-            names = [f"U{k}" for k in range(rng.choice((16, 17)))]
+        if self.has(0.06 if self.is_extended else 0.005):
+            names = [f"U{k}" for k in range(rng.choice((17, 17, 20, 30) if self.is_extended else (16, 17)))]
+            names += [f"V{k}" for k in range(self.rare(0, 200, 226, 256))]
+            self.calm = 0.05
         names[-1] = names[0] if self.has(0.01) else names[-1]
         head = f"port {rng.choice(NAMES)}" + (f" common {self.shape()}" if common else "") + (" note{b}" if self.has(0.05) else "")
         return "\n".join([*lines, head, *(self.unit(name, named, common) for name in names)]), names
@@ -230,9 +237,9 @@ def options(rng, log2, bs, rules):
 def call(rng):
     """The words and the text of one call."""
     log2 = rng.choice((1, 2, 3, 4, 5, 5, 6, 6, 7)) if rng.random() < 0.97 else rng.choice((8, 9, 10, 13, 14, 15, 16))
-    writer = Writer(rng, log2)
+    rules = "extended" if rng.random() < 0.4 else "standard"
+    writer = Writer(rng, log2, rules)
     text, names = writer.program()
-    rules = "extended" if rng.random() < 0.3 else "standard"
     given, wanted = options(rng, log2, writer.bs, rules), asks(rng, names, 2**log2, rules == "extended")
     words = ["run", *given, *wanted] if rng.random() < 0.9 else ["run", *wanted, *given]
     kind = rng.random()

@@ -9,13 +9,14 @@ Probabilities are whole numbers of which ONE make 1, the low ends of clients/opi
 examples/check.py. The last line is 'N passed, M failed'.
 """
 
+import csv
 import math
 import pathlib
 import re
 import sys
 from fractions import Fraction
 
-from opinion.cells import ONE, Cells, convolve, poisson
+from opinion.cells import ONE, Cells, convolve, gamma, poisson
 from opinion.words import asked
 
 ROOT = pathlib.Path(__file__).resolve().parent.parent
@@ -207,6 +208,55 @@ class UnderFactor:
         return self.share_of_tail(rest[0], p) if kind == "cotail" else {"q": self.year.q, "tail": self.year.tail}[kind](p)
 
 
+class Lines:
+    """The lines of a table, each a gamma count of any shape, on multiples of 5; totals are worked up to so many of them."""
+
+    STEP, CELLS = 5, 820
+
+    def __init__(self, path):
+        self.lines, self.means = {}, {}
+        for row in csv.DictReader(path.read_text(encoding="utf-8").splitlines()):
+            amounts, weights = (list(map(Fraction, row[column].split())) for column in ("amounts", "weights"))
+            severity = {int(amount / self.STEP): weight for amount, weight in zip(amounts, weights, strict=True)}
+            self.lines[row["name"]] = gamma(Fraction(row["claims"]), 1 / Fraction(row["parameter"]) ** 2, severity, self.CELLS)
+            self.means[row["name"]] = Fraction(row["claims"]) * sum(map(math.prod, zip(amounts, weights)))
+        self.cells = self.sum_of(self.lines)
+        self.mean = sum(self.means.values())
+
+    def sum_of(self, names):
+        """The probabilities of the sum of some lines."""
+        found = Cells([ONE], 0)
+        for name in names:
+            found = convolve(found, self.lines[name], self.CELLS)
+        return found.low
+
+    def quantile(self, p):
+        """The least total that is not exceeded with probability p or more, as a number of cells."""
+        return next(at for at in range(self.CELLS) if sum(self.cells[: at + 1]) >= p * ONE)
+
+    def tail(self, p):
+        """The mean of the worst 1 - p."""
+        at = self.quantile(p)
+        below = sum((at - x) * cell for x, cell in enumerate(self.cells[:at])) * self.STEP
+        return at * self.STEP + (self.mean - at * self.STEP + Fraction(below, ONE)) / (1 - p)
+
+    def share_of_tail(self, name, p):
+        """The mean of a line in the worst 1 - p of the total: of the years at the quantile, as much as is left for them."""
+        at, own, rest = self.quantile(p), self.lines[name].low, self.sum_of(set(self.lines) - {name})
+        joint = [sum(x * own[x] * rest[total - x] for x in range(total + 1)) * self.STEP for total in range(at + 1)]
+        left = (Fraction(sum(self.cells[: at + 1]), ONE) - p) * ONE / self.cells[at]
+        return (self.means[name] - Fraction(sum(joint), ONE * ONE) + left * Fraction(joint[at], ONE * ONE)) / (1 - p)
+
+    def value(self, ask):
+        """What an ask declares."""
+        kind, *rest = ask.split(":")
+        if kind == "mean":
+            return self.mean
+        if kind == "cotail":
+            return self.share_of_tail(rest[0], Fraction(rest[1]))
+        return self.quantile(Fraction(rest[0])) * self.STEP if kind == "q" else self.tail(Fraction(rest[0]))
+
+
 XL = layer(80, 20)
 CAT = layer(100, 100)
 QUOTA = share("0.4", whole)
@@ -256,7 +306,9 @@ SCALED = UnderFactor(
     1 << 15,
 )
 
-# Each program of the pages, with the year that it is about; where a program is run several times, with those in order.
+TABLE = Lines(ROOT / "examples" / "lines.csv")
+
+# Each program of the pages, or the table from which it is made, with the year that it is about; where a program is run several times, with those in order.
 RECIPES = {
     "agg Fire 3 claims FIRE poisson": GROSS,
     "agg Fire 150 premium at 63% lr FIRE poisson": GROSS,
@@ -291,6 +343,7 @@ RECIPES = {
     "agg Motor 60 claims dsev [11 23 42 90] [0.5 0.3 0.15 0.05] poisson "
     "agg Liability 6 claims dsev [50 240 810] [0.6 0.3 0.1] poisson": SCALED,
     "agg Book 5 claims FIRE MOTOR wts [3/5 2/5] poisson aggregate ceded to 150 xs 150": BOOK.after(layer(150, 150)),
+    "examples/lines.csv": TABLE,
 }
 TOWER = [layer(10, 0), layer(10, 10), layer(20, 20)]
 FIRST, SECOND, THIRD = (Year.of_two(EVEN, part) for part in TOWER)
@@ -421,6 +474,8 @@ def sentences():
     motor = BOOK.units["Motor"].value("mean") / BOOK.value("mean")
     yield f"Motor has {percent(motor)} percent of the pure premium, and {percent(parts[1] / BOOK.tail(p99))} percent of the TVaR."
     yield f"half the TVaR is {money((BOOK.value('mean') + BOOK.tail(p99)) / 2)}."
+    shares = [(TABLE.means[name] / TABLE.mean, TABLE.share_of_tail(name, p99) / TABLE.tail(p99)) for name in ("Hail-DE", "Motor-DE")]
+    yield "Hail in Germany has {} percent of the mean and {} percent of the TVaR, motor {} and {}".format(*map(percent, sum(shares, ())))
     yield f"The pure premium is {money(BOOK.expected(layer(150, 150)))}."
     yield f"The cover pays in {percent(1 - BOOK.within(150))} percent of the years"
     yield f"and in full in {percent(1 - BOOK.within(299))} percent. -"
@@ -558,17 +613,16 @@ def apportioned(values, parts):
 
 def spreadsheet():
     """VaR and TVaR of the 40 lines, the mean of line 7 and its share of the TVaR, and those of the total. As the page of the client says,
-    weights are billionths, and expected claims of an amount the tenths of millionths of a claim."""
-    years, p, parts = [], Fraction(99, 100), 10**7
+    weights are billionths."""
+    years, p = [], Fraction(99, 100)
     weights = apportioned([Fraction("0.333333")] * 3, 10**9)
     for at in range(40):
         treaty, claims = layer(12 + at % 5, at % 3), 1 + Fraction(at, 20)
         chances = {}
         for step, weight in zip((1, 2, 3), weights, strict=True):
             amount = treaty(5 * step + at % 4)
-            chances[amount] = chances.get(amount, 0) + claims * Fraction(weight, 10**9)
-        counted = dict(zip(chances, apportioned(list(chances.values()), round(claims * parts)), strict=True))
-        years.append(Worked.poisson(Fraction(sum(counted.values()), parts), counted, 1500))
+            chances[amount] = chances.get(amount, 0) + weight
+        years.append(Worked.poisson(claims, chances, 1500))
     rest = sum([year for at, year in enumerate(years) if at != 7][1:], years[0])
     total = rest + years[7]
     yield [total.q(p)]
@@ -637,8 +691,10 @@ def ten_tasks():
 
 
 def text_of(command):
-    """The program of a command, with its severities by name; none where the command names a file."""
-    found = re.search(r"echo (['\"])(.*?)\1", command, re.DOTALL)
+    """The program of a command, with its severities by name, or its table; none where the command names another file."""
+    found, table = re.search(r"echo (['\"])(.*?)\1", command, re.DOTALL), re.search(r"\S+\.csv", command)
+    if table:
+        return table[0]
     text = " ".join(found[2].replace("\\\n", "" if found[1] == '"' else "\\\n").split()) if found else ""
     for name, severity in TEXTS.items():
         text = text.replace(severity, name)

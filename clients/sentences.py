@@ -17,23 +17,24 @@ PYTHON, R = HERE / "python" / "src" / "decl" / "rules.py", HERE / "r" / "R" / "s
 
 
 def sentences():
-    """Each rule with its sentence, the rules from 1 on."""
+    """Each rule with its sentence, by its number."""
     lines = (HERE / "sentences.txt").read_text(encoding="utf-8").splitlines()
-    found = [tuple(line.split("\t")) for line in lines]
-    if [number for number, _ in found] != [str(at) for at in range(1, len(found) + 1)]:
-        sys.exit("clients/sentences.txt: a line is the number of a rule, a tab and its sentence, from rule 1 on")
+    found = {int(number): told for number, told in (line.split("\t") for line in lines)}
+    if len(found) < len(lines) or list(found) != sorted(found) or min(found) != 1:
+        sys.exit("clients/sentences.txt: a line is the number of a rule, a tab and its sentence, from rule 1 on, in their order")
     return found
 
 
 def in_python(found):
     """The file of the Python client with these sentences."""
-    body = "".join(f'    {number}: "{told.format(bucket="decl.bucket(text)")}",\n' for number, told in found)
+    body = "".join(f'    {number}: "{told.format(bucket="decl.bucket(text)")}",\n' for number, told in found.items())
     return re.sub(r"(?s)(?<=^SENTENCES: Dict\[int, str\] = \{\n).*?(?=^\}\n)", lambda _: body, PYTHON.read_text(encoding="utf-8"), flags=re.M)
 
 
 def in_r(found):
     """The file of the R client with these sentences."""
-    body = ",\n".join(f'    "{told.format(bucket="decl_bucket(text)")}"' for _, told in found)
+    told = (found.get(number, "").format(bucket="decl_bucket(text)") for number in range(1, max(found) + 1))
+    body = ",\n".join(f'    "{each}"' for each in told)
     return (
         "# What each typing rule asks, by its number; docs/LANGUAGE.md has them as a table, with examples. From clients/sentences.txt.\n"
         f"decl_sentences <- c(\n{body}\n)\n"

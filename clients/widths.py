@@ -62,8 +62,10 @@ class Widths:
         return spread
 
     def gamma(self, mean, shape):
-        """A gamma number of claims above 0: as many geometric numbers as its shape says."""
-        return self.power(ceil((4 * self.cells + 1) * (1 + Fraction(mean, shape))), shape)
+        """A gamma number of claims above 0: as many geometric numbers as the whole part of its shape says, and one of the rest."""
+        more, whole = 1 + Fraction(mean) / shape, int(shape)
+        geometric, rest = self.power(ceil((4 * self.cells + 1) * more), whole), ceil((6 * self.cells + 2) * more)
+        return geometric if shape == whole else self.joined(geometric, rest) if whole else rest
 
     def binomial(self, items, trials):
         """A binomial number of claims."""
@@ -79,7 +81,7 @@ class Widths:
 
     def shared_joint(self, expected, shape, claims):
         """The same under a common factor: of so many claims above 0 of the unit, where so many are expected of all units."""
-        raised = self.gamma(Fraction(expected * (shape + 1), shape), shape + 1)
+        raised = self.gamma(Fraction(expected) * (shape + 1) / shape, shape + 1)
         return (self.cells * raised + 2) * ceil(claims) + 2
 
     def share(self, total, joint):
@@ -174,6 +176,19 @@ def just_met():
     yield long, "--width", "cdf:0", long.changed(long.gamma(1, 1), long.before_clause(1).gamma(1, 1))
 
 
+def by_extended_rules():
+    """The same of units of the shapes 100/9 and 16/25, of a factor of shape 100/9, and of 256 units."""
+    short, long, middle, shape, ask = Widths(4096), Widths(65536), Widths(8192), Fraction(100, 9), "--rules extended "
+    shared, joint, none = short.gamma(3, shape), short.shared_joint(3, shape, 1), long.before_clause(1)
+    yield long, ask + "--width", "pmf:0", long.gamma(2, shape)
+    yield long, ask + "--width", "pmf:4", long.gamma(3, Fraction(16, 25))
+    yield long, ask + "--width", "pmf:1", long.changed(long.gamma(2, shape), none.gamma(2, shape))
+    yield middle, ask + "--width", "pmf:128", middle.equal(middle.listed(2, 1), 256)
+    yield short, ask + "--mwidth", "joint:A:2", joint
+    yield short, ask + "--mwidth", "kappa:A:2", short.share(shared, joint)
+    yield short, ask + "--mwidth", "cotail:A:0.8", short.whole_share(shared, 1, joint, "0.8", True)
+
+
 def without_options():
     """Asks without a width among the words, each with its budget and whether it is refused: a width of 10, and of 1,000,000, is met."""
     plan, short = Widths(4096), Widths(1024)
@@ -201,7 +216,7 @@ def expected():
     for plan, budgets in (short_calls(), long_calls()):
         for words, budget in budgets.items():
             yield words_of(plan, words), plan.needs(budget), True
-    for plan, option, ask, budget in just_met():
+    for plan, option, ask, budget in (*just_met(), *by_extended_rules()):
         needed = plan.needs(budget)
         yield words_of(plan, f"{option} {needed - 1} {ask}"), needed, True
         yield words_of(plan, f"{option} {needed} {ask}"), needed, False

@@ -115,10 +115,12 @@ def store(path, world):
 
 
 def check_rules(world):
-    """The table of rules: each text gets the message that stands beside it."""
+    """The tables of rules: each text gets the message that stands beside it, by the standard rules, or by the extended ones."""
     passed = failed = 0
-    for text, message in RULE.findall((ROOT / "docs" / "LANGUAGE.md").read_text(encoding="utf-8")):
-        done = subprocess.run(["decl", "run", "pmf:0"], input=text.encode(), env=world, capture_output=True)
+    standard, extended = (ROOT / "docs" / "LANGUAGE.md").read_text(encoding="utf-8").split("## The extended rules\n")
+    calls = [("standard", *row) for row in RULE.findall(standard)] + [("extended", *row) for row in RULE.findall(extended)]
+    for rules, text, message in calls:
+        done = subprocess.run(["decl", "run", "--rules", rules, "pmf:0"], input=text.encode(), env=world, capture_output=True)
         if done.stderr.decode() == message + "\n" and done.returncode == 3:
             passed += 1
         else:

@@ -431,6 +431,24 @@ def units_to_the_limit(cases):
     cases.ruled("units of one name", same, "18:5", rule)
 
 
+def books_by_the_extended_rules(cases):
+    """As many units and values as there may be are answered, and more are refused before any list of them is made."""
+    words, rule = ["run", "--rules", "extended", "mean"], "unit 0: rule 4 ListTooLong"
+    cases.case("256 units", words, portfolio(256), DONE, out=b"mean 256.000000 256.000000\n")
+    for units in (257, 33_000):
+        err = b"decl: 258:5: unit 256: rule 22 TooManyUnits\n"
+        cases.case(f"{units} units by the extended rules", words, portfolio(units), REFUSED, err=err)
+    single = b"agg D dfreq [1] dsev [" + b" ".join(b"%d" % i for i in range(1, 65_537)) + b"]\n"
+    cases.case("65,536 values", words, single, DONE, out=b"mean 32768.500000 32768.500000\n")
+    for name, text, place in (
+        ("a long list by the extended rules", between(b"agg D dfreq [1] dsev [1", b" 1", b"]\n"), "1:22"),
+        ("a long range", b"agg D dfreq [1] dsev [1:99999999999]\n", "1:22"),
+        ("64 lists of 65,536 values", b"agg D dfreq [1]" + b" dsev [1:65536]" * 64 + b" wts [1]\n", "1:17"),
+        ("ranges of 65,536 values", between(b"agg D dfreq [1] dsev [1:65536", b" 1:65536", b"]\n"), "1:22"),
+    ):
+        cases.case(name, words, text, REFUSED, err=f"decl: {place}: {rule}\n".encode())
+
+
 def words_of_all_kinds(cases):
     """Words in great number, of great length, and of bytes that are no text."""
     cases.case("no word", [], DIE, USAGE, err=USED_WRONG)
@@ -527,6 +545,7 @@ def main():
         programs_of_a_megabyte,
         broken_texts,
         units_to_the_limit,
+        books_by_the_extended_rules,
         words_of_all_kinds,
         little_memory,
         refused_memory,

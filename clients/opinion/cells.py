@@ -146,10 +146,16 @@ def poisson_whole(mean):
 
 
 def gamma_whole(mean, shape):
-    """The sum of the weights `C(r + n - 1, n) * (v / (r + v))^n` of a gamma count, rounded down and up."""
-    base = 1 + mean / shape
-    whole, over = base.numerator**shape * ONE, base.denominator**shape
-    return whole // over, -(-whole // over)
+    """The two ends of the sum of the weights of a gamma count, each the product of the `(r + i) / (i + 1)` over `i` from 0 to `n - 1`, times
+    `(v / (r + v))^n`, in units of 1 / ONE. It is `(1 + v / r)^r`: a power by the whole part of `r`, and for each binary digit of the rest,
+    from the last one on, a root, before it times `1 + v / r` where the digit is 1; past the last digit the rest lies from 0 to 1."""
+    base, fine = 1 + mean / shape, ONE * ONE
+    low, high = fine, math.ceil(base * fine)
+    for place in range(8 * DIGITS, 0, -1):
+        factor = base if int(shape * 2**place) % 2 else 1
+        low, high = math.isqrt(math.floor(factor * low) * fine), math.isqrt(math.ceil(factor * high) * fine) + 1
+    whole = base ** int(shape) / ONE
+    return math.floor(whole * low), math.ceil(whole * high)
 
 
 def compounded(a, b, whole, severity, cells):

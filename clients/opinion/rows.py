@@ -43,7 +43,7 @@ class Opinion:
             if self.settings.form == "fmt":
                 self.text = texts.canonical(self.source)
             else:
-                self.book = Book(self.source, self.settings.bs, self.settings.cells)
+                self.book = Book(self.source, self.settings.bs, self.settings.cells, self.settings.rules)
                 self.asks = [words.asked(ask, self.settings.rules) for ask in self.settings.asks]
                 self.look_at_asks()
         except Fault as fault:

@@ -4,18 +4,24 @@ A place is the number of a first byte. Of the places of one rule the first in th
 """
 
 import math
+from collections import namedtuple
 from fractions import Fraction
 from functools import cached_property
 
 from . import severities
 from .text import Fault, Listed, Mixture, Numeral, is_bad, line_col, value
 
-def is_fine(fractions):
-    """Whether the denominators have a common multiple of at most 2^30."""
+# The bounds of a set of rules: units, values of a list, a common denominator of probabilities; and whether shapes have to be whole.
+Bounds = namedtuple("Bounds", "units values parts whole_shapes")
+BOUNDS = {"standard": Bounds(16, 1024, 2**30, True), "extended": Bounds(256, 65_536, 2**40, False)}
+
+
+def is_fine(fractions, most=2**30):
+    """Whether the denominators have a common multiple of at most so much."""
     common = 1
     for each in fractions:
         common = math.lcm(common, Fraction(each).denominator)
-        if common > 2**30:
+        if common > most:
             return False
     return True
 
@@ -25,9 +31,14 @@ def is_admitted(fraction):
     return max(Fraction(fraction).numerator, Fraction(fraction).denominator) < 2**48
 
 
-def shape_of(c):
-    """The shape `1 / c^2` of a coefficient of variation, or None where it is not whole."""
-    return (1 / c**2).numerator if c and (1 / c**2).denominator == 1 else None
+def is_held(fraction):
+    """Whether both parts are below 2^62."""
+    return max(Fraction(fraction).numerator, Fraction(fraction).denominator) < 2**62
+
+
+def shape_of(c, bounds):
+    """The shape `1 / c^2` of a coefficient of variation; None where there is none, or it has to be whole and is not."""
+    return 1 / c**2 if c and not (bounds.whole_shapes and (1 / c**2).denominator > 1) else None
 
 
 def ends_of(item):
@@ -49,9 +60,9 @@ def values(listed):
 class Part:
     """A unit as the rules read it: its number in the program, its mixture, and its numbers in buckets."""
 
-    def __init__(self, program, number, bs, cells):
+    def __init__(self, program, number, bs, cells, bounds):
         self.program, self.number, self.unit = program, number, program.units[number]
-        self.bs, self.cells = bs, cells
+        self.bs, self.cells, self.bounds = bs, cells, bounds
         named = [mixture for name, mixture in program.severities if "sev." + name.text == getattr(self.unit.severity, "text", None)]
         self.mixture = named[0] if named else self.unit.severity
 
@@ -106,6 +117,11 @@ class Part:
             for amounts in [[amount / self.bs for amount in values(atom.amounts)]]
         ]
 
+    @cached_property
+    def merged(self):
+        """The severity of each atom."""
+        return [severities.merge(*atom) for atom in self.atoms]
+
     @property
     def weights(self):
         """The weights of the atoms."""
@@ -137,15 +153,15 @@ class Part:
     @property
     def has_fine_lists(self):
         """Whether the lists of probabilities are fine, and what the weights make of those of the atoms."""
-        if not all(is_fine(values(listed)) for listed in self.chances):
+        if not all(is_fine(values(listed), self.bounds.parts) for listed in self.chances):
             return False
-        return is_fine(w * p for atom, w in zip(self.atoms, self.weights) for p in severities.merge(*atom).values())
+        parts = (w * p for atom, w in zip(self.merged, self.weights) for p in atom.values())
+        return is_fine(parts, self.bounds.parts)
 
     @cached_property
     def severity_in_layer(self):
         """The severity before the occurrence clause."""
-        merged = [severities.merge(*atom) for atom in self.atoms]
-        found = severities.mix(merged, self.weights) if self.mixture.weights else merged[0]
+        found = severities.mix(self.merged, self.weights) if self.mixture.weights else self.merged[0]
         found = severities.above(self.exceeding, found) if self.exceeding else found
         return severities.cut(*self.in_layer(self.unit.layer), found) if self.unit.layer else found
 
@@ -186,6 +202,18 @@ class Part:
     def number_of_count(self):
         """The number of `binomial` or `mixed gamma`."""
         return value(self.unit.frequency.number.text) if self.unit.frequency.number else Fraction(1)
+
+    @property
+    def shape(self):
+        """The shape of a gamma count, or None."""
+        return shape_of(self.number_of_count, self.bounds) if self.kind == "gamma" else None
+
+    @property
+    def counts(self):
+        """The listed counts with their probabilities."""
+        most = length(self.unit.counts)
+        chances = values(self.unit.chances) if self.unit.chances else [Fraction(1, most)] * most
+        return severities.merge(map(int, values(self.unit.counts)), chances)
 
     @property
     def zero(self):
@@ -230,15 +258,17 @@ def rules_on_the_text(part):
     yield "1 DuplicateName", [unit.name.at] if unit.name.text in (other.name.text for other in earlier) else []
     yield "2 BadNumeral", [numeral.at for numeral in part.numerals if is_bad(numeral.text)]
     yield "3 BadRange", [item.at for listed in part.lists for item in listed.items if is_bad_range(item)]
-    too_long = [listed.at for listed in part.lists if length(listed) > 1024]
-    too_long += [mixture.at] if len(mixture.atoms) > 64 else []
+    too_long = [listed.at for listed in part.lists if length(listed) > part.bounds.values]
+    lengths = [length(atom.amounts) for atom in mixture.atoms]
+    is_long = max(lengths) <= part.bounds.values and sum(lengths) > 65_536
+    too_long += [mixture.at] if is_long or len(mixture.atoms) > 64 else []
     yield "4 ListTooLong", too_long + [clause.at for clause in part.clauses if len(clause.cessions) > 16]
     yield "5 LengthsDiffer", [chances.at for first, chances in part.pairs if chances and length(first) != length(chances)]
     chances = [(listed.at, values(listed)) for listed in part.chances]
-    yield "6 NotOne", [at for at, listed in chances if is_fine(listed) and sum(listed) != 1]
-    yield "7 OffGrid", [at for amount, at in amounts(part) if amount.denominator > 1]
-    most = 2**20 if part.cells <= 4096 else 2**22
-    yield "8 TooFar", [at for amount, at in amounts(part) if amount > most]
+    yield "6 NotOne", [at for at, listed in chances if is_fine(listed, part.bounds.parts) and sum(listed) != 1]
+    all_amounts, most = list(amounts(part)), 2**20 if part.cells <= 4096 else 2**22
+    yield "7 OffGrid", [at for amount, at in all_amounts if amount.denominator > 1]
+    yield "8 TooFar", [at for amount, at in all_amounts if amount > most]
     weights = mixture.weights
     yield "9 WeightsDiffer", [weights.at] if weights and length(weights) != len(mixture.atoms) else []
 
@@ -277,7 +307,7 @@ def rules_on_counts(part):
         is_whole = 0 < p <= 1 and (count is None or (count / p).denominator == 1)
         yield "17 TrialsNotWhole", [] if is_whole else [unit.frequency.at]
     elif kind == "gamma":
-        yield "18 ShapeNotWhole", [] if shape_of(part.number_of_count) else [unit.frequency.at]
+        yield "18 ShapeNotWhole", [] if part.shape else [unit.frequency.at]
 
 
 def rules_on_sizes(part):
@@ -287,11 +317,13 @@ def rules_on_sizes(part):
     is_right = part.has_fine_lists and all(map(part.has_fine_shares, part.clauses))
     numbers = [part.expected_loss, part.expected_count, part.thinned_mean if thinned else None] if is_right else []
     is_right = is_right and all(is_admitted(number or 0) for number in numbers)
+    if part.shape and not part.bounds.whole_shapes:
+        is_right = is_right and is_admitted(part.shape) and all(is_held((number or 0) / part.shape) for number in numbers[1:])
     yield "19 TooFine", [] if is_right else [unit.name.at]
     claims = max(values(unit.counts)) if kind == "listed" else part.thinned_mean if thinned else part.expected_count
     claims = claims / part.number_of_count if kind == "binomial" else claims
     most = 256 if kind == "listed" else 4096 if thinned else 65_536
-    is_many = claims > most or (kind == "gamma" and shape_of(part.number_of_count) > 10_000)
+    is_many = claims > most or (kind == "gamma" and (part.shape > 10_000 or claims > 32_768 * part.shape))
     yield "20 TooManyClaims", [unit.name.at] if is_many else []
     most = 16_384 if part.cells <= 4096 else 65_536
     is_far = unit.aggregate and severities.horizon(part.clause(unit.aggregate), part.cells) > most
@@ -303,23 +335,38 @@ def rules_on_sizes(part):
 
 def is_new_zero(part):
     """Whether the probability of no claim can be changed as the unit says."""
-    return part.zero < 1 and Fraction(1, 16) <= part.expected_count <= 4096
+    least, shape = part.expected_count, part.shape
+    least = min(least, shape * least / (shape + least)) if shape and shape < 1 else least
+    return part.zero < 1 and Fraction(1, 16) <= least and part.expected_count <= 4096
 
 
 def is_too_large(shape, parts):
     """Rule 28: whether the units are too large for a factor of this shape."""
     expected, thinned = [part.expected_count for part in parts], [part.thinned_mean for part in parts]
-    whole, raised = sum(expected), Fraction(shape + 1, shape)
-    if whole == 0 or shape > 9_999:
+    whole, raised, most = sum(expected), 1 + 1 / shape, parts[0].bounds.parts
+    if whole == 0 or shape > 9_999 or not is_admitted(shape + 1):
         return True
     sums = [sum(each[: k + 1]) for each in (expected, thinned) for k in range(len(parts))]
     if not all(map(is_admitted, [*sums, whole * raised, sum(thinned) * raised])) or sum(thinned) * raised > 4096:
         return True
+    if not is_held(whole / shape) or not is_held(sum(thinned) / shape):
+        return True
     shares = [each / whole for each in expected]
-    return not (is_fine(shares) and is_fine(share * p for share, part in zip(shares, parts) for p in part.final_severity.values()))
+    claims = (share * p for share, part in zip(shares, parts) for p in part.final_severity.values())
+    return not (is_fine(shares, most) and is_fine(claims, most))
 
 
-def first_fault(text, program, bs, cells):
+def is_total_too_large(parts, cells):
+    """Rule 30: whether the probability of no claim is changed of more than 16 units, or their means before clauses, 17 times as much
+    where it is changed, add up to too much, each rounded up to buckets."""
+    whole = 0
+    for part in parts:
+        count = severities.mean_of(part.counts) if part.kind == "listed" else part.expected_count
+        whole += math.ceil((1 if part.zero is None else 17) * count * severities.mean_of(part.final_severity))
+    return sum(part.zero is not None for part in parts) > 16 or whole > 17 * 2 ** (36 if cells <= 4096 else 38)
+
+
+def first_fault(text, program, bs, cells, bounds):
     """The parts of a program that keeps the rules; else Fault has the first broken rule and its first place."""
 
     def ask(unit, rule, places):
@@ -327,17 +374,19 @@ def first_fault(text, program, bs, cells):
         if places:
             raise Fault(f"{line_col(text, min(places))}: unit {unit}: rule {rule}")
 
-    ask(16, "22 TooManyUnits", [unit.name.at for unit in program.units[16:]])
+    ask(bounds.units, "22 TooManyUnits", [unit.name.at for unit in program.units[bounds.units :]])
     names = [name.text for name, _ in program.severities]
     for number, (name, _) in enumerate(program.severities):
         ask(number, "23 DuplicateSeverity", [name.at] if name.text in names[:number] else [])
-    parts = [Part(program, number, bs, cells) for number in range(len(program.units))]
+    parts = [Part(program, number, bs, cells, bounds) for number in range(len(program.units))]
     for part in parts:
         for rules in (rules_on_the_text, rules_on_layers, rules_on_counts, rules_on_sizes):
             for rule, places in rules(part):
                 ask(part.number, rule, places)
     if program.common:
-        shape = None if is_bad(program.common.text) else shape_of(value(program.common.text))
+        shape = None if is_bad(program.common.text) else shape_of(value(program.common.text), bounds)
         ask(0, "27 CommonShape", [] if shape else [program.common.at])
         ask(0, "28 CommonSize", [program.port.at] if is_too_large(shape, parts) else [])
+    if program.port:
+        ask(0, "30 TotalTooLarge", [program.port.at] if is_total_too_large(parts, cells) else [])
     return parts

@@ -167,32 +167,29 @@ class Total:
 def aggregate_of(part):
     """The unit of a plan that a unit of a text declares."""
     mean = part.expected_count
-    if part.kind == "listed":
-        chances = rules.values(part.unit.chances) if part.unit.chances else [Fraction(1, rules.length(part.unit.counts))] * 1024
-        count = "listed", severities.merge(map(int, rules.values(part.unit.counts)), chances)
-    else:
-        count = {
-            "fixed": lambda: ("fixed", int(mean)),
-            "bernoulli": lambda: ("binomial", 1, mean),
-            "binomial": lambda: ("binomial", int(mean / part.number_of_count), part.number_of_count),
-            "poisson": lambda: ("poisson", mean),
-            "gamma": lambda: ("gamma", mean, rules.shape_of(part.number_of_count)),
-        }[part.kind]()
+    count = {
+        "listed": lambda: ("listed", part.counts),
+        "fixed": lambda: ("fixed", int(mean)),
+        "bernoulli": lambda: ("binomial", 1, mean),
+        "binomial": lambda: ("binomial", int(mean / part.number_of_count), part.number_of_count),
+        "poisson": lambda: ("poisson", mean),
+        "gamma": lambda: ("gamma", mean, part.shape),
+    }[part.kind]()
     clause = part.clause(part.unit.aggregate)
     whole = clause and (clause[0], [(limit if limit is None else int(limit), int(start), share) for limit, start, share in clause[1]])
     return Aggregate(part.cells, count, part.final_severity, whole, part.zero)
 
 
 class Book:
-    """A program on a grid of so many cells. `Fault` is raised for a text that spells no program, or breaks a rule."""
+    """A program on a grid of so many cells. `Fault` is raised for a text that spells no program, or breaks one of the rules."""
 
-    def __init__(self, text, bs=1, cells=1024):
-        program = texts.spells(text)
+    def __init__(self, text, bs=1, cells=1024, by="standard"):
+        program, bounds = texts.spells(text), rules.BOUNDS[by]
         self.bs, self.cells, self.kept = Fraction(bs), cells, {}
-        parts = rules.first_fault(text, program, self.bs, cells)
+        parts = rules.first_fault(text, program, self.bs, cells, bounds)
         self.names = [part.unit.name.text for part in parts]
         self.units = [aggregate_of(part) for part in parts]
-        self.shape = program.common and rules.shape_of(texts.value(program.common.text))
+        self.shape = program.common and rules.shape_of(texts.value(program.common.text), bounds)
 
     def pooled_unit(self, shape):
         """The one unit for all under a common factor: a gamma count, and the mixture of their severities by their expected counts. With
@@ -230,7 +227,8 @@ class Book:
     def sum_of(self, grids):
         """The sum of independent outcomes."""
         found = Cells([ONE], 0)
-        sums.within_steps(len(grids) * self.cells * sums.OF_PRODUCT if len(grids) > 2 else 0, "the sum of the units")
+        reach = min(self.cells, sum(len(grid.low) for grid in grids))
+        sums.within_steps(len(grids) * reach * sums.OF_PRODUCT if len(grids) > 2 else 0, "the sum of the units")
         for grid in grids:
             found = sums.convolve(found, grid, self.cells)
         return found

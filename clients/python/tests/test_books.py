@@ -319,6 +319,59 @@ class Answers(Case):
         self.assertEqual((alone.name, alone.unit("One").q(0.5).low), ("One", 10))
 
 
+class Extended(Case):
+    """Books by the extended rules, which the standard ones refuse."""
+
+    TEXT = "agg G 2 claims dsev [100 300] mixed gamma 0.3"
+
+    def test_a_shape_that_is_not_whole(self):
+        """No claim comes with a probability of (1 + 2 * 0.09)^(-100/9)."""
+        none = Fraction("0.15896848301882428")
+        for call in (decl.Book, decl.bucket, decl.grid):
+            fault = self.raises(decl.RuleFault, call, self.TEXT)
+            self.assertIn("the extended rules take any", str(fault))
+        book = decl.Book(self.TEXT, rules="extended")
+        self.assertEqual((book.rules, book.bs, decl.bucket(self.TEXT, rules="extended")), ("extended", 100, 100))
+        self.assertEqual(book.log2, decl.grid(self.TEXT, bs=100, rules="extended"))
+        self.assertTrue(book.pmf(0).holds(none))
+        self.assertTrue(book.mean().holds(400))
+        self.assertEqual(book.moments().variance, 2 * 10000 + (2 + 4 * Fraction(9, 100)) * 40000)
+        self.assertEqual({row.rules for row in (book.mean(), book.q(0.99), book.tail(0.9), book.share_of_tail("G", 0.9))}, {"extended"})
+        self.assertEqual(book.share_of_tail("G", "0.999999").written, book.tail("0.999999").written)
+        self.assertEqual(book.each(["cotail:G:0.9", "mean"]), [book.share_of_tail("G", 0.9), book.mean()])
+        page = book.page()
+        self.assertIn("--rules extended", page)
+        self.assertNotIn("those of the program&#x27;s extended rules", page)
+        changed = decl.Book(f"{self.TEXT} zt", rules="extended")
+        self.assertIn("whose shape 1 / c^2 is not whole", str(self.raises(decl.NoMoments, changed.moments)))
+        self.assertTrue(changed.mean().holds(400 / (1 - none)))
+
+    def test_a_factor_and_many_units(self):
+        text = "port C common 0.3 agg A 1 claims dsev [100 300] poisson agg B 1 claims dsev [100 300] poisson"
+        book, one = decl.Book(text, rules="extended"), decl.Book(self.TEXT, rules="extended")
+        self.assertEqual(book.q(0.99), one.q(0.99))
+        self.assertTrue(book.share_of_tail("A", 0.9).holds(book.tail(0.9).mid / 2))
+        self.assertEqual(book.moments().variance, one.moments().variance)
+        self.assertEqual(book.unit("A").text.splitlines()[0], "port C common 3/10")
+        self.raises(decl.RuleFault, decl.Book, text, bs=100, log2=4)
+        book = decl.Book("port P " + " ".join(f"agg U{at} dfreq [1] dsev [5 10 15]" for at in range(17)), rules="extended")
+        self.assertEqual((book.bs, len(book.units)), (5, 17))
+        self.assertTrue(all(line[1].holds(10) for line in book.by_unit(0.9)[:-1]))
+        self.raises(decl.RuleFault, decl.Book, book.text)
+
+    def test_two_programs_and_books_side_by_side(self):
+        pair = decl.coarser("agg G 2 claims dsev [101 298] mixed gamma 0.3", 100, rules="extended")
+        self.assertTrue(pair.mean().holds(399) and pair.rules == pair.book(True).rules == "extended")
+        self.assertEqual(pair.unit("G").mean(), pair.mean())
+        pair = decl.between("port C common 0.3 agg A 2 claims 100 xs 0 sev 40 * expon poisson agg B 1 claims dsev [7] poisson", 10, rules="extended")
+        self.assertTrue(pair.mean().low < 2 * 40 * (1 - math.exp(-2.5)) + 7 < pair.mean().high)
+        books = {"one": self.TEXT, "two": self.TEXT.replace("0.3", "0.25")}
+        table = decl.compare(books, ["mean", "pmf:0"], rules="extended")
+        self.assertTrue(table[1][2].holds(Fraction(8, 9) ** 16))
+        self.assertEqual(decl.run_many(books, "mean", processes=1, rules="extended")[0][1].written, table[0][1].written)
+        self.assertIn("mixed gamma 0.25", decl.compare_page(books, [10], rules="extended"))
+
+
 class Tables(Case):
     def test_return_periods(self):
         table = decl.Book(DICE).return_periods([10, 100])

@@ -255,7 +255,7 @@ class Refused(Case):
         good = {"name": "A", "claims": 2, "amounts": [1, 2], "count": "poisson", "parameter": "", "occurrence": "", "limit": "", "attachment": ""}
         rows = [
             ({"count": "fixed", "claims": 2.5}, "claims", "has to be whole"),
-            ({"count": "mixed gamma", "parameter": 0.3}, "count", "mixed gamma c needs"),
+            ({"count": "mixed gamma", "parameter": 0}, "count", "mixed gamma c needs"),
             ({"limit": "inf", "attachment": 5}, "limit", "No claim can exceed"),
             ({"occurrence": "net of 5 xs 0 and 5 xs 2"}, "occurrence", "overlap"),
             ({"occurrence": "net 5 xs 0"}, "occurrence", "is no clause"),
@@ -264,6 +264,10 @@ class Refused(Case):
         ]
         for change, column, told in rows:
             self.refused(2, column, told, [good, {**good, "name": "B", **change}])
+        rows = [good, {**good, "name": "B", "count": "mixed gamma", "parameter": 0.3}]
+        self.refused(2, "count", "by the standard rules 1 / c^2 has to be whole", rows, rules="standard")
+        rows = [{**good, "name": f"L{at}", "count": "poisson zt"} for at in range(17)]
+        self.assertEqual(self.raises(decl.RuleFault, decl.from_frame, rows).rule, 30)
 
     def test_columns(self):
         self.refused(None, "name", "is missing", [{"nam": "A", "claims": 1, "amounts": [1]}])
@@ -293,8 +297,49 @@ class Refused(Case):
         self.assertIn("row 1, column `loss_ratio`: the loss ratio is 6500%: is it `65%`?", found[2])
 
 
+class Wider(Case):
+    """Tables that the extended rules take, and the standard ones do not."""
+
+    def test_forty_lines(self):
+        rows = [{"name": f"L{at}", "claims": Fraction(1 + at, 8), "amounts": [1, 2], "count": "poisson"} for at in range(39)]
+        rows.append({"name": "Whole", "claims": 2, "amounts": [3], "count": "fixed"})
+        book = decl.from_frame(rows, log2=8)
+        self.assertEqual((book.rules, len(book.units), book.pooled, book.changed), ("extended", 40, (), 0))
+        year = Year.poisson(Fraction(sum(range(1, 40)), 8), {1: 1, 2: 1}, 256)
+        self.assertTrue(book.mean().holds(year.mean + 6))
+        self.assertEqual(int(book.q(0.9)), year.q(Fraction(9, 10)) + 6)
+        row = book.share_of_tail("Whole", 0.9)
+        self.assertTrue(row.holds(6))
+        self.assertEqual((row.rules, book.kappa("L0", 150).rules, book.unit("L3").rules), ("extended",) * 3)
+        self.assertEqual(book.ask("cotail:Whole:.123456789"), book.share_of_tail("Whole", "0.123456789"))
+
+    def test_shapes_lists_and_factors(self):
+        """By the standard rules where these take the table, else by the extended ones."""
+        good = {"name": "A", "claims": 2, "amounts": [1, 2]}
+        for rules, change, settings in (
+            ("standard", {}, {}),
+            ("standard", {}, {"common": 0.5}),
+            ("extended", {"count": "mixed gamma 0.3"}, {}),
+            ("extended", {"amounts": [*range(1, 1026)]}, {}),
+            ("extended", {}, {"common": 0.3}),
+            ("extended", {"weights": [Fraction(1, 2**31), 1 - Fraction(1, 2**31)]}, {"rules": "extended"}),
+        ):
+            book = without_warnings(decl.from_frame, [{**good, **change}], log2=4, **settings)
+            self.assertEqual((book.rules, book.changed), (rules, 0), change)
+        rows = [{**good, "weights": [Fraction(1, 2**31), 1 - Fraction(1, 2**31)]}]
+        self.assertTrue(without_warnings(decl.from_frame, rows, log2=4).changed > 0)
+
+    def test_more_lines_than_units(self):
+        """Of 300 lines that are alike 299 are pooled, by the extended rules."""
+        rows = [{"name": f"L{at}", "claims": Fraction(1, 2), "amounts": [1, 2]} for at in range(299)]
+        book = decl.from_frame([*rows, {"name": "Whole", "claims": 2, "amounts": [3]}], log2=9)
+        self.assertEqual((book.rules, book.units, len(book.pooled)), ("extended", ("Pool",), 300))
+        self.assertTrue(book.mean().holds(299 * Fraction(3, 4) + 6))
+        self.assertTrue(book.kappa("L7", 230).holds(book.kappa("L298", 230).mid))
+
+
 class Pooled(Case):
-    """Twenty Poisson lines and a fixed one: 21 units, of which a program has 16."""
+    """Twenty Poisson lines and a fixed one: 21 units, of which a program has 16 by the standard rules."""
 
     CELLS = 256
 
@@ -309,7 +354,7 @@ class Pooled(Case):
         for (a, p), (b, q) in itertools.product([(0, 2), (3, 1), (5, 1)], repeat=2):
             fixed[a + b] += p * q * ONE // 16
         cls.years.append(Year(fixed, 4))
-        cls.book = decl.from_frame(cls.rows, digits=9)
+        cls.book = decl.from_frame(cls.rows, digits=9, rules="standard")
 
     @staticmethod
     def severity(at):
@@ -375,7 +420,7 @@ class Pooled(Case):
     def test_numbers_that_have_to_change(self):
         """Expected numbers of claims of seven digits: written as whole numbers of a part, and told."""
         rows = [{"name": f"L{at}", "claims": 1.234567 + at, "amounts": [1, 2, 3], "weights": [0.333333, 0.333333, 0.333334]} for at in range(17)]
-        book = decl.from_frame(rows)
+        book = decl.from_frame(rows, rules="standard")
         self.assertTrue(0 < book.changed < Fraction(1, 10**6), book.changed)
         mean = sum(Fraction(str(row["claims"])) for row in rows) * Fraction("2.000001")
         self.assertTrue(abs(book.mean().mid - mean) < mean / 10**6)
@@ -383,7 +428,7 @@ class Pooled(Case):
     def test_lines_under_a_common_factor(self):
         """Seventeen lines that are alike: each has a seventeenth of the TVaR and of a year."""
         rows = [{"name": f"L{at}", "claims": 0.25, "amounts": [1, 2]} for at in range(17)]
-        book = decl.from_frame(rows, common=1)
+        book = decl.from_frame(rows, common=1, rules="standard")
         self.assertEqual((book.units, book.changed), (("Pool",), 0))
         page = book.page([10])
         self.assertIn('data-ask="cotail:L16:0.9"', page)
@@ -398,14 +443,14 @@ class Pooled(Case):
     def test_more_claims_than_one_unit_has(self):
         """Of 5,100 expected claims a unit takes 4,096: two pools."""
         rows = [{"name": f"L{at}", "claims": 300, "amounts": [1000], "count": "poisson"} for at in range(17)]
-        book = decl.from_frame(rows)
+        book = decl.from_frame(rows, rules="standard")
         self.assertEqual((book.units, book.bs), (("Pool", "Pool-2"), 1000))
         self.assertTrue(book.mean().holds(5_100_000))
         self.assertTrue(book.mean_of("L3").holds(300_000))
 
     def test_lines_that_cannot_be_pooled(self):
         rows = [{"name": f"L{at}", "claims": 1, "count": "fixed", "amounts": [1]} for at in range(17)]
-        fault = self.raises(decl.TableFault, decl.from_frame, rows)
+        fault = self.raises(decl.TableFault, decl.from_frame, rows, rules="standard")
         self.assertIn("17 lines, of which 17 cannot be pooled", str(fault))
 
 

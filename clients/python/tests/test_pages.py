@@ -27,6 +27,17 @@ def command(*words, given=""):
 
 
 class Commands(Case):
+    def test_rules(self):
+        given = "agg G 2 claims dsev [100 300] mixed gamma 0.25"
+        for words in (["mean"], ["--money", "mean"], ["--table", "10"], ["--coarser", "100", "mean"], ["--between", "--bs", "100", "mean"]):
+            standard, extended = (command("-", *words, "--rules", rules, given=given) for rules in ("standard", "extended"))
+            self.assertEqual((standard[0], standard), (0, extended), words)
+            other = given.replace("0.25", "0.3")
+            self.assertEqual(command("-", *words, "--rules", "extended", given=other)[0], 0, words)
+            self.assertEqual(command("-", *words, given=other)[0], 3, words)
+        self.assertEqual(command("check", "-", "--rules", "extended", given=other)[0], 0)
+        self.assertEqual(command("-", "mean", "--rules", "wide", given=given)[0], 2)
+
     def test_help_and_version(self):
         status, written, _ = command("--help")
         self.assertEqual(status, 0)

@@ -1,6 +1,7 @@
 """Programs of the package `aggregate`: how each is written here, worked by hand, or the place of what has no counterpart."""
 
 import random
+import warnings
 from fractions import Fraction
 
 from support import ROOT, Case, decl, main
@@ -129,8 +130,8 @@ REFUSED = [
     ("agg D dfreq [1] dsev [1 2 3] [0.333 0.333 0.333]", 30, "these to 0.999"),
     ("agg D dfreq [1] dsev [1:3] [1/2 1/2]", 28, "This list has 2 values"),
     ("agg D dfreq [1] dsev [1 2] wts [1/2 1/2]", 32, "This list has 2 values"),
-    ("agg D dfreq [1] dsev [1:1025]", 22, "at most 1024 values"),
-    ("agg D dfreq [1] dsev [1:99999999999]", 22, "at most 1024 values"),
+    ("agg D dfreq [1] dsev [1:65537]", 22, "at most 65,536 values"),
+    ("agg D dfreq [1] dsev [1:99999999999]", 22, "at most 65,536 values"),
     ("agg D dfreq [1] dsev [3:1]", 22, "runs upward"),
     ("agg D dfreq [1] dsev [1:3:0]", 22, "a step above 0"),
     ("agg P [3:1] claims dsev [1] poisson", 8, "runs upward"),
@@ -165,7 +166,7 @@ REFUSED = [
     ("agg P [1/99999999977 1/99999999947] claims dsev [1] geometric", 1, "a number that is too long"),
     ("agg P [2 3] claims [10 20 30] xs 0 dsev [1] poisson", 20, "the same number of entries"),
     ("agg P [2 3] claims [10 20] xs [0 1 2] dsev [1] poisson", 28, "the same number of entries"),
-    ("agg P [1:17] claims dsev [1] poisson", 1, "at most 16 units"),
+    ("agg P [1:257] claims dsev [1] poisson", 1, "at most 256 units"),
     ("port Q agg P-1 dfreq [1] dsev [1] agg P [1 2] claims dsev [1] poisson", 39, "the name P-1"),
     ("port Q agg A.B dfreq [1] dsev [1] agg A:B dfreq [1] dsev [1]", 39, "the name A-B"),
     ("agg A 10 claims sev.One poisson", 17, "a stored program"),
@@ -206,6 +207,31 @@ class Translations(Case):
             fault = self.raises(decl.Untranslated, decl.translate, given)
             self.assertEqual((fault.line, fault.column, fault.status), (1, column, None), given)
             self.assertIn(words, fault.reason, given)
+
+    def test_what_needs_the_extended_rules(self):
+        """It is written, keeps these rules, and is told once with its place; a book by these rules takes it."""
+        many = "agg P [1:17] claims 5 xs 0 dsev [2 9] poisson"
+        given = {
+            "agg G 2 claims dsev [1:6] mixed gamma 0.3": (27, "`mixed gamma 0.3`, whose shape 1 / c^2 is not whole,"),
+            "agg G 2 claims dsev [1:6] mixed gamma 1.25": (27, "`mixed gamma 1.25`"),
+            "port C common 2/3 agg A 1 claims dsev [1] poisson": (15, "`common 2/3`, whose shape"),
+            "agg D dfreq [1] dsev [1:1025]": (22, "A list of more than 1,024 values"),
+            many: (1, "A portfolio of more than 16 units"),
+            "agg G 2 claims dsev [1:6] mixed gamma 0.25": (None, None),
+        }
+        for text, (column, words) in given.items():
+            with warnings.catch_warnings(record=True) as told:
+                warnings.simplefilter("always")
+                written = decl.translate(text)
+            self.assertEqual(len(told), words is not None, text)
+            for each in told:
+                self.assertEqual((each.category, each.message.column, each.filename), (decl.DeclWarning, column, __file__))
+                self.assertIn(f"{words}", str(each.message))
+                self.assertIn('needs the extended rules: rules="extended"', str(each.message))
+                self.raises(decl.RuleFault, decl.check, written)
+            decl.check(written, rules="extended")
+            if text == many:
+                self.assertTrue(decl.Book(written, rules="extended", log2=6).mean().holds(17 * 9 * Fraction(7, 2)))
 
     def test_the_message_shows_the_place(self):
         given = "agg A note{\u00e9}\ndfreq [1]"

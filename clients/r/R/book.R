@@ -10,12 +10,11 @@ decl_most_lost <- 1e-4
 #
 # The bucket is the greatest that divides all amounts, the grid the least in which a probability of inside is sure to lie, else the
 # largest that takes the text; either can be given. digits are those of an answer in buckets, of which there are fewer where it needs a
-# larger width than there is. With rules = "extended" a share of the tail mean, cotail, has numbers wherever the tail mean has, also under a
-# common factor.
+# larger width than there is. rules are those of decl_run.
 decl_book <- function(text, bs = NULL, log2 = NULL, digits = 6, inside = "0.999999", timeout = 0, rules = NULL) {
-    size <- if (is.null(bs)) decl_bucket(text, timeout = timeout) else decl_written(decl_value(decl_spelled(bs, "bs")))
+    size <- if (is.null(bs)) decl_bucket(text, timeout = timeout, rules = rules) else decl_written(decl_value(decl_spelled(bs, "bs")))
     if (is.null(log2)) {
-        log2 <- tryCatch(decl_grid(text, inside, bs = size, timeout = timeout), decl_fault = function(fault) {
+        log2 <- tryCatch(decl_grid(text, inside, bs = size, timeout = timeout, rules = rules), decl_fault = function(fault) {
             if (is.null(fault$log2)) stop(fault)
             lost <- 1 - as.numeric(fault$low)
             if (lost > decl_most_lost) {
@@ -24,7 +23,7 @@ decl_book <- function(text, bs = NULL, log2 = NULL, digits = 6, inside = "0.9999
             fault$log2
         })
     } else {
-        decl_check(text, bs = size, log2 = log2, timeout = timeout)
+        decl_check(text, bs = size, log2 = log2, timeout = timeout, rules = rules)
     }
     structure(class = "decl_book", list(
         text = text, bs = size, log2 = log2, cells = 2^log2, digits = digits, timeout = timeout, rules = rules

@@ -32,7 +32,8 @@
 #
 # text     one string, several lines, or raw bytes
 # asks     words such as "mean", "q:0.995", "layer:10xs5", with amounts in buckets
-# rules    "extended" for shares of the tail mean wherever the tail mean has numbers, also under a common factor
+# rules    "extended" for up to 256 units, lists of 65,536 values, finer weights and gamma counts of any shape, and for shares of the
+#          tail mean wherever the tail mean has numbers
 # numeric  FALSE gives the ends as the program wrote them, exact decimals as text; TRUE gives doubles, low ends
 #          rounded down and high ends up: an end beyond the grid is then infinite, and one that is not there is NA
 # timeout  seconds after which the program and what it started are ended, by timeout of coreutils; 0 for none
@@ -88,8 +89,8 @@ decl_verify <- function(text, steps, bs = NULL, log2 = NULL, timeout = 0) {
 # The greatest size of a bucket that divides every amount, limit and attachment of the text, as text: "250", "1/2".
 #
 # Where a clause takes a share, its outcomes have to be whole numbers of buckets too. Then the size is the greatest that
-# divides these as well, found by asking the program; with shares = FALSE the written amounts alone count.
-decl_bucket <- function(text, shares = TRUE, timeout = 0) {
+# divides these as well, found by asking the program; with shares = FALSE the written amounts alone count. rules are those of decl_run.
+decl_bucket <- function(text, shares = TRUE, timeout = 0, rules = NULL) {
     tokens <- decl_tokens(decl_fmt(text, timeout))
     size <- Reduce(decl_common, decl_amounts(tokens), c(0, 1))
     if (size[1] == 0) size <- c(1, 1)
@@ -100,24 +101,24 @@ decl_bucket <- function(text, shares = TRUE, timeout = 0) {
         found <- decl_written(decl_reduced(size[1], size[2] * part))
         if (!shares) return(found)
         fault <- tryCatch({
-            decl_least_grid(text, bs = found, timeout = timeout)
+            decl_least_grid(text, bs = found, timeout = timeout, rules = rules)
             return(found)
         }, decl_fault = function(fault) if (identical(fault$rule, off_grid)) fault else stop(fault))
     }
     stop(fault)
 }
 
-# The rules whose limits depend on log2: on far amounts, and on the sum before an aggregate clause.
-decl_sizes <- c(8L, 21L)
+# The rules whose limits depend on log2: on far amounts, on the sum before an aggregate clause, and on the mean of all units.
+decl_sizes <- c(8L, 21L, 30L)
 
 # The least log2 with which the text keeps every rule: 1, or 13 where one of its numbers needs the higher limits of a long
 # grid. Raises the fault of a text that no grid takes.
-decl_least_grid <- function(text, bs = NULL, timeout = 0) {
+decl_least_grid <- function(text, bs = NULL, timeout = 0, rules = NULL) {
     tryCatch({
-        decl_check(text, bs = bs, log2 = 1, timeout = timeout)
+        decl_check(text, bs = bs, log2 = 1, timeout = timeout, rules = rules)
         return(1)
     }, decl_fault = function(fault) if (isTRUE(fault$rule %in% decl_sizes)) fault else stop(fault))
-    decl_check(text, bs = bs, log2 = 13, timeout = timeout)
+    decl_check(text, bs = bs, log2 = 13, timeout = timeout, rules = rules)
     13
 }
 
@@ -125,15 +126,15 @@ decl_least_grid <- function(text, bs = NULL, timeout = 0) {
 # a decimal, a fraction or a percent. digits and width are those of the probability that is asked of each grid. Grids are
 # tried from the least one up, since a longer one takes more time; one at which the text breaks a rule on sizes is passed
 # over. An error of class decl_fault, with the fields log2, low and high of the largest grid that takes the text, where that
-# is not sure to hold so much; the fault of the text where no grid takes it.
-decl_grid <- function(text, inside = "0.999999", bs = NULL, digits = 9, width = 1e9, make = NULL, timeout = 0) {
+# is not sure to hold so much; the fault of the text where no grid takes it. rules are those of decl_run.
+decl_grid <- function(text, inside = "0.999999", bs = NULL, digits = 9, width = 1e9, make = NULL, timeout = 0, rules = NULL) {
     wanted <- decl_digits(decl_value(decl_spelled(inside, "inside")), digits)
     largest <- 16
     last <- NULL
     for (log2 in seq_len(largest)) {
         found <- tryCatch(
             decl_run(text, sprintf("cdf:%d", 2^log2 - 1), bs = bs, log2 = log2, digits = digits, width = width,
-                     make = make, timeout = timeout),
+                     make = make, timeout = timeout, rules = rules),
             decl_fault = function(fault) if (isTRUE(fault$rule %in% decl_sizes)) fault else stop(fault)
         )
         if (inherits(found, "decl_fault")) {

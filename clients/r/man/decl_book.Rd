@@ -26,7 +26,7 @@ decl_return_periods(book, years = c(10, 50, 100, 200, 250), numeric = FALSE)
   \item{digits}{digits of an answer in buckets; there are fewer where it needs a larger width than there is}
   \item{inside}{a probability, as a number or a text}
   \item{timeout}{seconds for one call of the program; 0 for none}
-  \item{rules}{those of \code{\link{decl_run}}, for all asks about the book}
+  \item{rules}{those of \code{\link{decl_run}}, for the text and all asks about the book}
   \item{book, x}{a book of \code{decl_book}}
   \item{asks}{asks of the program with amounts in money, as \code{"layer:80000xs20000"}, and \code{"sf:x"}, the probability of more than x}
   \item{numeric}{FALSE: ends as decimals in text. TRUE: doubles, low ends rounded down and high ends up}

@@ -7,8 +7,9 @@
   least \code{log2} with which so much probability is sure to lie inside the grid.
 }
 \usage{
-decl_bucket(text, shares = TRUE, timeout = 0)
-decl_grid(text, inside = "0.999999", bs = NULL, digits = 9, width = 1e9, make = NULL, timeout = 0)
+decl_bucket(text, shares = TRUE, timeout = 0, rules = NULL)
+decl_grid(text, inside = "0.999999", bs = NULL, digits = 9, width = 1e9, make = NULL, timeout = 0,
+          rules = NULL)
 }
 \arguments{
   \item{text}{a program of the language}
@@ -18,6 +19,7 @@ decl_grid(text, inside = "0.999999", bs = NULL, digits = 9, width = 1e9, make = 
   \item{digits, width}{those of the probability that is asked of each grid}
   \item{make}{the number of a generated program, in place of the text}
   \item{timeout}{seconds after which the program is ended; 0 for none}
+  \item{rules}{those of \code{\link{decl_run}}}
 }
 \value{
   \code{decl_bucket}: a text such as \code{"250"} or \code{"1/2"}. \code{decl_grid}: a number from 1 to 16. An error of class

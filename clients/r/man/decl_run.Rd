@@ -26,8 +26,9 @@ decl_made(number, timeout = 0)
   \item{numeric}{FALSE: ends are exact decimals as text. TRUE: doubles, low ends rounded down and high ends up; an end beyond the grid
     is infinite, and one that is not there is NA}
   \item{timeout}{seconds after which the program is ended; 0 for none}
-  \item{rules}{\code{"standard"}, as where it is NULL, or \code{"extended"}: then a share of the tail mean, \code{cotail}, has numbers wherever
-    the tail mean has, also under a common factor and at a rare total, and its level has up to 9 digits}
+  \item{rules}{\code{"standard"}, as where it is NULL, or \code{"extended"}: then a program may have 256 units, lists of 65,536 values, weights
+    of a common denominator of 2^40 and gamma counts and common factors of any shape, and a share of the tail mean, \code{cotail}, has
+    numbers wherever the tail mean has, at levels of up to 9 digits}
 }
 \details{
   A number is passed on as the decimal or the fraction that it is; a text such as \code{"1/3"} as it is. The program is the one that the

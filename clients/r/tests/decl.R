@@ -178,6 +178,26 @@ test("units under a common factor", {
     found <- fault(decl_ask(decl_book(text), "cotail:A:0.8"))
     stopifnot(found$told == "decl: ask 0: no share under a common factor", fault(decl_check(text, rules = "wide"))$status == 2L)
 })
+test("shapes, units, lists and weights of the extended rules", {
+    # shape 100/9, and the same as a common factor; twice as large on buckets of 2
+    text <- "agg G 2 claims dsev [2] mixed gamma 0.3"
+    found <- fault(decl_run(text, "pmf:0", log2 = 4))
+    stopifnot(found$rule == 18L, grepl("the extended rules take any", found$sentence))
+    stopifnot(identical(decl_run(text, "pmf:3", bs = 2, log2 = 4, rules = "extended")$low, "0.165925"))
+    stopifnot(decl_bucket(text, rules = "extended") == "2", decl_grid(text, 0.9, bs = 2, rules = "extended") == 3)
+    stopifnot(fault(decl_bucket(text))$rule == 18L, fault(decl_grid(text))$rule == 18L, fault(decl_book(text))$rule == 18L)
+    book <- decl_book(text, rules = "extended")
+    stopifnot(identical(decl_ask(book, "pmf:6")$low, "0.165925"), identical(mean(book)$high, "4"))
+    common <- "port C common 0.3 agg A 1 claims dsev [1] poisson agg B 1 claims dsev [1] poisson"
+    stopifnot(identical(decl_run(common, "pmf:3", log2 = 4, rules = "extended")$high, "0.165926"))
+    port <- paste(c("port P", sprintf("agg U%d dfreq [1] dsev [1:3]", 1:40)), collapse = "\n")
+    stopifnot(fault(decl_check(port))$rule == 22L, identical(decl_run(port, "mean", rules = "extended")$low, "80.000000"))
+    large <- paste(c("port P", sprintf("agg U%d 1 claims dsev [1] poisson zt", 1:17)), collapse = "\n")
+    found <- fault(decl_check(large, rules = "extended"))
+    stopifnot(found$rule == 30L, grepl("at most 16 have zt or zm", found$sentence))
+    long <- "agg D dfreq [1] dsev [1:2000]"
+    stopifnot(fault(decl_book(long))$rule == 4L, identical(mean(decl_book(long, rules = "extended"))$low, "1000.5"))
+})
 test("shares of the tail mean by the extended rules", {
     # a third of the years come to 1 exactly, so that the quantile is not sure: 4 of the others; and the mean, 3
     text <- "port P agg A dfreq [1] dsev [1 3 5] agg B dfreq [1] dsev [0]"
@@ -188,8 +208,10 @@ test("shares of the tail mean by the extended rules", {
 })
 rules <- file.path(here, "..", "..", "sentences.txt")
 if (file.exists(rules)) test("the sentences of the rules are those of the one file", {
-    told <- sub("^[0-9]+\t", "", readLines(rules))
-    stopifnot(identical(gsub("{bucket}", "decl_bucket(text)", told, fixed = TRUE), decl_sentences))
+    told <- strsplit(readLines(rules), "\t", fixed = TRUE)
+    found <- character(length(decl_sentences))
+    found[as.integer(vapply(told, `[`, "", 1L))] <- gsub("{bucket}", "decl_bucket(text)", vapply(told, `[`, "", 2L), fixed = TRUE)
+    stopifnot(identical(found, decl_sentences))
 })
 test("several lines, and raw bytes", {
     stopifnot(identical(decl_run(c("agg D dfreq [1]", "dsev [1:6]"), "mean")$low, "3.500000"))

@@ -14,6 +14,7 @@ from .calls import report
 from .compare import compare_page
 from .cautions import cautions
 from .figures import plain
+from .rules import Rules
 from .words import ASKS
 
 #: The words that may stand before a file, and those that make a page.
@@ -48,7 +49,8 @@ def parser() -> argparse.ArgumentParser:
     made.add_argument("--between", action="store_true", help="two programs hold a book of continuous severities between them")
     for name, told in (("bs", "size of a bucket in money"), ("log2", "the grid has 2^N buckets"), ("digits", "digits of the ends")):
         made.add_argument(f"--{name}", help=told)
-    for name in ("width", "mwidth", "format", "rules"):
+    made.add_argument("--rules", choices=("standard", "extended"), help="the rules by which the program is accepted")
+    for name in ("width", "mwidth", "format"):
         made.add_argument(f"--{name}", help="as in docs/USAGE.md, without --money")
     made.add_argument("-o", "--output", metavar="PAGE", help="where a page is put; without it, on the standard output")
     for name, told in (("title", "the title of a page"), ("currency", "the currency of its amounts"), ("date", "its date")):
@@ -69,11 +71,12 @@ def text_of(name: str) -> bytes:
 def book_of(given: argparse.Namespace, file: str) -> Union[Between, Book]:
     """The book of a file with the bucket, grid and digits that are given, or the two programs that hold it between them."""
     whole = {name: int(getattr(given, name)) for name in ("log2", "digits") if getattr(given, name) is not None}
+    rules: Rules = given.rules or "standard"
     if given.between:
-        return between(text_of(file), given.bs, log2=whole.get("log2"))
+        return between(text_of(file), given.bs, log2=whole.get("log2"), rules=rules)
     if given.coarser is not None:
-        return coarser(text_of(file), given.coarser)
-    return Book(text_of(file), bs=given.bs, **whole)
+        return coarser(text_of(file), given.coarser, rules=rules)
+    return Book(text_of(file), bs=given.bs, rules=rules, **whole)
 
 
 def page(given: argparse.Namespace) -> str:
@@ -104,7 +107,7 @@ def checked(given: argparse.Namespace) -> str:
         print(f"decl: {each.told}", file=sys.stderr)
     with warnings.catch_warnings(record=True) as told:
         warnings.simplefilter("always")
-        book = Book(text, bs=given.bs)
+        book = Book(text, bs=given.bs, rules=given.rules or "standard")
     for found in told:
         print(f"decl: {found.message}", file=sys.stderr)
     return f"{book.name}: {len(book.units)} {'units' if len(book.units) > 1 else 'unit'}, {book.cells:,} buckets of {plain(book.bs)}\n"

@@ -8,7 +8,7 @@ from typing import TYPE_CHECKING, Any, Dict, Iterable, List, Optional, Sequence,
 
 from . import program
 from .cautions import DEVIATIONS, MOST_LOST, grid_caution, level_outside, warn_of
-from .calls import Number, Rules, Text, fmt, run, spelled
+from .calls import Number, Text, fmt, run, spelled
 from .choose import LARGEST, NOTE, bucket, grid, least_grid, value_of
 from .faults import AskFault, GridTooSmall, NeedsWidth, NoMoments, NumberFault
 from .figures import decimals, plain
@@ -18,6 +18,7 @@ from .pages import Date, book_page, head_of
 from .pictures import Picture, alone
 from .plan import Plan, plan_in
 from .reports import Report, Row, ask_in_money
+from .rules import Rules
 from .several import of_amount, of_level
 from .shares import shares_of_tail
 from .tables import Cell, Table
@@ -63,7 +64,7 @@ class Book:
     """The book that a text declares, in money.
 
     `bs` is the size of a bucket in money and `log2` the size of the grid, as they were chosen or given; `cells` is the
-    number of buckets, `name` the name of the book and `units` has those of the units. Amounts are given as numbers, or as texts
+    number of buckets, `name` the name of the book and `units` has those of the units. `rules` are those of `run`. Amounts are given as numbers, or as texts
     such as `"1/3"`; each answer is a `Row` with two ends, `low` and `high`, that hold the declared value. The ends that the
     program gives, in buckets, are proved. At amounts between two buckets or past the grid, and for `sf`, the client works
     the ends out from those, and all amounts in money, in exact fractions: this step is tested and not proved.
@@ -77,6 +78,7 @@ class Book:
         log2: Optional[int] = None,
         digits: int = 6,
         inside: Number = "0.999999",
+        rules: Rules = "standard",
         timeout: Optional[float] = None,
     ) -> None:
         """The bucket is the greatest that divides all amounts, the grid the least in which a probability of `inside` is
@@ -86,13 +88,14 @@ class Book:
         warn_of(text)
         self.text = program.as_text(text)
         self.digits = digits
+        self.rules: Rules = rules
         self.timeout = timeout
-        self.bs = bucket(text, timeout=timeout) if bs is None else exact(bs)
+        self.bs = bucket(text, rules=rules, timeout=timeout) if bs is None else exact(bs)
         self._lost = Fraction(0)
         self.log2 = self._grid(inside) if log2 is None else log2
         self.cells = 1 << self.log2
         self.spelling = fmt(text, timeout=timeout)
-        self.plan: Plan = plan_in(self.spelling)
+        self.plan: Plan = plan_in(self.spelling, rules=rules)
         self.units = tuple(unit.name for unit in self.plan.units)
         self.name = self.plan.name
         self._known: Dict[Tuple[Rules, str], Row] = {}
@@ -110,7 +113,7 @@ class Book:
 
     def _grid(self, inside: Number) -> int:
         try:
-            return grid(self.text, inside, bs=self.bs, timeout=self.timeout)
+            return grid(self.text, inside, bs=self.bs, rules=self.rules, timeout=self.timeout)
         except GridTooSmall as fault:
             self._lost = 1 - Fraction(fault.row.low or 0)
             return fault.log2
@@ -121,9 +124,9 @@ class Book:
     def _repr_html_(self) -> str:
         return f"<p>{html.escape(self.name)}: {html.escape(repr(self)[1:-1])}</p>{self.return_periods()._repr_html_()}"
 
-    def _rows(self, asks: Iterable[str], rules: Rules = "standard") -> List[Row]:
-        """The rows of the asks by these rules, in buckets; each is asked once."""
-        asks = list(asks)
+    def _rows(self, asks: Iterable[str], by: Optional[Rules] = None) -> List[Row]:
+        """The rows of the asks by these rules, else by those of the book, in buckets; each is asked once."""
+        asks, rules = list(asks), by or self.rules
         wanted = [ask for ask in dict.fromkeys(asks) if (rules, ask) not in self._known]
         for first in range(0, len(wanted), MOST_ASKS):
             self._known.update(((rules, row.ask), row) for row in self._asked(wanted[first : first + MOST_ASKS], rules))
@@ -200,8 +203,8 @@ class Book:
         """The share of a unit in the tail mean of the total: the mean of its outcome in the worst `1 - p` of the total. The shares of
         all units add up to the tail mean. Both ends are None where the tail mean is beyond the grid (`state` is `beyond`). Where the
         program's standard rules have no number it is asked by its extended rules: under a common factor, at a level of more than 4
-        digits, where the total at the quantile is rare, and where the quantile is not sure to be one total. The row says so: its
-        `rules` are `standard` or `extended`. A level of more than 9 digits is enclosed by the two nearest ones."""
+        digits, where the total at the quantile is rare, and where the quantile is not sure to be one total. A book by the extended rules
+        is asked by them alone. The row says so: its `rules` are `standard` or `extended`. A level of more than 9 digits is enclosed by the two nearest ones."""
         level = exact(p)
         return shares_of_tail(self, [unit], [level])[level][0]
 
@@ -296,7 +299,7 @@ class Book:
     def unit(self, name: str, *, log2: Optional[int] = None) -> "Book":
         """The book of one unit alone, with the same bucket, and with the factor that the units share; its grid is chosen for it, unless
         it is given."""
-        return Book(self._line(name), bs=self.bs, log2=log2, digits=self.digits, timeout=self.timeout)
+        return Book(self._line(name), bs=self.bs, log2=log2, digits=self.digits, rules=self.rules, timeout=self.timeout)
 
     def _line(self, name: str) -> str:
         """The program of one unit, with the severities that the text names, and the factor that it shares with the others."""
@@ -310,7 +313,8 @@ class Book:
     def mean_of(self, name: str) -> Row:
         """The mean of a unit, which is the same on every grid: on the least one that takes the unit."""
         if name not in self._means:
-            self._means[name] = self.unit(name, log2=least_grid(self._line(name), bs=self.bs, timeout=self.timeout)).mean()
+            log2 = least_grid(self._line(name), bs=self.bs, rules=self.rules, timeout=self.timeout)
+            self._means[name] = self.unit(name, log2=log2).mean()
         return self._means[name]
 
     def _members(self) -> Dict[str, str]:
@@ -327,17 +331,18 @@ class Book:
 
     def _mean_of_text(self, text: str) -> Row:
         """The mean of another program, which is the same on every grid: on the least one that takes it."""
-        size = bucket(text, timeout=self.timeout)
-        log2 = least_grid(text, bs=size, timeout=self.timeout)
-        return Book(text, bs=size, log2=log2, digits=self.digits, timeout=self.timeout).mean()
+        size = bucket(text, rules=self.rules, timeout=self.timeout)
+        log2 = least_grid(text, bs=size, rules=self.rules, timeout=self.timeout)
+        return Book(text, bs=size, log2=log2, digits=self.digits, rules=self.rules, timeout=self.timeout).mean()
 
     def _at_least(self, text: str, reach: Optional[Fraction]) -> "Book":
         """The book of another program, with the same digits; on a grid that goes past `reach`, in money, where one does, else on one that
         is chosen."""
-        size = bucket(text, timeout=self.timeout)
-        log2 = None if reach is None else max(least_grid(text, bs=size, timeout=self.timeout), math.ceil(reach / size).bit_length())
+        size = bucket(text, rules=self.rules, timeout=self.timeout)
+        least = 1 if reach is None else least_grid(text, bs=size, rules=self.rules, timeout=self.timeout)
+        log2 = None if reach is None else max(least, math.ceil(reach / size).bit_length())
         log2 = log2 if log2 is None or log2 <= LARGEST else None
-        return Book(text, bs=size, log2=log2, digits=self.digits, timeout=self.timeout)
+        return Book(text, bs=size, log2=log2, digits=self.digits, rules=self.rules, timeout=self.timeout)
 
     def tower(
         self, layers: Iterable[Written], reinstatements: Union[None, int, Sequence[Optional[int]]] = None, at: Union[Number, Sequence[Number]] = 1
@@ -366,7 +371,7 @@ class Book:
         """The exact mean, variance and third central moment of the total, or of a unit, in money and without the program.
 
         They follow from the text where no unit has an aggregate clause, or a poisson count with `zt` or `zm`, whose mean is no
-        fraction; else `NoMoments` is raised. Under a common factor the variance has the factor's part: its own variance times the
+        fraction, nor a gamma count with them whose shape is not whole; else `NoMoments` is raised. Under a common factor the variance has the factor's part: its own variance times the
         square of the mean, so times the product of the means of each two units.
         """
         if unit is None or unit in self.units:
@@ -394,8 +399,10 @@ class Book:
     def each(self, words: Iterable[str]) -> List[Row]:
         """The answers to several asks in money, by few calls of the program."""
         words = list(words)
-        inside = [in_buckets(word, self.bs, self.cells) for word in words]
-        self._rows(ask for ask in inside if ask is not None and (self.plan.common is None or not ask.startswith("cotail:")))
+        digits = DIGITS if self.rules == "extended" else SHARE_DIGITS
+        inside = [in_buckets(word, self.bs, self.cells, digits) for word in words]
+        has_shares = self.rules == "extended" or self.plan.common is None
+        self._rows(ask for ask in inside if ask is not None and (has_shares or not ask.startswith("cotail:")))
         return [self.ask(word) for word in words]
 
     def inside(self) -> Row:
@@ -485,15 +492,15 @@ class Book:
         return book_page(self, [exact(each) for each in years], head_of(title or self.name, currency, date))
 
 
-def in_buckets(word: str, bs: Fraction, cells: int) -> Optional[str]:
+def in_buckets(word: str, bs: Fraction, cells: int, share_digits: int = SHARE_DIGITS) -> Optional[str]:
     """The ask of the program with which an ask in money is answered, where that is one: at a whole number of buckets of the grid,
-    or without an amount; else None."""
+    or without an amount; else None. The level of a share of the tail mean has at most so many digits."""
     kind, *parts = word.split(":")
     try:
         if kind in ("price", "mean"):
             return word
         if kind in ("q", "tail", "cotail"):
-            digits = SHARE_DIGITS if kind == "cotail" else DIGITS
+            digits = share_digits if kind == "cotail" else DIGITS
             return ":".join([kind, *parts[:-1], one(exact(parts[-1]), digits, kind)])
         if kind not in ("pmf", "cdf", "joint", "kappa"):
             return None

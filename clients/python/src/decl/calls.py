@@ -2,13 +2,14 @@
 
 from decimal import Decimal
 from fractions import Fraction
-from typing import Iterable, List, Literal, Optional, Type, Union
+from typing import Iterable, List, Optional, Type, Union
 
 from . import program
 from .cautions import warn_of
 from .faults import AskFault, BadAnswer, BadStep
 from .hints import steps_hint
 from .reports import Report, read_report
+from .rules import Rules
 
 #: Larger than any grid, so the program decides on the text and computes nothing.
 PAST_EVERY_GRID = "pmf:999999999"
@@ -16,7 +17,6 @@ PAST_EVERY_GRID = "pmf:999999999"
 Text = Union[str, bytes]
 Asks = Union[str, Iterable[str]]
 Number = Union[int, Fraction, Decimal, float, str]
-Rules = Literal["standard", "extended"]
 
 
 def spelled(value: Number) -> str:
@@ -60,9 +60,9 @@ def run(
 
     `asks` are words such as "mean", "q:0.995" or "layer:10xs5", with amounts in buckets. `bs` is the size of a bucket
     in money; `log2`, `digits`, `width`, `mwidth`, `make` and `rules` are the options of the program of these names (the table
-    of options in docs/USAGE.md), and None leaves one out. By the rules "extended" a share of the tail mean, `cotail`, has
-    numbers wherever the tail mean has, also under a common factor. `ends` is the type of the ends, `Fraction` or `Decimal`.
-    `timeout` is in seconds. Raises a `DeclError` where there is no whole report.
+    of options in docs/USAGE.md), and None leaves one out. The rules "extended" take up to 256 units, lists of 65,536 values, finer
+    weights and gamma counts of any shape, and a share of the tail mean, `cotail`, has numbers wherever the tail mean has. `ends` is
+    the type of the ends, `Fraction` or `Decimal`. `timeout` is in seconds. Raises a `DeclError` where there is no whole report.
     """
     warn_of(text)
     asks = listed(asks)

@@ -9,12 +9,13 @@ from typing import Dict, List, Optional, Tuple
 from .calls import Number, Text, check, fmt, run, spelled
 from .faults import GridTooSmall, RuleFault
 from .reports import Row
+from .rules import Rules
 
 NOTE = re.compile(r"note\{[^{}]*\}")
 TOKEN = re.compile(r"note\{[^{}]*\}|\d+/\d+|(?:\d+\.?\d*|\.\d+)%?|(?:sev\.)?[A-Za-z][A-Za-z0-9_-]*|[\[\]:,!]")
 OFF_GRID_CESSION = 13
-#: The rules whose limits depend on `log2`: on far amounts, and on the sum before an aggregate clause.
-SIZES = (8, 21)
+#: The rules whose limits depend on `log2`: on far amounts, on the sum before an aggregate clause, and on the mean of all units.
+SIZES = (8, 21, 30)
 #: The greatest `log2`, and the greatest up to which these two limits are the lower ones.
 LARGEST, LARGEST_SHORT = 16, 12
 
@@ -115,24 +116,25 @@ def divisors(number: int) -> List[int]:
     return sorted(found)
 
 
-def least_grid(text: Text, *, bs: Optional[Number] = None, timeout: Optional[float] = None) -> int:
+def least_grid(text: Text, *, bs: Optional[Number] = None, rules: Optional[Rules] = None, timeout: Optional[float] = None) -> int:
     """The least `log2` with which the text keeps every rule: 1, or 13 where one of its numbers needs the higher limits of a long
     grid. Raises the fault of a text that no grid takes."""
     try:
-        check(text, bs=bs, log2=1, timeout=timeout)
+        check(text, bs=bs, log2=1, rules=rules, timeout=timeout)
         return 1
     except RuleFault as fault:
         if fault.rule not in SIZES:
             raise
-    check(text, bs=bs, log2=LARGEST_SHORT + 1, timeout=timeout)
+    check(text, bs=bs, log2=LARGEST_SHORT + 1, rules=rules, timeout=timeout)
     return LARGEST_SHORT + 1
 
 
-def bucket(text: Text, *, shares: bool = True, timeout: Optional[float] = None) -> Fraction:
+def bucket(text: Text, *, shares: bool = True, rules: Optional[Rules] = None, timeout: Optional[float] = None) -> Fraction:
     """The greatest size of a bucket that divides every amount, limit and attachment of the text, as a fraction.
 
     Where a clause takes a share, its outcomes have to be whole numbers of buckets too. Then the size is the greatest
-    that divides these as well, found by asking the program; with `shares=False` the written amounts alone count.
+    that divides these as well, found by asking the program; with `shares=False` the written amounts alone count. `rules` are
+    those of `run`.
     """
     tokens = tokens_of(fmt(text, timeout=timeout))
     size = reduce(common, amounts_of(tokens), Fraction(0)) or Fraction(1)
@@ -144,7 +146,7 @@ def bucket(text: Text, *, shares: bool = True, timeout: Optional[float] = None) 
         parts = {old * new for old in parts for new in divisors(share.denominator)}
     for part in sorted(parts):
         try:
-            least_grid(text, bs=size / part, timeout=timeout)
+            least_grid(text, bs=size / part, rules=rules, timeout=timeout)
         except RuleFault as found:
             if found.rule != OFF_GRID_CESSION:
                 raise
@@ -163,13 +165,14 @@ def grid(
     digits: int = 9,
     width: int = 10**9,
     make: Optional[int] = None,
+    rules: Optional[Rules] = None,
     timeout: Optional[float] = None,
 ) -> int:
     """The least `log2` with which at least so much probability is sure to lie inside the grid.
 
     `inside` is a decimal, a fraction or a percent; a float is taken as the decimal that Python prints for it. `bs` is
-    the size of a bucket in money, `digits` and `width` are those of the probability that is asked of each grid, and
-    `make` takes a made program in place of the text. Grids are tried from the least one up, since a longer one takes more time;
+    the size of a bucket in money, `digits` and `width` are those of the probability that is asked of each grid, `rules` are those of
+    `run`, and `make` takes a made program in place of the text. Grids are tried from the least one up, since a longer one takes more time;
     one at which the text breaks a rule on sizes is passed over. Raises `GridTooSmall` where the largest grid that takes the text
     is not sure to hold so much, and the fault of the text where no grid takes it.
     """
@@ -179,7 +182,7 @@ def grid(
     for log2 in range(1, LARGEST + 1):
         ask = f"cdf:{2**log2 - 1}"
         try:
-            row = run(text, [ask], bs=bs, log2=log2, digits=digits, width=width, make=make, timeout=timeout)[0]
+            row = run(text, [ask], bs=bs, log2=log2, digits=digits, width=width, make=make, rules=rules, timeout=timeout)[0]
         except RuleFault as fault:
             if fault.rule not in SIZES:
                 raise

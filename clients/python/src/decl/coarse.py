@@ -2,6 +2,7 @@
 
 import math
 from fractions import Fraction
+from functools import partial
 from typing import TYPE_CHECKING, Callable, Dict, Iterable, Iterator, List, Optional, Tuple, Union, cast
 
 from .books import LEVELS, RETURN_PERIODS, Book, Terms, exact, price_of
@@ -15,7 +16,7 @@ from .pictures import Picture
 from .plan import Chances, Clause, Plan, Unit, moved, plan_of
 from .program import as_text
 from .reports import Row
-from .rules import DIGITS, LAYERS, VALUES
+from .rules import BOUNDS, DIGITS, LAYERS, Rules
 from .several import of_amount, of_level
 from .tables import Cell, Table
 
@@ -27,6 +28,8 @@ SPELLING = (2, 7, 13, 19)
 #: Counts that rise with their expected number of claims, with `zt` and `zm` too.
 RISING = ("poisson", "mixed", "bernoulli")
 MOST_CELLS = 1 << 20
+#: A list has at most so many values, by each set of rules.
+VALUES = BOUNDS["standard"].values
 #: Asks whose answers rise with the total.
 HELD = ("mean", "q", "tail", "price", "cdf", "sf", "layer")
 #: Two ends.
@@ -145,13 +148,13 @@ def clauses(unit: Unit, bs: Fraction, up: bool) -> Iterator[str]:
     yield outward(unit.aggregate, bs, up, unit)
 
 
-def side(unit: Unit, bs: Fraction, up: bool, timeout: Optional[float]) -> str:
+def side(unit: Unit, bs: Fraction, up: bool, rules: Rules, timeout: Optional[float]) -> str:
     """The unit with its final amounts rounded down or up to whole buckets, in a spelling that the rules take."""
     expected = unit.expected_claims()
-    return with_amounts(unit, rounded(unit.of_a_claim(), bs, up), (expected, expected), bs, up, timeout)
+    return with_amounts(unit, rounded(unit.of_a_claim(), bs, up), (expected, expected), bs, up, rules, timeout)
 
 
-def with_amounts(unit: Unit, chances: Chances, expected: Ends, bs: Fraction, up: bool, timeout: Optional[float]) -> str:
+def with_amounts(unit: Unit, chances: Chances, expected: Ends, bs: Fraction, up: bool, rules: Rules, timeout: Optional[float]) -> str:
     """The unit with these final amounts of a claim, and an expected number of claims between two ends, of which it takes the low
     or the high one; in a spelling that the rules take."""
     amounts = severity(chances, unit)
@@ -160,7 +163,7 @@ def with_amounts(unit: Unit, chances: Chances, expected: Ends, bs: Fraction, up:
         for front, behind in counts(unit, expected, up):
             text = " ".join(f"agg {unit.name} {front} {amounts} {behind} {clause}".split())
             try:
-                least_grid(text, bs=bs, timeout=timeout)
+                least_grid(text, bs=bs, rules=rules, timeout=timeout)
                 return text
             except RuleFault as found:
                 if found.rule not in SPELLING:
@@ -190,11 +193,12 @@ class Between:
         *,
         reach: Optional[Fraction] = None,
         log2: Optional[int] = None,
+        rules: Rules = "standard",
         plan: Optional[Plan] = None,
         source: str = "",
         again: "Optional[Callable[[str], Between]]" = None,
     ) -> None:
-        self.low, self.high, self.bs, self.reach, self.log2 = low, high, bs, reach, log2
+        self.low, self.high, self.bs, self.reach, self.log2, self.rules = low, high, bs, reach, log2, rules
         self.timeout, self.plan = timeout, plan
         self._source, self._again = source, again
         self._books: Dict[bool, Book] = {}
@@ -206,7 +210,7 @@ class Between:
         """The book of the high program, or of the low one."""
         if up not in self._books:
             text = self.high if up else self.low
-            self._books[up] = Book(text, bs=self.bs, log2=self.log2, timeout=self.timeout)
+            self._books[up] = Book(text, bs=self.bs, log2=self.log2, rules=self.rules, timeout=self.timeout)
         return self._books[up]
 
     def ask(self, word: str) -> Row:
@@ -341,7 +345,7 @@ class Between:
         """One unit between two programs, with the factor that the units share."""
         low, high = (self.book(up)._line(name) for up in (False, True))
         plan = None if self.plan is None else Plan(None, [each for each in self.plan.units if each.name == name], self.plan.common)
-        return Between(low, high, self.bs, self.timeout, reach=self.reach, log2=self.log2, plan=plan)
+        return Between(low, high, self.bs, self.timeout, reach=self.reach, log2=self.log2, rules=self.rules, plan=plan)
 
     def mean_of(self, name: str) -> Row:
         """The mean of a unit."""
@@ -379,17 +383,18 @@ class Between:
         return Book._spread(cast(Book, self))
 
 
-def coarser(text: Text, bs: Number, *, timeout: Optional[float] = None) -> Between:
+def coarser(text: Text, bs: Number, *, rules: Rules = "standard", timeout: Optional[float] = None) -> Between:
     """Two programs on buckets of the size `bs` that hold the book of the text between them, whatever its amounts are.
 
     The final amounts of a claim, after the layer and the occurrence clause, are rounded down in one and up in the other, and
-    the number of claims stays as it is. Raises `NotBetween` where that cannot be written as a program.
+    the number of claims stays as it is. `rules` are those of `run`. Raises `NotBetween` where that cannot be written as a program.
     """
     size = exact(bs)
     if size <= 0:
         raise ValueError(f"the size of a bucket is above 0, not {size}")
-    plan = plan_of(text, timeout=timeout)
-    low, high = (plan.head + "\n".join(side(unit, size, up, timeout) for unit in plan.units) for up in (False, True))
+    plan = plan_of(text, rules=rules, timeout=timeout)
+    low, high = (plan.head + "\n".join(side(unit, size, up, rules, timeout) for unit in plan.units) for up in (False, True))
     for each in (low, high):
-        least_grid(each, bs=size, timeout=timeout)
-    return Between(low, high, size, timeout, plan=plan, source=as_text(text), again=lambda other: coarser(other, size, timeout=timeout))
+        least_grid(each, bs=size, rules=rules, timeout=timeout)
+    again = partial(coarser, bs=size, rules=rules, timeout=timeout)
+    return Between(low, high, size, timeout, rules=rules, plan=plan, source=as_text(text), again=again)

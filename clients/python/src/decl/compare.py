@@ -16,6 +16,7 @@ from .faults import DeclError
 from .figures import decimals
 from .pages import Date, compared_page, head_of
 from .reports import Row
+from .rules import Rules
 from .tables import Cell, Table
 
 Books = Mapping[str, Union[Text, Book, Between]]
@@ -47,34 +48,34 @@ def named(name: str, fault: DeclError) -> DeclError:
     return type(fault)(f"book {name}: {fault.told}", **fault.facts)
 
 
-def book_of(name: str, book: Union[Text, Book, Between]) -> Union[Book, Between]:
-    """One of several books."""
+def book_of(name: str, book: Union[Text, Book, Between], rules: Rules) -> Union[Book, Between]:
+    """One of several books; a text is read by these rules."""
     try:
-        return Book(book) if isinstance(book, (str, bytes)) else book
+        return Book(book, rules=rules) if isinstance(book, (str, bytes)) else book
     except DeclError as fault:
         raise named(name, fault) from None
 
 
-def rows_of(name: str, book: Union[Text, Book, Between], asks: Iterable[str]) -> List[Row]:
+def rows_of(name: str, book: Union[Text, Book, Between], asks: Iterable[str], rules: Rules) -> List[Row]:
     """The answers of one of several books."""
-    made = book_of(name, book)
+    made = book_of(name, book, rules)
     try:
         return made.each(asks)
     except DeclError as fault:
         raise named(name, fault) from None
 
 
-def compare(books: Books, asks: Asks, *, differences: bool = True) -> Table:
+def compare(books: Books, asks: Asks, *, differences: bool = True, rules: Rules = "standard") -> Table:
     """A table of books by asks in money; with `differences` also of each answer less that of the first book, as two ends.
 
     `books` has each text or book by its name, and `asks` are those of `Book.ask`, as a list, or by the heads of their columns. Each book
-    is asked by few calls of the program.
+    is asked by few calls of the program. `rules` are those of the texts.
     """
     names = headed(asks)
     for book in books.values():
         if isinstance(book, (str, bytes)):
             warn_of(book)
-    rows = {name: rows_of(name, book, names.values()) for name, book in books.items()}
+    rows = {name: rows_of(name, book, names.values(), rules) for name, book in books.items()}
     if not rows:
         raise ValueError("there is no book to compare")
     first = next(iter(rows))
@@ -93,20 +94,21 @@ def compare_page(
     title: Optional[str] = None,
     currency: Optional[str] = None,
     date: Date = None,
+    rules: Rules = "standard",
 ) -> str:
     """A page of HTML on several books side by side, which fetches nothing: mean, VaR and TVaR of each, each less that of the first book, the
-    exceedance curves in one picture, and the programs. `currency` and `date` stand at its head."""
+    exceedance curves in one picture, and the programs. `currency` and `date` stand at its head; `rules` are those of the texts."""
     if not books:
         raise ValueError("there is no book to compare")
-    made = {name: book_of(name, book) for name, book in books.items()}
+    made = {name: book_of(name, book, rules) for name, book in books.items()}
     return compared_page(made, [exact(each) for each in years], head_of(title or ", ".join(made), currency, date))
 
 
-def answered(given: Tuple[Text, Tuple[str, ...], Optional[float]]) -> Union[List[Row], DeclError]:
+def answered(given: Tuple[Text, Tuple[str, ...], Rules, Optional[float]]) -> Union[List[Row], DeclError]:
     """The answers of a book to asks in money, or its fault."""
-    text, asks, timeout = given
+    text, asks, rules, timeout = given
     try:
-        return Book(text, timeout=timeout).each(asks)
+        return Book(text, rules=rules, timeout=timeout).each(asks)
     except DeclError as fault:
         return fault
 
@@ -130,13 +132,15 @@ def run_many(
     processes: Optional[int] = None,
     progress: Optional[bool] = None,
     keep_faults: bool = False,
+    rules: Rules = "standard",
     timeout: Optional[float] = None,
 ) -> Table:
     """A table of the answers of many books to asks in money: a line for each text, over all processors.
 
     `books` are texts by their names, or texts, which are counted from 0. `processes` are as many as there are processors, unless given.
     A bar of progress is written to the standard error where that is a terminal, or where `progress` says so. The fault of a book is raised,
-    with its name, after the bar; with `keep_faults` its line holds the first line of its fault in place of the answers.
+    with its name, after the bar; with `keep_faults` its line holds the first line of its fault in place of the answers. `rules` are
+    those of the books.
     """
     names = headed(asks)
     texts = dict(books) if isinstance(books, Mapping) else {str(at): text for at, text in enumerate(books)}
@@ -144,7 +148,7 @@ def run_many(
         warn_of(text)
     shown = sys.stderr.isatty() if progress is None else progress
     workers = processes or os.cpu_count() or 1
-    given = ((text, tuple(names.values()), timeout) for text in texts.values())
+    given = ((text, tuple(names.values()), rules, timeout) for text in texts.values())
     method = "fork" if "fork" in multiprocessing.get_all_start_methods() else None
     with ProcessPoolExecutor(workers, multiprocessing.get_context(method)) as pool:
         found = list(counted(pool.map(answered, given, chunksize=max(1, len(texts) // (8 * workers))), len(texts), shown))

@@ -7,7 +7,7 @@ from dataclasses import dataclass
 from fractions import Fraction
 from functools import partial
 from itertools import accumulate
-from typing import Dict, List, Optional, Tuple
+from typing import Any, Dict, List, Optional, Tuple
 
 from .calls import Number, Text, check, fmt, run
 from .choose import LARGEST_SHORT, all_tokens, tokens_of
@@ -18,6 +18,7 @@ from .intervals import NOTHING, ONE, UNITY, Interval, interval
 from .plan import Chances, Layer, Reader, Unit, plan_in
 from .pooled import PARTS_OF_0, Pool, pool_of
 from .program import as_text, place_in
+from .rules import Rules
 from .severities import CONTINUOUS, NotRead, Severity, severity_of
 
 #: Notes and comments, in which no severity is looked for, and the words that begin a listed one.
@@ -103,8 +104,8 @@ def as_read(spelling: str, severities: List[Optional[Severity]]) -> List[Optiona
 class Blend(Reader):
     """Reads a canonical text in which an amount stands in for each continuous severity; the severities are in the order of reading."""
 
-    def __init__(self, tokens: List[str], severities: List[Optional[Severity]]) -> None:
-        super().__init__(tokens)
+    def __init__(self, tokens: List[str], severities: List[Optional[Severity]], rules: Rules) -> None:
+        super().__init__(tokens, rules)
         self.severities = severities
         self.seen = 0
 
@@ -292,16 +293,16 @@ class Claims:
                 reached = value
         return chances
 
-    def side(self, grid: Grid, up: bool, pool: Optional[Pool], timeout: Optional[float]) -> str:
+    def side(self, grid: Grid, up: bool, pool: Optional[Pool], rules: Rules, timeout: Optional[float]) -> str:
         """The unit as one of the low program, or of the high one."""
         if pool is None and not self.continuous:
-            return side(self.unit, grid.bs, up, timeout)
+            return side(self.unit, grid.bs, up, rules, timeout)
         chances = self.rounded(grid, up) if self.continuous else rounded(self.unit.of_a_claim(), grid.bs, up)
         expected = self.expected_claims()
         if pool is not None:
             chances = pool.written(chances, expected[up], up)
             expected = expected if pool.claims is None else (pool.claims, pool.claims)
-        return with_amounts(self.unit, chances, expected, grid.bs, up, timeout)
+        return with_amounts(self.unit, chances, expected, grid.bs, up, rules, timeout)
 
 
 @dataclass(frozen=True)
@@ -311,6 +312,7 @@ class Source:
     head: str
     units: List[Claims]
     pool: Optional[Pool]
+    rules: Rules
     timeout: Optional[float]
 
     def program(self, grid: Grid, up: bool) -> str:
@@ -320,7 +322,7 @@ class Source:
     def side(self, number: int, grid: Grid, up: bool) -> str:
         """A unit of the low program, or of the high one."""
         try:
-            return self.units[number].side(grid, up, self.pool, self.timeout)
+            return self.units[number].side(grid, up, self.pool, self.rules, self.timeout)
         except RuleFault as fault:
             raise self.refused(fault, number) from None
 
@@ -328,7 +330,7 @@ class Source:
         """The low program, or the high one, which keeps every rule on this grid."""
         text = self.program(grid, up)
         try:
-            check(text, bs=grid.bs, log2=grid.log2, timeout=self.timeout)
+            check(text, bs=grid.bs, log2=grid.log2, rules=self.rules, timeout=self.timeout)
         except RuleFault as fault:
             most = max(range(len(self.units)), key=lambda number: self.units[number].expected_claims()[1])
             raise self.refused(fault, most if fault.rule == COMMON_SIZE else fault.unit) from None
@@ -347,7 +349,8 @@ class Source:
         grid = Grid(bs * 2**COARSER, LARGEST_SHORT - COARSER)
         try:
             text, last = self.program(grid, False), f"cdf:{grid.cells - 1}"
-            row = run(text, last, bs=grid.bs, log2=grid.log2, digits=6, width=10**9, timeout=self.timeout)[0]
+            settings: Dict[str, Any] = {"log2": grid.log2, "digits": 6, "width": 10**9, "rules": self.rules, "timeout": self.timeout}
+            row = run(text, last, bs=grid.bs, **settings)[0]
         except (NotBetween, RuleFault):
             return False
         return Fraction(row.low or 0) >= inside
@@ -365,8 +368,8 @@ class Source:
         return steps[low]
 
 
-def source_of(text: str, timeout: Optional[float]) -> Source:
-    """What the text declares."""
+def source_of(text: str, rules: Rules, timeout: Optional[float]) -> Source:
+    """What the text declares by these rules."""
     written, severities = read(text)
     try:
         spelling = fmt(written, timeout=timeout)
@@ -376,10 +379,10 @@ def source_of(text: str, timeout: Optional[float]) -> Source:
         instead, line = (pointed(each, fault.line, fault.column) for each in (written, text))
         raise type(fault)(fault.told.replace(instead, line), **fault.facts) from None
     severities = as_read(spelling, severities)
-    plan = plan_in(spelling, Blend(tokens_of(spelling), severities))
+    plan = plan_in(spelling, Blend(tokens_of(spelling), severities, rules))
     units = [Claims(unit, severities) for unit in plan.units]
     pool = None if plan.common is None else pool_of(plan.units, plan.common, [each.expected_claims() for each in units])
-    return Source(plan.head, units, pool, timeout)
+    return Source(plan.head, units, pool, rules, timeout)
 
 
 def between(
@@ -388,20 +391,23 @@ def between(
     *,
     inside: Number = "0.999",
     log2: Optional[int] = None,
+    rules: Rules = "standard",
     timeout: Optional[float] = None,
 ) -> Between:
     """Two programs that hold a book between them whose severities may be continuous, as `aggregate` writes them.
 
     `bs` is the size of a bucket; without it, it is the least of 1, 2 or 5 times a power of 10 with which a probability of about
-    `inside` lies in a grid of 4,096 of them. `log2` is the size of the grid, 12 without it, which are 4,096 buckets; it may be up to 16. The final amounts of a claim, after layer
-    and occurrence clause, are rounded down in one program and up in the other. Raises `NotBetween` where that cannot be written.
+    `inside` lies in a grid of 4,096 of them. `log2` is the size of the grid, 12 without it, which are 4,096 buckets; it may be up to
+    16. `rules` are those of `run`. The final amounts of a claim, after layer and occurrence clause, are rounded down in one program and
+    up in the other. Raises `NotBetween` where that cannot be written.
     """
-    source = source_of(as_text(text), timeout)
+    source = source_of(as_text(text), rules, timeout)
     size = source.bucket(exact(inside)) if bs is None else exact(bs)
     if size <= 0:
         raise ValueError(f"the size of a bucket is above 0, not {size}")
     grid = Grid(size, LARGEST_SHORT if log2 is None else log2)
     low, high = (source.checked(grid, up) for up in (False, True))
     reaches = [reach for reach in (each.reach(grid) for each in source.units) if reach is not None]
-    again = partial(between, bs=size, log2=grid.log2, timeout=timeout)
-    return Between(low, high, size, timeout, reach=min(reaches, default=None), log2=grid.log2, source=as_text(text), again=again)
+    again = partial(between, bs=size, log2=grid.log2, rules=rules, timeout=timeout)
+    reach = min(reaches, default=None)
+    return Between(low, high, size, timeout, reach=reach, log2=grid.log2, rules=rules, source=as_text(text), again=again)

@@ -21,7 +21,7 @@ from .faults import DeclWarning, RuleFault, SyntaxFault, TableFault, TextFault
 from .figures import plain, short
 from .plan import plan_of
 from .lines import PooledLines, TableBook, apportioned, can_be_pooled, lone_ones
-from .rules import COUNTS, DIGITS, FINEST, UNITS
+from .rules import BOUNDS, COUNTS, DIGITS, Rules
 
 LINES = (
     "name claims loss premium loss_ratio count parameter severity amounts weights limit attachment occurrence aggregate".split()
@@ -38,6 +38,8 @@ TAKEN = {*WORDS.split(), "claim", "prem", "note", *"lognorm expon pareto weibull
 #: Weights are whole numbers of billionths, or of millionths where the rules take no finer ones; a list that is as fine is kept.
 PARTS = (10**9, 10**6)
 TOO_FINE = 19
+#: Rules that a table may break by the standard rules, and keep by the extended ones.
+WIDER = (4, 18, 19, 27, 28)
 Spelling = Callable[[Fraction], str]
 
 
@@ -85,11 +87,12 @@ def fitted(value: Fraction) -> Fraction:
     return Fraction(round(value * 10**places), 10**places)
 
 
-def fine(weights: List[Fraction], parts: int) -> List[Fraction]:
-    """Weights that add up to 1 exactly: these, where they do and the rules take them. Else each is divided by their sum and rounded down
+def fine(weights: List[Fraction], parts: int, finest: int) -> List[Fraction]:
+    """Weights that add up to 1 exactly: these, where they do and the rules take them, up to a common denominator. Else each is divided by their sum and rounded down
     to whole parts, and the parts that are left go to the largest remainders, one each."""
     over = math.lcm(*(weight.denominator for weight in weights))
-    if sum(weights) == 1 and over <= min(FINEST, parts * 2) and all(numeral(weight) is not None for weight in weights):
+    most = finest if parts == PARTS[0] else min(finest, parts * 2)
+    if sum(weights) == 1 and over <= most and all(numeral(weight) is not None for weight in weights):
         return weights
     return [Fraction(part, parts) for part in apportioned(weights, parts)]
 
@@ -111,6 +114,8 @@ class Lines:
 
     def __init__(self, sheet: Sheet, amounts: Optional[Sheet], tolerance: Fraction, ground_up: bool) -> None:
         self.sheet, self.amounts, self.tolerance, self.ground_up = sheet, amounts, tolerance, ground_up
+        self.rules: Rules = "standard"
+        self.is_last = True  # whether no other rules are tried after these
         self.columns()
         self.keyed: Dict[str, List[Line]] = {}
         for line in amounts.lines if amounts else ():
@@ -158,7 +163,7 @@ class Lines:
         severity = self.severity(line)
         lists = f"dsev [{' '.join(map(spelled_as, severity.amounts))}]"
         if severity.weights is not None:
-            weights = fine(severity.weights, parts)
+            weights = fine(severity.weights, parts, BOUNDS[self.rules].finest)
             changes += [abs(used - given) for used, given in zip(weights, severity.weights)]
             lists += f" [{' '.join(map(spelled_as, weights))}]"
         layer, above = self.layer(line)
@@ -280,15 +285,18 @@ class Lines:
                 warnings.warn(DeclWarning(f"severities: no line has the severity `{key}`"), stacklevel=level_outside())
 
     def sound(self, first: int, timeout: Optional[float]) -> Tuple[List[Entry], Fraction]:
-        """The entries of up to 16 lines from an index on, each of which keeps the rules, and the greatest bucket that divides their
-        amounts; else the fault of a cell."""
-        entries = [self.entry(at) for at in range(first, min(first + UNITS, len(self.units)))]
+        """The entries of as many lines from an index on as the rules take units, each of which keeps the rules, and the greatest bucket
+        that divides their amounts; else the fault of a cell."""
+        entries = [self.entry(at) for at in range(first, min(first + BOUNDS[self.rules].units, len(self.units)))]
         while True:
             try:
-                return entries, bucket(text_of("Book", entries), timeout=timeout)
+                return entries, bucket(text_of("Book", entries), rules=self.rules, timeout=timeout)
             except TextFault as fault:
                 at = (fault.line or 1) - 2
                 finer = isinstance(fault, RuleFault) and fault.rule == TOO_FINE and entries[at].parts > PARTS[-1]
+                wider = isinstance(fault, RuleFault) and fault.rule in WIDER and not self.is_last
+                if at < 0 or (wider and not finer):
+                    raise
                 if not finer:
                     sentence, place = fault.told.splitlines()[-1], fault.column or 1
                     place -= 2 if isinstance(fault, SyntaxFault) else 0  # what is missing belongs to the piece before
@@ -301,7 +309,6 @@ def text_of(name: str, entries: Iterable[Entry], head: str = "") -> str:
     return "\n".join([f"port {name}{head}", *(entry.text for entry in entries)])
 
 
-
 def noted(changed: Fraction, pooled: Sequence[str]) -> str:
     """A note on how far a program is from its table; empty where it says the same."""
     told = []
@@ -312,31 +319,45 @@ def noted(changed: Fraction, pooled: Sequence[str]) -> str:
     return f" note{{{'; '.join(told)}}}" if told else ""
 
 
-def book_of(read: Lines, name: str, common: str, settings: Mapping[str, Any]) -> TableBook:
-    """The book of lines that are read: by the standard rules, where they take as many units, else with its Poisson lines pooled.
+def book_of(read: Lines, name: str, common: str, rules: Optional[Rules], settings: Mapping[str, Any]) -> TableBook:
+    """The book of lines that are read, by these rules; without any by the standard ones, where they take the lines, else by the extended
+    ones."""
+    if rules is None and len(read.units) <= BOUNDS["standard"].units:
+        read.is_last = False
+        try:
+            return made_of(read, name, common, settings)
+        except RuleFault as fault:
+            if fault.rule not in WIDER:
+                raise
+    read.rules, read.is_last = rules or "extended", True
+    return made_of(read, name, common, settings)
 
-    Rules that take more units or longer lists come in here, between the two, as soon as the program has them.
-    """
-    timeout = settings["timeout"]
-    found = [read.sound(first, timeout) for first in range(0, len(read.units), UNITS)]
+
+def made_of(read: Lines, name: str, common: str, settings: Mapping[str, Any]) -> TableBook:
+    """The book of lines that are read, by their rules; with its Poisson lines pooled, where it has more lines than these take units."""
+    timeout, most = settings["timeout"], BOUNDS[read.rules].units
+    found = [read.sound(first, timeout) for first in range(0, len(read.units), most)]
+    settings = {**settings, "rules": read.rules}
     entries = [entry for each, _ in found for entry in each]
     changed = max(entry.changed for entry in entries)
     if settings["bs"] is None:
         settings = {**settings, "bs": reduce(divisor, (size for _, size in found))}
     head = f"port {name}{common}"
-    if len(entries) <= UNITS:
+    if len(entries) <= most:
         text = "\n".join([head + noted(changed, ()), *(entry.text for entry in entries)])
         return TableBook(text, read.named, changed, None, **settings)
-    units = [unit for each, _ in found for unit in plan_of(text_of("Book", each), timeout=timeout).units]
-    lone, parts = lone_ones([unit for unit in units if can_be_pooled(unit)])
+    units = [unit for each, _ in found for unit in plan_of(text_of("Book", each), rules=read.rules, timeout=timeout).units]
+    lone, parts = lone_ones([unit for unit in units if can_be_pooled(unit)], read.rules)
     kept = [entry for entry, unit in zip(entries, units) if not can_be_pooled(unit)]
-    pool = PooledLines(head, tuple(entry.text for entry in kept), {line.unit: line for line in lone}, units[0], parts)
+    lines = {line.unit: line for line in lone}
+    pool = PooledLines(head, tuple(entry.text for entry in kept), lines, units[0], parts, read.rules)
     if pool.room < 0 or not lone:
         told = f"{len(entries)} lines, of which {len(kept)} cannot be pooled: their count is not poisson, or they have an aggregate clause"
-        raise TableFault(f"{read.sheet.called}: {told}; a program has at most {UNITS} units", row=None, column=None)
+        raise TableFault(f"{read.sheet.called}: {told}; a program has at most {most} units", row=None, column=None)
     changed = max(changed, *(line.changed for line in lone))
     pool = replace(pool, head=head + noted(changed, [read.named[line.unit] for line in lone]))
     return TableBook(pool.text(), read.named, changed, pool, **settings)
+
 
 def from_frame(
     table: Source,
@@ -352,6 +373,7 @@ def from_frame(
     log2: Optional[int] = None,
     digits: int = 6,
     inside: Number = "0.999999",
+    rules: Optional[Rules] = None,
     timeout: Optional[float] = None,
 ) -> TableBook:
     """The book of a table: a DataFrame, rows of dicts, or the path of a CSV or an Excel file; each line is a unit.
@@ -360,7 +382,9 @@ def from_frame(
     `weights`, which are lists, or `severity`, the key of lines of the table `severities` with the columns `severity`, `amount` and
     `weight` (without that column, the name of the line); `limit` and `attachment`; `occurrence` and `aggregate`, as the language writes
     them. `columns` gives the name that a table has for one of them. With `ground_up` the expected claims count those up to the
-    attachment too, else, as in the language, those that exceed it. `common` is a common factor.
+    attachment too, else, as in the language, those that exceed it. `common` is a common factor. `rules` are those of `Book`; without them
+    the standard ones, where they take the table, else the extended ones, and the book's `rules` say which. Poisson lines are pooled only
+    where there are more lines than the rules take units.
 
     Weights that add up to 1 within `tolerance` are divided by their sum, and rounded to billionths so that they add up to 1 exactly;
     other numbers are rounded to 11 digits, where they have more. Raises `TableFault` with row and column.
@@ -379,4 +403,4 @@ def from_frame(
     read.unread()
     head = "" if common is None else f" common {numeral(exact(common))}"
     settings = {"bs": bs, "log2": log2, "digits": digits, "inside": inside, "timeout": timeout}
-    return book_of(read, tokens([name])[0], head, settings)
+    return book_of(read, tokens([name])[0], head, rules, settings)

@@ -7,7 +7,7 @@ from typing import Any, Dict, Iterable, List, Optional, Tuple
 
 from .expected import WORDS, before
 from .figures import plain
-from .rules import COUNTS, VALUES
+from .rules import BOUNDS, COUNTS
 
 #: Notes and comments, in which nothing is looked for.
 ASIDE = re.compile(r"note\{[^{}]*\}|#[^\n]*")
@@ -35,7 +35,7 @@ def value(word: str) -> Optional[Fraction]:
 
 
 def items(inside: str) -> Optional[List[Fraction]]:
-    """The numbers of a list, ranges written out; None where it is no list of at most VALUES numbers."""
+    """The numbers of a list, ranges written out; None where it is no list, or has more numbers than one may have."""
     found: List[Fraction] = []
     for item in re.sub(r"\s*:\s*", ":", inside).replace(",", " ").split():
         ends = [value(word) for word in item.split(":")]
@@ -44,7 +44,7 @@ def items(inside: str) -> Optional[List[Fraction]]:
         first, last, step = ends[0], ends[min(1, len(ends) - 1)], ends[2] if len(ends) == 3 else Fraction(1)
         assert first is not None and last is not None and step is not None
         many = int((last - first) / step) + 1
-        if len(found) + many > VALUES:
+        if len(found) + many > BOUNDS["extended"].values:
             return None
         found += [first + step * at for at in range(many)]
     return found

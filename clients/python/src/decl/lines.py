@@ -1,4 +1,4 @@
-"""The book of a table, and Poisson units that are pooled where it has more units than a program may have.
+"""The book of a table, and Poisson units that are pooled where it has more units than the rules take.
 
 Poisson claims of several lines are Poisson claims of one unit: their expected numbers add up, and each amount has the expected number of
 claims of this amount over the whole one. Expected numbers are written as whole numbers of one part, so that a line alone and the pool of
@@ -11,14 +11,14 @@ from fractions import Fraction
 from typing import Any, Dict, Iterable, List, Mapping, Optional, Sequence, Tuple
 
 from .books import Book
-from .calls import Number, Rules
+from .calls import Number
 from .cells import nearest
 from .coarse import numeral, severity
 from .faults import TableFault
 from .moments import Moments
 from .plan import Unit
 from .reports import Row
-from .rules import CLAIMS, FINEST, UNITS
+from .rules import BOUNDS, CLAIMS, DIGITS, Rules
 
 
 def apportioned(values: Sequence[Fraction], whole: int) -> List[int]:
@@ -53,7 +53,12 @@ def claims_above_0(unit: Unit) -> Dict[Fraction, Fraction]:
     return {amount: chance * claims for amount, chance in unit.of_a_claim().items() if amount and claims}
 
 
-def lone_ones(units: Sequence[Unit]) -> Tuple[List[Lone], int]:
+def most_parts(rules: Rules) -> int:
+    """The greatest number of parts of all claims of a unit: the rules take no more, and a numeral has only so many digits."""
+    return min(BOUNDS[rules].finest, int("9" * DIGITS))
+
+
+def lone_ones(units: Sequence[Unit], rules: Rules = "standard") -> Tuple[List[Lone], int]:
     """The lines to pool, with the number of parts of an expected claim.
 
     Parts are such that all expected numbers are whole, where these are no more than the rules take; else they are as many as the greatest
@@ -61,9 +66,9 @@ def lone_ones(units: Sequence[Unit]) -> Tuple[List[Lone], int]:
     """
     expected = [claims_above_0(unit) for unit in units]
     total = max(Fraction(1), min(Fraction(CLAIMS), sum((sum(each.values()) for each in expected), Fraction(0))))
-    parts = math.lcm(*(claims.denominator for each in expected for claims in each.values()))
-    if parts * total > FINEST:
-        parts = 10 ** (len(str(int(FINEST / total))) - 1)
+    parts, most = math.lcm(*(claims.denominator for each in expected for claims in each.values())), most_parts(rules)
+    if parts * total > most:
+        parts = 10 ** (len(str(int(most / total))) - 1)
     return [lone_of(unit.name, each, parts) for unit, each in zip(units, expected)], parts
 
 
@@ -81,13 +86,14 @@ def lone_of(name: str, expected: Mapping[Fraction, Fraction], parts: int) -> Lon
 @dataclass(frozen=True)
 class PooledLines:
     """What a book of more lines than units has beside its text: its first line, the units that stay, the lines to pool, the unit of each of
-    them, and how many parts make one expected claim."""
+    them, how many parts make one expected claim, and the rules."""
 
     head: str
     kept: Tuple[str, ...]
     lines: Mapping[str, Lone]
     template: Unit
     parts: int
+    rules: Rules = "standard"
 
     def written(self, name: str, lines: Iterable[Lone]) -> str:
         """A unit with the claims of these lines."""
@@ -107,7 +113,7 @@ class PooledLines:
         size = 0
         for line in lines:
             claims = sum(line.parts.values())
-            if bins[-1] and size + claims > min(CLAIMS * self.parts, FINEST):
+            if bins[-1] and size + claims > min(CLAIMS * self.parts, most_parts(self.rules)):
                 bins.append([])
                 size = 0
             bins[-1].append(line)
@@ -129,7 +135,7 @@ class PooledLines:
     @property
     def room(self) -> int:
         """How many lines can be units of their own beside the pools of all others."""
-        return UNITS - len(self.kept) - len(self.pooled(list(self.lines.values())))
+        return BOUNDS[self.rules].units - len(self.kept) - len(self.pooled(list(self.lines.values())))
 
 
 class TableBook(Book):
@@ -170,17 +176,18 @@ class TableBook(Book):
         if place not in self._apart:
             alone = list(self.pool.lines)[place * self.pool.room : (place + 1) * self.pool.room]
             text = self.pool.text(alone)
-            self._apart[place] = Book(text, bs=self.bs, log2=self.log2, digits=self.digits, timeout=self.timeout)
+            settings: Dict[str, Any] = {"digits": self.digits, "rules": self.rules, "timeout": self.timeout}
+            self._apart[place] = Book(text, bs=self.bs, log2=self.log2, **settings)
         return self._apart[place]
 
-    def _rows(self, asks: Iterable[str], rules: Rules = "standard") -> List[Row]:
+    def _rows(self, asks: Iterable[str], by: Optional[Rules] = None) -> List[Row]:
         """The rows of the asks, each of the program that has its unit."""
         asks = list(asks)
         places = [self._place(ask) for ask in asks]
         found: Dict[str, Row] = {}
         for place in dict.fromkeys(places):
             chosen = [ask for ask, where in zip(asks, places) if where == place]
-            rows = super()._rows(chosen, rules) if place is None else self._book(place)._rows(chosen, rules)
+            rows = super()._rows(chosen, by) if place is None else self._book(place)._rows(chosen, by)
             found.update(zip(chosen, rows))
         return [found[ask] for ask in asks]
 

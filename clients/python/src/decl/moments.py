@@ -103,6 +103,11 @@ def no_claim(unit: Unit) -> Fraction:
     if unit.count == "fixed":
         return Fraction(not mean)
     if unit.count == "mixed":
+        if (1 / shape**2).denominator > 1:
+            raise NoMoments(
+                f"unit {unit.name} has a mixed gamma count whose shape 1 / c^2 is not whole, with another probability of no claim, so"
+                " its moments are no fractions; mean() has two ends of its mean"
+            )
         return 1 / (1 + mean * shape**2) ** int(1 / shape**2)
     return 1 - mean if unit.count == "bernoulli" else (1 - shape) ** int(mean / shape)
 

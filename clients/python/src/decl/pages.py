@@ -179,6 +179,7 @@ def on_year_shares(book: "Book", years: Sequence[Fraction], head: Head) -> str:
 def program(book: "Book", name: str = "", side: str = "") -> str:
     """The program, and how the same answers are asked for."""
     options = f"--bs {plain(book.bs)} --log2 {book.log2} --digits {book.digits} --width 1000000000 --mwidth 1000000000000"
+    options += " --rules extended" if book.rules == "extended" else ""
     facts = f'data-book="{html.escape(side)}" data-bs="{plain(book.bs)}" data-log2="{book.log2}" data-digits="{book.digits}"'
     told = f"{name}{book.cells:,} buckets of {amount_of(book.bs)}. Asked for by `decl run {options}`, with amounts as numbers of buckets."
     return f"{note(told)}\n<pre {facts}>{html.escape(book.spelling)}</pre>"

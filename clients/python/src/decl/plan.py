@@ -12,7 +12,7 @@ from typing import Callable, Dict, List, Optional, Tuple
 from .calls import Text, fmt
 from .choose import all_tokens, tokens_of, value_of
 from .faults import RuleFault, rule_sentence
-from .rules import ATOMS, DIGITS, LAYERS, NAMES, PERCENT_DIGITS, RANGE_FINEST, VALUES
+from .rules import ATOMS, BOUNDS, DIGITS, LAYERS, NAMES, PERCENT_DIGITS, RANGE_FINEST, Rules
 
 #: Amounts (or counts) with their probabilities.
 Chances = Dict[Fraction, Fraction]
@@ -148,8 +148,8 @@ class Reader:
     """Reads the tokens of a canonical text from the left. The rules without which its numbers mean nothing are asked: the
     program, which asks all of them, may refuse the text before by one on its buckets."""
 
-    def __init__(self, tokens: List[str]) -> None:
-        self.tokens = tokens
+    def __init__(self, tokens: List[str], rules: Rules = "standard") -> None:
+        self.tokens, self.rules = tokens, rules
         self.at = 0
         self.name, self.number = "", -1
 
@@ -182,15 +182,15 @@ class Reader:
     def numbers(self) -> List[Fraction]:
         """The numbers of the list that is next."""
         self.take()
-        found = []
+        found, most = [], BOUNDS[self.rules].values
         while not self.passed("]"):
             item = [self.numeral()]
             while self.passed(":"):
                 item.append(self.numeral())
             self.holds(3, is_range(item))
-            self.holds(4, len(item) == 1 or size(item) <= VALUES)
+            self.holds(4, len(item) == 1 or size(item) <= most)
             found += spread(item)
-        self.holds(4, len(found) <= VALUES)
+        self.holds(4, len(found) <= most)
         return found
 
     def chances(self) -> Chances:
@@ -287,10 +287,10 @@ class Reader:
         return self.numeral() if self.passed("zm") else None
 
     def factor(self) -> Fraction:
-        """The coefficient of variation of a common factor: 1 over a whole number, so that its shape is whole."""
+        """The coefficient of variation of a common factor: above 0, and by the standard rules 1 over a whole number."""
         value = value_of(self.ahead()) if is_good(self.ahead()) else Fraction(0)
         self.take()
-        if value.numerator != 1:
+        if not value or (self.rules == "standard" and value.numerator != 1):
             raise broken(27, "the common factor", 0)
         return value
 
@@ -344,13 +344,13 @@ def names_of_severities(spelling: str) -> List[str]:
     return [name for word, name in zip(tokens, tokens[1:]) if word == "sev"]
 
 
-def plan_in(spelling: str, reader: Optional[Reader] = None) -> Plan:
-    """What a canonical text declares; a reader of its tokens can be given that reads a severity in its own way."""
+def plan_in(spelling: str, reader: Optional[Reader] = None, rules: Rules = "standard") -> Plan:
+    """What a canonical text declares by these rules; a reader of its tokens can be given that reads a severity in its own way."""
     names = names_of_severities(spelling)
     for at, name in enumerate(names):
         if name in names[:at]:
             raise broken(23, f"severity {name}", at)
-    reader = reader or Reader(tokens_of(spelling))
+    reader = reader or Reader(tokens_of(spelling), rules)
     port = reader.take() if reader.passed("port") else None
     common = reader.factor() if reader.passed("common") else None
     units = []
@@ -359,6 +359,6 @@ def plan_in(spelling: str, reader: Optional[Reader] = None) -> Plan:
     return Plan(port, units, common)
 
 
-def plan_of(text: Text, *, timeout: Optional[float] = None) -> Plan:
-    """What the text declares."""
-    return plan_in(fmt(text, timeout=timeout))
+def plan_of(text: Text, *, rules: Rules = "standard", timeout: Optional[float] = None) -> Plan:
+    """What the text declares by these rules."""
+    return plan_in(fmt(text, timeout=timeout), rules=rules)

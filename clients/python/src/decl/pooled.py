@@ -8,10 +8,12 @@ from typing import Callable, List, Optional
 from .coarse import Ends, numeral
 from .faults import NotBetween
 from .plan import Chances, Unit, broken
-from .rules import FINEST
+from .rules import BOUNDS
 
 #: Numerator and denominator of the expected claims above 0, times 1 and the factor's variance, are below this.
 MOST_PARTS = 2**48
+#: The greatest common denominator of probabilities, by each set of rules.
+FINEST = BOUNDS["standard"].finest
 #: Up to this common denominator of the units' shares each unit keeps its expected number of claims.
 MOST_SHARES = 1000
 #: Where a unit keeps it, the probability of a claim of 0 is a whole number of so many parts.
@@ -56,15 +58,15 @@ def short_number(least: Fraction) -> Fraction:
     return next(power * step for step in (1, 2, 5, 10, 20, 50, 100) if power * step >= least)
 
 
-def shares_of(expected: List[Ends], shape: Fraction) -> Optional[int]:
+def shares_of(expected: List[Ends], raised: int) -> Optional[int]:
     """The common denominator of the units' shares of all expected claims; None where these are not known exactly, have no numeral, or are
-    so fine, alone or together, that the program would not pool them."""
+    so fine, alone or together, that the program would not pool them. `raised` is the numerator of 1 and the factor's variance."""
     claims = [low for low, _ in expected]
     whole = sum(claims, Fraction(0))
     if not whole or any(low != high or numeral(low) is None for low, high in expected):
         return None
     found = math.lcm(*((each / whole).denominator for each in claims))
-    parts = whole * math.lcm(*(each.denominator for each in claims)) * PARTS_OF_0 * (shape + 1)
+    parts = whole * math.lcm(*(each.denominator for each in claims)) * PARTS_OF_0 * raised
     return found if found <= MOST_SHARES and parts < MOST_PARTS else None
 
 
@@ -76,11 +78,11 @@ def pool_of(units: List[Unit], common: Fraction, expected: List[Ends]) -> Pool:
     most = max(high for _, high in expected)
     if not most:
         raise NotBetween(f"unit {units[0].name}: under a common factor claims have to be expected, and no unit expects one")
-    shape = 1 / common**2
-    shares = shares_of(expected, shape)
+    raised = (1 + common**2).numerator
+    shares = shares_of(expected, raised)
     if shares is not None:
         return Pool(None, power_of_10(FINEST // shares))
     claims, many = short_number(most), len(expected)
     parts = power_of_10(FINEST // many)
-    finest = (MOST_PARTS - 1) // (int(shape + 1) * max(many * claims.numerator, claims.denominator))
+    finest = (MOST_PARTS - 1) // (raised * max(many * claims.numerator, claims.denominator))
     return Pool(claims, parts, min(parts, power_of_10(max(1, finest))))

@@ -4,20 +4,20 @@ from dataclasses import dataclass
 from fractions import Fraction
 from typing import TYPE_CHECKING, Dict, Iterable, List, Sequence, Tuple
 
-from .calls import Rules
 from .figures import decimals, plain
 from .levels import DIGITS, SHARE_DIGITS, around, one, two
 from .reports import Row
 
 if TYPE_CHECKING:
     from .books import Book
+from .rules import Rules
 
 
 def ask_of(book: "Book", unit: str, p: Fraction) -> Tuple[str, Rules]:
-    """The ask for a share of a unit in the tail mean, and the rules by which it is asked first: the standard ones, but under a common factor
-    and at a level of more digits than they take."""
+    """The ask for a share of a unit in the tail mean, and the rules by which it is asked first: the standard ones, but in a book by the
+    extended ones, under a common factor, and at a level of more digits than the standard ones take."""
     low, high = around(p, SHARE_DIGITS)
-    if book.plan.common is not None or low != high:
+    if book.rules == "extended" or book.plan.common is not None or low != high:
         return f"cotail:{unit}:{one(p, DIGITS, 'cotail')}", "extended"
     return f"cotail:{unit}:{one(p, SHARE_DIGITS, 'cotail')}", "standard"
 
@@ -56,9 +56,10 @@ def shares_of_tail(book: "Book", units: Iterable[str], levels: Iterable[Fraction
 
 @dataclass(frozen=True)
 class TailShares:
-    """The shares of units at return periods, of which 1 year is all years."""
+    """The shares of units of a book by these rules at return periods, of which 1 year is all years."""
 
     rows: Dict[Fraction, List[Row]]
+    by: Rules = "standard"
 
     @property
     def there(self) -> Dict[Fraction, List[Row]]:
@@ -72,12 +73,12 @@ class TailShares:
 
     @property
     def extended(self) -> List[Fraction]:
-        """The return periods whose shares are those of the extended rules."""
-        return sorted(years for years, rows in self.there.items() if any(row.rules == "extended" for row in rows))
+        """The return periods whose shares are those of the extended rules, where the book is by the standard ones."""
+        return sorted(years for years, rows in self.there.items() if any(row.rules != self.by for row in rows))
 
 
 def tail_shares(book: "Book", units: Sequence[str], periods: Iterable[Fraction]) -> TailShares:
     """The shares of these units at return periods."""
     levels = {1 - 1 / years: years for years in sorted({*periods} - {Fraction(1)})}
     rows = {levels[p]: found for p, found in shares_of_tail(book, units, levels).items()}
-    return TailShares({**rows, Fraction(1): [book.mean_of(unit) for unit in units]})
+    return TailShares({**rows, Fraction(1): [book.mean_of(unit) for unit in units]}, book.rules)

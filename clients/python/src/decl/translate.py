@@ -1,17 +1,19 @@
 """Writes a program of the package `aggregate` in this language, or names the place of what has no counterpart."""
 
 import re
+import warnings
 from dataclasses import dataclass
 from fractions import Fraction
 from typing import Dict, Iterable, List, Optional, Set, Tuple, TypeVar
 
 from .calls import Text
-from .choose import tokens_of
-from .faults import RuleFault, rule_sentence
+from .cautions import level_outside
+from .choose import tokens_of, value_of
+from .faults import DeclWarning, RuleFault, rule_sentence
 from .numerals import TOO_LONG, Numbers, Numeral, Token, spelled
 from .plan import Chances, Reader
-from .program import as_text
-from .rules import UNITS as MOST_UNITS, VALUES as MOST_VALUES
+from .program import as_text, place_in
+from .rules import BOUNDS
 
 Item = Tuple[Numeral, ...]
 Entry = TypeVar("Entry")
@@ -24,6 +26,8 @@ KEYWORDS = frozenset(
 NO_NAMES = frozenset("lognorm expon pareto weibull norm uniform beta chistogram note geometric zt zm common".split())
 COUNTS = ("fixed", "poisson", "geometric", "bernoulli")
 MOST_ATOMS = 64
+#: What the standard rules take, and what the extended ones do.
+STANDARD, MOST = BOUNDS["standard"], BOUNDS["extended"]
 #: What has no counterpart, by its word.
 NONE = {
     "tweedie": "The claims of a tweedie aggregate are continuous; give amounts with their probabilities, as dsev [..] [..].",
@@ -70,7 +74,7 @@ class Profile:
         """One unit with the claims of all entries, each with its amounts in its layer, by the expected numbers of claims. None
         where a number has too many digits; raises `ZeroDivisionError` where there are no claims, and `RuleFault` where an
         entry by itself has no meaning."""
-        units = [Reader(tokens_of(" ".join([*self.named, entry]))).unit() for entry in self.entries()]
+        units = [Reader(tokens_of(" ".join([*self.named, entry])), "extended").unit() for entry in self.entries()]
         claims = [unit.expected_claims() for unit in units]
         whole = sum(claims, Fraction(0))
         atoms = [listed(unit.in_layer()) for unit in units]
@@ -107,7 +111,7 @@ def values_of(items: List[Item]) -> Optional[List[Fraction]]:
     for item in items:
         first, last = item[0].value, item[min(1, len(item) - 1)].value
         step = item[2].value if len(item) == 3 else Fraction(1)
-        if first is None or last is None or not step or last < first or (last - first) / step >= MOST_VALUES - len(found):
+        if first is None or last is None or not step or last < first or (last - first) / step >= MOST.values - len(found):
             return None
         found += [first + step * at for at in range(int((last - first) / step) + 1)]
     return found
@@ -119,6 +123,7 @@ class Translator(Numbers):
     def __init__(self, text: str) -> None:
         super().__init__(text)
         self.named: Dict[str, str] = {}
+        self.told: Set[str] = set()
 
     def program(self) -> str:
         """The program."""
@@ -136,14 +141,24 @@ class Translator(Numbers):
             start = self.token()
             profile = self.unit(names)
             units += self.units(profile, start)
-            if len(units) > MOST_UNITS:
-                self.refuse(f"A portfolio has at most {MOST_UNITS} units; each entry of a poisson limit profile is one.", start)
+            if len(units) > MOST.units:
+                self.refuse(f"A portfolio has at most {MOST.units} units; each entry of a poisson limit profile is one.", start)
+            if len(units) > STANDARD.units:
+                self.wider(start, f"A portfolio of more than {STANDARD.units} units")
             head = head or (["port", profile.name] if len(units) > 1 else [])
         if self.ahead() in ("agg", "port", "sev", "dist", "distortion"):
             self.refuse("A text has one program here; give the next one a text of its own, or put both in a port.")
         if self.ahead():
             self.refuse(self.unknown())
         return "\n".join([*self.named.values(), *([" ".join(head)] if head else []), *units]) + "\n"
+
+    def wider(self, token: Token, what: str) -> None:
+        """Tells once of what the standard rules do not take, and the extended ones do."""
+        if what not in self.told:
+            line, column = place_in(self.text[: token.at].encode("utf-8"), None)
+            told = f"{line}:{column}: {what} needs the extended rules: rules=\"extended\" of a book, or --rules extended of a call"
+            warnings.warn(DeclWarning(told, line=line, column=column), stacklevel=level_outside())
+        self.told.add(what)
 
     def common(self) -> List[str]:
         """The factor that the units share, if one is next: it is of this language, and the package has none."""
@@ -152,6 +167,8 @@ class Translator(Numbers):
         number = self.numeral()
         if not number.value:
             self.refuse("The coefficient of variation of a factor is a number above 0.", number.token)
+        if number.value.numerator > 1:
+            self.wider(number.token, f"`common {number.spelling}`, whose shape 1 / c^2 is not whole,")
         return ["common", number.spelling]
 
     def begins_definition(self) -> bool:
@@ -242,7 +259,7 @@ class Translator(Numbers):
         for item in self.items():
             values = values_of([item])
             if len(item) > 1 and values is None:
-                self.refuse(f"A range runs upward, to at most {MOST_VALUES} values.", item[0].token)
+                self.refuse(f"A range runs upward, to at most {MOST.values:,} values.", item[0].token)
             found += [self.spell(value, token) for value in values or []] if len(item) > 1 else [item[0]]
         return found
 
@@ -305,8 +322,11 @@ class Translator(Numbers):
         for number in (number for item in items for number in item):
             if number.value is None:
                 self.refuse("The values of a list are finite.", number.token)
-        if values_of(items) is None:
-            self.refuse(f"A list has at most {MOST_VALUES} values, and a range runs upward by a step above 0.", token)
+        values = values_of(items)
+        if values is None:
+            self.refuse(f"A list has at most {MOST.values:,} values, and a range runs upward by a step above 0.", token)
+        if len(values) > STANDARD.values:
+            self.wider(token, f"A list of more than {STANDARD.values:,} values")
         return items
 
     def chances(self) -> str:
@@ -457,7 +477,10 @@ class Translator(Numbers):
         if self.passed("binomial"):
             written = f"binomial {self.finite()}"
         elif self.passed("mixed", "gamma"):
-            written = f"mixed gamma {self.finite()}"
+            variation = self.finite()
+            written, value = f"mixed gamma {variation}", value_of(variation)
+            if value and value.numerator > 1:
+                self.wider(token, f"`{written}`, whose shape 1 / c^2 is not whole,")
         elif token.spelling in COUNTS:
             written = self.take().spelling
         elif token.spelling == "mixed":
@@ -500,6 +523,7 @@ def translate(text: Text) -> str:
     severity that is scaled or shifted by its amounts, and an exposure at a rate as its expected loss. Severities with names that
     stand before the units keep them, and `zt` and `zm` stay as they are: the expected number of claims is that before the change.
     Comments are dropped. What has no counterpart raises `Untranslated`, with its place and a sentence. The rules are not asked: the
-    text that comes out may still be refused, as for an amount that is no whole number of buckets.
+    text that comes out may still be refused, as for an amount that is no whole number of buckets. What only the extended rules take, as
+    a gamma count whose shape is not whole, is written, and told as a `DeclWarning`.
     """
     return Translator(as_text(text)).program()
