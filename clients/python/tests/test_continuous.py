@@ -486,7 +486,7 @@ class Written(Case):
     def test_a_number_of_claims_between_two_ends(self):
         """That of a loss of wide claims is known to a part in a thousand: in the high program it is the greater one, and no amount is 0."""
         text = "port C common 0.5 agg A 5 loss 100 xs 0 sev lognorm 12 poisson agg B 3 claims dsev [7] poisson"
-        low, high = source_of(text, None).units[0].expected_claims()
+        low, high = source_of(text, "standard", None).units[0].expected_claims()
         unit = plan_of(decl.between(text, 1, log2=6).high).units[0]
         self.assertTrue(low + Fraction(1, 10**5) < high <= unit.claims * (1 - unit.amounts[Fraction(0)]) < high + Fraction(1, 10**6))
 
@@ -533,7 +533,7 @@ class Written(Case):
         far = "agg E 1 claims sev 100 * expon poisson aggregate ceded to 2000000 xs 0"
         listed = "port P agg E 1 claims 30 xs 0 sev expon poisson agg L 1 claims dsev [7] poisson"
         self.assertIsNone(decl.between(listed, 1, log2=6).reach)
-        self.assertEqual([source_of(far, None).units[0].reach(Grid(size, 6)) for size in (Fraction(1), Fraction(2))], [2**20, None])
+        self.assertEqual([source_of(far, "standard", None).units[0].reach(Grid(size, 6)) for size in (Fraction(1), Fraction(2))], [2**20, None])
         both = " ".join(f"agg {name} 1 claims {rest}" for name, (rest, _) in zip("ABC", reached))
         self.assertEqual(decl.between(f"port P {both} agg L 1 claims dsev [7 2000000] poisson", 2, log2=6).reach, 2**21 - 10)
 

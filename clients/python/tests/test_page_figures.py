@@ -235,7 +235,7 @@ class Sides(Figures):
     def test_none(self):
         """A program without clauses has no such table; nor have pooled lines, whose clauses are in their amounts."""
         self.assertFalse(Page(decl.Book(example("dice")).page([10])).of("Gross, ceded and net"))
-        rows = [{"name": f"L{at}", "claims": 0.25, "amounts": [1, 2], "occurrence": "net of 1 xs 1"} for at in range(17)]
+        rows = [{"name": f"L{at}", "claims": 0.25, "amounts": [1, 2], "occurrence": "net of 1 xs 1"} for at in range(257)]
         page = Page(decl.from_frame(rows).page([10]))
         self.assertFalse(page.of("Gross, ceded and net"))
         self.assertIn("Lines are pooled after their clauses", page.told)
