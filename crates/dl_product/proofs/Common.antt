@@ -1,5 +1,5 @@
 -- The names that the proofs of this crate cite most, passed on from one place. Declares nothing.
-pub use Rattle.std.proofs.Common.{List, [], ap, ap₂, arith, drop, get_or, inl, inr, length, refl, suc, sym, take, zero, ℕ, ◌*◌, ◌+◌, ◌-◌, ◌/◌, ◌<◌, ◌∙◌, ◌≡◌, ◌≤◌}
+pub use Rattle.std.proofs.Common.{List, [], ◌∷◌, ap, ap₂, arith, drop, get_or, inl, inr, length, refl, suc, sym, take, zero, ℕ, ◌*◌, ◌+◌, ◌-◌, ◌/◌, ◌<◌, ◌∙◌, ◌≡◌, ◌≤◌}
 pub use Rattle.std.proofs.Math.Nat.{mul-le-mul}
 pub use Rattle.std.proofs.lemmas.Bool.{cases_lt}
 pub use Rattle.std.proofs.lemmas.List.{get_or-drop, get_or-take, get_or_past, length-take}

@@ -1,4 +1,6 @@
-pub mod Apart
 mod Common
+pub mod Apart
 pub mod Reading
+pub mod Rests
+pub mod Taken
 pub mod Zeros

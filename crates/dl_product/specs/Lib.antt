@@ -1,4 +1,5 @@
 pub mod Ends
+pub mod Heads
 pub mod Operand
 pub mod Places
 pub mod Windows

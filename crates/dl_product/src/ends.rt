@@ -1,10 +1,21 @@
-//! The low ends or the high ends of a grid's cells as a factor of a product.
+//! The ends of a grid's cells as factors of a product.
 
 ghost use Rattle.std.specs.Prelude.{◌≡◌, [], length};
 ghost use Rattle.dl_transform.specs.Ends.{AreWords};
+ghost use Rattle.dl_product.specs.Ends.{AreHeadEnds};
 ghost use Rattle.dl_product.specs.Places.{ArePlaces};
 
 use dl_transform::Cells;
+
+/// The ends of the cells of a grid before a place from which on, as far as the grid is read, each
+/// low end is 0 and each high end is `rest`.
+#[derive(Clone, Copy)]
+pub(crate) struct Head<'a> {
+    pub(crate) lows: &'a [u128],
+    pub(crate) highs: &'a [u128],
+    pub(crate) rest: u128,
+    pub(crate) ghost ends: { AreHeadEnds lows.now highs.now },
+}
 
 /// The low ends or the high ends of those cells of a grid that lie a step apart from `start` on, up
 /// to the last that is not 0.

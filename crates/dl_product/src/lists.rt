@@ -1,16 +1,14 @@
 //! Lists of the ends of cells, in room that is lent.
 
-ghost use Rattle.std.specs.Prelude.{◌≡◌, ℕ, ◌+◌, ◌<◌, ◌%◌, length, IfOk};
-ghost use Rattle.dl_grid.specs.Cells.{high_at, high_ends};
+ghost use Rattle.std.specs.Prelude.{◌≡◌, ℕ, ◌+◌, ◌<◌, ◌%◌, length, get_or, IfOk};
 ghost use Rattle.dl_product.specs.Ends.{ArePaired, AreWidths};
-ghost use Rattle.dl_product.specs.Operand.{HoldsCells};
+ghost use Rattle.dl_product.specs.Operand.{HoldsEnds};
 ghost use Rattle.dl_product.specs.Windows.{IsWindow};
 
-use crate::ends::Ends;
+use crate::ends::{Ends, Head};
 use crate::operand::Operand;
 use crate::steps::{set_length, take_multiples};
 use crate::windows::{Window, window_of};
-use dl_grid::Grid;
 use dl_transform::Cells;
 use std::alloc::{AllocError, Global};
 
@@ -46,22 +44,22 @@ impl Lists {
         }
     }
 
-    /// The cells of a grid in a window of its high ends, where those that are not 0 lie `step`
+    /// The cells of a head in a window of its high ends, where those that are not 0 lie `step`
     /// apart.
-    pub(crate) fn read<'a, const B: u32>(
+    pub(crate) fn read<'a>(
         &'a mut self,
-        grid: &Grid<B>,
+        head: Head<'_>,
         window: Window,
         step: usize,
     ) -> Result<Operand<'a>, AllocError>
         requires some { 0 < step }
-        requires window { IsWindow (high_ends grid.now) window.start window.end }
-        requires apart { (i : ℕ) → 0 < i % step → high_at grid.now (window.start + i) ≡ 0 }
-        ensures cells { IfOk result (λ o. HoldsCells grid.now o) }
+        requires window { IsWindow head.highs.now window.start window.end }
+        requires apart { (i : ℕ) → 0 < i % step → get_or head.highs.now (window.start + i) 0 ≡ 0 }
+        ensures ends { IfOk result (λ o. HoldsEnds head.entry.lows.now head.entry.highs.now o) }
         ensures step { IfOk result (λ o. o.step ≡ step) }
     {
-        take_multiples(window.part(grid.lows()), step, &mut self.lows)?;
-        take_multiples(window.part(grid.highs()), step, &mut self.highs)?;
+        take_multiples(window.part(head.lows), step, &mut self.lows)?;
+        take_multiples(window.part(head.highs), step, &mut self.highs)?;
         take_widths(
             self.lows.as_slice(),
             self.highs.as_slice(),

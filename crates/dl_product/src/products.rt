@@ -1,15 +1,14 @@
 //! Products and squares of grids.
 
-ghost use Rattle.std.specs.Prelude.{◌≡◌, ◌^◌, ◌≤◌, length, unwrap_or, IfOk};
+ghost use Rattle.std.specs.Prelude.{◌≡◌, ◌^◌, ◌≤◌, length, IfOk};
 ghost use Rattle.dl_grid.specs.Prelude.{spread, IsConvolution, convolution_spread};
-ghost use Rattle.dl_product.specs.Operand.{HoldsCells};
 
+use crate::behind::grid_of_heads;
+use crate::heads::head_of;
 use crate::lists::Lists;
-use crate::operand::Operand;
 use crate::steps::common_step;
 use crate::sums::Room;
 use crate::windows::window_of;
-use dl_conv::grid_of_sums;
 use dl_grid::Grid;
 use std::alloc::{AllocError, Global};
 
@@ -33,34 +32,6 @@ impl Workspace {
     }
 }
 
-/// The first `cells` cells of the convolution of `a` and `b`, of which `first` and `second` have
-/// what is not 0. Where there is no `second`, both grids are one.
-fn convolved<const B: u32>(
-    alloc: Global,
-    room: &mut Room,
-    a: &Grid<B>,
-    b: &Grid<B>,
-    first: Operand<'_>,
-    second: Option<Operand<'_>>,
-    cells: u32,
-) -> Result<Grid<B>, AllocError>
-    requires some { 1 ≤ cells }
-    requires in_first { cells ≤ length a.now }
-    requires in_second { cells ≤ length b.now }
-    requires first { HoldsCells a.now first }
-    requires second { HoldsCells b.now (unwrap_or second first) }
-    requires step { (unwrap_or second first).step ≡ first.step }
-    ensures spread { IfOk result (λ g.
-        spread g ≤ convolution_spread (2 ^ B) cells (spread a.now) (spread b.now)) }
-    ensures convolution { IfOk result (λ g. IsConvolution cells a.now b.now g) }
-    ensures cells { IfOk result (λ g. length g ≡ cells) }
-{
-    prove!(cells <= a.cells());
-    prove!(cells <= b.cells());
-    let (lows, highs) = room.sums(alloc, first, second, cells)?;
-    Ok(grid_of_sums(a, b, lows, highs))
-}
-
 /// The first `cells` cells of the convolution of `a` and `b`: the grid of the sum of two
 /// independent amounts. Each cell is rounded once, its low end down and its high end up, and what
 /// lies past the grid is left out. The spread is at most what the width rule says.
@@ -79,12 +50,15 @@ pub fn product<const B: u32>(
     ensures convolution { IfOk result (λ g. IsConvolution cells a.now b.now g) }
     ensures cells { IfOk result (λ g. length g ≡ cells) }
 {
-    let first = window_of(a.highs());
-    let second = window_of(b.highs());
-    let step = common_step(first.part(a.highs()), second.part(b.highs()));
-    let one = work.first.read(a, first, step)?;
-    let other = work.second.read(b, second, step)?;
-    convolved(alloc, &mut work.room, a, b, one, Some(other), cells)
+    let first = head_of(a, cells);
+    let second = head_of(b, cells);
+    let window = window_of(first.highs);
+    let other_window = window_of(second.highs);
+    let step = common_step(window.part(first.highs), other_window.part(second.highs));
+    let one = work.first.read(first, window, step)?;
+    let other = work.second.read(second, other_window, step)?;
+    let (lows, highs) = work.room.sums(alloc, one, Some(other), cells)?;
+    Ok(grid_of_heads(a, b, first, second, lows, highs))
 }
 
 /// The first `cells` cells of the convolution of `a` with itself.
@@ -101,8 +75,10 @@ pub fn square<const B: u32>(
     ensures spread { IfOk result (λ g.
         spread g ≤ convolution_spread (2 ^ B) cells (spread a.now) (spread a.now)) }
 {
-    let window = window_of(a.highs());
-    let step = common_step(window.part(a.highs()), window.part(a.highs()));
-    let one = work.first.read(a, window, step)?;
-    convolved(alloc, &mut work.room, a, a, one, None, cells)
+    let head = head_of(a, cells);
+    let window = window_of(head.highs);
+    let step = common_step(window.part(head.highs), window.part(head.highs));
+    let one = work.first.read(head, window, step)?;
+    let (lows, highs) = work.room.sums(alloc, one, None, cells)?;
+    Ok(grid_of_heads(a, a, head, head, lows, highs))
 }

@@ -1,12 +1,9 @@
-use Rattle.dl_product.proofs.Common.{arith}
-use Rattle.dl_grid.proofs.CellLaws.{size_of}
-use Rattle.dl_grid.proofs.Room.{size_few}
+use Rattle.dl_product.proofs.Common.{◌∙◌, sym}
+use Rattle.dl_product.proofs.Reading.{held_fit}
 use Rattle.dl_product.proofs.products.product.Goals as goal
 
-pub common_step-step-requires-clause-first : goal.common_step-step-requires-clause-first
-common_step-step-requires-clause-first g c =
-    omega (arith, c.part.ensures.few, c.highs-3.ensures.cells, size_few (size_of c.args.a.now c.highs.ensures.grid))
-
-pub common_step-step-requires-clause-second : goal.common_step-step-requires-clause-second
-common_step-step-requires-clause-second g c =
-    omega (arith, c.part-2.ensures.few, c.highs-4.ensures.cells, size_few (size_of c.args.b.now c.highs-2.ensures.grid))
+pub sums-requires : goal.sums-requires
+sums-requires g c =
+    held_fit c.args.a.now c.args.b.now c.args.cells c.head_of-first.result c.head_of-second.result _ _ c.requires.some
+    c.requires.in_first c.head_of-first.ensures c.head_of-second.ensures c.in_ok-one.ensures.ends c.in_ok-other.ensures.ends
+    (c.in_ok-other.ensures.step ∙ sym c.in_ok-one.ensures.step)

@@ -1,19 +1,15 @@
-use Rattle.dl_product.proofs.Common.{◌+◌, ◌*◌, ◌∙◌, ap, arith, get_or, length, end_fits, refl}
-use Rattle.std.proofs.Common.{◌^◌}
-use Rattle.dl_grid.specs.Cells.{low_at}
-use Rattle.dl_grid.proofs.CellLaws.{size_of}
-use Rattle.dl_grid.proofs.EndLists.{high_ends_long}
-use Rattle.dl_grid.proofs.Room.{size_few}
+use Rattle.dl_product.proofs.Common.{◌+◌, ◌*◌, ◌∙◌, ap, arith, get_or, length, refl}
 use Rattle.dl_product.specs.Places.{LieFrom}
 use Rattle.dl_product.proofs.Apart.{ceil_within, in_window, same_count, start_within}
 use Rattle.dl_product.proofs.Reading.{high_from, low_from, low_window, words_alone, words_of}
 use Rattle.dl_product.proofs.lists.Lists.read.Goals as goal
 
 pub part-requires : goal.part-requires
-part-requires g c = rw c.lows.ensures.ends (low_window c.args.grid.now c.args.window.start c.args.window.end c.requires.window)
+part-requires c = low_window c.args.head.lows.now c.args.head.highs.now c.args.head.ends.paired c.args.window.start c.args.window.end
+    c.args.step c.requires.window c.requires.apart
 
 pub take_widths-requires : goal.take_widths-requires
-take_widths-requires g c =
+take_widths-requires c =
     let lows = c.in_ok-take_multiples.ensures in
     let highs = c.in_ok-take_multiples-2.ensures in
     rw (c.as_slice.ensures.value, c.as_slice-2.ensures.value) (record {
@@ -23,13 +19,11 @@ take_widths-requires g c =
         highs.each k,
         c.part.ensures.each (k * c.args.step),
         c.part-2.ensures.each (k * c.args.step),
-        c.lows.ensures.each _,
-        c.highs.ensures.each _,
-      ) (c.lows.ensures.order _);
+      ) (c.args.head.ends.paired.order _);
     })
 
 pub invariant_of-result : goal.invariant_of-result
-invariant_of-result g c =
+invariant_of-result c =
     let highs = c.in_ok-take_multiples-2.ensures in
     let widths = c.in_ok-take_widths.ensures in
     record {
@@ -38,12 +32,12 @@ invariant_of-result g c =
           (widths.alike ∙ ap length c.as_slice.ensures.value)
           (rw (c.as_slice.ensures.value, c.as_slice-2.ensures.value) at widths.each)
           (λ k. rw (highs.each k, c.part-2.ensures.each (k * c.args.step))
-          (end_fits c.highs.result.now (2 ^ 56) c.highs.ensures.fits _)));
+          (c.args.head.ends.small _)));
     }
 
 pub invariant_of-result-2 : goal.invariant_of-result-2
-invariant_of-result-2 g c =
-    let few = size_few (size_of c.args.grid.now c.lows.ensures.grid) in
+invariant_of-result-2 c =
+    let few = c.args.head.ends.few in
     let many = ap length c.as_slice-lows.ensures.value ∙ c.in_ok-take_multiples.ensures.many in
     let within = ceil_within c.args.step (length c.part.result.now) c.requires.some in
     record {
@@ -54,62 +48,63 @@ invariant_of-result-2 g c =
           c.part.ensures.long,
           c.requires.window.order,
           c.requires.window.within,
-          high_ends_long c.args.grid.now,
+          c.args.head.ends.paired.alike,
           few,
         );
-        few = omega (arith, c.part-3.ensures.few, many, within, c.part.ensures.few, c.lows.ensures.cells, few);
+        few = omega (arith, c.part-3.ensures.few, many, within, c.part.ensures.few, few);
       };
       words = words_alone _ (λ k. rw (
         c.part-3.ensures.each k,
         c.as_slice-lows.ensures.value,
         c.in_ok-take_multiples.ensures.each (c.window_of-inner.result.start + k),
         c.part.ensures.each ((c.window_of-inner.result.start + k) * c.args.step),
-      ) (end_fits c.lows.result.now (2 ^ 56) c.lows.ensures.fits _));
+      ) (omega (arith, c.args.head.ends.paired.order (c.args.window.start + (c.window_of-inner.result.start + k) * c.args.step), c.args.head.ends.small (c.args.window.start + (c.window_of-inner.result.start + k) * c.args.step))));
     }
 
 pub invariant_of-result-3 : goal.invariant_of-result-3
-invariant_of-result-3 g c =
-    let few = size_few (size_of c.args.grid.now c.highs.ensures.grid) in
+invariant_of-result-3 c =
+    let few = c.args.head.ends.few in
     record {
       places = record {
-        early = omega (arith, c.requires.window.order, c.requires.window.within, high_ends_long c.args.grid.now, few);
+        early = omega (arith, c.requires.window.order, c.requires.window.within, c.args.head.ends.paired.alike, few);
         few = rw (c.as_slice-4.ensures.value, c.in_ok-take_multiples-2.ensures.many) (omega (
           arith,
           ceil_within c.args.step (length c.part-2.result.now) c.requires.some,
           c.part-2.ensures.few,
-          c.highs.ensures.cells,
+          c.args.head.ends.paired.alike,
           few,
         ));
       };
       words = rw (c.as_slice-4.ensures.value) (words_alone _
           (λ k. rw (c.in_ok-take_multiples-2.ensures.each k, c.part-2.ensures.each (k * c.args.step))
-          (end_fits c.highs.result.now (2 ^ 56) c.highs.ensures.fits _)));
+          (c.args.head.ends.small _)));
     }
 
 pub invariant_of-result-4 : goal.invariant_of-result-4
-invariant_of-result-4 g c = record {
+invariant_of-result-4 c = record {
   widths = rw (c.as_slice-lows.ensures.value, c.as_slice-3.ensures.value, c.as_slice-4.ensures.value)
       (rw (c.as_slice.ensures.value, c.as_slice-2.ensures.value) at c.in_ok-take_widths.ensures.each);
   some = c.requires.some;
 }
 
 pub returns : goal.returns
-returns g c =
+returns c =
+    let h = c.args.head in
     let w = c.args.window in
     let step = c.args.step in
     let inner = c.window_of-inner in
-    let lows : LieFrom w.start step (λ k. get_or c.as_slice-lows.result.now k 0) (low_at c.args.grid.now) =
-    rw c.as_slice-lows.ensures.value (low_from c.args.grid.now w.start w.end step c.requires.window c.requires.apart
-    c.take_multiples.new.out.items (λ k. c.in_ok-take_multiples.ensures.each k ∙ c.part.ensures.each (k * step)
-    ∙ c.lows.ensures.each (w.start + k * step))) in
+    let lows : LieFrom w.start step (λ k. get_or c.as_slice-lows.result.now k 0) (λ x. get_or h.lows.now x 0) =
+    rw c.as_slice-lows.ensures.value (low_from h.lows.now h.highs.now h.ends.paired w.start w.end step c.requires.window
+    c.requires.apart c.take_multiples.new.out.items
+    (λ k. c.in_ok-take_multiples.ensures.each k ∙ c.part.ensures.each (k * step))) in
     record {
-      cells = record {
+      ends = record {
         cells = lows;
         low = in_window w.start step inner.result.start inner.result.end c.as_slice-lows.result.now c.part-3.result.now
-            (low_at c.args.grid.now) c.requires.some inner.ensures c.part-3.ensures.each lows;
-        high = rw c.as_slice-4.ensures.value (high_from c.args.grid.now w.start w.end step c.requires.window c.requires.apart
-            c.take_multiples-2.new.out.items (λ k. c.in_ok-take_multiples-2.ensures.each k ∙ c.part-2.ensures.each (k * step)
-            ∙ c.highs.ensures.each (w.start + k * step)));
+            (λ x. get_or h.lows.now x 0) c.requires.some inner.ensures c.part-3.ensures.each lows;
+        high = rw c.as_slice-4.ensures.value (high_from h.lows.now h.highs.now h.ends.paired w.start w.end step
+            c.requires.window c.requires.apart c.take_multiples-2.new.out.items
+            (λ k. c.in_ok-take_multiples-2.ensures.each k ∙ c.part-2.ensures.each (k * step)));
       };
       step = refl;
     }

@@ -10,8 +10,8 @@ pub returns : goal.returns
 returns c = record {
   low_cells = c.in_ok-lows.ensures.cells;
   high_cells = c.in_ok-highs.ensures.cells;
-  low = λ B g h p q s inside. c.in_ok-lows.ensures.sums _ _ p.low
+  low = λ xs us ys vs p q s inside. c.in_ok-lows.ensures.sums _ _ p.low
       (rw (c.lows_of.ensures c.args.a) (rw c.requires.step at q.low)) s inside;
-  high = λ B g h p q s inside. c.in_ok-highs.ensures.sums _ _ p.high
+  high = λ xs us ys vs p q s inside. c.in_ok-highs.ensures.sums _ _ p.high
       (rw (c.highs_of.ensures c.args.a) (rw c.requires.step at q.high)) s inside;
 }

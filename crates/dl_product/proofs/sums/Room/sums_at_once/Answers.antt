@@ -1,6 +1,5 @@
 use Rattle.dl_product.proofs.Common.{◌≡◌, ◌∙◌, arith, length, ap, get_or_past}
-use Rattle.dl_grid.specs.Cells.{low_at, high_at}
-use Rattle.dl_product.specs.Operand.{HoldsCells}
+use Rattle.dl_product.specs.Operand.{HoldsEnds}
 use Rattle.dl_product.proofs.Apart.{list_sums}
 use Rattle.dl_product.proofs.Reading.{low_past}
 use Rattle.dl_product.proofs.sums.Room.sums_at_once.Goals as goal
@@ -17,18 +16,18 @@ returns c =
     record {
       low_cells = c.in_ok-lows.ensures.cells;
       high_cells = c.in_ok-highs.ensures.cells;
-      low = λ B g h p q s inside.
-          let held : HoldsCells h b = rw c.unwrap_or-other.ensures q in
+      low = λ xs us ys vs p q s inside.
+          let held : HoldsEnds ys vs b = rw c.unwrap_or-other.ensures q in
           list_sums a.highs.start b.highs.start a.step c.args.cells (length a.highs.items.now) (length b.highs.items.now)
-          a.cells.lows.now b.cells.lows.now c.as_slice.result.now c.in_ok-lows.lows.items (low_at g) (low_at h) a.some p.cells
+          a.cells.lows.now b.cells.lows.now c.as_slice.result.now c.in_ok-lows.lows.items _ _ a.some p.cells
           (rw (← step) held.cells) c.in_ok-lows.ensures.each
           (λ k below. rw (c.as_slice.ensures.value, c.unwrap_or-other.ensures)
           (c.in_ok-multiply.ensures.low c.if-not-branch.false k (omega (arith, below, low_long))))
           (rw low_long c.count_before-count.ensures) (low_past a) (low_past b) s inside;
-      high = λ B g h p q s inside.
-          let held : HoldsCells h b = rw c.unwrap_or-other.ensures q in
+      high = λ xs us ys vs p q s inside.
+          let held : HoldsEnds ys vs b = rw c.unwrap_or-other.ensures q in
           list_sums a.highs.start b.highs.start a.step c.args.cells (length a.highs.items.now) (length b.highs.items.now)
-          a.highs.items.now b.highs.items.now c.as_slice-2.result.now c.in_ok-highs.highs.items (high_at g) (high_at h) a.some p.high
+          a.highs.items.now b.highs.items.now c.as_slice-2.result.now c.in_ok-highs.highs.items _ _ a.some p.high
           (rw (← step) held.high) c.in_ok-highs.ensures.each
           (λ k below. rw (c.as_slice-2.ensures.value, c.unwrap_or-other.ensures)
           (c.in_ok-multiply.ensures.high c.if-not-branch.false k (omega (arith, below, high_long))))
