@@ -15,7 +15,7 @@ pub use Rattle.dl_budget.specs.Asks.{IsInside, IsNamed, NamesUnit, Passes, cotai
 unfoldable pub use Rattle.dl_budget.specs.Asks.{ask_budget, in_digits}
 pub use Rattle.dl_budget.specs.Claims.{claims_budget, none_budget}
 pub use Rattle.dl_budget.specs.Units.{mean_budget, total_budget, unit_mean_budget}
-pub use Rattle.dl_distort.specs.Prices.{AreQuantiles, AreTermsOf, price_width}
+pub use Rattle.dl_measures.specs.Prices.{AreQuantiles, AreTermsOf, price_width}
 pub use Rattle.dl_exact.proofs.Counts.{below_grows as count_below_grows, below_more}
 pub use Rattle.dl_exact.proofs.Denominators.{over_le_over, over_split as over_plus}
 pub use Rattle.dl_exact.proofs.Laws.{le_refl, le_trans, lt_not_le, lt_of_lt_of_le, lt_or_le, plus_le_both, plus_le_cancel, sub_le_both}

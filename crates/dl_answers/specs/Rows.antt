@@ -4,8 +4,7 @@ use Rattle.std.specs.Prelude.{ℕ, ◌≡◌, ◌+◌, ◌-◌, ◌^◌, ◌<◌
 use Rattle.dl_limits.specs.Limits.{rarest_parts, bits_of}
 use Rattle.dl_exact.specs.Fraction.{Fraction, ◌over◌, ◌+ℚ◌, ◌<ℚ◌}
 use Rattle.dl_model.specs.Prelude.{Holds, AtLeast, AtMost, Below, Quantity, PricedTerm, One, Point, Cdf, Mean, Layer, Tail, Price, Joint, IsQuantile, IsBracketed, HoldsShare, declared}
-use Rattle.dl_measures.specs.Ends.{IsTight}
-use Rattle.dl_distort.specs.Prices.{AreTermsOf, AreQuantiles}
+use Rattle.dl_measures.specs.Prelude.{IsTight, AreTermsOf, AreQuantiles}
 use Rattle.dl_shares.specs.Drawn.{Declares}
 use Rattle.dl_shares.specs.Settled.{MayBeAbsent}
 use Rattle.dl_plan.specs.declared.plan.Plan.{Plan}

@@ -12,10 +12,9 @@ ghost use Rattle.dl_answers.specs.Grounds.{Prints};
 ghost use Rattle.dl_answers.specs.Rows.{IsBracket, IsTailMean, IsBeyond, IsPastGrid, IsPrice, IsBeyondSome, bracket_end, total_error};
 
 use dl_bytes::Text;
-use dl_distort::price;
 use dl_frac::Frac;
 use dl_iv::Iv;
-use dl_measures::{Distribution, quantile, tail_mean};
+use dl_measures::{Distribution, price, quantile, tail_mean};
 use dl_plan::Term;
 use dl_report::{End, Row};
 

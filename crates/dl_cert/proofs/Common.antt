@@ -33,7 +33,7 @@ unfoldable pub use Rattle.dl_exact.specs.Fraction.{◌*ℚ◌, ◌+ℚ◌, ◌/�
 unfoldable pub use Rattle.dl_exact.specs.Power.{◌^ℚ◌}
 pub use Rattle.dl_exact.specs.Rounding.{IsCeiling, IsFloor}
 unfoldable pub use Rattle.dl_exact.specs.Sum.{sum_pairs, sum_to}
-pub use Rattle.dl_exp.specs.Ends.{exp_high, exp_low}
+pub use Rattle.dl_panjer.specs.Ends.{exp_high, exp_low}
 pub use Rattle.dl_grid.specs.Cells.{IsGrid, mass_low}
 unfoldable pub use Rattle.dl_grid.specs.Cells.{all_at_zero, high_at, low_at}
 pub use Rattle.dl_grid.specs.Convolution.{IsConvolution}

@@ -13,7 +13,7 @@ use Rattle.dl_plan.specs.declared.severity.Sev.{Sev}
 use Rattle.dl_plan.specs.Prelude.{probability_of, thinned_mean}
 use Rattle.dl_budget.specs.Halvings.{halvings}
 use Rattle.dl_model.specs.Prelude.{fixed, binomial, cell}
-use Rattle.dl_exp.specs.Ends.{exp_low, exp_high}
+use Rattle.dl_panjer.specs.Ends.{exp_low, exp_high}
 use Rattle.dl_cert.specs.declared.step.Kind.{Kind}
 use Rattle.dl_cert.specs.declared.step.Kind.TheVariants.{One, Start, Times}
 use Rattle.dl_cert.specs.Targets.{above_zero}

@@ -16,10 +16,9 @@ ghost use Rattle.dl_cert.specs.Bases.{low_base, high_base, low_share, high_share
 
 use crate::base::{Base, Chance, Share};
 use dl_budget::halvings;
-use dl_exp::exp_neg;
 use dl_frac::Frac;
 use dl_iv::{Iv, units_of_one};
-use dl_panjer::{count_at_most, next_cell};
+use dl_panjer::{count_at_most, exp_neg, next_cell};
 use dl_plan::{Freq, Item, Sev, Unit};
 use std::alloc::{AllocError, Global};
 

@@ -15,9 +15,8 @@ ghost use Rattle.dl_cert.specs.Bases.{IsBaseOf};
 
 use crate::base::{Base, Chance, Share};
 use dl_budget::halvings;
-use dl_exp::exp_neg;
 use dl_frac::Frac;
-use dl_panjer::{Rate, geometric_start, halved};
+use dl_panjer::{Rate, exp_neg, geometric_start, halved};
 use dl_plan::{Freq, Sev, Unit};
 use std::alloc::{AllocError, Global};
 

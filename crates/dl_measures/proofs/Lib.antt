@@ -7,3 +7,5 @@ pub mod Sums
 pub mod Reached
 pub mod LayerEnds
 pub mod TailLaws
+mod Parts
+mod PriceSums

@@ -2,4 +2,5 @@ pub mod Brackets
 pub mod Layers
 pub mod Ends
 pub mod Running
+pub mod Prices
 pub mod Prelude

@@ -1,5 +1,5 @@
 -- The names that the proofs of this crate cite most, passed on from one place. Declares nothing.
-pub use Rattle.std.proofs.Common.{Bool, List, [], ap, ap₂, arith, drop, eqb, false, get_or, inl, inr, leb, leb-true, length, mul-le-mul, mul-pos, mul_comm, refl, rules, subst, suc, sym, take, true, zero, ℕ, ◌%◌, ◌*◌, ◌++◌, ◌+◌, ◌-◌, ◌/◌, ◌<◌, ◌^◌, ◌∙◌, ◌∷◌, ◌≡◌, ◌≢◌, ◌≤◌, ◌⊎◌}
+pub use Rattle.std.proofs.Common.{Bool, List, [], ap, ap₂, arith, drop, eqb, false, get_or, inl, inr, leb, leb-true, length, mul-le-mul, mul-pos, mul_comm, refl, rules, subst, suc, sym, take, true, zero, ℕ, ◌%◌, ◌*◌, ◌++◌, ◌+◌, ◌-◌, ◌/◌, ◌<◌, ◌^◌, ◌∙◌, ◌∷◌, ◌≡◌, ◌≢◌, ◌≤◌, ◌⊎◌, div-mul-le_self, le_of_mul-le-mul_right, mul-le-mul_left, subst₂}
 pub use Rattle.std.proofs.Math.Nat.{lt-div-mul-add, min-eq_right, mod-eq_of_lt, mul-le-mul_right, pow-le-pow_right, zero-lt-suc}
 pub use Rattle.std.proofs.lemmas.Bool.{cases_lt, eq-eqb, leb-false, ne_eqb}
 pub use Rattle.std.proofs.lemmas.List.Sums.{sum_by-cons, sum_by-take-drop, sum_by-take-le, sum_by_more}
@@ -10,9 +10,9 @@ pub use Rattle.std.proofs.lemmas.List.{get_or-drop, get_or-map, get_or-take, len
 pub use Rattle.std.proofs.lemmas.List.Elements.{All-nil, All-push, All-tail, All-take}
 pub use Rattle.dl_exact.proofs.Counts.{below_constant, below_first, below_grows, below_le, below_none, below_pairs, below_plus, below_same, below_times, pairs_le, pairs_plus, pairs_same, pairs_within}
 pub use Rattle.dl_exact.proofs.Denominators.{over_zero, units_of}
-pub use Rattle.dl_exact.proofs.Laws.{div_pos, div_times, le_of_eq, le_plus, le_refl, le_trans, lt_of_lt_of_le, one_pos, one_times, over_times_whole, plus_comm, plus_times, plus_zero, ring, times_assoc, times_cancel, times_comm, times_le_both, times_le_times, times_left_comm, times_one, times_zero, whole_plus, whole_pos, zero_le, zero_plus, zero_times}
+pub use Rattle.dl_exact.proofs.Laws.{div_pos, div_times, le_of_eq, le_plus, le_refl, le_trans, lt_of_lt_of_le, one_pos, one_times, over_times_whole, plus_comm, plus_times, plus_zero, ring, times_assoc, times_cancel, times_comm, times_le_both, times_le_times, times_left_comm, times_one, times_zero, whole_plus, whole_pos, zero_le, zero_plus, zero_times, plus_le_both, times_le_cancel, times_plus, whole_times}
 pub use Rattle.dl_exact.proofs.Over.{over_add, over_cross, over_div, over_le, over_mul, over_same, over_self}
-pub use Rattle.dl_exact.proofs.RoundingLaws.{ceiling_div, div_ceil_least, floor_div, le_whole}
+pub use Rattle.dl_exact.proofs.RoundingLaws.{ceiling_div, div_ceil_least, floor_div, le_whole, part_within, whole_le}
 pub use Rattle.dl_exact.proofs.Sums.{sum_pairs_le, sum_pairs_same, sum_pairs_times, sum_to_le, sum_to_same, sum_to_times}
 unfoldable pub use Rattle.dl_exact.specs.Count.{count_below}
 pub use Rattle.dl_exact.specs.Fraction.{Fraction, whole}
@@ -37,7 +37,8 @@ pub use Rattle.dl_plan.specs.Severity.{probability_of}
 pub use Rattle.dl_plan.specs.Weighted.{IsWeighted, amounts_of, weight_at, weight_sum}
 pub use Rattle.dl_plan.specs.declared.item.Item.{Item}
 pub use Rattle.dl_plan.specs.declared.severity.Sev.{Sev}
-pub use Rattle.dl_exp.specs.Exponential.{EnclosesExp, exponential_sum, exponential_term}
+pub use Rattle.dl_panjer.specs.Exponential.{EnclosesExp, exponential_sum}
+unfoldable pub use Rattle.dl_panjer.specs.Exponential.{exponential_term}
 pub use Rattle.dl_model.proofs.FamilyLaws.{cell_at_most_one, compound_proper}
 pub use Rattle.dl_model.proofs.Panjer.{before_in_whole, cell_from_before, cell_zero, gamma_class, poisson_class, recursion_there}
 pub use Rattle.dl_model.proofs.WithinOne.{within_one}
@@ -53,3 +54,6 @@ pub use Rattle.dl_panjer.specs.Bases.{FollowsRounded, IsGeometricBase, IsPoisson
 pub use Rattle.dl_panjer.specs.Cells.{Follows, coefficient, counted, given, high_next, low_next, next_sum}
 pub use Rattle.dl_panjer.specs.Outward.{FollowsOutward, IsCeilingWithin}
 pub use Rattle.dl_panjer.specs.declared.rate.Rate.{Rate}
+pub use Rattle.std.proofs.lemmas.Grind.{div_ceil_times}
+pub use Rattle.dl_exact.proofs.SumsOver.{high_sum, low_sum}
+pub use Rattle.dl_iv.proofs.Rounding.{ceiling_reaches, floor_le_ceiling, power_le}

@@ -1,4 +1,8 @@
 mod Common
+pub mod Terms
+pub mod Roundings
+pub mod Reciprocals
+pub mod EndLaws
 pub mod ItemSums
 pub mod Reading
 pub mod Steps

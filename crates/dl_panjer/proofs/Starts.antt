@@ -4,7 +4,7 @@ use Rattle.dl_exact.proofs.Laws.{times_le_cancel}
 use Rattle.dl_exact.specs.Rounding.{IsCeiling}
 use Rattle.dl_model.proofs.TailScores.{div_is_times}
 use Rattle.dl_model.proofs.PoissonWeights.{poisson_zero, poisson_next}
-use Rattle.dl_exp.proofs.Terms.{term_zero, term_next}
+use Rattle.dl_panjer.proofs.Terms.{term_zero, term_next}
 use Rattle.dl_panjer.proofs.Recursions.{one_and}
 
 -- the weights of the Poisson count are the terms of the exponential's series

@@ -5,7 +5,8 @@ use Rattle.std.specs.Int.{div_ceil}
 use Rattle.dl_exact.specs.Prelude.{Fraction, whole, ◌+ℚ◌, ◌*ℚ◌, ◌/ℚ◌, ◌≤ℚ◌, IsFloor}
 use Rattle.dl_iv.specs.declared.interval.Iv.{Iv}
 use Rattle.dl_grid.specs.Cells.{low_at, high_at}
-use Rattle.dl_exp.specs.Prelude.{EnclosesExp, exp_low, exp_high}
+use Rattle.dl_panjer.specs.Exponential.{EnclosesExp}
+use Rattle.dl_panjer.specs.Ends.{exp_low, exp_high}
 use Rattle.dl_model.specs.Recursion.{Recursion}
 use Rattle.dl_plan.specs.declared.item.Item.{Item}
 use Rattle.dl_plan.specs.declared.severity.Sev.{Sev}

@@ -1,3 +1,5 @@
+pub mod Exponential
+pub mod Ends
 pub mod Cells
 pub mod Outward
 pub mod Bases

@@ -1,11 +1,13 @@
-//! What follows for the grids of Poisson and geometric counts, exact and rounded (Klugman, Panjer
-//! and Willmot, Loss Models, "The recursive method"). Nothing here runs.
+//! The laws of the ends of the exponential, and what follows for the grids of Poisson and geometric
+//! counts, exact and rounded (Klugman, Panjer and Willmot, Loss Models, "The recursive method").
+//! Nothing here runs.
 
 ghost use Rattle.std.specs.Prelude.{ℕ, suc, ◌≡◌, ◌<◌, ◌≤◌, ◌^◌, ◌↔◌, List, length};
 ghost use Rattle.dl_exact.specs.Prelude.{Fraction, whole, ◌over◌, ◌+ℚ◌, ◌*ℚ◌, ◌/ℚ◌, ◌≤ℚ◌, sum_to};
 ghost use Rattle.dl_iv.specs.declared.interval.Iv.{Iv};
 ghost use Rattle.dl_grid.specs.Cells.{low_at, high_at};
-ghost use Rattle.dl_exp.specs.Exponential.{exponential_sum, EnclosesExp};
+ghost use Rattle.dl_panjer.specs.Exponential.{exponential_sum, EnclosesExp};
+ghost use Rattle.dl_panjer.specs.Ends.{exp_low, exp_high};
 ghost use Rattle.dl_model.specs.Prelude.{Holds, IsWithinOne, poisson, gamma_of, IsPanjer, compound, Encloses, GridEncloses, Recursion};
 ghost use Rattle.dl_plan.specs.declared.severity.Sev.{Sev};
 ghost use Rattle.dl_plan.specs.Severity.{probability_of};
@@ -75,6 +77,16 @@ pub fn law_stands()
         → IsGeometricBase sev beta grid
         → StandsByRecursion (beta /ℚ (whole 1 +ℚ beta)) (beta /ℚ (whole 1 +ℚ beta))
         (probability_of sev) grid }
+{}
+
+/// For `x` up to 1/2 the numbers `exp_low` and `exp_high`, in units of `1 / 2^B`, are at most and
+/// at least 1 over the least upper bound of the partial sums of the exponential's series.
+#[tactic(auto, using(crate::proofs::EndLaws::low_encloses, crate::proofs::EndLaws::high_encloses))]
+pub fn law_ends()
+    ensures low { (B : ℕ) (x : Fraction) → x ≤ℚ 1 over 2 → (N : ℕ)
+        → exp_low B x over 2 ^ B *ℚ exponential_sum x N ≤ℚ whole 1 }
+    ensures high { (B : ℕ) (x u : Fraction) → ((N : ℕ) → exponential_sum x N ≤ℚ u)
+        → whole 1 ≤ℚ exp_high B x over 2 ^ B *ℚ u }
 {}
 
 /// An interval encloses the exponential exactly where it holds 1 over the sums of its series; and

@@ -7,11 +7,11 @@ ghost use Rattle.dl_model.specs.Prelude.{poisson, compound, GridEncloses};
 ghost use Rattle.dl_plan.specs.Prelude.{probability_of, HasPartsOf48Bits};
 ghost use Rattle.dl_panjer.specs.Bases.{IsPoissonBase, StartsAtExp};
 
+use crate::exponential::exp_neg;
 use crate::follow::follow;
 use crate::made::grid_of;
 use crate::rate::rate_of;
 use crate::rates::halved;
-use dl_exp::exp_neg;
 use dl_frac::Frac;
 use dl_grid::Grid;
 use dl_plan::Sev;

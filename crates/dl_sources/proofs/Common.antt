@@ -18,7 +18,7 @@ pub use Rattle.dl_budget.proofs.Sums.{budget_here, budgets_length, read_unit}
 pub use Rattle.dl_budget.specs.Claims.{claims_budget, none_budget}
 unfoldable pub use Rattle.dl_budget.specs.Claims.{count_budget}
 pub use Rattle.dl_budget.specs.Units.{after_clause, after_zero as budget_after_zero, mean_after_zero, mean_budget, mean_by, others_budget, total_budget, total_by, unit_budget, unit_budgets, unit_mean_budget}
-pub use Rattle.dl_cede.specs.Means.{HoldsClaims, HoldsMean, most_claims_mean, most_limited}
+pub use Rattle.dl_outcomes.specs.Means.{HoldsClaims, HoldsKept, most_claims_mean, most_limited}
 pub use Rattle.dl_exact.proofs.Counts.{below_grows as count_below_grows, below_more}
 pub use Rattle.dl_exact.proofs.Denominators.{over_le_over, over_split as over_plus}
 pub use Rattle.dl_exact.proofs.Laws.{le_refl, le_trans, lt_not_le, lt_of_lt_of_le, lt_or_le, one_pos, plus_le_both, plus_le_cancel, sub_le_both}

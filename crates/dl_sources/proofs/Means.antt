@@ -1,5 +1,5 @@
 -- The mean of a total, from those of its units.
-use Rattle.dl_sources.proofs.Common.{ℕ, suc, ◌≡◌, ◌+◌, ◌-◌, ◌*◌, ◌^◌, ◌≤◌, List, [], ◌∷◌, length, map, arith, sym, ap, subst, subst₂, ◌∙◌, Option, None, Some, All, mul-le-mul_left, pow_pos, Fraction, whole, ◌over◌, ◌*ℚ◌, ◌+ℚ◌, Iv, spread, CedeLayer, Plan, Clause, horizon, IsValidUnit, IsValid, claims_budget, mean_width, unit_mean_budget, one_horizon, AreUnitMeans, IsUnitMean, IsMeanOf, loss_of, sum_by, All-tail, over_same, one_pos, over_plus, are_units, no_clause, units_declared, MeanHolds, units_mean, UnitOfPlan, layer_budget, clause_mean, part_width, HoldsClaims, HoldsMean, independent, IsClaimsSum, IsClauseMean}
+use Rattle.dl_sources.proofs.Common.{ℕ, suc, ◌≡◌, ◌+◌, ◌-◌, ◌*◌, ◌^◌, ◌≤◌, List, [], ◌∷◌, length, map, arith, sym, ap, subst, subst₂, ◌∙◌, Option, None, Some, All, mul-le-mul_left, pow_pos, Fraction, whole, ◌over◌, ◌*ℚ◌, ◌+ℚ◌, Iv, spread, CedeLayer, Plan, Clause, horizon, IsValidUnit, IsValid, claims_budget, mean_width, unit_mean_budget, one_horizon, AreUnitMeans, IsUnitMean, IsMeanOf, loss_of, sum_by, All-tail, over_same, one_pos, over_plus, are_units, no_clause, units_declared, MeanHolds, units_mean, UnitOfPlan, layer_budget, clause_mean, part_width, HoldsClaims, HoldsKept, independent, IsClaimsSum, IsClauseMean}
 use Rattle.std.proofs.lemmas.List.Sums.{sum_by-cons}
 use Rattle.dl_exact.specs.Sum.{sum_over}
 use Rattle.dl_model.proofs.TotalMeans.{mean_of_total}
@@ -14,7 +14,7 @@ use Rattle.dl_model.proofs.Declared.{at_most_wider}
 use Rattle.dl_model.proofs.PlanMeans.{mean_with_change}
 use Rattle.dl_model.proofs.PlanUnits.{loss_of_declared}
 use Rattle.dl_budget.specs.Units.{mean_budget, mean_by}
-use Rattle.dl_zero.proofs.Means.{mean_low as low_of_mean}
+use Rattle.dl_outcomes.proofs.Means.{mean_low as low_of_mean}
 
 -- ---- of a unit without a clause
 
@@ -49,7 +49,7 @@ clause_rises v w None h = omega arith
 clause_rises v w (Some clause) h = omega (arith, layers_rise v w clause.1 h)
 
 pub clause_unit_mean : {B : ℕ} {cells : ℕ} {u : UnitOfPlan} (g : List (Iv B)) {mean : Iv B} → IsValidUnit cells u
-    → HoldsMean u mean → mean.hi - mean.lo ≤ mean_width u.cede (spread g) → IsClaimsSum cells u g
+    → HoldsKept u mean → mean.hi - mean.lo ≤ mean_width u.cede (spread g) → IsClaimsSum cells u g
     → IsClauseMean cells u mean
 clause_unit_mean {B} {cells = cells} {u = u} g valid holds width sum = record {
   holds = holds;

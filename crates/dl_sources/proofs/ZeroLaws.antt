@@ -3,8 +3,8 @@ use Rattle.dl_sources.proofs.Common.{ℕ, ◌≡◌, ◌+◌, ◌-◌, ◌*◌, 
 use Rattle.dl_model.specs.ChangedZero.{changed}
 use Rattle.dl_model.proofs.NewZero.{count_new_zero}
 use Rattle.dl_budget.proofs.NoneSizes.{none_small}
-use Rattle.dl_zero.specs.Prelude.{HoldsNone, HoldsMean, IsBefore, changed_spread, changed_mean_width}
-use Rattle.dl_zero.proofs.Means.{none_low as low_of_none, mean_low as low_of_mean}
+use Rattle.dl_outcomes.specs.Prelude.{HoldsNone, HoldsMean, IsBefore, changed_spread, changed_mean_width}
+use Rattle.dl_outcomes.proofs.Means.{none_low as low_of_none, mean_low as low_of_mean}
 use Rattle.dl_sources.proofs.Scales.{changed_fits, mean_fits, scale_least}
 
 -- ---- a unit without a change

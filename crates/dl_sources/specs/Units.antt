@@ -7,7 +7,7 @@ use Rattle.dl_grid.specs.Cells.{spread}
 use Rattle.dl_model.specs.Prelude.{GridEncloses, mapped, aggregate_of, compound_of, loss_of}
 use Rattle.dl_plan.specs.declared.plan.Unit.{Unit as UnitOfPlan}
 use Rattle.dl_plan.specs.Prelude.{IsHorizonOf, horizon, mean_width}
-use Rattle.dl_cede.specs.Means.{HoldsMean}
+use Rattle.dl_outcomes.specs.Means.{HoldsKept}
 use Rattle.dl_budget.specs.Prelude.{claims_budget, after_clause}
 use Rattle.dl_port.specs.Shared.{EnclosesSum}
 use Rattle.dl_shares.specs.Drawn.{IsUnitGrid, IsUnitMean, AreUnitGrids, AreUnitMeans}
@@ -38,7 +38,7 @@ pub record IsClauseGrid {B : ℕ} (many : ℕ) (u : UnitOfPlan) (g : List (Iv B)
 
 -- the mean of these, within its budget
 pub record IsClauseMean {B : ℕ} (cells : ℕ) (u : UnitOfPlan) (mean : Iv B) : Type 0 where
-  pub holds : HoldsMean u mean
+  pub holds : HoldsKept u mean
   pub narrow : mean.hi
       ≤ mean.lo + mean_width u.cede (claims_budget (2 ^ B) (horizon u.cede cells) u)
 

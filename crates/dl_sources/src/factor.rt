@@ -10,10 +10,10 @@ ghost use Rattle.dl_sources.specs.Pooled.{IsPooledOf};
 
 use crate::outcomes::unit_means;
 use dl_budget::{AllBudgets, unit_budget};
-use dl_cede::claims_mean;
 use dl_grid::Grid;
 use dl_iv::Iv;
 use dl_limits::BUDGET_BOUND;
+use dl_outcomes::claims_mean;
 use dl_plan::{Plan, Unit};
 use dl_pool::{pool, raised};
 use dl_product::Workspace;

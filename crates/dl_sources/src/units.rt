@@ -4,19 +4,18 @@ ghost use Rattle.std.specs.Prelude.{Some, None, ◌≡◌, ◌-◌, ◌≤◌, �
 ghost use Rattle.dl_limits.specs.Limits.{most_unit_mean};
 ghost use Rattle.dl_model.specs.Prelude.{aggregate_of};
 ghost use Rattle.dl_plan.specs.Prelude.{IsUnitOn};
-ghost use Rattle.dl_zero.specs.Before.{HoldsNone};
+ghost use Rattle.dl_outcomes.specs.Before.{HoldsNone};
 ghost use Rattle.dl_budget.specs.Claims.{none_budget};
 ghost use Rattle.dl_shares.specs.Drawn.{IsUnitGrid, IsUnitMean};
 ghost use Rattle.dl_sources.specs.Units.{most_clause_mean, IsClaimsSum, IsClauseGrid, IsClauseMean, IsOutcomeOf};
 
-use dl_cede::{cede_grid, cede_mean, claims_mean};
 use dl_frac::Frac;
 use dl_grid::Grid;
 use dl_iv::Iv;
+use dl_outcomes::{cede_grid, cede_mean, claims_mean, zero_grid, zero_mean};
 use dl_plan::Unit;
 use dl_product::Workspace;
 use dl_unit::{none_of, unit_grid_with};
-use dl_zero::{zero_grid, zero_mean};
 use std::alloc::{AllocError, Global};
 
 /// The grid of a unit's outcomes, and their mean.

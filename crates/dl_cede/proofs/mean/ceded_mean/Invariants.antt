@@ -1,5 +1,0 @@
-use Rattle.dl_cede.proofs.MeanEnds.{HasCeded}
-use Rattle.dl_cede.proofs.mean.ceded_mean.Given as goal
-
-abbrev pub invariant-layers : goal.invariant-layers
-invariant-layers g l = HasCeded l.grid l.claims l.cede.1 l.layer-index l.ceded

@@ -1,2 +1,0 @@
-pub mod TakenIn
-pub mod Means

@@ -1,3 +1,0 @@
-mod Common
-mod Parts
-mod Sums

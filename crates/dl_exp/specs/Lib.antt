@@ -1,3 +1,0 @@
-pub mod Exponential
-pub mod Ends
-pub mod Prelude

@@ -1,0 +1,5 @@
+pub mod TakenIn
+pub mod Means
+pub mod Before
+pub mod Ends
+pub mod Prelude

@@ -1,6 +1,0 @@
-mod Common
-pub mod Rounded
-pub mod Values
-pub mod Losses
-pub mod Cells
-pub mod Means

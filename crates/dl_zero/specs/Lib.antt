@@ -1,3 +1,0 @@
-pub mod Before
-pub mod Ends
-pub mod Prelude
