@@ -13,7 +13,7 @@ WORDS = {2**bits - low for bits in (32, 64, 128) for low in (0, 1)}
 # the places where a number may stand bare, and why
 ALLOWED = {
     "dl_limits/": "the names themselves",
-    "dl_outside/src/whole.rt": "half a word of 32 bits, of any reader: the crate stands on no other",
+    "dl_streams/src/whole.rt": "half a word of 32 bits, of any reader: the crate stands on no other",
     "dl_top/src/parts.rt": "what that reader takes",
     "dl_top/specs/Made.antt": "the multiplier and the increment of a generator",
     "dl_top/src/generator.rt": "the same, computed",

@@ -3,7 +3,7 @@
 //! standard error. The program ends with the number of the status.
 #![tactic(auto)]
 
-use dl_outside::{StdSink, StdSource};
+use dl_streams::{StdSink, StdSource};
 use dl_top::run_with_arguments;
 use std::env;
 use std::process::ExitCode;

@@ -11,6 +11,6 @@ pub use Rattle.std.specs.Prelude.{All, max, min, sum}
 pub use Rattle.dl_exact.proofs.Counts.{below_bound, below_first, below_more, below_none, below_pairs, below_rest, below_same, nothing_times, pairs_le, pairs_plus, pairs_same, times_nothing}
 unfoldable pub use Rattle.dl_exact.specs.Count.{count_below, count_pairs}
 pub use Rattle.dl_grid.proofs.CellLaws.{high_le, scale_of, size_of}
-pub use Rattle.dl_conv.specs.Sums.{ItemsFit, pair_sum}
+pub use Rattle.dl_convolution.specs.Sums.{ItemsFit, pair_sum}
 pub use Rattle.dl_halves.specs.Halves.{IsHalvable}
 pub use Rattle.dl_halves.specs.Modulo.{IsSame}

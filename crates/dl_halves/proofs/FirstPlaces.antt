@@ -1,7 +1,7 @@
 -- The first places of a product from the product of the first halves and two shorter ones.
 use Rattle.dl_halves.proofs.Common.{ℕ, ◌≡◌, ◌+◌, ◌-◌, ◌*◌, ◌%◌, ◌^◌, ◌<◌, ◌≤◌, List, length, take, drop, map, arith, sym, subst, ap, ap₂, inl, inr, ◌∙◌, All, mod-eq_of_lt, cases_lt, length-drop, take_all, ItemsFit, pair_sum}
 use Rattle.std.proofs.lemmas.List.Folds.{map_fixed}
-use Rattle.dl_conv.proofs.Fits.{sum_fits}
+use Rattle.dl_convolution.proofs.Fits.{sum_fits}
 use Rattle.dl_halves.proofs.Fits.{first_word, second_word, twice_fits}
 use Rattle.dl_halves.proofs.Karatsuba.{item, short_first, short_later}
 

@@ -1,7 +1,7 @@
 -- Parts of lists whose items have room for the sums of their products.
 use Rattle.dl_halves.proofs.Common.{ℕ, suc, ◌≡◌, ◌-◌, ◌*◌, ◌^◌, ◌<◌, ◌≤◌, List, length, take, drop, arith, All, le_trans, mul-le-mul_right, pair_sum, ItemsFit, length-take, length-drop}
 use Rattle.std.proofs.lemmas.List.Elements.{All-drop, All-take}
-use Rattle.dl_conv.proofs.Fits.{sum_bound}
+use Rattle.dl_convolution.proofs.Fits.{sum_bound}
 
 -- an item is below 2^56
 pub first_word : {a b : List ℕ} {n : ℕ} → ItemsFit a b n → All (λ x. x ≤ 2 ^ 56) a

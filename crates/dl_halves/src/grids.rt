@@ -2,11 +2,11 @@
 
 ghost use Rattle.std.specs.Prelude.{◌≡◌, ℕ, ◌*◌, ◌^◌, ◌<◌, ◌≤◌, length, get_or, IfOk};
 ghost use Rattle.dl_grid.specs.Prelude.{spread, IsConvolution, convolution_spread};
-ghost use Rattle.dl_conv.specs.Sums.{pair_sum, ItemsFit};
+ghost use Rattle.dl_convolution.specs.Sums.{pair_sum, ItemsFit};
 ghost use Rattle.dl_halves.specs.Halves.{halved_from};
 
 use crate::short::{halved_sums, work_for};
-use dl_conv::{grid_of_sums, room_for_sums};
+use dl_convolution::{grid_of_sums, room_for_sums};
 use dl_grid::Grid;
 use std::alloc::{AllocError, Global};
 

@@ -3,7 +3,7 @@
 ghost use Rattle.std.specs.Prelude.{◌≡◌, ℕ, ◌+◌, ◌-◌, ◌*◌, ◌%◌, ◌^◌, ◌<◌, ◌≤◌, min, map, length, get_or};
 ghost use Rattle.dl_limits.specs.Limits.{most_cells};
 ghost use Rattle.dl_halves.specs.Modulo.{IsSame};
-ghost use Rattle.dl_conv.specs.Sums.{pair_sum};
+ghost use Rattle.dl_convolution.specs.Sums.{pair_sum};
 ghost use Rattle.dl_halves.specs.Halves.{IsHalvable};
 
 use crate::ring::Ring;

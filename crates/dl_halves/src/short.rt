@@ -2,12 +2,12 @@
 
 ghost use Rattle.std.specs.Prelude.{◌≡◌, ℕ, ◌+◌, ◌*◌, ◌^◌, ◌<◌, ◌≤◌, length, get_or, take};
 ghost use Rattle.dl_limits.specs.Limits.{most_cells};
-ghost use Rattle.dl_conv.specs.Sums.{pair_sum, ItemsFit};
+ghost use Rattle.dl_convolution.specs.Sums.{pair_sum, ItemsFit};
 ghost use Rattle.dl_halves.specs.Halves.{halved_from, IsHalvable};
 
 use crate::halves::halved;
 use crate::ring::Words;
-use dl_conv::plain_sums;
+use dl_convolution::plain_sums;
 
 /// The number of items from which on halving is faster than the plain product.
 const HALVED_FROM: usize = 1536;

@@ -4,7 +4,7 @@ ghost use Rattle.std.specs.Prelude.{ℕ, ◌≡◌, ◌≤◌, length, map, flat
 ghost use Rattle.dl_limits.specs.Limits.{most_expected, most_weights};
 ghost use Rattle.dl_exact.specs.Fraction.{Fraction, whole, ◌-ℚ◌, ◌*ℚ◌, ◌≤ℚ◌, ◌<ℚ◌};
 ghost use Rattle.dl_plan.specs.Prelude.{common_denominator, HasPartsOf48Bits, pairs_of, probability_of, expected_count, IsValid, IsValidUnit, CanShare, expected_of, unit_share, shared_probabilities, SharesFactor};
-ghost use Rattle.dl_sev.specs.Prelude.{IsWeighing, sum_of};
+ghost use Rattle.dl_severity.specs.Prelude.{IsWeighing, sum_of};
 ghost use Rattle.dl_model.specs.Prelude.{Quantity, declared, pooled_severity, CountsTotal, IsPoissonSum, poisson_units};
 ghost use Rattle.dl_pool.specs.Pooled.{HavePoissonSum, IsPooled, alone, lent};
 
@@ -14,7 +14,7 @@ use dl_bytes::Text;
 use dl_frac::Frac;
 use dl_limits::{ADMITTED_BOUND, MOST_EXPECTED, MOST_PARTS, MOST_WEIGHTS};
 use dl_plan::{Freq, Plan, Sev, Unit};
-use dl_sev::{MixFault, WeighFault, Weights, mix, weigh};
+use dl_severity::{MixFault, WeighFault, Weights, mix, weigh};
 use std::alloc::{AllocError, Global};
 
 /// One gamma unit in the place of all units of a plan with a common factor: its shape is that of

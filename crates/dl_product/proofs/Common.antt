@@ -7,6 +7,6 @@ pub use Rattle.std.specs.Prelude.{max}
 pub use Rattle.dl_exact.proofs.Counts.{pairs_same, times_nothing}
 pub use Rattle.dl_exact.proofs.Results.{if_ok_two}
 unfoldable pub use Rattle.dl_exact.specs.Count.{count_pairs}
-pub use Rattle.dl_conv.proofs.Fits.{end_fits, ends_fit, fewer_fit}
-pub use Rattle.dl_conv.proofs.Filled.{written}
-pub use Rattle.dl_conv.specs.Sums.{pair_sum}
+pub use Rattle.dl_convolution.proofs.Fits.{end_fits, ends_fit, fewer_fit}
+pub use Rattle.dl_convolution.proofs.Filled.{written}
+pub use Rattle.dl_convolution.specs.Sums.{pair_sum}

@@ -5,7 +5,7 @@ use Rattle.std.proofs.Math.Nat.{mul-le-mul_right}
 use Rattle.dl_exact.specs.Count.{count_below}
 use Rattle.dl_exact.proofs.Counts.{below_more, below_nothing, below_pairs, below_same, below_times, pairs_none}
 use Rattle.dl_iv.specs.declared.interval.Iv.{Iv}
-use Rattle.dl_conv.proofs.Fits.{ends_fit, sum_fits}
+use Rattle.dl_convolution.proofs.Fits.{ends_fit, sum_fits}
 use Rattle.dl_grid.specs.Cells.{low_at, high_at, high_ends}
 use Rattle.dl_grid.proofs.EndLists.{ends_of_grid, high_at_ends}
 use Rattle.dl_product.specs.declared.ends.Head.{Head}

@@ -1,6 +1,6 @@
 -- The ends of cells in an operand.
 use Rattle.std.specs.Prelude.{ℕ, ◌≡◌, ◌<◌, List, length, get_or}
-use Rattle.dl_conv.specs.Sums.{pair_sum, ItemsFit}
+use Rattle.dl_convolution.specs.Sums.{pair_sum, ItemsFit}
 use Rattle.dl_product.specs.declared.ends.Ends.{Ends}
 use Rattle.dl_product.specs.declared.operand.Operand.{Operand}
 use Rattle.dl_product.specs.Places.{LieFrom}

@@ -3,11 +3,11 @@
 ghost use Rattle.std.specs.Prelude.{◌≡◌, ℕ, ◌+◌, ◌-◌, ◌*◌, ◌^◌, ◌<◌, ◌≤◌, length, get_or};
 ghost use Rattle.dl_exact.specs.Count.{count_below};
 ghost use Rattle.dl_grid.specs.Prelude.{spread, IsConvolution, convolution_spread};
-ghost use Rattle.dl_conv.specs.Sums.{pair_sum};
+ghost use Rattle.dl_convolution.specs.Sums.{pair_sum};
 ghost use Rattle.dl_product.specs.Heads.{IsHead};
 
 use crate::ends::Head;
-use dl_conv::grid_of_sums;
+use dl_convolution::grid_of_sums;
 use dl_grid::Grid;
 
 /// Item `k` of a list, or 0 past its end.

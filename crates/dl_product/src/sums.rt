@@ -5,7 +5,7 @@ ghost use Rattle.std.specs.Prelude.{◌≡◌, ℕ, ◌+◌, ◌*◌, ◌^◌, �
 ghost use Rattle.std.specs.Prelude.{true, length, get_or, unwrap_or, IfOk, IfSome};
 ghost use Rattle.dl_limits.specs.Limits.{most_cells};
 ghost use Rattle.dl_exact.specs.Count.{count_pairs};
-ghost use Rattle.dl_conv.specs.Sums.{ItemsFit};
+ghost use Rattle.dl_convolution.specs.Sums.{ItemsFit};
 ghost use Rattle.dl_transform.specs.Products.{other, AreHighSums, AreLowSums};
 ghost use Rattle.dl_transform.specs.declared.cells.Cells.{Cells};
 ghost use Rattle.dl_product.specs.declared.ends.Ends.{Ends};
@@ -16,7 +16,7 @@ ghost use Rattle.dl_product.specs.Places.{LieFrom};
 use crate::ends::Ends;
 use crate::operand::Operand;
 use crate::steps::{count_before, set_length, spread_out};
-use dl_conv::plain_sums;
+use dl_convolution::plain_sums;
 use dl_transform::{Buffers, Cells, Setup, product, set_up};
 use std::alloc::{AllocError, Global};
 

@@ -3,7 +3,7 @@ use Rattle.dl_shares.proofs.Common.{ℕ, ◌≡◌, ◌∙◌, ◌+◌, ◌-◌,
 use Rattle.dl_exact.specs.Gcd.{gcd}
 use Rattle.dl_exact.proofs.GcdLaws.{gcd_is}
 use Rattle.dl_exact.proofs.Multiples.{part_divides}
-use Rattle.dl_sev.proofs.Sharing.{share_is}
+use Rattle.dl_severity.proofs.Sharing.{share_is}
 use Prim.Native.Nat.{◌∣◌}
 
 den_divides_over : (n d : ℕ) → 0 < d → (n over d).den ∣ d

@@ -8,9 +8,9 @@ use Rattle.std.proofs.lemmas.List.{append-nil, get_or-replicate, length-replicat
 use Rattle.std.proofs.lemmas.List.Elements.{All-filter, All-take, All-drop, filter-append}
 use Rattle.dl_exact.proofs.Made.{all_pushed}
 use Rattle.dl_plan.specs.Common.{can_share, is_poisson}
-use Rattle.dl_port.specs.Shared.{EnclosesSum}
-use Rattle.dl_port.specs.Sums.{EncloseEach}
-use Rattle.dl_port.proofs.Added.{alone}
+use Rattle.dl_totals.specs.Shared.{EnclosesSum}
+use Rattle.dl_totals.specs.Sums.{EncloseEach}
+use Rattle.dl_totals.proofs.Added.{alone}
 use Rattle.dl_sources.specs.Pooled.{IsPooledFor, rest_of, unpooled}
 use Rattle.dl_sources.specs.Same.{AreAlike, AreAllAlike}
 use Rattle.dl_sources.specs.Units.{AddMeans, IsSumOfUnits}

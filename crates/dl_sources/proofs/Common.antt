@@ -66,7 +66,7 @@ pub use Rattle.dl_plan.specs.Valid.{IsNewZero, IsValid, IsValidUnit}
 pub use Rattle.dl_plan.specs.declared.cede.CedeLayer.{CedeLayer}
 pub use Rattle.dl_plan.specs.declared.plan.Plan.{Plan}
 pub use Rattle.dl_plan.specs.declared.plan.Unit.{Unit as UnitOfPlan}
-pub use Rattle.dl_port.specs.Shared.{AreSumsWithout, IsSumWithout, IsTotal}
+pub use Rattle.dl_totals.specs.Shared.{AreSumsWithout, IsSumWithout, IsTotal}
 pub use mathlib.Core.Path.{fun_ext}
 pub use Rattle.dl_budget.specs.Asks.{joint_budget, joint_by}
 pub use Rattle.dl_limits.specs.Limits.{most_mean, most_unit_mean}

@@ -13,7 +13,7 @@ use Rattle.std.proofs.lemmas.List.Elements.{All-filter}
 use Rattle.dl_plan.specs.Common.{can_share}
 use Rattle.dl_model.proofs.Alike.{same_cells_enclosed}
 use Rattle.dl_model.proofs.PoissonTotals.{poisson_among}
-use Rattle.dl_port.specs.Sums.{EncloseEach}
+use Rattle.dl_totals.specs.Sums.{EncloseEach}
 use Rattle.dl_sources.proofs.Losses.{is_independent}
 use Rattle.dl_sources.proofs.SumLaws.{each_encloses}
 use Rattle.dl_sources.specs.Pooled.{rest_of, IsPooledFor}

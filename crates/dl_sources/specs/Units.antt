@@ -9,7 +9,7 @@ use Rattle.dl_plan.specs.declared.plan.Unit.{Unit as UnitOfPlan}
 use Rattle.dl_plan.specs.Prelude.{IsHorizonOf, horizon, mean_width}
 use Rattle.dl_outcomes.specs.Means.{HoldsKept}
 use Rattle.dl_budget.specs.Prelude.{claims_budget, after_clause}
-use Rattle.dl_port.specs.Shared.{EnclosesSum}
+use Rattle.dl_totals.specs.Shared.{EnclosesSum}
 use Rattle.dl_shares.specs.Drawn.{IsUnitGrid, IsUnitMean, AreUnitGrids, AreUnitMeans}
 use Rattle.dl_sources.specs.declared.units.Outcome.{Outcome}
 use Rattle.dl_sources.specs.declared.outcomes.Outcomes.{Outcomes}

@@ -16,8 +16,8 @@ use crate::units::{mean_of, outcome_of, plain_grid};
 use dl_grid::Grid;
 use dl_iv::Iv;
 use dl_plan::{Plan, Unit};
-use dl_port::{repeated, sum_of_both};
 use dl_product::Workspace;
+use dl_totals::{repeated, sum_of_both};
 use std::alloc::{AllocError, Global};
 
 /// Puts the mean of units that are alike behind the others, once for each of `many` units.

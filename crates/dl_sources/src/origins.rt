@@ -11,9 +11,9 @@ use crate::extra::{is_from_total, with_extra};
 use dl_budget::{AllBudgets, UnitBudgets};
 use dl_grid::Grid;
 use dl_plan::Plan;
-use dl_port::Sums;
 use dl_product::Workspace;
 use dl_shares::Origin;
+use dl_totals::Sums;
 use std::alloc::{AllocError, Global};
 
 /// What the joint means of independent units come from.

@@ -17,8 +17,8 @@ use dl_budget::AllBudgets;
 use dl_grid::Grid;
 use dl_plan::{Plan, Unit};
 use dl_pool::{pool_poisson, sharing};
-use dl_port::{Sums, total_with};
 use dl_product::Workspace;
+use dl_totals::{Sums, total_with};
 use std::alloc::{AllocError, Global};
 
 /// Whether some unit that cannot be pooled is like one before it, so that its grid is copied where

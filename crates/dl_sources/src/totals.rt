@@ -18,9 +18,9 @@ use dl_grid::Grid;
 use dl_iv::Iv;
 use dl_limits::MOST_MEAN_BUDGET;
 use dl_plan::{Plan, Unit};
-use dl_port::{sums_of_one, total_and_others};
 use dl_product::Workspace;
 use dl_shares::Drawn;
+use dl_totals::{sums_of_one, total_and_others};
 use std::alloc::{AllocError, Global};
 
 /// The mean of the total of a valid plan, in buckets, whose units are independent: the sum of the

@@ -13,18 +13,18 @@ pub use Rattle.dl_answers.specs.declared.fault.EvalFault.TheVariants.{AskBeyond,
 pub use Rattle.dl_iv.specs.declared.interval.Iv.{Iv}
 pub use Rattle.dl_lexer.specs.Cutting.{Covers, IsBad}
 pub use Rattle.dl_lexer.specs.declared.token.Token.{Token}
-pub use Rattle.dl_outside.specs.Bytes.{AppendsPartOf, Takes, TakesAtMost}
-pub use Rattle.dl_outside.specs.Steps.{Reading, Step, all_gave, unread}
+pub use Rattle.dl_streams.specs.Bytes.{AppendsPartOf, Takes, TakesAtMost}
+pub use Rattle.dl_streams.specs.Steps.{Reading, Step, all_gave, unread}
 pub use Rattle.dl_plan.specs.Valid.{IsValid}
 pub use Rattle.dl_plan.specs.declared.plan.Plan.{Plan}
 pub use Rattle.dl_plan.specs.declared.settings.Asked.{Asked}
 pub use Rattle.dl_plan.specs.declared.settings.Settings.{Settings}
 pub use Rattle.dl_report.specs.declared.report.Report.{Report, Report as Rows}
 pub use Rattle.dl_report.specs.declared.report.Row.{Row}
-unfoldable pub use Rattle.dl_types.specs.Faults.{fault_of_port, fault_on_grid, fault_with, first_fault, first_fault_of}
-pub use Rattle.dl_types.specs.Plans.{IsPlanOf, IsUnitOf}
-pub use Rattle.dl_words.proofs.RangeLaws.{words_are_text, words_have_few_cells, words_in_range}
-pub use Rattle.dl_words.specs.declared.fault.UsageFault.{UsageFault}
+unfoldable pub use Rattle.dl_rules.specs.Faults.{fault_of_port, fault_on_grid, fault_with, first_fault, first_fault_of}
+pub use Rattle.dl_rules.specs.Plans.{IsPlanOf, IsUnitOf}
+pub use Rattle.dl_arguments.proofs.RangeLaws.{words_are_text, words_have_few_cells, words_in_range}
+pub use Rattle.dl_arguments.specs.declared.fault.UsageFault.{UsageFault}
 pub use Rattle.dl_top.specs.Answers.{Answers, AreVerified, AsksOfCert, Certifies, HasCovered, HasForm, HasTokens, IsAccepted, IsCertifiable, IsVerifiable, HasPlan, Refuses, SpellsProgram, Verifies, asking, bad_byte, bad_step, certified, continuous, formatted, not_covered, not_read, of_asks, refused, reported, syntax, too_long, typing, usage, verified}
 pub use Rattle.dl_top.specs.Faults.{fault_line, status_of}
 pub use Rattle.dl_top.specs.Inputs.{IsTooLong, Say, is_divided, limit_of, program_of, steps_of}

@@ -2,11 +2,11 @@
 use Rattle.dl_top.proofs.Common.{◌≡◌, ◌∙◌, ◌^◌, ℕ, List, refl, sym, ap, subst, Iv, Program, Plan, Settings, IsValid, first_fault, first_fault_of, fault_with, fault_on_grid, fault_of_port, IsPlanOf, IsUnitOf, IsCovered, IsVerified, steps_of, IsVerifiable}
 use Rattle.std.specs.List.{AllZip}
 use Rattle.dl_exact.specs.Fraction.{Fraction}
-use Rattle.dl_types.proofs.OnePlan.{one_plan}
-use Rattle.dl_types.specs.Faults.{by}
-unfoldable use Rattle.dl_types.specs.Faults.{fault_of_total}
+use Rattle.dl_rules.proofs.OnePlan.{one_plan}
+use Rattle.dl_rules.specs.Faults.{by}
+unfoldable use Rattle.dl_rules.specs.Faults.{fault_of_total}
 use Rattle.dl_plan.specs.Prelude.{IsOfCert}
-use Rattle.dl_words.proofs.RangeLaws.{certs_are_standard}
+use Rattle.dl_arguments.proofs.RangeLaws.{certs_are_standard}
 use Rattle.dl_top.specs.Repeated.{IsHandedOn}
 
 -- settings with another bucket and another grid

@@ -8,8 +8,8 @@ use Rattle.dl_plan.specs.declared.plan.Unit.{Unit as UnitOfPlan}
 use Rattle.dl_plan.specs.Forms.{IsOfCert, IsOfPlan}
 use Rattle.dl_cert.proofs.Excluding.{no_bad_step}
 use Rattle.dl_plan.specs.declared.settings.Ask.TheVariants.{Mean}
-use Rattle.dl_words.specs.Words.{words_of}
-use Rattle.dl_types.specs.declared.fault.TypeFault.{TypeFault}
+use Rattle.dl_arguments.specs.Words.{words_of}
+use Rattle.dl_rules.specs.declared.fault.TypeFault.{TypeFault}
 use Rattle.dl_answers.specs.declared.fault.EvalFault.{EvalFault}
 use Rattle.dl_answers.specs.Answers.{IsFirstNot, AreAdmitted, RefusesAsk as RefusesAsks}
 use Rattle.std.proofs.lemmas.Str.{IsUtf8-string_bytes}

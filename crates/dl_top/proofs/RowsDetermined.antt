@@ -4,7 +4,7 @@ use Rattle.dl_frac.specs.Exact.{FitsFrac}
 use Rattle.dl_plan.specs.declared.settings.Format.{Format}
 use Rattle.dl_plan.specs.declared.settings.Format.TheVariants.{Plain, Csv, Json}
 use Rattle.dl_plan.specs.Prelude.{IsBucket, IsPlainByte}
-use Rattle.dl_words.proofs.PlainAsks.{asks_are_plain}
+use Rattle.dl_arguments.proofs.PlainAsks.{asks_are_plain}
 use Rattle.dl_report.specs.Plain.{IsPlain, IsInRange}
 use Rattle.dl_report.proofs.RowLaws.{lines_told, records_told}
 use Rattle.dl_report.proofs.ObjectLaws.{reports_told}

@@ -2,8 +2,8 @@
 use Rattle.dl_top.proofs.Common.{ℕ, ◌≡◌, List, [], Option, Some, None, IfSome, arith, refl, AppendsPartOf, Step, Token, UsageFault, Fault, Usage, Read, TooLong, BadByte, Syntax, Continuous, Typing, NotCovered, BadStep, status_of, fault_line, program_in, Answers, Refuses, IsAccepted, HasForm, IsCertifiable, IsVerifiable, refused}
 use Rattle.std.specs.Bool.{⊤}
 use Rattle.std.specs.Io.KnownBytes.{Appends}
-use Rattle.dl_outside.specs.declared.ReadFailed.{ReadFailed}
-use Rattle.dl_outside.proofs.Appended.{appends_nothing}
+use Rattle.dl_streams.specs.declared.ReadFailed.{ReadFailed}
+use Rattle.dl_streams.proofs.Appended.{appends_nothing}
 use Rattle.dl_top.specs.declared.status.Status.{Status}
 use Rattle.dl_top.specs.declared.status.Status.TheVariants as statuses
 use Rattle.dl_top.specs.declared.fault.Fault.TheVariants.{AskBeyond, UnknownUnit, NoShare, TooWide}

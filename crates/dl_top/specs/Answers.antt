@@ -14,10 +14,10 @@ use Rattle.dl_plan.specs.declared.settings.Form.TheVariants.{Run, Fmt, Cert, Ver
 use Rattle.dl_plan.specs.declared.settings.Settings.{Settings}
 use Rattle.dl_plan.specs.Prelude.{IsOfCert, IsOfPlan, IsValid}
 use Rattle.dl_model.specs.Prelude.{GridEncloses, total, aggregates_of}
-use Rattle.dl_words.specs.declared.fault.UsageFault.{UsageFault}
-use Rattle.dl_words.specs.Words.{words_of}
-use Rattle.dl_types.specs.declared.fault.TypeFault.{TypeFault}
-use Rattle.dl_types.specs.Prelude.{first_fault, IsPlanOf}
+use Rattle.dl_arguments.specs.declared.fault.UsageFault.{UsageFault}
+use Rattle.dl_arguments.specs.Words.{words_of}
+use Rattle.dl_rules.specs.declared.fault.TypeFault.{TypeFault}
+use Rattle.dl_rules.specs.Prelude.{first_fault, IsPlanOf}
 use Rattle.dl_report.specs.declared.report.Report.{Report}
 use Rattle.dl_answers.specs.declared.fault.EvalFault.{EvalFault}
 use Rattle.dl_answers.specs.declared.fault.EvalFault.TheVariants as evals

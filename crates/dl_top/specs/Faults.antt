@@ -4,10 +4,10 @@ use Rattle.std.specs.Fmt.{decimal}
 use Rattle.dl_lexer.specs.declared.token.Token.{Token}
 use Rattle.dl_lexer.specs.Lines.{line_of, column_of}
 use Rattle.dl_ast.specs.Lexemes.{lexeme}
-use Rattle.dl_words.specs.declared.fault.UsageFault.{UsageFault}
-use Rattle.dl_words.specs.declared.fault.UsageFault.TheVariants as usage
-use Rattle.dl_types.specs.Names.{rule_name, rule_number}
-use Rattle.dl_types.specs.declared.fault.TypeFault.{TypeFault}
+use Rattle.dl_arguments.specs.declared.fault.UsageFault.{UsageFault}
+use Rattle.dl_arguments.specs.declared.fault.UsageFault.TheVariants as usage
+use Rattle.dl_rules.specs.Names.{rule_name, rule_number}
+use Rattle.dl_rules.specs.declared.fault.TypeFault.{TypeFault}
 use Rattle.dl_top.specs.declared.status.Status.{Status}
 use Rattle.dl_top.specs.declared.status.Status.TheVariants as statuses
 use Rattle.dl_top.specs.declared.fault.Fault.{Fault}

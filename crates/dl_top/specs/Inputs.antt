@@ -7,8 +7,8 @@ use Rattle.dl_lexer.specs.Lines.{is_newline}
 use Rattle.dl_plan.specs.declared.settings.Form.{Form}
 use Rattle.dl_plan.specs.declared.settings.Form.TheVariants.{Run, Fmt, Cert, Verify}
 use Rattle.dl_plan.specs.declared.settings.Settings.{Settings}
-use Rattle.dl_words.specs.declared.fault.UsageFault.{UsageFault}
-use Rattle.dl_words.specs.Words.{words_of}
+use Rattle.dl_arguments.specs.declared.fault.UsageFault.{UsageFault}
+use Rattle.dl_arguments.specs.Words.{words_of}
 use Rattle.dl_top.specs.Made.{made_of}
 
 -- the words say these settings

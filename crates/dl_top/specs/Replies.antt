@@ -4,9 +4,9 @@ use Rattle.dl_lexer.specs.declared.token.Token.{Token}
 use Rattle.dl_plan.specs.declared.settings.Form.{Form}
 use Rattle.dl_plan.specs.declared.settings.Settings.{Settings}
 use Rattle.dl_plan.specs.Prelude.{IsOfCert, AreInRange}
-use Rattle.dl_words.specs.Options.{most_cert_log2}
+use Rattle.dl_arguments.specs.Options.{most_cert_log2}
 use Rattle.dl_top.specs.declared.fault.Fault.{Fault}
-use Rattle.dl_words.specs.declared.fault.UsageFault.{UsageFault}
+use Rattle.dl_arguments.specs.declared.fault.UsageFault.{UsageFault}
 use Rattle.dl_top.specs.declared.fault.Fault.TheVariants.{Usage, Read}
 use Rattle.dl_top.specs.declared.reply.Reply.{Reply}
 use Rattle.dl_top.specs.declared.reply.Reply.TheVariants.{Answer, Refusal, OutOfMemory}

@@ -1,10 +1,10 @@
 -- What a call of the program leaves behind.
 use Rattle.std.specs.Prelude.{◌≡◌, ◌≢◌, ◌+◌, ◌⊎◌, ℕ, List, [], Option, IfSome, Err}
 use Rattle.std.specs.Io.KnownBytes.{Appends}
-use Rattle.dl_outside.specs.Prelude.{AppendsPartOf, TakesAtMost, Rose, Step, Reading}
-use Rattle.dl_outside.specs.declared.ReadFailed.{ReadFailed}
-use Rattle.dl_words.specs.declared.fault.UsageFault.{UsageFault}
-use Rattle.dl_words.specs.Words.{words_of}
+use Rattle.dl_streams.specs.Prelude.{AppendsPartOf, TakesAtMost, Rose, Step, Reading}
+use Rattle.dl_streams.specs.declared.ReadFailed.{ReadFailed}
+use Rattle.dl_arguments.specs.declared.fault.UsageFault.{UsageFault}
+use Rattle.dl_arguments.specs.Words.{words_of}
 use Rattle.dl_top.specs.declared.status.Status.{Status}
 use Rattle.dl_top.specs.declared.status.Status.TheVariants as statuses
 use Rattle.dl_top.specs.declared.fault.Fault.TheVariants as faults

@@ -9,7 +9,7 @@ ghost use Rattle.dl_top.specs.Statuses.{code_of};
 ghost use Rattle.dl_top.specs.Runs.{Ran};
 
 use crate::{Status, run};
-use dl_outside::{Sink, Source};
+use dl_streams::{Sink, Source};
 use std::alloc::{AllocError, Global};
 use std::env::Args;
 use std::io::{self, ErrorKind};

@@ -8,9 +8,9 @@ ghost use Rattle.dl_top.specs.Faults.{status_of, fault_line, line_col_text, toke
 
 use crate::number::push_number;
 use crate::status::Status;
+use dl_arguments::UsageFault;
 use dl_lexer::{Token, line_col};
-use dl_types::TypeFault;
-use dl_words::UsageFault;
+use dl_rules::TypeFault;
 use std::alloc::{AllocError, Global};
 
 /// Why no report is written.

@@ -6,9 +6,9 @@ ghost use Rattle.dl_model.specs.Prelude.{fixed, compound, GridEncloses};
 ghost use Rattle.dl_grid.specs.Prelude.{high_at, spread, IsGridSize};
 ghost use Rattle.dl_plan.specs.Prelude.{weight_at, probability_of};
 
+use dl_claims::claim_grid;
 use dl_grid::Grid;
 use dl_plan::Sev;
-use dl_power::claim_grid;
 use std::alloc::{AllocError, Global};
 
 /// The first `cells` cells of one claim of this severity.

@@ -9,10 +9,10 @@ ghost use Rattle.dl_unit.specs.Narrow.{IsNarrow};
 
 use crate::claim::one_claim;
 use crate::trial::one_trial;
+use dl_claims::{mix_counts, power};
 use dl_frac::Frac;
 use dl_grid::Grid;
 use dl_plan::{Item, Sev};
-use dl_power::{mix_counts, power};
 use dl_product::Workspace;
 use std::alloc::{AllocError, Global};
 

@@ -13,11 +13,11 @@ ghost use Rattle.dl_start.specs.Start.{most_claims_a_shape};
 ghost use Rattle.dl_budget.specs.Prelude.{poisson_budget, gamma_budget, halvings};
 
 use dl_budget::halvings;
+use dl_claims::power;
 use dl_frac::Frac;
 use dl_grid::Grid;
 use dl_panjer::{geometric_base, poisson_base, shape_base};
 use dl_plan::{Freq, Sev};
-use dl_power::power;
 use dl_product::{Workspace, product};
 use std::alloc::{AllocError, Global};
 

@@ -1,6 +1,6 @@
 //! A call over objects in memory, which fail at given calls.
 
-use dl_outside::{MemSink, MemSource};
+use dl_streams::{MemSink, MemSource};
 use dl_top::{Status, run};
 use std::alloc::{AllocError, Global};
 

@@ -4,7 +4,7 @@
 ghost use Rattle.std.specs.Prelude.{◌≤◌, ◌<◌, length};
 
 use Ends::{Between, Part, Sure, Unknown, Zero};
-use dl_conv::convolve_plain;
+use dl_convolution::convolve_plain;
 use dl_grid::{Grid, units_of_one};
 use dl_halves::{Counted, convolve, halved};
 use dl_iv::Iv;

@@ -4,7 +4,9 @@ ghost use Rattle.std.specs.Prelude.{◌≡◌, ◌≤◌, ◌^◌, sum, IfOk};
 
 use dl_frac::Frac;
 use dl_plan::{Cede, CedeLayer, Item, Sev};
-use dl_sev::{AboveFault, MixFault, WeighFault, Weights, above, cede_each, cut, merge, mix, weigh};
+use dl_severity::{
+    AboveFault, MixFault, WeighFault, Weights, above, cede_each, cut, merge, mix, weigh,
+};
 use std::alloc::{AllocError, Global};
 
 /// Fractions by their parts.

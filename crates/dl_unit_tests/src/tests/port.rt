@@ -4,8 +4,8 @@ ghost use Rattle.std.specs.Prelude.{◌≡◌, ◌≤◌, length, All, IfOk};
 
 use dl_grid::{Grid, units_of_one};
 use dl_iv::Iv;
-use dl_port::{Sums, others, sums_of_one, total, total_and_others};
 use dl_product::Workspace;
+use dl_totals::{Sums, others, sums_of_one, total, total_and_others};
 use std::alloc::{AllocError, Global};
 
 /// The cells of each grid: the greatest total is 6.

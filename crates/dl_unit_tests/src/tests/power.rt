@@ -2,9 +2,9 @@
 
 ghost use Rattle.std.specs.Prelude.{◌≡◌, ◌≤◌, length, IfOk};
 
+use dl_claims::{claim_grid, mix_counts, power};
 use dl_grid::Grid;
 use dl_plan::Item;
-use dl_power::{claim_grid, mix_counts, power};
 use dl_product::Workspace;
 use std::alloc::{AllocError, Global};
 

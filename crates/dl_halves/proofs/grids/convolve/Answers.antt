@@ -1,5 +1,5 @@
 use Rattle.dl_halves.proofs.Common.{arith}
-use Rattle.dl_conv.proofs.Fits.{ends_fit}
+use Rattle.dl_convolution.proofs.Fits.{ends_fit}
 use Rattle.dl_halves.proofs.grids.convolve.Goals as goal
 
 pub with_halved_sums-lows-requires-clause-fits : goal.with_halved_sums-lows-requires-clause-fits

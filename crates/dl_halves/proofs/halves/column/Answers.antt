@@ -1,7 +1,7 @@
 use Rattle.dl_halves.proofs.Common.{arith, map, ◌-◌, sym, ◌∙◌, length-map}
 use Rattle.dl_halves.proofs.Written.{value_read}
 use Rattle.dl_halves.proofs.Same.{column_more, same, same_then}
-use Rattle.dl_conv.proofs.Columns.{column_begins, column_ends}
+use Rattle.dl_convolution.proofs.Columns.{column_begins, column_ends}
 use Rattle.dl_halves.proofs.halves.column.Goals as goal
 
 pub loop-i-init : goal.loop-i-init

@@ -1,5 +1,5 @@
 use Rattle.dl_halves.proofs.Common.{arith}
-use Rattle.dl_conv.proofs.Fits.{fewer_fit}
+use Rattle.dl_convolution.proofs.Fits.{fewer_fit}
 use Rattle.dl_halves.proofs.Fits.{first_part, rest_long, second_part}
 use Rattle.dl_halves.proofs.FirstPlaces.{one_fits, two_fits, all_sums}
 use Rattle.dl_halves.proofs.short.+halved_sums.Goals as goal

@@ -1,6 +1,6 @@
 use Rattle.dl_pool.proofs.Common.{◌∙◌, ◌≤◌, ap, subst, lent, common_denominator, sum_of}
 use Rattle.std.specs.Prelude.{IfOk, IfSome, IsSome}
-use Rattle.dl_sev.specs.Prelude.{IsWeighing}
+use Rattle.dl_severity.specs.Prelude.{IsWeighing}
 use Rattle.dl_pool.proofs.Units.{shares_one}
 use Rattle.dl_pool.proofs.pooling.unit_weights.Goals as goal
 

@@ -1,5 +1,5 @@
 use Rattle.dl_sources.proofs.Common.{[], ◌∷◌, arith, few_cells, AreDeclarable, are_units, units_declared, plan_units, aggregates_of, loss_of, All-cons, All-nil, IsValidUnit, if_ok_two, ◌also◌}
-use Rattle.dl_port.proofs.Added.{alone, two_sums}
+use Rattle.dl_totals.proofs.Added.{alone, two_sums}
 use Rattle.dl_sources.proofs.Losses.{total_alone}
 use Rattle.dl_sources.proofs.ReadAs.{unit_on}
 use Rattle.dl_sources.proofs.extra.total_beside.Goals as goal

@@ -1,0 +1,14 @@
+use Rattle.dl_arguments.proofs.Common.{Bool, ◌∙◌, sym, nat_lt, Fraction}
+use Rattle.dl_arguments.proofs.TestedValues.{none_tested, some_tested}
+use Rattle.dl_arguments.proofs.spelling.probability.Goals as goal
+
+abbrev is_below_one : Fraction → Bool
+is_below_one value = nat_lt value.num value.den
+
+pub returns-in_err-value : goal.returns-in_err-value
+returns-in_err-value c =
+    c.from_residual.ensures ∙ none_tested _ is_below_one _ (sym c.in_err-value.was ∙ c.fraction.ensures)
+
+pub returns : goal.returns
+returns c = c.then_some.ensures
+    ∙ rw (c.num.ensures.part, c.den.ensures.part) (some_tested _ is_below_one _ _ (sym c.in_ok-value.was ∙ c.fraction.ensures))

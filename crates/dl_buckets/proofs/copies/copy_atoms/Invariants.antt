@@ -1,6 +1,0 @@
--- The atoms so far are copied.
-use Rattle.dl_buckets.proofs.Common.{◌≡◌, take}
-use Rattle.dl_buckets.proofs.copies.copy_atoms.Given as goal
-
-abbrev pub invariant-atoms : goal.invariant-atoms
-invariant-atoms l = l.made.items ≡ take l.atom-index l.atoms

@@ -1,5 +1,0 @@
--- What is written here is well formed.
-use Rattle.dl_buckets.proofs.layers.limit_number.Goals as goal
-
-pub number-requires : goal.number-requires
-number-requires c = rw c.in-Finite.is at c.requires

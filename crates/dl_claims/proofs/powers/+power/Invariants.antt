@@ -1,0 +1,4 @@
+use Rattle.dl_claims.proofs.powers.+power.Given as goal
+
+abbrev pub decreases-power : goal.decreases-power
+decreases-power g l = l.n

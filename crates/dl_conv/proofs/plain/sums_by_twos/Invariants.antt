@@ -1,6 +1,0 @@
-use Rattle.dl_conv.proofs.Common.{◌*◌, pair_sum}
-use Rattle.dl_conv.proofs.Filled.{IsFilled}
-use Rattle.dl_conv.proofs.plain.sums_by_twos.Given as goal
-
-abbrev pub invariant-loop-half : goal.invariant-loop-half
-invariant-loop-half l = IsFilled (pair_sum l.a l.b) l.out (2 * l.half)

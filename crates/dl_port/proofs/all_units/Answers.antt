@@ -1,9 +1,0 @@
-use Rattle.dl_port.proofs.Common.{IfOk-weaker, refl}
-use Rattle.dl_port.proofs.Singles.{all_without}
-use Rattle.dl_port.proofs.all_units.Goals as goal
-
-pub returns : goal.returns
-returns g c =
-    IfOk-weaker c.shortest_first.result _ _
-    (λ sum part. all_without c.args.cells c.args.units.now _ sum refl part)
-    c.shortest_first.ensures

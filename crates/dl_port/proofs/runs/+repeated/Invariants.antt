@@ -1,4 +1,0 @@
-use Rattle.dl_port.proofs.runs.+repeated.Given as goal
-
-abbrev pub decreases-repeated : goal.decreases-repeated
-decreases-repeated g l = l.many

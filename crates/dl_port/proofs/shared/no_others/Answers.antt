@@ -1,8 +1,0 @@
-use Rattle.dl_port.proofs.Common.{List, [], ◌∷◌, ◌++◌, ap, ◌∙◌, Option, None, Iv}
-use Rattle.std.proofs.lemmas.List.{replicate_more}
-use Rattle.dl_port.proofs.shared.no_others.Goals as goal
-
-pub loop-preserved : goal.loop-preserved
-loop-preserved g c = c.in_ok-push.ensures.items
-    ∙ ap (λ (t : List (Option (List (Iv g.row.B)))). t ++ None ∷ []) c.loop.invariant
-    ∙ replicate_more c.loop.counter None

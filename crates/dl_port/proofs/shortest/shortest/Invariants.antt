@@ -1,5 +1,0 @@
-use Rattle.dl_port.proofs.Common.{length, ◌<◌}
-use Rattle.dl_port.proofs.shortest.shortest.Given as goal
-
-abbrev pub invariant-loop-at : goal.invariant-loop-at
-invariant-loop-at g l = l.least < length l.grids

@@ -1,6 +1,0 @@
-use Rattle.dl_port.proofs.Common.{subst, EnclosesSum}
-use Rattle.dl_port.proofs.total_with.Goals as goal
-
-pub returns-then-spread-most-clause-encloses : goal.returns-then-spread-most-clause-encloses
-returns-then-spread-most-clause-encloses g c us w e =
-    subst (λ sum. EnclosesSum sum us) c.in-Some.is (c.in_ok-sum.ensures.encloses us w e)

@@ -1,9 +1,0 @@
-use Rattle.dl_port.proofs.Common.{◌≡◌, ◌+◌, length}
-use Rattle.dl_port.specs.Tree.{ReachDown}
-use Rattle.dl_port.proofs.tree.all_down.Given as goal
-
-abbrev pub invariant-loop : goal.invariant-loop
-invariant-loop g l = record {
-  many : length l.nodes.items + l.counter ≡ length l.fn.nodes.items;
-  down : ReachDown l.cells l.units l.nodes.items l.outer.items;
-}

@@ -1,4 +1,0 @@
-use Rattle.dl_power.proofs.powers.+power.Given as goal
-
-abbrev pub decreases-power : goal.decreases-power
-decreases-power g l = l.n

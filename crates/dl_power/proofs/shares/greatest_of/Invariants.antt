@@ -1,5 +1,0 @@
-use Rattle.dl_power.proofs.Common.{◌≡◌, take, greatest}
-use Rattle.dl_power.proofs.shares.greatest_of.Given as goal
-
-abbrev pub invariant-loop-item : goal.invariant-loop-item
-invariant-loop-item l = l.most ≡ greatest (take l.item-index l.items)

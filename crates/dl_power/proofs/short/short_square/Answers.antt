@@ -1,9 +1,0 @@
-use Rattle.dl_exact.proofs.Results.{if_ok_two}
-use Rattle.dl_power.proofs.ShortGrids.{short_convolution}
-use Rattle.dl_power.proofs.short.short_square.Goals as goal
-
-pub returns-clause-convolution : goal.returns-clause-convolution
-returns-clause-convolution g c =
-    if_ok_two c.square.result _ _ _ (λ grid. short_convolution c.args.a.now c.args.a.now _ _ grid c.args.cells _
-    c.cells_of_product-long.ensures.last c.in_ok-first.ensures.low c.in_ok-first.ensures.high
-    c.in_ok-first.ensures.low c.in_ok-first.ensures.high) c.square.ensures.cells c.square.ensures.convolution

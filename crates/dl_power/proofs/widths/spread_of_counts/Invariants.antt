@@ -1,5 +1,0 @@
-use Rattle.dl_power.proofs.Common.{◌≡◌, ◌^◌, mixed_spread}
-use Rattle.dl_power.proofs.widths.spread_of_counts.Given as goal
-
-abbrev pub invariant-loop : goal.invariant-loop
-invariant-loop g l = l.most ≡ mixed_spread (2 ^ g.row.B) l.cells l.base l.counter

@@ -1,6 +1,0 @@
--- What is made and the last item have the weights of the items read so far.
-use Rattle.dl_sev.proofs.Gathering.{IsGathered}
-use Rattle.dl_sev.proofs.gather.added_up.Given as goal
-
-abbrev pub invariant-items : goal.invariant-items
-invariant-items l = IsGathered l.items l.item-index l.made.items l.last

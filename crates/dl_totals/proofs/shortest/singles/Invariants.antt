@@ -1,0 +1,14 @@
+use Rattle.std.proofs.Common.{ℕ, Bool, not, ◌&&◌, nat_lt, nat_eq, cond}
+use Rattle.dl_totals.proofs.Common.{◌≡◌, ◌≤◌, List, length}
+use Rattle.std.specs.List.{All}
+use Rattle.dl_totals.specs.Chosen.{passed, AreSumsOfChosen}
+use Rattle.dl_totals.proofs.shortest.singles.Given as goal
+
+abbrev pub invariant-units : goal.invariant-units
+invariant-units g l = record {
+  inside : l.at ≤ length l.units;
+  long : All (λ h. length h ≡ l.cells) l.sums.items;
+  tests : List (ℕ → Bool);
+  are : AreSumsOfChosen l.cells l.units l.sums.items tests;
+  each : (i : ℕ) → passed tests i ≡ cond (nat_lt i l.at && not (nat_eq i l.skip)) 1 0;
+}

@@ -1,6 +1,0 @@
--- The plan is made unit by unit.
-use Rattle.dl_types.proofs.Accepted.{accepted}
-use Rattle.dl_types.proofs.law.law_accepted.Goals as goal
-
-pub returns : goal.returns
-returns c = accepted

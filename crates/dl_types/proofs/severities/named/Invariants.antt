@@ -1,6 +1,0 @@
--- The rest of the severities has the name that all of them have.
-use Rattle.dl_types.proofs.Common.{◌≡◌, drop, named}
-use Rattle.dl_types.proofs.severities.named.Given as goal
-
-abbrev pub invariant-loop-sev : goal.invariant-loop-sev
-invariant-loop-sev l = named (drop l.sev-index l.sevs) l.name ≡ named l.sevs l.name

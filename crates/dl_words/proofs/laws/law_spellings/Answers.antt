@@ -1,9 +1,0 @@
--- The tests are those of the spellings.
-use Rattle.dl_bytes.proofs.NumeralTests.{numeral_test}
-use Rattle.dl_words.proofs.laws.law_spellings.Goals as goal
-
-pub returns : goal.returns
-returns c = record {
-  numeral = numeral_test;
-  word = λ text. (λ h. h, λ h. h);
-}
