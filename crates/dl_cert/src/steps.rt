@@ -46,7 +46,7 @@ pub(crate) fn add(steps: &mut Steps, kind: Kind, grid: Grid<56>) -> Result<Facto
     ensures text { IfOk result (λ f. steps.new.text.items ≡ steps.old.text.items
         ++ (line_of (record { kind = kind; cells = f.grid }) ++ (10 ∷ []))) }
 {
-    grid.cells();
+    prove!(grid.cells() > 0);
     push_step(&mut steps.text, kind, &grid)?;
     let step = steps.count;
     steps.count += 1;

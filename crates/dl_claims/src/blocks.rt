@@ -56,7 +56,7 @@ pub(crate) fn powers_to<const B: u32>(
         → Between cells base.now f
         → ArePowers cells f list.items) }
 {
-    base.cells();
+    prove!(cells <= base.cells());
     let mut powers = Vec::new(alloc);
     powers.push(Grid::zero(alloc, 1)?)?;
     powers.push(trimmed(alloc, base, cells)?)?;

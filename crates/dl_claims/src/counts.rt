@@ -61,7 +61,7 @@ fn one_claim_more<const B: u32>(
     ensures spread { IfOk result (λ g. spread g ≤ convolution_spread (2 ^ B) cells (spread base.now)
         (spread later.now) + (share.entry.hi - share.entry.lo)) }
 {
-    base.cells();
+    prove!(cells <= base.cells());
     let mut grid = product(alloc, work, base, later, cells)?;
     add_at_zero(&mut grid, share);
     Ok(grid)
@@ -90,7 +90,7 @@ impl<const B: u32> Listed<'_, B> {
         ensures spread { IfOk result (λ g. spread g ≤ mixed_spread (2 ^ B) self.entry.cells
             (spread self.entry.base.now) (greatest self.entry.table.now)) }
     {
-        self.base.cells();
+        prove!(self.base.cells() > 0);
         let greatest = greatest_of(self.table);
         let mut grid = empty_grid(alloc, self.cells)?;
         add_at_zero(&mut grid, share_of(self.table, greatest, self.total));

@@ -116,7 +116,7 @@ impl<const B: u32> Listed<'_, B> {
         if self.table.len() == 1 {
             return power(alloc, work, self.base, self.table[0].amount, self.cells);
         }
-        self.base.cells();
+        prove!(self.base.cells() > 0);
         let greatest = greatest_of(self.table);
         let levels = levels_of(greatest);
         let blocks = 2 << levels;

@@ -26,7 +26,7 @@ pub fn power<const B: u32>(
         → GridEncloses g (times_itself F n)) }
     ensures spread { IfOk result (λ g. spread g ≤ power_spread (2 ^ B) cells (spread base.now) n) }
 {
-    base.cells();
+    prove!(cells <= base.cells());
     if n == 0 {
         return Grid::zero(alloc, cells);
     }

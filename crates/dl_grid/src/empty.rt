@@ -18,7 +18,7 @@ pub fn empty_grid<const B: u32>(alloc: Global, cells: u32) -> Result<Grid<B>, Al
     ensures spread { IfOk result (λ g. spread g ≡ 0) }
 {
     let mut grid = Grid::zero(alloc, cells)?;
-    grid.cells();
+    prove!(grid.cells() > 0);
     grid.set(0, Iv::point(0));
     Ok(grid)
 }

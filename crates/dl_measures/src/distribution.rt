@@ -72,7 +72,7 @@ impl<'a, const B: u32> Distribution<'a, B> {
     pub fn walked(grid: &'a Grid<B>) -> Self
         ensures { result ≡ grid.now }
     {
-        grid.cells();
+        prove!(grid.cells() > 0);
         Distribution {
             grid,
             lows: None,

@@ -42,7 +42,7 @@ fn weighted_tail<const B: u32>(g: &Distribution<B>, term: Term, mean: Iv<B>) -> 
     ensures most { IfSome result (λ r. r.hi
         ≤ div_ceil (most_tail * term.weight.num) term.weight.den) }
 {
-    g.cells();
+    prove!(g.cells() > 0);
     let tail = tail_mean(g, term.p, mean)?;
     Some(tail.part(term.weight.num(), term.weight.den()))
 }
@@ -78,7 +78,7 @@ pub fn price<const B: u32>(g: &Distribution<B>, terms: &[Term], mean: Iv<B>) -> 
     ensures width { IfSome result (λ r. (m s : ℕ) → mean.entry.hi - mean.entry.lo ≤ m
         → spread g.now ≤ s → r.hi - r.lo ≤ price_width terms.now m (length g.now) s) }
 {
-    g.cells();
+    prove!(g.cells() > 0);
     let mut sum = Iv::point(0);
     for term in terms {
         sum = sum.add(weighted_tail(g, *term, mean)?);

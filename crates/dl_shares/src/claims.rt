@@ -25,7 +25,7 @@ fn cell_sums<const B: u32>(items: &[Item], total: &Distribution<B>, q: u32) -> (
     ensures low { result.0 ≡ amounts_to q (low_at total.now) items.now }
     ensures high { result.1 ≡ amounts_to q (high_at total.now) items.now }
 {
-    total.cells();
+    prove!(total.cells() > 0);
     let mut low = 0;
     let mut high = 0;
     'items: for item in items {
@@ -89,7 +89,7 @@ pub(crate) fn claims_joint<const B: u32>(unit: &Unit, grid: &Distribution<B>, q:
     ensures width { result.hi - result.lo
         ≤ shared_joint_budget (length grid.now) (spread grid.now) (thinned_mean unit.now) }
 {
-    grid.cells();
+    prove!(grid.cells() > 0);
     let (low, high) = cell_sums(unit.sev.items.as_slice(), grid, q);
     of_claims(unit, low, high).clamp_to(q as u128 * units_of_one(B))
 }
@@ -108,7 +108,7 @@ pub(crate) fn claims_sums<const B: u32>(unit: &Unit, grid: &Distribution<B>, q: 
     ensures width { result.hi - result.lo
         ≤ shared_joint_budget (length grid.now) (spread grid.now) (thinned_mean unit.now) }
 {
-    grid.cells();
+    prove!(grid.cells() > 0);
     let (low, parts) = running_sums(unit.sev.items.as_slice(), grid, q);
     of_claims(unit, low, low + parts * grid.spread())
 }

@@ -18,7 +18,7 @@ fn low_sum<const B: u32>(total: &Distribution<B>, x: u32) -> u128
     requires inside { x < length total.now }
     ensures { result ≡ sums_of (low_at total.now) x }
 {
-    total.cells();
+    prove!(total.cells() > 0);
     total.cdf(x).lo
 }
 
@@ -52,7 +52,7 @@ pub(crate) fn running_sums<const B: u32>(
     ensures low { result.0 ≡ amounts_to q (sums_of (low_at total.now)) items.now }
     ensures parts { result.1 ≡ amounts_to q (λ _. 1) items.now }
 {
-    total.cells();
+    prove!(total.cells() > 0);
     let mut place = q;
     let mut sum = low_sum(total, q);
     let mut low = 0;

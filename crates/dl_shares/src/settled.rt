@@ -22,7 +22,7 @@ pub(crate) fn settled_quantile<const B: u32>(g: &Distribution<B>, p: Frac) -> Op
     ensures some { IfSome result (λ q. (q < length g.now) × IsBracketIn g.now p q (Some q)) }
     ensures none { IsNone result → IsPast g.now p ⊎ IsOpen g.now p }
 {
-    g.cells();
+    prove!(g.cells() > 0);
     let bracket = quantile(g, p);
     let hi = bracket.hi?;
     if bracket.lo < hi {
@@ -45,7 +45,7 @@ pub(crate) fn common_quantile<const B: u32>(g: &Distribution<B>, p: Frac) -> Opt
         → MayBeAbsent (partial_sums us) (length g.now) p (spread g.now over 2 ^ B) }
 {
     let q = settled_quantile(g, p)?;
-    g.cells();
+    prove!(g.cells() > 0);
     if g.at(q).lo * RAREST_PARTS < units_of_one(B) {
         return None;
     }

@@ -33,7 +33,7 @@ fn share_at<const B: u32>(total: &Distribution<B>, joint: Iv<B>, q: u32) -> Iv<B
         → result.hi - result.lo ≤ conditional_width (length total.now) j t }
     ensures most { result.hi ≤ q * 2 ^ B }
 {
-    total.cells();
+    prove!(total.cells() > 0);
     let at = total.at(q);
     let most = u128::from(q);
     let lowered = joint.clamp_to(most * at.hi);
@@ -87,7 +87,7 @@ fn tail_share_at<const B: u32>(
         → spread total.now ≤ t
         → result.hi - result.lo ≤ share_width p m (length total.now) j t }
 {
-    total.cells();
+    prove!(total.cells() > 0);
     let share = share_at(total, joint, q);
     let beyond = mean.sub_floor0(below);
     let at = above(total.cdf(q), p).mul(share);

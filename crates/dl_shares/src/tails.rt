@@ -71,7 +71,7 @@ fn mean_in_tail<const B: u32>(
         (low_at total.now joints.entry.x) }
     ensures small { result.hi ≤ most_mean + 4 * joints.entry.x * 2 ^ B }
 {
-    total.cells();
+    prove!(total.cells() > 0);
     let part = tail_part(joints.at, above(total.cdf(joints.x), p), total.at(joints.x));
     mean.sub_floor0(joints.up_to).add(part)
 }
@@ -113,7 +113,7 @@ fn share_between<const B: u32>(
         → mean.entry.hi - mean.entry.lo ≤ m → spread total.now ≤ t
         → result.hi - result.lo ≤ whole_share_width p m (length total.now) j t }
 {
-    total.cells();
+    prove!(total.cells() > 0);
     let low = mean_in_tail(total, mean, last, p).lo;
     let high = mean_in_tail(total, mean, first, p).hi;
     let ends = Iv {
@@ -191,7 +191,7 @@ impl<'a, const B: u32> ShareSource<'a, B> {
             → spread total.now ≤ t
             → r.hi - r.lo ≤ whole_share_width p m (length total.now) (joint_width self.now) t) }
     {
-        total.cells();
+        prove!(total.cells() > 0);
         let bracket = quantile(total, p);
         let hi = bracket.hi?;
         let last = self.joints(hi);

@@ -97,7 +97,7 @@ fn no_units<const B: u32>(alloc: Global, like: &Grid<B>, cells: u32) -> Result<G
     ensures encloses { IfOk result (λ g. GridEncloses g (total [])) }
     ensures spread { IfOk result (λ g. spread g ≡ 0) }
 {
-    like.cells();
+    prove!(cells <= like.cells());
     Grid::zero(alloc, cells)
 }
 

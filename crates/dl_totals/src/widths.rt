@@ -13,7 +13,7 @@ fn spread_with<const B: u32>(sum: u128, units: &[Grid<B>], cells: u32) -> Option
 {
     let mut most = sum;
     for unit in units {
-        unit.cells();
+        prove!(unit.cells() > 0);
         most = convolution_spread::<B>(most, unit.spread(), cells)?;
     }
     Some(most)

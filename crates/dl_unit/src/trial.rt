@@ -54,7 +54,7 @@ fn trial_of<const B: u32>(alloc: Global, claim: &Grid<B>, q: Frac) -> Result<Gri
     ensures high { IfOk result (λ g. (y : ℕ) → y < length claim.now
         → high_at g y ≡ high_trial (2 ^ B) q (high_at claim.now) y) }
 {
-    claim.cells();
+    prove!(claim.cells() > 0);
     let mut list = scaled(alloc, claim, q)?;
     list[0] = first_cell(list[0], q);
     grid_of(alloc, list.as_slice())
@@ -73,6 +73,6 @@ pub(crate) fn one_trial<const B: u32>(
         (compound (binomial 1 q.num q.den) (probability_of sev.now))) }
 {
     let claim = one_claim(alloc, sev, cells)?;
-    claim.cells();
+    prove!(claim.cells() > 0);
     trial_of(alloc, &claim, q)
 }
