@@ -1,7 +1,5 @@
 -- The answer to each kind of ask, from the grid and the mean of the total.
-use Rattle.dl_answers.proofs.Common.{ℕ, suc, ◌≡◌, ◌+◌, ◌-◌, ◌^◌, ◌<◌, ◌≤◌, List, length, take, arith, inl, inr, sym, ap, ◌∙◌, Option, None, Some, mul-le-mul_left, pow_pos, cases_lt, Fraction, ◌over◌, ◌+ℚ◌, ◌≤ℚ◌, ◌<ℚ◌, le_trans, lt_or_le, lt_not_le, Iv, over_le_over, low_at, high_at, spread, count_below, Holds, AreDeclarable, One, Point, Mean, partial_sums, total, GridEncloses, AreDeclared, low_cdf, at_least_wider, at_most_wider, cdf_ends, IsFirstAtLeast, Plan, IsValid, Row, total_budget, mean_budget, ask_budget, few_cells, IsBelow, at_the_end, IsAnswerTo, total_error, IsTotalOf, IsMeanOf, Prints, Loss, add-one, min, MatchOption, le_refl, plus_le_both, plus_le_cancel, sub_le_both, over_plus, mass_low, mass_high, IsGrid, below_more, Below, Cdf, Layer, IsBracketed, high_cdf, IsTight, IsFirstFound, layer_width, Whole, layer_mean_budget, IsBracket, bracket_end, total_cdf, total_layer, total_mean}
-use Rattle.dl_grid.proofs.PlaceSums.{low_sum, width_at, high_is, width_within}
-use Rattle.dl_measures.proofs.Sums.{high_mass, low_most, low_high, apart}
+use Rattle.dl_answers.proofs.Common.{ℕ, suc, ◌≡◌, ◌+◌, ◌-◌, ◌^◌, ◌<◌, ◌≤◌, List, length, take, arith, inl, inr, sym, ap, ◌∙◌, Option, None, Some, mul-le-mul_left, pow_pos, cases_lt, Fraction, ◌over◌, ◌+ℚ◌, ◌≤ℚ◌, ◌<ℚ◌, le_trans, lt_or_le, lt_not_le, Iv, over_le_over, low_at, high_at, spread, count_below, Holds, AreDeclarable, One, Point, Mean, partial_sums, total, GridEncloses, AreDeclared, low_cdf, at_least_wider, at_most_wider, cdf_ends, IsFirstAtLeast, Plan, IsValid, Row, total_budget, mean_budget, ask_budget, few_cells, IsBelow, at_the_end, IsAnswerTo, total_error, IsTotalOf, IsMeanOf, Prints, Loss, add-one, min, MatchOption, le_refl, plus_le_both, plus_le_cancel, sub_le_both, over_plus, mass_low, mass_high, IsGrid, below_more, Below, Cdf, Layer, IsBracketed, high_cdf, IsTight, IsFirstFound, layer_width, Whole, layer_mean_budget, IsBracket, bracket_end, total_cdf, total_layer, total_mean, low_sum, width_at, high_is, width_within, high_mass, low_most, low_high, apart}
 use Rattle.dl_plan.specs.declared.settings.Ask.TheVariants as asks
 use Rattle.dl_answers.proofs.Losses.{losses_of, losses_declared, losses_units, encloses_losses, told_of, holds_told, holds_back, bracket_told, tight_told}
 use Rattle.dl_answers.proofs.Printed.{declared_ends}

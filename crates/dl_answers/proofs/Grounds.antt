@@ -1,10 +1,5 @@
 -- What rows are drawn from.
-use Rattle.dl_answers.proofs.Common.{[], ℕ, ◌≡◌, ◌≤◌, List, length, get_or, get_or_default, arith, sym, ap, subst, Option, Some, IfSome, Iv, IsTotalOf}
-use Rattle.dl_plan.specs.declared.settings.Ask.{Ask}
-use Rattle.dl_shares.specs.Drawn.{Reaches}
-use Rattle.dl_shares.proofs.Origins.{reaches_less}
-use Rattle.dl_answers.specs.Grounds.{IsGround, cells_read, total_of}
-use Rattle.dl_answers.specs.declared.reports.Ground.{Ground}
+use Rattle.dl_answers.proofs.Common.{[], ℕ, ◌≡◌, ◌≤◌, List, length, get_or, get_or_default, arith, sym, ap, subst, Option, Some, IfSome, Iv, IsTotalOf, Ask, Reaches, reaches_less, IsGround, cells_read, total_of, Ground}
 
 module _ {B : ℕ} {ground : Ground B} (is : IsGround ground) where
   -- the first grid is that of the total

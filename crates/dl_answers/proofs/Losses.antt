@@ -1,8 +1,5 @@
 -- The total of a valid plan as a sum of losses: those of its units, or one loss for units that share a factor.
-use Rattle.dl_answers.proofs.Common.{ℕ, zero, suc, ◌≡◌, ◌^◌, List, [], ◌∷◌, map, arith, refl, sym, subst₂, Option, None, Some, IfSome, Fraction, ◌over◌, ◌+ℚ◌, Iv, low_at, high_at, AreDeclarable, AreDeclared, Loss, One, Point, partial_sums, total, GridEncloses, loss, loss_of, plan_declared, IsValid, Plan, IsTotalOf, fun_ext, ◌-ℚ◌, UnitOfPlan, HasCommonFactor, Series, Holds, AtLeast, AtMost, Below, Quantity, PricedTerm, Cdf, IsQuantile, IsBracketed, declared, declared_by, pooled_unit, CountsTotal, are_units, total_cdf, total_point, IsTight, AreQuantiles}
-use Rattle.dl_model.specs.CommonUnits.{poisson_units}
-use Rattle.dl_model.proofs.CommonPlans.{are_severities, greatest_of, pooled_past, some}
-use Rattle.dl_model.proofs.PooledLoss.{as_one_loss, one_declared}
+use Rattle.dl_answers.proofs.Common.{ℕ, zero, suc, ◌≡◌, ◌^◌, List, [], ◌∷◌, map, arith, refl, sym, subst₂, Option, None, Some, IfSome, Fraction, ◌over◌, ◌+ℚ◌, Iv, low_at, high_at, AreDeclarable, AreDeclared, Loss, One, Point, partial_sums, total, GridEncloses, loss, loss_of, plan_declared, IsValid, Plan, IsTotalOf, fun_ext, ◌-ℚ◌, UnitOfPlan, HasCommonFactor, Series, Holds, AtLeast, AtMost, Below, Quantity, PricedTerm, Cdf, IsQuantile, IsBracketed, declared, declared_by, pooled_unit, CountsTotal, are_units, total_cdf, total_point, IsTight, AreQuantiles, poisson_units, are_severities, greatest_of, pooled_past, some, as_one_loss, one_declared}
 
 abbrev pub losses_by : Option Fraction → List UnitOfPlan → List Loss
 losses_by None units = map loss_of units

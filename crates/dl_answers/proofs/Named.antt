@@ -1,12 +1,5 @@
 -- What asks have, and the numbers of the units that they name.
-use Rattle.dl_answers.proofs.Common.{ℕ, ◌≡◌, ◌<◌, ◌↔◌, List, length, get_or, sym, ap, ◌∙◌, subst, length-map, Option, None, Some, IfSome, All, Any, refl, Asked, NamesUnit, index_of, named_unit, named_units, option_map, get_or-map, All-map, UnitOfPlan, facts_of, IsNamed, ◌≤◌, arith, Iv, Plan, IsInside, IsAskInRange, edge_of, Row, zip, subst₂}
-use Rattle.dl_plan.specs.declared.settings.Ask.{Ask}
-use Rattle.dl_plan.specs.declared.settings.Ask.TheVariants.{LayerMean}
-use Rattle.dl_plan.specs.declared.settings.Settings.{Settings}
-use Rattle.dl_plan.specs.Ranges.{AreInRange}
-use Rattle.dl_budget.specs.Asks.{IsAskOf}
-use Rattle.dl_answers.specs.Answers.{AreInside, NameUnits}
-use Rattle.dl_exact.proofs.Made.{all_pairs, any_here}
+use Rattle.dl_answers.proofs.Common.{ℕ, ◌≡◌, ◌<◌, ◌↔◌, List, length, get_or, sym, ap, ◌∙◌, subst, length-map, Option, None, Some, IfSome, All, Any, refl, Asked, NamesUnit, index_of, named_unit, named_units, option_map, get_or-map, All-map, UnitOfPlan, facts_of, IsNamed, ◌≤◌, arith, Iv, Plan, IsInside, IsAskInRange, edge_of, Row, zip, subst₂, Ask, LayerMean, Settings, AreInRange, IsAskOf, AreInside, NameUnits, all_pairs, any_here}
 
 -- an ask names a unit where the number is that of one
 pub names_inside : (units : List UnitOfPlan) (ask : Ask) → IfSome (named_unit units ask) (λ i. i < length units)

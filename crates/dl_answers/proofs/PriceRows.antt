@@ -1,8 +1,6 @@
 -- The answer to an ask for a price.
-use Rattle.dl_answers.proofs.Common.{ℕ, ◌≡◌, ◌-◌, ◌^◌, ◌≤◌, List, length, get_or, arith, Any, None, ◌over◌, ◌+ℚ◌, Iv, low_at, spread, Holds, One, Mean, partial_sums, total, GridEncloses, AreDeclared, low_cdf, at_least_wider, Plan, IsValid, Row, total_budget, mean_budget, ask_budget, in_digits, IsBelow, at_the_end, IsAnswerTo, total_error, IsTotalOf, IsMeanOf, Prints, Loss, ◌⊎◌, AreTermsOf, AreQuantiles, price_width, IsFirstFound, PricedTerm, Price, AtLeast, price_budget, IsPriceBetween, IsPrice, IsBeyondSome, total_mean, total_price}
+use Rattle.dl_answers.proofs.Common.{ℕ, ◌≡◌, ◌-◌, ◌^◌, ◌≤◌, List, length, get_or, arith, Any, None, ◌over◌, ◌+ℚ◌, Iv, low_at, spread, Holds, One, Mean, partial_sums, total, GridEncloses, AreDeclared, low_cdf, at_least_wider, Plan, IsValid, Row, total_budget, mean_budget, ask_budget, in_digits, IsBelow, at_the_end, IsAnswerTo, total_error, IsTotalOf, IsMeanOf, Prints, Loss, ◌⊎◌, AreTermsOf, AreQuantiles, price_width, IsFirstFound, PricedTerm, Price, AtLeast, price_budget, IsPriceBetween, IsPrice, IsBeyondSome, total_mean, total_price, Term, any_here}
 use Rattle.dl_plan.specs.declared.settings.Ask.TheVariants as asks
-use Rattle.dl_plan.specs.declared.settings.Term.{Term}
-use Rattle.dl_exact.proofs.Made.{any_here}
 use Rattle.dl_answers.proofs.Losses.{losses_of, losses_declared, encloses_losses, told_of, holds_told, holds_back, quantiles_back}
 use Rattle.dl_answers.proofs.Printed.{Widens, are_ends, given_widens}
 use Rattle.dl_answers.proofs.GoodRows.{ends_below}

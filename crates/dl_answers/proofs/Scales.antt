@@ -1,10 +1,5 @@
 -- What has room at the scale of a plan.
-use Rattle.dl_answers.proofs.Common.{ℕ, ◌≡◌, ◌*◌, ◌^◌, ◌<◌, ◌≤◌, arith, mul-le-mul_left, mul-le-mul, pow-le-pow_right, inl, inr, leb_tells, bits_of, most_plan_cells, most_short_cells, IsPlanScale, Plan}
-use Rattle.dl_plan.specs.At.{IsPlanAt}
-use Rattle.dl_shares.proofs.Origins.{plan_scale, scale_least}
-use Rattle.dl_answers.specs.Grounds.{IsGround, IsPart}
-use Rattle.dl_answers.specs.declared.reports.Ground.{Ground}
-use Rattle.dl_answers.specs.declared.shares.Part.{Part}
+use Rattle.dl_answers.proofs.Common.{ℕ, ◌≡◌, ◌*◌, ◌^◌, ◌<◌, ◌≤◌, arith, mul-le-mul_left, mul-le-mul, pow-le-pow_right, inl, inr, leb_tells, bits_of, most_plan_cells, most_short_cells, IsPlanScale, Plan, IsPlanAt, plan_scale, scale_least, IsGround, IsPart, Ground, Part}
 
 -- the scale of a valid plan is one of a plan
 pub at_scale : {B : ℕ} {plan : Plan} → IsPlanAt B plan → IsPlanScale B

@@ -1,17 +1,6 @@
 -- The share of a unit in a total, and in the tail mean.
-use Rattle.dl_answers.proofs.Common.{ℕ, ◌≡◌, ◌+◌, ◌-◌, ◌*◌, ◌^◌, ◌<◌, ◌≤◌, ◌↔◌, ◌⊎◌, List, [], ◌∷◌, length, get_or, get_or-map, map, arith, inl, inr, refl, sym, ap, subst, ◌∙◌, mul-le-mul, mul-le-mul_left, mul-le-mul_right, pow_pos, Option, None, Some, IsNone, IfSome, Fraction, whole, ◌over◌, ◌+ℚ◌, ◌≤ℚ◌, ◌<ℚ◌, le_refl, lt_of_lt_of_le, plus_le_both, sub_le_both, over_le_over, over_lt, over_plus, up, Iv, low_at, high_at, spread, low_cdf, IsFirstFound, Series, AtLeast, Holds, Quantity, One, Mean, Point, Joint, Loss, AreDeclared, IsQuantile, GridEncloses, partial_sums, total, declared, loss_of, aggregates_of, declared_by, plan_declared, at_least_wider, at_most_wider, Plan, UnitOfPlan, IsValid, Row, claims_budget, none_budget, horizon, mean_width, declared_mean, unit_mean_budget, total_budget, joint_budget, kappa_budget, cotail_budget, ask_budget, in_digits, index_of, IsTotalOf, Prints, Declares, DeclaresGiven, DeclaresShare, IsAtLeast, IsAtMost, IsBelow, IsBeyond, IsShareOfUnit, IsTailShare, IsNoTailShare, IsTooRare, IsAnswerTo, at_the_end, least_likely, total_error, IsJointOf}
-use Rattle.dl_exact.proofs.BelowOne.{num_below}
-use Rattle.dl_plan.specs.Common.{CanShare}
+use Rattle.dl_answers.proofs.Common.{ℕ, ◌≡◌, ◌+◌, ◌-◌, ◌*◌, ◌^◌, ◌<◌, ◌≤◌, ◌↔◌, ◌⊎◌, List, [], ◌∷◌, length, get_or, get_or-map, map, arith, inl, inr, refl, sym, ap, subst, ◌∙◌, mul-le-mul, mul-le-mul_left, mul-le-mul_right, pow_pos, Option, None, Some, IsNone, IfSome, Fraction, whole, ◌over◌, ◌+ℚ◌, ◌≤ℚ◌, ◌<ℚ◌, le_refl, lt_of_lt_of_le, plus_le_both, sub_le_both, over_le_over, over_lt, over_plus, up, Iv, low_at, high_at, spread, low_cdf, IsFirstFound, Series, AtLeast, Holds, Quantity, One, Mean, Point, Joint, Loss, AreDeclared, IsQuantile, GridEncloses, partial_sums, total, declared, loss_of, aggregates_of, declared_by, plan_declared, at_least_wider, at_most_wider, Plan, UnitOfPlan, IsValid, Row, claims_budget, none_budget, horizon, mean_width, declared_mean, unit_mean_budget, total_budget, joint_budget, kappa_budget, cotail_budget, ask_budget, in_digits, index_of, IsTotalOf, Prints, Declares, DeclaresGiven, DeclaresShare, IsAtLeast, IsAtMost, IsBelow, IsBeyond, IsShareOfUnit, IsTailShare, IsNoTailShare, IsTooRare, IsAnswerTo, at_the_end, least_likely, total_error, IsJointOf, num_below, CanShare, has_factor, HoldsShare, Outcome, share_budget, undivided_by, mean_after_zero, IsPast, MayBeAbsent, GivesJoints, IsSharedBy, joint_width, conditional_width, share_width, whole_share_width, IsPart, Part}
 use Rattle.dl_plan.specs.declared.settings.Ask.TheVariants as asks
-use Rattle.dl_plan.proofs.Shared.{has_factor}
-use Rattle.dl_model.specs.Prelude.{HoldsShare, Outcome}
-use Rattle.dl_budget.specs.Asks.{share_budget, undivided_by}
-use Rattle.dl_budget.specs.Units.{mean_after_zero}
-use Rattle.dl_shares.specs.Settled.{IsPast, MayBeAbsent}
-use Rattle.dl_shares.specs.Source.{GivesJoints, IsSharedBy, joint_width}
-use Rattle.dl_shares.specs.Widths.{conditional_width, share_width, whole_share_width}
-use Rattle.dl_answers.specs.Grounds.{IsPart}
-use Rattle.dl_answers.specs.declared.shares.Part.{Part}
 use Rattle.dl_answers.proofs.GoodRows.{cell_apart, plus_lt}
 use Rattle.dl_answers.proofs.Printed.{Widens, are_ends, declared_ends, given_widens}
 use Rattle.dl_answers.proofs.Tails.{tail_reached, up_rises}

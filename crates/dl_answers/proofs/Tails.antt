@@ -1,12 +1,6 @@
 -- The answer to an ask for a tail mean.
-use Rattle.dl_answers.proofs.Common.{Option, None, IsFirstFound, bracket_end, sym, Some, ◌∙◌, ◌↔◌, ℕ, suc, ◌≡◌, ◌+◌, ◌-◌, ◌*◌, ◌^◌, ◌<◌, ◌≤◌, List, length, arith, inl, inr, div_ceil, mul-le-mul_left, mul-le-mul_right, pow_pos, div_ceil_times, Fraction, ◌over◌, ◌≤ℚ◌, ◌<ℚ◌, le_trans, lt_or_le, lt_not_le, div_ceil_least, Iv, over_le_over, low_at, high_at, spread, up_quotient, count_below, Holds, One, Mean, Tail, partial_sums, total, GridEncloses, AreDeclared, low_cdf, at_least_wider, cdf_ends, IsFirstAtLeast, Plan, IsValid, Row, total_budget, mean_budget, tail_budget, in_digits, few_cells, at_the_end, IsTailMean, DeclaresTail, IsTotalOf, IsMeanOf, Prints, Loss, up, tail_width, IsQuantile, count_below_grows, IsLevel, IsAtLeast, total_cdf, total_mean, total_tail, ◌⊎◌, ask_budget, IsBeyond, IsAnswerTo, total_error}
-use Rattle.dl_exact.proofs.BelowOne.{num_below}
+use Rattle.dl_answers.proofs.Common.{Option, None, IsFirstFound, bracket_end, sym, Some, ◌∙◌, ◌↔◌, ℕ, suc, ◌≡◌, ◌+◌, ◌-◌, ◌*◌, ◌^◌, ◌<◌, ◌≤◌, List, length, arith, inl, inr, div_ceil, mul-le-mul_left, mul-le-mul_right, pow_pos, div_ceil_times, Fraction, ◌over◌, ◌≤ℚ◌, ◌<ℚ◌, le_trans, lt_or_le, lt_not_le, div_ceil_least, Iv, over_le_over, low_at, high_at, spread, up_quotient, count_below, Holds, One, Mean, Tail, partial_sums, total, GridEncloses, AreDeclared, low_cdf, at_least_wider, cdf_ends, IsFirstAtLeast, Plan, IsValid, Row, total_budget, mean_budget, tail_budget, in_digits, few_cells, at_the_end, IsTailMean, DeclaresTail, IsTotalOf, IsMeanOf, Prints, Loss, up, tail_width, IsQuantile, count_below_grows, IsLevel, IsAtLeast, total_cdf, total_mean, total_tail, ◌⊎◌, ask_budget, IsBeyond, IsAnswerTo, total_error, num_below, End, Beyond, IsPast, IsPastGrid, reach_of}
 use Rattle.dl_plan.specs.declared.settings.Ask.TheVariants as asks
-use Rattle.dl_report.specs.declared.report.End.{End}
-use Rattle.dl_report.specs.declared.report.End.TheVariants.{Beyond}
-use Rattle.dl_shares.specs.Settled.{IsPast}
-use Rattle.dl_answers.specs.Rows.{IsPastGrid}
-use Rattle.dl_answers.specs.Grounds.{reach_of}
 use Rattle.dl_answers.proofs.Losses.{losses_of, losses_declared, losses_units, encloses_losses, holds_told, holds_back, quantile_back}
 use Rattle.dl_answers.proofs.Printed.{are_ends, tail_widens}
 

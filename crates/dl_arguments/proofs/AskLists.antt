@@ -1,7 +1,5 @@
 -- The asks of texts as a loop reads them: those so far, and what the rest of the texts ask.
-use Rattle.dl_arguments.proofs.Common.{◌≡◌, ◌∙◌, ℕ, suc, ◌+◌, ◌<◌, ◌≤◌, List, [], ◌∷◌, ◌++◌, length, map, drop, append_assoc, append-nil, Option, Some, None, Result, Ok, Err, arith, ap, option_map, Bor, Ask, Asked, ask_of, asks_of, with_ask, Rules, Text}
-use Rattle.std.proofs.Common.{add-one, drop-cons, get_or}
-use Rattle.std.proofs.lemmas.List.{drop_all}
+use Rattle.dl_arguments.proofs.Common.{◌≡◌, ◌∙◌, ℕ, suc, ◌+◌, ◌<◌, ◌≤◌, List, [], ◌∷◌, ◌++◌, length, map, drop, append_assoc, append-nil, Option, Some, None, Result, Ok, Err, arith, ap, option_map, Bor, Ask, Asked, ask_of, asks_of, with_ask, Rules, Text, add-one, drop-cons, get_or, drop_all}
 
 -- so many asks, in front of what the rest ask
 abbrev pub followed : List Asked → ℕ → Result (List Asked) ℕ → Result (List Asked) ℕ

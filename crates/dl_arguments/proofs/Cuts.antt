@@ -1,9 +1,5 @@
 -- What `split_once` and `strip_prefix` say, in the words of the definitions.
-use Rattle.dl_arguments.proofs.Common.{◌≡◌, ℕ, ◌<◌, [], ◌∷◌, Option, Some, None, arith, refl, ap, inl, inr, ◌==◌, option_map, Bor, nat_tests, cases_Bool, behind_sign, cut_at, Text}
-use Rattle.std.proofs.Common.{◌≢◌}
-use Rattle.std.specs.Prelude.{MatchOption}
-use Rattle.dl_bytes.proofs.FirstSign.{found_any, none_any}
-use Rattle.std.proofs.lemmas.Str.Pattern.{IsSplitOnceResult, split_once_first}
+use Rattle.dl_arguments.proofs.Common.{◌≡◌, ℕ, ◌<◌, [], ◌∷◌, Option, Some, None, arith, refl, ap, inl, inr, ◌==◌, option_map, Bor, nat_tests, cases_Bool, behind_sign, cut_at, Text, ◌≢◌, MatchOption, found_any, none_any, IsSplitOnceResult, split_once_first}
 
 abbrev both_now : Bor Text × Bor Text → Text × Text
 both_now cut = (cut.0.now, cut.1.now)

@@ -1,6 +1,5 @@
 -- A text that is not a word.
-use Rattle.std.proofs.lemmas.Bool.{false_from_ne_true}
-use Rattle.dl_arguments.proofs.Common.{◌≡◌, false, bytes_eq, bytes_eq-Decides, Text}
+use Rattle.dl_arguments.proofs.Common.{◌≡◌, false, bytes_eq, bytes_eq-Decides, Text, false_from_ne_true}
 
 pub other : (head word : Text) → (head ≡ word → ⊥) → bytes_eq head word ≡ false
 other head word differ = false_from_ne_true _ (λ same. differ ((bytes_eq-Decides head word).0 same))

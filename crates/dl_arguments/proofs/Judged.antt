@@ -1,19 +1,8 @@
 -- The answer to what `clap` found is the answer to the words.
-use Rattle.std.proofs.lemmas.Grind.{common_steps}
-use Rattle.dl_arguments.proofs.Common.{◌≡◌, ◌∙◌, inl, inr, cases_Bool, ℕ, Bool, true, false, refl, sym, ap, ap₂, List, [], ◌∷◌, Option, Some, None, Result, Ok, Err, codes, true≢false, length, drop, arith, ◌≤◌, if◌then◌else◌, is_some, slice_get, ◌&&◌, option_and_then, option_map, unwrap_or, Bor, is_ascii_digit, IsTrue, list_all, bytes_eq, bytes_eq-Decides, nat_tests, all_of, rows_of, matches_of, Asked, Form, Run, Rules, Settings, UsageFault, Line, WordsFault, asks_of, command, Explains, ExplainsAsks, answer_in, asks_in, values_in, Values, are_taken, form_named, is_taken, rules_in, Part, is_name, command_parts, positionals_of, option_values, option, positional, between, Text, begins_plainly, is_bucket, is_number_within, admits, answer, to_parts, to_positionals, with_asks, words_of}
-use Rattle.std.proofs.Common.{All, IfSome}
-use Rattle.std.proofs.lemmas.Bool.{and_left, both_ways, false_from_ne_true, leb-true}
+use Rattle.dl_arguments.proofs.Common.{◌≡◌, ◌∙◌, inl, inr, cases_Bool, ℕ, Bool, true, false, refl, sym, ap, ap₂, List, [], ◌∷◌, Option, Some, None, Result, Ok, Err, codes, true≢false, length, drop, arith, ◌≤◌, if◌then◌else◌, is_some, slice_get, ◌&&◌, option_and_then, option_map, unwrap_or, Bor, is_ascii_digit, IsTrue, list_all, bytes_eq, bytes_eq-Decides, nat_tests, all_of, rows_of, matches_of, Asked, Form, Run, Rules, Settings, UsageFault, Line, WordsFault, asks_of, command, Explains, ExplainsAsks, answer_in, asks_in, values_in, Values, are_taken, form_named, is_taken, rules_in, Part, is_name, command_parts, positionals_of, option_values, option, positional, between, Text, begins_plainly, is_bucket, is_number_within, admits, answer, to_parts, to_positionals, with_asks, words_of, common_steps, All, IfSome, and_left, both_ways, false_from_ne_true, leb-true, list_all-map, first_value, Found, first_value-rows, raw_values-rows, Usage, OutOfMemory, form_in, list_of, format_named, is_format, is_rules, rules_named, and_parts}
 use Rattle.std.specs.Prelude.{take, ◌==◌}
-use Rattle.std.proofs.lemmas.List.Folds.{list_all-map}
-use Rattle.clap.specs.Matches.{first_value}
-use Rattle.clap.specs.declared.parser.matches.Found.{Found}
 use Rattle.clap.specs.Walk.{Row as FoundRow, first_of}
-use Rattle.clap.proofs.WalkLemmas.{first_value-rows, raw_values-rows}
 use Rattle.dl_arguments.specs.declared.fault.UsageFault.TheVariants.{Ask}
-use Rattle.dl_arguments.specs.declared.fault.WordsFault.TheVariants.{Usage, OutOfMemory}
-use Rattle.dl_arguments.specs.Found.{form_in, list_of}
-use Rattle.dl_arguments.specs.Options.{format_named, is_format, is_rules, rules_named}
-use Rattle.std.proofs.lemmas.Bool.{and_parts}
 use Rattle.dl_arguments.proofs.NumeralBytes.{passed, written_each}
 use Rattle.dl_arguments.proofs.Reading.{clap_from}
 use Rattle.dl_arguments.proofs.AskLists.{lent}

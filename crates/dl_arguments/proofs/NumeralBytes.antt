@@ -1,9 +1,5 @@
 -- The bytes of a numeral are digits, `.`, `%` and `/`.
-use Rattle.dl_arguments.proofs.Common.{◌≡◌, ℕ, Bool, true, [], ◌∷◌, ◌++◌, All, sym, subst, IsTrue, list_all, is_ascii_digit, All-nil, All-cons, IsNumeral, Text, is_numeral}
-use Rattle.std.proofs.lemmas.List.Elements.{All-append}
-use Rattle.dl_bytes.specs.Numerals.{IsDecimal, digits, digits_point, point_digits, a_decimal, a_percent, a_fraction, percent, fraction}
-use Rattle.dl_bytes.proofs.NumeralTests.{numeral_test}
-use Rattle.std.proofs.lemmas.Bool.{and_parts}
+use Rattle.dl_arguments.proofs.Common.{◌≡◌, ℕ, Bool, true, [], ◌∷◌, ◌++◌, All, sym, subst, IsTrue, list_all, is_ascii_digit, All-nil, All-cons, IsNumeral, Text, is_numeral, All-append, IsDecimal, digits, digits_point, point_digits, a_decimal, a_percent, a_fraction, percent, fraction, numeral_test, and_parts}
 
 -- two texts of such bytes with a sign between them
 pub joined : (P : ℕ → Type 0) (a b : Text) (sign : ℕ) → P sign → All P a → All P b → All P (a ++ sign ∷ b)

@@ -1,16 +1,10 @@
 -- The asks of good words are written with plain bytes alone.
-use Rattle.dl_arguments.proofs.Common.{◌≡◌, ℕ, Bool, true, inl, inr, refl, sym, subst, List, [], ◌∷◌, ◌++◌, All, Ok, arith, codes, nat_lt, ◌&&◌, ◌==◌, IsTrue, list_all, is_ascii_digit, All-nil, nat_tests, is_word_byte, begins_with_letter, Ask, Asked, Rules, Standard, Extended, Settings, Text, is_amount, is_number, is_numeral, is_probability, is_word, SpellsAsk, words_of}
+use Rattle.dl_arguments.proofs.Common.{◌≡◌, ℕ, Bool, true, inl, inr, refl, sym, subst, List, [], ◌∷◌, ◌++◌, All, Ok, arith, codes, nat_lt, ◌&&◌, ◌==◌, IsTrue, list_all, is_ascii_digit, All-nil, nat_tests, is_word_byte, begins_with_letter, Ask, Asked, Rules, Standard, Extended, Settings, Text, is_amount, is_number, is_numeral, is_probability, is_word, SpellsAsk, words_of, IsPlainByte, Term, is_weight, Pmf, Cdf, Quantile, LayerMean, Tail, Price, Joint, Kappa, Cotail, Share, amount, by_row, colon, layer, letter_s, letter_x, limit, mean, name, plus, probability, rows, share_of_tail, term, terms, unit_amount, unit_level, weight, All-weaker}
 use Rattle.std.specs.Prelude.{not}
-use Rattle.dl_plan.specs.Plain.{IsPlainByte}
-use Rattle.dl_plan.specs.declared.settings.Term.{Term}
-use Rattle.dl_arguments.specs.Spelling.{is_weight}
-use Rattle.dl_plan.specs.declared.settings.Ask.TheVariants.{Pmf, Cdf, Quantile, LayerMean, Tail, Price, Joint, Kappa, Cotail, Share}
-use Rattle.dl_arguments.specs.Table.{amount, by_row, colon, layer, letter_s, letter_x, limit, mean, name, plus, probability, rows, share_of_tail, term, terms, unit_amount, unit_level, weight}
 use Rattle.dl_arguments.specs.Ways.{AreJoined, Way, behind, last, made, more, pair}
 use Rattle.std.proofs.lemmas.Bool.{and_parts as both}
 use Rattle.dl_arguments.proofs.NumeralBytes.{joined, passed, written_each}
 use Rattle.dl_arguments.proofs.RangeLaws.{IsSpelled, asks_by_rules}
-use Rattle.std.proofs.lemmas.List.Elements.{All-weaker}
 use Rattle.dl_arguments.proofs.TableLaws.{EachRow, Spelling, by_each, no_more, spelled_row, ◌also◌}
 
 -- ---- bytes

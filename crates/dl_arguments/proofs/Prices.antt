@@ -1,16 +1,7 @@
 -- The terms of a price, as they are read and as they are spelled.
-use Rattle.dl_arguments.proofs.Common.{◌≡◌, ◌∙◌, ℕ, ◌≤◌, true, false, refl, sym, ap, List, ◌∷◌, ◌++◌, length, map, All, Option, Some, None, arith, ◌==◌, IsTrue, if◌then◌else◌, option_and_then, is_ascii_digit, nat_tests, Fraction, numeral_value, Text, is_numeral, is_probability}
-use Rattle.std.proofs.lemmas.Bool.{and_from, eq-eqb, eqb-true, le-leb, leb-true, false_from_ne_true}
-use Rattle.std.proofs.lemmas.List.Folds.{list_any_none}
+use Rattle.dl_arguments.proofs.Common.{◌≡◌, ◌∙◌, ℕ, ◌≤◌, true, false, refl, sym, ap, List, ◌∷◌, ◌++◌, length, map, All, Option, Some, None, arith, ◌==◌, IsTrue, if◌then◌else◌, option_and_then, is_ascii_digit, nat_tests, Fraction, numeral_value, Text, is_numeral, is_probability, and_from, eq-eqb, eqb-true, le-leb, leb-true, false_from_ne_true, list_any_none, over_self, over_same, Term, ArePriced, most_terms, most_weight_parts, common_denominator, one_only, is_weight, are_weighted, plus, probability, term, terms, weight, and_parts}
 use Rattle.dl_exact.specs.Prelude.{whole, sum_over}
-use Rattle.dl_exact.proofs.Over.{over_self, over_same}
-use Rattle.dl_plan.specs.declared.settings.Term.{Term}
-use Rattle.dl_plan.specs.Prelude.{ArePriced, most_terms, most_weight_parts, common_denominator}
-use Rattle.dl_plan.proofs.WholeParts.{one_only}
-use Rattle.dl_arguments.specs.Spelling.{is_weight}
-use Rattle.dl_arguments.specs.Table.{are_weighted, plus, probability, term, terms, weight}
 use Rattle.dl_arguments.specs.Ways.{AreJoined, last, more, joined, list}
-use Rattle.std.proofs.lemmas.Bool.{and_parts}
 use Rattle.dl_arguments.proofs.NumeralBytes.{joined as bytes_joined, written_each}
 use Rattle.dl_arguments.proofs.WayLaws.{IsRead, IsWithout, list_read, made_read, one_read, pair_read, that_read}
 

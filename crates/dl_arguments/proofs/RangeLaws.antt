@@ -1,23 +1,11 @@
 -- What good words say lies in its ranges, and the asks are words.
-use Rattle.dl_arguments.proofs.Common.{◌≡◌, inl, inr, cases_Bool, ℕ, suc, ◌≤◌, Bool, refl, ap, subst, List, [], ◌∷◌, length, map, All, Option, Some, None, Result, Ok, Err, IfOk, arith, codes, nat_lt, ◌&&◌, ◌==◌, IsTrue, list_all, All-nil, All-cons, nat_tests, is_bad, numeral_value, Ask, Asked, Form, Run, Cert, Verify, Rules, Standard, Extended, Settings, ask_of, asks_of, with_ask, Values, are_taken, form_named, is_taken, rules_in, Part, command_parts, positionals_of, option_values, Text, begins_plainly, is_bucket, is_numeral, is_probability, is_number_within, number, SpellsAsk, admits, answer, to_parts, to_positionals, with_asks, words_of}
-use Rattle.dl_exact.proofs.BelowOne.{below_one}
-use Rattle.std.proofs.lemmas.Bool.{leb-true, ltb-true, not-true}
-use Rattle.std.proofs.Math.Nat.{pow-le-pow_right}
+use Rattle.dl_arguments.proofs.Common.{◌≡◌, inl, inr, cases_Bool, ℕ, suc, ◌≤◌, Bool, refl, ap, subst, List, [], ◌∷◌, length, map, All, Option, Some, None, Result, Ok, Err, IfOk, arith, codes, nat_lt, ◌&&◌, ◌==◌, IsTrue, list_all, All-nil, All-cons, nat_tests, is_bad, numeral_value, Ask, Asked, Form, Run, Cert, Verify, Rules, Standard, Extended, Settings, ask_of, asks_of, with_ask, Values, are_taken, form_named, is_taken, rules_in, Part, command_parts, positionals_of, option_values, Text, begins_plainly, is_bucket, is_numeral, is_probability, is_number_within, number, SpellsAsk, admits, answer, to_parts, to_positionals, with_asks, words_of, below_one, leb-true, ltb-true, not-true, pow-le-pow_right, All-head, All-tail, All-weaker, pos_num, one_bucket, IsBucket, IsLevel, IsAskInRange, AreInRange, IsOfCert, Term, Pmf, Cdf, Quantile, LayerMean, Tail, Price, Joint, Kappa, Cotail, Share, amount, by_row, layer, mean, plus, probability, rows, share_of_tail, term, terms, unit_amount, unit_level, is_report_plain, are_of_cert, are_of_verify, most_cert_log2, or_default, rules_of, settings_of, IsSmall, numeral_small}
 use Rattle.std.proofs.Common.{not, IsUtf8, ◌^◌}
-use Rattle.std.proofs.lemmas.List.Elements.{All-head, All-tail, All-weaker}
 use Rattle.dl_exact.specs.Fraction.{Fraction, whole}
-use Rattle.dl_exact.proofs.Parts.{pos_num}
-use Rattle.dl_plan.proofs.Buckets.{one_bucket}
-use Rattle.dl_plan.specs.Prelude.{IsBucket, IsLevel, IsAskInRange, AreInRange, IsOfCert}
-use Rattle.dl_plan.specs.declared.settings.Term.{Term}
-use Rattle.dl_plan.specs.declared.settings.Ask.TheVariants.{Pmf, Cdf, Quantile, LayerMean, Tail, Price, Joint, Kappa, Cotail, Share}
-use Rattle.dl_arguments.specs.Table.{amount, by_row, layer, mean, plus, probability, rows, share_of_tail, term, terms, unit_amount, unit_level}
 use Rattle.dl_arguments.specs.Ways.{AreJoined, Way, last, made, more}
 use Rattle.dl_arguments.proofs.Prices.{priced}
-use Rattle.dl_arguments.specs.Options.{is_report_plain, are_of_cert, are_of_verify, most_cert_log2, or_default, rules_of, settings_of}
 use Rattle.std.proofs.lemmas.Bool.{and_parts as both}
 use Rattle.dl_arguments.proofs.WrittenLaws.{parts_written, written_each}
-use Rattle.dl_frac.proofs.SmallNumerals.{IsSmall, numeral_small}
 use Rattle.dl_arguments.proofs.TableLaws.{EachRow, Spelling, by_each, no_more, table_back, ◌also◌}
 
 -- ---- the values of the options

@@ -1,8 +1,7 @@
 -- The words as `clap` reads them: a lone hyphen is a plain word, and no option takes a value that begins with a hyphen,
 -- but for a lone one.
-use Rattle.dl_arguments.proofs.Common.{◌≡◌, ℕ, Bool, true, false, refl, List, [], ◌∷◌, Option, Some, None, if◌then◌else◌, is_some, slice_get, list_any, before_first, after_first, bytes_eq, chars, long_of, short_of, Text, Part, Mode, Kind, is_equals, is_name, read_kind, with_part, option, positional, between, value, ended, ends, whole, begins, plain, misfit}
+use Rattle.dl_arguments.proofs.Common.{◌≡◌, ℕ, Bool, true, false, refl, List, [], ◌∷◌, Option, Some, None, if◌then◌else◌, is_some, slice_get, list_any, before_first, after_first, bytes_eq, chars, long_of, short_of, Text, Part, Mode, Kind, is_equals, is_name, read_kind, with_part, option, positional, between, value, ended, ends, whole, begins, plain, misfit, after_hyphens}
 use Rattle.std.proofs.Common.{◌==◌}
-use Rattle.dl_arguments.specs.Parts.{after_hyphens}
 
 abbrev pub clap_after_hyphen : Text → Kind
 clap_after_hyphen [] = plain

@@ -1,13 +1,6 @@
 -- What the uses of options and positionals leave in the rows.
-use Rattle.dl_arguments.proofs.Common.{◌≡◌, ◌∙◌, inl, inr, ℕ, true, false, refl, sym, ap, subst, List, [], ◌∷◌, ◌++◌, Option, Some, None, true≢false, length, append_assoc, arith, ◌+◌, ◌≤◌, if◌then◌else◌, is_some, unwrap_or, option_map, ⊤, fold, bytes_eq, bytes_eq-Decides, cases_Bool, explicit_source, is_given, Kinds, or_else, Row, Rule, action_of, all_of, arg_by_id, has_row, Shape, repeat_fault, use_fault, Text}
-use Rattle.clap.specs.declared.parser.matches.ValueSource.TheVariants.{DefaultValue, CommandLine}
-use Rattle.clap.specs.Walk.{is_append, reading_by, stronger, with_values, without}
-use Rattle.clap.specs.declared.builder.action.ArgAction.{ArgAction}
-use Rattle.clap.specs.declared.builder.action.ArgAction.TheVariants.{Set, Append}
-use Rattle.clap.specs.declared.builder.value_parser.Reading.{Reading}
-use Rattle.clap.specs.declared.parser.matches.ValueSource.{ValueSource}
+use Rattle.dl_arguments.proofs.Common.{◌≡◌, ◌∙◌, inl, inr, ℕ, true, false, refl, sym, ap, subst, List, [], ◌∷◌, ◌++◌, Option, Some, None, true≢false, length, append_assoc, arith, ◌+◌, ◌≤◌, if◌then◌else◌, is_some, unwrap_or, option_map, ⊤, fold, bytes_eq, bytes_eq-Decides, cases_Bool, explicit_source, is_given, Kinds, or_else, Row, Rule, action_of, all_of, arg_by_id, has_row, Shape, repeat_fault, use_fault, Text, DefaultValue, CommandLine, is_append, reading_by, stronger, with_values, without, ArgAction, Set, Append, Reading, ValueSource, find}
 use Rattle.dl_arguments.proofs.Simulation.{Fails, Use, bytes_same, fault, faults, step}
-use Rattle.std.specs.Prelude.{find}
 
 -- the first row of an id
 abbrev pub look : Text → List Row → Option Row

@@ -1,8 +1,5 @@
 -- Texts that are cut at a sign, and values that are read where a test passes.
-use Rattle.dl_arguments.proofs.Common.{◌≡◌, ◌∙◌, ℕ, Bool, true, false, refl, ap, ◌∷◌, ◌++◌, Option, Some, None, ◌==◌, if◌then◌else◌, option_map, option_and_then, list_any, before_first, after_first, cut_at, Text}
-use Rattle.std.proofs.lemmas.Bool.{eq-eqb}
-use Rattle.dl_bytes.proofs.FirstSign.{after_at, any_at, before_at}
-use Rattle.dl_bytes.proofs.FirstSign.{cut_first}
+use Rattle.dl_arguments.proofs.Common.{◌≡◌, ◌∙◌, ℕ, Bool, true, false, refl, ap, ◌∷◌, ◌++◌, Option, Some, None, ◌==◌, if◌then◌else◌, option_map, option_and_then, list_any, before_first, after_first, cut_at, Text, eq-eqb, after_at, any_at, before_at, cut_first}
 
 pub cut_there : (s : ℕ) (front back : Text) → list_any (λ b. b == s) front ≡ false
     → cut_at s (front ++ s ∷ back) ≡ Some (front, back)

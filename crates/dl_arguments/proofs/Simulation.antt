@@ -1,11 +1,6 @@
 -- The walk of `clap` over the words uses their parts in turn.
-use Rattle.dl_arguments.proofs.Common.{◌≡◌, ◌∙◌, ℕ, Bool, true, false, refl, sym, ap, subst, List, [], ◌∷◌, Option, Some, None, if◌then◌else◌, slice_get, ◌||◌, ⊤, fold, bytes_eq, chars, bytes_eq-Decides, Kinds, or_else, Row, Rule, Walk, arg_by_id, arg_by_index, arg_by_long, arg_by_short, settled, Shape, settle_fault, use_fault, Text, Part, Mode, is_name, read_kind, with_part, option, positional, between, value, ended, misfit}
-use Rattle.std.proofs.Math.Bool.{and-false}
-use Rattle.std.proofs.lemmas.Bool.{both_ways}
-use Rattle.std.specs.Option.{option_map_or}
-use Rattle.clap.specs.Facts.{unwrap_or_range}
+use Rattle.dl_arguments.proofs.Common.{◌≡◌, ◌∙◌, ℕ, Bool, true, false, refl, sym, ap, subst, List, [], ◌∷◌, Option, Some, None, if◌then◌else◌, slice_get, ◌||◌, ⊤, fold, bytes_eq, chars, bytes_eq-Decides, Kinds, or_else, Row, Rule, Walk, arg_by_id, arg_by_index, arg_by_long, arg_by_short, settled, Shape, settle_fault, use_fault, Text, Part, Mode, is_name, read_kind, with_part, option, positional, between, value, ended, misfit, and-false, both_ways, option_map_or, unwrap_or_range, flags_fault, long_fault, short_fault, step_fault, turn_fault, word_fault, walk_fault}
 use Rattle.clap.specs.Walk.{Held, Step, Waiting, after_step, bundle_met, idle, is_multiple, most_values, next_position, option as wants, positional as several, plain_word, settled_rows, subcommand_met, takes_several, takes_values, word_met, value as value_step, used, used_by_id, walked, is_pending}
-use Rattle.clap.specs.Faults.{flags_fault, long_fault, short_fault, step_fault, turn_fault, word_fault, walk_fault}
 use Rattle.dl_arguments.proofs.Reading.{IsLong, IsShort, Seen, clap_from, hyphens, option_kind, seen, value_kind, seen_bytes, seen_ends, seen_flags, seen_long, seen_plain}
 
 -- ---- kinds

@@ -1,14 +1,9 @@
 -- What is read as an ask is what the table of the asks has.
-use Rattle.dl_arguments.proofs.Common.{◌≡◌, ◌∙◌, inl, inr, cases_Bool, ℕ, Bool, true, false, refl, sym, ap, subst, List, [], ◌∷◌, ◌++◌, Some, None, codes, true≢false, arith, ◌==◌, ◌&&◌, IsTrue, option_and_then, is_ascii_digit, list_all, list_any, bytes_eq, nat_tests, bytes_eq-Decides, numeral_value, is_word_byte, begins_with_letter, Ask, Rules, Standard, Extended, ask_of, cut_at, Text, is_amount, is_probability, is_word, number, SpellsAsk}
+use Rattle.dl_arguments.proofs.Common.{◌≡◌, ◌∙◌, inl, inr, cases_Bool, ℕ, Bool, true, false, refl, sym, ap, subst, List, [], ◌∷◌, ◌++◌, Some, None, codes, true≢false, arith, ◌==◌, ◌&&◌, IsTrue, option_and_then, is_ascii_digit, list_all, list_any, bytes_eq, nat_tests, bytes_eq-Decides, numeral_value, is_word_byte, begins_with_letter, Ask, Rules, Standard, Extended, ask_of, cut_at, Text, is_amount, is_probability, is_word, number, SpellsAsk, false_from_ne_true, not-true, list_any_none, Pmf, Cdf, Mean, Quantile, LayerMean, Tail, Price, Joint, Kappa, Cotail, Share, Way, behind, made, any_at}
 use Rattle.std.specs.Prelude.{not}
-use Rattle.std.proofs.lemmas.Bool.{false_from_ne_true, not-true}
-use Rattle.std.proofs.lemmas.List.Folds.{list_any_none}
 use Rattle.dl_arguments.proofs.NumeralBytes.{passed}
-use Rattle.dl_plan.specs.declared.settings.Ask.TheVariants.{Pmf, Cdf, Mean, Quantile, LayerMean, Tail, Price, Joint, Kappa, Cotail, Share}
 use Rattle.dl_arguments.specs.Table.{Row, SpelledBy, amount, by_row, colon, layer, letter_s, letter_x, limit, mean, name, probability, read_by, rows, share_of_tail, terms, unit_amount, unit_level}
-use Rattle.dl_arguments.specs.Ways.{Way, behind, made}
 use Rattle.std.proofs.lemmas.Bool.{and_parts as both}
-use Rattle.dl_bytes.proofs.FirstSign.{any_at}
 use Rattle.dl_arguments.proofs.Signs.{chained, cut_back, cut_there, not_some, some_is}
 use Rattle.dl_arguments.proofs.Prices.{terms_read}
 use Rattle.dl_arguments.proofs.WayLaws.{IsRead, IsWithout, behind_read, made_read, one_read, pair_read, word_or_read}

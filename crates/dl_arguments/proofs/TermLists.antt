@@ -1,9 +1,6 @@
 -- The terms of a price as a loop reads them: those so far, and what the rest is read as.
-use Rattle.dl_arguments.proofs.Common.{◌≡◌, ◌∙◌, ℕ, suc, ◌≤◌, ◌<◌, ◌+◌, List, [], ◌∷◌, ◌++◌, append_assoc, Option, Some, None, arith, refl, ap, option_map, cut_at, Text}
-use Rattle.std.proofs.Common.{◌-◌}
-use Rattle.dl_plan.specs.declared.settings.Term.{Term}
+use Rattle.dl_arguments.proofs.Common.{◌≡◌, ◌∙◌, ℕ, suc, ◌≤◌, ◌<◌, ◌+◌, List, [], ◌∷◌, ◌++◌, append_assoc, Option, Some, None, arith, refl, ap, option_map, cut_at, Text, ◌-◌, Term, joined_at}
 use Rattle.dl_arguments.specs.Table.{plus, term as a_term}
-use Rattle.dl_arguments.specs.Ways.{joined_at}
 unfoldable use Rattle.dl_arguments.specs.Ways.{joined}
 
 -- these terms in front of others

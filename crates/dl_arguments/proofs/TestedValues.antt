@@ -1,6 +1,5 @@
 -- The value of a text that passes a test, where the value must pass one more.
-use Rattle.std.specs.Bool.{then_some}
-use Rattle.dl_arguments.proofs.Common.{◌≡◌, Bool, true, false, refl, Some, None, if◌then◌else◌, ◌&&◌}
+use Rattle.dl_arguments.proofs.Common.{◌≡◌, Bool, true, false, refl, Some, None, if◌then◌else◌, ◌&&◌, then_some}
 
 pub none_tested : {A : Type 0} (passes : Bool) (test : A → Bool) (value : A)
     → None ≡ (if passes then Some value else None) → None ≡ (if passes && test value then Some value else None)

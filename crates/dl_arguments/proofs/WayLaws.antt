@@ -1,6 +1,5 @@
 -- What spells a value is read as it, and what is read as a value spells it: for each way to write values.
-use Rattle.dl_arguments.proofs.Common.{◌≡◌, ◌∙◌, inl, inr, cases_Bool, ℕ, suc, ◌≤◌, Bool, true, false, refl, ap, subst, List, [], ◌∷◌, length, Option, Some, None, arith, ◌==◌, IsTrue, if◌then◌else◌, option_map, option_and_then, list_any, bytes_eq, bytes_eq-Decides, behind_sign, cut_at, Text}
-use Rattle.std.proofs.Common.{zero}
+use Rattle.dl_arguments.proofs.Common.{◌≡◌, ◌∙◌, inl, inr, cases_Bool, ℕ, suc, ◌≤◌, Bool, true, false, refl, ap, subst, List, [], ◌∷◌, length, Option, Some, None, arith, ◌==◌, IsTrue, if◌then◌else◌, option_map, option_and_then, list_any, bytes_eq, bytes_eq-Decides, behind_sign, cut_at, Text, zero}
 use Rattle.dl_arguments.specs.Ways.{Way, one, pair, behind, word_or, made, that, list, AreJoined, last, more, joined_at}
 unfoldable use Rattle.dl_arguments.specs.Ways.{joined}
 use Rattle.dl_arguments.proofs.Signs.{chained, cut_back, cut_there, mapped, not_some, some_is, tested}

@@ -1,17 +1,6 @@
 -- What `clap` makes of any words, by their parts.
-use Rattle.std.proofs.lemmas.Bool.Decides.{nat_tests}
-use Rattle.std.proofs.lemmas.Grind.{common_steps}
-use Rattle.dl_arguments.proofs.Common.{◌≡◌, ◌∙◌, inl, inr, ℕ, Bool, true, false, refl, sym, ap, ap₂, subst, List, [], ◌∷◌, Option, Some, None, codes, true≢false, length, arith, ◌≤◌, if◌then◌else◌, is_some, unwrap_or, ⊤, fold, bytes_eq, bytes_eq-Decides, cases_Bool, Kinds, or_else, Row, Rule, action_of, all_of, arg_by_id, arg_by_index, arg_by_long, arg_by_short, walk, walk_from, is_given, Shape, built, is_simple, is_simple_and_free, matches_of, repeat_fault, fault_of, settle_fault, command, Text, Part, is_name, positionals_of, option_values, option, positional, between}
-use Rattle.std.proofs.Common.{IfSome}
-use Rattle.std.proofs.lemmas.Bool.{both_ways}
+use Rattle.dl_arguments.proofs.Common.{◌≡◌, ◌∙◌, inl, inr, ℕ, Bool, true, false, refl, sym, ap, ap₂, subst, List, [], ◌∷◌, Option, Some, None, codes, true≢false, length, arith, ◌≤◌, if◌then◌else◌, is_some, unwrap_or, ⊤, fold, bytes_eq, bytes_eq-Decides, cases_Bool, Kinds, or_else, Row, Rule, action_of, all_of, arg_by_id, arg_by_index, arg_by_long, arg_by_short, walk, walk_from, is_given, Shape, built, is_simple, is_simple_and_free, matches_of, repeat_fault, fault_of, settle_fault, command, Text, Part, is_name, positionals_of, option_values, option, positional, between, nat_tests, common_steps, IfSome, both_ways, unwrap_or_range, Held, is_append, most_values, next_position, nothing_held, takes_several, takes_values, with_default, ArgAction, Set, entered, new_rule, slice_index_or, check_fault, default_fault, defaults_fault, entered_fault, level_fault, long_fault, short_fault, walk_fault}
 use Rattle.std.specs.Prelude.{take, drop}
-use Rattle.clap.specs.Facts.{unwrap_or_range}
-use Rattle.clap.specs.Walk.{Held, is_append, most_values, next_position, nothing_held, takes_several, takes_values, with_default}
-use Rattle.clap.specs.declared.builder.action.ArgAction.{ArgAction}
-use Rattle.clap.specs.declared.builder.action.ArgAction.TheVariants.{Set}
-use Rattle.clap.specs.Simple.{entered, new_rule}
-use Rattle.std.specs.List.{slice_index_or}
-use Rattle.clap.specs.Faults.{check_fault, default_fault, defaults_fault, entered_fault, level_fault, long_fault, short_fault, walk_fault}
 use Rattle.dl_arguments.proofs.Reading.{clap_from}
 use Rattle.dl_arguments.proofs.Simulation.{AllNamed, Fails, fails_first, fails_next, IsPlace, IsReady, LongMet, Outcome, TakesOne, Use, Walks, does, faults, no_long, or_else-assoc, or_else-nil, outcome, position_of, sim, takes_long, uses_of}
 use Rattle.dl_arguments.proofs.RowLemmas.{AllKept, IsSingle, Kept, at_most_once, both_empty, gathered, given_told, kept_all, kept_once, more, twice, values_in}

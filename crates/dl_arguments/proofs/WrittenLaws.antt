@@ -1,12 +1,7 @@
 -- The parts of the words are those that they are written as.
-use Rattle.dl_arguments.proofs.Common.{◌≡◌, ◌∙◌, inl, inr, cases_Bool, ℕ, Bool, true, false, refl, sym, ap, subst, List, [], ◌∷◌, ◌++◌, Option, Some, None, codes, map, true≢false, arith, ◌==◌, list_any, before_first, after_first, nat_tests, append-nil, before_none, Part, Mode, Kind, is_equals, is_name, kind_of, parts_from, positionals_of, read_kind, with_part, option, positional, between, value, ended, ends, whole, begins, plain, misfit, Text, begins_plainly}
+use Rattle.dl_arguments.proofs.Common.{◌≡◌, ◌∙◌, inl, inr, cases_Bool, ℕ, Bool, true, false, refl, sym, ap, subst, List, [], ◌∷◌, ◌++◌, Option, Some, None, codes, map, true≢false, arith, ◌==◌, list_any, before_first, after_first, nat_tests, append-nil, before_none, Part, Mode, Kind, is_equals, is_name, kind_of, parts_from, positionals_of, read_kind, with_part, option, positional, between, value, ended, ends, whole, begins, plain, misfit, Text, begins_plainly, named, cut_first, after_at, any_at, before_at, All, IfSome, All-cons, All-head, All-tail}
 use Rattle.dl_arguments.specs.AsWritten.{AreParts, nothing, joined, apart, plain as word_plain, ended as all_plain}
-use Rattle.dl_arguments.specs.Parts.{named}
-use Rattle.dl_bytes.proofs.FirstSign.{cut_first}
-use Rattle.dl_bytes.proofs.FirstSign.{after_at, any_at, before_at}
 use Rattle.dl_arguments.proofs.Cleaned.{plain_kind}
-use Rattle.std.proofs.Common.{All, IfSome}
-use Rattle.std.proofs.lemmas.List.Elements.{All-cons, All-head, All-tail}
 use Rattle.dl_arguments.proofs.Simulation.{AllNamed}
 use Rattle.dl_arguments.proofs.Whole.{by_name}
 

@@ -1,8 +1,5 @@
 -- Grids of blocks: their two lists are ends of a grid, between which what the counts come to lies.
-use Rattle.dl_claims.proofs.Common.{ℕ, suc, ◌≡◌, ◌+◌, ◌-◌, ◌*◌, ◌/◌, ◌^◌, ◌<◌, ◌≤◌, List, [], length, get_or, arith, refl, sym, ap, inl, inr, ◌∙◌, All, cases_lt, times_nothing, min, div_ceil, div-mul-le_self, le_of_mul-le-mul_right, mul-le-mul_left, pow_pos, div_ceil_times, Fraction, ◌over◌, Iv, low_at, high_at, AreEnds, IsGridSize, low_le_high, count_below, below_le, cell_from, IsWithinOne, probability_at, probability_is, Item, weight_at, weight_sum, LieBetween, Between, ArePowers, mixture_end, low_ends, high_ends, low_at_ends, high_at_ends}
-use Rattle.std.proofs.lemmas.List.{get_or_past}
-use Rattle.std.proofs.Math.Nat.{zero-div}
-use Rattle.dl_exact.proofs.Counts.{below_none}
+use Rattle.dl_claims.proofs.Common.{ℕ, suc, ◌≡◌, ◌+◌, ◌-◌, ◌*◌, ◌/◌, ◌^◌, ◌<◌, ◌≤◌, List, [], length, get_or, arith, refl, sym, ap, inl, inr, ◌∙◌, All, cases_lt, times_nothing, min, div_ceil, div-mul-le_self, le_of_mul-le-mul_right, mul-le-mul_left, pow_pos, div_ceil_times, Fraction, ◌over◌, Iv, low_at, high_at, AreEnds, IsGridSize, low_le_high, count_below, below_le, cell_from, IsWithinOne, probability_at, probability_is, Item, weight_at, weight_sum, LieBetween, Between, ArePowers, mixture_end, low_ends, high_ends, low_at_ends, high_at_ends, get_or_past, zero-div, below_none}
 use Rattle.dl_claims.proofs.Ends.{low_past, high_past, nothing_over_up}
 use Rattle.dl_claims.proofs.WeightLists.{probabilities_within}
 use Rattle.dl_claims.proofs.HornerSteps.{from_within_one}

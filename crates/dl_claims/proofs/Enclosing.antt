@@ -1,7 +1,5 @@
 -- What encloses the powers of a family, and one claim.
-use Rattle.dl_claims.proofs.Common.{ℕ, ◌≡◌, ◌+◌, ◌*◌, ◌/◌, ◌^◌, ◌<◌, ◌≤◌, List, length, take, arith, refl, sym, ap, ◌∙◌, div_ceil, ne_eqb, pow_pos, Fraction, ◌over◌, ◌≤ℚ◌, whole, times_one, Iv, low_at, high_at, all_at_zero, IsConvolution, probability_at, fixed, Family, compound, times_itself, IsProper, GridEncloses, finite_encloses, power_one, Item, weight_at, weight_sum, low_take, high_take, probability_is, product, nothing, Encloses, convolution_encloses, encloses_same, encloses_power, itself_none, itself_one, itself_proper, all_at_zero_encloses, fixed_sum, fixed_cell, enclose_low, enclose_high}
-use Rattle.dl_exact.specs.Power.{◌^ℚ◌}
-use Rattle.dl_model.specs.Program.{where_true}
+use Rattle.dl_claims.proofs.Common.{ℕ, ◌≡◌, ◌+◌, ◌*◌, ◌/◌, ◌^◌, ◌<◌, ◌≤◌, List, length, take, arith, refl, sym, ap, ◌∙◌, div_ceil, ne_eqb, pow_pos, Fraction, ◌over◌, ◌≤ℚ◌, whole, times_one, Iv, low_at, high_at, all_at_zero, IsConvolution, probability_at, fixed, Family, compound, times_itself, IsProper, GridEncloses, finite_encloses, power_one, Item, weight_at, weight_sum, low_take, high_take, probability_is, product, nothing, Encloses, convolution_encloses, encloses_same, encloses_power, itself_none, itself_one, itself_proper, all_at_zero_encloses, fixed_sum, fixed_cell, enclose_low, enclose_high, ◌^ℚ◌, where_true}
 
 -- ---- powers of a family
 

@@ -1,7 +1,5 @@
 -- Lists of numbers as loops make them, and the ends of a grid made from two of them.
-use Rattle.dl_claims.proofs.Common.{ℕ, ◌≡◌, ◌+◌, ◌*◌, ◌^◌, ◌<◌, ◌≤◌, List, [], ◌∷◌, ◌++◌, length, get_or, arith, refl, sym, ap, ap₂, inl, inr, ◌∙◌, length-append, get_or-append_seam, get_or_append_left, get_or_default, cases_lt, Iv, AreEnds, IsGridSize, count_below, below_more, below_same, mixture_end, sum, zip, mul-le-mul, sum_by-cons, get_or_default_zero, below_first}
-use Rattle.std.proofs.Math.ListN.{get_or-eq_default}
-use Rattle.dl_convolution.proofs.Ends.{sum_total}
+use Rattle.dl_claims.proofs.Common.{ℕ, ◌≡◌, ◌+◌, ◌*◌, ◌^◌, ◌<◌, ◌≤◌, List, [], ◌∷◌, ◌++◌, length, get_or, arith, refl, sym, ap, ap₂, inl, inr, ◌∙◌, length-append, get_or-append_seam, get_or_append_left, get_or_default, cases_lt, Iv, AreEnds, IsGridSize, count_below, below_more, below_same, mixture_end, sum, zip, mul-le-mul, sum_by-cons, get_or_default_zero, below_first, get_or-eq_default, sum_total}
 
 -- the items so far, and the next
 pub one_more_item : (xs ys : List ℕ) (v i : ℕ) (h : ℕ → ℕ) → ys ≡ xs ++ v ∷ [] → length xs ≡ i

@@ -1,6 +1,5 @@
 -- What is 0: the ends past the last cell of a grid, and the rounded quotient of nothing.
-use Rattle.dl_claims.proofs.Common.{ℕ, zero, suc, ◌≡◌, ◌<◌, ◌≤◌, List, [], ◌∷◌, length, arith, refl, min, div_ceil, Iv, low_at, high_at}
-use Rattle.dl_exact.proofs.RoundingLaws.{div_ceil_least}
+use Rattle.dl_claims.proofs.Common.{ℕ, zero, suc, ◌≡◌, ◌<◌, ◌≤◌, List, [], ◌∷◌, length, arith, refl, min, div_ceil, Iv, low_at, high_at, div_ceil_least}
 
 -- past the end
 pub low_past : {B : ℕ} (g : List (Iv B)) (x : ℕ) → length g ≤ x → low_at g x ≡ 0

@@ -1,6 +1,5 @@
 -- Horner's rule on grids of listed counts: the greatest count, each count before it, and the whole.
-use Rattle.dl_claims.proofs.Common.{ℕ, suc, ◌≡◌, ◌+◌, ◌*◌, ◌/◌, ◌^◌, ◌<◌, ◌≤◌, List, length, arith, ap, ◌∙◌, min, div_ceil, Fraction, ◌over◌, ◌≤ℚ◌, Iv, low_at, high_at, all_at_zero, count_pairs, cell_from, IsWithinOne, probability_at, fixed, compound, GridEncloses, finite_encloses, Item, weight_at, weight_sum, greatest, probability_is, LieBetween, cell, severity_between, probabilities_all, probability-past, enclose_low, enclose_high}
-use Rattle.dl_model.proofs.Horner.{horner_end}
+use Rattle.dl_claims.proofs.Common.{ℕ, suc, ◌≡◌, ◌+◌, ◌*◌, ◌/◌, ◌^◌, ◌<◌, ◌≤◌, List, length, arith, ap, ◌∙◌, min, div_ceil, Fraction, ◌over◌, ◌≤ℚ◌, Iv, low_at, high_at, all_at_zero, count_pairs, cell_from, IsWithinOne, probability_at, fixed, compound, GridEncloses, finite_encloses, Item, weight_at, weight_sum, greatest, probability_is, LieBetween, cell, severity_between, probabilities_all, probability-past, enclose_low, enclose_high, horner_end}
 use Rattle.dl_claims.proofs.WeightLists.{probabilities_within}
 use Rattle.dl_claims.proofs.HornerSteps.{starts, goes_on}
 

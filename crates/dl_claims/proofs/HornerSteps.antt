@@ -1,7 +1,5 @@
 -- One step of Horner's rule on rounded ends: one claim more, and the weight of the next lower count.
-use Rattle.dl_claims.proofs.Common.{ℕ, zero, suc, ◌≡◌, ◌+◌, ◌*◌, ◌/◌, ◌^◌, ◌<◌, ◌≤◌, List, length, arith, sym, ap, subst, inl, inr, ◌∙◌, mul-pos, min, div_ceil, div-mul-le_self, mul-le-mul_right, cases_lt, pow_pos, div_ceil_times, Fraction, whole, ◌over◌, ◌+ℚ◌, ◌*ℚ◌, ◌≤ℚ◌, sum_to, over_le, one_pos, le_refl, le_trans, le_of_eq, plus_le_both, times_one, times_le_both, sum_to_le, item_le_sum, Iv, low_at, mass_low, all_at_zero, count_pairs, below_same, low_within, convolve, at_zero, power, cell_from, LieBetween, IsWithinOne, power_within_one, IsConvolution, add-zero, add-suc, zero_le, times_zero, sum_pairs_le, whole_mass, plus_comm, over_plus, over_split, over_zero, pairs_in_units}
-use Rattle.dl_model.proofs.Horner.{horner_start, horner_next}
-use Rattle.dl_grid.proofs.Products.{floors_within}
+use Rattle.dl_claims.proofs.Common.{ℕ, zero, suc, ◌≡◌, ◌+◌, ◌*◌, ◌/◌, ◌^◌, ◌<◌, ◌≤◌, List, length, arith, sym, ap, subst, inl, inr, ◌∙◌, mul-pos, min, div_ceil, div-mul-le_self, mul-le-mul_right, cases_lt, pow_pos, div_ceil_times, Fraction, whole, ◌over◌, ◌+ℚ◌, ◌*ℚ◌, ◌≤ℚ◌, sum_to, over_le, one_pos, le_refl, le_trans, le_of_eq, plus_le_both, times_one, times_le_both, sum_to_le, item_le_sum, Iv, low_at, mass_low, all_at_zero, count_pairs, below_same, low_within, convolve, at_zero, power, cell_from, LieBetween, IsWithinOne, power_within_one, IsConvolution, add-zero, add-suc, zero_le, times_zero, sum_pairs_le, whole_mass, plus_comm, over_plus, over_split, over_zero, pairs_in_units, horner_start, horner_next, floors_within}
 
 -- ---- the mass
 

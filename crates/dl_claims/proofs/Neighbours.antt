@@ -1,7 +1,5 @@
 -- Blocks of counts joined pair by pair: which counts a pair has, and how many blocks are left.
-use Rattle.dl_claims.proofs.Common.{ℕ, suc, ◌≡◌, ◌+◌, ◌-◌, ◌*◌, ◌/◌, ◌^◌, ◌<◌, ◌≤◌, List, length, get_or, arith, refl, sym, ap, subst, inl, inr, ◌∙◌, cases_lt, max, All, Fraction, IsWithinOne, Iv, low_at, high_at, cell_from, power, pow_pos, IsConvolution, Between, ArePowers, AreParts, IsStep, ArePairable, div-add-mod, div-mul-le_self, mod-lt, mul-le-mul_left, mul-le-mul_right}
-use Rattle.std.proofs.Common.{◌%◌}
-use Rattle.std.proofs.Math.Nat.{mod-eq_of_lt, pow-le-pow_right, pow-suc}
+use Rattle.dl_claims.proofs.Common.{ℕ, suc, ◌≡◌, ◌+◌, ◌-◌, ◌*◌, ◌/◌, ◌^◌, ◌<◌, ◌≤◌, List, length, get_or, arith, refl, sym, ap, subst, inl, inr, ◌∙◌, cases_lt, max, All, Fraction, IsWithinOne, Iv, low_at, high_at, cell_from, power, pow_pos, IsConvolution, Between, ArePowers, AreParts, IsStep, ArePairable, div-add-mod, div-mul-le_self, mod-lt, mul-le-mul_left, mul-le-mul_right, ◌%◌, mod-eq_of_lt, pow-le-pow_right, pow-suc}
 use Rattle.dl_claims.proofs.PowerGrids.{grid_at, joined_powers}
 use Rattle.dl_claims.proofs.StepGrids.{from_same}
 

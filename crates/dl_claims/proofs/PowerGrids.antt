@@ -1,6 +1,5 @@
 -- Grids of the powers of a severity: that of no claim, the next one, and those of what a grid's own low ends are.
-use Rattle.dl_claims.proofs.Common.{ℕ, zero, suc, ◌≡◌, ◌+◌, ◌*◌, ◌/◌, ◌^◌, ◌<◌, ◌≤◌, List, [], ◌∷◌, ◌++◌, length, get_or, arith, sym, ap, subst, inl, inr, ◌∙◌, min, All, div_ceil, get_or-append_seam, mul-le-mul_right, cases_lt, get_or_append_left, get_or_default, pow_pos, Fraction, whole, ◌over◌, ◌≤ℚ◌, over_le, over_same, one_pos, le_refl, le_trans, le_of_eq, Iv, low_at, high_at, mass_low, all_at_zero, count_pairs, low_le_high, low_within, convolve, at_zero, power, IsWithinOne, power_within_one, power_plus, item_le_sum, Between, AreBetween, ArePowers, length-append, to_over}
-use Rattle.std.proofs.lemmas.List.Elements.{All-push}
+use Rattle.dl_claims.proofs.Common.{ℕ, zero, suc, ◌≡◌, ◌+◌, ◌*◌, ◌/◌, ◌^◌, ◌<◌, ◌≤◌, List, [], ◌∷◌, ◌++◌, length, get_or, arith, sym, ap, subst, inl, inr, ◌∙◌, min, All, div_ceil, get_or-append_seam, mul-le-mul_right, cases_lt, get_or_append_left, get_or_default, pow_pos, Fraction, whole, ◌over◌, ◌≤ℚ◌, over_le, over_same, one_pos, le_refl, le_trans, le_of_eq, Iv, low_at, high_at, mass_low, all_at_zero, count_pairs, low_le_high, low_within, convolve, at_zero, power, IsWithinOne, power_within_one, power_plus, item_le_sum, Between, AreBetween, ArePowers, length-append, to_over, All-push}
 use Rattle.dl_claims.proofs.BlockEnds.{product_between}
 
 -- a grid's own low ends are probabilities that it holds

@@ -1,9 +1,5 @@
 -- Grids that end early: past their end all ends are 0.
-use Rattle.dl_claims.proofs.Common.{ℕ, suc, ◌≡◌, ◌+◌, ◌-◌, ◌*◌, ◌/◌, ◌^◌, ◌<◌, ◌≤◌, List, length, get_or, take, arith, sym, ap, ap₂, inl, inr, ◌∙◌, min, div_ceil, cases_lt, length-take-le, pow_pos, zero_le, Fraction, Iv, low_at, high_at, low_le_high, low_take, high_take, AreEnds, IsGridSize, low_within, count_pairs, IsConvolution, power, power_one, over_zero, Between, nothing_times, times_nothing, pairs_same}
-use Rattle.std.proofs.Math.Nat.{zero-div}
-use Rattle.dl_exact.proofs.Counts.{below_none, below_pairs}
-use Rattle.dl_grid.proofs.CellLaws.{high_le}
-use Rattle.dl_grid.specs.Cells.{IsGrid}
+use Rattle.dl_claims.proofs.Common.{ℕ, suc, ◌≡◌, ◌+◌, ◌-◌, ◌*◌, ◌/◌, ◌^◌, ◌<◌, ◌≤◌, List, length, get_or, take, arith, sym, ap, ap₂, inl, inr, ◌∙◌, min, div_ceil, cases_lt, length-take-le, pow_pos, zero_le, Fraction, Iv, low_at, high_at, low_le_high, low_take, high_take, AreEnds, IsGridSize, low_within, count_pairs, IsConvolution, power, power_one, over_zero, Between, nothing_times, times_nothing, pairs_same, zero-div, below_none, below_pairs, high_le, IsGrid}
 use Rattle.dl_claims.proofs.EndLists.{made_ends}
 use Rattle.dl_claims.proofs.Ends.{low_past, high_past, nothing_over_up}
 

@@ -1,9 +1,7 @@
 -- A list of one number of claims.
-use Rattle.dl_claims.proofs.Common.{ℕ, ◌≡◌, ◌^◌, ◌<◌, List, [], ◌∷◌, length, get_or, arith, sym, subst, inl, inr, eqb_tells, Fraction, over_same, one_pos, Iv, low_at, high_at, probability_at, fixed, IsWithinOne, Family, IsProper, compound, times_itself, GridEncloses, compound_proper, Item, weight_sum, true, false}
+use Rattle.dl_claims.proofs.Common.{ℕ, ◌≡◌, ◌^◌, ◌<◌, List, [], ◌∷◌, length, get_or, arith, sym, subst, inl, inr, eqb_tells, Fraction, over_same, one_pos, Iv, low_at, high_at, probability_at, fixed, IsWithinOne, Family, IsProper, compound, times_itself, GridEncloses, compound_proper, Item, weight_sum, true, false, fixed_claims, same_cells_enclosed}
 use Rattle.std.proofs.Common.{nat_eq, ne_eqb}
 use mathlib.Core.Path.{fun_ext}
-use Rattle.dl_model.proofs.Beginnings.{fixed_claims}
-use Rattle.dl_model.proofs.Alike.{same_cells_enclosed}
 
 -- surely that number
 alike : (a n : ℕ) → a ≡ n → nat_eq n a ≡ true

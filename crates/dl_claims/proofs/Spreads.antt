@@ -1,6 +1,5 @@
 -- How the width rule bounds the spread of each step.
-use Rattle.dl_claims.proofs.Common.{ℕ, suc, ◌≡◌, ◌+◌, ◌*◌, ◌<◌, ◌≤◌, arith, ap, mixed_spread, convolution_spread, power_spread, cv_rises, pw_even, pw_odd, List, Iv, spread, IfOk-weaker}
-use Rattle.std.specs.Prelude.{Result, IfOk}
+use Rattle.dl_claims.proofs.Common.{ℕ, suc, ◌≡◌, ◌+◌, ◌*◌, ◌<◌, ◌≤◌, arith, ap, mixed_spread, convolution_spread, power_spread, cv_rises, pw_even, pw_odd, List, Iv, spread, IfOk-weaker, Result, IfOk}
 
 -- a grid that is made spreads no more than a greater bound
 pub spread_at_most : {B : ℕ} {E : Type 0} (made : Result (List (Iv B)) E) {m n : ℕ} → m ≤ n

@@ -1,7 +1,5 @@
 -- The weights of a list, as a loop adds them up.
-use Rattle.dl_claims.proofs.Common.{ℕ, zero, suc, ◌≡◌, ◌+◌, ◌*◌, ◌/◌, ◌<◌, ◌≤◌, List, [], ◌∷◌, length, get_or, take, arith, refl, sym, ap, inl, inr, ◌∙◌, add-one, div-mul-le_self, mul-le-mul_left, mul-le-mul_right, le_of_mul-le-mul_right, ne_eqb, eqb_tells, sum_by_more, count_below, below_nothing, below_more, below_le, probability_at, IsWithinOne, part_of, Item, weight_at, weight_sum, greatest, ◌≢◌, ◌==◌, if◌then◌else◌, max, sum_through, below_times, weights_le, probabilities_le, amounts_of}
-use Rattle.std.specs.List.Sorted.{IsStrictlyIncreasing}
-use Rattle.std.proofs.lemmas.List.Kept.{AllPairs-from_increasing}
+use Rattle.dl_claims.proofs.Common.{ℕ, zero, suc, ◌≡◌, ◌+◌, ◌*◌, ◌/◌, ◌<◌, ◌≤◌, List, [], ◌∷◌, length, get_or, take, arith, refl, sym, ap, inl, inr, ◌∙◌, add-one, div-mul-le_self, mul-le-mul_left, mul-le-mul_right, le_of_mul-le-mul_right, ne_eqb, eqb_tells, sum_by_more, count_below, below_nothing, below_more, below_le, probability_at, IsWithinOne, part_of, Item, weight_at, weight_sum, greatest, ◌≢◌, ◌==◌, if◌then◌else◌, max, sum_through, below_times, weights_le, probabilities_le, amounts_of, IsStrictlyIncreasing, AllPairs-from_increasing}
 
 pub part_le : (x : ℕ) (item : Item) → part_of x item ≤ item.weight
 part_le x item = elim (eqb_tells item.amount x) [

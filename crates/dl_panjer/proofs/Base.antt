@@ -1,6 +1,5 @@
 -- A grid that follows Panjer's recursion from its own cells, rounded outward, encloses the compound sum.
-use Rattle.dl_panjer.proofs.Common.{◌≡◌, inl, inr, ℕ, suc, zero, ◌<◌, ◌≤◌, arith, sym, ap, ◌∙◌, mul-pos, Fraction, ◌over◌, ◌*ℚ◌, ◌≤ℚ◌, whole, sum_to, over_same, over_mul, over_le, one_pos, ring, one_times, le_refl, le_trans, le_of_eq, times_le_times, times_le_both, sum_pairs_same, sum_pairs_times, AtLeast, cell, IsPanjer, IsWithinOne, compound, from_before, compound_proper, recursion_there, FollowsOutward, times_left_comm, times_zero, times_one, zero_le, sum_pairs_le, times_right_comm, AtMost, at_zero, power, Encloses, Recursion, cell_at_most_one, cell_from_before, cell_zero}
-use Rattle.dl_model.proofs.Declared.{at_most_wider}
+use Rattle.dl_panjer.proofs.Common.{◌≡◌, inl, inr, ℕ, suc, zero, ◌<◌, ◌≤◌, arith, sym, ap, ◌∙◌, mul-pos, Fraction, ◌over◌, ◌*ℚ◌, ◌≤ℚ◌, whole, sum_to, over_same, over_mul, over_le, one_pos, ring, one_times, le_refl, le_trans, le_of_eq, times_le_times, times_le_both, sum_pairs_same, sum_pairs_times, AtLeast, cell, IsPanjer, IsWithinOne, compound, from_before, compound_proper, recursion_there, FollowsOutward, times_left_comm, times_zero, times_one, zero_le, sum_pairs_le, times_right_comm, AtMost, at_zero, power, Encloses, Recursion, cell_at_most_one, cell_from_before, cell_zero, at_most_wider}
 
 pub in_units : (S n : ℕ) → 0 < S → n over S ≡ whole n *ℚ 1 over S
 in_units S n h = sym (over_mul n 1 1 S one_pos h ∙ over_same _ _ _ _ (mul-pos one_pos h) h (omega arith))

@@ -1,8 +1,5 @@
 -- The grids of a Poisson and of a geometric count enclose their compound sums.
-use Rattle.dl_panjer.proofs.Common.{◌≡◌, ℕ, zero, suc, ◌<◌, ◌^◌, true, false, List, length, sym, ap, ap₂, ◌∙◌, Fraction, ◌over◌, ◌+ℚ◌, ◌*ℚ◌, ◌/ℚ◌, ◌≤ℚ◌, ◌<ℚ◌, whole, sum_to, over_zero, pow_pos, one_pos, times_comm, one_times, times_cancel, div_times, le_trans, whole_pos, times_le_both, Holds, IsWithinOne, poisson, gamma_of, IsPanjer, compound, GridEncloses, Iv, low_at, high_at, Item, weight_at, FollowsRounded, poisson_class, plus_comm, plus_times, div_pos, lt_of_lt_of_le, le_plus, Series, IsLeastBound, gamma_class}
-use Rattle.std.proofs.Common.{subst}
-use Rattle.dl_model.specs.Counts.{gamma}
-use Rattle.dl_model.proofs.Gamma.{geometric_least}
+use Rattle.dl_panjer.proofs.Common.{◌≡◌, ℕ, zero, suc, ◌<◌, ◌^◌, true, false, List, length, sym, ap, ap₂, ◌∙◌, Fraction, ◌over◌, ◌+ℚ◌, ◌*ℚ◌, ◌/ℚ◌, ◌≤ℚ◌, ◌<ℚ◌, whole, sum_to, over_zero, pow_pos, one_pos, times_comm, one_times, times_cancel, div_times, le_trans, whole_pos, times_le_both, Holds, IsWithinOne, poisson, gamma_of, IsPanjer, compound, GridEncloses, Iv, low_at, high_at, Item, weight_at, FollowsRounded, poisson_class, plus_comm, plus_times, div_pos, lt_of_lt_of_le, le_plus, Series, IsLeastBound, gamma_class, subst, gamma, geometric_least}
 use Rattle.dl_panjer.proofs.Base.{base_encloses}
 use Rattle.dl_panjer.proofs.Outward.{poisson_outward, geometric_outward}
 

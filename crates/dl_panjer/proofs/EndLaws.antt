@@ -1,11 +1,7 @@
 -- The two ends of the exponential enclose it.
-use Rattle.dl_panjer.proofs.Common.{ℕ, zero, suc, ◌≡◌, ◌*◌, ◌^◌, ◌≤◌, ◌∙◌, arith, sym, ap, subst₂, mul-pos, div-mul-le_self, zero-lt-suc, Fraction, whole, ◌over◌, ◌*ℚ◌, ◌≤ℚ◌, sum_to, le_refl, le_trans, times_one, times_plus, plus_le_both, whole_plus, times_le_both, ceiling_reaches, exponential_term, exponential_sum, low_sum, high_sum, count_below}
-use Rattle.dl_panjer.specs.Ends.{low_exponential, high_exponential, exp_low, exp_high}
-unfoldable use Rattle.dl_panjer.specs.Ends.{low_term, high_term}
+use Rattle.dl_panjer.proofs.Common.{ℕ, zero, suc, ◌≡◌, ◌*◌, ◌^◌, ◌≤◌, ◌∙◌, arith, sym, ap, subst₂, mul-pos, div-mul-le_self, zero-lt-suc, Fraction, whole, ◌over◌, ◌*ℚ◌, ◌≤ℚ◌, sum_to, le_refl, le_trans, times_one, times_plus, plus_le_both, whole_plus, times_le_both, ceiling_reaches, exponential_term, exponential_sum, low_sum, high_sum, count_below, low_exponential, high_exponential, exp_low, exp_high, low_term, high_term, le_of_eq, pow_pos}
 use Rattle.dl_panjer.proofs.Terms.{term_zero, low_term as low_from_before, high_term as high_from_before, rest_bound}
 use Rattle.dl_panjer.proofs.Reciprocals.{low_reciprocal, high_reciprocal}
-use Rattle.dl_exact.proofs.Laws.{le_of_eq}
-use Rattle.std.proofs.lemmas.Nat.{pow_pos}
 
 module _ (x : Fraction) where
   abbrev C : Fraction

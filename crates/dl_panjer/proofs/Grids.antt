@@ -1,7 +1,5 @@
 -- The list of cells that the recursion makes is a grid, follows the declared recursion, and encloses the compound sum.
-use Rattle.dl_panjer.proofs.Common.{ℕ, suc, ◌≡◌, ◌+◌, ◌-◌, ◌*◌, ◌^◌, ◌<◌, ◌≤◌, true, false, List, length, arith, sym, ap, ◌∙◌, All, pow_pos, Fraction, ◌over◌, ◌+ℚ◌, ◌*ℚ◌, ◌/ℚ◌, ◌≤ℚ◌, whole, sum_to, over_zero, over_mul, over_le, one_pos, le_of_eq, le_trans, le_whole, Iv, Rate, low_at, high_at, spread, IsGrid, IsGridSize, up, count_below, Holds, poisson, gamma_of, IsPanjer, compound, GridEncloses, IsWithinOne, poisson_class, within_one, Item, Sev, probability_of, weight_at, weight_sum, Follows, FollowsOutward, low_next, high_next, severity_total, zero_weight, over_self, below_first, width_at, high_is, whole_mass, whole_spread, IsWeighted, IsPoissonBase, IsGeometricBase, amounts_positive}
-use Rattle.dl_exact.proofs.Over.{le_over}
-use Rattle.dl_grid.proofs.WidthLaws.{up_ceiling}
+use Rattle.dl_panjer.proofs.Common.{ℕ, suc, ◌≡◌, ◌+◌, ◌-◌, ◌*◌, ◌^◌, ◌<◌, ◌≤◌, true, false, List, length, arith, sym, ap, ◌∙◌, All, pow_pos, Fraction, ◌over◌, ◌+ℚ◌, ◌*ℚ◌, ◌/ℚ◌, ◌≤ℚ◌, whole, sum_to, over_zero, over_mul, over_le, one_pos, le_of_eq, le_trans, le_whole, Iv, Rate, low_at, high_at, spread, IsGrid, IsGridSize, up, count_below, Holds, poisson, gamma_of, IsPanjer, compound, GridEncloses, IsWithinOne, poisson_class, within_one, Item, Sev, probability_of, weight_at, weight_sum, Follows, FollowsOutward, low_next, high_next, severity_total, zero_weight, over_self, below_first, width_at, high_is, whole_mass, whole_spread, IsWeighted, IsPoissonBase, IsGeometricBase, amounts_positive, le_over, up_ceiling}
 use Rattle.dl_panjer.proofs.Recursions.{poisson_follows, geometric_follows, one_and, rate_of}
 use Rattle.dl_panjer.proofs.Base.{base_encloses}
 use Rattle.dl_panjer.proofs.Outward.{poisson_outward, geometric_outward}

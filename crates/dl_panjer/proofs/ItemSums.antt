@@ -1,7 +1,5 @@
 -- Sums over the items of a severity, turned into sums over the pairs of places that add up to a cell's number.
-use Rattle.dl_panjer.proofs.Common.{ℕ, zero, suc, ◌≡◌, ◌+◌, ◌-◌, ◌*◌, ◌<◌, ◌≤◌, Bool, true, false, List, [], ◌∷◌, take, drop, arith, refl, sym, ap, ap₂, ◌∙◌, inl, inr, All, sum_by, mul-le-mul_right, count_below, below_le, below_plus, below_times, below_pairs, Item, weight_at, weight_sum, counted, coefficient, next_sum, if◌then◌else◌, ◌==◌, eq-eqb, ne_eqb, All-tail, sum_by-cons, sum_by-take-drop, below_same, pairs_le, below_none}
-use Rattle.dl_exact.proofs.Counts.{pairs_only}
-use Rattle.std.proofs.lemmas.Bool.Decides.{eqb_tells}
+use Rattle.dl_panjer.proofs.Common.{ℕ, zero, suc, ◌≡◌, ◌+◌, ◌-◌, ◌*◌, ◌<◌, ◌≤◌, Bool, true, false, List, [], ◌∷◌, take, drop, arith, refl, sym, ap, ap₂, ◌∙◌, inl, inr, All, sum_by, mul-le-mul_right, count_below, below_le, below_plus, below_times, below_pairs, Item, weight_at, weight_sum, counted, coefficient, next_sum, if◌then◌else◌, ◌==◌, eq-eqb, ne_eqb, All-tail, sum_by-cons, sum_by-take-drop, below_same, pairs_le, below_none, pairs_only, eqb_tells}
 use Rattle.std.proofs.Math.Nat.{zero-add, mul-le-mul, mul-le-mul_left, add-mul}
 
 -- ---- the weights of a list of items

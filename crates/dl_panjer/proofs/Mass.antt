@@ -1,6 +1,5 @@
 -- The low ends of a grid that follows the recursion add up to at most 1.
-use Rattle.dl_panjer.proofs.Common.{ℕ, zero, suc, ◌≡◌, ◌<◌, ◌≤◌, arith, ap, ◌∙◌, Fraction, ◌over◌, ◌+ℚ◌, ◌*ℚ◌, ◌≤ℚ◌, whole, sum_to, one_times, le_refl, le_trans, le_of_eq, times_le_times, over_times_whole, times_le_both, le_whole, count_below, AtLeast, cell, IsPanjer, IsWithinOne, FollowsOutward, compound_proper, recursion_there, whole_plus, sum_to_le, sum_to_times, times_right_comm}
-use Rattle.dl_model.proofs.Declared.{rises_to}
+use Rattle.dl_panjer.proofs.Common.{ℕ, zero, suc, ◌≡◌, ◌<◌, ◌≤◌, arith, ap, ◌∙◌, Fraction, ◌over◌, ◌+ℚ◌, ◌*ℚ◌, ◌≤ℚ◌, whole, sum_to, one_times, le_refl, le_trans, le_of_eq, times_le_times, over_times_whole, times_le_both, le_whole, count_below, AtLeast, cell, IsPanjer, IsWithinOne, FollowsOutward, compound_proper, recursion_there, whole_plus, sum_to_le, sum_to_times, times_right_comm, rises_to}
 use Rattle.dl_panjer.proofs.Base.{low_below}
 
 whole_sum : (n : ℕ) (f : ℕ → ℕ) → whole (count_below (suc n) f) ≡ sum_to n (λ s. whole (f s))

@@ -1,8 +1,5 @@
 -- The two roundings of a Poisson and of a geometric grid are outward.
-use Rattle.dl_panjer.proofs.Common.{◌≡◌, ◌⊎◌, inl, inr, ℕ, suc, ◌*◌, ◌/◌, ◌^◌, ◌<◌, ◌≤◌, Bool, true, false, List, length, arith, refl, sym, ap, ◌∙◌, zero-lt-suc, cases_lt, div_ceil, Fraction, ◌over◌, ◌+ℚ◌, ◌*ℚ◌, ◌/ℚ◌, ◌≤ℚ◌, whole, IsFloor, ring, zero_times, le_refl, le_trans, whole_pos, times_cancel, div_times, times_le_both, floor_div, ceiling_div, sum_pairs_same, sum_pairs_times, from_before, Iv, low_at, high_at, Item, weight_at, coefficient, next_sum, FollowsOutward, FollowsRounded, min-eq_right, times_assoc, times_comm, mul_comm, zero_plus, IsCeilingWithin, times_right_comm, ◌+◌, whole_plus, before_in_whole}
-use Rattle.dl_exact.proofs.Denominators.{over_times}
-use Rattle.dl_exact.proofs.SumsOver.{sum_pairs_over}
-use Rattle.dl_exact.specs.Sum.{sum_pairs}
+use Rattle.dl_panjer.proofs.Common.{◌≡◌, ◌⊎◌, inl, inr, ℕ, suc, ◌*◌, ◌/◌, ◌^◌, ◌<◌, ◌≤◌, Bool, true, false, List, length, arith, refl, sym, ap, ◌∙◌, zero-lt-suc, cases_lt, div_ceil, Fraction, ◌over◌, ◌+ℚ◌, ◌*ℚ◌, ◌/ℚ◌, ◌≤ℚ◌, whole, IsFloor, ring, zero_times, le_refl, le_trans, whole_pos, times_cancel, div_times, times_le_both, floor_div, ceiling_div, sum_pairs_same, sum_pairs_times, from_before, Iv, low_at, high_at, Item, weight_at, coefficient, next_sum, FollowsOutward, FollowsRounded, min-eq_right, times_assoc, times_comm, mul_comm, zero_plus, IsCeilingWithin, times_right_comm, ◌+◌, whole_plus, before_in_whole, over_times, sum_pairs_over, sum_pairs}
 
 -- a factor of a quotient that was rounded first
 module _ (T C : ℕ) (c : Fraction) (pos : 0 < T) where

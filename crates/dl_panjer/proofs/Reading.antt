@@ -1,10 +1,6 @@
 -- What the items of a slice and the cells that they leave are.
-use Rattle.dl_panjer.proofs.Common.{ℕ, ◌≡◌, ◌+◌, ◌-◌, ◌*◌, ◌^◌, ◌<◌, ◌≤◌, Bool, List, length, get_or, take, drop, arith, sym, ap₂, subst, ◌∙◌, All, sum_by, sum_by-take-le, Iv, low_at, high_at, one_fits, low_at_read, high_at_read, Item, weight_sum, counted, given, low_le_high, get_or-map, get_or-take, get_or-drop, length-map, length-take-le, length-drop, sum_by_more, high_le, amounts_of, mass_fits}
-use Rattle.std.specs.List.Sorted.{IsStrictlyIncreasing, IsNonDecreasingBy}
-use Rattle.std.proofs.lemmas.List.Sorted.{IsNonDecreasingBy-from_all_adjacent}
+use Rattle.dl_panjer.proofs.Common.{ℕ, ◌≡◌, ◌+◌, ◌-◌, ◌*◌, ◌^◌, ◌<◌, ◌≤◌, Bool, List, length, get_or, take, drop, arith, sym, ap₂, subst, ◌∙◌, All, sum_by, sum_by-take-le, Iv, low_at, high_at, one_fits, low_at_read, high_at_read, Item, weight_sum, counted, given, low_le_high, get_or-map, get_or-take, get_or-drop, length-map, length-take-le, length-drop, sum_by_more, high_le, amounts_of, mass_fits, IsStrictlyIncreasing, IsNonDecreasingBy, IsNonDecreasingBy-from_all_adjacent, most_weights, AreFirstCells}
 use Rattle.std.proofs.Math.Nat.{mul-le-mul}
-use Rattle.dl_limits.specs.Limits.{most_weights}
-use Rattle.dl_panjer.specs.Cells.{AreFirstCells}
 use Rattle.dl_panjer.proofs.ItemSums.{items_fit}
 
 -- the amounts of items that rise never fall

@@ -1,7 +1,6 @@
 -- Reciprocals in whole units, rounded down and up.
-use Rattle.dl_panjer.proofs.Common.{◌≡◌, ℕ, ◌+◌, ◌*◌, ◌/◌, ◌^◌, ◌<◌, ◌≤◌, arith, sym, ap, subst, subst₂, ◌∙◌, mul-pos, mul-le-mul_left, mul-le-mul_right, le_of_mul-le-mul_right, lt-div-mul-add, div_ceil_times, div_ceil, Fraction, ◌over◌, ◌*ℚ◌, ◌≤ℚ◌, ◌<ℚ◌, whole, ring, le_refl, le_trans, times_le_cancel, whole_pos, whole_times, over_times_whole, times_le_both, whole_le, part_within, power_le}
+use Rattle.dl_panjer.proofs.Common.{◌≡◌, ℕ, ◌+◌, ◌*◌, ◌/◌, ◌^◌, ◌<◌, ◌≤◌, arith, sym, ap, subst, subst₂, ◌∙◌, mul-pos, mul-le-mul_left, mul-le-mul_right, le_of_mul-le-mul_right, lt-div-mul-add, div_ceil_times, div_ceil, Fraction, ◌over◌, ◌*ℚ◌, ◌≤ℚ◌, ◌<ℚ◌, whole, ring, le_refl, le_trans, times_le_cancel, whole_pos, whole_times, over_times_whole, times_le_both, whole_le, part_within, power_le, one_times, times_pos}
 use Rattle.std.proofs.Common.{mul-le-mul}
-use Rattle.dl_exact.proofs.Laws.{one_times, times_pos}
 
 module _ (S T : ℕ) (S_pos : 0 < S) (T_pos : 0 < T) where
   units_pos : whole 0 <ℚ whole S *ℚ whole T

@@ -1,6 +1,5 @@
 -- Terms rounded down and up stay near each other, and fall as fast as 1 / (2^n * n!).
-use Rattle.std.proofs.Common.{add-one}
-use Rattle.dl_panjer.proofs.Common.{ℕ, suc, zero, ◌+◌, ◌*◌, ◌/◌, ◌^◌, ◌<◌, ◌≤◌, arith, ap, mul-pos, mul-le-mul_left, mul-le-mul_right, le_of_mul-le-mul_right, zero-lt-suc, lt-div-mul-add, div_ceil_times, div_ceil}
+use Rattle.dl_panjer.proofs.Common.{ℕ, suc, zero, ◌+◌, ◌*◌, ◌/◌, ◌^◌, ◌<◌, ◌≤◌, arith, ap, mul-pos, mul-le-mul_left, mul-le-mul_right, le_of_mul-le-mul_right, zero-lt-suc, lt-div-mul-add, div_ceil_times, div_ceil, add-one}
 
 -- the next terms down and up from two that are at most 4 apart
 pub near_next : (l h n d k : ℕ) → 0 < d → n + n ≤ d → 0 < k → h ≤ l + 4 → div_ceil (h * n) (d * k) ≤ l * n / (d * k) + 4

@@ -1,13 +1,6 @@
 -- The recursion of a gamma count of a shape below 1.
-use Rattle.dl_panjer.proofs.Common.{ℕ, zero, suc, ◌≡◌, ◌+◌, ◌-◌, ◌*◌, ◌/◌, ◌^◌, ◌<◌, ◌≤◌, true, false, inl, inr, cases_lt, List, arith, refl, sym, ap, ap₂, ◌∙◌, mul-pos, mul-le-mul, mul-le-mul_right, zero-lt-suc, lt-div-mul-add, div_ceil, div_ceil_least, min, Fraction, ◌over◌, ◌+ℚ◌, ◌*ℚ◌, ◌/ℚ◌, whole, over_self, over_add, over_mul, over_same, over_le, one_pos, ring, whole_pos, lt_of_lt_of_le, le_plus, times_cancel, div_times, ◌<ℚ◌, min-eq_right, times_comm, from_before, before_in_whole, sum_pairs_same, sum_pairs_times, count_below, below_none, below_pairs, below_plus, below_same, below_times, Rate, IsGridSize, mass_fits, Item, weight_at, weight_sum, IsWeighted, total_pos, coefficient, next_sum, Follows, FollowsOutward}
+use Rattle.dl_panjer.proofs.Common.{ℕ, zero, suc, ◌≡◌, ◌+◌, ◌-◌, ◌*◌, ◌/◌, ◌^◌, ◌<◌, ◌≤◌, true, false, inl, inr, cases_lt, List, arith, refl, sym, ap, ap₂, ◌∙◌, mul-pos, mul-le-mul, mul-le-mul_right, zero-lt-suc, lt-div-mul-add, div_ceil, div_ceil_least, min, Fraction, ◌over◌, ◌+ℚ◌, ◌*ℚ◌, ◌/ℚ◌, whole, over_self, over_add, over_mul, over_same, over_le, one_pos, ring, whole_pos, lt_of_lt_of_le, le_plus, times_cancel, div_times, ◌<ℚ◌, min-eq_right, times_comm, from_before, before_in_whole, sum_pairs_same, sum_pairs_times, count_below, below_none, below_pairs, below_plus, below_same, below_times, Rate, IsGridSize, mass_fits, Item, weight_at, weight_sum, IsWeighted, total_pos, coefficient, next_sum, Follows, FollowsOutward, div-le_of_le-mul, div_ceil_times, nothing_times, times_nothing, times_le_cancel, whole_times, sum_pairs_plus, floor_le_ceiling, low_of_shape, high_of_shape, low_next_of_shape, high_next_of_shape}
 use Rattle.std.proofs.Common.{mul-le-mul_left, le_of_mul-le-mul_right, div-mul-le_self}
-use Rattle.std.proofs.Math.Nat.{div-le_of_le-mul}
-use Rattle.std.proofs.lemmas.Grind.{div_ceil_times}
-use Rattle.dl_exact.proofs.Counts.{nothing_times, times_nothing}
-use Rattle.dl_exact.proofs.Laws.{times_le_cancel, whole_times}
-use Rattle.dl_exact.proofs.Sums.{sum_pairs_plus}
-use Rattle.dl_iv.proofs.Rounding.{floor_le_ceiling}
-use Rattle.dl_panjer.specs.Cells.{low_of_shape, high_of_shape, low_next_of_shape, high_next_of_shape}
 use Rattle.dl_panjer.proofs.ItemSums.{next_sum_rises, next_sum_same}
 use Rattle.dl_panjer.proofs.Steps.{next_sum_within}
 use Rattle.dl_panjer.proofs.Outward.{sum_of_amounts, sum_of_weights}

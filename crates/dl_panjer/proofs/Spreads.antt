@@ -1,7 +1,6 @@
 -- How far apart the ends of a grid that follows the recursion lie.
-use Rattle.dl_panjer.proofs.Common.{ℕ, suc, ◌≡◌, ◌+◌, ◌-◌, ◌*◌, ◌/◌, ◌<◌, ◌≤◌, Bool, true, false, List, arith, ap, ◌∙◌, mul-le-mul, div_ceil, zero-lt-suc, lt-div-mul-add, Rate, low_next, high_next, count_below, below_le, below_plus, below_times, below_pairs, Item, weight_at, weight_sum, counted, coefficient, next_sum, Follows, below_constant, pairs_plus, pairs_same, pairs_within, below_grows}
+use Rattle.dl_panjer.proofs.Common.{ℕ, suc, ◌≡◌, ◌+◌, ◌-◌, ◌*◌, ◌/◌, ◌<◌, ◌≤◌, Bool, true, false, List, arith, ap, ◌∙◌, mul-le-mul, div_ceil, zero-lt-suc, lt-div-mul-add, Rate, low_next, high_next, count_below, below_le, below_plus, below_times, below_pairs, Item, weight_at, weight_sum, counted, coefficient, next_sum, Follows, below_constant, pairs_plus, pairs_same, pairs_within, below_grows, div_ceil_times}
 use Rattle.std.proofs.Common.{mul-le-mul_left, mul-le-mul_right, le_of_mul-le-mul_right}
-use Rattle.std.proofs.lemmas.Grind.{div_ceil_times}
 use Rattle.dl_panjer.proofs.ItemSums.{weights_within}
 use Rattle.dl_panjer.proofs.Steps.{counted_pos}
 

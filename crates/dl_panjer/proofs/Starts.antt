@@ -1,9 +1,5 @@
 -- Cell 0 of a Poisson grid and of a geometric grid.
-use Rattle.dl_panjer.proofs.Common.{ℕ, zero, suc, ◌≡◌, ◌+◌, ◌*◌, ◌/◌, ◌^◌, ◌<◌, ◌≤◌, arith, sym, ap, ◌∙◌, mul-pos, div_ceil, zero-lt-suc, lt-div-mul-add, Fraction, ◌over◌, ◌+ℚ◌, ◌*ℚ◌, ◌/ℚ◌, ◌≤ℚ◌, whole, pow_pos, IsFloor, sum_to, over_same, over_div, one_pos, times_cancel, times_comm, over_times_whole, lt_of_lt_of_le, le_plus, le_refl, le_trans, whole_pos, div_ceil_least, Iv, Holds, poisson, EnclosesExp, sum_to_same, exponential_term, exponential_sum}
-use Rattle.dl_exact.proofs.Laws.{times_le_cancel}
-use Rattle.dl_exact.specs.Rounding.{IsCeiling}
-use Rattle.dl_model.proofs.TailScores.{div_is_times}
-use Rattle.dl_model.proofs.PoissonWeights.{poisson_zero, poisson_next}
+use Rattle.dl_panjer.proofs.Common.{ℕ, zero, suc, ◌≡◌, ◌+◌, ◌*◌, ◌/◌, ◌^◌, ◌<◌, ◌≤◌, arith, sym, ap, ◌∙◌, mul-pos, div_ceil, zero-lt-suc, lt-div-mul-add, Fraction, ◌over◌, ◌+ℚ◌, ◌*ℚ◌, ◌/ℚ◌, ◌≤ℚ◌, whole, pow_pos, IsFloor, sum_to, over_same, over_div, one_pos, times_cancel, times_comm, over_times_whole, lt_of_lt_of_le, le_plus, le_refl, le_trans, whole_pos, div_ceil_least, Iv, Holds, poisson, EnclosesExp, sum_to_same, exponential_term, exponential_sum, times_le_cancel, IsCeiling, div_is_times, poisson_zero, poisson_next}
 use Rattle.dl_panjer.proofs.Terms.{term_zero, term_next}
 use Rattle.dl_panjer.proofs.Recursions.{one_and}
 

@@ -1,7 +1,6 @@
 -- The bounds of one step of a grid's recursion, and what it reads.
-use Rattle.dl_panjer.proofs.Common.{ℕ, suc, ◌≡◌, ◌+◌, ◌-◌, ◌*◌, ◌/◌, ◌^◌, ◌<◌, ◌≤◌, Bool, true, false, List, [], ◌∷◌, length, arith, sym, ap, ap₂, ◌∙◌, mul-pos, inl, inr, cases_lt, div_ceil, zero-lt-suc, mul-le-mul_right, Rate, div_ceil_least, Iv, low_at, high_at, count_below, low_at_front, high_at_front, low_at_pushed, high_at_pushed, Item, weight_sum, counted, coefficient, next_sum, low_next, high_next, Follows, ◌++◌, min}
+use Rattle.dl_panjer.proofs.Common.{ℕ, suc, ◌≡◌, ◌+◌, ◌-◌, ◌*◌, ◌/◌, ◌^◌, ◌<◌, ◌≤◌, Bool, true, false, List, [], ◌∷◌, length, arith, sym, ap, ap₂, ◌∙◌, mul-pos, inl, inr, cases_lt, div_ceil, zero-lt-suc, mul-le-mul_right, Rate, div_ceil_least, Iv, low_at, high_at, count_below, low_at_front, high_at_front, low_at_pushed, high_at_pushed, Item, weight_sum, counted, coefficient, next_sum, low_next, high_next, Follows, ◌++◌, min, floor_le_ceiling}
 use Rattle.std.proofs.Math.Nat.{mul-le-mul, div-le_of_le-mul}
-use Rattle.dl_iv.proofs.Rounding.{floor_le_ceiling}
 use Rattle.dl_panjer.proofs.ItemSums.{coefficients_within, next_sum_le, next_sum_rises, next_sum_same}
 
 pub counted_pos : (b : Bool) (j n : ℕ) → 0 < j → 0 < n → 0 < counted b j n

@@ -1,11 +1,6 @@
 -- The terms of the exponential's series: each from the one before, in whole units, and the sum of all that follow.
-use Rattle.dl_panjer.proofs.Common.{◌≡◌, ℕ, suc, zero, ◌+◌, ◌*◌, ◌≤◌, arith, sym, ap, subst, subst₂, ◌∙◌, mul-pos, zero-lt-suc, Fraction, ◌over◌, ◌*ℚ◌, ◌≤ℚ◌, ◌<ℚ◌, whole, sum_to, ring, le_trans, times_one, times_le_cancel, whole_pos, whole_plus, whole_times, over_times_whole, whole_le, exponential_term}
+use Rattle.dl_panjer.proofs.Common.{◌≡◌, ℕ, suc, zero, ◌+◌, ◌*◌, ◌≤◌, arith, sym, ap, subst, subst₂, ◌∙◌, mul-pos, zero-lt-suc, Fraction, ◌over◌, ◌*ℚ◌, ◌≤ℚ◌, ◌<ℚ◌, whole, sum_to, ring, le_trans, times_one, times_le_cancel, whole_pos, whole_plus, whole_times, over_times_whole, whole_le, exponential_term, over_self, le_over, one_pos, plus_times, times_assoc, times_comm, times_le_times, times_cancel, div_times, halving_bound, factorial_pos, times_inward, times_outward}
 use Rattle.dl_exact.specs.Prelude.{◌+ℚ◌, ◌/ℚ◌, ◌^ℚ◌, factorial}
-use Rattle.dl_exact.proofs.Over.{over_self, le_over}
-use Rattle.dl_exact.proofs.Laws.{one_pos, plus_times, times_assoc, times_comm, times_le_times, times_cancel, div_times}
-use Rattle.dl_exact.proofs.Sums.{halving_bound}
-use Rattle.dl_exact.proofs.Powers.{factorial_pos}
-use Rattle.dl_exact.proofs.Orders.{times_inward, times_outward}
 
 pub term_zero : (x : Fraction) → exponential_term x zero ≡ whole 1
 unfolding exponential_term factorial ◌^ℚ◌

@@ -1,19 +1,7 @@
 -- The bytes of some tokens, with what stands between them, are cut into just these tokens.
-use Rattle.dl_printer.proofs.Common.{ℕ, ◌≡◌, ◌∙◌, ◌+◌, ◌<◌, List, [], ◌∷◌, ◌++◌, length, take, map, Bool, true, false, ◌||◌, refl, sym, ap, arith, subst, append_assoc, length-append, Option, Some, None, codes, IsSpelled, IsToken, Program, lexemes, Piece, program_pieces, is_tight_behind, gap, spaced, canonical}
-use Rattle.std.proofs.Common.{drop, cond}
-use Rattle.std.specs.Prelude.{All}
-use Rattle.std.proofs.Math.Seq.{take-append_seam, drop-append_seam}
-use Rattle.std.proofs.lemmas.List.{append-nil, map-append}
-use Rattle.std.proofs.lemmas.List.Elements.{All-head, All-tail}
-use Rattle.dl_lexer.specs.declared.token.Kind.{Kind}
-use Rattle.dl_lexer.specs.declared.token.Token.{Token}
+use Rattle.dl_printer.proofs.Common.{ℕ, ◌≡◌, ◌∙◌, ◌+◌, ◌<◌, List, [], ◌∷◌, ◌++◌, length, take, map, Bool, true, false, ◌||◌, refl, sym, ap, arith, subst, append_assoc, length-append, Option, Some, None, codes, IsSpelled, IsToken, Program, lexemes, Piece, program_pieces, is_tight_behind, gap, spaced, canonical, drop, cond, All, take-append_seam, drop-append_seam, append-nil, map-append, All-head, All-tail, Kind, Token, lexeme, IsWellFormed, is_tight_before, begins_line, between, Close, Colon, blank_no_token, ReadsBack}
 use Rattle.dl_lexer.specs.Prelude.{is_white, IsLongest, Covers, blank_length, token_of, nothing, blank, token}
-use Rattle.dl_ast.specs.Prelude.{lexeme, IsWellFormed}
-use Rattle.dl_printer.specs.Canonical.{is_tight_before, begins_line, between}
-use Rattle.dl_lexer.specs.declared.token.Sign.TheVariants.{Close, Colon}
 use Rattle.dl_lexer.specs.declared.token.Kind.TheVariants as kinds
-use Rattle.dl_lexer.proofs.BlankLemmas.{blank_no_token}
-use Rattle.dl_printer.specs.ReadingBack.{ReadsBack}
 use Rattle.dl_printer.proofs.Shown.{piece_of, pieces_of, IsPiece}
 use Rattle.dl_printer.proofs.Ends.{Stops, is_stop, token_ends}
 use Rattle.dl_printer.proofs.Nodes.{program_shown}

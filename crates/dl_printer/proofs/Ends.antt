@@ -1,23 +1,9 @@
 -- A token is the longest that begins where it stands, whatever follows a sign, and where a blank, `:` or `]` follows
 -- any other token.
-use Rattle.dl_printer.proofs.Common.{ℕ, suc, ◌≡◌, ◌∙◌, ◌+◌, ◌<◌, List, [], ◌∷◌, ◌++◌, length, take, Bool, true, false, ◌||◌, refl, sym, ap, arith, subst, append_assoc, length-append, Some, codes, sign_byte, IsSpelled, IsToken, is_tight_behind}
-use Rattle.std.proofs.Common.{Option, None, get_or, zero, ◌≢◌, ◌≤◌, ◌==◌, slice_get}
-use Rattle.std.proofs.Math.Seq.{take-append_seam}
-use Rattle.dl_lexer.specs.declared.token.Kind.{Kind}
+use Rattle.dl_printer.proofs.Common.{ℕ, suc, ◌≡◌, ◌∙◌, ◌+◌, ◌<◌, List, [], ◌∷◌, ◌++◌, length, take, Bool, true, false, ◌||◌, refl, sym, ap, arith, subst, append_assoc, length-append, Some, codes, sign_byte, IsSpelled, IsToken, is_tight_behind, Option, None, get_or, zero, ◌≢◌, ◌≤◌, ◌==◌, slice_get, take-append_seam, Kind, is_ascii_digit, list_all, prefix_len, nat_tests, list_all-append, AllPass-from_list_all, list_all-from_AllPass, prefix_most, prefix_ends, get_behind, longest_none, keyword_is_word, word_parts, word_longest, word_some, note_none, note_closed, ref_none, ref_longest, begins_numeral, numeral_begins, longest_lettered, longest_numeral, longest_sign, sign_no_letter, sign_no_numeral, no_letter_byte, and_from}
 use Rattle.dl_lexer.specs.Prelude.{is_white, is_word_byte, is_note_byte, begins_with_letter, IsWord, IsNote, note, IsRef, ref, IsLongest, IsDecimal, digits, digits_point, point_digits, percent, fraction, IsNumeral, a_decimal, a_percent, a_fraction}
-use Rattle.std.specs.Char.{is_ascii_digit}
-use Rattle.std.specs.List.{list_all, prefix_len}
-use Rattle.std.proofs.lemmas.Bool.Decides.{nat_tests}
-use Rattle.std.proofs.lemmas.List.Folds.{list_all-append}
-use Rattle.std.proofs.lemmas.List.Sums.{AllPass-from_list_all, list_all-from_AllPass}
 use Rattle.dl_lexer.specs.declared.token.Sign.{Sign}
 use Rattle.dl_lexer.specs.declared.token.Kind.TheVariants as kinds
-use Rattle.dl_lexer.proofs.Prefix.{prefix_most, prefix_ends, get_behind}
-use Rattle.dl_lexer.proofs.Longest.{longest_none}
-use Rattle.dl_lexer.proofs.Spellings.{keyword_is_word}
-use Rattle.dl_lexer.proofs.WordLengths.{word_parts, word_longest, word_some, note_none, note_closed, ref_none, ref_longest}
-use Rattle.dl_lexer.proofs.TokenKinds.{begins_numeral, numeral_begins, longest_lettered, longest_numeral, longest_sign, sign_no_letter, sign_no_numeral, no_letter_byte}
-use Rattle.std.proofs.lemmas.Bool.{and_from}
 
 -- a blank, `:` or `]`
 abbrev pub is_stop : ℕ → Bool

@@ -1,10 +1,5 @@
 -- A text that grows by some tokens and then by others.
-use Rattle.dl_printer.proofs.Common.{ℕ, ◌≡◌, ◌∙◌, ◌+◌, ◌<◌, List, [], ◌∷◌, ◌++◌, length, take, refl, sym, ap, append_assoc, Some, flat_map, Piece, gap, spaced}
-use Rattle.std.proofs.Common.{get_or, add-one}
-use Rattle.std.proofs.lemmas.List.{append-nil}
-use Rattle.dl_printer.specs.Printing.{with_pieces, SoFar}
-use Rattle.std.proofs.Math.Seq.{take-suc}
-use Rattle.std.proofs.lemmas.Grind.{flat_map-append}
+use Rattle.dl_printer.proofs.Common.{ℕ, ◌≡◌, ◌∙◌, ◌+◌, ◌<◌, List, [], ◌∷◌, ◌++◌, length, take, refl, sym, ap, append_assoc, Some, flat_map, Piece, gap, spaced, get_or, add-one, append-nil, with_pieces, SoFar, take-suc, flat_map-append}
 
 pub with_append : (t : SoFar) (us vs : List Piece) → with_pieces t (us ++ vs) ≡ with_pieces (with_pieces t us) vs
 unfolding with_pieces

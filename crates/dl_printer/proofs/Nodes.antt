@@ -1,20 +1,10 @@
 -- The canonical tokens of a well-formed node are tokens, and spell the node by its line of the grammar.
-use Rattle.dl_printer.proofs.Common.{◌≡◌, ◌∙◌, ◌<◌, ℕ, List, [], ◌∷◌, ◌++◌, map, length, Option, Some, None, Bool, true, false, refl, sym, ap, arith, append_assoc, flat_map, sign_byte, Program, Lexeme, Piece, piece, word_piece, name_piece, numeral_piece, note_piece, optional, behind_colon, item_pieces, list_pieces, limit_pieces, layer_pieces, atom_pieces, mixture_pieces, cost_pieces, bang_pieces, sev_pieces, definition_pieces, ref_piece, zero_pieces, common_pieces, share_pieces, ceded_pieces, and_ceded_pieces, ceded_layers_pieces, side_pieces, clause_pieces, freq_pieces, exposure_pieces, listed_pieces, count_pieces, late_count_pieces, unit_pieces, head_pieces, program_pieces, option_map, Keyword, ListItem, ListAst, LimitAst, Finite, Infinite, Layer, Atom, MixAst, SevBody, Mixture, Ref, SevAst, SevDef, ZeroAst, Plain, Truncated, Modified, PortHead, CountAst, Exposed, Listed, Share, CededLayer, Cession, FreqAst, Exposure, Claims, Loss, Premium, UnitAst}
-use Rattle.std.proofs.Common.{is_some, codes, drop}
-use Rattle.std.specs.Prelude.{All, IfSome, IsNone}
-use Rattle.std.proofs.lemmas.List.{append-nil}
-use Rattle.std.proofs.lemmas.List.Elements.{All-head, All-tail}
-use Rattle.dl_lexer.specs.declared.token.Span.{Span}
+use Rattle.dl_printer.proofs.Common.{◌≡◌, ◌∙◌, ◌<◌, ℕ, List, [], ◌∷◌, ◌++◌, map, length, Option, Some, None, Bool, true, false, refl, sym, ap, arith, append_assoc, flat_map, sign_byte, Program, Lexeme, Piece, piece, word_piece, name_piece, numeral_piece, note_piece, optional, behind_colon, item_pieces, list_pieces, limit_pieces, layer_pieces, atom_pieces, mixture_pieces, cost_pieces, bang_pieces, sev_pieces, definition_pieces, ref_piece, zero_pieces, common_pieces, share_pieces, ceded_pieces, and_ceded_pieces, ceded_layers_pieces, side_pieces, clause_pieces, freq_pieces, exposure_pieces, listed_pieces, count_pieces, late_count_pieces, unit_pieces, head_pieces, program_pieces, option_map, Keyword, ListItem, ListAst, LimitAst, Finite, Infinite, Layer, Atom, MixAst, SevBody, Mixture, Ref, SevAst, SevDef, ZeroAst, Plain, Truncated, Modified, PortHead, CountAst, Exposed, Listed, Share, CededLayer, Cession, FreqAst, Exposure, Claims, Loss, Premium, UnitAst, is_some, codes, drop, All, IfSome, IsNone, append-nil, All-head, All-tail, Span, bare_numeral, bare_item, bare_list, bare_limit, bare_layer, bare_atom, bare_mix, bare_body, bare_sev, bare_definition, bare_zero, bare_ceded, bare_cession, bare_freq, bare_exposure, bare_count, bare_unit, bare_head, bare, nowhere, bare_name, option_map_id, spelling, NameAst, Numeral}
 use Rattle.dl_ast.specs.Prelude.{Rule, one, ◌▸◌, maybe, ◌≫◌, ◌≪◌, ◌means◌, some_of, program, numeral, name, note, item, next_item, list, limit, layer, atom, mixture, reference, cost, sev, sevdef, cession, side, next_cession, clause, count, zero_change, plain_or, freq, claims, premium, exposure, listed, exposed_unit, listed_unit, unit, common, head, book, IsWellFormed, IsFormedName, IsFormedNumeral, IsFormedNote, IsFormedItem, IsFormedList, IsFormedLimit, IsFormedLayer, IsFormedAtom, IsFormedMixture, IsFormedReference, IsFormedBody, IsFormedSeverity, IsFormedDefinition, IsFormedZero, IsFormedShare, IsFormedCeded, IsFormedCession, IsFormedFrequency, IsFormedExposure, IsFormedUnit, IsFormedHead}
-use Rattle.dl_printer.specs.Apart.{bare_numeral, bare_item, bare_list, bare_limit, bare_layer, bare_atom, bare_mix, bare_body, bare_sev, bare_definition, bare_zero, bare_ceded, bare_cession, bare_freq, bare_exposure, bare_count, bare_unit, bare_head, bare, nowhere, bare_name}
-use Rattle.std.proofs.lemmas.Iterator.Adapters.{option_map_id}
 use Rattle.dl_lexer.specs.declared.token.Keyword.TheVariants as words
 use Rattle.dl_lexer.specs.declared.token.Sign.TheVariants as signs
 use Rattle.dl_lexer.specs.declared.token.Kind.TheVariants as kinds
 use Rattle.dl_lexer.specs.declared.token.Kind.TheVariants.{Word, Sign}
-use Rattle.dl_lexer.specs.Keywords.{spelling}
-use Rattle.dl_ast.specs.declared.ast.NameAst.{NameAst}
-use Rattle.dl_ast.specs.declared.ast.Numeral.{Numeral}
 use Rattle.dl_ast.specs.declared.ast.Share.TheVariants as shares
 use Rattle.dl_ast.specs.declared.ast.FreqAst.TheVariants as freqs
 use Rattle.dl_printer.proofs.Shown.{piece_of, Shows, shows_one, shows_seq, shows_left, shows_right, shows_none, shows_some, shows_maybe, shows_many, shows_made, shows_node, shows_spanned, shows_behind, shows_before, shows_means, shows_some_of, shows_seen, shows_as}

@@ -1,11 +1,6 @@
 -- The canonical tokens of a node do not depend on its spans.
-use Rattle.dl_printer.proofs.Common.{◌≡◌, ◌∙◌, List, [], ◌∷◌, ◌++◌, map, Option, Some, None, codes, refl, sym, ap, flat_map, Program, Piece, numeral_piece, optional, behind_colon, word_piece, item_pieces, list_pieces, limit_pieces, layer_pieces, atom_pieces, weights_pieces, mixture_pieces, cost_pieces, sev_pieces, definition_pieces, zero_pieces, common_pieces, share_pieces, ceded_pieces, and_ceded_pieces, ceded_layers_pieces, clause_pieces, freq_pieces, exposure_pieces, listed_pieces, count_pieces, late_count_pieces, unit_pieces, head_pieces, program_pieces, spaced, canonical, option_map, Keyword, ListItem, ListAst, LimitAst, Finite, Infinite, Layer, Atom, MixAst, SevBody, Mixture, Ref, SevAst, SevDef, ZeroAst, Plain, PortHead, CountAst, Exposed, Listed, Share, CededLayer, Cession, FreqAst, Exposure, Claims, UnitAst}
-use Rattle.std.proofs.Common.{ap₂}
-use Rattle.dl_printer.specs.Apart.{bare_numeral, bare_item, bare_list, bare_limit, bare_layer, bare_atom, bare_mix, bare_body, bare_sev, bare_definition, bare_zero, bare_ceded, bare_cession, bare_freq, bare_exposure, bare_count, bare_unit, bare_head, bare, SameProgram, bare_share}
+use Rattle.dl_printer.proofs.Common.{◌≡◌, ◌∙◌, List, [], ◌∷◌, ◌++◌, map, Option, Some, None, codes, refl, sym, ap, flat_map, Program, Piece, numeral_piece, optional, behind_colon, word_piece, item_pieces, list_pieces, limit_pieces, layer_pieces, atom_pieces, weights_pieces, mixture_pieces, cost_pieces, sev_pieces, definition_pieces, zero_pieces, common_pieces, share_pieces, ceded_pieces, and_ceded_pieces, ceded_layers_pieces, clause_pieces, freq_pieces, exposure_pieces, listed_pieces, count_pieces, late_count_pieces, unit_pieces, head_pieces, program_pieces, spaced, canonical, option_map, Keyword, ListItem, ListAst, LimitAst, Finite, Infinite, Layer, Atom, MixAst, SevBody, Mixture, Ref, SevAst, SevDef, ZeroAst, Plain, PortHead, CountAst, Exposed, Listed, Share, CededLayer, Cession, FreqAst, Exposure, Claims, UnitAst, ap₂, bare_numeral, bare_item, bare_list, bare_limit, bare_layer, bare_atom, bare_mix, bare_body, bare_sev, bare_definition, bare_zero, bare_ceded, bare_cession, bare_freq, bare_exposure, bare_count, bare_unit, bare_head, bare, SameProgram, bare_share, Numeral, Whole, Fixed}
 use Rattle.dl_lexer.specs.declared.token.Keyword.TheVariants as words
-use Rattle.dl_ast.specs.declared.ast.Numeral.{Numeral}
-use Rattle.dl_ast.specs.declared.ast.Share.TheVariants.{Whole}
-use Rattle.dl_ast.specs.declared.ast.FreqAst.TheVariants.{Fixed}
 
 -- what holds of each holds of all, and of what may be left out
 

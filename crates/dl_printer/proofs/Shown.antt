@@ -1,12 +1,5 @@
 -- Tokens that are these pieces, wherever they stand, spell something by a rule: what it is apart from spans is known.
-use Rattle.dl_printer.proofs.Common.{◌≡◌, ◌∙◌, ℕ, List, [], ◌∷◌, ◌++◌, map, Option, Some, None, refl, ap, subst, flat_map, IsSpelled, Lexeme, Piece, piece, optional}
-use Rattle.std.proofs.Common.{inl, inr}
-use Rattle.std.specs.Prelude.{All, IfSome}
-use Rattle.std.specs.Option.{option_map}
-use Rattle.std.proofs.lemmas.List.Elements.{All-head, All-tail, All-nil, All-cons, All-append}
-use Rattle.dl_lexer.specs.declared.token.Kind.{Kind}
-use Rattle.dl_lexer.specs.declared.token.Span.{Span}
-use Rattle.dl_ast.specs.Prelude.{Rule, one, ◌▸◌, maybe, many, Spells, ◌or◌, made, node, span_of, ◌≫◌, ◌≪◌, ◌means◌, some_of, spanned}
+use Rattle.dl_printer.proofs.Common.{◌≡◌, ◌∙◌, ℕ, List, [], ◌∷◌, ◌++◌, map, Option, Some, None, refl, ap, subst, flat_map, IsSpelled, Lexeme, Piece, piece, optional, inl, inr, All, IfSome, option_map, All-head, All-tail, All-nil, All-cons, All-append, Kind, Span, Rule, one, ◌▸◌, maybe, many, Spells, ◌or◌, made, node, span_of, ◌≫◌, ◌≪◌, ◌means◌, some_of, spanned}
 
 -- a token without its place
 abbrev pub piece_of : Lexeme → Piece

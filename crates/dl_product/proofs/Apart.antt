@@ -1,18 +1,6 @@
 -- Lists whose items lie a common step apart, and products of them.
-use Rattle.dl_product.proofs.Common.{ℕ, zero, suc, ◌≡◌, ◌+◌, ◌-◌, ◌*◌, ◌/◌, ◌<◌, ◌≤◌, inl, inr, List, length, get_or, arith, sym, ap, ap₂, ◌∙◌, cases_lt, get_or_past, count_pairs, pairs_same, times_nothing, pair_sum, max}
-use Rattle.std.proofs.Common.{◌%◌}
-use Rattle.std.proofs.Math.Nat.{add-mod_left, add-mul-mod_self_right, eq_of_mul-eq-mul_right, le_trans, lt_of_mul-lt-mul_right, mod-eq_of_lt, mod-lt, mod-add-div', mul-le-mul_right, mul-mod_left, suc-add, zero-mul}
+use Rattle.dl_product.proofs.Common.{ℕ, zero, suc, ◌≡◌, ◌+◌, ◌-◌, ◌*◌, ◌/◌, ◌<◌, ◌≤◌, inl, inr, List, length, get_or, arith, sym, ap, ap₂, ◌∙◌, cases_lt, get_or_past, count_pairs, pairs_same, times_nothing, pair_sum, max, ◌%◌, add-mod_left, add-mul-mod_self_right, eq_of_mul-eq-mul_right, le_trans, lt_of_mul-lt-mul_right, mod-eq_of_lt, mod-lt, mod-add-div', mul-le-mul_right, mul-mod_left, suc-add, zero-mul, div_ceil, min, set, get_or-set_same, get_or-set_other, cases_eq, dvd_trans, dvd_of_mod-eq-zero, mod-eq-zero_of_dvd, div_ceil_times, nothing_times, AreMultiples, IsCount, LieApart, LieFrom, IsWindow}
 use Prim.Native.Nat.{◌∣◌}
-use Rattle.std.specs.Int.{div_ceil}
-use Rattle.std.specs.Prelude.{min}
-use Rattle.std.proofs.Math.ListN.{set}
-use Rattle.std.proofs.lemmas.List.{get_or-set_same, get_or-set_other}
-use Rattle.std.proofs.lemmas.Bool.{cases_eq}
-use Rattle.std.proofs.lemmas.Nat.Gcd.{dvd_trans, dvd_of_mod-eq-zero, mod-eq-zero_of_dvd}
-use Rattle.std.proofs.lemmas.Grind.{div_ceil_times}
-use Rattle.dl_exact.proofs.Counts.{nothing_times}
-use Rattle.dl_product.specs.Places.{AreMultiples, IsCount, LieApart, LieFrom}
-use Rattle.dl_product.specs.Windows.{IsWindow}
 use Rattle.dl_product.proofs.Zeros.{before_both, no_products, past_both, shift_both, shift_first}
 
 -- what is no multiple of a divisor is none of the number

@@ -1,17 +1,5 @@
 -- The ends of a grid's cells as lists.
-use Rattle.dl_product.proofs.Common.{ℕ, ◌≡◌, ◌+◌, ◌*◌, ◌<◌, ◌≤◌, List, [], inl, inr, length, get_or, arith, ap₂, cases_lt, get_or_past, pair_sum, pairs_same, ends_fit}
-use Rattle.std.proofs.Common.{All, ◌^◌, ◌%◌}
-use Rattle.std.proofs.lemmas.List.{get_or_default}
-use Rattle.dl_iv.specs.declared.interval.Iv.{Iv}
-use Rattle.dl_grid.proofs.CellLaws.{high_le}
-use Rattle.dl_transform.specs.Ends.{high_sum, AreWords}
-use Rattle.dl_product.specs.declared.ends.Head.{Head}
-use Rattle.dl_product.specs.declared.operand.Operand.{Operand}
-use Rattle.dl_product.specs.Ends.{ArePaired, AreWidths}
-use Rattle.dl_product.specs.Heads.{IsHead}
-use Rattle.dl_product.specs.Operand.{AreFactors, HoldsEnds}
-use Rattle.dl_product.specs.Places.{LieFrom}
-use Rattle.dl_product.specs.Windows.{IsWindow}
+use Rattle.dl_product.proofs.Common.{ℕ, ◌≡◌, ◌+◌, ◌*◌, ◌<◌, ◌≤◌, List, [], inl, inr, length, get_or, arith, ap₂, cases_lt, get_or_past, pair_sum, pairs_same, ends_fit, All, ◌^◌, ◌%◌, get_or_default, Iv, high_le, high_sum, AreWords, Head, Operand, ArePaired, AreWidths, IsHead, AreFactors, HoldsEnds, LieFrom, IsWindow}
 
 nothing_low : (x y : ℕ) → x ≤ y → y ≡ 0 → x ≡ 0
 nothing_low x y h e = omega (arith, h, e)

@@ -1,15 +1,5 @@
 -- Sums of products of lists, behind the items of which all others are alike.
-use Rattle.dl_product.proofs.Common.{ℕ, zero, suc, ◌≡◌, ◌+◌, ◌-◌, ◌*◌, ◌<◌, ◌≤◌, List, [], ◌∷◌, length, get_or, arith, refl, sym, ap, ap₂, ◌∙◌, get_or_past, count_pairs, pairs_same, times_nothing, pair_sum}
-use Rattle.std.proofs.Common.{◌≢◌, ◌^◌}
-use Rattle.std.proofs.Math.Nat.{mul-le-mul_right}
-use Rattle.dl_exact.specs.Count.{count_below}
-use Rattle.dl_exact.proofs.Counts.{below_more, below_nothing, below_pairs, below_same, below_times, pairs_none}
-use Rattle.dl_iv.specs.declared.interval.Iv.{Iv}
-use Rattle.dl_convolution.proofs.Fits.{ends_fit, sum_fits}
-use Rattle.dl_grid.specs.Cells.{low_at, high_at, high_ends}
-use Rattle.dl_grid.proofs.EndLists.{ends_of_grid, high_at_ends}
-use Rattle.dl_product.specs.declared.ends.Head.{Head}
-use Rattle.dl_product.specs.Heads.{IsHead}
+use Rattle.dl_product.proofs.Common.{ℕ, zero, suc, ◌≡◌, ◌+◌, ◌-◌, ◌*◌, ◌<◌, ◌≤◌, List, [], ◌∷◌, length, get_or, arith, refl, sym, ap, ap₂, ◌∙◌, get_or_past, count_pairs, pairs_same, times_nothing, pair_sum, ◌≢◌, ◌^◌, mul-le-mul_right, count_below, below_more, below_nothing, below_pairs, below_same, below_times, pairs_none, Iv, ends_fit, sum_fits, low_at, high_at, high_ends, ends_of_grid, high_at_ends, Head, IsHead}
 
 no_more : (f : ℕ → ℕ → ℕ) → count_pairs zero f ≡ f zero zero
 unfolding count_pairs

@@ -1,7 +1,5 @@
 -- The first cells of a grid as the ends of its head.
-use Rattle.dl_product.proofs.Common.{ℕ, ◌≡◌, ◌<◌, ◌≤◌, List, length, get_or, take, arith, sym, ◌∙◌, inl, inr, cases_lt, get_or_past, get_or-take, length-take}
-use Rattle.dl_limits.specs.Limits.{most_cells, most_cell_end}
-use Rattle.dl_product.specs.Ends.{AreHeadEnds}
+use Rattle.dl_product.proofs.Common.{ℕ, ◌≡◌, ◌<◌, ◌≤◌, List, length, get_or, take, arith, sym, ◌∙◌, inl, inr, cases_lt, get_or_past, get_or-take, length-take, most_cells, most_cell_end, AreHeadEnds}
 
 -- the first e of the first n items of a list
 module _ (xs : List ℕ) (n e : ℕ) (inside : n ≤ length xs) (within : e ≤ n) where

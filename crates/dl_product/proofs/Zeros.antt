@@ -1,8 +1,5 @@
 -- Products of lists that begin and end with zeros.
-use Rattle.dl_product.proofs.Common.{ℕ, zero, suc, ◌≡◌, ◌+◌, ◌-◌, ◌*◌, ◌<◌, ◌≤◌, inl, inr, arith, refl, sym, ap, ap₂, ◌∙◌, cases_lt, count_pairs, pairs_same, times_nothing}
-use Rattle.std.proofs.Math.Nat.{add_assoc, add-suc, add-zero, suc-add}
-use Rattle.std.proofs.Common.{zero-add}
-use Rattle.dl_exact.proofs.Counts.{below_none, below_pairs, nothing_times}
+use Rattle.dl_product.proofs.Common.{ℕ, zero, suc, ◌≡◌, ◌+◌, ◌-◌, ◌*◌, ◌<◌, ◌≤◌, inl, inr, arith, refl, sym, ap, ap₂, ◌∙◌, cases_lt, count_pairs, pairs_same, times_nothing, add_assoc, add-suc, add-zero, suc-add, zero-add, below_none, below_pairs, nothing_times}
 
 -- no sum of products that are each 0
 pub no_products : (n : ℕ) (f g : ℕ → ℕ) → ((i : ℕ) → i ≤ n → f i * g (n - i) ≡ 0) → count_pairs n (λ i j. f i * g j) ≡ 0

@@ -1,9 +1,5 @@
 -- An amount of money in whole buckets, and its flaws.
-use Rattle.dl_reading.proofs.Common.{ℕ, ◌≡◌, ◌∙◌, ◌*◌, ◌/◌, ◌%◌, ◌<◌, ◌≤◌, nat_lt, not, true, false, Option, sym, ap, subst, arith, inl, inr, cases_lt, lt-ltb, eq-eqb, eqb-true, Fraction, whole, ◌<ℚ◌, over_lt, whole_num, Span, at_if, is_whole, is_above, not_at, not-false, number_of, IsRead, buckets, spans, no_flaws, flaws_of_amount}
-use Rattle.std.proofs.Common.{min, nat_eq}
-use Rattle.std.proofs.lemmas.Bool.{ltb-true}
-use Rattle.std.specs.Cmp.{both_ways}
-use Rattle.dl_exact.proofs.Over.{lt_over}
+use Rattle.dl_reading.proofs.Common.{ℕ, ◌≡◌, ◌∙◌, ◌*◌, ◌/◌, ◌%◌, ◌<◌, ◌≤◌, nat_lt, not, true, false, Option, sym, ap, subst, arith, inl, inr, cases_lt, lt-ltb, eq-eqb, eqb-true, Fraction, whole, ◌<ℚ◌, over_lt, whole_num, Span, at_if, is_whole, is_above, not_at, not-false, number_of, IsRead, buckets, spans, no_flaws, flaws_of_amount, min, nat_eq, ltb-true, both_ways, lt_over}
 use Rattle.dl_severity.proofs.Whole.{same, pos, divides_whole, whole_divides, quotient_whole, whole_lt}
 use Rattle.dl_reading.proofs.Agreeing.{agree_same}
 

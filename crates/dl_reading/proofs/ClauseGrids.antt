@@ -1,6 +1,5 @@
 -- What the clauses of a unit keep.
-use Rattle.dl_reading.proofs.Common.{◌≡◌, Option, Some, None, IfSome, Span, within, ◌else◌, else_first, else_second, GridClause, GridUnit, IsGridClause, overlap_in, overlap, share_above_one_in, share_above_one, IsClauseLayered}
-use Rattle.dl_reading.specs.CheckedUnit.{IsLayered}
+use Rattle.dl_reading.proofs.Common.{◌≡◌, Option, Some, None, IfSome, Span, within, ◌else◌, else_first, else_second, GridClause, GridUnit, IsGridClause, overlap_in, overlap, share_above_one_in, share_above_one, IsClauseLayered, IsLayered}
 
 both_none : (x y : Option Span) → (x else y) ≡ None → (x ≡ None) × (y ≡ None)
 both_none x y none = (else_first x y none, else_second x y none)

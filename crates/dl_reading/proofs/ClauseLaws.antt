@@ -1,19 +1,8 @@
 -- Layers that keep the rules make a clause where their shares are fine.
-use Rattle.dl_reading.proofs.Common.{le-leb, Clause, or_parts, false_from_ne_true, leb-true, ◌≡◌, ◌∙◌, ℕ, zero, suc, ◌*◌, ◌^◌, ◌<◌, ◌≤◌, List, [], ◌∷◌, ◌++◌, length, map, take, get_or, Option, None, true, false, sym, ap, subst, arith, append_assoc, mul-pos, inl, inr, Some, All, list_any, append-nil, get_or-map, length-map, length-take, All-map, list_any_at, Fraction, whole, ◌/ℚ◌, ◌≤ℚ◌, quotient_is, CedeLayer, IsFineTo30Bits, common_denominator, Overlap, IsClause, common_pos, den_divides, GridCeded, GridClause, in_turn, is_fine, is_above, share_of, shares_of, ceded_layer, clause_of, overlaps, share_exceeds, share_above_one_in, overlap_in, IsClauseLayered, else_first, else_second, none_each, not_at, most_parts}
-use Rattle.std.proofs.lemmas.Bool.{ltb-false}
-use Rattle.dl_plan.specs.Clause.{layer_shares}
-use Rattle.std.specs.List.{AllPairs}
-use Rattle.std.proofs.lemmas.List.{get_or-take}
-use Rattle.std.proofs.lemmas.Nat.Gcd.{le_of_dvd}
-use Rattle.dl_reading.specs.declared.grid.GridShare.{GridShare}
-use Rattle.dl_reading.specs.Lists.{is_zero}
+use Rattle.dl_reading.proofs.Common.{le-leb, Clause, or_parts, false_from_ne_true, leb-true, ◌≡◌, ◌∙◌, ℕ, zero, suc, ◌*◌, ◌^◌, ◌<◌, ◌≤◌, List, [], ◌∷◌, ◌++◌, length, map, take, get_or, Option, None, true, false, sym, ap, subst, arith, append_assoc, mul-pos, inl, inr, Some, All, list_any, append-nil, get_or-map, length-map, length-take, All-map, list_any_at, Fraction, whole, ◌/ℚ◌, ◌≤ℚ◌, quotient_is, CedeLayer, IsFineTo30Bits, common_denominator, Overlap, IsClause, common_pos, den_divides, GridCeded, GridClause, in_turn, is_fine, is_above, share_of, shares_of, ceded_layer, clause_of, overlaps, share_exceeds, share_above_one_in, overlap_in, IsClauseLayered, else_first, else_second, none_each, not_at, most_parts, ltb-false, layer_shares, AllPairs, get_or-take, le_of_dvd, GridShare, is_zero, map-map, over_le, IsTooFine, num_le_den}
 use Rattle.dl_reading.proofs.Values.{not_above, zero_above}
 use Rattle.std.specs.Prelude.{◌||◌}
-use Rattle.std.proofs.lemmas.Simd.{map-map}
 use Rattle.dl_exact.proofs.Laws.{le_refl}
-use Rattle.dl_exact.proofs.Over.{over_le}
-use Rattle.dl_frac.specs.Exact.{IsTooFine}
-use Rattle.dl_plan.proofs.Clauses.{num_le_den}
 use Rattle.dl_reading.specs.declared.grid.GridShare.TheVariants.{Whole, So, Po}
 use Rattle.dl_reading.proofs.Turns.{yes_overlap, overlap_at, share_at}
 

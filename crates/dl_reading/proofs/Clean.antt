@@ -1,7 +1,5 @@
 -- Texts without flaws, by their parts.
-use Rattle.dl_reading.proofs.Common.{◌≡◌, Bool, true, false, List, [], ◌∷◌, None, All, All-nil, All-cons, IsClean, flaws_else, earlier_flaws}
-use Rattle.dl_reading.specs.declared.flaws.Flaws.{Flaws}
-use Rattle.dl_reading.specs.Flaws.{flaws_in}
+use Rattle.dl_reading.proofs.Common.{◌≡◌, Bool, true, false, List, [], ◌∷◌, None, All, All-nil, All-cons, IsClean, flaws_else, earlier_flaws, Flaws, flaws_in}
 use Rattle.dl_reading.proofs.Agreeing.{keeps_first, keeps_second}
 
 pub record EachNone (f : Flaws) : Type 0 where

@@ -1,6 +1,5 @@
 -- The products of the atoms of a mixture are fine exactly where those of the text are.
-use Rattle.dl_reading.proofs.Common.{refl, ℕ, ◌≡◌, ◌∙◌, ◌+◌, ◌<◌, ◌==◌, List, [], ◌∷◌, ◌++◌, map, true, false, le-leb, cond, sym, ap, subst, arith, inl, inr, AllZip, All, ◌∣◌, eqb_tells, map-append, All-nil, All-head, All-tail, All-append, All-map, sum_by-cons, Fraction, whole, ◌over◌, ◌*ℚ◌, times_zero, Item, Sev, common_denominator, weight_at, Pairs, probability, pairs_of, HasDistribution, den_divides, whole_den, Weights, IsWeighing, scaled, mixture_of, mixture, is_fine, shares_in_mixture, ◌≤◌}
-use Rattle.dl_plan.proofs.CommonDenominators.{common_from_divides}
+use Rattle.dl_reading.proofs.Common.{refl, ℕ, ◌≡◌, ◌∙◌, ◌+◌, ◌<◌, ◌==◌, List, [], ◌∷◌, ◌++◌, map, true, false, le-leb, cond, sym, ap, subst, arith, inl, inr, AllZip, All, ◌∣◌, eqb_tells, map-append, All-nil, All-head, All-tail, All-append, All-map, sum_by-cons, Fraction, whole, ◌over◌, ◌*ℚ◌, times_zero, Item, Sev, common_denominator, weight_at, Pairs, probability, pairs_of, HasDistribution, den_divides, whole_den, Weights, IsWeighing, scaled, mixture_of, mixture, is_fine, shares_in_mixture, ◌≤◌, common_from_divides}
 use Rattle.dl_exact.proofs.Denominators.{over_zero as zero_over}
 use Rattle.dl_plan.proofs.Means.{severity_total as total_pos}
 use Rattle.dl_reading.proofs.Shared.{all_left, all_right, coarse_test, fine_with}

@@ -1,13 +1,8 @@
 -- What a unit that keeps all rules on its severity gives.
-use Rattle.dl_reading.proofs.Common.{leb-true, IsFineTo40Bits, get_or, ◌≡◌, ◌||◌, ◌&&◌, nat_tests, not, Bool, true, false, Option, Some, None, refl, sym, subst, All, IfSome, ◌≤◌, ℕ, Item, arith, length, length-map, Fraction, IsClause, IsClauseLayered, IsSevWithin, final_severity, made_of, GridSev, has_atoms, has_severity, weights_of, GridClause, GridUnit, IsWhole, common_denominator, Pairs, HasDistribution, pairs_of, kept, Sev, is_fine, clause_of, shares_of, is_off, severity_in_layer, ceded_pairs, mixture_shares, support, off_grid_cession, AreProbabilities, atom_probs, not-false, are_fine, Bounds, AreBounds, has_probs, most_parts}
-use Rattle.dl_reading.specs.FineParts.{has_shares}
-use Rattle.dl_reading.specs.CheckedUnit.{IsFineSev}
+use Rattle.dl_reading.proofs.Common.{leb-true, IsFineTo40Bits, get_or, ◌≡◌, ◌||◌, ◌&&◌, nat_tests, not, Bool, true, false, Option, Some, None, refl, sym, subst, All, IfSome, ◌≤◌, ℕ, Item, arith, length, length-map, Fraction, IsClause, IsClauseLayered, IsSevWithin, final_severity, made_of, GridSev, has_atoms, has_severity, weights_of, GridClause, GridUnit, IsWhole, common_denominator, Pairs, HasDistribution, pairs_of, kept, Sev, is_fine, clause_of, shares_of, is_off, severity_in_layer, ceded_pairs, mixture_shares, support, off_grid_cession, AreProbabilities, atom_probs, not-false, are_fine, Bounds, AreBounds, has_probs, most_parts, has_shares, IsFineSev, AllPass-from_list_all, off_grid_amounts, made_pairs, KeepsWhole}
 use Rattle.dl_reading.proofs.PastEdges.{whole_unless}
 use Rattle.dl_reading.proofs.Values.{never}
-use Rattle.std.proofs.lemmas.List.Sums.{AllPass-from_list_all}
 use Rattle.dl_reading.proofs.Shared.{fine_probabilities}
-use Rattle.dl_reading.specs.Rules.{off_grid_amounts}
-use Rattle.dl_reading.specs.Severity.{made_pairs, KeepsWhole}
 use Rattle.dl_reading.proofs.Meaning.{alike_own, mapped_means, means_alike}
 use Rattle.dl_reading.proofs.ClauseGrids.{clauses_layered}
 use Rattle.dl_reading.proofs.ClauseLaws.{made_is_clause}

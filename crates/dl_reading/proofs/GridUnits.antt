@@ -1,27 +1,7 @@
 -- What a unit without flaws keeps in whole buckets, part by part.
-use Rattle.dl_reading.proofs.Common.{ℕ, ◌≡◌, ◌∙◌, ◌*◌, ◌≤◌, ◌&&◌, List, [], ◌∷◌, map, list_any_none, nat_tests, or_parts, sum_by, sum_by-cons, GridAtom, are_many_values, is_long_mixture, values_in, most_values, length, nat_lt, not, Option, Some, None, refl, sym, ap, arith, All, IfSome, length-map, All-map, eqb-true, eq-eqb, not-false, not_at, Fraction, whole, whole_num, whole_den, Span, IsShares, ◌over◌, subst, probs_among, IsClean, flaws_else, number_of, grid_atom, grid_layer, grid_ceded, grid_clause, grid_mixture, GridLayer, IsGridAtom, IsGridSev, IsLayerWithin, IsClauseWithin, IsSevWithin, IsGridClause, IsGridUnit, IsWithin, other_length, most_amount, most_atoms, most_layers, buckets, Numeral, ListAst, Atom, MixAst, IsFormedAtom, IsFormedMixture, IsFormedCession, IsFormedCount, IsFormedUnit, Flaws, flaws_in, flaws_within, earlier_flaws, long_at, grid_shares, limit_value, grid_exposure, grid_freq, grid_count, zero_value, given_zero, flaws_of_numeral, flaws_of_amount, flaws_of_money, flaws_of_list, flaws_of_amounts, flaws_of_shares, flaws_beside, flaws_of_atom, flaws_of_mixture, flaws_of_limit, flaws_of_layer, flaws_of_share, flaws_of_ceded, flaws_of_clause, flaws_of_exposure, flaws_of_count, flaws_of_freq, flaws_of_zero, flaws_of_distribution, is_named, if_there, value, values_of, spanned_values, Bounds, AreBounds}
+use Rattle.dl_reading.proofs.Common.{ℕ, ◌≡◌, ◌∙◌, ◌*◌, ◌≤◌, ◌&&◌, List, [], ◌∷◌, map, list_any_none, nat_tests, or_parts, sum_by, sum_by-cons, GridAtom, are_many_values, is_long_mixture, values_in, most_values, length, nat_lt, not, Option, Some, None, refl, sym, ap, arith, All, IfSome, length-map, All-map, eqb-true, eq-eqb, not-false, not_at, Fraction, whole, whole_num, whole_den, Span, IsShares, ◌over◌, subst, probs_among, IsClean, flaws_else, number_of, grid_atom, grid_layer, grid_ceded, grid_clause, grid_mixture, GridLayer, IsGridAtom, IsGridSev, IsLayerWithin, IsClauseWithin, IsSevWithin, IsGridClause, IsGridUnit, IsWithin, other_length, most_amount, most_atoms, most_layers, buckets, Numeral, ListAst, Atom, MixAst, IsFormedAtom, IsFormedMixture, IsFormedCession, IsFormedCount, IsFormedUnit, Flaws, flaws_in, flaws_within, earlier_flaws, long_at, grid_shares, limit_value, grid_exposure, grid_freq, grid_count, zero_value, given_zero, flaws_of_numeral, flaws_of_amount, flaws_of_money, flaws_of_list, flaws_of_amounts, flaws_of_shares, flaws_beside, flaws_of_atom, flaws_of_mixture, flaws_of_limit, flaws_of_layer, flaws_of_share, flaws_of_ceded, flaws_of_clause, flaws_of_exposure, flaws_of_count, flaws_of_freq, flaws_of_zero, flaws_of_distribution, is_named, if_there, value, values_of, spanned_values, Bounds, AreBounds, ltb-false, IfSome_then, length-replicate, LimitAst, Finite, Infinite, Layer, Cession, Exposure, Claims, Loss, Premium, FreqAst, Fixed, Poisson, Geometric, Bernoulli, Binomial, Gamma, ZeroAst, Plain, Truncated, Modified, CountAst, UnitAst, at_if, grid_of, flaws_of, count_lengths, IsSmall, IsGridExposure, IsGridFreq, IsGridCount}
 use Rattle.std.proofs.Math.Nat.{le_trans}
-use Rattle.std.proofs.lemmas.Bool.{ltb-false}
-use Rattle.std.proofs.lemmas.Option.{IfSome_then}
-use Rattle.std.proofs.lemmas.List.{length-replicate}
-use Rattle.dl_ast.specs.declared.ast.LimitAst.{LimitAst}
-use Rattle.dl_ast.specs.declared.ast.LimitAst.TheVariants.{Finite, Infinite}
-use Rattle.dl_ast.specs.declared.ast.Layer.{Layer}
-use Rattle.dl_ast.specs.declared.ast.Cession.{Cession}
-use Rattle.dl_ast.specs.declared.ast.Exposure.{Exposure}
-use Rattle.dl_ast.specs.declared.ast.Exposure.TheVariants.{Claims, Loss, Premium}
-use Rattle.dl_ast.specs.declared.ast.FreqAst.{FreqAst}
-use Rattle.dl_ast.specs.declared.ast.FreqAst.TheVariants.{Fixed, Poisson, Geometric, Bernoulli, Binomial, Gamma}
-use Rattle.dl_ast.specs.declared.ast.ZeroAst.{ZeroAst}
-use Rattle.dl_ast.specs.declared.ast.ZeroAst.TheVariants.{Plain, Truncated, Modified}
-use Rattle.dl_ast.specs.declared.ast.CountAst.{CountAst}
 use Rattle.dl_ast.specs.declared.ast.CountAst.TheVariants.{Exposed, Listed}
-use Rattle.dl_ast.specs.declared.ast.UnitAst.{UnitAst}
-use Rattle.dl_reading.specs.First.{at_if}
-unfoldable use Rattle.dl_reading.specs.Grid.{grid_of}
-unfoldable use Rattle.dl_reading.specs.Reading.{flaws_of}
-use Rattle.dl_reading.specs.Rules.{count_lengths}
-use Rattle.dl_reading.specs.Small.{IsSmall, IsGridExposure, IsGridFreq, IsGridCount}
 use Rattle.dl_reading.proofs.Clean.{each_none, clean_first, clean_second, clean_both, clean_earlier, clean_each}
 use Rattle.dl_reading.proofs.ItemRanges.{number_is, list_few, list_is}
 

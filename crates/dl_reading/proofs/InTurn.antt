@@ -1,7 +1,5 @@
 -- Lists that a loop makes of the items that it reads in turn.
-use Rattle.dl_reading.proofs.Common.{ℕ, Bool, true, false, not, cond, ◌||◌, filter, map-append, ◌≡◌, ◌∙◌, ◌+◌, ◌<◌, List, [], ◌∷◌, ◌++◌, map, flat_map, length, take, get_or, sym, ap, ap₂, append_assoc, map_more, take_more}
-use Rattle.std.proofs.lemmas.List.{flat_map_more}
-use Rattle.std.proofs.lemmas.List.Elements.{filter_more}
+use Rattle.dl_reading.proofs.Common.{ℕ, Bool, true, false, not, cond, ◌||◌, filter, map-append, ◌≡◌, ◌∙◌, ◌+◌, ◌<◌, List, [], ◌∷◌, ◌++◌, map, flat_map, length, take, get_or, sym, ap, ap₂, append_assoc, map_more, take_more, flat_map_more, filter_more}
 
 -- what is made of one item more, put behind
 pub mapped_next : {A B : Type 0} (base : List B) (f : A → B) (xs : List A) (i : ℕ) (x : A) {made new : List B}

@@ -1,18 +1,9 @@
 -- What good numbers and good ranges say of the values of a list: there are some, but not too many, and their parts are small.
-use Rattle.dl_reading.proofs.Common.{◌≡◌, ℕ, zero, suc, ◌+◌, ◌<◌, ◌≤◌, List, [], ◌∷◌, Bool, true, false, map, flat_map, length, Option, Some, None, refl, sym, subst, arith, nat_lt, All, nat_tests, All-nil, All-cons, All-head, All-tail, All-append, All-map, length-map, Fraction, whole, whole_num, Span, is_above, IsClean, not_at, most_range_parts, HasPartsOf18Digits, IsRange, steps_in, value_at, range_values, range_denominator, Range, Numeral, ListItem, ListAst, IsFormedItem, IsFormedList, flaws_within, flaws_in, grid_list, flaws_of_numeral, is_no_range, flaws_of_item, flaws_of_list, value, value_or, range_of, spanned_item, spanned_values, Bounds, AreBounds}
+use Rattle.dl_reading.proofs.Common.{◌≡◌, ℕ, zero, suc, ◌+◌, ◌<◌, ◌≤◌, List, [], ◌∷◌, Bool, true, false, map, flat_map, length, Option, Some, None, refl, sym, subst, arith, nat_lt, All, nat_tests, All-nil, All-cons, All-head, All-tail, All-append, All-map, length-map, Fraction, whole, whole_num, Span, is_above, IsClean, not_at, most_range_parts, HasPartsOf18Digits, IsRange, steps_in, value_at, range_values, range_denominator, Range, Numeral, ListItem, ListAst, IsFormedItem, IsFormedList, flaws_within, flaws_in, grid_list, flaws_of_numeral, is_no_range, flaws_of_item, flaws_of_list, value, value_or, range_of, spanned_item, spanned_values, Bounds, AreBounds, range_with_len, IsSome, div-mul-le_self, div-le_self, ltb-false, ◌over◌, ◌≤ℚ◌, ◌<ℚ◌, numeral_small, numerator_over, is_zero, IsSmall, IsValueList}
 use Rattle.std.proofs.Common.{inl, inr, ◌*◌, ◌/◌, ◌-◌, ◌^◌, ◌||◌, ◌&&◌, is_some, mul-le-mul, mul-le-mul_right, length-append}
-use Rattle.std.specs.List.{range_with_len}
-use Rattle.std.specs.Option.{IsSome}
-use Rattle.std.proofs.Math.Nat.{div-mul-le_self, div-le_self}
-use Rattle.std.proofs.lemmas.Bool.{ltb-false}
-use Rattle.dl_exact.specs.Fraction.{◌over◌, ◌≤ℚ◌, ◌<ℚ◌}
 use Rattle.dl_exact.proofs.Laws.{le_refl}
 use Rattle.dl_exact.proofs.Parts.{pos_num, over_num_le as num_of_over-le, over_den_le as den_of_over-le}
-use Rattle.dl_frac.proofs.SmallNumerals.{numeral_small}
-use Rattle.dl_plan.specs.Fine.{numerator_over}
 use Rattle.dl_severity.proofs.Ranged.{pos, rising, steps_are, value_is, one_value, values_length}
-use Rattle.dl_reading.specs.Lists.{is_zero}
-use Rattle.dl_reading.specs.Small.{IsSmall, IsValueList}
 use Rattle.dl_reading.proofs.Values.{not_above, zero_above}
 use Rattle.dl_reading.proofs.Clean.{each_none, clean_first, clean_second, clean_each}
 

@@ -1,12 +1,8 @@
 -- The items of a severity stand among the amounts of positive probability of what it means.
-use Rattle.dl_reading.proofs.Common.{◌≡◌, ◌≢◌, ◌∙◌, ℕ, zero, suc, ◌+◌, ◌<◌, ◌≤◌, ◌==◌, List, [], ◌∷◌, map, filter, Bool, true, false, cond, get_or, refl, sym, ap, subst, arith, inl, inr, AllZip, All, eqb_tells, nat_tests, All-nil, All-cons, All-head, All-tail, All-weaker, All-append, All-map, sum_by-cons, map-append, Fraction, whole, ◌over◌, ◌+ℚ◌, ◌*ℚ◌, ◌<ℚ◌, cases_lt, zero_plus, zero_or_pos, lt_of_lt_of_le, le_plus, plus_comm, over_lt, Item, Sev, amounts_of, weight_at, Pairs, probability, pairs_of, shares, HasDistribution, scaled, mixture_of, support, shares_in_mixture}
-use Rattle.std.specs.List.Sorted.{IsStrictlyIncreasing}
-use Rattle.std.proofs.lemmas.List.Elements.{All-filter}
-use Rattle.std.proofs.lemmas.List.Sums.{sum_by-le}
+use Rattle.dl_reading.proofs.Common.{◌≡◌, ◌≢◌, ◌∙◌, ℕ, zero, suc, ◌+◌, ◌<◌, ◌≤◌, ◌==◌, List, [], ◌∷◌, map, filter, Bool, true, false, cond, get_or, refl, sym, ap, subst, arith, inl, inr, AllZip, All, eqb_tells, nat_tests, All-nil, All-cons, All-head, All-tail, All-weaker, All-append, All-map, sum_by-cons, map-append, Fraction, whole, ◌over◌, ◌+ℚ◌, ◌*ℚ◌, ◌<ℚ◌, cases_lt, zero_plus, zero_or_pos, lt_of_lt_of_le, le_plus, plus_comm, over_lt, Item, Sev, amounts_of, weight_at, Pairs, probability, pairs_of, shares, HasDistribution, scaled, mixture_of, support, shares_in_mixture, IsStrictlyIncreasing, All-filter, sum_by-le, AllPairs-from_increasing}
 use Rattle.dl_exact.specs.Sum.{sum_over}
 use Rattle.dl_exact.proofs.Laws.{lt_not_le, le_refl}
 use Rattle.dl_reading.proofs.Firsts.{from_map}
-use Rattle.std.proofs.lemmas.List.Kept.{AllPairs-from_increasing}
 use Rattle.dl_exact.proofs.Denominators.{over_zero as zero_over}
 use Rattle.dl_plan.proofs.Means.{severity_total as total_pos}
 use Rattle.dl_reading.proofs.Shared.{all_left, all_right}

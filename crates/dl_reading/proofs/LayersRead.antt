@@ -1,10 +1,5 @@
 -- Layers that are read, and shares of them: both are right where the limit is.
-use Rattle.dl_reading.proofs.Common.{ℕ, ◌≡◌, ◌∙◌, ◌∷◌, [], Option, Some, None, sym, ap, take, Fraction, Span, refl, arith, IsClean, IsRead, flaws_else, GridLayer, GridCeded, number_of, grid_layer, grid_ceded, Flaws, Gridded, IsReadTo, AreNone, spans, flaws_within, limit_value, share_beside, flaws_of_amount, flaws_of_numeral, flaws_of_money, flaws_of_limit, flaws_of_limit_number, flaws_of_layer, flaws_of_share, flaws_of_ceded, value, if_there}
-use Rattle.dl_ast.specs.declared.ast.Layer.{Layer}
-use Rattle.dl_ast.specs.declared.ast.CededLayer.{CededLayer}
-use Rattle.dl_ast.specs.declared.ast.LimitAst.{LimitAst}
-use Rattle.dl_ast.specs.declared.ast.LimitAst.TheVariants.{Finite, Infinite}
-use Rattle.dl_reading.specs.declared.grid.GridShare.{GridShare}
+use Rattle.dl_reading.proofs.Common.{ℕ, ◌≡◌, ◌∙◌, ◌∷◌, [], Option, Some, None, sym, ap, take, Fraction, Span, refl, arith, IsClean, IsRead, flaws_else, GridLayer, GridCeded, number_of, grid_layer, grid_ceded, Flaws, Gridded, IsReadTo, AreNone, spans, flaws_within, limit_value, share_beside, flaws_of_amount, flaws_of_numeral, flaws_of_money, flaws_of_limit, flaws_of_limit_number, flaws_of_layer, flaws_of_share, flaws_of_ceded, value, if_there, Layer, CededLayer, LimitAst, Finite, Infinite, GridShare}
 use Rattle.dl_reading.proofs.Agreeing.{read_longer, read_both, read_after, keeps_first}
 use Rattle.dl_reading.proofs.Clean.{clean_first, clean_second}
 

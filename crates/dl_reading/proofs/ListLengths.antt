@@ -1,9 +1,5 @@
 -- How many values the lists of a severity have, and the rules that ask it.
-use Rattle.dl_reading.proofs.Common.{ℕ, zero, suc, ◌≡◌, ◌∙◌, ◌+◌, ◌<◌, ◌&&◌, ◌||◌, Bool, true, false, get_or, take_more, not, ◌==◌, List, [], ◌∷◌, ◌++◌, length, take, flat_map, Option, Some, None, refl, sym, ap, ap₂, subst, arith, nat_tests, nat_lt, list_any, sum_by, sum_by-cons, Fraction, Span, at_if, ◌else◌, else_second, flaws_else, not_at, is_not_one, most_atoms, most_values, range_values, Range, Atom, ListAst, ListItem, MixAst, Flaws, Gridded, AgreeOnLists, AgreeToFirst, AreNone, IsRead, IsReadTo, KeepsLengths, spans, no_flaws, flaws_in, flaws_within, long_at, lengths_at, sum_at, flaws_of_item, flaws_of_list, flaws_of_amount, flaws_of_amounts, flaws_of_shares, flaws_beside, flaws_of_atom, flaws_of_mixture, listed_beside, listed_flaws, are_many_values, is_long_mixture, values_in, spanned_item, spanned_values, values_of, range_of, Bounds, length-map}
-use Rattle.std.proofs.Common.{min, length-append}
-use Rattle.std.proofs.lemmas.Bool.{ltb-false}
-use Rattle.std.proofs.lemmas.Grind.{flat_map-append}
-use Rattle.std.proofs.lemmas.List.Folds.{list_any-append}
+use Rattle.dl_reading.proofs.Common.{ℕ, zero, suc, ◌≡◌, ◌∙◌, ◌+◌, ◌<◌, ◌&&◌, ◌||◌, Bool, true, false, get_or, take_more, not, ◌==◌, List, [], ◌∷◌, ◌++◌, length, take, flat_map, Option, Some, None, refl, sym, ap, ap₂, subst, arith, nat_tests, nat_lt, list_any, sum_by, sum_by-cons, Fraction, Span, at_if, ◌else◌, else_second, flaws_else, not_at, is_not_one, most_atoms, most_values, range_values, Range, Atom, ListAst, ListItem, MixAst, Flaws, Gridded, AgreeOnLists, AgreeToFirst, AreNone, IsRead, IsReadTo, KeepsLengths, spans, no_flaws, flaws_in, flaws_within, long_at, lengths_at, sum_at, flaws_of_item, flaws_of_list, flaws_of_amount, flaws_of_amounts, flaws_of_shares, flaws_beside, flaws_of_atom, flaws_of_mixture, listed_beside, listed_flaws, are_many_values, is_long_mixture, values_in, spanned_item, spanned_values, values_of, range_of, Bounds, length-map, min, length-append, ltb-false, flat_map-append, list_any-append}
 use Rattle.dl_reading.proofs.Firsts.{else_none}
 use Rattle.dl_reading.proofs.Agreeing.{agree_else, agree_same, agree_take, keeps_first, read_after, read_also, read_both, flaws_more, zip_else}
 

@@ -1,10 +1,7 @@
 -- What a severity means tells what each step makes of it.
-use Rattle.dl_reading.proofs.Common.{ℕ, zero, suc, ◌≡◌, ◌≢◌, ◌∙◌, ◌+◌, ◌*◌, ◌/◌, ◌<◌, ◌≤◌, ◌⊎◌, List, [], ◌∷◌, ◌++◌, map, filter, Bool, true, false, cond, nat_lt, ◌==◌, refl, sym, ap, ap₂, arith, inl, inr, cases_lt, lt-ltb, le-ltb, Fraction, whole, ◌over◌, ◌+ℚ◌, ◌*ℚ◌, ◌/ℚ◌, zero_plus, times_zero, zero_or_pos, zero_times, Sev, Pairs, probability, mass, conditioned, pairs_of, HasDistribution, whole_num, whole_den, scaled, mixture_of, with_amounts, AllZip, mixed}
+use Rattle.dl_reading.proofs.Common.{ℕ, zero, suc, ◌≡◌, ◌≢◌, ◌∙◌, ◌+◌, ◌*◌, ◌/◌, ◌<◌, ◌≤◌, ◌⊎◌, List, [], ◌∷◌, ◌++◌, map, filter, Bool, true, false, cond, nat_lt, ◌==◌, refl, sym, ap, ap₂, arith, inl, inr, cases_lt, lt-ltb, le-ltb, Fraction, whole, ◌over◌, ◌+ℚ◌, ◌*ℚ◌, ◌/ℚ◌, zero_plus, times_zero, zero_or_pos, zero_times, Sev, Pairs, probability, mass, conditioned, pairs_of, HasDistribution, whole_num, whole_den, scaled, mixture_of, with_amounts, AllZip, mixed, div_times, one_times, ring, times_assoc, times_cancel, times_one, times_plus, sum_over_map, sum_to_longer, sum_to_plus, sum_to_same, sum_to_zero, sum_over_same, sum_over_append, sum_over_times, probability-shares}
 use Rattle.dl_exact.specs.Prelude.{gcd, nought, read_as, sum_over, sum_to}
-use Rattle.dl_exact.proofs.Laws.{div_times, one_times, ring, times_assoc, times_cancel, times_one, times_plus}
 use Rattle.dl_exact.proofs.Over.{same}
-use Rattle.dl_exact.proofs.Sums.{sum_over_map, sum_to_longer, sum_to_plus, sum_to_same, sum_to_zero, sum_over_same, sum_over_append, sum_over_times}
-use Rattle.dl_plan.proofs.Shares.{probability-shares}
 use Rattle.dl_plan.proofs.Means.{severity_total as total_pos}
 
 -- ---- a sum over pairs, by amounts

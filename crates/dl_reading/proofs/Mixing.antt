@@ -1,7 +1,6 @@
 -- The severities of the atoms, and their mixture, mean what the text says.
-use Rattle.dl_reading.proofs.Common.{◌≡◌, ◌∙◌, ℕ, ◌+◌, ◌<◌, List, [], ◌∷◌, ◌++◌, map, zip, length, take, get_or, sym, ap, subst, AllZip, All, ◌∣◌, length-map, map_more, Fraction, ◌over◌, Sev, common_denominator, Pairs, probability, HasDistribution, den_divides, Weights, IsWeighing, weighed, mixture, mixed, shares_in_mixture, ◌≤◌}
+use Rattle.dl_reading.proofs.Common.{◌≡◌, ◌∙◌, ℕ, ◌+◌, ◌<◌, List, [], ◌∷◌, ◌++◌, map, zip, length, take, get_or, sym, ap, subst, AllZip, All, ◌∣◌, length-map, map_more, Fraction, ◌over◌, Sev, common_denominator, Pairs, probability, HasDistribution, den_divides, Weights, IsWeighing, weighed, mixture, mixed, shares_in_mixture, ◌≤◌, seconds, weighed-back}
 use Rattle.std.proofs.lemmas.Slice.Zip.{all_zipped_more, AllZip-long, firsts-zip as zipped_firsts, seconds-zip as zipped_seconds}
-use Rattle.dl_severity.proofs.Mixed.{seconds, weighed-back}
 use Rattle.dl_reading.proofs.Shared.{fine_with}
 use Rattle.dl_reading.proofs.Meaning.{mixture_alike}
 use Rattle.dl_reading.proofs.Items.{mixture_products}

@@ -1,19 +1,6 @@
 -- How large the amounts of a severity are, and how many there are.
-use Rattle.dl_reading.proofs.Common.{◌==◌, amounts_of, ℕ, ◌≡◌, ◌*◌, ◌/◌, ◌≤◌, List, [], ◌∷◌, map, filter, zip, length, get_or, nat_lt, Option, Some, None, Bool, true, cond, refl, sym, subst, arith, All, length-map, All-nil, All-head, All-tail, All-weaker, All-append, All-map, Fraction, ◌*ℚ◌, IsWhole, Item, Sev, Pairs, conditioned, HasDistribution, Clause, layer, kept, IsClause, whole_num, scaled, with_amounts, layered, ceded_each, GridSev, GridLayer, atom_probs, atom_pairs, mixed, mixed_pairs, weights_of, is_conditioned, layer_pairs, support, GridAtom, IsGridSev, IsSevWithin, most_values, sum_by, sum_by-cons}
-use Rattle.std.proofs.Common.{length-append}
-use Rattle.std.specs.Cmp.{IsEquivalence}
-use Rattle.std.specs.Set.{is_member}
-use Rattle.std.proofs.lemmas.Bool.Decides.{Decides-eqb, nat_tests}
-use Rattle.std.proofs.lemmas.Map.Made.{All-is_member, is_member-Decides, IsDistinct-from_AllPairs, length-le_from_is_member}
-use Rattle.std.proofs.lemmas.List.Kept.{AllPairs-from_increasing}
+use Rattle.dl_reading.proofs.Common.{◌==◌, amounts_of, ℕ, ◌≡◌, ◌*◌, ◌/◌, ◌≤◌, List, [], ◌∷◌, map, filter, zip, length, get_or, nat_lt, Option, Some, None, Bool, true, cond, refl, sym, subst, arith, All, length-map, All-nil, All-head, All-tail, All-weaker, All-append, All-map, Fraction, ◌*ℚ◌, IsWhole, Item, Sev, Pairs, conditioned, HasDistribution, Clause, layer, kept, IsClause, whole_num, scaled, with_amounts, layered, ceded_each, GridSev, GridLayer, atom_probs, atom_pairs, mixed, mixed_pairs, weights_of, is_conditioned, layer_pairs, support, GridAtom, IsGridSev, IsSevWithin, most_values, sum_by, sum_by-cons, length-append, IsEquivalence, is_member, Decides-eqb, nat_tests, All-is_member, is_member-Decides, IsDistinct-from_AllPairs, length-le_from_is_member, AllPairs-from_increasing, cond_both, All-contains, All-filter, count_by-le-length, length-filter, get_or-zip, length-zip, kept_parts, parts_in_bucket, layer_le, kept_whole, kept_only, kept_le}
 use Rattle.std.proofs.Math.Nat.{div-le_of_le-mul, le_refl, le_trans}
-use Rattle.std.proofs.lemmas.Bool.{cond_both}
-use Rattle.std.proofs.lemmas.List.Elements.{All-contains, All-filter}
-use Rattle.std.proofs.lemmas.List.Sums.{count_by-le-length, length-filter}
-use Rattle.std.proofs.lemmas.Slice.Zip.{get_or-zip, length-zip}
-use Rattle.dl_plan.specs.Parts.{kept_parts, parts_in_bucket}
-use Rattle.dl_plan.proofs.Clauses.{layer_le, kept_whole, kept_only}
-use Rattle.dl_plan.proofs.Apart.{kept_le}
 use Rattle.dl_reading.proofs.Items.{items_in, support_all}
 use Rattle.dl_reading.proofs.Positive.{is_positive, support-mapped}
 

@@ -1,11 +1,6 @@
 -- Whether the clauses of a unit map whole amounts to whole amounts.
-use Rattle.dl_reading.proofs.Common.{ℕ, ◌+◌, ◌≡◌, ◌∙◌, ◌<◌, ◌++◌, map, take, drop, length, get_or, true, false, List, Option, Some, None, refl, sym, ap, subst, list_any, MatchOption, Fraction, whole, GridClause, IsWhole, Clause, kept, whole_num, is_fine, clause_of, made_of, shares_of, is_off, is_off_multiples, ceded_pairs, support, Pairs, common_amount_of, has_shares, else_first, else_second, not_at, most_parts}
-use Rattle.std.proofs.lemmas.List.{get_or_default}
-use Rattle.std.proofs.Math.ListN.{set}
-use Rattle.std.proofs.lemmas.List.Edits.{map_over_more}
-use Rattle.dl_reading.specs.declared.made.MadeClause.{MadeClause}
+use Rattle.dl_reading.proofs.Common.{ℕ, ◌+◌, ◌≡◌, ◌∙◌, ◌<◌, ◌++◌, map, take, drop, length, get_or, true, false, List, Option, Some, None, refl, sym, ap, subst, list_any, MatchOption, Fraction, whole, GridClause, IsWhole, Clause, kept, whole_num, is_fine, clause_of, made_of, shares_of, is_off, is_off_multiples, ceded_pairs, support, Pairs, common_amount_of, has_shares, else_first, else_second, not_at, most_parts, get_or_default, set, map_over_more, MadeClause, off_grid_sums, off_grid_amounts}
 use Rattle.dl_reading.specs.declared.made.MadeClause.TheVariants.{Whole}
-use Rattle.dl_reading.specs.Rules.{off_grid_sums, off_grid_amounts}
 use Rattle.dl_reading.proofs.Positive.{support-mapped}
 
 -- ---- one amount after another

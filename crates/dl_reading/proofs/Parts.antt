@@ -1,8 +1,5 @@
 -- What a unit in whole buckets keeps of its lists.
-use Rattle.dl_reading.proofs.Common.{◌≡◌, ℕ, ◌<◌, ◌==◌, length, not, Option, Some, None, arith, IfSome, eqb-true, ◌over◌, Shares, at_if, within, not_at, not-false, GridUnit, probs_among, IsSevWeighted}
-use Rattle.std.proofs.lemmas.List.{length-replicate}
-use Rattle.dl_reading.specs.Rules.{weights_differ}
-use Rattle.dl_reading.specs.CheckedUnit.{IsWeighted}
+use Rattle.dl_reading.proofs.Common.{◌≡◌, ℕ, ◌<◌, ◌==◌, length, not, Option, Some, None, arith, IfSome, eqb-true, ◌over◌, Shares, at_if, within, not_at, not-false, GridUnit, probs_among, IsSevWeighted, length-replicate, weights_differ, IsWeighted}
 
 -- a list of so many probabilities has one for each number below
 pub among_inside : (o : Option Shares) (n i : ℕ) → length (probs_among n o) ≡ n → i < n

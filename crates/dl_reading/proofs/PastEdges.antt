@@ -1,15 +1,6 @@
 -- Past its greatest edge a clause's map is a straight line: what that makes of the multiples of a step.
-use Rattle.dl_reading.proofs.Common.{◌↔◌, length, get_or, ℕ, zero, suc, ◌≡◌, ◌∙◌, ◌+◌, ◌*◌, ◌/◌, ◌<◌, ◌≤◌, ◌==◌, ◌⊎◌, not, Bool, true, false, Option, Some, None, sym, ap, subst, arith, inl, inr, All, MatchOption, cases_lt, eqb-true, ne_eqb, not-false, list_any_none, Fraction, whole, IsWhole, Clause, kept, IsClause, whole_den, is_whole, is_off, is_off_multiples}
+use Rattle.dl_reading.proofs.Common.{◌↔◌, length, get_or, ℕ, zero, suc, ◌≡◌, ◌∙◌, ◌+◌, ◌*◌, ◌/◌, ◌<◌, ◌≤◌, ◌==◌, ◌⊎◌, not, Bool, true, false, Option, Some, None, sym, ap, subst, arith, inl, inr, All, MatchOption, cases_lt, eqb-true, ne_eqb, not-false, list_any_none, Fraction, whole, IsWhole, Clause, kept, IsClause, whole_den, is_whole, is_off, is_off_multiples, range_with_len, not_from_false, eq-zero-or-pos, greatest_edge, length-range_with_len, get_or-range_with_len, edge, attach_le, edges_from, IsClear, on_line}
 use Rattle.std.proofs.Common.{is_some, mul-le-mul_right}
-use Rattle.std.specs.List.{range_with_len}
-use Rattle.std.proofs.lemmas.Bool.{not_from_false}
-use Rattle.std.proofs.Math.Nat.{eq-zero-or-pos}
-use Rattle.dl_reading.specs.Clauses.{greatest_edge}
-use Rattle.std.proofs.lemmas.List.FromFn.{length-range_with_len, get_or-range_with_len}
-use Rattle.dl_plan.specs.Horizon.{edge}
-use Rattle.dl_plan.proofs.Horizons.{attach_le, edges_from}
-use Rattle.dl_plan.proofs.Straight.{IsClear}
-use Rattle.dl_severity.proofs.Lattices.{on_line}
 use Rattle.dl_reading.proofs.Values.{never}
 
 -- past the greatest edge the map does not bend

@@ -1,13 +1,7 @@
 -- The amounts of positive probability, step by step.
-use Rattle.dl_reading.proofs.Common.{◌≡◌, ◌∙◌, ℕ, ◌+◌, ◌<◌, ◌≤◌, ◌&&◌, List, [], ◌∷◌, ◌++◌, map, filter, zip, length, take, get_or, nat_lt, Bool, true, false, Option, Some, None, cond, refl, sym, ap, ap₂, subst, arith, inl, inr, append_assoc, All, lt-ltb, le-ltb, map-append, map_more, take_more, take_all, length-map, append-nil, list_any_none, All-nil, All-cons, All-head, All-tail, All-weaker, Fraction, whole, ◌*ℚ◌, ◌/ℚ◌, ◌≤ℚ◌, ◌<ℚ◌, zero_or_pos, times_zero, zero_times, lt_of_lt_of_le, le_plus, plus_comm, num_pos, whole_num, Pairs, mass, conditioned, layer, scaled, with_amounts, layered, GridSev, GridLayer, GridUnit, mixed, mixed_pairs, is_conditioned, layer_pairs, support}
-use Rattle.std.proofs.lemmas.Bool.{cases_Bool}
-use Rattle.std.proofs.lemmas.List.{length-take-le}
-use Rattle.std.proofs.lemmas.Slice.Zip.{get_or-zip, length-zip}
-use Rattle.std.proofs.lemmas.List.Elements.{filter-append}
-use Rattle.std.proofs.lemmas.Simd.{map-map}
+use Rattle.dl_reading.proofs.Common.{◌≡◌, ◌∙◌, ℕ, ◌+◌, ◌<◌, ◌≤◌, ◌&&◌, List, [], ◌∷◌, ◌++◌, map, filter, zip, length, take, get_or, nat_lt, Bool, true, false, Option, Some, None, cond, refl, sym, ap, ap₂, subst, arith, inl, inr, append_assoc, All, lt-ltb, le-ltb, map-append, map_more, take_more, take_all, length-map, append-nil, list_any_none, All-nil, All-cons, All-head, All-tail, All-weaker, Fraction, whole, ◌*ℚ◌, ◌/ℚ◌, ◌≤ℚ◌, ◌<ℚ◌, zero_or_pos, times_zero, zero_times, lt_of_lt_of_le, le_plus, plus_comm, num_pos, whole_num, Pairs, mass, conditioned, layer, scaled, with_amounts, layered, GridSev, GridLayer, GridUnit, mixed, mixed_pairs, is_conditioned, layer_pairs, support, cases_Bool, length-take-le, get_or-zip, length-zip, filter-append, map-map, none_above}
 use Rattle.dl_exact.specs.Sum.{sum_over}
 use Rattle.dl_exact.proofs.Laws.{times_pos, div_pos, le_trans}
-use Rattle.dl_reading.specs.Rules.{none_above}
 use Rattle.dl_reading.proofs.Meaning.{above, div_as_times}
 
 abbrev pub is_positive : Fraction → Bool

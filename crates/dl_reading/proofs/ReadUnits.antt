@@ -1,8 +1,5 @@
 -- A unit that is read, by its parts.
-use Rattle.dl_reading.proofs.Common.{ℕ, ◌≡◌, Option, arith, Fraction, IsRead, GridUnit, GridLayer, GridSev, GridClause, earlier_flaws, flaws_else, grid_layer, grid_clause, Flaws, Gridded, IsReadTo, flaws_within, count_with, freq_of, given_zero, grid_with, flaws_of_count, flaws_of_distribution, flaws_of_layer, flaws_of_clause, flaws_with, is_named, if_there, Bounds}
-use Rattle.dl_ast.specs.declared.ast.UnitAst.{UnitAst}
-use Rattle.dl_reading.specs.declared.grid.GridFreq.{GridFreq}
-use Rattle.dl_reading.specs.declared.grid.GridCount.{GridCount}
+use Rattle.dl_reading.proofs.Common.{ℕ, ◌≡◌, Option, arith, Fraction, IsRead, GridUnit, GridLayer, GridSev, GridClause, earlier_flaws, flaws_else, grid_layer, grid_clause, Flaws, Gridded, IsReadTo, flaws_within, count_with, freq_of, given_zero, grid_with, flaws_of_count, flaws_of_distribution, flaws_of_layer, flaws_of_clause, flaws_with, is_named, if_there, Bounds, UnitAst, GridFreq, GridCount}
 use Rattle.dl_reading.proofs.Agreeing.{pair, read_both, read_earlier, read_longer}
 use Rattle.dl_reading.proofs.Clean.{clean_first, clean_second}
 

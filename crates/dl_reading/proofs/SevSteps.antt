@@ -1,11 +1,5 @@
 -- Each step of a severity that is not refused gives one.
-use Rattle.dl_reading.proofs.Common.{ℕ, ◌≡◌, ◌∙◌, ◌<◌, ◌≤◌, ◌^◌, List, map, length, nat_lt, refl, sym, ap, subst, arith, inl, inr, All, length-map, whole, ◌over◌, Item, Sev, IsFineTo40Bits, weight_sum, weight_at, Pairs, pairs_of, conditioned, probability, HasDistribution, Weights, sum_of, IsWeighing, with_amounts}
-use Rattle.std.proofs.Math.Nat.{eq-zero-or-pos}
-use Rattle.dl_severity.specs.Steps.{items_of, with_amount}
-use Rattle.dl_severity.proofs.Mixed.{firsts, seconds, weighed-back}
-use Rattle.std.proofs.lemmas.List.Elements.{All-filter}
-use Rattle.dl_plan.proofs.Weights.{weight_sum_pos}
-use Rattle.dl_plan.proofs.Shares.{items_over, none_over, probability-conditioned, weight_over-le}
+use Rattle.dl_reading.proofs.Common.{ℕ, ◌≡◌, ◌∙◌, ◌<◌, ◌≤◌, ◌^◌, List, map, length, nat_lt, refl, sym, ap, subst, arith, inl, inr, All, length-map, whole, ◌over◌, Item, Sev, IsFineTo40Bits, weight_sum, weight_at, Pairs, pairs_of, conditioned, probability, HasDistribution, Weights, sum_of, IsWeighing, with_amounts, eq-zero-or-pos, items_of, with_amount, firsts, seconds, weighed-back, All-filter, weight_sum_pos, items_over, none_over, probability-conditioned, weight_over-le}
 use Rattle.dl_plan.proofs.Means.{severity_total as total_pos}
 use Rattle.dl_severity.proofs.Mapped.{weight_sum-items, probability-weighed, mapped_sum, mapped_means}
 use Rattle.dl_reading.proofs.Shared.{over_common, weighing}

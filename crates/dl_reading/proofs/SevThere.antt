@@ -1,7 +1,5 @@
 -- A unit whose fractions are fine has a final severity.
-use Rattle.dl_reading.proofs.Common.{ℕ, ◌≡◌, ◌∙◌, ◌≤◌, List, [], ◌∷◌, map, length, Bool, true, false, cond, Option, Some, None, refl, sym, subst, All, AllZip, length-map, All-head, All-tail, whole, Item, Sev, Weights, IsWeighing, IsFineTo40Bits, Pairs, conditioned, HasDistribution, layer, kept, sum_of, mixture, with_amounts, GridAtom, GridLayer, GridClause, GridUnit, clause_of, atom_probs, atom_pairs, weights_of, mixed_pairs, is_conditioned, layer_pairs, severity_in_layer, ceded_pairs, final_severity, IsGridAtom, IsSevWithin, IsSevWeighted, AreProbabilities, Bounds, most_weights}
-use Rattle.dl_reading.specs.CheckedUnit.{IsFineSev}
-use Rattle.dl_severity.proofs.Mixed.{mixture_one}
+use Rattle.dl_reading.proofs.Common.{ℕ, ◌≡◌, ◌∙◌, ◌≤◌, List, [], ◌∷◌, map, length, Bool, true, false, cond, Option, Some, None, refl, sym, subst, All, AllZip, length-map, All-head, All-tail, whole, Item, Sev, Weights, IsWeighing, IsFineTo40Bits, Pairs, conditioned, HasDistribution, layer, kept, sum_of, mixture, with_amounts, GridAtom, GridLayer, GridClause, GridUnit, clause_of, atom_probs, atom_pairs, weights_of, mixed_pairs, is_conditioned, layer_pairs, severity_in_layer, ceded_pairs, final_severity, IsGridAtom, IsSevWithin, IsSevWeighted, AreProbabilities, Bounds, most_weights, IsFineSev, mixture_one}
 use Rattle.dl_reading.proofs.Parts.{sev_weighted}
 use Rattle.dl_reading.proofs.Mixing.{seconds-zip, pair_length, weights_length, mixture_means, mixture_fine as products_fine}
 use Rattle.dl_reading.proofs.Meaning.{conditioned_means, mapped_means}

@@ -1,21 +1,5 @@
 -- Fine probabilities that sum to 1, and their whole weights.
-use Rattle.dl_reading.proofs.Common.{most_values, leb-true, le-leb, eqb-true, false_from_ne_true, ◌≡◌, ◌≢◌, ◌∙◌, ℕ, zero, suc, ◌<◌, ◌≤◌, ◌^◌, List, [], ◌∷◌, ◌++◌, map, length, true, false, Some, None, inl, inr, refl, sym, ap, ap₂, subst, arith, All, ◌∣◌, MatchOption, All-head, All-tail, Fraction, whole, ◌over◌, over_self, over_same, whole_num, whole_den, IsFineTo40Bits, common_denominator, common_pos, den_divides, sum_of, Weights, IsWeighing, Span, at_if, Shares, is_fine, is_one, is_not_one, weights_over, IsShares, AreProbabilities, Bool, ◌&&◌, are_fine, and_parts, most_weights}
-use Rattle.std.specs.Prelude.{nat_le, replicate}
-use Rattle.std.proofs.Math.Bool.{and-false, and-true}
-use Rattle.std.proofs.lemmas.Bool.{cases_Bool}
-use Rattle.std.proofs.lemmas.List.{drop_at, get_or-replicate, length-replicate, take_at}
-use Rattle.std.proofs.lemmas.List.Elements.{All-drop, All-replicate, All-take}
-use Rattle.std.proofs.lemmas.List.Folds.{sum_by-replicate}
-use Rattle.std.proofs.lemmas.Nat.Gcd.{dvd_of_mod-eq-zero, dvd_refl, le_of_dvd}
-use Rattle.dl_exact.specs.Multiples.{lcm}
-use Rattle.dl_exact.proofs.Denominators.{same_num}
-use Rattle.dl_exact.proofs.Parts.{lowest_den}
-use Rattle.dl_exact.proofs.Sums.{sum_over_map}
-use Rattle.dl_exact.proofs.SumsOver.{sum_over_common}
-use Rattle.dl_exact.proofs.Multiples.{lcm_least, lowest_by}
-use Rattle.dl_plan.specs.Fine.{numerator_over}
-use Rattle.dl_plan.proofs.CommonDenominators.{common_from}
-use Rattle.dl_severity.proofs.Sharing.{shares_back, sum_one, sum_map}
+use Rattle.dl_reading.proofs.Common.{most_values, leb-true, le-leb, eqb-true, false_from_ne_true, ◌≡◌, ◌≢◌, ◌∙◌, ℕ, zero, suc, ◌<◌, ◌≤◌, ◌^◌, List, [], ◌∷◌, ◌++◌, map, length, true, false, Some, None, inl, inr, refl, sym, ap, ap₂, subst, arith, All, ◌∣◌, MatchOption, All-head, All-tail, Fraction, whole, ◌over◌, over_self, over_same, whole_num, whole_den, IsFineTo40Bits, common_denominator, common_pos, den_divides, sum_of, Weights, IsWeighing, Span, at_if, Shares, is_fine, is_one, is_not_one, weights_over, IsShares, AreProbabilities, Bool, ◌&&◌, are_fine, and_parts, most_weights, nat_le, replicate, and-false, and-true, cases_Bool, drop_at, get_or-replicate, length-replicate, take_at, All-drop, All-replicate, All-take, sum_by-replicate, dvd_of_mod-eq-zero, dvd_refl, le_of_dvd, lcm, same_num, lowest_den, sum_over_map, sum_over_common, lcm_least, lowest_by, numerator_over, common_from, shares_back, sum_one, sum_map}
 
 -- ---- common denominators
 

@@ -1,9 +1,6 @@
 -- The values of a list whose numerals and ranges are good.
-use Rattle.dl_reading.proofs.Common.{ℕ, ◌≡◌, ◌∙◌, ◌<◌, ◌≤◌, List, [], ◌∷◌, map, flat_map, length, take, get_or, false, Option, Some, None, refl, sym, ap, subst, arith, All, All-nil, All-cons, All-map, length-map, Fraction, Span, else_second, IsClean, flaws_else, HasPartsOf18Digits, IsRange, range_values, Range, Numeral, ListItem, ListAst, IsFormedItem, IsFormedList, Flaws, Gridded, IsReadTo, AgreeToFirst, AreNone, spans, flaws_in, flaws_within, range_at, long_at, flaws_of_numeral, flaws_of_item, flaws_of_list, range_of, spanned_range, spanned_in, spanned_item, spanned_values, AreTooMany, Bounds, ◌+◌}
+use Rattle.dl_reading.proofs.Common.{ℕ, ◌≡◌, ◌∙◌, ◌<◌, ◌≤◌, List, [], ◌∷◌, map, flat_map, length, take, get_or, false, Option, Some, None, refl, sym, ap, subst, arith, All, All-nil, All-cons, All-map, length-map, Fraction, Span, else_second, IsClean, flaws_else, HasPartsOf18Digits, IsRange, range_values, Range, Numeral, ListItem, ListAst, IsFormedItem, IsFormedList, Flaws, Gridded, IsReadTo, AgreeToFirst, AreNone, spans, flaws_in, flaws_within, range_at, long_at, flaws_of_numeral, flaws_of_item, flaws_of_list, range_of, spanned_range, spanned_in, spanned_item, spanned_values, AreTooMany, Bounds, ◌+◌, flat_map-map, length-flat_map-take, ExpandFault, TooLong, OutOfMemory}
 use Rattle.std.specs.Prelude.{is_some}
-use Rattle.std.proofs.lemmas.List.Folds.{flat_map-map, length-flat_map-take}
-use Rattle.dl_severity.specs.declared.fault.ExpandFault.{ExpandFault}
-use Rattle.dl_severity.specs.declared.fault.ExpandFault.TheVariants.{TooLong, OutOfMemory}
 use Rattle.dl_reading.proofs.Firsts.{passes_limit, keeps_limit}
 use Rattle.dl_reading.proofs.Agreeing.{agree_else, agree_same, keeps_first, keeps_second, flaws_none}
 use Rattle.dl_reading.proofs.ItemRanges.{item_is, item_modest, all_joined, enough}

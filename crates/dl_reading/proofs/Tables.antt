@@ -1,12 +1,5 @@
 -- Items in any order give a severity: equal amounts are added up, rising.
-use Rattle.dl_reading.proofs.Common.{ℕ, zero, suc, ◌≡◌, ◌∙◌, ◌+◌, ◌/◌, ◌<◌, ◌≤◌, ◌^◌, ◌==◌, List, [], ◌∷◌, map, length, cond, refl, sym, ap₂, subst, arith, inl, inr, All, All-nil, eqb_tells, nat_tests, sum_by-cons, ◌over◌, Item, Sev, amounts_of, weight_sum, weight_at}
-use Rattle.std.specs.List.Sorted.{IsStrictlyIncreasing}
-unfoldable use Rattle.dl_exact.specs.Count.{count_below}
-use Rattle.dl_exact.proofs.Counts.{below_none, below_plus, below_same}
-use Rattle.dl_plan.specs.Prelude.{common_weight, divided_by, probability_of}
-use Rattle.dl_plan.proofs.Weights.{divided_is, divided_means}
-use Rattle.dl_severity.specs.Steps.{with_weighed}
-use Rattle.dl_severity.proofs.Gathering.{rising-with, positive-with, below-with, weight_sum-with, weight_at-with, some_items}
+use Rattle.dl_reading.proofs.Common.{ℕ, zero, suc, ◌≡◌, ◌∙◌, ◌+◌, ◌/◌, ◌<◌, ◌≤◌, ◌^◌, ◌==◌, List, [], ◌∷◌, map, length, cond, refl, sym, ap₂, subst, arith, inl, inr, All, All-nil, eqb_tells, nat_tests, sum_by-cons, ◌over◌, Item, Sev, amounts_of, weight_sum, weight_at, IsStrictlyIncreasing, count_below, below_none, below_plus, below_same, common_weight, divided_by, probability_of, divided_is, divided_means, with_weighed, rising-with, positive-with, below-with, weight_sum-with, weight_at-with, some_items}
 
 abbrev at_amount : List Item → ℕ → Item
 at_amount items n = record { amount = n; weight = weight_at items n }

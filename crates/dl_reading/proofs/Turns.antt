@@ -1,9 +1,5 @@
 -- Layers that are looked at beside those before them.
-use Rattle.dl_reading.proofs.Common.{◌≡◌, ◌∙◌, ℕ, ◌+◌, ◌<◌, ◌≤◌, List, [], length, take, drop, get_or, Option, Some, None, true, refl, sym, ap₂, arith, max, take_more, list_any, nat_tests, Span, CedeLayer, Overlap, GridCeded, ◌else◌, at_if, in_turn, overlaps, ceded_layer, share_exceeds}
-use Rattle.std.proofs.lemmas.List.{at_drop_all, at_drop_more}
-use Rattle.dl_plan.specs.Clause.{IsBelowTop}
-use Rattle.dl_reading.specs.Clauses.{is_below_top}
-use Rattle.std.proofs.lemmas.Bool.{and_from}
+use Rattle.dl_reading.proofs.Common.{◌≡◌, ◌∙◌, ℕ, ◌+◌, ◌<◌, ◌≤◌, List, [], length, take, drop, get_or, Option, Some, None, true, refl, sym, ap₂, arith, max, take_more, list_any, nat_tests, Span, CedeLayer, Overlap, GridCeded, ◌else◌, at_if, in_turn, overlaps, ceded_layer, share_exceeds, at_drop_all, at_drop_more, IsBelowTop, is_below_top, and_from}
 
 abbrev pub overlap_at : List GridCeded → GridCeded → Option Span
 overlap_at before l = at_if (list_any (λ m. overlaps (ceded_layer m) (ceded_layer l)) before) l.layer.span

@@ -1,17 +1,8 @@
 -- Wider bounds: a unit that keeps the rules by some bounds, and whose fractions are fine by them, keeps them by wider
 -- ones, and its fractions are fine by those too.
-use Rattle.dl_reading.proofs.Common.{ℕ, ◌≡◌, ◌≤◌, ◌&&◌, ◌||◌, Bool, true, false, not, nat_lt, ◌==◌, List, [], ◌∷◌, length, map, Option, Some, None, refl, sym, ap, ◌∙◌, arith, nat_tests, All, All-head, All-tail, sum_by, Fraction, Span, at_if, ◌else◌, is_fine, are_fine, is_not_one, sum_of, is_one, common_denominator, probs_among, Flaws, AreNone, IsClean, spans, flaws_else, flaws_in, flaws_within, earlier_flaws, long_at, lengths_at, sum_at, flaws_of_item, flaws_of_list, flaws_of_amount, flaws_of_amounts, flaws_of_shares, flaws_beside, flaws_of_atom, flaws_of_mixture, flaws_of_count, flaws_of_distribution, flaws_of_layer, flaws_of_clause, is_named, is_long_mixture, values_in, spanned_values, values_of, if_there, most_atoms, most_values, and_parts, GridSev, GridUnit, GridAtom, grid_atom, grid_mixture, grid_shares, grid_count, atom_probs, weights_of, mixture_shares, has_probs, has_severity, has_shares, ListAst, Atom, MixAst, Bounds}
-use Rattle.std.specs.Prelude.{⊤, nat_le}
-use Rattle.std.specs.List.{list_all}
-use Rattle.dl_limits.specs.Rules.{AreWithin}
-use Rattle.dl_ast.specs.declared.ast.CountAst.{CountAst}
+use Rattle.dl_reading.proofs.Common.{ℕ, ◌≡◌, ◌≤◌, ◌&&◌, ◌||◌, Bool, true, false, not, nat_lt, ◌==◌, List, [], ◌∷◌, length, map, Option, Some, None, refl, sym, ap, ◌∙◌, arith, nat_tests, All, All-head, All-tail, sum_by, Fraction, Span, at_if, ◌else◌, is_fine, are_fine, is_not_one, sum_of, is_one, common_denominator, probs_among, Flaws, AreNone, IsClean, spans, flaws_else, flaws_in, flaws_within, earlier_flaws, long_at, lengths_at, sum_at, flaws_of_item, flaws_of_list, flaws_of_amount, flaws_of_amounts, flaws_of_shares, flaws_beside, flaws_of_atom, flaws_of_mixture, flaws_of_count, flaws_of_distribution, flaws_of_layer, flaws_of_clause, is_named, is_long_mixture, values_in, spanned_values, values_of, if_there, most_atoms, most_values, and_parts, GridSev, GridUnit, GridAtom, grid_atom, grid_mixture, grid_shares, grid_count, atom_probs, weights_of, mixture_shares, has_probs, has_severity, has_shares, ListAst, Atom, MixAst, Bounds, ⊤, nat_le, list_all, AreWithin, CountAst, UnitAst, GridCount, fractions_too_fine, grid_of, flaws_of}
 use Rattle.dl_ast.specs.declared.ast.CountAst.TheVariants.{Exposed, Listed}
-use Rattle.dl_ast.specs.declared.ast.UnitAst.{UnitAst}
-use Rattle.dl_reading.specs.declared.grid.GridCount.{GridCount}
 use Rattle.dl_reading.specs.declared.grid.GridCount.TheVariants as counts
-use Rattle.dl_reading.specs.FineParts.{fractions_too_fine}
-unfoldable use Rattle.dl_reading.specs.Grid.{grid_of}
-unfoldable use Rattle.dl_reading.specs.Reading.{flaws_of}
 use Rattle.dl_reading.proofs.Agreeing.{zip_else}
 use Rattle.dl_reading.proofs.Clean.{clean_both, clean_each, clean_earlier, clean_first}
 use Rattle.dl_reading.proofs.Firsts.{keeps_limit}

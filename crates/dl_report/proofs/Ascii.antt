@@ -1,6 +1,5 @@
 -- Digits are written in ASCII.
-use Rattle.dl_report.proofs.Common.{ℕ, ◌+◌, ◌<◌, ◌^◌, ◌/◌, ◌%◌, zero, suc, [], ◌∷◌, ◌++◌, arith, codes, IsAscii-append, decimal, IsAscii, with_digits, last_digits}
-use Rattle.std.proofs.lemmas.Str.Ascii.{IsAscii-nil}
+use Rattle.dl_report.proofs.Common.{ℕ, ◌+◌, ◌<◌, ◌^◌, ◌/◌, ◌%◌, zero, suc, [], ◌∷◌, ◌++◌, arith, codes, IsAscii-append, decimal, IsAscii, with_digits, last_digits, IsAscii-nil}
 
 pub one_ascii : (byte : ℕ) → byte < 128 → IsAscii (byte ∷ [])
 one_ascii byte h zero = h

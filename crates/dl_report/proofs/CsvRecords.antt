@@ -1,7 +1,5 @@
 -- The text of a record of three fields is that of the crate `csv`.
-use Rattle.dl_report.proofs.Common.{◌≡◌, ◌∙◌, ℕ, Bool, true, false, refl, ap, ap₂, List, [], ◌∷◌, ◌++◌, append_assoc, ◌==◌, ◌||◌, if◌then◌else◌, list_any, row_text, calls_for_quotes, doubled, field, record_text}
-use Rattle.std.proofs.Common.{append-nil, eqb-true}
-use Rattle.csv.specs.Writing.{default_writer, escaped, field_text, fields_text, is_blank, needs_byte, needs_quotes}
+use Rattle.dl_report.proofs.Common.{◌≡◌, ◌∙◌, ℕ, Bool, true, false, refl, ap, ap₂, List, [], ◌∷◌, ◌++◌, append_assoc, ◌==◌, ◌||◌, if◌then◌else◌, list_any, row_text, calls_for_quotes, doubled, field, record_text, append-nil, eqb-true, default_writer, escaped, field_text, fields_text, is_blank, needs_byte, needs_quotes}
 
 same_byte : (b : ℕ) → needs_byte default_writer b ≡ calls_for_quotes b
 same_byte b = go (b == 44) (b == 34) (b == 13) (b == 10)

@@ -1,7 +1,5 @@
 -- The last decimal digits of a number, one after another.
-use Rattle.std.proofs.Common.{◌*◌}
-use Rattle.std.proofs.Math.Nat.{add-mul-div_left, add-mul-mod_self_left, mod-add-div, pow-succ'}
-use Rattle.dl_report.proofs.Common.{ℕ, ◌≡◌, ◌+◌, ◌-◌, ◌/◌, ◌%◌, ◌^◌, ◌<◌, ◌∙◌, zero, suc, ◌∷◌, ap, sym, arith, refl, one-le-pow, last_digits}
+use Rattle.dl_report.proofs.Common.{ℕ, ◌≡◌, ◌+◌, ◌-◌, ◌/◌, ◌%◌, ◌^◌, ◌<◌, ◌∙◌, zero, suc, ◌∷◌, ap, sym, arith, refl, one-le-pow, last_digits, ◌*◌, add-mul-div_left, add-mul-mod_self_left, mod-add-div, pow-succ'}
 
 -- the next of them, and those behind it
 pub next_digit : (n count done : ℕ) → done < count

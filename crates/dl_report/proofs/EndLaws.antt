@@ -1,20 +1,5 @@
 -- An end is told by its text.
-use Rattle.dl_report.proofs.Common.{ℕ, ◌≡◌, ◌≢◌, true, false, ◌∙◌, ◌+◌, ◌/◌, ◌%◌, ◌^◌, ◌<◌, zero, suc, List, [], ◌∷◌, ◌++◌, refl, sym, ap, ap₂, subst, length, get_or, All, arith, codes, append_assoc, length-append, leb-true, one-le-pow, All-append, All-push, All-weaker, decimal, last_digits, with_digits, end_text, IsPlainByte, low_plain}
-use Rattle.std.proofs.Common.{◌*◌, ◌≤◌}
-use Rattle.std.specs.Prelude.{nat_le, ◌&&◌}
-use Rattle.std.proofs.lemmas.Bool.{and_from, both_ways, le-leb}
-use Rattle.std.proofs.Math.Arith.{mod-mul}
-use Rattle.std.proofs.Math.ListN.{get_or-append}
-use Rattle.std.proofs.Math.Nat.{div-le_self, div-add-mod, mod-one, pow-succ'}
-use Rattle.std.proofs.Math.Seq.{get_or-append_seam}
-use Rattle.std.proofs.lemmas.Fmt.{decimal_by_steps_wide, decimal_is_IsNumeral_wide}
-use Rattle.std.proofs.lemmas.List.Elements.{All-nil, All-cons}
-use Rattle.std.proofs.lemmas.List.Sums.{AllPass-from_list_all}
-use Rattle.std.specs.Str.Parse.{digits_value}
-use Rattle.dl_plan.proofs.PlainBytes.{high_plain}
-use Rattle.dl_report.specs.Plain.{IsInRange}
-use Rattle.dl_report.specs.declared.report.End.{End}
-use Rattle.dl_report.specs.declared.report.End.TheVariants.{Number, Whole, Beyond, Absent}
+use Rattle.dl_report.proofs.Common.{ℕ, ◌≡◌, ◌≢◌, true, false, ◌∙◌, ◌+◌, ◌/◌, ◌%◌, ◌^◌, ◌<◌, zero, suc, List, [], ◌∷◌, ◌++◌, refl, sym, ap, ap₂, subst, length, get_or, All, arith, codes, append_assoc, length-append, leb-true, one-le-pow, All-append, All-push, All-weaker, decimal, last_digits, with_digits, end_text, IsPlainByte, low_plain, ◌*◌, ◌≤◌, nat_le, ◌&&◌, and_from, both_ways, le-leb, mod-mul, get_or-append, div-le_self, div-add-mod, mod-one, pow-succ', get_or-append_seam, decimal_by_steps_wide, decimal_is_IsNumeral_wide, All-nil, All-cons, AllPass-from_list_all, digits_value, high_plain, IsInRange, End, Number, Whole, Beyond, Absent}
 use Rattle.dl_report.proofs.Parting.{parted}
 
 record IsDigit (byte : ℕ) : Type 0 where

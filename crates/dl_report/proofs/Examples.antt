@@ -1,9 +1,6 @@
 -- What no ask leads to, written by hand: a comma and quote marks in an ask, and the last digits of the greatest number.
-use Rattle.std.proofs.Common.{◌≡◌, refl}
+use Rattle.dl_report.proofs.Common.{◌≡◌, refl, Beyond, Absent, row_record, end_text, last_digits}
 use Rattle.std.specs.Prelude.{codes}
-use Rattle.dl_report.specs.declared.report.End.TheVariants.{Beyond, Absent}
-use Rattle.dl_report.specs.Records.{row_record}
-unfoldable use Rattle.dl_report.specs.Ends.{end_text, last_digits}
 
 quoted : row_record 6 (record { ask = codes "a,\"b"; low = Absent; high = Beyond }) ≡ codes "\"a,\"\"b\",-,beyond\n"
 unfolding end_text

@@ -1,9 +1,5 @@
 -- Lists written one behind the other: parts behind what was there before, and one more row.
-use Rattle.dl_report.proofs.Common.{◌≡◌, ◌∙◌, append_assoc, ◌++◌, ◌+◌, ◌<◌, ℕ, List, [], ◌∷◌, sym, ap, subst, length, take, get_or, flat_map, Row}
-use Rattle.std.proofs.Common.{add-one, ◌≤◌, Result, Ok, Err}
-use Rattle.std.specs.Prelude.{OnOk, if◌then◌else◌, is_ok}
-use Rattle.std.proofs.Math.Seq.{take-suc}
-use Rattle.std.proofs.lemmas.List.{flat_map_more, take_all}
+use Rattle.dl_report.proofs.Common.{◌≡◌, ◌∙◌, append_assoc, ◌++◌, ◌+◌, ◌<◌, ℕ, List, [], ◌∷◌, sym, ap, subst, length, take, get_or, flat_map, Row, add-one, ◌≤◌, Result, Ok, Err, OnOk, if◌then◌else◌, is_ok, take-suc, flat_map_more, take_all}
 
 pub three : (t a b c : List ℕ) → t ++ a ++ b ++ c ≡ t ++ (a ++ b ++ c)
 three t a b c = simp append_assoc

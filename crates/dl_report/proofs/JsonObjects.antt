@@ -1,8 +1,6 @@
 -- The text of a report's JSON is that of the crate `serde_json`.
-use Rattle.dl_report.proofs.Common.{◌≡◌, ◌∙◌, ℕ, true, false, refl, sym, ap, ap₂, List, [], ◌∷◌, ◌++◌, append_assoc, codes, map, ◌||◌, flat_map, quoted, items_of, compact_text, has_float, Fraction, end_text, fraction_text, json_of, row_object, with_commas, report_data, row_data, Report, Row}
+use Rattle.dl_report.proofs.Common.{◌≡◌, ◌∙◌, ℕ, true, false, refl, sym, ap, ap₂, List, [], ◌∷◌, ◌++◌, append_assoc, codes, map, ◌||◌, flat_map, quoted, items_of, compact_text, has_float, Fraction, end_text, fraction_text, json_of, row_object, with_commas, report_data, row_data, Report, Row, json_on_literals, items_have_float, items_text}
 use Rattle.std.proofs.Common.{decimal}
-use Rattle.json.proofs.OnLiterals.{json_on_literals}
-use Rattle.serde_json.specs.Written.{items_have_float, items_text}
 
 no_floats : (d : ℕ) (rows : List Row) → items_have_float (items_of (map (row_data d) rows)) ≡ false
 no_floats d [] = refl

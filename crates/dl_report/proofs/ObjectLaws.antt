@@ -1,9 +1,5 @@
 -- Rows are told by their JSON objects.
-use Rattle.dl_report.proofs.Common.{ℕ, ◌≡◌, ◌≢◌, ◌∙◌, ◌<◌, ◌^◌, false, List, [], ◌∷◌, ◌++◌, refl, sym, ap, ap₂, get_or, map, All, arith, codes, append_assoc, ne_eqb, append_cancel_left, All-head, All-tail, All-weaker, All-append, All-push, decimal, flat_map, ◌==◌, Fraction, end_text, fraction_text, json_of, row_object, with_commas, IsPlainByte, low_plain, IsPlain, Report, Row}
-use Rattle.std.proofs.Common.{inl, inr}
-use Rattle.std.proofs.lemmas.Bool.{cases_Bool, le-ltb}
-use Rattle.json.specs.Print.{escape, escape_byte}
-use Rattle.dl_frac.specs.Exact.{FitsFrac}
+use Rattle.dl_report.proofs.Common.{ℕ, ◌≡◌, ◌≢◌, ◌∙◌, ◌<◌, ◌^◌, false, List, [], ◌∷◌, ◌++◌, refl, sym, ap, ap₂, get_or, map, All, arith, codes, append_assoc, ne_eqb, append_cancel_left, All-head, All-tail, All-weaker, All-append, All-push, decimal, flat_map, ◌==◌, Fraction, end_text, fraction_text, json_of, row_object, with_commas, IsPlainByte, low_plain, IsPlain, Report, Row, inl, inr, cases_Bool, le-ltb, escape, escape_byte, FitsFrac}
 use Rattle.dl_report.proofs.EndLaws.{decimal_plain, end_told, end_plain}
 use Rattle.dl_report.proofs.Parting.{parted}
 use Rattle.dl_report.proofs.RowLaws.{no_comma, same_row}

@@ -1,6 +1,5 @@
 -- Rows are told by their lines, and by their records.
-use Rattle.dl_report.proofs.Common.{ℕ, ◌≡◌, ◌≢◌, ◌∙◌, List, [], ◌∷◌, ◌++◌, refl, sym, ap, ap₂, length, All, arith, codes, append_assoc, length-append, false, ne_eqb, All-head, All-tail, All-weaker, flat_map, list_any, if◌then◌else◌, end_text, line, calls_for_quotes, doubled, field, row_record, IsPlainByte, IsPlain, Row}
-use Rattle.std.proofs.lemmas.List.Folds.{list_any_none}
+use Rattle.dl_report.proofs.Common.{ℕ, ◌≡◌, ◌≢◌, ◌∙◌, List, [], ◌∷◌, ◌++◌, refl, sym, ap, ap₂, length, All, arith, codes, append_assoc, length-append, false, ne_eqb, All-head, All-tail, All-weaker, flat_map, list_any, if◌then◌else◌, end_text, line, calls_for_quotes, doubled, field, row_record, IsPlainByte, IsPlain, Row, list_any_none}
 use Rattle.dl_report.proofs.EndLaws.{end_told, end_plain}
 use Rattle.dl_report.proofs.Parting.{parted}
 

@@ -1,13 +1,5 @@
 -- Items put one after another: rising amounts, weights above 0, and the weights of all.
-use Rattle.dl_severity.proofs.Common.{ℕ, ◌≡◌, ◌∙◌, ◌+◌, ◌<◌, ◌≤◌, List, [], ◌∷◌, ◌++◌, length, get_or, take, true, false, cond, ◌==◌, refl, sym, ap, subst, arith, inl, inr, All, sum_by, cases_lt, map-append, get_or_default, All-push, All-nil, All-cons, All-tail, All-head, sum_by_more, Item, amounts_of, weight_sum, weight_at}
-use Rattle.std.proofs.Common.{◌≢◌, Bool, lt_trans}
-use Rattle.std.specs.List.{AllPairs}
-use Rattle.std.specs.List.Sorted.{IsStrictlyIncreasing, IsNonDecreasingBy}
-use Rattle.std.proofs.lemmas.Bool.{lt-ltb, le-ltb}
-use Rattle.std.proofs.lemmas.List.Kept.{AllPairs-from_increasing}
-use Rattle.std.proofs.lemmas.List.Quantifiers.{all_pairs_push}
-use Rattle.std.proofs.lemmas.List.Sums.{sum_by_push}
-use Rattle.dl_severity.specs.Steps.{with_weighed}
+use Rattle.dl_severity.proofs.Common.{ℕ, ◌≡◌, ◌∙◌, ◌+◌, ◌<◌, ◌≤◌, List, [], ◌∷◌, ◌++◌, length, get_or, take, true, false, cond, ◌==◌, refl, sym, ap, subst, arith, inl, inr, All, sum_by, cases_lt, map-append, get_or_default, All-push, All-nil, All-cons, All-tail, All-head, sum_by_more, Item, amounts_of, weight_sum, weight_at, ◌≢◌, Bool, lt_trans, AllPairs, IsStrictlyIncreasing, IsNonDecreasingBy, lt-ltb, le-ltb, AllPairs-from_increasing, all_pairs_push, sum_by_push, with_weighed}
 
 below_amounts : (xs : List Item) (b : ℕ) → All (λ (i : Item). i.amount < b) xs → All (λ n. n < b) (amounts_of xs)
 below_amounts [] b h = All-nil (λ n. n < b)

@@ -1,16 +1,5 @@
 -- Where the multiples just past each end of a layer are mapped to whole numbers, all multiples are.
-use Rattle.dl_severity.proofs.Common.{ℕ, zero, suc, ◌≡◌, ◌∙◌, ◌+◌, ◌-◌, ◌*◌, ◌%◌, ◌<◌, ◌≤◌, List, [], ◌∷◌, refl, sym, ap, subst, arith, inl, inr, All, ◌∣◌, cases_lt, All-nil, All-cons, All-head, All-tail, IsWhole, Clause, kept, whole_den}
-use Rattle.std.proofs.Common.{◌⊎◌}
-use Rattle.std.specs.Int.{div_ceil}
-use Rattle.std.proofs.Math.Nat.{dvd-add, dvd-sub, lt_of_mul-lt-mul_right}
-use Rattle.std.proofs.lemmas.Nat.Gcd.{dvd_of_mod-eq-zero, mod-eq-zero_of_dvd}
-use Rattle.std.proofs.lemmas.Grind.{div_ceil_times}
-use Rattle.dl_plan.specs.declared.cede.CedeLayer.{CedeLayer}
-use Rattle.dl_plan.specs.Prelude.{IsClause, edge, kept_parts, parts_in_bucket}
-use Rattle.dl_plan.proofs.Clauses.{kept_whole, kept_only}
-use Rattle.dl_plan.proofs.Apart.{kept_none}
-use Rattle.dl_plan.proofs.Straight.{IsOutside, IsClear, kept_straight}
-use Rattle.dl_severity.specs.Fits.{FitsStep, FitsAfter, FitsLayer}
+use Rattle.dl_severity.proofs.Common.{ℕ, zero, suc, ◌≡◌, ◌∙◌, ◌+◌, ◌-◌, ◌*◌, ◌%◌, ◌<◌, ◌≤◌, List, [], ◌∷◌, refl, sym, ap, subst, arith, inl, inr, All, ◌∣◌, cases_lt, All-nil, All-cons, All-head, All-tail, IsWhole, Clause, kept, whole_den, ◌⊎◌, div_ceil, dvd-add, dvd-sub, lt_of_mul-lt-mul_right, dvd_of_mod-eq-zero, mod-eq-zero_of_dvd, div_ceil_times, CedeLayer, IsClause, edge, kept_parts, parts_in_bucket, kept_whole, kept_only, kept_none, IsOutside, IsClear, kept_straight, FitsStep, FitsAfter, FitsLayer}
 
 pub twice_of : (q c : ℕ) → q % c ≡ 0 → (2 * q) % c ≡ 0
 twice_of q c h = mod-eq-zero_of_dvd c (subst (λ n. c ∣ n) (omega arith)

@@ -1,10 +1,5 @@
 -- Items with their amounts mapped, and lists of amounts with whole weights.
-use Rattle.dl_severity.proofs.Common.{ℕ, ◌≡◌, ◌∙◌, ◌+◌, ◌<◌, List, [], ◌∷◌, ◌++◌, length, map, zip, sum, get_or, take, refl, sym, ap, ap₂, arith, length-take-le, map_more, take_more, sum_by-cons, Fraction, whole, ◌over◌, Clause, kept, Item, Sev, weight_sum, weight_at, probability, shares, pairs_of, Weights, weighed, items_of, with_amount, severity_total, amounts_of, append_assoc}
-use Rattle.std.proofs.Common.{Result, Ok, Err, IfOk}
-use Rattle.std.proofs.lemmas.Simd.{map-map}
-use Rattle.dl_exact.proofs.Parts.{whole_num}
-use Rattle.dl_plan.proofs.Shares.{probability-shares}
-use Rattle.dl_severity.specs.Steps.{with_amounts}
+use Rattle.dl_severity.proofs.Common.{ℕ, ◌≡◌, ◌∙◌, ◌+◌, ◌<◌, List, [], ◌∷◌, ◌++◌, length, map, zip, sum, get_or, take, refl, sym, ap, ap₂, arith, length-take-le, map_more, take_more, sum_by-cons, Fraction, whole, ◌over◌, Clause, kept, Item, Sev, weight_sum, weight_at, probability, shares, pairs_of, Weights, weighed, items_of, with_amount, severity_total, amounts_of, append_assoc, Result, Ok, Err, IfOk, map-map, whole_num, probability-shares, with_amounts}
 
 pub weight_sum-mapped : (f : ℕ → ℕ) (xs : List Item) → weight_sum (map (with_amount f) xs) ≡ weight_sum xs
 weight_sum-mapped f [] = refl

@@ -1,21 +1,7 @@
 -- Atoms one after another, with their amounts and their probabilities apart.
-use Rattle.dl_severity.proofs.Common.{ℕ, ◌≡◌, ◌∙◌, ◌+◌, ◌*◌, ◌<◌, ◌≤◌, List, [], ◌∷◌, ◌++◌, length, map, zip, get_or, take, sum, refl, sym, ap, ap₂, subst, arith, append_assoc, mul-pos, mul-le-mul, length-take-le, take_more, map-append, map_more, append-nil, take_all, sum_by-cons, Fraction, whole, ◌over◌, ◌+ℚ◌, ◌*ℚ◌, over_mul, over_same, sum_over, Item, Sev, amounts_of, weight_sum, shares, pairs_of, over_plus, Weights, sum_of, mixture_of, mixed_probability, weighed, severity_total, All, inl, inr, zero, suc, common_pos, den_divides, length-append}
-use Rattle.std.proofs.Common.{◌⊎◌}
-use Rattle.std.proofs.lemmas.List.{length-map, get_or_append_left, get_or-append-add, get_or-map}
-use Rattle.std.proofs.lemmas.Nat.Gcd.{le_of_dvd}
-use Rattle.std.proofs.lemmas.List.Sums.{sum_by_more_le}
-use Rattle.dl_exact.proofs.Laws.{zero_plus, plus_assoc, times_plus, times_zero, times_one}
-use Rattle.dl_limits.specs.Limits.{frac_bound, most_weights}
-use Rattle.dl_exact.proofs.Over.{over_le}
+use Rattle.dl_severity.proofs.Common.{ℕ, ◌≡◌, ◌∙◌, ◌+◌, ◌*◌, ◌<◌, ◌≤◌, List, [], ◌∷◌, ◌++◌, length, map, zip, get_or, take, sum, refl, sym, ap, ap₂, subst, arith, append_assoc, mul-pos, mul-le-mul, length-take-le, take_more, map-append, map_more, append-nil, take_all, sum_by-cons, Fraction, whole, ◌over◌, ◌+ℚ◌, ◌*ℚ◌, over_mul, over_same, sum_over, Item, Sev, amounts_of, weight_sum, shares, pairs_of, over_plus, Weights, sum_of, mixture_of, mixed_probability, weighed, severity_total, All, inl, inr, zero, suc, common_pos, den_divides, length-append, ◌⊎◌, length-map, get_or_append_left, get_or-append-add, get_or-map, le_of_dvd, sum_by_more_le, zero_plus, plus_assoc, times_plus, times_zero, times_one, frac_bound, most_weights, over_le, IsTooFine, num_le_den, Pairs, over_zero, scaled, RefusesMixture, RefusesProducts, MixFault}
 use Rattle.dl_exact.specs.Fraction.{◌≤ℚ◌}
-use Rattle.dl_frac.specs.Exact.{IsTooFine}
-use Rattle.dl_plan.proofs.Clauses.{num_le_den}
 use Rattle.dl_plan.specs.Fine.{common_denominator}
-use Rattle.dl_plan.specs.Severity.{Pairs}
-use Rattle.dl_exact.proofs.Denominators.{over_zero}
-use Rattle.dl_severity.specs.Steps.{scaled}
-use Rattle.dl_severity.specs.Refusals.{RefusesMixture, RefusesProducts}
-use Rattle.dl_severity.specs.declared.fault.MixFault.{MixFault}
 use Rattle.dl_severity.specs.declared.fault.MixFault.TheVariants.{TooFine, OutOfMemory}
 
 abbrev pub firsts : Pairs → List ℕ

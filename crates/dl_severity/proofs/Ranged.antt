@@ -1,18 +1,7 @@
 -- The numbers of a range over one denominator.
-use Rattle.dl_severity.proofs.Common.{ℕ, zero, suc, ◌≡◌, ◌∙◌, ◌+◌, ◌-◌, ◌*◌, ◌/◌, ◌<◌, ◌≤◌, ◌^◌, List, [], ◌∷◌, ◌++◌, length, map, take, refl, sym, ap, ap₂, subst, arith, mul-pos, mul-le-mul, length-append, append_assoc, get_or, true, nat_eq, All, range_with_len, take_more, append-nil, length-map-range_with_len, ◌∣◌, Fraction, whole, ◌over◌, ◌+ℚ◌, ◌*ℚ◌, ◌<ℚ◌, over_self, over_same, over_mul, le_over, lt_over, FitsFrac, common_pos, den_divides, over_plus, over_fits, numerator_over, steps_in, value_at, list_values}
-use Rattle.std.proofs.Common.{drop, mul-le-mul_right, le_of_mul-le-mul_right, mul_comm, ◌&&◌}
-use Rattle.std.proofs.Math.Nat.{mul-sub, div-mul-le_self, div-le_self}
-use Rattle.std.proofs.lemmas.List.{take-append-drop}
-use Rattle.std.proofs.lemmas.List.FromFn.{map-range_with_len_more}
-use Rattle.std.proofs.lemmas.Grind.{flat_map-append}
-use Rattle.dl_limits.specs.Limits.{most_range_parts}
+use Rattle.dl_severity.proofs.Common.{ℕ, zero, suc, ◌≡◌, ◌∙◌, ◌+◌, ◌-◌, ◌*◌, ◌/◌, ◌<◌, ◌≤◌, ◌^◌, List, [], ◌∷◌, ◌++◌, length, map, take, refl, sym, ap, ap₂, subst, arith, mul-pos, mul-le-mul, length-append, append_assoc, get_or, true, nat_eq, All, range_with_len, take_more, append-nil, length-map-range_with_len, ◌∣◌, Fraction, whole, ◌over◌, ◌+ℚ◌, ◌*ℚ◌, ◌<ℚ◌, over_self, over_same, over_mul, le_over, lt_over, FitsFrac, common_pos, den_divides, over_plus, over_fits, numerator_over, steps_in, value_at, list_values, drop, mul-le-mul_right, le_of_mul-le-mul_right, mul_comm, ◌&&◌, mul-sub, div-mul-le_self, div-le_self, take-append-drop, map-range_with_len_more, flat_map-append, most_range_parts, same, over_sub, over_div, floor_div, floor_one, Range, ExpandFault, floor_of, range_values, range_denominator, IsRange, RefusesRanges, PassesRoom}
 use Rattle.dl_exact.specs.Prelude.{◌-ℚ◌, ◌/ℚ◌, ◌≤ℚ◌, IsFloor}
-use Rattle.dl_exact.proofs.Over.{same, over_sub, over_div}
-use Rattle.dl_exact.proofs.RoundingLaws.{floor_div, floor_one}
-use Rattle.dl_severity.specs.declared.range.Range.{Range}
-use Rattle.dl_severity.specs.declared.fault.ExpandFault.{ExpandFault}
 use Rattle.dl_severity.specs.declared.fault.ExpandFault.TheVariants.{TooLong, OutOfMemory}
-use Rattle.dl_severity.specs.Ranges.{floor_of, range_values, range_denominator, IsRange, RefusesRanges, PassesRoom}
 use Rattle.dl_severity.proofs.Sharing.{share_is}
 
 floor_over : (n d : ℕ) → 0 < d → floor_of (n over d) ≡ n / d

@@ -1,8 +1,5 @@
 -- Values over a bucket size, whole or not.
-use Rattle.dl_severity.proofs.Common.{ℕ, ◌≡◌, ◌∙◌, ◌+◌, ◌*◌, ◌/◌, ◌%◌, ◌<◌, List, [], ◌∷◌, ◌++◌, length, map, get_or, take, nat_eq, IsTrue, refl, sym, ap, ap₂, subst, arith, mul-pos, inl, inr, cases_lt, get_or_default, map_more, map-append, Fraction, whole, ◌over◌, ◌<ℚ◌, lt_over, whole_den, IsWhole, buckets}
-use Rattle.dl_exact.proofs.Over.{over_lt}
-use Rattle.dl_exact.proofs.Parts.{num_pos, quotient_is}
-use Rattle.dl_plan.proofs.Clauses.{whole_if, whole_only}
+use Rattle.dl_severity.proofs.Common.{ℕ, ◌≡◌, ◌∙◌, ◌+◌, ◌*◌, ◌/◌, ◌%◌, ◌<◌, List, [], ◌∷◌, ◌++◌, length, map, get_or, take, nat_eq, IsTrue, refl, sym, ap, ap₂, subst, arith, mul-pos, inl, inr, cases_lt, get_or_default, map_more, map-append, Fraction, whole, ◌over◌, ◌<ℚ◌, lt_over, whole_den, IsWhole, buckets, over_lt, num_pos, quotient_is, whole_if, whole_only}
 
 pub zero_test : (a : ℕ) → IsTrue (nat_eq a 0) → a ≡ 0
 zero_test a e = grind arith

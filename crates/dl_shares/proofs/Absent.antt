@@ -1,6 +1,5 @@
 -- Why a grid gives no share in the tail mean, and what that says of the total.
-use Rattle.dl_shares.proofs.Common.{ℕ, ◌≡◌, inl, inr, ◌+◌, ◌*◌, ◌^◌, ◌<◌, ◌≤◌, List, length, arith, refl, sym, subst, Some, mul-le-mul_right, cases_lt, pow_pos, Fraction, ◌over◌, ◌+ℚ◌, ◌<ℚ◌, lt_not_le, over_add, over_lt, Iv, low_at, high_at, spread, below_more, width_at, high_is, width_within, Loss, partial_sums, total, GridEncloses, AreDeclared, IsQuantile, are_units, IsFirstAtLeast, IsFirstFound, low_cdf, is_bracket, is_tight, is_around}
-use Rattle.dl_shares.specs.Settled.{IsBracketIn, IsPast, IsOpen, IsRare, MayBeAbsent}
+use Rattle.dl_shares.proofs.Common.{ℕ, ◌≡◌, inl, inr, ◌+◌, ◌*◌, ◌^◌, ◌<◌, ◌≤◌, List, length, arith, refl, sym, subst, Some, mul-le-mul_right, cases_lt, pow_pos, Fraction, ◌over◌, ◌+ℚ◌, ◌<ℚ◌, lt_not_le, over_add, over_lt, Iv, low_at, high_at, spread, below_more, width_at, high_is, width_within, Loss, partial_sums, total, GridEncloses, AreDeclared, IsQuantile, are_units, IsFirstAtLeast, IsFirstFound, low_cdf, is_bracket, is_tight, is_around, IsBracketIn, IsPast, IsOpen, IsRare, MayBeAbsent}
 
 -- ---- one bracket
 

@@ -1,15 +1,7 @@
 -- The joint mean from the grids of a unit and of the others.
-use Rattle.dl_shares.proofs.Common.{◌≡◌, ℕ, suc, zero, ◌*◌, ◌<◌, arith, sym, ap, subst, subst₂, ◌∙◌, List, [], ◌∷◌, length, whole, ◌over◌, ◌*ℚ◌, over_same, over_mul, one_pos, le_refl, times_left_comm, times_le_both, Series, Rises, AtMost, AtLeast, Holds, times, count_pairs, Loss, AreDeclarable, One, Point, Joint, partial_sums, total, IsProper, Encloses, unit_of, without, scaled, at_most_times, at_least_times, loss_proper, total_proper, total_more_all}
+use Rattle.dl_shares.proofs.Common.{◌≡◌, ℕ, suc, zero, ◌*◌, ◌<◌, arith, sym, ap, subst, subst₂, ◌∙◌, List, [], ◌∷◌, length, whole, ◌over◌, ◌*ℚ◌, over_same, over_mul, one_pos, le_refl, times_left_comm, times_le_both, Series, Rises, AtMost, AtLeast, Holds, times, count_pairs, Loss, AreDeclarable, One, Point, Joint, partial_sums, total, IsProper, Encloses, unit_of, without, scaled, at_most_times, at_least_times, loss_proper, total_proper, total_more_all, sum_pairs, sum_pairs_same, sum_at_most, sum_at_least, rises_times, nothing_proper, sum_pairs_over, without_units, joint_cells, total_more, convolve_first}
 use Rattle.std.proofs.Common.{mul-pos}
 use mathlib.Core.Path.{fun_ext}
-use Rattle.dl_exact.specs.Sum.{sum_pairs}
-use Rattle.dl_exact.proofs.Sums.{sum_pairs_same}
-use Rattle.dl_model.proofs.FamilyLaws.{sum_at_most, sum_at_least, rises_times, nothing_proper}
-use Rattle.dl_exact.proofs.SumsOver.{sum_pairs_over}
-use Rattle.dl_model.proofs.Without.{without_units}
-use Rattle.dl_model.proofs.Joint.{joint_cells}
-use Rattle.dl_model.proofs.Outcomes.{total_more}
-use Rattle.dl_model.proofs.Powers.{convolve_first}
 
 unit_of_proper : (us : List Loss) (i : ℕ) → AreDeclarable us → IsProper (unit_of us i)
 unit_of_proper [] i h = nothing_proper

@@ -1,9 +1,6 @@
 -- Units whose claims have no greatest number.
-use Rattle.dl_shares.proofs.Common.{ℕ, UnitOfPlan}
-use Rattle.dl_plan.specs.declared.plan.Freq.{Freq}
-use Rattle.dl_plan.specs.declared.plan.Freq.TheVariants.{Fixed, Table, Bernoulli, Binomial, Poisson, Gamma}
+use Rattle.dl_shares.proofs.Common.{ℕ, UnitOfPlan, Freq, Fixed, Table, Bernoulli, Binomial, Poisson, Gamma, HasClaims, IsPoissonOrGamma}
 use Rattle.dl_plan.specs.Prelude.{IsClaimCount, IsUnbounded, IsValidUnit}
-use Rattle.dl_shares.specs.Claims.{HasClaims, IsPoissonOrGamma}
 
 pub counted : (freq : Freq) → IsPoissonOrGamma freq → IsClaimCount freq
 counted (Fixed m) h = absurd h

@@ -1,11 +1,7 @@
 -- The expected claims of a unit times the mean of one positive claim, from its ends times the weight of the positive
 -- amounts: what they hold, how large they are, and how far apart they lie.
-use Rattle.dl_shares.proofs.Common.{ℕ, ◌≡◌, ◌+◌, ◌-◌, ◌*◌, ◌/◌, ◌^◌, ◌<◌, ◌≤◌, arith, sym, subst, div_ceil, mul-le-mul, mul-le-mul_left, mul-le-mul_right, pow_pos, Fraction, whole, ◌over◌, ◌-ℚ◌, ◌*ℚ◌, div_ceil_least, Series, Holds, at_least_wider, at_most_wider, UnitOfPlan, expected_count, thinned_mean, severity_total}
+use Rattle.dl_shares.proofs.Common.{ℕ, ◌≡◌, ◌+◌, ◌-◌, ◌*◌, ◌/◌, ◌^◌, ◌<◌, ◌≤◌, arith, sym, subst, div_ceil, mul-le-mul, mul-le-mul_left, mul-le-mul_right, pow_pos, Fraction, whole, ◌over◌, ◌-ℚ◌, ◌*ℚ◌, div_ceil_least, Series, Holds, at_least_wider, at_most_wider, UnitOfPlan, expected_count, thinned_mean, severity_total, up, over_zero, zero_le, zero-div}
 use Rattle.dl_plan.specs.Prelude.{numerator_over, probability_of}
-unfoldable use Rattle.dl_grid.specs.Width.{up}
-use Rattle.dl_exact.proofs.Denominators.{over_zero}
-use Rattle.dl_exact.proofs.Laws.{zero_le}
-use Rattle.std.proofs.Math.Nat.{zero-div}
 use Rattle.dl_shares.proofs.ClaimWidths.{claim_width, positive_weight, scaled_width}
 use Rattle.dl_shares.proofs.CommonJoint.{positive, thinned_over, some_positive}
 use Rattle.dl_shares.proofs.JointValues.{end_below, end_above, end_none}

@@ -1,16 +1,9 @@
 -- Sums over the amounts of one claim of what a grid has at the rest of q, and up to it.
-use Rattle.dl_shares.proofs.Common.{ℕ, suc, inl, inr, ◌≡◌, ◌∙◌, ◌+◌, ◌-◌, ◌*◌, ◌^◌, ◌<◌, ◌≤◌, min, List, [], ◌∷◌, length, get_or, take, arith, ap, sym, subst₂, add-one, mul-pos, mul-le-mul_left, mul-le-mul_right, pow_pos, Fraction, ◌over◌, ◌*ℚ◌, ◌≤ℚ◌, le_refl, times_le_both, sum_to, count_below, below_same, Iv, low_at, high_at, mass_low, spread, IsGrid, cells_fit, high_le, low_le_high, low_sum, high_is, width_at, width_within, Item, UnitOfPlan, expected_count, weight_at, weight_sum, severity_total, amounts_to, claims_mean, Series, Rises, Holds, at_most_wider, to_holds, one_fits, scale_of, size_few, size_of}
-use Rattle.std.proofs.lemmas.Bool.Decides.{leb_tells}
-use Rattle.std.proofs.lemmas.List.Sums.{sum_by-cons}
+use Rattle.dl_shares.proofs.Common.{ℕ, suc, inl, inr, ◌≡◌, ◌∙◌, ◌+◌, ◌-◌, ◌*◌, ◌^◌, ◌<◌, ◌≤◌, min, List, [], ◌∷◌, length, get_or, take, arith, ap, sym, subst₂, add-one, mul-pos, mul-le-mul_left, mul-le-mul_right, pow_pos, Fraction, ◌over◌, ◌*ℚ◌, ◌≤ℚ◌, le_refl, times_le_both, sum_to, count_below, below_same, Iv, low_at, high_at, mass_low, spread, IsGrid, cells_fit, high_le, low_le_high, low_sum, high_is, width_at, width_within, Item, UnitOfPlan, expected_count, weight_at, weight_sum, severity_total, amounts_to, claims_mean, Series, Rises, Holds, at_most_wider, to_holds, one_fits, scale_of, size_few, size_of, leb_tells, sum_by-cons, over_le_over, sum_to_times, to_over, apart, low_most, sums_of}
 use Rattle.dl_exact.proofs.Counts.{below_more}
-use Rattle.dl_exact.proofs.Denominators.{over_le_over}
-use Rattle.dl_exact.proofs.Sums.{sum_to_times}
-use Rattle.dl_exact.proofs.SumsOver.{to_over}
-use Rattle.dl_measures.proofs.Sums.{apart, low_most}
 use Rattle.dl_shares.proofs.ClaimWidths.{weight_parts}
 use Rattle.dl_shares.proofs.CommonJoint.{positive}
 use Rattle.dl_shares.proofs.Tilted.{amounts_pairs, amounts_top, amounts_grow, amounts_apart, part, amounts_fit}
-use Rattle.dl_shares.specs.Sums.{sums_of}
 use Rattle.dl_shares.proofs.PairSums.{all_pairs}
 use Rattle.dl_shares.proofs.ClaimEnds.{exact_end}
 

@@ -1,9 +1,5 @@
 -- The mean of one positive claim of a unit beside a grid, and that times an expected number: how wide it is.
-use Rattle.dl_shares.proofs.Common.{ℕ, ◌≡◌, ◌∙◌, ◌+◌, ◌-◌, ◌*◌, ◌/◌, ◌<◌, ◌≤◌, sym, subst, arith, Fraction, whole, ◌over◌, ◌-ℚ◌, Sev, weight_at, weight_sum, probability_of, severity_total, div_ceil, mul-le-mul_left, mul-le-mul_right, lt-div-mul-add, over_den, same_num, div_ceil_least, ceiling_reaches, numerator_over, positive_share, weight_at-le}
-use Rattle.dl_exact.specs.Gcd.{gcd}
-use Rattle.dl_exact.proofs.GcdLaws.{gcd_is}
-use Rattle.dl_exact.proofs.Multiples.{part_divides}
-use Rattle.dl_severity.proofs.Sharing.{share_is}
+use Rattle.dl_shares.proofs.Common.{ℕ, ◌≡◌, ◌∙◌, ◌+◌, ◌-◌, ◌*◌, ◌/◌, ◌<◌, ◌≤◌, sym, subst, arith, Fraction, whole, ◌over◌, ◌-ℚ◌, Sev, weight_at, weight_sum, probability_of, severity_total, div_ceil, mul-le-mul_left, mul-le-mul_right, lt-div-mul-add, over_den, same_num, div_ceil_least, ceiling_reaches, numerator_over, positive_share, weight_at-le, gcd, gcd_is, part_divides, share_is}
 use Prim.Native.Nat.{◌∣◌}
 
 den_divides_over : (n d : ℕ) → 0 < d → (n over d).den ∣ d

@@ -1,6 +1,5 @@
 -- The weight of the amounts above 0 of a unit, and the joint mean of a unit under a common factor of every shape.
-use Rattle.dl_shares.proofs.Common.{ℕ, ◌≡◌, ◌∙◌, ◌-◌, ◌<◌, ◌^◌, List, length, get_or, inl, inr, ap, sym, subst, arith, cases_lt, Fraction, whole, ◌over◌, ◌*ℚ◌, over_zero, times_zero, severity_total, UnitOfPlan, Plan, weight_at, expected_count, thinned_mean, SharesFactor, IsRaised, Iv, low_at, high_at, positive_share, has_factor, Holds, GridEncloses, compound_of, declared, One, Joint, declared_is, claims_mean}
-use Rattle.dl_exact.proofs.Parts.{whole_num}
+use Rattle.dl_shares.proofs.Common.{ℕ, ◌≡◌, ◌∙◌, ◌-◌, ◌<◌, ◌^◌, List, length, get_or, inl, inr, ap, sym, subst, arith, cases_lt, Fraction, whole, ◌over◌, ◌*ℚ◌, over_zero, times_zero, severity_total, UnitOfPlan, Plan, weight_at, expected_count, thinned_mean, SharesFactor, IsRaised, Iv, low_at, high_at, positive_share, has_factor, Holds, GridEncloses, compound_of, declared, One, Joint, declared_is, claims_mean, whole_num}
 use Rattle.dl_shares.proofs.JointValues.{joint_exact}
 
 -- the weight of the positive amounts

@@ -1,28 +1,10 @@
 -- The joint mean of a gamma unit beside independent units, from the cells of the total with the unit's extra claims. One
 -- claim apart leaves a gamma count with one more in its shape, and so do the extra claims.
-use Rattle.dl_shares.proofs.Common.{ℕ, suc, ◌≡◌, ◌∙◌, ◌<◌, ◌≤◌, ◌^◌, List, ◌∷◌, length, get_or, refl, ap, ap₂, sym, subst, subst₂, arith, fun_ext, Fraction, whole, ◌over◌, ◌+ℚ◌, ◌*ℚ◌, ◌/ℚ◌, ◌<ℚ◌, sum_pairs, times_le_both, times_assoc, times_comm, times_left_comm, div_times, sum_pairs_same, UnitOfPlan, probability_of, expected_count, IsClaimCount, Iv, low_at, high_at, pow_pos, Series, Holds, GridEncloses, Loss, One, Point, Joint, partial_sums, score, gamma_of, count_weights, claims_mean}
-use Rattle.dl_exact.proofs.Laws.{plus_comm}
-use Rattle.dl_exact.specs.Sum.{sum_to}
-use Rattle.dl_model.specs.Compound.{convolve, cell}
-unfoldable use Rattle.dl_model.specs.Compound.{power}
-use Rattle.dl_model.specs.Counts.{gamma}
-use Rattle.dl_model.specs.Family.{Family}
-use Rattle.dl_model.specs.Measures.{unit_of, without}
+use Rattle.dl_shares.proofs.Common.{ℕ, suc, ◌≡◌, ◌∙◌, ◌<◌, ◌≤◌, ◌^◌, List, ◌∷◌, length, get_or, refl, ap, ap₂, sym, subst, subst₂, arith, fun_ext, Fraction, whole, ◌over◌, ◌+ℚ◌, ◌*ℚ◌, ◌/ℚ◌, ◌<ℚ◌, sum_pairs, times_le_both, times_assoc, times_comm, times_left_comm, div_times, sum_pairs_same, UnitOfPlan, probability_of, expected_count, IsClaimCount, Iv, low_at, high_at, pow_pos, Series, Holds, GridEncloses, Loss, One, Point, Joint, partial_sums, score, gamma_of, count_weights, claims_mean, plus_comm, sum_to, convolve, cell, power, gamma, Family, unit_of, without, Rises, times, AreLevel, level_both, level_same, level_trans, same_value, rises_times, sum_rises, sum_rises_to, gamma_next, gamma_plus, gamma_shift, one_least, shape_times, share_of, level_sum, product_level, over_factor, convolve_assoc, unit_is, without_units, CanRaise, IsExtra, extra_count, gamma_count}
 use Rattle.dl_model.specs.Plans.{loss_of}
 use Rattle.dl_model.specs.Program.{AreDeclarable, IsLoss, total}
-use Rattle.dl_model.specs.Series.{Rises, times}
-use Rattle.dl_model.proofs.Alike.{AreLevel, level_both, level_same, level_trans, same_value}
-use Rattle.dl_model.proofs.FamilyLaws.{rises_times, sum_rises, sum_rises_to}
-use Rattle.dl_model.proofs.Gamma.{gamma_next, gamma_plus, gamma_shift}
-use Rattle.dl_model.proofs.GammaThin.{one_least, shape_times, share_of}
-use Rattle.dl_model.proofs.Itself.{level_sum, product_level}
-use Rattle.dl_model.proofs.Least.{over_factor}
 use Rattle.dl_model.proofs.Outcomes.{outcomes_rise, total_more, total_more_all}
-use Rattle.dl_model.proofs.Powers.{convolve_assoc}
-use Rattle.dl_model.proofs.Without.{unit_is, without_units}
 use Rattle.dl_shares.proofs.BesideJoint.{cells_split}
-use Rattle.dl_pool.specs.Extra.{CanRaise, IsExtra, extra_count}
-use Rattle.dl_pool.proofs.GammaUnits.{gamma_count}
 use Rattle.dl_shares.proofs.JointValues.{amounts_over}
 use Rattle.dl_shares.proofs.OneClaim.{beside_holds, rest_cell}
 use Rattle.dl_shares.proofs.PlainUnits.{plain_cells, plain_all, plain_loss}

@@ -1,10 +1,6 @@
 -- What a unit has where the total is x is at most x, so its joint mean is at most x times the probability of x.
-use Rattle.dl_shares.proofs.Common.{ℕ, ◌*◌, ◌<◌, ◌≤◌, le_of_mul-le-mul_right, Series, sym, ap, subst, ◌∙◌, List, length, whole, ◌over◌, ◌*ℚ◌, ◌≤ℚ◌, le_refl, times_assoc, times_le_both, over_times, AtMost, AtLeast, Loss, One, Point, Joint, sum_over_outcomes, partial_sums}
+use Rattle.dl_shares.proofs.Common.{ℕ, ◌*◌, ◌<◌, ◌≤◌, le_of_mul-le-mul_right, Series, sym, ap, subst, ◌∙◌, List, length, whole, ◌over◌, ◌*ℚ◌, ◌≤ℚ◌, le_refl, times_assoc, times_le_both, over_times, AtMost, AtLeast, Loss, One, Point, Joint, sum_over_outcomes, partial_sums, le_over, Quantity, ends_in_order, IsDistribution}
 use Rattle.dl_exact.proofs.Laws.{le_trans}
-use Rattle.dl_exact.proofs.Over.{le_over}
-use Rattle.dl_model.specs.Program.{Quantity}
-use Rattle.dl_model.proofs.Alike.{ends_in_order}
-use Rattle.dl_model.proofs.Bounded.{IsDistribution}
 use Rattle.dl_model.proofs.Weighings.{losses_weighing, joint_le_point as weighed_joint}
 
 pub joint_le_point : (us : List Loss) (i x N : ℕ)

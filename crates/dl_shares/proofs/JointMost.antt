@@ -1,12 +1,7 @@
 -- No outcome of a unit is above the total, so its joint mean at x is at most x, and at most x times the probability of x.
-use Rattle.dl_shares.proofs.Common.{ℕ, ◌≤ℚ◌, ◌*ℚ◌, ◌*◌, ◌<◌, ◌≤◌, sym, subst, List, length, Fraction, whole, ◌over◌, Series, AtMost, AtLeast, Quantity, One, Point, Joint, Loss, AreDeclared, score, sum_over_outcomes, partial_sums}
-use Rattle.dl_plan.specs.declared.plan.Plan.{Plan}
-use Rattle.dl_plan.specs.Prelude.{IsValid}
+use Rattle.dl_shares.proofs.Common.{ℕ, ◌≤ℚ◌, ◌*ℚ◌, ◌*◌, ◌<◌, ◌≤◌, sym, subst, List, length, Fraction, whole, ◌over◌, Series, AtMost, AtLeast, Quantity, One, Point, Joint, Loss, AreDeclared, score, sum_over_outcomes, partial_sums, Plan, IsValid, IsDistribution, losses_distribution, plan_distribution, declared_weighed, is_weighing, weighing_of}
 use Rattle.dl_model.specs.Plans.{declared}
-use Rattle.dl_model.proofs.Bounded.{IsDistribution, losses_distribution}
-use Rattle.dl_model.proofs.CommonPlans.{plan_distribution}
 use Rattle.dl_model.proofs.Weighings.{IsWeighing, joint_le_point, losses_weighing, weighed_by}
-use Rattle.dl_model.proofs.PlanShares.{declared_weighed, is_weighing, weighing_of}
 use Rattle.dl_shares.proofs.JointBounds.{low_share}
 use Rattle.dl_shares.proofs.JointValues.{at_most_whole, where_le}
 

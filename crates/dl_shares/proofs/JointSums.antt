@@ -1,11 +1,7 @@
 -- The joint means of a unit at all totals up to q, added up: what the ends hold, how large they are, and how far apart
 -- they lie.
-use Rattle.dl_shares.proofs.Common.{ℕ, suc, ◌≡◌, ◌+◌, ◌-◌, ◌*◌, ◌/◌, ◌^◌, ◌<◌, ◌≤◌, List, length, arith, ap₂, subst₂, div_ceil, pow_pos, mul-pos, ◌over◌, sum_to, count_pairs, count_below, le_refl, div_ceil_least, below_le, below_same, pairs_same, Iv, low_at, high_at, spread, IsGrid, cells_fit, width_at, high_is, low_within, width_within, cv_is, Series, Rises, Holds, at_least_wider, at_most_wider, to_holds, beside_width}
-use Rattle.dl_exact.proofs.SumsOver.{to_over}
-use Rattle.dl_iv.proofs.Rounding.{round_down, round_up}
-use Rattle.dl_shares.specs.Weighted.{low_weighted, high_weighted}
+use Rattle.dl_shares.proofs.Common.{ℕ, suc, ◌≡◌, ◌+◌, ◌-◌, ◌*◌, ◌/◌, ◌^◌, ◌<◌, ◌≤◌, List, length, arith, ap₂, subst₂, div_ceil, pow_pos, mul-pos, ◌over◌, sum_to, count_pairs, count_below, le_refl, div_ceil_least, below_le, below_same, pairs_same, Iv, low_at, high_at, spread, IsGrid, cells_fit, width_at, high_is, low_within, width_within, cv_is, Series, Rises, Holds, at_least_wider, at_most_wider, to_holds, beside_width, to_over, round_down, round_up, low_weighted, high_weighted, low_sums, high_sums}
 use Rattle.dl_shares.proofs.WeightedEnds.{high_mass, sums_order as weighted_order, fits, room_of}
-use Rattle.dl_shares.specs.Sums.{low_sums, high_sums}
 use Rattle.dl_shares.proofs.PairSums.{sums_top, sums_width}
 
 -- ---- how large they are

@@ -1,10 +1,6 @@
 -- What the sum over the amounts of one claim holds, where a grid encloses the raised unit.
-use Rattle.dl_shares.proofs.Common.{subst₂, ℕ, ◌+ℚ◌, ◌≡◌, ◌∙◌, ◌*◌, ◌/◌, ◌<◌, ◌≤◌, ◌^◌, List, length, get_or, true, false, ap, ap₂, sym, subst, arith, mul-pos, Fraction, whole, ◌over◌, ◌*ℚ◌, ◌≤ℚ◌, ◌<ℚ◌, sum_pairs, le_refl, le_of_eq, zero_le, times_le_both, times_zero, over_mul, over_same, over_self, over_le, over_times, over_zero, severity_total, Sev, UnitOfPlan, greatest, weight_at, probability_of, expected_count, HasCommonFactor, raised, PoissonUnit, expected_claims, pooled_severity, common_sums, IsUnit, poisson_unit, poisson_units, IsRaised, Bool, div_ceil, pow_pos, mul-le-mul_right, fun_ext, times_left_comm, sum_pairs_same, Iv, round_down, round_up, low_at, high_at, Series, AtMost, Holds, gamma_of, compound, GridEncloses, count_weights, compound_of, One, Joint, where_true, shares_severity, amounts_to, claims_mean, expected_units, are_severities}
+use Rattle.dl_shares.proofs.Common.{subst₂, ℕ, ◌+ℚ◌, ◌≡◌, ◌∙◌, ◌*◌, ◌/◌, ◌<◌, ◌≤◌, ◌^◌, List, length, get_or, true, false, ap, ap₂, sym, subst, arith, mul-pos, Fraction, whole, ◌over◌, ◌*ℚ◌, ◌≤ℚ◌, ◌<ℚ◌, sum_pairs, le_refl, le_of_eq, zero_le, times_le_both, times_zero, over_mul, over_same, over_self, over_le, over_times, over_zero, severity_total, Sev, UnitOfPlan, greatest, weight_at, probability_of, expected_count, HasCommonFactor, raised, PoissonUnit, expected_claims, pooled_severity, common_sums, IsUnit, poisson_unit, poisson_units, IsRaised, Bool, div_ceil, pow_pos, mul-le-mul_right, fun_ext, times_left_comm, sum_pairs_same, Iv, round_down, round_up, low_at, high_at, Series, AtMost, Holds, gamma_of, compound, GridEncloses, count_weights, compound_of, One, Joint, where_true, shares_severity, amounts_to, claims_mean, expected_units, are_severities, sum_pairs_over, scale_low, scale_high, joint_raised, is_unit}
 use Rattle.dl_exact.proofs.Laws.{le_trans}
-use Rattle.dl_exact.proofs.SumsOver.{sum_pairs_over}
-use Rattle.dl_iv.proofs.Operations.{scale_low, scale_high}
-use Rattle.dl_model.proofs.SharedValues.{joint_raised}
-use Rattle.dl_model.proofs.CommonPlans.{is_unit}
 use Rattle.dl_shares.proofs.Tilted.{amounts_pairs}
 
 -- ---- the sum over the amounts, in units of the scale

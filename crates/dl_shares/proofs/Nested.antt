@@ -1,7 +1,6 @@
 -- Weighted sums by running sums, in plain numbers: as y falls from q to 1, each product is in one more running sum, so
 -- that the product at y is in y of them.
-use Rattle.dl_shares.proofs.Common.{ℕ, zero, suc, ◌≡◌, ◌+◌, ◌-◌, ◌*◌, ◌<◌, ◌≤◌, arith, refl, sym, ap, ap₂, ◌∙◌, List, get_or, mul-le-mul_right, count_below, below_grows, below_le, below_more, below_plus, below_same, below_pairs, pairs_same}
-unfoldable use Rattle.dl_exact.specs.Count.{count_pairs}
+use Rattle.dl_shares.proofs.Common.{ℕ, zero, suc, ◌≡◌, ◌+◌, ◌-◌, ◌*◌, ◌<◌, ◌≤◌, arith, refl, sym, ap, ap₂, ◌∙◌, List, get_or, mul-le-mul_right, count_below, below_grows, below_le, below_more, below_plus, below_same, below_pairs, pairs_same, count_pairs}
 use Rattle.std.proofs.Common.{add-one}
 
 -- the sum of the first n products

@@ -1,21 +1,9 @@
 -- The joint mean of a unit beside independent units, by one of its claims apart from the others: the unit's cells by one
 -- claim and what is left of them, summed against the cells of the other units.
-use Rattle.dl_shares.proofs.Common.{ℕ, zero, suc, ◌≡◌, ◌∙◌, ◌<◌, ◌≤◌, List, length, refl, ap, sym, subst, arith, Fraction, whole, ◌+ℚ◌, ◌*ℚ◌, ◌≤ℚ◌, sum_pairs, le_refl, times_le_both, times_assoc, times_left_comm, times_zero, sum_pairs_same, Series, AtMost, Holds, Loss, One, Point, Joint, partial_sums, score}
-use Rattle.dl_exact.specs.Sum.{sum_to}
+use Rattle.dl_shares.proofs.Common.{ℕ, zero, suc, ◌≡◌, ◌∙◌, ◌<◌, ◌≤◌, List, length, refl, ap, sym, subst, arith, Fraction, whole, ◌+ℚ◌, ◌*ℚ◌, ◌≤ℚ◌, sum_pairs, le_refl, times_le_both, times_assoc, times_left_comm, times_zero, sum_pairs_same, Series, AtMost, Holds, Loss, One, Point, Joint, partial_sums, score, sum_to, sum_to_first, sum_to_same, sum_to_times, sum_pairs_le, sum_pairs_sum_to, convolve, cell, at_zero, power, unit_of, without, Rises, times, AreLevel, level_same, same_value, scaled, scaled_rises, rises_times, sum_holds, sum_rises, sum_rises_to, joint_cells, convolve_assoc, convolve_scaled, convolve_times, power_tilt, tilt_at_zero, without_units}
 use Rattle.dl_exact.proofs.Laws.{zero_plus, le_trans}
-use Rattle.dl_exact.proofs.Sums.{sum_to_first, sum_to_same, sum_to_times, sum_pairs_le, sum_pairs_sum_to}
-use Rattle.dl_model.specs.Compound.{convolve, cell}
-unfoldable use Rattle.dl_model.specs.Compound.{at_zero, power}
-use Rattle.dl_model.specs.Measures.{unit_of, without}
 use Rattle.dl_model.specs.Program.{AreDeclarable}
-use Rattle.dl_model.specs.Series.{Rises, times}
-use Rattle.dl_model.proofs.Alike.{AreLevel, level_same, same_value}
-use Rattle.dl_model.proofs.Declared.{scaled, scaled_rises}
-use Rattle.dl_model.proofs.FamilyLaws.{rises_times, sum_holds, sum_rises, sum_rises_to}
-use Rattle.dl_model.proofs.Joint.{joint_cells}
 use Rattle.dl_model.proofs.Outcomes.{outcomes_le, outcomes_rise}
-use Rattle.dl_model.proofs.Powers.{convolve_assoc, convolve_scaled, convolve_times, power_tilt, tilt_at_zero}
-use Rattle.dl_model.proofs.Without.{without_units}
 use Rattle.dl_shares.proofs.JointBounds.{joint_le_point}
 use Rattle.dl_shares.proofs.JointValues.{at_most_whole, where_le}
 

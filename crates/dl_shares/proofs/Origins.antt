@@ -1,32 +1,15 @@
 -- What the joint means of a unit of a plan are drawn from.
+use Rattle.dl_shares.proofs.Common.{get_or_default, IsPlanScale, bits_of, most_horizon, is_plan_scale, cv_rises, IsHorizonOf, IsValid, IsValidUnit, thinned_mean, independent, Plan, joint_budget, shared_joint_budget, others_budget, unit_budgets, few_cells, unit_horizon, claims_mean, AreOthersOf, Gives, IsClaimsGrid, IsGridOfUnit, IsSourceOf, Reaches, Drawn, Origin, Nowhere, Beside, Claims, OverClaims, ShareSource}
 use Rattle.std.proofs.Common.{ap, sym, subst, subst₂, ◌∙◌, arith, length, get_or, List, ℕ, ◌≡◌, ◌*◌, ◌^◌, ◌<◌, ◌≤◌}
 use Rattle.std.proofs.Math.Nat.{mul-le-mul_left, pow-le-pow_right}
-use Rattle.std.proofs.lemmas.List.{get_or_default}
 use Rattle.std.proofs.lemmas.Nat.{pow_pos}
 use Rattle.std.specs.Prelude.{None}
-use Rattle.dl_limits.specs.Limits.{IsPlanScale, bits_of, most_horizon}
-use Rattle.dl_limits.proofs.Scales.{is_plan_scale}
 use Rattle.dl_iv.specs.declared.interval.Iv.{Iv}
 use Rattle.dl_grid.specs.Cells.{low_at, high_at, spread}
 use Rattle.dl_grid.specs.Width.{convolution_spread}
-use Rattle.dl_grid.proofs.WidthLaws.{cv_rises}
-use Rattle.dl_plan.specs.Prelude.{IsHorizonOf, IsValid, IsValidUnit, thinned_mean}
-use Rattle.dl_plan.specs.Shared.{independent}
-use Rattle.dl_plan.specs.declared.plan.Plan.{Plan}
 use Rattle.dl_plan.specs.declared.plan.Unit.{Unit as UnitOfPlan}
 use Rattle.dl_model.specs.Prelude.{Holds, Joint, One, aggregates_of, declared, partial_sums}
-use Rattle.dl_budget.specs.Asks.{joint_budget}
-use Rattle.dl_budget.specs.Shared.{shared_joint_budget}
-use Rattle.dl_budget.specs.Units.{others_budget, unit_budgets}
-use Rattle.dl_budget.proofs.Horizons.{few_cells, unit_horizon}
-use Rattle.dl_shares.specs.Amounts.{claims_mean}
-use Rattle.dl_shares.specs.Drawn.{AreOthersOf, Gives, IsClaimsGrid, IsGridOfUnit, IsSourceOf, Reaches}
 use Rattle.dl_shares.specs.Source.{GivesJoints, exact_high, exact_low, joint_width}
-use Rattle.dl_shares.specs.declared.drawn.Drawn.{Drawn}
-use Rattle.dl_shares.specs.declared.drawn.Origin.{Origin}
-use Rattle.dl_shares.specs.declared.drawn.Origin.TheVariants.{Nowhere, Beside, Claims}
-use Rattle.dl_shares.specs.declared.source.OverClaims.{OverClaims}
-use Rattle.dl_shares.specs.declared.source.ShareSource.{ShareSource}
 use Rattle.dl_shares.specs.declared.source.ShareSource.TheVariants as sources
 
 -- ---- scales

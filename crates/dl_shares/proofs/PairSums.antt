@@ -1,9 +1,8 @@
 -- Sums of y * f y * g z over all y + z up to q, in plain numbers: one walk over them, how large they are, and how far
 -- apart two of them lie once rounded.
-use Rattle.dl_shares.proofs.Common.{List, get_or, more, ℕ, zero, suc, ◌≡◌, ◌+◌, ◌-◌, ◌*◌, ◌/◌, ◌<◌, ◌≤◌, arith, refl, sym, ap, ◌∙◌, add-one, div_ceil, mul-le-mul, le_trans, count_pairs, count_below, below_first, below_grows, below_same, below_plus, below_times, pairs_same, pairs_plus, pairs_within}
+use Rattle.dl_shares.proofs.Common.{List, get_or, more, ℕ, zero, suc, ◌≡◌, ◌+◌, ◌-◌, ◌*◌, ◌/◌, ◌<◌, ◌≤◌, arith, refl, sym, ap, ◌∙◌, add-one, div_ceil, mul-le-mul, le_trans, count_pairs, count_below, below_first, below_grows, below_same, below_plus, below_times, pairs_same, pairs_plus, pairs_within, sums_of, weighted_to}
 use Rattle.dl_shares.proofs.Nested.{running, nested, next_nested, all_nested, listed}
 use Rattle.dl_shares.proofs.WeightedSums.{weighted_under, rounded, divided, enough}
-use Rattle.dl_shares.specs.Sums.{sums_of, weighted_to}
 
 -- ---- pairs
 

@@ -1,12 +1,7 @@
 -- The loss of a unit of a plan without an aggregate clause and with no changed probability of no claim: its outcome is
 -- the sum of its claims.
-use Rattle.dl_shares.proofs.Common.{ℕ, ◌≡◌, ◌∙◌, None, ap, arith, UnitOfPlan, probability_of, aggregate_of, after_zero, outcome_after, count_weights, shares_severity}
-use Rattle.dl_exact.specs.Sum.{sum_to}
-use Rattle.dl_model.specs.Compound.{cell}
+use Rattle.dl_shares.proofs.Common.{ℕ, ◌≡◌, ◌∙◌, None, ap, arith, UnitOfPlan, probability_of, aggregate_of, after_zero, outcome_after, count_weights, shares_severity, sum_to, cell, IsLoss, IsDeclarable, unit_loss, unit_plain}
 use Rattle.dl_model.specs.Plans.{loss_of}
-use Rattle.dl_model.specs.Program.{IsLoss}
-use Rattle.dl_model.specs.Units.{IsDeclarable}
-use Rattle.dl_model.proofs.UnitLaws.{unit_loss, unit_plain}
 
 module _ (u : UnitOfPlan) (clause : u.cede ≡ None) (zero : u.zero ≡ None) where
   plain : (s : ℕ) → outcome_after u.cede s ≡ s

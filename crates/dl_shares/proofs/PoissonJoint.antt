@@ -1,19 +1,12 @@
 -- The joint mean of a Poisson unit beside independent units, from the cells of the total: Panjer's recursion. One claim
 -- apart leaves a Poisson unit as it is.
-use Rattle.dl_shares.proofs.Common.{ℕ, ◌≡◌, ◌∙◌, ◌<◌, ◌^◌, List, length, get_or, ap, subst, subst₂, arith, fun_ext, ◌over◌, ◌*ℚ◌, sum_pairs_same, UnitOfPlan, probability_of, expected_count, CanShare, Iv, low_at, high_at, pow_pos, Holds, GridEncloses, Loss, One, Point, Joint, partial_sums, claims_mean}
-use Rattle.dl_model.specs.Compound.{cell}
-use Rattle.dl_model.specs.Counts.{poisson}
-use Rattle.dl_model.specs.Family.{Family}
-use Rattle.dl_model.specs.Measures.{unit_of, without}
+use Rattle.dl_shares.proofs.Common.{ℕ, ◌≡◌, ◌∙◌, ◌<◌, ◌^◌, List, length, get_or, ap, subst, subst₂, arith, fun_ext, ◌over◌, ◌*ℚ◌, sum_pairs_same, UnitOfPlan, probability_of, expected_count, CanShare, Iv, low_at, high_at, pow_pos, Holds, GridEncloses, Loss, One, Point, Joint, partial_sums, claims_mean, cell, poisson, Family, unit_of, without, poisson_next, unit_is, poisson_weights}
 use Rattle.dl_model.specs.Plans.{loss_of}
 use Rattle.dl_model.specs.Program.{AreDeclarable, total}
-use Rattle.dl_model.proofs.PoissonWeights.{poisson_next}
-use Rattle.dl_model.proofs.Without.{unit_is}
 use Rattle.dl_shares.proofs.BesideJoint.{cells_split}
 use Rattle.dl_shares.proofs.JointValues.{amounts_over}
 use Rattle.dl_shares.proofs.OneClaim.{beside_holds}
 use Rattle.dl_shares.proofs.PlainUnits.{plain_cells}
-use Rattle.dl_pool.proofs.Units.{poisson_weights}
 
 module _ (us : List Loss) (i x : ℕ) (w : AreDeclarable us) where
   pub poisson_exact : {B : ℕ} (grid : List (Iv B)) (u : UnitOfPlan) → CanShare u → i < length us

@@ -1,6 +1,5 @@
 -- The quotient of two enclosed values: what its ends hold, and how far apart they lie. S units make 1.
-use Rattle.dl_shares.proofs.Common.{ℕ, ◌≡◌, ◌+◌, ◌-◌, ◌*◌, ◌/◌, ◌<◌, ◌≤◌, arith, ap, div_ceil, mul-le-mul_right, le_of_mul-le-mul_right, lt-div-mul-add, div_ceil_times, ◌over◌, over_le, le_refl, over_pos, Series, AtLeast, Holds, at_least_wider, at_most_wider, quotient}
-use Rattle.dl_iv.proofs.Operations.{div_low, div_high}
+use Rattle.dl_shares.proofs.Common.{ℕ, ◌≡◌, ◌+◌, ◌-◌, ◌*◌, ◌/◌, ◌<◌, ◌≤◌, arith, ap, div_ceil, mul-le-mul_right, le_of_mul-le-mul_right, lt-div-mul-add, div_ceil_times, ◌over◌, over_le, le_refl, over_pos, Series, AtLeast, Holds, at_least_wider, at_most_wider, quotient, div_low, div_high}
 
 pub quotient_holds : (S j J a A parts : ℕ) → 0 < S → 0 < a → 0 < A → 0 < parts → S ≤ a * parts → (Q R O : Series)
     → Holds Q O (j over S) (J over S) → Holds R O (a over S) (A over S)

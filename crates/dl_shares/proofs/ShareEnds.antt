@@ -1,11 +1,7 @@
 -- The conditional mean of a unit at a total q, and what makes its share of the tail mean of it.
-use Rattle.dl_shares.proofs.Common.{ℕ, suc, ◌≡◌, inl, inr, ◌+◌, ◌-◌, ◌*◌, ◌^◌, ◌<◌, ◌≤◌, min, List, length, take, arith, sym, ap, subst, ◌∙◌, add-one, min-eq_left, min-eq_right, min-le_left, mul-le-mul, mul-le-mul_left, mul-le-mul_right, div_ceil, div_ceil_least, cases_lt, pow_pos, Fraction, whole, ◌over◌, ◌-ℚ◌, ◌*ℚ◌, ◌/ℚ◌, ◌≤ℚ◌, ◌<ℚ◌, count_below, one_pos, times_comm, times_le_both, le_refl, over_same, Iv, low_at, high_at, mass_low, mass_high, IsGrid, HasRoom, cells_fit, low_sum, Series, AtMost, AtLeast, Holds, Loss, AreDeclarable, Quantity, One, Point, Cdf, Joint, Share, partial_sums, total, HoldsShare, GridEncloses, at_least_wider, at_most_wider, high_mass, rest, parts, rest_pos, inverse}
+use Rattle.dl_shares.proofs.Common.{ℕ, suc, ◌≡◌, inl, inr, ◌+◌, ◌-◌, ◌*◌, ◌^◌, ◌<◌, ◌≤◌, min, List, length, take, arith, sym, ap, subst, ◌∙◌, add-one, min-eq_left, min-eq_right, min-le_left, mul-le-mul, mul-le-mul_left, mul-le-mul_right, div_ceil, div_ceil_least, cases_lt, pow_pos, Fraction, whole, ◌over◌, ◌-ℚ◌, ◌*ℚ◌, ◌/ℚ◌, ◌≤ℚ◌, ◌<ℚ◌, count_below, one_pos, times_comm, times_le_both, le_refl, over_same, Iv, low_at, high_at, mass_low, mass_high, IsGrid, HasRoom, cells_fit, low_sum, Series, AtMost, AtLeast, Holds, Loss, AreDeclarable, Quantity, One, Point, Cdf, Joint, Share, partial_sums, total, HoldsShare, GridEncloses, at_least_wider, at_most_wider, high_mass, rest, parts, rest_pos, inverse, over_le_over, div_is_times, rest_is, cdf_ends}
 use Rattle.dl_shares.proofs.WeightedEnds.{room_of}
 use Rattle.dl_exact.proofs.Laws.{le_trans}
-use Rattle.dl_exact.proofs.Denominators.{over_le_over}
-use Rattle.dl_model.proofs.TailScores.{div_is_times}
-use Rattle.dl_model.proofs.TailEnds.{rest_is}
-use Rattle.dl_measures.proofs.CellEnds.{cdf_ends}
 use Rattle.dl_shares.proofs.JointBounds.{joint_le_point, joint_most}
 
 -- ---- the lesser of two high ends

@@ -1,12 +1,7 @@
 -- The bracket of a quantile in whole numbers: how little lies between its ends, and above the level at them.
-use Rattle.dl_shares.proofs.Common.{ℕ, suc, ◌≡◌, ◌+◌, ◌-◌, ◌*◌, ◌/◌, ◌^◌, ◌<◌, ◌≤◌, min, List, take, Some, arith, refl, sym, ap, subst, ◌∙◌, add-one, div_ceil, div_ceil_least, div_ceil_times, mul-le-mul_right, le_of_mul-le-mul_right, pow_pos, Fraction, ◌<ℚ◌, ◌≤ℚ◌, over_self, below_grows, below_more, count_below, Iv, low_at, high_at, mass_low, mass_high, spread, IsGrid, apart, high_mass, low_cdf, high_cdf}
-use Rattle.dl_exact.proofs.Over.{le_over, lt_over}
-use Rattle.dl_iv.proofs.Rounding.{floor_le_ceiling}
-use Rattle.dl_measures.proofs.Sums.{low_high, low_most}
+use Rattle.dl_shares.proofs.Common.{ℕ, suc, ◌≡◌, ◌+◌, ◌-◌, ◌*◌, ◌/◌, ◌^◌, ◌<◌, ◌≤◌, min, List, take, Some, arith, refl, sym, ap, subst, ◌∙◌, add-one, div_ceil, div_ceil_least, div_ceil_times, mul-le-mul_right, le_of_mul-le-mul_right, pow_pos, Fraction, ◌<ℚ◌, ◌≤ℚ◌, over_self, below_grows, below_more, count_below, Iv, low_at, high_at, mass_low, mass_high, spread, IsGrid, apart, high_mass, low_cdf, high_cdf, le_over, lt_over, floor_le_ceiling, low_high, low_most, IsBracketIn, low_above, high_above}
 use Rattle.dl_shares.proofs.ClaimSums.{low_running}
 use Rattle.dl_shares.proofs.Widths.{above_narrow}
-use Rattle.dl_shares.specs.Settled.{IsBracketIn}
-use Rattle.dl_shares.specs.Tails.{low_above, high_above}
 
 -- ---- what the distribution has above the level
 

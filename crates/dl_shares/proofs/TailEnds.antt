@@ -1,18 +1,8 @@
 -- The share of a unit of a plan at a bracket of the quantile: what its ends hold.
-use Rattle.dl_shares.proofs.Common.{ℕ, ◌≡◌, inl, inr, ◌+◌, ◌-◌, ◌*◌, ◌/◌, ◌^◌, ◌<◌, ◌≤◌, List, length, Some, arith, refl, sym, ap, subst, subst₂, ◌∙◌, cases_lt, div_ceil, mul-le-mul_right, mul-pos, pow_pos, Fraction, ◌over◌, ◌+ℚ◌, ◌-ℚ◌, ◌*ℚ◌, ◌≤ℚ◌, le_refl, times_le_both, over_le, over_mul, over_pos, over_self, Iv, low_at, high_at, low_cdf, high_cdf, AtMost, AtLeast, Holds, Series, Quantity, One, Point, Cdf, Joint, Plan, declared, IsQuantile, at_least_wider, ceiling_reaches}
-use Rattle.std.proofs.Math.Nat.{div-mul-le_self}
-use Rattle.dl_exact.proofs.Denominators.{over_le_over, over_minus, over_plus}
+use Rattle.dl_shares.proofs.Common.{ℕ, ◌≡◌, inl, inr, ◌+◌, ◌-◌, ◌*◌, ◌/◌, ◌^◌, ◌<◌, ◌≤◌, List, length, Some, arith, refl, sym, ap, subst, subst₂, ◌∙◌, cases_lt, div_ceil, mul-le-mul_right, mul-pos, pow_pos, Fraction, ◌over◌, ◌+ℚ◌, ◌-ℚ◌, ◌*ℚ◌, ◌≤ℚ◌, le_refl, times_le_both, over_le, over_mul, over_pos, over_self, Iv, low_at, high_at, low_cdf, high_cdf, AtMost, AtLeast, Holds, Series, Quantity, One, Point, Cdf, Joint, Plan, declared, IsQuantile, at_least_wider, ceiling_reaches, div-mul-le_self, over_le_over, over_minus, over_plus, over_sub, IsValid, IsBracketed, atom_least, atom_most, atom_whole, cdf_most_one, cdf_points, quantity_rises, AtomLeast, AtomMost, cdf_within, IsBracketIn, low_above, high_above, part_down, part_up}
 use Rattle.dl_exact.proofs.Laws.{le_trans}
-use Rattle.dl_exact.proofs.Over.{over_sub}
-use Rattle.dl_plan.specs.Prelude.{IsValid}
-use Rattle.dl_model.specs.Prelude.{IsBracketed}
 use Rattle.dl_model.proofs.CommonPlans.{plan_distribution, inside as plan_inside}
-use Rattle.dl_model.proofs.PlanShares.{atom_least, atom_most, atom_whole, cdf_most_one, cdf_points, quantity_rises}
-use Rattle.dl_model.proofs.ShareEnds.{AtomLeast, AtomMost}
-use Rattle.dl_measures.proofs.CellEnds.{cdf_within}
 use Rattle.dl_shares.proofs.TailParts.{down_most, down_reaches, some_up, whole_up}
-use Rattle.dl_shares.specs.Settled.{IsBracketIn}
-use Rattle.dl_shares.specs.Tails.{low_above, high_above, part_down, part_up}
 
 -- ---- numbers in the same units
 

@@ -1,14 +1,5 @@
 -- The joint means of a unit of a plan between two totals, by the high ends of the probabilities there.
-use Rattle.dl_shares.proofs.Common.{ℕ, zero, suc, ◌≡◌, ◌+◌, ◌-◌, ◌*◌, ◌<◌, ◌≤◌, arith, add-one, ap, sym, subst, mul-le-mul_right, le_of_mul-le-mul_right, below_grows, below_more, ◌over◌, ◌≤ℚ◌, count_below, Series, AtMost, AtLeast, One, Point, Joint, Plan, declared, at_most_wider}
-use Rattle.std.proofs.Math.Decide.{le_ind}
-unfoldable use Rattle.dl_exact.specs.Sum.{sum_to}
-use Rattle.dl_exact.proofs.Denominators.{over_le_over, over_plus}
-use Rattle.dl_exact.proofs.Over.{le_over}
-use Rattle.dl_plan.specs.Prelude.{IsValid}
-use Rattle.dl_model.proofs.Alike.{ends_in_order}
-use Rattle.dl_model.proofs.CommonPlans.{plan_distribution}
-use Rattle.dl_model.proofs.Declared.{at_most_plus}
-use Rattle.dl_model.specs.Series.{plus}
+use Rattle.dl_shares.proofs.Common.{ℕ, zero, suc, ◌≡◌, ◌+◌, ◌-◌, ◌*◌, ◌<◌, ◌≤◌, arith, add-one, ap, sym, subst, mul-le-mul_right, le_of_mul-le-mul_right, below_grows, below_more, ◌over◌, ◌≤ℚ◌, count_below, Series, AtMost, AtLeast, One, Point, Joint, Plan, declared, at_most_wider, le_ind, sum_to, over_le_over, over_plus, le_over, IsValid, ends_in_order, plan_distribution, at_most_plus, plus}
 use Rattle.dl_shares.proofs.JointBounds.{joint_most}
 use Rattle.dl_shares.proofs.JointMost.{plan_joint_le}
 

@@ -1,11 +1,7 @@
 -- The part of a joint mean that belongs to the tail: how large it is, and how far apart its ends lie. The ends of the
 -- joint mean at x are jl and jh, those of what the distribution has above the level al and ah, and those of the
 -- probability of x pl and ph; no low end of the joint mean is above x times a high end of that probability.
-use Rattle.dl_shares.proofs.Common.{ℕ, inl, inr, ◌≡◌, ◌+◌, ◌-◌, ◌*◌, ◌/◌, ◌^◌, ◌<◌, ◌≤◌, arith, refl, ap, div_ceil, div_ceil_least, div_ceil_times, mul-le-mul, mul-le-mul_left, mul-le-mul_right, mul-pos, HasRoom, le_of_mul-le-mul_right, lt-div-mul-add}
-use Rattle.std.proofs.Math.Nat.{div-mul-le_self, div-le_of_le-mul}
-use Rattle.std.proofs.lemmas.Bool.{le-leb, lt-leb}
-use Rattle.std.proofs.lemmas.Bool.Decides.{leb_tells}
-use Rattle.dl_shares.specs.Tails.{part_down, part_up}
+use Rattle.dl_shares.proofs.Common.{ℕ, inl, inr, ◌≡◌, ◌+◌, ◌-◌, ◌*◌, ◌/◌, ◌^◌, ◌<◌, ◌≤◌, arith, refl, ap, div_ceil, div_ceil_least, div_ceil_times, mul-le-mul, mul-le-mul_left, mul-le-mul_right, mul-pos, HasRoom, le_of_mul-le-mul_right, lt-div-mul-add, div-mul-le_self, div-le_of_le-mul, le-leb, lt-leb, leb_tells, part_down, part_up}
 
 -- ---- the two cases
 

@@ -1,10 +1,7 @@
 -- How wide a share at a bracket of the quantile is, in plain numbers. The bracket goes from x to q; the ends of the
 -- unit's mean are ml and mh, those of its joint means up to x and up to q bl, bh and cl, ch, that at q has the ends jl
 -- and jh, and what of the joint mean lies in the tail is at most u at x and at least v at q.
-use Rattle.std.specs.Prelude.{max}
-use Rattle.dl_shares.proofs.Common.{ℕ, ◌≡◌, ◌+◌, ◌-◌, ◌*◌, ◌/◌, ◌^◌, ◌<◌, ◌≤◌, arith, div_ceil, div_ceil_least, mul-le-mul, mul-le-mul_left, Fraction, whole, ◌<ℚ◌, up_quotient, quotients_apart}
-use Rattle.dl_measures.proofs.TailLaws.{rest_above}
-use Rattle.dl_shares.specs.Widths.{whole_share_width}
+use Rattle.dl_shares.proofs.Common.{ℕ, ◌≡◌, ◌+◌, ◌-◌, ◌*◌, ◌/◌, ◌^◌, ◌<◌, ◌≤◌, arith, div_ceil, div_ceil_least, mul-le-mul, mul-le-mul_left, Fraction, whole, ◌<ℚ◌, up_quotient, quotients_apart, max, rest_above, whole_share_width}
 
 -- the width of the sum of what lies above the quantile and of the part of its joint mean
 abbrev pub sum_width : (m K j t : ℕ) → ℕ

@@ -1,9 +1,7 @@
 -- Sums over the amounts of one claim: as sums over the pairs that add up to the total, how large they are, and how far
 -- apart two of them lie.
-use Rattle.dl_shares.proofs.Common.{ℕ, zero, suc, ◌≡◌, ◌∙◌, ◌+◌, ◌-◌, ◌*◌, ◌<◌, ◌≤◌, ◌^◌, ◌==◌, List, [], ◌∷◌, length, take, get_or, true, false, cond, inl, inr, refl, ap, ap₂, sym, arith, sum_by-cons, sum_by_more, Item, weight_at, weight_sum, ◌≢◌, nat_le, mul-le-mul_left, mul-le-mul_right, sum_by-take-le, amounts_to}
-use Rattle.dl_exact.proofs.Counts.{nothing_times, times_nothing, pairs_none, pairs_only, pairs_past, pairs_same, pairs_plus, pairs_le, below_pairs, below_le, below_times}
+use Rattle.dl_shares.proofs.Common.{ℕ, zero, suc, ◌≡◌, ◌∙◌, ◌+◌, ◌-◌, ◌*◌, ◌<◌, ◌≤◌, ◌^◌, ◌==◌, List, [], ◌∷◌, length, take, get_or, true, false, cond, inl, inr, refl, ap, ap₂, sym, arith, sum_by-cons, sum_by_more, Item, weight_at, weight_sum, ◌≢◌, nat_le, mul-le-mul_left, mul-le-mul_right, sum_by-take-le, amounts_to, nothing_times, times_nothing, pairs_none, pairs_only, pairs_past, pairs_same, pairs_plus, pairs_le, below_pairs, below_le, below_times, leb_tells}
 use Rattle.std.proofs.Common.{mul-le-mul, eq-eqb, ne_eqb}
-use Rattle.std.proofs.lemmas.Bool.Decides.{leb_tells}
 use Rattle.dl_exact.specs.Count.{count_pairs, count_below}
 
 -- ---- one item more

@@ -1,17 +1,9 @@
 -- The mean of a unit beside others is that of the unit alone, under a common factor too.
-use Rattle.dl_shares.proofs.Common.{ℕ, zero, suc, ◌≡◌, ◌<◌, arith, sym, ap, ap₂, subst, subst₂, ◌∙◌, List, [], ◌∷◌, length, get_or, fun_ext, Fraction, whole, ◌*ℚ◌, ring, times_one, times_left_comm, Rises, Holds, times, Loss, IsLoss, AreDeclarable, One, Mean, Outcome, score, sum_over_outcomes, partial_sums, without, level_mean, self_holds, holds_times, loss_proper, outcomes_same, outcomes_times, outcomes_rise, total_alone_all, total_more_all, mean_alone}
-use Rattle.std.proofs.lemmas.List.{get_or-map, length-map}
-use Rattle.dl_plan.specs.declared.plan.Plan.{Plan}
+use Rattle.dl_shares.proofs.Common.{ℕ, zero, suc, ◌≡◌, ◌<◌, arith, sym, ap, ap₂, subst, subst₂, ◌∙◌, List, [], ◌∷◌, length, get_or, fun_ext, Fraction, whole, ◌*ℚ◌, ring, times_one, times_left_comm, Rises, Holds, times, Loss, IsLoss, AreDeclarable, One, Mean, Outcome, score, sum_over_outcomes, partial_sums, without, level_mean, self_holds, holds_times, loss_proper, outcomes_same, outcomes_times, outcomes_rise, total_alone_all, total_more_all, mean_alone, get_or-map, length-map, Plan, IsValid, plan_declared, by_factor, shared_outcome, sum_to_same, sum_to_times_right, unit_is, without_units}
 use Rattle.dl_plan.specs.declared.plan.Unit.{Unit as UnitOfPlan}
-use Rattle.dl_plan.specs.Prelude.{IsValid}
 use Rattle.dl_model.specs.Plans.{aggregates_of, declared, loss_of}
 use Rattle.dl_model.proofs.Bounded.{are_units}
-use Rattle.dl_model.proofs.PlanUnits.{plan_declared}
-use Rattle.dl_model.proofs.CommonPlans.{by_factor}
-use Rattle.dl_model.proofs.CommonMeans.{shared_outcome}
 use Rattle.dl_shares.proofs.BesideJoint.{all_split}
-use Rattle.dl_exact.proofs.Sums.{sum_to_same, sum_to_times_right}
-use Rattle.dl_model.proofs.Without.{unit_is, without_units}
 
 loss_at : (us : List Loss) (i : ℕ) (u : Loss) → AreDeclarable us → i < length us → IsLoss (get_or us i u)
 loss_at [] i u w b = absurd (omega arith)

@@ -1,9 +1,8 @@
 -- The joint mean from the grids of a unit and of the others: how large its ends are, and how far apart they lie.
-use Rattle.dl_shares.proofs.Common.{ℕ, ◌≡◌, ◌+◌, ◌-◌, ◌*◌, ◌/◌, ◌^◌, ◌<◌, ◌≤◌, List, length, arith, ap₂, div_ceil, mul-le-mul, mul-le-mul_left, mul-le-mul_right, mul-pos, le_trans, pow_pos, div_ceil_least, low_at, high_at, spread, IsGrid, count_pairs, count_below, size_of, cells_fit, grid_room, size_within, below_same, below_plus, pairs_le, pairs_same, low_weighted, high_weighted}
+use Rattle.dl_shares.proofs.Common.{ℕ, ◌≡◌, ◌+◌, ◌-◌, ◌*◌, ◌/◌, ◌^◌, ◌<◌, ◌≤◌, List, length, arith, ap₂, div_ceil, mul-le-mul, mul-le-mul_left, mul-le-mul_right, mul-pos, le_trans, pow_pos, div_ceil_least, low_at, high_at, spread, IsGrid, count_pairs, count_below, size_of, cells_fit, grid_room, size_within, below_same, below_plus, pairs_le, pairs_same, low_weighted, high_weighted, cv_is}
 use Rattle.dl_iv.specs.declared.interval.Iv.{Iv}
 use Rattle.dl_grid.specs.Prelude.{convolution_spread, HasRoom}
 use Rattle.dl_grid.proofs.PlaceSums.{width_at, high_is, low_within, width_within}
-use Rattle.dl_grid.proofs.WidthLaws.{cv_is}
 use Rattle.dl_shares.proofs.WeightedSums.{weighted_top, weighted_width}
 
 -- ---- how large they are

@@ -1,8 +1,7 @@
 -- Sums of y * f y * g z over all y + z = x, in plain numbers: how large they are, and how far apart two of them lie
 -- once rounded.
-use Rattle.dl_shares.proofs.Common.{ℕ, ◌≡◌, ◌+◌, ◌-◌, ◌*◌, ◌/◌, ◌<◌, ◌≤◌, arith, ◌∙◌, div_ceil, mul-le-mul, mul-le-mul_left, mul-le-mul_right, le_of_mul-le-mul_right, lt-div-mul-add, le_trans, div_ceil_times, ceiling_reaches, count_pairs, count_below, below_more, below_le, below_times, pairs_same, pairs_within}
+use Rattle.dl_shares.proofs.Common.{ℕ, ◌≡◌, ◌+◌, ◌-◌, ◌*◌, ◌/◌, ◌<◌, ◌≤◌, arith, ◌∙◌, div_ceil, mul-le-mul, mul-le-mul_left, mul-le-mul_right, le_of_mul-le-mul_right, lt-div-mul-add, le_trans, div_ceil_times, ceiling_reaches, count_pairs, count_below, below_more, below_le, below_times, pairs_same, pairs_within, products_apart, pairs_apart}
 use Rattle.std.proofs.Math.Nat.{le_refl}
-use Rattle.dl_grid.proofs.Products.{products_apart, pairs_apart}
 
 -- the sum over the first places
 -- no outcome up to x is above x

@@ -1,9 +1,5 @@
 -- Units that are alike have the same grids and means.
-use Rattle.dl_sources.proofs.Common.{inl, inr, cases_lt, get_or, get_or_default, ℕ, ◌≡◌, ◌+◌, ◌<◌, ◌≤◌, ◌^◌, List, [], ◌∷◌, length, take, arith, refl, sym, ap, subst, subst₂, ◌∙◌, Option, whole, ◌over◌, Iv, spread, Holds, GridEncloses, Aggregate, One, Mean, partial_sums, outcome_after, Clause, horizon, after_clause, unit_budget, unit_mean_budget, mean_width, IsUnitGrid, IsUnitMean, loss_of, take_all, Fraction, ◌*ℚ◌, ◌-ℚ◌, up, mean_amount, shares, Loss, after_zero, count_weights, UnitOfPlan, expected_count, count_budget, none_budget, budget_after_zero, mean_after_zero}
-use Rattle.dl_plan.specs.declared.item.Item.{Item}
-use Rattle.dl_plan.specs.declared.plan.Freq.{Freq}
-use Rattle.dl_plan.specs.Weighted.{weight_at, greatest}
-use Rattle.dl_sources.specs.Same.{AreAlike}
+use Rattle.dl_sources.proofs.Common.{inl, inr, cases_lt, get_or, get_or_default, ℕ, ◌≡◌, ◌+◌, ◌<◌, ◌≤◌, ◌^◌, List, [], ◌∷◌, length, take, arith, refl, sym, ap, subst, subst₂, ◌∙◌, Option, whole, ◌over◌, Iv, spread, Holds, GridEncloses, Aggregate, One, Mean, partial_sums, outcome_after, Clause, horizon, after_clause, unit_budget, unit_mean_budget, mean_width, IsUnitGrid, IsUnitMean, loss_of, take_all, Fraction, ◌*ℚ◌, ◌-ℚ◌, up, mean_amount, shares, Loss, after_zero, count_weights, UnitOfPlan, expected_count, count_budget, none_budget, budget_after_zero, mean_after_zero, Item, Freq, weight_at, greatest, AreAlike}
 
 -- a unit's aggregate loss, and its budget before its clause, from what alike units share
 abbrev aggregate : Freq → Option Clause → List Item → ℕ → Aggregate

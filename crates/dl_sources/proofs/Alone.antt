@@ -1,7 +1,5 @@
 -- A plan of one unit: its grid is that of the total.
-use Rattle.dl_exact.proofs.Made.{some_inside}
-use Rattle.dl_sources.specs.Origins.{AreOthers}
-use Rattle.dl_sources.proofs.Common.{ℕ, zero, suc, ◌≡◌, List, [], ◌∷◌, ◌++◌, length, get_or, arith, sym, ap, Option, None, IsSome, false, IsTrue, Iv, Plan, IsValid, AreUnitGrids, IsTotal, IsTotalOf, AreSumsWithout, length-append}
+use Rattle.dl_sources.proofs.Common.{ℕ, zero, suc, ◌≡◌, List, [], ◌∷◌, ◌++◌, length, get_or, arith, sym, ap, Option, None, IsSome, false, IsTrue, Iv, Plan, IsValid, AreUnitGrids, IsTotal, IsTotalOf, AreSumsWithout, length-append, some_inside, AreOthers}
 use Rattle.dl_sources.proofs.SumLaws.{are_others, each_cells, is_total}
 
 -- the only grid

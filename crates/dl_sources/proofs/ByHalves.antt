@@ -1,26 +1,14 @@
 -- The sum of units by halves, and their means.
 use Rattle.std.specs.Prelude.{filter, not, replicate, is_some, is_none, ◌&&◌}
-use Rattle.std.specs.Option.{option_to_list}
 use Rattle.std.proofs.Common.{Bool, true, false, cond, drop, append_assoc, zero-add}
-use Rattle.std.proofs.Math.Nat.{suc-add}
-use Rattle.std.proofs.Math.Seq.{take-add}
-use Rattle.std.proofs.lemmas.List.{append-nil, get_or-replicate, length-replicate, map-append, drop_all}
-use Rattle.std.proofs.lemmas.List.Elements.{All-filter, All-take, All-drop, filter-append}
-use Rattle.dl_exact.proofs.Made.{all_pushed}
-use Rattle.dl_plan.specs.Common.{can_share, is_poisson}
-use Rattle.dl_totals.specs.Shared.{EnclosesSum}
-use Rattle.dl_totals.specs.Sums.{EncloseEach}
 use Rattle.dl_totals.proofs.Added.{alone}
-use Rattle.dl_sources.specs.Pooled.{IsPooledFor, rest_of, unpooled}
-use Rattle.dl_sources.specs.Same.{AreAlike, AreAllAlike}
-use Rattle.dl_sources.specs.Units.{AddMeans, IsSumOfUnits}
 use Rattle.dl_sources.proofs.AlikeLaws.{alike_grid, alike_mean}
 use Rattle.dl_sources.proofs.Losses.{is_independent}
 use Rattle.dl_sources.proofs.Parted.{is_total_among}
 use Rattle.dl_sources.proofs.ReadAs.{unit_on}
 use Rattle.dl_sources.proofs.SumLaws.{each_encloses}
 use Rattle.dl_sources.proofs.Taken.{means_more, no_means}
-use Rattle.dl_sources.proofs.Common.{ℕ, zero, suc, ◌≡◌, ◌+◌, ◌-◌, ◌^◌, ◌<◌, ◌≤◌, List, [], ◌∷◌, ◌++◌, length, get_or, map, take, arith, refl, sym, ap, ap₂, subst, subst₂, ◌∙◌, All, All-tail, All-append, All-cons, All-nil, Option, None, Some, IfSome, Iv, Loss, AreDeclarable, total, GridEncloses, loss_of, are_units, units_declared, plan_units, length-append, length-map, take_all, IsUnitOn, IsPlanAt, IsValid, IsValidUnit, IsUnitGrid, IsUnitMean, AreUnitGrids, AreMeansOf, IsTotalOf, spread, total_budget, most_unit_mean, UnitOfPlan, Plan, Fraction, Clause}
+use Rattle.dl_sources.proofs.Common.{ℕ, zero, suc, ◌≡◌, ◌+◌, ◌-◌, ◌^◌, ◌<◌, ◌≤◌, List, [], ◌∷◌, ◌++◌, length, get_or, map, take, arith, refl, sym, ap, ap₂, subst, subst₂, ◌∙◌, All, All-tail, All-append, All-cons, All-nil, Option, None, Some, IfSome, Iv, Loss, AreDeclarable, total, GridEncloses, loss_of, are_units, units_declared, plan_units, length-append, length-map, take_all, IsUnitOn, IsPlanAt, IsValid, IsValidUnit, IsUnitGrid, IsUnitMean, AreUnitGrids, AreMeansOf, IsTotalOf, spread, total_budget, most_unit_mean, UnitOfPlan, Plan, Fraction, Clause, option_to_list, suc-add, take-add, append-nil, get_or-replicate, length-replicate, map-append, drop_all, All-filter, All-take, All-drop, filter-append, all_pushed, can_share, is_poisson, EnclosesSum, EncloseEach, IsPooledFor, rest_of, unpooled, AreAlike, AreAllAlike, AddMeans, IsSumOfUnits}
 
 -- ---- units that all stay, or all do not
 

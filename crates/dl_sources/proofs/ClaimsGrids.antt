@@ -1,18 +1,7 @@
 -- Grids over which the claims of a unit give its joint means.
-use Rattle.dl_sources.proofs.Common.{IsTrue, leb_tells, ℕ, ◌≡◌, ◌^◌, ◌<◌, ◌≤◌, List, ◌∷◌, length, get_or, arith, sym, ap, subst, ◌∙◌, get_or-map, length-map, inl, inr, None, Iv, low_at, high_at, spread, Holds, One, Joint, partial_sums, total, GridEncloses, loss_of, aggregates_of, plan_units, Plan, IsValid, UnitOfPlan, read_unit, thinned_mean, joint_budget, Declares, IsTotalOf}
-use Rattle.std.proofs.Math.Dec.{leb}
-use Rattle.dl_limits.specs.Limits.{budget_bound}
-use Rattle.dl_plan.specs.Common.{CanRaise, CanShare}
-use Rattle.dl_plan.specs.Count.{IsUnbounded}
-use Rattle.dl_plan.proofs.Shared.{gamma_unbounded, poisson_unbounded}
-use Rattle.dl_budget.specs.Shared.{shared_joint_budget}
-use Rattle.dl_shares.specs.Amounts.{claims_mean}
-use Rattle.dl_pool.specs.Extra.{IsExtra}
-use Rattle.dl_shares.proofs.GammaJoint.{gamma_exact}
-use Rattle.dl_shares.proofs.PoissonJoint.{poisson_exact}
+use Rattle.dl_sources.proofs.Common.{IsTrue, leb_tells, ℕ, ◌≡◌, ◌^◌, ◌<◌, ◌≤◌, List, ◌∷◌, length, get_or, arith, sym, ap, subst, ◌∙◌, get_or-map, length-map, inl, inr, None, Iv, low_at, high_at, spread, Holds, One, Joint, partial_sums, total, GridEncloses, loss_of, aggregates_of, plan_units, Plan, IsValid, UnitOfPlan, read_unit, thinned_mean, joint_budget, Declares, IsTotalOf, leb, budget_bound, CanRaise, CanShare, IsUnbounded, gamma_unbounded, poisson_unbounded, shared_joint_budget, claims_mean, IsExtra, gamma_exact, poisson_exact, IsWholeClaimsGrid}
 use Rattle.dl_sources.proofs.Losses.{is_independent, total_alone}
 use Rattle.dl_sources.proofs.ReadAs.{unit_there}
-use Rattle.dl_sources.specs.Origins.{IsWholeClaimsGrid}
 
 -- a unit that was read in the units of a plan
 module _ (plan : Plan) (i : ℕ) {units : List UnitOfPlan} {u : UnitOfPlan} (same : units ≡ plan.units)

@@ -1,10 +1,5 @@
 -- What is drawn of units under a common factor.
-use Rattle.dl_exact.proofs.Made.{any_here}
-use Rattle.dl_budget.specs.declared.once.UnitBudgets.{UnitBudgets}
-use Rattle.dl_shares.specs.declared.drawn.Drawn.{Drawn}
-use Rattle.dl_shares.specs.declared.drawn.Origin.TheVariants.{Nowhere}
-use Rattle.dl_sources.specs.Origins.{AreFactorGrids, ReachNamed, factor_origin}
-use Rattle.dl_sources.proofs.Common.{ℕ, ◌≡◌, ◌<◌, List, [], ◌∷◌, length, get_or, map, arith, refl, ap, ◌∙◌, Any, Bool, false, IsTrue, Option, None, Some, IsSome, Iv, Plan, Gives, IsClaimsGrid, IsOriginOf, IsTotalOf, get_or-map}
+use Rattle.dl_sources.proofs.Common.{ℕ, ◌≡◌, ◌<◌, List, [], ◌∷◌, length, get_or, map, arith, refl, ap, ◌∙◌, Any, Bool, false, IsTrue, Option, None, Some, IsSome, Iv, Plan, Gives, IsClaimsGrid, IsOriginOf, IsTotalOf, get_or-map, any_here, UnitBudgets, Drawn, Nowhere, AreFactorGrids, ReachNamed, factor_origin}
 
 pub one_grid : {B : ℕ} {plan : Plan} {n : ℕ} {grids : List (List (Iv B))} {t : List (Iv B)} → IsTotalOf plan t
     → grids ≡ t ∷ [] → AreFactorGrids plan false n grids

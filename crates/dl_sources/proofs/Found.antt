@@ -1,16 +1,5 @@
 -- What joint means come from, among grids to which more are added, and in what is drawn.
-use Rattle.std.specs.Prelude.{replicate}
-use Rattle.std.proofs.lemmas.List.{get_or-replicate, length-replicate}
-use Rattle.std.proofs.Common.{drop}
-use Rattle.std.proofs.Math.Seq.{drop-cons}
-use Rattle.std.proofs.lemmas.List.{get_or_past}
-use Rattle.dl_exact.proofs.Made.{each_pushed, pushed_length, some_inside}
-use Rattle.dl_budget.specs.declared.once.UnitBudgets.{UnitBudgets}
-use Rattle.dl_shares.specs.declared.drawn.Drawn.{Drawn}
-use Rattle.dl_shares.specs.declared.drawn.Origin.{Origin}
-use Rattle.dl_shares.specs.declared.drawn.Origin.TheVariants.{Nowhere, Beside, Claims}
-use Rattle.dl_sources.specs.Origins.{AreGridsFor, AreOthers, IsBeside, IsFoundOf, IsWholeClaimsGrid, IsWholeNumber, ReachNamed, StayAmong}
-use Rattle.dl_sources.proofs.Common.{ℕ, suc, inl, inr, cases_lt, remove, IsTotalOf, ◌≡◌, ◌+◌, ◌<◌, ◌≤◌, List, [], ◌∷◌, ◌++◌, length, get_or, arith, sym, ap, subst, ◌∙◌, Option, None, Some, IfSome, IsSome, Iv, spread, Plan, AreOthersOf, AreUnitGrids, Gives, IsOriginOf, length-append, get_or_push}
+use Rattle.dl_sources.proofs.Common.{ℕ, suc, inl, inr, cases_lt, remove, IsTotalOf, ◌≡◌, ◌+◌, ◌<◌, ◌≤◌, List, [], ◌∷◌, ◌++◌, length, get_or, arith, sym, ap, subst, ◌∙◌, Option, None, Some, IfSome, IsSome, Iv, spread, Plan, AreOthersOf, AreUnitGrids, Gives, IsOriginOf, length-append, get_or_push, replicate, get_or-replicate, length-replicate, drop, drop-cons, get_or_past, each_pushed, pushed_length, some_inside, UnitBudgets, Drawn, Origin, Nowhere, Beside, Claims, AreGridsFor, AreOthers, IsBeside, IsFoundOf, IsWholeClaimsGrid, IsWholeNumber, ReachNamed, StayAmong}
 use Rattle.dl_sources.proofs.ReadAs.{grid_of_unit}
 
 -- ---- more grids

@@ -1,19 +1,8 @@
 -- The mean of a total, from those of its units.
-use Rattle.dl_sources.proofs.Common.{ℕ, suc, ◌≡◌, ◌+◌, ◌-◌, ◌*◌, ◌^◌, ◌≤◌, List, [], ◌∷◌, length, map, arith, sym, ap, subst, subst₂, ◌∙◌, Option, None, Some, All, mul-le-mul_left, pow_pos, Fraction, whole, ◌over◌, ◌*ℚ◌, ◌+ℚ◌, Iv, spread, CedeLayer, Plan, Clause, horizon, IsValidUnit, IsValid, claims_budget, mean_width, unit_mean_budget, one_horizon, AreUnitMeans, IsUnitMean, IsMeanOf, loss_of, sum_by, All-tail, over_same, one_pos, over_plus, are_units, no_clause, units_declared, MeanHolds, units_mean, UnitOfPlan, layer_budget, clause_mean, part_width, HoldsClaims, HoldsKept, independent, IsClaimsSum, IsClauseMean}
-use Rattle.std.proofs.lemmas.List.Sums.{sum_by-cons}
-use Rattle.dl_exact.specs.Sum.{sum_over}
-use Rattle.dl_model.proofs.TotalMeans.{mean_of_total}
+use Rattle.dl_sources.proofs.Common.{ℕ, suc, ◌≡◌, ◌+◌, ◌-◌, ◌*◌, ◌^◌, ◌≤◌, List, [], ◌∷◌, length, map, arith, sym, ap, subst, subst₂, ◌∙◌, Option, None, Some, All, mul-le-mul_left, pow_pos, Fraction, whole, ◌over◌, ◌*ℚ◌, ◌+ℚ◌, Iv, spread, CedeLayer, Plan, Clause, horizon, IsValidUnit, IsValid, claims_budget, mean_width, unit_mean_budget, one_horizon, AreUnitMeans, IsUnitMean, IsMeanOf, loss_of, sum_by, All-tail, over_same, one_pos, over_plus, are_units, no_clause, units_declared, MeanHolds, units_mean, UnitOfPlan, layer_budget, clause_mean, part_width, HoldsClaims, HoldsKept, independent, IsClaimsSum, IsClauseMean, sum_by-cons, sum_over, mean_of_total, All-head, up_above, bits_of, most_mean, most_mean_budget, most_total_at, total_units, at_most_wider, mean_with_change, loss_of_declared, mean_budget, mean_by}
 use Rattle.dl_sources.proofs.Losses.{is_independent}
 use Rattle.std.proofs.Math.Nat.{le_trans, mul-le-mul_right}
-use Rattle.std.proofs.lemmas.List.Elements.{All-head}
-use Rattle.dl_exact.proofs.RoundingLaws.{up_above}
-use Rattle.dl_limits.specs.Limits.{bits_of, most_mean, most_mean_budget, most_total_at}
-use Rattle.dl_limits.proofs.Scales.{total_units}
 use Rattle.dl_plan.specs.Prelude.{declared_mean, growth, whole_mean, whole_means}
-use Rattle.dl_model.proofs.Declared.{at_most_wider}
-use Rattle.dl_model.proofs.PlanMeans.{mean_with_change}
-use Rattle.dl_model.proofs.PlanUnits.{loss_of_declared}
-use Rattle.dl_budget.specs.Units.{mean_budget, mean_by}
 use Rattle.dl_outcomes.proofs.Means.{mean_low as low_of_mean}
 
 -- ---- of a unit without a clause

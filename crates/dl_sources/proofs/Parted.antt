@@ -1,22 +1,8 @@
 -- The total of a plan where one Poisson unit stands for several: the order in which units are added up is of no account.
-use Rattle.dl_sources.proofs.Common.{ℕ, ◌≡◌, ◌^◌, List, [], ◌∷◌, ◌++◌, length, map, arith, refl, sym, ap, subst, ◌∙◌, All, Loss, AreDeclarable, total, GridEncloses, Fraction, ◌*ℚ◌, Iv, low_at, high_at, loss_of, encloses_same, AreUnitGrids, IsValid, IsValidUnit, UnitOfPlan, Plan, None, Some, Option, IfSome, IsTotalOf, ◌≤◌, spread, total_budget, All-append, All-cons, All-nil, are_units, units_declared, plan_units, length-map, fun_ext}
+use Rattle.dl_sources.proofs.Common.{ℕ, ◌≡◌, ◌^◌, List, [], ◌∷◌, ◌++◌, length, map, arith, refl, sym, ap, subst, ◌∙◌, All, Loss, AreDeclarable, total, GridEncloses, Fraction, ◌*ℚ◌, Iv, low_at, high_at, loss_of, encloses_same, AreUnitGrids, IsValid, IsValidUnit, UnitOfPlan, Plan, None, Some, Option, IfSome, IsTotalOf, ◌≤◌, spread, total_budget, All-append, All-cons, All-nil, are_units, units_declared, plan_units, length-map, fun_ext, filter, times_left_comm, convolve, IsPoissonSum, IsLoss, convolve_comm, convolve_assoc, total_more, total_more_all, map-append, All-filter, can_share, same_cells_enclosed, poisson_among, EncloseEach, rest_of, IsPooledFor}
 use Rattle.std.proofs.Common.{Bool, true, false, not, cond}
-use Rattle.std.specs.Prelude.{filter}
-use Rattle.dl_exact.proofs.Laws.{times_left_comm}
-use Rattle.dl_model.specs.Prelude.{convolve}
-use Rattle.dl_model.specs.CommonUnits.{IsPoissonSum}
-use Rattle.dl_model.specs.Program.{IsLoss}
-use Rattle.dl_model.proofs.Powers.{convolve_comm, convolve_assoc}
-use Rattle.dl_model.proofs.Outcomes.{total_more, total_more_all}
-use Rattle.std.proofs.lemmas.List.{map-append}
-use Rattle.std.proofs.lemmas.List.Elements.{All-filter}
-use Rattle.dl_plan.specs.Common.{can_share}
-use Rattle.dl_model.proofs.Alike.{same_cells_enclosed}
-use Rattle.dl_model.proofs.PoissonTotals.{poisson_among}
-use Rattle.dl_totals.specs.Sums.{EncloseEach}
 use Rattle.dl_sources.proofs.Losses.{is_independent}
 use Rattle.dl_sources.proofs.SumLaws.{each_encloses}
-use Rattle.dl_sources.specs.Pooled.{rest_of, IsPooledFor}
 
 -- ---- the order is of no account
 

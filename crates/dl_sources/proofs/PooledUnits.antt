@@ -1,14 +1,7 @@
 -- The one unit in the place of units that share a factor: what its grid and its mean hold, and how wide they are.
-use Rattle.dl_sources.proofs.Common.{ℕ, suc, ◌≡◌, ◌+◌, ◌*◌, ◌^◌, ◌<◌, ◌≤◌, List, [], ◌∷◌, length, get_or, arith, refl, sym, ap, subst, subst₂, ◌∙◌, mul-le-mul, pow_pos, Option, None, Some, Fraction, whole, ◌over◌, Iv, spread, low_at, high_at, Holds, One, Point, Mean, partial_sums, total, GridEncloses, mapped, aggregate_of, compound_of, loss, unit_declared, Plan, IsValid, IsValidUnit, claims_budget, total_budget, IsClaimsGrid, IsTotalOf, IsMeanOf, Loss, fun_ext, IsSome, UnitOfPlan, thinned_mean, expected_count, raised, thinned_of, probability_of, SharesFactor, ◌+ℚ◌, ◌*ℚ◌, ◌-ℚ◌, up, Quantity, CountsTotal, after_zero, declared, no_clause, encloses_same, total_mean, total_point, unit_declared_loss, HoldsClaims, count_budget, joint_by, mean_by, total_by, get_or_default, unit_budget, budget_after_zero, none_budget, after_clause, horizon}
-use Rattle.dl_plan.specs.declared.plan.Freq.TheVariants.{Gamma}
-use Rattle.dl_plan.proofs.Shared.{has_factor, poisson_unbounded}
+use Rattle.dl_sources.proofs.Common.{ℕ, suc, ◌≡◌, ◌+◌, ◌*◌, ◌^◌, ◌<◌, ◌≤◌, List, [], ◌∷◌, length, get_or, arith, refl, sym, ap, subst, subst₂, ◌∙◌, mul-le-mul, pow_pos, Option, None, Some, Fraction, whole, ◌over◌, Iv, spread, low_at, high_at, Holds, One, Point, Mean, partial_sums, total, GridEncloses, mapped, aggregate_of, compound_of, loss, unit_declared, Plan, IsValid, IsValidUnit, claims_budget, total_budget, IsClaimsGrid, IsTotalOf, IsMeanOf, Loss, fun_ext, IsSome, UnitOfPlan, thinned_mean, expected_count, raised, thinned_of, probability_of, SharesFactor, ◌+ℚ◌, ◌*ℚ◌, ◌-ℚ◌, up, Quantity, CountsTotal, after_zero, declared, no_clause, encloses_same, total_mean, total_point, unit_declared_loss, HoldsClaims, count_budget, joint_by, mean_by, total_by, get_or_default, unit_budget, budget_after_zero, none_budget, after_clause, horizon, Gamma, has_factor, poisson_unbounded, pooled_thinned, pooled_valid, raised_thinned, raised_valid, same_declared, raised_budget, shape_budget, shared_joint_budget, thinned_at, shape_rises, thinned_here, common_exact, budget_bound}
 use Rattle.dl_model.proofs.Outcomes.{total_alone, total_alone_all}
 use Rattle.dl_pool.specs.Pooled.{IsPooled, IsRaised, alone}
-use Rattle.dl_pool.proofs.Alone.{pooled_thinned, pooled_valid, raised_thinned, raised_valid, same_declared}
-use Rattle.dl_budget.specs.Shared.{raised_budget, shape_budget, shared_joint_budget, thinned_at}
-use Rattle.dl_budget.proofs.SharedUnits.{shape_rises, thinned_here}
-use Rattle.dl_shares.proofs.CommonJoint.{common_exact}
-use Rattle.dl_limits.specs.Limits.{budget_bound}
 use Rattle.dl_sources.proofs.SumLaws.{plain_encloses}
 
 -- a plan with some factor shares one

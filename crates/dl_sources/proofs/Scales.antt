@@ -1,6 +1,5 @@
 -- The scales of plans.
-use Rattle.dl_sources.proofs.Common.{ℕ, ◌≡◌, ◌+◌, ◌*◌, ◌^◌, ◌≤◌, arith, sym, subst, pow-le-pow_right, inl, inr, leb_tells, bits_of, most_amount_at, most_cells_at, most_expected, most_horizon, most_plan_cells, most_short_cells, IsPlanScale, cells_fit, is_plan_scale, most_claims_mean, most_limited}
-use Rattle.dl_grid.specs.Room.{IsGridSize}
+use Rattle.dl_sources.proofs.Common.{ℕ, ◌≡◌, ◌+◌, ◌*◌, ◌^◌, ◌≤◌, arith, sym, subst, pow-le-pow_right, inl, inr, leb_tells, bits_of, most_amount_at, most_cells_at, most_expected, most_horizon, most_plan_cells, most_short_cells, IsPlanScale, cells_fit, is_plan_scale, most_claims_mean, most_limited, IsGridSize}
 
 pub plan_scale : (B cells : ℕ) → B ≡ bits_of cells → IsPlanScale B
 plan_scale B cells same = subst IsPlanScale (sym same) (is_plan_scale cells)

@@ -1,8 +1,5 @@
 -- The grid of a total, from those of its units.
-use Rattle.dl_sources.proofs.Common.{ℕ, zero, suc, ◌≡◌, ◌^◌, ◌<◌, ◌≤◌, List, [], ◌∷◌, length, get_or, map, arith, refl, sym, ap, subst, subst₂, ◌∙◌, Option, None, All, pow_pos, length-map, get_or_default, Iv, spread, low_at, high_at, convolution_spread, cv_rises, mapped, GridEncloses, unit_of, outcome_after, aggregate_of, aggregates_of, compound_of, unit_declared, plan_units, Plan, IsValidUnit, IsValid, unit_budget, unit_budgets, IsTotal, AreSumsWithout, AreUnitGrids, IsTotalOf, AreOthersOf, loss_of, IfSome_then, Bool, fold, remove, get_or-map, sum_budget, sum_spread, encloses_same, UnitOfPlan, budgets_length, budget_here, IsSumWithout, independent}
-use Rattle.dl_model.proofs.UnitLaws.{unit_plain}
-use Rattle.dl_totals.specs.Sums.{EncloseEach}
-use Rattle.dl_sources.specs.Origins.{AreOthers}
+use Rattle.dl_sources.proofs.Common.{ℕ, zero, suc, ◌≡◌, ◌^◌, ◌<◌, ◌≤◌, List, [], ◌∷◌, length, get_or, map, arith, refl, sym, ap, subst, subst₂, ◌∙◌, Option, None, All, pow_pos, length-map, get_or_default, Iv, spread, low_at, high_at, convolution_spread, cv_rises, mapped, GridEncloses, unit_of, outcome_after, aggregate_of, aggregates_of, compound_of, unit_declared, plan_units, Plan, IsValidUnit, IsValid, unit_budget, unit_budgets, IsTotal, AreSumsWithout, AreUnitGrids, IsTotalOf, AreOthersOf, loss_of, IfSome_then, Bool, fold, remove, get_or-map, sum_budget, sum_spread, encloses_same, UnitOfPlan, budgets_length, budget_here, IsSumWithout, independent, unit_plain, EncloseEach, AreOthers}
 use Rattle.dl_sources.proofs.Losses.{is_independent}
 
 -- ---- what the grids enclose

@@ -1,13 +1,6 @@
 -- The grids and means of the units so far.
 use Rattle.std.proofs.Common.{Bool, true, false, not, cond, drop}
-use Rattle.std.specs.Prelude.{filter}
-use Rattle.std.proofs.Math.Seq.{drop-cons}
-use Rattle.std.proofs.lemmas.List.{append-nil, take_more}
-use Rattle.std.proofs.lemmas.List.Elements.{filter_more}
-use Rattle.dl_exact.proofs.Made.{all_pushed, each_next}
-use Rattle.dl_plan.specs.Common.{can_share}
-use Rattle.dl_sources.specs.Pooled.{rest_of}
-use Rattle.dl_sources.proofs.Common.{ℕ, suc, ◌≡◌, ◌+◌, ◌<◌, ◌≤◌, List, [], ◌∷◌, ◌++◌, length, get_or, take, arith, refl, sym, ap, subst, ◌∙◌, Iv, UnitOfPlan, AreUnitGrids, AreUnitMeans, IsUnitGrid, IsUnitMean, AreMeansOf, most_unit_mean, length-append, get_or_append_left, get_or_push, get_or_default, take_all, remove}
+use Rattle.dl_sources.proofs.Common.{ℕ, suc, ◌≡◌, ◌+◌, ◌<◌, ◌≤◌, List, [], ◌∷◌, ◌++◌, length, get_or, take, arith, refl, sym, ap, subst, ◌∙◌, Iv, UnitOfPlan, AreUnitGrids, AreUnitMeans, IsUnitGrid, IsUnitMean, AreMeansOf, most_unit_mean, length-append, get_or_append_left, get_or_push, get_or_default, take_all, remove, filter, drop-cons, append-nil, take_more, filter_more, all_pushed, each_next, can_share, rest_of}
 
 -- ---- one grid more
 

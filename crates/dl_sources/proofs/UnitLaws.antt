@@ -1,6 +1,5 @@
 -- What is made of one unit.
-use Rattle.dl_sources.proofs.Common.{ℕ, ◌≡◌, ◌*◌, ◌^◌, ◌≤◌, List, length, arith, ap, subst, Option, None, Some, Iv, spread, mapped, GridEncloses, aggregate_of, Clause, IsHorizonOf, horizon, IsValidUnit, claims_budget, after_clause, one_horizon, UnitOfPlan, IsClaimsSum, IsClauseGrid}
-use Rattle.dl_plan.proofs.Horizons.{horizon_one}
+use Rattle.dl_sources.proofs.Common.{ℕ, ◌≡◌, ◌*◌, ◌^◌, ◌≤◌, List, length, arith, ap, subst, Option, None, Some, Iv, spread, mapped, GridEncloses, aggregate_of, Clause, IsHorizonOf, horizon, IsValidUnit, claims_budget, after_clause, one_horizon, UnitOfPlan, IsClaimsSum, IsClauseGrid, horizon_one}
 use Rattle.dl_sources.proofs.SumLaws.{plain_encloses}
 
 pub horizon_some : (cede : Option Clause) (h k : ℕ) → 1 ≤ h → IsHorizonOf cede h k → 1 ≤ k

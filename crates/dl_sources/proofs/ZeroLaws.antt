@@ -1,9 +1,5 @@
 -- A unit whose probability of no claim is changed: its grid and its mean from those before the change.
-use Rattle.dl_sources.proofs.Common.{ℕ, ◌≡◌, ◌+◌, ◌-◌, ◌*◌, ◌^◌, ◌≤◌, List, length, arith, ap, subst, ◌∙◌, None, Some, Option, IfSome, mul-le-mul_left, Fraction, whole, ◌≤ℚ◌, Iv, spread, GridEncloses, Aggregate, loss, unit_declared, aggregate_of, IsValidUnit, horizon, mean_width, claims_budget, after_clause, IsUnitGrid, IsUnitMean, IsPlanScale, bits_of, most_amount_at, most_expected, over_self, ceiling_div, up, UnitOfPlan, declared_mean, IsNewZero, mean_most, new_zero, IsDeclared, at_most_wider, mean_at_most, unit_declared_loss, none_budget, budget_after_zero, mean_after_zero, most_claims_mean, most_limited, most_clause_mean, IsClauseGrid, IsClauseMean}
-use Rattle.dl_model.specs.ChangedZero.{changed}
-use Rattle.dl_model.proofs.NewZero.{count_new_zero}
-use Rattle.dl_budget.proofs.NoneSizes.{none_small}
-use Rattle.dl_outcomes.specs.Prelude.{HoldsNone, HoldsMean, IsBefore, changed_spread, changed_mean_width}
+use Rattle.dl_sources.proofs.Common.{ℕ, ◌≡◌, ◌+◌, ◌-◌, ◌*◌, ◌^◌, ◌≤◌, List, length, arith, ap, subst, ◌∙◌, None, Some, Option, IfSome, mul-le-mul_left, Fraction, whole, ◌≤ℚ◌, Iv, spread, GridEncloses, Aggregate, loss, unit_declared, aggregate_of, IsValidUnit, horizon, mean_width, claims_budget, after_clause, IsUnitGrid, IsUnitMean, IsPlanScale, bits_of, most_amount_at, most_expected, over_self, ceiling_div, up, UnitOfPlan, declared_mean, IsNewZero, mean_most, new_zero, IsDeclared, at_most_wider, mean_at_most, unit_declared_loss, none_budget, budget_after_zero, mean_after_zero, most_claims_mean, most_limited, most_clause_mean, IsClauseGrid, IsClauseMean, changed, count_new_zero, none_small, HoldsNone, HoldsMean, IsBefore, changed_spread, changed_mean_width}
 use Rattle.dl_outcomes.proofs.Means.{none_low as low_of_none, mean_low as low_of_mean}
 use Rattle.dl_sources.proofs.Scales.{changed_fits, mean_fits, scale_least}
 

@@ -1,18 +1,7 @@
 -- What encloses a sum of units after one more is taken in, and how wide it is.
-use Rattle.dl_totals.proofs.Common.{ℕ, zero, suc, ◌≡◌, ◌+◌, ◌-◌, ◌^◌, ◌<◌, ◌≤◌, List, [], ◌∷◌, ◌++◌, length, get_or, take, drop, map, arith, refl, sym, ap, ap₂, subst, subst₂, ◌∙◌, fold, remove, pow_pos, fold_more, sum_by-take-le, get_or-map, get_or_default, length-map, length-take, take_all, drop_all, Iv, IsConvolution, spread, convolution_spread, sum_spread, cv_rises, Loss, IsLoss, AreDeclarable, total, GridEncloses, unit_of, without_suc, EncloseEach}
-use Rattle.std.proofs.Common.{append_assoc, zero-add}
+use Rattle.dl_totals.proofs.Common.{ℕ, zero, suc, ◌≡◌, ◌+◌, ◌-◌, ◌^◌, ◌<◌, ◌≤◌, List, [], ◌∷◌, ◌++◌, length, get_or, take, drop, map, arith, refl, sym, ap, ap₂, subst, subst₂, ◌∙◌, fold, remove, pow_pos, fold_more, sum_by-take-le, get_or-map, get_or_default, length-map, length-take, take_all, drop_all, Iv, IsConvolution, spread, convolution_spread, sum_spread, cv_rises, Loss, IsLoss, AreDeclarable, total, GridEncloses, unit_of, without_suc, EncloseEach, append_assoc, zero-add, All-take, All-drop, suc-add, fold-append, get_or-take, get_or-drop, length-drop, map-append, AreUnits, ◌over◌, low_at, high_at, all_at_zero, low_take, high_take, convolution_encloses, encloses_same, all_at_zero_encloses}
 use Rattle.std.specs.Prelude.{All}
-use Rattle.std.proofs.lemmas.List.Elements.{All-take, All-drop}
-use Rattle.std.proofs.Math.Nat.{suc-add}
-use Rattle.std.proofs.lemmas.List.Sums.{fold-append}
-use Rattle.std.proofs.lemmas.List.{get_or-take, get_or-drop, length-drop, map-append}
-use Rattle.dl_totals.specs.Shared.{AreUnits}
-use Rattle.dl_exact.specs.Fraction.{◌over◌}
-use Rattle.dl_grid.specs.Cells.{low_at, high_at, all_at_zero}
-use Rattle.dl_grid.proofs.CellSets.{low_take, high_take}
 use Rattle.dl_model.specs.Prelude.{Holds, sum_over_outcomes, Family, product, nothing, without}
-use Rattle.dl_model.proofs.FamilyLaws.{convolution_encloses, encloses_same}
-use Rattle.dl_model.proofs.FiniteCounts.{all_at_zero_encloses}
 use Rattle.dl_model.proofs.Outcomes.{no_units as nowhere, total_alone, total_alone_all, total_append, total_append_all, total_proper}
 
 -- ---- lists of units

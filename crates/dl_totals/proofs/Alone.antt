@@ -1,11 +1,5 @@
 -- The sums where one unit alone is asked for.
-use Rattle.dl_totals.proofs.Common.{◌≡◌, ℕ, ◌<◌, List, length, get_or, Some, None, Option, false, IsTrue, IsSome, IfSome, ◌↔◌, arith, refl, sym, ap, subst, ◌∙◌, get_or_default, Iv, IsSumWithout}
-use Rattle.std.proofs.Common.{Bool, set, replicate, inl, inr, ◌≢◌}
-use Rattle.std.specs.List.{Any}
-use Rattle.std.proofs.lemmas.Bool.{cases_eq, false≢true}
-use Rattle.std.proofs.lemmas.Grind.{get_or-set_at}
-use Rattle.std.proofs.lemmas.List.{get_or-replicate, get_or-set_other, length-replicate, length-set}
-use Rattle.dl_totals.specs.Shared.{AreSumsWithout, IsOnly}
+use Rattle.dl_totals.proofs.Common.{◌≡◌, ℕ, ◌<◌, List, length, get_or, Some, None, Option, false, IsTrue, IsSome, IfSome, ◌↔◌, arith, refl, sym, ap, subst, ◌∙◌, get_or_default, Iv, IsSumWithout, Bool, set, replicate, inl, inr, ◌≢◌, Any, cases_eq, false≢true, get_or-set_at, get_or-replicate, get_or-set_other, length-replicate, length-set, AreSumsWithout, IsOnly}
 
 -- that of the others is there for this unit, and for no other
 pub one_without : {B : ℕ} (k : ℕ) (grids : List (List (Iv B))) (asked : List Bool) (i : ℕ) (sum : List (Iv B))

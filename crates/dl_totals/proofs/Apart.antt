@@ -1,15 +1,8 @@
 -- Sums of units that have none in common: two of them are added up, and the sum goes in their place.
-use Rattle.dl_totals.proofs.Common.{◌≡◌, ℕ, ◌+◌, ◌<◌, ◌≤◌, List, [], ◌∷◌, ◌++◌, length, get_or, Some, arith, refl, sym, ap, subst, subst₂, ◌∙◌, remove, IsSumOfPart, IsConvolution, Iv}
+use Rattle.dl_totals.proofs.Common.{◌≡◌, ℕ, ◌+◌, ◌<◌, ◌≤◌, List, [], ◌∷◌, ◌++◌, length, get_or, Some, arith, refl, sym, ap, subst, subst₂, ◌∙◌, remove, IsSumOfPart, IsConvolution, Iv, cases_lt, lt-ltb, le-ltb, get_or_append_left, get_or_default, get_or-append_seam, get_or-remove_below, get_or-remove_above, length-remove, sum_by-append, sum_by-cons, sum_by-remove, length-append, chosen, passed, in_some, no_choice, AreApart, AreSumsOfChosen, KeepsChosen}
 use Rattle.std.proofs.Common.{Bool, true, false, cond, ◌||◌, ◌&&◌, nat_lt, inl, inr}
-use Rattle.std.proofs.lemmas.Bool.{cases_lt, lt-ltb, le-ltb}
-use Rattle.std.proofs.lemmas.List.{get_or_append_left, get_or_default}
-use Rattle.std.proofs.Math.Seq.{get_or-append_seam}
-use Rattle.std.proofs.lemmas.List.Edits.{get_or-remove_below, get_or-remove_above, length-remove}
-use Rattle.std.proofs.lemmas.List.Sums.{sum_by-append, sum_by-cons, sum_by-remove}
-use Rattle.std.proofs.lemmas.List.{length-append}
 use Rattle.std.specs.List.{All}
 use mathlib.Core.Path.{fun_ext}
-use Rattle.dl_totals.specs.Chosen.{chosen, passed, in_some, no_choice, AreApart, AreSumsOfChosen, KeepsChosen}
 use Rattle.dl_totals.proofs.Chosen.{both_chosen, Apart}
 
 -- what one test counts at a place

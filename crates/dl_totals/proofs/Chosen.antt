@@ -1,17 +1,10 @@
 -- Units that are picked by their places: what encloses two sums of them encloses that of both together.
-use Rattle.dl_totals.proofs.Common.{◌≡◌, ℕ, zero, suc, ◌<◌, ◌≤◌, ◌^◌, List, [], ◌∷◌, length, Some, arith, refl, sym, ap, ◌∙◌, Loss, AreDeclarable, IsLoss, total, unit_of, EncloseEach, GridEncloses, IsSumOfPart, IsConvolution, Iv}
+use Rattle.dl_totals.proofs.Common.{◌≡◌, ℕ, zero, suc, ◌<◌, ◌≤◌, ◌^◌, List, [], ◌∷◌, length, Some, arith, refl, sym, ap, ◌∙◌, Loss, AreDeclarable, IsLoss, total, unit_of, EncloseEach, GridEncloses, IsSumOfPart, IsConvolution, Iv, cases_eq, eq-eqb, ne_eqb, Fraction, ◌*ℚ◌, one_times, times_assoc, times_comm, low_at, high_at, convolve_comm, convolve_assoc, at_zero_convolve, encloses_same, convolution_encloses, chosen}
 use Rattle.std.proofs.Common.{Bool, true, false, not, cond, ◌||◌, ◌&&◌, nat_eq, inl, inr}
-use Rattle.std.proofs.lemmas.Bool.{cases_eq, eq-eqb, ne_eqb}
 use mathlib.Core.Path.{fun_ext}
-use Rattle.dl_exact.specs.Fraction.{Fraction, ◌*ℚ◌}
-use Rattle.dl_exact.proofs.Laws.{one_times, times_assoc, times_comm}
-use Rattle.dl_grid.specs.Cells.{low_at, high_at}
 use Rattle.dl_model.specs.Prelude.{convolve, at_zero, product, partial_sums, One, without}
-use Rattle.dl_model.proofs.Powers.{convolve_comm, convolve_assoc, at_zero_convolve}
-use Rattle.dl_model.proofs.FamilyLaws.{encloses_same, convolution_encloses}
 use Rattle.dl_model.proofs.Outcomes.{no_units, total_more, total_more_all, total_proper}
 unfoldable use Rattle.dl_model.specs.Program.{sum_over_outcomes}
-use Rattle.dl_totals.specs.Chosen.{chosen}
 
 pub chosen_declarable : (us : List Loss) (p : ℕ → Bool) → AreDeclarable us → AreDeclarable (chosen us p)
 chosen_declarable [] p w = tt

@@ -1,7 +1,5 @@
 -- What encloses the sum of units that have one grid.
-use Rattle.dl_totals.proofs.Common.{ℕ, zero, suc, ◌≡◌, ◌+◌, ◌-◌, ◌<◌, ◌≤◌, List, [], ◌∷◌, ◌++◌, length, get_or, take, drop, arith, refl, sym, ap, ap₂, subst, ◌∙◌, get_or_default, Iv, IsConvolution, Loss, AreDeclarable, total, GridEncloses, EncloseEach, IsTotal}
-use Rattle.std.proofs.Common.{replicate}
-use Rattle.std.proofs.lemmas.List.{take-replicate, drop-replicate, take-append-drop}
+use Rattle.dl_totals.proofs.Common.{ℕ, zero, suc, ◌≡◌, ◌+◌, ◌-◌, ◌<◌, ◌≤◌, List, [], ◌∷◌, ◌++◌, length, get_or, take, drop, arith, refl, sym, ap, ap₂, subst, ◌∙◌, get_or_default, Iv, IsConvolution, Loss, AreDeclarable, total, GridEncloses, EncloseEach, IsTotal, replicate, take-replicate, drop-replicate, take-append-drop}
 use Rattle.dl_totals.proofs.Added.{units_first, units_after, each_first, each_after, alone, first_cells, two_sums}
 
 -- some of these units, and the others

@@ -1,10 +1,7 @@
 -- Each unit by itself, but for one.
-use Rattle.dl_totals.proofs.Common.{◌≡◌, ℕ, zero, suc, ◌+◌, ◌<◌, ◌≤◌, List, [], ◌∷◌, ◌++◌, length, get_or, take, None, Some, arith, refl, sym, ap, subst, ◌∙◌, length-take, Loss, AreDeclarable, total, EncloseEach, EnclosesSum, GridEncloses, IsSumOfPart, IsSumWithout, IsConvolution, Iv, Option}
+use Rattle.dl_totals.proofs.Common.{◌≡◌, ℕ, zero, suc, ◌+◌, ◌<◌, ◌≤◌, List, [], ◌∷◌, ◌++◌, length, get_or, take, None, Some, arith, refl, sym, ap, subst, ◌∙◌, length-take, Loss, AreDeclarable, total, EncloseEach, EnclosesSum, GridEncloses, IsSumOfPart, IsSumWithout, IsConvolution, Iv, Option, le-ltb, nat_tests, chosen, passed, in_some, AreApart}
 use Rattle.std.proofs.Common.{◌≢◌, Bool, true, false, not, cond, ◌&&◌, ◌||◌, nat_lt, nat_eq}
-use Rattle.std.proofs.lemmas.Bool.{le-ltb}
-use Rattle.std.proofs.lemmas.Bool.Decides.{nat_tests}
 use Rattle.dl_model.specs.Measures.{without}
-use Rattle.dl_totals.specs.Chosen.{chosen, passed, in_some, AreApart}
 use Rattle.dl_totals.proofs.Added.{alone, encloses_at, first_cells}
 use Rattle.dl_totals.proofs.Apart.{Encloses, passed_more}
 use Rattle.dl_totals.proofs.Chosen.{all_but, both_chosen, every, none_chosen, one_chosen}

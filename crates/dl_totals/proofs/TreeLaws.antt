@@ -1,22 +1,9 @@
 -- The tree of sums of units: a new node is the sum of two roots. The outer sum of a part of a node is the
 -- outer sum of the node plus the other part.
-use Rattle.dl_totals.proofs.Common.{◌≡◌, ℕ, suc, ◌+◌, ◌-◌, ◌<◌, ◌≤◌, List, [], ◌∷◌, ◌++◌, length, get_or, map, take, Option, Some, None, IfSome, arith, refl, sym, ap, ap₂, subst, subst₂, ◌∙◌, remove, length-append, length-map, length-take, get_or-map, Loss, total, EncloseEach, GridEncloses, IsSumOfPart, IsConvolution, Iv}
+use Rattle.dl_totals.proofs.Common.{◌≡◌, ℕ, suc, ◌+◌, ◌-◌, ◌<◌, ◌≤◌, List, [], ◌∷◌, ◌++◌, length, get_or, map, take, Option, Some, None, IfSome, arith, refl, sym, ap, ap₂, subst, subst₂, ◌∙◌, remove, length-append, length-map, length-take, get_or-map, Loss, total, EncloseEach, GridEncloses, IsSumOfPart, IsConvolution, Iv, cases_lt, cases_eq, eq-eqb, ne_eqb, lt-ltb, nat_tests, and_comm, or_comm, IfSome_then, get_or_append_left, get_or_default, get_or-append_right, map-append, get_or-replicate, get_or-set_other, length-replicate, length-set, append_assoc, get_or-set_at, option_to_list, get_or-append_seam, sum_by-append, sum_by-cons, sum_by-remove, chosen, sum_at, IsSumPicked, IsJoint, AreNodes, last_place, IsForest, IsTree, IsSumOutside, ReachDown, AreOthers, Node}
 use Rattle.std.proofs.Common.{Bool, true, false, not, cond, ◌||◌, ◌&&◌, nat_lt, nat_eq, inl, inr, replicate, set}
-use Rattle.std.proofs.lemmas.Bool.{cases_lt, cases_eq, eq-eqb, ne_eqb, lt-ltb}
-use Rattle.std.proofs.lemmas.Bool.Decides.{nat_tests}
-use Rattle.std.proofs.Math.Bool.{and_comm, or_comm}
-use Rattle.std.proofs.lemmas.Option.{IfSome_then}
-use Rattle.std.proofs.lemmas.List.{get_or_append_left, get_or_default, get_or-append_right, map-append, get_or-replicate, get_or-set_other, length-replicate, length-set}
-use Rattle.std.proofs.Common.{append_assoc}
-use Rattle.std.proofs.lemmas.Grind.{get_or-set_at}
-use Rattle.std.specs.Option.{option_to_list}
-use Rattle.std.proofs.Math.Seq.{get_or-append_seam}
-use Rattle.std.proofs.lemmas.List.Sums.{sum_by-append, sum_by-cons, sum_by-remove}
 use Rattle.std.specs.List.{All, sum_by}
 use mathlib.Core.Path.{fun_ext}
-use Rattle.dl_totals.specs.Chosen.{chosen}
-use Rattle.dl_totals.specs.Tree.{sum_at, IsSumPicked, IsJoint, AreNodes, last_place, IsForest, IsTree, IsSumOutside, ReachDown, AreOthers}
-use Rattle.dl_totals.specs.declared.tree.Node.{Node}
 use Rattle.dl_totals.proofs.Apart.{all_removed, not_both, either}
 use Rattle.dl_totals.proofs.Chosen.{both_chosen, none_chosen, every, all_but}
 use Rattle.dl_totals.proofs.Added.{first_cells}

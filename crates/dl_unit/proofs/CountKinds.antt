@@ -1,7 +1,6 @@
 -- The budget of a unit by the kind of its count.
-use Rattle.dl_unit.proofs.Common.{ℕ, ◌≡◌, ◌<◌, arith, refl, Fraction, Poisson, Gamma, thinned_mean, poisson_budget, gamma_budget, claims_budget}
+use Rattle.dl_unit.proofs.Common.{ℕ, ◌≡◌, ◌<◌, arith, refl, Fraction, Poisson, Gamma, thinned_mean, poisson_budget, gamma_budget, claims_budget, poisson_value, gamma_value}
 use Rattle.dl_plan.specs.declared.plan.Unit.{Unit as UnitOfPlan}
-use Rattle.dl_budget.proofs.Counts.{poisson_value, gamma_value}
 
 pub poisson_some : (S K : ℕ) (u : UnitOfPlan) {mean : Fraction} → u.freq ≡ Poisson mean → 0 < (thinned_mean u).num
     → poisson_budget S K (thinned_mean u) ≡ claims_budget S K u

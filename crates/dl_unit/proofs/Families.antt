@@ -1,8 +1,5 @@
 -- What a grid encloses besides: other families of the same declared values.
-use Rattle.std.specs.Prelude.{Result, IfOk}
-use Rattle.dl_unit.proofs.Common.{ℕ, ◌≡◌, ◌^◌, ◌≤◌, arith, if_ok_three, List, length, spread, Iv, low_at, high_at, SameCells, GridEncloses, Family}
-use Rattle.dl_model.proofs.Alike.{same_cells_enclosed}
-use Rattle.dl_unit.specs.Narrow.{IsNarrow}
+use Rattle.dl_unit.proofs.Common.{ℕ, ◌≡◌, ◌^◌, ◌≤◌, arith, if_ok_three, List, length, spread, Iv, low_at, high_at, SameCells, GridEncloses, Family, Result, IfOk, same_cells_enclosed, IsNarrow}
 
 pub grid_same : {B : ℕ} (g : List (Iv B)) (F G : Family) → SameCells F G → GridEncloses g F → GridEncloses g G
 grid_same {B} g F G = same_cells_enclosed (2 ^ B) (length g) (low_at g) (high_at g) F G

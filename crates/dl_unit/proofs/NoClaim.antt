@@ -1,25 +1,5 @@
 -- The probability of no claim: claims of amount 1 alone, on one cell.
-use Rattle.dl_unit.proofs.Common.{ℕ, zero, ◌≡◌, ◌-◌, ◌^◌, ◌<◌, ◌≤◌, List, [], ◌∷◌, length, arith, inl, inr, refl, ap, ap₂, subst, ◌∙◌, fun_ext, Fraction, whole, ◌over◌, ◌*ℚ◌, ◌/ℚ◌, ◌≤ℚ◌, le_of_eq, le_trans, Iv, low_at, high_at, spread, count_below, Item, Sev, probability_of, thinned_mean, weight_at, cell, compound_of, GridEncloses, IsPlanScale, most_cells_at, most_amount_at, long_bits, ◌-ℚ◌, times_one, whole_spread, expected_count, IsClaimCount, HasPartsOf48Bits, claims_alone, IsNewZero, IsValidUnit, at_zero, power, count_weights, claims_budget, gamma_budget, none_budget}
-use Rattle.std.specs.Prelude.{⊤}
-use Rattle.std.proofs.lemmas.Bool.Decides.{leb_tells}
-use Rattle.std.proofs.lemmas.List.Elements.{All-cons, All-nil}
-use Rattle.dl_exact.proofs.BelowOne.{below_one}
-use Rattle.dl_exact.proofs.Denominators.{over_pos}
-use Rattle.dl_exact.proofs.Laws.{div_le_both, lt_of_lt_of_le, one_pos, whole_pos}
-use Rattle.dl_exact.proofs.Over.{over_div, over_le, over_self}
-use Rattle.dl_exact.proofs.Parts.{num_pos}
-use Rattle.dl_exact.proofs.RoundingLaws.{whole_le}
-unfoldable use Rattle.dl_exact.specs.Sum.{sum_to}
-use Rattle.dl_plan.specs.Count.{IsShape, IsThinnedTo}
-use Rattle.dl_plan.specs.declared.plan.Freq.TheVariants.{Fixed, Table, Bernoulli, Binomial, Poisson, Gamma}
-unfoldable use Rattle.dl_budget.specs.Claims.{count_budget}
-use Rattle.dl_budget.proofs.Counts.{where_none}
-use Rattle.dl_budget.proofs.NoneSizes.{none_beta}
-use Rattle.dl_grid.specs.Room.{IsGridSize}
-use Rattle.dl_plan.specs.declared.plan.Freq.{Freq}
-use Rattle.dl_model.specs.Series.{Series, Holds}
-use Rattle.dl_model.proofs.ChangedZero.{sub_zero}
-use Rattle.dl_model.proofs.CompoundLaws.{cell_stays}
+use Rattle.dl_unit.proofs.Common.{ℕ, zero, ◌≡◌, ◌-◌, ◌^◌, ◌<◌, ◌≤◌, List, [], ◌∷◌, length, arith, inl, inr, refl, ap, ap₂, subst, ◌∙◌, fun_ext, Fraction, whole, ◌over◌, ◌*ℚ◌, ◌/ℚ◌, ◌≤ℚ◌, le_of_eq, le_trans, Iv, low_at, high_at, spread, count_below, Item, Sev, probability_of, thinned_mean, weight_at, cell, compound_of, GridEncloses, IsPlanScale, most_cells_at, most_amount_at, long_bits, ◌-ℚ◌, times_one, whole_spread, expected_count, IsClaimCount, HasPartsOf48Bits, claims_alone, IsNewZero, IsValidUnit, at_zero, power, count_weights, claims_budget, gamma_budget, none_budget, ⊤, leb_tells, All-cons, All-nil, below_one, over_pos, div_le_both, lt_of_lt_of_le, one_pos, whole_pos, over_div, over_le, over_self, num_pos, whole_le, sum_to, IsShape, IsThinnedTo, Fixed, Table, Bernoulli, Binomial, Poisson, Gamma, count_budget, where_none, none_beta, IsGridSize, Freq, Series, Holds, sub_zero, cell_stays}
 
 -- the items of amount 1 alone
 abbrev pub one_item : List Item

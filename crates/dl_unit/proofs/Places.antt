@@ -1,6 +1,5 @@
 -- At how many places listed amounts lie.
-use Rattle.dl_unit.proofs.Common.{ℕ, zero, suc, ◌≡◌, ◌+◌, ◌≤◌, List, [], ◌∷◌, length, arith, inl, inr, ap, min, cases_lt, ne_eqb, count_below, below_same, below_le, below_plus, below_constant, Item, weight_at, ◌≢◌, ◌==◌, if◌then◌else◌}
-use Rattle.std.proofs.lemmas.List.Sums.{sum_by-cons}
+use Rattle.dl_unit.proofs.Common.{ℕ, zero, suc, ◌≡◌, ◌+◌, ◌≤◌, List, [], ◌∷◌, length, arith, inl, inr, ap, min, cases_lt, ne_eqb, count_below, below_same, below_le, below_plus, below_constant, Item, weight_at, ◌≢◌, ◌==◌, if◌then◌else◌, sum_by-cons}
 
 -- the weight w at the place a alone
 abbrev pub at_place : (a w : ℕ) → ℕ → ℕ

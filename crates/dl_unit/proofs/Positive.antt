@@ -1,7 +1,5 @@
 -- Claims above 0.
-use Rattle.dl_unit.proofs.Common.{zero, suc, ◌≡◌, [], ◌∷◌, arith, refl, sym, ap, ◌∙◌, ne_eqb, Fraction, ◌over◌, whole, ◌+ℚ◌, ◌/ℚ◌, over_zero, Sev, conditioned, probability_of, pairs_of, HasDistribution, nat_lt, zero-lt-suc, lt-ltb, sum_over, zero_plus, Pairs, probability}
-use Rattle.std.specs.Prelude.{filter, map}
-use Rattle.dl_exact.proofs.Over.{over_self}
+use Rattle.dl_unit.proofs.Common.{zero, suc, ◌≡◌, [], ◌∷◌, arith, refl, sym, ap, ◌∙◌, ne_eqb, Fraction, ◌over◌, whole, ◌+ℚ◌, ◌/ℚ◌, over_zero, Sev, conditioned, probability_of, pairs_of, HasDistribution, nat_lt, zero-lt-suc, lt-ltb, sum_over, zero_plus, Pairs, probability, filter, map, over_self}
 
 pub no_parts : (x : Fraction) → x.num ≡ 0 → x ≡ whole 0
 no_parts x e = sym (over_self x) ∙ ap (λ n. n over x.den) e ∙ over_zero x.den x.positive

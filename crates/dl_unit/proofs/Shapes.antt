@@ -1,17 +1,6 @@
 -- A gamma count by the whole part of its shape and the rest.
-use Rattle.dl_unit.proofs.Common.{ℕ, ◌≡◌, ◌%◌, ◌<◌, ◌≤◌, List, length, arith, sym, ap, ap₂, subst, ◌∙◌, Fraction, whole, ◌over◌, ◌+ℚ◌, ◌*ℚ◌, ◌/ℚ◌, Iv, gamma_of, compound, GridEncloses, compound_proper, IsWithinOne, pw_rises, gamma_budget, times_comm, over_zero}
-use Rattle.dl_exact.proofs.Denominators.{over_pos}
-use Rattle.dl_exact.proofs.Laws.{div_times, plus_zero, whole_pos}
-use Rattle.dl_exact.specs.Fraction.{◌<ℚ◌}
-use Rattle.dl_grid.proofs.WidthLaws.{cv_rises}
-use Rattle.dl_grid.specs.Convolution.{IsConvolution}
-use Rattle.dl_grid.specs.Width.{convolution_spread, power_spread}
-use Rattle.dl_model.specs.Family.{times_itself}
-use Rattle.dl_model.proofs.AddedShapes.{ones_added, shapes_added}
-use Rattle.dl_model.proofs.FamilyLaws.{convolution_encloses}
-use Rattle.dl_start.proofs.Shares.{shape_parts}
+use Rattle.dl_unit.proofs.Common.{ℕ, ◌≡◌, ◌%◌, ◌<◌, ◌≤◌, List, length, arith, sym, ap, ap₂, subst, ◌∙◌, Fraction, whole, ◌over◌, ◌+ℚ◌, ◌*ℚ◌, ◌/ℚ◌, Iv, gamma_of, compound, GridEncloses, compound_proper, IsWithinOne, pw_rises, gamma_budget, times_comm, over_zero, over_pos, div_times, plus_zero, whole_pos, ◌<ℚ◌, cv_rises, IsConvolution, convolution_spread, power_spread, times_itself, ones_added, shapes_added, convolution_encloses, shape_parts, budget_below, budget_both, budget_whole}
 use Rattle.dl_budget.specs.Claims.{geometric_spread, rest_part, shape_spread, whole_part, whole_spread}
-use Rattle.dl_budget.proofs.Bases.{budget_below, budget_both, budget_whole}
 use Rattle.dl_unit.proofs.Families.{grid_same}
 
 -- a shape times the mean over it is the mean

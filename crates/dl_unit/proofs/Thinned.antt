@@ -1,7 +1,5 @@
 -- A unit's sum of claims is that of its claims above 0, whose number is thinned.
-use Rattle.dl_unit.proofs.Common.{◌≡◌, Fraction, poisson, compound, SameCells, compound_of, Poisson, Sev, pairs_of, conditioned, probability_of, HasDistribution, thinned_mean, positive, part_of_means}
-use Rattle.dl_model.proofs.Alike.{value_sym}
-use Rattle.dl_model.proofs.PoissonThin.{thin_poisson}
+use Rattle.dl_unit.proofs.Common.{◌≡◌, Fraction, poisson, compound, SameCells, compound_of, Poisson, Sev, pairs_of, conditioned, probability_of, HasDistribution, thinned_mean, positive, part_of_means, value_sym, thin_poisson}
 use Rattle.dl_plan.specs.declared.plan.Unit.{Unit as UnitOfPlan}
 
 pub poisson_whole : (u : UnitOfPlan) (s : Sev) {mean : Fraction} → u.freq ≡ Poisson mean

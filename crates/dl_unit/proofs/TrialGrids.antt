@@ -1,6 +1,5 @@
 -- The grid of one trial: cell 0 is written last, and what comes of it is a grid of small spread.
-use Rattle.dl_unit.proofs.Common.{ℕ, ◌≡◌, ◌+◌, ◌-◌, ◌*◌, ◌/◌, ◌^◌, ◌<◌, ◌≤◌, List, length, arith, inl, inr, ap, ◌∙◌, min, div_ceil, cases_lt, pow_pos, Fraction, div_ceil_least, part_within, Iv, low_at, high_at, spread, all_at_zero, IsGrid, below_nothing, below_same, below_le, below_plus, IsWithinOne, fixed, binomial, compound, GridEncloses, Item, weight_at, low_trial, high_trial, set, get_or, high_at_get, low_at_read, high_at_read, below_more, width_at, low_within, width_within, whole_mass, whole_spread, low_added, high_added, high_kept, high_joined}
-use Rattle.dl_grid.proofs.EndLists.{low_le_high}
+use Rattle.dl_unit.proofs.Common.{ℕ, ◌≡◌, ◌+◌, ◌-◌, ◌*◌, ◌/◌, ◌^◌, ◌<◌, ◌≤◌, List, length, arith, inl, inr, ap, ◌∙◌, min, div_ceil, cases_lt, pow_pos, Fraction, div_ceil_least, part_within, Iv, low_at, high_at, spread, all_at_zero, IsGrid, below_nothing, below_same, below_le, below_plus, IsWithinOne, fixed, binomial, compound, GridEncloses, Item, weight_at, low_trial, high_trial, set, get_or, high_at_get, low_at_read, high_at_read, below_more, width_at, low_within, width_within, whole_mass, whole_spread, low_added, high_added, high_kept, high_joined, low_le_high}
 use Rattle.dl_unit.proofs.Places.{places}
 use Rattle.dl_unit.proofs.Trials.{trial_mass, trial_width, zero_below, trial_encloses}
 

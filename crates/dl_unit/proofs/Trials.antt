@@ -1,7 +1,5 @@
 -- What one trial is worth, from the grid of one claim: its mass, its spread, and what it encloses.
-use Rattle.dl_unit.proofs.Common.{ℕ, zero, suc, ◌≡◌, ◌+◌, ◌-◌, ◌*◌, ◌/◌, ◌<◌, ◌≤◌, arith, inl, inr, sym, ap, subst, ◌∙◌, min, div_ceil, cases_lt, Fraction, ◌over◌, ◌+ℚ◌, ◌*ℚ◌, div_ceil_least, over_zero, all_at_zero, count_below, below_nothing, below_le, below_plus, below_constant, cell, fixed, binomial, IsWithinOne, IsSeverity, compound, trial, compound_proper, low_trial, high_trial, mul-le-mul_left, mul-le-mul_right, div-mul-le_self, le_of_mul-le-mul_right, add-sub_of_le, ◌≤ℚ◌, le_trans, le_of_eq, zero_le, times_one, times_zero, plus_comm, times_comm, over_one, below_times, below_first, at_zero, Encloses, one_trial_cell, finite_encloses, severity_between}
-use Rattle.dl_iv.proofs.Operations.{add_low, add_high, scale_low, scale_high, enclose_low, enclose_high}
-use Rattle.dl_exact.proofs.Sums.{item_le_sum}
+use Rattle.dl_unit.proofs.Common.{ℕ, zero, suc, ◌≡◌, ◌+◌, ◌-◌, ◌*◌, ◌/◌, ◌<◌, ◌≤◌, arith, inl, inr, sym, ap, subst, ◌∙◌, min, div_ceil, cases_lt, Fraction, ◌over◌, ◌+ℚ◌, ◌*ℚ◌, div_ceil_least, over_zero, all_at_zero, count_below, below_nothing, below_le, below_plus, below_constant, cell, fixed, binomial, IsWithinOne, IsSeverity, compound, trial, compound_proper, low_trial, high_trial, mul-le-mul_left, mul-le-mul_right, div-mul-le_self, le_of_mul-le-mul_right, add-sub_of_le, ◌≤ℚ◌, le_trans, le_of_eq, zero_le, times_one, times_zero, plus_comm, times_comm, over_one, below_times, below_first, at_zero, Encloses, one_trial_cell, finite_encloses, severity_between, add_low, add_high, scale_low, scale_high, enclose_low, enclose_high, item_le_sum}
 
 -- ---- mass
 

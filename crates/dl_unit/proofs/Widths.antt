@@ -1,6 +1,5 @@
 -- The spreads of counts are within the budget of a unit.
-use Rattle.dl_unit.proofs.Common.{ℕ, ◌≡◌, ◌+◌, ◌*◌, ◌^◌, ◌<◌, ◌≤◌, arith, ap, ◌∙◌, Fraction, pw_rises, poisson_budget, halvings}
-use Rattle.dl_grid.specs.Width.{power_spread}
+use Rattle.dl_unit.proofs.Common.{ℕ, ◌≡◌, ◌+◌, ◌*◌, ◌^◌, ◌<◌, ◌≤◌, arith, ap, ◌∙◌, Fraction, pw_rises, poisson_budget, halvings, power_spread}
 
 pub poisson_within : (S K b x n h : ℕ) (m : Fraction) → 0 < S → n ≡ 2 ^ h → h ≡ halvings m → b ≤ 8 * K + 128
     → x ≤ power_spread S K b n → x ≤ poisson_budget S K m

@@ -1,5 +1,4 @@
-use Rattle.dl_totals.proofs.Common.{arith, sym, ◌∙◌, size_of, size_within, if_ok_two}
-use Rattle.dl_grid.proofs.CellSets.{spread_none}
+use Rattle.dl_totals.proofs.Common.{arith, sym, ◌∙◌, size_of, size_within, if_ok_two, spread_none}
 use Rattle.dl_totals.proofs.Added.{no_units}
 use Rattle.dl_totals.proofs.no_units.Goals as goal
 

@@ -1,5 +1,4 @@
-use Rattle.dl_totals.proofs.Common.{◌≡◌, ◌≤◌, ◌+◌, arith, refl, take, length, length-take, IfOk-weaker}
-use Rattle.dl_exact.proofs.Lists.{from_there}
+use Rattle.dl_totals.proofs.Common.{◌≡◌, ◌≤◌, ◌+◌, arith, refl, take, length, length-take, IfOk-weaker, from_there}
 use Rattle.dl_totals.proofs.Added.{both_sides, both_spreads, after_alone, after_narrow, alone_left, all_within, are_before, are_after}
 use Rattle.dl_totals.proofs.others_with.Goals as goal
 

@@ -1,5 +1,4 @@
-use Rattle.std.proofs.lemmas.List.{append-nil}
-use Rattle.dl_totals.proofs.Common.{ap, arith, subst, sym, ◌∙◌, ◌++◌, EnclosesSum, Some, IfSome, length, ◌≡◌}
+use Rattle.dl_totals.proofs.Common.{ap, arith, subst, sym, ◌∙◌, ◌++◌, EnclosesSum, Some, IfSome, length, ◌≡◌, append-nil}
 use Rattle.dl_totals.proofs.Added.{two_sums}
 use Rattle.dl_totals.proofs.sum_of_both.Goals as goal
 

@@ -1,5 +1,4 @@
-use Rattle.dl_totals.proofs.Common.{length, arith, ap, ◌∙◌, IfOk-weaker, spread}
-use Rattle.std.proofs.lemmas.List.{length-take-le}
+use Rattle.dl_totals.proofs.Common.{length, arith, ap, ◌∙◌, IfOk-weaker, spread, length-take-le}
 use Rattle.dl_totals.proofs.Added.{all_units, all_spread, to_the_end, long_enough, all_within}
 use Rattle.dl_totals.proofs.sum_one_by_one.Goals as goal
 

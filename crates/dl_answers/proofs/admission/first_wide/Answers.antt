@@ -1,6 +1,4 @@
-use Rattle.dl_answers.proofs.Common.{◌^◌, arith, ap, subst, sym, ◌∙◌, None, Asked, named_unit}
-use Rattle.dl_budget.specs.Asks.{IsAskOf}
-use Rattle.dl_budget.specs.Once.{AreBudgetsOfUnit, HaveBudgets}
+use Rattle.dl_answers.proofs.Common.{◌^◌, arith, ap, subst, sym, ◌∙◌, None, Asked, named_unit, IsAskOf, AreBudgetsOfUnit, HaveBudgets}
 use Rattle.dl_answers.proofs.Named.{ask_of, named_here, numbers_many, are_units, each_named}
 use Rattle.dl_answers.proofs.Scales.{at_scale}
 use Rattle.dl_answers.proofs.admission.first_wide.Goals as goal

@@ -1,5 +1,4 @@
-use Rattle.dl_answers.proofs.Common.{ℕ, ◌<◌, ◌≤◌, get_or, Asked}
-use Rattle.dl_answers.specs.Grounds.{cells_read}
+use Rattle.dl_answers.proofs.Common.{ℕ, ◌<◌, ◌≤◌, get_or, Asked, cells_read}
 use Rattle.dl_answers.proofs.asked.cells_asked.Given as goal
 
 abbrev pub invariant-asks : goal.invariant-asks

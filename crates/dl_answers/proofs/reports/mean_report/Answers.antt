@@ -1,8 +1,5 @@
-use Rattle.dl_answers.proofs.Common.{◌≡◌, arith, ap, length, refl, ◌∙◌, ◌also◌, Asked, Row, IsGood}
+use Rattle.dl_answers.proofs.Common.{◌≡◌, arith, ap, length, refl, ◌∙◌, ◌also◌, Asked, Row, IsGood, whole, each_next, pushed_length, IsPastAbove}
 use Rattle.dl_plan.specs.declared.settings.Ask.TheVariants.{Mean}
-use Rattle.dl_exact.specs.Fraction.{whole}
-use Rattle.dl_exact.proofs.Made.{each_next, pushed_length}
-use Rattle.dl_answers.specs.Rows.{IsPastAbove}
 use Rattle.dl_answers.proofs.GoodRows.{mean_answer}
 use Rattle.dl_answers.proofs.Named.{ask_has, each_row}
 use Rattle.dl_answers.proofs.Scales.{at_scale}

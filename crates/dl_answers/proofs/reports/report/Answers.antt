@@ -1,9 +1,4 @@
-use Rattle.dl_answers.proofs.Common.{[], ◌≤◌, arith, ap, get_or, length, refl, subst, sym, ◌∙◌, ◌also◌, None, Asked, Row, HasShare, IsGood, reach_of}
-use Rattle.dl_exact.proofs.Made.{each_next, pushed_length}
-use Rattle.dl_budget.specs.Once.{HaveBudgets}
-use Rattle.dl_shares.proofs.Origins.{reaches_less}
-use Rattle.dl_answers.specs.Grounds.{cells_read}
-use Rattle.dl_answers.specs.Rows.{IsPastAbove}
+use Rattle.dl_answers.proofs.Common.{[], ◌≤◌, arith, ap, get_or, length, refl, subst, sym, ◌∙◌, ◌also◌, None, Asked, Row, HasShare, IsGood, reach_of, each_next, pushed_length, HaveBudgets, reaches_less, cells_read, IsPastAbove}
 use Rattle.dl_answers.proofs.Named.{ask_has, ask_of, are_units, each_named, each_row, named_here, numbers_many}
 use Rattle.dl_answers.proofs.reports.report.Goals as goal
 

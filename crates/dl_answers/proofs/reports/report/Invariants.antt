@@ -1,6 +1,4 @@
-use Rattle.dl_answers.proofs.Common.{ℕ, ◌≡◌, ◌<◌, length, get_or, Asked, Row, IsGood, reach_of}
-use Rattle.dl_answers.specs.Grounds.{total_of}
-use Rattle.dl_answers.specs.Rows.{IsPastAbove}
+use Rattle.dl_answers.proofs.Common.{ℕ, ◌≡◌, ◌<◌, length, get_or, Asked, Row, IsGood, reach_of, total_of, IsPastAbove}
 use Rattle.dl_answers.proofs.reports.report.Given as goal
 
 abbrev pub invariant-loop-i : goal.invariant-loop-i

@@ -1,6 +1,4 @@
-use Rattle.dl_answers.proofs.Common.{[], ◌+◌, ◌^◌, arith, ap, subst, All-head, facts_of, IsLevel, ◌also◌}
-use Rattle.dl_answers.specs.Rows.{IsPastAbove}
-use Rattle.dl_answers.specs.Grounds.{reach_of}
+use Rattle.dl_answers.proofs.Common.{[], ◌+◌, ◌^◌, arith, ap, subst, All-head, facts_of, IsLevel, ◌also◌, IsPastAbove, reach_of}
 use Rattle.dl_answers.proofs.GoodRows.{point_answer, cdf_answer, mean_answer, layer_answer}
 use Rattle.dl_answers.proofs.Grounds.{total_is, total_read, total_there, unit_reached}
 use Rattle.dl_answers.proofs.Named.{index_named}

@@ -1,5 +1,4 @@
-use Rattle.dl_answers.proofs.Common.{arith, inl, inr, refl, ◌also◌}
-use Rattle.dl_plan.proofs.TermLevels.{levels_each}
+use Rattle.dl_answers.proofs.Common.{arith, inl, inr, refl, ◌also◌, levels_each}
 use Rattle.dl_answers.proofs.PriceRows.{price_answer, price_past}
 use Rattle.dl_answers.proofs.rows.price_row.Goals as goal
 

@@ -1,6 +1,5 @@
 -- The one byte is an `s`.
-use Rattle.dl_arguments.proofs.Common.{arith}
-use Rattle.std.proofs.lemmas.Str.Pattern.{strip_prefix_char}
+use Rattle.dl_arguments.proofs.Common.{arith, strip_prefix_char}
 use Rattle.dl_arguments.proofs.Cuts.{behind_is}
 use Rattle.dl_arguments.proofs.asks.behind_s.Goals as goal
 

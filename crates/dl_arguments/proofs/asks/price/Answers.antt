@@ -1,4 +1,4 @@
-use Rattle.std.proofs.lemmas.Bool.{both_ways}
+use Rattle.dl_arguments.proofs.Common.{both_ways}
 use Rattle.dl_arguments.proofs.Prices.{price_refused, price_told}
 use Rattle.dl_arguments.proofs.asks.price.Goals as goal
 

@@ -1,6 +1,5 @@
 -- One more term in front of the rest.
-use Rattle.dl_arguments.proofs.Common.{arith, rules}
-use Rattle.std.proofs.lemmas.Result.{IfOk-weaker}
+use Rattle.dl_arguments.proofs.Common.{arith, rules, IfOk-weaker}
 use Rattle.dl_arguments.proofs.TermLists.{last_read, next_read, none_read, too_many}
 use Rattle.dl_arguments.proofs.asks.read_terms.Goals as goal
 

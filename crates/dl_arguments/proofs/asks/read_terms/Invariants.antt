@@ -1,9 +1,7 @@
 -- The terms so far, and what the rest is read as.
-use Rattle.dl_arguments.proofs.Common.{◌≡◌, ◌++◌, option_map}
+use Rattle.dl_arguments.proofs.Common.{◌≡◌, ◌++◌, option_map, ◌-◌, plus, term}
 use denote.Shadow.{shadow}
 use denote.Text.{Utf8}
-use Rattle.std.proofs.Common.{◌-◌}
-use Rattle.dl_arguments.specs.Table.{plus, term}
 use Rattle.dl_arguments.specs.Ways.{joined}
 use Rattle.dl_arguments.proofs.asks.read_terms.Given as goal
 

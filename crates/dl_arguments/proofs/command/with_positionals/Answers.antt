@@ -1,8 +1,6 @@
 -- The form, and then the asks.
-use Rattle.dl_arguments.proofs.Common.{◌≡◌, ◌∙◌, Some, ap, true}
+use Rattle.dl_arguments.proofs.Common.{◌≡◌, ◌∙◌, Some, ap, true, Append, asks, bare_command, form}
 use Rattle.clap.specs.Words.{Rule, rule_of}
-use Rattle.clap.specs.declared.builder.action.ArgAction.TheVariants.{Append}
-use Rattle.dl_arguments.specs.Command.{asks, bare_command, form}
 use Rattle.dl_arguments.proofs.command.with_positionals.Goals as goal
 
 pub returns : goal.returns

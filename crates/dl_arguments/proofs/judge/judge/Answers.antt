@@ -1,5 +1,4 @@
-use Rattle.std.proofs.lemmas.Bool.{and_left, and_right}
-use Rattle.dl_arguments.proofs.Common.{◌≡◌, ◌∙◌, refl, sym, ap, ap₂, Ok, Settings, found_of, values_in, with_asks}
+use Rattle.dl_arguments.proofs.Common.{◌≡◌, ◌∙◌, refl, sym, ap, ap₂, Ok, Settings, found_of, values_in, with_asks, and_left, and_right}
 use Rattle.dl_arguments.proofs.Judged.{asks_no_line, explained, fitting_tests, misfit_found, plain_found, texts_found}
 use Rattle.dl_arguments.proofs.judge.judge.Goals.{then-not-begin_plainly-via-then-not-begin_plainly, then-not-begin_plainly-via-else-not-begin_plainly+then-not-admits}
 use Rattle.dl_arguments.proofs.judge.judge.Goals as goal

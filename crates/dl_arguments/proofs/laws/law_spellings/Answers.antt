@@ -1,5 +1,5 @@
 -- The tests are those of the spellings.
-use Rattle.dl_bytes.proofs.NumeralTests.{numeral_test}
+use Rattle.dl_arguments.proofs.Common.{numeral_test}
 use Rattle.dl_arguments.proofs.laws.law_spellings.Goals as goal
 
 pub returns : goal.returns

@@ -1,8 +1,6 @@
 -- A value that is there is the option's where it is taken.
-use Rattle.dl_arguments.proofs.Common.{◌≡◌, inl, inr, Bool, refl, [], ◌∷◌, Option, Some, None, cases_Bool, if◌then◌else◌, numeral_value, Text}
+use Rattle.dl_arguments.proofs.Common.{◌≡◌, inl, inr, Bool, refl, [], ◌∷◌, Option, Some, None, cases_Bool, if◌then◌else◌, numeral_value, Text, TakesOption, is_bucket}
 use Rattle.dl_exact.specs.Fraction.{whole}
-use Rattle.dl_arguments.specs.Found.{TakesOption}
-use Rattle.dl_arguments.specs.Spelling.{is_bucket}
 use Rattle.dl_arguments.proofs.options.bucket_size.Goals as goal
 
 taken : {A : Type 0} (takes : Text → Bool) (default : A) (read : Text → A) (text : Text) (result : Option A)

@@ -1,13 +1,6 @@
 -- What `clap` refuses is a misfit of the command, and what it finds is what the parts say.
-use Rattle.dl_arguments.proofs.Common.{◌≡◌, ◌∙◌, IsTrue, Err, Result, inl, inr, sym, ap, subst, map, List, [], ◌∷◌, fault_of, is_simple_and_free, Kinds, found_of, App, is_simple, matches_of, rows_of, command, Settings, UsageFault, Line, WordsFault, Explains, answer_in, Text, words_of}
-use Rattle.std.proofs.Common.{◌⊎◌}
-use Rattle.std.specs.String.{string_bytes}
-use Rattle.std.proofs.lemmas.Result.{IfErr-weaker, IfOk-weaker}
-use Rattle.clap.specs.Kinds.{HasKind, IsAmong}
-use Rattle.clap.specs.Simple.{app_of}
-use Rattle.clap.specs.declared.error.kind.ErrorKind.{ErrorKind}
+use Rattle.dl_arguments.proofs.Common.{◌≡◌, ◌∙◌, IsTrue, Err, Result, inl, inr, sym, ap, subst, map, List, [], ◌∷◌, fault_of, is_simple_and_free, Kinds, found_of, App, is_simple, matches_of, rows_of, command, Settings, UsageFault, Line, WordsFault, Explains, answer_in, Text, words_of, ◌⊎◌, string_bytes, IfErr-weaker, IfOk-weaker, HasKind, IsAmong, app_of, ErrorKind, IsClapRefusal}
 use Rattle.clap.specs.declared.error.kind.ErrorKind.TheVariants as refusals
-use Rattle.dl_arguments.specs.Faults.{IsClapRefusal}
 use Rattle.dl_arguments.proofs.Judged.{given, refused}
 use Rattle.dl_arguments.proofs.Simulation.{Fails}
 use Rattle.dl_arguments.proofs.Whole.{matched, simple_command_is, simple_is, unfit}

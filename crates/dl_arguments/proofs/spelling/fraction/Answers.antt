@@ -1,6 +1,5 @@
 -- The numeral's own test is the one of the words.
-use Rattle.dl_arguments.proofs.Common.{rules, ◌≡◌, ◌∙◌, true, false, refl, sym, ap, subst, IsNumeral, is_bad, is_numeral}
-use Rattle.std.proofs.lemmas.Bool.{false_from_ne_true}
+use Rattle.dl_arguments.proofs.Common.{rules, ◌≡◌, ◌∙◌, true, false, refl, sym, ap, subst, IsNumeral, is_bad, is_numeral, false_from_ne_true}
 use Rattle.dl_arguments.proofs.spelling.fraction.Goals as goal
 
 pub returns-then-not-is_numeral : goal.returns-then-not-is_numeral

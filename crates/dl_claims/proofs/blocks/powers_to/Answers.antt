@@ -1,6 +1,5 @@
 use Rattle.std.proofs.Math.Nat.{le_trans}
-use Rattle.std.proofs.lemmas.Bool.{leb-true, ltb-true}
-use Rattle.dl_claims.proofs.Common.{ℕ, suc, ◌≡◌, ◌≤◌, ◌+◌, length, arith, refl, ap, power, size_of, size_within}
+use Rattle.dl_claims.proofs.Common.{ℕ, suc, ◌≡◌, ◌≤◌, ◌+◌, length, arith, refl, ap, power, size_of, size_within, leb-true, ltb-true}
 use Rattle.dl_claims.proofs.EndLists.{one_longer}
 use Rattle.dl_claims.proofs.PowerGrids.{none_between, no_grids, all_more, more_between, few_in, no_claim, next_at}
 use Rattle.dl_claims.proofs.blocks.powers_to.Goals as goal

@@ -1,6 +1,5 @@
-use Rattle.std.proofs.lemmas.Bool.{ltb-true}
 use Rattle.std.proofs.Math.Nat.{le_trans}
-use Rattle.dl_claims.proofs.Common.{refl, sym, subst, length, ◌<◌, ℕ, ◌≡◌, ◌+◌, ◌*◌, ◌/◌, ◌^◌, ◌≤◌, List, take, arith, ◌∙◌, get_or, div_ceil, sum_by_more, mass_low, Item, weight_sum, take_all, sum_by_more_le}
+use Rattle.dl_claims.proofs.Common.{refl, sym, subst, length, ◌<◌, ℕ, ◌≡◌, ◌+◌, ◌*◌, ◌/◌, ◌^◌, ◌≤◌, List, take, arith, ◌∙◌, get_or, div_ceil, sum_by_more, mass_low, Item, weight_sum, take_all, sum_by_more_le, ltb-true}
 use Rattle.dl_claims.proofs.WeightLists.{next_cell, mass_next, mass_room}
 use Rattle.dl_claims.proofs.Enclosing.{listed_claim}
 use Rattle.dl_claims.proofs.claims.claim_grid.Goals as goal

@@ -1,5 +1,4 @@
-use Rattle.std.proofs.Math.ListN.{get_or-eq_default}
-use Rattle.dl_claims.proofs.Common.{◌+◌, ◌∙◌, ap₂, arith, get_or, min}
+use Rattle.dl_claims.proofs.Common.{◌+◌, ◌∙◌, ap₂, arith, get_or, min, get_or-eq_default}
 use Rattle.dl_claims.proofs.EndLists.{one_more_item, one_longer, every_item}
 use Rattle.dl_claims.proofs.halves.added.Goals as goal
 

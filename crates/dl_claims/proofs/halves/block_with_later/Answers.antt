@@ -1,6 +1,4 @@
-use Rattle.std.proofs.lemmas.Bool.{ltb-true}
-use Rattle.dl_claims.proofs.Common.{ℕ, ◌≡◌, ◌+◌, ◌^◌, ◌<◌, ◌≤◌, length, get_or, arith, refl, subst, ap₂, ◌∙◌, max, min, low_at, high_at, size_within}
-use Rattle.dl_grid.proofs.EndLists.{low_ends_long}
+use Rattle.dl_claims.proofs.Common.{ℕ, ◌≡◌, ◌+◌, ◌^◌, ◌<◌, ◌≤◌, length, get_or, arith, refl, subst, ap₂, ◌∙◌, max, min, low_at, high_at, size_within, ltb-true, low_ends_long}
 use Rattle.dl_claims.proofs.BlockGrids.{as_made}
 use Rattle.dl_claims.proofs.StepGrids.{step_between, step_ends}
 use Rattle.dl_claims.proofs.halves.block_with_later.Goals as goal

@@ -1,5 +1,4 @@
-use Rattle.dl_claims.proofs.Common.{ℕ, ◌≡◌, ◌/◌, ◌^◌, ◌≤◌, length, arith, ap, ap₂, ◌∙◌, min, div_ceil, low_at, high_at, mixture_end, size_within}
-use Rattle.dl_grid.proofs.EndLists.{low_ends_long}
+use Rattle.dl_claims.proofs.Common.{ℕ, ◌≡◌, ◌/◌, ◌^◌, ◌≤◌, length, arith, ap, ap₂, ◌∙◌, min, div_ceil, low_at, high_at, mixture_end, size_within, low_ends_long}
 use Rattle.dl_claims.proofs.EndLists.{one_more_item}
 use Rattle.dl_claims.proofs.BlockGrids.{as_made, mixed_lists, mixture_between, mixture_ends}
 use Rattle.dl_claims.proofs.mixture.block.Goals as goal

@@ -1,7 +1,5 @@
 -- The weight of one count more.
-use Rattle.dl_claims.proofs.Common.{◌+◌, ◌≤◌, arith, weight_at, weight_within}
-use Rattle.std.proofs.lemmas.List.Elements.{All-push}
-use Rattle.dl_limits.specs.Limits.{most_weights}
+use Rattle.dl_claims.proofs.Common.{◌+◌, ◌≤◌, arith, weight_at, weight_within, All-push, most_weights}
 use Rattle.dl_claims.proofs.EndLists.{one_more_item, one_longer}
 use Rattle.dl_claims.proofs.mixture.weights_from.Goals as goal
 

@@ -1,5 +1,4 @@
-use Rattle.dl_claims.proofs.Common.{ℕ, ◌≡◌, ◌+◌, ◌<◌, ◌≤◌, length, get_or, All, weight_at}
-use Rattle.dl_limits.specs.Limits.{most_weights}
+use Rattle.dl_claims.proofs.Common.{ℕ, ◌≡◌, ◌+◌, ◌<◌, ◌≤◌, length, get_or, All, weight_at, most_weights}
 use Rattle.dl_claims.proofs.mixture.weights_from.Given as goal
 
 abbrev pub invariant-loop-i : goal.invariant-loop-i

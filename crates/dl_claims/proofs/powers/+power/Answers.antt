@@ -1,7 +1,6 @@
-use Rattle.dl_claims.proofs.Common.{◌+◌, ◌-◌, ◌/◌, ◌^◌, arith, sym, ap, ◌∙◌, length-take-le, pow_pos, IfOk-weaker, Iv, spread, size_of, size_within, spread_none, sum_by-take-le, pw_one}
+use Rattle.dl_claims.proofs.Common.{◌+◌, ◌-◌, ◌/◌, ◌^◌, arith, sym, ap, ◌∙◌, length-take-le, pow_pos, IfOk-weaker, Iv, spread, size_of, size_within, spread_none, sum_by-take-le, pw_one, if_ok_two, if_ok_three}
 use Rattle.dl_claims.proofs.Enclosing.{no_copy, first_cells, squared, one_more}
 use Rattle.dl_claims.proofs.Spreads.{squared_width, one_more_width}
-use Rattle.dl_exact.proofs.Results.{if_ok_two, if_ok_three}
 use Rattle.dl_claims.proofs.powers.+power.Goals as goal
 
 pub zero-requires : goal.zero-requires

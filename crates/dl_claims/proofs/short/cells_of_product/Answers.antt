@@ -1,5 +1,4 @@
-use Rattle.dl_claims.proofs.Common.{arith, size_of}
-use Rattle.dl_grid.proofs.Room.{size_few}
+use Rattle.dl_claims.proofs.Common.{arith, size_of, size_few}
 use Rattle.dl_claims.proofs.short.cells_of_product.Goals as goal
 
 pub overflow_add-cells : goal.overflow_add-cells

@@ -1,4 +1,4 @@
-use Rattle.dl_exact.proofs.Results.{if_ok_two}
+use Rattle.dl_claims.proofs.Common.{if_ok_two}
 use Rattle.dl_claims.proofs.ShortGrids.{short_convolution}
 use Rattle.dl_claims.proofs.short.short_square.Goals as goal
 

@@ -1,7 +1,5 @@
-use Rattle.dl_panjer.proofs.Common.{◌^◌, arith, floor_le_ceiling, power_le, part_within}
-use Rattle.std.proofs.Common.{refl}
+use Rattle.dl_panjer.proofs.Common.{◌^◌, arith, floor_le_ceiling, power_le, part_within, refl, unit_fits}
 use Rattle.dl_panjer.proofs.EndLaws.{low_encloses, high_encloses}
-use Rattle.dl_frac.proofs.FractionLaws.{unit_fits}
 use Rattle.dl_panjer.proofs.Reciprocals.{narrow, reciprocal_fits}
 use Rattle.dl_panjer.proofs.exponential.exp_neg.Goals as goal
 

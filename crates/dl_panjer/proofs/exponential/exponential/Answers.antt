@@ -1,6 +1,4 @@
-use Rattle.dl_panjer.proofs.Common.{◌≡◌, ℕ, suc, ◌+◌, ◌*◌, ◌/◌, ◌^◌, ◌<◌, ◌≤◌, arith, sym, subst, subst₂, ◌∙◌, mul-pos, mul-le-mul_right, zero-lt-suc, div_ceil, div_ceil_least, floor_le_ceiling, count_below}
-use Rattle.std.proofs.Common.{ap₂, add-one, refl}
-unfoldable use Rattle.dl_panjer.specs.Ends.{low_term, high_term}
+use Rattle.dl_panjer.proofs.Common.{◌≡◌, ℕ, suc, ◌+◌, ◌*◌, ◌/◌, ◌^◌, ◌<◌, ◌≤◌, arith, sym, subst, subst₂, ◌∙◌, mul-pos, mul-le-mul_right, zero-lt-suc, div_ceil, div_ceil_least, floor_le_ceiling, count_below, ap₂, add-one, refl, low_term, high_term}
 use Rattle.dl_panjer.proofs.Terms.{half_parts}
 unfoldable use Rattle.dl_panjer.proofs.Roundings.{fall}
 use Rattle.dl_panjer.proofs.Roundings.{fall_far, fall_next, fallen, near_next}

@@ -1,5 +1,4 @@
-use Rattle.dl_panjer.proofs.Common.{suc, ◌≡◌, ◌+◌, ◌*◌, ◌^◌, ◌≤◌, count_below}
-use Rattle.dl_panjer.specs.Ends.{low_term, high_term}
+use Rattle.dl_panjer.proofs.Common.{suc, ◌≡◌, ◌+◌, ◌*◌, ◌^◌, ◌≤◌, count_below, low_term, high_term}
 use Rattle.dl_panjer.proofs.Roundings.{fall}
 use Rattle.dl_panjer.proofs.exponential.exponential.Given as goal
 

@@ -1,5 +1,4 @@
-use Rattle.dl_panjer.proofs.Common.{◌/◌, ◌≤◌, arith, div_ceil, mul-le-mul_right}
-use Rattle.dl_iv.proofs.Rounding.{floor_le_ceiling}
+use Rattle.dl_panjer.proofs.Common.{◌/◌, ◌≤◌, arith, div_ceil, mul-le-mul_right, floor_le_ceiling}
 use Rattle.dl_panjer.proofs.follow.ends_of.Goals as goal
 
 pub overflow_mul-result : goal.overflow_mul-result

@@ -1,7 +1,6 @@
-use Rattle.dl_panjer.proofs.Common.{◌≡◌, ◌+◌, ◌*◌, ◌^◌, ◌≤◌, List, length, false, arith, rules, ◌∙◌, subst, sym, ◌+ℚ◌, ◌*ℚ◌, ◌/ℚ◌, whole, IsFloor, IsCeiling, Iv, low_at, high_at, spread, up, probability_of, gamma_of, compound, GridEncloses, IsGeometricBase, low_next, high_next}
+use Rattle.dl_panjer.proofs.Common.{◌≡◌, ◌+◌, ◌*◌, ◌^◌, ◌≤◌, List, length, false, arith, rules, ◌∙◌, subst, sym, ◌+ℚ◌, ◌*ℚ◌, ◌/ℚ◌, whole, IsFloor, IsCeiling, Iv, low_at, high_at, spread, up, probability_of, gamma_of, compound, GridEncloses, IsGeometricBase, low_next, high_next, IfOk-weaker}
 use Rattle.dl_panjer.proofs.Starts.{floor_start, ceiling_start}
 use Rattle.dl_panjer.proofs.Grids.{made_of, geometric_is_base, geometric_grid, geometric_encloses, geometric_widths, items_positive, items_weighted}
-use Rattle.std.proofs.lemmas.Result.{IfOk-weaker}
 use Rattle.dl_panjer.proofs.geometric.geometric_base.Goals as goal
 
 pub follow-requires : goal.follow-requires

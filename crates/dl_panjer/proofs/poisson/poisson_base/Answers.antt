@@ -1,9 +1,7 @@
-use Rattle.dl_panjer.proofs.Common.{ℕ, List, length, low_next, high_next, ap₂, over_self, ◌+◌, ◌≡◌, ◌*◌, ◌^◌, ◌≤◌, true, arith, rules, sym, ap, subst, ◌∙◌, zero-lt-suc, Fraction, ◌over◌, ◌/ℚ◌, ◌≤ℚ◌, whole, over_le, one_pos, le_trans, low_at, high_at, spread, Iv, poisson, compound, GridEncloses, probability_of, IsPoissonBase, StartsAtExp}
-use Rattle.dl_panjer.specs.Ends.{exp_low, exp_high}
+use Rattle.dl_panjer.proofs.Common.{ℕ, List, length, low_next, high_next, ap₂, over_self, ◌+◌, ◌≡◌, ◌*◌, ◌^◌, ◌≤◌, true, arith, rules, sym, ap, subst, ◌∙◌, zero-lt-suc, Fraction, ◌over◌, ◌/ℚ◌, ◌≤ℚ◌, whole, over_le, one_pos, le_trans, low_at, high_at, spread, Iv, poisson, compound, GridEncloses, probability_of, IsPoissonBase, StartsAtExp, exp_low, exp_high, IfOk-weaker}
 use Rattle.dl_panjer.proofs.Terms.{half_parts}
 use Rattle.dl_panjer.proofs.Starts.{poisson_start}
 use Rattle.dl_panjer.proofs.Grids.{made_of, poisson_is_base, poisson_grid, poisson_encloses, poisson_widths, items_positive, items_weighted}
-use Rattle.std.proofs.lemmas.Result.{IfOk-weaker}
 use Rattle.dl_panjer.proofs.poisson.poisson_base.Goals as goal
 
 half_le_one : (x : Fraction) → x ≤ℚ 1 over 2 → x ≤ℚ whole 1

@@ -1,7 +1,4 @@
-use Rattle.dl_panjer.proofs.Common.{◌≡◌, ◌over◌}
-use Rattle.dl_frac.specs.Exact.{FitsFrac}
-use Rattle.dl_exact.proofs.Parts.{over_num_le}
-use Rattle.dl_plan.proofs.Fits.{over_fits, given_ok}
+use Rattle.dl_panjer.proofs.Common.{◌≡◌, ◌over◌, FitsFrac, over_num_le, over_fits, given_ok}
 use Rattle.dl_panjer.proofs.rates.fraction.Goals as goal
 
 pub unwrap-requires : goal.unwrap-requires

@@ -1,5 +1,4 @@
-use Rattle.dl_panjer.proofs.Common.{ℕ, ◌*◌, ◌^◌, ◌<◌, ◌≤◌, ◌%◌, ◌∙◌, arith, ap₂, mul-le-mul, zero-lt-suc, pow_pos, pow-le-pow_right, ◌over◌}
-use Rattle.std.proofs.lemmas.Nat.{one_shl}
+use Rattle.dl_panjer.proofs.Common.{ℕ, ◌*◌, ◌^◌, ◌<◌, ◌≤◌, ◌%◌, ◌∙◌, arith, ap₂, mul-le-mul, zero-lt-suc, pow_pos, pow-le-pow_right, ◌over◌, one_shl}
 use Rattle.dl_panjer.proofs.Recursions.{divided}
 use Rattle.dl_panjer.proofs.rates.halved.Goals as goal
 

@@ -1,5 +1,4 @@
-use Rattle.dl_panjer.proofs.Common.{◌≡◌, ◌-◌, ◌≤◌, ◌^◌, [], ◌∷◌, length, arith, refl, ◌∙◌, Iv, low_at, high_at, low_at_front, high_at_front, low_at_pushed, high_at_pushed, All-nil, All-push}
-use Rattle.dl_panjer.specs.Cells.{low_next_of_shape, high_next_of_shape}
+use Rattle.dl_panjer.proofs.Common.{◌≡◌, ◌-◌, ◌≤◌, ◌^◌, [], ◌∷◌, length, arith, refl, ◌∙◌, Iv, low_at, high_at, low_at_front, high_at_front, low_at_pushed, high_at_pushed, All-nil, All-push, low_next_of_shape, high_next_of_shape}
 use Rattle.dl_panjer.proofs.Steps.{follows_pushed}
 use Rattle.dl_panjer.proofs.Shapes.{low_shape_same, high_shape_same}
 use Rattle.dl_panjer.proofs.shape.follow_shape.Goals as goal

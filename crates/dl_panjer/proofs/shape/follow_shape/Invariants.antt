@@ -1,5 +1,4 @@
-use Rattle.dl_panjer.proofs.Common.{◌≡◌, ◌^◌, ◌≤◌, length, All, low_at, high_at, Follows}
-use Rattle.dl_panjer.specs.Cells.{low_next_of_shape, high_next_of_shape}
+use Rattle.dl_panjer.proofs.Common.{◌≡◌, ◌^◌, ◌≤◌, length, All, low_at, high_at, Follows, low_next_of_shape, high_next_of_shape}
 use Rattle.dl_panjer.proofs.shape.follow_shape.Given as goal
 
 abbrev pub invariant-loop-s : goal.invariant-loop-s

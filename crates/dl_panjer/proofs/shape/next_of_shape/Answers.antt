@@ -1,5 +1,4 @@
-use Rattle.dl_panjer.proofs.Common.{ℕ, suc, ◌≡◌, ◌-◌, ◌*◌, ◌^◌, ◌≤◌, length, arith, refl, ap₂, ◌∙◌, whole, ◌<ℚ◌, Fraction, low_at, high_at, low_le_high, one_fits, total_pos}
-use Rattle.dl_exact.proofs.BelowOne.{num_below}
+use Rattle.dl_panjer.proofs.Common.{ℕ, suc, ◌≡◌, ◌-◌, ◌*◌, ◌^◌, ◌≤◌, length, arith, refl, ap₂, ◌∙◌, whole, ◌<ℚ◌, Fraction, low_at, high_at, low_le_high, one_fits, total_pos, num_below}
 use Rattle.dl_panjer.proofs.Reading.{low_at_most, high_at_most}
 use Rattle.dl_panjer.proofs.Shapes.{shape_rises, shape_fits, shape_order}
 use Rattle.dl_panjer.proofs.shape.next_of_shape.Goals as goal

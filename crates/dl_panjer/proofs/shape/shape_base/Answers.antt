@@ -1,7 +1,4 @@
-use Rattle.dl_panjer.proofs.Common.{◌≡◌, ◌+◌, ◌*◌, ◌^◌, ◌≤◌, List, length, arith, rules, sym, subst, ◌∙◌, ◌over◌, ◌+ℚ◌, ◌*ℚ◌, ◌/ℚ◌, whole, sum_to, Holds, Iv, low_at, high_at, high_is, width_at, spread, up, probability_of, gamma_of, gamma_class, compound, GridEncloses}
-use Rattle.std.proofs.lemmas.Result.{IfOk-weaker}
-use Rattle.dl_exact.proofs.BelowOne.{num_below}
-use Rattle.dl_panjer.specs.Cells.{low_next_of_shape, high_next_of_shape}
+use Rattle.dl_panjer.proofs.Common.{◌≡◌, ◌+◌, ◌*◌, ◌^◌, ◌≤◌, List, length, arith, rules, sym, subst, ◌∙◌, ◌over◌, ◌+ℚ◌, ◌*ℚ◌, ◌/ℚ◌, whole, sum_to, Holds, Iv, low_at, high_at, high_is, width_at, spread, up, probability_of, gamma_of, gamma_class, compound, GridEncloses, IfOk-weaker, num_below, low_next_of_shape, high_next_of_shape}
 use Rattle.dl_panjer.proofs.Grids.{made_of, own, made_grid, made_encloses, ratio_widths, items_positive, items_weighted}
 use Rattle.dl_panjer.proofs.Shapes.{ratio_of_shape, shape_outward, shape_widths}
 use Rattle.dl_panjer.proofs.shape.shape_base.Goals as goal

@@ -1,10 +1,4 @@
-use Rattle.dl_panjer.proofs.Common.{ℕ, ◌≡◌, ◌*◌, ◌/◌, ◌^◌, ◌≤◌, ◌%◌, arith, refl, mul-le-mul_right, div_ceil, div_ceil_least, pow_pos, one_fits, Fraction, whole, ◌+ℚ◌, ◌*ℚ◌, ◌/ℚ◌, over_le, sum_to}
-use Rattle.std.proofs.Common.{div-mul-le_self}
-use Rattle.std.proofs.lemmas.Grind.{div_ceil_times}
-use Rattle.std.proofs.lemmas.Nat.{one_shl}
-use Rattle.dl_model.proofs.Declared.{at_least_wider, at_most_wider}
-use Rattle.dl_model.specs.Counts.{gamma}
-use Rattle.dl_start.proofs.Products.{two_le}
+use Rattle.dl_panjer.proofs.Common.{ℕ, ◌≡◌, ◌*◌, ◌/◌, ◌^◌, ◌≤◌, ◌%◌, arith, refl, mul-le-mul_right, div_ceil, div_ceil_least, pow_pos, one_fits, Fraction, whole, ◌+ℚ◌, ◌*ℚ◌, ◌/ℚ◌, over_le, sum_to, div-mul-le_self, div_ceil_times, one_shl, at_least_wider, at_most_wider, gamma, two_le}
 use Rattle.dl_panjer.proofs.Shapes.{cell_near, ratio_of_shape}
 use Rattle.dl_panjer.proofs.shape.shape_cell.Goals as goal
 

@@ -1,5 +1,4 @@
-use Rattle.dl_panjer.proofs.Common.{arith, leb, leb-true, rules, leb-false}
-use Rattle.std.proofs.lemmas.List.Sorted.{IsPartitionPoint-from_clause, IsPartitionedBy-leb}
+use Rattle.dl_panjer.proofs.Common.{arith, leb, leb-true, rules, leb-false, IsPartitionPoint-from_clause, IsPartitionedBy-leb}
 use Rattle.dl_panjer.proofs.Reading.{amounts_rise}
 use Rattle.dl_panjer.proofs.sums.count_at_most.Goals as goal
 

@@ -1,5 +1,4 @@
-use Rattle.dl_panjer.proofs.Common.{◌+◌, ◌<◌, ◌^◌, arith, eqb, not, Item, size_few}
-use Rattle.std.proofs.lemmas.List.Sums.{sum_by_more_le}
+use Rattle.dl_panjer.proofs.Common.{◌+◌, ◌<◌, ◌^◌, arith, eqb, not, Item, size_few, sum_by_more_le}
 use Rattle.dl_panjer.proofs.Reading.{low_small, high_small, low_more, high_more, low_fits, high_fits}
 use Rattle.dl_panjer.proofs.sums.sums_over.Goals as goal
 

@@ -1,11 +1,6 @@
 -- Since a text has one token list, and that spells one program.
-use Rattle.dl_printer.proofs.Common.{◌≡◌, ◌∙◌, sym, ap, subst, List, length, Program, lexemes, canonical}
-use Rattle.dl_lexer.specs.declared.token.Token.{Token}
+use Rattle.dl_printer.proofs.Common.{◌≡◌, ◌∙◌, sym, ap, subst, List, length, Program, lexemes, canonical, Token, Spells, program, IsWellFormed, bare, SameProgram, cover_one, one_program}
 use Rattle.dl_lexer.specs.Cutting.{Covers}
-use Rattle.dl_ast.specs.Prelude.{Spells, program, IsWellFormed}
-use Rattle.dl_printer.specs.Apart.{bare, SameProgram}
-use Rattle.dl_lexer.proofs.CoverLaws.{cover_one}
-use Rattle.dl_parser.proofs.Whole.{one_program}
 use Rattle.dl_printer.proofs.Cut.{reads_back}
 use Rattle.dl_printer.proofs.SameText.{same_text}
 use Rattle.dl_printer.proofs.law.law_reads_nothing_else.Goals as goal

@@ -1,8 +1,4 @@
-use Rattle.dl_product.proofs.Common.{◌≡◌, ◌+◌, ◌-◌, ◌*◌, ◌<◌, ◌∙◌, ap, ap₂, arith, get_or, length, refl, sym, times_nothing}
-use Rattle.std.proofs.Common.{◌^◌}
-use Rattle.std.proofs.Math.ListN.{length-set}
-use Rattle.dl_exact.specs.Count.{count_below}
-use Rattle.dl_exact.proofs.Writing.{set_done, set_rest}
+use Rattle.dl_product.proofs.Common.{◌≡◌, ◌+◌, ◌-◌, ◌*◌, ◌<◌, ◌∙◌, ap, ap₂, arith, get_or, length, refl, sym, times_nothing, ◌^◌, length-set, count_below, set_done, set_rest}
 use Rattle.dl_product.proofs.Rests.{factor_fits, next_fits, next_sum, none_yet}
 use Rattle.dl_product.proofs.behind.with_rest.Goals as goal
 

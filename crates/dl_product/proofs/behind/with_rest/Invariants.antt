@@ -1,5 +1,4 @@
-use Rattle.dl_product.proofs.Common.{ℕ, ◌≡◌, ◌+◌, ◌-◌, ◌*◌, ◌<◌, ◌≤◌, length, get_or}
-use Rattle.dl_exact.specs.Count.{count_below}
+use Rattle.dl_product.proofs.Common.{ℕ, ◌≡◌, ◌+◌, ◌-◌, ◌*◌, ◌<◌, ◌≤◌, length, get_or, count_below}
 use Rattle.dl_product.proofs.behind.with_rest.Given as goal
 
 abbrev pub invariant-loop-s : goal.invariant-loop-s

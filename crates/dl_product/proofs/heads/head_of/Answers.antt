@@ -1,8 +1,4 @@
-use Rattle.dl_product.proofs.Common.{◌∙◌, ◌-◌, ◌≤◌, length, get_or, take, arith, sym, inl, inr, cases_lt, end_fits, get_or-take, length-take}
-use Rattle.std.proofs.lemmas.List.{get_or_default}
-use Rattle.dl_limits.specs.Limits.{most_cell_end}
-use Rattle.dl_grid.proofs.CellLaws.{size_of}
-use Rattle.dl_grid.proofs.Room.{size_few}
+use Rattle.dl_product.proofs.Common.{◌∙◌, ◌-◌, ◌≤◌, length, get_or, take, arith, sym, inl, inr, cases_lt, end_fits, get_or-take, length-take, get_or_default, most_cell_end, size_of, size_few}
 use Rattle.dl_product.proofs.Taken.{head_ends, taken_at, taken_long, taken_past}
 use Rattle.dl_product.proofs.heads.head_of.Goals as goal
 

@@ -1,5 +1,4 @@
-use Rattle.dl_product.proofs.Common.{◌+◌, ◌*◌, ◌∙◌, arith, get_or}
-use Rattle.std.proofs.Math.ListN.{length-set}
+use Rattle.dl_product.proofs.Common.{◌+◌, ◌*◌, ◌∙◌, arith, get_or, length-set}
 use Rattle.dl_product.proofs.Apart.{one_written}
 use Rattle.dl_product.proofs.steps.spread_out.Goals as goal
 

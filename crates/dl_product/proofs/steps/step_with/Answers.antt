@@ -1,9 +1,5 @@
-use Rattle.dl_product.proofs.Common.{◌≡◌, ◌∙◌, arith, cases_lt, inl, inr, get_or_past}
-use Rattle.std.proofs.lemmas.Nat.Gcd.{dvd_refl, dvd_trans, mod-eq-zero_of_dvd}
-use Rattle.dl_exact.specs.Gcd.{gcd}
+use Rattle.dl_product.proofs.Common.{◌≡◌, ◌∙◌, arith, cases_lt, inl, inr, get_or_past, dvd_refl, dvd_trans, mod-eq-zero_of_dvd, gcd, cases_eq, gcd_is}
 use Rattle.dl_product.proofs.Apart.{off_finer}
-use Rattle.std.proofs.lemmas.Bool.{cases_eq}
-use Rattle.dl_exact.proofs.GcdLaws.{gcd_is}
 use Rattle.dl_product.proofs.steps.step_with.Goals.{then-xs-i-ne0, else-xs-i-ne0}
 use Rattle.dl_product.proofs.steps.step_with.Goals as goal
 

@@ -1,5 +1,4 @@
-use Rattle.dl_product.proofs.Common.{ℕ, ◌≡◌, ◌<◌, get_or}
-use Rattle.std.proofs.Common.{◌%◌}
+use Rattle.dl_product.proofs.Common.{ℕ, ◌≡◌, ◌<◌, get_or, ◌%◌}
 use Prim.Native.Nat.{◌∣◌}
 use Rattle.dl_product.proofs.steps.step_with.Given as goal
 

@@ -1,6 +1,4 @@
-use Rattle.dl_product.proofs.Common.{◌≡◌, ◌*◌, get_or, arith, refl, ◌∙◌}
-use Rattle.std.proofs.Math.ListN.{length-set}
-use Rattle.dl_exact.proofs.Writing.{set_done}
+use Rattle.dl_product.proofs.Common.{◌≡◌, ◌*◌, get_or, arith, refl, ◌∙◌, length-set, set_done}
 use Rattle.dl_product.proofs.Apart.{all_taken, multiple_inside}
 use Rattle.dl_product.proofs.steps.take_multiples.Goals as goal
 

@@ -1,5 +1,4 @@
-use Rattle.dl_product.proofs.Common.{ℕ, ◌≡◌, ◌*◌, ◌<◌, length, get_or}
-use Rattle.std.specs.Int.{div_ceil}
+use Rattle.dl_product.proofs.Common.{ℕ, ◌≡◌, ◌*◌, ◌<◌, length, get_or, div_ceil}
 use Rattle.dl_product.proofs.steps.take_multiples.Given as goal
 
 abbrev pub invariant-loop-k : goal.invariant-loop-k

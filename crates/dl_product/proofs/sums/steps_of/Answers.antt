@@ -1,6 +1,4 @@
-use Rattle.dl_product.proofs.Common.{mul-le-mul}
-use Rattle.std.proofs.Common.{◌*◌, ◌^◌, arith}
-use Rattle.std.proofs.Math.Nat.{le_trans, mod-le, pow-le-pow_right}
+use Rattle.dl_product.proofs.Common.{mul-le-mul, ◌*◌, ◌^◌, arith, le_trans, mod-le, pow-le-pow_right}
 use Rattle.dl_product.proofs.sums.steps_of.Goals as goal
 
 pub returns : goal.returns

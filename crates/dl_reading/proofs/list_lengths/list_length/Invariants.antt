@@ -1,6 +1,5 @@
 -- The values of the items so far.
-use Rattle.dl_reading.proofs.Common.{◌+◌, ◌≤◌, flat_map, length, take, IsReadTo, flaws_in, flaws_of_item, spanned_item}
-use Rattle.std.proofs.Common.{min}
+use Rattle.dl_reading.proofs.Common.{◌+◌, ◌≤◌, flat_map, length, take, IsReadTo, flaws_in, flaws_of_item, spanned_item, min}
 use Rattle.dl_reading.proofs.list_lengths.list_length.Given as goal
 
 abbrev pub invariant-items : goal.invariant-items

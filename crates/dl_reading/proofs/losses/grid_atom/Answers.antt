@@ -1,6 +1,5 @@
 -- Amounts and probabilities, right where the values are.
-use Rattle.dl_reading.proofs.Common.{ℕ, ◌≡◌, ◌∙◌, List, length, map, Option, sym, ap, ap₂, arith, Fraction, Span, Shares, IsRead, grid_atom, number_of, flaws_else, Atom, Flaws, Gridded, IsReadTo, flaws_within, grid_shares, flaws_of_list, flaws_beside, flaws_of_atom, if_there, spanned_values, Bounds}
-use Rattle.std.proofs.lemmas.Simd.{map-map}
+use Rattle.dl_reading.proofs.Common.{ℕ, ◌≡◌, ◌∙◌, List, length, map, Option, sym, ap, ap₂, arith, Fraction, Span, Shares, IsRead, grid_atom, number_of, flaws_else, Atom, Flaws, Gridded, IsReadTo, flaws_within, grid_shares, flaws_of_list, flaws_beside, flaws_of_atom, if_there, spanned_values, Bounds, map-map}
 use Rattle.dl_reading.proofs.Agreeing.{read_after, keeps_first}
 use Rattle.dl_reading.proofs.Beside.{beside_read}
 use Rattle.dl_reading.proofs.ListLengths.{amount_flaws, none_early}

@@ -1,8 +1,5 @@
 -- The limit is above 0, and at least the part.
-use Rattle.dl_reading.proofs.Common.{◌≡◌, ◌<◌, ◌^◌, false, ap, sym, subst, Fraction}
-use Rattle.dl_exact.proofs.Parts.{pos_num}
-use Rattle.dl_reading.specs.Clauses.{part_of}
-use Rattle.dl_reading.specs.Rules.{part_exceeds}
+use Rattle.dl_reading.proofs.Common.{◌≡◌, ◌<◌, ◌^◌, false, ap, sym, subst, Fraction, pos_num, part_of, part_exceeds}
 use Rattle.dl_reading.proofs.ClauseLaws.{part_tests, part_far}
 use Rattle.dl_reading.proofs.made.share_of_limit.Goals as goal
 

@@ -1,6 +1,5 @@
 -- A numeral of the text is one that is read.
-use Rattle.dl_reading.proofs.Common.{arith, whole_num, whole_den, false_from_ne_true}
-use Rattle.dl_frac.proofs.SmallNumerals.{numeral_small}
+use Rattle.dl_reading.proofs.Common.{arith, whole_num, whole_den, false_from_ne_true, numeral_small}
 use Rattle.dl_reading.proofs.numbers.number.Goals as goal
 
 pub numeral-requires-clause-spelled : goal.numeral-requires-clause-spelled

@@ -1,7 +1,5 @@
 -- No part of the common denominator passes the whole.
-use Rattle.dl_reading.proofs.Common.{◌≤◌, ◌<◌, ◌∷◌, [], ap, ap₂, ◌∙◌, arith, Range, range_denominator}
-use Rattle.dl_exact.specs.Multiples.{lcm}
-use Rattle.dl_plan.proofs.CommonDenominators.{common_take-le, lcm_pos}
+use Rattle.dl_reading.proofs.Common.{◌≤◌, ◌<◌, ◌∷◌, [], ap, ap₂, ◌∙◌, arith, Range, range_denominator, lcm, common_take-le, lcm_pos}
 use Rattle.dl_reading.proofs.numbers.shared_denominator.Goals as goal
 
 first_le : (r : Range) → lcm 1 r.from.den ≤ range_denominator r

@@ -1,7 +1,5 @@
 -- The first clause that maps an amount to no whole number.
-use Rattle.dl_reading.proofs.Common.{refl, ◌∙◌, ap, map, kept}
-use Rattle.std.proofs.Common.{rules}
-use Rattle.dl_reading.specs.Rules.{off_grid_sums}
+use Rattle.dl_reading.proofs.Common.{refl, ◌∙◌, ap, map, kept, rules, off_grid_sums}
 use Rattle.dl_reading.proofs.off_grid.off_grid_cession.Goals as goal
 
 pub returns-in-Missing : goal.returns-in-Missing

@@ -1,8 +1,5 @@
 -- The multiples that are tried tell of all sums.
-use Rattle.dl_reading.proofs.Common.{◌≡◌, ◌∙◌, ◌↔◌, ℕ, Bool, true, false, not, refl, sym, ap, at_if, Clause, IsClause, is_off_multiples}
-use Rattle.std.proofs.Common.{IsTrue}
-use Rattle.std.proofs.lemmas.Bool.{true_from_ne_false}
-use Rattle.dl_severity.specs.Fits.{FitsStep}
+use Rattle.dl_reading.proofs.Common.{◌≡◌, ◌∙◌, ◌↔◌, ℕ, Bool, true, false, not, refl, sym, ap, at_if, Clause, IsClause, is_off_multiples, IsTrue, true_from_ne_false, FitsStep}
 use Rattle.dl_reading.proofs.PastEdges.{fits_tried, tried_fits}
 use Rattle.dl_reading.proofs.off_grid.off_grid_sums.Goals as goal
 

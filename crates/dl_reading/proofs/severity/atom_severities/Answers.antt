@@ -1,6 +1,5 @@
 -- One atom more.
-use Rattle.dl_reading.proofs.Common.{Bool, ◌∙◌, ◌&&◌, ap, ap₂, sym, GridAtom, atom_pairs, atom_probs, are_fine, at_item, take_all, IsGridAtom, Bounds}
-use Rattle.std.proofs.lemmas.List.Folds.{list_all_at, list_all_more}
+use Rattle.dl_reading.proofs.Common.{Bool, ◌∙◌, ◌&&◌, ap, ap₂, sym, GridAtom, atom_pairs, atom_probs, are_fine, at_item, take_all, IsGridAtom, Bounds, list_all_at, list_all_more}
 use Rattle.dl_reading.proofs.Mixing.{pair-more}
 use Rattle.dl_reading.proofs.severity.atom_severities.Goals as goal
 

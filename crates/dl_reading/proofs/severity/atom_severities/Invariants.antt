@@ -1,6 +1,5 @@
 -- The severities of the atoms that were read, with fine probabilities.
-use Rattle.dl_reading.proofs.Common.{◌≡◌, true, map, take, HasDistribution, AllZip, atom_pairs, atom_probs, are_fine}
-use Rattle.std.specs.List.{list_all}
+use Rattle.dl_reading.proofs.Common.{◌≡◌, true, map, take, HasDistribution, AllZip, atom_pairs, atom_probs, are_fine, list_all}
 use Rattle.dl_reading.proofs.severity.atom_severities.Given as goal
 
 abbrev pub invariant-atoms : goal.invariant-atoms

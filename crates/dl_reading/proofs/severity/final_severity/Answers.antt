@@ -1,8 +1,6 @@
 -- Where no clause is made, the severity is its own.
-use Rattle.dl_reading.proofs.Common.{◌≡◌, ◌∙◌, refl, sym, ap, Clause, Pairs, Span, probability, pairs_of}
-use Rattle.dl_reading.specs.declared.made.MadeClause.{MadeClause}
+use Rattle.dl_reading.proofs.Common.{◌≡◌, ◌∙◌, refl, sym, ap, Clause, Pairs, Span, probability, pairs_of, MadeClause, made_pairs}
 use Rattle.dl_reading.specs.declared.made.MadeClause.TheVariants.{Missing, TooFine, Whole}
-use Rattle.dl_reading.specs.Severity.{made_pairs}
 use Rattle.dl_reading.proofs.Meaning.{own_means}
 use Rattle.dl_reading.proofs.severity.final_severity.Goals as goal
 

@@ -1,6 +1,5 @@
 -- The mixture of the atoms is that of the text, and refused exactly where that is not fine.
-use Rattle.dl_reading.proofs.Common.{◌∙◌, ◌&&◌, length, map, ap, ap₂, sym, subst, length-map, HasDistribution, AllZip, atom_pairs, weights_of, are_fine, is_fine, has_atoms, mixture_shares}
-use Rattle.std.proofs.lemmas.Bool.{and_right}
+use Rattle.dl_reading.proofs.Common.{◌∙◌, ◌&&◌, length, map, ap, ap₂, sym, subst, length-map, HasDistribution, AllZip, atom_pairs, weights_of, are_fine, is_fine, has_atoms, mixture_shares, and_right}
 use Rattle.dl_reading.proofs.Mixing.{weights_length, pair_length, mixture_means}
 use Rattle.dl_reading.proofs.FineMixtures.{mixed_fine, mixed_coarse}
 use Rattle.dl_reading.proofs.severity.mixture.Goals as goal

@@ -1,6 +1,5 @@
 -- The steps of the layer, where it is conditioned and where it is not.
-use Rattle.dl_reading.proofs.Common.{◌∙◌, sym, subst, conditioned, pairs_of, HasDistribution, layer, layered, if_ok, mixed_pairs}
-use Rattle.std.proofs.lemmas.Bool.{some_since}
+use Rattle.dl_reading.proofs.Common.{◌∙◌, sym, subst, conditioned, pairs_of, HasDistribution, layer, layered, if_ok, mixed_pairs, some_since}
 use Rattle.dl_reading.proofs.Meaning.{conditioned_means, mapped_means}
 use Rattle.dl_reading.proofs.Positive.{in_layer_is, reached}
 use Rattle.dl_reading.proofs.Items.{support_within}

@@ -1,6 +1,5 @@
 -- Equal shares are fine; a list is where its weights have a total within the bound.
-use Rattle.dl_reading.proofs.Common.{◌≤◌, arith, refl, sym, subst, ◌over◌}
-use Rattle.std.specs.Prelude.{replicate}
+use Rattle.dl_reading.proofs.Common.{◌≤◌, arith, refl, sym, subst, ◌over◌, replicate}
 use Rattle.dl_reading.proofs.Shared.{equal_common, equal_weighing, list_test, weighing_fine}
 use Rattle.dl_reading.proofs.shares.are_fine.Goals as goal
 

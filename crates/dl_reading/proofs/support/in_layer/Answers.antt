@@ -1,6 +1,5 @@
 -- One amount more: it counts, or it does not.
-use Rattle.dl_reading.proofs.Common.{◌∙◌, ◌++◌, ◌∷◌, [], refl, true, false, sym, ap, append-nil}
-use Rattle.std.proofs.lemmas.Bool.{lt-ltb, le-ltb}
+use Rattle.dl_reading.proofs.Common.{◌∙◌, ◌++◌, ◌∷◌, [], refl, true, false, sym, ap, append-nil, lt-ltb, le-ltb}
 use Rattle.dl_reading.proofs.InTurn.{counted_next}
 use Rattle.dl_reading.proofs.support.in_layer.Goals.{then-not-large+in_ok-push, then-not-large-via-then-not-large, then-not-large-via-else-not-large+then-amount-attach, else-not-large+else-amount-attach}
 use Rattle.dl_reading.proofs.support.in_layer.Goals as goal

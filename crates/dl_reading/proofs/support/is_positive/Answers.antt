@@ -1,7 +1,5 @@
 -- A share of so many is positive.
-use Rattle.dl_reading.proofs.Common.{ℕ, ◌≡◌, ◌∙◌, ◌<◌, get_or, sym, ap, arith, true, Fraction, ◌over◌, over_lt}
-use Rattle.std.specs.Prelude.{replicate}
-use Rattle.std.proofs.lemmas.List.{get_or-replicate}
+use Rattle.dl_reading.proofs.Common.{ℕ, ◌≡◌, ◌∙◌, ◌<◌, get_or, sym, ap, arith, true, Fraction, ◌over◌, over_lt, replicate, get_or-replicate}
 use Rattle.dl_reading.proofs.Positive.{is_positive, positive_yes}
 use Rattle.dl_reading.proofs.support.is_positive.Goals as goal
 

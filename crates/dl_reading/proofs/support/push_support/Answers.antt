@@ -1,6 +1,5 @@
 -- One amount more.
-use Rattle.dl_reading.proofs.Common.{ℕ, ◌∙◌, ◌++◌, ◌∷◌, [], List, length, get_or, zip, sym, ap, arith, append-nil, take_all, whole, atom_probs, support}
-use Rattle.std.proofs.lemmas.Slice.Zip.{length-zip}
+use Rattle.dl_reading.proofs.Common.{ℕ, ◌∙◌, ◌++◌, ◌∷◌, [], List, length, get_or, zip, sym, ap, arith, append-nil, take_all, whole, atom_probs, support, length-zip}
 use Rattle.dl_reading.proofs.Positive.{amount-more}
 use Rattle.dl_reading.proofs.support.push_support.Goals.{then-is_positive+in_ok-push, else-is_positive}
 use Rattle.dl_reading.proofs.support.push_support.Goals as goal

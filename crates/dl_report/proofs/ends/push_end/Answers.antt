@@ -1,7 +1,5 @@
 -- The word of an end past the grid.
-use Rattle.dl_report.proofs.Common.{◌∙◌, ◌++◌, ap, sym, codes, end_text}
-use Rattle.std.proofs.lemmas.Result.{on_ok_weaker}
-use Rattle.dl_report.specs.declared.report.End.{End}
+use Rattle.dl_report.proofs.Common.{◌∙◌, ◌++◌, ap, sym, codes, end_text, on_ok_weaker, End}
 use Rattle.dl_report.proofs.Joined.{appended}
 use Rattle.dl_report.proofs.ends.push_end.Goals as goal
 

@@ -1,7 +1,4 @@
-use Rattle.dl_report.proofs.Common.{rules, ◌%◌, ◌^◌, ◌/◌, ◌∙◌, arith, subst, one-le-pow, codes, decimal, last_digits, IsAscii}
-use Rattle.std.proofs.Common.{◌≤◌}
-use Rattle.std.proofs.Math.Nat.{pow-le-pow_right}
-use Rattle.std.proofs.lemmas.Result.{on_ok_weaker}
+use Rattle.dl_report.proofs.Common.{rules, ◌%◌, ◌^◌, ◌/◌, ◌∙◌, arith, subst, one-le-pow, codes, decimal, last_digits, IsAscii, ◌≤◌, pow-le-pow_right, on_ok_weaker}
 use Rattle.dl_report.proofs.Ascii.{with_digits_ascii}
 use Rattle.dl_report.proofs.Digits.{rest_digits}
 use Rattle.dl_report.proofs.Joined.{three}

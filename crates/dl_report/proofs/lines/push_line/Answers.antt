@@ -1,6 +1,5 @@
 -- Part behind part.
-use Rattle.dl_report.proofs.Common.{◌≡◌, ◌∙◌, ◌++◌, ℕ, List, ap, codes, end_text, line}
-use Rattle.std.proofs.lemmas.Result.{on_ok_weaker}
+use Rattle.dl_report.proofs.Common.{◌≡◌, ◌∙◌, ◌++◌, ℕ, List, ap, codes, end_text, line, on_ok_weaker}
 use Rattle.dl_report.proofs.Joined.{appended, six}
 use Rattle.dl_report.proofs.lines.push_line.Goals as goal
 

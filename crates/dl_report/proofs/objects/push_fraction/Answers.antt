@@ -1,5 +1,4 @@
-use Rattle.dl_report.proofs.Common.{◌≡◌, ◌≢◌, ◌∙◌, ◌++◌, ap, subst, sym, codes, List, ℕ, decimal, IsAscii}
-use Rattle.std.proofs.lemmas.Result.{on_ok_weaker}
+use Rattle.dl_report.proofs.Common.{◌≡◌, ◌≢◌, ◌∙◌, ◌++◌, ap, subst, sym, codes, List, ℕ, decimal, IsAscii, on_ok_weaker}
 use Rattle.dl_report.proofs.Fractions.{whole_text, parts_ascii, parts_behind}
 use Rattle.dl_report.proofs.objects.push_fraction.Goals as goal
 

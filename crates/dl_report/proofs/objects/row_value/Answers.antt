@@ -1,6 +1,4 @@
-use Rattle.dl_report.proofs.Common.{◌≡◌, refl, subst, sym, codes, IsUtf8, row_data, view}
-use Rattle.std.specs.Prelude.{IfOk}
-use Rattle.serde_json.specs.Data.{Data, member, no_members, object, string}
+use Rattle.dl_report.proofs.Common.{◌≡◌, refl, subst, sym, codes, IsUtf8, row_data, view, IfOk, Data, member, no_members, object, string}
 use Rattle.dl_report.proofs.objects.row_value.Goals as goal
 
 pub as_text-requires : goal.as_text-requires

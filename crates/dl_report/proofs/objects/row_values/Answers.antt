@@ -1,5 +1,4 @@
-use Rattle.dl_report.proofs.Common.{◌≡◌, ◌∙◌, ◌<◌, List, ap, subst, sym, map, get_or, length, IsUtf8, row_data, Row}
-use Rattle.std.proofs.lemmas.List.Elements.{All-get_or}
+use Rattle.dl_report.proofs.Common.{◌≡◌, ◌∙◌, ◌<◌, List, ap, subst, sym, map, get_or, length, IsUtf8, row_data, Row, All-get_or}
 use Rattle.dl_report.proofs.Joined.{all_rows}
 use Rattle.dl_report.proofs.objects.row_values.Goals as goal
 

@@ -1,6 +1,4 @@
-use Rattle.dl_report.proofs.Common.{◌∙◌, ◌++◌, ℕ, List, [], ap, ap₂, subst, take, codes, flat_map, row_record, HasWritten}
-use Rattle.std.specs.Prelude.{Vec}
-use Rattle.std.specs.declared.alloc.Global.{Global}
+use Rattle.dl_report.proofs.Common.{◌∙◌, ◌++◌, ℕ, List, [], ap, ap₂, subst, take, codes, flat_map, row_record, HasWritten, Vec, Global}
 use Rattle.dl_report.proofs.Joined.{all_rows, one_more}
 use Rattle.dl_report.proofs.records.csv.Goals as goal
 

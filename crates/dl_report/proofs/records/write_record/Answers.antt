@@ -1,6 +1,5 @@
-use Rattle.dl_report.proofs.Common.{◌≢◌, ◌∙◌, ◌++◌, ℕ, List, ap, [], ◌∷◌, ap₂, row_text}
+use Rattle.dl_report.proofs.Common.{◌≢◌, ◌∙◌, ◌++◌, ℕ, List, ap, [], ◌∷◌, ap₂, row_text, writer_setup}
 use Rattle.csv.specs.declared.writer.QuoteStyle.TheVariants as style
-use Rattle.csv.specs.Writing.{writer_setup}
 use Rattle.dl_report.proofs.CsvRecords.{same_record}
 use Rattle.dl_report.proofs.records.write_record.Goals as goal
 use Rattle.dl_report.proofs.records.write_record.Goals.{in-Ok, in-Err}

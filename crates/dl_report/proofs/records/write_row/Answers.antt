@@ -1,5 +1,4 @@
-use Rattle.dl_report.proofs.Common.{◌≡◌, ◌++◌, ℕ, List, refl, subst, record_text, row_record, HasWritten}
-use Rattle.std.specs.Prelude.{OnOk}
+use Rattle.dl_report.proofs.Common.{◌≡◌, ◌++◌, ℕ, List, refl, subst, record_text, row_record, HasWritten, OnOk}
 use Rattle.dl_report.proofs.records.write_row.Goals as goal
 
 pub returns : goal.returns

@@ -1,8 +1,7 @@
 -- The amounts with the weights of the products are the mixture.
 use Rattle.dl_plan.specs.Prelude.{common_denominator}
-use Rattle.dl_severity.proofs.Common.{◌∙◌, ◌≤◌, ◌++◌, map, get_or, ap, subst, sym, ◌over◌, amounts_of, probability, mixture_of, mixed_probability, sum_of}
+use Rattle.dl_severity.proofs.Common.{◌∙◌, ◌≤◌, ◌++◌, map, get_or, ap, subst, sym, ◌over◌, amounts_of, probability, mixture_of, mixed_probability, sum_of, RefusesProducts}
 use Rattle.dl_severity.proofs.Mixed.{amounts-more, probs-more, weighed-back, as_many, coarse_mixture, mixture_whole, mixture_one, firsts, seconds}
-use Rattle.dl_severity.specs.Refusals.{RefusesProducts}
 use Rattle.dl_severity.proofs.atoms.mix.Goals as goal
 
 pub atoms-preserved : goal.atoms-preserved

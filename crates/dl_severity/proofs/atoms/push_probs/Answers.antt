@@ -1,6 +1,5 @@
 -- A product that is refused has a large denominator.
-use Rattle.dl_severity.proofs.Common.{◌∙◌, ◌++◌, ◌*◌, ◌<◌, ◌≤◌, arith, List, length, map, get_or, ap, sym, mul-le-mul, subst, take_all, get_or_default, ◌over◌, Item, mixed_probability, mul-pos, severity_total}
-use Rattle.dl_frac.specs.Exact.{IsTooFine}
+use Rattle.dl_severity.proofs.Common.{◌∙◌, ◌++◌, ◌*◌, ◌<◌, ◌≤◌, arith, List, length, map, get_or, ap, sym, mul-le-mul, subst, take_all, get_or_default, ◌over◌, Item, mixed_probability, mul-pos, severity_total, IsTooFine}
 use Rattle.dl_severity.proofs.Mixed.{coarse_product, product_is, shares-more}
 use Rattle.dl_severity.proofs.atoms.push_probs.Goals as goal
 

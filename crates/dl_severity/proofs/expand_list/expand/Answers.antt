@@ -1,6 +1,5 @@
 -- What is too long so far is too long.
-use Rattle.dl_severity.proofs.Common.{◌∙◌, ◌++◌, length, ap, sym, take_all, list_values}
-use Rattle.dl_severity.specs.Ranges.{range_values}
+use Rattle.dl_severity.proofs.Common.{◌∙◌, ◌++◌, length, ap, sym, take_all, list_values, range_values}
 use Rattle.dl_severity.proofs.Ranged.{refuses, more_fits, list_more}
 use Rattle.dl_severity.proofs.expand_list.expand.Goals as goal
 

@@ -1,6 +1,5 @@
 -- One item more is added to the last one, or comes after it.
-use Rattle.std.proofs.lemmas.List.Sums.{sum_by_more_le}
-use Rattle.dl_severity.proofs.Common.{◌∙◌, ap, arith, take_all, Item, weight_sum, weight_at}
+use Rattle.dl_severity.proofs.Common.{◌∙◌, ap, arith, take_all, Item, weight_sum, weight_at, sum_by_more_le}
 use Rattle.dl_severity.proofs.Gathering.{gathered-same, gathered-next, rising-with, positive-with, weight_sum-with, weight_at-with}
 use Rattle.dl_severity.proofs.gather.added_up.Goals as goal
 use Rattle.dl_severity.proofs.gather.added_up.Goals.{then-item-last, else-item-last+in_ok-push_weighed}

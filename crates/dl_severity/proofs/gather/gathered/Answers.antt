@@ -1,8 +1,6 @@
 -- A sort changes no sum.
-use Rattle.dl_severity.proofs.Common.{ℕ, ◌≡◌, ◌∙◌, ◌==◌, ◌<◌, ◌≤◌, List, cond, ap, ap₂, sym, subst, ◌^◌, ◌over◌, Item, weight_sum, weight_at}
+use Rattle.dl_severity.proofs.Common.{ℕ, ◌≡◌, ◌∙◌, ◌==◌, ◌<◌, ◌≤◌, List, cond, ap, ap₂, sym, subst, ◌^◌, ◌over◌, Item, weight_sum, weight_at, IsPermutation, sum_by-IsPermutation}
 use Rattle.dl_severity.proofs.Gathering.{some_items}
-use Rattle.std.proofs.Common.{IsPermutation}
-use Rattle.std.proofs.lemmas.List.Sorted.{sum_by-IsPermutation}
 use Rattle.dl_severity.proofs.gather.gathered.Goals as goal
 
 same_sum : (xs ys zs : List Item) → IsPermutation xs ys → weight_sum zs ≡ weight_sum ys → weight_sum zs ≡ weight_sum xs

@@ -1,7 +1,5 @@
 -- Sorted by a key that is the amount.
-use Rattle.dl_severity.proofs.Common.{Item}
-use Rattle.std.proofs.Common.{rules}
-use Rattle.std.proofs.lemmas.List.Sorted.{IsNonDecreasingBy-from_sort_by_key}
+use Rattle.dl_severity.proofs.Common.{Item, rules, IsNonDecreasingBy-from_sort_by_key}
 use Rattle.dl_severity.proofs.gather.sorted.Goals as goal
 
 pub returns-clause-order : goal.returns-clause-order

@@ -1,8 +1,6 @@
 -- One item more is mapped.
 use Rattle.dl_severity.proofs.Mapped.{ceded_more}
-use Rattle.std.proofs.Common.{Option, Some, None, rules}
-use Rattle.std.specs.Option.{IsSome, MatchOption}
-use Rattle.dl_severity.proofs.Common.{ℕ, ap, map, take_all, ◌∙◌, with_amount, kept}
+use Rattle.dl_severity.proofs.Common.{ℕ, ap, map, take_all, ◌∙◌, with_amount, kept, Option, Some, None, rules, IsSome, MatchOption}
 use Rattle.dl_severity.proofs.kept_whole.items_whole.Goals as goal
 
 -- none means that P fails, so where P holds the result is some

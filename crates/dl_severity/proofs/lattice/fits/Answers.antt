@@ -1,6 +1,5 @@
 -- The multiples past the ends decide.
-use Rattle.dl_severity.proofs.Common.{All, arith, refl, subst}
-use Rattle.dl_severity.specs.Fits.{FitsLayer}
+use Rattle.dl_severity.proofs.Common.{All, arith, refl, subst, FitsLayer}
 use Rattle.dl_severity.proofs.Lattices.{fits_all, fits_none, fits_one, fits_ends}
 use Rattle.dl_severity.proofs.lattice.fits.Goals as goal
 

@@ -1,7 +1,5 @@
 -- What the map gives is whole, or there is none.
-use Rattle.dl_severity.proofs.Common.{ℕ, ◌≡◌, ◌∙◌, IsTrue, Option, Some, None, refl, ap, Fraction, whole, IsWhole, kept, whole_den}
-use Rattle.std.proofs.Common.{◌↔◌}
-use Rattle.std.specs.Option.{MatchOption, is_some}
+use Rattle.dl_severity.proofs.Common.{ℕ, ◌≡◌, ◌∙◌, IsTrue, Option, Some, None, refl, ap, Fraction, whole, IsWhole, kept, whole_den, ◌↔◌, MatchOption, is_some}
 use Rattle.dl_severity.proofs.lattice.is_whole_at.Goals as goal
 
 tells : (kept : Fraction) (answer : Option ℕ) → MatchOption answer (¬ IsWhole kept) (λ y. kept ≡ whole y)

@@ -1,8 +1,5 @@
 -- The sum of amount times weight over the total.
-use Rattle.dl_limits.specs.Limits.{frac_bound, most_amount, most_weights}
-use Rattle.dl_severity.proofs.Common.{ℕ, ◌*◌, ◌<◌, ◌≤◌, inl, inr, subst, cases_lt, FitsFrac, over_same, ◌∙◌, ap, sym, arith, ◌over◌, weight_sum, over_fits, given_ok, given_value, severity_total}
-use Rattle.dl_plan.specs.Weighted.{weighted_sum}
-use Rattle.dl_plan.proofs.Shares.{mean-shares}
+use Rattle.dl_severity.proofs.Common.{ℕ, ◌*◌, ◌<◌, ◌≤◌, inl, inr, subst, cases_lt, FitsFrac, over_same, ◌∙◌, ap, sym, arith, ◌over◌, weight_sum, over_fits, given_ok, given_value, severity_total, frac_bound, most_amount, most_weights, weighted_sum, mean-shares}
 use Rattle.dl_severity.proofs.means.mean.Goals as goal
 
 -- a mean of amounts up to 2^22 with parts of 62 bits, or that number itself

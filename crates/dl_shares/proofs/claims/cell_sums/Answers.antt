@@ -1,6 +1,5 @@
 -- The sums stay small, and an amount above q adds nothing.
-use Rattle.dl_shares.proofs.Common.{◌^◌, ◌∙◌, ap, amounts_to, arith, low_at, high_at, size_of, high_le, low_le_high, le_trans, one_fits, scale_of, size_few}
-use Rattle.std.proofs.lemmas.List.{take_all}
+use Rattle.dl_shares.proofs.Common.{◌^◌, ◌∙◌, ap, amounts_to, arith, low_at, high_at, size_of, high_le, low_le_high, le_trans, one_fits, scale_of, size_few, take_all}
 use Rattle.dl_shares.proofs.Tilted.{amounts_more, amounts_same, amounts_fit}
 use Rattle.dl_shares.proofs.claims.cell_sums.Goals as goal
 use Rattle.dl_shares.proofs.claims.cell_sums.Goals.{then-item-q, else-item-q}

@@ -1,7 +1,5 @@
-use Rattle.dl_shares.proofs.Common.{◌+◌, ◌*◌, ◌^◌, ◌≤◌, ◌∙◌, min, ap, ap₂, arith, length, mul-le-mul_right, pow_pos, scale_of, spread, thinned_mean}
-use Rattle.dl_grid.specs.Width.{up}
+use Rattle.dl_shares.proofs.Common.{◌+◌, ◌*◌, ◌^◌, ◌≤◌, ◌∙◌, min, ap, ap₂, arith, length, mul-le-mul_right, pow_pos, scale_of, spread, thinned_mean, up, claims_down, claims_up}
 use Rattle.dl_shares.proofs.ClaimSums.{cells_order, cells_top, cells_near}
-use Rattle.dl_shares.specs.Claims.{claims_down, claims_up}
 use Rattle.dl_shares.proofs.ShareEnds.{whole_lowered}
 use Rattle.dl_shares.proofs.Widths.{lowered_narrow}
 use Rattle.dl_shares.proofs.claims.claims_joint.Goals as goal

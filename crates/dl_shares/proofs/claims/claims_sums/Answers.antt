@@ -1,5 +1,4 @@
-use Rattle.dl_shares.proofs.Common.{◌+◌, ◌*◌, ◌≤◌, arith, length, mul-le-mul_right, scale_of, spread, thinned_mean, sum_to}
-use Rattle.dl_grid.specs.Width.{up}
+use Rattle.dl_shares.proofs.Common.{◌+◌, ◌*◌, ◌≤◌, arith, length, mul-le-mul_right, scale_of, spread, thinned_mean, sum_to, up}
 use Rattle.dl_shares.proofs.ClaimSums.{sums_near, sums_top, sums_fit, sums_hold}
 use Rattle.dl_shares.proofs.claims.claims_sums.Goals as goal
 

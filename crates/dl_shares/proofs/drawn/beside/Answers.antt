@@ -1,10 +1,6 @@
 use Rattle.std.proofs.Common.{[], arith}
-use Rattle.std.proofs.lemmas.List.{length-map}
 use Rattle.dl_model.specs.Prelude.{aggregates_of, loss_of}
-use Rattle.dl_model.proofs.PlanUnits.{plan_units}
-use Rattle.dl_budget.proofs.Sums.{budget_here, read_unit}
-use Rattle.dl_shares.specs.Drawn.{IsGridOfUnit}
-use Rattle.dl_shares.proofs.Common.{subst, sym}
+use Rattle.dl_shares.proofs.Common.{subst, sym, length-map, plan_units, budget_here, read_unit, IsGridOfUnit}
 use Rattle.dl_shares.proofs.Origins.{beside_narrow, horizon_there, plan_scale, read_as, scale_least, source_alone}
 use Rattle.dl_shares.proofs.drawn.beside.Goals as goal
 

@@ -1,5 +1,5 @@
+use Rattle.dl_shares.proofs.Common.{◌also◌}
 use Rattle.std.proofs.Common.{arith, ap, length, subst, sym, ◌∙◌}
-use Rattle.dl_budget.proofs.Rows.{◌also◌}
 use Rattle.dl_plan.specs.Count.{IsUnbounded}
 use Rattle.dl_plan.specs.declared.plan.Unit.{Unit as UnitOfPlan}
 use Rattle.dl_shares.proofs.Origins.{plan_scale, same_unit, scale_least, source_over, valid_there}

@@ -1,7 +1,5 @@
+use Rattle.dl_shares.proofs.Common.{◌also◌, IsClaimsGrid, IsOriginOf, Nowhere}
 use Rattle.std.proofs.Common.{[], arith, subst, sym, ◌∙◌}
-use Rattle.dl_budget.proofs.Rows.{◌also◌}
-use Rattle.dl_shares.specs.Drawn.{IsClaimsGrid, IsOriginOf}
-use Rattle.dl_shares.specs.declared.drawn.Origin.TheVariants.{Nowhere}
 use Rattle.dl_shares.proofs.Origins.{read_as}
 use Rattle.dl_shares.proofs.drawn.source_of.Goals as goal
 

@@ -1,4 +1,4 @@
-use Rattle.dl_model.proofs.PlanShares.{units_joint_means}
+use Rattle.dl_shares.proofs.Common.{units_joint_means}
 use Rattle.dl_shares.proofs.laws.law_joint_total.Goals as goal
 
 pub returns : goal.returns

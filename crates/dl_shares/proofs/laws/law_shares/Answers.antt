@@ -1,4 +1,4 @@
-use Rattle.dl_model.proofs.PlanShares.{units_shares}
+use Rattle.dl_shares.proofs.Common.{units_shares}
 use Rattle.dl_shares.proofs.laws.law_shares.Goals as goal
 
 pub returns : goal.returns

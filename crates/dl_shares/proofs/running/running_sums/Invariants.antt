@@ -1,6 +1,5 @@
 -- The items so far.
-use Rattle.dl_shares.proofs.Common.{◌≡◌, ◌≤◌, take, low_at, amounts_to}
-use Rattle.dl_shares.specs.Sums.{sums_of}
+use Rattle.dl_shares.proofs.Common.{◌≡◌, ◌≤◌, take, low_at, amounts_to, sums_of}
 use Rattle.dl_shares.proofs.running.running_sums.Given as goal
 
 abbrev pub invariant-items : goal.invariant-items

@@ -1,5 +1,4 @@
-use Rattle.dl_shares.proofs.Common.{◌≡◌, ◌∙◌, ◌-◌, arith, ap, low_at}
-use Rattle.dl_shares.specs.Sums.{sums_of}
+use Rattle.dl_shares.proofs.Common.{◌≡◌, ◌∙◌, ◌-◌, arith, ap, low_at, sums_of}
 use Rattle.dl_shares.proofs.ClaimSums.{one_less}
 use Rattle.dl_shares.proofs.running.sum_from.Goals as goal
 

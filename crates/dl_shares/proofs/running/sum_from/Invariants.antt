@@ -1,5 +1,4 @@
-use Rattle.dl_shares.proofs.Common.{◌≡◌, ◌-◌, low_at}
-use Rattle.dl_shares.specs.Sums.{sums_of}
+use Rattle.dl_shares.proofs.Common.{◌≡◌, ◌-◌, low_at, sums_of}
 use Rattle.dl_shares.proofs.running.sum_from.Given as goal
 
 abbrev pub invariant-loop-step : goal.invariant-loop-step

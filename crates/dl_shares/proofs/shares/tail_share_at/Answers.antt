@@ -1,6 +1,5 @@
-use Rattle.dl_shares.proofs.Common.{◌≡◌, ◌+◌, ◌-◌, ◌*◌, ◌/◌, ◌^◌, ◌<◌, ◌≤◌, arith, length, ap₂, subst, sym, div_ceil, pow_pos, Fraction, whole, ◌over◌, ◌+ℚ◌, ◌-ℚ◌, ◌*ℚ◌, ◌/ℚ◌, times_comm, LiesIn, spread, One, partial_sums, low_sum, apart, high_mass, HoldsShare, are_units, quantity_bounded, rest_above}
+use Rattle.dl_shares.proofs.Common.{◌≡◌, ◌+◌, ◌-◌, ◌*◌, ◌/◌, ◌^◌, ◌<◌, ◌≤◌, arith, length, ap₂, subst, sym, div_ceil, pow_pos, Fraction, whole, ◌over◌, ◌+ℚ◌, ◌-ℚ◌, ◌*ℚ◌, ◌/ℚ◌, times_comm, LiesIn, spread, One, partial_sums, low_sum, apart, high_mass, HoldsShare, are_units, quantity_bounded, rest_above, lies_between}
 use Rattle.dl_shares.proofs.WeightedEnds.{room_of}
-use Rattle.dl_iv.proofs.Enclosures.{lies_between}
 use Rattle.dl_model.proofs.ShareEnds.{share_ends}
 use Rattle.dl_shares.proofs.ShareEnds.{cdf_holds, over_what_is_left, product_fits, scaled_fits, sum_small, share_wider}
 use Rattle.dl_shares.proofs.Widths.{product_narrow, above_narrow, share_narrow}

@@ -1,5 +1,4 @@
-use Rattle.dl_shares.proofs.Common.{◌^◌, ◌<◌, ◌∙◌, arith, sym, subst, scale_of, one_fits, low_at, high_at, below_same}
-use Rattle.dl_measures.proofs.Sums.{low_most}
+use Rattle.dl_shares.proofs.Common.{◌^◌, ◌<◌, ◌∙◌, arith, sym, subst, scale_of, one_fits, low_at, high_at, below_same, low_most}
 use Rattle.dl_shares.proofs.WeightedEnds.{high_mass}
 use Rattle.dl_shares.proofs.PairSums.{listed_to}
 use Rattle.dl_shares.proofs.JointSums.{sums_order, high_room, high_fits, sums_hold, sums_narrow}

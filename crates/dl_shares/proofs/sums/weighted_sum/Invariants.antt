@@ -1,6 +1,5 @@
-use Rattle.dl_shares.proofs.Common.{◌≡◌, get_or, count_below}
+use Rattle.dl_shares.proofs.Common.{◌≡◌, get_or, count_below, sums_of}
 use Rattle.dl_shares.proofs.Nested.{running, nested}
-use Rattle.dl_shares.specs.Sums.{sums_of}
 use Rattle.dl_shares.proofs.sums.weighted_sum.Given as goal
 
 abbrev pub invariant-loop-z : goal.invariant-loop-z

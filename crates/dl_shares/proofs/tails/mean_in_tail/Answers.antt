@@ -1,8 +1,7 @@
-use Rattle.dl_shares.proofs.Common.{◌∙◌, ◌+◌, ◌^◌, arith, ap₂, pow_pos, cells_fit}
+use Rattle.dl_shares.proofs.Common.{◌∙◌, ◌+◌, ◌^◌, arith, ap₂, pow_pos, cells_fit, part_down, part_up}
 use Rattle.dl_shares.proofs.WeightedEnds.{room_of}
 use Rattle.dl_shares.proofs.TailBrackets.{low_is, high_is}
 use Rattle.dl_shares.proofs.TailParts.{part_fits, up_most}
-use Rattle.dl_shares.specs.Tails.{part_down, part_up}
 use Rattle.dl_shares.proofs.tails.mean_in_tail.Goals as goal
 
 pub tail_part-part-requires : goal.tail_part-part-requires

@@ -1,20 +1,15 @@
-use Rattle.dl_shares.proofs.Common.{ℕ, inl, inr, ◌≡◌, ◌+◌, ◌-◌, ◌*◌, ◌/◌, ◌^◌, ◌<◌, ◌≤◌, length, arith, sym, ap, subst, ◌∙◌, ap₂, LiesIn, whole, ◌-ℚ◌, ◌/ℚ◌, ◌≤ℚ◌, at_least_wider, cases_lt, pow_pos, div_ceil, cells_fit, low_at, high_at, AtLeast, One, Joint, declared, ◌over◌}
-use Rattle.std.specs.Prelude.{max}
-use Rattle.dl_exact.proofs.Denominators.{over_le_over}
+use Rattle.dl_shares.proofs.Common.{ℕ, inl, inr, ◌≡◌, ◌+◌, ◌-◌, ◌*◌, ◌/◌, ◌^◌, ◌<◌, ◌≤◌, length, arith, sym, ap, subst, ◌∙◌, ap₂, LiesIn, whole, ◌-ℚ◌, ◌/ℚ◌, ◌≤ℚ◌, at_least_wider, cases_lt, pow_pos, div_ceil, cells_fit, low_at, high_at, AtLeast, One, Joint, declared, ◌over◌, max, over_le_over, rest_above, low_le_high, part_down, part_up, low_above, high_above}
 use Rattle.dl_exact.proofs.Laws.{div_le_both, le_refl, le_trans}
 use Rattle.dl_model.proofs.TailScores.{rest_pos}
 use Rattle.dl_model.proofs.PlanShares.{share_between as share_ends}
 use Rattle.dl_shares.proofs.ShareEnds.{over_what_is_left, share_wider}
 use Rattle.dl_shares.proofs.TailEnds.{atom_high, atom_low, over_sum, quantile_between}
-use Rattle.dl_measures.proofs.TailLaws.{rest_above}
-use Rattle.dl_grid.proofs.EndLists.{low_le_high}
 use Rattle.dl_shares.proofs.Absent.{cell_narrow}
 use Rattle.dl_shares.proofs.JointMost.{plan_within}
 use Rattle.dl_shares.proofs.TailBrackets.{above_apart, above_order, none_above, between_few, last_near}
 use Rattle.dl_shares.proofs.TailJoints.{sums_near}
 use Rattle.dl_shares.proofs.TailParts.{down_most, down_none, part_narrow, whole_near}
 use Rattle.dl_shares.proofs.TailWidths.{sum_width, part_wide, one_sum, two_sums, scaled_narrow, whole_fits}
-use Rattle.dl_shares.specs.Tails.{part_down, part_up, low_above, high_above}
 use Rattle.dl_shares.proofs.tails.share_between.Goals as goal
 
 pub scale-requires : goal.scale-requires

@@ -1,6 +1,5 @@
-use Rattle.dl_shares.proofs.Common.{◌≡◌, ◌∙◌, sym, arith}
+use Rattle.dl_shares.proofs.Common.{◌≡◌, ◌∙◌, sym, arith, part_down, part_up}
 use Rattle.dl_shares.proofs.TailParts.{in_order, up_most, whole_down, some_down, whole_up, some_up}
-use Rattle.dl_shares.specs.Tails.{part_down, part_up}
 use Rattle.dl_shares.proofs.tails.tail_part.Goals as goal
 use Rattle.dl_shares.proofs.tails.tail_part.Goals.{then-at-above, else-at-above, then-at-above-2, else-at-above-2}
 

@@ -1,6 +1,4 @@
-use Rattle.dl_sources.proofs.Common.{◌^◌, ◌≤◌, arith, sym, subst, ◌∙◌, few_cells, thinned_mean, joint_budget}
-use Rattle.dl_budget.specs.Shared.{shared_joint_budget}
-use Rattle.dl_plan.proofs.Shared.{poisson_unbounded, true_shares}
+use Rattle.dl_sources.proofs.Common.{◌^◌, ◌≤◌, arith, sym, subst, ◌∙◌, few_cells, thinned_mean, joint_budget, shared_joint_budget, poisson_unbounded, true_shares}
 use Rattle.dl_sources.proofs.ClaimsGrids.{of_total}
 use Rattle.dl_sources.proofs.ReadAs.{valid_there}
 use Rattle.dl_sources.proofs.extra.is_from_total.Goals as goal

@@ -1,11 +1,6 @@
-use Rattle.dl_sources.proofs.Common.{◌^◌, ◌<◌, ◌≤◌, IsTrue, arith, few_cells, subst, thinned_mean, joint_budget, ◌also◌}
-use Rattle.dl_exact.proofs.Made.{some_where}
-use Rattle.dl_limits.specs.Limits.{budget_bound}
-use Rattle.dl_budget.specs.Shared.{shared_joint_budget}
-use Rattle.dl_plan.proofs.Shared.{gamma_unbounded}
+use Rattle.dl_sources.proofs.Common.{◌^◌, ◌<◌, ◌≤◌, IsTrue, arith, few_cells, subst, thinned_mean, joint_budget, ◌also◌, some_where, budget_bound, shared_joint_budget, gamma_unbounded, IsWholeClaimsGrid}
 use Rattle.dl_sources.proofs.ClaimsGrids.{with_extra}
 use Rattle.dl_sources.proofs.ReadAs.{unit_there, valid_there}
-use Rattle.dl_sources.specs.Origins.{IsWholeClaimsGrid}
 use Rattle.dl_sources.proofs.extra.with_extra.Goals as goal
 
 pub extra-requires-clause-valid : goal.extra-requires-clause-valid

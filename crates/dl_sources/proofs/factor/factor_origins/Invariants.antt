@@ -1,6 +1,5 @@
 -- What the joint means of the units so far come from.
-use Rattle.dl_sources.proofs.Common.{◌≡◌, map, take}
-use Rattle.dl_sources.specs.Origins.{factor_origin}
+use Rattle.dl_sources.proofs.Common.{◌≡◌, map, take, factor_origin}
 use Rattle.dl_sources.proofs.factor.factor_origins.Given as goal
 
 abbrev pub invariant-loop-of : goal.invariant-loop-of

@@ -1,6 +1,4 @@
-use Rattle.std.proofs.Common.{append_assoc}
-use Rattle.std.proofs.lemmas.List.{append-nil, replicate-append-replicate}
-use Rattle.dl_sources.proofs.Common.{ap, sym, ◌∙◌, ◌++◌, ◌∷◌, []}
+use Rattle.dl_sources.proofs.Common.{ap, sym, ◌∙◌, ◌++◌, ◌∷◌, [], append_assoc, append-nil, replicate-append-replicate}
 use Rattle.dl_sources.proofs.halves.add_means.Goals as goal
 
 pub units-init : goal.units-init

@@ -1,5 +1,4 @@
-use Rattle.std.specs.Prelude.{replicate}
-use Rattle.dl_sources.proofs.Common.{◌≡◌, ◌++◌}
+use Rattle.dl_sources.proofs.Common.{◌≡◌, ◌++◌, replicate}
 use Rattle.dl_sources.proofs.halves.add_means.Given as goal
 
 abbrev pub invariant-units : goal.invariant-units

@@ -1,7 +1,6 @@
-use Rattle.dl_sources.proofs.Common.{arith, subst, IfSome, ◌also◌}
+use Rattle.dl_sources.proofs.Common.{arith, subst, IfSome, ◌also◌, IsPooledFor}
 use Rattle.dl_sources.proofs.ByHalves.{pooled_none, pooled_sum}
 use Rattle.dl_sources.proofs.ReadAs.{unit_on}
-use Rattle.dl_sources.specs.Pooled.{IsPooledFor}
 use Rattle.dl_sources.proofs.halves.pooled_grid.Goals as goal
 
 pub plain_grid-requires : goal.plain_grid-requires

@@ -1,7 +1,5 @@
-use Rattle.dl_sources.proofs.Common.{ap, sym, subst, ◌∙◌, All}
-use Rattle.std.specs.Prelude.{◌&&◌}
+use Rattle.dl_sources.proofs.Common.{ap, sym, subst, ◌∙◌, All, ◌&&◌, AreAlike}
 use Rattle.dl_sources.proofs.ByHalves.{alike_means, alike_pooled, alike_sum}
-use Rattle.dl_sources.specs.Same.{AreAlike}
 use Rattle.dl_sources.proofs.halves.sum_of_alike.Goals as goal
 
 pub returns-then-apart-clause-sum : goal.returns-then-apart-clause-sum

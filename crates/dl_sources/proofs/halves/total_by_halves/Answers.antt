@@ -1,7 +1,5 @@
-use Rattle.dl_sources.proofs.Common.{arith, ap, length, subst, few_cells, ◌also◌, ◌++◌, take_all}
+use Rattle.dl_sources.proofs.Common.{arith, ap, length, subst, few_cells, ◌also◌, ◌++◌, take_all, unpooled, AreMeansOf, IsSumOfUnits}
 use Rattle.dl_sources.proofs.ByHalves.{all_means, is_total_by_halves, some_total, sum_of_all, units_on}
-use Rattle.dl_sources.specs.Pooled.{unpooled}
-use Rattle.dl_sources.specs.Units.{AreMeansOf, IsSumOfUnits}
 use Rattle.dl_sources.proofs.halves.total_by_halves.Goals as goal
 
 pub sum_of_units-requires : goal.sum_of_units-requires

@@ -1,5 +1,4 @@
-use Rattle.dl_sources.proofs.Common.{[], arith, subst}
-use Rattle.dl_sources.specs.Origins.{IsWholeClaimsGrid}
+use Rattle.dl_sources.proofs.Common.{[], arith, subst, IsWholeClaimsGrid}
 use Rattle.dl_sources.proofs.Found.{pushed_whole}
 use Rattle.dl_sources.proofs.ReadAs.{read_as}
 use Rattle.dl_sources.proofs.origins.origin_of.Goals as goal

@@ -1,9 +1,4 @@
-use Rattle.dl_exact.proofs.Made.{each_pushed, pushed_length}
-use Rattle.dl_shares.specs.declared.drawn.Origin.{Origin}
-use Rattle.dl_shares.specs.declared.drawn.Origin.TheVariants.{Nowhere}
-use Rattle.std.proofs.lemmas.List.{length-drop}
-use Rattle.dl_sources.proofs.Common.{ℕ, ◌<◌, [], ◌∷◌, ◌++◌, refl, arith, ap, subst, sym, length, get_or, spread, ◌∙◌, ◌also◌, None, IfSome, IsSome, AreOthersOf}
-use Rattle.dl_sources.specs.Origins.{IsBeside, IsFoundOf}
+use Rattle.dl_sources.proofs.Common.{ℕ, ◌<◌, [], ◌∷◌, ◌++◌, refl, arith, ap, subst, sym, length, get_or, spread, ◌∙◌, ◌also◌, None, IfSome, IsSome, AreOthersOf, each_pushed, pushed_length, Origin, Nowhere, length-drop, IsBeside, IsFoundOf}
 use Rattle.dl_sources.proofs.Found.{beside_pushed, first_grid, first_spread, found_stays, next_left}
 use Rattle.dl_sources.proofs.origins.sources_of.Goals as goal
 

@@ -1,8 +1,5 @@
 -- The grids and what the joint means of the units so far come from; the sums that are left.
-use Rattle.std.proofs.Common.{drop}
-use Rattle.dl_shares.specs.declared.drawn.Origin.TheVariants.{Nowhere}
-use Rattle.dl_sources.proofs.Common.{ℕ, [], ◌≡◌, ◌<◌, length, get_or, spread, None, IsSome}
-use Rattle.dl_sources.specs.Origins.{AreGridsFor, IsBeside, IsFoundOf}
+use Rattle.dl_sources.proofs.Common.{ℕ, [], ◌≡◌, ◌<◌, length, get_or, spread, None, IsSome, drop, Nowhere, AreGridsFor, IsBeside, IsFoundOf}
 use Rattle.dl_sources.proofs.origins.sources_of.Given as goal
 
 abbrev pub invariant-loop-i : goal.invariant-loop-i

@@ -1,7 +1,5 @@
 use Rattle.std.specs.Prelude.{not}
-use Rattle.dl_plan.specs.Common.{can_share}
-use Rattle.dl_sources.specs.Pooled.{rest_of}
-use Rattle.dl_sources.proofs.Common.{ap, arith, sym, ◌∙◌, ◌also◌, AreOutcomesOf, UnitOfPlan}
+use Rattle.dl_sources.proofs.Common.{ap, arith, sym, ◌∙◌, ◌also◌, AreOutcomesOf, UnitOfPlan, can_share, rest_of}
 use Rattle.dl_sources.proofs.ReadAs.{unit_on_there}
 use Rattle.dl_sources.proofs.Taken.{kept_grid, left_out, means_taken, no_grids, no_means, all_taken}
 use Rattle.dl_sources.proofs.outcomes.outcomes_of_rest.Goals as goal

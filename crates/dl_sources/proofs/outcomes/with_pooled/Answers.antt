@@ -1,6 +1,4 @@
-use Rattle.dl_plan.proofs.Shared.{true_shares}
-use Rattle.dl_sources.proofs.Common.{[], arith, subst, sym, ◌∙◌, ◌also◌, AreUnitGrids, IsUnitGrid, get_or_default}
-use Rattle.dl_sources.specs.Pooled.{rest_of}
+use Rattle.dl_sources.proofs.Common.{[], arith, subst, sym, ◌∙◌, ◌also◌, AreUnitGrids, IsUnitGrid, get_or_default, true_shares, rest_of}
 use Rattle.dl_sources.proofs.ReadAs.{unit_on_there}
 use Rattle.dl_sources.proofs.Taken.{all_left, all_taken, first_left, grids_taken, no_grids, some_left}
 use Rattle.dl_sources.proofs.outcomes.with_pooled.Goals as goal

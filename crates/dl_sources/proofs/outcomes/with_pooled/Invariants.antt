@@ -1,7 +1,5 @@
 -- The grids of the units so far, and those of the units behind them that cannot be pooled.
-use Rattle.std.proofs.Common.{drop}
-use Rattle.dl_sources.proofs.Common.{take, AreUnitGrids}
-use Rattle.dl_sources.specs.Pooled.{rest_of}
+use Rattle.dl_sources.proofs.Common.{take, AreUnitGrids, drop, rest_of}
 use Rattle.dl_sources.proofs.outcomes.with_pooled.Given as goal
 
 abbrev pub invariant-loop-i : goal.invariant-loop-i

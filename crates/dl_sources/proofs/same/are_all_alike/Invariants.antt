@@ -1,5 +1,4 @@
-use Rattle.dl_sources.proofs.Common.{ℕ, ◌<◌, ◌≤◌, get_or, length, UnitOfPlan}
-use Rattle.dl_sources.specs.Same.{AreAlike}
+use Rattle.dl_sources.proofs.Common.{ℕ, ◌<◌, ◌≤◌, get_or, length, UnitOfPlan, AreAlike}
 use Rattle.dl_sources.proofs.same.are_all_alike.Given as goal
 
 abbrev pub invariant-loop-i : goal.invariant-loop-i

@@ -1,5 +1,4 @@
-use Rattle.dl_sources.proofs.Common.{Decides-eqb, rules}
-use Rattle.std.proofs.lemmas.Slice.Eq.{slice_eq-Decides}
+use Rattle.dl_sources.proofs.Common.{Decides-eqb, rules, slice_eq-Decides}
 use Rattle.dl_sources.proofs.same.same_items.Goals as goal
 
 pub returns : goal.returns

@@ -1,5 +1,4 @@
-use Rattle.dl_sources.proofs.Common.{None}
-use Rattle.std.proofs.lemmas.List.{replicate-append-replicate}
+use Rattle.dl_sources.proofs.Common.{None, replicate-append-replicate}
 use Rattle.dl_sources.proofs.together.no_grids.Goals as goal
 
 pub units-preserved : goal.units-preserved

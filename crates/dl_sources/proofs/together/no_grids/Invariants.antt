@@ -1,5 +1,4 @@
-use Rattle.dl_sources.proofs.Common.{◌≡◌, None}
-use Rattle.std.specs.Prelude.{replicate}
+use Rattle.dl_sources.proofs.Common.{◌≡◌, None, replicate}
 use Rattle.dl_sources.proofs.together.no_grids.Given as goal
 
 abbrev pub invariant-units : goal.invariant-units

@@ -1,8 +1,4 @@
-use Rattle.dl_sources.proofs.Common.{◌≡◌, length, arith, ap, ◌∙◌, subst, sym, All, if_ok_two}
-use Rattle.std.specs.Prelude.{filter}
-use Rattle.dl_pool.specs.Pooled.{lent}
-use Rattle.dl_plan.specs.Common.{can_share}
-use Rattle.dl_plan.specs.Common.{CanShare}
+use Rattle.dl_sources.proofs.Common.{◌≡◌, length, arith, ap, ◌∙◌, subst, sym, All, if_ok_two, filter, lent, can_share, CanShare}
 use Rattle.dl_sources.proofs.Parted.{shared_valid, is_pooled_for}
 use Rattle.dl_sources.proofs.together.pooled_if_any.Goals as goal
 

@@ -1,6 +1,4 @@
-use Rattle.std.proofs.Math.Seq.{take-append_seam}
-use Rattle.dl_sources.proofs.Common.{[], ◌≡◌, ◌∷◌, ◌++◌, length, arith, ap, sym, subst, ◌∙◌, few_cells, length-append, AreUnitGrids, take, ◌also◌}
-use Rattle.dl_sources.specs.Pooled.{rest_of}
+use Rattle.dl_sources.proofs.Common.{[], ◌≡◌, ◌∷◌, ◌++◌, length, arith, ap, sym, subst, ◌∙◌, few_cells, length-append, AreUnitGrids, take, ◌also◌, take-append_seam, rest_of}
 use Rattle.dl_sources.proofs.Parted.{is_total_together}
 use Rattle.dl_sources.proofs.ReadAs.{unit_on}
 use Rattle.dl_sources.proofs.SumLaws.{long_enough}

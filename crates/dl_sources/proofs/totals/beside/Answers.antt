@@ -1,5 +1,4 @@
-use Rattle.dl_sources.proofs.Common.{ℕ, arith, rules, false, IsTrue, Bool, None, IsSome, get_or}
-use Rattle.dl_exact.proofs.Made.{pushed_length, each_pushed}
+use Rattle.dl_sources.proofs.Common.{ℕ, arith, rules, false, IsTrue, Bool, None, IsSome, get_or, pushed_length, each_pushed}
 use Rattle.dl_sources.proofs.totals.beside.Goals as goal
 
 pub at-requires : goal.at-requires

@@ -1,5 +1,4 @@
-use Rattle.std.specs.Option.{option_to_list}
-use Rattle.dl_sources.proofs.Common.{◌≡◌, ◌∷◌, [], ◌++◌, List, arith, ap, ◌∙◌, Option, Iv, ◌also◌}
+use Rattle.dl_sources.proofs.Common.{◌≡◌, ◌∷◌, [], ◌++◌, List, arith, ap, ◌∙◌, Option, Iv, ◌also◌, option_to_list}
 use Rattle.dl_sources.proofs.Alone.{only_one, one_beside, one_others, one_total}
 use Rattle.dl_sources.proofs.totals.drawn_of_one.Goals as goal
 

@@ -1,5 +1,4 @@
-use Rattle.dl_shares.specs.declared.drawn.Origin.TheVariants.{Nowhere}
-use Rattle.dl_sources.proofs.Common.{arith, get_or, ◌also◌}
+use Rattle.dl_sources.proofs.Common.{arith, get_or, ◌also◌, Nowhere}
 use Rattle.dl_sources.proofs.Found.{found_reach, origin_drawn}
 use Rattle.dl_sources.proofs.totals.drawn_with.Goals as goal
 

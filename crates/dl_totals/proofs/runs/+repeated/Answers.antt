@@ -1,5 +1,4 @@
-use Rattle.dl_totals.proofs.Common.{◌+◌, arith, IfOk-weaker, if_ok_two}
-use Rattle.std.proofs.Common.{◌/◌}
+use Rattle.dl_totals.proofs.Common.{◌+◌, arith, IfOk-weaker, if_ok_two, ◌/◌}
 use Rattle.dl_totals.proofs.OneGrid.{single, single_first, both_parts}
 use Rattle.dl_totals.proofs.runs.+repeated.Goals as goal
 

@@ -1,7 +1,4 @@
-use Rattle.dl_totals.proofs.Common.{sym, ◌∙◌}
-use Rattle.std.proofs.lemmas.Bool.Decides.{Decides-eqb}
-use Rattle.std.proofs.lemmas.Slice.Eq.{slice_eq-Decides}
-use Rattle.dl_grid.proofs.EndLists.{same_cells}
+use Rattle.dl_totals.proofs.Common.{sym, ◌∙◌, Decides-eqb, slice_eq-Decides, same_cells}
 use Rattle.dl_totals.proofs.runs.are_same.Goals as goal
 
 pub returns-then-eq : goal.returns-then-eq

@@ -1,5 +1,4 @@
-use Rattle.dl_totals.proofs.Common.{List, [], ◌∷◌, ◌++◌, ap, ◌∙◌, Option, None, Iv}
-use Rattle.std.proofs.lemmas.List.{replicate_more}
+use Rattle.dl_totals.proofs.Common.{List, [], ◌∷◌, ◌++◌, ap, ◌∙◌, Option, None, Iv, replicate_more}
 use Rattle.dl_totals.proofs.shared.no_others.Goals as goal
 
 pub loop-preserved : goal.loop-preserved

@@ -1,5 +1,4 @@
-use Rattle.dl_totals.proofs.Common.{◌≡◌, None}
-use Rattle.std.proofs.Common.{replicate}
+use Rattle.dl_totals.proofs.Common.{◌≡◌, None, replicate}
 use Rattle.dl_totals.proofs.shared.no_others.Given as goal
 
 abbrev pub invariant-loop : goal.invariant-loop

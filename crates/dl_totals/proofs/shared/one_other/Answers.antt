@@ -1,5 +1,4 @@
-use Rattle.dl_totals.proofs.Common.{List, length, arith, ap, Option, Iv, None}
-use Rattle.std.proofs.lemmas.List.{length-replicate}
+use Rattle.dl_totals.proofs.Common.{List, length, arith, ap, Option, Iv, None, length-replicate}
 use Rattle.dl_totals.proofs.shared.one_other.Goals as goal
 
 pub index_mut-requires : goal.index_mut-requires

@@ -1,5 +1,4 @@
-use Rattle.dl_totals.proofs.Common.{arith}
-use Rattle.dl_totals.specs.Shared.{HaveCells}
+use Rattle.dl_totals.proofs.Common.{arith, HaveCells}
 use Rattle.dl_totals.proofs.shared.others_by_tree.Goals as goal
 
 pub others_where_asked-requires : goal.others_where_asked-requires

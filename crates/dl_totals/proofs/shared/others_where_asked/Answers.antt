@@ -1,6 +1,4 @@
-use Rattle.dl_totals.proofs.Common.{◌<◌, List, length, get_or, Option, Some, false, IsTrue, IsSome, IfSome, ◌↔◌, arith, ◌∙◌, Iv, IsSumOfPart, IsSumWithout}
-use Rattle.std.proofs.Common.{set}
-use Rattle.std.proofs.lemmas.List.{length-set}
+use Rattle.dl_totals.proofs.Common.{◌<◌, List, length, get_or, Option, Some, false, IsTrue, IsSome, IfSome, ◌↔◌, arith, ◌∙◌, Iv, IsSumOfPart, IsSumWithout, set, length-set}
 use Rattle.dl_model.specs.Measures.{without}
 use Rattle.dl_totals.proofs.TreeLaws.{more_done, rest_left}
 use Rattle.dl_totals.proofs.shared.others_where_asked.Goals as goal

@@ -1,5 +1,4 @@
-use Rattle.std.proofs.Common.{ℕ}
-use Rattle.dl_totals.proofs.Common.{◌≡◌, ◌<◌, ◌≤◌, ◌↔◌, length, get_or, None, Some, false, IsTrue, IsSome, IfSome, IsSumOfPart, IsSumWithout}
+use Rattle.dl_totals.proofs.Common.{◌≡◌, ◌<◌, ◌≤◌, ◌↔◌, length, get_or, None, Some, false, IsTrue, IsSome, IfSome, IsSumOfPart, IsSumWithout, ℕ}
 use Rattle.dl_model.specs.Measures.{without}
 use Rattle.dl_totals.proofs.shared.others_where_asked.Given as goal
 

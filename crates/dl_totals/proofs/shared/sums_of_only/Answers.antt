@@ -1,5 +1,4 @@
-use Rattle.dl_totals.proofs.Common.{subst, sym, refl}
-use Rattle.dl_totals.specs.Shared.{AreSumsWithout}
+use Rattle.dl_totals.proofs.Common.{subst, sym, refl, AreSumsWithout}
 use Rattle.dl_totals.proofs.Alone.{one_without}
 use Rattle.dl_totals.proofs.shared.sums_of_only.Goals as goal
 

@@ -1,6 +1,4 @@
-use Rattle.dl_totals.proofs.Common.{arith, sym, ◌∙◌, IfOk-weaker}
-use Rattle.std.proofs.lemmas.Bool.{false≢true}
-use Rattle.dl_totals.specs.Shared.{AreUnits, HaveCells}
+use Rattle.dl_totals.proofs.Common.{arith, sym, ◌∙◌, IfOk-weaker, false≢true, AreUnits, HaveCells}
 use Rattle.dl_totals.proofs.Alone.{none_without}
 use Rattle.dl_totals.proofs.shared.total_and_others.Goals as goal
 

@@ -1,8 +1,5 @@
-use Rattle.dl_totals.proofs.Common.{◌≡◌, ◌<◌, ◌∷◌, ◌++◌, [], length, length-append, get_or, arith, sym, ap, subst, ◌∙◌, remove}
-use Rattle.std.proofs.lemmas.List.Edits.{length-remove}
+use Rattle.dl_totals.proofs.Common.{◌≡◌, ◌<◌, ◌∷◌, ◌++◌, [], length, length-append, get_or, arith, sym, ap, subst, ◌∙◌, remove, length-remove, All-append, All-cons, All-nil, KeepsChosen}
 use Rattle.std.specs.List.{All}
-use Rattle.std.proofs.lemmas.List.Elements.{All-append, All-cons, All-nil}
-use Rattle.dl_totals.specs.Chosen.{KeepsChosen}
 use Rattle.dl_totals.proofs.Apart.{all_removed, sum_of_two}
 use Rattle.dl_totals.proofs.shortest.add_two.Goals as goal
 

@@ -1,5 +1,4 @@
-use Rattle.dl_totals.proofs.Common.{◌∙◌, arith, sym}
-use Rattle.std.proofs.lemmas.Bool.{eqb-true}
+use Rattle.dl_totals.proofs.Common.{◌∙◌, arith, sym, eqb-true}
 use Rattle.dl_totals.proofs.Singles.{apart, but_one, none_but}
 use Rattle.dl_totals.proofs.shortest.shortest_first.Goals as goal
 

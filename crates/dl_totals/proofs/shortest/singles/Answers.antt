@@ -1,8 +1,5 @@
-use Rattle.dl_totals.proofs.Common.{◌≡◌, ◌<◌, ◌∷◌, ◌++◌, [], length, arith, sym, ap, subst, ◌∙◌}
-use Rattle.std.proofs.Common.{nat_eq}
+use Rattle.dl_totals.proofs.Common.{◌≡◌, ◌<◌, ◌∷◌, ◌++◌, [], length, arith, sym, ap, subst, ◌∙◌, nat_eq, All-append, All-cons, All-nil, AreSumsOfChosen}
 use Rattle.std.specs.List.{All}
-use Rattle.std.proofs.lemmas.List.Elements.{All-append, All-cons, All-nil}
-use Rattle.dl_totals.specs.Chosen.{AreSumsOfChosen}
 use Rattle.dl_totals.proofs.Added.{long_enough}
 use Rattle.dl_totals.proofs.Apart.{appended}
 use Rattle.dl_totals.proofs.Singles.{each_more, one_sum, seen_same}

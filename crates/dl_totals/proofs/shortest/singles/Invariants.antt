@@ -1,7 +1,5 @@
-use Rattle.std.proofs.Common.{ℕ, Bool, not, ◌&&◌, nat_lt, nat_eq, cond}
-use Rattle.dl_totals.proofs.Common.{◌≡◌, ◌≤◌, List, length}
+use Rattle.dl_totals.proofs.Common.{◌≡◌, ◌≤◌, List, length, ℕ, Bool, not, ◌&&◌, nat_lt, nat_eq, cond, passed, AreSumsOfChosen}
 use Rattle.std.specs.List.{All}
-use Rattle.dl_totals.specs.Chosen.{passed, AreSumsOfChosen}
 use Rattle.dl_totals.proofs.shortest.singles.Given as goal
 
 abbrev pub invariant-units : goal.invariant-units

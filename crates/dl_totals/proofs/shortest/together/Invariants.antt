@@ -1,7 +1,5 @@
-use Rattle.std.proofs.Common.{ℕ, Bool}
-use Rattle.dl_totals.proofs.Common.{◌≡◌, ◌+◌, List, length, Iv}
+use Rattle.dl_totals.proofs.Common.{◌≡◌, ◌+◌, List, length, Iv, ℕ, Bool, AreApart, AreSumsOfChosen, KeepsChosen}
 use Rattle.std.specs.List.{All}
-use Rattle.dl_totals.specs.Chosen.{AreApart, AreSumsOfChosen, KeepsChosen}
 use Rattle.dl_totals.proofs.shortest.together.Given as goal
 
 abbrev pub invariant-sums : goal.invariant-sums

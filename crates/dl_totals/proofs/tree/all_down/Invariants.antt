@@ -1,5 +1,4 @@
-use Rattle.dl_totals.proofs.Common.{◌≡◌, ◌+◌, length}
-use Rattle.dl_totals.specs.Tree.{ReachDown}
+use Rattle.dl_totals.proofs.Common.{◌≡◌, ◌+◌, length, ReachDown}
 use Rattle.dl_totals.proofs.tree.all_down.Given as goal
 
 abbrev pub invariant-loop : goal.invariant-loop

@@ -1,11 +1,4 @@
-use Rattle.dl_totals.proofs.Common.{◌≡◌, ◌+◌, ◌∷◌, ◌++◌, [], length, get_or, arith, ap, subst, ◌∙◌, length-append}
-use Rattle.std.proofs.Common.{ℕ, nat_lt, nat_eq, cond, inl, inr}
-use Rattle.std.proofs.lemmas.Bool.{cases_lt}
-use Rattle.std.proofs.lemmas.Bool.Decides.{nat_tests}
-use Rattle.std.proofs.lemmas.List.{get_or_append_left}
-use Rattle.std.proofs.lemmas.List.Sums.{sum_by_push}
-use Rattle.std.proofs.Math.Seq.{get_or-append_seam}
-use Rattle.std.specs.List.{sum_by}
+use Rattle.dl_totals.proofs.Common.{◌≡◌, ◌+◌, ◌∷◌, ◌++◌, [], length, get_or, arith, ap, subst, ◌∙◌, length-append, ℕ, nat_lt, nat_eq, cond, inl, inr, cases_lt, nat_tests, get_or_append_left, sum_by_push, get_or-append_seam, sum_by}
 use Rattle.dl_totals.proofs.tree.first_places.Goals as goal
 
 pub loop-at-preserved : goal.loop-at-preserved

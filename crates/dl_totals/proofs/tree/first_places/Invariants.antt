@@ -1,6 +1,4 @@
-use Rattle.std.proofs.Common.{ℕ, nat_lt, nat_eq, cond}
-use Rattle.dl_totals.proofs.Common.{◌≡◌, ◌<◌, ◌≤◌, length, get_or}
-use Rattle.std.specs.List.{sum_by}
+use Rattle.dl_totals.proofs.Common.{◌≡◌, ◌<◌, ◌≤◌, length, get_or, ℕ, nat_lt, nat_eq, cond, sum_by}
 use Rattle.dl_totals.proofs.tree.first_places.Given as goal
 
 abbrev pub invariant-loop-at : goal.invariant-loop-at

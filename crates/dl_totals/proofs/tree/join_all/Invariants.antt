@@ -1,5 +1,4 @@
-use Rattle.dl_totals.proofs.Common.{◌≡◌, ◌+◌, length}
-use Rattle.dl_totals.specs.Tree.{IsForest}
+use Rattle.dl_totals.proofs.Common.{◌≡◌, ◌+◌, length, IsForest}
 use Rattle.dl_totals.proofs.tree.join_all.Given as goal
 
 abbrev pub invariant-loop : goal.invariant-loop

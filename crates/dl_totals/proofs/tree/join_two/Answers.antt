@@ -1,6 +1,4 @@
-use Rattle.dl_totals.proofs.Common.{◌≡◌, ◌+◌, ◌<◌, ◌∷◌, ◌++◌, [], length, get_or, arith, sym, ap, ap₂, subst, subst₂, ◌∙◌, remove, IsConvolution}
-use Rattle.std.proofs.Common.{ℕ}
-use Rattle.dl_totals.specs.Tree.{IsForest, sum_at}
+use Rattle.dl_totals.proofs.Common.{◌≡◌, ◌+◌, ◌<◌, ◌∷◌, ◌++◌, [], length, get_or, arith, sym, ap, ap₂, subst, subst₂, ◌∙◌, remove, IsConvolution, ℕ, IsForest, sum_at}
 use Rattle.dl_totals.proofs.TreeLaws.{joined, two_places}
 use Rattle.dl_totals.proofs.tree.join_two.Goals as goal
 

@@ -1,5 +1,4 @@
-use Rattle.dl_totals.proofs.Common.{◌≡◌, ◌≤◌, List, ◌++◌, ◌∷◌, [], length, arith, ap, sym, subst, subst₂, ◌∙◌, Option, Some, Iv, length-append}
-use Rattle.dl_totals.specs.Tree.{ReachDown}
+use Rattle.dl_totals.proofs.Common.{◌≡◌, ◌≤◌, List, ◌++◌, ◌∷◌, [], length, arith, ap, sym, subst, subst₂, ◌∙◌, Option, Some, Iv, length-append, ReachDown}
 use Rattle.dl_totals.proofs.TreeLaws.{less, one_fewer}
 use Rattle.dl_totals.proofs.tree.one_node_down.Goals as goal
 

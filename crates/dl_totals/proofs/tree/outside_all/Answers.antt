@@ -1,5 +1,4 @@
-use Rattle.dl_totals.proofs.Common.{refl, IfOk-weaker}
-use Rattle.dl_totals.specs.Tree.{last_place}
+use Rattle.dl_totals.proofs.Common.{refl, IfOk-weaker, last_place}
 use Rattle.dl_totals.proofs.TreeLaws.{outside_last}
 use Rattle.dl_totals.proofs.tree.outside_all.Goals as goal
 

@@ -1,5 +1,4 @@
-use Rattle.dl_totals.proofs.Common.{arith, sym, ap, ◌∙◌}
-use Rattle.dl_totals.specs.declared.tree.Node.{Node}
+use Rattle.dl_totals.proofs.Common.{arith, sym, ap, ◌∙◌, Node}
 use Rattle.dl_totals.proofs.TreeLaws.{unit_there, node_there}
 use Rattle.dl_totals.proofs.tree.sum_at.Goals as goal
 

@@ -1,5 +1,4 @@
-use Rattle.dl_totals.proofs.Common.{take, refl, ap, ◌∙◌, IfOk-weaker}
-use Rattle.dl_totals.specs.Tree.{last_place}
+use Rattle.dl_totals.proofs.Common.{take, refl, ap, ◌∙◌, IfOk-weaker, last_place}
 use Rattle.dl_totals.proofs.TreeLaws.{all_in_last}
 use Rattle.dl_totals.proofs.tree.sum_of_all.Goals as goal
 

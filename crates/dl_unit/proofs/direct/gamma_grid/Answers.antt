@@ -1,6 +1,4 @@
-use Rattle.dl_unit.proofs.Common.{◌^◌, arith, rules, ap, subst, ◌∙◌, le_trans, gamma_budget, claims_alone, gamma_thinned, thinned_mean}
-use Rattle.dl_exact.proofs.RoundingLaws.{whole_le}
-use Rattle.dl_plan.specs.Count.{IsThinnedGamma, IsThinnedTo}
+use Rattle.dl_unit.proofs.Common.{◌^◌, arith, rules, ap, subst, ◌∙◌, le_trans, gamma_budget, claims_alone, gamma_thinned, thinned_mean, whole_le, IsThinnedGamma, IsThinnedTo}
 use Rattle.dl_unit.proofs.Families.{grid_same, narrow_by}
 use Rattle.dl_unit.proofs.CountKinds.{gamma_some}
 use Rattle.dl_unit.proofs.Positive.{no_zero}

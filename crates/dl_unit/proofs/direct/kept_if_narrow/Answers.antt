@@ -1,6 +1,4 @@
-use Rattle.dl_unit.proofs.Common.{arith}
-use Rattle.dl_grid.proofs.CellLaws.{size_of}
-use Rattle.dl_grid.proofs.Room.{size_few}
+use Rattle.dl_unit.proofs.Common.{arith, size_of, size_few}
 use Rattle.dl_unit.proofs.direct.kept_if_narrow.Goals as goal
 
 pub claims_budget-requires-clause-few : goal.claims_budget-requires-clause-few

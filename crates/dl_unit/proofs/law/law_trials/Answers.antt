@@ -1,6 +1,5 @@
 -- The number of trials is a sum of single trials.
-use Rattle.dl_unit.proofs.Common.{◌≡◌, ℕ, ◌*◌, ◌<◌, ◌≤◌, arith, binomial, IsSeverity, trial, binomial_power}
-use Rattle.dl_model.proofs.CompoundLaws.{power_severity}
+use Rattle.dl_unit.proofs.Common.{◌≡◌, ℕ, ◌*◌, ◌<◌, ◌≤◌, arith, binomial, IsSeverity, trial, binomial_power, power_severity}
 use Rattle.dl_unit.proofs.law.law_trials.Goals as goal
 
 trials_severity : (m a b : ℕ) → 0 < b → a ≤ b → IsSeverity (binomial m a b) m

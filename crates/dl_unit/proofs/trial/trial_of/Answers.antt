@@ -1,5 +1,4 @@
-use Rattle.dl_unit.proofs.Common.{ℕ, ◌≡◌, ◌^◌, ◌<◌, List, length, arith, rules, sym, subst, ◌∙◌, Iv, low_at, high_at, low_trial, high_trial, IfOk-weaker, num_le_den, set}
-use Rattle.std.proofs.lemmas.List.{length-set}
+use Rattle.dl_unit.proofs.Common.{ℕ, ◌≡◌, ◌^◌, ◌<◌, List, length, arith, rules, sym, subst, ◌∙◌, Iv, low_at, high_at, low_trial, high_trial, IfOk-weaker, num_le_den, set, length-set}
 use Rattle.dl_unit.proofs.TrialGrids.{first_small, trial_low, trial_high, trial_grid}
 use Rattle.dl_unit.proofs.trial.trial_of.Goals as goal
 

@@ -1,17 +1,4 @@
-use Rattle.dl_unit.proofs.Common.{ℕ, ◌≡◌, ◌/◌, ◌%◌, ◌^◌, ◌<◌, ◌≤◌, arith, sym, ap₂, ◌∙◌, pow_pos, IfOk-weaker, whole, ◌over◌, Fraction, HasPartsOf48Bits, compound_proper, gamma_of, probability_of, within_one}
-use Rattle.std.proofs.Common.{inl, inr}
-use Rattle.std.proofs.Math.Nat.{eq-zero-or-pos, mod-lt}
-use Rattle.dl_exact.specs.Fraction.{◌<ℚ◌}
-use Rattle.dl_exact.proofs.BelowOne.{below_one}
-use Rattle.dl_exact.proofs.Denominators.{over_pos}
-use Rattle.dl_exact.proofs.Laws.{one_pos}
-use Rattle.dl_exact.proofs.Over.{over_lt}
-use Rattle.dl_exact.proofs.Parts.{over_num_le, over_den_le}
-use Rattle.dl_exact.proofs.Results.{if_ok_two}
-use Rattle.dl_plan.proofs.Fits.{given_ok, given_value, over_fits}
-use Rattle.dl_plan.specs.Count.{IsShape}
-use Rattle.dl_budget.specs.Claims.{rest_part, whole_part}
-use Rattle.dl_budget.proofs.Bases.{whole_few, whole_some}
+use Rattle.dl_unit.proofs.Common.{ℕ, ◌≡◌, ◌/◌, ◌%◌, ◌^◌, ◌<◌, ◌≤◌, arith, sym, ap₂, ◌∙◌, pow_pos, IfOk-weaker, whole, ◌over◌, Fraction, HasPartsOf48Bits, compound_proper, gamma_of, probability_of, within_one, inl, inr, eq-zero-or-pos, mod-lt, ◌<ℚ◌, below_one, over_pos, one_pos, over_lt, over_num_le, over_den_le, if_ok_two, given_ok, given_value, over_fits, IsShape, rest_part, whole_part, whole_few, whole_some}
 use Rattle.dl_unit.proofs.Shapes.{mean_of, whole_encloses, both_enclose, below_within, whole_within, both_within}
 use Rattle.dl_unit.proofs.unbounded.gamma_claims.Goals as goal
 

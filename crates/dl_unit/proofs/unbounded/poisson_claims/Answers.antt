@@ -1,5 +1,4 @@
-use Rattle.dl_unit.proofs.Common.{◌^◌, arith, pow_pos, IfOk-weaker, whole, ◌/ℚ◌, spread, poisson, compound_proper, probability_of, within_one}
-use Rattle.std.proofs.lemmas.Nat.{one_shl}
+use Rattle.dl_unit.proofs.Common.{◌^◌, arith, pow_pos, IfOk-weaker, whole, ◌/ℚ◌, spread, poisson, compound_proper, probability_of, within_one, one_shl}
 use Rattle.dl_unit.proofs.Widths.{poisson_within}
 use Rattle.dl_unit.proofs.unbounded.poisson_claims.Goals as goal
 

@@ -1,4 +1,4 @@
-use Rattle.dl_budget.specs.Claims.{count_budget}
+use Rattle.dl_unit.proofs.Common.{count_budget}
 use Rattle.dl_unit.proofs.unit.sum_grid.Goals as goal
 
 pub returns-in-Fixed : goal.returns-in-Fixed

@@ -1,7 +1,4 @@
-use Rattle.std.proofs.lemmas.Bool.{ltb-true}
-use Rattle.dl_claims.proofs.Common.{ℕ, suc, ◌≡◌, ◌+◌, ◌-◌, ◌*◌, ◌^◌, ◌<◌, ◌≤◌, length, arith, refl, ap, sym, ◌∙◌, sub-zero, zero-mul, subst, IfOk-weaker, size_of, size_within, probability_at}
-use Rattle.std.proofs.Common.{◌%◌}
-use Rattle.dl_exact.proofs.Results.{if_ok_three}
+use Rattle.dl_claims.proofs.Common.{ℕ, suc, ◌≡◌, ◌+◌, ◌-◌, ◌*◌, ◌^◌, ◌<◌, ◌≤◌, length, arith, refl, ap, sym, ◌∙◌, sub-zero, zero-mul, subst, IfOk-weaker, size_of, size_within, probability_at, ltb-true, ◌%◌, if_ok_three}
 use Rattle.dl_claims.proofs.WeightLists.{probabilities_within}
 use Rattle.dl_claims.proofs.PowerGrids.{own, own_within, own_between, few_in}
 use Rattle.dl_claims.proofs.HornerGrids.{one_between, ends}

@@ -1,5 +1,4 @@
-use Rattle.std.proofs.lemmas.Bool.{ltb-true}
-use Rattle.dl_claims.proofs.Common.{ℕ, ◌≡◌, ◌+◌, ◌-◌, ◌^◌, ◌≤◌, mass_low, arith, refl, ap, ◌∙◌, add-one, sub-zero, pow_pos, low_at, high_at, spread, scale_of, size_of, size_within, high_joined, mixed_none, at_zero_small}
+use Rattle.dl_claims.proofs.Common.{ℕ, ◌≡◌, ◌+◌, ◌-◌, ◌^◌, ◌≤◌, mass_low, arith, refl, ap, ◌∙◌, add-one, sub-zero, pow_pos, low_at, high_at, spread, scale_of, size_of, size_within, high_joined, mixed_none, at_zero_small, ltb-true}
 use Rattle.dl_claims.proofs.WeightLists.{shares_below, shares_next, shares_fit}
 use Rattle.dl_claims.proofs.HornerGrids.{starts_at, goes_on_at, one_between, ends}
 use Rattle.dl_claims.proofs.Spreads.{mixed_more}

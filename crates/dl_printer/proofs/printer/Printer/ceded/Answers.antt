@@ -1,6 +1,5 @@
 -- The layer comes behind the share.
-use Rattle.std.proofs.Common.{rules}
-use Rattle.dl_printer.proofs.Common.{ceded_pieces}
+use Rattle.dl_printer.proofs.Common.{ceded_pieces, rules}
 use Rattle.dl_printer.proofs.Growing.{with_append}
 use Rattle.dl_printer.proofs.printer.Printer.ceded.Goals as goal
 

@@ -1,6 +1,5 @@
 -- What the parts so far have added.
-use Rattle.dl_printer.proofs.Common.{◌≡◌, take, flat_map}
-use Rattle.dl_printer.specs.Printing.{with_pieces}
+use Rattle.dl_printer.proofs.Common.{◌≡◌, take, flat_map, with_pieces}
 use Rattle.dl_printer.proofs.printer.Printer.each.Given as goal
 
 abbrev pub invariant-loop-part : goal.invariant-loop-part

@@ -1,5 +1,4 @@
-use Rattle.dl_printer.proofs.Common.{◌≡◌, take, flat_map, and_ceded_pieces}
-use Rattle.dl_printer.specs.Printing.{with_pieces}
+use Rattle.dl_printer.proofs.Common.{◌≡◌, take, flat_map, and_ceded_pieces, with_pieces}
 use Rattle.dl_printer.proofs.printer.Printer.more_layers.Given as goal
 
 abbrev pub invariant-loop-layer : goal.invariant-loop-layer

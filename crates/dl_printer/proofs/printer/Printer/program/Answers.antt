@@ -1,6 +1,5 @@
 -- The units come behind the head.
-use Rattle.std.proofs.Common.{rules}
-use Rattle.dl_printer.proofs.Common.{program_pieces}
+use Rattle.dl_printer.proofs.Common.{program_pieces, rules}
 use Rattle.dl_printer.proofs.Growing.{with_append}
 use Rattle.dl_printer.proofs.printer.Printer.program.Goals as goal
 

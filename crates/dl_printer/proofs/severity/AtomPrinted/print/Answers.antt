@@ -1,6 +1,5 @@
 -- Each call goes on where the one before it ended.
-use Rattle.std.proofs.Common.{rules}
-use Rattle.dl_printer.proofs.Common.{atom_pieces}
+use Rattle.dl_printer.proofs.Common.{atom_pieces, rules}
 use Rattle.dl_printer.proofs.Growing.{with_append}
 use Rattle.dl_printer.proofs.severity.AtomPrinted.print.Goals as goal
 

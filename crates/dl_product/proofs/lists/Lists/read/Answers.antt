@@ -1,5 +1,4 @@
-use Rattle.dl_product.proofs.Common.{◌+◌, ◌*◌, ◌∙◌, ap, arith, get_or, length, refl}
-use Rattle.dl_product.specs.Places.{LieFrom}
+use Rattle.dl_product.proofs.Common.{◌+◌, ◌*◌, ◌∙◌, ap, arith, get_or, length, refl, LieFrom}
 use Rattle.dl_product.proofs.Apart.{ceil_within, in_window, same_count, start_within}
 use Rattle.dl_product.proofs.Reading.{high_from, low_from, low_window, words_alone, words_of}
 use Rattle.dl_product.proofs.lists.Lists.read.Goals as goal

@@ -1,6 +1,4 @@
-use Rattle.dl_product.proofs.Common.{◌≡◌, ◌∙◌, arith, length, get_or, ap, if_ok_two, pair_sum, written}
-use Rattle.std.specs.Prelude.{unwrap_or}
-use Rattle.dl_transform.specs.declared.cells.Cells.{Cells}
+use Rattle.dl_product.proofs.Common.{◌≡◌, ◌∙◌, arith, length, get_or, ap, if_ok_two, pair_sum, written, unwrap_or, Cells}
 use Rattle.dl_product.proofs.Reading.{ends_sum}
 use Rattle.dl_product.proofs.sums.Room.multiply.Goals as goal
 

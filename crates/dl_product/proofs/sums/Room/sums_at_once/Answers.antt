@@ -1,5 +1,4 @@
-use Rattle.dl_product.proofs.Common.{◌≡◌, ◌∙◌, arith, length, ap, get_or_past}
-use Rattle.dl_product.specs.Operand.{HoldsEnds}
+use Rattle.dl_product.proofs.Common.{◌≡◌, ◌∙◌, arith, length, ap, get_or_past, HoldsEnds}
 use Rattle.dl_product.proofs.Apart.{list_sums}
 use Rattle.dl_product.proofs.Reading.{low_past}
 use Rattle.dl_product.proofs.sums.Room.sums_at_once.Goals as goal

@@ -1,5 +1,4 @@
-use Rattle.dl_shares.proofs.Common.{◌^◌, pow_pos, subst, Holds}
-use Rattle.dl_shares.specs.Source.{exact_low, exact_high}
+use Rattle.dl_shares.proofs.Common.{◌^◌, pow_pos, subst, Holds, exact_low, exact_high}
 use Rattle.dl_shares.proofs.JointSums.{outward_holds}
 use Rattle.dl_shares.proofs.source.ShareSource.joint.Goals as goal
 

@@ -1,5 +1,4 @@
-use Rattle.dl_shares.proofs.Common.{Joint, declared}
-use Rattle.dl_model.proofs.PlanShares.{quantity_rises}
+use Rattle.dl_shares.proofs.Common.{Joint, declared, quantity_rises}
 use Rattle.dl_shares.proofs.JointMost.{plan_within}
 use Rattle.dl_shares.proofs.source.ShareSource.joints.Goals as goal
 

@@ -1,5 +1,4 @@
-use Rattle.dl_shares.proofs.Common.{◌<◌, arith, subst, One, Joint}
-use Rattle.dl_shares.specs.Source.{GivesJoints, reach}
+use Rattle.dl_shares.proofs.Common.{◌<◌, arith, subst, One, Joint, GivesJoints, reach}
 use Rattle.dl_shares.proofs.source.ShareSource.joints_to.Goals as goal
 
 pub returns-in-Beside-clause-holds : goal.returns-in-Beside-clause-holds

@@ -1,5 +1,4 @@
-use Rattle.dl_shares.proofs.Common.{◌^◌, ◌∙◌, ◌*◌, arith, ap, length, subst, subst₂, sym, Some, low_at, low_cdf, IsFirstFound, in_order}
-use Rattle.dl_shares.specs.Settled.{IsBracketIn}
+use Rattle.dl_shares.proofs.Common.{◌^◌, ◌∙◌, ◌*◌, arith, ap, length, subst, subst₂, sym, Some, low_at, low_cdf, IsFirstFound, in_order, IsBracketIn}
 use Rattle.dl_shares.proofs.Absent.{not_past}
 use Rattle.dl_shares.proofs.source.ShareSource.share.Goals as goal
 
