@@ -2,13 +2,14 @@
 
 ghost use Rattle.std.specs.Prelude.{◌≡◌, IfOk};
 
+use smallvec::SmallVec;
 use std::alloc::{AllocError, Global};
 use std::marker::Model;
 
-/// A list of bytes.
+/// A list of bytes, of which up to 16 take no memory of their own.
 #[derive(Debug, Drop)]
 pub struct Text {
-    bytes: Vec<u8>,
+    bytes: SmallVec<u8, 16>,
 }
 
 impl Model for Text {
@@ -20,26 +21,19 @@ impl Model for Text {
 }
 
 impl Text {
-    /// The text of these bytes; takes no memory.
-    pub fn from_vec(v: Vec<u8>) -> Text
-        ensures { result ≡ v.items }
-    {
-        Text { bytes: v }
-    }
-
     /// The bytes of this text.
     pub fn as_slice(&self) -> &[u8]
         ensures { result.now ≡ self.now }
     {
-        &self.bytes
+        self.bytes.as_slice()
     }
 
-    /// A text of its own with these bytes.
+    /// A text of its own with these bytes; takes memory only for more than 16.
     pub fn copy(alloc: Global, bytes: &[u8]) -> Result<Text, AllocError>
         ensures { IfOk result (λ text. text ≡ bytes.now) }
     {
-        let mut copied = Vec::new(alloc);
-        copied.extend_from_slice(bytes)?;
-        Ok(Text { bytes: copied })
+        Ok(Text {
+            bytes: SmallVec::from_slice(alloc, bytes)?,
+        })
     }
 }
