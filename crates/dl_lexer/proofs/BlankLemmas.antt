@@ -1,7 +1,5 @@
 -- Where a blank stands no token begins, and how long a comment is.
-use Rattle.dl_lexer.proofs.Common.{ℕ, zero, suc, ◌≡◌, ◌≢◌, ◌+◌, ◌<◌, ◌≤◌, List, [], ◌∷◌, length, take, drop, ◌-◌, true, false, ◌||◌, ◌==◌, refl, arith, Some, slice_get, prefix_len, nat_tests, Sign, Open, is_letter, is_ascii_digit, IsNumeral, sign_byte, NoToken, blank_length}
-use Rattle.std.proofs.lemmas.List.{take_all}
-use Rattle.dl_lexer.specs.Bytes.{is_white, is_comment_byte}
+use Rattle.dl_lexer.proofs.Common.{ℕ, zero, suc, ◌≡◌, ◌≢◌, ◌+◌, ◌<◌, ◌≤◌, List, [], ◌∷◌, length, take, drop, ◌-◌, true, false, ◌||◌, ◌==◌, refl, arith, Some, slice_get, prefix_len, nat_tests, Sign, Open, is_letter, is_ascii_digit, IsNumeral, sign_byte, NoToken, blank_length, take_all, is_white, is_comment_byte}
 use Rattle.dl_lexer.proofs.Longest.{longest_none}
 use Rattle.dl_lexer.proofs.TokenKinds.{begins_numeral, numeral_begins, longest_nothing}
 

@@ -1,6 +1,5 @@
 -- One step of the cutting: what stands at the front of the rest of a text goes on with its cover, or is a bad place.
-use Rattle.dl_lexer.proofs.Common.{ℕ, ◌≡◌, ◌∙◌, ◌+◌, ◌-◌, ◌<◌, List, [], ◌∷◌, ◌++◌, length, take, drop, sym, ap, arith, subst, length-drop, Kind, Token, IsSpelled, IsToken, IsLongest, blank_length, token_of, Covers, blank, token}
-use Rattle.std.proofs.lemmas.List.{take_all}
+use Rattle.dl_lexer.proofs.Common.{ℕ, ◌≡◌, ◌∙◌, ◌+◌, ◌-◌, ◌<◌, List, [], ◌∷◌, ◌++◌, length, take, drop, sym, ap, arith, subst, length-drop, Kind, Token, IsSpelled, IsToken, IsLongest, blank_length, token_of, Covers, blank, token, take_all}
 use Rattle.dl_lexer.proofs.BlankLemmas.{blank_no_token}
 
 pub blank_step : (source : List ℕ) (at n : ℕ) (tokens : List Token) → Covers source at tokens

@@ -1,10 +1,5 @@
 -- The longest decimal, percent and fraction at the front of some bytes.
-use Rattle.dl_lexer.proofs.Common.{ℕ, zero, suc, ◌≡◌, ◌≢◌, ◌∙◌, ◌+◌, ◌<◌, ◌≤◌, ◌⊎◌, List, [], ◌∷◌, ◌++◌, length, get_or, take, drop, Bool, ◌||◌, ◌==◌, false, true, max, inl, inr, refl, sym, ap, arith, append_assoc, length-append, length-drop, Some, slice_get, subst, list_all, prefix_len, take-append-drop, length-take-le, cases_lt, prefix_len-le-length, slice_get_within, get_or_from_slice_get, is_ascii_digit, IsDecimal, digits, digits_point, point_digits, percent, fraction, IsNumeral, a_decimal, a_percent, a_fraction, IsLongest}
-use Rattle.std.proofs.Math.Seq.{take-append_seam}
-use Rattle.std.proofs.lemmas.List.{get_or-take}
-use Rattle.std.proofs.lemmas.List.Folds.{length-prefix_len, list_all-append, list_all_at}
-use Rattle.std.proofs.lemmas.List.Sums.{AllPass-from_list_all, list_all-from_AllPass}
-use Rattle.dl_bytes.specs.Prelude.{AreDigits, IsDigits, IsPercent, IsFraction}
+use Rattle.dl_lexer.proofs.Common.{ℕ, zero, suc, ◌≡◌, ◌≢◌, ◌∙◌, ◌+◌, ◌<◌, ◌≤◌, ◌⊎◌, List, [], ◌∷◌, ◌++◌, length, get_or, take, drop, Bool, ◌||◌, ◌==◌, false, true, max, inl, inr, refl, sym, ap, arith, append_assoc, length-append, length-drop, Some, slice_get, subst, list_all, prefix_len, take-append-drop, length-take-le, cases_lt, prefix_len-le-length, slice_get_within, get_or_from_slice_get, is_ascii_digit, IsDecimal, digits, digits_point, point_digits, percent, fraction, IsNumeral, a_decimal, a_percent, a_fraction, IsLongest, take-append_seam, get_or-take, length-prefix_len, list_all-append, list_all_at, AllPass-from_list_all, list_all-from_AllPass, AreDigits, IsDigits, IsPercent, IsFraction}
 use Rattle.dl_lexer.proofs.Prefix.{prefix_passes, prefix_most, prefix_ends, passes_prefix, take_around, get_behind, drop_behind}
 use Rattle.dl_lexer.proofs.Longest.{either, longest_either, longest_none}
 

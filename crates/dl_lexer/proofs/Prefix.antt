@@ -1,6 +1,5 @@
 -- How many elements a list begins with that pass a test.
-use Rattle.dl_lexer.proofs.Common.{ℕ, suc, ◌≡◌, ◌∙◌, ◌+◌, ◌<◌, ◌≤◌, List, [], ◌∷◌, ◌++◌, length, get_or, take, drop, Bool, true, false, cond, refl, sym, ap, arith, add-one, drop-cons, Some, slice_get, list_all, prefix_len, take-append-add, take-append-drop, length-take-le, slice_get_within, get_or_from_slice_get, and_parts}
-use Rattle.std.proofs.Math.Seq.{drop-append-add}
+use Rattle.dl_lexer.proofs.Common.{ℕ, suc, ◌≡◌, ◌∙◌, ◌+◌, ◌<◌, ◌≤◌, List, [], ◌∷◌, ◌++◌, length, get_or, take, drop, Bool, true, false, cond, refl, sym, ap, arith, add-one, drop-cons, Some, slice_get, list_all, prefix_len, take-append-add, take-append-drop, length-take-le, slice_get_within, get_or_from_slice_get, and_parts, drop-append-add}
 
 -- elements that pass, at the front, are counted
 pub passes_prefix : (p : ℕ → Bool) (b rest : List ℕ) → list_all p b ≡ true → length b ≤ prefix_len p (b ++ rest)

@@ -1,8 +1,5 @@
 -- Words of keywords: a keyword is found by its spelling, so no two share one.
-use Rattle.dl_lexer.proofs.Common.{ℕ, ◌≡◌, ◌≢◌, ◌∙◌, ◌+◌, ◌<◌, ◌≤◌, List, [], ◌∷◌, length, get_or, drop, map, Bool, true, false, cond, refl, sym, ap, add-one, drop-cons, Some, IfSome, bytes_eq, bytes_eq-Decides, Keyword, IsWord, spelling, first_spelled}
-use Rattle.std.proofs.Common.{Option, None, IfNone}
-use Rattle.std.proofs.lemmas.List.{drop_all}
-use Rattle.dl_lexer.specs.declared.token.Keyword.TheVariants.{Agg, Port, Claim, Claims, Loss, Prem, Premium, At, Lr, Dfreq, Dsev, Sev, Dhistogram, Xps, Xs, Inf, Occurrence, Aggregate, Net, Of, Ceded, To, And, So, Po, Fixed, Poisson, Bernoulli, Binomial, Mixed, Gamma, Wts, Lognorm, Expon, Pareto, Weibull, Norm, Uniform, Beta, Chistogram, Note, Geometric, Zt, Zm, Common}
+use Rattle.dl_lexer.proofs.Common.{ℕ, ◌≡◌, ◌≢◌, ◌∙◌, ◌+◌, ◌<◌, ◌≤◌, List, [], ◌∷◌, length, get_or, drop, map, Bool, true, false, cond, refl, sym, ap, add-one, drop-cons, Some, IfSome, bytes_eq, bytes_eq-Decides, Keyword, IsWord, spelling, first_spelled, Option, None, IfNone, drop_all, Agg, Port, Claim, Claims, Loss, Prem, Premium, At, Lr, Dfreq, Dsev, Sev, Dhistogram, Xps, Xs, Inf, Occurrence, Aggregate, Net, Of, Ceded, To, And, So, Po, Fixed, Poisson, Bernoulli, Binomial, Mixed, Gamma, Wts, Lognorm, Expon, Pareto, Weibull, Norm, Uniform, Beta, Chistogram, Note, Geometric, Zt, Zm, Common}
 
 -- the keywords in the order of the table
 abbrev pub keywords : List Keyword

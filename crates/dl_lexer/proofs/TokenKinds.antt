@@ -1,9 +1,6 @@
 -- What bytes that spell a token begin with, so that they spell a token of one kind, and where the longest one ends.
-use Rattle.dl_lexer.proofs.Common.{ℕ, zero, suc, ◌≡◌, ◌≢◌, ◌∙◌, ◌<◌, ◌≤◌, ◌⊎◌, List, [], ◌∷◌, ◌++◌, length, take, Bool, true, false, ◌||◌, ◌==◌, inl, inr, refl, sym, ap, arith, append_assoc, Some, slice_get, subst, list_all, nat_tests, length-take-le, append-nil, slice_get_within, Keyword, Sign, Open, Close, Colon, Comma, Bang, Kind, is_letter, is_ascii_digit, is_word_byte, spelling, IsDecimal, digits, digits_point, point_digits, percent, fraction, IsNumeral, a_decimal, a_percent, a_fraction, begins_with_letter, IsWord, IsNote, note, IsRef, ref, sign_byte, IsSpelled, IsToken, IsLongest, NoToken, and_parts}
-use Rattle.std.proofs.Common.{if◌then◌else◌, ◌&&◌}
-use Rattle.std.proofs.lemmas.Bool.{and_left, and_right, both_ways}
+use Rattle.dl_lexer.proofs.Common.{ℕ, zero, suc, ◌≡◌, ◌≢◌, ◌∙◌, ◌<◌, ◌≤◌, ◌⊎◌, List, [], ◌∷◌, ◌++◌, length, take, Bool, true, false, ◌||◌, ◌==◌, inl, inr, refl, sym, ap, arith, append_assoc, Some, slice_get, subst, list_all, nat_tests, length-take-le, append-nil, slice_get_within, Keyword, Sign, Open, Close, Colon, Comma, Bang, Kind, is_letter, is_ascii_digit, is_word_byte, spelling, IsDecimal, digits, digits_point, point_digits, percent, fraction, IsNumeral, a_decimal, a_percent, a_fraction, begins_with_letter, IsWord, IsNote, note, IsRef, ref, sign_byte, IsSpelled, IsToken, IsLongest, NoToken, and_parts, if◌then◌else◌, ◌&&◌, and_left, and_right, both_ways, IsDigits}
 use Rattle.dl_lexer.specs.declared.token.Kind.TheVariants as kind
-use Rattle.dl_bytes.specs.Prelude.{IsDigits}
 use Rattle.dl_lexer.proofs.Longest.{either}
 use Rattle.dl_lexer.proofs.Spellings.{spelling_one, keyword_is_word}
 use Rattle.dl_lexer.proofs.WordLengths.{begins_take, word_parts}

@@ -1,8 +1,5 @@
 -- The longest word, the longest note and the longest reference at the front of some bytes.
-use Rattle.dl_lexer.proofs.Common.{ℕ, zero, suc, ◌≡◌, ◌≢◌, ◌∙◌, ◌+◌, ◌<◌, ◌≤◌, List, [], ◌∷◌, ◌++◌, length, take, drop, true, false, refl, sym, ap, arith, append_assoc, length-append, Some, slice_get, subst, list_all, prefix_len, take-append-add, take-append-drop, length-take-le, prefix_len-le-length, slice_get_within, is_word_byte, begins_with_letter, IsWord, IsNote, note, IsRef, ref, IsLongest, and_parts}
-use Rattle.std.proofs.Common.{codes}
-use Rattle.std.proofs.Math.Seq.{take-append_seam}
-use Rattle.dl_lexer.specs.Bytes.{is_note_byte}
+use Rattle.dl_lexer.proofs.Common.{ℕ, zero, suc, ◌≡◌, ◌≢◌, ◌∙◌, ◌+◌, ◌<◌, ◌≤◌, List, [], ◌∷◌, ◌++◌, length, take, drop, true, false, refl, sym, ap, arith, append_assoc, length-append, Some, slice_get, subst, list_all, prefix_len, take-append-add, take-append-drop, length-take-le, prefix_len-le-length, slice_get_within, is_word_byte, begins_with_letter, IsWord, IsNote, note, IsRef, ref, IsLongest, and_parts, codes, take-append_seam, is_note_byte}
 use Rattle.dl_lexer.proofs.Prefix.{prefix_passes, prefix_most, prefix_ends, take_around, get_behind}
 use Rattle.dl_lexer.proofs.Longest.{longest_none}
 

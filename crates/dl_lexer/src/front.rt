@@ -116,31 +116,17 @@ pub(crate) fn ref_length(bytes: &[u8]) -> usize
     if length > 0 { length + 4 } else { 0 }
 }
 
-/// The numbers of digits before and behind a mark, where the mark directly follows the digits that
-/// begin the bytes.
-fn digits_round(bytes: &[u8], mark: u8) -> Option<(usize, usize)>
-    ensures before { IfSome result (λ r. r.0 ≡ prefix_len is_ascii_digit bytes.now) }
-    ensures mark { IfSome result (λ r. slice_get bytes.now r.0 ≡ Some mark) }
-    ensures behind { IfSome result (λ r. r.1 ≡ prefix_len is_ascii_digit (drop (r.0 + 1) bytes.now)) }
-    ensures inside { IfSome result (λ r. r.0 + 1 + r.1 ≤ length bytes.now) }
-    ensures none { IfNone result (slice_get bytes.now (prefix_len is_ascii_digit bytes.now) ≢ Some mark) }
-{
-    let before = run_length(bytes, Class::Digit);
-    if is_at(bytes, before, mark) {
-        Some((before, run_length(&bytes[before + 1..], Class::Digit)))
-    } else {
-        None
-    }
-}
-
-/// The length of the longest decimal that begins the bytes, 0 where none does.
+/// The length of the longest decimal that begins the bytes, 0 where none does; `whole` digits begin
+/// them.
 #[tactic(auto, using(crate::proofs::NumeralLengths::decimal_no_point, crate::proofs::NumeralLengths::decimal_with_bare_point))]
-fn decimal_length(bytes: &[u8]) -> usize
+fn decimal_length(bytes: &[u8], whole: usize) -> usize
+    requires { whole ≡ prefix_len is_ascii_digit bytes.now }
     ensures { IsLongest IsDecimal bytes.now result }
 {
-    let Some((whole, part)) = digits_round(bytes, b'.') else {
-        return run_length(bytes, Class::Digit);
-    };
+    if !is_at(bytes, whole, b'.') {
+        return whole;
+    }
+    let part = run_length(&bytes[whole + 1..], Class::Digit);
     if whole + part == 0 {
         0
     } else {
@@ -148,12 +134,13 @@ fn decimal_length(bytes: &[u8]) -> usize
     }
 }
 
-/// The length of the percent that begins the bytes, 0 where none does.
+/// The length of the percent that begins the bytes, 0 where none does; the longest decimal that
+/// begins them has `decimal` bytes.
 #[tactic(auto, using(crate::proofs::NumeralLengths::percent_with_mark))]
-fn percent_length(bytes: &[u8]) -> usize
+fn percent_length(bytes: &[u8], decimal: usize) -> usize
+    requires { IsLongest IsDecimal bytes.now decimal }
     ensures { IsLongest IsPercent bytes.now result }
 {
-    let decimal = decimal_length(bytes);
     if decimal > 0 && is_at(bytes, decimal, b'%') {
         decimal + 1
     } else {
@@ -161,26 +148,26 @@ fn percent_length(bytes: &[u8]) -> usize
     }
 }
 
-/// The length of the fraction that begins the bytes, 0 where none does.
-#[tactic(auto, using(crate::proofs::Longest::either, crate::proofs::NumeralLengths::fraction_with_slash, crate::proofs::NumeralLengths::fraction_none))]
-fn fraction_length(bytes: &[u8]) -> usize
+/// The length of the fraction that begins the bytes, 0 where none does; `above` digits begin them.
+#[tactic(auto, using(crate::proofs::NumeralLengths::fraction_with_slash, crate::proofs::NumeralLengths::fraction_none))]
+fn fraction_length(bytes: &[u8], above: usize) -> usize
+    requires { above ≡ prefix_len is_ascii_digit bytes.now }
     ensures { IsLongest IsFraction bytes.now result }
 {
-    let Some((above, below)) = digits_round(bytes, b'/') else {
+    if above == 0 || !is_at(bytes, above, b'/') {
         return 0;
-    };
-    if above == 0 || below == 0 {
-        0
-    } else {
-        above + 1 + below
     }
+    let below = run_length(&bytes[above + 1..], Class::Digit);
+    if below == 0 { 0 } else { above + 1 + below }
 }
 
 /// The length of the longest numeral that begins the bytes, 0 where none does.
 pub(crate) fn numeral_length(bytes: &[u8]) -> usize
     ensures { IsLongest IsNumeral bytes.now result }
 {
-    decimal_length(bytes)
-        .max(percent_length(bytes))
-        .max(fraction_length(bytes))
+    let digits = run_length(bytes, Class::Digit);
+    let decimal = decimal_length(bytes, digits);
+    decimal
+        .max(percent_length(bytes, decimal))
+        .max(fraction_length(bytes, digits))
 }

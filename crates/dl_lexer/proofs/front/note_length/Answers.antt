@@ -1,7 +1,5 @@
 -- The note, where its text ends with a closing brace.
-use Rattle.dl_lexer.proofs.Common.{◌≢◌, ◌+◌, List, ℕ, sym, subst, Some, slice_get, rules, IsNote, IsLongest}
-use Rattle.std.proofs.Common.{codes}
-use Rattle.dl_bytes.proofs.Beginnings.{begins_so}
+use Rattle.dl_lexer.proofs.Common.{◌≢◌, ◌+◌, List, ℕ, sym, subst, Some, slice_get, rules, IsNote, IsLongest, codes, begins_so}
 use Rattle.dl_lexer.proofs.WordLengths.{note_closed, note_open}
 use Rattle.dl_lexer.proofs.front.note_length.Goals as goal
 

@@ -6,7 +6,7 @@ use Rattle.dl_lexer.proofs.front.percent_length.Goals.{else-decimal-gt0-via-then
 
 pub returns-else-decimal-gt0 : goal.returns-else-decimal-gt0
 returns-else-decimal-gt0 c =
-    percent_without_mark c.args.bytes.now c.decimal_length-decimal.result c.decimal_length-decimal.ensures
+    percent_without_mark c.args.bytes.now c.args.decimal c.requires
     (elim c.else-decimal-gt0.branch [
       | else-decimal-gt0-via-then-decimal-gt0+else-is_at w ↦
           search rules

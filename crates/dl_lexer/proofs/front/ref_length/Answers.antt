@@ -1,7 +1,5 @@
 -- The reference, where a word stands behind its first bytes.
-use Rattle.dl_lexer.proofs.Common.{ℕ, List, ◌+◌, sym, subst, arith, IsRef, IsLongest}
-use Rattle.std.proofs.Common.{codes}
-use Rattle.dl_bytes.proofs.Beginnings.{begins_so, begins_otherwise}
+use Rattle.dl_lexer.proofs.Common.{ℕ, List, ◌+◌, sym, subst, arith, IsRef, IsLongest, codes, begins_so, begins_otherwise}
 use Rattle.dl_lexer.proofs.WordLengths.{ref_longest, ref_none}
 use Rattle.dl_lexer.proofs.front.ref_length.Goals as goal
 

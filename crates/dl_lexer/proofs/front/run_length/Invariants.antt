@@ -1,6 +1,5 @@
 -- The bytes so far are all of the class, and the rest goes on with the run.
-use Rattle.dl_lexer.proofs.Common.{◌≡◌, ◌+◌, drop, prefix_len}
-use Rattle.dl_lexer.specs.Classes.{is_in}
+use Rattle.dl_lexer.proofs.Common.{◌≡◌, ◌+◌, drop, prefix_len, is_in}
 use Rattle.dl_lexer.proofs.front.run_length.Given as goal
 
 abbrev pub invariant-loop-i : goal.invariant-loop-i

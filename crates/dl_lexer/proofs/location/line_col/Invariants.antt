@@ -1,6 +1,5 @@
 -- The line and the column of the place that the loop has reached.
-use Rattle.dl_lexer.proofs.Common.{◌≡◌, ◌≤◌, ◌+◌}
-use Rattle.dl_lexer.specs.Lines.{line_of, column_of}
+use Rattle.dl_lexer.proofs.Common.{◌≡◌, ◌≤◌, ◌+◌, line_of, column_of}
 use Rattle.dl_lexer.proofs.location.line_col.Given as goal
 
 abbrev pub invariant-loop-byte : goal.invariant-loop-byte
