@@ -1,4 +1,5 @@
 mod Common
 pub mod FractionLaws
+pub mod Tens
 pub mod NumeralLaws
 pub mod SmallNumerals

@@ -2,6 +2,7 @@
 use Rattle.dl_frac.proofs.Common.{◌≡◌, inl, inr, ℕ, ◌+◌, ◌*◌, ◌-◌, ◌^◌, ◌<◌, ◌≤◌, Bool, true, false, cond, ◌||◌, List, [], ◌∷◌, ◌++◌, length, take, drop, get_or, arith, refl, sym, ap, ap₂, ◌∙◌, ◌==◌, nat_lt, IsTrue, ◌↔◌, list_any, before_first, after_first, is_ascii_digit, digit_value, AllDigits, length-append, append-nil, take-append-drop, take_more, nat_tests, pow-le-pow_right, whole, ◌over◌, ◌/ℚ◌, rest_whole, is_point, is_percent, is_slash, digits_in, digit_count, number_in, decimals_in, numeral_value, is_bad, IsDecimal, digits}
 use Rattle.std.proofs.Common.{◌≢◌, ◌⊎◌, append_assoc, mul_comm}
 use Rattle.std.proofs.lemmas.Nat.{pow-add}
+use Rattle.std.proofs.Math.Nat.{one-le-pow}
 use Rattle.std.specs.Str.Parse.{IsNumeral as IsNumber, digits_value}
 use Rattle.std.proofs.lemmas.List.Elements.{filter-append}
 use Rattle.std.proofs.lemmas.List.Folds.{list_any-append}
@@ -79,14 +80,12 @@ pub no_mark : (d : ℕ) → d < 10 → (is_point (48 + d) ≡ false) × (is_perc
     (is_slash (48 + d) ≡ false)
 no_mark d h = (grind (arith, nat_tests), grind (arith, nat_tests), grind (arith, nat_tests))
 
--- the scale is 10 for each place
-pub scale_push : (text : List ℕ) (d s t : ℕ) → d < 10 → s ≡ 10 ^ decimals_in text
-    → ((list_any is_point text ≡ true) × (t ≡ 10 * s)) ⊎ ((list_any is_point text ≡ false) × (t ≡ s))
-    → t ≡ 10 ^ decimals_in (text ++ (48 + d) ∷ [])
-scale_push text d s t h e (inl hit) =
-    hit.1 ∙ ap (λ n. 10 * n) e ∙ mul_comm 10 (10 ^ decimals_in text) ∙ sym (pow-add 10 (decimals_in text) 1)
-    ∙ ap (λ n. 10 ^ n) (sym (decimals_push_yes text d h hit.0))
-scale_push text d s t h e (inr miss) = miss.1 ∙ e ∙ ap (λ n. 10 ^ n) (sym (decimals_push_no text (48 + d) miss.0))
+-- a digit behind the point has a place
+pub places_push : (text : List ℕ) (d m n : ℕ) → d < 10 → m ≡ decimals_in text
+    → ((list_any is_point text ≡ true) × (n ≡ m + 1)) ⊎ ((list_any is_point text ≡ false) × (n ≡ m))
+    → n ≡ decimals_in (text ++ (48 + d) ∷ [])
+places_push text d m n h e (inl hit) = hit.1 ∙ ap (λ k. k + 1) e ∙ sym (decimals_push_yes text d h hit.0)
+places_push text d m n h e (inr miss) = miss.1 ∙ e ∙ sym (decimals_push_no text (48 + d) miss.0)
 
 -- ---- bounds
 
@@ -154,6 +153,10 @@ plain_bad d text h = rw h
 pub hundredth : (n s : ℕ) → 0 < s → n over (100 * s) ≡ (n over s) /ℚ whole 100
 hundredth n s h =
     sym (over_div n s 100 1 h one_pos (omega arith) ∙ ap₂ (λ a b. a over b) (omega arith) (mul_comm s 100))
+
+pub percent_places : (n k : ℕ) → n over (10 ^ (k + 2)) ≡ (n over (10 ^ k)) /ℚ whole 100
+percent_places n k =
+    ap (λ t. n over t) (pow-add 10 k 2 ∙ mul_comm (10 ^ k) 100) ∙ hundredth n (10 ^ k) (one-le-pow k 10 (omega arith))
 
 module _ (text : List ℕ) (i : ℕ) (h : i < length text) (slash : get_or text i 0 ≡ 47)
     (whole_front : list_any is_slash (take i text) ≡ false) where

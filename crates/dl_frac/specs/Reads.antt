@@ -1,5 +1,5 @@
 -- The state of reading a numeral, after some of its bytes.
-use Rattle.std.specs.Prelude.{ℕ, ◌≡◌, ◌^◌, ◌≤◌, List}
+use Rattle.std.specs.Prelude.{ℕ, ◌≡◌, ◌≤◌, List}
 use Rattle.std.specs.List.{list_any}
 use Rattle.dl_frac.specs.declared.reading.Reading.{Reading}
 use Rattle.dl_bytes.specs.Numerals.{is_point, is_percent}
@@ -9,7 +9,7 @@ use Rattle.dl_frac.specs.Numerals.{digit_count, number_in, decimals_in}
 pub record IsReadingOf (limit : ℕ) (text : List ℕ) (r : Reading) : Type 0 where
   pub number : r.number ≡ number_in text
   pub digits : r.digits ≡ digit_count text
-  pub scale : r.scale ≡ 10 ^ decimals_in text
+  pub places : r.places ≡ decimals_in text
   pub pointed : r.pointed ≡ list_any is_point text
   pub percent : r.percent ≡ list_any is_percent text
   pub within : digit_count text ≤ limit

@@ -6,7 +6,7 @@ ghost use Rattle.dl_limits.specs.Limits.{frac_bound};
 ghost use Rattle.dl_exact.specs.Prelude.{gcd, Fraction, whole, ◌over◌, ◌+ℚ◌, ◌*ℚ◌, ◌/ℚ◌, ◌<ℚ◌, IsFloor, IsCeiling};
 ghost use Rattle.dl_frac.specs.Exact.{Gives};
 
-use crate::divisors::{divisor, wide_divisor};
+use crate::divisors::{divisor, wide_divisor, without};
 use dl_limits::FRAC_BOUND;
 use std::cmp::Ordering;
 use std::marker::Model;
@@ -177,4 +177,16 @@ pub(crate) fn reduced(num: u64, den: u64) -> Frac
         num: num / common,
         den: den / common,
     }
+}
+
+/// A small number over 10 to the power of `places`, as a fraction. No prime numbers but 2 and 5
+/// divide both.
+pub(crate) fn over_tens(number: u64, places: u32) -> Frac
+    requires number { number < frac_bound }
+    requires places { places ≤ 13 }
+    ensures { result ≡ number over (10 ^ places) }
+{
+    let (num, den) = without::<2>(number, 10u64.pow(places));
+    let (num, den) = without::<5>(num, den);
+    Frac { num, den }
 }

@@ -1,8 +1,10 @@
 //! Greatest common divisors and least common multiples.
 
 ghost use Rattle.std.specs.Prelude.{◌≡◌, ◌<◌, ◌≤◌};
+ghost use Prim.Native.Nat.{◌∣◌};
 ghost use Rattle.std.specs.Option.{SomeIff};
 ghost use Rattle.dl_exact.specs.Prelude.{gcd, lcm};
+ghost use Rattle.dl_frac.specs.Cuts.{IsCut};
 
 /// The greatest common divisor.
 pub fn divisor(a: u64, b: u64) -> u64
@@ -42,6 +44,22 @@ pub(crate) fn wide_divisor(a: u128, b: u128) -> u128
         return x;
     }
     divisor(y as u64, (x % y) as u64) as u128
+}
+
+/// Two numbers, the second above 0, divided by `P`, which is above 1, as often as it divides both.
+pub(crate) fn without<const P: u64>(num: u64, den: u64) -> (u64, u64)
+    requires factor { 1 < P }
+    requires positive { 0 < den }
+    ensures cut { IsCut num den result.0 result.1 }
+    ensures apart { P ∣ result.0 → ¬ (P ∣ result.1) }
+{
+    let mut left = num;
+    let mut right = den;
+    'cuts: while right % P == 0 && left % P == 0 {
+        left /= P;
+        right /= P;
+    }
+    (left, right)
 }
 
 /// The least common multiple of two numbers above 0; `None` exactly where it passes `limit`.

@@ -8,7 +8,7 @@ ghost use Rattle.dl_bytes.specs.Numerals.{IsNumeral, is_percent};
 ghost use Rattle.dl_frac.specs.Numerals.{digit_count, number_in, decimal_value, numeral_value, is_bad};
 ghost use Rattle.dl_frac.specs.Reads.{IsReadingOf};
 
-use crate::arithmetic::{Frac, reduced};
+use crate::arithmetic::{Frac, over_tens, reduced};
 use crate::reading::Reading;
 use thiserror::Error;
 
@@ -64,7 +64,7 @@ impl Reading {
         Reading {
             number: 0,
             digits: 0,
-            scale: 1,
+            places: 0,
             pointed: false,
             percent: false,
         }
@@ -100,15 +100,15 @@ impl Reading {
         if self.digits >= limit {
             return Err(BadNumeral);
         }
-        let scale = if self.pointed {
-            10 * self.scale
+        let places = if self.pointed {
+            self.places + 1
         } else {
-            self.scale
+            self.places
         };
         Ok(Reading {
             number: 10 * self.number + digit as u64,
             digits: self.digits + 1,
-            scale,
+            places,
             pointed: self.pointed,
             percent: self.percent,
         })
@@ -128,8 +128,8 @@ impl Reading {
             if self.digits > limit.saturating_sub(2) {
                 return Err(BadNumeral);
             }
-            return Ok(reduced(self.number, 100 * self.scale));
+            return Ok(over_tens(self.number, self.places + 2));
         }
-        Ok(reduced(self.number, self.scale))
+        Ok(over_tens(self.number, self.places))
     }
 }

@@ -10,14 +10,13 @@ pub(crate) struct Reading {
     pub(crate) number: u64,
     /// How many digits there were.
     pub(crate) digits: u32,
-    /// 10 for each digit after the point, multiplied.
-    pub(crate) scale: u64,
+    /// How many of them followed the point.
+    pub(crate) places: u32,
     /// There was a point.
     pub(crate) pointed: bool,
     /// There was a percent sign.
     pub(crate) percent: bool,
     ghost few: { digits ≤ 11 },
     ghost small: { number < 10 ^ digits },
-    ghost fine: { scale ≤ 10 ^ digits },
-    ghost positive: { 0 < scale },
+    ghost within: { places ≤ digits },
 }
