@@ -1,13 +1,6 @@
 -- A gamma unit and the unit of its extra claims.
-use Rattle.dl_pool.proofs.Common.{ℕ, ◌≤◌, ◌over◌, ap₂, All, None, UnitOfPlan, IsUnbounded, probability_of, weight_at, refl, ◌≡◌, ◌∙◌, ap, sym, subst, arith, Fraction, FitsFrac, HasPartsOf48Bits, admitted_fits, whole, ◌*ℚ◌, ◌/ℚ◌, ◌-ℚ◌, ◌≤ℚ◌, ◌<ℚ◌, le_refl, le_trans, times_cancel, div_times, times_one, whole_pos, whole_le, one_pos, Freq, Fixed, Table, Bernoulli, Binomial, Poisson, Gamma, IsClaimCount, expected_count}
-use Rattle.dl_exact.proofs.Parts.{over_num_le, over_den_le}
-use Rattle.dl_pool.specs.Extra.{extra_count}
+use Rattle.dl_pool.proofs.Common.{ℕ, ◌≤◌, ◌over◌, ap₂, All, None, UnitOfPlan, IsUnbounded, probability_of, weight_at, refl, ◌≡◌, ◌∙◌, ap, sym, subst, arith, Fraction, FitsFrac, HasPartsOf48Bits, admitted_fits, whole, ◌*ℚ◌, ◌/ℚ◌, ◌-ℚ◌, ◌≤ℚ◌, ◌<ℚ◌, le_refl, le_trans, times_cancel, div_times, times_one, whole_pos, whole_le, one_pos, Freq, Fixed, Table, Bernoulli, Binomial, Poisson, Gamma, IsClaimCount, expected_count, over_num_le, over_den_le, extra_count, IsGamma, IfSome, IsGammaCount, IsShape, IsThinnedTo, IsAggregate, IsNewZero, IsValidUnit, most_amount_at, most_beta, most_expected, most_shape}
 pub use Rattle.dl_plan.proofs.Shared.{gamma_unbounded}
-use Rattle.dl_plan.specs.Common.{IsGamma}
-use Rattle.std.specs.Prelude.{IfSome}
-use Rattle.dl_plan.specs.Count.{IsGammaCount, IsShape, IsThinnedTo}
-use Rattle.dl_plan.specs.Valid.{IsAggregate, IsNewZero, IsValidUnit}
-use Rattle.dl_limits.specs.Limits.{most_amount_at, most_beta, most_expected, most_shape}
 
 pub shape_above : (freq : Freq) (r m : Fraction) → freq ≡ Gamma r m → IsClaimCount freq → whole 0 <ℚ r
 shape_above freq r m is counts =

@@ -1,7 +1,5 @@
 -- What the mixture of the severities by the units' parts of all claims means.
-use Rattle.dl_pool.proofs.Common.{ℕ, ◌≡◌, ◌∙◌, List, [], ◌∷◌, ◌++◌, length, map, true, false, cond, ◌==◌, refl, ap, ap₂, sym, flat_map, Fraction, whole, ◌over◌, ◌+ℚ◌, ◌*ℚ◌, ◌/ℚ◌, sum_over, times_zero, sum_over_map, sum_over_same, sum_over_times, sum_over_append, severity_total, Item, Sev, UnitOfPlan, Pairs, pairs_of, probability, probability_of, shares, expected_of, unit_share, shared_probabilities, PoissonUnit, pooled_severity, expected_claims, poisson_unit, poisson_units, Bool, map-append, length-map}
-use Rattle.dl_plan.proofs.Shares.{probability-shares}
-use Rattle.dl_severity.specs.Steps.{scaled, mixture_of}
+use Rattle.dl_pool.proofs.Common.{ℕ, ◌≡◌, ◌∙◌, List, [], ◌∷◌, ◌++◌, length, map, true, false, cond, ◌==◌, refl, ap, ap₂, sym, flat_map, Fraction, whole, ◌over◌, ◌+ℚ◌, ◌*ℚ◌, ◌/ℚ◌, sum_over, times_zero, sum_over_map, sum_over_same, sum_over_times, sum_over_append, severity_total, Item, Sev, UnitOfPlan, Pairs, pairs_of, probability, probability_of, shares, expected_of, unit_share, shared_probabilities, PoissonUnit, pooled_severity, expected_claims, poisson_unit, poisson_units, Bool, map-append, length-map, probability-shares, scaled, mixture_of}
 
 -- the probabilities of each list times its share, one list after another
 abbrev pub mixed : List Pairs → List Fraction → Pairs

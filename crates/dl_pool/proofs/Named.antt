@@ -1,7 +1,6 @@
 -- What the one unit has by its parts: the shape and the mean of its count, and the first unit's name.
-use Rattle.dl_pool.proofs.Common.{ℕ, ◌≡◌, ◌∙◌, ◌<◌, List, length, get_or, ap, Bor, lent, can_share, Fraction, whole, ◌+ℚ◌, FitsFrac, admitted_fits, Freq, Gamma, UnitOfPlan, Plan, SharesFactor, raised, expected_of, get_or_default, has_factor, Option, Some, subst, All, HasPartsOf48Bits, expected_count, sym}
+use Rattle.dl_pool.proofs.Common.{ℕ, ◌≡◌, ◌∙◌, ◌<◌, List, length, get_or, ap, Bor, lent, can_share, Fraction, whole, ◌+ℚ◌, FitsFrac, admitted_fits, Freq, Gamma, UnitOfPlan, Plan, SharesFactor, raised, expected_of, get_or_default, has_factor, Option, Some, subst, All, HasPartsOf48Bits, expected_count, sym, IfSome}
 use Rattle.std.specs.List.{filter}
-use Rattle.std.specs.Prelude.{IfSome}
 use Rattle.dl_pool.proofs.Units.{all_sharing}
 
 pub gamma_shape : (freq : Freq) (shape r mean v : Fraction) → freq ≡ Gamma shape mean → freq ≡ Gamma r v → shape ≡ r

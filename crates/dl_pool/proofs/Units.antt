@@ -1,13 +1,6 @@
 -- The expected numbers of claims of units, one unit after another, and the part of all claims that each has.
-use Rattle.dl_pool.proofs.Common.{ℕ, ◌≡◌, ◌∙◌, refl, ◌+◌, ◌<◌, ◌≤◌, List, [], ◌∷◌, ◌++◌, length, map, take, get_or, ap, ap₂, sym, subst, arith, take_more, map_more, Fraction, whole, ◌+ℚ◌, ◌*ℚ◌, ◌/ℚ◌, ◌≤ℚ◌, ◌<ℚ◌, sum_over, le_trans, zero, suc, plus_zero, plus_comm, div_times, times_cancel, one_times, times_comm, sum_over_append, sum_over_same, sum_over_times, sum_over_map, FitsFrac, UnitOfPlan, Bor, Freq, Poisson, Sev, Bool, true, false, cond, Option, None, Some, inl, inr, arith, ◌*◌, lent, can_share, true_shares, shares_true, IsPoisson, IsClaimCount, All, pairs_of, shares, map-append, over_self, over_le, le_over, one_pos, IsFineTo40Bits, common_denominator, expected_count, expected_of, unit_share, le_plus, times_le_cancel, length-map, get_or-map, sum_of, count_weights, HasPartsOf48Bits}
+use Rattle.dl_pool.proofs.Common.{ℕ, ◌≡◌, ◌∙◌, refl, ◌+◌, ◌<◌, ◌≤◌, List, [], ◌∷◌, ◌++◌, length, map, take, get_or, ap, ap₂, sym, subst, arith, take_more, map_more, Fraction, whole, ◌+ℚ◌, ◌*ℚ◌, ◌/ℚ◌, ◌≤ℚ◌, ◌<ℚ◌, sum_over, le_trans, zero, suc, plus_zero, plus_comm, div_times, times_cancel, one_times, times_comm, sum_over_append, sum_over_same, sum_over_times, sum_over_map, FitsFrac, UnitOfPlan, Bor, Freq, Poisson, Sev, Bool, true, false, cond, Option, None, Some, inl, inr, arith, ◌*◌, lent, can_share, true_shares, shares_true, IsPoisson, IsClaimCount, All, pairs_of, shares, map-append, over_self, over_le, le_over, one_pos, IsFineTo40Bits, common_denominator, expected_count, expected_of, unit_share, le_plus, times_le_cancel, length-map, get_or-map, sum_of, count_weights, HasPartsOf48Bits, All-head, All-tail, All-cons, All-nil, CanShare, Gives, poisson, num_le_den, common_pos, den_divides, le_of_dvd}
 use Rattle.std.proofs.Common.{Result, Ok, Err, filter, IsSome}
-use Rattle.std.proofs.lemmas.List.Elements.{All-head, All-tail, All-cons, All-nil}
-use Rattle.dl_plan.specs.Common.{CanShare}
-use Rattle.dl_frac.specs.Exact.{Gives}
-use Rattle.dl_model.specs.Counts.{poisson}
-use Rattle.dl_plan.proofs.Clauses.{num_le_den}
-use Rattle.dl_plan.proofs.CommonDenominators.{common_pos, den_divides}
-use Rattle.std.proofs.lemmas.Nat.Gcd.{le_of_dvd}
 
 sum_over_alone : {A : Type 0} (f : A → Fraction) (x : A) → sum_over (x ∷ []) f ≡ f x
 unfolding sum_over

@@ -6,11 +6,11 @@ ghost use Rattle.dl_exact.specs.Fraction.{whole, ◌-ℚ◌, ◌*ℚ◌, ◌≤�
 ghost use Rattle.dl_plan.specs.Prelude.{HasPartsOf48Bits, probability_of, expected_count, CanRaise, IsValidUnit};
 ghost use Rattle.dl_pool.specs.Extra.{IsExtra, extra_count};
 
-use crate::copies::copied;
 use crate::pooling::are_admitted;
 use dl_bytes::Text;
 use dl_frac::Frac;
 use dl_plan::{Freq, Unit};
+use dl_severity::copied;
 use std::alloc::{AllocError, Global};
 
 /// The unit of the extra claims of a gamma unit of shape `r` and mean `m`: the same severity with a

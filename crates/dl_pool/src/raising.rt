@@ -6,10 +6,10 @@ ghost use Rattle.dl_plan.specs.declared.plan.Plan.{Plan};
 ghost use Rattle.dl_plan.specs.Prelude.{IsValid, SharesFactor};
 ghost use Rattle.dl_pool.specs.Pooled.{IsPooled, IsRaised, alone};
 
-use crate::copies::copied;
 use dl_bytes::Text;
 use dl_frac::Frac;
 use dl_plan::{Freq, Unit};
+use dl_severity::copied;
 use std::alloc::{AllocError, Global};
 
 /// The same unit as `pooled`, what `pool` gives for a plan with a factor of shape `r`, but with

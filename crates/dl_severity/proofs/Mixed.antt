@@ -1,6 +1,13 @@
 -- Atoms one after another, with their amounts and their probabilities apart.
-use Rattle.dl_severity.proofs.Common.{ℕ, ◌≡◌, ◌∙◌, ◌+◌, ◌*◌, ◌<◌, ◌≤◌, List, [], ◌∷◌, ◌++◌, length, map, zip, get_or, take, sum, refl, sym, ap, ap₂, subst, arith, append_assoc, mul-pos, mul-le-mul, length-take-le, take_more, map-append, map_more, append-nil, take_all, sum_by-cons, Fraction, whole, ◌over◌, ◌+ℚ◌, ◌*ℚ◌, over_mul, over_same, sum_over, Item, Sev, amounts_of, weight_sum, shares, pairs_of, over_plus, Weights, sum_of, mixture_of, mixed_probability, weighed, severity_total, All, inl, inr, zero, suc, common_pos, den_divides, length-append, ◌⊎◌, length-map, get_or_append_left, get_or-append-add, get_or-map, le_of_dvd, sum_by_more_le, zero_plus, plus_assoc, times_plus, times_zero, times_one, frac_bound, most_weights, over_le, IsTooFine, num_le_den, Pairs, over_zero, scaled, RefusesMixture, RefusesProducts, MixFault}
+use Rattle.dl_severity.proofs.Common.{ℕ, ◌≡◌, ◌∙◌, ◌+◌, ◌*◌, ◌<◌, ◌≤◌, List, [], ◌∷◌, ◌++◌, length, map, zip, get_or, take, sum, refl, sym, ap, ap₂, subst, arith, append_assoc, mul-pos, mul-le-mul, length-take-le, take_more, map-append, map_more, append-nil, take_all, sum_by-cons, Fraction, whole, ◌over◌, ◌+ℚ◌, ◌*ℚ◌, over_mul, over_same, sum_over, Item, Sev, amounts_of, weight_sum, shares, pairs_of, over_plus, Weights, sum_of, mixture_of, mixed_probability, weighed, severity_total, All, inl, inr, zero, suc, common_pos, den_divides, length-append, ◌⊎◌, length-map, get_or_append_left, get_or-append-add, get_or-map, le_of_dvd, sum_by_more_le, zero_plus, plus_assoc, times_plus, times_zero, times_one, frac_bound, most_weights, over_le, IsTooFine, num_le_den, Pairs, over_zero, scaled, ◌∣◌, dvd_of_mod-eq-zero, probability, probability_of, probability-shares, weight_at, RefusesMixture, RefusesProducts, MixFault}
 use Rattle.dl_exact.specs.Fraction.{◌≤ℚ◌}
+use Rattle.dl_exact.specs.Gcd.{gcd}
+use Rattle.dl_exact.specs.Multiples.{lcm}
+use Rattle.dl_exact.proofs.GcdLaws.{gcd_is}
+use Rattle.dl_exact.proofs.Laws.{one_times}
+use Rattle.dl_exact.proofs.Multiples.{lcm_least, part_divides}
+use Rattle.dl_exact.proofs.Over.{over_den}
+use Rattle.dl_plan.proofs.CommonDenominators.{common_from}
 use Rattle.dl_plan.specs.Fine.{common_denominator}
 use Rattle.dl_severity.specs.declared.fault.MixFault.TheVariants.{TooFine, OutOfMemory}
 
@@ -208,3 +215,43 @@ pub mixture_one : (t : ℕ) (atoms : List Sev) (ws : List ℕ) → 0 < t → len
     → sum_of (seconds (mixture_of t atoms ws)) ≡ whole 1
 mixture_one t atoms ws h e all =
     sum_of-mixture t atoms ws h e ∙ ap (λ n. n over t) all ∙ over_same t t 1 1 h (omega arith) (omega arith)
+
+-- ---- one atom alone
+
+scaled-whole : (ps : Pairs) → scaled (whole 1) ps ≡ ps
+scaled-whole [] = refl
+scaled-whole (p ∷ ps) = ap₂ (λ x qs. (p.0, x) ∷ qs) (one_times p.1) (scaled-whole ps)
+
+-- one atom, with all of the weight, is the mixture
+pub mixture-alone : (t : ℕ) (atoms : List Sev) (ws : List ℕ) (a : Sev) → length atoms ≡ 1
+    → length atoms ≡ length ws → sum ws ≡ t → 1 ≤ t → a ≡ get_or atoms 0 a → mixture_of t atoms ws ≡ pairs_of a
+mixture-alone t [] ws a one e all h is = absurd (omega (arith, one))
+mixture-alone t (b ∷ c ∷ atoms) ws a one e all h is = absurd (omega (arith, one))
+mixture-alone t (b ∷ []) [] a one e all h is = absurd (omega (arith, e))
+mixture-alone t (b ∷ []) (w ∷ v ∷ ws) a one e all h is = absurd (omega (arith, e))
+mixture-alone t (b ∷ []) (w ∷ []) a one e all h is =
+    let weight : w ≡ t = omega (arith, all, sum_by-cons (λ n. n) w []) in
+    append-nil (scaled (w over t) (pairs_of b))
+    ∙ ap₂ scaled (ap (λ n. n over t) weight ∙ over_same t t 1 1 h (omega arith) (omega arith)) (ap pairs_of (sym is))
+    ∙ scaled-whole (pairs_of a)
+
+den_over : (n d : ℕ) → 0 < d → (n over d).den ∣ d
+den_over n d h = subst (λ k. k ∣ d) (sym (over_den n d h)) (part_divides d (gcd n d) (gcd_is n d).1)
+
+multiple_divides : (m t : ℕ) (items : List Item) → 0 < t → m ∣ t → common_from m (seconds (shares items t)) ∣ t
+multiple_divides m t [] h d = d
+multiple_divides m t (x ∷ xs) h d =
+    let y : Fraction = x.weight over t in
+    multiple_divides (lcm m y.den) t xs h (lcm_least m y.den t y.positive d (den_over x.weight t h))
+
+-- the probabilities of an atom are as fine as its total
+pub alone_fine : (a : Sev) → common_denominator (seconds (pairs_of a)) ≤ a.total
+alone_fine a =
+    le_of_dvd (severity_total a) (multiple_divides 1 a.total a.items (severity_total a) (dvd_of_mod-eq-zero 1 (omega arith)))
+
+-- a severity of the same items is the mixture of the atom alone
+pub means-alone : (made a : Sev) (ps : Pairs) (x : ℕ) → made.items ≡ a.items → made.total ≡ a.total
+    → ps ≡ pairs_of a → probability_of made x ≡ probability ps x
+means-alone made a ps x items total is =
+    ap₂ (λ (is : List Item) (t : ℕ). weight_at is x over t) items total
+    ∙ sym (ap (λ qs. probability qs x) is ∙ probability-shares a.items a.total x (severity_total a))

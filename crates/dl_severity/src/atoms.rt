@@ -12,7 +12,7 @@ use crate::gather::gathered;
 use crate::list::push_item;
 use crate::weights::{Weights, over_common};
 use dl_frac::Frac;
-use dl_plan::{Item, Sev, common_denominator_of};
+use dl_plan::{Item, Items, Sev, common_denominator_of};
 use std::alloc::{AllocError, Global};
 
 /// The severity of amounts with whole weights: equal amounts are added up, and weights of 0
@@ -44,7 +44,7 @@ fn items_of(alloc: Global, amounts: &[u32], weights: &[u64]) -> Result<Vec<Item>
 
 /// The mixture of atoms: the probabilities of each times its weight over the total, which is from 1
 /// to 2^40. `TooFine` exactly where these products have a common denominator above `most`, which is
-/// at most 2^40.
+/// at most 2^40. One atom alone is its own mixture, and is copied where its total is at most `most`.
 pub fn mix(alloc: Global, atoms: &[Sev], weights: &Weights, most: u64) -> Result<Sev, MixFault>
     requires lengths { length atoms.now ≡ length weights.now.weights }
     requires sum { sum weights.now.weights ≡ weights.now.total }
@@ -56,6 +56,9 @@ pub fn mix(alloc: Global, atoms: &[Sev], weights: &Weights, most: u64) -> Result
     ensures fine { OnOk result (common_denominator (map (λ pair. pair.1)
         (mixture atoms.now weights.now)) ≤ most) }
 {
+    if atoms.len() == 1 && atoms[0].total <= most {
+        return Ok(copied(alloc, &atoms[0])?);
+    }
     let mut amounts = Vec::new(alloc);
     let mut probs = Vec::new(alloc);
     let parts = weights.weights.as_slice();
@@ -70,6 +73,17 @@ pub fn mix(alloc: Global, atoms: &[Sev], weights: &Weights, most: u64) -> Result
     };
     let whole = over_common(alloc, &probs, common)?;
     Ok(merge(alloc, &amounts, &whole)?)
+}
+
+/// A severity with the same items.
+pub fn copied(alloc: Global, sev: &Sev) -> Result<Sev, AllocError>
+    ensures items { IfOk result (λ made. made.items ≡ sev.now.items) }
+    ensures total { IfOk result (λ made. made.total ≡ sev.now.total) }
+{
+    Ok(Sev {
+        items: Items::from_vec(sev.items.as_slice().to_vec(alloc)?),
+        total: sev.total,
+    })
 }
 
 /// The amounts of an atom put behind others.

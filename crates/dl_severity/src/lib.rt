@@ -2,8 +2,8 @@
 //! the values of a list, whole buckets, whole weights, the mixture, the conditioning on exceeding
 //! an attachment, the layer and the occurrence clause. Each is exact, or refused.
 //!
-//! `count_to`, `expand`, `amounts`, `weigh`, `merge`, `mix`, `above`, `cut`, `cede_each`, `fits` and
-//! `mean` are exact, and each refusal comes exactly where its definition says.
+//! `count_to`, `expand`, `amounts`, `weigh`, `copied`, `merge`, `mix`, `above`, `cut`, `cede_each`,
+//! `fits` and `mean` are exact, and each refusal comes exactly where its definition says.
 #![tactic(auto)]
 
 mod atoms;
@@ -20,7 +20,7 @@ mod range;
 mod weighing;
 mod weights;
 
-pub use atoms::{merge, mix};
+pub use atoms::{copied, merge, mix};
 pub use buckets::amounts;
 pub use expand_list::{count_to, expand};
 pub use fault::{AboveFault, AmountFault, CedeFault, ExpandFault, MixFault, WeighFault};

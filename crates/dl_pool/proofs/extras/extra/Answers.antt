@@ -1,6 +1,5 @@
 -- The mean of the extra claims is admitted, or there is no such unit.
-use Rattle.dl_pool.proofs.Common.{refl, sym, subst, given_value, whole, ◌≤ℚ◌, HasPartsOf48Bits, ◌*ℚ◌, ◌-ℚ◌, probability_of}
-use Rattle.dl_limits.specs.Limits.{most_expected}
+use Rattle.dl_pool.proofs.Common.{refl, sym, subst, given_value, whole, ◌≤ℚ◌, HasPartsOf48Bits, ◌*ℚ◌, ◌-ℚ◌, probability_of, most_expected}
 use Rattle.dl_pool.proofs.GammaUnits.{shape_above, extra_mean, extra_valid}
 use Rattle.dl_pool.proofs.extras.extra.Goals as goal
 

@@ -1,7 +1,5 @@
 -- The number of claims above 0 is at most the bound.
-use Rattle.dl_pool.proofs.Common.{◌≤◌, ◌*◌, ◌∙◌, ap, arith, ◌*ℚ◌, given_value}
-use Rattle.std.proofs.lemmas.Bool.{leb-true, le-leb}
-use Rattle.dl_limits.specs.Limits.{most_expected}
+use Rattle.dl_pool.proofs.Common.{◌≤◌, ◌*◌, ◌∙◌, ap, arith, ◌*ℚ◌, given_value, leb-true, le-leb, most_expected}
 use Rattle.dl_pool.proofs.Units.{at_most, few_parts}
 use Rattle.dl_pool.proofs.pooling.are_admitted.Goals as goal
 

@@ -1,7 +1,6 @@
 -- The one unit is within the bounds of a valid one, and it is there where the sums of the units keep them.
-use Rattle.dl_pool.proofs.Common.{◌≡◌, ◌∙◌, ap, sym, subst, refl, arith, length-map, None, [], whole, ◌-ℚ◌, ◌*ℚ◌, ◌≤ℚ◌, get_or-map, Bor, Poisson, UnitOfPlan, HasPartsOf48Bits, probability_of, expected_of, lent}
+use Rattle.dl_pool.proofs.Common.{◌≡◌, ◌∙◌, ap, sym, subst, refl, arith, length-map, None, [], whole, ◌-ℚ◌, ◌*ℚ◌, ◌≤ℚ◌, get_or-map, Bor, Poisson, UnitOfPlan, HasPartsOf48Bits, probability_of, expected_of, lent, most_expected}
 use Rattle.dl_pool.proofs.Alone.{mixed_valid, pooled_thinned, whole_list}
-use Rattle.dl_limits.specs.Limits.{most_expected}
 use Rattle.dl_pool.proofs.Named.{first_name}
 use Rattle.dl_pool.proofs.Units.{lent_inside}
 use Rattle.dl_pool.proofs.pooling.pool_poisson.Goals as goal

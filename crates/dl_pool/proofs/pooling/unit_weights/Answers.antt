@@ -1,6 +1,5 @@
-use Rattle.dl_pool.proofs.Common.{◌∙◌, ◌≤◌, ap, subst, lent, common_denominator, sum_of}
+use Rattle.dl_pool.proofs.Common.{◌∙◌, ◌≤◌, ap, subst, lent, common_denominator, sum_of, IsWeighing}
 use Rattle.std.specs.Prelude.{IfOk, IfSome, IsSome}
-use Rattle.dl_severity.specs.Prelude.{IsWeighing}
 use Rattle.dl_pool.proofs.Units.{shares_one}
 use Rattle.dl_pool.proofs.pooling.unit_weights.Goals as goal
 

@@ -1,7 +1,6 @@
 -- All of them can be pooled.
-use Rattle.dl_pool.proofs.Common.{◌∙◌, ap, sym, subst, take, take_all, All, can_share}
+use Rattle.dl_pool.proofs.Common.{◌∙◌, ap, sym, subst, take, take_all, All, can_share, CanShare}
 use Rattle.std.specs.List.{filter}
-use Rattle.dl_plan.specs.Common.{CanShare}
 use Rattle.dl_pool.proofs.Units.{sharing_share}
 use Rattle.dl_pool.proofs.shares.sharing.Goals as goal
 

@@ -1,7 +1,7 @@
 -- The amounts with the weights of the products are the mixture.
 use Rattle.dl_plan.specs.Prelude.{common_denominator}
-use Rattle.dl_severity.proofs.Common.{◌∙◌, ◌≤◌, ◌++◌, map, get_or, ap, subst, sym, ◌over◌, amounts_of, probability, mixture_of, mixed_probability, sum_of, RefusesProducts}
-use Rattle.dl_severity.proofs.Mixed.{amounts-more, probs-more, weighed-back, as_many, coarse_mixture, mixture_whole, mixture_one, firsts, seconds}
+use Rattle.dl_severity.proofs.Common.{Sev, ◌∙◌, ◌≤◌, arith, ◌++◌, map, get_or, ap, subst, sym, ◌over◌, amounts_of, probability, mixture_of, mixed_probability, sum_of, RefusesProducts}
+use Rattle.dl_severity.proofs.Mixed.{amounts-more, probs-more, weighed-back, as_many, coarse_mixture, mixture_whole, mixture_one, mixture-alone, alone_fine, means-alone, firsts, seconds}
 use Rattle.dl_severity.proofs.atoms.mix.Goals as goal
 
 pub atoms-preserved : goal.atoms-preserved
@@ -65,3 +65,18 @@ pub merge-requires-clause-lengths : goal.merge-requires-clause-lengths
 merge-requires-clause-lengths c =
     as_many _ c.deref-3.result.now c.in_ok-whole.whole (c.deref-3.ensures.value ∙ c.atoms.invariant.amounts)
     (c.in_ok-whole.ensures.shares ∙ c.deref-2.ensures.value ∙ c.atoms.invariant.probs)
+
+pub returns-then-atoms-most-clause-step : goal.returns-then-atoms-most-clause-step
+returns-then-atoms-most-clause-step c = λ x.
+    let atom = c.index-atoms-0-then-atoms-most.result in
+    means-alone c.in_ok-copied.field-0 atom _ x c.in_ok-copied.ensures.items c.in_ok-copied.ensures.total
+    (mixture-alone c.args.weights.now.total c.args.atoms.now c.args.weights.now.weights atom c.if-atoms-eq1.true
+    c.requires.lengths c.requires.sum c.requires.some c.index-atoms-0-then-atoms-most.is)
+
+pub returns-then-atoms-most-clause-fine : goal.returns-then-atoms-most-clause-fine
+returns-then-atoms-most-clause-fine c =
+    let atom = c.index-atoms-0.result in
+    let alone = mixture-alone c.args.weights.now.total c.args.atoms.now c.args.weights.now.weights atom
+    c.if-atoms-eq1.true c.requires.lengths c.requires.sum c.requires.some c.index-atoms-0.is in
+    subst (λ ps. common_denominator (seconds ps) ≤ c.args.most) (sym alone)
+    (omega (arith, alone_fine atom, ap (λ (sev : Sev). sev.total) c.index-atoms-0.is, c.if-atoms-most.true))
