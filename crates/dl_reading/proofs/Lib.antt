@@ -29,5 +29,6 @@ pub mod ItemRanges
 pub mod GridUnits
 pub mod Spanned
 pub mod ListLengths
+pub mod Single
 pub mod ReadUnits
 pub mod Wider

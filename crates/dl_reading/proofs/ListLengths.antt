@@ -1,5 +1,5 @@
 -- How many values the lists of a severity have, and the rules that ask it.
-use Rattle.dl_reading.proofs.Common.{ℕ, zero, suc, ◌≡◌, ◌∙◌, ◌+◌, ◌<◌, ◌&&◌, ◌||◌, Bool, true, false, get_or, take_more, not, ◌==◌, List, [], ◌∷◌, ◌++◌, length, take, flat_map, Option, Some, None, refl, sym, ap, ap₂, subst, arith, nat_tests, nat_lt, list_any, sum_by, sum_by-cons, Fraction, Span, at_if, ◌else◌, else_second, flaws_else, not_at, is_not_one, most_atoms, most_values, range_values, Range, Atom, ListAst, ListItem, MixAst, Flaws, Gridded, AgreeOnLists, AgreeToFirst, AreNone, IsRead, IsReadTo, KeepsLengths, spans, no_flaws, flaws_in, flaws_within, long_at, lengths_at, sum_at, flaws_of_item, flaws_of_list, flaws_of_amount, flaws_of_amounts, flaws_of_shares, flaws_beside, flaws_of_atom, flaws_of_mixture, listed_beside, listed_flaws, are_many_values, is_long_mixture, values_in, spanned_item, spanned_values, values_of, range_of, Bounds, length-map, min, length-append, ltb-false, flat_map-append, list_any-append}
+use Rattle.dl_reading.proofs.Common.{ℕ, ◌≡◌, ◌∙◌, ◌+◌, ◌<◌, ◌≤◌, ◌&&◌, ◌||◌, Bool, true, false, get_or, take_more, not, ◌==◌, List, [], ◌∷◌, ◌++◌, length, take, flat_map, Option, Some, None, refl, sym, ap, ap₂, subst, arith, nat_tests, nat_lt, list_any, sum_by, sum_by-cons, Fraction, Span, at_if, ◌else◌, else_second, flaws_else, not_at, is_not_one, most_atoms, most_values, range_values, Range, Atom, ListAst, ListItem, MixAst, Flaws, Gridded, AgreeOnLists, AgreeToFirst, AreNone, IsReadTo, KeepsLengths, spans, no_flaws, flaws_in, flaws_within, long_at, lengths_at, sum_at, flaws_of_item, flaws_of_list, flaws_of_amount, flaws_of_amounts, flaws_of_shares, flaws_beside, flaws_of_atom, flaws_of_mixture, listed_beside, listed_flaws, are_many_values, is_long_mixture, values_in, spanned_item, spanned_values, values_of, range_of, Bounds, length-map, min, length-append, ltb-false, flat_map-append, list_any-append}
 use Rattle.dl_reading.proofs.Firsts.{else_none}
 use Rattle.dl_reading.proofs.Agreeing.{agree_else, agree_same, agree_take, keeps_first, read_after, read_also, read_both, flaws_more, zip_else}
 
@@ -142,7 +142,7 @@ abbrev pub count_of : ℕ → List Atom → Counted
 count_of v atoms =
     (list_any (λ a. nat_lt v (values_in a)) atoms, min (sum_by (λ a. min (values_in a) (v + 1)) atoms) cap)
 
-total_more : (f : Atom → ℕ) (xs : List Atom) (a : Atom) → sum_by f (xs ++ a ∷ []) ≡ sum_by f xs + f a
+pub total_more : (f : Atom → ℕ) (xs : List Atom) (a : Atom) → sum_by f (xs ++ a ∷ []) ≡ sum_by f xs + f a
 total_more f [] a = omega arith
 total_more f (x ∷ xs) a = omega (arith, sum_by-cons f x (xs ++ a ∷ []), sum_by-cons f x xs, total_more f xs a)
 
@@ -224,6 +224,11 @@ many_read bounds atoms read is = record {
 
 -- ---- a mixture
 
+-- few atoms with few values
+pub short : (bounds : Bounds) (m : MixAst) → length m.atoms ≤ most_atoms → sum_by values_in m.atoms ≤ most_values
+    → is_long_mixture bounds m ≡ false
+short bounds m atoms values = grind (arith, nat_tests, atoms, values)
+
 -- whether it is too long is known where the numerals and the ranges are good
 long_before : {x y : Option Span} {made flaws : Flaws} → AgreeToFirst (spans made) (spans flaws)
     → (AreNone (take 2 (spans flaws)) → x ≡ y)
@@ -298,15 +303,7 @@ module _ (bounds : Bounds) (most : ℕ) (bs : Fraction) where
       (lists_both f f2 g g2 (atoms_lists m.atoms) (weights_lists m.weights)))
       (agree_take 4 (spans all) (spans (flaws_else (long_at far) (flaws_else f g))) whole)
 
--- ---- where one of these rules is broken
-
-agree_longer : (k : ℕ) (xs ys : List (Option Span)) → AgreeToFirst (take k xs) (take k ys) → ¬ AreNone (take k ys)
-    → AgreeToFirst xs ys
-agree_longer zero xs ys h broken = absurd (broken tt)
-agree_longer (suc k) [] ys h broken = tt
-agree_longer (suc k) (x ∷ xs) [] h broken = tt
-agree_longer (suc k) (x ∷ xs) (y ∷ ys) h broken =
-    (h.0, λ none. agree_longer k xs ys (h.1 none) (λ rest. broken (none, rest)))
+-- ---- where these rules are kept
 
 pub lengths_kept : (made flaws : Flaws) → AgreeOnLists made flaws → KeepsLengths made → KeepsLengths flaws
 lengths_kept made flaws h keeps =
@@ -314,17 +311,3 @@ lengths_kept made flaws h keeps =
     let two = sym (h.1 one).0 ∙ keeps.1.0 in
     let three = sym ((h.1 one).1 two).0 ∙ keeps.1.1.0 in
     (one, (two, (three, (sym (((h.1 one).1 two).1 three).0 ∙ keeps.1.1.1.0, tt))))
-
-lengths_back : (made flaws : Flaws) → AgreeOnLists made flaws → KeepsLengths flaws → KeepsLengths made
-lengths_back made flaws h keeps =
-    let rest = ((h.1 keeps.0).1 keeps.1.0) in
-    (h.0 ∙ keeps.0, ((h.1 keeps.0).0 ∙ keeps.1.0, (rest.0 ∙ keeps.1.1.0, ((rest.1 keeps.1.1.0).0 ∙ keeps.1.1.1.0, tt))))
-
-pub stopped_read : {A : Type 0} {part : A} {right : A} (made flaws : Flaws) → AgreeOnLists made flaws → ¬ KeepsLengths made
-    → IsRead flaws right (record { part = part; flaws = made })
-stopped_read made flaws h broken =
-    let not_kept : ¬ KeepsLengths flaws = λ keeps. broken (lengths_back made flaws h keeps) in
-    record {
-      first = agree_longer 4 (spans made) (spans flaws) h not_kept;
-      right = λ clean. absurd (not_kept (clean.0, (clean.1.0, (clean.1.1.0, (clean.1.1.1.0, tt)))));
-    }

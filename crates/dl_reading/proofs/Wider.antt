@@ -1,6 +1,6 @@
 -- Wider bounds: a unit that keeps the rules by some bounds, and whose fractions are fine by them, keeps them by wider
 -- ones, and its fractions are fine by those too.
-use Rattle.dl_reading.proofs.Common.{ℕ, ◌≡◌, ◌≤◌, ◌&&◌, ◌||◌, Bool, true, false, not, nat_lt, ◌==◌, List, [], ◌∷◌, length, map, Option, Some, None, refl, sym, ap, ◌∙◌, arith, nat_tests, All, All-head, All-tail, sum_by, Fraction, Span, at_if, ◌else◌, is_fine, are_fine, is_not_one, sum_of, is_one, common_denominator, probs_among, Flaws, AreNone, IsClean, spans, flaws_else, flaws_in, flaws_within, earlier_flaws, long_at, lengths_at, sum_at, flaws_of_item, flaws_of_list, flaws_of_amount, flaws_of_amounts, flaws_of_shares, flaws_beside, flaws_of_atom, flaws_of_mixture, flaws_of_count, flaws_of_distribution, flaws_of_layer, flaws_of_clause, is_named, is_long_mixture, values_in, spanned_values, values_of, if_there, most_atoms, most_values, and_parts, GridSev, GridUnit, GridAtom, grid_atom, grid_mixture, grid_shares, grid_count, atom_probs, weights_of, mixture_shares, has_probs, has_severity, has_shares, ListAst, Atom, MixAst, Bounds, ⊤, nat_le, list_all, AreWithin, CountAst, UnitAst, GridCount, fractions_too_fine, grid_of, flaws_of}
+use Rattle.dl_reading.proofs.Common.{ℕ, ◌≡◌, ◌≤◌, ◌&&◌, ◌||◌, Bool, true, false, not, nat_lt, ◌==◌, List, [], ◌∷◌, length, map, Option, Some, None, refl, sym, ap, ◌∙◌, arith, nat_tests, All, All-head, All-tail, Fraction, Span, at_if, ◌else◌, is_fine, are_fine, is_not_one, sum_of, is_one, common_denominator, probs_among, Flaws, AreNone, IsClean, spans, flaws_else, flaws_in, flaws_within, earlier_flaws, long_at, lengths_at, sum_at, flaws_of_item, flaws_of_list, flaws_of_amount, flaws_of_amounts, flaws_of_shares, flaws_beside, flaws_of_atom, flaws_of_mixture, flaws_of_count, flaws_of_distribution, flaws_of_layer, flaws_of_clause, is_named, values_in, spanned_values, values_of, if_there, and_parts, GridSev, GridUnit, GridAtom, grid_atom, grid_mixture, grid_shares, grid_count, atom_probs, weights_of, mixture_shares, has_probs, has_severity, has_shares, ListAst, Atom, MixAst, Bounds, ⊤, nat_le, list_all, AreWithin, CountAst, UnitAst, GridCount, fractions_too_fine, grid_of, flaws_of}
 use Rattle.dl_ast.specs.declared.ast.CountAst.TheVariants.{Exposed, Listed}
 use Rattle.dl_reading.specs.declared.grid.GridCount.TheVariants as counts
 use Rattle.dl_reading.proofs.Agreeing.{zip_else}
@@ -9,6 +9,7 @@ use Rattle.dl_reading.proofs.Firsts.{keeps_limit}
 use Rattle.dl_reading.proofs.FineUnits.{parts_of}
 use Rattle.dl_reading.proofs.GridUnits.{not_long, too_long}
 use Rattle.dl_reading.proofs.ItemRanges.{list_few}
+use Rattle.dl_reading.proofs.ListLengths.{short}
 
 -- ---- tests
 
@@ -153,15 +154,12 @@ module _ (a b : Bounds) (wider : AreWithin a b) where
         let few : All (λ x. values_in x ≤ a.values) m.atoms =
         λ k d h. list_few a _ (clean_first (flaws_of_list a _) _ (clean_first (flaws_of_amounts a most bs _) _
         (clean_each (flaws_of_atom a most bs) m.atoms inner.0 k d h))) in
+        let total = not_long a m outer.0 few in
         clean_join (too_long b m) (flaws_else (flaws_in (flaws_of_atom b most bs) m.atoms) (flaws_within (flaws_of_shares b) m.weights))
-        (long_none _ (not_there _ m.span (still_short m (not_long a m outer.0 few))))
+        (long_none _ (not_there _ m.span (short b m total.0 total.1)))
         (clean_join (flaws_in (flaws_of_atom b most bs) m.atoms) (flaws_within (flaws_of_shares b) m.weights)
         (atoms_wider m.atoms parts.0 inner.0)
         (weights_wider m.weights (fine_among (length s.atoms) m.weights parts.1) inner.1))
-      where
-        still_short : (m : MixAst) → (length m.atoms ≤ most_atoms) × (sum_by values_in m.atoms ≤ most_values)
-            → is_long_mixture b m ≡ false
-        still_short m few = grind (arith, nat_tests, few.0, few.1)
 
     -- ---- the unit
 

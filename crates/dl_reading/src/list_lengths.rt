@@ -1,25 +1,73 @@
 //! The rules on the lists of a severity that ask how many values they have. Nothing is expanded:
 //! all lists of a severity that keeps these rules have at most three times 65,536 values.
 
-ghost use Rattle.std.specs.Prelude.{ℕ, ◌+◌, ◌≤◌, All, IfSome, length, min};
+ghost use Rattle.std.specs.Prelude.{ℕ, ◌≡◌, ◌+◌, ◌≤◌, false, All, IfNone, IfSome, IsTrue, length, min};
+ghost use Rattle.std.specs.List.{sum_by};
+ghost use Rattle.dl_limits.specs.Limits.{most_values};
 ghost use Rattle.dl_limits.specs.Rules.{AreBounds};
 ghost use Rattle.dl_exact.specs.Fraction.{Fraction};
 ghost use Rattle.dl_ast.specs.WellFormed.{IsFormedAtom, IsFormedItem, IsFormedList, IsFormedMixture};
-ghost use Rattle.dl_reading.specs.Flaws.{AgreeOnLists, AgreeToFirst, IsReadTo, flaws_in, flaws_within, spans};
+ghost use Rattle.dl_reading.specs.Flaws.{AgreeOnLists, AgreeToFirst, IsReadTo, KeepsLengths, flaws_in, flaws_within, spans};
 ghost use Rattle.dl_reading.specs.Listed.{listed_beside, listed_flaws};
-ghost use Rattle.dl_reading.specs.Reading.{are_many_values, flaws_of_item, flaws_of_list, flaws_of_mixture};
+ghost use Rattle.dl_reading.specs.Reading.{are_many_values, flaws_of_item, flaws_of_list, flaws_of_mixture, is_long_mixture, values_in};
 ghost use Rattle.dl_reading.specs.Values.{spanned_item, spanned_values};
 
 use crate::flaws::{Flaws, Gridded};
 use crate::numbers::item_range;
 use crate::spans::span_if;
+use crate::value_lists::are_single;
 use dl_ast::{Atom, ListAst, ListItem, MixAst};
 use dl_limits::{Bounds, MOST_ATOMS, MOST_VALUES};
 use dl_severity::count_to;
 
+/// The flaws of a mixture that is not expanded, since it breaks a rule on numerals, ranges or the
+/// lengths of lists. None where its values are few: it has no ranges, or keeps these rules.
+pub(crate) fn stopping_flaws(mix: &MixAst, bounds: Bounds) -> Option<Flaws>
+    requires bounds { AreBounds bounds }
+    requires formed { IsFormedMixture mix.now }
+    ensures broken { IfSome result (λ flaws. ¬ KeepsLengths flaws) }
+    ensures agree { (most : ℕ) (bs : Fraction)
+        → IfSome result (λ flaws. AgreeOnLists flaws (flaws_of_mixture bounds most bs mix.now)) }
+    ensures short { IfNone result (is_long_mixture bounds mix.now ≡ false) }
+{
+    let atoms = mix.atoms.as_slice();
+    if atoms.len() <= MOST_ATOMS && are_single_within(&mix.weights) && have_few_values(atoms) {
+        return None;
+    }
+    let lists = mixture_lists(mix, bounds);
+    if lists.keep_lengths() {
+        return None;
+    }
+    Some(lists)
+}
+
+/// Whether atoms have no ranges, and at most 65,536 values together; no numeral is read.
+fn have_few_values(atoms: &[Atom]) -> bool
+    requires { All IsFormedAtom atoms.now }
+    ensures { IsTrue result → sum_by values_in atoms.now ≤ most_values }
+{
+    let mut room = MOST_VALUES;
+    'atoms: for atom in atoms {
+        let items = atom.values.items.as_slice();
+        if items.len() > room || !are_single(items) || !are_single_within(&atom.probs) {
+            return false;
+        }
+        room -= items.len();
+    }
+    true
+}
+
+/// Whether a list has no ranges, if there is one.
+fn are_single_within(list: &Option<ListAst>) -> bool {
+    match list {
+        Some(list) => are_single(list.items.as_slice()),
+        None => true,
+    }
+}
+
 /// The first place where a mixture breaks each of the rules on numerals, ranges and the lengths of
 /// lists.
-pub(crate) fn mixture_lists(mix: &MixAst, bounds: Bounds) -> Flaws
+fn mixture_lists(mix: &MixAst, bounds: Bounds) -> Flaws
     requires bounds { AreBounds bounds }
     requires formed { IsFormedMixture mix.now }
     ensures { (most : ℕ) (bs : Fraction)

@@ -16,7 +16,7 @@ use crate::count::{distribution, grid_count};
 use crate::flaws::{Flaws, Gridded};
 use crate::grid::{GridClause, GridCount, GridFreq, GridLayer, GridSev, GridUnit};
 use crate::layers::{unit_clause, unit_layer};
-use crate::list_lengths::mixture_lists;
+use crate::list_lengths::stopping_flaws;
 use crate::losses::{grid_atoms, mixture_weights};
 use dl_ast::{MixAst, SevBody, UnitAst};
 use dl_frac::Frac;
@@ -46,9 +46,8 @@ pub fn grid_mixture(
     requires formed { IsFormedMixture mix.now }
     ensures { IfOk result (IsRead (flaws_of_mixture bounds most bs mix.now) (grid_mixture bs mix.now)) }
 {
-    let lists = mixture_lists(mix, bounds);
-    if !lists.keep_lengths() {
-        return Ok(no_severity(alloc, lists));
+    if let Some(flaws) = stopping_flaws(mix, bounds) {
+        return Ok(no_severity(alloc, flaws));
     }
     let atoms = grid_atoms(alloc, mix.atoms.as_slice(), bs, most, bounds)?;
     let weights = mixture_weights(alloc, &mix.weights, bounds)?;

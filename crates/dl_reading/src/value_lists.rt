@@ -1,6 +1,7 @@
 //! The values of a list, each with the place of its item.
 
-ghost use Rattle.std.specs.Prelude.{◌≡◌, ◌<◌, ◌≤◌, ◌+◌, ◌++◌, [], All, IfOk, IfErr, map, flat_map, length};
+ghost use Rattle.std.specs.Prelude.{◌≡◌, ◌<◌, ◌≤◌, ◌+◌, ◌++◌, [], All, IfOk, IfErr, is_none, map, flat_map, length};
+ghost use Rattle.std.specs.List.{list_all};
 ghost use Rattle.dl_limits.specs.Limits.{most_amount};
 ghost use Rattle.dl_limits.specs.Rules.{AreBounds};
 ghost use Rattle.dl_ast.specs.WellFormed.{IsFormedItem, IsFormedList};
@@ -8,12 +9,12 @@ ghost use Rattle.dl_plan.specs.Ranges.{IsBucket};
 ghost use Rattle.dl_severity.specs.Prelude.{HasPartsOf18Digits, IsRange, range_values};
 ghost use Rattle.dl_reading.specs.Flaws.{AgreeToFirst, IsRead, IsReadTo, flaws_in, spans};
 ghost use Rattle.dl_reading.specs.Grid.{grid_list, number_of};
-ghost use Rattle.dl_reading.specs.Reading.{flaws_of_item, flaws_of_list, flaws_of_amount};
-ghost use Rattle.dl_reading.specs.Values.{spanned_range, spanned_in, spanned_values, AreTooMany};
+ghost use Rattle.dl_reading.specs.Reading.{flaws_of_item, flaws_of_list, flaws_of_amount, flaws_of_numeral};
+ghost use Rattle.dl_reading.specs.Values.{spanned_range, spanned_in, spanned_values, value, AreTooMany};
 
 use crate::flaws::{Flaws, Gridded};
 use crate::grid::ValueList;
-use crate::numbers::{grid_amount, item_range};
+use crate::numbers::{grid_amount, item_range, number};
 use dl_ast::{ListAst, ListItem};
 use dl_frac::Frac;
 use dl_lexer::Span;
@@ -22,7 +23,7 @@ use dl_plan::Items;
 use dl_severity::{ExpandFault, Range, expand};
 use std::alloc::{AllocError, Global};
 
-/// The values of a list; none where it has a flaw.
+/// The values of a list; of no use where it has a flaw.
 pub(crate) fn value_list(
     alloc: Global,
     list: &ListAst,
@@ -42,7 +43,7 @@ pub(crate) fn value_list(
     })
 }
 
-/// The values of a list, each with the place of its item; none where the list has a flaw.
+/// The values of a list, each with the place of its item; of no use where the list has a flaw.
 pub(crate) fn spanned_values(
     alloc: Global,
     list: &ListAst,
@@ -57,6 +58,9 @@ pub(crate) fn spanned_values(
     let items = list.items.as_slice();
     if items.len() > bounds.values {
         return Ok(long_list(alloc, list, bounds, item_flaws(items)));
+    }
+    if are_single(items) {
+        return first_numbers(alloc, items);
     }
     let ranges = item_ranges(alloc, items)?;
     if ranges.flaws.numeral.is_some() || ranges.flaws.range.is_some() {
@@ -103,6 +107,34 @@ pub(crate) fn item_flaws(items: &[ListItem]) -> Flaws
         flaws = flaws.or(item_range(item).flaws);
     }
     flaws
+}
+
+/// Whether no item is a range; no numeral is read.
+pub(crate) fn are_single(items: &[ListItem]) -> bool
+    ensures { result ≡ list_all (λ item. is_none item.to) items.now }
+{
+    items.iter().all(|item| item.to.as_ref().is_none())
+}
+
+/// The first number of each item, with the place of the item.
+fn first_numbers(
+    alloc: Global,
+    items: &[ListItem],
+) -> Result<Gridded<Items<(Frac, Span)>>, AllocError>
+    requires { All IsFormedItem items.now }
+    ensures read { IfOk result (IsReadTo 1 (flaws_in (λ item. flaws_of_numeral item.from) items.now)
+        (map (λ item. (value item.from, item.span)) items.now)) }
+    ensures modest { IfOk result (λ made. All (λ pair. HasPartsOf18Digits pair.0) made.part) }
+{
+    let mut made = Vec::with_capacity(alloc, items.len())?;
+    let mut flaws = Flaws::none();
+    'items: for item in items {
+        let one = number(&item.from);
+        made.push((one.part, item.span))?;
+        flaws = flaws.or(one.flaws);
+    }
+    let part = Items::from_vec(made);
+    Ok(Gridded { part, flaws })
 }
 
 /// The ranges of items, each with the place of its item.

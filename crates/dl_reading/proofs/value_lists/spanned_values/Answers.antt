@@ -1,11 +1,19 @@
 -- The ranges are good where none has a flaw.
-use Rattle.dl_reading.proofs.Common.{◌∙◌, sym, All-nil, Fraction, Span, HasPartsOf18Digits}
+use Rattle.dl_reading.proofs.Common.{◌∙◌, sym, if_ok, All-nil, Fraction, Span, HasPartsOf18Digits}
+use Rattle.dl_reading.proofs.Single.{single_read}
 use Rattle.dl_reading.proofs.Spanned.{all_ranges, few_read, many, none_is, values_are, values_modest}
 use Rattle.dl_reading.proofs.value_lists.spanned_values.Goals as goal
 
 pub long_list-requires-clause-long : goal.long_list-requires-clause-long
 long_list-requires-clause-long c =
     many c.args.bounds c.args.list.now (rw c.as_slice-items.ensures at c.if-items-bounds.true)
+
+pub returns-then-are_single-clause-read : goal.returns-then-are_single-clause-read
+returns-then-are_single-clause-read c =
+    if_ok c.first_numbers.result _ _ (λ made read. single_read c.args.bounds c.args.list.now c.requires.formed
+    (rw c.as_slice-items.ensures at (sym c.are_single.ensures ∙ c.if-are_single.true))
+    (rw c.as_slice-items.ensures at c.if-items-bounds.false) (rw c.as_slice-items.ensures at read))
+    c.first_numbers.ensures.read
 
 pub values_of_ranges-requires-clause-ranges : goal.values_of_ranges-requires-clause-ranges
 values_of_ranges-requires-clause-ranges c = rw c.as_slice.ensures (all_ranges c.args.list.now c.requires.formed c.in_ok-ranges.ranges
