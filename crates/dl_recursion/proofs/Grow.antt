@@ -1,7 +1,9 @@
 -- One more cell.
 use Rattle.dl_recursion.proofs.Common.{◌≡◌, ℕ, suc, zero, ◌+◌, ◌-◌, ◌*◌, ◌/◌, ◌^◌, ◌<◌, ◌≤◌, List, [], ◌∷◌, ◌++◌, length, get_or, arith, ◌∙◌, mul-pos, div-mul-le_self, sum_by, All, zero-lt-suc, length-append, Fraction, ◌*ℚ◌, ◌≤ℚ◌, whole, times_one, le_of_eq, Part, contribution, FollowsInWhole, EncloseScaled, AreScaledCells, AreInScale, most_cells, refl, ap, inr, Run, get_or-append, get_or_push}
 use Rattle.dl_recursion.specs.declared.cells.ScaledCells.{ScaledCells}
-use Rattle.dl_recursion.specs.Recursion.{IsBegun}
+use Rattle.dl_recursion.specs.declared.parts.Amounts.{Amounts}
+use Rattle.dl_recursion.specs.Recursion.{AreFirst, HasCellsAs, IsBegun, IsGrown}
+use Rattle.dl_recursion.specs.Runs.{all_parts}
 use Rattle.dl_start.proofs.Rounding.{ceil_reaches}
 use Rattle.dl_recursion.proofs.Pairs.{contribution_pairs}
 use Rattle.dl_recursion.proofs.Steps.{low_step, high_step}
@@ -58,6 +60,14 @@ module _ (parts : List Part) (a b q : ℕ) (r : ℕ → Fraction) (amounts : All
       (rw (← p, ← contribution_pairs a b m high parts amounts, ← s) (ceil_reaches sum d dp))
       (λ k l. R.high_end k (omega (arith, l)))
 
+-- the cells before the last
+pub kept_pushed : (x y : ScaledCells) (lo hi : ℕ) → length x.high.items ≡ length x.low.items
+    → y.low.items ≡ x.low.items ++ lo ∷ [] → y.high.items ≡ x.high.items ++ hi ∷ [] → HasCellsAs x y
+kept_pushed x y lo hi alike p q = record {
+  low = λ k l. ap (λ t. get_or t k 0) p ∙ get_or-append x.low.items (lo ∷ []) 0 k l;
+  high = λ k l. ap (λ t. get_or t k 0) q ∙ get_or-append x.high.items (hi ∷ []) 0 k (omega (arith, l, alike));
+}
+
 -- cell 0 alone
 pub begun : (r : ℕ → Fraction) → r 0 ≡ whole 1 → EncloseScaled r 0 1 (2305843009213693952 ∷ []) (2305843009213693952 ∷ [])
 begun r h = grind (arith, times_one, le_of_eq)
@@ -79,6 +89,25 @@ begun_in_scale runs x h = record {
   some = rw h.low (omega arith);
   windows = λ k run d l. absurd (omega (arith, rw h.windows at l));
   all_or_none = inr (ap length h.windows);
+}
+
+-- the first cells, and one more
+pub begun_first : (parts : List Part) (a b q : ℕ) (x : ScaledCells) → IsBegun x → AreFirst parts a b q (length x.low.items) x
+begun_first parts a b q x e = record {
+  cells = refl;
+  shift = rw e.shift (omega arith);
+  sound = (begun_in_scale [] x e).sound;
+  round = λ r F. rw (e.low, e.high, e.shift) (begun r F.start);
+}
+
+pub grown_first : (amounts : Amounts) (a b q : ℕ) (x y : ScaledCells) → IsGrown amounts a b q x y
+    → AreFirst (all_parts amounts) a b q (length x.low.items) x
+    → AreFirst (all_parts amounts) a b q (length y.low.items) y
+grown_first amounts a b q x y g f = record {
+  cells = refl;
+  shift = omega (arith, g.shift, g.cells, f.shift);
+  sound = g.in_scale.sound;
+  round = λ r F. g.round r F (f.round r F);
 }
 
 -- the shift of the cells before the last leaves room for one more

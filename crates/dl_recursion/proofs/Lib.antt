@@ -3,6 +3,7 @@ pub mod Contributions
 pub mod Runs
 pub mod Windows
 pub mod Pairs
+pub mod BlockSums
 pub mod Steps
 pub mod Grow
 pub mod Falling

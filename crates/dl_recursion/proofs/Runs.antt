@@ -80,6 +80,11 @@ pub all_left : (P : Part → Type 0) (xs ys : List Part) → All P (xs ++ ys) �
 all_left P xs ys h k d l =
     rw (← get_or-append xs ys d k l) (h k d (simp length-append (omega (arith, l))))
 
+-- the weights of the amounts taken one by one are among all
+pub alone_le : (amounts : Amounts) → part_sum amounts.parts.items ≤ part_sum (all_parts amounts)
+alone_le amounts =
+    omega (arith, sum_by-append (λ (p : Part). p.weight) amounts.parts.items (flat_map run_parts amounts.runs.items))
+
 pub run_le : (runs : List Run) (i : ℕ) (d : Run) → i < length runs
     → part_sum (run_parts (get_or runs i d)) ≤ part_sum (flat_map run_parts runs)
 run_le runs i d h = omega (arith, runs_more_le (λ (p : Part). p.weight) runs i d h)

@@ -1,5 +1,6 @@
 pub mod Runs
 pub mod Recursion
+pub mod Blocks
 pub mod ToGrid
 pub mod Geometric
 pub mod Passes

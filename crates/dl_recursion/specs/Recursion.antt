@@ -101,7 +101,12 @@ pub record HasCellsOf (x y : ScaledCells) : Type 0 where
   pub first : y.first ≡ x.first
   pub shift : y.shift ≡ x.shift
 
--- what the amounts give to the cell after those of x; y is x with the windows of all runs there
+-- what these amounts give to the cell after those of x
+pub record AreGiven (parts : List Part) (before after : ℕ) (x : ScaledCells) (ends : Ends) : Type 0 where
+  pub low : ends.low ≡ sum_by (contribution before after x.low.items (length x.low.items)) parts
+  pub high : ends.high ≡ sum_by (contribution before after x.high.items (length x.low.items)) parts
+
+-- what all amounts give to the cell after those of x; y is x with the windows of all runs there
 pub record AreContributions (amounts : Amounts) (before after : ℕ) (x y : ScaledCells) (ends : Ends)
     : Type 0 where
   pub low : ends.low
@@ -114,11 +119,18 @@ pub record AreContributions (amounts : Amounts) (before after : ℕ) (x y : Scal
   pub each_run : length y.windows.items ≡ length amounts.runs.items
   pub same : HasCellsOf x y
 
+-- y has the cells of x, and maybe more
+pub record HasCellsAs (x y : ScaledCells) : Type 0 where
+  pub low : (k : ℕ) → k < length x.low.items → slice_index y.low.items k ≡ slice_index x.low.items k
+  pub high : (k : ℕ) → k < length x.low.items
+      → slice_index y.high.items k ≡ slice_index x.high.items k
+
 -- y has one cell more than x, the next one of the recursion
 pub record IsGrown (amounts : Amounts) (before after q : ℕ) (x y : ScaledCells) : Type 0 where
   pub in_scale : AreInScale amounts.runs.items y
   pub cells : length y.low.items ≡ length x.low.items + 1
   pub shift : y.shift ≤ x.shift + 64
+  pub kept : y.shift ≡ x.shift → HasCellsAs x y
   pub round : (r : ℕ → Fraction) → FollowsInWhole (all_parts amounts) before after q r
       → EncloseScaled r x.shift (length x.low.items) x.low.items x.high.items
       → EncloseScaled r y.shift (length y.low.items) y.low.items y.high.items

@@ -10,6 +10,7 @@ ghost use Rattle.dl_recursion.specs.Runs.{run_parts, all_parts, part_sum, IsRun,
 ghost use Rattle.dl_recursion.specs.Recursion.{HasRoomOver, AreFirst};
 ghost use Rattle.dl_start.specs.Start.{HoldsNoClaim};
 
+use crate::blocks::{MANY, by_blocks};
 use crate::cells::{START_BITS, ScaledCells};
 use crate::parts::{Amounts, Run, amounts_of, common_amount};
 use crate::passes::{MOST_PASSES, by_passes};
@@ -63,7 +64,7 @@ fn only_run(amounts: &Amounts) -> Option<Run>
 }
 
 /// The first `cells` cells: by passes where the count has a whole shape and the amounts are one
-/// run, and one by one else.
+/// run, by blocks where it is a Poisson count and many amounts are taken alone, and one by one else.
 fn first_cells(
     alloc: Global,
     amounts: &Amounts,
@@ -84,6 +85,11 @@ fn first_cells(
             if let Some(x) = by_passes(alloc, run, after, q, cells)? {
                 return Ok(x);
             }
+        }
+    }
+    if before == 0 && amounts.parts.len() >= MANY {
+        if let Some(x) = by_blocks(alloc, amounts, after, q, cells)? {
+            return Ok(x);
         }
     }
     recur(alloc, amounts, before, after, q, cells)

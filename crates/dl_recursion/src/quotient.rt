@@ -14,6 +14,17 @@ pub struct Inverse {
     pub up: u32,
 }
 
+impl Inverse {
+    /// A guess that is none yet.
+    pub(crate) fn none() -> Self {
+        Inverse {
+            about: 0,
+            before: 0,
+            up: 0,
+        }
+    }
+}
+
 /// 2^127.
 const WHOLE: u128 = 1 << 127;
 

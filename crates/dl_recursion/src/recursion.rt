@@ -1,17 +1,17 @@
 //! The recursion: cells that share one exponent and are scaled down together.
 
-ghost use Rattle.std.specs.Prelude.{◌≡◌, ℕ, ◌+◌, ◌-◌, ◌*◌, ◌/◌, ◌^◌, ◌<◌, ◌≤◌, ◌⊎◌, List, [], ◌∷◌, length, slice_index, All, IfOk};
+ghost use Rattle.std.specs.Prelude.{◌≡◌, ℕ, ◌+◌, ◌-◌, ◌*◌, ◌/◌, ◌^◌, ◌<◌, ◌≤◌, ◌⊎◌, List, [], ◌∷◌, length, slice_index, IfOk};
 ghost use Rattle.dl_limits.specs.Limits.{most_cells, most_end, most_given, start_bits};
 ghost use Rattle.dl_exact.specs.Fraction.{Fraction, whole, ◌*ℚ◌, ◌≤ℚ◌};
 ghost use Rattle.dl_recursion.specs.declared.parts.Run.{Run};
 ghost use Rattle.dl_recursion.specs.Runs.{all_parts, part_sum, ArePositiveAmounts};
-ghost use Rattle.dl_recursion.specs.Recursion.{HasRoomOver, AreWindows, EncloseScaled, AreScaledCells, AreInScale, IsShifted, IsBegun, IsGrown, AreFirst};
+ghost use Rattle.dl_recursion.specs.Recursion.{HasRoomOver, AreWindows, EncloseScaled, AreScaledCells, AreInScale, IsShifted, IsBegun, HasCellsOf, AreGiven, IsGrown, AreFirst};
 
 use crate::cells::{Ends, ScaledCells};
 use crate::parts::Amounts;
 use crate::quotient::{Inverse, inverse_of, quotient};
-use crate::rest::{fill, greatest_from, is_falling, reach_of};
-use crate::sums::contributions;
+use crate::rest::{fill_rest, reach_of};
+use crate::sums::{alone, contributions};
 use dl_limits::{FIRST_END, MOST_END};
 use std::alloc::{AllocError, Global};
 
@@ -94,6 +94,7 @@ fn shift_down(x: &mut ScaledCells, next: Ends) -> Ends
         → whole (result.low * 2 ^ x.new.shift) ≤ℚ y }
     ensures high { (y : Fraction) → y ≤ℚ whole (next.high * 2 ^ x.old.shift)
         → y ≤ℚ whole (result.high * 2 ^ x.new.shift) }
+    ensures kept { x.new.shift ≡ x.old.shift → HasCellsOf x.old x.new }
     ensures windows { (runs : List Run) (s : ℕ)
         → AreWindows runs x.old.low.items x.old.high.items s x.old.windows.items
         → AreWindows runs x.new.low.items x.new.high.items s x.new.windows.items }
@@ -136,12 +137,12 @@ fn divided(sums: Ends, d: u64, inverse: Inverse) -> Ends
 }
 
 /// Adds the next cell. The inverse is a guess for the divisor of the last one, and then of this
-/// one; no amount taken alone is above `reach`.
-fn grow(
+/// one; `alone` is what the amounts that are taken one by one give to it.
+pub(crate) fn grow(
     x: &mut ScaledCells,
     inverse: &mut Inverse,
     amounts: &Amounts,
-    reach: usize,
+    alone: Ends,
     before: u64,
     after: u64,
     q: u64,
@@ -149,7 +150,7 @@ fn grow(
     requires in_scale { AreInScale amounts.now.runs.items x.old }
     requires shift { x.old.shift + 64 < 2 ^ 64 }
     requires amounts { ArePositiveAmounts amounts.now }
-    requires reach { All (λ p. p.amount ≤ reach) amounts.now.parts.items }
+    requires alone { AreGiven amounts.now.parts.items before after x.old alone }
     requires room { HasRoomOver q before after (part_sum (all_parts amounts.now))
         (length x.old.low.items) }
     ensures { IfOk result (λ u. IsGrown amounts.now before after q x.old x.new) }
@@ -157,7 +158,7 @@ fn grow(
     let n = x.low.len();
     let d = q * (n as u64);
     *inverse = inverse_of(d, n, *inverse);
-    let sums = contributions(x, amounts, reach, before, after)?;
+    let sums = contributions(x, amounts, alone, before, after)?;
     let ends = shift_down(x, divided(sums, d, *inverse));
     x.low.push(ends.low as u64)?;
     x.high.push(ends.high as u64)?;
@@ -174,7 +175,11 @@ fn first_end(alloc: Global, cells: usize) -> Result<Vec<u64>, AllocError>
 }
 
 /// Cell 0. It takes memory once: for each end of `cells` cells, and for the windows of the runs.
-fn begin(alloc: Global, amounts: &Amounts, cells: usize) -> Result<ScaledCells, AllocError>
+pub(crate) fn begin(
+    alloc: Global,
+    amounts: &Amounts,
+    cells: usize,
+) -> Result<ScaledCells, AllocError>
     ensures { IfOk result IsBegun }
 {
     let low = first_end(alloc, cells)?;
@@ -207,28 +212,16 @@ pub(crate) fn recur(
     ensures { IfOk result (AreFirst (all_parts amounts.now) before after q cells) }
 {
     let mut x = begin(alloc, amounts, cells)?;
-    let mut inverse = Inverse {
-        about: 0,
-        before: 0,
-        up: 0,
-    };
+    let mut inverse = Inverse::none();
     let reach = reach_of(amounts);
     let mut last = 0;
     'cells: for n in 1..cells {
-        if n.saturating_sub(last) > reach.amount && is_falling(reach, before, after, q, n) {
-            let high = greatest_from(x.high.as_slice(), n - reach.amount);
-            fill(&mut x, high, cells)?;
+        if fill_rest(&mut x, reach, last, before, after, q, cells)? {
             return Ok(x);
         }
-        grow(
-            &mut x,
-            &mut inverse,
-            amounts,
-            reach.amount,
-            before,
-            after,
-            q,
-        )?;
+        let (low, high) = (x.low.as_slice(), x.high.as_slice());
+        let alone = alone(&amounts.parts, reach.amount, before, after, low, high);
+        grow(&mut x, &mut inverse, amounts, alone, before, after, q)?;
         if x.low[n] > 0 {
             last = n;
         }

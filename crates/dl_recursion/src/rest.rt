@@ -3,12 +3,12 @@
 //! and `weight` the sum of the weights, no cell from `n` on is above the greatest of the `top`
 //! cells before it: all of them get that one high end, and the low end 0.
 
-ghost use Rattle.std.specs.Prelude.{◌≡◌, ℕ, ◌+◌, ◌-◌, ◌*◌, ◌^◌, ◌<◌, ◌≤◌, List, length, slice_index, flat_map, All, IfOk, IsTrue};
+ghost use Rattle.std.specs.Prelude.{◌≡◌, ℕ, ◌+◌, ◌-◌, ◌*◌, ◌^◌, ◌<◌, ◌≤◌, false, List, length, slice_index, flat_map, All, IfOk, IsTrue};
 ghost use Rattle.dl_limits.specs.Limits.{most_end};
 ghost use Rattle.dl_exact.specs.Fraction.{Fraction};
 ghost use Rattle.dl_recursion.specs.declared.parts.Part.{Part};
 ghost use Rattle.dl_recursion.specs.Runs.{run_parts, all_parts, part_sum, IsRun, ArePositiveAmounts};
-ghost use Rattle.dl_recursion.specs.Recursion.{HasRoomOver, AreScaledCells, AreFalling, AreLast, FollowsInWhole, EncloseScaled};
+ghost use Rattle.dl_recursion.specs.Recursion.{HasRoomOver, AreScaledCells, AreFalling, AreLast, FollowsInWhole, EncloseScaled, AreFirst};
 
 use crate::cells::ScaledCells;
 use crate::parts::{Amounts, Part, Run};
@@ -73,7 +73,7 @@ pub(crate) fn reach_of(amounts: &Amounts) -> Reach
 /// Whether no amount is above `n`, and
 /// `(before * n + max(after - before, 0) * top) * weight <= q * n` with the greatest amount `top`
 /// and the sum `weight` of the weights; then that holds for each later cell, too.
-pub(crate) fn is_falling(reach: Reach, before: u64, after: u64, q: u64, n: usize) -> bool
+fn is_falling(reach: Reach, before: u64, after: u64, q: u64, n: usize) -> bool
     requires room { HasRoomOver q before after reach.weight n }
     ensures within { IsTrue result → reach.amount ≤ n }
     ensures falling { IsTrue result
@@ -101,7 +101,7 @@ pub(crate) fn greatest_from(ends: &[u64], from: usize) -> u64
 }
 
 /// Adds cells with the low end 0 and this high end, until there are `cells`.
-pub(crate) fn fill(x: &mut ScaledCells, high: u64, cells: usize) -> Result<(), AllocError>
+fn fill(x: &mut ScaledCells, high: u64, cells: usize) -> Result<(), AllocError>
     requires sound { AreScaledCells x.old.low.items x.old.high.items x.old.first }
     requires some { 0 < length x.old.low.items }
     requires few { length x.old.low.items ≤ cells }
@@ -122,4 +122,35 @@ pub(crate) fn fill(x: &mut ScaledCells, high: u64, cells: usize) -> Result<(), A
         x.high.push(high)?;
     }
     Ok(())
+}
+
+/// Whether the rest of the cells is added with one high end: where no low end after cell `last` is
+/// above 0 and no later cell can be above the high ends before it. Else the cells stay as they are.
+pub(crate) fn fill_rest(
+    x: &mut ScaledCells,
+    reach: Reach,
+    last: usize,
+    before: u64,
+    after: u64,
+    q: u64,
+    cells: usize,
+) -> Result<bool, AllocError>
+    requires sound { AreScaledCells x.old.low.items x.old.high.items x.old.first }
+    requires some { 0 < length x.old.low.items }
+    requires few { length x.old.low.items ≤ cells }
+    requires room { HasRoomOver q before after reach.weight (length x.old.low.items) }
+    ensures kept { IfOk result (λ filled. filled ≡ false → x.new ≡ x.old) }
+    ensures first { IfOk result (λ filled. IsTrue filled → (parts : List Part)
+        → All (λ p. 0 < p.amount) parts → All (λ p. p.amount ≤ reach.amount) parts
+        → reach.weight ≡ part_sum parts
+        → AreFirst parts before after q (length x.old.low.items) x.old
+        → AreFirst parts before after q cells x.new) }
+{
+    let n = x.low.len();
+    if n.saturating_sub(last) <= reach.amount || !is_falling(reach, before, after, q, n) {
+        return Ok(false);
+    }
+    let high = greatest_from(x.high.as_slice(), n - reach.amount);
+    fill(x, high, cells)?;
+    Ok(true)
 }

@@ -5,7 +5,7 @@
 ghost use Rattle.std.specs.Prelude.{◌≡◌, ℕ, ◌+◌, ◌-◌, ◌*◌, ◌/◌, ◌^◌, ◌<◌, ◌≤◌, ◌⊎◌, length, slice_index, sum_by, flat_map, not, nat_le, max, All, IfOk, IsTrue};
 ghost use Rattle.dl_limits.specs.Limits.{most_end};
 ghost use Rattle.dl_recursion.specs.Runs.{run_parts, all_parts, part_sum, IsRun, ArePositiveAmounts};
-ghost use Rattle.dl_recursion.specs.Recursion.{cell_before, contribution, HasRoom, AreEnds, IsWindow, AreWindows, AreInScale, HasCellsOf, AreContributions};
+ghost use Rattle.dl_recursion.specs.Recursion.{cell_before, contribution, HasRoom, AreEnds, IsWindow, AreWindows, AreInScale, HasCellsOf, AreGiven, AreContributions};
 
 use crate::cells::{Ends, ScaledCells, Window, Windows};
 use crate::parts::{Amounts, Part, Run};
@@ -84,7 +84,14 @@ fn parts_contribution<const NEAR: bool>(
 }
 
 /// What amounts taken one by one give. None is above `reach`.
-fn alone(parts: &[Part], reach: usize, before: u64, after: u64, low: &[u64], high: &[u64]) -> Ends
+pub(crate) fn alone(
+    parts: &[Part],
+    reach: usize,
+    before: u64,
+    after: u64,
+    low: &[u64],
+    high: &[u64],
+) -> Ends
     requires ends { AreEnds most_end low.now high.now }
     requires room { HasRoom before after (part_sum parts.now) (length low.now) }
     requires amounts { All (λ p. 0 < p.amount) parts.now }
@@ -267,12 +274,12 @@ fn together(x: &mut ScaledCells, runs: &[Run], before: u64, after: u64) -> Resul
     Ok(runs_contribution(x.windows.as_mut_slice(), runs, before, after, low, high))
 }
 
-/// The sum of what each amount adds to the next cell, by its low and its high ends. No amount taken
-/// alone is above `reach`.
+/// The sum of what each amount adds to the next cell, by its low and its high ends; `alone` is what
+/// those give that are taken one by one.
 pub(crate) fn contributions(
     x: &mut ScaledCells,
     amounts: &Amounts,
-    reach: usize,
+    alone: Ends,
     before: u64,
     after: u64,
 ) -> Result<Ends, AllocError>
@@ -280,17 +287,9 @@ pub(crate) fn contributions(
     requires room { HasRoom before after (part_sum (all_parts amounts.now))
         (length x.old.low.items) }
     requires amounts { ArePositiveAmounts amounts.now }
-    requires reach { All (λ p. p.amount ≤ reach) amounts.now.parts.items }
+    requires alone { AreGiven amounts.now.parts.items before after x.old alone }
     ensures { IfOk result (AreContributions amounts.now before after x.old x.new) }
 {
-    let alone = alone(
-        &amounts.parts,
-        reach,
-        before,
-        after,
-        x.low.as_slice(),
-        x.high.as_slice(),
-    );
     if amounts.runs.is_empty() {
         return Ok(alone);
     }

@@ -1,5 +1,5 @@
-use Rattle.dl_recursion.proofs.Common.{◌≡◌, suc, ◌<◌, mul-pos, ◌-◌, ◌*◌, ◌^◌, length, ◌∷◌, [], ◌++◌, arith, ap, ◌≤◌, ◌∙◌, length-append, sum_by, whole, ◌*ℚ◌, ◌≤ℚ◌, all_parts, contribution, AreWindows, EncloseScaled, inl, inr}
-use Rattle.dl_recursion.proofs.Grow.{cells_pushed, pushed, next_low, next_high}
+use Rattle.dl_recursion.proofs.Common.{◌≡◌, suc, ◌<◌, mul-pos, ◌-◌, ◌*◌, ◌^◌, length, ◌∷◌, [], ◌++◌, arith, ap, ◌≤◌, ◌∙◌, length-append, sum_by, whole, ◌*ℚ◌, ◌≤ℚ◌, all_parts, contribution, AreWindows, EncloseScaled, inl, inr, sym}
+use Rattle.dl_recursion.proofs.Grow.{cells_pushed, kept_pushed, pushed, next_low, next_high}
 use Rattle.dl_start.proofs.Rounding.{ceil_small}
 use Rattle.dl_recursion.proofs.Runs.{all_positive}
 use Rattle.dl_recursion.proofs.Windows.{windows_grown}
@@ -75,6 +75,12 @@ returns c =
       };
       cells = rw low_pushed (omega (arith, len, e));
       shift = omega (arith, shift_down.shift, told.same.shift);
+      kept = λ same.
+          let cells = shift_down.kept (same ∙ sym told.same.shift) in
+          let low : y.low.items ≡ x.low.items = ap (λ v. v.items) (cells.low ∙ told.same.low) in
+          let high : y.high.items ≡ x.high.items = ap (λ v. v.items) (cells.high ∙ told.same.high) in
+          kept_pushed x _ lo hi c.requires.in_scale.sound.alike (low_pushed ∙ ap (λ t. t ++ lo ∷ []) low)
+          (high_pushed ∙ ap (λ t. t ++ hi ∷ []) high);
       round = λ r F R.
           let Q : EncloseScaled r x.shift (suc m) x.low.items x.high.items =
           rw (← e) R in

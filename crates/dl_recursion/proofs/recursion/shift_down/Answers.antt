@@ -22,6 +22,8 @@ loop-k-preserved c =
             windows = λ runs s h. rw told.windows (no_windows runs _ _ s);
             all_or_none = rw told.windows (inr refl);
             cells = e.cells ∙ i.cells;
+            rises = omega (arith, i.rises);
+            kept = λ same. absurd (omega (arith, same, i.rises));
             shift = omega (arith, i.shift);
             top = shift_down_top c.loop-k.high k c.loop-k-test.true i.top;
             round = λ r n h. shifted r x.shift n x.low.items x.high.items _ _ e.low e.high (i.round r n h);
@@ -34,6 +36,8 @@ loop-k-preserved c =
             windows = i.windows;
             all_or_none = i.all_or_none;
             cells = i.cells;
+            rises = i.rises;
+            kept = i.kept;
             shift = omega (arith, i.shift);
             top = omega (arith, two_le 62 (126 - 8 * (k + 1)) (omega (arith, c.loop-k-test.true)));
             round = i.round;
@@ -51,3 +55,9 @@ pub returns-then-next-le-MOST_END-clause-low : goal.returns-then-next-le-MOST_EN
 returns-then-next-le-MOST_END-clause-low c y h =
     let least : c.min.result ≤ c.args.next.low = omega (arith, c.min.ensures) in
     le_trans _ _ _ (whole_le _ _ (mul-le-mul_right (2 ^ c.args.x.now.shift) least)) h
+
+pub returns-then-low-high-clause-kept : goal.returns-then-low-high-clause-kept
+returns-then-low-high-clause-kept c = c.loop-k.invariant.kept
+
+pub returns-else-low-high-clause-kept : goal.returns-else-low-high-clause-kept
+returns-else-low-high-clause-kept c = c.loop-k.invariant.kept

@@ -1,4 +1,5 @@
 use Rattle.dl_recursion.proofs.Common.{◌≡◌, ℕ, ◌+◌, ◌*◌, ◌-◌, ◌^◌, ◌≤◌, ◌⊎◌, List, length, Fraction, whole, ◌≤ℚ◌, Run, AreWindows, AreScaledCells, EncloseScaled}
+use Rattle.dl_recursion.specs.Recursion.{HasCellsOf}
 use Rattle.dl_recursion.proofs.recursion.shift_down.Given as goal
 
 abbrev pub invariant-loop-k : goal.invariant-loop-k
@@ -9,6 +10,8 @@ invariant-loop-k l = record {
       → AreWindows runs l.x.low.items l.x.high.items s l.x.windows.items;
   all_or_none : (length l.x.windows.items ≡ length l.initial.x.windows.items) ⊎ (length l.x.windows.items ≡ 0);
   cells : length l.x.low.items ≡ length l.initial.x.low.items;
+  rises : l.initial.x.shift ≤ l.x.shift;
+  kept : l.x.shift ≡ l.initial.x.shift → HasCellsOf l.initial.x l.x;
   shift : l.x.shift ≤ l.initial.x.shift + 8 * l.k;
   top : l.high ≤ 2 ^ (126 - 8 * l.k);
   round : (r : ℕ → Fraction) (n : ℕ) → EncloseScaled r l.initial.x.shift n l.initial.x.low.items l.initial.x.high.items

@@ -23,21 +23,17 @@ both : (amounts : Amounts)
     → part_sum (all_parts amounts) ≡ part_sum amounts.parts.items + part_sum (flat_map run_parts amounts.runs.items)
 both amounts = sum_by-append (λ (p : Part). p.weight) amounts.parts.items (flat_map run_parts amounts.runs.items)
 
-pub alone-alone-requires-clause-room : goal.alone-alone-requires-clause-room
-alone-alone-requires-clause-room c =
-    rw (c.as_slice.ensures.value, c.deref.ensures.value) (room_part c.requires.room (omega (arith, both c.args.amounts.now)))
-
 pub together-requires-clause-room : goal.together-requires-clause-room
 together-requires-clause-room c =
-    rw c.deref-2.ensures.value (room_part c.requires.room (omega (arith, both c.args.amounts.now)))
+    rw c.deref.ensures.value (room_part c.requires.room (omega (arith, both c.args.amounts.now)))
 
 pub overflow_add-result : goal.overflow_add-result
 overflow_add-result c =
     let x = c.args.x.now in
     omega (
       arith,
-      rw (c.as_slice.ensures.value, c.deref.ensures.value) at c.alone-alone.ensures.low,
-      rw c.deref-2.ensures.value at c.in_ok-together.ensures.low,
+      c.requires.alone.low,
+      rw c.deref.ensures.value at c.in_ok-together.ensures.low,
       top c.args.before c.args.after (length x.low.items) x.low.items c.args.amounts.now c.requires.in_scale.sound.low_small c.requires.room,
     )
 
@@ -46,21 +42,21 @@ overflow_add-result-2 c =
     let x = c.args.x.now in
     omega (
       arith,
-      rw (c.as_slice.ensures.value, c.as_slice-2.ensures.value, c.deref.ensures.value) at c.alone-alone.ensures.high,
-      rw c.deref-2.ensures.value at c.in_ok-together.ensures.high,
+      c.requires.alone.high,
+      rw c.deref.ensures.value at c.in_ok-together.ensures.high,
       top c.args.before c.args.after (length x.low.items) x.high.items c.args.amounts.now c.requires.in_scale.sound.high_small c.requires.room,
     )
 
 pub together-requires-clause-in_scale : goal.together-requires-clause-in_scale
-together-requires-clause-in_scale c = rw c.deref-2.ensures.value c.requires.in_scale
+together-requires-clause-in_scale c = rw c.deref.ensures.value c.requires.in_scale
 
 pub returns-then-is_empty : goal.returns-then-is_empty
 returns-then-is_empty c =
     let x = c.args.x.now in
     let amounts = c.args.amounts.now in
     let none : length amounts.runs.items ≡ 0 = grind (arith, nat_tests) in
-    let low = rw (c.as_slice.ensures.value, c.deref.ensures.value) at c.alone-alone.ensures.low in
-    let high = rw (c.as_slice.ensures.value, c.as_slice-2.ensures.value, c.deref.ensures.value) at c.alone-alone.ensures.high in
+    let low = c.requires.alone.low in
+    let high = c.requires.alone.high in
     let each : length x.windows.items ≡ length amounts.runs.items = elim c.requires.in_scale.all_or_none [
       | inl e ↦ e
       | inr e ↦ omega (arith, e, none)
@@ -86,10 +82,10 @@ returns c =
     let b = c.args.after in
     let s = length x.low.items in
     let e = c.in_ok-together.ensures in
-    let low = rw (c.as_slice.ensures.value, c.deref.ensures.value) at c.alone-alone.ensures.low in
-    let high = rw (c.as_slice.ensures.value, c.as_slice-2.ensures.value, c.deref.ensures.value) at c.alone-alone.ensures.high in
-    let more_low = rw c.deref-2.ensures.value at e.low in
-    let more_high = rw c.deref-2.ensures.value at e.high in
+    let low = c.requires.alone.low in
+    let high = c.requires.alone.high in
+    let more_low = rw c.deref.ensures.value at e.low in
+    let more_high = rw c.deref.ensures.value at e.high in
     record {
       low = rw sum_by-append (omega (arith, low, more_low));
       high = rw sum_by-append (omega (arith, high, more_high));
@@ -99,7 +95,7 @@ returns c =
         more_high,
         top a b s x.high.items amounts c.requires.in_scale.sound.high_small c.requires.room,
       );
-      windows = rw c.deref-2.ensures.value at e.windows;
-      each_run = rw c.deref-2.ensures.value at e.each_run;
+      windows = rw c.deref.ensures.value at e.windows;
+      each_run = rw c.deref.ensures.value at e.each_run;
       same = e.same;
     }

@@ -1,4 +1,4 @@
-use Rattle.dl_recursion.proofs.Common.{◌≡◌, ◌∙◌, ℕ, ◌+◌, ◌-◌, ◌*◌, ◌^◌, ◌≤◌, ◌<◌, List, length, get_or, arith, ap, ap₂, sym, max, mul-le-mul_left, mul-le-mul_right, sum_by, contribution, part_sum, run_parts, HasRoom, IsRun, IsWindow, Run, Window}
+use Rattle.dl_recursion.proofs.Common.{◌≡◌, ◌∙◌, ℕ, ◌+◌, ◌-◌, ◌*◌, ◌^◌, ◌≤◌, ◌<◌, List, length, get_or, arith, ap, ap₂, sym, max, mul-le-mul_left, mul-le-mul_right, sum_by, contribution, part_sum, run_parts, IsWindow, Run, Window}
 use Rattle.dl_recursion.proofs.Contributions.{factor_le}
 use Rattle.dl_recursion.proofs.Runs.{run_rises, run_falls, run_above, weight_room, first_le, contributions_top}
 use Rattle.dl_recursion.proofs.sums.run_contribution.Goals as goal
