@@ -11,12 +11,6 @@ names_inside units ask = inside (facts_of ask).unit
     inside None = (λ h. h, λ h. h)
     inside (Some name) = (λ h. h, λ h. h)
 
--- the number is that of a unit, where the ask names one
-pub named_inside : (units : List UnitOfPlan) (ask : Ask) {unit : Option ℕ} {i : ℕ} → unit ≡ named_unit units ask
-    → NamesUnit units ask → unit ≡ Some i → i < length units
-named_inside units ask same names is =
-    subst (λ u. IfSome u (λ n. n < length units)) (sym same ∙ is) ((names_inside units ask).1 names)
-
 -- the number that was read is that of the ask that was read
 pub named_here : (units : List UnitOfPlan) {slice asks : List Asked} {named : List (Option ℕ)} (i : ℕ) {asked : Asked}
     → slice ≡ asks → named ≡ named_units units asks → asked ≡ get_or slice i asked → i < length slice
@@ -78,12 +72,6 @@ pub ask_has : (P : Asked → Type 0) {all asks : List Asked} (i : ℕ) {a : Aske
     → i < length all → All P asks → P a
 ask_has P i {a = a} same is inside each = subst P (sym (is ∙ ap (λ t. get_or t i a) same))
     (each i a (omega (arith, inside, ap (λ t. length t) same)))
-
--- a layer inside the grid is one of the total that was made
-pub layer_inside : {B : ℕ} (cells : ℕ) (g : List (Iv B)) (limit : Option ℕ) (attach : ℕ)
-    → IsInside cells (LayerMean limit attach) → length g ≡ cells → edge_of limit attach ≤ length g
-layer_inside cells g None attach inside same = omega (arith, inside, same)
-layer_inside cells g (Some limit) attach inside same = omega (arith, inside, same)
 
 -- the ask that was read is one about the plan
 pub ask_of : (plan : Plan) {settings : Settings} {all : List Asked} (i : ℕ) {a : Asked} → all ≡ settings.asks

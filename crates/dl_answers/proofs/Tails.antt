@@ -57,11 +57,6 @@ last_reaches : {B : ℕ} (g : List (Iv B)) (p : Fraction) (n x : ℕ) → x + 1 
 last_reaches {B} g p n x last found = elim (lt_or_le (low_cdf (2 ^ B) (low_at g) x) p)
     [ inl below ↦ absurd (found ((none_reaches g p n x last).1 below)) | inr reached ↦ reached ]
 
--- a row with numbers is not past the grid
-pub not_past : {S lo hi d : ℕ} {row : Row} {Past : Type 0} → Prints S lo hi d row → ¬ Past → IsPastGrid row ↔ Past
-not_past printed none =
-    (λ past. let same = sym printed.is_low ∙ past.is_low in absurd cc, λ past. absurd (none past))
-
 -- the high end of a bracket is past the grid exactly where no low end reaches p
 pub bracket_past : {B : ℕ} (g : List (Iv B)) {p : Fraction} (hi : Option ℕ) {end : End} → end ≡ bracket_end hi
     → IsFirstFound (low_cdf (2 ^ B) (low_at g)) p (length g) hi → (end ≡ Beyond) ↔ IsPast g p

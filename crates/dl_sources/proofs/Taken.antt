@@ -39,13 +39,6 @@ left_out cells p xs i u grids inside is leaves each =
     (sym (filter_more p xs i u inside ∙ ap (λ b. filter p (take i xs) ++ cond b (get_or xs i u ∷ []) [])
     (ap p (sym is) ∙ leaves) ∙ append-nil (filter p (take i xs)))) each
 
--- all of them
-pub all_kept : {B : ℕ} (cells : ℕ) (p : UnitOfPlan → Bool) {slice units : List UnitOfPlan} (i : ℕ)
-    {grids : List (List (Iv B))} → slice ≡ units → length slice ≤ i → AreUnitGrids cells (filter p (take i slice)) grids
-    → AreUnitGrids cells (filter p units) grids
-all_kept cells p {slice = slice} i {grids = grids} same end each =
-    subst (λ us. AreUnitGrids cells (filter p us) grids) (take_all i slice end ∙ same) each
-
 -- the same of all units so far
 taken : (xs : List UnitOfPlan) (i : ℕ) (u : UnitOfPlan) → i < length xs → u ≡ get_or xs i u
     → take (i + 1) xs ≡ take i xs ++ u ∷ []

@@ -11,9 +11,7 @@ ghost use Rattle.dl_sources.specs.Pooled.{IsPooledFor};
 use crate::factor::{factor_drawn, pooled_mean, pooled_unit};
 use crate::halves::total_by_halves;
 use crate::outcomes::{Outcomes, outcomes_of_rest, unit_means, unit_outcomes, with_pooled};
-use crate::together::{
-    are_without_others, pooled_for, pooled_if_any, sources_from, sources_together,
-};
+use crate::together::{are_without_others, pooled_for, sources_from, sources_together};
 use crate::totals::{drawn_of_units, drawn_with, total_mean};
 use dl_budget::AllBudgets;
 use dl_iv::Iv;
@@ -62,9 +60,8 @@ fn drawn_by_halves<const B: u32>(
     ensures reached { IfOk result (λ made. IfSome made
         (ReachNamed plan.now budgets.now.of_units.items plan.now.cells)) }
 {
-    let pooled = pooled_if_any(alloc, plan)?;
     let mut means = Vec::new(alloc);
-    let total = total_by_halves(alloc, work, plan, &pooled, &mut means)?;
+    let total = total_by_halves(alloc, work, plan, &mut means)?;
     let Some(sources) = sources_from(alloc, work, plan, budgets, total)? else {
         return Ok(None);
     };

@@ -146,11 +146,11 @@ pub(crate) fn factor_drawn<const B: u32>(
     ensures drawn { IfOk result (AreDrawnOf plan.now) }
     ensures reached { IfOk result (ReachNamed plan.now budgets.now.of_units.items reach) }
 {
-    let pooled = pooled_unit::<B>(alloc, plan)?;
     let means = unit_means(alloc, work, plan)?;
-    let named = budgets.are_named();
-    let grids = factor_grids(alloc, work, plan, &pooled, named, reach)?;
     let origins = factor_origins(alloc, budgets)?;
+    let named = budgets.are_named();
+    let pooled = pooled_unit::<B>(alloc, plan)?;
+    let grids = factor_grids(alloc, work, plan, &pooled, named, reach)?;
     Ok(Drawn {
         grids,
         units: Vec::new(alloc),

@@ -12,6 +12,7 @@ ghost use Rattle.dl_sources.specs.Same.{AreAllAlike};
 ghost use Rattle.dl_sources.specs.Units.{AddMeans, AreMeansOf, IsSumOfUnits};
 
 use crate::same::are_all_alike;
+use crate::together::pooled_if_any;
 use crate::units::{mean_of, outcome_of, plain_grid};
 use dl_grid::Grid;
 use dl_iv::Iv;
@@ -119,7 +120,7 @@ fn pooled_grid<const B: u32>(
 /// The grid of the total of a plan of independent units, with this one unit, where it is there, in
 /// the place of all that can be pooled. It may be wider than the budget of the total. The means of
 /// all units are put into `means`.
-pub(crate) fn total_by_halves<const B: u32>(
+fn total_with_pooled<const B: u32>(
     alloc: Global,
     work: &mut Workspace,
     plan: &Plan,
@@ -143,4 +144,21 @@ pub(crate) fn total_by_halves<const B: u32>(
         Some(total) => Ok(total),
         None => unreachable!(),
     }
+}
+
+/// The same, with one unit in the place of all that can be pooled, where there is such a unit.
+pub(crate) fn total_by_halves<const B: u32>(
+    alloc: Global,
+    work: &mut Workspace,
+    plan: &Plan,
+    means: &mut Vec<Iv<B>>,
+) -> Result<Grid<B>, AllocError>
+    requires at { IsIndependentAt B plan.now }
+    requires none { means.old.items ≡ [] }
+    ensures total { IfOk result (λ made.
+        spread made ≤ total_budget (2 ^ B) plan.now → IsTotalOf plan.now made) }
+    ensures means { OnOk result (AreMeansOf plan.now.cells plan.now.units means.new.items) }
+{
+    let pooled = pooled_if_any(alloc, plan)?;
+    total_with_pooled(alloc, work, plan, &pooled, means)
 }

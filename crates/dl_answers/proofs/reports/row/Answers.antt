@@ -45,6 +45,11 @@ returns-in-Price-clause-answer g c =
     c.requires.ground.plan.valid (total_there c.requires.ground c.index-ground-0.result)
     c.requires.ground.drawn.means.mean))
 
+pub returns-in-Quantile-clause-answer : goal.returns-in-Quantile-clause-answer
+returns-in-Quantile-clause-answer g c =
+    rw c.in-Quantile.is (c.quantile_row.ensures.bracket c.args.ground.now.plan.now c.requires.ground.plan.valid
+    (total_there c.requires.ground c.index-ground-0.result))
+
 -- ---- what is past the grid
 
 pub returns-in-Quantile-clause-past : goal.returns-in-Quantile-clause-past
@@ -64,6 +69,30 @@ pub returns-in-Share-clause-past : goal.returns-in-Share-clause-past
 returns-in-Share-clause-past g c =
     rw c.in-Share.is (past_above c.requires.ground.plan.valid (total_is c.requires.ground)
     (rw c.part_of-in-Share.ensures.total at c.whole_share_row.ensures.past))
+
+pub returns-in-Pmf-clause-past : goal.returns-in-Pmf-clause-past
+returns-in-Pmf-clause-past g c = rw c.in-Pmf.is tt
+
+pub returns-in-Cdf-clause-past : goal.returns-in-Cdf-clause-past
+returns-in-Cdf-clause-past g c = rw c.in-Cdf.is tt
+
+pub returns-in-Mean-clause-past : goal.returns-in-Mean-clause-past
+returns-in-Mean-clause-past g c = rw c.in-Mean.is tt
+
+pub returns-in-LayerMean-clause-past : goal.returns-in-LayerMean-clause-past
+returns-in-LayerMean-clause-past g c = rw c.in-LayerMean.is tt
+
+pub returns-in-Price-clause-past : goal.returns-in-Price-clause-past
+returns-in-Price-clause-past g c = rw c.in-Price.is tt
+
+pub returns-in-Joint-clause-past : goal.returns-in-Joint-clause-past
+returns-in-Joint-clause-past g c = rw c.in-Joint.is tt
+
+pub returns-in-Kappa-clause-past : goal.returns-in-Kappa-clause-past
+returns-in-Kappa-clause-past g c = rw c.in-Kappa.is tt
+
+pub returns-in-Cotail-clause-past : goal.returns-in-Cotail-clause-past
+returns-in-Cotail-clause-past g c = rw c.in-Cotail.is tt
 
 -- ---- what is asked of a unit
 

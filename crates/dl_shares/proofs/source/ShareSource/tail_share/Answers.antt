@@ -12,3 +12,15 @@ returns-clause-holds g c us i d gives e mean =
 pub returns-clause-width : goal.returns-clause-width
 returns-clause-width g c m t of_mean of_total =
     c.tail_share_at.ensures.width m _ t of_mean c.joint-joint.ensures.width c.joints_to-below.ensures.width of_total
+
+pub returns-in_err-q-clause-none : goal.returns-in_err-q-clause-none
+returns-in_err-q-clause-none g c = rw c.from_residual.ensures c.in_err-q.ensures.none
+
+pub returns-in_err-q-clause-absent : goal.returns-in_err-q-clause-absent
+returns-in_err-q-clause-absent g c us x d e = rw c.from_residual.ensures (c.in_err-q.ensures.absent us x d e)
+
+pub returns-clause-none : goal.returns-clause-none
+returns-clause-none g c = c.in_ok-q.ensures.none
+
+pub returns-clause-absent : goal.returns-clause-absent
+returns-clause-absent g c us x d e = c.in_ok-q.ensures.absent us x d e

@@ -1,6 +1,6 @@
 use Rattle.dl_sources.proofs.Common.{arith, ap, length, subst, few_cells, ◌also◌, ◌++◌, take_all, unpooled, AreMeansOf, IsSumOfUnits}
 use Rattle.dl_sources.proofs.ByHalves.{all_means, is_total_by_halves, some_total, sum_of_all, units_on}
-use Rattle.dl_sources.proofs.halves.total_by_halves.Goals as goal
+use Rattle.dl_sources.proofs.halves.total_with_pooled.Goals as goal
 
 pub sum_of_units-requires : goal.sum_of_units-requires
 sum_of_units-requires g c =
