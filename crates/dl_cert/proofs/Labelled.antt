@@ -1,7 +1,5 @@
 -- Labels: of no unit, of one unit, and of two labels together.
-use Rattle.dl_cert.proofs.Common.{nat_tests, ℕ, zero, suc, ◌≡◌, ◌<◌, ◌∙◌, refl, sym, ap, ap₂, arith, List, [], ◌∷◌, length, get_or, Fraction, whole, ◌*ℚ◌, ◌^ℚ◌, ring, one_times, times_one, convolve, at_zero, power, Family, product, nothing, Encloses, encloses_same, itself_one, fun_ext, labelled, Label, no_unit, once, together}
-use Rattle.dl_exact.proofs.Powers.{pow_plus}
-use Rattle.dl_model.proofs.Powers.{convolve_comm, convolve_assoc, at_zero_convolve, power_plus}
+use Rattle.dl_cert.proofs.Common.{nat_tests, ℕ, zero, suc, ◌≡◌, ◌<◌, ◌∙◌, refl, sym, ap, ap₂, arith, List, [], ◌∷◌, length, get_or, Fraction, whole, ◌*ℚ◌, ◌^ℚ◌, ring, one_times, times_one, convolve, at_zero, power, Family, product, nothing, Encloses, encloses_same, itself_one, fun_ext, labelled, Label, no_unit, once, together, pow_plus, convolve_comm, convolve_assoc, at_zero_convolve, power_plus}
 
 -- two convolutions of two each, exchanged
 exchange : (a b x y : ℕ → Fraction)

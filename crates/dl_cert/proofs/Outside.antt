@@ -1,8 +1,5 @@
 -- The numbers that the cells of a start are compared with, and cells that pass one after the other.
-use Rattle.dl_cert.proofs.Common.{ℕ, zero, suc, ◌≡◌, ◌≢◌, ◌⊎◌, ◌+◌, ◌<◌, ◌≤◌, inl, inr, refl, sym, subst, subst₂, arith, Bool, true, false, List, length, length-take-le, take, get_or, cases_lt, most_cert_cells, most_cells_at, IsGridSize, Iv, low_at, high_at, Sev, Base, Share, one, low_share, high_share, low_base, high_base, PassesTo}
-use Rattle.dl_grid.proofs.CellLaws.{low_at_read, high_at_read}
-use Rattle.dl_grid.proofs.CellSets.{low_take, high_take}
-use Rattle.dl_panjer.proofs.Steps.{low_next_same, high_next_same}
+use Rattle.dl_cert.proofs.Common.{ℕ, zero, suc, ◌≡◌, ◌≢◌, ◌⊎◌, ◌+◌, ◌<◌, ◌≤◌, inl, inr, refl, sym, subst, subst₂, arith, Bool, true, false, List, length, length-take-le, take, get_or, cases_lt, most_cert_cells, most_cells_at, IsGridSize, Iv, low_at, high_at, Sev, Base, Share, one, low_share, high_share, low_base, high_base, PassesTo, low_at_read, high_at_read, low_take, high_take, low_next_same, high_next_same}
 use Rattle.dl_cert.specs.declared.base.Base.TheVariants.{Nothing, Trial, Poisson, Geometric}
 
 -- ---- a share

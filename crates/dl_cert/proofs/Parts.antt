@@ -1,11 +1,5 @@
 -- A start that passes encloses the part of its unit.
-use Rattle.dl_cert.proofs.Common.{ℕ, zero, suc, ◌≡◌, ◌⊎◌, ◌<◌, ◌≤◌, ◌^◌, inl, inr, refl, sym, subst, arith, cases_eq, eq-eqb, ne_eqb, Fraction, whole, ◌+ℚ◌, ◌*ℚ◌, ◌/ℚ◌, ◌≤ℚ◌, ◌over◌, sum_to, le_trans, Freq, Fixed, Table, Bernoulli, Binomial, Poisson, Gamma, Sev, probability_of, expected_count, IsCountOfPlan, num_le_den, halvings, halvings_least, fixed, binomial, poisson, gamma_of, compound, Encloses, AtMost, AtLeast, fixed_sum, positive, given_part, within_one, exp_low, exp_high, one, floor_of, ceiling_of, low_start, high_start, sum_plain, sum_by_amount, above_zero, part_of, parts_of}
-use Rattle.dl_model.proofs.AddedCounts.{fixed_past, trial}
-use Rattle.dl_model.proofs.Panjer.{poisson_class}
-use Rattle.dl_panjer.proofs.EndLaws.{low_encloses, high_encloses}
-use Rattle.dl_panjer.proofs.Compounds.{geometric_start, geometric_class}
-use Rattle.dl_panjer.proofs.Outward.{sums_by_number, sums_by_rate}
-use Rattle.dl_panjer.proofs.Starts.{sums_are}
+use Rattle.dl_cert.proofs.Common.{ℕ, zero, suc, ◌≡◌, ◌⊎◌, ◌<◌, ◌≤◌, ◌^◌, inl, inr, refl, sym, subst, arith, cases_eq, eq-eqb, ne_eqb, Fraction, whole, ◌+ℚ◌, ◌*ℚ◌, ◌/ℚ◌, ◌≤ℚ◌, ◌over◌, sum_to, le_trans, Freq, Fixed, Table, Bernoulli, Binomial, Poisson, Gamma, Sev, probability_of, expected_count, IsCountOfPlan, num_le_den, halvings, halvings_least, fixed, binomial, poisson, gamma_of, compound, Encloses, AtMost, AtLeast, fixed_sum, positive, given_part, within_one, exp_low, exp_high, one, floor_of, ceiling_of, low_start, high_start, sum_plain, sum_by_amount, above_zero, part_of, parts_of, fixed_past, trial, poisson_class, low_encloses, high_encloses, geometric_start, geometric_class, sums_by_number, sums_by_rate, sums_are}
 use Rattle.dl_cert.proofs.Starts.{from_floor, from_ceiling, finite_start, recursion_start}
 use Rattle.dl_cert.proofs.Targets.{above_within}
 

@@ -1,6 +1,5 @@
 -- Steps that pass enclose what their labels count, and a certificate's grid encloses the total.
-use Rattle.dl_cert.proofs.Common.{length-map, ℕ, zero, suc, ◌≡◌, ◌⊎◌, ◌*◌, ◌/◌, ◌<◌, ◌≤◌, inl, inr, refl, sym, subst, arith, div-mul-le_self, List, [], ◌∷◌, ◌++◌, length, map, get_or, min, mul-le-mul_right, get_or-append_seam, cases_lt, eq-eqb, pow_pos, length-append, get_or_append_left, All-head, All-tail, div_ceil, All, fun_ext, count_pairs, Iv, low_at, high_at, all_at_zero, Plan, UnitOfPlan, thinned_mean, IsValid, IsValidUnit, nothing, Encloses, aggregates_of, total, same_cells_enclosed, encloses_product, nothing_encloses, Kind, One, Start, Times, IsCovered, Label, labelled, HasValues, one, low_start, high_start, Passes, AllPass, made_after, Certifies, Step, Made, made_at, made_by, label_of, unit_part, unit_parts, parts_of_plan}
-use Rattle.std.proofs.lemmas.Grind.{div_ceil_times}
+use Rattle.dl_cert.proofs.Common.{length-map, ℕ, zero, suc, ◌≡◌, ◌⊎◌, ◌*◌, ◌/◌, ◌<◌, ◌≤◌, inl, inr, refl, sym, subst, arith, div-mul-le_self, List, [], ◌∷◌, ◌++◌, length, map, get_or, min, mul-le-mul_right, get_or-append_seam, cases_lt, eq-eqb, pow_pos, length-append, get_or_append_left, All-head, All-tail, div_ceil, All, fun_ext, count_pairs, Iv, low_at, high_at, all_at_zero, Plan, UnitOfPlan, thinned_mean, IsValid, IsValidUnit, nothing, Encloses, aggregates_of, total, same_cells_enclosed, encloses_product, nothing_encloses, Kind, One, Start, Times, IsCovered, Label, labelled, HasValues, one, low_start, high_start, Passes, AllPass, made_after, Certifies, Step, Made, made_at, made_by, label_of, unit_part, unit_parts, parts_of_plan, div_ceil_times}
 use Rattle.dl_cert.proofs.Labelled.{encloses_none, encloses_once, encloses_together}
 use Rattle.dl_cert.proofs.Parts.{start_encloses}
 use Rattle.dl_cert.proofs.Targets.{parts_values, plan_made_up}

@@ -1,9 +1,8 @@
 -- A step that passes joins those that are kept.
-use Rattle.dl_cert.proofs.Common.{take-append_seam, get_or_past, ℕ, suc, ◌≡◌, ◌≢◌, ◌+◌, ◌*◌, ◌<◌, ◌≤◌, ◌^◌, ◌∙◌, cond, inl, inr, refl, sym, ap, ap₂, subst, subst₂, arith, List, [], ◌∷◌, ◌++◌, length, get_or, drop, append_assoc, length-append, mul-le-mul_right, map, All, cases_lt, ne_eqb, get_or_append_left, get_or-append_seam, most_cert_cells, most_cells_at, Iv, mass_low, IsGrid, Plan, Kind, One, Start, Times, HavePassed, IsRow, IsStepAt, count_by, label_at, HasPassedTo, AreSteps, lines_of, IsStep, one, Passes, AllPass, made_after, line_from, Step, Made, made_at, made_by, label_of, IsThere, unit_parts, IsBadStep, IsBadLine}
+use Rattle.dl_cert.proofs.Common.{take-append_seam, get_or_past, ℕ, suc, ◌≡◌, ◌≢◌, ◌+◌, ◌*◌, ◌<◌, ◌≤◌, ◌^◌, ◌∙◌, cond, inl, inr, refl, sym, ap, ap₂, subst, subst₂, arith, List, [], ◌∷◌, ◌++◌, length, get_or, drop, append_assoc, length-append, mul-le-mul_right, map, All, cases_lt, ne_eqb, get_or_append_left, get_or-append_seam, most_cert_cells, most_cells_at, Iv, mass_low, IsGrid, Plan, Kind, One, Start, Times, HavePassed, IsRow, IsStepAt, count_by, label_at, HasPassedTo, AreSteps, lines_of, IsStep, one, Passes, AllPass, made_after, line_from, Step, Made, made_at, made_by, label_of, IsThere, unit_parts, IsBadStep, IsBadLine, get_or-append-add}
 use Rattle.dl_cert.proofs.LineLists.{next_there}
 use Rattle.dl_cert.proofs.Readings.{step_is}
 use Rattle.dl_cert.proofs.Tests.{IsTested}
-use Rattle.std.proofs.lemmas.List.{get_or-append-add}
 
 module _ {plan : Plan} {text offsets labels : List ℕ} {before : List Made} (so_far : HavePassed plan text offsets labels before) where
   abbrev units : ℕ

@@ -1,10 +1,5 @@
 -- Printed steps are spelled: the line of a step spells it, has no newline and is short.
-use Rattle.dl_cert.proofs.Common.{append-nil, ℕ, ◌≡◌, ◌+◌, ◌*◌, ◌<◌, ◌≤◌, ◌^◌, ◌∙◌, ◌||◌, ◌&&◌, ◌==◌, Bool, true, false, refl, ap, ap₂, arith, List, [], ◌∷◌, ◌++◌, length, length-append, append_assoc, codes, nat_lt, nat_le, All, is_ascii_digit, list_all, list_any, and_from, nat_tests, All-head, All-tail, list_any-append, Iv, low_at, high_at, Kind, One, Start, Times, one, Step, is_comma, IsNumber, IsCell, AreCells, IsStep, by_one, by_start, by_times, cells_text, kind_text, line_of, Named}
-use Rattle.std.specs.Fmt.{decimal}
-use Rattle.std.proofs.Math.Bool.{or-true}
-use Rattle.std.proofs.lemmas.Fmt.{decimal_is_IsNumeral, length-decimal-le}
-use Rattle.dl_bytes.proofs.FirstSign.{after_none, before_none}
-use Rattle.dl_bytes.proofs.DigitLaws.{own, no_sign}
+use Rattle.dl_cert.proofs.Common.{append-nil, ℕ, ◌≡◌, ◌+◌, ◌*◌, ◌<◌, ◌≤◌, ◌^◌, ◌∙◌, ◌||◌, ◌&&◌, ◌==◌, Bool, true, false, refl, ap, ap₂, arith, List, [], ◌∷◌, ◌++◌, length, length-append, append_assoc, codes, nat_lt, nat_le, All, is_ascii_digit, list_all, list_any, and_from, nat_tests, All-head, All-tail, list_any-append, Iv, low_at, high_at, Kind, One, Start, Times, one, Step, is_comma, IsNumber, IsCell, AreCells, IsStep, by_one, by_start, by_times, cells_text, kind_text, line_of, Named, decimal, or-true, decimal_is_IsNumeral, length-decimal-le, after_none, before_none, own, no_sign}
 
 -- ---- numbers
 

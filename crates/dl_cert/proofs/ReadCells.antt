@@ -9,14 +9,6 @@ pub record ReadTo (text : List ℕ) (start from n : ℕ) (cells : List (Iv 56)) 
   pub only : (all : List (Iv 56)) → AreCells (drop start text) all → n ≤ length all
       → (more : List (Iv 56)) × (all ≡ cells ++ more) × AreCells (drop from text) more
 
-pub none_read : (text : List ℕ) (start : ℕ) → start ≤ length text → ReadTo text start start 0 []
-none_read text start within = record {
-  many = refl;
-  within = within;
-  spells = λ more are. are;
-  only = λ all are few. (all, refl, are);
-}
-
 pub one_read : {text : List ℕ} {start from next n : ℕ} {cells : List (Iv 56)} {cell : Iv 56}
     → ReadTo text start from n cells → BeginsCell (drop from text) cell (drop next text) → next ≤ length text
     → ReadTo text start next (n + 1) (cells ++ cell ∷ [])

@@ -1,6 +1,5 @@
 -- A line spells at most one step, which is read from the left.
-use Rattle.dl_cert.proofs.Common.{ℕ, ◌≡◌, ◌∙◌, inl, inr, refl, sym, ap, ap₂, subst, arith, List, [], ◌∷◌, ◌++◌, get_or, codes, length, take, drop, ◌+◌, ◌<◌, true, length-drop, cases_lt, nat_tests, passes_at_first, append_cancel_left, drop_more, Iv, One, Start, Times, Step, IsNumber, IsCell, AreCells, IsStep, start, position_or_len, is_blank, first_word, after_word, BeginsCell, BeginsStep}
-use Rattle.dl_grid.proofs.EndLists.{same_cells}
+use Rattle.dl_cert.proofs.Common.{ℕ, ◌≡◌, ◌∙◌, inl, inr, refl, sym, ap, ap₂, subst, arith, List, [], ◌∷◌, ◌++◌, get_or, codes, length, take, drop, ◌+◌, ◌<◌, true, length-drop, cases_lt, nat_tests, passes_at_first, append_cancel_left, drop_more, Iv, One, Start, Times, Step, IsNumber, IsCell, AreCells, IsStep, start, position_or_len, is_blank, first_word, after_word, BeginsCell, BeginsStep, same_cells}
 use Rattle.dl_cert.specs.Lines.{one, times}
 use Rattle.dl_cert.proofs.Words.{by_word, cut, number_front, cell_front, cells_tail, at_blank, drop_by}
 

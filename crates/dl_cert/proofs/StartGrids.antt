@@ -1,9 +1,5 @@
 -- The cells of a start, each the number of those before it, are a grid.
-use Rattle.dl_cert.proofs.Common.{ends_in_order, ℕ, suc, ◌≡◌, ◌+◌, ◌-◌, ◌<◌, ◌≤◌, ◌^◌, ◌∙◌, inl, refl, sym, subst, arith, List, length, All, more_below, whole, ◌≤ℚ◌, ◌over◌, one_pos, one_times, le_trans, zero-lt-suc, count_below, sum_to, Iv, low_at, high_at, IsGrid, most_cert_cells, Family, Encloses, UnitOfPlan, IsValidUnit, thinned_mean, HasValues, Base, IsBaseOf, low_base, high_base, IsExactStart, one, unit_part, unit_parts}
-use Rattle.dl_exact.proofs.Over.{le_over}
-use Rattle.dl_exact.proofs.SumsOver.{to_over}
-use Rattle.dl_grid.proofs.PlaceSums.{whole_mass}
-use Rattle.dl_model.proofs.Ends.{to_holds}
+use Rattle.dl_cert.proofs.Common.{ends_in_order, ℕ, suc, ◌≡◌, ◌+◌, ◌-◌, ◌<◌, ◌≤◌, ◌^◌, ◌∙◌, inl, refl, sym, subst, arith, List, length, All, more_below, whole, ◌≤ℚ◌, ◌over◌, one_pos, one_times, le_trans, zero-lt-suc, count_below, sum_to, Iv, low_at, high_at, IsGrid, most_cert_cells, Family, Encloses, UnitOfPlan, IsValidUnit, thinned_mean, HasValues, Base, IsBaseOf, low_base, high_base, IsExactStart, one, unit_part, unit_parts, le_over, to_over, whole_mass, to_holds}
 use Rattle.dl_cert.proofs.Parts.{start_encloses}
 use Rattle.dl_cert.proofs.Passings.{grid_now}
 use Rattle.dl_cert.proofs.Targets.{part_values}

@@ -1,8 +1,5 @@
 -- A start whose cells are not inside its numbers encloses the part of its unit.
-use Rattle.dl_cert.proofs.Common.{ℕ, zero, suc, ◌≡◌, ◌⊎◌, ◌*◌, ◌<◌, ◌≤◌, ◌^◌, inl, inr, refl, sym, subst, subst₂, arith, mul-le-mul_right, cases_lt, Fraction, whole, ◌*ℚ◌, ◌≤ℚ◌, ◌over◌, sum_to, one_pos, le_refl, le_trans, times_le_both, one_times, over_self, over_le, floor_div, ceiling_div, IsFloor, IsCeiling, whole_le, cell, IsPanjer, compound, Encloses, AtMost, AtLeast, IsBound, IsWithinOne, at_most_wider, cell_at_most_one, compound_proper, finite_holds, FollowsOutward, floor_of, ceiling_of, low_recursion, high_recursion}
-use Rattle.dl_model.specs.Recursion.{from_before}
-use Rattle.dl_panjer.proofs.Base.{base_encloses}
-use Rattle.dl_panjer.proofs.Starts.{units_below, units_above}
+use Rattle.dl_cert.proofs.Common.{ℕ, zero, suc, ◌≡◌, ◌⊎◌, ◌*◌, ◌<◌, ◌≤◌, ◌^◌, inl, inr, refl, sym, subst, subst₂, arith, mul-le-mul_right, cases_lt, Fraction, whole, ◌*ℚ◌, ◌≤ℚ◌, ◌over◌, sum_to, one_pos, le_refl, le_trans, times_le_both, one_times, over_self, over_le, floor_div, ceiling_div, IsFloor, IsCeiling, whole_le, cell, IsPanjer, compound, Encloses, AtMost, AtLeast, IsBound, IsWithinOne, at_most_wider, cell_at_most_one, compound_proper, finite_holds, FollowsOutward, floor_of, ceiling_of, low_recursion, high_recursion, from_before, base_encloses, units_below, units_above}
 
 -- ---- a fraction rounded
 

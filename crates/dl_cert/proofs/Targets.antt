@@ -1,14 +1,6 @@
 -- The parts of a unit make it up, and those of a covered plan, each as often as the target says, its total.
-use Rattle.dl_cert.proofs.Common.{ℕ, zero, suc, ◌≡◌, ◌≢◌, ◌<◌, ◌^◌, ◌∙◌, inl, inr, refl, sym, ap, subst, arith, List, [], ◌∷◌, map, get_or, None, cases_eq, eq-eqb, ne_eqb, All-head, All-tail, All-nil, All-cons, pow_pos, All, Fraction, whole, ◌*ℚ◌, ◌/ℚ◌, ◌<ℚ◌, ◌over◌, times_zero, zero_or_pos, times_comm, div_times, whole_pos, one_pos, over_self, over_cross, ◌^ℚ◌, over_zero, Freq, Fixed, Table, Bernoulli, Binomial, Poisson, Gamma, Plan, UnitOfPlan, Sev, probability_of, expected_count, IsCountOfPlan, thinned_mean, IsValid, IsValidUnit, num_le_den, halvings, power, IsWithinOne, Family, product, nothing, times_itself, SameCells, after_zero, compound_of, aggregate_of, loss_of, aggregates_of, outcome_after, Loss, total, sum_over_outcomes, fixed_claims, trials, positive, given_part, none_thinned, within_one, HasValues, Label, labelled, IsTable, IsWholeShaped, IsCoveredUnit, IsCovered, above_zero, part_of, parts_of, unit_part, unit_parts, parts_of_plan, target}
+use Rattle.dl_cert.proofs.Common.{ℕ, zero, suc, ◌≡◌, ◌≢◌, ◌<◌, ◌^◌, ◌∙◌, inl, inr, refl, sym, ap, subst, arith, List, [], ◌∷◌, map, get_or, None, cases_eq, eq-eqb, ne_eqb, All-head, All-tail, All-nil, All-cons, pow_pos, All, Fraction, whole, ◌*ℚ◌, ◌/ℚ◌, ◌<ℚ◌, ◌over◌, times_zero, zero_or_pos, times_comm, div_times, whole_pos, one_pos, over_self, over_cross, ◌^ℚ◌, over_zero, Freq, Fixed, Table, Bernoulli, Binomial, Poisson, Gamma, Plan, UnitOfPlan, Sev, probability_of, expected_count, IsCountOfPlan, thinned_mean, IsValid, IsValidUnit, num_le_den, halvings, power, IsWithinOne, Family, product, nothing, times_itself, SameCells, after_zero, compound_of, aggregate_of, loss_of, aggregates_of, outcome_after, Loss, total, sum_over_outcomes, fixed_claims, trials, positive, given_part, none_thinned, within_one, HasValues, Label, labelled, IsTable, IsWholeShaped, IsCoveredUnit, IsCovered, above_zero, part_of, parts_of, unit_part, unit_parts, parts_of_plan, target, num_pos, quantity_bounded, whole_positive, are_units, fixed_count, binomial_count, poisson_count, gamma_of_count, gamma_shares, no_units, total_more, total_more_all, total_proper, unit_declared, units_declared, poisson_shares, unit_proper, unit_plain, unit_loss}
 use Rattle.dl_model.specs.Prelude.{One, compound, gamma_of, loss, mapped}
-use Rattle.dl_exact.proofs.Parts.{num_pos}
-use Rattle.dl_model.proofs.Bounded.{quantity_bounded, whole_positive, are_units}
-use Rattle.dl_model.proofs.CountBounds.{fixed_count, binomial_count, poisson_count, gamma_of_count}
-use Rattle.dl_model.proofs.GammaThin.{gamma_shares}
-use Rattle.dl_model.proofs.Outcomes.{no_units, total_more, total_more_all, total_proper}
-use Rattle.dl_model.proofs.PlanUnits.{unit_declared, units_declared}
-use Rattle.dl_model.proofs.PoissonTimes.{poisson_shares}
-use Rattle.dl_model.proofs.UnitLaws.{unit_proper, unit_plain, unit_loss}
 use Rattle.dl_cert.proofs.SameProducts.{same_products}
 use Rattle.dl_cert.proofs.Values.{nothing_values, compound_values, labelled_values, itself_values, values_same, values_trans, part_within}
 

@@ -1,15 +1,7 @@
 -- The numbers of a base are those of the starts of its unit.
-use Rattle.dl_plan.specs.Count.{IsGammaCount}
-use Rattle.dl_cert.proofs.Common.{Bool, refl, subst, IsValidUnit, IsCountOfPlan, Freq, ℕ, zero, suc, ◌≡◌, ◌-◌, ◌*◌, ◌/◌, ◌<◌, ◌^◌, ◌∙◌, sym, ap, ap₂, arith, true, false, mul-pos, zero-lt-suc, min, div_ceil, Fraction, whole, ◌+ℚ◌, ◌*ℚ◌, ◌/ℚ◌, ◌over◌, IsFloor, IsCeiling, times_one, times_zero, zero_plus, over_same, over_mul, over_add, whole_num, whole_den, floor_div, ceiling_div, floor_one, ceiling_one, halvings, exp_low, exp_high, at_zero, cell, fixed, binomial, one_claim_cell, one_trial_cell, coefficient, next_sum, Sev, probability_of, pairs_of, conditioned, HasDistribution, weight_at, severity_total, Fixed, Bernoulli, Binomial, PoissonCount, GammaCount, UnitOfPlan, thinned_mean, Share, above_zero, one, floor_of, ceiling_of, sum_plain, sum_by_amount, low_recursion, high_recursion, low_start, high_start, trial_parts, low_share, high_share, IsBaseOf}
-use Rattle.dl_exact.proofs.Denominators.{over_times}
+use Rattle.dl_cert.proofs.Common.{Bool, refl, subst, IsValidUnit, IsCountOfPlan, Freq, ℕ, zero, suc, ◌≡◌, ◌-◌, ◌*◌, ◌/◌, ◌<◌, ◌^◌, ◌∙◌, sym, ap, ap₂, arith, true, false, mul-pos, zero-lt-suc, min, div_ceil, Fraction, whole, ◌+ℚ◌, ◌*ℚ◌, ◌/ℚ◌, ◌over◌, IsFloor, IsCeiling, times_one, times_zero, zero_plus, over_same, over_mul, over_add, whole_num, whole_den, floor_div, ceiling_div, floor_one, ceiling_one, halvings, exp_low, exp_high, at_zero, cell, fixed, binomial, one_claim_cell, one_trial_cell, coefficient, next_sum, Sev, probability_of, pairs_of, conditioned, HasDistribution, weight_at, severity_total, Fixed, Bernoulli, Binomial, PoissonCount, GammaCount, UnitOfPlan, thinned_mean, Share, above_zero, one, floor_of, ceiling_of, sum_plain, sum_by_amount, low_recursion, high_recursion, low_start, high_start, trial_parts, low_share, high_share, IsBaseOf, IsGammaCount, over_times, Rate, counted_pos, by_number, by_rate, sum_of_amounts, sum_of_weights, units_over, Chance}
 use Rattle.dl_panjer.specs.Cells.{counted}
-use Rattle.dl_panjer.specs.declared.rate.Rate.{Rate}
-use Rattle.dl_panjer.proofs.Steps.{counted_pos}
-use Rattle.dl_panjer.proofs.Recursions.{by_number, by_rate}
-use Rattle.dl_panjer.proofs.Outward.{sum_of_amounts, sum_of_weights}
-use Rattle.dl_panjer.proofs.Starts.{units_over}
 use Rattle.dl_cert.proofs.Starts.{floor_is, ceiling_is}
-use Rattle.dl_cert.specs.declared.base.Chance.{Chance}
 use Rattle.dl_cert.specs.declared.base.Base.TheVariants.{Trial, Poisson, Geometric}
 
 -- ---- quotients rounded

@@ -1,9 +1,5 @@
 -- The weight of an amount among items whose amounts rise.
-use Rattle.dl_cert.proofs.Common.{ℕ, zero, suc, ◌≡◌, ◌≢◌, ◌+◌, ◌-◌, ◌*◌, ◌<◌, ◌≤◌, ◌∙◌, inl, inr, refl, sym, ap, subst, arith, cond, List, [], ◌∷◌, length, get_or, ◌^◌, Bool, true, false, mul-le-mul_left, mul-le-mul, add-mul, sub-add_cancel, cases_lt, cases_eq, eq-eqb, ne_eqb, get_or-map, get_or_default, length-map, sum_by-le-sum_by, Item, amounts_of, weight_at, weight_sum, ◌==◌}
-use Rattle.std.proofs.Math.Nat.{zero-add}
-use Rattle.std.specs.List.Sorted.{IsStrictlyIncreasing}
-use Rattle.std.proofs.lemmas.List.Kept.{AllPairs-from_increasing}
-use Rattle.dl_panjer.proofs.ItemSums.{weight_at-cons}
+use Rattle.dl_cert.proofs.Common.{ℕ, zero, suc, ◌≡◌, ◌≢◌, ◌+◌, ◌-◌, ◌*◌, ◌<◌, ◌≤◌, ◌∙◌, inl, inr, refl, sym, ap, subst, arith, cond, List, [], ◌∷◌, length, get_or, ◌^◌, Bool, true, false, mul-le-mul_left, mul-le-mul, add-mul, sub-add_cancel, cases_lt, cases_eq, eq-eqb, ne_eqb, get_or-map, get_or_default, length-map, sum_by-le-sum_by, Item, amounts_of, weight_at, weight_sum, ◌==◌, zero-add, IsStrictlyIncreasing, AllPairs-from_increasing, weight_at-cons}
 
 -- an amount that no item has
 weight_none : (items : List Item) (y : ℕ) → ((k : ℕ) (d : Item) → k < length items → (get_or items k d).amount ≢ y)

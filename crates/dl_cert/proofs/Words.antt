@@ -1,8 +1,5 @@
 -- Words of a text: what stands before the first blank, and what follows.
-use Rattle.dl_cert.proofs.Common.{ap₂, ℕ, zero, suc, true, false, ◌≡◌, ◌⊎◌, ◌+◌, ◌<◌, ◌≤◌, ◌∙◌, inl, inr, sym, ap, subst, arith, Bool, List, [], ◌∷◌, ◌++◌, length, take, drop, get_or, append-nil, subst₂, ◌^◌, ◌≢◌, Option, Some, None, MatchOption, if◌then◌else◌, ◌==◌, ◌||◌, IsTrue, nat_lt, nat_le, list_all, list_any, before_first, after_first, position_or_len, is_ascii_digit, digits_value, cases_Bool, and_parts, or_parts, cases_lt, nat_tests, take-append-drop, drop_more, drop_all, drop-drop, list_any-append, list_any_none, position_or_len_is, passes_at_first, fails_before_first, split_at_first, Iv, one, is_number, is_number_of, is_comma, IsNumber, IsCell, AreCells, is_blank, first_word, after_word}
-use Rattle.dl_bytes.proofs.FirstSign.{before_none}
-use Rattle.dl_bytes.proofs.DigitLaws.{no_sign, number_below}
-use Rattle.std.proofs.lemmas.List.{append_cancel_left}
+use Rattle.dl_cert.proofs.Common.{ap₂, ℕ, zero, suc, true, false, ◌≡◌, ◌⊎◌, ◌+◌, ◌<◌, ◌≤◌, ◌∙◌, inl, inr, sym, ap, subst, arith, Bool, List, [], ◌∷◌, ◌++◌, length, take, drop, get_or, append-nil, subst₂, ◌^◌, ◌≢◌, Option, Some, None, MatchOption, if◌then◌else◌, ◌==◌, ◌||◌, IsTrue, nat_lt, nat_le, list_all, list_any, before_first, after_first, position_or_len, is_ascii_digit, digits_value, cases_Bool, and_parts, or_parts, cases_lt, nat_tests, take-append-drop, drop_more, drop_all, drop-drop, list_any-append, list_any_none, position_or_len_is, passes_at_first, fails_before_first, split_at_first, Iv, one, is_number, is_number_of, is_comma, IsNumber, IsCell, AreCells, is_blank, first_word, after_word, before_none, no_sign, number_below, append_cancel_left}
 
 -- the first place of a byte
 pub at_first : (text : List ℕ) (sign i : ℕ) → i ≤ length text
@@ -47,10 +44,6 @@ number_digits most text h =
     (and_parts (nat_lt 0 (length text)) (list_all is_ascii_digit text)
     (and_parts (is_number text) (nat_le (length text) most) h).0).1
 
-number_few : (most : ℕ) (text : List ℕ) → IsTrue (is_number_of most text) → length text ≤ most
-number_few most text h =
-    let u = (and_parts (is_number text) (nat_le (length text) most) h).1 in grind (arith, nat_tests, u)
-
 pub number_front : {most : ℕ} {text : List ℕ} {n : ℕ} → IsNumber most text n → list_any is_blank text ≡ false
 number_front {most} {text} h =
     no_sign is_blank (λ byte digit. grind (arith, nat_tests)) text (number_digits most text h.digits)
@@ -91,11 +84,6 @@ number_read most text e = elim (cases_Bool (is_number_of most text)) [
   | inl is ↦ record { digits = is; value = cc }
   | inr other ↦ absurd (cc)
 ]
-
--- a number of at most 9 digits
-pub number_small : {text : List ℕ} {n : ℕ} → IsNumber 9 text n → n < 10 ^ 9
-number_small {text} h =
-    subst (λ m. m < 10 ^ 9) h.value (number_below text 9 (number_digits 9 text h.digits) (number_few 9 text h.digits))
 
 pub drop_by : (text : List ℕ) (from n : ℕ) → drop (from + n) text ≡ drop n (drop from text)
 drop_by text from n = sym (drop-drop n from text)

@@ -37,8 +37,8 @@ pub record BeginsStep (line : List ℕ) (kind : Kind) (rest : List ℕ) : Type 0
   pub only : (step : Step) → IsStep line step → (step.kind ≡ kind) × AreCells rest step.cells
 
 -- the same, with the cells from a place of the line on
-abbrev pub IsHead : List ℕ → Kind → ℕ → Type 0
-IsHead line kind next = BeginsStep line kind (drop next line) × (next ≤ length line)
+abbrev pub AreStepWords : List ℕ → Kind → ℕ → Type 0
+AreStepWords line kind next = BeginsStep line kind (drop next line) × (next ≤ length line)
 
 -- the line spells no step
 abbrev pub IsNoStep : List ℕ → Type 0

@@ -7,7 +7,7 @@ ghost use Rattle.dl_cert.specs.Steps.{Step};
 ghost use Rattle.dl_cert.specs.Spelling.{IsNumber, IsCell};
 ghost use Rattle.dl_cert.specs.Numbers.{one};
 ghost use Rattle.dl_cert.specs.Lines.{lines_of, AreCells, IsStep};
-ghost use Rattle.dl_cert.specs.Reading.{BeginsCell, IsHead, IsNoStep, line_from, first_word, after_word};
+ghost use Rattle.dl_cert.specs.Reading.{BeginsCell, AreStepWords, IsNoStep, line_from, first_word, after_word};
 
 use crate::step::Kind;
 use dl_bytes::number;
@@ -149,7 +149,7 @@ fn cells_from(
 
 /// The kind of a step, and the place in its line where its cells begin.
 #[derive(Clone, Copy)]
-struct Head {
+struct StepWords {
     /// The kind.
     kind: Kind,
     /// The place behind the words that say it.
@@ -187,23 +187,23 @@ fn number_from(line: &[u8], from: usize) -> Option<ReadNumber>
 }
 
 /// The kind of the step that a line of a start spells.
-fn start_of(line: &[u8]) -> Option<Head>
+fn start_of(line: &[u8]) -> Option<StepWords>
     requires { line.now ≡ codes "start " ++ drop 6 line.now }
-    ensures { MatchOption result (IsNoStep line.now) (λ head. IsHead line.now head.kind head.next) }
+    ensures { MatchOption result (IsNoStep line.now) (λ words. AreStepWords line.now words.kind words.next) }
 {
     let Some(unit) = number_from(line, 6) else {
         return None;
     };
-    Some(Head {
+    Some(StepWords {
         kind: Kind::Start(unit.number),
         next: unit.next,
     })
 }
 
 /// The kind of the step that a line of a product spells.
-fn times_of(line: &[u8]) -> Option<Head>
+fn times_of(line: &[u8]) -> Option<StepWords>
     requires { line.now ≡ codes "times " ++ drop 6 line.now }
-    ensures { MatchOption result (IsNoStep line.now) (λ head. IsHead line.now head.kind head.next) }
+    ensures { MatchOption result (IsNoStep line.now) (λ words. AreStepWords line.now words.kind words.next) }
 {
     let Some(first) = number_from(line, 6) else {
         return None;
@@ -214,18 +214,18 @@ fn times_of(line: &[u8]) -> Option<Head>
     let Some(second) = number_from(line, first.next + 1) else {
         return None;
     };
-    Some(Head {
+    Some(StepWords {
         kind: Kind::Times(first.number, second.number),
         next: second.next,
     })
 }
 
 /// The kind of the step that a line spells.
-fn head_of(line: &[u8]) -> Option<Head>
-    ensures { MatchOption result (IsNoStep line.now) (λ head. IsHead line.now head.kind head.next) }
+fn step_words(line: &[u8]) -> Option<StepWords>
+    ensures { MatchOption result (IsNoStep line.now) (λ words. AreStepWords line.now words.kind words.next) }
 {
     if let Some(_cells) = line.strip_prefix(b"one") {
-        return Some(Head {
+        return Some(StepWords {
             kind: Kind::One,
             next: 3,
         });
@@ -259,14 +259,14 @@ pub(crate) fn read_step(
         (λ step. IsStep line.now (record { kind = step.kind; cells = step.cells.items })
         × (length step.cells.items ≡ cells))) }
 {
-    let Some(head) = head_of(line) else {
+    let Some(words) = step_words(line) else {
         return Ok(None);
     };
-    let Some(list) = cells_from(alloc, line, head.next, cells)? else {
+    let Some(list) = cells_from(alloc, line, words.next, cells)? else {
         return Ok(None);
     };
     Ok(Some(ReadStep {
-        kind: head.kind,
+        kind: words.kind,
         cells: list,
     }))
 }

@@ -1,3 +1,3 @@
 //! Tests of the steps of severities.
 
-mod sev;
+mod severities;

@@ -1,4 +1,4 @@
 //! Tests of sources and sinks.
 
 mod endless;
-mod outside;
+mod streams;

@@ -1,6 +1,5 @@
 use Rattle.dl_panjer.specs.Cells.{counted}
-use Rattle.dl_cert.proofs.Common.{Bool, true, false, ℕ, ◌^◌, arith, sym, subst, List, length, ◌<◌, All, IsWeighted, nat_tests, Item}
-use Rattle.dl_budget.proofs.Rows.{◌also◌}
+use Rattle.dl_cert.proofs.Common.{Bool, true, false, ℕ, ◌^◌, arith, sym, subst, List, length, ◌<◌, All, IsWeighted, nat_tests, Item, ◌also◌}
 use Rattle.dl_cert.proofs.Outside.{grid_size}
 use Rattle.dl_cert.proofs.bases.share_number.Goals as goal
 

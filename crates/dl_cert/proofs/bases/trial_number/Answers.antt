@@ -1,5 +1,4 @@
-use Rattle.dl_cert.proofs.Common.{ℕ, ◌≡◌, ◌*◌, ◌<◌, ◌^◌, ◌∙◌, arith, ap₂, mul-pos, severity_total, one}
-use Rattle.dl_budget.proofs.Rows.{◌also◌}
+use Rattle.dl_cert.proofs.Common.{ℕ, ◌≡◌, ◌*◌, ◌<◌, ◌^◌, ◌∙◌, arith, ap₂, mul-pos, severity_total, one, ◌also◌}
 use Rattle.dl_exact.proofs.RoundingLaws.{part_within}
 use Rattle.dl_cert.proofs.Weights.{parts_small}
 use Rattle.dl_cert.proofs.bases.trial_number.Goals as goal

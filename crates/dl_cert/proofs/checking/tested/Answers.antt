@@ -1,5 +1,4 @@
-use Rattle.dl_cert.proofs.Common.{ℕ, get_or, Plan, Base, AreStarts, ◌≡◌, ◌≤◌, ◌∙◌, arith, ap, sym, refl, length, List, length-map, Iv, mass_low, one, pow_pos, IsRow, Step, IsThere, unit_parts}
-use Rattle.std.proofs.Common.{true≢false}
+use Rattle.dl_cert.proofs.Common.{ℕ, get_or, Plan, Base, AreStarts, ◌≡◌, ◌≤◌, ◌∙◌, arith, ap, sym, refl, length, List, length-map, Iv, mass_low, one, pow_pos, IsRow, Step, IsThere, unit_parts, true≢false}
 use Rattle.dl_cert.proofs.Passings.{count_is, passes_now}
 use Rattle.dl_cert.proofs.checking.tested.Goals as goal
 

@@ -1,5 +1,4 @@
-use Rattle.dl_cert.proofs.Common.{ℕ, List, Ok, Err, Result, MatchResult, IfOk, Iv, GridEncloses, aggregates_of, total, Plan, IsValid, IsVerified, RefusesSteps}
-use Rattle.dl_cert.specs.declared.fault.VerifyFault.{VerifyFault}
+use Rattle.dl_cert.proofs.Common.{ℕ, List, Ok, Err, Result, MatchResult, IfOk, Iv, GridEncloses, aggregates_of, total, Plan, IsValid, IsVerified, RefusesSteps, VerifyFault}
 use Rattle.dl_cert.proofs.Passing.{certified}
 use Rattle.dl_cert.proofs.checking.verify.Goals as goal
 

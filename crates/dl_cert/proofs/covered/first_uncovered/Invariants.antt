@@ -1,5 +1,4 @@
-use Rattle.dl_cert.proofs.Common.{ℕ, ◌<◌, ◌≤◌, get_or, UnitOfPlan, IsCoveredUnit}
-use Rattle.dl_limits.specs.Limits.{standard_units}
+use Rattle.dl_cert.proofs.Common.{ℕ, ◌<◌, ◌≤◌, get_or, UnitOfPlan, IsCoveredUnit, standard_units}
 use Rattle.dl_cert.proofs.covered.first_uncovered.Given as goal
 
 abbrev pub invariant-loop-i : goal.invariant-loop-i

@@ -1,6 +1,4 @@
-use Rattle.dl_cert.proofs.Common.{◌∙◌, ◌∷◌, ◌++◌, [], ◌≤◌, ◌^◌, sym, ap, arith, Iv, low_at, high_at, low_base, high_base}
-use Rattle.dl_grid.proofs.PlaceSums.{low_at_front, low_at_pushed, high_at_front, high_at_pushed}
-use Rattle.std.proofs.lemmas.List.Elements.{All-push}
+use Rattle.dl_cert.proofs.Common.{◌∙◌, ◌∷◌, ◌++◌, [], ◌≤◌, ◌^◌, sym, ap, arith, Iv, low_at, high_at, low_base, high_base, low_at_front, low_at_pushed, high_at_front, high_at_pushed, All-push}
 use Rattle.dl_cert.proofs.Outside.{base_same}
 use Rattle.dl_cert.proofs.StartGrids.{one_more_is}
 use Rattle.dl_cert.proofs.starting.start_cells.Goals as goal

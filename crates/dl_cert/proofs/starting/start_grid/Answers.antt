@@ -1,5 +1,4 @@
-use Rattle.dl_cert.proofs.Common.{sym, arith, subst, IsGrid}
-use Rattle.dl_budget.proofs.Rows.{◌also◌}
+use Rattle.dl_cert.proofs.Common.{sym, arith, subst, IsGrid, ◌also◌}
 use Rattle.dl_cert.proofs.StartGrids.{exact_start, start_is_grid}
 use Rattle.dl_cert.proofs.starting.start_grid.Goals as goal
 

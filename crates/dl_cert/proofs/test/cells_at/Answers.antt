@@ -1,5 +1,4 @@
-use Rattle.dl_cert.proofs.Common.{◌∙◌, arith, IfOk-weaker}
-use Rattle.dl_budget.proofs.Rows.{◌also◌}
+use Rattle.dl_cert.proofs.Common.{◌∙◌, arith, IfOk-weaker, ◌also◌}
 use Rattle.dl_cert.proofs.Tests.{cells_again}
 use Rattle.dl_cert.proofs.test.cells_at.Goals as goal
 

@@ -1,8 +1,5 @@
 -- A whole shape divides the mean by its denominator alone, so the rate stays small.
-use Rattle.dl_cert.proofs.Common.{◌≡◌, ◌*◌, ◌<◌, ◌≤◌, ◌∙◌, arith, sym, ap, ap₂, mul-pos, Fraction, ◌over◌, ◌/ℚ◌, over_div, over_self, given_part, amounts_positive}
-use Rattle.std.proofs.Math.Nat.{mul-le-mul_left}
-use Rattle.dl_exact.proofs.Parts.{num_pos, over_num_le}
-use Rattle.dl_plan.proofs.Fits.{given_value}
+use Rattle.dl_cert.proofs.Common.{◌≡◌, ◌*◌, ◌<◌, ◌≤◌, ◌∙◌, arith, sym, ap, ap₂, mul-pos, Fraction, ◌over◌, ◌/ℚ◌, over_div, over_self, given_part, amounts_positive, mul-le-mul_left, num_pos, over_num_le, given_value}
 use Rattle.dl_cert.proofs.UnitBases.{geometric_is, gamma_of_plan}
 use Rattle.dl_cert.proofs.units.geometric_base.Goals as goal
 

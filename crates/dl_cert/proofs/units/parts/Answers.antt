@@ -1,5 +1,4 @@
-use Rattle.dl_cert.proofs.Common.{ℕ, ◌≡◌, ◌≤◌, arith, sym, subst, Fraction, whole, ◌≤ℚ◌, one_pos, over_self, GammaCount, UnitOfPlan, IsValidUnit}
-use Rattle.dl_exact.proofs.Over.{le_over}
+use Rattle.dl_cert.proofs.Common.{ℕ, ◌≡◌, ◌≤◌, arith, sym, subst, Fraction, whole, ◌≤ℚ◌, one_pos, over_self, GammaCount, UnitOfPlan, IsValidUnit, le_over}
 use Rattle.dl_cert.proofs.UnitBases.{gamma_of_plan}
 use Rattle.dl_cert.proofs.units.parts.Goals as goal
 

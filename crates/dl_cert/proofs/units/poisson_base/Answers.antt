@@ -1,5 +1,4 @@
-use Rattle.dl_cert.proofs.Common.{◌∙◌, ◌^◌, arith, ap, ap₂, Fraction, whole, ◌/ℚ◌, ◌over◌, over_self, halvings, given_part, amounts_positive}
-use Rattle.dl_panjer.proofs.Terms.{half_parts}
+use Rattle.dl_cert.proofs.Common.{◌∙◌, ◌^◌, arith, ap, ap₂, Fraction, whole, ◌/ℚ◌, ◌over◌, over_self, halvings, given_part, amounts_positive, half_parts}
 use Rattle.dl_cert.proofs.UnitBases.{poisson_is}
 use Rattle.dl_cert.proofs.units.poisson_base.Goals as goal
 

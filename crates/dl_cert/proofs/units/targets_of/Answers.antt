@@ -1,5 +1,4 @@
-use Rattle.dl_cert.proofs.Common.{◌∙◌, ap, ap₂, [], ◌∷◌, ◌++◌, map, take_all, take_more, unit_parts}
-use Rattle.std.proofs.lemmas.List.{map-append}
+use Rattle.dl_cert.proofs.Common.{◌∙◌, ap, ap₂, [], ◌∷◌, ◌++◌, map, take_all, take_more, unit_parts, map-append}
 use Rattle.dl_cert.proofs.units.targets_of.Goals as goal
 
 pub loop-unit-preserved : goal.loop-unit-preserved

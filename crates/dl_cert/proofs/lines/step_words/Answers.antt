@@ -1,8 +1,7 @@
-use Rattle.dl_cert.proofs.Common.{codes, length, ap, arith, drop}
-use Rattle.dl_bytes.proofs.Beginnings.{begins_so, begins_otherwise}
+use Rattle.dl_cert.proofs.Common.{codes, length, ap, arith, drop, begins_so, begins_otherwise}
 use Rattle.dl_cert.proofs.Words.{begins_with}
 use Rattle.dl_cert.proofs.Readings.{begins_one, no_step}
-use Rattle.dl_cert.proofs.lines.head_of.Goals as goal
+use Rattle.dl_cert.proofs.lines.step_words.Goals as goal
 
 pub returns-in-Some : goal.returns-in-Some
 returns-in-Some c =

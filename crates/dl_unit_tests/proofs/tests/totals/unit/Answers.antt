@@ -3,7 +3,7 @@ use Rattle.std.proofs.Common.{rules, arith, ◌<◌, ◌/◌, ◌^◌}
 use Rattle.std.proofs.Math.Nat.{div-le_self}
 use Rattle.dl_iv.proofs.Conditions.{enclose_fits}
 use Rattle.dl_grid.proofs.Sizes.{few_at_each_scale}
-use Rattle.dl_unit_tests.proofs.tests.port.unit.Goals as goal
+use Rattle.dl_unit_tests.proofs.tests.totals.unit.Goals as goal
 
 pub enclose-requires : goal.enclose-requires
 enclose-requires g c =
