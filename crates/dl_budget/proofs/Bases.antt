@@ -1,8 +1,6 @@
 -- What a kind of count begins with: the spreads of the bases, which have room to grow.
-use Rattle.std.proofs.lemmas.Nat.{le-div}
-use Rattle.dl_budget.proofs.Common.{ℕ, ◌≡◌, ◌+◌, ◌*◌, ◌/◌, ◌%◌, ◌^◌, ◌<◌, ◌≤◌, arith, sym, ap, ap₂, subst, refl, ◌∙◌, div_ceil, mul-le-mul, mul-le-mul_left, mul-le-mul_right, div-eq_of_lt, mod-eq_of_lt, le_of_mul-le-mul_right, pow-le-pow_right, inl, inr, eqb_tells, Fraction, whole, ◌over◌, ◌+ℚ◌, ◌*ℚ◌, ◌/ℚ◌, ◌<ℚ◌, ◌≤ℚ◌, over_self, over_add, over_mul, le_over, one_pos, one_times, times_comm, times_le_times, div_times, le_whole, whole_le, floor_div, up, rounded_spread, up_quotient, div_ceil_times, convolution_spread, IsPlanScale, IsSizeWithin, power_spread, IsShape, IsGammaOn, gamma_budget, geometric_spread, shape_spread, whole_part, whole_spread, most_claims_budget, most_operands}
+use Rattle.dl_budget.proofs.Common.{ℕ, ◌≡◌, ◌+◌, ◌*◌, ◌/◌, ◌%◌, ◌^◌, ◌<◌, ◌≤◌, arith, sym, ap, ap₂, subst, refl, ◌∙◌, div_ceil, mul-le-mul, mul-le-mul_left, mul-le-mul_right, div-eq_of_lt, mod-eq_of_lt, le_of_mul-le-mul_right, pow-le-pow_right, inl, inr, eqb_tells, Fraction, whole, ◌over◌, ◌+ℚ◌, ◌*ℚ◌, ◌/ℚ◌, ◌<ℚ◌, ◌≤ℚ◌, over_self, over_add, over_mul, le_over, one_pos, one_times, times_comm, times_le_times, div_times, le_whole, whole_le, floor_div, up, rounded_spread, up_quotient, div_ceil_times, convolution_spread, IsPlanScale, IsSizeWithin, power_spread, IsShape, IsGammaOn, gamma_budget, geometric_spread, shape_spread, whole_part, whole_spread, most_claims_budget, most_operands, le-div, num_pos}
 use Rattle.dl_exact.proofs.Laws.{le_trans}
-use Rattle.dl_exact.proofs.Parts.{num_pos}
 use Rattle.dl_budget.proofs.SizeLaws.{size_least, within_step}
 
 -- ---- Poisson counts

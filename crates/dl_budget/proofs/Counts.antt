@@ -1,6 +1,5 @@
 -- What validity says of a unit by the kind of its count, and its budget.
-use Rattle.dl_budget.proofs.Common.{ℕ, ◌≡◌, ◌+◌, ◌*◌, ◌<◌, ◌≤◌, List, length, arith, inl, inr, refl, sym, ap, ap₂, subst, ◌∙◌, mul-le-mul, most_operands, Fraction, rounded_spread, IsValidUnit, count_budget, poisson_budget, gamma_budget, claims_budget, ◌==◌, if◌then◌else◌, eqb_tells, Freq, Poisson, Gamma, UnitOfPlan, IsUnbounded, IsClaimCount, IsGammaOn, IsThinnedGamma, IsThinnedTo, thinned_mean, ◌/ℚ◌}
-use Rattle.dl_plan.specs.declared.item.Item.{Item}
+use Rattle.dl_budget.proofs.Common.{ℕ, ◌≡◌, ◌+◌, ◌*◌, ◌<◌, ◌≤◌, List, length, arith, inl, inr, refl, sym, ap, ap₂, subst, ◌∙◌, mul-le-mul, most_operands, Fraction, rounded_spread, IsValidUnit, count_budget, poisson_budget, gamma_budget, claims_budget, ◌==◌, if◌then◌else◌, eqb_tells, Freq, Poisson, Gamma, UnitOfPlan, IsUnbounded, IsClaimCount, IsGammaOn, IsThinnedGamma, IsThinnedTo, thinned_mean, ◌/ℚ◌, Item}
 use Rattle.dl_budget.proofs.Bases.{beta_room}
 
 -- the budget by the count and the items that were read

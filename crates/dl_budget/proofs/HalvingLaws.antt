@@ -1,6 +1,5 @@
 -- The least number of halvings, by whole numbers.
-use Rattle.dl_budget.proofs.Common.{ℕ, zero, suc, ◌≡◌, ◌+◌, ◌*◌, ◌^◌, ◌<◌, ◌≤◌, arith, inl, inr, sym, ap, subst, ◌∙◌, mul-le-mul, mul-pos, leb_tells, pow_pos, Fraction, whole, ◌over◌, ◌/ℚ◌, ◌≤ℚ◌, over_self, le_over, over_div, one_pos, ◌%◌, pow-suc, mod-le, over_le, IsHalvings, halvings_from, halvings}
-use Rattle.std.proofs.lemmas.Bool.{cases_lt}
+use Rattle.dl_budget.proofs.Common.{ℕ, zero, suc, ◌≡◌, ◌+◌, ◌*◌, ◌^◌, ◌<◌, ◌≤◌, arith, inl, inr, sym, ap, subst, ◌∙◌, mul-le-mul, mul-pos, leb_tells, pow_pos, Fraction, whole, ◌over◌, ◌/ℚ◌, ◌≤ℚ◌, over_self, le_over, over_div, one_pos, ◌%◌, pow-suc, mod-le, over_le, IsHalvings, halvings_from, halvings, cases_lt}
 
 -- m is at most 1/2 after h halvings
 abbrev pub IsHalf : Fraction → ℕ → Type 0

@@ -1,10 +1,5 @@
 -- The horizons of the units of a valid plan.
-use Rattle.dl_budget.proofs.Common.{ℕ, ◌≡◌, ◌^◌, ◌≤◌, arith, refl, ap, sym, subst, ◌∙◌, pow-le-pow_right, horizon, IsValidUnit, claims_budget, le_trans, most_cells, most_horizon, most_plan_cells, List, All, Option, Some, None, IfSome, IsSome, MatchOption, UnitOfPlan, Plan, IsHorizon, IsHorizonOf, HorizonPasses, edge, IsAggregate, IsValid}
-use Rattle.dl_limits.proofs.Scales.{cells_fit, horizon_fits}
-use Rattle.dl_plan.specs.declared.severity.Sev.{Sev}
-use Rattle.dl_plan.specs.Clause.{Clause}
-use Rattle.dl_plan.specs.declared.cede.CedeLayer.{CedeLayer}
-use Rattle.dl_plan.proofs.Horizons.{same_horizon, horizon_is, horizon_edges}
+use Rattle.dl_budget.proofs.Common.{ℕ, ◌≡◌, ◌^◌, ◌≤◌, arith, refl, ap, sym, subst, ◌∙◌, pow-le-pow_right, horizon, IsValidUnit, claims_budget, le_trans, most_cells, most_horizon, most_plan_cells, List, All, Option, Some, None, IfSome, IsSome, MatchOption, UnitOfPlan, Plan, IsHorizon, IsHorizonOf, HorizonPasses, edge, IsAggregate, IsValid, cells_fit, horizon_fits, Sev, Clause, CedeLayer, same_horizon, horizon_is, horizon_edges}
 
 clause_horizon : (cells : ℕ) (sev : Sev) (cede : Option Clause) → cells ≤ most_plan_cells
     → IfSome cede (IsAggregate cells sev)

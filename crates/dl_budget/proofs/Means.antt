@@ -1,6 +1,5 @@
 -- The budget of a mean, as a loop over the units makes it.
-use Rattle.dl_budget.proofs.Common.{ℕ, ◌≡◌, ◌*◌, ◌^◌, ◌≤◌, arith, whole, ◌≤ℚ◌, up, IsValidUnit, most_amount, most_expected, expected_count, declared_mean, mean_most, near_in_any, UnitOfPlan}
-use Rattle.dl_exact.proofs.RoundingLaws.{up_least}
+use Rattle.dl_budget.proofs.Common.{ℕ, ◌≡◌, ◌*◌, ◌^◌, ◌≤◌, arith, whole, ◌≤ℚ◌, up, IsValidUnit, most_amount, most_expected, expected_count, declared_mean, mean_most, near_in_any, UnitOfPlan, up_least}
 
 -- the mean of the claims of a unit whose probability of no claim can be changed is at most 2^34 buckets
 pub whole_small : (cells : ℕ) (u : UnitOfPlan) (m : ℕ) → IsValidUnit cells u

@@ -1,10 +1,6 @@
 -- How large the budget of the probability of no claim can be: that of claims of amount 1 alone, on one cell.
-use Rattle.dl_budget.proofs.Common.{IsPlanScale, ℕ, zero, suc, ◌≡◌, ◌+◌, ◌*◌, ◌^◌, ◌≤◌, arith, inl, inr, refl, sym, ap, subst, ◌∙◌, mul-le-mul, pow_pos, pow-le-pow_right, most_operands, Fraction, whole, ◌≤ℚ◌, over_div, div_le_both, div_times, le_plus, le_refl, one_times, times_le_both, below_one, one_pos, convolution_spread, power_spread, rounded_spread, IsSizeWithin, pw_one, count_budget, gamma_budget, poisson_budget, eq-zero-or-pos, ◌/◌, ◌%◌, ◌==◌, if◌then◌else◌, eqb_tells, most_none_budget, Freq, Fixed, Table, Bernoulli, Binomial, Poisson, Gamma, IsClaimCount, IsGammaCount, IsGammaOn, IsNewZero, geometric_spread, shape_spread, whole_part, pw_none, pw_even, pw_odd, halvings, none_budget}
-use Rattle.std.proofs.Common.{subst₂}
-use Rattle.std.proofs.lemmas.Bool.{cases_lt}
-use Rattle.dl_exact.proofs.Denominators.{over_pos}
+use Rattle.dl_budget.proofs.Common.{IsPlanScale, ℕ, zero, suc, ◌≡◌, ◌+◌, ◌*◌, ◌^◌, ◌≤◌, arith, inl, inr, refl, sym, ap, subst, ◌∙◌, mul-le-mul, pow_pos, pow-le-pow_right, most_operands, Fraction, whole, ◌≤ℚ◌, over_div, div_le_both, div_times, le_plus, le_refl, one_times, times_le_both, below_one, one_pos, convolution_spread, power_spread, rounded_spread, IsSizeWithin, pw_one, count_budget, gamma_budget, poisson_budget, eq-zero-or-pos, ◌/◌, ◌%◌, ◌==◌, if◌then◌else◌, eqb_tells, most_none_budget, Freq, Fixed, Table, Bernoulli, Binomial, Poisson, Gamma, IsClaimCount, IsGammaCount, IsGammaOn, IsNewZero, geometric_spread, shape_spread, whole_part, pw_none, pw_even, pw_odd, halvings, none_budget, subst₂, cases_lt, over_pos, ◌+ℚ◌, ◌*ℚ◌, ◌/ℚ◌, ◌<ℚ◌, ◌over◌}
 use Rattle.dl_exact.proofs.Laws.{le_of_eq, le_trans, lt_of_lt_of_le, plus_comm, times_le_cancel, times_one}
-use Rattle.dl_exact.specs.Fraction.{◌+ℚ◌, ◌*ℚ◌, ◌/ℚ◌, ◌<ℚ◌, ◌over◌}
 use Rattle.dl_budget.proofs.Bases.{base_within, both_size, budget_below, budget_both, budget_whole, one_within, powers_within, whole_few, whole_some}
 use Rattle.dl_budget.proofs.HalvingLaws.{first_below_14}
 use Rattle.dl_budget.proofs.SizeLaws.{room_below, size_least, square_size, odd_size, spread_near, far_below}

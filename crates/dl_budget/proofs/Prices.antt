@@ -1,9 +1,6 @@
 -- The budget of a price by whole numbers: it passes that of its tail means by little, since the weights sum to 1.
-use Rattle.dl_budget.proofs.Common.{ℕ, ◌≡◌, ◌+◌, ◌-◌, ◌*◌, ◌^◌, ◌<◌, ◌≤◌, List, [], ◌∷◌, length, arith, inl, inr, refl, ap, sym, subst, ◌∙◌, div_ceil, mul-le-mul, mul-le-mul_left, mul-le-mul_right, le_of_mul-le-mul_right, div_ceil_least, sum_by, take_all, one_pos, up, up_quotient, Fraction, whole, ◌/◌, map, get_or, take, div-mul_cancel, eq-zero-or-pos, get_or-map, length-map, div_ceil_times, All-cons, All-head, All-tail, sum_by-cons, sum_by_more, All, ◌*ℚ◌, over_self, over_mul, sum_over_map, Term, common_denominator, numerator_over}
+use Rattle.dl_budget.proofs.Common.{ℕ, ◌≡◌, ◌+◌, ◌-◌, ◌*◌, ◌^◌, ◌<◌, ◌≤◌, List, [], ◌∷◌, length, arith, inl, inr, refl, ap, sym, subst, ◌∙◌, div_ceil, mul-le-mul, mul-le-mul_left, mul-le-mul_right, le_of_mul-le-mul_right, div_ceil_least, sum_by, take_all, one_pos, up, up_quotient, Fraction, whole, ◌/◌, map, get_or, take, div-mul_cancel, eq-zero-or-pos, get_or-map, length-map, div_ceil_times, All-cons, All-head, All-tail, sum_by-cons, sum_by_more, All, ◌*ℚ◌, over_self, over_mul, sum_over_map, Term, common_denominator, numerator_over, ArePriced, most_weight_parts, common_pos, den_divides, part_within, sum_one, weight_more}
 use Prim.Native.Nat.{◌∣◌}
-use Rattle.dl_plan.specs.Terms.{ArePriced, most_weight_parts}
-use Rattle.dl_plan.proofs.CommonDenominators.{common_pos, den_divides}
-use Rattle.dl_plan.proofs.WholeParts.{part_within, sum_one, weight_more}
 
 -- a part of x, rounded up
 pub up_part : (w : Fraction) (x : ℕ) → up (w *ℚ whole x) ≡ div_ceil (w.num * x) w.den
@@ -115,8 +112,3 @@ price_next part terms i sum x t inside is before here =
 pub price_all : (part : Term → ℕ) (terms : List Term) (i sum : ℕ) → length terms ≤ i
     → sum ≡ sum_by part (take i terms) → sum ≡ sum_by part terms
 price_all part terms i sum past so_far = so_far ∙ ap (sum_by part) (take_all i terms past)
-
-pub part_small : (n t d : ℕ) → 0 < d → n ≤ 1000000 → t ≤ 2 ^ 98 - 2 ^ 90 → div_ceil (n * t) d + 2 ≤ 2 ^ 118
-part_small n t d pos few small =
-    let more : n * t * 1 ≤ n * t * d = mul-le-mul_left (n * t) pos in
-    omega (arith, div_ceil_least (n * t) d (n * t) pos (omega (arith, more)), mul-le-mul few small)

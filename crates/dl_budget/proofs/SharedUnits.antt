@@ -1,17 +1,9 @@
 -- The claims above 0 of units that share a factor: their sum, the same for the next shape, and the budget of a joint
 -- mean.
-use Rattle.std.specs.Prelude.{Bool, true, false}
-use Rattle.dl_budget.proofs.Common.{ℕ, if◌then◌else◌, ◌==◌, ◌≡◌, ◌+◌, ◌-◌, ◌*◌, ◌^◌, ◌<◌, ◌≤◌, List, [], ◌∷◌, length, get_or, take, arith, refl, sym, ap, ap₂, subst, ◌∙◌, Fraction, whole, ◌≤ℚ◌, over_self, one_pos, le_over, div_ceil, div_ceil_times, div_ceil_least, mul-le-mul, mul-le-mul_right, up, IsValidUnit, take_more, get_or-map, All, most_claims_budget, most_expected, most_plan_cells, ◌+ℚ◌, ◌*ℚ◌, ◌<ℚ◌, le_div, le_refl, lt_not_le, plus_zero, times_le_both, whole_le, sum_over_append, UnitOfPlan, Plan, IsUnbounded, HasPartsOf48Bits, thinned_mean, IsValid, CanShare, Some, HasCommonFactor, FitsFrac, admitted_fits, expected_of, raised, thinned_of, ◌/ℚ◌, ◌%◌, div_le_both, div_times, le_plus, times_cancel, IsGammaOn, convolution_spread, shape_spread, whole_part, whole_spread}
-unfoldable use Rattle.dl_exact.specs.Sum.{sum_over}
+use Rattle.dl_budget.proofs.Common.{ℕ, if◌then◌else◌, ◌==◌, ◌≡◌, ◌+◌, ◌-◌, ◌*◌, ◌^◌, ◌<◌, ◌≤◌, List, [], ◌∷◌, length, get_or, take, arith, refl, sym, ap, ap₂, subst, ◌∙◌, Fraction, whole, ◌≤ℚ◌, over_self, one_pos, le_over, div_ceil, div_ceil_times, div_ceil_least, mul-le-mul, mul-le-mul_right, up, IsValidUnit, take_more, get_or-map, All, most_claims_budget, most_expected, most_plan_cells, ◌+ℚ◌, ◌*ℚ◌, ◌<ℚ◌, le_div, le_refl, lt_not_le, plus_zero, times_le_both, whole_le, sum_over_append, UnitOfPlan, Plan, IsUnbounded, HasPartsOf48Bits, thinned_mean, IsValid, CanShare, Some, HasCommonFactor, FitsFrac, admitted_fits, expected_of, raised, thinned_of, ◌/ℚ◌, ◌%◌, div_le_both, div_times, le_plus, times_cancel, IsGammaOn, convolution_spread, shape_spread, whole_part, whole_spread, Bool, true, false, sum_over, times_right_comm, poisson_unbounded, joint_by, cv_rises, pw_rises, gamma_budget, raised_budget, shape_budget, shared_joint_budget, thinned_at}
 use Rattle.dl_exact.proofs.Laws.{le_trans, plus_comm, times_one}
-use Rattle.dl_exact.proofs.Orders.{times_right_comm}
-use Rattle.dl_plan.proofs.Shared.{poisson_unbounded}
 use Rattle.dl_budget.proofs.Bases.{base_parts, beta_room}
 use Rattle.dl_budget.proofs.Sums.{read_unit}
-use Rattle.dl_budget.specs.Asks.{joint_by}
-use Rattle.dl_grid.proofs.WidthLaws.{cv_rises, pw_rises}
-use Rattle.dl_budget.specs.Claims.{gamma_budget}
-use Rattle.dl_budget.specs.Shared.{raised_budget, shape_budget, shared_joint_budget, thinned_at}
 
 -- ---- what a valid plan has
 
@@ -40,12 +32,6 @@ pub next_fits : (units : List UnitOfPlan) (i : ℕ) (u : UnitOfPlan) (sum n : Fr
     → ((k : ℕ) → 1 ≤ k → k ≤ length units → HasPartsOf48Bits (thinned_of (take k units))) → FitsFrac (sum +ℚ n)
 next_fits units i u sum n h is before own admitted = subst FitsFrac (sym (sum_next units i u sum n h is before own))
     (admitted_fits _ (admitted (i + 1) (omega arith) (omega arith)))
-
--- some claims are expected, so there is a unit
-pub some_unit : (units : List UnitOfPlan) → whole 0 <ℚ expected_of units → 1 ≤ length units
-unfolding sum_over
-some_unit [] some = absurd (lt_not_le (whole 0) (whole 0) some (le_refl (whole 0)))
-some_unit (u ∷ us) some = omega arith
 
 -- ---- the one gamma count in the place of the units, and that of the next shape
 

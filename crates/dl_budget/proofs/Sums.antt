@@ -1,12 +1,6 @@
 -- Budgets of sums of units, as a loop over the units makes them.
-use Rattle.dl_budget.proofs.Common.{IsPlanScale, ℕ, suc, zero, ◌≡◌, ◌+◌, ◌-◌, ◌*◌, ◌^◌, ◌<◌, ◌≤◌, List, [], ◌∷◌, length, get_or, take, drop, arith, sym, ap, ap₂, subst, ◌∙◌, fold, remove, pow_pos, convolution_spread, rounded_spread, sum_spread, IsOfUnits, unit_budgets, from_there, ◌++◌, length-map, length-take, length-drop, get_or-map, take-map, drop-map, fold_more, fold-append, UnitOfPlan, unit_budget, Plan, IsValid, IsValidUnit, All, take_all, eqb_tells, ◌==◌, AreFew, Fraction, Option, None, Some, cond, operands, most_budget_of, most_mean_budget_of, most_sum_operands, standard_units, sum_by, sum_by_more}
-use Rattle.std.specs.Prelude.{Bool, true, false}
+use Rattle.dl_budget.proofs.Common.{IsPlanScale, ℕ, suc, zero, ◌≡◌, ◌+◌, ◌-◌, ◌*◌, ◌^◌, ◌<◌, ◌≤◌, List, [], ◌∷◌, length, get_or, take, drop, arith, sym, ap, ap₂, subst, ◌∙◌, fold, remove, pow_pos, convolution_spread, rounded_spread, sum_spread, IsOfUnits, unit_budgets, from_there, ◌++◌, length-map, length-take, length-drop, get_or-map, take-map, drop-map, fold_more, fold-append, UnitOfPlan, unit_budget, Plan, IsValid, IsValidUnit, All, take_all, eqb_tells, ◌==◌, AreFew, Fraction, Option, None, Some, cond, operands, most_budget_of, most_mean_budget_of, most_sum_operands, standard_units, sum_by, sum_by_more, Bool, true, false, is_some, add-one, drop-drop, sum_by-drop_more, sum_by-take-drop, sum_by-take-le, sum_by_more_le, are_few, sum_of_few, sum_of_standard}
 use Rattle.dl_budget.proofs.SizeLaws.{size_least, within_step, spread_near, a_sixteenth, an_eighth}
-use Rattle.std.specs.Prelude.{is_some}
-use Rattle.std.proofs.Common.{add-one}
-use Rattle.std.proofs.lemmas.List.{drop-drop}
-use Rattle.std.proofs.lemmas.List.Sums.{sum_by-drop_more, sum_by-take-drop, sum_by-take-le, sum_by_more_le}
-use Rattle.dl_plan.proofs.Few.{are_few, sum_of_few, sum_of_standard}
 use Rattle.dl_budget.proofs.Horizons.{few_cells}
 
 pub budgets_length : (S cells : ℕ) (us : List UnitOfPlan) → length (unit_budgets S cells us) ≡ length us

@@ -1,10 +1,7 @@
 -- The budget of a share of a tail mean by whole numbers.
-use Rattle.dl_budget.proofs.Common.{ℕ, ◌≡◌, ◌+◌, ◌-◌, ◌*◌, ◌^◌, ◌<◌, ◌≤◌, arith, ap, ap₂, sym, ◌∙◌, List, length, get_or, div_ceil, mul-le-mul, Fraction, whole, ◌over◌, div_ceil_least, mul-le-mul_left, up, unit_mean_budget, map, get_or-map, ◌<ℚ◌, UnitOfPlan, Plan, IsValid}
+use Rattle.dl_budget.proofs.Common.{ℕ, ◌≡◌, ◌+◌, ◌-◌, ◌*◌, ◌^◌, ◌<◌, ◌≤◌, arith, ap, ap₂, sym, ◌∙◌, List, length, get_or, div_ceil, mul-le-mul, Fraction, whole, ◌over◌, div_ceil_least, mul-le-mul_left, up, unit_mean_budget, map, get_or-map, ◌<ℚ◌, UnitOfPlan, Plan, IsValid, AreBudgetsOf, AreUnitBudgets, Budgets, UnitBudgets}
 use Rattle.dl_budget.proofs.Horizons.{few_cells}
 use Rattle.dl_budget.proofs.Tails.{over_tail}
-use Rattle.dl_budget.specs.Once.{AreBudgetsOf, AreUnitBudgets}
-use Rattle.dl_budget.specs.declared.once.Budgets.{Budgets}
-use Rattle.dl_budget.specs.declared.once.UnitBudgets.{UnitBudgets}
 
 -- the mean's budget of a unit which was read there
 pub mean_here : (S cells : ℕ) (us : List UnitOfPlan) (i b : ℕ) (u : UnitOfPlan) → i < length us → u ≡ get_or us i u

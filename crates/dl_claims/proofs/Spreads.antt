@@ -1,11 +1,6 @@
 -- How the width rule bounds the spread of each step.
 use Rattle.dl_claims.proofs.Common.{ℕ, suc, ◌≡◌, ◌+◌, ◌*◌, ◌<◌, ◌≤◌, arith, ap, mixed_spread, convolution_spread, power_spread, cv_rises, pw_even, pw_odd, List, Iv, spread, IfOk-weaker, Result, IfOk}
 
--- a grid that is made spreads no more than a greater bound
-pub spread_at_most : {B : ℕ} {E : Type 0} (made : Result (List (Iv B)) E) {m n : ℕ} → m ≤ n
-    → IfOk made (λ g. spread g ≤ m) → IfOk made (λ g. spread g ≤ n)
-spread_at_most made le narrow = IfOk-weaker made _ _ (λ g h. omega (arith, h, le)) narrow
-
 -- a square, and a square with one more
 pub squared_width : (S k b m n x y : ℕ) → 0 < S → 1 ≤ m → m + m ≡ n → x ≤ convolution_spread S k y y → y ≤ power_spread S k b m → x ≤ power_spread S k b n
 squared_width S k b m n x y pos some e h half =

@@ -1,6 +1,5 @@
 -- Bernoulli's inequality, and powers of at most 1.
-use Rattle.dl_exact.proofs.Common.{◌≡◌, ℕ, suc, zero, sym, ap, subst, ◌∙◌, Fraction, whole, ◌+ℚ◌, ◌*ℚ◌, ◌≤ℚ◌}
-use Rattle.dl_exact.specs.Power.{◌^ℚ◌}
+use Rattle.dl_exact.proofs.Common.{◌≡◌, ℕ, suc, zero, sym, ap, subst, ◌∙◌, Fraction, whole, ◌+ℚ◌, ◌*ℚ◌, ◌≤ℚ◌, ◌^ℚ◌}
 use Rattle.dl_exact.proofs.Laws.{ring, le_refl, le_trans, le_of_eq, le_plus, plus_zero, times_one, zero_times, times_le_both, whole_suc}
 
 pub bernoulli : (x : Fraction) (n : ℕ) → whole 1 +ℚ whole n *ℚ x ≤ℚ (whole 1 +ℚ x) ^ℚ n

@@ -1,9 +1,4 @@
-use Rattle.dl_exact.proofs.Common.{◌≡◌, ℕ, suc, zero, ◌+◌, ◌*◌, ◌/◌, ◌%◌, ◌<◌, arith, refl, ap, ◌∙◌, mul-pos, mul-lt-mul_of_pos_right, le-mul_of_pos_right, eq_of_mul-eq-mul_right, div-mul_cancel, IsGcd-from_mod, IsGcd-from_zero, gcd}
-use Rattle.std.proofs.Common.{mod-lt, zero-mul, div-add-mod'}
-use Rattle.std.proofs.Math.Nat.{pos_of_dvd_of_pos, mul-div-mul_right}
-use Rattle.std.specs.Int.{IsGcd}
-use Rattle.std.proofs.lemmas.Nat.{mod-mul-add}
-use Rattle.dl_exact.specs.Gcd.{euclid}
+use Rattle.dl_exact.proofs.Common.{◌≡◌, ℕ, suc, zero, ◌+◌, ◌*◌, ◌/◌, ◌%◌, ◌<◌, arith, refl, ap, ◌∙◌, mul-pos, mul-lt-mul_of_pos_right, le-mul_of_pos_right, eq_of_mul-eq-mul_right, div-mul_cancel, IsGcd-from_mod, IsGcd-from_zero, gcd, mod-lt, zero-mul, div-add-mod', pos_of_dvd_of_pos, mul-div-mul_right, IsGcd, mod-mul-add, euclid}
 
 -- one step, where the second number is no literal `suc`
 euclid_step : (k a b : ℕ) → 0 < b → euclid (suc k) a b ≡ euclid k b (a % b)

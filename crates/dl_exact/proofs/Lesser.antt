@@ -1,7 +1,5 @@
 -- The lesser of two fractions is one of them.
-use Rattle.dl_exact.proofs.Common.{◌≡◌, ℕ, ◌*◌, ◌<◌, arith, inl, inr, sym, ap, ap₂, subst, ◌∙◌, mul-pos, cases_lt, Fraction, ◌over◌, ◌≤ℚ◌}
-use Rattle.std.proofs.Common.{min}
-use Rattle.dl_exact.specs.Fraction.{lesser}
+use Rattle.dl_exact.proofs.Common.{◌≡◌, ℕ, ◌*◌, ◌<◌, arith, inl, inr, sym, ap, ap₂, subst, ◌∙◌, mul-pos, cases_lt, Fraction, ◌over◌, ◌≤ℚ◌, min, lesser}
 use Rattle.dl_exact.proofs.Over.{over_same, over_self}
 use Rattle.dl_exact.proofs.Laws.{le_refl, le_trans, le_of_lt, lt_or_le}
 use Rattle.dl_exact.proofs.Denominators.{over_le_over}

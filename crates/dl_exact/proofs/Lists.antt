@@ -1,8 +1,5 @@
 -- Parts of lists from a place on, and one number of a list beside their sum.
-use Rattle.dl_exact.proofs.Common.{◌≡◌, ℕ, zero, suc, ◌+◌, ◌-◌, ◌≤◌, List, [], ◌∷◌, arith, ap, ◌∙◌, add-one, sum_by-cons}
-use Rattle.std.proofs.Common.{length, take, drop, get_or, length-drop}
-use Rattle.std.specs.List.{sum}
-use Rattle.std.proofs.lemmas.List.{take_all}
+use Rattle.dl_exact.proofs.Common.{◌≡◌, ℕ, zero, suc, ◌+◌, ◌-◌, ◌≤◌, List, [], ◌∷◌, arith, ap, ◌∙◌, add-one, sum_by-cons, length, take, drop, get_or, length-drop, sum, take_all}
 
 -- what follows a place, up to the end
 pub rest_whole : {A : Type 0} (xs : List A) (i : ℕ) → take (length xs - i) (drop i xs) ≡ drop i xs

@@ -1,10 +1,7 @@
 -- Lists made one by one from another list.
-use Rattle.std.specs.Bool.{then_some}
 use Rattle.std.specs.Prelude.{All, Any, Bool, IfSome, IsSome, None, Option, zip}
 use Rattle.std.proofs.Common.{refl, true, false, IsTrue, ◌++◌, length, get_or}
-use Rattle.std.proofs.lemmas.List.{get_or_append_left, get_or_default, get_or_push, length-append}
-use Rattle.std.proofs.lemmas.List.Elements.{All-append, All-cons, All-nil}
-use Rattle.dl_exact.proofs.Common.{ℕ, zero, suc, ◌≡◌, ◌+◌, ◌<◌, List, [], ◌∷◌, arith, inl, inr, sym, ap, ◌∙◌, cases_lt}
+use Rattle.dl_exact.proofs.Common.{ℕ, zero, suc, ◌≡◌, ◌+◌, ◌<◌, List, [], ◌∷◌, arith, inl, inr, sym, ap, ◌∙◌, cases_lt, then_some, get_or_append_left, get_or_default, get_or_push, length-append, All-append, All-cons, All-nil}
 
 -- one item more
 pub pushed_length : {R : Type 0} (ys zs : List R) (i : ℕ) (y : R) → length ys ≡ i → zs ≡ ys ++ y ∷ []
@@ -34,17 +31,6 @@ each_pushed P ys zs i y d many before pushed here k below = elim (cases_lt k i) 
   | inr later ↦
       let last : k ≡ i = omega (arith, later, below) in
       rw (pushed, get_or_push ys y d k (omega (arith, last, many)), last) here
-]
-
--- the items so far have it, and one more
-pub each_more : {A : Type 0} (P : A → Type 0) (xs : List A) (i : ℕ) (e : A)
-    → ((k : ℕ) (d : A) → k < i → P (get_or xs k d)) → i < length xs → P (get_or xs i e)
-    → (k : ℕ) (d : A) → k < i + 1 → P (get_or xs k d)
-each_more P xs i e before inside here k d below = elim (cases_lt k i) [
-  | inl earlier ↦ before k d earlier
-  | inr later ↦
-      let last : k ≡ i = omega (arith, later, below) in
-      rw (last, get_or_default xs i d e inside) here
 ]
 
 -- a value that is there in one case alone

@@ -1,10 +1,7 @@
 -- More laws of the greatest common divisor: its steps, numbers without a common divisor, least common multiples.
-use Rattle.dl_exact.proofs.Common.{◌≡◌, ℕ, ◌+◌, ◌*◌, ◌-◌, ◌/◌, ◌%◌, ◌<◌, arith, sym, ap, subst, ◌∙◌, mul_comm, eq-one_of_dvd-one, div-mul_cancel, inl, inr, IsGcd-from_mod, IsGcd-from_zero, gcd}
-use Rattle.std.proofs.Math.Nat.{dvd-mul_left, dvd-mul_right, dvd-mul_right_of_dvd, dvd-sub, mul-dvd-mul_left, mul-dvd-mul_right, dvd_of_mul-dvd-mul_right, eq-zero-or-pos}
+use Rattle.dl_exact.proofs.Common.{◌≡◌, ℕ, ◌+◌, ◌*◌, ◌-◌, ◌/◌, ◌%◌, ◌<◌, arith, sym, ap, subst, ◌∙◌, mul_comm, eq-one_of_dvd-one, div-mul_cancel, inl, inr, IsGcd-from_mod, IsGcd-from_zero, gcd, dvd-mul_left, dvd-mul_right, dvd-mul_right_of_dvd, dvd-sub, mul-dvd-mul_left, mul-dvd-mul_right, dvd_of_mul-dvd-mul_right, eq-zero-or-pos, IsGcd-swap, same_from_IsGcd, dvd_trans, dvd-zero, dvd_antisymm, IsLcm, lcm}
 use Prim.Native.Nat.{◌∣◌}
-use Rattle.std.proofs.lemmas.Nat.Gcd.{IsGcd-swap, same_from_IsGcd, dvd_trans, dvd-zero, dvd_antisymm}
 use Rattle.dl_exact.proofs.GcdLaws.{gcd_is, gcd_pos, gcd-scale, cut_left, cut_right}
-use Rattle.dl_exact.specs.Multiples.{IsLcm, lcm}
 
 -- ---- Euclid's steps
 

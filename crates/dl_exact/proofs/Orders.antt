@@ -1,6 +1,5 @@
 -- Products and sums of fractions in another order.
-use Rattle.std.proofs.Common.{◌≡◌}
-use Rattle.dl_exact.specs.Fraction.{Fraction, ◌+ℚ◌, ◌*ℚ◌}
+use Rattle.dl_exact.proofs.Common.{◌≡◌, Fraction, ◌+ℚ◌, ◌*ℚ◌}
 use Rattle.dl_exact.proofs.Laws.{ring}
 
 pub plus_swap : (x y z : Fraction) → x +ℚ (y +ℚ z) ≡ x +ℚ z +ℚ y

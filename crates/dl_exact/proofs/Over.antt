@@ -1,12 +1,8 @@
 -- How `over` goes with equality, sums, products and order. The other laws of fractions follow from these by `omega`.
-use Rattle.dl_exact.proofs.Common.{inl, inr, refl, ◌≡◌, ℕ, suc, zero, ◌+◌, ◌*◌, ◌-◌, ◌/◌, ◌<◌, ◌≤◌, arith, sym, ap, ap₂, ◌∙◌, mul-pos, mul_comm, le_of_mul-le-mul_right, mul-le-mul_right, mul-lt-mul_of_pos_right, subst, mul-sub, gcd, Fraction, ◌over◌, ◌+ℚ◌, ◌-ℚ◌, ◌*ℚ◌, ◌/ℚ◌, ◌≤ℚ◌, ◌<ℚ◌}
+use Rattle.dl_exact.proofs.Common.{inl, inr, refl, ◌≡◌, ℕ, suc, zero, ◌+◌, ◌*◌, ◌-◌, ◌/◌, ◌<◌, ◌≤◌, arith, sym, ap, ap₂, ◌∙◌, mul-pos, mul_comm, le_of_mul-le-mul_right, mul-le-mul_right, mul-lt-mul_of_pos_right, subst, mul-sub, gcd, Fraction, ◌over◌, ◌+ℚ◌, ◌-ℚ◌, ◌*ℚ◌, ◌/ℚ◌, ◌≤ℚ◌, ◌<ℚ◌, div-one, lt_of_mul-lt-mul_right, ℕ_set, le_prop, read_as}
 use Rattle.std.specs.Prelude.{◌≢◌, ◌⊎◌, ◌==◌, true, false}
-use Rattle.std.proofs.Common.{div-one, lt_of_mul-lt-mul_right}
-use Rattle.std.proofs.Math.Nat.{ℕ_set}
-use Rattle.std.proofs.Math.Bridge.{le_prop}
 use mathlib.Core.HLevel.{is_prop→PathP}
 use Rattle.dl_exact.proofs.GcdLaws.{cut_pos, cut_lowest, cut_left, cut_right, cut_scale_left, cut_scale_right}
-use Rattle.dl_exact.specs.Fraction.{read_as}
 
 -- a fraction is told by its two parts
 pub same : (x y : Fraction) → x.num ≡ y.num → x.den ≡ y.den → x ≡ y

@@ -1,8 +1,5 @@
 -- The two parts of a fraction, and those of a number over another.
-use Rattle.dl_exact.proofs.Common.{◌≡◌, ℕ, ◌+◌, ◌*◌, ◌/◌, ◌<◌, ◌≤◌, arith, refl, sym, ap, subst, ◌∙◌, eq-one_of_dvd-one, gcd, Fraction, ◌over◌, whole, ◌+ℚ◌, ◌*ℚ◌, ◌<ℚ◌, ◌/ℚ◌}
-use Rattle.std.proofs.Common.{div-le_self, Ordering, Less, Equal, Greater}
-use Rattle.std.specs.Ordering.{MatchOrdering, nat_cmp}
-use Rattle.std.proofs.lemmas.Cmp.{ranked}
+use Rattle.dl_exact.proofs.Common.{◌≡◌, ℕ, ◌+◌, ◌*◌, ◌/◌, ◌<◌, ◌≤◌, arith, refl, sym, ap, subst, ◌∙◌, eq-one_of_dvd-one, gcd, Fraction, ◌over◌, whole, ◌+ℚ◌, ◌*ℚ◌, ◌<ℚ◌, ◌/ℚ◌, div-le_self, Ordering, Less, Equal, Greater, MatchOrdering, nat_cmp, ranked}
 use Rattle.dl_exact.proofs.GcdLaws.{gcd_is, cut_left, cut_right, cut_pos}
 use Rattle.dl_exact.proofs.Over.{over_num, over_den, over_self, over_same, over_lt, lt_over}
 use Rattle.dl_exact.proofs.Laws.{one_pos}

@@ -1,7 +1,5 @@
 -- The laws of powers of fractions and of factorials.
-use Rattle.dl_exact.proofs.Common.{◌≡◌, ℕ, suc, zero, ◌+◌, ◌<◌, sym, ap, ◌∙◌, mul-pos, zero-lt-suc, Fraction, whole, ◌*ℚ◌, ◌<ℚ◌}
-use Rattle.std.proofs.Common.{zero-add, suc-add}
-use Rattle.dl_exact.specs.Power.{◌^ℚ◌, factorial}
+use Rattle.dl_exact.proofs.Common.{◌≡◌, ℕ, suc, zero, ◌+◌, ◌<◌, sym, ap, ◌∙◌, mul-pos, zero-lt-suc, Fraction, whole, ◌*ℚ◌, ◌<ℚ◌, zero-add, suc-add, ◌^ℚ◌, factorial}
 use Rattle.dl_exact.proofs.Laws.{ring, one_pos, one_times, times_one, times_assoc, times_pos, whole_pos}
 
 pub pow_plus : (x : Fraction) (m n : ℕ) → x ^ℚ (m + n) ≡ x ^ℚ m *ℚ x ^ℚ n
@@ -14,11 +12,6 @@ pub pow_times : (x y : Fraction) (n : ℕ) → (x *ℚ y) ^ℚ n ≡ x ^ℚ n *�
 unfolding ◌^ℚ◌
 pow_times x y zero = sym (times_one _)
 pow_times x y (suc n) = ap (λ t. x *ℚ y *ℚ t) (pow_times x y n) ∙ simp ring
-
-pub pow_pos : (x : Fraction) (n : ℕ) → whole 0 <ℚ x → whole 0 <ℚ x ^ℚ n
-unfolding ◌^ℚ◌
-pow_pos x zero h = whole_pos 1 one_pos
-pow_pos x (suc n) h = times_pos _ _ h (pow_pos x n h)
 
 pub factorial_pos : (n : ℕ) → 0 < factorial n
 unfolding factorial

@@ -1,5 +1,5 @@
 -- What holds of a call's value, by three facts that hold of it.
-use Rattle.std.specs.Prelude.{Result, Ok, Err, IfOk}
+use Rattle.dl_exact.proofs.Common.{Result, Ok, Err, IfOk}
 
 pub if_ok_three : {T E : Type 0} (r : Result T E) (P Q R Z : T → Type 0) → ((x : T) → P x → Q x → R x → Z x) → IfOk r P
     → IfOk r Q → IfOk r R → IfOk r Z

@@ -1,10 +1,7 @@
 -- Quotients of whole numbers are floors and ceilings, and there is one of each.
-use Rattle.dl_exact.proofs.Common.{◌≡◌, ℕ, ◌*◌, ◌/◌, ◌<◌, ◌≤◌, arith, inl, inr, subst, mul-le-mul_left, cases_lt, div_ceil, Fraction, ◌over◌, ◌≤ℚ◌, whole, IsFloor, IsCeiling}
+use Rattle.dl_exact.proofs.Common.{◌≡◌, ℕ, ◌*◌, ◌/◌, ◌<◌, ◌≤◌, arith, inl, inr, subst, mul-le-mul_left, cases_lt, div_ceil, Fraction, ◌over◌, ◌≤ℚ◌, whole, IsFloor, IsCeiling, le-div, div_ceil_times, up}
 use Rattle.std.proofs.Math.Nat.{div-mul-le_self, mul-le-mul_right}
-use Rattle.std.proofs.lemmas.Nat.{le-div}
-use Rattle.std.proofs.lemmas.Grind.{div_ceil_times}
 use Rattle.dl_exact.proofs.Over.{over_le, le_over, over_self}
-unfoldable use Rattle.dl_exact.specs.Rounding.{up}
 use Rattle.dl_exact.proofs.Laws.{one_pos}
 
 -- whole numbers stand as their fractions do

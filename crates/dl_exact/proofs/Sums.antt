@@ -1,7 +1,5 @@
 -- The laws of sums.
-use Rattle.dl_exact.proofs.Common.{◌≡◌, inl, inr, ℕ, suc, zero, ◌+◌, ◌-◌, ◌<◌, ◌≤◌, List, [], ◌∷◌, arith, refl, sym, ap, ap₂, subst, ◌∙◌, sub-zero, suc-sub-suc, le_ind, cases_lt, Fraction, ◌+ℚ◌, ◌*ℚ◌, ◌≤ℚ◌, whole, sum_to, sum_below, sum_pairs, sum_over}
-use Rattle.std.proofs.Common.{◌++◌, map, add-suc, add-zero}
-use Rattle.std.proofs.Math.Path.{fun_ext}
+use Rattle.dl_exact.proofs.Common.{◌≡◌, inl, inr, ℕ, suc, zero, ◌+◌, ◌-◌, ◌<◌, ◌≤◌, List, [], ◌∷◌, arith, refl, sym, ap, ap₂, subst, ◌∙◌, sub-zero, suc-sub-suc, le_ind, cases_lt, Fraction, ◌+ℚ◌, ◌*ℚ◌, ◌≤ℚ◌, whole, sum_to, sum_below, sum_pairs, sum_over, ◌++◌, map, add-suc, add-zero, fun_ext}
 use Rattle.dl_exact.proofs.Laws.{ring, plus_assoc, plus_comm, plus_times, times_plus, times_zero, zero_plus, plus_zero, zero_times, whole_plus, whole_suc, le_refl, le_trans, plus_le_both, le_plus}
 
 -- ---- sum_to

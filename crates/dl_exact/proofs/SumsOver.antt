@@ -1,8 +1,6 @@
 -- Sums over one denominator, and sums in whole units.
-use Rattle.dl_exact.proofs.Common.{◌≡◌, ℕ, suc, zero, ◌+◌, ◌*◌, ◌<◌, List, [], ◌∷◌, arith, refl, sym, ap, subst₂, ◌∙◌, mul-pos, sum_by-cons, Fraction, whole, ◌over◌, ◌+ℚ◌, ◌*ℚ◌, ◌≤ℚ◌, sum_to, sum_below, sum_pairs, sum_over, count_below, count_pairs}
+use Rattle.dl_exact.proofs.Common.{◌≡◌, ℕ, suc, zero, ◌+◌, ◌*◌, ◌<◌, List, [], ◌∷◌, arith, refl, sym, ap, subst₂, ◌∙◌, mul-pos, sum_by-cons, Fraction, whole, ◌over◌, ◌+ℚ◌, ◌*ℚ◌, ◌≤ℚ◌, sum_to, sum_below, sum_pairs, sum_over, count_below, count_pairs, sum_through, sum_by}
 use Rattle.std.proofs.Common.{Bool, true, false, cond}
-use Rattle.std.specs.Int.{sum_through}
-use Rattle.std.specs.List.{sum_by}
 use Rattle.dl_exact.proofs.Over.{over_mul}
 use Rattle.dl_exact.proofs.Laws.{times_plus, whole_plus, plus_le_both}
 use Rattle.dl_exact.proofs.Sums.{sum_pairs_same}

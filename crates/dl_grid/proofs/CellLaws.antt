@@ -56,21 +56,9 @@ high_le [] x m small = omega arith
 high_le (c ∷ cs) zero m small = small 0 c (omega arith)
 high_le (c ∷ cs) (suc x) m small = high_le cs x m (λ k d h. small (suc k) d (omega arith))
 
-pub high_fits : {B : ℕ} (cells : List (Iv B)) (x : ℕ) → IsGrid cells → high_at cells x ≤ 2 ^ 56
-high_fits {B} cells x grid = omega (arith, high_le cells x (2 ^ B) grid.small, one_fits B (scale_of cells grid.some).1)
-
 -- the sum of a number of at most 1 for some of the cells
 pub cells_fit : {B : ℕ} (cells : List (Iv B)) (n : ℕ) → IsGrid cells → n ≤ length cells → n * 2 ^ B ≤ 2 ^ 70
 cells_fit {B} cells n grid inside = le_trans (mul-le-mul_right (2 ^ B) inside) (mass_fits (size_of cells grid))
-
--- a sum of parts that are each at most 1
-pub sum_fits : {B : ℕ} (cells : List (Iv B)) (f : Iv B → ℕ) (n : ℕ) → IsGrid cells → ((cell : Iv B) → f cell ≤ cell.hi)
-    → sum_by f (take n cells) ≤ 2 ^ 70
-sum_fits {B} cells f n grid within =
-    let each : All (λ cell. f cell ≤ 2 ^ B) cells = λ k d h.
-    omega (arith, within (get_or cells k d), grid.small k d h) in
-    let whole : sum_by f cells ≤ length cells * 2 ^ B = sum_by-le f (2 ^ B) cells each in
-    omega (arith, sum_by-take-le f cells n, whole, mass_fits (size_of cells grid))
 
 pub width_within : {B : ℕ} (cell : Iv B) → cell.hi - cell.lo ≤ cell.hi
 width_within cell = omega arith

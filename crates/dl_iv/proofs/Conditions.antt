@@ -1,6 +1,5 @@
 -- Plainer bounds from which the conditions of the rounded operations follow.
-use Rattle.dl_iv.proofs.Common.{ℕ, ◌+◌, ◌*◌, ◌/◌, ◌%◌, ◌^◌, ◌<◌, ◌≤◌, arith, refl, le-mul_of_pos_right, mul-le-mul_right, le_trans, div_ceil, div-le_of_le-mul, pow_pos, div_ceil_least}
-use Rattle.std.proofs.Common.{min, mul_comm}
+use Rattle.dl_iv.proofs.Common.{ℕ, ◌+◌, ◌*◌, ◌/◌, ◌%◌, ◌^◌, ◌<◌, ◌≤◌, arith, refl, le-mul_of_pos_right, mul-le-mul_right, le_trans, div_ceil, div-le_of_le-mul, pow_pos, div_ceil_least, min, mul_comm}
 use Rattle.std.proofs.Math.Nat.{lt-div-mul-add, mod-le, mod-lt, mul-le-mul}
 use Rattle.dl_iv.proofs.Rounding.{power_le}
 

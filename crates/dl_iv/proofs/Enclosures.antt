@@ -1,8 +1,6 @@
 -- Laws of intervals and the fractions that lie in them.
-use Rattle.dl_iv.proofs.Common.{ℕ, ◌≤◌, ◌^◌, pow_pos, Fraction, ◌over◌, Iv}
+use Rattle.dl_iv.proofs.Common.{ℕ, ◌≤◌, ◌^◌, pow_pos, Fraction, ◌over◌, Iv, LiesIn, over_le_over}
 use Rattle.dl_exact.proofs.Laws.{le_trans}
-use Rattle.dl_iv.specs.Enclosure.{LiesIn}
-use Rattle.dl_exact.proofs.Denominators.{over_le_over}
 
 -- an interval holds what a narrower one holds
 pub lies_in_wider : {B : ℕ} (x : Fraction) (narrow wide : Iv B) → wide.lo ≤ narrow.lo → narrow.hi ≤ wide.hi

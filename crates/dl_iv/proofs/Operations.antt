@@ -1,9 +1,5 @@
 -- For each operation on ends the law that its result holds the values, with d units to 1.
-use Rattle.dl_iv.proofs.Common.{ℕ, ◌≡◌, ◌+◌, ◌-◌, ◌*◌, ◌/◌, ◌<◌, arith, sym, subst, ◌∙◌, mul-pos, div_ceil, Fraction, ◌over◌, ◌+ℚ◌, ◌≤ℚ◌, le_refl, le_of_eq}
-use Rattle.dl_exact.specs.Fraction.{whole, ◌-ℚ◌, ◌*ℚ◌, ◌/ℚ◌, ◌<ℚ◌}
-use Rattle.dl_exact.proofs.Over.{over_same, over_mul, over_div}
-use Rattle.dl_exact.proofs.Laws.{plus_le_both, lt_of_lt_of_le, times_le_both, sub_le_both, div_le_both}
-use Rattle.dl_exact.proofs.Denominators.{over_split, over_minus, over_one, over_pos}
+use Rattle.dl_iv.proofs.Common.{ℕ, ◌≡◌, ◌+◌, ◌-◌, ◌*◌, ◌/◌, ◌<◌, arith, sym, subst, ◌∙◌, mul-pos, div_ceil, Fraction, ◌over◌, ◌+ℚ◌, ◌≤ℚ◌, le_refl, le_of_eq, whole, ◌-ℚ◌, ◌*ℚ◌, ◌/ℚ◌, ◌<ℚ◌, over_same, over_mul, over_div, plus_le_both, lt_of_lt_of_le, times_le_both, sub_le_both, div_le_both, over_split, over_minus, over_one, over_pos}
 use Rattle.dl_iv.proofs.Rounding.{round_down, round_up}
 
 module _ (d : ℕ) (pos : 0 < d) where

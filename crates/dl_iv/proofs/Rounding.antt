@@ -1,9 +1,5 @@
 -- The floor and the ceiling of a quotient, as numbers and as numbers of units.
-use Rattle.dl_iv.proofs.Common.{ℕ, ◌≡◌, ◌+◌, ◌-◌, ◌*◌, ◌/◌, ◌%◌, ◌<◌, ◌≤◌, ◌^◌, arith, refl, sym, ap, ◌∙◌, mul-pos, mul-le-mul_right, div-le_of_le-mul, div_ceil, Fraction, ◌over◌, ◌≤ℚ◌}
-use Rattle.std.proofs.Math.Nat.{div-mul-le_self, pow-le-pow_right, mul-add-div, mul-add-mod_self_left, div-add-mod}
-use Rattle.std.proofs.lemmas.Nat.{pow-add}
-use Rattle.std.proofs.lemmas.Grind.{div_ceil_times}
-use Rattle.dl_exact.proofs.Over.{over_le}
+use Rattle.dl_iv.proofs.Common.{ℕ, ◌≡◌, ◌+◌, ◌-◌, ◌*◌, ◌/◌, ◌%◌, ◌<◌, ◌≤◌, ◌^◌, arith, refl, sym, ap, ◌∙◌, mul-pos, mul-le-mul_right, div-le_of_le-mul, div_ceil, Fraction, ◌over◌, ◌≤ℚ◌, div-mul-le_self, pow-le-pow_right, mul-add-div, mul-add-mod_self_left, div-add-mod, pow-add, div_ceil_times, over_le}
 use Rattle.dl_exact.proofs.Laws.{le_trans as chain}
 
 -- a ceiling reaches

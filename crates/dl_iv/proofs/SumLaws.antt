@@ -1,8 +1,5 @@
 -- The law that a sum of intervals holds the sums of their values.
-use Rattle.dl_iv.proofs.Common.{ℕ, ◌^◌, List, sym, subst, sum_by, pow_pos, Fraction, ◌over◌, ◌+ℚ◌, ◌≤ℚ◌, sum_over, le_of_eq, Iv}
-use Rattle.std.proofs.lemmas.List.Sums.{sum_by-cons}
-use Rattle.dl_iv.specs.Enclosure.{EachLiesIn, nothing, then}
-use Rattle.dl_exact.proofs.Denominators.{over_zero}
+use Rattle.dl_iv.proofs.Common.{ℕ, ◌^◌, List, sym, subst, sum_by, pow_pos, Fraction, ◌over◌, ◌+ℚ◌, ◌≤ℚ◌, sum_over, le_of_eq, Iv, sum_by-cons, EachLiesIn, nothing, then, over_zero}
 use Rattle.dl_iv.proofs.Operations.{add_low, add_high}
 
 pub sum_low : {B : ℕ} {xs : List Fraction} {intervals : List (Iv B)} → EachLiesIn xs intervals

@@ -49,14 +49,6 @@ amount_fits cells = elim (leb_tells cells most_short_cells) [
   | inr long ↦ rw long.0 (omega arith)
 ]
 
--- no plan has a greater mean
-pub total_fits : (cells : ℕ) → most_total_at cells ≤ most_total
-unfolding most_total_at
-total_fits cells = elim (leb_tells cells most_short_cells) [
-  | inl short ↦ rw short.0 (omega arith)
-  | inr long ↦ rw long.0 (omega arith)
-]
-
 -- the means of at most 16 units, each of 17 times 4,096 claims of the greatest amount
 pub standard_total : (cells : ℕ) → 16 * (17 * 4096 * most_amount_at cells) ≤ most_total_at cells
 unfolding most_amount_at most_total_at

@@ -1,9 +1,6 @@
 -- The ends of a distribution and of a layer, from those of the cells of an enclosing grid.
-use Rattle.dl_measures.proofs.Common.{◌≡◌, inl, inr, ℕ, suc, ◌+◌, ◌-◌, ◌<◌, ◌≤◌, min, arith, sym, ap, subst, subst₂, ◌∙◌, List, Some, fun_ext, cases_lt, Fraction, whole, ◌over◌, count_below, below_grows, IsBound, AtMost, Holds, Loss, AreDeclarable, One, Cdf, Layer, score, partial_sums, total, Encloses, outcomes_rise, cdf_most_one, low_cdf, high_cdf, min-eq_left, min-eq_right, over_one, over_rest, Point, above, survival, cdf_points, layer_survivals, to_holds, below_holds, above_ends, low_layer, high_layer}
-use Rattle.dl_model.specs.Program.{Quantity}
+use Rattle.dl_measures.proofs.Common.{◌≡◌, inl, inr, ℕ, suc, ◌+◌, ◌-◌, ◌<◌, ◌≤◌, min, arith, sym, ap, subst, subst₂, ◌∙◌, List, Some, fun_ext, cases_lt, Fraction, whole, ◌over◌, count_below, below_grows, IsBound, AtMost, Holds, Loss, AreDeclarable, One, Cdf, Layer, score, partial_sums, total, Encloses, outcomes_rise, cdf_most_one, low_cdf, high_cdf, min-eq_left, min-eq_right, over_one, over_rest, Point, above, survival, cdf_points, layer_survivals, to_holds, below_holds, above_ends, low_layer, high_layer, Quantity, sum_to, sum_below, to_over, below_over}
 use Rattle.dl_model.specs.Series.{Rises, Series}
-use Rattle.dl_exact.specs.Sum.{sum_to, sum_below}
-use Rattle.dl_exact.proofs.SumsOver.{to_over, below_over}
 
 -- whatever declares them: the distribution is the sum of the points, and at most 1
 pub cdf_within : (D : Quantity → Series) (S K : ℕ) (lo hi : ℕ → ℕ) → ((x : ℕ) → Rises (D (Point x)))

@@ -1,11 +1,7 @@
 -- The means of layers, from the ends that a grid gives.
-use Rattle.dl_measures.proofs.Common.{ℕ, suc, ◌≡◌, inl, inr, ◌+◌, ◌-◌, ◌*◌, ◌^◌, ◌<◌, ◌≤◌, min, List, length, arith, sym, ap, subst, ◌∙◌, Option, Some, None, mul-le-mul_right, fun_ext, pow_pos, cases_lt, whole, ◌over◌, ◌+ℚ◌, ◌*ℚ◌, ◌≤ℚ◌, over_le, over_same, one_pos, zero_le, Iv, low_at, high_at, spread, IsGrid, cells_fit, AtLeast, AtMost, Holds, count_below, Loss, One, Layer, score, partial_sums, total, GridEncloses, AreDeclared, at_most_wider, outcomes_rise, over_plus, below_bound, are_units, quantity_bounded, zero_times, plus, Mean, mean_split, excess_ends, layer_width}
-use Rattle.dl_model.proofs.Minus.{at_most_minus}
+use Rattle.dl_measures.proofs.Common.{ℕ, suc, ◌≡◌, inl, inr, ◌+◌, ◌-◌, ◌*◌, ◌^◌, ◌<◌, ◌≤◌, min, List, length, arith, sym, ap, subst, ◌∙◌, Option, Some, None, mul-le-mul_right, fun_ext, pow_pos, cases_lt, whole, ◌over◌, ◌+ℚ◌, ◌*ℚ◌, ◌≤ℚ◌, over_le, over_same, one_pos, zero_le, Iv, low_at, high_at, spread, IsGrid, cells_fit, AtLeast, AtMost, Holds, count_below, Loss, One, Layer, score, partial_sums, total, GridEncloses, AreDeclared, at_most_wider, outcomes_rise, over_plus, below_bound, are_units, quantity_bounded, zero_times, plus, Mean, mean_split, excess_ends, layer_width, at_most_minus, edge_of, layer_most, below_le}
 use Rattle.dl_measures.proofs.CellEnds.{layer_ends}
 use Rattle.dl_measures.proofs.Widths.{rests}
-use Rattle.dl_plan.specs.Horizon.{edge_of}
-use Rattle.dl_measures.specs.Layers.{layer_most}
-use Rattle.dl_exact.proofs.Counts.{below_le}
 use Rattle.dl_measures.proofs.Sums.{apart, low_high, low_most}
 use Rattle.dl_measures.proofs.Reached.{more}
 

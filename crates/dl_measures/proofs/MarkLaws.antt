@@ -1,12 +1,6 @@
 -- The laws of running sums and of their marks.
-use Rattle.dl_measures.proofs.Common.{ℕ, zero, suc, ◌≡◌, ◌+◌, ◌-◌, ◌*◌, ◌^◌, ◌<◌, ◌≤◌, List, length, get_or, arith, refl, sym, ap, subst, subst₂, ◌∙◌, cases_lt, inl, inr, add-zero, min, Iv, IsGrid, one_fits, scale_of, size_of, count_below, below_nothing, below_more, below_bound, below_grows, mul-le-mul, mul-le-mul_right}
-use Rattle.dl_exact.proofs.Counts.{below_same}
-use Rattle.dl_grid.proofs.Room.{size_few}
+use Rattle.dl_measures.proofs.Common.{ℕ, zero, suc, ◌≡◌, ◌+◌, ◌-◌, ◌*◌, ◌^◌, ◌<◌, ◌≤◌, List, length, get_or, arith, refl, sym, ap, subst, subst₂, ◌∙◌, cases_lt, inl, inr, add-zero, min, Iv, IsGrid, one_fits, scale_of, size_of, count_below, below_nothing, below_more, below_bound, below_grows, mul-le-mul, mul-le-mul_right, below_same, size_few, get_or_append_left, length-append, get_or-append_seam, Mark, AreFew, AreMarks, IsMark, IsRunningOf, end_at}
 use Rattle.std.specs.Prelude.{[], ◌∷◌, ◌++◌, All}
-use Rattle.std.proofs.lemmas.List.{get_or_append_left, length-append}
-use Rattle.std.proofs.Math.Seq.{get_or-append_seam}
-use Rattle.dl_measures.specs.declared.marks.Mark.{Mark}
-use Rattle.dl_measures.specs.Running.{AreFew, AreMarks, IsMark, IsRunningOf, end_at}
 
 -- ---- one mark
 

@@ -1,8 +1,5 @@
 -- A part of a tail mean: what its ends hold, how far apart they lie, and how large they are. S units make 1.
-use Rattle.dl_measures.proofs.Common.{ap₂, ℕ, ◌≡◌, ◌+◌, ◌-◌, ◌*◌, ◌/◌, ◌^◌, ◌<◌, ◌≤◌, arith, sym, ap, subst, ◌∙◌, div_ceil, mul-le-mul, mul-le-mul_right, Fraction, whole, ◌+ℚ◌, ◌*ℚ◌, ◌≤ℚ◌, over_self, over_mul, over_add, over_le, le_over, one_pos, times_comm, div_ceil_least, up, up_quotient, Series, AtMost, AtLeast, at_least_wider, at_most_wider, List, [], ◌∷◌, All, All-head, All-tail, sum_by-cons, ◌<ℚ◌, mul-le-mul_left, num_below, tail_width, Term, term_width, price_width}
-use Rattle.std.proofs.lemmas.Grind.{div_ceil_times}
-use Rattle.dl_iv.proofs.Rounding.{ceiling_reaches}
-use Rattle.dl_model.proofs.Declared.{scaled_least, scaled_most}
+use Rattle.dl_measures.proofs.Common.{ap₂, ℕ, ◌≡◌, ◌+◌, ◌-◌, ◌*◌, ◌/◌, ◌^◌, ◌<◌, ◌≤◌, arith, sym, ap, subst, ◌∙◌, div_ceil, mul-le-mul, mul-le-mul_right, Fraction, whole, ◌+ℚ◌, ◌*ℚ◌, ◌≤ℚ◌, over_self, over_mul, over_add, over_le, le_over, one_pos, times_comm, div_ceil_least, up, up_quotient, Series, AtMost, AtLeast, at_least_wider, at_most_wider, List, [], ◌∷◌, All, All-head, All-tail, sum_by-cons, ◌<ℚ◌, mul-le-mul_left, num_below, tail_width, Term, term_width, price_width, div_ceil_times, ceiling_reaches, scaled_least, scaled_most}
 use Rattle.dl_measures.proofs.TailLaws.{quotients_apart}
 
 -- a weight is at most 1 where its first part is at most its second

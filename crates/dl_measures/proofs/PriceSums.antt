@@ -1,9 +1,5 @@
 -- The sum of the terms so far: what its ends hold, how far apart they lie, and how large they are.
-use Rattle.dl_measures.proofs.Common.{ℕ, suc, ◌≡◌, ◌+◌, ◌-◌, ◌*◌, ◌^◌, ◌<◌, ◌≤◌, arith, sym, ap, ap₂, subst, subst₂, ◌∙◌, List, [], ◌∷◌, ◌++◌, length, take, drop, get_or, sum_by, take-append-drop, take_all, length-map, get_or-map, pow_pos, fun_ext, div_ceil, Fraction, whole, ◌over◌, ◌+ℚ◌, ◌*ℚ◌, ◌≤ℚ◌, over_plus, ring, le_refl, le_trans, le_plus, zero_le, zero_times, plus_zero, plus_comm, plus_le_both, times_le_both, whole_plus, times_one, le_whole, Iv, spread, Term, Series, AtLeast, AtMost, Holds, plus, Loss, AreDeclarable, PricedTerm, One, Mean, Tail, Price, score, partial_sums, total, GridEncloses, AreDeclared, IsQuantile, are_units, at_least_plus, at_most_plus, outcomes_rise, AreTermsOf, AreQuantiles, term_of, term_width, price_width, most_tail, take_more, sum_by-append}
-use Rattle.dl_exact.specs.Sum.{sum_over}
-use Rattle.dl_exact.proofs.Sums.{sum_over_append}
-use Rattle.dl_exact.proofs.Denominators.{over_zero}
-use Rattle.dl_model.proofs.PriceLaws.{price_sums}
+use Rattle.dl_measures.proofs.Common.{ℕ, suc, ◌≡◌, ◌+◌, ◌-◌, ◌*◌, ◌^◌, ◌<◌, ◌≤◌, arith, sym, ap, ap₂, subst, subst₂, ◌∙◌, List, [], ◌∷◌, ◌++◌, length, take, drop, get_or, sum_by, take-append-drop, take_all, length-map, get_or-map, pow_pos, fun_ext, div_ceil, Fraction, whole, ◌over◌, ◌+ℚ◌, ◌*ℚ◌, ◌≤ℚ◌, over_plus, ring, le_refl, le_trans, le_plus, zero_le, zero_times, plus_zero, plus_comm, plus_le_both, times_le_both, whole_plus, times_one, le_whole, Iv, spread, Term, Series, AtLeast, AtMost, Holds, plus, Loss, AreDeclarable, PricedTerm, One, Mean, Tail, Price, score, partial_sums, total, GridEncloses, AreDeclared, IsQuantile, are_units, at_least_plus, at_most_plus, outcomes_rise, AreTermsOf, AreQuantiles, term_of, term_width, price_width, most_tail, take_more, sum_by-append, sum_over, sum_over_append, over_zero, price_sums}
 use Rattle.dl_measures.proofs.Parts.{part_units}
 
 abbrev weights : List Term → Fraction

@@ -1,11 +1,8 @@
 -- From the running sums of a grid to the bracket of a quantile.
-use Rattle.dl_measures.proofs.Common.{ℕ, suc, ◌≡◌, inl, inr, ◌+◌, ◌*◌, ◌^◌, ◌<◌, ◌≤◌, min, List, length, arith, refl, subst, subst₂, Option, Some, None, mul-le-mul, mul-le-mul_right, pow_pos, cases_lt, Fraction, whole, ◌over◌, ◌≤ℚ◌, ◌<ℚ◌, over_self, over_le, over_lt, le_trans, Iv, low_at, high_at, spread, one_fits, count_below, Loss, AreDeclarable, One, total, GridEncloses, IsQuantile, IsBracketed, AreDeclared, low_cdf, high_cdf, IsTight, below_more, are_units, quantity_bounded, IsFirstAtLeast, IsFirstFound, partial_sums, num_below, min-eq_left, min-eq_right, min-le_right, whole_positive}
-use Rattle.dl_model.proofs.Bracket.{quantile_inside}
+use Rattle.dl_measures.proofs.Common.{ℕ, suc, ◌≡◌, inl, inr, ◌+◌, ◌*◌, ◌^◌, ◌<◌, ◌≤◌, min, List, length, arith, refl, subst, subst₂, Option, Some, None, mul-le-mul, mul-le-mul_right, pow_pos, cases_lt, Fraction, whole, ◌over◌, ◌≤ℚ◌, ◌<ℚ◌, over_self, over_le, over_lt, le_trans, Iv, low_at, high_at, spread, one_fits, count_below, Loss, AreDeclarable, One, total, GridEncloses, IsQuantile, IsBracketed, AreDeclared, low_cdf, high_cdf, IsTight, below_more, are_units, quantity_bounded, IsFirstAtLeast, IsFirstFound, partial_sums, num_below, min-eq_left, min-eq_right, min-le_right, whole_positive, quantile_inside, Mark, IsRunningOf, end_at}
 use Rattle.dl_measures.proofs.FoundBrackets.{bracket, tight, high_rises}
 use Rattle.dl_measures.proofs.Sums.{apart}
 use Rattle.std.proofs.Math.Nat.{le_refl}
-use Rattle.dl_measures.specs.declared.marks.Mark.{Mark}
-use Rattle.dl_measures.specs.Running.{IsRunningOf, end_at}
 
 -- ---- a sum of units against the probability
 

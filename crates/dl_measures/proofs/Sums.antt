@@ -1,6 +1,5 @@
 -- The sums of the ends of a grid's first cells, as a loop makes them.
-use Rattle.dl_measures.proofs.Common.{ℕ, zero, suc, ◌≡◌, ◌+◌, ◌*◌, ◌^◌, ◌≤◌, List, length, arith, refl, Iv, low_at, high_at, spread, IsGrid, cells_fit, count_below, below_bound, take, mass_high, high_le}
-use Rattle.dl_grid.proofs.EndLists.{spread_is}
+use Rattle.dl_measures.proofs.Common.{ℕ, zero, suc, ◌≡◌, ◌+◌, ◌*◌, ◌^◌, ◌≤◌, List, length, arith, refl, Iv, low_at, high_at, spread, IsGrid, cells_fit, count_below, below_bound, take, mass_high, high_le, spread_is}
 use Rattle.dl_grid.proofs.PlaceSums.{low_sum, low_within, width_at, width_sum, width_within, high_is}
 
 -- the high ends are the low ends and the widths

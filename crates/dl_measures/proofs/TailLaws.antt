@@ -1,12 +1,5 @@
 -- From the excess over the low end of a bracket to the tail mean.
-use Rattle.dl_measures.proofs.Common.{ℕ, suc, ◌≡◌, inl, inr, ◌+◌, ◌-◌, ◌*◌, ◌/◌, ◌^◌, ◌<◌, ◌≤◌, min, List, length, arith, sym, ap, ap₂, subst, subst₂, ◌∙◌, Some, None, div_ceil, mul-le-mul, mul-le-mul_right, pow_pos, cases_lt, Fraction, whole, ◌over◌, ◌+ℚ◌, ◌-ℚ◌, ◌*ℚ◌, ◌≤ℚ◌, ◌<ℚ◌, over_self, over_same, over_le, over_lt, one_pos, lt_not_le, Iv, low_at, high_at, spread, IsGrid, IsBound, AtMost, AtLeast, Holds, count_below, Loss, One, Cdf, Layer, partial_sums, total, Encloses, IsQuantile, AreDeclared, low_cdf, high_cdf, IsTight, at_most_wider, are_units, quantity_bounded, IsFirstAtLeast, IsFirstFound, num_below, div-add-mod', get_or, mul-le-mul_left, mul-pos, div-mul-le_self, div-le_self, mod-lt, add-sub_of_le, ◌/ℚ◌, over_add, over_mul, over_div, le_of_lt, lt_of_le_of_lt, size_of, width_within, Tail, tail_width}
-use Rattle.std.proofs.lemmas.List.Sums.{sum_by-le}
-use Rattle.dl_exact.proofs.RoundingLaws.{div_ceil_least}
-use Rattle.dl_iv.proofs.Rounding.{ceiling_reaches}
-use Rattle.dl_grid.proofs.WidthLaws.{up_quotient}
-use Rattle.dl_grid.proofs.Room.{masses_fit}
-use Rattle.dl_model.proofs.TailEnds.{tail_most}
-use Rattle.dl_model.proofs.PriceLaws.{tail_start, tail_bracket}
+use Rattle.dl_measures.proofs.Common.{ℕ, suc, ◌≡◌, inl, inr, ◌+◌, ◌-◌, ◌*◌, ◌/◌, ◌^◌, ◌<◌, ◌≤◌, min, List, length, arith, sym, ap, ap₂, subst, subst₂, ◌∙◌, Some, None, div_ceil, mul-le-mul, mul-le-mul_right, pow_pos, cases_lt, Fraction, whole, ◌over◌, ◌+ℚ◌, ◌-ℚ◌, ◌*ℚ◌, ◌≤ℚ◌, ◌<ℚ◌, over_self, over_same, over_le, over_lt, one_pos, lt_not_le, Iv, low_at, high_at, spread, IsGrid, IsBound, AtMost, AtLeast, Holds, count_below, Loss, One, Cdf, Layer, partial_sums, total, Encloses, IsQuantile, AreDeclared, low_cdf, high_cdf, IsTight, at_most_wider, are_units, quantity_bounded, IsFirstAtLeast, IsFirstFound, num_below, div-add-mod', get_or, mul-le-mul_left, mul-pos, div-mul-le_self, div-le_self, mod-lt, add-sub_of_le, ◌/ℚ◌, over_add, over_mul, over_div, le_of_lt, lt_of_le_of_lt, size_of, width_within, Tail, tail_width, sum_by-le, div_ceil_least, ceiling_reaches, up_quotient, masses_fit, tail_most, tail_start, tail_bracket}
 use Rattle.dl_measures.proofs.Sums.{low_high, low_most}
 use Rattle.dl_measures.proofs.CellEnds.{cdf_ends}
 

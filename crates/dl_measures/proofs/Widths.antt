@@ -1,6 +1,5 @@
 -- What an enclosing grid weighs, and how wide its ends are.
-use Rattle.dl_measures.proofs.Common.{◌≡◌, inl, inr, ℕ, suc, zero, ◌+◌, ◌-◌, ◌*◌, ◌<◌, ◌≤◌, min, arith, List, cases_lt, Fraction, whole, ◌<ℚ◌, over_lt, one_pos, IsBound, count_below, Loss, AreDeclarable, One, Cdf, score, partial_sums, total, Encloses, low_cdf, outcomes_rise, cdf_most_one}
-use Rattle.dl_model.proofs.Alike.{not_both}
+use Rattle.dl_measures.proofs.Common.{◌≡◌, inl, inr, ℕ, suc, zero, ◌+◌, ◌-◌, ◌*◌, ◌<◌, ◌≤◌, min, arith, List, cases_lt, Fraction, whole, ◌<ℚ◌, over_lt, one_pos, IsBound, count_below, Loss, AreDeclarable, One, Cdf, score, partial_sums, total, Encloses, low_cdf, outcomes_rise, cdf_most_one, not_both}
 use Rattle.dl_measures.proofs.CellEnds.{cdf_ends}
 
 -- the low ends of an enclosing grid add up to at most S

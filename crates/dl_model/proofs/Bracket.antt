@@ -1,7 +1,6 @@
 -- A bracket holds each quantile, and there is at most one.
-use Rattle.dl_model.proofs.Common.{◌≡◌, inl, inr, ℕ, ◌-◌, ◌≤◌, arith, sym, subst₂, List, Some, None, cases_lt, Fraction, whole, ◌≤ℚ◌, ◌<ℚ◌, le_trans, sum_to_grows, IsBound, AtLeast, Below, Rises, Series, Loss, AreDeclarable, One, Cdf, score, partial_sums, IsQuantile, Quantity, IsBracketed}
+use Rattle.dl_model.proofs.Common.{◌≡◌, inl, inr, ℕ, ◌-◌, ◌≤◌, arith, sym, subst₂, List, Some, None, cases_lt, Fraction, whole, ◌≤ℚ◌, ◌<ℚ◌, le_trans, sum_to_grows, IsBound, AtLeast, Below, Rises, Series, Loss, AreDeclarable, One, Cdf, score, partial_sums, IsQuantile, Quantity, IsBracketed, none-some}
 use Rattle.std.specs.Prelude.{Option}
-use Rattle.std.proofs.lemmas.Option.{none-some}
 use Rattle.dl_model.proofs.Alike.{not_both}
 use Rattle.dl_model.proofs.Outcomes.{outcomes_rise}
 use Rattle.dl_model.proofs.Scores.{cdf_points}

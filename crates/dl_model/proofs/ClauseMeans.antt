@@ -1,8 +1,6 @@
 -- The mean of a unit after its aggregate clause, from the layers of the sum of its claims.
-use Rattle.dl_model.proofs.Common.{◌≡◌, ℕ, ◌*◌, ◌/◌, List, [], ◌∷◌, ◌++◌, Bool, true, false, arith, refl, sym, ap, ap₂, subst, subst₂, ◌∙◌, sum, if◌then◌else◌, IfSome, All, fun_ext, ◌∣◌, dec_dvd, div-one, dvd-mul_left, All-head, All-tail, Fraction, whole, ◌over◌, ◌+ℚ◌, ◌-ℚ◌, ◌*ℚ◌, ◌≤ℚ◌, sum_to, sum_over, over_self, plus_assoc, plus_zero, zero_plus, times_comm, times_zero, sub_plus, sum_to_same, Sev, common_amount, greatest, probability_of, pairs_of, mean_amount, Clause, layer, kept, expected_count, IsAggregate, IsValidUnit, Holds, cell, Series, IsDeclarable, Loss, AreDeclared, loss, One, Mean, score, sum_over_outcomes, partial_sums, total, Encloses, IsDeclared, count_weights, outcome_after, aggregate_of, compound_of, ceded, claims_of, mean_ceded, UnitOfPlan}
+use Rattle.dl_model.proofs.Common.{◌≡◌, ℕ, ◌*◌, ◌/◌, List, [], ◌∷◌, ◌++◌, Bool, true, false, arith, refl, sym, ap, ap₂, subst, subst₂, ◌∙◌, sum, if◌then◌else◌, IfSome, All, fun_ext, ◌∣◌, dec_dvd, div-one, dvd-mul_left, All-head, All-tail, Fraction, whole, ◌over◌, ◌+ℚ◌, ◌-ℚ◌, ◌*ℚ◌, ◌≤ℚ◌, sum_to, sum_over, over_self, plus_assoc, plus_zero, zero_plus, times_comm, times_zero, sub_plus, sum_to_same, Sev, common_amount, greatest, probability_of, pairs_of, mean_amount, Clause, layer, kept, expected_count, IsAggregate, IsValidUnit, Holds, cell, Series, IsDeclarable, Loss, AreDeclared, loss, One, Mean, score, sum_over_outcomes, partial_sums, total, Encloses, IsDeclared, count_weights, outcome_after, aggregate_of, compound_of, ceded, claims_of, mean_ceded, UnitOfPlan, CedeLayer, IsWhole}
 use Rattle.std.proofs.Common.{Some, None}
-use Rattle.dl_plan.specs.declared.cede.CedeLayer.{CedeLayer}
-use Rattle.dl_plan.specs.Fine.{IsWhole}
 use Rattle.dl_model.proofs.TotalLaws.{holds_plus, scaled, none_holds, holds_minus, encloses_same, unit_loss, unit_plain, outcomes_same, outcomes_none, outcomes_plus, outcomes_times, outcomes_rise, sum-cons, total_alone, total_alone_all, mean_alone}
 use Rattle.dl_model.proofs.UnitLosses.{clause_mean, unit_declared_loss}
 use Rattle.dl_model.proofs.Bounded.{are_units, quantity_bounded}

@@ -1,5 +1,5 @@
 -- The mean under a common factor: the sum of the means of the units.
-use Rattle.dl_model.proofs.Common.{◌≡◌, ℕ, ◌≤◌, arith, ap, ap₂, subst, ◌∙◌, List, [], ◌∷◌, All, All-cons, All-nil, get_or, length, Outcome, ◌<◌, ◌≤ℚ◌, Fraction, whole, ◌+ℚ◌, ◌*ℚ◌, ◌/ℚ◌, ◌<ℚ◌, ring, sum_to, sum_over, sum_to_same, sum_to_plus, sum_to_times, times_zero, plus_times, zero_times, div_times, pairs_of, mean_amount, probability_of, expected_count, IsValidUnit, Holds, One, Mean, partial_sums, loss_of, map, declared_mean, CanShare, HasCommonFactor, expected_of, common_sums, pooled_severity, expected_claims, poisson_units, fun_ext, sum_to_none, times_right_comm, UnitOfPlan}
+use Rattle.dl_model.proofs.Common.{◌≡◌, ℕ, ◌≤◌, arith, ap, ap₂, subst, ◌∙◌, List, [], ◌∷◌, All, All-cons, All-nil, get_or, length, Outcome, ◌<◌, ◌≤ℚ◌, Fraction, whole, ◌+ℚ◌, ◌*ℚ◌, ◌/ℚ◌, ◌<ℚ◌, ring, sum_to, sum_over, sum_to_same, sum_to_plus, sum_to_times, times_zero, plus_times, zero_times, div_times, pairs_of, mean_amount, probability_of, expected_count, IsValidUnit, Holds, One, Mean, partial_sums, loss_of, map, declared_mean, CanShare, HasCommonFactor, expected_of, common_sums, pooled_severity, expected_claims, poisson_units, fun_ext, sum_to_none, times_right_comm, UnitOfPlan, poisson_unit}
 use Rattle.dl_model.proofs.TotalLaws.{ends_in_order, holds_wider, outcomes_rise}
 use Rattle.dl_model.proofs.Bounded.{are_units, quantity_bounded, whole_positive}
 use Rattle.dl_model.proofs.ItemWeights.{severity_mean}
@@ -8,7 +8,6 @@ use Rattle.dl_model.proofs.PlanUnits.{units_declared}
 use Rattle.dl_model.proofs.PlanMeans.{MeanHolds, unit_mean, units_mean}
 use Rattle.dl_model.proofs.CommonPlans.{expected_units, are_severities, pooled_over, greatest_among, greatest_of, is_unit, pooled_past, some}
 use Rattle.dl_model.proofs.SharedValues.{outcome_holds}
-use Rattle.dl_model.specs.CommonUnits.{poisson_unit}
 
 -- the mean of a claim of whatever unit, times the number of all
 mixed_mean : (v : Fraction) → whole 0 <ℚ v → (units : List UnitOfPlan) (far : ℕ) → greatest_of units ≤ far

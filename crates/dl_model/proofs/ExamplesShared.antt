@@ -1,6 +1,5 @@
 -- Two units under a common factor, worked by hand by the sums over all claims lists.
-use Rattle.dl_model.proofs.Common.{List, [], ◌∷◌, map, ℕ, zero, suc, ◌≡◌, ◌*◌, ◌<◌, arith, refl, sum, get_or, nat_eq, mul-pos, zero-lt-suc, one_pos, Fraction, whole, ◌over◌, factorial, factorial_pos, sum_over, Item, count_pairs, weight_sum, greatest, equally_likely, probability_at, Quantity, Point, Joint, score, Claims, PoissonUnit, amounts, chances, common_sums, expected_claims, pooled_severity, ways_to_share, product_over, sum_over_claims, ways}
-use Rattle.dl_plan.specs.Common.{raised}
+use Rattle.dl_model.proofs.Common.{List, [], ◌∷◌, map, ℕ, zero, suc, ◌≡◌, ◌*◌, ◌<◌, arith, refl, sum, get_or, nat_eq, mul-pos, zero-lt-suc, one_pos, Fraction, whole, ◌over◌, factorial, factorial_pos, sum_over, Item, count_pairs, weight_sum, greatest, equally_likely, probability_at, Quantity, Point, Joint, score, Claims, PoissonUnit, amounts, chances, common_sums, expected_claims, pooled_severity, ways_to_share, product_over, sum_over_claims, ways, raised}
 use Rattle.dl_model.proofs.Ratios.{Known, worked, over_is, whole_is, plus_is, times_is, divided_is, power_is, where_is}
 unfoldable use Rattle.dl_model.proofs.Ratios.{through_is, pairs_is, product_is as below_is}
 use Rattle.dl_model.proofs.ExamplesClaims.{listed_is, sums_are, ones, none_or_one}

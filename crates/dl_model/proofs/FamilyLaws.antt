@@ -1,7 +1,5 @@
 -- A convolution with outward rounding encloses the product of families, and powers of families.
-use Rattle.dl_model.proofs.Common.{◌≡◌, ℕ, suc, zero, ◌+◌, ◌*◌, ◌/◌, ◌^◌, ◌<◌, ◌≤◌, List, length, min, arith, refl, sym, ap, subst, subst₂, ◌∙◌, mul-pos, inl, inr, mul-le-mul_right, fun_ext, min-eq_right, cases_lt, pow_pos, Fraction, whole, ◌over◌, ◌*ℚ◌, ◌^ℚ◌, sum_to, sum_pairs, over_le, one_pos, le_refl, le_trans, le_of_eq, plus_le_both, le_plus, one_times, times_one, times_le_both, sum_to_le, sum_to_times, sum_to_swap, item_le_sum, Series, Rises, AtMost, AtLeast, Holds, times, at_zero, power, IsWithinOne, count_pairs, Family, compound, product, nothing, times_itself, IsProper, Encloses, pairs_in_units, pow_plus, ◌⊎◌, div-mul-le_self, div_ceil, Iv, low_at, high_at, GridEncloses, above, order}
-use Rattle.std.proofs.lemmas.Grind.{div_ceil_times}
-use Rattle.dl_grid.specs.Convolution.{IsConvolution}
+use Rattle.dl_model.proofs.Common.{◌≡◌, ℕ, suc, zero, ◌+◌, ◌*◌, ◌/◌, ◌^◌, ◌<◌, ◌≤◌, List, length, min, arith, refl, sym, ap, subst, subst₂, ◌∙◌, mul-pos, inl, inr, mul-le-mul_right, fun_ext, min-eq_right, cases_lt, pow_pos, Fraction, whole, ◌over◌, ◌*ℚ◌, ◌^ℚ◌, sum_to, sum_pairs, over_le, one_pos, le_refl, le_trans, le_of_eq, plus_le_both, le_plus, one_times, times_one, times_le_both, sum_to_le, sum_to_times, sum_to_swap, item_le_sum, Series, Rises, AtMost, AtLeast, Holds, times, at_zero, power, IsWithinOne, count_pairs, Family, compound, product, nothing, times_itself, IsProper, Encloses, pairs_in_units, pow_plus, ◌⊎◌, div-mul-le_self, div_ceil, Iv, low_at, high_at, GridEncloses, above, order, div_ceil_times, IsConvolution}
 use Rattle.dl_model.proofs.Declared.{at_most_plus, at_least_plus, at_most_wider, at_least_wider, holds_times}
 use Rattle.dl_model.proofs.Cauchy.{cauchy_low}
 use Rattle.dl_model.proofs.CompoundLaws.{sum_at_zero, power_within_one}

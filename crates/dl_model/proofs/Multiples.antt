@@ -1,7 +1,6 @@
 -- Sums of claims stand at multiples of the common divisor of the amounts, and what a clause makes of them.
-use Rattle.dl_model.proofs.Common.{ℕ, zero, suc, ◌≡◌, ◌≢◌, ◌+◌, ◌*◌, ◌/◌, List, [], ◌∷◌, arith, refl, ap, ap₂, subst, ◌∙◌, dec_dvd, div-one, dvd-mul_left, sum_by-cons, ◌∣◌, Fraction, whole, ◌over◌, ◌*ℚ◌, times_zero, zero_times, sum_pairs_same, sum_to_zero, sum_pairs_none, Item, Sev, weight_at, common_amount, probability_of, Clause, kept, over_zero, total_pos, at_zero, power, cell, outcome_after, div-add-mod, dvd_refl, dvd_trans, dvd-zero, mod-eq-zero_of_dvd, gcd, gcd_is, fold, ne_eqb}
+use Rattle.dl_model.proofs.Common.{ℕ, zero, suc, ◌≡◌, ◌≢◌, ◌+◌, ◌*◌, ◌/◌, List, [], ◌∷◌, arith, refl, ap, ap₂, subst, ◌∙◌, dec_dvd, div-one, dvd-mul_left, sum_by-cons, ◌∣◌, Fraction, whole, ◌over◌, ◌*ℚ◌, times_zero, zero_times, sum_pairs_same, sum_to_zero, sum_pairs_none, Item, Sev, weight_at, common_amount, probability_of, Clause, kept, over_zero, total_pos, at_zero, power, cell, outcome_after, div-add-mod, dvd_refl, dvd_trans, dvd-zero, mod-eq-zero_of_dvd, gcd, gcd_is, fold, ne_eqb, whole_num, whole_den}
 use Rattle.std.proofs.Common.{Some}
-use Rattle.dl_exact.proofs.Parts.{whole_num, whole_den}
 use Rattle.dl_model.proofs.WeightLaws.{part_of}
 
 -- the common divisor of d and the amounts

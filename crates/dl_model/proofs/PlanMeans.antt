@@ -1,14 +1,8 @@
 -- The expected counts of a plan's units, and their means.
-use Rattle.dl_model.proofs.Common.{ℕ, ◌≡◌, List, [], ◌∷◌, map, arith, refl, sym, ap, subst, ◌∙◌, All, All-head, All-tail, Fraction, whole, ◌*ℚ◌, ◌≤ℚ◌, sum_over, over_self, ring, times_comm, one_times, le_trans, Freq, Fixed, Table, Bernoulli, Binomial, Poisson, Gamma, pairs_of, mean_amount, greatest, expected_count, IsValidUnit, num_le_den, total_pos, AtLeast, AtMost, Holds, IfSome, IsDeclared, IsLoss, One, Mean, Series, changed, fun_ext, level_mean, sum_over_outcomes, partial_sums, count_weights, outcome_after, loss_of, Sev, probability_of, Aggregate, IsDeclarable, loss, aggregate_of, after_zero, le_of_eq, total, order, le_refl_n, UnitOfPlan, IsCountOfPlan}
+use Rattle.dl_model.proofs.Common.{ℕ, ◌≡◌, List, [], ◌∷◌, map, arith, refl, sym, ap, subst, ◌∙◌, All, All-head, All-tail, Fraction, whole, ◌*ℚ◌, ◌≤ℚ◌, sum_over, over_self, ring, times_comm, one_times, le_trans, Freq, Fixed, Table, Bernoulli, Binomial, Poisson, Gamma, pairs_of, mean_amount, greatest, expected_count, IsValidUnit, num_le_den, total_pos, AtLeast, AtMost, Holds, IfSome, IsDeclared, IsLoss, One, Mean, Series, changed, fun_ext, level_mean, sum_over_outcomes, partial_sums, count_weights, outcome_after, loss_of, Sev, probability_of, Aggregate, IsDeclarable, loss, aggregate_of, after_zero, le_of_eq, total, order, le_refl_n, UnitOfPlan, IsCountOfPlan, sum_to, ◌over◌, ◌-ℚ◌, ◌/ℚ◌, ◌<ℚ◌, over_pos, div_times, le_refl, one_pos, sub_le_both, times_le_times, times_one, zero_le, zero_times, over_lt, over_mul, over_same, over_sub, IsNewZero}
 use Rattle.dl_model.proofs.TotalLaws.{none_holds, unit_loss, mean_alone, sub_zero, total_alone_all}
-use Rattle.dl_exact.specs.Sum.{sum_to}
 use Rattle.std.proofs.Common.{None, Option, Some, subst₂, ◌*◌, ◌-◌}
-use Rattle.dl_exact.specs.Fraction.{◌over◌, ◌-ℚ◌, ◌/ℚ◌, ◌<ℚ◌}
-use Rattle.dl_exact.proofs.Denominators.{over_pos}
-use Rattle.dl_exact.proofs.Laws.{div_times, le_refl, one_pos, sub_le_both, times_le_times, times_one, zero_le, zero_times}
-use Rattle.dl_exact.proofs.Over.{over_lt, over_mul, over_same, over_sub}
 use Rattle.dl_plan.specs.Prelude.{declared_mean, growth}
-use Rattle.dl_plan.specs.Valid.{IsNewZero}
 use Rattle.dl_model.proofs.ChangedLoss.{changed_mean_values}
 use Rattle.dl_model.proofs.Declared.{at_most_wider}
 use Rattle.dl_model.proofs.NewZero.{count_new_zero}

@@ -1,8 +1,6 @@
 -- The share of a unit of a valid plan in the tail mean, from what is known at both ends of a bracket of the quantile,
 -- under a common factor too.
-use Rattle.dl_model.proofs.Common.{◌≡◌, ℕ, ◌≤◌, refl, sym, subst, List, length, map, Option, None, Some, Fraction, whole, ◌+ℚ◌, ◌-ℚ◌, ◌*ℚ◌, ◌/ℚ◌, ◌≤ℚ◌, ◌<ℚ◌, sum_to, Series, IsBound, Rises, AtMost, AtLeast, Holds, AreDeclarable, Quantity, One, Point, Cdf, Outcome, Joint, Part, Share, Tail, sum_below, score, sum, nat_le, where_true, Bool, true, false, one_times, le_refl, le_trans, zero_le, ◌∙◌, sum_over_outcomes, HoldsShare, Plan, IsValid, UnitOfPlan, aggregates_of, loss_of, declared, declared_by, poisson_units}
-use Rattle.std.proofs.lemmas.List.{length-map}
-use Rattle.dl_model.specs.CommonUnits.{poisson_unit}
+use Rattle.dl_model.proofs.Common.{◌≡◌, ℕ, ◌≤◌, refl, sym, subst, List, length, map, Option, None, Some, Fraction, whole, ◌+ℚ◌, ◌-ℚ◌, ◌*ℚ◌, ◌/ℚ◌, ◌≤ℚ◌, ◌<ℚ◌, sum_to, Series, IsBound, Rises, AtMost, AtLeast, Holds, AreDeclarable, Quantity, One, Point, Cdf, Outcome, Joint, Part, Share, Tail, sum_below, score, sum, nat_le, where_true, Bool, true, false, one_times, le_refl, le_trans, zero_le, ◌∙◌, sum_over_outcomes, HoldsShare, Plan, IsValid, UnitOfPlan, aggregates_of, loss_of, declared, declared_by, poisson_units, length-map, poisson_unit}
 use Rattle.dl_model.proofs.TotalLaws.{outcomes_rise, points_to}
 use Rattle.dl_model.proofs.Bounded.{are_units}
 use Rattle.dl_model.proofs.PlanUnits.{plan_declared}

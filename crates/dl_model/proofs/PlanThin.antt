@@ -1,6 +1,5 @@
 -- Thinning and division of the units of a plan.
-use Rattle.dl_model.proofs.Common.{ℕ, suc, ◌≡◌, ◌+◌, ◌*◌, ◌^◌, ◌<◌, ◌≤◌, List, [], ◌∷◌, length, map, nat_lt, arith, refl, sym, ap, subst, inl, inr, ◌∙◌, fun_ext, All, cases_lt, lt-ltb, le-ltb, All-head, All-tail, pow_pos, Fraction, whole, ◌over◌, ◌+ℚ◌, ◌-ℚ◌, ◌*ℚ◌, ◌/ℚ◌, ◌≤ℚ◌, ◌<ℚ◌, sum_over, over_same, over_mul, over_le, plus_comm, times_comm, times_zero, sub_plus, div_times, whole_pos, Item, Sev, Freq, Fixed, Table, Bernoulli, Binomial, Poisson, Gamma, weight_at, weight_sum, probability_of, pairs_of, expected_count, over_zero, total_pos, IsPositivePart, nothing, times_itself, SameCells, compound_of, All-filter, Pairs, probability, conditioned, mass, shares, HasDistribution, thinned_mean, items_over, filter-shares, probability-conditioned, positive_share, weight_at-le, total, eq-zero-or-pos, mul-pos, ne_eqb, eq-eqb, UnitOfPlan, IsUnbounded, IsCountOfPlan}
-use Rattle.dl_plan.proofs.Weights.{weight_sum_pos}
+use Rattle.dl_model.proofs.Common.{ℕ, suc, ◌≡◌, ◌+◌, ◌*◌, ◌^◌, ◌<◌, ◌≤◌, List, [], ◌∷◌, length, map, nat_lt, arith, refl, sym, ap, subst, inl, inr, ◌∙◌, fun_ext, All, cases_lt, lt-ltb, le-ltb, All-head, All-tail, pow_pos, Fraction, whole, ◌over◌, ◌+ℚ◌, ◌-ℚ◌, ◌*ℚ◌, ◌/ℚ◌, ◌≤ℚ◌, ◌<ℚ◌, sum_over, over_same, over_mul, over_le, plus_comm, times_comm, times_zero, sub_plus, div_times, whole_pos, Item, Sev, Freq, Fixed, Table, Bernoulli, Binomial, Poisson, Gamma, weight_at, weight_sum, probability_of, pairs_of, expected_count, over_zero, total_pos, IsPositivePart, nothing, times_itself, SameCells, compound_of, All-filter, Pairs, probability, conditioned, mass, shares, HasDistribution, thinned_mean, items_over, filter-shares, probability-conditioned, positive_share, weight_at-le, total, eq-zero-or-pos, mul-pos, ne_eqb, eq-eqb, UnitOfPlan, IsUnbounded, IsCountOfPlan, weight_sum_pos}
 use Rattle.dl_model.proofs.PoissonTimes.{poisson_shares}
 use Rattle.dl_model.proofs.TotalLaws.{thin_gamma, value_sym, part_of, weight_within, weight_sum-cons, weight_at-cons}
 use Rattle.dl_model.proofs.Beginnings.{poisson_no_loss, gamma_no_loss}

@@ -1,8 +1,6 @@
 -- The units of a valid plan can be declared.
-use Rattle.dl_model.proofs.Common.{ℕ, ◌*◌, ◌/◌, ◌≤◌, List, [], ◌∷◌, map, Option, arith, IfSome, All, All-head, All-tail, Fraction, whole, ◌≤ℚ◌, le_of_lt, over_self, over_le, le_over, Sev, Freq, Fixed, Table, Bernoulli, Binomial, Poisson, Gamma, Clause, kept, greatest, IsAggregate, IsValidUnit, num_le_den, AreCountWeights, AreDeclarable, IsDeclared, IsDeclaredLoss, AreDeclared, count_weights, outcome_after, aggregate_of, loss_of, Plan, IsClause, IsNewZero, IsValid, kept_is, bucket_pos, aggregates_of, after_zero, declared, total, div-le_of_le-mul, le_refl_n, UnitOfPlan, IsCountOfPlan}
+use Rattle.dl_model.proofs.Common.{ℕ, ◌*◌, ◌/◌, ◌≤◌, List, [], ◌∷◌, map, Option, arith, IfSome, All, All-head, All-tail, Fraction, whole, ◌≤ℚ◌, le_of_lt, over_self, over_le, le_over, Sev, Freq, Fixed, Table, Bernoulli, Binomial, Poisson, Gamma, Clause, kept, greatest, IsAggregate, IsValidUnit, num_le_den, AreCountWeights, AreDeclarable, IsDeclared, IsDeclaredLoss, AreDeclared, count_weights, outcome_after, aggregate_of, loss_of, Plan, IsClause, IsNewZero, IsValid, kept_is, bucket_pos, aggregates_of, after_zero, declared, total, div-le_of_le-mul, le_refl_n, UnitOfPlan, IsCountOfPlan, kept_parts, parts_in_bucket, kept_le}
 use Rattle.std.proofs.Common.{Some, None}
-use Rattle.dl_plan.specs.Parts.{kept_parts, parts_in_bucket}
-use Rattle.dl_plan.proofs.Apart.{kept_le}
 use Rattle.dl_model.proofs.ChangedLoss.{changed_declared}
 use Rattle.dl_model.proofs.NewZero.{count_new_zero, some_weight}
 use Rattle.dl_model.proofs.CountBounds.{finite_count, fixed_count, binomial_count, poisson_count, gamma_of_count}

@@ -1,6 +1,5 @@
 -- The total of independent Poisson units is one Poisson unit, whose severity mixes theirs by their parts of all claims.
-use Rattle.dl_model.proofs.Common.{◌≡◌, ℕ, zero, suc, refl, sym, ap, ap₂, subst, subst₂, ◌∙◌, arith, List, [], ◌∷◌, ◌++◌, map, fun_ext, All, All-head, All-tail, All-cons, All-nil, plus_zero, Fraction, whole, ◌*ℚ◌, ◌/ℚ◌, ◌<ℚ◌, ◌^ℚ◌, sum_to, sum_over, sum_pairs, factorial, factorial_pos, ring, div_times, times_le_both, times_assoc, times_cancel, times_comm, times_one, whole_pos, whole_times, sum_over_same, sum_over_times, sum_pairs_same, sum_to_same, Series, times, Freq, Fixed, Table, Bernoulli, Binomial, Poisson, Gamma, UnitOfPlan, expected_count, probability_of, greatest, CanShare, at_zero, power, cell, poisson, compound, SameCells, loss, plain, Loss, AreDeclarable, total, sum_over_outcomes, IsDeclarable, Aggregate, count_weights, outcome_after, loss_of, after_zero, compound_of, divided_power, PoissonUnit, AreSeverities, expected_claims, pooled_severity, poisson_units, IsPoissonSum, Iv, GridEncloses, length, low_at, high_at, ◌^◌}
-use Rattle.dl_plan.specs.Common.{IsPoisson}
+use Rattle.dl_model.proofs.Common.{◌≡◌, ℕ, zero, suc, refl, sym, ap, ap₂, subst, subst₂, ◌∙◌, arith, List, [], ◌∷◌, ◌++◌, map, fun_ext, All, All-head, All-tail, All-cons, All-nil, plus_zero, Fraction, whole, ◌*ℚ◌, ◌/ℚ◌, ◌<ℚ◌, ◌^ℚ◌, sum_to, sum_over, sum_pairs, factorial, factorial_pos, ring, div_times, times_le_both, times_assoc, times_cancel, times_comm, times_one, whole_pos, whole_times, sum_over_same, sum_over_times, sum_pairs_same, sum_to_same, Series, times, Freq, Fixed, Table, Bernoulli, Binomial, Poisson, Gamma, UnitOfPlan, expected_count, probability_of, greatest, CanShare, at_zero, power, cell, poisson, compound, SameCells, loss, plain, Loss, AreDeclarable, total, sum_over_outcomes, IsDeclarable, Aggregate, count_weights, outcome_after, loss_of, after_zero, compound_of, divided_power, PoissonUnit, AreSeverities, expected_claims, pooled_severity, poisson_units, IsPoissonSum, Iv, GridEncloses, length, low_at, high_at, ◌^◌, IsPoisson}
 use Rattle.dl_model.proofs.ValueLaws.{AreLevel, level_same, level_trans, level_both, cauchy_level, same_value, sum_rises_to, rises_times, sum_at_zero}
 use Rattle.dl_model.proofs.Divided.{divided_whole, divided_plus}
 use Rattle.dl_model.proofs.Itself.{level_sum, rows_level, sum_to_at_zero}

@@ -1,9 +1,8 @@
 -- Bounds of the sums over claims lists: what counts for less has the lesser sums, and no outcome is above the total.
-use Rattle.dl_model.proofs.Common.{◌≡◌, ℕ, suc, zero, ◌*◌, refl, sym, ap, ◌∙◌, List, [], ◌∷◌, Fraction, ◌+ℚ◌, ◌*ℚ◌, ◌≤ℚ◌, whole, ring, plus_zero, le_refl, times_le_times, fun_ext, sum_to, sum_to_le, sum_to_same, sum_to_times, sum_to_plus, sum_pairs_plus, Series, Rises, length, le_plus, sum_pairs_same, One, Point, Mean, Joint, score, sum_pairs_le, sum_over_claims, PoissonUnit, Claims, amounts, amounts_given_counts, ways_to_share, chances, expected_claims, common_sums, Quantity, IsAsked}
+use Rattle.dl_model.proofs.Common.{◌≡◌, ℕ, suc, zero, ◌*◌, refl, sym, ap, ◌∙◌, List, [], ◌∷◌, Fraction, ◌+ℚ◌, ◌*ℚ◌, ◌≤ℚ◌, whole, ring, plus_zero, le_refl, times_le_times, fun_ext, sum_to, sum_to_le, sum_to_same, sum_to_times, sum_to_plus, sum_pairs_plus, Series, Rises, length, le_plus, sum_pairs_same, One, Point, Mean, Joint, score, sum_pairs_le, sum_over_claims, PoissonUnit, Claims, amounts, amounts_given_counts, ways_to_share, chances, expected_claims, common_sums, Quantity, IsAsked, length-map}
 use Rattle.dl_model.proofs.SharedClaims.{claims_times}
 use Rattle.dl_model.proofs.Bounded.{score_scaled}
 use Rattle.dl_model.proofs.Weighings.{IsWeighing, joint_le_point}
-use Rattle.std.proofs.lemmas.List.{length-map}
 
 claims_le : (us : List PoissonUnit) (n : ℕ) (f g : List Claims → Fraction)
     → ((claims : List Claims) → f claims ≤ℚ g claims) → sum_over_claims us n f ≤ℚ sum_over_claims us n g

@@ -1,6 +1,5 @@
 -- Declared joint means under a common factor, from the cells of the pooled unit with one more in the shape.
-use Rattle.dl_model.proofs.Common.{◌≡◌, ℕ, suc, ◌<◌, ◌≤◌, arith, sym, ap, subst, subst₂, times_assoc, ◌∙◌, List, fun_ext, Fraction, ◌+ℚ◌, ◌*ℚ◌, ◌/ℚ◌, ◌<ℚ◌, whole, sum_to, sum_pairs, ring, div_times, Holds, Series, cell, gamma, gamma_of, One, Outcome, Joint, zero, times_one, PoissonUnit, expected_claims, common_sums, pooled_severity, AreSeverities, IsUnit, refl, times_comm}
-use Rattle.dl_plan.specs.Common.{raised}
+use Rattle.dl_model.proofs.Common.{◌≡◌, ℕ, suc, ◌<◌, ◌≤◌, arith, sym, ap, subst, subst₂, times_assoc, ◌∙◌, List, fun_ext, Fraction, ◌+ℚ◌, ◌*ℚ◌, ◌/ℚ◌, ◌<ℚ◌, whole, sum_to, sum_pairs, ring, div_times, Holds, Series, cell, gamma, gamma_of, One, Outcome, Joint, zero, times_one, PoissonUnit, expected_claims, common_sums, pooled_severity, AreSeverities, IsUnit, refl, times_comm, raised}
 use Rattle.dl_model.proofs.TotalLaws.{self_holds, same_value, level_same, over_factor, scaled, scaled_rises, sum_holds, sum_rises_to, one_least, pos_plus, shape_times, share_of, div_is_times}
 use Rattle.dl_model.proofs.AnyShape.{shapes_level}
 use Rattle.dl_model.proofs.Pooled.{pooled_one}

@@ -1,6 +1,5 @@
 -- The probability of no claim where at least 1 / 16 of a claim is expected, and the weights of at least one claim.
-use Rattle.dl_model.proofs.Common.{◌≡◌, ℕ, suc, zero, ◌+◌, ◌-◌, ◌*◌, ◌<◌, ◌≤◌, max, arith, refl, sym, ap, ap₂, subst, subst₂, ◌∙◌, Fraction, whole, ◌over◌, ◌+ℚ◌, ◌-ℚ◌, ◌*ℚ◌, ◌/ℚ◌, ◌≤ℚ◌, ◌<ℚ◌, ◌^ℚ◌, sum_to, sum_pairs, ring, over_same, over_mul, one_pos, plus_comm, times_comm, times_zero, zero_times, times_one, one_times, times_plus, plus_times, le_refl, le_trans, zero_le, le_plus, sub_plus, plus_le_both, plus_le_cancel, times_le_both, times_le_times, times_le_cancel, times_cancel, times_pos, div_times, div_pos, lt_of_lt_of_le, AtMost, Settles, at_zero, power, fixed, binomial, poisson, gamma, gamma_of, AreCountWeights, plus_zero, whole_pos, times_assoc, plus_assoc, over_rest, over_add, pow_times, without_none, plus_swap, order, fun_ext, Series, le_of_eq}
-use Rattle.dl_exact.proofs.Bernoulli.{bernoulli, pow_below_one}
+use Rattle.dl_model.proofs.Common.{◌≡◌, ℕ, suc, zero, ◌+◌, ◌-◌, ◌*◌, ◌<◌, ◌≤◌, max, arith, refl, sym, ap, ap₂, subst, subst₂, ◌∙◌, Fraction, whole, ◌over◌, ◌+ℚ◌, ◌-ℚ◌, ◌*ℚ◌, ◌/ℚ◌, ◌≤ℚ◌, ◌<ℚ◌, ◌^ℚ◌, sum_to, sum_pairs, ring, over_same, over_mul, one_pos, plus_comm, times_comm, times_zero, zero_times, times_one, one_times, times_plus, plus_times, le_refl, le_trans, zero_le, le_plus, sub_plus, plus_le_both, plus_le_cancel, times_le_both, times_le_times, times_le_cancel, times_cancel, times_pos, div_times, div_pos, lt_of_lt_of_le, AtMost, Settles, at_zero, power, fixed, binomial, poisson, gamma, gamma_of, AreCountWeights, plus_zero, whole_pos, times_assoc, plus_assoc, over_rest, over_add, pow_times, without_none, plus_swap, order, fun_ext, Series, le_of_eq, bernoulli, pow_below_one}
 use Rattle.dl_model.proofs.TotalLaws.{rises_to, sum_rises_to, power_severity, binomial_power, trial, one_trial_none, poisson_zero, poisson_next, gamma_zero, gamma_next, pos_plus, div_plus, least_scaled, weights_apart, off}
 use Rattle.dl_model.proofs.Gamma.{geometric_least}
 

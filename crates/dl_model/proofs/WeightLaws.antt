@@ -1,6 +1,5 @@
 -- Probabilities from whole weights: none past the greatest number, and 1 in all.
-use Rattle.std.specs.Prelude.{sum_by}
-use Rattle.dl_model.proofs.Common.{ℕ, ◌≡◌, ◌+◌, ◌<◌, ◌≤◌, zero, suc, arith, refl, sym, ap, ◌∙◌, List, [], ◌∷◌, length, inl, inr, if◌then◌else◌, ◌==◌, sum_by-cons, ◌≤ℚ◌, whole, sum_to, over_same, over_le, one_pos, Item, weight_at, weight_sum, greatest, probability_at, equally_likely, count_by, sum_through, sum_to_over, le_ind, fun_ext, ne_eqb, eqb_tells, ◌*◌, ap₂}
+use Rattle.dl_model.proofs.Common.{ℕ, ◌≡◌, ◌+◌, ◌<◌, ◌≤◌, zero, suc, arith, refl, sym, ap, ◌∙◌, List, [], ◌∷◌, length, inl, inr, if◌then◌else◌, ◌==◌, sum_by-cons, ◌≤ℚ◌, whole, sum_to, over_same, over_le, one_pos, Item, weight_at, weight_sum, greatest, probability_at, equally_likely, count_by, sum_through, sum_to_over, le_ind, fun_ext, ne_eqb, eqb_tells, ◌*◌, ap₂, sum_by}
 
 -- the weight that an item gives to x
 abbrev pub part_of : ℕ → Item → ℕ

@@ -1,6 +1,5 @@
 -- The cells of what a unit's clause keeps, from those of its sum of claims.
-use Rattle.dl_outcomes.proofs.Common.{ℕ, zero, suc, ◌≡◌, ◌≢◌, inl, inr, ◌-◌, ◌^◌, ◌<◌, ◌≤◌, ◌⊎◌, min, Some, List, length, arith, sym, ap, ap₂, subst, ◌∙◌, IfSome, pow_pos, eqb_tells, Fraction, whole, ◌over◌, sum_to, over_self, Iv, low_at, high_at, probability_of, Clause, kept, IsHorizonOf, IsAggregate, IsValidUnit, whole_den, Holds, Aggregate, IsDeclarable, outcome, Encloses, GridEncloses, outcome_after, aggregate_of, compound_of, sum_kept, sum_elsewhere, IsTakenIn, IsLeft, whole_num, horizon_one, horizon_settled, greatest, mapped, count_weights, UnitOfPlan}
-use Rattle.dl_model.proofs.PlanUnits.{unit_declared}
+use Rattle.dl_outcomes.proofs.Common.{ℕ, zero, suc, ◌≡◌, ◌≢◌, inl, inr, ◌-◌, ◌^◌, ◌<◌, ◌≤◌, ◌⊎◌, min, Some, List, length, arith, sym, ap, ap₂, subst, ◌∙◌, IfSome, pow_pos, eqb_tells, Fraction, whole, ◌over◌, sum_to, over_self, Iv, low_at, high_at, probability_of, Clause, kept, IsHorizonOf, IsAggregate, IsValidUnit, whole_den, Holds, Aggregate, IsDeclarable, outcome, Encloses, GridEncloses, outcome_after, aggregate_of, compound_of, sum_kept, sum_elsewhere, IsTakenIn, IsLeft, whole_num, horizon_one, horizon_settled, greatest, mapped, count_weights, UnitOfPlan, unit_declared}
 use Rattle.dl_outcomes.proofs.Mapped.{unit_of, kept_few, kept_rest}
 
 pub same_whole : (x y : ℕ) → whole x ≡ whole y → x ≡ y

@@ -1,11 +1,5 @@
 -- The cells of a grid after the change: that they are a grid, what they enclose, and how wide they are.
-use Rattle.dl_outcomes.proofs.Common.{add-sub_of_le, below_more, ℕ, zero, suc, ◌≡◌, ◌+◌, ◌-◌, ◌*◌, ◌/◌, ◌^◌, ◌<◌, ◌≤◌, inl, inr, min, List, [], ◌∷◌, ◌++◌, length, get_or, arith, refl, sym, ap, ap₂, subst, subst₂, ◌∙◌, sum, div_ceil, cases_lt, pow_pos, get_or_default_zero, Fraction, whole, ◌over◌, ◌≤ℚ◌, ◌<ℚ◌, count_below, sum_to, le_of_eq, le_trans, zero_le, one_pos, over_lt, num_below, to_over, over_one, over_le_over, le_of_lt, all_at_zero, low_at, high_at, low_ends, high_ends, mass_low, spread, IsGrid, AreEnds, HasRoomForNone, AreChangedEnds, size_of, Aggregate, changed, at_least_wider, at_most_wider, cell_at_most_one, loss_proper, changed_values, unit_changed_lows, low_changed, high_changed, Iv, floor_le_ceiling, IsBefore}
-use Rattle.std.proofs.lemmas.List.{length-append, get_or_append_left}
-use Rattle.std.proofs.Math.ListN.{get_or-eq_default}
-use Rattle.std.proofs.Math.Seq.{get_or-append_seam}
-use Rattle.std.proofs.lemmas.List.Sums.{sum_by-cons}
-use Rattle.dl_exact.proofs.Counts.{below_first, below_le, below_plus, below_same}
-use Rattle.dl_grid.proofs.EndLists.{low_at_ends, high_at_ends, low_ends_long, low_le_high}
+use Rattle.dl_outcomes.proofs.Common.{add-sub_of_le, below_more, ℕ, zero, suc, ◌≡◌, ◌+◌, ◌-◌, ◌*◌, ◌/◌, ◌^◌, ◌<◌, ◌≤◌, inl, inr, min, List, [], ◌∷◌, ◌++◌, length, get_or, arith, refl, sym, ap, ap₂, subst, subst₂, ◌∙◌, sum, div_ceil, cases_lt, pow_pos, get_or_default_zero, Fraction, whole, ◌over◌, ◌≤ℚ◌, ◌<ℚ◌, count_below, sum_to, le_of_eq, le_trans, zero_le, one_pos, over_lt, num_below, to_over, over_one, over_le_over, le_of_lt, all_at_zero, low_at, high_at, low_ends, high_ends, mass_low, spread, IsGrid, AreEnds, HasRoomForNone, AreChangedEnds, size_of, Aggregate, changed, at_least_wider, at_most_wider, cell_at_most_one, loss_proper, changed_values, unit_changed_lows, low_changed, high_changed, Iv, floor_le_ceiling, IsBefore, length-append, get_or_append_left, get_or-eq_default, get_or-append_seam, sum_by-cons, below_first, below_le, below_plus, below_same, low_at_ends, high_at_ends, low_ends_long, low_le_high}
 use Rattle.dl_grid.proofs.PlaceSums.{low_within, whole_mass, width_within, whole_spread, width_at}
 use Rattle.dl_model.specs.Family.{GridEncloses}
 use Rattle.dl_outcomes.proofs.Rounded.{cell_apart, parts_order, lows_fit, widths_sum, spread_within}

@@ -1,11 +1,6 @@
 -- What a clause keeps of a unit's sum, from the cells of a grid that ends at its horizon.
-use Rattle.dl_outcomes.proofs.Common.{below_rest, ℕ, suc, ◌≡◌, ◌≢◌, inl, inr, ◌+◌, ◌-◌, ◌*◌, ◌/◌, ◌<◌, ◌≤◌, ◌⊎◌, min, Bool, true, false, nat_eq, arith, refl, sym, ap, ap₂, subst, subst₂, ◌∙◌, eq-eqb, if◌then◌else◌, mul-le-mul_left, eqb_tells, Fraction, whole, ◌over◌, ◌*ℚ◌, ◌≤ℚ◌, sum_to, over_self, over_le, le_over, one_pos, zero_le, Sev, IsWhole, probability_of, Clause, kept, IsAggregate, Holds, count_below, Aggregate, IsDeclarable, outcome, Encloses, outcome_after, clause_whole, where_whole, sum_kept, sum_elsewhere, nat_lt, fun_ext, eq-zero-or-pos, div-one, le-div_iff_mul-le, cases_lt, over_same, zero_times, common_amount, IsSettled, kept_is, bucket_pos, kept_rises, Series, IsBound, where_true, compound, no_cell_between, le_refl_n, below_same}
+use Rattle.dl_outcomes.proofs.Common.{below_rest, ℕ, suc, ◌≡◌, ◌≢◌, inl, inr, ◌+◌, ◌-◌, ◌*◌, ◌/◌, ◌<◌, ◌≤◌, ◌⊎◌, min, Bool, true, false, nat_eq, arith, refl, sym, ap, ap₂, subst, subst₂, ◌∙◌, eq-eqb, if◌then◌else◌, mul-le-mul_left, eqb_tells, Fraction, whole, ◌over◌, ◌*ℚ◌, ◌≤ℚ◌, sum_to, over_self, over_le, le_over, one_pos, zero_le, Sev, IsWhole, probability_of, Clause, kept, IsAggregate, Holds, count_below, Aggregate, IsDeclarable, outcome, Encloses, outcome_after, clause_whole, where_whole, sum_kept, sum_elsewhere, nat_lt, fun_ext, eq-zero-or-pos, div-one, le-div_iff_mul-le, cases_lt, over_same, zero_times, common_amount, IsSettled, kept_is, bucket_pos, kept_rises, Series, IsBound, where_true, compound, no_cell_between, le_refl_n, below_same, lt-ltb, le-ltb, sum_to_same, kept_parts, parts_in_bucket, cell, clause_few, clause_rest, where_none}
 use Rattle.std.specs.Prelude.{Some}
-use Rattle.std.proofs.lemmas.Bool.{lt-ltb, le-ltb}
-use Rattle.dl_exact.proofs.Sums.{sum_to_same}
-use Rattle.dl_plan.specs.Parts.{kept_parts, parts_in_bucket}
-use Rattle.dl_model.specs.Compound.{cell}
-use Rattle.dl_model.proofs.Clauses.{clause_few, clause_rest, where_none}
 
 -- ---- whole numbers
 

@@ -1,11 +1,7 @@
 -- The mean of a unit after its clause, from the ends of its parts.
-use Rattle.dl_outcomes.proofs.Common.{layer_most, arith, ◌-◌, sum_by, spread, part_width, ℕ, ◌≡◌, ◌+◌, ◌*◌, ◌/◌, ◌^◌, ◌<◌, ◌≤◌, List, [], ◌∷◌, length, get_or, take, Some, None, true, false, sym, ap, ap₂, subst, ◌∙◌, div_ceil, pow_pos, Fraction, whole, ◌over◌, ◌*ℚ◌, over_self, times_comm, Iv, low_at, high_at, CedeLayer, Clause, IsValidUnit, declared_mean, Holds, GridEncloses, compound_of, HoldsClaims, HoldsCeded, ◌++◌, ◌≤ℚ◌, le_refl, times_le_both, whole_times, floor_div, ceiling_div, Loss, One, Mean, Layer, partial_sums, total, AreDeclared, loss, claims_of, at_least_wider, at_most_wider, AreNearestEnds, HoldsKept, le_refl_n, UnitOfPlan}
+use Rattle.dl_outcomes.proofs.Common.{layer_most, arith, ◌-◌, sum_by, spread, part_width, ℕ, ◌≡◌, ◌+◌, ◌*◌, ◌/◌, ◌^◌, ◌<◌, ◌≤◌, List, [], ◌∷◌, length, get_or, take, Some, None, true, false, sym, ap, ap₂, subst, ◌∙◌, div_ceil, pow_pos, Fraction, whole, ◌over◌, ◌*ℚ◌, over_self, times_comm, Iv, low_at, high_at, CedeLayer, Clause, IsValidUnit, declared_mean, Holds, GridEncloses, compound_of, HoldsClaims, HoldsCeded, ◌++◌, ◌≤ℚ◌, le_refl, times_le_both, whole_times, floor_div, ceiling_div, Loss, One, Mean, Layer, partial_sums, total, AreDeclared, loss, claims_of, at_least_wider, at_most_wider, AreNearestEnds, HoldsKept, le_refl_n, UnitOfPlan, take_more, LiesIn, lies_between, are_claims, claims_enclosed, claims_mean, none_ceded, alone_ceded, both_ceded, ceded_mean, net_mean}
 use Rattle.dl_outcomes.proofs.MeanSizes.{mosts, sum_more}
-use Rattle.std.proofs.lemmas.List.{take_more}
-use Rattle.dl_iv.specs.Enclosure.{LiesIn}
 use Rattle.dl_exact.proofs.Denominators.{over_split as over_plus, over_minus, over_times, over_zero}
-use Rattle.dl_iv.proofs.Enclosures.{lies_between}
-use Rattle.dl_model.proofs.ClauseMeans.{are_claims, claims_enclosed, claims_mean, none_ceded, alone_ceded, both_ceded, ceded_mean, net_mean}
 
 -- ---- the sum of the claims
 

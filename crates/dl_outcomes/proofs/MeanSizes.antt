@@ -1,21 +1,7 @@
 -- How large the mean of a unit's claims is, and what layers take of it.
-use Rattle.dl_outcomes.proofs.Common.{times_le_both, ◌⊎◌, ℕ, suc, ◌≡◌, ◌+◌, ◌-◌, ◌*◌, ◌/◌, ◌^◌, ◌<◌, ◌≤◌, List, [], ◌∷◌, length, get_or, take, Option, Some, None, arith, inl, inr, refl, sym, ap, subst, subst₂, ◌∙◌, All, IfSome, div_ceil, sum_by, mul-le-mul_left, eqb_tells, Fraction, whole, ◌over◌, ◌*ℚ◌, ◌≤ℚ◌, over_le, le_over, one_pos, times_comm, zero_le, one_fits, CedeLayer, Sev, probability_of, Clause, IsWithinMostAmount, IsValidUnit, declared_mean, part_width, cond, AllPairs, mul-le-mul, mul-le-mul_right, length-map, get_or-map, ◌-ℚ◌, over_mul, le_refl, le_trans, times_assoc, one_times, times_le_times, whole_times, sub_le_both, div_ceil_least, whole_le, weight_sum, weight_at, weighted_sum, IsWeighted, pairs_of, mean_amount, IsFineTo30Bits, Overlap, layer_shares, IsClause, first_apart, rest_apart, num_le_den, layer_width, IsNear, most_claims_mean, most_limited, le_trans_n, UnitOfPlan, layer_most, part_within}
-use Rattle.std.proofs.lemmas.List.Sums.{sum_by-cons, sum_by-le, sum_by_more, sum_by-take-le}
-use Rattle.dl_model.proofs.ChangedZero.{sub_zero}
+use Rattle.dl_outcomes.proofs.Common.{times_le_both, ◌⊎◌, ℕ, suc, ◌≡◌, ◌+◌, ◌-◌, ◌*◌, ◌/◌, ◌^◌, ◌<◌, ◌≤◌, List, [], ◌∷◌, length, get_or, take, Option, Some, None, arith, inl, inr, refl, sym, ap, subst, subst₂, ◌∙◌, All, IfSome, div_ceil, sum_by, mul-le-mul_left, eqb_tells, Fraction, whole, ◌over◌, ◌*ℚ◌, ◌≤ℚ◌, over_le, le_over, one_pos, times_comm, zero_le, one_fits, CedeLayer, Sev, probability_of, Clause, IsWithinMostAmount, IsValidUnit, declared_mean, part_width, cond, AllPairs, mul-le-mul, mul-le-mul_right, length-map, get_or-map, ◌-ℚ◌, over_mul, le_refl, le_trans, times_assoc, one_times, times_le_times, whole_times, sub_le_both, div_ceil_least, whole_le, weight_sum, weight_at, weighted_sum, IsWeighted, pairs_of, mean_amount, IsFineTo30Bits, Overlap, layer_shares, IsClause, first_apart, rest_apart, num_le_den, layer_width, IsNear, most_claims_mean, most_limited, le_trans_n, UnitOfPlan, layer_most, part_within, sum_by-cons, sum_by-le, sum_by_more, sum_by-take-le, sub_zero, All-head, All-tail, IfSome_then, le_of_dvd, Item, Freq, Fixed, Table, Bernoulli, Binomial, Poisson, Gamma, expected_count, IsUnbounded, IsClaimCount, den_divides, common_pos, total_pos, positive_share, most_amount, most_amount_at, amount_fits, quotients_apart}
 use Rattle.std.proofs.Common.{◌==◌}
-use Rattle.std.proofs.lemmas.List.Elements.{All-head, All-tail}
-use Rattle.std.proofs.lemmas.Option.{IfSome_then}
-use Rattle.std.proofs.lemmas.Nat.Gcd.{le_of_dvd}
-use Rattle.dl_plan.specs.declared.item.Item.{Item}
-use Rattle.dl_plan.specs.declared.plan.Freq.{Freq}
-use Rattle.dl_plan.specs.declared.plan.Freq.TheVariants.{Fixed, Table, Bernoulli, Binomial, Poisson, Gamma}
-use Rattle.dl_plan.specs.Count.{expected_count, IsUnbounded, IsClaimCount}
-use Rattle.dl_plan.proofs.CommonDenominators.{den_divides, common_pos}
-use Rattle.dl_plan.proofs.Means.{total_pos, positive_share}
 use Rattle.dl_plan.proofs.MeanSizes.{unit_within}
-use Rattle.dl_limits.specs.Limits.{most_amount, most_amount_at}
-use Rattle.dl_limits.proofs.Scales.{amount_fits}
-use Rattle.dl_measures.proofs.TailLaws.{quotients_apart}
 
 -- ---- how large it is
 

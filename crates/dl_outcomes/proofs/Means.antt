@@ -1,6 +1,5 @@
 -- The ends of the mean after the change, and what ends of enclosed values are at most.
-use Rattle.dl_outcomes.proofs.Common.{HoldsMean, HoldsNone, ends_in_order, Iv, pow_pos, ◌^◌, ℕ, ◌≡◌, ◌-◌, ◌*◌, ◌/◌, ◌<◌, ◌≤◌, arith, sym, ap, subst, ◌∙◌, [], ◌∷◌, div_ceil, Fraction, whole, ◌over◌, ◌-ℚ◌, ◌*ℚ◌, ◌/ℚ◌, ◌≤ℚ◌, ◌<ℚ◌, sum_to, one_pos, ring, le_refl, le_of_eq, le_of_lt, le_over, over_lt, over_le_over, scale_low, scale_high, div_low, div_high, AtMost, Holds, Loss, One, Mean, partial_sums, IsDeclaredLoss, level_mean, Aggregate, IsDeclared, loss, changed, at_least_wider, at_most_wider, sum_rises_to, loss_proper, unit_loss, changed_mean_values}
-use Rattle.dl_model.proofs.TailScores.{div_is_times}
+use Rattle.dl_outcomes.proofs.Common.{HoldsMean, HoldsNone, ends_in_order, Iv, pow_pos, ◌^◌, ℕ, ◌≡◌, ◌-◌, ◌*◌, ◌/◌, ◌<◌, ◌≤◌, arith, sym, ap, subst, ◌∙◌, [], ◌∷◌, div_ceil, Fraction, whole, ◌over◌, ◌-ℚ◌, ◌*ℚ◌, ◌/ℚ◌, ◌≤ℚ◌, ◌<ℚ◌, sum_to, one_pos, ring, le_refl, le_of_eq, le_of_lt, le_over, over_lt, over_le_over, scale_low, scale_high, div_low, div_high, AtMost, Holds, Loss, One, Mean, partial_sums, IsDeclaredLoss, level_mean, Aggregate, IsDeclared, loss, changed, at_least_wider, at_most_wider, sum_rises_to, loss_proper, unit_loss, changed_mean_values, div_is_times}
 use Rattle.dl_outcomes.proofs.Values.{rest_of, rest_units, rest_positive}
 use Rattle.dl_outcomes.proofs.Losses.{changed_is_loss, mean_same, mean_held}
 

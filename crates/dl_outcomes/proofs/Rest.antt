@@ -1,6 +1,5 @@
 -- The cell that takes in all large sums: what the cells of the other sums leave of 1.
-use Rattle.dl_outcomes.proofs.Common.{ℕ, ◌≡◌, ◌≢◌, ◌+◌, ◌-◌, ◌*◌, ◌^◌, ◌<◌, ◌≤◌, List, length, set, arith, refl, ap, subst, eq-eqb, ne_eqb, ◌∙◌, if◌then◌else◌, Iv, low_at, high_at, mass_low, spread, Clause, count_below, low_set, high_set, spread_set, width_at, where_whole, sum_elsewhere, IsTakenIn, IsLeft}
-use Rattle.dl_grid.proofs.PlaceSums.{high_is, width_within}
+use Rattle.dl_outcomes.proofs.Common.{ℕ, ◌≡◌, ◌≢◌, ◌+◌, ◌-◌, ◌*◌, ◌^◌, ◌<◌, ◌≤◌, List, length, set, arith, refl, ap, subst, eq-eqb, ne_eqb, ◌∙◌, if◌then◌else◌, Iv, low_at, high_at, mass_low, spread, Clause, count_below, low_set, high_set, spread_set, width_at, where_whole, sum_elsewhere, IsTakenIn, IsLeft, high_is, width_within}
 use Rattle.dl_outcomes.proofs.Walk.{whole_le, kept_or_elsewhere, elsewhere_wide}
 
 -- the sums that are taken in are no wider than all

@@ -1,6 +1,5 @@
 -- The ends after the change and those that the law of a changed probability of no claim speaks of. S units make 1.
-use Rattle.dl_outcomes.proofs.Common.{ℕ, zero, suc, ◌≡◌, ◌-◌, ◌*◌, ◌/◌, ◌<◌, ◌≤◌, arith, refl, sym, ap, ap₂, subst, subst₂, ◌∙◌, nat_eq, div_ceil, mul-pos, Fraction, whole, ◌over◌, ◌+ℚ◌, ◌-ℚ◌, ◌*ℚ◌, ◌/ℚ◌, ◌≤ℚ◌, ◌<ℚ◌, count_below, sum_to, one_pos, times_comm, one_times, le_trans, le_of_eq, le_plus, zero_le, over_self, over_same, over_div, le_over, over_minus, over_one, over_pos, over_zero, to_over, add_low, add_high, scale_low, scale_high, div_low, div_high, enclose_low, enclose_high, all_at_zero, where_true, changed_end, off, on, sub_zero, low_changed, high_changed}
-use Rattle.dl_exact.proofs.Sums.{sum_to_le}
+use Rattle.dl_outcomes.proofs.Common.{ℕ, zero, suc, ◌≡◌, ◌-◌, ◌*◌, ◌/◌, ◌<◌, ◌≤◌, arith, refl, sym, ap, ap₂, subst, subst₂, ◌∙◌, nat_eq, div_ceil, mul-pos, Fraction, whole, ◌over◌, ◌+ℚ◌, ◌-ℚ◌, ◌*ℚ◌, ◌/ℚ◌, ◌≤ℚ◌, ◌<ℚ◌, count_below, sum_to, one_pos, times_comm, one_times, le_trans, le_of_eq, le_plus, zero_le, over_self, over_same, over_div, le_over, over_minus, over_one, over_pos, over_zero, to_over, add_low, add_high, scale_low, scale_high, div_low, div_high, enclose_low, enclose_high, all_at_zero, where_true, changed_end, off, on, sub_zero, low_changed, high_changed, sum_to_le}
 
 -- what stands at the outcome 0 alone, in units
 pub at_zero_is : (d e y : ℕ) → 0 < d → where_true (nat_eq y 0) (e over d) ≡ all_at_zero e y over d

@@ -1,16 +1,6 @@
 -- The tokens that cover a text lie in it, are no more than its bytes, and are real.
-use Rattle.dl_parser.proofs.Common.{◌≡◌, ℕ, suc, ◌+◌, ◌-◌, ◌≤◌, Bool, true, false, List, [], ◌∷◌, length, take, drop, sym, subst, arith, length-append, All, ◌==◌, All-nil, lexeme, IsReal}
-use Rattle.std.proofs.Common.{length-drop, if◌then◌else◌}
-use Rattle.std.specs.List.{prefix_len}
-use Rattle.std.proofs.lemmas.List.{map-append}
-use Rattle.std.proofs.lemmas.List.Sums.{prefix_len-le-length}
-use Rattle.std.proofs.lemmas.List.Elements.{All-push}
-use Rattle.dl_limits.specs.Limits.{most_text}
-use Rattle.dl_lexer.specs.declared.token.Token.{Token}
+use Rattle.dl_parser.proofs.Common.{◌≡◌, ℕ, suc, ◌+◌, ◌-◌, ◌≤◌, Bool, true, false, List, [], ◌∷◌, length, take, drop, sym, subst, arith, length-append, All, ◌==◌, All-nil, lexeme, IsReal, length-drop, if◌then◌else◌, prefix_len, map-append, prefix_len-le-length, All-push, most_text, Token, lexemes, Inside, AllInside, token_takes}
 use Rattle.dl_lexer.specs.Prelude.{is_white, is_comment_byte, IsSpelled, Covers, nothing, blank, token, blank_length, token_of}
-use Rattle.dl_ast.specs.Lexemes.{lexemes}
-use Rattle.dl_parser.specs.Within.{Inside, AllInside}
-use Rattle.dl_lexer.proofs.CoverLaws.{token_takes}
 
 blank_cases : (white comment : Bool) (run all : ℕ) → run ≤ all
     → (if white then 1 else if comment then 1 + run else 0) ≤ suc all

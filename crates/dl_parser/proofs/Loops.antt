@@ -1,6 +1,5 @@
 -- A loop that reads any number of things.
-use Rattle.dl_parser.proofs.Common.{◌≡◌, ℕ, zero, suc, ◌≤◌, ◌<◌, Bool, true, false, List, [], ◌∷◌, ◌++◌, length, refl, sym, ap, ◌∙◌, arith, append_assoc, append-nil, Lexeme, Rule, many, State, Outcome, got, stuck, ◌>>=◌, begins, first, repeat, read, is_plain, some_of, and_parts}
-use Rattle.dl_parser.specs.Reading.{front}
+use Rattle.dl_parser.proofs.Common.{◌≡◌, ℕ, zero, suc, ◌≤◌, ◌<◌, Bool, true, false, List, [], ◌∷◌, ◌++◌, length, refl, sym, ap, ◌∙◌, arith, append_assoc, append-nil, Lexeme, Rule, many, State, Outcome, got, stuck, ◌>>=◌, begins, first, repeat, read, is_plain, some_of, and_parts, front}
 use Rattle.dl_parser.proofs.ReadsBack.{bind_of, is_no, whole_none}
 use Rattle.dl_parser.proofs.Took.{none_left}
 use Rattle.dl_parser.proofs.Stopped.{less}

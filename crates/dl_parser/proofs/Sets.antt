@@ -1,9 +1,5 @@
 -- Kinds, and lists of them.
-use Rattle.std.proofs.Common.{get_or}
-use Rattle.std.proofs.lemmas.List.Folds.{list_any_at, list_any-append}
-use Rattle.dl_parser.proofs.Common.{◌≡◌, ◌∙◌, Bool, true, false, cond, ◌||◌, List, [], ◌∷◌, ◌++◌, refl, sym, ap, subst, rules, Kind, Word, Sign, same_kind, among, apart}
-use Rattle.std.specs.Prelude.{Contains}
-use Rattle.std.proofs.lemmas.Map.Views.{Contains-from_any}
+use Rattle.dl_parser.proofs.Common.{◌≡◌, ◌∙◌, Bool, true, false, cond, ◌||◌, List, [], ◌∷◌, ◌++◌, refl, sym, ap, subst, rules, Kind, Word, Sign, same_kind, among, apart, get_or, list_any_at, list_any-append, Contains, Contains-from_any}
 use denote.Enum.Bare.{same_true, true_same}
 use Rattle.dl_lexer.specs.contracts.token.Keyword.{the_type as keywords}
 use Rattle.dl_lexer.specs.contracts.token.Sign.{the_type as signs}

@@ -1,10 +1,5 @@
 -- A parser takes tokens, its choices, and its loops.
-use Rattle.dl_parser.proofs.Common.{◌≡◌, ◌<◌, true, false, cond, length, map, length-map, Rule, many, ◌or◌, got, begins, first, is_empty, is_plain, read, lexeme, state, and_parts}
-use Rattle.std.specs.Prelude.{Result, Ok, Err}
-use Rattle.dl_parser.specs.Parsing.{ReadsBy}
-use Rattle.dl_parser.specs.declared.cursor.Parser.{Parser}
-use Rattle.dl_parser.specs.declared.stop.Stop.{Stop}
-use Rattle.dl_parser.specs.declared.stop.Stop.TheVariants.{Wanted, OutOfMemory}
+use Rattle.dl_parser.proofs.Common.{◌≡◌, ◌<◌, true, false, cond, length, map, length-map, Rule, many, ◌or◌, got, begins, first, is_empty, is_plain, read, lexeme, state, and_parts, Result, Ok, Err, ReadsBy, Parser, Stop, Wanted, OutOfMemory}
 use Rattle.dl_parser.proofs.ReadsBack.{is_no}
 use Rattle.dl_parser.proofs.Stopped.{less}
 

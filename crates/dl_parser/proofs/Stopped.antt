@@ -1,6 +1,5 @@
 -- Where reading stops, the tokens so far go on with a token of the wanted kind and with no other.
-use Rattle.dl_parser.proofs.Common.{◌≡◌, ℕ, zero, suc, ◌≤◌, ◌<◌, Bool, true, false, cond, ◌||◌, ◌⊎◌, List, [], ◌∷◌, ◌++◌, length, Some, None, refl, sym, ap, ◌∙◌, subst, inl, inr, arith, append_assoc, append-nil, Kind, All, All-nil, Lexeme, IsReal, token_of, token_kind, token_real, Rule, one, ◌▸◌, ◌or◌, maybe, many, unless, made, node, Each, Spells, end_of, span_of, State, Outcome, got, stuck, ◌>>=◌, same_kind, among, begins, start_of, is_empty, first, watched, two_at, enters, is_settled, goes_on, one_at, repeat, read, is_plain, and_parts, or_parts}
-use Rattle.std.proofs.lemmas.List.Elements.{All-append}
+use Rattle.dl_parser.proofs.Common.{◌≡◌, ℕ, zero, suc, ◌≤◌, ◌<◌, Bool, true, false, cond, ◌||◌, ◌⊎◌, List, [], ◌∷◌, ◌++◌, length, Some, None, refl, sym, ap, ◌∙◌, subst, inl, inr, arith, append_assoc, append-nil, Kind, All, All-nil, Lexeme, IsReal, token_of, token_kind, token_real, Rule, one, ◌▸◌, ◌or◌, maybe, many, unless, made, node, Each, Spells, end_of, span_of, State, Outcome, got, stuck, ◌>>=◌, same_kind, among, begins, start_of, is_empty, first, watched, two_at, enters, is_settled, goes_on, one_at, repeat, read, is_plain, and_parts, or_parts, All-append}
 use Rattle.dl_parser.proofs.Sets.{same_is, among_append}
 use Rattle.dl_parser.proofs.Starts.{bind_stuck, chosen, no_append}
 use Rattle.dl_parser.proofs.ReadsBack.{bind_of, is_no, whole}

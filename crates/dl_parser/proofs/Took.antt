@@ -1,6 +1,5 @@
 -- What was read is spelled, and is read in the same way where what is left begins alike.
-use Rattle.dl_parser.proofs.Common.{◌≡◌, ℕ, zero, suc, ◌≤◌, ◌<◌, Bool, true, false, cond, ◌&&◌, ◌||◌, ◌⊎◌, List, [], ◌∷◌, ◌++◌, length, Some, None, refl, sym, ap, ◌∙◌, subst, inl, inr, arith, append_assoc, length-append, Kind, Lexeme, Rule, one, ◌▸◌, ◌or◌, maybe, many, unless, made, node, Each, Spells, end_of, span_of, State, Outcome, got, stuck, ◌>>=◌, same_kind, among, begins, start_of, is_empty, first, watched, two_at, enters, is_settled, one_at, repeat, read, is_plain, and_parts}
-use Rattle.dl_parser.specs.Reading.{settles}
+use Rattle.dl_parser.proofs.Common.{◌≡◌, ℕ, zero, suc, ◌≤◌, ◌<◌, Bool, true, false, cond, ◌&&◌, ◌||◌, ◌⊎◌, List, [], ◌∷◌, ◌++◌, length, Some, None, refl, sym, ap, ◌∙◌, subst, inl, inr, arith, append_assoc, length-append, Kind, Lexeme, Rule, one, ◌▸◌, ◌or◌, maybe, many, unless, made, node, Each, Spells, end_of, span_of, State, Outcome, got, stuck, ◌>>=◌, same_kind, among, begins, start_of, is_empty, first, watched, two_at, enters, is_settled, one_at, repeat, read, is_plain, and_parts, settles}
 use Rattle.dl_parser.proofs.Sets.{same_is, same_self}
 use Rattle.dl_parser.proofs.Starts.{true_right, among_left, among_right, bind_got, chosen, end_append, spelled_empty}
 use Rattle.dl_parser.proofs.ReadsBack.{bind_of, is_no, not_both, span_same, whole_none}

@@ -1,14 +1,9 @@
 -- From reading to what a parse says.
-use Rattle.std.proofs.lemmas.Bool.Decides.{nat_tests}
-use Rattle.std.proofs.lemmas.Grind.{common_steps}
-use Rattle.dl_parser.proofs.Common.{◌≡◌, ℕ, zero, suc, ◌+◌, ◌≤◌, ◌<◌, Bool, true, false, cond, ◌&&◌, List, [], ◌∷◌, ◌++◌, length, take, drop, refl, sym, ap, ◌∙◌, subst, ◌⊎◌, inl, inr, arith, append_assoc, length-append, All, append-nil, All-nil, All-cons, and_parts, Kind, Word, Lexeme, IsReal, Spells, end_of, numeral, name, note, limit, layer, reference, side, count, zero_change, freq, claims, premium, common, head, item, next_item, items, list, atom, weighted, mixture, cost, sev, defined, sevdef, cession, next_cession, layers, clause, ratio, exposure, loss, ending, closing, exposed, listed, counted, body, unit, units, book, token_of, token_kind, token_real, State, Outcome, got, stuck, same_kind, among, begins, watched, read, apart, plain}
-use Rattle.std.proofs.lemmas.Bool.{cases_lt}
+use Rattle.dl_parser.proofs.Common.{◌≡◌, ℕ, zero, suc, ◌+◌, ◌≤◌, ◌<◌, Bool, true, false, cond, ◌&&◌, List, [], ◌∷◌, ◌++◌, length, take, drop, refl, sym, ap, ◌∙◌, subst, ◌⊎◌, inl, inr, arith, append_assoc, length-append, All, append-nil, All-nil, All-cons, and_parts, Kind, Word, Lexeme, IsReal, Spells, end_of, numeral, name, note, limit, layer, reference, side, count, zero_change, freq, claims, premium, common, head, item, next_item, items, list, atom, weighted, mixture, cost, sev, defined, sevdef, cession, next_cession, layers, clause, ratio, exposure, loss, ending, closing, exposed, listed, counted, body, unit, units, book, token_of, token_kind, token_real, State, Outcome, got, stuck, same_kind, among, begins, watched, read, apart, plain, nat_tests, common_steps, cases_lt, Program, Begins, Viable, Stops, continuous, IsContinuous, IsRefused}
 use Rattle.dl_lexer.specs.declared.token.Keyword.TheVariants as words
-use Rattle.dl_ast.specs.declared.ast.Program.{Program}
 use Rattle.dl_ast.specs.Grammar.{program}
 use Rattle.dl_parser.specs.Factored as factored
 use Rattle.dl_parser.specs.declared.syntax.ParseFault.TheVariants as faults
-use Rattle.dl_parser.specs.Viable.{Begins, Viable, Stops, continuous, IsContinuous, IsRefused}
 use Rattle.dl_parser.proofs.Sets.{same_is, same_self, apart_at, among_contains, contains_among}
 use Rattle.dl_parser.proofs.ReadsBack.{whole}
 use Rattle.dl_parser.proofs.Took.{pend_settled, took, Took, Alike}

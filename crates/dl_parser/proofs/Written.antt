@@ -1,32 +1,14 @@
 -- The grammar as it is read spells the same as the grammar as it is written.
-use Rattle.dl_parser.proofs.Common.{◌≡◌, ℕ, List, [], ◌∷◌, ◌++◌, Some, None, refl, sym, ap, ◌∙◌, subst, inl, inr, append_assoc, append-nil, Kind, Word, Sign, Atom, Lexeme, Rule, ◌▸◌, ◌or◌, maybe, many, unless, made, node, Each, Spells, span_of, some_of, numeral, name, note, layer, limit, freq, premium, loss, ending, closing, body, item, next_item, items, list, atom, weighted, mixture, cost, sev, defined, sevdef, cession, next_cession, layers, clause, ratio, exposure, exposed, listed, counted, unit, units, book}
-use Rattle.std.proofs.Common.{Option}
+use Rattle.dl_parser.proofs.Common.{◌≡◌, ℕ, List, [], ◌∷◌, ◌++◌, Some, None, refl, sym, ap, ◌∙◌, subst, inl, inr, append_assoc, append-nil, Kind, Word, Sign, Atom, Lexeme, Rule, ◌▸◌, ◌or◌, maybe, many, unless, made, node, Each, Spells, span_of, some_of, numeral, name, note, layer, limit, freq, premium, loss, ending, closing, body, item, next_item, items, list, atom, weighted, mixture, cost, sev, defined, sevdef, cession, next_cession, layers, clause, ratio, exposure, exposed, listed, counted, unit, units, book, Option, Span, NameAst, ListItem, ListAst, LimitAst, Layer, CededLayer, MixAst, SevAst, CountAst, Cession, FreqAst, ZeroAst, Exposure, UnitAst, Loss, Body}
 use Rattle.dl_lexer.specs.declared.token.Keyword.TheVariants as words
 use Rattle.dl_lexer.specs.declared.token.Sign.TheVariants as signs
 use Rattle.dl_lexer.specs.declared.token.Kind.TheVariants as kinds
-use Rattle.dl_lexer.specs.declared.token.Span.{Span}
-use Rattle.dl_ast.specs.declared.ast.NameAst.{NameAst}
 use Rattle.dl_ast.specs.declared.ast.Numeral.{Numeral}
-use Rattle.dl_ast.specs.declared.ast.ListItem.{ListItem}
-use Rattle.dl_ast.specs.declared.ast.ListAst.{ListAst}
-use Rattle.dl_ast.specs.declared.ast.LimitAst.{LimitAst}
 use Rattle.dl_ast.specs.declared.ast.LimitAst.TheVariants as limits
-use Rattle.dl_ast.specs.declared.ast.Layer.{Layer}
-use Rattle.dl_ast.specs.declared.ast.CededLayer.{CededLayer}
-use Rattle.dl_ast.specs.declared.ast.MixAst.{MixAst}
-use Rattle.dl_ast.specs.declared.ast.SevAst.{SevAst}
-use Rattle.dl_ast.specs.declared.ast.CountAst.{CountAst}
 use Rattle.dl_ast.specs.declared.ast.CountAst.TheVariants as counts
-use Rattle.dl_ast.specs.declared.ast.Cession.{Cession}
-use Rattle.dl_ast.specs.declared.ast.FreqAst.{FreqAst}
-use Rattle.dl_ast.specs.declared.ast.ZeroAst.{ZeroAst}
-use Rattle.dl_ast.specs.declared.ast.Exposure.{Exposure}
 use Rattle.dl_ast.specs.declared.ast.Exposure.TheVariants as exposures
-use Rattle.dl_ast.specs.declared.ast.UnitAst.{UnitAst}
 use Rattle.dl_ast.specs.Grammar as written
 use Rattle.dl_ast.specs.Grammar.{◌≫◌, ◌≪◌, spanned, whole, so, po, exposed_unit, listed_unit}
-use Rattle.dl_parser.specs.declared.units.Loss.{Loss}
-use Rattle.dl_parser.specs.declared.units.Body.{Body}
 use Rattle.dl_parser.specs.Factored.{named, SpellAlike, item_of, mix_of, whole_of, behind_number, occ, agr, base, program}
 
 -- rules that are made alike of rules that spell alike do so

@@ -1,6 +1,5 @@
 -- Layers that do not overlap take, together, at most what there is.
-use Rattle.dl_plan.proofs.Common.{ℕ, zero, suc, ◌≡◌, ◌∙◌, ◌+◌, ◌*◌, ◌/◌, ◌≤◌, ◌⊎◌, List, [], ◌∷◌, Option, Some, None, true, false, refl, sym, ap, ap₂, arith, inl, inr, All, AllPairs, sum_by, All-head, All-tail, sum_by-cons, whole, ◌≤ℚ◌, CedeLayer, Clause, layer, Overlap, IsClause, layer_parts, kept_parts}
-use Rattle.dl_plan.specs.Clause.{IsBelowTop}
+use Rattle.dl_plan.proofs.Common.{ℕ, zero, suc, ◌≡◌, ◌∙◌, ◌+◌, ◌*◌, ◌/◌, ◌≤◌, ◌⊎◌, List, [], ◌∷◌, Option, Some, None, true, false, refl, sym, ap, ap₂, arith, inl, inr, All, AllPairs, sum_by, All-head, All-tail, sum_by-cons, whole, ◌≤ℚ◌, CedeLayer, Clause, layer, Overlap, IsClause, layer_parts, kept_parts, IsBelowTop}
 use Rattle.dl_plan.proofs.Clauses.{scaled_le}
 
 -- what of x lies in a layer

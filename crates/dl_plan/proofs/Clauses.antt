@@ -1,15 +1,7 @@
 -- What a clause cedes, over the common denominator of its shares.
-use Rattle.dl_plan.proofs.Common.{ℕ, ◌≡◌, ◌∙◌, ◌*◌, ◌/◌, ◌<◌, ◌≤◌, true, false, List, [], ◌∷◌, Option, Some, None, sym, ap, ap₂, subst, arith, mul-pos, mul-le-mul_right, All, sum_by, All-nil, All-cons, All-tail, sum_by-cons, div-mul_cancel, ◌∣◌, Fraction, whole, ◌over◌, ◌*ℚ◌, ◌≤ℚ◌, gcd_is, over_self, over_same, over_mul, over_sub, le_over, CedeLayer, Clause, layer, layer_shares, layer_parts, kept_parts, parts_in_bucket}
-use Rattle.std.proofs.Common.{◌%◌}
-use Rattle.std.proofs.Math.Nat.{div-mul-le_self, div-add-mod}
-use Rattle.std.proofs.lemmas.Nat.Gcd.{mod-eq-zero_of_dvd}
+use Rattle.dl_plan.proofs.Common.{ℕ, ◌≡◌, ◌∙◌, ◌*◌, ◌/◌, ◌<◌, ◌≤◌, true, false, List, [], ◌∷◌, Option, Some, None, sym, ap, ap₂, subst, arith, mul-pos, mul-le-mul_right, All, sum_by, All-nil, All-cons, All-tail, sum_by-cons, div-mul_cancel, ◌∣◌, Fraction, whole, ◌over◌, ◌*ℚ◌, ◌≤ℚ◌, gcd_is, over_self, over_same, over_mul, over_sub, le_over, CedeLayer, Clause, layer, layer_shares, layer_parts, kept_parts, parts_in_bucket, ◌%◌, div-mul-le_self, div-add-mod, mod-eq-zero_of_dvd, cut_right, over_den, IsWhole, ceded, kept, over_zero, over_plus}
 use Rattle.dl_exact.specs.Prelude.{◌+ℚ◌, sum_over}
-use Rattle.dl_exact.proofs.GcdLaws.{cut_right}
-use Rattle.dl_exact.proofs.Over.{over_den}
-use Rattle.dl_plan.specs.Fine.{IsWhole}
-use Rattle.dl_plan.specs.Clause.{ceded, kept}
 use Rattle.dl_plan.proofs.CommonDenominators.{den_divides, common_from_pos}
-use Rattle.dl_exact.proofs.Denominators.{over_zero, over_plus}
 
 -- ---- one layer
 

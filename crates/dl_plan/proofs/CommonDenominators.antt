@@ -1,11 +1,5 @@
 -- The common denominator of a list of fractions.
-use Rattle.dl_plan.proofs.Common.{ℕ, ◌≡◌, ◌∙◌, ◌+◌, ◌<◌, ◌≤◌, List, [], ◌∷◌, length, get_or, take, drop, fold, sym, ap, arith, mul-pos, All, All-cons, All-nil, ◌∣◌, dvd_trans, dvd_refl, Fraction, common_denominator}
-use Rattle.std.proofs.Math.Nat.{eq-zero-or-pos}
-use Rattle.std.proofs.lemmas.List.{take-append-drop}
-use Rattle.std.proofs.lemmas.List.Sums.{fold-append, fold_more}
-use Rattle.std.proofs.lemmas.Nat.Gcd.{le_of_dvd}
-use Rattle.dl_exact.specs.Multiples.{lcm}
-use Rattle.dl_exact.proofs.Multiples.{lcm_left, lcm_right, lcm_gcd}
+use Rattle.dl_plan.proofs.Common.{ℕ, ◌≡◌, ◌∙◌, ◌+◌, ◌<◌, ◌≤◌, List, [], ◌∷◌, length, get_or, take, drop, fold, sym, ap, arith, mul-pos, All, All-cons, All-nil, ◌∣◌, dvd_trans, dvd_refl, Fraction, common_denominator, eq-zero-or-pos, take-append-drop, fold-append, fold_more, le_of_dvd, lcm, lcm_left, lcm_right, lcm_gcd}
 
 -- the least common multiple of numbers above 0 is above 0
 pub lcm_pos : (a b : ℕ) → 0 < a → 0 < b → 0 < lcm a b

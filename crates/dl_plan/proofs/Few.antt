@@ -1,12 +1,6 @@
 -- Sums over the units of a plan, of which few have a changed probability of no claim.
-use Rattle.dl_plan.proofs.Common.{ℕ, ◌≡◌, ◌+◌, ◌*◌, ◌≤◌, List, [], ◌∷◌, length, cond, ap, arith, All, All-head, All-tail, Option, None, Some, sum_by, sum_by-cons, mul-le-mul_right}
-use Rattle.std.proofs.lemmas.List.Sums.{count_by-le-length}
-use Rattle.std.specs.Prelude.{is_some}
-use Rattle.dl_limits.specs.Limits.{standard_units}
+use Rattle.dl_plan.proofs.Common.{ℕ, ◌≡◌, ◌+◌, ◌*◌, ◌≤◌, List, [], ◌∷◌, length, cond, ap, arith, All, All-head, All-tail, Option, None, Some, sum_by, sum_by-cons, mul-le-mul_right, count_by-le-length, is_some, standard_units, AreFew, changed_units, IsValid, Plan}
 use Rattle.dl_plan.specs.declared.plan.Unit.{Unit as UnitOfPlan}
-use Rattle.dl_plan.specs.Size.{AreFew, changed_units}
-use Rattle.dl_plan.specs.Valid.{IsValid}
-use Rattle.dl_plan.specs.declared.plan.Plan.{Plan}
 
 -- at most a for each unit, and e more for each changed one
 pub sum_of_kinds : (f : UnitOfPlan → ℕ) (a e : ℕ) (us : List UnitOfPlan)

@@ -1,8 +1,5 @@
 -- Fractions of small numbers are never refused.
-use Rattle.dl_plan.proofs.Common.{ℕ, ◌≡◌, ◌^◌, ◌<◌, refl, subst, inl, inr, arith, Fraction, ◌over◌, FitsFrac}
-use Rattle.std.proofs.Common.{Result, Ok, Err, IsOk}
-use Rattle.dl_frac.specs.Exact.{Gives}
-use Rattle.dl_exact.proofs.Parts.{over_num_le, over_den_le}
+use Rattle.dl_plan.proofs.Common.{ℕ, ◌≡◌, ◌^◌, ◌<◌, refl, subst, inl, inr, arith, Fraction, ◌over◌, FitsFrac, Result, Ok, Err, IsOk, Gives, over_num_le, over_den_le}
 
 pub over_fits : (n d : ℕ) → 0 < d → n < 2 ^ 62 → d < 2 ^ 62 → FitsFrac (n over d)
 over_fits n d h num den = record { num = omega (arith, over_num_le n d h); den = omega (arith, over_den_le n d h) }

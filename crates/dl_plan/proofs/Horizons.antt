@@ -1,9 +1,5 @@
 -- The horizon of a clause, over the common denominator of its shares.
-use Rattle.dl_plan.proofs.Common.{ℕ, refl, ◌≡◌, ◌∙◌, ◌+◌, ◌-◌, ◌*◌, ◌<◌, ◌≤◌, max, fold, List, [], ◌∷◌, Option, Some, None, sym, ap, subst, arith, inl, inr, All, IfSome, div_ceil, cases_lt, All-nil, All-cons, whole, ◌≤ℚ◌, over_le, le_over, CedeLayer, Clause, IsClause, edge_of, edge, last_edge, IsHorizon, kept_parts, parts_in_bucket}
-use Rattle.std.proofs.Math.Nat.{le-max_left, le-max_right}
-use Rattle.std.proofs.lemmas.Bool.Decides.{eqb_tells}
-use Rattle.dl_exact.proofs.Denominators.{same_num}
-use Rattle.dl_plan.specs.Horizon.{IsSettled, IsFirstSettled, IsHorizonOf, buckets_behind, horizon}
+use Rattle.dl_plan.proofs.Common.{ℕ, refl, ◌≡◌, ◌∙◌, ◌+◌, ◌-◌, ◌*◌, ◌<◌, ◌≤◌, max, fold, List, [], ◌∷◌, Option, Some, None, sym, ap, subst, arith, inl, inr, All, IfSome, div_ceil, cases_lt, All-nil, All-cons, whole, ◌≤ℚ◌, over_le, le_over, CedeLayer, Clause, IsClause, edge_of, edge, last_edge, IsHorizon, kept_parts, parts_in_bucket, le-max_left, le-max_right, eqb_tells, same_num, IsSettled, IsFirstSettled, IsHorizonOf, buckets_behind, horizon}
 use Rattle.dl_plan.proofs.Clauses.{bucket_pos, kept_is}
 use Rattle.dl_plan.proofs.Apart.{kept_rises}
 use Rattle.dl_plan.proofs.Straight.{IsClear, kept_straight}

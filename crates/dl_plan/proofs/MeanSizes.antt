@@ -1,22 +1,8 @@
 -- How large the means of the units of a plan are.
-use Rattle.dl_plan.proofs.Common.{ℕ, suc, ◌≡◌, ◌∙◌, ◌+◌, ◌-◌, ◌*◌, ◌≤◌, List, [], ◌∷◌, length, arith, inl, inr, sym, ap, subst, All, cond, Option, None, Some, IfSome, sum_by-cons, mul-le-mul_right, Fraction, whole, ◌over◌, ◌*ℚ◌, ◌-ℚ◌, ◌≤ℚ◌, over_le, over_mul, Item, Sev, weight_sum, weight_at, weighted_sum, IsWeighted, pairs_of, mean_amount}
+use Rattle.dl_plan.proofs.Common.{ℕ, suc, ◌≡◌, ◌∙◌, ◌+◌, ◌-◌, ◌*◌, ◌≤◌, List, [], ◌∷◌, length, arith, inl, inr, sym, ap, subst, All, cond, Option, None, Some, IfSome, sum_by-cons, mul-le-mul_right, Fraction, whole, ◌over◌, ◌*ℚ◌, ◌-ℚ◌, ◌≤ℚ◌, over_le, over_mul, Item, Sev, weight_sum, weight_at, weighted_sum, IsWeighted, pairs_of, mean_amount, mul-le-mul_left, eqb_tells, sum_by-le, up_least, whole_le, up, most_amount_at, most_expected, most_total_at, standard_units, standard_total, Freq, Fixed, Table, Bernoulli, Binomial, Poisson, Gamma, expected_count, IsClaimCount, IsUnbounded, declared_mean, probability_of, growth, whole_mean, whole_means, IsNewZero, IsValidUnit}
 use Rattle.std.proofs.Common.{subst₂, ◌==◌}
-use Rattle.std.proofs.Math.Nat.{mul-le-mul_left}
-use Rattle.std.proofs.lemmas.Bool.Decides.{eqb_tells}
-use Rattle.std.proofs.lemmas.List.Sums.{sum_by-le}
 use Rattle.dl_exact.proofs.Laws.{le_refl, le_trans, one_pos, one_times, plus_zero, sub_le_both, sub_plus, times_assoc, times_comm, times_le_both, times_le_times, whole_times, zero_le}
-use Rattle.dl_exact.proofs.RoundingLaws.{up_least, whole_le}
-use Rattle.dl_exact.specs.Rounding.{up}
-use Rattle.dl_limits.specs.Limits.{most_amount_at, most_expected, most_total_at, standard_units}
-use Rattle.dl_limits.proofs.Scales.{standard_total}
-use Rattle.dl_plan.specs.declared.plan.Freq.{Freq}
-use Rattle.dl_plan.specs.declared.plan.Freq.TheVariants.{Fixed, Table, Bernoulli, Binomial, Poisson, Gamma}
 use Rattle.dl_plan.specs.declared.plan.Unit.{Unit as UnitOfPlan}
-use Rattle.dl_plan.specs.Count.{expected_count, IsClaimCount, IsUnbounded}
-use Rattle.dl_plan.specs.Means.{declared_mean}
-use Rattle.dl_plan.specs.Severity.{probability_of}
-use Rattle.dl_plan.specs.Size.{growth, whole_mean, whole_means}
-use Rattle.dl_plan.specs.Valid.{IsNewZero, IsValidUnit}
 use Rattle.dl_plan.proofs.Means.{total_pos, positive_share}
 use Rattle.dl_plan.proofs.Shares.{mean-shares}
 use Rattle.dl_plan.proofs.ValidUnits.{mean_most}

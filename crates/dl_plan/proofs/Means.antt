@@ -1,7 +1,5 @@
 -- Expected counts and means, as fractions.
-use Rattle.dl_plan.proofs.Common.{ℕ, zero, suc, ◌≡◌, ◌∙◌, ◌+◌, ◌*◌, ◌-◌, ◌<◌, ◌≤◌, List, [], ◌∷◌, length, get_or, cond, ◌==◌, refl, sym, ap, ap₂, subst, arith, All, IsStrictlyIncreasing, All-head, All-tail, All-cons, sum_by-cons, Fraction, whole, ◌over◌, ◌*ℚ◌, ◌-ℚ◌, over_self, over_same, over_mul, over_sub, FitsFrac, Item, Sev, amounts_of, weight_sum, weight_at, weighted_sum, IsWeighted, pairs_of, mean_amount}
-use Rattle.std.proofs.lemmas.List.Kept.{AllPairs-from_increasing}
-use Rattle.dl_plan.specs.Fine.{HasPartsOf48Bits}
+use Rattle.dl_plan.proofs.Common.{ℕ, zero, suc, ◌≡◌, ◌∙◌, ◌+◌, ◌*◌, ◌-◌, ◌<◌, ◌≤◌, List, [], ◌∷◌, length, get_or, cond, ◌==◌, refl, sym, ap, ap₂, subst, arith, All, IsStrictlyIncreasing, All-head, All-tail, All-cons, sum_by-cons, Fraction, whole, ◌over◌, ◌*ℚ◌, ◌-ℚ◌, over_self, over_same, over_mul, over_sub, FitsFrac, Item, Sev, amounts_of, weight_sum, weight_at, weighted_sum, IsWeighted, pairs_of, mean_amount, AllPairs-from_increasing, HasPartsOf48Bits}
 use Rattle.dl_plan.proofs.Weights.{weight_sum_pos}
 use Rattle.dl_plan.proofs.Shares.{mean-shares}
 

@@ -1,9 +1,6 @@
 -- The raised part from whole numbers.
-use Rattle.dl_plan.proofs.Common.{ℕ, ◌≡◌, ◌∙◌, ◌+◌, ◌*◌, ◌<◌, ap, ap₂, sym, arith, mul-pos, Fraction, whole, ◌over◌, ◌*ℚ◌, over_self, over_mul, over_same}
+use Rattle.dl_plan.proofs.Common.{ℕ, ◌≡◌, ◌∙◌, ◌+◌, ◌*◌, ◌<◌, ap, ap₂, sym, arith, mul-pos, Fraction, whole, ◌over◌, ◌*ℚ◌, over_self, over_mul, over_same, one_pos, over_add, over_div, raised}
 use Rattle.dl_exact.specs.Fraction.{◌+ℚ◌, ◌/ℚ◌}
-use Rattle.dl_exact.proofs.Laws.{one_pos}
-use Rattle.dl_exact.proofs.Over.{over_add, over_div}
-use Rattle.dl_plan.specs.Common.{raised}
 
 pub raised_over : (v r : Fraction) → 0 < r.num → (v.num * (r.num + r.den)) over (v.den * r.num) ≡ raised r v
 raised_over v r above =

@@ -1,11 +1,7 @@
 -- The lists that a loop has made after one item more, and at its end.
-use Rattle.std.proofs.Common.{ℕ, ◌≡◌, ◌∙◌, ◌+◌, ◌<◌, ◌≤◌, List, [], ◌∷◌, ◌++◌, length, map, get_or, take, ap, ap₂, sym}
+use Rattle.dl_plan.proofs.Common.{ℕ, ◌≡◌, ◌∙◌, ◌+◌, ◌<◌, ◌≤◌, List, [], ◌∷◌, ◌++◌, length, map, get_or, take, ap, ap₂, sym, nat_tests, map_more, take_all, filter_more, Item}
 use Rattle.std.proofs.Common.{true, false, arith, refl, append-nil}
 use Rattle.std.specs.Prelude.{nat_lt, filter}
-use Rattle.std.proofs.lemmas.Bool.Decides.{nat_tests}
-use Rattle.std.proofs.lemmas.List.{map_more, take_all}
-use Rattle.std.proofs.lemmas.List.Elements.{filter_more}
-use Rattle.dl_plan.specs.declared.item.Item.{Item}
 
 pub mapped_more : {X Y : Type 0} (f : X → Y) (xs : List X) (ys new : List Y) (i : ℕ) (x : X) → i < length xs
     → x ≡ get_or xs i x → ys ≡ map f (take i xs) → new ≡ ys ++ f x ∷ [] → new ≡ map f (take (i + 1) xs)

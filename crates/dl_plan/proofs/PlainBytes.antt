@@ -1,6 +1,5 @@
 -- Which bytes are plain.
-use Rattle.dl_plan.proofs.Common.{ℕ, ◌<◌, ◌≤◌, arith}
-use Rattle.dl_plan.specs.Plain.{IsPlainByte}
+use Rattle.dl_plan.proofs.Common.{ℕ, ◌<◌, ◌≤◌, arith, IsPlainByte}
 
 -- a byte from `-` to below the backslash
 pub low_plain : (byte : ℕ) → 45 ≤ byte → byte < 92 → IsPlainByte byte

@@ -1,10 +1,6 @@
 -- A severity without amount 0.
-use Rattle.dl_plan.proofs.Common.{◌≡◌, ◌<◌, ◌≤◌, get_or, arith, ap, inl, inr, cases_lt, whole, le_over, Item, Sev, weight_at}
+use Rattle.dl_plan.proofs.Common.{◌≡◌, ◌<◌, ◌≤◌, get_or, arith, ap, inl, inr, cases_lt, whole, le_over, Item, Sev, weight_at, eq-eqb, get_or-le-sum_by, one_pos, le_of_eq, probability_of}
 use Rattle.std.specs.Prelude.{All, if◌then◌else◌, ◌==◌}
-use Rattle.std.proofs.lemmas.Bool.{eq-eqb}
-use Rattle.std.proofs.lemmas.List.Sums.{get_or-le-sum_by}
-use Rattle.dl_exact.proofs.Laws.{one_pos, le_of_eq}
-use Rattle.dl_plan.specs.Severity.{probability_of}
 use Rattle.dl_plan.proofs.Means.{severity_total}
 
 pub zero_weight : (sev : Sev) → probability_of sev 0 ≡ whole 0 → weight_at sev.items 0 ≡ 0

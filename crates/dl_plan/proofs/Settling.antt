@@ -1,8 +1,5 @@
 -- The least number at which a map is settled: one that never falls, and is a straight line from some number on.
-use Rattle.dl_plan.proofs.Common.{ℕ, zero, suc, ◌≡◌, ◌∙◌, ◌+◌, ◌-◌, ◌*◌, ◌<◌, ◌≤◌, ◌⊎◌, max, refl, sym, ap, subst, arith, inl, inr, div_ceil, cases_lt}
-use Rattle.std.proofs.Math.Nat.{max-eq_left}
-use Rattle.std.proofs.lemmas.Grind.{div_ceil_times}
-use Rattle.dl_exact.proofs.RoundingLaws.{div_ceil_least}
+use Rattle.dl_plan.proofs.Common.{ℕ, zero, suc, ◌≡◌, ◌∙◌, ◌+◌, ◌-◌, ◌*◌, ◌<◌, ◌≤◌, ◌⊎◌, max, refl, sym, ap, subst, arith, inl, inr, div_ceil, cases_lt, max-eq_left, div_ceil_times, div_ceil_least}
 
 -- a number below n that is the least with P, or none below n
 first_below : (P : ℕ → Type 0) (n : ℕ) → ((s : ℕ) → s < n → P s ⊎ ¬ P s)

@@ -1,14 +1,8 @@
 -- Units that can share a factor, and those that can have extra claims; what units that share one keep together.
-use Rattle.dl_plan.proofs.Common.{IfSome, subst, Option, None, Some, true, ap, refl, ◌≡◌, ◌∙◌}
+use Rattle.dl_plan.proofs.Common.{IfSome, subst, Option, None, Some, true, ap, refl, ◌≡◌, ◌∙◌, Plan, Freq, Fixed, Table, Bernoulli, Binomial, Poisson, Gamma, CanShare, HasCommonFactor, IsGamma, IsPoisson, can_share, is_poisson, IsUnbounded, SharesFactor}
 use Rattle.std.specs.Prelude.{Bool, false, ◌&&◌, is_none}
 use Rattle.dl_exact.specs.Fraction.{Fraction}
-use Rattle.dl_plan.specs.declared.plan.Plan.{Plan}
 use Rattle.dl_plan.specs.declared.plan.Unit.{Unit as UnitOfPlan}
-use Rattle.dl_plan.specs.declared.plan.Freq.{Freq}
-use Rattle.dl_plan.specs.declared.plan.Freq.TheVariants.{Fixed, Table, Bernoulli, Binomial, Poisson, Gamma}
-use Rattle.dl_plan.specs.Common.{CanShare, HasCommonFactor, IsGamma, IsPoisson, can_share, is_poisson}
-use Rattle.dl_plan.specs.Count.{IsUnbounded}
-use Rattle.dl_plan.specs.Shared.{SharesFactor}
 
 pub poisson_unbounded : (freq : Freq) → IsPoisson freq → IsUnbounded freq
 poisson_unbounded (Fixed m) h = absurd h

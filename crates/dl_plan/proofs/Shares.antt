@@ -1,14 +1,6 @@
 -- What whole weights mean, and the conditioning on large amounts.
-use Rattle.dl_plan.proofs.Common.{ℕ, suc, ◌≡◌, ◌∙◌, ◌*◌, ◌<◌, ◌≤◌, List, [], ◌∷◌, length, map, cond, nat_lt, ◌==◌, refl, ap, arith, mul-pos, inl, inr, cases_lt, All, All-cons, All-nil, Fraction, whole, ◌over◌, ◌*ℚ◌, over_same, Item, weight_sum, weight_at, weighted_sum, probability, mean_amount, conditioned, shares}
+use Rattle.dl_plan.proofs.Common.{ℕ, suc, ◌≡◌, ◌∙◌, ◌*◌, ◌<◌, ◌≤◌, List, [], ◌∷◌, length, map, cond, nat_lt, ◌==◌, refl, ap, arith, mul-pos, inl, inr, cases_lt, All, All-cons, All-nil, Fraction, whole, ◌over◌, ◌*ℚ◌, over_same, Item, weight_sum, weight_at, weighted_sum, probability, mean_amount, conditioned, shares, lt-ltb, le-ltb, sum_by-filter_both, ◌/ℚ◌, over_div, Pairs, mass, sum_over_common, if_over, sum_over_map, sum_over_same, over_times}
 use Rattle.std.proofs.Common.{Bool, not, filter}
-use Rattle.std.proofs.lemmas.Bool.{lt-ltb, le-ltb}
-use Rattle.std.proofs.lemmas.List.Filters.{sum_by-filter_both}
-use Rattle.dl_exact.specs.Fraction.{◌/ℚ◌}
-use Rattle.dl_exact.proofs.Over.{over_div}
-use Rattle.dl_plan.specs.Severity.{Pairs, mass}
-use Rattle.dl_exact.proofs.SumsOver.{sum_over_common, if_over}
-use Rattle.dl_exact.proofs.Sums.{sum_over_map, sum_over_same}
-use Rattle.dl_exact.proofs.Denominators.{over_times}
 
 -- the probabilities of a list of weights, over any total
 pub probability-shares : (xs : List Item) (t y : ℕ) → 0 < t → probability (shares xs t) y ≡ weight_at xs y over t

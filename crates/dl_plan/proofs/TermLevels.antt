@@ -1,8 +1,5 @@
 -- The probabilities of the terms of a price.
-use Rattle.dl_plan.proofs.Common.{ℕ, ◌≡◌, ◌<◌, List, length, map, get_or, arith, All}
-use Rattle.std.proofs.lemmas.List.{get_or-map, get_or_default, length-map}
-use Rattle.dl_plan.specs.declared.settings.Term.{Term}
-use Rattle.dl_plan.specs.Ranges.{IsLevel}
+use Rattle.dl_plan.proofs.Common.{ℕ, ◌≡◌, ◌<◌, List, length, map, get_or, arith, All, get_or-map, get_or_default, length-map, Term, IsLevel}
 
 -- the probability of a term that was read there
 pub level_there : (terms : List Term) (i : ℕ) (t : Term) → i < length terms → t ≡ get_or terms i t

@@ -1,14 +1,8 @@
 -- What is known of the units of a valid plan: their claims alone, and how large their means are.
-use Rattle.dl_plan.proofs.Common.{ℕ, ◌≡◌, ◌*◌, ◌≤◌, List, [], ◌∷◌, sym, ap, subst, arith, All, All-head, All-tail, sum_by-cons, mul-le-mul_right, Fraction, whole, ◌≤ℚ◌, over_le, Item, Sev, weight_sum, weighted_sum, pairs_of, mean_amount}
-use Rattle.dl_exact.proofs.Laws.{one_pos, times_le_both, whole_times}
+use Rattle.dl_plan.proofs.Common.{ℕ, ◌≡◌, ◌*◌, ◌≤◌, List, [], ◌∷◌, sym, ap, subst, arith, All, All-head, All-tail, sum_by-cons, mul-le-mul_right, Fraction, whole, ◌≤ℚ◌, over_le, Item, Sev, weight_sum, weighted_sum, pairs_of, mean_amount, one_pos, times_le_both, whole_times, most_amount, amount_fits, expected_count, declared_mean, claims_alone, IsNewZero, IsValidUnit}
 use Rattle.std.proofs.Math.Nat.{le_trans}
 use Rattle.std.specs.Prelude.{Some, IfSome}
-use Rattle.dl_limits.specs.Limits.{most_amount}
-use Rattle.dl_limits.proofs.Scales.{amount_fits}
 use Rattle.dl_plan.specs.declared.plan.Unit.{Unit as UnitOfPlan}
-use Rattle.dl_plan.specs.Count.{expected_count}
-use Rattle.dl_plan.specs.Means.{declared_mean}
-use Rattle.dl_plan.specs.Valid.{claims_alone, IsNewZero, IsValidUnit}
 use Rattle.dl_plan.proofs.Means.{total_pos}
 use Rattle.dl_plan.proofs.Shares.{mean-shares}
 

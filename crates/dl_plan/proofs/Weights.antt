@@ -1,12 +1,6 @@
 -- Lists of weights and their greatest common divisor.
-use Rattle.dl_plan.proofs.Common.{ℕ, ◌≡◌, ◌∙◌, ◌*◌, ◌/◌, ◌<◌, ◌≤◌, ◌^◌, List, [], ◌∷◌, length, map, fold, true, false, cond, ◌==◌, refl, sym, ap, ap₂, subst, arith, inl, inr, ◌++◌, suc, zero, ◌+◌, max, get_or, take, div-mul_cancel, ◌∣◌, cases_lt, dvd_trans, dvd_refl, All, IsStrictlyIncreasing, All-cons, All-nil, All-tail, sum_by-cons, gcd, ◌over◌, gcd_is, over_same, Item, amounts_of, weight_sum, weight_at, common_weight, divided_by, IsWeighted, greatest}
+use Rattle.dl_plan.proofs.Common.{ℕ, ◌≡◌, ◌∙◌, ◌*◌, ◌/◌, ◌<◌, ◌≤◌, ◌^◌, List, [], ◌∷◌, length, map, fold, true, false, cond, ◌==◌, refl, sym, ap, ap₂, subst, arith, inl, inr, ◌++◌, suc, zero, ◌+◌, max, get_or, take, div-mul_cancel, ◌∣◌, cases_lt, dvd_trans, dvd_refl, All, IsStrictlyIncreasing, All-cons, All-nil, All-tail, sum_by-cons, gcd, ◌over◌, gcd_is, over_same, Item, amounts_of, weight_sum, weight_at, common_weight, divided_by, IsWeighted, greatest, mul-div_cancel, pos_of_dvd_of_pos, eq_of_mul-eq-mul_right, div-le_self, length-map, map-map, euclid, gcd-scale, pos_of_mul}
 use Rattle.std.proofs.Common.{Bool, add-one}
-use Rattle.std.proofs.Math.Nat.{mul-div_cancel, pos_of_dvd_of_pos, eq_of_mul-eq-mul_right, div-le_self}
-use Rattle.std.proofs.lemmas.List.{length-map}
-use Rattle.std.proofs.lemmas.Simd.{map-map}
-unfoldable use Rattle.dl_exact.specs.Gcd.{euclid}
-use Rattle.dl_exact.proofs.GcdLaws.{gcd-scale}
-use Rattle.dl_exact.proofs.Over.{pos_of_mul}
 
 le_zero : {n : ℕ} → n ≤ 0 → n ≡ 0
 le_zero h = omega (arith, h)
@@ -158,11 +152,6 @@ module _ (xs : List Item) (some : 0 < length xs) (positive : All (λ (i : Item).
   pub made_means : {items : List Item} {common sum : ℕ} → items ≡ map (divided_by common) xs → common ≡ g
       → sum ≡ weight_sum xs → (y : ℕ) → weight_at items y over (sum / common) ≡ weight_at xs y over weight_sum xs
   made_means made by all y = rw (made, by, all) (divided_means y)
-
--- one amount alone
-pub one_item : (items : List Item) (item : Item) → items ≡ [] → item.weight ≡ 1 → IsWeighted (items ++ item ∷ []) 1
-unfolding gcd euclid
-one_item items item none weight = grind (arith, lowest)
 
 -- ---- the greatest amount
 

@@ -1,13 +1,6 @@
 -- Fractions as whole numbers over their common denominator, and their sum.
-use Rattle.std.proofs.lemmas.Bool.Decides.{nat_tests}
-use Rattle.std.proofs.lemmas.Grind.{common_steps}
-use Rattle.dl_plan.proofs.Common.{ℕ, ◌≡◌, ◌∙◌, ◌+◌, ◌*◌, ◌/◌, ◌<◌, ◌≤◌, List, [], ◌∷◌, length, get_or, take, refl, sym, ap, ap₂, arith, All, sum_by, ◌∣◌, div-mul_cancel, All-head, All-tail, sum_by_more, Fraction, whole, ◌over◌, over_self, over_same, le_over, common_denominator}
-use Rattle.std.proofs.lemmas.List.{take_all}
-use Rattle.std.proofs.lemmas.List.Sums.{sum_by-take-le}
+use Rattle.dl_plan.proofs.Common.{ℕ, ◌≡◌, ◌∙◌, ◌+◌, ◌*◌, ◌/◌, ◌<◌, ◌≤◌, List, [], ◌∷◌, length, get_or, take, refl, sym, ap, ap₂, arith, All, sum_by, ◌∣◌, div-mul_cancel, All-head, All-tail, sum_by_more, Fraction, whole, ◌over◌, over_self, over_same, le_over, common_denominator, nat_tests, common_steps, take_all, sum_by-take-le, le_of_eq, sum_over_common, numerator_over}
 use Rattle.dl_exact.specs.Prelude.{◌+ℚ◌, sum_over}
-use Rattle.dl_exact.proofs.Laws.{le_of_eq}
-use Rattle.dl_exact.proofs.SumsOver.{sum_over_common}
-use Rattle.dl_plan.specs.Fine.{numerator_over}
 use Rattle.dl_plan.proofs.CommonDenominators.{common_pos, den_divides}
 
 abbrev pub sum_of : List Fraction → Fraction

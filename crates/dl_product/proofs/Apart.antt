@@ -202,17 +202,6 @@ one_written start g k items out some inside w = record {
       ∙ w.between i off;
 }
 
-pub all_written : (start g k : ℕ) (items out : List ℕ) → length items ≤ k → AreWritten start g k items out
-    → LieFrom start g (λ j. get_or items j 0) (λ s. get_or out s 0)
-all_written start g k items out all w = record {
-  at = λ j. elim (cases_lt j k) [
-    | inl b ↦ w.done j b
-    | inr b ↦ get_or_past items j 0 (omega (arith, all, b)) ∙ sym (w.rest j b)
-  ];
-  before = w.before;
-  between = w.between;
-}
-
 -- the items at the multiples, so far
 pub all_taken : (g k : ℕ) (xs items : List ℕ) → 0 < g → length items ≡ div_ceil (length xs) g → length items ≤ k
     → ((j : ℕ) → j < k → get_or items j 0 ≡ get_or xs (j * g) 0) → AreMultiples g xs items

@@ -1,7 +1,6 @@
 -- A program that breaks no rule has a plan.
-use Rattle.dl_rules.proofs.Common.{ℕ, zero, suc, ◌≡◌, ◌∙◌, ◌<◌, ◌≤◌, List, [], ◌∷◌, ◌++◌, length, take, get_or, None, refl, sym, ap, subst, arith, Ok, All, All-nil, Plan, Settings, IsValidUnit, UnitAst, Program, IsWellFormed, in_turn, expected_claims, cells_asked, fault_on_grid, fault_of_port, first_fault_of, first_fault, AnswersUnit, AnswersUnits, aggregate_clause, GridUnit, IsGridUnit, too_many_units, breaks, IsSet, else_first, else_second, clauses_layered, most_amount_at, amount_fits, IsWithin, standard_units, add-one, UnitOfPlan, IsValid, IsFormedUnit, IsFormedMixture, IsFormedDefinition, fault_of_text, fault_of_mixture, fault_of_severity, fault_with, AnswersWith, mixture_of, MixAst, PortHead, SevDef, Option, Some, IfSome, IsPlanOf, common_unit, grid_of, IsClean, flaws_of, turn_start, turn_none, grid_is, within_is, bounds_asked}
+use Rattle.dl_rules.proofs.Common.{ℕ, zero, suc, ◌≡◌, ◌∙◌, ◌<◌, ◌≤◌, List, [], ◌∷◌, ◌++◌, length, take, get_or, None, refl, sym, ap, subst, arith, Ok, All, All-nil, Plan, Settings, IsValidUnit, UnitAst, Program, IsWellFormed, in_turn, expected_claims, cells_asked, fault_on_grid, fault_of_port, first_fault_of, first_fault, AnswersUnit, AnswersUnits, aggregate_clause, GridUnit, IsGridUnit, too_many_units, breaks, IsSet, else_first, else_second, clauses_layered, most_amount_at, amount_fits, IsWithin, standard_units, add-one, UnitOfPlan, IsValid, IsFormedUnit, IsFormedMixture, IsFormedDefinition, fault_of_text, fault_of_mixture, fault_of_severity, fault_with, AnswersWith, mixture_of, MixAst, PortHead, SevDef, Option, Some, IfSome, IsPlanOf, common_unit, grid_of, IsClean, flaws_of, turn_start, turn_none, grid_is, within_is, bounds_asked, final_there, fault_of_total}
 use Rattle.dl_rules.specs.declared.rule.Rule.TheVariants as rules
-use Rattle.dl_reading.proofs.SevThere.{final_there}
 use Rattle.dl_rules.proofs.Aggregates.{clause_there}
 use Rattle.dl_rules.proofs.PlannedCounts.{count_there}
 use Rattle.dl_rules.proofs.UnitFacts.{asked_within, layered_is, fine_agr, fine_sev, kept_is, grid_parts, grid_answer}
@@ -9,7 +8,6 @@ use Rattle.dl_rules.proofs.RuleLists.{both}
 use Rattle.dl_rules.proofs.Texts.{text_clean}
 use Rattle.dl_rules.proofs.FactorKept.{shape_there}
 use Rattle.dl_rules.proofs.ProgramSizes.{total_few}
-use Rattle.dl_rules.specs.Faults.{fault_of_total}
 use Rattle.dl_rules.proofs.ProgramUnits.{Planned, planned_more, planned_all, few_units, plan_of_units, formed_mixture, answer_with}
 
 -- ---- a unit

@@ -1,6 +1,5 @@
 -- An aggregate clause that breaks no rule is one of a valid plan.
-use Rattle.dl_rules.proofs.Common.{◌≡◌, ◌∙◌, ap, ℕ, ◌≤◌, true, Option, Some, None, refl, sym, subst, All, IfSome, ltb-false, All-map, most_horizon, most_amount_at, Sev, HasDistribution, Clause, IsClause, horizon, horizon_is, not_at, GridClause, GridUnit, clause_of, has_shares, off_grid_cession, final_severity, aggregate_clause, IsCedeOf, horizon_too_large, IsWithinMostAmount, IsAggregate, ceded_layer, IsClauseWithin, IsWithin, made_of, shares_of, is_fine, MadeClause, clause_fine, made_is_clause, made_whole, cede_of, most_parts}
-use Rattle.dl_reading.specs.CheckedClauses.{IsClauseLayered}
+use Rattle.dl_rules.proofs.Common.{◌≡◌, ◌∙◌, ap, ℕ, ◌≤◌, true, Option, Some, None, refl, sym, subst, All, IfSome, ltb-false, All-map, most_horizon, most_amount_at, Sev, HasDistribution, Clause, IsClause, horizon, horizon_is, not_at, GridClause, GridUnit, clause_of, has_shares, off_grid_cession, final_severity, aggregate_clause, IsCedeOf, horizon_too_large, IsWithinMostAmount, IsAggregate, ceded_layer, IsClauseWithin, IsWithin, made_of, shares_of, is_fine, MadeClause, clause_fine, made_is_clause, made_whole, cede_of, most_parts, IsClauseLayered}
 use Rattle.dl_rules.proofs.ClauseFacts.{sums_whole}
 
 -- ---- the horizon

@@ -1,11 +1,6 @@
 -- A program that the standard rules accept, the extended rules accept with the same plan.
-use Rattle.dl_rules.proofs.Common.{Span, ℕ, ◌≡◌, ◌∙◌, ◌||◌, Bool, true, false, not, List, [], ◌∷◌, ◌++◌, length, Option, Some, None, inl, inr, refl, sym, ap, ap₂, arith, Fraction, whole, map, flat_map, or_parts, not-false, at_if, not_at, within, ◌else◌, else_first, else_second, in_turn, breaks, Settings, Program, Plan, UnitAst, MixAst, SevDef, PortHead, Numeral, TypeFault, GridUnit, cells_asked, most_asked, fault_of_text, fault_of_mixture, fault_of_severity, first_fault_of, first_fault, fault_on_grid, fault_of_port, fault_with, first_broken, clause_rules, count_rules, horizon_too_large, zero_base, expected_claims, made_of, duplicate_name, common_shape, common_size, parts_in, has_bad_shape, is_bad_numeral, value, shape_of, is_fine, passes_bounds, passes_with, is_too_large, running_sum, has_no_next, Part, claim_share, amount_shares, mixture_of, too_many_units, IsPlanOf, Bounds, grid_of, flaws_of, slice_get_cases}
+use Rattle.dl_rules.proofs.Common.{Span, ℕ, ◌≡◌, ◌∙◌, ◌||◌, Bool, true, false, not, List, [], ◌∷◌, ◌++◌, length, Option, Some, None, inl, inr, refl, sym, ap, ap₂, arith, Fraction, whole, map, flat_map, or_parts, not-false, at_if, not_at, within, ◌else◌, else_first, else_second, in_turn, breaks, Settings, Program, Plan, UnitAst, MixAst, SevDef, PortHead, Numeral, TypeFault, GridUnit, cells_asked, most_asked, fault_of_text, fault_of_mixture, fault_of_severity, first_fault_of, first_fault, fault_on_grid, fault_of_port, fault_with, first_broken, clause_rules, count_rules, horizon_too_large, zero_base, expected_claims, made_of, duplicate_name, common_shape, common_size, parts_in, has_bad_shape, is_bad_numeral, value, shape_of, is_fine, passes_bounds, passes_with, is_too_large, running_sum, has_no_next, Part, claim_share, amount_shares, mixture_of, too_many_units, IsPlanOf, Bounds, grid_of, flaws_of, slice_get_cases, AreWithin, bounds_of, Rules, by, flaws_wider, fault_of_total}
 use Rattle.dl_rules.specs.declared.rule.Rule.TheVariants as rules
-use Rattle.dl_limits.specs.Rules.{AreWithin, bounds_of}
-use Rattle.dl_limits.specs.declared.rules.Rules.{Rules}
-use Rattle.dl_rules.specs.Faults.{by}
-use Rattle.dl_reading.proofs.Wider.{flaws_wider}
-unfoldable use Rattle.dl_rules.specs.Faults.{fault_of_total}
 use Rattle.dl_rules.proofs.ProgramUnits.{few_units}
 use Rattle.dl_rules.proofs.RuleLists.{both, only, all_kept, none_broken}
 use Rattle.dl_rules.proofs.Texts.{text_clean, text_none}

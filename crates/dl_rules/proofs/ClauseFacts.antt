@@ -1,8 +1,7 @@
 -- What an aggregate clause of a valid plan keeps: its multiples are whole numbers, and its horizon is small. The
 -- greatest common divisor of a severity's amounts is that of the amounts of positive probability of what it means.
-use Rattle.dl_rules.proofs.Common.{◌∣◌, ℕ, ◌≡◌, ◌∙◌, ◌*◌, get_or, true, false, List, [], ◌∷◌, Some, None, refl, sym, ap, subst, inl, inr, All, eqb_tells, All-nil, All-cons, All-head, All-tail, whole, ◌over◌, ◌<ℚ◌, gcd, gcd_is, IsClause, Item, Sev, Pairs, HasDistribution, GridClause, GridUnit, clause_of, support, final_severity, has_shares, off_grid_cession, items_in, ◌⊎◌, fold, dvd_refl, dvd_trans, dvd-zero, dvd_antisymm, lt_not_le, le_refl, IsWhole, kept, weight_at, common_amount, zero_over, total_pos, common_amount_of, off_grid_sums, Rising, rises, support_positive, is_off_multiples, made_of, severity_in_layer, clause_fine, multiples_none, sums_none}
+use Rattle.dl_rules.proofs.Common.{◌∣◌, ℕ, ◌≡◌, ◌∙◌, ◌*◌, get_or, true, false, List, [], ◌∷◌, Some, None, refl, sym, ap, subst, inl, inr, All, eqb_tells, All-nil, All-cons, All-head, All-tail, whole, ◌over◌, ◌<ℚ◌, gcd, gcd_is, IsClause, Item, Sev, Pairs, HasDistribution, GridClause, GridUnit, clause_of, support, final_severity, has_shares, off_grid_cession, items_in, ◌⊎◌, fold, dvd_refl, dvd_trans, dvd-zero, dvd_antisymm, lt_not_le, le_refl, IsWhole, kept, weight_at, common_amount, zero_over, total_pos, common_amount_of, off_grid_sums, Rising, rises, support_positive, is_off_multiples, made_of, severity_in_layer, clause_fine, multiples_none, sums_none, fits_tried}
 use Rattle.dl_rules.proofs.OnePlan.{first_weight, other_weight, same_item}
-use Rattle.dl_reading.proofs.PastEdges.{fits_tried}
 
 -- ---- the common divisor of a list
 

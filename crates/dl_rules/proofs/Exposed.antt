@@ -1,6 +1,5 @@
 -- The mean of a severity, and a quotient by it.
-use Rattle.dl_rules.proofs.Common.{◌≡◌, ◌∙◌, ℕ, ◌<◌, Bool, true, false, nat_lt, ◌||◌, cond, [], ◌∷◌, refl, sym, ap₂, subst, list_any, Fraction, whole, ◌*ℚ◌, ◌/ℚ◌, ◌<ℚ◌, ◌≤ℚ◌, div_times, pos_num, Pairs, mean_amount, support, ◌+ℚ◌, sum_over, ring, times_cancel, times_pos, le_plus, plus_comm, lt_of_lt_of_le, whole_pos, ltb-true}
-use Rattle.dl_reading.proofs.Positive.{is_positive, support_step}
+use Rattle.dl_rules.proofs.Common.{◌≡◌, ◌∙◌, ℕ, ◌<◌, Bool, true, false, nat_lt, ◌||◌, cond, [], ◌∷◌, refl, sym, ap₂, subst, list_any, Fraction, whole, ◌*ℚ◌, ◌/ℚ◌, ◌<ℚ◌, ◌≤ℚ◌, div_times, pos_num, Pairs, mean_amount, support, ◌+ℚ◌, sum_over, ring, times_cancel, times_pos, le_plus, plus_comm, lt_of_lt_of_le, whole_pos, ltb-true, is_positive, support_step}
 
 -- ---- the mean
 

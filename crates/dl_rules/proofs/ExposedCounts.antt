@@ -1,7 +1,6 @@
 -- Whole numbers and quotients.
-use Rattle.dl_rules.proofs.Common.{ℕ, ◌≡◌, ◌∙◌, ◌*◌, ◌≤◌, nat_lt, true, false, not, refl, sym, ap, subst, arith, ltb-false, Fraction, whole, ◌/ℚ◌, ◌<ℚ◌, whole_num, whole_den, is_whole, passes, ◌/◌, ◌%◌, nat_eq, eqb-true, eq-eqb, same}
+use Rattle.dl_rules.proofs.Common.{ℕ, ◌≡◌, ◌∙◌, ◌*◌, ◌≤◌, nat_lt, true, false, not, refl, sym, ap, subst, arith, ltb-false, Fraction, whole, ◌/ℚ◌, ◌<ℚ◌, whole_num, whole_den, is_whole, passes, ◌/◌, ◌%◌, nat_eq, eqb-true, eq-eqb, same, divides_whole, whole_divides, quotient_whole}
 use Rattle.std.specs.Cmp.{both_ways}
-use Rattle.dl_severity.proofs.Whole.{divides_whole, whole_divides, quotient_whole}
 use Rattle.dl_rules.proofs.ListedCounts.{passes_is}
 
 -- ---- whole numbers

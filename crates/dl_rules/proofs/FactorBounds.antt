@@ -1,6 +1,5 @@
 -- The bounds of units under a factor, by the units and by their parts.
-use Rattle.std.proofs.lemmas.Simd.{map-map}
-use Rattle.dl_rules.proofs.Common.{◌≡◌, ◌∙◌, ℕ, ◌&&◌, ◌||◌, Bool, true, false, not, List, [], ◌∷◌, ◌++◌, map, Option, Some, None, refl, sym, ap, ap₂, Fraction, whole, ◌over◌, ◌+ℚ◌, ◌*ℚ◌, Item, most_shape, passes, flat_map, or-true, or_parts, flat_map-cons, most_expected, UnitOfPlan, raised, unit_share, shared_probabilities, expected_count, thinned_mean, is_admitted, is_fine, is_zero, Part, part_of, claim_share, amount_shares, is_coarse_under, has_no_next, passes_bounds, passes_with, running_sum, is_too_large}
+use Rattle.dl_rules.proofs.Common.{◌≡◌, ◌∙◌, ℕ, ◌&&◌, ◌||◌, Bool, true, false, not, List, [], ◌∷◌, ◌++◌, map, Option, Some, None, refl, sym, ap, ap₂, Fraction, whole, ◌over◌, ◌+ℚ◌, ◌*ℚ◌, Item, most_shape, passes, flat_map, or-true, or_parts, flat_map-cons, most_expected, UnitOfPlan, raised, unit_share, shared_probabilities, expected_count, thinned_mean, is_admitted, is_fine, is_zero, Part, part_of, claim_share, amount_shares, is_coarse_under, has_no_next, passes_bounds, passes_with, running_sum, is_too_large, map-map}
 
 abbrev pub claims_of_units : List UnitOfPlan → Option Fraction
 claims_of_units units = running_sum (whole 0) (map (λ (u : UnitOfPlan). expected_count u.freq) units)

@@ -1,11 +1,8 @@
 -- The parts of a plan's units are those of the program's: what is too large for a factor is so in both.
-use Rattle.dl_rules.proofs.Common.{◌≡◌, ◌∙◌, ℕ, ◌&&◌, ◌||◌, ◌∣◌, true, false, not, is_some, List, [], ◌∷◌, length, map, take, get_or, Option, Some, None, refl, sym, ap, ap₂, subst, All, All-nil, All-cons, All-head, All-tail, All-map, Ok, Fraction, whole, ◌over◌, ◌*ℚ◌, Item, Sev, Pairs, HasDistribution, IsValidUnit, Settings, Program, UnitAst, else_second, not_at, not-false, GridUnit, GridCount, Exposed, Listed, Fixed, Poisson, Bernoulli, Binomial, Gamma, final_severity, support, first_fault_of, cells_asked, AnswersUnits, flat_map, and_parts, or_parts, flat_map-cons, All-append, dvd_antisymm, AllZip, ◌-ℚ◌, ◌/ℚ◌, common_denominator, probability, IsUnbounded, expected_of_plan, IsPoisson, CanShare, Freq, UnitOfPlan, den_divides, MixAst, Numeral, PortHead, SevDef, value, if_there, at_if, within, nat_le, most_expected, raised, is_fine, is_zero, from_map, grid_of, grid_count, given_zero, grid_clause, turn_none, item_share, items_in, all_left, all_right, common_divides, shape_of, fault_of_mixture, common_size, parts_in, Part, claim_share, amount_shares, claims_expected, part_on, part_of_mixture, part_in, part_of, is_coarse_under, has_no_next, bounds_asked, Bounds, passes_bounds, passes_with, IsCounted, running_sum, is_too_large, IsCountOf, IsUnitOn, IsUnitOf, aggregate_clause, is_poisson, is_plain_poisson, has_common, passes, common_unit, mixture_of}
+use Rattle.dl_rules.proofs.Common.{◌≡◌, ◌∙◌, ℕ, ◌&&◌, ◌||◌, ◌∣◌, true, false, not, is_some, List, [], ◌∷◌, length, map, take, get_or, Option, Some, None, refl, sym, ap, ap₂, subst, All, All-nil, All-cons, All-head, All-tail, All-map, Ok, Fraction, whole, ◌over◌, ◌*ℚ◌, Item, Sev, Pairs, HasDistribution, IsValidUnit, Settings, Program, UnitAst, else_second, not_at, not-false, GridUnit, GridCount, Exposed, Listed, Fixed, Poisson, Bernoulli, Binomial, Gamma, final_severity, support, first_fault_of, cells_asked, AnswersUnits, flat_map, and_parts, or_parts, flat_map-cons, All-append, dvd_antisymm, AllZip, ◌-ℚ◌, ◌/ℚ◌, common_denominator, probability, IsUnbounded, expected_of_plan, IsPoisson, CanShare, Freq, UnitOfPlan, den_divides, MixAst, Numeral, PortHead, SevDef, value, if_there, at_if, within, nat_le, most_expected, raised, is_fine, is_zero, from_map, grid_of, grid_count, given_zero, grid_clause, turn_none, item_share, items_in, all_left, all_right, common_divides, shape_of, fault_of_mixture, common_size, parts_in, Part, claim_share, amount_shares, claims_expected, part_on, part_of_mixture, part_in, part_of, is_coarse_under, has_no_next, bounds_asked, Bounds, passes_bounds, passes_with, IsCounted, running_sum, is_too_large, IsCountOf, IsUnitOn, IsUnitOf, aggregate_clause, is_poisson, is_plain_poisson, has_common, passes, common_unit, mixture_of, CountAst, Plain, Truncated, Modified, Cession}
 use Rattle.dl_plan.specs.declared.plan.Freq.TheVariants as of_plan
-use Rattle.dl_ast.specs.declared.ast.CountAst.{CountAst}
 use Rattle.dl_ast.specs.declared.ast.CountAst.TheVariants as counts
 use Rattle.dl_ast.specs.declared.ast.FreqAst.TheVariants as freqs
-use Rattle.dl_ast.specs.declared.ast.ZeroAst.TheVariants.{Plain, Truncated, Modified}
-use Rattle.dl_ast.specs.declared.ast.Cession.{Cession}
 use Rattle.dl_rules.specs.declared.rule.Rule.TheVariants as rules
 use Rattle.dl_rules.proofs.ClauseFacts.{support_in}
 use Rattle.dl_rules.proofs.OnePlan.{map_alike}

@@ -1,6 +1,5 @@
 -- The shares of units in all expected claims, and their common denominators.
-use Rattle.std.proofs.lemmas.Grind.{flat_map-append}
-use Rattle.dl_rules.proofs.Common.{◌≡◌, ◌∙◌, ℕ, ◌+◌, ◌*◌, ◌<◌, ◌≤◌, ◌&&◌, Bool, false, List, [], ◌∷◌, ◌++◌, length, map, take, get_or, inl, inr, refl, sym, ap, ap₂, subst, arith, Fraction, whole, ◌over◌, ◌*ℚ◌, ◌/ℚ◌, ◌≤ℚ◌, ◌<ℚ◌, div_times, Item, Sev, IsTooFine, drop, flat_map, lt-leb, and-false, get_or_default, flat_map_more, take-append-drop, fold-append, get_or-le-sum_by, le_of_dvd, most_weights, lcm, one_pos, one_times, times_le_cancel, times_le_both, lcm_right, le_over, over_le, over_mul, over_self, UnitOfPlan, unit_share, shared_probabilities, lcm_pos, common_from_pos, common_from_divides, severity_total, is_fine, common_multiple, times_amounts}
+use Rattle.dl_rules.proofs.Common.{◌≡◌, ◌∙◌, ℕ, ◌+◌, ◌*◌, ◌<◌, ◌≤◌, ◌&&◌, Bool, false, List, [], ◌∷◌, ◌++◌, length, map, take, get_or, inl, inr, refl, sym, ap, ap₂, subst, arith, Fraction, whole, ◌over◌, ◌*ℚ◌, ◌/ℚ◌, ◌≤ℚ◌, ◌<ℚ◌, div_times, Item, Sev, IsTooFine, drop, flat_map, lt-leb, and-false, get_or_default, flat_map_more, take-append-drop, fold-append, get_or-le-sum_by, le_of_dvd, most_weights, lcm, one_pos, one_times, times_le_cancel, times_le_both, lcm_right, le_over, over_le, over_mul, over_self, UnitOfPlan, unit_share, shared_probabilities, lcm_pos, common_from_pos, common_from_divides, severity_total, is_fine, common_multiple, times_amounts, flat_map-append}
 use Rattle.dl_rules.proofs.Naming.{one_more, maps_more, maps_split}
 
 -- ---- parts of a whole

@@ -1,8 +1,5 @@
 -- What the rules on a count leave of it.
-use Rattle.dl_rules.proofs.Common.{◌≡◌, ◌&&◌, Bool, true, false, not, if◌then◌else◌, Option, Some, None, refl, IfSome, is_some, Fraction, pos_num, HasPartsOf48Bits, GridFreq, Fixed, Poisson, Bernoulli, Binomial, Gamma, GridCount, Exposed, Listed, not_at, not-false, IsWholeFreq, IsWholeCount, IsCountChecked, exposed_too_fine, has_too_many_claims, or_parts, IsGridCount, count_lengths, is_unbounded, IsSmallFreq, exposure_span, count_not_whole, count_above_one, trials_not_whole, shape_not_whole, zero_above, fine_probabilities, has_probs, probs_of, Bounds, AreBounds, freq_too_fine, passes, shape_of, most_shape}
-use Rattle.std.specs.Prelude.{⊤}
-use Rattle.dl_reading.specs.Parts.{AreProbabilities}
-use Rattle.dl_reading.specs.declared.grid.GridExposure.{GridExposure}
+use Rattle.dl_rules.proofs.Common.{◌≡◌, ◌&&◌, Bool, true, false, not, if◌then◌else◌, Option, Some, None, refl, IfSome, is_some, Fraction, pos_num, HasPartsOf48Bits, GridFreq, Fixed, Poisson, Bernoulli, Binomial, Gamma, GridCount, Exposed, Listed, not_at, not-false, IsWholeFreq, IsWholeCount, IsCountChecked, exposed_too_fine, has_too_many_claims, or_parts, IsGridCount, count_lengths, is_unbounded, IsSmallFreq, exposure_span, count_not_whole, count_above_one, trials_not_whole, shape_not_whole, zero_above, fine_probabilities, has_probs, probs_of, Bounds, AreBounds, freq_too_fine, passes, shape_of, most_shape, ⊤, AreProbabilities, GridExposure}
 use Rattle.dl_rules.proofs.Shapes.{shaped, gamma_count}
 
 -- ---- tests

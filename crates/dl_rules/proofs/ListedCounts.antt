@@ -1,8 +1,5 @@
 -- Listed counts: what the rules leave of them, and what their table is.
-use Rattle.dl_rules.proofs.Common.{inl, inr, subst, admitted_bound, ◌≡◌, ◌∙◌, ℕ, ◌*◌, ◌≤◌, ◌==◌, false, not, nat_lt, List, [], ◌∷◌, zip, map, length, get_or, Option, Some, None, sym, ap, ap₂, arith, All, All-nil, All-cons, All-head, All-tail, All-map, sum_by-cons, most_count, Fraction, whole, ◌over◌, Item, Sev, HasPartsOf48Bits, HasDistribution, whole_num, whole_den, ValueList, Shares, probs_of, is_whole, not_at, not-false, pairs_of_counts, passes, never, items_in, eqb-true, length-replicate, mul-le-mul_right, weight_sum, weighted_sum, num_of_over-le, den_of_over-le, total_pos, within, other_length, support_all}
-use Rattle.std.proofs.lemmas.Bool.{cases_lt}
-use Rattle.dl_exact.proofs.Over.{over_same}
-use Rattle.dl_rules.specs.Listed.{AreCounts}
+use Rattle.dl_rules.proofs.Common.{inl, inr, subst, admitted_bound, ◌≡◌, ◌∙◌, ℕ, ◌*◌, ◌≤◌, ◌==◌, false, not, nat_lt, List, [], ◌∷◌, zip, map, length, get_or, Option, Some, None, sym, ap, ap₂, arith, All, All-nil, All-cons, All-head, All-tail, All-map, sum_by-cons, most_count, Fraction, whole, ◌over◌, Item, Sev, HasPartsOf48Bits, HasDistribution, whole_num, whole_den, ValueList, Shares, probs_of, is_whole, not_at, not-false, pairs_of_counts, passes, never, items_in, eqb-true, length-replicate, mul-le-mul_right, weight_sum, weighted_sum, num_of_over-le, den_of_over-le, total_pos, within, other_length, support_all, cases_lt, over_same, AreCounts}
 
 -- ---- limits
 

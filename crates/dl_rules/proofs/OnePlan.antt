@@ -1,9 +1,7 @@
 -- A program and settings have one plan.
-use Rattle.std.proofs.Math.Bridge.{le_prop}
 use mathlib.Core.HLevel.{is_prop→PathP}
-use Rattle.dl_rules.proofs.Common.{◌≡◌, ◌∙◌, ℕ, zero, suc, ◌*◌, ◌<◌, ◌==◌, cond, false, List, [], ◌∷◌, map, Option, Some, None, inl, inr, refl, sym, ap, ap₂, subst, arith, mul-pos, All, All-head, All-tail, sum_by-cons, eqb_tells, Fraction, whole, whole_num, ◌over◌, Item, Sev, Pairs, HasDistribution, Plan, Settings, Program, UnitAst, GridUnit, GridCount, Exposed, Listed, Fixed, Poisson, Bernoulli, Binomial, Gamma, final_severity, ℕ_set, eq_of_mul-eq-mul_right, AllZip, cases_lt, same_from_all_zip, le_of_eq, le_over, Freq, UnitOfPlan, IsClaimCount, IsWeighted, weight_at, common_weight, Rising, rises, none_later, grid_of, ValueList, Shares, MixAst, Numeral, PortHead, SevDef, IsTableOf, IsCountOf, IsUnitOn, IsUnitOf, IsWrittenShape, IsSharedShape, IsPlanOf}
+use Rattle.dl_rules.proofs.Common.{◌≡◌, ◌∙◌, ℕ, zero, suc, ◌*◌, ◌<◌, ◌==◌, cond, false, List, [], ◌∷◌, map, Option, Some, None, inl, inr, refl, sym, ap, ap₂, subst, arith, mul-pos, All, All-head, All-tail, sum_by-cons, eqb_tells, Fraction, whole, whole_num, ◌over◌, Item, Sev, Pairs, HasDistribution, Plan, Settings, Program, UnitAst, GridUnit, GridCount, Exposed, Listed, Fixed, Poisson, Bernoulli, Binomial, Gamma, final_severity, ℕ_set, eq_of_mul-eq-mul_right, AllZip, cases_lt, same_from_all_zip, le_of_eq, le_over, Freq, UnitOfPlan, IsClaimCount, IsWeighted, weight_at, common_weight, Rising, rises, none_later, grid_of, ValueList, Shares, MixAst, Numeral, PortHead, SevDef, IsTableOf, IsCountOf, IsUnitOn, IsUnitOf, IsWrittenShape, IsSharedShape, IsPlanOf, le_prop, common_from, common-times, times, weight_sum_pos}
 use Rattle.dl_plan.specs.declared.plan.Freq.TheVariants as of_plan
-use Rattle.dl_plan.proofs.Weights.{common_from, common-times, times, weight_sum_pos}
 
 -- ---- whole weights are told by the probabilities that they mean
 

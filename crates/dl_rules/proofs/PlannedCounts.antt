@@ -1,8 +1,6 @@
 -- The claim count of a plan that is made of a count that breaks no rule.
-use Rattle.dl_rules.proofs.Common.{ℕ, ◌≡◌, ◌∙◌, ◌*◌, ◌<ℚ◌, ◌&&◌, ◌||◌, not, Bool, true, false, if◌then◌else◌, List, map, Option, Some, None, refl, sym, ap, ap₂, subst, arith, is_some, IfSome, length-map, most_claims, Fraction, whole, ◌*ℚ◌, ◌/ℚ◌, ◌≤ℚ◌, div_times, Sev, HasPartsOf48Bits, Pairs, HasDistribution, GridFreq, Fixed, Poisson, Bernoulli, Binomial, Gamma, GridCount, Exposed, Listed, probs_of, is_admitted, not-false, GridUnit, claims_of, claims_above_zero, shape_of, IsFreqChecked, IsCountChecked, IsCountMade, freq_with, pairs_of_counts, has_too_many_claims, passes, and_parts, ltb-true, or_parts, most_expected, rarest_claims, ◌-ℚ◌, ◌over◌, IsNewZero, Freq, IsFineTo40Bits, probability_of, IsClaimCount, IsUnbounded, IsExposed, expected_of_plan, IsSmall, not_above, seconds-zip, has_count, is_there_and, thinned, freq_span, has_no_base, zero_base, is_above, IsCountWith, IsCountOf, not_at, Bounds, ◌+ℚ◌, IsSomeClaim, IsThinnedGamma, IsThinnedTo, is_claim_rare, is_one_rare, shape_not_whole, lt-ltb}
+use Rattle.dl_rules.proofs.Common.{ℕ, ◌≡◌, ◌∙◌, ◌*◌, ◌<ℚ◌, ◌&&◌, ◌||◌, not, Bool, true, false, if◌then◌else◌, List, map, Option, Some, None, refl, sym, ap, ap₂, subst, arith, is_some, IfSome, length-map, most_claims, Fraction, whole, ◌*ℚ◌, ◌/ℚ◌, ◌≤ℚ◌, div_times, Sev, HasPartsOf48Bits, Pairs, HasDistribution, GridFreq, Fixed, Poisson, Bernoulli, Binomial, Gamma, GridCount, Exposed, Listed, probs_of, is_admitted, not-false, GridUnit, claims_of, claims_above_zero, shape_of, IsFreqChecked, IsCountChecked, IsCountMade, freq_with, pairs_of_counts, has_too_many_claims, passes, and_parts, ltb-true, or_parts, most_expected, rarest_claims, ◌-ℚ◌, ◌over◌, IsNewZero, Freq, IsFineTo40Bits, probability_of, IsClaimCount, IsUnbounded, IsExposed, expected_of_plan, IsSmall, not_above, seconds-zip, has_count, is_there_and, thinned, freq_span, has_no_base, zero_base, is_above, IsCountWith, IsCountOf, not_at, Bounds, ◌+ℚ◌, IsSomeClaim, IsThinnedGamma, IsThinnedTo, is_claim_rare, is_one_rare, shape_not_whole, lt-ltb, sum_of, sev_of}
 use Rattle.dl_plan.specs.declared.plan.Freq.TheVariants as of_plan
-use Rattle.dl_severity.specs.Weighing.{sum_of}
-use Rattle.dl_reading.proofs.SevSteps.{sev_of}
 use Rattle.dl_rules.specs.Exposures.{expected_count}
 use Rattle.dl_rules.proofs.ListedCounts.{same_length, small_table, table_admitted}
 use Rattle.dl_rules.proofs.ExposedCounts.{whole_is, few_is}

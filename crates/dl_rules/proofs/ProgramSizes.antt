@@ -1,17 +1,6 @@
 -- How large the units of a portfolio are all together, by the text and by the plan.
-use Rattle.std.specs.Prelude.{IsNone, count_by, sum_by}
-use Rattle.dl_rules.proofs.Common.{false, ℕ, ◌≡◌, ◌∙◌, ◌≤◌, Bool, nat_lt, List, [], ◌∷◌, length, map, take, get_or, Option, Some, None, refl, sym, ap, ap₂, subst, arith, is_some, Ok, All, All-head, All-tail, AllZip, or_parts, le-ltb, ltb-false, at_if, not_at, else_first, else_second, Fraction, whole, ◌*ℚ◌, div_times, pos_num, zero_above, Sev, Freq, UnitOfPlan, IsClaimCount, IsWeighted, IsValidUnit, pairs_of, mean_amount, expected_of_plan, Settings, Program, IsWellFormed, UnitAst, MixAst, PortHead, SevDef, ValueList, Shares, GridUnit, GridCount, Exposed, Listed, Fixed, Poisson, Bernoulli, Binomial, Gamma, grid_of, final_severity, turn_none, pairs_of_counts, expected_claims, trials_not_whole, IsTableOf, IsCountOf, IsUnitOn, IsUnitOf, AnswersUnits, breaks, bounds_asked, cells_asked, count_rules, fault_of_text, fault_of_mixture, fault_with, first_fault_of, mixture_of, duplicate_name, flaws_of, most_asked, most_total_at, standard_units}
-use Rattle.dl_limits.specs.Limits.{most_changed}
-use Rattle.dl_plan.specs.Prelude.{changed_units, whole_means}
-use Rattle.dl_plan.proofs.Few.{standard_few}
+use Rattle.dl_rules.proofs.Common.{false, ℕ, ◌≡◌, ◌∙◌, ◌≤◌, Bool, nat_lt, List, [], ◌∷◌, length, map, take, get_or, Option, Some, None, refl, sym, ap, ap₂, subst, arith, is_some, Ok, All, All-head, All-tail, AllZip, or_parts, le-ltb, ltb-false, at_if, not_at, else_first, else_second, Fraction, whole, ◌*ℚ◌, div_times, pos_num, zero_above, Sev, Freq, UnitOfPlan, IsClaimCount, IsWeighted, IsValidUnit, pairs_of, mean_amount, expected_of_plan, Settings, Program, IsWellFormed, UnitAst, MixAst, PortHead, SevDef, ValueList, Shares, GridUnit, GridCount, Exposed, Listed, Fixed, Poisson, Bernoulli, Binomial, Gamma, grid_of, final_severity, turn_none, pairs_of_counts, expected_claims, trials_not_whole, IsTableOf, IsCountOf, IsUnitOn, IsUnitOf, AnswersUnits, breaks, bounds_asked, cells_asked, count_rules, fault_of_text, fault_of_mixture, fault_with, first_fault_of, mixture_of, duplicate_name, flaws_of, most_asked, most_total_at, standard_units, IsNone, count_by, sum_by, most_changed, changed_units, whole_means, standard_few, standard_means, mean-shares, alike_own, scored_alike, AllZip-long, fault_of_total, sizes_in, total_too_large, Size, claims_in, is_total_large, size_in, size_of, size_of_mixture, size_on, whole_size}
 use Rattle.dl_plan.proofs.Means.{total_pos}
-use Rattle.dl_plan.proofs.MeanSizes.{standard_means}
-use Rattle.dl_plan.proofs.Shares.{mean-shares}
-use Rattle.dl_reading.proofs.Meaning.{alike_own, scored_alike}
-use Rattle.std.proofs.lemmas.Slice.Zip.{AllZip-long}
-unfoldable use Rattle.dl_rules.specs.Faults.{fault_of_total}
-use Rattle.dl_rules.specs.Faults.{sizes_in, total_too_large}
-use Rattle.dl_rules.specs.Totals.{Size, claims_in, is_total_large, size_in, size_of, size_of_mixture, size_on, whole_size}
 use Rattle.dl_rules.specs.declared.rule.Rule.TheVariants as rules
 use Rattle.dl_rules.proofs.RuleLists.{all_kept, both, only}
 use Rattle.dl_rules.proofs.Sizes.{sizes_changed, sizes_means, total_is}

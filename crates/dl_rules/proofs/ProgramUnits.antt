@@ -1,17 +1,11 @@
 -- The units of a plan, one after another.
-use Rattle.dl_plan.specs.Prelude.{whole_means}
-use Rattle.dl_rules.proofs.Common.{Bool, true, false, list_any, map, if◌then◌else◌, IfSome, ◌≡◌, ◌∙◌, ℕ, ◌+◌, ◌<◌, ◌≤◌, List, [], ◌∷◌, ◌++◌, take, length, get_or, Option, Some, None, refl, sym, ap, subst, arith, bytes_eq, All, Ok, Err, CheckFault, Typing, OutOfMemory, AnswersUnit, AnswersUnits, All-nil, All-cons, All-head, All-tail, most_total_at, most_units, Fraction, whole, ◌<ℚ◌, Settings, IsValidUnit, UnitAst, ◌else◌, in_turn, Span, cells_asked, first_fault_of, first_fault, breaks, duplicate_name, too_many_units, IsSet, Program, IsWellFormed, Plan, else_first, not_at, never, both_ways, ◌≢◌, AllZip, AllPairs, take_all, bytes_eq-Decides, IsCheckOf, NoneTurned, turn_passed, turn_ended, All-append, UnitOfPlan, HasCommonFactor, IsUnitOn, IsUnitWith, IsUnitOf, IsSharedShape, common_unit, fault_with, fault_of_port, most_asked, fault_of_text, fault_of_mixture, fault_of_severity, StopsAt, HasFault, AnswersGrid, AnswersWith, named, mixture_of, body_span, TypeFault, GridUnit, fault_on_grid, names_of, grid_of, flaws_of, repeated, from_map, MixAst, PortHead, SevDef, IsFormedMixture, IsFormedBody, IsFormedDefinition, Result, IfOk, inl, inr, slice_get_cases, bounds_asked}
-use Rattle.std.proofs.lemmas.List.Quantifiers.{all_pairs_push}
-use Rattle.std.proofs.lemmas.Slice.Zip.{all_zipped_more, AllZip-long}
-use Rattle.dl_rules.specs.Faults.{fault_of_total}
+use Rattle.dl_rules.proofs.Common.{Bool, true, false, list_any, map, if◌then◌else◌, IfSome, ◌≡◌, ◌∙◌, ℕ, ◌+◌, ◌<◌, ◌≤◌, List, [], ◌∷◌, ◌++◌, take, length, get_or, Option, Some, None, refl, sym, ap, subst, arith, bytes_eq, All, Ok, Err, CheckFault, Typing, OutOfMemory, AnswersUnit, AnswersUnits, All-nil, All-cons, All-head, All-tail, most_total_at, most_units, Fraction, whole, ◌<ℚ◌, Settings, IsValidUnit, UnitAst, ◌else◌, in_turn, Span, cells_asked, first_fault_of, first_fault, breaks, duplicate_name, too_many_units, IsSet, Program, IsWellFormed, Plan, else_first, not_at, never, both_ways, ◌≢◌, AllZip, AllPairs, take_all, bytes_eq-Decides, IsCheckOf, NoneTurned, turn_passed, turn_ended, All-append, UnitOfPlan, HasCommonFactor, IsUnitOn, IsUnitWith, IsUnitOf, IsSharedShape, common_unit, fault_with, fault_of_port, most_asked, fault_of_text, fault_of_mixture, fault_of_severity, StopsAt, HasFault, AnswersGrid, AnswersWith, named, mixture_of, body_span, TypeFault, GridUnit, fault_on_grid, names_of, grid_of, flaws_of, repeated, from_map, MixAst, PortHead, SevDef, IsFormedMixture, IsFormedBody, IsFormedDefinition, Result, IfOk, inl, inr, slice_get_cases, bounds_asked, whole_means, all_pairs_push, all_zipped_more, AllZip-long, fault_of_total, SevBody, Mixture, Ref}
 use Rattle.dl_rules.specs.declared.rule.Rule.TheVariants as rules
 use Rattle.dl_rules.proofs.Naming.{one_more}
 use Rattle.dl_rules.proofs.OnePlan.{map_alike}
 use Rattle.dl_rules.proofs.RuleLists.{both}
 use Rattle.dl_rules.proofs.ProgramSizes.{total_kept}
 use Rattle.dl_rules.proofs.Stops.{skip, stop_first, stop_second}
-use Rattle.dl_ast.specs.declared.ast.SevBody.{SevBody}
-use Rattle.dl_ast.specs.declared.ast.SevBody.TheVariants.{Mixture, Ref}
 
 -- the first i units break no rule, and have these units in the plan
 pub record Planned (settings : Settings) (port : Option PortHead) (sevs : List SevDef) (units : List UnitAst) (i : ℕ) (made : List UnitOfPlan) : Type 0 where

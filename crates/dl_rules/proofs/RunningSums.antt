@@ -1,6 +1,5 @@
 -- Sums that are admitted after each number.
-use Rattle.dl_exact.proofs.Sums.{sum_over_map}
-use Rattle.dl_rules.proofs.Common.{◌≡◌, ◌∙◌, ℕ, ◌+◌, ◌<◌, ◌≤◌, List, [], ◌∷◌, ◌++◌, length, map, take, get_or, whole, Bool, true, false, if◌then◌else◌, Option, Some, None, refl, sym, ap, subst, arith, All, All-nil, All-cons, Fraction, ◌≤ℚ◌, HasPartsOf48Bits, is_admitted, admitted, length-map, whole_num, whole_den, drop, take-map, get_or-map, take_all, ◌+ℚ◌, sum_over, plus_assoc, plus_comm, plus_zero, zero_plus, le_plus, le_trans, running_sum, take-append-drop, option_and_then}
+use Rattle.dl_rules.proofs.Common.{◌≡◌, ◌∙◌, ℕ, ◌+◌, ◌<◌, ◌≤◌, List, [], ◌∷◌, ◌++◌, length, map, take, get_or, whole, Bool, true, false, if◌then◌else◌, Option, Some, None, refl, sym, ap, subst, arith, All, All-nil, All-cons, Fraction, ◌≤ℚ◌, HasPartsOf48Bits, is_admitted, admitted, length-map, whole_num, whole_den, drop, take-map, get_or-map, take_all, ◌+ℚ◌, sum_over, plus_assoc, plus_comm, plus_zero, zero_plus, le_plus, le_trans, running_sum, take-append-drop, option_and_then, sum_over_map}
 use Rattle.dl_rules.proofs.Naming.{maps_more, maps_split}
 use Rattle.dl_rules.proofs.Shapes.{admitted_is}
 

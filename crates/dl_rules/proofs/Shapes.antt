@@ -1,9 +1,6 @@
 -- Shapes of gamma factors: 1 over the square of a coefficient of variation, and numbers of claims over a shape.
-use Rattle.dl_rules.proofs.Common.{ℕ, ◌≡◌, ◌∙◌, ◌+◌, ◌*◌, ◌<◌, ◌≤◌, ◌==◌, ◌&&◌, ◌||◌, nat_lt, Bool, true, false, not, inl, inr, refl, sym, ap, ap₂, subst, arith, mul-pos, ◌∣◌, gcd, Option, Some, None, IfSome, Fraction, whole, ◌over◌, ◌+ℚ◌, ◌*ℚ◌, ◌/ℚ◌, ◌<ℚ◌, lowest_swap, lowest_times, lowest_product, lowest_den, product_is, quotient_is, sum_is, is_whole, is_zero, is_above, is_admitted, is_held, is_there_and, shape_of, passes, zero_above, eq-one_of_dvd-one, eq-zero-or-pos, dvd-mul_right, eqb-true, eq-eqb, num_pos, or_parts, and_parts, not-false, not_above, admitted, if◌then◌else◌, Result, Ok, Err, ◌⊎◌, HasPartsOf48Bits, FitsFrac, IsShape, IsGammaCount, IsThinnedGamma, IsShaped, most_shape, most_beta, admitted_bound, frac_bound, rarest_claims, has_no_shape, shape_too_fine, is_coarse_over, is_shape_large, is_one_rare, ltb-true, ltb-false, num_of_over-le, den_of_over-le, mul-le-mul_left, Bounds, lt-ltb}
+use Rattle.dl_rules.proofs.Common.{ℕ, ◌≡◌, ◌∙◌, ◌+◌, ◌*◌, ◌<◌, ◌≤◌, ◌==◌, ◌&&◌, ◌||◌, nat_lt, Bool, true, false, not, inl, inr, refl, sym, ap, ap₂, subst, arith, mul-pos, ◌∣◌, gcd, Option, Some, None, IfSome, Fraction, whole, ◌over◌, ◌+ℚ◌, ◌*ℚ◌, ◌/ℚ◌, ◌<ℚ◌, lowest_swap, lowest_times, lowest_product, lowest_den, product_is, quotient_is, sum_is, is_whole, is_zero, is_above, is_admitted, is_held, is_there_and, shape_of, passes, zero_above, eq-one_of_dvd-one, eq-zero-or-pos, dvd-mul_right, eqb-true, eq-eqb, num_pos, or_parts, and_parts, not-false, not_above, admitted, if◌then◌else◌, Result, Ok, Err, ◌⊎◌, HasPartsOf48Bits, FitsFrac, IsShape, IsGammaCount, IsThinnedGamma, IsShaped, most_shape, most_beta, admitted_bound, frac_bound, rarest_claims, has_no_shape, shape_too_fine, is_coarse_over, is_shape_large, is_one_rare, ltb-true, ltb-false, num_of_over-le, den_of_over-le, mul-le-mul_left, Bounds, lt-ltb, over_self, over_mul, over_div, over_same, lt_over, over_lt, is_err, Gives}
 use Rattle.std.specs.Cmp.{both_ways}
-use Rattle.dl_exact.proofs.Over.{over_self, over_mul, over_div, over_same, lt_over, over_lt}
-use Rattle.std.specs.Result.{is_err}
-use Rattle.dl_frac.specs.Exact.{Gives}
 use Rattle.dl_rules.proofs.ListedCounts.{passes_is}
 
 -- ---- 1 over a square

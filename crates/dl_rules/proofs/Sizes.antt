@@ -1,15 +1,6 @@
 -- Sums over the units of a plan: how many have a changed probability of no claim, and their means.
-use Rattle.std.specs.Prelude.{count_by, sum_by}
-use Rattle.std.specs.Int.{div_ceil}
 use Rattle.std.proofs.Common.{◌^◌, mul-le-mul_right}
-use Rattle.std.proofs.Math.Nat.{mul-le-mul_left}
-use Rattle.dl_rules.proofs.Common.{ℕ, ◌≡◌, ◌∙◌, ◌+◌, ◌*◌, ◌<◌, ◌≤◌, ◌||◌, Bool, true, false, cond, nat_lt, List, [], ◌∷◌, ◌++◌, length, map, take, get_or, refl, sym, ap, ap₂, subst, arith, is_some, sum_by-cons, take_more, Fraction, whole, ◌*ℚ◌, ◌over◌, one_pos, over_mul, UnitOfPlan, most_total_at}
-use Rattle.dl_exact.proofs.Over.{over_same}
-use Rattle.dl_exact.proofs.RoundingLaws.{ceiling_div, ceiling_one, div_ceil_least, up_above, up_least}
-use Rattle.dl_exact.specs.Prelude.{IsCeiling, up}
-use Rattle.dl_limits.specs.Limits.{most_changed}
-use Rattle.dl_plan.specs.Prelude.{changed_units, declared_mean, growth, whole_mean, whole_means}
-use Rattle.dl_rules.specs.Totals.{Size, is_total_large, size_of, whole_size}
+use Rattle.dl_rules.proofs.Common.{ℕ, ◌≡◌, ◌∙◌, ◌+◌, ◌*◌, ◌<◌, ◌≤◌, ◌||◌, Bool, true, false, cond, nat_lt, List, [], ◌∷◌, ◌++◌, length, map, take, get_or, refl, sym, ap, ap₂, subst, arith, is_some, sum_by-cons, take_more, Fraction, whole, ◌*ℚ◌, ◌over◌, one_pos, over_mul, UnitOfPlan, most_total_at, count_by, sum_by, div_ceil, mul-le-mul_left, over_same, ceiling_div, ceiling_one, div_ceil_least, up_above, up_least, IsCeiling, up, most_changed, changed_units, declared_mean, growth, whole_mean, whole_means, Size, is_total_large, size_of, whole_size}
 
 pub sizes_changed : (us : List UnitOfPlan) → count_by (λ (s : Size). is_some s.zero) (map size_of us) ≡ changed_units us
 sizes_changed [] = refl

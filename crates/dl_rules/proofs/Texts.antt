@@ -1,8 +1,6 @@
 -- A unit that is read tells of the rules that its text breaks, and where it breaks none it is the unit of the text.
-use Rattle.dl_rules.proofs.Common.{ℕ, ◌≡◌, ◌∙◌, List, [], ◌∷◌, Option, Some, None, refl, sym, ap, subst, arith, Ok, Err, Fraction, Span, ◌else◌, breaks, CheckFault, GridUnit, UnitAst, length, Result, OnOk, Rule, MixAst, first_in, spans, AgreeToFirst, IsClean, IsRead, grid_mixture, grid_with, grid_of, flaws_of_mixture, flaws_with, flaws_of, HasFault, first_broken, fault_of_text, text_rules, Bounds}
+use Rattle.dl_rules.proofs.Common.{ℕ, ◌≡◌, ◌∙◌, List, [], ◌∷◌, Option, Some, None, refl, sym, ap, subst, arith, Ok, Err, Fraction, Span, ◌else◌, breaks, CheckFault, GridUnit, UnitAst, length, Result, OnOk, Rule, MixAst, first_in, spans, AgreeToFirst, IsClean, IsRead, grid_mixture, grid_with, grid_of, flaws_of_mixture, flaws_with, flaws_of, HasFault, first_broken, fault_of_text, text_rules, Bounds, Flaws, Gridded}
 use Rattle.dl_rules.specs.declared.rule.Rule.TheVariants as rules
-use Rattle.dl_reading.specs.declared.flaws.Flaws.{Flaws}
-use Rattle.dl_reading.specs.declared.flaws.Gridded.{Gridded}
 use Rattle.dl_rules.proofs.RuleLists.{all_kept, none_broken}
 
 -- each of these rules beside its place

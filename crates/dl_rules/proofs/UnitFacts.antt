@@ -1,8 +1,7 @@
 -- What a unit in whole buckets keeps where the rules on it are not broken, and its unit of the plan.
-use Rattle.dl_rules.proofs.Common.{ℕ, ◌≡◌, ◌∙◌, Bool, true, false, List, [], ◌∷◌, Option, None, Sev, Clause, refl, sym, ap, ap₂, subst, Ok, Err, Fraction, Settings, Span, at_if, not_at, ◌else◌, else_first, else_second, GridUnit, GridCount, Exposed, Listed, ◌++◌, has_shares, fractions_too_fine, IsGridUnit, off_grid_cession, severity_in_layer, support, final_severity, CheckFault, OutOfMemory, expected_claims, claims_of, claims_above_zero, breaks, cells_asked, fault_on_grid, IsWholeCount, IsCountChecked, IsCountMade, IsCedeOf, too_fine, exposed_too_fine, too_many_claims, has_too_many_claims, horizon_too_large, most_amount_at, IsWithin, made_of, Result, OnOk, IfOk, IfErr, UnitOfPlan, IsNewZero, IfSome, IsLayered, IsFineSev, TypeFault, StopsAt, HasFault, AnswersGrid, first_broken, clause_rules, whole_rules, number_rules, count_rules, change_rules, zero_base, zero_mean, IsErr, IsErrAnd, else_none, first_in, AllKept, Bounds, AreBounds, bounds_asked, bounds_within}
+use Rattle.dl_rules.proofs.Common.{ℕ, ◌≡◌, ◌∙◌, Bool, true, false, List, [], ◌∷◌, Option, None, Sev, Clause, refl, sym, ap, ap₂, subst, Ok, Err, Fraction, Settings, Span, at_if, not_at, ◌else◌, else_first, else_second, GridUnit, GridCount, Exposed, Listed, ◌++◌, has_shares, fractions_too_fine, IsGridUnit, off_grid_cession, severity_in_layer, support, final_severity, CheckFault, OutOfMemory, expected_claims, claims_of, claims_above_zero, breaks, cells_asked, fault_on_grid, IsWholeCount, IsCountChecked, IsCountMade, IsCedeOf, too_fine, exposed_too_fine, too_many_claims, has_too_many_claims, horizon_too_large, most_amount_at, IsWithin, made_of, Result, OnOk, IfOk, IfErr, UnitOfPlan, IsNewZero, IfSome, IsLayered, IsFineSev, TypeFault, StopsAt, HasFault, AnswersGrid, first_broken, clause_rules, whole_rules, number_rules, count_rules, change_rules, zero_base, zero_mean, IsErr, IsErrAnd, else_none, first_in, AllKept, Bounds, AreBounds, bounds_asked, bounds_within, IsFinal, AreClaims, IsNumberOf, IsUnitCount, count_of, number_of}
 use Rattle.dl_rules.specs.declared.rule.Rule.TheVariants as rules
 use Rattle.dl_rules.specs.declared.claims.Claims.{Claims}
-use Rattle.dl_rules.specs.Claimed.{IsFinal, AreClaims, IsNumberOf, IsUnitCount, count_of, number_of}
 use Rattle.dl_rules.proofs.Aggregates.{aggregate_valid}
 use Rattle.dl_rules.proofs.FineClaims.{count_probs, fine_left, occ_shares, agr_shares}
 use Rattle.dl_rules.proofs.KeptCounts.{AreWhole, AreChecked, probs_are, whole_count, count_kept}

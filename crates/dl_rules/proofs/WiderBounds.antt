@@ -1,10 +1,6 @@
 -- What bounds allow, wider ones allow too: fine fractions, and the rules on a unit in whole buckets.
-use Rattle.dl_rules.proofs.Common.{ℕ, ◌≡◌, ◌∙◌, ◌&&◌, ◌||◌, ◌≤◌, Bool, true, false, not, List, Option, Some, None, refl, sym, ap, subst, arith, IfSome, Fraction, at_if, not_at, or_parts, and-false, leb-true, HasPartsOf48Bits, FitsFrac, GridUnit, GridCount, Exposed, Listed, GridFreq, Fixed, Poisson, Bernoulli, Binomial, Gamma, is_fine, is_zero, is_whole, shape_of, passes, most_shape, most_beta, most_expected, common_denominator, Bounds, fractions_too_fine, has_severity, final_severity, claims_above_zero, claims_of, expected_claims, thinned, is_there_and, has_no_shape, no_shape_of, freq_too_fine, is_shape_large, exposed_too_fine, has_too_many_claims, shape_not_whole, too_many_claims, number_rules, count_rules, AllKept, ◌/ℚ◌, Pairs}
-use Rattle.std.proofs.lemmas.Bool.{le-leb}
-use Rattle.dl_limits.specs.Rules.{AreWithin}
-use Rattle.dl_reading.specs.declared.grid.GridExposure.{GridExposure}
+use Rattle.dl_rules.proofs.Common.{ℕ, ◌≡◌, ◌∙◌, ◌&&◌, ◌||◌, ◌≤◌, Bool, true, false, not, List, Option, Some, None, refl, sym, ap, subst, arith, IfSome, Fraction, at_if, not_at, or_parts, and-false, leb-true, HasPartsOf48Bits, FitsFrac, GridUnit, GridCount, Exposed, Listed, GridFreq, Fixed, Poisson, Bernoulli, Binomial, Gamma, is_fine, is_zero, is_whole, shape_of, passes, most_shape, most_beta, most_expected, common_denominator, Bounds, fractions_too_fine, has_severity, final_severity, claims_above_zero, claims_of, expected_claims, thinned, is_there_and, has_no_shape, no_shape_of, freq_too_fine, is_shape_large, exposed_too_fine, has_too_many_claims, shape_not_whole, too_many_claims, number_rules, count_rules, AllKept, ◌/ℚ◌, Pairs, le-leb, AreWithin, GridExposure, severity_wider, fractions_wider}
 use Rattle.dl_reading.specs.declared.grid.GridExposure.TheVariants.{Claims, Loss, Premium}
-use Rattle.dl_reading.proofs.Wider.{severity_wider, fractions_wider}
 use Rattle.dl_rules.proofs.FineClaims.{fine_left, fine_span, severity_fine}
 use Rattle.dl_rules.proofs.Shapes.{shape_valid, gamma_count, thinned_gamma, not_too_fine, admitted_there}
 use Rattle.dl_rules.proofs.PlannedCounts.{claims_admitted}

@@ -1,7 +1,5 @@
 -- The probability of cell 0 of a geometric count and of a Poisson count of a small mean, from whole numbers.
-use Rattle.dl_start.proofs.Common.{◌≡◌, ℕ, suc, zero, ◌+◌, ◌*◌, ◌<◌, ◌≤◌, arith, ap, ◌∙◌, mul-pos, mul-le-mul_right, zero-lt-suc, Fraction, ◌over◌, ◌+ℚ◌, ◌*ℚ◌, ◌≤ℚ◌, ◌<ℚ◌, whole, sum_to, poisson, gamma, over_le, over_add, over_mul, over_same, one_pos, one_times, times_comm, le_refl, le_trans, times_le_times, times_le_cancel, whole_pos, whole_plus, whole_times, over_times_whole, times_le_both, whole_le, Holds, IsBound, over_lt, plus_le_both, plus_times, times_assoc, times_plus, halving_bound, times_inward, times_outward, times_right_comm}
-use Rattle.dl_model.proofs.PoissonWeights.{poisson_next}
-use Rattle.dl_model.proofs.Gamma.{geometric_low, geometric_least}
+use Rattle.dl_start.proofs.Common.{◌≡◌, ℕ, suc, zero, ◌+◌, ◌*◌, ◌<◌, ◌≤◌, arith, ap, ◌∙◌, mul-pos, mul-le-mul_right, zero-lt-suc, Fraction, ◌over◌, ◌+ℚ◌, ◌*ℚ◌, ◌≤ℚ◌, ◌<ℚ◌, whole, sum_to, poisson, gamma, over_le, over_add, over_mul, over_same, one_pos, one_times, times_comm, le_refl, le_trans, times_le_times, times_le_cancel, whole_pos, whole_plus, whole_times, over_times_whole, times_le_both, whole_le, Holds, IsBound, over_lt, plus_le_both, plus_times, times_assoc, times_plus, halving_bound, times_inward, times_outward, times_right_comm, poisson_next, geometric_low, geometric_least}
 
 -- ---- geometric
 

@@ -1,9 +1,5 @@
 -- The probability of cell 0: products, and powers of weights.
-use Rattle.dl_start.proofs.Common.{◌≡◌, ℕ, suc, zero, ◌+◌, ◌*◌, ◌/◌, ◌^◌, ◌<◌, ◌≤◌, arith, sym, mul-pos, mul-le-mul_right, pow-suc, div-mul-le_self, pow-add, zero-lt-suc, lt-div-mul-add, Fraction, ◌over◌, ◌*ℚ◌, ◌≤ℚ◌, whole, sum_to, over_le, over_mul, one_times, le_refl, le_of_eq, le_of_mul-le-mul_right, one-le-pow, pow-le-pow_right, AtMost, AtLeast, Holds, Series, times, convolve}
-use Rattle.dl_model.proofs.Declared.{at_most_wider, at_least_wider, at_most_times, at_least_times}
-use Rattle.dl_model.proofs.FamilyLaws.{sum_rises_to}
-use Rattle.dl_model.proofs.Alike.{most_from, least_from}
-use Rattle.dl_model.proofs.Cauchy.{cauchy_low, cauchy_high}
+use Rattle.dl_start.proofs.Common.{◌≡◌, ℕ, suc, zero, ◌+◌, ◌*◌, ◌/◌, ◌^◌, ◌<◌, ◌≤◌, arith, sym, mul-pos, mul-le-mul_right, pow-suc, div-mul-le_self, pow-add, zero-lt-suc, lt-div-mul-add, Fraction, ◌over◌, ◌*ℚ◌, ◌≤ℚ◌, whole, sum_to, over_le, over_mul, one_times, le_refl, le_of_eq, le_of_mul-le-mul_right, one-le-pow, pow-le-pow_right, AtMost, AtLeast, Holds, Series, times, convolve, at_most_wider, at_least_wider, at_most_times, at_least_times, sum_rises_to, most_from, least_from, cauchy_low, cauchy_high}
 
 pub two_le : (i j : ℕ) → i ≤ j → 2 ^ i ≤ 2 ^ j
 two_le i j h = pow-le-pow_right (zero-lt-suc 1) h

@@ -1,6 +1,5 @@
 -- The floor and the ceiling of a quotient.
-use Rattle.dl_start.proofs.Common.{ℕ, suc, ◌+◌, ◌-◌, ◌*◌, ◌/◌, ◌^◌, ◌<◌, ◌≤◌, arith, div-mul-le_self, mul-le-mul, mul-le-mul_left, lt-div-mul-add, div-lt_iff_lt-mul}
-use Rattle.std.proofs.lemmas.Nat.{le-div}
+use Rattle.dl_start.proofs.Common.{ℕ, suc, ◌+◌, ◌-◌, ◌*◌, ◌/◌, ◌^◌, ◌<◌, ◌≤◌, arith, div-mul-le_self, mul-le-mul, mul-le-mul_left, lt-div-mul-add, div-lt_iff_lt-mul, le-div}
 
 pub ceil_reaches : (a d : ℕ) → 0 < d → a ≤ (a + (d - 1)) / d * d
 ceil_reaches a d h = omega (arith, lt-div-mul-add {a = a + (d - 1)} {b = d} h)

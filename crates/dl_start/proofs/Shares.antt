@@ -1,11 +1,5 @@
 -- Equal shares of a count, together, and the ratio of a gamma count from its mean.
-use Rattle.dl_start.proofs.Common.{◌≡◌, ◌≤◌, ◌-◌, sym, over_self, convolve, ℕ, suc, zero, ◌+◌, ◌*◌, ◌/◌, ◌<◌, arith, ap, ◌∙◌, mul-pos, Fraction, ◌over◌, ◌+ℚ◌, ◌/ℚ◌, whole, over_add, over_div, over_mul, over_same, one_pos, power, poisson, gamma}
-use Rattle.dl_model.proofs.PoissonTimes.{poisson_power}
-use Rattle.dl_model.proofs.Gamma.{gamma_plus, gamma_power}
-use Rattle.dl_exact.proofs.Denominators.{over_one, over_plus, over_zero}
-use Rattle.dl_exact.proofs.Laws.{plus_zero}
-use Rattle.std.proofs.Common.{◌%◌}
-use Rattle.std.proofs.Math.Nat.{div-add-mod}
+use Rattle.dl_start.proofs.Common.{◌≡◌, ◌≤◌, ◌-◌, sym, over_self, convolve, ℕ, suc, zero, ◌+◌, ◌*◌, ◌/◌, ◌<◌, arith, ap, ◌∙◌, mul-pos, Fraction, ◌over◌, ◌+ℚ◌, ◌/ℚ◌, whole, over_add, over_div, over_mul, over_same, one_pos, power, poisson, gamma, poisson_power, gamma_plus, gamma_power, over_one, over_plus, over_zero, plus_zero, ◌%◌, div-add-mod}
 use mathlib.Core.Path.{fun_ext}
 
 -- equal shares of a Poisson mean, together

@@ -1,19 +1,11 @@
 -- Square roots of whole numbers, and of the probability of no claim.
-use Rattle.dl_start.proofs.Common.{◌≡◌, ℕ, zero, suc, ◌+◌, ◌*◌, ◌^◌, ◌<◌, ◌≤◌, inl, inr, cases_lt, arith, sym, ap, subst, ◌∙◌, mul-pos, mul-le-mul, mul-le-mul_right, pow-add, pow-suc, Fraction, ◌over◌, ◌+ℚ◌, ◌*ℚ◌, ◌≤ℚ◌, whole, sum_to, over_le, over_mul, gamma, AtLeast, AtMost, Holds}
-use Rattle.dl_model.proofs.Roots.{none_least, none_most, root_least, root_most}
+use Rattle.dl_start.proofs.Common.{◌≡◌, ℕ, zero, suc, ◌+◌, ◌*◌, ◌^◌, ◌<◌, ◌≤◌, inl, inr, cases_lt, arith, sym, ap, subst, ◌∙◌, mul-pos, mul-le-mul, mul-le-mul_right, pow-add, pow-suc, Fraction, ◌over◌, ◌+ℚ◌, ◌*ℚ◌, ◌≤ℚ◌, whole, sum_to, over_le, over_mul, gamma, AtLeast, AtMost, Holds, none_least, none_most, root_least, root_most}
 
 -- a number whose square is below that of another is below it
 pub le_of_squares : (a b l h : ℕ) → a * a ≤ l → l ≤ h → h ≤ b * b → a ≤ b
 le_of_squares a b l h p q r = elim (cases_lt b a) [
   | inl above ↦ absurd (omega (arith, p, q, r, mul-le-mul {n₁ = suc b} {m₁ = suc b} {n₂ = a} {m₂ = a} above above))
   | inr near ↦ near
-]
-
--- a number that is not the root of a square that is at most that of T is below T
-pub below_top : (a n T : ℕ) → a * a < n → n ≤ T * T → a < T
-below_top a n T p q = elim (cases_lt a T) [
-  | inl less ↦ less
-  | inr more ↦ absurd (omega (arith, p, q, mul-le-mul {n₁ = T} {m₁ = T} {n₂ = a} {m₂ = a} more more))
 ]
 
 -- the squares of ends in units of 1 / Q, against the product of ends in units of 1 / P and 1 / R

@@ -1,7 +1,5 @@
 -- How close together the ends of a root lie.
-use Rattle.dl_start.proofs.Common.{◌≡◌, ℕ, zero, suc, ◌+◌, ◌-◌, ◌*◌, ◌/◌, ◌^◌, ◌<◌, ◌≤◌, inl, inr, cases_lt, arith, ap, mul-pos, mul-le-mul, mul-le-mul_right, le_of_mul-le-mul_right}
-use Rattle.dl_start.specs.declared.scaled.Scaled.{Scaled}
-use Rattle.dl_start.specs.Start.{IsExact, IsRootRatio, IsWithin}
+use Rattle.dl_start.proofs.Common.{◌≡◌, ℕ, zero, suc, ◌+◌, ◌-◌, ◌*◌, ◌/◌, ◌^◌, ◌<◌, ◌≤◌, inl, inr, cases_lt, arith, ap, mul-pos, mul-le-mul, mul-le-mul_right, le_of_mul-le-mul_right, Scaled, IsExact, IsRootRatio, IsWithin}
 use Rattle.dl_start.proofs.Squares.{le_of_squares}
 
 -- X / q is at most Y / E; H and L are those numbers in one or two parts, rounded outward, and u is at most H

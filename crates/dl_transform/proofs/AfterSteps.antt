@@ -1,8 +1,5 @@
 -- One step of a pass at a node of a right table: what it makes of the two halves of a list.
-use Rattle.dl_transform.proofs.Common.{ℕ, ◌≡◌, ◌+◌, ◌-◌, ◌*◌, ◌/◌, ◌^◌, ◌<◌, ◌≤◌, List, ◌++◌, ◌∙◌, take, drop, length, slice_index, get_or, ap, arith, refl, sym, length-take, Same, eval, point, IsTable}
-use Rattle.std.proofs.lemmas.List.{length-drop}
-use Rattle.dl_transform.specs.Lists.{AreBelow, AreHalves, AreItemsBelow, AreValuesBelow, IsPart}
-use Rattle.dl_transform.specs.declared.tables.Table.{Table}
+use Rattle.dl_transform.proofs.Common.{ℕ, ◌≡◌, ◌+◌, ◌-◌, ◌*◌, ◌/◌, ◌^◌, ◌<◌, ◌≤◌, List, ◌++◌, ◌∙◌, take, drop, length, slice_index, get_or, ap, arith, refl, sym, length-take, Same, eval, point, IsTable, length-drop, AreBelow, AreHalves, AreItemsBelow, AreValuesBelow, IsPart, Table}
 use Rattle.dl_transform.proofs.Parts.{below, take_small, drop_small, roots_small, values_step, items_step}
 use Rattle.dl_transform.proofs.Residues.{same_refl}
 use Rattle.dl_transform.proofs.Wholes.{undone}

@@ -1,6 +1,5 @@
 -- The two halves of a list, and what the passes make of them.
-use Rattle.dl_transform.proofs.Common.{ℕ, suc, ◌≡◌, ◌+◌, ◌-◌, ◌*◌, ◌/◌, ◌^◌, ◌<◌, ◌≤◌, inl, inr, List, ◌++◌, take, drop, length, slice_index, get_or, arith, ap, ◌∙◌, pow-suc, get_or-take, get_or-drop, get_or_past, pow_pos, cases_lt, Same, eval, point, get_or-append_right, length-take}
-use Rattle.std.proofs.Math.ListN.{get_or-append}
+use Rattle.dl_transform.proofs.Common.{ℕ, suc, ◌≡◌, ◌+◌, ◌-◌, ◌*◌, ◌/◌, ◌^◌, ◌<◌, ◌≤◌, inl, inr, List, ◌++◌, take, drop, length, slice_index, get_or, arith, ap, ◌∙◌, pow-suc, get_or-take, get_or-drop, get_or_past, pow_pos, cases_lt, Same, eval, point, get_or-append_right, length-take, get_or-append}
 use Rattle.dl_transform.proofs.Residues.{same_refl, same_of, same_sym, same_trans}
 use Rattle.dl_transform.proofs.Nodes.{IsTree, point_even, point_odd, node_power, inside_roots}
 use Rattle.dl_transform.proofs.Halves.{half_value, low_back, high_back}

@@ -1,9 +1,5 @@
 -- Products of values at the lowest nodes, over 2^64, and the polynomials that they belong to.
-use Rattle.dl_transform.proofs.Common.{ℕ, ◌≡◌, ◌+◌, ◌*◌, ◌^◌, ◌<◌, ◌≤◌, List, length, get_or, arith, sym, Same, point}
-use Rattle.dl_transform.specs.Ends.{low_sum, mixed_sum}
-use Rattle.dl_transform.specs.Lists.{AreOver, AreValues, mixed_at, product_at}
-use Rattle.dl_transform.specs.Table.{value_at}
-use Rattle.dl_transform.specs.declared.tables.Table.{Table}
+use Rattle.dl_transform.proofs.Common.{ℕ, ◌≡◌, ◌+◌, ◌*◌, ◌^◌, ◌<◌, ◌≤◌, List, length, get_or, arith, sym, Same, point, low_sum, mixed_sum, AreOver, AreValues, mixed_at, product_at, value_at, Table}
 use Rattle.dl_transform.proofs.Residues.{same_of, same_refl, same_times, same_trans}
 use Rattle.dl_transform.proofs.Widths.{mixed_same}
 use Rattle.dl_transform.proofs.Wholes.{product_value}

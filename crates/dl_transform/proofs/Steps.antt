@@ -1,6 +1,5 @@
 -- A loop that changes one cell after the other, and what holds of the cells so far.
-use Rattle.dl_transform.proofs.Common.{ℕ, ◌≡◌, ◌+◌, ◌<◌, ◌≤◌, List, length, get_or, arith, set_done, set_rest}
-use Rattle.std.proofs.Math.ListN.{set}
+use Rattle.dl_transform.proofs.Common.{ℕ, ◌≡◌, ◌+◌, ◌<◌, ◌≤◌, List, length, get_or, arith, set_done, set_rest, set}
 
 -- each cell before i is below B and has its relation Q to its place and what stood there; the others are as before
 pub record IsChanged (B : ℕ) (Q : ℕ → ℕ → ℕ → Type 0) (before now : List ℕ) (i : ℕ) : Type 0 where

@@ -1,9 +1,5 @@
 -- One step of a pass at two items.
-use Rattle.dl_transform.proofs.Common.{ℕ, ◌≡◌, ◌+◌, ◌-◌, ◌*◌, ◌<◌, inl, inr, List, ◌∙◌, length, slice_index, get_or, arith, cases_lt, set_each, Same, eval, point}
-use Rattle.std.proofs.Math.ListN.{set}
-use Rattle.std.proofs.lemmas.List.{get_or-set_same, get_or-set_other, length-set}
-use Rattle.dl_transform.specs.Lists.{AreBelow, AreItemsBelow, AreValuesBelow, IsPart}
-use Rattle.dl_transform.specs.declared.tables.Table.{Table}
+use Rattle.dl_transform.proofs.Common.{ℕ, ◌≡◌, ◌+◌, ◌-◌, ◌*◌, ◌<◌, inl, inr, List, ◌∙◌, length, slice_index, get_or, arith, cases_lt, set_each, Same, eval, point, set, get_or-set_same, get_or-set_other, length-set, AreBelow, AreItemsBelow, AreValuesBelow, IsPart, Table}
 use Rattle.dl_transform.proofs.AfterSteps.{small_roots}
 use Rattle.dl_transform.proofs.Halves.{high_back, low_back}
 use Rattle.dl_transform.proofs.Nodes.{point_even, point_odd}

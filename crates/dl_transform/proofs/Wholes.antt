@@ -1,9 +1,5 @@
 -- The product of two lists from its remainders.
-use Rattle.std.specs.Prelude.{All}
-use Rattle.dl_transform.proofs.Common.{cases_lt, inl, inr, ℕ, zero, suc, ◌≡◌, ◌+◌, ◌-◌, ◌*◌, ◌/◌, ◌%◌, ◌^◌, ◌<◌, ◌≤◌, List, length, get_or, sum_by, mul-le-mul_left, arith, sym, ap, ap₂, ◌∙◌, div_below, get_or_past, Same, count_pairs, pairs_none, eval, [], ◌∷◌, div-add-mod, pow-le-pow_right, mul-le-mul, mod_below}
-use Rattle.dl_transform.specs.Lists.{IsTableFor}
-use Rattle.dl_transform.specs.declared.tables.Table.{Table}
-use Rattle.std.proofs.lemmas.List.Sums.{sum_by-cons}
+use Rattle.dl_transform.proofs.Common.{cases_lt, inl, inr, ℕ, zero, suc, ◌≡◌, ◌+◌, ◌-◌, ◌*◌, ◌/◌, ◌%◌, ◌^◌, ◌<◌, ◌≤◌, List, length, get_or, sum_by, mul-le-mul_left, arith, sym, ap, ap₂, ◌∙◌, div_below, get_or_past, Same, count_pairs, pairs_none, eval, [], ◌∷◌, div-add-mod, pow-le-pow_right, mul-le-mul, mod_below, All, IsTableFor, Table, sum_by-cons}
 use Rattle.dl_transform.proofs.Residues.{same_refl, same_of, same_by, same_sym, same_trans, same_times, same_cancel, same_below, same_mod}
 use Rattle.dl_transform.proofs.Values.{eval_scale, eval_padded, eval_product}
 
@@ -91,10 +87,3 @@ pairs_bound [] b m s h = omega (arith, pairs_none s (λ i j. 0 * b j) (λ i j. o
 pairs_bound (x ∷ xs) b m zero h = rw sum_by-cons (omega (arith, mul-le-mul_left x (h 0)))
 pairs_bound (x ∷ xs) b m (suc s) h =
     rw sum_by-cons (omega (arith, mul-le-mul_left x (h (suc s)), pairs_bound xs b m s h))
-
--- items that are below a bound are so past the end, too
-pub each_below : (b : ℕ) (xs : List ℕ) → 0 < b → All (λ x. x < b) xs → (k : ℕ) → get_or xs k 0 < b
-each_below b xs some small k = elim (cases_lt k (length xs)) [
-  | inl inside ↦ small k 0 inside
-  | inr past ↦ rw (get_or_past xs k 0 past) some
-]

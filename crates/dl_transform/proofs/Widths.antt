@@ -1,12 +1,6 @@
 -- High ends as low ends and widths: what the products of high ends are above those of low ends.
-use Rattle.dl_transform.proofs.Common.{ℕ, zero, suc, ◌≡◌, ◌+◌, ◌*◌, ◌<◌, ◌≤◌, List, [], ◌∷◌, length, get_or, sum_by, mul-le-mul_right, arith, sym, ap, ap₂, ◌∙◌, Same, count_pairs, eval}
-use Rattle.std.specs.Prelude.{min}
+use Rattle.dl_transform.proofs.Common.{ℕ, zero, suc, ◌≡◌, ◌+◌, ◌*◌, ◌<◌, ◌≤◌, List, [], ◌∷◌, length, get_or, sum_by, mul-le-mul_right, arith, sym, ap, ap₂, ◌∙◌, Same, count_pairs, eval, min, sum_by-cons, le_trans, below_first, below_none, pairs_le, pairs_plus, pairs_same, count_below, high_at, low_sum, high_sum, mixed_sum}
 use mathlib.Core.Path.{fun_ext}
-use Rattle.std.proofs.lemmas.List.Sums.{sum_by-cons}
-use Rattle.std.proofs.Math.Nat.{le_trans}
-use Rattle.dl_exact.proofs.Counts.{below_first, below_none, pairs_le, pairs_plus, pairs_same}
-use Rattle.dl_exact.specs.Count.{count_below}
-use Rattle.dl_transform.specs.Ends.{high_at, low_sum, high_sum, mixed_sum}
 use Rattle.dl_transform.proofs.Residues.{same_of, same_plus, same_times, same_trans}
 use Rattle.dl_transform.proofs.Values.{eval_linear}
 use Rattle.dl_transform.proofs.Wholes.{pairs_bound, product_value}

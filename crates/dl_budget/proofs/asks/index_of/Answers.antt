@@ -1,6 +1,4 @@
-use Rattle.dl_budget.proofs.Common.{ℕ, suc, ◌≡◌, ◌≤◌, length, arith, inl, inr, refl, ap, ◌∙◌, leb_tells, Some, None, rules, tests, bytes_eq, cond, ltb, unwrap_or, prefix_len-le-length, index_of}
-use Rattle.std.proofs.lemmas.Iterator.{YieldsList-from_slice}
-use Rattle.std.proofs.lemmas.Iterator.Search.{position_from_yields_List}
+use Rattle.dl_budget.proofs.Common.{ℕ, suc, ◌≡◌, ◌≤◌, length, arith, inl, inr, refl, ap, ◌∙◌, leb_tells, Some, None, rules, tests, bytes_eq, cond, ltb, unwrap_or, prefix_len-le-length, index_of, YieldsList-from_slice, position_from_yields_List}
 use Rattle.dl_budget.proofs.asks.index_of.Goals as goal
 
 -- a place among n, and n where there is none

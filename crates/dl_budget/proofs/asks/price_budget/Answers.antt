@@ -1,7 +1,6 @@
-use Rattle.dl_budget.proofs.Common.{◌+◌, ◌^◌, arith, ap, ◌∙◌, up, whole, ◌*ℚ◌, Term, most_tail_budget, tail_budget, mean_budget, total_budget}
+use Rattle.dl_budget.proofs.Common.{◌+◌, ◌^◌, arith, ap, ◌∙◌, up, whole, ◌*ℚ◌, Term, most_tail_budget, tail_budget, mean_budget, total_budget, level_there, levels_each}
 use Rattle.dl_budget.proofs.Horizons.{few_cells}
 use Rattle.dl_budget.proofs.Tails.{tail_most}
-use Rattle.dl_plan.proofs.TermLevels.{level_there, levels_each}
 use Rattle.dl_budget.proofs.Prices.{price_all, price_next, price_small, weight_small}
 use Rattle.dl_budget.proofs.asks.price_budget.Goals as goal
 

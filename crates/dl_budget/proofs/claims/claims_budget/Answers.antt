@@ -1,6 +1,4 @@
-use Rattle.dl_budget.proofs.Common.{◌^◌, length, arith, ap, ◌∙◌, mixed_spread, count_budget, Fixed, Table, Bernoulli, Binomial, claims_alone}
-use Rattle.dl_plan.specs.Weighted.{greatest}
-use Rattle.dl_plan.proofs.Weights.{greatest_within}
+use Rattle.dl_budget.proofs.Common.{◌^◌, length, arith, ap, ◌∙◌, mixed_spread, count_budget, Fixed, Table, Bernoulli, Binomial, claims_alone, greatest, greatest_within}
 use Rattle.dl_budget.proofs.Counts.{claims_of, count_of, few_items, power_room, listed_begins, poisson_value, gamma_on, gamma_value}
 use Rattle.dl_budget.proofs.claims.claims_budget.Goals as goal
 

@@ -1,8 +1,4 @@
-use Rattle.std.specs.Prelude.{Any}
-use Rattle.dl_budget.proofs.Common.{ℕ, ◌≡◌, ◌^◌, arith, ap, length, Option, None, Some, IfSome, IsSome}
-use Rattle.dl_budget.specs.declared.once.UnitBudgets.{UnitBudgets}
-use Rattle.dl_budget.specs.Once.{IsBudgetOf}
-use Rattle.dl_exact.proofs.Made.{pushed_length, each_pushed}
+use Rattle.dl_budget.proofs.Common.{ℕ, ◌≡◌, ◌^◌, arith, ap, length, Option, None, Some, IfSome, IsSome, Any, UnitBudgets, IsBudgetOf, pushed_length, each_pushed}
 use Rattle.dl_budget.proofs.named.all_budgets.Goals as goal
 
 pub loop-i-preserved : goal.loop-i-preserved

@@ -1,7 +1,5 @@
 -- The budgets of the units so far.
-use Rattle.std.specs.Prelude.{Any}
-use Rattle.dl_budget.proofs.Common.{ℕ, ◌≡◌, ◌^◌, ◌<◌, length, get_or, None, Some, IfSome, IsSome}
-use Rattle.dl_budget.specs.Once.{IsBudgetOf}
+use Rattle.dl_budget.proofs.Common.{ℕ, ◌≡◌, ◌^◌, ◌<◌, length, get_or, None, Some, IfSome, IsSome, Any, IsBudgetOf}
 use Rattle.dl_budget.proofs.named.all_budgets.Given as goal
 
 abbrev pub invariant-loop-i : goal.invariant-loop-i

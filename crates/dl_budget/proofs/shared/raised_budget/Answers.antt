@@ -1,6 +1,5 @@
 -- The one gamma count for the next shape can be counted with.
-use Rattle.std.proofs.Common.{subst₂}
-use Rattle.dl_budget.proofs.Common.{◌+ℚ◌, ◌∙◌, arith, ap, sym, given_value, raised, IsGammaOn}
+use Rattle.dl_budget.proofs.Common.{◌+ℚ◌, ◌∙◌, arith, ap, sym, given_value, raised, IsGammaOn, subst₂}
 use Rattle.dl_budget.proofs.SharedUnits.{raised_on}
 use Rattle.dl_budget.proofs.shared.raised_budget.Goals as goal
 

@@ -1,4 +1,4 @@
-use Rattle.dl_exact.proofs.Lesser.{lesser_first, lesser_second, le_lesser}
+use Rattle.dl_iv.proofs.Common.{lesser_first, lesser_second, le_lesser}
 use Rattle.dl_iv.proofs.laws.law_lesser.Goals as goal
 
 pub returns-clause-first : goal.returns-clause-first

@@ -1,6 +1,5 @@
-use Rattle.dl_measures.proofs.Common.{◌+◌, ◌*◌, ◌≤◌, length, arith, ap, refl}
+use Rattle.dl_measures.proofs.Common.{◌+◌, ◌*◌, ◌≤◌, length, arith, ap, refl, length-append}
 use Rattle.std.specs.Prelude.{[], ◌∷◌}
-use Rattle.std.proofs.lemmas.List.{length-append}
 use Rattle.dl_measures.proofs.MarkLaws.{no_ends, no_marks, marks_more}
 use Rattle.dl_measures.proofs.marks.marks_of.Goals as goal
 

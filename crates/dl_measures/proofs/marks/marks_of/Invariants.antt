@@ -1,5 +1,4 @@
-use Rattle.dl_measures.proofs.Common.{◌≡◌, ◌*◌, length}
-use Rattle.dl_measures.specs.Running.{AreMarks, IsMark, end_at}
+use Rattle.dl_measures.proofs.Common.{◌≡◌, ◌*◌, length, AreMarks, IsMark, end_at}
 use Rattle.dl_measures.proofs.marks.marks_of.Given as goal
 
 abbrev pub invariant-loop-block : goal.invariant-loop-block

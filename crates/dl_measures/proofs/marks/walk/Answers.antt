@@ -1,5 +1,4 @@
-use Rattle.dl_measures.proofs.Common.{arith, below_more}
-use Rattle.dl_measures.specs.Running.{end_at}
+use Rattle.dl_measures.proofs.Common.{arith, below_more, end_at}
 use Rattle.dl_measures.proofs.MarkLaws.{one_end_more, rest_fits, sum_fits}
 use Rattle.dl_measures.proofs.marks.walk.Goals as goal
 

@@ -1,5 +1,4 @@
-use Rattle.dl_measures.proofs.Common.{suc, ◌≡◌, ◌-◌, count_below}
-use Rattle.dl_measures.specs.Running.{end_at}
+use Rattle.dl_measures.proofs.Common.{suc, ◌≡◌, ◌-◌, count_below, end_at}
 use Rattle.dl_measures.proofs.marks.walk.Given as goal
 
 abbrev pub invariant-loop-x : goal.invariant-loop-x

@@ -1,5 +1,4 @@
-use Rattle.dl_measures.proofs.Common.{◌*◌, ◌^◌, ap₂, arith, length, subst, ◌∙◌, ◌over◌, ◌*ℚ◌, ◌≤ℚ◌, over_self, cells_fit, One, Tail, partial_sums}
-use Rattle.dl_iv.proofs.Enclosures.{lies_between}
+use Rattle.dl_measures.proofs.Common.{◌*◌, ◌^◌, ap₂, arith, length, subst, ◌∙◌, ◌over◌, ◌*ℚ◌, ◌≤ℚ◌, over_self, cells_fit, One, Tail, partial_sums, lies_between}
 use Rattle.dl_measures.proofs.Parts.{part_of_one, part_least, part_most, part_narrow, part_small, tail_small}
 use Rattle.dl_measures.proofs.prices.weighted_tail.Goals as goal
 

@@ -1,5 +1,4 @@
-use Rattle.dl_model.proofs.Common.{subst, sym, Holds, One, Mean, sum_over, declared_mean, declared_by}
-use Rattle.dl_plan.proofs.Shared.{has_factor}
+use Rattle.dl_model.proofs.Common.{subst, sym, Holds, One, Mean, sum_over, declared_mean, declared_by, has_factor}
 use Rattle.dl_model.proofs.PlanMeans.{mean_at_most, mean_with_change, unit_mean, units_mean}
 use Rattle.dl_model.proofs.CommonPlans.{by_factor}
 use Rattle.dl_model.proofs.CommonMeans.{shared_mean, shared_total}

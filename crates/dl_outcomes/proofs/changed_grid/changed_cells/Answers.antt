@@ -1,5 +1,4 @@
-use Rattle.dl_outcomes.proofs.Common.{length, ap, arith, low_changed, high_changed}
-use Rattle.dl_grid.proofs.EndLists.{low_ends_long}
+use Rattle.dl_outcomes.proofs.Common.{length, ap, arith, low_changed, high_changed, low_ends_long}
 use Rattle.dl_outcomes.proofs.Cells.{none_made, one_more, changed_ends, made_ends, changed_spread_within}
 use Rattle.dl_outcomes.proofs.changed_grid.changed_cells.Goals as goal
 

@@ -1,5 +1,4 @@
-use Rattle.dl_outcomes.proofs.Common.{rules}
-use Rattle.dl_exact.proofs.Results.{if_ok_two}
+use Rattle.dl_outcomes.proofs.Common.{rules, if_ok_two}
 use Rattle.dl_outcomes.proofs.Cells.{room_for_none, changed_encloses}
 use Rattle.dl_outcomes.proofs.changed_grid.zero_grid.Goals as goal
 

@@ -1,6 +1,4 @@
-use Rattle.dl_outcomes.proofs.Common.{◌≡◌, Some, sym, ap, ◌∙◌}
-use Rattle.std.specs.Option.{option_copied}
-use Rattle.dl_exact.proofs.Results.{if_ok_three}
+use Rattle.dl_outcomes.proofs.Common.{◌≡◌, Some, sym, ap, ◌∙◌, option_copied, if_ok_three}
 use Rattle.dl_outcomes.proofs.Ceded.{encloses}
 use Rattle.dl_outcomes.proofs.clause_grid.cede_grid.Goals as goal
 

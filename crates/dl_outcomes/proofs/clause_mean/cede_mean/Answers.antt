@@ -1,6 +1,5 @@
-use Rattle.dl_outcomes.proofs.Common.{arith, length, ap, spread, subst, IfSome, IsAggregate, horizon_edges, mean_width}
+use Rattle.dl_outcomes.proofs.Common.{arith, length, ap, spread, subst, IfSome, IsAggregate, horizon_edges, mean_width, no_clause}
 use Rattle.dl_outcomes.proofs.MeanSizes.{claims_fit, all_near}
-use Rattle.dl_model.proofs.ClauseMeans.{no_clause}
 use Rattle.dl_outcomes.proofs.clause_mean.cede_mean.Goals as goal
 
 pub kept_mean-requires : goal.kept_mean-requires

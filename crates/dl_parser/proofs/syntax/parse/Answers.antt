@@ -1,7 +1,5 @@
 -- The three ends of a parse, and that what is left is no longer than all.
-use Rattle.dl_parser.proofs.Common.{◌≡◌, ℕ, ◌+◌, ◌-◌, ◌≤◌, List, [], ◌∷◌, length, map, arith, refl, ap, sym, ◌∙◌, true, ◌==◌, length-map, state}
-use Rattle.std.proofs.lemmas.Bool.Decides.{nat_tests}
-use Rattle.dl_ast.proofs.Formed.{program_formed}
+use Rattle.dl_parser.proofs.Common.{◌≡◌, ℕ, ◌+◌, ◌-◌, ◌≤◌, List, [], ◌∷◌, length, map, arith, refl, ap, sym, ◌∙◌, true, ◌==◌, length-map, state, nat_tests, program_formed}
 use Rattle.dl_parser.proofs.Covered.{covered_real, covered_few}
 use Rattle.dl_parser.proofs.Whole.{read_whole, read_further, read_stuck, left_got, left_stuck}
 use Rattle.dl_parser.proofs.syntax.parse.Goals as goal

@@ -1,6 +1,4 @@
-use Rattle.dl_plan.proofs.Common.{ℕ, ◌≡◌, ◌∙◌, ◌+◌, ◌*◌, ◌^◌, ◌<◌, ◌≤◌, sym, ap, ap₂, subst, arith, whole, ◌≤ℚ◌, CedeLayer, layer_parts}
-use Rattle.std.proofs.Math.Nat.{mul-le-mul}
-use Rattle.std.proofs.lemmas.List.Sums.{sum_by_more}
+use Rattle.dl_plan.proofs.Common.{ℕ, ◌≡◌, ◌∙◌, ◌+◌, ◌*◌, ◌^◌, ◌<◌, ◌≤◌, sym, ap, ap₂, subst, arith, whole, ◌≤ℚ◌, CedeLayer, layer_parts, mul-le-mul, sum_by_more}
 use Rattle.dl_plan.proofs.Clauses.{layer_le, scaled_le}
 use Rattle.dl_plan.proofs.cede.ceded_parts.Goals as goal
 

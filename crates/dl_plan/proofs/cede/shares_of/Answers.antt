@@ -1,5 +1,4 @@
-use Rattle.dl_plan.proofs.Common.{layer_shares}
-use Rattle.dl_plan.specs.declared.cede.CedeLayer.{CedeLayer}
+use Rattle.dl_plan.proofs.Common.{layer_shares, CedeLayer}
 use Rattle.dl_plan.proofs.Passed.{made_of_all, mapped_more}
 use Rattle.dl_plan.proofs.cede.shares_of.Goals as goal
 

@@ -1,7 +1,6 @@
 -- What the weights read so far leave of the whole.
-use Rattle.dl_plan.proofs.Common.{◌≡◌, ◌+◌, take}
+use Rattle.dl_plan.proofs.Common.{◌≡◌, ◌+◌, take, numerator_over}
 use Rattle.std.proofs.Common.{sum_by}
-use Rattle.dl_plan.specs.Fine.{numerator_over}
 use Rattle.dl_plan.proofs.fine.sum_to_one.Given as goal
 
 abbrev pub invariant-fracs : goal.invariant-fracs

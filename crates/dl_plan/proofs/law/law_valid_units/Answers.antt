@@ -1,9 +1,6 @@
 -- Each is a part of what a valid unit is.
-use Rattle.dl_plan.proofs.Common.{ℕ, List, ◌≤◌, All, Option, Some, None, IfSome, Sev, Clause, IsClause, Item}
-use Rattle.dl_limits.specs.Limits.{most_amount, most_amount_at}
+use Rattle.dl_plan.proofs.Common.{ℕ, List, ◌≤◌, All, Option, Some, None, IfSome, Sev, Clause, IsClause, Item, most_amount, most_amount_at, amount_fits, IsAggregate}
 use Rattle.std.proofs.Math.Nat.{le_trans}
-use Rattle.dl_limits.proofs.Scales.{amount_fits}
-use Rattle.dl_plan.specs.Valid.{IsAggregate}
 use Rattle.dl_plan.proofs.law.law_valid_units.Goals as goal
 
 clause_of : (cells : ℕ) (sev : Sev) (clause : Option Clause) → IfSome clause (IsAggregate cells sev)

@@ -1,6 +1,5 @@
 -- The first layer against the others, and the others among themselves.
-use Rattle.dl_plan.proofs.Common.{List, sym, subst, AllPairs, CedeLayer, Overlap}
-use Rattle.std.proofs.lemmas.List.Kept.{AllPairs-cons}
+use Rattle.dl_plan.proofs.Common.{List, sym, subst, AllPairs, CedeLayer, Overlap, AllPairs-cons}
 use Rattle.dl_plan.proofs.Apart.{first_apart, rest_apart}
 use Rattle.dl_plan.proofs.layers.+are_apart.Goals as goal
 

@@ -1,7 +1,5 @@
 -- At most 1 where the numerator is at most the denominator.
-use Rattle.dl_plan.proofs.Common.{ℕ, ◌≤◌, IsTrue, arith, Fraction, whole, ◌≤ℚ◌, over_self, over_le}
-use Rattle.std.proofs.lemmas.Bool.{leb-true}
-use Rattle.std.proofs.Common.{nat_le}
+use Rattle.dl_plan.proofs.Common.{ℕ, ◌≤◌, IsTrue, arith, Fraction, whole, ◌≤ℚ◌, over_self, over_le, leb-true, nat_le}
 use Rattle.dl_plan.proofs.Clauses.{num_le_den}
 use Rattle.dl_plan.proofs.layers.is_at_most_one.Goals as goal
 

@@ -1,7 +1,5 @@
 -- One item more is divided.
-use Rattle.dl_plan.proofs.Common.{◌<◌, length, subst, sym, divided_by}
-use Rattle.std.proofs.lemmas.List.{get_or_default}
-use Rattle.std.proofs.lemmas.List.Edits.{map_over_more}
+use Rattle.dl_plan.proofs.Common.{◌<◌, length, subst, sym, divided_by, get_or_default, map_over_more}
 use Rattle.dl_plan.proofs.lowest.divided.Goals as goal
 
 pub items-preserved : goal.items-preserved

@@ -1,5 +1,5 @@
+use Rattle.dl_plan.proofs.Common.{Item}
 use Rattle.std.specs.Prelude.{nat_lt, filter}
-use Rattle.dl_plan.specs.declared.item.Item.{Item}
 use Rattle.dl_plan.proofs.Passed.{above_more, made_of_all, others_left}
 use Rattle.dl_plan.proofs.lowest.items_above.Goals.{then-item-attach+in_ok-push, else-item-attach}
 use Rattle.dl_plan.proofs.lowest.items_above.Goals as goal

@@ -1,5 +1,4 @@
-use Rattle.dl_plan.proofs.Common.{map}
-use Rattle.dl_plan.specs.declared.settings.Term.{Term}
+use Rattle.dl_plan.proofs.Common.{map, Term}
 use Rattle.dl_exact.specs.Prelude.{Fraction}
 use Rattle.dl_plan.proofs.Passed.{made_of_all, mapped_more}
 use Rattle.dl_plan.proofs.terms.weights_of.Goals as goal

@@ -1,6 +1,5 @@
 -- The units of the plan are as large as those of the program.
-use Rattle.dl_rules.proofs.Common.{true, IfSome, IsFormedHead}
-use Rattle.dl_lexer.specs.Prelude.{IsNumeral}
+use Rattle.dl_rules.proofs.Common.{true, IfSome, IsFormedHead, IsNumeral}
 use Rattle.dl_rules.proofs.FactorParts.{all_counted}
 use Rattle.dl_rules.proofs.FactorKept.{no_port, no_common, common_there, some_variation, size_told, port_kept, shape_is_written, factor_is, bad_told}
 use Rattle.dl_rules.proofs.changes.shared_shape.Goals as goal

@@ -1,6 +1,5 @@
 -- The whole weights are those of the probabilities, and the numbers are those of the counts.
-use Rattle.dl_rules.proofs.Common.{◌∙◌, ◌≤◌, refl, length, map, zip, ap, sym, subst, List, All, length-map, most_count, Fraction, HasDistribution, pairs_of_counts, probs_of, probability, weights_length, weighed_are, probabilities_fine}
-use Rattle.std.proofs.lemmas.Bool.{some_since}
+use Rattle.dl_rules.proofs.Common.{◌∙◌, ◌≤◌, refl, length, map, zip, ap, sym, subst, List, All, length-map, most_count, Fraction, HasDistribution, pairs_of_counts, probs_of, probability, weights_length, weighed_are, probabilities_fine, some_since}
 use Rattle.dl_rules.proofs.ListedCounts.{same_length, small_values, small_table, table_admitted}
 use Rattle.dl_rules.proofs.counts.count_table.Goals as goal
 

@@ -1,7 +1,5 @@
 -- The mean of what the severity means, which is above 0.
-use Rattle.dl_rules.proofs.Common.{◌≡◌, ◌∙◌, sym, subst, whole, ◌<ℚ◌, mean_amount, severity_in_layer, not-false, most_amount, pairs_of}
-use Rattle.dl_reading.proofs.Near.{in_layer_near, items_near}
-use Rattle.dl_reading.proofs.Meaning.{scored_alike, alike_own}
+use Rattle.dl_rules.proofs.Common.{◌≡◌, ◌∙◌, sym, subst, whole, ◌<ℚ◌, mean_amount, severity_in_layer, not-false, most_amount, pairs_of, in_layer_near, items_near, scored_alike, alike_own}
 use Rattle.dl_rules.proofs.Exposed.{mean_above}
 use Rattle.dl_rules.proofs.exposures.mean_in_layer.Goals as goal
 

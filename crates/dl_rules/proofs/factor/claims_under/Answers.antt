@@ -1,6 +1,5 @@
 -- The quotient is held, and the raised number admitted; or there is none.
-use Rattle.dl_rules.proofs.Common.{◌≡◌, ◌∙◌, ◌||◌, ◌/ℚ◌, Bool, true, false, not, Option, refl, sym, subst, if◌then◌else◌, Some, None, Fraction, is_admitted, is_held, raised, is_coarse_under}
-use Rattle.std.specs.Option.{SomeIff}
+use Rattle.dl_rules.proofs.Common.{◌≡◌, ◌∙◌, ◌||◌, ◌/ℚ◌, Bool, true, false, not, Option, refl, sym, subst, if◌then◌else◌, Some, None, Fraction, is_admitted, is_held, raised, is_coarse_under, SomeIff}
 use Rattle.dl_rules.proofs.Shapes.{held_told}
 use Rattle.dl_rules.proofs.factor.claims_under.Goals as goal
 

@@ -1,6 +1,5 @@
 -- The tests in the order of the code.
-use Rattle.dl_rules.proofs.Common.{◌≡◌, ◌∙◌, Bool, false, not, Option, Some, None, true, is_some, sym, ap, most_expected, raised, unit_share, shared_probabilities, is_fine, is_zero, flat_map, map, is_coarse_under, passes, ne_eqb, Fraction}
-use Rattle.std.specs.Option.{SomeIff}
+use Rattle.dl_rules.proofs.Common.{◌≡◌, ◌∙◌, Bool, false, not, Option, Some, None, true, is_some, sym, ap, most_expected, raised, unit_share, shared_probabilities, is_fine, is_zero, flat_map, map, is_coarse_under, passes, ne_eqb, Fraction, SomeIff}
 use Rattle.dl_rules.proofs.FactorBounds.{bounds_are, last_passes}
 use Rattle.dl_rules.proofs.factor.passes_bounds.Goals as goal
 

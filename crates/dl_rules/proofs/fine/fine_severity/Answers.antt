@@ -1,6 +1,5 @@
 -- The severity is there, and the other fractions are fine.
-use Rattle.dl_rules.proofs.Common.{◌∙◌, sym, subst, HasDistribution, pairs_of, IsFineSev, KeepsWhole, made_pairs}
-use Rattle.dl_reading.proofs.FineUnits.{keeps_whole, final_means, final_near, final_few}
+use Rattle.dl_rules.proofs.Common.{◌∙◌, sym, subst, HasDistribution, pairs_of, IsFineSev, KeepsWhole, made_pairs, keeps_whole, final_means, final_near, final_few}
 use Rattle.dl_rules.proofs.FineClaims.{coarse_severity, fine_parts}
 use Rattle.dl_rules.proofs.fine.fine_severity.Goals as goal
 

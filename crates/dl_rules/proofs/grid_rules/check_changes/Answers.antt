@@ -1,6 +1,5 @@
 -- The rule on the horizon comes first.
-use Rattle.dl_rules.proofs.Common.{◌else◌, sym, subst, HasFault, breaks, horizon_too_large, zero_base, HorizonTooLarge, ZeroBase}
-use Rattle.dl_rules.specs.Claimed.{count_of, number_of}
+use Rattle.dl_rules.proofs.Common.{◌else◌, sym, subst, HasFault, breaks, horizon_too_large, zero_base, HorizonTooLarge, ZeroBase, count_of, number_of}
 use Rattle.dl_rules.proofs.Stops.{skip, stop_first, stopped}
 use Rattle.dl_rules.proofs.grid_rules.check_changes.Goals as goal
 

@@ -1,7 +1,5 @@
 -- One more severity is known.
-use Rattle.std.proofs.lemmas.Result.{IfOk-weaker}
-use Rattle.dl_rules.proofs.Common.{[], ◌∷◌, sym, subst, All, All-nil, All-cons, All-append, IsKnown, IfSome, IsFormedMixture}
-use Rattle.dl_rules.specs.declared.known.KnownSeverity.{KnownSeverity}
+use Rattle.dl_rules.proofs.Common.{[], ◌∷◌, sym, subst, All, All-nil, All-cons, All-append, IsKnown, IfSome, IsFormedMixture, IfOk-weaker, KnownSeverity}
 use Rattle.dl_rules.proofs.ProgramUnits.{formed_named}
 use Rattle.dl_rules.proofs.known.named_severity.Goals as goal
 

@@ -1,6 +1,5 @@
 -- The extended rules have the wider bounds.
-use Rattle.dl_limits.proofs.RuleBounds.{standard_within}
-use Rattle.dl_limits.specs.declared.rules.Rules.TheVariants.{Extended, Standard}
+use Rattle.dl_rules.proofs.Common.{standard_within, Extended, Standard}
 use Rattle.dl_rules.proofs.BothRules.{still_accepted, same_plan}
 use Rattle.dl_rules.proofs.law.law_rules.Goals as goal
 

@@ -1,6 +1,5 @@
 -- What the portfolio breaks comes last.
-use Rattle.dl_rules.proofs.Common.{Ok, refl, sym, subst, AnswersUnits, IfSome, List, HasCommonFactor, UnitOfPlan, StopsAt, IsCheckOf, IsUnitOf, fault_of_port, bounds_asked, arith}
-use Rattle.std.proofs.lemmas.Slice.Zip.{AllZip-long}
+use Rattle.dl_rules.proofs.Common.{Ok, refl, sym, subst, AnswersUnits, IfSome, List, HasCommonFactor, UnitOfPlan, StopsAt, IsCheckOf, IsUnitOf, fault_of_port, bounds_asked, arith, AllZip-long}
 use Rattle.dl_rules.proofs.ProgramUnits.{check_stopped, fault_of_rest, few_units, plan_of_units}
 use Rattle.dl_rules.proofs.Stops.{stop_first, stop_second, stopped}
 use Rattle.dl_rules.proofs.UnitFacts.{asked_within}

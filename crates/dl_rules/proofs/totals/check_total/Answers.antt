@@ -1,6 +1,5 @@
 -- Asked of a portfolio alone, and of the units of its plan.
-use Rattle.dl_rules.proofs.Common.{◌∙◌, ap, map, subst, HasFault, breaks}
-use Rattle.dl_rules.specs.Totals.{is_total_large, size_of}
+use Rattle.dl_rules.proofs.Common.{◌∙◌, ap, map, subst, HasFault, breaks, is_total_large, size_of}
 use Rattle.dl_rules.specs.declared.rule.Rule.TheVariants as rules
 use Rattle.dl_rules.proofs.ProgramSizes.{no_port, total_told}
 use Rattle.dl_rules.proofs.totals.check_total.Goals as goal

@@ -1,6 +1,5 @@
 -- One unit more.
-use Rattle.dl_rules.proofs.Common.{◌≡◌, ◌∙◌, ◌+◌, ap, arith, cond, is_some, sym, take_all}
-use Rattle.dl_plan.specs.Prelude.{changed_units, whole_means}
+use Rattle.dl_rules.proofs.Common.{◌≡◌, ◌∙◌, ◌+◌, ap, arith, cond, is_some, sym, take_all, changed_units, whole_means}
 use Rattle.dl_rules.proofs.Sizes.{at_most_one, one_more, total_is}
 use Rattle.dl_rules.proofs.totals.is_total_large.Goals as goal
 use Rattle.dl_rules.proofs.totals.is_total_large.Goals.{then-is_some, else-is_some}

@@ -1,7 +1,5 @@
 -- The units so far.
-use Rattle.dl_rules.proofs.Common.{◌≡◌, ◌≤◌, ◌*◌, take}
-use Rattle.dl_limits.specs.Limits.{mean_num_bound, most_growth}
-use Rattle.dl_plan.specs.Prelude.{changed_units, whole_means}
+use Rattle.dl_rules.proofs.Common.{◌≡◌, ◌≤◌, ◌*◌, take, mean_num_bound, most_growth, changed_units, whole_means}
 use Rattle.dl_rules.proofs.totals.is_total_large.Given as goal
 
 abbrev pub invariant-units : goal.invariant-units

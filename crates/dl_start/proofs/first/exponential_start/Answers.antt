@@ -1,11 +1,6 @@
-use Rattle.std.proofs.Common.{div-le_self}
-use Rattle.std.proofs.Math.Nat.{lt_of_le_of_lt}
-use Rattle.std.proofs.lemmas.Nat.{le-div}
-use Rattle.dl_start.proofs.Common.{ℕ, mul-le-mul, suc, ◌+◌, ◌-◌, ◌*◌, ◌/◌, ◌^◌, ◌<◌, ◌≤◌, arith, mul-pos, mul-le-mul_left, mul-le-mul_right, div-mul-le_self, add-one, zero-lt-suc, whole, ◌over◌, ◌*ℚ◌, ◌≡◌, refl, le_refl, times_one, sum_to, poisson}
-use Rattle.dl_model.proofs.PoissonWeights.{poisson_zero}
+use Rattle.dl_start.proofs.Common.{ℕ, mul-le-mul, suc, ◌+◌, ◌-◌, ◌*◌, ◌/◌, ◌^◌, ◌<◌, ◌≤◌, arith, mul-pos, mul-le-mul_left, mul-le-mul_right, div-mul-le_self, add-one, zero-lt-suc, whole, ◌over◌, ◌*ℚ◌, ◌≡◌, refl, le_refl, times_one, sum_to, poisson, div-le_self, lt_of_le_of_lt, le-div, poisson_zero, low_sum, high_sum}
 use Rattle.dl_start.proofs.Products.{two_pos}
 use Rattle.dl_start.proofs.Rounding.{ceil_least, word_product, ceil_reaches, floor_ceil, term_small}
-use Rattle.dl_exact.proofs.SumsOver.{low_sum, high_sum}
 use Rattle.dl_start.proofs.Beginnings.{half_over, low_term, high_term, poisson_holds}
 use Rattle.dl_start.proofs.first.exponential_start.Goals as goal
 

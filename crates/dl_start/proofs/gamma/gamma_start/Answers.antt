@@ -1,12 +1,5 @@
-use Rattle.std.proofs.Common.{◌%◌}
-use Rattle.std.proofs.Math.Nat.{mod-lt, div-le_of_le-mul}
-use Rattle.std.proofs.lemmas.Nat.{le-div}
-use Rattle.dl_start.proofs.Common.{◌≡◌, ◌*◌, ◌/◌, ◌<◌, ◌≤◌, ℕ, arith, subst, inl, inr, mul-le-mul, one_pos, Fraction, whole, ◌over◌, ◌+ℚ◌, ◌/ℚ◌, ◌≤ℚ◌, over_self, over_lt, le_over, gamma, power}
-use Rattle.dl_exact.proofs.Parts.{over_num_le, over_den_le}
-use Rattle.dl_exact.proofs.BelowOne.{below_one}
-use Rattle.dl_limits.specs.Limits.{most_shape}
+use Rattle.dl_start.proofs.Common.{◌≡◌, ◌*◌, ◌/◌, ◌<◌, ◌≤◌, ℕ, arith, subst, inl, inr, mul-le-mul, one_pos, Fraction, whole, ◌over◌, ◌+ℚ◌, ◌/ℚ◌, ◌≤ℚ◌, over_self, over_lt, le_over, gamma, power, ◌%◌, mod-lt, div-le_of_le-mul, le-div, over_num_le, over_den_le, below_one, most_shape, HoldsNoClaim}
 use Rattle.dl_start.proofs.Shares.{ratio_is, shape_whole, shape_together}
-use Rattle.dl_start.specs.Start.{HoldsNoClaim}
 use Rattle.dl_start.proofs.gamma.gamma_start.Goals as goal
 
 module _ (r : Fraction) (n d : ℕ) (n_is : n ≡ r.num) (d_is : d ≡ r.den) where

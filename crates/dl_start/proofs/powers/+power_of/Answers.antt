@@ -1,7 +1,5 @@
-use Rattle.dl_start.proofs.Common.{◌≡◌, suc, ◌+◌, ◌/◌, arith, mul-le-mul_right, div-mul-le_self, power}
-use Rattle.dl_model.proofs.Powers.{power_plus}
+use Rattle.dl_start.proofs.Common.{◌≡◌, suc, ◌+◌, ◌/◌, arith, mul-le-mul_right, div-mul-le_self, power, power_plus, power_one}
 use Rattle.dl_start.proofs.powers.+power_of.Goals as goal
-use Rattle.dl_model.proofs.FiniteCounts.{power_one}
 
 pub returns-then-n-eq1-clause-holds : goal.returns-then-n-eq1-clause-holds
 returns-then-n-eq1-clause-holds t c w h = rw (c.if-n-eq1.true, power_one w) h

@@ -1,7 +1,4 @@
-use Rattle.dl_start.proofs.Common.{◌≡◌, ℕ, ◌+◌, ◌-◌, ◌*◌, ◌/◌, ◌^◌, ◌≤◌, arith, div-mul-le_self, lt-div-mul-add, mul-le-mul, le_of_mul-le-mul_right}
-use Rattle.std.proofs.Common.{◌%◌}
-use Rattle.std.proofs.lemmas.Grind.{div_ceil_times}
-use Rattle.std.specs.Int.{div_ceil}
+use Rattle.dl_start.proofs.Common.{◌≡◌, ℕ, ◌+◌, ◌-◌, ◌*◌, ◌/◌, ◌^◌, ◌≤◌, arith, div-mul-le_self, lt-div-mul-add, mul-le-mul, le_of_mul-le-mul_right, ◌%◌, div_ceil_times, div_ceil}
 use Rattle.dl_start.proofs.Products.{two_pos}
 use Rattle.dl_start.proofs.Squares.{le_of_squares, root_holds, root_scales}
 use Rattle.dl_start.proofs.Widths.{root_within}

@@ -1,8 +1,5 @@
-use Rattle.dl_start.proofs.Common.{ℕ, ◌≡◌, suc, ◌+◌, ◌-◌, arith, subst, sym, ◌∙◌, whole, ◌over◌, over_le, one_pos}
-use Rattle.dl_exact.proofs.Laws.{plus_zero}
+use Rattle.dl_start.proofs.Common.{ℕ, ◌≡◌, suc, ◌+◌, ◌-◌, arith, subst, sym, ◌∙◌, whole, ◌over◌, over_le, one_pos, plus_zero, Scaled, IsWithin}
 use Rattle.dl_start.proofs.Shares.{digit_none, digit_one}
-use Rattle.dl_start.specs.declared.scaled.Scaled.{Scaled}
-use Rattle.dl_start.specs.Start.{IsWithin}
 use Rattle.dl_start.proofs.shape.+by_digits.Goals as goal
 
 one_more : (ratio : ℕ → ℕ) (k m : ℕ) → suc k ≡ m → (x : Scaled) → IsWithin (ratio (suc k)) x → IsWithin (ratio m) x

@@ -1,7 +1,4 @@
-use Rattle.dl_start.proofs.Common.{◌≡◌, ℕ, ◌-◌, ◌*◌, ◌/◌, ◌^◌, ◌≤◌, arith, refl, ap, sym, subst, ◌∙◌, pow-add, div-mul-le_self, mul-le-mul_right, whole, ◌over◌, sum_to, gamma, over_le, over_same, one_pos, AtMost}
-use Rattle.std.proofs.lemmas.Nat.{le-div}
-use Rattle.dl_model.proofs.Declared.{at_least_wider}
-use Rattle.dl_model.proofs.Roots.{none_above, none_below}
+use Rattle.dl_start.proofs.Common.{◌≡◌, ℕ, ◌-◌, ◌*◌, ◌/◌, ◌^◌, ◌≤◌, arith, refl, ap, sym, subst, ◌∙◌, pow-add, div-mul-le_self, mul-le-mul_right, whole, ◌over◌, sum_to, gamma, over_le, over_same, one_pos, AtMost, le-div, at_least_wider, none_above, none_below}
 use Rattle.dl_start.proofs.Products.{two_le, two_pos}
 use Rattle.dl_start.proofs.shape.any_start.Goals as goal
 

@@ -1,5 +1,4 @@
-use Rattle.dl_start.proofs.Common.{ℕ, ◌≤◌, ◌≡◌, ◌+◌, ◌-◌, ◌*◌, ◌/◌, ◌^◌, ◌<◌, ◌∙◌, ap, arith, add-one, pow-suc, div-mul-le_self, lt-div-mul-add}
-use Rattle.std.proofs.lemmas.Nat.{le-div}
+use Rattle.dl_start.proofs.Common.{ℕ, ◌≤◌, ◌≡◌, ◌+◌, ◌-◌, ◌*◌, ◌/◌, ◌^◌, ◌<◌, ◌∙◌, ap, arith, add-one, pow-suc, div-mul-le_self, lt-div-mul-add, le-div}
 use Rattle.dl_start.proofs.Products.{two_pos}
 use Rattle.dl_start.proofs.Rounding.{ceil_least}
 use Rattle.dl_start.proofs.Beginnings.{geometric_holds}

@@ -1,7 +1,4 @@
-use Rattle.dl_start.proofs.Common.{◌≡◌, ℕ, zero, suc, ◌^◌, refl, ap₂, ◌∙◌, Fraction, whole, ◌over◌, ◌+ℚ◌, sum_to, gamma, over_same, one_pos, one_times}
-use Rattle.dl_exact.proofs.Laws.{plus_zero}
-unfoldable use Rattle.dl_model.specs.Compound.{at_zero}
-use Rattle.dl_model.proofs.AnyShape.{gamma_none}
+use Rattle.dl_start.proofs.Common.{◌≡◌, ℕ, zero, suc, ◌^◌, refl, ap₂, ◌∙◌, Fraction, whole, ◌over◌, ◌+ℚ◌, sum_to, gamma, over_same, one_pos, one_times, plus_zero, at_zero, gamma_none}
 use Rattle.dl_start.proofs.Products.{two_pos}
 use Rattle.dl_start.proofs.shape.no_start.Goals as goal
 

@@ -1,7 +1,5 @@
-use Rattle.dl_start.proofs.Common.{arith, mul-le-mul_left, whole, le_over, one_pos, ◌+ℚ◌, ◌/ℚ◌, over_self, gamma}
-use Rattle.dl_exact.proofs.BelowOne.{num_below}
+use Rattle.dl_start.proofs.Common.{arith, mul-le-mul_left, whole, le_over, one_pos, ◌+ℚ◌, ◌/ℚ◌, over_self, gamma, num_below, HoldsNoClaim}
 use Rattle.dl_start.proofs.Shares.{ratio_is}
-use Rattle.dl_start.specs.Start.{HoldsNoClaim}
 use Rattle.dl_start.proofs.Products.{two_le}
 unfoldable use Rattle.dl_start.proofs.Widths.{ratio}
 use Rattle.dl_start.proofs.Widths.{ratio_next, ratio_last}

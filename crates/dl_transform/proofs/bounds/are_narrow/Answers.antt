@@ -1,5 +1,4 @@
-use Rattle.dl_transform.proofs.Common.{arith}
-use Rattle.std.proofs.lemmas.Bool.{ltb-true}
+use Rattle.dl_transform.proofs.Common.{arith, ltb-true}
 use Rattle.dl_transform.proofs.Widths.{mixed_small, uncut}
 use Rattle.dl_transform.proofs.bounds.are_narrow.Goals as goal
 

@@ -1,5 +1,4 @@
-use Rattle.std.proofs.lemmas.Bool.{lt-ltb, ltb-true}
-use Rattle.dl_transform.proofs.Common.{◌+◌, ◌*◌, ◌^◌, ap, arith, mul-le-mul_right}
+use Rattle.dl_transform.proofs.Common.{◌+◌, ◌*◌, ◌^◌, ap, arith, mul-le-mul_right, lt-ltb, ltb-true}
 use Rattle.dl_transform.proofs.Widths.{high_small, uncut}
 use Rattle.dl_transform.proofs.bounds.are_sums_small.Goals as goal
 

@@ -1,6 +1,4 @@
-use Rattle.dl_transform.proofs.Common.{ℕ, ◌+◌, ◌-◌, ◌≡◌, ◌≤◌, ◌∙◌, ap, arith, below_more, cases_lt, get_or, get_or-drop, get_or_past, inl, inr, length}
-use Rattle.std.proofs.lemmas.List.{take_rest}
-use Rattle.dl_transform.specs.Ends.{high_at}
+use Rattle.dl_transform.proofs.Common.{ℕ, ◌+◌, ◌-◌, ◌≡◌, ◌≤◌, ◌∙◌, ap, arith, below_more, cases_lt, get_or, get_or-drop, get_or_past, inl, inr, length, take_rest, high_at}
 use Rattle.dl_transform.proofs.bounds.greatest_high.Goals as goal
 use Rattle.dl_transform.proofs.bounds.greatest_high.Goals.{then-high-greatest, else-high-greatest}
 

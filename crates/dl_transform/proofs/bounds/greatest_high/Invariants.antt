@@ -1,5 +1,4 @@
-use Rattle.dl_transform.proofs.Common.{ℕ, ◌<◌, ◌≤◌, length, get_or}
-use Rattle.dl_transform.specs.Ends.{high_at}
+use Rattle.dl_transform.proofs.Common.{ℕ, ◌<◌, ◌≤◌, length, get_or, high_at}
 use Rattle.dl_transform.proofs.bounds.greatest_high.Given as goal
 
 abbrev pub invariant-loop-k : goal.invariant-loop-k

@@ -1,5 +1,4 @@
-use Rattle.std.proofs.Common.{rules}
-use Rattle.dl_transform.proofs.Common.{arith}
+use Rattle.dl_transform.proofs.Common.{arith, rules}
 use Rattle.dl_transform.proofs.checks.are_scales.Goals as goal
 
 pub returns : goal.returns

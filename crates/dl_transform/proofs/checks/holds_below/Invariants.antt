@@ -1,5 +1,4 @@
-use Rattle.dl_transform.proofs.Common.{ℕ, ◌<◌}
-use Rattle.std.specs.Prelude.{true}
+use Rattle.dl_transform.proofs.Common.{ℕ, ◌<◌, true}
 use Rattle.dl_transform.proofs.checks.holds_below.Given as goal
 
 abbrev pub invariant-loop-k : goal.invariant-loop-k

@@ -1,5 +1,4 @@
-use Rattle.dl_transform.proofs.Common.{arith}
-use Rattle.dl_transform.specs.Ends.{low_sum, mixed_sum}
+use Rattle.dl_transform.proofs.Common.{arith, low_sum, mixed_sum}
 use Rattle.dl_transform.proofs.Products.{mixed_over, product_over, square_over}
 use Rattle.dl_transform.proofs.modular.ends_modulo.Goals as goal
 

@@ -1,8 +1,6 @@
-use Rattle.dl_transform.proofs.Common.{ℕ, ◌≡◌, ◌+◌, ◌-◌, ◌*◌, ◌^◌, ◌<◌, ◌≤◌, take, drop, length, slice_index, get_or, arith, refl, get_or-take, get_or-drop, get_or_past}
+use Rattle.dl_transform.proofs.Common.{ℕ, ◌≡◌, ◌+◌, ◌-◌, ◌*◌, ◌^◌, ◌<◌, ◌≤◌, take, drop, length, slice_index, get_or, arith, refl, get_or-take, get_or-drop, get_or_past, IsTableFor, Table}
 use Rattle.dl_transform.proofs.Residues.{same_trans, same_of}
 use Rattle.dl_transform.proofs.Parts.{IsBelow, below, join_small, roots_small, values_step}
-use Rattle.dl_transform.specs.Lists.{IsTableFor}
-use Rattle.dl_transform.specs.declared.tables.Table.{Table}
 use Rattle.dl_transform.proofs.modular.padded_values.Goals as goal
 
 -- both halves of all items lie below the first node

@@ -1,5 +1,4 @@
-use Rattle.dl_transform.proofs.Common.{arith}
-use Rattle.dl_transform.specs.Ends.{low_sum}
+use Rattle.dl_transform.proofs.Common.{arith, low_sum}
 use Rattle.dl_transform.proofs.Products.{product_over}
 use Rattle.dl_transform.proofs.modular.sums_modulo.Goals as goal
 

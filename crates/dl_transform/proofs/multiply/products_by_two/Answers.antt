@@ -1,5 +1,4 @@
-use Rattle.dl_transform.proofs.Common.{◌^◌, ◌<◌, arith, length}
-use Rattle.dl_transform.specs.Products.{other}
+use Rattle.dl_transform.proofs.Common.{◌^◌, ◌<◌, arith, length, other}
 use Rattle.dl_transform.proofs.Widths.{high_is, low_below, mixed_below}
 use Rattle.dl_transform.proofs.multiply.products_by_two.Goals as goal
 

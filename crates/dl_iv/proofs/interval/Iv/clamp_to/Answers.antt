@@ -1,5 +1,4 @@
-use Rattle.dl_iv.proofs.Common.{pow_pos}
-use Rattle.dl_exact.proofs.Lesser.{clamp_low, clamp_high}
+use Rattle.dl_iv.proofs.Common.{pow_pos, clamp_low, clamp_high}
 use Rattle.dl_iv.proofs.interval.Iv.clamp_to.Goals as goal
 
 pub returns : goal.returns

@@ -1,7 +1,6 @@
-use Rattle.dl_iv.proofs.Common.{◌≡◌, ℕ, ◌+◌, ◌-◌, ◌*◌, ◌/◌, ◌%◌, ◌^◌, ◌<◌, ◌≤◌, arith, refl, sym, ap, ◌∙◌, le-mul_of_pos_right, le_trans, div_ceil, pow_pos}
+use Rattle.dl_iv.proofs.Common.{◌≡◌, ℕ, ◌+◌, ◌-◌, ◌*◌, ◌/◌, ◌%◌, ◌^◌, ◌<◌, ◌≤◌, arith, refl, sym, ap, ◌∙◌, le-mul_of_pos_right, le_trans, div_ceil, pow_pos, mul-le}
 use Rattle.std.proofs.Common.{mod-lt}
 use Rattle.std.proofs.Math.Nat.{le_refl}
-use Rattle.std.proofs.lemmas.Nat.{mul-le}
 use Rattle.dl_iv.proofs.Rounding.{power_le, scale_of_halves, floor_by_steps, ceiling_by_steps, floor_le_ceiling}
 use Rattle.dl_iv.proofs.Operations.{enclose_low, enclose_high}
 use Rattle.dl_iv.proofs.interval.Iv.enclose.Goals as goal

@@ -1,5 +1,4 @@
-use Rattle.std.proofs.Common.{arith}
-use Rattle.dl_iv.proofs.Common.{le_trans, mul-le-mul_right, pow_pos}
+use Rattle.dl_iv.proofs.Common.{le_trans, mul-le-mul_right, pow_pos, arith}
 use Rattle.dl_iv.proofs.Conditions.{part_fits}
 use Rattle.dl_iv.proofs.Rounding.{floor_le_ceiling}
 use Rattle.dl_iv.proofs.Operations.{scale_low, scale_high}

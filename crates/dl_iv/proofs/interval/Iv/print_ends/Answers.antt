@@ -1,5 +1,4 @@
-use Rattle.dl_iv.proofs.Common.{ℕ, ◌^◌, ◌<◌, arith, pow_pos, div_ceil_least}
-use Rattle.std.proofs.Math.Nat.{one-le-pow}
+use Rattle.dl_iv.proofs.Common.{ℕ, ◌^◌, ◌<◌, arith, pow_pos, div_ceil_least, one-le-pow}
 use Rattle.dl_iv.proofs.Operations.{print_low, print_high}
 use Rattle.dl_iv.proofs.interval.Iv.print_ends.Goals as goal
 

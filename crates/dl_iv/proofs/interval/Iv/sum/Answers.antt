@@ -1,6 +1,4 @@
-use Rattle.dl_iv.proofs.Common.{◌≡◌, ℕ, ◌≤◌, ◌^◌, List, take, sum_by, sym, ap, subst, ◌∙◌, ◌over◌, ◌≤ℚ◌, sum_over}
-use Rattle.std.proofs.Common.{length}
-use Rattle.std.proofs.lemmas.List.{take_all}
+use Rattle.dl_iv.proofs.Common.{◌≡◌, ℕ, ◌≤◌, ◌^◌, List, take, sum_by, sym, ap, subst, ◌∙◌, ◌over◌, ◌≤ℚ◌, sum_over, length, take_all}
 use Rattle.dl_iv.proofs.SumLaws.{sum_low, sum_high}
 use Rattle.dl_iv.proofs.interval.Iv.sum.Goals as goal
 

@@ -1,6 +1,4 @@
-use Rattle.dl_measures.proofs.Common.{ℕ, ◌+◌, ◌≤◌, min, arith, ap₂, ◌∙◌, scale_of}
-use Rattle.dl_grid.proofs.CellLaws.{one_in_range}
-use Rattle.dl_grid.proofs.PlaceSums.{low_sum}
+use Rattle.dl_measures.proofs.Common.{ℕ, ◌+◌, ◌≤◌, min, arith, ap₂, ◌∙◌, scale_of, one_in_range, low_sum}
 use Rattle.dl_measures.proofs.Sums.{high_mass, low_high}
 use Rattle.dl_measures.proofs.MarkLaws.{mark_of}
 use Rattle.dl_measures.proofs.distribution.Distribution.cdf.Goals as goal

@@ -1,5 +1,4 @@
-use Rattle.dl_measures.proofs.Common.{arith}
-use Rattle.dl_grid.proofs.PlaceSums.{whole_spread}
+use Rattle.dl_measures.proofs.Common.{arith, whole_spread}
 use Rattle.dl_measures.proofs.Sums.{high_sum}
 use Rattle.dl_measures.proofs.MarkLaws.{mark_of}
 use Rattle.dl_measures.proofs.distribution.Distribution.spread.Goals as goal

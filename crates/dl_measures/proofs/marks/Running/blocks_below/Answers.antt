@@ -1,5 +1,4 @@
-use Rattle.dl_measures.proofs.Common.{◌-◌, ◌*◌, ◌/◌, ◌<◌, ◌≤◌, ap, arith, count_below, length}
-use Rattle.dl_measures.specs.Running.{end_at}
+use Rattle.dl_measures.proofs.Common.{◌-◌, ◌*◌, ◌/◌, ◌<◌, ◌≤◌, ap, arith, count_below, length, end_at}
 use Rattle.dl_measures.proofs.MarkLaws.{none_before, times_fits}
 use Rattle.dl_measures.proofs.marks.Running.blocks_below.Goals as goal
 

@@ -1,5 +1,4 @@
-use Rattle.dl_measures.proofs.Common.{ℕ, suc, ◌*◌, ◌-◌, ◌<◌, ◌≤◌, length, count_below}
-use Rattle.dl_measures.specs.Running.{end_at}
+use Rattle.dl_measures.proofs.Common.{ℕ, suc, ◌*◌, ◌-◌, ◌<◌, ◌≤◌, length, count_below, end_at}
 use Rattle.dl_measures.proofs.marks.Running.blocks_below.Given as goal
 
 abbrev pub invariant-loop-first : goal.invariant-loop-first

@@ -1,5 +1,4 @@
-use Rattle.dl_measures.proofs.Common.{suc, ◌*◌, ◌<◌, ap, arith, count_below, below_more}
-use Rattle.dl_measures.specs.Running.{end_at}
+use Rattle.dl_measures.proofs.Common.{suc, ◌*◌, ◌<◌, ap, arith, count_below, below_more, end_at}
 use Rattle.dl_measures.proofs.MarkLaws.{next_end, one_more_before, sum_fits, times_fits}
 use Rattle.dl_measures.proofs.marks.Running.first_reaching.Goals as goal
 

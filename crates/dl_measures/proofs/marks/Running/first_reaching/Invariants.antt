@@ -1,5 +1,4 @@
-use Rattle.dl_measures.proofs.Common.{ℕ, suc, ◌≡◌, ◌*◌, ◌<◌, count_below}
-use Rattle.dl_measures.specs.Running.{end_at}
+use Rattle.dl_measures.proofs.Common.{ℕ, suc, ◌≡◌, ◌*◌, ◌<◌, count_below, end_at}
 use Rattle.dl_measures.proofs.marks.Running.first_reaching.Given as goal
 
 abbrev pub invariant-loop-x : goal.invariant-loop-x

@@ -1,5 +1,4 @@
-use Rattle.dl_measures.proofs.Common.{suc, ◌-◌, arith, below_grows, count_below}
-use Rattle.dl_measures.specs.Running.{end_at}
+use Rattle.dl_measures.proofs.Common.{suc, ◌-◌, arith, below_grows, count_below, end_at}
 use Rattle.dl_measures.proofs.MarkLaws.{sum_between}
 use Rattle.dl_measures.proofs.marks.Running.layer.Goals as goal
 

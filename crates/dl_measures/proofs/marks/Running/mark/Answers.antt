@@ -1,5 +1,4 @@
-use Rattle.dl_measures.proofs.Common.{◌≡◌, ◌*◌, arith, subst}
-use Rattle.dl_measures.specs.Running.{IsMark, end_at}
+use Rattle.dl_measures.proofs.Common.{◌≡◌, ◌*◌, arith, subst, IsMark, end_at}
 use Rattle.dl_measures.proofs.MarkLaws.{no_ends}
 use Rattle.dl_measures.proofs.marks.Running.mark.Goals as goal
 

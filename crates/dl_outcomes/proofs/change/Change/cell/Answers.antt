@@ -1,7 +1,6 @@
-use Rattle.dl_outcomes.proofs.Common.{◌≡◌, ◌*◌, ◌/◌, ◌^◌, arith, div_ceil, part_within}
+use Rattle.dl_outcomes.proofs.Common.{◌≡◌, ◌*◌, ◌/◌, ◌^◌, arith, div_ceil, part_within, at_zero_small}
 use Rattle.dl_grid.proofs.CellLaws.{one_fits}
 use Rattle.dl_outcomes.proofs.Rounded.{parts_order, cell_fits}
-use Rattle.dl_grid.proofs.CellSets.{at_zero_small}
 use Rattle.dl_outcomes.proofs.change.Change.cell.Goals as goal
 
 pub invariant_of-part-clause-ordered : goal.invariant_of-part-clause-ordered

@@ -1,7 +1,5 @@
-use Rattle.dl_outcomes.proofs.Common.{ℕ, ◌≡◌, ◌+◌, ◌-◌, ◌*◌, ◌<◌, ◌≤◌, arith, sym}
+use Rattle.dl_outcomes.proofs.Common.{ℕ, ◌≡◌, ◌+◌, ◌-◌, ◌*◌, ◌<◌, ◌≤◌, arith, sym, mul-div_cancel, mul-mod_left, mod-mul-add}
 use Rattle.std.specs.Prelude.{◌%◌, ◌/◌}
-use Rattle.std.proofs.Math.Nat.{mul-div_cancel, mul-mod_left}
-use Rattle.std.proofs.lemmas.Nat.{mod-mul-add}
 use Rattle.dl_outcomes.proofs.factor.Factor.product.Goals as goal
 
 rest_is : (n d q : ℕ) → q * d ≤ n → n - q * d < d → n - q * d ≡ n % d

@@ -1,7 +1,5 @@
 -- The next token tells which side it is.
-use Rattle.dl_parser.proofs.Common.{true, false, sym, ◌∙◌, Word, side}
-use Rattle.dl_ast.specs.Grammar.{◌≫◌, ◌means◌}
-use Rattle.dl_lexer.specs.declared.token.Keyword.TheVariants.{Net, Of, Ceded, To}
+use Rattle.dl_parser.proofs.Common.{true, false, sym, ◌∙◌, Word, side, ◌≫◌, ◌means◌, Net, Of, Ceded, To}
 use Rattle.dl_parser.proofs.Steps.{or_first}
 use Rattle.dl_parser.proofs.cursor.Parser.side.Goals as goal
 

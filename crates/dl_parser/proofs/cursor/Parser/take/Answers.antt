@@ -1,6 +1,5 @@
 -- The tokens behind the first lie in the source too.
-use Rattle.std.proofs.lemmas.List.Elements.{All-rest}
-use Rattle.dl_parser.specs.Within.{Inside}
+use Rattle.dl_parser.proofs.Common.{All-rest, Inside}
 use Rattle.dl_parser.proofs.cursor.Parser.take.Goals as goal
 
 pub invariant_of-self : goal.invariant_of-self

@@ -1,10 +1,6 @@
 -- The items above an amount are rising, of positive weights, and weigh no more.
-use Rattle.std.proofs.lemmas.Bool.Decides.{nat_tests}
-use Rattle.std.proofs.lemmas.Grind.{common_steps}
-use Rattle.dl_plan.proofs.Common.{ℕ, ◌≡◌, ◌∙◌, ◌<◌, List, nat_lt, length, true, false, ◌==◌, sym, ap, subst, arith, IsStrictlyIncreasing, ◌over◌, Item, Sev, amounts_of, weight_sum, weight_at, probability, conditioned, shares}
+use Rattle.dl_plan.proofs.Common.{ℕ, ◌≡◌, ◌∙◌, ◌<◌, List, nat_lt, length, true, false, ◌==◌, sym, ap, subst, arith, IsStrictlyIncreasing, ◌over◌, Item, Sev, amounts_of, weight_sum, weight_at, probability, conditioned, shares, nat_tests, common_steps, IsStrictlyIncreasing-filter, All-filter}
 use Rattle.std.proofs.Common.{All, Bool}
-use Rattle.std.proofs.lemmas.List.Kept.{IsStrictlyIncreasing-filter}
-use Rattle.std.proofs.lemmas.List.Elements.{All-filter}
 use Rattle.dl_plan.proofs.Weights.{weight_sum_pos}
 use Rattle.dl_plan.proofs.Shares.{items_over, none_over, filter-map, probability-conditioned, weight_over-le}
 use Rattle.dl_plan.proofs.Means.{severity_total}

@@ -1,6 +1,5 @@
 -- The greatest common divisor of the weights taken out.
-use Rattle.dl_plan.proofs.Common.{ap, ◌∙◌}
-use Rattle.dl_plan.specs.Weighted.{common_weight, weight_sum}
+use Rattle.dl_plan.proofs.Common.{ap, ◌∙◌, common_weight, weight_sum}
 use Rattle.dl_plan.proofs.Weights.{made_weighted, made_means}
 use Rattle.dl_plan.proofs.severity.Sev.from_rising.Goals as goal
 

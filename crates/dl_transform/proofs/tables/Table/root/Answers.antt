@@ -1,5 +1,4 @@
-use Rattle.dl_transform.proofs.Common.{◌≡◌, slice_index}
-use Rattle.std.proofs.lemmas.List.{get_or_read}
+use Rattle.dl_transform.proofs.Common.{◌≡◌, slice_index, get_or_read}
 use Rattle.dl_transform.proofs.tables.Table.root.Goals as goal
 
 pub returns : goal.returns
