@@ -164,9 +164,10 @@ module _ {B : ℕ} {plan : Plan} (at : IsPlanAt B plan) where
       (λ i d inside. unit_on at (at.valid.units i d inside))
 
   pub all_means : {units : List UnitOfPlan} {old new : List (Iv B)} → units ≡ plan.units → old ≡ []
-      → AddMeans plan.cells units old new → AreMeansOf plan.cells plan.units new
-  all_means {new = new} same none added =
-      subst (λ us. AreMeansOf plan.cells us new) same (added [] (no_means plan.cells none))
+      → AddMeans plan.cells (take (length units) units) old new → AreMeansOf plan.cells plan.units new
+  all_means {units} {new = new} same none added =
+      subst (λ us. AreMeansOf plan.cells us new) (take_all (length units) units (omega arith) ∙ same)
+      (added [] (no_means plan.cells none))
 
   pub pooled_declarable : (pooled : Option UnitOfPlan) → IfSome pooled (IsPooledFor plan)
       → AreDeclarable (map loss_of (option_to_list pooled))
@@ -192,14 +193,16 @@ module _ {B : ℕ} {plan : Plan} (at : IsPlanAt B plan) where
 
   pub sum_of_all : {units : List UnitOfPlan} {rest one sum : Option (List (Iv B))} (b : Bool) (pooled : Option UnitOfPlan)
       → units ≡ plan.units → b ≡ is_some pooled → IfSome pooled (IsPooledFor plan)
-      → IsSumOfUnits plan.cells (unpooled b units) rest → IsSumOfUnits plan.cells (option_to_list pooled) one
+      → IsSumOfUnits plan.cells (unpooled b (take (length units) units)) rest
+      → IsSumOfUnits plan.cells (option_to_list pooled) one
       → IfSome sum (λ g. length g ≡ plan.cells)
       → ((ls ms : List Loss) → AreDeclarable ls → AreDeclarable ms → EnclosesSum rest ls → EnclosesSum one ms
       → EnclosesSum sum (ls ++ ms)) → IsSumOfUnits plan.cells (all_with pooled) sum
-  sum_of_all {rest = rest} b pooled same told h of_rest of_one long encloses =
+  sum_of_all {units} {rest = rest} b pooled same told h of_rest of_one long encloses =
       joined (unpooled (is_some pooled) plan.units) (option_to_list pooled)
       (part_declarable plan.units (units_on refl) (λ u. not (is_some pooled && can_share u))) (pooled_declarable pooled h)
-      (subst₂ (λ c us. IsSumOfUnits plan.cells (unpooled c us) rest) told same of_rest) of_one long encloses
+      (subst₂ (λ c us. IsSumOfUnits plan.cells (unpooled c us) rest) told
+      (take_all (length units) units (omega arith) ∙ same) of_rest) of_one long encloses
 
   pub some_total : (pooled : Option UnitOfPlan) → ¬ IsSumOfUnits {B = B} plan.cells (all_with pooled) None
   some_total None sum =

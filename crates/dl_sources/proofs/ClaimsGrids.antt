@@ -1,5 +1,7 @@
 -- Grids over which the claims of a unit give its joint means.
-use Rattle.dl_sources.proofs.Common.{IsTrue, leb_tells, ℕ, ◌≡◌, ◌^◌, ◌<◌, ◌≤◌, List, ◌∷◌, length, get_or, arith, sym, ap, subst, ◌∙◌, get_or-map, length-map, inl, inr, None, Iv, low_at, high_at, spread, Holds, One, Joint, partial_sums, total, GridEncloses, loss_of, aggregates_of, plan_units, Plan, IsValid, UnitOfPlan, read_unit, thinned_mean, joint_budget, Declares, IsTotalOf, leb, budget_bound, CanRaise, CanShare, IsUnbounded, gamma_unbounded, poisson_unbounded, shared_joint_budget, claims_mean, IsExtra, gamma_exact, poisson_exact, IsWholeClaimsGrid}
+use Rattle.dl_sources.proofs.Common.{IsTrue, leb_tells, ℕ, ◌≡◌, ◌^◌, ◌<◌, ◌≤◌, List, [], ◌∷◌, All-cons, All-nil, AreDeclarable, are_units, units_declared, IsUnitGrid, IsValidUnit, length, get_or, arith, sym, ap, subst, ◌∙◌, get_or-map, length-map, inl, inr, None, Iv, low_at, high_at, spread, Holds, One, Joint, partial_sums, total, GridEncloses, loss_of, aggregates_of, plan_units, Plan, IsValid, UnitOfPlan, read_unit, thinned_mean, joint_budget, Declares, IsTotalOf, leb, budget_bound, CanRaise, CanShare, IsUnbounded, gamma_unbounded, poisson_unbounded, shared_joint_budget, claims_mean, IsExtra, gamma_exact, poisson_exact, IsWholeClaimsGrid}
+use Rattle.dl_grid.specs.Convolution.{IsConvolution}
+use Rattle.dl_totals.proofs.Added.{alone, two_sums}
 use Rattle.dl_sources.proofs.Losses.{is_independent, total_alone}
 use Rattle.dl_sources.proofs.ReadAs.{unit_there}
 
@@ -44,9 +46,17 @@ module _ (plan : Plan) (i : ℕ) {units : List UnitOfPlan} {u : UnitOfPlan} (sam
       (plan_units plan valid) g u shares here loss_here (total_alone none t).encloses within)
 
   -- that with its extra claims, of a gamma unit
-  pub with_extra : (extra : UnitOfPlan) → CanRaise u → IsExtra u extra
-      → GridEncloses g (total (loss_of extra ∷ aggregates_of plan)) → IsWholeClaimsGrid plan i g
-  with_extra extra raises is_extra encloses =
+  pub with_extra : (extra : UnitOfPlan) → CanRaise u → IsExtra u extra → IsValidUnit plan.cells extra
+      → {one t : List (Iv B)} → IsUnitGrid plan.cells extra one → IsTotalOf plan t → IsConvolution plan.cells one t g
+      → IsWholeClaimsGrid plan i g
+  with_extra extra raises is_extra extra_valid {one = one} {t = t} of_one whole sum =
+      let declarable : AreDeclarable (loss_of extra ∷ []) =
+      are_units (loss_of extra ∷ []) (units_declared plan.cells (extra ∷ [])
+      (All-cons (IsValidUnit plan.cells) extra [] extra_valid (All-nil (IsValidUnit plan.cells)))) in
+      let encloses : GridEncloses g (total (loss_of extra ∷ aggregates_of plan)) =
+      two_sums one t g plan.cells (loss_of extra ∷ []) (aggregates_of plan) declarable (plan_units plan valid)
+      (omega (arith, of_one.cells)) (omega (arith, whole.cells)) cells sum
+      (alone one (loss_of extra) declarable.0 of_one.encloses) (total_alone none whole).encloses in
       claims_grid (gamma_unbounded u.freq raises.count) (λ x within. gamma_exact u extra raises
       (unit_there i same read inside valid).count is_extra g (aggregates_of plan) i x (plan_units plan valid) here loss_here
       encloses within)

@@ -4,10 +4,13 @@ use Rattle.dl_model.proofs.Outcomes.{total_alone, total_alone_all}
 use Rattle.dl_pool.specs.Pooled.{IsPooled, IsRaised, alone}
 use Rattle.dl_sources.proofs.SumLaws.{plain_encloses}
 
--- a plan with some factor shares one
-pub some_shape : (common : Option Fraction) → IsSome common → (r : Fraction) × (common ≡ Some r)
+some_shape : (common : Option Fraction) → IsSome common → (r : Fraction) × (common ≡ Some r)
 some_shape (Some r) is = (r, refl)
 some_shape None is = absurd cc
+
+-- a valid plan with some factor shares one
+pub some_factor : {plan : Plan} → IsValid plan → IsSome plan.common → (r : Fraction) × SharesFactor plan r
+some_factor {plan} valid is = let s = some_shape plan.common is in (s.0, record { shape = s.1; valid = valid })
 
 gamma_claims : (S cells : ℕ) (r : Fraction) (u : UnitOfPlan) (v thinned : Fraction) → u.freq ≡ Gamma r v → thinned_mean u ≡ thinned
     → claims_budget S cells u ≡ shape_budget S cells r thinned
@@ -21,10 +24,7 @@ joint_narrow K n D E claims most few less same =
     let under : claims ≤ most = omega (arith, same) in
     omega (arith, mul-le-mul sums under)
 
-module _ {plan : Plan} (valid : IsValid plan) {r : Fraction} (shape : plan.common ≡ Some r) (u : UnitOfPlan) where
-  abbrev shares : SharesFactor plan r
-  shares = record { shape = shape; valid = valid }
-
+module _ {plan : Plan} {r : Fraction} (shares : SharesFactor plan r) (u : UnitOfPlan) where
   pub raised_unit_valid : IsRaised r plan.units u → IsValidUnit plan.cells u
   raised_unit_valid is = (raised_valid plan r u shares is).units 0 u (omega arith)
 
@@ -61,7 +61,7 @@ module _ {plan : Plan} (valid : IsValid plan) {r : Fraction} (shape : plan.commo
         within = omega (arith, cells, within);
         gives = λ x near. common_exact g plan i x u v near r shares inside (sym here) is encloses;
         narrow = subst (λ b. shared_joint_budget (length g) (spread g) (thinned_mean v) ≤ b)
-            (ap (λ o. joint_by o (2 ^ B) plan i) (sym shape))
+            (ap (λ o. joint_by o (2 ^ B) plan i) (sym shares.shape))
             (joint_narrow plan.cells (length g) (spread g) (raised_budget (2 ^ B) plan.cells r plan.units)
             (up (thinned_mean v)) (up (thinned_at plan.units i)) (omega (arith, cells, within)) most
             (ap up (thinned_here plan.units i v inside here)));
@@ -93,7 +93,7 @@ module _ {plan : Plan} (valid : IsValid plan) {r : Fraction} (shape : plan.commo
         gamma_claims S plan.cells r u _ (thinned_of plan.units) is.count
         (ap (λ f. expected_count f *ℚ (whole 1 -ℚ probability_of u.sev 0)) is.count
         ∙ pooled_thinned plan.units (has_factor plan r shares).some u is.severity)
-        ∙ ap (λ o. total_by o S plan.cells plan.units) (sym shape)
+        ∙ ap (λ o. total_by o S plan.cells plan.units) (sym shares.shape)
 
     pub pooled_total : {B : ℕ} {g : List (Iv B)} → length g ≡ plan.cells
         → GridEncloses g (compound_of u.freq u.sev) → spread g ≤ claims_budget (2 ^ B) plan.cells u → IsTotalOf plan g
@@ -110,7 +110,7 @@ module _ {plan : Plan} (valid : IsValid plan) {r : Fraction} (shape : plan.commo
       holds = subst₂ (λ Q O. Holds Q O (mean.lo over 2 ^ B) (mean.hi over 2 ^ B)) (declares Mean total_mean)
           (declares One (λ ys. refl)) (subst (λ us. HoldsOf us) one_loss
           (subst (λ a. HoldsOf (loss a ∷ [])) (sym (no_clause u is.clause)) holds));
-      narrow = subst (λ b. mean.hi ≤ mean.lo + b) (ap (λ o. mean_by o (2 ^ B) plan.cells plan.units) (sym shape)) narrow;
+      narrow = subst (λ b. mean.hi ≤ mean.lo + b) (ap (λ o. mean_by o (2 ^ B) plan.cells plan.units) (sym shares.shape)) narrow;
     }
       where
         HoldsOf : List Loss → Type 0

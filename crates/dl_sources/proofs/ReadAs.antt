@@ -6,6 +6,9 @@ pub read_as : {A : Type 0} {slice xs : List A} (i : ℕ) {x : A} (d : A) → sli
     → x ≡ get_or xs i d
 read_as {xs = xs} i {x = x} d same is inside = is ∙ ap (λ t. get_or t i x) same ∙ get_or_default xs i x d inside
 
+pub inside_there : {A : Type 0} {slice xs : List A} {i : ℕ} → slice ≡ xs → i < length slice → i < length xs
+inside_there {i = i} same inside = subst (λ t. i < length t) same inside
+
 -- a unit of a valid plan
 pub unit_there : {plan : Plan} {units : List UnitOfPlan} (i : ℕ) {u : UnitOfPlan} → units ≡ plan.units
     → u ≡ get_or units i u → i < length plan.units → IsValid plan

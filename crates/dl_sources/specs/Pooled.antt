@@ -1,10 +1,10 @@
 -- One unit in the place of several.
-use Rattle.std.specs.Prelude.{◌≡◌, ◌&&◌, Bool, Some, not, List, filter}
+use Rattle.std.specs.Prelude.{ℕ, ◌&&◌, Bool, not, List, filter}
 use Rattle.dl_exact.specs.Fraction.{Fraction}
 use Rattle.dl_model.specs.CommonUnits.{IsPoissonSum}
 use Rattle.dl_plan.specs.declared.plan.Unit.{Unit as UnitOfPlan}
 use Rattle.dl_plan.specs.declared.plan.Plan.{Plan}
-use Rattle.dl_plan.specs.Prelude.{IsValidUnit, can_share}
+use Rattle.dl_plan.specs.Prelude.{IsPlanAt, IsValidUnit, SharesFactor, can_share}
 use Rattle.dl_pool.specs.Pooled.{IsPooled}
 
 -- the units that cannot be pooled, in order
@@ -20,6 +20,10 @@ pub record IsPooledFor (plan : Plan) (made : UnitOfPlan) : Type 0 where
   pub sum : IsPoissonSum (filter can_share plan.units) made
   pub valid : IsValidUnit plan.cells made
 
--- the one unit in the place of all under a common factor, with the shape of the factor
-abbrev pub IsPooledOf : Plan → UnitOfPlan → Type 0
-IsPooledOf plan unit = (r : Fraction) → plan.common ≡ Some r → IsPooled r plan.units unit
+-- a valid plan whose units share a factor, at the scale of its cells, and the one unit in the place
+-- of them all
+pub record IsPooledAt (B : ℕ) (plan : Plan) (made : UnitOfPlan) : Type 0 where
+  pub at : IsPlanAt B plan
+  pub shape : Fraction
+  pub shares : SharesFactor plan shape
+  pub sum : IsPooled shape plan.units made

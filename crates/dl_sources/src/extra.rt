@@ -1,16 +1,16 @@
 //! Grids that the claims of one independent unit go over: that of the total, and that of the total
 //! with the extra claims of a gamma unit.
 
-ghost use Rattle.std.specs.Prelude.{ℕ, ◌≡◌, ◌^◌, ◌<◌, ◌≤◌, ◌∷◌, IsTrue, IfOk, IfSome, length};
+ghost use Rattle.std.specs.Prelude.{ℕ, ◌≡◌, ◌^◌, ◌<◌, ◌≤◌, IsTrue, IfOk, IfSome, length};
 ghost use Rattle.dl_limits.specs.Limits.{budget_bound, most_plan_cells};
 ghost use Rattle.dl_grid.specs.Cells.{spread};
 ghost use Rattle.dl_plan.specs.Prelude.{CanRaise, IsIndependentAt, IsUnbounded, IsValidUnit, thinned_mean};
-ghost use Rattle.dl_model.specs.Prelude.{GridEncloses, total as total_of, loss_of, aggregates_of};
 ghost use Rattle.dl_budget.specs.Asks.{joint_budget};
 ghost use Rattle.dl_budget.specs.Shared.{shared_joint_budget};
 ghost use Rattle.dl_shares.specs.Drawn.{IsTotalOf};
-ghost use Rattle.dl_sources.specs.Origins.{IsWholeClaimsGrid};
+ghost use Rattle.dl_sources.specs.Origins.{IsBudgeted, IsWholeClaimsGrid};
 
+use crate::budgeted::Budgeted;
 use crate::units::plain_grid;
 use dl_budget::shared_joint_budget;
 use dl_grid::Grid;
@@ -18,7 +18,7 @@ use dl_limits::BUDGET_BOUND;
 use dl_plan::{Plan, Unit};
 use dl_pool::extra;
 use dl_product::{Workspace, product};
-use std::alloc::{AllocError, Global};
+use std::alloc::AllocError;
 
 /// The fewest units of a plan in which the joint means of a gamma unit come from the total with its
 /// extra claims. That takes one grid more and one product for each such unit; with fewer units the
@@ -79,53 +79,32 @@ pub(crate) fn is_from_total<const B: u32>(
     is_narrow(unit, apart, plan.cells, most)
 }
 
-/// The grid of the total with the claims of one plain unit more, which is independent of all units.
-fn total_beside<const B: u32>(
-    alloc: Global,
-    work: &mut Workspace,
-    plan: &Plan,
-    total: &Grid<B>,
-    unit: &Unit,
-) -> Result<Grid<B>, AllocError>
-    requires at { IsIndependentAt B plan.now }
-    requires total { IsTotalOf plan.now total.now }
-    requires unit { IsValidUnit plan.now.cells unit.now }
-    requires clause { unit.now.cede ≡ None }
-    requires zero { unit.now.zero ≡ None }
-    ensures cells { IfOk result (λ made. length made ≡ plan.now.cells) }
-    ensures encloses { IfOk result (λ made.
-        GridEncloses made (total_of (loss_of unit.now ∷ aggregates_of plan.now))) }
-{
-    let grid = plain_grid::<B>(alloc, work, unit, plan.cells)?;
-    product(alloc, work, &grid, total, plan.cells)
-}
-
 /// The grid of the total with the extra claims of unit `i`; none where its joint means do not come
 /// from that grid, where its extra claims are not a valid unit, and where its joint mean would be
 /// wider than `most`, its budget.
 pub(crate) fn with_extra<const B: u32>(
-    alloc: Global,
+    of: &Budgeted,
     work: &mut Workspace,
-    plan: &Plan,
     total: &Grid<B>,
     i: u32,
     most: u128,
 ) -> Result<Option<Grid<B>>, AllocError>
-    requires at { IsIndependentAt B plan.now }
-    requires total { IsTotalOf plan.now total.now }
-    requires unit { i < length plan.now.units }
-    requires most { most ≡ joint_budget (2 ^ B) plan.now i }
-    ensures { IfOk result (λ made. IfSome made (IsWholeClaimsGrid plan.now i)) }
+    requires of { IsBudgeted B of.now }
+    requires total { IsTotalOf of.now.plan.now total.now }
+    requires unit { i < length of.now.plan.now.units }
+    requires most { most ≡ joint_budget (2 ^ B) of.now.plan.now i }
+    ensures { IfOk result (λ made. IfSome made (IsWholeClaimsGrid of.now.plan.now i)) }
 {
-    let units = plan.units.as_slice();
+    let units = of.plan.units.as_slice();
     let unit = &units[i as usize];
     if !has_extra(units, unit) {
         return Ok(None);
     }
-    let Some(claims) = extra(alloc, unit)? else {
+    let Some(claims) = extra(of.alloc, unit)? else {
         return Ok(None);
     };
-    let made = total_beside(alloc, work, plan, total, &claims)?;
-    let narrow = is_narrow(unit, made.spread(), plan.cells, most);
+    let grid = plain_grid::<B>(of.alloc, work, &claims, of.plan.cells)?;
+    let made = product(of.alloc, work, &grid, total, of.plan.cells)?;
+    let narrow = is_narrow(unit, made.spread(), of.plan.cells, most);
     Ok(narrow.then_some(made))
 }

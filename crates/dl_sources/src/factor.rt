@@ -4,10 +4,11 @@ ghost use Rattle.std.specs.Prelude.{ℕ, ◌≡◌, ◌<◌, ◌≤◌, ◌^◌,
 ghost use Rattle.dl_limits.specs.Limits.{most_mean};
 ghost use Rattle.dl_plan.specs.Prelude.{IsPlanAt};
 ghost use Rattle.dl_budget.specs.Once.{AreAllBudgets};
-ghost use Rattle.dl_shares.specs.Drawn.{AreDrawnOf, IsClaimsGrid, IsMeanOf, IsTotalOf};
+ghost use Rattle.dl_shares.specs.Drawn.{AreDrawnOf, IsClaimsGrid, IsMeanOf};
 ghost use Rattle.dl_sources.specs.Origins.{AreFactorGrids, ReachNamed, factor_origin};
-ghost use Rattle.dl_sources.specs.Pooled.{IsPooledOf};
+ghost use Rattle.dl_sources.specs.Pooled.{IsPooledAt};
 
+use crate::budgeted::Budgeted;
 use crate::outcomes::unit_means;
 use dl_budget::{AllBudgets, unit_budget};
 use dl_grid::Grid;
@@ -25,7 +26,7 @@ use std::alloc::{AllocError, Global};
 pub(crate) fn pooled_unit<const B: u32>(alloc: Global, plan: &Plan) -> Result<Unit, AllocError>
     requires at { IsPlanAt B plan.now }
     requires shares { IsSome plan.now.common }
-    ensures { IfOk result (IsPooledOf plan.now) }
+    ensures { IfOk result (IsPooledAt B plan.now) }
 {
     pool(alloc, plan)
 }
@@ -33,28 +34,11 @@ pub(crate) fn pooled_unit<const B: u32>(alloc: Global, plan: &Plan) -> Result<Un
 /// The mean of the total of a plan whose units share a factor, in buckets: that of the one unit in
 /// their place.
 pub(crate) fn pooled_mean<const B: u32>(plan: &Plan, pooled: &Unit) -> Iv<B>
-    requires at { IsPlanAt B plan.now }
-    requires shares { IsSome plan.now.common }
-    requires pooled { IsPooledOf plan.now pooled.now }
+    requires pooled { IsPooledAt B plan.now pooled.now }
     ensures mean { IsMeanOf plan.now result }
     ensures small { result.hi ≤ most_mean }
 {
     claims_mean(pooled)
-}
-
-/// The grid of the total of a plan whose units share a factor: that of the one unit in their place.
-fn pooled_total<const B: u32>(
-    alloc: Global,
-    work: &mut Workspace,
-    plan: &Plan,
-    pooled: &Unit,
-) -> Result<Grid<B>, AllocError>
-    requires at { IsPlanAt B plan.now }
-    requires shares { IsSome plan.now.common }
-    requires pooled { IsPooledOf plan.now pooled.now }
-    ensures { IfOk result (λ g. IsTotalOf plan.now g) }
-{
-    unit_grid_with(alloc, work, pooled, plan.cells)
 }
 
 /// The first `reach` cells of the grid of the one unit in the place of all units of a plan that
@@ -67,9 +51,7 @@ fn raised_grid<const B: u32>(
     pooled: &Unit,
     reach: u32,
 ) -> Result<Grid<B>, AllocError>
-    requires at { IsPlanAt B plan.now }
-    requires shares { IsSome plan.now.common }
-    requires pooled { IsPooledOf plan.now pooled.now }
+    requires pooled { IsPooledAt B plan.now pooled.now }
     requires some { 1 ≤ reach }
     requires within { reach ≤ plan.now.cells }
     ensures grid { IfOk result (λ g. (i : ℕ) → i < length plan.now.units
@@ -82,8 +64,9 @@ fn raised_grid<const B: u32>(
     unit_grid_with(alloc, work, &unit, reach)
 }
 
-/// The grid of the total of a plan whose units share a factor; and behind it, where an ask names a
-/// unit, the first `reach` cells of that of the raised unit, over which the claims of each unit go.
+/// The grid of the total of a plan whose units share a factor: that of the one unit in their place;
+/// and behind it, where an ask names a unit, the first `reach` cells of that of the raised unit,
+/// over which the claims of each unit go.
 fn factor_grids<const B: u32>(
     alloc: Global,
     work: &mut Workspace,
@@ -92,14 +75,12 @@ fn factor_grids<const B: u32>(
     named: bool,
     reach: u32,
 ) -> Result<Vec<Grid<B>>, AllocError>
-    requires at { IsPlanAt B plan.now }
-    requires shares { IsSome plan.now.common }
-    requires pooled { IsPooledOf plan.now pooled.now }
+    requires pooled { IsPooledAt B plan.now pooled.now }
     requires some { 1 ≤ reach }
     requires within { reach ≤ plan.now.cells }
     ensures { IfOk result (λ made. AreFactorGrids plan.now named reach made.items) }
 {
-    let total = pooled_total(alloc, work, plan, pooled)?;
+    let total = unit_grid_with::<B>(alloc, work, pooled, plan.cells)?;
     let mut grids = Vec::new(alloc);
     grids.push(total)?;
     if !named {
@@ -132,30 +113,29 @@ fn factor_origins<const B: u32>(
 /// What is drawn of a valid plan whose units share a factor, with joint means at all totals below
 /// `reach` for each named unit.
 pub(crate) fn factor_drawn<const B: u32>(
-    alloc: Global,
+    of: &Budgeted,
     work: &mut Workspace,
-    plan: &Plan,
-    budgets: &AllBudgets,
     reach: u32,
 ) -> Result<Drawn<B>, AllocError>
-    requires at { IsPlanAt B plan.now }
-    requires shares { IsSome plan.now.common }
-    requires budgets { AreAllBudgets (2 ^ B) plan.now budgets.now }
+    requires at { IsPlanAt B of.now.plan.now }
+    requires shares { IsSome of.now.plan.now.common }
+    requires budgets { AreAllBudgets (2 ^ B) of.now.plan.now of.now.budgets.now }
     requires some { 1 ≤ reach }
-    requires within { reach ≤ plan.now.cells }
-    ensures drawn { IfOk result (AreDrawnOf plan.now) }
-    ensures reached { IfOk result (ReachNamed plan.now budgets.now.of_units.items reach) }
+    requires within { reach ≤ of.now.plan.now.cells }
+    ensures drawn { IfOk result (AreDrawnOf of.now.plan.now) }
+    ensures reached { IfOk result
+        (ReachNamed of.now.plan.now of.now.budgets.now.of_units.items reach) }
 {
-    let means = unit_means(alloc, work, plan)?;
-    let origins = factor_origins(alloc, budgets)?;
-    let named = budgets.are_named();
-    let pooled = pooled_unit::<B>(alloc, plan)?;
-    let grids = factor_grids(alloc, work, plan, &pooled, named, reach)?;
+    let means = unit_means(of.alloc, work, of.plan)?;
+    let origins = factor_origins(of.alloc, of.budgets)?;
+    let named = of.budgets.are_named();
+    let pooled = pooled_unit::<B>(of.alloc, of.plan)?;
+    let grids = factor_grids(of.alloc, work, of.plan, &pooled, named, reach)?;
     Ok(Drawn {
         grids,
-        units: Vec::new(alloc),
+        units: Vec::new(of.alloc),
         means,
-        mean: pooled_mean(plan, &pooled),
+        mean: pooled_mean(of.plan, &pooled),
         origins,
     })
 }

@@ -1,16 +1,15 @@
 //! The total of many independent units, by halves: of the grids of the units only some few are held
 //! at once.
 
-ghost use Rattle.std.specs.Prelude.{[], ◌≡◌, ◌+◌, ◌++◌, ◌≤◌, ◌^◌, All, IfOk, IfSome, OnOk, drop, length, replicate, take};
+ghost use Rattle.std.specs.Prelude.{[], ◌≡◌, ◌+◌, ◌++◌, ◌≤◌, All, IfOk, IfSome, OnOk, drop, length, replicate, take};
 ghost use Rattle.std.specs.Option.{option_to_list};
-ghost use Rattle.dl_grid.specs.Cells.{spread};
-ghost use Rattle.dl_plan.specs.Prelude.{IsIndependentAt, IsPlanAt, IsUnitOn};
-ghost use Rattle.dl_budget.specs.Units.{total_budget};
-ghost use Rattle.dl_shares.specs.Drawn.{IsTotalOf};
+ghost use Rattle.dl_plan.specs.Prelude.{IsPlanAt, IsUnitOn};
+ghost use Rattle.dl_sources.specs.Origins.{IsBudgeted, IsTotalIfNarrow};
 ghost use Rattle.dl_sources.specs.Pooled.{IsPooledFor, unpooled};
 ghost use Rattle.dl_sources.specs.Same.{AreAllAlike};
 ghost use Rattle.dl_sources.specs.Units.{AddMeans, AreMeansOf, IsSumOfUnits};
 
+use crate::budgeted::Budgeted;
 use crate::same::are_all_alike;
 use crate::together::pooled_if_any;
 use crate::units::{mean_of, outcome_of, plain_grid};
@@ -117,48 +116,30 @@ fn pooled_grid<const B: u32>(
     }
 }
 
-/// The grid of the total of a plan of independent units, with this one unit, where it is there, in
-/// the place of all that can be pooled. It may be wider than the budget of the total. The means of
-/// all units are put into `means`.
-fn total_with_pooled<const B: u32>(
-    alloc: Global,
+/// The grid of the total of a plan of independent units, with one unit in the place of all that can
+/// be pooled, where there is such a unit. It may be wider than the budget of the total. The means
+/// of all units are put into `means`.
+pub(crate) fn total_by_halves<const B: u32>(
+    of: &Budgeted,
     work: &mut Workspace,
-    plan: &Plan,
-    pooled: &Option<Unit>,
     means: &mut Vec<Iv<B>>,
 ) -> Result<Grid<B>, AllocError>
-    requires at { IsIndependentAt B plan.now }
-    requires pooled { IfSome pooled.now (IsPooledFor plan.now) }
+    requires of { IsBudgeted B of.now }
     requires none { means.old.items ≡ [] }
-    ensures total { IfOk result (λ made.
-        spread made ≤ total_budget (2 ^ B) plan.now → IsTotalOf plan.now made) }
-    ensures means { OnOk result (AreMeansOf plan.now.cells plan.now.units means.new.items) }
+    ensures total { IfOk result (IsTotalIfNarrow of.now.plan.now) }
+    ensures means { OnOk result
+        (AreMeansOf of.now.plan.now.cells of.now.plan.now.units means.new.items) }
 {
+    let plan = of.plan;
+    let pooled = pooled_if_any(of.alloc, plan)?;
     let units = plan.units.as_slice();
     let apart = pooled.is_some();
     let many = units.len();
-    let rest = sum_of_units(alloc, work, units, 0, many, apart, plan.cells, means)?;
-    let one = pooled_grid(alloc, work, plan, pooled)?;
-    let sum = sum_of_both(alloc, work, rest, one, plan.cells)?;
+    let rest = sum_of_units(of.alloc, work, units, 0, many, apart, plan.cells, means)?;
+    let one = pooled_grid(of.alloc, work, plan, &pooled)?;
+    let sum = sum_of_both(of.alloc, work, rest, one, plan.cells)?;
     match sum {
         Some(total) => Ok(total),
         None => unreachable!(),
     }
-}
-
-/// The same, with one unit in the place of all that can be pooled, where there is such a unit.
-pub(crate) fn total_by_halves<const B: u32>(
-    alloc: Global,
-    work: &mut Workspace,
-    plan: &Plan,
-    means: &mut Vec<Iv<B>>,
-) -> Result<Grid<B>, AllocError>
-    requires at { IsIndependentAt B plan.now }
-    requires none { means.old.items ≡ [] }
-    ensures total { IfOk result (λ made.
-        spread made ≤ total_budget (2 ^ B) plan.now → IsTotalOf plan.now made) }
-    ensures means { OnOk result (AreMeansOf plan.now.cells plan.now.units means.new.items) }
-{
-    let pooled = pooled_if_any(alloc, plan)?;
-    total_with_pooled(alloc, work, plan, &pooled, means)
 }

@@ -20,6 +20,7 @@
 //! plan are made once.
 #![tactic(auto)]
 
+mod budgeted;
 mod drawn;
 mod extra;
 mod factor;

@@ -1,15 +1,14 @@
 //! The total of independent units from all of them, and for some the sum of all others.
 
-ghost use Rattle.std.specs.Prelude.{ℕ, List, Option, ◌≡◌, ◌<◌, ◌≤◌, ◌^◌, false, IsTrue, None, IfOk, IfSome, IsSome, length, get_or};
+ghost use Rattle.std.specs.Prelude.{ℕ, ◌≡◌, ◌<◌, ◌≤◌, false, IsTrue, None, IfOk, IfSome, IsSome, length, get_or};
 ghost use Rattle.dl_limits.specs.Limits.{most_mean};
 ghost use Rattle.dl_plan.specs.Prelude.{IsIndependentAt};
-ghost use Rattle.dl_budget.specs.declared.once.UnitBudgets.{UnitBudgets};
-ghost use Rattle.dl_budget.specs.Once.{AreAllBudgets};
 ghost use Rattle.dl_shares.specs.declared.drawn.Origin.TheVariants.{Nowhere};
-ghost use Rattle.dl_shares.specs.Drawn.{AreDrawnOf, AreUnitGrids, IsMeanOf};
-ghost use Rattle.dl_sources.specs.Origins.{AreSourcesOf, IsBeside, ReachNamed};
+ghost use Rattle.dl_shares.specs.Drawn.{AreUnitGrids, IsMeanOf};
+ghost use Rattle.dl_sources.specs.Origins.{AreSourcesOf, IsBeside, IsBudgeted, IsDrawnOf};
 ghost use Rattle.dl_sources.specs.Units.{AreMeansOf, AreOutcomesOf};
 
+use crate::budgeted::Budgeted;
 use crate::extra::is_without_others;
 use crate::origins::{Sources, sources_of};
 use crate::outcomes::Outcomes;
@@ -39,23 +38,19 @@ pub(crate) fn total_mean<const B: u32>(plan: &Plan, means: &[Iv<B>]) -> Iv<B>
 /// What is drawn of these means of all units, of this grid of the total, and of what joint means
 /// come from; with the grids of all units where that is the sum of all others.
 pub(crate) fn drawn_with<const B: u32>(
-    plan: &Plan,
+    of: &Budgeted,
     units: Vec<Grid<B>>,
     means: Vec<Iv<B>>,
     sources: Sources<B>,
 ) -> Drawn<B>
-    requires at { IsIndependentAt B plan.now }
+    requires of { IsBudgeted B of.now }
     requires units { (i : ℕ) → IsBeside (get_or sources.origins.items i Nowhere)
-        → AreUnitGrids plan.now.cells plan.now.units units.items }
-    requires means { AreMeansOf plan.now.cells plan.now.units means.items }
-    requires sources { (budgets : List (Option UnitBudgets))
-        × AreSourcesOf plan.now budgets sources }
-    ensures drawn { AreDrawnOf plan.now result }
-    ensures reached { (budgets : List (Option UnitBudgets))
-        → AreSourcesOf plan.now budgets sources.entry
-        → ReachNamed plan.now budgets plan.now.cells result }
+        → AreUnitGrids of.now.plan.now.cells of.now.plan.now.units units.items }
+    requires means { AreMeansOf of.now.plan.now.cells of.now.plan.now.units means.items }
+    requires sources { AreSourcesOf of.now sources }
+    ensures { IsDrawnOf of.now result }
 {
-    let mean = total_mean(plan, means.as_slice());
+    let mean = total_mean(of.plan, means.as_slice());
     Drawn {
         grids: sources.grids,
         units,
@@ -91,75 +86,65 @@ fn beside(
 /// of each named unit, from the sum of all others. None where a joint mean would be wider than its
 /// budget.
 fn sources_beside<const B: u32>(
-    alloc: Global,
+    of: &Budgeted,
     work: &mut Workspace,
-    plan: &Plan,
-    budgets: &AllBudgets,
     units: &[Grid<B>],
     all: bool,
 ) -> Result<Option<Sources<B>>, AllocError>
-    requires at { IsIndependentAt B plan.now }
-    requires budgets { AreAllBudgets (2 ^ B) plan.now budgets.now }
-    requires units { AreUnitGrids plan.now.cells plan.now.units units.now }
-    ensures sources { IfOk result (λ made.
-        IfSome made (AreSourcesOf plan.now budgets.now.of_units.items)) }
+    requires of { IsBudgeted B of.now }
+    requires units { AreUnitGrids of.now.plan.now.cells of.now.plan.now.units units.now }
+    ensures sources { IfOk result (λ made. IfSome made (AreSourcesOf of.now)) }
     ensures sure { IfOk result (λ made. IsTrue all → IsSome made) }
 {
-    let asked = beside(alloc, plan.units.as_slice(), budgets, all)?;
-    let sums = total_and_others(alloc, work, units, asked.as_slice(), plan.cells)?;
-    sources_of(alloc, work, plan, budgets, sums)
+    let asked = beside(of.alloc, of.plan.units.as_slice(), of.budgets, all)?;
+    let sums = total_and_others(of.alloc, work, units, asked.as_slice(), of.plan.cells)?;
+    sources_of(of, work, sums)
 }
 
 /// What is drawn of a valid plan whose one unit no ask names: the grid of the unit is that of the
 /// total, and is moved and not copied.
 fn drawn_of_one<const B: u32>(
-    alloc: Global,
+    of: &Budgeted,
     work: &mut Workspace,
-    plan: &Plan,
-    budgets: &AllBudgets,
     made: Outcomes<B>,
 ) -> Result<Drawn<B>, AllocError>
-    requires at { IsIndependentAt B plan.now }
-    requires one { length plan.now.units ≡ 1 }
-    requires budgets { AreAllBudgets (2 ^ B) plan.now budgets.now }
-    requires unnamed { get_or budgets.now.of_units.items 0 None ≡ None }
-    requires made { AreOutcomesOf plan.now.cells plan.now.units plan.now.units made }
-    ensures drawn { IfOk result (AreDrawnOf plan.now) }
-    ensures reached { IfOk result (ReachNamed plan.now budgets.now.of_units.items plan.now.cells) }
+    requires of { IsBudgeted B of.now }
+    requires one { length of.now.plan.now.units ≡ 1 }
+    requires unnamed { get_or of.now.budgets.now.of_units.items 0 None ≡ None }
+    requires made { AreOutcomesOf of.now.plan.now.cells of.now.plan.now.units
+        of.now.plan.now.units made }
+    ensures { IfOk result (IsDrawnOf of.now) }
 {
     let mut grids = made.grids;
-    let sums = sums_of_one(alloc, grids.pop().unwrap())?;
-    let Some(sources) = sources_of(alloc, work, plan, budgets, sums)? else {
+    let sums = sums_of_one(of.alloc, grids.pop().unwrap())?;
+    let Some(sources) = sources_of(of, work, sums)? else {
         unreachable!();
     };
-    Ok(drawn_with(plan, grids, made.means, sources))
+    Ok(drawn_with(of, grids, made.means, sources))
 }
 
 /// What is drawn of a valid plan of independent units, whose grids and means are there: with the
 /// sum of the others for those named units that need it, else for all named units.
 pub(crate) fn drawn_of_units<const B: u32>(
-    alloc: Global,
+    of: &Budgeted,
     work: &mut Workspace,
-    plan: &Plan,
-    budgets: &AllBudgets,
     made: Outcomes<B>,
 ) -> Result<Drawn<B>, AllocError>
-    requires at { IsIndependentAt B plan.now }
-    requires budgets { AreAllBudgets (2 ^ B) plan.now budgets.now }
-    requires made { AreOutcomesOf plan.now.cells plan.now.units plan.now.units made }
-    ensures drawn { IfOk result (AreDrawnOf plan.now) }
-    ensures reached { IfOk result (ReachNamed plan.now budgets.now.of_units.items plan.now.cells) }
+    requires of { IsBudgeted B of.now }
+    requires made { AreOutcomesOf of.now.plan.now.cells of.now.plan.now.units
+        of.now.plan.now.units made }
+    ensures { IfOk result (IsDrawnOf of.now) }
 {
-    let one = plan.units.as_slice().len() == 1;
-    if one && budgets.at(0).is_none() {
-        return drawn_of_one(alloc, work, plan, budgets, made);
+    let one = of.plan.units.as_slice().len() == 1;
+    if one && of.budgets.at(0).is_none() {
+        return drawn_of_one(of, work, made);
     }
     let units = made.grids.as_slice();
-    if let Some(sources) = sources_beside(alloc, work, plan, budgets, units, one)? {
-        return Ok(drawn_with(plan, made.grids, made.means, sources));
+    if let Some(sources) = sources_beside(of, work, units, one)? {
+        return Ok(drawn_with(of, made.grids, made.means, sources));
     }
-    let Some(sources) = sources_beside(alloc, work, plan, budgets, units, true)? else {
+    let Some(sources) = sources_beside(of, work, units, true)? else {
         unreachable!();
     };
-    Ok(drawn_with(plan, made.grids, made.means, sources))
+    Ok(drawn_with(of, made.grids, made.means, sources))
 }

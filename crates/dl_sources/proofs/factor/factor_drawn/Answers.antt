@@ -14,9 +14,11 @@ returns-clause-drawn g c =
         units_small = c.in_ok-means.ensures.small;
       };
       as_many = ap (λ t. length t) c.in_ok-origins.ensures ∙ length-map _ _ ∙ c.requires.budgets.as_many;
-      origins = factor_drawn c.args.budgets.now.of_units.items _ grids c.are_named-named.ensures.1 c.in_ok-origins.ensures c.requires.budgets.as_many;
+      origins = factor_drawn c.args.of.now.budgets.now.of_units.items _ grids c.are_named-named.ensures.1
+          c.in_ok-origins.ensures c.requires.budgets.as_many;
     }
 
 pub returns-clause-reached : goal.returns-clause-reached
 returns-clause-reached g c =
-    factor_reached c.args.budgets.now.of_units.items _ c.in_ok-grids.ensures c.are_named-named.ensures.1 c.in_ok-origins.ensures c.requires.budgets.as_many
+    factor_reached c.args.of.now.budgets.now.of_units.items _ c.in_ok-grids.ensures c.are_named-named.ensures.1
+    c.in_ok-origins.ensures c.requires.budgets.as_many

@@ -6,7 +6,7 @@ use Rattle.dl_sources.proofs.origins.origin_of.Goals as goal
 pub returns-then-is_from_total-clause-origin : goal.returns-then-is_from_total-clause-origin
 returns-then-is_from_total-clause-origin g c = record {
   there = c.requires.grids.some;
-  whole = subst (IsWholeClaimsGrid c.args.plan.now c.args.i)
+  whole = subst (IsWholeClaimsGrid c.args.of.now.plan.now c.args.i)
       (read_as 0 [] c.as_slice-all.ensures.value c.index-all-0.is c.requires.grids.some)
       (c.is_from_total.ensures c.if-is_from_total.true);
 }

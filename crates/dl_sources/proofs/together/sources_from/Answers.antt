@@ -4,8 +4,8 @@ use Rattle.dl_sources.proofs.together.sources_from.Goals as goal
 
 pub sources_of-requires : goal.sources_of-requires
 sources_of-requires g c =
-    (omega arith) also (omega arith) also c.requires.at also c.requires.budgets
-    also c.requires.total (omega (arith, c.if-spread-budgets.false, c.spread.ensures, c.requires.budgets.total.total))
+    (omega arith) also (omega arith) also c.requires.of
+    also c.requires.total (omega (arith, c.if-spread-of.false, c.spread.ensures, c.requires.of.budgets.total.total))
     also no_others (rw c.as_slice.ensures at c.in_ok-others.ensures)
 
 pub returns-clause-beside : goal.returns-clause-beside

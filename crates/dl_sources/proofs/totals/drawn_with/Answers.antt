@@ -4,23 +4,23 @@ use Rattle.dl_sources.proofs.totals.drawn_with.Goals as goal
 
 pub total_mean-mean-requires : goal.total_mean-mean-requires
 total_mean-mean-requires g c =
-    (omega arith) also c.requires.at also rw c.as_slice.ensures.value c.requires.means
+    (omega arith) also c.requires.of.at also rw c.as_slice.ensures.value c.requires.means
 
-pub returns-clause-drawn : goal.returns-clause-drawn
-returns-clause-drawn g c =
-    let sources = c.requires.sources.1 in record {
-      some = sources.some;
-      total = sources.total;
-      means = record {
-        mean = c.total_mean-mean.ensures.mean;
-        small = c.total_mean-mean.ensures.small;
-        units = c.requires.means.means;
-        units_small = c.requires.means.small;
+pub returns : goal.returns
+returns g c =
+    let sources = c.requires.sources in record {
+      drawn = record {
+        some = sources.some;
+        total = sources.total;
+        means = record {
+          mean = c.total_mean-mean.ensures.mean;
+          small = c.total_mean-mean.ensures.small;
+          units = c.requires.means.means;
+          units_small = c.requires.means.small;
+        };
+        as_many = sources.as_many;
+        origins = λ i inside. origin_drawn c.args.of.now.plan.now _ i _ (get_or c.args.sources.origins.items i Nowhere)
+            c.requires.of.at.independent inside (c.requires.units i) (sources.each i inside);
       };
-      as_many = sources.as_many;
-      origins = λ i inside. origin_drawn c.args.plan.now _ i _ (get_or c.args.sources.origins.items i Nowhere) c.requires.at.independent inside
-          (c.requires.units i) (sources.each i inside);
+      reached = found_reach sources.each;
     }
-
-pub returns-clause-reached : goal.returns-clause-reached
-returns-clause-reached g c budgets sources = found_reach sources.each

@@ -4,13 +4,13 @@ use Rattle.dl_sources.proofs.SumLaws.{are_others, is_total, long_enough}
 use Rattle.dl_sources.proofs.totals.sources_beside.Goals as goal
 
 pub beside-requires : goal.beside-requires
-beside-requires g c = omega (arith, c.requires.budgets.as_many, ap length c.as_slice.ensures)
+beside-requires g c = omega (arith, c.requires.of.budgets.as_many, ap length c.as_slice.ensures)
 
 pub total_and_others-requires : goal.total_and_others-requires
 total_and_others-requires g c =
-    let plan = c.args.plan.now in
-    let valid = c.requires.at.at.valid in
-    let scale = plan_scale g.row.B plan.cells c.requires.at.at.scale in
+    let plan = c.args.of.now.plan.now in
+    let valid = c.requires.of.at.at.valid in
+    let scale = plan_scale g.row.B plan.cells c.requires.of.at.at.scale in
     let many = c.requires.units.as_many in
     (omega (arith, scale.least, scale.most)) also (omega (arith, scale.least, scale.most))
     also (omega (arith, many, valid.some)) also (omega (arith, many, valid.few))
@@ -19,9 +19,9 @@ total_and_others-requires g c =
 
 pub sources_of-requires : goal.sources_of-requires
 sources_of-requires g c =
-    (omega arith) also (omega arith) also c.requires.at also c.requires.budgets
-    also is_total c.requires.at.at.valid c.requires.at.independent c.requires.units c.in_ok-sums.ensures.total
-    also are_others c.requires.at.at.valid c.requires.units c.in_ok-sums.ensures.others
+    (omega arith) also (omega arith) also c.requires.of
+    also is_total c.requires.of.at.at.valid c.requires.of.at.independent c.requires.units c.in_ok-sums.ensures.total
+    also are_others c.requires.of.at.at.valid c.requires.units c.in_ok-sums.ensures.others
 
 pub returns-clause-sure : goal.returns-clause-sure
 returns-clause-sure g c =
